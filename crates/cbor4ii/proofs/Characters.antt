@@ -1,7 +1,6 @@
 -- A text's only character.
 use Rattle.std.proofs.Common.{◌≡◌, ℕ, ◌<◌, ◌≤◌, ◌^◌, List, [], ◌++◌, length, drop, Ok, Err, refl}
-use Rattle.std.proofs.Common.{sym, ap, ◌∙◌, subst, arith, IsUtf8, length-append, encode_utf8}
-use denote.RawPtr.{null_ptr}
+use Rattle.std.proofs.Common.{sym, ap, ◌∙◌, subst, arith, length-append, encode_utf8}
 use denote.Ref.{Bor}
 use Rattle.std.specs.Prelude.{codes}
 use Rattle.std.proofs.lemmas.List.{append-nil}
@@ -18,6 +17,7 @@ use Rattle.cbor4ii_items.specs.Laws.Strings.{text_one}
 use Rattle.cbor4ii_items.specs.Laws.Answering.{refuses_as}
 use Rattle.cbor4ii.specs.Character.{ReadsChar, StopsChar, NoCharacter}
 use Rattle.cbor4ii.specs.Character.StopsChar.{no_text, not_one}
+use Rattle.cbor4ii.specs.ReadBack.{text_of}
 use Rattle.cbor4ii.specs.Typed.{no_number}
 use Rattle.cbor4ii.proofs.Stopped.{stopped_as}
 
@@ -57,21 +57,6 @@ char_sound is s = record {
     fits = p.fits;
     left = p.left;
   });
-}
-
--- the text of these bytes
-abbrev pub text_of : Global → (text : List ℕ) → IsUtf8 text → length text < 2 ^ 63 → String Global
-text_of alloc text utf8 few = record {
-  bytes = record {
-    ptr = null_ptr;
-    len = length text;
-    cap = length text;
-    alloc = alloc;
-    items = text;
-    ok = (refl, omega arith);
-    small = few;
-  };
-  ok = ∣ utf8 ∣₁;
 }
 
 pub char_refuses : {E : Type 0} {a : View} {e : DecodeError E} → Global

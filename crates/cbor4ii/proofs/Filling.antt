@@ -1,8 +1,7 @@
 -- What becomes of a struct's values, entry by entry.
-use Rattle.std.proofs.Common.{true}
-use Rattle.std.proofs.Common.{◌-◌, ◌≤◌, length, take, drop, get_or, ◌≡◌, ◌≢◌, inl, inr, ℕ, ◌+◌, ◌<◌}
-use Rattle.std.proofs.Common.{List, [], ◌∷◌, ◌++◌, Option, Some, Result, Ok, Err, Bool, refl}
-use Rattle.std.proofs.Common.{sym, ap, ◌∙◌, subst}
+use Rattle.std.proofs.Common.{true, ◌-◌, ◌≤◌, length, take, drop, get_or, ◌≡◌, ◌≢◌, inl, inr, ℕ}
+use Rattle.std.proofs.Common.{◌+◌, ◌<◌, List, [], ◌∷◌, ◌++◌, Result, Ok, Err, Bool, refl, sym, ap}
+use Rattle.std.proofs.Common.{◌∙◌, subst}
 use denote.Ref.{Bor}
 use Rattle.std.specs.Prelude.{◌&&◌}
 use Rattle.std.specs.declared.alloc.Global.{Global}
@@ -15,17 +14,18 @@ use Rattle.cbor4ii_items.specs.Reading.{Runs}
 use Rattle.cbor4ii_items.specs.ReadStrings.{break_at}
 use Rattle.cbor4ii_items.specs.Strings.{text_content}
 use Rattle.cbor4ii_items.specs.Sequences.{count_of, open_of, in_list}
-use Rattle.cbor4ii_items.specs.Laws.Calls.{ok as decoded_ok, err_behind, behind, Leads}
-use Rattle.cbor4ii_items.specs.Laws.Calls.{of_exact, exact_less, accepted}
+use Rattle.cbor4ii_items.specs.Laws.Calls.{ok as decoded_ok, err_behind, behind, Leads, of_exact}
+use Rattle.cbor4ii_items.specs.Laws.Calls.{exact_less, accepted}
 use Rattle.cbor4ii_items.specs.Laws.Containers.{both}
 use Rattle.cbor4ii_items.specs.Laws.Running.{kept_alike}
-use Rattle.cbor4ii_items.specs.Laws.SequenceParts.{Begun, count_more}
-use Rattle.cbor4ii_items.specs.Laws.SequenceParts.{count_done, Stands, Opened, open_more, open_done}
+use Rattle.cbor4ii_items.specs.Laws.SequenceParts.{Begun, count_more, count_done, Stands, Opened}
+use Rattle.cbor4ii_items.specs.Laws.SequenceParts.{open_more, open_done}
 use Rattle.cbor4ii.specs.Fields.{no_field, no_field_stops, changed, name_spelling, made, SameChange}
 use Rattle.cbor4ii.specs.Fields.{all_made, Altered, Alters}
 use Rattle.cbor4ii.specs.ItemRead.{skipped_spelling}
+use Rattle.cbor4ii.specs.Places.{Place}
 use Rattle.cbor4ii.specs.Stepped.{stepped_spelling}
-use Rattle.cbor4ii.specs.Structs.{Fields, field, fields_by, unnamed, behind_name, entry_of}
+use Rattle.cbor4ii.specs.Structs.{Fields, placed, fields_by, unnamed, behind_name, entry_of}
 use Rattle.cbor4ii.specs.Structs.{entries_of, struct_of}
 use Rattle.cbor4ii.specs.Typed.{Promise, Deserializes}
 use Rattle.cbor4ii.specs.TypedParts.{part_of}
@@ -66,15 +66,15 @@ module _ {V : Type 0} (f : Fields V) (name : List ℕ) (values : V) {a b : View}
         },
       )) (λ owned. refl) (λ takes. refl) (of_exact d)
 
-module _ {T V E : Type 0} (own : List ℕ) (p : Promise T) (others : Fields V) {name : List ℕ}
-    (a b : View) where
+module _ {T P V E : Type 0} (place : Place T P) (own : List ℕ) (p : Promise T)
+    (others : Fields V) {name : List ℕ} (a b : View) where
   -- the field itself
-  pub field_ok : {v : T} {first last : Option T × V} → name ≡ own → last ≡ (Some v, first.1)
+  pub field_ok : {v : T} {first last : P × V} → name ≡ own → last ≡ (place.put v first.0, first.1)
       → Deserializes {E = E} p a b (Ok v)
-      → Altered E made (behind_name (field own p others) name) first last a b
+      → Altered E made (behind_name (placed place own p others) name) first last a b
   field_ok {v = v} same filled d = record {
-    what = λ values. (Some v, values.1);
-    read = decoded_ok (behind_name (field own p others) name) d.moves.by (λ some. cc) (record {
+    what = λ values. (place.put v values.0, values.1);
+    read = decoded_ok (behind_name (placed place own p others) name) d.moves.by (λ some. cc) (record {
       at = λ xs told. let q = d.sound.at xs told in record {
         count = q.count;
         cost = q.cost;
@@ -87,9 +87,9 @@ module _ {T V E : Type 0} (own : List ℕ) (p : Promise T) (others : Fields V) {
   }
 
   pub field_err : {e : DecodeError E} → name ≡ own → Deserializes p a b (Err e)
-      → DecodesIf (field own p others).exact (behind_name (field own p others) name) a b (Err e)
+      → DecodesIf (placed place own p others).exact (behind_name (placed place own p others) name) a b (Err e)
   field_err same d =
-      err_behind (part_of p) (behind_name (field own p others) name) (kept_alike a) (λ xs told. (
+      err_behind (part_of p) (behind_name (placed place own p others) name) (kept_alike a) (λ xs told. (
         xs,
         told,
         record {
@@ -102,14 +102,14 @@ module _ {T V E : Type 0} (own : List ℕ) (p : Promise T) (others : Fields V) {
       (exact_less (λ is. (both p.exact others.exact is).0) (tell p (Err _) d))
 
   -- one of the others
-  pub field_below : {U : Type 0} (r : Result U (DecodeError E)) (first last : Option T × V)
+  pub field_below : {U : Type 0} (r : Result U (DecodeError E)) (first last : P × V)
       (below : V) → name ≢ own → last ≡ (first.0, below)
       → Alters made others.exact (behind_name others name) first.1 below a b r
-      → Alters made (field own p others).exact (behind_name (field own p others) name) first last
+      → Alters made (placed place own p others).exact (behind_name (placed place own p others) name) first last
       a b r
   field_below (Ok u) first last below not filled h = record {
     what = λ values. (values.0, h.what values.1);
-    read = decoded_ok (behind_name (field own p others) name) h.read.moves.by (λ some. cc) (record {
+    read = decoded_ok (behind_name (placed place own p others) name) h.read.moves.by (λ some. cc) (record {
       at = λ xs told. let q = h.read.sound.at xs told in record {
         count = q.count;
         cost = q.cost;
@@ -121,7 +121,7 @@ module _ {T V E : Type 0} (own : List ℕ) (p : Promise T) (others : Fields V) {
     is = filled ∙ ap (λ v. (first.0, v)) h.is;
   }
   field_below (Err e) first last below not filled h =
-      err_behind (behind_name others name) (behind_name (field own p others) name) (kept_alike a)
+      err_behind (behind_name others name) (behind_name (placed place own p others) name) (kept_alike a)
       (λ xs told. (
         xs,
         told,
@@ -136,27 +136,27 @@ module _ {T V E : Type 0} (own : List ℕ) (p : Promise T) (others : Fields V) {
 
 -- ---- which field has a name
 
-module _ {T V U E : Type 0} (p : Promise T) (others : List (Bor (List ℕ)) → Fields V)
-    (names : List (Bor (List ℕ))) (name : List ℕ) (before after : Option T × V) (a b : View)
+module _ {T P V U E : Type 0} (place : Place T P) (p : Promise T) (others : List (Bor (List ℕ)) → Fields V)
+    (names : List (Bor (List ℕ))) (name : List ℕ) (before after : P × V) (a b : View)
     (r : Result U (DecodeError E)) where
   pub at_first : (d : Bor (List ℕ)) → 1 ≤ length names
       → Alters made (p.exact && (others (take (length names - 1) (drop 1 names))).exact)
-      (behind_name (field (get_or names 0 d).now p
+      (behind_name (placed place (get_or names 0 d).now p
       (others (take (length names - 1) (drop 1 names)))) name) before after a b r
-      → Alters made (fields_by p others names).exact
-      (behind_name (fields_by p others names) name) before after a b r
+      → Alters made (fields_by place p others names).exact
+      (behind_name (fields_by place p others names) name) before after a b r
   at_first d some h =
       subst (λ f. Alters made f.exact (behind_name f name) before after a b r)
-      (ap (fields_by p others) (sym (names_split names d some))) h
+      (ap (fields_by place p others) (sym (names_split names d some))) h
 
   pub at_none : length names < 1
-      → Alters made (p.exact && (others []).exact) (behind_name (unnamed p (others [])) name) before
+      → Alters made (p.exact && (others []).exact) (behind_name (unnamed place p (others [])) name) before
       after a b r
-      → Alters made (fields_by p others names).exact
-      (behind_name (fields_by p others names) name) before after a b r
+      → Alters made (fields_by place p others names).exact
+      (behind_name (fields_by place p others names) name) before after a b r
   at_none less h =
       subst (λ f. Alters made f.exact (behind_name f name) before after a b r)
-      (ap (fields_by p others) (sym (names_none names less))) h
+      (ap (fields_by place p others) (sym (names_none names less))) h
 
 -- ---- an entry
 

@@ -19,13 +19,10 @@ pub mod Entries
 pub mod Borrowing
 pub mod Unlending
 pub mod Characters
-pub mod Backs
-pub mod FieldsBack
 pub mod VariantsBack
 pub mod VariantsRead
 pub mod Beginnings
 pub mod AnyAnswers
-pub mod ValuesBack
 pub mod Named
 pub mod Filling
 pub mod Making

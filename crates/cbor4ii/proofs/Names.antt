@@ -23,7 +23,7 @@ use Rattle.cbor4ii_items.specs.Laws.Contents.{lends_front, first_bytes}
 use Rattle.cbor4ii_items.specs.Laws.Steps.{kept_then}
 use Rattle.cbor4ii.specs.Fields.{name_spelling}
 use Rattle.cbor4ii.specs.Names.{StandsAt, IsWholeName, NameAt, TakesName}
-use Rattle.cbor4ii.proofs.Characters.{text_of}
+use Rattle.cbor4ii.specs.ReadBack.{text_of}
 
 -- ---- the place
 

@@ -8,8 +8,8 @@ use Rattle.cbor4ii_ser.specs.Item.{Encoding, encoded, refused, followed}
 use Rattle.cbor4ii_ser.specs.Item.{variant_item}
 use Rattle.cbor4ii.specs.ReadBack.{IsReadBack, IsName}
 use Rattle.cbor4ii.specs.Variants.{ReadsVariant}
-use Rattle.cbor4ii.proofs.Backs.{two_back}
-use Rattle.cbor4ii.proofs.FieldsBack.{no_dearer}
+use Rattle.cbor4ii.specs.Laws.Backs.{two_back}
+use Rattle.cbor4ii.specs.Laws.StructsBack.{no_dearer}
 
 next_one : (k : ℕ) → suc k ≡ 1 + k
 next_one k = omega arith

@@ -1,12 +1,11 @@
 -- Structs that are read from their named fields: maps from names to values, in any order.
 use Rattle.std.proofs.Common.{◌≡◌, ◌≢◌, ◌⊎◌, inl, inr, ℕ, ◌≤◌, List, [], ◌∷◌, length, drop, Option}
-use Rattle.std.proofs.Common.{Some, Bool, true, false, Result, Ok, Err, sym, subst}
+use Rattle.std.proofs.Common.{Bool, true, false, Result, Ok, Err, sym, subst}
 use Rattle.cbor4ii_rw.specs.View.{View}
 use Rattle.std.specs.Prelude.{codes}
 use Rattle.cbor4ii_rw.specs.declared.error.DecodeError.{DecodeError}
 use Rattle.cbor4ii_items.specs.Decoding.{Reads, StopsAt, CostFits, Spelling, Decodes, DecodesIf}
 use Rattle.cbor4ii.specs.Beginning.{StopsParts}
-use Rattle.cbor4ii_items.specs.Containers.{SameOption}
 use Rattle.cbor4ii_items.specs.Sequences.{ReadsSequence, ReadsPair, SamePair, SameParts}
 use Rattle.cbor4ii_items.specs.Strings.{ReadsTextAs, StopsText, text_content}
 use Rattle.cbor4ii_items.specs.Refusal.{Refusal}
@@ -16,6 +15,7 @@ use Rattle.cbor4ii_items.specs.Laws.Sequences.{sequence_one, sequence_within, se
 use Rattle.cbor4ii_items.specs.Laws.Strings.{text_one, text_within, text_positive}
 use Rattle.cbor4ii_tree.specs.Ignored.{ReadsTree, StopsIgnored}
 use Rattle.cbor4ii_tree.specs.Laws.Ignoring.{tree_one, tree_within}
+use Rattle.cbor4ii.specs.Places.{Place}
 use Rattle.cbor4ii.specs.Sequence.{five_small}
 use Rattle.cbor4ii.specs.Tuples.{pair_laws}
 use Rattle.cbor4ii.specs.Typed.{Lawful, not_exact, typed_spelling}
@@ -28,22 +28,19 @@ ReadsNamed V = List ℕ → Reads (V → V)
 abbrev pub no_field : {V : Type 0} → ReadsNamed V
 no_field {V} name xs change n c = ReadsTree xs n c × (change ≡ λ (values : V). values)
 
--- no field at all, and no value
-abbrev pub no_fields : ReadsNamed (Unit {0})
-no_fields = no_field
-
+-- no value
 abbrev pub no_values : Unit {0}
 no_values = tt
 
--- A field of this name stands before others. Behind its name it is read, whatever it was before;
+-- A field of this name stands before others. Behind its name a value is read and put in its place;
 -- behind another name it stays, and one of the others is read.
-abbrev pub named_field : {T V : Type 0} → List ℕ → Reads T → ReadsNamed V
-    → ReadsNamed (Option T × V)
-named_field {T} {V} own reads others name xs change n c =
+abbrev pub named_field : {T P V : Type 0} → (T → P → P) → List ℕ → Reads T → ReadsNamed V
+    → ReadsNamed (P × V)
+named_field {T} {P} {V} put own reads others name xs change n c =
     ((name ≡ own) × (v : T) × reads xs v n c
-    × (change ≡ λ (values : Option T × V). (Some v, values.1)))
+    × (change ≡ λ (values : P × V). (put v values.0, values.1)))
     ⊎ ((name ≢ own) × (below : V → V) × others name xs below n c
-    × (change ≡ λ (values : Option T × V). (values.0, below values.1)))
+    × (change ≡ λ (values : P × V). (values.0, below values.1)))
 
 -- an entry: a name, which is a text, and what stands behind it
 abbrev pub ReadsName : Reads (String Global)
@@ -121,14 +118,6 @@ abbrev pub Alters : {W V U E : Type 0} → (W → V → V) → Bool → Spelling
 Alters {E = E} makes exact s before after old new (Ok u) = Altered E makes s before after old new
 Alters makes exact s before after old new (Err e) = DecodesIf exact s old new (Err e)
 
--- ---- fields by their names
-
--- the same by names alone
-abbrev pub fields_named : {T V : Type 0} → Reads T → (List (List ℕ) → ReadsNamed V)
-    → List (List ℕ) → ReadsNamed (Option T × V)
-fields_named reads others [] = no_field
-fields_named reads others (own ∷ behind) = named_field own reads (others behind)
-
 -- ---- laws
 
 -- of values that mean the same both changes make values that do
@@ -138,11 +127,6 @@ SameChange {V} same g h = (v w : V) → same v w → same (g v) (h w)
 -- what is read behind each name is one change
 abbrev pub NamedLaws : {V : Type 0} → (V → V → Type 0) → ReadsNamed V → Type 0
 NamedLaws same named = (name : List ℕ) → Lawful (named name) (SameChange same) false
-
--- the values of two fields, and of those behind them, mean the same
-abbrev pub SameField : {T V : Type 0} → (T → T → Type 0) → (V → V → Type 0) → Option T × V
-    → Option T × V → Type 0
-SameField same others = SamePair (SameOption same) others
 
 -- where neither is changed, they mean the same as before
 unchanged : {V : Type 0} (same : V → V → Type 0) (g h : V → V) → g ≡ (λ (values : V). values)
@@ -159,19 +143,25 @@ no_field_laws same name = record {
   alone = not_exact;
 }
 
-module _ {T V : Type 0} (own : List ℕ) {reads : Reads T} {same : T → T → Type 0}
-    {never_empty : Bool} (others : ReadsNamed V) {same_others : V → V → Type 0}
-    (laws : Lawful reads same never_empty) (behind : NamedLaws same_others others) where
-  field_one : (name xs : List ℕ) (g h : (Option T × V) → (Option T × V)) (n m c d : ℕ)
-      → named_field own reads others name xs g n c → named_field own reads others name xs h m d
-      → (n ≡ m) × (c ≡ d) × SameChange (SameField same same_others) g h
+module _ {T P V : Type 0} (place : Place T P) (own : List ℕ) {reads : Reads T}
+    {alike : T → T → Type 0} {never_empty : Bool} (others : ReadsNamed V)
+    {same_others : V → V → Type 0} (laws : Lawful reads alike never_empty)
+    (behind : NamedLaws same_others others) where
+  abbrev Same : P × V → P × V → Type 0
+  Same = SamePair (place.same alike) same_others
+
+  abbrev Named : ReadsNamed (P × V)
+  Named = named_field place.put own reads others
+
+  field_one : (name xs : List ℕ) (g h : P × V → P × V) (n m c d : ℕ)
+      → Named name xs g n c → Named name xs h m d → (n ≡ m) × (c ≡ d) × SameChange Same g h
   field_one name xs g h n m c d (inl p) (inl q) =
       let e = laws.one xs p.1 q.1 n m c d p.2 q.2 in (
         e.0,
         e.1,
-        λ v w s. subst (λ (k : (Option T × V) → (Option T × V)). SameField same
-            same_others (k v) (h w)) (sym p.3) (subst (λ (k : (Option T × V) → (Option T × V)).
-            SameField same same_others (Some p.1, v.1) (k w)) (sym q.3) (e.2, s.1)),
+        λ v w s. subst (λ (k : P × V → P × V). Same (k v) (h w)) (sym p.3)
+            (subst (λ (k : P × V → P × V). Same (place.put p.1 v.0, v.1) (k w)) (sym q.3)
+            (place.put_same alike p.1 q.1 v.0 w.0 e.2 s.0, s.1)),
       )
   field_one name xs g h n m c d (inl p) (inr q) = absurd (q.0 p.0)
   field_one name xs g h n m c d (inr p) (inl q) = absurd (p.0 q.0)
@@ -179,33 +169,23 @@ module _ {T V : Type 0} (own : List ℕ) {reads : Reads T} {same : T → T → T
       let e = (behind name).one xs p.1 q.1 n m c d p.2 q.2 in (
         e.0,
         e.1,
-        λ v w s. subst (λ (k : (Option T × V) → (Option T × V)). SameField same
-            same_others (k v) (h w)) (sym p.3) (subst (λ (k : (Option T × V) → (Option T × V)).
-            SameField same same_others (v.0, p.1 v.1) (k w)) (sym q.3) (s.0, e.2 v.1 w.1 s.1)),
+        λ v w s. subst (λ (k : P × V → P × V). Same (k v) (h w)) (sym p.3)
+            (subst (λ (k : P × V → P × V). Same (v.0, p.1 v.1) (k w)) (sym q.3)
+            (s.0, e.2 v.1 w.1 s.1)),
       )
 
-  field_within : (name xs : List ℕ) (g : (Option T × V) → (Option T × V)) (n c : ℕ)
-      → named_field own reads others name xs g n c → n ≤ length xs
+  field_within : (name xs : List ℕ) (g : P × V → P × V) (n c : ℕ) → Named name xs g n c
+      → n ≤ length xs
   field_within name xs g n c (inl p) = laws.within xs p.1 n c p.2
   field_within name xs g n c (inr p) = (behind name).within xs p.1 n c p.2
 
-  pub field_laws : NamedLaws (SameField same same_others) (named_field own reads others)
+  pub field_laws : NamedLaws Same Named
   field_laws name = record {
     one = field_one name;
     within = field_within name;
     positive = λ e xs g n c p. not_exact e;
     alone = not_exact;
   }
-
-pub fields_named_laws : {T V : Type 0} {reads : Reads T} {same : T → T → Type 0}
-    {never_empty : Bool} (others : List (List ℕ) → ReadsNamed V) (same_others : V → V → Type 0)
-    → Lawful reads same never_empty
-    → ((names : List (List ℕ)) → NamedLaws same_others (others names)) → (names : List (List ℕ))
-    → NamedLaws (SameField same same_others) (fields_named reads others names)
-fields_named_laws {same = same} others same_others laws behind [] =
-    no_field_laws (SameField same same_others)
-fields_named_laws others same_others laws behind (own ∷ names) =
-    field_laws own (others names) laws (behind names)
 
 abbrev pub SameName : String Global → String Global → Type 0
 SameName s t = text_content s ≡ text_content t

@@ -2,5 +2,8 @@
 -- crates above cite.
 pub mod Accessors
 pub mod Any
+pub mod Backs
 pub mod FieldsBack
+pub mod StructsBack
+pub mod ValuesBack
 pub mod Variants

@@ -11,6 +11,7 @@ pub mod Built
 pub mod Accessing
 pub mod Optional
 pub mod Variants
+pub mod Places
 pub mod Fields
 pub mod Borrowed
 pub mod Character
@@ -26,5 +27,8 @@ pub mod Presence
 pub mod Cases
 pub mod ReadBack
 pub mod Names
+pub mod Codec
+pub mod CodecFields
+pub mod CodecCases
 -- ---- laws
 pub mod Laws

@@ -1,10 +1,11 @@
 -- What a struct makes of its fields where some of them are missing.
 use Rattle.std.specs.Prelude.{◌≡◌, ℕ, List, [], ◌∷◌, Option, None, Some, Result, Ok, Err, refl}
-use Rattle.std.specs.Prelude.{Bool, true, false}
 use denote.Ref.{Bor}
-use Rattle.cbor4ii_items.specs.Containers.{SameOption}
 use Rattle.cbor4ii.specs.Made.{made_or_refused}
-use Rattle.cbor4ii.specs.Structs.{Fields, no_more, field, fields_by, struct_of}
+use Rattle.cbor4ii.specs.Places.{Place, last_place, only_place, came_last, came_only}
+use Rattle.cbor4ii.specs.Structs.{Fields, no_more, placed, fields_by, struct_of}
+use Rattle.cbor4ii.specs.declared.serde.de.place.Single.{Single}
+use Rattle.cbor4ii.specs.declared.serde.de.place.Single.TheVariants.{Absent, Present, Repeated}
 use Rattle.cbor4ii.specs.Typed.{Promise}
 
 -- what a call makes, or the words with which it refuses
@@ -37,6 +38,13 @@ or_value other (Some v) = Ok v
 abbrev pub or_none : {T : Type 0} → Option T → Result (Option T) (List ℕ)
 or_none o = Ok o
 
+-- it may come once; where it comes more than once, the struct is refused in these words
+abbrev pub once : {T A : Type 0} → List ℕ → (Option T → Result A (List ℕ)) → Single T
+    → Result A (List ℕ)
+once words value Absent = value None
+once words value (Present v) = value (Some v)
+once words value Repeated = Err words
+
 -- ---- all fields
 
 -- both, or the first refusal
@@ -60,36 +68,37 @@ pub record Shape (V W : Type 0) : Type 1 where
 abbrev pub no_others : Shape (Unit {0}) (Unit {0})
 no_others = record { fields = no_more; value = λ v. Ok v }
 
--- a field of this name, of which this becomes, and others behind it
-abbrev pub shaped : {T A V W : Type 0} → (Option T → Result A (List ℕ)) → List ℕ → Promise T
-    → Shape V W → Shape (Option T × V) (A × W)
-shaped value name p others = record {
-  fields = field name p others.fields;
+-- a field of this name, whose values stand in this place, of which this becomes, and others behind
+-- it
+abbrev pub shaped : {T P A V W : Type 0} → Place T P → (P → Result A (List ℕ)) → List ℕ
+    → Promise T → Shape V W → Shape (P × V) (A × W)
+shaped place value name p others = record {
+  fields = placed place name p others.fields;
   value = λ v. paired (value v.0) (others.value v.1);
 }
 
 abbrev pub required : {T V W : Type 0} → List ℕ → List ℕ → Promise T → Shape V W
     → Shape (Option T × V) (T × W)
-required name words = shaped (or_words words) name
+required name words = shaped last_place (or_words words) name
 
 abbrev pub or_else : {T V W : Type 0} → List ℕ → T → Promise T → Shape V W
     → Shape (Option T × V) (T × W)
-or_else name other = shaped (or_value other) name
+or_else name other = shaped last_place (or_value other) name
 
 abbrev pub optional : {T V W : Type 0} → List ℕ → Promise T → Shape V W
     → Shape (Option T × V) (Option T × W)
-optional name = shaped or_none name
+optional name = shaped last_place or_none name
+
+-- a field that may come once, and of which this becomes
+abbrev pub single : {T A V W : Type 0} → List ℕ → List ℕ → (Option T → Result A (List ℕ))
+    → Promise T → Shape V W → Shape (Single T × V) (A × W)
+single name words value = shaped only_place (once words value) name
 
 -- the values that a struct of this shape has
 abbrev pub struct_from : {V W : Type 0} → Shape V W → Promise W
 struct_from shape = made_struct shape.fields shape.value
 
 -- ---- alike
-
--- a value is there
-abbrev pub is_there : {T : Type 0} → Option T → Bool
-is_there None = false
-is_there (Some v) = true
 
 -- both are made, or refused in the same words
 abbrev pub SameFate : {W : Type 0} → Result W (List ℕ) → Result W (List ℕ) → Type 0
@@ -98,26 +107,33 @@ SameFate (Ok v) (Err words) = ⊥
 SameFate (Err words) (Ok w) = ⊥
 SameFate (Err words) (Err others) = words ≡ others
 
-pub words_fate : {T : Type 0} (words : List ℕ) (o p : Option T) → is_there o ≡ is_there p
+pub words_fate : {T : Type 0} (words : List ℕ) (o p : Option T) → came_last o ≡ came_last p
     → SameFate (or_words words o) (or_words words p)
 words_fate words None None e = refl
 words_fate words None (Some w) e = cc
 words_fate words (Some v) None e = cc
 words_fate words (Some v) (Some w) e = tt
 
-pub value_fate : {T : Type 0} (other : T) (o p : Option T) → is_there o ≡ is_there p
+pub value_fate : {T : Type 0} (other : T) (o p : Option T) → came_last o ≡ came_last p
     → SameFate (or_value other o) (or_value other p)
 value_fate other None None e = tt
 value_fate other None (Some w) e = tt
 value_fate other (Some v) None e = tt
 value_fate other (Some v) (Some w) e = tt
 
-pub there_alike : {T : Type 0} (same : T → T → Type 0) (o p : Option T) → SameOption same o p
-    → is_there o ≡ is_there p
-there_alike same None None s = refl
-there_alike same None (Some w) s = absurd s
-there_alike same (Some v) None s = absurd s
-there_alike same (Some v) (Some w) s = refl
+pub once_fate : {T A : Type 0} (words : List ℕ) (value : Option T → Result A (List ℕ))
+    → ((o p : Option T) → came_last o ≡ came_last p → SameFate (value o) (value p))
+    → (o p : Single T) → came_only o ≡ came_only p
+    → SameFate (once words value o) (once words value p)
+once_fate words value one Absent Absent e = one None None refl
+once_fate words value one Absent (Present w) e = cc
+once_fate words value one Absent Repeated e = cc
+once_fate words value one (Present v) Absent e = cc
+once_fate words value one (Present v) (Present w) e = one (Some v) (Some w) refl
+once_fate words value one (Present v) Repeated e = cc
+once_fate words value one Repeated Absent e = cc
+once_fate words value one Repeated (Present w) e = cc
+once_fate words value one Repeated Repeated e = refl
 
 pub paired_fate : {T W : Type 0} (a b : Result T (List ℕ)) (c d : Result W (List ℕ))
     → SameFate a b → SameFate c d → SameFate (paired a c) (paired b d)
@@ -129,16 +145,17 @@ paired_fate (Ok v) (Ok w) (Err c) (Ok d) s t = absurd t
 paired_fate (Ok v) (Ok w) (Ok c) (Err d) s t = absurd t
 paired_fate (Ok v) (Ok w) (Ok c) (Ok d) s t = tt
 
-pub pair_fate : {T A V W : Type 0} (p : Promise T) (others : List (Bor (List ℕ)) → Fields V)
-    (value : Option T → Result A (List ℕ)) (values : V → Result W (List ℕ))
-    → ((o q : Option T) → is_there o ≡ is_there q → SameFate (value o) (value q))
+pub pair_fate : {T P A V W : Type 0} (place : Place T P) (p : Promise T)
+    (others : List (Bor (List ℕ)) → Fields V) (value : P → Result A (List ℕ))
+    (values : V → Result W (List ℕ))
+    → ((o q : P) → place.came o ≡ place.came q → SameFate (value o) (value q))
     → ((names : List (Bor (List ℕ))) (v w : V) → (others names).same v w
     → SameFate (values v) (values w))
-    → (names : List (Bor (List ℕ))) (v w : Option T × V) → (fields_by p others names).same v w
+    → (names : List (Bor (List ℕ))) (v w : P × V) → (fields_by place p others names).same v w
     → SameFate (paired (value v.0) (values v.1)) (paired (value w.0) (values w.1))
-pair_fate p others value values one rest [] v w s =
+pair_fate place p others value values one rest [] v w s =
     paired_fate (value v.0) (value w.0) (values v.1) (values w.1)
-    (one v.0 w.0 (there_alike p.spelling.same v.0 w.0 s.0)) (rest [] v.1 w.1 s.1)
-pair_fate p others value values one rest (own ∷ names) v w s =
+    (one v.0 w.0 (place.same_came p.spelling.same v.0 w.0 s.0)) (rest [] v.1 w.1 s.1)
+pair_fate place p others value values one rest (own ∷ names) v w s =
     paired_fate (value v.0) (value w.0) (values v.1) (values w.1)
-    (one v.0 w.0 (there_alike p.spelling.same v.0 w.0 s.0)) (rest names v.1 w.1 s.1)
+    (one v.0 w.0 (place.same_came p.spelling.same v.0 w.0 s.0)) (rest names v.1 w.1 s.1)

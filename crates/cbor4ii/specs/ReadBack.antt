@@ -1,7 +1,9 @@
 -- What is written of a typed value is read back.
-use Rattle.std.specs.Prelude.{◌≡◌, ◌≢◌, ◌⊎◌, ℕ, ◌<◌, ◌^◌, List, [], ◌∷◌, length, max, Option}
-use Rattle.std.specs.Prelude.{Some, IsUtf8}
-use Rattle.std.specs.List.{AllByRecursion}
+use Rattle.std.specs.Prelude.{◌≡◌, ◌≢◌, ◌⊎◌, ℕ, ◌<◌, ◌^◌, List, [], ◌∷◌, length, max, IsUtf8, refl}
+use Rattle.std.proofs.Common.{arith}
+use Rattle.std.specs.declared.alloc.Global.{Global}
+use Rattle.std.specs.declared.string.String.{String}
+use denote.RawPtr.{null_ptr}
 use Rattle.cbor4ii_items.specs.Decoding.{Reads}
 use Rattle.cbor4ii_items.specs.ReadBack.{ReadsBack}
 use Rattle.cbor4ii_ser.specs.Item.{Encoding, encoded, IfEncoded, field}
@@ -25,6 +27,21 @@ IsNullItem item = (item ≡ encoded (0xf6 ∷ [])) ⊎ (item ≡ encoded (0xf7 �
 -- a name, as every text of the program is
 abbrev pub IsName : List ℕ → Type 0
 IsName name = IsUtf8 name × (length name < 2 ^ 63)
+
+-- the text of these bytes
+abbrev pub text_of : Global → (text : List ℕ) → IsUtf8 text → length text < 2 ^ 63 → String Global
+text_of alloc text utf8 few = record {
+  bytes = record {
+    ptr = null_ptr;
+    len = length text;
+    cap = length text;
+    alloc = alloc;
+    items = text;
+    ok = (refl, omega arith);
+    small = few;
+  };
+  ok = ∣ utf8 ∣₁;
+}
 
 -- names, each with the item of its value
 abbrev pub NamedItems : Type 0
@@ -55,16 +72,3 @@ pub record FieldsBack {V : Type 0} (named : ReadsNamed V) (first values : V) (pa
   pub changes : List (V → V)
   pub each : ChangesBack named parts changes cost
   pub made : values ≡ changed first changes
-
--- Values of fields, with the names and items of those fields: each value is there, each item is its
--- value's and is read back, and no two names are the same. The cost is the greatest of one.
-abbrev pub NoField : Unit {0} → NamedItems → ℕ → Type 0
-NoField values parts cost = (parts ≡ []) × (cost ≡ 0)
-
-abbrev pub FieldBefore : {T V : Type 0} → Reads T → (T → Encoding) → (V → NamedItems → ℕ → Type 0)
-    → Option T × V → NamedItems → ℕ → Type 0
-FieldBefore reads item others values [] cost = ⊥
-FieldBefore {T} reads item others values (part ∷ parts) cost =
-    (v : T) × (own : ℕ) × (rest : ℕ) × (values.0 ≡ Some v) × (part.1 ≡ item v) × IsName part.0
-    × AllByRecursion (λ (other : List ℕ × Encoding). other.0 ≢ part.0) parts
-    × IsReadBack reads (item v) v own × others values.1 parts rest × (cost ≡ max own rest)

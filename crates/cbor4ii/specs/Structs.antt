@@ -1,15 +1,15 @@
 -- What a struct that is read from its named fields promises, by what its fields do.
-use Rattle.std.specs.Prelude.{List, [], ◌∷◌, ℕ, ◌&&◌, Bool, true, None, Option, IsTrue}
-use Rattle.std.specs.Prelude.{refl, codes}
+use Rattle.std.specs.Prelude.{List, [], ◌∷◌, ℕ, ◌&&◌, Bool, true, Option, IsTrue, refl, codes}
 use denote.Ref.{Bor}
 use Rattle.cbor4ii_items.specs.Decoding.{Spelling, IsLawful, spelling_by}
-use Rattle.cbor4ii_items.specs.Sequences.{in_list}
+use Rattle.cbor4ii_items.specs.Sequences.{SamePair, in_list}
 use Rattle.cbor4ii_items.specs.Laws.Containers.{both}
 use Rattle.cbor4ii_items.specs.Laws.Spellings.{lawful_by}
 use Rattle.cbor4ii.specs.Fields.{ReadsNamed, StopsNamed, NamedLaws, ReadsFields, StopsFields}
-use Rattle.cbor4ii.specs.Fields.{SameField, SameChange, entry_laws, named_part, named_entry}
-use Rattle.cbor4ii.specs.Fields.{no_field, no_values, named_field, no_field_stops, field_stops}
-use Rattle.cbor4ii.specs.Fields.{no_field_laws, field_laws, fields_laws}
+use Rattle.cbor4ii.specs.Fields.{SameChange, entry_laws, named_part, named_entry, no_field}
+use Rattle.cbor4ii.specs.Fields.{no_values, named_field, no_field_stops, field_stops, no_field_laws}
+use Rattle.cbor4ii.specs.Fields.{field_laws, fields_laws}
+use Rattle.cbor4ii.specs.Places.{Place, last_place}
 use Rattle.cbor4ii.specs.Sequence.{sequence_of}
 use Rattle.cbor4ii.specs.Typed.{Promise, typed_spelling, typed_laws, lawful_as, said_by, any_two}
 
@@ -38,38 +38,42 @@ no_more = record {
   laws = λ is. no_field_laws any_two;
 }
 
--- a field of this name, and others behind it
-abbrev pub field : {T V : Type 0} → List ℕ → Promise T → Fields V → Fields (Option T × V)
-field name p others = record {
-  named = named_field name p.spelling.reads others.named;
+-- a field of this name, whose values stand in this place, and others behind it
+abbrev pub placed : {T P V : Type 0} → Place T P → List ℕ → Promise T → Fields V → Fields (P × V)
+placed place name p others = record {
+  named = named_field place.put name p.spelling.reads others.named;
   stops = field_stops name (said_by p) others.stops;
-  same = SameField p.spelling.same others.same;
-  first = (None, others.first);
+  same = SamePair (place.same p.spelling.same) others.same;
+  first = (place.none, others.first);
   owned = p.spelling.owned && others.owned;
   exact = p.exact && others.exact;
-  alike = (tt, others.alike);
+  alike = (place.none_same p.spelling.same, others.alike);
   laws = λ is. (let h = both p.exact others.exact is in
-      field_laws name others.named (typed_laws p h.0) (others.laws h.1));
+      field_laws place name others.named (typed_laws p h.0) (others.laws h.1));
 }
 
+-- one of which the last value counts
+abbrev pub field : {T V : Type 0} → List ℕ → Promise T → Fields V → Fields (Option T × V)
+field {T} = placed (last_place {T = T})
+
 -- none of them has a name
-abbrev pub unnamed : {T V : Type 0} → Promise T → Fields V → Fields (Option T × V)
-unnamed p others = record {
+abbrev pub unnamed : {T P V : Type 0} → Place T P → Promise T → Fields V → Fields (P × V)
+unnamed place p others = record {
   named = no_field;
   stops = no_field_stops;
-  same = SameField p.spelling.same others.same;
-  first = (None, others.first);
+  same = SamePair (place.same p.spelling.same) others.same;
+  first = (place.none, others.first);
   owned = p.spelling.owned && others.owned;
   exact = p.exact && others.exact;
-  alike = (tt, others.alike);
-  laws = λ is. no_field_laws (SameField p.spelling.same others.same);
+  alike = (place.none_same p.spelling.same, others.alike);
+  laws = λ is. no_field_laws (SamePair (place.same p.spelling.same) others.same);
 }
 
 -- fields by their names: of a type, and then others
-abbrev pub fields_by : {T V : Type 0} → Promise T → (List (Bor (List ℕ)) → Fields V)
-    → List (Bor (List ℕ)) → Fields (Option T × V)
-fields_by p others [] = unnamed p (others [])
-fields_by p others (own ∷ behind) = field own.now p (others behind)
+abbrev pub fields_by : {T P V : Type 0} → Place T P → Promise T → (List (Bor (List ℕ)) → Fields V)
+    → List (Bor (List ℕ)) → Fields (P × V)
+fields_by place p others [] = unnamed place p (others [])
+fields_by place p others (own ∷ behind) = placed place own.now p (others behind)
 
 -- ---- how they are spelled
 

@@ -1,6 +1,7 @@
 //! Values of a user's own types.
 
 pub mod de;
+pub mod described;
 pub mod laws;
 
 pub use cbor4ii_ser::bounded::BoundedCollect;
@@ -18,5 +19,7 @@ pub use de::enum_accessor::EnumAccessor;
 pub use de::error::DecodeError;
 pub use de::fields::{Places, Values};
 pub use de::first::{Input, from_reader, from_slice};
-pub use de::presence::{Optional, Or, Presence, Presences, Required};
+pub use de::place::{Place, Single};
+pub use de::presence::{Once, Optional, Or, Presence, Presences, Required};
 pub use de::some_accessor::SomeAccessor;
+pub use described::{Described, described_values_are_read_back};

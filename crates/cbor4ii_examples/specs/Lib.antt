@@ -4,3 +4,5 @@ pub mod Station
 pub mod StationLaws
 pub mod Nest
 pub mod Tree
+-- An enum, by its variants.
+pub mod Event

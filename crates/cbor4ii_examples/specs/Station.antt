@@ -1,13 +1,12 @@
 -- What a station is spelled as: an array of its number and its name (RFC 8949 sections 3.1, 3.2.2).
-use Rattle.std.specs.Prelude.{◌≡◌, ◌≢◌, ℕ, ◌⊎◌, List, [], ◌∷◌, ◌++◌, take, drop}
-use Rattle.std.specs.Prelude.{Some, None, Bool, true, false, codes}
+use Rattle.std.specs.Prelude.{◌≡◌, ◌≢◌, ℕ, ◌⊎◌, List, [], ◌∷◌, ◌++◌, take, drop, Some, None, Bool}
+use Rattle.std.specs.Prelude.{true, false, codes}
 use Rattle.std.specs.declared.alloc.Global.{Global}
 use Rattle.std.specs.declared.string.String.{String}
 use Rattle.cbor4ii_rw.specs.declared.error.Len.TheVariants.{Indefinite}
 use Rattle.cbor4ii_items.specs.Head.{break}
 use Rattle.cbor4ii_items.specs.Heads.{ReadsHead}
-use Rattle.cbor4ii_items.specs.Decoding.{Reads, StopsAt}
-use Rattle.cbor4ii_items.specs.Decoding.{Spelling, leaf_spelling, looking_spelling}
+use Rattle.cbor4ii_items.specs.Decoding.{Reads, StopsAt, Spelling, leaf_spelling, looking_spelling}
 use Rattle.cbor4ii_items.specs.Refusal.{require_length, len_of}
 use Rattle.cbor4ii_items.specs.Lengths.{ReadsLength, StopsLength}
 use Rattle.cbor4ii_items.specs.Numbers.{ReadsUnsigned, StopsUnsigned, shortest_head}

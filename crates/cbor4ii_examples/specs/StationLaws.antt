@@ -1,6 +1,6 @@
 -- A station is read in one way, from its own bytes alone.
-use Rattle.std.proofs.Common.{◌≡◌, ℕ, List, [], ◌∷◌, ◌++◌, take, Bool, true, false}
-use Rattle.std.proofs.Common.{refl, sym, ◌∙◌, subst, arith}
+use Rattle.std.proofs.Common.{◌≡◌, ℕ, List, [], ◌∷◌, ◌++◌, take, Bool, true, false, refl, sym, ◌∙◌}
+use Rattle.std.proofs.Common.{subst, arith}
 use Rattle.cbor4ii_items.specs.Head.{break, open_head}
 use Rattle.cbor4ii_items.specs.Laws.Heads.{head_one, head_read, head_alone}
 use Rattle.cbor4ii_items.specs.Numbers.{ReadsUnsigned}
@@ -11,13 +11,12 @@ use Rattle.cbor4ii_items.specs.Laws.Strings.{head_not_open, text_one, text_withi
 use Rattle.cbor4ii_items.specs.Laws.Containers.{first_kept}
 use Rattle.cbor4ii_items.specs.Laws.Sequences.{one_byte}
 use Rattle.cbor4ii_examples.specs.declared.station.Station.{Station}
-use Rattle.cbor4ii_examples.specs.Then.{InOneWay, Within, Positive, Alone, Carries}
-use Rattle.cbor4ii_examples.specs.Then.{then_one, then_within, then_positive, then_alone}
+use Rattle.cbor4ii_examples.specs.Then.{InOneWay, Within, Positive, Alone, Carries, then_one}
+use Rattle.cbor4ii_examples.specs.Then.{then_within, then_positive, then_alone}
 use Rattle.cbor4ii_examples.specs.Station.{ReadsOpening, ReadsEnd, AfterNumber, AfterOpening}
-use Rattle.cbor4ii_examples.specs.Station.{station_spelling}
+use Rattle.cbor4ii_examples.specs.Station.{station_spelling, ReadsAfterNumber, ReadsAfterOpening}
+use Rattle.cbor4ii_examples.specs.Station.{ReadsStation, SameStation}
 use Rattle.cbor4ii_items.specs.Decoding.{IsLawful}
-use Rattle.cbor4ii_examples.specs.Station.{ReadsAfterNumber}
-use Rattle.cbor4ii_examples.specs.Station.{ReadsAfterOpening, ReadsStation, SameStation}
 
 -- ---- the opening
 

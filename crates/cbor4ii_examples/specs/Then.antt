@@ -1,6 +1,6 @@
 -- One part behind another: what is read, how it is refused, and the laws of both.
-use Rattle.std.proofs.Common.{◌≡◌, ℕ, ◌+◌, ◌≤◌, ◌⊎◌, List, ◌++◌, length, take, drop, Option}
-use Rattle.std.proofs.Common.{sym, ap, ◌∙◌, subst, arith, max}
+use Rattle.std.proofs.Common.{◌≡◌, ℕ, ◌+◌, ◌≤◌, ◌⊎◌, List, ◌++◌, length, take, drop, Option, sym}
+use Rattle.std.proofs.Common.{ap, ◌∙◌, subst, arith, max}
 use Rattle.std.proofs.lemmas.List.{length-drop}
 use Rattle.cbor4ii_items.specs.Decoding.{Reads, StopsAt, CostFits}
 use Rattle.cbor4ii_items.specs.Refusal.{Refusal}

@@ -1,21 +1,16 @@
 //! An enum that is written and read inside other types, as in a vector or a map.
-ghost use Rattle.std.specs.Prelude.{◌≡◌, ◌∷◌, [], codes};
-ghost use Rattle.cbor4ii_items.specs.Strings.{counted_string};
-ghost use Rattle.cbor4ii_ser.specs.Item.{encoded, field, struct_item, tuple_variant_item};
-ghost use Rattle.cbor4ii_ser.specs.Item.{variant_item};
-ghost use Rattle.cbor4ii.specs.Cases.{enum_of, case, unit_case, held_case, otherwise};
+ghost use Rattle.std.specs.Prelude.{◌≡◌, codes};
+ghost use Rattle.std.proofs.Common.{refl};
+ghost use Rattle.cbor4ii.specs.CodecCases.{enum_codec, unit_variant, variant, no_case};
+ghost use Rattle.cbor4ii.specs.CodecFields.{struct_codec, part, no_parts};
 ghost use Rattle.cbor4ii.specs.Fields.{no_values};
-ghost use Rattle.cbor4ii.specs.Made.{made_from};
-ghost use Rattle.cbor4ii.specs.Presence.{struct_from, required, no_others};
-ghost use Rattle.cbor4ii.specs.declared.serde.de.cases.Choice.TheVariants.{First, Other};
-ghost use Rattle.cbor4ii_examples.specs.declared.event.Event.TheVariants.{Started, Sampled, Moved};
-ghost use Rattle.cbor4ii_examples.specs.declared.event.Event.TheVariants.{Named};
+ghost use Rattle.cbor4ii_examples.specs.Event.{choice_of};
 
 use crate::sample::Sample;
 use cbor4ii::serde::Choice::{First, Other};
 use cbor4ii::serde::{
-    Choice, DecodeError, Deserialize, Deserializer, EncodeError, Holds, Otherwise, Required,
-    Serialize, Serializer, Typed, Unit,
+    Choice, DecodeError, Described, Deserialize, Deserializer, EncodeError, Holds, Otherwise,
+    Required, Serialize, Serializer, Typed, Unit,
 };
 use cbor4ii_rw::error::{Never, StaticStr};
 use cbor4ii_rw::read::Source;
@@ -37,15 +32,7 @@ pub enum Event {
 
 /// The variant's name as a text, or a map of the name to the content.
 impl Serialize for Event {
-    ghost item = { λ e. elim e [
-      | Started ↦ encoded (counted_string 3 (codes "Started"))
-      | Sampled s ↦ variant_item (codes "Sampled") (⟦<Sample as Serialize>⟧.item s)
-      | Moved x y ↦ tuple_variant_item (codes "Moved") (⟦<i32 as Serialize>⟧.item x
-          ∷ ⟦<i32 as Serialize>⟧.item y ∷ [])
-      | Named n t ↦ variant_item (codes "Named") (struct_item
-          (field (codes "id") (⟦<u32 as Serialize>⟧.item n)
-          ∷ field (codes "name") (⟦<String as Serialize>⟧.item t) ∷ []))
-    ] };
+    ghost item = { ⟦<Event as Described>⟧.codec.item };
 
     fn serialize<W: Write>(&self, ser: &mut Serializer<W>) -> Result<(), EncodeError<W::Error>> {
         match self {
@@ -54,7 +41,7 @@ impl Serialize for Event {
                 ser.serialize_newtype_variant("Event", 1, "Sampled", sample)
             }
             Event::Moved(east, north) => {
-                ser.serialize_variant_of_2_items("Event", 2, "Moved", east, north)
+                ser.serialize_newtype_variant("Event", 2, "Moved", &(*east, *north))
             }
             Event::Named { id, name } => {
                 ser.serialize_variant_of_2_fields("Event", 3, "Named", "id", id, "name", name)
@@ -78,12 +65,7 @@ impl<S: Source> Deserialize<S> for Event {
 type Events = Choice<(), Choice<Sample, Choice<(i32, i32), Choice<Name, Never>>>>;
 
 impl From<Events> for Event {
-    ghost from_gives = { λ c e. c ≡ elim e [
-      | Started ↦ First tt
-      | Sampled s ↦ Other (First s)
-      | Moved x y ↦ Other (Other (First (x, y)))
-      | Named n t ↦ Other (Other (Other (First (record { id = n; name = t }))))
-    ] };
+    ghost from_gives = { λ c e. c ≡ choice_of e };
 
     fn from(events: Events) -> Event {
         match events {
@@ -96,12 +78,15 @@ impl From<Events> for Event {
 }
 
 impl Typed for Event {
-    ghost promise = { made_from ⟦<Event as From<Events>>⟧.from_gives
-        (enum_of (case (codes "Started") unit_case
-        (case (codes "Sampled") (held_case ⟦<Sample as Typed>⟧.promise)
-        (case (codes "Moved") (held_case ⟦<(i32, i32) as Typed>⟧.promise)
-        (case (codes "Named") (held_case ⟦<Name as Typed>⟧.promise)
-        (otherwise (codes "no such event"))))))) };
+    ghost promise = { ⟦<Event as Described>⟧.codec.promise };
+}
+
+impl Described for Event {
+    ghost codec = { enum_codec choice_of (unit_variant (codes "Started")
+        (variant (codes "Sampled") ⟦<Sample as Described>⟧.codec
+        (variant (codes "Moved") ⟦<(i32, i32) as Described>⟧.codec
+        (variant (codes "Named") ⟦<Name as Described>⟧.codec
+        (no_case (codes "no such event")) refl) refl) refl) refl) };
 }
 
 /// What a station is named.
@@ -129,10 +114,14 @@ impl From<(u32, (String, ()))> for Name {
 }
 
 impl Typed for Name {
-    ghost promise = { made_from (λ values n. values ≡ (n.id, (n.name, no_values)))
-        (struct_from (required (codes "id") (codes "a name has no id") ⟦<u32 as Typed>⟧.promise
-        (required (codes "name") (codes "a name has no text") ⟦<String as Typed>⟧.promise
-        no_others))) };
+    ghost promise = { ⟦<Name as Described>⟧.codec.promise };
+}
+
+impl Described for Name {
+    ghost codec = { struct_codec (λ n. (n.id, (n.name, no_values)))
+        (part (codes "id") (codes "a name has no id") ⟦<u32 as Described>⟧.codec
+        (part (codes "name") (codes "a name has no text") ⟦<String as Described>⟧.codec no_parts
+        refl) refl) refl };
 }
 
 #[cfg(test)]

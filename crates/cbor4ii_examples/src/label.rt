@@ -1,12 +1,12 @@
 //! A struct that borrows from the input.
-ghost use Rattle.std.specs.Prelude.{◌≡◌, ◌∷◌, [], codes};
-ghost use Rattle.cbor4ii_ser.specs.Item.{field, struct_item};
+ghost use Rattle.std.specs.Prelude.{◌≡◌, codes};
+ghost use Rattle.std.proofs.Common.{refl};
+ghost use Rattle.cbor4ii.specs.CodecFields.{struct_codec, part, no_parts};
 ghost use Rattle.cbor4ii.specs.Fields.{no_values};
-ghost use Rattle.cbor4ii.specs.Made.{made_from};
-ghost use Rattle.cbor4ii.specs.Presence.{struct_from, required, no_others};
 
 use cbor4ii::serde::{
-    DecodeError, Deserialize, Deserializer, EncodeError, Required, Serialize, Serializer, Typed,
+    DecodeError, Described, Deserialize, Deserializer, EncodeError, Required, Serialize,
+    Serializer, Typed,
 };
 use cbor4ii_rw::error::Never;
 use cbor4ii_rw::slice_reader::SliceReader;
@@ -23,8 +23,7 @@ pub struct Label<'a> {
 }
 
 impl<'a> Serialize for Label<'a> {
-    ghost item = { λ l. struct_item (field (codes "id") (⟦<u8 as Serialize>⟧.item l.id)
-        ∷ field (codes "text") (⟦<&'a str as Serialize>⟧.item l.text) ∷ []) };
+    ghost item = { ⟦<Label<'a> as Described>⟧.codec.item };
 
     fn serialize<W: Write>(&self, ser: &mut Serializer<W>) -> Result<(), EncodeError<W::Error>> {
         ser.serialize_2_fields("Label", "id", &self.id, "text", &self.text)
@@ -53,10 +52,14 @@ impl<'a> From<(u8, (&'a str, ()))> for Label<'a> {
 }
 
 impl<'a> Typed for Label<'a> {
-    ghost promise = { made_from (λ values l. values ≡ (l.id, (l.text, no_values)))
-        (struct_from (required (codes "id") (codes "a label has no id") ⟦<u8 as Typed>⟧.promise
-        (required (codes "text") (codes "a label has no text") ⟦<&'a str as Typed>⟧.promise
-        no_others))) };
+    ghost promise = { ⟦<Label<'a> as Described>⟧.codec.promise };
+}
+
+impl<'a> Described for Label<'a> {
+    ghost codec = { struct_codec (λ l. (l.id, (l.text, no_values)))
+        (part (codes "id") (codes "a label has no id") ⟦<u8 as Described>⟧.codec
+        (part (codes "text") (codes "a label has no text") ⟦<&'a str as Described>⟧.codec no_parts
+        refl) refl) refl };
 }
 
 #[cfg(test)]

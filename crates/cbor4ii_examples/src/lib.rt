@@ -11,10 +11,15 @@
 //! | `label` | a struct that borrows from the input |
 //! | `enumeration` | an enum with variants of each kind, which a function reads |
 //! | `event` | an enum that is read inside other types, as in a vector or a map |
+//! | `reply` | a struct of which a field is left out where it is none |
+//! | `settings` | a struct of eight fields with defaults, and at which byte its reading stops |
+//! | `log` | a log of events, out of parts that are cut anywhere or out of a stream |
 //! | `meters` | a newtype, read and written as what it holds |
 //! | `nest` | a type that holds values of its own kind |
-//! | `tree` | a struct that holds values of its own kind, written in one call |
+//! | `tree` | a struct that holds values of its own kind, written in one call and read as a value |
 //! | `station` | a type that is read and written by hand, each refusal proved |
+//! | `store` | what a content-addressed store checks: one item, in its canonical spelling |
+//! | `envelope` | a signed payload, checked as its bytes stand and then read |
 //!
 //! The rows' values come from RFC 8949 and from worked examples, never from this codec's own
 //! answers.
@@ -23,17 +28,22 @@
 pub mod by_hand;
 pub mod canonical;
 pub mod enumeration;
+pub mod envelope;
 pub mod event;
 #[cfg(test)]
 mod failures;
 pub mod label;
+pub mod log;
 pub mod meters;
 pub mod nest;
 pub mod point;
 pub mod raw_items;
 #[cfg(test)]
 mod refusal;
+pub mod reply;
 pub mod sample;
+pub mod settings;
 pub mod station;
+pub mod store;
 pub mod texts;
 pub mod tree;

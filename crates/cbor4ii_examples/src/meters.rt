@@ -1,9 +1,9 @@
 //! A newtype, which is read and written as what it holds.
 ghost use Rattle.std.specs.Prelude.{◌≡◌};
-ghost use Rattle.cbor4ii.specs.Made.{made_from};
+ghost use Rattle.cbor4ii.specs.Codec.{codec_of};
 
 use cbor4ii::serde::{
-    DecodeError, Deserialize, Deserializer, EncodeError, Serialize, Serializer, Typed,
+    DecodeError, Described, Deserialize, Deserializer, EncodeError, Serialize, Serializer, Typed,
 };
 use cbor4ii_rw::read::Source;
 use cbor4ii_rw::write::Write;
@@ -14,7 +14,7 @@ use std::alloc::Global;
 pub struct Meters(pub u32);
 
 impl Serialize for Meters {
-    ghost item = { λ m. ⟦<u32 as Serialize>⟧.item m.0 };
+    ghost item = { ⟦<Meters as Described>⟧.codec.item };
 
     fn serialize<W: Write>(&self, ser: &mut Serializer<W>) -> Result<(), EncodeError<W::Error>> {
         self.0.serialize(ser)
@@ -39,7 +39,11 @@ impl<S: Source> Deserialize<S> for Meters {
 }
 
 impl Typed for Meters {
-    ghost promise = { made_from (λ n m. n ≡ m.0) ⟦<u32 as Typed>⟧.promise };
+    ghost promise = { ⟦<Meters as Described>⟧.codec.promise };
+}
+
+impl Described for Meters {
+    ghost codec = { codec_of (λ m. m.0) ⟦<u32 as Described>⟧.codec };
 }
 
 #[cfg(test)]

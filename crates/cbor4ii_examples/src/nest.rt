@@ -4,7 +4,9 @@ ghost use Rattle.cbor4ii_items.specs.Moves.{Moves};
 ghost use Rattle.cbor4ii.specs.Typed.{input, answer_of};
 ghost use Rattle.cbor4ii_examples.specs.Nest.{nest_item};
 
-use cbor4ii::serde::{DecodeError, Deserializer, EncodeError, Serialize, Serializer};
+use cbor4ii::serde::{
+    DecodeError, Deserialize, Deserializer, EncodeError, Serialize, Serializer, Typed,
+};
 use cbor4ii_rw::error as core_error;
 use cbor4ii_rw::read::Source;
 use cbor4ii_rw::write::Write;
@@ -24,6 +26,16 @@ impl Serialize for Nest {
     #[tactic(auto, using(crate::specs::declared::nest::Nest::the_lemmas, cbor4ii_ser::specs::Laws::Inside::values_inside,))]
     fn serialize<W: Write>(&self, ser: &mut Serializer<W>) -> Result<(), EncodeError<W::Error>> {
         self.inner.serialize(ser)
+    }
+}
+
+/// Nothing is promised of the bytes.
+impl Typed for Nest {}
+
+/// As `read_nest`, so that it is read inside other types too.
+impl<S: Source> Deserialize<S> for Nest {
+    fn deserialize(alloc: Global, de: &mut Deserializer<S>) -> Result<Nest, DecodeError<S::Error>> {
+        read_nest(alloc, de)
     }
 }
 

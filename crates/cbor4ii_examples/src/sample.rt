@@ -1,12 +1,12 @@
 //! A struct that is written part by part, and read in one call.
-ghost use Rattle.std.specs.Prelude.{◌≡◌, ◌∷◌, [], None, codes};
-ghost use Rattle.cbor4ii_ser.specs.Item.{field, struct_item};
+ghost use Rattle.std.specs.Prelude.{◌≡◌, None, codes};
+ghost use Rattle.std.proofs.Common.{refl};
+ghost use Rattle.cbor4ii.specs.CodecFields.{struct_codec, part, part_or, no_parts};
 ghost use Rattle.cbor4ii.specs.Fields.{no_values};
-ghost use Rattle.cbor4ii.specs.Made.{made_from};
-ghost use Rattle.cbor4ii.specs.Presence.{struct_from, required, or_else, no_others};
 
 use cbor4ii::serde::{
-    DecodeError, Deserialize, Deserializer, EncodeError, Or, Required, Serialize, Serializer, Typed,
+    DecodeError, Described, Deserialize, Deserializer, EncodeError, Or, Required, Serialize,
+    Serializer, Typed,
 };
 use cbor4ii_rw::error::StaticStr;
 use cbor4ii_rw::read::Source;
@@ -26,9 +26,7 @@ pub struct Sample {
 
 /// A map of three fields, in this order; a note that is missing is null.
 impl Serialize for Sample {
-    ghost item = { λ s. struct_item (field (codes "sensor") (⟦<String as Serialize>⟧.item s.sensor)
-        ∷ field (codes "value") (⟦<i64 as Serialize>⟧.item s.value)
-        ∷ field (codes "note") (⟦<Option<String> as Serialize>⟧.item s.note) ∷ []) };
+    ghost item = { ⟦<Sample as Described>⟧.codec.item };
 
     fn serialize<W: Write>(&self, ser: &mut Serializer<W>) -> Result<(), EncodeError<W::Error>> {
         let mut fields = ser.serialize_struct("Sample", 3)?;
@@ -68,11 +66,15 @@ impl From<(String, (i64, (Option<String>, ())))> for Sample {
 }
 
 impl Typed for Sample {
-    ghost promise = { made_from (λ values s. values ≡ (s.sensor, (s.value, (s.note, no_values))))
-        (struct_from
-        (required (codes "sensor") (codes "a sample has no sensor") ⟦<String as Typed>⟧.promise
-        (required (codes "value") (codes "a sample has no value") ⟦<i64 as Typed>⟧.promise
-        (or_else (codes "note") None ⟦<Option<String> as Typed>⟧.promise no_others)))) };
+    ghost promise = { ⟦<Sample as Described>⟧.codec.promise };
+}
+
+impl Described for Sample {
+    ghost codec = { struct_codec (λ s. (s.sensor, (s.value, (s.note, no_values))))
+        (part (codes "sensor") (codes "a sample has no sensor") ⟦<String as Described>⟧.codec
+        (part (codes "value") (codes "a sample has no value") ⟦<i64 as Described>⟧.codec
+        (part_or (codes "note") None ⟦<Option<String> as Described>⟧.codec no_parts refl) refl)
+        refl) refl };
 }
 
 #[cfg(test)]

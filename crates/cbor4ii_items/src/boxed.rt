@@ -21,8 +21,12 @@ impl<T: Spelled> Spelled for Box<T> {
     ghost lawful = { boxed_lawful T.spelling T.lawful };
 }
 
-/// A box is read and refused as what is in it. Where there is no memory for the box, it is
-/// `OutOfMemory`, and the item was taken.
+/// A box is read as what is in it.
+///
+/// # Errors
+///
+/// Those of what is in it, which leave what they leave. `OutOfMemory` comes too where there is no
+/// memory for the box; the item was taken then.
 impl<S: Source, T: Decode<S> + Drop> Decode<S> for Box<T> {
     #[inline(always)]
     fn decode(alloc: Global, reader: &mut S) -> Result<Box<T>, DecodeError<S::Error>>
@@ -43,7 +47,11 @@ impl<S: Source, T: Decode<S> + Drop> Decode<S> for Box<T> {
     }
 }
 
-/// A box is written as what is in it, and fails as that does.
+/// A box is written as what is in it.
+///
+/// # Errors
+///
+/// Those of what is in it.
 impl<T: Encode> Encode for Box<T> {
     ghost bytes = { λ b. T.bytes b.value };
 

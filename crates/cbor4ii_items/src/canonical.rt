@@ -24,9 +24,9 @@ use std::alloc::Global;
 ///
 /// # Errors
 ///
-/// - `Read`: the reader failed
-/// - `Eof` by `name`: no byte is left, with 1; or the argument has k bytes and fewer are left, with
-///   k. Nothing is left then
+/// - `Read`: the reader failed. A part of the head may be taken then
+/// - `Eof` by `name` with 1: no byte is left
+/// - `Eof` by `name` with k: the argument has k bytes and fewer are left. Nothing is left then
 /// - `Mismatch` by `name` with the first byte, which is taken: it begins no head of this major type
 /// - `NotCanonical` by "canonical": a whole head is longer than needed, and is taken; or the first
 ///   byte, which is taken, says an indefinite length (major types 2 to 5, section 3.2)
@@ -48,11 +48,11 @@ pub fn canonical_head<S: Source>(
 ///
 /// # Errors
 ///
-/// - the head's, as `canonical_head` refuses it
-/// - `Read`: the reader failed
+/// - those of `canonical_head`, which leave the same
+/// - `Read`: the reader failed. A part of the string may be taken then
 /// - `Eof` by `name` with the number of bytes that are missing: fewer are left than the head says.
 ///   Nothing is left then
-/// - `OutOfMemory`: a growth was refused
+/// - `OutOfMemory`: a growth was refused. A part of the string may be taken then
 pub fn canonical_buf<S: Source>(
     alloc: Global,
     name: StaticStr,

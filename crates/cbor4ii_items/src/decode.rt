@@ -20,8 +20,8 @@ pub trait Spelled: Sized {
     fn is_never_empty() -> bool
         ensures { result ≡ spelling.never_empty };
 
-    // One input is read in one way, what is read stands in it, and a spelling is read whatever
-    // follows.
+    // A law: one input is read in one way, and what is read stands in it. Where no spelling is
+    // empty a byte is read, and where the type is closed a spelling is read whatever follows.
     ghost lawful: { IsLawful spelling };
 }
 
@@ -36,13 +36,18 @@ pub trait Decode<S: Source>: Spelled {
     ///
     /// # Errors
     ///
-    /// `Read` where the reader failed in the call, and only there; its bytes may then be told no
-    /// more. `OutOfMemory` only from a type that may take memory, where a growth was refused.
-    /// Every other error speaks of the bytes, and `DepthOverflow` comes only where the reader has a
-    /// budget. If the type needs no borrowed part, or the reader lends whole and has fewer than
-    /// 2^64 bytes left, they come only where no spelling of the type whose steps fit the budget
-    /// begins the bytes; which error it is then, with which fields, and which bytes are left, is
-    /// what the type's `stops` says.
+    /// - `Read` with the reader's error: the reader failed in the call. A part of the item may be
+    ///   taken then. The bytes that are left stay told where the reader remembers them, and may be
+    ///   told no more otherwise
+    /// - `OutOfMemory`: a growth was refused. Only a type that may take memory answers it, and a
+    ///   part of the item may be taken then
+    /// - all other errors speak of the bytes. `DepthOverflow` comes only where the reader has a
+    ///   budget
+    ///
+    /// Of a type that needs no borrowed part, these come only where no encoding of the type whose
+    /// steps fit the budget begins the bytes. The same holds of another type where the reader lends
+    /// whole and has fewer than 2^64 bytes left. Which error it is then, with which fields, and
+    /// which bytes are left, is what the type's `stops` says.
     fn decode(alloc: Global, reader: &mut S) -> Result<Self, DecodeError<S::Error>>
         ensures { Decodes Self.spelling (S.view reader.old) (S.view reader.new) result };
 }

@@ -7,13 +7,16 @@ use cbor4ii_rw::write::Write;
 
 /// A type whose values are written as items.
 pub trait Encode {
-    // The bytes of a value.
+    // The bytes of a value, which `encode` appends.
     ghost bytes: { Self → List ℕ };
 
     /// Appends the value's bytes to what `writer` holds.
     ///
-    /// It fails only where the writer failed in the call. A whole writer then holds what it held
-    /// before and a beginning of the value's bytes; of another one nothing is said.
+    /// # Errors
+    ///
+    /// `Write` with the writer's error: the writer failed in the call, and counts it. A whole
+    /// writer then holds what it held before and a beginning of the value's bytes; of another one
+    /// nothing is said.
     fn encode<W: Write>(&self, writer: &mut W) -> Result<(), EncodeError<W::Error>>
         ensures { Writes W.whole (bytes self.now) (W.view writer.old) (W.view writer.new) result };
 }

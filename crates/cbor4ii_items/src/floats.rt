@@ -128,9 +128,13 @@ impl Spelled for F16 {
 
 /// A float of two bytes, as its bits (RFC 8949 section 3.3).
 ///
-/// Refused by the name "f16": `Eof` with 1 where no byte is left; `Mismatch` with the next byte,
-/// which stays, where it begins no float of two bytes; `Eof` with 2 where fewer than two bytes
-/// follow it, nothing being left then.
+/// # Errors
+///
+/// `Read` is told at `Decode::decode`. The others have the name "f16":
+///
+/// - `Eof` with 1: no byte is left
+/// - `Mismatch` with the next byte, which stays: it begins no float of two bytes
+/// - `Eof` with 2: fewer than two bytes follow it. Nothing is left then
 impl<S: Source> Decode<S> for F16 {
     #[inline(always)]
     fn decode(alloc: Global, reader: &mut S) -> Result<F16, DecodeError<S::Error>> {
@@ -139,7 +143,10 @@ impl<S: Source> Decode<S> for F16 {
 }
 
 /// `f9`, and the bits in two bytes, most significant first (RFC 8949 section 3.3), in one push.
-/// Where that fails, a whole writer holds what it held before.
+///
+/// # Errors
+///
+/// `Write`: the writer failed. A whole writer then holds what it held before.
 impl Encode for F16 {
     ghost bytes = { λ v. float_bytes 0xf9 2 v.0 };
 
@@ -166,9 +173,13 @@ impl Spelled for F32 {
 
 /// A float of four bytes, as its bits (RFC 8949 section 3.3).
 ///
-/// Refused by the name "f32": `Eof` with 1 where no byte is left; `Mismatch` with the next byte,
-/// which stays, where it begins no float of four bytes; `Eof` with 4 where fewer than four bytes
-/// follow it, nothing being left then.
+/// # Errors
+///
+/// `Read` is told at `Decode::decode`. The others have the name "f32":
+///
+/// - `Eof` with 1: no byte is left
+/// - `Mismatch` with the next byte, which stays: it begins no float of four bytes
+/// - `Eof` with 4: fewer than four bytes follow it. Nothing is left then
 impl<S: Source> Decode<S> for F32 {
     #[inline(always)]
     fn decode(alloc: Global, reader: &mut S) -> Result<F32, DecodeError<S::Error>> {
@@ -177,7 +188,10 @@ impl<S: Source> Decode<S> for F32 {
 }
 
 /// `fa`, and the bits in four bytes, most significant first (RFC 8949 section 3.3), in one push.
-/// Where that fails, a whole writer holds what it held before.
+///
+/// # Errors
+///
+/// `Write`: the writer failed. A whole writer then holds what it held before.
 impl Encode for F32 {
     ghost bytes = { λ v. float_bytes 0xfa 4 v.0 };
 
@@ -205,9 +219,13 @@ impl Spelled for F64 {
 
 /// A float of eight bytes, as its bits (RFC 8949 section 3.3).
 ///
-/// Refused by the name "f64": `Eof` with 1 where no byte is left; `Mismatch` with the next byte,
-/// which stays, where it begins no float of eight bytes; `Eof` with 8 where fewer than eight bytes
-/// follow it, nothing being left then.
+/// # Errors
+///
+/// `Read` is told at `Decode::decode`. The others have the name "f64":
+///
+/// - `Eof` with 1: no byte is left
+/// - `Mismatch` with the next byte, which stays: it begins no float of eight bytes
+/// - `Eof` with 8: fewer than eight bytes follow it. Nothing is left then
 impl<S: Source> Decode<S> for F64 {
     #[inline(always)]
     fn decode(alloc: Global, reader: &mut S) -> Result<F64, DecodeError<S::Error>> {
@@ -216,7 +234,10 @@ impl<S: Source> Decode<S> for F64 {
 }
 
 /// `fb`, and the bits in eight bytes, most significant first (RFC 8949 section 3.3), in one push.
-/// Where that fails, a whole writer holds what it held before.
+///
+/// # Errors
+///
+/// `Write`: the writer failed. A whole writer then holds what it held before.
 impl Encode for F64 {
     ghost bytes = { λ v. float_bytes 0xfb 8 v.0 };
 

@@ -17,8 +17,12 @@ use cbor4ii_rw::read::Source;
 /// Takes a break and answers true, or takes nothing and answers false where another byte comes
 /// next.
 ///
-/// `Read` where the reader failed, and `Eof` by the name "break" with 1 where no byte is left;
-/// nothing is taken then. The budget stays.
+/// # Errors
+///
+/// Nothing is taken then, and the budget stays.
+///
+/// - `Read`: the reader failed
+/// - `Eof` by "break" with 1: no byte is left
 pub fn is_break<S: Source>(reader: &mut S) -> Result<bool, DecodeError<S::Error>>
     ensures failed { OnRead result (Breaks (S.view reader.old) (S.view reader.new)) }
     ensures decodes { Decodes break_spelling (S.view reader.old) (S.view reader.new) result }
@@ -35,8 +39,11 @@ pub fn is_break<S: Source>(reader: &mut S) -> Result<bool, DecodeError<S::Error>
 ///
 /// # Errors
 ///
-/// Only at an indefinite length, which then stays: `Read` where the reader failed, and `Eof` by the
-/// name "break" with 1 where no byte is left; nothing is taken then. The budget stays.
+/// They come only at an indefinite length, and `len` stays. Nothing is taken then, and the budget
+/// stays.
+///
+/// - `Read`: the reader failed
+/// - `Eof` by "break" with 1: no byte is left
 pub fn follows<S: Source>(
     reader: &mut S,
     len: &mut Option<usize>,

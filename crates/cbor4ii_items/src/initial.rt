@@ -16,8 +16,10 @@ use cbor4ii_rw::read::Source;
 ///
 /// # Errors
 ///
-/// `Read` where the reader failed, and `Eof` by this name with 1 where no byte is left; nothing is
-/// taken then. The budget stays.
+/// Nothing is taken then, and the budget stays.
+///
+/// - `Read`: the reader failed
+/// - `Eof` by `name` with 1: no byte is left
 #[inline(always)]
 pub fn peek<S: Source>(reader: &mut S, name: StaticStr) -> Result<u8, DecodeError<S::Error>>
     ensures can { OnOk result (1 ≤ (S.view reader.new).advanceable) }

@@ -28,15 +28,17 @@ impl<T: Spelled> Spelled for Maybe<Option<T>> {
     ghost lawful = { maybe_lawful T.spelling T.lawful };
 }
 
-/// None is an array of no item, and some item an array of it alone, of known length (RFC 8949
+/// None is an array of no item, and some item an array of it alone, of definite length (RFC 8949
 /// section 3.1). No step is taken for the array.
 ///
-/// Refusals:
+/// # Errors
 ///
-/// - the head is not one of an array: by the name "array", as `Array::len` refuses it
-/// - another count: `RequireLength` by "maybe" with it, behind the head
-/// - an indefinite length: `RequireLength` by "maybe" with `Indefinite`, behind its first byte
-/// - the item is refused: its own refusal, and what it leaves
+/// - those of `Array::len`, by "array", which leave the same
+/// - `RequireLength` by "maybe" with the length: it is neither 0 nor 1. What follows the head is
+///   left
+/// - `RequireLength` by "maybe" with `Indefinite`: the length is indefinite. What follows the first
+///   byte is left
+/// - those of the item, which leave what they leave
 impl<S: Source, T: Decode<S>> Decode<S> for Maybe<Option<T>> {
     #[inline(always)]
     fn decode(alloc: Global, reader: &mut S) -> Result<Maybe<Option<T>>, DecodeError<S::Error>> {

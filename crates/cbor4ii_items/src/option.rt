@@ -20,8 +20,11 @@ impl<T: Spelled> Spelled for Option<T> {
 
 /// Null and undefined are none, and before any other byte an item is read (RFC 8949 section 3.3).
 ///
-/// Where no byte is left, `Eof` by the name "option" with 1, also for an item that reads no byte.
-/// Otherwise it is refused as the item is, and leaves what the item leaves.
+/// # Errors
+///
+/// - `Read`: the reader failed
+/// - `Eof` by "option" with 1: no byte is left. It comes also for an item that reads no byte
+/// - those of the item, which leave what they leave
 impl<S: Source, T: Decode<S>> Decode<S> for Option<T> {
     #[inline(always)]
     fn decode(alloc: Global, reader: &mut S) -> Result<Option<T>, DecodeError<S::Error>> {

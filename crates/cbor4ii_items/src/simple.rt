@@ -32,9 +32,14 @@ impl Spelled for Simple {
 /// A simple value by its number, in the first byte or the one after it; there the numbers below 32
 /// too, which RFC 8949 section 3.3 calls not well-formed.
 ///
-/// Refused by the name "simple": `Eof` with 1 where no byte is left, and with k where the argument
-/// has k bytes and fewer are left, nothing being left then; `Mismatch` with the first byte, which
-/// is taken, where it begins no head of major type 7 with at most one byte of argument.
+/// # Errors
+///
+/// `Read` is told at `Decode::decode`. The others have the name "simple":
+///
+/// - `Eof` with 1: no byte is left
+/// - `Eof` with k: the argument has k bytes and fewer are left. Nothing is left then
+/// - `Mismatch` with the first byte, which is taken: it begins no head of major type 7 with at most
+///   one byte of argument
 impl<S: Source> Decode<S> for Simple {
     #[inline(always)]
     fn decode(alloc: Global, reader: &mut S) -> Result<Simple, DecodeError<S::Error>> {
@@ -42,9 +47,12 @@ impl<S: Source> Decode<S> for Simple {
     }
 }
 
-/// The shortest head of major type 7 with its number (RFC 8949 section 3.3), in one push: from 24
-/// on `f8` and the number, also of 24 to 31, which section 3.3 calls not well-formed. Where that
-/// fails, a whole writer holds what it held before.
+/// The shortest head of major type 7 with its number (RFC 8949 section 3.3), in one push. From 24
+/// on it is `f8` and the number, also of 24 to 31, which section 3.3 calls not well-formed.
+///
+/// # Errors
+///
+/// `Write`: the writer failed. A whole writer then holds what it held before.
 impl Encode for Simple {
     ghost bytes = { λ v. shortest_head 7 v.0 };
 
@@ -69,8 +77,12 @@ impl Spelled for bool {
 
 /// False or true, in one byte (RFC 8949 section 3.3).
 ///
-/// Refused by the name "bool": `Eof` with 1 where no byte is left; `Mismatch` with the next byte,
-/// which stays, where it is neither.
+/// # Errors
+///
+/// `Read` is told at `Decode::decode`. The others have the name "bool", and nothing is taken then:
+///
+/// - `Eof` with 1: no byte is left
+/// - `Mismatch` with the next byte: it is neither false nor true
 impl<S: Source> Decode<S> for bool {
     #[inline(always)]
     fn decode(alloc: Global, reader: &mut S) -> Result<bool, DecodeError<S::Error>> {
@@ -87,8 +99,11 @@ fn take_bool<S: Source>(reader: &mut S) -> Result<bool, DecodeError<S::Error>>
     Ok(byte == marker::TRUE)
 }
 
-/// `f4` for false and `f5` for true (RFC 8949 section 3.3), in one push. Where that fails, a whole
-/// writer holds what it held before.
+/// `f4` for false and `f5` for true (RFC 8949 section 3.3), in one push.
+///
+/// # Errors
+///
+/// `Write`: the writer failed. A whole writer then holds what it held before.
 impl Encode for bool {
     ghost bytes = { λ v. bool_byte v ∷ [] };
 
@@ -102,8 +117,11 @@ impl Encode for bool {
     }
 }
 
-/// `f6` (RFC 8949 section 3.3), in one push. Where that fails, a whole writer holds what it held
-/// before.
+/// `f6` (RFC 8949 section 3.3), in one push.
+///
+/// # Errors
+///
+/// `Write`: the writer failed. A whole writer then holds what it held before.
 impl Encode for Null {
     ghost bytes = { λ _. simple_byte simple_null ∷ [] };
 
@@ -116,8 +134,11 @@ impl Encode for Null {
     }
 }
 
-/// `f7` (RFC 8949 section 3.3), in one push. Where that fails, a whole writer holds what it held
-/// before.
+/// `f7` (RFC 8949 section 3.3), in one push.
+///
+/// # Errors
+///
+/// `Write`: the writer failed. A whole writer then holds what it held before.
 impl Encode for Undefined {
     ghost bytes = { λ _. simple_byte simple_undefined ∷ [] };
 

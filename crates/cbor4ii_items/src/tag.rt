@@ -19,9 +19,14 @@ impl Tag<()> {
     /// Takes the head of a tag and answers its number. The item that it tags is to follow (RFC
     /// 8949 section 3.4).
     ///
-    /// `Read` where the reader failed. By the name "tag": `Eof` with 1 where no byte is left, and
-    /// with k where the number has k bytes and fewer are left, nothing being left then; `Mismatch`
-    /// with the first byte, which is taken, where it begins no tag. The budget stays.
+    /// # Errors
+    ///
+    /// The budget stays.
+    ///
+    /// - `Read`: the reader failed. A part of the head may be taken then
+    /// - `Eof` by "tag" with 1: no byte is left
+    /// - `Eof` by "tag" with k: the number has k bytes and fewer are left. Nothing is left then
+    /// - `Mismatch` by "tag" with the first byte, which is taken: it begins no tag
     pub fn tag<S: Source>(reader: &mut S) -> Result<u64, DecodeError<S::Error>>
         ensures { Decodes (argument_spelling (codes "tag") 6 8)
             (S.view reader.old) (S.view reader.new) result }
@@ -42,8 +47,9 @@ impl<T: Spelled> Spelled for Tag<T> {
 
 /// A tag, its number of any width, and the item that it tags (RFC 8949 section 3.4).
 ///
-/// Refused by the name "tag" as `Tag::tag` refuses it; then as the item is, behind the tag, and it
-/// leaves what the item leaves.
+/// # Errors
+///
+/// Those of `Tag::tag`, and behind the tag those of the item, which leave what they leave.
 impl<S: Source, T: Decode<S>> Decode<S> for Tag<T> {
     #[inline(always)]
     fn decode(alloc: Global, reader: &mut S) -> Result<Tag<T>, DecodeError<S::Error>> {

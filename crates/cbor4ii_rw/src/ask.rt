@@ -64,7 +64,7 @@ pub fn lend<'de, 's, R: Read<'de>>(
 ///
 /// # Errors
 ///
-/// Why the reader failed, as `Source::show` tells it. Nothing is taken then.
+/// The reader's own error, as `Source::show` tells it. Nothing is taken then.
 pub fn next_byte<S: Source>(reader: &mut S) -> Result<Option<u8>, S::Error>
     ensures byte { IfOk result
         (λ next. IfSome next (λ byte. Takes (byte ∷ []) (S.view reader.old) (S.view reader.new))) }

@@ -53,8 +53,12 @@ impl BufWriter {
     }
 }
 
-/// A push appends to the vector. It fails only where the vector has no room and cannot grow, and
-/// the vector then holds what it held before.
+/// A push appends to the vector.
+///
+/// # Errors
+///
+/// `TryReserveError`: the vector has no room for the input, and cannot grow. It then holds what it
+/// held before. The failure is counted.
 impl Write for BufWriter {
     type Error = TryReserveError;
 

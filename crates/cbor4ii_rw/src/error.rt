@@ -47,6 +47,9 @@ pub enum ArithmeticOverflow {
 }
 
 /// Why a value was not read. `name` says what was read: a type, or a part of its encoding.
+///
+/// The calls tell their errors by this name, and with the other field. So `Eof` by "u8" with 1 is
+/// the one whose `name` is "u8" and whose `expect` is 1.
 #[derive(Clone, Debug, PartialEq, Eq, Drop)]
 pub enum DecodeError<E> {
     /// The reader failed.
@@ -126,7 +129,7 @@ pub enum EncodeError<E> {
     Write(E),
 }
 
-/// As `Read`.
+/// The error of a reader, in `Read`.
 impl<E> From<E> for DecodeError<E> {
     ghost from_gives = { λ error result. result ≡ Read error };
 
@@ -135,7 +138,7 @@ impl<E> From<E> for DecodeError<E> {
     }
 }
 
-/// As `Write`.
+/// The error of a writer, in `Write`.
 impl<E> From<E> for EncodeError<E> {
     ghost from_gives = { λ error result. result ≡ Write error };
 

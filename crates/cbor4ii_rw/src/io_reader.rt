@@ -131,6 +131,11 @@ impl<R: BufRead> IoReader<R> {
 
 /// It shows what the stream has ready, whatever is wanted, up to 2^64-1 bytes in all. Where these
 /// were taken it shows none, and asks nothing of the stream.
+///
+/// # Errors
+///
+/// `io::Error`: the stream failed, which is counted. Nothing is taken then, and the bytes that are
+/// left stay known. Once 2^64-1 bytes were taken, `show` never fails.
 impl<R: BufRead> Source for IoReader<R> {
     type Error = io::Error;
 
@@ -189,6 +194,10 @@ impl<R: BufRead> Source for IoReader<R> {
 }
 
 /// It lends what it shows, always `Short`.
+///
+/// # Errors
+///
+/// Those of `show` over the same reader.
 impl<'de, R: BufRead> Read<'de> for IoReader<R> {
     // The clauses of the trait, those of `show`, and that it is always `Short`.
     fn fill<'short>(&'short mut self, want: usize) -> Result<Reference<'de, 'short>, io::Error>
@@ -221,6 +230,10 @@ impl<'de, R: BufRead> Read<'de> for IoReader<R> {
 }
 
 /// It lends nothing: none where a byte is left, and no bytes at the end.
+///
+/// # Errors
+///
+/// Those of `show` over the same reader.
 impl<R: BufRead> FillLong for IoReader<R> {
     type Long = [u8; 0];
 

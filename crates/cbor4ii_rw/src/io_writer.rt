@@ -36,7 +36,8 @@ impl<W: io::Write> IoWriter<W> {
     ///
     /// # Errors
     ///
-    /// Why the stream failed, which is counted. The writer is flushed then only if it was before.
+    /// `io::Error`: the stream failed, which is counted. The writer is flushed then only if it was
+    /// before.
     pub fn flush(&mut self) -> Result<(), io::Error>
         ensures keeps { Keeps (stream_output W.contents self.old).written
             (stream_output W.contents self.new).written }
@@ -84,8 +85,12 @@ impl<W: io::Write> IoWriter<W> {
     }
 }
 
-/// A push writes all of its input to the stream, which is then not flushed. It fails where the
-/// stream does, and a part of the input may be written then.
+/// A push writes all of its input to the stream, which is then not flushed.
+///
+/// # Errors
+///
+/// `io::Error`: the stream failed, which is counted. A part of the input may be written then, and
+/// the writer is not flushed.
 impl<W: io::Write> Write for IoWriter<W> {
     type Error = io::Error;
 

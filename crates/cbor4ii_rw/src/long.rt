@@ -15,7 +15,7 @@ pub trait FillLong: Source {
     /// Bytes that live as long as the input.
     type Long: AsSlice<u8> + Drop;
 
-    // It lends no byte, whatever it holds.
+    // Whether it lends no byte, whatever it holds.
     ghost never_lends: { Bool };
 
     /// Shows a front as `Source::show` does, where it lives as long as the input, and takes
@@ -23,7 +23,8 @@ pub trait FillLong: Source {
     ///
     /// # Errors
     ///
-    /// Why the reader failed; what is left then is told at `show`.
+    /// The reader's own error, which it counts. Nothing is taken then, and what is left is told at
+    /// `Source::show`.
     fn fill_long(&mut self, want: usize) -> Result<Option<Self::Long>, Self::Error>
         ensures bounded { IfOk result (λ shown. IfSome shown
             (λ long. length (Self.Long.items long) ≤ (Self.view self.old).bound)) }

@@ -52,7 +52,8 @@ pub trait Source {
     /// Why the reader failed.
     type Error: Debug + Drop;
 
-    // What the reader tells of itself as it stands.
+    // What the reader tells of itself as it stands, in the fields of a `View`: the bytes that are
+    // still to come, where it tells them, the steps that are left, how often it failed, and others.
     ghost view: { Self → View };
 
     /// Shows a front of what is left, perhaps shorter or longer than `want`, and takes nothing.
@@ -63,8 +64,9 @@ pub trait Source {
     ///
     /// # Errors
     ///
-    /// Why the reader failed, which it counts. Nothing is taken then either. The bytes that are
-    /// left stay known where the reader remembers them, and may be known no more otherwise.
+    /// The reader's own error, which it counts. Nothing is taken then either, and the budget stays.
+    /// The bytes that are left stay known where the reader remembers them, and may be known no more
+    /// otherwise.
     fn show(&mut self, want: usize) -> Result<&[u8], Self::Error>
         ensures front { IfOk result (λ shown. Told (view self.old).told (IsFront want shown.now)) }
         ensures bounded { IfOk result (λ shown. length shown.now ≤ (view self.old).bound) }
@@ -99,7 +101,7 @@ pub trait Source {
         ensures budget { (view self.new).budget ≡ step_back (view self.old).budget }
         ensures others { KeepsAllButBudget (view self.old) (view self.new) };
 
-    // What is told is no more than what can still come.
+    // A law: the bytes that it tells are no more than can still come.
     ghost told_within_bound: { (reader : Self) →
         Told (view reader).told (λ xs. length xs ≤ (view reader).bound) };
 }
@@ -114,7 +116,8 @@ pub trait Read<'de>: Source {
     ///
     /// # Errors
     ///
-    /// Why the reader failed; what is left then is told at `show`.
+    /// The reader's own error, which it counts. Nothing is taken then, and what is left is told at
+    /// `Source::show`.
     fn fill<'short>(&'short mut self, want: usize) -> Result<Reference<'de, 'short>, Self::Error>
         ensures front { IfOk result
             (λ shown. Told (Self.view self.old).told (IsFront want (bytes_of shown))) }

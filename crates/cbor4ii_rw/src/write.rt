@@ -10,17 +10,18 @@ pub trait Write {
     /// Why the writer failed.
     type Error: Debug + Drop;
 
-    // A push that fails appends nothing.
+    // Whether a push that fails appends nothing.
     ghost whole: { Bool };
 
-    // What the writer tells of itself as it stands.
+    // What the writer tells of itself as it stands: the bytes that it holds, where it tells them,
+    // and how often it failed.
     ghost view: { Self → Output };
 
     /// Appends `input`.
     ///
     /// # Errors
     ///
-    /// Why the writer failed, which it counts. A whole writer then holds what it held before, and
+    /// The writer's own error, which it counts. A whole writer then holds what it held before, and
     /// of another one nothing is said.
     fn push(&mut self, input: &[u8]) -> Result<(), Self::Error>
         ensures appends { OnOk result

@@ -17,13 +17,19 @@ use cbor4ii_rw::write::Write;
 /// variant that has such content.
 ///
 /// Where no call failed, what was written when `end` has answered is the head and the parts in
-/// order. A call that fails does not change `left`. Where the part is refused, exactly what stands
-/// before its refusal is appended, and stays: an array or a map in which a part was refused is no
-/// item any more. Where the writer failed, a whole one holds what it held before the call and a
-/// beginning of what the call writes, and of another writer nothing is said.
+/// order.
 ///
 /// One that is dropped without `end` writes nothing: the head and the parts that were written stay,
 /// and are a whole item only where all parts came.
+///
+/// # Errors
+///
+/// A call that fails does not change `left`.
+///
+/// - `Core` of `Write`: the writer failed in the call. A whole one then holds what it held before
+///   and a beginning of what the call writes. Of another writer nothing is said
+/// - `Custom` with the words of a type: a part is refused. Exactly what stands before the refusal
+///   is appended, and stays. An array or a map in which a part was refused is no item any more
 #[derive(Debug, Drop)]
 pub struct BoundedCollect<'a, W: Write> {
     pub(crate) ser: &'a mut Serializer<W>,
@@ -34,7 +40,9 @@ pub struct BoundedCollect<'a, W: Write> {
 impl<W: Write> Serializer<W> {
     /// Begins an array of `len` items, which are to follow, and `end`.
     ///
-    /// It fails with `Core`, and only where the writer failed.
+    /// # Errors
+    ///
+    /// `Core`, which is told at `Serializer`.
     pub fn serialize_tuple(
         &mut self,
         len: usize,
@@ -59,7 +67,9 @@ impl<W: Write> Serializer<W> {
     /// Begins an array of `len` items, which are to follow, and `end`. The struct's name is not
     /// written.
     ///
-    /// It fails with `Core`, and only where the writer failed.
+    /// # Errors
+    ///
+    /// `Core`, which is told at `Serializer`.
     pub fn serialize_tuple_struct(
         &mut self,
         _name: &str,
@@ -85,7 +95,9 @@ impl<W: Write> Serializer<W> {
     /// Begins a map of one entry: the variant's name and an array of `len` items, which are to
     /// follow, and `end`. The enum's name and the variant's index are not written.
     ///
-    /// It fails with `Core`, and only where the writer failed.
+    /// # Errors
+    ///
+    /// `Core`, which is told at `Serializer`.
     pub fn serialize_tuple_variant(
         &mut self,
         _name: &str,
@@ -114,7 +126,9 @@ impl<W: Write> Serializer<W> {
     /// Begins a map of `len` fields, which are to follow, and `end`. The struct's name is not
     /// written.
     ///
-    /// It fails with `Core`, and only where the writer failed.
+    /// # Errors
+    ///
+    /// `Core`, which is told at `Serializer`.
     pub fn serialize_struct(
         &mut self,
         _name: &str,
@@ -140,7 +154,9 @@ impl<W: Write> Serializer<W> {
     /// Begins a map of one entry: the variant's name and a map of `len` fields, which are to
     /// follow, and `end`. The enum's name and the variant's index are not written.
     ///
-    /// It fails with `Core`, and only where the writer failed.
+    /// # Errors
+    ///
+    /// `Core`, which is told at `Serializer`.
     pub fn serialize_struct_variant(
         &mut self,
         _name: &str,
@@ -182,7 +198,11 @@ impl<'a, W: Write> BoundedCollect<'a, W> {
         self.keyed
     }
 
-    /// Writes an item of the array. It fails as the value's `serialize` does.
+    /// Writes an item of the array.
+    ///
+    /// # Errors
+    ///
+    /// Those of the value's `serialize`. What stays then is told at `BoundedCollect`.
     pub fn serialize_element<T: Serialize>(
         &mut self,
         value: &T,
@@ -201,8 +221,12 @@ impl<'a, W: Write> BoundedCollect<'a, W> {
         Ok(())
     }
 
-    /// Writes a field of the map: its name as a text, and its value behind it. It fails as the
-    /// value's `serialize` does, or where the writer failed at the name.
+    /// Writes a field of the map: its name as a text, and its value behind it.
+    ///
+    /// # Errors
+    ///
+    /// `Core` at the name, and those of the value's `serialize`. What stays then is told at
+    /// `BoundedCollect`. The name stays where the value is refused.
     pub fn serialize_field<T: Serialize>(
         &mut self,
         name: &str,
@@ -222,7 +246,11 @@ impl<'a, W: Write> BoundedCollect<'a, W> {
         Ok(())
     }
 
-    /// Ends the array or the map. Nothing is written, and it never fails.
+    /// Ends the array or the map. Nothing is written.
+    ///
+    /// # Errors
+    ///
+    /// None: it always answers `Ok`.
     pub fn end(self) -> Result<(), EncodeError<W::Error>>
         requires { bounded_left self ≡ 0 }
         ensures succeeds { result ≡ Ok tt }

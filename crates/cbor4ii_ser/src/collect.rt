@@ -15,16 +15,21 @@ use cbor4ii_rw::write::Write;
 /// An array or a map that is being written: of so many parts, or of any number up to its end (RFC
 /// 8949 sections 3.1 and 3.2.2).
 ///
-/// Where no call failed, what was written when `end` has answered is the head, the parts in order,
-/// and a break where the length is indefinite. A call that fails changes neither `left` nor
-/// `owes_value`, save that an entry that fails at its value has written its key. Where a part is
-/// refused, exactly what stands before its refusal is appended, and stays: an array or a map in
-/// which a part was refused is no item any more. Where the writer failed, a whole one holds what it
-/// held before the call and a beginning of what the call writes, and of another writer nothing is
-/// said.
+/// Where no call failed, the head and the parts in order are written when `end` has answered, and a
+/// break where the length is indefinite.
 ///
 /// One that is dropped without `end` writes nothing: the head and the parts that were written stay,
 /// and are a whole item only where the parts were counted and all came.
+///
+/// # Errors
+///
+/// A call that fails changes neither `left` nor `owes_value`, unless it is an entry that fails at
+/// its value. Of that the key is written, `left` is lowered if it counts, and the value is owed.
+///
+/// - `Core` of `Write`: the writer failed in the call. A whole one then holds what it held before
+///   and a beginning of what the call writes. Of another writer nothing is said
+/// - `Custom` with the words of a type: a part is refused. Exactly what stands before the refusal
+///   is appended, and stays. An array or a map in which a part was refused is no item any more
 #[derive(Debug, Drop)]
 pub struct Collect<'a, W: Write> {
     pub(crate) ser: &'a mut Serializer<W>,
@@ -37,7 +42,9 @@ impl<W: Write> Serializer<W> {
     /// Begins an array of `len` items, or of any number where none is given. The items are to
     /// follow, and `end`.
     ///
-    /// It fails with `Core`, and only where the writer failed.
+    /// # Errors
+    ///
+    /// `Core`, which is told at `Serializer`.
     pub fn serialize_seq(
         &mut self,
         len: Option<usize>,
@@ -64,7 +71,9 @@ impl<W: Write> Serializer<W> {
     /// Begins a map of `len` entries, or of any number where none is given. The entries are to
     /// follow, and `end`.
     ///
-    /// It fails with `Core`, and only where the writer failed.
+    /// # Errors
+    ///
+    /// `Core`, which is told at `Serializer`.
     pub fn serialize_map(
         &mut self,
         len: Option<usize>,
@@ -111,7 +120,11 @@ impl<'a, W: Write> Collect<'a, W> {
         self.owes
     }
 
-    /// Writes an item of the array. It fails as the value's `serialize` does.
+    /// Writes an item of the array.
+    ///
+    /// # Errors
+    ///
+    /// Those of the value's `serialize`. What stays then is told at `Collect`.
     pub fn serialize_element<T: Serialize>(
         &mut self,
         value: &T,
@@ -131,7 +144,11 @@ impl<'a, W: Write> Collect<'a, W> {
         Ok(())
     }
 
-    /// Writes a key of the map, whose value is then owed. It fails as the key's `serialize` does.
+    /// Writes a key of the map, whose value is then owed.
+    ///
+    /// # Errors
+    ///
+    /// Those of the key's `serialize`; no value is owed then. What stays is told at `Collect`.
     pub fn serialize_key<K: Serialize>(&mut self, key: &K) -> Result<(), EncodeError<W::Error>>
         requires keyed { is_keyed self.old ≡ true }
         requires owes { owes self.old ≡ false }
@@ -151,8 +168,12 @@ impl<'a, W: Write> Collect<'a, W> {
         Ok(())
     }
 
-    /// Writes the value that is owed. It fails as the value's `serialize` does, and the value is
-    /// still owed then.
+    /// Writes the value that is owed.
+    ///
+    /// # Errors
+    ///
+    /// Those of the value's `serialize`; the value is still owed then. What stays is told at
+    /// `Collect`.
     pub fn serialize_value<V: Serialize>(&mut self, value: &V) -> Result<(), EncodeError<W::Error>>
         requires keyed { is_keyed self.old ≡ true }
         requires owes { owes self.old ≡ true }
@@ -169,8 +190,13 @@ impl<'a, W: Write> Collect<'a, W> {
         Ok(())
     }
 
-    /// Writes a key and its value behind it. It fails as the `serialize` of either does: at the
-    /// key nothing changes; at the value `left` is lowered, and the value is owed.
+    /// Writes a key and its value behind it.
+    ///
+    /// # Errors
+    ///
+    /// Those of the `serialize` of either. At the key `left` and `owes_value` stay. At the value
+    /// `left` is lowered, the value is owed, and the key is written. What else stays is told at
+    /// `Collect`.
     pub fn serialize_entry<K: Serialize, V: Serialize>(
         &mut self,
         key: &K,
@@ -216,8 +242,11 @@ impl<'a, W: Write> Collect<'a, W> {
     }
 
     /// Ends the array or the map: with a break where its length is indefinite. Where its parts were
-    /// counted nothing is written, and it never fails; else it fails with `Core`, and only where
-    /// the writer failed.
+    /// counted nothing is written.
+    ///
+    /// # Errors
+    ///
+    /// `Core`, which is told at `Serializer`. Where the parts were counted it always answers `Ok`.
     pub fn end(self) -> Result<(), EncodeError<W::Error>>
         requires owes { owes self ≡ false }
         requires done { IsDone (left_of self) }

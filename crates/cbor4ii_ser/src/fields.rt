@@ -15,7 +15,12 @@ use cbor4ii_rw::write::Write;
 // no proof.
 impl<W: Write> Serializer<W> {
     /// Writes a struct of one field, a name and a value: a map, in this order. The struct's name is
-    /// not written. It fails as the `serialize` of a value does, or where the writer failed before.
+    /// not written.
+    ///
+    /// # Errors
+    ///
+    /// `Core` at the head or a name, and those of the `serialize` of a value. They are told at
+    /// `Serializer`. What was written before a value that is refused stays.
     pub fn serialize_1_field<A: Serialize>(
         &mut self,
         _name: &str,
@@ -31,8 +36,12 @@ impl<W: Write> Serializer<W> {
     }
 
     /// Writes a struct of two fields, each a name and a value: a map, in this order. The struct's
-    /// name is not written. It fails as the `serialize` of a value does, or where the writer failed
-    /// before.
+    /// name is not written.
+    ///
+    /// # Errors
+    ///
+    /// `Core` at the head or a name, and those of the `serialize` of a value. They are told at
+    /// `Serializer`. What was written before a value that is refused stays.
     pub fn serialize_2_fields<A: Serialize, B: Serialize>(
         &mut self,
         _name: &str,
@@ -52,8 +61,12 @@ impl<W: Write> Serializer<W> {
     }
 
     /// Writes a struct of three fields, each a name and a value: a map, in this order. The struct's
-    /// name is not written. It fails as the `serialize` of a value does, or where the writer failed
-    /// before.
+    /// name is not written.
+    ///
+    /// # Errors
+    ///
+    /// `Core` at the head or a name, and those of the `serialize` of a value. They are told at
+    /// `Serializer`. What was written before a value that is refused stays.
     pub fn serialize_3_fields<A: Serialize, B: Serialize, C: Serialize>(
         &mut self,
         _name: &str,
@@ -77,8 +90,12 @@ impl<W: Write> Serializer<W> {
     }
 
     /// Writes a struct of four fields, each a name and a value: a map, in this order. The struct's
-    /// name is not written. It fails as the `serialize` of a value does, or where the writer failed
-    /// before.
+    /// name is not written.
+    ///
+    /// # Errors
+    ///
+    /// `Core` at the head or a name, and those of the `serialize` of a value. They are told at
+    /// `Serializer`. What was written before a value that is refused stays.
     pub fn serialize_4_fields<A: Serialize, B: Serialize, C: Serialize, D: Serialize>(
         &mut self,
         _name: &str,
@@ -106,8 +123,12 @@ impl<W: Write> Serializer<W> {
     }
 
     /// Writes a struct of five fields, each a name and a value: a map, in this order. The struct's
-    /// name is not written. It fails as the `serialize` of a value does, or where the writer failed
-    /// before.
+    /// name is not written.
+    ///
+    /// # Errors
+    ///
+    /// `Core` at the head or a name, and those of the `serialize` of a value. They are told at
+    /// `Serializer`. What was written before a value that is refused stays.
     pub fn serialize_5_fields<A: Serialize, B: Serialize, C: Serialize, D: Serialize, E: Serialize>(
         &mut self,
         _name: &str,
@@ -139,8 +160,12 @@ impl<W: Write> Serializer<W> {
     }
 
     /// Writes a struct of six fields, each a name and a value: a map, in this order. The struct's
-    /// name is not written. It fails as the `serialize` of a value does, or where the writer failed
-    /// before.
+    /// name is not written.
+    ///
+    /// # Errors
+    ///
+    /// `Core` at the head or a name, and those of the `serialize` of a value. They are told at
+    /// `Serializer`. What was written before a value that is refused stays.
     pub fn serialize_6_fields<
         A: Serialize,
         B: Serialize,
@@ -183,8 +208,12 @@ impl<W: Write> Serializer<W> {
     }
 
     /// Writes a struct of seven fields, each a name and a value: a map, in this order. The struct's
-    /// name is not written. It fails as the `serialize` of a value does, or where the writer failed
-    /// before.
+    /// name is not written.
+    ///
+    /// # Errors
+    ///
+    /// `Core` at the head or a name, and those of the `serialize` of a value. They are told at
+    /// `Serializer`. What was written before a value that is refused stays.
     pub fn serialize_7_fields<
         A: Serialize,
         B: Serialize,
@@ -232,8 +261,12 @@ impl<W: Write> Serializer<W> {
     }
 
     /// Writes a struct of eight fields, each a name and a value: a map, in this order. The struct's
-    /// name is not written. It fails as the `serialize` of a value does, or where the writer failed
-    /// before.
+    /// name is not written.
+    ///
+    /// # Errors
+    ///
+    /// `Core` at the head or a name, and those of the `serialize` of a value. They are told at
+    /// `Serializer`. What was written before a value that is refused stays.
     pub fn serialize_8_fields<
         A: Serialize,
         B: Serialize,
@@ -286,8 +319,12 @@ impl<W: Write> Serializer<W> {
     }
 
     /// Writes a struct of nine fields, each a name and a value: a map, in this order. The struct's
-    /// name is not written. It fails as the `serialize` of a value does, or where the writer failed
-    /// before.
+    /// name is not written.
+    ///
+    /// # Errors
+    ///
+    /// `Core` at the head or a name, and those of the `serialize` of a value. They are told at
+    /// `Serializer`. What was written before a value that is refused stays.
     pub fn serialize_9_fields<
         A: Serialize,
         B: Serialize,
@@ -345,8 +382,12 @@ impl<W: Write> Serializer<W> {
     }
 
     /// Writes a struct of ten fields, each a name and a value: a map, in this order. The struct's
-    /// name is not written. It fails as the `serialize` of a value does, or where the writer failed
-    /// before.
+    /// name is not written.
+    ///
+    /// # Errors
+    ///
+    /// `Core` at the head or a name, and those of the `serialize` of a value. They are told at
+    /// `Serializer`. What was written before a value that is refused stays.
     pub fn serialize_10_fields<
         A: Serialize,
         B: Serialize,
@@ -409,8 +450,12 @@ impl<W: Write> Serializer<W> {
     }
 
     /// Writes a struct of eleven fields, each a name and a value: a map, in this order. The
-    /// struct's name is not written. It fails as the `serialize` of a value does, or where the
-    /// writer failed before.
+    /// struct's name is not written.
+    ///
+    /// # Errors
+    ///
+    /// `Core` at the head or a name, and those of the `serialize` of a value. They are told at
+    /// `Serializer`. What was written before a value that is refused stays.
     pub fn serialize_11_fields<
         A: Serialize,
         B: Serialize,
@@ -478,8 +523,12 @@ impl<W: Write> Serializer<W> {
     }
 
     /// Writes a struct of twelve fields, each a name and a value: a map, in this order. The
-    /// struct's name is not written. It fails as the `serialize` of a value does, or where the
-    /// writer failed before.
+    /// struct's name is not written.
+    ///
+    /// # Errors
+    ///
+    /// `Core` at the head or a name, and those of the `serialize` of a value. They are told at
+    /// `Serializer`. What was written before a value that is refused stays.
     pub fn serialize_12_fields<
         A: Serialize,
         B: Serialize,

@@ -16,6 +16,7 @@ mod held;
 pub mod laws;
 mod leaves;
 mod maps;
+mod raw;
 mod sequences;
 pub mod serialize;
 pub mod serializer;

@@ -26,10 +26,11 @@ pub trait Serialize {
     ///
     /// # Errors
     ///
-    /// `Core`, and only where the writer failed in the call: a whole writer then holds what it held
-    /// before and a beginning of the item, or of what stands before the refusal of a value that has
-    /// none; of another writer nothing is said. `Custom` where the value has no item, with the
-    /// words of its refusal, and exactly what stands before that is appended.
+    /// - `Core` of `Write`: the writer failed in the call. A whole writer then holds what it held
+    ///   before and a beginning of the item. Of a value that has none it is a beginning of what
+    ///   stands before the refusal. Of another writer nothing is said
+    /// - `Custom` with the words of its refusal: the value has no item. Exactly what stands before
+    ///   the refusal is appended, and the writer did not fail
     fn serialize<W: Write>(&self, ser: &mut Serializer<W>) -> Result<(), EncodeError<W::Error>>
         ensures { Serializes W.whole (item self.now)
             (output W.view ser.old) (output W.view ser.new) result };

@@ -18,9 +18,12 @@ use cbor4ii_rw::write::Write;
 /// A writer of typed values. Each of its calls appends one item to what its writer holds, or
 /// begins one that is written part by part.
 ///
-/// A call fails with `Core`, and only where the writer failed in it, if nothing else is said. A
-/// whole writer then holds what it held before and a beginning of the item; of another writer
-/// nothing is said.
+/// # Errors
+///
+/// - `Core` of `Write`: the writer failed in the call. A whole writer then holds what it held
+///   before and a beginning of what the call writes. Of another writer nothing is said
+/// - `Custom` with the words of a type: a value that the call is given has no item. Exactly what
+///   stands before the refusal is appended, and the writer did not fail
 #[derive(Debug, Drop)]
 pub struct Serializer<W> {
     pub(crate) writer: W,
@@ -58,6 +61,10 @@ impl<W: Write> Serializer<W> {
     }
 
     /// False or true, in one byte.
+    ///
+    /// # Errors
+    ///
+    /// `Core`, which is told at `Serializer`.
     #[inline]
     pub fn serialize_bool(&mut self, value: bool) -> Result<(), EncodeError<W::Error>>
         ensures { Serializes W.whole (encoded (bool_byte value ∷ []))
@@ -67,6 +74,10 @@ impl<W: Write> Serializer<W> {
     }
 
     /// An integer, as a head.
+    ///
+    /// # Errors
+    ///
+    /// `Core`, which is told at `Serializer`.
     #[inline]
     pub fn serialize_i8(&mut self, value: i8) -> Result<(), EncodeError<W::Error>>
         ensures { Serializes W.whole (encoded (signed_head value))
@@ -76,6 +87,10 @@ impl<W: Write> Serializer<W> {
     }
 
     /// An integer, as a head.
+    ///
+    /// # Errors
+    ///
+    /// `Core`, which is told at `Serializer`.
     #[inline]
     pub fn serialize_i16(&mut self, value: i16) -> Result<(), EncodeError<W::Error>>
         ensures { Serializes W.whole (encoded (signed_head value))
@@ -85,6 +100,10 @@ impl<W: Write> Serializer<W> {
     }
 
     /// An integer, as a head.
+    ///
+    /// # Errors
+    ///
+    /// `Core`, which is told at `Serializer`.
     #[inline]
     pub fn serialize_i32(&mut self, value: i32) -> Result<(), EncodeError<W::Error>>
         ensures { Serializes W.whole (encoded (signed_head value))
@@ -94,6 +113,10 @@ impl<W: Write> Serializer<W> {
     }
 
     /// An integer, as a head.
+    ///
+    /// # Errors
+    ///
+    /// `Core`, which is told at `Serializer`.
     #[inline]
     pub fn serialize_i64(&mut self, value: i64) -> Result<(), EncodeError<W::Error>>
         ensures { Serializes W.whole (encoded (signed_head value))
@@ -103,6 +126,10 @@ impl<W: Write> Serializer<W> {
     }
 
     /// An integer, as a head; below -2^64 and from 2^64 on as a bignum (RFC 8949 section 3.4.3).
+    ///
+    /// # Errors
+    ///
+    /// `Core`, which is told at `Serializer`.
     pub fn serialize_i128(&mut self, value: i128) -> Result<(), EncodeError<W::Error>>
         ensures { Serializes W.whole (encoded (signed_bytes value))
             (output W.view self.old) (output W.view self.new) result }
@@ -111,6 +138,10 @@ impl<W: Write> Serializer<W> {
     }
 
     /// An integer from 0 on, as a head.
+    ///
+    /// # Errors
+    ///
+    /// `Core`, which is told at `Serializer`.
     #[inline]
     pub fn serialize_u8(&mut self, value: u8) -> Result<(), EncodeError<W::Error>>
         ensures { Serializes W.whole (encoded (shortest_head 0 value))
@@ -120,6 +151,10 @@ impl<W: Write> Serializer<W> {
     }
 
     /// An integer from 0 on, as a head.
+    ///
+    /// # Errors
+    ///
+    /// `Core`, which is told at `Serializer`.
     #[inline]
     pub fn serialize_u16(&mut self, value: u16) -> Result<(), EncodeError<W::Error>>
         ensures { Serializes W.whole (encoded (shortest_head 0 value))
@@ -129,6 +164,10 @@ impl<W: Write> Serializer<W> {
     }
 
     /// An integer from 0 on, as a head.
+    ///
+    /// # Errors
+    ///
+    /// `Core`, which is told at `Serializer`.
     #[inline]
     pub fn serialize_u32(&mut self, value: u32) -> Result<(), EncodeError<W::Error>>
         ensures { Serializes W.whole (encoded (shortest_head 0 value))
@@ -138,6 +177,10 @@ impl<W: Write> Serializer<W> {
     }
 
     /// An integer from 0 on, as a head.
+    ///
+    /// # Errors
+    ///
+    /// `Core`, which is told at `Serializer`.
     #[inline]
     pub fn serialize_u64(&mut self, value: u64) -> Result<(), EncodeError<W::Error>>
         ensures { Serializes W.whole (encoded (shortest_head 0 value))
@@ -147,6 +190,10 @@ impl<W: Write> Serializer<W> {
     }
 
     /// An integer from 0 on, as a head; from 2^64 on as a bignum (RFC 8949 section 3.4.3).
+    ///
+    /// # Errors
+    ///
+    /// `Core`, which is told at `Serializer`.
     pub fn serialize_u128(&mut self, value: u128) -> Result<(), EncodeError<W::Error>>
         ensures { Serializes W.whole (encoded (unsigned_bytes value))
             (output W.view self.old) (output W.view self.new) result }
@@ -155,6 +202,10 @@ impl<W: Write> Serializer<W> {
     }
 
     /// A float of two bytes, as its bits.
+    ///
+    /// # Errors
+    ///
+    /// `Core`, which is told at `Serializer`.
     #[inline]
     pub fn serialize_f16(&mut self, bits: u16) -> Result<(), EncodeError<W::Error>>
         ensures { Serializes W.whole (encoded (float_bytes 0xf9 2 bits))
@@ -164,6 +215,10 @@ impl<W: Write> Serializer<W> {
     }
 
     /// A float of four bytes, as its bits.
+    ///
+    /// # Errors
+    ///
+    /// `Core`, which is told at `Serializer`.
     #[inline]
     pub fn serialize_f32(&mut self, bits: u32) -> Result<(), EncodeError<W::Error>>
         ensures { Serializes W.whole (encoded (float_bytes 0xfa 4 bits))
@@ -173,6 +228,10 @@ impl<W: Write> Serializer<W> {
     }
 
     /// A float of eight bytes, as its bits.
+    ///
+    /// # Errors
+    ///
+    /// `Core`, which is told at `Serializer`.
     #[inline]
     pub fn serialize_f64(&mut self, bits: u64) -> Result<(), EncodeError<W::Error>>
         ensures { Serializes W.whole (encoded (float_bytes 0xfb 8 bits))
@@ -182,6 +241,10 @@ impl<W: Write> Serializer<W> {
     }
 
     /// A text of one character.
+    ///
+    /// # Errors
+    ///
+    /// `Core`, which is told at `Serializer`.
     pub fn serialize_char(&mut self, value: char) -> Result<(), EncodeError<W::Error>>
         ensures { Serializes W.whole (encoded (counted_string 3 (encode_utf8 value)))
             (output W.view self.old) (output W.view self.new) result }
@@ -190,7 +253,11 @@ impl<W: Write> Serializer<W> {
         self.serialize_str(value.encode_utf8(&mut bytes))
     }
 
-    /// A text of a known length.
+    /// A text of definite length.
+    ///
+    /// # Errors
+    ///
+    /// `Core`, which is told at `Serializer`.
     #[inline]
     pub fn serialize_str(&mut self, value: &str) -> Result<(), EncodeError<W::Error>>
         ensures { Serializes W.whole (encoded (counted_string 3 value.now))
@@ -199,7 +266,11 @@ impl<W: Write> Serializer<W> {
         self.put(&value)
     }
 
-    /// A byte string of a known length.
+    /// A byte string of definite length.
+    ///
+    /// # Errors
+    ///
+    /// `Core`, which is told at `Serializer`.
     #[inline]
     pub fn serialize_bytes(&mut self, value: &[u8]) -> Result<(), EncodeError<W::Error>>
         ensures { Serializes W.whole (encoded (counted_string 2 value.now))
@@ -209,6 +280,10 @@ impl<W: Write> Serializer<W> {
     }
 
     /// Null, which is none.
+    ///
+    /// # Errors
+    ///
+    /// `Core`, which is told at `Serializer`.
     #[inline]
     pub fn serialize_none(&mut self) -> Result<(), EncodeError<W::Error>>
         ensures { Serializes W.whole (encoded (0xf6 ∷ []))
@@ -217,7 +292,11 @@ impl<W: Write> Serializer<W> {
         self.put(&Null)
     }
 
-    /// The value itself. It fails as the value's `serialize` does.
+    /// The value itself.
+    ///
+    /// # Errors
+    ///
+    /// Those of the value's `serialize`.
     #[inline]
     pub fn serialize_some<T: Serialize>(&mut self, value: &T) -> Result<(), EncodeError<W::Error>>
         ensures { Serializes W.whole (T.item value.now)
@@ -227,6 +306,10 @@ impl<W: Write> Serializer<W> {
     }
 
     /// An array of no item.
+    ///
+    /// # Errors
+    ///
+    /// `Core`, which is told at `Serializer`.
     #[inline]
     pub fn serialize_unit(&mut self) -> Result<(), EncodeError<W::Error>>
         ensures { Serializes W.whole (encoded (shortest_head 4 0))
@@ -236,6 +319,10 @@ impl<W: Write> Serializer<W> {
     }
 
     /// An array of no item; the struct's name is not written.
+    ///
+    /// # Errors
+    ///
+    /// `Core`, which is told at `Serializer`.
     pub fn serialize_unit_struct(&mut self, _name: &str) -> Result<(), EncodeError<W::Error>>
         ensures { Serializes W.whole (encoded (shortest_head 4 0))
             (output W.view self.old) (output W.view self.new) result }
@@ -244,6 +331,10 @@ impl<W: Write> Serializer<W> {
     }
 
     /// The variant's name as a text; the enum's name and the variant's index are not written.
+    ///
+    /// # Errors
+    ///
+    /// `Core`, which is told at `Serializer`.
     pub fn serialize_unit_variant(
         &mut self,
         _name: &str,
@@ -256,8 +347,11 @@ impl<W: Write> Serializer<W> {
         self.serialize_str(variant)
     }
 
-    /// The content itself; the struct's name is not written. It fails as the content's
-    /// `serialize` does.
+    /// The content itself; the struct's name is not written.
+    ///
+    /// # Errors
+    ///
+    /// Those of the content's `serialize`.
     #[inline]
     pub fn serialize_newtype_struct<T: Serialize>(
         &mut self,
@@ -271,7 +365,12 @@ impl<W: Write> Serializer<W> {
     }
 
     /// A map of one entry, the variant's name and the content; the enum's name and the variant's
-    /// index are not written. It fails as the content's `serialize` does.
+    /// index are not written.
+    ///
+    /// # Errors
+    ///
+    /// `Core` at the name, and those of the content's `serialize`. They are told at `Serializer`.
+    /// The name stays where the content is refused.
     pub fn serialize_newtype_variant<T: Serialize>(
         &mut self,
         _name: &str,

@@ -10,8 +10,13 @@ use crate::serializer::Serializer;
 use cbor4ii_rw::write::Write;
 use cbor4ii_tree::value::Value;
 
-/// The value's canonical spelling. One that holds a tag anywhere has no item: it is refused with
-/// `Custom("serialization Tag via serde is not supported")`, and nothing is written.
+/// The value's canonical spelling.
+///
+/// # Errors
+///
+/// - `Core`, which is told at `Serialize::serialize`
+/// - `Custom` with "serialization Tag via serde is not supported": a tag stands somewhere in the
+///   value. Nothing is written then
 impl Serialize for Value {
     ghost item = { λ v. value_item (view v) };
 

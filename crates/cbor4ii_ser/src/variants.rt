@@ -9,9 +9,14 @@ use crate::serializer::Serializer;
 use cbor4ii_rw::write::Write;
 
 impl<W: Write> Serializer<W> {
-    /// Writes a variant of one field, a name and a value: a map of one entry, the variant's name
-    /// and a map of the fields in this order. The enum's name and the variant's index are not
-    /// written. It fails as the `serialize` of a value does, or where the writer failed before.
+    /// Writes a variant of one field, a name and a value. It is a map of one entry, the variant's
+    /// name and a map of the fields in this order. The enum's name and the variant's index are not
+    /// written.
+    ///
+    /// # Errors
+    ///
+    /// `Core` at the head or a name, and those of the `serialize` of a value. They are told at
+    /// `Serializer`. What was written before a value that is refused stays.
     pub fn serialize_variant_of_1_field<A: Serialize>(
         &mut self,
         name: &str,
@@ -28,9 +33,14 @@ impl<W: Write> Serializer<W> {
         self.serialize_1_field(name, first_name, first)
     }
 
-    /// Writes a variant of two fields, each a name and a value: a map of one entry, the variant's
-    /// name and a map of the fields in this order. The enum's name and the variant's index are not
-    /// written. It fails as the `serialize` of a value does, or where the writer failed before.
+    /// Writes a variant of two fields, each a name and a value. It is a map of one entry, the
+    /// variant's name and a map of the fields in this order. The enum's name and the variant's
+    /// index are not written.
+    ///
+    /// # Errors
+    ///
+    /// `Core` at the head or a name, and those of the `serialize` of a value. They are told at
+    /// `Serializer`. What was written before a value that is refused stays.
     pub fn serialize_variant_of_2_fields<A: Serialize, B: Serialize>(
         &mut self,
         name: &str,
@@ -50,9 +60,14 @@ impl<W: Write> Serializer<W> {
         self.serialize_2_fields(name, first_name, first, second_name, second)
     }
 
-    /// Writes a variant of three fields, each a name and a value: a map of one entry, the variant's
-    /// name and a map of the fields in this order. The enum's name and the variant's index are not
-    /// written. It fails as the `serialize` of a value does, or where the writer failed before.
+    /// Writes a variant of three fields, each a name and a value. It is a map of one entry, the
+    /// variant's name and a map of the fields in this order. The enum's name and the variant's
+    /// index are not written.
+    ///
+    /// # Errors
+    ///
+    /// `Core` at the head or a name, and those of the `serialize` of a value. They are told at
+    /// `Serializer`. What was written before a value that is refused stays.
     pub fn serialize_variant_of_3_fields<A: Serialize, B: Serialize, C: Serialize>(
         &mut self,
         name: &str,
@@ -83,9 +98,14 @@ impl<W: Write> Serializer<W> {
         )
     }
 
-    /// Writes a variant of four fields, each a name and a value: a map of one entry, the variant's
-    /// name and a map of the fields in this order. The enum's name and the variant's index are not
-    /// written. It fails as the `serialize` of a value does, or where the writer failed before.
+    /// Writes a variant of four fields, each a name and a value. It is a map of one entry, the
+    /// variant's name and a map of the fields in this order. The enum's name and the variant's
+    /// index are not written.
+    ///
+    /// # Errors
+    ///
+    /// `Core` at the head or a name, and those of the `serialize` of a value. They are told at
+    /// `Serializer`. What was written before a value that is refused stays.
     pub fn serialize_variant_of_4_fields<A: Serialize, B: Serialize, C: Serialize, D: Serialize>(
         &mut self,
         name: &str,
@@ -121,9 +141,13 @@ impl<W: Write> Serializer<W> {
         )
     }
 
-    /// Writes a variant of two items: a map of one entry, the variant's name and an array of
-    /// the items in this order. The enum's name and the variant's index are not written. It fails
-    /// as the `serialize` of an item does, or where the writer failed before.
+    /// Writes a variant of two items: a map of one entry, the variant's name and an array of the
+    /// items in this order. The enum's name and the variant's index are not written.
+    ///
+    /// # Errors
+    ///
+    /// `Core` at the head or the name, and those of the `serialize` of an item. They are told at
+    /// `Serializer`. What was written before an item that is refused stays.
     pub fn serialize_variant_of_2_items<A: Serialize, B: Serialize>(
         &mut self,
         _name: &str,
@@ -141,9 +165,13 @@ impl<W: Write> Serializer<W> {
         second.serialize(self)
     }
 
-    /// Writes a variant of three items: a map of one entry, the variant's name and an array of
-    /// the items in this order. The enum's name and the variant's index are not written. It fails
-    /// as the `serialize` of an item does, or where the writer failed before.
+    /// Writes a variant of three items: a map of one entry, the variant's name and an array of the
+    /// items in this order. The enum's name and the variant's index are not written.
+    ///
+    /// # Errors
+    ///
+    /// `Core` at the head or the name, and those of the `serialize` of an item. They are told at
+    /// `Serializer`. What was written before an item that is refused stays.
     pub fn serialize_variant_of_3_items<A: Serialize, B: Serialize, C: Serialize>(
         &mut self,
         _name: &str,

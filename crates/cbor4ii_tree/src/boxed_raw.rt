@@ -37,7 +37,11 @@ impl BoxedRawValue {
         &self.0
     }
 
-    /// The value's canonical spelling. It fails only where a growth was refused.
+    /// The value's canonical spelling.
+    ///
+    /// # Errors
+    ///
+    /// `Write` with `TryReserveError`: a growth was refused.
     pub fn from_value(
         alloc: Global,
         value: &Value,
@@ -51,7 +55,11 @@ impl BoxedRawValue {
         Ok(BoxedRawValue(writer.into_inner()))
     }
 
-    /// The same item, in memory of its own. `NoMemory` only where a growth was refused.
+    /// The same item, in memory of its own.
+    ///
+    /// # Errors
+    ///
+    /// `NoMemory`: a growth was refused.
     pub fn try_clone(&self) -> Result<BoxedRawValue, NoMemory>
         ensures equal { IfOk result (λ copy. boxed_content copy ≡ boxed_content self.now) }
     {
@@ -73,16 +81,17 @@ impl Spelled for BoxedRawValue {
 /// One fill asks for all that is left. Where its bytes live as long as the input, the item at
 /// their front is skipped in place, under the reader's steps, then taken at once and copied.
 ///
-/// Refusals; nothing is taken:
-/// - some bytes are left, and they do not live as long as the input: `RequireBorrowed` by the
-///   name "raw-value"
-/// - otherwise those of `IgnoredAny`, in the bytes that were lent
+/// Over a reader that lends nothing, as a stream's, nothing is accepted.
 ///
-/// `OutOfMemory` where there is no memory for the copy, and the item was taken. `Read` only where
-/// the reader failed.
+/// # Errors
 ///
-/// Over a reader that lends nothing, as a stream's, nothing is accepted: where no byte is left it
-/// is refused as `IgnoredAny` is there.
+/// Nothing is taken then, but at `OutOfMemory`.
+///
+/// - `Read`: the reader failed
+/// - `RequireBorrowed` by "raw-value": some bytes are left, and they do not live as long as the
+///   input
+/// - those of `IgnoredAny` in the bytes that were lent, and where no byte is left
+/// - `OutOfMemory`: there is no memory for the copy. The item was taken
 impl<S: FillLong> Decode<S> for BoxedRawValue {
     fn decode(alloc: Global, reader: &mut S) -> Result<BoxedRawValue, DecodeError<S::Error>>
         ensures copies { CopiesItem (S.view reader.old) (S.view reader.new) result }
@@ -119,6 +128,10 @@ fn copy_lent<S: FillLong>(
 }
 
 /// Written as it stands, in one push.
+///
+/// # Errors
+///
+/// `Write`: the writer failed. A whole writer then holds what it held before.
 impl Encode for BoxedRawValue {
     ghost bytes = { boxed_content };
 

@@ -57,14 +57,16 @@ impl Spelled for Canonical {
 }
 
 /// A value is read where the canonical spelling of a value whose steps fit the budget begins the
-/// bytes: every head the shortest, lengths given, null as `f6`. Steps and memory are those of
-/// `Value`.
+/// bytes. In it every head is the shortest, lengths are given, and null is `f6`. Steps and memory
+/// are those of `Value`. An array or a map takes its step before its head is looked at.
 ///
-/// `NotCanonical` by the name "canonical" where, before a value is refused, a head that is longer
-/// than needed is whole, the first byte of an indefinite length comes, or `f7`; what follows the
-/// head, or the byte, is left. An array or a map takes its step before its head is looked at. Each
-/// other refusal is the one that `Value` gives there, by the same name and fields, and leaves what
-/// that leaves. `Eof` leaves nothing, and comes only on a proper front of an item.
+/// # Errors
+///
+/// - `NotCanonical` by "canonical", where no other error comes before: a head that is longer than
+///   needed is whole, and what follows it is left. Or the first byte of an indefinite length comes,
+///   or `f7`, and what follows the byte is left
+/// - those of `Value`, by the same names and with the same fields, which leave the same. `Eof`
+///   leaves nothing, and comes only on a proper front of an item
 impl<S: Source> Decode<S> for Canonical {
     fn decode(alloc: Global, reader: &mut S) -> Result<Canonical, DecodeError<S::Error>>
         ensures decodes { Decodes canonical_spelling

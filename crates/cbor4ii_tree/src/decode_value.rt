@@ -69,21 +69,30 @@ impl Spelled for Value {
 /// string. At most 256 items or pairs, and 16384 bytes of a string, have their place reserved
 /// before any of them came.
 ///
-/// Refusals, and what is left then (RFC 8949 appendix F):
-/// - no step is left: `DepthOverflow` by the name "value", nothing taken; "array" or "map", before
-///   its head; "bytes" or "str", before a chunk
-/// - no byte is left: `Eof` "value" with 1, or "break" with 1 where an item or a break should come
-/// - a head is cut: `Eof` by "u64", "-u64", "bytes", "str", "array", "map", "tag", "f16", "f32" or
-///   "f64" with the length of its argument; a string is cut: `Eof` with as many bytes as are
-///   missing. Each `Eof` leaves nothing
-/// - a first byte that begins no head of its major type, or a chunk that is no string of its kind:
-///   `Mismatch` by these names with the byte, which is taken
-/// - a chunk of indefinite length: `RequireLength` "bytes" or "str", behind its first byte
-/// - a text that is no UTF-8, its chunks joined: `RequireUtf8` "str", behind the text
-/// - a break in an item's place, or another byte of major type 7: `Unsupported` "value" with the
-///   byte, which stays
+/// # Errors
 ///
-/// `OutOfMemory` only where a growth was refused, and `Read` only where the reader failed.
+/// `Read` and `OutOfMemory` are told at `Decode::decode`. At the others what stands before the
+/// refused byte is taken, and each `Eof` leaves nothing (RFC 8949 appendix F):
+///
+/// - `DepthOverflow` by "value": no step is left for a value. Nothing of it is taken
+/// - `DepthOverflow` by "array" or "map": no second step is left for an array or a map. Nothing of
+///   it is taken
+/// - `DepthOverflow` by "bytes" or "str": no step is left for a chunk. Nothing of it is taken
+/// - `Eof` by "value" with 1: no byte is left where a value should come
+/// - `Eof` by "break" with 1: no byte is left where an item, a chunk or a break should come
+/// - `Eof` by "u64", "-u64", "bytes", "str", "array", "map", "tag", "f16", "f32" or "f64" with k:
+///   the argument has k bytes and fewer are left
+/// - `Eof` by "bytes" or "str" with the number of bytes that are missing: the content of a string
+///   is cut
+/// - `Mismatch` by "u64", "-u64", "bytes", "str", "array", "map" or "tag" with the first byte,
+///   which is taken: it begins no head of its major type
+/// - `Mismatch` by "bytes" or "str" with the first byte of a chunk, which is taken: it begins no
+///   string of this kind
+/// - `RequireLength` by "bytes" or "str" with `Indefinite`: a chunk has an indefinite length. What
+///   follows its first byte is left
+/// - `RequireUtf8` by "str": a text, its chunks joined, is not UTF-8. The whole text is taken
+/// - `Unsupported` by "value" with the byte, which stays: it is a break in the place of a value. Or
+///   it is another byte of major type 7, and none of `f4` to `f7` and `f9` to `fb`
 impl<S: Source> Decode<S> for Value {
     #[inline(always)]
     fn decode(alloc: Global, reader: &mut S) -> Result<Value, DecodeError<S::Error>>

@@ -31,8 +31,10 @@ impl Encode for Value {
     /// Appends the value's canonical spelling to what `writer` holds: one push a head, a string's
     /// content, a float or a simple value. It is read back from there, with bignums as tags.
     ///
-    /// It fails only where the writer failed in the call. A whole writer then holds what it held
-    /// before and a beginning of the spelling.
+    /// # Errors
+    ///
+    /// `Write`: the writer failed in the call. A whole writer then holds what it held before and a
+    /// beginning of the spelling.
     fn encode<W: Write>(&self, writer: &mut W) -> Result<(), EncodeError<W::Error>>
         ensures writes { Writes W.whole (canon (view self.now))
             (W.view writer.old) (W.view writer.new) result }

@@ -27,19 +27,26 @@ impl Spelled for IgnoredAny {
     ghost lawful = { ignored_lawful };
 }
 
-/// One item, under a step for each level of it, the item itself and the chunks of an open string
-/// too. Texts are not tested, and any items are taken as chunks.
+/// One item, under a step for each level of it, the item itself and the chunks of a string of
+/// indefinite length too. Texts are not tested, and any items are taken as chunks.
 ///
-/// By the name "ignored-any", of the item or of one inside it: `DepthOverflow` where no step is
-/// left for it, and nothing of it is taken. `Eof` where the input ends: with 1 where a first byte
-/// has to come, with what is missing of a number, a float or a string's content, and with all bytes
-/// of the argument that gives a length. `Mismatch` with a first byte of additional information 28
-/// to 31 that begins nothing, which stays where it would be an integer's and is taken otherwise.
-/// `Unsupported` with a byte of major type 7 that is none of f4 to f7 and f9 to fb, nor a break
-/// where one may come; it stays. By the name "tag": `Mismatch` with such a first byte, which is
-/// taken, and `Eof` with all bytes of the tag's number. By the name "break": `Eof` with 1 where an
-/// item or a break has to come. What is before the refused byte is taken, and at an `Eof` nothing
-/// is left.
+/// # Errors
+///
+/// `Read` is told at `Decode::decode`. The others speak of the item or of one inside it. What
+/// stands before the refused byte is taken, and each `Eof` leaves nothing:
+///
+/// - `DepthOverflow` by "ignored-any": no step is left for an item. Nothing of it is taken
+/// - `Eof` by "ignored-any" with 1: no byte is left where a first byte should come
+/// - `Eof` by "ignored-any" with the number of bytes that are missing: a number, a float or the
+///   content of a string is cut
+/// - `Eof` by "ignored-any" with k: the argument that says a length has k bytes and fewer are left
+/// - `Eof` by "tag" with k: the number of a tag has k bytes and fewer are left
+/// - `Eof` by "break" with 1: no byte is left where an item or a break should come
+/// - `Mismatch` by "ignored-any" with a first byte of additional information 28 to 31 that begins
+///   nothing. It stays where its major type is 0 or 1, and is taken otherwise
+/// - `Mismatch` by "tag" with such a first byte of major type 6, which is taken
+/// - `Unsupported` by "ignored-any" with a byte of major type 7, which stays. It is none of `f4` to
+///   `f7` and `f9` to `fb`, and no break where one may come
 impl<S: Source> Decode<S> for IgnoredAny {
     fn decode(alloc: Global, reader: &mut S) -> Result<IgnoredAny, DecodeError<S::Error>>
         ensures decodes { Decodes (leaf_spelling ReadsIgnored StopsIgnored)

@@ -75,12 +75,14 @@ impl<'de, R: Read<'de>> LendRaw<R> for RawValue<'de> {
 /// their front is skipped in place, under the reader's steps, and then taken at once. Nothing is
 /// copied, and no memory is taken.
 ///
-/// Refusals; nothing is taken:
-/// - some bytes are left, and they do not live as long as the input: `RequireBorrowed` by the
-///   name "raw-value"
-/// - otherwise those of `IgnoredAny`, in the bytes that were lent
+/// # Errors
 ///
-/// `Read` only where the reader failed.
+/// Nothing is taken then.
+///
+/// - `Read`: the reader failed
+/// - `RequireBorrowed` by "raw-value": some bytes are left, and they do not live as long as the
+///   input
+/// - those of `IgnoredAny` in the bytes that were lent, and where no byte is left
 impl<'de, R: Read<'de>> Decode<R> for RawValue<'de> {
     fn decode(alloc: Global, reader: &mut R) -> Result<RawValue<'de>, DecodeError<R::Error>>
         ensures decodes { Decodes (raw_spelling raw_content)
@@ -97,6 +99,10 @@ impl<'de, R: Read<'de>> Decode<R> for RawValue<'de> {
 }
 
 /// Written as it stands, in one push.
+///
+/// # Errors
+///
+/// `Write`: the writer failed. A whole writer then holds what it held before.
 impl Encode for RawValue<'_> {
     ghost bytes = { raw_content };
 

@@ -55,8 +55,11 @@ impl From<AllocError> for NoMemory {
 }
 
 impl Value {
-    /// A value that equals this one, in memory of its own. `NoMemory` only where a growth was
-    /// refused.
+    /// A value that equals this one, in memory of its own.
+    ///
+    /// # Errors
+    ///
+    /// `NoMemory`: a growth was refused.
     pub fn try_clone(&self) -> Result<Value, NoMemory>
         ensures equal { IfOk result (λ copy. view copy ≡ view self.now) }
     {

@@ -1,34 +1,42 @@
 //! The laws of what is written and read are called.
-ghost use Rattle.std.specs.Prelude.{◌≡◌, codes};
-ghost use Rattle.std.proofs.Common.{◌∙◌, sym};
+ghost use Rattle.std.specs.Prelude.{◌≡◌, [], codes};
+ghost use Rattle.std.proofs.Common.{◌∙◌, sym, refl};
 ghost use Rattle.cbor4ii_items.specs.Laws.Arguments.{argument_one, argument_within, zero_small};
 ghost use Rattle.cbor4ii_items.specs.Numbers.{ReadsUnsigned};
+ghost use Rattle.cbor4ii.specs.CodecFields.{fields_codec, part, no_parts};
+ghost use Rattle.cbor4ii.specs.Fields.{no_values};
 ghost use Rattle.cbor4ii.specs.Typed.{not_exact};
 
 use cbor4ii::serde::laws::{self, EnumValues};
+use cbor4ii::serde::{Described, described_values_are_read_back};
+use cbor4ii_items::types::Bytes;
 use cbor4ii_rw::error::Never;
+use cbor4ii_tree::Value;
+use std::collections::BTreeMap;
 
 #[test]
 fn laws_of_values_are_called(rt: HostRuntime) {
-    laws::numbers_are_read_back();
-    laws::strings_are_read_back();
-    laws::wrapped_values_are_read_back::<u8>();
-    laws::tuples_are_read_back::<u8, String, bool>();
-    laws::vectors_are_read_back::<u8>();
-    laws::maps_are_read_back::<u8, String>();
-    laws::values_are_read_back();
+    laws::null_is_read_as_none::<u8>();
+    laws::orders_are_total::<String>();
+    laws::values_cost_no_more_than_canonical_ones();
     laws::what_is_written_is_read::<u8, Never>();
     laws::refused_options_are_not_read::<u8>();
 }
 
-/// The values of two fields, as they are held while they are read.
-type Fields = (Option<u8>, (Option<String>, ()));
+/// A struct of two fields, which its call answers as they are held.
+struct Two(u8, bool);
+
+impl Described for Two {
+    ghost codec = { fields_codec (λ t. (t.0, (t.1, no_values)))
+        (part (codes "b") [] ⟦<u8 as Described>⟧.codec
+        (part (codes "f") [] ⟦<bool as Described>⟧.codec no_parts refl) refl) refl };
+}
 
 #[test]
-fn laws_of_structs_are_called(rt: HostRuntime) {
-    laws::structs_are_read_back::<Fields>();
-    laws::written_structs_are_read::<Fields, Never>();
-    laws::fields_are_read_in_one_way::<u8, String>();
+fn laws_of_described_types_are_called(rt: HostRuntime) {
+    described_values_are_read_back::<Two>();
+    described_values_are_read_back::<BTreeMap<String, (Option<u64>, Vec<Box<()>>)>>();
+    described_values_are_read_back::<BTreeMap<Bytes<Vec<u8>>, Value>>();
 }
 
 /// How bright a lamp is, by a variant: `Off` by its name alone, which is 0, or `Level` with a

@@ -1,5 +1,6 @@
 //! Rows of ordered maps.
 use crate::typed::{Answer, BothTold, RowTold, RowToldWithin, tells};
+use cbor4ii_items::types::Bytes;
 use cbor4ii_vectors::{eof, mismatch, no_step, table};
 use std::collections::BTreeMap;
 use std::test::Fail;
@@ -38,4 +39,25 @@ const MAPS_OF_TEXTS_TO_ARRAYS: &[BothTold] = table! {
 #[test]
 fn maps_of_texts_to_arrays(rt: HostRuntime) -> Result<(), Fail> {
     tells::<Answer<BTreeMap<String, Vec<String>>>>(rt.alloc(), MAPS_OF_TEXTS_TO_ARRAYS, &[], &[])
+}
+
+const OF_BYTES: &str = "Is({Bytes([1]): 2, Bytes([1, 0]): 3, Bytes([2]): 1})";
+
+const MAPS_OF_BYTES_BOTH: &[BothTold] = table! {
+    (b"\xa3\x41\x01\x02\x42\x01\x00\x03\x41\x02\x01", OF_BYTES),
+};
+
+// Byte strings stand in the order of their bytes, whatever order they come in.
+const MAPS_OF_BYTES: &[RowTold] = table! {
+    (b"\xa3\x41\x02\x01\x42\x01\x00\x03\x41\x01\x02", Ok(OF_BYTES), b""),
+};
+
+#[test]
+fn maps_of_bytes(rt: HostRuntime) -> Result<(), Fail> {
+    tells::<Answer<BTreeMap<Bytes<Vec<u8>>, u8>>>(
+        rt.alloc(),
+        MAPS_OF_BYTES_BOTH,
+        MAPS_OF_BYTES,
+        &[],
+    )
 }

@@ -313,3 +313,12 @@ impl Take for BTreeMap<String, Vec<String>> {
         Self::deserialize(alloc, de)
     }
 }
+
+impl Take for BTreeMap<Bytes<Vec<u8>>, u8> {
+    fn take<S: Source>(
+        alloc: Global,
+        de: &mut Deserializer<S>,
+    ) -> Result<Self, DecodeError<S::Error>> {
+        Self::deserialize(alloc, de)
+    }
+}

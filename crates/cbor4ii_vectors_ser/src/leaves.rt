@@ -1,10 +1,13 @@
 //! Rows of the types that are one head or string, and of boxes, references and options.
 use crate::tagged::{is_refused_behind, tagged};
 use crate::typed::Typed;
+use cbor4ii_items::decode::Decode;
 use cbor4ii_items::types::{Bytes, F16, F32, F64};
+use cbor4ii_rw::slice_reader::SliceReader;
 use cbor4ii_ser::error::EncodeError;
 use cbor4ii_ser::serialize::Serialize;
 use cbor4ii_ser::serializer::Serializer;
+use cbor4ii_tree::{BoxedRawValue, RawValue};
 use cbor4ii_vectors::readers::Failure;
 use cbor4ii_vectors::rows::writes;
 use cbor4ii_vectors::writers::PushLengths;
@@ -35,6 +38,16 @@ fn bytes_that_are_owned(rt: HostRuntime) -> Result<(), Fail> {
     let alloc = rt.alloc();
     let bytes = Bytes(vec![in alloc; 1u8, 2, 3, 4]?);
     writes(alloc, &Typed(bytes), b"\x44\x01\x02\x03\x04")?;
+    Ok(())
+}
+
+// Items that are kept as their bytes are written so, though their heads are not the shortest.
+#[test]
+fn raw_items_are_written_as_they_stand(rt: HostRuntime) -> Result<(), Fail> {
+    let alloc = rt.alloc();
+    let lent = RawValue::decode(alloc, &mut SliceReader::new(b"\x18\x05\x00"))?;
+    let owned = BoxedRawValue::decode(alloc, &mut SliceReader::new(b"\x9f\x01\xff\x00"))?;
+    writes(alloc, &Typed((lent, owned)), b"\x82\x18\x05\x9f\x01\xff")?;
     Ok(())
 }
 

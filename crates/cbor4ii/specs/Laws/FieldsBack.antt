@@ -1,25 +1,24 @@
 -- The fields of a struct are read back behind their names: none, and one before others.
-use Rattle.std.proofs.Common.{◌≡◌, ◌≢◌, inl, inr, ℕ, List, [], ◌∷◌, max, map, Option, Some, None}
-use Rattle.std.proofs.Common.{refl, sym, ap, ◌∙◌}
+use Rattle.std.proofs.Common.{◌≡◌, ◌≢◌, inl, inr, ℕ, List, [], ◌∷◌, max, map, refl, sym, ap, ◌∙◌}
 use Rattle.std.specs.List.{AllByRecursion}
 use Rattle.cbor4ii_items.specs.Decoding.{Reads}
 use Rattle.cbor4ii_ser.specs.Item.{Encoding, encoded, refused}
-use Rattle.cbor4ii.specs.Fields.{ReadsNamed, named_field, no_fields, no_values, changed}
-use Rattle.cbor4ii.specs.Fields.{fields_named}
-use Rattle.cbor4ii.specs.ReadBack.{IsReadBack, IsName, NamedItems, names_of, ChangesBack}
-use Rattle.cbor4ii.specs.ReadBack.{FieldsBack, NoField, FieldBefore}
+use Rattle.cbor4ii.specs.Fields.{ReadsNamed, named_field, no_field, no_values, changed}
+use Rattle.cbor4ii.specs.Places.{Place}
+use Rattle.cbor4ii.specs.ReadBack.{IsReadBack, IsName, NamedItems, ChangesBack, FieldsBack}
 
 -- ---- a field before others
 
-module _ {T V : Type 0} (own : List ℕ) (reads : Reads T) (named : ReadsNamed V) where
+module _ {T P V : Type 0} (place : Place T P) (own : List ℕ) (reads : Reads T)
+    (named : ReadsNamed V) where
   -- a change of the others
-  abbrev below : (V → V) → Option T × V → Option T × V
-  below change = λ (values : Option T × V). (values.0, change values.1)
+  abbrev below : (V → V) → P × V → P × V
+  below change = λ (values : P × V). (values.0, change values.1)
 
   -- behind another name an item is read as one of the others
   other_back : (name : List ℕ) (item : Encoding) (change : V → V) (cost : ℕ) → name ≢ own
       → IsReadBack (named name) item change cost
-      → IsReadBack (named_field own reads named name) item (below change) cost
+      → IsReadBack (named_field place.put own reads named name) item (below change) cost
   other_back name (refused bytes words) change cost other back = tt
   other_back name (encoded bytes) change cost other back =
       λ rest. inr (other, change, back rest, refl)
@@ -27,7 +26,7 @@ module _ {T V : Type 0} (own : List ℕ) (reads : Reads T) (named : ReadsNamed V
   others_back : (parts : NamedItems) (changes : List (V → V)) (cost : ℕ)
       → AllByRecursion (λ (part : List ℕ × Encoding). part.0 ≢ own) parts
       → ChangesBack named parts changes cost
-      → ChangesBack (named_field own reads named) parts (map below changes) cost
+      → ChangesBack (named_field place.put own reads named) parts (map below changes) cost
   others_back [] [] cost other back = back
   others_back [] (change ∷ changes) cost other back = absurd back
   others_back (part ∷ parts) [] cost other back = absurd back
@@ -41,15 +40,15 @@ module _ {T V : Type 0} (own : List ℕ) (reads : Reads T) (named : ReadsNamed V
   )
 
   -- the changes of the others leave the field
-  changed_below : (o : Option T) (values : V) (changes : List (V → V))
+  changed_below : (o : P) (values : V) (changes : List (V → V))
       → changed (o, values) (map below changes) ≡ (o, changed values changes)
   changed_below o values [] = refl
   changed_below o values (change ∷ changes) = changed_below o (change values) changes
 
   -- behind its own name an item is read as the field
   own_back : (item : Encoding) (v : T) (cost : ℕ) → IsReadBack reads item v cost
-      → IsReadBack (named_field own reads named own) item
-      (λ (values : Option T × V). (Some v, values.1)) cost
+      → IsReadBack (named_field place.put own reads named own) item
+      (λ (values : P × V). (place.put v values.0, values.1)) cost
   own_back (refused bytes words) v cost back = tt
   own_back (encoded bytes) v cost back = λ rest. inl (refl, v, back rest, refl)
 
@@ -57,10 +56,11 @@ module _ {T V : Type 0} (own : List ℕ) (reads : Reads T) (named : ReadsNamed V
       (own_cost : ℕ) → FieldsBack named first values parts cost → IsName own
       → AllByRecursion (λ (part : List ℕ × Encoding). part.0 ≢ own) parts
       → IsReadBack reads item v own_cost
-      → FieldsBack (named_field own reads named) (None, first) (Some v, values)
+      → FieldsBack (named_field place.put own reads named) (place.none, first)
+      (place.put v place.none, values)
       ((own, item) ∷ parts) (max own_cost cost)
   field_back first values parts cost item v own_cost others name apart back = record {
-    changes = (λ (values : Option T × V). (Some v, values.1)) ∷ map below others.changes;
+    changes = (λ (values : P × V). (place.put v values.0, values.1)) ∷ map below others.changes;
     each = (
       own_cost,
       cost,
@@ -70,26 +70,25 @@ module _ {T V : Type 0} (own : List ℕ) (reads : Reads T) (named : ReadsNamed V
       refl,
     );
     made =
-        ap (λ (behind : V). (Some v, behind)) others.made
-        ∙ sym (changed_below (Some v) first others.changes);
+        ap (λ (behind : V). (place.put v place.none, behind)) others.made
+        ∙ sym (changed_below (place.put v place.none) first others.changes);
   }
 
--- ---- by the types of the fields
+  -- where no item has its name, the field stays as it was
+  pub no_field_back : (first values : V) (parts : NamedItems) (cost : ℕ)
+      → FieldsBack named first values parts cost
+      → AllByRecursion (λ (part : List ℕ × Encoding). part.0 ≢ own) parts
+      → FieldsBack (named_field place.put own reads named) (place.none, first)
+      (place.none, values) parts cost
+  no_field_back first values parts cost others apart = record {
+    changes = map below others.changes;
+    each = others_back parts others.changes cost apart others.each;
+    made =
+        ap (λ (behind : V). (place.none, behind)) others.made
+        ∙ sym (changed_below place.none first others.changes);
+  }
 
-pub none_back : (values : Unit {0}) (parts : NamedItems) (cost : ℕ) → NoField values parts cost
-    → FieldsBack no_fields no_values values parts cost
-none_back values [] cost none = record { changes = []; each = none.1; made = refl }
-none_back values (part ∷ parts) cost none = let no = none.0 in cc
+-- ---- no field
 
-module _ {T V : Type 0} (reads : Reads T) (item : T → Encoding)
-    (named : List (List ℕ) → ReadsNamed V) (first : V) (others : V → NamedItems → ℕ → Type 0)
-    (back : (values : V) (parts : NamedItems) (cost : ℕ) → others values parts cost
-    → FieldsBack (named (names_of parts)) first values parts cost) where
-  pub before_back : (values : Option T × V) (parts : NamedItems) (cost : ℕ)
-      → FieldBefore reads item others values parts cost
-      → FieldsBack (fields_named reads named (names_of parts)) (None, first) values parts cost
-  before_back values [] cost h = absurd h
-  before_back (o, behind) ((own, bytes) ∷ parts) cost
-      (v, own_cost, rest, there, is, name, apart, read, stand, costs) =
-      rw (there, is, costs) (field_back own reads (named (names_of parts)) first behind parts rest
-      (item v) v own_cost (back behind parts rest stand) name apart read)
+pub none_back : (values : Unit {0}) → FieldsBack no_field no_values values [] 0
+none_back values = record { changes = []; each = refl; made = refl }

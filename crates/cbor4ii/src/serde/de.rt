@@ -23,6 +23,7 @@ mod names;
 mod option;
 mod owned;
 mod parts;
+pub mod place;
 pub mod presence;
 mod raw;
 mod simple;

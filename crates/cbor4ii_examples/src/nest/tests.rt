@@ -1,9 +1,9 @@
 //! Rows of a type that holds values of its own kind.
-use crate::nest::{Nest, read_nest};
-use cbor4ii::serde::{DecodeError, Deserializer};
+use crate::nest::Nest;
+use cbor4ii::serde::{DecodeError, Deserialize, Deserializer};
 use cbor4ii_rw::read::Source;
 use cbor4ii_vectors::{eof, mismatch, no_step, table};
-use cbor4ii_vectors_de::typed::{Answer, BothTold, RowTold, RowToldWithin, Take, tells};
+use cbor4ii_vectors_de::typed::{Answer, BothTold, RowTold, RowToldWithin, Take, come_back, tells};
 use std::alloc::Global;
 use std::test::Fail;
 
@@ -12,7 +12,7 @@ impl Take for Nest {
         alloc: Global,
         de: &mut Deserializer<S>,
     ) -> Result<Nest, DecodeError<S::Error>> {
-        read_nest(alloc, de)
+        Nest::deserialize(alloc, de)
     }
 }
 
@@ -37,4 +37,14 @@ const NESTS_WITHIN: &[RowToldWithin] = table! {
 #[test]
 fn lists_in_lists_are_written_and_read(rt: HostRuntime) -> Result<(), Fail> {
     tells::<Answer<Nest>>(rt.alloc(), NESTS_BOTH, NESTS, NESTS_WITHIN)
+}
+
+const INSIDE: &[BothTold] = table! {
+    (b"\x82\x05\x81\x80", "(5, Some(Nest { inner: [Nest { inner: [] }] }))"),
+    (b"\x82\x05\xf6", "(5, None)"),
+};
+
+#[test]
+fn lists_are_read_inside_other_types(rt: HostRuntime) -> Result<(), Fail> {
+    come_back::<(u8, Option<Nest>)>(rt.alloc(), INSIDE)
 }

@@ -201,24 +201,33 @@ impl Spelled for u128 {
     } };
 }
 
-/// An unsigned integer of any head, or a bignum of tag 2: a byte string of known length, of at most
-/// 16 bytes, with leading zeros or none (RFC 8949 sections 3.1 and 3.4.3).
+/// An unsigned integer of any head, or a bignum of tag 2 (RFC 8949 sections 3.1 and 3.4.3). The
+/// bignum is a byte string of definite length, of at most 16 bytes, with leading zeros or none.
 ///
-/// Refusals:
+/// # Errors
 ///
-/// - no byte is left: `Eof` by the name "u128" with 1
-/// - a head of major type 0 is cut or reserved: as `u64` refuses it, by "u64"
-/// - no tag with at most one byte of argument comes, or a cut one: `Mismatch` by "u128" with the
-///   first byte, which is taken, or `Eof`
-/// - the tag is not 2: `Mismatch` by "u128::tag" with it, behind the tag
-/// - no head of a byte string comes behind the tag, or a cut one: `Mismatch` or `Eof` by
-///   "u128::bytes", as for every head
-/// - the byte string is of indefinite length: `RequireLength` by "u128::bytes" with `Indefinite`,
-///   behind its first byte
-/// - it has more than 16 bytes: `LengthOverflow` by "u128::bytes" with their number, behind its
-///   head
-/// - fewer bytes are left than it has: `Eof` by "u128::bytes" with the number that it has, and
-///   nothing is left
+/// `Read` is told at `Decode::decode`. The others:
+///
+/// - `Eof` by "u128" with 1: no byte is left, or none for the number of a tag that takes a byte.
+///   Nothing is left then
+/// - `Eof` by "u64" with k: the argument of a head of major type 0 has k bytes and fewer are left.
+///   Nothing is left then
+/// - `Mismatch` by "u64" with the first byte, which is taken: it is of major type 0, and its
+///   additional information says no argument
+/// - `Mismatch` by "u128" with the first byte, which is taken: it is not of major type 0. It begins
+///   no tag with at most one byte of argument
+/// - `Mismatch` by "u128::tag" with the number of the tag: it is not 2. What follows the tag is
+///   left
+/// - `Eof` by "u128::bytes" with 1: no byte follows the tag
+/// - `Eof` by "u128::bytes" with k: the argument of the byte string's head has k bytes and fewer
+///   are left. Nothing is left then
+/// - `Mismatch` by "u128::bytes" with the byte behind the tag, which is taken: it begins no byte
+///   string
+/// - `RequireLength` by "u128::bytes" with `Indefinite`: the byte string has an indefinite length.
+///   What follows its first byte is left
+/// - `LengthOverflow` by "u128::bytes" with the length: the byte string has more than 16 bytes.
+///   What follows its head is left
+/// - `Eof` by "u128::bytes" with the length: fewer bytes follow the head. Nothing is left then
 impl<S: Source> Decode<S> for u128 {
     #[inline(always)]
     fn decode(alloc: Global, reader: &mut S) -> Result<u128, DecodeError<S::Error>> {
@@ -252,21 +261,30 @@ impl Spelled for i128 {
     } };
 }
 
-/// An integer of any head, or a bignum of tag 2, or of tag 3 for a negative one: a byte string of
-/// known length, of at most 16 bytes, whose number is below 2^127 (RFC 8949 sections 3.1 and
-/// 3.4.3).
+/// An integer of any head, or a bignum of tag 2, or of tag 3 for a negative one (RFC 8949 sections
+/// 3.1 and 3.4.3). The bignum is a byte string of definite length, of at most 16 bytes, whose
+/// number is below 2^127.
 ///
-/// Refusals:
+/// # Errors
 ///
-/// - no byte is left: `Eof` by the name "i128" with 1
-/// - a head of major type 0 is cut or reserved: as `u64` refuses it, by "u64"
-/// - a head of major type 1 is cut or reserved: `Eof` or `Mismatch` by "i128", as for every head
-/// - no tag with at most one byte of argument comes, or a cut one: `Mismatch` by "i128" with the
-///   first byte, which is taken, or `Eof`
-/// - the tag is neither 2 nor 3: `Mismatch` by "i128::tag" with it, behind the tag
-/// - the byte string is refused: as that of a `u128`, by "+i128::bytes" behind tag 2 and by
-///   "-i128::bytes" behind tag 3
-/// - the number is 2^127 or greater: `CastOverflow` by "i128", behind the item
+/// `Read` is told at `Decode::decode`. The others:
+///
+/// - `Eof` by "i128" with 1: no byte is left, or none for the number of a tag that takes a byte.
+///   Nothing is left then
+/// - `Eof` by "u64" with k: the argument of a head of major type 0 has k bytes and fewer are left.
+///   Nothing is left then
+/// - `Eof` by "i128" with k: the argument of a head of major type 1 has k bytes and fewer are left.
+///   Nothing is left then
+/// - `Mismatch` by "u64" with the first byte, which is taken: it is of major type 0, and its
+///   additional information says no argument
+/// - `Mismatch` by "i128" with the first byte, which is taken: it is not of major type 0. It begins
+///   neither a head of major type 1 nor a tag with at most one byte of argument
+/// - `Mismatch` by "i128::tag" with the number of the tag: it is neither 2 nor 3. What follows the
+///   tag is left
+/// - those of the byte string of a `u128`, by "+i128::bytes" behind tag 2 and by "-i128::bytes"
+///   behind tag 3, which leave the same
+/// - `CastOverflow` by "i128": the number of the byte string is 2^127 or greater. The whole item is
+///   taken then
 impl<S: Source> Decode<S> for i128 {
     #[inline(always)]
     fn decode(alloc: Global, reader: &mut S) -> Result<i128, DecodeError<S::Error>> {

@@ -28,9 +28,14 @@ impl Spelled for Negative<u8> {
 /// A negative integer whose argument has at most one byte, whether or not in its shortest head (RFC
 /// 8949 section 3.1).
 ///
-/// Refused by the name "-u8": `Eof` with 1 where no byte is left, and with k where the argument has
-/// k bytes and fewer are left, nothing being left then; `Mismatch` with the first byte, which is
-/// taken, where it begins no head of major type 1 with at most one byte of argument.
+/// # Errors
+///
+/// `Read` is told at `Decode::decode`. The others have the name "-u8":
+///
+/// - `Eof` with 1: no byte is left
+/// - `Eof` with k: the argument has k bytes and fewer are left. Nothing is left then
+/// - `Mismatch` with the first byte, which is taken: it begins no head of major type 1 with at most
+///   one byte of argument
 impl<S: Source> Decode<S> for Negative<u8> {
     #[inline(always)]
     fn decode(alloc: Global, reader: &mut S) -> Result<Negative<u8>, DecodeError<S::Error>> {
@@ -39,7 +44,11 @@ impl<S: Source> Decode<S> for Negative<u8> {
 }
 
 /// The shortest head of major type 1 with the number that it holds as its argument (RFC 8949
-/// sections 3.1 and 4.1), in one push. Where that fails, a whole writer holds what it held before.
+/// sections 3.1 and 4.1), in one push.
+///
+/// # Errors
+///
+/// `Write`: the writer failed. A whole writer then holds what it held before.
 impl Encode for Negative<u8> {
     ghost bytes = { λ v. shortest_head 1 v.0 };
 
@@ -65,9 +74,14 @@ impl Spelled for Negative<u16> {
 /// A negative integer whose argument has at most two bytes, whether or not in its shortest head
 /// (RFC 8949 section 3.1).
 ///
-/// Refused by the name "-u16": `Eof` with 1 where no byte is left, and with k where the argument
-/// has k bytes and fewer are left, nothing being left then; `Mismatch` with the first byte, which
-/// is taken, where it begins no head of major type 1 with at most two bytes of argument.
+/// # Errors
+///
+/// `Read` is told at `Decode::decode`. The others have the name "-u16":
+///
+/// - `Eof` with 1: no byte is left
+/// - `Eof` with k: the argument has k bytes and fewer are left. Nothing is left then
+/// - `Mismatch` with the first byte, which is taken: it begins no head of major type 1 with at most
+///   two bytes of argument
 impl<S: Source> Decode<S> for Negative<u16> {
     #[inline(always)]
     fn decode(alloc: Global, reader: &mut S) -> Result<Negative<u16>, DecodeError<S::Error>> {
@@ -102,9 +116,14 @@ impl Spelled for Negative<u32> {
 /// A negative integer whose argument has at most four bytes, whether or not in its shortest head
 /// (RFC 8949 section 3.1).
 ///
-/// Refused by the name "-u32": `Eof` with 1 where no byte is left, and with k where the argument
-/// has k bytes and fewer are left, nothing being left then; `Mismatch` with the first byte, which
-/// is taken, where it begins no head of major type 1 with at most four bytes of argument.
+/// # Errors
+///
+/// `Read` is told at `Decode::decode`. The others have the name "-u32":
+///
+/// - `Eof` with 1: no byte is left
+/// - `Eof` with k: the argument has k bytes and fewer are left. Nothing is left then
+/// - `Mismatch` with the first byte, which is taken: it begins no head of major type 1 with at most
+///   four bytes of argument
 impl<S: Source> Decode<S> for Negative<u32> {
     #[inline(always)]
     fn decode(alloc: Global, reader: &mut S) -> Result<Negative<u32>, DecodeError<S::Error>> {
@@ -139,9 +158,14 @@ impl Spelled for Negative<u64> {
 /// A negative integer whose argument has at most eight bytes, whether or not in its shortest head
 /// (RFC 8949 section 3.1).
 ///
-/// Refused by the name "-u64": `Eof` with 1 where no byte is left, and with k where the argument
-/// has k bytes and fewer are left, nothing being left then; `Mismatch` with the first byte, which
-/// is taken, where it begins no head of major type 1 with at most eight bytes of argument.
+/// # Errors
+///
+/// `Read` is told at `Decode::decode`. The others have the name "-u64":
+///
+/// - `Eof` with 1: no byte is left
+/// - `Eof` with k: the argument has k bytes and fewer are left. Nothing is left then
+/// - `Mismatch` with the first byte, which is taken: it begins no head of major type 1 with at most
+///   eight bytes of argument
 impl<S: Source> Decode<S> for Negative<u64> {
     #[inline(always)]
     fn decode(alloc: Global, reader: &mut S) -> Result<Negative<u64>, DecodeError<S::Error>> {
@@ -154,7 +178,11 @@ impl<S: Source> Decode<S> for Negative<u64> {
 impl Encode for Negative<u64> {
     ghost bytes = { λ v. shortest_head 1 v.0 };
 
-    /// In one push: a whole writer that failed holds what it held before.
+    /// In one push.
+    ///
+    /// # Errors
+    ///
+    /// `Write`: the writer failed. A whole writer then holds what it held before.
     #[inline(always)]
     fn encode<W: Write>(&self, writer: &mut W) -> Result<(), EncodeError<W::Error>>
         ensures { WritesWhole W.whole (shortest_head 1 self.now.0)

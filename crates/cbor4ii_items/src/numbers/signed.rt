@@ -181,12 +181,19 @@ impl Spelled for i8 {
 /// An integer of major type 0, or a negative one of major type 1, whose argument has at most one
 /// byte and is below 2^7 (RFC 8949 section 3.1).
 ///
-/// Refusals:
+/// # Errors
 ///
-/// - no byte is left: `Eof` by the name "i8" with 1
-/// - the next byte is of another major type: `Mismatch` by "i8" with it, and it stays
-/// - the argument is cut, or has more bytes: `Eof` or `Mismatch`, as every head, by "+i8" or "-i8"
-/// - the argument is 2^7 or greater: `CastOverflow` by "+i8" or "-i8", behind the head
+/// `Read` is told at `Decode::decode`. Of a head of major type 0 the name is "+i8", of one of major
+/// type 1 it is "-i8":
+///
+/// - `Eof` by "i8" with 1: no byte is left
+/// - `Mismatch` by "i8" with the next byte, which stays: it is of another major type
+/// - `Eof` by "+i8" or "-i8" with k: the argument has k bytes and fewer are left. Nothing is left
+///   then
+/// - `Mismatch` by "+i8" or "-i8" with the first byte, which is taken: it begins no head with at
+///   most one byte of argument
+/// - `CastOverflow` by "+i8" or "-i8": the argument is 2^7 or greater. What follows the head is
+///   left
 impl<S: Source> Decode<S> for i8 {
     #[inline(always)]
     fn decode(alloc: Global, reader: &mut S) -> Result<i8, DecodeError<S::Error>> {
@@ -194,9 +201,12 @@ impl<S: Source> Decode<S> for i8 {
     }
 }
 
-/// From 0 on the shortest head of major type 0 with this argument, and of -1 - n that of major type
-/// 1 with the argument n (RFC 8949 sections 3.1 and 4.1), in one push. Where that fails, a whole
-/// writer holds what it held before.
+/// From 0 on the shortest head of major type 0 with this argument. Of -1 - n it is that of major
+/// type 1 with the argument n (RFC 8949 sections 3.1 and 4.1). Either is written in one push.
+///
+/// # Errors
+///
+/// `Write`: the writer failed. A whole writer then holds what it held before.
 impl Encode for i8 {
     ghost bytes = { signed_head };
 
@@ -224,13 +234,19 @@ impl Spelled for i16 {
 /// An integer of major type 0, or a negative one of major type 1, whose argument has at most two
 /// bytes and is below 2^15 (RFC 8949 section 3.1).
 ///
-/// Refusals:
+/// # Errors
 ///
-/// - no byte is left: `Eof` by the name "i16" with 1
-/// - the next byte is of another major type: `Mismatch` by "i16" with it, and it stays
-/// - the argument is cut, or has more bytes: `Eof` or `Mismatch`, as every head, by "+i16" or
-///   "-i16"
-/// - the argument is 2^15 or greater: `CastOverflow` by "+i16" or "-i16", behind the head
+/// `Read` is told at `Decode::decode`. Of a head of major type 0 the name is "+i16", of one of
+/// major type 1 it is "-i16":
+///
+/// - `Eof` by "i16" with 1: no byte is left
+/// - `Mismatch` by "i16" with the next byte, which stays: it is of another major type
+/// - `Eof` by "+i16" or "-i16" with k: the argument has k bytes and fewer are left. Nothing is left
+///   then
+/// - `Mismatch` by "+i16" or "-i16" with the first byte, which is taken: it begins no head with at
+///   most two bytes of argument
+/// - `CastOverflow` by "+i16" or "-i16": the argument is 2^15 or greater. What follows the head is
+///   left
 impl<S: Source> Decode<S> for i16 {
     #[inline(always)]
     fn decode(alloc: Global, reader: &mut S) -> Result<i16, DecodeError<S::Error>> {
@@ -266,13 +282,19 @@ impl Spelled for i32 {
 /// An integer of major type 0, or a negative one of major type 1, whose argument has at most four
 /// bytes and is below 2^31 (RFC 8949 section 3.1).
 ///
-/// Refusals:
+/// # Errors
 ///
-/// - no byte is left: `Eof` by the name "i32" with 1
-/// - the next byte is of another major type: `Mismatch` by "i32" with it, and it stays
-/// - the argument is cut, or has more bytes: `Eof` or `Mismatch`, as every head, by "+i32" or
-///   "-i32"
-/// - the argument is 2^31 or greater: `CastOverflow` by "+i32" or "-i32", behind the head
+/// `Read` is told at `Decode::decode`. Of a head of major type 0 the name is "+i32", of one of
+/// major type 1 it is "-i32":
+///
+/// - `Eof` by "i32" with 1: no byte is left
+/// - `Mismatch` by "i32" with the next byte, which stays: it is of another major type
+/// - `Eof` by "+i32" or "-i32" with k: the argument has k bytes and fewer are left. Nothing is left
+///   then
+/// - `Mismatch` by "+i32" or "-i32" with the first byte, which is taken: it begins no head with at
+///   most four bytes of argument
+/// - `CastOverflow` by "+i32" or "-i32": the argument is 2^31 or greater. What follows the head is
+///   left
 impl<S: Source> Decode<S> for i32 {
     #[inline(always)]
     fn decode(alloc: Global, reader: &mut S) -> Result<i32, DecodeError<S::Error>> {
@@ -308,13 +330,19 @@ impl Spelled for i64 {
 /// An integer of major type 0, or a negative one of major type 1, whose argument has at most eight
 /// bytes and is below 2^63 (RFC 8949 section 3.1).
 ///
-/// Refusals:
+/// # Errors
 ///
-/// - no byte is left: `Eof` by the name "i64" with 1
-/// - the next byte is of another major type: `Mismatch` by "i64" with it, and it stays
-/// - the argument is cut, or has more bytes: `Eof` or `Mismatch`, as every head, by "+i64" or
-///   "-i64"
-/// - the argument is 2^63 or greater: `CastOverflow` by "+i64" or "-i64", behind the head
+/// `Read` is told at `Decode::decode`. Of a head of major type 0 the name is "+i64", of one of
+/// major type 1 it is "-i64":
+///
+/// - `Eof` by "i64" with 1: no byte is left
+/// - `Mismatch` by "i64" with the next byte, which stays: it is of another major type
+/// - `Eof` by "+i64" or "-i64" with k: the argument has k bytes and fewer are left. Nothing is left
+///   then
+/// - `Mismatch` by "+i64" or "-i64" with the first byte, which is taken: it begins no head with at
+///   most eight bytes of argument
+/// - `CastOverflow` by "+i64" or "-i64": the argument is 2^63 or greater. What follows the head is
+///   left
 impl<S: Source> Decode<S> for i64 {
     #[inline(always)]
     fn decode(alloc: Global, reader: &mut S) -> Result<i64, DecodeError<S::Error>> {

@@ -27,9 +27,14 @@ impl Spelled for u8 {
 /// An unsigned integer whose argument has at most one byte, whether or not in its shortest head
 /// (RFC 8949 section 3.1).
 ///
-/// Refused by the name "u8": `Eof` with 1 where no byte is left, and with k where the argument has
-/// k bytes and fewer are left, nothing being left then; `Mismatch` with the first byte, which is
-/// taken, where it begins no head of major type 0 with at most one byte of argument.
+/// # Errors
+///
+/// `Read` is told at `Decode::decode`. The others have the name "u8":
+///
+/// - `Eof` with 1: no byte is left
+/// - `Eof` with k: the argument has k bytes and fewer are left. Nothing is left then
+/// - `Mismatch` with the first byte, which is taken: it begins no head of major type 0 with at most
+///   one byte of argument
 impl<S: Source> Decode<S> for u8 {
     #[inline(always)]
     fn decode(alloc: Global, reader: &mut S) -> Result<u8, DecodeError<S::Error>> {
@@ -38,7 +43,11 @@ impl<S: Source> Decode<S> for u8 {
 }
 
 /// The shortest head of major type 0 with this argument (RFC 8949 sections 3.1 and 4.1), in one
-/// push. Where that fails, a whole writer holds what it held before.
+/// push.
+///
+/// # Errors
+///
+/// `Write`: the writer failed. A whole writer then holds what it held before.
 impl Encode for u8 {
     ghost bytes = { shortest_head 0 };
 
@@ -64,9 +73,14 @@ impl Spelled for u16 {
 /// An unsigned integer whose argument has at most two bytes, whether or not in its shortest head
 /// (RFC 8949 section 3.1).
 ///
-/// Refused by the name "u16": `Eof` with 1 where no byte is left, and with k where the argument has
-/// k bytes and fewer are left, nothing being left then; `Mismatch` with the first byte, which is
-/// taken, where it begins no head of major type 0 with at most two bytes of argument.
+/// # Errors
+///
+/// `Read` is told at `Decode::decode`. The others have the name "u16":
+///
+/// - `Eof` with 1: no byte is left
+/// - `Eof` with k: the argument has k bytes and fewer are left. Nothing is left then
+/// - `Mismatch` with the first byte, which is taken: it begins no head of major type 0 with at most
+///   two bytes of argument
 impl<S: Source> Decode<S> for u16 {
     #[inline(always)]
     fn decode(alloc: Global, reader: &mut S) -> Result<u16, DecodeError<S::Error>> {
@@ -100,9 +114,14 @@ impl Spelled for u32 {
 /// An unsigned integer whose argument has at most four bytes, whether or not in its shortest head
 /// (RFC 8949 section 3.1).
 ///
-/// Refused by the name "u32": `Eof` with 1 where no byte is left, and with k where the argument has
-/// k bytes and fewer are left, nothing being left then; `Mismatch` with the first byte, which is
-/// taken, where it begins no head of major type 0 with at most four bytes of argument.
+/// # Errors
+///
+/// `Read` is told at `Decode::decode`. The others have the name "u32":
+///
+/// - `Eof` with 1: no byte is left
+/// - `Eof` with k: the argument has k bytes and fewer are left. Nothing is left then
+/// - `Mismatch` with the first byte, which is taken: it begins no head of major type 0 with at most
+///   four bytes of argument
 impl<S: Source> Decode<S> for u32 {
     #[inline(always)]
     fn decode(alloc: Global, reader: &mut S) -> Result<u32, DecodeError<S::Error>> {
@@ -136,9 +155,14 @@ impl Spelled for u64 {
 /// An unsigned integer whose argument has at most eight bytes, whether or not in its shortest head
 /// (RFC 8949 section 3.1).
 ///
-/// Refused by the name "u64": `Eof` with 1 where no byte is left, and with k where the argument has
-/// k bytes and fewer are left, nothing being left then; `Mismatch` with the first byte, which is
-/// taken, where it begins no head of major type 0 with at most eight bytes of argument.
+/// # Errors
+///
+/// `Read` is told at `Decode::decode`. The others have the name "u64":
+///
+/// - `Eof` with 1: no byte is left
+/// - `Eof` with k: the argument has k bytes and fewer are left. Nothing is left then
+/// - `Mismatch` with the first byte, which is taken: it begins no head of major type 0 with at most
+///   eight bytes of argument
 impl<S: Source> Decode<S> for u64 {
     #[inline(always)]
     fn decode(alloc: Global, reader: &mut S) -> Result<u64, DecodeError<S::Error>> {
@@ -150,7 +174,11 @@ impl<S: Source> Decode<S> for u64 {
 impl Encode for u64 {
     ghost bytes = { shortest_head 0 };
 
-    /// In one push: a whole writer that failed holds what it held before.
+    /// In one push.
+    ///
+    /// # Errors
+    ///
+    /// `Write`: the writer failed. A whole writer then holds what it held before.
     #[inline(always)]
     fn encode<W: Write>(&self, writer: &mut W) -> Result<(), EncodeError<W::Error>>
         ensures { WritesWhole W.whole (shortest_head 0 self.now)

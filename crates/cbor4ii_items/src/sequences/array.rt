@@ -45,15 +45,20 @@ impl<S: Source, T: Decode<S> + Drop> Sequence<S> for Vec<T> {
 /// byte it takes as many turns as its head says, whatever follows: `Vec<Nothing>` takes 2^64 - 1 of
 /// them for the nine bytes `9b ff ff ff ff ff ff ff ff`.
 ///
-/// Refusals, in this order, by the name "array" where no other is said:
+/// # Errors
 ///
-/// - no step is left: `DepthOverflow`, and nothing is taken
-/// - the head is not one of an array: `Mismatch` or `Eof`, as for every head
-/// - at an indefinite length, in the place of an item or a break there is no byte: `Eof` by "break"
-///   with 1
-/// - of a type that may read nothing, another byte than a break comes there: `RequireLength` with
-///   `Indefinite`, and the byte is left
-/// - an item is refused: its own refusal, and what it leaves
+/// `Read` and `OutOfMemory` are told at `Decode::decode`. The others come in this order, by "array"
+/// where no other name is said:
+///
+/// - `DepthOverflow`: no step is left. Nothing is taken then
+/// - `Eof` with 1: no byte is left
+/// - `Eof` with k: the argument of the head has k bytes and fewer are left. Nothing is left then
+/// - `Mismatch` with the first byte, which is taken: it begins no array
+/// - `Eof` by "break" with 1: the length is indefinite, and no byte is left in the place of an item
+///   or a break
+/// - `RequireLength` with `Indefinite`: of a type that may read nothing, another byte than a break
+///   comes there. The byte is left
+/// - those of an item, which leave what they leave
 impl<S: Source, T: Decode<S> + Drop> Decode<S> for Vec<T> {
     #[inline(always)]
     fn decode(alloc: Global, reader: &mut S) -> Result<Vec<T>, DecodeError<S::Error>> {

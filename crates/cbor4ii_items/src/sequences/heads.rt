@@ -19,9 +19,14 @@ impl Array<()> {
     /// Takes the head of an array and answers how many items are to follow: none where the length
     /// is indefinite, and then items follow up to a break (RFC 8949 section 3.2.2).
     ///
-    /// `Read` where the reader failed. By the name "array": `Eof` with 1 where no byte is left,
-    /// and with k where the length has k bytes and fewer are left, nothing being left then;
-    /// `Mismatch` with the first byte, which is taken, where it begins no array. The budget stays.
+    /// # Errors
+    ///
+    /// The budget stays.
+    ///
+    /// - `Read`: the reader failed. A part of the head may be taken then
+    /// - `Eof` by "array" with 1: no byte is left
+    /// - `Eof` by "array" with k: the argument has k bytes and fewer are left. Nothing is left then
+    /// - `Mismatch` by "array" with the first byte, which is taken: it begins no array
     pub fn len<S: Source>(reader: &mut S) -> Result<Option<usize>, DecodeError<S::Error>>
         ensures { Decodes (length_spelling (codes "array") 4)
             (S.view reader.old) (S.view reader.new) result }
@@ -31,8 +36,9 @@ impl Array<()> {
 
     /// Writes the shortest head of an array of `len` items, in one push. The items are to follow.
     ///
-    /// It fails only where the writer failed in the call. A whole writer then holds what it held
-    /// before.
+    /// # Errors
+    ///
+    /// `Write`: the writer failed. A whole writer then holds what it held before.
     pub fn bounded<W: Write>(len: usize, writer: &mut W) -> Result<(), EncodeError<W::Error>>
         ensures { WritesWhole W.whole (shortest_head 4 len)
             (W.view writer.old) (W.view writer.new) result }
@@ -43,8 +49,9 @@ impl Array<()> {
     /// Writes the first byte of an array of indefinite length, in one push. Items and an end are
     /// to follow (RFC 8949 section 3.2.2).
     ///
-    /// It fails only where the writer failed in the call. A whole writer then holds what it held
-    /// before.
+    /// # Errors
+    ///
+    /// `Write`: the writer failed. A whole writer then holds what it held before.
     pub fn unbounded<W: Write>(writer: &mut W) -> Result<(), EncodeError<W::Error>>
         ensures { WritesWhole W.whole (opening 4) (W.view writer.old) (W.view writer.new) result }
     {
@@ -53,8 +60,9 @@ impl Array<()> {
 
     /// Writes the end of an indefinite length, one byte, in one push.
     ///
-    /// It fails only where the writer failed in the call. A whole writer then holds what it held
-    /// before.
+    /// # Errors
+    ///
+    /// `Write`: the writer failed. A whole writer then holds what it held before.
     pub fn end<W: Write>(writer: &mut W) -> Result<(), EncodeError<W::Error>>
         ensures { WritesWhole W.whole closing (W.view writer.old) (W.view writer.new) result }
     {
@@ -66,9 +74,14 @@ impl Map<()> {
     /// Takes the head of a map and answers how many pairs are to follow: none where the length is
     /// indefinite, and then pairs follow up to a break (RFC 8949 section 3.2.2).
     ///
-    /// `Read` where the reader failed. By the name "map": `Eof` with 1 where no byte is left, and
-    /// with k where the length has k bytes and fewer are left, nothing being left then; `Mismatch`
-    /// with the first byte, which is taken, where it begins no map. The budget stays.
+    /// # Errors
+    ///
+    /// The budget stays.
+    ///
+    /// - `Read`: the reader failed. A part of the head may be taken then
+    /// - `Eof` by "map" with 1: no byte is left
+    /// - `Eof` by "map" with k: the argument has k bytes and fewer are left. Nothing is left then
+    /// - `Mismatch` by "map" with the first byte, which is taken: it begins no map
     pub fn len<S: Source>(reader: &mut S) -> Result<Option<usize>, DecodeError<S::Error>>
         ensures { Decodes (length_spelling (codes "map") 5)
             (S.view reader.old) (S.view reader.new) result }
@@ -78,8 +91,9 @@ impl Map<()> {
 
     /// Writes the shortest head of a map of `len` pairs, in one push. The pairs are to follow.
     ///
-    /// It fails only where the writer failed in the call. A whole writer then holds what it held
-    /// before.
+    /// # Errors
+    ///
+    /// `Write`: the writer failed. A whole writer then holds what it held before.
     pub fn bounded<W: Write>(len: usize, writer: &mut W) -> Result<(), EncodeError<W::Error>>
         ensures { WritesWhole W.whole (shortest_head 5 len)
             (W.view writer.old) (W.view writer.new) result }
@@ -90,8 +104,9 @@ impl Map<()> {
     /// Writes the first byte of a map of indefinite length, in one push. Pairs and an end are to
     /// follow (RFC 8949 section 3.2.2).
     ///
-    /// It fails only where the writer failed in the call. A whole writer then holds what it held
-    /// before.
+    /// # Errors
+    ///
+    /// `Write`: the writer failed. A whole writer then holds what it held before.
     pub fn unbounded<W: Write>(writer: &mut W) -> Result<(), EncodeError<W::Error>>
         ensures { WritesWhole W.whole (opening 5) (W.view writer.old) (W.view writer.new) result }
     {
@@ -100,8 +115,9 @@ impl Map<()> {
 
     /// Writes the end of an indefinite length, one byte, in one push.
     ///
-    /// It fails only where the writer failed in the call. A whole writer then holds what it held
-    /// before.
+    /// # Errors
+    ///
+    /// `Write`: the writer failed. A whole writer then holds what it held before.
     pub fn end<W: Write>(writer: &mut W) -> Result<(), EncodeError<W::Error>>
         ensures { WritesWhole W.whole closing (W.view writer.old) (W.view writer.new) result }
     {

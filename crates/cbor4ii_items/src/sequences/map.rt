@@ -47,8 +47,10 @@ impl<S: Source, K: Decode<S> + Drop, V: Decode<S> + Drop> Sequence<S> for Map<Ve
 /// takes as many turns as its head says, whatever follows: a map of `Nothing` to `Nothing` takes
 /// 2^64 - 1 of them for the nine bytes `bb ff ff ff ff ff ff ff ff`.
 ///
-/// Refusals are those of arrays, by the name "map": where an item's would be, a key's, or behind a
-/// whole key its value's.
+/// # Errors
+///
+/// Those of an array, by "map" in the place of "array". In the place of an item's errors come those
+/// of a key, or behind a whole key those of its value.
 impl<S: Source, K: Decode<S> + Drop, V: Decode<S> + Drop> Decode<S> for Map<Vec<(K, V)>> {
     #[inline(always)]
     fn decode(alloc: Global, reader: &mut S) -> Result<Map<Vec<(K, V)>>, DecodeError<S::Error>> {

@@ -51,17 +51,21 @@ impl<'de, R: Read<'de>> Lend<R> for &'de str {
     }
 }
 
-/// A text string that is UTF-8, of known length, as it stands in the input, with no copy (RFC 8949
-/// section 3.1). It is read only where one fill lends all of its bytes as long as the input lives.
-/// No step is taken and no memory.
+/// A text string that is UTF-8, of definite length, as it stands in the input, with no copy (RFC
+/// 8949 section 3.1). It is read only where one fill lends all of its bytes as long as the input
+/// lives. No step is taken and no memory.
 ///
-/// Refusals, in this order, by the name "str":
+/// # Errors
 ///
-/// - the head is not one of a string of this major type and of known length: `Mismatch` or `Eof`,
-///   as for every head
-/// - the bytes do not live as long as the input: `RequireBorrowed`, behind the head
-/// - fewer bytes are lent: `RequireLength` with their number, behind the head
-/// - it is not UTF-8: `RequireUtf8`, behind the item
+/// `Read` is told at `Decode::decode`. The others come in this order, by "str":
+///
+/// - `Eof` with 1: no byte is left
+/// - `Eof` with k: the argument of the head has k bytes and fewer are left. Nothing is left then
+/// - `Mismatch` with the first byte, which is taken: it begins no text string of definite length
+/// - `RequireBorrowed`: the bytes do not live as long as the input. What follows the head is left
+/// - `RequireLength` with the number of bytes that are lent: these are fewer than the length. What
+///   follows the head is left
+/// - `RequireUtf8`: the text is not UTF-8. The whole item is taken then
 impl<'de, R: Read<'de>> Decode<R> for &'de str {
     fn decode(alloc: Global, reader: &mut R) -> Result<&'de str, DecodeError<R::Error>> {
         take_lent(alloc, reader)
@@ -107,17 +111,21 @@ impl<'de, R: Read<'de>> Lend<R> for Bytes<&'de [u8]> {
     }
 }
 
-/// A byte string, of known length, as it stands in the input, with no copy (RFC 8949 section 3.1).
-/// It is read only where one fill lends all of its bytes as long as the input lives. No step is
-/// taken and no memory. It is the input's own part: what is left begins right behind it, where the
-/// reader tells the place of its end.
+/// A byte string, of definite length, as it stands in the input, with no copy (RFC 8949 section
+/// 3.1). It is read only where one fill lends all of its bytes as long as the input lives. No step
+/// is taken and no memory. It is the input's own part: what is left begins right behind it, where
+/// the reader tells the place of its end.
 ///
-/// Refusals, in this order, by the name "bytes":
+/// # Errors
 ///
-/// - the head is not one of a string of this major type and of known length: `Mismatch` or `Eof`,
-///   as for every head
-/// - the bytes do not live as long as the input: `RequireBorrowed`, behind the head
-/// - fewer bytes are lent: `RequireLength` with their number, behind the head
+/// `Read` is told at `Decode::decode`. The others come in this order, by "bytes":
+///
+/// - `Eof` with 1: no byte is left
+/// - `Eof` with k: the argument of the head has k bytes and fewer are left. Nothing is left then
+/// - `Mismatch` with the first byte, which is taken: it begins no byte string of definite length
+/// - `RequireBorrowed`: the bytes do not live as long as the input. What follows the head is left
+/// - `RequireLength` with the number of bytes that are lent: these are fewer than the length. What
+///   follows the head is left
 impl<'de, R: Read<'de>> Decode<R> for Bytes<&'de [u8]> {
     fn decode(alloc: Global, reader: &mut R) -> Result<Bytes<&'de [u8]>, DecodeError<R::Error>>
         ensures place { IfOk result (λ v. IsOfInput v.0 (R.view reader.old) (R.view reader.new)) }
@@ -167,16 +175,20 @@ impl<'de, R: Read<'de>> Lend<R> for UncheckedStr<&'de [u8]> {
     }
 }
 
-/// A text string, whatever its bytes, of known length, as it stands in the input, with no copy (RFC
-/// 8949 section 3.1). It is read only where one fill lends all of its bytes as long as the input
-/// lives. No step is taken and no memory. It is the input's own part, as a byte string is.
+/// A text string, whatever its bytes, of definite length, as it stands in the input, with no copy
+/// (RFC 8949 section 3.1). It is read only where one fill lends all of its bytes as long as the
+/// input lives. No step is taken and no memory. It is the input's own part, as a byte string is.
 ///
-/// Refusals, in this order, by the name "str":
+/// # Errors
 ///
-/// - the head is not one of a string of this major type and of known length: `Mismatch` or `Eof`,
-///   as for every head
-/// - the bytes do not live as long as the input: `RequireBorrowed`, behind the head
-/// - fewer bytes are lent: `RequireLength` with their number, behind the head
+/// `Read` is told at `Decode::decode`. The others come in this order, by "str":
+///
+/// - `Eof` with 1: no byte is left
+/// - `Eof` with k: the argument of the head has k bytes and fewer are left. Nothing is left then
+/// - `Mismatch` with the first byte, which is taken: it begins no text string of definite length
+/// - `RequireBorrowed`: the bytes do not live as long as the input. What follows the head is left
+/// - `RequireLength` with the number of bytes that are lent: these are fewer than the length. What
+///   follows the head is left
 impl<'de, R: Read<'de>> Decode<R> for UncheckedStr<&'de [u8]> {
     fn decode(
         alloc: Global,

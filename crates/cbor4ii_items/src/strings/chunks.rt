@@ -49,7 +49,7 @@ fn take_chunk<S: Source>(
     outcome
 }
 
-/// Takes the content of a string of known length, behind what `content` holds.
+/// Takes the content of a string of definite length, behind what `content` holds.
 fn take_chunk_inside<S: Source>(
     reader: &mut S,
     name: StaticStr,

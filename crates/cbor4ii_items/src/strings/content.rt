@@ -14,7 +14,7 @@ use cbor4ii_rw::error::{DecodeError, StaticStr};
 use cbor4ii_rw::read::Source;
 use std::alloc::Global;
 
-/// A text string of known or of indefinite length, which is to be UTF-8.
+/// A text string of definite or of indefinite length, which is to be UTF-8.
 #[inline(always)]
 pub(crate) fn take_text<S: Source>(
     alloc: Global,
@@ -30,7 +30,7 @@ pub(crate) fn take_text<S: Source>(
     }
 }
 
-/// The content of a string of this major type, of known or of indefinite length.
+/// The content of a string of this major type, of definite or of indefinite length.
 #[inline(always)]
 pub(crate) fn lone_string<S: Source>(
     alloc: Global,

@@ -78,22 +78,28 @@ impl<'de, R: Read<'de>> LendOrOwn<R> for CowStr<'de, Global> {
     ghost text = { λ _. refl };
 }
 
-/// A text string that is UTF-8, of known or of indefinite length (RFC 8949 sections 3.1 and 3.2.3).
-/// One of known length is a part of the input, with no copy, where one fill lends all of its bytes
-/// as long as the input lives; elsewhere they are copied. One of indefinite length is always
-/// copied, of one chunk too: it is known only behind a chunk whether more follow. A copy takes
-/// steps and memory as that of an owned string does.
+/// A text string that is UTF-8, of definite or of indefinite length (RFC 8949 sections 3.1 and
+/// 3.2.3). One of definite length is a part of the input where one fill lends all of its bytes as
+/// long as the input lives. Elsewhere they are copied. One of indefinite length is always copied,
+/// of one chunk too: it is known only behind a chunk whether more follow. A copy takes steps and
+/// memory as that of an owned string does.
 ///
-/// Refusals, in this order, over every reader, by the name "str" where no other is said:
+/// # Errors
 ///
-/// - the head is not one of a string of this major type: `Mismatch` or `Eof`, as for every head
-/// - bytes are missing: `Eof` with the number of those that are missing, and nothing is left
-/// - in the place of a chunk or a break there is no byte: `Eof` by "break" with 1
-/// - no step is left for a chunk: `DepthOverflow`, and the chunk is left
-/// - a chunk is of indefinite length: `RequireLength` with `Indefinite`, behind its first byte
-/// - a chunk is no string of this major type, or is cut: `Mismatch` or `Eof`, as of the string
-///   itself
-/// - it is not UTF-8: `RequireUtf8`, and the whole item is taken
+/// `Read` and `OutOfMemory` are told at `Decode::decode`. The others come in this order, over every
+/// reader, by "str" where no other name is said:
+///
+/// - `Eof` with 1: no byte is left
+/// - `Eof` with k: the argument of the head has k bytes and fewer are left. Nothing is left then
+/// - `Mismatch` with the first byte, which is taken: it begins no text string
+/// - `Eof` with the number of bytes that are missing: the content is cut. Nothing is left then
+/// - `Eof` by "break" with 1: no byte is left in the place of a chunk or a break
+/// - `DepthOverflow`: no step is left for a chunk. The chunk is left
+/// - `RequireLength` with `Indefinite`: a chunk has an indefinite length. What follows its first
+///   byte is left
+/// - `Eof` or `Mismatch`, those of the string itself: a chunk is cut, or is no text string. What is
+///   left is the same
+/// - `RequireUtf8`: the text is not UTF-8. The whole item is taken then
 impl<'de, R: Read<'de>> Decode<R> for CowStr<'de, Global> {
     fn decode(alloc: Global, reader: &mut R) -> Result<CowStr<'de, Global>, DecodeError<R::Error>>
         ensures decodes { Decodes (text_spelling (codes "str") cow_text)
@@ -161,21 +167,27 @@ impl<'de, R: Read<'de>> LendOrOwn<R> for Bytes<CowSlice<'de, u8, Global>> {
     ghost text = { nothing_to_test };
 }
 
-/// A byte string, of known or of indefinite length (RFC 8949 sections 3.1 and 3.2.3). One of known
-/// length is a part of the input, with no copy, where one fill lends all of its bytes as long as
-/// the input lives; elsewhere they are copied. One of indefinite length is always copied, of one
-/// chunk too: it is known only behind a chunk whether more follow. A copy takes steps and memory as
-/// that of an owned string does.
+/// A byte string, of definite or of indefinite length (RFC 8949 sections 3.1 and 3.2.3). One of
+/// definite length is a part of the input where one fill lends all of its bytes as long as the
+/// input lives. Elsewhere they are copied. One of indefinite length is always copied, of one chunk
+/// too: it is known only behind a chunk whether more follow. A copy takes steps and memory as that
+/// of an owned string does.
 ///
-/// Refusals, in this order, over every reader, by the name "bytes" where no other is said:
+/// # Errors
 ///
-/// - the head is not one of a string of this major type: `Mismatch` or `Eof`, as for every head
-/// - bytes are missing: `Eof` with the number of those that are missing, and nothing is left
-/// - in the place of a chunk or a break there is no byte: `Eof` by "break" with 1
-/// - no step is left for a chunk: `DepthOverflow`, and the chunk is left
-/// - a chunk is of indefinite length: `RequireLength` with `Indefinite`, behind its first byte
-/// - a chunk is no string of this major type, or is cut: `Mismatch` or `Eof`, as of the string
-///   itself
+/// `Read` and `OutOfMemory` are told at `Decode::decode`. The others come in this order, over every
+/// reader, by "bytes" where no other name is said:
+///
+/// - `Eof` with 1: no byte is left
+/// - `Eof` with k: the argument of the head has k bytes and fewer are left. Nothing is left then
+/// - `Mismatch` with the first byte, which is taken: it begins no byte string
+/// - `Eof` with the number of bytes that are missing: the content is cut. Nothing is left then
+/// - `Eof` by "break" with 1: no byte is left in the place of a chunk or a break
+/// - `DepthOverflow`: no step is left for a chunk. The chunk is left
+/// - `RequireLength` with `Indefinite`: a chunk has an indefinite length. What follows its first
+///   byte is left
+/// - `Eof` or `Mismatch`, those of the string itself: a chunk is cut, or is no byte string. What is
+///   left is the same
 impl<'de, R: Read<'de>> Decode<R> for Bytes<CowSlice<'de, u8, Global>> {
     fn decode(
         alloc: Global,
@@ -248,21 +260,27 @@ impl<'de, R: Read<'de>> LendOrOwn<R> for UncheckedStr<CowSlice<'de, u8, Global>>
     ghost text = { λ _. refl };
 }
 
-/// A text string, whatever its bytes, of known or of indefinite length (RFC 8949 sections 3.1 and
-/// 3.2.3). One of known length is a part of the input, with no copy, where one fill lends all of
-/// its bytes as long as the input lives; elsewhere they are copied. One of indefinite length is
-/// always copied, of one chunk too: it is known only behind a chunk whether more follow. A copy
-/// takes steps and memory as that of an owned string does.
+/// A text string, whatever its bytes, of definite or of indefinite length (RFC 8949 sections 3.1
+/// and 3.2.3). One of definite length is a part of the input where one fill lends all of its bytes
+/// as long as the input lives. Elsewhere they are copied. One of indefinite length is always
+/// copied, of one chunk too: it is known only behind a chunk whether more follow. A copy takes
+/// steps and memory as that of an owned string does.
 ///
-/// Refusals, in this order, over every reader, by the name "str" where no other is said:
+/// # Errors
 ///
-/// - the head is not one of a string of this major type: `Mismatch` or `Eof`, as for every head
-/// - bytes are missing: `Eof` with the number of those that are missing, and nothing is left
-/// - in the place of a chunk or a break there is no byte: `Eof` by "break" with 1
-/// - no step is left for a chunk: `DepthOverflow`, and the chunk is left
-/// - a chunk is of indefinite length: `RequireLength` with `Indefinite`, behind its first byte
-/// - a chunk is no string of this major type, or is cut: `Mismatch` or `Eof`, as of the string
-///   itself
+/// `Read` and `OutOfMemory` are told at `Decode::decode`. The others come in this order, over every
+/// reader, by "str" where no other name is said:
+///
+/// - `Eof` with 1: no byte is left
+/// - `Eof` with k: the argument of the head has k bytes and fewer are left. Nothing is left then
+/// - `Mismatch` with the first byte, which is taken: it begins no text string
+/// - `Eof` with the number of bytes that are missing: the content is cut. Nothing is left then
+/// - `Eof` by "break" with 1: no byte is left in the place of a chunk or a break
+/// - `DepthOverflow`: no step is left for a chunk. The chunk is left
+/// - `RequireLength` with `Indefinite`: a chunk has an indefinite length. What follows its first
+///   byte is left
+/// - `Eof` or `Mismatch`, those of the string itself: a chunk is cut, or is no text string. What is
+///   left is the same
 impl<'de, R: Read<'de>> Decode<R> for UncheckedStr<CowSlice<'de, u8, Global>> {
     fn decode(
         alloc: Global,

@@ -13,8 +13,9 @@ impl Bytes<()> {
     /// Writes the shortest head of a byte string of `len` bytes, in one push. The bytes are to
     /// follow.
     ///
-    /// It fails only where the writer failed in the call. A whole writer then holds what it held
-    /// before.
+    /// # Errors
+    ///
+    /// `Write`: the writer failed. A whole writer then holds what it held before.
     pub fn bounded<W: Write>(len: usize, writer: &mut W) -> Result<(), EncodeError<W::Error>>
         ensures { WritesWhole W.whole (shortest_head 2 len)
             (W.view writer.old) (W.view writer.new) result }
@@ -22,11 +23,12 @@ impl Bytes<()> {
         push_head(writer, major::BYTES, len as u64)
     }
 
-    /// Writes the first byte of a byte string of indefinite length, in one push. Byte strings of
-    /// a known length and an end are to follow (RFC 8949 section 3.2.3).
+    /// Writes the first byte of a byte string of indefinite length, in one push. Byte strings of a
+    /// definite length and an end are to follow (RFC 8949 section 3.2.3).
     ///
-    /// It fails only where the writer failed in the call. A whole writer then holds what it held
-    /// before.
+    /// # Errors
+    ///
+    /// `Write`: the writer failed. A whole writer then holds what it held before.
     pub fn unbounded<W: Write>(writer: &mut W) -> Result<(), EncodeError<W::Error>>
         ensures { WritesWhole W.whole (opening 2) (W.view writer.old) (W.view writer.new) result }
     {
@@ -35,8 +37,9 @@ impl Bytes<()> {
 
     /// Writes the end of an indefinite length, one byte, in one push.
     ///
-    /// It fails only where the writer failed in the call. A whole writer then holds what it held
-    /// before.
+    /// # Errors
+    ///
+    /// `Write`: the writer failed. A whole writer then holds what it held before.
     pub fn end<W: Write>(writer: &mut W) -> Result<(), EncodeError<W::Error>>
         ensures { WritesWhole W.whole closing (W.view writer.old) (W.view writer.new) result }
     {
@@ -48,8 +51,9 @@ impl UncheckedStr<()> {
     /// Writes the shortest head of a text string of `len` bytes, in one push. The bytes are to
     /// follow.
     ///
-    /// It fails only where the writer failed in the call. A whole writer then holds what it held
-    /// before.
+    /// # Errors
+    ///
+    /// `Write`: the writer failed. A whole writer then holds what it held before.
     pub fn bounded<W: Write>(len: usize, writer: &mut W) -> Result<(), EncodeError<W::Error>>
         ensures { WritesWhole W.whole (shortest_head 3 len)
             (W.view writer.old) (W.view writer.new) result }
@@ -57,11 +61,12 @@ impl UncheckedStr<()> {
         push_head(writer, major::STRING, len as u64)
     }
 
-    /// Writes the first byte of a text string of indefinite length, in one push. Text strings of
-    /// a known length and an end are to follow (RFC 8949 section 3.2.3).
+    /// Writes the first byte of a text string of indefinite length, in one push. Text strings of a
+    /// definite length and an end are to follow (RFC 8949 section 3.2.3).
     ///
-    /// It fails only where the writer failed in the call. A whole writer then holds what it held
-    /// before.
+    /// # Errors
+    ///
+    /// `Write`: the writer failed. A whole writer then holds what it held before.
     pub fn unbounded<W: Write>(writer: &mut W) -> Result<(), EncodeError<W::Error>>
         ensures { WritesWhole W.whole (opening 3) (W.view writer.old) (W.view writer.new) result }
     {
@@ -70,8 +75,9 @@ impl UncheckedStr<()> {
 
     /// Writes the end of an indefinite length, one byte, in one push.
     ///
-    /// It fails only where the writer failed in the call. A whole writer then holds what it held
-    /// before.
+    /// # Errors
+    ///
+    /// `Write`: the writer failed. A whole writer then holds what it held before.
     pub fn end<W: Write>(writer: &mut W) -> Result<(), EncodeError<W::Error>>
         ensures { WritesWhole W.whole closing (W.view writer.old) (W.view writer.new) result }
     {

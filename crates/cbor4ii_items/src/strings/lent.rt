@@ -61,7 +61,7 @@ pub(crate) trait Lend<S: Source>: Sized {
             (LacksContent count is_text (S.view reader.old) (S.view reader.new)) };
 }
 
-/// Reads a string of known length that is lent whole.
+/// Reads a string of definite length that is lent whole.
 pub(crate) fn take_lent<T: Lend<S>, S: Source>(
     alloc: Global,
     reader: &mut S,

@@ -72,7 +72,7 @@ pub(crate) trait LendOrOwn<S: Source>: Sized {
     ghost text: { IsTrue is_text → major ≡ 3 };
 }
 
-/// Reads a string of known length that is lent whole, or a copy of a string's content.
+/// Reads a string of definite length that is lent whole, or a copy of a string's content.
 pub(crate) fn take_cow<T: LendOrOwn<S>, S: Source>(
     alloc: Global,
     reader: &mut S,

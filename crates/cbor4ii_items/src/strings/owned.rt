@@ -22,19 +22,25 @@ impl Spelled for Bytes<Vec<u8>> {
     ghost lawful = { as_lawful (codes "bytes") 2 two_small bytes_content };
 }
 
-/// A byte string, of known or of indefinite length (RFC 8949 sections 3.1 and 3.2.3). Each chunk is
-/// a string of known length of the same major type, read under one step of the reader's budget. At
-/// most 16384 bytes are reserved before any came.
+/// A byte string, of definite or of indefinite length (RFC 8949 sections 3.1 and 3.2.3). Each chunk
+/// is a string of definite length of the same major type, read under one step of the reader's
+/// budget. At most 16384 bytes are reserved before any came.
 ///
-/// Refusals, in this order, by the name "bytes" where no other is said:
+/// # Errors
 ///
-/// - the head is not one of a string of this major type: `Mismatch` or `Eof`, as for every head
-/// - bytes are missing: `Eof` with the number of those that are missing, and nothing is left
-/// - in the place of a chunk or a break there is no byte: `Eof` by "break" with 1
-/// - no step is left for a chunk: `DepthOverflow`, and the chunk is left
-/// - a chunk is of indefinite length: `RequireLength` with `Indefinite`, behind its first byte
-/// - a chunk is no string of this major type, or is cut: `Mismatch` or `Eof`, as of the string
-///   itself
+/// `Read` and `OutOfMemory` are told at `Decode::decode`. The others come in this order, by "bytes"
+/// where no other name is said:
+///
+/// - `Eof` with 1: no byte is left
+/// - `Eof` with k: the argument of the head has k bytes and fewer are left. Nothing is left then
+/// - `Mismatch` with the first byte, which is taken: it begins no byte string
+/// - `Eof` with the number of bytes that are missing: the content is cut. Nothing is left then
+/// - `Eof` by "break" with 1: no byte is left in the place of a chunk or a break
+/// - `DepthOverflow`: no step is left for a chunk. The chunk is left
+/// - `RequireLength` with `Indefinite`: a chunk has an indefinite length. What follows its first
+///   byte is left
+/// - `Eof` or `Mismatch`, those of the string itself: a chunk is cut, or is no byte string. What is
+///   left is the same
 impl<S: Source> Decode<S> for Bytes<Vec<u8>> {
     #[inline(always)]
     fn decode(alloc: Global, reader: &mut S) -> Result<Bytes<Vec<u8>>, DecodeError<S::Error>> {
@@ -52,19 +58,25 @@ impl Spelled for UncheckedStr<Vec<u8>> {
     ghost lawful = { as_lawful (codes "str") 3 three_small unchecked_content };
 }
 
-/// A text string, whatever its bytes, of known or of indefinite length (RFC 8949 sections 3.1 and
-/// 3.2.3). Each chunk is a string of known length of the same major type, read under one step of
-/// the reader's budget. At most 16384 bytes are reserved before any came.
+/// A text string, whatever its bytes, of definite or of indefinite length (RFC 8949 sections 3.1
+/// and 3.2.3). Each chunk is a string of definite length of the same major type, read under one
+/// step of the reader's budget. At most 16384 bytes are reserved before any came.
 ///
-/// Refusals, in this order, by the name "str" where no other is said:
+/// # Errors
 ///
-/// - the head is not one of a string of this major type: `Mismatch` or `Eof`, as for every head
-/// - bytes are missing: `Eof` with the number of those that are missing, and nothing is left
-/// - in the place of a chunk or a break there is no byte: `Eof` by "break" with 1
-/// - no step is left for a chunk: `DepthOverflow`, and the chunk is left
-/// - a chunk is of indefinite length: `RequireLength` with `Indefinite`, behind its first byte
-/// - a chunk is no string of this major type, or is cut: `Mismatch` or `Eof`, as of the string
-///   itself
+/// `Read` and `OutOfMemory` are told at `Decode::decode`. The others come in this order, by "str"
+/// where no other name is said:
+///
+/// - `Eof` with 1: no byte is left
+/// - `Eof` with k: the argument of the head has k bytes and fewer are left. Nothing is left then
+/// - `Mismatch` with the first byte, which is taken: it begins no text string
+/// - `Eof` with the number of bytes that are missing: the content is cut. Nothing is left then
+/// - `Eof` by "break" with 1: no byte is left in the place of a chunk or a break
+/// - `DepthOverflow`: no step is left for a chunk. The chunk is left
+/// - `RequireLength` with `Indefinite`: a chunk has an indefinite length. What follows its first
+///   byte is left
+/// - `Eof` or `Mismatch`, those of the string itself: a chunk is cut, or is no text string. What is
+///   left is the same
 impl<S: Source> Decode<S> for UncheckedStr<Vec<u8>> {
     #[inline(always)]
     fn decode(
@@ -85,21 +97,27 @@ impl Spelled for String {
     ghost lawful = { text_lawful (codes "str") text_content };
 }
 
-/// A text string that is UTF-8, of known or of indefinite length (RFC 8949 sections 3.1 and 3.2.3).
-/// Each chunk is a string of known length of the same major type, read under one step of the
-/// reader's budget. The chunks are joined before they are tested to be UTF-8, so a character may
-/// stand across two of them. At most 16384 bytes are reserved before any came.
+/// A text string that is UTF-8, of definite or of indefinite length (RFC 8949 sections 3.1 and
+/// 3.2.3). Each chunk is a string of definite length of the same major type, read under one step of
+/// the reader's budget. The chunks are joined before they are tested to be UTF-8, so a character
+/// may stand across two of them. At most 16384 bytes are reserved before any came.
 ///
-/// Refusals, in this order, by the name "str" where no other is said:
+/// # Errors
 ///
-/// - the head is not one of a string of this major type: `Mismatch` or `Eof`, as for every head
-/// - bytes are missing: `Eof` with the number of those that are missing, and nothing is left
-/// - in the place of a chunk or a break there is no byte: `Eof` by "break" with 1
-/// - no step is left for a chunk: `DepthOverflow`, and the chunk is left
-/// - a chunk is of indefinite length: `RequireLength` with `Indefinite`, behind its first byte
-/// - a chunk is no string of this major type, or is cut: `Mismatch` or `Eof`, as of the string
-///   itself
-/// - it is not UTF-8: `RequireUtf8`, and the whole item is taken
+/// `Read` and `OutOfMemory` are told at `Decode::decode`. The others come in this order, by "str"
+/// where no other name is said:
+///
+/// - `Eof` with 1: no byte is left
+/// - `Eof` with k: the argument of the head has k bytes and fewer are left. Nothing is left then
+/// - `Mismatch` with the first byte, which is taken: it begins no text string
+/// - `Eof` with the number of bytes that are missing: the content is cut. Nothing is left then
+/// - `Eof` by "break" with 1: no byte is left in the place of a chunk or a break
+/// - `DepthOverflow`: no step is left for a chunk. The chunk is left
+/// - `RequireLength` with `Indefinite`: a chunk has an indefinite length. What follows its first
+///   byte is left
+/// - `Eof` or `Mismatch`, those of the string itself: a chunk is cut, or is no text string. What is
+///   left is the same
+/// - `RequireUtf8`: the text is not UTF-8. The whole item is taken then
 impl<S: Source> Decode<S> for String {
     #[inline(always)]
     fn decode(alloc: Global, reader: &mut S) -> Result<String, DecodeError<S::Error>> {

@@ -71,11 +71,14 @@ impl<S: Source> Deserializer<S> {
     ///
     /// # Errors
     ///
-    /// `Core` of `Read` where the reader failed. `Core` of `DepthOverflow` by the name "seq" where
-    /// no step is left, and nothing is taken. By the name "array": `Core` of `Eof` with 1 where no
-    /// byte is left, and with k where the length has k bytes and fewer are left, nothing being left
-    /// then; of `Mismatch` with the first byte, which is taken, where it begins no array. The
-    /// budget is as before then.
+    /// The budget is as before then.
+    ///
+    /// - `Core` of `Read`: the reader failed. A part of the head may be taken then
+    /// - `Core` of `DepthOverflow` by "seq": no step is left. Nothing is taken then
+    /// - `Core` of `Eof` by "array" with 1: no byte is left
+    /// - `Core` of `Eof` by "array" with k: the argument has k bytes and fewer are left. Nothing is
+    ///   left then
+    /// - `Core` of `Mismatch` by "array" with the first byte, which is taken: it begins no array
     pub fn deserialize_seq(&mut self) -> Result<Accessor<'_, S>, DecodeError<S::Error>>
         ensures* refused { sem 𝓛 (RestsIfErr (the_row S.row) self.entry lender_of result (λ new.
             RefusedAs (stepped_spelling (codes "seq") (length_spelling (codes "array") 4))
@@ -96,13 +99,15 @@ impl<S: Source> Deserializer<S> {
         }
     }
 
-    /// An array of a known length of `len`.
+    /// An array of a definite length of `len`.
     ///
     /// # Errors
     ///
-    /// As `deserialize_seq`, by the name "tuple" in the place of "seq". Besides, by that name,
-    /// `Core` of `RequireLength` with the length where it is another, as `Big` from 65536 on, and
-    /// with `Indefinite` where it is indefinite; the head is taken then.
+    /// - those of `deserialize_seq`, by "tuple" in the place of "seq"
+    /// - `Core` of `RequireLength` by "tuple" with the length, as `Big` from 65536 on: it is
+    ///   another than `len`. The head is taken then
+    /// - `Core` of `RequireLength` by "tuple" with `Indefinite`: the length is indefinite. The head
+    ///   is taken then
     pub fn deserialize_tuple(
         &mut self,
         len: usize,
@@ -131,7 +136,7 @@ impl<S: Source> Deserializer<S> {
     ///
     /// # Errors
     ///
-    /// As `deserialize_seq`, by the name "map" in the place of "seq" and "array".
+    /// Those of `deserialize_seq`, by "map" in the place of "seq" and "array".
     pub fn deserialize_map(&mut self) -> Result<Accessor<'_, S>, DecodeError<S::Error>>
         ensures* refused { sem 𝓛 (RestsIfErr (the_row S.row) self.entry lender_of result (λ new.
             RefusedAs (stepped_spelling (codes "map") (length_spelling (codes "map") 5))
@@ -152,7 +157,12 @@ impl<S: Source> Deserializer<S> {
         }
     }
 
-    /// A struct whose fields have no names: as `deserialize_tuple`. Its own name is not spelled.
+    /// A struct whose fields have no names, read by `deserialize_tuple`. Its own name is not
+    /// spelled.
+    ///
+    /// # Errors
+    ///
+    /// Those of `deserialize_tuple`.
     pub fn deserialize_tuple_struct(
         &mut self,
         name: StaticStr,
@@ -171,8 +181,12 @@ impl<S: Source> Deserializer<S> {
         self.deserialize_tuple(len)
     }
 
-    /// A struct, as a map of its fields' names and values: as `deserialize_map`. Its own name is
-    /// not spelled, and no name of a field is asked for.
+    /// A struct, as a map of its fields' names and values, read by `deserialize_map`. Its own name
+    /// is not spelled, and no name of a field is asked for.
+    ///
+    /// # Errors
+    ///
+    /// Those of `deserialize_map`.
     pub fn deserialize_struct(
         &mut self,
         name: StaticStr,
@@ -202,9 +216,11 @@ impl<'a, S: Source> Accessor<'a, S> {
     ///
     /// # Errors
     ///
-    /// Only at an indefinite length: `Core` of `Read` where the reader failed, and of `Eof` by the
-    /// name "break" with 1 where no byte is left. Nothing is taken then, and the length stays
-    /// indefinite, so that a further call asks again. The budget is as before.
+    /// They come only at an indefinite length, which stays indefinite, so that a further call asks
+    /// again. Nothing is taken then, and the budget is as before.
+    ///
+    /// - `Core` of `Read`: the reader failed
+    /// - `Core` of `Eof` by "break" with 1: no byte is left
     pub fn starts_element(&mut self) -> Result<bool, DecodeError<S::Error>>
         ensures decodes { Decodes (start_spelling (left_in self.old))
             (inside S.view self.old) (inside S.view self.new) (answer_of result) }
@@ -246,10 +262,11 @@ impl<'a, S: Source> Accessor<'a, S> {
     ///
     /// # Errors
     ///
-    /// No error comes at the end. Else those of the item, with what they leave. An item that is
-    /// counted was counted off before it was read. At an indefinite length, `Core` of `Read` where
-    /// the reader failed, and of `Eof` by the name "break" with 1 where no byte is left; the length
-    /// stays indefinite, whatever was refused. The budget is as before.
+    /// No error comes at the end. The budget is as before.
+    ///
+    /// - those of `starts_element`, at an indefinite length
+    /// - those of the item, with what they leave. An item that is counted was counted off before it
+    ///   was read, and an indefinite length stays indefinite
     pub fn next_element<T: Deserialize<S>>(
         &mut self,
         alloc: Global,
@@ -269,7 +286,11 @@ impl<'a, S: Source> Accessor<'a, S> {
         }
     }
 
-    /// The next key of a map, or none at the end: as `next_element`.
+    /// The next key of a map, or none at the end, read by `next_element`.
+    ///
+    /// # Errors
+    ///
+    /// Those of `next_element`.
     pub fn next_key<K: Deserialize<S>>(
         &mut self,
         alloc: Global,
@@ -304,9 +325,11 @@ impl<'a, S: Source> Accessor<'a, S> {
     ///
     /// # Errors
     ///
-    /// No error comes at the end. Else those of `next_key`, and of the value, with what they leave.
-    /// Where entries are counted, this one was counted off, and a key that was whole was taken. The
-    /// budget is as before.
+    /// No error comes at the end. The budget is as before.
+    ///
+    /// - those of `next_key`
+    /// - those of the value, with what they leave. The key was taken then. Where entries are
+    ///   counted, this one was counted off
     pub fn next_entry<K: Deserialize<S> + Drop, V: Deserialize<S>>(
         &mut self,
         alloc: Global,

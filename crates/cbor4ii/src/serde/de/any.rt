@@ -33,18 +33,20 @@ impl<S: Source> Deserializer<S> {
     ///
     /// # Errors
     ///
-    /// As `Core`, but for the last one. `Read` where the reader failed, `OutOfMemory` where a
-    /// growth was refused, and else, with what each leaves:
+    /// `Read` and `OutOfMemory` are told at `Deserialize::deserialize`. All but the last one come
+    /// as `Core`:
     ///
-    /// - no step is left: `DepthOverflow` by "any", and nothing is taken
-    /// - no byte is left: `Eof` by "any" with 1, and nothing is left
-    /// - a tag whose first byte is neither `c2` nor `c3`, or a byte of major type 7 that is no
-    ///   false, true, null, undefined or float: `Unsupported` by "any" with the byte, which stays
-    /// - an integer is refused as an `i128`, behind `c2` as a `u128`, and a float, a byte string
-    ///   and a text as `F16`, `F32`, `F64`, `Bytes<Vec<u8>>` and `String` are
-    /// - an array is refused as a `Vec<Value>` is, and a map as a `BTreeMap` is
-    /// - `c2` stands before a number of 2^127 or more: `Custom` of "integer out of range", and the
-    ///   item is taken
+    /// - `DepthOverflow` by "any": no step is left. Nothing is taken then
+    /// - `Eof` by "any" with 1: no byte is left
+    /// - `Unsupported` by "any" with the first byte, which stays: it begins a tag and is neither
+    ///   `c2` nor `c3`. Or it is of major type 7, and none of `f4` to `f7` and `f9` to `fb`
+    /// - those of `i128` for an integer, also for one of tag 3, and those of `u128` where the first
+    ///   byte is `c2`
+    /// - those of `F16`, `F32`, `F64`, `Bytes<Vec<u8>>` and `String` for a float, a byte string and
+    ///   a text
+    /// - those of `Vec<Value>` for an array, and of `BTreeMap` for a map
+    /// - `Custom` of "integer out of range": `c2` stands before a number of 2^127 or more. The item
+    ///   is taken then
     pub fn deserialize_any(&mut self, alloc: Global) -> Result<Value, DecodeError<S::Error>>
         ensures { Deserializes ⟦<Value as Typed>⟧.promise
             (input S.view self.old) (input S.view self.new) (answer_of result) }
@@ -57,7 +59,11 @@ impl Typed for Value {
     ghost promise = { typed_by StopsAny true true any_laws };
 }
 
-/// As `Deserializer::deserialize_any`.
+/// Any item but a tag, read by `Deserializer::deserialize_any`.
+///
+/// # Errors
+///
+/// Those of `Deserializer::deserialize_any`.
 impl<S: Source> Deserialize<S> for Value {
     fn deserialize(
         alloc: Global,

@@ -28,9 +28,13 @@ impl<'de> Typed for &'de str {
     ghost promise = { unlent_text };
 }
 
-/// A text of known length, as it stands in the input, with no copy. It is read as a `CowStr` is,
-/// and refused as that is. One that was copied, since its length is indefinite or the reader does
-/// not lend it, is `Core` of `RequireBorrowed` by the name "str", and was taken.
+/// A text of definite length, as it stands in the input, with no copy. It is read as a `CowStr` is.
+///
+/// # Errors
+///
+/// - those of `CowStr`
+/// - `Core` of `RequireBorrowed` by "str": the text was copied, since its length is indefinite or
+///   the reader does not lend it. It was taken then
 impl<'de> Deserialize<SliceReader<'de>> for &'de str {
     fn deserialize(
         alloc: Global,
@@ -41,8 +45,12 @@ impl<'de> Deserialize<SliceReader<'de>> for &'de str {
     }
 }
 
-/// As over a slice, but that a text of which no segment holds the whole content was copied too, and
-/// so is refused.
+/// A text of definite length that stands in one segment, with no copy.
+///
+/// # Errors
+///
+/// Those over a slice. A text of which no segment holds the whole content was copied too, and so is
+/// `RequireBorrowed`.
 impl<'de> Deserialize<SegmentReader<'de>> for &'de str {
     fn deserialize(
         alloc: Global,
@@ -53,8 +61,12 @@ impl<'de> Deserialize<SegmentReader<'de>> for &'de str {
     }
 }
 
-/// As over a slice, but that a stream lends nothing: every whole text was copied, and so is
-/// refused.
+/// A stream lends nothing, so no text is read.
+///
+/// # Errors
+///
+/// One comes always: those over a slice, or `Core` of `Read` where the stream failed. Every whole
+/// text was copied, and so is `RequireBorrowed`.
 impl<'de, R: BufRead + Drop> Deserialize<IoReader<R>> for &'de str {
     fn deserialize(
         alloc: Global,
@@ -89,8 +101,14 @@ impl<'de> Typed for Bytes<&'de [u8]> {
     ghost promise = { unlent_bytes };
 }
 
-/// A byte string of known length, as it stands in the input: as a borrowed text, by the name
-/// "bytes". It is the input's own part: what is left begins right behind it.
+/// A byte string of definite length, as it stands in the input, read as a borrowed text is. It is
+/// the input's own part: what is left begins right behind it.
+///
+/// # Errors
+///
+/// - those of `Bytes<CowSlice<u8>>`
+/// - `Core` of `RequireBorrowed` by "bytes": the byte string was copied, since its length is
+///   indefinite or the reader does not lend it. It was taken then
 impl<'de> Deserialize<SliceReader<'de>> for Bytes<&'de [u8]> {
     fn deserialize(
         alloc: Global,
@@ -106,8 +124,12 @@ impl<'de> Deserialize<SliceReader<'de>> for Bytes<&'de [u8]> {
     }
 }
 
-/// As over a slice, but that a byte string of which no segment holds the whole content was copied
-/// too, and so is refused.
+/// A byte string of definite length that stands in one segment, with no copy.
+///
+/// # Errors
+///
+/// Those over a slice. A byte string of which no segment holds the whole content was copied too,
+/// and so is `RequireBorrowed`.
 impl<'de> Deserialize<SegmentReader<'de>> for Bytes<&'de [u8]> {
     fn deserialize(
         alloc: Global,
@@ -118,8 +140,12 @@ impl<'de> Deserialize<SegmentReader<'de>> for Bytes<&'de [u8]> {
     }
 }
 
-/// As over a slice, but that a stream lends nothing: every whole byte string was copied, and so is
-/// refused.
+/// A stream lends nothing, so no byte string is read.
+///
+/// # Errors
+///
+/// One comes always: those over a slice, or `Core` of `Read` where the stream failed. Every whole
+/// byte string was copied, and so is `RequireBorrowed`.
 impl<'de, R: BufRead + Drop> Deserialize<IoReader<R>> for Bytes<&'de [u8]> {
     fn deserialize(
         alloc: Global,

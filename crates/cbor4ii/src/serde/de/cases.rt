@@ -30,11 +30,18 @@ pub enum Choice<A, B> {
 
 /// What a variant holds, as a value of type `T`.
 pub trait Case<S: Source, T>: Sized + Drop {
-    // What stands for the value, behind the name and alone.
+    // What stands for the value: a content behind the name, or the name alone; and how what stands
+    // there is refused, by the form.
     ghost holding: { Holding T };
 
     /// Reads it behind the name. `form` says whether a content stands there, and the first byte of
     /// the variant.
+    ///
+    /// # Errors
+    ///
+    /// Those that `holding` tells for this form, with what they leave. `Unit` and `Holds` answer
+    /// `Core` of `Mismatch` by "enum" with the variant's first byte where it has the other form.
+    /// Nothing is taken then. Of `Holds` those of the value come too.
     fn take(
         self,
         alloc: Global,
@@ -97,10 +104,17 @@ impl<S: Source, T: Deserialize<S>> Case<S, T> for Holds {
 /// What the variants of an enum hold, one behind another, in the order of their names: nested
 /// pairs, and behind them `Otherwise`.
 pub trait Cases<S: Source, R>: Sized + Drop {
-    // The variants that have these names.
+    // The variants that have these names: what stands for the values of each, and how it is
+    // refused.
     ghost cases: { Self → List (Bor (List ℕ)) → Variants R };
 
     /// Reads what the variant holds whose name stands at this place among the names.
+    ///
+    /// # Errors
+    ///
+    /// Those that `cases` tells for the name, with what they leave. Of a pair they are those of its
+    /// variant, or of the variants behind it. Of `Otherwise` it is `Custom` in its words, and what
+    /// stands behind the name stays.
     fn take(
         self,
         alloc: Global,
@@ -180,10 +194,12 @@ impl<S: Source> Deserializer<S> {
     ///
     /// # Errors
     ///
-    /// Those of `deserialize_enum`. Behind the form, as they come: those of `String` for the name;
-    /// `Custom` in the words of `Otherwise` for another name, which is taken; `Core` of `Mismatch`
-    /// by the name "enum" with the variant's first byte, behind the name, where the variant has the
-    /// other form; and those of what it holds.
+    /// - those of `deserialize_enum`, at the form
+    /// - those of `String`, at the name
+    /// - `Custom` in the words of `Otherwise`: the name is that of no variant. It is taken then
+    /// - `Core` of `Mismatch` by "enum" with the variant's first byte: the variant has the other
+    ///   form. What stands behind the name is left
+    /// - those of what the variant holds, with what they leave
     pub fn deserialize_variant<T: From<R>, R: Drop, C: Cases<S, R>>(
         &mut self,
         alloc: Global,

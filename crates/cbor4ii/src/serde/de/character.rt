@@ -14,10 +14,11 @@ impl Typed for char {
     ghost promise = { typed_by StopsChar true true char_laws };
 }
 
-/// A text of exactly one character, read as `Deserializer::deserialize_char` reads it.
+/// A text of exactly one character, read by `Deserializer::deserialize_char`.
 ///
-/// Refused as a `String` is, and with what that leaves. Where the text is whole and has no
-/// character, or more than one, `Custom` of "expected one character", and the whole item is taken.
+/// # Errors
+///
+/// Those of `Deserializer::deserialize_char`.
 impl<S: Source> Deserialize<S> for char {
     fn deserialize(alloc: Global, de: &mut Deserializer<S>) -> Result<char, DecodeError<S::Error>> {
         de.deserialize_char(alloc)
@@ -25,13 +26,14 @@ impl<S: Source> Deserialize<S> for char {
 }
 
 impl<S: Source> Deserializer<S> {
-    /// A text of exactly one character, of known or indefinite length; one of indefinite length
+    /// A text of exactly one character, of definite or indefinite length. One of indefinite length
     /// needs a step for its chunks, and a character may stand across two of them.
     ///
     /// # Errors
     ///
-    /// Those of `String`, with what they leave. Where the text is whole and has no character, or
-    /// more than one, `Custom` of "expected one character", and the whole item is taken.
+    /// - those of `String`, with what they leave
+    /// - `Custom` of "expected one character": the text is whole and has no character, or more than
+    ///   one. The whole item is taken then
     pub fn deserialize_char(&mut self, alloc: Global) -> Result<char, DecodeError<S::Error>>
         ensures { Deserializes ⟦<char as Typed>⟧.promise
             (input S.view self.old) (input S.view self.new) (answer_of result) }

@@ -27,8 +27,11 @@ impl<'de> Typed for CowStr<'de, Global> {
     ghost promise = { exactly refl (text_lawful (codes "str") cow_text) };
 }
 
-/// A text: a part of the input where its length is known, a copy of its chunks where it is not.
-/// Refused as `CowStr` is when it is decoded, by the name "str" where that has no other.
+/// A text: a part of the input where its length is definite, a copy of its chunks where it is not.
+///
+/// # Errors
+///
+/// Those of `CowStr` as an item of the codec, each as `Core`.
 impl<'de> Deserialize<SliceReader<'de>> for CowStr<'de, Global> {
     fn deserialize(
         alloc: Global,
@@ -44,7 +47,12 @@ impl<'de> Deserialize<SliceReader<'de>> for CowStr<'de, Global> {
     }
 }
 
-/// As over a slice, where the text stands in one segment, and a copy elsewhere.
+/// A part of the input where the text has a definite length and stands in one segment, and a copy
+/// elsewhere.
+///
+/// # Errors
+///
+/// Those over a slice.
 impl<'de> Deserialize<SegmentReader<'de>> for CowStr<'de, Global> {
     fn deserialize(
         alloc: Global,
@@ -60,7 +68,11 @@ impl<'de> Deserialize<SegmentReader<'de>> for CowStr<'de, Global> {
     }
 }
 
-/// As over a slice, and always a copy, since a stream lends nothing.
+/// Always a copy, since a stream lends nothing.
+///
+/// # Errors
+///
+/// Those over a slice, and `Core` of `Read` where the stream failed.
 impl<'de, R: BufRead + Drop> Deserialize<IoReader<R>> for CowStr<'de, Global> {
     fn deserialize(
         alloc: Global,
@@ -79,9 +91,12 @@ impl<'de> Typed for Bytes<CowSlice<'de, u8, Global>> {
     ghost promise = { exactly refl (as_lawful (codes "bytes") 2 two_small cow_bytes) };
 }
 
-/// A byte string: a part of the input where its length is known, a copy of its chunks where it is
-/// not. Refused as `Bytes<CowSlice<u8>>` is when it is decoded, by the name "bytes" where that has
-/// no other.
+/// A byte string: a part of the input where its length is definite, a copy of its chunks where it
+/// is not.
+///
+/// # Errors
+///
+/// Those of `Bytes<CowSlice<u8>>` as an item of the codec, each as `Core`.
 impl<'de> Deserialize<SliceReader<'de>> for Bytes<CowSlice<'de, u8, Global>> {
     fn deserialize(
         alloc: Global,
@@ -98,7 +113,12 @@ impl<'de> Deserialize<SliceReader<'de>> for Bytes<CowSlice<'de, u8, Global>> {
     }
 }
 
-/// As over a slice, where the string stands in one segment, and a copy elsewhere.
+/// A part of the input where the string has a definite length and stands in one segment, and a copy
+/// elsewhere.
+///
+/// # Errors
+///
+/// Those over a slice.
 impl<'de> Deserialize<SegmentReader<'de>> for Bytes<CowSlice<'de, u8, Global>> {
     fn deserialize(
         alloc: Global,
@@ -115,7 +135,11 @@ impl<'de> Deserialize<SegmentReader<'de>> for Bytes<CowSlice<'de, u8, Global>> {
     }
 }
 
-/// As over a slice, and always a copy, since a stream lends nothing.
+/// Always a copy, since a stream lends nothing.
+///
+/// # Errors
+///
+/// Those over a slice, and `Core` of `Read` where the stream failed.
 impl<'de, R: BufRead + Drop> Deserialize<IoReader<R>> for Bytes<CowSlice<'de, u8, Global>> {
     fn deserialize(
         alloc: Global,

@@ -26,13 +26,18 @@ pub trait Deserialize<S: Source>: Typed {
     ///
     /// # Errors
     ///
-    /// `Core` of `Read` where the reader failed in the call, and only there; its bytes may then be
-    /// told no more. `Core` of `OutOfMemory` only from a type that may take memory, where a growth
-    /// was refused. Every other error speaks of the bytes, and `Core` of `DepthOverflow` comes only
-    /// where the reader has a budget. Of an exact type, if it needs no borrowed part, or the reader
-    /// lends whole and has fewer than 2^64 bytes left, they come only where no value of the type
-    /// whose steps fit the budget begins the bytes. Of a type that tells its refusals, which error
-    /// it is, with which fields, and which bytes are left, is what `begins` of its spelling says.
+    /// - `Core` of `Read` with the reader's error: the reader failed in the call. A part of the
+    ///   value may be taken then. The bytes that are left stay told where the reader remembers
+    ///   them, and may be told no more otherwise
+    /// - `Core` of `OutOfMemory`: a growth was refused. Only a type that may take memory answers
+    ///   it, and a part of the value may be taken then
+    /// - all other errors speak of the bytes. `Core` of `DepthOverflow` comes only where the
+    ///   reader has a budget
+    ///
+    /// Of an exact type that needs no borrowed part, these come only where no value whose
+    /// steps fit the budget begins the bytes. The same holds of another exact type where the reader
+    /// lends whole and has fewer than 2^64 bytes left. Of a type that tells its refusals, `begins`
+    /// of its spelling says which error it is, with which fields, and which bytes are left.
     fn deserialize(alloc: Global, de: &mut Deserializer<S>) -> Result<Self, DecodeError<S::Error>>
         ensures { Deserializes Self.promise
             (input S.view de.old) (input S.view de.new) (answer_of result) };

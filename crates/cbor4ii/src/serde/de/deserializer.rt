@@ -56,7 +56,7 @@ impl<S: Source> Deserializer<S> {
     ///
     /// # Errors
     ///
-    /// Those of its `decode`, each as `Core`, with what they leave.
+    /// Those of its `Decode::decode`, each as `Core`, with what they leave.
     pub fn deserialize_item<T: Decode<S>>(
         &mut self,
         alloc: Global,

@@ -66,10 +66,13 @@ impl<S: Source> Deserializer<S> {
     ///
     /// # Errors
     ///
-    /// `Core` of `Read` where the reader failed. By the name "enum": `Core` of `DepthOverflow`
-    /// where no step is left, of `Eof` with 1 where no byte is left, and of `Mismatch` with the
-    /// first byte where it begins neither a text nor a map of one entry in one byte. Nothing is
-    /// taken then.
+    /// Nothing is taken then, and the budget is as before.
+    ///
+    /// - `Core` of `Read`: the reader failed
+    /// - `Core` of `DepthOverflow` by "enum": no step is left
+    /// - `Core` of `Eof` by "enum" with 1: no byte is left
+    /// - `Core` of `Mismatch` by "enum" with the first byte: it begins neither a text nor a map of
+    ///   one entry in one byte
     #[inline(always)]
     pub fn deserialize_enum(
         &mut self,
@@ -213,8 +216,12 @@ fn begin_map_content<S: Source>(
 }
 
 /// First the name, by `variant`, and then one of the others. Each of the others asks which form the
-/// variant has before anything else: where it has the other one, it is `Core` of `Mismatch` by the
-/// name "enum" with the first byte of the variant, and nothing is taken.
+/// variant has before anything else.
+///
+/// # Errors
+///
+/// Each of the others answers `Core` of `Mismatch` by "enum" with the first byte of the variant
+/// where it has the other form. Nothing is taken then.
 impl<'a, S: Source> EnumAccessor<'a, S> {
     /// The variant's name.
     ///
@@ -233,6 +240,11 @@ impl<'a, S: Source> EnumAccessor<'a, S> {
 
     /// A variant that is its name alone: nothing more is read. The step is given back, whatever the
     /// answer is.
+    ///
+    /// # Errors
+    ///
+    /// `Core` of `Mismatch` by "enum" with the variant's first byte: a content follows the name.
+    /// Nothing is taken then.
     #[inline(always)]
     pub fn unit_variant(self) -> Result<(), DecodeError<S::Error>>
         ensures closes { Closes 1 (inside_enum S.view self.entry) (input S.view self.exit.0.now) }
@@ -251,6 +263,11 @@ impl<'a, S: Source> EnumAccessor<'a, S> {
 
     /// The deserializer that the content is read from, for a content that a free function reads.
     /// The step stays taken, whatever the answer is.
+    ///
+    /// # Errors
+    ///
+    /// `Core` of `Mismatch` by "enum" with the variant's first byte: no content follows the name.
+    /// Nothing is taken then.
     pub fn content(&mut self) -> Result<&mut Deserializer<S>, DecodeError<S::Error>>
         ensures* writes_back { sem 𝓛 (LendsIfOk (the_enum (record { mir = named 0; lft = [] })
             S.row S.Error.row)
@@ -274,7 +291,8 @@ impl<'a, S: Source> EnumAccessor<'a, S> {
     ///
     /// # Errors
     ///
-    /// Besides, those of the value, with what they leave.
+    /// - that of `content`, where no content follows the name
+    /// - those of the value, with what they leave
     #[inline(always)]
     pub fn newtype_variant<T: Deserialize<S>>(
         self,
@@ -312,12 +330,15 @@ impl<'a, S: Source> EnumAccessor<'a, S> {
         T::deserialize(alloc, self.de)
     }
 
-    /// A variant that holds items without names: as `deserialize_tuple`. The accessor holds the
-    /// step of the variant too.
+    /// A variant that holds items without names, read by `deserialize_tuple`. The accessor holds
+    /// the step of the variant too.
     ///
     /// # Errors
     ///
-    /// Besides, those of `deserialize_tuple`. The step of the variant is given back then.
+    /// The step of the variant is given back then.
+    ///
+    /// - that of `content`, where no content follows the name
+    /// - those of `deserialize_tuple`
     pub fn tuple_variant(self, len: usize) -> Result<Accessor<'a, S>, DecodeError<S::Error>>
         ensures* refused { sem 𝓛 (RestsIfErr (the_row S.row) (reference_of_enum self.entry)
             lender_of result (λ new.
@@ -349,12 +370,15 @@ impl<'a, S: Source> EnumAccessor<'a, S> {
         }
     }
 
-    /// A variant that holds named fields: as `deserialize_map`. The accessor holds the step of the
-    /// variant too.
+    /// A variant that holds named fields, read by `deserialize_map`. The accessor holds the step of
+    /// the variant too.
     ///
     /// # Errors
     ///
-    /// Besides, those of `deserialize_map`. The step of the variant is given back then.
+    /// The step of the variant is given back then.
+    ///
+    /// - that of `content`, where no content follows the name
+    /// - those of `deserialize_map`
     pub fn struct_variant(self) -> Result<Accessor<'a, S>, DecodeError<S::Error>>
         ensures* refused { sem 𝓛 (RestsIfErr (the_row S.row) (reference_of_enum self.entry)
             lender_of result (λ new.

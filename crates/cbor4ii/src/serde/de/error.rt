@@ -29,7 +29,7 @@ impl<E> DecodeError<E> {
     }
 }
 
-/// As `Core`.
+/// The codec's own error, in `Core`.
 impl<E> From<core_error::DecodeError<E>> for DecodeError<E> {
     ghost from_gives = { λ error result. result ≡ Core error };
 

@@ -10,11 +10,12 @@ ghost use Rattle.cbor4ii.specs.Structs.{Fields, no_more, field, fields_by, behin
 ghost use Rattle.cbor4ii.specs.Structs.{entries_of, struct_of};
 ghost use Rattle.cbor4ii.specs.Typed.{input, answer_of, Deserializes};
 
-use crate::serde::de::deserialize::{Deserialize, Typed};
+use crate::serde::de::deserialize::Deserialize;
 use crate::serde::de::deserializer::Deserializer;
 use crate::serde::de::error::DecodeError;
 use crate::serde::de::names::take_name;
 use crate::serde::de::parts::takes_break;
+use crate::serde::de::place::Place;
 use crate::serde::de::presence::Presences;
 use cbor4ii_items::types::Map;
 use cbor4ii_rw::error as core_error;
@@ -24,7 +25,7 @@ use std::alloc::Global;
 
 /// The values of named fields while they are read: nested pairs, in the order of their names.
 pub trait Places: Sized {
-    // The fields that have these names.
+    // The fields that have these names, with what the type of each promises.
     ghost fields: { List (Bor (List ℕ)) → Fields Self };
 
     /// The values of no entry.
@@ -41,18 +42,23 @@ impl Places for () {
 }
 
 /// A field, and those behind it.
-impl<T: Typed, V: Places> Places for (Option<T>, V) {
-    ghost fields = { fields_by T.promise V.fields };
+impl<P: Place, V: Places> Places for (P, V) {
+    ghost fields = { fields_by P.place P.Value.promise V.fields };
 
     #[inline(always)]
-    fn none() -> (Option<T>, V) {
-        (None, V::none())
+    fn none() -> (P, V) {
+        (P::empty(), V::none())
     }
 }
 
 /// The values of named fields, as they are read.
 pub trait Values<S: Source>: Places {
     /// Reads the value of the field whose name stands at this place, and skips one of another name.
+    ///
+    /// # Errors
+    ///
+    /// Those of the field's value, and of `deserialize_ignored_any` for an entry of another name,
+    /// with what they leave.
     #[inline(always)]
     fn take(
         &mut self,
@@ -81,7 +87,10 @@ impl<S: Source> Values<S> for () {
 }
 
 /// A field, and those behind it.
-impl<S: Source, T: Deserialize<S> + Drop, V: Values<S>> Values<S> for (Option<T>, V) {
+impl<S: Source, P: Place, V: Values<S>> Values<S> for (P, V)
+where
+    P::Value: Deserialize<S>,
+{
     #[inline(always)]
     fn take(
         &mut self,
@@ -95,9 +104,9 @@ impl<S: Source, T: Deserialize<S> + Drop, V: Values<S>> Values<S> for (Option<T>
                 if at > 0 {
                     return self.1.take(alloc, behind, at - 1, de);
                 }
-                match T::deserialize(alloc, de) {
+                match <P::Value>::deserialize(alloc, de) {
                     Ok(value) => {
-                        self.0 = Some(value);
+                        self.0.put(value);
                         Ok(())
                     }
                     Err(error) => Err(error),
@@ -203,8 +212,8 @@ fn open_fields<S: Source, V: Values<S>>(
 
 /// Each of these reads a struct: a map from its fields' names to their values, of any length, in
 /// any order. An entry of another name is skipped, a field of which no entry came is none, and of
-/// several entries of one name the last counts. Of two fields of one name the first is read. The
-/// struct's own name is not spelled.
+/// several entries of one name the last counts, or the struct is refused where the field may come
+/// once. Of two fields of one name the first is read. The struct's own name is not spelled.
 ///
 /// A name is read as a `String`, and what is skipped as `IgnoredAny`, both under the step of the
 /// map. A name takes no memory where it stands whole in what the reader shows, behind its length in
@@ -212,20 +221,24 @@ fn open_fields<S: Source, V: Values<S>>(
 ///
 /// # Errors
 ///
-/// Those of `deserialize_map`; behind its head, as they come: `Core` of `Eof` by the name "break"
-/// with 1 where the length is indefinite and no byte is left, those of `String` for a name, those
-/// of the field for its value, and those of `IgnoredAny` for what is skipped. What was read before
-/// is let go then, and what stands behind it is left.
+/// They are told at `deserialize_fields`, which alone answers one for a field that is missing. What
+/// was read before is let go then, and what stands behind it is left.
 impl<S: Source> Deserializer<S> {
     /// A struct of any number of fields, which have these names. `presences` says of each whether
-    /// it has to be there, and what stands in its place else. `missing` has the words of each, in
-    /// the order of the names, with which a struct is refused that lacks it. The struct is made of
-    /// the values, nested pairs in the order of the names.
+    /// it has to be there, what stands in its place else, and whether it may come once alone.
+    /// `missing` has the words of each, in the order of the names, with which a struct is refused
+    /// that lacks it, or in which it comes again. The struct is made of the values, nested pairs in
+    /// the order of the names.
     ///
     /// # Errors
     ///
-    /// Besides, `Custom` in the words of the first field that is missing and has to be there. The
-    /// whole struct was taken then.
+    /// - those of `deserialize_map`, at the head
+    /// - `Core` of `Eof` by "break" with 1: the length is indefinite, and no byte is left where a
+    ///   name or a break should come
+    /// - those of `String` for a name, of the field for its value, and of `IgnoredAny` for what is
+    ///   skipped, with what they leave
+    /// - `Custom` in the words of the first field that is missing and has to be there, or that came
+    ///   more than once and may come once. The whole struct was taken then
     pub fn deserialize_fields<T: From<P::Values>, V: Values<S> + Drop, P: Presences<V>>(
         &mut self,
         alloc: Global,
@@ -249,6 +262,10 @@ impl<S: Source> Deserializer<S> {
     }
 
     /// A struct of one field. Of several entries of one name the last counts.
+    ///
+    /// # Errors
+    ///
+    /// Those of `deserialize_fields`, but for `Custom` of a missing field, which is none here.
     pub fn deserialize_1_field<A: Deserialize<S> + Drop>(
         &mut self,
         alloc: Global,
@@ -270,6 +287,10 @@ impl<S: Source> Deserializer<S> {
     }
 
     /// A struct of two fields. Of several entries of one name the last counts.
+    ///
+    /// # Errors
+    ///
+    /// Those of `deserialize_fields`, but for `Custom` of a missing field, which is none here.
     pub fn deserialize_2_fields<A: Deserialize<S> + Drop, B: Deserialize<S> + Drop>(
         &mut self,
         alloc: Global,
@@ -292,6 +313,10 @@ impl<S: Source> Deserializer<S> {
     }
 
     /// A struct of three fields. Of several entries of one name the last counts.
+    ///
+    /// # Errors
+    ///
+    /// Those of `deserialize_fields`, but for `Custom` of a missing field, which is none here.
     pub fn deserialize_3_fields<
         A: Deserialize<S> + Drop,
         B: Deserialize<S> + Drop,
@@ -320,6 +345,10 @@ impl<S: Source> Deserializer<S> {
     }
 
     /// A struct of four fields. Of several entries of one name the last counts.
+    ///
+    /// # Errors
+    ///
+    /// Those of `deserialize_fields`, but for `Custom` of a missing field, which is none here.
     pub fn deserialize_4_fields<
         A: Deserialize<S> + Drop,
         B: Deserialize<S> + Drop,
@@ -350,6 +379,10 @@ impl<S: Source> Deserializer<S> {
     }
 
     /// A struct of five fields. Of several entries of one name the last counts.
+    ///
+    /// # Errors
+    ///
+    /// Those of `deserialize_fields`, but for `Custom` of a missing field, which is none here.
     pub fn deserialize_5_fields<
         A: Deserialize<S> + Drop,
         B: Deserialize<S> + Drop,
@@ -387,6 +420,10 @@ impl<S: Source> Deserializer<S> {
     }
 
     /// A struct of six fields. Of several entries of one name the last counts.
+    ///
+    /// # Errors
+    ///
+    /// Those of `deserialize_fields`, but for `Custom` of a missing field, which is none here.
     pub fn deserialize_6_fields<
         A: Deserialize<S> + Drop,
         B: Deserialize<S> + Drop,

@@ -18,7 +18,7 @@ pub trait Input {
     /// Its reader.
     type Reader: Source + Drop;
 
-    // Its bytes.
+    // Its bytes, all of which its reader tells.
     ghost bytes: { Self → List ℕ };
 
     /// A reader over it, with 256 steps.
@@ -44,10 +44,11 @@ impl<'a> Input for &'a [u8] {
 ///
 /// # Errors
 ///
-/// `Core` of `OutOfMemory` where a growth was refused, of a type that takes memory; of `Read` only
-/// over an input of a user's own whose reader may fail. Any other error comes, of an exact type,
-/// only where no value of the type whose steps are at most 256 begins the slice. Of a type that
-/// tells its refusals it is the one that `begins` of its spelling says.
+/// - `Core` of `OutOfMemory`: a growth was refused, of a type that takes memory
+/// - `Core` of `Read`: only over an input of a user's own whose reader may fail
+/// - any other error comes, of an exact type, only where no value whose steps are at most 256
+///   begins the slice. Of a type that tells its refusals it is the one that `begins` of its
+///   spelling says
 pub fn from_slice<I: Input, T: Deserialize<I::Reader>>(
     alloc: Global,
     input: I,
@@ -65,10 +66,11 @@ pub fn from_slice<I: Input, T: Deserialize<I::Reader>>(
 ///
 /// # Errors
 ///
-/// `Core` of `Read` where the stream failed, and of `OutOfMemory` where a growth was refused, of a
-/// type that takes memory. Of a type that tells its refusals, any other error is the one that
-/// `begins` of its spelling says. Of an exact type that needs no borrowed part, it comes only where
-/// no value of the type whose steps are at most 256 begins these bytes.
+/// - `Core` of `Read`: the stream failed
+/// - `Core` of `OutOfMemory`: a growth was refused, of a type that takes memory
+/// - any other error is, of a type that tells its refusals, the one that `begins` of its spelling
+///   says. Of an exact type that needs no borrowed part, it comes only where no value whose steps
+///   are at most 256 begins these bytes
 pub fn from_reader<R: BufRead + Drop, T: Deserialize<IoReader<R>>>(
     alloc: Global,
     reader: R,

@@ -19,7 +19,11 @@ impl Typed for IgnoredAny {
     ghost promise = { exactly refl ignored_lawful };
 }
 
-/// Any item, of which nothing is kept: read and refused as `deserialize_ignored_any` says.
+/// Any item, of which nothing is kept, read by `Deserializer::deserialize_ignored_any`.
+///
+/// # Errors
+///
+/// Those of `Deserializer::deserialize_ignored_any`.
 impl<S: Source> Deserialize<S> for IgnoredAny {
     fn deserialize(
         alloc: Global,
@@ -34,8 +38,8 @@ impl<S: Source> Deserializer<S> {
     ///
     /// # Errors
     ///
-    /// `Core` of the error that `IgnoredAny` gives there, with its fields and what it leaves, by
-    /// the name "ignored-any" where that has no other.
+    /// Those of `IgnoredAny` as an item of the codec, each as `Core`, with its fields and what it
+    /// leaves.
     pub fn deserialize_ignored_any(&mut self, alloc: Global) -> Result<(), DecodeError<S::Error>>
         ensures item { Decodes skipped_spelling
             (input S.view self.old) (input S.view self.new) (answer_of result) }

@@ -22,9 +22,14 @@ impl Typed for u8 {
 /// An unsigned integer whose argument has at most one byte, whether or not in its shortest head
 /// (RFC 8949 section 3.1). It takes no step.
 ///
-/// Refused as `Core`, by the name "u8": `Eof` with 1 where no byte is left, and with k where the
-/// argument has k bytes and fewer are left, nothing being left then; `Mismatch` with the first
-/// byte, which is taken, where it begins no head of major type 0 with at most one byte of argument.
+/// # Errors
+///
+/// `Core` of `Read` is told at `Deserialize::deserialize`. The others are `Core` of these, by "u8":
+///
+/// - `Eof` with 1: no byte is left
+/// - `Eof` with k: the argument has k bytes and fewer are left. Nothing is left then
+/// - `Mismatch` with the first byte, which is taken: it begins no head of major type 0 with at most
+///   one byte of argument
 impl<S: Source> Deserialize<S> for u8 {
     #[inline(always)]
     fn deserialize(alloc: Global, de: &mut Deserializer<S>) -> Result<u8, DecodeError<S::Error>> {
@@ -36,8 +41,11 @@ impl Typed for u16 {
     ghost promise = { exactly refl (argument_lawful (codes "u16") 0 2 zero_small) };
 }
 
-/// An unsigned integer whose argument has at most two bytes: read and refused as a `u8` is, by the
-/// name "u16", and with two bytes of argument in the place of one.
+/// An unsigned integer whose argument has at most two bytes, read as a `u8` is.
+///
+/// # Errors
+///
+/// Those of a `u8`, by "u16", and with two bytes of argument in the place of one.
 impl<S: Source> Deserialize<S> for u16 {
     #[inline(always)]
     fn deserialize(alloc: Global, de: &mut Deserializer<S>) -> Result<u16, DecodeError<S::Error>> {
@@ -49,8 +57,11 @@ impl Typed for u32 {
     ghost promise = { exactly refl (argument_lawful (codes "u32") 0 4 zero_small) };
 }
 
-/// An unsigned integer whose argument has at most four bytes: read and refused as a `u8` is, by the
-/// name "u32", and with four bytes of argument in the place of one.
+/// An unsigned integer whose argument has at most four bytes, read as a `u8` is.
+///
+/// # Errors
+///
+/// Those of a `u8`, by "u32", and with four bytes of argument in the place of one.
 impl<S: Source> Deserialize<S> for u32 {
     #[inline(always)]
     fn deserialize(alloc: Global, de: &mut Deserializer<S>) -> Result<u32, DecodeError<S::Error>> {
@@ -62,8 +73,11 @@ impl Typed for u64 {
     ghost promise = { exactly refl (argument_lawful (codes "u64") 0 8 zero_small) };
 }
 
-/// An unsigned integer whose argument has at most eight bytes: read and refused as a `u8` is, by
-/// the name "u64", and with eight bytes of argument in the place of one.
+/// An unsigned integer whose argument has at most eight bytes, read as a `u8` is.
+///
+/// # Errors
+///
+/// Those of a `u8`, by "u64", and with eight bytes of argument in the place of one.
 impl<S: Source> Deserialize<S> for u64 {
     #[inline(always)]
     fn deserialize(alloc: Global, de: &mut Deserializer<S>) -> Result<u64, DecodeError<S::Error>> {
@@ -83,9 +97,14 @@ impl Typed for u128 {
 /// An unsigned integer of any head, or a bignum of tag 2, of at most 16 bytes (RFC 8949 sections
 /// 3.1 and 3.4.3). It takes no step.
 ///
-/// Refused as a `u128` is when it is decoded, each as `Core`, with its fields and what it leaves:
-/// by the name "u128" at the first byte and at the head of a tag, by "u64" at a head of major type
-/// 0, by "u128::tag" at a tag that is not 2, and by "u128::bytes" at the byte string.
+/// # Errors
+///
+/// Those of `u128` as an item of the codec, each as `Core`, with its fields and what it leaves:
+///
+/// - by "u128" at the first byte and at the head of a tag
+/// - by "u64" at a head of major type 0
+/// - by "u128::tag" at a tag that is not 2
+/// - by "u128::bytes" at the byte string
 impl<S: Source> Deserialize<S> for u128 {
     #[inline(always)]
     fn deserialize(alloc: Global, de: &mut Deserializer<S>) -> Result<u128, DecodeError<S::Error>> {
@@ -101,13 +120,19 @@ impl Typed for i8 {
 /// An integer of major type 0, or a negative one of major type 1, whose argument has at most one
 /// byte and is below 2^7 (RFC 8949 section 3.1). It takes no step.
 ///
-/// Refusals, each as `Core`:
+/// # Errors
 ///
-/// - no byte is left: `Eof` by the name "i8" with 1
-/// - the next byte is of another major type: `Mismatch` by "i8" with it, and it stays
-/// - the argument is cut, or has more bytes: `Eof` or `Mismatch`, as every head, by "+i8", or by
-///   "-i8" where the integer is negative
-/// - the argument is 2^7 or greater: `CastOverflow` by these names, behind the head
+/// `Core` of `Read` is told at `Deserialize::deserialize`. The others are `Core` of these. Of a
+/// head of major type 0 the name is "+i8", of one of major type 1 it is "-i8":
+///
+/// - `Eof` by "i8" with 1: no byte is left
+/// - `Mismatch` by "i8" with the next byte, which stays: it is of another major type
+/// - `Eof` by "+i8" or "-i8" with k: the argument has k bytes and fewer are left. Nothing is left
+///   then
+/// - `Mismatch` by "+i8" or "-i8" with the first byte, which is taken: it begins no head with at
+///   most one byte of argument
+/// - `CastOverflow` by "+i8" or "-i8": the argument is 2^7 or greater. What follows the head is
+///   left
 impl<S: Source> Deserialize<S> for i8 {
     #[inline(always)]
     fn deserialize(alloc: Global, de: &mut Deserializer<S>) -> Result<i8, DecodeError<S::Error>> {
@@ -120,9 +145,12 @@ impl Typed for i16 {
         (signed_lawful (codes "i16") (codes "+i16") (codes "-i16") 2 (2 ^ 15)) };
 }
 
-/// An integer whose argument has at most two bytes and is below 2^15: read and refused as an `i8`
-/// is, by the names "i16", "+i16" and "-i16", and with these numbers in the place of one byte and
-/// 2^7.
+/// An integer whose argument has at most two bytes and is below 2^15, read as an `i8` is.
+///
+/// # Errors
+///
+/// Those of an `i8`, by "i16", "+i16" and "-i16", and with these numbers in the place of one byte
+/// and 2^7.
 impl<S: Source> Deserialize<S> for i16 {
     #[inline(always)]
     fn deserialize(alloc: Global, de: &mut Deserializer<S>) -> Result<i16, DecodeError<S::Error>> {
@@ -135,9 +163,12 @@ impl Typed for i32 {
         (signed_lawful (codes "i32") (codes "+i32") (codes "-i32") 4 (2 ^ 31)) };
 }
 
-/// An integer whose argument has at most four bytes and is below 2^31: read and refused as an `i8`
-/// is, by the names "i32", "+i32" and "-i32", and with these numbers in the place of one byte and
-/// 2^7.
+/// An integer whose argument has at most four bytes and is below 2^31, read as an `i8` is.
+///
+/// # Errors
+///
+/// Those of an `i8`, by "i32", "+i32" and "-i32", and with these numbers in the place of one byte
+/// and 2^7.
 impl<S: Source> Deserialize<S> for i32 {
     #[inline(always)]
     fn deserialize(alloc: Global, de: &mut Deserializer<S>) -> Result<i32, DecodeError<S::Error>> {
@@ -150,9 +181,12 @@ impl Typed for i64 {
         (signed_lawful (codes "i64") (codes "+i64") (codes "-i64") 8 (2 ^ 63)) };
 }
 
-/// An integer whose argument has at most eight bytes and is below 2^63: read and refused as an `i8`
-/// is, by the names "i64", "+i64" and "-i64", and with these numbers in the place of one byte and
-/// 2^7.
+/// An integer whose argument has at most eight bytes and is below 2^63, read as an `i8` is.
+///
+/// # Errors
+///
+/// Those of an `i8`, by "i64", "+i64" and "-i64", and with these numbers in the place of one byte
+/// and 2^7.
 impl<S: Source> Deserialize<S> for i64 {
     #[inline(always)]
     fn deserialize(alloc: Global, de: &mut Deserializer<S>) -> Result<i64, DecodeError<S::Error>> {
@@ -172,10 +206,15 @@ impl Typed for i128 {
 /// An integer of any head, or a bignum of tag 2, or of tag 3 for a negative one, of at most 16
 /// bytes, whose number is below 2^127 (RFC 8949 sections 3.1 and 3.4.3). It takes no step.
 ///
-/// Refused as an `i128` is when it is decoded, each as `Core`, with its fields and what it leaves:
-/// by the name "i128" at the first byte, at a head of major type 1, at the head of a tag and at a
-/// number of 2^127 or more, by "u64" at a head of major type 0, by "i128::tag" at a tag that is
-/// neither 2 nor 3, and by "+i128::bytes" or "-i128::bytes" at the byte string behind tag 2 or 3.
+/// # Errors
+///
+/// Those of `i128` as an item of the codec, each as `Core`, with its fields and what it leaves:
+///
+/// - by "i128" at the first byte, at a head of major type 1, and at the head of a tag
+/// - by "i128" at a number of 2^127 or more
+/// - by "u64" at a head of major type 0
+/// - by "i128::tag" at a tag that is neither 2 nor 3
+/// - by "+i128::bytes" or "-i128::bytes" at the byte string behind tag 2 or 3
 impl<S: Source> Deserialize<S> for i128 {
     #[inline(always)]
     fn deserialize(alloc: Global, de: &mut Deserializer<S>) -> Result<i128, DecodeError<S::Error>> {

@@ -54,10 +54,12 @@ impl<S: Source, K: Deserialize<S> + Ord + Drop, V: Deserialize<S> + Drop> Sequen
 /// answer is. Of equal keys the first stays, with the last value. No break is looked for between a
 /// key and its value.
 ///
-/// Refused as `deserialize_map` is, by the name "map", and behind its head by the errors of a key
-/// and of a value, with what they leave. Where the length is indefinite and no byte is left before
-/// a key, it is `Core` of `Eof` by the name "break" with 1. Where there is no memory for the map,
-/// it is `Core` of `OutOfMemory`.
+/// # Errors
+///
+/// - those of `deserialize_map`, at the head
+/// - `Core` of `Eof` by "break" with 1: the length is indefinite, and no byte is left before a key
+/// - those of a key and of a value, with what they leave
+/// - `Core` of `OutOfMemory`: there is no memory for the map
 impl<S: Source, K: Deserialize<S> + Ord + Drop, V: Deserialize<S> + Drop> Deserialize<S>
     for BTreeMap<K, V> {
     #[inline(always)]

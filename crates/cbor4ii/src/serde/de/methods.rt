@@ -13,12 +13,20 @@ use cbor4ii_rw::read::Source;
 use std::alloc::Global;
 
 /// Each of these reads the item at the front of what is left, and leaves what stands behind it. It
-/// moves the reader as `Deserialize::deserialize` does, and needs no step unless it says so. All
-/// but `deserialize_newtype_struct` answer `Core` of the error that the type's own `Decode` gives
-/// there, with its fields, leave what that leaves, and never answer `Custom`.
+/// moves the reader as `Deserialize::deserialize` does, and needs no step unless it says so.
+///
+/// # Errors
+///
+/// All but `deserialize_newtype_struct` answer `Core` of the error that the type's own
+/// `Decode::decode` gives there, with its fields. They leave what that leaves, and never answer
+/// `Custom`.
 impl<S: Source> Deserializer<S> {
-    /// False or true. Refused by the name "bool": `Eof` with 1 where no byte is left, and
-    /// `Mismatch` with the next byte, which stays, where it is neither.
+    /// False or true.
+    ///
+    /// # Errors
+    ///
+    /// Those of `bool`, each as `Core`: `Read`, and `Eof` or `Mismatch` by "bool", which take
+    /// nothing.
     pub fn deserialize_bool(&mut self, alloc: Global) -> Result<bool, DecodeError<S::Error>>
         ensures { Decodes ⟦<bool as Spelled>⟧.spelling
             (input S.view self.old) (input S.view self.new) (answer_of result) }
@@ -26,8 +34,11 @@ impl<S: Source> Deserializer<S> {
         take_item(alloc, self)
     }
 
-    /// An unsigned integer whose argument has at most one byte, refused by the name "u8":
-    /// `Eof` or `Mismatch`, as for every head.
+    /// An unsigned integer whose argument has at most one byte.
+    ///
+    /// # Errors
+    ///
+    /// Those of `u8`, each as `Core`: `Read`, and `Eof` or `Mismatch` by "u8".
     pub fn deserialize_u8(&mut self, alloc: Global) -> Result<u8, DecodeError<S::Error>>
         ensures { Decodes ⟦<u8 as Spelled>⟧.spelling
             (input S.view self.old) (input S.view self.new) (answer_of result) }
@@ -35,8 +46,11 @@ impl<S: Source> Deserializer<S> {
         take_item(alloc, self)
     }
 
-    /// An unsigned integer whose argument has at most two bytes, refused by the name "u16":
-    /// `Eof` or `Mismatch`, as for every head.
+    /// An unsigned integer whose argument has at most two bytes.
+    ///
+    /// # Errors
+    ///
+    /// Those of `u16`, each as `Core`: `Read`, and `Eof` or `Mismatch` by "u16".
     pub fn deserialize_u16(&mut self, alloc: Global) -> Result<u16, DecodeError<S::Error>>
         ensures { Decodes ⟦<u16 as Spelled>⟧.spelling
             (input S.view self.old) (input S.view self.new) (answer_of result) }
@@ -44,8 +58,11 @@ impl<S: Source> Deserializer<S> {
         take_item(alloc, self)
     }
 
-    /// An unsigned integer whose argument has at most four bytes, refused by the name "u32":
-    /// `Eof` or `Mismatch`, as for every head.
+    /// An unsigned integer whose argument has at most four bytes.
+    ///
+    /// # Errors
+    ///
+    /// Those of `u32`, each as `Core`: `Read`, and `Eof` or `Mismatch` by "u32".
     pub fn deserialize_u32(&mut self, alloc: Global) -> Result<u32, DecodeError<S::Error>>
         ensures { Decodes ⟦<u32 as Spelled>⟧.spelling
             (input S.view self.old) (input S.view self.new) (answer_of result) }
@@ -53,8 +70,11 @@ impl<S: Source> Deserializer<S> {
         take_item(alloc, self)
     }
 
-    /// An unsigned integer whose argument has at most eight bytes, refused by the name "u64":
-    /// `Eof` or `Mismatch`, as for every head.
+    /// An unsigned integer whose argument has at most eight bytes.
+    ///
+    /// # Errors
+    ///
+    /// Those of `u64`, each as `Core`: `Read`, and `Eof` or `Mismatch` by "u64".
     pub fn deserialize_u64(&mut self, alloc: Global) -> Result<u64, DecodeError<S::Error>>
         ensures { Decodes ⟦<u64 as Spelled>⟧.spelling
             (input S.view self.old) (input S.view self.new) (answer_of result) }
@@ -62,7 +82,11 @@ impl<S: Source> Deserializer<S> {
         take_item(alloc, self)
     }
 
-    /// An unsigned integer, or a bignum below 2^128 (tag 2), refused as `u128` is.
+    /// An unsigned integer, or a bignum below 2^128 (tag 2).
+    ///
+    /// # Errors
+    ///
+    /// Those of `u128`, each as `Core`.
     pub fn deserialize_u128(&mut self, alloc: Global) -> Result<u128, DecodeError<S::Error>>
         ensures { Decodes ⟦<u128 as Spelled>⟧.spelling
             (input S.view self.old) (input S.view self.new) (answer_of result) }
@@ -70,7 +94,11 @@ impl<S: Source> Deserializer<S> {
         take_item(alloc, self)
     }
 
-    /// An integer whose argument has at most one byte, in the range of i8, refused as `i8` is.
+    /// An integer whose argument has at most one byte, in the range of i8.
+    ///
+    /// # Errors
+    ///
+    /// Those of `i8`, each as `Core`: `Read`, and `Eof`, `Mismatch` or `CastOverflow`.
     pub fn deserialize_i8(&mut self, alloc: Global) -> Result<i8, DecodeError<S::Error>>
         ensures { Decodes ⟦<i8 as Spelled>⟧.spelling
             (input S.view self.old) (input S.view self.new) (answer_of result) }
@@ -78,7 +106,11 @@ impl<S: Source> Deserializer<S> {
         take_item(alloc, self)
     }
 
-    /// An integer whose argument has at most two bytes, in the range of i16, refused as `i16` is.
+    /// An integer whose argument has at most two bytes, in the range of i16.
+    ///
+    /// # Errors
+    ///
+    /// Those of `i16`, each as `Core`: `Read`, and `Eof`, `Mismatch` or `CastOverflow`.
     pub fn deserialize_i16(&mut self, alloc: Global) -> Result<i16, DecodeError<S::Error>>
         ensures { Decodes ⟦<i16 as Spelled>⟧.spelling
             (input S.view self.old) (input S.view self.new) (answer_of result) }
@@ -86,7 +118,11 @@ impl<S: Source> Deserializer<S> {
         take_item(alloc, self)
     }
 
-    /// An integer whose argument has at most four bytes, in the range of i32, refused as `i32` is.
+    /// An integer whose argument has at most four bytes, in the range of i32.
+    ///
+    /// # Errors
+    ///
+    /// Those of `i32`, each as `Core`: `Read`, and `Eof`, `Mismatch` or `CastOverflow`.
     pub fn deserialize_i32(&mut self, alloc: Global) -> Result<i32, DecodeError<S::Error>>
         ensures { Decodes ⟦<i32 as Spelled>⟧.spelling
             (input S.view self.old) (input S.view self.new) (answer_of result) }
@@ -94,7 +130,11 @@ impl<S: Source> Deserializer<S> {
         take_item(alloc, self)
     }
 
-    /// An integer whose argument has at most eight bytes, in the range of i64, refused as `i64` is.
+    /// An integer whose argument has at most eight bytes, in the range of i64.
+    ///
+    /// # Errors
+    ///
+    /// Those of `i64`, each as `Core`: `Read`, and `Eof`, `Mismatch` or `CastOverflow`.
     pub fn deserialize_i64(&mut self, alloc: Global) -> Result<i64, DecodeError<S::Error>>
         ensures { Decodes ⟦<i64 as Spelled>⟧.spelling
             (input S.view self.old) (input S.view self.new) (answer_of result) }
@@ -102,7 +142,11 @@ impl<S: Source> Deserializer<S> {
         take_item(alloc, self)
     }
 
-    /// An integer, or a bignum (tags 2 and 3) in the range of i128, refused as `i128` is.
+    /// An integer, or a bignum (tags 2 and 3) in the range of i128.
+    ///
+    /// # Errors
+    ///
+    /// Those of `i128`, each as `Core`.
     pub fn deserialize_i128(&mut self, alloc: Global) -> Result<i128, DecodeError<S::Error>>
         ensures { Decodes ⟦<i128 as Spelled>⟧.spelling
             (input S.view self.old) (input S.view self.new) (answer_of result) }
@@ -110,9 +154,11 @@ impl<S: Source> Deserializer<S> {
         take_item(alloc, self)
     }
 
-    /// A float of two bytes, as its bits. Refused by the name "f16": `Eof` with 1 where no byte is
-    /// left; `Mismatch` with the next byte, which stays, where it begins no such float; `Eof` with
-    /// 2 where fewer than two bytes follow it, nothing being left then.
+    /// A float of two bytes, as its bits.
+    ///
+    /// # Errors
+    ///
+    /// Those of `F16`, each as `Core`: `Read`, and `Eof` or `Mismatch` by "f16".
     pub fn deserialize_f16(&mut self, alloc: Global) -> Result<F16, DecodeError<S::Error>>
         ensures { Decodes ⟦<F16 as Spelled>⟧.spelling
             (input S.view self.old) (input S.view self.new) (answer_of result) }
@@ -120,8 +166,11 @@ impl<S: Source> Deserializer<S> {
         take_item(alloc, self)
     }
 
-    /// A float of four bytes, as its bits, refused as `deserialize_f16` is, by the name "f32" and
-    /// with 4 in the place of 2.
+    /// A float of four bytes, as its bits.
+    ///
+    /// # Errors
+    ///
+    /// Those of `F32`, each as `Core`: `Read`, and `Eof` or `Mismatch` by "f32".
     pub fn deserialize_f32(&mut self, alloc: Global) -> Result<F32, DecodeError<S::Error>>
         ensures { Decodes ⟦<F32 as Spelled>⟧.spelling
             (input S.view self.old) (input S.view self.new) (answer_of result) }
@@ -129,8 +178,11 @@ impl<S: Source> Deserializer<S> {
         take_item(alloc, self)
     }
 
-    /// A float of eight bytes, as its bits, refused as `deserialize_f16` is, by the name "f64" and
-    /// with 8 in the place of 2.
+    /// A float of eight bytes, as its bits.
+    ///
+    /// # Errors
+    ///
+    /// Those of `F64`, each as `Core`: `Read`, and `Eof` or `Mismatch` by "f64".
     pub fn deserialize_f64(&mut self, alloc: Global) -> Result<F64, DecodeError<S::Error>>
         ensures { Decodes ⟦<F64 as Spelled>⟧.spelling
             (input S.view self.old) (input S.view self.new) (answer_of result) }
@@ -138,8 +190,12 @@ impl<S: Source> Deserializer<S> {
         take_item(alloc, self)
     }
 
-    /// A text, of known or indefinite length; one of indefinite length needs a step for its chunks.
-    /// Refused as `String` is, by the name "str" where that has no other.
+    /// A text, of definite or indefinite length; one of indefinite length needs a step for its
+    /// chunks.
+    ///
+    /// # Errors
+    ///
+    /// Those of `String`, each as `Core`, by "str" where no other name is said.
     pub fn deserialize_string(&mut self, alloc: Global) -> Result<String, DecodeError<S::Error>>
         ensures { Decodes ⟦<String as Spelled>⟧.spelling
             (input S.view self.old) (input S.view self.new) (answer_of result) }
@@ -147,7 +203,11 @@ impl<S: Source> Deserializer<S> {
         take_item(alloc, self)
     }
 
-    /// A struct of one field, read and refused as that field is. Its name is not spelled.
+    /// A struct of one field, read as that field is. Its name is not spelled.
+    ///
+    /// # Errors
+    ///
+    /// Those of the field, with what they leave.
     pub fn deserialize_newtype_struct<T: Deserialize<S>>(
         &mut self,
         alloc: Global,

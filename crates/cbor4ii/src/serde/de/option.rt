@@ -17,9 +17,13 @@ impl<T: Typed> Typed for Option<T> {
 /// Null and undefined are none, and take no step. Before any other byte a value is read, under a
 /// step more.
 ///
-/// As `Core`, by the name "option": `Eof` with 1 where no byte is left, and `DepthOverflow` where a
-/// value comes and no step is left, which takes nothing. Otherwise it is refused as the value is,
-/// and leaves what the value leaves.
+/// # Errors
+///
+/// - `Core` of `Read`: the reader failed
+/// - `Core` of `Eof` by "option" with 1: no byte is left
+/// - `Core` of `DepthOverflow` by "option": a value comes and no step is left. Nothing is taken
+///   then
+/// - those of the value, with what they leave
 impl<S: Source, T: Deserialize<S>> Deserialize<S> for Option<T> {
     #[inline(always)]
     fn deserialize(

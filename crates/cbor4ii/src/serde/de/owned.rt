@@ -16,20 +16,27 @@ impl Typed for String {
     ghost promise = { exactly refl (text_lawful (codes "str") text_content) };
 }
 
-/// A text that is UTF-8, of known or of indefinite length (RFC 8949 sections 3.1 and 3.2.3). Each
-/// chunk is a text of known length, read under one step of the budget. The chunks are joined before
-/// they are tested to be UTF-8, so a character may stand across two of them. At most 16384 bytes
-/// are reserved before any came.
+/// A text that is UTF-8, of definite or of indefinite length (RFC 8949 sections 3.1 and 3.2.3).
+/// Each chunk is a text of definite length, read under one step of the budget. The chunks are
+/// joined before they are tested to be UTF-8, so a character may stand across two of them. At most
+/// 16384 bytes are reserved before any came.
 ///
-/// Refusals, each as `Core`, by the name "str" where no other is said:
+/// # Errors
 ///
-/// - the head is not one of a text: `Mismatch` or `Eof`, as for every head
-/// - bytes are missing: `Eof` with the number of those that are missing, and nothing is left
-/// - in the place of a chunk or a break there is no byte: `Eof` by "break" with 1
-/// - no step is left for a chunk: `DepthOverflow`, and the chunk is left
-/// - a chunk is of indefinite length: `RequireLength` with `Indefinite`, behind its first byte
-/// - a chunk is no text, or is cut: `Mismatch` or `Eof`, as of the text itself
-/// - it is not UTF-8: `RequireUtf8`, and the whole item is taken
+/// `Core` of `Read` and of `OutOfMemory` are told at `Deserialize::deserialize`. The others are
+/// `Core` of these, by "str" where no other name is said:
+///
+/// - `Eof` with 1: no byte is left
+/// - `Eof` with k: the argument of the head has k bytes and fewer are left. Nothing is left then
+/// - `Mismatch` with the first byte, which is taken: it begins no text
+/// - `Eof` with the number of bytes that are missing: the content is cut. Nothing is left then
+/// - `Eof` by "break" with 1: no byte is left in the place of a chunk or a break
+/// - `DepthOverflow`: no step is left for a chunk. The chunk is left
+/// - `RequireLength` with `Indefinite`: a chunk has an indefinite length. What follows its first
+///   byte is left
+/// - `Eof` or `Mismatch`, those of the text itself: a chunk is cut, or is no text. What is left is
+///   the same
+/// - `RequireUtf8`: the text is not UTF-8. The whole item is taken then
 impl<S: Source> Deserialize<S> for String {
     #[inline(always)]
     fn deserialize(
@@ -44,9 +51,12 @@ impl Typed for Bytes<Vec<u8>> {
     ghost promise = { exactly refl (as_lawful (codes "bytes") 2 two_small bytes_content) };
 }
 
-/// A byte string, of known or of indefinite length (RFC 8949 sections 3.1 and 3.2.3): read and
-/// refused as a `String` is, by the name "bytes" in the place of "str", but that any bytes are its
-/// content.
+/// A byte string, of definite or of indefinite length (RFC 8949 sections 3.1 and 3.2.3), read as a
+/// `String` is. Any bytes are its content.
+///
+/// # Errors
+///
+/// Those of a `String`, by "bytes" in the place of "str", without `RequireUtf8`.
 impl<S: Source> Deserialize<S> for Bytes<Vec<u8>> {
     #[inline(always)]
     fn deserialize(

@@ -1,28 +1,34 @@
 //! What a struct makes of its fields where some of them are missing.
 ghost use Rattle.std.specs.Prelude.{◌≡◌, ℕ, List, Option, Result, Ok};
 ghost use Rattle.std.specs.Borrow.{Bor};
-ghost use Rattle.cbor4ii.specs.Presence.{outcome, or_words, or_value, or_none, paired, is_there};
-ghost use Rattle.cbor4ii.specs.Presence.{SameFate, words_fate, value_fate, pair_fate, first_of};
-ghost use Rattle.cbor4ii.specs.Presence.{behind_of};
+ghost use Rattle.cbor4ii.specs.Presence.{outcome, or_words, or_value, or_none, once, paired};
+ghost use Rattle.cbor4ii.specs.Presence.{SameFate, words_fate, value_fate, once_fate, pair_fate};
+ghost use Rattle.cbor4ii.specs.Presence.{first_of, behind_of};
 
 use crate::serde::de::deserialize::Typed;
 use crate::serde::de::fields::Places;
+use crate::serde::de::place::{Place, Single};
 use cbor4ii_rw::error::StaticStr;
 
-/// What a struct makes of a field of type `T`, which may be missing.
-pub trait Presence<T>: Sized + Drop {
+/// What a struct makes of a field whose values stand in `P`. It may be missing.
+pub trait Presence<P: Place>: Sized + Drop {
     /// What the struct has of it.
     type Value: Drop;
 
-    // What becomes of the value that was read, or of none; the list is the words of a refusal.
-    ghost made: { Self → List ℕ → Option T → Result Self.Value (List ℕ) };
+    // What becomes of what was read; the list is the words of a refusal.
+    ghost made: { Self → List ℕ → P → Result Self.Value (List ℕ) };
 
-    /// Makes it of the value that was read, or refuses the struct in these words.
-    fn value(self, words: StaticStr, read: Option<T>) -> Result<Self::Value, StaticStr>
+    /// Makes it of what was read, or refuses the struct in these words.
+    ///
+    /// # Errors
+    ///
+    /// The words that `made` gives, where it refuses: of `Required` where no value was read, and of
+    /// `Once` also where several were. `Or` and `Optional` never refuse.
+    fn value(self, words: StaticStr, read: P) -> Result<Self::Value, StaticStr>
         ensures { outcome result ≡ made self words.now read };
 
-    // Whether it refuses is a matter of whether one was read.
-    ghost fate: { (kind : Self) (words : List ℕ) (o p : Option T) → is_there o ≡ is_there p →
+    // A law: whether it refuses depends on nothing but how many values were read.
+    ghost fate: { (kind : Self) (words : List ℕ) (o p : P) → P.place.came o ≡ P.place.came p →
         SameFate (made kind words o) (made kind words p) };
 }
 
@@ -30,7 +36,7 @@ pub trait Presence<T>: Sized + Drop {
 #[derive(Debug, Drop)]
 pub struct Required;
 
-impl<T: Drop> Presence<T> for Required {
+impl<T: Typed + Drop> Presence<Option<T>> for Required {
     type Value = T;
 
     ghost made = { λ kind. or_words };
@@ -51,7 +57,7 @@ impl<T: Drop> Presence<T> for Required {
 #[derive(Debug, Drop)]
 pub struct Or<T>(pub T);
 
-impl<T: Drop> Presence<T> for Or<T> {
+impl<T: Typed + Drop> Presence<Option<T>> for Or<T> {
     type Value = T;
 
     ghost made = { λ kind words. or_value kind.0 };
@@ -72,7 +78,7 @@ impl<T: Drop> Presence<T> for Or<T> {
 #[derive(Debug, Drop)]
 pub struct Optional;
 
-impl<T: Drop> Presence<T> for Optional {
+impl<T: Typed + Drop> Presence<Option<T>> for Optional {
     type Value = Option<T>;
 
     ghost made = { λ kind words. or_none };
@@ -86,6 +92,29 @@ impl<T: Drop> Presence<T> for Optional {
     ghost fate = { λ kind words o p e. tt };
 }
 
+/// A field that may come once: as the kind inside says, and where it comes more than once, the
+/// struct is refused.
+#[derive(Debug, Drop)]
+pub struct Once<K>(pub K);
+
+impl<T: Typed + Drop, K: Presence<Option<T>>> Presence<Single<T>> for Once<K> {
+    type Value = K::Value;
+
+    ghost made = { λ kind words. once words (K.made kind.0 words) };
+
+    fn value(self, words: StaticStr, read: Single<T>) -> Result<K::Value, StaticStr>
+        ensures { outcome result ≡ once words.now (K.made self.0 words.now) read }
+    {
+        match read {
+            Single::Absent => self.0.value(words, None),
+            Single::Present(value) => self.0.value(words, Some(value)),
+            Single::Repeated => Err(words),
+        }
+    }
+
+    ghost fate = { λ kind words. once_fate words (K.made kind.0 words) (K.fate kind.0 words) };
+}
+
 /// What a struct makes of all its fields: nested pairs, in the order of their names.
 pub trait Presences<V: Places>: Sized + Drop {
     /// What the struct has of them: nested pairs too.
@@ -96,10 +125,15 @@ pub trait Presences<V: Places>: Sized + Drop {
 
     /// Makes it of the values that were read, or refuses the struct in the words of the first field
     /// that does. `missing` has the words of each field, in their order.
+    ///
+    /// # Errors
+    ///
+    /// The words that `made` gives, where it refuses: of a pair those of its field, or of the
+    /// fields behind it.
     fn values(self, missing: &[StaticStr], read: V) -> Result<Self::Values, StaticStr>
         ensures { outcome result ≡ made self missing.now read };
 
-    // Values that mean the same are made or refused alike.
+    // A law: values that mean the same are made or refused alike.
     ghost fate: { (kinds : Self) (words names : List (Bor (List ℕ))) (v w : V) →
         (V.fields names).same v w → SameFate (made kinds words v) (made kinds words w) };
 }
@@ -118,19 +152,18 @@ impl Presences<()> for () {
 }
 
 /// A field, and those behind it.
-impl<T: Typed + Drop, P: Presence<T> + Drop, V: Places + Drop, K: Presences<V> + Drop> Presences<
-    (Option<T>, V),
-> for (P, K) {
-    type Values = (P::Value, K::Values);
+impl<P: Place + Drop, O: Presence<P>, V: Places + Drop, K: Presences<V>> Presences<(P, V)>
+    for (O, K) {
+    type Values = (O::Value, K::Values);
 
-    ghost made = { λ kinds words v. paired (P.made kinds.0 (first_of words) v.0)
+    ghost made = { λ kinds words v. paired (O.made kinds.0 (first_of words) v.0)
         (K.made kinds.1 (behind_of words) v.1) };
 
     fn values(
         self,
         missing: &[StaticStr],
-        read: (Option<T>, V),
-    ) -> Result<(P::Value, K::Values), StaticStr> {
+        read: (P, V),
+    ) -> Result<(O::Value, K::Values), StaticStr> {
         let (presence, presences) = self;
         let (first, others) = read;
         match presence.value(first_words(missing), first) {
@@ -142,9 +175,9 @@ impl<T: Typed + Drop, P: Presence<T> + Drop, V: Places + Drop, K: Presences<V> +
         }
     }
 
-    ghost fate = { λ kinds words. pair_fate T.promise V.fields (P.made kinds.0 (first_of words))
-        (K.made kinds.1 (behind_of words)) (P.fate kinds.0 (first_of words))
-        (K.fate kinds.1 (behind_of words)) };
+    ghost fate = { λ kinds words. pair_fate P.place P.Value.promise V.fields
+        (O.made kinds.0 (first_of words)) (K.made kinds.1 (behind_of words))
+        (O.fate kinds.0 (first_of words)) (K.fate kinds.1 (behind_of words)) };
 }
 
 /// The words of the first field, and none where there are none.

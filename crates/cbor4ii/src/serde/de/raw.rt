@@ -18,7 +18,11 @@ impl<'de> Typed for RawValue<'de> {
     ghost promise = { exactly refl (raw_lawful raw_content) };
 }
 
-/// One item, as its bytes stand in the input: read and refused as it is decoded.
+/// One item, as its bytes stand in the input.
+///
+/// # Errors
+///
+/// Those of `RawValue` as an item of the codec, each as `Core`. Nothing is taken then.
 impl<'de> Deserialize<SliceReader<'de>> for RawValue<'de> {
     fn deserialize(
         alloc: Global,
@@ -29,6 +33,10 @@ impl<'de> Deserialize<SliceReader<'de>> for RawValue<'de> {
 }
 
 /// The same. What is left of a segment has to hold the whole item.
+///
+/// # Errors
+///
+/// Those of `RawValue` as an item of the codec, each as `Core`. Nothing is taken then.
 impl<'de> Deserialize<SegmentReader<'de>> for RawValue<'de> {
     fn deserialize(
         alloc: Global,
@@ -42,7 +50,11 @@ impl Typed for BoxedRawValue {
     ghost promise = { exactly refl boxed_raw_lawful };
 }
 
-/// One item, as a copy of its bytes: read and refused as it is decoded.
+/// One item, as a copy of its bytes.
+///
+/// # Errors
+///
+/// Those of `BoxedRawValue` as an item of the codec, each as `Core`, with what they leave.
 impl<S: FillLong> Deserialize<S> for BoxedRawValue {
     fn deserialize(
         alloc: Global,

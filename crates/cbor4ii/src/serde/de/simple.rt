@@ -19,8 +19,13 @@ impl Typed for bool {
 
 /// False or true, in one byte (RFC 8949 section 3.3). It takes no step.
 ///
-/// Refused as `Core`, by the name "bool": `Eof` with 1 where no byte is left; `Mismatch` with the
-/// next byte, which stays, where it is neither.
+/// # Errors
+///
+/// `Core` of `Read` is told at `Deserialize::deserialize`. The others are `Core` of these, by
+/// "bool", and nothing is taken then:
+///
+/// - `Eof` with 1: no byte is left
+/// - `Mismatch` with the next byte: it is neither false nor true
 impl<S: Source> Deserialize<S> for bool {
     #[inline(always)]
     fn deserialize(alloc: Global, de: &mut Deserializer<S>) -> Result<bool, DecodeError<S::Error>> {
@@ -35,9 +40,14 @@ impl Typed for F16 {
 
 /// A float of two bytes, as its bits (RFC 8949 section 3.3). It takes no step.
 ///
-/// Refused as `Core`, by the name "f16": `Eof` with 1 where no byte is left; `Mismatch` with the
-/// next byte, which stays, where it begins no float of two bytes; `Eof` with 2 where fewer than two
-/// bytes follow it, nothing being left then.
+/// # Errors
+///
+/// `Core` of `Read` is told at `Deserialize::deserialize`. The others are `Core` of these, by
+/// "f16":
+///
+/// - `Eof` with 1: no byte is left
+/// - `Mismatch` with the next byte, which stays: it begins no float of two bytes
+/// - `Eof` with 2: fewer than two bytes follow it. Nothing is left then
 impl<S: Source> Deserialize<S> for F16 {
     #[inline(always)]
     fn deserialize(alloc: Global, de: &mut Deserializer<S>) -> Result<F16, DecodeError<S::Error>> {
@@ -52,9 +62,14 @@ impl Typed for F32 {
 
 /// A float of four bytes, as its bits (RFC 8949 section 3.3). It takes no step.
 ///
-/// Refused as `Core`, by the name "f32": `Eof` with 1 where no byte is left; `Mismatch` with the
-/// next byte, which stays, where it begins no float of four bytes; `Eof` with 4 where fewer than
-/// four bytes follow it, nothing being left then.
+/// # Errors
+///
+/// `Core` of `Read` is told at `Deserialize::deserialize`. The others are `Core` of these, by
+/// "f32":
+///
+/// - `Eof` with 1: no byte is left
+/// - `Mismatch` with the next byte, which stays: it begins no float of four bytes
+/// - `Eof` with 4: fewer than four bytes follow it. Nothing is left then
 impl<S: Source> Deserialize<S> for F32 {
     #[inline(always)]
     fn deserialize(alloc: Global, de: &mut Deserializer<S>) -> Result<F32, DecodeError<S::Error>> {
@@ -69,9 +84,14 @@ impl Typed for F64 {
 
 /// A float of eight bytes, as its bits (RFC 8949 section 3.3). It takes no step.
 ///
-/// Refused as `Core`, by the name "f64": `Eof` with 1 where no byte is left; `Mismatch` with the
-/// next byte, which stays, where it begins no float of eight bytes; `Eof` with 8 where fewer than
-/// eight bytes follow it, nothing being left then.
+/// # Errors
+///
+/// `Core` of `Read` is told at `Deserialize::deserialize`. The others are `Core` of these, by
+/// "f64":
+///
+/// - `Eof` with 1: no byte is left
+/// - `Mismatch` with the next byte, which stays: it begins no float of eight bytes
+/// - `Eof` with 8: fewer than eight bytes follow it. Nothing is left then
 impl<S: Source> Deserialize<S> for F64 {
     #[inline(always)]
     fn deserialize(alloc: Global, de: &mut Deserializer<S>) -> Result<F64, DecodeError<S::Error>> {

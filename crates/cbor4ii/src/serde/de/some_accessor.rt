@@ -50,9 +50,11 @@ impl<S: Source> Deserializer<S> {
     ///
     /// # Errors
     ///
-    /// `Core` of `Read` where the reader failed, and nothing is taken then. By the name "option":
-    /// `Core` of `Eof` with 1 where no byte is left, and of `DepthOverflow` where a value comes and
-    /// no step is left, which takes nothing.
+    /// Nothing is taken then, and the budget is as before.
+    ///
+    /// - `Core` of `Read`: the reader failed
+    /// - `Core` of `Eof` by "option" with 1: no byte is left
+    /// - `Core` of `DepthOverflow` by "option": a value comes and no step is left
     pub fn deserialize_option(&mut self) -> Result<SomeAccessor<'_, S>, DecodeError<S::Error>>
         ensures* refused { sem 𝓛 (RestsIfErr (the_row S.row) self.entry
             lender_of_some result (λ new.
@@ -118,7 +120,7 @@ impl<'a, S: Source> SomeAccessor<'a, S> {
     ///
     /// # Errors
     ///
-    /// No error comes where no value does. Else those of the value, with what they leave.
+    /// Those of the value, with what they leave. None comes where no value does.
     pub fn value<T: Deserialize<S>>(self, alloc: Global) -> Result<Option<T>, DecodeError<S::Error>>
         ensures finishes { Finishes (steps_of_some (comes self.entry))
             (inside_some S.view self.entry) (input S.view self.exit.0.now) (answer_of result) }

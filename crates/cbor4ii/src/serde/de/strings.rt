@@ -25,8 +25,12 @@ use std::io;
 use std::io::BufRead;
 
 impl<S: Source> Deserializer<S> {
-    /// A byte string, of known or indefinite length; one of indefinite length needs a step for its
-    /// chunks. Refused as `Bytes<Vec<u8>>` is, by the name "bytes" where that has no other.
+    /// A byte string, of definite or indefinite length; one of indefinite length needs a step for
+    /// its chunks.
+    ///
+    /// # Errors
+    ///
+    /// Those of `Bytes<Vec<u8>>`, each as `Core`, by "bytes" where no other name is said.
     pub fn deserialize_byte_buf(&mut self, alloc: Global) -> Result<Vec<u8>, DecodeError<S::Error>>
         ensures { Decodes (as_spelling (codes "bytes") 2 (λ v. v.items))
             (input S.view self.old) (input S.view self.new) (answer_of result) }
@@ -46,9 +50,12 @@ fn unwrapped<T, E>(found: Result<Bytes<T>, core_error::DecodeError<E>>) -> Resul
 }
 
 impl<'de> Deserializer<SliceReader<'de>> {
-    /// A text: a part of the input, with no copy, where its length is known, and a copy of its
-    /// chunks where it is not, for which it needs a step. Refused as `CowStr` is, by the name "str"
-    /// where that has no other.
+    /// A text. Where its length is definite it is a part of the input, with no copy. Where it is
+    /// not it is a copy of its chunks, for which it needs a step.
+    ///
+    /// # Errors
+    ///
+    /// Those of `CowStr`, each as `Core`, by "str" where no other name is said.
     pub fn deserialize_str(
         &mut self,
         alloc: Global,
@@ -62,7 +69,11 @@ impl<'de> Deserializer<SliceReader<'de>> {
         typed(CowStr::decode(alloc, &mut self.reader))
     }
 
-    /// A name of a field or a variant: as `deserialize_str`.
+    /// A name of a field or a variant, read by `deserialize_str`.
+    ///
+    /// # Errors
+    ///
+    /// Those of `deserialize_str`.
     pub fn deserialize_identifier(
         &mut self,
         alloc: Global,
@@ -76,9 +87,12 @@ impl<'de> Deserializer<SliceReader<'de>> {
         self.deserialize_str(alloc)
     }
 
-    /// A byte string: a part of the input, with no copy, where its length is known, and a copy of
-    /// its chunks where it is not, for which it needs a step. Refused as `Bytes<CowSlice<u8>>` is,
-    /// by the name "bytes" where that has no other.
+    /// A byte string. Where its length is definite it is a part of the input, with no copy. Where
+    /// it is not it is a copy of its chunks, for which it needs a step.
+    ///
+    /// # Errors
+    ///
+    /// Those of `Bytes<CowSlice<u8>>`, each as `Core`, by "bytes" where no other name is said.
     pub fn deserialize_bytes(
         &mut self,
         alloc: Global,
@@ -94,9 +108,12 @@ impl<'de> Deserializer<SliceReader<'de>> {
 }
 
 impl<'de> Deserializer<SegmentReader<'de>> {
-    /// A text: a part of the input, with no copy, where its length is known and it stands in one
-    /// segment, and a copy elsewhere; one of indefinite length needs a step for its chunks.
-    /// Refused as `CowStr` is, by the name "str" where that has no other.
+    /// A text. Where its length is definite and it stands in one segment it is a part of the input,
+    /// with no copy. It is a copy elsewhere. One of indefinite length needs a step for its chunks.
+    ///
+    /// # Errors
+    ///
+    /// Those of `CowStr`, each as `Core`, by "str" where no other name is said.
     pub fn deserialize_str(
         &mut self,
         alloc: Global,
@@ -110,7 +127,11 @@ impl<'de> Deserializer<SegmentReader<'de>> {
         typed(CowStr::decode(alloc, &mut self.reader))
     }
 
-    /// A name of a field or a variant: as `deserialize_str`.
+    /// A name of a field or a variant, read by `deserialize_str`.
+    ///
+    /// # Errors
+    ///
+    /// Those of `deserialize_str`.
     pub fn deserialize_identifier(
         &mut self,
         alloc: Global,
@@ -124,8 +145,11 @@ impl<'de> Deserializer<SegmentReader<'de>> {
         self.deserialize_str(alloc)
     }
 
-    /// A byte string: borrowed and copied as a text is. Refused as `Bytes<CowSlice<u8>>` is, by the
-    /// name "bytes" where that has no other.
+    /// A byte string: borrowed and copied as a text is.
+    ///
+    /// # Errors
+    ///
+    /// Those of `Bytes<CowSlice<u8>>`, each as `Core`, by "bytes" where no other name is said.
     pub fn deserialize_bytes(
         &mut self,
         alloc: Global,
@@ -142,7 +166,11 @@ impl<'de> Deserializer<SegmentReader<'de>> {
 
 impl<R: BufRead + Drop> Deserializer<IoReader<R>> {
     /// A text, always a copy, since a stream lends nothing; one of indefinite length needs a step
-    /// for its chunks. Refused as `CowStr` is, by the name "str" where that has no other.
+    /// for its chunks.
+    ///
+    /// # Errors
+    ///
+    /// Those of `CowStr`, each as `Core`, by "str" where no other name is said.
     pub fn deserialize_str<'de>(
         &mut self,
         alloc: Global,
@@ -156,7 +184,11 @@ impl<R: BufRead + Drop> Deserializer<IoReader<R>> {
         copied_text(alloc, found)
     }
 
-    /// A name of a field or a variant: as `deserialize_str`.
+    /// A name of a field or a variant, read by `deserialize_str`.
+    ///
+    /// # Errors
+    ///
+    /// Those of `deserialize_str`.
     pub fn deserialize_identifier<'de>(
         &mut self,
         alloc: Global,
@@ -169,8 +201,11 @@ impl<R: BufRead + Drop> Deserializer<IoReader<R>> {
         self.deserialize_str(alloc)
     }
 
-    /// A byte string, always a copy. Refused as `Bytes<CowSlice<u8>>` is, by the name "bytes" where
-    /// that has no other.
+    /// A byte string, always a copy.
+    ///
+    /// # Errors
+    ///
+    /// Those of `Bytes<CowSlice<u8>>`, each as `Core`, by "bytes" where no other name is said.
     pub fn deserialize_bytes<'de>(
         &mut self,
         alloc: Global,

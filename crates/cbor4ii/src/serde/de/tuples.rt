@@ -18,12 +18,12 @@ impl<A: Typed, B: Typed> Typed for (A, B) {
     ghost promise = { typed_pair A.promise B.promise };
 }
 
-/// An array of a known length of 2, under one step, which is given back.
+/// An array of a definite length of 2, under one step, which is given back.
 ///
-/// As `Core`, by the name "tuple": `DepthOverflow` where no step is left, and nothing is taken;
-/// behind the head, `RequireLength` with a length that is not 2, as `Big` from 65536 on, or with
-/// `Indefinite`. A head that is not one of an array is refused by the name "array", as every length
-/// is, and a part as the part is.
+/// # Errors
+///
+/// - those of `deserialize_tuple` of 2, at the step and the head
+/// - those of each part, with what they leave
 impl<S: Source, A: Deserialize<S> + Drop, B: Deserialize<S>> Deserialize<S> for (A, B) {
     #[inline(always)]
     fn deserialize(
@@ -101,7 +101,11 @@ impl<A: Typed, B: Typed, C: Typed> Typed for (A, B, C) {
     ghost promise = { typed_triple A.promise B.promise C.promise };
 }
 
-/// As a pair, with a length of 3.
+/// An array of a definite length of 3, under one step, which is given back.
+///
+/// # Errors
+///
+/// Those of a pair, with a length of 3.
 impl<S: Source, A: Deserialize<S> + Drop, B: Deserialize<S> + Drop, C: Deserialize<S>> Deserialize<
     S,
 > for (A, B, C) {

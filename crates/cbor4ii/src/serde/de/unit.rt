@@ -21,9 +21,9 @@ impl Typed for () {
 
 /// An array of no item, in one byte, `80` (RFC 8949 section 3.1). It takes no step and no memory.
 ///
-/// Refused as `Core`, by the name "unit": `Eof` with 1 where no byte is left; `Mismatch` with the
-/// first byte, which is taken, where that is another one, also where an array of no item is spelled
-/// otherwise.
+/// # Errors
+///
+/// Those of `Deserializer::deserialize_unit`.
 impl<S: Source> Deserialize<S> for () {
     fn deserialize(alloc: Global, de: &mut Deserializer<S>) -> Result<(), DecodeError<S::Error>> {
         de.deserialize_unit()
@@ -35,9 +35,10 @@ impl<S: Source> Deserializer<S> {
     ///
     /// # Errors
     ///
-    /// `Core` of `Read` where the reader failed. By the name "unit": `Core` of `Eof` with 1 where
-    /// no byte is left, and of `Mismatch` with the first byte, which is taken, where that is
-    /// another one, also where an array of no item is spelled otherwise.
+    /// - `Core` of `Read`: the reader failed. Nothing is taken then
+    /// - `Core` of `Eof` by "unit" with 1: no byte is left
+    /// - `Core` of `Mismatch` by "unit" with the first byte, which is taken: it is not `80`. It
+    ///   comes also where an array of no item is encoded otherwise
     pub fn deserialize_unit(&mut self) -> Result<(), DecodeError<S::Error>>
         ensures { Deserializes ⟦<() as Typed>⟧.promise
             (input S.view self.old) (input S.view self.new) (answer_of result) }
@@ -57,7 +58,11 @@ impl<S: Source> Deserializer<S> {
         }
     }
 
-    /// A struct without fields, read and refused as the unit is. Its name is not spelled.
+    /// A struct without fields, read as the unit is. Its name is not spelled.
+    ///
+    /// # Errors
+    ///
+    /// Those of `deserialize_unit`.
     pub fn deserialize_unit_struct(&mut self, name: StaticStr) -> Result<(), DecodeError<S::Error>>
         ensures { Deserializes ⟦<() as Typed>⟧.promise
             (input S.view self.old) (input S.view self.new) (answer_of result) }

@@ -49,13 +49,16 @@ impl<S: Source, T: Deserialize<S> + Drop> Sequence<S> for Vec<T> {
 /// of the budget, which is given back whatever the answer is. At most 256 values have their place
 /// reserved before any of them came.
 ///
-/// Refusals, in this order, as `Core` and by the name "array" where no other is said:
+/// # Errors
 ///
-/// - no step is left: `DepthOverflow` by "seq", and nothing is taken
-/// - the head is not one of an array: `Mismatch` or `Eof`, as for every head
-/// - at an indefinite length, in the place of a value or a break there is no byte: `Eof` by "break"
-///   with 1
-/// - a value is refused: its own refusal, and what it leaves
+/// They come in this order:
+///
+/// - those of `deserialize_seq`, at the step and the head
+/// - `Core` of `Eof` by "break" with 1: the length is indefinite, and no byte is left in the place
+///   of a value or a break
+/// - those of a value, with what they leave
+///
+/// `Core` of `OutOfMemory` is told at `Deserialize::deserialize`.
 impl<S: Source, T: Deserialize<S> + Drop> Deserialize<S> for Vec<T> {
     #[inline(always)]
     fn deserialize(

@@ -1,0 +1,52 @@
+use Rattle.std.proofs.Common.{refl, ap, Ok, Err, length, take, drop, [], ◌-◌}
+use Rattle.cbor4ii.specs.Structs.{unnamed}
+use Rattle.cbor4ii.specs.Typed.{answer_of}
+use Rattle.cbor4ii.proofs.Filling.{skips, field_ok, field_err, field_below, at_first, at_none}
+use Rattle.cbor4ii.proofs.Names.{some_name, is_first, is_behind}
+use Rattle.cbor4ii.proofs.serde.de.fields.Tuple2Values.take.Goals as goal
+
+pub returns-then-at-gt0 : goal.returns-then-at-gt0
+returns-then-at-gt0 g c name which =
+    let names = c.args.names.now in
+    let place = g.P.Place.place in
+    let p = g.P.Value.Typed.promise in
+    let some = c.in-len1-up.len_at_least in
+    let d = some_name names some in
+    let h = is_behind name names c.args.at d some c.if-at-gt0.true which in
+    at_first place p g.V.Places.fields names name _ _ _ _ (answer_of c.take.result) d some
+    (field_below place _ p (g.V.Places.fields (take (length names - 1) (drop 1 names))) _ _
+    (answer_of c.take.result) _ _ _ h.0 refl (c.take.ensures name h.1))
+
+pub returns-in-Ok : goal.returns-in-Ok
+returns-in-Ok g c name which =
+    let names = c.args.names.now in
+    let place = g.P.Place.place in
+    let p = g.P.Value.Typed.promise in
+    let some = c.in-len1-up.len_at_least in
+    let d = some_name names some in
+    let h = is_first name names c.args.at d some c.if-at-gt0.false which in
+    at_first {U = Unit {0}} place p g.V.Places.fields names name _ _ _ _ (Ok tt) d some
+    (field_ok place _ p (g.V.Places.fields (take (length names - 1) (drop 1 names))) _ _ h
+    (ap (λ o. (o, c.args.self.now.1)) c.put.ensures) c.in-Ok.ensures)
+
+pub returns-in-Err : goal.returns-in-Err
+returns-in-Err g c name which =
+    let names = c.args.names.now in
+    let place = g.P.Place.place in
+    let p = g.P.Value.Typed.promise in
+    let some = c.in-len1-up.len_at_least in
+    let d = some_name names some in
+    let h = is_first name names c.args.at d some c.if-at-gt0.false which in
+    at_first {U = Unit {0}} place p g.V.Places.fields names name c.args.self.now
+    c.args.self.now _ _ (Err _) d some
+    (field_err place _ p (g.V.Places.fields (take (length names - 1) (drop 1 names))) _ _ h
+    c.in-Err.ensures)
+
+pub returns-in-empty : goal.returns-in-empty
+returns-in-empty g c name which =
+    let place = g.P.Place.place in
+    let p = g.P.Value.Typed.promise in
+    at_none place p g.V.Places.fields c.args.names.now name _ _ _ _
+    (answer_of c.deserialize_ignored_any.result) c.in-empty.len_below
+    (skips (unnamed place p (g.V.Places.fields [])) name c.args.self.now _
+    (answer_of c.deserialize_ignored_any.result) refl refl c.deserialize_ignored_any.ensures.item)

@@ -1,8 +1,0 @@
-use Rattle.std.proofs.Common.{true, arith}
-use Rattle.cbor4ii.proofs.Backs.{sequence_read_back}
-use Rattle.cbor4ii.proofs.serde.laws.vectors_are_read_back.Goals as goal
-
-pub returns : goal.returns
-returns g c v cost back =
-    sequence_read_back g.T.Typed.promise.spelling.reads g.T.Serialize.item cost 4 true v.items
-    (omega (arith, v.ok.0, v.ok.1, v.small)) back

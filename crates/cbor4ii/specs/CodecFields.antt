@@ -1,0 +1,269 @@
+-- Structs in one word: how their fields are written and read, and that they are read back.
+use Rattle.std.proofs.Common.{◌≡◌, ◌≢◌, ◌<◌, ◌≤◌, ◌+◌, ℕ, zero, suc, List, [], ◌∷◌, length, max}
+use Rattle.std.proofs.Common.{Option, None, Some, Result, Ok, Bool, true, IsTrue, refl, sym, ap}
+use Rattle.std.proofs.Common.{subst, ltb, ltb-true, arith}
+use Rattle.std.specs.Prelude.{◌&&◌, not, bytes_eq}
+use Rattle.std.specs.List.{AllByRecursion}
+use Rattle.std.specs.Str.{IsAscii}
+use Rattle.std.specs.declared.alloc.Global.{Global}
+use Rattle.std.proofs.lemmas.Slice.Eq.{bytes_eq-Decides}
+use Rattle.std.proofs.lemmas.Str.{IsUtf8-from_ascii}
+use Rattle.std.proofs.lemmas.Str.Ascii.{IsAscii-nil}
+use Rattle.cbor4ii_items.specs.Laws.Containers.{both}
+use Rattle.cbor4ii_ser.specs.Item.{Encoding, struct_item}
+use Rattle.cbor4ii_ser.specs.OneItem.{IsOneItem, IsOneEntry, canonical}
+use Rattle.cbor4ii_ser.specs.Laws.OneItem.{struct_is_item, field_is_entry}
+use Rattle.cbor4ii.specs.Codec.{Codec, made_back}
+use Rattle.cbor4ii.specs.Fields.{ReadsFields, named_field}
+use Rattle.cbor4ii.specs.Laws.FieldsBack.{none_back, field_back, no_field_back}
+use Rattle.cbor4ii.specs.Laws.StructsBack.{struct_back, fields_count, no_dearer}
+use Rattle.cbor4ii.specs.Made.{gives_ok, made_from}
+use Rattle.cbor4ii.specs.Places.{Place, last_place, only_place, put_last}
+use Rattle.cbor4ii.specs.Presence.{Shape, no_others, shaped, or_words, or_value, once, optional}
+use Rattle.cbor4ii.specs.Presence.{paired, struct_from}
+use Rattle.cbor4ii.specs.Structs.{struct_of}
+use Rattle.cbor4ii.specs.declared.serde.de.place.Single.{Single}
+use Rattle.cbor4ii.specs.ReadBack.{IsReadBack, IsName, NamedItems, fields_of, FieldsBack}
+
+-- ---- names of fields
+
+abbrev pub are_ascii : List ℕ → Bool
+are_ascii [] = true
+are_ascii (b ∷ bs) = ltb b 128 && are_ascii bs
+
+-- none of the names is this one
+abbrev pub is_apart : List ℕ → List (List ℕ) → Bool
+is_apart name [] = true
+is_apart name (other ∷ names) = not (bytes_eq other name) && is_apart name names
+
+-- ASCII, below 256 bytes, and none of the others
+abbrev pub is_new : List ℕ → List (List ℕ) → Bool
+is_new name names = (are_ascii name && ltb (length name) 256) && is_apart name names
+
+all_ascii : (bs : List ℕ) → IsTrue (are_ascii bs) → IsAscii bs
+all_ascii [] h i = IsAscii-nil i
+all_ascii (b ∷ bs) h zero = ltb-true b 128 (both (ltb b 128) (are_ascii bs) h).0
+all_ascii (b ∷ bs) h (suc i) = all_ascii bs (both (ltb b 128) (are_ascii bs) h).1 i
+
+pub is_name : (name : List ℕ) → IsTrue (are_ascii name && ltb (length name) 256) → IsName name
+is_name name h =
+    let e = both (are_ascii name) (ltb (length name) 256) h in
+    (IsUtf8-from_ascii name (all_ascii name e.0), omega (arith, ltb-true (length name) 256 e.1))
+
+pub is_other : (other name : List ℕ) → IsTrue (not (bytes_eq other name)) → other ≢ name
+is_other other name h e = let same = (bytes_eq-Decides other name).1 e in cc
+
+-- ---- structs
+
+-- the fields of a struct: how they are written and read, of values of type W, which are held as V
+-- while they are read
+pub record Parts (V W : Type 0) : Type 1 where
+  pub shape : Shape V W
+  pub names : List (List ℕ)
+  -- the items of the values that are written, with their names, which are among those
+  pub items : W → NamedItems
+  pub few : (w : W) → length (items w) ≤ length names
+  pub others : (name : List ℕ) → IsTrue (is_apart name names) → (w : W)
+      → AllByRecursion (λ (part : List ℕ × Encoding). part.0 ≢ name) (items w)
+  pub held : W → V
+  pub stands : W → Type 0
+  pub cost : W → ℕ
+  pub made : (w : W) → shape.value (held w) ≡ Ok w
+  pub back : (alloc : Global) (w : W) → stands w
+      → FieldsBack shape.fields.named shape.fields.first (held w) (items w) (cost w)
+  pub entries : (w : W) → stands w
+      → AllByRecursion (IsOneEntry canonical) (fields_of (items w))
+
+abbrev pub no_parts : Parts (Unit {0}) (Unit {0})
+no_parts = record {
+  shape = no_others;
+  names = [];
+  items = λ w. [];
+  few = λ w. omega arith;
+  others = λ name h w. tt;
+  held = λ w. w;
+  stands = λ w. Unit {0};
+  cost = λ w. 0;
+  made = λ w. refl;
+  back = λ alloc w h. none_back w;
+  entries = λ w h. tt;
+}
+
+module _ {T P V W : Type 0} (place : Place T P) (name : List ℕ) (c : Codec T)
+    (others : Parts V W) (new : IsTrue (is_new name others.names)) where
+  pub part_back : (alloc : Global) (w : T × W) → c.stands w.0 × others.stands w.1
+      → FieldsBack (named_field place.put name c.promise.spelling.reads others.shape.fields.named)
+      (place.none, others.shape.fields.first) (place.put w.0 place.none, others.held w.1)
+      ((name, c.item w.0) ∷ others.items w.1) (max (c.cost w.0) (others.cost w.1))
+  part_back alloc w h =
+      let e = both (are_ascii name && ltb (length name) 256) (is_apart name others.names) new in
+      field_back place name c.promise.spelling.reads others.shape.fields.named
+      others.shape.fields.first (others.held w.1) (others.items w.1) (others.cost w.1) (c.item w.0)
+      w.0 (c.cost w.0) (others.back alloc w.1 h.1) (is_name name e.0) (others.others name e.1 w.1)
+      (c.back alloc w.0 h.0)
+
+  pub part_entries : (w : T × W) → c.stands w.0 × others.stands w.1
+      → AllByRecursion (IsOneEntry canonical) (fields_of ((name, c.item w.0) ∷ others.items w.1))
+  part_entries w h =
+      let e = both (are_ascii name && ltb (length name) 256) (is_apart name others.names) new in
+      let is = is_name name e.0 in (
+        field_is_entry canonical name (c.item w.0) (omega (arith, is.1)) is.0 (c.one w.0 h.0),
+        others.entries w.1 h.1,
+      )
+
+  -- a field of this name and of which this becomes, where a value that is there becomes itself
+  abbrev pub part_by : (value : P → Result T (List ℕ))
+      → ((v : T) → value (place.put v place.none) ≡ Ok v) → Parts (P × V) (T × W)
+  part_by value made = record {
+    shape = shaped place value name c.promise others.shape;
+    names = name ∷ others.names;
+    items = λ w. (name, c.item w.0) ∷ others.items w.1;
+    few = λ w. omega (arith, others.few w.1);
+    others = λ other h w.
+        (let e = both (not (bytes_eq name other)) (is_apart other others.names) h in
+        (is_other name other e.0, others.others other e.1 w.1));
+    held = λ w. (place.put w.0 place.none, others.held w.1);
+    stands = λ w. c.stands w.0 × others.stands w.1;
+    cost = λ w. max (c.cost w.0) (others.cost w.1);
+    made = λ w. subst (λ (r : Result T (List ℕ)). paired r (others.shape.value (others.held w.1))
+        ≡ Ok (w.0, w.1)) (sym (made w.0)) (ap (paired (Ok w.0)) (others.made w.1));
+    back = part_back;
+    entries = part_entries;
+  }
+
+-- a field that has to be there
+abbrev pub part : {T V W : Type 0} (name words : List ℕ) (c : Codec T) (others : Parts V W)
+    → IsTrue (is_new name others.names) → Parts (Option T × V) (T × W)
+part name words c others new = part_by last_place name c others new (or_words words) (λ v. refl)
+
+-- a field in whose place this value stands where it is missing
+abbrev pub part_or : {T V W : Type 0} (name : List ℕ) (other : T) (c : Codec T)
+    (others : Parts V W) → IsTrue (is_new name others.names) → Parts (Option T × V) (T × W)
+part_or name other c others new = part_by last_place name c others new (or_value other) (λ v. refl)
+
+-- a field that has to be there, and once; else the struct is refused in these words
+abbrev pub part_once : {T V W : Type 0} (name words : List ℕ) (c : Codec T) (others : Parts V W)
+    → IsTrue (is_new name others.names) → Parts (Single T × V) (T × W)
+part_once name words c others new =
+    part_by only_place name c others new (once words (or_words words)) (λ v. refl)
+
+-- ---- a field that is left out where it is none
+
+abbrev pub StandsHeld : {T : Type 0} → Codec T → Option T → Type 0
+StandsHeld c None = Unit {0}
+StandsHeld c (Some v) = c.stands v
+
+abbrev pub held_cost : {T : Type 0} → Codec T → Option T → ℕ
+held_cost c None = 0
+held_cost c (Some v) = c.cost v
+
+-- the item of a value that is there, before others
+abbrev pub before : {T : Type 0} → List ℕ → (T → Encoding) → Option T → NamedItems → NamedItems
+before name item None behind = behind
+before name item (Some v) behind = (name, item v) ∷ behind
+
+module _ {T V W : Type 0} (name : List ℕ) (c : Codec T) (others : Parts V W)
+    (new : IsTrue (is_new name others.names)) where
+  pub optional_few : (w : Option T × W)
+      → length (before name c.item w.0 (others.items w.1)) ≤ 1 + length others.names
+  optional_few (None, w) = omega (arith, others.few w)
+  optional_few (Some v, w) = omega (arith, others.few w)
+
+  pub optional_others : (other : List ℕ) → IsTrue (is_apart other (name ∷ others.names))
+      → (w : Option T × W) → AllByRecursion (λ (part : List ℕ × Encoding). part.0 ≢ other)
+      (before name c.item w.0 (others.items w.1))
+  optional_others other h (None, w) =
+      others.others other (both (not (bytes_eq name other)) (is_apart other others.names) h).1 w
+  optional_others other h (Some v, w) =
+      let e = both (not (bytes_eq name other)) (is_apart other others.names) h in
+      (is_other name other e.0, others.others other e.1 w)
+
+  pub optional_back : (alloc : Global) (w : Option T × W)
+      → StandsHeld c w.0 × others.stands w.1
+      → FieldsBack (named_field put_last name c.promise.spelling.reads others.shape.fields.named)
+      (None, others.shape.fields.first) (w.0, others.held w.1)
+      (before name c.item w.0 (others.items w.1)) (max (held_cost c w.0) (others.cost w.1))
+  optional_back alloc (None, w) h =
+      let e = both (are_ascii name && ltb (length name) 256) (is_apart name others.names) new in
+      subst (λ cost. FieldsBack
+      (named_field put_last name c.promise.spelling.reads others.shape.fields.named)
+      (None, others.shape.fields.first) (None, others.held w) (others.items w) cost)
+      (sym (no_dearer (others.cost w)))
+      (no_field_back last_place name c.promise.spelling.reads others.shape.fields.named
+      others.shape.fields.first (others.held w) (others.items w) (others.cost w)
+      (others.back alloc w h.1) (others.others name e.1 w))
+  optional_back alloc (Some v, w) h = part_back last_place name c others new alloc (v, w) h
+
+  pub optional_entries : (w : Option T × W) → StandsHeld c w.0 × others.stands w.1
+      → AllByRecursion (IsOneEntry canonical)
+      (fields_of (before name c.item w.0 (others.items w.1)))
+  optional_entries (None, w) h = others.entries w h.1
+  optional_entries (Some v, w) h = part_entries last_place name c others new (v, w) h
+
+  -- a field that is left out where it is none, and is none where it is missing
+  abbrev pub part_optional : Parts (Option T × V) (Option T × W)
+  part_optional = record {
+    shape = optional name c.promise others.shape;
+    names = name ∷ others.names;
+    items = λ w. before name c.item w.0 (others.items w.1);
+    few = λ w. omega (arith, optional_few w);
+    others = optional_others;
+    held = λ w. (w.0, others.held w.1);
+    stands = λ w. StandsHeld c w.0 × others.stands w.1;
+    cost = λ w. max (held_cost c w.0) (others.cost w.1);
+    made = λ w. ap (paired (Ok w.0)) (others.made w.1);
+    back = optional_back;
+    entries = optional_entries;
+  }
+
+-- ---- whole structs
+
+-- the fields of a struct, fewer than 256
+module _ {V W : Type 0} (p : Parts V W) (few : length p.names < 256) where
+  pub fields_are_back : (alloc : Global) (w : W) → p.stands w
+      → IsReadBack (ReadsFields p.shape.fields.first p.shape.fields.named)
+      (struct_item (fields_of (p.items w))) (p.held w) (1 + p.cost w)
+  fields_are_back alloc w h =
+      struct_back p.shape.fields.named alloc p.shape.fields.first (p.held w) (p.items w) (p.cost w)
+      (omega (arith, p.few w, few)) (p.back alloc w h)
+
+  pub fields_are_one : (w : W) → p.stands w
+      → IsOneItem canonical (struct_item (fields_of (p.items w)))
+  fields_are_one w h = struct_is_item canonical (fields_of (p.items w))
+      (omega (arith, fields_count (p.items w), p.few w, few)) (p.entries w h)
+
+pub struct_is_back : {R V W : Type 0} (values : R → W) (p : Parts V W) → length p.names < 256
+    → (alloc : Global) (r : R) → p.stands (values r)
+    → IsReadBack (made_from (λ (w : W) (r : R). w ≡ values r) (struct_from p.shape)).spelling.reads
+    (struct_item (fields_of (p.items (values r)))) r (1 + p.cost (values r))
+struct_is_back {R = R} {V = V} {W = W} values p few alloc r h =
+    let w = values r in
+    let item = struct_item (fields_of (p.items w)) in
+    made_back (struct_from p.shape).spelling.reads (λ (w : W) (r : R). w ≡ values r) item w r
+    (1 + p.cost w) refl
+    (made_back (ReadsFields p.shape.fields.first p.shape.fields.named) (gives_ok p.shape.value) item
+    (p.held w) w (1 + p.cost w) (p.made w) (fields_are_back p few alloc w h))
+
+-- a struct that has these values of its fields, fewer than 256
+abbrev pub struct_codec : {R V W : Type 0} (values : R → W) (p : Parts V W)
+    → IsTrue (ltb (length p.names) 256) → Codec R
+struct_codec values p few = record {
+  promise = made_from (λ w r. w ≡ values r) (struct_from p.shape);
+  item = λ r. struct_item (fields_of (p.items (values r)));
+  stands = λ r. p.stands (values r);
+  cost = λ r. 1 + p.cost (values r);
+  back = struct_is_back values p (ltb-true (length p.names) 256 few);
+  one = λ r. fields_are_one p (ltb-true (length p.names) 256 few) (values r);
+}
+
+-- a struct whose call answers the values of its fields as they are held, each of them there
+abbrev pub fields_codec : {R V W : Type 0} (values : R → W) (p : Parts V W)
+    → IsTrue (ltb (length p.names) 256) → Codec R
+fields_codec values p few = record {
+  promise = struct_of (λ r. p.held (values r)) p.shape.fields;
+  item = λ r. struct_item (fields_of (p.items (values r)));
+  stands = λ r. p.stands (values r);
+  cost = λ r. 1 + p.cost (values r);
+  back = λ alloc r. fields_are_back p (ltb-true (length p.names) 256 few) alloc (values r);
+  one = λ r. fields_are_one p (ltb-true (length p.names) 256 few) (values r);
+}

@@ -1,0 +1,34 @@
+//! Rows of a struct of which a field is left out where it is none.
+use crate::reply::Reply;
+use cbor4ii::serde::{DecodeError, Deserialize, Deserializer};
+use cbor4ii_rw::read::Source;
+use cbor4ii_vectors::{mismatch, table};
+use cbor4ii_vectors_de::typed::{Answer, BothTold, RowTold, Take, tells};
+use std::alloc::Global;
+use std::test::Fail;
+
+impl Take for Reply {
+    fn take<S: Source>(
+        alloc: Global,
+        de: &mut Deserializer<S>,
+    ) -> Result<Self, DecodeError<S::Error>> {
+        Self::deserialize(alloc, de)
+    }
+}
+
+const REPLIES_BOTH: &[BothTold] = table! {
+    (b"\xa1\x66status\x18\xc8", "Is(Reply { status: 200, reason: None })"),
+    (b"\xa2\x66status\x05\x66reason\x61a", "Is(Reply { status: 5, reason: Some(\"a\") })"),
+};
+
+// A reason may come first, and is no null.
+const REPLIES: &[RowTold] = table! {
+    (b"\xa2\x66reason\x60\x66status\x05", Ok("Is(Reply { status: 5, reason: Some(\"\") })"), b""),
+    (b"\xa2\x66reason\xf6\x66status\x05", Err(mismatch!("str", 0xf6)), b"\x66status\x05"),
+    (b"\xa0\x01", Ok("Custom(\"a reply has no status\")"), b"\x01"),
+};
+
+#[test]
+fn a_reason_is_left_out_where_it_is_none(rt: HostRuntime) -> Result<(), Fail> {
+    tells::<Answer<Reply>>(rt.alloc(), REPLIES_BOTH, REPLIES, &[])
+}

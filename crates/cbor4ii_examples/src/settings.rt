@@ -1,0 +1,195 @@
+//! A struct of eight fields with defaults, and at which byte its reading stops.
+ghost use Rattle.std.specs.Prelude.{◌≡◌, None, false, codes};
+ghost use Rattle.std.proofs.Common.{refl};
+ghost use Rattle.cbor4ii.specs.CodecFields.{struct_codec, part_once, part_or, no_parts};
+ghost use Rattle.cbor4ii.specs.Fields.{no_values};
+
+use cbor4ii::serde::{
+    DecodeError, Described, Deserialize, Deserializer, EncodeError, Once, Or, Required, Serialize,
+    Serializer, Typed,
+};
+use cbor4ii_rw::error::{Never, StaticStr};
+use cbor4ii_rw::read::Source;
+use cbor4ii_rw::slice_reader::SliceReader;
+use cbor4ii_rw::write::Write;
+use std::alloc::Global;
+use std::error::Error;
+use std::fmt;
+
+/// The settings of a server.
+#[derive(Debug, PartialEq, Drop)]
+pub struct Settings {
+    /// The host's name.
+    pub host: String,
+    /// The port, 8080 where it is not set.
+    pub port: u16,
+    /// Whether each request is logged.
+    pub verbose: bool,
+    /// How many requests are served at a time, 4 where it is not set.
+    pub workers: u8,
+    /// The bytes of the cache, none where it is not set.
+    pub cache: u64,
+    /// A proxy.
+    pub proxy: Option<String>,
+    /// The plugins' names.
+    pub plugins: Option<Vec<String>>,
+    /// What a visitor is told first.
+    pub greeting: Option<String>,
+}
+
+impl Serialize for Settings {
+    ghost item = { ⟦<Settings as Described>⟧.codec.item };
+
+    fn serialize<W: Write>(&self, ser: &mut Serializer<W>) -> Result<(), EncodeError<W::Error>> {
+        ser.serialize_8_fields(
+            "Settings",
+            "host",
+            &self.host,
+            "port",
+            &self.port,
+            "verbose",
+            &self.verbose,
+            "workers",
+            &self.workers,
+            "cache",
+            &self.cache,
+            "proxy",
+            &self.proxy,
+            "plugins",
+            &self.plugins,
+            "greeting",
+            &self.greeting,
+        )
+    }
+}
+
+const FIELDS: [StaticStr; 8] = [
+    "host", "port", "verbose", "workers", "cache", "proxy", "plugins", "greeting",
+];
+
+const MISSING: [StaticStr; 1] = ["settings have one host"];
+
+/// Only the host has to be there. Each field may come at any place, and others are skipped.
+impl<S: Source> Deserialize<S> for Settings {
+    fn deserialize(
+        alloc: Global,
+        de: &mut Deserializer<S>,
+    ) -> Result<Settings, DecodeError<S::Error>> {
+        let texts = (Or(None), (Or(None), (Or(None), ())));
+        let numbers = (Or(8080), (Or(false), (Or(4), (Or(0), texts))));
+        de.deserialize_fields(
+            alloc,
+            "Settings",
+            &FIELDS,
+            &MISSING,
+            (Once(Required), numbers),
+        )
+    }
+}
+
+type Texts = (Option<String>, (Option<Vec<String>>, (Option<String>, ())));
+
+type Values = (String, (u16, (bool, (u8, (u64, Texts)))));
+
+impl From<Values> for Settings {
+    ghost from_gives = { λ values s. values ≡ (
+      s.host,
+      (
+        s.port,
+        (
+          s.verbose,
+          (
+            s.workers,
+            (s.cache, (s.proxy, (s.plugins, (s.greeting, no_values)))),
+          ),
+        ),
+      ),
+    ) };
+
+    fn from(values: Values) -> Settings {
+        let (host, (port, (verbose, (workers, (cache, (proxy, (plugins, (greeting, ())))))))) =
+            values;
+        Settings {
+            host,
+            port,
+            verbose,
+            workers,
+            cache,
+            proxy,
+            plugins,
+            greeting,
+        }
+    }
+}
+
+impl Typed for Settings {
+    ghost promise = { ⟦<Settings as Described>⟧.codec.promise };
+}
+
+impl Described for Settings {
+    ghost codec = { struct_codec (λ s. (
+      s.host,
+      (
+        s.port,
+        (
+          s.verbose,
+          (
+            s.workers,
+            (s.cache, (s.proxy, (s.plugins, (s.greeting, no_values)))),
+          ),
+        ),
+      ),
+    ))
+        (part_once (codes "host") (codes "settings have one host") ⟦<String as Described>⟧.codec
+        (part_or (codes "port") 8080 ⟦<u16 as Described>⟧.codec
+        (part_or (codes "verbose") false ⟦<bool as Described>⟧.codec
+        (part_or (codes "workers") 4 ⟦<u8 as Described>⟧.codec
+        (part_or (codes "cache") 0 ⟦<u64 as Described>⟧.codec
+        (part_or (codes "proxy") None ⟦<Option<String> as Described>⟧.codec
+        (part_or (codes "plugins") None ⟦<Option<Vec<String>> as Described>⟧.codec
+        (part_or (codes "greeting") None ⟦<Option<String> as Described>⟧.codec no_parts refl) refl)
+        refl) refl) refl) refl) refl) refl) refl };
+}
+
+/// Settings that were refused.
+#[derive(Debug, PartialEq, Drop)]
+pub struct Fault {
+    /// How many bytes were taken, from the first one.
+    pub at: usize,
+    /// Why.
+    pub error: DecodeError<Never>,
+}
+
+/// A line for a person: the byte, and why.
+impl fmt::Display for Fault {
+    fn fmt<W: fmt::Write>(&self, f: &mut fmt::Formatter<W>) -> fmt::Result {
+        match &self.error {
+            DecodeError::Core(error) => write!(f, "byte {}: {error}", self.at),
+            DecodeError::Custom(words) => write!(f, "byte {}: {words}", self.at),
+        }
+    }
+}
+
+impl Error for Fault {}
+
+/// The settings that the bytes begin with.
+///
+/// # Errors
+///
+/// Those of `deserialize_fields`, with the byte at which reading stopped.
+pub fn read_settings(alloc: Global, input: &[u8]) -> Result<Settings, Fault> {
+    let mut de = Deserializer::new(SliceReader::new(input));
+    match Settings::deserialize(alloc, &mut de) {
+        Ok(settings) => Ok(settings),
+        Err(error) => {
+            let left = de.into_inner().remaining().len();
+            Err(Fault {
+                at: input.len().saturating_sub(left),
+                error,
+            })
+        }
+    }
+}
+
+#[cfg(test)]
+mod tests;

@@ -1,0 +1,90 @@
+//! Rows of settings, and of the bytes at which their reading stops.
+use crate::settings::{Settings, read_settings};
+use cbor4ii::serde::DecodeError::{Core, Custom};
+use cbor4ii::serde::{DecodeError, Deserialize, Deserializer};
+use cbor4ii_rw::error::DecodeError::{Eof, Mismatch};
+use cbor4ii_rw::error::{Len, Never};
+use cbor4ii_rw::read::Source;
+use cbor4ii_vectors::table;
+use cbor4ii_vectors_de::typed::{Answer, RowTold, Take, comes_back, tells_all};
+use std::alloc::Global;
+use std::test::Fail;
+
+impl Take for Settings {
+    fn take<S: Source>(
+        alloc: Global,
+        de: &mut Deserializer<S>,
+    ) -> Result<Self, DecodeError<S::Error>> {
+        Self::deserialize(alloc, de)
+    }
+}
+
+const ALL: &[u8] = b"\xa8\x64host\x61a\x64port\x01\x67verbose\xf5\x67workers\x02\x65cache\x03\
+\x65proxy\x61b\x67plugins\x81\x61c\x68greeting\x61d";
+
+const ALL_TOLD: &str = "Settings { host: \"a\", port: 1, verbose: true, workers: 2, cache: 3, \
+proxy: Some(\"b\"), plugins: Some([\"c\"]), greeting: Some(\"d\") }";
+
+#[test]
+fn settings_come_back(rt: HostRuntime) -> Result<(), Fail> {
+    comes_back::<Settings>(rt.alloc(), ALL, ALL_TOLD)
+}
+
+const DEFAULTS: &str = "Is(Settings { host: \"a\", port: 8080, verbose: false, workers: 4, \
+cache: 0, proxy: None, plugins: None, greeting: None })";
+
+const SETTINGS: &[RowTold] = table! {
+    (b"\xa1\x64host\x61a\x00", Ok(DEFAULTS), b"\x00"),
+    (b"\xa2\x65color\x81\x01\x64host\x61a", Ok(DEFAULTS), b""),
+    // Of several ports the last counts; several hosts are refused.
+    (b"\xa3\x64port\x01\x64host\x61a\x64port\x19\x1f\x90", Ok(DEFAULTS), b""),
+    (b"\xa2\x64host\x61a\x64host\x61a\x00", Ok("Custom(\"settings have one host\")"), b"\x00"),
+    (b"\xa1\x64port\x01\x00", Ok("Custom(\"settings have one host\")"), b"\x00"),
+};
+
+#[test]
+fn what_is_not_set_has_a_default(rt: HostRuntime) -> Result<(), Fail> {
+    tells_all::<Answer<Settings>>(rt.alloc(), SETTINGS, &[])
+}
+
+type Row = (&'static [u8], usize, DecodeError<Never>);
+
+// A port of four bytes, a number in the place of a text, a map that ends too early, and one that
+// lacks the host.
+const FAULTS: &[Row] = table! {
+    (b"\xa1\x64port\x1a\x00\x01\x00\x00", 7, Core(Mismatch { name: "u16", found: 0x1a })),
+    (b"\xa1\x64host\x05", 7, Core(Mismatch { name: "str", found: 5 })),
+    (b"\xa1\x64host", 6, Core(Eof { name: "str", expect: Len::Small(1) })),
+    (b"\xa0", 1, Custom("settings have one host")),
+};
+
+#[test]
+fn a_fault_tells_its_byte(rt: HostRuntime) -> Result<(), Fail> {
+    for (bytes, at, error) in FAULTS {
+        match read_settings(rt.alloc(), bytes) {
+            Ok(_) => return Err(Fail::new(format_args!("{bytes:?} is read"))),
+            Err(fault) => {
+                assert_eq!(rt; fault.at, *at);
+                assert_eq!(rt; &fault.error, error);
+            }
+        }
+    }
+    Ok(())
+}
+
+const LINES: &[(&[u8], &str)] = table! {
+    (b"\xa1\x64host\x05", "byte 7: Mismatch { name: \"str\", found: 5 }"),
+    (b"\xa1\x64port\x01", "byte 7: settings have one host"),
+};
+
+#[test]
+fn a_fault_is_a_line(rt: HostRuntime) -> Result<(), Fail> {
+    let alloc = rt.alloc();
+    for (bytes, line) in LINES {
+        match read_settings(alloc, bytes) {
+            Ok(_) => return Err(Fail::new(format_args!("{bytes:?} is read"))),
+            Err(fault) => assert_eq!(rt; format!(in alloc; "{fault}")?.as_str(), *line),
+        }
+    }
+    Ok(())
+}

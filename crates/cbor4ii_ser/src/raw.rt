@@ -1,0 +1,28 @@
+//! Items that are kept as their bytes.
+ghost use Rattle.cbor4ii_tree.specs.BoxedRaw.{boxed_content};
+ghost use Rattle.cbor4ii_tree.specs.Raw.{raw_content};
+ghost use Rattle.cbor4ii_ser.specs.Item.{encoded};
+
+use crate::error::EncodeError;
+use crate::serialize::Serialize;
+use crate::serializer::Serializer;
+use cbor4ii_rw::write::Write;
+use cbor4ii_tree::{BoxedRawValue, RawValue};
+
+/// The item as it stands, in one push.
+impl<'a> Serialize for RawValue<'a> {
+    ghost item = { λ v. encoded (raw_content v) };
+
+    fn serialize<W: Write>(&self, ser: &mut Serializer<W>) -> Result<(), EncodeError<W::Error>> {
+        ser.put(self)
+    }
+}
+
+/// The item as it stands, in one push.
+impl Serialize for BoxedRawValue {
+    ghost item = { λ v. encoded (boxed_content v) };
+
+    fn serialize<W: Write>(&self, ser: &mut Serializer<W>) -> Result<(), EncodeError<W::Error>> {
+        ser.put(self)
+    }
+}
