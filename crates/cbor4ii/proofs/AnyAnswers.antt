@@ -10,17 +10,18 @@ use mir.Syntax.{w128}
 use Rattle.cbor4ii_rw.specs.View.{View}
 use Rattle.cbor4ii_rw.specs.declared.error.DecodeError.{DecodeError}
 use Rattle.cbor4ii_rw.specs.declared.error.DecodeError.TheVariants.{Custom, Unsupported}
-use Rattle.cbor4ii_items.specs.Decoding.{Reads, StopsAt, CostFits, Sound, NoneRead, Refuses, Stops}
-use Rattle.cbor4ii_items.specs.Decoding.{Spelling, IsLawful, Decodes, leaf_spelling}
+use Rattle.cbor4ii_items.specs.Decoding.{Reads, RejectsAt, CostFits, Sound, NoneRead, Complete}
+use Rattle.cbor4ii_items.specs.Decoding.{Rejects}
+use Rattle.cbor4ii_items.specs.Decoding.{Format, IsLawful, Decodes, leaf_format}
 use Rattle.cbor4ii_items.specs.Moves.{Kept}
-use Rattle.cbor4ii_items.specs.Next.{next_spelling}
-use Rattle.cbor4ii_items.specs.Numbers.{ReadsU128, StopsU128}
-use Rattle.cbor4ii_items.specs.Refusal.{Refusal, refusal_of, unsupported}
-use Rattle.cbor4ii_items.specs.Sequences.{StopsPlace, no_byte, may_read_nothing, part_refused}
-use Rattle.cbor4ii_items.specs.Sequences.{StopsInside, length_refused, counted_refused}
-use Rattle.cbor4ii_items.specs.Sequences.{open_refused, StopsPair, ReadsPair}
+use Rattle.cbor4ii_items.specs.Next.{next_format}
+use Rattle.cbor4ii_items.specs.Numbers.{ReadsU128, RejectsU128}
+use Rattle.cbor4ii_items.specs.InputError.{InputError, input_error_of, unsupported}
+use Rattle.cbor4ii_items.specs.Sequences.{RejectsPlace, no_byte, may_read_nothing, part_rejected}
+use Rattle.cbor4ii_items.specs.Sequences.{RejectsInside, length_rejected, definite_rejected}
+use Rattle.cbor4ii_items.specs.Sequences.{indefinite_rejected, RejectsPair, ReadsPair}
 use Rattle.cbor4ii_items.specs.Laws.Bignums.{u128_one}
-use Rattle.cbor4ii_items.specs.Laws.Calls.{err, ok_behind, err_behind, of_exact, exactly}
+use Rattle.cbor4ii_items.specs.Laws.Calls.{err, ok_after, err_after, of_exact, exactly}
 use Rattle.cbor4ii_items.specs.Laws.Running.{kept_alike}
 use Rattle.cbor4ii_items.specs.Laws.Sequences.{pair_lawful}
 use Rattle.cbor4ii_tree.specs.declared.value.Value.{Value}
@@ -30,43 +31,44 @@ use Rattle.cbor4ii.specs.declared.serde.de.any_leaf.AnyLeaf.{AnyLeaf}
 use Rattle.cbor4ii.specs.declared.serde.de.any_leaf.AnyLeaf.TheVariants.{Bignum}
 use Rattle.cbor4ii.specs.Any.{kind, Formed, ReadsSmallU128, of_bignum, of_array, of_map, KindAs}
 use Rattle.cbor4ii.specs.Any.{AnyInside, ReadsAny}
-use Rattle.cbor4ii.specs.AnySpelling.{any_spelling, any_inside, kind_spelling, formed_spelling}
-use Rattle.cbor4ii.specs.AnySpelling.{any_leaf, values_spelling, any_pair, pairs_spelling}
-use Rattle.cbor4ii.specs.AnyStops.{StopsBignum, KindStops, AnyStops, AnyStopsAt, StopsAny}
+use Rattle.cbor4ii.specs.AnyFormat.{any_format, any_inside, kind_format, formed_format}
+use Rattle.cbor4ii.specs.AnyFormat.{any_leaf, values_format, any_pair, pairs_format}
+use Rattle.cbor4ii.specs.AnyRejects.{RejectsBignum, KindRejects, AnyRejects, AnyRejectsAt}
+use Rattle.cbor4ii.specs.AnyRejects.{RejectsAny}
 use Rattle.cbor4ii.specs.Laws.Any.{any_laws, any_of_inside, inside_of_any}
 use Rattle.cbor4ii_items.specs.Laws.Answering.{always}
-use Rattle.cbor4ii.specs.Stepped.{StopsStepped, stepped_spelling}
+use Rattle.cbor4ii.specs.Stepped.{RejectsStepped, stepped_format}
 use Rattle.cbor4ii.specs.Typed.{lawful_as, no_number}
 use Rattle.cbor4ii.proofs.Looking.{Saw, none_begins}
 use Rattle.cbor4ii_tree.specs.declared.value.Value as values
 
-pub any_lawful : IsLawful any_spelling
+pub any_lawful : IsLawful any_format
 any_lawful = lawful_as any_laws
 
 pub pair_is_lawful : IsLawful any_pair
-pair_is_lawful = pair_lawful any_spelling any_spelling any_lawful any_lawful
+pair_is_lawful = pair_lawful any_format any_format any_lawful any_lawful
 
 -- ---- what is read of one type, read as another
 
--- the same bytes are read and refused of both
-pub record Means {U V : Type 0} (s : Spelling U) (t : Spelling V) (form : U → V) : Type 0 where
+-- the same bytes are read and rejected of both
+pub record Means {U V : Type 0} (s : Format U) (t : Format V) (form : U → V) : Type 0 where
   pub to : (xs : List ℕ) (u : U) (n c : ℕ) → s.reads xs u n c → t.reads xs (form u) n c
   pub from : (xs : List ℕ) (v : V) (n c : ℕ) → t.reads xs v n c → (u : U) × s.reads xs u n c
-  pub stops : (xs : List ℕ) (budget : Option ℕ) (z : Refusal) (ys : List ℕ)
-      → s.stops xs budget z ys → t.stops xs budget z ys
-  pub begins : (xs : List ℕ) (budget : Option ℕ) (z : Refusal) (ys : List ℕ)
+  pub rejects : (xs : List ℕ) (budget : Option ℕ) (z : InputError) (ys : List ℕ)
+      → s.rejects xs budget z ys → t.rejects xs budget z ys
+  pub begins : (xs : List ℕ) (budget : Option ℕ) (z : InputError) (ys : List ℕ)
       → s.begins xs budget z ys → t.begins xs budget z ys
   pub some : IsTrue t.never_empty → IsTrue s.never_empty
   pub owned : IsTrue t.owned → IsTrue s.owned
   pub memory : IsTrue s.takes_memory → IsTrue t.takes_memory
 
-module _ {U V E : Type 0} (s : Spelling U) (t : Spelling V) (form : U → V) (m : Means s t form)
+module _ {U V E : Type 0} (s : Format U) (t : Format V) (form : U → V) (m : Means s t form)
     {a b : View} where
   pub as_ok : {u : U} → Decodes {E = E} s a b (Ok u) → Decodes {E = E} t a b (Ok (form u))
   as_ok {u = u} d =
-      ok_behind s t (kept_alike a) (λ xs told. (
+      ok_after s t (kept_alike a) (λ xs known. (
         xs,
-        told,
+        known,
         λ n c r fits. record {
           count = n;
           cost = c;
@@ -78,72 +80,72 @@ module _ {U V E : Type 0} (s : Spelling U) (t : Spelling V) (form : U → V) (m 
 
   pub as_err : {e : DecodeError E} → Decodes s a b (Err e) → Decodes t a b (Err e)
   as_err d =
-      exactly (err_behind s t (kept_alike a) (λ xs told. (
+      exactly (err_after s t (kept_alike a) (λ xs known. (
         xs,
-        told,
+        known,
         record {
           none = λ is none v n c r fits. (let u = m.from xs v n c r in none u.0 n c u.1 fits);
-          stops = m.stops xs a.budget;
+          rejects = m.rejects xs a.budget;
           begins = m.begins xs a.budget;
         },
       )) m.owned m.memory (of_exact d))
 
-pub formed : {W : Type 0} (form : W → Value) (s : Spelling W)
-    → Means s (formed_spelling form s) form
+pub formed : {W : Type 0} (form : W → Value) (s : Format W)
+    → Means s (formed_format form s) form
 formed form s = record {
   to = λ xs w n c r. (w, r, refl);
   from = λ xs v n c r. (r.0, r.1);
-  stops = λ xs budget z ys h. h;
+  rejects = λ xs budget z ys h. h;
   begins = λ xs budget z ys h. h;
   some = λ some. some;
   owned = λ owned. owned;
   memory = λ takes. takes;
 }
 
-pub an_array : Means values_spelling (kind_spelling Array) of_array
+pub an_array : Means values_format (kind_format Array) of_array
 an_array = record {
   to = λ xs w n c r. (w, r, refl);
   from = λ xs v n c r. (r.0, r.1);
-  stops = λ xs budget z ys h. h;
+  rejects = λ xs budget z ys h. h;
   begins = λ xs budget z ys h. h;
   some = λ some. some;
   owned = λ owned. owned;
   memory = λ takes. takes;
 }
 
-pub a_map : Means pairs_spelling (kind_spelling Map) of_map
+pub a_map : Means pairs_format (kind_format Map) of_map
 a_map = record {
   to = λ xs w n c r. (w, r, refl);
   from = λ xs v n c r. (r.0, r.1);
-  stops = λ xs budget z ys h. h;
+  rejects = λ xs budget z ys h. h;
   begins = λ xs budget z ys h. h;
   some = λ some. some;
   owned = λ owned. owned;
   memory = λ takes. takes;
 }
 
--- ---- however deep the refused item stands
+-- ---- however deep the rejected item stands
 
-module _ {P : Type 0} (name : List ℕ) (major : ℕ) (reads : Reads P) (stops : StopsAt)
-    (to : ℕ → StopsAt) (bound : (xs : List ℕ) (budget : Option ℕ) (z : Refusal) (ys : List ℕ)
-    → stops xs budget z ys → (k : ℕ) × to k xs budget z ys) where
-  place_in : (xs : List ℕ) (budget : Option ℕ) (z : Refusal) (ys : List ℕ)
-      → StopsPlace name stops true xs budget z ys
-      → (k : ℕ) × StopsPlace name (to k) true xs budget z ys
+module _ {P : Type 0} (name : List ℕ) (major : ℕ) (reads : Reads P) (rejects : RejectsAt)
+    (to : ℕ → RejectsAt) (bound : (xs : List ℕ) (budget : Option ℕ) (z : InputError) (ys : List ℕ)
+    → rejects xs budget z ys → (k : ℕ) × to k xs budget z ys) where
+  place_in : (xs : List ℕ) (budget : Option ℕ) (z : InputError) (ys : List ℕ)
+      → RejectsPlace name rejects true xs budget z ys
+      → (k : ℕ) × RejectsPlace name (to k) true xs budget z ys
   place_in xs budget z ys (no_byte e is left) = (0, no_byte e is left)
   place_in xs budget z ys (may_read_nothing e f none is left) =
       (0, may_read_nothing e f none is left)
-  place_in xs budget z ys (part_refused e f some s) =
-      let r = bound xs budget z ys s in (r.0, part_refused e f some r.1)
+  place_in xs budget z ys (part_rejected e f some s) =
+      let r = bound xs budget z ys s in (r.0, part_rejected e f some r.1)
 
-  inside_in : (xs : List ℕ) (budget : Option ℕ) (z : Refusal) (ys : List ℕ)
-      → StopsInside name major reads stops true xs budget z ys
-      → (k : ℕ) × StopsInside name major reads (to k) true xs budget z ys
-  inside_in xs budget z ys (length_refused e h) = (0, length_refused e h)
-  inside_in xs budget z ys (counted_refused count before h s) =
+  inside_in : (xs : List ℕ) (budget : Option ℕ) (z : InputError) (ys : List ℕ)
+      → RejectsInside name major reads rejects true xs budget z ys
+      → (k : ℕ) × RejectsInside name major reads (to k) true xs budget z ys
+  inside_in xs budget z ys (length_rejected e h) = (0, length_rejected e h)
+  inside_in xs budget z ys (definite_rejected count before h s) =
       let r = bound (drop s.between (drop before xs)) budget z ys s.stop in (
         r.0,
-        counted_refused count before h (record {
+        definite_rejected count before h (record {
           whole = s.whole;
           fewer = s.fewer;
           between = s.between;
@@ -153,10 +155,10 @@ module _ {P : Type 0} (name : List ℕ) (major : ℕ) (reads : Reads P) (stops :
           stop = r.1;
         }),
       )
-  inside_in xs budget z ys (open_refused e s) =
+  inside_in xs budget z ys (indefinite_rejected e s) =
       let r = place_in (drop s.between (drop 1 xs)) budget z ys s.stop in (
         r.0,
-        open_refused e (record {
+        indefinite_rejected e (record {
           whole = s.whole;
           allowed = s.allowed;
           between = s.between;
@@ -167,9 +169,9 @@ module _ {P : Type 0} (name : List ℕ) (major : ℕ) (reads : Reads P) (stops :
         }),
       )
 
-pair_in : (xs : List ℕ) (budget : Option ℕ) (z : Refusal) (ys : List ℕ)
-    → StopsPair ReadsAny StopsAny StopsAny xs budget z ys
-    → (k : ℕ) × StopsPair ReadsAny (AnyStopsAt k) (AnyStopsAt k) xs budget z ys
+pair_in : (xs : List ℕ) (budget : Option ℕ) (z : InputError) (ys : List ℕ)
+    → RejectsPair ReadsAny RejectsAny RejectsAny xs budget z ys
+    → (k : ℕ) × RejectsPair ReadsAny (AnyRejectsAt k) (AnyRejectsAt k) xs budget z ys
 pair_in xs budget z ys (inl s) = (s.0, inl s.1)
 pair_in xs budget z ys (inr s) = (
   s.stop.0,
@@ -183,38 +185,40 @@ pair_in xs budget z ys (inr s) = (
   }),
 )
 
-kind_in : (k : AnyKind) (xs : List ℕ) (budget : Option ℕ) (z : Refusal) (ys : List ℕ)
-    → KindStops StopsAny k xs budget z ys → (j : ℕ) × KindStops (AnyStopsAt j) k xs budget z ys
+kind_in : (k : AnyKind) (xs : List ℕ) (budget : Option ℕ) (z : InputError) (ys : List ℕ)
+    → KindRejects RejectsAny k xs budget z ys → (j : ℕ) × KindRejects (AnyRejectsAt j) k xs
+    budget z ys
 kind_in (Leaf leaf) xs budget z ys h = (0, h)
 kind_in Array xs budget z ys (inl h) = (0, inl h)
 kind_in Array xs budget z ys (inr h) =
     let r =
-    inside_in (codes "array") 4 ReadsAny StopsAny AnyStopsAt (λ ys b y zs s. s) xs _ z ys h.1 in
+    inside_in (codes "array") 4 ReadsAny RejectsAny AnyRejectsAt (λ ys b y zs s. s) xs _ z ys h.1 in
     (r.0, inr (h.0, r.1))
 kind_in Map xs budget z ys (inl h) = (0, inl h)
 kind_in Map xs budget z ys (inr h) =
     let r = inside_in (codes "map") 5 (ReadsPair ReadsAny ReadsAny)
-    (StopsPair ReadsAny StopsAny StopsAny)
-    (λ k. StopsPair ReadsAny (AnyStopsAt k) (AnyStopsAt k)) pair_in xs _ z ys h.1 in
+    (RejectsPair ReadsAny RejectsAny RejectsAny)
+    (λ k. RejectsPair ReadsAny (AnyRejectsAt k) (AnyRejectsAt k)) pair_in xs _ z ys h.1 in
     (r.0, inr (h.0, r.1))
 kind_in Other xs budget z ys h = (0, h)
 
-behind_in : (xs : List ℕ) (budget : Option ℕ) (z : Refusal) (ys : List ℕ)
-    → AnyStops StopsAny xs budget z ys → (k : ℕ) × AnyStops (AnyStopsAt k) xs budget z ys
-behind_in xs budget z ys (inl h) = (0, inl h)
-behind_in xs budget z ys (inr h) =
+after_in : (xs : List ℕ) (budget : Option ℕ) (z : InputError) (ys : List ℕ)
+    → AnyRejects RejectsAny xs budget z ys → (k : ℕ) × AnyRejects (AnyRejectsAt k) xs budget z ys
+after_in xs budget z ys (inl h) = (0, inl h)
+after_in xs budget z ys (inr h) =
     let r = kind_in (kind h.0) xs budget z ys h.2 in (r.0, inr (h.0, h.1, r.1))
 
-any_in : (xs : List ℕ) (budget : Option ℕ) (z : Refusal) (ys : List ℕ)
-    → StopsStepped (codes "any") (AnyStops StopsAny) xs budget z ys → StopsAny xs budget z ys
+any_in : (xs : List ℕ) (budget : Option ℕ) (z : InputError) (ys : List ℕ)
+    → RejectsStepped (codes "any") (AnyRejects RejectsAny) xs budget z ys → RejectsAny xs
+    budget z ys
 any_in xs budget z ys (inl h) = (1, inl h)
-any_in xs budget z ys (inr h) = let r = behind_in xs _ z ys h.1 in (suc r.0, inr (h.0, r.1))
+any_in xs budget z ys (inr h) = let r = after_in xs _ z ys h.1 in (suc r.0, inr (h.0, r.1))
 
-any_means : Means (stepped_spelling (codes "any") any_inside) any_spelling (λ v. v)
+any_means : Means (stepped_format (codes "any") any_inside) any_format (λ v. v)
 any_means = record {
   to = any_of_inside;
   from = λ xs v n c r. (v, inside_of_any xs v n c r);
-  stops = any_in;
+  rejects = any_in;
   begins = any_in;
   some = λ some. some;
   owned = λ owned. owned;
@@ -222,10 +226,10 @@ any_means = record {
 }
 
 pub any_of : {E : Type 0} (r : Result Value (DecodeError E)) {a b : View}
-    → Decodes (stepped_spelling (codes "any") any_inside) a b r → Decodes any_spelling a b r
-any_of (Ok v) d = as_ok (stepped_spelling (codes "any") any_inside) any_spelling (λ w. w) any_means
+    → Decodes (stepped_format (codes "any") any_inside) a b r → Decodes any_format a b r
+any_of (Ok v) d = as_ok (stepped_format (codes "any") any_inside) any_format (λ w. w) any_means
     d
-any_of (Err e) d = as_err (stepped_spelling (codes "any") any_inside) any_spelling (λ w. w)
+any_of (Err e) d = as_err (stepped_format (codes "any") any_inside) any_format (λ w. w)
     any_means d
 
 -- ---- by the first byte
@@ -239,10 +243,10 @@ none_of_kind xs first k old mid e is same none v n c p fits =
     (subst (CostFits c) (sym same) fits)
 
 pub of_kind : {E : Type 0} (k : AnyKind) {a m b : View} {first : ℕ} → Kept a m → Saw a m first
-    → k ≡ kind first → (r : Result Value (DecodeError E)) → Decodes (kind_spelling k) m b r
+    → k ≡ kind first → (r : Result Value (DecodeError E)) → Decodes (kind_format k) m b r
     → Decodes any_inside a b r
 of_kind k {a = a} {first = first} kept s is (Ok v) d =
-    ok_behind (kind_spelling k) any_inside kept (λ xs told. (let f = s.first xs told in (
+    ok_after (kind_format k) any_inside kept (λ xs known. (let f = s.first xs known in (
       xs,
       f.0,
       λ n c r fits. record {
@@ -254,16 +258,16 @@ of_kind k {a = a} {first = first} kept s is (Ok v) d =
       },
     ))) (λ some. omega (arith, d.progress refl, kept.bound)) d
 of_kind k {a = a} {first = first} kept s is (Err e) d =
-    exactly (err_behind (kind_spelling k) any_inside kept (λ xs told. (
-    let f = s.first xs told in
-    let stop : (z : Refusal) (ys : List ℕ) → KindStops StopsAny k xs a.budget z ys
-    → AnyStops StopsAny xs a.budget z ys =
-    λ z ys h. inr (first, f.1, subst (λ j. KindStops StopsAny j xs a.budget z ys) is h) in (
+    exactly (err_after (kind_format k) any_inside kept (λ xs known. (
+    let f = s.first xs known in
+    let stop : (z : InputError) (ys : List ℕ) → KindRejects RejectsAny k xs a.budget z ys
+    → AnyRejects RejectsAny xs a.budget z ys =
+    λ z ys h. inr (first, f.1, subst (λ j. KindRejects RejectsAny j xs a.budget z ys) is h) in (
       xs,
       f.0,
       record {
         none = λ sure. none_of_kind xs first k a.budget a.budget f.1 is refl;
-        stops = stop;
+        rejects = stop;
         begins
             = stop;
       },
@@ -274,14 +278,14 @@ pub of_other : {E : Type 0} (name : Bor (List ℕ)) {a m : View} {first : ℕ} �
     → name.now ≡ codes "any" → Saw a m first → Other ≡ kind first
     → Decodes {E = E} any_inside a m (Err (Unsupported name first))
 of_other name {a = a} {first = first} kept any s is =
-    err any_inside (record { by = kept; depth = λ none. refl }) (λ out. cc) (λ xs told. (
-    let f = s.first xs told in
-    let stop : AnyStops StopsAny xs a.budget (unsupported name.now first) xs =
+    err any_inside (record { by = kept; depth = λ none. refl }) (λ out. cc) (λ xs known. (
+    let f = s.first xs known in
+    let stop : AnyRejects RejectsAny xs a.budget (unsupported name.now first) xs =
     inr (
       first,
       f.1,
       subst
-          (λ j. KindStops StopsAny j xs a.budget (unsupported name.now first) xs) is
+          (λ j. KindRejects RejectsAny j xs a.budget (unsupported name.now first) xs) is
           (first, f.1, ap (λ l. unsupported l first) any, refl),
     ) in (
       xs,
@@ -289,21 +293,21 @@ of_other name {a = a} {first = first} kept any s is =
       record {
         none = λ sure. none_of_kind xs first Other a.budget a.budget f.1 is refl
             (λ v n c p fits. p);
-        stops = stop;
+        rejects = stop;
         begins = stop;
       },
     )))
 
 -- no byte is left
 pub of_end : {E : Type 0} {a m : View} {e : DecodeError E}
-    → Decodes (next_spelling (codes "any")) a m (Err e) → Decodes any_inside a m (Err e)
+    → Decodes (next_format (codes "any")) a m (Err e) → Decodes any_inside a m (Err e)
 of_end {a = a} d =
-    exactly (err_behind (next_spelling (codes "any")) any_inside (kept_alike a) (λ xs told. (
+    exactly (err_after (next_format (codes "any")) any_inside (kept_alike a) (λ xs known. (
       xs,
-      told,
+      known,
       record {
         none = λ is none v n c p fits. none_begins xs p.0 a.budget none p.1;
-        stops = λ z ys h. inl h;
+        rejects = λ z ys h. inl h;
         begins = λ z ys h. inl h;
       },
     )) (λ owned. owned) (λ takes. refl) (of_exact d))
@@ -313,8 +317,8 @@ of_end {a = a} d =
 pub bignum_sound : {a b : View} {k : ℕ} → k < 2 ^ 127 → Sound ReadsU128 a b k
     → Sound (Formed ReadsSmallU128 of_bignum) a b (values.Integer (to_z w128 k))
 bignum_sound {k = k} less s = record {
-  at = λ xs told.
-      let p = s.at xs told in
+  at = λ xs known.
+      let p = s.at xs known in
       record {
         count = p.count;
         cost = p.cost;
@@ -331,21 +335,21 @@ bignum_sound {k = k} less s = record {
 
 -- the number that stands there is the only one
 pub too_great : {E : Type 0} {a b : View} {k : ℕ} {e : DecodeError E} → 2 ^ 127 ≤ k
-    → Sound ReadsU128 a b k → Refuses (Formed ReadsSmallU128 of_bignum) a e
+    → Sound ReadsU128 a b k → Complete (Formed ReadsSmallU128 of_bignum) a e
 too_great {k = k} {e = e} great s = record {
-  at = λ xs told.
-      let p = s.at xs told in
-      always (refusal_of e) (λ v n c q fits. (
+  at = λ xs known.
+      let p = s.at xs known in
+      always (input_error_of e) (λ v n c q fits. (
       let same = (u128_one xs q.0 k n p.count c p.cost q.1.0 p.read).2 in
       omega (arith, same, great, q.1.1)));
 }
 
-pub too_great_stops : {E : Type 0} {a b : View} {k : ℕ} (text : Bor (List ℕ))
+pub too_great_rejects : {E : Type 0} {a b : View} {k : ℕ} (text : Bor (List ℕ))
     → text.now ≡ codes "integer out of range" → 2 ^ 127 ≤ k → Sound ReadsU128 a b k
-    → Stops {E = E} StopsBignum a b (Custom text no_number)
-too_great_stops {k = k} text is great s = record {
-  at = λ xs told.
-      let p = s.at xs told in (
+    → Rejects {E = E} RejectsBignum a b (Custom text no_number)
+too_great_rejects {k = k} text is great s = record {
+  at = λ xs known.
+      let p = s.at xs known in (
         drop p.count xs,
         p.left,
         inr (record {
@@ -353,23 +357,23 @@ too_great_stops {k = k} text is great s = record {
           size = p.count;
           read = (p.read.0, refl);
           great = great;
-          refused = cc (is);
+          rejected = cc (is);
           left = refl;
         }),
       );
 }
 
 pub bignum_err : {E : Type 0} {a b : View} {e : DecodeError E}
-    → Decodes (leaf_spelling ReadsU128 (λ xs budget. StopsU128 xs)) a b (Err e)
+    → Decodes (leaf_format ReadsU128 (λ xs budget. RejectsU128 xs)) a b (Err e)
     → Decodes (any_leaf Bignum) a b (Err e)
 bignum_err {a = a} d =
-    exactly (err_behind (leaf_spelling ReadsU128 (λ xs budget. StopsU128 xs)) (any_leaf Bignum)
-    (kept_alike a) (λ xs told. (
+    exactly (err_after (leaf_format ReadsU128 (λ xs budget. RejectsU128 xs)) (any_leaf Bignum)
+    (kept_alike a) (λ xs known. (
       xs,
-      told,
+      known,
       record {
         none = λ is none v n c r fits. none r.0 n c r.1.0 fits;
-        stops = λ z ys h. inl h;
+        rejects = λ z ys h. inl h;
         begins = λ z ys h. inl h;
       },
     )) (λ owned. refl) (λ takes. refl) (of_exact d))

@@ -8,19 +8,19 @@ use Rattle.cbor4ii_rw.specs.View.{View}
 use Rattle.cbor4ii_rw.specs.declared.error.DecodeError.{DecodeError}
 use Rattle.cbor4ii_items.specs.Decoding.{NoneRead, Decodes, DecodesIf}
 use Rattle.cbor4ii_items.specs.Laws.Answering.{fits_zero}
-use Rattle.cbor4ii_items.specs.Laws.Calls.{ok, ok_behind, err_behind, of_exact, accepted}
+use Rattle.cbor4ii_items.specs.Laws.Calls.{ok, ok_after, err_after, of_exact, accepted}
 use Rattle.cbor4ii_items.specs.Laws.Calls.{exact_less}
 use Rattle.cbor4ii_items.specs.Laws.Containers.{both}
-use Rattle.cbor4ii_items.specs.Laws.Fronts.{drop_more}
+use Rattle.cbor4ii_items.specs.Laws.Prefixes.{drop_more}
 use Rattle.cbor4ii_items.specs.Laws.Running.{kept_alike}
 use Rattle.cbor4ii.specs.declared.serde.de.cases.Choice.{Choice}
 use Rattle.cbor4ii.specs.declared.serde.de.cases.Choice.TheVariants.{First, Other}
-use Rattle.cbor4ii.specs.Cases.{Cases, Holding, reads_by, holding_spelling, case_spelling, case}
+use Rattle.cbor4ii.specs.Cases.{Cases, Holding, reads_by, holding_format, case_format, case}
 use Rattle.cbor4ii.specs.Cases.{held_case, unnamed_case, cases_by, first_all}
-use Rattle.cbor4ii.specs.Cases.{other_all, reads_named, named_spelling, inside_spelling, form_one}
+use Rattle.cbor4ii.specs.Cases.{other_all, reads_named, named_format, inside_format, form_one}
 use Rattle.cbor4ii.specs.Typed.{Promise, Deserializes}
 use Rattle.cbor4ii.specs.TypedParts.{part_of}
-use Rattle.cbor4ii.specs.Variants.{form_spelling}
+use Rattle.cbor4ii.specs.Variants.{form_format}
 use Rattle.cbor4ii.proofs.Names.{names_split, names_none}
 use Rattle.cbor4ii.proofs.Promised.{tell}
 
@@ -28,11 +28,11 @@ use Rattle.cbor4ii.proofs.Promised.{tell}
 
 module _ {T E : Type 0} (p : Promise T) {a b : View} where
   pub held_then : (form : Bool × ℕ) → not form.0 ≡ false → (r : Result T (DecodeError E))
-      → Deserializes p a b r → DecodesIf p.exact (holding_spelling (held_case p) form) a b r
+      → Deserializes p a b r → DecodesIf p.exact (holding_format (held_case p) form) a b r
   held_then (false, first) is r d = cc
   held_then (true, first) is (Ok v) d =
-      of_exact (ok (holding_spelling (held_case p) (true, first)) d.moves.by (λ some. cc) (record {
-        at = λ xs told. let q = d.sound.at xs told in record {
+      of_exact (ok (holding_format (held_case p) (true, first)) d.moves.by (λ some. cc) (record {
+        at = λ xs known. let q = d.sound.at xs known in record {
           count = q.count;
           cost = q.cost;
           read = q.read;
@@ -41,18 +41,18 @@ module _ {T E : Type 0} (p : Promise T) {a b : View} where
         };
       }))
   held_then (true, first) is (Err e) d =
-      err_behind (part_of p) (holding_spelling (held_case p) (true, first)) (kept_alike a)
-      (λ xs told. (
+      err_after (part_of p) (holding_format (held_case p) (true, first)) (kept_alike a)
+      (λ xs known. (
         xs,
-        told,
+        known,
         record {
           none = λ is none v n c r fits. none v n c r fits;
-          stops = λ z ys h. h;
+          rejects = λ z ys h. h;
           begins = λ z ys h. h;
         },
       )) (λ owned. owned) (λ takes. refl) (tell p (Err e) d)
 
--- ---- one variant, and those behind it
+-- ---- one variant, and those after it
 
 module _ {A B : Type 0} (own : List ℕ) (h : Holding A) (others : Cases B) {name : List ℕ} where
   none_first : (form : Bool × ℕ) → name ≡ own → (xs : List ℕ) (budget : Option ℕ)
@@ -89,12 +89,12 @@ module _ {A B : Type 0} (own : List ℕ) (h : Holding A) (others : Cases B) {nam
 
   module _ {E : Type 0} (form : Bool × ℕ) {a b : View} where
     pub first_ok : {x y : Bool} {v : A} → name ≡ own
-        → DecodesIf {E = E} x (holding_spelling h form) a b (Ok v)
-        → DecodesIf {E = E} y (case_spelling (case own h others) form name) a b (Ok (First v))
+        → DecodesIf {E = E} x (holding_format h form) a b (Ok v)
+        → DecodesIf {E = E} y (case_format (case own h others) form name) a b (Ok (First v))
     first_ok {v = v} same d =
-        of_exact (ok (case_spelling (case own h others) form name) d.moves.by (λ some. cc)
+        of_exact (ok (case_format (case own h others) form name) d.moves.by (λ some. cc)
         (record {
-          at = λ xs told. let q = d.sound.at xs told in record {
+          at = λ xs known. let q = d.sound.at xs known in record {
             count = q.count;
             cost = q.cost;
             read = first_read form same xs v q.count q.cost q.read;
@@ -104,29 +104,29 @@ module _ {A B : Type 0} (own : List ℕ) (h : Holding A) (others : Cases B) {nam
         }))
 
     pub first_err : {e : DecodeError E} → name ≡ own
-        → DecodesIf h.exact (holding_spelling h form) a b (Err e)
-        → DecodesIf (h.exact && others.exact) (case_spelling (case own h others) form name) a b
+        → DecodesIf h.exact (holding_format h form) a b (Err e)
+        → DecodesIf (h.exact && others.exact) (case_format (case own h others) form name) a b
         (Err e)
     first_err same d =
-        err_behind (holding_spelling h form) (case_spelling (case own h others) form name)
-        (kept_alike a) (λ xs told. (
+        err_after (holding_format h form) (case_format (case own h others) form name)
+        (kept_alike a) (λ xs known. (
           xs,
-          told,
+          known,
           record {
             none = λ is. none_first form same xs a.budget;
-            stops = λ z ys s. inl (same, s);
+            rejects = λ z ys s. inl (same, s);
             begins = λ z ys s. inl (same, s);
           },
         )) (λ owned. (both h.owned others.owned owned).0) (λ takes. refl)
         (exact_less (λ is. (both h.exact others.exact is).0) d)
 
     pub other_ok : {x y : Bool} {v : B} → name ≢ own
-        → DecodesIf {E = E} x (case_spelling others form name) a b (Ok v)
-        → DecodesIf {E = E} y (case_spelling (case own h others) form name) a b (Ok (Other v))
+        → DecodesIf {E = E} x (case_format others form name) a b (Ok v)
+        → DecodesIf {E = E} y (case_format (case own h others) form name) a b (Ok (Other v))
     other_ok {v = v} apart d =
-        of_exact (ok (case_spelling (case own h others) form name) d.moves.by (λ some. cc)
+        of_exact (ok (case_format (case own h others) form name) d.moves.by (λ some. cc)
         (record {
-          at = λ xs told. let q = d.sound.at xs told in record {
+          at = λ xs known. let q = d.sound.at xs known in record {
             count = q.count;
             cost = q.cost;
             read = other_read form apart xs v q.count q.cost q.read;
@@ -136,17 +136,17 @@ module _ {A B : Type 0} (own : List ℕ) (h : Holding A) (others : Cases B) {nam
         }))
 
     pub other_err : {e : DecodeError E} → name ≢ own
-        → DecodesIf others.exact (case_spelling others form name) a b (Err e)
-        → DecodesIf (h.exact && others.exact) (case_spelling (case own h others) form name) a b
+        → DecodesIf others.exact (case_format others form name) a b (Err e)
+        → DecodesIf (h.exact && others.exact) (case_format (case own h others) form name) a b
         (Err e)
     other_err apart d =
-        err_behind (case_spelling others form name) (case_spelling (case own h others) form name)
-        (kept_alike a) (λ xs told. (
+        err_after (case_format others form name) (case_format (case own h others) form name)
+        (kept_alike a) (λ xs known. (
           xs,
-          told,
+          known,
           record {
             none = λ is. none_other form apart xs a.budget;
-            stops = λ z ys s. inr (apart, s);
+            rejects = λ z ys s. inr (apart, s);
             begins = λ z ys s. inr (apart, s);
           },
         )) (λ owned. (both h.owned others.owned owned).1) (λ takes. refl)
@@ -170,13 +170,13 @@ module _ {A B : Type 0} (h : Holding A) (others : Cases B) (name : List ℕ) whe
 
   module _ {E : Type 0} (form : Bool × ℕ) {a b : View} where
     pub unnamed_ok : {x y : Bool} {v : B}
-        → DecodesIf {E = E} x (case_spelling others form name) a b (Ok v)
-        → DecodesIf {E = E} y (case_spelling (unnamed_case h others) form name) a b
+        → DecodesIf {E = E} x (case_format others form name) a b (Ok v)
+        → DecodesIf {E = E} y (case_format (unnamed_case h others) form name) a b
         (Ok (Other v))
     unnamed_ok {v = v} d =
-        of_exact (ok (case_spelling (unnamed_case h others) form name) d.moves.by (λ some. cc)
+        of_exact (ok (case_format (unnamed_case h others) form name) d.moves.by (λ some. cc)
         (record {
-          at = λ xs told. let q = d.sound.at xs told in record {
+          at = λ xs known. let q = d.sound.at xs known in record {
             count = q.count;
             cost = q.cost;
             read = unnamed_read form xs v q.count q.cost q.read;
@@ -186,55 +186,55 @@ module _ {A B : Type 0} (h : Holding A) (others : Cases B) (name : List ℕ) whe
         }))
 
     pub unnamed_err : {e : DecodeError E}
-        → DecodesIf others.exact (case_spelling others form name) a b (Err e)
-        → DecodesIf (h.exact && others.exact) (case_spelling (unnamed_case h others) form name)
+        → DecodesIf others.exact (case_format others form name) a b (Err e)
+        → DecodesIf (h.exact && others.exact) (case_format (unnamed_case h others) form name)
         a b (Err e)
     unnamed_err d =
-        err_behind (case_spelling others form name)
-        (case_spelling (unnamed_case h others) form name) (kept_alike a) (λ xs told. (
+        err_after (case_format others form name)
+        (case_format (unnamed_case h others) form name) (kept_alike a) (λ xs known. (
           xs,
-          told,
+          known,
           record {
             none = λ is. none_unnamed form xs a.budget;
-            stops = λ z ys s. s;
+            rejects = λ z ys s. s;
             begins = λ z ys s. s;
           },
         )) (λ owned. (both h.owned others.owned owned).1) (λ takes. refl)
         (exact_less (λ is. (both h.exact others.exact is).1) d)
 
--- ---- the form, and what comes behind it
+-- ---- the form, and what comes after it
 
 module _ {V E : Type 0} (cases : Cases V) {a m : View} where
-  pub form_err : {x : Bool} {e : DecodeError E} → Decodes form_spelling a m (Err e)
-      → DecodesIf x (inside_spelling cases) a m (Err e)
+  pub form_err : {x : Bool} {e : DecodeError E} → Decodes form_format a m (Err e)
+      → DecodesIf x (inside_format cases) a m (Err e)
   form_err d =
-      err_behind form_spelling (inside_spelling cases) (kept_alike a) (λ xs told. (
+      err_after form_format (inside_format cases) (kept_alike a) (λ xs known. (
         xs,
-        told,
+        known,
         record {
           none = λ is none v n c q fits. none q.form q.size 0 q.seen (fits_zero a.budget);
-          stops = λ z ys. inl;
+          rejects = λ z ys. inl;
           begins = λ z ys. inl;
         },
       )) (λ owned. refl) (λ takes. refl) (of_exact d)
 
-  module _ (form : Bool × ℕ) (d : Decodes {E = E} form_spelling a m (Ok form)) where
-    no_named : (xs : List ℕ) (i k : ℕ) → form_spelling.reads xs form i k
-        → NoneRead (named_spelling cases form).reads (drop i xs) a.budget
-        → NoneRead (inside_spelling cases).reads xs a.budget
+  module _ (form : Bool × ℕ) (d : Decodes {E = E} form_format a m (Ok form)) where
+    no_named : (xs : List ℕ) (i k : ℕ) → form_format.reads xs form i k
+        → NoneRead (named_format cases form).reads (drop i xs) a.budget
+        → NoneRead (inside_format cases).reads xs a.budget
     no_named xs i k seen none v n c q fits =
         let e = form_one xs q.form form q.size i q.seen (seen.0, seen.1, refl) in
         none v q.between c
-        (subst (λ (f : Bool × ℕ). (named_spelling cases f).reads (drop i xs) v q.between c) e.0
-        (subst (λ j. (named_spelling cases q.form).reads (drop j xs) v q.between c) e.1 q.named))
+        (subst (λ (f : Bool × ℕ). (named_format cases f).reads (drop i xs) v q.between c) e.0
+        (subst (λ j. (named_format cases q.form).reads (drop j xs) v q.between c) e.1 q.named))
         fits
 
     pub form_then : {x : Bool} {b : View} (r : Result V (DecodeError E))
-        → DecodesIf x (named_spelling cases form) m b r
-        → DecodesIf x (inside_spelling cases) a b r
+        → DecodesIf x (named_format cases form) m b r
+        → DecodesIf x (inside_format cases) a b r
     form_then (Ok v) h = of_exact (
-        ok_behind (named_spelling cases form) (inside_spelling cases) d.moves.by (λ xs told.
-        let p = d.sound.at xs told in (
+        ok_after (named_format cases form) (inside_format cases) d.moves.by (λ xs known.
+        let p = d.sound.at xs known in (
           drop p.count xs,
           p.left,
           λ n c r fits. record {
@@ -253,13 +253,13 @@ module _ {V E : Type 0} (cases : Cases V) {a m : View} where
           },
         )) (λ some. omega (arith, h.progress refl, d.moves.by.bound)) (accepted h))
     form_then (Err e) h =
-        err_behind (named_spelling cases form) (inside_spelling cases) d.moves.by (λ xs told.
-        let p = d.sound.at xs told in (
+        err_after (named_format cases form) (inside_format cases) d.moves.by (λ xs known.
+        let p = d.sound.at xs known in (
           drop p.count xs,
           p.left,
           record {
             none = λ is. no_named xs p.count p.cost p.read;
-            stops = λ z ys s. inr (record {
+            rejects = λ z ys s. inr (record {
               form = form;
               size = p.count;
               seen = (p.read.0, p.read.1, refl);
@@ -281,22 +281,22 @@ module _ {A B E : Type 0} (h : Holding A) (others : List (Bor (List ℕ)) → Ca
     {r : Result (Choice A B) (DecodeError E)} where
   pub cases_first : (d : Bor (List ℕ)) → 1 ≤ length names
       → DecodesIf (h.exact && (others (take (length names - 1) (drop 1 names))).exact)
-      (case_spelling (case (get_or names 0 d).now h
+      (case_format (case (get_or names 0 d).now h
       (others (take (length names - 1) (drop 1 names)))) form name) a b r
       → DecodesIf (cases_by h others names).exact
-      (case_spelling (cases_by h others names) form name) a b r
+      (case_format (cases_by h others names) form name) a b r
   cases_first d some =
-      subst (λ (cases : Cases (Choice A B)). DecodesIf cases.exact (case_spelling cases form name) a
+      subst (λ (cases : Cases (Choice A B)). DecodesIf cases.exact (case_format cases form name) a
       b r) (ap (cases_by h others) (sym (names_split names d some)))
 
   pub cases_none : length names < 1
       → DecodesIf (h.exact && (others names).exact)
-      (case_spelling (unnamed_case h (others names)) form name) a b r
+      (case_format (unnamed_case h (others names)) form name) a b r
       → DecodesIf (cases_by h others names).exact
-      (case_spelling (cases_by h others names) form name) a b r
+      (case_format (cases_by h others names) form name) a b r
   cases_none less =
       subst (λ (zs : List (Bor (List ℕ))). DecodesIf (h.exact && (others zs).exact)
-      (case_spelling (unnamed_case h (others zs)) form name) a b r
-      → DecodesIf (cases_by h others zs).exact (case_spelling (cases_by h others zs) form name) a b
+      (case_format (unnamed_case h (others zs)) form name) a b r
+      → DecodesIf (cases_by h others zs).exact (case_format (cases_by h others zs) form name) a b
       r)
       (sym (names_none names less)) (λ d. d)

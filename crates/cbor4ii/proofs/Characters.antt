@@ -11,12 +11,12 @@ use Rattle.cbor4ii_rw.specs.View.{View}
 use Rattle.cbor4ii_rw.specs.declared.error.DecodeError.{DecodeError}
 use Rattle.cbor4ii_rw.specs.declared.error.DecodeError.TheVariants.{Custom}
 use Rattle.cbor4ii_items.specs.Moves.{Moves}
-use Rattle.cbor4ii_items.specs.Decoding.{Sound, Refuses, Stops}
-use Rattle.cbor4ii_items.specs.Strings.{ReadsText, ReadsTextAs, StopsText, text_content}
+use Rattle.cbor4ii_items.specs.Decoding.{Sound, Complete, Rejects}
+use Rattle.cbor4ii_items.specs.Strings.{ReadsText, ReadsTextAs, RejectsText, text_content}
 use Rattle.cbor4ii_items.specs.Laws.Strings.{text_one}
-use Rattle.cbor4ii_items.specs.Laws.Answering.{refuses_as}
-use Rattle.cbor4ii.specs.Character.{ReadsChar, StopsChar, NoCharacter}
-use Rattle.cbor4ii.specs.Character.StopsChar.{no_text, not_one}
+use Rattle.cbor4ii_items.specs.Laws.Answering.{complete_as}
+use Rattle.cbor4ii.specs.Character.{ReadsChar, RejectsChar, NoCharacter}
+use Rattle.cbor4ii.specs.Character.RejectsChar.{no_text, not_one}
 use Rattle.cbor4ii.specs.ReadBack.{text_of}
 use Rattle.cbor4ii.specs.Typed.{no_number}
 use Rattle.cbor4ii.proofs.Stopped.{stopped_as}
@@ -49,7 +49,7 @@ two_characters text middle rest c d e f only is =
 pub char_sound : {a b : View} {text : String Global} {c : ℕ} → text_content text ≡ encode_utf8 c
     → Sound (ReadsTextAs text_content) a b text → Sound ReadsChar a b c
 char_sound is s = record {
-  at = λ xs told. (let p = s.at xs told in record {
+  at = λ xs known. (let p = s.at xs known in record {
     count = p.count;
     cost = p.cost;
     read =
@@ -59,16 +59,17 @@ char_sound is s = record {
   });
 }
 
-pub char_refuses : {E : Type 0} {a : View} {e : DecodeError E} → Global
-    → Refuses (ReadsTextAs text_content) a e → Refuses ReadsChar a e
-char_refuses alloc s =
-    refuses_as (ReadsTextAs text_content) ReadsChar
+pub char_complete : {E : Type 0} {a : View} {e : DecodeError E} → Global
+    → Complete (ReadsTextAs text_content) a e → Complete ReadsChar a e
+char_complete alloc s =
+    complete_as (ReadsTextAs text_content) ReadsChar
     (λ xs budget none c n k r fits. none (text_of alloc (encode_utf8 c) r.1 (few_bytes c)) n k r
     fits) s
 
-pub char_stops : {E : Type 0} {a b : View} {e : DecodeError E}
-    → Stops (StopsText (codes "str")) a b e → Stops StopsChar a b e
-char_stops s = stopped_as (StopsText (codes "str")) StopsChar (λ xs budget z ys h. no_text h) s
+pub char_rejects : {E : Type 0} {a b : View} {e : DecodeError E}
+    → Rejects (RejectsText (codes "str")) a b e → Rejects RejectsChar a b e
+char_rejects s = stopped_as (RejectsText (codes "str")) RejectsChar
+    (λ xs budget z ys h. no_text h) s
 
 module _ {E : Type 0} {a b : View} {text : String Global} (name : Bor (List ℕ))
     (none : NoCharacter (text_content text)) where
@@ -76,18 +77,18 @@ module _ {E : Type 0} {a b : View} {text : String Global} (name : Bor (List ℕ)
       → Moves {V = V} {E = E} a b (Err (Custom name no_number))
   other_moves m = record { by = m.by; depth = λ e. refl }
 
-  pub other_refuses : Sound (ReadsTextAs text_content) a b text
-      → Refuses {E = E} ReadsChar a (Custom name no_number)
-  other_refuses s = record {
-    at = λ xs told c n k r fits. (let p = s.at xs told in none c (text_one (λ zs. zs) xs
+  pub other_complete : Sound (ReadsTextAs text_content) a b text
+      → Complete {E = E} ReadsChar a (Custom name no_number)
+  other_complete s = record {
+    at = λ xs known c n k r fits. (let p = s.at xs known in none c (text_one (λ zs. zs) xs
         (text_content text) (encode_utf8 c) p.count n p.cost k p.read r).2);
   }
 
-  pub other_stops : name.now ≡ codes "expected one character"
+  pub other_rejects : name.now ≡ codes "expected one character"
       → Sound (ReadsTextAs text_content) a b text
-      → Stops {E = E} StopsChar a b (Custom name no_number)
-  other_stops named s = record {
-    at = λ xs told. (let p = s.at xs told in (
+      → Rejects {E = E} RejectsChar a b (Custom name no_number)
+  other_rejects named s = record {
+    at = λ xs known. (let p = s.at xs known in (
       drop p.count xs,
       p.left,
       rw named (not_one (text_content text) p.count p.cost p.read p.fits none refl refl),

@@ -4,41 +4,41 @@ use Rattle.std.proofs.Common.{Ok, Err, subst}
 use Rattle.std.specs.Prelude.{◌&&◌}
 use Rattle.cbor4ii_rw.specs.View.{View}
 use Rattle.cbor4ii_rw.specs.declared.error.DecodeError.{DecodeError}
-use Rattle.cbor4ii_items.specs.Decoding.{Reads, StopsAt, Sound, NoneRead, Spelling, IsLawful}
+use Rattle.cbor4ii_items.specs.Decoding.{Reads, RejectsAt, Sound, NoneRead, Format, IsLawful}
 use Rattle.cbor4ii_items.specs.Decoding.{DecodesIf}
-use Rattle.cbor4ii_items.specs.Refusal.{Refusal}
-use Rattle.cbor4ii_items.specs.Sequences.{ReadsPair, StopsBehindKey, pair_spelling}
-use Rattle.cbor4ii_items.specs.Laws.Calls.{ok, err_behind, of_exact, exact_less}
+use Rattle.cbor4ii_items.specs.InputError.{InputError}
+use Rattle.cbor4ii_items.specs.Sequences.{ReadsPair, RejectsAfterKey, pair_format}
+use Rattle.cbor4ii_items.specs.Laws.Calls.{ok, err_after, of_exact, exact_less}
 use Rattle.cbor4ii_items.specs.Laws.Containers.{both}
 use Rattle.cbor4ii_items.specs.Laws.Pairs.{pair_sound, key_less, value_less, or_left, or_right}
 use Rattle.cbor4ii_items.specs.Laws.Running.{kept_alike}
 use Rattle.cbor4ii_items.specs.Laws.Steps.{kept_then}
 use Rattle.cbor4ii.specs.declared.serde.de.accessor.Left.{Left}
-use Rattle.cbor4ii.specs.declared.serde.de.accessor.Left.TheVariants.{Counted, Open, Ended}
-use Rattle.cbor4ii.specs.Accessing.{Next, next_spelling}
+use Rattle.cbor4ii.specs.declared.serde.de.accessor.Left.TheVariants.{Definite, Indefinite, Ended}
+use Rattle.cbor4ii.specs.Accessing.{Next, next_format}
 use Rattle.cbor4ii.proofs.Going.{part_of, part_start}
 
 -- what else stands there is read in its place
 in_place : {V W : Type 0} (reads : Reads V) (other : Reads W) (left : Left) (xs : List ℕ) (v : V)
     (w : W) (n c m d : ℕ) → Next reads left xs (Some v) n c → other xs w m d
     → Next other left xs (Some w) m d
-in_place reads other (Counted zero) xs v w n c m d h r = absurd h
-in_place reads other (Counted (suc k)) xs v w n c m d h r = r
-in_place reads other Open xs v w n c m d h r = (h.0, r)
+in_place reads other (Definite zero) xs v w n c m d h r = absurd h
+in_place reads other (Definite (suc k)) xs v w n c m d h r = r
+in_place reads other Indefinite xs v w n c m d h r = (h.0, r)
 in_place reads other Ended xs v w n c m d h r = absurd h
 
 -- the end is the same for all
 same_end : {V W : Type 0} (reads : Reads V) (other : Reads W) (left : Left) (xs : List ℕ) (n c : ℕ)
     → Next reads left xs None n c → Next other left xs None n c
-same_end reads other (Counted zero) xs n c h = h
-same_end reads other (Counted (suc k)) xs n c h = absurd h
-same_end reads other Open xs n c h = h
+same_end reads other (Definite zero) xs n c h = h
+same_end reads other (Definite (suc k)) xs n c h = absurd h
+same_end reads other Indefinite xs n c h = h
 same_end reads other Ended xs n c h = h
 
 key_at : {K : Type 0} (key : Reads K) (left : Left) {a m : View} {k : K}
     → Sound (Next key left) a m (Some k) → Sound key a m k
 key_at key left {k = k} s = record {
-  at = λ xs told. let p = s.at xs told in record {
+  at = λ xs known. let p = s.at xs known in record {
     count = p.count;
     cost = p.cost;
     read = part_of key left xs k p.count p.cost p.read;
@@ -50,12 +50,12 @@ key_at key left {k = k} s = record {
 -- where a part comes it is not the end
 no_end : {V : Type 0} (reads : Reads V) (left : Left) (xs : List ℕ) (v : V) (n c m d : ℕ)
     → Next reads left xs (Some v) n c → Next reads left xs None m d → ⊥
-no_end reads (Counted zero) xs v n c m d h e = h
-no_end reads (Counted (suc k)) xs v n c m d h e = e
-no_end reads Open xs v n c m d h e = h.0.1 e.0
+no_end reads (Definite zero) xs v n c m d h e = h
+no_end reads (Definite (suc k)) xs v n c m d h e = e
+no_end reads Indefinite xs v n c m d h e = h.0.1 e.0
 no_end reads Ended xs v n c m d h e = h
 
-module _ {K V : Type 0} (k : Spelling K) (v : Spelling V) (left : Left) where
+module _ {K V : Type 0} (k : Format K) (v : Format V) (left : Left) where
   no_key : (xs : List ℕ) (budget : Option ℕ) → NoneRead (Next k.reads left) xs budget
       → NoneRead (Next (ReadsPair k.reads v.reads) left) xs budget
   no_key xs budget none None n c r fits =
@@ -80,11 +80,11 @@ module _ {K V : Type 0} (k : Spelling K) (v : Spelling V) (left : Left) where
       (value_less k.reads v.reads xs p n c budget h fits)
 
   module _ {E : Type 0} {a m : View} where
-    pub entry_none : {x y : Bool} → DecodesIf {E = E} x (next_spelling left k) a m (Ok None)
-        → DecodesIf {E = E} y (next_spelling left (pair_spelling k v)) a m (Ok None)
-    entry_none d = of_exact (ok (next_spelling left (pair_spelling k v)) d.moves.by (λ some. cc)
+    pub entry_none : {x y : Bool} → DecodesIf {E = E} x (next_format left k) a m (Ok None)
+        → DecodesIf {E = E} y (next_format left (pair_format k v)) a m (Ok None)
+    entry_none d = of_exact (ok (next_format left (pair_format k v)) d.moves.by (λ some. cc)
         (record {
-          at = λ xs told. let p = d.sound.at xs told in record {
+          at = λ xs known. let p = d.sound.at xs known in record {
             count = p.count;
             cost = p.cost;
             read = same_end k.reads (ReadsPair k.reads v.reads) left xs p.count p.cost p.read;
@@ -94,16 +94,20 @@ module _ {K V : Type 0} (k : Spelling K) (v : Spelling V) (left : Left) where
         }))
 
     pub no_key_left : {x : Bool} (y : Bool) {e : DecodeError E}
-        → DecodesIf x (next_spelling left k) a m (Err e)
-        → DecodesIf (x && y) (next_spelling left (pair_spelling k v)) a m (Err e)
+        → DecodesIf x (next_format left k) a m (Err e)
+        → DecodesIf (x && y) (next_format left (pair_format k v)) a m (Err e)
     no_key_left {x = x} y d =
-        err_behind (next_spelling left k) (next_spelling left (pair_spelling k v)) (kept_alike a)
-        (λ xs told. (
+        err_after (next_format left k) (next_format left (pair_format k v)) (kept_alike a)
+        (λ xs known. (
           xs,
-          told,
+          known,
           record {
             none = λ is. no_key xs a.budget;
-            stops = λ z ys h. elim h [ inl none ↦ inl none | inr part ↦ inr (part.0, inl part.1) ];
+            rejects = λ z ys h. elim h [
+              | inl none ↦ inl none
+              | inr part ↦ inr
+                  (part.0, inl part.1)
+            ];
             begins =
                 λ z ys h. elim h [ inl none ↦ inl none | inr part ↦ inr (part.0, inl part.1) ];
           },
@@ -111,17 +115,17 @@ module _ {K V : Type 0} (k : Spelling K) (v : Spelling V) (left : Left) where
         (exact_less (λ is. (both x y is).0) d)
 
     module _ {x : Bool} {key : K} {b : View}
-        (d : DecodesIf {E = E} x (next_spelling left k) a m (Ok (Some key))) where
+        (d : DecodesIf {E = E} x (next_format left k) a m (Ok (Some key))) where
       pub entry_read : {y : Bool} {value : V} → DecodesIf {E = E} y v m b (Ok value)
-          → DecodesIf {E = E} (x && y) (next_spelling left (pair_spelling k v)) a b
+          → DecodesIf {E = E} (x && y) (next_format left (pair_format k v)) a b
           (Ok (Some (key, value)))
       entry_read {value = value} t =
-          of_exact (ok (next_spelling left (pair_spelling k v)) (kept_then d.moves.by t.moves.by)
+          of_exact (ok (next_format left (pair_format k v)) (kept_then d.moves.by t.moves.by)
           (λ some. cc) (record {
-            at = λ xs told.
-                let p = d.sound.at xs told in
+            at = λ xs known.
+                let p = d.sound.at xs known in
                 let q = (pair_sound k.reads v.reads d.moves.by (key_at k.reads left d.sound)
-                t.sound).at xs told in
+                t.sound).at xs known in
                 record {
                   count = q.count;
                   cost = q.cost;
@@ -134,14 +138,15 @@ module _ {K V : Type 0} (k : Spelling K) (v : Spelling V) (left : Left) where
 
       pub no_value_left : {y : Bool} {e : DecodeError E} → (IsTrue x → IsLawful k)
           → DecodesIf y v m b (Err e)
-          → DecodesIf (x && y) (next_spelling left (pair_spelling k v)) a b (Err e)
+          → DecodesIf (x && y) (next_format left (pair_format k v)) a b (Err e)
       no_value_left {y = y} lawful t =
-          err_behind v (next_spelling left (pair_spelling k v)) d.moves.by (λ xs told.
-          let p = d.sound.at xs told in
+          err_after v (next_format left (pair_format k v)) d.moves.by (λ xs known.
+          let p = d.sound.at xs known in
           let start = part_start k.reads left xs key p.count p.cost p.read in
-          let stop : (stops : StopsAt) (z : Refusal) (ys : List ℕ)
-          → stops (drop p.count xs) a.budget z ys → StopsBehindKey k.reads stops xs a.budget z ys =
-          λ stops z ys h. record {
+          let stop : (rejects : RejectsAt) (z : InputError) (ys : List ℕ)
+          → rejects (drop p.count xs) a.budget z ys → RejectsAfterKey k.reads rejects xs
+          a.budget z ys =
+          λ rejects z ys h. record {
             whole = key;
             size = p.count;
             cost = p.cost;
@@ -153,7 +158,7 @@ module _ {K V : Type 0} (k : Spelling K) (v : Spelling V) (left : Left) where
             p.left,
             record {
               none = λ is. no_value (lawful (both x y is).0) xs key p.count p.cost a.budget p.read;
-              stops = λ z ys h. inr (start, inr (stop v.stops z ys h));
+              rejects = λ z ys h. inr (start, inr (stop v.rejects z ys h));
               begins = λ z ys h. inr (start, inr (stop v.begins z ys h));
             },
           )) (λ owned. (both k.owned v.owned owned).1) (or_right k.takes_memory v.takes_memory)

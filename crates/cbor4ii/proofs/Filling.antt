@@ -9,23 +9,23 @@ use Rattle.std.specs.declared.string.String.{String}
 use Rattle.cbor4ii_rw.specs.View.{View}
 use Rattle.cbor4ii_rw.specs.declared.error.DecodeError.{DecodeError}
 use Rattle.cbor4ii_rw.specs.Reader.{StepsIn, KeepsAllButBudget, step_back}
-use Rattle.cbor4ii_items.specs.Decoding.{Spelling, Decodes, DecodesIf}
+use Rattle.cbor4ii_items.specs.Decoding.{Format, Decodes, DecodesIf}
 use Rattle.cbor4ii_items.specs.Reading.{Runs}
 use Rattle.cbor4ii_items.specs.ReadStrings.{break_at}
 use Rattle.cbor4ii_items.specs.Strings.{text_content}
-use Rattle.cbor4ii_items.specs.Sequences.{count_of, open_of, in_list}
-use Rattle.cbor4ii_items.specs.Laws.Calls.{ok as decoded_ok, err_behind, behind, Leads, of_exact}
+use Rattle.cbor4ii_items.specs.Sequences.{count_of, indefinite_of, in_list}
+use Rattle.cbor4ii_items.specs.Laws.Calls.{ok as decoded_ok, err_after, trailing, Leads, of_exact}
 use Rattle.cbor4ii_items.specs.Laws.Calls.{exact_less, accepted}
 use Rattle.cbor4ii_items.specs.Laws.Containers.{both}
 use Rattle.cbor4ii_items.specs.Laws.Running.{kept_alike}
 use Rattle.cbor4ii_items.specs.Laws.SequenceParts.{Begun, count_more, count_done, Stands, Opened}
-use Rattle.cbor4ii_items.specs.Laws.SequenceParts.{open_more, open_done}
-use Rattle.cbor4ii.specs.Fields.{no_field, no_field_stops, changed, name_spelling, made, SameChange}
+use Rattle.cbor4ii_items.specs.Laws.SequenceParts.{indefinite_more, indefinite_done}
+use Rattle.cbor4ii.specs.Fields.{no_field, no_field_rejects, changed, name_format, made, SameChange}
 use Rattle.cbor4ii.specs.Fields.{all_made, Altered, Alters}
-use Rattle.cbor4ii.specs.ItemRead.{skipped_spelling}
+use Rattle.cbor4ii.specs.ItemRead.{skipped_format}
 use Rattle.cbor4ii.specs.Places.{Place}
-use Rattle.cbor4ii.specs.Stepped.{stepped_spelling}
-use Rattle.cbor4ii.specs.Structs.{Fields, placed, fields_by, unnamed, behind_name, entry_of}
+use Rattle.cbor4ii.specs.Stepped.{stepped_format}
+use Rattle.cbor4ii.specs.Structs.{Fields, placed, fields_by, unnamed, after_name, entry_of}
 use Rattle.cbor4ii.specs.Structs.{entries_of, struct_of}
 use Rattle.cbor4ii.specs.Typed.{Promise, Deserializes}
 use Rattle.cbor4ii.specs.TypedParts.{part_of}
@@ -34,17 +34,17 @@ use Rattle.cbor4ii.proofs.Names.{names_split, names_none}
 use Rattle.cbor4ii.proofs.Promised.{promised, tell}
 use Rattle.cbor4ii.proofs.Steps.{under_if}
 
--- ---- behind a name
+-- ---- after a name
 
 -- no field has it
 module _ {V : Type 0} (f : Fields V) (name : List ℕ) (values : V) {a b : View} where
   pub skips : {E : Type 0} (exact : Bool) (r : Result (Unit {0}) (DecodeError E))
-      → f.named ≡ no_field → f.stops ≡ no_field_stops → Decodes skipped_spelling a b r
-      → Alters made exact (behind_name f name) values values a b r
-  skips exact (Ok u) none stops d = record {
+      → f.named ≡ no_field → f.rejects ≡ no_field_rejects → Decodes skipped_format a b r
+      → Alters made exact (after_name f name) values values a b r
+  skips exact (Ok u) none rejects d = record {
     what = λ v. v;
-    read = decoded_ok (behind_name f name) d.moves.by (λ some. cc) (record {
-      at = λ xs told. let p = d.sound.at xs told in record {
+    read = decoded_ok (after_name f name) d.moves.by (λ some. cc) (record {
+      at = λ xs known. let p = d.sound.at xs known in record {
         count = p.count;
         cost = p.cost;
         read = subst (λ named. named name xs (λ v. v) p.count p.cost) (sym none) (p.read, refl);
@@ -54,15 +54,15 @@ module _ {V : Type 0} (f : Fields V) (name : List ℕ) (values : V) {a b : View}
     });
     is = refl;
   }
-  skips exact (Err e) none stops d =
-      err_behind skipped_spelling (behind_name f name) (kept_alike a) (λ xs told. (
+  skips exact (Err e) none rejects d =
+      err_after skipped_format (after_name f name) (kept_alike a) (λ xs known. (
         xs,
-        told,
+        known,
         record {
           none = λ is skipped g n c q fits.
               skipped tt n c (subst (λ named. named name xs g n c) none q).0 fits;
-          stops = λ z ys h. subst (λ at. at name xs a.budget z ys) (sym stops) h;
-          begins = λ z ys h. subst (λ at. at name xs a.budget z ys) (sym stops) h;
+          rejects = λ z ys h. subst (λ at. at name xs a.budget z ys) (sym rejects) h;
+          begins = λ z ys h. subst (λ at. at name xs a.budget z ys) (sym rejects) h;
         },
       )) (λ owned. refl) (λ takes. refl) (of_exact d)
 
@@ -71,67 +71,73 @@ module _ {T P V E : Type 0} (place : Place T P) (own : List ℕ) (p : Promise T)
   -- the field itself
   pub field_ok : {v : T} {first last : P × V} → name ≡ own → last ≡ (place.put v first.0, first.1)
       → Deserializes {E = E} p a b (Ok v)
-      → Altered E made (behind_name (placed place own p others) name) first last a b
+      → Altered E made (after_name (placed place own p others) name) first last a b
   field_ok {v = v} same filled d = record {
     what = λ values. (place.put v values.0, values.1);
-    read = decoded_ok (behind_name (placed place own p others) name) d.moves.by (λ some. cc) (record {
-      at = λ xs told. let q = d.sound.at xs told in record {
-        count = q.count;
-        cost = q.cost;
-        read = inl (same, v, q.read, refl);
-        fits = q.fits;
-        left = q.left;
-      };
-    });
+    read = decoded_ok (after_name (placed place own p others) name) d.moves.by (λ some. cc)
+        (record {
+          at = λ xs known. let q = d.sound.at xs known in record {
+            count = q.count;
+            cost = q.cost;
+            read = inl (same, v, q.read, refl);
+            fits = q.fits;
+            left = q.left;
+          };
+        });
     is = filled;
   }
 
   pub field_err : {e : DecodeError E} → name ≡ own → Deserializes p a b (Err e)
-      → DecodesIf (placed place own p others).exact (behind_name (placed place own p others) name) a b (Err e)
+      → DecodesIf (placed place own p others).exact (after_name (placed place own p others) name) a
+      b (Err e)
   field_err same d =
-      err_behind (part_of p) (behind_name (placed place own p others) name) (kept_alike a) (λ xs told. (
+      err_after (part_of p) (after_name (placed place own p others) name) (kept_alike a)
+      (λ xs known. (
         xs,
-        told,
+        known,
         record {
           none = λ is none change n c q fits. elim q
               [ inl w ↦ none w.1 n c w.2 fits | inr w ↦ absurd (w.0 same) ];
-          stops = λ z ys h. inl (same, h);
+          rejects = λ z ys h. inl (same, h);
           begins = λ z ys h. inl (same, h);
         },
-      )) (λ owned. (both p.spelling.owned others.owned owned).0) (λ takes. refl)
+      )) (λ owned. (both p.format.owned others.owned owned).0) (λ takes. refl)
       (exact_less (λ is. (both p.exact others.exact is).0) (tell p (Err _) d))
 
   -- one of the others
   pub field_below : {U : Type 0} (r : Result U (DecodeError E)) (first last : P × V)
       (below : V) → name ≢ own → last ≡ (first.0, below)
-      → Alters made others.exact (behind_name others name) first.1 below a b r
-      → Alters made (placed place own p others).exact (behind_name (placed place own p others) name) first last
+      → Alters made others.exact (after_name others name) first.1 below a b r
+      → Alters made (placed place own p others).exact (after_name (placed place own p others) name)
+      first last
       a b r
   field_below (Ok u) first last below not filled h = record {
     what = λ values. (values.0, h.what values.1);
-    read = decoded_ok (behind_name (placed place own p others) name) h.read.moves.by (λ some. cc) (record {
-      at = λ xs told. let q = h.read.sound.at xs told in record {
-        count = q.count;
-        cost = q.cost;
-        read = inr (not, h.what, q.read, refl);
-        fits = q.fits;
-        left = q.left;
-      };
-    });
+    read = decoded_ok (after_name (placed place own p others) name) h.read.moves.by (λ some. cc)
+        (record {
+          at = λ xs known. let q = h.read.sound.at xs known in record {
+            count = q.count;
+            cost = q.cost;
+            read = inr (not, h.what, q.read, refl);
+            fits = q.fits;
+            left = q.left;
+          };
+        });
     is = filled ∙ ap (λ v. (first.0, v)) h.is;
   }
   field_below (Err e) first last below not filled h =
-      err_behind (behind_name others name) (behind_name (placed place own p others) name) (kept_alike a)
-      (λ xs told. (
+      err_after (after_name others name) (after_name (placed place own p others) name)
+      (kept_alike a)
+      (λ xs known. (
         xs,
-        told,
+        known,
         record {
           none = λ is none change n c q fits. elim q
               [ inl w ↦ absurd (not w.0) | inr w ↦ none w.1 n c w.2 fits ];
-          stops = λ z ys h. inr (not, h);
+          rejects = λ z ys h. inr (not, h);
           begins = λ z ys h. inr (not, h);
         },
-      )) (λ owned. (both p.spelling.owned others.owned owned).1) (λ takes. refl)
+      )) (λ owned. (both p.format.owned others.owned owned).1) (λ takes. refl)
       (exact_less (λ is. (both p.exact others.exact is).1) h)
 
 -- ---- which field has a name
@@ -141,40 +147,41 @@ module _ {T P V U E : Type 0} (place : Place T P) (p : Promise T) (others : List
     (r : Result U (DecodeError E)) where
   pub at_first : (d : Bor (List ℕ)) → 1 ≤ length names
       → Alters made (p.exact && (others (take (length names - 1) (drop 1 names))).exact)
-      (behind_name (placed place (get_or names 0 d).now p
+      (after_name (placed place (get_or names 0 d).now p
       (others (take (length names - 1) (drop 1 names)))) name) before after a b r
       → Alters made (fields_by place p others names).exact
-      (behind_name (fields_by place p others names) name) before after a b r
+      (after_name (fields_by place p others names) name) before after a b r
   at_first d some h =
-      subst (λ f. Alters made f.exact (behind_name f name) before after a b r)
+      subst (λ f. Alters made f.exact (after_name f name) before after a b r)
       (ap (fields_by place p others) (sym (names_split names d some))) h
 
   pub at_none : length names < 1
-      → Alters made (p.exact && (others []).exact) (behind_name (unnamed place p (others [])) name) before
+      → Alters made (p.exact && (others []).exact) (after_name (unnamed place p (others []))
+      name) before
       after a b r
       → Alters made (fields_by place p others names).exact
-      (behind_name (fields_by place p others names) name) before after a b r
+      (after_name (fields_by place p others names) name) before after a b r
   at_none less h =
-      subst (λ f. Alters made f.exact (behind_name f name) before after a b r)
+      subst (λ f. Alters made f.exact (after_name f name) before after a b r)
       (ap (fields_by place p others) (sym (names_none names less))) h
 
 -- ---- an entry
 
 module _ {V E : Type 0} (f : Fields V) {a m : View} {name : String Global}
-    (d : Decodes {E = E} name_spelling a m (Ok name)) where
+    (d : Decodes {E = E} name_format a m (Ok name)) where
   pub entry_alters : {U : Type 0} (r : Result U (DecodeError E)) (b : View) (first last : V)
-      → Alters made f.exact (behind_name f (text_content name)) first last m b r
+      → Alters made f.exact (after_name f (text_content name)) first last m b r
       → Alters made f.exact (entry_of f) first last a b r
   entry_alters (Ok u) b first last h = record {
     what = h.what;
-    read = accepted (entry_then f.named f.stops (SameChange f.same) f.owned d (Ok h.what)
+    read = accepted (entry_then f.named f.rejects (SameChange f.same) f.owned d (Ok h.what)
         (of_exact {exact = f.exact} h.read));
     is = h.is;
   }
   entry_alters (Err e) b first last h =
-      entry_then f.named f.stops (SameChange f.same) f.owned d (Err e) h
+      entry_then f.named f.rejects (SameChange f.same) f.owned d (Err e) h
 
--- ---- entries, one behind another
+-- ---- entries, one after another
 
 changed_last : {V : Type 0} (values : V) (changes : List (V → V)) (change : V → V)
     → changed values (changes ++ change ∷ []) ≡ change (changed values changes)
@@ -189,24 +196,24 @@ module _ {V E : Type 0} (f : Fields V) where
 
 module _ {V : Type 0} (f : Fields V) where
   -- so many entries
-  pub record Counted (i : ℕ) (a m : View) (first last : V) : Type 0 where
+  pub record Definite (i : ℕ) (a m : View) (first last : V) : Type 0 where
     pub changes : List (V → V)
     pub begun : Begun (entry_of f) i a m changes
     pub is : last ≡ changed first changes
 
-  pub counted_more : {E : Type 0} {i : ℕ} {a m b : View} {first middle last : V}
-      → Counted i a m first middle → Altered E made (entry_of f) middle last m b
-      → Counted (i + 1) a b first last
-  counted_more {first = first} h t = record {
+  pub definite_more : {E : Type 0} {i : ℕ} {a m b : View} {first middle last : V}
+      → Definite i a m first middle → Altered E made (entry_of f) middle last m b
+      → Definite (i + 1) a b first last
+  definite_more {first = first} h t = record {
     changes = h.changes ++ t.what ∷ [];
     begun = count_more (entry_of f) h.begun t.read.moves.by t.read.sound refl;
     is = made_more f first h.changes h.is t;
   }
 
-  pub counted_done : {E : Type 0} {i count : ℕ} {a m : View} {first last : V}
-      → Counted i a m first last → i ≡ count
+  pub definite_done : {E : Type 0} {i count : ℕ} {a m : View} {first last : V}
+      → Definite i a m first last → i ≡ count
       → Altered E all_made (count_of in_list (entry_of f) count) first last a m
-  counted_done h all = record {
+  definite_done h all = record {
     what = h.changes;
     read = count_done in_list (entry_of f) h.begun all;
     is = h.is;
@@ -223,38 +230,38 @@ module _ {V : Type 0} (f : Fields V) where
       → Unended a b first last
   unended_more {first = first} h s t = record {
     changes = h.changes ++ t.what ∷ [];
-    opened = open_more (entry_of f) refl h.opened s t.read.moves.by t.read.sound refl;
+    opened = indefinite_more (entry_of f) refl h.opened s t.read.moves.by t.read.sound refl;
     is = made_more f first h.changes h.is t;
   }
 
   pub unended_done : {E : Type 0} (name : List ℕ) {ended : Bool} {a l b : View} {first last : V}
       → ended ≡ true → Unended a l first last → Runs {E = E} break_at l b (Ok ended)
-      → Altered E all_made (open_of in_list name (entry_of f)) first last a b
+      → Altered E all_made (indefinite_of in_list name (entry_of f)) first last a b
   unended_done name is h q = record {
     what = h.changes;
-    read = open_done in_list name (entry_of f) is h.opened q;
+    read = indefinite_done in_list name (entry_of f) is h.opened q;
     is = h.is;
   }
 
 -- ---- the head, and the step
 
 module _ {W V U E : Type 0} (makes : W → V → V) (exact : Bool) (before after : V) where
-  pub alters_behind : (part whole : Spelling W) {a m : View} (b : View)
+  pub alters_after : (part whole : Format W) {a m : View} (b : View)
       (r : Result U (DecodeError E))
       → Leads exact part whole a m → Alters makes exact part before after m b r
       → Alters makes exact whole before after a b r
-  alters_behind part whole b (Ok u) l h = record {
+  alters_after part whole b (Ok u) l h = record {
     what = h.what;
-    read = accepted (behind part whole (Ok h.what) l (of_exact h.read));
+    read = accepted (trailing part whole (Ok h.what) l (of_exact h.read));
     is = h.is;
   }
-  alters_behind part whole b (Err e) l d = behind part whole (Err e) l d
+  alters_after part whole b (Err e) l d = trailing part whole (Err e) l d
 
-  pub alters_under : (s : Spelling W) (name : List ℕ) {a b c d : View}
+  pub alters_under : (s : Format W) (name : List ℕ) {a b c d : View}
       (r : Result U (DecodeError E))
       → StepsIn a.budget b.budget true → KeepsAllButBudget a b → KeepsAllButBudget c d
       → d.budget ≡ step_back c.budget → Alters makes exact s before after b c r
-      → Alters makes exact (stepped_spelling name s) before after a d r
+      → Alters makes exact (stepped_format name s) before after a d r
   alters_under s name (Ok u) takes inward outward gives h = record {
     what = h.what;
     read = accepted (under_if s {exact = exact} name takes inward outward (Ok h.what) gives
@@ -275,11 +282,11 @@ from_first {E = E} f {after = after} {a = a} {b = b} is =
 
 module _ {V W E : Type 0} (values : W → V) (f : Fields V) {a b : View} where
   pub filled_ok : {w : W} → Altered E all_made (entries_of f) f.first (values w) a b
-      → Decodes {E = E} (struct_of values f).spelling a b (Ok w)
+      → Decodes {E = E} (struct_of values f).format a b (Ok w)
   filled_ok h =
-      decoded_ok (struct_of values f).spelling h.read.moves.by (λ some. h.read.progress refl)
+      decoded_ok (struct_of values f).format h.read.moves.by (λ some. h.read.progress refl)
       (record {
-        at = λ xs told. let p = h.read.sound.at xs told in record {
+        at = λ xs known. let p = h.read.sound.at xs known in record {
           count = p.count;
           cost = p.cost;
           read = (h.what, p.read, h.is);
@@ -289,14 +296,14 @@ module _ {V W E : Type 0} (values : W → V) (f : Fields V) {a b : View} where
       })
 
   pub filled_err : {e : DecodeError E} → DecodesIf f.exact (entries_of f) a b (Err e)
-      → DecodesIf f.exact (struct_of values f).spelling a b (Err e)
+      → DecodesIf f.exact (struct_of values f).format a b (Err e)
   filled_err =
-      err_behind (entries_of f) (struct_of values f).spelling (kept_alike a) (λ xs told. (
+      err_after (entries_of f) (struct_of values f).format (kept_alike a) (λ xs known. (
         xs,
-        told,
+        known,
         record {
           none = λ is none w n c q fits. none q.0 n c q.1 fits;
-          stops = λ z ys h. h;
+          rejects = λ z ys h. h;
           begins = λ z ys h. h;
         },
       )) (λ o. o) (λ takes. refl)

@@ -6,7 +6,7 @@ use Rattle.cbor4ii_items.specs.Decoding.{Reads, Sound}
 pub sound_as : {V W : Type 0} (reads : Reads V) (form : W → V) {a b : View} {v : V} {w : W}
     → form w ≡ v → Sound reads a b v → Sound (λ xs (w : W) n c. reads xs (form w) n c) a b w
 sound_as reads form {w = w} is s = record {
-  at = λ xs told. (let p = s.at xs told in record {
+  at = λ xs known. (let p = s.at xs known in record {
     count = p.count;
     cost = p.cost;
     read =

@@ -1,4 +1,4 @@
--- A call that decodes one item of the codec, told as typed reading.
+-- A call that decodes one item of the codec, reported as typed reading.
 use Rattle.std.proofs.Common.{◌≡◌, Bool, true, false, IsTrue, refl}
 
 -- what a type says that takes no memory

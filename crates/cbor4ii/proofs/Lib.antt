@@ -1,4 +1,4 @@
-pub mod Told
+pub mod IfKnown
 pub mod Promised
 pub mod Pairs
 pub mod Parts

@@ -2,16 +2,16 @@
 use Rattle.std.proofs.Common.{◌≡◌, ◌≢◌, ◌⊎◌, inl, inr, ℕ, ◌<◌, ◌≤◌, List, [], ◌∷◌, length, take}
 use Rattle.std.proofs.Common.{drop, Option, Some, None, Ok, refl, ap, ◌∙◌, subst, arith}
 use Rattle.std.specs.Prelude.{codes}
-use Rattle.cbor4ii_rw.specs.View.{View, Told}
+use Rattle.cbor4ii_rw.specs.View.{View, IfKnown}
 use Rattle.cbor4ii_rw.specs.Reader.{Advances}
 use Rattle.cbor4ii_rw.specs.declared.error.DecodeError.{DecodeError}
-use Rattle.cbor4ii_items.specs.Refusal.{refusal_of}
+use Rattle.cbor4ii_items.specs.InputError.{input_error_of}
 use Rattle.cbor4ii_items.specs.Moves.{Kept, Moves}
 use Rattle.cbor4ii_items.specs.Reading.{Runs, peek_at}
 use Rattle.cbor4ii_items.specs.Next.{ReadsNext}
-use Rattle.cbor4ii_items.specs.Decoding.{Reads, CostFits, Sound, NoneRead, Refuses}
+use Rattle.cbor4ii_items.specs.Decoding.{Reads, CostFits, Sound, NoneRead, Complete}
 use Rattle.cbor4ii_items.specs.Containers.{BeginsNull, ReadsOption}
-use Rattle.cbor4ii_items.specs.Laws.Answering.{fits_zero, if_some, refuses_as}
+use Rattle.cbor4ii_items.specs.Laws.Answering.{fits_zero, if_some, complete_as}
 use Rattle.cbor4ii_items.specs.Laws.Running.{kept_taken}
 use Rattle.cbor4ii_items.specs.Laws.Containers.{not_null, no_option}
 use Rattle.cbor4ii_items.specs.Laws.Sequences.{one_byte}
@@ -24,7 +24,7 @@ next_runs : {E : Type 0} (name : List ℕ) {b : ℕ} {a m : View} → Moves {E =
     → Sound ReadsNext a m b → Runs {E = E} (peek_at name 1) a m (Ok b)
 next_runs name {b = b} m s = record {
   moves = m;
-  answers = λ xs told. (let p = s.at xs told in
+  answers = λ xs known. (let p = s.at xs known in
       (xs, p.left ∙ ap (λ n. Some (drop n xs)) p.read.1, peeks name b xs p.read.0));
 }
 
@@ -35,13 +35,13 @@ kept_next m s byte adv = kept_taken (next_runs (codes "") m s) byte adv
 
 -- what a call saw of the next byte, which stayed
 pub record Saw (a m : View) (b : ℕ) : Type 0 where
-  pub first : Told a.told (λ xs. (m.told ≡ Some xs) × (take 1 xs ≡ b ∷ []) × (1 ≤ length xs))
+  pub first : IfKnown a.known (λ xs. (m.known ≡ Some xs) × (take 1 xs ≡ b ∷ []) × (1 ≤ length xs))
   pub budget : m.budget ≡ a.budget
 
 pub saw : {E : Type 0} {b : ℕ} {a m : View} → Moves {E = E} a m (Ok b) → Sound ReadsNext a m b
     → Saw a m b
 saw {b = b} m s = record {
-  first = λ xs told. (let p = s.at xs told in
+  first = λ xs known. (let p = s.at xs known in
       (p.left ∙ ap (λ n. Some (drop n xs)) p.read.1, p.read.0, one_byte xs b p.read.0));
   budget = m.by.budget;
 }
@@ -51,8 +51,8 @@ saw {b = b} m s = record {
 pub some_sound : {V : Type 0} (reads : Reads V) {a m b : View} {v : V} {first : ℕ} → Saw a m first
     → first ≢ 0xf6 → first ≢ 0xf7 → Sound reads m b v → Sound (ReadsOption reads) a b (Some v)
 some_sound reads {first = first} s p q h = record {
-  at = λ xs told.
-      let f = s.first xs told in
+  at = λ xs known.
+      let f = s.first xs known in
       let t = h.at xs f.0 in
       record {
         count = t.count;
@@ -71,25 +71,25 @@ begins_null xs b e (inr is) = inr (e ∙ ap (λ z. z ∷ []) is)
 pub null_sound : {V : Type 0} (reads : Reads V) {a m c : View} {b : ℕ} → Saw a m b
     → (b ≡ 0xf6) ⊎ (b ≡ 0xf7) → Advances 1 m c → Sound (ReadsOption reads) a c None
 null_sound reads {a = a} {b = b} s is adv = record {
-  at = λ xs told. (let f = s.first xs told in
+  at = λ xs known. (let f = s.first xs known in
       record {
         count = 1;
         cost = 0;
         read = (begins_null xs b f.1 is, refl, refl);
         fits = fits_zero a.budget;
-        left = adv.told xs f.0;
+        left = adv.known xs f.0;
       });
 }
 
-pub some_refuses : {V E : Type 0} (reads : Reads V) {a m : View} {e : DecodeError E} {first : ℕ}
+pub some_complete : {V E : Type 0} (reads : Reads V) {a m : View} {e : DecodeError E} {first : ℕ}
     → Saw a m first → first ≢ 0xf6 → first ≢ 0xf7
-    → ((xs : List ℕ) → a.told ≡ Some xs → Refuses reads m e) → Refuses (ReadsOption reads) a e
-some_refuses reads {a = a} {m = m} {e = e} {first = first} s p q h = record {
-  at = λ xs told.
-      let f = s.first xs told in
-      if_some (refusal_of e)
+    → ((xs : List ℕ) → a.known ≡ Some xs → Complete reads m e) → Complete (ReadsOption reads) a e
+some_complete reads {a = a} {m = m} {e = e} {first = first} s p q h = record {
+  at = λ xs known.
+      let f = s.first xs known in
+      if_some (input_error_of e)
       (no_option reads xs m.budget a.budget s.budget (not_null xs first f.1 p q))
-      ((h xs told).at xs f.0);
+      ((h xs known).at xs f.0);
 }
 
 -- ---- no byte
@@ -108,6 +108,6 @@ none_option reads xs budget none None n c r fits = elim r.0
     [ inl e ↦ none_begins xs 0xf6 budget none e | inr e ↦ none_begins xs 0xf7 budget none e ]
 none_option reads xs budget none (Some v) n c r fits = none_first xs budget none r.1
 
-pub option_refuses : {V E : Type 0} (reads : Reads V) {a : View} {e : DecodeError E}
-    → Refuses ReadsNext a e → Refuses (ReadsOption reads) a e
-option_refuses reads s = refuses_as ReadsNext (ReadsOption reads) (none_option reads) s
+pub option_complete : {V E : Type 0} (reads : Reads V) {a : View} {e : DecodeError E}
+    → Complete ReadsNext a e → Complete (ReadsOption reads) a e
+option_complete reads s = complete_as ReadsNext (ReadsOption reads) (none_option reads) s

@@ -4,11 +4,11 @@ use denote.Ref.{Bor}
 use Rattle.cbor4ii_rw.specs.View.{View}
 use Rattle.cbor4ii_rw.specs.declared.error.DecodeError.{DecodeError}
 use Rattle.cbor4ii_rw.specs.declared.error.DecodeError.TheVariants.{Custom}
-use Rattle.cbor4ii_items.specs.Refusal.{refusal_of}
-use Rattle.cbor4ii_items.specs.Laws.Answering.{refuses_as}
-use Rattle.cbor4ii_items.specs.Laws.Calls.{stops_as}
+use Rattle.cbor4ii_items.specs.InputError.{input_error_of}
+use Rattle.cbor4ii_items.specs.Laws.Answering.{complete_as}
+use Rattle.cbor4ii_items.specs.Laws.Calls.{rejects_as}
 use Rattle.cbor4ii_items.specs.Laws.Steps.{moves_ok, moves_err}
-use Rattle.cbor4ii.specs.Made.{StopsMade, made_from, made_or_refused}
+use Rattle.cbor4ii.specs.Made.{RejectsMade, made_from, made_or_rejected}
 use Rattle.cbor4ii.specs.Presence.{SameFate}
 use Rattle.cbor4ii.specs.Typed.{Promise, Deserializes, no_number, not_exact}
 
@@ -21,7 +21,7 @@ module _ {V W E : Type 0} (p : Promise V) {a b : View} where
     progress = d.progress;
     memory = tt;
     sound = record {
-      at = λ xs told. let q = d.sound.at xs told in record {
+      at = λ xs known. let q = d.sound.at xs known in record {
         count = q.count;
         cost = q.cost;
         read = record { part = v; read = q.read; made = made };
@@ -30,7 +30,7 @@ module _ {V W E : Type 0} (p : Promise V) {a b : View} where
       };
     };
     complete = λ is sure. tt;
-    begins = λ tells. tt;
+    begins = λ reports. tt;
   }
 
   pub from_err : {e : DecodeError E} (gives : V → W → Type 0) → Deserializes p a b (Err e)
@@ -40,21 +40,21 @@ module _ {V W E : Type 0} (p : Promise V) {a b : View} where
     progress = tt;
     memory = d.memory;
     sound = tt;
-    complete = λ is sure. refuses_as p.spelling.reads _
+    complete = λ is sure. complete_as p.format.reads _
         (λ xs budget none w n c q. none q.part n c q.read) (d.complete is sure);
     begins = d.begins;
   }
 
-  -- the same where it may be refused in words
+  -- the same where it may be rejected in words
   pub made_ok : {v : V} {w : W} (value : V → Result W (List ℕ)) → value v ≡ Ok w
       → Deserializes {E = E} p a b (Ok v)
-      → Deserializes {E = E} (made_or_refused value p) a b (Ok w)
+      → Deserializes {E = E} (made_or_rejected value p) a b (Ok w)
   made_ok {v = v} value made d = record {
     moves = moves_ok d.moves;
     progress = d.progress;
     memory = tt;
     sound = record {
-      at = λ xs told. let q = d.sound.at xs told in record {
+      at = λ xs known. let q = d.sound.at xs known in record {
         count = q.count;
         cost = q.cost;
         read = record { part = v; read = q.read; made = made };
@@ -63,44 +63,44 @@ module _ {V W E : Type 0} (p : Promise V) {a b : View} where
       };
     };
     complete = λ is sure. tt;
-    begins = λ tells. tt;
+    begins = λ reports. tt;
   }
 
   pub made_err : {e : DecodeError E} (value : V → Result W (List ℕ)) → Deserializes p a b (Err e)
-      → Deserializes (made_or_refused value p) a b (Err e)
+      → Deserializes (made_or_rejected value p) a b (Err e)
   made_err {e = e} value d = record {
     moves = moves_err d.moves;
     progress = tt;
     memory = d.memory;
     sound = tt;
-    complete = λ is sure. refuses_as p.spelling.reads _
+    complete = λ is sure. complete_as p.format.reads _
         (λ xs budget none w n c q. none q.part n c q.read) (d.complete is sure);
-    begins = λ tells. record {
-      at = λ xs told. stops_as (refusal_of e) b.told (p.spelling.begins xs a.budget)
-          (StopsMade p.spelling value xs a.budget) (λ z ys h. inl h)
-          ((d.begins tells).at xs told);
+    begins = λ reports. record {
+      at = λ xs known. rejects_as (input_error_of e) b.known (p.format.begins xs a.budget)
+          (RejectsMade p.format value xs a.budget) (λ z ys h. inl h)
+          ((d.begins reports).at xs known);
     };
   }
 
-  -- it was refused: a value is whole, and nothing is made of it
+  -- it was rejected: a value is whole, and nothing is made of it
   pub unmade : {v : V} {words : Bor (List ℕ)} (value : V → Result W (List ℕ))
-      → ((v w : V) → p.spelling.same v w → SameFate (value v) (value w))
+      → ((v w : V) → p.format.same v w → SameFate (value v) (value w))
       → value v ≡ Err words.now → Deserializes {E = E} p a b (Ok v)
-      → Deserializes {E = E} (made_or_refused value p) a b (Err (Custom words no_number))
+      → Deserializes {E = E} (made_or_rejected value p) a b (Err (Custom words no_number))
   unmade {v = v} {words = words} value fate none d = record {
     moves = record { by = d.moves.by; depth = λ e. refl };
     progress = tt;
     memory = λ out. not_exact out;
     sound = tt;
     complete = λ is sure. record {
-      at = λ xs told w n c r fits.
-          let q = d.sound.at xs told in
+      at = λ xs known w n c r fits.
+          let q = d.sound.at xs known in
           let e = (p.lawful is).one xs v r.part q.count n q.cost c q.read r.read in
           subst (λ (o : Result W (List ℕ)). SameFate o (Ok w)) none
           (subst (λ (o : Result W (List ℕ)). SameFate (value v) o) r.made (fate v r.part e.2));
     };
-    begins = λ tells. record {
-      at = λ xs told. let q = d.sound.at xs told in (
+    begins = λ reports. record {
+      at = λ xs known. let q = d.sound.at xs known in (
         drop q.count xs,
         q.left,
         inr (record {

@@ -1,4 +1,4 @@
--- A name, and what stands behind it.
+-- A name, and what follows it.
 use Rattle.std.proofs.Common.{◌+◌, inl, inr, ℕ, List, drop, Result, Ok, Err, Bool, max, refl}
 use Rattle.std.proofs.Common.{subst, arith}
 use Rattle.std.specs.declared.alloc.Global.{Global}
@@ -7,34 +7,34 @@ use Rattle.cbor4ii_rw.specs.View.{View}
 use Rattle.cbor4ii_rw.specs.declared.error.DecodeError.{DecodeError}
 use Rattle.cbor4ii_items.specs.Decoding.{Reads, NoneRead, Decodes, DecodesIf}
 use Rattle.cbor4ii_items.specs.Strings.{text_content}
-use Rattle.cbor4ii_items.specs.Laws.Calls.{ok_behind, err_behind, of_exact, accepted}
-use Rattle.cbor4ii_items.specs.Laws.Fronts.{drop_more}
+use Rattle.cbor4ii_items.specs.Laws.Calls.{ok_after, err_after, of_exact, accepted}
+use Rattle.cbor4ii_items.specs.Laws.Prefixes.{drop_more}
 use Rattle.cbor4ii_items.specs.Laws.Pairs.{less_max_left, less_max_right}
 use Rattle.cbor4ii_items.specs.Laws.Running.{kept_alike}
 use Rattle.cbor4ii_items.specs.Laws.SequenceParts.{fits_less, fits_max}
-use Rattle.cbor4ii.specs.Fields.{StopsNamed, name_laws, name_spelling, named_part, named_entry}
+use Rattle.cbor4ii.specs.Fields.{RejectsNamed, name_laws, name_format, named_part, named_entry}
 
-module _ {W E : Type 0} (named : List ℕ → Reads W) (stops : StopsNamed) (same : W → W → Type 0)
+module _ {W E : Type 0} (named : List ℕ → Reads W) (rejects : RejectsNamed) (same : W → W → Type 0)
     (owned : Bool) {a m : View} where
-  pub name_err : {exact : Bool} {e : DecodeError E} → Decodes name_spelling a m (Err e)
-      → DecodesIf exact (named_entry named stops same owned) a m (Err e)
+  pub name_err : {exact : Bool} {e : DecodeError E} → Decodes name_format a m (Err e)
+      → DecodesIf exact (named_entry named rejects same owned) a m (Err e)
   name_err d =
-      err_behind name_spelling (named_entry named stops same owned) (kept_alike a) (λ xs told. (
+      err_after name_format (named_entry named rejects same owned) (kept_alike a) (λ xs known. (
         xs,
-        told,
+        known,
         record {
           none = λ is none g n c q fits. none q.0 q.1.key_size q.1.key_cost q.1.key
               (fits_less q.1.key_cost c a.budget
               (less_max_left c q.1.key_cost q.1.value_cost q.1.cost) fits);
-          stops = λ z ys. inl;
+          rejects = λ z ys. inl;
           begins = λ z ys. inl;
         },
       )) (λ owned. refl) (λ takes. takes) (of_exact d)
 
-  module _ {name : String Global} (d : Decodes {E = E} name_spelling a m (Ok name)) where
-    no_value : (xs : List ℕ) (i k : ℕ) → name_spelling.reads xs name i k
+  module _ {name : String Global} (d : Decodes {E = E} name_format a m (Ok name)) where
+    no_value : (xs : List ℕ) (i k : ℕ) → name_format.reads xs name i k
         → NoneRead (named (text_content name)) (drop i xs) a.budget
-        → NoneRead (named_entry named stops same owned).reads xs a.budget
+        → NoneRead (named_entry named rejects same owned).reads xs a.budget
     no_value xs i k read none g n c q fits =
         let is = name_laws.one xs q.0 name q.1.key_size i q.1.key_cost k q.1.key read in
         none g q.1.value_size q.1.value_cost
@@ -45,12 +45,12 @@ module _ {W E : Type 0} (named : List ℕ → Reads W) (stops : StopsNamed) (sam
         (less_max_right c q.1.key_cost q.1.value_cost q.1.cost) fits)
 
     pub entry_then : {exact : Bool} {b : View} (r : Result W (DecodeError E))
-        → DecodesIf exact (named_part named stops same owned (text_content name)) m b r
-        → DecodesIf exact (named_entry named stops same owned) a b r
+        → DecodesIf exact (named_part named rejects same owned (text_content name)) m b r
+        → DecodesIf exact (named_entry named rejects same owned) a b r
     entry_then {b = b} (Ok w) h = of_exact (
-        ok_behind (named_part named stops same owned (text_content name))
-        (named_entry named stops same owned) d.moves.by (λ xs told.
-        let p = d.sound.at xs told in (
+        ok_after (named_part named rejects same owned (text_content name))
+        (named_entry named rejects same owned) d.moves.by (λ xs known.
+        let p = d.sound.at xs known in (
           drop p.count xs,
           p.left,
           λ n c r fits. record {
@@ -74,14 +74,14 @@ module _ {W E : Type 0} (named : List ℕ → Reads W) (stops : StopsNamed) (sam
           },
         )) (λ some. omega (arith, d.progress refl, h.moves.by.bound)) (accepted h))
     entry_then (Err e) h =
-        err_behind (named_part named stops same owned (text_content name))
-        (named_entry named stops same owned) d.moves.by (λ xs told.
-        let p = d.sound.at xs told in (
+        err_after (named_part named rejects same owned (text_content name))
+        (named_entry named rejects same owned) d.moves.by (λ xs known.
+        let p = d.sound.at xs known in (
           drop p.count xs,
           p.left,
           record {
             none = λ is. no_value xs p.count p.cost p.read;
-            stops = λ z ys h. inr (record {
+            rejects = λ z ys h. inr (record {
               whole = name;
               size = p.count;
               cost = p.cost;

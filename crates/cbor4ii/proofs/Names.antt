@@ -10,18 +10,18 @@ use Rattle.std.specs.Prelude.{IsUtf8}
 use Rattle.std.specs.declared.alloc.Global.{Global}
 use Rattle.std.specs.declared.string.String.{String}
 use denote.Ref.{Bor}
-use Rattle.cbor4ii_rw.specs.View.{View, Told}
-use Rattle.cbor4ii_rw.specs.Reader.{Shows, Advances, IsFront}
+use Rattle.cbor4ii_rw.specs.View.{View, IfKnown}
+use Rattle.cbor4ii_rw.specs.Reader.{Shows, Advances, IsPrefix}
 use Rattle.cbor4ii_rw.specs.declared.error.DecodeError.{DecodeError}
 use Rattle.cbor4ii_items.specs.Decoding.{CostFits, Decodes}
 use Rattle.cbor4ii_items.specs.Head.{in_first}
 use Rattle.cbor4ii_items.specs.Lent.{Stays}
-use Rattle.cbor4ii_items.specs.Strings.{ReadsCountedString, text_content}
+use Rattle.cbor4ii_items.specs.Strings.{ReadsDefiniteString, text_content}
 use Rattle.cbor4ii_items.specs.Laws.Answering.{fits_zero}
-use Rattle.cbor4ii_items.specs.Laws.Calls.{ok, err_behind, of_exact, exactly}
-use Rattle.cbor4ii_items.specs.Laws.Contents.{lends_front, first_bytes}
+use Rattle.cbor4ii_items.specs.Laws.Calls.{ok, err_after, of_exact, exactly}
+use Rattle.cbor4ii_items.specs.Laws.Contents.{lends_prefix, first_bytes}
 use Rattle.cbor4ii_items.specs.Laws.Steps.{kept_then}
-use Rattle.cbor4ii.specs.Fields.{name_spelling}
+use Rattle.cbor4ii.specs.Fields.{name_format}
 use Rattle.cbor4ii.specs.Names.{StandsAt, IsWholeName, NameAt, TakesName}
 use Rattle.cbor4ii.specs.ReadBack.{text_of}
 
@@ -83,7 +83,7 @@ pub some_name : (names : List (Bor (List ℕ))) → 1 ≤ length names → Bor (
 some_name [] some = absurd (omega (arith, some))
 some_name (own ∷ names) some = own
 
--- the first, and those behind it
+-- the first, and those after it
 pub names_split : (names : List (Bor (List ℕ))) (d : Bor (List ℕ)) → 1 ≤ length names
     → names ≡ get_or names 0 d ∷ take (length names - 1) (drop 1 names)
 names_split [] d some = absurd (omega (arith, some))
@@ -101,13 +101,13 @@ is_first name [] at d some none h = absurd (omega (arith, some))
 is_first name (own ∷ names) zero d some none h = h
 is_first name (own ∷ names) (suc at) d some none h = absurd (omega (arith, none))
 
-pub is_behind : (name : List ℕ) (names : List (Bor (List ℕ))) (at : ℕ) (d : Bor (List ℕ))
+pub is_after : (name : List ℕ) (names : List (Bor (List ℕ))) (at : ℕ) (d : Bor (List ℕ))
     → 1 ≤ length names → 0 < at → StandsAt name names at
     → (name ≢ (get_or names 0 d).now) × StandsAt name (take (length names - 1) (drop 1 names))
     (at - 1)
-is_behind name [] at d some more h = absurd (omega (arith, some))
-is_behind name (own ∷ names) zero d some more h = absurd (omega (arith, more))
-is_behind name (own ∷ names) (suc at) d some more h =
+is_after name [] at d some more h = absurd (omega (arith, some))
+is_after name (own ∷ names) zero d some more h = absurd (omega (arith, more))
+is_after name (own ∷ names) (suc at) d some more h =
     let few : length (own ∷ names) - 1 ≡ length names = omega arith in
     let all : take (length (own ∷ names) - 1) names ≡ names =
     ap (λ j. take j names) few ∙ take-length names in
@@ -156,7 +156,7 @@ whole names shown at size k some high low few room bytes which same utf8 =
 -- the bytes begin with it
 named_by : (xs name : List ℕ) → length name ≤ 23
     → take (suc (length name)) xs ≡ (0x60 + length name) ∷ name
-    → ReadsCountedString 3 xs name (1 + length name)
+    → ReadsDefiniteString 3 xs name (1 + length name)
 named_by [] name few e = cc
 named_by (x ∷ xs) name few e =
     let first : x ≡ 0x60 + length name = cc in
@@ -175,29 +175,29 @@ named_by (x ∷ xs) name few e =
       size = refl;
     }
 
-counted_name : (xs name : List ℕ) (n : ℕ) → length name ≤ 23 → n ≡ 1 + length name
-    → take n xs ≡ (0x60 + length name) ∷ name → ReadsCountedString 3 xs name n
-counted_name xs name n few size stands =
+definite_name : (xs name : List ℕ) (n : ℕ) → length name ≤ 23 → n ≡ 1 + length name
+    → take n xs ≡ (0x60 + length name) ∷ name → ReadsDefiniteString 3 xs name n
+definite_name xs name n few size stands =
     let e : n ≡ suc (length name) = omega (arith, size) in
-    subst (ReadsCountedString 3 xs name) (sym size)
+    subst (ReadsDefiniteString 3 xs name) (sym size)
     (named_by xs name few (ap (λ k. take k xs) (sym e) ∙ stands))
 
 pub takes_shown : {names : List (Bor (List ℕ))} {shown : List ℕ} {at n want : ℕ} {a m b : View}
-    → Shows shown a m → Told a.told (IsFront want shown) → IsWholeName names shown at n
+    → Shows shown a m → IfKnown a.known (IsPrefix want shown) → IsWholeName names shown at n
     → Advances n m b → NameAt names at a b
-takes_shown {n = n} {a = a} s front w adv =
-    let l = lends_front s front w.within w.bytes refl adv in
+takes_shown {n = n} {a = a} s prefix w adv =
+    let l = lends_prefix s prefix w.within w.bytes refl adv in
     record {
       name = w.name;
       is = (w.utf8, omega (arith, w.few));
       kept = l.kept;
       progress = omega (arith, w.size, adv.bound, s.bound);
       read = record {
-        at = λ xs told. (let p = l.at xs told in record {
+        at = λ xs known. (let p = l.at xs known in record {
           count = n;
           cost = 0;
           read = (
-            inl (counted_name xs w.name n w.few w.size (sym p.2 ∙ w.stands), refl),
+            inl (definite_name xs w.name n w.few w.size (sym p.2 ∙ w.stands), refl),
             w.utf8,
           );
           fits = fits_zero a.budget;
@@ -210,10 +210,10 @@ takes_shown {n = n} {a = a} s front w adv =
 -- ---- a name that was read as a text
 
 pub takes_text : {E : Type 0} {names : List (Bor (List ℕ))} {at : ℕ} {a b : View}
-    {name : String Global} (told_name : List ℕ) → told_name ≡ text_content name
-    → Decodes {E = E} name_spelling a b (Ok name) → StandsAt told_name names at
+    {name : String Global} (known_name : List ℕ) → known_name ≡ text_content name
+    → Decodes {E = E} name_format a b (Ok name) → StandsAt known_name names at
     → NameAt names at a b
-takes_text {names = names} {at = at} {name = name} told_name is d which = record {
+takes_text {names = names} {at = at} {name = name} known_name is d which = record {
   name = text_content name;
   is = (
     IsUtf8-string_bytes name,
@@ -222,7 +222,7 @@ takes_text {names = names} {at = at} {name = name} told_name is d which = record
   kept = d.moves.by;
   progress = d.progress refl;
   read = record {
-    at = λ xs told. (let p = d.sound.at xs told in record {
+    at = λ xs known. (let p = d.sound.at xs known in record {
       count = p.count;
       cost = p.cost;
       read = p.read;
@@ -235,9 +235,9 @@ takes_text {names = names} {at = at} {name = name} told_name is d which = record
 
 pub text_taken : {E : Type 0} {names : List (Bor (List ℕ))} {at : ℕ} {a b : View} (alloc : Global)
     → (h : NameAt names at a b)
-    → Decodes {E = E} name_spelling a b (Ok (text_of alloc h.name h.is.0 h.is.1))
-text_taken alloc h = ok name_spelling h.kept (λ some. h.progress) (record {
-  at = λ xs told. (let p = h.read.at xs told in record {
+    → Decodes {E = E} name_format a b (Ok (text_of alloc h.name h.is.0 h.is.1))
+text_taken alloc h = ok name_format h.kept (λ some. h.progress) (record {
+  at = λ xs known. (let p = h.read.at xs known in record {
     count = p.count;
     cost = p.cost;
     read = p.read;
@@ -256,7 +256,7 @@ stays_takes s h = record {
   kept = kept_then s.kept h.kept;
   progress = omega (arith, s.kept.bound, h.progress);
   read = record {
-    at = λ xs told. (let p = h.read.at xs (s.told xs told) in record {
+    at = λ xs known. (let p = h.read.at xs (s.known xs known) in record {
       count = p.count;
       cost = p.cost;
       read = p.read;
@@ -271,8 +271,8 @@ pub then_takes : {E : Type 0} (names : List (Bor (List ℕ))) {a m : View} (b : 
     (r : Result ℕ (DecodeError E)) → Stays a m → TakesName names m b r → TakesName names a b r
 then_takes names b (Ok at) s h = stays_takes s h
 then_takes names b (Err e) s h =
-    exactly (err_behind name_spelling name_spelling s.kept (λ xs told. (
+    exactly (err_after name_format name_format s.kept (λ xs known. (
       xs,
-      s.told xs told,
-      record { none = λ is none. none; stops = λ z ys stop. stop; begins = λ z ys stop. stop },
+      s.known xs known,
+      record { none = λ is none. none; rejects = λ z ys stop. stop; begins = λ z ys stop. stop },
     )) (λ owned. owned) (λ takes. takes) (of_exact h))

@@ -5,8 +5,8 @@ use Rattle.std.specs.declared.cmp.Ordering.{Ordering}
 use Rattle.std.specs.declared.vec.Vec.{Vec}
 use Rattle.cbor4ii_rw.specs.View.{View}
 use Rattle.cbor4ii_rw.specs.declared.error.DecodeError.{DecodeError as CoreError}
-use Rattle.cbor4ii_items.specs.Decoding.{Spelling, Decodes, DecodesIf}
-use Rattle.cbor4ii_items.specs.Laws.Answering.{refuses_as}
+use Rattle.cbor4ii_items.specs.Decoding.{Format, Decodes, DecodesIf}
+use Rattle.cbor4ii_items.specs.Laws.Answering.{complete_as}
 use Rattle.cbor4ii_items.specs.Laws.Calls.{ok, by_ok, by_err_if, of_exact, accepted}
 use Rattle.cbor4ii_items.specs.Laws.Steps.{moves_err}
 use Rattle.cbor4ii_items.specs.Sequences.{in_list, in_vector}
@@ -15,7 +15,7 @@ use Rattle.cbor4ii.specs.Built.{built, map_of}
 use Rattle.cbor4ii.specs.Sequence.{sequence_of}
 use Rattle.cbor4ii.specs.Typed.{answer_of, parts_answer}
 
-pub vector_of : {P E : Type 0} {exact : Bool} (step name : List ℕ) (major : ℕ) (s : Spelling P)
+pub vector_of : {P E : Type 0} {exact : Bool} (step name : List ℕ) (major : ℕ) (s : Format P)
     {a b : View} (r : Result (Vec P Global) (DecodeError E))
     → DecodesIf exact (sequence_of in_list step name major s) a b (parts_answer r)
     → DecodesIf exact (sequence_of in_vector step name major s) a b (answer_of r)
@@ -25,11 +25,11 @@ vector_of step name major s (Err e) d =
     by_err_if in_vector (sequence_of in_list step name major s) d
 
 module _ {K V M E : Type 0} (entries : M → List (K × V)) (cmp : K → K → Ordering)
-    (s : Spelling (List (K × V))) {exact : Bool} {a b : View} where
+    (s : Format (List (K × V))) {exact : Bool} {a b : View} where
   pub map_ok : {m : M} {ps : List (K × V)} → entries m ≡ built cmp ps
       → DecodesIf {E = E} exact s a b (Ok ps) → Decodes {E = E} (map_of entries cmp s) a b (Ok m)
   map_ok {ps = ps} is d = ok (map_of entries cmp s) d.moves.by d.progress (record {
-    at = λ xs told. let p = d.sound.at xs told in record {
+    at = λ xs known. let p = d.sound.at xs known in record {
       count = p.count;
       cost = p.cost;
       read = (ps, p.read, is);
@@ -45,8 +45,8 @@ module _ {K V M E : Type 0} (entries : M → List (K × V)) (cmp : K → K → O
     progress = λ some. tt;
     memory = λ out. refl;
     sound = tt;
-    complete = λ is sure. refuses_as s.reads (map_of entries cmp s).reads
+    complete = λ is sure. complete_as s.reads (map_of entries cmp s).reads
         (λ xs budget none m n c r fits. none r.0 n c r.1 fits) (d.complete is sure);
-    stops = d.stops;
+    rejects = d.rejects;
     begins = d.begins;
   }

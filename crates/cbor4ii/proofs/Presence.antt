@@ -7,15 +7,15 @@ use Rattle.cbor4ii_rw.specs.View.{View}
 use Rattle.cbor4ii_rw.specs.Reader.{Advances, StepsIn, KeepsAllButBudget}
 use Rattle.cbor4ii_rw.specs.declared.error.DecodeError.{DecodeError}
 use Rattle.cbor4ii_rw.specs.declared.error.DecodeError.TheVariants.{DepthOverflow}
-use Rattle.cbor4ii_items.specs.Refusal.{Refusal, depth_overflow}
-use Rattle.cbor4ii_items.specs.Next.{StopsNext}
-use Rattle.cbor4ii_items.specs.Decoding.{Reads, CostFits, Sound, NoneRead, Refuses, Stops}
+use Rattle.cbor4ii_items.specs.InputError.{InputError, depth_overflow}
+use Rattle.cbor4ii_items.specs.Next.{RejectsNext}
+use Rattle.cbor4ii_items.specs.Decoding.{Reads, CostFits, Sound, NoneRead, Complete, Rejects}
 use Rattle.cbor4ii_items.specs.Containers.{BeginsNull}
-use Rattle.cbor4ii_items.specs.Laws.Answering.{fits_zero, refuses_as}
+use Rattle.cbor4ii_items.specs.Laws.Answering.{fits_zero, complete_as}
 use Rattle.cbor4ii_items.specs.Laws.UnderStep.{no_step}
 use Rattle.cbor4ii_items.specs.Laws.Containers.{not_null}
 use Rattle.cbor4ii.specs.Accessing.{Closes}
-use Rattle.cbor4ii.specs.Optional.{ReadsPresence, StopsPresence, ReadsComing, ReadsComingValue}
+use Rattle.cbor4ii.specs.Optional.{ReadsPresence, RejectsPresence, ReadsComing, ReadsComingValue}
 use Rattle.cbor4ii.specs.Optional.{steps_of_some}
 use Rattle.cbor4ii.proofs.Steps.{over_none}
 use Rattle.cbor4ii.proofs.Looking.{Saw, begins_null}
@@ -26,20 +26,20 @@ use Rattle.cbor4ii.proofs.Stopped.{stopped_as}
 pub null_coming : {a m c : View} {b : ℕ} → Saw a m b → (b ≡ 0xf6) ⊎ (b ≡ 0xf7) → Advances 1 m c
     → Sound ReadsComing a c false
 null_coming {a = a} {b = b} s is adv = record {
-  at = λ xs told. (let f = s.first xs told in
+  at = λ xs known. (let f = s.first xs known in
       record {
         count = 1;
         cost = 0;
         read = (begins_null xs b f.1 is, refl, refl);
         fits = fits_zero a.budget;
-        left = adv.told xs f.0;
+        left = adv.known xs f.0;
       });
 }
 
 pub value_coming : {a m : View} {b : ℕ} → Saw a m b → b ≢ 0xf6 → b ≢ 0xf7
     → Sound ReadsComing a m true
 value_coming {a = a} {b = b} s p q = record {
-  at = λ xs told. (let f = s.first xs told in record {
+  at = λ xs known. (let f = s.first xs known in record {
     count = 0;
     cost = 0;
     read = (not_null xs b f.1 p q, f.2, refl, refl);
@@ -60,44 +60,44 @@ none_present xs b budget e p q zero None n c r fits = not_null xs b e p q r.0
 none_present xs b budget e p q zero (Some v) n c r fits =
     over_none budget r.2.0 zero (subst (λ k. CostFits k budget) r.2.2 fits)
 
-pub no_step_refuses : {E : Type 0} {name : Bor (List ℕ)} {a m : View} {b : ℕ} (left : Option ℕ)
+pub no_step_complete : {E : Type 0} {name : Bor (List ℕ)} {a m : View} {b : ℕ} (left : Option ℕ)
     → Saw a m b → b ≢ 0xf6 → b ≢ 0xf7 → StepsIn m.budget left false
-    → Refuses {E = E} ReadsPresence a (DepthOverflow name)
-no_step_refuses {a = a} {m = m} {b = b} left s p q none = record {
-  at = λ xs told. none_present xs b a.budget (s.first xs told).1 p q
+    → Complete {E = E} ReadsPresence a (DepthOverflow name)
+no_step_complete {a = a} {m = m} {b = b} left s p q none = record {
+  at = λ xs known. none_present xs b a.budget (s.first xs known).1 p q
       (sym s.budget ∙ (no_step m.budget left none).0);
 }
 
-stops_there : (name : Bor (List ℕ)) (xs : List ℕ) (budget : Option ℕ) → name.now ≡ codes "option"
+rejects_there : (name : Bor (List ℕ)) (xs : List ℕ) (budget : Option ℕ) → name.now ≡ codes "option"
     → 1 ≤ length xs → (BeginsNull xs → ⊥) → budget ≡ Some 0
-    → StopsPresence xs budget (depth_overflow name.now) xs
-stops_there name [] budget named some null zero = absurd (omega (arith, some))
-stops_there name (x ∷ xs) budget named some null zero =
+    → RejectsPresence xs budget (depth_overflow name.now) xs
+rejects_there name [] budget named some null zero = absurd (omega (arith, some))
+rejects_there name (x ∷ xs) budget named some null zero =
     (null, inl (zero, ap depth_overflow named, refl))
 
-pub no_step_stops : {E : Type 0} {name : Bor (List ℕ)} {a m n : View} {b : ℕ}
+pub no_step_rejects : {E : Type 0} {name : Bor (List ℕ)} {a m n : View} {b : ℕ}
     → name.now ≡ codes "option" → Saw a m b → b ≢ 0xf6 → b ≢ 0xf7
     → StepsIn m.budget n.budget false → KeepsAllButBudget m n
-    → Stops {E = E} StopsPresence a n (DepthOverflow name)
-no_step_stops {name = name} {a = a} {m = m} {n = n} {b = b} named s p q none k = record {
-  at = λ xs told. (let f = s.first xs told in (
+    → Rejects {E = E} RejectsPresence a n (DepthOverflow name)
+no_step_rejects {name = name} {a = a} {m = m} {n = n} {b = b} named s p q none k = record {
+  at = λ xs known. (let f = s.first xs known in (
     xs,
-    k.told ∙ f.0,
-    stops_there name xs a.budget named f.2 (not_null xs b f.1 p q)
+    k.known ∙ f.0,
+    rejects_there name xs a.budget named f.2 (not_null xs b f.1 p q)
         (sym s.budget ∙ (no_step m.budget n.budget none).0),
   ));
 }
 
 -- ---- no byte is left
 
-end_at : (xs : List ℕ) (budget : Option ℕ) (z : Refusal) (ys : List ℕ)
-    → StopsNext (codes "option") xs budget z ys → StopsPresence xs budget z ys
+end_at : (xs : List ℕ) (budget : Option ℕ) (z : InputError) (ys : List ℕ)
+    → RejectsNext (codes "option") xs budget z ys → RejectsPresence xs budget z ys
 end_at [] budget z ys h = (h.1, h.2)
 end_at (x ∷ xs) budget z ys h = let no = h.0 in cc
 
 pub presence_ended : {E : Type 0} {a m : View} {e : DecodeError E}
-    → Stops (StopsNext (codes "option")) a m e → Stops StopsPresence a m e
-presence_ended s = stopped_as (StopsNext (codes "option")) StopsPresence end_at s
+    → Rejects (RejectsNext (codes "option")) a m e → Rejects RejectsPresence a m e
+presence_ended s = stopped_as (RejectsNext (codes "option")) RejectsPresence end_at s
 
 -- ---- the value
 
@@ -106,10 +106,10 @@ none_value : {V : Type 0} (reads : Reads V) (xs : List ℕ) (budget : Option ℕ
 none_value reads xs budget none None n c r fits = r
 none_value reads xs budget none (Some v) n c r fits = none v n c r fits
 
-pub value_refuses : {V E : Type 0} (reads : Reads V) {some : Bool} {a : View} {e : DecodeError E}
-    → some ≡ true → Refuses reads a e → Refuses (ReadsComingValue some reads) a e
-value_refuses reads is s =
-    rw is (refuses_as reads (ReadsComingValue true reads) (none_value reads) s)
+pub value_complete : {V E : Type 0} (reads : Reads V) {some : Bool} {a : View} {e : DecodeError E}
+    → some ≡ true → Complete reads a e → Complete (ReadsComingValue some reads) a e
+value_complete reads is s =
+    rw is (complete_as reads (ReadsComingValue true reads) (none_value reads) s)
 
 pub no_value_comes : {Q : Type 0} {some : Bool} → some ≡ true → some ≡ false → Q
 no_value_comes is none = let no : true ≡ false = sym is ∙ none in cc
@@ -119,13 +119,13 @@ pub unmoved : {some : Bool} {a b : View} → some ≡ false → Closes (steps_of
 unmoved {a = a} {b = b} none z =
     let closes = subst (λ some. Closes (steps_of_some some) a b) none z in
     λ i. record {
-      told = closes.others.told i;
+      known = closes.others.known i;
       bound = closes.others.bound i;
       advanceable = closes.others.advanceable i;
       budget = closes.budget i;
       failures = closes.others.failures i;
       taken = closes.others.taken i;
-      lends_whole = closes.others.lends_whole i;
+      zero_copy = closes.others.zero_copy i;
       remembers = closes.others.remembers i;
       ends_at = closes.others.ends_at i;
     }
@@ -135,11 +135,11 @@ pub value_sound : {V : Type 0} (reads : Reads V) {some : Bool} {a b d : View} {v
     → KeepsAllButBudget b d → Sound reads a b v → Sound (ReadsComingValue some reads) a d (Some v)
 value_sound reads is k s =
     rw is (record {
-      at = λ xs told. (let p = s.at xs told in record {
+      at = λ xs known. (let p = s.at xs known in record {
         count = p.count;
         cost = p.cost;
         read = p.read;
         fits = p.fits;
-        left = k.told ∙ p.left;
+        left = k.known ∙ p.left;
       });
     })

@@ -6,13 +6,13 @@ use Rattle.cbor4ii_rw.specs.declared.error.DecodeError.TheVariants.{OutOfMemory}
 use Rattle.cbor4ii_items.specs.Decoding.{Sound, Decodes, DecodesIf}
 use Rattle.cbor4ii_items.specs.Moves.{Kept}
 use Rattle.cbor4ii_items.specs.Laws.Calls.{ok as decoded_ok, out_of_memory as decoded_out, of_exact}
-use Rattle.cbor4ii.specs.Typed.{Promise, Deserializes, typed_spelling}
+use Rattle.cbor4ii.specs.Typed.{Promise, Deserializes, typed_format}
 use Rattle.cbor4ii.specs.TypedParts.{part_of}
 use Rattle.cbor4ii.proofs.Beginnings.{said_left}
 
 -- all that is decoded so is promised
 pub promised : {V E : Type 0} (p : Promise V) {a b : View} {r : Result V (DecodeError E)}
-    → DecodesIf p.exact p.spelling a b r → Deserializes p a b r
+    → DecodesIf p.exact p.format a b r → Deserializes p a b r
 promised p d = record {
   moves = d.moves;
   progress = d.progress p.some;
@@ -22,30 +22,30 @@ promised p d = record {
   begins = λ is. d.begins;
 }
 
--- and of an exact type all is told
+-- and of an exact type all is reported
 pub whole : {V E : Type 0} {p : Promise V} {a b : View} {r : Result V (DecodeError E)}
-    → IsTrue p.exact → IsTrue p.told → Deserializes p a b r
-    → Decodes (typed_spelling p.spelling.reads p.spelling.same p.spelling.begins p.spelling.owned
-    p.spelling.takes_memory) a b r
-whole is tells d = record {
+    → IsTrue p.exact → IsTrue p.known → Deserializes p a b r
+    → Decodes (typed_format p.format.reads p.format.same p.format.begins p.format.owned
+    p.format.takes_memory) a b r
+whole is reports d = record {
   moves = d.moves;
   progress = λ some. d.progress;
   memory = d.memory;
   sound = d.sound;
   complete = d.complete is;
-  stops = λ sure. d.begins tells;
-  begins = d.begins tells;
+  rejects = λ sure. d.begins reports;
+  begins = d.begins reports;
 }
 
 module _ {V E : Type 0} (p : Promise V) {a b : View} where
-  pub ok : {v : V} → Kept a b → b.bound + 1 ≤ a.bound → Sound p.spelling.reads a b v
+  pub ok : {v : V} → Kept a b → b.bound + 1 ≤ a.bound → Sound p.format.reads a b v
       → Deserializes {E = E} p a b (Ok v)
   ok kept progress sound =
-      promised p (of_exact (decoded_ok p.spelling kept (λ some. progress) sound))
+      promised p (of_exact (decoded_ok p.format kept (λ some. progress) sound))
 
-  pub out_of_memory : IsTrue p.spelling.takes_memory → Kept a b
+  pub out_of_memory : IsTrue p.format.takes_memory → Kept a b
       → Deserializes {E = E} p a b (Err OutOfMemory)
-  out_of_memory takes kept = promised p (of_exact (decoded_out p.spelling takes kept))
+  out_of_memory takes kept = promised p (of_exact (decoded_out p.format takes kept))
 
 -- a part of a container
 pub tell : {V E : Type 0} (p : Promise V) {a b : View} (r : Result V (DecodeError E))
@@ -53,13 +53,13 @@ pub tell : {V E : Type 0} (p : Promise V) {a b : View} (r : Result V (DecodeErro
 tell p (Ok v) d =
     of_exact (decoded_ok (part_of p) d.moves.by (λ some. d.progress) d.sound)
 tell p (Err e) d =
-    let begins = said_left p.told p.spelling.begins d.moves d.begins in
+    let begins = said_left p.known p.format.begins d.moves d.begins in
     record {
       moves = d.moves;
       progress = λ some. tt;
       memory = d.memory;
       sound = tt;
       complete = d.complete;
-      stops = λ is sure. begins;
+      rejects = λ is sure. begins;
       begins = begins;
     }

@@ -6,19 +6,19 @@ use Rattle.cbor4ii_rw.specs.View.{View}
 use Rattle.cbor4ii_rw.specs.Reader.{Advances}
 use Rattle.cbor4ii_rw.specs.declared.error.DecodeError.{DecodeError}
 use Rattle.cbor4ii_rw.specs.declared.error.DecodeError.TheVariants.{Mismatch}
-use Rattle.cbor4ii_items.specs.Refusal.{Refusal, refusal_of, mismatch}
-use Rattle.cbor4ii_items.specs.Next.{ReadsNext, StopsNext}
-use Rattle.cbor4ii_items.specs.Decoding.{NoneRead, Sound, Refuses, Stops}
-use Rattle.cbor4ii_items.specs.Laws.Answering.{fits_zero, refuses_as}
+use Rattle.cbor4ii_items.specs.InputError.{InputError, input_error_of, mismatch}
+use Rattle.cbor4ii_items.specs.Next.{ReadsNext, RejectsNext}
+use Rattle.cbor4ii_items.specs.Decoding.{NoneRead, Sound, Complete, Rejects}
+use Rattle.cbor4ii_items.specs.Laws.Answering.{fits_zero, complete_as}
 use Rattle.cbor4ii_items.specs.Laws.Answering.{always}
-use Rattle.cbor4ii.specs.Tuples.{ReadsUnit, StopsUnit}
+use Rattle.cbor4ii.specs.Tuples.{ReadsUnit, RejectsUnit}
 use Rattle.cbor4ii.proofs.Looking.{Saw, none_begins}
 use Rattle.cbor4ii.proofs.Stopped.{stopped_as}
 
 pub unit_sound : {a m c : View} {b : ℕ} → Saw a m b → b ≡ 0x80 → Advances 1 m c
     → Sound ReadsUnit a c tt
 unit_sound {a = a} s is adv = record {
-  at = λ xs told. (let f = s.first xs told in record {
+  at = λ xs known. (let f = s.first xs known in record {
     count = 1;
     cost = 0;
     read = (
@@ -28,43 +28,43 @@ unit_sound {a = a} s is adv = record {
       refl,
     );
     fits = fits_zero a.budget;
-    left = adv.told xs f.0;
+    left = adv.known xs f.0;
   });
 }
 
 pub unit_other : {E : Type 0} {a m : View} {b : ℕ} {e : DecodeError E} → Saw a m b → b ≢ 0x80
-    → Refuses ReadsUnit a e
+    → Complete ReadsUnit a e
 unit_other {b = b} {e = e} s not = record {
-  at = λ xs told. (let f = s.first xs told in always (refusal_of e)
+  at = λ xs known. (let f = s.first xs known in always (input_error_of e)
       (λ v n c r fits. (let g = f.1 in let h = r.0 in let is : b ≡ 0x80 = cc in not is)));
 }
 
 other_at : (b : ℕ) (xs : List ℕ) (budget : Option ℕ) → take 1 xs ≡ b ∷ [] → b ≢ 0x80
-    → StopsUnit xs budget (mismatch (codes "unit") b) (drop 1 xs)
+    → RejectsUnit xs budget (mismatch (codes "unit") b) (drop 1 xs)
 other_at b [] budget e not = let no : [] ≡ b ∷ [] = e in cc
 other_at b (x ∷ xs) budget e not =
     let is : x ≡ b = cc in ((λ f. not (sym is ∙ f)), ap (mismatch (codes "unit")) (sym is), refl)
 
 pub unit_mismatch : {E : Type 0} {a m c : View} {b : ℕ} {name : Bor (List ℕ)} → Saw a m b → b ≢ 0x80
-    → Advances 1 m c → name.now ≡ codes "unit" → Stops {E = E} StopsUnit a c (Mismatch name b)
+    → Advances 1 m c → name.now ≡ codes "unit" → Rejects {E = E} RejectsUnit a c (Mismatch name b)
 unit_mismatch {a = a} {b = b} s not adv named = record {
-  at = λ xs told. (let f = s.first xs told in
-      (drop 1 xs, adv.told xs f.0, rw named (other_at b xs a.budget f.1 not)));
+  at = λ xs known. (let f = s.first xs known in
+      (drop 1 xs, adv.known xs f.0, rw named (other_at b xs a.budget f.1 not)));
 }
 
 no_unit : (xs : List ℕ) (budget : Option ℕ) → NoneRead ReadsNext xs budget
     → NoneRead ReadsUnit xs budget
 no_unit xs budget none v n c r fits = none_begins xs 0x80 budget none r.0
 
-pub unit_missing : {E : Type 0} {a : View} {e : DecodeError E} → Refuses ReadsNext a e
-    → Refuses ReadsUnit a e
-unit_missing s = refuses_as ReadsNext ReadsUnit no_unit s
+pub unit_missing : {E : Type 0} {a : View} {e : DecodeError E} → Complete ReadsNext a e
+    → Complete ReadsUnit a e
+unit_missing s = complete_as ReadsNext ReadsUnit no_unit s
 
-end_at : (xs : List ℕ) (budget : Option ℕ) (z : Refusal) (ys : List ℕ)
-    → StopsNext (codes "unit") xs budget z ys → StopsUnit xs budget z ys
+end_at : (xs : List ℕ) (budget : Option ℕ) (z : InputError) (ys : List ℕ)
+    → RejectsNext (codes "unit") xs budget z ys → RejectsUnit xs budget z ys
 end_at [] budget z ys h = (h.1, h.2)
 end_at (x ∷ xs) budget z ys h = let no = h.0 in cc
 
 pub unit_ended : {E : Type 0} {a m : View} {e : DecodeError E}
-    → Stops (StopsNext (codes "unit")) a m e → Stops StopsUnit a m e
-unit_ended s = stopped_as (StopsNext (codes "unit")) StopsUnit end_at s
+    → Rejects (RejectsNext (codes "unit")) a m e → Rejects RejectsUnit a m e
+unit_ended s = stopped_as (RejectsNext (codes "unit")) RejectsUnit end_at s

@@ -3,49 +3,50 @@ use Rattle.std.proofs.Common.{◌≡◌, ℕ, inl, List, Result, Ok, Err, IfOk, 
 use Rattle.std.proofs.Common.{sym}
 use Rattle.std.proofs.Common.{◌∙◌, subst}
 use Rattle.cbor4ii_rw.specs.View.{View}
-use Rattle.cbor4ii_items.specs.Decoding.{Reads, StopsAt, IsExact, Sound, Stops}
+use Rattle.cbor4ii_items.specs.Decoding.{Reads, RejectsAt, IsExact, Sound, Rejects}
 use Rattle.cbor4ii_items.specs.Moves.{Moves}
 use Rattle.cbor4ii_items.specs.Laws.Steps.{moves_err}
 use Rattle.cbor4ii.specs.declared.serde.de.error.DecodeError.{DecodeError}
-use Rattle.cbor4ii.specs.Borrowed.{RefusesCopy, StopsUnlent}
+use Rattle.cbor4ii.specs.Borrowed.{RejectsCopy, RejectsUnlent}
 use Rattle.cbor4ii.specs.Typed.{Lawful, Deserializes, as_core, answer_of, typed_by}
-use Rattle.cbor4ii.proofs.Borrowing.{lends_of, unlent, unlent_stops}
+use Rattle.cbor4ii.proofs.Borrowing.{lends_of, unlent, unlent_rejects}
 use Rattle.cbor4ii.proofs.Stopped.{stopped_as}
 
-never_exact : {Q : Type 0} (a : View) → a.lends_whole ≡ false → IsExact false a → Q
+never_exact : {Q : Type 0} (a : View) → a.zero_copy ≡ false → IsExact false a → Q
 never_exact a none exact = let no : false ≡ true = sym none ∙ lends_of a exact in cc
 
-module _ {V W E : Type 0} (name : List ℕ) (reads : Reads V) (stops : StopsAt) where
+module _ {V W E : Type 0} (name : List ℕ) (reads : Reads V) (rejects : RejectsAt) where
   copy_moves : (r : Result V (DecodeError E)) (q : Result W (DecodeError E)) (a b : View)
-      → RefusesCopy name r q → Moves a b (answer_of r) → Moves a b (answer_of q)
-  copy_moves r (Ok w) a b h m = absurd (let no : false ≡ true = h.refused in cc)
+      → RejectsCopy name r q → Moves a b (answer_of r) → Moves a b (answer_of q)
+  copy_moves r (Ok w) a b h m = absurd (let no : false ≡ true = h.rejected in cc)
   copy_moves (Ok v) (Err e) a b h m =
       let k = h.reason in subst (λ z. Moves {V = W} a b (Err z)) (sym k.1) (unlent k.0 m)
   copy_moves (Err f) (Err e) a b h m =
       subst (λ z. Moves {V = W} a b (Err (as_core z))) (sym h.reason) (moves_err m)
 
-  -- how it is refused
-  copy_stops : (r : Result V (DecodeError E)) (e : DecodeError E) (a b : View)
-      → RefusesCopy {W = W} name r (Err e) → IfOk (answer_of r) (Sound reads a b)
-      → IfErr (answer_of r) (Stops stops a b) → Stops (StopsUnlent name reads stops) a b (as_core e)
-  copy_stops (Ok v) e a b h sound begins =
-      unlent_stops name reads stops (as_core e) h.reason sound
-  copy_stops (Err f) e a b h sound begins =
-      subst (λ z. Stops (StopsUnlent name reads stops) a b (as_core z)) (sym h.reason)
-      (stopped_as stops (StopsUnlent name reads stops) (λ xs budget z ys t. inl t) begins)
+  -- how it is rejected
+  copy_rejects : (r : Result V (DecodeError E)) (e : DecodeError E) (a b : View)
+      → RejectsCopy {W = W} name r (Err e) → IfOk (answer_of r) (Sound reads a b)
+      → IfErr (answer_of r) (Rejects rejects a b) → Rejects (RejectsUnlent name reads rejects) a b
+      (as_core e)
+  copy_rejects (Ok v) e a b h sound begins =
+      unlent_rejects name reads rejects (as_core e) h.reason sound
+  copy_rejects (Err f) e a b h sound begins =
+      subst (λ z. Rejects (RejectsUnlent name reads rejects) a b (as_core z)) (sym h.reason)
+      (stopped_as rejects (RejectsUnlent name reads rejects) (λ xs budget z ys t. inl t) begins)
 
-  pub copy_refused : {lent : Reads W} {same : W → W → Type 0} (laws : Lawful lent same true)
+  pub copy_rejected : {lent : Reads W} {same : W → W → Type 0} (laws : Lawful lent same true)
       (r : Result V (DecodeError E)) (q : Result W (DecodeError E)) (a b : View)
-      → a.lends_whole ≡ false → RefusesCopy name r q → Moves a b (answer_of r)
-      → IfOk (answer_of r) (Sound reads a b) → IfErr (answer_of r) (Stops stops a b)
-      → Deserializes (typed_by (StopsUnlent name reads stops) false true laws) a b (answer_of q)
-  copy_refused laws r (Ok w) a b none h moves sound begins =
-      absurd (let no : false ≡ true = h.refused in cc)
-  copy_refused laws r (Err e) a b none h moves sound begins = record {
+      → a.zero_copy ≡ false → RejectsCopy name r q → Moves a b (answer_of r)
+      → IfOk (answer_of r) (Sound reads a b) → IfErr (answer_of r) (Rejects rejects a b)
+      → Deserializes (typed_by (RejectsUnlent name reads rejects) false true laws) a b (answer_of q)
+  copy_rejected laws r (Ok w) a b none h moves sound begins =
+      absurd (let no : false ≡ true = h.rejected in cc)
+  copy_rejected laws r (Err e) a b none h moves sound begins = record {
     moves = copy_moves r (Err e) a b h moves;
     progress = tt;
     memory = λ out. refl;
     sound = tt;
     complete = λ is. never_exact a none;
-    begins = λ is. copy_stops r e a b h sound begins;
+    begins = λ is. copy_rejects r e a b h sound begins;
   }

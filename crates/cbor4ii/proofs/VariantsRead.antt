@@ -6,7 +6,7 @@ use Rattle.cbor4ii_rw.specs.Reader.{KeepsAllButBudget}
 use Rattle.cbor4ii_items.specs.Decoding.{Reads, CostFits, Sound}
 use Rattle.cbor4ii_items.specs.Moves.{Kept}
 use Rattle.cbor4ii_items.specs.Strings.{ReadsText, ReadsTextAs}
-use Rattle.cbor4ii_items.specs.Laws.Fronts.{drop_more}
+use Rattle.cbor4ii_items.specs.Laws.Prefixes.{drop_more}
 use Rattle.cbor4ii_items.specs.Laws.Pairs.{pair_sound}
 use Rattle.cbor4ii_items.specs.Laws.UnderStep.{fits_step}
 use Rattle.cbor4ii.specs.Variants.{IsForm, OpensEnum, ReadsContent, ReadsVariant}
@@ -15,7 +15,7 @@ use Rattle.cbor4ii.specs.Variants.{IsForm, OpensEnum, ReadsContent, ReadsVariant
 named : {N : Type 0} (text : N → List ℕ) {a b : View} {name : N} → Sound (ReadsTextAs text) a b name
     → Sound ReadsText a b (text name)
 named text s = record {
-  at = λ xs told. let p = s.at xs told in
+  at = λ xs known. let p = s.at xs known in
       record { count = p.count; cost = p.cost; read = p.read; fits = p.fits; left = p.left };
 }
 
@@ -23,8 +23,8 @@ named text s = record {
 inside : {V : Type 0} (reads : Reads V) {has : Bool} {a b : View} {v : V} → has ≡ true
     → Sound (ReadsContent has reads) a b v → Sound reads a b v
 inside reads {a = a} {b = b} {v = v} is s = record {
-  at = λ xs told.
-      let p = (subst (λ has. Sound (ReadsContent has reads) a b v) is s).at xs told in
+  at = λ xs known.
+      let p = (subst (λ has. Sound (ReadsContent has reads) a b v) is s).at xs known in
       record { count = p.count; cost = p.cost; read = p.read; fits = p.fits; left = p.left };
 }
 
@@ -34,11 +34,11 @@ module _ {V N : Type 0} (units : List ℕ → V → Type 0) (contents : List ℕ
       → form.0 ≡ false → Sound (ReadsTextAs text) b c name → units (text name) v
       → KeepsAllButBudget c d → Sound (ReadsVariant units contents) a d v
   unit_read {a = a} {b = b} {form = form} {name = name} o is s stands z = record {
-    at = λ xs told.
-        let head = o.head.at xs (o.others.told ∙ told) in
+    at = λ xs known.
+        let head = o.head.at xs (o.others.known ∙ known) in
         let none : head.count ≡ 0 =
         (subst (λ has. IsForm has form.1 head.count) is head.read.1).1 in
-        let own = s.at xs (subst (λ k. b.told ≡ Some (drop k xs)) none head.left) in
+        let own = s.at xs (subst (λ k. b.known ≡ Some (drop k xs)) none head.left) in
         record {
           count = own.count;
           cost = 1 + own.cost;
@@ -46,7 +46,7 @@ module _ {V N : Type 0} (units : List ℕ → V → Type 0) (contents : List ℕ
           fits =
               fits_step a.budget o.within.budget own.cost o.step
               (subst (CostFits own.cost) o.kept.budget own.fits);
-          left = z.told ∙ own.left;
+          left = z.known ∙ own.left;
         };
   }
 
@@ -58,11 +58,11 @@ module _ {V N : Type 0} (units : List ℕ → V → Type 0) (contents : List ℕ
       let both = pair_sound ReadsText (contents (text name)) kept (named text s)
       (inside (contents (text name)) is content) in
       record {
-        at = λ xs told.
-            let head = o.head.at xs (o.others.told ∙ told) in
+        at = λ xs known.
+            let head = o.head.at xs (o.others.known ∙ known) in
             let entry = subst (λ has. IsForm has form.1 head.count) is head.read.1 in
             let p =
-            both.at (drop 1 xs) (subst (λ k. b.told ≡ Some (drop k xs)) entry.1 head.left) in
+            both.at (drop 1 xs) (subst (λ k. b.known ≡ Some (drop k xs)) entry.1 head.left) in
             let begins = subst (λ first. take 1 xs ≡ first ∷ []) entry.0 head.read.0 in
             record {
               count = 1 + p.count;

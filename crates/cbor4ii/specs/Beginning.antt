@@ -1,10 +1,11 @@
--- How a value of many parts is refused.
+-- How a value of many parts is rejected.
 use Rattle.std.specs.Prelude.{ℕ, List, true}
-use Rattle.cbor4ii_items.specs.Decoding.{Reads, StopsAt}
-use Rattle.cbor4ii_items.specs.Sequences.{StopsInside}
-use Rattle.cbor4ii.specs.Stepped.{StopsStepped}
+use Rattle.cbor4ii_items.specs.Decoding.{Reads, RejectsAt}
+use Rattle.cbor4ii_items.specs.Sequences.{RejectsInside}
+use Rattle.cbor4ii.specs.Stepped.{RejectsStepped}
 
--- no step is left, or the head of an array or a map is refused, or behind some whole parts no byte
--- is left or a part is refused
-abbrev pub StopsParts : {P : Type 0} → List ℕ → List ℕ → ℕ → Reads P → StopsAt → StopsAt
-StopsParts step name major reads stops = StopsStepped step (StopsInside name major reads stops true)
+-- no step is left, or the head of an array or a map is rejected, or after some whole parts no byte
+-- is left or a part is rejected
+abbrev pub RejectsParts : {P : Type 0} → List ℕ → List ℕ → ℕ → Reads P → RejectsAt → RejectsAt
+RejectsParts step name major reads rejects =
+    RejectsStepped step (RejectsInside name major reads rejects true)

@@ -2,10 +2,10 @@
 use Rattle.std.specs.Prelude.{◌≡◌, List, [], ◌∷◌, true, false}
 use Rattle.std.specs.declared.cmp.Ordering.{Ordering}
 use Rattle.std.specs.BTreeMap.{insert_entry}
-use Rattle.cbor4ii_items.specs.Decoding.{Reads, Spelling, IsLawful}
+use Rattle.cbor4ii_items.specs.Decoding.{Reads, Format, IsLawful}
 use Rattle.cbor4ii.specs.Typed.{not_exact}
 
--- pairs put into entries, one behind another
+-- pairs put into entries, one after another
 abbrev pub put_all : {K V : Type 0} → (K → K → Ordering) → List (K × V) → List (K × V)
     → List (K × V)
 put_all cmp es [] = es
@@ -21,14 +21,14 @@ abbrev pub ReadsBuilt : {K V M : Type 0} → (M → List (K × V)) → (K → K 
 ReadsBuilt {K} {V} entries cmp reads xs m n c =
     (ps : List (K × V)) × reads xs ps n c × (entries m ≡ built cmp ps)
 
--- the same of a spelling; two maps are the same where the same pairs build both
+-- the same of a format; two maps are the same where the same pairs build both
 abbrev pub map_of : {K V M : Type 0} → (M → List (K × V)) → (K → K → Ordering)
-    → Spelling (List (K × V)) → Spelling M
+    → Format (List (K × V)) → Format M
 map_of {K} {V} entries cmp s = record {
   reads = ReadsBuilt entries cmp s.reads;
   same = λ m w. (ps qs : List (K × V)) × s.same ps qs
       × (entries m ≡ built cmp ps) × (entries w ≡ built cmp qs);
-  stops = s.stops;
+  rejects = s.rejects;
   begins = s.begins;
   never_empty = s.never_empty;
   owned = s.owned;
@@ -37,7 +37,7 @@ map_of {K} {V} entries cmp s = record {
 }
 
 pub map_of_lawful : {K V M : Type 0} (entries : M → List (K × V)) (cmp : K → K → Ordering)
-    (s : Spelling (List (K × V))) → IsLawful s → IsLawful (map_of entries cmp s)
+    (s : Format (List (K × V))) → IsLawful s → IsLawful (map_of entries cmp s)
 map_of_lawful entries cmp s h = record {
   one = λ xs v w n m c d p q. (let e = h.one xs p.0 q.0 n m c d p.1 q.1 in
       (e.0, e.1, (p.0, q.0, e.2, p.2, q.2)));

@@ -5,19 +5,19 @@ use Rattle.std.proofs.Common.{arith}
 use Rattle.std.proofs.lemmas.List.{length-drop}
 use Rattle.std.specs.Prelude.{◌&&◌, codes}
 use denote.Ref.{Bor}
-use Rattle.cbor4ii_items.specs.Decoding.{Reads, StopsAt, Spelling, IsLawful}
+use Rattle.cbor4ii_items.specs.Decoding.{Reads, RejectsAt, Format, IsLawful}
 use Rattle.cbor4ii_items.specs.Laws.Containers.{both}
 use Rattle.cbor4ii_items.specs.Laws.Sequences.{one_byte}
-use Rattle.cbor4ii_items.specs.Refusal.{Refusal, mismatch}
+use Rattle.cbor4ii_items.specs.InputError.{InputError, mismatch}
 use Rattle.cbor4ii.specs.declared.serde.de.cases.Choice.{Choice}
 use Rattle.cbor4ii.specs.declared.serde.de.cases.Choice.TheVariants.{First, Other}
-use Rattle.cbor4ii.specs.Fields.{ReadsEntry, StopsEntry, StopsNamed, entry_laws, named_part}
+use Rattle.cbor4ii.specs.Fields.{ReadsEntry, RejectsEntry, RejectsNamed, entry_laws, named_part}
 use Rattle.cbor4ii.specs.Fields.{named_entry}
-use Rattle.cbor4ii.specs.Stepped.{stepped_spelling, stepped_lawful}
-use Rattle.cbor4ii.specs.Typed.{Promise, Lawful, typed_spelling, lawful_as, typed_laws, said_by}
+use Rattle.cbor4ii.specs.Stepped.{stepped_format, stepped_lawful}
+use Rattle.cbor4ii.specs.Typed.{Promise, Lawful, typed_format, lawful_as, typed_laws, said_by}
 use Rattle.cbor4ii.specs.Typed.{any_two, in_words, not_exact}
 use Rattle.cbor4ii.specs.TypedParts.{container}
-use Rattle.cbor4ii.specs.Variants.{ReadsForm, StopsForm, StopsContent}
+use Rattle.cbor4ii.specs.Variants.{ReadsForm, RejectsForm, RejectsContent}
 
 -- ---- one variant
 
@@ -27,24 +27,24 @@ pub record Holding (V : Type 0) : Type 1 where
   pub unit : V → Type 0
   -- the content that stands for it
   pub content : Reads V
-  -- how it is refused behind its name, by the form of the variant
-  pub stops : Bool × ℕ → StopsAt
+  -- how it is rejected after its name, by the form of the variant
+  pub rejects : Bool × ℕ → RejectsAt
   pub same : V → V → Type 0
   pub owned : Bool
   pub exact : Bool
   pub unit_one : (v w : V) → unit v → unit w → same v w
   pub lawful : IsTrue exact → Lawful content same false
 
--- behind a name, by the form: nothing, or a content
+-- after a name, by the form: nothing, or a content
 abbrev pub reads_by : {V : Type 0} → Bool × ℕ → (V → Type 0) → Reads V → Reads V
 reads_by form unit content xs v n c = elim form.0 [
   | true ↦ content xs v n c
   | false ↦ unit v × (n ≡ 0) × (c ≡ 0)
 ]
 
-abbrev pub holding_spelling : {V : Type 0} → Holding V → Bool × ℕ → Spelling V
-holding_spelling h form = named_part (λ name. reads_by form h.unit h.content)
-    (λ name. h.stops form) h.same h.owned []
+abbrev pub holding_format : {V : Type 0} → Holding V → Bool × ℕ → Format V
+holding_format h form = named_part (λ name. reads_by form h.unit h.content)
+    (λ name. h.rejects form) h.same h.owned []
 
 -- a content that no variant has
 abbrev pub no_content : {V : Type 0} → Reads V
@@ -58,17 +58,17 @@ no_content_laws same = record {
   alone = not_exact;
 }
 
--- it has a content, and is refused by its first byte; nothing is taken
-abbrev pub StopsUnitCase : Bool × ℕ → StopsAt
-StopsUnitCase form xs budget refusal rest =
-    IsTrue form.0 × (refusal ≡ mismatch (codes "enum") form.1) × (rest ≡ xs)
+-- it has a content, and is rejected by its first byte; nothing is taken
+abbrev pub RejectsUnitCase : Bool × ℕ → RejectsAt
+RejectsUnitCase form xs budget err rest =
+    IsTrue form.0 × (err ≡ mismatch (codes "enum") form.1) × (rest ≡ xs)
 
 -- its name alone
 abbrev pub unit_case : Holding (Unit {0})
 unit_case = record {
   unit = λ v. Unit {0};
   content = no_content;
-  stops = StopsUnitCase;
+  rejects = RejectsUnitCase;
   same = any_two;
   owned = true;
   exact = true;
@@ -84,10 +84,10 @@ some_laws h = record { one = h.one; within = h.within; positive = not_exact; alo
 abbrev pub held_case : {V : Type 0} → Promise V → Holding V
 held_case p = record {
   unit = λ v. ⊥;
-  content = p.spelling.reads;
-  stops = λ form. StopsContent form (said_by p);
-  same = p.spelling.same;
-  owned = p.spelling.owned;
+  content = p.format.reads;
+  rejects = λ form. RejectsContent form (said_by p);
+  same = p.format.same;
+  owned = p.format.owned;
   exact = p.exact;
   unit_one = λ v w q r. absurd q;
   lawful = λ is. some_laws (typed_laws p is);
@@ -99,30 +99,30 @@ held_case p = record {
 pub record Cases (V : Type 0) : Type 1 where
   pub units : List ℕ → V → Type 0
   pub contents : List ℕ → Reads V
-  pub stops : List ℕ → Bool × ℕ → StopsAt
+  pub rejects : List ℕ → Bool × ℕ → RejectsAt
   pub same : V → V → Type 0
   pub owned : Bool
   pub exact : Bool
   pub unit_one : (name : List ℕ) (v w : V) → units name v → units name w → same v w
   pub laws : IsTrue exact → (name : List ℕ) → Lawful (contents name) same false
 
--- what stands behind each name, by the form
+-- what follows each name, by the form
 abbrev pub reads_named : {V : Type 0} → Cases V → Bool × ℕ → List ℕ → Reads V
 reads_named cases form name = reads_by form (cases.units name) (cases.contents name)
 
-abbrev pub stops_named : {V : Type 0} → Cases V → Bool × ℕ → StopsNamed
-stops_named cases form name = cases.stops name form
+abbrev pub rejects_named : {V : Type 0} → Cases V → Bool × ℕ → RejectsNamed
+rejects_named cases form name = cases.rejects name form
 
-abbrev pub case_spelling : {V : Type 0} → Cases V → Bool × ℕ → List ℕ → Spelling V
-case_spelling cases form =
-    named_part (reads_named cases form) (stops_named cases form) cases.same cases.owned
+abbrev pub case_format : {V : Type 0} → Cases V → Bool × ℕ → List ℕ → Format V
+case_format cases form =
+    named_part (reads_named cases form) (rejects_named cases form) cases.same cases.owned
 
--- every name is refused in these words, and what stands behind it stays
+-- every name is rejected in these words, and what follows it stays
 abbrev pub otherwise : {V : Type 0} → List ℕ → Cases V
 otherwise words = record {
   units = λ name v. ⊥;
   contents = λ name. no_content;
-  stops = λ name form xs budget refusal rest. (refusal ≡ in_words words) × (rest ≡ xs);
+  rejects = λ name form xs budget err rest. (err ≡ in_words words) × (rest ≡ xs);
   same = any_two;
   owned = true;
   exact = true;
@@ -171,7 +171,7 @@ pub other_all : {A B : Type 0} {P : B → Type 0} {R : Type 0} → ((v : B) → 
 other_all all (First v) p = absurd p
 other_all all (Other v) p = all v p
 
--- where the name is this one the first holds, and behind any other the second
+-- where the name is this one the first holds, and after any other the second
 abbrev pub ByName : List ℕ → List ℕ → Type 0 → Type 0 → Type 0
 ByName own name P Q = ((name ≡ own) × P) ⊎ ((name ≢ own) × Q)
 
@@ -214,14 +214,14 @@ module _ {A B : Type 0} (own : List ℕ) (h : Holding A) (others : Cases B) wher
       other_one (others.units name) (others.units name) h.same others.same (others.unit_one name) v
       w p.1 q.1
 
-  -- a variant of this name, and others behind it
+  -- a variant of this name, and others after it
   abbrev pub case : Cases (Choice A B)
   case = record {
     units = λ name v. ByName own name (FirstAnd h.unit v) (OtherAnd (others.units name) v);
     contents = λ name xs v n c. ByName own name (FirstAnd (λ a. h.content xs a n c) v)
         (OtherAnd (λ b. others.contents name xs b n c) v);
-    stops = λ name form xs budget refusal rest. ByName own name
-        (h.stops form xs budget refusal rest) (others.stops name form xs budget refusal rest);
+    rejects = λ name form xs budget err rest. ByName own name
+        (h.rejects form xs budget err rest) (others.rejects name form xs budget err rest);
     same = SameChoice h.same others.same;
     owned = h.owned && others.owned;
     exact = h.exact && others.exact;
@@ -249,7 +249,7 @@ module _ {A B : Type 0} (h : Holding A) (others : Cases B) where
   unnamed_case = record {
     units = λ name. OtherAnd (others.units name);
     contents = λ name xs v n c. OtherAnd (λ b. others.contents name xs b n c) v;
-    stops = others.stops;
+    rejects = others.rejects;
     same = SameChoice h.same others.same;
     owned = h.owned && others.owned;
     exact = h.exact && others.exact;
@@ -273,12 +273,12 @@ cases_by h others (own ∷ names) = case own.now h (others names)
 
 -- ---- a whole variant
 
--- a name, and what stands behind it, by the form
-abbrev pub named_spelling : {V : Type 0} → Cases V → Bool × ℕ → Spelling V
-named_spelling cases form =
-    named_entry (reads_named cases form) (stops_named cases form) cases.same cases.owned
+-- a name, and what follows it, by the form
+abbrev pub named_format : {V : Type 0} → Cases V → Bool × ℕ → Format V
+named_format cases form =
+    named_entry (reads_named cases form) (rejects_named cases form) cases.same cases.owned
 
--- its form is seen, and then its name and what stands behind that are read
+-- its form is seen, and then its name and what follows that are read
 pub record ReadsCase {V : Type 0} (cases : Cases V) (xs : List ℕ) (v : V) (n c : ℕ) : Type 0 where
   pub form : Bool × ℕ
   pub size : ℕ
@@ -287,22 +287,22 @@ pub record ReadsCase {V : Type 0} (cases : Cases V) (xs : List ℕ) (v : V) (n c
   pub named : ReadsEntry (reads_named cases form) (drop size xs) v between c
   pub whole : n ≡ size + between
 
--- its form is seen, and its name, or what stands behind that, is refused
-pub record StopsBehindForm {V : Type 0} (cases : Cases V) (xs : List ℕ) (budget : Option ℕ)
-    (refusal : Refusal) (rest : List ℕ) : Type 0 where
+-- its form is seen, and its name, or what follows that, is rejected
+pub record RejectsAfterForm {V : Type 0} (cases : Cases V) (xs : List ℕ) (budget : Option ℕ)
+    (err : InputError) (rest : List ℕ) : Type 0 where
   pub form : Bool × ℕ
   pub size : ℕ
   pub seen : ReadsForm xs form size 0
-  pub stop : StopsEntry (stops_named cases form) (drop size xs) budget refusal rest
+  pub stop : RejectsEntry (rejects_named cases form) (drop size xs) budget err rest
 
--- it has neither form, or what comes behind its form is refused
-abbrev pub StopsCase : {V : Type 0} → Cases V → StopsAt
-StopsCase cases xs budget refusal rest =
-    StopsForm xs budget refusal rest ⊎ StopsBehindForm cases xs budget refusal rest
+-- it has neither form, or what comes after its form is rejected
+abbrev pub RejectsCase : {V : Type 0} → Cases V → RejectsAt
+RejectsCase cases xs budget err rest =
+    RejectsForm xs budget err rest ⊎ RejectsAfterForm cases xs budget err rest
 
-abbrev pub inside_spelling : {V : Type 0} → Cases V → Spelling V
-inside_spelling cases =
-    typed_spelling (ReadsCase cases) cases.same (StopsCase cases) cases.owned true
+abbrev pub inside_format : {V : Type 0} → Cases V → Format V
+inside_format cases =
+    typed_format (ReadsCase cases) cases.same (RejectsCase cases) cases.owned true
 
 -- one form is seen in one way
 pub form_one : (xs : List ℕ) (f g : Bool × ℕ) (n m : ℕ) → ReadsForm xs f n 0 → ReadsForm xs g m 0
@@ -321,10 +321,10 @@ form_within xs (true, a) n p = omega (arith, p.1.1, one_byte xs a p.0)
 form_within xs (false, a) n p = omega (arith, p.1.1)
 
 module _ {V : Type 0} (cases : Cases V) (is : IsTrue cases.exact) where
-  behind_laws : (form : Bool × ℕ) (name : List ℕ)
+  after_laws : (form : Bool × ℕ) (name : List ℕ)
       → Lawful (reads_named cases form name) cases.same false
-  behind_laws (true, first) name = cases.laws is name
-  behind_laws (false, first) name = record {
+  after_laws (true, first) name = cases.laws is name
+  after_laws (false, first) name = record {
     one = λ xs v w n m c d p q.
         (p.1 ∙ sym q.1, p.2 ∙ sym q.2, cases.unit_one name v w p.0 q.0);
     within = λ xs v n c p. omega (arith, p.1);
@@ -333,7 +333,7 @@ module _ {V : Type 0} (cases : Cases V) (is : IsTrue cases.exact) where
   }
 
   named_laws : (form : Bool × ℕ) → Lawful (ReadsEntry (reads_named cases form)) cases.same true
-  named_laws form = entry_laws cases.same (reads_named cases form) (behind_laws form)
+  named_laws form = entry_laws cases.same (reads_named cases form) (after_laws form)
 
   case_one : (xs : List ℕ) (v w : V) (n m c d : ℕ) → ReadsCase cases xs v n c
       → ReadsCase cases xs w m d → (n ≡ m) × (c ≡ d) × cases.same v w
@@ -346,7 +346,7 @@ module _ {V : Type 0} (cases : Cases V) (is : IsTrue cases.exact) where
       q.named in
       (omega (arith, p.whole, q.whole, f.1, e.0), e.1, e.2)
 
-  pub case_lawful : IsLawful (inside_spelling cases)
+  pub case_lawful : IsLawful (inside_format cases)
   case_lawful = lawful_as (record {
     one = case_one;
     within = λ xs v n c p. omega (
@@ -366,5 +366,5 @@ module _ {V : Type 0} (cases : Cases V) (is : IsTrue cases.exact) where
 
 -- an enum of these variants, under a step
 abbrev pub enum_of : {V : Type 0} → Cases V → Promise V
-enum_of cases = container cases.exact (stepped_spelling (codes "enum") (inside_spelling cases)) refl
-    (λ is. stepped_lawful (codes "enum") (inside_spelling cases) (case_lawful cases is))
+enum_of cases = container cases.exact (stepped_format (codes "enum") (inside_format cases)) refl
+    (λ is. stepped_lawful (codes "enum") (inside_format cases) (case_lawful cases is))

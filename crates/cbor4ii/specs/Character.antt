@@ -4,8 +4,8 @@ use Rattle.std.proofs.lemmas.Str.{encode_same}
 use Rattle.std.specs.Prelude.{◌++◌, drop, true, codes}
 use Rattle.std.specs.Char.{encode_utf8}
 use Rattle.cbor4ii_items.specs.Decoding.{Reads, CostFits}
-use Rattle.cbor4ii_items.specs.Refusal.{Refusal}
-use Rattle.cbor4ii_items.specs.Strings.{ReadsText, ReadsTextAs, StopsText}
+use Rattle.cbor4ii_items.specs.InputError.{InputError}
+use Rattle.cbor4ii_items.specs.Strings.{ReadsText, ReadsTextAs, RejectsText}
 use Rattle.cbor4ii_items.specs.Laws.Strings.{text_one, text_within, text_positive}
 use Rattle.cbor4ii.specs.Typed.{Lawful, in_words, not_exact}
 
@@ -17,13 +17,13 @@ ReadsChar = ReadsTextAs encode_utf8
 abbrev pub NoCharacter : List ℕ → Type 0
 NoCharacter text = (only : ℕ) → text ≡ encode_utf8 only → ⊥
 
--- the text is refused, or it is whole and is not that of one character, and is taken
-pub data StopsChar (xs : List ℕ) (budget : Option ℕ) (refusal : Refusal)
+-- the text is rejected, or it is whole and is not that of one character, and is taken
+pub data RejectsChar (xs : List ℕ) (budget : Option ℕ) (err : InputError)
     (rest : List ℕ) : Type 0 where
-  no_text : StopsText (codes "str") xs budget refusal rest → StopsChar xs budget refusal rest
+  no_text : RejectsText (codes "str") xs budget err rest → RejectsChar xs budget err rest
   not_one : (text : List ℕ) (n c : ℕ) → ReadsText xs text n c → CostFits c budget → NoCharacter text
-      → refusal ≡ in_words (codes "expected one character") → rest ≡ drop n xs
-      → StopsChar xs budget refusal rest
+      → err ≡ in_words (codes "expected one character") → rest ≡ drop n xs
+      → RejectsChar xs budget err rest
 
 char_same : (v w : ℕ) → encode_utf8 v ≡ encode_utf8 w → v ≡ w
 char_same v w e = (encode_same v w [] [] (ap (λ zs. zs ++ []) e)).0

@@ -18,12 +18,13 @@ use Rattle.cbor4ii_items.specs.Decoding.{Reads}
 use Rattle.cbor4ii_items.specs.Numbers.{IsWithin, shortest_head, signed_head}
 use Rattle.cbor4ii_items.specs.ReadBack.{ReadsBack, greatest_cost, pair_cost}
 use Rattle.cbor4ii_items.specs.Sequences.{ReadsPair, ReadsSequence}
-use Rattle.cbor4ii_items.specs.Strings.{ReadsAs, ReadsTextAs, counted_string, text_content}
+use Rattle.cbor4ii_items.specs.Strings.{ReadsAs, ReadsTextAs, definite_string, text_content}
 use Rattle.cbor4ii_items.specs.Strings.{bytes_content}
 use Rattle.cbor4ii_items.specs.Laws.LeavesBack.{text_back, string_back}
 use Rattle.cbor4ii_items.specs.declared.types.Bytes.{Bytes}
-use Rattle.cbor4ii_ser.specs.Item.{Encoding, encoded, refused, option_item, array_item, map_item}
-use Rattle.cbor4ii_ser.specs.Item.{tuple_item, entry_item}
+use Rattle.cbor4ii_ser.specs.Item.{Encoding, encoded, rejected, option_encoding, array_encoding}
+use Rattle.cbor4ii_ser.specs.Item.{map_encoding}
+use Rattle.cbor4ii_ser.specs.Item.{tuple_encoding, entry_encoding}
 use Rattle.cbor4ii_ser.specs.OneItem.{IsOneItem, canonical}
 use Rattle.cbor4ii_ser.specs.Laws.OneItem.{unsigned_is_item, signed_is_item, within_greater}
 use Rattle.cbor4ii_ser.specs.Laws.OneItem.{option_is_item, array_is_item, map_is_item}
@@ -40,16 +41,16 @@ use Rattle.cbor4ii.specs.TypedParts.{typed_triple, typed_map}
 -- how a type is written and read
 pub record Codec (T : Type 0) : Type 1 where
   pub promise : Promise T
-  pub item : T → Encoding
+  pub encoding : T → Encoding
   -- the value is one of the program's: a number in its range, a length below 2^64
   pub stands : T → Type 0
   -- the steps that reading its item takes
   pub cost : T → ℕ
   -- its item is read back
   pub back : (alloc : Global) (v : T) → stands v
-      → IsReadBack promise.spelling.reads (item v) v (cost v)
+      → IsReadBack promise.format.reads (encoding v) v (cost v)
   -- its item is one, and canonical
-  pub one : (v : T) → stands v → IsOneItem canonical (item v)
+  pub one : (v : T) → stands v → IsOneItem canonical (encoding v)
 
 -- ---- what holds no other value
 
@@ -58,13 +59,13 @@ abbrev pub any_value : {T : Type 0} → T → Type 0
 any_value v = Unit {0}
 
 -- a type that is read without a step
-abbrev pub leaf_codec : {T : Type 0} (promise : Promise T) (item : T → Encoding)
+abbrev pub leaf_codec : {T : Type 0} (promise : Promise T) (encoding : T → Encoding)
     (stands : T → Type 0)
-    → ((v : T) → stands v → IsReadBack promise.spelling.reads (item v) v 0)
-    → ((v : T) → stands v → IsOneItem canonical (item v)) → Codec T
-leaf_codec promise item stands back one = record {
+    → ((v : T) → stands v → IsReadBack promise.format.reads (encoding v) v 0)
+    → ((v : T) → stands v → IsOneItem canonical (encoding v)) → Codec T
+leaf_codec promise encoding stands back one = record {
   promise = promise;
-  item = item;
+  encoding = encoding;
   stands = stands;
   cost = λ v. 0;
   back = λ alloc. back;
@@ -81,13 +82,13 @@ signed_is_one limit le v h =
     signed_is_item canonical v (within_greater limit (2 ^ 64) v le h)
 
 pub character_is_back : (v : ℕ) → IsScalar v
-    → ReadsBack (ReadsTextAs encode_utf8) (counted_string 3 (encode_utf8 v)) v 0
+    → ReadsBack (ReadsTextAs encode_utf8) (definite_string 3 (encode_utf8 v)) v 0
 character_is_back v h =
     text_back encode_utf8 v (omega (arith, length-encode v, (len_utf8_bounds v).1))
     (IsUtf8-encode v h)
 
 pub string_is_back : (v : String Global) → any_value v
-    → IsReadBack (ReadsTextAs text_content) (encoded (counted_string 3 (string_bytes v))) v 0
+    → IsReadBack (ReadsTextAs text_content) (encoded (definite_string 3 (string_bytes v))) v 0
 string_is_back v any =
     text_back text_content v (omega (arith, v.bytes.ok.0, v.bytes.ok.1, v.bytes.small))
     (IsUtf8-string_bytes v)
@@ -104,12 +105,12 @@ abbrev pub AreFew : List ℕ → Type 0
 AreFew bytes = length bytes < 2 ^ 64
 
 pub bytes_are_back : (v : Bytes (Vec ℕ Global)) → any_value v
-    → IsReadBack (ReadsAs 2 bytes_content) (encoded (counted_string 2 v.0.items)) v 0
+    → IsReadBack (ReadsAs 2 bytes_content) (encoded (definite_string 2 v.0.items)) v 0
 bytes_are_back v any =
     string_back bytes_content v (omega (arith, v.0.ok.0, v.0.ok.1, v.0.small)) 2
 
 pub bytes_are_one : (v : Bytes (Vec ℕ Global)) → any_value v
-    → IsOneItem canonical (encoded (counted_string 2 v.0.items))
+    → IsOneItem canonical (encoded (definite_string 2 v.0.items))
 bytes_are_one v any =
     bytes_are_item canonical v.0.items (omega (arith, v.0.ok.0, v.0.ok.1, v.0.small))
 
@@ -117,28 +118,29 @@ bytes_are_one v any =
 
 abbrev pub StandsSome : {T : Type 0} → Codec T → Option T → Type 0
 StandsSome c None = Unit {0}
-StandsSome c (Some v) = c.stands v × BeginsOther (c.item v)
+StandsSome c (Some v) = c.stands v × BeginsOther (c.encoding v)
 
 abbrev pub some_cost : {T : Type 0} → Codec T → Option T → ℕ
 some_cost c None = 0
 some_cost c (Some v) = 1 + c.cost v
 
 pub option_is_back : {T : Type 0} (c : Codec T) (alloc : Global) (o : Option T) → StandsSome c o
-    → IsReadBack (typed_option c.promise).spelling.reads (option_item c.item o) o (some_cost c o)
+    → IsReadBack (typed_option c.promise).format.reads (option_encoding c.encoding o) o
+    (some_cost c o)
 option_is_back c alloc None h = λ rest. (inl refl, refl, refl)
 option_is_back c alloc (Some v) h =
-    some_read_back c.promise.spelling.reads (c.item v) v (c.cost v) (c.back alloc v h.0) h.1
+    some_read_back c.promise.format.reads (c.encoding v) v (c.cost v) (c.back alloc v h.0) h.1
 
 pub option_is_one : {T : Type 0} (c : Codec T) (o : Option T) → StandsSome c o
-    → IsOneItem canonical (option_item c.item o)
-option_is_one c None h = option_is_item canonical c.item None (λ u e. cc)
+    → IsOneItem canonical (option_encoding c.encoding o)
+option_is_one c None h = option_is_item canonical c.encoding None (λ u e. cc)
 option_is_one c (Some v) h = c.one v h.0
 
 -- a value whose item is null stands for none, so it is not one that is read back
 abbrev pub option_codec : {T : Type 0} → Codec T → Codec (Option T)
 option_codec c = record {
   promise = typed_option c.promise;
-  item = option_item c.item;
+  encoding = option_encoding c.encoding;
   stands = StandsSome c;
   cost = some_cost c;
   back = option_is_back c;
@@ -153,25 +155,25 @@ all_as P Q to (v ∷ vs) all =
 
 pub vector_is_back : {T : Type 0} (c : Codec T) (alloc : Global) (v : Vec T Global)
     → All c.stands v.items
-    → IsReadBack (typed_vector c.promise).spelling.reads (array_item c.item v.items) v
+    → IsReadBack (typed_vector c.promise).format.reads (array_encoding c.encoding v.items) v
     (1 + greatest_cost c.cost v.items)
 vector_is_back c alloc v all =
-    sequence_read_back c.promise.spelling.reads c.item c.cost 4 true v.items
+    sequence_read_back c.promise.format.reads c.encoding c.cost 4 true v.items
     (omega (arith, v.ok.0, v.ok.1, v.small)) (all_as c.stands
-    (λ v. IsReadBack c.promise.spelling.reads (c.item v) v (c.cost v)) (c.back alloc) v.items all)
+    (λ v. IsReadBack c.promise.format.reads (c.encoding v) v (c.cost v)) (c.back alloc) v.items all)
 
 pub vector_is_one : {T : Type 0} (c : Codec T) (v : Vec T Global) → All c.stands v.items
-    → IsOneItem canonical (array_item c.item v.items)
+    → IsOneItem canonical (array_encoding c.encoding v.items)
 vector_is_one {T = T} c v all =
-    let One : T → Type 0 = λ v. IsOneItem canonical (c.item v) in
-    array_is_item canonical c.item v.items (omega (arith, v.ok.0, v.ok.1, v.small))
+    let One : T → Type 0 = λ v. IsOneItem canonical (c.encoding v) in
+    array_is_item canonical c.encoding v.items (omega (arith, v.ok.0, v.ok.1, v.small))
     (by_recursion One v.items (all_as c.stands One c.one v.items all))
 
 -- an array of values
 abbrev pub vector_codec : {T : Type 0} → Codec T → Codec (Vec T Global)
 vector_codec c = record {
   promise = typed_vector c.promise;
-  item = λ v. array_item c.item v.items;
+  encoding = λ v. array_encoding c.encoding v.items;
   stands = λ v. All c.stands v.items;
   cost = λ v. 1 + greatest_cost c.cost v.items;
   back = vector_is_back c;
@@ -181,7 +183,7 @@ vector_codec c = record {
 abbrev pub box_codec : {T : Type 0} → Codec T → Codec (Box T Global)
 box_codec c = record {
   promise = typed_box c.promise;
-  item = λ b. c.item b.value;
+  encoding = λ b. c.encoding b.value;
   stands = λ b. c.stands b.value;
   cost = λ b. c.cost b.value;
   back = λ alloc b. c.back alloc b.value;
@@ -191,26 +193,28 @@ box_codec c = record {
 abbrev pub pair_codec : {A B : Type 0} → Codec A → Codec B → Codec (A × B)
 pair_codec a b = record {
   promise = typed_pair a.promise b.promise;
-  item = λ p. tuple_item (a.item p.0 ∷ b.item p.1 ∷ []);
+  encoding = λ p. tuple_encoding (a.encoding p.0 ∷ b.encoding p.1 ∷ []);
   stands = λ p. a.stands p.0 × b.stands p.1;
   cost = λ p. 1 + max (a.cost p.0) (b.cost p.1);
-  back = λ alloc p h. pair_read_back a.promise.spelling.reads b.promise.spelling.reads
-      (a.item p.0) (b.item p.1) p (a.cost p.0) (b.cost p.1) (a.back alloc p.0 h.0)
+  back = λ alloc p h. pair_read_back a.promise.format.reads b.promise.format.reads
+      (a.encoding p.0) (b.encoding p.1) p (a.cost p.0) (b.cost p.1) (a.back alloc p.0 h.0)
       (b.back alloc p.1 h.1);
-  one = λ p h. tuple_is_item canonical (a.item p.0 ∷ b.item p.1 ∷ []) (omega arith)
+  one = λ p h. tuple_is_item canonical (a.encoding p.0 ∷ b.encoding p.1 ∷ []) (omega arith)
       (a.one p.0 h.0, (b.one p.1 h.1, tt));
 }
 
 abbrev pub triple_codec : {A B C : Type 0} → Codec A → Codec B → Codec C → Codec (A × B × C)
 triple_codec a b c = record {
   promise = typed_triple a.promise b.promise c.promise;
-  item = λ p. tuple_item (a.item p.0 ∷ b.item p.1 ∷ c.item p.2 ∷ []);
+  encoding = λ p. tuple_encoding (a.encoding p.0 ∷ b.encoding p.1 ∷ c.encoding p.2 ∷ []);
   stands = λ p. a.stands p.0 × b.stands p.1 × c.stands p.2;
   cost = λ p. 1 + max (a.cost p.0) (max (b.cost p.1) (c.cost p.2));
-  back = λ alloc p h. triple_read_back a.promise.spelling.reads b.promise.spelling.reads
-      c.promise.spelling.reads (a.item p.0) (b.item p.1) (c.item p.2) p (a.cost p.0) (b.cost p.1)
+  back = λ alloc p h. triple_read_back a.promise.format.reads b.promise.format.reads
+      c.promise.format.reads (a.encoding p.0) (b.encoding p.1) (c.encoding p.2) p (a.cost p.0)
+      (b.cost p.1)
       (c.cost p.2) (a.back alloc p.0 h.0) (b.back alloc p.1 h.1) (c.back alloc p.2 h.2);
-  one = λ p h. tuple_is_item canonical (a.item p.0 ∷ b.item p.1 ∷ c.item p.2 ∷ []) (omega arith)
+  one = λ p h. tuple_is_item canonical (a.encoding p.0 ∷ b.encoding p.1 ∷ c.encoding p.2 ∷ [])
+      (omega arith)
       (a.one p.0 h.0, (b.one p.1 h.1, (c.one p.2 h.2, tt)));
 }
 
@@ -225,31 +229,35 @@ pub record StandsMap {K V : Type 0} (k : Codec K) (v : Codec V) (cmp : K → K �
 module _ {K V M : Type 0} (entries : M → List (K × V)) (cmp : K → K → Ordering) (k : Codec K)
     (v : Codec V) where
   pub map_is_back : (alloc : Global) (m : M) → StandsMap k v cmp (entries m)
-      → IsReadBack (typed_map entries cmp k.promise v.promise).spelling.reads
-      (map_item k.item v.item (entries m)) m
+      → IsReadBack (typed_map entries cmp k.promise v.promise).format.reads
+      (map_encoding k.encoding v.encoding (entries m)) m
       (1 + greatest_cost (pair_cost k.cost v.cost) (entries m))
   map_is_back alloc m h =
       let es = entries m in
       let Both : K × V → Type 0 = λ e. k.stands e.0 × v.stands e.1 in
-      let keys = all_as Both (λ (e : K × V). IsReadBack k.promise.spelling.reads (k.item e.0) e.0
+      let keys = all_as Both (λ (e : K × V). IsReadBack k.promise.format.reads (k.encoding e.0) e.0
       (k.cost e.0)) (λ e s. k.back alloc e.0 s.0) es h.each in
-      let values = all_as Both (λ (e : K × V). IsReadBack v.promise.spelling.reads (v.item e.1) e.1
+      let values = all_as Both (λ (e : K × V). IsReadBack v.promise.format.reads
+      (v.encoding e.1) e.1
       (v.cost e.1)) (λ e s. v.back alloc e.1 s.1) es h.each in
-      let pairs = ReadsPair k.promise.spelling.reads v.promise.spelling.reads in
-      let each = entries_back k.promise.spelling.reads v.promise.spelling.reads k.item v.item k.cost
+      let pairs = ReadsPair k.promise.format.reads v.promise.format.reads in
+      let each = entries_back k.promise.format.reads v.promise.format.reads k.encoding
+      v.encoding k.cost
       v.cost es keys values in
-      let read = sequence_read_back pairs (entry_item k.item v.item) (pair_cost k.cost v.cost) 5
+      let read = sequence_read_back pairs (entry_encoding k.encoding v.encoding)
+      (pair_cost k.cost v.cost) 5
       true es h.few each in
-      map_read_back entries cmp (ReadsSequence 5 pairs true) (map_item k.item v.item es) m
+      map_read_back entries cmp (ReadsSequence 5 pairs true)
+      (map_encoding k.encoding v.encoding es) m
       (1 + greatest_cost (pair_cost k.cost v.cost) es) (built_again cmp h.total es h.sorted) read
 
   pub map_is_one : (m : M) → StandsMap k v cmp (entries m)
-      → IsOneItem canonical (map_item k.item v.item (entries m))
+      → IsOneItem canonical (map_encoding k.encoding v.encoding (entries m))
   map_is_one m h =
       let es = entries m in
       let One : K × V → Type 0 =
-      λ e. IsOneItem canonical (k.item e.0) × IsOneItem canonical (v.item e.1) in
-      map_is_item canonical k.item v.item es h.few (by_recursion One es
+      λ e. IsOneItem canonical (k.encoding e.0) × IsOneItem canonical (v.encoding e.1) in
+      map_is_item canonical k.encoding v.encoding es h.few (by_recursion One es
       (all_as (λ (e : K × V). k.stands e.0 × v.stands e.1) One
       (λ e s. (k.one e.0 s.0, v.one e.1 s.1)) es h.each))
 
@@ -257,7 +265,7 @@ module _ {K V M : Type 0} (entries : M → List (K × V)) (cmp : K → K → Ord
   abbrev pub map_codec : Codec M
   map_codec = record {
     promise = typed_map entries cmp k.promise v.promise;
-    item = λ m. map_item k.item v.item (entries m);
+    encoding = λ m. map_encoding k.encoding v.encoding (entries m);
     stands = λ m. StandsMap k v cmp (entries m);
     cost = λ m. 1 + greatest_cost (pair_cost k.cost v.cost) (entries m);
     back = map_is_back;
@@ -266,10 +274,11 @@ module _ {K V M : Type 0} (entries : M → List (K × V)) (cmp : K → K → Ord
 
 -- ---- what is made of another value
 
-pub made_back : {V W : Type 0} (reads : Reads V) (gives : V → W → Type 0) (item : Encoding) (v : V)
-    (w : W) (cost : ℕ) → gives v w → IsReadBack reads item v cost
-    → IsReadBack (ReadsMade reads gives) item w cost
-made_back reads gives (refused bytes words) v w cost made back = tt
+pub made_back : {V W : Type 0} (reads : Reads V) (gives : V → W → Type 0) (encoding : Encoding)
+    (v : V)
+    (w : W) (cost : ℕ) → gives v w → IsReadBack reads encoding v cost
+    → IsReadBack (ReadsMade reads gives) encoding w cost
+made_back reads gives (rejected bytes words) v w cost made back = tt
 made_back reads gives (encoded bytes) v w cost made back =
     λ rest. record { part = v; read = back rest; made = made }
 
@@ -277,10 +286,11 @@ made_back reads gives (encoded bytes) v w cost made back =
 abbrev pub codec_of : {V W : Type 0} → (W → V) → Codec V → Codec W
 codec_of of c = record {
   promise = made_from (λ v w. v ≡ of w) c.promise;
-  item = λ w. c.item (of w);
+  encoding = λ w. c.encoding (of w);
   stands = λ w. c.stands (of w);
   cost = λ w. c.cost (of w);
-  back = λ alloc w h. made_back c.promise.spelling.reads (λ v w. v ≡ of w) (c.item (of w)) (of w) w
+  back = λ alloc w h. made_back c.promise.format.reads (λ v w. v ≡ of w) (c.encoding (of w))
+      (of w) w
       (c.cost (of w)) refl (c.back alloc (of w) h);
   one = λ w. c.one (of w);
 }

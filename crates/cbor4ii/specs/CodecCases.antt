@@ -7,11 +7,11 @@ use Rattle.std.proofs.lemmas.List.{append-nil}
 use Rattle.cbor4ii_items.specs.Head.{additional, shortest}
 use Rattle.cbor4ii_items.specs.ReadBack.{ReadsBack}
 use Rattle.cbor4ii_items.specs.Sequences.{ReadsPair}
-use Rattle.cbor4ii_items.specs.Strings.{counted_string, text_content}
+use Rattle.cbor4ii_items.specs.Strings.{definite_string, text_content}
 use Rattle.cbor4ii_items.specs.Laws.Containers.{both}
 use Rattle.cbor4ii_items.specs.Laws.Heads.{additional-lt, shortest_fits}
 use Rattle.cbor4ii_items.specs.Laws.LeavesBack.{text_back}
-use Rattle.cbor4ii_ser.specs.Item.{Encoding, encoded, refused, followed, variant_item}
+use Rattle.cbor4ii_ser.specs.Item.{Encoding, encoded, rejected, followed, variant_encoding}
 use Rattle.cbor4ii_ser.specs.OneItem.{IsOneItem, canonical}
 use Rattle.cbor4ii_ser.specs.Laws.OneItem.{text_is_item, variant_is_item}
 use Rattle.cbor4ii.specs.declared.serde.de.cases.Choice.{Choice}
@@ -35,31 +35,31 @@ Among name [] = ⊥
 Among name (other ∷ names) = (name ≡ other) ⊎ Among name names
 
 -- a variant is its name alone, which is one of these, or its name and a content that is read back
-pub record VariantBack {V : Type 0} (cases : Cases V) (names : List (List ℕ)) (item : Encoding)
+pub record VariantBack {V : Type 0} (cases : Cases V) (names : List (List ℕ)) (encoding : Encoding)
     (v : V) (cost : ℕ) : Type 0 where
   pub name : List ℕ
   pub is : IsName name
   pub among : Among name names
-  pub back : ((item ≡ encoded (counted_string 3 name)) × cases.units name v × (cost ≡ 0))
-      ⊎ ((content : Encoding) × (item ≡ variant_item name content)
+  pub back : ((encoding ≡ encoded (definite_string 3 name)) × cases.units name v × (cost ≡ 0))
+      ⊎ ((content : Encoding) × (encoding ≡ variant_encoding name content)
       × IsReadBack (cases.contents name) content v cost)
 
 -- the variants of an enum: how they are written and read
 pub record CaseCodecs (V : Type 0) : Type 1 where
   pub cases : Cases V
   pub names : List (List ℕ)
-  pub item : V → Encoding
+  pub encoding : V → Encoding
   pub stands : V → Type 0
   pub cost : V → ℕ
-  pub back : (alloc : Global) (v : V) → stands v → VariantBack cases names (item v) v (cost v)
-  pub one : (v : V) → stands v → IsOneItem canonical (item v)
+  pub back : (alloc : Global) (v : V) → stands v → VariantBack cases names (encoding v) v (cost v)
+  pub one : (v : V) → stands v → IsOneItem canonical (encoding v)
 
 -- no other variant
 abbrev pub no_case : {V : Type 0} → List ℕ → CaseCodecs V
 no_case words = record {
   cases = otherwise words;
   names = [];
-  item = λ v. encoded [];
+  encoding = λ v. encoded [];
   stands = λ v. ⊥;
   cost = λ v. 0;
   back = λ alloc v h. absurd h;
@@ -86,14 +86,14 @@ module _ {A B : Type 0} (own : List ℕ) (h : Holding A) (others : CaseCodecs B)
   other_content : (name : List ℕ) (content : Encoding) (v : B) (cost : ℕ) → name ≢ own
       → IsReadBack (others.cases.contents name) content v cost
       → IsReadBack ((case own h others.cases).contents name) content (Other v) cost
-  other_content name (refused bytes words) v cost apart back = tt
+  other_content name (rejected bytes words) v cost apart back = tt
   other_content name (encoded bytes) v cost apart back = λ rest. inr (apart, back rest)
 
   -- what was written of another variant
-  other_is_back : (item : Encoding) (v : B) (cost : ℕ)
-      → VariantBack others.cases others.names item v cost
-      → VariantBack (case own h others.cases) (own ∷ others.names) item (Other v) cost
-  other_is_back item v cost b =
+  other_is_back : (encoding : Encoding) (v : B) (cost : ℕ)
+      → VariantBack others.cases others.names encoding v cost
+      → VariantBack (case own h others.cases) (own ∷ others.names) encoding (Other v) cost
+  other_is_back encoding v cost b =
       let e = both (are_ascii own && ltb (length own) 256) (is_apart own others.names) new in
       let apart = among_apart own b.name others.names e.1 b.among in
       record {
@@ -111,44 +111,44 @@ module _ {A B : Type 0} (own : List ℕ) (h : Holding A) (others : CaseCodecs B)
       is_name own (both (are_ascii own && ltb (length own) 256) (is_apart own others.names) new).0
 
 held_content : {T B : Type 0} (own : List ℕ) (c : Codec T) (cases : Cases B) (content : Encoding)
-    (v : T) (cost : ℕ) → IsReadBack c.promise.spelling.reads content v cost
+    (v : T) (cost : ℕ) → IsReadBack c.promise.format.reads content v cost
     → IsReadBack ((case own (held_case c.promise) cases).contents own) content (First v) cost
-held_content own c cases (refused bytes words) v cost back = tt
+held_content own c cases (rejected bytes words) v cost back = tt
 held_content own c cases (encoded bytes) v cost back = λ rest. inl (refl, back rest)
 
 module _ {T B : Type 0} (own : List ℕ) (c : Codec T) (others : CaseCodecs B)
     (new : IsTrue (is_new own others.names)) where
   pub held_is_back : (alloc : Global) (v : Choice T B) → by_choice c.stands others.stands v
       → VariantBack (case own (held_case c.promise) others.cases) (own ∷ others.names)
-      (by_choice (λ w. variant_item own (c.item w)) others.item v) v
+      (by_choice (λ w. variant_encoding own (c.encoding w)) others.encoding v) v
       (by_choice c.cost others.cost v)
   held_is_back alloc (First v) h = record {
     name = own;
     is = own_is_name own (held_case c.promise) others new;
     among = inl refl;
     back = inr (
-      c.item v,
+      c.encoding v,
       refl,
-      held_content own c others.cases (c.item v) v (c.cost v) (c.back alloc v h),
+      held_content own c others.cases (c.encoding v) v (c.cost v) (c.back alloc v h),
     );
   }
   held_is_back alloc (Other v) h =
-      other_is_back own (held_case c.promise) others new (others.item v) v (others.cost v)
+      other_is_back own (held_case c.promise) others new (others.encoding v) v (others.cost v)
       (others.back alloc v h)
 
   pub held_is_one : (v : Choice T B) → by_choice c.stands others.stands v
-      → IsOneItem canonical (by_choice (λ w. variant_item own (c.item w)) others.item v)
+      → IsOneItem canonical (by_choice (λ w. variant_encoding own (c.encoding w)) others.encoding v)
   held_is_one (First v) h =
       let is = own_is_name own (held_case c.promise) others new in
-      variant_is_item canonical own (c.item v) (omega (arith, is.1)) is.0 (c.one v h)
+      variant_is_item canonical own (c.encoding v) (omega (arith, is.1)) is.0 (c.one v h)
   held_is_one (Other v) h = others.one v h
 
-  -- a variant that holds a value, and others behind it
+  -- a variant that holds a value, and others after it
   abbrev pub variant : CaseCodecs (Choice T B)
   variant = record {
     cases = case own (held_case c.promise) others.cases;
     names = own ∷ others.names;
-    item = by_choice (λ v. variant_item own (c.item v)) others.item;
+    encoding = by_choice (λ v. variant_encoding own (c.encoding v)) others.encoding;
     stands = by_choice c.stands others.stands;
     cost = by_choice c.cost others.cost;
     back = held_is_back;
@@ -160,7 +160,7 @@ module _ {B : Type 0} (own : List ℕ) (others : CaseCodecs B)
   pub unit_is_back : (alloc : Global) (v : Choice (Unit {0}) B)
       → by_choice any_value others.stands v
       → VariantBack (case own unit_case others.cases) (own ∷ others.names)
-      (by_choice (λ w. encoded (counted_string 3 own)) others.item v) v
+      (by_choice (λ w. encoded (definite_string 3 own)) others.encoding v) v
       (by_choice (λ w. 0) others.cost v)
   unit_is_back alloc (First v) h = record {
     name = own;
@@ -169,22 +169,22 @@ module _ {B : Type 0} (own : List ℕ) (others : CaseCodecs B)
     back = inl (refl, inl (refl, tt), refl);
   }
   unit_is_back alloc (Other v) h =
-      other_is_back own unit_case others new (others.item v) v (others.cost v)
+      other_is_back own unit_case others new (others.encoding v) v (others.cost v)
       (others.back alloc v h)
 
   pub unit_is_one : (v : Choice (Unit {0}) B) → by_choice any_value others.stands v
-      → IsOneItem canonical (by_choice (λ w. encoded (counted_string 3 own)) others.item v)
+      → IsOneItem canonical (by_choice (λ w. encoded (definite_string 3 own)) others.encoding v)
   unit_is_one (First v) h =
       let is = own_is_name own unit_case others new in
       text_is_item canonical own (omega (arith, is.1)) is.0
   unit_is_one (Other v) h = others.one v h
 
-  -- a variant that is its name alone, and others behind it
+  -- a variant that is its name alone, and others after it
   abbrev pub unit_variant : CaseCodecs (Choice (Unit {0}) B)
   unit_variant = record {
     cases = case own unit_case others.cases;
     names = own ∷ others.names;
-    item = by_choice (λ v. encoded (counted_string 3 own)) others.item;
+    encoding = by_choice (λ v. encoded (definite_string 3 own)) others.encoding;
     stands = by_choice any_value others.stands;
     cost = by_choice (λ v. 0) others.cost;
     back = unit_is_back;
@@ -198,76 +198,76 @@ next_one k = omega arith
 
 module _ {V : Type 0} (alloc : Global) (cases : Cases V) (name : List ℕ) (v : V)
     (is : IsName name) where
-  name_is_back : ReadsBack ReadsName (counted_string 3 name) (text_of alloc name is.0 is.1) 0
+  name_is_back : ReadsBack ReadsName (definite_string 3 name) (text_of alloc name is.0 is.1) 0
   name_is_back =
       text_back text_content (text_of alloc name is.0 is.1) (omega (arith, is.1)) is.0
 
   alone_is_back : cases.units name v
-      → IsReadBack (Stepped (ReadsCase cases)) (encoded (counted_string 3 name)) v 1
+      → IsReadBack (Stepped (ReadsCase cases)) (encoded (definite_string 3 name)) v 1
   alone_is_back stands rest =
       let n = length name in
       let first = 32 * 3 + additional (shortest n) n in
       let low = additional-lt n (shortest n) (shortest_fits n (omega (arith, is.1))) in
       let form : Bool × ℕ = (false, first) in
       let nothing : ReadsBack (reads_named cases form name) [] v 0 = λ ys. (stands, refl, refl) in
-      let entry = two_back ReadsName (reads_named cases form name) (counted_string 3 name) []
+      let entry = two_back ReadsName (reads_named cases form name) (definite_string 3 name) []
       (text_of alloc name is.0 is.1, v) 0 0 name_is_back nothing in (
         0,
         record {
           form = form;
           size = 0;
           seen = (refl, (omega (arith, low), refl), refl);
-          between = length (counted_string 3 name);
+          between = length (definite_string 3 name);
           named = (
             text_of alloc name is.0 is.1,
             (subst (λ (bytes : List ℕ). ReadsBack (ReadsPair ReadsName
                 (reads_named cases form name)) bytes (text_of alloc name is.0 is.1, v) 0)
-                (append-nil (counted_string 3 name)) entry) rest,
+                (append-nil (definite_string 3 name)) entry) rest,
           );
           whole = omega arith;
         },
         refl,
       )
 
-  behind_is_back : (content : Encoding) (cost : ℕ)
+  after_is_back : (content : Encoding) (cost : ℕ)
       → IsReadBack (cases.contents name) content v cost
-      → IsReadBack (Stepped (ReadsCase cases)) (variant_item name content) v (1 + cost)
+      → IsReadBack (Stepped (ReadsCase cases)) (variant_encoding name content) v (1 + cost)
   unfolding followed
-  behind_is_back (refused bytes words) cost back = tt
-  behind_is_back (encoded bytes) cost back = λ rest.
+  after_is_back (rejected bytes words) cost back = tt
+  after_is_back (encoded bytes) cost back = λ rest.
       let form : Bool × ℕ = (true, 0xa1) in
-      let entry = two_back ReadsName (reads_named cases form name) (counted_string 3 name) bytes
+      let entry = two_back ReadsName (reads_named cases form name) (definite_string 3 name) bytes
       (text_of alloc name is.0 is.1, v) 0 cost name_is_back back in (
         max 0 cost,
         record {
           form = form;
           size = 1;
           seen = (refl, (refl, refl), refl);
-          between = length (counted_string 3 name ++ bytes);
+          between = length (definite_string 3 name ++ bytes);
           named = (text_of alloc name is.0 is.1, entry rest);
-          whole = next_one (length (counted_string 3 name ++ bytes));
+          whole = next_one (length (definite_string 3 name ++ bytes));
         },
         ap (λ k. 1 + k) (sym (no_dearer cost)),
       )
 
 pub case_is_back : {V : Type 0} (alloc : Global) (cases : Cases V) (names : List (List ℕ))
-    (item : Encoding) (v : V) (cost : ℕ) → VariantBack cases names item v cost
-    → IsReadBack (Stepped (ReadsCase cases)) item v (1 + cost)
-case_is_back alloc cases names item v cost b = elim b.back [
+    (encoding : Encoding) (v : V) (cost : ℕ) → VariantBack cases names encoding v cost
+    → IsReadBack (Stepped (ReadsCase cases)) encoding v (1 + cost)
+case_is_back alloc cases names encoding v cost b = elim b.back [
   | inl u ↦ rw (u.0, u.2) (alone_is_back alloc cases b.name v b.is u.1)
-  | inr k ↦ rw k.1 (behind_is_back alloc cases b.name v b.is k.0 cost k.2)
+  | inr k ↦ rw k.1 (after_is_back alloc cases b.name v b.is k.0 cost k.2)
 ]
 
 -- an enum of these variants; `choice` is the one that a value is of
 abbrev pub enum_codec : {R V : Type 0} (choice : R → V) → CaseCodecs V → Codec R
 enum_codec choice vs = record {
   promise = made_from (λ v r. v ≡ choice r) (enum_of vs.cases);
-  item = λ r. vs.item (choice r);
+  encoding = λ r. vs.encoding (choice r);
   stands = λ r. vs.stands (choice r);
   cost = λ r. 1 + vs.cost (choice r);
   back = λ alloc r h. made_back (Stepped (ReadsCase vs.cases)) (λ v r. v ≡ choice r)
-      (vs.item (choice r)) (choice r) r (1 + vs.cost (choice r)) refl
-      (case_is_back alloc vs.cases vs.names (vs.item (choice r)) (choice r) (vs.cost (choice r))
+      (vs.encoding (choice r)) (choice r) r (1 + vs.cost (choice r)) refl
+      (case_is_back alloc vs.cases vs.names (vs.encoding (choice r)) (choice r) (vs.cost (choice r))
       (vs.back alloc (choice r) h));
   one = λ r. vs.one (choice r);
 }

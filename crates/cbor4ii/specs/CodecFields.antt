@@ -10,7 +10,7 @@ use Rattle.std.proofs.lemmas.Slice.Eq.{bytes_eq-Decides}
 use Rattle.std.proofs.lemmas.Str.{IsUtf8-from_ascii}
 use Rattle.std.proofs.lemmas.Str.Ascii.{IsAscii-nil}
 use Rattle.cbor4ii_items.specs.Laws.Containers.{both}
-use Rattle.cbor4ii_ser.specs.Item.{Encoding, struct_item}
+use Rattle.cbor4ii_ser.specs.Item.{Encoding, struct_encoding}
 use Rattle.cbor4ii_ser.specs.OneItem.{IsOneItem, IsOneEntry, canonical}
 use Rattle.cbor4ii_ser.specs.Laws.OneItem.{struct_is_item, field_is_entry}
 use Rattle.cbor4ii.specs.Codec.{Codec, made_back}
@@ -57,14 +57,14 @@ is_other other name h e = let same = (bytes_eq-Decides other name).1 e in cc
 
 -- the fields of a struct: how they are written and read, of values of type W, which are held as V
 -- while they are read
-pub record Parts (V W : Type 0) : Type 1 where
+pub record FieldCodecs (V W : Type 0) : Type 1 where
   pub shape : Shape V W
   pub names : List (List ℕ)
   -- the items of the values that are written, with their names, which are among those
   pub items : W → NamedItems
   pub few : (w : W) → length (items w) ≤ length names
   pub others : (name : List ℕ) → IsTrue (is_apart name names) → (w : W)
-      → AllByRecursion (λ (part : List ℕ × Encoding). part.0 ≢ name) (items w)
+      → AllByRecursion (λ (with_field : List ℕ × Encoding). with_field.0 ≢ name) (items w)
   pub held : W → V
   pub stands : W → Type 0
   pub cost : W → ℕ
@@ -74,8 +74,8 @@ pub record Parts (V W : Type 0) : Type 1 where
   pub entries : (w : W) → stands w
       → AllByRecursion (IsOneEntry canonical) (fields_of (items w))
 
-abbrev pub no_parts : Parts (Unit {0}) (Unit {0})
-no_parts = record {
+abbrev pub no_fields : FieldCodecs (Unit {0}) (Unit {0})
+no_fields = record {
   shape = no_others;
   names = [];
   items = λ w. [];
@@ -90,34 +90,36 @@ no_parts = record {
 }
 
 module _ {T P V W : Type 0} (place : Place T P) (name : List ℕ) (c : Codec T)
-    (others : Parts V W) (new : IsTrue (is_new name others.names)) where
+    (others : FieldCodecs V W) (new : IsTrue (is_new name others.names)) where
   pub part_back : (alloc : Global) (w : T × W) → c.stands w.0 × others.stands w.1
-      → FieldsBack (named_field place.put name c.promise.spelling.reads others.shape.fields.named)
+      → FieldsBack (named_field place.put name c.promise.format.reads others.shape.fields.named)
       (place.none, others.shape.fields.first) (place.put w.0 place.none, others.held w.1)
-      ((name, c.item w.0) ∷ others.items w.1) (max (c.cost w.0) (others.cost w.1))
+      ((name, c.encoding w.0) ∷ others.items w.1) (max (c.cost w.0) (others.cost w.1))
   part_back alloc w h =
       let e = both (are_ascii name && ltb (length name) 256) (is_apart name others.names) new in
-      field_back place name c.promise.spelling.reads others.shape.fields.named
-      others.shape.fields.first (others.held w.1) (others.items w.1) (others.cost w.1) (c.item w.0)
+      field_back place name c.promise.format.reads others.shape.fields.named
+      others.shape.fields.first (others.held w.1) (others.items w.1) (others.cost w.1)
+      (c.encoding w.0)
       w.0 (c.cost w.0) (others.back alloc w.1 h.1) (is_name name e.0) (others.others name e.1 w.1)
       (c.back alloc w.0 h.0)
 
   pub part_entries : (w : T × W) → c.stands w.0 × others.stands w.1
-      → AllByRecursion (IsOneEntry canonical) (fields_of ((name, c.item w.0) ∷ others.items w.1))
+      → AllByRecursion (IsOneEntry canonical)
+      (fields_of ((name, c.encoding w.0) ∷ others.items w.1))
   part_entries w h =
       let e = both (are_ascii name && ltb (length name) 256) (is_apart name others.names) new in
       let is = is_name name e.0 in (
-        field_is_entry canonical name (c.item w.0) (omega (arith, is.1)) is.0 (c.one w.0 h.0),
+        field_is_entry canonical name (c.encoding w.0) (omega (arith, is.1)) is.0 (c.one w.0 h.0),
         others.entries w.1 h.1,
       )
 
   -- a field of this name and of which this becomes, where a value that is there becomes itself
-  abbrev pub part_by : (value : P → Result T (List ℕ))
-      → ((v : T) → value (place.put v place.none) ≡ Ok v) → Parts (P × V) (T × W)
-  part_by value made = record {
+  abbrev pub with_field_by : (value : P → Result T (List ℕ))
+      → ((v : T) → value (place.put v place.none) ≡ Ok v) → FieldCodecs (P × V) (T × W)
+  with_field_by value made = record {
     shape = shaped place value name c.promise others.shape;
     names = name ∷ others.names;
-    items = λ w. (name, c.item w.0) ∷ others.items w.1;
+    items = λ w. (name, c.encoding w.0) ∷ others.items w.1;
     few = λ w. omega (arith, others.few w.1);
     others = λ other h w.
         (let e = both (not (bytes_eq name other)) (is_apart other others.names) h in
@@ -132,20 +134,25 @@ module _ {T P V W : Type 0} (place : Place T P) (name : List ℕ) (c : Codec T)
   }
 
 -- a field that has to be there
-abbrev pub part : {T V W : Type 0} (name words : List ℕ) (c : Codec T) (others : Parts V W)
-    → IsTrue (is_new name others.names) → Parts (Option T × V) (T × W)
-part name words c others new = part_by last_place name c others new (or_words words) (λ v. refl)
+abbrev pub with_field : {T V W : Type 0} (name words : List ℕ) (c : Codec T)
+    (others : FieldCodecs V W)
+    → IsTrue (is_new name others.names) → FieldCodecs (Option T × V) (T × W)
+with_field name words c others new =
+    with_field_by last_place name c others new (or_words words) (λ v. refl)
 
 -- a field in whose place this value stands where it is missing
-abbrev pub part_or : {T V W : Type 0} (name : List ℕ) (other : T) (c : Codec T)
-    (others : Parts V W) → IsTrue (is_new name others.names) → Parts (Option T × V) (T × W)
-part_or name other c others new = part_by last_place name c others new (or_value other) (λ v. refl)
+abbrev pub with_field_or : {T V W : Type 0} (name : List ℕ) (other : T) (c : Codec T)
+    (others : FieldCodecs V W) → IsTrue (is_new name others.names) → FieldCodecs (Option T × V)
+    (T × W)
+with_field_or name other c others new =
+    with_field_by last_place name c others new (or_value other) (λ v. refl)
 
--- a field that has to be there, and once; else the struct is refused in these words
-abbrev pub part_once : {T V W : Type 0} (name words : List ℕ) (c : Codec T) (others : Parts V W)
-    → IsTrue (is_new name others.names) → Parts (Single T × V) (T × W)
-part_once name words c others new =
-    part_by only_place name c others new (once words (or_words words)) (λ v. refl)
+-- a field that has to be there, and once; else the struct is rejected in these words
+abbrev pub with_field_once : {T V W : Type 0} (name words : List ℕ) (c : Codec T)
+    (others : FieldCodecs V W)
+    → IsTrue (is_new name others.names) → FieldCodecs (Single T × V) (T × W)
+with_field_once name words c others new =
+    with_field_by only_place name c others new (once words (or_words words)) (λ v. refl)
 
 -- ---- a field that is left out where it is none
 
@@ -159,19 +166,20 @@ held_cost c (Some v) = c.cost v
 
 -- the item of a value that is there, before others
 abbrev pub before : {T : Type 0} → List ℕ → (T → Encoding) → Option T → NamedItems → NamedItems
-before name item None behind = behind
-before name item (Some v) behind = (name, item v) ∷ behind
+before name encoding None trailing = trailing
+before name encoding (Some v) trailing = (name, encoding v) ∷ trailing
 
-module _ {T V W : Type 0} (name : List ℕ) (c : Codec T) (others : Parts V W)
+module _ {T V W : Type 0} (name : List ℕ) (c : Codec T) (others : FieldCodecs V W)
     (new : IsTrue (is_new name others.names)) where
   pub optional_few : (w : Option T × W)
-      → length (before name c.item w.0 (others.items w.1)) ≤ 1 + length others.names
+      → length (before name c.encoding w.0 (others.items w.1)) ≤ 1 + length others.names
   optional_few (None, w) = omega (arith, others.few w)
   optional_few (Some v, w) = omega (arith, others.few w)
 
   pub optional_others : (other : List ℕ) → IsTrue (is_apart other (name ∷ others.names))
-      → (w : Option T × W) → AllByRecursion (λ (part : List ℕ × Encoding). part.0 ≢ other)
-      (before name c.item w.0 (others.items w.1))
+      → (w : Option T × W) → AllByRecursion (λ (with_field : List ℕ × Encoding). with_field.0
+      ≢ other)
+      (before name c.encoding w.0 (others.items w.1))
   optional_others other h (None, w) =
       others.others other (both (not (bytes_eq name other)) (is_apart other others.names) h).1 w
   optional_others other h (Some v, w) =
@@ -180,32 +188,32 @@ module _ {T V W : Type 0} (name : List ℕ) (c : Codec T) (others : Parts V W)
 
   pub optional_back : (alloc : Global) (w : Option T × W)
       → StandsHeld c w.0 × others.stands w.1
-      → FieldsBack (named_field put_last name c.promise.spelling.reads others.shape.fields.named)
+      → FieldsBack (named_field put_last name c.promise.format.reads others.shape.fields.named)
       (None, others.shape.fields.first) (w.0, others.held w.1)
-      (before name c.item w.0 (others.items w.1)) (max (held_cost c w.0) (others.cost w.1))
+      (before name c.encoding w.0 (others.items w.1)) (max (held_cost c w.0) (others.cost w.1))
   optional_back alloc (None, w) h =
       let e = both (are_ascii name && ltb (length name) 256) (is_apart name others.names) new in
       subst (λ cost. FieldsBack
-      (named_field put_last name c.promise.spelling.reads others.shape.fields.named)
+      (named_field put_last name c.promise.format.reads others.shape.fields.named)
       (None, others.shape.fields.first) (None, others.held w) (others.items w) cost)
       (sym (no_dearer (others.cost w)))
-      (no_field_back last_place name c.promise.spelling.reads others.shape.fields.named
+      (no_field_back last_place name c.promise.format.reads others.shape.fields.named
       others.shape.fields.first (others.held w) (others.items w) (others.cost w)
       (others.back alloc w h.1) (others.others name e.1 w))
   optional_back alloc (Some v, w) h = part_back last_place name c others new alloc (v, w) h
 
   pub optional_entries : (w : Option T × W) → StandsHeld c w.0 × others.stands w.1
       → AllByRecursion (IsOneEntry canonical)
-      (fields_of (before name c.item w.0 (others.items w.1)))
+      (fields_of (before name c.encoding w.0 (others.items w.1)))
   optional_entries (None, w) h = others.entries w h.1
   optional_entries (Some v, w) h = part_entries last_place name c others new (v, w) h
 
   -- a field that is left out where it is none, and is none where it is missing
-  abbrev pub part_optional : Parts (Option T × V) (Option T × W)
-  part_optional = record {
+  abbrev pub with_optional_field : FieldCodecs (Option T × V) (Option T × W)
+  with_optional_field = record {
     shape = optional name c.promise others.shape;
     names = name ∷ others.names;
-    items = λ w. before name c.item w.0 (others.items w.1);
+    items = λ w. before name c.encoding w.0 (others.items w.1);
     few = λ w. omega (arith, optional_few w);
     others = optional_others;
     held = λ w. (w.0, others.held w.1);
@@ -219,37 +227,38 @@ module _ {T V W : Type 0} (name : List ℕ) (c : Codec T) (others : Parts V W)
 -- ---- whole structs
 
 -- the fields of a struct, fewer than 256
-module _ {V W : Type 0} (p : Parts V W) (few : length p.names < 256) where
+module _ {V W : Type 0} (p : FieldCodecs V W) (few : length p.names < 256) where
   pub fields_are_back : (alloc : Global) (w : W) → p.stands w
       → IsReadBack (ReadsFields p.shape.fields.first p.shape.fields.named)
-      (struct_item (fields_of (p.items w))) (p.held w) (1 + p.cost w)
+      (struct_encoding (fields_of (p.items w))) (p.held w) (1 + p.cost w)
   fields_are_back alloc w h =
       struct_back p.shape.fields.named alloc p.shape.fields.first (p.held w) (p.items w) (p.cost w)
       (omega (arith, p.few w, few)) (p.back alloc w h)
 
   pub fields_are_one : (w : W) → p.stands w
-      → IsOneItem canonical (struct_item (fields_of (p.items w)))
+      → IsOneItem canonical (struct_encoding (fields_of (p.items w)))
   fields_are_one w h = struct_is_item canonical (fields_of (p.items w))
       (omega (arith, fields_count (p.items w), p.few w, few)) (p.entries w h)
 
-pub struct_is_back : {R V W : Type 0} (values : R → W) (p : Parts V W) → length p.names < 256
+pub struct_is_back : {R V W : Type 0} (values : R → W) (p : FieldCodecs V W) → length p.names < 256
     → (alloc : Global) (r : R) → p.stands (values r)
-    → IsReadBack (made_from (λ (w : W) (r : R). w ≡ values r) (struct_from p.shape)).spelling.reads
-    (struct_item (fields_of (p.items (values r)))) r (1 + p.cost (values r))
+    → IsReadBack (made_from (λ (w : W) (r : R). w ≡ values r) (struct_from p.shape)).format.reads
+    (struct_encoding (fields_of (p.items (values r)))) r (1 + p.cost (values r))
 struct_is_back {R = R} {V = V} {W = W} values p few alloc r h =
     let w = values r in
-    let item = struct_item (fields_of (p.items w)) in
-    made_back (struct_from p.shape).spelling.reads (λ (w : W) (r : R). w ≡ values r) item w r
+    let encoding = struct_encoding (fields_of (p.items w)) in
+    made_back (struct_from p.shape).format.reads (λ (w : W) (r : R). w ≡ values r) encoding w r
     (1 + p.cost w) refl
-    (made_back (ReadsFields p.shape.fields.first p.shape.fields.named) (gives_ok p.shape.value) item
+    (made_back (ReadsFields p.shape.fields.first p.shape.fields.named) (gives_ok p.shape.value)
+    encoding
     (p.held w) w (1 + p.cost w) (p.made w) (fields_are_back p few alloc w h))
 
 -- a struct that has these values of its fields, fewer than 256
-abbrev pub struct_codec : {R V W : Type 0} (values : R → W) (p : Parts V W)
+abbrev pub struct_codec : {R V W : Type 0} (values : R → W) (p : FieldCodecs V W)
     → IsTrue (ltb (length p.names) 256) → Codec R
 struct_codec values p few = record {
   promise = made_from (λ w r. w ≡ values r) (struct_from p.shape);
-  item = λ r. struct_item (fields_of (p.items (values r)));
+  encoding = λ r. struct_encoding (fields_of (p.items (values r)));
   stands = λ r. p.stands (values r);
   cost = λ r. 1 + p.cost (values r);
   back = struct_is_back values p (ltb-true (length p.names) 256 few);
@@ -257,11 +266,11 @@ struct_codec values p few = record {
 }
 
 -- a struct whose call answers the values of its fields as they are held, each of them there
-abbrev pub fields_codec : {R V W : Type 0} (values : R → W) (p : Parts V W)
+abbrev pub fields_codec : {R V W : Type 0} (values : R → W) (p : FieldCodecs V W)
     → IsTrue (ltb (length p.names) 256) → Codec R
 fields_codec values p few = record {
   promise = struct_of (λ r. p.held (values r)) p.shape.fields;
-  item = λ r. struct_item (fields_of (p.items (values r)));
+  encoding = λ r. struct_encoding (fields_of (p.items (values r)));
   stands = λ r. p.stands (values r);
   cost = λ r. 1 + p.cost (values r);
   back = λ alloc r. fields_are_back p (ltb-true (length p.names) 256 few) alloc (values r);

@@ -4,23 +4,23 @@ use Rattle.std.proofs.Common.{Bool, true, false, Result, Ok, Err, sym, subst}
 use Rattle.cbor4ii_rw.specs.View.{View}
 use Rattle.std.specs.Prelude.{codes}
 use Rattle.cbor4ii_rw.specs.declared.error.DecodeError.{DecodeError}
-use Rattle.cbor4ii_items.specs.Decoding.{Reads, StopsAt, CostFits, Spelling, Decodes, DecodesIf}
-use Rattle.cbor4ii.specs.Beginning.{StopsParts}
-use Rattle.cbor4ii_items.specs.Sequences.{ReadsSequence, ReadsPair, SamePair, SameParts}
-use Rattle.cbor4ii_items.specs.Strings.{ReadsTextAs, StopsText, text_content}
-use Rattle.cbor4ii_items.specs.Refusal.{Refusal}
+use Rattle.cbor4ii_items.specs.Decoding.{Reads, RejectsAt, CostFits, Format, Decodes, DecodesIf}
+use Rattle.cbor4ii.specs.Beginning.{RejectsParts}
+use Rattle.cbor4ii_items.specs.Sequences.{ReadsSequence, ReadsPair, SamePair, SameElements}
+use Rattle.cbor4ii_items.specs.Strings.{ReadsTextAs, RejectsText, text_content}
+use Rattle.cbor4ii_items.specs.InputError.{InputError}
 use Rattle.std.specs.declared.alloc.Global.{Global}
 use Rattle.std.specs.declared.string.String.{String}
 use Rattle.cbor4ii_items.specs.Laws.Sequences.{sequence_one, sequence_within, sequence_positive}
 use Rattle.cbor4ii_items.specs.Laws.Strings.{text_one, text_within, text_positive}
-use Rattle.cbor4ii_tree.specs.Ignored.{ReadsTree, StopsIgnored}
+use Rattle.cbor4ii_tree.specs.Ignored.{ReadsTree, RejectsIgnored}
 use Rattle.cbor4ii_tree.specs.Laws.Ignoring.{tree_one, tree_within}
 use Rattle.cbor4ii.specs.Places.{Place}
 use Rattle.cbor4ii.specs.Sequence.{five_small}
 use Rattle.cbor4ii.specs.Tuples.{pair_laws}
-use Rattle.cbor4ii.specs.Typed.{Lawful, not_exact, typed_spelling}
+use Rattle.cbor4ii.specs.Typed.{Lawful, not_exact, typed_format}
 
--- what stands behind a name, read as what becomes of a struct's values
+-- what follows a name, read as what becomes of a struct's values
 abbrev pub ReadsNamed : Type 0 → Type 1
 ReadsNamed V = List ℕ → Reads (V → V)
 
@@ -32,8 +32,8 @@ no_field {V} name xs change n c = ReadsTree xs n c × (change ≡ λ (values : V
 abbrev pub no_values : Unit {0}
 no_values = tt
 
--- A field of this name stands before others. Behind its name a value is read and put in its place;
--- behind another name it stays, and one of the others is read.
+-- A field of this name stands before others. After its name a value is read and put in its place;
+-- after another name it stays, and one of the others is read.
 abbrev pub named_field : {T P V : Type 0} → (T → P → P) → List ℕ → Reads T → ReadsNamed V
     → ReadsNamed (P × V)
 named_field {T} {P} {V} put own reads others name xs change n c =
@@ -42,7 +42,7 @@ named_field {T} {P} {V} put own reads others name xs change n c =
     ⊎ ((name ≢ own) × (below : V → V) × others name xs below n c
     × (change ≡ λ (values : P × V). (values.0, below values.1)))
 
--- an entry: a name, which is a text, and what stands behind it
+-- an entry: a name, which is a text, and what follows it
 abbrev pub ReadsName : Reads (String Global)
 ReadsName = ReadsTextAs text_content
 
@@ -50,7 +50,7 @@ abbrev pub ReadsEntry : {W : Type 0} → (List ℕ → Reads W) → Reads W
 ReadsEntry named xs w n c =
     (name : String Global) × ReadsPair ReadsName (named (text_content name)) xs (name, w) n c
 
--- changes, one behind another
+-- changes, one after another
 abbrev pub changed : {V : Type 0} → V → List (V → V) → V
 changed values [] = values
 changed values (change ∷ changes) = changed (change values) changes
@@ -61,44 +61,44 @@ ReadsFields {V} first named xs values n c =
     (changes : List (V → V)) × ReadsSequence 5 (ReadsEntry named) true xs changes n c
     × (values ≡ changed first changes)
 
--- how what stands behind a name is refused
-abbrev pub StopsNamed : Type 1
-StopsNamed = List ℕ → StopsAt
+-- how what follows a name is rejected
+abbrev pub RejectsNamed : Type 1
+RejectsNamed = List ℕ → RejectsAt
 
 -- no field has the name: as the item that is skipped
-abbrev pub no_field_stops : StopsNamed
-no_field_stops name = StopsIgnored
+abbrev pub no_field_rejects : RejectsNamed
+no_field_rejects name = RejectsIgnored
 
--- behind the field's name as the field, and behind another name as one of the others
-abbrev pub field_stops : List ℕ → StopsAt → StopsNamed → StopsNamed
-field_stops own stops others name xs budget refusal rest =
-    ((name ≡ own) × stops xs budget refusal rest)
-    ⊎ ((name ≢ own) × others name xs budget refusal rest)
+-- after the field's name as the field, and after another name as one of the others
+abbrev pub field_rejects : List ℕ → RejectsAt → RejectsNamed → RejectsNamed
+field_rejects own rejects others name xs budget err rest =
+    ((name ≡ own) × rejects xs budget err rest)
+    ⊎ ((name ≢ own) × others name xs budget err rest)
 
--- a name is whole, and what stands behind it is refused
-pub record StopsBehindName (stops : StopsNamed) (xs : List ℕ) (budget : Option ℕ)
-    (refusal : Refusal) (rest : List ℕ) : Type 0 where
+-- a name is whole, and what follows it is rejected
+pub record RejectsAfterName (rejects : RejectsNamed) (xs : List ℕ) (budget : Option ℕ)
+    (err : InputError) (rest : List ℕ) : Type 0 where
   pub whole : String Global
   pub size : ℕ
   pub cost : ℕ
   pub name : ReadsName xs whole size cost
   pub fits : CostFits cost budget
-  pub stop : stops (text_content whole) (drop size xs) budget refusal rest
+  pub stop : rejects (text_content whole) (drop size xs) budget err rest
 
--- the name's refusal, or that of what stands behind it
-abbrev pub StopsEntry : StopsNamed → StopsAt
-StopsEntry stops xs budget refusal rest =
-    StopsText (codes "str") xs budget refusal rest ⊎ StopsBehindName stops xs budget refusal rest
+-- the name's error, or that of what follows it
+abbrev pub RejectsEntry : RejectsNamed → RejectsAt
+RejectsEntry rejects xs budget err rest =
+    RejectsText (codes "str") xs budget err rest ⊎ RejectsAfterName rejects xs budget err rest
 
--- How it is refused: no step is left, or the head of a map is refused, or behind some whole entries
--- no byte is left, or an entry is refused.
-abbrev pub StopsFields : {V : Type 0} → ReadsNamed V → StopsNamed → StopsAt
-StopsFields named stops =
-    StopsParts (codes "map") (codes "map") 5 (ReadsEntry named) (StopsEntry stops)
+-- How it is rejected: no step is left, or the head of a map is rejected, or after some whole
+-- entries no byte is left, or an entry is rejected.
+abbrev pub RejectsFields : {V : Type 0} → ReadsNamed V → RejectsNamed → RejectsAt
+RejectsFields named rejects =
+    RejectsParts (codes "map") (codes "map") 5 (ReadsEntry named) (RejectsEntry rejects)
 
 -- ---- what calls make of the values
 
--- a change of the values, and changes one behind another
+-- a change of the values, and changes one after another
 abbrev pub made : {V : Type 0} → (V → V) → V → V
 made change values = change values
 
@@ -106,14 +106,14 @@ abbrev pub all_made : {V : Type 0} → List (V → V) → V → V
 all_made changes values = changed values changes
 
 -- it was read what becomes of the values, and that was made of them
-pub record Altered {W V : Type 0} (E : Type 0) (makes : W → V → V) (s : Spelling W)
+pub record Altered {W V : Type 0} (E : Type 0) (makes : W → V → V) (s : Format W)
     (before after : V) (old new : View) : Type 0 where
   pub what : W
   pub read : Decodes {E = E} s old new (Ok what)
   pub is : after ≡ makes what before
 
--- that, or it was refused
-abbrev pub Alters : {W V U E : Type 0} → (W → V → V) → Bool → Spelling W → V → V → View → View
+-- that, or it was rejected
+abbrev pub Alters : {W V U E : Type 0} → (W → V → V) → Bool → Format W → V → V → View → View
     → Result U (DecodeError E) → Type 0
 Alters {E = E} makes exact s before after old new (Ok u) = Altered E makes s before after old new
 Alters makes exact s before after old new (Err e) = DecodesIf exact s old new (Err e)
@@ -124,7 +124,7 @@ Alters makes exact s before after old new (Err e) = DecodesIf exact s old new (E
 abbrev pub SameChange : {V : Type 0} → (V → V → Type 0) → (V → V) → (V → V) → Type 0
 SameChange {V} same g h = (v w : V) → same v w → same (g v) (h w)
 
--- what is read behind each name is one change
+-- what is read after each name is one change
 abbrev pub NamedLaws : {V : Type 0} → (V → V → Type 0) → ReadsNamed V → Type 0
 NamedLaws same named = (name : List ℕ) → Lawful (named name) (SameChange same) false
 
@@ -146,7 +146,7 @@ no_field_laws same name = record {
 module _ {T P V : Type 0} (place : Place T P) (own : List ℕ) {reads : Reads T}
     {alike : T → T → Type 0} {never_empty : Bool} (others : ReadsNamed V)
     {same_others : V → V → Type 0} (laws : Lawful reads alike never_empty)
-    (behind : NamedLaws same_others others) where
+    (trailing : NamedLaws same_others others) where
   abbrev Same : P × V → P × V → Type 0
   Same = SamePair (place.same alike) same_others
 
@@ -166,7 +166,7 @@ module _ {T P V : Type 0} (place : Place T P) (own : List ℕ) {reads : Reads T}
   field_one name xs g h n m c d (inl p) (inr q) = absurd (q.0 p.0)
   field_one name xs g h n m c d (inr p) (inl q) = absurd (p.0 q.0)
   field_one name xs g h n m c d (inr p) (inr q) =
-      let e = (behind name).one xs p.1 q.1 n m c d p.2 q.2 in (
+      let e = (trailing name).one xs p.1 q.1 n m c d p.2 q.2 in (
         e.0,
         e.1,
         λ v w s. subst (λ (k : P × V → P × V). Same (k v) (h w)) (sym p.3)
@@ -177,7 +177,7 @@ module _ {T P V : Type 0} (place : Place T P) (own : List ℕ) {reads : Reads T}
   field_within : (name xs : List ℕ) (g : P × V → P × V) (n c : ℕ) → Named name xs g n c
       → n ≤ length xs
   field_within name xs g n c (inl p) = laws.within xs p.1 n c p.2
-  field_within name xs g n c (inr p) = (behind name).within xs p.1 n c p.2
+  field_within name xs g n c (inr p) = (trailing name).within xs p.1 n c p.2
 
   pub field_laws : NamedLaws Same Named
   field_laws name = record {
@@ -198,28 +198,28 @@ name_laws = record {
   alone = not_exact;
 }
 
-abbrev pub name_spelling : Spelling (String Global)
-name_spelling = typed_spelling ReadsName SameName (StopsText (codes "str")) true true
+abbrev pub name_format : Format (String Global)
+name_format = typed_format ReadsName SameName (RejectsText (codes "str")) true true
 
--- what stands behind a name, and may take no byte
-abbrev pub named_part : {W : Type 0} → (List ℕ → Reads W) → StopsNamed → (W → W → Type 0)
-    → (owned : Bool) → List ℕ → Spelling W
-named_part named stops same owned name = record {
+-- what follows a name, and may take no byte
+abbrev pub named_part : {W : Type 0} → (List ℕ → Reads W) → RejectsNamed → (W → W → Type 0)
+    → (owned : Bool) → List ℕ → Format W
+named_part named rejects same owned name = record {
   reads = named name;
   same = same;
-  stops = stops name;
-  begins = stops name;
+  rejects = rejects name;
+  begins = rejects name;
   never_empty = false;
   owned = owned;
   takes_memory = true;
   closed = false;
 }
 
--- a name, and what stands behind it
-abbrev pub named_entry : {W : Type 0} → (List ℕ → Reads W) → StopsNamed → (W → W → Type 0)
-    → (owned : Bool) → Spelling W
-named_entry named stops same owned =
-    typed_spelling (ReadsEntry named) same (StopsEntry stops) owned true
+-- a name, and what follows it
+abbrev pub named_entry : {W : Type 0} → (List ℕ → Reads W) → RejectsNamed → (W → W → Type 0)
+    → (owned : Bool) → Format W
+named_entry named rejects same owned =
+    typed_format (ReadsEntry named) same (RejectsEntry rejects) owned true
 
 pub entry_laws : {W : Type 0} (same : W → W → Type 0) (named : List ℕ → Reads W)
     → ((name : List ℕ) → Lawful (named name) same false) → Lawful (ReadsEntry named) same true
@@ -241,7 +241,7 @@ entry_laws same named laws =
 
 -- the same changes of the same values make the same values
 changed_same : {V : Type 0} (same : V → V → Type 0) (v w : V) (gs hs : List (V → V)) → same v w
-    → SameParts (SameChange same) gs hs → same (changed v gs) (changed w hs)
+    → SameElements (SameChange same) gs hs → same (changed v gs) (changed w hs)
 changed_same same v w [] [] s p = s
 changed_same same v w [] (h ∷ hs) s p = absurd p
 changed_same same v w (g ∷ gs) [] s p = absurd p

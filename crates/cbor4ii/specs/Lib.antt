@@ -17,8 +17,8 @@ pub mod Borrowed
 pub mod Character
 pub mod Any
 pub mod AnyCost
-pub mod AnyStops
-pub mod AnySpelling
+pub mod AnyRejects
+pub mod AnyFormat
 pub mod Beginning
 pub mod TypedParts
 pub mod Structs

@@ -1,8 +1,8 @@
--- Values that are made of other values, or refused in words.
+-- Values that are made of other values, or rejected in words.
 use Rattle.std.proofs.Common.{◌≡◌, ◌⊎◌, ℕ, List, drop, Option, Result, Ok, Err, refl}
-use Rattle.cbor4ii_items.specs.Decoding.{Reads, StopsAt, CostFits, Spelling, IsLawful}
-use Rattle.cbor4ii_items.specs.Refusal.{Refusal}
-use Rattle.cbor4ii.specs.Typed.{Promise, typed_spelling, in_words, not_exact}
+use Rattle.cbor4ii_items.specs.Decoding.{Reads, RejectsAt, CostFits, Format, IsLawful}
+use Rattle.cbor4ii_items.specs.InputError.{InputError}
+use Rattle.cbor4ii.specs.Typed.{Promise, typed_format, in_words, not_exact}
 
 -- a value is read, and this is made of it; `gives` says what may be
 pub record ReadsMade {V W : Type 0} (reads : Reads V) (gives : V → W → Type 0) (xs : List ℕ) (w : W)
@@ -20,14 +20,14 @@ pub record SameMade {V W : Type 0} (same : V → V → Type 0) (gives : V → W 
   pub first_made : gives first_part first
   pub second_made : gives second_part second
 
--- what is made of values of this spelling
-abbrev pub made_spelling : {V W : Type 0} → Spelling V → (V → W → Type 0) → StopsAt → Spelling W
-made_spelling s gives stops = typed_spelling (ReadsMade s.reads gives) (SameMade s.same gives) stops
+-- what is made of values of this format
+abbrev pub made_format : {V W : Type 0} → Format V → (V → W → Type 0) → RejectsAt → Format W
+made_format s gives rejects = typed_format (ReadsMade s.reads gives) (SameMade s.same gives) rejects
     s.owned s.takes_memory
 
-pub made_lawful : {V W : Type 0} (p : Promise V) (gives : V → W → Type 0) (stops : StopsAt)
-    → IsLawful p.spelling → IsLawful (made_spelling p.spelling gives stops)
-made_lawful p gives stops h = record {
+pub made_lawful : {V W : Type 0} (p : Promise V) (gives : V → W → Type 0) (rejects : RejectsAt)
+    → IsLawful p.format → IsLawful (made_format p.format gives rejects)
+made_lawful p gives rejects h = record {
   one = λ xs v w n m c d q r. (
       let e = h.one xs q.part r.part n m c d q.read r.read in (
         e.0,
@@ -45,26 +45,26 @@ made_lawful p gives stops h = record {
   alone = not_exact;
 }
 
--- a type whose values are made of those of another, and refused as they are
+-- a type whose values are made of those of another, and rejected as they are
 abbrev pub made_from : {V W : Type 0} → (V → W → Type 0) → Promise V → Promise W
 made_from gives p = record {
-  spelling = made_spelling p.spelling gives p.spelling.begins;
+  format = made_format p.format gives p.format.begins;
   exact = p.exact;
-  told = p.told;
-  tells = p.tells;
+  known = p.known;
+  reports = p.reports;
   some = refl;
-  lawful = λ is. made_lawful p gives p.spelling.begins (p.lawful is);
+  lawful = λ is. made_lawful p gives p.format.begins (p.lawful is);
 }
 
--- ---- or refused in words
+-- ---- or rejected in words
 
--- this is made of it, and no words refuse it
+-- this is made of it, and no words reject it
 abbrev pub gives_ok : {V W : Type 0} → (V → Result W (List ℕ)) → V → W → Type 0
 gives_ok value v w = value v ≡ Ok w
 
 -- a value is whole, and nothing is made of it
-pub record StopsUnmade {V W : Type 0} (reads : Reads V) (value : V → Result W (List ℕ))
-    (xs : List ℕ) (budget : Option ℕ) (refusal : Refusal) (rest : List ℕ) : Type 0 where
+pub record RejectsUnmade {V W : Type 0} (reads : Reads V) (value : V → Result W (List ℕ))
+    (xs : List ℕ) (budget : Option ℕ) (err : InputError) (rest : List ℕ) : Type 0 where
   pub part : V
   pub count : ℕ
   pub cost : ℕ
@@ -72,22 +72,22 @@ pub record StopsUnmade {V W : Type 0} (reads : Reads V) (value : V → Result W 
   pub fits : CostFits cost budget
   pub words : List ℕ
   pub unmade : value part ≡ Err words
-  pub is : refusal ≡ in_words words
+  pub is : err ≡ in_words words
   pub left : rest ≡ drop count xs
 
--- the part's refusal, or that of a whole part
-abbrev pub StopsMade : {V W : Type 0} → Spelling V → (V → Result W (List ℕ)) → StopsAt
-StopsMade s value xs budget refusal rest =
-    s.begins xs budget refusal rest ⊎ StopsUnmade s.reads value xs budget refusal rest
+-- the part's error, or that of a whole part
+abbrev pub RejectsMade : {V W : Type 0} → Format V → (V → Result W (List ℕ)) → RejectsAt
+RejectsMade s value xs budget err rest =
+    s.begins xs budget err rest ⊎ RejectsUnmade s.reads value xs budget err rest
 
--- a type whose values are made of those of another, or refused in words
-abbrev pub made_or_refused : {V W : Type 0} → (V → Result W (List ℕ)) → Promise V → Promise W
-made_or_refused value p = record {
-  spelling = made_spelling p.spelling (gives_ok value) (StopsMade p.spelling value);
+-- a type whose values are made of those of another, or rejected in words
+abbrev pub made_or_rejected : {V W : Type 0} → (V → Result W (List ℕ)) → Promise V → Promise W
+made_or_rejected value p = record {
+  format = made_format p.format (gives_ok value) (RejectsMade p.format value);
   exact = p.exact;
-  told = p.told;
-  tells = p.tells;
+  known = p.known;
+  reports = p.reports;
   some = refl;
   lawful = λ is.
-      made_lawful p (gives_ok value) (StopsMade p.spelling value) (p.lawful is);
+      made_lawful p (gives_ok value) (RejectsMade p.format value) (p.lawful is);
 }

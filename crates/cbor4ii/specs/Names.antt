@@ -9,17 +9,17 @@ use Rattle.cbor4ii_items.specs.Head.{IsBytes}
 use Rattle.cbor4ii_items.specs.Lent.{Stays}
 use Rattle.cbor4ii_items.specs.Moves.{Kept}
 use Rattle.cbor4ii_items.specs.Strings.{ReadsText}
-use Rattle.cbor4ii.specs.Fields.{name_spelling}
+use Rattle.cbor4ii.specs.Fields.{name_format}
 use Rattle.cbor4ii.specs.ReadBack.{IsName}
 
--- the first of the names that is this one stands at this place, which is behind them all where
+-- the first of the names that is this one stands at this place, which follows them all where
 -- none is
 abbrev pub StandsAt : List ℕ → List (Bor (List ℕ)) → ℕ → Type 0
 StandsAt name [] at = Unit {0}
 StandsAt name (own ∷ names) zero = name ≡ own.now
 StandsAt name (own ∷ names) (suc at) = (name ≢ own.now) × StandsAt name names at
 
--- A name stands whole at the front of the bytes, behind its length, in so many bytes in all. It has
+-- A name stands whole at the front of the bytes, after its length, in so many bytes in all. It has
 -- this place among the names.
 pub record IsWholeName (names : List (Bor (List ℕ))) (shown : List ℕ) (at n : ℕ) : Type 0 where
   pub name : List ℕ
@@ -40,15 +40,15 @@ pub record NameAt (names : List (Bor (List ℕ))) (at : ℕ) (old new : View) : 
   pub read : Sound ReadsText old new name
   pub which : StandsAt name names at
 
--- that, or it was refused as a text is
+-- that, or it was rejected as a text is
 abbrev pub TakesName : {E : Type 0} → List (Bor (List ℕ)) → View → View
     → Result ℕ (DecodeError E) → Type 0
 TakesName names old new (Ok at) = NameAt names at old new
-TakesName names old new (Err e) = Decodes name_spelling old new (Err e)
+TakesName names old new (Err e) = Decodes name_format old new (Err e)
 
 -- the same of a name that is shown; where none is, nothing is taken
 abbrev pub TakesShown : {E : Type 0} → List (Bor (List ℕ)) → View → View
     → Result (Option ℕ) (DecodeError E) → Type 0
 TakesShown names old new (Ok (Some at)) = NameAt names at old new
 TakesShown names old new (Ok None) = Stays old new
-TakesShown names old new (Err e) = Decodes name_spelling old new (Err e)
+TakesShown names old new (Err e) = Decodes name_format old new (Err e)

@@ -4,13 +4,13 @@ use Rattle.std.specs.Prelude.{Some, None, codes}
 use Rattle.cbor4ii_rw.specs.View.{View}
 use Rattle.cbor4ii_rw.specs.Reader.{StepsIn, KeepsAllButBudget}
 use Rattle.cbor4ii_items.specs.Moves.{Kept}
-use Rattle.cbor4ii_items.specs.Decoding.{Reads, StopsAt, Sound, Spelling, looking_spelling}
-use Rattle.cbor4ii_items.specs.Containers.{BeginsNull, ReadsOption, StopsOption}
+use Rattle.cbor4ii_items.specs.Decoding.{Reads, RejectsAt, Sound, Format, looking_format}
+use Rattle.cbor4ii_items.specs.Containers.{BeginsNull, ReadsOption, RejectsOption}
 use Rattle.cbor4ii.specs.declared.serde.de.deserializer.Deserializer.{Deserializer}
 use Rattle.cbor4ii.specs.declared.serde.de.some_accessor.SomeAccessor.{SomeAccessor}
-use Rattle.cbor4ii.specs.Stepped.{Stepped, StopsStepped}
+use Rattle.cbor4ii.specs.Stepped.{Stepped, RejectsStepped}
 
--- what the reader under an accessor tells
+-- what the reader under an accessor reports
 abbrev pub inside_some : {S E : Type 0} → (S → View) → SomeAccessor S E → View
 inside_some view accessor = view accessor.de.now.reader
 
@@ -38,20 +38,20 @@ steps_of_some some = if some then 1 else 0
 abbrev pub ReadsNoByte : Reads (Unit {0})
 ReadsNoByte xs v n c = (n ≡ 0) × (c ≡ 0)
 
--- null or undefined, or another byte under one step, behind which the value is still to be read
+-- null or undefined, or another byte under one step, after which the value is still to be read
 abbrev pub ReadsPresence : Reads (Option (Unit {0}))
 ReadsPresence = ReadsOption (Stepped ReadsNoByte)
 
--- nothing is refused
-abbrev pub never_stops : StopsAt
-never_stops xs budget refusal rest = ⊥
+-- nothing is rejected
+abbrev pub never_rejects : RejectsAt
+never_rejects xs budget err rest = ⊥
 
 -- no byte is left, or no step where a value comes
-abbrev pub StopsPresence : StopsAt
-StopsPresence = StopsOption (StopsStepped (codes "option") never_stops)
+abbrev pub RejectsPresence : RejectsAt
+RejectsPresence = RejectsOption (RejectsStepped (codes "option") never_rejects)
 
-abbrev pub presence_spelling : Spelling (Option (Unit {0}))
-presence_spelling = looking_spelling ReadsPresence StopsPresence
+abbrev pub presence_format : Format (Option (Unit {0}))
+presence_format = looking_format ReadsPresence RejectsPresence
 
 -- null and undefined are taken, and another byte stays
 abbrev pub ReadsComing : Reads Bool

@@ -1,30 +1,30 @@
 -- What a struct makes of its fields where some of them are missing.
 use Rattle.std.specs.Prelude.{◌≡◌, ℕ, List, [], ◌∷◌, Option, None, Some, Result, Ok, Err, refl}
 use denote.Ref.{Bor}
-use Rattle.cbor4ii.specs.Made.{made_or_refused}
+use Rattle.cbor4ii.specs.Made.{made_or_rejected}
 use Rattle.cbor4ii.specs.Places.{Place, last_place, only_place, came_last, came_only}
 use Rattle.cbor4ii.specs.Structs.{Fields, no_more, placed, fields_by, struct_of}
 use Rattle.cbor4ii.specs.declared.serde.de.place.Single.{Single}
 use Rattle.cbor4ii.specs.declared.serde.de.place.Single.TheVariants.{Absent, Present, Repeated}
 use Rattle.cbor4ii.specs.Typed.{Promise}
 
--- what a call makes, or the words with which it refuses
+-- what a call makes, or the words with which it rejects
 abbrev pub outcome : {W : Type 0} → Result W (Bor (List ℕ)) → Result W (List ℕ)
 outcome (Ok w) = Ok w
 outcome (Err words) = Err words.now
 
--- the words of the first refusal, and those of the others
+-- the words of the first error, and those of the others
 abbrev pub first_of : List (Bor (List ℕ)) → List ℕ
 first_of [] = []
-first_of (words ∷ behind) = words.now
+first_of (words ∷ trailing) = words.now
 
-abbrev pub behind_of : List (Bor (List ℕ)) → List (Bor (List ℕ))
-behind_of [] = []
-behind_of (words ∷ behind) = behind
+abbrev pub after_of : List (Bor (List ℕ)) → List (Bor (List ℕ))
+after_of [] = []
+after_of (words ∷ trailing) = trailing
 
 -- ---- one field
 
--- it has to be there; where it is not, the struct is refused in these words
+-- it has to be there; where it is not, the struct is rejected in these words
 abbrev pub or_words : {T : Type 0} → List ℕ → Option T → Result T (List ℕ)
 or_words words None = Err words
 or_words words (Some v) = Ok v
@@ -38,7 +38,7 @@ or_value other (Some v) = Ok v
 abbrev pub or_none : {T : Type 0} → Option T → Result (Option T) (List ℕ)
 or_none o = Ok o
 
--- it may come once; where it comes more than once, the struct is refused in these words
+-- it may come once; where it comes more than once, the struct is rejected in these words
 abbrev pub once : {T A : Type 0} → List ℕ → (Option T → Result A (List ℕ)) → Single T
     → Result A (List ℕ)
 once words value Absent = value None
@@ -47,7 +47,7 @@ once words value Repeated = Err words
 
 -- ---- all fields
 
--- both, or the first refusal
+-- both, or the first error
 abbrev pub paired : {T W : Type 0} → Result T (List ℕ) → Result W (List ℕ)
     → Result (T × W) (List ℕ)
 paired (Err words) others = Err words
@@ -56,7 +56,7 @@ paired (Ok v) (Ok others) = Ok (v, others)
 
 -- the values that a struct has of these fields
 abbrev pub made_struct : {V W : Type 0} → Fields V → (V → Result W (List ℕ)) → Promise W
-made_struct fields value = made_or_refused value (struct_of (λ v. v) fields)
+made_struct fields value = made_or_rejected value (struct_of (λ v. v) fields)
 
 -- ---- a struct, field by field
 
@@ -68,7 +68,7 @@ pub record Shape (V W : Type 0) : Type 1 where
 abbrev pub no_others : Shape (Unit {0}) (Unit {0})
 no_others = record { fields = no_more; value = λ v. Ok v }
 
--- a field of this name, whose values stand in this place, of which this becomes, and others behind
+-- a field of this name, whose values stand in this place, of which this becomes, and others after
 -- it
 abbrev pub shaped : {T P A V W : Type 0} → Place T P → (P → Result A (List ℕ)) → List ℕ
     → Promise T → Shape V W → Shape (P × V) (A × W)
@@ -100,7 +100,7 @@ struct_from shape = made_struct shape.fields shape.value
 
 -- ---- alike
 
--- both are made, or refused in the same words
+-- both are made, or rejected in the same words
 abbrev pub SameFate : {W : Type 0} → Result W (List ℕ) → Result W (List ℕ) → Type 0
 SameFate (Ok v) (Ok w) = Unit {0}
 SameFate (Ok v) (Err words) = ⊥
@@ -155,7 +155,7 @@ pub pair_fate : {T P A V W : Type 0} (place : Place T P) (p : Promise T)
     → SameFate (paired (value v.0) (values v.1)) (paired (value w.0) (values w.1))
 pair_fate place p others value values one rest [] v w s =
     paired_fate (value v.0) (value w.0) (values v.1) (values w.1)
-    (one v.0 w.0 (place.same_came p.spelling.same v.0 w.0 s.0)) (rest [] v.1 w.1 s.1)
+    (one v.0 w.0 (place.same_came p.format.same v.0 w.0 s.0)) (rest [] v.1 w.1 s.1)
 pair_fate place p others value values one rest (own ∷ names) v w s =
     paired_fate (value v.0) (value w.0) (values v.1) (values w.1)
-    (one v.0 w.0 (place.same_came p.spelling.same v.0 w.0 s.0)) (rest names v.1 w.1 s.1)
+    (one v.0 w.0 (place.same_came p.format.same v.0 w.0 s.0)) (rest names v.1 w.1 s.1)

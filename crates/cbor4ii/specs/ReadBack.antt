@@ -56,7 +56,7 @@ abbrev pub fields_of : NamedItems → List Encoding
 fields_of [] = []
 fields_of (part ∷ parts) = field part.0 part.1 ∷ fields_of parts
 
--- each item is read back behind its name as its change, at the greatest cost of one
+-- each item is read back after its name as its change, at the greatest cost of one
 abbrev pub ChangesBack : {V : Type 0} → ReadsNamed V → NamedItems → List (V → V) → ℕ → Type 0
 ChangesBack named [] [] cost = cost ≡ 0
 ChangesBack named [] (change ∷ changes) cost = ⊥
@@ -65,7 +65,7 @@ ChangesBack named (part ∷ parts) (change ∷ changes) cost =
     (own : ℕ) × (others : ℕ) × IsName part.0 × IsReadBack (named part.0) part.1 change own
     × ChangesBack named parts changes others × (cost ≡ max own others)
 
--- the items are read back behind their names, one behind another, and make these values of the
+-- the items are read back after their names, one after another, and make these values of the
 -- first ones
 pub record FieldsBack {V : Type 0} (named : ReadsNamed V) (first values : V) (parts : NamedItems)
     (cost : ℕ) : Type 0 where

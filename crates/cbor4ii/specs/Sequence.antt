@@ -1,9 +1,9 @@
 -- What arrays and maps share, and arrays that are read as vectors.
 use Rattle.std.proofs.Common.{ℕ, ◌<◌, arith, List}
-use Rattle.cbor4ii_items.specs.Decoding.{Spelling, IsLawful}
+use Rattle.cbor4ii_items.specs.Decoding.{Format, IsLawful}
 use Rattle.cbor4ii_items.specs.Sequences.{inside_of}
 use Rattle.cbor4ii_items.specs.Laws.Sequences.{sequence_one, sequence_within, sequence_positive}
-use Rattle.cbor4ii.specs.Stepped.{stepped_spelling}
+use Rattle.cbor4ii.specs.Stepped.{stepped_format}
 use Rattle.cbor4ii.specs.Typed.{not_exact}
 
 -- the major types of arrays and maps
@@ -13,13 +13,13 @@ four_small = omega arith
 pub five_small : 5 < 8
 five_small = omega arith
 
--- parts behind a head, under a step by this name
-abbrev pub sequence_of : {P W : Type 0} → (W → List P) → List ℕ → List ℕ → ℕ → Spelling P
-    → Spelling W
-sequence_of items step name major s = stepped_spelling step (inside_of items name major s)
+-- parts after a head, under a step by this name
+abbrev pub sequence_of : {P W : Type 0} → (W → List P) → List ℕ → List ℕ → ℕ → Format P
+    → Format W
+sequence_of items step name major s = stepped_format step (inside_of items name major s)
 
 pub sequence_of_lawful : {P W : Type 0} (items : W → List P) (step name : List ℕ) (major : ℕ)
-    → major < 8 → (s : Spelling P) → IsLawful s → IsLawful (sequence_of items step name major s)
+    → major < 8 → (s : Format P) → IsLawful s → IsLawful (sequence_of items step name major s)
 sequence_of_lawful items step name major small s h = record {
   one = λ xs v w.
       sequence_one major small s.reads s.never_empty s.same h.one xs (items v) (items w);

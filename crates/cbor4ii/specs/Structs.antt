@@ -1,23 +1,24 @@
 -- What a struct that is read from its named fields promises, by what its fields do.
 use Rattle.std.specs.Prelude.{List, [], ◌∷◌, ℕ, ◌&&◌, Bool, true, Option, IsTrue, refl, codes}
 use denote.Ref.{Bor}
-use Rattle.cbor4ii_items.specs.Decoding.{Spelling, IsLawful, spelling_by}
+use Rattle.cbor4ii_items.specs.Decoding.{Format, IsLawful, format_by}
 use Rattle.cbor4ii_items.specs.Sequences.{SamePair, in_list}
 use Rattle.cbor4ii_items.specs.Laws.Containers.{both}
-use Rattle.cbor4ii_items.specs.Laws.Spellings.{lawful_by}
-use Rattle.cbor4ii.specs.Fields.{ReadsNamed, StopsNamed, NamedLaws, ReadsFields, StopsFields}
+use Rattle.cbor4ii_items.specs.Laws.Formats.{lawful_by}
+use Rattle.cbor4ii.specs.Fields.{ReadsNamed, RejectsNamed, NamedLaws, ReadsFields, RejectsFields}
 use Rattle.cbor4ii.specs.Fields.{SameChange, entry_laws, named_part, named_entry, no_field}
-use Rattle.cbor4ii.specs.Fields.{no_values, named_field, no_field_stops, field_stops, no_field_laws}
+use Rattle.cbor4ii.specs.Fields.{no_values, named_field, no_field_rejects, field_rejects}
+use Rattle.cbor4ii.specs.Fields.{no_field_laws}
 use Rattle.cbor4ii.specs.Fields.{field_laws, fields_laws}
 use Rattle.cbor4ii.specs.Places.{Place, last_place}
 use Rattle.cbor4ii.specs.Sequence.{sequence_of}
-use Rattle.cbor4ii.specs.Typed.{Promise, typed_spelling, typed_laws, lawful_as, said_by, any_two}
+use Rattle.cbor4ii.specs.Typed.{Promise, typed_format, typed_laws, lawful_as, said_by, any_two}
 
--- the named fields of a struct, one behind another
+-- the named fields of a struct, one after another
 pub record Fields (V : Type 0) : Type 1 where
-  -- what stands behind a name, and how it is refused
+  -- what follows a name, and how it is rejected
   pub named : ReadsNamed V
-  pub stops : StopsNamed
+  pub rejects : RejectsNamed
   pub same : V → V → Type 0
   -- the values of no entry
   pub first : V
@@ -29,7 +30,7 @@ pub record Fields (V : Type 0) : Type 1 where
 abbrev pub no_more : Fields (Unit {0})
 no_more = record {
   named = no_field;
-  stops = no_field_stops;
+  rejects = no_field_rejects;
   same = any_two;
   first = no_values;
   owned = true;
@@ -38,16 +39,16 @@ no_more = record {
   laws = λ is. no_field_laws any_two;
 }
 
--- a field of this name, whose values stand in this place, and others behind it
+-- a field of this name, whose values stand in this place, and others after it
 abbrev pub placed : {T P V : Type 0} → Place T P → List ℕ → Promise T → Fields V → Fields (P × V)
 placed place name p others = record {
-  named = named_field place.put name p.spelling.reads others.named;
-  stops = field_stops name (said_by p) others.stops;
-  same = SamePair (place.same p.spelling.same) others.same;
+  named = named_field place.put name p.format.reads others.named;
+  rejects = field_rejects name (said_by p) others.rejects;
+  same = SamePair (place.same p.format.same) others.same;
   first = (place.none, others.first);
-  owned = p.spelling.owned && others.owned;
+  owned = p.format.owned && others.owned;
   exact = p.exact && others.exact;
-  alike = (place.none_same p.spelling.same, others.alike);
+  alike = (place.none_same p.format.same, others.alike);
   laws = λ is. (let h = both p.exact others.exact is in
       field_laws place name others.named (typed_laws p h.0) (others.laws h.1));
 }
@@ -60,30 +61,30 @@ field {T} = placed (last_place {T = T})
 abbrev pub unnamed : {T P V : Type 0} → Place T P → Promise T → Fields V → Fields (P × V)
 unnamed place p others = record {
   named = no_field;
-  stops = no_field_stops;
-  same = SamePair (place.same p.spelling.same) others.same;
+  rejects = no_field_rejects;
+  same = SamePair (place.same p.format.same) others.same;
   first = (place.none, others.first);
-  owned = p.spelling.owned && others.owned;
+  owned = p.format.owned && others.owned;
   exact = p.exact && others.exact;
-  alike = (place.none_same p.spelling.same, others.alike);
-  laws = λ is. no_field_laws (SamePair (place.same p.spelling.same) others.same);
+  alike = (place.none_same p.format.same, others.alike);
+  laws = λ is. no_field_laws (SamePair (place.same p.format.same) others.same);
 }
 
 -- fields by their names: of a type, and then others
 abbrev pub fields_by : {T P V : Type 0} → Place T P → Promise T → (List (Bor (List ℕ)) → Fields V)
     → List (Bor (List ℕ)) → Fields (P × V)
 fields_by place p others [] = unnamed place p (others [])
-fields_by place p others (own ∷ behind) = placed place own.now p (others behind)
+fields_by place p others (own ∷ trailing) = placed place own.now p (others trailing)
 
--- ---- how they are spelled
+-- ---- how they are encoded
 
--- what stands behind a name, as what becomes of the values
-abbrev pub behind_name : {V : Type 0} → Fields V → List ℕ → Spelling (V → V)
-behind_name fields = named_part fields.named fields.stops (SameChange fields.same) fields.owned
+-- what follows a name, as what becomes of the values
+abbrev pub after_name : {V : Type 0} → Fields V → List ℕ → Format (V → V)
+after_name fields = named_part fields.named fields.rejects (SameChange fields.same) fields.owned
 
--- a name, and what stands behind it
-abbrev pub entry_of : {V : Type 0} → Fields V → Spelling (V → V)
-entry_of fields = named_entry fields.named fields.stops (SameChange fields.same) fields.owned
+-- a name, and what follows it
+abbrev pub entry_of : {V : Type 0} → Fields V → Format (V → V)
+entry_of fields = named_entry fields.named fields.rejects (SameChange fields.same) fields.owned
 
 pub entry_lawful : {V : Type 0} (fields : Fields V) → IsTrue fields.exact
     → IsLawful (entry_of fields)
@@ -91,22 +92,22 @@ entry_lawful fields is =
     lawful_as (entry_laws (SameChange fields.same) fields.named (fields.laws is))
 
 -- a map of entries
-abbrev pub entries_of : {V : Type 0} → Fields V → Spelling (List (V → V))
+abbrev pub entries_of : {V : Type 0} → Fields V → Format (List (V → V))
 entries_of fields = sequence_of in_list (codes "map") (codes "map") 5 (entry_of fields)
 
-abbrev pub fields_spelling : {V : Type 0} → Fields V → Spelling V
-fields_spelling fields =
-    typed_spelling (ReadsFields fields.first fields.named) fields.same
-    (StopsFields fields.named fields.stops) fields.owned true
+abbrev pub fields_format : {V : Type 0} → Fields V → Format V
+fields_format fields =
+    typed_format (ReadsFields fields.first fields.named) fields.same
+    (RejectsFields fields.named fields.rejects) fields.owned true
 
 -- a struct that has these values of its fields
 abbrev pub struct_of : {V W : Type 0} → (W → V) → Fields V → Promise W
 struct_of values fields = record {
-  spelling = spelling_by values (fields_spelling fields);
+  format = format_by values (fields_format fields);
   exact = fields.exact;
-  told = true;
-  tells = λ _. refl;
+  known = true;
+  reports = λ _. refl;
   some = refl;
-  lawful = λ is. lawful_by values (fields_spelling fields)
+  lawful = λ is. lawful_by values (fields_format fields)
       (lawful_as (fields_laws fields.same fields.first fields.named fields.alike (fields.laws is)));
 }

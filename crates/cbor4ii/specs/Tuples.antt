@@ -5,15 +5,15 @@ use Rattle.std.proofs.lemmas.List.{length-drop}
 use Rattle.std.specs.Prelude.{◌||◌, ◌≢◌, ◌⊎◌, Option, Some, None, codes}
 use Rattle.cbor4ii_rw.specs.declared.error.Len.{Len}
 use Rattle.cbor4ii_rw.specs.declared.error.Len.TheVariants.{Small, Indefinite}
-use Rattle.cbor4ii_items.specs.Decoding.{Reads, StopsAt, Spelling, IsLawful, leaf_spelling}
-use Rattle.cbor4ii_items.specs.Decoding.{spelling_by}
-use Rattle.cbor4ii_items.specs.Refusal.{Refusal, eof, mismatch, require_length, len_of}
-use Rattle.cbor4ii_items.specs.Lengths.{ReadsLength, StopsLength}
+use Rattle.cbor4ii_items.specs.Decoding.{Reads, RejectsAt, Format, IsLawful, leaf_format}
+use Rattle.cbor4ii_items.specs.Decoding.{format_by}
+use Rattle.cbor4ii_items.specs.InputError.{InputError, eof, mismatch, require_length, len_of}
+use Rattle.cbor4ii_items.specs.Lengths.{ReadsLength, RejectsLength}
 use Rattle.cbor4ii_items.specs.Heads.{ReadsHead}
 use Rattle.cbor4ii_items.specs.Laws.Heads.{head_one, head_read}
-use Rattle.cbor4ii_items.specs.Sequences.{ReadsPair, SamePair, StopsPair, pair_spelling}
+use Rattle.cbor4ii_items.specs.Sequences.{ReadsPair, SamePair, RejectsPair, pair_format}
 use Rattle.cbor4ii_items.specs.Laws.Sequences.{pair_lawful, one_byte}
-use Rattle.cbor4ii_items.specs.Laws.Spellings.{lawful_by}
+use Rattle.cbor4ii_items.specs.Laws.Formats.{lawful_by}
 use Rattle.cbor4ii.specs.Sequence.{four_small}
 use Rattle.cbor4ii.specs.Typed.{Lawful, reading, laws_of, any_two, not_exact}
 
@@ -22,10 +22,10 @@ abbrev pub ReadsUnit : List ℕ → Unit {0} → ℕ → ℕ → Type 0
 ReadsUnit xs v n c = (take 1 xs ≡ 0x80 ∷ []) × (n ≡ 1) × (c ≡ 0)
 
 -- no byte is left, or the first one is another, and is taken
-abbrev pub StopsUnit : StopsAt
-StopsUnit [] budget refusal rest = (refusal ≡ eof (codes "unit") (Small 1)) × (rest ≡ [])
-StopsUnit (b ∷ bs) budget refusal rest =
-    (b ≢ 0x80) × (refusal ≡ mismatch (codes "unit") b) × (rest ≡ bs)
+abbrev pub RejectsUnit : RejectsAt
+RejectsUnit [] budget err rest = (err ≡ eof (codes "unit") (Small 1)) × (rest ≡ [])
+RejectsUnit (b ∷ bs) budget err rest =
+    (b ≢ 0x80) × (err ≡ mismatch (codes "unit") b) × (rest ≡ bs)
 
 pub unit_laws : Lawful ReadsUnit any_two true
 unit_laws = record {
@@ -35,8 +35,8 @@ unit_laws = record {
   alone = not_exact;
 }
 
--- a head that counts so many, and what stands behind it
-pub record ReadsBehind {V : Type 0} (count : ℕ) (reads : List ℕ → V → ℕ → ℕ → Type 0) (xs : List ℕ)
+-- a head that counts so many, and what follows it
+pub record ReadsAfter {V : Type 0} (count : ℕ) (reads : List ℕ → V → ℕ → ℕ → Type 0) (xs : List ℕ)
     (v : V) (n c : ℕ) : Type 0 where
   pub before : ℕ
   pub head : ReadsHead 4 8 xs count before
@@ -44,7 +44,7 @@ pub record ReadsBehind {V : Type 0} (count : ℕ) (reads : List ℕ → V → �
   pub parts : reads (drop before xs) v between c
   pub size : n ≡ before + between
 
--- two parts, one behind the other
+-- two parts, one after the other
 pub pair_laws : {A B : Type 0} (first : List ℕ → A → ℕ → ℕ → Type 0)
     (second : List ℕ → B → ℕ → ℕ → Type 0) (same_first : A → A → Type 0)
     (same_second : B → B → Type 0) (some_first some_second : Bool)
@@ -54,49 +54,49 @@ pair_laws first second same_first same_second some_first some_second h k =
     laws_of (pair_lawful (reading first same_first some_first)
     (reading second same_second some_second) h k)
 
--- a length, as a refusal tells it
-abbrev pub told_length : Option ℕ → Len
-told_length None = Indefinite
-told_length (Some count) = len_of count
+-- a length, as an error reports it
+abbrev pub known_length : Option ℕ → Len
+known_length None = Indefinite
+known_length (Some count) = len_of count
 
 -- a head that counts so many
 abbrev pub ReadsCountOf : ℕ → List ℕ → Unit {0} → ℕ → ℕ → Type 0
 ReadsCountOf count xs v n c = ReadsHead 4 8 xs count n × (c ≡ 0)
 
 -- a length that is another
-pub record OtherLength (count : ℕ) (xs : List ℕ) (refusal : Refusal) (rest : List ℕ) : Type 0 where
+pub record OtherLength (count : ℕ) (xs : List ℕ) (err : InputError) (rest : List ℕ) : Type 0 where
   pub found : Option ℕ
   pub size : ℕ
   pub cost : ℕ
   pub head : ReadsLength 4 xs found size cost
   pub other : found ≡ Some count → ⊥
-  pub refused : refusal ≡ require_length (codes "tuple") (told_length found)
+  pub rejected : err ≡ require_length (codes "tuple") (known_length found)
   pub left : rest ≡ drop size xs
 
--- a refused head, or a length that is another, whose head is taken
-abbrev pub StopsCountOf : ℕ → StopsAt
-StopsCountOf count xs budget refusal rest =
-    StopsLength (codes "array") 4 xs budget refusal rest ⊎ OtherLength count xs refusal rest
+-- a rejected head, or a length that is another, whose head is taken
+abbrev pub RejectsCountOf : ℕ → RejectsAt
+RejectsCountOf count xs budget err rest =
+    RejectsLength (codes "array") 4 xs budget err rest ⊎ OtherLength count xs err rest
 
-abbrev pub counted_head : ℕ → Spelling (Unit {0})
-counted_head count = leaf_spelling (ReadsCountOf count) (StopsCountOf count)
+abbrev pub container_head : ℕ → Format (Unit {0})
+container_head count = leaf_format (ReadsCountOf count) (RejectsCountOf count)
 
--- a head that counts so many, and what stands behind it
-abbrev pub behind_spelling : {V : Type 0} → ℕ → Spelling V → Spelling V
-behind_spelling count s = record {
-  reads = ReadsBehind count s.reads;
+-- a head that counts so many, and what follows it
+abbrev pub after_format : {V : Type 0} → ℕ → Format V → Format V
+after_format count s = record {
+  reads = ReadsAfter count s.reads;
   same = s.same;
-  stops = StopsPair (ReadsCountOf count) (StopsCountOf count) s.stops;
-  begins = StopsPair (ReadsCountOf count) (StopsCountOf count) s.begins;
+  rejects = RejectsPair (ReadsCountOf count) (RejectsCountOf count) s.rejects;
+  begins = RejectsPair (ReadsCountOf count) (RejectsCountOf count) s.begins;
   never_empty = true;
   owned = s.owned;
   takes_memory = s.takes_memory;
   closed = false;
 }
 
-pub behind_lawful : {V : Type 0} (count : ℕ) (s : Spelling V) → IsLawful s
-    → IsLawful (behind_spelling count s)
-behind_lawful count s h = record {
+pub after_lawful : {V : Type 0} (count : ℕ) (s : Format V) → IsLawful s
+    → IsLawful (after_format count s)
+after_lawful count s h = record {
   one = λ xs v w n m c d p q. (
       let i = (head_one 4 8 xs count count p.before q.before four_small p.head q.head).0 in
       let e = h.one (drop q.before xs) v w p.between q.between c d
@@ -125,13 +125,13 @@ three t = (t.0, (t.1, t.2))
 abbrev pub ReadsTriple : {A B C : Type 0} → Reads A → Reads B → Reads C → Reads (A × B × C)
 ReadsTriple first second third xs t = ReadsPair first (ReadsPair second third) xs (three t)
 
--- three parts, one behind another
-abbrev pub triple_spelling : {A B C : Type 0} → Spelling A → Spelling B → Spelling C
-    → Spelling (A × B × C)
-triple_spelling a b c = spelling_by three (pair_spelling a (pair_spelling b c))
+-- three parts, one after another
+abbrev pub triple_format : {A B C : Type 0} → Format A → Format B → Format C
+    → Format (A × B × C)
+triple_format a b c = format_by three (pair_format a (pair_format b c))
 
-pub triple_lawful : {A B C : Type 0} (a : Spelling A) (b : Spelling B) (c : Spelling C)
-    → IsLawful a → IsLawful b → IsLawful c → IsLawful (triple_spelling a b c)
+pub triple_lawful : {A B C : Type 0} (a : Format A) (b : Format B) (c : Format C)
+    → IsLawful a → IsLawful b → IsLawful c → IsLawful (triple_format a b c)
 triple_lawful a b c f g h =
-    lawful_by three (pair_spelling a (pair_spelling b c))
-    (pair_lawful a (pair_spelling b c) f (pair_lawful b c g h))
+    lawful_by three (pair_format a (pair_format b c))
+    (pair_lawful a (pair_format b c) f (pair_lawful b c g h))

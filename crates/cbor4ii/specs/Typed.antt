@@ -1,4 +1,4 @@
--- What reading a typed value answers, told in the codec's own words.
+-- What reading a typed value answers, reported in the codec's own words.
 use Rattle.std.specs.Prelude.{ℕ, ◌≡◌, ◌+◌, ◌^◌, ◌≤◌, List, Bool, true, false, IsTrue, Result, Ok}
 use Rattle.std.specs.Prelude.{Err, OnOk, IfOk, IfErr, refl}
 use Rattle.std.specs.declared.alloc.Global.{Global}
@@ -6,15 +6,15 @@ use Rattle.std.specs.declared.vec.Vec.{Vec}
 use Rattle.cbor4ii_rw.specs.View.{View}
 use Rattle.cbor4ii_rw.specs.declared.error.DecodeError.{DecodeError as CoreError}
 use Rattle.cbor4ii_rw.specs.declared.error.DecodeError.TheVariants.{Custom as CoreCustom}
-use Rattle.cbor4ii_items.specs.Decoding.{Reads, StopsAt, Spelling, IsLawful, IsExact, Sound}
-use Rattle.cbor4ii_items.specs.Decoding.{Refuses, Stops}
+use Rattle.cbor4ii_items.specs.Decoding.{Reads, RejectsAt, Format, IsLawful, IsExact, Sound}
+use Rattle.cbor4ii_items.specs.Decoding.{Complete, Rejects}
 use Rattle.cbor4ii_items.specs.Moves.{Moves}
-use Rattle.cbor4ii_items.specs.Refusal.{Refusal, custom, is_out_of_memory}
+use Rattle.cbor4ii_items.specs.InputError.{InputError, custom, is_out_of_memory}
 use Rattle.cbor4ii.specs.declared.serde.de.error.DecodeError.{DecodeError}
 use Rattle.cbor4ii.specs.declared.serde.de.error.DecodeError.TheVariants.{Core, Custom}
 use Rattle.cbor4ii.specs.declared.serde.de.deserializer.Deserializer.{Deserializer}
 
--- what the reader of a deserializer tells
+-- what the reader of a deserializer reports
 abbrev pub input : {S : Type 0} → (S → View) → Deserializer S → View
 input view de = view de.reader
 
@@ -22,11 +22,11 @@ input view de = view de.reader
 abbrev pub no_number : ℕ
 no_number = 2 ^ 32
 
--- a typed value's refusal in words, which is none of the codec's
-abbrev pub in_words : List ℕ → Refusal
+-- a typed value's error in words, which is none of the codec's
+abbrev pub in_words : List ℕ → InputError
 in_words text = custom text no_number
 
--- an error, as one of the codec's; no two are told as one
+-- an error, as one of the codec's; no two are reported as one
 abbrev pub as_core : {E : Type 0} → DecodeError E → CoreError E
 as_core (Core error) = error
 as_core (Custom text) = CoreCustom text no_number
@@ -44,41 +44,41 @@ parts_answer (Err error) = Err (as_core error)
 
 -- ---- what a type promises
 
--- a spelling that is refused alike over every reader, and reads a byte
-abbrev pub typed_spelling : {V : Type 0} → Reads V → (V → V → Type 0) → StopsAt → (owned : Bool)
-    → (takes_memory : Bool) → Spelling V
-typed_spelling reads same stops owned takes_memory = record {
+-- a format that is rejected alike over every reader, and reads a byte
+abbrev pub typed_format : {V : Type 0} → Reads V → (V → V → Type 0) → RejectsAt → (owned : Bool)
+    → (takes_memory : Bool) → Format V
+typed_format reads same rejects owned takes_memory = record {
   reads = reads;
   same = same;
-  stops = stops;
-  begins = stops;
+  rejects = rejects;
+  begins = rejects;
   never_empty = true;
   owned = owned;
   takes_memory = takes_memory;
   closed = false;
 }
 
--- What a type promises of the bytes. How they are refused is what `begins` of its spelling says.
+-- What a type promises of the bytes. How they are rejected is what `begins` of its format says.
 pub record Promise (V : Type 0) : Type 1 where
-  pub spelling : Spelling V
-  -- the spelling says exactly what is accepted
+  pub format : Format V
+  -- the format says exactly what is accepted
   pub exact : Bool
-  -- it says how all else is refused, which an exact type does
-  pub told : Bool
-  pub tells : IsTrue exact → IsTrue told
+  -- it says how all else is rejected, which an exact type does
+  pub known : Bool
+  pub reports : IsTrue exact → IsTrue known
   -- a value takes a byte
-  pub some : IsTrue spelling.never_empty
+  pub some : IsTrue format.never_empty
   -- one input is read in one way, and what is read stands in it
-  pub lawful : IsTrue exact → IsLawful spelling
+  pub lawful : IsTrue exact → IsLawful format
 
--- a type that reads exactly what its spelling says
-abbrev pub exactly : {V : Type 0} {spelling : Spelling V} → IsTrue spelling.never_empty
-    → IsLawful spelling → Promise V
-exactly {spelling = spelling} some lawful = record {
-  spelling = spelling;
+-- a type that reads exactly what its format says
+abbrev pub exactly : {V : Type 0} {format : Format V} → IsTrue format.never_empty
+    → IsLawful format → Promise V
+exactly {format = format} some lawful = record {
+  format = format;
   exact = true;
-  told = true;
-  tells = λ _. refl;
+  known = true;
+  reports = λ _. refl;
   some = some;
   lawful = λ _. lawful;
 }
@@ -91,9 +91,9 @@ any_two v w = Unit {0}
 abbrev pub unsaid : {V : Type 0} → Reads V
 unsaid xs v n c = Unit {0}
 
--- a refusal of which nothing is said
-abbrev pub unsaid_stops : StopsAt
-unsaid_stops xs budget refusal rest = Unit {0}
+-- an error of which nothing is said
+abbrev pub unsaid_rejects : RejectsAt
+unsaid_rejects xs budget err rest = Unit {0}
 
 -- what is asked of an exact type is owed by no other
 pub not_exact : {Q : Type 0} → IsTrue false → Q
@@ -102,20 +102,20 @@ not_exact h = let no : false ≡ true = h in cc
 -- nothing is promised of the bytes
 abbrev pub nothing : {V : Type 0} → Promise V
 nothing = record {
-  spelling = typed_spelling unsaid any_two unsaid_stops true true;
+  format = typed_format unsaid any_two unsaid_rejects true true;
   exact = false;
-  told = false;
-  tells = not_exact;
+  known = false;
+  reports = not_exact;
   some = refl;
   lawful = not_exact;
 }
 
--- what a type that tells its refusals says of them; of any other nothing is said
-abbrev pub said : Bool → StopsAt → StopsAt
-said told stops xs budget refusal rest = IsTrue told → stops xs budget refusal rest
+-- what a type that reports its errors says of them; of any other nothing is said
+abbrev pub said : Bool → RejectsAt → RejectsAt
+said known rejects xs budget err rest = IsTrue known → rejects xs budget err rest
 
-abbrev pub said_by : {V : Type 0} → Promise V → StopsAt
-said_by promise = said promise.told promise.spelling.begins
+abbrev pub said_by : {V : Type 0} → Promise V → RejectsAt
+said_by promise = said promise.known promise.format.begins
 
 -- A call that reads one value, as its type promises.
 pub record Deserializes {V E : Type 0} (promise : Promise V) (old new : View)
@@ -125,28 +125,28 @@ pub record Deserializes {V E : Type 0} (promise : Promise V) (old new : View)
   pub moves : Moves old new answer
   -- an accepted value took a byte
   pub progress : OnOk answer (new.bound + 1 ≤ old.bound)
-  -- want of memory is told only by a type that may take memory
+  -- want of memory is reported only by a type that may take memory
   pub memory : IfErr answer (λ error. IsTrue (is_out_of_memory error)
-      → IsTrue promise.spelling.takes_memory)
+      → IsTrue promise.format.takes_memory)
   -- an accepted value is one that the bytes begin with
-  pub sound : IfOk answer (Sound promise.spelling.reads old new)
+  pub sound : IfOk answer (Sound promise.format.reads old new)
   -- Of an exact type, where acceptance is exact, an error that speaks of the bytes comes only where
   -- no value whose steps fit the budget begins them.
-  pub complete : IsTrue promise.exact → IsExact promise.spelling.owned old
-      → IfErr answer (Refuses promise.spelling.reads old)
-  -- Of a type that tells its refusals, an error that speaks of the bytes is the one that the type
+  pub complete : IsTrue promise.exact → IsExact promise.format.owned old
+      → IfErr answer (Complete promise.format.reads old)
+  -- Of a type that reports its errors, an error that speaks of the bytes is the one that the type
   -- gives there, and leaves what the type leaves then.
-  pub begins : IsTrue promise.told → IfErr answer (Stops promise.spelling.begins old new)
+  pub begins : IsTrue promise.known → IfErr answer (Rejects promise.format.begins old new)
 
 -- ---- laws
 
--- a reading alone, of whose refusals nothing is said
-abbrev pub reading : {V : Type 0} → Reads V → (V → V → Type 0) → (never_empty : Bool) → Spelling V
+-- a reading alone, of whose errors nothing is said
+abbrev pub reading : {V : Type 0} → Reads V → (V → V → Type 0) → (never_empty : Bool) → Format V
 reading reads same never_empty = record {
   reads = reads;
   same = same;
-  stops = unsaid_stops;
-  begins = unsaid_stops;
+  rejects = unsaid_rejects;
+  begins = unsaid_rejects;
   never_empty = never_empty;
   owned = true;
   takes_memory = true;
@@ -158,9 +158,9 @@ reading reads same never_empty = record {
 abbrev pub Lawful : {V : Type 0} → Reads V → (V → V → Type 0) → (never_empty : Bool) → Type 0
 Lawful reads same never_empty = IsLawful (reading reads same never_empty)
 
--- a spelling that says nothing else of what is read has these laws too
-pub laws_of : {V : Type 0} {spelling : Spelling V} → IsLawful spelling
-    → Lawful spelling.reads spelling.same spelling.never_empty
+-- a format that says nothing else of what is read has these laws too
+pub laws_of : {V : Type 0} {format : Format V} → IsLawful format
+    → Lawful format.reads format.same format.never_empty
 laws_of h = record {
   one = h.one;
   within = h.within;
@@ -169,7 +169,7 @@ laws_of h = record {
 }
 
 pub typed_laws : {V : Type 0} (promise : Promise V) → IsTrue promise.exact
-    → Lawful promise.spelling.reads promise.spelling.same true
+    → Lawful promise.format.reads promise.format.same true
 typed_laws promise is =
     let h = promise.lawful is in
     record {
@@ -180,9 +180,9 @@ typed_laws promise is =
     }
 
 -- a type that has these laws
-pub lawful_as : {V : Type 0} {reads : Reads V} {same : V → V → Type 0} {stops : StopsAt}
+pub lawful_as : {V : Type 0} {reads : Reads V} {same : V → V → Type 0} {rejects : RejectsAt}
     {owned takes_memory : Bool} → Lawful reads same true
-    → IsLawful (typed_spelling reads same stops owned takes_memory)
+    → IsLawful (typed_format reads same rejects owned takes_memory)
 lawful_as h = record {
   one = h.one;
   within = h.within;
@@ -191,7 +191,7 @@ lawful_as h = record {
 }
 
 -- an exact type that has these laws
-abbrev pub typed_by : {V : Type 0} {reads : Reads V} {same : V → V → Type 0} → StopsAt
+abbrev pub typed_by : {V : Type 0} {reads : Reads V} {same : V → V → Type 0} → RejectsAt
     → (owned takes_memory : Bool) → Lawful reads same true → Promise V
-typed_by {reads = reads} {same = same} stops owned takes_memory laws = exactly
-    {spelling = typed_spelling reads same stops owned takes_memory} refl (lawful_as laws)
+typed_by {reads = reads} {same = same} rejects owned takes_memory laws = exactly
+    {format = typed_format reads same rejects owned takes_memory} refl (lawful_as laws)

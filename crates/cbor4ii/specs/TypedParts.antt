@@ -4,35 +4,35 @@ use Rattle.std.specs.declared.alloc.Global.{Global}
 use Rattle.std.specs.declared.boxed.Box.{Box}
 use Rattle.std.specs.declared.cmp.Ordering.{Ordering}
 use Rattle.std.specs.declared.vec.Vec.{Vec}
-use Rattle.cbor4ii_items.specs.Decoding.{Spelling, IsLawful}
-use Rattle.cbor4ii_items.specs.Laws.Containers.{both, boxed_spelling, boxed_lawful}
-use Rattle.cbor4ii_items.specs.Laws.Containers.{option_spelling, option_lawful}
+use Rattle.cbor4ii_items.specs.Decoding.{Format, IsLawful}
+use Rattle.cbor4ii_items.specs.Laws.Containers.{both, boxed_format, boxed_lawful}
+use Rattle.cbor4ii_items.specs.Laws.Containers.{option_format, option_lawful}
 use Rattle.cbor4ii_items.specs.Laws.Sequences.{pair_lawful}
-use Rattle.cbor4ii_items.specs.Sequences.{in_list, in_vector, pair_spelling}
+use Rattle.cbor4ii_items.specs.Sequences.{in_list, in_vector, pair_format}
 use Rattle.cbor4ii.specs.Built.{map_of, map_of_lawful}
 use Rattle.cbor4ii.specs.Sequence.{four_small, five_small, sequence_of, sequence_of_lawful}
-use Rattle.cbor4ii.specs.Stepped.{stepped_spelling, stepped_lawful}
-use Rattle.cbor4ii.specs.Tuples.{behind_spelling, behind_lawful, triple_spelling, triple_lawful}
-use Rattle.cbor4ii.specs.Typed.{Promise, typed_spelling, typed_laws, lawful_as, said_by}
+use Rattle.cbor4ii.specs.Stepped.{stepped_format, stepped_lawful}
+use Rattle.cbor4ii.specs.Tuples.{after_format, after_lawful, triple_format, triple_lawful}
+use Rattle.cbor4ii.specs.Typed.{Promise, typed_format, typed_laws, lawful_as, said_by}
 
 -- ---- a part
 
--- a part as containers read it: where it does not tell its refusals, nothing is said of them
-abbrev pub part_of : {V : Type 0} → Promise V → Spelling V
-part_of p = typed_spelling p.spelling.reads p.spelling.same (said_by p) p.spelling.owned
-    p.spelling.takes_memory
+-- a part as containers read it: where it does not tell its errors, nothing is said of them
+abbrev pub part_of : {V : Type 0} → Promise V → Format V
+part_of p = typed_format p.format.reads p.format.same (said_by p) p.format.owned
+    p.format.takes_memory
 
 pub part_lawful : {V : Type 0} (p : Promise V) → IsTrue p.exact → IsLawful (part_of p)
 part_lawful p is = lawful_as (typed_laws p is)
 
--- a container of this spelling, which tells its refusals whatever its parts do
-abbrev pub container : {V : Type 0} (exact : Bool) (spelling : Spelling V)
-    → IsTrue spelling.never_empty → (IsTrue exact → IsLawful spelling) → Promise V
-container exact spelling some lawful = record {
-  spelling = spelling;
+-- a container of this format, which reports its errors whatever its parts do
+abbrev pub container : {V : Type 0} (exact : Bool) (format : Format V)
+    → IsTrue format.never_empty → (IsTrue exact → IsLawful format) → Promise V
+container exact format some lawful = record {
+  format = format;
   exact = exact;
-  told = true;
-  tells = λ _. refl;
+  known = true;
+  reports = λ _. refl;
   some = some;
   lawful = lawful;
 }
@@ -42,32 +42,32 @@ container exact spelling some lawful = record {
 -- null and undefined are none, and before any other byte a value is read, under a step
 abbrev pub typed_option : {V : Type 0} → Promise V → Promise (Option V)
 typed_option p =
-    let value = stepped_spelling (codes "option") (part_of p) in
-    container p.exact (option_spelling value) refl (λ is. option_lawful value
+    let value = stepped_format (codes "option") (part_of p) in
+    container p.exact (option_format value) refl (λ is. option_lawful value
     (stepped_lawful (codes "option") (part_of p) (part_lawful p is)))
 
 -- in a box, which takes memory
 abbrev pub typed_box : {V : Type 0} → Promise V → Promise (Box V Global)
 typed_box p = record {
-  spelling = boxed_spelling p.spelling;
+  format = boxed_format p.format;
   exact = p.exact;
-  told = p.told;
-  tells = p.tells;
+  known = p.known;
+  reports = p.reports;
   some = p.some;
-  lawful = λ is. boxed_lawful p.spelling (p.lawful is);
+  lawful = λ is. boxed_lawful p.format (p.lawful is);
 }
 
--- an array of values, counted or up to a break, under a step
+-- an array of values, of definite or indefinite length, under a step
 abbrev pub typed_vector : {V : Type 0} → Promise V → Promise (Vec V Global)
 typed_vector p =
     container p.exact (sequence_of in_vector (codes "seq") (codes "array") 4 (part_of p)) refl
     (λ is. sequence_of_lawful in_vector (codes "seq") (codes "array") 4 four_small (part_of p)
     (part_lawful p is))
 
--- ---- of two and three, one behind another
+-- ---- of two and three, one after another
 
-abbrev pub two_of : {A B : Type 0} → Promise A → Promise B → Spelling (A × B)
-two_of a b = pair_spelling (part_of a) (part_of b)
+abbrev pub two_of : {A B : Type 0} → Promise A → Promise B → Format (A × B)
+two_of a b = pair_format (part_of a) (part_of b)
 
 pub two_lawful : {A B : Type 0} (a : Promise A) (b : Promise B) → IsTrue (a.exact && b.exact)
     → IsLawful (two_of a b)
@@ -75,8 +75,8 @@ two_lawful a b is =
     let h = both a.exact b.exact is in
     pair_lawful (part_of a) (part_of b) (part_lawful a h.0) (part_lawful b h.1)
 
-abbrev pub three_of : {A B C : Type 0} → Promise A → Promise B → Promise C → Spelling (A × B × C)
-three_of a b c = triple_spelling (part_of a) (part_of b) (part_of c)
+abbrev pub three_of : {A B C : Type 0} → Promise A → Promise B → Promise C → Format (A × B × C)
+three_of a b c = triple_format (part_of a) (part_of b) (part_of c)
 
 pub three_lawful : {A B C : Type 0} (a : Promise A) (b : Promise B) (c : Promise C)
     → IsTrue (a.exact && (b.exact && c.exact)) → IsLawful (three_of a b c)
@@ -87,13 +87,13 @@ three_lawful a b c is =
     (part_lawful c k.1)
 
 -- an array of so many, under a step
-abbrev pub tuple_of : {V : Type 0} → ℕ → Spelling V → Spelling V
-tuple_of count s = stepped_spelling (codes "tuple") (behind_spelling count s)
+abbrev pub tuple_of : {V : Type 0} → ℕ → Format V → Format V
+tuple_of count s = stepped_format (codes "tuple") (after_format count s)
 
-pub tuple_lawful : {V : Type 0} (count : ℕ) (s : Spelling V) → IsLawful s →
+pub tuple_lawful : {V : Type 0} (count : ℕ) (s : Format V) → IsLawful s →
     IsLawful (tuple_of count s)
-tuple_lawful count s h = stepped_lawful (codes "tuple") (behind_spelling count s)
-    (behind_lawful count s h)
+tuple_lawful count s h = stepped_lawful (codes "tuple") (after_format count s)
+    (after_lawful count s h)
 
 abbrev pub typed_pair : {A B : Type 0} → Promise A → Promise B → Promise (A × B)
 typed_pair a b =

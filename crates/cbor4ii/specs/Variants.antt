@@ -7,15 +7,15 @@ use Rattle.cbor4ii_rw.specs.Reader.{StepsIn, KeepsAllButBudget}
 use Rattle.cbor4ii_rw.specs.declared.error.DecodeError.{DecodeError}
 use Rattle.cbor4ii_rw.specs.declared.error.Len.TheVariants.{Small}
 use Rattle.cbor4ii_items.specs.Moves.{Kept}
-use Rattle.cbor4ii_items.specs.Decoding.{Reads, StopsAt, Sound, Spelling, looking_spelling}
-use Rattle.cbor4ii_items.specs.Refusal.{refusal_of, eof, mismatch}
+use Rattle.cbor4ii_items.specs.Decoding.{Reads, RejectsAt, Sound, Format, looking_format}
+use Rattle.cbor4ii_items.specs.InputError.{input_error_of, eof, mismatch}
 use Rattle.cbor4ii_items.specs.Sequences.{ReadsPair}
 use Rattle.cbor4ii_items.specs.Strings.{ReadsText}
 use Rattle.cbor4ii.specs.declared.serde.de.deserializer.Deserializer.{Deserializer}
 use Rattle.cbor4ii.specs.declared.serde.de.enum_accessor.EnumAccessor.{EnumAccessor}
 use Rattle.cbor4ii.specs.Stepped.{Stepped}
 
--- what the reader under an accessor tells
+-- what the reader under an accessor reports
 abbrev pub inside_enum : {S E : Type 0} → (S → View) → EnumAccessor S E → View
 inside_enum view accessor = view accessor.de.now.reader
 
@@ -48,13 +48,13 @@ abbrev pub ReadsForm : Reads (Bool × ℕ)
 ReadsForm xs form n c = (take 1 xs ≡ form.1 ∷ []) × IsForm form.0 form.1 n × (c ≡ 0)
 
 -- no byte is left, or the first one begins neither, and stays
-abbrev pub StopsForm : StopsAt
-StopsForm [] budget refusal rest = (refusal ≡ eof (codes "enum") (Small 1)) × (rest ≡ [])
-StopsForm (b ∷ bs) budget refusal rest =
-    (b ≢ 0xa1) × (b / 32 ≢ 3) × (refusal ≡ mismatch (codes "enum") b) × (rest ≡ b ∷ bs)
+abbrev pub RejectsForm : RejectsAt
+RejectsForm [] budget err rest = (err ≡ eof (codes "enum") (Small 1)) × (rest ≡ [])
+RejectsForm (b ∷ bs) budget err rest =
+    (b ≢ 0xa1) × (b / 32 ≢ 3) × (err ≡ mismatch (codes "enum") b) × (rest ≡ b ∷ bs)
 
-abbrev pub form_spelling : Spelling (Bool × ℕ)
-form_spelling = looking_spelling ReadsForm StopsForm
+abbrev pub form_format : Format (Bool × ℕ)
+form_format = looking_format ReadsForm RejectsForm
 
 -- A step was taken, and then it was read which form the variant has.
 pub record OpensEnum (old new : View) (form : Bool × ℕ) : Type 0 where
@@ -72,16 +72,16 @@ ReadsContent false reads xs v n c = ⊥
 -- the answer is that the variant has the other form, by its first byte
 abbrev pub SaysOther : {V E : Type 0} → ℕ → Result V (DecodeError E) → Type 0
 SaysOther first answer =
-    IsErrAnd answer (λ error. refusal_of error ≡ Some (mismatch (codes "enum") first))
+    IsErrAnd answer (λ error. input_error_of error ≡ Some (mismatch (codes "enum") first))
 
--- the variant has no content, and nothing is taken; or its content is refused
-abbrev pub StopsContent : Bool × ℕ → StopsAt → StopsAt
-StopsContent form stops xs budget refusal rest = elim form.0 [
-  | true ↦ stops xs budget refusal rest
-  | false ↦ (refusal ≡ mismatch (codes "enum") form.1) × (rest ≡ xs)
+-- the variant has no content, and nothing is taken; or its content is rejected
+abbrev pub RejectsContent : Bool × ℕ → RejectsAt → RejectsAt
+RejectsContent form rejects xs budget err rest = elim form.0 [
+  | true ↦ rejects xs budget err rest
+  | false ↦ (err ≡ mismatch (codes "enum") form.1) × (rest ≡ xs)
 ]
 
--- ---- a whole variant, by which values each name alone stands for, and how the content behind
+-- ---- a whole variant, by which values each name alone stands for, and how the content after
 -- each name is read
 
 -- a variant without content: a text, which is its name (RFC 8949 section 3.1)

@@ -1,7 +1,7 @@
 //! Readers, and what is read from them.
 
 pub use cbor4ii_items::canonical::{canonical_buf, canonical_head};
-pub use cbor4ii_items::decode::{ArrayStart, Decode, Spelled};
+pub use cbor4ii_items::decode::{ArrayStart, Decodable, Decode};
 pub use cbor4ii_items::indefinite::is_break;
 pub use cbor4ii_items::initial::{high, if_major, low};
 pub use cbor4ii_rw::ask;

@@ -1,5 +1,5 @@
-//! Blocks of a store that names each by its bytes: a block is read strictly, looked into, and
-//! written again. Some are not canonical and are refused.
+//! Blocks of a store that names each by its bytes: a block is read canonically, looked into, and
+//! written again. Some are not canonical and are rejected.
 use crate::digest::Digest;
 use crate::fault::Fault;
 use crate::noise::Noise;
@@ -29,7 +29,7 @@ pub fn round(alloc: Global, noise: &mut Noise, digest: &mut Digest) -> Result<()
     Ok(())
 }
 
-// A block: links to others, records, and content. One of 16 has an open array in it.
+// A block: links to others, records, and content. One of 16 has an indefinite-length array in it.
 fn put_block(writer: &mut BufWriter, noise: &mut Noise) -> Result<(), Fault> {
     Array::bounded(4, writer)?;
     let links = noise.below(8);
@@ -53,7 +53,7 @@ fn put_block(writer: &mut BufWriter, noise: &mut Noise) -> Result<(), Fault> {
     Ok(())
 }
 
-// Reads a block strictly and writes it again. One that is refused is read as any value.
+// Reads a block strictly and writes it again. One that is rejected is read as any value.
 fn read_block(
     alloc: Global,
     block: &[u8],

@@ -57,7 +57,7 @@ pub fn round(alloc: Global, noise: &mut Noise, digest: &mut Digest) -> Result<()
     again::<BTreeMap<String, u64>>(alloc, column.buffer(), digest).ok_or(REFUSED)
 }
 
-// Reads the column as this type, and writes it again. None where either is refused.
+// Reads the column as this type, and writes it again. None where either is rejected.
 fn again<'a, T: Deserialize<SliceReader<'a>> + Serialize + Drop>(
     alloc: Global,
     column: &'a [u8],

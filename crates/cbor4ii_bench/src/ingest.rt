@@ -1,4 +1,4 @@
-//! Records of a log that come from a stream, each written again in its canonical spelling.
+//! Records of a log that come from a stream, each written again in its canonical encoding.
 use crate::digest::Digest;
 use crate::fault::Fault;
 use crate::noise::Noise;
@@ -28,7 +28,7 @@ pub fn round(alloc: Global, noise: &mut Noise, digest: &mut Digest) -> Result<()
 }
 
 /// Reads one value after another out of a stream of `input`, and writes each in its canonical
-/// spelling to a stream.
+/// encoding to a stream.
 pub fn rewrite(alloc: Global, input: &[u8], digest: &mut Digest) -> Result<(), Fault> {
     let mut reader = IoReader::new(BufReader::new(alloc, input)?);
     let mut writer = IoWriter::new(io::BufWriter::new(alloc, Sink::new(digest))?);

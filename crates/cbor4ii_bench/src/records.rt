@@ -1,6 +1,6 @@
 //! Records of a log as values of a type of their own, read and written one by one.
 ghost use Rattle.std.specs.Prelude.{◌∷◌, [], codes};
-ghost use Rattle.cbor4ii_ser.specs.Item.{field, struct_item};
+ghost use Rattle.cbor4ii_ser.specs.Item.{field, struct_encoding};
 
 use crate::digest::Digest;
 use crate::fault::Fault;
@@ -40,11 +40,12 @@ struct Context {
 }
 
 impl Serialize for Context {
-    ghost item = { λ c. struct_item (field (codes "user") (⟦<String as Serialize>⟧.item c.user)
-        ∷ field (codes "path") (⟦<String as Serialize>⟧.item c.path)
-        ∷ field (codes "status") (⟦<u16 as Serialize>⟧.item c.status)
-        ∷ field (codes "args") (⟦<Vec<i64> as Serialize>⟧.item c.args)
-        ∷ field (codes "admin") (⟦<bool as Serialize>⟧.item c.admin) ∷ []) };
+    ghost encoding = { λ c. struct_encoding
+        (field (codes "user") (⟦<String as Serialize>⟧.encoding c.user)
+        ∷ field (codes "path") (⟦<String as Serialize>⟧.encoding c.path)
+        ∷ field (codes "status") (⟦<u16 as Serialize>⟧.encoding c.status)
+        ∷ field (codes "args") (⟦<Vec<i64> as Serialize>⟧.encoding c.args)
+        ∷ field (codes "admin") (⟦<bool as Serialize>⟧.encoding c.admin) ∷ []) };
 
     fn serialize<W: Write>(&self, ser: &mut Serializer<W>) -> Result<(), EncodeError<W::Error>> {
         ser.serialize_5_fields(
@@ -64,12 +65,12 @@ impl Serialize for Context {
 }
 
 impl Serialize for Record {
-    ghost item = { λ r. struct_item (field (codes "ts") (⟦<u64 as Serialize>⟧.item r.ts)
-        ∷ field (codes "msg") (⟦<String as Serialize>⟧.item r.msg)
-        ∷ field (codes "ok") (⟦<bool as Serialize>⟧.item r.ok)
-        ∷ field (codes "tags") (⟦<Vec<String> as Serialize>⟧.item r.tags)
-        ∷ field (codes "ctx") (⟦<Context as Serialize>⟧.item r.ctx)
-        ∷ field (codes "parent") (⟦<Option<u64> as Serialize>⟧.item r.parent) ∷ []) };
+    ghost encoding = { λ r. struct_encoding (field (codes "ts") (⟦<u64 as Serialize>⟧.encoding r.ts)
+        ∷ field (codes "msg") (⟦<String as Serialize>⟧.encoding r.msg)
+        ∷ field (codes "ok") (⟦<bool as Serialize>⟧.encoding r.ok)
+        ∷ field (codes "tags") (⟦<Vec<String> as Serialize>⟧.encoding r.tags)
+        ∷ field (codes "ctx") (⟦<Context as Serialize>⟧.encoding r.ctx)
+        ∷ field (codes "parent") (⟦<Option<u64> as Serialize>⟧.encoding r.parent) ∷ []) };
 
     fn serialize<W: Write>(&self, ser: &mut Serializer<W>) -> Result<(), EncodeError<W::Error>> {
         ser.serialize_6_fields(

@@ -1,4 +1,4 @@
-//! Samples of sensors that come from a stream, each written again in its canonical spelling.
+//! Samples of sensors that come from a stream, each written again in its canonical encoding.
 use crate::digest::Digest;
 use crate::fault::Fault;
 use crate::ingest::rewrite;

@@ -1,3 +1,3 @@
--- One decoding call behind another, and what a station is made of.
-pub mod Behind
+-- One decoding call after another, and what a station is made of.
+pub mod After
 pub mod Stations

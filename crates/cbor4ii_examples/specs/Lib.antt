@@ -1,4 +1,4 @@
--- What the records of a user's own are read and written as, and parts one behind another.
+-- What the records of a user's own are read and written as, and parts one after another.
 pub mod Then
 pub mod Station
 pub mod StationLaws

@@ -1,20 +1,20 @@
 -- A station is read in one way, from its own bytes alone.
 use Rattle.std.proofs.Common.{◌≡◌, ℕ, List, [], ◌∷◌, ◌++◌, take, Bool, true, false, refl, sym, ◌∙◌}
 use Rattle.std.proofs.Common.{subst, arith}
-use Rattle.cbor4ii_items.specs.Head.{break, open_head}
+use Rattle.cbor4ii_items.specs.Head.{break, indefinite_head}
 use Rattle.cbor4ii_items.specs.Laws.Heads.{head_one, head_read, head_alone}
 use Rattle.cbor4ii_items.specs.Numbers.{ReadsUnsigned}
 use Rattle.cbor4ii_items.specs.Laws.Arguments.{argument_one, argument_within, argument_alone}
 use Rattle.cbor4ii_items.specs.Laws.Arguments.{zero_small}
 use Rattle.cbor4ii_items.specs.Strings.{ReadsTextAs, text_content}
-use Rattle.cbor4ii_items.specs.Laws.Strings.{head_not_open, text_one, text_within, text_alone}
+use Rattle.cbor4ii_items.specs.Laws.Strings.{head_not_indefinite, text_one, text_within, text_alone}
 use Rattle.cbor4ii_items.specs.Laws.Containers.{first_kept}
 use Rattle.cbor4ii_items.specs.Laws.Sequences.{one_byte}
 use Rattle.cbor4ii_examples.specs.declared.station.Station.{Station}
 use Rattle.cbor4ii_examples.specs.Then.{InOneWay, Within, Positive, Alone, Carries, then_one}
 use Rattle.cbor4ii_examples.specs.Then.{then_within, then_positive, then_alone}
 use Rattle.cbor4ii_examples.specs.Station.{ReadsOpening, ReadsEnd, AfterNumber, AfterOpening}
-use Rattle.cbor4ii_examples.specs.Station.{station_spelling, ReadsAfterNumber, ReadsAfterOpening}
+use Rattle.cbor4ii_examples.specs.Station.{station_format, ReadsAfterNumber, ReadsAfterOpening}
 use Rattle.cbor4ii_examples.specs.Station.{ReadsStation, SameStation}
 use Rattle.cbor4ii_items.specs.Decoding.{IsLawful}
 
@@ -23,8 +23,8 @@ use Rattle.cbor4ii_items.specs.Decoding.{IsLawful}
 pub opening_one : InOneWay ReadsOpening (λ v w. v ≡ w)
 opening_one xs false false n m c d p q =
     ((head_one 4 8 xs 2 2 n m (omega arith) p.0 q.0).0, p.1 ∙ sym q.1, refl)
-opening_one xs false true n m c d p q = absurd (head_not_open 4 xs 2 n (omega arith) p.0 q.0)
-opening_one xs true false n m c d p q = absurd (head_not_open 4 xs 2 m (omega arith) q.0 p.0)
+opening_one xs false true n m c d p q = absurd (head_not_indefinite 4 xs 2 n (omega arith) p.0 q.0)
+opening_one xs true false n m c d p q = absurd (head_not_indefinite 4 xs 2 m (omega arith) q.0 p.0)
 opening_one xs true true n m c d p q = (p.1 ∙ sym q.1, p.2 ∙ sym q.2, refl)
 
 byte_alone : (b n : ℕ) (xs ys : List ℕ) → take 1 xs ≡ b ∷ [] → n ≡ 1
@@ -34,7 +34,7 @@ byte_alone b n xs ys e one =
 
 opening_within : Within ReadsOpening
 opening_within xs false n c p = (head_read [] 4 8 xs 2 n (omega arith) p.0).1
-opening_within xs true n c p = omega (arith, p.1, one_byte xs (open_head 4) p.0)
+opening_within xs true n c p = omega (arith, p.1, one_byte xs (indefinite_head 4) p.0)
 
 opening_positive : Positive ReadsOpening
 opening_positive xs false n c p = (head_read [] 4 8 xs 2 n (omega arith) p.0).2
@@ -42,7 +42,7 @@ opening_positive xs true n c p = omega (arith, p.1)
 
 opening_alone : Alone ReadsOpening
 opening_alone xs ys false n c p = (head_alone 4 8 xs ys 2 n p.0, p.1)
-opening_alone xs ys true n c p = (byte_alone (open_head 4) n xs ys p.0 p.1, p.1, p.2)
+opening_alone xs ys true n c p = (byte_alone (indefinite_head 4) n xs ys p.0 p.1, p.1, p.2)
 
 -- ---- the end
 
@@ -58,7 +58,7 @@ end_alone : (indefinite : Bool) → Alone (ReadsEnd indefinite)
 end_alone false xs ys v n c p = p
 end_alone true xs ys v n c p = (byte_alone break n xs ys p.0 p.1, p.1, p.2)
 
--- ---- one part behind another
+-- ---- one part after another
 
 abbrev pub SameNamed : AfterNumber → AfterNumber → Type 0
 SameNamed v w = (text_content v.0 ≡ text_content w.0) × Unit {0}
@@ -98,7 +98,7 @@ numbered_alone indefinite =
     then_alone (ReadsUnsigned 8) (ReadsAfterNumber indefinite)
     (argument_within 0 8 zero_small) (argument_alone 0 8) (named_alone indefinite)
 
--- what is read behind an opening is read behind the same opening
+-- what is read after an opening is read after the same opening
 pub carried : Carries (λ a b. a ≡ b) ReadsAfterOpening
 carried a b xs v n c e h = subst (λ indefinite. ReadsAfterOpening indefinite xs v n c) e h
 
@@ -129,7 +129,7 @@ station_alone xs ys v n c p =
     then_alone ReadsOpening ReadsAfterOpening opening_within opening_alone numbered_alone in
     (p.0, whole xs ys (parts p.0 v) n c p.1)
 
-pub station_lawful : IsLawful station_spelling
+pub station_lawful : IsLawful station_format
 station_lawful = record {
   one = station_one;
   within = station_within;

@@ -37,8 +37,8 @@ pub struct Record {
 ///
 /// # Errors
 ///
-/// As the head of the map, a key, or what stands under it is refused; of `is_break` where the input
-/// ends in the place of a key.
+/// As the head of the map, a key, or what stands under it is rejected; of `is_break` where the
+/// input ends in the place of a key.
 pub fn decode_record<S: Source>(
     alloc: Global,
     reader: &mut S,

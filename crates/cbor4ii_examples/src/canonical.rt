@@ -1,8 +1,8 @@
-//! Any item, read, and written in its canonical spelling.
+//! Any item, read, and written in its canonical encoding.
 ghost use Rattle.std.specs.Prelude.{◌≡◌, IfOk, Some};
-ghost use Rattle.cbor4ii_tree.specs.Canonical.{canon};
+ghost use Rattle.cbor4ii_tree.specs.Canonical.{canonical_encoding};
 ghost use Rattle.cbor4ii_tree.specs.Item.{Item};
-ghost use Rattle.cbor4ii_tree.specs.Spelling.{ReadsPlainly};
+ghost use Rattle.cbor4ii_tree.specs.Encodings.{DecodesTo};
 
 use cbor4ii_items::decode::Decode;
 use cbor4ii_items::encode::Encode;
@@ -12,10 +12,10 @@ use cbor4ii_rw::slice_reader::SliceReader;
 use cbor4ii_tree::Value;
 use std::alloc::Global;
 
-/// The canonical spelling of the item at the front of `input`, and what follows that item.
+/// The canonical encoding of the item at the front of `input`, and what follows that item.
 pub fn canonical(alloc: Global, input: &[u8]) -> Result<(Vec<u8>, &[u8]), DecodeError<Never>>
     ensures { IfOk result (λ parts. (v : Item) ×
-        ReadsPlainly input.now (Some 256) v parts.1.now × (parts.0.items ≡ canon v)) }
+        DecodesTo input.now (Some 256) v parts.1.now × (parts.0.items ≡ canonical_encoding v)) }
 {
     let mut reader = SliceReader::new(input);
     let value = Value::decode(alloc, &mut reader)?;

@@ -1,8 +1,8 @@
 //! An enum with variants of each kind, which a function reads.
 ghost use Rattle.std.specs.Prelude.{◌∷◌, [], codes};
-ghost use Rattle.cbor4ii_items.specs.Strings.{counted_string};
-ghost use Rattle.cbor4ii_ser.specs.Item.{encoded, field, struct_item, tuple_variant_item};
-ghost use Rattle.cbor4ii_ser.specs.Item.{variant_item};
+ghost use Rattle.cbor4ii_items.specs.Strings.{definite_string};
+ghost use Rattle.cbor4ii_ser.specs.Item.{encoded, field, struct_encoding, tuple_variant_encoding};
+ghost use Rattle.cbor4ii_ser.specs.Item.{variant_encoding};
 ghost use Rattle.cbor4ii_examples.specs.declared.enumeration.Enum.TheVariants.{Unit, NewType};
 ghost use Rattle.cbor4ii_examples.specs.declared.enumeration.Enum.TheVariants.{Tuple, Struct};
 
@@ -21,14 +21,14 @@ pub enum Enum {
 }
 
 impl Serialize for Enum {
-    ghost item = { λ e. elim e [
-      | Unit ↦ encoded (counted_string 3 (codes "Unit"))
-      | NewType n ↦ variant_item (codes "NewType") (⟦<u32 as Serialize>⟧.item n)
-      | Tuple s b ↦ tuple_variant_item (codes "Tuple") (⟦<String as Serialize>⟧.item s
-          ∷ ⟦<bool as Serialize>⟧.item b ∷ [])
-      | Struct x y ↦ variant_item (codes "Struct") (struct_item (
-          field (codes "x") (⟦<u32 as Serialize>⟧.item x)
-          ∷ field (codes "y") (⟦<i32 as Serialize>⟧.item y) ∷ []))
+    ghost encoding = { λ e. elim e [
+      | Unit ↦ encoded (definite_string 3 (codes "Unit"))
+      | NewType n ↦ variant_encoding (codes "NewType") (⟦<u32 as Serialize>⟧.encoding n)
+      | Tuple s b ↦ tuple_variant_encoding (codes "Tuple") (⟦<String as Serialize>⟧.encoding s
+          ∷ ⟦<bool as Serialize>⟧.encoding b ∷ [])
+      | Struct x y ↦ variant_encoding (codes "Struct") (struct_encoding (
+          field (codes "x") (⟦<u32 as Serialize>⟧.encoding x)
+          ∷ field (codes "y") (⟦<i32 as Serialize>⟧.encoding y) ∷ []))
     ] };
 
     fn serialize<W: Write>(&self, ser: &mut Serializer<W>) -> Result<(), EncodeError<W::Error>> {

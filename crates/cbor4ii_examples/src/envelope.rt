@@ -1,7 +1,7 @@
 //! A signed envelope: the payload's bytes are checked as they stand, and read after that.
 ghost use Rattle.std.specs.Prelude.{◌≡◌, ◌∷◌, [], ℕ, List, codes, IfOk, IsTrue};
 ghost use Rattle.cbor4ii_tree.specs.Raw.{raw_content};
-ghost use Rattle.cbor4ii_ser.specs.Item.{field, struct_item};
+ghost use Rattle.cbor4ii_ser.specs.Item.{field, struct_encoding};
 ghost use Rattle.cbor4ii.specs.Fields.{no_values};
 ghost use Rattle.cbor4ii.specs.Made.{made_from};
 ghost use Rattle.cbor4ii.specs.Presence.{struct_from, required, no_others};
@@ -31,9 +31,10 @@ pub struct Envelope<'a> {
 }
 
 impl<'a> Serialize for Envelope<'a> {
-    ghost item = { λ e. struct_item (field (codes "key") (⟦<u32 as Serialize>⟧.item e.key)
-        ∷ field (codes "signature") (⟦<Bytes<&'a [u8]> as Serialize>⟧.item e.signature)
-        ∷ field (codes "payload") (⟦<RawValue<'a> as Serialize>⟧.item e.payload) ∷ []) };
+    ghost encoding = { λ e. struct_encoding
+        (field (codes "key") (⟦<u32 as Serialize>⟧.encoding e.key)
+        ∷ field (codes "signature") (⟦<Bytes<&'a [u8]> as Serialize>⟧.encoding e.signature)
+        ∷ field (codes "payload") (⟦<RawValue<'a> as Serialize>⟧.encoding e.payload) ∷ []) };
 
     fn serialize<W: Write>(&self, ser: &mut Serializer<W>) -> Result<(), EncodeError<W::Error>> {
         ser.serialize_3_fields(

@@ -2,7 +2,7 @@
 ghost use Rattle.std.specs.Prelude.{◌≡◌, codes};
 ghost use Rattle.std.proofs.Common.{refl};
 ghost use Rattle.cbor4ii.specs.CodecCases.{enum_codec, unit_variant, variant, no_case};
-ghost use Rattle.cbor4ii.specs.CodecFields.{struct_codec, part, no_parts};
+ghost use Rattle.cbor4ii.specs.CodecFields.{struct_codec, with_field, no_fields};
 ghost use Rattle.cbor4ii.specs.Fields.{no_values};
 ghost use Rattle.cbor4ii_examples.specs.Event.{choice_of};
 
@@ -32,7 +32,7 @@ pub enum Event {
 
 /// The variant's name as a text, or a map of the name to the content.
 impl Serialize for Event {
-    ghost item = { ⟦<Event as Described>⟧.codec.item };
+    ghost encoding = { ⟦<Event as Described>⟧.codec.encoding };
 
     fn serialize<W: Write>(&self, ser: &mut Serializer<W>) -> Result<(), EncodeError<W::Error>> {
         match self {
@@ -119,8 +119,9 @@ impl Typed for Name {
 
 impl Described for Name {
     ghost codec = { struct_codec (λ n. (n.id, (n.name, no_values)))
-        (part (codes "id") (codes "a name has no id") ⟦<u32 as Described>⟧.codec
-        (part (codes "name") (codes "a name has no text") ⟦<String as Described>⟧.codec no_parts
+        (with_field (codes "id") (codes "a name has no id") ⟦<u32 as Described>⟧.codec
+        (with_field (codes "name") (codes "a name has no text") ⟦<String as Described>⟧.codec
+        no_fields
         refl) refl) refl };
 }
 

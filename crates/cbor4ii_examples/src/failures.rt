@@ -1,6 +1,6 @@
 //! A value that has a part of each kind, written by writers that fail.
 ghost use Rattle.std.specs.Prelude.{◌∷◌, [], false, string_bytes};
-ghost use Rattle.cbor4ii_ser.specs.TextState.{text_item};
+ghost use Rattle.cbor4ii_ser.specs.TextState.{text_encoding};
 
 use crate::enumeration::Enum;
 use crate::point::Point;
@@ -19,7 +19,7 @@ use std::test::Fail;
 struct InPieces((String, String));
 
 impl Serialize for InPieces {
-    ghost item = { λ t. text_item false (string_bytes t.0.0 ∷ string_bytes t.0.1 ∷ []) };
+    ghost encoding = { λ t. text_encoding false (string_bytes t.0.0 ∷ string_bytes t.0.1 ∷ []) };
 
     fn serialize<W: Write>(&self, ser: &mut Serializer<W>) -> Result<(), EncodeError<W::Error>> {
         ser.collect_str(&self.0)

@@ -1,7 +1,7 @@
 //! A struct that borrows from the input.
 ghost use Rattle.std.specs.Prelude.{◌≡◌, codes};
 ghost use Rattle.std.proofs.Common.{refl};
-ghost use Rattle.cbor4ii.specs.CodecFields.{struct_codec, part, no_parts};
+ghost use Rattle.cbor4ii.specs.CodecFields.{struct_codec, with_field, no_fields};
 ghost use Rattle.cbor4ii.specs.Fields.{no_values};
 
 use cbor4ii::serde::{
@@ -18,12 +18,12 @@ use std::alloc::Global;
 pub struct Label<'a> {
     /// The number.
     pub id: u8,
-    /// The text, a part of the input.
+    /// The text, a slice of the input.
     pub text: &'a str,
 }
 
 impl<'a> Serialize for Label<'a> {
-    ghost item = { ⟦<Label<'a> as Described>⟧.codec.item };
+    ghost encoding = { ⟦<Label<'a> as Described>⟧.codec.encoding };
 
     fn serialize<W: Write>(&self, ser: &mut Serializer<W>) -> Result<(), EncodeError<W::Error>> {
         ser.serialize_2_fields("Label", "id", &self.id, "text", &self.text)
@@ -57,8 +57,9 @@ impl<'a> Typed for Label<'a> {
 
 impl<'a> Described for Label<'a> {
     ghost codec = { struct_codec (λ l. (l.id, (l.text, no_values)))
-        (part (codes "id") (codes "a label has no id") ⟦<u8 as Described>⟧.codec
-        (part (codes "text") (codes "a label has no text") ⟦<&'a str as Described>⟧.codec no_parts
+        (with_field (codes "id") (codes "a label has no id") ⟦<u8 as Described>⟧.codec
+        (with_field (codes "text") (codes "a label has no text") ⟦<&'a str as Described>⟧.codec
+        no_fields
         refl) refl) refl };
 }
 

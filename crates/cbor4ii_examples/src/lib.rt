@@ -2,7 +2,7 @@
 //!
 //! | recipe | what it shows |
 //! |---|---|
-//! | `canonical` | any item, read, and written in its canonical spelling |
+//! | `canonical` | any item, read, and written in its canonical encoding |
 //! | `texts` | a text, borrowed from the input or joined out of a stream |
 //! | `raw_items` | items that are kept as their bytes, and one that is skipped |
 //! | `by_hand` | a map of two members, written and read by hand, with no contract |
@@ -12,13 +12,13 @@
 //! | `enumeration` | an enum with variants of each kind, which a function reads |
 //! | `event` | an enum that is read inside other types, as in a vector or a map |
 //! | `reply` | a struct of which a field is left out where it is none |
-//! | `settings` | a struct of eight fields with defaults, and at which byte its reading stops |
+//! | `settings` | a struct of eight fields with defaults, and at which byte its reading fails |
 //! | `log` | a log of events, out of parts that are cut anywhere or out of a stream |
 //! | `meters` | a newtype, read and written as what it holds |
 //! | `nest` | a type that holds values of its own kind |
 //! | `tree` | a struct that holds values of its own kind, written in one call and read as a value |
-//! | `station` | a type that is read and written by hand, each refusal proved |
-//! | `store` | what a content-addressed store checks: one item, in its canonical spelling |
+//! | `station` | a type that is read and written by hand, each error proved |
+//! | `store` | what a content-addressed store checks: one item, in its canonical encoding |
 //! | `envelope` | a signed payload, checked as its bytes stand and then read |
 //!
 //! The rows' values come from RFC 8949 and from worked examples, never from this codec's own
@@ -39,7 +39,7 @@ pub mod nest;
 pub mod point;
 pub mod raw_items;
 #[cfg(test)]
-mod refusal;
+mod rejected;
 pub mod reply;
 pub mod sample;
 pub mod settings;

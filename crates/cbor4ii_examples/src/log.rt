@@ -40,7 +40,7 @@ impl<E> Fault<E> {
 ///
 /// # Errors
 ///
-/// As `next_event` refuses the event at which reading stops, but for `Eof`. `Core` of `OutOfMemory`
+/// As `next_event` rejects the event at which reading fails, but for `Eof`. `Core` of `OutOfMemory`
 /// where there is no memory for the batch.
 pub fn whole_events(alloc: Global, part: &[u8]) -> Result<Batch, Fault<Never>>
     ensures { IfOk result (λ batch. batch.taken ≤ length part.now) }
@@ -54,7 +54,7 @@ pub fn whole_events(alloc: Global, part: &[u8]) -> Result<Batch, Fault<Never>>
             Ok(Some(event)) => put(&mut events, event, taken)?,
             Ok(None) => break,
             Err(error) if ends_early(&error) => break,
-            Err(error) => return Err(refused(taken, error)),
+            Err(error) => return Err(rejected(taken, error)),
         }
         taken = part.len().saturating_sub(reader.remaining().len());
     }
@@ -65,7 +65,7 @@ pub fn whole_events(alloc: Global, part: &[u8]) -> Result<Batch, Fault<Never>>
 ///
 /// # Errors
 ///
-/// As `next_event` refuses the event at which reading stops. Each one before it was handed on.
+/// As `next_event` rejects the event at which reading fails. Each one before it was handed on.
 /// Where the event is cut, reading goes on at its first byte, once more of it is there.
 pub fn replay<R: BufRead + Drop, F: FnMut(Event) + Drop>(
     alloc: Global,
@@ -116,15 +116,15 @@ fn is_at_end<S: Source>(reader: &mut S) -> Result<bool, DecodeError<S::Error>> {
     }
 }
 
-// Puts an event behind the others.
+// Puts an event after the others.
 fn put(events: &mut Vec<Event>, event: Event, at: usize) -> Result<(), Fault<Never>> {
     match events.push(event) {
         Ok(()) => Ok(()),
-        Err(_) => Err(refused(at, DecodeError::Core(CoreError::OutOfMemory))),
+        Err(_) => Err(rejected(at, DecodeError::Core(CoreError::OutOfMemory))),
     }
 }
 
-fn refused(at: usize, error: DecodeError<Never>) -> Fault<Never> {
+fn rejected(at: usize, error: DecodeError<Never>) -> Fault<Never> {
     Fault {
         at: at as u64,
         error,

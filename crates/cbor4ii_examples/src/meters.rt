@@ -14,7 +14,7 @@ use std::alloc::Global;
 pub struct Meters(pub u32);
 
 impl Serialize for Meters {
-    ghost item = { ⟦<Meters as Described>⟧.codec.item };
+    ghost encoding = { ⟦<Meters as Described>⟧.codec.encoding };
 
     fn serialize<W: Write>(&self, ser: &mut Serializer<W>) -> Result<(), EncodeError<W::Error>> {
         self.0.serialize(ser)

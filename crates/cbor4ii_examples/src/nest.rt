@@ -21,7 +21,7 @@ pub struct Nest {
 
 /// An array of arrays.
 impl Serialize for Nest {
-    ghost item = { nest_item };
+    ghost encoding = { nest_item };
 
     #[tactic(auto, using(crate::specs::declared::nest::Nest::the_lemmas, cbor4ii_ser::specs::Laws::Inside::values_inside,))]
     fn serialize<W: Write>(&self, ser: &mut Serializer<W>) -> Result<(), EncodeError<W::Error>> {
@@ -43,7 +43,7 @@ impl<S: Source> Deserialize<S> for Nest {
 ///
 /// # Errors
 ///
-/// As `deserialize_seq` and `starts_element` refuse the array at which reading stops; `Core` of
+/// As `deserialize_seq` and `starts_element` reject the array at which reading fails; `Core` of
 /// `OutOfMemory` where there is no memory for a list.
 pub fn read_nest<S: Source>(
     alloc: Global,

@@ -3,7 +3,7 @@ ghost use Rattle.std.specs.Prelude.{◌≡◌, ◌<◌, ◌≤◌, ◌^◌, ℤ,
 ghost use Rattle.std.proofs.Common.{refl};
 ghost use Rattle.cbor4ii_items.specs.Numbers.{IsWithin};
 ghost use Rattle.cbor4ii_ser.specs.OneItem.{IsOneItem, canonical};
-ghost use Rattle.cbor4ii.specs.CodecFields.{struct_codec, part, part_or, no_parts};
+ghost use Rattle.cbor4ii.specs.CodecFields.{struct_codec, with_field, with_field_or, no_fields};
 ghost use Rattle.cbor4ii.specs.Fields.{no_values};
 ghost use Rattle.cbor4ii.specs.ReadBack.{IsReadBack};
 
@@ -25,7 +25,7 @@ pub struct Point {
 }
 
 impl Serialize for Point {
-    ghost item = { ⟦<Point as Described>⟧.codec.item };
+    ghost encoding = { ⟦<Point as Described>⟧.codec.encoding };
 
     fn serialize<W: Write>(&self, ser: &mut Serializer<W>) -> Result<(), EncodeError<W::Error>> {
         ser.serialize_3_fields("Point", "x", &self.x, "name", &self.name, "y", &self.y)
@@ -61,20 +61,21 @@ impl Typed for Point {
 
 impl Described for Point {
     ghost codec = { struct_codec (λ p. (p.x, (p.name, (p.y, no_values))))
-        (part (codes "x") (codes "a point has no x") ⟦<u32 as Described>⟧.codec
-        (part (codes "name") (codes "a point has no name") ⟦<String as Described>⟧.codec
-        (part_or (codes "y") None ⟦<Option<i32> as Described>⟧.codec no_parts refl) refl) refl)
+        (with_field (codes "x") (codes "a point has no x") ⟦<u32 as Described>⟧.codec
+        (with_field (codes "name") (codes "a point has no name") ⟦<String as Described>⟧.codec
+        (with_field_or (codes "y") None ⟦<Option<i32> as Described>⟧.codec no_fields refl)
+        refl) refl)
         refl };
 }
 
 /// What a `Point` writes is one canonical item, and is read back as that `Point`, whatever follows
 /// it, in two steps at most.
 pub fn point_is_read_back(alloc: Global, point: &Point)
-    ensures back { IsReadBack ⟦<Point as Typed>⟧.promise.spelling.reads
-        (⟦<Point as Serialize>⟧.item point.now) point.now
+    ensures back { IsReadBack ⟦<Point as Typed>⟧.promise.format.reads
+        (⟦<Point as Serialize>⟧.encoding point.now) point.now
         (⟦<Point as Described>⟧.codec.cost point.now) }
     ensures cost { ⟦<Point as Described>⟧.codec.cost point.now ≤ 2 }
-    ensures one { IsOneItem canonical (⟦<Point as Serialize>⟧.item point.now) }
+    ensures one { IsOneItem canonical (⟦<Point as Serialize>⟧.encoding point.now) }
 {
     numbers_are_in_range(point.x, point.y);
     described_values_are_read_back::<Point>();

@@ -11,7 +11,7 @@ pub fn raw_items(alloc: Global, input: &[u8]) -> Result<Vec<RawValue<'_>>, Decod
 }
 
 /// What follows the item at the front of `input`, whatever that is.
-pub fn behind_first(alloc: Global, input: &[u8]) -> Result<&[u8], DecodeError<Never>> {
+pub fn after_first(alloc: Global, input: &[u8]) -> Result<&[u8], DecodeError<Never>> {
     let mut reader = SliceReader::new(input);
     IgnoredAny::decode(alloc, &mut reader)?;
     Ok(reader.remaining())

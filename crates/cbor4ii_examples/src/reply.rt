@@ -1,7 +1,8 @@
 //! A struct of which a field is left out where it is none.
 ghost use Rattle.std.specs.Prelude.{◌≡◌, codes};
 ghost use Rattle.std.proofs.Common.{refl};
-ghost use Rattle.cbor4ii.specs.CodecFields.{struct_codec, part, part_optional, no_parts};
+ghost use Rattle.cbor4ii.specs.CodecFields.{struct_codec, with_field, with_optional_field};
+ghost use Rattle.cbor4ii.specs.CodecFields.{no_fields};
 ghost use Rattle.cbor4ii.specs.Fields.{no_values};
 
 use cbor4ii::serde::{
@@ -18,13 +19,13 @@ use std::alloc::Global;
 pub struct Reply {
     /// The status.
     pub status: u16,
-    /// Why, where it is told.
+    /// Why, where it is reported.
     pub reason: Option<String>,
 }
 
 /// A map of two fields, or of the status alone.
 impl Serialize for Reply {
-    ghost item = { ⟦<Reply as Described>⟧.codec.item };
+    ghost encoding = { ⟦<Reply as Described>⟧.codec.encoding };
 
     fn serialize<W: Write>(&self, ser: &mut Serializer<W>) -> Result<(), EncodeError<W::Error>> {
         match &self.reason {
@@ -66,8 +67,9 @@ impl Typed for Reply {
 
 impl Described for Reply {
     ghost codec = { struct_codec (λ r. (r.status, (r.reason, no_values)))
-        (part (codes "status") (codes "a reply has no status") ⟦<u16 as Described>⟧.codec
-        (part_optional (codes "reason") ⟦<String as Described>⟧.codec no_parts refl) refl) refl };
+        (with_field (codes "status") (codes "a reply has no status") ⟦<u16 as Described>⟧.codec
+        (with_optional_field (codes "reason") ⟦<String as Described>⟧.codec
+        no_fields refl) refl) refl };
 }
 
 #[cfg(test)]

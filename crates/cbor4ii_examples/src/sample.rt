@@ -1,7 +1,7 @@
 //! A struct that is written part by part, and read in one call.
 ghost use Rattle.std.specs.Prelude.{◌≡◌, None, codes};
 ghost use Rattle.std.proofs.Common.{refl};
-ghost use Rattle.cbor4ii.specs.CodecFields.{struct_codec, part, part_or, no_parts};
+ghost use Rattle.cbor4ii.specs.CodecFields.{struct_codec, with_field, with_field_or, no_fields};
 ghost use Rattle.cbor4ii.specs.Fields.{no_values};
 
 use cbor4ii::serde::{
@@ -26,7 +26,7 @@ pub struct Sample {
 
 /// A map of three fields, in this order; a note that is missing is null.
 impl Serialize for Sample {
-    ghost item = { ⟦<Sample as Described>⟧.codec.item };
+    ghost encoding = { ⟦<Sample as Described>⟧.codec.encoding };
 
     fn serialize<W: Write>(&self, ser: &mut Serializer<W>) -> Result<(), EncodeError<W::Error>> {
         let mut fields = ser.serialize_struct("Sample", 3)?;
@@ -71,9 +71,10 @@ impl Typed for Sample {
 
 impl Described for Sample {
     ghost codec = { struct_codec (λ s. (s.sensor, (s.value, (s.note, no_values))))
-        (part (codes "sensor") (codes "a sample has no sensor") ⟦<String as Described>⟧.codec
-        (part (codes "value") (codes "a sample has no value") ⟦<i64 as Described>⟧.codec
-        (part_or (codes "note") None ⟦<Option<String> as Described>⟧.codec no_parts refl) refl)
+        (with_field (codes "sensor") (codes "a sample has no sensor") ⟦<String as Described>⟧.codec
+        (with_field (codes "value") (codes "a sample has no value") ⟦<i64 as Described>⟧.codec
+        (with_field_or (codes "note") None ⟦<Option<String> as Described>⟧.codec no_fields
+        refl) refl)
         refl) refl };
 }
 

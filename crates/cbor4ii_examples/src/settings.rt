@@ -1,7 +1,8 @@
-//! A struct of eight fields with defaults, and at which byte its reading stops.
+//! A struct of eight fields with defaults, and at which byte its reading fails.
 ghost use Rattle.std.specs.Prelude.{◌≡◌, None, false, codes};
 ghost use Rattle.std.proofs.Common.{refl};
-ghost use Rattle.cbor4ii.specs.CodecFields.{struct_codec, part_once, part_or, no_parts};
+ghost use Rattle.cbor4ii.specs.CodecFields.{struct_codec, with_field_once, with_field_or};
+ghost use Rattle.cbor4ii.specs.CodecFields.{no_fields};
 ghost use Rattle.cbor4ii.specs.Fields.{no_values};
 
 use cbor4ii::serde::{
@@ -38,7 +39,7 @@ pub struct Settings {
 }
 
 impl Serialize for Settings {
-    ghost item = { ⟦<Settings as Described>⟧.codec.item };
+    ghost encoding = { ⟦<Settings as Described>⟧.codec.encoding };
 
     fn serialize<W: Write>(&self, ser: &mut Serializer<W>) -> Result<(), EncodeError<W::Error>> {
         ser.serialize_8_fields(
@@ -140,18 +141,20 @@ impl Described for Settings {
         ),
       ),
     ))
-        (part_once (codes "host") (codes "settings have one host") ⟦<String as Described>⟧.codec
-        (part_or (codes "port") 8080 ⟦<u16 as Described>⟧.codec
-        (part_or (codes "verbose") false ⟦<bool as Described>⟧.codec
-        (part_or (codes "workers") 4 ⟦<u8 as Described>⟧.codec
-        (part_or (codes "cache") 0 ⟦<u64 as Described>⟧.codec
-        (part_or (codes "proxy") None ⟦<Option<String> as Described>⟧.codec
-        (part_or (codes "plugins") None ⟦<Option<Vec<String>> as Described>⟧.codec
-        (part_or (codes "greeting") None ⟦<Option<String> as Described>⟧.codec no_parts refl) refl)
+        (with_field_once (codes "host") (codes "settings have one host")
+        ⟦<String as Described>⟧.codec
+        (with_field_or (codes "port") 8080 ⟦<u16 as Described>⟧.codec
+        (with_field_or (codes "verbose") false ⟦<bool as Described>⟧.codec
+        (with_field_or (codes "workers") 4 ⟦<u8 as Described>⟧.codec
+        (with_field_or (codes "cache") 0 ⟦<u64 as Described>⟧.codec
+        (with_field_or (codes "proxy") None ⟦<Option<String> as Described>⟧.codec
+        (with_field_or (codes "plugins") None ⟦<Option<Vec<String>> as Described>⟧.codec
+        (with_field_or (codes "greeting") None ⟦<Option<String> as Described>⟧.codec no_fields
+        refl) refl)
         refl) refl) refl) refl) refl) refl) refl };
 }
 
-/// Settings that were refused.
+/// Settings that were rejected.
 #[derive(Debug, PartialEq, Drop)]
 pub struct Fault {
     /// How many bytes were taken, from the first one.

@@ -1,10 +1,10 @@
 //! A record that is read and written by hand: what a type of one's own needs in order to be one.
 ghost use Rattle.cbor4ii_items.specs.Decoding.{Decodes};
-ghost use Rattle.cbor4ii_examples.specs.Station.{station_bytes, opening_spelling, end_spelling};
-ghost use Rattle.cbor4ii_examples.specs.Station.{station_spelling};
+ghost use Rattle.cbor4ii_examples.specs.Station.{station_bytes, opening_format, end_format};
+ghost use Rattle.cbor4ii_examples.specs.Station.{station_format};
 ghost use Rattle.cbor4ii_examples.specs.StationLaws.{station_lawful};
 
-use cbor4ii_items::decode::{Decode, Spelled};
+use cbor4ii_items::decode::{Decodable, Decode};
 use cbor4ii_items::encode::Encode;
 use cbor4ii_items::indefinite::is_break;
 use cbor4ii_items::types::Array;
@@ -22,8 +22,8 @@ pub struct Station {
     pub name: String,
 }
 
-impl Spelled for Station {
-    ghost spelling = { station_spelling };
+impl Decodable for Station {
+    ghost format = { station_format };
 
     fn is_never_empty() -> bool {
         true
@@ -32,23 +32,23 @@ impl Spelled for Station {
     ghost lawful = { station_lawful };
 }
 
-/// Refused as its parts are, in their order: the length by the name "array", the number as a u64,
+/// Rejected as its parts are, in their order: the length by the name "array", the number as a u64,
 /// the name as a text, and the break of an array of indefinite length. By the name "station":
 /// `RequireLength` with the count where it is not 2, what follows being left; `RequireLength` with
 /// `Indefinite` where another byte stands in the place of the break, and it is left.
 impl<S: Source> Decode<S> for Station {
     fn decode(alloc: Global, reader: &mut S) -> Result<Station, DecodeError<S::Error>> {
-        let is_open = take_opening(reader)?;
+        let is_indefinite = take_opening(reader)?;
         let id = u64::decode(alloc, reader)?;
         let name = String::decode(alloc, reader)?;
-        take_end(reader, is_open)?;
+        take_end(reader, is_indefinite)?;
         Ok(Station { id, name })
     }
 }
 
 /// Takes the head of an array of two items, and answers whether its length is indefinite.
 fn take_opening<S: Source>(reader: &mut S) -> Result<bool, DecodeError<S::Error>>
-    ensures { Decodes opening_spelling (S.view reader.old) (S.view reader.new) result }
+    ensures { Decodes opening_format (S.view reader.old) (S.view reader.new) result }
 {
     match Array::len(reader)? {
         None => Ok(true),
@@ -61,11 +61,11 @@ fn take_opening<S: Source>(reader: &mut S) -> Result<bool, DecodeError<S::Error>
 }
 
 /// Takes the break of an array of indefinite length.
-fn take_end<S: Source>(reader: &mut S, is_open: bool) -> Result<(), DecodeError<S::Error>>
-    ensures { Decodes (end_spelling is_open)
+fn take_end<S: Source>(reader: &mut S, is_indefinite: bool) -> Result<(), DecodeError<S::Error>>
+    ensures { Decodes (end_format is_indefinite)
         (S.view reader.old) (S.view reader.new) result }
 {
-    if !is_open || is_break(reader)? {
+    if !is_indefinite || is_break(reader)? {
         return Ok(());
     }
     Err(DecodeError::RequireLength {
@@ -74,7 +74,7 @@ fn take_end<S: Source>(reader: &mut S, is_open: bool) -> Result<(), DecodeError<
     })
 }
 
-/// An array of two items, each in its shortest spelling.
+/// An array of two items, each in its shortest encoding.
 impl Encode for Station {
     ghost bytes = { station_bytes };
 

@@ -1,8 +1,8 @@
-//! What a content-addressed store checks: that bytes are one item, in its canonical spelling.
+//! What a content-addressed store checks: that bytes are one item, in its canonical encoding.
 ghost use Rattle.std.specs.Prelude.{◌≡◌, [], Some, IfOk, OnOk};
-ghost use Rattle.cbor4ii_tree.specs.Canonical.{canon};
+ghost use Rattle.cbor4ii_tree.specs.Canonical.{canonical_encoding};
 ghost use Rattle.cbor4ii_tree.specs.Item.{Item};
-ghost use Rattle.cbor4ii_tree.specs.Spelling.{ReadsPlainly};
+ghost use Rattle.cbor4ii_tree.specs.Encodings.{DecodesTo};
 ghost use Rattle.cbor4ii_tree.specs.View.{view};
 ghost use Rattle.cbor4ii_examples.specs.declared.store.StoreError.TheVariants.{Decode};
 
@@ -16,7 +16,7 @@ use std::alloc::Global;
 use std::error::Error;
 use std::fmt;
 
-/// Why a store refuses bytes.
+/// Why a store rejects bytes.
 #[derive(Debug, PartialEq, Drop)]
 pub enum StoreError {
     /// They do not begin with an item that is read, or there was no memory.
@@ -27,7 +27,7 @@ pub enum StoreError {
 
 /// As `Decode`.
 impl From<DecodeError<Never>> for StoreError {
-    ghost from_gives = { λ error refusal. refusal ≡ Decode error };
+    ghost from_gives = { λ error rejection. rejection ≡ Decode error };
 
     fn from(error: DecodeError<Never>) -> StoreError {
         StoreError::Decode(error)
@@ -46,7 +46,7 @@ impl fmt::Display for StoreError {
 
 impl Error for StoreError {}
 
-/// The canonical spelling of the one item that `input` is: what the store hashes and keeps.
+/// The canonical encoding of the one item that `input` is: what the store hashes and keeps.
 ///
 /// # Errors
 ///
@@ -54,7 +54,7 @@ impl Error for StoreError {}
 /// written. `Trailing` where bytes follow the item.
 pub fn canonical_bytes(alloc: Global, input: &[u8]) -> Result<Vec<u8>, StoreError>
     ensures { IfOk result (λ bytes. (v : Item) ×
-        ReadsPlainly input.now (Some 256) v [] × (bytes.items ≡ canon v)) }
+        DecodesTo input.now (Some 256) v [] × (bytes.items ≡ canonical_encoding v)) }
 {
     let mut reader = SliceReader::new(input);
     let value = Value::decode(alloc, &mut reader)?;
@@ -66,14 +66,14 @@ pub fn canonical_bytes(alloc: Global, input: &[u8]) -> Result<Vec<u8>, StoreErro
     }
 }
 
-/// The value that the store keeps as `input`: one item, in its canonical spelling and no other.
+/// The value that the store keeps as `input`: one item, in its canonical encoding and no other.
 ///
 /// # Errors
 ///
-/// `Decode` of the errors of `Canonical`, as `NotCanonical` for another spelling. `Trailing` where
+/// `Decode` of the errors of `Canonical`, as `NotCanonical` for another encoding. `Trailing` where
 /// bytes follow the item.
 pub fn stored_value(alloc: Global, input: &[u8]) -> Result<Value, StoreError>
-    ensures { IfOk result (λ value. input.now ≡ canon (view value)) }
+    ensures { IfOk result (λ value. input.now ≡ canonical_encoding (view value)) }
 {
     let mut reader = SliceReader::new(input);
     let Canonical(value) = Canonical::decode(alloc, &mut reader)?;

@@ -24,7 +24,7 @@ pub struct Tree {
 
 /// A map of three fields, in this order.
 impl Serialize for Tree {
-    ghost item = { tree_item };
+    ghost encoding = { tree_item };
 
     #[tactic(auto, using(crate::specs::declared::tree::Tree::the_lemmas, cbor4ii_ser::specs::Laws::Inside::values_inside,))]
     fn serialize<W: Write>(&self, ser: &mut Serializer<W>) -> Result<(), EncodeError<W::Error>> {

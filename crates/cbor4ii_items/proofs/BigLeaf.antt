@@ -7,10 +7,11 @@ use Rattle.std.specs.Prelude.{ℤ, pos, negsuc, codes}
 use Rattle.std.proofs.lemmas.List.{length-drop, length-append}
 use Rattle.std.proofs.Math.Seq.{take-add}
 use Rattle.cbor4ii_rw.specs.declared.error.Len.TheVariants.{Small, Indefinite}
-use Rattle.cbor4ii_items.specs.Head.{IsBytes, open_head}
-use Rattle.cbor4ii_items.specs.Refusal.{Refusal, eof, mismatch, require_length, length_overflow}
-use Rattle.cbor4ii_items.specs.Refusal.{len_of}
-use Rattle.cbor4ii_items.specs.Reading.{give, refuse, ◌>=>◌}
+use Rattle.cbor4ii_items.specs.Head.{IsBytes, indefinite_head}
+use Rattle.cbor4ii_items.specs.InputError.{InputError, eof, mismatch, require_length}
+use Rattle.cbor4ii_items.specs.InputError.{length_overflow}
+use Rattle.cbor4ii_items.specs.InputError.{len_of}
+use Rattle.cbor4ii_items.specs.Reading.{give, reject, ◌>=>◌}
 use Rattle.cbor4ii_items.specs.Heads.{ReadsHead}
 use Rattle.cbor4ii_items.specs.ReadHead.{head_at, head_by, length_at, number_on}
 use Rattle.cbor4ii_items.specs.Laws.Heads.{read_head, number_inverse, IsBytes-take}
@@ -19,60 +20,62 @@ use Rattle.cbor4ii_items.specs.ReadNumber.{u128_at, small_magnitude_at, signed_b
 use Rattle.cbor4ii_items.specs.ReadNumber.{as_positive, as_negative}
 use Rattle.cbor4ii_items.specs.Magnitude.{number_of}
 use Rattle.cbor4ii_items.specs.Numbers.{ReadsMagnitude, ReadsBignum, ReadsU128, ReadsI128}
-use Rattle.cbor4ii_items.specs.Numbers.{StopsMagnitude, length_refused, length_open}
-use Rattle.cbor4ii_items.specs.Numbers.{length_too_great, content_cut, StopsU128, no_u128_byte}
-use Rattle.cbor4ii_items.specs.Numbers.{u128_head_refused, u128_tag_refused, other_u128_tag}
-use Rattle.cbor4ii_items.specs.Numbers.{u128_bytes_refused, StopsI128, no_i128_byte}
-use Rattle.cbor4ii_items.specs.Numbers.{i128_head_refused, i128_negative_refused, i128_tag_refused}
-use Rattle.cbor4ii_items.specs.Numbers.{other_i128_tag, i128_bytes_refused}
-use Rattle.cbor4ii_items.specs.Numbers.{i128_negative_bytes_refused, i128_too_great}
-use Rattle.cbor4ii_items.specs.Laws.Outcome.{same_value, same_refusal}
-use Rattle.cbor4ii_items.specs.Laws.Fronts.{drop_more}
+use Rattle.cbor4ii_items.specs.Numbers.{RejectsMagnitude, length_rejected, length_indefinite}
+use Rattle.cbor4ii_items.specs.Numbers.{length_too_great, content_cut, RejectsU128, no_u128_byte}
+use Rattle.cbor4ii_items.specs.Numbers.{u128_head_rejected, u128_tag_rejected, other_u128_tag}
+use Rattle.cbor4ii_items.specs.Numbers.{u128_bytes_rejected, RejectsI128, no_i128_byte}
+use Rattle.cbor4ii_items.specs.Numbers.{i128_head_rejected, i128_negative_rejected}
+use Rattle.cbor4ii_items.specs.Numbers.{i128_tag_rejected}
+use Rattle.cbor4ii_items.specs.Numbers.{other_i128_tag, i128_bytes_rejected}
+use Rattle.cbor4ii_items.specs.Numbers.{i128_negative_bytes_rejected, i128_too_great}
+use Rattle.cbor4ii_items.specs.Laws.Outcome.{same_value, same_input_error}
+use Rattle.cbor4ii_items.specs.Laws.Prefixes.{drop_more}
 use Rattle.cbor4ii_items.specs.Laws.Bignums.{u128_again, i128_again}
 use Rattle.cbor4ii_items.proofs.Leaves.{IsLeaf}
-use Rattle.cbor4ii_items.proofs.Stopping.{head_stops}
+use Rattle.cbor4ii_items.proofs.Stopping.{head_rejects}
 use Rattle.cbor4ii_items.specs.Laws.ReadingHeads.{number_cut}
-use Rattle.cbor4ii_items.proofs.SignedLeaf.{sign_given, sign_refused}
+use Rattle.cbor4ii_items.proofs.SignedLeaf.{sign_given, sign_rejected}
 use Rattle.cbor4ii_items.specs.Laws.ProgramEnds.{ok_parts, ErrParts, err_parts, Passed, LeavesEnd}
 use Rattle.cbor4ii_items.specs.Laws.ProgramEnds.{number_leaves, head_leaves, length_leaves}
-use Rattle.cbor4ii_items.specs.Laws.ProgramEnds.{if_leaves, then_leaves, refuse_leaves}
+use Rattle.cbor4ii_items.specs.Laws.ProgramEnds.{if_leaves, then_leaves, reject_leaves}
 use Rattle.cbor4ii_items.proofs.BelowLimit.{below_ok, below_err}
 use Rattle.cbor4ii_items.specs.Laws.Contents.{IsBytes-append}
 
 -- ---- lengths
 
 length_ok_by : (t : Bool) (name : List ℕ) (major b : ℕ) (bs : List ℕ) (o : Option ℕ) (ys : List ℕ)
-    → eqb b (open_head major) ≡ t
+    → eqb b (indefinite_head major) ≡ t
     → cond t (give None) (head_by name major 8 b >=> λ n. give (Some n)) bs ≡ Ok (o, ys)
-    → ((o ≡ None) × (b ≡ open_head major) × (ys ≡ bs))
+    → ((o ≡ None) × (b ≡ indefinite_head major) × (ys ≡ bs))
     ⊎ ((v : ℕ) × (o ≡ Some v) × (head_by name major 8 b bs ≡ Ok (v, ys)))
 length_ok_by true name major b bs o ys h e =
     let p = same_value (give {V = Option ℕ} None bs) refl e in
-    inl (sym p.0, eqb-true b (open_head major) h, sym p.1)
+    inl (sym p.0, eqb-true b (indefinite_head major) h, sym p.1)
 length_ok_by false name major b bs o ys h e =
     let p = ok_parts (head_by name major 8 b bs) (λ n. give (Some n)) o ys e in
     let q = same_value (give (Some p.value) p.rest) refl p.ended in
     inr (p.value, sym q.0, p.begun ∙ ap (λ (zs : List ℕ). Ok (p.value, zs)) q.1)
 
--- an open length, or a head's argument
+-- an indefinite length, or a head's argument
 length_ok : (name : List ℕ) (major : ℕ) (xs : List ℕ) (o : Option ℕ) (ys : List ℕ)
     → length_at name major xs ≡ Ok (o, ys)
-    → ((o ≡ None) × (xs ≡ open_head major ∷ ys))
+    → ((o ≡ None) × (xs ≡ indefinite_head major ∷ ys))
     ⊎ ((v : ℕ) × (o ≡ Some v) × (head_at name major 8 xs ≡ Ok (v, ys)))
 length_ok name major [] o ys e = cc
 length_ok name major (b ∷ bs) o ys e =
-    elim (length_ok_by (eqb b (open_head major)) name major b bs o ys refl e) [
+    elim (length_ok_by (eqb b (indefinite_head major)) name major b bs o ys refl e) [
       | inl h ↦ inl (h.0, ap₂ ◌∷◌ h.1 (sym h.2))
       | inr h ↦ inr h
     ]
 
-length_err_by : (t : Bool) (name : List ℕ) (major b : ℕ) (bs : List ℕ) (z : Refusal) (ys : List ℕ)
-    → eqb b (open_head major) ≡ t
+length_err_by : (t : Bool) (name : List ℕ) (major b : ℕ) (bs : List ℕ) (z : InputError)
+    (ys : List ℕ)
+    → eqb b (indefinite_head major) ≡ t
     → cond t (give None) (head_by name major 8 b >=> λ n. give (Some n)) bs ≡ Err (z, ys)
-    → (b ≢ open_head major) × (head_by name major 8 b bs ≡ Err (z, ys))
+    → (b ≢ indefinite_head major) × (head_by name major 8 b bs ≡ Err (z, ys))
 length_err_by true name major b bs z ys h e = cc
 length_err_by false name major b bs z ys h e = (
-  λ same. (let t = eq-eqb b (open_head major) same in cc),
+  λ same. (let t = eq-eqb b (indefinite_head major) same in cc),
   elim (err_parts (head_by name major 8 b bs) (λ n. give (Some n)) z ys e) [
     | inl p ↦ p
     | inr p ↦ (let f = p.ended in cc)
@@ -83,22 +86,22 @@ first_of : (b c : ℕ) (bs : List ℕ) → take 1 (b ∷ bs) ≡ c ∷ [] → b 
 first_of b c bs e = cc
 
 -- neither
-length_err : (name : List ℕ) (major : ℕ) (xs : List ℕ) (z : Refusal) (ys : List ℕ)
+length_err : (name : List ℕ) (major : ℕ) (xs : List ℕ) (z : InputError) (ys : List ℕ)
     → length_at name major xs ≡ Err (z, ys)
-    → (take 1 xs ≡ open_head major ∷ [] → ⊥) × (head_at name major 8 xs ≡ Err (z, ys))
+    → (take 1 xs ≡ indefinite_head major ∷ [] → ⊥) × (head_at name major 8 xs ≡ Err (z, ys))
 length_err name major [] z ys e =
-    let p = same_refusal {V = Option ℕ} (Err (eof name (Small 1), [])) refl e in
-    (λ f. cc, ap (λ (y : Refusal). Err (y, [])) p.0 ∙ ap (λ (zs : List ℕ). Err (z, zs)) p.1)
+    let p = same_input_error {V = Option ℕ} (Err (eof name (Small 1), [])) refl e in
+    (λ f. cc, ap (λ (y : InputError). Err (y, [])) p.0 ∙ ap (λ (zs : List ℕ). Err (z, zs)) p.1)
 length_err name major (b ∷ bs) z ys e =
-    let p = length_err_by (eqb b (open_head major)) name major b bs z ys refl e in
-    (λ f. p.0 (first_of b (open_head major) bs f), p.1)
+    let p = length_err_by (eqb b (indefinite_head major)) name major b bs z ys refl e in
+    (λ f. p.0 (first_of b (indefinite_head major) bs f), p.1)
 
 -- ---- byte strings as numbers
 
 magnitude_by_leaves : (name : List ℕ) (o : Option ℕ) → LeavesEnd (magnitude_by name o)
-magnitude_by_leaves name None = refuse_leaves (require_length name Indefinite)
+magnitude_by_leaves name None = reject_leaves (require_length name Indefinite)
 magnitude_by_leaves name (Some count) =
-    if_leaves (ltb 16 count) (refuse_leaves (length_overflow name (len_of count)))
+    if_leaves (ltb 16 count) (reject_leaves (length_overflow name (len_of count)))
     (number_leaves name count count 0)
 
 magnitude_leaves : (name : List ℕ) → LeavesEnd (magnitude_at name)
@@ -125,19 +128,19 @@ bytes_between i k n xs e h =
     IsBytes-append (take i xs) (take k (drop i xs))
     (subst IsBytes (ap (λ j. take j xs) e ∙ take-add i k xs) h)
 
-counted_ok : (t : Bool) (name : List ℕ) (count v : ℕ) (ys zs : List ℕ) → ltb 16 count ≡ t
-    → cond t (refuse (length_overflow name (len_of count)))
+definite_ok : (t : Bool) (name : List ℕ) (count v : ℕ) (ys zs : List ℕ) → ltb 16 count ≡ t
+    → cond t (reject (length_overflow name (len_of count)))
     (number_on name count count 0) ys ≡ Ok (v, zs)
     → (count ≤ 16) × (number_on name count count 0 ys ≡ Ok (v, zs))
-counted_ok true name count v ys zs h e = cc
-counted_ok false name count v ys zs h e = (ltb-false 16 count h, e)
+definite_ok true name count v ys zs h e = cc
+definite_ok false name count v ys zs h e = (ltb-false 16 count h, e)
 
 content_ok : (name : List ℕ) (o : Option ℕ) (v : ℕ) (ys zs : List ℕ)
     → magnitude_by name o ys ≡ Ok (v, zs)
     → (count : ℕ) × (o ≡ Some count) × (count ≤ 16) × (number_on name count count 0 ys ≡ Ok (v, zs))
 content_ok name None v ys zs e = cc
 content_ok name (Some count) v ys zs e =
-    let p = counted_ok (ltb 16 count) name count v ys zs refl e in (count, refl, p.0, p.1)
+    let p = definite_ok (ltb 16 count) name count v ys zs refl e in (count, refl, p.0, p.1)
 
 length_of_some : (name : List ℕ) (xs : List ℕ) (o : Option ℕ) (count : ℕ) (ys : List ℕ)
     → length_at name 2 xs ≡ Ok (o, ys) → o ≡ Some count → head_at name 2 8 xs ≡ Ok (count, ys)
@@ -191,10 +194,10 @@ head_then : (name : List ℕ) (major width : ℕ) (xs ys : List ℕ) (v n : ℕ)
 head_then name major width xs ys v n e is within bytes =
     read_head name major width xs v n (e ∙ ap (λ (zs : List ℕ). Ok (v, zs)) is) within bytes
 
-content_cut_at : (name : List ℕ) (xs ys : List ℕ) (count : ℕ) (z : Refusal) (n : ℕ)
+content_cut_at : (name : List ℕ) (xs ys : List ℕ) (count : ℕ) (z : InputError) (n : ℕ)
     → head_at name 2 8 xs ≡ Ok (count, ys) → count ≤ 16
     → number_on name count count 0 ys ≡ Err (z, drop n xs) → n ≤ length xs → IsBytes (take n xs)
-    → StopsMagnitude name xs z (drop n xs)
+    → RejectsMagnitude name xs z (drop n xs)
 content_cut_at name xs ys count z n h short e within bytes =
     let p = (head_leaves name 2 8).ok xs count ys h in
     let q = number_cut name count count 0 ys z (drop n xs) e in
@@ -203,52 +206,53 @@ content_cut_at name xs ys count z n h short e within bytes =
     (IsBytes-take p.count n xs (omega (arith, all, p.within)) bytes)) short
     (omega (arith, q.0, ap length p.left, length-drop p.count xs, p.within)) q.1 q.2
 
-counted_stops : (t : Bool) (name : List ℕ) (xs ys : List ℕ) (count : ℕ) (z : Refusal) (n : ℕ)
+definite_rejects : (t : Bool) (name : List ℕ) (xs ys : List ℕ) (count : ℕ) (z : InputError) (n : ℕ)
     → ltb 16 count ≡ t → head_at name 2 8 xs ≡ Ok (count, ys) → n ≤ length xs → IsBytes (take n xs)
-    → cond t (refuse (length_overflow name (len_of count)))
+    → cond t (reject (length_overflow name (len_of count)))
     (number_on name count count 0) ys ≡ Err (z, drop n xs)
-    → StopsMagnitude name xs z (drop n xs)
-counted_stops true name xs ys count z n t h within bytes e =
-    let p = same_refusal (refuse {V = ℕ} (length_overflow name (len_of count)) ys) refl e in
+    → RejectsMagnitude name xs z (drop n xs)
+definite_rejects true name xs ys count z n t h within bytes e =
+    let p = same_input_error (reject {V = ℕ} (length_overflow name (len_of count)) ys) refl e in
     length_too_great count n (head_then name 2 8 xs ys count n h p.1 within bytes)
     (ltb-true 16 count t) (sym p.0) refl
-counted_stops false name xs ys count z n t h within bytes e =
+definite_rejects false name xs ys count z n t h within bytes e =
     content_cut_at name xs ys count z n h (ltb-false 16 count t) e within bytes
 
-length_stops : (name : List ℕ) (xs ys : List ℕ) (o : Option ℕ) (z : Refusal) (n : ℕ) → n ≤ length xs
+length_rejects : (name : List ℕ) (xs ys : List ℕ) (o : Option ℕ) (z : InputError) (n : ℕ) →
+    n ≤ length xs
     → IsBytes (take n xs) → magnitude_by name o ys ≡ Err (z, drop n xs)
-    → ((o ≡ None) × (xs ≡ open_head 2 ∷ ys))
+    → ((o ≡ None) × (xs ≡ indefinite_head 2 ∷ ys))
     ⊎ ((v : ℕ) × (o ≡ Some v) × (head_at name 2 8 xs ≡ Ok (v, ys)))
-    → StopsMagnitude name xs z (drop n xs)
-length_stops name xs ys None z n within bytes e (inl h) =
-    let p = same_refusal (refuse {V = ℕ} (require_length name Indefinite) ys) refl e in
-    length_open (h.1 ∙ ap (λ zs. open_head 2 ∷ zs) p.1) (sym p.0)
-length_stops name xs ys None z n within bytes e (inr h) = let f = h.1 in cc
-length_stops name xs ys (Some count) z n within bytes e (inl h) = let f = h.0 in cc
-length_stops name xs ys (Some count) z n within bytes e (inr h) =
+    → RejectsMagnitude name xs z (drop n xs)
+length_rejects name xs ys None z n within bytes e (inl h) =
+    let p = same_input_error (reject {V = ℕ} (require_length name Indefinite) ys) refl e in
+    length_indefinite (h.1 ∙ ap (λ zs. indefinite_head 2 ∷ zs) p.1) (sym p.0)
+length_rejects name xs ys None z n within bytes e (inr h) = let f = h.1 in cc
+length_rejects name xs ys (Some count) z n within bytes e (inl h) = let f = h.0 in cc
+length_rejects name xs ys (Some count) z n within bytes e (inr h) =
     let f : h.0 ≡ count = let g = h.1 in cc in
-    counted_stops (ltb 16 count) name xs ys count z n refl (h.2 ∙ ap (λ (j : ℕ). Ok (j, ys)) f)
+    definite_rejects (ltb 16 count) name xs ys count z n refl (h.2 ∙ ap (λ (j : ℕ). Ok (j, ys)) f)
     within bytes e
 
-magnitude_parts : (name : List ℕ) (xs : List ℕ) (z : Refusal) (n : ℕ) → n ≤ length xs
+magnitude_parts : (name : List ℕ) (xs : List ℕ) (z : InputError) (n : ℕ) → n ≤ length xs
     → IsBytes (take n xs) → (length_at name 2 xs ≡ Err (z, drop n xs))
     ⊎ ErrParts (length_at name 2 xs) (magnitude_by name) z (drop n xs)
-    → StopsMagnitude name xs z (drop n xs)
+    → RejectsMagnitude name xs z (drop n xs)
 magnitude_parts name xs z n within bytes (inl e) =
     let p = length_err name 2 xs z (drop n xs) e in
-    length_refused p.0 (head_stops name 2 8 xs z (drop n xs) p.1)
+    length_rejected p.0 (head_rejects name 2 8 xs z (drop n xs) p.1)
 magnitude_parts name xs z n within bytes (inr h) =
-    length_stops name xs h.rest h.value z n within bytes h.ended
+    length_rejects name xs h.rest h.value z n within bytes h.ended
     (length_ok name 2 xs h.value h.rest h.begun)
 
-magnitude_stops : (name : List ℕ) (xs : List ℕ) (z : Refusal) (n : ℕ)
+magnitude_rejects : (name : List ℕ) (xs : List ℕ) (z : InputError) (n : ℕ)
     → magnitude_at name xs ≡ Err (z, drop n xs) → n ≤ length xs → IsBytes (take n xs)
-    → StopsMagnitude name xs z (drop n xs)
-magnitude_stops name xs z n e within bytes =
+    → RejectsMagnitude name xs z (drop n xs)
+magnitude_rejects name xs z n e within bytes =
     magnitude_parts name xs z n within bytes
     (err_parts (length_at name 2 xs) (magnitude_by name) z (drop n xs) e)
 
--- ---- a tag, and what stands behind it
+-- ---- a tag, and what follows it
 
 record TagPart (xs rest : List ℕ) (tag n : ℕ) : Type 0 where
   before : ℕ
@@ -297,16 +301,16 @@ bignum_means name inner xs rest tag v n h e within bytes =
       total = t.total;
     }
 
-record BytesRefused (inner : List ℕ) (xs : List ℕ) (tag : ℕ) (z : Refusal)
+record BytesRejected (inner : List ℕ) (xs : List ℕ) (tag : ℕ) (z : InputError)
     (ys : List ℕ) : Type 0 where
   before : ℕ
   tagged : ReadsHead 6 1 xs tag before
-  refused : StopsMagnitude inner (drop before xs) z ys
+  rejected : RejectsMagnitude inner (drop before xs) z ys
 
-bignum_stops : (name inner : List ℕ) (xs rest : List ℕ) (tag : ℕ) (z : Refusal) (n : ℕ)
+bignum_rejects : (name inner : List ℕ) (xs rest : List ℕ) (tag : ℕ) (z : InputError) (n : ℕ)
     → head_at name 6 1 xs ≡ Ok (tag, rest) → magnitude_at inner rest ≡ Err (z, drop n xs)
-    → n ≤ length xs → IsBytes (take n xs) → BytesRefused inner xs tag z (drop n xs)
-bignum_stops name inner xs rest tag z n h e within bytes =
+    → n ≤ length xs → IsBytes (take n xs) → BytesRejected inner xs tag z (drop n xs)
+bignum_rejects name inner xs rest tag z n h e within bytes =
     let t = tag_part name xs rest tag n h ((magnitude_leaves inner).err rest z (drop n xs) e) within
     bytes in
     let e' : magnitude_at inner (drop t.before xs) ≡ Err (z, drop t.size (drop t.before xs)) =
@@ -314,8 +318,8 @@ bignum_stops name inner xs rest tag z n h e within bytes =
     record {
       before = t.before;
       tagged = t.tagged;
-      refused = subst (StopsMagnitude inner (drop t.before xs) z) (sym t.left)
-          (magnitude_stops inner (drop t.before xs) z t.size e' t.within t.bytes);
+      rejected = subst (RejectsMagnitude inner (drop t.before xs) z) (sym t.left)
+          (magnitude_rejects inner (drop t.before xs) z t.size e' t.within t.bytes);
     }
 
 -- ---- u128
@@ -326,7 +330,7 @@ other n k e same = let t = eq-eqb n k same in cc
 u128_tag_means : (t : Bool) (xs rest : List ℕ) (tag v n : ℕ) → eqb tag 2 ≡ t
     → head_at (codes "u128") 6 1 xs ≡ Ok (tag, rest) → n ≤ length xs → IsBytes (take n xs)
     → cond t (magnitude_at (codes "u128::bytes"))
-    (refuse (mismatch (codes "u128::tag") tag)) rest ≡ Ok (v, drop n xs) → ReadsBignum 2 xs v n
+    (reject (mismatch (codes "u128::tag") tag)) rest ≡ Ok (v, drop n xs) → ReadsBignum 2 xs v n
 u128_tag_means true xs rest tag v n t h within bytes e =
     subst (λ j. ReadsBignum j xs v n) (eqb-true tag 2 t)
     (bignum_means (codes "u128") (codes "u128::bytes") xs rest tag v n h e within bytes)
@@ -350,49 +354,56 @@ u128_means : (xs : List ℕ) (v n : ℕ) → u128_at xs ≡ Ok (v, drop n xs) �
 u128_means [] v n e within bytes = cc
 u128_means (b ∷ bs) v n e within bytes = u128_means_by (eqb (b / 32) 0) (b ∷ bs) v n within bytes e
 
-u128_tag_stops : (t : Bool) (xs rest : List ℕ) (tag : ℕ) (z : Refusal) (n : ℕ) → eqb tag 2 ≡ t
+u128_tag_rejects : (t : Bool) (xs rest : List ℕ) (tag : ℕ) (z : InputError) (n : ℕ) → eqb tag 2 ≡ t
     → head_at (codes "u128") 6 1 xs ≡ Ok (tag, rest) → n ≤ length xs → IsBytes (take n xs)
     → cond t (magnitude_at (codes "u128::bytes"))
-    (refuse (mismatch (codes "u128::tag") tag)) rest ≡ Err (z, drop n xs)
-    → StopsU128 xs z (drop n xs)
-u128_tag_stops true xs rest tag z n t h within bytes e =
-    let r = bignum_stops (codes "u128") (codes "u128::bytes") xs rest tag z n h e within bytes in
-    u128_bytes_refused r.before
-    (subst (λ j. ReadsHead 6 1 xs j r.before) (eqb-true tag 2 t) r.tagged) r.refused
-u128_tag_stops false xs rest tag z n t h within bytes e =
-    let p = same_refusal (refuse {V = ℕ} (mismatch (codes "u128::tag") tag) rest) refl e in
+    (reject (mismatch (codes "u128::tag") tag)) rest ≡ Err (z, drop n xs)
+    → RejectsU128 xs z (drop n xs)
+u128_tag_rejects true xs rest tag z n t h within bytes e =
+    let r = bignum_rejects (codes "u128") (codes "u128::bytes") xs rest tag z n h e within bytes in
+    u128_bytes_rejected r.before
+    (subst (λ j. ReadsHead 6 1 xs j r.before) (eqb-true tag 2 t) r.tagged) r.rejected
+u128_tag_rejects false xs rest tag z n t h within bytes e =
+    let p = same_input_error (reject {V = ℕ} (mismatch (codes "u128::tag") tag) rest) refl e in
     other_u128_tag tag n (head_then (codes "u128") 6 1 xs rest tag n h p.1 within bytes)
     (other tag 2 t) (sym p.0) refl
 
-u128_parts : (b : ℕ) (bs : List ℕ) (z : Refusal) (n : ℕ) → b / 32 ≢ 0 → n ≤ length (b ∷ bs)
+u128_parts : (b : ℕ) (bs : List ℕ) (z : InputError) (n : ℕ) → b / 32 ≢ 0 → n ≤ length (b ∷ bs)
     → IsBytes (take n (b ∷ bs)) → (head_at (codes "u128") 6 1 (b ∷ bs) ≡ Err (z, drop n (b ∷ bs)))
     ⊎ ErrParts (head_at (codes "u128") 6 1 (b ∷ bs)) unsigned_bignum_at z (drop n (b ∷ bs))
-    → StopsU128 (b ∷ bs) z (drop n (b ∷ bs))
+    → RejectsU128 (b ∷ bs) z (drop n (b ∷ bs))
 u128_parts b bs z n m within bytes (inl e) =
-    u128_tag_refused b bs refl m (head_stops (codes "u128") 6 1 (b ∷ bs) z (drop n (b ∷ bs)) e)
+    u128_tag_rejected b bs refl m (head_rejects (codes "u128") 6 1 (b ∷ bs) z (drop n (b ∷ bs)) e)
 u128_parts b bs z n m within bytes (inr h) =
-    u128_tag_stops (eqb h.value 2) (b ∷ bs) h.rest h.value z n refl h.begun within bytes h.ended
+    u128_tag_rejects (eqb h.value 2) (b ∷ bs) h.rest h.value z n refl h.begun within bytes h.ended
 
-u128_stops_by : (t : Bool) (b : ℕ) (bs : List ℕ) (z : Refusal) (n : ℕ) → eqb (b / 32) 0 ≡ t
+u128_rejects_by : (t : Bool) (b : ℕ) (bs : List ℕ) (z : InputError) (n : ℕ) → eqb (b / 32) 0 ≡ t
     → n ≤ length (b ∷ bs) → IsBytes (take n (b ∷ bs))
     → cond t (head_at (codes "u64") 0 8) (head_at (codes "u128") 6 1 >=> unsigned_bignum_at)
-    (b ∷ bs) ≡ Err (z, drop n (b ∷ bs)) → StopsU128 (b ∷ bs) z (drop n (b ∷ bs))
-u128_stops_by true b bs z n t within bytes e =
-    u128_head_refused b bs refl (eqb-true (b / 32) 0 t)
-    (head_stops (codes "u64") 0 8 (b ∷ bs) z (drop n (b ∷ bs)) e)
-u128_stops_by false b bs z n t within bytes e =
+    (b ∷ bs) ≡ Err (z, drop n (b ∷ bs)) → RejectsU128 (b ∷ bs) z (drop n (b ∷ bs))
+u128_rejects_by true b bs z n t within bytes e =
+    u128_head_rejected b bs refl (eqb-true (b / 32) 0 t)
+    (head_rejects (codes "u64") 0 8 (b ∷ bs) z (drop n (b ∷ bs)) e)
+u128_rejects_by false b bs z n t within bytes e =
     u128_parts b bs z n (other (b / 32) 0 t) within bytes
     (err_parts (head_at (codes "u128") 6 1 (b ∷ bs)) unsigned_bignum_at z (drop n (b ∷ bs)) e)
 
-u128_stops : (xs : List ℕ) (z : Refusal) (n : ℕ) → u128_at xs ≡ Err (z, drop n xs) → n ≤ length xs
-    → IsBytes (take n xs) → StopsU128 xs z (drop n xs)
-u128_stops [] z n e within bytes =
-    let r = same_refusal {V = ℕ} (Err (eof (codes "u128") (Small 1), [])) refl e in
+u128_rejects : (xs : List ℕ) (z : InputError) (n : ℕ) → u128_at xs ≡ Err (z, drop n xs) →
+    n ≤ length xs
+    → IsBytes (take n xs) → RejectsU128 xs z (drop n xs)
+u128_rejects [] z n e within bytes =
+    let r = same_input_error {V = ℕ} (Err (eof (codes "u128") (Small 1), [])) refl e in
     no_u128_byte refl (sym r.0) (sym r.1)
-u128_stops (b ∷ bs) z n e within bytes = u128_stops_by (eqb (b / 32) 0) b bs z n refl within bytes e
+u128_rejects (b ∷ bs) z n e within bytes =
+    u128_rejects_by (eqb (b / 32) 0) b bs z n refl within bytes e
 
-pub u128_leaf : IsLeaf u128_at ReadsU128 (λ xs budget. StopsU128 xs)
-u128_leaf = record { means = u128_means; again = u128_again; refuses = λ xs budget. u128_stops xs }
+pub u128_leaf : IsLeaf u128_at ReadsU128 (λ xs budget. RejectsU128 xs)
+u128_leaf = record {
+  means = u128_means;
+  again = u128_again;
+  is_complete = λ xs budget.
+      u128_rejects xs;
+}
 
 -- ---- i128
 
@@ -410,7 +421,7 @@ i128_tag_means : (s t : Bool) (xs rest : List ℕ) (tag : ℕ) (v : ℤ) (n : �
     → IsBytes (take n xs)
     → cond s (small_magnitude_at (codes "+i128::bytes") >=> as_positive)
     (cond t (small_magnitude_at (codes "-i128::bytes") >=> as_negative)
-    (refuse (mismatch (codes "i128::tag") tag))) rest ≡ Ok (v, drop n xs)
+    (reject (mismatch (codes "i128::tag") tag))) rest ≡ Ok (v, drop n xs)
     → ReadsI128 xs v n 0
 i128_tag_means true t xs rest tag v n p q h within bytes e =
     let g = sign_given (small_magnitude_at (codes "+i128::bytes")) pos rest v (drop n xs) e in
@@ -452,84 +463,93 @@ i128_means [] v n e within bytes = cc
 i128_means (b ∷ bs) v n e within bytes =
     i128_means_by (eqb (b / 32) 0) (eqb (b / 32) 1) (b ∷ bs) v n within bytes e
 
--- a refusal of a byte string, or of a number that is too great
-small_stops : (name : List ℕ) (xs rest : List ℕ) (tag : ℕ) (z : Refusal) (n : ℕ)
-    → (tag ≡ 2) ⊎ (tag ≡ 3) → (BytesRefused name xs tag z (drop n xs) → StopsI128 xs z (drop n xs))
+-- an error of a byte string, or of a number that is too great
+small_rejects : (name : List ℕ) (xs rest : List ℕ) (tag : ℕ) (z : InputError) (n : ℕ)
+    → (tag ≡ 2) ⊎ (tag ≡ 3) → (BytesRejected name xs tag z (drop n xs) → RejectsI128 xs z
+    (drop n xs))
     → head_at (codes "i128") 6 1 xs ≡ Ok (tag, rest) → n ≤ length xs → IsBytes (take n xs)
     → (magnitude_at name rest ≡ Err (z, drop n xs)) ⊎ ErrParts (magnitude_at name rest)
-    (below (codes "i128") (2 ^ 127)) z (drop n xs) → StopsI128 xs z (drop n xs)
-small_stops name xs rest tag z n is refused h within bytes (inl e) =
-    refused (bignum_stops (codes "i128") name xs rest tag z n h e within bytes)
-small_stops name xs rest tag z n is refused h within bytes (inr p) =
+    (below (codes "i128") (2 ^ 127)) z (drop n xs) → RejectsI128 xs z (drop n xs)
+small_rejects name xs rest tag z n is rejected h within bytes (inl e) =
+    rejected (bignum_rejects (codes "i128") name xs rest tag z n h e within bytes)
+small_rejects name xs rest tag z n is rejected h within bytes (inr p) =
     let b = below_err (codes "i128") (2 ^ 127) p.value z p.rest (drop n xs) p.ended in
     let m = p.begun ∙ ap (λ (zs : List ℕ). Ok (p.value, zs)) b.1 in
     i128_too_great tag p.value n is
     (bignum_means (codes "i128") name xs rest tag p.value n h m within bytes) b.2 (sym b.0) refl
 
-i128_tag_stops : (s t : Bool) (xs rest : List ℕ) (tag : ℕ) (z : Refusal) (n : ℕ) → eqb tag 2 ≡ s
+i128_tag_rejects : (s t : Bool) (xs rest : List ℕ) (tag : ℕ) (z : InputError) (n : ℕ) →
+    eqb tag 2 ≡ s
     → eqb tag 3 ≡ t → head_at (codes "i128") 6 1 xs ≡ Ok (tag, rest) → n ≤ length xs
     → IsBytes (take n xs)
     → cond s (small_magnitude_at (codes "+i128::bytes") >=> as_positive)
     (cond t (small_magnitude_at (codes "-i128::bytes") >=> as_negative)
-    (refuse (mismatch (codes "i128::tag") tag))) rest ≡ Err (z, drop n xs)
-    → StopsI128 xs z (drop n xs)
-i128_tag_stops true t xs rest tag z n p q h within bytes e =
+    (reject (mismatch (codes "i128::tag") tag))) rest ≡ Err (z, drop n xs)
+    → RejectsI128 xs z (drop n xs)
+i128_tag_rejects true t xs rest tag z n p q h within bytes e =
     let two = eqb-true tag 2 p in
-    small_stops (codes "+i128::bytes") xs rest tag z n (inl two) (λ r. i128_bytes_refused r.before
-    (subst (λ j. ReadsHead 6 1 xs j r.before) two r.tagged) r.refused) h within bytes
+    small_rejects (codes "+i128::bytes") xs rest tag z n (inl two)
+    (λ r. i128_bytes_rejected r.before
+    (subst (λ j. ReadsHead 6 1 xs j r.before) two r.tagged) r.rejected) h within bytes
     (err_parts (magnitude_at (codes "+i128::bytes") rest)
     (below (codes "i128") (2 ^ 127)) z (drop n xs)
-    (sign_refused (small_magnitude_at (codes "+i128::bytes")) pos rest z (drop n xs) e))
-i128_tag_stops false true xs rest tag z n p q h within bytes e =
+    (sign_rejected (small_magnitude_at (codes "+i128::bytes")) pos rest z (drop n xs) e))
+i128_tag_rejects false true xs rest tag z n p q h within bytes e =
     let three = eqb-true tag 3 q in
-    small_stops (codes "-i128::bytes") xs rest tag z n (inr three)
-    (λ r. i128_negative_bytes_refused r.before
-    (subst (λ j. ReadsHead 6 1 xs j r.before) three r.tagged) r.refused) h within bytes
+    small_rejects (codes "-i128::bytes") xs rest tag z n (inr three)
+    (λ r. i128_negative_bytes_rejected r.before
+    (subst (λ j. ReadsHead 6 1 xs j r.before) three r.tagged) r.rejected) h within bytes
     (err_parts (magnitude_at (codes "-i128::bytes") rest)
     (below (codes "i128") (2 ^ 127)) z (drop n xs)
-    (sign_refused (small_magnitude_at (codes "-i128::bytes")) negsuc rest z (drop n xs) e))
-i128_tag_stops false false xs rest tag z n p q h within bytes e =
-    let r = same_refusal (refuse {V = ℤ} (mismatch (codes "i128::tag") tag) rest) refl e in
+    (sign_rejected (small_magnitude_at (codes "-i128::bytes")) negsuc rest z (drop n xs) e))
+i128_tag_rejects false false xs rest tag z n p q h within bytes e =
+    let r = same_input_error (reject {V = ℤ} (mismatch (codes "i128::tag") tag) rest) refl e in
     other_i128_tag tag n (head_then (codes "i128") 6 1 xs rest tag n h r.1 within bytes)
     (other tag 2 p) (other tag 3 q) (sym r.0) refl
 
-i128_parts : (b : ℕ) (bs : List ℕ) (z : Refusal) (n : ℕ) → 2 ≤ b / 32 → n ≤ length (b ∷ bs)
+i128_parts : (b : ℕ) (bs : List ℕ) (z : InputError) (n : ℕ) → 2 ≤ b / 32 → n ≤ length (b ∷ bs)
     → IsBytes (take n (b ∷ bs)) → (head_at (codes "i128") 6 1 (b ∷ bs) ≡ Err (z, drop n (b ∷ bs)))
     ⊎ ErrParts (head_at (codes "i128") 6 1 (b ∷ bs)) signed_bignum_at z (drop n (b ∷ bs))
-    → StopsI128 (b ∷ bs) z (drop n (b ∷ bs))
+    → RejectsI128 (b ∷ bs) z (drop n (b ∷ bs))
 i128_parts b bs z n m within bytes (inl e) =
-    i128_tag_refused b bs refl m (head_stops (codes "i128") 6 1 (b ∷ bs) z (drop n (b ∷ bs)) e)
+    i128_tag_rejected b bs refl m (head_rejects (codes "i128") 6 1 (b ∷ bs) z (drop n (b ∷ bs)) e)
 i128_parts b bs z n m within bytes (inr h) =
-    i128_tag_stops (eqb h.value 2) (eqb h.value 3)
+    i128_tag_rejects (eqb h.value 2) (eqb h.value 3)
     (b ∷ bs) h.rest h.value z n refl refl h.begun within bytes h.ended
 
-i128_stops_by : (s t : Bool) (b : ℕ) (bs : List ℕ) (z : Refusal) (n : ℕ) → eqb (b / 32) 0 ≡ s
+i128_rejects_by : (s t : Bool) (b : ℕ) (bs : List ℕ) (z : InputError) (n : ℕ) → eqb (b / 32) 0 ≡ s
     → eqb (b / 32) 1 ≡ t → n ≤ length (b ∷ bs) → IsBytes (take n (b ∷ bs))
     → cond s (head_at (codes "u64") 0 8 >=> as_positive)
     (cond t (head_at (codes "i128") 1 8 >=> as_negative)
     (head_at (codes "i128") 6 1 >=> signed_bignum_at)) (b ∷ bs) ≡ Err (z, drop n (b ∷ bs))
-    → StopsI128 (b ∷ bs) z (drop n (b ∷ bs))
-i128_stops_by true t b bs z n p q within bytes e =
-    i128_head_refused b bs refl (eqb-true (b / 32) 0 p)
-    (head_stops (codes "u64") 0 8 (b ∷ bs) z (drop n (b ∷ bs))
-    (sign_refused (head_at (codes "u64") 0 8) pos (b ∷ bs) z (drop n (b ∷ bs)) e))
-i128_stops_by false true b bs z n p q within bytes e =
-    i128_negative_refused b bs refl (eqb-true (b / 32) 1 q)
-    (head_stops (codes "i128") 1 8 (b ∷ bs) z (drop n (b ∷ bs))
-    (sign_refused (head_at (codes "i128") 1 8) negsuc (b ∷ bs) z (drop n (b ∷ bs)) e))
-i128_stops_by false false b bs z n p q within bytes e =
+    → RejectsI128 (b ∷ bs) z (drop n (b ∷ bs))
+i128_rejects_by true t b bs z n p q within bytes e =
+    i128_head_rejected b bs refl (eqb-true (b / 32) 0 p)
+    (head_rejects (codes "u64") 0 8 (b ∷ bs) z (drop n (b ∷ bs))
+    (sign_rejected (head_at (codes "u64") 0 8) pos (b ∷ bs) z (drop n (b ∷ bs)) e))
+i128_rejects_by false true b bs z n p q within bytes e =
+    i128_negative_rejected b bs refl (eqb-true (b / 32) 1 q)
+    (head_rejects (codes "i128") 1 8 (b ∷ bs) z (drop n (b ∷ bs))
+    (sign_rejected (head_at (codes "i128") 1 8) negsuc (b ∷ bs) z (drop n (b ∷ bs)) e))
+i128_rejects_by false false b bs z n p q within bytes e =
     let x = other (b / 32) 0 p in
     let y = other (b / 32) 1 q in
     i128_parts b bs z n (omega (arith, x, y)) within bytes
     (err_parts (head_at (codes "i128") 6 1 (b ∷ bs)) signed_bignum_at z (drop n (b ∷ bs)) e)
 
-i128_stops : (xs : List ℕ) (z : Refusal) (n : ℕ) → i128_at xs ≡ Err (z, drop n xs) → n ≤ length xs
-    → IsBytes (take n xs) → StopsI128 xs z (drop n xs)
-i128_stops [] z n e within bytes =
-    let r = same_refusal {V = ℤ} (Err (eof (codes "i128") (Small 1), [])) refl e in
+i128_rejects : (xs : List ℕ) (z : InputError) (n : ℕ) → i128_at xs ≡ Err (z, drop n xs) →
+    n ≤ length xs
+    → IsBytes (take n xs) → RejectsI128 xs z (drop n xs)
+i128_rejects [] z n e within bytes =
+    let r = same_input_error {V = ℤ} (Err (eof (codes "i128") (Small 1), [])) refl e in
     no_i128_byte refl (sym r.0) (sym r.1)
-i128_stops (b ∷ bs) z n e within bytes =
-    i128_stops_by (eqb (b / 32) 0) (eqb (b / 32) 1) b bs z n refl refl within bytes e
+i128_rejects (b ∷ bs) z n e within bytes =
+    i128_rejects_by (eqb (b / 32) 0) (eqb (b / 32) 1) b bs z n refl refl within bytes e
 
-pub i128_leaf : IsLeaf i128_at ReadsI128 (λ xs budget. StopsI128 xs)
-i128_leaf = record { means = i128_means; again = i128_again; refuses = λ xs budget. i128_stops xs }
+pub i128_leaf : IsLeaf i128_at ReadsI128 (λ xs budget. RejectsI128 xs)
+i128_leaf = record {
+  means = i128_means;
+  again = i128_again;
+  is_complete = λ xs budget.
+      i128_rejects xs;
+}

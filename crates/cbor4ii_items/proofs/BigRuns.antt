@@ -89,7 +89,7 @@ as_u128 v (b ∷ bs) ys e =
 
 pub u128_whole : {E : Type 0} {v : ℕ} {a m : View}
     → Runs {E = E} (head_at (codes "u64") 0 8) a m (Ok v) → Runs {E = E} u128_at a m (Ok v)
-u128_whole {v = v} p = runs_where (λ xs told. let s = p.answers xs told in as_u128 v xs s.0 s.2) p
+u128_whole {v = v} p = runs_where (λ xs known. let s = p.answers xs known in as_u128 v xs s.0 s.2) p
 
 as_plus : (v : ℕ) (xs ys : List ℕ) → head_at (codes "u64") 0 8 xs ≡ Ok (v, ys)
     → i128_at xs ≡ (head_at (codes "u64") 0 8 >=> as_positive) xs
@@ -106,10 +106,10 @@ as_minus v (b ∷ bs) ys e =
 pub plus_whole : {E : Type 0} {v : ℕ} {z : ℤ} {a m : View} → z ≡ pos v
     → Runs {E = E} (head_at (codes "u64") 0 8) a m (Ok v) → Runs {E = E} i128_at a m (Ok z)
 plus_whole {v = v} e p =
-    runs_where (λ xs told. let s = p.answers xs told in as_plus v xs s.0 s.2) (runs_with pos e p)
+    runs_where (λ xs known. let s = p.answers xs known in as_plus v xs s.0 s.2) (runs_with pos e p)
 
 pub minus_whole : {E : Type 0} {v : ℕ} {z : ℤ} {a m : View} → z ≡ negsuc v
     → Runs {E = E} (head_at (codes "i128") 1 8) a m (Ok v) → Runs {E = E} i128_at a m (Ok z)
 minus_whole {v = v} e p =
-    runs_where (λ xs told. let s = p.answers xs told in as_minus v xs s.0 s.2)
+    runs_where (λ xs known. let s = p.answers xs known in as_minus v xs s.0 s.2)
     (runs_with negsuc e p)

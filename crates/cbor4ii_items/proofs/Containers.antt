@@ -3,31 +3,31 @@ use Rattle.std.proofs.Common.{◌≡◌, ◌≢◌, ℕ, ◌+◌, ◌≤◌, inl
 use Rattle.std.proofs.Common.{Option, Some, None, Ok, Err, true, false, refl, sym, ap, ◌∙◌, subst}
 use Rattle.std.proofs.Common.{arith}
 use Rattle.std.specs.Prelude.{codes}
-use Rattle.cbor4ii_rw.specs.View.{View, Told}
+use Rattle.cbor4ii_rw.specs.View.{View, IfKnown}
 use Rattle.cbor4ii_rw.specs.declared.error.DecodeError.{DecodeError}
-use Rattle.cbor4ii_items.specs.Refusal.{Refusal, is_out_of_memory}
+use Rattle.cbor4ii_items.specs.InputError.{InputError, is_out_of_memory}
 use Rattle.cbor4ii_items.specs.Reading.{Runs, peek_at}
-use Rattle.cbor4ii_items.specs.Decoding.{Reads, StopsAt, NoneRead, Spelling, Decodes}
-use Rattle.cbor4ii_items.specs.Containers.{BeginsNull, ReadsOption, StopsOption}
-use Rattle.cbor4ii_items.specs.Laws.Calls.{Refused, err_of, ok_behind, err_behind, of_exact}
+use Rattle.cbor4ii_items.specs.Decoding.{Reads, RejectsAt, NoneRead, Format, Decodes}
+use Rattle.cbor4ii_items.specs.Containers.{BeginsNull, ReadsOption, RejectsOption}
+use Rattle.cbor4ii_items.specs.Laws.Calls.{Rejected, err_of, ok_after, err_after, of_exact}
 use Rattle.cbor4ii_items.specs.Laws.Calls.{exactly}
-use Rattle.cbor4ii_items.specs.Laws.Containers.{option_spelling, not_null, no_option}
-use Rattle.cbor4ii_items.specs.Laws.Outcome.{same_refusal}
+use Rattle.cbor4ii_items.specs.Laws.Containers.{option_format, not_null, no_option}
+use Rattle.cbor4ii_items.specs.Laws.Outcome.{same_input_error}
 use Rattle.cbor4ii_items.specs.Laws.Running.{peeked, kept_alike}
 use Rattle.cbor4ii_items.specs.declared.types.Tag.{Tag}
 use Rattle.cbor4ii_items.specs.Heads.{ReadsHead}
-use Rattle.cbor4ii_items.specs.Numbers.{argument_spelling}
-use Rattle.cbor4ii_items.specs.Containers.{StopsBehindTag}
+use Rattle.cbor4ii_items.specs.Numbers.{argument_format}
+use Rattle.cbor4ii_items.specs.Containers.{RejectsAfterTag}
 use Rattle.cbor4ii_items.specs.Laws.Answering.{fits_zero}
-use Rattle.cbor4ii_items.specs.Laws.Containers.{tag_spelling}
-use Rattle.cbor4ii_items.specs.Laws.Fronts.{drop_more}
+use Rattle.cbor4ii_items.specs.Laws.Containers.{tag_format}
+use Rattle.cbor4ii_items.specs.Laws.Prefixes.{drop_more}
 use Rattle.cbor4ii_items.specs.Laws.Heads.{head_one}
 
 -- ---- the byte that was looked at
 
 -- what a call saw of the next byte, which stayed
 pub record Saw (a m : View) (b : ℕ) : Type 0 where
-  pub first : Told a.told (λ xs. (m.told ≡ Some xs) × (take 1 xs ≡ b ∷ []) × (1 ≤ length xs))
+  pub first : IfKnown a.known (λ xs. (m.known ≡ Some xs) × (take 1 xs ≡ b ∷ []) × (1 ≤ length xs))
   pub budget : m.budget ≡ a.budget
 
 first_of : (b : ℕ) (rest xs : List ℕ) → xs ≡ b ∷ rest → (take 1 xs ≡ b ∷ []) × (1 ≤ length xs)
@@ -37,8 +37,8 @@ first_of b rest (x ∷ xs) e = let f : x ≡ b = cc in (ap (λ z. z ∷ []) f, o
 pub saw : {E : Type 0} (name : List ℕ) (expect b : ℕ) {a m : View}
     → Runs {E = E} (peek_at name expect) a m (Ok b) → Saw a m b
 saw name expect b p = record {
-  first = λ xs told.
-      let h = p.answers xs told in
+  first = λ xs known.
+      let h = p.answers xs known in
       let q = peeked name expect b xs h.0 h.2 in
       let f = first_of b q.0 xs q.1 in
       (h.1 ∙ ap Some q.2, f.0, f.1);
@@ -52,35 +52,36 @@ no_bytes : {V : Type 0} (reads : Reads V) (budget : Option ℕ)
 no_bytes reads budget None n c r fits = elim r.0 [ inl e ↦ cc | inr e ↦ cc ]
 no_bytes reads budget (Some v) n c r fits = absurd (omega (arith, r.1))
 
-refused_end : {V : Type 0} (s : Spelling V) (xs : List ℕ) (budget : Option ℕ) (z : Refusal)
+rejected_end : {V : Type 0} (s : Format V) (xs : List ℕ) (budget : Option ℕ) (z : InputError)
     (ys : List ℕ) → peek_at (codes "option") 1 xs ≡ Err (z, ys)
-    → Refused true (option_spelling s) xs budget z ys
-refused_end s (x ∷ xs) budget z ys e = cc
-refused_end s [] budget z ys e =
-    let r = same_refusal (peek_at (codes "option") 1 []) refl e in record {
+    → Rejected true (option_format s) xs budget z ys
+rejected_end s (x ∷ xs) budget z ys e = cc
+rejected_end s [] budget z ys e =
+    let r = same_input_error (peek_at (codes "option") 1 []) refl e in record {
       none = λ is. no_bytes s.reads budget;
-      stops = (sym r.0, sym r.1);
+      rejects = (sym r.0, sym r.1);
       begins = (sym r.0, sym r.1);
     }
 
-stops_some : (stops : StopsAt) (xs : List ℕ) (budget : Option ℕ) (z : Refusal) (ys : List ℕ)
-    → 1 ≤ length xs → (BeginsNull xs → ⊥) → stops xs budget z ys
-    → StopsOption stops xs budget z ys
-stops_some stops [] budget z ys n null h = absurd (omega arith)
-stops_some stops (x ∷ xs) budget z ys n null h = (null, h)
+rejects_some : (rejects : RejectsAt) (xs : List ℕ) (budget : Option ℕ) (z : InputError)
+    (ys : List ℕ)
+    → 1 ≤ length xs → (BeginsNull xs → ⊥) → rejects xs budget z ys
+    → RejectsOption rejects xs budget z ys
+rejects_some rejects [] budget z ys n null h = absurd (omega arith)
+rejects_some rejects (x ∷ xs) budget z ys n null h = (null, h)
 
-module _ {V E : Type 0} (s : Spelling V) {a m : View} where
+module _ {V E : Type 0} (s : Format V) {a m : View} where
   pub option_end : {e : DecodeError E} → Runs {V = ℕ} (peek_at (codes "option") 1) a m (Err e)
-      → is_out_of_memory e ≡ false → Decodes (option_spelling s) a m (Err e)
+      → is_out_of_memory e ≡ false → Decodes (option_format s) a m (Err e)
   option_end p memory =
-      exactly (err_of (option_spelling s) p memory (λ xs. refused_end s xs a.budget))
+      exactly (err_of (option_format s) p memory (λ xs. rejected_end s xs a.budget))
 
   module _ {b : View} {first : ℕ} (p : Runs {E = E} (peek_at (codes "option") 1) a m (Ok first))
       (not_null_byte : first ≢ 0xf6) (not_undefined : first ≢ 0xf7) where
     pub option_some : {v : V} → Decodes {E = E} s m b (Ok v)
-        → Decodes {E = E} (option_spelling s) a b (Ok (Some v))
-    option_some d = ok_behind s (option_spelling s) p.moves.by (λ xs told.
-        let f = (saw _ _ _ p).first xs told in (
+        → Decodes {E = E} (option_format s) a b (Ok (Some v))
+    option_some d = ok_after s (option_format s) p.moves.by (λ xs known.
+        let f = (saw _ _ _ p).first xs known in (
           xs,
           f.0,
           λ n c r fits. record {
@@ -93,50 +94,50 @@ module _ {V E : Type 0} (s : Spelling V) {a m : View} where
         )) (λ some. omega (arith, d.progress some, p.moves.by.bound)) d
 
     pub option_err : {e : DecodeError E} → Decodes s m b (Err e)
-        → Decodes (option_spelling s) a b (Err e)
-    option_err d = exactly (err_behind s (option_spelling s) p.moves.by (λ xs told.
-        let f = (saw _ _ _ p).first xs told in
+        → Decodes (option_format s) a b (Err e)
+    option_err d = exactly (err_after s (option_format s) p.moves.by (λ xs known.
+        let f = (saw _ _ _ p).first xs known in
         let other = not_null xs first f.1 not_null_byte not_undefined in (
           xs,
           f.0,
           record {
             none = λ is. no_option s.reads xs a.budget a.budget refl other;
-            stops = λ z ys. stops_some s.stops xs a.budget z ys f.2 other;
-            begins = λ z ys. stops_some s.begins xs a.budget z ys f.2 other;
+            rejects = λ z ys. rejects_some s.rejects xs a.budget z ys f.2 other;
+            begins = λ z ys. rejects_some s.begins xs a.budget z ys f.2 other;
           },
         )) (λ owned. owned) (λ takes. takes) (of_exact d))
 
 -- ---- a tagged item
 
-module _ {V : Type 0} (s : Spelling V) where
+module _ {V : Type 0} (s : Format V) where
   no_tag : (xs : List ℕ) (k n : ℕ) (budget : Option ℕ) → ReadsHead 6 8 xs k n
-      → NoneRead s.reads (drop n xs) budget → NoneRead (tag_spelling s).reads xs budget
+      → NoneRead s.reads (drop n xs) budget → NoneRead (tag_format s).reads xs budget
   no_tag xs k n budget head none t m c q fits =
       let same = head_one 6 8 xs t.0 k q.before n (omega arith) q.head head in
       none t.1 q.count c (subst (λ i. s.reads (drop i xs) t.1 q.count c) same.0 q.item) fits
 
-module _ {V E : Type 0} (s : Spelling V) {a m : View} where
+module _ {V E : Type 0} (s : Format V) {a m : View} where
   pub tag_head_err : {e : DecodeError E}
-      → Decodes (argument_spelling (codes "tag") 6 8) a m (Err e)
-      → Decodes (tag_spelling s) a m (Err e)
+      → Decodes (argument_format (codes "tag") 6 8) a m (Err e)
+      → Decodes (tag_format s) a m (Err e)
   tag_head_err d =
-      exactly (err_behind (argument_spelling (codes "tag") 6 8) (tag_spelling s) (kept_alike a)
-      (λ xs told. (
+      exactly (err_after (argument_format (codes "tag") 6 8) (tag_format s) (kept_alike a)
+      (λ xs known. (
         xs,
-        told,
+        known,
         record {
           none = λ is none t n c q fits. none t.0 q.before 0 (q.head, refl) (fits_zero a.budget);
-          stops = λ z ys. inl;
+          rejects = λ z ys. inl;
           begins = λ z ys. inl;
         },
       )) (λ owned. refl) (λ takes. cc) (of_exact d))
 
   module _ {b : View} {k : ℕ}
-      (d : Decodes {E = E} (argument_spelling (codes "tag") 6 8) a m (Ok k)) where
+      (d : Decodes {E = E} (argument_format (codes "tag") 6 8) a m (Ok k)) where
     pub tag_ok : {v : V} {t : Tag V} → t.0 ≡ k → t.1 ≡ v → Decodes {E = E} s m b (Ok v)
-        → Decodes {E = E} (tag_spelling s) a b (Ok t)
-    tag_ok {t = t} number item h = ok_behind s (tag_spelling s) d.moves.by (λ xs told.
-        let p = d.sound.at xs told in (
+        → Decodes {E = E} (tag_format s) a b (Ok t)
+    tag_ok {t = t} number item h = ok_after s (tag_format s) d.moves.by (λ xs known.
+        let p = d.sound.at xs known in (
           drop p.count xs,
           p.left,
           λ n c r fits. record {
@@ -155,17 +156,17 @@ module _ {V E : Type 0} (s : Spelling V) {a m : View} where
         )) (λ some. omega (arith, d.progress refl, h.moves.by.bound)) h
 
     pub tag_err : {e : DecodeError E} → Decodes s m b (Err e)
-        → Decodes (tag_spelling s) a b (Err e)
-    tag_err h = exactly (err_behind s (tag_spelling s) d.moves.by (λ xs told.
-        let p = d.sound.at xs told in
-        let stop : (stops : StopsAt) (z : Refusal) (ys : List ℕ)
-        → stops (drop p.count xs) a.budget z ys → StopsBehindTag stops xs a.budget z ys =
-        λ stops z ys f. record { number = k; before = p.count; head = p.read.0; item = f } in (
+        → Decodes (tag_format s) a b (Err e)
+    tag_err h = exactly (err_after s (tag_format s) d.moves.by (λ xs known.
+        let p = d.sound.at xs known in
+        let stop : (rejects : RejectsAt) (z : InputError) (ys : List ℕ)
+        → rejects (drop p.count xs) a.budget z ys → RejectsAfterTag rejects xs a.budget z ys =
+        λ rejects z ys f. record { number = k; before = p.count; head = p.read.0; item = f } in (
           drop p.count xs,
           p.left,
           record {
             none = λ is. no_tag s xs k p.count a.budget p.read.0;
-            stops = λ z ys f. inr (stop s.stops z ys f);
+            rejects = λ z ys f. inr (stop s.rejects z ys f);
             begins = λ z ys f. inr (stop s.begins z ys f);
           },
         )) (λ owned. owned) (λ takes. takes) (of_exact h))

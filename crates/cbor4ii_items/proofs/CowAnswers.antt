@@ -3,35 +3,35 @@ use Rattle.std.proofs.Common.{◌≡◌, ℕ, ◌<◌, List, [], length, drop, O
 use Rattle.std.proofs.Common.{Err, Bool, true, false, IsTrue, refl, sym, ap, ◌∙◌, subst, arith}
 use Rattle.std.proofs.Common.{IfSome, IfOk, ◌+◌, ◌≤◌}
 use denote.Ref.{Bor}
-use Rattle.cbor4ii_rw.specs.View.{View, Told}
+use Rattle.cbor4ii_rw.specs.View.{View, IfKnown}
 use Rattle.cbor4ii_rw.specs.declared.error.DecodeError.{DecodeError}
 use Rattle.cbor4ii_rw.specs.declared.error.DecodeError.TheVariants.{RequireUtf8}
 use Rattle.cbor4ii_items.specs.Decoding.{Decodes}
 use Rattle.cbor4ii_items.specs.Reading.{Reading, Runs}
 use Rattle.cbor4ii_items.specs.ReadHead.{length_at}
 use Rattle.cbor4ii_items.specs.ReadStrings.{content_on, string_at}
-use Rattle.cbor4ii_items.specs.Laws.CountedContent.{content_whole}
+use Rattle.cbor4ii_items.specs.Laws.DefiniteContent.{content_whole}
 use Rattle.cbor4ii_items.specs.Laws.Outcome.{same_value}
 use Rattle.cbor4ii_items.specs.Laws.ProgramEnds.{length_none, content_inverse}
-use Rattle.cbor4ii_items.specs.Laws.Strings.{length_open}
-use Rattle.cbor4ii_items.specs.Strings.{string_spelling}
+use Rattle.cbor4ii_items.specs.Laws.Strings.{length_indefinite}
+use Rattle.cbor4ii_items.specs.Strings.{string_format}
 use Rattle.cbor4ii_items.specs.Lent.{Lends, Stays}
-use Rattle.cbor4ii_items.specs.Cow.{either_spelling, TakesContent, BorrowsWhereCounted}
+use Rattle.cbor4ii_items.specs.Cow.{either_format, TakesContent, BorrowsWhereDefinite}
 use Rattle.cbor4ii_items.specs.Cow.{IsBorrowedWhereWhole}
-use Rattle.cbor4ii_items.proofs.OpenStrings.{string_known}
+use Rattle.cbor4ii_items.proofs.IndefiniteStrings.{string_known}
 use Rattle.cbor4ii_items.proofs.WholeHeads.{runs_stayed}
 use Rattle.cbor4ii_items.specs.Laws.Calls.{by_ok, by_err}
 use Rattle.cbor4ii_items.proofs.StringAnswers.{content_ok, content_err, text_ok, text_err, utf8_err}
 
--- ---- a content of a known length
+-- ---- a content of definite length
 
 -- what is lent is what the program reads
 pub lends_runs : {E : Type 0} (name : List ℕ) {count : ℕ} {content : List ℕ} {a b : View}
     → Lends count content a b → Runs {E = E} (content_on name count []) a b (Ok content)
 lends_runs name {count = count} l = record {
   moves = record { by = l.kept; depth = λ e. refl };
-  answers = λ xs told.
-      let t = l.at xs told in (
+  answers = λ xs known.
+      let t = l.at xs known in (
         drop count xs,
         t.1,
         content_whole name count [] xs t.0
@@ -48,13 +48,13 @@ takes_still is_text content (Err e) s t = record { by = runs_stayed s t.by }
 -- where the bytes are fewer, there is no value
 pub few_borrows : {V E : Type 0} (name : List ℕ) (count : ℕ) (is_text : Bool) (content : V → List ℕ)
     (IsBorrowed : V → Type 0) {a m b : View} (r : Result (Option V) (DecodeError E)) → Stays a m
-    → (IsTrue a.lends_whole → Told a.told (λ xs. length xs < count))
+    → (IsTrue a.zero_copy → IfKnown a.known (λ xs. length xs < count))
     → TakesContent (content_on name count []) is_text content m b r
     → IfOk r (λ value. IfSome value (IsBorrowedWhereWhole IsBorrowed a))
-few_borrows name count is_text content IsBorrowed (Ok (Some v)) s few t = λ whole xs told.
-    let h = t.by.1.answers xs (s.told xs told) in
+few_borrows name count is_text content IsBorrowed (Ok (Some v)) s few t = λ whole xs known.
+    let h = t.by.1.answers xs (s.known xs known) in
     let long = (content_inverse name count [] xs t.by.0 h.0 h.2).0 in
-    absurd (omega (arith, few whole xs told, long))
+    absurd (omega (arith, few whole xs known, long))
 few_borrows name count is_text content IsBorrowed (Ok None) s few t = tt
 few_borrows name count is_text content IsBorrowed (Err e) s few t = tt
 
@@ -62,7 +62,7 @@ few_borrows name count is_text content IsBorrowed (Err e) s few t = tt
 
 module _ {V E : Type 0} (name : List ℕ) (major : ℕ) (is_text : Bool) (content : V → List ℕ)
     {a b : View} where
-  -- behind a head that says the length
+  -- after a head that says the length
   pub either_known : {l : Option ℕ} {count : ℕ} {m : View} (r : Result (Option V) (DecodeError E))
       → Runs {E = E} (length_at name major) a m (Ok l) → l ≡ Some count
       → TakesContent (content_on name count []) is_text content m b r
@@ -75,33 +75,33 @@ module _ {V E : Type 0} (name : List ℕ) (content : V → List ℕ) {a b : View
   pub either_ok : (is_text : Bool) (major : ℕ) {v : V} → (IsTrue is_text → major ≡ 3)
       → b.bound + 1 ≤ a.bound
       → TakesContent {E = E} (string_at name major a.budget) is_text content a b (Ok (Some v))
-      → Decodes {E = E} (either_spelling is_text name major content) a b (Ok v)
+      → Decodes {E = E} (either_format is_text name major content) a b (Ok v)
   either_ok true major text progress t =
       text_ok name content (sym t.by.2.0) (t.by.2.1 refl)
-      (subst (λ (j : ℕ). Decodes {E = E} (string_spelling name j) a b (Ok t.by.0)) (text refl)
+      (subst (λ (j : ℕ). Decodes {E = E} (string_format name j) a b (Ok t.by.0)) (text refl)
       (content_ok name major progress t.by.1))
   either_ok false major text progress t =
-      by_ok content (string_spelling name major) t.by.2.0 (content_ok name major progress t.by.1)
+      by_ok content (string_format name major) t.by.2.0 (content_ok name major progress t.by.1)
 
   -- of a text the major type is 3
   pub either_err : (is_text : Bool) (major : ℕ) {e : DecodeError E} → (IsTrue is_text → major ≡ 3)
       → major < 8 → Runs {V = List ℕ} (string_at name major a.budget) a b (Err e)
-      → Decodes (either_spelling is_text name major content) a b (Err e)
+      → Decodes (either_format is_text name major content) a b (Err e)
   either_err true major {e = e} text small f =
       text_err name content
-      (subst (λ (j : ℕ). Decodes (string_spelling name j) a b (Err e)) (text refl)
+      (subst (λ (j : ℕ). Decodes (string_format name j) a b (Err e)) (text refl)
       (content_err name major small f))
   either_err false major text small f =
-      by_err content (string_spelling name major) (content_err name major small f)
+      by_err content (string_format name major) (content_err name major small f)
 
   -- a content that is to be UTF-8 and is not
   pub other_err : (is_text : Bool) (major : ℕ) {found : Bor (List ℕ)} → found.now ≡ name
       → (IsTrue is_text → major ≡ 3) → b.bound + 1 ≤ a.bound
       → TakesContent {E = E} (string_at name major a.budget) is_text content a b (Ok None)
-      → Decodes {E = E} (either_spelling is_text name major content) a b (Err (RequireUtf8 found))
+      → Decodes {E = E} (either_format is_text name major content) a b (Err (RequireUtf8 found))
   other_err true major named text progress t =
       utf8_err name content named t.by.2.1
-      (subst (λ (j : ℕ). Decodes {E = E} (string_spelling name j) a b (Ok t.by.0)) (text refl)
+      (subst (λ (j : ℕ). Decodes {E = E} (string_format name j) a b (Ok t.by.0)) (text refl)
       (content_ok name major progress t.by.1))
   other_err false major named text progress t = let f = t.by.2.0 in cc
 
@@ -109,28 +109,28 @@ module _ {V E : Type 0} (name : List ℕ) (content : V → List ℕ) {a b : View
 
 module _ {V E : Type 0} (name : List ℕ) (major : ℕ) (IsBorrowed IsOwned : V → Type 0) {a m : View}
     {l : Option ℕ} (run : Runs {E = E} (length_at name major) a m (Ok l)) where
-  counted_borrows : {count : ℕ} (v : V) → l ≡ Some count → IsBorrowedWhereWhole IsBorrowed m v
-      → BorrowsWhereCounted major IsBorrowed IsOwned a v
-  counted_borrows v is h = record {
-    indefinite = λ xs told begins. let f = length_open name major xs begins in
-        let g = (same_value _ f (run.answers xs told).2).0 in cc;
-    counted = λ whole xs told other. let g = run.answers xs told in
-        h (run.moves.by.lends_whole whole) g.0 g.1;
+  definite_borrows : {count : ℕ} (v : V) → l ≡ Some count → IsBorrowedWhereWhole IsBorrowed m v
+      → BorrowsWhereDefinite major IsBorrowed IsOwned a v
+  definite_borrows v is h = record {
+    indefinite = λ xs known begins. let f = length_indefinite name major xs begins in
+        let g = (same_value _ f (run.answers xs known).2).0 in cc;
+    definite = λ whole xs known other. let g = run.answers xs known in
+        h (run.moves.by.zero_copy whole) g.0 g.1;
   }
 
   pub known_borrows : {count : ℕ} (r : Result (Option V) (DecodeError E)) → l ≡ Some count
       → IfOk r (λ value. IfSome value (IsBorrowedWhereWhole IsBorrowed m))
-      → IfOk r (λ value. IfSome value (BorrowsWhereCounted major IsBorrowed IsOwned a))
-  known_borrows (Ok (Some v)) is h = counted_borrows v is h
+      → IfOk r (λ value. IfSome value (BorrowsWhereDefinite major IsBorrowed IsOwned a))
+  known_borrows (Ok (Some v)) is h = definite_borrows v is h
   known_borrows (Ok None) is h = tt
   known_borrows (Err e) is h = tt
 
   pub joined_owns : (value : Option V) → l ≡ None → IfSome value IsOwned
-      → IfSome value (BorrowsWhereCounted major IsBorrowed IsOwned a)
+      → IfSome value (BorrowsWhereDefinite major IsBorrowed IsOwned a)
   joined_owns (Some v) is h = record {
-    indefinite = λ xs told begins. h;
-    counted = λ whole xs told other.
-        let g = run.answers xs told in
+    indefinite = λ xs known begins. h;
+    definite = λ whole xs known other.
+        let g = run.answers xs known in
         absurd
         (other (length_none name major xs g.0 (g.2 ∙ ap (λ (z : Option ℕ). Ok (z, g.0)) is)).0);
   }

@@ -4,19 +4,19 @@ use Rattle.std.proofs.Common.{get_or, drop, take, Ok, refl, sym, ap₂, ap, ◌�
 use Rattle.std.proofs.Common.{length-append}
 use Rattle.std.specs.Int.{bytes_high_first}
 use Rattle.std.proofs.lemmas.List.{length-drop, length-take-le, take-append-drop}
-use Rattle.cbor4ii_rw.specs.View.{View, Told}
-use Rattle.cbor4ii_rw.specs.Reader.{Shows, Advances, IsFront}
+use Rattle.cbor4ii_rw.specs.View.{View, IfKnown}
+use Rattle.cbor4ii_rw.specs.Reader.{Shows, Advances, IsPrefix}
 use Rattle.cbor4ii_items.specs.Head.{IsBytes}
-use Rattle.cbor4ii_items.specs.Refusal.{Refusal}
+use Rattle.cbor4ii_items.specs.InputError.{InputError}
 use Rattle.cbor4ii_items.specs.ReadHead.{number_on}
 use Rattle.cbor4ii_items.specs.Laws.Heads.{number_is, number_inverse, onto-lt, bytes_onto}
 use Rattle.cbor4ii_items.specs.Magnitude.{number_of}
 use Rattle.cbor4ii_items.specs.Reading.{Runs}
 use Rattle.cbor4ii_items.specs.Marked.{marked_at}
-use Rattle.cbor4ii_items.specs.Floats.{float_bytes, IsInFront, ReadsFloat, CutFloat, StopsFloat}
+use Rattle.cbor4ii_items.specs.Floats.{float_bytes, IsInFront, ReadsFloat, CutFloat, RejectsFloat}
 use Rattle.cbor4ii_items.specs.Floats.{float_at, float_again}
 use Rattle.cbor4ii_items.specs.Laws.ProgramEnds.{ok_parts, err_parts, ErrParts}
-use Rattle.cbor4ii_items.specs.Laws.Contents.{lends_front}
+use Rattle.cbor4ii_items.specs.Laws.Contents.{lends_prefix}
 use Rattle.cbor4ii_items.proofs.Leaves.{IsLeaf}
 use Rattle.cbor4ii_items.specs.Laws.ReadingHeads.{number_cut}
 use Rattle.cbor4ii_items.proofs.Marked.{marked_value, marked_stays}
@@ -49,14 +49,15 @@ module _ (name : List ℕ) (marker count : ℕ) where
         cost = refl;
       }
 
-  float_cut : (xs : List ℕ) (z : Refusal) (ys : List ℕ) → ErrParts (marked_at name marker marker xs)
+  float_cut : (xs : List ℕ) (z : InputError) (ys : List ℕ) → ErrParts
+      (marked_at name marker marker xs)
       (λ b. number_on name count count 0) z ys → CutFloat name marker count xs z ys
   float_cut xs z ys h =
       let m = marked_value name marker marker h.value xs h.rest h.begun in
       let r = number_cut name count count 0 h.rest z ys h.ended in
       let first : h.value ≡ marker = omega (arith, m.1, m.2) in
       record {
-        behind = h.rest;
+        trailing = h.rest;
         is = m.0 ∙ ap (λ b. b ∷ h.rest) first;
         short = r.0;
         answer = r.1;
@@ -64,11 +65,11 @@ module _ (name : List ℕ) (marker count : ℕ) where
       }
 
   pub float_leaf : IsLeaf (float_at name marker count) (ReadsFloat marker count)
-      (StopsFloat name marker count)
+      (RejectsFloat name marker count)
   float_leaf = record {
     means = float_means;
     again = float_again name marker count;
-    refuses = λ xs budget z n e within bytes.
+    is_complete = λ xs budget z n e within bytes.
         elim (err_parts (marked_at name marker marker xs)
         (λ b. number_on name count count 0) z (drop n xs) e) [
           | inl f ↦ inl (marked_stays name marker marker (λ b. b ≡ marker)
@@ -77,30 +78,31 @@ module _ (name : List ℕ) (marker count : ℕ) where
         ];
   }
 
--- ---- a front that was shown
+-- ---- a prefix that was shown
 
--- a marker and a number's bytes behind it
-pub front_is_float : (marker count : ℕ) (front content : List ℕ)
-    → content ≡ take count (drop 1 front) → suc count ≤ length front → get_or front 0 0 ≡ marker
-    → marker < 256 → IsBytes content → IsInFront marker count front (number_of content)
-front_is_float marker count [] content behind long first small bytes = absurd (omega arith)
-front_is_float marker count (b ∷ bs) content behind long first small bytes =
-    let size : length content ≡ count = ap length behind ∙ length-take-le count bs (omega arith) in
+-- a marker and a number's bytes after it
+pub prefix_is_float : (marker count : ℕ) (prefix content : List ℕ)
+    → content ≡ take count (drop 1 prefix) → suc count ≤ length prefix → get_or prefix 0 0 ≡ marker
+    → marker < 256 → IsBytes content → IsInFront marker count prefix (number_of content)
+prefix_is_float marker count [] content trailing long first small bytes = absurd (omega arith)
+prefix_is_float marker count (b ∷ bs) content trailing long first small bytes =
+    let size : length content ≡ count =
+    ap length trailing ∙ length-take-le count bs (omega arith) in
     record {
       long = long;
-      bytes = (omega (arith, first, small), subst IsBytes behind bytes);
+      bytes = (omega (arith, first, small), subst IsBytes trailing bytes);
       fits = subst (λ k. number_of content < 256 ^ k) size (onto-lt content bytes);
       is =
-          ap₂ ◌∷◌ first (sym behind ∙ (sym (bytes_onto content 0 bytes)
+          ap₂ ◌∷◌ first (sym trailing ∙ (sym (bytes_onto content 0 bytes)
           ∙ ap (λ k. bytes_high_first k (number_of content)) size));
     }
 
-float_shown : {marker count bits : ℕ} (n : ℕ) {front xs : List ℕ} → n ≡ suc count
-    → IsInFront marker count front bits → take n front ≡ take n xs
+float_shown : {marker count bits : ℕ} (n : ℕ) {prefix xs : List ℕ} → n ≡ suc count
+    → IsInFront marker count prefix bits → take n prefix ≡ take n xs
     → ReadsFloat marker count xs bits n 0
-float_shown {marker = marker} {count = count} {bits = bits} n {front = front} {xs = xs} e f same =
+float_shown {marker = marker} {count = count} {bits = bits} n {prefix = prefix} {xs = xs} e f same =
     let whole : take n xs ≡ float_bytes marker count bits =
-    sym same ∙ (ap (λ k. take k front) e ∙ f.is) in
+    sym same ∙ (ap (λ k. take k prefix) e ∙ f.is) in
     record {
       fits = f.fits;
       rest = drop n xs;
@@ -109,18 +111,18 @@ float_shown {marker = marker} {count = count} {bits = bits} n {front = front} {x
       cost = refl;
     }
 
-pub runs_float : {E : Type 0} (name : List ℕ) {marker count bits n : ℕ} {front : List ℕ}
-    {a m b : View} → n ≡ suc count → Shows front a m → Told a.told (IsFront n front)
-    → IsInFront marker count front bits → Advances n m b
+pub runs_float : {E : Type 0} (name : List ℕ) {marker count bits n : ℕ} {prefix : List ℕ}
+    {a m b : View} → n ≡ suc count → Shows prefix a m → IfKnown a.known (IsPrefix n prefix)
+    → IsInFront marker count prefix bits → Advances n m b
     → Runs {E = E} (float_at name marker count) a b (Ok bits)
 runs_float name {marker = marker} {count = count} {bits = bits} {n = n}
-    {front = front} e shows told_front f adv =
-    let lends = lends_front shows told_front (omega (arith, f.long))
-    (subst (λ k. IsBytes (take k front)) (sym e) f.bytes) refl adv in
+    {prefix = prefix} e shows known_prefix f adv =
+    let lends = lends_prefix shows known_prefix (omega (arith, f.long))
+    (subst (λ k. IsBytes (take k prefix)) (sym e) f.bytes) refl adv in
     record {
       moves = record { by = lends.kept; depth = λ e. refl };
-      answers = λ xs told.
-          let h = lends.at xs told in (
+      answers = λ xs known.
+          let h = lends.at xs known in (
             drop n xs,
             h.1,
             (float_again name marker count xs bits n 0 (float_shown n e f h.2)).answer,

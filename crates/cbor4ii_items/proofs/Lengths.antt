@@ -1,16 +1,16 @@
--- Lengths are read exactly as they are spelled.
+-- Lengths are read exactly as they are encoded.
 use Rattle.std.proofs.Common.{◌≡◌, ℕ, ◌<◌, ◌≤◌, List, [], ◌∷◌, length, drop, take, Option, None}
 use Rattle.std.proofs.Common.{Some, Result, Ok, refl, sym, ap, ◌∙◌, subst, arith}
 use Rattle.std.proofs.lemmas.List.{length-drop}
 use Rattle.cbor4ii_rw.specs.View.{View}
 use Rattle.cbor4ii_rw.specs.declared.error.DecodeError.{DecodeError}
-use Rattle.cbor4ii_items.specs.Head.{IsBytes, open_head}
+use Rattle.cbor4ii_items.specs.Head.{IsBytes, indefinite_head}
 use Rattle.cbor4ii_items.specs.Reading.{Reading, Runs}
 use Rattle.cbor4ii_items.specs.ReadHead.{length_at}
 use Rattle.cbor4ii_items.specs.Laws.Heads.{read_head, head_read}
 use Rattle.cbor4ii_items.specs.Laws.ProgramEnds.{length_some, length_none}
-use Rattle.cbor4ii_items.specs.Laws.Strings.{length_known, length_open}
-use Rattle.cbor4ii_items.specs.Lengths.{ReadsLength, StopsLength}
+use Rattle.cbor4ii_items.specs.Laws.Strings.{length_known, length_indefinite}
+use Rattle.cbor4ii_items.specs.Lengths.{ReadsLength, RejectsLength}
 use Rattle.cbor4ii_items.specs.Laws.Arguments.{ReadBy}
 use Rattle.cbor4ii_items.proofs.Leaves.{IsLeaf}
 use Rattle.cbor4ii_items.proofs.StringsRead.{no_length}
@@ -27,7 +27,7 @@ length_means name major xs (Some v) n e within bytes =
     (read_head name major 8 xs v n (length_some name major v xs (drop n xs) e) within bytes, refl)
 length_means name major xs None n e within bytes =
     let o = length_none name major xs (drop n xs) e in
-    (o.0, one_byte (open_head major) n xs o.0 within o.1, refl)
+    (o.0, one_byte (indefinite_head major) n xs o.0 within o.1, refl)
 
 some_byte : (b : ℕ) (xs : List ℕ) → take 1 xs ≡ b ∷ [] → 1 ≤ length xs
 some_byte b [] e = cc
@@ -44,18 +44,18 @@ length_again name major m xs (Some v) n c p =
       cost = p.1;
     }
 length_again name major m xs None n c p = record {
-  answer = length_open name major xs p.0 ∙ ap (λ (k : ℕ). Ok (None, drop k xs)) (sym p.1);
-  within = omega (arith, p.1, some_byte (open_head major) xs p.0);
+  answer = length_indefinite name major xs p.0 ∙ ap (λ (k : ℕ). Ok (None, drop k xs)) (sym p.1);
+  within = omega (arith, p.1, some_byte (indefinite_head major) xs p.0);
   positive = omega (arith, p.1);
   cost = p.2;
 }
 
 pub length_leaf : (name : List ℕ) (major : ℕ) → major < 8
-    → IsLeaf (length_at name major) (ReadsLength major) (StopsLength name major)
+    → IsLeaf (length_at name major) (ReadsLength major) (RejectsLength name major)
 length_leaf name major m = record {
   means = length_means name major;
   again = length_again name major m;
-  refuses = λ xs budget z n e within bytes. no_length name major xs z (drop n xs) e;
+  is_complete = λ xs budget z n e within bytes. no_length name major xs z (drop n xs) e;
 }
 
 -- ---- whatever the call answers

@@ -5,15 +5,15 @@ use Rattle.std.proofs.Common.{eq-eqb, leb-true}
 use Rattle.std.specs.Prelude.{codes, ◌&&◌, ◌==◌, nat_le}
 use Rattle.std.proofs.lemmas.List.{length-drop}
 use Rattle.cbor4ii_rw.specs.View.{View}
-use Rattle.cbor4ii_items.specs.Refusal.{Refusal, mismatch}
+use Rattle.cbor4ii_items.specs.InputError.{InputError, mismatch}
 use Rattle.cbor4ii_items.specs.Reading.{byte_at, Runs}
-use Rattle.cbor4ii_items.specs.Laws.Outcome.{same_value, same_refusal}
+use Rattle.cbor4ii_items.specs.Laws.Outcome.{same_value, same_input_error}
 use Rattle.cbor4ii_items.specs.Laws.Arguments.{ReadBy}
 use Rattle.cbor4ii_items.specs.Marked.{NoneBegins, marked_at, within_marks}
-use Rattle.cbor4ii_items.specs.Simple.{ReadsBool, StopsBool, IsBool, bool_byte, bool_at}
+use Rattle.cbor4ii_items.specs.Simple.{ReadsBool, RejectsBool, IsBool, bool_byte, bool_at}
 use Rattle.cbor4ii_items.specs.Simple.{bool_within, bool_positive}
 use Rattle.cbor4ii_items.proofs.Leaves.{IsLeaf}
-use Rattle.cbor4ii_items.proofs.SignedLeaf.{sign_given, sign_refused}
+use Rattle.cbor4ii_items.proofs.SignedLeaf.{sign_given, sign_rejected}
 
 -- ---- a call of the program
 
@@ -30,7 +30,7 @@ pub runs_marked : {E : Type 0} (name : List ℕ) (least greatest : ℕ) {b : ℕ
     → Runs {E = E} (marked_at name least greatest) a c (Ok b)
 runs_marked name least greatest {b = b} p q r = record {
   moves = record { by = r.moves.by; depth = λ e. refl };
-  answers = λ xs told. let h = r.answers xs told in
+  answers = λ xs known. let h = r.answers xs known in
       (h.0, h.1, marked_byte name least greatest b xs h.0 p q h.2);
 }
 
@@ -43,7 +43,7 @@ and_parts false t e = cc
 
 marked_by : (t : Bool) (name : List ℕ) (least greatest x b : ℕ) (xs ys : List ℕ)
     → (nat_le least x && nat_le x greatest) ≡ t
-    → cond {A = Result (ℕ × List ℕ) (Refusal × List ℕ)} t (Ok (x, xs))
+    → cond {A = Result (ℕ × List ℕ) (InputError × List ℕ)} t (Ok (x, xs))
     (Err (mismatch name x, x ∷ xs)) ≡ Ok (b, ys)
     → (x ∷ xs ≡ b ∷ ys) × (least ≤ b) × (b ≤ greatest)
 marked_by true name least greatest x b xs ys t e =
@@ -59,21 +59,21 @@ marked_value name least greatest b [] ys e = cc
 marked_value name least greatest b (x ∷ xs) ys e =
     marked_by (nat_le least x && nat_le x greatest) name least greatest x b xs ys refl e
 
-stays_by : (t : Bool) (name : List ℕ) (begins : ℕ → Type 0) (x : ℕ) (xs : List ℕ) (z : Refusal)
+stays_by : (t : Bool) (name : List ℕ) (begins : ℕ → Type 0) (x : ℕ) (xs : List ℕ) (z : InputError)
     (ys : List ℕ) → (begins x → t ≡ true)
-    → cond {A = Result (ℕ × List ℕ) (Refusal × List ℕ)} t (Ok (x, xs))
+    → cond {A = Result (ℕ × List ℕ) (InputError × List ℕ)} t (Ok (x, xs))
     (Err (mismatch name x, x ∷ xs)) ≡ Err (z, ys) → NoneBegins name begins (x ∷ xs) z ys
 stays_by true name begins x xs z ys h e = cc
 stays_by false name begins x xs z ys h e =
-    let p = same_refusal {V = ℕ} (Err (mismatch name x, x ∷ xs)) refl e in
+    let p = same_input_error {V = ℕ} (Err (mismatch name x, x ∷ xs)) refl e in
     (λ b. (let f = h b in cc), sym p.0, sym p.1)
 
--- where it is refused, none of the type's bytes comes next
+-- where it is rejected, none of the type's bytes comes next
 pub marked_stays : (name : List ℕ) (least greatest : ℕ) (begins : ℕ → Type 0)
-    → ((b : ℕ) → begins b → (least ≤ b) × (b ≤ greatest)) → (xs : List ℕ) (z : Refusal)
+    → ((b : ℕ) → begins b → (least ≤ b) × (b ≤ greatest)) → (xs : List ℕ) (z : InputError)
     (ys : List ℕ) → marked_at name least greatest xs ≡ Err (z, ys) → NoneBegins name begins xs z ys
 marked_stays name least greatest begins h [] z ys e =
-    let p = same_refusal (marked_at name least greatest []) refl e in (sym p.0, sym p.1)
+    let p = same_input_error (marked_at name least greatest []) refl e in (sym p.0, sym p.1)
 marked_stays name least greatest begins h (x ∷ xs) z ys e =
     stays_by (nat_le least x && nat_le x greatest) name begins x xs z ys
     (λ b. (let p = h x b in within_marks least greatest x p.0 p.1)) e
@@ -111,11 +111,11 @@ bool_bytes : (b : ℕ) → IsBool b → (0xf4 ≤ b) × (b ≤ 0xf5)
 bool_bytes b (false, e) = (omega (arith, e), omega (arith, e))
 bool_bytes b (true, e) = (omega (arith, e), omega (arith, e))
 
-pub bool_leaf : IsLeaf bool_at ReadsBool StopsBool
+pub bool_leaf : IsLeaf bool_at ReadsBool RejectsBool
 bool_leaf = record {
   means = λ xs v n e within bytes. bool_means xs v n e within;
   again = bool_again;
-  refuses = λ xs budget z n e within bytes.
+  is_complete = λ xs budget z n e within bytes.
       marked_stays (codes "bool") 0xf4 0xf5 IsBool bool_bytes xs z (drop n xs)
-      (sign_refused (marked_at (codes "bool") 0xf4 0xf5) (λ b. b == 0xf5) xs z (drop n xs) e);
+      (sign_rejected (marked_at (codes "bool") 0xf4 0xf5) (λ b. b == 0xf5) xs z (drop n xs) e);
 }

@@ -6,22 +6,23 @@ use Rattle.std.specs.Prelude.{codes}
 use Rattle.cbor4ii_rw.specs.View.{View}
 use Rattle.cbor4ii_rw.specs.declared.error.DecodeError.{DecodeError}
 use Rattle.cbor4ii_items.specs.Head.{IsBytes}
-use Rattle.cbor4ii_items.specs.Refusal.{Refusal}
+use Rattle.cbor4ii_items.specs.InputError.{InputError}
 use Rattle.cbor4ii_items.specs.Reading.{go_on}
-use Rattle.cbor4ii_items.specs.Decoding.{CostFits, NoneRead, Spelling, Decodes}
-use Rattle.cbor4ii_items.specs.Laws.Outcome.{same_value, same_refusal}
+use Rattle.cbor4ii_items.specs.Decoding.{CostFits, NoneRead, Format, Decodes}
+use Rattle.cbor4ii_items.specs.Laws.Outcome.{same_value, same_input_error}
 use Rattle.cbor4ii_items.specs.Heads.{ReadsHead}
 use Rattle.cbor4ii_items.specs.Laws.Heads.{read_head, head_read, head_one}
 use Rattle.cbor4ii_items.specs.ReadHead.{length_at}
 use Rattle.cbor4ii_items.specs.Laws.ProgramEnds.{ok_parts, err_parts, length_some, length_none}
 use Rattle.cbor4ii_items.specs.Laws.Strings.{length_known}
-use Rattle.cbor4ii_items.specs.Laws.Fronts.{drop_more}
+use Rattle.cbor4ii_items.specs.Laws.Prefixes.{drop_more}
 use Rattle.cbor4ii_items.specs.Laws.Arguments.{ReadBy}
-use Rattle.cbor4ii_items.specs.Maybe.{ReadsFew, ReadsMaybe, StopsFew, few_head_refused, few_open}
-use Rattle.cbor4ii_items.specs.Maybe.{few_other, maybe_head_refused, maybe_item_refused, few_by}
-use Rattle.cbor4ii_items.specs.Maybe.{few_at, few_spelling}
-use Rattle.cbor4ii_items.specs.Laws.Maybe.{two_counts, maybe_spelling}
-use Rattle.cbor4ii_items.specs.Laws.Calls.{ok, ok_behind, err_behind, of_exact, exactly}
+use Rattle.cbor4ii_items.specs.Maybe.{ReadsFew, ReadsMaybe, RejectsFew, few_head_rejected}
+use Rattle.cbor4ii_items.specs.Maybe.{few_indefinite}
+use Rattle.cbor4ii_items.specs.Maybe.{few_other, maybe_head_rejected, maybe_item_rejected, few_by}
+use Rattle.cbor4ii_items.specs.Maybe.{few_at, few_format}
+use Rattle.cbor4ii_items.specs.Laws.Maybe.{two_counts, maybe_format}
+use Rattle.cbor4ii_items.specs.Laws.Calls.{ok, ok_after, err_after, of_exact, exactly}
 use Rattle.cbor4ii_items.specs.Laws.Running.{kept_alike}
 use Rattle.cbor4ii_items.specs.Laws.Answering.{fits_zero}
 use Rattle.cbor4ii_items.proofs.Leaves.{IsLeaf}
@@ -65,35 +66,35 @@ few_again xs true n c p =
     let h = head_read [] 4 8 xs 1 n (omega arith) p.0 in
     record { answer = few_known xs 1 n p.0; within = h.1; positive = h.2; cost = p.1 }
 
-few_stopped : (xs ys : List ℕ) (budget : Option ℕ) (z : Refusal) (n : ℕ) (l : Option ℕ)
+few_stopped : (xs ys : List ℕ) (budget : Option ℕ) (z : InputError) (n : ℕ) (l : Option ℕ)
     → length_at (codes "array") 4 xs ≡ Ok (l, ys) → few_by l ys ≡ Err (z, drop n xs) → n ≤ length xs
-    → IsBytes (take n xs) → StopsFew xs budget z (drop n xs)
+    → IsBytes (take n xs) → RejectsFew xs budget z (drop n xs)
 few_stopped xs ys budget z n None e f within bytes =
     let o = length_none (codes "array") 4 xs ys e in
-    let p = same_refusal (few_by None ys) refl f in
-    few_open o.0 (sym p.0) (sym p.1 ∙ o.1)
+    let p = same_input_error (few_by None ys) refl f in
+    few_indefinite o.0 (sym p.0) (sym p.1 ∙ o.1)
 few_stopped xs ys budget z n (Some zero) e f within bytes = cc
 few_stopped xs ys budget z n (Some (suc zero)) e f within bytes = cc
 few_stopped xs ys budget z n (Some (suc (suc k))) e f within bytes =
-    let p = same_refusal (few_by (Some (suc (suc k))) ys) refl f in
+    let p = same_input_error (few_by (Some (suc (suc k))) ys) refl f in
     few_other (suc (suc k)) n (few_head xs ys (suc (suc k)) n e p.1 within bytes)
     (λ t. omega (arith, t)) (λ t. omega (arith, t)) (sym p.0) refl
 
-few_refuses : (xs : List ℕ) (budget : Option ℕ) (z : Refusal) (n : ℕ)
+few_complete : (xs : List ℕ) (budget : Option ℕ) (z : InputError) (n : ℕ)
     → few_at xs ≡ Err (z, drop n xs) → n ≤ length xs → IsBytes (take n xs)
-    → StopsFew xs budget z (drop n xs)
-few_refuses xs budget z n e within bytes =
+    → RejectsFew xs budget z (drop n xs)
+few_complete xs budget z n e within bytes =
     elim (err_parts (length_at (codes "array") 4 xs) few_by z (drop n xs) e) [
-      | inl r ↦ few_head_refused (no_length (codes "array") 4 xs z (drop n xs) r)
+      | inl r ↦ few_head_rejected (no_length (codes "array") 4 xs z (drop n xs) r)
       | inr g ↦ few_stopped xs g.rest budget z n g.value g.begun g.ended within bytes
     ]
 
-pub few_leaf : IsLeaf few_at ReadsFew StopsFew
-few_leaf = record { means = few_means; again = few_again; refuses = few_refuses }
+pub few_leaf : IsLeaf few_at ReadsFew RejectsFew
+few_leaf = record { means = few_means; again = few_again; is_complete = few_complete }
 
 -- ---- the item
 
-module _ {V : Type 0} (s : Spelling V) where
+module _ {V : Type 0} (s : Format V) where
   no_item : (xs : List ℕ) (i : ℕ) (budget : Option ℕ) → ReadsHead 4 8 xs 1 i
       → NoneRead s.reads (drop i xs) budget → (v : Option V) (n c : ℕ)
       → ReadsMaybe s.reads xs v n c → CostFits c budget → ⊥
@@ -108,26 +109,26 @@ module _ {V : Type 0} (s : Spelling V) where
   no_few xs budget none (Some v) n c r fits =
       none true r.before 0 (r.head, refl) (fits_zero budget)
 
-module _ {V E : Type 0} (s : Spelling V) {a m : View} where
-  pub maybe_head_err : {e : DecodeError E} → Decodes few_spelling a m (Err e)
-      → Decodes (maybe_spelling s) a m (Err e)
+module _ {V E : Type 0} (s : Format V) {a m : View} where
+  pub maybe_head_err : {e : DecodeError E} → Decodes few_format a m (Err e)
+      → Decodes (maybe_format s) a m (Err e)
   maybe_head_err d =
-      exactly (err_behind few_spelling (maybe_spelling s) (kept_alike a) (λ xs told. (
+      exactly (err_after few_format (maybe_format s) (kept_alike a) (λ xs known. (
         xs,
-        told,
+        known,
         record {
           none = λ is none v. no_few s xs a.budget none v.0;
-          stops = λ z ys. maybe_head_refused;
-          begins = λ z ys. maybe_head_refused;
+          rejects = λ z ys. maybe_head_rejected;
+          begins = λ z ys. maybe_head_rejected;
         },
       )) (λ owned. refl) (λ takes. cc) (of_exact d))
 
-  module _ {follows : Bool} (d : Decodes {E = E} few_spelling a m (Ok follows)) where
+  module _ {follows : Bool} (d : Decodes {E = E} few_format a m (Ok follows)) where
     pub maybe_none : follows ≡ false
-        → Decodes {E = E} (maybe_spelling s) a m (Ok (record { 0 = None }))
-    maybe_none none = ok (maybe_spelling s) d.moves.by d.progress (record {
-      at = λ xs told.
-          let p = d.sound.at xs told in
+        → Decodes {E = E} (maybe_format s) a m (Ok (record { 0 = None }))
+    maybe_none none = ok (maybe_format s) d.moves.by d.progress (record {
+      at = λ xs known.
+          let p = d.sound.at xs known in
           record {
             count = p.count;
             cost = p.cost;
@@ -139,9 +140,9 @@ module _ {V E : Type 0} (s : Spelling V) {a m : View} where
 
     module _ (yes : follows ≡ true) {b : View} where
       pub maybe_some : {v : V} → Decodes {E = E} s m b (Ok v)
-          → Decodes {E = E} (maybe_spelling s) a b (Ok (record { 0 = Some v }))
-      maybe_some h = ok_behind s (maybe_spelling s) d.moves.by (λ xs told.
-          let p = d.sound.at xs told in
+          → Decodes {E = E} (maybe_format s) a b (Ok (record { 0 = Some v }))
+      maybe_some h = ok_after s (maybe_format s) d.moves.by (λ xs known.
+          let p = d.sound.at xs known in
           let one = subst (λ w. ReadsFew xs w p.count p.cost) yes p.read in (
             drop p.count xs,
             p.left,
@@ -161,15 +162,15 @@ module _ {V E : Type 0} (s : Spelling V) {a m : View} where
           )) (λ some. omega (arith, d.progress refl, h.moves.by.bound)) h
 
       pub maybe_err : {e : DecodeError E} → Decodes s m b (Err e)
-          → Decodes (maybe_spelling s) a b (Err e)
-      maybe_err h = exactly (err_behind s (maybe_spelling s) d.moves.by (λ xs told.
-          let p = d.sound.at xs told in
+          → Decodes (maybe_format s) a b (Err e)
+      maybe_err h = exactly (err_after s (maybe_format s) d.moves.by (λ xs known.
+          let p = d.sound.at xs known in
           let one = subst (λ w. ReadsFew xs w p.count p.cost) yes p.read in (
             drop p.count xs,
             p.left,
             record {
               none = λ is none v. no_item s xs p.count a.budget one.0 none v.0;
-              stops = λ z ys. maybe_item_refused p.count one.0;
-              begins = λ z ys. maybe_item_refused p.count one.0;
+              rejects = λ z ys. maybe_item_rejected p.count one.0;
+              begins = λ z ys. maybe_item_rejected p.count one.0;
             },
           )) (λ owned. owned) (λ takes. takes) (of_exact h))

@@ -1,4 +1,4 @@
--- Shortest heads, and strings behind them, are read exactly as they are spelled.
+-- Shortest heads, and strings after them, are read exactly as they are encoded.
 use Rattle.std.proofs.Common.{◌≡◌, ◌≢◌, ℕ, ◌+◌, ◌-◌, ◌*◌, ◌%◌, ◌<◌, ◌≤◌, inl, inr, List, []}
 use Rattle.std.proofs.Common.{◌∷◌, ◌++◌, length, drop, take, Option, Some, Result, Ok, Err, Bool}
 use Rattle.std.proofs.Common.{true, false, refl, sym, ap, ap₂, ◌∙◌, subst, arith, cond, ltb, leb}
@@ -11,38 +11,41 @@ use Rattle.cbor4ii_rw.specs.View.{View}
 use Rattle.cbor4ii_rw.specs.Reader.{Advances}
 use Rattle.cbor4ii_rw.specs.declared.error.DecodeError.{DecodeError}
 use Rattle.cbor4ii_items.specs.Head.{Width, byte_count}
-use Rattle.cbor4ii_items.specs.Head.{HeadFits, additional, head, open_head, shortest, IsBytes}
-use Rattle.cbor4ii_items.specs.Refusal.{Refusal, refusal_of, is_read, is_depth_overflow, eof}
-use Rattle.cbor4ii_items.specs.Refusal.{len_of, not_canonical}
+use Rattle.cbor4ii_items.specs.Head.{HeadFits, additional, head, indefinite_head, shortest, IsBytes}
+use Rattle.cbor4ii_items.specs.InputError.{InputError, input_error_of, is_read, is_depth_overflow}
+use Rattle.cbor4ii_items.specs.InputError.{eof}
+use Rattle.cbor4ii_items.specs.InputError.{len_of, not_canonical}
 use Rattle.cbor4ii_items.specs.Initial.{info_of}
-use Rattle.cbor4ii_items.specs.Reading.{Reading, give, refuse, ◌>=>◌, Runs, peek_at}
-use Rattle.cbor4ii_items.specs.Decoding.{Stops, Decodes}
-use Rattle.cbor4ii_items.specs.Laws.Outcome.{same_value, same_refusal}
+use Rattle.cbor4ii_items.specs.Reading.{Reading, give, reject, ◌>=>◌, Runs, peek_at}
+use Rattle.cbor4ii_items.specs.Decoding.{Rejects, Decodes}
+use Rattle.cbor4ii_items.specs.Laws.Outcome.{same_value, same_input_error}
 use Rattle.cbor4ii_items.specs.Heads.{ReadsHead}
-use Rattle.cbor4ii_items.specs.Laws.Heads.{read_head, head_again, behind_head, after_head}
+use Rattle.cbor4ii_items.specs.Laws.Heads.{read_head, head_again, following_head, after_head}
 use Rattle.cbor4ii_items.specs.Laws.Heads.{additional-lt, info-additional, shortest_fits}
 use Rattle.cbor4ii_items.specs.Laws.Heads.{argument_below, same_wide}
 use Rattle.cbor4ii_items.specs.ReadHead.{head_at}
 use Rattle.cbor4ii_items.specs.Contents.{listed}
 use Rattle.cbor4ii_items.specs.ReadStrings.{content_on}
-use Rattle.cbor4ii_items.specs.ReadShortest.{is_open_head, shortest_by, shortest_at}
+use Rattle.cbor4ii_items.specs.ReadShortest.{is_indefinite_head, shortest_by, shortest_at}
 use Rattle.cbor4ii_items.specs.ReadShortest.{shortest_string_at}
-use Rattle.cbor4ii_items.specs.Shortest.{canonical_name, OpensLength, ReadsShortest, StopsShortest}
-use Rattle.cbor4ii_items.specs.Shortest.{shortest_refused, shortest_open, too_long}
-use Rattle.cbor4ii_items.specs.Shortest.{ReadsShortestString, StopsShortestString, length_refused}
-use Rattle.cbor4ii_items.specs.Shortest.{content_cut, shortest_string_spelling}
+use Rattle.cbor4ii_items.specs.Shortest.{canonical_name, OpensLength, ReadsShortest}
+use Rattle.cbor4ii_items.specs.Shortest.{RejectsShortest}
+use Rattle.cbor4ii_items.specs.Shortest.{shortest_rejected, shortest_indefinite, too_long}
+use Rattle.cbor4ii_items.specs.Shortest.{ReadsShortestString, RejectsShortestString}
+use Rattle.cbor4ii_items.specs.Shortest.{length_rejected}
+use Rattle.cbor4ii_items.specs.Shortest.{content_cut, shortest_string_format}
 use Rattle.cbor4ii_items.specs.Laws.Calls.{ok}
 use Rattle.cbor4ii_items.specs.Laws.ProgramEnds.{Passed, ok_parts, err_parts, head_leaves}
 use Rattle.cbor4ii_items.specs.Laws.ProgramEnds.{content_inverse}
-use Rattle.cbor4ii_items.specs.Laws.Fronts.{drop_more}
+use Rattle.cbor4ii_items.specs.Laws.Prefixes.{drop_more}
 use Rattle.cbor4ii_items.specs.Laws.Answering.{Seen, seen_of, Found, fits_zero, sound_by}
-use Rattle.cbor4ii_items.specs.Laws.Answering.{refuses_by, stops_by}
+use Rattle.cbor4ii_items.specs.Laws.Answering.{complete_by, rejects_by}
 use Rattle.cbor4ii_items.specs.Laws.Arguments.{ReadBy}
 use Rattle.cbor4ii_items.specs.Laws.Running.{as_of, peeked, runs_as, runs_then, runs_err, runs_give}
-use Rattle.cbor4ii_items.specs.Laws.Running.{runs_refuse, runs_byte}
+use Rattle.cbor4ii_items.specs.Laws.Running.{runs_reject, runs_byte}
 use Rattle.cbor4ii_items.proofs.Leaves.{IsLeaf}
-use Rattle.cbor4ii_items.proofs.Stopping.{head_stops}
-use Rattle.cbor4ii_items.proofs.StringsRead.{content_refused}
+use Rattle.cbor4ii_items.proofs.Stopping.{head_rejects}
+use Rattle.cbor4ii_items.proofs.StringsRead.{content_rejected}
 
 -- ---- the width that a first byte says
 
@@ -69,26 +72,26 @@ least_width major v n xs h first =
 -- ---- the first byte of an indefinite length
 
 opens_by : (s t : Bool) (major b : ℕ) → leb 2 major ≡ s → leb major 5 ≡ t
-    → cond s (cond t (eqb b (open_head major)) false) false ≡ true → OpensLength major b
+    → cond s (cond t (eqb b (indefinite_head major)) false) false ≡ true → OpensLength major b
 opens_by true true major b p q e =
-    (leb-true 2 major p, leb-true major 5 q, eqb-true b (open_head major) e)
+    (leb-true 2 major p, leb-true major 5 q, eqb-true b (indefinite_head major) e)
 opens_by true false major b p q e = cc
 opens_by false t major b p q e = cc
 
-opens : (major b : ℕ) → is_open_head major b ≡ true → OpensLength major b
+opens : (major b : ℕ) → is_indefinite_head major b ≡ true → OpensLength major b
 opens major b e = opens_by (leb 2 major) (leb major 5) major b refl refl e
 
-opened : (major b : ℕ) → OpensLength major b → is_open_head major b ≡ true
+opened : (major b : ℕ) → OpensLength major b → is_indefinite_head major b ≡ true
 opened major b h =
     let s : leb 2 major ≡ true = le-leb 2 major h.0 in
     let t : leb major 5 ≡ true = le-leb major 5 h.1 in
-    let e : eqb b (open_head major) ≡ true = eq-eqb b (open_head major) h.2 in
+    let e : eqb b (indefinite_head major) ≡ true = eq-eqb b (indefinite_head major) h.2 in
     rw (s, t) e
 
-no_opening : (major b : ℕ) → is_open_head major b ≡ false → ¬ (OpensLength major b)
+no_opening : (major b : ℕ) → is_indefinite_head major b ≡ false → ¬ (OpensLength major b)
 no_opening major b e h = let f = opened major b h in cc
 
-not_opened_by : (t : Bool) (major b : ℕ) → is_open_head major b ≡ t → ¬ (OpensLength major b)
+not_opened_by : (t : Bool) (major b : ℕ) → is_indefinite_head major b ≡ t → ¬ (OpensLength major b)
     → t ≡ false
 not_opened_by true major b e none = absurd (none (opens major b e))
 not_opened_by false major b e none = refl
@@ -100,10 +103,10 @@ head_opens_none major v w h o = omega (arith, o.2, additional-lt v w h)
 
 -- ---- heads that are read
 
-abbrev Longer : Refusal
+abbrev Longer : InputError
 Longer = not_canonical canonical_name
 
-given : (t : Bool) (n v : ℕ) (us ys : List ℕ) → cond t (give n) (refuse Longer) us ≡ Ok (v, ys)
+given : (t : Bool) (n v : ℕ) (us ys : List ℕ) → cond t (give n) (reject Longer) us ≡ Ok (v, ys)
     → (n ≡ v) × (us ≡ ys) × (t ≡ true)
 given true n v us ys e = let p = same_value (give n us) refl e in (p.0, p.1, refl)
 given false n v us ys e = cc
@@ -128,7 +131,7 @@ shortest_ok : (name : List ℕ) (major v : ℕ) (xs ys : List ℕ)
     × ((b : ℕ) (bs : List ℕ) → xs ≡ b ∷ bs → b % 32 ≡ additional (shortest v) v)
 shortest_ok name major v [] ys e = cc
 shortest_ok name major v (b ∷ bs) ys e =
-    let p = read_from (is_open_head major b) name major b v bs ys e in (
+    let p = read_from (is_indefinite_head major b) name major b v bs ys e in (
       p.0,
       λ c cs is.
           (let same : b ≡ c = cc in subst (λ j. j % 32 ≡ additional (shortest v) v) same p.1),
@@ -156,15 +159,16 @@ back_at : (name : List ℕ) (major v : ℕ) (w : Width) (rest ys : List ℕ) →
 back_at name major v w rest ys h s e =
     let b = 32 * major + additional w v in
     let low : b % 32 ≡ additional (shortest v) v = says major v w h ∙ ap (λ u. additional u v) s in
-    back_from (is_open_head major b) name major b v (bytes_high_first (byte_count w) v ++ rest) ys
-    (not_opened_by (is_open_head major b) major b refl (head_opens_none major v w h)) e
+    back_from (is_indefinite_head major b) name major b v
+    (bytes_high_first (byte_count w) v ++ rest) ys
+    (not_opened_by (is_indefinite_head major b) major b refl (head_opens_none major v w h)) e
     (eq-eqb (b % 32) (additional (shortest v) v) low)
 
 pub shortest_again : (name : List ℕ) (major : ℕ) (xs : List ℕ) (v n c : ℕ)
     → ReadsShortest major xs v n c → ReadBy (shortest_at name major) xs v n c
 shortest_again name major xs v n c r =
     let h = r.0 in
-    let p = behind_head h.wide major v n h.rest h.count in
+    let p = following_head h.wide major v n h.rest h.count in
     let left : h.rest ≡ drop n xs = sym (after_head major 8 xs v n h) in
     record {
       answer =
@@ -176,29 +180,30 @@ shortest_again name major xs v n c r =
       cost = r.2;
     }
 
--- ---- heads that are refused
+-- ---- heads that are rejected
 
-refused_by : (t : Bool) (n : ℕ) (us : List ℕ) (z : Refusal) (ys : List ℕ)
-    → cond t (give n) (refuse Longer) us ≡ Err (z, ys) → (z ≡ Longer) × (us ≡ ys) × (t ≡ false)
-refused_by true n us z ys e = cc
-refused_by false n us z ys e =
-    let p = same_refusal (refuse {V = ℕ} Longer us) refl e in (sym p.0, p.1, refl)
+rejected_by : (t : Bool) (n : ℕ) (us : List ℕ) (z : InputError) (ys : List ℕ)
+    → cond t (give n) (reject Longer) us ≡ Err (z, ys) → (z ≡ Longer) × (us ≡ ys) × (t ≡ false)
+rejected_by true n us z ys e = cc
+rejected_by false n us z ys e =
+    let p = same_input_error (reject {V = ℕ} Longer us) refl e in (sym p.0, p.1, refl)
 
-stops_from : (t : Bool) (name : List ℕ) (major b : ℕ) (bs : List ℕ) (budget : Option ℕ)
-    (z : Refusal) (ys : List ℕ) → is_open_head major b ≡ t → Seen (b ∷ bs) ys
+rejects_from : (t : Bool) (name : List ℕ) (major b : ℕ) (bs : List ℕ) (budget : Option ℕ)
+    (z : InputError) (ys : List ℕ) → is_indefinite_head major b ≡ t → Seen (b ∷ bs) ys
     → cond {A = Reading ℕ} t (λ xs. Err (Longer, bs)) (head_at name major 8 >=> shortest_by b)
-    (b ∷ bs) ≡ Err (z, ys) → StopsShortest name major (b ∷ bs) budget z ys
-stops_from true name major b bs budget z ys opening seen e =
-    let o : Result (ℕ × List ℕ) (Refusal × List ℕ) = Err (Longer, bs) in
-    let p = same_refusal o refl e in
-    shortest_open b (opens major b opening) (ap (λ us. b ∷ us) p.1) (sym p.0)
-stops_from false name major b bs budget z ys opening seen e =
+    (b ∷ bs) ≡ Err (z, ys) → RejectsShortest name major (b ∷ bs) budget z ys
+rejects_from true name major b bs budget z ys opening seen e =
+    let o : Result (ℕ × List ℕ) (InputError × List ℕ) = Err (Longer, bs) in
+    let p = same_input_error o refl e in
+    shortest_indefinite b (opens major b opening) (ap (λ us. b ∷ us) p.1) (sym p.0)
+rejects_from false name major b bs budget z ys opening seen e =
     elim (err_parts (head_at name major 8 (b ∷ bs)) (shortest_by b) z ys e) [
-      | inl f ↦ shortest_refused (λ c cs is. (let same : c ≡ b = cc in
+      | inl f ↦ shortest_rejected (λ c cs is. (let same : c ≡ b = cc in
           subst (λ j. ¬ (OpensLength major j)) (sym same) (no_opening major b opening)))
-          (head_stops name major 8 (b ∷ bs) z ys f)
+          (head_rejects name major 8 (b ∷ bs) z ys f)
       | inr g ↦
-          let r = refused_by (eqb (b % 32) (additional (shortest g.value) g.value)) g.value g.rest z
+          let r = rejected_by (eqb (b % 32) (additional (shortest g.value) g.value)) g.value
+          g.rest z
           ys g.ended in
           let passed : Passed (b ∷ bs) ys = (head_leaves name major 8).ok (b ∷ bs) g.value ys
           (g.begun ∙ ap (λ (zs : List ℕ). Ok (g.value, zs)) r.1) in
@@ -222,21 +227,23 @@ stops_from false name major b bs budget z ys opening seen e =
         let t = eq-eqb (b % 32) (additional (shortest v) v) low in
         cc
 
-pub shortest_stops : (name : List ℕ) (major : ℕ) (xs : List ℕ) (budget : Option ℕ) (z : Refusal)
+pub shortest_rejects : (name : List ℕ) (major : ℕ) (xs : List ℕ) (budget : Option ℕ)
+    (z : InputError)
     (ys : List ℕ) → shortest_at name major xs ≡ Err (z, ys) → Seen xs ys
-    → StopsShortest name major xs budget z ys
-shortest_stops name major [] budget z ys e seen =
-    let p = same_refusal (shortest_at name major []) refl e in
-    shortest_refused (λ b bs is. cc) (sym p.0, sym p.1)
-shortest_stops name major (b ∷ bs) budget z ys e seen =
-    stops_from (is_open_head major b) name major b bs budget z ys refl seen e
+    → RejectsShortest name major xs budget z ys
+shortest_rejects name major [] budget z ys e seen =
+    let p = same_input_error (shortest_at name major []) refl e in
+    shortest_rejected (λ b bs is. cc) (sym p.0, sym p.1)
+shortest_rejects name major (b ∷ bs) budget z ys e seen =
+    rejects_from (is_indefinite_head major b) name major b bs budget z ys refl seen e
 
 pub shortest_leaf : (name : List ℕ) (major : ℕ)
-    → IsLeaf (shortest_at name major) (ReadsShortest major) (StopsShortest name major)
+    → IsLeaf (shortest_at name major) (ReadsShortest major) (RejectsShortest name major)
 shortest_leaf name major = record {
   means = shortest_means name major;
   again = shortest_again name major;
-  refuses = λ xs budget z n e within bytes. shortest_stops name major xs budget z (drop n xs) e
+  is_complete = λ xs budget z n e within bytes. shortest_rejects name major xs budget z
+      (drop n xs) e
       (seen_of xs (drop n xs) n within bytes refl);
 }
 
@@ -303,15 +310,15 @@ string_again name major xs v n c r =
     content_back name k us room ∙ ap₂ (λ (w zs : List ℕ). Ok (w, zs)) all left in
     rw h.answer answer
 
-string_stops : (name : List ℕ) (major : ℕ) (budget : Option ℕ) (xs : List ℕ) (z : Refusal)
+string_rejects : (name : List ℕ) (major : ℕ) (budget : Option ℕ) (xs : List ℕ) (z : InputError)
     (ys : List ℕ) → shortest_string_at name major xs ≡ Err (z, ys) → Seen xs ys
-    → StopsShortestString name major xs budget z ys
-string_stops name major budget xs z ys e seen =
+    → RejectsShortestString name major xs budget z ys
+string_rejects name major budget xs z ys e seen =
     elim (err_parts (shortest_at name major xs) (λ n. content_on name n []) z ys e) [
-      | inl f ↦ length_refused (shortest_stops name major xs budget z ys f seen)
+      | inl f ↦ length_rejected (shortest_rejects name major xs budget z ys f seen)
       | inr g ↦
           let o = shortest_ok name major g.value xs g.rest g.begun in
-          let c = content_refused name g.value [] g.rest z ys g.ended in
+          let c = content_rejected name g.value [] g.rest z ys g.ended in
           let p : Passed xs g.rest = (head_leaves name major 8).ok xs g.value g.rest o.0 in
           let i = p.count in
           let h = shortest_means name major xs g.value i
@@ -333,24 +340,24 @@ string_stops name major budget xs z ys e seen =
 module _ {E Z : Type 0} (name : List ℕ) (major : ℕ) {a b : View} where
   pub string_decodes : (r : Result (Vec ℕ Z) (DecodeError E))
       → Runs (shortest_string_at name major) a b (listed r) → OnOk r (b.bound + 1 ≤ a.bound)
-      → Decodes (shortest_string_spelling name major) a b (listed r)
+      → Decodes (shortest_string_format name major) a b (listed r)
   string_decodes (Ok v) p progress =
-      ok (shortest_string_spelling name major) p.moves.by (λ some. progress)
+      ok (shortest_string_format name major) p.moves.by (λ some. progress)
       (sound_by (ReadsShortestString major)
       (λ xs ys e seen. string_found name major a.budget xs v.items ys e seen) p)
   string_decodes (Err e) p progress =
-      let stops : Stops (StopsShortestString name major) a b e =
-      stops_by (StopsShortestString name major)
-      (λ xs z ys f seen. string_stops name major a.budget xs z ys f seen) p in
+      let rejects : Rejects (RejectsShortestString name major) a b e =
+      rejects_by (RejectsShortestString name major)
+      (λ xs z ys f seen. string_rejects name major a.budget xs z ys f seen) p in
       record {
         moves = p.moves;
         progress = λ some. tt;
         memory = λ out. refl;
         sound = tt;
-        complete = λ exact. refuses_by (ReadsShortestString major)
+        complete = λ exact. complete_by (ReadsShortestString major)
             (λ xs v n c h fits. string_again name major xs v n c h) p;
-        stops = λ exact. stops;
-        begins = stops;
+        rejects = λ exact. rejects;
+        begins = rejects;
       }
 
 -- ---- the calls
@@ -361,10 +368,10 @@ pub runs_when : {V E : Type 0} {f g : Reading V} (name : List ℕ) (b : ℕ) {a 
     → ((bs : List ℕ) → f (b ∷ bs) ≡ g (b ∷ bs)) → Runs g a c r → Runs f a c r
 runs_when {f = f} {g = g} name b {c = c} {r = r} first same p = record {
   moves = p.moves;
-  answers = λ xs told.
-      let t = first.answers xs told in
+  answers = λ xs known.
+      let t = first.answers xs known in
       let is = peeked name 1 b xs t.0 t.2 in
-      as_of (f xs) (g xs) c.told r (ap f is.1 ∙ same is.0 ∙ ap g (sym is.1)) (p.answers xs told);
+      as_of (f xs) (g xs) c.known r (ap f is.1 ∙ same is.0 ∙ ap g (sym is.1)) (p.answers xs known);
 }
 
 module _ {E : Type 0} (name : List ℕ) (major b : ℕ) {a m : View}
@@ -376,13 +383,13 @@ module _ {E : Type 0} (name : List ℕ) (major b : ℕ) {a m : View}
 
   -- the first byte of an indefinite length
   pub runs_opening : {c : View} {e : DecodeError E} → b < 256 → Advances 1 m c
-      → is_open_head major b ≡ true → refusal_of e ≡ Some Longer → is_read e ≡ false
+      → is_indefinite_head major b ≡ true → input_error_of e ≡ Some Longer → is_read e ≡ false
       → is_depth_overflow e ≡ false
       → Runs {V = ℕ} (shortest_at name major) a c (Err e)
   runs_opening {c = c} byte advances opening says read depth =
-      runs_when name b first (λ bs. opening_is (is_open_head major b) bs opening)
-      (runs_then (λ _. refuse Longer) (runs_byte first byte advances)
-      (runs_refuse Longer c says read depth))
+      runs_when name b first (λ bs. opening_is (is_indefinite_head major b) bs opening)
+      (runs_then (λ _. reject Longer) (runs_byte first byte advances)
+      (runs_reject Longer c says read depth))
 
   head_is : (t : Bool) (bs : List ℕ) → t ≡ false
       → cond {A = Reading ℕ} t (λ xs. Err (Longer, bs)) (head_at name major 8 >=> shortest_by b)
@@ -390,11 +397,11 @@ module _ {E : Type 0} (name : List ℕ) (major b : ℕ) {a m : View}
   head_is true bs e = cc
   head_is false bs e = refl
 
-  module _ (closed : is_open_head major b ≡ false) where
+  module _ (closed : is_indefinite_head major b ≡ false) where
     runs_closed : {c : View} {r : Result ℕ (DecodeError E)}
         → Runs (head_at name major 8 >=> shortest_by b) m c r → Runs (shortest_at name major) a c r
     runs_closed p =
-        runs_when name b first (λ bs. head_is (is_open_head major b) bs closed)
+        runs_when name b first (λ bs. head_is (is_indefinite_head major b) bs closed)
         (runs_then (λ _. head_at name major 8 >=> shortest_by b) first p)
 
     pub runs_head_err : {c : View} {e : DecodeError E} → Runs {V = ℕ}
@@ -411,11 +418,11 @@ module _ {E : Type 0} (name : List ℕ) (major b : ℕ) {a m : View}
           runs_closed (runs_then (shortest_by b) p (runs_as here (runs_give n c)))
 
       pub runs_too_long : {e : DecodeError E} → b % 32 ≢ additional (shortest n) n
-          → refusal_of e ≡ Some Longer → is_read e ≡ false → is_depth_overflow e ≡ false
+          → input_error_of e ≡ Some Longer → is_read e ≡ false → is_depth_overflow e ≡ false
           → Runs {V = ℕ} (shortest_at name major) a c (Err e)
       runs_too_long other says read depth =
           let t : eqb (b % 32) (additional (shortest n) n) ≡ false =
           ne_eqb (b % 32) (additional (shortest n) n) other in
-          let here : shortest_by b n ≡ refuse Longer = rw t refl in
+          let here : shortest_by b n ≡ reject Longer = rw t refl in
           runs_closed
-          (runs_then (shortest_by b) p (runs_as here (runs_refuse Longer c says read depth)))
+          (runs_then (shortest_by b) p (runs_as here (runs_reject Longer c says read depth)))

@@ -5,20 +5,20 @@ use Rattle.std.proofs.Common.{arith, cond, eqb, eqb-true, eq-eqb}
 use Rattle.std.specs.Prelude.{ℤ, pos, negsuc}
 use Rattle.cbor4ii_items.specs.Head.{IsBytes}
 use Rattle.cbor4ii_rw.specs.declared.error.Len.TheVariants.{Small}
-use Rattle.cbor4ii_items.specs.Refusal.{Refusal, eof, mismatch}
-use Rattle.cbor4ii_items.specs.Reading.{Reading, refuse, go_on, ◌>=>◌}
+use Rattle.cbor4ii_items.specs.InputError.{InputError, eof, mismatch}
+use Rattle.cbor4ii_items.specs.Reading.{Reading, reject, go_on, ◌>=>◌}
 use Rattle.cbor4ii_items.specs.Heads.{ReadsHead}
 use Rattle.cbor4ii_items.specs.ReadHead.{head_at}
 use Rattle.cbor4ii_items.specs.Laws.Heads.{read_head}
 use Rattle.cbor4ii_items.specs.ReadNumber.{below, head_below_at, as_positive, as_negative}
 use Rattle.cbor4ii_items.specs.ReadNumber.{signed_at}
-use Rattle.cbor4ii_items.specs.Numbers.{ReadsSigned, StopsHalf, head_refused, argument_too_great}
-use Rattle.cbor4ii_items.specs.Numbers.{StopsSigned, no_signed_byte, no_signed_head}
-use Rattle.cbor4ii_items.specs.Numbers.{positive_refused, negative_refused}
-use Rattle.cbor4ii_items.specs.Laws.Outcome.{same_value, same_refusal}
+use Rattle.cbor4ii_items.specs.Numbers.{ReadsSigned, RejectsHalf, head_rejected, argument_too_great}
+use Rattle.cbor4ii_items.specs.Numbers.{RejectsSigned, no_signed_byte, no_signed_head}
+use Rattle.cbor4ii_items.specs.Numbers.{positive_rejected, negative_rejected}
+use Rattle.cbor4ii_items.specs.Laws.Outcome.{same_value, same_input_error}
 use Rattle.cbor4ii_items.specs.Laws.Signed.{signed_again}
 use Rattle.cbor4ii_items.proofs.Leaves.{IsLeaf}
-use Rattle.cbor4ii_items.proofs.Stopping.{head_stops}
+use Rattle.cbor4ii_items.proofs.Stopping.{head_rejects}
 use Rattle.cbor4ii_items.specs.Laws.ProgramEnds.{ok_parts, err_parts, ErrParts}
 use Rattle.cbor4ii_items.proofs.BelowLimit.{below_ok, below_err}
 
@@ -32,12 +32,12 @@ head_below_means name major width limit xs k n e within bytes =
     h.begun ∙ (ap (λ (j : ℕ). Ok (j, h.rest)) b.0 ∙ ap (λ (zs : List ℕ). Ok (k, zs)) b.1) in
     (read_head name major width xs k n whole within bytes, omega (arith, b.0, b.2))
 
-half_parts : (name : List ℕ) (major width limit : ℕ) (xs : List ℕ) (z : Refusal) (n : ℕ)
+half_parts : (name : List ℕ) (major width limit : ℕ) (xs : List ℕ) (z : InputError) (n : ℕ)
     → n ≤ length xs → IsBytes (take n xs) → (head_at name major width xs ≡ Err (z, drop n xs))
     ⊎ ErrParts (head_at name major width xs) (below name limit) z (drop n xs)
-    → StopsHalf name major width limit xs z (drop n xs)
+    → RejectsHalf name major width limit xs z (drop n xs)
 half_parts name major width limit xs z n within bytes (inl e) =
-    head_refused (head_stops name major width xs z (drop n xs) e)
+    head_rejected (head_rejects name major width xs z (drop n xs) e)
 half_parts name major width limit xs z n within bytes (inr h) =
     let b = below_err name limit h.value z h.rest (drop n xs) h.ended in
     let whole : head_at name major width xs ≡ Ok (h.value, drop n xs) =
@@ -45,17 +45,17 @@ half_parts name major width limit xs z n within bytes (inr h) =
     argument_too_great h.value n (read_head name major width xs h.value n whole within bytes) b.2
     (sym b.0) refl
 
-head_below_stops : (name : List ℕ) (major width limit : ℕ) (xs : List ℕ) (z : Refusal) (n : ℕ)
+head_below_rejects : (name : List ℕ) (major width limit : ℕ) (xs : List ℕ) (z : InputError) (n : ℕ)
     → head_below_at name major width limit xs ≡ Err (z, drop n xs) → n ≤ length xs
-    → IsBytes (take n xs) → StopsHalf name major width limit xs z (drop n xs)
-head_below_stops name major width limit xs z n e within bytes =
+    → IsBytes (take n xs) → RejectsHalf name major width limit xs z (drop n xs)
+head_below_rejects name major width limit xs z n e within bytes =
     half_parts name major width limit xs z n within bytes
     (err_parts (head_at name major width xs) (below name limit) z (drop n xs) e)
 
--- a number that only gets its sign is refused by its first part
-pub sign_refused : {V : Type 0} (f : Reading ℕ) (sign : ℕ → V) (xs : List ℕ) (z : Refusal)
+-- a number that only gets its sign is rejected by its first part
+pub sign_rejected : {V : Type 0} (f : Reading ℕ) (sign : ℕ → V) (xs : List ℕ) (z : InputError)
     (ys : List ℕ) → go_on (f xs) (λ k zs. Ok (sign k, zs)) ≡ Err (z, ys) → f xs ≡ Err (z, ys)
-sign_refused f sign xs z ys e = elim (err_parts (f xs) (λ k zs. Ok (sign k, zs)) z ys e) [
+sign_rejected f sign xs z ys e = elim (err_parts (f xs) (λ k zs. Ok (sign k, zs)) z ys e) [
   | inl h ↦ h
   | inr h ↦ (let g = h.ended in cc)
 ]
@@ -73,7 +73,7 @@ module _ (name plus minus : List ℕ) (width limit : ℕ) where
   signed_means_by : (s t : Bool) (b : ℕ) (bs : List ℕ) (v : ℤ) (n : ℕ) → n ≤ length (b ∷ bs)
       → IsBytes (take n (b ∷ bs))
       → cond s (head_below_at plus 0 width limit >=> as_positive)
-      (cond t (head_below_at minus 1 width limit >=> as_negative) (refuse (mismatch name b)))
+      (cond t (head_below_at minus 1 width limit >=> as_negative) (reject (mismatch name b)))
       (b ∷ bs) ≡ Ok (v, drop n (b ∷ bs)) → ReadsSigned width limit (b ∷ bs) v n 0
   signed_means_by true t b bs v n within bytes e =
       let h = sign_given (head_below_at plus 0 width limit) pos (b ∷ bs) v (drop n (b ∷ bs)) e in
@@ -99,37 +99,38 @@ module _ (name plus minus : List ℕ) (width limit : ℕ) where
       let s : b / 32 ≢ 1 = λ h. (let t = eq-eqb (b / 32) 1 h in cc) in
       omega arith
 
-  signed_stops_by : (s t : Bool) (b : ℕ) (bs : List ℕ) (z : Refusal) (n : ℕ) → eqb (b / 32) 0 ≡ s
+  signed_rejects_by : (s t : Bool) (b : ℕ) (bs : List ℕ) (z : InputError) (n : ℕ) → eqb
+      (b / 32) 0 ≡ s
       → eqb (b / 32) 1 ≡ t → n ≤ length (b ∷ bs) → IsBytes (take n (b ∷ bs))
       → cond s (head_below_at plus 0 width limit >=> as_positive)
-      (cond t (head_below_at minus 1 width limit >=> as_negative) (refuse (mismatch name b)))
+      (cond t (head_below_at minus 1 width limit >=> as_negative) (reject (mismatch name b)))
       (b ∷ bs) ≡ Err (z, drop n (b ∷ bs))
-      → StopsSigned name plus minus width limit (b ∷ bs) z (drop n (b ∷ bs))
-  signed_stops_by true t b bs z n p q within bytes e =
-      positive_refused b bs refl (eqb-true (b / 32) 0 p)
-      (head_below_stops plus 0 width limit (b ∷ bs) z n (sign_refused
+      → RejectsSigned name plus minus width limit (b ∷ bs) z (drop n (b ∷ bs))
+  signed_rejects_by true t b bs z n p q within bytes e =
+      positive_rejected b bs refl (eqb-true (b / 32) 0 p)
+      (head_below_rejects plus 0 width limit (b ∷ bs) z n (sign_rejected
       (head_below_at plus 0 width limit) pos (b ∷ bs) z (drop n (b ∷ bs)) e) within bytes)
-  signed_stops_by false true b bs z n p q within bytes e =
-      negative_refused b bs refl (eqb-true (b / 32) 1 q)
-      (head_below_stops minus 1 width limit (b ∷ bs) z n (sign_refused (head_below_at minus 1
+  signed_rejects_by false true b bs z n p q within bytes e =
+      negative_rejected b bs refl (eqb-true (b / 32) 1 q)
+      (head_below_rejects minus 1 width limit (b ∷ bs) z n (sign_rejected (head_below_at minus 1
       width limit) negsuc (b ∷ bs) z (drop n (b ∷ bs)) e) within bytes)
-  signed_stops_by false false b bs z n p q within bytes e =
-      let r = same_refusal (refuse {V = ℤ} (mismatch name b) (b ∷ bs)) refl e in
+  signed_rejects_by false false b bs z n p q within bytes e =
+      let r = same_input_error (reject {V = ℤ} (mismatch name b) (b ∷ bs)) refl e in
       no_signed_head b bs refl (two_or_more b p q) (sym r.0) (sym r.1)
 
-  signed_stops : (xs : List ℕ) (z : Refusal) (n : ℕ)
+  signed_rejects : (xs : List ℕ) (z : InputError) (n : ℕ)
       → signed_at name plus minus width limit xs ≡ Err (z, drop n xs) → n ≤ length xs
-      → IsBytes (take n xs) → StopsSigned name plus minus width limit xs z (drop n xs)
-  signed_stops [] z n e within bytes =
-      let r = same_refusal {V = ℤ} (Err (eof name (Small 1), [])) refl e in
+      → IsBytes (take n xs) → RejectsSigned name plus minus width limit xs z (drop n xs)
+  signed_rejects [] z n e within bytes =
+      let r = same_input_error {V = ℤ} (Err (eof name (Small 1), [])) refl e in
       no_signed_byte refl (sym r.0) (sym r.1)
-  signed_stops (b ∷ bs) z n e within bytes =
-      signed_stops_by (eqb (b / 32) 0) (eqb (b / 32) 1) b bs z n refl refl within bytes e
+  signed_rejects (b ∷ bs) z n e within bytes =
+      signed_rejects_by (eqb (b / 32) 0) (eqb (b / 32) 1) b bs z n refl refl within bytes e
 
   pub signed_leaf : IsLeaf (signed_at name plus minus width limit) (ReadsSigned width limit)
-      (λ xs budget. StopsSigned name plus minus width limit xs)
+      (λ xs budget. RejectsSigned name plus minus width limit xs)
   signed_leaf = record {
     means = signed_means;
     again = signed_again name plus minus width limit;
-    refuses = λ xs budget. signed_stops xs;
+    is_complete = λ xs budget. signed_rejects xs;
   }

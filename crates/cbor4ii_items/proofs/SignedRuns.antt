@@ -6,17 +6,17 @@ use Rattle.std.specs.Prelude.{ℤ, pos, negsuc}
 use Rattle.std.proofs.lemmas.Int.{to_z-of_z}
 use mir.Val.{to_z, of_z}
 use mir.Syntax.{w64}
-use Rattle.cbor4ii_rw.specs.View.{View, Told}
+use Rattle.cbor4ii_rw.specs.View.{View, IfKnown}
 use Rattle.cbor4ii_rw.specs.declared.error.DecodeError.{DecodeError}
 use Rattle.cbor4ii_rw.specs.declared.error.DecodeError.TheVariants.{CastOverflow}
 use denote.Ref.{Bor}
-use Rattle.cbor4ii_items.specs.Refusal.{Refusal, cast_overflow}
-use Rattle.cbor4ii_items.specs.Reading.{Reading, Runs, refuse, peek_at, ◌>=>◌}
+use Rattle.cbor4ii_items.specs.InputError.{InputError, cast_overflow}
+use Rattle.cbor4ii_items.specs.Reading.{Reading, Runs, reject, peek_at, ◌>=>◌}
 use Rattle.cbor4ii_items.specs.ReadHead.{head_at, argument_at}
 use Rattle.cbor4ii_items.specs.ReadNumber.{below, head_below_at, signed_by, signed_at, as_positive}
 use Rattle.cbor4ii_items.specs.ReadNumber.{as_negative}
 use Rattle.cbor4ii_items.specs.Laws.Running.{as_of, runs_as, runs_then, runs_err, runs_with}
-use Rattle.cbor4ii_items.specs.Laws.Running.{runs_give, runs_refuse}
+use Rattle.cbor4ii_items.specs.Laws.Running.{runs_give, runs_reject}
 use Rattle.cbor4ii_items.specs.Laws.Signed.{signed_positive_by, signed_negative_by}
 
 pub runs_positive : {E : Type 0} (name plus minus : List ℕ) (width limit b : ℕ) {a m c : View}
@@ -47,10 +47,10 @@ negative_is r k h e =
 
 -- ---- a head that was taken whole
 
-read_where : (t : Bool) (f : Reading ℕ) (refusal : Refusal) (xs ys : List ℕ) (v : ℕ)
-    → (if t then f else refuse refusal) xs ≡ Ok (v, ys) → t ≡ true
-read_where true f refusal xs ys v e = refl
-read_where false f refusal xs ys v e = cc
+read_where : (t : Bool) (f : Reading ℕ) (err : InputError) (xs ys : List ℕ) (v : ℕ)
+    → (if t then f else reject err) xs ≡ Ok (v, ys) → t ≡ true
+read_where true f err xs ys v e = refl
+read_where false f err xs ys v e = cc
 
 -- a head that is read begins with its major type
 pub first_major : (name : List ℕ) (major width v b : ℕ) (bs ys : List ℕ)
@@ -76,10 +76,10 @@ as_minus name plus minus width limit v (b ∷ bs) ys e =
     (signed_negative_by name plus minus width limit b (first_major minus 1 width v b bs ys e))
 
 pub runs_where : {V E : Type 0} {f g : Reading V} {a b : View} {r : Result V (DecodeError E)}
-    → Told a.told (λ xs. f xs ≡ g xs) → Runs g a b r → Runs f a b r
+    → IfKnown a.known (λ xs. f xs ≡ g xs) → Runs g a b r → Runs f a b r
 runs_where {f = f} {g = g} {b = b} {r = r} same q = record {
   moves = q.moves;
-  answers = λ xs told. as_of (f xs) (g xs) b.told r (same xs told) (q.answers xs told);
+  answers = λ xs known. as_of (f xs) (g xs) b.known r (same xs known) (q.answers xs known);
 }
 
 runs_below : {E : Type 0} (name : List ℕ) (limit v : ℕ) (m : View) → v < limit
@@ -90,7 +90,7 @@ runs_above : {E : Type 0} (name : Bor (List ℕ)) (limit v : ℕ) (m : View) →
     → Runs {V = ℕ} {E = E} (below name.now limit v) m m (Err (CastOverflow name))
 runs_above name limit v m h =
     let t = le-ltb v limit h in
-    runs_as (rw t refl) (runs_refuse (cast_overflow name.now) m refl refl refl)
+    runs_as (rw t refl) (runs_reject (cast_overflow name.now) m refl refl refl)
 
 module _ {E : Type 0} (name : List ℕ) (half : Bor (List ℕ)) (other : List ℕ) (width limit : ℕ)
     {v : ℕ} {a m : View} where
@@ -98,14 +98,14 @@ module _ {E : Type 0} (name : List ℕ) (half : Bor (List ℕ)) (other : List �
       → Runs {E = E} (head_at half.now 0 width) a m (Ok v)
       → Runs {E = E} (signed_at name half.now other width limit) a m (Ok z)
   plus_read e h p =
-      runs_where (λ xs told. let s = p.answers xs told in
+      runs_where (λ xs known. let s = p.answers xs known in
       as_plus name half.now other width limit v xs s.0 s.2)
       (runs_with pos e (runs_then (below half.now limit) p (runs_below half.now limit v m h)))
 
-  pub plus_refused : limit ≤ v → Runs {E = E} (head_at half.now 0 width) a m (Ok v)
+  pub plus_rejected : limit ≤ v → Runs {E = E} (head_at half.now 0 width) a m (Ok v)
       → Runs {E = E} (signed_at name half.now other width limit) a m (Err (CastOverflow half))
-  plus_refused h p =
-      runs_where (λ xs told. let s = p.answers xs told in
+  plus_rejected h p =
+      runs_where (λ xs known. let s = p.answers xs known in
       as_plus name half.now other width limit v xs s.0 s.2)
       (runs_err as_positive (runs_then (below half.now limit) p (runs_above half limit v m h)))
 
@@ -113,13 +113,13 @@ module _ {E : Type 0} (name : List ℕ) (half : Bor (List ℕ)) (other : List �
       → Runs {E = E} (head_at half.now 1 width) a m (Ok v)
       → Runs {E = E} (signed_at name other half.now width limit) a m (Ok z)
   minus_read e h p =
-      runs_where (λ xs told. let s = p.answers xs told in
+      runs_where (λ xs known. let s = p.answers xs known in
       as_minus name other half.now width limit v xs s.0 s.2)
       (runs_with negsuc e (runs_then (below half.now limit) p (runs_below half.now limit v m h)))
 
-  pub minus_refused : limit ≤ v → Runs {E = E} (head_at half.now 1 width) a m (Ok v)
+  pub minus_rejected : limit ≤ v → Runs {E = E} (head_at half.now 1 width) a m (Ok v)
       → Runs {E = E} (signed_at name other half.now width limit) a m (Err (CastOverflow half))
-  minus_refused h p =
-      runs_where (λ xs told. let s = p.answers xs told in
+  minus_rejected h p =
+      runs_where (λ xs known. let s = p.answers xs known in
       as_minus name other half.now width limit v xs s.0 s.2)
       (runs_err as_negative (runs_then (below half.now limit) p (runs_above half limit v m h)))

@@ -1,4 +1,4 @@
--- How a head is refused.
+-- How a head is rejected.
 use Rattle.std.proofs.Common.{◌≡◌, ◌≢◌, ℕ, ◌+◌, ◌*◌, ◌/◌, ◌%◌, ◌<◌, ◌≤◌, inl, inr, List}
 use Rattle.std.proofs.Common.{[], ◌∷◌, Err, Bool, true, false, refl, sym, ap, ◌∙◌, arith}
 use Rattle.std.proofs.Common.{ltb, leb, lt-ltb, le-leb, eqb, eq-eqb, eqb-true, ltb-false, cond}
@@ -6,10 +6,10 @@ use Rattle.std.proofs.Math.Nat.{pow-le-pow_right}
 use Rattle.cbor4ii_rw.specs.declared.error.Len.TheVariants.{Small}
 use Rattle.cbor4ii_items.specs.Head.{Width, in_first, one as w_one, two, four, eight, byte_count}
 use Rattle.cbor4ii_items.specs.Head.{HeadFits, additional}
-use Rattle.cbor4ii_items.specs.Refusal.{Refusal, mismatch, eof}
-use Rattle.cbor4ii_items.specs.Reading.{give, refuse, byte_at}
-use Rattle.cbor4ii_items.specs.Laws.Outcome.{same_refusal}
-use Rattle.cbor4ii_items.specs.Heads.{Begins, NotAHead, CutHead, StopsHead}
+use Rattle.cbor4ii_items.specs.InputError.{InputError, mismatch, eof}
+use Rattle.cbor4ii_items.specs.Reading.{give, reject, byte_at}
+use Rattle.cbor4ii_items.specs.Laws.Outcome.{same_input_error}
+use Rattle.cbor4ii_items.specs.Heads.{Begins, NotAHead, CutHead, RejectsHead}
 use Rattle.cbor4ii_items.specs.ReadHead.{head_at, argument_at, number_on, following, allowed}
 use Rattle.cbor4ii_items.specs.Laws.Heads.{additional-lt, allowed_parts, two_parts, wide_of}
 use Rattle.cbor4ii_items.specs.Laws.ReadingHeads.{number_cut}
@@ -35,7 +35,7 @@ begun_allowed two width i n lo e fits le = rw e (allowed_at width 25 2 (omega ar
 begun_allowed four width i n lo e fits le = rw e (allowed_at width 26 4 (omega arith) refl le)
 begun_allowed eight width i n lo e fits le = rw e (allowed_at width 27 8 (omega arith) refl le)
 
-cut_at : (name : List ℕ) (major width b : ℕ) (bs : List ℕ) (z : Refusal) (ys : List ℕ)
+cut_at : (name : List ℕ) (major width b : ℕ) (bs : List ℕ) (z : InputError) (ys : List ℕ)
     → b / 32 ≡ major → 24 ≤ b % 32 → b % 32 < 28 → following (b % 32) ≤ width
     → number_on name (following (b % 32)) (following (b % 32)) 0 bs ≡ Err (z, ys)
     → CutHead name major width b bs z ys
@@ -57,11 +57,11 @@ cut_at name major width b bs z ys m lo hi le e =
       left = r.2;
     }
 
-not_allowed : (name : List ℕ) (major width b : ℕ) (bs : List ℕ) (z : Refusal) (ys : List ℕ)
+not_allowed : (name : List ℕ) (major width b : ℕ) (bs : List ℕ) (z : InputError) (ys : List ℕ)
     → 24 ≤ b % 32 → allowed width (b % 32) ≡ false
-    → refuse {V = ℕ} (mismatch name b) bs ≡ Err (z, ys) → NotAHead name major width b bs z ys
+    → reject {V = ℕ} (mismatch name b) bs ≡ Err (z, ys) → NotAHead name major width b bs z ys
 not_allowed name major width b bs z ys lo other e =
-    let p = same_refusal (refuse {V = ℕ} (mismatch name b) bs) refl e in
+    let p = same_input_error (reject {V = ℕ} (mismatch name b) bs) refl e in
     record {
       none = λ wide h.
           let yes : allowed width (b % 32) ≡ true = begun_allowed wide width (b % 32) h.argument lo
@@ -71,43 +71,43 @@ not_allowed name major width b bs z ys lo other e =
       left = sym p.1;
     }
 
-argument_stops : (s t : Bool) (name : List ℕ) (major width b : ℕ) (bs : List ℕ) (z : Refusal)
+argument_rejects : (s t : Bool) (name : List ℕ) (major width b : ℕ) (bs : List ℕ) (z : InputError)
     (ys : List ℕ) → ltb (b % 32) 24 ≡ s → allowed width (b % 32) ≡ t → b / 32 ≡ major
     → cond s (give (b % 32)) (cond t (number_on name (following (b % 32)) (following (b % 32)) 0)
-    (refuse (mismatch name b))) bs ≡ Err (z, ys) → StopsHead name major width (b ∷ bs) z ys
-argument_stops true t name major width b bs z ys es et m e = cc
-argument_stops false false name major width b bs z ys es et m e =
+    (reject (mismatch name b))) bs ≡ Err (z, ys) → RejectsHead name major width (b ∷ bs) z ys
+argument_rejects true t name major width b bs z ys es et m e = cc
+argument_rejects false false name major width b bs z ys es et m e =
     inl (not_allowed name major width b bs z ys (ltb-false (b % 32) 24 es) et e)
-argument_stops false true name major width b bs z ys es et m e =
+argument_rejects false true name major width b bs z ys es et m e =
     let a = allowed_parts width (b % 32) et in
     inr (cut_at name major width b bs z ys m (ltb-false (b % 32) 24 es) a.0 a.1 e)
 
-other_major : (name : List ℕ) (major width b : ℕ) (bs : List ℕ) (z : Refusal) (ys : List ℕ)
-    → b / 32 ≢ major → refuse {V = ℕ} (mismatch name b) bs ≡ Err (z, ys)
+other_major : (name : List ℕ) (major width b : ℕ) (bs : List ℕ) (z : InputError) (ys : List ℕ)
+    → b / 32 ≢ major → reject {V = ℕ} (mismatch name b) bs ≡ Err (z, ys)
     → NotAHead name major width b bs z ys
 other_major name major width b bs z ys other e =
-    let p = same_refusal (refuse {V = ℕ} (mismatch name b) bs) refl e in
+    let p = same_input_error (reject {V = ℕ} (mismatch name b) bs) refl e in
     record {
       none = λ wide h. other (parts_of major width b wide h).0;
       answer = sym p.0;
       left = sym p.1;
     }
 
-head_by_stops : (t : Bool) (name : List ℕ) (major width b : ℕ) (bs : List ℕ) (z : Refusal)
+head_by_rejects : (t : Bool) (name : List ℕ) (major width b : ℕ) (bs : List ℕ) (z : InputError)
     (ys : List ℕ) → eqb (b / 32) major ≡ t
-    → cond t (argument_at name width b) (refuse (mismatch name b)) bs ≡ Err (z, ys)
-    → StopsHead name major width (b ∷ bs) z ys
-head_by_stops true name major width b bs z ys h e =
-    argument_stops (ltb (b % 32) 24)
+    → cond t (argument_at name width b) (reject (mismatch name b)) bs ≡ Err (z, ys)
+    → RejectsHead name major width (b ∷ bs) z ys
+head_by_rejects true name major width b bs z ys h e =
+    argument_rejects (ltb (b % 32) 24)
     (allowed width (b % 32)) name major width b bs z ys refl refl (eqb-true (b / 32) major h) e
-head_by_stops false name major width b bs z ys h e =
+head_by_rejects false name major width b bs z ys h e =
     inl (other_major name major width b bs z ys (λ same. let t = eq-eqb (b / 32) major same in cc)
     e)
 
--- a refusal of the program is the head's
-pub head_stops : (name : List ℕ) (major width : ℕ) (xs : List ℕ) (z : Refusal) (ys : List ℕ)
-    → head_at name major width xs ≡ Err (z, ys) → StopsHead name major width xs z ys
-head_stops name major width [] z ys e =
-    let p = same_refusal (byte_at name 1 []) refl e in (sym p.0, sym p.1)
-head_stops name major width (b ∷ bs) z ys e =
-    head_by_stops (eqb (b / 32) major) name major width b bs z ys refl e
+-- an error of the program is the head's
+pub head_rejects : (name : List ℕ) (major width : ℕ) (xs : List ℕ) (z : InputError) (ys : List ℕ)
+    → head_at name major width xs ≡ Err (z, ys) → RejectsHead name major width xs z ys
+head_rejects name major width [] z ys e =
+    let p = same_input_error (byte_at name 1 []) refl e in (sym p.0, sym p.1)
+head_rejects name major width (b ∷ bs) z ys e =
+    head_by_rejects (eqb (b / 32) major) name major width b bs z ys refl e

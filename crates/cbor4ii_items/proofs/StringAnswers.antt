@@ -7,18 +7,18 @@ use Rattle.cbor4ii_rw.specs.View.{View}
 use Rattle.cbor4ii_rw.specs.declared.error.DecodeError.{DecodeError}
 use Rattle.cbor4ii_rw.specs.declared.error.DecodeError.TheVariants.{RequireUtf8}
 use denote.Ref.{Bor}
-use Rattle.cbor4ii_items.specs.Refusal.{Refusal, refusal_of, require_utf8}
-use Rattle.cbor4ii_items.specs.Decoding.{Sound, Refuses, Stops, Decodes}
+use Rattle.cbor4ii_items.specs.InputError.{InputError, input_error_of, require_utf8}
+use Rattle.cbor4ii_items.specs.Decoding.{Sound, Complete, Rejects, Decodes}
 use Rattle.cbor4ii_items.specs.Reading.{Runs}
 use Rattle.cbor4ii_items.specs.Contents.{listed}
 use Rattle.cbor4ii_items.specs.ReadStrings.{string_at}
-use Rattle.cbor4ii_items.specs.Strings.{ReadsString, ReadsTextAs, StopsString, StopsText}
-use Rattle.cbor4ii_items.specs.Strings.{no_string, no_utf8, string_spelling, text_spelling}
+use Rattle.cbor4ii_items.specs.Strings.{ReadsString, ReadsTextAs, RejectsString, RejectsText}
+use Rattle.cbor4ii_items.specs.Strings.{no_string, no_utf8, string_format, text_format}
 use Rattle.cbor4ii_items.specs.Laws.Calls.{ok}
 use Rattle.cbor4ii_items.specs.Laws.Steps.{moves_err}
 use Rattle.cbor4ii_items.specs.Laws.Strings.{string_again, string_one, three_small}
-use Rattle.cbor4ii_items.specs.Laws.Answering.{refuses_as, sound_by, refuses_by, stops_by}
-use Rattle.cbor4ii_items.proofs.StringsRead.{string_read, string_stops}
+use Rattle.cbor4ii_items.specs.Laws.Answering.{complete_as, sound_by, complete_by, rejects_by}
+use Rattle.cbor4ii_items.proofs.StringsRead.{string_read, string_rejects}
 
 -- ---- strings
 
@@ -29,39 +29,39 @@ module _ {E : Type 0} (name : List ℕ) (major : ℕ) {a b : View} where
       sound_by (ReadsString major)
       (λ xs ys e seen. string_read name major a.budget xs items ys e seen) p
 
-  pub content_refuses : {e : DecodeError E} → major < 8 → Runs {V = List ℕ}
-      (string_at name major a.budget) a b (Err e) → Refuses (ReadsString major) a e
-  content_refuses m p =
-      refuses_by (ReadsString major)
+  pub content_complete : {e : DecodeError E} → major < 8 → Runs {V = List ℕ}
+      (string_at name major a.budget) a b (Err e) → Complete (ReadsString major) a e
+  content_complete m p =
+      complete_by (ReadsString major)
       (λ xs v n c h fits. string_again name major a.budget xs v n c m h fits) p
 
-  pub content_stops : {e : DecodeError E} → Runs {V = List ℕ}
-      (string_at name major a.budget) a b (Err e) → Stops (StopsString name major) a b e
-  content_stops p =
-      stops_by (StopsString name major)
-      (λ xs z ys f seen. string_stops name major a.budget xs z ys f seen) p
+  pub content_rejects : {e : DecodeError E} → Runs {V = List ℕ}
+      (string_at name major a.budget) a b (Err e) → Rejects (RejectsString name major) a b e
+  content_rejects p =
+      rejects_by (RejectsString name major)
+      (λ xs z ys f seen. string_rejects name major a.budget xs z ys f seen) p
 
   pub content_ok : {items : List ℕ} → b.bound + 1 ≤ a.bound
       → Runs {E = E} (string_at name major a.budget) a b (Ok items)
-      → Decodes {E = E} (string_spelling name major) a b (Ok items)
+      → Decodes {E = E} (string_format name major) a b (Ok items)
   content_ok progress p =
-      ok (string_spelling name major) p.moves.by (λ some. progress) (content_sound p)
+      ok (string_format name major) p.moves.by (λ some. progress) (content_sound p)
 
   pub content_err : {e : DecodeError E} → major < 8 → Runs {V = List ℕ}
-      (string_at name major a.budget) a b (Err e) → Decodes (string_spelling name major) a b (Err e)
+      (string_at name major a.budget) a b (Err e) → Decodes (string_format name major) a b (Err e)
   content_err m p = record {
     moves = p.moves;
     progress = λ some. tt;
     memory = λ out. refl;
     sound = tt;
-    complete = λ exact. content_refuses m p;
-    stops = λ exact. content_stops p;
-    begins = content_stops p;
+    complete = λ exact. content_complete m p;
+    rejects = λ exact. content_rejects p;
+    begins = content_rejects p;
   }
 
   pub string_decodes : {Z : Type 0} (r : Result (Vec ℕ Z) (DecodeError E)) → major < 8
       → Runs (string_at name major a.budget) a b (listed r) → OnOk r (b.bound + 1 ≤ a.bound)
-      → Decodes (string_spelling name major) a b (listed r)
+      → Decodes (string_format name major) a b (listed r)
   string_decodes (Ok v) m p progress = content_ok progress p
   string_decodes (Err e) m p progress = content_err m p
 
@@ -71,8 +71,8 @@ module _ {V : Type 0} (content : V → List ℕ) where
   text_sound : {v : V} {items : List ℕ} {a b : View} → items ≡ content v → IsUtf8 (content v)
       → Sound (ReadsString 3) a b items → Sound (ReadsTextAs content) a b v
   text_sound {v = v} is utf8 s = record {
-    at = λ xs told.
-        let t = s.at xs told in
+    at = λ xs known.
+        let t = s.at xs known in
         record {
           count = t.count;
           cost = t.cost;
@@ -82,40 +82,40 @@ module _ {V : Type 0} (content : V → List ℕ) where
         };
   }
 
-  text_refuses : {E : Type 0} {e : DecodeError E} {a : View} → Refuses (ReadsString 3) a e
-      → Refuses (ReadsTextAs content) a e
-  text_refuses p =
-      refuses_as (ReadsString 3) (ReadsTextAs content)
+  text_complete : {E : Type 0} {e : DecodeError E} {a : View} → Complete (ReadsString 3) a e
+      → Complete (ReadsTextAs content) a e
+  text_complete p =
+      complete_as (ReadsString 3) (ReadsTextAs content)
       (λ xs budget none v n c h. none (content v) n c h.0) p
 
   -- a content that is not UTF-8
-  utf8_refuses : {E : Type 0} {name : Bor (List ℕ)} {items : List ℕ} {a b : View}
+  utf8_complete : {E : Type 0} {name : Bor (List ℕ)} {items : List ℕ} {a b : View}
       → (IsUtf8 items → ⊥) → Sound (ReadsString 3) a b items
-      → Refuses {E = E} (ReadsTextAs content) a (RequireUtf8 name)
-  utf8_refuses {items = items} other s = record {
-    at = λ xs told v n c h fits.
-        let t = s.at xs told in
+      → Complete {E = E} (ReadsTextAs content) a (RequireUtf8 name)
+  utf8_complete {items = items} other s = record {
+    at = λ xs known v n c h fits.
+        let t = s.at xs known in
         other (subst IsUtf8 (string_one 3 xs (content v) items n t.count c t.cost three_small h.0
         t.read).2 h.1);
   }
 
-still : (name xs : List ℕ) (budget : Option ℕ) (left : Option (List ℕ)) (o : Option Refusal)
-    → IfSome o (λ z. (ys : List ℕ) × (left ≡ Some ys) × StopsString name 3 xs budget z ys)
-    → IfSome o (λ z. (ys : List ℕ) × (left ≡ Some ys) × StopsText name xs budget z ys)
+still : (name xs : List ℕ) (budget : Option ℕ) (left : Option (List ℕ)) (o : Option InputError)
+    → IfSome o (λ z. (ys : List ℕ) × (left ≡ Some ys) × RejectsString name 3 xs budget z ys)
+    → IfSome o (λ z. (ys : List ℕ) × (left ≡ Some ys) × RejectsText name xs budget z ys)
 still name xs budget left None h = tt
 still name xs budget left (Some z) h = (h.0, h.1, no_string h.2)
 
-text_stops : {E : Type 0} {name : List ℕ} {e : DecodeError E} {a b : View}
-    → Stops (StopsString name 3) a b e → Stops (StopsText name) a b e
-text_stops {name = name} {e = e} {a = a} {b = b} p =
-    record { at = λ xs told. still name xs a.budget b.told (refusal_of e) (p.at xs told) }
+text_rejects : {E : Type 0} {name : List ℕ} {e : DecodeError E} {a b : View}
+    → Rejects (RejectsString name 3) a b e → Rejects (RejectsText name) a b e
+text_rejects {name = name} {e = e} {a = a} {b = b} p =
+    record { at = λ xs known. still name xs a.budget b.known (input_error_of e) (p.at xs known) }
 
-utf8_stops : {E : Type 0} {name : List ℕ} {found : Bor (List ℕ)} {items : List ℕ} {a b : View}
+utf8_rejects : {E : Type 0} {name : List ℕ} {found : Bor (List ℕ)} {items : List ℕ} {a b : View}
     → found.now ≡ name → (IsUtf8 items → ⊥) → Sound (ReadsString 3) a b items
-    → Stops {E = E} (StopsText name) a b (RequireUtf8 found)
-utf8_stops {items = items} named other s = record {
-  at = λ xs told.
-      let t = s.at xs told in (
+    → Rejects {E = E} (RejectsText name) a b (RequireUtf8 found)
+utf8_rejects {items = items} named other s = record {
+  at = λ xs known.
+      let t = s.at xs known in (
         drop t.count xs,
         t.left,
         no_utf8 items t.count t.cost t.read t.fits other (ap require_utf8 named) refl,
@@ -124,33 +124,33 @@ utf8_stops {items = items} named other s = record {
 
 module _ {V E : Type 0} (name : List ℕ) (content : V → List ℕ) {a b : View} where
   pub text_ok : {items : List ℕ} {v : V} → items ≡ content v → IsUtf8 (content v)
-      → Decodes {E = E} (string_spelling name 3) a b (Ok items)
-      → Decodes {E = E} (text_spelling name content) a b (Ok v)
+      → Decodes {E = E} (string_format name 3) a b (Ok items)
+      → Decodes {E = E} (text_format name content) a b (Ok v)
   text_ok is utf8 d =
-      ok (text_spelling name content) d.moves.by d.progress (text_sound content is utf8 d.sound)
+      ok (text_format name content) d.moves.by d.progress (text_sound content is utf8 d.sound)
 
-  pub text_err : {e : DecodeError E} → Decodes (string_spelling name 3) a b (Err e)
-      → Decodes (text_spelling name content) a b (Err e)
+  pub text_err : {e : DecodeError E} → Decodes (string_format name 3) a b (Err e)
+      → Decodes (text_format name content) a b (Err e)
   text_err d = record {
     moves = moves_err d.moves;
     progress = λ some. tt;
     memory = λ out. refl;
     sound = tt;
-    complete = λ exact. text_refuses content (d.complete exact);
-    stops = λ exact. text_stops (d.stops exact);
-    begins = text_stops d.begins;
+    complete = λ exact. text_complete content (d.complete exact);
+    rejects = λ exact. text_rejects (d.rejects exact);
+    begins = text_rejects d.begins;
   }
 
   -- a content that is not UTF-8
   pub utf8_err : {found : Bor (List ℕ)} {items : List ℕ} → found.now ≡ name → (IsUtf8 items → ⊥)
-      → Decodes {E = E} (string_spelling name 3) a b (Ok items)
-      → Decodes {E = E} (text_spelling name content) a b (Err (RequireUtf8 found))
+      → Decodes {E = E} (string_format name 3) a b (Ok items)
+      → Decodes {E = E} (text_format name content) a b (Err (RequireUtf8 found))
   utf8_err named other d = record {
     moves = record { by = d.moves.by; depth = λ e. refl };
     progress = λ some. tt;
     memory = λ out. refl;
     sound = tt;
-    complete = λ exact. utf8_refuses content other d.sound;
-    stops = λ exact. utf8_stops named other d.sound;
-    begins = utf8_stops named other d.sound;
+    complete = λ exact. utf8_complete content other d.sound;
+    rejects = λ exact. utf8_rejects named other d.sound;
+    begins = utf8_rejects named other d.sound;
   }

@@ -1,4 +1,4 @@
--- What the program of strings answers is a string as it is spelled, or its refusal.
+-- What the program of strings answers is a string as it is encoded, or its error.
 use Rattle.std.proofs.Common.{◌≡◌, ◌≢◌, ℕ, zero, suc, ◌+◌, ◌-◌, ◌<◌, ◌≤◌, inl, inr, List, [], ◌∷◌}
 use Rattle.std.proofs.Common.{◌++◌, length, drop, take, Option, None, Some, Result, Ok, Err, Bool}
 use Rattle.std.proofs.Common.{true, false, refl, sym, ap, ap₂, ◌∙◌, subst, arith, eqb, ltb}
@@ -6,37 +6,40 @@ use Rattle.std.proofs.Common.{ltb-true, append_assoc, cond}
 use Rattle.std.proofs.lemmas.List.{length-drop, append-nil, length-take-le}
 use Rattle.std.proofs.Math.Seq.{take-add}
 use Rattle.cbor4ii_rw.specs.declared.error.Len.TheVariants.{Indefinite}
-use Rattle.cbor4ii_items.specs.Head.{break, open_head, IsBytes}
-use Rattle.cbor4ii_items.specs.Refusal.{Refusal, eof, require_length, depth_overflow, len_of}
-use Rattle.cbor4ii_items.specs.Reading.{Reading, give, refuse, go_on, ◌>=>◌}
+use Rattle.cbor4ii_items.specs.Head.{break, indefinite_head, IsBytes}
+use Rattle.cbor4ii_items.specs.InputError.{InputError, eof, require_length, depth_overflow, len_of}
+use Rattle.cbor4ii_items.specs.Reading.{Reading, give, reject, go_on, ◌>=>◌}
 use Rattle.cbor4ii_items.specs.Decoding.{CostFits}
-use Rattle.cbor4ii_items.specs.Laws.Outcome.{same_value, same_refusal}
-use Rattle.cbor4ii_items.specs.Heads.{ReadsHead, StopsHead}
+use Rattle.cbor4ii_items.specs.Laws.Outcome.{same_value, same_input_error}
+use Rattle.cbor4ii_items.specs.Heads.{ReadsHead, RejectsHead}
 use Rattle.cbor4ii_items.specs.Laws.Heads.{read_head}
 use Rattle.cbor4ii_items.specs.ReadHead.{head_at, head_by, length_at}
 use Rattle.cbor4ii_items.specs.ReadStrings.{content_on, break_at, chunk_by, chunk_inside_at}
 use Rattle.cbor4ii_items.specs.ReadStrings.{chunk_at, chunks_on, string_by, string_at}
 use Rattle.cbor4ii_items.specs.Laws.ProgramEnds.{ok_parts, err_parts, length_passed, length_some}
 use Rattle.cbor4ii_items.specs.Laws.ProgramEnds.{length_none, content_inverse, break_yes, break_no}
-use Rattle.cbor4ii_items.specs.Laws.ProgramEnds.{break_refused, chunk_passed, not_first}
+use Rattle.cbor4ii_items.specs.Laws.ProgramEnds.{break_rejected, chunk_passed, not_first}
 use Rattle.cbor4ii_items.specs.Laws.Chunks.{chunks_by}
-use Rattle.cbor4ii_items.specs.Laws.Fronts.{drop_more}
-use Rattle.cbor4ii_items.specs.Strings.{ReadsCountedString, ReadsChunks, joined, chunk_cost}
-use Rattle.cbor4ii_items.specs.Strings.{ReadsString, CutContent, StopsChunk, no_chunk_byte, no_step}
-use Rattle.cbor4ii_items.specs.Strings.{chunk_open, chunk_refused, chunk_cut, StopsOpen}
-use Rattle.cbor4ii_items.specs.Strings.{StopsString, string_head_refused, string_cut, string_open}
+use Rattle.cbor4ii_items.specs.Laws.Prefixes.{drop_more}
+use Rattle.cbor4ii_items.specs.Strings.{ReadsDefiniteString, ReadsChunks, joined, chunk_cost}
+use Rattle.cbor4ii_items.specs.Strings.{ReadsString, CutContent, RejectsChunk, no_chunk_byte}
+use Rattle.cbor4ii_items.specs.Strings.{no_step}
+use Rattle.cbor4ii_items.specs.Strings.{chunk_indefinite, chunk_rejected, chunk_cut}
+use Rattle.cbor4ii_items.specs.Strings.{RejectsIndefinite}
+use Rattle.cbor4ii_items.specs.Strings.{RejectsString, string_head_rejected, string_cut}
+use Rattle.cbor4ii_items.specs.Strings.{string_indefinite}
 use Rattle.cbor4ii_items.specs.Laws.Strings.{BeginsWith, HasStep}
 use Rattle.cbor4ii_items.specs.Laws.Answering.{Seen, Found, fits_zero}
 use Rattle.cbor4ii_items.specs.Laws.Contents.{IsBytes-append}
-use Rattle.cbor4ii_items.proofs.Stopping.{head_stops}
+use Rattle.cbor4ii_items.proofs.Stopping.{head_rejects}
 
 -- ---- the bytes that were passed
 
 seen_more : (xs ys zs : List ℕ) → length ys ≤ length zs → Seen xs ys → Seen xs zs
 seen_more xs ys zs h s = λ m k. s m (omega (arith, h, k))
 
-seen_behind : (i : ℕ) (xs ys : List ℕ) → i ≤ length xs → Seen xs ys → Seen (drop i xs) ys
-seen_behind i xs ys h s = λ m k. IsBytes-append (take i xs) (take m (drop i xs))
+seen_after : (i : ℕ) (xs ys : List ℕ) → i ≤ length xs → Seen xs ys → Seen (drop i xs) ys
+seen_after i xs ys h s = λ m k. IsBytes-append (take i xs) (take m (drop i xs))
     (subst IsBytes (take-add i m xs) (s (i + m) (omega (arith, h, k, length-drop i xs))))
 
 -- ---- heads
@@ -64,18 +67,18 @@ known_length name major k xs us ys e short seen =
       within = p.within;
     }
 
--- ---- strings of known length
+-- ---- strings of definite length
 
-record CountedFound (major : ℕ) (before xs v ys : List ℕ) : Type 0 where
+record DefiniteFound (major : ℕ) (before xs v ys : List ℕ) : Type 0 where
   part : List ℕ
   size : ℕ
-  read : ReadsCountedString major xs part size
+  read : ReadsDefiniteString major xs part size
   value : v ≡ before ++ part
   left : ys ≡ drop size xs
 
 known_read : (name before : List ℕ) (major k : ℕ) (xs us v ys : List ℕ)
     → length_at name major xs ≡ Ok (Some k, us) → content_on name k before us ≡ Ok (v, ys)
-    → Seen xs ys → CountedFound major before xs v ys
+    → Seen xs ys → DefiniteFound major before xs v ys
 known_read name before major k xs us v ys e f seen =
     let c = content_inverse name k before us v ys f in
     let h = known_length name major k xs us ys e (omega (arith, ap length c.2, length-drop k us))
@@ -97,21 +100,21 @@ known_read name before major k xs us v ys e f seen =
 
 inside_by : (name before : List ℕ) (major : ℕ) (l : Option ℕ) (xs us v ys : List ℕ)
     → length_at name major xs ≡ Ok (l, us) → chunk_by name before l us ≡ Ok (v, ys) → Seen xs ys
-    → CountedFound major before xs v ys
+    → DefiniteFound major before xs v ys
 inside_by name before major None xs us v ys e f seen = cc
 inside_by name before major (Some k) xs us v ys e f seen =
     known_read name before major k xs us v ys e f seen
 
 inside_read : (name before : List ℕ) (major : ℕ) (xs v ys : List ℕ)
     → chunk_inside_at name major before xs ≡ Ok (v, ys) → Seen xs ys
-    → CountedFound major before xs v ys
+    → DefiniteFound major before xs v ys
 inside_read name before major xs v ys e seen =
     let g = ok_parts (length_at name major xs) (chunk_by name before) v ys e in
     inside_by name before major g.value xs g.rest v ys g.begun g.ended seen
 
 chunk_read : (name before : List ℕ) (major : ℕ) (budget : Option ℕ) (xs v ys : List ℕ)
     → chunk_at name major budget before xs ≡ Ok (v, ys) → Seen xs ys
-    → CountedFound major before xs v ys × HasStep budget
+    → DefiniteFound major before xs v ys × HasStep budget
 chunk_read name before major None xs v ys e seen =
     (inside_read name before major xs v ys e seen, tt)
 chunk_read name before major (Some zero) xs v ys e seen = cc
@@ -152,7 +155,7 @@ chunk_found : (name : List ℕ) (major : ℕ) (budget : Option ℕ) (before more
 chunk_found name major budget before more xs zs v ys e next seen =
     let p = (chunk_passed name major budget before xs more zs e).0 in
     let r = next (subst (λ (us : List ℕ). Seen us ys) (sym p.left)
-    (seen_behind p.count xs ys p.within seen)) in
+    (seen_after p.count xs ys p.within seen)) in
     let c = chunk_read name before major budget xs more zs e (seen_more xs ys zs
     (omega (arith, ap length r.left, length-drop (1 + r.between) zs)) seen) in
     let f = c.0 in
@@ -218,7 +221,7 @@ string_by_read name major budget (Some k) xs us v ys e f seen =
       count = r.size;
       cost = 0;
       read = inl (
-        subst (λ w. ReadsCountedString major xs w r.size)
+        subst (λ w. ReadsDefiniteString major xs w r.size)
             (sym r.value) r.read,
         refl,
       );
@@ -229,7 +232,7 @@ string_by_read name major budget None xs us v ys e f seen =
     let o = length_none name major xs us e in
     let p = (length_passed name major None xs us e).0 in
     let r = chunks_read (suc (length us)) name major budget [] us v ys (omega arith) f (subst
-    (λ (zs : List ℕ). Seen zs ys) (sym p.left) (seen_behind p.count xs ys p.within seen)) in
+    (λ (zs : List ℕ). Seen zs ys) (sym p.left) (seen_after p.count xs ys p.within seen)) in
     record {
       count = 2 + r.between;
       cost = chunk_cost r.chunks;
@@ -257,52 +260,54 @@ string_read name major budget xs v ys e seen =
     let g = ok_parts (length_at name major xs) (string_by name major budget) v ys e in
     string_by_read name major budget g.value xs g.rest v ys g.begun g.ended seen
 
--- ---- refusals
+-- ---- errors
 
-length_by_refused : (t : Bool) (name : List ℕ) (major b : ℕ) (bs : List ℕ) (z : Refusal)
-    (ys : List ℕ) → eqb b (open_head major) ≡ t
+length_by_rejected : (t : Bool) (name : List ℕ) (major b : ℕ) (bs : List ℕ) (z : InputError)
+    (ys : List ℕ) → eqb b (indefinite_head major) ≡ t
     → cond t (give None) (head_by name major 8 b >=> λ n. give (Some n)) bs ≡ Err (z, ys)
-    → (BeginsWith (b ∷ bs) (open_head major) → ⊥) × (head_by name major 8 b bs ≡ Err (z, ys))
-length_by_refused true name major b bs z ys h e = cc
-length_by_refused false name major b bs z ys h e = (
-  not_first b (open_head major) bs h,
+    → (BeginsWith (b ∷ bs) (indefinite_head major) → ⊥) × (head_by name major 8 b bs ≡ Err (z, ys))
+length_by_rejected true name major b bs z ys h e = cc
+length_by_rejected false name major b bs z ys h e = (
+  not_first b (indefinite_head major) bs h,
   elim (err_parts (head_by name major 8 b bs)
       (λ n. give (Some n)) z ys e) [ inl r ↦ r | inr r ↦ let f = r.ended in cc ],
 )
 
-pub no_length : (name : List ℕ) (major : ℕ) (xs : List ℕ) (z : Refusal) (ys : List ℕ)
+pub no_length : (name : List ℕ) (major : ℕ) (xs : List ℕ) (z : InputError) (ys : List ℕ)
     → length_at name major xs ≡ Err (z, ys)
-    → (BeginsWith xs (open_head major) → ⊥) × StopsHead name major 8 xs z ys
+    → (BeginsWith xs (indefinite_head major) → ⊥) × RejectsHead name major 8 xs z ys
 no_length name major [] z ys e =
-    let p = same_refusal (length_at name major []) refl e in ((λ h. cc), (sym p.0, sym p.1))
+    let p = same_input_error (length_at name major []) refl e in ((λ h. cc), (sym p.0, sym p.1))
 no_length name major (b ∷ bs) z ys e =
-    let p = length_by_refused (eqb b (open_head major)) name major b bs z ys refl e in
-    (p.0, head_stops name major 8 (b ∷ bs) z ys p.1)
+    let p = length_by_rejected (eqb b (indefinite_head major)) name major b bs z ys refl e in
+    (p.0, head_rejects name major 8 (b ∷ bs) z ys p.1)
 
-content_by : (t : Bool) (name : List ℕ) (count : ℕ) (before xs : List ℕ) (z : Refusal) (ys : List ℕ)
+content_by : (t : Bool) (name : List ℕ) (count : ℕ) (before xs : List ℕ) (z : InputError)
+    (ys : List ℕ)
     → ltb (length xs) count ≡ t
-    → cond {A = Result (List ℕ × List ℕ) (Refusal × List ℕ)} t
+    → cond {A = Result (List ℕ × List ℕ) (InputError × List ℕ)} t
     (Err (eof name (len_of (count - length xs)), []))
     (Ok (before ++ take count xs, drop count xs)) ≡ Err (z, ys)
     → (length xs < count) × (z ≡ eof name (len_of (count - length xs))) × (ys ≡ [])
 content_by true name count before xs z ys h e =
-    let o : Result (List ℕ × List ℕ) (Refusal × List ℕ) =
+    let o : Result (List ℕ × List ℕ) (InputError × List ℕ) =
     Err (eof name (len_of (count - length xs)), []) in
-    let p = same_refusal o refl e in
+    let p = same_input_error o refl e in
     (ltb-true (length xs) count h, sym p.0, sym p.1)
 content_by false name count before xs z ys h e = cc
 
-pub content_refused : (name : List ℕ) (count : ℕ) (before xs : List ℕ) (z : Refusal) (ys : List ℕ)
+pub content_rejected : (name : List ℕ) (count : ℕ) (before xs : List ℕ) (z : InputError)
+    (ys : List ℕ)
     → content_on name count before xs ≡ Err (z, ys)
     → (length xs < count) × (z ≡ eof name (len_of (count - length xs))) × (ys ≡ [])
-content_refused name count before xs z ys e =
+content_rejected name count before xs z ys e =
     content_by (ltb (length xs) count) name count before xs z ys refl e
 
-known_cut : (name before : List ℕ) (major k : ℕ) (xs us : List ℕ) (z : Refusal) (ys : List ℕ)
+known_cut : (name before : List ℕ) (major k : ℕ) (xs us : List ℕ) (z : InputError) (ys : List ℕ)
     → length_at name major xs ≡ Ok (Some k, us) → content_on name k before us ≡ Err (z, ys)
     → Seen xs ys → CutContent name major xs z ys
 known_cut name before major k xs us z ys e f seen =
-    let c = content_refused name k before us z ys f in
+    let c = content_rejected name k before us z ys f in
     let h = known_length name major k xs us ys e (omega (arith, ap length c.2)) seen in
     let gap : k - length us ≡ h.before + k - length xs =
     omega (arith, h.within, ap length h.left, length-drop h.before xs) in
@@ -319,69 +324,73 @@ begun : (b : ℕ) (xs ys : List ℕ) → BeginsWith xs b → ys ≡ drop 1 xs �
 begun b [] ys h e = cc
 begun b (x ∷ xs) ys h e = let f : x ≡ b = cc in ap₂ ◌∷◌ f (sym e)
 
-inside_stops_by : (name before : List ℕ) (major : ℕ) (budget l : Option ℕ) (xs us : List ℕ)
-    (z : Refusal) (ys : List ℕ) → budget ≢ Some 0 → length_at name major xs ≡ Ok (l, us)
-    → chunk_by name before l us ≡ Err (z, ys) → Seen xs ys → StopsChunk name major xs budget z ys
-inside_stops_by name before major budget None xs us z ys step e f seen =
+inside_rejects_by : (name before : List ℕ) (major : ℕ) (budget l : Option ℕ) (xs us : List ℕ)
+    (z : InputError) (ys : List ℕ) → budget ≢ Some 0 → length_at name major xs ≡ Ok (l, us)
+    → chunk_by name before l us ≡ Err (z, ys) → Seen xs ys → RejectsChunk name major xs budget z ys
+inside_rejects_by name before major budget None xs us z ys step e f seen =
     let o = length_none name major xs us e in
-    let p = same_refusal (refuse {V = List ℕ} (require_length name Indefinite) us) refl f in
-    chunk_open step (begun (open_head major) xs ys o.0 (sym p.1 ∙ o.1)) (sym p.0)
-inside_stops_by name before major budget (Some k) xs us z ys step e f seen =
+    let p = same_input_error (reject {V = List ℕ} (require_length name Indefinite) us) refl f in
+    chunk_indefinite step (begun (indefinite_head major) xs ys o.0 (sym p.1 ∙ o.1)) (sym p.0)
+inside_rejects_by name before major budget (Some k) xs us z ys step e f seen =
     chunk_cut step (known_cut name before major k xs us z ys e f seen)
 
-inside_stops : (name before : List ℕ) (major : ℕ) (budget : Option ℕ) (xs : List ℕ) (z : Refusal)
+inside_rejects : (name before : List ℕ) (major : ℕ) (budget : Option ℕ) (xs : List ℕ)
+    (z : InputError)
     (ys : List ℕ) → budget ≢ Some 0 → xs ≢ [] → (BeginsWith xs break → ⊥)
     → chunk_inside_at name major before xs ≡ Err (z, ys) → Seen xs ys
-    → StopsChunk name major xs budget z ys
-inside_stops name before major budget xs z ys step some other e seen =
+    → RejectsChunk name major xs budget z ys
+inside_rejects name before major budget xs z ys step some other e seen =
     elim (err_parts (length_at name major xs) (chunk_by name before) z ys e) [
-      | inl r ↦ (let h = no_length name major xs z ys r in chunk_refused step other h.0 some h.1)
+      | inl r ↦ (let h = no_length name major xs z ys r in chunk_rejected step other h.0 some h.1)
       | inr r ↦
-          inside_stops_by name before major budget r.value xs r.rest z ys step r.begun r.ended seen
+          inside_rejects_by name before major budget r.value xs r.rest z ys step r.begun
+          r.ended seen
     ]
 
-chunk_stops : (name before : List ℕ) (major : ℕ) (budget : Option ℕ) (xs : List ℕ) (z : Refusal)
+chunk_rejects : (name before : List ℕ) (major : ℕ) (budget : Option ℕ) (xs : List ℕ)
+    (z : InputError)
     (ys : List ℕ) → xs ≢ [] → (BeginsWith xs break → ⊥)
     → chunk_at name major budget before xs ≡ Err (z, ys) → Seen xs ys
-    → StopsChunk name major xs budget z ys
-chunk_stops name before major None xs z ys some other e seen =
-    inside_stops name before major None xs z ys (λ h. cc) some other e seen
-chunk_stops name before major (Some zero) xs z ys some other e seen =
-    let p = same_refusal (refuse {V = List ℕ} (depth_overflow name) xs) refl e in
+    → RejectsChunk name major xs budget z ys
+chunk_rejects name before major None xs z ys some other e seen =
+    inside_rejects name before major None xs z ys (λ h. cc) some other e seen
+chunk_rejects name before major (Some zero) xs z ys some other e seen =
+    let p = same_input_error (reject {V = List ℕ} (depth_overflow name) xs) refl e in
     no_step some other refl (sym p.0) (sym p.1)
-chunk_stops name before major (Some (suc left)) xs z ys some other e seen =
-    inside_stops name before major (Some (suc left)) xs z ys
+chunk_rejects name before major (Some (suc left)) xs z ys some other e seen =
+    inside_rejects name before major (Some (suc left)) xs z ys
     (λ h. let f : suc left ≡ 0 = cc in omega (arith, f)) some other e seen
 
--- ---- what a refusal leaves is no longer than what was there
+-- ---- what an error leaves is no longer than what was there
 
-head_length : (name : List ℕ) (major : ℕ) (xs : List ℕ) (z : Refusal) (ys : List ℕ)
-    → StopsHead name major 8 xs z ys → length ys ≤ length xs
+head_length : (name : List ℕ) (major : ℕ) (xs : List ℕ) (z : InputError) (ys : List ℕ)
+    → RejectsHead name major 8 xs z ys → length ys ≤ length xs
 head_length name major [] z ys h = omega (arith, ap length h.1)
 head_length name major (b ∷ bs) z ys (inl h) = omega (arith, ap length h.left)
 head_length name major (b ∷ bs) z ys (inr h) = omega (arith, ap length h.left)
 
-stop_length : (name : List ℕ) (major : ℕ) (budget : Option ℕ) (xs : List ℕ) (z : Refusal)
-    (ys : List ℕ) → StopsChunk name major xs budget z ys → length ys ≤ length xs
+stop_length : (name : List ℕ) (major : ℕ) (budget : Option ℕ) (xs : List ℕ) (z : InputError)
+    (ys : List ℕ) → RejectsChunk name major xs budget z ys → length ys ≤ length xs
 stop_length name major budget xs z ys (no_chunk_byte none answer left) =
     omega (arith, ap length left)
 stop_length name major budget xs z ys (no_step some other step answer left) =
     omega (arith, ap length left)
-stop_length name major budget xs z ys (chunk_open step is answer) = omega (arith, ap length is)
-stop_length name major budget xs z ys (chunk_refused step other known some h) =
+stop_length name major budget xs z ys (chunk_indefinite step is answer) =
+    omega (arith, ap length is)
+stop_length name major budget xs z ys (chunk_rejected step other known some h) =
     head_length name major xs z ys h
 stop_length name major budget xs z ys (chunk_cut step h) = omega (arith, ap length h.left)
 
--- ---- refusals among chunks
+-- ---- errors among chunks
 
 chunk_stopped : (name before : List ℕ) (major : ℕ) (budget : Option ℕ) (more xs zs : List ℕ)
-    (z : Refusal) (ys : List ℕ) → chunk_at name major budget before xs ≡ Ok (more, zs)
-    → (Seen zs ys → StopsOpen name major zs budget z ys) → Seen xs ys
-    → StopsOpen name major xs budget z ys
+    (z : InputError) (ys : List ℕ) → chunk_at name major budget before xs ≡ Ok (more, zs)
+    → (Seen zs ys → RejectsIndefinite name major zs budget z ys) → Seen xs ys
+    → RejectsIndefinite name major xs budget z ys
 chunk_stopped name before major budget more xs zs z ys e next seen =
     let p = (chunk_passed name major budget before xs more zs e).0 in
     let r = next (subst (λ (us : List ℕ). Seen us ys) (sym p.left)
-    (seen_behind p.count xs ys p.within seen)) in
+    (seen_after p.count xs ys p.within seen)) in
     let short = stop_length name major budget (drop r.between zs) z ys r.stop in
     let c = chunk_read name before major budget xs more zs e
     (seen_more xs ys zs (omega (arith, short, length-drop r.between zs)) seen) in
@@ -398,19 +407,20 @@ chunk_stopped name before major budget more xs zs z ys e next seen =
       );
       fits = c.1;
       stop =
-          subst (λ us. StopsChunk name major us budget z ys)
+          subst (λ us. RejectsChunk name major us budget z ys)
           (ap (drop r.between) f.left ∙ drop_more r.between f.size xs) r.stop;
     }
 
-stops_by : (name before : List ℕ) (major : ℕ) (budget : Option ℕ) (xs us : List ℕ) (z : Refusal)
+rejects_by : (name before : List ℕ) (major : ℕ) (budget : Option ℕ) (xs us : List ℕ)
+    (z : InputError)
     (ys : List ℕ) (next : List ℕ → Reading (List ℕ))
     → ((more zs : List ℕ) → length zs < length xs → next more zs ≡ Err (z, ys) → Seen zs ys
-    → StopsOpen name major zs budget z ys)
+    → RejectsIndefinite name major zs budget z ys)
     → (ended : Bool) → break_at xs ≡ Ok (ended, us)
     → chunks_by name major budget before next ended us ≡ Err (z, ys) → Seen xs ys
-    → StopsOpen name major xs budget z ys
-stops_by name before major budget xs us z ys next h true e f seen = cc
-stops_by name before major budget xs us z ys next h false e f seen =
+    → RejectsIndefinite name major xs budget z ys
+rejects_by name before major budget xs us z ys next h true e f seen = cc
+rejects_by name before major budget xs us z ys next h false e f seen =
     let b = break_no xs us e in
     let same : us ≡ xs = b.2 in
     let here : go_on (chunk_at name major budget before xs) next ≡ Err (z, ys) =
@@ -421,7 +431,7 @@ stops_by name before major budget xs us z ys next h false e f seen =
         between = 0;
         read = refl;
         fits = fits_zero budget;
-        stop = chunk_stops name before major budget xs z ys b.0 b.1 r seen;
+        stop = chunk_rejects name before major budget xs z ys b.0 b.1 r seen;
       }
       | inr r ↦
           chunk_stopped name before major budget r.value xs r.rest z ys r.begun (h r.value r.rest
@@ -429,42 +439,43 @@ stops_by name before major budget xs us z ys next h false e f seen =
     ]
 
 chunks_stop : (f : ℕ) (name before : List ℕ) (major : ℕ) (budget : Option ℕ) (xs : List ℕ)
-    (z : Refusal) (ys : List ℕ) → length xs < f
+    (z : InputError) (ys : List ℕ) → length xs < f
     → chunks_on f name major budget before xs ≡ Err (z, ys) → Seen xs ys
-    → StopsOpen name major xs budget z ys
+    → RejectsIndefinite name major xs budget z ys
 chunks_stop zero name before major budget xs z ys h e seen = absurd (omega (arith, h))
 chunks_stop (suc f) name before major budget xs z ys h e seen = elim (err_parts (break_at xs)
     (chunks_by name major budget before (chunks_on f name major budget)) z ys e) [
-      | inl r ↦ (let b = break_refused xs ys z r in record {
+      | inl r ↦ (let b = break_rejected xs ys z r in record {
         chunks = [];
         between = 0;
         read = refl;
         fits = fits_zero budget;
         stop = no_chunk_byte b.0 b.1 b.2;
       })
-      | inr r ↦ stops_by name before major budget xs r.rest z ys (chunks_on f name major budget)
+      | inr r ↦ rejects_by name before major budget xs r.rest z ys (chunks_on f name major budget)
           (λ more zs short k there. chunks_stop f name more major budget zs z ys
           (omega (arith, h, short)) k there) r.value r.begun r.ended seen
     ]
 
-string_by_stops : (name : List ℕ) (major : ℕ) (budget l : Option ℕ) (xs us : List ℕ) (z : Refusal)
+string_by_rejects : (name : List ℕ) (major : ℕ) (budget l : Option ℕ) (xs us : List ℕ)
+    (z : InputError)
     (ys : List ℕ) → length_at name major xs ≡ Ok (l, us)
     → string_by name major budget l us ≡ Err (z, ys) → Seen xs ys
-    → StopsString name major xs budget z ys
-string_by_stops name major budget (Some k) xs us z ys e f seen =
+    → RejectsString name major xs budget z ys
+string_by_rejects name major budget (Some k) xs us z ys e f seen =
     string_cut (known_cut name [] major k xs us z ys e f seen)
-string_by_stops name major budget None xs us z ys e f seen =
+string_by_rejects name major budget None xs us z ys e f seen =
     let o = length_none name major xs us e in
     let p = (length_passed name major None xs us e).0 in
     let r = chunks_stop (suc (length us)) name [] major budget us z ys (omega arith) f (subst
-    (λ (zs : List ℕ). Seen zs ys) (sym p.left) (seen_behind p.count xs ys p.within seen)) in
-    string_open o.0 (subst (λ zs. StopsOpen name major zs budget z ys) o.1 r)
+    (λ (zs : List ℕ). Seen zs ys) (sym p.left) (seen_after p.count xs ys p.within seen)) in
+    string_indefinite o.0 (subst (λ zs. RejectsIndefinite name major zs budget z ys) o.1 r)
 
-pub string_stops : (name : List ℕ) (major : ℕ) (budget : Option ℕ) (xs : List ℕ) (z : Refusal)
+pub string_rejects : (name : List ℕ) (major : ℕ) (budget : Option ℕ) (xs : List ℕ) (z : InputError)
     (ys : List ℕ) → string_at name major budget xs ≡ Err (z, ys) → Seen xs ys
-    → StopsString name major xs budget z ys
-string_stops name major budget xs z ys e seen =
+    → RejectsString name major xs budget z ys
+string_rejects name major budget xs z ys e seen =
     elim (err_parts (length_at name major xs) (string_by name major budget) z ys e) [
-      | inl r ↦ (let h = no_length name major xs z ys r in string_head_refused h.0 h.1)
-      | inr r ↦ string_by_stops name major budget r.value xs r.rest z ys r.begun r.ended seen
+      | inl r ↦ (let h = no_length name major xs z ys r in string_head_rejected h.0 h.1)
+      | inr r ↦ string_by_rejects name major budget r.value xs r.rest z ys r.begun r.ended seen
     ]

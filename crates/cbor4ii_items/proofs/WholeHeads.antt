@@ -1,4 +1,4 @@
--- A head that stands whole in a front that was shown.
+-- A head that stands whole in a prefix that was shown.
 use Rattle.std.proofs.Common.{◌≡◌, ◌≢◌, ℕ, suc, ◌+◌, ◌-◌, ◌<◌, ◌≤◌, ◌/◌, ◌%◌, List, [], ◌∷◌, ◌++◌}
 use Rattle.std.proofs.Common.{length, take, drop, Option, Some, None, Result, Ok, Err, true, false}
 use Rattle.std.proofs.Common.{refl, sym, ap, ◌∙◌, OnOk, subst, arith, eqb, eq-eqb, ltb, lt-ltb}
@@ -6,26 +6,26 @@ use Rattle.std.proofs.Common.{le-ltb, slice_index_or}
 use Rattle.std.proofs.lemmas.List.{take-append-drop, drop-append-le}
 use Rattle.std.proofs.Math.Seq.{take-length}
 use Rattle.std.proofs.lemmas.Bool.{ne_eqb}
-use Rattle.cbor4ii_rw.specs.View.{View, Told}
-use Rattle.cbor4ii_rw.specs.Reader.{Shows, Advances, IsFront}
+use Rattle.cbor4ii_rw.specs.View.{View, IfKnown}
+use Rattle.cbor4ii_rw.specs.Reader.{Shows, Advances, IsPrefix}
 use Rattle.cbor4ii_rw.specs.declared.error.DecodeError.{DecodeError}
 use Rattle.cbor4ii_rw.specs.declared.error.DecodeError.TheVariants.{Read}
-use Rattle.cbor4ii_items.specs.Head.{open_head}
-use Rattle.cbor4ii_items.specs.Moves.{Broke}
+use Rattle.cbor4ii_items.specs.Head.{indefinite_head}
+use Rattle.cbor4ii_items.specs.Moves.{ReaderFailed}
 use Rattle.cbor4ii_items.specs.Lent.{Stays}
-use Rattle.cbor4ii_items.specs.Refusal.{mismatch}
+use Rattle.cbor4ii_items.specs.InputError.{mismatch}
 use Rattle.cbor4ii_items.specs.Reading.{Reading, go_on, give, Runs}
 use Rattle.cbor4ii_items.specs.ReadHead.{number_on, following, allowed, head_by, head_at, length_at}
-use Rattle.cbor4ii_items.specs.Front.{IsWhole, IsArgument, RunsOrStays}
-use Rattle.cbor4ii_items.specs.Laws.Contents.{lends_front}
+use Rattle.cbor4ii_items.specs.Prefix.{IsWhole, IsArgument, RunsOrStays}
+use Rattle.cbor4ii_items.specs.Laws.Contents.{lends_prefix}
 use Rattle.cbor4ii_items.specs.Laws.Steps.{moves_then, moves_ok}
 use Rattle.cbor4ii_items.specs.Laws.ReadingHeads.{small_argument, allowed_le, wider}
 
 -- ---- a head in a list
 
--- what stands behind the first byte
-behind : (b : ℕ) (bs : List ℕ) → take (length (b ∷ bs) - 1) (drop 1 (b ∷ bs)) ≡ bs
-behind b bs = let e : length (b ∷ bs) - 1 ≡ length bs = omega arith in rw e (take-length bs)
+-- what follows the first byte
+trailing : (b : ℕ) (bs : List ℕ) → take (length (b ∷ bs) - 1) (drop 1 (b ∷ bs)) ≡ bs
+trailing b bs = let e : length (b ∷ bs) - 1 ≡ length bs = omega arith in rw e (take-length bs)
 
 in_first_byte : (name rest : List ℕ) (major width b : ℕ) → b / 32 ≡ major → b % 32 < 24
     → head_by name major width b rest ≡ Ok (b % 32, rest)
@@ -56,15 +56,15 @@ whole_in_first major width (b ∷ bs) some byte m small = record {
   head = λ name rest. in_first_byte name (bs ++ rest) major width b m small;
 }
 
-pub whole_behind : (major width argument : ℕ) (shown : List ℕ) → 1 ≤ length shown
+pub whole_after : (major width argument : ℕ) (shown : List ℕ) → 1 ≤ length shown
     → slice_index_or shown 0 0 < 256 → slice_index_or shown 0 0 / 32 ≡ major
     → 24 ≤ slice_index_or shown 0 0 % 32 → allowed width (slice_index_or shown 0 0 % 32) ≡ true
     → IsArgument (slice_index_or shown 0 0 % 32) (take (length shown - 1) (drop 1 shown)) argument
     → IsWhole major width shown argument (1 + following (slice_index_or shown 0 0 % 32))
-whole_behind major width argument [] some byte m large may a = absurd (omega arith)
-whole_behind major width argument (b ∷ bs) some byte m large may a =
+whole_after major width argument [] some byte m large may a = absurd (omega arith)
+whole_after major width argument (b ∷ bs) some byte m large may a =
     let p : IsArgument (b % 32) bs argument =
-    subst (λ zs. IsArgument (b % 32) zs argument) (behind b bs) a in
+    subst (λ zs. IsArgument (b % 32) zs argument) (trailing b bs) a in
     let e : suc (following (b % 32)) ≡ 1 + following (b % 32) = omega arith in
     subst (IsWhole major width (b ∷ bs) argument) e (record {
       some = omega arith;
@@ -79,29 +79,29 @@ whole_behind major width argument (b ∷ bs) some byte m large may a =
 
 -- the bytes begin with what was shown, so they begin with the head
 begins_whole : (name : List ℕ) (major width want argument n : ℕ) (shown xs : List ℕ)
-    → IsFront want shown xs → IsWhole major width shown argument n
+    → IsPrefix want shown xs → IsWhole major width shown argument n
     → head_at name major width xs ≡ Ok (argument, drop n xs)
-begins_whole name major width want argument n shown xs front h =
+begins_whole name major width want argument n shown xs prefix h =
     let rest = drop (length shown) xs in
     let whole : xs ≡ shown ++ rest =
-    sym (take-append-drop (length shown) xs) ∙ ap (λ zs. zs ++ rest) front.begins in
+    sym (take-append-drop (length shown) xs) ∙ ap (λ zs. zs ++ rest) prefix.begins in
     ap (head_at name major width) whole
     ∙ (h.head name rest ∙ ap (λ (zs : List ℕ). Ok (argument, zs))
     (sym (drop-append-le n shown rest h.within) ∙ ap (drop n) (sym whole)))
 
 pub runs_whole : {E : Type 0} (name : List ℕ) {major width want argument n : ℕ} {shown : List ℕ}
-    {a m b : View} → Shows shown a m → Told a.told (IsFront want shown)
+    {a m b : View} → Shows shown a m → IfKnown a.known (IsPrefix want shown)
     → IsWhole major width shown argument n → Advances n m b
     → Runs {E = E} (head_at name major width) a b (Ok argument)
 runs_whole name {major = major} {width = width} {want = want} {argument = argument} {n = n}
-    {shown = shown} s front h adv =
-    let l = lends_front {content = take n shown} s front h.within h.bytes refl adv in
+    {shown = shown} s prefix h adv =
+    let l = lends_prefix {content = take n shown} s prefix h.within h.bytes refl adv in
     record {
       moves = record { by = l.kept; depth = λ e. refl };
-      answers = λ xs told. (
+      answers = λ xs known. (
         drop n xs,
-        (l.at xs told).1,
-        begins_whole name major width want argument n shown xs (front xs told) h,
+        (l.at xs known).1,
+        begins_whole name major width want argument n shown xs (prefix xs known) h,
       );
     }
 
@@ -110,7 +110,7 @@ pub runs_stayed : {V E : Type 0} {f : Reading V} {a m b : View} {r : Result V (D
     → Stays a m → Runs f m b r → Runs f a b r
 runs_stayed {m = m} {b = b} {r = r} s p = record {
   moves = moves_then s.kept p.moves;
-  answers = λ xs told. p.answers xs (s.told xs told);
+  answers = λ xs known. p.answers xs (s.known xs known);
 }
 
 pub progress_stayed : {V E : Type 0} {a m : View} (bound : ℕ) (r : Result V (DecodeError E))
@@ -130,15 +130,15 @@ pub found_none : {V : Type 0} (E : Type 0) (p : Reading V) {a b : View} (o : Opt
 found_none E p None e h = h
 found_none E p (Some u) e h = cc
 
-pub runs_broke : {V E : Type 0} {f : Reading V} {a b : View} {e : E} → Broke a b
+pub runs_broke : {V E : Type 0} {f : Reading V} {a b : View} {e : E} → ReaderFailed a b
     → Runs f a b (Err (Read e))
-runs_broke p = record { moves = record { by = p; depth = λ n. refl }; answers = λ xs told. tt }
+runs_broke p = record { moves = record { by = p; depth = λ n. refl }; answers = λ xs known. tt }
 
 -- ---- a length that stands whole
 
-not_open : (name : List ℕ) (major b n : ℕ) (bs ys : List ℕ) → major < 8
-    → head_by name major 8 b bs ≡ Ok (n, ys) → b ≢ open_head major
-not_open name major b n bs ys m e is =
+not_indefinite : (name : List ℕ) (major b n : ℕ) (bs ys : List ℕ) → major < 8
+    → head_by name major 8 b bs ≡ Ok (n, ys) → b ≢ indefinite_head major
+not_indefinite name major b n bs ys m e is =
     let t : eqb (b / 32) major ≡ true = eq-eqb (b / 32) major (omega (arith, is)) in
     let i : b % 32 ≡ 31 = omega (arith, is) in
     let f : head_by name major 8 b bs ≡ Err (mismatch name b, bs) = rw (t, i) refl in
@@ -148,15 +148,15 @@ length_read : (name : List ℕ) (major n : ℕ) (xs ys : List ℕ) → major < 8
     → head_at name major 8 xs ≡ Ok (n, ys) → length_at name major xs ≡ Ok (Some n, ys)
 length_read name major n [] ys m e = cc
 length_read name major n (b ∷ bs) ys m e =
-    let t : eqb b (open_head major) ≡ false =
-    ne_eqb b (open_head major) (not_open name major b n bs ys m e) in
+    let t : eqb b (indefinite_head major) ≡ false =
+    ne_eqb b (indefinite_head major) (not_indefinite name major b n bs ys m e) in
     rw t (ap (λ r. go_on r (λ k. give (Some k))) e)
 
-pub runs_counted : {E : Type 0} (name : List ℕ) (major : ℕ) {n : ℕ} {a b : View} → major < 8
+pub runs_definite : {E : Type 0} (name : List ℕ) (major : ℕ) {n : ℕ} {a b : View} → major < 8
     → Runs {E = E} (head_at name major 8) a b (Ok n)
     → Runs {E = E} (length_at name major) a b (Ok (Some n))
-runs_counted name major {n = n} m p = record {
+runs_definite name major {n = n} m p = record {
   moves = moves_ok p.moves;
   answers =
-      λ xs told. let h = p.answers xs told in (h.0, h.1, length_read name major n xs h.0 m h.2);
+      λ xs known. let h = p.answers xs known in (h.0, h.1, length_read name major n xs h.0 m h.2);
 }

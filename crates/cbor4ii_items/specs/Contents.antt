@@ -1,7 +1,7 @@
 -- The content of strings, gathered in a vector.
 use Rattle.std.specs.Prelude.{◌≡◌, ℕ, ◌≤◌, ◌++◌, List, length, take, drop, Some, Result, Ok, Err}
 use Rattle.std.specs.declared.vec.Vec.{Vec}
-use Rattle.cbor4ii_rw.specs.View.{View, Told}
+use Rattle.cbor4ii_rw.specs.View.{View, IfKnown}
 use Rattle.cbor4ii_items.specs.Moves.{Kept}
 
 -- the answer, with a vector's items for the vector
@@ -14,11 +14,11 @@ abbrev pub filled : {T E : Type 0} → List ℕ → Result T E → Result (List 
 filled items (Ok t) = Ok items
 filled items (Err e) = Err e
 
--- n of the missing bytes were taken, at least one, and stand behind the items that were there
+-- n of the missing bytes were taken, at least one, and follow the items that were there
 -- before
 pub record TakesOnto (missing n : ℕ) (before after : List ℕ) (old new : View) : Type 0 where
   pub kept : Kept old new
   pub some : 1 ≤ n
   pub most : n ≤ missing
-  pub at : Told old.told
-      (λ xs. (n ≤ length xs) × (new.told ≡ Some (drop n xs)) × (after ≡ before ++ take n xs))
+  pub at : IfKnown old.known
+      (λ xs. (n ≤ length xs) × (new.known ≡ Some (drop n xs)) × (after ≡ before ++ take n xs))

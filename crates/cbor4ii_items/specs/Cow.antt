@@ -6,24 +6,24 @@ use Rattle.std.specs.declared.borrow.CowStr.{CowStr}
 use Rattle.std.specs.declared.borrow.CowSlice.{CowSlice}
 use Rattle.std.specs.declared.borrow.CowSlice.TheVariants.{Borrowed, Owned}
 use Rattle.std.specs.Cow.{cow_str_bytes, cow_slice_items, IsBorrowedSlice, IsOwnedSlice}
-use Rattle.cbor4ii_rw.specs.View.{View, Told, place_behind, BeginsAt}
+use Rattle.cbor4ii_rw.specs.View.{View, IfKnown, place_after, BeginsAt}
 use Rattle.cbor4ii_rw.specs.declared.error.DecodeError.{DecodeError}
 use Rattle.cbor4ii_items.specs.declared.types.Bytes.{Bytes}
 use Rattle.cbor4ii_items.specs.declared.types.UncheckedStr.{UncheckedStr}
-use Rattle.cbor4ii_items.specs.Head.{open_head}
+use Rattle.cbor4ii_items.specs.Head.{indefinite_head}
 use Rattle.cbor4ii_items.specs.Reading.{Reading, Runs}
-use Rattle.cbor4ii_items.specs.Strings.{as_spelling, text_spelling}
-use Rattle.cbor4ii_items.specs.Decoding.{Spelling}
+use Rattle.cbor4ii_items.specs.Strings.{as_format, text_format}
+use Rattle.cbor4ii_items.specs.Decoding.{Format}
 
 -- ---- which strings are borrowed
 
--- A string of indefinite length is owned, over any reader. One of known length is borrowed, where
--- the reader lends whole.
-pub record BorrowsWhereCounted {V : Type 0} (major : ℕ) (IsBorrowed IsOwned : V → Type 0)
+-- A string of indefinite length is owned, over any reader. One of definite length is borrowed,
+-- where the reader is zero-copy.
+pub record BorrowsWhereDefinite {V : Type 0} (major : ℕ) (IsBorrowed IsOwned : V → Type 0)
     (old : View) (v : V) : Type 0 where
-  pub indefinite : Told old.told (λ xs. take 1 xs ≡ open_head major ∷ [] → IsOwned v)
-  pub counted : IsTrue old.lends_whole
-      → Told old.told (λ xs. (take 1 xs ≡ open_head major ∷ [] → ⊥) → IsBorrowed v)
+  pub indefinite : IfKnown old.known (λ xs. take 1 xs ≡ indefinite_head major ∷ [] → IsOwned v)
+  pub definite : IsTrue old.zero_copy
+      → IfKnown old.known (λ xs. (take 1 xs ≡ indefinite_head major ∷ [] → ⊥) → IsBorrowed v)
 
 -- ---- the types: the content, and whether it is borrowed
 
@@ -48,10 +48,10 @@ IsBorrowedUnchecked v = IsBorrowedSlice v.0
 abbrev pub IsOwnedUnchecked : UncheckedStr (CowSlice ℕ Global) → Type 0
 IsOwnedUnchecked v = IsOwnedSlice v.0
 
--- a borrowed slice is the input's own: what is left begins right behind it, where the reader tells
+-- a borrowed slice is the input's own: what is left begins right after it, where the reader reports
 -- the place of its end
 abbrev pub slice_stands : CowSlice ℕ Global → View → Type 0
-slice_stands (Borrowed bytes) view = BeginsAt (place_behind bytes) view
+slice_stands (Borrowed bytes) view = BeginsAt (place_after bytes) view
 slice_stands (Owned bytes) view = Unit {0}
 
 -- of an owned slice nothing is owed; a trait's law cites it, so it stands here
@@ -67,16 +67,16 @@ cow_unchecked_stands v view = slice_stands v.0 view
 
 -- ---- a text, or a string that is not tested
 
-abbrev pub either_spelling : {V : Type 0} → Bool → List ℕ → ℕ → (V → List ℕ) → Spelling V
-either_spelling true name major content = text_spelling name content
-either_spelling false name major content = as_spelling name major content
+abbrev pub either_format : {V : Type 0} → Bool → List ℕ → ℕ → (V → List ℕ) → Format V
+either_format true name major content = text_format name content
+either_format false name major content = as_format name major content
 
 -- the value has this content, which is UTF-8 where it is to be; or there is none, since it is not
 abbrev pub Holds : {V : Type 0} → Bool → (V → List ℕ) → List ℕ → Option V → Type 0
 Holds is_text content items (Some v) = (content v ≡ items) × (IsTrue is_text → IsUtf8 (content v))
 Holds is_text content items None = IsTrue is_text × (IsUtf8 items → ⊥)
 
--- the program's content was read, and the answer holds it; or the program was refused
+-- the program's content was read, and the answer holds it; or the program was rejected
 abbrev pub TakesBy : {V E : Type 0} → Reading (List ℕ) → Bool → (V → List ℕ) → View → View
     → Result (Option V) (DecodeError E) → Type 0
 TakesBy {E = E} program is_text content old new (Ok value) =
@@ -90,9 +90,10 @@ pub record TakesContent {V E : Type 0} (program : Reading (List ℕ)) (is_text :
     (answer : Result (Option V) (DecodeError E)) : Type 0 where
   pub by : TakesBy program is_text content old new answer
 
--- where the reader lends whole and tells its bytes, the value is borrowed
+-- where the reader is zero-copy and reports its bytes, the value is borrowed
 abbrev pub IsBorrowedWhereWhole : {V : Type 0} → (V → Type 0) → View → V → Type 0
-IsBorrowedWhereWhole IsBorrowed old v = IsTrue old.lends_whole → Told old.told (λ xs. IsBorrowed v)
+IsBorrowedWhereWhole IsBorrowed old v =
+    IsTrue old.zero_copy → IfKnown old.known (λ xs. IsBorrowed v)
 
 -- of bytes nothing is owed that is owed of texts
 pub nothing_to_test : {m n : ℕ} → IsTrue false → m ≡ n

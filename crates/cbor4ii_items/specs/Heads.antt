@@ -1,9 +1,9 @@
--- Heads at the front of bytes: which one is read there, and how one is refused (RFC 8949 section
+-- Heads at the front of bytes: which one is read there, and how one is rejected (RFC 8949 section
 -- 3).
 use Rattle.std.specs.Prelude.{◌≡◌, ℕ, suc, ◌+◌, ◌*◌, ◌<◌, ◌≤◌, ◌⊎◌, List, [], ◌∷◌, ◌++◌, length}
 use Rattle.cbor4ii_rw.specs.declared.error.Len.TheVariants.{Small}
 use Rattle.cbor4ii_items.specs.Head.{Width, byte_count, HeadFits, additional, head}
-use Rattle.cbor4ii_items.specs.Refusal.{Refusal, mismatch, eof}
+use Rattle.cbor4ii_items.specs.InputError.{InputError, mismatch, eof}
 
 -- the bytes begin with a head of this major type, of at most so many bytes of argument; v is its
 -- argument, n its length
@@ -23,23 +23,23 @@ pub record Begins (major width b : ℕ) (wide : Width) : Type 0 where
   pub is : b ≡ 32 * major + additional wide argument
 
 -- no such head begins with the byte b, which is taken
-pub record NotAHead (name : List ℕ) (major width b : ℕ) (bs : List ℕ) (refusal : Refusal)
+pub record NotAHead (name : List ℕ) (major width b : ℕ) (bs : List ℕ) (err : InputError)
     (rest : List ℕ) : Type 0 where
   pub none : (wide : Width) → Begins major width b wide → ⊥
-  pub answer : refusal ≡ mismatch name b
+  pub answer : err ≡ mismatch name b
   pub left : rest ≡ bs
 
 -- fewer bytes follow than the argument has, and nothing is left
-pub record CutHead (name : List ℕ) (major width b : ℕ) (bs : List ℕ) (refusal : Refusal)
+pub record CutHead (name : List ℕ) (major width b : ℕ) (bs : List ℕ) (err : InputError)
     (rest : List ℕ) : Type 0 where
   pub wide : Width
   pub begins : Begins major width b wide
   pub short : length bs < byte_count wide
-  pub answer : refusal ≡ eof name (Small (byte_count wide))
+  pub answer : err ≡ eof name (Small (byte_count wide))
   pub left : rest ≡ []
 
--- how a head is refused, and which bytes are left then
-abbrev pub StopsHead : List ℕ → ℕ → ℕ → List ℕ → Refusal → List ℕ → Type 0
-StopsHead name major width [] refusal rest = (refusal ≡ eof name (Small 1)) × (rest ≡ [])
-StopsHead name major width (b ∷ bs) refusal rest =
-    NotAHead name major width b bs refusal rest ⊎ CutHead name major width b bs refusal rest
+-- how a head is rejected, and which bytes are left then
+abbrev pub RejectsHead : List ℕ → ℕ → ℕ → List ℕ → InputError → List ℕ → Type 0
+RejectsHead name major width [] err rest = (err ≡ eof name (Small 1)) × (rest ≡ [])
+RejectsHead name major width (b ∷ bs) err rest =
+    NotAHead name major width b bs err rest ⊎ CutHead name major width b bs err rest

@@ -47,7 +47,7 @@ precision_bytes double = 8
 -- 3).
 pub data Info : Type 0 where
   wide : Width → Info
-  open_ended reserved : Info
+  indefinite_ended reserved : Info
 
 abbrev pub info_of : ℕ → Info
 info_of i =
@@ -56,7 +56,7 @@ info_of i =
     else (if i == 25 then wide two
     else (if i == 26 then wide four
     else (if i == 27 then wide eight
-    else (if i == 31 then open_ended else reserved)))))
+    else (if i == 31 then indefinite_ended else reserved)))))
 
 pub data Initial : Type 0 where
   starts_int : Sign → Width → Initial
@@ -65,9 +65,9 @@ pub data Initial : Type 0 where
   starts_chunks : Kind → Initial
   bad_string : Kind → Initial
   starts_array : Width → Initial
-  starts_open_array bad_array : Initial
+  starts_indefinite_array bad_array : Initial
   starts_map : Width → Initial
-  starts_open_map bad_map : Initial
+  starts_indefinite_map bad_map : Initial
   starts_tag : Width → Initial
   bad_tag : Initial
   starts_simple : Simple → Initial
@@ -80,17 +80,17 @@ int_by_info s _ = bad_int s
 
 abbrev pub string_by_info : Kind → Info → Initial
 string_by_info k (wide w) = starts_string k w
-string_by_info k open_ended = starts_chunks k
+string_by_info k indefinite_ended = starts_chunks k
 string_by_info k reserved = bad_string k
 
 abbrev pub array_by_info : Info → Initial
 array_by_info (wide w) = starts_array w
-array_by_info open_ended = starts_open_array
+array_by_info indefinite_ended = starts_indefinite_array
 array_by_info reserved = bad_array
 
 abbrev pub map_by_info : Info → Initial
 map_by_info (wide w) = starts_map w
-map_by_info open_ended = starts_open_map
+map_by_info indefinite_ended = starts_indefinite_map
 map_by_info reserved = bad_map
 
 abbrev pub tag_by_info : Info → Initial

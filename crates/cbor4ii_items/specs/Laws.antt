@@ -5,9 +5,9 @@ pub mod Steps
 pub mod Running
 pub mod Answering
 pub mod Calls
-pub mod Spellings
+pub mod Formats
 pub mod UnderStep
-pub mod Breaks
+pub mod ReaderFails
 pub mod ReadingHeads
 pub mod Contents
 pub mod Written
@@ -29,9 +29,9 @@ pub mod Sequences
 pub mod Signed
 pub mod Strings
 pub mod ProgramEnds
-pub mod Fronts
+pub mod Prefixes
 pub mod Outcome
-pub mod CountedContent
+pub mod DefiniteContent
 pub mod LeavesApart
 pub mod NumbersApart
 pub mod ContainersApart

@@ -1,66 +1,69 @@
--- Borrowed strings: parts of the input (RFC 8949 section 3.1).
+-- Borrowed strings: slices of the input (RFC 8949 section 3.1).
 use Rattle.std.specs.Prelude.{◌≡◌, ℕ, ◌+◌, ◌<◌, ◌≤◌, Bool, true, false, List, length, take, drop}
 use Rattle.std.specs.Prelude.{None, Some, Option, Result, Ok, Err, IsTrue, IsUtf8}
-use Rattle.cbor4ii_rw.specs.View.{View, Told, place_behind, BeginsAt}
+use Rattle.cbor4ii_rw.specs.View.{View, IfKnown, place_after, BeginsAt}
 use Rattle.cbor4ii_rw.specs.Reader.{Keeps}
 use Rattle.cbor4ii_rw.specs.declared.error.DecodeError.{DecodeError}
 use Rattle.cbor4ii_items.specs.declared.strings.lent.Lacks.{Lacks}
 use Rattle.cbor4ii_items.specs.declared.strings.lent.Lacks.TheVariants.{Read, Short, Few, NotUtf8}
-use Rattle.cbor4ii_items.specs.Moves.{Kept, Broke}
-use Rattle.cbor4ii_items.specs.Refusal.{Refusal, refusal_of, is_read, is_out_of_memory}
-use Rattle.cbor4ii_items.specs.Refusal.{is_depth_overflow, require_length, require_borrowed}
-use Rattle.cbor4ii_items.specs.Refusal.{require_utf8, len_of}
-use Rattle.cbor4ii_items.specs.Heads.{ReadsHead, StopsHead}
-use Rattle.cbor4ii_items.specs.Strings.{ReadsCountedString}
+use Rattle.cbor4ii_items.specs.Moves.{Kept, ReaderFailed}
+use Rattle.cbor4ii_items.specs.InputError.{InputError, input_error_of, is_read, is_out_of_memory}
+use Rattle.cbor4ii_items.specs.InputError.{is_depth_overflow, require_length, require_borrowed}
+use Rattle.cbor4ii_items.specs.InputError.{require_utf8, len_of}
+use Rattle.cbor4ii_items.specs.Heads.{ReadsHead, RejectsHead}
+use Rattle.cbor4ii_items.specs.Strings.{ReadsDefiniteString}
 use denote.Ref.{Bor}
 use Rattle.cbor4ii_items.specs.declared.types.Bytes.{Bytes}
 use Rattle.cbor4ii_items.specs.declared.types.UncheckedStr.{UncheckedStr}
-use Rattle.cbor4ii_items.specs.Decoding.{Reads, Spelling}
+use Rattle.cbor4ii_items.specs.Decoding.{Reads, Format}
 
 -- ---- what is read
 
--- a string of known length, whose content a value has; a text is UTF-8
-abbrev pub ReadsLent : {V : Type 0} → ℕ → Bool → (V → List ℕ) → Reads V
-ReadsLent major is_text content xs v n c =
-    ReadsCountedString major xs (content v) n × (c ≡ 0) × (IsTrue is_text → IsUtf8 (content v))
+-- a string of definite length, whose content a value has; a text is UTF-8
+abbrev pub ReadsBorrowed : {V : Type 0} → ℕ → Bool → (V → List ℕ) → Reads V
+ReadsBorrowed major is_text content xs v n c =
+    ReadsDefiniteString major xs (content v) n × (c ≡ 0) × (IsTrue is_text → IsUtf8 (content v))
 
--- the head; too few bytes, and what is behind the head is left; no UTF-8, and what is behind the
+-- the head; too few bytes, and what follows the head is left; no UTF-8, and what follows the
 -- item is left
-pub data StopsLent (name : List ℕ) (major : ℕ) (is_text : Bool) (xs : List ℕ) (budget : Option ℕ)
-    (refusal : Refusal) (rest : List ℕ) : Type 0 where
-  lent_head_refused : StopsHead name major 8 xs refusal rest
-      → StopsLent name major is_text xs budget refusal rest
+pub data RejectsBorrowed (name : List ℕ) (major : ℕ) (is_text : Bool) (xs : List ℕ)
+    (budget : Option ℕ)
+    (err : InputError) (rest : List ℕ) : Type 0 where
+  lent_head_rejected : RejectsHead name major 8 xs err rest
+      → RejectsBorrowed name major is_text xs budget err rest
   too_few : (count before : ℕ) → ReadsHead major 8 xs count before → length xs < before + count
-      → refusal ≡ require_length name (len_of (length (drop before xs))) → rest ≡ drop before xs
-      → StopsLent name major is_text xs budget refusal rest
-  lent_no_utf8 : (content : List ℕ) (n : ℕ) → IsTrue is_text → ReadsCountedString major xs content n
-      → (IsUtf8 content → ⊥) → refusal ≡ require_utf8 name → rest ≡ drop n xs
-      → StopsLent name major is_text xs budget refusal rest
+      → err ≡ require_length name (len_of (length (drop before xs))) → rest ≡ drop before xs
+      → RejectsBorrowed name major is_text xs budget err rest
+  lent_no_utf8 : (content : List ℕ) (n : ℕ) → IsTrue is_text → ReadsDefiniteString major xs
+      content n
+      → (IsUtf8 content → ⊥) → err ≡ require_utf8 name → rest ≡ drop n xs
+      → RejectsBorrowed name major is_text xs budget err rest
 
--- Over any reader: the head; no content is lent, or too little, and what is behind the head is
--- left; no UTF-8, and what is behind the item is left.
-pub data BeginsLent (name : List ℕ) (major : ℕ) (is_text : Bool) (xs : List ℕ) (budget : Option ℕ)
-    (refusal : Refusal) (rest : List ℕ) : Type 0 where
-  begins_refused : StopsHead name major 8 xs refusal rest
-      → BeginsLent name major is_text xs budget refusal rest
+-- Over any reader: the head; no content is lent, or too little, and what follows the head is
+-- left; no UTF-8, and what follows the item is left.
+pub data BeginsBorrowed (name : List ℕ) (major : ℕ) (is_text : Bool) (xs : List ℕ)
+    (budget : Option ℕ)
+    (err : InputError) (rest : List ℕ) : Type 0 where
+  begins_rejected : RejectsHead name major 8 xs err rest
+      → BeginsBorrowed name major is_text xs budget err rest
   none_is_lent : (count before : ℕ) → ReadsHead major 8 xs count before
-      → refusal ≡ require_borrowed name → rest ≡ drop before xs
-      → BeginsLent name major is_text xs budget refusal rest
+      → err ≡ require_borrowed name → rest ≡ drop before xs
+      → BeginsBorrowed name major is_text xs budget err rest
   few_are_lent : (count before shown : ℕ) → ReadsHead major 8 xs count before → shown < count
-      → refusal ≡ require_length name (len_of shown) → rest ≡ drop before xs
-      → BeginsLent name major is_text xs budget refusal rest
+      → err ≡ require_length name (len_of shown) → rest ≡ drop before xs
+      → BeginsBorrowed name major is_text xs budget err rest
   begins_no_utf8 : (content : List ℕ) (n : ℕ) → IsTrue is_text
-      → ReadsCountedString major xs content n → (IsUtf8 content → ⊥) → refusal ≡ require_utf8 name
-      → rest ≡ drop n xs → BeginsLent name major is_text xs budget refusal rest
+      → ReadsDefiniteString major xs content n → (IsUtf8 content → ⊥) → err ≡ require_utf8 name
+      → rest ≡ drop n xs → BeginsBorrowed name major is_text xs budget err rest
 
--- A type that needs a borrowed part of the input: what is refused over any reader depends on how it
--- cuts.
-abbrev pub lent_spelling : {V : Type 0} → List ℕ → ℕ → Bool → (V → List ℕ) → Spelling V
-lent_spelling name major is_text content = record {
-  reads = ReadsLent major is_text content;
+-- A type that needs a borrowed slice of the input: what is rejected over any reader depends on how
+-- it cuts.
+abbrev pub lent_format : {V : Type 0} → List ℕ → ℕ → Bool → (V → List ℕ) → Format V
+lent_format name major is_text content = record {
+  reads = ReadsBorrowed major is_text content;
   same = λ v w. content v ≡ content w;
-  stops = StopsLent name major is_text;
-  begins = BeginsLent name major is_text;
+  rejects = RejectsBorrowed name major is_text;
+  begins = BeginsBorrowed name major is_text;
   never_empty = true;
   owned = false;
   takes_memory = false;
@@ -69,40 +72,40 @@ lent_spelling name major is_text content = record {
 
 -- ---- a content that is lent
 
--- The bytes are the input's own, which it tells: what is left begins right behind them, where the
--- reader tells the place of its end.
+-- The bytes are the input's own, which it reports: what is left begins right after them, where the
+-- reader reports the place of its end.
 abbrev pub IsOfInput : Bor (List ℕ) → View → View → Type 0
-IsOfInput bytes old new = Told old.told (λ xs. BeginsAt (place_behind bytes) new)
+IsOfInput bytes old new = IfKnown old.known (λ xs. BeginsAt (place_after bytes) new)
 
 -- so many bytes were taken, and are the content
 pub record Lends (count : ℕ) (content : List ℕ) (old new : View) : Type 0 where
   pub kept : Kept old new
-  pub at : Told old.told
-      (λ xs. (count ≤ length xs) × (new.told ≡ Some (drop count xs)) × (content ≡ take count xs))
+  pub at : IfKnown old.known
+      (λ xs. (count ≤ length xs) × (new.known ≡ Some (drop count xs)) × (content ≡ take count xs))
 
 -- nothing was taken
 pub record Stays (old new : View) : Type 0 where
   pub kept : Kept old new
-  pub told : Keeps old.told new.told
+  pub known : Keeps old.known new.known
 
--- why so many bytes are not lent: a reader that lends whole has fewer left
+-- why so many bytes are not lent: a zero-copy reader has fewer left
 abbrev pub LacksContent : {E : Type 0} → ℕ → Bool → View → View → Lacks E → Type 0
-LacksContent count is_text old new (Read e) = Broke old new
-LacksContent count is_text old new Short = Stays old new × (IsTrue old.lends_whole → ⊥)
+LacksContent count is_text old new (Read e) = ReaderFailed old new
+LacksContent count is_text old new Short = Stays old new × (IsTrue old.zero_copy → ⊥)
 LacksContent count is_text old new (Few n) =
     Stays old new
-    × (IsTrue old.lends_whole → Told old.told (λ xs. (length xs < count) × (n ≡ length xs)))
+    × (IsTrue old.zero_copy → IfKnown old.known (λ xs. (length xs < count) × (n ≡ length xs)))
     × (n < count)
 LacksContent count is_text old new NotUtf8 =
     (content : List ℕ) × IsTrue is_text × Lends count content old new × (IsUtf8 content → ⊥)
 
 -- ---- what is lacking, with its name
 
-abbrev pub lack_refusal : {E : Type 0} → List ℕ → Lacks E → Option Refusal
-lack_refusal name (Read e) = None
-lack_refusal name Short = Some (require_borrowed name)
-lack_refusal name (Few n) = Some (require_length name (len_of n))
-lack_refusal name NotUtf8 = Some (require_utf8 name)
+abbrev pub lack_error : {E : Type 0} → List ℕ → Lacks E → Option InputError
+lack_error name (Read e) = None
+lack_error name Short = Some (require_borrowed name)
+lack_error name (Few n) = Some (require_length name (len_of n))
+lack_error name NotUtf8 = Some (require_utf8 name)
 
 abbrev pub lack_is_read : {E : Type 0} → Lacks E → Bool
 lack_is_read (Read e) = true
@@ -112,7 +115,7 @@ lack_is_read NotUtf8 = false
 
 -- the error says what is lacking
 pub record Says {E : Type 0} (name : List ℕ) (lack : Lacks E) (error : DecodeError E) : Type 0 where
-  pub refusal : refusal_of error ≡ lack_refusal name lack
+  pub err : input_error_of error ≡ lack_error name lack
   pub read : is_read error ≡ lack_is_read lack
   pub memory : is_out_of_memory error ≡ false
   pub depth : is_depth_overflow error ≡ false
@@ -125,15 +128,15 @@ Named name (Err lack) (Err e) = Says name lack e
 
 -- ---- the types that a content is lent to
 
--- nothing is said of where a text stands: std's test for UTF-8 tells no place
+-- nothing is said of where a text stands: std's test for UTF-8 reports no place
 abbrev pub stands_anywhere : {V : Type 0} → V → View → Type 0
 stands_anywhere v view = Unit {0}
 
 abbrev pub bytes_stand : Bytes (Bor (List ℕ)) → View → Type 0
-bytes_stand v view = BeginsAt (place_behind v.0) view
+bytes_stand v view = BeginsAt (place_after v.0) view
 
 abbrev pub unchecked_stands : UncheckedStr (Bor (List ℕ)) → View → Type 0
-unchecked_stands v view = BeginsAt (place_behind v.0) view
+unchecked_stands v view = BeginsAt (place_after v.0) view
 
 abbrev pub lent_str : Bor (List ℕ) → List ℕ
 lent_str v = v.now

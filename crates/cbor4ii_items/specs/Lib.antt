@@ -4,7 +4,7 @@
 pub mod Head
 pub mod Heads
 pub mod Initial
-pub mod Refusal
+pub mod InputError
 pub mod Moves
 pub mod Decoding
 pub mod Writing
@@ -28,7 +28,7 @@ pub mod Shortest
 -- ---- what the decoders do, without the reader: the words of private contracts
 pub mod Reading
 pub mod Contents
-pub mod Front
+pub mod Prefix
 pub mod Marked
 pub mod ReadHead
 pub mod ReadNumber

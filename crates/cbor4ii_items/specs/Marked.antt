@@ -2,14 +2,14 @@
 use Rattle.std.proofs.Common.{◌≡◌, ℕ, ◌≤◌, List, [], ◌∷◌, Ok, Err, true, refl, le-leb}
 use Rattle.std.specs.Prelude.{◌&&◌, nat_le, if◌then◌else◌}
 use Rattle.cbor4ii_rw.specs.declared.error.Len.TheVariants.{Small}
-use Rattle.cbor4ii_items.specs.Refusal.{Refusal, mismatch, eof}
+use Rattle.cbor4ii_items.specs.InputError.{InputError, mismatch, eof}
 use Rattle.cbor4ii_items.specs.Reading.{Reading}
 
 -- no byte is left, or another byte comes next, which stays
-abbrev pub NoneBegins : List ℕ → (ℕ → Type 0) → List ℕ → Refusal → List ℕ → Type 0
-NoneBegins name begins [] refusal rest = (refusal ≡ eof name (Small 1)) × (rest ≡ [])
-NoneBegins name begins (b ∷ bs) refusal rest =
-    (begins b → ⊥) × (refusal ≡ mismatch name b) × (rest ≡ b ∷ bs)
+abbrev pub NoneBegins : List ℕ → (ℕ → Type 0) → List ℕ → InputError → List ℕ → Type 0
+NoneBegins name begins [] err rest = (err ≡ eof name (Small 1)) × (rest ≡ [])
+NoneBegins name begins (b ∷ bs) err rest =
+    (begins b → ⊥) × (err ≡ mismatch name b) × (rest ≡ b ∷ bs)
 
 -- the next byte, taken where it is from the least to the greatest
 abbrev pub marked_at : List ℕ → ℕ → ℕ → Reading ℕ

@@ -1,16 +1,16 @@
--- An optional item as an array of no item or one: what it is spelled as, and how it is refused (RFC
--- 8949 section 3.1).
+-- An optional item as an array of no item or one: what it is encoded as, and how it is rejected
+-- (RFC 8949 section 3.1).
 use Rattle.std.specs.Prelude.{◌≡◌, ◌≢◌, ℕ, zero, suc, ◌+◌, List, [], ◌∷◌, ◌++◌, take, drop, Bool}
 use Rattle.std.specs.Prelude.{true, false, Option, Some, None, codes}
 use Rattle.cbor4ii_rw.specs.declared.error.Len.TheVariants.{Indefinite}
-use Rattle.cbor4ii_items.specs.Head.{open_head}
-use Rattle.cbor4ii_items.specs.Refusal.{Refusal, require_length, len_of}
-use Rattle.cbor4ii_items.specs.Reading.{Reading, give, refuse, ◌>=>◌}
+use Rattle.cbor4ii_items.specs.Head.{indefinite_head}
+use Rattle.cbor4ii_items.specs.InputError.{InputError, require_length, len_of}
+use Rattle.cbor4ii_items.specs.Reading.{Reading, give, reject, ◌>=>◌}
 use Rattle.cbor4ii_items.specs.ReadHead.{length_at}
 use Rattle.cbor4ii_items.specs.Heads.{ReadsHead}
-use Rattle.cbor4ii_items.specs.Lengths.{StopsLength}
+use Rattle.cbor4ii_items.specs.Lengths.{RejectsLength}
 use Rattle.cbor4ii_items.specs.Numbers.{shortest_head}
-use Rattle.cbor4ii_items.specs.Decoding.{Reads, StopsAt, Spelling, leaf_spelling}
+use Rattle.cbor4ii_items.specs.Decoding.{Reads, RejectsAt, Format, leaf_format}
 
 -- ---- what is read
 
@@ -19,7 +19,7 @@ abbrev pub ReadsFew : Reads Bool
 ReadsFew xs false n c = ReadsHead 4 8 xs 0 n × (c ≡ 0)
 ReadsFew xs true n c = ReadsHead 4 8 xs 1 n × (c ≡ 0)
 
--- the head of an array of one item, and what the type reads behind it
+-- the head of an array of one item, and what the type reads after it
 pub record ReadsOne {V : Type 0} (reads : Reads V) (xs : List ℕ) (v : V) (n c : ℕ) : Type 0 where
   pub before : ℕ
   pub head : ReadsHead 4 8 xs 1 before
@@ -32,36 +32,37 @@ abbrev pub ReadsMaybe : {V : Type 0} → Reads V → Reads (Option V)
 ReadsMaybe reads xs None n c = ReadsHead 4 8 xs 0 n × (c ≡ 0)
 ReadsMaybe reads xs (Some v) n c = ReadsOne reads xs v n c
 
--- ---- how it is refused
+-- ---- how it is rejected
 
--- no array's head; an open length, or a count of two and more, behind the head
-pub data StopsFew (xs : List ℕ) (budget : Option ℕ) (refusal : Refusal)
+-- no array's head; an indefinite length, or a count of two and more, after the head
+pub data RejectsFew (xs : List ℕ) (budget : Option ℕ) (err : InputError)
     (rest : List ℕ) : Type 0 where
-  few_head_refused : StopsLength (codes "array") 4 xs budget refusal rest
-      → StopsFew xs budget refusal rest
-  few_open : take 1 xs ≡ open_head 4 ∷ [] → refusal ≡ require_length (codes "maybe") Indefinite
-      → rest ≡ drop 1 xs → StopsFew xs budget refusal rest
+  few_head_rejected : RejectsLength (codes "array") 4 xs budget err rest
+      → RejectsFew xs budget err rest
+  few_indefinite : take 1 xs ≡ indefinite_head 4 ∷ [] → err ≡ require_length (codes "maybe")
+      Indefinite
+      → rest ≡ drop 1 xs → RejectsFew xs budget err rest
   few_other : (count before : ℕ) → ReadsHead 4 8 xs count before → count ≢ 0 → count ≢ 1
-      → refusal ≡ require_length (codes "maybe") (len_of count) → rest ≡ drop before xs
-      → StopsFew xs budget refusal rest
+      → err ≡ require_length (codes "maybe") (len_of count) → rest ≡ drop before xs
+      → RejectsFew xs budget err rest
 
--- the head's refusal, or the item's
-pub data StopsMaybe (stops : StopsAt) (xs : List ℕ) (budget : Option ℕ) (refusal : Refusal)
+-- the head's error, or the item's
+pub data RejectsMaybe (rejects : RejectsAt) (xs : List ℕ) (budget : Option ℕ) (err : InputError)
     (rest : List ℕ) : Type 0 where
-  maybe_head_refused : StopsFew xs budget refusal rest → StopsMaybe stops xs budget refusal rest
-  maybe_item_refused : (before : ℕ) → ReadsHead 4 8 xs 1 before
-      → stops (drop before xs) budget refusal rest → StopsMaybe stops xs budget refusal rest
+  maybe_head_rejected : RejectsFew xs budget err rest → RejectsMaybe rejects xs budget err rest
+  maybe_item_rejected : (before : ℕ) → ReadsHead 4 8 xs 1 before
+      → rejects (drop before xs) budget err rest → RejectsMaybe rejects xs budget err rest
 
-abbrev pub few_spelling : Spelling Bool
-few_spelling = leaf_spelling ReadsFew StopsFew
+abbrev pub few_format : Format Bool
+few_format = leaf_format ReadsFew RejectsFew
 
 -- ---- the head, read off the front of bytes
 
 abbrev pub few_by : Option ℕ → Reading Bool
-few_by None = refuse (require_length (codes "maybe") Indefinite)
+few_by None = reject (require_length (codes "maybe") Indefinite)
 few_by (Some zero) = give false
 few_by (Some (suc zero)) = give true
-few_by (Some (suc (suc k))) = refuse (require_length (codes "maybe") (len_of (suc (suc k))))
+few_by (Some (suc (suc k))) = reject (require_length (codes "maybe") (len_of (suc (suc k))))
 
 abbrev pub few_at : Reading Bool
 few_at = length_at (codes "array") 4 >=> few_by

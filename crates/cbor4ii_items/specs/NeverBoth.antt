@@ -1,10 +1,10 @@
--- What is refused is not read.
+-- What is rejected is not read.
 use Rattle.std.specs.Prelude.{ℕ, List, Option}
-use Rattle.cbor4ii_items.specs.Refusal.{Refusal}
-use Rattle.cbor4ii_items.specs.Decoding.{Reads, StopsAt, NoneRead}
+use Rattle.cbor4ii_items.specs.InputError.{InputError}
+use Rattle.cbor4ii_items.specs.Decoding.{Reads, RejectsAt, NoneRead}
 
--- where bytes are refused, no reading that fits the budget begins them
-abbrev pub NeverBoth : {V : Type 0} → Reads V → StopsAt → Type 0
-NeverBoth reads stops =
-    (xs : List ℕ) (budget : Option ℕ) (refusal : Refusal) (rest : List ℕ)
-    → stops xs budget refusal rest → NoneRead reads xs budget
+-- where bytes are rejected, no reading that fits the budget begins them
+abbrev pub NeverBoth : {V : Type 0} → Reads V → RejectsAt → Type 0
+NeverBoth reads rejects =
+    (xs : List ℕ) (budget : Option ℕ) (err : InputError) (rest : List ℕ)
+    → rejects xs budget err rest → NoneRead reads xs budget

@@ -3,9 +3,9 @@
 use Rattle.std.specs.Prelude.{◌≡◌, ℕ, ◌-◌, List, [], ◌∷◌, take, Bool, true, false, not, Option}
 use Rattle.std.specs.Prelude.{Some, None, nat_lt}
 use Rattle.cbor4ii_rw.specs.declared.error.Len.TheVariants.{Small}
-use Rattle.cbor4ii_items.specs.Decoding.{Reads, StopsAt, Spelling, looking_spelling}
-use Rattle.cbor4ii_items.specs.Refusal.{eof}
-use Rattle.cbor4ii_items.specs.Strings.{ReadsBreak, StopsBreak}
+use Rattle.cbor4ii_items.specs.Decoding.{Reads, RejectsAt, Format, looking_format}
+use Rattle.cbor4ii_items.specs.InputError.{eof}
+use Rattle.cbor4ii_items.specs.Strings.{ReadsBreak, RejectsBreak}
 
 -- ---- the next byte
 
@@ -14,11 +14,11 @@ abbrev pub ReadsNext : Reads ℕ
 ReadsNext xs b n c = (take 1 xs ≡ b ∷ []) × (n ≡ 0) × (c ≡ 0)
 
 -- there is no byte
-abbrev pub StopsNext : List ℕ → StopsAt
-StopsNext name xs budget refusal rest = (xs ≡ []) × (refusal ≡ eof name (Small 1)) × (rest ≡ [])
+abbrev pub RejectsNext : List ℕ → RejectsAt
+RejectsNext name xs budget err rest = (xs ≡ []) × (err ≡ eof name (Small 1)) × (rest ≡ [])
 
-abbrev pub next_spelling : List ℕ → Spelling ℕ
-next_spelling name = looking_spelling ReadsNext (StopsNext name)
+abbrev pub next_format : List ℕ → Format ℕ
+next_format name = looking_format ReadsNext (RejectsNext name)
 
 -- ---- whether a part follows
 
@@ -29,11 +29,11 @@ abbrev pub ReadsFollows : Option ℕ → Reads Bool
 ReadsFollows (Some left) xs more n c = (more ≡ nat_lt 0 left) × (n ≡ 0) × (c ≡ 0)
 ReadsFollows None xs more n c = ReadsBreak xs (not more) n c
 
--- what is left of the length then: one part fewer, and none behind a break
+-- what is left of the length then: one part fewer, and none after a break
 abbrev pub length_left : Option ℕ → Bool → Option ℕ
 length_left (Some left) more = Some (left - 1)
 length_left None true = None
 length_left None false = Some 0
 
-abbrev pub follows_spelling : Option ℕ → Spelling Bool
-follows_spelling len = looking_spelling (ReadsFollows len) StopsBreak
+abbrev pub follows_format : Option ℕ → Format Bool
+follows_format len = looking_format (ReadsFollows len) RejectsBreak

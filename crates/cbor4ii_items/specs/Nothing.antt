@@ -2,15 +2,15 @@
 use Rattle.std.proofs.Common.{◌≡◌, ℕ, ◌≤◌, List, ◌++◌, length, take, false, IsTrue, refl, sym, ◌∙◌}
 use Rattle.std.proofs.Common.{arith}
 use Rattle.cbor4ii_items.specs.declared.types.Nothing.{Nothing}
-use Rattle.cbor4ii_items.specs.Decoding.{Reads, StopsAt}
+use Rattle.cbor4ii_items.specs.Decoding.{Reads, RejectsAt}
 
 -- of any bytes none is taken
 abbrev pub ReadsNothing : Reads Nothing
 ReadsNothing xs v n c = (n ≡ 0) × (c ≡ 0)
 
--- no bytes are refused
-abbrev pub StopsNothing : StopsAt
-StopsNothing xs budget refusal rest = ⊥
+-- no bytes are rejected
+abbrev pub RejectsNothing : RejectsAt
+RejectsNothing xs budget err rest = ⊥
 
 pub nothing_one : (xs : List ℕ) (v w : Nothing) (n m c d : ℕ) → ReadsNothing xs v n c
     → ReadsNothing xs w m d → (n ≡ m) × (c ≡ d) × (v ≡ w)

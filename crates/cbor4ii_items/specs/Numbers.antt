@@ -1,14 +1,15 @@
--- What numbers are spelled as, and how they are refused (RFC 8949 sections 3.1 and 3.4.3).
+-- What numbers are encoded as, and how they are rejected (RFC 8949 sections 3.1 and 3.4.3).
 use Rattle.std.specs.Prelude.{◌≡◌, ◌≢◌, ℕ, ◌+◌, ◌/◌, ◌^◌, ◌<◌, ◌≤◌, ◌⊎◌, ◌++◌, List, [], ◌∷◌}
 use Rattle.std.specs.Prelude.{length, take, drop, ℤ, pos, negsuc, codes, nat_lt, if◌then◌else◌}
 use Rattle.cbor4ii_rw.specs.declared.error.Len.TheVariants.{Small, Indefinite}
 use Rattle.cbor4ii_items.specs.declared.types.Negative.{Negative}
-use Rattle.cbor4ii_items.specs.Head.{head, open_head, shortest, IsBytes}
-use Rattle.cbor4ii_items.specs.Refusal.{Refusal, mismatch, eof, require_length, length_overflow}
-use Rattle.cbor4ii_items.specs.Refusal.{cast_overflow, len_of}
-use Rattle.cbor4ii_items.specs.Heads.{ReadsHead, StopsHead}
+use Rattle.cbor4ii_items.specs.Head.{head, indefinite_head, shortest, IsBytes}
+use Rattle.cbor4ii_items.specs.InputError.{InputError, mismatch, eof, require_length}
+use Rattle.cbor4ii_items.specs.InputError.{length_overflow}
+use Rattle.cbor4ii_items.specs.InputError.{cast_overflow, len_of}
+use Rattle.cbor4ii_items.specs.Heads.{ReadsHead, RejectsHead}
 use Rattle.cbor4ii_items.specs.Magnitude.{number_of, magnitude}
-use Rattle.cbor4ii_items.specs.Decoding.{Reads, StopsAt, Spelling, leaf_spelling, spelling_by}
+use Rattle.cbor4ii_items.specs.Decoding.{Reads, RejectsAt, Format, leaf_format, format_by}
 
 -- ---- the argument of a head
 
@@ -16,29 +17,29 @@ use Rattle.cbor4ii_items.specs.Decoding.{Reads, StopsAt, Spelling, leaf_spelling
 abbrev pub ReadsArgument : ℕ → ℕ → Reads ℕ
 ReadsArgument major width xs v n c = ReadsHead major width xs v n × (c ≡ 0)
 
-abbrev pub StopsArgument : List ℕ → ℕ → ℕ → StopsAt
-StopsArgument name major width xs budget refusal rest = StopsHead name major width xs refusal rest
+abbrev pub RejectsArgument : List ℕ → ℕ → ℕ → RejectsAt
+RejectsArgument name major width xs budget err rest = RejectsHead name major width xs err rest
 
-abbrev pub argument_spelling : List ℕ → ℕ → ℕ → Spelling ℕ
-argument_spelling name major width =
-    leaf_spelling (ReadsArgument major width) (StopsArgument name major width)
+abbrev pub argument_format : List ℕ → ℕ → ℕ → Format ℕ
+argument_format name major width =
+    leaf_format (ReadsArgument major width) (RejectsArgument name major width)
 
 -- an unsigned integer of so many bytes
 abbrev pub ReadsUnsigned : ℕ → Reads ℕ
 ReadsUnsigned width = ReadsArgument 0 width
 
-abbrev pub StopsUnsigned : List ℕ → ℕ → StopsAt
-StopsUnsigned name width = StopsArgument name 0 width
+abbrev pub RejectsUnsigned : List ℕ → ℕ → RejectsAt
+RejectsUnsigned name width = RejectsArgument name 0 width
 
 -- -1 - n for an unsigned integer n of so many bytes
 abbrev pub ReadsNegative : ℕ → Reads (Negative ℕ)
 ReadsNegative width xs v n c = ReadsArgument 1 width xs v.0 n c
 
-abbrev pub StopsNegative : List ℕ → ℕ → StopsAt
-StopsNegative name width = StopsArgument name 1 width
+abbrev pub RejectsNegative : List ℕ → ℕ → RejectsAt
+RejectsNegative name width = RejectsArgument name 1 width
 
-abbrev pub negative_spelling : List ℕ → ℕ → Spelling (Negative ℕ)
-negative_spelling name width = spelling_by (λ v. v.0) (argument_spelling name 1 width)
+abbrev pub negative_format : List ℕ → ℕ → Format (Negative ℕ)
+negative_format name width = format_by (λ v. v.0) (argument_format name 1 width)
 
 -- ---- signed integers of at most eight bytes
 
@@ -52,38 +53,38 @@ abbrev pub IsWithin : ℕ → ℤ → Type 0
 IsWithin limit (pos k) = k < limit
 IsWithin limit (negsuc k) = k < limit
 
--- a head that is refused, or whose argument is out of range
-pub data StopsHalf (name : List ℕ) (major width limit : ℕ) (xs : List ℕ) (refusal : Refusal)
+-- a head that is rejected, or whose argument is out of range
+pub data RejectsHalf (name : List ℕ) (major width limit : ℕ) (xs : List ℕ) (err : InputError)
     (rest : List ℕ) : Type 0 where
-  head_refused : StopsHead name major width xs refusal rest
-      → StopsHalf name major width limit xs refusal rest
+  head_rejected : RejectsHead name major width xs err rest
+      → RejectsHalf name major width limit xs err rest
   argument_too_great : (v n : ℕ) → ReadsHead major width xs v n → limit ≤ v
-      → refusal ≡ cast_overflow name → rest ≡ drop n xs
-      → StopsHalf name major width limit xs refusal rest
+      → err ≡ cast_overflow name → rest ≡ drop n xs
+      → RejectsHalf name major width limit xs err rest
 
 -- the first byte by the type's name, numbers from 0 on by a second name, and negative ones by a
 -- third
-pub data StopsSigned (name plus minus : List ℕ) (width limit : ℕ) (xs : List ℕ) (refusal : Refusal)
+pub data RejectsSigned (name plus minus : List ℕ) (width limit : ℕ) (xs : List ℕ) (err : InputError)
     (rest : List ℕ) : Type 0 where
-  no_signed_byte : xs ≡ [] → refusal ≡ eof name (Small 1) → rest ≡ []
-      → StopsSigned name plus minus width limit xs refusal rest
-  no_signed_head : (b : ℕ) (bs : List ℕ) → xs ≡ b ∷ bs → 2 ≤ b / 32 → refusal ≡ mismatch name b
-      → rest ≡ xs → StopsSigned name plus minus width limit xs refusal rest
-  positive_refused : (b : ℕ) (bs : List ℕ) → xs ≡ b ∷ bs → b / 32 ≡ 0
-      → StopsHalf plus 0 width limit xs refusal rest
-      → StopsSigned name plus minus width limit xs refusal rest
-  negative_refused : (b : ℕ) (bs : List ℕ) → xs ≡ b ∷ bs → b / 32 ≡ 1
-      → StopsHalf minus 1 width limit xs refusal rest
-      → StopsSigned name plus minus width limit xs refusal rest
+  no_signed_byte : xs ≡ [] → err ≡ eof name (Small 1) → rest ≡ []
+      → RejectsSigned name plus minus width limit xs err rest
+  no_signed_head : (b : ℕ) (bs : List ℕ) → xs ≡ b ∷ bs → 2 ≤ b / 32 → err ≡ mismatch name b
+      → rest ≡ xs → RejectsSigned name plus minus width limit xs err rest
+  positive_rejected : (b : ℕ) (bs : List ℕ) → xs ≡ b ∷ bs → b / 32 ≡ 0
+      → RejectsHalf plus 0 width limit xs err rest
+      → RejectsSigned name plus minus width limit xs err rest
+  negative_rejected : (b : ℕ) (bs : List ℕ) → xs ≡ b ∷ bs → b / 32 ≡ 1
+      → RejectsHalf minus 1 width limit xs err rest
+      → RejectsSigned name plus minus width limit xs err rest
 
-abbrev pub signed_spelling : List ℕ → List ℕ → List ℕ → ℕ → ℕ → Spelling ℤ
-signed_spelling name plus minus width limit =
-    leaf_spelling (ReadsSigned width limit) (λ xs budget. StopsSigned name plus minus width limit
+abbrev pub signed_format : List ℕ → List ℕ → List ℕ → ℕ → ℕ → Format ℤ
+signed_format name plus minus width limit =
+    leaf_format (ReadsSigned width limit) (λ xs budget. RejectsSigned name plus minus width limit
     xs)
 
 -- ---- bignums of at most sixteen bytes
 
--- a counted byte string, which is the number; n bytes in all
+-- a definite-length byte string, which is the number; n bytes in all
 pub record ReadsMagnitude (xs : List ℕ) (v n : ℕ) : Type 0 where
   pub count : ℕ
   pub before : ℕ
@@ -102,37 +103,37 @@ pub record ReadsBignum (tag : ℕ) (xs : List ℕ) (v n : ℕ) : Type 0 where
   pub magnitude : ReadsMagnitude (drop before xs) v size
   pub total : n ≡ before + size
 
-pub data StopsMagnitude (name : List ℕ) (xs : List ℕ) (refusal : Refusal)
+pub data RejectsMagnitude (name : List ℕ) (xs : List ℕ) (err : InputError)
     (rest : List ℕ) : Type 0 where
-  length_refused : (take 1 xs ≡ open_head 2 ∷ [] → ⊥) → StopsHead name 2 8 xs refusal rest
-      → StopsMagnitude name xs refusal rest
-  length_open : xs ≡ open_head 2 ∷ rest → refusal ≡ require_length name Indefinite
-      → StopsMagnitude name xs refusal rest
+  length_rejected : (take 1 xs ≡ indefinite_head 2 ∷ [] → ⊥) → RejectsHead name 2 8 xs err rest
+      → RejectsMagnitude name xs err rest
+  length_indefinite : xs ≡ indefinite_head 2 ∷ rest → err ≡ require_length name Indefinite
+      → RejectsMagnitude name xs err rest
   length_too_great : (count before : ℕ) → ReadsHead 2 8 xs count before → 16 < count
-      → refusal ≡ length_overflow name (len_of count) → rest ≡ drop before xs
-      → StopsMagnitude name xs refusal rest
+      → err ≡ length_overflow name (len_of count) → rest ≡ drop before xs
+      → RejectsMagnitude name xs err rest
   content_cut : (count before : ℕ) → ReadsHead 2 8 xs count before → count ≤ 16
-      → length xs < before + count → refusal ≡ eof name (Small count) → rest ≡ []
-      → StopsMagnitude name xs refusal rest
+      → length xs < before + count → err ≡ eof name (Small count) → rest ≡ []
+      → RejectsMagnitude name xs err rest
 
 -- ---- u128
 
 abbrev pub ReadsU128 : Reads ℕ
 ReadsU128 xs v n c = (ReadsHead 0 8 xs v n ⊎ ReadsBignum 2 xs v n) × (c ≡ 0)
 
-pub data StopsU128 (xs : List ℕ) (refusal : Refusal) (rest : List ℕ) : Type 0 where
-  no_u128_byte : xs ≡ [] → refusal ≡ eof (codes "u128") (Small 1) → rest ≡ []
-      → StopsU128 xs refusal rest
-  u128_head_refused : (b : ℕ) (bs : List ℕ) → xs ≡ b ∷ bs → b / 32 ≡ 0
-      → StopsHead (codes "u64") 0 8 xs refusal rest → StopsU128 xs refusal rest
-  u128_tag_refused : (b : ℕ) (bs : List ℕ) → xs ≡ b ∷ bs → b / 32 ≢ 0
-      → StopsHead (codes "u128") 6 1 xs refusal rest → StopsU128 xs refusal rest
+pub data RejectsU128 (xs : List ℕ) (err : InputError) (rest : List ℕ) : Type 0 where
+  no_u128_byte : xs ≡ [] → err ≡ eof (codes "u128") (Small 1) → rest ≡ []
+      → RejectsU128 xs err rest
+  u128_head_rejected : (b : ℕ) (bs : List ℕ) → xs ≡ b ∷ bs → b / 32 ≡ 0
+      → RejectsHead (codes "u64") 0 8 xs err rest → RejectsU128 xs err rest
+  u128_tag_rejected : (b : ℕ) (bs : List ℕ) → xs ≡ b ∷ bs → b / 32 ≢ 0
+      → RejectsHead (codes "u128") 6 1 xs err rest → RejectsU128 xs err rest
   other_u128_tag : (tag before : ℕ) → ReadsHead 6 1 xs tag before → tag ≢ 2
-      → refusal ≡ mismatch (codes "u128::tag") tag → rest ≡ drop before xs
-      → StopsU128 xs refusal rest
-  u128_bytes_refused : (before : ℕ) → ReadsHead 6 1 xs 2 before
-      → StopsMagnitude (codes "u128::bytes") (drop before xs) refusal rest
-      → StopsU128 xs refusal rest
+      → err ≡ mismatch (codes "u128::tag") tag → rest ≡ drop before xs
+      → RejectsU128 xs err rest
+  u128_bytes_rejected : (before : ℕ) → ReadsHead 6 1 xs 2 before
+      → RejectsMagnitude (codes "u128::bytes") (drop before xs) err rest
+      → RejectsU128 xs err rest
 
 -- ---- i128
 
@@ -141,26 +142,26 @@ ReadsI128 xs (pos k) n c = (ReadsHead 0 8 xs k n ⊎ (ReadsBignum 2 xs k n × (k
 ReadsI128 xs (negsuc k) n c =
     (ReadsHead 1 8 xs k n ⊎ (ReadsBignum 3 xs k n × (k < 2 ^ 127))) × (c ≡ 0)
 
-pub data StopsI128 (xs : List ℕ) (refusal : Refusal) (rest : List ℕ) : Type 0 where
-  no_i128_byte : xs ≡ [] → refusal ≡ eof (codes "i128") (Small 1) → rest ≡ []
-      → StopsI128 xs refusal rest
-  i128_head_refused : (b : ℕ) (bs : List ℕ) → xs ≡ b ∷ bs → b / 32 ≡ 0
-      → StopsHead (codes "u64") 0 8 xs refusal rest → StopsI128 xs refusal rest
-  i128_negative_refused : (b : ℕ) (bs : List ℕ) → xs ≡ b ∷ bs → b / 32 ≡ 1
-      → StopsHead (codes "i128") 1 8 xs refusal rest → StopsI128 xs refusal rest
-  i128_tag_refused : (b : ℕ) (bs : List ℕ) → xs ≡ b ∷ bs → 2 ≤ b / 32
-      → StopsHead (codes "i128") 6 1 xs refusal rest → StopsI128 xs refusal rest
+pub data RejectsI128 (xs : List ℕ) (err : InputError) (rest : List ℕ) : Type 0 where
+  no_i128_byte : xs ≡ [] → err ≡ eof (codes "i128") (Small 1) → rest ≡ []
+      → RejectsI128 xs err rest
+  i128_head_rejected : (b : ℕ) (bs : List ℕ) → xs ≡ b ∷ bs → b / 32 ≡ 0
+      → RejectsHead (codes "u64") 0 8 xs err rest → RejectsI128 xs err rest
+  i128_negative_rejected : (b : ℕ) (bs : List ℕ) → xs ≡ b ∷ bs → b / 32 ≡ 1
+      → RejectsHead (codes "i128") 1 8 xs err rest → RejectsI128 xs err rest
+  i128_tag_rejected : (b : ℕ) (bs : List ℕ) → xs ≡ b ∷ bs → 2 ≤ b / 32
+      → RejectsHead (codes "i128") 6 1 xs err rest → RejectsI128 xs err rest
   other_i128_tag : (tag before : ℕ) → ReadsHead 6 1 xs tag before → tag ≢ 2 → tag ≢ 3
-      → refusal ≡ mismatch (codes "i128::tag") tag → rest ≡ drop before xs
-      → StopsI128 xs refusal rest
-  i128_bytes_refused : (before : ℕ) → ReadsHead 6 1 xs 2 before
-      → StopsMagnitude (codes "+i128::bytes") (drop before xs) refusal rest
-      → StopsI128 xs refusal rest
-  i128_negative_bytes_refused : (before : ℕ) → ReadsHead 6 1 xs 3 before
-      → StopsMagnitude (codes "-i128::bytes") (drop before xs) refusal rest
-      → StopsI128 xs refusal rest
+      → err ≡ mismatch (codes "i128::tag") tag → rest ≡ drop before xs
+      → RejectsI128 xs err rest
+  i128_bytes_rejected : (before : ℕ) → ReadsHead 6 1 xs 2 before
+      → RejectsMagnitude (codes "+i128::bytes") (drop before xs) err rest
+      → RejectsI128 xs err rest
+  i128_negative_bytes_rejected : (before : ℕ) → ReadsHead 6 1 xs 3 before
+      → RejectsMagnitude (codes "-i128::bytes") (drop before xs) err rest
+      → RejectsI128 xs err rest
   i128_too_great : (tag v n : ℕ) → (tag ≡ 2) ⊎ (tag ≡ 3) → ReadsBignum tag xs v n → 2 ^ 127 ≤ v
-      → refusal ≡ cast_overflow (codes "i128") → rest ≡ drop n xs → StopsI128 xs refusal rest
+      → err ≡ cast_overflow (codes "i128") → rest ≡ drop n xs → RejectsI128 xs err rest
 
 -- ---- what is written
 
@@ -169,12 +170,12 @@ abbrev pub shortest_head : ℕ → ℕ → List ℕ
 shortest_head major v = head major v (shortest v)
 
 -- the shortest head of this major type with the content's length, and the content
-abbrev pub counted_string : ℕ → List ℕ → List ℕ
-counted_string major content = shortest_head major (length content) ++ content
+abbrev pub definite_string : ℕ → List ℕ → List ℕ
+definite_string major content = shortest_head major (length content) ++ content
 
 -- a tag, and the number's bytes without leading zeros as a byte string
 abbrev pub bignum_bytes : ℕ → ℕ → List ℕ
-bignum_bytes tag v = shortest_head 6 tag ++ counted_string 2 (magnitude v)
+bignum_bytes tag v = shortest_head 6 tag ++ definite_string 2 (magnitude v)
 
 -- the argument of a head of this major type where it fits, else a bignum
 abbrev pub integer_bytes : ℕ → ℕ → ℕ → List ℕ

@@ -1,4 +1,4 @@
--- What is written is read back, and no spelling begins another.
+-- What is written is read back, and no encoding begins another.
 use Rattle.std.specs.Prelude.{◌≡◌, ℕ, List, [], ◌∷◌, ◌++◌, length, max}
 use Rattle.cbor4ii_items.specs.Decoding.{Reads}
 

@@ -1,11 +1,11 @@
 -- Heads, read off the front of bytes one byte at a time.
 use Rattle.std.specs.Prelude.{ℕ, zero, suc, ◌+◌, ◌*◌, ◌/◌, ◌%◌, ◌==◌, List, Bool, false, Option}
 use Rattle.std.specs.Prelude.{Some, None, nat_lt, nat_le, if◌then◌else◌}
-use Rattle.cbor4ii_items.specs.Head.{open_head}
-use Rattle.cbor4ii_items.specs.Refusal.{mismatch}
-use Rattle.cbor4ii_items.specs.Reading.{Reading, give, refuse, byte_at, ◌>=>◌}
+use Rattle.cbor4ii_items.specs.Head.{indefinite_head}
+use Rattle.cbor4ii_items.specs.InputError.{mismatch}
+use Rattle.cbor4ii_items.specs.Reading.{Reading, give, reject, byte_at, ◌>=>◌}
 
--- k bytes, most significant first, behind a number
+-- k bytes, most significant first, after a number
 abbrev pub number_on : List ℕ → ℕ → ℕ → ℕ → Reading ℕ
 number_on name expect zero high = give high
 number_on name expect (suc k) high =
@@ -23,21 +23,22 @@ abbrev pub argument_at : List ℕ → ℕ → ℕ → Reading ℕ
 argument_at name width b =
     if nat_lt (b % 32) 24 then give (b % 32)
     else (if allowed width (b % 32) then number_on name (following (b % 32)) (following (b % 32)) 0
-    else refuse (mismatch name b))
+    else reject (mismatch name b))
 
 -- the argument of a head of this major type that begins with b
 abbrev pub head_by : List ℕ → ℕ → ℕ → ℕ → Reading ℕ
 head_by name major width b =
-    if (b / 32) == major then argument_at name width b else refuse (mismatch name b)
+    if (b / 32) == major then argument_at name width b else reject (mismatch name b)
 
 -- a head of this major type, of at most so many bytes of argument
 abbrev pub head_at : List ℕ → ℕ → ℕ → Reading ℕ
 head_at name major width = byte_at name 1 >=> head_by name major width
 
--- a length: none where it is open
+-- a length: none where it is indefinite
 abbrev pub length_by : List ℕ → ℕ → ℕ → Reading (Option ℕ)
 length_by name major b =
-    if b == open_head major then give None else (head_by name major 8 b >=> λ n. give (Some n))
+    if b == indefinite_head major then give None else (head_by name major 8 b >=> λ n. give
+    (Some n))
 
 abbrev pub length_at : List ℕ → ℕ → Reading (Option ℕ)
 length_at name major = byte_at name 1 >=> length_by name major

@@ -2,14 +2,14 @@
 use Rattle.std.specs.Prelude.{ℕ, ◌/◌, ◌^◌, ◌==◌, List, Option, Some, None, nat_lt, if◌then◌else◌, ℤ}
 use Rattle.std.specs.Prelude.{pos, negsuc, codes}
 use Rattle.cbor4ii_rw.specs.declared.error.Len.TheVariants.{Indefinite}
-use Rattle.cbor4ii_items.specs.Refusal.{mismatch, require_length, length_overflow, cast_overflow}
-use Rattle.cbor4ii_items.specs.Refusal.{len_of}
-use Rattle.cbor4ii_items.specs.Reading.{Reading, give, refuse, peek_at, ◌>=>◌}
+use Rattle.cbor4ii_items.specs.InputError.{mismatch, require_length, length_overflow, cast_overflow}
+use Rattle.cbor4ii_items.specs.InputError.{len_of}
+use Rattle.cbor4ii_items.specs.Reading.{Reading, give, reject, peek_at, ◌>=>◌}
 use Rattle.cbor4ii_items.specs.ReadHead.{head_at, length_at, number_on}
 
 -- a number below the limit
 abbrev pub below : List ℕ → ℕ → ℕ → Reading ℕ
-below name limit v = if nat_lt v limit then give v else refuse (cast_overflow name)
+below name limit v = if nat_lt v limit then give v else reject (cast_overflow name)
 
 abbrev pub head_below_at : List ℕ → ℕ → ℕ → ℕ → Reading ℕ
 head_below_at name major width limit = head_at name major width >=> below name limit
@@ -26,16 +26,16 @@ abbrev pub signed_by : List ℕ → List ℕ → List ℕ → ℕ → ℕ → �
 signed_by name plus minus width limit b =
     if (b / 32) == 0 then head_below_at plus 0 width limit >=> as_positive
     else (if (b / 32) == 1 then head_below_at minus 1 width limit >=> as_negative
-    else refuse (mismatch name b))
+    else reject (mismatch name b))
 
 abbrev pub signed_at : List ℕ → List ℕ → List ℕ → ℕ → ℕ → Reading ℤ
 signed_at name plus minus width limit = peek_at name 1 >=> signed_by name plus minus width limit
 
 -- a byte string of this length, as a number
 abbrev pub magnitude_by : List ℕ → Option ℕ → Reading ℕ
-magnitude_by name None = refuse (require_length name Indefinite)
+magnitude_by name None = reject (require_length name Indefinite)
 magnitude_by name (Some count) =
-    if nat_lt 16 count then refuse (length_overflow name (len_of count)) else number_on name count
+    if nat_lt 16 count then reject (length_overflow name (len_of count)) else number_on name count
     count 0
 
 abbrev pub magnitude_at : List ℕ → Reading ℕ
@@ -43,7 +43,7 @@ magnitude_at name = length_at name 2 >=> magnitude_by name
 
 abbrev pub unsigned_bignum_at : ℕ → Reading ℕ
 unsigned_bignum_at tag =
-    if tag == 2 then magnitude_at (codes "u128::bytes") else refuse
+    if tag == 2 then magnitude_at (codes "u128::bytes") else reject
     (mismatch (codes "u128::tag") tag)
 
 abbrev pub u128_by : ℕ → Reading ℕ
@@ -61,7 +61,7 @@ abbrev pub signed_bignum_at : ℕ → Reading ℤ
 signed_bignum_at tag =
     if tag == 2 then small_magnitude_at (codes "+i128::bytes") >=> as_positive
     else (if tag == 3 then small_magnitude_at (codes "-i128::bytes") >=> as_negative
-    else refuse (mismatch (codes "i128::tag") tag))
+    else reject (mismatch (codes "i128::tag") tag))
 
 abbrev pub i128_by : ℕ → Reading ℤ
 i128_by b =

@@ -3,13 +3,13 @@ use Rattle.std.specs.Prelude.{ℕ, zero, suc, ◌-◌, ◌==◌, List, [], ◌++
 use Rattle.std.specs.Prelude.{take, drop, Option, Some, None, Ok, Err, nat_lt, if◌then◌else◌, codes}
 use Rattle.cbor4ii_rw.specs.declared.error.Len.TheVariants.{Indefinite}
 use Rattle.cbor4ii_items.specs.Head.{break}
-use Rattle.cbor4ii_items.specs.Refusal.{eof, require_length, depth_overflow, len_of}
-use Rattle.cbor4ii_items.specs.Reading.{Reading, give, refuse, peek_at, ◌>=>◌}
+use Rattle.cbor4ii_items.specs.InputError.{eof, require_length, depth_overflow, len_of}
+use Rattle.cbor4ii_items.specs.Reading.{Reading, give, reject, peek_at, ◌>=>◌}
 use Rattle.cbor4ii_items.specs.ReadHead.{length_at}
 
--- ---- content of a known length
+-- ---- content of definite length
 
--- so many bytes, behind a content; where fewer are left, nothing is, and the refusal says how many
+-- so many bytes, after a content; where fewer are left, nothing is, and the error says how many
 -- are missing
 abbrev pub content_on : List ℕ → ℕ → List ℕ → Reading (List ℕ)
 content_on name count content xs =
@@ -27,9 +27,9 @@ break_at = peek_at (codes "break") 1 >=> break_by
 
 -- ---- chunks
 
--- a chunk's content behind what came before it, by its length
+-- a chunk's content after what came before it, by its length
 abbrev pub chunk_by : List ℕ → List ℕ → Option ℕ → Reading (List ℕ)
-chunk_by name content None = refuse (require_length name Indefinite)
+chunk_by name content None = reject (require_length name Indefinite)
 chunk_by name content (Some count) = content_on name count content
 
 abbrev pub chunk_inside_at : List ℕ → ℕ → List ℕ → Reading (List ℕ)
@@ -38,7 +38,7 @@ chunk_inside_at name major content = length_at name major >=> chunk_by name cont
 -- a chunk under one step
 abbrev pub chunk_at : List ℕ → ℕ → Option ℕ → List ℕ → Reading (List ℕ)
 chunk_at name major None content = chunk_inside_at name major content
-chunk_at name major (Some zero) content = refuse (depth_overflow name)
+chunk_at name major (Some zero) content = reject (depth_overflow name)
 chunk_at name major (Some (suc left)) content = chunk_inside_at name major content
 
 -- at most so many chunks, and a break

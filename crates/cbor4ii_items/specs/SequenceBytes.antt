@@ -11,7 +11,7 @@ items_bytes bytes (v ∷ vs) = bytes v ++ items_bytes bytes vs
 abbrev pub array_bytes : {V : Type 0} → (V → List ℕ) → List V → List ℕ
 array_bytes bytes vs = shortest_head 4 (length vs) ++ items_bytes bytes vs
 
--- a key, and its value behind it
+-- a key, and its value after it
 abbrev pub pair_bytes : {K V : Type 0} → (K → List ℕ) → (V → List ℕ) → K × V → List ℕ
 pair_bytes key value p = key p.0 ++ value p.1
 

@@ -1,4 +1,4 @@
--- Simple values, and the laws of their spellings (RFC 8949 section 3.3).
+-- Simple values, and the laws of their encodings (RFC 8949 section 3.3).
 use Rattle.std.proofs.Common.{◌≡◌, ℕ, ◌≤◌, List, [], ◌∷◌, ◌++◌, length, take, Bool, true, false}
 use Rattle.std.proofs.Common.{refl, sym, ◌∙◌, arith}
 use Rattle.std.specs.Prelude.{codes, ◌==◌}
@@ -6,11 +6,11 @@ use Rattle.cbor4ii_items.specs.declared.types.Simple.{Simple}
 use Rattle.cbor4ii_items.specs.Initial.{simple_byte, simple_false, simple_true}
 use Rattle.cbor4ii_items.specs.Reading.{Reading, give, ◌>=>◌}
 use Rattle.cbor4ii_items.specs.Marked.{NoneBegins, marked_at}
-use Rattle.cbor4ii_items.specs.Numbers.{ReadsArgument, StopsArgument, argument_spelling}
+use Rattle.cbor4ii_items.specs.Numbers.{ReadsArgument, RejectsArgument, argument_format}
 use Rattle.cbor4ii_items.specs.Laws.Arguments.{argument_lawful}
-use Rattle.cbor4ii_items.specs.Laws.Spellings.{lawful_by}
-use Rattle.cbor4ii_items.specs.Decoding.{Reads, StopsAt, Spelling, IsLawful, leaf_spelling}
-use Rattle.cbor4ii_items.specs.Decoding.{spelling_by}
+use Rattle.cbor4ii_items.specs.Laws.Formats.{lawful_by}
+use Rattle.cbor4ii_items.specs.Decoding.{Reads, RejectsAt, Format, IsLawful, leaf_format}
+use Rattle.cbor4ii_items.specs.Decoding.{format_by}
 
 -- ---- any simple value, by its number
 
@@ -18,15 +18,15 @@ use Rattle.cbor4ii_items.specs.Decoding.{spelling_by}
 abbrev pub ReadsSimple : Reads Simple
 ReadsSimple xs v n c = ReadsArgument 7 1 xs v.0 n c
 
-abbrev pub StopsSimple : StopsAt
-StopsSimple = StopsArgument (codes "simple") 7 1
+abbrev pub RejectsSimple : RejectsAt
+RejectsSimple = RejectsArgument (codes "simple") 7 1
 
-abbrev pub simple_spelling : Spelling Simple
-simple_spelling = spelling_by (λ v. v.0) (argument_spelling (codes "simple") 7 1)
+abbrev pub simple_format : Format Simple
+simple_format = format_by (λ v. v.0) (argument_format (codes "simple") 7 1)
 
-pub simple_lawful : IsLawful simple_spelling
+pub simple_lawful : IsLawful simple_format
 simple_lawful =
-    lawful_by (λ v. v.0) (argument_spelling (codes "simple") 7 1)
+    lawful_by (λ v. v.0) (argument_format (codes "simple") 7 1)
     (argument_lawful (codes "simple") 7 1 (omega arith))
 
 -- ---- false and true
@@ -42,8 +42,8 @@ ReadsBool xs v n c = (take 1 xs ≡ bool_byte v ∷ []) × (n ≡ 1) × (c ≡ 0
 abbrev pub IsBool : ℕ → Type 0
 IsBool b = (v : Bool) × (b ≡ bool_byte v)
 
-abbrev pub StopsBool : StopsAt
-StopsBool xs budget refusal rest = NoneBegins (codes "bool") IsBool xs refusal rest
+abbrev pub RejectsBool : RejectsAt
+RejectsBool xs budget err rest = NoneBegins (codes "bool") IsBool xs err rest
 
 abbrev pub bool_at : Reading Bool
 bool_at = marked_at (codes "bool") 0xf4 0xf5 >=> λ b. give (b == 0xf5)
@@ -74,10 +74,10 @@ pub bool_alone : (xs ys : List ℕ) (v : Bool) (n c : ℕ) → ReadsBool xs v n 
 bool_alone [] ys v n c p = let f = p.0 in cc
 bool_alone (x ∷ xs) ys v n c p = rw p.1 (p.0, refl, p.2)
 
-abbrev pub bool_spelling : Spelling Bool
-bool_spelling = leaf_spelling ReadsBool StopsBool
+abbrev pub bool_format : Format Bool
+bool_format = leaf_format ReadsBool RejectsBool
 
-pub bool_lawful : IsLawful bool_spelling
+pub bool_lawful : IsLawful bool_format
 bool_lawful = record {
   one = bool_one;
   within = bool_within;

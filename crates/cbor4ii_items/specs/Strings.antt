@@ -1,14 +1,15 @@
--- What strings are spelled as, and how they are refused (RFC 8949 sections 3.1, 3.2.1 and 3.2.3).
+-- What strings are encoded as, and how they are rejected (RFC 8949 sections 3.1, 3.2.1 and 3.2.3).
 use Rattle.std.specs.Prelude.{◌≡◌, ◌≢◌, ℕ, ◌+◌, ◌-◌, ◌<◌, ◌⊎◌, ◌++◌, List, [], ◌∷◌, length, take}
 use Rattle.std.specs.Prelude.{drop, Bool, true, false, Option, Some, codes, IsUtf8}
 use Rattle.cbor4ii_rw.specs.declared.error.Len.TheVariants.{Small, Indefinite}
-use Rattle.cbor4ii_items.specs.Head.{break, open_head}
-use Rattle.cbor4ii_items.specs.Refusal.{Refusal, eof, require_length, require_utf8, depth_overflow}
-use Rattle.cbor4ii_items.specs.Refusal.{len_of}
-use Rattle.cbor4ii_items.specs.Decoding.{Reads, StopsAt, CostFits, Spelling, leaf_spelling}
-use Rattle.cbor4ii_items.specs.Decoding.{looking_spelling, spelling_by, taking_memory}
-use Rattle.cbor4ii_items.specs.Heads.{ReadsHead, StopsHead}
-pub use Rattle.cbor4ii_items.specs.Numbers.{counted_string}
+use Rattle.cbor4ii_items.specs.Head.{break, indefinite_head}
+use Rattle.cbor4ii_items.specs.InputError.{InputError, eof, require_length, require_utf8}
+use Rattle.cbor4ii_items.specs.InputError.{depth_overflow}
+use Rattle.cbor4ii_items.specs.InputError.{len_of}
+use Rattle.cbor4ii_items.specs.Decoding.{Reads, RejectsAt, CostFits, Format, leaf_format}
+use Rattle.cbor4ii_items.specs.Decoding.{looking_format, format_by, taking_memory}
+use Rattle.cbor4ii_items.specs.Heads.{ReadsHead, RejectsHead}
+pub use Rattle.cbor4ii_items.specs.Numbers.{definite_string}
 use Rattle.cbor4ii_items.specs.declared.types.Bytes.{Bytes}
 use Rattle.cbor4ii_items.specs.declared.types.UncheckedStr.{UncheckedStr}
 use Rattle.std.specs.declared.alloc.Global.{Global}
@@ -20,7 +21,7 @@ use Rattle.std.specs.Prelude.{string_bytes}
 
 -- the first byte of a string of indefinite length
 abbrev pub opening : ℕ → List ℕ
-opening major = open_head major ∷ []
+opening major = indefinite_head major ∷ []
 
 -- the byte that ends an indefinite length
 abbrev pub closing : List ℕ
@@ -29,17 +30,18 @@ closing = break ∷ []
 -- ---- what is read
 
 -- a head of this major type that says the content's length, and the content; n bytes in all
-pub record ReadsCountedString (major : ℕ) (xs content : List ℕ) (n : ℕ) : Type 0 where
+pub record ReadsDefiniteString (major : ℕ) (xs content : List ℕ) (n : ℕ) : Type 0 where
   pub before : ℕ
   pub head : ReadsHead major 8 xs (length content) before
   pub stands : take (length content) (drop before xs) ≡ content
   pub size : n ≡ before + length content
 
--- strings of a known length, one behind another
+-- strings of definite length, one after another
 abbrev pub ReadsChunks : ℕ → List (List ℕ) → List ℕ → ℕ → Type 0
 ReadsChunks major [] xs n = n ≡ 0
 ReadsChunks major (chunk ∷ chunks) xs n =
-    (k : ℕ) × (m : ℕ) × ReadsCountedString major xs chunk k × ReadsChunks major chunks (drop k xs) m
+    (k : ℕ) × (m : ℕ) × ReadsDefiniteString major xs chunk k × ReadsChunks major chunks
+    (drop k xs) m
     × (n ≡ k + m)
 
 -- the contents of the chunks, joined
@@ -53,8 +55,8 @@ chunk_cost [] = 0
 chunk_cost (chunk ∷ chunks) = 1
 
 -- a string of indefinite length: its first byte, chunks, and a break; n bytes in all, at the cost c
-pub record ReadsOpenString (major : ℕ) (xs content : List ℕ) (n c : ℕ) : Type 0 where
-  pub begins : take 1 xs ≡ open_head major ∷ []
+pub record ReadsIndefiniteString (major : ℕ) (xs content : List ℕ) (n c : ℕ) : Type 0 where
+  pub begins : take 1 xs ≡ indefinite_head major ∷ []
   pub chunks : List (List ℕ)
   pub between : ℕ
   pub read : ReadsChunks major chunks (drop 1 xs) between
@@ -63,10 +65,10 @@ pub record ReadsOpenString (major : ℕ) (xs content : List ℕ) (n c : ℕ) : T
   pub size : n ≡ 2 + between
   pub cost : c ≡ chunk_cost chunks
 
--- a string of this major type, of known or of indefinite length
+-- a string of this major type, of definite or of indefinite length
 abbrev pub ReadsString : ℕ → Reads (List ℕ)
 ReadsString major xs content n c =
-    (ReadsCountedString major xs content n × (c ≡ 0)) ⊎ ReadsOpenString major xs content n c
+    (ReadsDefiniteString major xs content n × (c ≡ 0)) ⊎ ReadsIndefiniteString major xs content n c
 
 -- a text string that is UTF-8
 abbrev pub ReadsText : Reads (List ℕ)
@@ -91,74 +93,75 @@ unchecked_content v = v.0.items
 abbrev pub text_content : String Global → List ℕ
 text_content v = string_bytes v
 
--- ---- how strings are refused
+-- ---- how strings are rejected
 
 -- fewer bytes follow than the head says, and nothing is left
-pub record CutContent (name : List ℕ) (major : ℕ) (xs : List ℕ) (refusal : Refusal)
+pub record CutContent (name : List ℕ) (major : ℕ) (xs : List ℕ) (err : InputError)
     (rest : List ℕ) : Type 0 where
   pub count : ℕ
   pub before : ℕ
   pub head : ReadsHead major 8 xs count before
   pub short : length xs < before + count
-  pub answer : refusal ≡ eof name (len_of (before + count - length xs))
+  pub answer : err ≡ eof name (len_of (before + count - length xs))
   pub left : rest ≡ []
 
 -- where a chunk or a break should come
-pub data StopsChunk (name : List ℕ) (major : ℕ) (xs : List ℕ) (budget : Option ℕ)
-    (refusal : Refusal) (rest : List ℕ) : Type 0 where
-  no_chunk_byte : xs ≡ [] → refusal ≡ eof (codes "break") (Small 1) → rest ≡ []
-      → StopsChunk name major xs budget refusal rest
-  no_step : xs ≢ [] → (take 1 xs ≡ break ∷ [] → ⊥) → budget ≡ Some 0 → refusal ≡ depth_overflow name
-      → rest ≡ xs → StopsChunk name major xs budget refusal rest
-  chunk_open : budget ≢ Some 0 → xs ≡ open_head major ∷ rest
-      → refusal ≡ require_length name Indefinite → StopsChunk name major xs budget refusal rest
-  chunk_refused : budget ≢ Some 0 → (take 1 xs ≡ break ∷ [] → ⊥)
-      → (take 1 xs ≡ open_head major ∷ [] → ⊥) → xs ≢ [] → StopsHead name major 8 xs refusal rest
-      → StopsChunk name major xs budget refusal rest
-  chunk_cut : budget ≢ Some 0 → CutContent name major xs refusal rest
-      → StopsChunk name major xs budget refusal rest
+pub data RejectsChunk (name : List ℕ) (major : ℕ) (xs : List ℕ) (budget : Option ℕ)
+    (err : InputError) (rest : List ℕ) : Type 0 where
+  no_chunk_byte : xs ≡ [] → err ≡ eof (codes "break") (Small 1) → rest ≡ []
+      → RejectsChunk name major xs budget err rest
+  no_step : xs ≢ [] → (take 1 xs ≡ break ∷ [] → ⊥) → budget ≡ Some 0 → err ≡ depth_overflow name
+      → rest ≡ xs → RejectsChunk name major xs budget err rest
+  chunk_indefinite : budget ≢ Some 0 → xs ≡ indefinite_head major ∷ rest
+      → err ≡ require_length name Indefinite → RejectsChunk name major xs budget err rest
+  chunk_rejected : budget ≢ Some 0 → (take 1 xs ≡ break ∷ [] → ⊥)
+      → (take 1 xs ≡ indefinite_head major ∷ [] → ⊥) → xs ≢ [] → RejectsHead name major 8 xs
+      err rest
+      → RejectsChunk name major xs budget err rest
+  chunk_cut : budget ≢ Some 0 → CutContent name major xs err rest
+      → RejectsChunk name major xs budget err rest
 
--- behind the first byte of a string of indefinite length: some chunks are whole and fit the budget,
--- and then comes the refusal
-pub record StopsOpen (name : List ℕ) (major : ℕ) (xs : List ℕ) (budget : Option ℕ)
-    (refusal : Refusal) (rest : List ℕ) : Type 0 where
+-- after the first byte of a string of indefinite length: some chunks are whole and fit the budget,
+-- and then comes the error
+pub record RejectsIndefinite (name : List ℕ) (major : ℕ) (xs : List ℕ) (budget : Option ℕ)
+    (err : InputError) (rest : List ℕ) : Type 0 where
   pub chunks : List (List ℕ)
   pub between : ℕ
   pub read : ReadsChunks major chunks xs between
   pub fits : CostFits (chunk_cost chunks) budget
-  pub stop : StopsChunk name major (drop between xs) budget refusal rest
+  pub stop : RejectsChunk name major (drop between xs) budget err rest
 
-pub data StopsString (name : List ℕ) (major : ℕ) (xs : List ℕ) (budget : Option ℕ)
-    (refusal : Refusal) (rest : List ℕ) : Type 0 where
-  string_head_refused : (take 1 xs ≡ open_head major ∷ [] → ⊥)
-      → StopsHead name major 8 xs refusal rest → StopsString name major xs budget refusal rest
-  string_cut : CutContent name major xs refusal rest → StopsString name major xs budget refusal rest
-  string_open : take 1 xs ≡ open_head major ∷ []
-      → StopsOpen name major (drop 1 xs) budget refusal rest
-      → StopsString name major xs budget refusal rest
+pub data RejectsString (name : List ℕ) (major : ℕ) (xs : List ℕ) (budget : Option ℕ)
+    (err : InputError) (rest : List ℕ) : Type 0 where
+  string_head_rejected : (take 1 xs ≡ indefinite_head major ∷ [] → ⊥)
+      → RejectsHead name major 8 xs err rest → RejectsString name major xs budget err rest
+  string_cut : CutContent name major xs err rest → RejectsString name major xs budget err rest
+  string_indefinite : take 1 xs ≡ indefinite_head major ∷ []
+      → RejectsIndefinite name major (drop 1 xs) budget err rest
+      → RejectsString name major xs budget err rest
 
 -- a text string whose content is not UTF-8 is taken whole
-pub data StopsText (name : List ℕ) (xs : List ℕ) (budget : Option ℕ) (refusal : Refusal)
+pub data RejectsText (name : List ℕ) (xs : List ℕ) (budget : Option ℕ) (err : InputError)
     (rest : List ℕ) : Type 0 where
-  no_string : StopsString name 3 xs budget refusal rest → StopsText name xs budget refusal rest
+  no_string : RejectsString name 3 xs budget err rest → RejectsText name xs budget err rest
   no_utf8 : (content : List ℕ) (n c : ℕ) → ReadsString 3 xs content n c → CostFits c budget
-      → (IsUtf8 content → ⊥) → refusal ≡ require_utf8 name → rest ≡ drop n xs
-      → StopsText name xs budget refusal rest
+      → (IsUtf8 content → ⊥) → err ≡ require_utf8 name → rest ≡ drop n xs
+      → RejectsText name xs budget err rest
 
 -- ---- strings and texts in one word
 
-abbrev pub string_spelling : List ℕ → ℕ → Spelling (List ℕ)
-string_spelling name major =
-    taking_memory (leaf_spelling (ReadsString major) (StopsString name major))
+abbrev pub string_format : List ℕ → ℕ → Format (List ℕ)
+string_format name major =
+    taking_memory (leaf_format (ReadsString major) (RejectsString name major))
 
 -- a string whose content a value has
-abbrev pub as_spelling : {V : Type 0} → List ℕ → ℕ → (V → List ℕ) → Spelling V
-as_spelling name major content = spelling_by content (string_spelling name major)
+abbrev pub as_format : {V : Type 0} → List ℕ → ℕ → (V → List ℕ) → Format V
+as_format name major content = format_by content (string_format name major)
 
 -- a text string that is UTF-8, whose content a value has
-abbrev pub text_spelling : {V : Type 0} → List ℕ → (V → List ℕ) → Spelling V
-text_spelling name content =
-    spelling_by content (taking_memory (leaf_spelling ReadsText (StopsText name)))
+abbrev pub text_format : {V : Type 0} → List ℕ → (V → List ℕ) → Format V
+text_format name content =
+    format_by content (taking_memory (leaf_format ReadsText (RejectsText name)))
 
 -- ---- breaks
 
@@ -167,9 +170,9 @@ abbrev pub ReadsBreak : Reads Bool
 ReadsBreak xs true n c = (take 1 xs ≡ break ∷ []) × (n ≡ 1) × (c ≡ 0)
 ReadsBreak xs false n c = (xs ≢ []) × (take 1 xs ≡ break ∷ [] → ⊥) × (n ≡ 0) × (c ≡ 0)
 
-abbrev pub StopsBreak : StopsAt
-StopsBreak xs budget refusal rest =
-    (xs ≡ []) × (refusal ≡ eof (codes "break") (Small 1)) × (rest ≡ [])
+abbrev pub RejectsBreak : RejectsAt
+RejectsBreak xs budget err rest =
+    (xs ≡ []) × (err ≡ eof (codes "break") (Small 1)) × (rest ≡ [])
 
-abbrev pub break_spelling : Spelling Bool
-break_spelling = looking_spelling ReadsBreak StopsBreak
+abbrev pub break_format : Format Bool
+break_format = looking_format ReadsBreak RejectsBreak

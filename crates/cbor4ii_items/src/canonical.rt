@@ -1,12 +1,13 @@
-//! Heads and strings that are spelled in one way: by the shortest head (RFC 8949 section 4.1).
+//! Heads and strings that are encoded in one way: by the shortest head (RFC 8949 section 4.1).
 ghost use Rattle.std.specs.Prelude.{◌≡◌, ◌+◌, ◌≤◌, ◌<◌, OnOk, IfErr, false};
 ghost use Rattle.cbor4ii_items.specs.Contents.{listed};
 ghost use Rattle.cbor4ii_items.specs.Head.{additional, shortest};
-ghost use Rattle.cbor4ii_items.specs.ReadShortest.{is_open_head, shortest_at, shortest_string_at};
+ghost use Rattle.cbor4ii_items.specs.ReadShortest.{is_indefinite_head, shortest_at};
+ghost use Rattle.cbor4ii_items.specs.ReadShortest.{shortest_string_at};
 ghost use Rattle.cbor4ii_items.specs.Reading.{Runs};
-ghost use Rattle.cbor4ii_items.specs.Refusal.{is_out_of_memory};
+ghost use Rattle.cbor4ii_items.specs.InputError.{is_out_of_memory};
 ghost use Rattle.cbor4ii_items.specs.Decoding.{Decodes};
-ghost use Rattle.cbor4ii_items.specs.Shortest.{shortest_spelling, shortest_string_spelling};
+ghost use Rattle.cbor4ii_items.specs.Shortest.{shortest_format, shortest_string_format};
 
 use crate::head::{head, peek};
 use crate::strings::content::take_known;
@@ -35,7 +36,7 @@ pub fn canonical_head<S: Source>(
     major: u8,
     reader: &mut S,
 ) -> Result<u64, DecodeError<S::Error>>
-    ensures { Decodes (shortest_spelling name.now major)
+    ensures { Decodes (shortest_format name.now major)
         (S.view reader.old) (S.view reader.new) result }
 {
     take_shortest(reader, name, major)
@@ -43,7 +44,7 @@ pub fn canonical_head<S: Source>(
 
 /// Takes a string of the major type `major`, its length in a head as `canonical_head` takes it, and
 /// answers its content. Of 2 and 3 it is a string of RFC 8949 section 3.1; of another major type it
-/// is the head, and as many bytes behind it as its argument says. At most 16384 bytes are reserved
+/// is the head, and as many bytes after it as its argument says. At most 16384 bytes are reserved
 /// before any came. The budget stays.
 ///
 /// # Errors
@@ -59,7 +60,7 @@ pub fn canonical_buf<S: Source>(
     major: u8,
     reader: &mut S,
 ) -> Result<Vec<u8>, DecodeError<S::Error>>
-    ensures { Decodes (shortest_string_spelling name.now major)
+    ensures { Decodes (shortest_string_format name.now major)
         (S.view reader.old) (S.view reader.new) (listed result) }
 {
     take_shortest_string(alloc, reader, name, major)
@@ -93,7 +94,7 @@ fn take_shortest<S: Source>(
     ensures progress { OnOk result ((S.view reader.new).bound + 1 ≤ (S.view reader.old).bound) }
 {
     let first = peek(reader, name, 1)?;
-    if is_open(major, first) {
+    if is_indefinite(major, first) {
         reader.advance(1);
         return Err(DecodeError::NotCanonical { name: "canonical" });
     }
@@ -105,8 +106,8 @@ fn take_shortest<S: Source>(
 }
 
 /// Whether `first` says an indefinite length of this major type (RFC 8949 section 3.2).
-fn is_open(major: u8, first: u8) -> bool
-    ensures { result ≡ is_open_head major first }
+fn is_indefinite(major: u8, first: u8) -> bool
+    ensures { result ≡ is_indefinite_head major first }
 {
     major::BYTES <= major && major <= major::MAP && first == 32 * major + marker::START
 }

@@ -3,15 +3,15 @@ ghost use Rattle.std.specs.Prelude.{◌≡◌, ◌+◌, ◌≤◌, ◌<◌, ◌^
 ghost use Rattle.std.specs.Prelude.{IfOk, IfErr, IfSome};
 ghost use Rattle.cbor4ii_items.specs.Head.{IsBytes};
 ghost use Rattle.cbor4ii_items.specs.Magnitude.{number_of};
-ghost use Rattle.cbor4ii_items.specs.Decoding.{Decodes, spelling_by};
+ghost use Rattle.cbor4ii_items.specs.Decoding.{Decodes, format_by};
 ghost use Rattle.cbor4ii_items.specs.Reading.{Runs};
-ghost use Rattle.cbor4ii_items.specs.Refusal.{is_out_of_memory};
-ghost use Rattle.cbor4ii_items.specs.Floats.{float_bytes, IsInFront, float_at, float_spelling};
+ghost use Rattle.cbor4ii_items.specs.InputError.{is_out_of_memory};
+ghost use Rattle.cbor4ii_items.specs.Floats.{float_bytes, IsInFront, float_at, float_format};
 ghost use Rattle.cbor4ii_items.specs.Floats.{float_lawful};
-ghost use Rattle.cbor4ii_items.specs.Laws.Spellings.{lawful_by};
-ghost use Rattle.cbor4ii_items.specs.Writing.{WritesWhole};
+ghost use Rattle.cbor4ii_items.specs.Laws.Formats.{lawful_by};
+ghost use Rattle.cbor4ii_items.specs.Writing.{WritesAtomically};
 
-use crate::decode::{Decode, Spelled};
+use crate::decode::{Decodable, Decode};
 use crate::encode::Encode;
 use crate::head::{marked, number};
 use crate::marker;
@@ -23,7 +23,7 @@ use cbor4ii_rw::read::Source;
 use cbor4ii_rw::write::Write;
 use std::alloc::Global;
 
-/// The bits of a float: its first byte, and so many bytes behind it.
+/// The bits of a float: its first byte, and so many bytes after it.
 #[inline(always)]
 fn lone_float<S: Source>(
     reader: &mut S,
@@ -33,7 +33,7 @@ fn lone_float<S: Source>(
 ) -> Result<u64, DecodeError<S::Error>>
     requires { bytes ≤ 8 }
     ensures fits { IfOk result (λ v. v < 256 ^ bytes) }
-    ensures decodes { Decodes (float_spelling name.now marker bytes)
+    ensures decodes { Decodes (float_format name.now marker bytes)
         (S.view reader.old) (S.view reader.new) result }
 {
     take_float(reader, name, marker, bytes)
@@ -70,15 +70,15 @@ fn take_float<S: Source>(
 
 /// The bits of a float that stands whole in front.
 #[inline(always)]
-fn in_front(front: &[u8], marker: u8, bytes: u8) -> Option<u64>
+fn in_front(prefix: &[u8], marker: u8, bytes: u8) -> Option<u64>
     requires { bytes ≤ 8 }
-    ensures { IfSome result (IsInFront marker bytes front.now) }
+    ensures { IfSome result (IsInFront marker bytes prefix.now) }
 {
-    if front.len() <= bytes as usize || front[0] != marker {
+    if prefix.len() <= bytes as usize || prefix[0] != marker {
         return None;
     }
-    let behind = &front[1..];
-    Some(number_of(&behind[..bytes as usize]))
+    let trailing = &prefix[1..];
+    Some(number_of(&trailing[..bytes as usize]))
 }
 
 /// The number that the bytes are, most significant first.
@@ -115,14 +115,14 @@ fn float_by_bytes<S: Source>(
     Ok(number(reader, name, bytes)? as u64)
 }
 
-impl Spelled for F16 {
-    ghost spelling = { spelling_by (λ v. v.0) (float_spelling (codes "f16") 0xf9 2) };
+impl Decodable for F16 {
+    ghost format = { format_by (λ v. v.0) (float_format (codes "f16") 0xf9 2) };
 
     fn is_never_empty() -> bool {
         true
     }
 
-    ghost lawful = { lawful_by (λ v. v.0) (float_spelling (codes "f16") 0xf9 2)
+    ghost lawful = { lawful_by (λ v. v.0) (float_format (codes "f16") 0xf9 2)
         (float_lawful (codes "f16") 0xf9 2) };
 }
 
@@ -130,7 +130,7 @@ impl Spelled for F16 {
 ///
 /// # Errors
 ///
-/// `Read` is told at `Decode::decode`. The others have the name "f16":
+/// `Read` is described at `Decode::decode`. The others have the name "f16":
 ///
 /// - `Eof` with 1: no byte is left
 /// - `Mismatch` with the next byte, which stays: it begins no float of two bytes
@@ -146,13 +146,13 @@ impl<S: Source> Decode<S> for F16 {
 ///
 /// # Errors
 ///
-/// `Write`: the writer failed. A whole writer then holds what it held before.
+/// `Write`: the writer failed. An atomic writer then holds what it held before.
 impl Encode for F16 {
     ghost bytes = { λ v. float_bytes 0xf9 2 v.0 };
 
     #[inline(always)]
     fn encode<W: Write>(&self, writer: &mut W) -> Result<(), EncodeError<W::Error>>
-        ensures { WritesWhole W.whole (float_bytes 0xf9 2 self.now.0)
+        ensures { WritesAtomically W.atomic (float_bytes 0xf9 2 self.now.0)
             (W.view writer.old) (W.view writer.new) result }
     {
         let [a, b] = self.0.to_be_bytes();
@@ -160,14 +160,14 @@ impl Encode for F16 {
     }
 }
 
-impl Spelled for F32 {
-    ghost spelling = { spelling_by (λ v. v.0) (float_spelling (codes "f32") 0xfa 4) };
+impl Decodable for F32 {
+    ghost format = { format_by (λ v. v.0) (float_format (codes "f32") 0xfa 4) };
 
     fn is_never_empty() -> bool {
         true
     }
 
-    ghost lawful = { lawful_by (λ v. v.0) (float_spelling (codes "f32") 0xfa 4)
+    ghost lawful = { lawful_by (λ v. v.0) (float_format (codes "f32") 0xfa 4)
         (float_lawful (codes "f32") 0xfa 4) };
 }
 
@@ -175,7 +175,7 @@ impl Spelled for F32 {
 ///
 /// # Errors
 ///
-/// `Read` is told at `Decode::decode`. The others have the name "f32":
+/// `Read` is described at `Decode::decode`. The others have the name "f32":
 ///
 /// - `Eof` with 1: no byte is left
 /// - `Mismatch` with the next byte, which stays: it begins no float of four bytes
@@ -191,13 +191,13 @@ impl<S: Source> Decode<S> for F32 {
 ///
 /// # Errors
 ///
-/// `Write`: the writer failed. A whole writer then holds what it held before.
+/// `Write`: the writer failed. An atomic writer then holds what it held before.
 impl Encode for F32 {
     ghost bytes = { λ v. float_bytes 0xfa 4 v.0 };
 
     #[inline(always)]
     fn encode<W: Write>(&self, writer: &mut W) -> Result<(), EncodeError<W::Error>>
-        ensures { WritesWhole W.whole (float_bytes 0xfa 4 self.now.0)
+        ensures { WritesAtomically W.atomic (float_bytes 0xfa 4 self.now.0)
             (W.view writer.old) (W.view writer.new) result }
     {
         let mut bytes = [marker::F32, 0, 0, 0, 0];
@@ -206,14 +206,14 @@ impl Encode for F32 {
     }
 }
 
-impl Spelled for F64 {
-    ghost spelling = { spelling_by (λ v. v.0) (float_spelling (codes "f64") 0xfb 8) };
+impl Decodable for F64 {
+    ghost format = { format_by (λ v. v.0) (float_format (codes "f64") 0xfb 8) };
 
     fn is_never_empty() -> bool {
         true
     }
 
-    ghost lawful = { lawful_by (λ v. v.0) (float_spelling (codes "f64") 0xfb 8)
+    ghost lawful = { lawful_by (λ v. v.0) (float_format (codes "f64") 0xfb 8)
         (float_lawful (codes "f64") 0xfb 8) };
 }
 
@@ -221,7 +221,7 @@ impl Spelled for F64 {
 ///
 /// # Errors
 ///
-/// `Read` is told at `Decode::decode`. The others have the name "f64":
+/// `Read` is described at `Decode::decode`. The others have the name "f64":
 ///
 /// - `Eof` with 1: no byte is left
 /// - `Mismatch` with the next byte, which stays: it begins no float of eight bytes
@@ -237,13 +237,13 @@ impl<S: Source> Decode<S> for F64 {
 ///
 /// # Errors
 ///
-/// `Write`: the writer failed. A whole writer then holds what it held before.
+/// `Write`: the writer failed. An atomic writer then holds what it held before.
 impl Encode for F64 {
     ghost bytes = { λ v. float_bytes 0xfb 8 v.0 };
 
     #[inline(always)]
     fn encode<W: Write>(&self, writer: &mut W) -> Result<(), EncodeError<W::Error>>
-        ensures { WritesWhole W.whole (float_bytes 0xfb 8 self.now.0)
+        ensures { WritesAtomically W.atomic (float_bytes 0xfb 8 self.now.0)
             (W.view writer.old) (W.view writer.new) result }
     {
         let mut bytes = [marker::F64, 0, 0, 0, 0, 0, 0, 0, 0];

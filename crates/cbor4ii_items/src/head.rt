@@ -1,17 +1,17 @@
 //! Heads, read.
 ghost use Rattle.std.specs.Prelude.{◌≡◌, ◌+◌, ◌≤◌, ◌<◌, ◌^◌, OnOk, IfOk, IfErr, false};
-ghost use Rattle.cbor4ii_rw.specs.Reader.{Breaks};
+ghost use Rattle.cbor4ii_rw.specs.Reader.{ReaderFails};
 ghost use Rattle.cbor4ii_items.specs.Decoding.{Decodes};
-ghost use Rattle.cbor4ii_items.specs.Lengths.{length_spelling};
+ghost use Rattle.cbor4ii_items.specs.Lengths.{length_format};
 ghost use Rattle.cbor4ii_items.specs.Moves.{OnRead};
-ghost use Rattle.cbor4ii_items.specs.Numbers.{argument_spelling};
+ghost use Rattle.cbor4ii_items.specs.Numbers.{argument_format};
 ghost use Rattle.cbor4ii_items.specs.Reading.{Runs, peek_at, byte_at};
-ghost use Rattle.cbor4ii_items.specs.Refusal.{is_out_of_memory};
+ghost use Rattle.cbor4ii_items.specs.InputError.{is_out_of_memory};
 ghost use Rattle.cbor4ii_items.specs.Marked.{marked_at};
 ghost use Rattle.cbor4ii_items.specs.ReadHead.{number_on, argument_at, head_at, length_at};
 
 use crate::additional::{allowed, following};
-use crate::front::take_head;
+use crate::prefix::take_head;
 use cbor4ii_rw::ask::look;
 use cbor4ii_rw::error::{DecodeError, Len, StaticStr};
 use cbor4ii_rw::read::Source;
@@ -27,7 +27,7 @@ pub(crate) fn peek<S: Source>(
     ensures memory { IfErr result (λ error. is_out_of_memory error ≡ false) }
     ensures byte { IfOk result (λ b. b < 256) }
     ensures can { OnOk result (1 ≤ (S.view reader.new).advanceable) }
-    ensures failed { OnRead result (Breaks (S.view reader.old) (S.view reader.new)) }
+    ensures failed { OnRead result (ReaderFails (S.view reader.old) (S.view reader.new)) }
 {
     let mut failure = None;
     match look(reader, 1, &mut failure) {
@@ -146,7 +146,8 @@ pub(crate) fn head<S: Source>(
     }
 }
 
-/// As `head`, one byte at a time: a head that does not stand whole in what is shown, or is refused.
+/// As `head`, one byte at a time: a head that does not stand whole in what is shown, or is
+/// rejected.
 #[cold]
 #[inline(never)]
 fn head_by_bytes<S: Source>(
@@ -168,7 +169,7 @@ fn head_by_bytes<S: Source>(
     argument(reader, name, width, first)
 }
 
-/// A head that is a whole item: what is read, and how it is refused.
+/// A head that is a whole item: what is read, and how it is rejected.
 #[inline(always)]
 pub(crate) fn lone_head<S: Source>(
     reader: &mut S,
@@ -178,13 +179,13 @@ pub(crate) fn lone_head<S: Source>(
 ) -> Result<u64, DecodeError<S::Error>>
     requires { major < 8 }
     ensures fits { 1 ≤ width → IfOk result (λ v. v < 256 ^ width) }
-    ensures decodes { Decodes (argument_spelling name.now major width)
+    ensures decodes { Decodes (argument_format name.now major width)
         (S.view reader.old) (S.view reader.new) result }
 {
     head(reader, name, major, width)
 }
 
-/// The length that a head of this major type has: none where it is open.
+/// The length that a head of this major type has: none where it is indefinite.
 #[inline(always)]
 pub(crate) fn length<S: Source>(
     reader: &mut S,
@@ -226,8 +227,8 @@ fn length_by_bytes<S: Source>(
     Ok(Some(argument(reader, name, 8, first)?))
 }
 
-/// The length that an array or a map begins with, none where it is open: what is read, and how it
-/// is refused.
+/// The length that an array or a map begins with, none where it is indefinite: what is read, and
+/// how it is rejected.
 #[inline(always)]
 pub(crate) fn lone_length<S: Source>(
     reader: &mut S,
@@ -235,7 +236,7 @@ pub(crate) fn lone_length<S: Source>(
     major: u8,
 ) -> Result<Option<usize>, DecodeError<S::Error>>
     requires { major < 8 }
-    ensures { Decodes (length_spelling name.now major)
+    ensures { Decodes (length_format name.now major)
         (S.view reader.old) (S.view reader.new) result }
 {
     usize_length(length(reader, name, major))

@@ -1,13 +1,13 @@
-//! The first byte of a head, its two parts, and the argument behind it (RFC 8949 section 3).
+//! The first byte of a head, its two parts, and the argument after it (RFC 8949 section 3).
 ghost use Rattle.std.specs.Prelude.{◌≡◌, ◌+◌, ◌/◌, ◌%◌, ◌≤◌, OnOk, IfSome, None};
-ghost use Rattle.cbor4ii_rw.specs.Reader.{Breaks};
-ghost use Rattle.cbor4ii_items.specs.Head.{ArgumentBehind, LacksArgument};
+ghost use Rattle.cbor4ii_rw.specs.Reader.{ReaderFails};
+ghost use Rattle.cbor4ii_items.specs.Head.{ArgumentAfter, LacksArgument};
 ghost use Rattle.cbor4ii_items.specs.Decoding.{Decodes};
 ghost use Rattle.cbor4ii_items.specs.Moves.{OnRead};
-ghost use Rattle.cbor4ii_items.specs.Next.{next_spelling};
+ghost use Rattle.cbor4ii_items.specs.Next.{next_format};
 
-use crate::front::shown_argument;
 use crate::head;
+use crate::prefix::shown_argument;
 use cbor4ii_rw::error::{DecodeError, StaticStr};
 use cbor4ii_rw::read::Source;
 
@@ -23,8 +23,8 @@ use cbor4ii_rw::read::Source;
 #[inline(always)]
 pub fn peek<S: Source>(reader: &mut S, name: StaticStr) -> Result<u8, DecodeError<S::Error>>
     ensures can { OnOk result (1 ≤ (S.view reader.new).advanceable) }
-    ensures failed { OnRead result (Breaks (S.view reader.old) (S.view reader.new)) }
-    ensures decodes { Decodes (next_spelling name.now)
+    ensures failed { OnRead result (ReaderFails (S.view reader.old) (S.view reader.new)) }
+    ensures decodes { Decodes (next_format name.now)
         (S.view reader.old) (S.view reader.new) result }
 {
     head::peek(reader, name, 1)
@@ -51,14 +51,14 @@ pub fn low(byte: u8) -> u8
     byte & 0b0001_1111
 }
 
-/// The argument of a head, by its additional information and the bytes behind its first byte, and
-/// in how many of these it stands: 0, 1, 2, 4 or 8 (RFC 8949 section 3). What stands behind the
+/// The argument of a head, by its additional information and the bytes after its first byte, and
+/// in how many of these it stands: 0, 1, 2, 4 or 8 (RFC 8949 section 3). What follows the
 /// argument is not looked at. None where the additional information is over 27, which has no
 /// argument, and where the argument does not stand whole in those bytes.
 #[inline(always)]
-pub fn argument(info: u8, behind: &[u8]) -> Option<(u64, usize)>
-    ensures some { IfSome result (λ found. ArgumentBehind info behind.now found.0 found.1) }
-    ensures none { result ≡ None → LacksArgument info behind.now }
+pub fn argument(info: u8, trailing: &[u8]) -> Option<(u64, usize)>
+    ensures some { IfSome result (λ found. ArgumentAfter info trailing.now found.0 found.1) }
+    ensures none { result ≡ None → LacksArgument info trailing.now }
 {
     if info < 24 {
         return Some((info as u64, 0));
@@ -66,5 +66,5 @@ pub fn argument(info: u8, behind: &[u8]) -> Option<(u64, usize)>
     if info > 27 {
         return None;
     }
-    shown_argument(info, behind)
+    shown_argument(info, trailing)
 }

@@ -19,28 +19,29 @@ ghost use Rattle.cbor4ii_items.specs.declared.types.UncheckedStr.{UncheckedStr};
 ghost use Rattle.cbor4ii_items.specs.declared.types.Undefined.{Undefined};
 ghost use Rattle.cbor4ii_rw.specs.View.{View};
 ghost use Rattle.cbor4ii_rw.specs.declared.error.DecodeError.{DecodeError};
-ghost use Rattle.cbor4ii_items.specs.Decoding.{CostFits, Sound, Refuses};
-ghost use Rattle.cbor4ii_items.specs.Floats.{ReadsFloat, StopsFloat};
+ghost use Rattle.cbor4ii_items.specs.Decoding.{CostFits, Sound, Complete};
+ghost use Rattle.cbor4ii_items.specs.Floats.{ReadsFloat, RejectsFloat};
 ghost use Rattle.cbor4ii_items.specs.Head.{Width, HeadFits, byte_count, shortest};
-ghost use Rattle.cbor4ii_items.specs.Lengths.{ReadsLength, StopsLength};
-ghost use Rattle.cbor4ii_items.specs.Lent.{ReadsLent, StopsLent};
-ghost use Rattle.cbor4ii_items.specs.Maybe.{ReadsMaybe, StopsMaybe, maybe_bytes};
+ghost use Rattle.cbor4ii_items.specs.Lengths.{ReadsLength, RejectsLength};
+ghost use Rattle.cbor4ii_items.specs.Lent.{ReadsBorrowed, RejectsBorrowed};
+ghost use Rattle.cbor4ii_items.specs.Maybe.{ReadsMaybe, RejectsMaybe, maybe_bytes};
 ghost use Rattle.cbor4ii_items.specs.NeverBoth.{NeverBoth};
-ghost use Rattle.cbor4ii_items.specs.Nothing.{ReadsNothing, StopsNothing};
+ghost use Rattle.cbor4ii_items.specs.Nothing.{ReadsNothing, RejectsNothing};
 ghost use Rattle.cbor4ii_items.specs.Numbers.{ReadsArgument, ReadsSigned, ReadsU128, ReadsI128};
 ghost use Rattle.cbor4ii_items.specs.Numbers.{IsWithin, shortest_head, signed_head, unsigned_bytes};
-ghost use Rattle.cbor4ii_items.specs.Numbers.{signed_bytes, StopsArgument, ReadsNegative};
-ghost use Rattle.cbor4ii_items.specs.Numbers.{StopsNegative, StopsSigned, StopsU128, StopsI128};
+ghost use Rattle.cbor4ii_items.specs.Numbers.{signed_bytes, RejectsArgument, ReadsNegative};
+ghost use Rattle.cbor4ii_items.specs.Numbers.{RejectsNegative, RejectsSigned, RejectsU128};
+ghost use Rattle.cbor4ii_items.specs.Numbers.{RejectsI128};
 ghost use Rattle.cbor4ii_items.specs.ReadBack.{ReadsBack, NoneBeginsAnother, greatest_cost};
 ghost use Rattle.cbor4ii_items.specs.ReadBack.{pair_cost};
-ghost use Rattle.cbor4ii_items.specs.Refusal.{refusal_of};
+ghost use Rattle.cbor4ii_items.specs.InputError.{input_error_of};
 ghost use Rattle.cbor4ii_items.specs.SequenceBytes.{map_bytes};
-ghost use Rattle.cbor4ii_items.specs.Simple.{ReadsSimple, StopsSimple, ReadsBool, StopsBool};
-ghost use Rattle.cbor4ii_items.specs.Strings.{ReadsAs, ReadsTextAs, counted_string, opening};
-ghost use Rattle.cbor4ii_items.specs.Strings.{text_content, StopsString, StopsText, ReadsBreak};
-ghost use Rattle.cbor4ii_items.specs.Strings.{StopsBreak};
+ghost use Rattle.cbor4ii_items.specs.Simple.{ReadsSimple, RejectsSimple, ReadsBool, RejectsBool};
+ghost use Rattle.cbor4ii_items.specs.Strings.{ReadsAs, ReadsTextAs, definite_string, opening};
+ghost use Rattle.cbor4ii_items.specs.Strings.{text_content, RejectsString, RejectsText, ReadsBreak};
+ghost use Rattle.cbor4ii_items.specs.Strings.{RejectsBreak};
 
-use crate::decode::{Decode, Spelled};
+use crate::decode::{Decodable, Decode};
 use crate::encode::Encode;
 use crate::types::{
     Bytes, F16, F32, F64, Map, Nothing, Null, Simple, Tag, UncheckedStr, Undefined,
@@ -72,184 +73,186 @@ pub fn integers_are_read_back()
 /// alike.
 pub fn strings_are_read_back<V>()
     ensures bytes { (v : Bytes (Bor (List ℕ))) → length v.0.now < 2 ^ 64 →
-        ReadsBack ⟦<Bytes<&'static [u8]> as Spelled>⟧.spelling.reads
+        ReadsBack ⟦<Bytes<&'static [u8]> as Decodable>⟧.format.reads
         (⟦<Bytes<&'static [u8]> as Encode>⟧.bytes v) v 0 }
     ensures unchecked { (v : UncheckedStr (Bor (List ℕ))) → length v.0.now < 2 ^ 64 →
-        ReadsBack ⟦<UncheckedStr<&'static [u8]> as Spelled>⟧.spelling.reads
+        ReadsBack ⟦<UncheckedStr<&'static [u8]> as Decodable>⟧.format.reads
         (⟦<UncheckedStr<&'static [u8]> as Encode>⟧.bytes v) v 0 }
     ensures text { (v : Bor (List ℕ)) → length v.now < 2 ^ 64 → IsUtf8 v.now →
-        ReadsBack ⟦<&'static str as Spelled>⟧.spelling.reads
+        ReadsBack ⟦<&'static str as Decodable>⟧.format.reads
         (⟦<&'static str as Encode>⟧.bytes v) v 0 }
     ensures owned_text { (v : String Global) → length (text_content v) < 2 ^ 64 →
         IsUtf8 (text_content v) →
-        ReadsBack ⟦<String as Spelled>⟧.spelling.reads (⟦<String as Encode>⟧.bytes v) v 0 }
+        ReadsBack ⟦<String as Decodable>⟧.format.reads (⟦<String as Encode>⟧.bytes v) v 0 }
     ensures content { (major : ℕ) (content : V → List ℕ) (v : V) → length (content v) < 2 ^ 64 →
-        ReadsBack (ReadsAs major content) (counted_string major (content v)) v 0 }
+        ReadsBack (ReadsAs major content) (definite_string major (content v)) v 0 }
     ensures utf8_content { (content : V → List ℕ) (v : V) → length (content v) < 2 ^ 64 →
         IsUtf8 (content v) →
-        ReadsBack (ReadsTextAs content) (counted_string 3 (content v)) v 0 }
+        ReadsBack (ReadsTextAs content) (definite_string 3 (content v)) v 0 }
 {}
 
 /// A simple value, a float, and nothing at all are read from their own encoding, whatever follows
 /// it, and without a step. Null and undefined are read as no item.
-pub fn simple_values_are_read_back<T: Spelled>()
+pub fn simple_values_are_read_back<T: Decodable>()
     ensures simple { (v : Simple) → v.0 < 256 →
-        ReadsBack ⟦<Simple as Spelled>⟧.spelling.reads (⟦<Simple as Encode>⟧.bytes v) v 0 }
+        ReadsBack ⟦<Simple as Decodable>⟧.format.reads (⟦<Simple as Encode>⟧.bytes v) v 0 }
     ensures bool { (v : Bool) →
-        ReadsBack ⟦<bool as Spelled>⟧.spelling.reads (⟦<bool as Encode>⟧.bytes v) v 0 }
+        ReadsBack ⟦<bool as Decodable>⟧.format.reads (⟦<bool as Encode>⟧.bytes v) v 0 }
     ensures null { (v : Null) →
-        ReadsBack ⟦<Option<T> as Spelled>⟧.spelling.reads (⟦<Null as Encode>⟧.bytes v) None 0 }
+        ReadsBack ⟦<Option<T> as Decodable>⟧.format.reads (⟦<Null as Encode>⟧.bytes v) None 0 }
     ensures undefined { (v : Undefined) →
-        ReadsBack ⟦<Option<T> as Spelled>⟧.spelling.reads (⟦<Undefined as Encode>⟧.bytes v) None 0 }
+        ReadsBack ⟦<Option<T> as Decodable>⟧.format.reads (⟦<Undefined as Encode>⟧.bytes v) None 0 }
     ensures f16 { (v : F16) → v.0 < 2 ^ 16 →
-        ReadsBack ⟦<F16 as Spelled>⟧.spelling.reads (⟦<F16 as Encode>⟧.bytes v) v 0 }
+        ReadsBack ⟦<F16 as Decodable>⟧.format.reads (⟦<F16 as Encode>⟧.bytes v) v 0 }
     ensures f32 { (v : F32) → v.0 < 2 ^ 32 →
-        ReadsBack ⟦<F32 as Spelled>⟧.spelling.reads (⟦<F32 as Encode>⟧.bytes v) v 0 }
+        ReadsBack ⟦<F32 as Decodable>⟧.format.reads (⟦<F32 as Encode>⟧.bytes v) v 0 }
     ensures f64 { (v : F64) → v.0 < 2 ^ 64 →
-        ReadsBack ⟦<F64 as Spelled>⟧.spelling.reads (⟦<F64 as Encode>⟧.bytes v) v 0 }
+        ReadsBack ⟦<F64 as Decodable>⟧.format.reads (⟦<F64 as Encode>⟧.bytes v) v 0 }
     ensures nothing { (v : Nothing) →
-        ReadsBack ⟦<Nothing as Spelled>⟧.spelling.reads (⟦<Nothing as Encode>⟧.bytes v) v 0 }
+        ReadsBack ⟦<Nothing as Decodable>⟧.format.reads (⟦<Nothing as Encode>⟧.bytes v) v 0 }
 {}
 
 /// The length of an array or a map is read from its own encoding, whatever follows it.
 pub fn lengths_are_read_back()
-    ensures counted { (major : ℕ) (len : ℕ) → len < 2 ^ 64 →
+    ensures definite { (major : ℕ) (len : ℕ) → len < 2 ^ 64 →
         ReadsBack (ReadsLength major) (shortest_head major len) (Some len) 0 }
-    ensures open { (major : ℕ) → ReadsBack (ReadsLength major) (opening major) None 0 }
+    ensures indefinite { (major : ℕ) → ReadsBack (ReadsLength major) (opening major) None 0 }
 {}
 
 /// A tagged item, an optional item as an array, and an item in a box are read from their own
 /// encoding wherever the item is, whatever follows it, and at the item's cost.
-pub fn parts_are_read_back<T: Spelled + Encode>()
+pub fn parts_are_read_back<T: Decodable + Encode>()
     ensures tagged { (v : Tag T) (cost : ℕ) → v.0 < 2 ^ 64 →
-        ReadsBack T.spelling.reads (T.bytes v.1) v.1 cost →
-        ReadsBack ⟦<Tag<T> as Spelled>⟧.spelling.reads (⟦<Tag<T> as Encode>⟧.bytes v) v cost }
-    ensures none { ReadsBack (ReadsMaybe T.spelling.reads) (maybe_bytes T.bytes None) None 0 }
-    ensures some { (item : T) (cost : ℕ) → ReadsBack T.spelling.reads (T.bytes item) item cost →
-        ReadsBack (ReadsMaybe T.spelling.reads) (maybe_bytes T.bytes (Some item)) (Some item) cost }
+        ReadsBack T.format.reads (T.bytes v.1) v.1 cost →
+        ReadsBack ⟦<Tag<T> as Decodable>⟧.format.reads (⟦<Tag<T> as Encode>⟧.bytes v) v cost }
+    ensures none { ReadsBack (ReadsMaybe T.format.reads) (maybe_bytes T.bytes None) None 0 }
+    ensures some { (item : T) (cost : ℕ) → ReadsBack T.format.reads (T.bytes item) item cost →
+        ReadsBack (ReadsMaybe T.format.reads) (maybe_bytes T.bytes (Some item)) (Some item) cost }
     ensures boxed { (v : Box T Global) (cost : ℕ) →
-        ReadsBack T.spelling.reads (T.bytes v.value) v.value cost →
-        ReadsBack ⟦<Box<T> as Spelled>⟧.spelling.reads (⟦<Box<T> as Encode>⟧.bytes v) v cost }
+        ReadsBack T.format.reads (T.bytes v.value) v.value cost →
+        ReadsBack ⟦<Box<T> as Decodable>⟧.format.reads (⟦<Box<T> as Encode>⟧.bytes v) v cost }
 {}
 
 /// An array is read from its own encoding wherever each item is, whatever follows it: at one step
 /// and the greatest cost of an item.
-pub fn arrays_are_read_back<T: Spelled + Encode>()
+pub fn arrays_are_read_back<T: Decodable + Encode>()
     ensures { (v : Vec T Global) (cost : T → ℕ) → length v.items < 2 ^ 64 →
-        All (λ item. ReadsBack T.spelling.reads (T.bytes item) item (cost item)) v.items →
-        ReadsBack ⟦<Vec<T> as Spelled>⟧.spelling.reads (⟦<Vec<T> as Encode>⟧.bytes v) v
+        All (λ item. ReadsBack T.format.reads (T.bytes item) item (cost item)) v.items →
+        ReadsBack ⟦<Vec<T> as Decodable>⟧.format.reads (⟦<Vec<T> as Encode>⟧.bytes v) v
         (1 + greatest_cost cost v.items) }
 {}
 
 /// A map is read from its own encoding wherever each key and value is, whatever follows it: at
 /// one step and the greatest cost of a key or a value.
-pub fn maps_are_read_back<K: Spelled + Encode, V: Spelled + Encode>()
+pub fn maps_are_read_back<K: Decodable + Encode, V: Decodable + Encode>()
     ensures { (v : Map (Vec (K × V) Global)) (key_cost : K → ℕ) (value_cost : V → ℕ) →
         length v.0.items < 2 ^ 64 →
-        All (λ p. ReadsBack K.spelling.reads (K.bytes p.0) p.0 (key_cost p.0)) v.0.items →
-        All (λ p. ReadsBack V.spelling.reads (V.bytes p.1) p.1 (value_cost p.1)) v.0.items →
-        ReadsBack ⟦<Map<Vec<(K, V)>> as Spelled>⟧.spelling.reads
+        All (λ p. ReadsBack K.format.reads (K.bytes p.0) p.0 (key_cost p.0)) v.0.items →
+        All (λ p. ReadsBack V.format.reads (V.bytes p.1) p.1 (value_cost p.1)) v.0.items →
+        ReadsBack ⟦<Map<Vec<(K, V)>> as Decodable>⟧.format.reads
         (map_bytes K.bytes V.bytes v.0.items) v
         (1 + greatest_cost (pair_cost key_cost value_cost) v.0.items) }
 {}
 
-/// What is read back is what `decode` answers, over a reader that tells these bytes and something
-/// behind them: a value that means the same, with what stands behind left, and where the budget
-/// has the cost, no refusal of the bytes.
+/// What is read back is what `decode` answers, over a reader that reports these bytes and something
+/// after them: a value that means the same, with what follows left, and where the budget
+/// has the cost, no error of the bytes.
 pub fn what_is_written_is_decoded<S: Source, T: Decode<S>, E>()
     ensures accepted { (bytes rest : List ℕ) (v w : T) (cost : ℕ) (old new : View) →
-        ReadsBack T.spelling.reads bytes v cost → old.told ≡ Some (bytes ++ rest) →
-        Sound T.spelling.reads old new w → T.spelling.same v w × (new.told ≡ Some rest) }
-    ensures not_refused { (bytes rest : List ℕ) (v : T) (cost : ℕ) (old : View)
-        (error : DecodeError E) → ReadsBack T.spelling.reads bytes v cost →
-        CostFits cost old.budget → old.told ≡ Some (bytes ++ rest) →
-        Refuses T.spelling.reads old error → refusal_of error ≡ None }
+        ReadsBack T.format.reads bytes v cost → old.known ≡ Some (bytes ++ rest) →
+        Sound T.format.reads old new w → T.format.same v w × (new.known ≡ Some rest) }
+    ensures not_rejected { (bytes rest : List ℕ) (v : T) (cost : ℕ) (old : View)
+        (error : DecodeError E) → ReadsBack T.format.reads bytes v cost →
+        CostFits cost old.budget → old.known ≡ Some (bytes ++ rest) →
+        Complete T.format.reads old error → input_error_of error ≡ None }
 {}
 
-/// No spelling of a type begins another, where what follows a spelling says nothing of it.
-pub fn no_spelling_begins_another<S: Source, T: Decode<S>>()
-    ensures { IsTrue T.spelling.closed → NoneBeginsAnother T.spelling.reads }
+/// No encoding of a type begins another, where what follows a format says nothing of it.
+pub fn no_encoding_begins_another<S: Source, T: Decode<S>>()
+    ensures { IsTrue T.format.closed → NoneBeginsAnother T.format.reads }
 {}
 
-/// Numbers that are refused are not read: no reading begins bytes that the type refuses.
-pub fn refused_numbers_are_not_read()
+/// Numbers that are rejected are not read: no reading begins bytes that the type rejects.
+pub fn rejected_numbers_are_not_read()
     ensures heads { (name : List ℕ) (major width : ℕ) →
-        NeverBoth (ReadsArgument major width) (StopsArgument name major width) }
+        NeverBoth (ReadsArgument major width) (RejectsArgument name major width) }
     ensures negative { (name : List ℕ) (width : ℕ) →
-        NeverBoth (ReadsNegative width) (StopsNegative name width) }
+        NeverBoth (ReadsNegative width) (RejectsNegative name width) }
     ensures signed { (name plus minus : List ℕ) (width limit : ℕ) →
         NeverBoth (ReadsSigned width limit)
-        (λ xs budget. StopsSigned name plus minus width limit xs) }
-    ensures unsigned_of_sixteen { NeverBoth ReadsU128 (λ xs budget. StopsU128 xs) }
-    ensures signed_of_sixteen { NeverBoth ReadsI128 (λ xs budget. StopsI128 xs) }
+        (λ xs budget. RejectsSigned name plus minus width limit xs) }
+    ensures unsigned_of_sixteen { NeverBoth ReadsU128 (λ xs budget. RejectsU128 xs) }
+    ensures signed_of_sixteen { NeverBoth ReadsI128 (λ xs budget. RejectsI128 xs) }
 {}
 
-/// Simple values, floats, and nothing at all: bytes that are refused are not read.
-pub fn refused_simple_values_are_not_read()
-    ensures simple { NeverBoth ReadsSimple StopsSimple }
-    ensures bool { NeverBoth ReadsBool StopsBool }
+/// Simple values, floats, and nothing at all: bytes that are rejected are not read.
+pub fn rejected_simple_values_are_not_read()
+    ensures simple { NeverBoth ReadsSimple RejectsSimple }
+    ensures bool { NeverBoth ReadsBool RejectsBool }
     ensures floats { (name : List ℕ) (marker count : ℕ) →
-        NeverBoth (ReadsFloat marker count) (StopsFloat name marker count) }
-    ensures nothing { NeverBoth ReadsNothing StopsNothing }
+        NeverBoth (ReadsFloat marker count) (RejectsFloat name marker count) }
+    ensures nothing { NeverBoth ReadsNothing RejectsNothing }
 {}
 
-/// A length that is refused is not read, and neither is a break.
-pub fn refused_lengths_are_not_read()
+/// A length that is rejected is not read, and neither is a break.
+pub fn rejected_lengths_are_not_read()
     ensures lengths { (name : List ℕ) (major : ℕ) →
-        NeverBoth (ReadsLength major) (StopsLength name major) }
-    ensures breaks { NeverBoth ReadsBreak StopsBreak }
+        NeverBoth (ReadsLength major) (RejectsLength name major) }
+    ensures breaks { NeverBoth ReadsBreak RejectsBreak }
 {}
 
-/// Strings that are refused are not read: no reading whose chunks' step fits the budget begins
-/// bytes that the type refuses. Of borrowed strings it is said where the reader lends whole.
-pub fn refused_strings_are_not_read<V>()
+/// Strings that are rejected are not read: no reading whose chunks' step fits the budget begins
+/// bytes that the type rejects. Of borrowed strings it is said where the reader is zero-copy.
+pub fn rejected_strings_are_not_read<V>()
     ensures strings { (name : List ℕ) (major : ℕ) (content : V → List ℕ) → major < 7 →
-        NeverBoth (ReadsAs major content) (StopsString name major) }
+        NeverBoth (ReadsAs major content) (RejectsString name major) }
     ensures texts { (name : List ℕ) (content : V → List ℕ) →
-        NeverBoth (ReadsTextAs content) (StopsText name) }
+        NeverBoth (ReadsTextAs content) (RejectsText name) }
     ensures lent { (name : List ℕ) (major : ℕ) (is_text : Bool) (content : V → List ℕ) →
-        major < 8 → NeverBoth (ReadsLent major is_text content) (StopsLent name major is_text) }
+        major < 8 → NeverBoth (ReadsBorrowed major is_text content)
+        (RejectsBorrowed name major is_text) }
 {}
 
 /// An optional item, a tagged item, an optional item as an array, and an item in a box that are
-/// refused are not read, wherever the item's refusals exclude its readings: those of an exact
+/// rejected are not read, wherever the item's errors exclude its readings: those of an exact
 /// call, and those over any reader.
-pub fn refused_parts_are_not_read<T: Spelled>()
-    ensures optional { NeverBoth T.spelling.reads T.spelling.stops →
-        NeverBoth ⟦<Option<T> as Spelled>⟧.spelling.reads ⟦<Option<T> as Spelled>⟧.spelling.stops }
-    ensures optional_begins { NeverBoth T.spelling.reads T.spelling.begins →
-        NeverBoth ⟦<Option<T> as Spelled>⟧.spelling.reads ⟦<Option<T> as Spelled>⟧.spelling.begins }
-    ensures tagged { NeverBoth T.spelling.reads T.spelling.stops →
-        NeverBoth ⟦<Tag<T> as Spelled>⟧.spelling.reads ⟦<Tag<T> as Spelled>⟧.spelling.stops }
-    ensures tagged_begins { NeverBoth T.spelling.reads T.spelling.begins →
-        NeverBoth ⟦<Tag<T> as Spelled>⟧.spelling.reads ⟦<Tag<T> as Spelled>⟧.spelling.begins }
-    ensures maybe { NeverBoth T.spelling.reads T.spelling.stops →
-        NeverBoth (ReadsMaybe T.spelling.reads) (StopsMaybe T.spelling.stops) }
-    ensures maybe_begins { NeverBoth T.spelling.reads T.spelling.begins →
-        NeverBoth (ReadsMaybe T.spelling.reads) (StopsMaybe T.spelling.begins) }
-    ensures boxed { NeverBoth T.spelling.reads T.spelling.stops →
-        NeverBoth ⟦<Box<T> as Spelled>⟧.spelling.reads ⟦<Box<T> as Spelled>⟧.spelling.stops }
-    ensures boxed_begins { NeverBoth T.spelling.reads T.spelling.begins →
-        NeverBoth ⟦<Box<T> as Spelled>⟧.spelling.reads ⟦<Box<T> as Spelled>⟧.spelling.begins }
+pub fn rejected_parts_are_not_read<T: Decodable>()
+    ensures optional { NeverBoth T.format.reads T.format.rejects →
+        NeverBoth ⟦<Option<T> as Decodable>⟧.format.reads
+        ⟦<Option<T> as Decodable>⟧.format.rejects }
+    ensures optional_begins { NeverBoth T.format.reads T.format.begins →
+        NeverBoth ⟦<Option<T> as Decodable>⟧.format.reads ⟦<Option<T> as Decodable>⟧.format.begins }
+    ensures tagged { NeverBoth T.format.reads T.format.rejects →
+        NeverBoth ⟦<Tag<T> as Decodable>⟧.format.reads ⟦<Tag<T> as Decodable>⟧.format.rejects }
+    ensures tagged_begins { NeverBoth T.format.reads T.format.begins →
+        NeverBoth ⟦<Tag<T> as Decodable>⟧.format.reads ⟦<Tag<T> as Decodable>⟧.format.begins }
+    ensures maybe { NeverBoth T.format.reads T.format.rejects →
+        NeverBoth (ReadsMaybe T.format.reads) (RejectsMaybe T.format.rejects) }
+    ensures maybe_begins { NeverBoth T.format.reads T.format.begins →
+        NeverBoth (ReadsMaybe T.format.reads) (RejectsMaybe T.format.begins) }
+    ensures boxed { NeverBoth T.format.reads T.format.rejects →
+        NeverBoth ⟦<Box<T> as Decodable>⟧.format.reads ⟦<Box<T> as Decodable>⟧.format.rejects }
+    ensures boxed_begins { NeverBoth T.format.reads T.format.begins →
+        NeverBoth ⟦<Box<T> as Decodable>⟧.format.reads ⟦<Box<T> as Decodable>⟧.format.begins }
 {}
 
-/// An array that is refused is not read, wherever its items' refusals exclude their readings.
-pub fn refused_arrays_are_not_read<S: Source, T: Decode<S>>()
-    ensures stops { NeverBoth T.spelling.reads T.spelling.stops →
-        NeverBoth ⟦<Vec<T> as Spelled>⟧.spelling.reads ⟦<Vec<T> as Spelled>⟧.spelling.stops }
-    ensures begins { NeverBoth T.spelling.reads T.spelling.begins →
-        NeverBoth ⟦<Vec<T> as Spelled>⟧.spelling.reads ⟦<Vec<T> as Spelled>⟧.spelling.begins }
+/// An array that is rejected is not read, wherever its items' errors exclude their readings.
+pub fn rejected_arrays_are_not_read<S: Source, T: Decode<S>>()
+    ensures rejects { NeverBoth T.format.reads T.format.rejects →
+        NeverBoth ⟦<Vec<T> as Decodable>⟧.format.reads ⟦<Vec<T> as Decodable>⟧.format.rejects }
+    ensures begins { NeverBoth T.format.reads T.format.begins →
+        NeverBoth ⟦<Vec<T> as Decodable>⟧.format.reads ⟦<Vec<T> as Decodable>⟧.format.begins }
 {}
 
-/// A map that is refused is not read, wherever the refusals of its keys and of its values exclude
+/// A map that is rejected is not read, wherever the errors of its keys and of its values exclude
 /// their readings.
-pub fn refused_maps_are_not_read<S: Source, K: Decode<S>, V: Decode<S>>()
-    ensures stops { NeverBoth K.spelling.reads K.spelling.stops →
-        NeverBoth V.spelling.reads V.spelling.stops →
-        NeverBoth ⟦<Map<Vec<(K, V)>> as Spelled>⟧.spelling.reads
-        ⟦<Map<Vec<(K, V)>> as Spelled>⟧.spelling.stops }
-    ensures begins { NeverBoth K.spelling.reads K.spelling.begins →
-        NeverBoth V.spelling.reads V.spelling.begins →
-        NeverBoth ⟦<Map<Vec<(K, V)>> as Spelled>⟧.spelling.reads
-        ⟦<Map<Vec<(K, V)>> as Spelled>⟧.spelling.begins }
+pub fn rejected_maps_are_not_read<S: Source, K: Decode<S>, V: Decode<S>>()
+    ensures rejects { NeverBoth K.format.reads K.format.rejects →
+        NeverBoth V.format.reads V.format.rejects →
+        NeverBoth ⟦<Map<Vec<(K, V)>> as Decodable>⟧.format.reads
+        ⟦<Map<Vec<(K, V)>> as Decodable>⟧.format.rejects }
+    ensures begins { NeverBoth K.format.reads K.format.begins →
+        NeverBoth V.format.reads V.format.begins →
+        NeverBoth ⟦<Map<Vec<(K, V)>> as Decodable>⟧.format.reads
+        ⟦<Map<Vec<(K, V)>> as Decodable>⟧.format.begins }
 {}

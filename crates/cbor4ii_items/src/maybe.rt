@@ -1,13 +1,13 @@
 //! Optional items as arrays of no item or one.
 ghost use Rattle.std.specs.Prelude.{◌≡◌, ◌+◌, ◌≤◌, OnOk, IfErr, false};
 ghost use Rattle.cbor4ii_items.specs.Decoding.{Decodes};
-ghost use Rattle.cbor4ii_items.specs.Maybe.{few_at, few_spelling, maybe_bytes};
-ghost use Rattle.cbor4ii_items.specs.Laws.Maybe.{maybe_spelling, maybe_lawful};
+ghost use Rattle.cbor4ii_items.specs.Maybe.{few_at, few_format, maybe_bytes};
+ghost use Rattle.cbor4ii_items.specs.Laws.Maybe.{maybe_format, maybe_lawful};
 ghost use Rattle.cbor4ii_items.specs.Reading.{Runs};
-ghost use Rattle.cbor4ii_items.specs.Refusal.{is_out_of_memory};
+ghost use Rattle.cbor4ii_items.specs.InputError.{is_out_of_memory};
 ghost use Rattle.cbor4ii_items.specs.Writing.{Writes};
 
-use crate::decode::{Decode, Spelled};
+use crate::decode::{Decodable, Decode};
 use crate::encode::Encode;
 use crate::head::length;
 use crate::major;
@@ -18,14 +18,14 @@ use cbor4ii_rw::read::Source;
 use cbor4ii_rw::write::Write;
 use std::alloc::Global;
 
-impl<T: Spelled> Spelled for Maybe<Option<T>> {
-    ghost spelling = { maybe_spelling T.spelling };
+impl<T: Decodable> Decodable for Maybe<Option<T>> {
+    ghost format = { maybe_format T.format };
 
     fn is_never_empty() -> bool {
         true
     }
 
-    ghost lawful = { maybe_lawful T.spelling T.lawful };
+    ghost lawful = { maybe_lawful T.format T.lawful };
 }
 
 /// None is an array of no item, and some item an array of it alone, of definite length (RFC 8949
@@ -54,7 +54,7 @@ impl<S: Source, T: Decode<S>> Decode<S> for Maybe<Option<T>> {
 
 /// Takes the head of an array of no item or one, and answers whether an item is to follow.
 fn take_maybe_head<S: Source>(reader: &mut S) -> Result<bool, DecodeError<S::Error>>
-    ensures { Decodes few_spelling (S.view reader.old) (S.view reader.new) result }
+    ensures { Decodes few_format (S.view reader.old) (S.view reader.new) result }
 {
     take_few(reader)
 }
@@ -93,7 +93,7 @@ fn push_maybe<W: Write, T: Encode>(
     writer: &mut W,
     value: &Option<T>,
 ) -> Result<(), EncodeError<W::Error>>
-    ensures { Writes W.whole (maybe_bytes T.bytes value.now)
+    ensures { Writes W.atomic (maybe_bytes T.bytes value.now)
         (W.view writer.old) (W.view writer.new) result }
 {
     match value {

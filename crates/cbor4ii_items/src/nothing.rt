@@ -1,10 +1,10 @@
 //! No item at all.
 ghost use Rattle.std.specs.Prelude.{◌≡◌, [], Ok, true, false};
-ghost use Rattle.cbor4ii_items.specs.Nothing.{ReadsNothing, StopsNothing, nothing_one};
+ghost use Rattle.cbor4ii_items.specs.Nothing.{ReadsNothing, RejectsNothing, nothing_one};
 ghost use Rattle.cbor4ii_items.specs.Nothing.{nothing_within, nothing_positive, nothing_alone};
-ghost use Rattle.cbor4ii_items.specs.Writing.{WritesWhole};
+ghost use Rattle.cbor4ii_items.specs.Writing.{WritesAtomically};
 
-use crate::decode::{Decode, Spelled};
+use crate::decode::{Decodable, Decode};
 use crate::encode::Encode;
 use crate::types::Nothing;
 use cbor4ii_rw::error::{DecodeError, EncodeError};
@@ -12,12 +12,12 @@ use cbor4ii_rw::read::Source;
 use cbor4ii_rw::write::Write;
 use std::alloc::Global;
 
-impl Spelled for Nothing {
-    ghost spelling = { record {
+impl Decodable for Nothing {
+    ghost format = { record {
       reads = ReadsNothing;
       same = λ v w. v ≡ w;
-      stops = StopsNothing;
-      begins = StopsNothing;
+      rejects = RejectsNothing;
+      begins = RejectsNothing;
       never_empty = false;
       owned = true;
       takes_memory = false;
@@ -36,7 +36,7 @@ impl Spelled for Nothing {
     } };
 }
 
-/// It takes no byte, and is never refused.
+/// It takes no byte, and is never rejected.
 impl<S: Source> Decode<S> for Nothing {
     #[inline(always)]
     fn decode(alloc: Global, reader: &mut S) -> Result<Nothing, DecodeError<S::Error>> {
@@ -51,7 +51,8 @@ impl Encode for Nothing {
     fn encode<W: Write>(&self, writer: &mut W) -> Result<(), EncodeError<W::Error>>
         ensures succeeds { result ≡ Ok tt }
         ensures untouched { W.view writer.new ≡ W.view writer.old }
-        ensures writes { WritesWhole W.whole [] (W.view writer.old) (W.view writer.new) result }
+        ensures writes { WritesAtomically W.atomic [] (W.view writer.old) (W.view writer.new)
+            result }
     {
         Ok(())
     }

@@ -1,21 +1,21 @@
 //! Optional items.
-ghost use Rattle.cbor4ii_items.specs.Laws.Containers.{option_spelling, option_lawful};
+ghost use Rattle.cbor4ii_items.specs.Laws.Containers.{option_format, option_lawful};
 
-use crate::decode::{Decode, Spelled};
+use crate::decode::{Decodable, Decode};
 use crate::head::peek;
 use crate::marker;
 use cbor4ii_rw::error::DecodeError;
 use cbor4ii_rw::read::Source;
 use std::alloc::Global;
 
-impl<T: Spelled> Spelled for Option<T> {
-    ghost spelling = { option_spelling T.spelling };
+impl<T: Decodable> Decodable for Option<T> {
+    ghost format = { option_format T.format };
 
     fn is_never_empty() -> bool {
         T::is_never_empty()
     }
 
-    ghost lawful = { option_lawful T.spelling T.lawful };
+    ghost lawful = { option_lawful T.format T.lawful };
 }
 
 /// Null and undefined are none, and before any other byte an item is read (RFC 8949 section 3.3).

@@ -1,8 +1,8 @@
 //! Heads and numbers, written.
 ghost use Rattle.std.specs.Prelude.{◌≡◌, ◌<◌, ◌<ℤ◌, ◌≤ℤ◌, ◌++◌, pos, negsuc};
-ghost use Rattle.cbor4ii_items.specs.Writing.{Writes, WritesWhole};
+ghost use Rattle.cbor4ii_items.specs.Writing.{Writes, WritesAtomically};
 ghost use Rattle.cbor4ii_items.specs.Magnitude.{without_leading_zeros};
-ghost use Rattle.cbor4ii_items.specs.Strings.{closing, counted_string, opening};
+ghost use Rattle.cbor4ii_items.specs.Strings.{closing, definite_string, opening};
 ghost use Rattle.cbor4ii_items.specs.Numbers.{shortest_head, signed_head, bignum_bytes};
 ghost use Rattle.cbor4ii_items.specs.Numbers.{integer_bytes, unsigned_bytes, signed_bytes};
 
@@ -22,7 +22,7 @@ pub(crate) fn push_bytes<W: Write>(
     writer: &mut W,
     bytes: &[u8],
 ) -> Result<(), EncodeError<W::Error>>
-    ensures { WritesWhole W.whole bytes.now (W.view writer.old) (W.view writer.new) result }
+    ensures { WritesAtomically W.atomic bytes.now (W.view writer.old) (W.view writer.new) result }
 {
     match writer.push(bytes) {
         Ok(()) => Ok(()),
@@ -38,7 +38,7 @@ pub(crate) fn push_head<W: Write>(
     argument: u64,
 ) -> Result<(), EncodeError<W::Error>>
     requires { major < 8 }
-    ensures { WritesWhole W.whole (shortest_head major argument)
+    ensures { WritesAtomically W.atomic (shortest_head major argument)
         (W.view writer.old) (W.view writer.new) result }
 {
     let first = 32 * major;
@@ -64,9 +64,13 @@ pub(crate) fn push_head<W: Write>(
 
 /// Writes the first byte of an indefinite length of this major type, in one push.
 #[inline(always)]
-pub(crate) fn push_open<W: Write>(writer: &mut W, major: u8) -> Result<(), EncodeError<W::Error>>
+pub(crate) fn push_indefinite<W: Write>(
+    writer: &mut W,
+    major: u8,
+) -> Result<(), EncodeError<W::Error>>
     requires { major < 8 }
-    ensures { WritesWhole W.whole (opening major) (W.view writer.old) (W.view writer.new) result }
+    ensures { WritesAtomically W.atomic (opening major) (W.view writer.old) (W.view writer.new)
+        result }
 {
     push_bytes(writer, &[32 * major + marker::START])
 }
@@ -74,7 +78,7 @@ pub(crate) fn push_open<W: Write>(writer: &mut W, major: u8) -> Result<(), Encod
 /// Writes the end of an indefinite length, one byte, in one push.
 #[inline(always)]
 pub(crate) fn push_end<W: Write>(writer: &mut W) -> Result<(), EncodeError<W::Error>>
-    ensures { WritesWhole W.whole closing (W.view writer.old) (W.view writer.new) result }
+    ensures { WritesAtomically W.atomic closing (W.view writer.old) (W.view writer.new) result }
 {
     push_bytes(writer, &[marker::BREAK])
 }
@@ -82,7 +86,7 @@ pub(crate) fn push_end<W: Write>(writer: &mut W) -> Result<(), EncodeError<W::Er
 /// Writes a number from 0 on, or -1 - n, as a head.
 #[inline(always)]
 pub(crate) fn push_signed<W: Write>(writer: &mut W, value: i64) -> Result<(), EncodeError<W::Error>>
-    ensures { WritesWhole W.whole (signed_head value)
+    ensures { WritesAtomically W.atomic (signed_head value)
         (W.view writer.old) (W.view writer.new) result }
 {
     if value >= 0 {
@@ -97,7 +101,8 @@ pub(crate) fn push_unsigned_integer<W: Write>(
     writer: &mut W,
     value: u128,
 ) -> Result<(), EncodeError<W::Error>>
-    ensures { Writes W.whole (unsigned_bytes value) (W.view writer.old) (W.view writer.new) result }
+    ensures { Writes W.atomic (unsigned_bytes value) (W.view writer.old) (W.view writer.new)
+        result }
 {
     push_integer(writer, major::UNSIGNED, POSITIVE_BIGNUM, value)
 }
@@ -107,7 +112,7 @@ pub(crate) fn push_signed_integer<W: Write>(
     writer: &mut W,
     value: i128,
 ) -> Result<(), EncodeError<W::Error>>
-    ensures { Writes W.whole (signed_bytes value) (W.view writer.old) (W.view writer.new) result }
+    ensures { Writes W.atomic (signed_bytes value) (W.view writer.old) (W.view writer.new) result }
 {
     if value >= 0 {
         push_integer(writer, major::UNSIGNED, POSITIVE_BIGNUM, nonnegative(value))
@@ -143,7 +148,7 @@ fn push_integer<W: Write>(
     value: u128,
 ) -> Result<(), EncodeError<W::Error>>
     requires { major < 8 }
-    ensures { Writes W.whole (integer_bytes major tag value)
+    ensures { Writes W.atomic (integer_bytes major tag value)
         (W.view writer.old) (W.view writer.new) result }
 {
     match u64::try_from(value) {
@@ -154,7 +159,7 @@ fn push_integer<W: Write>(
 
 /// Writes a tag, and a number's bytes without leading zeros as a byte string.
 fn push_bignum<W: Write>(writer: &mut W, tag: u8, value: u128) -> Result<(), EncodeError<W::Error>>
-    ensures { Writes W.whole (bignum_bytes tag value)
+    ensures { Writes W.atomic (bignum_bytes tag value)
         (W.view writer.old) (W.view writer.new) result }
 {
     push_head(writer, major::TAG, tag as u64)?;
@@ -173,14 +178,14 @@ pub(crate) fn push_string<W: Write>(
     content: &[u8],
 ) -> Result<(), EncodeError<W::Error>>
     requires { major < 8 }
-    ensures { Writes W.whole (counted_string major content.now)
+    ensures { Writes W.atomic (definite_string major content.now)
         (W.view writer.old) (W.view writer.new) result }
 {
     push_head(writer, major, content.len() as u64)?;
     push_bytes(writer, content)
 }
 
-/// Writes the shortest head of this major type with this argument, and an item behind it.
+/// Writes the shortest head of this major type with this argument, and an item after it.
 #[inline(always)]
 pub(crate) fn push_headed_item<W: Write, T: Encode>(
     writer: &mut W,
@@ -189,7 +194,7 @@ pub(crate) fn push_headed_item<W: Write, T: Encode>(
     item: &T,
 ) -> Result<(), EncodeError<W::Error>>
     requires { major < 8 }
-    ensures { Writes W.whole (shortest_head major argument ++ T.bytes item.now)
+    ensures { Writes W.atomic (shortest_head major argument ++ T.bytes item.now)
         (W.view writer.old) (W.view writer.new) result }
 {
     push_head(writer, major, argument)?;

@@ -1,14 +1,14 @@
 //! Simple values (RFC 8949 section 3.3).
 ghost use Rattle.std.specs.Prelude.{◌≡◌, ◌+◌, ◌≤◌, ◌∷◌, [], true, false, OnOk, IfErr};
 ghost use Rattle.cbor4ii_items.specs.Reading.{Runs};
-ghost use Rattle.cbor4ii_items.specs.Refusal.{is_out_of_memory};
+ghost use Rattle.cbor4ii_items.specs.InputError.{is_out_of_memory};
 ghost use Rattle.cbor4ii_items.specs.Numbers.{shortest_head};
 ghost use Rattle.cbor4ii_items.specs.Initial.{simple_byte, simple_null, simple_undefined};
-ghost use Rattle.cbor4ii_items.specs.Simple.{simple_spelling, simple_lawful, bool_byte, bool_at};
-ghost use Rattle.cbor4ii_items.specs.Simple.{bool_spelling, bool_lawful};
-ghost use Rattle.cbor4ii_items.specs.Writing.{WritesWhole};
+ghost use Rattle.cbor4ii_items.specs.Simple.{simple_format, simple_lawful, bool_byte, bool_at};
+ghost use Rattle.cbor4ii_items.specs.Simple.{bool_format, bool_lawful};
+ghost use Rattle.cbor4ii_items.specs.Writing.{WritesAtomically};
 
-use crate::decode::{Decode, Spelled};
+use crate::decode::{Decodable, Decode};
 use crate::encode::Encode;
 use crate::head::{lone_head, marked};
 use crate::push::{push_bytes, push_head};
@@ -19,8 +19,8 @@ use cbor4ii_rw::read::Source;
 use cbor4ii_rw::write::Write;
 use std::alloc::Global;
 
-impl Spelled for Simple {
-    ghost spelling = { simple_spelling };
+impl Decodable for Simple {
+    ghost format = { simple_format };
 
     fn is_never_empty() -> bool {
         true
@@ -34,7 +34,7 @@ impl Spelled for Simple {
 ///
 /// # Errors
 ///
-/// `Read` is told at `Decode::decode`. The others have the name "simple":
+/// `Read` is described at `Decode::decode`. The others have the name "simple":
 ///
 /// - `Eof` with 1: no byte is left
 /// - `Eof` with k: the argument has k bytes and fewer are left. Nothing is left then
@@ -52,21 +52,21 @@ impl<S: Source> Decode<S> for Simple {
 ///
 /// # Errors
 ///
-/// `Write`: the writer failed. A whole writer then holds what it held before.
+/// `Write`: the writer failed. An atomic writer then holds what it held before.
 impl Encode for Simple {
     ghost bytes = { λ v. shortest_head 7 v.0 };
 
     #[inline(always)]
     fn encode<W: Write>(&self, writer: &mut W) -> Result<(), EncodeError<W::Error>>
-        ensures { WritesWhole W.whole (shortest_head 7 self.now.0)
+        ensures { WritesAtomically W.atomic (shortest_head 7 self.now.0)
             (W.view writer.old) (W.view writer.new) result }
     {
         push_head(writer, major::SIMPLE, self.0 as u64)
     }
 }
 
-impl Spelled for bool {
-    ghost spelling = { bool_spelling };
+impl Decodable for bool {
+    ghost format = { bool_format };
 
     fn is_never_empty() -> bool {
         true
@@ -79,7 +79,8 @@ impl Spelled for bool {
 ///
 /// # Errors
 ///
-/// `Read` is told at `Decode::decode`. The others have the name "bool", and nothing is taken then:
+/// `Read` is described at `Decode::decode`. The others have the name "bool", and nothing is taken
+/// then:
 ///
 /// - `Eof` with 1: no byte is left
 /// - `Mismatch` with the next byte: it is neither false nor true
@@ -103,13 +104,13 @@ fn take_bool<S: Source>(reader: &mut S) -> Result<bool, DecodeError<S::Error>>
 ///
 /// # Errors
 ///
-/// `Write`: the writer failed. A whole writer then holds what it held before.
+/// `Write`: the writer failed. An atomic writer then holds what it held before.
 impl Encode for bool {
     ghost bytes = { λ v. bool_byte v ∷ [] };
 
     #[inline(always)]
     fn encode<W: Write>(&self, writer: &mut W) -> Result<(), EncodeError<W::Error>>
-        ensures { WritesWhole W.whole (bool_byte self.now ∷ [])
+        ensures { WritesAtomically W.atomic (bool_byte self.now ∷ [])
             (W.view writer.old) (W.view writer.new) result }
     {
         let byte = if *self { marker::TRUE } else { marker::FALSE };
@@ -121,13 +122,13 @@ impl Encode for bool {
 ///
 /// # Errors
 ///
-/// `Write`: the writer failed. A whole writer then holds what it held before.
+/// `Write`: the writer failed. An atomic writer then holds what it held before.
 impl Encode for Null {
     ghost bytes = { λ _. simple_byte simple_null ∷ [] };
 
     #[inline(always)]
     fn encode<W: Write>(&self, writer: &mut W) -> Result<(), EncodeError<W::Error>>
-        ensures { WritesWhole W.whole (simple_byte simple_null ∷ [])
+        ensures { WritesAtomically W.atomic (simple_byte simple_null ∷ [])
             (W.view writer.old) (W.view writer.new) result }
     {
         push_bytes(writer, &[marker::NULL])
@@ -138,13 +139,13 @@ impl Encode for Null {
 ///
 /// # Errors
 ///
-/// `Write`: the writer failed. A whole writer then holds what it held before.
+/// `Write`: the writer failed. An atomic writer then holds what it held before.
 impl Encode for Undefined {
     ghost bytes = { λ _. simple_byte simple_undefined ∷ [] };
 
     #[inline(always)]
     fn encode<W: Write>(&self, writer: &mut W) -> Result<(), EncodeError<W::Error>>
-        ensures { WritesWhole W.whole (simple_byte simple_undefined ∷ [])
+        ensures { WritesAtomically W.atomic (simple_byte simple_undefined ∷ [])
             (W.view writer.old) (W.view writer.new) result }
     {
         push_bytes(writer, &[marker::UNDEFINED])

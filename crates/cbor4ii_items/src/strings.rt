@@ -3,8 +3,8 @@
 mod borrowed;
 mod chunks;
 pub(crate) mod content;
-mod counted;
 mod cow;
+mod definite;
 mod encode;
 mod heads;
 mod lent;

@@ -1,10 +1,10 @@
 //! Tagged items.
 ghost use Rattle.std.specs.Prelude.{◌++◌, codes};
 ghost use Rattle.cbor4ii_items.specs.Decoding.{Decodes};
-ghost use Rattle.cbor4ii_items.specs.Numbers.{argument_spelling, shortest_head};
-ghost use Rattle.cbor4ii_items.specs.Laws.Containers.{tag_spelling, tag_lawful};
+ghost use Rattle.cbor4ii_items.specs.Numbers.{argument_format, shortest_head};
+ghost use Rattle.cbor4ii_items.specs.Laws.Containers.{tag_format, tag_lawful};
 
-use crate::decode::{Decode, Spelled};
+use crate::decode::{Decodable, Decode};
 use crate::encode::Encode;
 use crate::head::lone_head;
 use crate::major;
@@ -28,28 +28,28 @@ impl Tag<()> {
     /// - `Eof` by "tag" with k: the number has k bytes and fewer are left. Nothing is left then
     /// - `Mismatch` by "tag" with the first byte, which is taken: it begins no tag
     pub fn tag<S: Source>(reader: &mut S) -> Result<u64, DecodeError<S::Error>>
-        ensures { Decodes (argument_spelling (codes "tag") 6 8)
+        ensures { Decodes (argument_format (codes "tag") 6 8)
             (S.view reader.old) (S.view reader.new) result }
     {
         lone_head(reader, "tag", major::TAG, 8)
     }
 }
 
-impl<T: Spelled> Spelled for Tag<T> {
-    ghost spelling = { tag_spelling T.spelling };
+impl<T: Decodable> Decodable for Tag<T> {
+    ghost format = { tag_format T.format };
 
     fn is_never_empty() -> bool {
         true
     }
 
-    ghost lawful = { tag_lawful T.spelling T.lawful };
+    ghost lawful = { tag_lawful T.format T.lawful };
 }
 
 /// A tag, its number of any width, and the item that it tags (RFC 8949 section 3.4).
 ///
 /// # Errors
 ///
-/// Those of `Tag::tag`, and behind the tag those of the item, which leave what they leave.
+/// Those of `Tag::tag`, and after the tag those of the item, which leave what they leave.
 impl<S: Source, T: Decode<S>> Decode<S> for Tag<T> {
     #[inline(always)]
     fn decode(alloc: Global, reader: &mut S) -> Result<Tag<T>, DecodeError<S::Error>> {

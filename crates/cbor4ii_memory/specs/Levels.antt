@@ -2,8 +2,8 @@
 use Rattle.std.specs.Prelude.{[], ◌∷◌, string_bytes}
 use Rattle.cbor4ii_items.specs.Numbers.{signed_head}
 use Rattle.cbor4ii_items.specs.Simple.{bool_byte}
-use Rattle.cbor4ii_items.specs.Strings.{counted_string}
-use Rattle.cbor4ii_ser.specs.Item.{Encoding, encoded, array_item, tuple_item}
+use Rattle.cbor4ii_items.specs.Strings.{definite_string}
+use Rattle.cbor4ii_ser.specs.Item.{Encoding, encoded, array_encoding, tuple_encoding}
 use Rattle.cbor4ii_memory.specs.declared.levels.Node.{Node, fold-Node}
 use Rattle.cbor4ii_memory.specs.declared.levels.Node.TheOpen.{Node-F}
 
@@ -12,10 +12,10 @@ abbrev pub node_step : Node-F Encoding → Encoding
 node_step Node-F.Null = encoded (0xf6 ∷ [])
 node_step (Node-F.Flag flag) = encoded (bool_byte flag ∷ [])
 node_step (Node-F.Number number) = encoded (signed_head number)
-node_step (Node-F.Text text) = encoded (counted_string 3 (string_bytes text))
-node_step (Node-F.List items) = array_item (λ item. item) items.items
-node_step (Node-F.Pairs pairs) = array_item (λ pair. tuple_item
-    (encoded (counted_string 3 (string_bytes pair.0)) ∷ pair.1 ∷ [])) pairs.items
+node_step (Node-F.Text text) = encoded (definite_string 3 (string_bytes text))
+node_step (Node-F.List items) = array_encoding (λ item. item) items.items
+node_step (Node-F.Pairs pairs) = array_encoding (λ pair. tuple_encoding
+    (encoded (definite_string 3 (string_bytes pair.0)) ∷ pair.1 ∷ [])) pairs.items
 
 abbrev pub node_item : Node → Encoding
 node_item = fold-Node Encoding node_step

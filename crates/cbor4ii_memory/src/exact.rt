@@ -1,5 +1,5 @@
 //! One item that is read, with what is left of it. `.ci/memory` counts its requests for memory, and
-//! refuses each of them.
+//! rejects each of them.
 use crate::typed::{Numbers, Typed};
 use crate::values::Item;
 use cbor4ii_rw::error::DecodeError;
@@ -13,13 +13,13 @@ use std::fmt::{Debug, InlineText};
 
 /// How an item is read.
 pub struct Alone {
-    /// Why it is refused, if it is.
+    /// Why it is rejected, if it is.
     pub refusal: Option<InlineText<128>>,
     /// How many bytes are left.
     pub left: usize,
 }
 
-/// Reads the item that stands behind these words, if it is to be read alone: out of a slice, or of
+/// Reads the item that follows these words, if it is to be read alone: out of a slice, or of
 /// a stream that shows one byte at a time.
 pub fn read_alone(alloc: Global, input: &[u8]) -> Option<Alone> {
     if let Some(item) = input.strip_prefix(b"value of a slice:".as_slice()) {
@@ -46,16 +46,16 @@ pub fn read_alone(alloc: Global, input: &[u8]) -> Option<Alone> {
 fn of_slice<T: ReadFrom + Drop>(alloc: Global, item: &[u8]) -> Alone {
     let mut reader = SliceReader::new(item);
     let got = T::read_from(alloc, &mut reader);
-    told(&got, reader.remaining().len())
+    reported(&got, reader.remaining().len())
 }
 
 fn of_stream<T: ReadFrom + Drop>(alloc: Global, item: &[u8]) -> Alone {
     let mut reader = IoReader::new(FailingStream::new(item, 1, usize::MAX));
     let got = T::read_from(alloc, &mut reader);
-    told(&got, item.len().saturating_sub(reader.taken() as usize))
+    reported(&got, item.len().saturating_sub(reader.taken() as usize))
 }
 
-fn told<T, E: Debug>(got: &Result<T, DecodeError<E>>, left: usize) -> Alone {
+fn reported<T, E: Debug>(got: &Result<T, DecodeError<E>>, left: usize) -> Alone {
     let refusal = match got {
         Ok(_) => None,
         Err(error) => Some(InlineText::of(error)),

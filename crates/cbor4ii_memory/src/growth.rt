@@ -1,8 +1,8 @@
 //! Rows of more parts than have their place reserved before any of them came, and of strings that
 //! grow by their chunks.
+use crate::debug_text::Pieces;
 use crate::read::{Left, Meant, reads, reads_over};
 use crate::tally::{Broken, Tally};
-use crate::told::Pieces;
 use crate::typed::Typed;
 use crate::values::Item;
 use cbor4ii_items::types::{Bytes, Map};
@@ -59,21 +59,21 @@ pub fn strings(tally: &mut Tally) -> Result<(), Broken> {
 }
 
 // 300 items and 300 pairs: 012c. At most 256 have their place reserved.
-const COUNTED: Parts = &[(b"\x99\x01\x2c", 1), (b"\x05", 300)];
+const DEFINITE: Parts = &[(b"\x99\x01\x2c", 1), (b"\x05", 300)];
 
 const OPEN: Parts = &[(b"\x9f", 1), (b"\x05", 300), (b"\xff", 1)];
 
-const COUNTED_PAIRS: Parts = &[(b"\xb9\x01\x2c", 1), (b"\x05\x06", 300)];
+const DEFINITE_PAIRS: Parts = &[(b"\xb9\x01\x2c", 1), (b"\x05\x06", 300)];
 
 const OPEN_PAIRS: Parts = &[(b"\xbf", 1), (b"\x05\x06", 300), (b"\xff", 1)];
 
 /// Arrays and maps.
 pub fn containers(tally: &mut Tally) -> Result<(), Broken> {
     let items: Pieces<'static> = &[("[5", 1), (", 5", 299), ("]", 1)];
-    grows::<Vec<u8>>(tally, "a long Vec", COUNTED, items)?;
+    grows::<Vec<u8>>(tally, "a long Vec", DEFINITE, items)?;
     grows::<Vec<u8>>(tally, "a long open Vec", OPEN, items)?;
     let pairs: Pieces<'static> = &[("Map([(5, 6)", 1), (", (5, 6)", 299), ("])", 1)];
-    grows::<Map<Vec<(u8, u8)>>>(tally, "a long Map", COUNTED_PAIRS, pairs)?;
+    grows::<Map<Vec<(u8, u8)>>>(tally, "a long Map", DEFINITE_PAIRS, pairs)?;
     grows::<Map<Vec<(u8, u8)>>>(tally, "a long open Map", OPEN_PAIRS, pairs)
 }
 
@@ -97,11 +97,11 @@ const CANONICAL: Pieces<'static> = table! {
 
 /// Whole items.
 pub fn values(tally: &mut Tally) -> Result<(), Broken> {
-    grows::<Item<Value>>(tally, "a long array", COUNTED, ITEMS)?;
+    grows::<Item<Value>>(tally, "a long array", DEFINITE, ITEMS)?;
     grows::<Item<Value>>(tally, "a long open array", OPEN, ITEMS)?;
-    grows::<Item<Value>>(tally, "a long map", COUNTED_PAIRS, MEMBERS)?;
+    grows::<Item<Value>>(tally, "a long map", DEFINITE_PAIRS, MEMBERS)?;
     grows::<Item<Value>>(tally, "a long open map", OPEN_PAIRS, MEMBERS)?;
-    grows::<Item<Canonical>>(tally, "a long canonical array", COUNTED, CANONICAL)
+    grows::<Item<Canonical>>(tally, "a long canonical array", DEFINITE, CANONICAL)
 }
 
 // A map of the keys 0 to 23.
@@ -120,7 +120,7 @@ const FIVES: Pieces<'static> = table! {
 /// Typed values.
 pub fn typed(tally: &mut Tally) -> Result<(), Broken> {
     let items: Pieces<'static> = &[("Typed([5", 1), (", 5", 299), ("])", 1)];
-    grows::<Typed<Vec<u8>>>(tally, "a long typed Vec", COUNTED, items)?;
+    grows::<Typed<Vec<u8>>>(tally, "a long typed Vec", DEFINITE, items)?;
     grows::<Typed<Vec<u8>>>(tally, "a long open typed Vec", OPEN, items)?;
     grows::<Typed<BTreeMap<u8, u8>>>(tally, "a long typed map", KEYS, FIVES)
 }

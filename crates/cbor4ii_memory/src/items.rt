@@ -29,7 +29,7 @@ const UNCHECKED: &[Row] = table! {
     (b"\x7f\x61\xff\x61\xfe\xff", "UncheckedStr([255, 254])", b""),
 };
 
-/// A byte string that is spelled in one way.
+/// A byte string that is encoded in one way.
 #[derive(Debug, Drop)]
 struct Shortest(Vec<u8>);
 

@@ -30,7 +30,7 @@ enum Way {
     LentBytes,
 }
 
-/// The content of a string, or of a refused copy the name of the refusal.
+/// The content of a string, or of a rejected copy the name of the error.
 type Content = CowSlice<'static, u8, Global>;
 
 /// A reader by whose name strings are read that may be borrowed.
@@ -115,8 +115,8 @@ fn bytes<E>(got: Result<Bytes<Content>, DecodeError<E>>) -> Result<Content, Deco
     }
 }
 
-// The bytes of a text that is lent, and of one that was copied, and so is refused, the name of the
-// refusal.
+// The bytes of a text that is lent, and of one that was copied, and so is rejected, the name of the
+// error.
 fn lent_text<E: Drop>(
     got: Result<&'static str, DecodeError<E>>,
 ) -> Result<Content, DecodeError<E>> {
@@ -213,7 +213,7 @@ const TWO: &[u8] = b"\x62ab\x01";
 
 const PAIR: &[u8] = b"\x42\x08\x09\x01";
 
-// The same where no segment has them whole: they are copied. What has to be lent is refused then,
+// The same where no segment has them whole: they are copied. What has to be lent is rejected then,
 // by the name "str" or "bytes".
 const COPIED: &[Row] = table! {
     ("typed CowStr", Way::Text, TWO, &[b"\x62a", b"b\x01"], "[97, 98]", b"\x01"),

@@ -139,7 +139,7 @@ pub fn in_place(tally: &mut Tally) -> Result<(), Broken> {
     lends::<Lent<RawValue<'static>>>(tally, "RawValue", Left::Never, LENT_ITEMS)
 }
 
-// [1, 2], and 3 behind it.
+// [1, 2], and 3 after it.
 const KEPT: &[LentRow] = table! {
     (PAIR, &[b"\x82\x01\x02", b"\x03"], "Lent(BoxedRawValue([130, 1, 2]))", b"\x03"),
 };
@@ -157,15 +157,15 @@ type KeptMembers = Lent<Map<Vec<(String, BoxedRawValue)>>>;
 
 // A map under a key, with a longer head than needed.
 const KEPT_MEMBERS: &[LentRow] = table! {
-    (MEMBERS, &[MEMBERS], MEMBERS_TOLD, b""),
+    (MEMBERS, &[MEMBERS], MEMBERS_SHOWN, b""),
 };
 
 const MEMBERS: &[u8] = b"\xa1\x63bar\xa1\x65value\x18\x99";
 
-const MEMBERS_TOLD: &str =
+const MEMBERS_SHOWN: &str =
     "Lent(Map([(\"bar\", BoxedRawValue([161, 101, 118, 97, 108, 117, 101, 24, 153]))]))";
 
-/// Items that are kept as a copy of their bytes: the item was taken where memory is refused.
+/// Items that are kept as a copy of their bytes: the item was taken where memory is rejected.
 pub fn kept(tally: &mut Tally) -> Result<(), Broken> {
     lends::<Lent<BoxedRawValue>>(tally, "BoxedRawValue", Left::TheRest, KEPT)?;
     lends::<Lent<Vec<BoxedRawValue>>>(tally, "Vec of BoxedRawValue", Left::AnEnd, BOTH_KEPT)?;
@@ -176,7 +176,7 @@ pub fn kept(tally: &mut Tally) -> Result<(), Broken> {
     Ok(())
 }
 
-// The canonical spelling of [5], and a copy of it.
+// The canonical encoding of [5], and a copy of it.
 fn keeps_value(tally: &mut Tally, value: &Value) -> Result<(), Broken> {
     let kept = match BoxedRawValue::from_value(tally.alloc(), value) {
         Ok(kept) => kept,

@@ -30,7 +30,7 @@ enum Node {
 
 /// As the value inside.
 impl Serialize for Node {
-    ghost item = { node_item };
+    ghost encoding = { node_item };
 
     #[tactic(auto, using(crate::specs::declared::levels::Node::the_lemmas, cbor4ii_ser::specs::Laws::Inside::values_inside,))]
     fn serialize<W: Write>(&self, ser: &mut Serializer<W>) -> Result<(), EncodeError<W::Error>> {

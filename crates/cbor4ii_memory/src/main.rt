@@ -1,16 +1,17 @@
 //! Reads and writes rows of each kind of value that takes memory, and says whether they hold.
 //!
 //! It is run in ordinary memory, and once for each of its allocations, with that one refused. The
-//! word on standard input says which it is: `plain`, where no row may want memory, or `refused`,
+//! word on standard input says which it is: `plain`, where no row may want memory, or `rejected`,
 //! where it is refused once. `lengths` tries the rows of false lengths alone, in ordinary memory,
 //! and `levels` those of many levels, for which .ci/memory gives the stack. `value of a slice:` and
-//! its like, with an item behind it, reads that item alone.
+//! its like, with an item after it, reads that item alone.
 //!
 //! It writes one line. The exit status is 0 where each row holds, or the item was tried, and 1
 //! otherwise.
 #![tactic(auto)]
 
 mod answer;
+mod debug_text;
 mod exact;
 mod growth;
 mod in_place;
@@ -22,7 +23,6 @@ mod levels;
 mod read;
 mod room;
 mod tally;
-mod told;
 mod typed;
 mod typed_calls;
 mod typed_in_place;

@@ -1,6 +1,6 @@
 //! How a row is read: over a slice, over segments and over a stream.
+use crate::debug_text::{Pieces, has_debug_text};
 use crate::tally::{Broken, Tally};
-use crate::told::{Pieces, is_told};
 use cbor4ii_rw::ask::next_byte;
 use cbor4ii_rw::error::DecodeError;
 use cbor4ii_rw::io_reader::IoReader;
@@ -18,7 +18,7 @@ const MOST_BYTES: usize = 20_480;
 /// A row: bytes, the `Debug` text of what is read, and what is left of them.
 pub type Row = (&'static [u8], &'static str, &'static [u8]);
 
-/// A row that is refused: bytes, the text of the refusal, and what is left of them.
+/// A row that is rejected: bytes, the text of the error, and what is left of them.
 pub type RefusedRow = (&'static [u8], &'static str, &'static [u8]);
 
 /// A row of calls: its name, the call, and then as `Row`.
@@ -58,7 +58,7 @@ pub enum Left {
     Never,
     /// An end of them.
     AnEnd,
-    /// What is left behind the item, which was taken.
+    /// What is consumed the item, which was taken.
     TheRest,
 }
 
@@ -81,7 +81,7 @@ pub fn reads_rows<T: ReadFrom + Debug + Drop>(
     Ok(())
 }
 
-/// As `reads_rows`, of a type that takes no memory: it is refused none.
+/// As `reads_rows`, of a type that takes no memory: it is rejected none.
 pub fn reads_in_place<T: ReadFrom + Debug + Drop>(
     tally: &mut Tally,
     row: &'static str,
@@ -100,7 +100,7 @@ pub fn reads_in_place<T: ReadFrom + Debug + Drop>(
     Ok(())
 }
 
-/// Reads the bytes of each row over each reader: they take memory, and are refused.
+/// Reads the bytes of each row over each reader: they take memory, and are rejected.
 pub fn refuses_rows<T: ReadFrom + Drop>(
     tally: &mut Tally,
     row: &'static str,
@@ -118,7 +118,7 @@ pub fn refuses_rows<T: ReadFrom + Drop>(
     Ok(())
 }
 
-// The refusal is the row's, with its rest, or want of memory, which leaves an end of the bytes. The
+// The error is the row's, with its rest, or want of memory, which leaves an end of the bytes. The
 // steps are as before.
 fn refuses_over<T: ReadFrom + Drop, S: Source>(
     tally: &mut Tally,
@@ -214,7 +214,7 @@ pub fn reads_over<T: ReadBy<S> + Debug + Drop, S: Source>(
 }
 
 /// Looks at the answer over a reader that had so many steps and the row's bytes. The steps are as
-/// before, and an end of the bytes is left. Want of memory is the one refusal that may come.
+/// before, and an end of the bytes is left. Want of memory is the one error that may come.
 pub fn is_answer<T: Debug, S: Source>(
     tally: &mut Tally,
     reader: &mut S,
@@ -232,13 +232,13 @@ pub fn is_answer<T: Debug, S: Source>(
     }
 }
 
-// Whether what was read is the row's value, with the row's rest behind it.
+// Whether what was read is the row's value, with the row's rest after it.
 fn is_meant<T: Debug, S: Source>(
     reader: &mut S,
     value: &T,
     meant: &Meant<'_>,
 ) -> Result<(), Broken> {
-    if !is_told(value, meant.text) {
+    if !has_debug_text(value, meant.text) {
         return Err(Broken::new(meant.row, "another value is read"));
     }
     if !leaves(reader, meant.rest) {

@@ -17,7 +17,7 @@ impl Broken {
     }
 }
 
-/// Gives the rows their memory, and counts how often it was refused to them.
+/// Gives the rows their memory, and counts how often it was rejected to them.
 #[derive(Drop)]
 pub struct Tally {
     alloc: Global,
@@ -35,7 +35,7 @@ impl Tally {
         self.alloc
     }
 
-    /// Counts one refusal.
+    /// Counts one error.
     pub fn refuse(&mut self) {
         self.refusals = self.refusals.saturating_add(1);
     }
@@ -45,7 +45,7 @@ impl Tally {
         self.refusals
     }
 
-    /// The parts behind one another, each so many times. None where memory is refused for them,
+    /// The parts after one another, each so many times. None where memory is rejected for them,
     /// which is counted.
     pub fn joined(&mut self, parts: &[(&[u8], usize)]) -> Option<Vec<u8>> {
         let mut bytes = Vec::new(self.alloc);

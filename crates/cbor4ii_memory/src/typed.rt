@@ -1,7 +1,7 @@
 //! Rows of typed values, read by each call that takes memory.
+use crate::debug_text::has_debug_text;
 use crate::read::{Row, reads_rows};
 use crate::tally::{Broken, Tally};
-use crate::told::is_told;
 use cbor4ii::Value;
 use cbor4ii::serde::{self, Deserialize, Deserializer, from_reader, from_slice};
 use cbor4ii::types::Bytes;
@@ -18,7 +18,7 @@ use std::fmt::Debug;
 #[derive(Debug, Drop)]
 pub struct Typed<T>(pub T);
 
-/// The answer of calls. A refusal in words is no other refusal's.
+/// The answer of calls. An error in words is no other error's.
 pub fn as_core<T, E>(got: Result<T, serde::DecodeError<E>>) -> Result<T, DecodeError<E>> {
     match got {
         Ok(value) => Ok(value),
@@ -166,7 +166,7 @@ fn read_variant<S: Source>(
     Ok(Variant { name, content })
 }
 
-/// The first item of an array, read part by part, and what is behind it.
+/// The first item of an array, read part by part, and what follows it.
 #[derive(Debug, Drop)]
 struct Parts(Option<String>, Option<String>);
 
@@ -210,7 +210,7 @@ pub fn calls(tally: &mut Tally) -> Result<(), Broken> {
     reads_rows::<Typed<Parts>>(tally, "next_element", PARTS)
 }
 
-// ["a", "bc"], and a break behind it.
+// ["a", "bc"], and a break after it.
 const LIST: &[u8] = b"\x82\x61a\x62bc\xff";
 
 /// The calls that read one value off a whole input.
@@ -228,7 +228,7 @@ fn answers<T: Debug + Drop, E: Drop>(
     got: Result<T, serde::DecodeError<E>>,
 ) -> Result<(), Broken> {
     match &got {
-        Ok(value) if is_told(value, &[("[\"a\", \"bc\"]", 1)]) => {}
+        Ok(value) if has_debug_text(value, &[("[\"a\", \"bc\"]", 1)]) => {}
         Ok(_) => return Err(Broken::new(row, "another value is read")),
         Err(serde::DecodeError::Core(DecodeError::OutOfMemory)) => tally.refuse(),
         Err(_) => return Err(Broken::new(row, "it is refused")),

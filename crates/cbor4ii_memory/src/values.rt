@@ -1,7 +1,7 @@
 //! Rows of whole items, and of their copies.
+use crate::debug_text::has_debug_text;
 use crate::read::{RefusedRow, Row, reads_in_place, reads_rows, refuses_rows};
 use crate::tally::{Broken, Tally};
-use crate::told::is_told;
 use cbor4ii_items::decode::Decode;
 use cbor4ii_rw::error::DecodeError;
 use cbor4ii_rw::read::Source;
@@ -105,16 +105,16 @@ const REFUSED: &[RefusedRow] = table! {
     (b"\xa1\x61\x61\xe0", unsupported!("value", 0xe0), b"\xe0"),
 };
 
-const REFUSED_STRICTLY: &[RefusedRow] = table! {
+const REFUSED_CANONICALLY: &[RefusedRow] = table! {
     (b"\x81\x61\xff\x00", require_utf8!("str"), b"\x00"),
     (b"\xa1\x61\x61\x61\xff\x00", require_utf8!("str"), b"\x00"),
     (b"\xa1\x61\x61\x18\x05\x00", not_canonical!("canonical"), b"\x00"),
 };
 
-/// Whole items that are refused.
+/// Whole items that are rejected.
 pub fn refused(tally: &mut Tally) -> Result<(), Broken> {
     refuses_rows::<Item<Value>>(tally, "a refused Value", REFUSED)?;
-    refuses_rows::<Item<Canonical>>(tally, "a refused Canonical", REFUSED_STRICTLY)
+    refuses_rows::<Item<Canonical>>(tally, "a refused Canonical", REFUSED_CANONICALLY)
 }
 
 /// Whole items.
@@ -124,7 +124,7 @@ pub fn values(tally: &mut Tally) -> Result<(), Broken> {
     reads_in_place::<Item<IgnoredAny>>(tally, "IgnoredAny", SKIPPED)
 }
 
-/// The value of these bytes. None where memory is refused for it, which is counted.
+/// The value of these bytes. None where memory is rejected for it, which is counted.
 pub fn value(tally: &mut Tally, bytes: &[u8]) -> Result<Option<Value>, Broken> {
     match Value::decode(tally.alloc(), &mut SliceReader::new(bytes)) {
         Ok(value) => Ok(Some(value)),
@@ -142,7 +142,7 @@ const COPIED: &[(&[u8], &str)] = table! {
     (b"\xa1\x61a\x81\x20", "Map([(Text(\"a\"), Array([Integer(-1)]))])"),
 };
 
-/// A copy is the same value, and what is copied stays as it was, also where memory is refused.
+/// A copy is the same value, and what is copied stays as it was, also where memory is rejected.
 pub fn copies(tally: &mut Tally) -> Result<(), Broken> {
     for (bytes, text) in COPIED {
         if let Some(value) = value(tally, bytes)? {
@@ -155,11 +155,11 @@ pub fn copies(tally: &mut Tally) -> Result<(), Broken> {
 fn is_copied(tally: &mut Tally, value: &Value, text: &str) -> Result<(), Broken> {
     let text = [(text, 1)];
     let copy = value.try_clone();
-    if !is_told(value, &text) {
+    if !has_debug_text(value, &text) {
         return Err(Broken::new("Value::try_clone", "what is copied is another value"));
     }
     match copy {
-        Ok(copy) if is_told(&copy, &text) => {}
+        Ok(copy) if has_debug_text(&copy, &text) => {}
         Ok(_) => return Err(Broken::new("Value::try_clone", "the copy is another value")),
         Err(NoMemory) => tally.refuse(),
     }

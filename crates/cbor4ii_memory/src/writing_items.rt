@@ -231,7 +231,7 @@ where
     }
 }
 
-// (_ "strea", "ming"), [_ true, false], [[1, 2]], [1, 2] and 3 behind it, and 1(255).
+// (_ "strea", "ming"), [_ true, false], [[1, 2]], [1, 2] and 3 after it, and 1(255).
 const CHUNKS: &[u8] = b"\x7f\x65strea\x64ming\xff";
 
 const FLAGS: &[u8] = b"\x9f\xf5\xf4\xff";

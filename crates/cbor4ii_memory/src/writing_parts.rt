@@ -192,14 +192,14 @@ pub fn calls(tally: &mut Tally) -> Result<(), Broken> {
     writes_rows(tally, PART_ROWS)
 }
 
-/// A text twice, one behind the other.
+/// A text twice, one after the other.
 #[derive(Clone, Copy)]
 struct Twice<T>(T);
 
 impl<T: Text + Copy> Text for Twice<T> {
     ghost pieces = { λ text. ⟦<(T, T) as Text>⟧.pieces (text.0, text.0) };
 
-    ghost refuses = { λ text. ⟦<(T, T) as Text>⟧.refuses (text.0, text.0) };
+    ghost fails_itself = { λ text. ⟦<(T, T) as Text>⟧.fails_itself (text.0, text.0) };
 
     fn write_to<W: Write>(&self, out: &mut TextWriter<'_, W>) -> Result<(), TextFault> {
         (self.0, self.0).write_to(out)
@@ -280,7 +280,7 @@ pub fn long_texts(tally: &mut Tally) -> Result<(), Broken> {
     }
 }
 
-/// A typed value behind what a vector holds: the vector is lost where memory is refused.
+/// A typed value after what a vector holds: the vector is lost where memory is rejected.
 pub fn whole(tally: &mut Tally) -> Result<(), Broken> {
     let Ok(held) = Vec::from_slice(tally.alloc(), b"\xff") else {
         tally.refuse();
@@ -294,7 +294,7 @@ pub fn whole(tally: &mut Tally) -> Result<(), Broken> {
     Ok(())
 }
 
-/// As `whole`, behind what a stream holds that takes memory.
+/// As `whole`, after what a stream holds that takes memory.
 pub fn streamed(tally: &mut Tally) -> Result<(), Broken> {
     let Ok(held) = Vec::from_slice(tally.alloc(), b"\xff") else {
         tally.refuse();

@@ -1,19 +1,19 @@
-//! Rows of whole items that are written, behind what was read of other spellings.
+//! Rows of whole items that are written, after what was read of other encodings.
 use crate::tally::{Broken, Tally};
 use crate::values::value;
 use crate::writing::writes;
 use cbor4ii_vectors::table;
 
 // {"a": [h'0102', 1(null)]}, and how it is written.
-const SPELLED: &[u8] = b"\xbf\x61a\x9f\x42\x01\x02\xc1\xf6\xff\xff";
+const ENCODED: &[u8] = b"\xbf\x61a\x9f\x42\x01\x02\xc1\xf6\xff\xff";
 
 const CANONICAL: &[u8] = b"\xa1\x61a\x82\x42\x01\x02\xc1\xf6";
 
 /// What is read, and what is written of it.
-type Spelling = (&'static [u8], &'static [u8]);
+type Encoding = (&'static [u8], &'static [u8]);
 
-const SPELLINGS: &[Spelling] = table! {
-    (SPELLED, CANONICAL),
+const ENCODINGS: &[Encoding] = table! {
+    (ENCODED, CANONICAL),
     (b"\x5f\x42\x01\x02\x43\x03\x04\x05\xff", b"\x45\x01\x02\x03\x04\x05"),
     (b"\x7f\x65strea\x64ming\xff", b"\x69streaming"),
     (b"\x9f\xff", b"\x80"),
@@ -37,7 +37,7 @@ const SPELLINGS: &[Spelling] = table! {
 
 /// Whole items.
 pub fn values(tally: &mut Tally) -> Result<(), Broken> {
-    for (read, written) in SPELLINGS {
+    for (read, written) in ENCODINGS {
         if let Some(value) = value(tally, read)? {
             writes(tally, "Value", &value, written)?;
         }

@@ -3,7 +3,7 @@
 
 ghost use Rattle.std.specs.Prelude.{◌≡◌, codes};
 ghost use Rattle.std.proofs.Common.{refl};
-ghost use Rattle.cbor4ii.specs.CodecFields.{struct_codec, part, no_parts};
+ghost use Rattle.cbor4ii.specs.CodecFields.{struct_codec, with_field, no_fields};
 ghost use Rattle.cbor4ii.specs.Fields.{no_values};
 
 use cbor4ii::dec::Source;
@@ -22,7 +22,7 @@ pub struct City {
 }
 
 impl Serialize for City {
-    ghost item = { ⟦<City as Described>⟧.codec.item };
+    ghost encoding = { ⟦<City as Described>⟧.codec.encoding };
 
     fn serialize<W: Write>(&self, ser: &mut Serializer<W>) -> Result<(), EncodeError<W::Error>> {
         ser.serialize_2_fields("City", "people", &self.people, "name", &self.name)
@@ -52,9 +52,9 @@ impl Typed for City {
 
 impl Described for City {
     ghost codec = { struct_codec (λ c. (c.people, (c.name, no_values)))
-        (part (codes "people") (codes "a city has people") ⟦<u32 as Described>⟧.codec
-        (part (codes "name") (codes "a city has a name") ⟦<String as Described>⟧.codec
-        no_parts refl) refl) refl };
+        (with_field (codes "people") (codes "a city has people") ⟦<u32 as Described>⟧.codec
+        (with_field (codes "name") (codes "a city has a name") ⟦<String as Described>⟧.codec
+        no_fields refl) refl) refl };
 }
 
 fn there_and_back(alloc: Global) -> Option<(Vec<u8>, City)> {

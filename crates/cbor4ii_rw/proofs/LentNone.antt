@@ -1,46 +1,46 @@
--- What a reader that lends nothing says of a front that it shows.
+-- What a reader that lends nothing says of a prefix that it shows.
 use Rattle.std.proofs.Common.{◌≡◌, ℕ, ◌<◌, ◌≤◌, List, [], length, Option, Some, IsTrue, Bool, true}
 use Rattle.std.proofs.Common.{false, sym, ap, ◌∙◌, subst, arith}
 use Rattle.std.specs.Prelude.{MatchOption}
 use Rattle.std.specs.Borrow.{Bor}
 use Rattle.std.proofs.lemmas.List.{nil_from_length}
-use Rattle.cbor4ii_rw.specs.View.{View, Told}
-use Rattle.cbor4ii_rw.specs.Long.{FillsLong, LendsNone}
-use Rattle.cbor4ii_rw.specs.Reader.{Shows, Breaks, IsFront}
+use Rattle.cbor4ii_rw.specs.View.{View, IfKnown}
+use Rattle.cbor4ii_rw.specs.Long.{FillsLong, BorrowsNone}
+use Rattle.cbor4ii_rw.specs.Reader.{Shows, ReaderFails, IsPrefix}
 
-not_whole : (lends_whole : Bool) → lends_whole ≡ false → IsTrue lends_whole → ⊥
-not_whole lends_whole unlent whole = let never : false ≡ true = sym unlent ∙ whole in cc
+not_whole : (zero_copy : Bool) → zero_copy ≡ false → IsTrue zero_copy → ⊥
+not_whole zero_copy unlent whole = let never : false ≡ true = sym unlent ∙ whole in cc
 
 module _ {want : ℕ} {a b : View} (answer : Option (Bor (List ℕ))) (shown : Bor (List ℕ))
-    (is : answer ≡ Some shown) (moved : MatchOption answer (Breaks a b) (λ s. Shows s.now a b))
-    (front : Told a.told (IsFront want shown.now)) where
+    (is : answer ≡ Some shown) (moved : MatchOption answer (ReaderFails a b) (λ s. Shows s.now a b))
+    (prefix : IfKnown a.known (IsPrefix want shown.now)) where
   shows : Shows shown.now a b
-  shows = subst (λ o. MatchOption o (Breaks a b) (λ s. Shows s.now a b)) is moved
+  shows = subst (λ o. MatchOption o (ReaderFails a b) (λ s. Shows s.now a b)) is moved
 
   -- nothing is shown
-  pub end_of_input : length shown.now < 1 → a.lends_whole ≡ false → FillsLong want [] a b
+  pub end_of_input : length shown.now < 1 → a.zero_copy ≡ false → FillsLong want [] a b
   end_of_input none unlent =
       let empty = nil_from_length shown.now (omega (arith, none)) in
       record {
         shows = subst (λ z. Shows z a b) empty shows;
-        front = subst (λ z. Told a.told (IsFront want z)) empty front;
-        enough = λ whole. absurd (not_whole a.lends_whole unlent whole);
+        prefix = subst (λ z. IfKnown a.known (IsPrefix want z)) empty prefix;
+        enough = λ whole. absurd (not_whole a.zero_copy unlent whole);
       }
 
   -- some bytes are shown
-  pub lends_none : 1 ≤ length shown.now → a.lends_whole ≡ false → LendsNone a b
+  pub lends_none : 1 ≤ length shown.now → a.zero_copy ≡ false → BorrowsNone a b
   lends_none some unlent = record {
-    some = λ xs told none. omega (arith, some, (front xs told).within, ap length none);
+    some = λ xs known none. omega (arith, some, (prefix xs known).within, ap length none);
     stays = record {
-      told = shows.told;
+      known = shows.known;
       bound = shows.bound;
       advanceable = omega arith;
       budget = shows.budget;
       failures = shows.failures;
       taken = shows.taken;
-      lends_whole = shows.lends_whole;
+      zero_copy = shows.zero_copy;
       remembers = shows.remembers;
       ends_at = shows.ends_at;
     };
-    short = not_whole a.lends_whole unlent;
+    short = not_whole a.zero_copy unlent;
   }

@@ -1,4 +1,4 @@
-pub mod Told
+pub mod IfKnown
 pub mod LentNone
 pub mod Parted
 pub mod Results

@@ -5,7 +5,7 @@ use Rattle.std.proofs.lemmas.List.{take-append-le, nil_from_length}
 use Rattle.std.proofs.lemmas.Bool.{ltb-true}
 use Rattle.std.specs.Prelude.{IsTrue}
 use Rattle.std.specs.Borrow.{Bor}
-use Rattle.cbor4ii_rw.specs.Reader.{IsFront, IsEnough}
+use Rattle.cbor4ii_rw.specs.Reader.{IsPrefix, IsEnough}
 use Rattle.cbor4ii_rw.specs.Segments.{joined_segments, full, full_count, first_of, first_full}
 
 nothing_left : (current others : List ℕ) → length current ≡ 0 → others ≡ [] → current ++ others ≡ []
@@ -16,10 +16,10 @@ pub shown_length : (want n : ℕ) (current : List ℕ) → n ≡ min want (lengt
     → length (take n current) ≡ n
 shown_length want n current is = length-take-le n current (omega (arith, is))
 
-pub front_of_current : (want n : ℕ) (current others : List ℕ) → n ≡ min want (length current)
+pub prefix_of_current : (want n : ℕ) (current others : List ℕ) → n ≡ min want (length current)
     → (length current ≡ 0 → current ++ others ≡ [])
-    → IsFront want (take n current) (current ++ others)
-front_of_current want n current others is end = record {
+    → IsPrefix want (take n current) (current ++ others)
+prefix_of_current want n current others is end = record {
   begins = ap (λ k. take k (current ++ others)) long
       ∙ take-append-le n current others (omega (arith, is));
   within = omega (arith, is, long, length-append current others);
@@ -55,8 +55,8 @@ pub current_is_enough : (want n : ℕ) (current : List ℕ) (others : List (Bor 
 current_is_enough want n current others is end one =
     let few = ltb-true (full current + full_count others) 2 one in
     let long = shown_length want n current is in
-    let none_behind : joined_segments others ≡ [] = last_full current others end few in
-    omega (arith, is, long, length-append current (joined_segments others), ap length none_behind)
+    let none_after : joined_segments others ≡ [] = last_full current others end few in
+    omega (arith, is, long, length-append current (joined_segments others), ap length none_after)
 
 nothing_full : (others : List (Bor (List ℕ))) → length (joined_segments others) ≡ 0
     → first_full others ≡ []

@@ -10,25 +10,25 @@ use Rattle.std.specs.Io.KnownBytes.{Keeps as KeepsKnown}
 use Rattle.std.proofs.Transfers.{starts_with_length}
 use Rattle.std.proofs.lemmas.Bool.{ltb-true, lt-ltb}
 use Rattle.cbor4ii_rw.specs.declared.io_reader.Tally.{Tally}
-use Rattle.cbor4ii_rw.specs.View.{Told}
-use Rattle.cbor4ii_rw.specs.Reader.{IsFront, Keeps, KeepsOrForgets, Drops}
+use Rattle.cbor4ii_rw.specs.View.{IfKnown}
+use Rattle.cbor4ii_rw.specs.Reader.{IsPrefix, Keeps, KeepsOrForgets, Drops}
 use Rattle.cbor4ii_rw.specs.Stream.{cut_known, fits, where_known, held_bytes, most_bytes}
-use Rattle.cbor4ii_rw.proofs.Told.{told_some, some_inner}
+use Rattle.cbor4ii_rw.proofs.IfKnown.{known_some, some_inner}
 
--- nothing is told
-pub told_none : (P : List ℕ → Type 0) → Told None P
-told_none P xs is = absurd (search (is, rules))
+-- nothing is reported
+pub known_none : (P : List ℕ → Type 0) → IfKnown None P
+known_none P xs is = absurd (search (is, rules))
 
 -- known bytes that stay known are kept, where they are cut alike
 pub keeps_cut : (most most' : ℕ) (old new : Option (List ℕ)) → most' ≡ most → KeepsKnown old new
     → Keeps (cut_known most old) (cut_known most' new)
-keeps_cut most most' None new same kept = told_none (λ xs. cut_known most' new ≡ Some xs)
+keeps_cut most most' None new same kept = known_none (λ xs. cut_known most' new ≡ Some xs)
 keeps_cut most most' (Some bytes) None same kept = absurd kept
 keeps_cut most most' (Some bytes) (Some left) same kept =
-    told_some (λ xs. Some (take most' left) ≡ Some xs) (take most bytes)
+    known_some (λ xs. Some (take most' left) ≡ Some xs) (take most bytes)
     (ap Some (ap (λ k. take k left) same ∙ ap (take most) kept))
 
--- told bytes that stay told are not forgotten
+-- known bytes that stay known are not forgotten
 pub may_forget : (old new : Option (List ℕ)) → Keeps old new → KeepsOrForgets old new
 may_forget old new kept xs is ys now = some_inner ys xs (sym now ∙ kept xs is)
 
@@ -36,17 +36,18 @@ pub takes_none : (limit : Option ℕ) → IfSome limit (λ most. 0 ≤ most)
 takes_none None = tt
 takes_none (Some most) = omega arith
 
--- what was shown, cut at the bound, is a front of what is left
-pub cut_front : (want : ℕ) (known : Option (List ℕ)) (shown : List ℕ) (most n : ℕ)
+-- what was shown, cut at the bound, is a prefix of what is left
+pub cut_prefix : (want : ℕ) (known : Option (List ℕ)) (shown : List ℕ) (most n : ℕ)
     → n ≡ min (length shown) most → 0 < most → IfSome known (λ left. StartsWith left shown)
     → IfSome known (λ left. length shown ≡ 0 → left ≡ [])
-    → Told (cut_known most known) (IsFront want (take n shown))
-cut_front want None shown most n is room front end = told_none (IsFront want (take n shown))
-cut_front want (Some left) shown most n is room front end = told_some (IsFront want (take n shown))
+    → IfKnown (cut_known most known) (IsPrefix want (take n shown))
+cut_prefix want None shown most n is room prefix end = known_none (IsPrefix want (take n shown))
+cut_prefix want (Some left) shown most n is room prefix end =
+    known_some (IsPrefix want (take n shown))
     (take most left) (record {
       begins = ap (λ k. take k (take most left)) long ∙ take-take n most left (omega arith)
-          ∙ sym (take-take n (length shown) left (omega arith)) ∙ ap (take n) front;
-      within = omega (arith, long, starts_with_length left shown front, length-take most left);
+          ∙ sym (take-take n (length shown) left (omega arith)) ∙ ap (take n) prefix;
+      within = omega (arith, long, starts_with_length left shown prefix, length-take most left);
       ends = λ wanted none. ap (take most) (end (omega (arith, long))) ∙ take-nil most;
     })
   where
@@ -76,10 +77,10 @@ held_cases None b limit tally drops Q q r = q
 held_cases (Some bytes) b limit tally drops Q q r = by_bool _ (drop tally.used bytes) Q q
     (λ e. r (drop tally.used bytes) (drops (room limit tally.shown tally.used e)))
 
-open_now : (limit : Option ℕ) (n : ℕ) → IfSome limit (λ k. n ≤ k)
+indefinite_now : (limit : Option ℕ) (n : ℕ) → IfSome limit (λ k. n ≤ k)
     → (fits limit n && nat_lt 0 (n + 1)) ≡ true
-open_now None n h = lt-ltb 0 (n + 1) (omega arith)
-open_now (Some k) n h = ap (λ t. t && nat_lt 0 (n + 1)) (lt-ltb n (k + 1) (omega arith))
+indefinite_now None n h = lt-ltb 0 (n + 1) (omega arith)
+indefinite_now (Some k) n h = ap (λ t. t && nat_lt 0 (n + 1)) (lt-ltb n (k + 1) (omega arith))
     ∙ lt-ltb 0 (n + 1) (omega arith)
 
 -- what the stream has is held, once nothing of what it showed is used
@@ -91,28 +92,29 @@ held_now (Some left) limit tally bytes none kept h =
     subst (λ used. KeepsKnown (Some bytes)
     (where_known (fits limit tally.shown && nat_lt used (tally.shown + 1)) (drop used left)))
     (sym none) (subst (λ t. KeepsKnown (Some bytes) (where_known t left))
-    (sym (open_now limit tally.shown h)) kept)
+    (sym (indefinite_now limit tally.shown h)) kept)
 
 drops_held : (n : ℕ) (known : Option (List ℕ)) (limit : Option ℕ) (before after : Tally)
     → after.shown ≡ before.shown → after.used ≡ before.used + n → n ≤ before.shown - before.used
     → Drops n (held_bytes known limit before) (held_bytes known limit after)
-drops_held n None limit before after shown used few = told_none (λ xs. None ≡ Some (drop n xs))
+drops_held n None limit before after shown used few = known_none (λ xs. None ≡ Some (drop n xs))
 drops_held n (Some bytes) limit before after shown used few =
     by_bool (fits limit before.shown && nat_lt before.used (before.shown + 1))
     (drop before.used bytes) (λ o. Drops n o (held_bytes (Some bytes) limit after))
-    (told_none (λ xs. held_bytes (Some bytes) limit after ≡ Some (drop n xs))) (λ e.
-    let open_after : (fits limit after.shown && nat_lt after.used (after.shown + 1)) ≡ true =
-    still_open n limit before after shown used few e in
+    (known_none (λ xs. held_bytes (Some bytes) limit after ≡ Some (drop n xs))) (λ e.
+    let indefinite_after : (fits limit after.shown && nat_lt after.used (after.shown + 1)) ≡ true =
+    still_indefinite n limit before after shown used few e in
     subst (λ t. Drops n (Some (drop before.used bytes)) (where_known t (drop after.used bytes)))
-    (sym open_after)
-    (told_some (λ xs. Some (drop after.used bytes) ≡ Some (drop n xs)) (drop before.used bytes)
+    (sym indefinite_after)
+    (known_some (λ xs. Some (drop after.used bytes) ≡ Some (drop n xs)) (drop before.used bytes)
     (ap Some (ap (λ k. drop k bytes) used ∙ sym (drop-drop n before.used bytes)))))
   where
-    still_open : (n : ℕ) (limit : Option ℕ) (before after : Tally) → after.shown ≡ before.shown
+    still_indefinite : (n : ℕ) (limit : Option ℕ) (before after : Tally) → after.shown ≡
+        before.shown
         → after.used ≡ before.used + n → n ≤ before.shown - before.used
         → (fits limit before.shown && nat_lt before.used (before.shown + 1)) ≡ true
         → (fits limit after.shown && nat_lt after.used (after.shown + 1)) ≡ true
-    still_open n limit before after shown used few e =
+    still_indefinite n limit before after shown used few e =
         let parts = both _ _ e in
         ap (λ k. fits limit k && nat_lt after.used (after.shown + 1)) shown
         ∙ ap (λ t. t && nat_lt after.used (after.shown + 1)) parts.0
@@ -121,8 +123,8 @@ drops_held n (Some bytes) limit before after shown used few =
 
 drops_cut : (n most most' : ℕ) (a b : Option (List ℕ)) → n + most' ≡ most → Drops n a b
     → Drops n (cut_known most a) (cut_known most' b)
-drops_cut n most most' None b split kept = told_none (λ xs. cut_known most' b ≡ Some (drop n xs))
-drops_cut n most most' (Some bytes) b split kept = told_some
+drops_cut n most most' None b split kept = known_none (λ xs. cut_known most' b ≡ Some (drop n xs))
+drops_cut n most most' (Some bytes) b split kept = known_some
     (λ xs. cut_known most' b ≡ Some (drop n xs)) (take most bytes)
     (ap (cut_known most') (kept bytes refl) ∙ ap Some (sym (drop-take n most' bytes)
     ∙ ap (λ k. drop n (take k bytes)) split))

@@ -1,4 +1,4 @@
--- What a lawful reader and a lawful writer are, and what each of this crate's tells.
+-- What a lawful reader and a lawful writer are, and what each of this crate's reports.
 pub mod View
 pub mod Reader
 pub mod Long

@@ -3,31 +3,31 @@ use Rattle.std.specs.Prelude.{◌≡◌, ℕ, ◌+◌, ◌-◌, ◌^◌, ◌<◌
 use Rattle.std.specs.Prelude.{if◌then◌else◌, min, List, [], length, drop, None, Some, Option}
 use Rattle.std.specs.Prelude.{IsTrue}
 use Rattle.std.specs.Io.{StartsWith}
-use Rattle.cbor4ii_rw.specs.View.{View, Told}
+use Rattle.cbor4ii_rw.specs.View.{View, IfKnown}
 
 -- the count of failures rose, or stands at its greatest
 abbrev pub Failed : ℕ → ℕ → Type 0
 Failed old new = (old < new) ⊎ (new ≡ 2 ^ 64 - 1)
 
--- told bytes stay told, and as they were
+-- known bytes stay known, and as they were
 abbrev pub Keeps : Option (List ℕ) → Option (List ℕ) → Type 0
-Keeps old new = Told old (λ xs. new ≡ Some xs)
+Keeps old new = IfKnown old (λ xs. new ≡ Some xs)
 
--- told bytes may be told no more; where they are, they stay as they were
+-- known bytes may be known no more; where they are, they stay as they were
 abbrev pub KeepsOrForgets : Option (List ℕ) → Option (List ℕ) → Type 0
-KeepsOrForgets old new = Told old (λ xs. Told new (λ ys. ys ≡ xs))
+KeepsOrForgets old new = IfKnown old (λ xs. IfKnown new (λ ys. ys ≡ xs))
 
--- told bytes lose their first n
+-- known bytes lose their first n
 abbrev pub Drops : ℕ → Option (List ℕ) → Option (List ℕ) → Type 0
-Drops n old new = Told old (λ xs. new ≡ Some (drop n xs))
+Drops n old new = IfKnown old (λ xs. new ≡ Some (drop n xs))
 
 -- n more bytes are taken, where they are counted
 abbrev pub counts : ℕ → Option ℕ → Option ℕ
 counts n None = None
 counts n (Some taken) = Some (taken + n)
 
--- the shown bytes are a front of the bytes xs, empty only where no byte is left or none is wanted
-pub record IsFront (want : ℕ) (shown xs : List ℕ) : Type 0 where
+-- the shown bytes are a prefix of the bytes xs, empty only where no byte is left or none is wanted
+pub record IsPrefix (want : ℕ) (shown xs : List ℕ) : Type 0 where
   pub begins : StartsWith xs shown
   pub within : length shown ≤ length xs
   pub ends : 0 < want → length shown ≡ 0 → xs ≡ []
@@ -36,61 +36,62 @@ pub record IsFront (want : ℕ) (shown xs : List ℕ) : Type 0 where
 abbrev pub IsEnough : ℕ → List ℕ → List ℕ → Type 0
 IsEnough want shown xs = min want (length xs) ≤ length shown
 
--- What a front that was shown leaves: no byte is taken, and what is shown may be advanced.
+-- What a prefix that was shown leaves: no byte is taken, and what is shown may be advanced.
 pub record Shows (shown : List ℕ) (old new : View) : Type 0 where
-  pub told : Keeps old.told new.told
+  pub known : Keeps old.known new.known
   pub bound : new.bound ≤ old.bound
   pub advanceable : length shown ≤ new.advanceable
   pub budget : new.budget ≡ old.budget
   pub failures : new.failures ≡ old.failures
   pub taken : new.taken ≡ old.taken
-  pub lends_whole : IsTrue old.lends_whole → IsTrue new.lends_whole
+  pub zero_copy : IsTrue old.zero_copy → IsTrue new.zero_copy
   pub remembers : IsTrue old.remembers → IsTrue new.remembers
   pub ends_at : new.ends_at ≡ old.ends_at
 
--- What a reader that failed leaves: no byte is taken, but bytes may be told no more.
-pub record Breaks (old new : View) : Type 0 where
-  pub told : KeepsOrForgets old.told new.told
-  pub kept : IsTrue old.remembers → Keeps old.told new.told
+-- What a reader that failed leaves: no byte is taken, but bytes may be known no more.
+pub record ReaderFails (old new : View) : Type 0 where
+  pub known : KeepsOrForgets old.known new.known
+  pub kept : IsTrue old.remembers → Keeps old.known new.known
   pub bound : new.bound ≤ old.bound
   pub budget : new.budget ≡ old.budget
   pub failures : Failed old.failures new.failures
   pub taken : new.taken ≡ old.taken
-  pub lends_whole : IsTrue old.lends_whole → IsTrue new.lends_whole
+  pub zero_copy : IsTrue old.zero_copy → IsTrue new.zero_copy
   pub remembers : IsTrue old.remembers → IsTrue new.remembers
   pub ends_at : new.ends_at ≡ old.ends_at
 
 -- n bytes are taken, and nothing else moves
 pub record Advances (n : ℕ) (old new : View) : Type 0 where
-  pub told : Drops n old.told new.told
+  pub known : Drops n old.known new.known
   pub bound : new.bound + n ≤ old.bound
   pub advanceable : old.advanceable ≤ new.advanceable + n
   pub budget : new.budget ≡ old.budget
   pub failures : new.failures ≡ old.failures
   pub taken : new.taken ≡ counts n old.taken
-  pub lends_whole : IsTrue old.lends_whole → IsTrue new.lends_whole
+  pub zero_copy : IsTrue old.zero_copy → IsTrue new.zero_copy
   pub remembers : IsTrue old.remembers → IsTrue new.remembers
   pub ends_at : new.ends_at ≡ old.ends_at
 
--- these bytes, with which the told ones begin, are taken, and nothing else moves
+-- these bytes, with which the known ones begin, are taken, and nothing else moves
 pub record Takes (bytes : List ℕ) (old new : View) : Type 0 where
-  pub told : Told old.told (λ xs. StartsWith xs bytes × (new.told ≡ Some (drop (length bytes) xs)))
+  pub known : IfKnown old.known (λ xs. StartsWith xs bytes ×
+      (new.known ≡ Some (drop (length bytes) xs)))
   pub bound : new.bound + length bytes ≤ old.bound
   pub budget : new.budget ≡ old.budget
   pub failures : new.failures ≡ old.failures
   pub taken : new.taken ≡ counts (length bytes) old.taken
-  pub lends_whole : IsTrue old.lends_whole → IsTrue new.lends_whole
+  pub zero_copy : IsTrue old.zero_copy → IsTrue new.zero_copy
   pub remembers : IsTrue old.remembers → IsTrue new.remembers
   pub ends_at : new.ends_at ≡ old.ends_at
 
 -- nothing moves but the budget
 pub record KeepsAllButBudget (old new : View) : Type 0 where
-  pub told : new.told ≡ old.told
+  pub known : new.known ≡ old.known
   pub bound : new.bound ≡ old.bound
   pub advanceable : new.advanceable ≡ old.advanceable
   pub failures : new.failures ≡ old.failures
   pub taken : new.taken ≡ old.taken
-  pub lends_whole : new.lends_whole ≡ old.lends_whole
+  pub zero_copy : new.zero_copy ≡ old.zero_copy
   pub remembers : new.remembers ≡ old.remembers
   pub ends_at : new.ends_at ≡ old.ends_at
 

@@ -15,6 +15,6 @@ IsLong (Long bytes) = ⊤
 IsLong (Short bytes) = ⊥
 
 -- what lives as long as the input is a part of it: the bytes to come begin where it begins
-abbrev pub IsPart : Reference → View → Type 0
-IsPart (Long bytes) view = BeginsAt (place_of bytes) view
-IsPart (Short bytes) view = ⊤
+abbrev pub IsSubslice : Reference → View → Type 0
+IsSubslice (Long bytes) view = BeginsAt (place_of bytes) view
+IsSubslice (Short bytes) view = ⊤

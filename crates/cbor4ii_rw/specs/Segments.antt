@@ -41,16 +41,17 @@ rest_of reader = reader.current.now ++ joined_segments reader.segments.now
 abbrev pub full_of : SegmentReader → ℕ
 full_of reader = full reader.current.now + full_count reader.segments.now
 
--- it tells all its bytes and never fails; it lends whole where at most one segment still has bytes
+-- it reports all its bytes and never fails; it is zero-copy where at most one segment still has
+-- bytes
 abbrev pub segment_view : SegmentReader → View
 segment_view reader = record {
-  told = Some (rest_of reader);
+  known = Some (rest_of reader);
   bound = length (rest_of reader);
   advanceable = length reader.current.now;
   budget = Some reader.steps;
   failures = 0;
   taken = None;
-  lends_whole = nat_lt (full_of reader) 2;
+  zero_copy = nat_lt (full_of reader) 2;
   remembers = true;
   ends_at = None;
 }

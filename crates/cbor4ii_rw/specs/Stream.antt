@@ -4,7 +4,7 @@ use Rattle.std.specs.Prelude.{◌≡◌, ℕ, ◌+◌, ◌-◌, ◌≤◌, ◌^�
 use Rattle.std.specs.Prelude.{false, ◌&&◌, nat_lt, None, Some, Option, Result, Ok, Err}
 use Rattle.std.proofs.Common.{rules, arith, length-take, subst}
 use Rattle.std.specs.Borrow.{Bor}
-use Rattle.cbor4ii_rw.specs.View.{View, Told}
+use Rattle.cbor4ii_rw.specs.View.{View, IfKnown}
 use Rattle.cbor4ii_rw.specs.Reader.{Failed}
 use Rattle.cbor4ii_rw.specs.declared.io_reader.Tally.{Tally}
 use Rattle.cbor4ii_rw.specs.declared.io_reader.IoReader.{IoReader}
@@ -20,7 +20,7 @@ cut_known n (Some bytes) = Some (take n bytes)
 
 -- cut bytes are no more than the cut; a trait's law cites it, so it stands here
 pub cut_within : (most : ℕ) (known : Option (List ℕ))
-    → Told (cut_known most known) (λ xs. length xs ≤ most)
+    → IfKnown (cut_known most known) (λ xs. length xs ≤ most)
 cut_within most None xs is = absurd (search (is, rules))
 cut_within most (Some bytes) xs is =
     let cut : take most bytes ≡ xs = search (is, rules) in
@@ -49,17 +49,17 @@ abbrev pub stream_left : {R : Type 0} → (R → Option (List ℕ)) → (R → O
 stream_left remaining consumable reader =
     held_bytes (remaining reader.inner) (consumable reader.inner) reader.tally
 
--- It tells what the stream has left, up to the most that are taken in all, counts what was taken,
--- and never lends whole.
+-- It reports what the stream has left, up to the most that are taken in all, counts what was taken,
+-- and is never zero-copy.
 abbrev pub stream_view : {R : Type 0} → (R → Option (List ℕ)) → (R → Option ℕ) → IoReader R → View
 stream_view remaining consumable reader = record {
-  told = cut_known (most_bytes - reader.tally.taken) (stream_left remaining consumable reader);
+  known = cut_known (most_bytes - reader.tally.taken) (stream_left remaining consumable reader);
   bound = most_bytes - reader.tally.taken;
   advanceable = min (reader.tally.shown - reader.tally.used) (most_bytes - reader.tally.taken);
   budget = Some reader.tally.steps;
   failures = reader.tally.failures;
   taken = Some reader.tally.taken;
-  lends_whole = false;
+  zero_copy = false;
   remembers = true;
   ends_at = None;
 }

@@ -1,17 +1,17 @@
 -- What a lawful writer does: how what it holds moves in a push.
 use Rattle.std.specs.Prelude.{◌≡◌, ℕ, ◌+◌, ◌-◌, ◌^◌, min, List, ◌++◌, Option, Some}
-use Rattle.cbor4ii_rw.specs.View.{Told}
+use Rattle.cbor4ii_rw.specs.View.{IfKnown}
 
--- What a writer tells of itself as it stands, for contracts alone.
+-- What a writer reports of itself as it stands, for contracts alone.
 pub record Output : Type 0 where
-  -- the bytes that were written, where the writer tells them
+  -- the bytes that were written, where the writer reports them
   pub written : Option (List ℕ)
   -- how often the writer failed; the count stands still at u64's greatest number
   pub failures : ℕ
 
--- told bytes stay told, and have these behind them
+-- known bytes stay known, and have these after them
 abbrev pub Appends : List ℕ → Option (List ℕ) → Option (List ℕ) → Type 0
-Appends bytes old new = Told old (λ xs. new ≡ Some (xs ++ bytes))
+Appends bytes old new = IfKnown old (λ xs. new ≡ Some (xs ++ bytes))
 
 -- one failure more, up to u64's greatest number
 abbrev pub one_more : ℕ → ℕ

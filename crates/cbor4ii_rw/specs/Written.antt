@@ -4,7 +4,7 @@ use Rattle.cbor4ii_rw.specs.Writer.{Output}
 use Rattle.cbor4ii_rw.specs.declared.buf_writer.BufWriter.{BufWriter}
 use Rattle.cbor4ii_rw.specs.declared.io_writer.IoWriter.{IoWriter}
 
--- a writer into a vector tells all that it holds
+-- a writer into a vector reports all that it holds
 abbrev pub buffer_output : BufWriter → Output
 buffer_output writer = record { written = Some writer.bytes.items; failures = writer.failures }
 
@@ -12,7 +12,7 @@ buffer_output writer = record { written = Some writer.bytes.items; failures = wr
 abbrev pub buffer_capacity : BufWriter → ℕ
 buffer_capacity writer = vec_capacity writer.bytes
 
--- a writer into a stream tells what the stream tells; the first argument is what a stream holds
+-- a writer into a stream reports what the stream reports; the first argument is what a stream holds
 abbrev pub stream_output : {W : Type 0} → (W → Option (List ℕ)) → IoWriter W → Output
 stream_output contents writer = record {
   written = contents writer.inner;

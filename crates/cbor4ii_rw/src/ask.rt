@@ -8,14 +8,14 @@ ghost use Rattle.std.specs.Prelude.{◌≡◌, ◌≤◌, [], ◌∷◌, length,
 ghost use Rattle.std.specs.Prelude.{OnSome, IsSome, MatchOption};
 ghost use Rattle.std.specs.Borrow.{sem};
 ghost use Rattle.std.specs.Io.BufRead.{Rests};
-ghost use Rattle.cbor4ii_rw.specs.View.{Told};
-ghost use Rattle.cbor4ii_rw.specs.Reader.{IsFront, IsEnough, Shows, Breaks, Takes};
-ghost use Rattle.cbor4ii_rw.specs.Reference.{bytes_of, IsLong, IsPart};
+ghost use Rattle.cbor4ii_rw.specs.View.{IfKnown};
+ghost use Rattle.cbor4ii_rw.specs.Reader.{IsPrefix, IsEnough, Shows, ReaderFails, Takes};
+ghost use Rattle.cbor4ii_rw.specs.Reference.{bytes_of, IsLong, IsSubslice};
 ghost use Rattle.cbor4ii_rw.specs.Parted.{Parts};
 
 use crate::read::{Read, Reference, Source};
 
-/// A front of what `reader` has left, as `Source::show` shows it. Where the reader fails, none,
+/// A prefix of what `reader` has left, as `Source::show` shows it. Where the reader fails, none,
 /// and the error goes to `failure`, which is left alone otherwise.
 #[inline(always)]
 pub fn look<'s, S: Source>(
@@ -23,38 +23,39 @@ pub fn look<'s, S: Source>(
     want: usize,
     failure: &mut Option<S::Error>,
 ) -> Option<&'s [u8]>
-    ensures front { IfSome result
-        (λ shown. Told (S.view reader.old).told (IsFront want shown.now)) }
+    ensures prefix { IfSome result
+        (λ shown. IfKnown (S.view reader.old).known (IsPrefix want shown.now)) }
     ensures bounded { IfSome result (λ shown. length shown.now ≤ (S.view reader.old).bound) }
-    ensures enough { IsTrue (S.view reader.old).lends_whole →
-        IfSome result (λ shown. Told (S.view reader.old).told (IsEnough want shown.now)) }
+    ensures enough { IsTrue (S.view reader.old).zero_copy →
+        IfSome result (λ shown. IfKnown (S.view reader.old).known (IsEnough want shown.now)) }
     ensures shown { OnSome result (failure.new ≡ failure.old) }
     ensures failed { IfNone result (IsSome failure.new) }
     ensures* after_borrow { sem 𝓛 (Rests S.row reader.entry (λ new. MatchOption result
-        (Breaks (S.view reader.old) (S.view new))
+        (ReaderFails (S.view reader.old) (S.view new))
         (λ shown. Shows shown.now (S.view reader.old) (S.view new)))) }
 {
     part(reader.show(want), failure)
 }
 
-/// A front of what `reader` has left, as `Read::fill` lends it. Where the reader fails, none,
+/// A prefix of what `reader` has left, as `Read::fill` lends it. Where the reader fails, none,
 /// and the error goes to `failure`, which is left alone otherwise.
 pub fn lend<'de, 's, R: Read<'de>>(
     reader: &'s mut R,
     want: usize,
     failure: &mut Option<R::Error>,
 ) -> Option<Reference<'de, 's>>
-    ensures front { IfSome result
-        (λ shown. Told (R.view reader.old).told (IsFront want (bytes_of shown))) }
+    ensures prefix { IfSome result
+        (λ shown. IfKnown (R.view reader.old).known (IsPrefix want (bytes_of shown))) }
     ensures bounded { IfSome result (λ shown. length (bytes_of shown) ≤ (R.view reader.old).bound) }
-    ensures enough { IsTrue (R.view reader.old).lends_whole →
-        IfSome result (λ shown. Told (R.view reader.old).told (IsEnough want (bytes_of shown))) }
-    ensures long { IsTrue (R.view reader.old).lends_whole → IfSome result IsLong }
-    ensures place { IfSome result (λ shown. IsPart shown (R.view reader.old)) }
+    ensures enough { IsTrue (R.view reader.old).zero_copy →
+        IfSome result (λ shown. IfKnown (R.view reader.old).known
+        (IsEnough want (bytes_of shown))) }
+    ensures long { IsTrue (R.view reader.old).zero_copy → IfSome result IsLong }
+    ensures place { IfSome result (λ shown. IsSubslice shown (R.view reader.old)) }
     ensures shown { OnSome result (failure.new ≡ failure.old) }
     ensures failed { IfNone result (IsSome failure.new) }
     ensures* after_borrow { sem 𝓛 (Rests R.row reader.entry (λ new. MatchOption result
-        (Breaks (R.view reader.old) (R.view new))
+        (ReaderFails (R.view reader.old) (R.view new))
         (λ shown. Shows (bytes_of shown) (R.view reader.old) (R.view new)))) }
 {
     part(reader.fill(want), failure)
@@ -64,13 +65,14 @@ pub fn lend<'de, 's, R: Read<'de>>(
 ///
 /// # Errors
 ///
-/// The reader's own error, as `Source::show` tells it. Nothing is taken then.
+/// The reader's own error, as `Source::show` reports it. Nothing is taken then.
 pub fn next_byte<S: Source>(reader: &mut S) -> Result<Option<u8>, S::Error>
     ensures byte { IfOk result
         (λ next. IfSome next (λ byte. Takes (byte ∷ []) (S.view reader.old) (S.view reader.new))) }
-    ensures end { IfOk result (λ next. IfNone next (Told (S.view reader.old).told (λ xs. xs ≡ [])
+    ensures end { IfOk result (λ next. IfNone next (IfKnown (S.view reader.old).known
+        (λ xs. xs ≡ [])
         × Shows [] (S.view reader.old) (S.view reader.new))) }
-    ensures failed { IfErr result (λ _. Breaks (S.view reader.old) (S.view reader.new)) }
+    ensures failed { IfErr result (λ _. ReaderFails (S.view reader.old) (S.view reader.new)) }
 {
     let mut failure = None;
     let byte = match look(reader, 1, &mut failure) {
@@ -88,7 +90,7 @@ fn part<T, E: Drop>(answer: Result<T, E>, failure: &mut Option<E>) -> Option<T>
     ensures { Parts answer failure.old failure.new result }
 {
     match answer {
-        Ok(front) => Some(front),
+        Ok(prefix) => Some(prefix),
         Err(error) => {
             *failure = Some(error);
             None

@@ -1,7 +1,7 @@
 //! A writer into memory.
 ghost use Rattle.std.specs.Prelude.{◌≡◌, ◌+◌, ◌≤◌, [], Some, true, length, vec_capacity, OnOk};
 ghost use Rattle.std.specs.Prelude.{OnErr, IsOk};
-ghost use Rattle.cbor4ii_rw.specs.View.{Told};
+ghost use Rattle.cbor4ii_rw.specs.View.{IfKnown};
 ghost use Rattle.cbor4ii_rw.specs.Reader.{Keeps};
 ghost use Rattle.cbor4ii_rw.specs.Writer.{Appends, one_more};
 ghost use Rattle.cbor4ii_rw.specs.Written.{buffer_output, buffer_capacity};
@@ -9,7 +9,7 @@ ghost use Rattle.cbor4ii_rw.specs.Written.{buffer_output, buffer_capacity};
 use crate::error::TryReserveError;
 use crate::write::Write;
 
-/// A writer into a vector. It is whole: a push for which there is no memory appends nothing. A
+/// A writer into a vector. It is atomic: a push for which there is no memory appends nothing. A
 /// push for which the vector has room never fails.
 #[derive(Debug, Drop)]
 pub struct BufWriter {
@@ -18,7 +18,7 @@ pub struct BufWriter {
 }
 
 impl BufWriter {
-    /// A writer behind what stands in `bytes`, which has not failed yet.
+    /// A writer that appends to `bytes`, which has not failed yet.
     pub fn new(bytes: Vec<u8>) -> BufWriter
         ensures written { (buffer_output result).written ≡ Some bytes.items }
         ensures failures { (buffer_output result).failures ≡ 0 }
@@ -34,7 +34,7 @@ impl BufWriter {
         &self.bytes
     }
 
-    /// The vector, with what was written behind what stood in it.
+    /// The vector, with what was written after what stood in it.
     pub fn into_inner(self) -> Vec<u8>
         ensures written { (buffer_output self).written ≡ Some result.items }
         ensures capacity { vec_capacity result ≡ buffer_capacity self }
@@ -62,7 +62,7 @@ impl BufWriter {
 impl Write for BufWriter {
     type Error = TryReserveError;
 
-    ghost whole = { true };
+    ghost atomic = { true };
 
     ghost view = { buffer_output };
 
@@ -77,7 +77,7 @@ impl Write for BufWriter {
             ((buffer_output self.new).failures ≡ one_more (buffer_output self.old).failures) }
         ensures whole { OnErr result
             (Keeps (buffer_output self.old).written (buffer_output self.new).written) }
-        ensures room { Told (buffer_output self.old).written (λ held.
+        ensures room { IfKnown (buffer_output self.old).written (λ held.
             length held + length input.now ≤ buffer_capacity self.old → IsOk result) }
         ensures capacity { buffer_capacity self.old ≤ buffer_capacity self.new }
     {

@@ -3,7 +3,7 @@ use crate::long::FillLong;
 use crate::read::{Read, Reference, Source};
 use crate::write::Write;
 
-/// Each call is that of the reader behind the reference, and so is what it tells.
+/// Each call is that of the reader behind the reference, and so is what it reports.
 impl<S: Source> Source for &mut S {
     type Error = S::Error;
 
@@ -29,7 +29,7 @@ impl<S: Source> Source for &mut S {
         Source::step_out(&mut **self)
     }
 
-    ghost told_within_bound = { λ reader. S.told_within_bound reader.now };
+    ghost known_within_bound = { λ reader. S.known_within_bound reader.now };
 }
 
 /// It lends what the reader behind the reference lends.
@@ -43,18 +43,18 @@ impl<'de, R: Read<'de>> Read<'de> for &mut R {
 impl<R: FillLong> FillLong for &mut R {
     type Long = R::Long;
 
-    ghost never_lends = { R.never_lends };
+    ghost never_borrows = { R.never_borrows };
 
     fn fill_long(&mut self, want: usize) -> Result<Option<R::Long>, R::Error> {
         FillLong::fill_long(&mut **self, want)
     }
 }
 
-/// Each call is that of the writer behind the reference, and so is what it tells.
+/// Each call is that of the writer behind the reference, and so is what it reports.
 impl<W: Write> Write for &mut W {
     type Error = W::Error;
 
-    ghost whole = { W.whole };
+    ghost atomic = { W.atomic };
 
     ghost view = { λ writer. W.view writer.now };
 

@@ -10,10 +10,10 @@ pub use std::convert::Infallible as Never;
 use std::error::Error;
 use std::fmt;
 
-/// The name of what was read, in a refusal.
+/// The name of what was read, in an error.
 pub type StaticStr = &'static str;
 
-/// A number of bytes, items or pairs, in a refusal.
+/// A number of bytes, items or pairs, in an error.
 #[derive(Clone, Copy, Debug, PartialEq, Eq)]
 pub enum Len {
     /// An indefinite length (RFC 8949 section 3.2).
@@ -25,7 +25,7 @@ pub enum Len {
 }
 
 impl Len {
-    /// `n`, as a refusal tells it: exactly up to 65535, and `Big` above.
+    /// `n`, as an error reports it: exactly up to 65535, and `Big` above.
     pub fn new(n: usize) -> Len
         ensures small { n < 65536 → result ≡ Len.Small n }
         ensures big { 65536 ≤ n → result ≡ Len.Big }
@@ -116,7 +116,7 @@ pub enum DecodeError<E> {
     },
     /// There was no memory for the value.
     OutOfMemory,
-    /// A value begins here, or may, and not by its canonical spelling.
+    /// A value begins here, or may, and not by its canonical encoding.
     NotCanonical {
         name: StaticStr,
     },

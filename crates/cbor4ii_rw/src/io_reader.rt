@@ -6,9 +6,9 @@ ghost use Rattle.std.specs.Borrow.{sem};
 ghost use Rattle.std.specs.Io.{StartsWith};
 ghost use Rattle.std.specs.Io.BufRead.{Rests, FillKeeps, DropsConsumable};
 ghost use Rattle.cbor4ii_rw.specs.contracts.io_reader.IoReader.{the_row};
-ghost use Rattle.cbor4ii_rw.specs.View.{Told};
-ghost use Rattle.cbor4ii_rw.specs.Reader.{Keeps, IsFront, IsEnough, Shows, Breaks};
-ghost use Rattle.cbor4ii_rw.specs.Reference.{bytes_of, IsLong, IsPart};
+ghost use Rattle.cbor4ii_rw.specs.View.{IfKnown};
+ghost use Rattle.cbor4ii_rw.specs.Reader.{Keeps, IsPrefix, IsEnough, Shows, ReaderFails};
+ghost use Rattle.cbor4ii_rw.specs.Reference.{bytes_of, IsLong, IsSubslice};
 ghost use Rattle.cbor4ii_rw.specs.Stream.{most_bytes, cut_within, cut_known, stream_left};
 ghost use Rattle.cbor4ii_rw.specs.Stream.{stream_view, TallyMoves};
 
@@ -55,7 +55,7 @@ impl<R: BufRead + Drop> Drop for IoReader<R> {
 impl<R: BufRead> IoReader<R> {
     /// A reader over `inner`, with 256 steps, of which nothing was taken yet.
     pub fn new(inner: R) -> IoReader<R>
-        ensures told { (stream_view R.Read.remaining R.consumable_len result).told
+        ensures known { (stream_view R.Read.remaining R.consumable_len result).known
             ≡ cut_known most_bytes (R.Read.remaining inner) }
         ensures stream { stream_left R.Read.remaining R.consumable_len result
             ≡ R.Read.remaining inner }
@@ -68,7 +68,7 @@ impl<R: BufRead> IoReader<R> {
 
     /// A reader over `inner`, with `limit` steps, of which nothing was taken yet.
     pub fn with_limit(inner: R, limit: usize) -> IoReader<R>
-        ensures told { (stream_view R.Read.remaining R.consumable_len result).told
+        ensures known { (stream_view R.Read.remaining R.consumable_len result).known
             ≡ cut_known most_bytes (R.Read.remaining inner) }
         ensures stream { stream_left R.Read.remaining R.consumable_len result
             ≡ R.Read.remaining inner }
@@ -93,8 +93,8 @@ impl<R: BufRead> IoReader<R> {
     pub fn into_inner(self) -> R
         ensures stream { Keeps (stream_left R.Read.remaining R.consumable_len self)
             (R.Read.remaining result) }
-        ensures told { let view = stream_view R.Read.remaining R.consumable_len self in
-            Keeps view.told (cut_known view.bound (R.Read.remaining result)) }
+        ensures known { let view = stream_view R.Read.remaining R.consumable_len self in
+            Keeps view.known (cut_known view.bound (R.Read.remaining result)) }
     {
         let IoReader {
             mut inner,
@@ -143,9 +143,9 @@ impl<R: BufRead> Source for IoReader<R> {
 
     // The clauses of the trait, and that it does not fail once as many bytes as can be were taken.
     fn show(&mut self, want: usize) -> Result<&[u8], io::Error>
-        ensures front { IfOk result (λ shown. Told
-            (stream_view R.Read.remaining R.consumable_len self.old).told
-            (IsFront want shown.now)) }
+        ensures prefix { IfOk result (λ shown. IfKnown
+            (stream_view R.Read.remaining R.consumable_len self.old).known
+            (IsPrefix want shown.now)) }
         ensures bounded { IfOk result (λ shown. length shown.now
             ≤ (stream_view R.Read.remaining R.consumable_len self.old).bound) }
         ensures ended { (stream_view R.Read.remaining R.consumable_len self.old).bound ≡ 0
@@ -154,7 +154,7 @@ impl<R: BufRead> Source for IoReader<R> {
             let before = stream_view R.Read.remaining R.consumable_len self.old in
             let after = stream_view R.Read.remaining R.consumable_len new in
             MatchResult result (λ shown. Shows shown.now before after)
-            (λ _. Breaks before after))) }
+            (λ _. ReaderFails before after))) }
     {
         let most = u64::MAX - self.tally.taken;
         if most == 0 {
@@ -189,7 +189,7 @@ impl<R: BufRead> Source for IoReader<R> {
         steps::step_out(&mut self.tally.steps);
     }
 
-    ghost told_within_bound = { λ reader. cut_within (most_bytes - reader.tally.taken)
+    ghost known_within_bound = { λ reader. cut_within (most_bytes - reader.tally.taken)
         (stream_left R.Read.remaining R.consumable_len reader) };
 }
 
@@ -201,18 +201,18 @@ impl<R: BufRead> Source for IoReader<R> {
 impl<'de, R: BufRead> Read<'de> for IoReader<R> {
     // The clauses of the trait, those of `show`, and that it is always `Short`.
     fn fill<'short>(&'short mut self, want: usize) -> Result<Reference<'de, 'short>, io::Error>
-        ensures front { IfOk result (λ shown. Told
-            (stream_view R.Read.remaining R.consumable_len self.old).told
-            (IsFront want (bytes_of shown))) }
+        ensures prefix { IfOk result (λ shown. IfKnown
+            (stream_view R.Read.remaining R.consumable_len self.old).known
+            (IsPrefix want (bytes_of shown))) }
         ensures bounded { IfOk result (λ shown. length (bytes_of shown)
             ≤ (stream_view R.Read.remaining R.consumable_len self.old).bound) }
         ensures enough { let before = stream_view R.Read.remaining R.consumable_len self.old in
-            IsTrue before.lends_whole →
-            IfOk result (λ shown. Told before.told (IsEnough want (bytes_of shown))) }
+            IsTrue before.zero_copy →
+            IfOk result (λ shown. IfKnown before.known (IsEnough want (bytes_of shown))) }
         ensures long { let before = stream_view R.Read.remaining R.consumable_len self.old in
-            IsTrue before.lends_whole → IfOk result IsLong }
+            IsTrue before.zero_copy → IfOk result IsLong }
         ensures place { IfOk result
-            (λ shown. IsPart shown (stream_view R.Read.remaining R.consumable_len self.old)) }
+            (λ shown. IsSubslice shown (stream_view R.Read.remaining R.consumable_len self.old)) }
         ensures short { IfOk result (λ shown. ¬ IsLong shown) }
         ensures ended { (stream_view R.Read.remaining R.consumable_len self.old).bound ≡ 0
             → IsOk result }
@@ -220,7 +220,7 @@ impl<'de, R: BufRead> Read<'de> for IoReader<R> {
             let before = stream_view R.Read.remaining R.consumable_len self.old in
             let after = stream_view R.Read.remaining R.consumable_len new in
             MatchResult result (λ shown. Shows (bytes_of shown) before after)
-            (λ _. Breaks before after))) }
+            (λ _. ReaderFails before after))) }
     {
         match self.show(want) {
             Ok(bytes) => Ok(Reference::Short(bytes)),
@@ -237,7 +237,7 @@ impl<'de, R: BufRead> Read<'de> for IoReader<R> {
 impl<R: BufRead> FillLong for IoReader<R> {
     type Long = [u8; 0];
 
-    ghost never_lends = { true };
+    ghost never_borrows = { true };
 
     fn fill_long(&mut self, want: usize) -> Result<Option<[u8; 0]>, io::Error> {
         let mut failure = None;
@@ -251,7 +251,7 @@ impl<R: BufRead> FillLong for IoReader<R> {
 
 /// Shows all that the stream shows, and counts it.
 fn show_all<'s, R: BufRead>(reader: &'s mut IoReader<R>) -> io::Result<&'s [u8]>
-    ensures front { IfSome (R.Read.remaining reader.old.inner)
+    ensures prefix { IfSome (R.Read.remaining reader.old.inner)
         (λ left. IfOk result (λ shown. StartsWith left shown.now)) }
     ensures end { IfSome (R.Read.remaining reader.old.inner)
         (λ left. IfOk result (λ shown. length shown.now ≡ 0 → left ≡ [])) }
@@ -264,7 +264,7 @@ fn show_all<'s, R: BufRead>(reader: &'s mut IoReader<R>) -> io::Result<&'s [u8]>
 }
 
 fn show_inner<'s, R: BufRead>(inner: &'s mut R, tally: &mut Tally) -> io::Result<&'s [u8]>
-    ensures front { IfSome (R.Read.remaining inner.old)
+    ensures prefix { IfSome (R.Read.remaining inner.old)
         (λ left. IfOk result (λ shown. StartsWith left shown.now)) }
     ensures end { IfSome (R.Read.remaining inner.old)
         (λ left. IfOk result (λ shown. length shown.now ≡ 0 → left ≡ [])) }

@@ -8,7 +8,7 @@ use crate::write::Write;
 use std::io;
 
 /// A writer into a stream, which knows whether the stream was flushed since the last push. It is
-/// not whole: a push that fails may have written a part of its input, and after an error nothing
+/// not atomic: a push that fails may have written a slice of its input, and after an error nothing
 /// is known of the stream.
 #[derive(Debug, Drop)]
 pub struct IoWriter<W: io::Write> {
@@ -18,8 +18,8 @@ pub struct IoWriter<W: io::Write> {
 }
 
 impl<W: io::Write> IoWriter<W> {
-    /// A writer behind what `inner` holds, which has not failed yet. It is not flushed, since what
-    /// `inner` holds may not be.
+    /// A writer that appends to what `inner` holds, which has not failed yet. It is not flushed,
+    /// since what `inner` holds may not be.
     pub fn new(inner: W) -> IoWriter<W>
         ensures written { (stream_output W.contents result).written ≡ W.contents inner }
         ensures failures { (stream_output W.contents result).failures ≡ 0 }
@@ -89,12 +89,12 @@ impl<W: io::Write> IoWriter<W> {
 ///
 /// # Errors
 ///
-/// `io::Error`: the stream failed, which is counted. A part of the input may be written then, and
+/// `io::Error`: the stream failed, which is counted. A slice of the input may be written then, and
 /// the writer is not flushed.
 impl<W: io::Write> Write for IoWriter<W> {
     type Error = io::Error;
 
-    ghost whole = { false };
+    ghost atomic = { false };
 
     ghost view = { stream_output W.contents };
 

@@ -1,19 +1,19 @@
 //! What a reader is.
 //!
-//! A reader shows a front of what is left, and takes bytes only when it is told to advance. It
+//! A reader shows a prefix of what is left, and takes bytes only when it is told to advance. It
 //! also counts the steps that nested items take (RFC 8949 section 10 leaves the limit to the
 //! decoder), so that hostile input cannot drive a recursion as deep as it likes.
 ghost use Rattle.std.specs.Prelude.{◌≡◌, ◌≤◌, ◌↔◌, length, take, IsTrue, IfOk, MatchResult};
 ghost use Rattle.std.specs.Borrow.{sem};
 ghost use Rattle.std.specs.Io.BufRead.{Rests};
-ghost use Rattle.cbor4ii_rw.specs.View.{View, Told};
-ghost use Rattle.cbor4ii_rw.specs.Reader.{IsFront, IsEnough, Shows, Breaks, Advances};
+ghost use Rattle.cbor4ii_rw.specs.View.{View, IfKnown};
+ghost use Rattle.cbor4ii_rw.specs.Reader.{IsPrefix, IsEnough, Shows, ReaderFails, Advances};
 ghost use Rattle.cbor4ii_rw.specs.Reader.{KeepsAllButBudget, StepsIn, step_back};
-ghost use Rattle.cbor4ii_rw.specs.Reference.{bytes_of, IsLong, IsPart};
+ghost use Rattle.cbor4ii_rw.specs.Reference.{bytes_of, IsLong, IsSubslice};
 
 use std::fmt::Debug;
 
-/// A front of what a reader has left.
+/// A prefix of what a reader has left.
 #[derive(Clone, Copy, Debug, PartialEq, Eq)]
 pub enum Reference<'de, 'short> {
     /// It lives as long as the input, so decoded values may keep parts of it.
@@ -52,11 +52,12 @@ pub trait Source {
     /// Why the reader failed.
     type Error: Debug + Drop;
 
-    // What the reader tells of itself as it stands, in the fields of a `View`: the bytes that are
-    // still to come, where it tells them, the steps that are left, how often it failed, and others.
+    // What the reader reports of itself as it stands, in the fields of a `View`: the bytes that are
+    // still to come, where it reports them, the steps that are left, how often it failed, and
+    // others.
     ghost view: { Self → View };
 
-    /// Shows a front of what is left, perhaps shorter or longer than `want`, and takes nothing.
+    /// Shows a prefix of what is left, perhaps shorter or longer than `want`, and takes nothing.
     /// It is empty only at the end, or where `want` is 0. What is shown may be advanced.
     ///
     /// `want` is a wish: one byte is enough. A reader that waits for more than one may wait for
@@ -68,16 +69,17 @@ pub trait Source {
     /// The bytes that are left stay known where the reader remembers them, and may be known no more
     /// otherwise.
     fn show(&mut self, want: usize) -> Result<&[u8], Self::Error>
-        ensures front { IfOk result (λ shown. Told (view self.old).told (IsFront want shown.now)) }
+        ensures prefix { IfOk result (λ shown. IfKnown (view self.old).known
+            (IsPrefix want shown.now)) }
         ensures bounded { IfOk result (λ shown. length shown.now ≤ (view self.old).bound) }
-        ensures enough { IsTrue (view self.old).lends_whole →
-            IfOk result (λ shown. Told (view self.old).told (IsEnough want shown.now)) }
+        ensures enough { IsTrue (view self.old).zero_copy →
+            IfOk result (λ shown. IfKnown (view self.old).known (IsEnough want shown.now)) }
         ensures* after_borrow { sem 𝓛 (Rests Self.row self.entry (λ new. MatchResult result
             (λ shown. Shows shown.now (view self.old) (view new))
-            (λ _. Breaks (view self.old) (view new)))) };
+            (λ _. ReaderFails (view self.old) (view new)))) };
 
     /// How many bytes a look may ask for where fewer would do, one at least. Only a reader that
-    /// waits for no byte because more are wanted, and refuses none, answers more than 1; one that
+    /// waits for no byte because more are wanted, and rejects none, answers more than 1; one that
     /// shows what it has, whatever is wanted, answers the greatest number.
     fn window(&self) -> usize
         ensures { 1 ≤ result }
@@ -101,33 +103,33 @@ pub trait Source {
         ensures budget { (view self.new).budget ≡ step_back (view self.old).budget }
         ensures others { KeepsAllButBudget (view self.old) (view self.new) };
 
-    // A law: the bytes that it tells are no more than can still come.
-    ghost told_within_bound: { (reader : Self) →
-        Told (view reader).told (λ xs. length xs ≤ (view reader).bound) };
+    // A law: the bytes that it reports are no more than can still come.
+    ghost known_within_bound: { (reader : Self) →
+        IfKnown (view reader).known (λ xs. length xs ≤ (view reader).bound) };
 }
 
-/// A reader that may lend parts of its input.
+/// A reader that may lend slices of its input.
 ///
 /// Code that is generic over readers calls `ask::lend` in the place of `fill`.
 pub trait Read<'de>: Source {
-    /// Shows a front as `show` does, and says whether it lives as long as the input. A reader
-    /// that lends whole answers `Long`, with at least `want` bytes or all that are left. What is
-    /// `Long` stands where the bytes to come begin, if the reader tells where they end.
+    /// Shows a prefix as `show` does, and says whether it lives as long as the input. A zero-copy
+    /// reader answers `Long`, with at least `want` bytes or all that are left. What is `Long`
+    /// stands where the bytes to come begin, if the reader reports where they end.
     ///
     /// # Errors
     ///
-    /// The reader's own error, which it counts. Nothing is taken then, and what is left is told at
-    /// `Source::show`.
+    /// The reader's own error, which it counts. Nothing is taken then, and what is left is
+    /// described at `Source::show`.
     fn fill<'short>(&'short mut self, want: usize) -> Result<Reference<'de, 'short>, Self::Error>
-        ensures front { IfOk result
-            (λ shown. Told (Self.view self.old).told (IsFront want (bytes_of shown))) }
+        ensures prefix { IfOk result
+            (λ shown. IfKnown (Self.view self.old).known (IsPrefix want (bytes_of shown))) }
         ensures bounded { IfOk result
             (λ shown. length (bytes_of shown) ≤ (Self.view self.old).bound) }
-        ensures enough { IsTrue (Self.view self.old).lends_whole → IfOk result
-            (λ shown. Told (Self.view self.old).told (IsEnough want (bytes_of shown))) }
-        ensures long { IsTrue (Self.view self.old).lends_whole → IfOk result IsLong }
-        ensures place { IfOk result (λ shown. IsPart shown (Self.view self.old)) }
+        ensures enough { IsTrue (Self.view self.old).zero_copy → IfOk result
+            (λ shown. IfKnown (Self.view self.old).known (IsEnough want (bytes_of shown))) }
+        ensures long { IsTrue (Self.view self.old).zero_copy → IfOk result IsLong }
+        ensures place { IfOk result (λ shown. IsSubslice shown (Self.view self.old)) }
         ensures* after_borrow { sem 𝓛 (Rests Self.row self.entry (λ new. MatchResult result
             (λ shown. Shows (bytes_of shown) (Self.view self.old) (Self.view new))
-            (λ _. Breaks (Self.view self.old) (Self.view new)))) };
+            (λ _. ReaderFails (Self.view self.old) (Self.view new)))) };
 }

@@ -6,10 +6,10 @@ ghost use Rattle.std.specs.Borrow.{sem};
 ghost use Rattle.std.specs.Io.BufRead.{Rests};
 ghost use mir.Syntax.{named};
 ghost use Rattle.cbor4ii_rw.specs.contracts.segment_reader.SegmentReader.{the_row};
-ghost use Rattle.cbor4ii_rw.specs.View.{Told};
-ghost use Rattle.cbor4ii_rw.specs.Reader.{IsFront, IsEnough, Shows, Breaks};
-ghost use Rattle.cbor4ii_rw.specs.Long.{FillsLong, LendsNone};
-ghost use Rattle.cbor4ii_rw.specs.Reference.{bytes_of, IsLong, IsPart};
+ghost use Rattle.cbor4ii_rw.specs.View.{IfKnown};
+ghost use Rattle.cbor4ii_rw.specs.Reader.{IsPrefix, IsEnough, Shows, ReaderFails};
+ghost use Rattle.cbor4ii_rw.specs.Long.{FillsLong, BorrowsNone};
+ghost use Rattle.cbor4ii_rw.specs.Reference.{bytes_of, IsLong, IsSubslice};
 ghost use Rattle.cbor4ii_rw.specs.Segments.{joined_segments, full_count, rest_of, full_of};
 ghost use Rattle.cbor4ii_rw.specs.Segments.{shown_segment, segment_view};
 
@@ -20,11 +20,11 @@ use crate::steps;
 
 /// A reader over borrowed segments, one after another, empty ones among them. It never fails, and
 /// shows what is wanted of the first segment that has bytes, or all of it, always `Long`. With at
-/// most one segment left that has bytes, it lends whole.
+/// most one segment left that has bytes, it is zero-copy.
 #[derive(Clone, Debug, Drop)]
 pub struct SegmentReader<'de> {
     current: &'de [u8],
-    // Those behind the current one.
+    // Those after the current one.
     segments: &'de [&'de [u8]],
     steps: usize,
 }
@@ -32,8 +32,8 @@ pub struct SegmentReader<'de> {
 impl<'de> SegmentReader<'de> {
     /// A reader over `segments`, with 256 steps.
     pub fn new(segments: &'de [&'de [u8]]) -> SegmentReader<'de>
-        ensures told { (segment_view result).told ≡ Some (joined_segments segments.now) }
-        ensures whole { (segment_view result).lends_whole ≡ nat_lt (full_count segments.now) 2 }
+        ensures known { (segment_view result).known ≡ Some (joined_segments segments.now) }
+        ensures whole { (segment_view result).zero_copy ≡ nat_lt (full_count segments.now) 2 }
         ensures budget { (segment_view result).budget ≡ Some 256 }
     {
         SegmentReader::with_limit(segments, 256)
@@ -41,8 +41,8 @@ impl<'de> SegmentReader<'de> {
 
     /// A reader over `segments`, with `limit` steps.
     pub fn with_limit(segments: &'de [&'de [u8]], limit: usize) -> SegmentReader<'de>
-        ensures told { (segment_view result).told ≡ Some (joined_segments segments.now) }
-        ensures whole { (segment_view result).lends_whole ≡ nat_lt (full_count segments.now) 2 }
+        ensures known { (segment_view result).known ≡ Some (joined_segments segments.now) }
+        ensures whole { (segment_view result).zero_copy ≡ nat_lt (full_count segments.now) 2 }
         ensures budget { (segment_view result).budget ≡ Some limit }
     {
         SegmentReader {
@@ -78,18 +78,18 @@ impl Source for SegmentReader<'_> {
     ghost view = { segment_view };
 
     fn show(&mut self, want: usize) -> Result<&[u8], Never>
-        ensures front { IfOk result
-            (λ shown. Told (segment_view self.old).told (IsFront want shown.now)) }
+        ensures prefix { IfOk result
+            (λ shown. IfKnown (segment_view self.old).known (IsPrefix want shown.now)) }
         ensures bounded { IfOk result (λ shown. length shown.now ≤ (segment_view self.old).bound) }
-        ensures enough { IsTrue (segment_view self.old).lends_whole →
-            IfOk result (λ shown. Told (segment_view self.old).told (IsEnough want shown.now)) }
+        ensures enough { IsTrue (segment_view self.old).zero_copy →
+            IfOk result (λ shown. IfKnown (segment_view self.old).known (IsEnough want shown.now)) }
         ensures segment { IfOk result
             (λ shown. length shown.now ≡ min want (length (shown_segment self.old))) }
         ensures* after_borrow { sem 𝓛 (Rests
             (the_row (record { mir = named 1; lft = [] })) self.entry
             (λ new. MatchResult result
             (λ shown. Shows shown.now (segment_view self.old) (segment_view new))
-            (λ _. Breaks (segment_view self.old) (segment_view new)))) }
+            (λ _. ReaderFails (segment_view self.old) (segment_view new)))) }
     {
         self.pass_empty();
         let shown = want.min(self.current.len());
@@ -113,27 +113,27 @@ impl Source for SegmentReader<'_> {
         steps::step_out(&mut self.steps);
     }
 
-    ghost told_within_bound = { λ reader xs is. Prim.search rules };
+    ghost known_within_bound = { λ reader xs is. Prim.search rules };
 }
 
 /// It lends what it shows, always `Long`.
 impl<'de> Read<'de> for SegmentReader<'de> {
     fn fill<'short>(&'short mut self, want: usize) -> Result<Reference<'de, 'short>, Never>
-        ensures front { IfOk result
-            (λ shown. Told (segment_view self.old).told (IsFront want (bytes_of shown))) }
+        ensures prefix { IfOk result
+            (λ shown. IfKnown (segment_view self.old).known (IsPrefix want (bytes_of shown))) }
         ensures bounded { IfOk result
             (λ shown. length (bytes_of shown) ≤ (segment_view self.old).bound) }
-        ensures enough { IsTrue (segment_view self.old).lends_whole → IfOk result
-            (λ shown. Told (segment_view self.old).told (IsEnough want (bytes_of shown))) }
+        ensures enough { IsTrue (segment_view self.old).zero_copy → IfOk result
+            (λ shown. IfKnown (segment_view self.old).known (IsEnough want (bytes_of shown))) }
         ensures long { IfOk result IsLong }
-        ensures place { IfOk result (λ shown. IsPart shown (segment_view self.old)) }
+        ensures place { IfOk result (λ shown. IsSubslice shown (segment_view self.old)) }
         ensures segment { IfOk result
             (λ shown. length (bytes_of shown) ≡ min want (length (shown_segment self.old))) }
         ensures* after_borrow { sem 𝓛 (Rests
             (the_row (record { mir = named 1; lft = [] })) self.entry
             (λ new. MatchResult result
             (λ shown. Shows (bytes_of shown) (segment_view self.old) (segment_view new))
-            (λ _. Breaks (segment_view self.old) (segment_view new)))) }
+            (λ _. ReaderFails (segment_view self.old) (segment_view new)))) }
     {
         self.pass_empty();
         let shown = want.min(self.current.len());
@@ -145,7 +145,7 @@ impl<'de> Read<'de> for SegmentReader<'de> {
 impl<'de> FillLong for SegmentReader<'de> {
     type Long = &'de [u8];
 
-    ghost never_lends = { false };
+    ghost never_borrows = { false };
 
     fn fill_long(&mut self, want: usize) -> Result<Option<&'de [u8]>, Never>
         ensures bounded { IfOk result (λ shown. IfSome shown
@@ -153,11 +153,11 @@ impl<'de> FillLong for SegmentReader<'de> {
         ensures fills { IfOk result (λ shown. IfSome shown (λ long.
             FillsLong want long.now (segment_view self.old) (segment_view self.new))) }
         ensures none { IfOk result (λ shown. IfNone shown
-            (LendsNone (segment_view self.old) (segment_view self.new))) }
+            (BorrowsNone (segment_view self.old) (segment_view self.new))) }
         ensures never { IsTrue false → IfOk result (λ shown. IfSome shown
             (λ long. long.now ≡ [])) }
         ensures failed { IfErr result
-            (λ _. Breaks (segment_view self.old) (segment_view self.new)) }
+            (λ _. ReaderFails (segment_view self.old) (segment_view self.new)) }
         ensures segment { IfOk result (λ shown. IsSome shown × IfSome shown
             (λ long. length long.now ≡ min want (length (shown_segment self.old)))) }
     {

@@ -11,23 +11,23 @@ pub trait Write {
     type Error: Debug + Drop;
 
     // Whether a push that fails appends nothing.
-    ghost whole: { Bool };
+    ghost atomic: { Bool };
 
-    // What the writer tells of itself as it stands: the bytes that it holds, where it tells them,
-    // and how often it failed.
+    // What the writer reports of itself as it stands: the bytes that it holds, where it reports
+    // them, and how often it failed.
     ghost view: { Self → Output };
 
     /// Appends `input`.
     ///
     /// # Errors
     ///
-    /// The writer's own error, which it counts. A whole writer then holds what it held before, and
-    /// of another one nothing is said.
+    /// The writer's own error, which it counts. An atomic writer then holds what it held before,
+    /// and of another one nothing is said.
     fn push(&mut self, input: &[u8]) -> Result<(), Self::Error>
         ensures appends { OnOk result
             (Appends input.now (view self.old).written (view self.new).written) }
         ensures counts { OnOk result ((view self.new).failures ≡ (view self.old).failures) }
         ensures failed { OnErr result (Failed (view self.old).failures (view self.new).failures) }
-        ensures whole { IsTrue whole →
+        ensures whole { IsTrue atomic →
             OnErr result (Keeps (view self.old).written (view self.new).written) };
 }

@@ -11,7 +11,7 @@ use Rattle.cbor4ii_items.specs.Laws.Written.{writes_then, writes_err, writes_as}
 use Rattle.cbor4ii_ser.specs.declared.error.EncodeError.TheVariants.{Core, Custom}
 use Rattle.cbor4ii_ser.specs.Serializing.{Serializes}
 use Rattle.cbor4ii_ser.specs.Pieces.{Pending, nothing_yet, written, after, last_bytes, text_bytes}
-use Rattle.cbor4ii_ser.specs.TextState.{TextSeen, Wrote, Flushes, Pends, outcome, text_item}
+use Rattle.cbor4ii_ser.specs.TextState.{TextSeen, Wrote, Flushes, Pends, outcome, text_encoding}
 use Rattle.cbor4ii_ser.specs.TextState.{unended_bytes}
 
 flushed_on : {E : Type 0} {whole : Bool} (ps : List (List ℕ)) (p q : Pending) (o m n : Output)
@@ -42,32 +42,34 @@ none_some None is h = cc
 none_some (Some e) is h = cc
 
 module _ {E : Type 0} {whole : Bool} where
-  pub collected_ok : (refuses : Bool) (ps : List (List ℕ)) {o n : Output} {u : Unit {0}}
-      → refuses ≡ false → Writes {E = core.EncodeError E} whole (text_bytes ps) o n (Ok u)
-      → Serializes {T = Unit {0}} {E = E} whole (text_item refuses ps) o n (Ok tt)
+  pub collected_ok : (fails_itself : Bool) (ps : List (List ℕ)) {o n : Output} {u : Unit {0}}
+      → fails_itself ≡ false → Writes {E = core.EncodeError E} whole (text_bytes ps) o n (Ok u)
+      → Serializes {T = Unit {0}} {E = E} whole (text_encoding fails_itself ps) o n (Ok tt)
   collected_ok true ps is w = absurd (cc)
   collected_ok false ps is w =
-      record { appends = w.appends; counts = w.counts; failed = tt; front = λ whole. tt }
+      record { appends = w.appends; counts = w.counts; failed = tt; prefix = λ whole. tt }
 
   -- the writer failed at the end of the text
-  pub collected_err : (refuses : Bool) (ps : List (List ℕ)) {o n : Output} {e : core.EncodeError E}
-      → refuses ≡ false → Writes {T = Unit {0}} whole (text_bytes ps) o n (Err e)
-      → Serializes {T = Unit {0}} {E = E} whole (text_item refuses ps) o n (Err (Core e))
+  pub collected_err : (fails_itself : Bool) (ps : List (List ℕ)) {o n : Output} {e :
+      core.EncodeError E}
+      → fails_itself ≡ false → Writes {T = Unit {0}} whole (text_bytes ps) o n (Err e)
+      → Serializes {T = Unit {0}} {E = E} whole (text_encoding fails_itself ps) o n (Err (Core e))
   collected_err true ps is w = absurd (cc)
   collected_err false ps is w =
-      record { appends = tt; counts = tt; failed = w.failed; front = w.front }
+      record { appends = tt; counts = tt; failed = w.failed; prefix = w.prefix }
 
   -- the writer failed in one of the pieces
-  pub collected_failed : (refuses : Bool) {ps : List (List ℕ)} {a b : TextSeen (core.EncodeError E)}
+  pub collected_failed : (fails_itself : Bool) {ps : List (List ℕ)} {a b : TextSeen
+      (core.EncodeError E)}
       (e : core.EncodeError E) → b.failure ≡ Some e → a.failure ≡ None → a.pending ≡ nothing_yet
       → Wrote whole ps a b → Serializes {T = Unit {0}}
-      {E = E} whole (text_item refuses ps) a.output b.output (Err (Core e))
+      {E = E} whole (text_encoding fails_itself ps) a.output b.output (Err (Core e))
   collected_failed true {ps = ps} {a = a} {b = b} e is fine start w =
       let at : Writes whole (unended_bytes ps) a.output b.output (Err e) =
       subst (λ z. Writes whole (unended_bytes ps) a.output b.output (outcome z)) is
       (subst (λ z. Writes whole (written z ps) a.output b.output (outcome b.failure)) start
       (w.writes fine)) in
-      record { appends = tt; counts = tt; failed = at.failed; front = at.front }
+      record { appends = tt; counts = tt; failed = at.failed; prefix = at.prefix }
   collected_failed false {ps = ps} {a = a} {b = b} e is fine start w =
       let at : Writes whole (written a.pending ps) a.output b.output (outcome (Some e)) =
       subst (λ z. Writes whole (written a.pending ps) a.output b.output (outcome z)) is
@@ -76,13 +78,13 @@ module _ {E : Type 0} {whole : Bool} where
       (writes_as (Err e) (ap (λ z. written z ps ++ last_bytes (after z ps)) start)
       (writes_err (last_bytes (after a.pending ps)) at))
 
-  -- it refused by itself
-  pub collected_refused : (refuses : Bool) {ps : List (List ℕ)}
+  -- it rejected by itself
+  pub collected_rejected : (fails_itself : Bool) {ps : List (List ℕ)}
       {a b : TextSeen (core.EncodeError E)} (text : Bor (List ℕ)) → text.now ≡ codes "text refused"
       → b.failure ≡ None → a.failure ≡ None → a.pending ≡ nothing_yet
-      → (refuses ≡ true) ⊎ IsSome b.failure → Wrote whole ps a b → Serializes {T = Unit {0}}
-      {E = E} whole (text_item refuses ps) a.output b.output (Err (Custom text))
-  collected_refused true {ps = ps} {a = a} {b = b} text said is fine start why w =
+      → (fails_itself ≡ true) ⊎ IsSome b.failure → Wrote whole ps a b → Serializes {T = Unit {0}}
+      {E = E} whole (text_encoding fails_itself ps) a.output b.output (Err (Custom text))
+  collected_rejected true {ps = ps} {a = a} {b = b} text said is fine start why w =
       let at : Writes whole (unended_bytes ps) a.output b.output (Ok tt) =
       subst (λ z. Writes whole (unended_bytes ps) a.output b.output (outcome z)) is
       (subst (λ z. Writes whole (written z ps) a.output b.output (outcome b.failure)) start
@@ -91,9 +93,9 @@ module _ {E : Type 0} {whole : Bool} where
         appends = tt;
         counts = tt;
         failed = ((at.appends, said), at.counts);
-        front = λ whole held told.
-            (unended_bytes ps, take-length (unended_bytes ps), at.appends held told);
+        prefix = λ whole held known.
+            (unended_bytes ps, take-length (unended_bytes ps), at.appends held known);
       }
-  collected_refused false text said is fine start (inl h) w = absurd (cc)
-  collected_refused false {b = b} text said is fine start (inr h) w =
+  collected_rejected false text said is fine start (inl h) w = absurd (cc)
+  collected_rejected false {b = b} text said is fine start (inr h) w =
       absurd (none_some b.failure is h)

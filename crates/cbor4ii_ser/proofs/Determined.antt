@@ -3,34 +3,35 @@ use Rattle.std.proofs.Common.{◌≡◌, ℕ, ◌+◌, ◌<◌, List, [], ◌∷
 use Rattle.std.proofs.Common.{◌∙◌, inl, inr, arith, append_assoc, length-append, subst}
 use Rattle.cbor4ii_items.specs.Strings.{joined, opening, closing}
 use Rattle.cbor4ii_ser.specs.Pieces.{chunk_most, without_empty, IsFull, IsChunkOf, IsCut, Chunks}
-use Rattle.cbor4ii_ser.specs.Pieces.{one, several, counted_chunks}
+use Rattle.cbor4ii_ser.specs.Pieces.{one, several, definite_chunks}
 
 pub joined_append : (ps qs : List (List ℕ)) → joined (ps ++ qs) ≡ joined ps ++ joined qs
 joined_append [] qs = refl
 joined_append (p ∷ ps) qs =
     ap (λ z. p ++ z) (joined_append ps qs) ∙ sym (append_assoc p (joined ps) (joined qs))
 
--- two fronts of one list: they are the same, or one goes on behind the other
-data Fronts (a b c d : List (List ℕ)) : Type 0 where
-  same : a ≡ c → b ≡ d → Fronts a b c d
-  longer : (x : List ℕ) (t : List (List ℕ)) → c ≡ a ++ (x ∷ t) → b ≡ x ∷ (t ++ d) → Fronts a b c d
-  shorter : (x : List ℕ) (t : List (List ℕ)) → a ≡ c ++ (x ∷ t) → d ≡ x ∷ (t ++ b) → Fronts a b c d
+-- two prefixes of one list: they are the same, or one goes on after the other
+data Prefixes (a b c d : List (List ℕ)) : Type 0 where
+  same : a ≡ c → b ≡ d → Prefixes a b c d
+  longer : (x : List ℕ) (t : List (List ℕ)) → c ≡ a ++ (x ∷ t) → b ≡ x ∷ (t ++ d) → Prefixes a b c d
+  shorter : (x : List ℕ) (t : List (List ℕ)) → a ≡ c ++ (x ∷ t) → d ≡ x ∷ (t ++ b) →
+      Prefixes a b c d
 
-fronts_more : (x y : List ℕ) (a b c d : List (List ℕ)) → x ≡ y → Fronts a b c d
-    → Fronts (x ∷ a) b (y ∷ c) d
-fronts_more x y a b c d e (same p q) = same (ap₂ (λ u v. u ∷ v) e p) q
-fronts_more x y a b c d e (longer z t p q) = longer z t (ap₂ (λ u v. u ∷ v) (sym e) p) q
-fronts_more x y a b c d e (shorter z t p q) = shorter z t (ap₂ (λ u v. u ∷ v) e p) q
+prefixes_more : (x y : List ℕ) (a b c d : List (List ℕ)) → x ≡ y → Prefixes a b c d
+    → Prefixes (x ∷ a) b (y ∷ c) d
+prefixes_more x y a b c d e (same p q) = same (ap₂ (λ u v. u ∷ v) e p) q
+prefixes_more x y a b c d e (longer z t p q) = longer z t (ap₂ (λ u v. u ∷ v) (sym e) p) q
+prefixes_more x y a b c d e (shorter z t p q) = shorter z t (ap₂ (λ u v. u ∷ v) e p) q
 
-fronts : (a b c d : List (List ℕ)) → a ++ b ≡ c ++ d → Fronts a b c d
-fronts [] b [] d e = same refl e
-fronts [] b (y ∷ c) d e = longer y c refl e
-fronts (x ∷ a) b [] d e = shorter x a refl (sym e)
-fronts (x ∷ a) b (y ∷ c) d e =
-    fronts_more x y a b c d (let h : x ≡ y = cc in h)
-    (fronts a b c d (let h : a ++ b ≡ c ++ d = cc in h))
+prefixes : (a b c d : List (List ℕ)) → a ++ b ≡ c ++ d → Prefixes a b c d
+prefixes [] b [] d e = same refl e
+prefixes [] b (y ∷ c) d e = longer y c refl e
+prefixes (x ∷ a) b [] d e = shorter x a refl (sym e)
+prefixes (x ∷ a) b (y ∷ c) d e =
+    prefixes_more x y a b c d (let h : x ≡ y = cc in h)
+    (prefixes a b c d (let h : a ++ b ≡ c ++ d = cc in h))
 
--- a run that goes on behind a full chunk is too long
+-- a run that goes on after a full chunk is too long
 too_long : (chunk other : List ℕ) (run more t : List (List ℕ)) (x : List ℕ) (rest : List (List ℕ))
     → IsChunkOf chunk run → IsChunkOf other more → more ≡ run ++ (x ∷ t) → IsFull chunk (x ∷ rest)
     → ⊥
@@ -58,7 +59,7 @@ cut_same pieces [] [] p q = refl
 cut_same pieces [] (d ∷ ds) p q = absurd (no_run q.0 q.1 (sym p ∙ q.2) q.3.some)
 cut_same pieces (c ∷ cs) [] p q = absurd (no_run p.0 p.1 (sym q ∙ p.2) p.3.some)
 cut_same pieces (c ∷ cs) (d ∷ ds) p q =
-    elim (fronts p.0 p.1 q.0 q.1 (sym p.2 ∙ q.2)) [
+    elim (prefixes p.0 p.1 q.0 q.1 (sym p.2 ∙ q.2)) [
       | same e f ↦ ap₂ (λ u v. u ∷ v) (p.3.joins ∙ (ap joined e ∙ sym q.3.joins))
           (cut_same q.1 cs ds (subst (λ z. IsCut z cs) f p.5) q.5)
       | longer x t e f ↦
@@ -74,5 +75,5 @@ chunks_same pieces a b (one h e) (one k f) = e ∙ sym f
 chunks_same pieces a b (one h e) (several cs k cut f) = absurd (omega (arith, h, k))
 chunks_same pieces a b (several cs h cut e) (one k f) = absurd (omega (arith, h, k))
 chunks_same pieces a b (several cs h cut e) (several ds k other f) =
-    e ∙ (ap (λ z. opening 3 ++ counted_chunks z ++ closing)
+    e ∙ (ap (λ z. opening 3 ++ definite_chunks z ++ closing)
     (cut_same (without_empty pieces) cs ds cut other) ∙ sym f)

@@ -4,9 +4,9 @@ use Rattle.std.proofs.Common.{length, refl, sym, ap, ◌∙◌, inl, inr, arith,
 use Rattle.std.proofs.Common.{length-append, subst}
 use Rattle.std.proofs.lemmas.List.{append-nil}
 use Rattle.std.proofs.lemmas.Bool.{leb-false, leb-true}
-use Rattle.cbor4ii_items.specs.Strings.{joined, counted_string, opening, closing}
+use Rattle.cbor4ii_items.specs.Strings.{joined, definite_string, opening, closing}
 use Rattle.cbor4ii_ser.specs.Pieces.{chunk_most, without_empty, IsFull, IsCut, Chunks, one, several}
-use Rattle.cbor4ii_ser.specs.Pieces.{counted_chunks, Pending, fits_behind, run_bytes, long_bytes}
+use Rattle.cbor4ii_ser.specs.Pieces.{definite_chunks, Pending, fits_after, run_bytes, long_bytes}
 use Rattle.cbor4ii_ser.specs.Pieces.{piece_bytes, piece_pending, held, written, after, last_bytes}
 use Rattle.cbor4ii_ser.specs.Pieces.{text_bytes}
 use Rattle.cbor4ii_ser.proofs.Determined.{joined_append}
@@ -28,30 +28,30 @@ none_without_empty ([] ∷ ps) e = none_without_empty ps e
 none_without_empty ((b ∷ bs) ∷ ps) e = absurd (cc)
 
 -- what is still to be written, and the end
-abbrev spelled : Pending → List (List ℕ) → List ℕ
-spelled p ps = written p ps ++ last_bytes (after p ps)
+abbrev of_tree : Pending → List (List ℕ) → List ℕ
+of_tree p ps = written p ps ++ last_bytes (after p ps)
 
-abbrev spelled_at : Bool → Pending → List ℕ → List (List ℕ) → List ℕ
-spelled_at t p a ps =
+abbrev encoded_at : Bool → Pending → List ℕ → List (List ℕ) → List ℕ
+encoded_at t p a ps =
     (piece_bytes t p a ++ written (piece_pending t p a) ps)
     ++ last_bytes (after (piece_pending t p a) ps)
 
-spelled_cons : (p : Pending) (a : List ℕ) (ps : List (List ℕ))
-    → spelled p (a ∷ ps) ≡ spelled_at (fits_behind p a) p a ps
+encoded_cons : (p : Pending) (a : List ℕ) (ps : List (List ℕ))
+    → of_tree p (a ∷ ps) ≡ encoded_at (fits_after p a) p a ps
 unfolding written after
-spelled_cons p a ps = refl
+encoded_cons p a ps = refl
 
-spelled_nil : (p : Pending) → spelled p [] ≡ last_bytes p
+encoded_nil : (p : Pending) → of_tree p [] ≡ last_bytes p
 unfolding written after
-spelled_nil p = refl
+encoded_nil p = refl
 
 abbrev run_of : Bool → List ℕ → Pending
 run_of begun run = record { begun = begun; run = run }
 
--- chunks of these pieces, and the bytes behind the beginning
+-- chunks of these pieces, and the bytes after the beginning
 abbrev Cuts : List (List ℕ) → List ℕ → Type 0
 Cuts pieces bytes =
-    (chunks : List (List ℕ)) × IsCut pieces chunks × (bytes ≡ counted_chunks chunks ++ closing)
+    (chunks : List (List ℕ)) × IsCut pieces chunks × (bytes ≡ definite_chunks chunks ++ closing)
 
 cuts_as : {ps qs : List (List ℕ)} {a b : List ℕ} → ps ≡ qs → a ≡ b → Cuts ps a → Cuts qs b
 cuts_as {ps = ps} {qs = qs} {a = a} {b = b} e f p =
@@ -68,8 +68,8 @@ with_run (f ∷ fs) (b ∷ bs) rest bytes is empty short full p =
     let some : 0 < length (f ∷ fs) = omega arith in (
       (b ∷ bs) ∷ p.0,
       (f ∷ fs, rest, refl, record { some = some; joins = is; short = inl short }, full, p.1),
-      ap (λ z. counted_string 3 (b ∷ bs) ++ z) p.2
-          ∙ sym (append_assoc (counted_string 3 (b ∷ bs)) (counted_chunks p.0) closing),
+      ap (λ z. definite_string 3 (b ∷ bs) ++ z) p.2
+          ∙ sym (append_assoc (definite_string 3 (b ∷ bs)) (definite_chunks p.0) closing),
     )
 
 with_held : (us rest : List (List ℕ)) (bytes : List ℕ) → length (joined us) ≤ chunk_most
@@ -81,7 +81,7 @@ with_held us rest bytes short full p =
 
 -- a long piece, as a chunk before others
 with_long : (a : List ℕ) (rest : List (List ℕ)) (bytes : List ℕ) → IsFull a rest → Cuts rest bytes
-    → Cuts (a ∷ rest) (counted_string 3 a ++ bytes)
+    → Cuts (a ∷ rest) (definite_string 3 a ++ bytes)
 with_long a rest bytes full p =
     let some : 0 < length (a ∷ []) = omega arith in (
       a ∷ p.0,
@@ -93,8 +93,8 @@ with_long a rest bytes full p =
         full,
         p.1,
       ),
-      ap (λ z. counted_string 3 a ++ z) p.2
-          ∙ sym (append_assoc (counted_string 3 a) (counted_chunks p.0) closing),
+      ap (λ z. definite_string 3 a ++ z) p.2
+          ∙ sym (append_assoc (definite_string 3 a) (definite_chunks p.0) closing),
     )
 
 full_long : (a : List ℕ) (rest : List (List ℕ)) → chunk_most < length a → IsFull a rest
@@ -104,42 +104,42 @@ full_long a (p ∷ rest) h = omega (arith, h, length-append a p)
 joined_one : (us : List (List ℕ)) (a : List ℕ) → joined (us ++ (a ∷ [])) ≡ joined us ++ a
 joined_one us a = joined_append us (a ∷ []) ∙ ap (λ z. joined us ++ z) (append-nil a)
 
--- a piece that does not fit behind the run
-behind : (u : Bool) (us : List (List ℕ)) (b : ℕ) (bs : List ℕ) (ps : List (List ℕ))
+-- a piece that does not fit after the run
+trailing : (u : Bool) (us : List (List ℕ)) (b : ℕ) (bs : List ℕ) (ps : List (List ℕ))
     → nat_le (length (b ∷ bs)) chunk_most ≡ u → length (joined us) ≤ chunk_most
     → chunk_most < length (joined us) + length (b ∷ bs)
     → ((vs : List (List ℕ)) → length (joined vs) ≤ chunk_most
-    → Cuts (without_empty vs ++ without_empty ps) (spelled (run_of true (joined vs)) ps))
+    → Cuts (without_empty vs ++ without_empty ps) (of_tree (run_of true (joined vs)) ps))
     → Cuts (without_empty us ++ without_empty ((b ∷ bs) ∷ ps))
     ((run_bytes (joined us) ++ long_bytes u (b ∷ bs))
-    ++ spelled (run_of true (held u (b ∷ bs))) ps)
-behind true us b bs ps is short long rec =
+    ++ of_tree (run_of true (held u (b ∷ bs))) ps)
+trailing true us b bs ps is short long rec =
     let fit : length (joined ((b ∷ bs) ∷ [])) ≤ chunk_most =
     omega (arith, leb-true (length (b ∷ bs)) chunk_most is, ap length (append-nil (b ∷ bs))) in
     let full : chunk_most < length (joined us ++ (b ∷ bs)) =
     omega (arith, long, length-append (joined us) (b ∷ bs)) in
-    cuts_as refl (sym (append_assoc (run_bytes (joined us)) [] (spelled (run_of true (b ∷ bs)) ps)))
-    (with_held us ((b ∷ bs) ∷ without_empty ps) (spelled (run_of true (b ∷ bs)) ps) short full
-    (cuts_as refl (ap (λ z. spelled (run_of true z) ps) (append-nil (b ∷ bs)))
+    cuts_as refl (sym (append_assoc (run_bytes (joined us)) [] (of_tree (run_of true (b ∷ bs)) ps)))
+    (with_held us ((b ∷ bs) ∷ without_empty ps) (of_tree (run_of true (b ∷ bs)) ps) short full
+    (cuts_as refl (ap (λ z. of_tree (run_of true z) ps) (append-nil (b ∷ bs)))
     (rec ((b ∷ bs) ∷ []) fit)))
-behind false us b bs ps is short long rec =
+trailing false us b bs ps is short long rec =
     let big : chunk_most < length (b ∷ bs) = leb-false (length (b ∷ bs)) chunk_most is in
     let full : chunk_most < length (joined us ++ (b ∷ bs)) =
     omega (arith, long, length-append (joined us) (b ∷ bs)) in
     let none : 0 ≤ chunk_most = omega arith in
-    cuts_as refl (sym (append_assoc (run_bytes (joined us)) (counted_string 3 (b ∷ bs))
-    (spelled (run_of true []) ps)))
+    cuts_as refl (sym (append_assoc (run_bytes (joined us)) (definite_string 3 (b ∷ bs))
+    (of_tree (run_of true []) ps)))
     (with_held us ((b ∷ bs) ∷ without_empty ps)
-    (counted_string 3 (b ∷ bs) ++ spelled (run_of true []) ps) short full
-    (with_long (b ∷ bs) (without_empty ps) (spelled (run_of true []) ps)
+    (definite_string 3 (b ∷ bs) ++ of_tree (run_of true []) ps) short full
+    (with_long (b ∷ bs) (without_empty ps) (of_tree (run_of true []) ps)
     (full_long (b ∷ bs) (without_empty ps) big) (rec [] none)))
 
 cut_at : (t : Bool) (us : List (List ℕ)) (a : List ℕ) (ps : List (List ℕ))
-    → fits_behind (run_of true (joined us)) a ≡ t → length (joined us) ≤ chunk_most
+    → fits_after (run_of true (joined us)) a ≡ t → length (joined us) ≤ chunk_most
     → ((vs : List (List ℕ)) → length (joined vs) ≤ chunk_most
-    → Cuts (without_empty vs ++ without_empty ps) (spelled (run_of true (joined vs)) ps))
+    → Cuts (without_empty vs ++ without_empty ps) (of_tree (run_of true (joined vs)) ps))
     → Cuts (without_empty us ++ without_empty (a ∷ ps))
-    (spelled_at t (run_of true (joined us)) a ps)
+    (encoded_at t (run_of true (joined us)) a ps)
 cut_at true us a ps is short rec =
     let fit : length (joined (us ++ (a ∷ []))) ≤ chunk_most =
     omega (
@@ -151,7 +151,7 @@ cut_at true us a ps is short rec =
     cuts_as (ap (λ z. z ++ without_empty ps) (without_empty_append us (a ∷ []))
     ∙ (append_assoc (without_empty us) (without_empty (a ∷ [])) (without_empty ps)
     ∙ ap (λ z. without_empty us ++ z) (sym (without_empty_append (a ∷ []) ps))))
-    (ap (λ z. spelled (run_of true z) ps) (joined_one us a)) (rec (us ++ (a ∷ [])) fit)
+    (ap (λ z. of_tree (run_of true z) ps) (joined_one us a)) (rec (us ++ (a ∷ [])) fit)
 cut_at false us [] ps is short rec =
     let long : chunk_most < length (joined us) + 0 =
     leb-false (length (joined us) + 0) chunk_most is in
@@ -163,28 +163,28 @@ cut_at false us (b ∷ bs) ps is short rec =
     cuts_as refl (sym (append_assoc (run_bytes (joined us) ++ long_bytes u (b ∷ bs))
     (written (run_of true (held u (b ∷ bs))) ps)
     (last_bytes (after (run_of true (held u (b ∷ bs))) ps))))
-    (behind u us b bs ps refl short long rec)
+    (trailing u us b bs ps refl short long rec)
 
 -- where a text of indefinite length has begun
 cut_on : (ps us : List (List ℕ)) → length (joined us) ≤ chunk_most
-    → Cuts (without_empty us ++ without_empty ps) (spelled (run_of true (joined us)) ps)
+    → Cuts (without_empty us ++ without_empty ps) (of_tree (run_of true (joined us)) ps)
 cut_on [] us short =
-    cuts_as refl (sym (spelled_nil (run_of true (joined us))))
+    cuts_as refl (sym (encoded_nil (run_of true (joined us))))
     (with_held us [] closing short tt ([], refl, refl))
 cut_on (a ∷ ps) us short =
-    cuts_as refl (sym (spelled_cons (run_of true (joined us)) a ps))
-    (cut_at (fits_behind (run_of true (joined us)) a) us a ps refl short (λ vs h. cut_on ps vs h))
+    cuts_as refl (sym (encoded_cons (run_of true (joined us)) a ps))
+    (cut_at (fits_after (run_of true (joined us)) a) us a ps refl short (λ vs h. cut_on ps vs h))
 
 -- where none has begun
-begun_at : (run a : List ℕ) (ps : List (List ℕ)) → spelled_at false (run_of false run) a ps
-    ≡ opening 3 ++ spelled_at false (run_of true run) a ps
+begun_at : (run a : List ℕ) (ps : List (List ℕ)) → encoded_at false (run_of false run) a ps
+    ≡ opening 3 ++ encoded_at false (run_of true run) a ps
 begun_at run a ps = refl
 
 chunks_at : (t : Bool) (us : List (List ℕ)) (a : List ℕ) (ps : List (List ℕ))
-    → fits_behind (run_of true (joined us)) a ≡ t → length (joined us) ≤ chunk_most
+    → fits_after (run_of true (joined us)) a ≡ t → length (joined us) ≤ chunk_most
     → ((vs : List (List ℕ)) → length (joined vs) ≤ chunk_most
-    → Chunks (vs ++ ps) (spelled (run_of false (joined vs)) ps))
-    → Chunks (us ++ (a ∷ ps)) (spelled_at t (run_of false (joined us)) a ps)
+    → Chunks (vs ++ ps) (of_tree (run_of false (joined vs)) ps))
+    → Chunks (us ++ (a ∷ ps)) (encoded_at t (run_of false (joined us)) a ps)
 chunks_at true us a ps is short rec =
     let fit : length (joined (us ++ (a ∷ []))) ≤ chunk_most =
     omega (
@@ -193,8 +193,8 @@ chunks_at true us a ps is short rec =
       ap length (joined_one us a),
       length-append (joined us) a,
     ) in
-    subst (λ z. Chunks z (spelled (run_of false (joined us ++ a)) ps)) (append_assoc us (a ∷ []) ps)
-    (subst (λ z. Chunks ((us ++ (a ∷ [])) ++ ps) (spelled (run_of false z) ps)) (joined_one us a)
+    subst (λ z. Chunks z (of_tree (run_of false (joined us ++ a)) ps)) (append_assoc us (a ∷ []) ps)
+    (subst (λ z. Chunks ((us ++ (a ∷ [])) ++ ps) (of_tree (run_of false z) ps)) (joined_one us a)
     (rec (us ++ (a ∷ [])) fit))
 chunks_at false us a ps is short rec =
     let long : chunk_most < length (joined us) + length a =
@@ -210,17 +210,17 @@ chunks_at false us a ps is short rec =
     let p = cut_at false us a ps is short (λ vs h. cut_on ps vs h) in
     several p.0 total (subst (λ z. IsCut z p.0) (sym (without_empty_append us (a ∷ ps))) p.1)
     (begun_at (joined us) a ps ∙ (ap (λ z. opening 3 ++ z) p.2
-    ∙ sym (append_assoc (opening 3) (counted_chunks p.0) closing)))
+    ∙ sym (append_assoc (opening 3) (definite_chunks p.0) closing)))
 
 chunks_on : (ps us : List (List ℕ)) → length (joined us) ≤ chunk_most
-    → Chunks (us ++ ps) (spelled (run_of false (joined us)) ps)
+    → Chunks (us ++ ps) (of_tree (run_of false (joined us)) ps)
 chunks_on [] us short =
     let is : joined (us ++ []) ≡ joined us = ap joined (append-nil us) in
     let fit : length (joined (us ++ [])) ≤ chunk_most = omega (arith, ap length is, short) in
-    one fit (spelled_nil (run_of false (joined us)) ∙ ap (counted_string 3) (sym is))
+    one fit (encoded_nil (run_of false (joined us)) ∙ ap (definite_string 3) (sym is))
 chunks_on (a ∷ ps) us short =
-    subst (Chunks (us ++ (a ∷ ps))) (sym (spelled_cons (run_of false (joined us)) a ps))
-    (chunks_at (fits_behind (run_of false (joined us)) a) us a ps refl short
+    subst (Chunks (us ++ (a ∷ ps))) (sym (encoded_cons (run_of false (joined us)) a ps))
+    (chunks_at (fits_after (run_of false (joined us)) a) us a ps refl short
     (λ vs h. chunks_on ps vs h))
 
 -- what is written is a text of these pieces

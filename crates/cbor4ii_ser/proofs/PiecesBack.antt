@@ -7,13 +7,13 @@ use Rattle.std.proofs.Math.Seq.{drop-append_seam}
 use Rattle.std.proofs.lemmas.List.{append-nil}
 use Rattle.std.proofs.lemmas.List.Elements.{All-head, All-tail}
 use Rattle.std.proofs.lemmas.Str.{IsUtf8-nil, IsUtf8-append}
-use Rattle.cbor4ii_items.specs.Strings.{joined, counted_string, opening, closing}
-use Rattle.cbor4ii_items.specs.Strings.{ReadsCountedString, ReadsChunks, ReadsOpenString}
+use Rattle.cbor4ii_items.specs.Strings.{joined, definite_string, opening, closing}
+use Rattle.cbor4ii_items.specs.Strings.{ReadsDefiniteString, ReadsChunks, ReadsIndefiniteString}
 use Rattle.cbor4ii_items.specs.Strings.{ReadsTextAs, chunk_cost}
 use Rattle.cbor4ii_items.specs.ReadBack.{ReadsBack}
-use Rattle.cbor4ii_items.specs.Laws.LeavesBack.{counted_back}
+use Rattle.cbor4ii_items.specs.Laws.LeavesBack.{definite_back}
 use Rattle.cbor4ii_ser.specs.Pieces.{without_empty, IsChunkOf, IsCut, Chunks, one, several}
-use Rattle.cbor4ii_ser.specs.Pieces.{counted_chunks}
+use Rattle.cbor4ii_ser.specs.Pieces.{definite_chunks}
 use Rattle.cbor4ii_ser.proofs.Determined.{joined_append}
 use Rattle.cbor4ii_ser.proofs.Greedy.{joined_without_empty}
 
@@ -34,28 +34,28 @@ utf8_joined (p ∷ ps) h =
     IsUtf8-append p (joined ps) (All-head IsUtf8 p ps h) (utf8_joined ps (All-tail IsUtf8 p ps h))
 
 chunks_back : (cs : List (List ℕ)) (rest : List ℕ) → AllShort cs
-    → ReadsChunks 3 cs (counted_chunks cs ++ rest) (length (counted_chunks cs))
+    → ReadsChunks 3 cs (definite_chunks cs ++ rest) (length (definite_chunks cs))
 chunks_back [] rest h = refl
 chunks_back (c ∷ cs) rest h =
-    let whole : (counted_string 3 c ++ counted_chunks cs) ++ rest ≡ counted_string 3 c
-    ++ (counted_chunks cs ++ rest) =
-    append_assoc (counted_string 3 c) (counted_chunks cs) rest in
-    let left : drop (length (counted_string 3 c))
-    ((counted_string 3 c ++ counted_chunks cs) ++ rest) ≡ counted_chunks cs ++ rest =
-    ap (drop (length (counted_string 3 c))) whole
-    ∙ drop-append_seam (counted_string 3 c) (counted_chunks cs ++ rest) in (
-      length (counted_string 3 c),
-      length (counted_chunks cs),
-      subst (λ z. ReadsCountedString 3 z c (length (counted_string 3 c))) (sym whole)
-          (counted_back 3 c (counted_chunks cs ++ rest) h.0),
-      subst (λ z. ReadsChunks 3 cs z (length (counted_chunks cs))) (sym left)
+    let whole : (definite_string 3 c ++ definite_chunks cs) ++ rest ≡ definite_string 3 c
+    ++ (definite_chunks cs ++ rest) =
+    append_assoc (definite_string 3 c) (definite_chunks cs) rest in
+    let left : drop (length (definite_string 3 c))
+    ((definite_string 3 c ++ definite_chunks cs) ++ rest) ≡ definite_chunks cs ++ rest =
+    ap (drop (length (definite_string 3 c))) whole
+    ∙ drop-append_seam (definite_string 3 c) (definite_chunks cs ++ rest) in (
+      length (definite_string 3 c),
+      length (definite_chunks cs),
+      subst (λ z. ReadsDefiniteString 3 z c (length (definite_string 3 c))) (sym whole)
+          (definite_back 3 c (definite_chunks cs ++ rest) h.0),
+      subst (λ z. ReadsChunks 3 cs z (length (definite_chunks cs))) (sym left)
           (chunks_back cs rest h.1),
-      length-append (counted_string 3 c) (counted_chunks cs),
+      length-append (definite_string 3 c) (definite_chunks cs),
     )
 
-short_front : (ps qs : List (List ℕ)) → AllShort (ps ++ qs) → AllShort ps
-short_front [] qs h = tt
-short_front (p ∷ ps) qs h = (h.0, short_front ps qs h.1)
+short_prefix : (ps qs : List (List ℕ)) → AllShort (ps ++ qs) → AllShort ps
+short_prefix [] qs h = tt
+short_prefix (p ∷ ps) qs h = (h.0, short_prefix ps qs h.1)
 
 short_rest : (ps qs : List (List ℕ)) → AllShort (ps ++ qs) → AllShort qs
 short_rest [] qs h = h
@@ -82,8 +82,11 @@ short_chunk c run is h = elim is.short [
 pub short_cut : (ps cs : List (List ℕ)) → IsCut ps cs → AllShort ps → AllShort cs
 short_cut ps [] p h = tt
 short_cut ps (c ∷ cs) p h =
-    let all : AllShort (p.0 ++ p.1) = subst AllShort p.2 h in
-    (short_chunk c p.0 p.3 (short_front p.0 p.1 all), short_cut p.1 cs p.5 (short_rest p.0 p.1 all))
+    let all : AllShort (p.0 ++ p.1) = subst AllShort p.2 h in (
+      short_chunk c p.0 p.3 (short_prefix p.0 p.1 all),
+      short_cut p.1 cs p.5
+          (short_rest p.0 p.1 all),
+    )
 
 pub joined_cut : (ps cs : List (List ℕ)) → IsCut ps cs → joined ps ≡ joined cs
 joined_cut ps [] p = ap joined p
@@ -91,28 +94,28 @@ joined_cut ps (c ∷ cs) p =
     ap joined p.2
     ∙ (joined_append p.0 p.1 ∙ ap₂ (λ u v. u ++ v) (sym p.3.joins) (joined_cut p.1 cs p.5))
 
-drop_behind : (b : ℕ) (xs : List ℕ) (n : ℕ) → drop (1 + n) (b ∷ xs) ≡ drop n xs
-drop_behind b xs n = let e : 1 + n ≡ suc n = omega arith in ap (λ j. drop j (b ∷ xs)) e
+drop_after : (b : ℕ) (xs : List ℕ) (n : ℕ) → drop (1 + n) (b ∷ xs) ≡ drop n xs
+drop_after b xs n = let e : 1 + n ≡ suc n = omega arith in ap (λ j. drop j (b ∷ xs)) e
 
-open_back : (ps cs : List (List ℕ)) (rest : List ℕ) → joined ps ≡ joined cs → AllShort cs
-    → ReadsOpenString 3 ((opening 3 ++ counted_chunks cs ++ closing) ++ rest) (joined ps)
-    (length (opening 3 ++ counted_chunks cs ++ closing)) (chunk_cost cs)
-open_back ps cs rest is h =
-    let n = length (counted_chunks cs) in
-    let whole : (counted_chunks cs ++ closing) ++ rest ≡ counted_chunks cs ++ (closing ++ rest) =
-    append_assoc (counted_chunks cs) closing rest in
-    let left : drop n ((counted_chunks cs ++ closing) ++ rest) ≡ closing ++ rest =
-    ap (drop n) whole ∙ drop-append_seam (counted_chunks cs) (closing ++ rest) in
+indefinite_back : (ps cs : List (List ℕ)) (rest : List ℕ) → joined ps ≡ joined cs → AllShort cs
+    → ReadsIndefiniteString 3 ((opening 3 ++ definite_chunks cs ++ closing) ++ rest) (joined ps)
+    (length (opening 3 ++ definite_chunks cs ++ closing)) (chunk_cost cs)
+indefinite_back ps cs rest is h =
+    let n = length (definite_chunks cs) in
+    let whole : (definite_chunks cs ++ closing) ++ rest ≡ definite_chunks cs ++ (closing ++ rest) =
+    append_assoc (definite_chunks cs) closing rest in
+    let left : drop n ((definite_chunks cs ++ closing) ++ rest) ≡ closing ++ rest =
+    ap (drop n) whole ∙ drop-append_seam (definite_chunks cs) (closing ++ rest) in
     record {
       begins = refl;
       chunks = cs;
       between = n;
       read = subst (λ z. ReadsChunks 3 cs z n) (sym whole) (chunks_back cs (closing ++ rest) h);
-      ends = ap (take 1) (drop_behind 127 ((counted_chunks cs ++ closing) ++ rest) n ∙ left);
+      ends = ap (take 1) (drop_after 127 ((definite_chunks cs ++ closing) ++ rest) n ∙ left);
       value = is;
       size =
-          (let m : length (counted_chunks cs ++ closing) ≡ n + 1 =
-          length-append (counted_chunks cs) closing in omega (arith, m));
+          (let m : length (definite_chunks cs ++ closing) ≡ n + 1 =
+          length-append (definite_chunks cs) closing in omega (arith, m));
       cost = refl;
     }
 
@@ -136,9 +139,9 @@ module _ {V : Type 0} (content : V → List ℕ) (v : V) (pieces : List (List �
       → ReadsBack (ReadsTextAs content) bytes v (pieces_cost pieces bytes is)
   pieces_back has utf8 (one short e) rest = (
     inl (
-      subst (λ z. ReadsCountedString 3 (bytes ++ rest) z (length bytes)) (sym has)
-          (subst (λ z. ReadsCountedString 3 (z ++ rest) (joined pieces) (length z)) (sym e)
-          (counted_back 3 (joined pieces) rest fits)),
+      subst (λ z. ReadsDefiniteString 3 (bytes ++ rest) z (length bytes)) (sym has)
+          (subst (λ z. ReadsDefiniteString 3 (z ++ rest) (joined pieces) (length z)) (sym e)
+          (definite_back 3 (joined pieces) rest fits)),
       refl,
     ),
     subst IsUtf8 (sym has) (utf8_joined pieces utf8),
@@ -146,10 +149,10 @@ module _ {V : Type 0} (content : V → List ℕ) (v : V) (pieces : List (List �
   pieces_back has utf8 (several cs long cut e) rest =
       let is : joined pieces ≡ joined cs =
       sym (joined_without_empty pieces) ∙ joined_cut (without_empty pieces) cs cut in
-      let read = open_back pieces cs rest is (short_cut (without_empty pieces) cs cut
+      let read = indefinite_back pieces cs rest is (short_cut (without_empty pieces) cs cut
       (short_without_empty pieces (all_short pieces fits))) in (
-        inr (subst (λ z. ReadsOpenString 3 (bytes ++ rest) z (length bytes) (chunk_cost cs))
-            (sym has) (subst (λ z. ReadsOpenString 3 (z ++ rest) (joined pieces) (length z)
+        inr (subst (λ z. ReadsIndefiniteString 3 (bytes ++ rest) z (length bytes) (chunk_cost cs))
+            (sym has) (subst (λ z. ReadsIndefiniteString 3 (z ++ rest) (joined pieces) (length z)
             (chunk_cost cs)) (sym e) read)),
         subst IsUtf8 (sym has) (utf8_joined pieces utf8),
       )

@@ -5,14 +5,14 @@ use Rattle.std.specs.Prelude.{All, IsUtf8}
 use Rattle.cbor4ii_items.specs.Head.{shortest}
 use Rattle.cbor4ii_items.specs.Initial.{text_string}
 use Rattle.cbor4ii_items.specs.Laws.Heads.{shortest_fits}
-use Rattle.cbor4ii_items.specs.Strings.{joined, counted_string, opening, closing}
+use Rattle.cbor4ii_items.specs.Strings.{joined, definite_string, opening, closing}
 use Rattle.cbor4ii_tree.specs.Tree.{string, chunked, Trees, no_trees, tree, bytes_all}
 use Rattle.cbor4ii_tree.specs.Tree.{joined_chunks, LooseAll, AreChunks}
 use Rattle.cbor4ii_ser.specs.Item.{encoded}
 use Rattle.cbor4ii_ser.specs.OneItem.{AllShortestHeads, Form, shortest_heads, OneItem, IsOneItem}
 use Rattle.cbor4ii_ser.specs.Pieces.{chunk_most, without_empty, Chunks, one, several}
-use Rattle.cbor4ii_ser.specs.Pieces.{counted_chunks, text_bytes}
-use Rattle.cbor4ii_ser.specs.TextState.{text_item}
+use Rattle.cbor4ii_ser.specs.Pieces.{definite_chunks, text_bytes}
+use Rattle.cbor4ii_ser.specs.TextState.{text_encoding}
 use Rattle.cbor4ii_ser.specs.Laws.OneItem.{text_is_item}
 use Rattle.cbor4ii_ser.proofs.Greedy.{joined_without_empty, chunks_written}
 use Rattle.cbor4ii_ser.proofs.PiecesBack.{AllShort, all_short, utf8_joined, short_without_empty}
@@ -38,14 +38,14 @@ joined_trees : (cs : List (List ℕ)) → joined_chunks (chunk_trees cs) ≡ joi
 joined_trees [] = refl
 joined_trees (c ∷ cs) = ap (λ zs. c ++ zs) (joined_trees cs)
 
-bytes_trees : (cs : List (List ℕ)) → bytes_all (chunk_trees cs) ≡ counted_chunks cs
+bytes_trees : (cs : List (List ℕ)) → bytes_all (chunk_trees cs) ≡ definite_chunks cs
 bytes_trees [] = refl
-bytes_trees (c ∷ cs) = ap (λ zs. counted_string 3 c ++ zs) (bytes_trees cs)
+bytes_trees (c ∷ cs) = ap (λ zs. definite_string 3 c ++ zs) (bytes_trees cs)
 
 chunks_are_item : (cs : List (List ℕ)) → AllShort cs → IsUtf8 (joined cs)
-    → OneItem shortest_heads (opening 3 ++ counted_chunks cs ++ closing)
+    → OneItem shortest_heads (opening 3 ++ definite_chunks cs ++ closing)
 chunks_are_item cs short utf8 = record {
-  spelled = chunked text_string (chunk_trees cs);
+  of_tree = chunked text_string (chunk_trees cs);
   formed = (
     (loose_chunks cs short, (are_chunks cs, subst IsUtf8 (sym (joined_trees cs)) utf8)),
     shortest_chunks cs,
@@ -65,9 +65,9 @@ pieces_are_item pieces bytes fits utf8 (several cs long cut e) =
     (short_cut (without_empty pieces) cs cut (short_without_empty pieces (all_short pieces fits)))
     (subst IsUtf8 is (utf8_joined pieces utf8)))
 
-pub text_in_pieces_is_item : (refuses : Bool) (pieces : List (List ℕ))
+pub text_in_pieces_is_item : (fails_itself : Bool) (pieces : List (List ℕ))
     → length (joined pieces) < 2 ^ 64 → All IsUtf8 pieces
-    → IsOneItem shortest_heads (text_item refuses pieces)
+    → IsOneItem shortest_heads (text_encoding fails_itself pieces)
 text_in_pieces_is_item true pieces fits utf8 = tt
 text_in_pieces_is_item false pieces fits utf8 =
     pieces_are_item pieces (text_bytes pieces) fits utf8 (chunks_written pieces)
@@ -81,9 +81,9 @@ short_are_item form pieces bytes fits utf8 (one short e) =
 short_are_item form pieces bytes fits utf8 (several cs long cut e) =
     absurd (omega (arith, fits, long))
 
-pub short_text_is_item : (form : Form) (refuses : Bool) (pieces : List (List ℕ))
+pub short_text_is_item : (form : Form) (fails_itself : Bool) (pieces : List (List ℕ))
     → length (joined pieces) ≤ chunk_most → All IsUtf8 pieces
-    → IsOneItem form (text_item refuses pieces)
+    → IsOneItem form (text_encoding fails_itself pieces)
 short_text_is_item form true pieces fits utf8 = tt
 short_text_is_item form false pieces fits utf8 =
     short_are_item form pieces (text_bytes pieces) fits utf8 (chunks_written pieces)

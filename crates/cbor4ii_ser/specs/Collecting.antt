@@ -19,7 +19,7 @@ is_keyed c = c.keyed
 abbrev pub owes : {W E : Type 0} → Collect W E → Bool
 owes c = c.owes
 
--- what the writer tells; the first argument is how it tells it
+-- what the writer reports; the first argument is how it reports it
 abbrev pub collected : {W E : Type 0} → (W → Output) → Collect W E → Output
 collected view c = output view c.ser.now
 

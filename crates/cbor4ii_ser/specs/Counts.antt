@@ -4,14 +4,14 @@ use Rattle.cbor4ii_items.specs.Numbers.{shortest_head}
 use Rattle.cbor4ii_items.specs.Strings.{opening, closing}
 
 -- the head of an array (4) or a map (5) of so many parts
-abbrev pub counted_head : ℕ → Option ℕ → List ℕ
-counted_head major (Some len) = shortest_head major len
-counted_head major None = opening major
+abbrev pub container_head : ℕ → Option ℕ → List ℕ
+container_head major (Some len) = shortest_head major len
+container_head major None = opening major
 
 -- what ends it
-abbrev pub counted_end : Option ℕ → List ℕ
-counted_end (Some len) = []
-counted_end None = closing
+abbrev pub container_end : Option ℕ → List ℕ
+container_end (Some len) = []
+container_end None = closing
 
 -- another part may come
 abbrev pub IsReady : Option ℕ → Type 0

@@ -2,43 +2,43 @@
 use Rattle.std.specs.Prelude.{◌≡◌, Bool, Result, Ok, OnOk, OnErr, IfErr, IsTrue}
 use Rattle.cbor4ii_rw.specs.Reader.{Failed}
 use Rattle.cbor4ii_rw.specs.Writer.{Output, Appends}
-use Rattle.cbor4ii_items.specs.Writing.{AppendsFront}
-use Rattle.cbor4ii_ser.specs.Item.{Encoding, bytes_written, IsEncodedAnd, IsRefusedAnd}
+use Rattle.cbor4ii_items.specs.Writing.{AppendsPrefix}
+use Rattle.cbor4ii_ser.specs.Item.{Encoding, bytes_written, IsEncodedAnd, IsRejectedAnd}
 use Rattle.cbor4ii_ser.specs.declared.error.EncodeError.{EncodeError}
 use Rattle.cbor4ii_ser.specs.declared.error.EncodeError.TheVariants.{Core, Custom}
 use Rattle.cbor4ii_ser.specs.declared.serializer.Serializer.{Serializer}
 
--- what the writer of a serializer tells; the first argument is how it tells it
+-- what the writer of a serializer reports; the first argument is how it reports it
 abbrev pub output : {W : Type 0} → (W → Output) → Serializer W → Output
 output view ser = view ser.writer
 
--- why a call failed: the writer did; or the value is refused in these words, what stands before
+-- why a call failed: the writer did; or the value is rejected in these words, what stands before
 -- that is appended, and the writer did not fail
 abbrev pub Blames : {E : Type 0} → Encoding → Output → Output → EncodeError E → Type 0
 Blames item old new (Core error) = Failed old.failures new.failures
 Blames item old new (Custom text) =
-    IsRefusedAnd item (λ bytes words. Appends bytes old.written new.written × (text.now ≡ words))
+    IsRejectedAnd item (λ bytes words. Appends bytes old.written new.written × (text.now ≡ words))
     × (new.failures ≡ old.failures)
 
--- The call wrote the item; or the writer failed in it; or the value is refused, and it says so in
--- its words behind exactly what stands before that. Where the writer failed, one that is whole has
+-- The call wrote the item; or the writer failed in it; or the value is rejected, and it says so in
+-- its words after exactly what stands before that. Where the writer failed, one that is atomic has
 -- a beginning of all that.
-pub record Serializes {T E : Type 0} (whole : Bool) (item : Encoding) (old new : Output)
+pub record Serializes {T E : Type 0} (atomic : Bool) (item : Encoding) (old new : Output)
     (answer : Result T (EncodeError E)) : Type 0 where
   pub appends : OnOk answer (IsEncodedAnd item (λ bytes. Appends bytes old.written new.written))
   pub counts : OnOk answer (new.failures ≡ old.failures)
   pub failed : IfErr answer (Blames item old new)
-  pub front : IsTrue whole
-      → OnErr answer (AppendsFront (bytes_written item) old.written new.written)
+  pub prefix : IsTrue atomic
+      → OnErr answer (AppendsPrefix (bytes_written item) old.written new.written)
 
--- where the answer is a text, the value is refused in these words
+-- where the answer is a text, the value is rejected in these words
 abbrev pub SaysWhy : {E : Type 0} → Encoding → EncodeError E → Type 0
 SaysWhy item (Core error) = Unit {0}
-SaysWhy item (Custom text) = IsRefusedAnd item (λ bytes words. text.now ≡ words)
+SaysWhy item (Custom text) = IsRejectedAnd item (λ bytes words. text.now ≡ words)
 
--- The key is written, and the call stopped in the value behind it.
-pub record StopsAtValue {E : Type 0} (whole : Bool) (key value : Encoding) (old new : Output)
+-- The key is written, and the call stopped in the value after it.
+pub record RejectsAtValue {E : Type 0} (atomic : Bool) (key value : Encoding) (old new : Output)
     (answer : Result (Unit {0}) (EncodeError E)) : Type 0 where
   pub between : Output
-  pub first : Serializes {T = Unit {0}} {E = E} whole key old between (Ok tt)
-  pub second : Serializes whole value between new answer
+  pub first : Serializes {T = Unit {0}} {E = E} atomic key old between (Ok tt)
+  pub second : Serializes atomic value between new answer

@@ -1,11 +1,11 @@
 -- Values of the tree as typed values: those that hold no tag have an item, their canonical
--- spelling.
+-- encoding.
 use Rattle.std.specs.Prelude.{ℕ, List, [], Bool, true, false, ◌||◌, codes}
 use Rattle.cbor4ii_tree.specs.Item.{Item, null, boolean, integer, float, bytes_item, text, sequence}
 use Rattle.cbor4ii_tree.specs.Item.{mapping, tag, Items, no_items, item, Members, no_members}
 use Rattle.cbor4ii_tree.specs.Item.{member}
-use Rattle.cbor4ii_tree.specs.Canonical.{canon}
-use Rattle.cbor4ii_ser.specs.Item.{Encoding, encoded, refused}
+use Rattle.cbor4ii_tree.specs.Canonical.{canonical_encoding}
+use Rattle.cbor4ii_ser.specs.Item.{Encoding, encoded, rejected}
 
 -- a tag stands somewhere in it
 abbrev mutual
@@ -28,10 +28,10 @@ abbrev mutual
   members_hold_tag no_members = false
   members_hold_tag (member k v ms) = (holds_tag k || holds_tag v) || members_hold_tag ms
 
--- an item of these bytes, or refused before any of them, since a tag stands in it
+-- an item of these bytes, or rejected before any of them, since a tag stands in it
 abbrev pub unless : Bool → List ℕ → Encoding
-unless true bytes = refused [] (codes "serialization Tag via serde is not supported")
+unless true bytes = rejected [] (codes "serialization Tag via serde is not supported")
 unless false bytes = encoded bytes
 
-abbrev pub value_item : Item → Encoding
-value_item v = unless (holds_tag v) (canon v)
+abbrev pub value_encoding : Item → Encoding
+value_encoding v = unless (holds_tag v) (canonical_encoding v)

@@ -26,10 +26,10 @@ use cbor4ii_rw::write::Write;
 ///
 /// A call that fails does not change `left`.
 ///
-/// - `Core` of `Write`: the writer failed in the call. A whole one then holds what it held before
+/// - `Core` of `Write`: the writer failed in the call. An atomic one then holds what it held before
 ///   and a beginning of what the call writes. Of another writer nothing is said
-/// - `Custom` with the words of a type: a part is refused. Exactly what stands before the refusal
-///   is appended, and stays. An array or a map in which a part was refused is no item any more
+/// - `Custom` with the words of a type: a part is rejected. Exactly what stands before the error
+///   is appended, and stays. An array or a map in which a part was rejected is no item any more
 #[derive(Debug, Drop)]
 pub struct BoundedCollect<'a, W: Write> {
     pub(crate) ser: &'a mut Serializer<W>,
@@ -42,18 +42,18 @@ impl<W: Write> Serializer<W> {
     ///
     /// # Errors
     ///
-    /// `Core`, which is told at `Serializer`.
+    /// `Core`, which is described at `Serializer`.
     pub fn serialize_tuple(
         &mut self,
         len: usize,
     ) -> Result<BoundedCollect<'_, W>, EncodeError<W::Error>>
-        ensures* refused { sem 𝓛 (RestsIfErr (the_row W.row) self.entry bounded_lender result
-            (λ new. Serializes W.whole (encoded (shortest_head 4 len))
+        ensures* rejected { sem 𝓛 (RestsIfErr (the_row W.row) self.entry bounded_lender result
+            (λ new. Serializes W.atomic (encoded (shortest_head 4 len))
             (output W.view self.old) (output W.view new) result)) }
         ensures same_reference { IfOk result (λ c. bounded_lender c ≡ self.entry.ghost_name) }
         ensures left { IfOk result (λ c. bounded_left c ≡ len) }
         ensures keyed { IfOk result (λ c. bounded_keyed c ≡ false) }
-        ensures head { IfOk result (λ c. Serializes W.whole (encoded (shortest_head 4 len))
+        ensures head { IfOk result (λ c. Serializes W.atomic (encoded (shortest_head 4 len))
             (output W.view self.old) (bounded_output W.view c) result) }
     {
         self.array_head(len)?;
@@ -69,19 +69,19 @@ impl<W: Write> Serializer<W> {
     ///
     /// # Errors
     ///
-    /// `Core`, which is told at `Serializer`.
+    /// `Core`, which is described at `Serializer`.
     pub fn serialize_tuple_struct(
         &mut self,
         _name: &str,
         len: usize,
     ) -> Result<BoundedCollect<'_, W>, EncodeError<W::Error>>
-        ensures* refused { sem 𝓛 (RestsIfErr (the_row W.row) self.entry bounded_lender result
-            (λ new. Serializes W.whole (encoded (shortest_head 4 len))
+        ensures* rejected { sem 𝓛 (RestsIfErr (the_row W.row) self.entry bounded_lender result
+            (λ new. Serializes W.atomic (encoded (shortest_head 4 len))
             (output W.view self.old) (output W.view new) result)) }
         ensures same_reference { IfOk result (λ c. bounded_lender c ≡ self.entry.ghost_name) }
         ensures left { IfOk result (λ c. bounded_left c ≡ len) }
         ensures keyed { IfOk result (λ c. bounded_keyed c ≡ false) }
-        ensures head { IfOk result (λ c. Serializes W.whole (encoded (shortest_head 4 len))
+        ensures head { IfOk result (λ c. Serializes W.atomic (encoded (shortest_head 4 len))
             (output W.view self.old) (bounded_output W.view c) result) }
     {
         self.array_head(len)?;
@@ -97,7 +97,7 @@ impl<W: Write> Serializer<W> {
     ///
     /// # Errors
     ///
-    /// `Core`, which is told at `Serializer`.
+    /// `Core`, which is described at `Serializer`.
     pub fn serialize_tuple_variant(
         &mut self,
         _name: &str,
@@ -105,13 +105,13 @@ impl<W: Write> Serializer<W> {
         variant: &str,
         len: usize,
     ) -> Result<BoundedCollect<'_, W>, EncodeError<W::Error>>
-        ensures* refused { sem 𝓛 (RestsIfErr (the_row W.row) self.entry bounded_lender result
-            (λ new. Serializes W.whole (encoded (variant_head variant.now ++ shortest_head 4 len))
+        ensures* rejected { sem 𝓛 (RestsIfErr (the_row W.row) self.entry bounded_lender result
+            (λ new. Serializes W.atomic (encoded (variant_head variant.now ++ shortest_head 4 len))
             (output W.view self.old) (output W.view new) result)) }
         ensures same_reference { IfOk result (λ c. bounded_lender c ≡ self.entry.ghost_name) }
         ensures left { IfOk result (λ c. bounded_left c ≡ len) }
         ensures keyed { IfOk result (λ c. bounded_keyed c ≡ false) }
-        ensures head { IfOk result (λ c. Serializes W.whole
+        ensures head { IfOk result (λ c. Serializes W.atomic
             (encoded (variant_head variant.now ++ shortest_head 4 len))
             (output W.view self.old) (bounded_output W.view c) result) }
     {
@@ -128,19 +128,19 @@ impl<W: Write> Serializer<W> {
     ///
     /// # Errors
     ///
-    /// `Core`, which is told at `Serializer`.
+    /// `Core`, which is described at `Serializer`.
     pub fn serialize_struct(
         &mut self,
         _name: &str,
         len: usize,
     ) -> Result<BoundedCollect<'_, W>, EncodeError<W::Error>>
-        ensures* refused { sem 𝓛 (RestsIfErr (the_row W.row) self.entry bounded_lender result
-            (λ new. Serializes W.whole (encoded (shortest_head 5 len))
+        ensures* rejected { sem 𝓛 (RestsIfErr (the_row W.row) self.entry bounded_lender result
+            (λ new. Serializes W.atomic (encoded (shortest_head 5 len))
             (output W.view self.old) (output W.view new) result)) }
         ensures same_reference { IfOk result (λ c. bounded_lender c ≡ self.entry.ghost_name) }
         ensures left { IfOk result (λ c. bounded_left c ≡ len) }
         ensures keyed { IfOk result (λ c. bounded_keyed c ≡ true) }
-        ensures head { IfOk result (λ c. Serializes W.whole (encoded (shortest_head 5 len))
+        ensures head { IfOk result (λ c. Serializes W.atomic (encoded (shortest_head 5 len))
             (output W.view self.old) (bounded_output W.view c) result) }
     {
         self.map_head(len)?;
@@ -156,7 +156,7 @@ impl<W: Write> Serializer<W> {
     ///
     /// # Errors
     ///
-    /// `Core`, which is told at `Serializer`.
+    /// `Core`, which is described at `Serializer`.
     pub fn serialize_struct_variant(
         &mut self,
         _name: &str,
@@ -164,13 +164,13 @@ impl<W: Write> Serializer<W> {
         variant: &str,
         len: usize,
     ) -> Result<BoundedCollect<'_, W>, EncodeError<W::Error>>
-        ensures* refused { sem 𝓛 (RestsIfErr (the_row W.row) self.entry bounded_lender result
-            (λ new. Serializes W.whole (encoded (variant_head variant.now ++ shortest_head 5 len))
+        ensures* rejected { sem 𝓛 (RestsIfErr (the_row W.row) self.entry bounded_lender result
+            (λ new. Serializes W.atomic (encoded (variant_head variant.now ++ shortest_head 5 len))
             (output W.view self.old) (output W.view new) result)) }
         ensures same_reference { IfOk result (λ c. bounded_lender c ≡ self.entry.ghost_name) }
         ensures left { IfOk result (λ c. bounded_left c ≡ len) }
         ensures keyed { IfOk result (λ c. bounded_keyed c ≡ true) }
-        ensures head { IfOk result (λ c. Serializes W.whole
+        ensures head { IfOk result (λ c. Serializes W.atomic
             (encoded (variant_head variant.now ++ shortest_head 5 len))
             (output W.view self.old) (bounded_output W.view c) result) }
     {
@@ -202,7 +202,7 @@ impl<'a, W: Write> BoundedCollect<'a, W> {
     ///
     /// # Errors
     ///
-    /// Those of the value's `serialize`. What stays then is told at `BoundedCollect`.
+    /// Those of the value's `serialize`. What stays then is described at `BoundedCollect`.
     pub fn serialize_element<T: Serialize>(
         &mut self,
         value: &T,
@@ -212,8 +212,8 @@ impl<'a, W: Write> BoundedCollect<'a, W> {
         ensures same_reference { bounded_lender self.new ≡ bounded_lender self.old }
         ensures keyed { bounded_keyed self.new ≡ bounded_keyed self.old }
         ensures left { OnOk result (bounded_left self.new ≡ bounded_left self.old - 1) }
-        ensures left_at_refusal { OnErr result (bounded_left self.new ≡ bounded_left self.old) }
-        ensures written { Serializes W.whole (T.item value.now)
+        ensures left_at_error { OnErr result (bounded_left self.new ≡ bounded_left self.old) }
+        ensures written { Serializes W.atomic (T.encoding value.now)
             (bounded_output W.view self.old) (bounded_output W.view self.new) result }
     {
         value.serialize(self.ser)?;
@@ -221,12 +221,12 @@ impl<'a, W: Write> BoundedCollect<'a, W> {
         Ok(())
     }
 
-    /// Writes a field of the map: its name as a text, and its value behind it.
+    /// Writes a field of the map: its name as a text, and its value after it.
     ///
     /// # Errors
     ///
-    /// `Core` at the name, and those of the value's `serialize`. What stays then is told at
-    /// `BoundedCollect`. The name stays where the value is refused.
+    /// `Core` at the name, and those of the value's `serialize`. What stays then is described at
+    /// `BoundedCollect`. The name stays where the value is rejected.
     pub fn serialize_field<T: Serialize>(
         &mut self,
         name: &str,
@@ -237,8 +237,8 @@ impl<'a, W: Write> BoundedCollect<'a, W> {
         ensures same_reference { bounded_lender self.new ≡ bounded_lender self.old }
         ensures keyed { bounded_keyed self.new ≡ bounded_keyed self.old }
         ensures left { OnOk result (bounded_left self.new ≡ bounded_left self.old - 1) }
-        ensures left_at_refusal { OnErr result (bounded_left self.new ≡ bounded_left self.old) }
-        ensures written { Serializes W.whole (field name.now (T.item value.now))
+        ensures left_at_error { OnErr result (bounded_left self.new ≡ bounded_left self.old) }
+        ensures written { Serializes W.atomic (field name.now (T.encoding value.now))
             (bounded_output W.view self.old) (bounded_output W.view self.new) result }
     {
         put_field(self.ser, name, value)?;
@@ -255,21 +255,21 @@ impl<'a, W: Write> BoundedCollect<'a, W> {
         requires { bounded_left self ≡ 0 }
         ensures succeeds { result ≡ Ok tt }
         ensures untouched { output W.view self.exit.0.now ≡ bounded_output W.view self.entry }
-        ensures written { Serializes W.whole (encoded [])
+        ensures written { Serializes W.atomic (encoded [])
             (bounded_output W.view self.entry) (output W.view self.exit.0.now) result }
     {
         Ok(())
     }
 }
 
-/// Writes a name, and a value behind it.
+/// Writes a name, and a value after it.
 #[inline]
 pub(crate) fn put_field<W: Write, T: Serialize>(
     ser: &mut Serializer<W>,
     name: &str,
     value: &T,
 ) -> Result<(), EncodeError<W::Error>>
-    ensures { Serializes W.whole (field name.now (T.item value.now))
+    ensures { Serializes W.atomic (field name.now (T.encoding value.now))
         (output W.view ser.old) (output W.view ser.new) result }
 {
     ser.put(&name)?;

@@ -3,9 +3,9 @@ ghost use Rattle.std.specs.Prelude.{◌≡◌, Ok, IsSome, IfOk, OnOk, OnErr, tr
 ghost use Rattle.std.specs.Borrow.{sem, RestsIfErr};
 ghost use Rattle.cbor4ii_ser.specs.contracts.serializer.Serializer.{the_row};
 ghost use Rattle.cbor4ii_ser.specs.Collecting.{left_of, is_keyed, owes, collected, lender_of};
-ghost use Rattle.cbor4ii_ser.specs.Counts.{counted_head, counted_end, IsReady, IsDone, less};
+ghost use Rattle.cbor4ii_ser.specs.Counts.{container_head, container_end, IsReady, IsDone, less};
 ghost use Rattle.cbor4ii_ser.specs.Item.{encoded, followed};
-ghost use Rattle.cbor4ii_ser.specs.Serializing.{Serializes, StopsAtValue, output};
+ghost use Rattle.cbor4ii_ser.specs.Serializing.{Serializes, RejectsAtValue, output};
 
 use crate::error::EncodeError;
 use crate::serialize::Serialize;
@@ -26,10 +26,10 @@ use cbor4ii_rw::write::Write;
 /// A call that fails changes neither `left` nor `owes_value`, unless it is an entry that fails at
 /// its value. Of that the key is written, `left` is lowered if it counts, and the value is owed.
 ///
-/// - `Core` of `Write`: the writer failed in the call. A whole one then holds what it held before
+/// - `Core` of `Write`: the writer failed in the call. An atomic one then holds what it held before
 ///   and a beginning of what the call writes. Of another writer nothing is said
-/// - `Custom` with the words of a type: a part is refused. Exactly what stands before the refusal
-///   is appended, and stays. An array or a map in which a part was refused is no item any more
+/// - `Custom` with the words of a type: a part is rejected. Exactly what stands before the error
+///   is appended, and stays. An array or a map in which a part was rejected is no item any more
 #[derive(Debug, Drop)]
 pub struct Collect<'a, W: Write> {
     pub(crate) ser: &'a mut Serializer<W>,
@@ -44,19 +44,19 @@ impl<W: Write> Serializer<W> {
     ///
     /// # Errors
     ///
-    /// `Core`, which is told at `Serializer`.
+    /// `Core`, which is described at `Serializer`.
     pub fn serialize_seq(
         &mut self,
         len: Option<usize>,
     ) -> Result<Collect<'_, W>, EncodeError<W::Error>>
-        ensures* refused { sem 𝓛 (RestsIfErr (the_row W.row) self.entry lender_of result
-            (λ new. Serializes W.whole (encoded (counted_head 4 len))
+        ensures* rejected { sem 𝓛 (RestsIfErr (the_row W.row) self.entry lender_of result
+            (λ new. Serializes W.atomic (encoded (container_head 4 len))
             (output W.view self.old) (output W.view new) result)) }
         ensures same_reference { IfOk result (λ c. lender_of c ≡ self.entry.ghost_name) }
         ensures left { IfOk result (λ c. left_of c ≡ len) }
         ensures keyed { IfOk result (λ c. is_keyed c ≡ false) }
         ensures owes { IfOk result (λ c. owes c ≡ false) }
-        ensures head { IfOk result (λ c. Serializes W.whole (encoded (counted_head 4 len))
+        ensures head { IfOk result (λ c. Serializes W.atomic (encoded (container_head 4 len))
             (output W.view self.old) (collected W.view c) result) }
     {
         self.seq_head(len)?;
@@ -73,19 +73,19 @@ impl<W: Write> Serializer<W> {
     ///
     /// # Errors
     ///
-    /// `Core`, which is told at `Serializer`.
+    /// `Core`, which is described at `Serializer`.
     pub fn serialize_map(
         &mut self,
         len: Option<usize>,
     ) -> Result<Collect<'_, W>, EncodeError<W::Error>>
-        ensures* refused { sem 𝓛 (RestsIfErr (the_row W.row) self.entry lender_of result
-            (λ new. Serializes W.whole (encoded (counted_head 5 len))
+        ensures* rejected { sem 𝓛 (RestsIfErr (the_row W.row) self.entry lender_of result
+            (λ new. Serializes W.atomic (encoded (container_head 5 len))
             (output W.view self.old) (output W.view new) result)) }
         ensures same_reference { IfOk result (λ c. lender_of c ≡ self.entry.ghost_name) }
         ensures left { IfOk result (λ c. left_of c ≡ len) }
         ensures keyed { IfOk result (λ c. is_keyed c ≡ true) }
         ensures owes { IfOk result (λ c. owes c ≡ false) }
-        ensures head { IfOk result (λ c. Serializes W.whole (encoded (counted_head 5 len))
+        ensures head { IfOk result (λ c. Serializes W.atomic (encoded (container_head 5 len))
             (output W.view self.old) (collected W.view c) result) }
     {
         self.entries_head(len)?;
@@ -124,7 +124,7 @@ impl<'a, W: Write> Collect<'a, W> {
     ///
     /// # Errors
     ///
-    /// Those of the value's `serialize`. What stays then is told at `Collect`.
+    /// Those of the value's `serialize`. What stays then is described at `Collect`.
     pub fn serialize_element<T: Serialize>(
         &mut self,
         value: &T,
@@ -135,8 +135,8 @@ impl<'a, W: Write> Collect<'a, W> {
         ensures keyed { is_keyed self.new ≡ is_keyed self.old }
         ensures owes { owes self.new ≡ owes self.old }
         ensures left { OnOk result (left_of self.new ≡ less (left_of self.old)) }
-        ensures left_at_refusal { OnErr result (left_of self.new ≡ left_of self.old) }
-        ensures written { Serializes W.whole (T.item value.now)
+        ensures left_at_error { OnErr result (left_of self.new ≡ left_of self.old) }
+        ensures written { Serializes W.atomic (T.encoding value.now)
             (collected W.view self.old) (collected W.view self.new) result }
     {
         value.serialize(self.ser)?;
@@ -148,7 +148,7 @@ impl<'a, W: Write> Collect<'a, W> {
     ///
     /// # Errors
     ///
-    /// Those of the key's `serialize`; no value is owed then. What stays is told at `Collect`.
+    /// Those of the key's `serialize`; no value is owed then. What stays is described at `Collect`.
     pub fn serialize_key<K: Serialize>(&mut self, key: &K) -> Result<(), EncodeError<W::Error>>
         requires keyed { is_keyed self.old ≡ true }
         requires owes { owes self.old ≡ false }
@@ -156,10 +156,10 @@ impl<'a, W: Write> Collect<'a, W> {
         ensures same_reference { lender_of self.new ≡ lender_of self.old }
         ensures keyed { is_keyed self.new ≡ is_keyed self.old }
         ensures owes { OnOk result (owes self.new ≡ true) }
-        ensures owes_at_refusal { OnErr result (owes self.new ≡ owes self.old) }
+        ensures owes_at_error { OnErr result (owes self.new ≡ owes self.old) }
         ensures left { OnOk result (left_of self.new ≡ less (left_of self.old)) }
-        ensures left_at_refusal { OnErr result (left_of self.new ≡ left_of self.old) }
-        ensures written { Serializes W.whole (K.item key.now)
+        ensures left_at_error { OnErr result (left_of self.new ≡ left_of self.old) }
+        ensures written { Serializes W.atomic (K.encoding key.now)
             (collected W.view self.old) (collected W.view self.new) result }
     {
         key.serialize(self.ser)?;
@@ -172,7 +172,7 @@ impl<'a, W: Write> Collect<'a, W> {
     ///
     /// # Errors
     ///
-    /// Those of the value's `serialize`; the value is still owed then. What stays is told at
+    /// Those of the value's `serialize`; the value is still owed then. What stays is described at
     /// `Collect`.
     pub fn serialize_value<V: Serialize>(&mut self, value: &V) -> Result<(), EncodeError<W::Error>>
         requires keyed { is_keyed self.old ≡ true }
@@ -180,9 +180,9 @@ impl<'a, W: Write> Collect<'a, W> {
         ensures same_reference { lender_of self.new ≡ lender_of self.old }
         ensures keyed { is_keyed self.new ≡ is_keyed self.old }
         ensures owes { OnOk result (owes self.new ≡ false) }
-        ensures owes_at_refusal { OnErr result (owes self.new ≡ owes self.old) }
+        ensures owes_at_error { OnErr result (owes self.new ≡ owes self.old) }
         ensures left { left_of self.new ≡ left_of self.old }
-        ensures written { Serializes W.whole (V.item value.now)
+        ensures written { Serializes W.atomic (V.encoding value.now)
             (collected W.view self.old) (collected W.view self.new) result }
     {
         value.serialize(self.ser)?;
@@ -190,13 +190,13 @@ impl<'a, W: Write> Collect<'a, W> {
         Ok(())
     }
 
-    /// Writes a key and its value behind it.
+    /// Writes a key and its value after it.
     ///
     /// # Errors
     ///
     /// Those of the `serialize` of either. At the key `left` and `owes_value` stay. At the value
-    /// `left` is lowered, the value is owed, and the key is written. What else stays is told at
-    /// `Collect`.
+    /// `left` is lowered, the value is owed, and the key is written. What else stays is described
+    /// at `Collect`.
     pub fn serialize_entry<K: Serialize, V: Serialize>(
         &mut self,
         key: &K,
@@ -209,15 +209,15 @@ impl<'a, W: Write> Collect<'a, W> {
         ensures keyed { is_keyed self.new ≡ is_keyed self.old }
         ensures owes { OnOk result (owes self.new ≡ false) }
         ensures left { OnOk result (left_of self.new ≡ less (left_of self.old)) }
-        ensures refused_at_key { OnErr result (owes self.new ≡ false →
+        ensures rejected_at_key { OnErr result (owes self.new ≡ false →
             (left_of self.new ≡ left_of self.old)
-            × Serializes W.whole (K.item key.now)
+            × Serializes W.atomic (K.encoding key.now)
             (collected W.view self.old) (collected W.view self.new) result) }
-        ensures refused_at_value { OnErr result (owes self.new ≡ true →
+        ensures rejected_at_value { OnErr result (owes self.new ≡ true →
             (left_of self.new ≡ less (left_of self.old))
-            × StopsAtValue W.whole (K.item key.now) (V.item value.now)
+            × RejectsAtValue W.atomic (K.encoding key.now) (V.encoding value.now)
             (collected W.view self.old) (collected W.view self.new) result) }
-        ensures written { Serializes W.whole (followed (K.item key.now) (V.item value.now))
+        ensures written { Serializes W.atomic (followed (K.encoding key.now) (V.encoding value.now))
             (collected W.view self.old) (collected W.view self.new) result }
     {
         self.serialize_key(key)?;
@@ -246,14 +246,15 @@ impl<'a, W: Write> Collect<'a, W> {
     ///
     /// # Errors
     ///
-    /// `Core`, which is told at `Serializer`. Where the parts were counted it always answers `Ok`.
+    /// `Core`, which is described at `Serializer`. Where the parts were counted it always answers
+    /// `Ok`.
     pub fn end(self) -> Result<(), EncodeError<W::Error>>
         requires owes { owes self ≡ false }
         requires done { IsDone (left_of self) }
         ensures succeeds { IsSome (left_of self.entry) → result ≡ Ok tt }
         ensures untouched { IsSome (left_of self.entry) →
             output W.view self.exit.0.now ≡ collected W.view self.entry }
-        ensures written { Serializes W.whole (encoded (counted_end (left_of self.entry)))
+        ensures written { Serializes W.atomic (encoded (container_end (left_of self.entry)))
             (collected W.view self.entry) (output W.view self.exit.0.now) result }
     {
         let Collect {

@@ -1,6 +1,6 @@
 //! Structs that are written from their fields in one call.
 ghost use Rattle.std.specs.Prelude.{◌∷◌, []};
-ghost use Rattle.cbor4ii_ser.specs.Item.{field, struct_item};
+ghost use Rattle.cbor4ii_ser.specs.Item.{field, struct_encoding};
 ghost use Rattle.cbor4ii_ser.specs.Serializing.{Serializes, output};
 
 use crate::bounded::put_field;
@@ -19,16 +19,16 @@ impl<W: Write> Serializer<W> {
     ///
     /// # Errors
     ///
-    /// `Core` at the head or a name, and those of the `serialize` of a value. They are told at
-    /// `Serializer`. What was written before a value that is refused stays.
+    /// `Core` at the head or a name, and those of the `serialize` of a value. They are described at
+    /// `Serializer`. What was written before a value that is rejected stays.
     pub fn serialize_1_field<A: Serialize>(
         &mut self,
         _name: &str,
         first_name: &str,
         first: &A,
     ) -> Result<(), EncodeError<W::Error>>
-        ensures { Serializes W.whole (struct_item
-            (field first_name.now (A.item first.now) ∷ []))
+        ensures { Serializes W.atomic (struct_encoding
+            (field first_name.now (A.encoding first.now) ∷ []))
             (output W.view self.old) (output W.view self.new) result }
     {
         self.map_head(1)?;
@@ -40,8 +40,8 @@ impl<W: Write> Serializer<W> {
     ///
     /// # Errors
     ///
-    /// `Core` at the head or a name, and those of the `serialize` of a value. They are told at
-    /// `Serializer`. What was written before a value that is refused stays.
+    /// `Core` at the head or a name, and those of the `serialize` of a value. They are described at
+    /// `Serializer`. What was written before a value that is rejected stays.
     pub fn serialize_2_fields<A: Serialize, B: Serialize>(
         &mut self,
         _name: &str,
@@ -50,9 +50,9 @@ impl<W: Write> Serializer<W> {
         second_name: &str,
         second: &B,
     ) -> Result<(), EncodeError<W::Error>>
-        ensures { Serializes W.whole (struct_item
-            (field first_name.now (A.item first.now)
-            ∷ field second_name.now (B.item second.now) ∷ []))
+        ensures { Serializes W.atomic (struct_encoding
+            (field first_name.now (A.encoding first.now)
+            ∷ field second_name.now (B.encoding second.now) ∷ []))
             (output W.view self.old) (output W.view self.new) result }
     {
         self.map_head(2)?;
@@ -65,8 +65,8 @@ impl<W: Write> Serializer<W> {
     ///
     /// # Errors
     ///
-    /// `Core` at the head or a name, and those of the `serialize` of a value. They are told at
-    /// `Serializer`. What was written before a value that is refused stays.
+    /// `Core` at the head or a name, and those of the `serialize` of a value. They are described at
+    /// `Serializer`. What was written before a value that is rejected stays.
     pub fn serialize_3_fields<A: Serialize, B: Serialize, C: Serialize>(
         &mut self,
         _name: &str,
@@ -77,10 +77,10 @@ impl<W: Write> Serializer<W> {
         third_name: &str,
         third: &C,
     ) -> Result<(), EncodeError<W::Error>>
-        ensures { Serializes W.whole (struct_item
-            (field first_name.now (A.item first.now)
-            ∷ field second_name.now (B.item second.now)
-            ∷ field third_name.now (C.item third.now) ∷ []))
+        ensures { Serializes W.atomic (struct_encoding
+            (field first_name.now (A.encoding first.now)
+            ∷ field second_name.now (B.encoding second.now)
+            ∷ field third_name.now (C.encoding third.now) ∷ []))
             (output W.view self.old) (output W.view self.new) result }
     {
         self.map_head(3)?;
@@ -94,8 +94,8 @@ impl<W: Write> Serializer<W> {
     ///
     /// # Errors
     ///
-    /// `Core` at the head or a name, and those of the `serialize` of a value. They are told at
-    /// `Serializer`. What was written before a value that is refused stays.
+    /// `Core` at the head or a name, and those of the `serialize` of a value. They are described at
+    /// `Serializer`. What was written before a value that is rejected stays.
     pub fn serialize_4_fields<A: Serialize, B: Serialize, C: Serialize, D: Serialize>(
         &mut self,
         _name: &str,
@@ -108,11 +108,11 @@ impl<W: Write> Serializer<W> {
         fourth_name: &str,
         fourth: &D,
     ) -> Result<(), EncodeError<W::Error>>
-        ensures { Serializes W.whole (struct_item
-            (field first_name.now (A.item first.now)
-            ∷ field second_name.now (B.item second.now)
-            ∷ field third_name.now (C.item third.now)
-            ∷ field fourth_name.now (D.item fourth.now) ∷ []))
+        ensures { Serializes W.atomic (struct_encoding
+            (field first_name.now (A.encoding first.now)
+            ∷ field second_name.now (B.encoding second.now)
+            ∷ field third_name.now (C.encoding third.now)
+            ∷ field fourth_name.now (D.encoding fourth.now) ∷ []))
             (output W.view self.old) (output W.view self.new) result }
     {
         self.map_head(4)?;
@@ -127,8 +127,8 @@ impl<W: Write> Serializer<W> {
     ///
     /// # Errors
     ///
-    /// `Core` at the head or a name, and those of the `serialize` of a value. They are told at
-    /// `Serializer`. What was written before a value that is refused stays.
+    /// `Core` at the head or a name, and those of the `serialize` of a value. They are described at
+    /// `Serializer`. What was written before a value that is rejected stays.
     pub fn serialize_5_fields<A: Serialize, B: Serialize, C: Serialize, D: Serialize, E: Serialize>(
         &mut self,
         _name: &str,
@@ -143,12 +143,12 @@ impl<W: Write> Serializer<W> {
         fifth_name: &str,
         fifth: &E,
     ) -> Result<(), EncodeError<W::Error>>
-        ensures { Serializes W.whole (struct_item
-            (field first_name.now (A.item first.now)
-            ∷ field second_name.now (B.item second.now)
-            ∷ field third_name.now (C.item third.now)
-            ∷ field fourth_name.now (D.item fourth.now)
-            ∷ field fifth_name.now (E.item fifth.now) ∷ []))
+        ensures { Serializes W.atomic (struct_encoding
+            (field first_name.now (A.encoding first.now)
+            ∷ field second_name.now (B.encoding second.now)
+            ∷ field third_name.now (C.encoding third.now)
+            ∷ field fourth_name.now (D.encoding fourth.now)
+            ∷ field fifth_name.now (E.encoding fifth.now) ∷ []))
             (output W.view self.old) (output W.view self.new) result }
     {
         self.map_head(5)?;
@@ -164,8 +164,8 @@ impl<W: Write> Serializer<W> {
     ///
     /// # Errors
     ///
-    /// `Core` at the head or a name, and those of the `serialize` of a value. They are told at
-    /// `Serializer`. What was written before a value that is refused stays.
+    /// `Core` at the head or a name, and those of the `serialize` of a value. They are described at
+    /// `Serializer`. What was written before a value that is rejected stays.
     pub fn serialize_6_fields<
         A: Serialize,
         B: Serialize,
@@ -189,13 +189,13 @@ impl<W: Write> Serializer<W> {
         sixth_name: &str,
         sixth: &F,
     ) -> Result<(), EncodeError<W::Error>>
-        ensures { Serializes W.whole (struct_item
-            (field first_name.now (A.item first.now)
-            ∷ field second_name.now (B.item second.now)
-            ∷ field third_name.now (C.item third.now)
-            ∷ field fourth_name.now (D.item fourth.now)
-            ∷ field fifth_name.now (E.item fifth.now)
-            ∷ field sixth_name.now (F.item sixth.now) ∷ []))
+        ensures { Serializes W.atomic (struct_encoding
+            (field first_name.now (A.encoding first.now)
+            ∷ field second_name.now (B.encoding second.now)
+            ∷ field third_name.now (C.encoding third.now)
+            ∷ field fourth_name.now (D.encoding fourth.now)
+            ∷ field fifth_name.now (E.encoding fifth.now)
+            ∷ field sixth_name.now (F.encoding sixth.now) ∷ []))
             (output W.view self.old) (output W.view self.new) result }
     {
         self.map_head(6)?;
@@ -212,8 +212,8 @@ impl<W: Write> Serializer<W> {
     ///
     /// # Errors
     ///
-    /// `Core` at the head or a name, and those of the `serialize` of a value. They are told at
-    /// `Serializer`. What was written before a value that is refused stays.
+    /// `Core` at the head or a name, and those of the `serialize` of a value. They are described at
+    /// `Serializer`. What was written before a value that is rejected stays.
     pub fn serialize_7_fields<
         A: Serialize,
         B: Serialize,
@@ -240,14 +240,14 @@ impl<W: Write> Serializer<W> {
         seventh_name: &str,
         seventh: &G,
     ) -> Result<(), EncodeError<W::Error>>
-        ensures { Serializes W.whole (struct_item
-            (field first_name.now (A.item first.now)
-            ∷ field second_name.now (B.item second.now)
-            ∷ field third_name.now (C.item third.now)
-            ∷ field fourth_name.now (D.item fourth.now)
-            ∷ field fifth_name.now (E.item fifth.now)
-            ∷ field sixth_name.now (F.item sixth.now)
-            ∷ field seventh_name.now (G.item seventh.now) ∷ []))
+        ensures { Serializes W.atomic (struct_encoding
+            (field first_name.now (A.encoding first.now)
+            ∷ field second_name.now (B.encoding second.now)
+            ∷ field third_name.now (C.encoding third.now)
+            ∷ field fourth_name.now (D.encoding fourth.now)
+            ∷ field fifth_name.now (E.encoding fifth.now)
+            ∷ field sixth_name.now (F.encoding sixth.now)
+            ∷ field seventh_name.now (G.encoding seventh.now) ∷ []))
             (output W.view self.old) (output W.view self.new) result }
     {
         self.map_head(7)?;
@@ -265,8 +265,8 @@ impl<W: Write> Serializer<W> {
     ///
     /// # Errors
     ///
-    /// `Core` at the head or a name, and those of the `serialize` of a value. They are told at
-    /// `Serializer`. What was written before a value that is refused stays.
+    /// `Core` at the head or a name, and those of the `serialize` of a value. They are described at
+    /// `Serializer`. What was written before a value that is rejected stays.
     pub fn serialize_8_fields<
         A: Serialize,
         B: Serialize,
@@ -296,15 +296,15 @@ impl<W: Write> Serializer<W> {
         eighth_name: &str,
         eighth: &H,
     ) -> Result<(), EncodeError<W::Error>>
-        ensures { Serializes W.whole (struct_item
-            (field first_name.now (A.item first.now)
-            ∷ field second_name.now (B.item second.now)
-            ∷ field third_name.now (C.item third.now)
-            ∷ field fourth_name.now (D.item fourth.now)
-            ∷ field fifth_name.now (E.item fifth.now)
-            ∷ field sixth_name.now (F.item sixth.now)
-            ∷ field seventh_name.now (G.item seventh.now)
-            ∷ field eighth_name.now (H.item eighth.now) ∷ []))
+        ensures { Serializes W.atomic (struct_encoding
+            (field first_name.now (A.encoding first.now)
+            ∷ field second_name.now (B.encoding second.now)
+            ∷ field third_name.now (C.encoding third.now)
+            ∷ field fourth_name.now (D.encoding fourth.now)
+            ∷ field fifth_name.now (E.encoding fifth.now)
+            ∷ field sixth_name.now (F.encoding sixth.now)
+            ∷ field seventh_name.now (G.encoding seventh.now)
+            ∷ field eighth_name.now (H.encoding eighth.now) ∷ []))
             (output W.view self.old) (output W.view self.new) result }
     {
         self.map_head(8)?;
@@ -323,8 +323,8 @@ impl<W: Write> Serializer<W> {
     ///
     /// # Errors
     ///
-    /// `Core` at the head or a name, and those of the `serialize` of a value. They are told at
-    /// `Serializer`. What was written before a value that is refused stays.
+    /// `Core` at the head or a name, and those of the `serialize` of a value. They are described at
+    /// `Serializer`. What was written before a value that is rejected stays.
     pub fn serialize_9_fields<
         A: Serialize,
         B: Serialize,
@@ -357,16 +357,16 @@ impl<W: Write> Serializer<W> {
         ninth_name: &str,
         ninth: &I,
     ) -> Result<(), EncodeError<W::Error>>
-        ensures { Serializes W.whole (struct_item
-            (field first_name.now (A.item first.now)
-            ∷ field second_name.now (B.item second.now)
-            ∷ field third_name.now (C.item third.now)
-            ∷ field fourth_name.now (D.item fourth.now)
-            ∷ field fifth_name.now (E.item fifth.now)
-            ∷ field sixth_name.now (F.item sixth.now)
-            ∷ field seventh_name.now (G.item seventh.now)
-            ∷ field eighth_name.now (H.item eighth.now)
-            ∷ field ninth_name.now (I.item ninth.now) ∷ []))
+        ensures { Serializes W.atomic (struct_encoding
+            (field first_name.now (A.encoding first.now)
+            ∷ field second_name.now (B.encoding second.now)
+            ∷ field third_name.now (C.encoding third.now)
+            ∷ field fourth_name.now (D.encoding fourth.now)
+            ∷ field fifth_name.now (E.encoding fifth.now)
+            ∷ field sixth_name.now (F.encoding sixth.now)
+            ∷ field seventh_name.now (G.encoding seventh.now)
+            ∷ field eighth_name.now (H.encoding eighth.now)
+            ∷ field ninth_name.now (I.encoding ninth.now) ∷ []))
             (output W.view self.old) (output W.view self.new) result }
     {
         self.map_head(9)?;
@@ -386,8 +386,8 @@ impl<W: Write> Serializer<W> {
     ///
     /// # Errors
     ///
-    /// `Core` at the head or a name, and those of the `serialize` of a value. They are told at
-    /// `Serializer`. What was written before a value that is refused stays.
+    /// `Core` at the head or a name, and those of the `serialize` of a value. They are described at
+    /// `Serializer`. What was written before a value that is rejected stays.
     pub fn serialize_10_fields<
         A: Serialize,
         B: Serialize,
@@ -423,17 +423,17 @@ impl<W: Write> Serializer<W> {
         tenth_name: &str,
         tenth: &J,
     ) -> Result<(), EncodeError<W::Error>>
-        ensures { Serializes W.whole (struct_item
-            (field first_name.now (A.item first.now)
-            ∷ field second_name.now (B.item second.now)
-            ∷ field third_name.now (C.item third.now)
-            ∷ field fourth_name.now (D.item fourth.now)
-            ∷ field fifth_name.now (E.item fifth.now)
-            ∷ field sixth_name.now (F.item sixth.now)
-            ∷ field seventh_name.now (G.item seventh.now)
-            ∷ field eighth_name.now (H.item eighth.now)
-            ∷ field ninth_name.now (I.item ninth.now)
-            ∷ field tenth_name.now (J.item tenth.now) ∷ []))
+        ensures { Serializes W.atomic (struct_encoding
+            (field first_name.now (A.encoding first.now)
+            ∷ field second_name.now (B.encoding second.now)
+            ∷ field third_name.now (C.encoding third.now)
+            ∷ field fourth_name.now (D.encoding fourth.now)
+            ∷ field fifth_name.now (E.encoding fifth.now)
+            ∷ field sixth_name.now (F.encoding sixth.now)
+            ∷ field seventh_name.now (G.encoding seventh.now)
+            ∷ field eighth_name.now (H.encoding eighth.now)
+            ∷ field ninth_name.now (I.encoding ninth.now)
+            ∷ field tenth_name.now (J.encoding tenth.now) ∷ []))
             (output W.view self.old) (output W.view self.new) result }
     {
         self.map_head(10)?;
@@ -454,8 +454,8 @@ impl<W: Write> Serializer<W> {
     ///
     /// # Errors
     ///
-    /// `Core` at the head or a name, and those of the `serialize` of a value. They are told at
-    /// `Serializer`. What was written before a value that is refused stays.
+    /// `Core` at the head or a name, and those of the `serialize` of a value. They are described at
+    /// `Serializer`. What was written before a value that is rejected stays.
     pub fn serialize_11_fields<
         A: Serialize,
         B: Serialize,
@@ -494,18 +494,18 @@ impl<W: Write> Serializer<W> {
         eleventh_name: &str,
         eleventh: &K,
     ) -> Result<(), EncodeError<W::Error>>
-        ensures { Serializes W.whole (struct_item
-            (field first_name.now (A.item first.now)
-            ∷ field second_name.now (B.item second.now)
-            ∷ field third_name.now (C.item third.now)
-            ∷ field fourth_name.now (D.item fourth.now)
-            ∷ field fifth_name.now (E.item fifth.now)
-            ∷ field sixth_name.now (F.item sixth.now)
-            ∷ field seventh_name.now (G.item seventh.now)
-            ∷ field eighth_name.now (H.item eighth.now)
-            ∷ field ninth_name.now (I.item ninth.now)
-            ∷ field tenth_name.now (J.item tenth.now)
-            ∷ field eleventh_name.now (K.item eleventh.now) ∷ []))
+        ensures { Serializes W.atomic (struct_encoding
+            (field first_name.now (A.encoding first.now)
+            ∷ field second_name.now (B.encoding second.now)
+            ∷ field third_name.now (C.encoding third.now)
+            ∷ field fourth_name.now (D.encoding fourth.now)
+            ∷ field fifth_name.now (E.encoding fifth.now)
+            ∷ field sixth_name.now (F.encoding sixth.now)
+            ∷ field seventh_name.now (G.encoding seventh.now)
+            ∷ field eighth_name.now (H.encoding eighth.now)
+            ∷ field ninth_name.now (I.encoding ninth.now)
+            ∷ field tenth_name.now (J.encoding tenth.now)
+            ∷ field eleventh_name.now (K.encoding eleventh.now) ∷ []))
             (output W.view self.old) (output W.view self.new) result }
     {
         self.map_head(11)?;
@@ -527,8 +527,8 @@ impl<W: Write> Serializer<W> {
     ///
     /// # Errors
     ///
-    /// `Core` at the head or a name, and those of the `serialize` of a value. They are told at
-    /// `Serializer`. What was written before a value that is refused stays.
+    /// `Core` at the head or a name, and those of the `serialize` of a value. They are described at
+    /// `Serializer`. What was written before a value that is rejected stays.
     pub fn serialize_12_fields<
         A: Serialize,
         B: Serialize,
@@ -570,19 +570,19 @@ impl<W: Write> Serializer<W> {
         twelfth_name: &str,
         twelfth: &L,
     ) -> Result<(), EncodeError<W::Error>>
-        ensures { Serializes W.whole (struct_item
-            (field first_name.now (A.item first.now)
-            ∷ field second_name.now (B.item second.now)
-            ∷ field third_name.now (C.item third.now)
-            ∷ field fourth_name.now (D.item fourth.now)
-            ∷ field fifth_name.now (E.item fifth.now)
-            ∷ field sixth_name.now (F.item sixth.now)
-            ∷ field seventh_name.now (G.item seventh.now)
-            ∷ field eighth_name.now (H.item eighth.now)
-            ∷ field ninth_name.now (I.item ninth.now)
-            ∷ field tenth_name.now (J.item tenth.now)
-            ∷ field eleventh_name.now (K.item eleventh.now)
-            ∷ field twelfth_name.now (L.item twelfth.now) ∷ []))
+        ensures { Serializes W.atomic (struct_encoding
+            (field first_name.now (A.encoding first.now)
+            ∷ field second_name.now (B.encoding second.now)
+            ∷ field third_name.now (C.encoding third.now)
+            ∷ field fourth_name.now (D.encoding fourth.now)
+            ∷ field fifth_name.now (E.encoding fifth.now)
+            ∷ field sixth_name.now (F.encoding sixth.now)
+            ∷ field seventh_name.now (G.encoding seventh.now)
+            ∷ field eighth_name.now (H.encoding eighth.now)
+            ∷ field ninth_name.now (I.encoding ninth.now)
+            ∷ field tenth_name.now (J.encoding tenth.now)
+            ∷ field eleventh_name.now (K.encoding eleventh.now)
+            ∷ field twelfth_name.now (L.encoding twelfth.now) ∷ []))
             (output W.view self.old) (output W.view self.new) result }
     {
         self.map_head(12)?;

@@ -1,7 +1,7 @@
 //! Heads of arrays, maps and variants, and their ends.
 ghost use Rattle.std.specs.Prelude.{◌≡◌, ◌++◌, Ok, IsSome};
 ghost use Rattle.cbor4ii_items.specs.Numbers.{shortest_head};
-ghost use Rattle.cbor4ii_ser.specs.Counts.{counted_head, counted_end};
+ghost use Rattle.cbor4ii_ser.specs.Counts.{container_head, container_end};
 ghost use Rattle.cbor4ii_ser.specs.Item.{encoded, variant_head};
 ghost use Rattle.cbor4ii_ser.specs.Serializing.{Serializes, output};
 
@@ -13,7 +13,7 @@ use cbor4ii_rw::write::Write;
 impl<W: Write> Serializer<W> {
     #[inline]
     pub(crate) fn array_head(&mut self, len: usize) -> Result<(), EncodeError<W::Error>>
-        ensures { Serializes W.whole (encoded (shortest_head 4 len))
+        ensures { Serializes W.atomic (encoded (shortest_head 4 len))
             (output W.view self.old) (output W.view self.new) result }
     {
         Ok(Array::<()>::bounded(len, &mut self.writer)?)
@@ -21,7 +21,7 @@ impl<W: Write> Serializer<W> {
 
     #[inline]
     pub(crate) fn map_head(&mut self, len: usize) -> Result<(), EncodeError<W::Error>>
-        ensures { Serializes W.whole (encoded (shortest_head 5 len))
+        ensures { Serializes W.atomic (encoded (shortest_head 5 len))
             (output W.view self.old) (output W.view self.new) result }
     {
         Ok(Map::<()>::bounded(len, &mut self.writer)?)
@@ -29,7 +29,7 @@ impl<W: Write> Serializer<W> {
 
     /// The head of an array, of an indefinite length where none is known.
     pub(crate) fn seq_head(&mut self, len: Option<usize>) -> Result<(), EncodeError<W::Error>>
-        ensures { Serializes W.whole (encoded (counted_head 4 len))
+        ensures { Serializes W.atomic (encoded (container_head 4 len))
             (output W.view self.old) (output W.view self.new) result }
     {
         match len {
@@ -40,7 +40,7 @@ impl<W: Write> Serializer<W> {
 
     /// The head of a map, of an indefinite length where none is known.
     pub(crate) fn entries_head(&mut self, len: Option<usize>) -> Result<(), EncodeError<W::Error>>
-        ensures { Serializes W.whole (encoded (counted_head 5 len))
+        ensures { Serializes W.atomic (encoded (container_head 5 len))
             (output W.view self.old) (output W.view self.new) result }
     {
         match len {
@@ -53,7 +53,7 @@ impl<W: Write> Serializer<W> {
     pub(crate) fn sequence_end(&mut self, len: Option<usize>) -> Result<(), EncodeError<W::Error>>
         ensures succeeds { IsSome len → result ≡ Ok tt }
         ensures untouched { IsSome len → output W.view self.new ≡ output W.view self.old }
-        ensures written { Serializes W.whole (encoded (counted_end len))
+        ensures written { Serializes W.atomic (encoded (container_end len))
             (output W.view self.old) (output W.view self.new) result }
     {
         match len {
@@ -64,7 +64,7 @@ impl<W: Write> Serializer<W> {
 
     /// A map of one entry, and its key: the variant's name.
     pub(crate) fn variant_head(&mut self, name: &str) -> Result<(), EncodeError<W::Error>>
-        ensures { Serializes W.whole (encoded (variant_head name.now))
+        ensures { Serializes W.atomic (encoded (variant_head name.now))
             (output W.view self.old) (output W.view self.new) result }
     {
         self.map_head(1)?;
@@ -77,7 +77,7 @@ impl<W: Write> Serializer<W> {
         name: &str,
         len: usize,
     ) -> Result<(), EncodeError<W::Error>>
-        ensures { Serializes W.whole (encoded (variant_head name.now ++ shortest_head 4 len))
+        ensures { Serializes W.atomic (encoded (variant_head name.now ++ shortest_head 4 len))
             (output W.view self.old) (output W.view self.new) result }
     {
         self.variant_head(name)?;
@@ -90,7 +90,7 @@ impl<W: Write> Serializer<W> {
         name: &str,
         len: usize,
     ) -> Result<(), EncodeError<W::Error>>
-        ensures { Serializes W.whole (encoded (variant_head name.now ++ shortest_head 5 len))
+        ensures { Serializes W.atomic (encoded (variant_head name.now ++ shortest_head 5 len))
             (output W.view self.old) (output W.view self.new) result }
     {
         self.variant_head(name)?;

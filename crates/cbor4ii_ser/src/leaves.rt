@@ -6,8 +6,8 @@ ghost use Rattle.cbor4ii_items.specs.Floats.{float_bytes};
 ghost use Rattle.cbor4ii_items.specs.Numbers.{shortest_head, signed_head, signed_bytes};
 ghost use Rattle.cbor4ii_items.specs.Numbers.{unsigned_bytes};
 ghost use Rattle.cbor4ii_items.specs.Simple.{bool_byte};
-ghost use Rattle.cbor4ii_items.specs.Strings.{counted_string};
-ghost use Rattle.cbor4ii_ser.specs.Item.{encoded, option_item};
+ghost use Rattle.cbor4ii_items.specs.Strings.{definite_string};
+ghost use Rattle.cbor4ii_ser.specs.Item.{encoded, option_encoding};
 
 use crate::error::EncodeError;
 use crate::serialize::Serialize;
@@ -19,7 +19,7 @@ use std::borrow::CowStr;
 
 /// False or true, in one byte.
 impl Serialize for bool {
-    ghost item = { λ v. encoded (bool_byte v ∷ []) };
+    ghost encoding = { λ v. encoded (bool_byte v ∷ []) };
 
     #[inline]
     fn serialize<W: Write>(&self, ser: &mut Serializer<W>) -> Result<(), EncodeError<W::Error>> {
@@ -29,7 +29,7 @@ impl Serialize for bool {
 
 /// As its shortest head (RFC 8949 section 3.1), in one push.
 impl Serialize for i8 {
-    ghost item = { λ v. encoded (signed_head v) };
+    ghost encoding = { λ v. encoded (signed_head v) };
 
     #[inline]
     fn serialize<W: Write>(&self, ser: &mut Serializer<W>) -> Result<(), EncodeError<W::Error>> {
@@ -39,7 +39,7 @@ impl Serialize for i8 {
 
 /// As its shortest head (RFC 8949 section 3.1), in one push.
 impl Serialize for i16 {
-    ghost item = { λ v. encoded (signed_head v) };
+    ghost encoding = { λ v. encoded (signed_head v) };
 
     #[inline]
     fn serialize<W: Write>(&self, ser: &mut Serializer<W>) -> Result<(), EncodeError<W::Error>> {
@@ -49,7 +49,7 @@ impl Serialize for i16 {
 
 /// As its shortest head (RFC 8949 section 3.1), in one push.
 impl Serialize for i32 {
-    ghost item = { λ v. encoded (signed_head v) };
+    ghost encoding = { λ v. encoded (signed_head v) };
 
     #[inline]
     fn serialize<W: Write>(&self, ser: &mut Serializer<W>) -> Result<(), EncodeError<W::Error>> {
@@ -59,7 +59,7 @@ impl Serialize for i32 {
 
 /// As its shortest head (RFC 8949 section 3.1), in one push.
 impl Serialize for i64 {
-    ghost item = { λ v. encoded (signed_head v) };
+    ghost encoding = { λ v. encoded (signed_head v) };
 
     #[inline]
     fn serialize<W: Write>(&self, ser: &mut Serializer<W>) -> Result<(), EncodeError<W::Error>> {
@@ -69,7 +69,7 @@ impl Serialize for i64 {
 
 /// As its shortest head, or as a bignum where none has room for it (RFC 8949 section 3.4.3).
 impl Serialize for i128 {
-    ghost item = { λ v. encoded (signed_bytes v) };
+    ghost encoding = { λ v. encoded (signed_bytes v) };
 
     #[inline]
     fn serialize<W: Write>(&self, ser: &mut Serializer<W>) -> Result<(), EncodeError<W::Error>> {
@@ -79,7 +79,7 @@ impl Serialize for i128 {
 
 /// As its shortest head (RFC 8949 section 3.1), in one push.
 impl Serialize for u8 {
-    ghost item = { λ v. encoded (shortest_head 0 v) };
+    ghost encoding = { λ v. encoded (shortest_head 0 v) };
 
     #[inline]
     fn serialize<W: Write>(&self, ser: &mut Serializer<W>) -> Result<(), EncodeError<W::Error>> {
@@ -89,7 +89,7 @@ impl Serialize for u8 {
 
 /// As its shortest head (RFC 8949 section 3.1), in one push.
 impl Serialize for u16 {
-    ghost item = { λ v. encoded (shortest_head 0 v) };
+    ghost encoding = { λ v. encoded (shortest_head 0 v) };
 
     #[inline]
     fn serialize<W: Write>(&self, ser: &mut Serializer<W>) -> Result<(), EncodeError<W::Error>> {
@@ -99,7 +99,7 @@ impl Serialize for u16 {
 
 /// As its shortest head (RFC 8949 section 3.1), in one push.
 impl Serialize for u32 {
-    ghost item = { λ v. encoded (shortest_head 0 v) };
+    ghost encoding = { λ v. encoded (shortest_head 0 v) };
 
     #[inline]
     fn serialize<W: Write>(&self, ser: &mut Serializer<W>) -> Result<(), EncodeError<W::Error>> {
@@ -109,7 +109,7 @@ impl Serialize for u32 {
 
 /// As its shortest head (RFC 8949 section 3.1), in one push.
 impl Serialize for u64 {
-    ghost item = { λ v. encoded (shortest_head 0 v) };
+    ghost encoding = { λ v. encoded (shortest_head 0 v) };
 
     #[inline]
     fn serialize<W: Write>(&self, ser: &mut Serializer<W>) -> Result<(), EncodeError<W::Error>> {
@@ -119,7 +119,7 @@ impl Serialize for u64 {
 
 /// As its shortest head, or as a bignum where none has room for it (RFC 8949 section 3.4.3).
 impl Serialize for u128 {
-    ghost item = { λ v. encoded (unsigned_bytes v) };
+    ghost encoding = { λ v. encoded (unsigned_bytes v) };
 
     #[inline]
     fn serialize<W: Write>(&self, ser: &mut Serializer<W>) -> Result<(), EncodeError<W::Error>> {
@@ -129,7 +129,7 @@ impl Serialize for u128 {
 
 /// As its first byte and its bits, most significant first, in one push.
 impl Serialize for F16 {
-    ghost item = { λ v. encoded (float_bytes 0xf9 2 v.0) };
+    ghost encoding = { λ v. encoded (float_bytes 0xf9 2 v.0) };
 
     #[inline]
     fn serialize<W: Write>(&self, ser: &mut Serializer<W>) -> Result<(), EncodeError<W::Error>> {
@@ -139,7 +139,7 @@ impl Serialize for F16 {
 
 /// As its first byte and its bits, most significant first, in one push.
 impl Serialize for F32 {
-    ghost item = { λ v. encoded (float_bytes 0xfa 4 v.0) };
+    ghost encoding = { λ v. encoded (float_bytes 0xfa 4 v.0) };
 
     #[inline]
     fn serialize<W: Write>(&self, ser: &mut Serializer<W>) -> Result<(), EncodeError<W::Error>> {
@@ -149,7 +149,7 @@ impl Serialize for F32 {
 
 /// As its first byte and its bits, most significant first, in one push.
 impl Serialize for F64 {
-    ghost item = { λ v. encoded (float_bytes 0xfb 8 v.0) };
+    ghost encoding = { λ v. encoded (float_bytes 0xfb 8 v.0) };
 
     #[inline]
     fn serialize<W: Write>(&self, ser: &mut Serializer<W>) -> Result<(), EncodeError<W::Error>> {
@@ -159,7 +159,7 @@ impl Serialize for F64 {
 
 /// A text of one character.
 impl Serialize for char {
-    ghost item = { λ v. encoded (counted_string 3 (encode_utf8 v)) };
+    ghost encoding = { λ v. encoded (definite_string 3 (encode_utf8 v)) };
 
     #[inline]
     fn serialize<W: Write>(&self, ser: &mut Serializer<W>) -> Result<(), EncodeError<W::Error>> {
@@ -169,7 +169,7 @@ impl Serialize for char {
 
 /// A text.
 impl<'a> Serialize for &'a str {
-    ghost item = { λ v. encoded (counted_string 3 v.now) };
+    ghost encoding = { λ v. encoded (definite_string 3 v.now) };
 
     #[inline]
     fn serialize<W: Write>(&self, ser: &mut Serializer<W>) -> Result<(), EncodeError<W::Error>> {
@@ -179,7 +179,7 @@ impl<'a> Serialize for &'a str {
 
 /// A text.
 impl Serialize for String {
-    ghost item = { λ v. encoded (counted_string 3 (string_bytes v)) };
+    ghost encoding = { λ v. encoded (definite_string 3 (string_bytes v)) };
 
     #[inline]
     fn serialize<W: Write>(&self, ser: &mut Serializer<W>) -> Result<(), EncodeError<W::Error>> {
@@ -189,7 +189,7 @@ impl Serialize for String {
 
 /// A text, whether borrowed or owned.
 impl<'a> Serialize for CowStr<'a, Global> {
-    ghost item = { λ v. encoded (counted_string 3 (cow_text v)) };
+    ghost encoding = { λ v. encoded (definite_string 3 (cow_text v)) };
 
     #[inline]
     fn serialize<W: Write>(&self, ser: &mut Serializer<W>) -> Result<(), EncodeError<W::Error>> {
@@ -199,7 +199,7 @@ impl<'a> Serialize for CowStr<'a, Global> {
 
 /// A byte string.
 impl<'a> Serialize for Bytes<&'a [u8]> {
-    ghost item = { λ v. encoded (counted_string 2 v.0.now) };
+    ghost encoding = { λ v. encoded (definite_string 2 v.0.now) };
 
     #[inline]
     fn serialize<W: Write>(&self, ser: &mut Serializer<W>) -> Result<(), EncodeError<W::Error>> {
@@ -209,7 +209,7 @@ impl<'a> Serialize for Bytes<&'a [u8]> {
 
 /// A byte string.
 impl Serialize for Bytes<Vec<u8>> {
-    ghost item = { λ v. encoded (counted_string 2 v.0.items) };
+    ghost encoding = { λ v. encoded (definite_string 2 v.0.items) };
 
     #[inline]
     fn serialize<W: Write>(&self, ser: &mut Serializer<W>) -> Result<(), EncodeError<W::Error>> {
@@ -219,7 +219,7 @@ impl Serialize for Bytes<Vec<u8>> {
 
 /// An array of no item.
 impl Serialize for () {
-    ghost item = { λ _. encoded (shortest_head 4 0) };
+    ghost encoding = { λ _. encoded (shortest_head 4 0) };
 
     #[inline]
     fn serialize<W: Write>(&self, ser: &mut Serializer<W>) -> Result<(), EncodeError<W::Error>> {
@@ -229,7 +229,7 @@ impl Serialize for () {
 
 /// The value in the box.
 impl<T: Serialize> Serialize for Box<T> {
-    ghost item = { λ b. T.item b.value };
+    ghost encoding = { λ b. T.encoding b.value };
 
     #[inline]
     fn serialize<W: Write>(&self, ser: &mut Serializer<W>) -> Result<(), EncodeError<W::Error>> {
@@ -239,7 +239,7 @@ impl<T: Serialize> Serialize for Box<T> {
 
 /// Null for none, and else the value itself.
 impl<T: Serialize> Serialize for Option<T> {
-    ghost item = { option_item T.item };
+    ghost encoding = { option_encoding T.encoding };
 
     #[inline]
     fn serialize<W: Write>(&self, ser: &mut Serializer<W>) -> Result<(), EncodeError<W::Error>> {
@@ -252,7 +252,7 @@ impl<T: Serialize> Serialize for Option<T> {
 
 /// A reference to a value, written as the value.
 impl<'a, T: Serialize> Serialize for &'a T {
-    ghost item = { λ v. T.item v.now };
+    ghost encoding = { λ v. T.encoding v.now };
 
     #[inline]
     fn serialize<W: Write>(&self, ser: &mut Serializer<W>) -> Result<(), EncodeError<W::Error>> {

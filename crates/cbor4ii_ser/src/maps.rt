@@ -1,5 +1,5 @@
 //! Maps that are there as a whole.
-ghost use Rattle.cbor4ii_ser.specs.Item.{followed, each_item, entry_item, map_item};
+ghost use Rattle.cbor4ii_ser.specs.Item.{followed, each_encoding, entry_encoding, map_encoding};
 ghost use Rattle.cbor4ii_ser.specs.Serializing.{Serializes, output};
 
 use crate::error::EncodeError;
@@ -10,7 +10,7 @@ use std::collections::BTreeMap;
 
 /// A map of the entries, in the order of the keys.
 impl<K: Serialize + Ord, V: Serialize> Serialize for BTreeMap<K, V> {
-    ghost item = { λ m. map_item K.item V.item m.entries };
+    ghost encoding = { λ m. map_encoding K.encoding V.encoding m.entries };
 
     #[inline]
     fn serialize<W: Write>(&self, ser: &mut Serializer<W>) -> Result<(), EncodeError<W::Error>> {
@@ -23,7 +23,7 @@ fn put_map<W: Write, K: Serialize + Ord, V: Serialize>(
     ser: &mut Serializer<W>,
     map: &BTreeMap<K, V>,
 ) -> Result<(), EncodeError<W::Error>>
-    ensures { Serializes W.whole (map_item K.item V.item map.now.entries)
+    ensures { Serializes W.atomic (map_encoding K.encoding V.encoding map.now.entries)
         (output W.view ser.old) (output W.view ser.new) result }
 {
     ser.map_head(map.len())?;
@@ -35,7 +35,8 @@ fn put_entries<W: Write, K: Serialize + Ord, V: Serialize>(
     ser: &mut Serializer<W>,
     map: &BTreeMap<K, V>,
 ) -> Result<(), EncodeError<W::Error>>
-    ensures { Serializes W.whole (each_item (entry_item K.item V.item) map.now.entries)
+    ensures { Serializes W.atomic (each_encoding (entry_encoding K.encoding V.encoding)
+        map.now.entries)
         (output W.view ser.old) (output W.view ser.new) result }
 {
     for (key, value) in map {
@@ -44,14 +45,14 @@ fn put_entries<W: Write, K: Serialize + Ord, V: Serialize>(
     Ok(())
 }
 
-/// Writes a key, and a value behind it.
+/// Writes a key, and a value after it.
 #[inline]
 pub(crate) fn put_entry<W: Write, K: Serialize, V: Serialize>(
     ser: &mut Serializer<W>,
     key: &K,
     value: &V,
 ) -> Result<(), EncodeError<W::Error>>
-    ensures { Serializes W.whole (followed (K.item key.now) (V.item value.now))
+    ensures { Serializes W.atomic (followed (K.encoding key.now) (V.encoding value.now))
         (output W.view ser.old) (output W.view ser.new) result }
 {
     key.serialize(ser)?;

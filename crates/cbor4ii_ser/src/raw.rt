@@ -11,7 +11,7 @@ use cbor4ii_tree::{BoxedRawValue, RawValue};
 
 /// The item as it stands, in one push.
 impl<'a> Serialize for RawValue<'a> {
-    ghost item = { λ v. encoded (raw_content v) };
+    ghost encoding = { λ v. encoded (raw_content v) };
 
     fn serialize<W: Write>(&self, ser: &mut Serializer<W>) -> Result<(), EncodeError<W::Error>> {
         ser.put(self)
@@ -20,7 +20,7 @@ impl<'a> Serialize for RawValue<'a> {
 
 /// The item as it stands, in one push.
 impl Serialize for BoxedRawValue {
-    ghost item = { λ v. encoded (boxed_content v) };
+    ghost encoding = { λ v. encoded (boxed_content v) };
 
     fn serialize<W: Write>(&self, ser: &mut Serializer<W>) -> Result<(), EncodeError<W::Error>> {
         ser.put(self)

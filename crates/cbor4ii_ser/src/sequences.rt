@@ -1,5 +1,5 @@
 //! Arrays that are there as a whole.
-ghost use Rattle.cbor4ii_ser.specs.Item.{each_item, array_item};
+ghost use Rattle.cbor4ii_ser.specs.Item.{each_encoding, array_encoding};
 ghost use Rattle.cbor4ii_ser.specs.Serializing.{Serializes, output};
 
 use crate::error::EncodeError;
@@ -9,7 +9,7 @@ use cbor4ii_rw::write::Write;
 
 /// An array of the items, in order.
 impl<T: Serialize> Serialize for Vec<T> {
-    ghost item = { λ v. array_item T.item v.items };
+    ghost encoding = { λ v. array_encoding T.encoding v.items };
 
     #[inline]
     fn serialize<W: Write>(&self, ser: &mut Serializer<W>) -> Result<(), EncodeError<W::Error>> {
@@ -22,7 +22,7 @@ fn put_array<W: Write, T: Serialize>(
     ser: &mut Serializer<W>,
     items: &[T],
 ) -> Result<(), EncodeError<W::Error>>
-    ensures { Serializes W.whole (array_item T.item items.now)
+    ensures { Serializes W.atomic (array_encoding T.encoding items.now)
         (output W.view ser.old) (output W.view ser.new) result }
 {
     ser.array_head(items.len())?;
@@ -34,7 +34,7 @@ fn put_items<W: Write, T: Serialize>(
     ser: &mut Serializer<W>,
     items: &[T],
 ) -> Result<(), EncodeError<W::Error>>
-    ensures { Serializes W.whole (each_item T.item items.now)
+    ensures { Serializes W.atomic (each_encoding T.encoding items.now)
         (output W.view ser.old) (output W.view ser.new) result }
 {
     for item in items {

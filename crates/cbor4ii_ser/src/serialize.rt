@@ -17,21 +17,21 @@ use cbor4ii_rw::write::Write;
 /// has it by a lemma of `specs/Laws/OneItem` for each of these words.
 pub trait Serialize {
     // What is written for a value: the bytes of the item that stands for it, every head the
-    // shortest; or, where none does, those before the place at which it is refused, and the words
+    // shortest; or, where none does, those before the place at which it is rejected, and the words
     // that say why. That the bytes are one item is not asked of a type: a container holds what its
     // parts write.
-    ghost item: { Self → Encoding };
+    ghost encoding: { Self → Encoding };
 
     /// Appends the value's item to what the writer holds.
     ///
     /// # Errors
     ///
-    /// - `Core` of `Write`: the writer failed in the call. A whole writer then holds what it held
+    /// - `Core` of `Write`: the writer failed in the call. An atomic writer then holds what it held
     ///   before and a beginning of the item. Of a value that has none it is a beginning of what
-    ///   stands before the refusal. Of another writer nothing is said
-    /// - `Custom` with the words of its refusal: the value has no item. Exactly what stands before
-    ///   the refusal is appended, and the writer did not fail
+    ///   stands before the error. Of another writer nothing is said
+    /// - `Custom` with the words of its error: the value has no item. Exactly what stands before
+    ///   the error is appended, and the writer did not fail
     fn serialize<W: Write>(&self, ser: &mut Serializer<W>) -> Result<(), EncodeError<W::Error>>
-        ensures { Serializes W.whole (item self.now)
+        ensures { Serializes W.atomic (encoding self.now)
             (output W.view ser.old) (output W.view ser.new) result };
 }

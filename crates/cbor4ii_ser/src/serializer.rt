@@ -5,8 +5,8 @@ ghost use Rattle.cbor4ii_items.specs.Floats.{float_bytes};
 ghost use Rattle.cbor4ii_items.specs.Numbers.{shortest_head, signed_head, signed_bytes};
 ghost use Rattle.cbor4ii_items.specs.Numbers.{unsigned_bytes};
 ghost use Rattle.cbor4ii_items.specs.Simple.{bool_byte};
-ghost use Rattle.cbor4ii_items.specs.Strings.{counted_string};
-ghost use Rattle.cbor4ii_ser.specs.Item.{encoded, variant_item};
+ghost use Rattle.cbor4ii_items.specs.Strings.{definite_string};
+ghost use Rattle.cbor4ii_ser.specs.Item.{encoded, variant_encoding};
 ghost use Rattle.cbor4ii_ser.specs.Serializing.{Serializes, output};
 
 use crate::error::EncodeError;
@@ -20,17 +20,17 @@ use cbor4ii_rw::write::Write;
 ///
 /// # Errors
 ///
-/// - `Core` of `Write`: the writer failed in the call. A whole writer then holds what it held
+/// - `Core` of `Write`: the writer failed in the call. An atomic writer then holds what it held
 ///   before and a beginning of what the call writes. Of another writer nothing is said
 /// - `Custom` with the words of a type: a value that the call is given has no item. Exactly what
-///   stands before the refusal is appended, and the writer did not fail
+///   stands before the error is appended, and the writer did not fail
 #[derive(Debug, Drop)]
 pub struct Serializer<W> {
     pub(crate) writer: W,
 }
 
 impl<W: Write> Serializer<W> {
-    /// A serializer that writes behind what `writer` holds.
+    /// A serializer that writes after what `writer` holds.
     pub fn new(writer: W) -> Serializer<W>
         ensures { output W.view result ≡ W.view writer }
     {
@@ -54,7 +54,7 @@ impl<W: Write> Serializer<W> {
     /// Writes an item that is never missing.
     #[inline]
     pub(crate) fn put<T: Encode>(&mut self, value: &T) -> Result<(), EncodeError<W::Error>>
-        ensures { Serializes W.whole (encoded (T.bytes value.now))
+        ensures { Serializes W.atomic (encoded (T.bytes value.now))
             (output W.view self.old) (output W.view self.new) result }
     {
         Ok(value.encode(&mut self.writer)?)
@@ -64,10 +64,10 @@ impl<W: Write> Serializer<W> {
     ///
     /// # Errors
     ///
-    /// `Core`, which is told at `Serializer`.
+    /// `Core`, which is described at `Serializer`.
     #[inline]
     pub fn serialize_bool(&mut self, value: bool) -> Result<(), EncodeError<W::Error>>
-        ensures { Serializes W.whole (encoded (bool_byte value ∷ []))
+        ensures { Serializes W.atomic (encoded (bool_byte value ∷ []))
             (output W.view self.old) (output W.view self.new) result }
     {
         self.put(&value)
@@ -77,10 +77,10 @@ impl<W: Write> Serializer<W> {
     ///
     /// # Errors
     ///
-    /// `Core`, which is told at `Serializer`.
+    /// `Core`, which is described at `Serializer`.
     #[inline]
     pub fn serialize_i8(&mut self, value: i8) -> Result<(), EncodeError<W::Error>>
-        ensures { Serializes W.whole (encoded (signed_head value))
+        ensures { Serializes W.atomic (encoded (signed_head value))
             (output W.view self.old) (output W.view self.new) result }
     {
         self.put(&value)
@@ -90,10 +90,10 @@ impl<W: Write> Serializer<W> {
     ///
     /// # Errors
     ///
-    /// `Core`, which is told at `Serializer`.
+    /// `Core`, which is described at `Serializer`.
     #[inline]
     pub fn serialize_i16(&mut self, value: i16) -> Result<(), EncodeError<W::Error>>
-        ensures { Serializes W.whole (encoded (signed_head value))
+        ensures { Serializes W.atomic (encoded (signed_head value))
             (output W.view self.old) (output W.view self.new) result }
     {
         self.put(&value)
@@ -103,10 +103,10 @@ impl<W: Write> Serializer<W> {
     ///
     /// # Errors
     ///
-    /// `Core`, which is told at `Serializer`.
+    /// `Core`, which is described at `Serializer`.
     #[inline]
     pub fn serialize_i32(&mut self, value: i32) -> Result<(), EncodeError<W::Error>>
-        ensures { Serializes W.whole (encoded (signed_head value))
+        ensures { Serializes W.atomic (encoded (signed_head value))
             (output W.view self.old) (output W.view self.new) result }
     {
         self.put(&value)
@@ -116,10 +116,10 @@ impl<W: Write> Serializer<W> {
     ///
     /// # Errors
     ///
-    /// `Core`, which is told at `Serializer`.
+    /// `Core`, which is described at `Serializer`.
     #[inline]
     pub fn serialize_i64(&mut self, value: i64) -> Result<(), EncodeError<W::Error>>
-        ensures { Serializes W.whole (encoded (signed_head value))
+        ensures { Serializes W.atomic (encoded (signed_head value))
             (output W.view self.old) (output W.view self.new) result }
     {
         self.put(&value)
@@ -129,9 +129,9 @@ impl<W: Write> Serializer<W> {
     ///
     /// # Errors
     ///
-    /// `Core`, which is told at `Serializer`.
+    /// `Core`, which is described at `Serializer`.
     pub fn serialize_i128(&mut self, value: i128) -> Result<(), EncodeError<W::Error>>
-        ensures { Serializes W.whole (encoded (signed_bytes value))
+        ensures { Serializes W.atomic (encoded (signed_bytes value))
             (output W.view self.old) (output W.view self.new) result }
     {
         self.put(&value)
@@ -141,10 +141,10 @@ impl<W: Write> Serializer<W> {
     ///
     /// # Errors
     ///
-    /// `Core`, which is told at `Serializer`.
+    /// `Core`, which is described at `Serializer`.
     #[inline]
     pub fn serialize_u8(&mut self, value: u8) -> Result<(), EncodeError<W::Error>>
-        ensures { Serializes W.whole (encoded (shortest_head 0 value))
+        ensures { Serializes W.atomic (encoded (shortest_head 0 value))
             (output W.view self.old) (output W.view self.new) result }
     {
         self.put(&value)
@@ -154,10 +154,10 @@ impl<W: Write> Serializer<W> {
     ///
     /// # Errors
     ///
-    /// `Core`, which is told at `Serializer`.
+    /// `Core`, which is described at `Serializer`.
     #[inline]
     pub fn serialize_u16(&mut self, value: u16) -> Result<(), EncodeError<W::Error>>
-        ensures { Serializes W.whole (encoded (shortest_head 0 value))
+        ensures { Serializes W.atomic (encoded (shortest_head 0 value))
             (output W.view self.old) (output W.view self.new) result }
     {
         self.put(&value)
@@ -167,10 +167,10 @@ impl<W: Write> Serializer<W> {
     ///
     /// # Errors
     ///
-    /// `Core`, which is told at `Serializer`.
+    /// `Core`, which is described at `Serializer`.
     #[inline]
     pub fn serialize_u32(&mut self, value: u32) -> Result<(), EncodeError<W::Error>>
-        ensures { Serializes W.whole (encoded (shortest_head 0 value))
+        ensures { Serializes W.atomic (encoded (shortest_head 0 value))
             (output W.view self.old) (output W.view self.new) result }
     {
         self.put(&value)
@@ -180,10 +180,10 @@ impl<W: Write> Serializer<W> {
     ///
     /// # Errors
     ///
-    /// `Core`, which is told at `Serializer`.
+    /// `Core`, which is described at `Serializer`.
     #[inline]
     pub fn serialize_u64(&mut self, value: u64) -> Result<(), EncodeError<W::Error>>
-        ensures { Serializes W.whole (encoded (shortest_head 0 value))
+        ensures { Serializes W.atomic (encoded (shortest_head 0 value))
             (output W.view self.old) (output W.view self.new) result }
     {
         self.put(&value)
@@ -193,9 +193,9 @@ impl<W: Write> Serializer<W> {
     ///
     /// # Errors
     ///
-    /// `Core`, which is told at `Serializer`.
+    /// `Core`, which is described at `Serializer`.
     pub fn serialize_u128(&mut self, value: u128) -> Result<(), EncodeError<W::Error>>
-        ensures { Serializes W.whole (encoded (unsigned_bytes value))
+        ensures { Serializes W.atomic (encoded (unsigned_bytes value))
             (output W.view self.old) (output W.view self.new) result }
     {
         self.put(&value)
@@ -205,10 +205,10 @@ impl<W: Write> Serializer<W> {
     ///
     /// # Errors
     ///
-    /// `Core`, which is told at `Serializer`.
+    /// `Core`, which is described at `Serializer`.
     #[inline]
     pub fn serialize_f16(&mut self, bits: u16) -> Result<(), EncodeError<W::Error>>
-        ensures { Serializes W.whole (encoded (float_bytes 0xf9 2 bits))
+        ensures { Serializes W.atomic (encoded (float_bytes 0xf9 2 bits))
             (output W.view self.old) (output W.view self.new) result }
     {
         self.put(&F16(bits))
@@ -218,10 +218,10 @@ impl<W: Write> Serializer<W> {
     ///
     /// # Errors
     ///
-    /// `Core`, which is told at `Serializer`.
+    /// `Core`, which is described at `Serializer`.
     #[inline]
     pub fn serialize_f32(&mut self, bits: u32) -> Result<(), EncodeError<W::Error>>
-        ensures { Serializes W.whole (encoded (float_bytes 0xfa 4 bits))
+        ensures { Serializes W.atomic (encoded (float_bytes 0xfa 4 bits))
             (output W.view self.old) (output W.view self.new) result }
     {
         self.put(&F32(bits))
@@ -231,10 +231,10 @@ impl<W: Write> Serializer<W> {
     ///
     /// # Errors
     ///
-    /// `Core`, which is told at `Serializer`.
+    /// `Core`, which is described at `Serializer`.
     #[inline]
     pub fn serialize_f64(&mut self, bits: u64) -> Result<(), EncodeError<W::Error>>
-        ensures { Serializes W.whole (encoded (float_bytes 0xfb 8 bits))
+        ensures { Serializes W.atomic (encoded (float_bytes 0xfb 8 bits))
             (output W.view self.old) (output W.view self.new) result }
     {
         self.put(&F64(bits))
@@ -244,9 +244,9 @@ impl<W: Write> Serializer<W> {
     ///
     /// # Errors
     ///
-    /// `Core`, which is told at `Serializer`.
+    /// `Core`, which is described at `Serializer`.
     pub fn serialize_char(&mut self, value: char) -> Result<(), EncodeError<W::Error>>
-        ensures { Serializes W.whole (encoded (counted_string 3 (encode_utf8 value)))
+        ensures { Serializes W.atomic (encoded (definite_string 3 (encode_utf8 value)))
             (output W.view self.old) (output W.view self.new) result }
     {
         let mut bytes = [0; 4];
@@ -257,10 +257,10 @@ impl<W: Write> Serializer<W> {
     ///
     /// # Errors
     ///
-    /// `Core`, which is told at `Serializer`.
+    /// `Core`, which is described at `Serializer`.
     #[inline]
     pub fn serialize_str(&mut self, value: &str) -> Result<(), EncodeError<W::Error>>
-        ensures { Serializes W.whole (encoded (counted_string 3 value.now))
+        ensures { Serializes W.atomic (encoded (definite_string 3 value.now))
             (output W.view self.old) (output W.view self.new) result }
     {
         self.put(&value)
@@ -270,10 +270,10 @@ impl<W: Write> Serializer<W> {
     ///
     /// # Errors
     ///
-    /// `Core`, which is told at `Serializer`.
+    /// `Core`, which is described at `Serializer`.
     #[inline]
     pub fn serialize_bytes(&mut self, value: &[u8]) -> Result<(), EncodeError<W::Error>>
-        ensures { Serializes W.whole (encoded (counted_string 2 value.now))
+        ensures { Serializes W.atomic (encoded (definite_string 2 value.now))
             (output W.view self.old) (output W.view self.new) result }
     {
         self.put(&Bytes(value))
@@ -283,10 +283,10 @@ impl<W: Write> Serializer<W> {
     ///
     /// # Errors
     ///
-    /// `Core`, which is told at `Serializer`.
+    /// `Core`, which is described at `Serializer`.
     #[inline]
     pub fn serialize_none(&mut self) -> Result<(), EncodeError<W::Error>>
-        ensures { Serializes W.whole (encoded (0xf6 ∷ []))
+        ensures { Serializes W.atomic (encoded (0xf6 ∷ []))
             (output W.view self.old) (output W.view self.new) result }
     {
         self.put(&Null)
@@ -299,7 +299,7 @@ impl<W: Write> Serializer<W> {
     /// Those of the value's `serialize`.
     #[inline]
     pub fn serialize_some<T: Serialize>(&mut self, value: &T) -> Result<(), EncodeError<W::Error>>
-        ensures { Serializes W.whole (T.item value.now)
+        ensures { Serializes W.atomic (T.encoding value.now)
             (output W.view self.old) (output W.view self.new) result }
     {
         value.serialize(self)
@@ -309,10 +309,10 @@ impl<W: Write> Serializer<W> {
     ///
     /// # Errors
     ///
-    /// `Core`, which is told at `Serializer`.
+    /// `Core`, which is described at `Serializer`.
     #[inline]
     pub fn serialize_unit(&mut self) -> Result<(), EncodeError<W::Error>>
-        ensures { Serializes W.whole (encoded (shortest_head 4 0))
+        ensures { Serializes W.atomic (encoded (shortest_head 4 0))
             (output W.view self.old) (output W.view self.new) result }
     {
         self.array_head(0)
@@ -322,9 +322,9 @@ impl<W: Write> Serializer<W> {
     ///
     /// # Errors
     ///
-    /// `Core`, which is told at `Serializer`.
+    /// `Core`, which is described at `Serializer`.
     pub fn serialize_unit_struct(&mut self, _name: &str) -> Result<(), EncodeError<W::Error>>
-        ensures { Serializes W.whole (encoded (shortest_head 4 0))
+        ensures { Serializes W.atomic (encoded (shortest_head 4 0))
             (output W.view self.old) (output W.view self.new) result }
     {
         self.serialize_unit()
@@ -334,14 +334,14 @@ impl<W: Write> Serializer<W> {
     ///
     /// # Errors
     ///
-    /// `Core`, which is told at `Serializer`.
+    /// `Core`, which is described at `Serializer`.
     pub fn serialize_unit_variant(
         &mut self,
         _name: &str,
         _variant_index: u32,
         variant: &str,
     ) -> Result<(), EncodeError<W::Error>>
-        ensures { Serializes W.whole (encoded (counted_string 3 variant.now))
+        ensures { Serializes W.atomic (encoded (definite_string 3 variant.now))
             (output W.view self.old) (output W.view self.new) result }
     {
         self.serialize_str(variant)
@@ -358,7 +358,7 @@ impl<W: Write> Serializer<W> {
         _name: &str,
         value: &T,
     ) -> Result<(), EncodeError<W::Error>>
-        ensures { Serializes W.whole (T.item value.now)
+        ensures { Serializes W.atomic (T.encoding value.now)
             (output W.view self.old) (output W.view self.new) result }
     {
         value.serialize(self)
@@ -369,8 +369,8 @@ impl<W: Write> Serializer<W> {
     ///
     /// # Errors
     ///
-    /// `Core` at the name, and those of the content's `serialize`. They are told at `Serializer`.
-    /// The name stays where the content is refused.
+    /// `Core` at the name, and those of the content's `serialize`. They are described at
+    /// `Serializer`. The name stays where the content is rejected.
     pub fn serialize_newtype_variant<T: Serialize>(
         &mut self,
         _name: &str,
@@ -378,7 +378,7 @@ impl<W: Write> Serializer<W> {
         variant: &str,
         value: &T,
     ) -> Result<(), EncodeError<W::Error>>
-        ensures { Serializes W.whole (variant_item variant.now (T.item value.now))
+        ensures { Serializes W.atomic (variant_encoding variant.now (T.encoding value.now))
             (output W.view self.old) (output W.view self.new) result }
     {
         self.variant_head(variant)?;

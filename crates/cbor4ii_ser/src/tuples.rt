@@ -1,6 +1,6 @@
 //! Pairs and triples.
 ghost use Rattle.std.specs.Prelude.{◌∷◌, []};
-ghost use Rattle.cbor4ii_ser.specs.Item.{tuple_item};
+ghost use Rattle.cbor4ii_ser.specs.Item.{tuple_encoding};
 
 use crate::error::EncodeError;
 use crate::serialize::Serialize;
@@ -9,7 +9,7 @@ use cbor4ii_rw::write::Write;
 
 /// An array of two items.
 impl<A: Serialize, B: Serialize> Serialize for (A, B) {
-    ghost item = { λ p. tuple_item (A.item p.0 ∷ B.item p.1 ∷ []) };
+    ghost encoding = { λ p. tuple_encoding (A.encoding p.0 ∷ B.encoding p.1 ∷ []) };
 
     #[inline]
     fn serialize<W: Write>(&self, ser: &mut Serializer<W>) -> Result<(), EncodeError<W::Error>> {
@@ -21,7 +21,8 @@ impl<A: Serialize, B: Serialize> Serialize for (A, B) {
 
 /// An array of three items.
 impl<A: Serialize, B: Serialize, C: Serialize> Serialize for (A, B, C) {
-    ghost item = { λ p. tuple_item (A.item p.0 ∷ B.item p.1 ∷ C.item p.2 ∷ []) };
+    ghost encoding = { λ p. tuple_encoding (A.encoding p.0 ∷ B.encoding p.1 ∷ C.encoding p.2
+        ∷ []) };
 
     #[inline]
     fn serialize<W: Write>(&self, ser: &mut Serializer<W>) -> Result<(), EncodeError<W::Error>> {

@@ -2,7 +2,8 @@
 ghost use Rattle.std.specs.Prelude.{◌≡◌, IsTrue};
 ghost use Rattle.cbor4ii_tree.specs.View.{view, items_view, members_view};
 ghost use Rattle.cbor4ii_ser.specs.Serializing.{Serializes, output};
-ghost use Rattle.cbor4ii_ser.specs.Values.{holds_tag, some_holds_tag, members_hold_tag, value_item};
+ghost use Rattle.cbor4ii_ser.specs.Values.{holds_tag, some_holds_tag, members_hold_tag};
+ghost use Rattle.cbor4ii_ser.specs.Values.{value_encoding};
 
 use crate::error::EncodeError;
 use crate::serialize::Serialize;
@@ -10,18 +11,18 @@ use crate::serializer::Serializer;
 use cbor4ii_rw::write::Write;
 use cbor4ii_tree::value::Value;
 
-/// The value's canonical spelling.
+/// The value's canonical encoding.
 ///
 /// # Errors
 ///
-/// - `Core`, which is told at `Serialize::serialize`
+/// - `Core`, which is described at `Serialize::serialize`
 /// - `Custom` with "serialization Tag via serde is not supported": a tag stands somewhere in the
 ///   value. Nothing is written then
 impl Serialize for Value {
-    ghost item = { λ v. value_item (view v) };
+    ghost encoding = { λ v. value_encoding (view v) };
 
     fn serialize<W: Write>(&self, ser: &mut Serializer<W>) -> Result<(), EncodeError<W::Error>>
-        ensures written { Serializes W.whole (value_item (view self.now))
+        ensures written { Serializes W.atomic (value_encoding (view self.now))
             (output W.view ser.old) (output W.view ser.new) result }
         ensures untouched { IsTrue (holds_tag (view self.now)) →
             output W.view ser.new ≡ output W.view ser.old }

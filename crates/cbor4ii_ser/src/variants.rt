@@ -1,6 +1,7 @@
 //! Variants that are written from their fields or items in one call.
 ghost use Rattle.std.specs.Prelude.{◌∷◌, []};
-ghost use Rattle.cbor4ii_ser.specs.Item.{field, struct_item, tuple_variant_item, variant_item};
+ghost use Rattle.cbor4ii_ser.specs.Item.{field, struct_encoding, tuple_variant_encoding};
+ghost use Rattle.cbor4ii_ser.specs.Item.{variant_encoding};
 ghost use Rattle.cbor4ii_ser.specs.Serializing.{Serializes, output};
 
 use crate::error::EncodeError;
@@ -15,8 +16,8 @@ impl<W: Write> Serializer<W> {
     ///
     /// # Errors
     ///
-    /// `Core` at the head or a name, and those of the `serialize` of a value. They are told at
-    /// `Serializer`. What was written before a value that is refused stays.
+    /// `Core` at the head or a name, and those of the `serialize` of a value. They are described at
+    /// `Serializer`. What was written before a value that is rejected stays.
     pub fn serialize_variant_of_1_field<A: Serialize>(
         &mut self,
         name: &str,
@@ -25,8 +26,8 @@ impl<W: Write> Serializer<W> {
         first_name: &str,
         first: &A,
     ) -> Result<(), EncodeError<W::Error>>
-        ensures { Serializes W.whole (variant_item variant.now (struct_item
-            (field first_name.now (A.item first.now) ∷ [])))
+        ensures { Serializes W.atomic (variant_encoding variant.now (struct_encoding
+            (field first_name.now (A.encoding first.now) ∷ [])))
             (output W.view self.old) (output W.view self.new) result }
     {
         self.variant_head(variant)?;
@@ -39,8 +40,8 @@ impl<W: Write> Serializer<W> {
     ///
     /// # Errors
     ///
-    /// `Core` at the head or a name, and those of the `serialize` of a value. They are told at
-    /// `Serializer`. What was written before a value that is refused stays.
+    /// `Core` at the head or a name, and those of the `serialize` of a value. They are described at
+    /// `Serializer`. What was written before a value that is rejected stays.
     pub fn serialize_variant_of_2_fields<A: Serialize, B: Serialize>(
         &mut self,
         name: &str,
@@ -51,9 +52,9 @@ impl<W: Write> Serializer<W> {
         second_name: &str,
         second: &B,
     ) -> Result<(), EncodeError<W::Error>>
-        ensures { Serializes W.whole (variant_item variant.now (struct_item
-            (field first_name.now (A.item first.now)
-            ∷ field second_name.now (B.item second.now) ∷ [])))
+        ensures { Serializes W.atomic (variant_encoding variant.now (struct_encoding
+            (field first_name.now (A.encoding first.now)
+            ∷ field second_name.now (B.encoding second.now) ∷ [])))
             (output W.view self.old) (output W.view self.new) result }
     {
         self.variant_head(variant)?;
@@ -66,8 +67,8 @@ impl<W: Write> Serializer<W> {
     ///
     /// # Errors
     ///
-    /// `Core` at the head or a name, and those of the `serialize` of a value. They are told at
-    /// `Serializer`. What was written before a value that is refused stays.
+    /// `Core` at the head or a name, and those of the `serialize` of a value. They are described at
+    /// `Serializer`. What was written before a value that is rejected stays.
     pub fn serialize_variant_of_3_fields<A: Serialize, B: Serialize, C: Serialize>(
         &mut self,
         name: &str,
@@ -80,10 +81,10 @@ impl<W: Write> Serializer<W> {
         third_name: &str,
         third: &C,
     ) -> Result<(), EncodeError<W::Error>>
-        ensures { Serializes W.whole (variant_item variant.now (struct_item
-            (field first_name.now (A.item first.now)
-            ∷ field second_name.now (B.item second.now)
-            ∷ field third_name.now (C.item third.now) ∷ [])))
+        ensures { Serializes W.atomic (variant_encoding variant.now (struct_encoding
+            (field first_name.now (A.encoding first.now)
+            ∷ field second_name.now (B.encoding second.now)
+            ∷ field third_name.now (C.encoding third.now) ∷ [])))
             (output W.view self.old) (output W.view self.new) result }
     {
         self.variant_head(variant)?;
@@ -104,8 +105,8 @@ impl<W: Write> Serializer<W> {
     ///
     /// # Errors
     ///
-    /// `Core` at the head or a name, and those of the `serialize` of a value. They are told at
-    /// `Serializer`. What was written before a value that is refused stays.
+    /// `Core` at the head or a name, and those of the `serialize` of a value. They are described at
+    /// `Serializer`. What was written before a value that is rejected stays.
     pub fn serialize_variant_of_4_fields<A: Serialize, B: Serialize, C: Serialize, D: Serialize>(
         &mut self,
         name: &str,
@@ -120,11 +121,11 @@ impl<W: Write> Serializer<W> {
         fourth_name: &str,
         fourth: &D,
     ) -> Result<(), EncodeError<W::Error>>
-        ensures { Serializes W.whole (variant_item variant.now (struct_item
-            (field first_name.now (A.item first.now)
-            ∷ field second_name.now (B.item second.now)
-            ∷ field third_name.now (C.item third.now)
-            ∷ field fourth_name.now (D.item fourth.now) ∷ [])))
+        ensures { Serializes W.atomic (variant_encoding variant.now (struct_encoding
+            (field first_name.now (A.encoding first.now)
+            ∷ field second_name.now (B.encoding second.now)
+            ∷ field third_name.now (C.encoding third.now)
+            ∷ field fourth_name.now (D.encoding fourth.now) ∷ [])))
             (output W.view self.old) (output W.view self.new) result }
     {
         self.variant_head(variant)?;
@@ -146,8 +147,8 @@ impl<W: Write> Serializer<W> {
     ///
     /// # Errors
     ///
-    /// `Core` at the head or the name, and those of the `serialize` of an item. They are told at
-    /// `Serializer`. What was written before an item that is refused stays.
+    /// `Core` at the head or the name, and those of the `serialize` of an item. They are described
+    /// at `Serializer`. What was written before an item that is rejected stays.
     pub fn serialize_variant_of_2_items<A: Serialize, B: Serialize>(
         &mut self,
         _name: &str,
@@ -156,8 +157,8 @@ impl<W: Write> Serializer<W> {
         first: &A,
         second: &B,
     ) -> Result<(), EncodeError<W::Error>>
-        ensures { Serializes W.whole (tuple_variant_item variant.now
-            (A.item first.now ∷ B.item second.now ∷ []))
+        ensures { Serializes W.atomic (tuple_variant_encoding variant.now
+            (A.encoding first.now ∷ B.encoding second.now ∷ []))
             (output W.view self.old) (output W.view self.new) result }
     {
         self.tuple_variant_head(variant, 2)?;
@@ -170,8 +171,8 @@ impl<W: Write> Serializer<W> {
     ///
     /// # Errors
     ///
-    /// `Core` at the head or the name, and those of the `serialize` of an item. They are told at
-    /// `Serializer`. What was written before an item that is refused stays.
+    /// `Core` at the head or the name, and those of the `serialize` of an item. They are described
+    /// at `Serializer`. What was written before an item that is rejected stays.
     pub fn serialize_variant_of_3_items<A: Serialize, B: Serialize, C: Serialize>(
         &mut self,
         _name: &str,
@@ -181,8 +182,8 @@ impl<W: Write> Serializer<W> {
         second: &B,
         third: &C,
     ) -> Result<(), EncodeError<W::Error>>
-        ensures { Serializes W.whole (tuple_variant_item variant.now
-            (A.item first.now ∷ B.item second.now ∷ C.item third.now ∷ []))
+        ensures { Serializes W.atomic (tuple_variant_encoding variant.now
+            (A.encoding first.now ∷ B.encoding second.now ∷ C.encoding third.now ∷ []))
             (output W.view self.old) (output W.view self.new) result }
     {
         self.tuple_variant_head(variant, 3)?;

@@ -22,14 +22,14 @@ use std::io;
 /// To keep `buf`, call the value's `serialize` on `Serializer::new(BufWriter::new(buf))`, and then
 /// `into_inner().into_inner()`, whatever the answer is. Its contract says that `Core` comes only
 /// where a push failed, and what was appended: after `Ok` the item, after `Custom` exactly what
-/// stands before the place at which the value is refused, and after `Core` a beginning of that.
+/// stands before the place at which the value is rejected, and after `Core` a beginning of that.
 pub fn to_vec<T: Serialize>(
     buf: Vec<u8>,
     value: &T,
 ) -> Result<Vec<u8>, EncodeError<TryReserveError>>
-    ensures appends { IfOk result (λ v. IsEncodedAnd (T.item value.now)
+    ensures appends { IfOk result (λ v. IsEncodedAnd (T.encoding value.now)
         (λ bytes. v.items ≡ buf.items ++ bytes)) }
-    ensures custom { IfErr result (SaysWhy (T.item value.now)) }
+    ensures custom { IfErr result (SaysWhy (T.encoding value.now)) }
 {
     let mut ser = Serializer::new(BufWriter::new(buf));
     value.serialize(&mut ser)?;
@@ -47,15 +47,15 @@ pub fn to_vec<T: Serialize>(
 /// To keep the stream, call the value's `serialize` on `Serializer::new(IoWriter::new(writer))`,
 /// and then `into_inner().into_inner()`, whatever the answer is. Its contract says that `Core`
 /// comes only where a push failed, and what was appended: after `Ok` the item, and after `Custom`
-/// exactly what stands before the place at which the value is refused. After `Core` it says
+/// exactly what stands before the place at which the value is rejected. After `Core` it says
 /// nothing of the stream.
 pub fn to_writer<W: io::Write + Drop, T: Serialize>(
     writer: W,
     value: &T,
 ) -> Result<W, EncodeError<io::Error>>
-    ensures appends { IfOk result (λ stream. IsEncodedAnd (T.item value.now)
+    ensures appends { IfOk result (λ stream. IsEncodedAnd (T.encoding value.now)
         (λ bytes. Appends bytes (W.contents writer) (W.contents stream))) }
-    ensures custom { IfErr result (SaysWhy (T.item value.now)) }
+    ensures custom { IfErr result (SaysWhy (T.encoding value.now)) }
 {
     let mut ser = Serializer::new(IoWriter::new(writer));
     value.serialize(&mut ser)?;

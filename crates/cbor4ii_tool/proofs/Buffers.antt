@@ -1,9 +1,9 @@
--- The program's streams behind their buffers.
+-- The program's streams after their buffers.
 use Rattle.std.proofs.Common.{◌≡◌, ℕ, List, [], length, Option, None, Some, Err, true, false, refl}
 use Rattle.std.proofs.Common.{sym, ap, ◌∙◌, subst, append-nil}
 use Rattle.std.specs.Prelude.{◌==◌, if◌then◌else◌}
 use Rattle.std.specs.Io.KnownBytes.{prepend_known, append_known}
-use Rattle.cbor4ii_rw.specs.View.{View, Told}
+use Rattle.cbor4ii_rw.specs.View.{View, IfKnown}
 use Rattle.cbor4ii_rw.specs.Stream.{most_bytes, cut_known}
 use Rattle.cbor4ii_tool.specs.Run.{RunsOver}
 use Rattle.cbor4ii_tool.specs.Program.{MayEnd}
@@ -15,9 +15,9 @@ nothing_ahead : (known : Option (List ℕ)) → prepend_known [] known ≡ known
 nothing_ahead None = refl
 nothing_ahead (Some xs) = refl
 
-nothing_behind : (known : Option (List ℕ)) → append_known known [] ≡ known
-nothing_behind None = refl
-nothing_behind (Some xs) = ap Some (append-nil xs)
+nothing_after : (known : Option (List ℕ)) → append_known known [] ≡ known
+nothing_after None = refl
+nothing_after (Some xs) = ap Some (append-nil xs)
 
 -- a new buffer takes nothing from the stream that it reads
 pub read_through : (capacity : ℕ) (ahead : List ℕ) (known : Option (List ℕ)) → capacity ≡ 8192
@@ -27,42 +27,42 @@ read_through capacity ahead known room empty =
     (subst (λ (xs : List ℕ). prepend_known xs known ≡ known) (sym empty) (nothing_ahead known))
 
 -- a new buffer adds nothing to the stream that it writes
-pub written_through : (behind : List ℕ) (known : Option (List ℕ)) → behind ≡ []
-    → append_known known behind ≡ known
-written_through behind known empty =
-    subst (λ (xs : List ℕ). append_known known xs ≡ known) (sym empty) (nothing_behind known)
+pub written_through : (trailing : List ℕ) (known : Option (List ℕ)) → trailing ≡ []
+    → append_known known trailing ≡ known
+written_through trailing known empty =
+    subst (λ (xs : List ℕ). append_known known xs ≡ known) (sym empty) (nothing_after known)
 
 -- where the input is known, a run of the command over it may have this outcome
 abbrev pub RunsSomehow : Command → Option (List ℕ) → Option (List ℕ) → Outcome → Type 0
-RunsSomehow command left held outcome = Told left (λ bytes. MayEnd command bytes held outcome)
+RunsSomehow command left held outcome = IfKnown left (λ bytes. MayEnd command bytes held outcome)
 
 -- a run over the buffers is one over the streams
 pub through_buffers : (command : Command) (old new : View)
     (left known written held holds : Option (List ℕ)) (outcome : Outcome)
-    → old.told ≡ cut_known most_bytes left → old.taken ≡ Some 0 → old.budget ≡ Some 256
+    → old.known ≡ cut_known most_bytes left → old.taken ≡ Some 0 → old.budget ≡ Some 256
     → left ≡ known → written ≡ held
-    → Told old.told (λ input. RunsOver command input old new written holds outcome)
+    → IfKnown old.known (λ input. RunsOver command input old new written holds outcome)
     → RunsSomehow command (cut_known most_bytes known) held outcome
 through_buffers command old new left known written held holds outcome is none steps read same runs =
-    λ xs cut. let told = is ∙ (ap (cut_known most_bytes) read ∙ cut) in (
+    λ xs cut. let known = is ∙ (ap (cut_known most_bytes) read ∙ cut) in (
       old,
-      record { told = told; taken = none; budget = steps },
+      record { known = known; taken = none; budget = steps },
       new,
       holds,
       subst (λ (before : Option (List ℕ)). RunsOver command xs old new before holds outcome) same
-          (runs xs told),
+          (runs xs known),
     )
 
 -- a reader over these bytes
 abbrev fresh : List ℕ → View
 fresh bytes = record {
-  told = Some bytes;
+  known = Some bytes;
   bound = length bytes;
   advanceable = 0;
   budget = Some 256;
   failures = 0;
   taken = Some 0;
-  lends_whole = false;
+  zero_copy = false;
   remembers = true;
   ends_at = None;
 }
@@ -72,7 +72,7 @@ pub no_buffer : (command : Command) (left held : Option (List ℕ))
     → RunsSomehow command left held (Err (record { at = 0; kind = OutOfMemory }))
 no_buffer command left held = λ input is. (
   fresh input,
-  record { told = refl; taken = refl; budget = refl },
+  record { known = refl; taken = refl; budget = refl },
   fresh input,
   held,
   record {
@@ -80,6 +80,6 @@ no_buffer command left held = λ input is. (
     rest = input;
     row = refl;
     ok = tt;
-    err = (refl, λ xs told. told ∙ ap Some (sym (append-nil xs)));
+    err = (refl, λ xs known. known ∙ ap Some (sym (append-nil xs)));
   },
 )

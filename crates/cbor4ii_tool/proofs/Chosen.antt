@@ -36,11 +36,11 @@ is_named P (Ok words) choice command chosen is holds = λ named names.
     subst P (ap (λ found. unwrap_or found command)
     ((chosen_is words choice command chosen is named).1 names)) holds
 
--- words that are texts are not refused
-pub not_refused : {E : Type 0} (P : Vec (String Global) Global → Type 0)
+-- words that are texts are not rejected
+pub not_rejected : {E : Type 0} (P : Vec (String Global) Global → Type 0)
     (words : Result (Vec (String Global) Global) E) (choice : Result (Option Command) Fault)
     (fault : Fault) → IsTheirs words choice → choice ≡ Err fault → IfOk words P
-not_refused P (Err e) choice fault chosen is = tt
-not_refused P (Ok words) choice fault chosen is =
+not_rejected P (Err e) choice fault chosen is = tt
+not_rejected P (Ok words) choice fault chosen is =
     absurd (subst (λ (choice : Result (Option Command) Fault). IsOkAnd choice
     (Chooses words.items)) is chosen)

@@ -1,15 +1,15 @@
 -- An input that is a row of items as a whole.
 use Rattle.std.proofs.Common.{◌≡◌, ℕ, ◌≤◌, List, [], ◌∷◌, ◌++◌, length, decimal, Option, Ok}
 use Rattle.std.proofs.Common.{Err, refl, sym, ap, ◌∙◌, subst, arith}
-use Rattle.cbor4ii_rw.specs.View.{View, Told}
+use Rattle.cbor4ii_rw.specs.View.{View, IfKnown}
 use Rattle.cbor4ii_rw.specs.Writer.{Appends}
 use Rattle.cbor4ii_items.specs.Head.{head, shortest}
 use Rattle.cbor4ii_tree.specs.Tree.{Tree, bytes}
 use Rattle.cbor4ii_tree.specs.Meaning.{value}
-use Rattle.cbor4ii_tree.specs.Canonical.{canon}
-use Rattle.cbor4ii_tree.specs.Laws.Ignoring.{one_spelling}
+use Rattle.cbor4ii_tree.specs.Canonical.{canonical_encoding}
+use Rattle.cbor4ii_tree.specs.Laws.Ignoring.{one_encoding}
 use Rattle.cbor4ii_tree.specs.Laws.Initials.{length-bytes-pos}
-use Rattle.cbor4ii_tool.specs.Integer.{IntegerHead, shortest_spelling}
+use Rattle.cbor4ii_tool.specs.Integer.{IntegerHead, shortest_encoding}
 use Rattle.cbor4ii_tool.specs.Item.{Converts, BeginsItem, IsRow, together}
 use Rattle.cbor4ii_tool.specs.Run.{FaultAt, RunsOver, ConvertsWhole, IsExcused}
 use Rattle.cbor4ii_tool.specs.Fault.{Outcome}
@@ -20,7 +20,7 @@ use Rattle.cbor4ii_tool.specs.declared.fault.Kind.TheVariants.{Read, OutOfMemory
 use Rattle.cbor4ii_tool.proofs.Integers.{one_head}
 
 same_argument : (p q : IntegerHead) → p.major ≡ q.major → p.argument ≡ q.argument
-    → shortest_spelling p ≡ shortest_spelling q
+    → shortest_encoding p ≡ shortest_encoding q
 same_argument p q major argument = λ i. head (major i) (argument i) (shortest (argument i))
 
 -- at most one item begins an input, and for it one text is written
@@ -31,28 +31,28 @@ one_item Ints budget input text rest other left (p, P, e, s) (q, Q, f, t) =
     let same = one_head p q P Q rest left (sym e ∙ f) in
     (s ∙ (same_argument p q same.0 same.1 ∙ sym t), same.2)
 one_item Canon budget input text rest other left (v, P, s) (w, Q, t) =
-    let p = P.spells in
-    let q = Q.spells in
-    let whole : bytes p.spelled ++ rest ≡ bytes q.spelled ++ left =
+    let p = P.encodes in
+    let q = Q.encodes in
+    let whole : bytes p.of_tree ++ rest ≡ bytes q.of_tree ++ left =
     ap (λ xs. xs ++ rest) p.bytes_are
     ∙ (sym P.begins ∙ (Q.begins ∙ ap (λ xs. xs ++ left) (sym q.bytes_are))) in
-    let same = one_spelling p.spelled q.spelled rest left p.plain.0 q.plain.0 whole in
+    let same = one_encoding p.of_tree q.of_tree rest left p.plain.0 q.plain.0 whole in
     let value_is : v ≡ w = sym p.value_is ∙ (ap value same.0 ∙ q.value_is) in
-    (s ∙ (ap canon value_is ∙ sym t), same.1)
+    (s ∙ (ap canonical_encoding value_is ∙ sym t), same.1)
 one_item Strict budget input text rest other left (v, P, s) (w, Q, t) =
-    let p = P.spells in
-    let q = Q.spells in
-    let whole : bytes p.spelled ++ rest ≡ bytes q.spelled ++ left =
+    let p = P.encodes in
+    let q = Q.encodes in
+    let whole : bytes p.of_tree ++ rest ≡ bytes q.of_tree ++ left =
     ap (λ xs. xs ++ rest) p.bytes_are
     ∙ (sym P.begins ∙ (Q.begins ∙ ap (λ xs. xs ++ left) (sym q.bytes_are))) in
-    let same = one_spelling p.spelled q.spelled rest left p.canonical.0.0 q.canonical.0.0 whole in
+    let same = one_encoding p.of_tree q.of_tree rest left p.canonical.0.0 q.canonical.0.0 whole in
     let value_is : v ≡ w = sym p.value_is ∙ (ap value same.0 ∙ q.value_is) in
-    (s ∙ (ap canon value_is ∙ sym t), same.1)
+    (s ∙ (ap canonical_encoding value_is ∙ sym t), same.1)
 one_item Lens budget input text rest other left (t, P, s) (u, Q, r) =
-    let same = one_spelling t u rest left P.loose Q.loose (sym P.begins ∙ Q.begins) in
+    let same = one_encoding t u rest left P.loose Q.loose (sym P.begins ∙ Q.begins) in
     (s ∙ (ap (λ (t : Tree). decimal (length (bytes t)) ++ 10 ∷ []) same.0 ∙ sym r), same.1)
 
-nothing_is : (front rest : List ℕ) → 1 ≤ length front → [] ≡ front ++ rest → ⊥
+nothing_is : (prefix rest : List ℕ) → 1 ≤ length prefix → [] ≡ prefix ++ rest → ⊥
 nothing_is (x ∷ xs) rest some e = cc
 nothing_is [] rest some e = absurd (omega (arith, some))
 
@@ -61,12 +61,14 @@ none_of_nothing : (command : Command) (budget : Option ℕ) (text rest : List �
     → Converts command budget [] text rest → ⊥
 none_of_nothing Ints budget text rest (p, P, e, s) = cc
 none_of_nothing Canon budget text rest (v, P, s) =
-    nothing_is P.spelling rest
-    (subst (λ (xs : List ℕ). 1 ≤ length xs) P.spells.bytes_are (length-bytes-pos P.spells.spelled))
+    nothing_is P.encoding rest
+    (subst (λ (xs : List ℕ). 1 ≤ length xs) P.encodes.bytes_are
+    (length-bytes-pos P.encodes.of_tree))
     P.begins
 none_of_nothing Strict budget text rest (v, P, s) =
-    nothing_is P.spelling rest
-    (subst (λ (xs : List ℕ). 1 ≤ length xs) P.spells.bytes_are (length-bytes-pos P.spells.spelled))
+    nothing_is P.encoding rest
+    (subst (λ (xs : List ℕ). 1 ≤ length xs) P.encodes.bytes_are
+    (length-bytes-pos P.encodes.of_tree))
     P.begins
 none_of_nothing Lens budget text rest (t, P, s) =
     nothing_is (bytes t) rest (length-bytes-pos t) P.begins
@@ -120,7 +122,8 @@ completes command input old new held holds (Err fault) runs others whole =
     runs.row whole runs.err
 
 pub complete : (command : Command) (old new : View) (held holds : Option (List ℕ))
-    (outcome : Outcome) → Told old.told (λ input. RunsOver command input old new held holds outcome)
-    → Told old.told (λ input. ConvertsWhole command old.budget input held holds outcome)
+    (outcome : Outcome) → IfKnown old.known (λ input. RunsOver command input old new held holds
+    outcome)
+    → IfKnown old.known (λ input. ConvertsWhole command old.budget input held holds outcome)
 complete command old new held holds outcome runs input is =
     completes command input old new held holds outcome (runs input is)

@@ -1,7 +1,7 @@
 -- A run after its flush.
 use Rattle.std.proofs.Common.{◌≡◌, ℕ, inl, inr, List, ◌++◌, Bool, true, OnOk}
 use Rattle.std.proofs.Common.{IfErr, Option, Some, Ok, Err, refl, sym, ap, ◌∙◌, subst}
-use Rattle.cbor4ii_rw.specs.View.{View, Told}
+use Rattle.cbor4ii_rw.specs.View.{View, IfKnown}
 use Rattle.cbor4ii_rw.specs.Reader.{Keeps}
 use Rattle.cbor4ii_rw.specs.Writer.{Output, Appends, one_more}
 use Rattle.cbor4ii_tool.specs.Item.{together}
@@ -16,7 +16,7 @@ use Rattle.cbor4ii_tool.specs.declared.fault.Kind.TheVariants.{Read, OutOfMemory
 
 kept_bytes : (bytes : List ℕ) (held mid holds : Option (List ℕ)) → Appends bytes held mid
     → Keeps mid holds → Appends bytes held holds
-kept_bytes bytes held mid holds appends keeps xs told = keeps (xs ++ bytes) (appends xs told)
+kept_bytes bytes held mid holds appends keeps xs known = keeps (xs ++ bytes) (appends xs known)
 
 kept_fault : (command : Command) (at : ℕ) (kind : Kind) (texts : List (List ℕ))
     (input rest : List ℕ) (old new : View) (held mid holds : Option (List ℕ)) → Keeps mid holds
@@ -32,7 +32,7 @@ kept_fault command at OutOfMemory texts input rest old new held mid holds keeps 
 kept_fault command at _ texts input rest old new held mid holds keeps fault =
     (fault.0, kept_bytes (together texts) held mid holds fault.1 keeps, fault.2, fault.3, fault.4)
 
--- a fault of the items, behind which the flush failed at `at`
+-- a fault of the items, after which the flush failed at `at`
 lost_fault : (command : Command) (first at : ℕ) (kind : Kind) (texts : List (List ℕ))
     (input rest : List ℕ) (old new : View) (held mid : Output) (holds : Option (List ℕ))
     → new.taken ≡ Some at → Keeps mid.written holds → FailsAt kind old new held mid
@@ -63,7 +63,7 @@ lost_fault command first at kind texts input rest old new held mid holds taken k
       inr (inr (inr ((kind, fault.3), fault.4))),
     )
 
--- behind items of which nothing was lost
+-- after items of which nothing was lost
 finished : (command : Command) (input : List ℕ) (old new : View) (held mid : Output)
     (holds : Option (List ℕ)) (outcome : Outcome) → Keeps mid.written holds
     → RunsOver command input old new held.written mid.written outcome
@@ -120,21 +120,21 @@ pub finished_run : (command : Command) (old new : View) (held mid holds : Output
     → Keeps mid.written holds.written → MovesFailures outcome old new held mid
     → IfErr outcome (λ fault. WantsMemory command fault.kind)
     → EndsRun outcome answer at flushed m n
-    → Told old.told
+    → IfKnown old.known
     (λ input. RunsOver command input old new held.written mid.written outcome)
-    → Told old.told
+    → IfKnown old.known
     (λ input. RunsOver command input old new held.written holds.written answer)
 finished_run command old new held mid holds outcome answer at flushed m n taken keeps moves wants
-    (inl kept) runs input told =
+    (inl kept) runs input known =
     subst (λ (r : Outcome). RunsOver command input old new held.written holds.written r)
     (sym kept.0)
-    (finished command input old new held mid holds.written outcome keeps (runs input told))
+    (finished command input old new held mid holds.written outcome keeps (runs input known))
 finished_run command old new held mid holds outcome answer at flushed m n taken keeps moves wants
-    (inr failed) runs input told =
+    (inr failed) runs input known =
     subst (λ (r : Outcome). RunsOver command input old new held.written holds.written r)
     (sym failed.0)
     (lost command input old new held mid holds.written outcome at taken keeps moves wants
-    (runs input told))
+    (runs input known))
 
 pub finished_ok : (outcome answer : Outcome) (at : ℕ) (flushed : Bool) (m n : ℕ) (P : Type 0)
     → OnOk outcome P → EndsRun outcome answer at flushed m n → OnOk answer P

@@ -4,7 +4,7 @@ use Rattle.std.proofs.Common.{◌∙◌, subst, arith, append_assoc, append-nil}
 use Rattle.cbor4ii_items.specs.Head.{byte_count, additional}
 use Rattle.cbor4ii_items.specs.Heads.{ReadsHead}
 use Rattle.cbor4ii_items.specs.Laws.Heads.{additional-lt, head_one, after_head, byte_count-le}
-use Rattle.cbor4ii_tool.specs.Integer.{IntegerHead, IsIntegerHead, spelling, BeginsInteger}
+use Rattle.cbor4ii_tool.specs.Integer.{IntegerHead, IsIntegerHead, encoding, BeginsInteger}
 use Rattle.cbor4ii_tool.specs.Integer.{BeginsNoInteger, IsCutInteger}
 
 same_first : {x y : ℕ} {xs ys : List ℕ} → x ∷ xs ≡ y ∷ ys → x ≡ y
@@ -19,7 +19,7 @@ same_major p q P Q first =
     omega (arith, small, other, first)
 
 -- as the codec reads it
-abbrev as_head : (p : IntegerHead) → IsIntegerHead p → (xs rest : List ℕ) → xs ≡ spelling p ++ rest
+abbrev as_head : (p : IntegerHead) → IsIntegerHead p → (xs rest : List ℕ) → xs ≡ encoding p ++ rest
     → ReadsHead p.major 8 xs p.argument (suc (byte_count p.width))
 as_head p P xs rest e =
     record {
@@ -34,10 +34,10 @@ as_head p P xs rest e =
 
 -- two integers at the front of the same bytes say the same, and neither is longer
 pub one_head : (p q : IntegerHead) → IsIntegerHead p → IsIntegerHead q → (xs ys : List ℕ)
-    → spelling p ++ xs ≡ spelling q ++ ys → (p.major ≡ q.major) × (p.argument ≡ q.argument)
+    → encoding p ++ xs ≡ encoding q ++ ys → (p.major ≡ q.major) × (p.argument ≡ q.argument)
     × (xs ≡ ys)
 one_head p q P Q xs ys e =
-    let all : List ℕ = spelling p ++ xs in
+    let all : List ℕ = encoding p ++ xs in
     let major = same_major p q P Q (same_first e) in
     let a = as_head p P all xs refl in
     let b = as_head q Q all ys e in
@@ -52,19 +52,19 @@ one_head p q P Q xs ys e =
     )
 
 pub none_begins_other : (bytes : List ℕ) → BeginsNoInteger bytes → ¬ BeginsInteger bytes
-none_begins_other bytes begins front =
-    begins.other front.item front.integer (same_first (sym begins.is ∙ front.is))
+none_begins_other bytes begins prefix =
+    begins.other prefix.item prefix.integer (same_first (sym begins.is ∙ prefix.is))
 
 no_more : (xs ys : List ℕ) → [] ≡ xs ++ ys → ys ≡ []
 no_more [] ys e = sym e
 no_more (x ∷ xs) ys e = cc
 
 pub none_begins_cut : (bytes : List ℕ) → IsCutInteger bytes → ¬ BeginsInteger bytes
-none_begins_cut bytes cut front =
-    let whole : spelling cut.item ++ [] ≡ spelling front.item ++ (front.more ++ cut.missing) =
-    append-nil (spelling cut.item)
-    ∙ (cut.joined ∙ (ap (λ xs. xs ++ cut.missing) front.is
-    ∙ append_assoc (spelling front.item) front.more cut.missing)) in
-    cut.some (no_more front.more cut.missing
-    (one_head cut.item front.item cut.integer front.integer [] (front.more ++ cut.missing)
+none_begins_cut bytes cut prefix =
+    let whole : encoding cut.item ++ [] ≡ encoding prefix.item ++ (prefix.more ++ cut.missing) =
+    append-nil (encoding cut.item)
+    ∙ (cut.joined ∙ (ap (λ xs. xs ++ cut.missing) prefix.is
+    ∙ append_assoc (encoding prefix.item) prefix.more cut.missing)) in
+    cut.some (no_more prefix.more cut.missing
+    (one_head cut.item prefix.item cut.integer prefix.integer [] (prefix.more ++ cut.missing)
     whole).2)

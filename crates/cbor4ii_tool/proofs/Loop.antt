@@ -5,10 +5,10 @@ use Rattle.std.proofs.Common.{Option, None, Some, Ok, Err, true, false, inl, inr
 use Rattle.std.proofs.Common.{◌∙◌, subst, arith, append-nil}
 use Rattle.std.proofs.lemmas.Grind.{flat_map-append}
 use Rattle.std.proofs.lemmas.List.{drop-drop, length-drop}
-use Rattle.cbor4ii_rw.specs.View.{View, Told}
+use Rattle.cbor4ii_rw.specs.View.{View, IfKnown}
 use Rattle.cbor4ii_rw.specs.Reader.{Shows, Failed, counts}
 use Rattle.cbor4ii_rw.specs.Writer.{Output, Appends}
-use Rattle.cbor4ii_tool.specs.Item.{Converts, BeginsItem, ItemIsTaken, StopsAs, IsRow, together}
+use Rattle.cbor4ii_tool.specs.Item.{Converts, BeginsItem, ItemIsTaken, RejectsAs, IsRow, together}
 use Rattle.cbor4ii_tool.specs.Run.{StandsAt, FaultAt, RunsOver, FailedOrCounted}
 use Rattle.cbor4ii_tool.specs.Steps.{Leaves, Done, Fails, MovesFailures, Ran}
 use Rattle.cbor4ii_tool.proofs.Items.{same_bytes}
@@ -36,7 +36,7 @@ together_more texts text =
     ∙ ap (λ xs. together texts ++ xs) (append-nil text)
 
 appends_nothing : (a : Option (List ℕ)) → Appends [] a a
-appends_nothing a = λ xs told. told ∙ ap Some (sym (append-nil xs))
+appends_nothing a = λ xs known. known ∙ ap Some (sym (append-nil xs))
 
 -- ---- what was taken
 
@@ -51,12 +51,12 @@ begun command a held = record {
   budget = refl;
   failures = refl;
   unfailing = refl;
-  over = λ input told.
+  over = λ input known.
       record {
         texts = [];
         rest = input;
         count = 0;
-        left_is = told;
+        left_is = known;
         taken_is = counts_none a.taken;
         rest_is = refl;
         sum = omega arith;
@@ -71,13 +71,13 @@ more command start a b c held h i ran shows done = record {
   budget = done.kept.budget ∙ (shows.budget ∙ ran.budget);
   failures = done.kept.failures ∙ (shows.failures ∙ ran.failures);
   unfailing = done.failures ∙ ran.unfailing;
-  over = λ input told.
-      let r = ran.over input told in
-      let shown = shows.told r.rest r.left_is in
+  over = λ input known.
+      let r = ran.over input known in
+      let shown = shows.known r.rest r.left_is in
       let d = done.item r.rest shown in
       let took = done.kept.rest r.rest shown in
       let left : d.rest ≡ drop took.0 r.rest =
-      same_bytes d.rest (drop took.0 r.rest) c.told d.left_is took.1.left in
+      same_bytes d.rest (drop took.0 r.rest) c.known d.left_is took.1.left in
       let all : took.0 + length d.rest ≡ length r.rest =
       omega (arith, ap length left, length-drop took.0 r.rest, took.1.within) in
       let moved : c.taken ≡ counts took.0 b.taken =
@@ -109,10 +109,10 @@ not_true true e t = cc
 not_true false e t = cc
 
 pub ended : (command : Command) (start a b : View) (held h : Output)
-    → Ran command start a held h → Told a.told (λ xs. xs ≡ [])
-    → Told start.told (λ input. RunsOver command input start b held.written h.written (Ok tt))
-ended command start a b held h ran end input told =
-    let r = ran.over input told in
+    → Ran command start a held h → IfKnown a.known (λ xs. xs ≡ [])
+    → IfKnown start.known (λ input. RunsOver command input start b held.written h.written (Ok tt))
+ended command start a b held h ran end input known =
+    let r = ran.over input known in
     record {
       texts = r.texts;
       rest = r.rest;
@@ -129,10 +129,10 @@ at_is at count input rest (Some before) known p q sum =
 
 pub unread : (command : Command) (at : ℕ) (start a b : View) (held h : Output)
     → Ran command start a held h → a.taken ≡ Some at
-    → Told start.told (λ input. RunsOver command input start b held.written h.written
+    → IfKnown start.known (λ input. RunsOver command input start b held.written h.written
     (Err (record { at = at; kind = Read })))
-unread command at start a b held h ran taken input told =
-    let r = ran.over input told in
+unread command at start a b held h ran taken input known =
+    let r = ran.over input known in
     record {
       texts = r.texts;
       rest = r.rest;
@@ -147,28 +147,29 @@ unread command at start a b held h ran taken input told =
 fault_at : (command : Command) (at : ℕ) (kind : Kind) (texts : List (List ℕ))
     (input rest : List ℕ) (start b c : View) (held h i : Output)
     → StandsAt start.taken input rest at → b.budget ≡ start.budget
-    → Appends (together texts) held.written h.written → b.told ≡ Some rest
+    → Appends (together texts) held.written h.written → b.known ≡ Some rest
     → rest ≢ [] → Fails command kind b c h i
     → FaultAt command texts input rest start c held.written i.written at kind
-fault_at command at Read texts input rest start b c held h i stands budget appends told some
+fault_at command at Read texts input rest start b c held h i stands budget appends known some
     fails = (
       stands,
       subst (λ (o : Output). Appends (together texts) held.written o.written) (sym fails.1) appends,
     )
-fault_at command at Write texts input rest start b c held h i stands budget appends told some
+fault_at command at Write texts input rest start b c held h i stands budget appends known some
     fails = inl (
       stands,
-      subst (λ (steps : Option ℕ). ItemIsTaken command steps rest c.told) budget
-          (fails.2 rest told),
+      subst (λ (steps : Option ℕ). ItemIsTaken command steps rest c.known) budget
+          (fails.2 rest known),
     )
-fault_at command at OutOfMemory texts input rest start b c held h i stands budget appends told some
+fault_at command at OutOfMemory texts input rest start b c held h i stands budget appends known some
     fails = (
       stands,
       subst (λ (o : Output). Appends (together texts) held.written o.written) (sym fails.2) appends,
     )
-fault_at command at kind texts input rest start b c held h i stands budget appends told some fails =
-    let f = subst (λ (steps : Option ℕ). StopsAs command steps kind rest
-    × ¬ (BeginsItem command steps rest)) budget (fails.2 rest told) in (
+fault_at command at kind texts input rest start b c held h i stands budget appends known some
+    fails =
+    let f = subst (λ (steps : Option ℕ). RejectsAs command steps kind rest
+    × ¬ (BeginsItem command steps rest)) budget (fails.2 rest known) in (
       stands,
       subst (λ (o : Output). Appends (together texts) held.written o.written) (sym fails.1) appends,
       some,
@@ -177,19 +178,20 @@ fault_at command at kind texts input rest start b c held h i stands budget appen
     )
 
 pub stopped : (command : Command) (at : ℕ) (kind : Kind) (start a b c : View) (held h i : Output)
-    → Ran command start a held h → a.taken ≡ Some at → Shows [] a b → Told a.told (λ xs. xs ≢ [])
+    → Ran command start a held h → a.taken ≡ Some at → Shows [] a b → IfKnown a.known
+    (λ xs. xs ≢ [])
     → Fails command kind b c h i
-    → Told start.told (λ input. RunsOver command input start c held.written i.written
+    → IfKnown start.known (λ input. RunsOver command input start c held.written i.written
     (Err (record { at = at; kind = kind })))
-stopped command at kind start a b c held h i ran taken shows some fails input told =
-    let r = ran.over input told in record {
+stopped command at kind start a b c held h i ran taken shows some fails input known =
+    let r = ran.over input known in record {
       texts = r.texts;
       rest = r.rest;
       row = r.row;
       ok = tt;
       err = fault_at command at kind r.texts input r.rest start b c held h i
           (at_is at r.count input r.rest start.taken a.taken r.taken_is taken r.sum)
-          (shows.budget ∙ ran.budget) r.written (shows.told r.rest r.left_is)
+          (shows.budget ∙ ran.budget) r.written (shows.known r.rest r.left_is)
           (some r.rest r.left_is) fails;
     }
 
@@ -228,8 +230,8 @@ ran_counted : (command : Command) (start a b : View) (held h : Output)
     → Ran command start a held h → Leaves a b → FailedOrCounted a b → FailedOrCounted start b
 ran_counted command start a b held h ran leaves (inl failed) =
     inl (failed_from start.failures a.failures b.failures ran.failures failed)
-ran_counted command start a b held h ran leaves (inr counted) = inr (λ input told ys left n gone.
-    let r = ran.over input told in
+ran_counted command start a b held h ran leaves (inr counted) = inr (λ input known ys left n gone.
+    let r = ran.over input known in
     let l = leaves.rest r.rest r.left_is ys left in
     let sum = r.sum in
     let size : length ys ≡ length r.rest - l.0 = ap length l.1 ∙ length-drop l.0 r.rest in
@@ -243,15 +245,15 @@ pub ran_leaves : (command : Command) (start a b : View) (held h : Output)
     → Ran command start a held h → Leaves a b → Leaves start b
 ran_leaves command start a b held h ran leaves = record {
   budget = leaves.budget ∙ ran.budget;
-  rest = λ input told ys left.
-      let r = ran.over input told in
+  rest = λ input known ys left.
+      let r = ran.over input known in
       let l = leaves.rest r.rest r.left_is ys left in
       (r.count + l.0, l.1 ∙ (ap (drop l.0) r.rest_is ∙ drop-drop l.0 r.count input));
   counted = ran_counted command start a b held h ran leaves leaves.counted;
 }
 
 pub nothing_left : (command : Command) (start a b : View) (held h : Output)
-    → Ran command start a held h → Shows [] a b → Told a.told (λ xs. xs ≡ [])
-    → Told start.told (λ input. b.told ≡ Some [])
-nothing_left command start a b held h ran shows end input told = let r =
-    ran.over input told in shows.told r.rest r.left_is ∙ ap Some (end r.rest r.left_is)
+    → Ran command start a held h → Shows [] a b → IfKnown a.known (λ xs. xs ≡ [])
+    → IfKnown start.known (λ input. b.known ≡ Some [])
+nothing_left command start a b held h ran shows end input known = let r =
+    ran.over input known in shows.known r.rest r.left_is ∙ ap Some (end r.rest r.left_is)

@@ -1,9 +1,10 @@
 -- What an error of the codec is called.
 use Rattle.std.specs.Prelude.{ℕ, Result, is_ok, if◌then◌else◌}
-use Rattle.cbor4ii_items.specs.Refusal.{Refusal, mismatch, unsupported, eof, require_length}
-use Rattle.cbor4ii_items.specs.Refusal.{require_borrowed, require_utf8, length_overflow}
-use Rattle.cbor4ii_items.specs.Refusal.{cast_overflow, arithmetic_overflow, depth_overflow, custom}
-use Rattle.cbor4ii_items.specs.Refusal.{not_canonical}
+use Rattle.cbor4ii_items.specs.InputError.{InputError, mismatch, unsupported, eof, require_length}
+use Rattle.cbor4ii_items.specs.InputError.{require_borrowed, require_utf8, length_overflow}
+use Rattle.cbor4ii_items.specs.InputError.{cast_overflow, arithmetic_overflow, depth_overflow}
+use Rattle.cbor4ii_items.specs.InputError.{custom}
+use Rattle.cbor4ii_items.specs.InputError.{not_canonical}
 use Rattle.cbor4ii_rw.specs.declared.error.DecodeError.{DecodeError}
 use Rattle.cbor4ii_rw.specs.declared.error.DecodeError.TheVariants.{Read, Mismatch, Unsupported}
 use Rattle.cbor4ii_rw.specs.declared.error.DecodeError.TheVariants.{Eof, RequireLength}
@@ -34,19 +35,19 @@ kind_of OutOfMemory = kind.OutOfMemory
 kind_of (NotCanonical name) = kind.NotCanonical
 
 -- the kind of the same name, of what an error says of the bytes
-abbrev pub kind_of_refusal : Refusal → Kind
-kind_of_refusal (mismatch name found) = kind.Mismatch
-kind_of_refusal (unsupported name found) = kind.Unsupported
-kind_of_refusal (eof name expect) = kind.Eof
-kind_of_refusal (require_length name found) = kind.RequireLength
-kind_of_refusal (require_borrowed name) = kind.RequireBorrowed
-kind_of_refusal (require_utf8 name) = kind.RequireUtf8
-kind_of_refusal (length_overflow name found) = kind.LengthOverflow
-kind_of_refusal (cast_overflow name) = kind.CastOverflow
-kind_of_refusal (arithmetic_overflow name ty) = kind.ArithmeticOverflow
-kind_of_refusal (depth_overflow name) = kind.DepthOverflow
-kind_of_refusal (custom name num) = kind.Custom
-kind_of_refusal (not_canonical name) = kind.NotCanonical
+abbrev pub kind_of_input_error : InputError → Kind
+kind_of_input_error (mismatch name found) = kind.Mismatch
+kind_of_input_error (unsupported name found) = kind.Unsupported
+kind_of_input_error (eof name expect) = kind.Eof
+kind_of_input_error (require_length name found) = kind.RequireLength
+kind_of_input_error (require_borrowed name) = kind.RequireBorrowed
+kind_of_input_error (require_utf8 name) = kind.RequireUtf8
+kind_of_input_error (length_overflow name found) = kind.LengthOverflow
+kind_of_input_error (cast_overflow name) = kind.CastOverflow
+kind_of_input_error (arithmetic_overflow name ty) = kind.ArithmeticOverflow
+kind_of_input_error (depth_overflow name) = kind.DepthOverflow
+kind_of_input_error (custom name num) = kind.Custom
+kind_of_input_error (not_canonical name) = kind.NotCanonical
 
 -- what a run answers: nothing, or where it stopped and why
 abbrev pub Outcome : Type 0

@@ -14,19 +14,19 @@ pub record IsIntegerHead (item : IntegerHead) : Type 0 where
   pub fits : HeadFits item.width item.argument
 
 -- its bytes
-abbrev pub spelling : IntegerHead → List ℕ
-spelling item = head item.major item.argument item.width
+abbrev pub encoding : IntegerHead → List ℕ
+encoding item = head item.major item.argument item.width
 
 -- the bytes of the least width that its argument has (RFC 8949 section 4.2.1)
-abbrev pub shortest_spelling : IntegerHead → List ℕ
-shortest_spelling item = head item.major item.argument (shortest item.argument)
+abbrev pub shortest_encoding : IntegerHead → List ℕ
+shortest_encoding item = head item.major item.argument (shortest item.argument)
 
 -- an integer stands at the front of these bytes
 pub record BeginsInteger (bytes : List ℕ) : Type 0 where
   pub item : IntegerHead
   pub integer : IsIntegerHead item
   pub more : List ℕ
-  pub is : bytes ≡ spelling item ++ more
+  pub is : bytes ≡ encoding item ++ more
 
 -- the first byte is one with which no integer begins
 pub record BeginsNoInteger (bytes : List ℕ) : Type 0 where
@@ -42,4 +42,4 @@ pub record IsCutInteger (bytes : List ℕ) : Type 0 where
   pub integer : IsIntegerHead item
   pub missing : List ℕ
   pub some : missing ≢ []
-  pub joined : spelling item ≡ bytes ++ missing
+  pub joined : encoding item ≡ bytes ++ missing

@@ -2,7 +2,7 @@
 use Rattle.std.specs.Prelude.{◌≡◌, ◌↔◌, ℕ, List, [], ◌∷◌, map, codes, string_bytes}
 use Rattle.std.specs.Prelude.{Option, Some, String}
 use Rattle.std.specs.declared.alloc.Global.{Global}
-use Rattle.cbor4ii_rw.specs.View.{View, Told}
+use Rattle.cbor4ii_rw.specs.View.{View, IfKnown}
 use Rattle.cbor4ii_tool.specs.Run.{RunsOver}
 use Rattle.cbor4ii_tool.specs.Fault.{Outcome, status_of}
 use Rattle.cbor4ii_tool.specs.declared.command.Command.{Command}
@@ -21,21 +21,21 @@ NamesNone words = (command : Command) → ¬ (Names words command)
 
 -- a reader over these bytes, of which none was taken, with 256 steps
 pub record IsFreshOver (bytes : List ℕ) (reader : View) : Type 0 where
-  pub told : reader.told ≡ Some bytes
+  pub known : reader.known ≡ Some bytes
   pub taken : reader.taken ≡ Some 0
   pub budget : reader.budget ≡ Some 256
 
--- a run of the command over a reader that opens these bytes may have this outcome, behind what the
+-- a run of the command over a reader that opens these bytes may have this outcome, after what the
 -- output held
 abbrev pub MayEnd : Command → List ℕ → Option (List ℕ) → Outcome → Type 0
 MayEnd command bytes held outcome = (old : View) × IsFreshOver bytes old × (new : View)
     × (holds : Option (List ℕ)) × RunsOver command bytes old new held holds outcome
 
 -- The status is that of an outcome, 0 or 1, and where the input is known, a run of the command over
--- it may have this outcome, behind what the output held.
+-- it may have this outcome, after what the output held.
 abbrev pub EndsIn : Command → Option (List ℕ) → Option (List ℕ) → ℕ → Type 0
 EndsIn command input held status = (outcome : Outcome) × (status ≡ status_of outcome)
-    × Told input (λ bytes. MayEnd command bytes held outcome)
+    × IfKnown input (λ bytes. MayEnd command bytes held outcome)
 
 -- the choice is the command that the words name, if any
 abbrev pub Chooses : List (String Global) → Option Command → Type 0

@@ -1,9 +1,9 @@
--- How an integer is taken off a reader, or refused.
+-- How an integer is taken off a reader, or rejected.
 use Rattle.std.specs.Prelude.{◌≡◌, ℕ, ◌+◌, ◌/◌, ◌≤◌, List, [], ◌∷◌, ◌++◌, Option, Some}
-use Rattle.cbor4ii_rw.specs.View.{View, Told}
+use Rattle.cbor4ii_rw.specs.View.{View, IfKnown}
 use Rattle.cbor4ii_rw.specs.Reader.{Failed}
 use Rattle.cbor4ii_items.specs.Head.{Width, head, shortest}
-use Rattle.cbor4ii_tool.specs.Integer.{IntegerHead, IsIntegerHead, spelling, BeginsNoInteger}
+use Rattle.cbor4ii_tool.specs.Integer.{IntegerHead, IsIntegerHead, encoding, BeginsNoInteger}
 use Rattle.cbor4ii_tool.specs.Integer.{IsCutInteger}
 use Rattle.cbor4ii_tool.specs.declared.fault.Kind.{Kind}
 use Rattle.cbor4ii_tool.specs.declared.fault.Kind.TheVariants.{Read, Mismatch, Eof, OutOfMemory}
@@ -37,28 +37,28 @@ abbrev pub BeginsNegative : List ℕ → Type 0
 BeginsNegative [] = ⊥
 BeginsNegative (b ∷ bs) = b / 32 ≡ 1
 
--- the integer stands at the front of the bytes xs in some width, and what stands behind it is left
+-- the integer stands at the front of the bytes xs in some width, and what follows it is left
 pub record TakesInteger (integer : Integer) (xs : List ℕ) (new : Option (List ℕ)) : Type 0 where
   pub width : Width
   pub valid : IsIntegerHead (in_width width integer)
   pub rest : List ℕ
-  pub joined : xs ≡ spelling (in_width width integer) ++ rest
+  pub joined : xs ≡ encoding (in_width width integer) ++ rest
   pub left : new ≡ Some rest
 
 -- the integer is taken, and the reader did not fail
 pub record ReadsInteger (integer : Integer) (old new : View) : Type 0 where
-  pub takes : Told old.told (λ xs. TakesInteger integer xs new.told)
+  pub takes : IfKnown old.known (λ xs. TakesInteger integer xs new.known)
   pub bound : new.bound + 1 ≤ old.bound
   pub failures : new.failures ≡ old.failures
 
 -- what each kind says of the bytes
-abbrev pub RefusesAt : Kind → List ℕ → Type 0
-RefusesAt Mismatch xs = BeginsNoInteger xs
-RefusesAt Eof xs = IsCutInteger xs
-RefusesAt _ xs = ⊥
+abbrev pub RejectsThere : Kind → List ℕ → Type 0
+RejectsThere Mismatch xs = BeginsNoInteger xs
+RejectsThere Eof xs = IsCutInteger xs
+RejectsThere _ xs = ⊥
 
 -- why no integer came: the reader failed, or its bytes begin none
-abbrev pub RefusesInteger : Kind → View → View → Type 0
-RefusesInteger Read old new = Failed old.failures new.failures
-RefusesInteger OutOfMemory old new = ⊥
-RefusesInteger kind old new = Told old.told (RefusesAt kind)
+abbrev pub RejectsInteger : Kind → View → View → Type 0
+RejectsInteger Read old new = Failed old.failures new.failures
+RejectsInteger OutOfMemory old new = ⊥
+RejectsInteger kind old new = IfKnown old.known (RejectsThere kind)

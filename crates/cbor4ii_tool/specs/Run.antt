@@ -5,35 +5,36 @@ use Rattle.cbor4ii_rw.specs.View.{View}
 use Rattle.cbor4ii_rw.specs.Reader.{Failed}
 use Rattle.cbor4ii_rw.specs.Writer.{Output, Appends, one_more}
 use Rattle.cbor4ii_items.specs.Moves.{Counted}
-use Rattle.cbor4ii_tool.specs.Item.{IsRow, BeginsItem, ItemIsTaken, StopsAs, TakesMemory, together}
+use Rattle.cbor4ii_tool.specs.Item.{IsRow, BeginsItem, ItemIsTaken, RejectsAs, TakesMemory}
+use Rattle.cbor4ii_tool.specs.Item.{together}
 use Rattle.cbor4ii_tool.specs.Fault.{Outcome}
 use Rattle.cbor4ii_tool.specs.declared.command.Command.{Command}
 use Rattle.cbor4ii_tool.specs.declared.fault.Kind.{Kind}
 use Rattle.cbor4ii_tool.specs.declared.fault.Kind.TheVariants.{Read, OutOfMemory, Write}
 
--- the rest of the input stands behind so many bytes in all: those that were taken before the input,
+-- the rest of the input follows so many bytes in all: those that were taken before the input,
 -- where they are counted, and those of the input before the rest
 abbrev pub StandsAt : Option ℕ → List ℕ → List ℕ → ℕ → Type 0
 StandsAt taken input rest at = IfSome taken (λ before. at + length rest ≡ before + length input)
 
 -- no item is taken where the rest begins: nothing is left, the reader failed, memory may have been
--- lacking, or the rest is refused and begins no item
+-- lacking, or the rest is rejected and begins no item
 abbrev pub NoItemFollows : Command → List ℕ → View → View → Type 0
 NoItemFollows command rest old new =
     (rest ≡ []) ⊎ Failed old.failures new.failures ⊎ TakesMemory command
-    ⊎ (((kind : Kind) × StopsAs command old.budget kind rest)
+    ⊎ (((kind : Kind) × RejectsAs command old.budget kind rest)
     × ¬ (BeginsItem command old.budget rest))
 
--- What a fault says where these texts were to be written and the rest stands behind their items;
--- `held` and `holds` are what the writer held before and after. But for `Write`, the fault stands
--- at the rest, and the texts are written; `Read` and `OutOfMemory` say nothing of the rest, and the
--- other kinds are those by which it is refused. `Write` stands at the rest where the item there was
+-- What a fault says where these texts were to be written and the rest follows their items; `held`
+-- and `holds` are what the writer held before and after. But for `Write`, the fault stands at the
+-- rest, and the texts are written; `Read` and `OutOfMemory` say nothing of the rest, and the other
+-- kinds are those by which it is rejected. `Write` stands at the rest where the item there was
 -- taken and could not be written; of `holds` nothing is said then. Where the flush failed, it
--- stands behind all that was taken, the texts are written, and no item follows.
+-- follows all that was taken, the texts are written, and no item follows.
 abbrev pub FaultAt : Command → List (List ℕ) → List ℕ → List ℕ → View → View
     → Option (List ℕ) → Option (List ℕ) → ℕ → Kind → Type 0
 FaultAt command texts input rest old new held holds at Write =
-    (StandsAt old.taken input rest at × ItemIsTaken command old.budget rest new.told)
+    (StandsAt old.taken input rest at × ItemIsTaken command old.budget rest new.known)
     ⊎ ((new.taken ≡ Some at) × Appends (together texts) held holds
     × NoItemFollows command rest old new)
 FaultAt command texts input rest old new held holds at Read =
@@ -42,7 +43,7 @@ FaultAt command texts input rest old new held holds at OutOfMemory =
     StandsAt old.taken input rest at × Appends (together texts) held holds
 FaultAt command texts input rest old new held holds at kind =
     StandsAt old.taken input rest at × Appends (together texts) held holds × (rest ≢ [])
-    × StopsAs command old.budget kind rest × ¬ (BeginsItem command old.budget rest)
+    × RejectsAs command old.budget kind rest × ¬ (BeginsItem command old.budget rest)
 
 -- The input is a row of items, each under the reader's budget, and a rest. Without a fault nothing
 -- is left, and the texts of the items are written.
@@ -91,7 +92,7 @@ pub record FailsAtItem (flushed : Bool) (held holds : ℕ) : Type 0 where
   pub flush : FlushCounts flushed between holds
 
 -- Whom a fault blames. At `Read` the reader failed, and the writer did not. At `Write` the writer
--- failed at an item, and the reader did not, or the flush alone failed, behind all that was taken,
+-- failed at an item, and the reader did not, or the flush alone failed, after all that was taken,
 -- whether or not the reader had failed. At every other kind nobody failed.
 abbrev pub BlamesAt : Kind → ℕ → Bool → View → View → Output → Output → Type 0
 BlamesAt Read at flushed old new held holds =

@@ -1,11 +1,11 @@
 -- What the parts of a run promise each other.
 use Rattle.std.specs.Prelude.{◌≡◌, ℕ, ◌+◌, ◌≤◌, ◌⊎◌, List, length, drop, Bool, true, Option, Some}
 use Rattle.std.specs.Prelude.{Ok, Err}
-use Rattle.cbor4ii_rw.specs.View.{View, Told}
+use Rattle.cbor4ii_rw.specs.View.{View, IfKnown}
 use Rattle.cbor4ii_rw.specs.Reader.{Failed, counts}
 use Rattle.cbor4ii_rw.specs.Writer.{Output, Appends, one_more}
 use Rattle.cbor4ii_items.specs.Moves.{Kept, EndsOrForgets}
-use Rattle.cbor4ii_tool.specs.Item.{Converts, BeginsItem, ItemIsTaken, StopsAs, TakesMemory}
+use Rattle.cbor4ii_tool.specs.Item.{Converts, BeginsItem, ItemIsTaken, RejectsAs, TakesMemory}
 use Rattle.cbor4ii_tool.specs.Item.{IsRow, together}
 use Rattle.cbor4ii_tool.specs.Run.{FailedOrCounted}
 use Rattle.cbor4ii_tool.specs.Fault.{Outcome}
@@ -19,7 +19,7 @@ use Rattle.cbor4ii_tool.specs.declared.fault.Kind.TheVariants.{Read, OutOfMemory
 -- failed, what was taken is counted
 pub record Leaves (old new : View) : Type 0 where
   pub budget : new.budget ≡ old.budget
-  pub rest : EndsOrForgets old.told new.told
+  pub rest : EndsOrForgets old.known new.known
   pub counted : FailedOrCounted old new
 
 -- ---- one item
@@ -38,8 +38,8 @@ pub record Done (command : Command) (old new : View) (held holds : Output) : Typ
   pub kept : Kept old new
   pub bound : new.bound + 1 ≤ old.bound
   pub failures : holds.failures ≡ held.failures
-  pub item : Told old.told
-      (λ xs. Converted command old.budget xs new.told held.written holds.written)
+  pub item : IfKnown old.known
+      (λ xs. Converted command old.budget xs new.known held.written holds.written)
 
 -- why it was not: the reader or the writer failed, there was no memory, or the bytes begin none;
 -- where the writer failed, the item was taken
@@ -47,13 +47,13 @@ abbrev pub Fails : Command → Kind → View → View → Output → Output → 
 Fails command Read old new held holds = Failed old.failures new.failures × (holds ≡ held)
 Fails command Write old new held holds =
     Failed held.failures holds.failures × (new.failures ≡ old.failures)
-    × Told old.told (λ xs. ItemIsTaken command old.budget xs new.told)
+    × IfKnown old.known (λ xs. ItemIsTaken command old.budget xs new.known)
 Fails command OutOfMemory old new held holds =
     TakesMemory command × (new.failures ≡ old.failures) × (holds ≡ held)
 Fails command kind old new held holds =
     (new.failures ≡ old.failures) × (holds ≡ held)
-    × Told old.told
-    (λ xs. StopsAs command old.budget kind xs × ¬ (BeginsItem command old.budget xs))
+    × IfKnown old.known
+    (λ xs. RejectsAs command old.budget kind xs × ¬ (BeginsItem command old.budget xs))
 
 -- ---- many items
 
@@ -63,7 +63,7 @@ pub record RanOver (command : Command) (input : List ℕ) (old now : View)
   pub texts : List (List ℕ)
   pub rest : List ℕ
   pub count : ℕ
-  pub left_is : now.told ≡ Some rest
+  pub left_is : now.known ≡ Some rest
   pub taken_is : now.taken ≡ counts count old.taken
   pub rest_is : rest ≡ drop count input
   pub sum : count + length rest ≡ length input
@@ -75,7 +75,7 @@ pub record Ran (command : Command) (old new : View) (held holds : Output) : Type
   pub budget : new.budget ≡ old.budget
   pub failures : new.failures ≡ old.failures
   pub unfailing : holds.failures ≡ held.failures
-  pub over : Told old.told (λ input. RanOver command input old new held.written holds.written)
+  pub over : IfKnown old.known (λ input. RanOver command input old new held.written holds.written)
 
 -- the reader failed where the kind is `Read`, the writer where it is `Write`, and only there
 abbrev pub FailsAt : Kind → View → View → Output → Output → Type 0
@@ -92,7 +92,7 @@ MovesFailures (Err fault) old new held holds = FailsAt fault.kind old new held h
 
 -- ---- the flush
 
--- where the writer failed first, if its flush fails at so many bytes behind what came of the items
+-- where the writer failed first, if its flush fails at so many bytes after what came of the items
 abbrev pub first_failure : Kind → ℕ → ℕ → ℕ
 first_failure Write first at = first
 first_failure _ first at = at

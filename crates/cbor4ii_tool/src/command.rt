@@ -3,12 +3,12 @@
 /// What is done with the input.
 #[derive(Clone, Copy, Debug, PartialEq, Eq)]
 pub enum Command {
-    /// Integers are written again, each in its shortest spelling.
+    /// Integers are written again, each in its shortest encoding.
     Ints,
-    /// Values are written again, each in its canonical spelling.
+    /// Values are written again, each in its canonical encoding.
     Canon,
     /// Of each item its length in bytes is written, in decimal and with a newline.
     Lens,
-    /// Values in their canonical spelling, and no other, are written again.
+    /// Values in their canonical encoding, and no other, are written again.
     Strict,
 }

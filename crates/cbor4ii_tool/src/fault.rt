@@ -30,11 +30,11 @@ pub enum Kind {
     ArithmeticOverflow,
     /// Items nest too deeply.
     DepthOverflow,
-    /// A decoder of a user's own refused.
+    /// A decoder of a user's own rejected.
     Custom,
     /// There was no memory for the words of the command line, for a buffer, or for what was read.
     OutOfMemory,
-    /// An item stands there, or may, and not by its canonical spelling.
+    /// An item stands there, or may, and not by its canonical encoding.
     NotCanonical,
     /// There was no memory for what is written, or it could not be written or flushed.
     Write,

@@ -1,10 +1,10 @@
 //! Integers: items of major types 0 and 1 (RFC 8949 section 3.1), which are a head alone.
 ghost use Rattle.std.specs.Prelude.{◌≡◌, ◌≢◌, ◌↔◌, [], OnOk, OnErr, IfOk, IfErr, IsTrue};
-ghost use Rattle.cbor4ii_rw.specs.View.{Told};
-ghost use Rattle.cbor4ii_rw.specs.Reader.{Shows, Breaks};
+ghost use Rattle.cbor4ii_rw.specs.View.{IfKnown};
+ghost use Rattle.cbor4ii_rw.specs.Reader.{Shows, ReaderFails};
 ghost use Rattle.cbor4ii_items.specs.Moves.{Kept};
-ghost use Rattle.cbor4ii_items.specs.Writing.{WritesWhole};
-ghost use Rattle.cbor4ii_tool.specs.Reading.{ReadsInteger, RefusesInteger, BeginsNegative};
+ghost use Rattle.cbor4ii_items.specs.Writing.{WritesAtomically};
+ghost use Rattle.cbor4ii_tool.specs.Reading.{ReadsInteger, RejectsInteger, BeginsNegative};
 ghost use Rattle.cbor4ii_tool.specs.Reading.{written_bytes};
 ghost use Rattle.cbor4ii_tool.specs.Steps.{Leaves};
 ghost use Rattle.cbor4ii_tool.specs.declared.fault.Kind.TheVariants.{Read, Write};
@@ -28,13 +28,13 @@ pub enum Integer {
 
 /// Takes an integer, of any width that its argument has. A byte with which no integer begins is a
 /// `Mismatch`, and an end inside an integer is `Eof`; a reader that fails is `Read`. What was
-/// taken before a refusal is lost.
+/// taken before an error is lost.
 #[tactic(auto, using(crate::proofs::Items::leaving))]
 pub fn read<S: Source>(alloc: Global, reader: &mut S) -> Result<Integer, Kind>
     ensures reads { IfOk result (λ integer.
         ReadsInteger integer (S.view reader.old) (S.view reader.new)) }
-    ensures refuses { IfErr result (λ kind.
-        RefusesInteger kind (S.view reader.old) (S.view reader.new)) }
+    ensures errs { IfErr result (λ kind.
+        RejectsInteger kind (S.view reader.old) (S.view reader.new)) }
     ensures kept { OnOk result (Kept (S.view reader.old) (S.view reader.new)) }
     ensures leaves { Leaves (S.view reader.old) (S.view reader.new) }
     ensures steady { IfErr result (λ kind. (kind ≢ Write) × (kind ≢ Read →
@@ -54,9 +54,9 @@ pub fn read<S: Source>(alloc: Global, reader: &mut S) -> Result<Integer, Kind>
 }
 
 /// Writes an integer with the shortest argument (RFC 8949 section 4.2.1). It fails only where the
-/// writer failed in the call, and a whole writer then holds what it held before.
+/// writer failed in the call, and an atomic writer then holds what it held before.
 pub fn write<W: Write>(integer: &Integer, writer: &mut W) -> Result<(), EncodeError<W::Error>>
-    ensures { WritesWhole W.whole (written_bytes integer.now)
+    ensures { WritesAtomically W.atomic (written_bytes integer.now)
         (W.view writer.old) (W.view writer.new) result }
 {
     match integer {
@@ -69,9 +69,9 @@ pub fn write<W: Write>(integer: &Integer, writer: &mut W) -> Result<(), EncodeEr
 fn is_negative_next<S: Source>(reader: &mut S) -> Result<bool, Kind>
     ensures shows { OnOk result (Shows [] (S.view reader.old) (S.view reader.new)) }
     ensures negative { IfOk result (λ negative.
-        Told (S.view reader.old).told (λ xs. IsTrue negative ↔ BeginsNegative xs)) }
+        IfKnown (S.view reader.old).known (λ xs. IsTrue negative ↔ BeginsNegative xs)) }
     ensures kind { IfErr result (λ kind. kind ≡ Read) }
-    ensures breaks { OnErr result (Breaks (S.view reader.old) (S.view reader.new)) }
+    ensures breaks { OnErr result (ReaderFails (S.view reader.old) (S.view reader.new)) }
 {
     let mut failure = None;
     match ask::look(reader, 1, &mut failure) {

@@ -58,7 +58,7 @@ fn integer<S: Source, W: Write>(alloc: Global, reader: &mut S, writer: &mut W) -
     }
 }
 
-// A value, written in its canonical spelling.
+// A value, written in its canonical encoding.
 #[tactic(auto, using(crate::proofs::Items::moves_leaves))]
 fn value<S: Source, W: Write>(alloc: Global, reader: &mut S, writer: &mut W) -> Result<(), Kind>
     ensures done { OnOk result (Done Canon (S.view reader.old) (S.view reader.new)
@@ -77,7 +77,7 @@ fn value<S: Source, W: Write>(alloc: Global, reader: &mut S, writer: &mut W) -> 
     }
 }
 
-// A value in its canonical spelling, written again.
+// A value in its canonical encoding, written again.
 #[tactic(auto, using(crate::proofs::Items::moves_leaves))]
 fn canonical<S: Source, W: Write>(alloc: Global, reader: &mut S, writer: &mut W) -> Result<(), Kind>
     ensures done { OnOk result (Done Strict (S.view reader.old) (S.view reader.new)

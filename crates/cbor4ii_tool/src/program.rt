@@ -2,7 +2,7 @@
 ghost use Rattle.std.specs.Prelude.{◌≡◌, ◌≢◌, ◌⊎◌, Ok, None, IfOk, IfErr, IsErr};
 ghost use Rattle.std.specs.Prelude.{IsOkAnd};
 ghost use Rattle.std.specs.IoError.{error_kind};
-ghost use Rattle.cbor4ii_rw.specs.View.{Told};
+ghost use Rattle.cbor4ii_rw.specs.View.{IfKnown};
 ghost use Rattle.cbor4ii_rw.specs.Stream.{most_bytes, cut_known};
 ghost use Rattle.cbor4ii_tool.specs.Run.{WantsMemory};
 ghost use Rattle.cbor4ii_tool.specs.Program.{Names, NamesNone, EndsIn, MayEnd, Chooses};
@@ -25,7 +25,7 @@ pub const USAGE_STATUS: u8 = 2;
 /// 1 after a fault, whose line goes to `errors`. Where `words` or a buffer found no memory, the
 /// line is `fault at 0: OutOfMemory`, and nothing is read or written. Where the words name no
 /// command, the usage line goes there, nothing is read or written, and the status is 2. An error of
-/// `errors` itself is not told.
+/// `errors` itself is not reported.
 pub fn program<R: Read + Drop, W: Write + Drop, E: Write>(
     alloc: Global,
     words: io::Result<Vec<String>>,
@@ -83,7 +83,7 @@ fn stream<R: Read + Drop, W: Write + Drop>(
     input: R,
     output: W,
 ) -> Result<(), Fault>
-    ensures runs { Told (cut_known most_bytes (R.remaining input)) (λ bytes.
+    ensures runs { IfKnown (cut_known most_bytes (R.remaining input)) (λ bytes.
         MayEnd command bytes (W.contents output) result) }
     ensures memory { IfErr result (λ fault.
         WantsMemory command fault.kind ⊎ (fault.at ≡ 0)) }

@@ -1,7 +1,7 @@
 //! What the program does with its input.
 ghost use Rattle.std.specs.Prelude.{◌≡◌, ◌↔◌, [], Some, IfOk, IfErr, OnOk, OnErr, IsTrue};
-ghost use Rattle.cbor4ii_rw.specs.View.{Told};
-ghost use Rattle.cbor4ii_rw.specs.Reader.{Shows, Breaks, Keeps};
+ghost use Rattle.cbor4ii_rw.specs.View.{IfKnown};
+ghost use Rattle.cbor4ii_rw.specs.Reader.{Shows, ReaderFails, Keeps};
 ghost use Rattle.cbor4ii_rw.specs.Stream.{stream_view};
 ghost use Rattle.cbor4ii_rw.specs.Written.{stream_output, is_flushed};
 ghost use Rattle.cbor4ii_items.specs.Moves.{EndsOrForgets};
@@ -20,23 +20,23 @@ use std::alloc::Global;
 use std::io::{self, BufRead};
 
 /// Runs `command` over all that `reader` has left: takes one item after another, writes for each
-/// what stands for it behind what `writer` holds, and flushes the writer.
+/// what stands for it after what `writer` holds, and flushes the writer.
 ///
 /// `Command::Ints` takes integers (major types 0 and 1 of RFC 8949 section 3.1) of any width, and
 /// writes each with its shortest argument (section 4.2.1). `Command::Canon` takes values, and
-/// writes each in its canonical spelling. `Command::Lens` skips items, and writes the length of
+/// writes each in its canonical encoding. `Command::Lens` skips items, and writes the length of
 /// each in bytes, in decimal and with a newline. `Command::Strict` takes values in their canonical
-/// spelling, and no other, and writes each again. Each item may take the steps that the reader has.
+/// encoding, and no other, and writes each again. Each item may take the steps that the reader has.
 /// An input of at most 2^64-1 bytes, less those that were taken before, is read whole. Memory is
 /// taken for values alone, one at a time.
 ///
 /// # Errors
 ///
 /// A fault's `at` is how many bytes were taken before the item in work, as `IoReader::taken` counts
-/// them. Its `kind` is the name of the error by which the item is refused, `Read` where the reader
+/// them. Its `kind` is the name of the error by which the item is rejected, `Read` where the reader
 /// failed, or `Write` where the item was taken and could not be written. In each case but the last,
 /// the items before it have been written, and the writer was flushed. Where that flush fails,
-/// behind a fault of the input too, the answer is `Write`, and `at` is all that was taken. A
+/// after a fault of the input too, the answer is `Write`, and `at` is all that was taken. A
 /// failure of the writer at an item stays the answer. So the kind is `Write` exactly where the
 /// writer failed. Of what is written where it failed at an item, nothing is promised.
 pub fn run<R: BufRead, W: io::Write>(
@@ -45,23 +45,24 @@ pub fn run<R: BufRead, W: io::Write>(
     reader: &mut IoReader<R>,
     writer: &mut IoWriter<W>,
 ) -> Result<(), Fault>
-    ensures runs { Told (stream_view R.Read.remaining R.consumable_len reader.old).told (λ input.
+    ensures runs { IfKnown (stream_view R.Read.remaining R.consumable_len reader.old).known
+        (λ input.
         RunsOver command input (stream_view R.Read.remaining R.consumable_len reader.old)
         (stream_view R.Read.remaining R.consumable_len reader.new)
         (stream_output W.contents writer.old).written
         (stream_output W.contents writer.new).written result) }
-    ensures complete { Told (stream_view R.Read.remaining R.consumable_len reader.old).told
+    ensures complete { IfKnown (stream_view R.Read.remaining R.consumable_len reader.old).known
         (λ input. ConvertsWhole command
         (stream_view R.Read.remaining R.consumable_len reader.old).budget input
         (stream_output W.contents writer.old).written
         (stream_output W.contents writer.new).written result) }
     ensures memory { IfErr result (λ fault. WantsMemory command fault.kind) }
     ensures ended { OnOk result
-        (Told (stream_view R.Read.remaining R.consumable_len reader.old).told (λ input.
-        (stream_view R.Read.remaining R.consumable_len reader.new).told ≡ Some [])) }
+        (IfKnown (stream_view R.Read.remaining R.consumable_len reader.old).known (λ input.
+        (stream_view R.Read.remaining R.consumable_len reader.new).known ≡ Some [])) }
     ensures left { EndsOrForgets
-        (stream_view R.Read.remaining R.consumable_len reader.old).told
-        (stream_view R.Read.remaining R.consumable_len reader.new).told }
+        (stream_view R.Read.remaining R.consumable_len reader.old).known
+        (stream_view R.Read.remaining R.consumable_len reader.new).known }
     ensures counted { FailedOrCounted
         (stream_view R.Read.remaining R.consumable_len reader.old)
         (stream_view R.Read.remaining R.consumable_len reader.new) }
@@ -77,7 +78,7 @@ pub fn run<R: BufRead, W: io::Write>(
     finish(outcome, writer, reader.taken())
 }
 
-// Flushes the writer, behind a fault too. The first failure of the writer is the answer, and else
+// Flushes the writer, after a fault too. The first failure of the writer is the answer, and else
 // the outcome of the items.
 fn finish<W: io::Write>(
     outcome: Result<(), Fault>,
@@ -99,7 +100,7 @@ fn finish<W: io::Write>(
     }
 }
 
-// Where the writer failed first, if its flush fails at `at`, behind this outcome of the items.
+// Where the writer failed first, if its flush fails at `at`, after this outcome of the items.
 fn failed_at(outcome: Result<(), Fault>, at: u64) -> u64
     ensures { result ≡ failed_at outcome at }
 {
@@ -116,13 +117,14 @@ fn convert_items<R: BufRead, W: Write>(
     reader: &mut IoReader<R>,
     writer: &mut W,
 ) -> Result<(), Fault>
-    ensures runs { Told (stream_view R.Read.remaining R.consumable_len reader.old).told (λ input.
+    ensures runs { IfKnown (stream_view R.Read.remaining R.consumable_len reader.old).known
+        (λ input.
         RunsOver command input (stream_view R.Read.remaining R.consumable_len reader.old)
         (stream_view R.Read.remaining R.consumable_len reader.new)
         (W.view writer.old).written (W.view writer.new).written result) }
     ensures ended { OnOk result
-        (Told (stream_view R.Read.remaining R.consumable_len reader.old).told (λ input.
-        (stream_view R.Read.remaining R.consumable_len reader.new).told ≡ Some [])) }
+        (IfKnown (stream_view R.Read.remaining R.consumable_len reader.old).known (λ input.
+        (stream_view R.Read.remaining R.consumable_len reader.new).known ≡ Some [])) }
     ensures leaves { Leaves
         (stream_view R.Read.remaining R.consumable_len reader.old)
         (stream_view R.Read.remaining R.consumable_len reader.new) }
@@ -151,9 +153,9 @@ fn convert_items<R: BufRead, W: Write>(
 fn is_at_end<S: Source>(reader: &mut S) -> Result<bool, Kind>
     ensures shows { OnOk result (Shows [] (S.view reader.old) (S.view reader.new)) }
     ensures end { IfOk result (λ end.
-        Told (S.view reader.old).told (λ xs. IsTrue end ↔ (xs ≡ []))) }
+        IfKnown (S.view reader.old).known (λ xs. IsTrue end ↔ (xs ≡ []))) }
     ensures kind { IfErr result (λ kind. kind ≡ Read) }
-    ensures breaks { OnErr result (Breaks (S.view reader.old) (S.view reader.new)) }
+    ensures breaks { OnErr result (ReaderFails (S.view reader.old) (S.view reader.new)) }
 {
     let mut failure = None;
     match ask::look(reader, 1, &mut failure) {

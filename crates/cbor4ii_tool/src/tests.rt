@@ -1,5 +1,5 @@
 //! What no contract says: whole runs over rows of bytes, streams that fail at each read, write and
-//! flush, the texts on standard error, and the exit status. Where memory is refused, a test ends
+//! flush, the texts on standard error, and the exit status. Where memory is rejected, a test ends
 //! with that error, once what was written before is seen to be right.
 mod begun;
 mod items;
@@ -41,13 +41,13 @@ fn runs(
     ) = outcome
     {
         assert!(rt; takes_memory(row.command));
-        check_front(rt, row, at, &output);
+        check_prefix(rt, row, at, &output);
         return Err(io::Error::from(ErrorKind::OutOfMemory));
     }
     Ok((outcome, output))
 }
 
-// An answer that tells want of memory ends the test.
+// An answer that reports want of memory ends the test.
 fn had_memory(outcome: Result<(), Fault>) -> io::Result<Result<(), Fault>> {
     match outcome {
         Err(fault) if fault.kind == Kind::OutOfMemory => {
@@ -63,7 +63,7 @@ fn takes_memory(command: Command) -> bool {
 }
 
 // What was written is what stands for the items before `at`, and was flushed where a flush can be.
-fn check_front(rt: &impl Abort, row: &Row, at: u64, output: &Output) {
+fn check_prefix(rt: &impl Abort, row: &Row, at: u64, output: &Output) {
     let item = row.item_read(at);
     assert_eq!(rt; item.0, at, "at {:?}", row.input);
     assert_eq!(rt; output.written.len(), item.1, "at {:?}", row.input);
@@ -100,7 +100,7 @@ fn rows_over_streams(rt: HostRuntime) -> io::Result<()> {
     Ok(())
 }
 
-// A read fails behind so many others: that is the answer, at this byte, and what stands for the
+// A read fails after so many others: that is the answer, at this byte, and what stands for the
 // items before it is written and flushed.
 fn read_fails(
     rt: &(impl Abort + AllocGlobal),
@@ -116,7 +116,7 @@ fn read_fails(
         kind: Kind::Read,
     };
     assert_eq!(rt; outcome, Err(fault), "at {:?}", row.input);
-    check_front(rt, row, at, &output);
+    check_prefix(rt, row, at, &output);
     Ok(())
 }
 
@@ -152,7 +152,7 @@ fn the_first_read_and_the_second_fail(rt: HostRuntime) -> io::Result<()> {
     Ok(())
 }
 
-// A write fails behind so many others, of which each appended a byte at least, or all is written;
+// A write fails after so many others, of which each appended a byte at least, or all is written;
 // the flush fails too where `stays` is set. The first failure is the answer.
 fn write_fails(
     rt: &(impl Abort + AllocGlobal),
@@ -203,8 +203,8 @@ fn each_write_fails_in_turn(rt: HostRuntime) -> io::Result<()> {
     Ok(())
 }
 
-// A flush fails, behind a fault of the input too: all is written, and the answer is the failure of
-// the flush, behind all that was taken.
+// A flush fails, after a fault of the input too: all is written, and the answer is the failure of
+// the flush, after all that was taken.
 fn flush_fails(rt: &(impl Abort + AllocGlobal), row: &Row, width: usize) -> io::Result<()> {
     let mut output = Output::new(rt.alloc())?;
     output.stays = true;

@@ -3,7 +3,7 @@ pub mod parts
 pub mod skipping
 pub mod reading
 pub mod values
-pub mod spellings
+pub mod encodings
 pub mod answers
 pub mod canonical
 pub mod skip_calls

@@ -1,5 +1,5 @@
 -- How the answers of a program exclude each other, and what follows for a call.
 pub mod Answers
-pub mod MayStop
+pub mod MayReject
 pub mod Nesting
 pub mod Promises

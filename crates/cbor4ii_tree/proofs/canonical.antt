@@ -1,7 +1,7 @@
--- Reading a value that is spelled in one way.
+-- Reading a value that is encoded in one way.
 pub mod Decoding
 pub mod Calls
-pub mod Exactly
+pub mod FitsCanonically
 pub mod Lacking
 pub mod AsValue
 pub mod Once

@@ -1,7 +1,7 @@
 pub mod Sound
-pub mod Refuse
+pub mod Reject
 pub mod Stop
 pub mod Widen
-pub mod Fronts
+pub mod Prefixes
 pub mod Pushed
 pub mod Joined

@@ -1,5 +1,5 @@
 -- Items that are kept as their bytes.
 pub mod Captured
 pub mod Copied
-pub mod Told
+pub mod IfKnown
 pub mod Unlent

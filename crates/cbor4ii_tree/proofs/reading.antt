@@ -1,9 +1,9 @@
 pub mod Chunks
 pub mod Again
 pub mod Sound
-pub mod Refuses
-pub mod Stops
+pub mod Rejects
+pub mod Rejections
 pub mod Answer
 pub mod Widen
-pub mod Fronts
+pub mod Prefixes
 pub mod Laws

@@ -1,7 +1,7 @@
 -- The calls of skipping.
 pub mod Doing
 pub mod Heads
-pub mod Fronts
+pub mod Prefixes
 pub mod Glancing
 pub mod Leading
 pub mod Parts

@@ -1,7 +1,7 @@
 pub mod Sound
-pub mod Refuses
-pub mod Stops
+pub mod Rejects
+pub mod Rejections
 pub mod Answer
 pub mod Widen
-pub mod Fronts
+pub mod Prefixes
 pub mod Laws

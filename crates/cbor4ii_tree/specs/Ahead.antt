@@ -5,19 +5,20 @@ use Rattle.std.specs.Prelude.{◌⊎◌}
 use Rattle.cbor4ii_items.specs.Head.{IsBytes, break}
 use Rattle.cbor4ii_items.specs.Initial.{initial}
 use Rattle.cbor4ii_tree.specs.Cost.{Budget, step_in}
-use Rattle.cbor4ii_tree.specs.Refusal.{Refusal, eof, Small, break_name}
+use Rattle.cbor4ii_tree.specs.InputError.{InputError, eof, Small, break_name}
 use Rattle.cbor4ii_tree.specs.Runs.{BeginsRun, TakesRun}
-use Rattle.cbor4ii_tree.specs.Stops.{Stopping, Is, NoBreak}
-use Rattle.cbor4ii_tree.specs.Skipping.{start_of, Leads, StopsSkippingBehind, SkipsItems}
-use Rattle.cbor4ii_tree.specs.Skipping.{StopsSkippingOne}
-use Rattle.cbor4ii_tree.specs.declared.skip.Behind.{Behind}
-use Rattle.cbor4ii_tree.specs.declared.skip.Behind.TheVariants as behind
+use Rattle.cbor4ii_tree.specs.Rejections.{Stopping, Is, NoBreak}
+use Rattle.cbor4ii_tree.specs.Skipping.{start_of, Leads, RejectsSkippingAfter, SkipsItems}
+use Rattle.cbor4ii_tree.specs.Skipping.{RejectsSkippingOne}
+use Rattle.cbor4ii_tree.specs.declared.skip.After.{After}
+use Rattle.cbor4ii_tree.specs.declared.skip.After.TheVariants as trailing
 use Rattle.cbor4ii_tree.specs.declared.skip.Went.{Went}
 use Rattle.cbor4ii_tree.specs.declared.skip.Went.TheVariants.{Past, Into}
 use Rattle.cbor4ii_tree.specs.declared.skip.Start.{Start}
 use Rattle.cbor4ii_tree.specs.declared.skip.Start.TheVariants as start
 use Rattle.cbor4ii_tree.specs.declared.ahead.Among.{Among}
-use Rattle.cbor4ii_tree.specs.declared.ahead.Among.TheVariants.{Items, Pairs, OpenItems, OpenPairs}
+use Rattle.cbor4ii_tree.specs.declared.ahead.Among.TheVariants.{Items, Pairs, IndefiniteItems}
+use Rattle.cbor4ii_tree.specs.declared.ahead.Among.TheVariants.{IndefinitePairs}
 use Rattle.cbor4ii_tree.specs.declared.ahead.Ahead.{Ahead}
 use Rattle.cbor4ii_tree.specs.declared.ahead.Ahead.TheVariants.{Run, Head, Break, Unseen}
 
@@ -27,29 +28,29 @@ use Rattle.cbor4ii_tree.specs.declared.ahead.Ahead.TheVariants.{Run, Head, Break
 abbrev pub Allows : Among → ℕ → Type 0
 Allows (Items most) n = n ≤ most
 Allows (Pairs most) n = (n ≤ 2 * most) × (n % 2 ≡ 0)
-Allows OpenItems n = Unit {0}
-Allows OpenPairs n = n % 2 ≡ 0
+Allows IndefiniteItems n = Unit {0}
+Allows IndefinitePairs n = n % 2 ≡ 0
 
 -- there is one
 abbrev pub Awaits : Among → Type 0
 Awaits (Items most) = 1 ≤ most
 Awaits (Pairs most) = 1 ≤ most
-Awaits OpenItems = Unit {0}
-Awaits OpenPairs = Unit {0}
+Awaits IndefiniteItems = Unit {0}
+Awaits IndefinitePairs = Unit {0}
 
 -- so many of them were skipped
 abbrev pub CountsAmong : Among → ℕ → Type 0
 CountsAmong (Items most) n = (1 ≤ n) × (n ≤ most)
 CountsAmong (Pairs most) n = (1 ≤ n) × (n ≤ 2 * most)
-CountsAmong OpenItems n = Unit {0}
-CountsAmong OpenPairs n = Unit {0}
+CountsAmong IndefiniteItems n = Unit {0}
+CountsAmong IndefinitePairs n = Unit {0}
 
 -- a break may come in its place
-abbrev pub IsOpen : Among → Type 0
-IsOpen (Items most) = ⊥
-IsOpen (Pairs most) = ⊥
-IsOpen OpenItems = Unit {0}
-IsOpen OpenPairs = Unit {0}
+abbrev pub IsIndefinite : Among → Type 0
+IsIndefinite (Items most) = ⊥
+IsIndefinite (Pairs most) = ⊥
+IsIndefinite IndefiniteItems = Unit {0}
+IsIndefinite IndefinitePairs = Unit {0}
 
 -- ---- what is shown
 
@@ -69,15 +70,15 @@ leaf_bytes first = leaf_by (start_of (initial first)) (first % 32)
 abbrev pub NotBreak : List ℕ → Type 0
 NotBreak xs = (xs ≢ []) × ((bs : List ℕ) → xs ≡ break ∷ bs → ⊥)
 
--- a head of so many bytes, with all that belongs to it but what is left behind it
-pub record BeginsHead (size : ℕ) (behind : Behind) (shown : List ℕ) : Type 0 where
+-- a head of so many bytes, with all that belongs to it but what is consumed it
+pub record BeginsHead (size : ℕ) (trailing : After) (shown : List ℕ) : Type 0 where
   pub some : 1 ≤ size
   pub within : size ≤ length shown
   pub bytes : IsBytes (take size shown)
   pub leads : (inner : Budget) (after : List ℕ)
-      → Leads inner (shown ++ after) behind (drop size shown ++ after)
-  pub item : (inner : Budget) (after : List ℕ) (e : Refusal) (rest : List ℕ)
-      → StopsSkippingBehind behind inner (drop size shown ++ after) e rest
+      → Leads inner (shown ++ after) trailing (drop size shown ++ after)
+  pub item : (inner : Budget) (after : List ℕ) (e : InputError) (rest : List ℕ)
+      → RejectsSkippingAfter trailing inner (drop size shown ++ after) e rest
       → NotBreak (shown ++ after)
 
 -- a run that may be taken at once
@@ -93,30 +94,30 @@ pub record BeginsWithBreak (shown : List ℕ) : Type 0 where
 
 abbrev pub Sees : Among → Ahead → List ℕ → Type 0
 Sees among (Run n size) shown = SeesRun among n size shown
-Sees among (Head size behind) shown = BeginsHead size behind shown
-Sees among Break shown = IsOpen among × BeginsWithBreak shown
+Sees among (Head size trailing) shown = BeginsHead size trailing shown
+Sees among Break shown = IsIndefinite among × BeginsWithBreak shown
 Sees among Unseen shown = Unit {0}
 
 -- ---- what is taken of it
 
--- a head, and what is left of its item behind it
-pub record TakesHead (inner : Budget) (xs : List ℕ) (behind : Behind) (ys : List ℕ) : Type 0 where
-  pub leads : Leads inner xs behind ys
-  pub item : (e : Refusal) (rest : List ℕ) → StopsSkippingBehind behind inner ys e rest
+-- a head, and what is left of its item after it
+pub record TakesHead (inner : Budget) (xs : List ℕ) (trailing : After) (ys : List ℕ) : Type 0 where
+  pub leads : Leads inner xs trailing ys
+  pub item : (e : InputError) (rest : List ℕ) → RejectsSkippingAfter trailing inner ys e rest
       → NotBreak xs
 
 -- under the budget that is left for the item
 abbrev pub TakesAhead : Among → Budget → List ℕ → Ahead → List ℕ → Type 0
 TakesAhead among inner xs (Run n size) ys = TakesRun n xs ys
-TakesAhead among inner xs (Head size behind) ys = TakesHead inner xs behind ys
+TakesAhead among inner xs (Head size trailing) ys = TakesHead inner xs trailing ys
 TakesAhead among inner xs Break ys = xs ≡ break ∷ ys
 TakesAhead among inner xs Unseen ys = ys ≡ xs
 
 -- how far that leads
 abbrev pub Passes : Among → Ahead → ℕ → ℕ → Type 0
 Passes among (Run n size) old new = (1 ≤ n) × Allows among n × (new + 1 ≤ old)
-Passes among (Head size behind) old new = new + 1 ≤ old
-Passes among Break old new = IsOpen among
+Passes among (Head size trailing) old new = new + 1 ≤ old
+Passes among Break old new = IsIndefinite among
 Passes among Unseen old new = new ≤ old
 
 -- ---- what is skipped
@@ -124,27 +125,27 @@ Passes among Unseen old new = new ≤ old
 -- a break and no item, or so many items
 abbrev pub SkipsSome : Among → Budget → List ℕ → ℕ → List ℕ → Type 0
 SkipsSome among budget xs n ys =
-    (IsOpen among × (n ≡ 0) × (xs ≡ break ∷ ys)) ⊎ ((1 ≤ n) × SkipsItems n budget xs ys)
+    (IsIndefinite among × (n ≡ 0) × (xs ≡ break ∷ ys)) ⊎ ((1 ≤ n) × SkipsItems n budget xs ys)
 
-abbrev pub StopsSome : Among → Budget → Stopping
-StopsSome (Items most) budget = StopsSkippingOne budget
-StopsSome (Pairs most) budget = StopsSkippingOne budget
-StopsSome OpenItems budget = NoBreak (StopsSkippingOne budget)
-StopsSome OpenPairs budget = NoBreak (StopsSkippingOne budget)
+abbrev pub RejectsSome : Among → Budget → Stopping
+RejectsSome (Items most) budget = RejectsSkippingOne budget
+RejectsSome (Pairs most) budget = RejectsSkippingOne budget
+RejectsSome IndefiniteItems budget = NoBreak (RejectsSkippingOne budget)
+RejectsSome IndefinitePairs budget = NoBreak (RejectsSkippingOne budget)
 
 -- the same under a step that leaves this budget
 abbrev pub SkipsSomeUnder : Among → Budget → List ℕ → ℕ → List ℕ → Type 0
 SkipsSomeUnder among inner xs n ys =
     (budget : Budget) → step_in budget ≡ Some inner → SkipsSome among budget xs n ys
 
-abbrev pub StopsSomeUnder : Among → Budget → Stopping
-StopsSomeUnder among inner xs e rest =
-    (budget : Budget) → step_in budget ≡ Some inner → StopsSome among budget xs e rest
+abbrev pub RejectsSomeUnder : Among → Budget → Stopping
+RejectsSomeUnder among inner xs e rest =
+    (budget : Budget) → step_in budget ≡ Some inner → RejectsSome among budget xs e rest
 
 -- some were skipped, or the head of one was taken that holds so many
 abbrev pub GoesUnder : Among → Budget → List ℕ → Went → List ℕ → Type 0
 GoesUnder among inner xs (Past n) ys = SkipsSomeUnder among inner xs n ys
-GoesUnder among inner xs (Into n) ys = TakesHead inner xs (behind.Items n) ys
+GoesUnder among inner xs (Into n) ys = TakesHead inner xs (trailing.Items n) ys
 
 abbrev pub CountsWent : Among → Went → Type 0
 CountsWent among (Past n) = CountsAmong among n
@@ -158,11 +159,12 @@ Gains (Into n) old new = new + 1 ≤ old
 -- a break was taken where one may come; or nothing was taken, and where a break may come another
 -- byte stands
 abbrev pub EndsOrNot : Among → List ℕ → Bool → List ℕ → Type 0
-EndsOrNot among xs true ys = IsOpen among × (xs ≡ break ∷ ys)
-EndsOrNot among xs false ys = (ys ≡ xs) × (IsOpen among → NotBreak ys)
+EndsOrNot among xs true ys = IsIndefinite among × (xs ≡ break ∷ ys)
+EndsOrNot among xs false ys = (ys ≡ xs) × (IsIndefinite among → NotBreak ys)
 
-abbrev pub StopsAtEnd : Among → Stopping
-StopsAtEnd among xs e rest = IsOpen among × (xs ≡ []) × Is (eof break_name (Small 1)) [] e rest
+abbrev pub RejectsAtEnd : Among → Stopping
+RejectsAtEnd among xs e rest =
+    IsIndefinite among × (xs ≡ []) × Is (eof break_name (Small 1)) [] e rest
 
-abbrev pub NeverStops : Stopping
-NeverStops xs e rest = ⊥
+abbrev pub NeverRejects : Stopping
+NeverRejects xs e rest = ⊥

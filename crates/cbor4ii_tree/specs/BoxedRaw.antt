@@ -1,25 +1,25 @@
 -- Items that are kept as a copy of their bytes.
 use Rattle.std.specs.Prelude.{◌≡◌, ◌≢◌, ℕ, ◌⊎◌, List, [], Some, Result, Ok, Err}
 use Rattle.std.specs.Prelude.{false, IsTrue, IfErr}
-use Rattle.cbor4ii_rw.specs.View.{View, Told}
+use Rattle.cbor4ii_rw.specs.View.{View, IfKnown}
 use Rattle.cbor4ii_rw.specs.declared.error.DecodeError.{DecodeError}
 use Rattle.cbor4ii_rw.specs.declared.error.DecodeError.TheVariants.{OutOfMemory}
-use Rattle.cbor4ii_items.specs.Decoding.{IsExact, Stops, Spelling, Decodes, taking_memory}
-use Rattle.cbor4ii_items.specs.Refusal.{is_out_of_memory}
+use Rattle.cbor4ii_items.specs.Decoding.{IsExact, Rejects, Format, Decodes, taking_memory}
+use Rattle.cbor4ii_items.specs.InputError.{is_out_of_memory}
 use Rattle.cbor4ii_tree.specs.declared.boxed_raw.BoxedRawValue.{BoxedRawValue}
 use Rattle.cbor4ii_tree.specs.Tree.{Tree}
 use Rattle.cbor4ii_tree.specs.Cost.{Budget}
-use Rattle.cbor4ii_tree.specs.Refusal.{Refusal, require_borrowed}
-use Rattle.cbor4ii_tree.specs.Spelling.{Skips}
-use Rattle.cbor4ii_tree.specs.StopsSkipping.{StopsSkipping}
-use Rattle.cbor4ii_tree.specs.Raw.{raw_spelling, Unmoved, RefusesFront, raw_value}
-use Rattle.cbor4ii_tree.specs.Raw.{TakesItem, StopsAsSkipping, Captured, NotCaptured}
+use Rattle.cbor4ii_tree.specs.InputError.{InputError, require_borrowed}
+use Rattle.cbor4ii_tree.specs.Encodings.{Skips}
+use Rattle.cbor4ii_tree.specs.SkippingRejects.{SkippingRejects}
+use Rattle.cbor4ii_tree.specs.Raw.{raw_format, Unmoved, RejectsOnPrefix, raw_value}
+use Rattle.cbor4ii_tree.specs.Raw.{TakesItem, RejectsAsSkipping, Captured, NotCaptured}
 
 abbrev pub boxed_content : BoxedRawValue → List ℕ
 boxed_content v = v.0.items
 
-abbrev pub boxed_raw_spelling : Spelling BoxedRawValue
-boxed_raw_spelling = taking_memory (raw_spelling boxed_content)
+abbrev pub boxed_raw_format : Format BoxedRawValue
+boxed_raw_format = taking_memory (raw_format boxed_content)
 
 -- an item was taken, and there was no memory for its copy
 pub record LacksRoom {E : Type 0} (old new : View) (e : DecodeError E) : Type 0 where
@@ -39,30 +39,30 @@ UnmovedOrLacks old new e = IsTrue (is_out_of_memory e) ⊎ Unmoved old new e
 -- the item that skipping takes was taken
 abbrev pub SkippedTo : View → View → List ℕ → Type 0
 SkippedTo old new xs =
-    (t : Tree) × (rest : List ℕ) × Skips xs old.budget t rest × (new.told ≡ Some rest)
+    (t : Tree) × (rest : List ℕ) × Skips xs old.budget t rest × (new.known ≡ Some rest)
 
 -- Over a reader that lends nothing nothing moves: some bytes are left, or none are and skipping
--- stops there.
-abbrev pub StopsRawUnlent : List ℕ → Budget → Refusal → List ℕ → Type 0
-StopsRawUnlent xs budget e rest = (rest ≡ xs) × (((xs ≢ []) × (e ≡ require_borrowed raw_value)) ⊎
-    ((xs ≡ []) × ((left : List ℕ) × StopsSkipping [] budget e left)))
+-- fails there.
+abbrev pub RejectsRawUnlent : List ℕ → Budget → InputError → List ℕ → Type 0
+RejectsRawUnlent xs budget e rest = (rest ≡ xs) × (((xs ≢ []) × (e ≡ require_borrowed raw_value)) ⊎
+    ((xs ≡ []) × ((left : List ℕ) × SkippingRejects [] budget e left)))
 
 -- over a reader that lends nothing no item is read, and no memory is asked for
 abbrev pub CopiesNone : {E : Type 0} → View → View → Result BoxedRawValue (DecodeError E) → Type 0
 CopiesNone old new (Ok v) = ⊥
-CopiesNone old new (Err e) = (is_out_of_memory e ≡ false) × Stops StopsRawUnlent old new e
+CopiesNone old new (Err e) = (is_out_of_memory e ≡ false) × Rejects RejectsRawUnlent old new e
 
 -- What reading an item as a copy of its bytes promises.
 pub record CopiesItem {E : Type 0} (old new : View)
     (answer : Result BoxedRawValue (DecodeError E)) : Type 0 where
   -- as every decoding call
-  pub decodes : Decodes boxed_raw_spelling old new answer
+  pub decodes : Decodes boxed_raw_format old new answer
   -- over any reader
   pub unmoved : IfErr answer (UnmovedOrLacks old new)
-  pub refuses : RefusesFront old answer
-  -- want of memory comes behind the item
-  pub behind : IfErr answer (λ error. IsTrue (is_out_of_memory error) →
-      Told old.told (SkippedTo old new))
-  -- over a reader that lends whole: exactly as skipping takes an item, or stops
+  pub errs : RejectsOnPrefix old answer
+  -- want of memory comes after the item
+  pub trailing : IfErr answer (λ error. IsTrue (is_out_of_memory error) →
+      IfKnown old.known (SkippedTo old new))
+  -- over a zero-copy reader: exactly as skipping takes an item, or stops
   pub whole : IsExact false old → TakesItem boxed_content old new answer
-  pub exact : IsExact false old → StopsAsSkipping old new answer
+  pub exact : IsExact false old → RejectsAsSkipping old new answer

@@ -1,4 +1,4 @@
--- The canonical spelling of a value, the one that encoders write: shortest heads, lengths given,
+-- The canonical encoding of a value, the one that encoders write: shortest heads, lengths given,
 -- null for null and floats in their own width (preferred serialization, RFC 8949 section 4.1),
 -- and bignums for integers beyond 64 bits. Map keys keep their order, so it is not the whole of
 -- section 4.2.
@@ -34,31 +34,31 @@ boolean_simple false = simple_false
 boolean_simple true = simple_true
 
 abbrev mutual
-  pub canon_tree : Item → Tree
-  canon_tree null = simple simple_null
-  canon_tree (boolean b) = simple (boolean_simple b)
-  canon_tree (integer (pos n)) = integer_tree unsigned n
-  canon_tree (integer (negsuc n)) = integer_tree negative n
-  canon_tree (float p n) = bits p n
-  canon_tree (bytes_item bs) = string byte_string (shortest (length bs)) bs
-  canon_tree (text bs) = string text_string (shortest (length bs)) bs
-  canon_tree (sequence vs) = array (shortest (item_count vs)) (canon_trees vs)
-  canon_tree (mapping ms) = map_of (shortest (member_count ms)) (canon_pairs ms)
-  canon_tree (tag n v) = tagged n (shortest n) (canon_tree v)
+  pub canonical_tree : Item → Tree
+  canonical_tree null = simple simple_null
+  canonical_tree (boolean b) = simple (boolean_simple b)
+  canonical_tree (integer (pos n)) = integer_tree unsigned n
+  canonical_tree (integer (negsuc n)) = integer_tree negative n
+  canonical_tree (float p n) = bits p n
+  canonical_tree (bytes_item bs) = string byte_string (shortest (length bs)) bs
+  canonical_tree (text bs) = string text_string (shortest (length bs)) bs
+  canonical_tree (sequence vs) = array (shortest (item_count vs)) (canonical_trees vs)
+  canonical_tree (mapping ms) = map_of (shortest (member_count ms)) (canonical_pairs ms)
+  canonical_tree (tag n v) = tagged n (shortest n) (canonical_tree v)
 
-  pub canon_trees : Items → Trees
-  canon_trees no_items = no_trees
-  canon_trees (item v vs) = tree (canon_tree v) (canon_trees vs)
+  pub canonical_trees : Items → Trees
+  canonical_trees no_items = no_trees
+  canonical_trees (item v vs) = tree (canonical_tree v) (canonical_trees vs)
 
-  pub canon_pairs : Members → Pairs
-  canon_pairs no_members = no_pairs
-  canon_pairs (member k v ms) = pair (canon_tree k) (canon_tree v) (canon_pairs ms)
+  pub canonical_pairs : Members → Pairs
+  canonical_pairs no_members = no_pairs
+  canonical_pairs (member k v ms) = pair (canonical_tree k) (canonical_tree v) (canonical_pairs ms)
 
-abbrev pub canon : Item → List ℕ
-canon v = bytes (canon_tree v)
+abbrev pub canonical_encoding : Item → List ℕ
+canonical_encoding v = bytes (canonical_tree v)
 
-abbrev pub canon_cost : Item → ℕ
-canon_cost v = cost (canon_tree v)
+abbrev pub canonical_cost : Item → ℕ
+canonical_cost v = cost (canonical_tree v)
 
 -- The value with each integer that has no head as the bignum that it is written as: what reading
 -- it back gives.

@@ -1,6 +1,7 @@
 -- Steps: what a budget bounds, so that hostile nesting ends (RFC 8949 section 10).
 use Rattle.std.specs.Prelude.{ℕ, zero, suc, ◌+◌, max, Option, Some, None}
-use Rattle.cbor4ii_tree.specs.Tree.{Tree, int, string, chunked, array, array_open, map_of, map_open}
+use Rattle.cbor4ii_tree.specs.Tree.{Tree, int, string, chunked, array, array_indefinite, map_of}
+use Rattle.cbor4ii_tree.specs.Tree.{map_indefinite}
 use Rattle.cbor4ii_tree.specs.Tree.{tagged, simple, bits, Trees, no_trees, tree, Pairs, no_pairs}
 use Rattle.cbor4ii_tree.specs.Tree.{pair}
 
@@ -27,9 +28,9 @@ abbrev mutual
   cost (string k w content) = 1
   cost (chunked k ts) = chunks_cost ts
   cost (array w ts) = 2 + greatest_cost ts
-  cost (array_open ts) = 2 + greatest_cost ts
+  cost (array_indefinite ts) = 2 + greatest_cost ts
   cost (map_of w ps) = 2 + greatest_pair_cost ps
-  cost (map_open ps) = 2 + greatest_pair_cost ps
+  cost (map_indefinite ps) = 2 + greatest_pair_cost ps
   cost (tagged n w t) = 1 + cost t
   cost (simple s) = 1
   cost (bits p n) = 1
@@ -49,9 +50,9 @@ abbrev mutual
   skip_cost (string k w content) = 1
   skip_cost (chunked k ts) = 1 + greatest_skip_cost ts
   skip_cost (array w ts) = 1 + greatest_skip_cost ts
-  skip_cost (array_open ts) = 1 + greatest_skip_cost ts
+  skip_cost (array_indefinite ts) = 1 + greatest_skip_cost ts
   skip_cost (map_of w ps) = 1 + greatest_pair_skip_cost ps
-  skip_cost (map_open ps) = 1 + greatest_pair_skip_cost ps
+  skip_cost (map_indefinite ps) = 1 + greatest_pair_skip_cost ps
   skip_cost (tagged n w t) = 1 + skip_cost t
   skip_cost (simple s) = 1
   skip_cost (bits p n) = 1

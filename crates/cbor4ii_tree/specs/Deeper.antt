@@ -3,8 +3,8 @@ use Rattle.std.specs.Prelude.{◌≡◌, ℕ, zero, suc, List, true}
 use Rattle.cbor4ii_rw.specs.View.{View}
 use Rattle.cbor4ii_rw.specs.Reader.{StepsIn}
 use Rattle.cbor4ii_tree.specs.Cost.{Budget}
-use Rattle.cbor4ii_tree.specs.Refusal.{Refusal}
-use Rattle.cbor4ii_tree.specs.Skipping.{SkipsItems, StopsSkippingItems}
+use Rattle.cbor4ii_tree.specs.InputError.{InputError}
+use Rattle.cbor4ii_tree.specs.Skipping.{SkipsItems, RejectsSkippingItems}
 
 -- so many steps were taken, and these are left
 abbrev pub Deeper : ℕ → Budget → Budget → Type 0
@@ -17,9 +17,9 @@ abbrev pub budgeted : Budget → View → View
 budgeted budget view = record view { budget = budget }
 
 -- What follows `ys` is what follows `xs`: where so many items are skipped of the one under the
--- inner budget, so many are of the other under the outer, and so with what stops.
+-- inner budget, so many are of the other under the outer, and so with what is rejected.
 pub record GoesOn (total : ℕ) (outer inner : Budget) (xs : List ℕ) (left : ℕ)
     (ys : List ℕ) : Type 0 where
   pub skips : (rest : List ℕ) → SkipsItems left inner ys rest → SkipsItems total outer xs rest
-  pub stops : (e : Refusal) (rest : List ℕ) → StopsSkippingItems left inner ys e rest
-      → StopsSkippingItems total outer xs e rest
+  pub rejects : (e : InputError) (rest : List ℕ) → RejectsSkippingItems left inner ys e rest
+      → RejectsSkippingItems total outer xs e rest

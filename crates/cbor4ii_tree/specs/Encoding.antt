@@ -1,14 +1,14 @@
 -- What values are written as.
 use Rattle.std.specs.Prelude.{ℕ, List}
 use Rattle.cbor4ii_items.specs.SequenceBytes.{pair_bytes}
-use Rattle.cbor4ii_tree.specs.Canonical.{canon}
+use Rattle.cbor4ii_tree.specs.Canonical.{canonical_encoding}
 use Rattle.cbor4ii_tree.specs.View.{view}
 use Rattle.cbor4ii_tree.specs.declared.value.Value.{Value}
 
--- the canonical spelling
+-- the canonical encoding
 abbrev pub value_bytes : Value → List ℕ
-value_bytes v = canon (view v)
+value_bytes v = canonical_encoding (view v)
 
--- a key, and its value behind it
+-- a key, and its value after it
 abbrev pub member_bytes : Value × Value → List ℕ
 member_bytes = pair_bytes value_bytes value_bytes

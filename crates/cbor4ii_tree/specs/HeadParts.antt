@@ -3,7 +3,7 @@ use Rattle.std.specs.Prelude.{◌≡◌, ℕ, ◌≤◌, ◌%◌, List, ◌++◌
 use Rattle.std.specs.Int.{bytes_high_first}
 use Rattle.cbor4ii_items.specs.Head.{Width, byte_count, additional, HeadFits, IsBytes}
 
--- behind a first byte, the argument in this width
+-- after a first byte, the argument in this width
 pub record ArgumentAt (w : Width) (first : ℕ) (bs : List ℕ) (n : ℕ) (after : List ℕ) : Type 0 where
   pub fits : HeadFits w n
   pub says : additional w n ≡ first % 32

@@ -3,19 +3,19 @@ use Rattle.std.specs.Prelude.{◌≡◌, ℕ, List, ◌++◌, length, drop, Opti
 use Rattle.cbor4ii_tree.specs.declared.ignored.IgnoredAny.{IgnoredAny}
 use Rattle.cbor4ii_tree.specs.Tree.{Tree, bytes, Loose}
 use Rattle.cbor4ii_tree.specs.Cost.{skip_cost}
-use Rattle.cbor4ii_tree.specs.Refusal.{Refusal}
-use Rattle.cbor4ii_tree.specs.StopsSkipping.{StopsSkipping}
+use Rattle.cbor4ii_tree.specs.InputError.{InputError}
+use Rattle.cbor4ii_tree.specs.SkippingRejects.{SkippingRejects}
 
 -- the first n bytes are those of a loose tree, whose skip cost is c
 pub record ReadsTree (xs : List ℕ) (n c : ℕ) : Type 0 where
-  pub spelled : Tree
-  pub loose : Loose spelled
-  pub begins : xs ≡ bytes spelled ++ drop n xs
-  pub size : n ≡ length (bytes spelled)
-  pub cost : c ≡ skip_cost spelled
+  pub of_tree : Tree
+  pub loose : Loose of_tree
+  pub begins : xs ≡ bytes of_tree ++ drop n xs
+  pub size : n ≡ length (bytes of_tree)
+  pub cost : c ≡ skip_cost of_tree
 
 abbrev pub ReadsIgnored : List ℕ → IgnoredAny → ℕ → ℕ → Type 0
 ReadsIgnored xs v n c = ReadsTree xs n c
 
-abbrev pub StopsIgnored : List ℕ → Option ℕ → Refusal → List ℕ → Type 0
-StopsIgnored xs budget refusal rest = StopsSkipping xs budget refusal rest
+abbrev pub RejectsIgnored : List ℕ → Option ℕ → InputError → List ℕ → Type 0
+RejectsIgnored xs budget err rest = SkippingRejects xs budget err rest

@@ -12,4 +12,4 @@ pub mod SkippingAgain
 pub mod Values
 pub mod CanonicalReading
 pub mod Capturing
-pub mod Fronts
+pub mod Prefixes

@@ -1,20 +1,20 @@
 -- Values that hold no other, where they stand whole in shown bytes.
 use Rattle.std.specs.Prelude.{◌≡◌, ◌≢◌, ℕ, suc, ◌+◌, ◌≤◌, ◌/◌, ◌%◌, ◌⊎◌, List, ◌∷◌, length}
 use Rattle.std.specs.Prelude.{take, Option, Some, None, Result, Ok, Err, IfSome}
-use Rattle.cbor4ii_rw.specs.View.{View, Told}
+use Rattle.cbor4ii_rw.specs.View.{View, IfKnown}
 use Rattle.cbor4ii_rw.specs.declared.error.DecodeError.{DecodeError}
-use Rattle.cbor4ii_items.specs.Head.{ArgumentBehind, HeadFits, IsBytes, Width, byte_count, head}
+use Rattle.cbor4ii_items.specs.Head.{ArgumentAfter, HeadFits, IsBytes, Width, byte_count, head}
 use Rattle.cbor4ii_items.specs.Head.{shortest}
 use Rattle.cbor4ii_items.specs.Initial.{simple_byte, simple_undefined}
 use Rattle.cbor4ii_items.specs.Moves.{Kept}
 use Rattle.cbor4ii_items.specs.Reading.{Runs, peek_at}
 use Rattle.cbor4ii_tree.specs.Cost.{Budget, cost}
-use Rattle.cbor4ii_tree.specs.Does.{Accepting, DoesUnder, refusal_left}
+use Rattle.cbor4ii_tree.specs.Does.{Accepting, DoesUnder, error_left}
 use Rattle.cbor4ii_tree.specs.Item.{IsItem}
 use Rattle.cbor4ii_tree.specs.Meaning.{value}
-use Rattle.cbor4ii_tree.specs.Refusal.{value_name}
-use Rattle.cbor4ii_tree.specs.Stops.{Stopping}
-use Rattle.cbor4ii_tree.specs.Strict.{Strict}
+use Rattle.cbor4ii_tree.specs.InputError.{value_name}
+use Rattle.cbor4ii_tree.specs.Rejections.{Stopping}
+use Rattle.cbor4ii_tree.specs.CanonicalShape.{CanonicalShape}
 use Rattle.cbor4ii_tree.specs.Tree.{Tree, bytes, Plain}
 use Rattle.cbor4ii_tree.specs.View.{view}
 use Rattle.cbor4ii_tree.specs.declared.value.Value.{Value}
@@ -25,7 +25,7 @@ use Rattle.cbor4ii_tree.specs.declared.leaf.Looked.{Looked}
 use Rattle.cbor4ii_tree.specs.declared.leaf.Looked.TheVariants.{Taken}
 use Rattle.cbor4ii_tree.specs.declared.leaf.Looked.TheVariants as looked
 
--- A head with this first byte, and an argument in so many bytes, may begin a canonical spelling. It
+-- A head with this first byte, and an argument in so many bytes, may begin a canonical encoding. It
 -- is not undefined, and of major types 0 to 6 it is the shortest.
 pub record ExactHead (first number size : ℕ) : Type 0 where
   pub defined : first ≢ simple_byte simple_undefined
@@ -39,7 +39,7 @@ pub record StandsAhead (exact : Type 0) (v : Value) (size : ℕ) (shown : List �
   pub fresh : IsBytes (take size shown)
   pub item : Tree
   pub plain : Plain item
-  pub strict : exact → Strict item
+  pub strict : exact → CanonicalShape item
   pub step : cost item ≡ 1
   pub means : value item ≡ view v
   pub ranged : IsItem (view v)
@@ -48,14 +48,14 @@ pub record StandsAhead (exact : Type 0) (v : Value) (size : ℕ) (shown : List �
 -- A string stands whole at the front whose head, of major type 2 or 3, has so many bytes.
 pub record WantsContent (size : ℕ) (shown : List ℕ) : Type 0 where
   pub first : ℕ
-  pub behind : List ℕ
-  pub begins : shown ≡ first ∷ behind
+  pub trailing : List ℕ
+  pub begins : shown ≡ first ∷ trailing
   pub major : (first / 32 ≡ 2) ⊎ (first / 32 ≡ 3)
   pub number : ℕ
   pub width : ℕ
   pub head : size ≡ suc width
-  pub argument : ArgumentBehind (first % 32) behind number width
-  pub whole : width + number ≤ length behind
+  pub argument : ArgumentAfter (first % 32) trailing number width
+  pub whole : width + number ≤ length trailing
   pub fresh : IsBytes (take size shown)
 
 -- A whole head of this major type, of an array, a map or a tag, with this argument stands in so
@@ -73,8 +73,8 @@ pub record HeadStands (exact : Type 0) (major n size : ℕ) (shown : List ℕ) :
 
 -- the value that the shown bytes begin with, and that is left undecided
 pub record SeesNext (exact : Type 0) (n : Next) (shown : List ℕ) : Type 0 where
-  pub behind : List ℕ
-  pub begins : shown ≡ n.first ∷ behind
+  pub trailing : List ℕ
+  pub begins : shown ≡ n.first ∷ trailing
   pub head : IfSome n.head (λ h. HeadStands exact (n.first / 32) h.argument h.size shown)
 
 -- what the shown bytes begin with
@@ -96,8 +96,8 @@ pub record ShowsHead (exact : Type 0) (major n size : ℕ) (old new : View) : Ty
   pub can : size ≤ new.advanceable
   pub shown : List ℕ
   pub stands : HeadStands exact major n size shown
-  pub begins : Told old.told (λ xs.
-      (new.told ≡ Some xs) × (size ≤ length xs) × (take size xs ≡ take size shown))
+  pub begins : IfKnown old.known (λ xs.
+      (new.known ≡ Some xs) × (size ≤ length xs) × (take size xs ≡ take size shown))
 
 -- a look has shown the value that comes next, and it may be taken
 pub record ShowsNext (E exact : Type 0) (n : Next) (old new : View) : Type 0 where
@@ -111,10 +111,10 @@ pub record CanTake (n : Next) (view : View) : Type 0 where
 
 -- as DoesUnder, of a call together with the look before it, which has shown the value that comes
 -- next
-abbrev pub DoesBehindNext : {V E : Type 0} → Type 0 → Next → (Budget → Accepting V)
+abbrev pub DoesAfterNext : {V E : Type 0} → Type 0 → Next → (Budget → Accepting V)
     → (Budget → Stopping) → View → View → Result V (DecodeError E) → Type 0
-DoesBehindNext {E = E} exact n accepts stops old new answer =
-    (before : View) → ShowsNext E exact n before old → DoesUnder accepts stops before new answer
+DoesAfterNext {E = E} exact n accepts rejects old new answer =
+    (before : View) → ShowsNext E exact n before old → DoesUnder accepts rejects before new answer
 
 -- where a value was taken
 abbrev pub OnTaken : Looked → Type 0 → Type 0
@@ -126,12 +126,12 @@ abbrev pub ItemTaken : Looked → Type 0
 ItemTaken (Taken v) = IsItem (view v)
 ItemTaken (looked.Begins n) = Unit {0}
 
--- a value was taken, or none and a look has shown it; or there is a refusal
+-- a value was taken, or none and a look has shown it; or there is an error
 abbrev pub TakesLeaf : {E : Type 0} → Type 0 → (Budget → Accepting Value) → (Budget → Stopping)
     → View → View → Option Looked → Option (DecodeError E) → Type 0
-TakesLeaf exact reads stops old new None failure =
-    DoesUnder {V = Value} reads stops old new (Err (refusal_left failure))
-TakesLeaf {E = E} exact reads stops old new (Some (looked.Begins n)) failure =
+TakesLeaf exact reads rejects old new None failure =
+    DoesUnder {V = Value} reads rejects old new (Err (error_left failure))
+TakesLeaf {E = E} exact reads rejects old new (Some (looked.Begins n)) failure =
     ShowsNext E exact n old new
-TakesLeaf {E = E} exact reads stops old new (Some (Taken v)) failure =
-    DoesUnder {E = E} reads stops old new (Ok v)
+TakesLeaf {E = E} exact reads rejects old new (Some (Taken v)) failure =
+    DoesUnder {E = E} reads rejects old new (Ok v)

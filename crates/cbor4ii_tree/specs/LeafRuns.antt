@@ -5,16 +5,16 @@ use Rattle.cbor4ii_rw.specs.View.{View}
 use Rattle.cbor4ii_rw.specs.declared.error.DecodeError.{DecodeError}
 use Rattle.cbor4ii_items.specs.Head.{IsBytes}
 use Rattle.cbor4ii_tree.specs.Cost.{Budget, cost, step_in}
-use Rattle.cbor4ii_tree.specs.Does.{Does, refusal_left}
+use Rattle.cbor4ii_tree.specs.Does.{Does, error_left}
 use Rattle.cbor4ii_tree.specs.Item.{AreItems}
 use Rattle.cbor4ii_tree.specs.Leaf.{CanTake, SeesNext, ShowsNext, WantsContent}
 use Rattle.cbor4ii_tree.specs.Meaning.{values}
-use Rattle.cbor4ii_tree.specs.Refusal.{value_name}
-use Rattle.cbor4ii_tree.specs.Refusal.{eof, Small}
-use Rattle.cbor4ii_tree.specs.Stops.{Stopping, Is, Each, StopsInCount}
-use Rattle.cbor4ii_tree.specs.StopsReading.{Readable}
-use Rattle.cbor4ii_tree.specs.StopsStrictly.{Exactly}
-use Rattle.cbor4ii_tree.specs.Strict.{Strict}
+use Rattle.cbor4ii_tree.specs.InputError.{value_name}
+use Rattle.cbor4ii_tree.specs.InputError.{eof, Small}
+use Rattle.cbor4ii_tree.specs.Rejections.{Stopping, Is, Each, RejectsInCount}
+use Rattle.cbor4ii_tree.specs.ReadingRejects.{Readable}
+use Rattle.cbor4ii_tree.specs.CanonicalRejects.{FitsCanonically}
+use Rattle.cbor4ii_tree.specs.CanonicalShape.{CanonicalShape}
 use Rattle.cbor4ii_tree.specs.Tree.{Tree, Trees, Plain, count, bytes_all}
 use Rattle.cbor4ii_tree.specs.View.{items_view}
 use Rattle.cbor4ii_tree.specs.declared.value.Value.{Value}
@@ -28,7 +28,7 @@ abbrev pub flat_values : List (Value × Value) → List Value
 flat_values [] = []
 flat_values (m ∷ ms) = m.0 ∷ (m.1 ∷ flat_values ms)
 
--- the same, and behind them the key whose value is to come, if there is one
+-- the same, and after them the key whose value is to come, if there is one
 abbrev pub flat_pairs : List (Value × Value) → Option Value → List Value
 flat_pairs ms None = flat_values ms
 flat_pairs ms (Some key) = flat_values ms ++ key ∷ []
@@ -39,7 +39,7 @@ flat pairs = flat_pairs pairs.members.items pairs.key
 
 -- a value takes one step; where exact holds its encoding is the canonical one
 abbrev pub IsLeaf : Type 0 → Tree → Type 0
-IsLeaf exact t = Plain t × (cost t ≡ 1) × (exact → Strict t)
+IsLeaf exact t = Plain t × (cost t ≡ 1) × (exact → CanonicalShape t)
 
 -- the encodings of these values have so many bytes at the front
 pub record StandInFront (exact : Type 0) (vs : List Value) (size : ℕ) (shown : List ℕ) : Type 0
@@ -53,38 +53,38 @@ pub record StandInFront (exact : Type 0) (vs : List Value) (size : ℕ) (shown :
     pub ranged : AreItems (items_view vs)
     pub is : take size shown ≡ bytes_all trees
 
--- these values stand in front, and were put behind the others
-pub record PutsBehind (exact : Type 0) (size : ℕ) (shown : List ℕ) (before after : List Value)
+-- these values stand in front, and were put after the others
+pub record PutsAfter (exact : Type 0) (size : ℕ) (shown : List ℕ) (before after : List Value)
     : Type 0 where
   pub new : List Value
   pub is : after ≡ before ++ new
   pub stand : StandInFront exact new size shown
 
--- so many values may be there at most, and these were put behind the others
+-- so many values may be there at most, and these were put after the others
 pub record PutsWhole (exact : Type 0) (full size : ℕ) (shown : List ℕ) (before after : List Value)
     : Type 0 where
   pub some : 1 ≤ size
   pub few : length after ≤ full
-  pub puts : PutsBehind exact size shown before after
+  pub puts : PutsAfter exact size shown before after
 
--- the same, and behind them stands a value that is missing too, and is left undecided
+-- the same, and after them stands a value that is missing too, and is left undecided
 pub record PutsBefore (exact : Type 0) (full size : ℕ) (n : Next) (shown : List ℕ)
     (before after : List Value) : Type 0 where
   pub some : 1 ≤ size
   pub lacks : length after < full
-  pub puts : PutsBehind exact size shown before after
+  pub puts : PutsAfter exact size shown before after
   pub next : SeesNext exact n (drop size shown)
 
--- Behind some values memory was refused, for the content of a string, whose head is taken, or where
+-- After some values memory was refused, for the content of a string, whose head is taken, or where
 -- the last of the values was put, which is taken too.
-pub record RefusesMemory (exact : Type 0) (size : ℕ) (shown : List ℕ) : Type 0 where
+pub record RejectsMemory (exact : Type 0) (size : ℕ) (shown : List ℕ) : Type 0 where
   pub values : List Value
   pub taken : ℕ
   pub stand : StandInFront exact values taken shown
   pub at : ((1 ≤ length values) × (size ≡ taken))
       ⊎ ((head : ℕ) × (size ≡ taken + head) × WantsContent head (drop taken shown))
 
--- the values in so many bytes at the front were put behind the others, up to so many in all; or the
+-- the values in so many bytes at the front were put after the others, up to so many in all; or the
 -- first is left undecided, or memory was refused, or there is no byte
 abbrev pub PutsRun : Type 0 → ℕ → List Value → List Value → Ran → List ℕ → Type 0
 PutsRun exact full before after (run.Whole size) shown =
@@ -92,7 +92,7 @@ PutsRun exact full before after (run.Whole size) shown =
 PutsRun exact full before after (run.Before n size) shown =
     PutsBefore exact full size n shown before after
 PutsRun exact full before after (run.Begins n) shown = (after ≡ before) × SeesNext exact n shown
-PutsRun exact full before after (run.NoMemory size) shown = RefusesMemory exact size shown
+PutsRun exact full before after (run.NoMemory size) shown = RejectsMemory exact size shown
 PutsRun exact full before after run.End shown = length shown ≡ 0
 
 -- ---- taken
@@ -102,7 +102,7 @@ abbrev pub ReadsEach : (Tree → Type 0) → ℕ → List ℕ → List Value →
 ReadsEach Whole n xs vs ys = (ts : Trees) × (count ts ≡ n) × Each Whole ts ×
     (values ts ≡ items_view vs) × (xs ≡ bytes_all ts ++ ys)
 
--- values were taken, and put behind the others
+-- values were taken, and put after the others
 abbrev pub PutsItems : (Budget → Tree → Type 0) → List Value → List Value → Budget → List ℕ
     → Unit {0} → List ℕ → Type 0
 PutsItems Whole before after budget xs _ ys =
@@ -119,37 +119,39 @@ abbrev pub KeepsItems : List Value → List Value → Type 0
 KeepsItems before after = AreItems (items_view before) → AreItems (items_view after)
 
 -- no byte is left where a value is to begin
-abbrev pub StopsWhereNone : Stopping
-StopsWhereNone xs e rest = (xs ≡ []) × Is (eof value_name (Small 1)) [] e rest
+abbrev pub RejectsWhereNone : Stopping
+RejectsWhereNone xs e rest = (xs ≡ []) × Is (eof value_name (Small 1)) [] e rest
 
 -- so many values in all
-abbrev pub ReadsParts : (Budget → Tree → Type 0) → ℕ → List Value → Budget → List ℕ → Unit {0}
+abbrev pub ReadsElements : (Budget → Tree → Type 0) → ℕ → List Value → Budget → List ℕ → Unit {0}
     → List ℕ → Type 0
-ReadsParts Whole full vs budget xs _ ys = ReadsEach (Whole budget) full xs vs ys
+ReadsElements Whole full vs budget xs _ ys = ReadsEach (Whole budget) full xs vs ys
 
--- behind fewer than so many values one is refused, where the step that leaves this budget was taken
-abbrev pub StopsItemsUnder : (Budget → Tree → Type 0) → (Budget → Stopping) → ℕ → Budget → Stopping
-StopsItemsUnder Whole stops room inner xs e rest = (budget : Budget) → step_in budget ≡ Some inner
-    → StopsInCount (Whole budget) (stops budget) room xs e rest
+-- after fewer than so many values one is rejected, where the step that leaves this budget was taken
+abbrev pub RejectsItemsUnder : (Budget → Tree → Type 0) → (Budget → Stopping) → ℕ → Budget →
+    Stopping
+RejectsItemsUnder Whole rejects room inner xs e rest =
+    (budget : Budget) → step_in budget ≡ Some inner
+    → RejectsInCount (Whole budget) (rejects budget) room xs e rest
 
--- values were taken by a run, and behind them a look has shown a value
+-- values were taken by a run, and after them a look has shown a value
 pub record RunsBefore (E exact : Type 0) (Whole : Budget → Tree → Type 0) (n : Next)
     (before after : List Value) (old new : View) : Type 0 where
   pub mid : View
   pub puts : Does {V = Unit {0}} {E = E} (PutsItemsUnder Whole before after old.budget)
-      StopsWhereNone old mid (Ok tt)
+      RejectsWhereNone old mid (Ok tt)
   pub shows : ShowsNext E exact n mid new
 
--- values were taken by a run, or it was refused
+-- values were taken by a run, or it was rejected
 abbrev pub TakesBy : {E : Type 0} → Type 0 → (Budget → Tree → Type 0) → List Value → List Value
     → View → View → Option (Option Next) → Option (DecodeError E) → Type 0
 TakesBy {E = E} exact Whole before after old new (Some (Some n)) failure =
     RunsBefore E exact Whole n before after old new
 TakesBy {E = E} exact Whole before after old new (Some None) failure =
-    Does {E = E} (PutsItemsUnder Whole before after old.budget) StopsWhereNone old new (Ok tt)
+    Does {E = E} (PutsItemsUnder Whole before after old.budget) RejectsWhereNone old new (Ok tt)
 TakesBy exact Whole before after old new None failure =
-    Does {V = Unit {0}} (PutsItemsUnder Whole before after old.budget) StopsWhereNone old new
-    (Err (refusal_left failure))
+    Does {V = Unit {0}} (PutsItemsUnder Whole before after old.budget) RejectsWhereNone old new
+    (Err (error_left failure))
 
 -- What a run takes of values, of which so many are to be there at most: the values before and after
 -- it. It answers what a look has shown of the next value, where that is left undecided.
@@ -157,7 +159,7 @@ pub record TakesRun {E : Type 0} (exact : Bool) (full : ℕ) (before after : Lis
     (old new : View) (result : Option (Option Next)) (failure : Option (DecodeError E)) : Type 0
   where
     pub puts : TakesBy ⊥ Readable before after old new result failure
-    pub exactly : exact ≡ true → TakesBy (Unit {0}) Exactly before after old new
+    pub exactly : exact ≡ true → TakesBy (Unit {0}) FitsCanonically before after old new
         result failure
     pub items : OnSome result (KeepsItems before after)
     pub few : OnSome result (length after ≤ full)

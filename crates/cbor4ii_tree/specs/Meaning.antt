@@ -3,7 +3,8 @@ use Rattle.std.specs.Prelude.{ℕ, List, pos, negsuc, ℤ, true, false}
 use Rattle.cbor4ii_items.specs.Initial.{Sign, unsigned, negative, Kind, byte_string, text_string}
 use Rattle.cbor4ii_items.specs.Initial.{Simple, simple_false, simple_true, simple_null}
 use Rattle.cbor4ii_items.specs.Initial.{simple_undefined}
-use Rattle.cbor4ii_tree.specs.Tree.{Tree, int, string, chunked, array, array_open, map_of, map_open}
+use Rattle.cbor4ii_tree.specs.Tree.{Tree, int, string, chunked, array, array_indefinite, map_of}
+use Rattle.cbor4ii_tree.specs.Tree.{map_indefinite}
 use Rattle.cbor4ii_tree.specs.Tree.{tagged, simple, bits, Trees, no_trees, tree, Pairs, no_pairs}
 use Rattle.cbor4ii_tree.specs.Tree.{pair, joined_chunks}
 use Rattle.cbor4ii_tree.specs.Item.{Item, null, boolean, integer, float, bytes_item, text, sequence}
@@ -33,9 +34,9 @@ abbrev mutual
   value (string k w content) = content_item k content
   value (chunked k ts) = content_item k (joined_chunks ts)
   value (array w ts) = sequence (values ts)
-  value (array_open ts) = sequence (values ts)
+  value (array_indefinite ts) = sequence (values ts)
   value (map_of w ps) = mapping (member_values ps)
-  value (map_open ps) = mapping (member_values ps)
+  value (map_indefinite ps) = mapping (member_values ps)
   value (tagged n w t) = tag n (value t)
   value (simple s) = simple_item s
   value (bits p n) = float p n

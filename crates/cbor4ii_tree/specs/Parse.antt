@@ -7,11 +7,12 @@ use Rattle.cbor4ii_items.specs.Magnitude.{number_of}
 use Rattle.cbor4ii_items.specs.Reading.{Reading, go_on}
 use Rattle.cbor4ii_tree.specs.Tree.{Tree, Trees, no_trees, tree, Pairs, no_pairs, pair}
 use Rattle.cbor4ii_tree.specs.Cost.{Budget}
-use Rattle.cbor4ii_tree.specs.Refusal.{Refusal, eof, depth_overflow, len_of, Small, break_name}
+use Rattle.cbor4ii_tree.specs.InputError.{InputError, eof, depth_overflow, len_of, Small}
+use Rattle.cbor4ii_tree.specs.InputError.{break_name}
 
--- what was read and the bytes behind it, or the refusal and the bytes that are left then
+-- what was read and the bytes after it, or the error and the bytes that are left then
 abbrev pub Answer : Type 0 → Type 0
-Answer A = Result (A × List ℕ) (Refusal × List ℕ)
+Answer A = Result (A × List ℕ) (InputError × List ℕ)
 
 abbrev pub Parser : Type 0 → Type 0
 Parser A = Reading A
@@ -21,8 +22,8 @@ abbrev pub ◌>>=◌ : {A B : Type 0} → Answer A → (A × List ℕ → Answer
 first >>= next = go_on first (λ value left. next (value, left))
 
 -- k bytes; where some are missing, as many are asked for
-abbrev pub front_at : List ℕ → ℕ → Parser (List ℕ)
-front_at name k bs =
+abbrev pub prefix_at : List ℕ → ℕ → Parser (List ℕ)
+prefix_at name k bs =
     if nat_lt (length bs) k then Err (eof name (len_of (k - length bs)), []) else Ok
     (take k bs, drop k bs)
 
@@ -55,17 +56,17 @@ pairs_at item (suc n) bs =
     item bs >>= λ k. item k.1 >>= λ v. pairs_at item n v.1 >>= λ q. Ok (pair k.0 v.0 q.0, q.1)
 
 -- Items up to a break. The number bounds the turns: more than the count of the bytes is enough.
-unfoldable pub open_trees_at : Parser Tree → ℕ → Parser Trees
-open_trees_at item n [] = Err (eof break_name (Small 1), [])
-open_trees_at item zero (b ∷ bs) = Err (eof break_name (Small 1), [])
-open_trees_at item (suc n) (b ∷ bs) =
+unfoldable pub indefinite_trees_at : Parser Tree → ℕ → Parser Trees
+indefinite_trees_at item n [] = Err (eof break_name (Small 1), [])
+indefinite_trees_at item zero (b ∷ bs) = Err (eof break_name (Small 1), [])
+indefinite_trees_at item (suc n) (b ∷ bs) =
     if b == break then Ok (no_trees, bs)
-    else (item (b ∷ bs) >>= λ p. open_trees_at item n p.1 >>= λ q. Ok (tree p.0 q.0, q.1))
+    else (item (b ∷ bs) >>= λ p. indefinite_trees_at item n p.1 >>= λ q. Ok (tree p.0 q.0, q.1))
 
-unfoldable pub open_pairs_at : Parser Tree → ℕ → Parser Pairs
-open_pairs_at item n [] = Err (eof break_name (Small 1), [])
-open_pairs_at item zero (b ∷ bs) = Err (eof break_name (Small 1), [])
-open_pairs_at item (suc n) (b ∷ bs) =
+unfoldable pub indefinite_pairs_at : Parser Tree → ℕ → Parser Pairs
+indefinite_pairs_at item n [] = Err (eof break_name (Small 1), [])
+indefinite_pairs_at item zero (b ∷ bs) = Err (eof break_name (Small 1), [])
+indefinite_pairs_at item (suc n) (b ∷ bs) =
     if b == break then Ok (no_pairs, bs)
-    else (item (b ∷ bs) >>= λ k. item k.1 >>= λ v. open_pairs_at item n v.1
+    else (item (b ∷ bs) >>= λ k. item k.1 >>= λ v. indefinite_pairs_at item n v.1
     >>= λ q. Ok (pair k.0 v.0 q.0, q.1))

@@ -1,146 +1,146 @@
--- What decoding calls promise of the bytes that the reader tells.
+-- What decoding calls promise of the bytes that the reader reports.
 use Rattle.std.specs.Prelude.{◌≡◌, ◌≤◌, ◌+◌, ℕ, List, [], ◌++◌, length, take}
 use Rattle.std.specs.Prelude.{Some, Result, Ok, Err, IfOk, IfSome}
-use Rattle.cbor4ii_rw.specs.View.{View, Told}
+use Rattle.cbor4ii_rw.specs.View.{View, IfKnown}
 use Rattle.cbor4ii_rw.specs.declared.error.DecodeError.{DecodeError}
-use Rattle.cbor4ii_items.specs.Decoding.{CostFits, Spelling, leaf_spelling, spelling_by}
+use Rattle.cbor4ii_items.specs.Decoding.{CostFits, Format, leaf_format, format_by}
 use Rattle.cbor4ii_items.specs.Decoding.{taking_memory}
 use Rattle.cbor4ii_tree.specs.Tree.{Tree, bytes, Loose, Joins}
 use Rattle.cbor4ii_tree.specs.Item.{Item, size}
 use Rattle.cbor4ii_tree.specs.Cost.{Budget, skip_cost}
-use Rattle.cbor4ii_tree.specs.Canonical.{canon, canon_cost, with_bignums}
-use Rattle.cbor4ii_tree.specs.Refusal.{Refusal, IsEof, IsDepthOverflow, IsFinal, MayStop}
-use Rattle.cbor4ii_items.specs.Refusal.{refusal_of}
-use Rattle.cbor4ii_tree.specs.Spelling.{Spells, ReadsPlainly, Skips, IsProperFront}
-use Rattle.cbor4ii_tree.specs.StopsSkipping.{StopsSkipping}
-use Rattle.cbor4ii_tree.specs.StopsReading.{StopsReading}
+use Rattle.cbor4ii_tree.specs.Canonical.{canonical_encoding, canonical_cost, with_bignums}
+use Rattle.cbor4ii_tree.specs.InputError.{InputError, IsEof, IsDepthOverflow, IsFinal, MayReject}
+use Rattle.cbor4ii_items.specs.InputError.{input_error_of}
+use Rattle.cbor4ii_tree.specs.Encodings.{Encodes, DecodesTo, Skips, IsProperPrefix}
+use Rattle.cbor4ii_tree.specs.SkippingRejects.{SkippingRejects}
+use Rattle.cbor4ii_tree.specs.ReadingRejects.{ReadingRejects}
 use Rattle.cbor4ii_tree.specs.View.{view}
 use Rattle.cbor4ii_tree.specs.declared.value.Value.{Value}
 
--- the first n bytes are a spelling of the value, in c steps
+-- the first n bytes are an encoding of the value, in c steps
 pub record ReadsValue (xs : List ℕ) (v : Item) (n c : ℕ) : Type 0 where
   pub within : n ≤ length xs
-  pub spells : Spells (take n xs) v c
+  pub encodes : Encodes (take n xs) v c
 
-abbrev pub value_spelling : Spelling Value
-value_spelling = spelling_by view (taking_memory (leaf_spelling ReadsValue StopsReading))
+abbrev pub value_format : Format Value
+value_format = format_by view (taking_memory (leaf_format ReadsValue ReadingRejects))
 
 -- what an answer says of the bytes: a failure of the reader and a want of memory say nothing
-abbrev pub Answered : {V E : Type 0} → (V → Type 0) → (Refusal → Type 0) →
+abbrev pub Answered : {V E : Type 0} → (V → Type 0) → (InputError → Type 0) →
     Result V (DecodeError E) → Type 0
-Answered accepts refuses (Ok v) = accepts v
-Answered accepts refuses (Err e) = IfSome (refusal_of e) refuses
+Answered accepts errs (Ok v) = accepts v
+Answered accepts errs (Err e) = IfSome (input_error_of e) errs
 
--- what a refusal says of the bytes
-abbrev pub Refused : {V E : Type 0} → (Refusal → Type 0) → Result V (DecodeError E) → Type 0
-Refused refuses answer = Answered (λ _. Unit {0}) refuses answer
+-- what an error says of the bytes
+abbrev pub Rejected : {V E : Type 0} → (InputError → Type 0) → Result V (DecodeError E) → Type 0
+Rejected errs answer = Answered (λ _. Unit {0}) errs answer
 
--- no other refusal comes
+-- no other error comes
 abbrev pub Others : {V E : Type 0} → View → Result V (DecodeError E) → Type 0
-Others old answer = Told old.told (λ xs. Refused MayStop answer)
+Others old answer = IfKnown old.known (λ xs. Rejected MayReject answer)
 
 -- ---- an item is skipped
 
 -- what is accepted fits, and begins the bytes
 abbrev pub OnlySkips : {V E : Type 0} → View → View → Result V (DecodeError E) → Type 0
-OnlySkips old new answer = Told old.told (λ xs. IfOk answer (λ _.
-    (t : Tree) × (rest : List ℕ) × (new.told ≡ Some rest) × Skips xs old.budget t rest))
+OnlySkips old new answer = IfKnown old.known (λ xs. IfOk answer (λ _.
+    (t : Tree) × (rest : List ℕ) × (new.known ≡ Some rest) × Skips xs old.budget t rest))
 
 -- what fits and begins the bytes is accepted, and its bytes are taken
 abbrev pub AllSkips : {V E : Type 0} → View → View → Result V (DecodeError E) → Type 0
-AllSkips old new answer = Told old.told (λ xs. (t : Tree) (rest : List ℕ) →
-    Skips xs old.budget t rest → Answered (λ _. new.told ≡ Some rest) (λ _. ⊥) answer)
+AllSkips old new answer = IfKnown old.known (λ xs. (t : Tree) (rest : List ℕ) →
+    Skips xs old.budget t rest → Answered (λ _. new.known ≡ Some rest) (λ _. ⊥) answer)
 
--- a proper front of what fits is an end of the input
-abbrev pub FrontSkips : {V E : Type 0} → View → Result V (DecodeError E) → Type 0
-FrontSkips old answer = Told old.told (λ xs. (t : Tree) →
-    Loose t → CostFits (skip_cost t) old.budget → IsProperFront xs (bytes t) →
+-- a proper prefix of what fits is an end of the input
+abbrev pub PrefixSkips : {V E : Type 0} → View → Result V (DecodeError E) → Type 0
+PrefixSkips old answer = IfKnown old.known (λ xs. (t : Tree) →
+    Loose t → CostFits (skip_cost t) old.budget → IsProperPrefix xs (bytes t) →
     Answered (λ _. ⊥) IsEof answer)
 
--- an end of the input leaves nothing, and comes only on a proper front of an item
+-- an end of the input leaves nothing, and comes only on a proper prefix of an item
 abbrev pub EofSkips : {V E : Type 0} → View → View → Result V (DecodeError E) → Type 0
-EofSkips old new answer = Told old.told (λ xs. Refused (λ e. IsEof e →
-    (new.told ≡ Some []) × ((t : Tree) × Loose t × IsProperFront xs (bytes t))) answer)
+EofSkips old new answer = IfKnown old.known (λ xs. Rejected (λ e. IsEof e →
+    (new.known ≡ Some []) × ((t : Tree) × Loose t × IsProperPrefix xs (bytes t))) answer)
 
 -- where no step is left, no continuation fits
 abbrev pub DepthSkips : {V E : Type 0} → View → Result V (DecodeError E) → Type 0
-DepthSkips old answer = Told old.told (λ xs. Refused (λ e. IsDepthOverflow e →
+DepthSkips old answer = IfKnown old.known (λ xs. Rejected (λ e. IsDepthOverflow e →
     (more : List ℕ) (t : Tree) (after : List ℕ) →
     ¬ (Skips (xs ++ more) old.budget t after)) answer)
 
 -- after the others no continuation fits any budget
 abbrev pub FinalSkips : {V E : Type 0} → View → Result V (DecodeError E) → Type 0
-FinalSkips old answer = Told old.told (λ xs. Refused (λ e. IsFinal e →
+FinalSkips old answer = IfKnown old.known (λ xs. Rejected (λ e. IsFinal e →
     (more : List ℕ) (other : Budget) (t : Tree) (after : List ℕ) →
     ¬ (Skips (xs ++ more) other t after)) answer)
 
--- where skipping stops, it is refused so, and leaves what is left there
+-- where skipping fails, it is rejected so, and leaves what is left there
 abbrev pub ExactSkips : {V E : Type 0} → View → View → Result V (DecodeError E) → Type 0
-ExactSkips old new answer = Told old.told (λ xs. (e : Refusal) (rest : List ℕ) →
-    StopsSkipping xs old.budget e rest →
-    Answered (λ _. ⊥) (λ f. (f ≡ e) × (new.told ≡ Some rest)) answer)
+ExactSkips old new answer = IfKnown old.known (λ xs. (e : InputError) (rest : List ℕ) →
+    SkippingRejects xs old.budget e rest →
+    Answered (λ _. ⊥) (λ f. (f ≡ e) × (new.known ≡ Some rest)) answer)
 
 -- ---- a value is read
 
--- what is accepted is a value of which a spelling that fits begins the bytes, and that is taken
+-- what is accepted is a value of which an encoding that fits begins the bytes, and that is taken
 abbrev pub OnlyReads : {E : Type 0} → View → View → Result Value (DecodeError E) → Type 0
-OnlyReads old new answer = Told old.told (λ xs. IfOk answer (λ v.
-    (rest : List ℕ) × (new.told ≡ Some rest) × ReadsPlainly xs old.budget (view v) rest))
+OnlyReads old new answer = IfKnown old.known (λ xs. IfOk answer (λ v.
+    (rest : List ℕ) × (new.known ≡ Some rest) × DecodesTo xs old.budget (view v) rest))
 
--- a value of which a spelling that fits begins the bytes is accepted, and that spelling is taken
+-- a value of which an encoding that fits begins the bytes is accepted, and that encoding is taken
 abbrev pub AllReads : {E : Type 0} → View → View → Result Value (DecodeError E) → Type 0
-AllReads old new answer = Told old.told (λ xs. (v : Item) (rest : List ℕ) →
-    ReadsPlainly xs old.budget v rest →
-    Answered (λ w. (view w ≡ v) × (new.told ≡ Some rest)) (λ _. ⊥) answer)
+AllReads old new answer = IfKnown old.known (λ xs. (v : Item) (rest : List ℕ) →
+    DecodesTo xs old.budget v rest →
+    Answered (λ w. (view w ≡ v) × (new.known ≡ Some rest)) (λ _. ⊥) answer)
 
--- a proper front of a spelling that fits is an end of the input
-abbrev pub FrontReads : {E : Type 0} → View → Result Value (DecodeError E) → Type 0
-FrontReads old answer = Told old.told (λ xs. (spelling : List ℕ) (v : Item) (steps : ℕ) →
-    Spells spelling v steps → CostFits steps old.budget → IsProperFront xs spelling →
+-- a proper prefix of an encoding that fits is an end of the input
+abbrev pub PrefixReads : {E : Type 0} → View → Result Value (DecodeError E) → Type 0
+PrefixReads old answer = IfKnown old.known (λ xs. (encoding : List ℕ) (v : Item) (steps : ℕ) →
+    Encodes encoding v steps → CostFits steps old.budget → IsProperPrefix xs encoding →
     Answered (λ _. ⊥) IsEof answer)
 
--- an end of the input leaves nothing, and comes only on a proper front of an item whose strings
+-- an end of the input leaves nothing, and comes only on a proper prefix of an item whose strings
 -- join chunks of their kind
 abbrev pub EofReads : {V E : Type 0} → View → View → Result V (DecodeError E) → Type 0
-EofReads old new answer = Told old.told (λ xs. Refused (λ e. IsEof e →
-    (new.told ≡ Some []) × ((t : Tree) × Loose t × Joins t × IsProperFront xs (bytes t))) answer)
+EofReads old new answer = IfKnown old.known (λ xs. Rejected (λ e. IsEof e →
+    (new.known ≡ Some []) × ((t : Tree) × Loose t × Joins t × IsProperPrefix xs (bytes t))) answer)
 
 -- where no step is left, no continuation fits
 abbrev pub DepthReads : {E : Type 0} → View → Result Value (DecodeError E) → Type 0
-DepthReads old answer = Told old.told (λ xs. Refused (λ e. IsDepthOverflow e →
+DepthReads old answer = IfKnown old.known (λ xs. Rejected (λ e. IsDepthOverflow e →
     (more : List ℕ) (v : Item) (after : List ℕ) →
-    ¬ (ReadsPlainly (xs ++ more) old.budget v after)) answer)
+    ¬ (DecodesTo (xs ++ more) old.budget v after)) answer)
 
 -- after the others no continuation fits any budget
 abbrev pub FinalReads : {E : Type 0} → View → Result Value (DecodeError E) → Type 0
-FinalReads old answer = Told old.told (λ xs. Refused (λ e. IsFinal e →
+FinalReads old answer = IfKnown old.known (λ xs. Rejected (λ e. IsFinal e →
     (more : List ℕ) (other : Budget) (v : Item) (after : List ℕ) →
-    ¬ (ReadsPlainly (xs ++ more) other v after)) answer)
+    ¬ (DecodesTo (xs ++ more) other v after)) answer)
 
--- where reading stops, it is refused so, and leaves what is left there
+-- where reading fails, it is rejected so, and leaves what is left there
 abbrev pub ExactReads : {E : Type 0} → View → View → Result Value (DecodeError E) → Type 0
-ExactReads old new answer = Told old.told (λ xs. (e : Refusal) (rest : List ℕ) →
-    StopsReading xs old.budget e rest →
-    Answered (λ _. ⊥) (λ f. (f ≡ e) × (new.told ≡ Some rest)) answer)
+ExactReads old new answer = IfKnown old.known (λ xs. (e : InputError) (rest : List ℕ) →
+    ReadingRejects xs old.budget e rest →
+    Answered (λ _. ⊥) (λ f. (f ≡ e) × (new.known ≡ Some rest)) answer)
 
 -- a value is no larger than the bytes that were taken
 abbrev pub SizeReads : {E : Type 0} → View → View → Result Value (DecodeError E) → Type 0
-SizeReads old new answer = Told old.told (λ xs. IfOk answer (λ v.
-    (rest : List ℕ) × (new.told ≡ Some rest) × (size (view v) + length rest ≤ length xs)))
+SizeReads old new answer = IfKnown old.known (λ xs. IfOk answer (λ v.
+    (rest : List ℕ) × (new.known ≡ Some rest) × (size (view v) + length rest ≤ length xs)))
 
 -- skipping takes the same bytes
 abbrev pub SkipsReads : {E : Type 0} → View → View → Result Value (DecodeError E) → Type 0
-SkipsReads old new answer = Told old.told (λ xs. IfOk answer (λ v.
-    (t : Tree) × (rest : List ℕ) × (new.told ≡ Some rest) × Skips xs old.budget t rest))
+SkipsReads old new answer = IfKnown old.known (λ xs. IfOk answer (λ v.
+    (t : Tree) × (rest : List ℕ) × (new.known ≡ Some rest) × Skips xs old.budget t rest))
 
--- The canonical spelling spells the value itself, costs no more than any other, and under the same
+-- The canonical encoding encodes the value itself, costs no more than any other, and under the same
 -- budget is read as it.
 pub record IsCanonical (budget : Budget) (v : Item) : Type 0 where
   pub same : with_bignums v ≡ v
-  pub spells : Spells (canon v) v (canon_cost v)
-  pub least : (spelling : List ℕ) (steps : ℕ) → Spells spelling v steps → canon_cost v ≤ steps
-  pub reads : (more : List ℕ) → ReadsPlainly (canon v ++ more) budget v more
+  pub encodes : Encodes (canonical_encoding v) v (canonical_cost v)
+  pub least : (encoding : List ℕ) (steps : ℕ) → Encodes encoding v steps → canonical_cost v ≤ steps
+  pub reads : (more : List ℕ) → DecodesTo (canonical_encoding v ++ more) budget v more
 
 abbrev pub CanonicalReads : {E : Type 0} → View → Result Value (DecodeError E) → Type 0
 CanonicalReads old answer =
-    Told old.told (λ xs. IfOk answer (λ v. IsCanonical old.budget (view v)))
+    IfKnown old.known (λ xs. IfOk answer (λ v. IsCanonical old.budget (view v)))

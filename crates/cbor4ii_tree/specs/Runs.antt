@@ -1,8 +1,8 @@
--- Runs: items one behind another, of which each takes one step.
+-- Runs: items one after another, of which each takes one step.
 use Rattle.std.specs.Prelude.{◌≡◌, ◌+◌, ◌≤◌, ℕ, List, ◌++◌, length, take, drop}
 use Rattle.cbor4ii_tree.specs.Tree.{Tree, Trees, count, bytes, bytes_all, Loose}
 use Rattle.cbor4ii_tree.specs.Cost.{skip_cost}
-use Rattle.cbor4ii_tree.specs.Stops.{Each}
+use Rattle.cbor4ii_tree.specs.Rejections.{Each}
 
 -- an item that takes one step
 abbrev pub IsLeaf : Tree → Type 0

@@ -1,9 +1,9 @@
 -- Trees: one for each way in which bytes can be an encoded data item of RFC 8949 sections 3.1 to
 -- 3.3. A tree keeps the width of each head and whether a length was given, so that it has one
--- spelling.
+-- encoding.
 use Rattle.std.specs.Prelude.{◌≡◌, ℕ, suc, ◌^◌, ◌<◌, List, [], ◌∷◌, ◌++◌, length, IsUtf8}
 use Rattle.std.specs.Int.{bytes_high_first}
-use Rattle.cbor4ii_items.specs.Head.{Width, HeadFits, head, open_head, break}
+use Rattle.cbor4ii_items.specs.Head.{Width, HeadFits, head, indefinite_head, break}
 use Rattle.cbor4ii_items.specs.Initial.{Sign, sign_major, Kind, byte_string, text_string}
 use Rattle.cbor4ii_items.specs.Initial.{kind_major, Simple, simple_byte, Precision, precision_byte}
 use Rattle.cbor4ii_items.specs.Initial.{precision_bytes}
@@ -14,9 +14,9 @@ mutual
     string : Kind → Width → List ℕ → Tree
     chunked : Kind → Trees → Tree
     array : Width → Trees → Tree
-    array_open : Trees → Tree
+    array_indefinite : Trees → Tree
     map_of : Width → Pairs → Tree
-    map_open : Pairs → Tree
+    map_indefinite : Pairs → Tree
     tagged : ℕ → Width → Tree → Tree
     simple : Simple → Tree
     bits : Precision → ℕ → Tree
@@ -44,11 +44,11 @@ abbrev mutual
   pub bytes : Tree → List ℕ
   bytes (int s n w) = head (sign_major s) n w
   bytes (string k w content) = head (kind_major k) (length content) w ++ content
-  bytes (chunked k ts) = open_head (kind_major k) ∷ (bytes_all ts ++ break ∷ [])
+  bytes (chunked k ts) = indefinite_head (kind_major k) ∷ (bytes_all ts ++ break ∷ [])
   bytes (array w ts) = head 4 (count ts) w ++ bytes_all ts
-  bytes (array_open ts) = open_head 4 ∷ (bytes_all ts ++ break ∷ [])
+  bytes (array_indefinite ts) = indefinite_head 4 ∷ (bytes_all ts ++ break ∷ [])
   bytes (map_of w ps) = head 5 (pair_count ps) w ++ bytes_pairs ps
-  bytes (map_open ps) = open_head 5 ∷ (bytes_pairs ps ++ break ∷ [])
+  bytes (map_indefinite ps) = indefinite_head 5 ∷ (bytes_pairs ps ++ break ∷ [])
   bytes (tagged n w t) = head 6 n w ++ bytes t
   bytes (simple s) = simple_byte s ∷ []
   bytes (bits p n) = precision_byte p ∷ bytes_high_first (precision_bytes p) n
@@ -68,9 +68,9 @@ abbrev mutual
   Loose (string k w content) = HeadFits w (length content)
   Loose (chunked k ts) = LooseAll ts
   Loose (array w ts) = HeadFits w (count ts) × LooseAll ts
-  Loose (array_open ts) = LooseAll ts
+  Loose (array_indefinite ts) = LooseAll ts
   Loose (map_of w ps) = HeadFits w (pair_count ps) × LoosePairs ps
-  Loose (map_open ps) = LoosePairs ps
+  Loose (map_indefinite ps) = LoosePairs ps
   Loose (tagged n w t) = HeadFits w n × Loose t
   Loose (simple s) = Unit {0}
   Loose (bits p n) = n < 256 ^ precision_bytes p
@@ -111,9 +111,9 @@ abbrev mutual
   Joins (string k w content) = Unit {0}
   Joins (chunked k ts) = AreChunks k ts
   Joins (array w ts) = JoinsAll ts
-  Joins (array_open ts) = JoinsAll ts
+  Joins (array_indefinite ts) = JoinsAll ts
   Joins (map_of w ps) = JoinsPairs ps
-  Joins (map_open ps) = JoinsPairs ps
+  Joins (map_indefinite ps) = JoinsPairs ps
   Joins (tagged n w t) = Joins t
   Joins (simple s) = Unit {0}
   Joins (bits p n) = Unit {0}
@@ -135,9 +135,9 @@ abbrev mutual
   SoundStrings (string k w content) = TextIsUtf8 k content
   SoundStrings (chunked k ts) = AreChunks k ts × TextIsUtf8 k (joined_chunks ts)
   SoundStrings (array w ts) = SoundStringsAll ts
-  SoundStrings (array_open ts) = SoundStringsAll ts
+  SoundStrings (array_indefinite ts) = SoundStringsAll ts
   SoundStrings (map_of w ps) = SoundStringsPairs ps
-  SoundStrings (map_open ps) = SoundStringsPairs ps
+  SoundStrings (map_indefinite ps) = SoundStringsPairs ps
   SoundStrings (tagged n w t) = SoundStrings t
   SoundStrings (simple s) = Unit {0}
   SoundStrings (bits p n) = Unit {0}

@@ -4,7 +4,7 @@ use Rattle.std.specs.Prelude.{◌⊎◌}
 use Rattle.cbor4ii_rw.specs.View.{View}
 use Rattle.cbor4ii_rw.specs.Reader.{Advances}
 use Rattle.cbor4ii_rw.specs.declared.error.DecodeError.{DecodeError}
-use Rattle.cbor4ii_items.specs.Head.{Width, HeadFits, head, open_head, break}
+use Rattle.cbor4ii_items.specs.Head.{Width, HeadFits, head, indefinite_head, break}
 use Rattle.cbor4ii_items.specs.Initial.{Simple, simple_byte}
 use Rattle.std.specs.declared.vec.Vec.{Vec}
 use Rattle.std.specs.declared.alloc.Global.{Global}
@@ -15,50 +15,51 @@ use Rattle.cbor4ii_tree.specs.Tree.{Tree, Trees, Pairs, count, pair_count}
 use Rattle.cbor4ii_tree.specs.Tree.{bytes, bytes_all, bytes_pairs}
 use Rattle.cbor4ii_tree.specs.Meaning.{value, values, member_values, simple_item}
 use Rattle.cbor4ii_tree.specs.Cost.{Budget, step_in}
-use Rattle.cbor4ii_tree.specs.Stops.{Stopping, Each, EachPair, StopsInCount, OpenItems}
-use Rattle.cbor4ii_tree.specs.Stops.{BehindKey, OpenPairs}
-use Rattle.cbor4ii_tree.specs.StopsReading.{Readable, ReadingStopsFrom, StopsReading}
+use Rattle.cbor4ii_tree.specs.Rejections.{Stopping, Each, EachPair, RejectsInCount, IndefiniteItems}
+use Rattle.cbor4ii_tree.specs.Rejections.{AfterKey, IndefinitePairs}
+use Rattle.cbor4ii_tree.specs.ReadingRejects.{Readable, ReadingRejectsFrom, ReadingRejects}
 use Rattle.cbor4ii_tree.specs.View.{view, items_view, members_view}
 
 abbrev pub ReadsOneValue : Budget → List ℕ → Value → List ℕ → Type 0
 ReadsOneValue budget xs v ys =
     (t : Tree) × Readable budget t × (value t ≡ view v) × (xs ≡ bytes t ++ ys)
 
-abbrev pub StopsOneValue : Budget → Stopping
-StopsOneValue budget xs = StopsReading xs budget
+abbrev pub RejectsOneValue : Budget → Stopping
+RejectsOneValue budget xs = ReadingRejects xs budget
 
 -- a value whose step was taken
 abbrev pub ReadsUnder : Budget → List ℕ → Value → List ℕ → Type 0
 ReadsUnder inner xs v ys =
     (budget : Budget) → step_in budget ≡ Some inner → ReadsOneValue budget xs v ys
 
-abbrev pub StopsUnder : Budget → Stopping
-StopsUnder inner xs e rest = ReadingStopsFrom (λ left part. StopsReading part left) inner xs e rest
+abbrev pub RejectsUnder : Budget → Stopping
+RejectsUnder inner xs e rest =
+    ReadingRejectsFrom (λ left part. ReadingRejects part left) inner xs e rest
 
 -- so many values
 abbrev pub ReadsItems : ℕ → Budget → List ℕ → List Value → List ℕ → Type 0
 ReadsItems n budget xs vs ys = (ts : Trees) × (count ts ≡ n) × Each (Readable budget) ts ×
     (values ts ≡ items_view vs) × (xs ≡ bytes_all ts ++ ys)
 
-abbrev pub StopsItems : ℕ → Budget → Stopping
-StopsItems n budget = StopsInCount (Readable budget) (StopsOneValue budget) n
+abbrev pub RejectsItems : ℕ → Budget → Stopping
+RejectsItems n budget = RejectsInCount (Readable budget) (RejectsOneValue budget) n
 
 -- values up to a break, which is taken
-abbrev pub ReadsOpenItems : Budget → List ℕ → List Value → List ℕ → Type 0
-ReadsOpenItems budget xs vs ys = (ts : Trees) × Each (Readable budget) ts ×
+abbrev pub ReadsIndefiniteItems : Budget → List ℕ → List Value → List ℕ → Type 0
+ReadsIndefiniteItems budget xs vs ys = (ts : Trees) × Each (Readable budget) ts ×
     (values ts ≡ items_view vs) × (xs ≡ bytes_all ts ++ (break ∷ ys))
 
-abbrev pub StopsOpenItems : Budget → Stopping
-StopsOpenItems budget = OpenItems (Readable budget) (StopsOneValue budget)
+abbrev pub RejectsIndefiniteItems : Budget → Stopping
+RejectsIndefiniteItems budget = IndefiniteItems (Readable budget) (RejectsOneValue budget)
 
--- a key, and its value behind it
+-- a key, and its value after it
 abbrev pub ReadsMember : Budget → List ℕ → Value × Value → List ℕ → Type 0
 ReadsMember budget xs m ys = (between : List ℕ) ×
     ReadsOneValue budget xs m.0 between × ReadsOneValue budget between m.1 ys
 
-abbrev pub StopsMember : Budget → Stopping
-StopsMember budget xs e rest =
-    StopsOneValue budget xs e rest ⊎ BehindKey (Readable budget) (StopsOneValue budget) xs e rest
+abbrev pub RejectsMember : Budget → Stopping
+RejectsMember budget xs e rest =
+    RejectsOneValue budget xs e rest ⊎ AfterKey (Readable budget) (RejectsOneValue budget) xs e rest
 
 -- so many pairs
 abbrev pub ReadsMembers : ℕ → Budget → List ℕ → List (Value × Value) → List ℕ → Type 0
@@ -66,41 +67,43 @@ ReadsMembers n budget xs ms ys = (ps : Pairs) × (pair_count ps ≡ n) ×
     EachPair (Readable budget) ps × (member_values ps ≡ members_view ms) ×
     (xs ≡ bytes_pairs ps ++ ys)
 
-abbrev pub ReadsOpenMembers : Budget → List ℕ → List (Value × Value) → List ℕ → Type 0
-ReadsOpenMembers budget xs ms ys = (ps : Pairs) × EachPair (Readable budget) ps ×
+abbrev pub ReadsIndefiniteMembers : Budget → List ℕ → List (Value × Value) → List ℕ → Type 0
+ReadsIndefiniteMembers budget xs ms ys = (ps : Pairs) × EachPair (Readable budget) ps ×
     (member_values ps ≡ members_view ms) × (xs ≡ bytes_pairs ps ++ (break ∷ ys))
 
 -- twice as many keys and values
-abbrev pub StopsMembers : ℕ → Budget → Stopping
-StopsMembers n = StopsItems (2 * n)
+abbrev pub RejectsMembers : ℕ → Budget → Stopping
+RejectsMembers n = RejectsItems (2 * n)
 
-abbrev pub StopsOpenMembers : Budget → Stopping
-StopsOpenMembers budget = OpenPairs (Readable budget) (StopsOneValue budget)
+abbrev pub RejectsIndefiniteMembers : Budget → Stopping
+RejectsIndefiniteMembers budget = IndefinitePairs (Readable budget) (RejectsOneValue budget)
 
 -- an array whose two steps were taken
 abbrev pub ReadsArrayInside : Budget → List ℕ → List Value → List ℕ → Type 0
 ReadsArrayInside budget xs vs ys =
     ((w : Width) × (n : ℕ) × (between : List ℕ) × HeadFits w n ×
     (xs ≡ head 4 n w ++ between) × ReadsItems n budget between vs ys)
-    ⊎ ((between : List ℕ) × (xs ≡ open_head 4 ∷ between) × ReadsOpenItems budget between vs ys)
+    ⊎ ((between : List ℕ) × (xs ≡ indefinite_head 4 ∷ between) × ReadsIndefiniteItems budget
+    between vs ys)
 
 -- What it is for an array, or a map, to stop is what it is for a value whose first byte is one of
 -- its major type.
-abbrev pub StopsMajor : ℕ → Budget → Stopping
-StopsMajor major inner xs e rest = (b : ℕ) (bs : List ℕ) → xs ≡ b ∷ bs → b / 32 ≡ major →
+abbrev pub RejectsMajor : ℕ → Budget → Stopping
+RejectsMajor major inner xs e rest = (b : ℕ) (bs : List ℕ) → xs ≡ b ∷ bs → b / 32 ≡ major →
     (outer : Budget) → step_in outer ≡ Some inner →
-    ReadingStopsFrom (λ left part. StopsReading part left) outer xs e rest
+    ReadingRejectsFrom (λ left part. ReadingRejects part left) outer xs e rest
 
 abbrev pub ReadsMapInside : Budget → List ℕ → List (Value × Value) → List ℕ → Type 0
 ReadsMapInside budget xs ms ys =
     ((w : Width) × (n : ℕ) × (between : List ℕ) × HeadFits w n ×
     (xs ≡ head 5 n w ++ between) × ReadsMembers n budget between ms ys)
-    ⊎ ((between : List ℕ) × (xs ≡ open_head 5 ∷ between) × ReadsOpenMembers budget between ms ys)
+    ⊎ ((between : List ℕ) × (xs ≡ indefinite_head 5 ∷ between) × ReadsIndefiniteMembers budget
+    between ms ys)
 
--- behind a first byte of this major type, before the step is taken
-abbrev pub StopsOf : ℕ → Budget → Stopping
-StopsOf major budget xs e rest =
-    (b : ℕ) (bs : List ℕ) → xs ≡ b ∷ bs → b / 32 ≡ major → StopsUnder budget xs e rest
+-- after a first byte of this major type, before the step is taken
+abbrev pub RejectsOf : ℕ → Budget → Stopping
+RejectsOf major budget xs e rest =
+    (b : ℕ) (bs : List ℕ) → xs ≡ b ∷ bs → b / 32 ≡ major → RejectsUnder budget xs e rest
 
 -- a step is taken first
 abbrev pub ReadsStepped : {V : Type 0} → (Budget → Accepting V) → Budget → Accepting V
@@ -121,7 +124,7 @@ abbrev pub MakesMap : (Budget → Accepting (List (Value × Value))) → Budget 
 MakesMap reads budget xs v ys =
     (pairs : Vec (Value × Value) Global) × (v ≡ Map pairs) × reads budget xs pairs.items ys
 
--- a head of this major type with this argument, and what stands behind it
+-- a head of this major type with this argument, and what follows it
 abbrev pub HeadAt : ℕ → ℕ → List ℕ → List ℕ → Type 0
 HeadAt major n xs ys = (w : Width) × HeadFits w n × (xs ≡ head major n w ++ ys)
 
@@ -132,9 +135,9 @@ TakesTag budget xs n ys = HeadAt 6 n xs ys
 -- the head that says how many parts are to follow, none where its length is indefinite
 abbrev pub TakesLength : ℕ → Budget → Accepting (Option ℕ)
 TakesLength major budget xs (Some n) ys = HeadAt major n xs ys
-TakesLength major budget xs None ys = xs ≡ open_head major ∷ ys
+TakesLength major budget xs None ys = xs ≡ indefinite_head major ∷ ys
 
--- a tagged value behind the head of its tag
+-- a tagged value after the head of its tag
 abbrev pub ReadsTagged : ℕ → Budget → Accepting Value
 ReadsTagged n budget xs w ys =
     (v : Value) × (view w ≡ tag n (view v)) × ReadsOneValue budget xs v ys
@@ -143,9 +146,10 @@ ReadsTagged n budget xs w ys =
 abbrev pub IsNoSimple : ℕ → Type 0
 IsNoSimple first = (s : Simple) → first ≡ simple_byte s → ⊥
 
--- what stops behind this first byte
-abbrev pub StopsFirst : ℕ → Budget → Stopping
-StopsFirst first budget xs e rest = (bs : List ℕ) → xs ≡ first ∷ bs → StopsUnder budget xs e rest
+-- what is rejected after this first byte
+abbrev pub RejectsFirst : ℕ → Budget → Stopping
+RejectsFirst first budget xs e rest =
+    (bs : List ℕ) → xs ≡ first ∷ bs → RejectsUnder budget xs e rest
 
 -- the value that a byte is by itself
 abbrev pub SimpleOf : ℕ → Option Value → Type 0

@@ -2,10 +2,10 @@
 //! a break (RFC 8949 section 3). What does not stand whole in them is left undecided.
 ghost use Rattle.std.specs.Prelude.{◌≡◌, ◌≢◌, ◌≤◌, ◌<◌, ◌+◌, length, ◌*◌, ◌%◌, ◌∷◌, ◌↔◌, IsTrue, ℕ};
 ghost use Rattle.std.specs.Prelude.{List};
-ghost use Rattle.cbor4ii_tree.specs.Ahead.{leaf_bytes, Allows, IsOpen, BeginsWithBreak, Sees};
+ghost use Rattle.cbor4ii_tree.specs.Ahead.{leaf_bytes, Allows, IsIndefinite, BeginsWithBreak, Sees};
 ghost use Rattle.cbor4ii_tree.specs.Runs.{IsLeafAt, IsPairAt, BeginsRun};
 
-use crate::skip::{Behind, Start, start_of};
+use crate::skip::{After, Start, start_of};
 use cbor4ii_items::initial::argument;
 use cbor4ii_items::marker;
 
@@ -17,20 +17,20 @@ pub(crate) enum Among {
     /// So many pairs are left, and a key comes next.
     Pairs(u64),
     /// Items up to a break.
-    OpenItems,
+    IndefiniteItems,
     /// Pairs up to a break, and a key comes next.
-    OpenPairs,
+    IndefinitePairs,
 }
 
 impl Among {
     /// Whether a break may come in the place of the next item.
     #[inline(always)]
-    pub(crate) fn is_open(self) -> bool
-        ensures { IsTrue result ↔ IsOpen self }
+    pub(crate) fn is_indefinite(self) -> bool
+        ensures { IsTrue result ↔ IsIndefinite self }
     {
         match self {
             Among::Items(_) | Among::Pairs(_) => false,
-            Among::OpenItems | Among::OpenPairs => true,
+            Among::IndefiniteItems | Among::IndefinitePairs => true,
         }
     }
 
@@ -38,8 +38,8 @@ impl Among {
     #[inline(always)]
     fn is_paired(self) -> bool {
         match self {
-            Among::Items(_) | Among::OpenItems => false,
-            Among::Pairs(_) | Among::OpenPairs => true,
+            Among::Items(_) | Among::IndefiniteItems => false,
+            Among::Pairs(_) | Among::IndefinitePairs => true,
         }
     }
 }
@@ -50,7 +50,7 @@ pub(crate) enum Ahead {
     /// So many items that hold no other, in so many bytes.
     Run(u64, usize),
     /// A head of so many bytes, with the content that is shown, and what is left of its item.
-    Head(usize, Behind),
+    Head(usize, After),
     /// A break.
     Break,
     /// Nothing that is decided here.
@@ -80,7 +80,7 @@ pub(crate) fn ahead_of(shown: &[u8], among: Among) -> Ahead
     if count > 0 {
         return Ahead::Run(count, size);
     }
-    if among.is_open() && begins_with_break(shown) {
+    if among.is_indefinite() && begins_with_break(shown) {
         return Ahead::Break;
     }
     head_of(shown, among)
@@ -106,8 +106,8 @@ fn run_of(shown: &[u8], among: Among) -> (u64, usize)
     match among {
         Among::Items(most) => run_of_items(shown, most),
         Among::Pairs(most) => run_of_pairs(shown, most),
-        Among::OpenItems => run_of_items(shown, u64::MAX),
-        Among::OpenPairs => run_of_pairs(shown, u64::MAX),
+        Among::IndefiniteItems => run_of_items(shown, u64::MAX),
+        Among::IndefinitePairs => run_of_pairs(shown, u64::MAX),
     }
 }
 
@@ -136,7 +136,7 @@ fn run_of_items(shown: &[u8], most: u64) -> (u64, usize)
 }
 
 /// Whether the item at this place, which takes so many bytes, and the next take one byte each. One
-/// comparison tells both: where sizes change from item to item, one for each would be hard to
+/// comparison reports both: where sizes change from item to item, one for each would be hard to
 /// foresee.
 #[inline(always)]
 fn are_single(shown: &[u8], at: usize, leaf: usize) -> bool
@@ -222,7 +222,7 @@ fn head_of(shown: &[u8], among: Among) -> Ahead
     if among.is_paired() {
         let leaf = leaf_size(shown, 0);
         if leaf > 0 {
-            return Ahead::Head(leaf, Behind::Nothing);
+            return Ahead::Head(leaf, After::Nothing);
         }
     }
     let [first, rest @ ..] = shown else {
@@ -231,36 +231,36 @@ fn head_of(shown: &[u8], among: Among) -> Ahead
     wide_head_of(*first, rest)
 }
 
-/// The same, by its first byte and the bytes behind it.
+/// The same, by its first byte and the bytes after it.
 #[inline(always)]
 fn wide_head_of(first: u8, rest: &[u8]) -> Ahead
     ensures { (among : Among) → Sees among result (first ∷ rest.now) }
 {
     let Some((argument, size)) = argument(first % 32, rest) else {
-        return open_head_of(first);
+        return indefinite_head_of(first);
     };
     match start_of(first) {
         Start::Content => {
             if argument > (rest.len() - size) as u64 {
-                return Ahead::Head(1 + size, Behind::Bytes(argument));
+                return Ahead::Head(1 + size, After::Bytes(argument));
             }
-            Ahead::Head(1 + size + argument as usize, Behind::Nothing)
+            Ahead::Head(1 + size + argument as usize, After::Nothing)
         }
-        Start::Items => Ahead::Head(1 + size, Behind::Items(argument)),
-        Start::Members => Ahead::Head(1 + size, Behind::Members(argument)),
-        Start::Tag => Ahead::Head(1 + size, Behind::Items(1)),
+        Start::Items => Ahead::Head(1 + size, After::Items(argument)),
+        Start::Members => Ahead::Head(1 + size, After::Members(argument)),
+        Start::Tag => Ahead::Head(1 + size, After::Items(1)),
         _ => Ahead::Unseen,
     }
 }
 
 /// The same, of a head that has no argument.
 #[inline(always)]
-fn open_head_of(first: u8) -> Ahead
+fn indefinite_head_of(first: u8) -> Ahead
     ensures { (among : Among) (rest : List ℕ) → Sees among result (first ∷ rest) }
 {
     match start_of(first) {
-        Start::Open => Ahead::Head(1, Behind::Open),
-        Start::OpenMembers => Ahead::Head(1, Behind::OpenMembers),
+        Start::Indefinite => Ahead::Head(1, After::Indefinite),
+        Start::IndefiniteMembers => Ahead::Head(1, After::IndefiniteMembers),
         _ => Ahead::Unseen,
     }
 }

@@ -1,19 +1,19 @@
 //! Items that are kept as a copy of their bytes.
 //!
-//! They are read and refused as `RawValue` is. Where there is no memory for the copy it is
+//! They are read and rejected as `RawValue` is. Where there is no memory for the copy it is
 //! `OutOfMemory`, and the item was taken.
 ghost use Rattle.std.specs.Prelude.{◌≡◌, true, IfOk, IsTrue};
-ghost use Rattle.cbor4ii_items.specs.Writing.{WritesWhole};
-ghost use Rattle.cbor4ii_tree.specs.Canonical.{canon, canon_cost, with_bignums};
-ghost use Rattle.cbor4ii_tree.specs.Spelling.{Spells};
+ghost use Rattle.cbor4ii_items.specs.Writing.{WritesAtomically};
+ghost use Rattle.cbor4ii_tree.specs.Canonical.{canonical_encoding, canonical_cost, with_bignums};
+ghost use Rattle.cbor4ii_tree.specs.Encodings.{Encodes};
 ghost use Rattle.cbor4ii_tree.specs.View.{view};
 ghost use Rattle.cbor4ii_tree.specs.BoxedRaw.{boxed_content, CapturesCopy, CopiesItem};
-ghost use Rattle.cbor4ii_tree.specs.BoxedRaw.{CopiesNone, boxed_raw_spelling};
+ghost use Rattle.cbor4ii_tree.specs.BoxedRaw.{CopiesNone, boxed_raw_format};
 ghost use Rattle.cbor4ii_tree.specs.Laws.Capturing.{boxed_raw_lawful};
 
 use crate::lend_raw::skip_lent;
 use crate::value::{NoMemory, Value};
-use cbor4ii_items::decode::{Decode, Spelled};
+use cbor4ii_items::decode::{Decodable, Decode};
 use cbor4ii_items::encode::Encode;
 use cbor4ii_rw::buf_writer::BufWriter;
 use cbor4ii_rw::error::{DecodeError, EncodeError, TryReserveError};
@@ -37,7 +37,7 @@ impl BoxedRawValue {
         &self.0
     }
 
-    /// The value's canonical spelling.
+    /// The value's canonical encoding.
     ///
     /// # Errors
     ///
@@ -46,9 +46,10 @@ impl BoxedRawValue {
         alloc: Global,
         value: &Value,
     ) -> Result<BoxedRawValue, EncodeError<TryReserveError>>
-        ensures content { IfOk result (λ raw. boxed_content raw ≡ canon (view value.now)) }
-        ensures spells { IfOk result (λ raw. Spells
-            (boxed_content raw) (with_bignums (view value.now)) (canon_cost (view value.now))) }
+        ensures content { IfOk result (λ raw. boxed_content raw ≡ canonical_encoding
+            (view value.now)) }
+        ensures encodes { IfOk result (λ raw. Encodes
+            (boxed_content raw) (with_bignums (view value.now)) (canonical_cost (view value.now))) }
     {
         let mut writer = BufWriter::new(Vec::new(alloc));
         value.encode(&mut writer)?;
@@ -68,8 +69,8 @@ impl BoxedRawValue {
 }
 
 /// One item, skipped under a step for each level.
-impl Spelled for BoxedRawValue {
-    ghost spelling = { boxed_raw_spelling };
+impl Decodable for BoxedRawValue {
+    ghost format = { boxed_raw_format };
 
     fn is_never_empty() -> bool {
         true
@@ -95,7 +96,7 @@ impl Spelled for BoxedRawValue {
 impl<S: FillLong> Decode<S> for BoxedRawValue {
     fn decode(alloc: Global, reader: &mut S) -> Result<BoxedRawValue, DecodeError<S::Error>>
         ensures copies { CopiesItem (S.view reader.old) (S.view reader.new) result }
-        ensures unlent { IsTrue S.never_lends →
+        ensures unlent { IsTrue S.never_borrows →
             CopiesNone (S.view reader.old) (S.view reader.new) result }
     {
         copy_lent(alloc, reader)
@@ -108,7 +109,7 @@ fn copy_lent<S: FillLong>(
     reader: &mut S,
 ) -> Result<BoxedRawValue, DecodeError<S::Error>>
     ensures copies { CapturesCopy (S.view reader.old) (S.view reader.new) result }
-    ensures unlent { IsTrue S.never_lends →
+    ensures unlent { IsTrue S.never_borrows →
         CopiesNone (S.view reader.old) (S.view reader.new) result }
 {
     match reader.fill_long(usize::MAX) {
@@ -131,12 +132,12 @@ fn copy_lent<S: FillLong>(
 ///
 /// # Errors
 ///
-/// `Write`: the writer failed. A whole writer then holds what it held before.
+/// `Write`: the writer failed. An atomic writer then holds what it held before.
 impl Encode for BoxedRawValue {
     ghost bytes = { boxed_content };
 
     fn encode<W: Write>(&self, writer: &mut W) -> Result<(), EncodeError<W::Error>>
-        ensures { WritesWhole W.whole (boxed_content self.now)
+        ensures { WritesAtomically W.atomic (boxed_content self.now)
             (W.view writer.old) (W.view writer.new) result }
     {
         match writer.push(&self.0) {

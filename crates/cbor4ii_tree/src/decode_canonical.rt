@@ -1,32 +1,35 @@
-//! Values that are spelled in one way, read. Each level takes one small frame of the stack, as in
+//! Values that are encoded in one way, read. Each level takes one small frame of the stack, as in
 //! `decode_value`.
 ghost use Rattle.std.specs.Prelude.{◌≡◌, ◌+◌, ◌-◌, ◌*◌, ◌<◌, ◌≤◌, ◌/◌, ◌⊎◌, OnOk, OnSome};
 ghost use Rattle.std.specs.Prelude.{length, IfErr, IsTrue, true, false};
-ghost use Rattle.cbor4ii_items.specs.Refusal.{is_out_of_memory};
-ghost use Rattle.cbor4ii_tree.specs.Canonically.{canonical_spelling, OnlyCanonical};
-ghost use Rattle.cbor4ii_tree.specs.Canonically.{AllCanonical, TakesSpelling, EverySpelling};
-ghost use Rattle.cbor4ii_tree.specs.Canonically.{FrontCanonical, DepthCanonical, NeverCanonical};
+ghost use Rattle.cbor4ii_items.specs.InputError.{is_out_of_memory};
+ghost use Rattle.cbor4ii_tree.specs.Canonically.{canonical_format, OnlyCanonical};
+ghost use Rattle.cbor4ii_tree.specs.Canonically.{AllCanonical, TakesEncoding, EveryEncoding};
+ghost use Rattle.cbor4ii_tree.specs.Canonically.{PrefixCanonical, DepthCanonical, NeverCanonical};
 ghost use Rattle.cbor4ii_tree.specs.Canonically.{OthersCanonical, ExactCanonical, ValueCanonical};
 ghost use Rattle.cbor4ii_tree.specs.Does.{DoesUnder, answered};
 ghost use Rattle.cbor4ii_tree.specs.LeafRuns.{flat, PutsItems, PutsItemsUnder};
-ghost use Rattle.cbor4ii_tree.specs.LeafRuns.{StopsItemsUnder};
-ghost use Rattle.cbor4ii_tree.specs.StopsStrictly.{Exactly};
+ghost use Rattle.cbor4ii_tree.specs.LeafRuns.{RejectsItemsUnder};
+ghost use Rattle.cbor4ii_tree.specs.CanonicalRejects.{FitsCanonically};
 ghost use Rattle.cbor4ii_tree.specs.Promises.{EofReads};
-ghost use Rattle.cbor4ii_tree.specs.Refusal.{array_name, map_name};
-ghost use Rattle.cbor4ii_tree.specs.StopsStrictly.{StrictTextStops, StrictArrayStops};
-ghost use Rattle.cbor4ii_tree.specs.StopsStrictly.{StrictMapStops};
-ghost use Rattle.cbor4ii_tree.specs.Strictly.{ReadsExactly, StopsExactly, ReadsExactlyUnder};
-ghost use Rattle.cbor4ii_tree.specs.Strictly.{StopsExactlyUnder, StopsBehindFirst};
-ghost use Rattle.cbor4ii_tree.specs.Strictly.{StopsBehindMajor};
-ghost use Rattle.cbor4ii_tree.specs.Strictly.{StopsExactlyStepped, TextAt, ExactItems};
-ghost use Rattle.cbor4ii_tree.specs.Strictly.{ReadsExactlyTagged, StopsAtShortest, StopsExactItems};
-ghost use Rattle.cbor4ii_tree.specs.Strictly.{TakesShortest};
-ghost use Rattle.cbor4ii_tree.specs.Strictly.{ExactMembers, AcceptsCount};
+ghost use Rattle.cbor4ii_tree.specs.InputError.{array_name, map_name};
+ghost use Rattle.cbor4ii_tree.specs.CanonicalRejects.{CanonicalTextRejects, CanonicalArrayRejects};
+ghost use Rattle.cbor4ii_tree.specs.CanonicalRejects.{CanonicalMapRejects};
+ghost use Rattle.cbor4ii_tree.specs.CanonicalCalls.{ReadsCanonically, RejectsCanonically};
+ghost use Rattle.cbor4ii_tree.specs.CanonicalCalls.{ReadsCanonicallyUnder};
+ghost use Rattle.cbor4ii_tree.specs.CanonicalCalls.{RejectsCanonicallyUnder, RejectsAfterFirst};
+ghost use Rattle.cbor4ii_tree.specs.CanonicalCalls.{RejectsAfterMajor};
+ghost use Rattle.cbor4ii_tree.specs.CanonicalCalls.{RejectsCanonicallyStepped, TextAt};
+ghost use Rattle.cbor4ii_tree.specs.CanonicalCalls.{CanonicalItems};
+ghost use Rattle.cbor4ii_tree.specs.CanonicalCalls.{ReadsCanonicallyTagged, RejectsAtShortest};
+ghost use Rattle.cbor4ii_tree.specs.CanonicalCalls.{RejectsCanonicalItems};
+ghost use Rattle.cbor4ii_tree.specs.CanonicalCalls.{TakesShortest};
+ghost use Rattle.cbor4ii_tree.specs.CanonicalCalls.{CanonicalMembers, AcceptsCount};
 ghost use Rattle.cbor4ii_tree.specs.Valuing.{ReadsStepped, ReadsVec, TakesSimple};
 ghost use Rattle.cbor4ii_items.specs.Decoding.{Decodes};
-ghost use Rattle.cbor4ii_items.specs.Shortest.{shortest_spelling};
+ghost use Rattle.cbor4ii_items.specs.Shortest.{shortest_format};
 ghost use Rattle.cbor4ii_tree.specs.Laws.CanonicalReading.{canonical_lawful};
-ghost use Rattle.cbor4ii_tree.specs.Leaf.{CanTake, DoesBehindNext};
+ghost use Rattle.cbor4ii_tree.specs.Leaf.{CanTake, DoesAfterNext};
 
 use crate::leaf::{Looked, Next, take_leaf};
 use crate::run::{Pairs, Parts, put_value, take_run};
@@ -34,20 +37,20 @@ use crate::simple::{read_float, simple_of};
 use crate::slot::{keep, leave_deep, leave_not_canonical, part, whole};
 use crate::value::Value;
 use cbor4ii_items::canonical::{canonical_buf, canonical_head};
-use cbor4ii_items::decode::{Decode, Spelled};
+use cbor4ii_items::decode::{Decodable, Decode};
 use cbor4ii_items::reserve::items_ahead;
 use cbor4ii_items::{major, marker};
 use cbor4ii_rw::error::{DecodeError, StaticStr};
 use cbor4ii_rw::read::Source;
 use std::alloc::Global;
 
-/// A value that is read from its canonical spelling alone, the one that encoders write (RFC 8949
+/// A value that is read from its canonical encoding alone, the one that encoders write (RFC 8949
 /// section 4.1). Two that were read are equal exactly where their bytes are.
 #[derive(Debug, PartialEq, Eq, Drop)]
 pub struct Canonical(pub Value);
 
-impl Spelled for Canonical {
-    ghost spelling = { canonical_spelling };
+impl Decodable for Canonical {
+    ghost format = { canonical_format };
 
     fn is_never_empty() -> bool {
         true
@@ -56,7 +59,7 @@ impl Spelled for Canonical {
     ghost lawful = { canonical_lawful };
 }
 
-/// A value is read where the canonical spelling of a value whose steps fit the budget begins the
+/// A value is read where the canonical encoding of a value whose steps fit the budget begins the
 /// bytes. In it every head is the shortest, lengths are given, and null is `f6`. Steps and memory
 /// are those of `Value`. An array or a map takes its step before its head is looked at.
 ///
@@ -66,17 +69,17 @@ impl Spelled for Canonical {
 ///   needed is whole, and what follows it is left. Or the first byte of an indefinite length comes,
 ///   or `f7`, and what follows the byte is left
 /// - those of `Value`, by the same names and with the same fields, which leave the same. `Eof`
-///   leaves nothing, and comes only on a proper front of an item
+///   leaves nothing, and comes only on a proper prefix of an item
 impl<S: Source> Decode<S> for Canonical {
     fn decode(alloc: Global, reader: &mut S) -> Result<Canonical, DecodeError<S::Error>>
-        ensures decodes { Decodes canonical_spelling
+        ensures decodes { Decodes canonical_format
             (S.view reader.old) (S.view reader.new) result }
 
         ensures only { OnlyCanonical (S.view reader.old) (S.view reader.new) result }
         ensures all { AllCanonical (S.view reader.old) (S.view reader.new) result }
-        ensures spelling { TakesSpelling (S.view reader.old) (S.view reader.new) result }
-        ensures every { EverySpelling (S.view reader.old) (S.view reader.new) result }
-        ensures front { FrontCanonical (S.view reader.old) result }
+        ensures encoding { TakesEncoding (S.view reader.old) (S.view reader.new) result }
+        ensures every { EveryEncoding (S.view reader.old) (S.view reader.new) result }
+        ensures prefix { PrefixCanonical (S.view reader.old) result }
         ensures eof { EofReads (S.view reader.old) (S.view reader.new) result }
         ensures depth { DepthCanonical (S.view reader.old) result }
         ensures never { NeverCanonical (S.view reader.old) result }
@@ -90,7 +93,7 @@ impl<S: Source> Decode<S> for Canonical {
     }
 }
 
-/// Reads one value. Where it does not, the refusal goes to `failure`, which is left empty where
+/// Reads one value. Where it does not, the error goes to `failure`, which is left empty where
 /// memory was refused.
 #[cycle(strict)]
 #[inline(always)]
@@ -99,7 +102,7 @@ fn read_one<S: Source>(
     reader: &mut S,
     failure: &mut Option<DecodeError<S::Error>>,
 ) -> Option<Value>
-    ensures does { DoesUnder ReadsExactly StopsExactly
+    ensures does { DoesUnder ReadsCanonically RejectsCanonically
         (S.view reader.old) (S.view reader.new) (answered result failure.new) }
     ensures progress { OnSome result ((S.view reader.new).bound + 1 ≤ (S.view reader.old).bound) }
 {
@@ -120,7 +123,7 @@ fn read_inside<S: Source>(
     reader: &mut S,
     failure: &mut Option<DecodeError<S::Error>>,
 ) -> Option<Value>
-    ensures does { DoesUnder ReadsExactlyUnder StopsExactlyUnder
+    ensures does { DoesUnder ReadsCanonicallyUnder RejectsCanonicallyUnder
         (S.view reader.old) (S.view reader.new) (answered result failure.new) }
     ensures progress { OnSome result ((S.view reader.new).bound + 1 ≤ (S.view reader.old).bound) }
 {
@@ -140,7 +143,7 @@ fn read_next<S: Source>(
     failure: &mut Option<DecodeError<S::Error>>,
 ) -> Option<Value>
     requires { CanTake next (S.view reader.old) }
-    ensures does { DoesBehindNext (Unit {0}) next ReadsExactlyUnder StopsExactlyUnder
+    ensures does { DoesAfterNext (Unit {0}) next ReadsCanonicallyUnder RejectsCanonicallyUnder
         (S.view reader.old) (S.view reader.new) (answered result failure.new) }
     ensures progress { OnSome result ((S.view reader.new).bound + 1 ≤ (S.view reader.old).bound) }
 {
@@ -157,7 +160,7 @@ fn read_next<S: Source>(
     }
 }
 
-/// Reads a tag, and the value behind it.
+/// Reads a tag, and the value after it.
 #[cycle(strict)]
 #[inline(always)]
 fn read_tag<S: Source>(
@@ -168,7 +171,7 @@ fn read_tag<S: Source>(
 ) -> Option<Value>
     requires can { CanTake next (S.view reader.old) }
     requires major { next.first / 32 ≡ 6 }
-    ensures does { DoesBehindNext (Unit {0}) next ReadsExactlyUnder (StopsBehindMajor 6)
+    ensures does { DoesAfterNext (Unit {0}) next ReadsCanonicallyUnder (RejectsAfterMajor 6)
         (S.view reader.old) (S.view reader.new) (answered result failure.new) }
     ensures progress { OnSome result ((S.view reader.new).bound + 1 ≤ (S.view reader.old).bound) }
 {
@@ -176,7 +179,7 @@ fn read_tag<S: Source>(
     read_tagged(alloc, reader, number, failure)
 }
 
-/// Reads the value behind the head of a tag.
+/// Reads the value after the head of a tag.
 #[cycle(strict)]
 #[inline(never)]
 fn read_tagged<S: Source>(
@@ -185,7 +188,7 @@ fn read_tagged<S: Source>(
     number: u64,
     failure: &mut Option<DecodeError<S::Error>>,
 ) -> Option<Value>
-    ensures does { DoesUnder (ReadsExactlyTagged number) StopsExactly
+    ensures does { DoesUnder (ReadsCanonicallyTagged number) RejectsCanonically
         (S.view reader.old) (S.view reader.new) (answered result failure.new) }
     ensures progress { OnSome result ((S.view reader.new).bound + 1 ≤ (S.view reader.old).bound) }
 {
@@ -211,8 +214,8 @@ fn take_head<S: Source>(
 ) -> Option<u64>
     requires can { CanTake next (S.view reader.old) }
     requires major { next.first / 32 ≡ major }
-    ensures does { DoesBehindNext (Unit {0}) next
-        (TakesShortest major) (StopsAtShortest name.now major)
+    ensures does { DoesAfterNext (Unit {0}) next
+        (TakesShortest major) (RejectsAtShortest name.now major)
         (S.view reader.old) (S.view reader.new) (answered result failure.new) }
     ensures memory { IfErr (answered result failure.new)
         (λ error. IsTrue (is_out_of_memory error) → IsTrue false) }
@@ -236,7 +239,7 @@ fn head_of<S: Source>(
     major: u8,
     failure: &mut Option<DecodeError<S::Error>>,
 ) -> Option<u64>
-    ensures { Decodes (shortest_spelling name.now major)
+    ensures { Decodes (shortest_format name.now major)
         (S.view reader.old) (S.view reader.new) (answered result failure.new) }
 {
     part(canonical_head(name, major, reader), failure)
@@ -255,7 +258,7 @@ fn read_alone<S: Source>(
     requires major { (first / 32 ≤ 3) ⊎ (first / 32 ≡ 7) }
     ensures does { TakesSimple first
         (S.view reader.old) (S.view reader.new) (answered result failure.new)
-        ⊎ DoesUnder ReadsExactlyUnder (StopsBehindFirst first)
+        ⊎ DoesUnder ReadsCanonicallyUnder (RejectsAfterFirst first)
         (S.view reader.old) (S.view reader.new) (answered result failure.new) }
     ensures progress { OnSome result ((S.view reader.new).bound + 1 ≤ (S.view reader.old).bound) }
 {
@@ -279,7 +282,7 @@ fn read_leaf<S: Source>(
     first: u8,
 ) -> Result<Value, DecodeError<S::Error>>
     requires major { first / 32 ≤ 3 }
-    ensures does { DoesUnder ReadsExactlyUnder (StopsBehindFirst first)
+    ensures does { DoesUnder ReadsCanonicallyUnder (RejectsAfterFirst first)
         (S.view reader.old) (S.view reader.new) result }
     ensures progress { OnOk result ((S.view reader.new).bound + 1 ≤ (S.view reader.old).bound) }
 {
@@ -296,7 +299,7 @@ fn read_leaf<S: Source>(
 
 /// Reads a text.
 fn read_text<S: Source>(alloc: Global, reader: &mut S) -> Result<String, DecodeError<S::Error>>
-    ensures does { DoesUnder TextAt StrictTextStops
+    ensures does { DoesUnder TextAt CanonicalTextRejects
         (S.view reader.old) (S.view reader.new) result }
     ensures progress { OnOk result ((S.view reader.new).bound + 1 ≤ (S.view reader.old).bound) }
 {
@@ -317,9 +320,9 @@ fn read_array<S: Source>(
 ) -> Option<Vec<Value>>
     requires can { CanTake next (S.view reader.old) }
     requires major { next.first / 32 ≡ 4 }
-    ensures does { DoesBehindNext (Unit {0}) next
-        (ReadsStepped (ReadsVec (AcceptsCount 4 ExactItems)))
-        (StopsExactlyStepped array_name (StrictArrayStops StopsExactly))
+    ensures does { DoesAfterNext (Unit {0}) next
+        (ReadsStepped (ReadsVec (AcceptsCount 4 CanonicalItems)))
+        (RejectsCanonicallyStepped array_name (CanonicalArrayRejects RejectsCanonically))
         (S.view reader.old) (S.view reader.new) (answered result failure.new) }
     ensures progress { OnSome result ((S.view reader.new).bound + 1 ≤ (S.view reader.old).bound) }
 {
@@ -342,24 +345,24 @@ fn array_inside<S: Source>(
 ) -> Option<Vec<Value>>
     requires can { CanTake next (S.view reader.old) }
     requires major { next.first / 32 ≡ 4 }
-    ensures does { DoesBehindNext (Unit {0}) next (ReadsVec (AcceptsCount 4 ExactItems))
-        (StrictArrayStops StopsExactly)
+    ensures does { DoesAfterNext (Unit {0}) next (ReadsVec (AcceptsCount 4 CanonicalItems))
+        (CanonicalArrayRejects RejectsCanonically)
         (S.view reader.old) (S.view reader.new) (answered result failure.new) }
     ensures progress { OnSome result ((S.view reader.new).bound + 1 ≤ (S.view reader.old).bound) }
 {
     let count = take_head(reader, "array", major::ARRAY, next, failure)?;
-    counted_items(alloc, reader, count as usize, failure)
+    definite_items(alloc, reader, count as usize, failure)
 }
 
 #[cycle(strict)]
 #[inline(never)]
-fn counted_items<S: Source>(
+fn definite_items<S: Source>(
     alloc: Global,
     reader: &mut S,
     count: usize,
     failure: &mut Option<DecodeError<S::Error>>,
 ) -> Option<Vec<Value>>
-    ensures { DoesUnder (ReadsVec (ExactItems count)) (StopsExactItems count)
+    ensures { DoesUnder (ReadsVec (CanonicalItems count)) (RejectsCanonicalItems count)
         (S.view reader.old) (S.view reader.new) (answered result failure.new) }
 {
     let mut items = Vec::new(alloc);
@@ -384,9 +387,9 @@ fn read_map<S: Source>(
 ) -> Option<Vec<(Value, Value)>>
     requires can { CanTake next (S.view reader.old) }
     requires major { next.first / 32 ≡ 5 }
-    ensures does { DoesBehindNext (Unit {0}) next
-        (ReadsStepped (ReadsVec (AcceptsCount 5 ExactMembers)))
-        (StopsExactlyStepped map_name (StrictMapStops StopsExactly))
+    ensures does { DoesAfterNext (Unit {0}) next
+        (ReadsStepped (ReadsVec (AcceptsCount 5 CanonicalMembers)))
+        (RejectsCanonicallyStepped map_name (CanonicalMapRejects RejectsCanonically))
         (S.view reader.old) (S.view reader.new) (answered result failure.new) }
     ensures progress { OnSome result ((S.view reader.new).bound + 1 ≤ (S.view reader.old).bound) }
 {
@@ -409,24 +412,24 @@ fn map_inside<S: Source>(
 ) -> Option<Vec<(Value, Value)>>
     requires can { CanTake next (S.view reader.old) }
     requires major { next.first / 32 ≡ 5 }
-    ensures does { DoesBehindNext (Unit {0}) next (ReadsVec (AcceptsCount 5 ExactMembers))
-        (StrictMapStops StopsExactly)
+    ensures does { DoesAfterNext (Unit {0}) next (ReadsVec (AcceptsCount 5 CanonicalMembers))
+        (CanonicalMapRejects RejectsCanonically)
         (S.view reader.old) (S.view reader.new) (answered result failure.new) }
     ensures progress { OnSome result ((S.view reader.new).bound + 1 ≤ (S.view reader.old).bound) }
 {
     let count = take_head(reader, "map", major::MAP, next, failure)?;
-    counted_members(alloc, reader, count as usize, failure)
+    definite_members(alloc, reader, count as usize, failure)
 }
 
 #[cycle(strict)]
 #[inline(never)]
-fn counted_members<S: Source>(
+fn definite_members<S: Source>(
     alloc: Global,
     reader: &mut S,
     count: usize,
     failure: &mut Option<DecodeError<S::Error>>,
 ) -> Option<Vec<(Value, Value)>>
-    ensures { DoesUnder (ReadsVec (ExactMembers count)) (StopsExactItems (2 * count))
+    ensures { DoesUnder (ReadsVec (CanonicalMembers count)) (RejectsCanonicalItems (2 * count))
         (S.view reader.old) (S.view reader.new) (answered result failure.new) }
 {
     let mut pairs = Pairs {
@@ -443,7 +446,7 @@ fn counted_members<S: Source>(
     Some(pairs.members)
 }
 
-/// Reads the items that come next, as many as one look decides, and the one behind them
+/// Reads the items that come next, as many as one look decides, and the one after them
 /// that it leaves undecided.
 #[cycle(strict)]
 #[inline(always)]
@@ -455,8 +458,8 @@ fn more_items<S: Source>(
     failure: &mut Option<DecodeError<S::Error>>,
 ) -> Option<()>
     requires { length items.old.items < 1 * count }
-    ensures does { DoesUnder (PutsItems Exactly items.old.items items.new.items)
-        (StopsExactItems (1 * count - length items.old.items))
+    ensures does { DoesUnder (PutsItems FitsCanonically items.old.items items.new.items)
+        (RejectsCanonicalItems (1 * count - length items.old.items))
         (S.view reader.old) (S.view reader.new) (answered result failure.new) }
     ensures few { OnSome result (length items.new.items ≤ 1 * count) }
     ensures progress { OnSome result ((S.view reader.new).bound + 1 ≤ (S.view reader.old).bound) }
@@ -481,8 +484,8 @@ fn items_inside<S: Source>(
     failure: &mut Option<DecodeError<S::Error>>,
 ) -> Option<()>
     requires { length items.old.items < 1 * count }
-    ensures does { DoesUnder (PutsItemsUnder Exactly items.old.items items.new.items)
-        (StopsItemsUnder Exactly StopsExactly (1 * count - length items.old.items))
+    ensures does { DoesUnder (PutsItemsUnder FitsCanonically items.old.items items.new.items)
+        (RejectsItemsUnder FitsCanonically RejectsCanonically (1 * count - length items.old.items))
         (S.view reader.old) (S.view reader.new) (answered result failure.new) }
     ensures few { OnSome result (length items.new.items ≤ 1 * count) }
     ensures progress { OnSome result ((S.view reader.new).bound + 1 ≤ (S.view reader.old).bound) }
@@ -496,7 +499,7 @@ fn items_inside<S: Source>(
     }
 }
 
-/// Reads the keys and values that come next, as many as one look decides, and the one behind them
+/// Reads the keys and values that come next, as many as one look decides, and the one after them
 /// that it leaves undecided.
 #[cycle(strict)]
 #[inline(always)]
@@ -508,8 +511,8 @@ fn more_members<S: Source>(
     failure: &mut Option<DecodeError<S::Error>>,
 ) -> Option<()>
     requires { length (flat pairs.old) < 2 * count }
-    ensures does { DoesUnder (PutsItems Exactly (flat pairs.old) (flat pairs.new))
-        (StopsExactItems (2 * count - length (flat pairs.old)))
+    ensures does { DoesUnder (PutsItems FitsCanonically (flat pairs.old) (flat pairs.new))
+        (RejectsCanonicalItems (2 * count - length (flat pairs.old)))
         (S.view reader.old) (S.view reader.new) (answered result failure.new) }
     ensures few { OnSome result (length (flat pairs.new) ≤ 2 * count) }
     ensures progress { OnSome result ((S.view reader.new).bound + 1 ≤ (S.view reader.old).bound) }
@@ -534,8 +537,8 @@ fn members_inside<S: Source>(
     failure: &mut Option<DecodeError<S::Error>>,
 ) -> Option<()>
     requires { length (flat pairs.old) < 2 * count }
-    ensures does { DoesUnder (PutsItemsUnder Exactly (flat pairs.old) (flat pairs.new))
-        (StopsItemsUnder Exactly StopsExactly (2 * count - length (flat pairs.old)))
+    ensures does { DoesUnder (PutsItemsUnder FitsCanonically (flat pairs.old) (flat pairs.new))
+        (RejectsItemsUnder FitsCanonically RejectsCanonically (2 * count - length (flat pairs.old)))
         (S.view reader.old) (S.view reader.new) (answered result failure.new) }
     ensures few { OnSome result (length (flat pairs.new) ≤ 2 * count) }
     ensures progress { OnSome result ((S.view reader.new).bound + 1 ≤ (S.view reader.old).bound) }

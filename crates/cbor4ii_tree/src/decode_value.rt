@@ -7,28 +7,30 @@ ghost use Rattle.std.specs.Prelude.{◌≡◌, ◌+◌, ◌-◌, ◌*◌, ◌<�
 ghost use Rattle.std.specs.Prelude.{IsTrue, true, false, length};
 ghost use Rattle.std.specs.Prelude.{OnSome, IfSome};
 ghost use Rattle.cbor4ii_tree.specs.Does.{DoesUnder, answered};
-ghost use Rattle.cbor4ii_tree.specs.Valuing.{ReadsOneValue, StopsOneValue, ReadsUnder, StopsUnder};
-ghost use Rattle.cbor4ii_tree.specs.Valuing.{ReadsStepped, StopsOf, StopsMajor, StopsFirst};
-ghost use Rattle.cbor4ii_tree.specs.Valuing.{ReadsVec, ReadsArrayInside, ReadsItems, StopsItems};
-ghost use Rattle.cbor4ii_tree.specs.Valuing.{ReadsOpenItems, StopsOpenItems, ReadsMapInside};
-ghost use Rattle.cbor4ii_tree.specs.Valuing.{ReadsMembers, StopsMembers, ReadsOpenMembers};
-ghost use Rattle.cbor4ii_tree.specs.Valuing.{StopsOpenMembers, ReadsMember, StopsMember};
+ghost use Rattle.cbor4ii_tree.specs.Valuing.{ReadsOneValue, RejectsOneValue, ReadsUnder};
+ghost use Rattle.cbor4ii_tree.specs.Valuing.{RejectsUnder};
+ghost use Rattle.cbor4ii_tree.specs.Valuing.{ReadsStepped, RejectsOf, RejectsMajor, RejectsFirst};
+ghost use Rattle.cbor4ii_tree.specs.Valuing.{ReadsVec, ReadsArrayInside, ReadsItems, RejectsItems};
+ghost use Rattle.cbor4ii_tree.specs.Valuing.{ReadsIndefiniteItems, RejectsIndefiniteItems};
+ghost use Rattle.cbor4ii_tree.specs.Valuing.{ReadsMapInside};
+ghost use Rattle.cbor4ii_tree.specs.Valuing.{ReadsMembers, RejectsMembers, ReadsIndefiniteMembers};
+ghost use Rattle.cbor4ii_tree.specs.Valuing.{RejectsIndefiniteMembers, ReadsMember, RejectsMember};
 ghost use Rattle.cbor4ii_tree.specs.Valuing.{ReadsTagged, TakesLength, TakesSimple, TakesTag};
 ghost use Rattle.cbor4ii_tree.specs.Valuing.{MakesArray, MakesMap};
-ghost use Rattle.cbor4ii_tree.specs.Leaf.{CanTake, DoesBehindNext};
+ghost use Rattle.cbor4ii_tree.specs.Leaf.{CanTake, DoesAfterNext};
 ghost use Rattle.cbor4ii_tree.specs.LeafRuns.{flat, KeepsItems, PutsItems, PutsItemsUnder};
-ghost use Rattle.cbor4ii_tree.specs.LeafRuns.{StopsItemsUnder};
-ghost use Rattle.cbor4ii_tree.specs.StopsReading.{Readable};
-ghost use Rattle.cbor4ii_items.specs.Refusal.{is_out_of_memory};
-ghost use Rattle.cbor4ii_tree.specs.Refusal.{tag_name, array_name, map_name};
+ghost use Rattle.cbor4ii_tree.specs.LeafRuns.{RejectsItemsUnder};
+ghost use Rattle.cbor4ii_tree.specs.ReadingRejects.{Readable};
+ghost use Rattle.cbor4ii_items.specs.InputError.{is_out_of_memory};
+ghost use Rattle.cbor4ii_tree.specs.InputError.{tag_name, array_name, map_name};
 ghost use Rattle.cbor4ii_tree.specs.Item.{IsItem, AreItems, AreMembers};
 ghost use Rattle.cbor4ii_tree.specs.View.{view, items_view, members_view};
-ghost use Rattle.cbor4ii_tree.specs.Promises.{value_spelling, OnlyReads, AllReads, FrontReads};
+ghost use Rattle.cbor4ii_tree.specs.Promises.{value_format, OnlyReads, AllReads, PrefixReads};
 ghost use Rattle.cbor4ii_tree.specs.Promises.{EofReads, DepthReads, FinalReads, Others, SizeReads};
 ghost use Rattle.cbor4ii_tree.specs.Promises.{ExactReads, SkipsReads, CanonicalReads};
 ghost use Rattle.cbor4ii_items.specs.Decoding.{Decodes};
-ghost use Rattle.cbor4ii_items.specs.Numbers.{argument_spelling};
-ghost use Rattle.cbor4ii_items.specs.Lengths.{length_spelling};
+ghost use Rattle.cbor4ii_items.specs.Numbers.{argument_format};
+ghost use Rattle.cbor4ii_items.specs.Lengths.{length_format};
 ghost use Rattle.cbor4ii_tree.specs.Laws.Values.{value_lawful};
 
 use crate::leaf::{Looked, Next, take_leaf};
@@ -36,7 +38,7 @@ use crate::run::{Pairs, Parts, put_value, take_run};
 use crate::simple::{read_float, simple_of};
 use crate::slot::{keep, leave_deep, part, whole};
 use crate::value::Value;
-use cbor4ii_items::decode::{Decode, Spelled};
+use cbor4ii_items::decode::{Decodable, Decode};
 use cbor4ii_items::indefinite::is_break;
 use cbor4ii_items::major;
 use cbor4ii_items::reserve::items_ahead;
@@ -46,13 +48,13 @@ use cbor4ii_rw::read::Source;
 use std::alloc::Global;
 
 /// The first byte of an array of indefinite length, which is its head.
-const OPEN_ARRAY: u8 = 0x9f;
+const INDEFINITE_ARRAY: u8 = 0x9f;
 
 /// The first byte of a map of indefinite length, which is its head.
-const OPEN_MAP: u8 = 0xbf;
+const INDEFINITE_MAP: u8 = 0xbf;
 
-impl Spelled for Value {
-    ghost spelling = { value_spelling };
+impl Decodable for Value {
+    ghost format = { value_format };
 
     fn is_never_empty() -> bool {
         true
@@ -61,7 +63,7 @@ impl Spelled for Value {
     ghost lawful = { value_lawful };
 }
 
-/// A value is read from each of its spellings whose steps fit the budget: heads of any width,
+/// A value is read from each of its encodings whose steps fit the budget: heads of any width,
 /// lengths given or not, the chunks of a string joined. Null is read from `f6` and `f7`, floats
 /// keep their width and bits, pairs their order, and equal keys stay.
 ///
@@ -71,8 +73,8 @@ impl Spelled for Value {
 ///
 /// # Errors
 ///
-/// `Read` and `OutOfMemory` are told at `Decode::decode`. At the others what stands before the
-/// refused byte is taken, and each `Eof` leaves nothing (RFC 8949 appendix F):
+/// `Read` and `OutOfMemory` are described at `Decode::decode`. At the others what stands before the
+/// rejected byte is taken, and each `Eof` leaves nothing (RFC 8949 appendix F):
 ///
 /// - `DepthOverflow` by "value": no step is left for a value. Nothing of it is taken
 /// - `DepthOverflow` by "array" or "map": no second step is left for an array or a map. Nothing of
@@ -96,12 +98,12 @@ impl Spelled for Value {
 impl<S: Source> Decode<S> for Value {
     #[inline(always)]
     fn decode(alloc: Global, reader: &mut S) -> Result<Value, DecodeError<S::Error>>
-        ensures decodes { Decodes value_spelling
+        ensures decodes { Decodes value_format
             (S.view reader.old) (S.view reader.new) result }
 
         ensures only { OnlyReads (S.view reader.old) (S.view reader.new) result }
         ensures all { AllReads (S.view reader.old) (S.view reader.new) result }
-        ensures front { FrontReads (S.view reader.old) result }
+        ensures prefix { PrefixReads (S.view reader.old) result }
         ensures eof { EofReads (S.view reader.old) (S.view reader.new) result }
         ensures depth { DepthReads (S.view reader.old) result }
         ensures never { FinalReads (S.view reader.old) result }
@@ -127,7 +129,7 @@ fn read_outermost<S: Source>(
     reader: &mut S,
     failure: &mut Option<DecodeError<S::Error>>,
 ) -> Option<Value>
-    ensures does { DoesUnder ReadsOneValue StopsOneValue (S.view reader.old) (S.view reader.new)
+    ensures does { DoesUnder ReadsOneValue RejectsOneValue (S.view reader.old) (S.view reader.new)
         (answered result failure.new) }
     ensures item { IfSome result (λ v. IsItem (view v)) }
     ensures progress { OnSome result ((S.view reader.new).bound + 1 ≤ (S.view reader.old).bound) }
@@ -147,7 +149,7 @@ fn read_apart<S: Source>(
     reader: &mut S,
     failure: &mut Option<DecodeError<S::Error>>,
 ) -> Option<Value>
-    ensures does { DoesUnder ReadsUnder StopsUnder (S.view reader.old) (S.view reader.new)
+    ensures does { DoesUnder ReadsUnder RejectsUnder (S.view reader.old) (S.view reader.new)
         (answered result failure.new) }
     ensures item { IfSome result (λ v. IsItem (view v)) }
     ensures progress { OnSome result ((S.view reader.new).bound + 1 ≤ (S.view reader.old).bound) }
@@ -155,7 +157,7 @@ fn read_apart<S: Source>(
     read_inside(alloc, reader, failure)
 }
 
-/// Reads one value. Where it does not, the refusal goes to `failure`, which is left empty where
+/// Reads one value. Where it does not, the error goes to `failure`, which is left empty where
 /// memory was refused: no large answer is handed up from level to level.
 #[cycle(read)]
 #[inline(always)]
@@ -164,7 +166,7 @@ fn read_value<S: Source>(
     reader: &mut S,
     failure: &mut Option<DecodeError<S::Error>>,
 ) -> Option<Value>
-    ensures does { DoesUnder ReadsOneValue StopsOneValue (S.view reader.old) (S.view reader.new)
+    ensures does { DoesUnder ReadsOneValue RejectsOneValue (S.view reader.old) (S.view reader.new)
         (answered result failure.new) }
     ensures item { IfSome result (λ v. IsItem (view v)) }
     ensures progress { OnSome result ((S.view reader.new).bound + 1 ≤ (S.view reader.old).bound) }
@@ -186,7 +188,7 @@ fn read_inside<S: Source>(
     reader: &mut S,
     failure: &mut Option<DecodeError<S::Error>>,
 ) -> Option<Value>
-    ensures does { DoesUnder ReadsUnder StopsUnder (S.view reader.old) (S.view reader.new)
+    ensures does { DoesUnder ReadsUnder RejectsUnder (S.view reader.old) (S.view reader.new)
         (answered result failure.new) }
     ensures item { IfSome result (λ v. IsItem (view v)) }
     ensures progress { OnSome result ((S.view reader.new).bound + 1 ≤ (S.view reader.old).bound) }
@@ -207,7 +209,7 @@ fn read_next<S: Source>(
     failure: &mut Option<DecodeError<S::Error>>,
 ) -> Option<Value>
     requires { CanTake next (S.view reader.old) }
-    ensures does { DoesBehindNext ⊥ next ReadsUnder StopsUnder
+    ensures does { DoesAfterNext ⊥ next ReadsUnder RejectsUnder
         (S.view reader.old) (S.view reader.new) (answered result failure.new) }
     ensures item { IfSome result (λ v. IsItem (view v)) }
     ensures progress { OnSome result ((S.view reader.new).bound + 1 ≤ (S.view reader.old).bound) }
@@ -220,7 +222,7 @@ fn read_next<S: Source>(
     }
 }
 
-/// Reads a tag, and the value behind it.
+/// Reads a tag, and the value after it.
 #[cycle(read)]
 #[inline(always)]
 fn read_tag<S: Source>(
@@ -231,7 +233,7 @@ fn read_tag<S: Source>(
 ) -> Option<Value>
     requires can { CanTake next (S.view reader.old) }
     requires major { next.first / 32 ≡ 6 }
-    ensures does { DoesBehindNext ⊥ next ReadsUnder (StopsOf 6)
+    ensures does { DoesAfterNext ⊥ next ReadsUnder (RejectsOf 6)
         (S.view reader.old) (S.view reader.new) (answered result failure.new) }
     ensures item { IfSome result (λ v. IsItem (view v)) }
     ensures progress { OnSome result ((S.view reader.new).bound + 1 ≤ (S.view reader.old).bound) }
@@ -240,7 +242,7 @@ fn read_tag<S: Source>(
     read_tagged(alloc, reader, number, failure)
 }
 
-/// Reads the value behind the head of a tag.
+/// Reads the value after the head of a tag.
 #[cycle(read)]
 #[inline(never)]
 fn read_tagged<S: Source>(
@@ -249,7 +251,7 @@ fn read_tagged<S: Source>(
     number: u64,
     failure: &mut Option<DecodeError<S::Error>>,
 ) -> Option<Value>
-    ensures does { DoesUnder (ReadsTagged number) StopsOneValue
+    ensures does { DoesUnder (ReadsTagged number) RejectsOneValue
         (S.view reader.old) (S.view reader.new) (answered result failure.new) }
     ensures item { IfSome result (λ v. IsItem (view v)) }
     ensures progress { OnSome result ((S.view reader.new).bound + 1 ≤ (S.view reader.old).bound) }
@@ -273,7 +275,7 @@ fn take_tag<S: Source>(
 ) -> Option<u64>
     requires can { CanTake next (S.view reader.old) }
     requires major { next.first / 32 ≡ 6 }
-    ensures does { DoesBehindNext ⊥ next TakesTag (StopsOf 6)
+    ensures does { DoesAfterNext ⊥ next TakesTag (RejectsOf 6)
         (S.view reader.old) (S.view reader.new) (answered result failure.new) }
     ensures memory { IfErr (answered result failure.new)
         (λ error. IsTrue (is_out_of_memory error) → IsTrue false) }
@@ -291,7 +293,7 @@ fn take_tag<S: Source>(
 /// The same of a head that no look has shown whole. It stays out of line, as `read_alone`.
 #[inline(never)]
 fn tag_number<S: Source>(reader: &mut S, failure: &mut Option<DecodeError<S::Error>>) -> Option<u64>
-    ensures { Decodes (argument_spelling tag_name 6 8)
+    ensures { Decodes (argument_format tag_name 6 8)
         (S.view reader.old) (S.view reader.new) (answered result failure.new) }
 {
     part(Tag::tag(reader), failure)
@@ -310,7 +312,7 @@ fn read_alone<S: Source>(
     requires major { (first / 32 ≤ 3) ⊎ (first / 32 ≡ 7) }
     ensures does { TakesSimple first
         (S.view reader.old) (S.view reader.new) (answered result failure.new)
-        ⊎ DoesUnder ReadsUnder (StopsFirst first)
+        ⊎ DoesUnder ReadsUnder (RejectsFirst first)
         (S.view reader.old) (S.view reader.new) (answered result failure.new) }
     ensures item { IfSome result (λ v. IsItem (view v)) }
     ensures progress { OnSome result ((S.view reader.new).bound + 1 ≤ (S.view reader.old).bound) }
@@ -335,7 +337,7 @@ fn read_leaf<S: Source>(
     first: u8,
 ) -> Result<Value, DecodeError<S::Error>>
     requires major { first / 32 ≤ 3 }
-    ensures does { DoesUnder ReadsUnder (StopsFirst first)
+    ensures does { DoesUnder ReadsUnder (RejectsFirst first)
         (S.view reader.old) (S.view reader.new) result }
     ensures item { IfOk result (λ v. IsItem (view v)) }
     ensures progress { OnOk result ((S.view reader.new).bound + 1 ≤ (S.view reader.old).bound) }
@@ -362,7 +364,7 @@ fn read_array<S: Source>(
 ) -> Option<Value>
     requires can { CanTake next (S.view reader.old) }
     requires major { next.first / 32 ≡ 4 }
-    ensures does { DoesBehindNext ⊥ next (ReadsStepped (MakesArray ReadsArrayInside)) (StopsOf 4)
+    ensures does { DoesAfterNext ⊥ next (ReadsStepped (MakesArray ReadsArrayInside)) (RejectsOf 4)
         (S.view reader.old) (S.view reader.new) (answered result failure.new) }
     ensures item { IfSome result (λ v. IsItem (view v)) }
     ensures progress { OnSome result ((S.view reader.new).bound + 1 ≤ (S.view reader.old).bound) }
@@ -386,15 +388,15 @@ fn array_inside<S: Source>(
 ) -> Option<Value>
     requires can { CanTake next (S.view reader.old) }
     requires major { next.first / 32 ≡ 4 }
-    ensures does { DoesBehindNext ⊥ next (MakesArray ReadsArrayInside) (StopsMajor 4)
+    ensures does { DoesAfterNext ⊥ next (MakesArray ReadsArrayInside) (RejectsMajor 4)
         (S.view reader.old) (S.view reader.new) (answered result failure.new) }
     ensures item { IfSome result (λ v. IsItem (view v)) }
     ensures progress { OnSome result ((S.view reader.new).bound + 1 ≤ (S.view reader.old).bound) }
 {
     match take_array(reader, next, failure)? {
         Some(0) => Some(Value::Array(Vec::new(alloc))),
-        Some(count) => Some(Value::Array(counted_items(alloc, reader, count, failure)?)),
-        None => Some(Value::Array(open_items(alloc, reader, failure)?)),
+        Some(count) => Some(Value::Array(definite_items(alloc, reader, count, failure)?)),
+        None => Some(Value::Array(indefinite_items(alloc, reader, failure)?)),
     }
 }
 
@@ -408,7 +410,7 @@ fn take_array<S: Source>(
 ) -> Option<Option<usize>>
     requires can { CanTake next (S.view reader.old) }
     requires major { next.first / 32 ≡ 4 }
-    ensures does { DoesBehindNext ⊥ next (TakesLength 4) (StopsMajor 4)
+    ensures does { DoesAfterNext ⊥ next (TakesLength 4) (RejectsMajor 4)
         (S.view reader.old) (S.view reader.new) (answered result failure.new) }
     ensures memory { IfErr (answered result failure.new)
         (λ error. IsTrue (is_out_of_memory error) → IsTrue false) }
@@ -419,7 +421,7 @@ fn take_array<S: Source>(
             reader.advance(head.size);
             Some(Some(head.argument as usize))
         }
-        None if next.first == OPEN_ARRAY => {
+        None if next.first == INDEFINITE_ARRAY => {
             reader.advance(1);
             Some(None)
         }
@@ -433,7 +435,7 @@ fn array_length<S: Source>(
     reader: &mut S,
     failure: &mut Option<DecodeError<S::Error>>,
 ) -> Option<Option<usize>>
-    ensures { Decodes (length_spelling array_name 4)
+    ensures { Decodes (length_format array_name 4)
         (S.view reader.old) (S.view reader.new) (answered result failure.new) }
 {
     part(Array::len(reader), failure)
@@ -442,13 +444,13 @@ fn array_length<S: Source>(
 /// Reads so many items.
 #[cycle(read)]
 #[inline(never)]
-fn counted_items<S: Source>(
+fn definite_items<S: Source>(
     alloc: Global,
     reader: &mut S,
     count: usize,
     failure: &mut Option<DecodeError<S::Error>>,
 ) -> Option<Vec<Value>>
-    ensures does { DoesUnder (ReadsVec (ReadsItems count)) (StopsItems count)
+    ensures does { DoesUnder (ReadsVec (ReadsItems count)) (RejectsItems count)
         (S.view reader.old) (S.view reader.new) (answered result failure.new) }
     ensures items { IfSome result (λ v. AreItems (items_view v.items)) }
 {
@@ -463,7 +465,7 @@ fn counted_items<S: Source>(
     Some(items)
 }
 
-/// Reads the items that come next, as many as one look decides, and the one behind them
+/// Reads the items that come next, as many as one look decides, and the one after them
 /// that it leaves undecided.
 #[cycle(read)]
 #[inline(always)]
@@ -476,7 +478,7 @@ fn more_items<S: Source>(
 ) -> Option<()>
     requires { length items.old.items < 1 * count }
     ensures does { DoesUnder (PutsItems Readable items.old.items items.new.items)
-        (StopsItems (1 * count - length items.old.items))
+        (RejectsItems (1 * count - length items.old.items))
         (S.view reader.old) (S.view reader.new) (answered result failure.new) }
     ensures items { OnSome result (KeepsItems items.old.items items.new.items) }
     ensures few { OnSome result (length items.new.items ≤ 1 * count) }
@@ -503,7 +505,7 @@ fn items_inside<S: Source>(
 ) -> Option<()>
     requires { length items.old.items < 1 * count }
     ensures does { DoesUnder (PutsItemsUnder Readable items.old.items items.new.items)
-        (StopsItemsUnder Readable StopsOneValue (1 * count - length items.old.items))
+        (RejectsItemsUnder Readable RejectsOneValue (1 * count - length items.old.items))
         (S.view reader.old) (S.view reader.new) (answered result failure.new) }
     ensures items { OnSome result (KeepsItems items.old.items items.new.items) }
     ensures few { OnSome result (length items.new.items ≤ 1 * count) }
@@ -518,7 +520,7 @@ fn items_inside<S: Source>(
     }
 }
 
-/// Reads the keys and values that come next, as many as one look decides, and the one behind them
+/// Reads the keys and values that come next, as many as one look decides, and the one after them
 /// that it leaves undecided.
 #[cycle(read)]
 #[inline(always)]
@@ -531,7 +533,7 @@ fn more_members<S: Source>(
 ) -> Option<()>
     requires { length (flat pairs.old) < 2 * count }
     ensures does { DoesUnder (PutsItems Readable (flat pairs.old) (flat pairs.new))
-        (StopsItems (2 * count - length (flat pairs.old)))
+        (RejectsItems (2 * count - length (flat pairs.old)))
         (S.view reader.old) (S.view reader.new) (answered result failure.new) }
     ensures items { OnSome result (KeepsItems (flat pairs.old) (flat pairs.new)) }
     ensures few { OnSome result (length (flat pairs.new) ≤ 2 * count) }
@@ -558,7 +560,7 @@ fn members_inside<S: Source>(
 ) -> Option<()>
     requires { length (flat pairs.old) < 2 * count }
     ensures does { DoesUnder (PutsItemsUnder Readable (flat pairs.old) (flat pairs.new))
-        (StopsItemsUnder Readable StopsOneValue (2 * count - length (flat pairs.old)))
+        (RejectsItemsUnder Readable RejectsOneValue (2 * count - length (flat pairs.old)))
         (S.view reader.old) (S.view reader.new) (answered result failure.new) }
     ensures items { OnSome result (KeepsItems (flat pairs.old) (flat pairs.new)) }
     ensures few { OnSome result (length (flat pairs.new) ≤ 2 * count) }
@@ -575,12 +577,12 @@ fn members_inside<S: Source>(
 
 #[cycle(read)]
 #[inline(never)]
-fn open_items<S: Source>(
+fn indefinite_items<S: Source>(
     alloc: Global,
     reader: &mut S,
     failure: &mut Option<DecodeError<S::Error>>,
 ) -> Option<Vec<Value>>
-    ensures does { DoesUnder (ReadsVec ReadsOpenItems) StopsOpenItems
+    ensures does { DoesUnder (ReadsVec ReadsIndefiniteItems) RejectsIndefiniteItems
         (S.view reader.old) (S.view reader.new) (answered result failure.new) }
     ensures items { IfSome result (λ v. AreItems (items_view v.items)) }
 {
@@ -603,7 +605,7 @@ fn read_map<S: Source>(
 ) -> Option<Value>
     requires can { CanTake next (S.view reader.old) }
     requires major { next.first / 32 ≡ 5 }
-    ensures does { DoesBehindNext ⊥ next (ReadsStepped (MakesMap ReadsMapInside)) (StopsOf 5)
+    ensures does { DoesAfterNext ⊥ next (ReadsStepped (MakesMap ReadsMapInside)) (RejectsOf 5)
         (S.view reader.old) (S.view reader.new) (answered result failure.new) }
     ensures item { IfSome result (λ v. IsItem (view v)) }
     ensures progress { OnSome result ((S.view reader.new).bound + 1 ≤ (S.view reader.old).bound) }
@@ -627,15 +629,15 @@ fn map_inside<S: Source>(
 ) -> Option<Value>
     requires can { CanTake next (S.view reader.old) }
     requires major { next.first / 32 ≡ 5 }
-    ensures does { DoesBehindNext ⊥ next (MakesMap ReadsMapInside) (StopsMajor 5)
+    ensures does { DoesAfterNext ⊥ next (MakesMap ReadsMapInside) (RejectsMajor 5)
         (S.view reader.old) (S.view reader.new) (answered result failure.new) }
     ensures item { IfSome result (λ v. IsItem (view v)) }
     ensures progress { OnSome result ((S.view reader.new).bound + 1 ≤ (S.view reader.old).bound) }
 {
     match take_map(reader, next, failure)? {
         Some(0) => Some(Value::Map(Vec::new(alloc))),
-        Some(count) => Some(Value::Map(counted_members(alloc, reader, count, failure)?)),
-        None => Some(Value::Map(open_members(alloc, reader, failure)?)),
+        Some(count) => Some(Value::Map(definite_members(alloc, reader, count, failure)?)),
+        None => Some(Value::Map(indefinite_members(alloc, reader, failure)?)),
     }
 }
 
@@ -649,7 +651,7 @@ fn take_map<S: Source>(
 ) -> Option<Option<usize>>
     requires can { CanTake next (S.view reader.old) }
     requires major { next.first / 32 ≡ 5 }
-    ensures does { DoesBehindNext ⊥ next (TakesLength 5) (StopsMajor 5)
+    ensures does { DoesAfterNext ⊥ next (TakesLength 5) (RejectsMajor 5)
         (S.view reader.old) (S.view reader.new) (answered result failure.new) }
     ensures memory { IfErr (answered result failure.new)
         (λ error. IsTrue (is_out_of_memory error) → IsTrue false) }
@@ -660,7 +662,7 @@ fn take_map<S: Source>(
             reader.advance(head.size);
             Some(Some(head.argument as usize))
         }
-        None if next.first == OPEN_MAP => {
+        None if next.first == INDEFINITE_MAP => {
             reader.advance(1);
             Some(None)
         }
@@ -674,7 +676,7 @@ fn map_length<S: Source>(
     reader: &mut S,
     failure: &mut Option<DecodeError<S::Error>>,
 ) -> Option<Option<usize>>
-    ensures { Decodes (length_spelling map_name 5)
+    ensures { Decodes (length_format map_name 5)
         (S.view reader.old) (S.view reader.new) (answered result failure.new) }
 {
     part(Map::len(reader), failure)
@@ -683,13 +685,13 @@ fn map_length<S: Source>(
 /// Reads so many pairs.
 #[cycle(read)]
 #[inline(never)]
-fn counted_members<S: Source>(
+fn definite_members<S: Source>(
     alloc: Global,
     reader: &mut S,
     count: usize,
     failure: &mut Option<DecodeError<S::Error>>,
 ) -> Option<Vec<(Value, Value)>>
-    ensures does { DoesUnder (ReadsVec (ReadsMembers count)) (StopsMembers count)
+    ensures does { DoesUnder (ReadsVec (ReadsMembers count)) (RejectsMembers count)
         (S.view reader.old) (S.view reader.new) (answered result failure.new) }
     ensures items { IfSome result (λ v. AreMembers (members_view v.items)) }
 {
@@ -709,12 +711,12 @@ fn counted_members<S: Source>(
 
 #[cycle(read)]
 #[inline(never)]
-fn open_members<S: Source>(
+fn indefinite_members<S: Source>(
     alloc: Global,
     reader: &mut S,
     failure: &mut Option<DecodeError<S::Error>>,
 ) -> Option<Vec<(Value, Value)>>
-    ensures does { DoesUnder (ReadsVec ReadsOpenMembers) StopsOpenMembers
+    ensures does { DoesUnder (ReadsVec ReadsIndefiniteMembers) RejectsIndefiniteMembers
         (S.view reader.old) (S.view reader.new) (answered result failure.new) }
     ensures items { IfSome result (λ v. AreMembers (members_view v.items)) }
 {
@@ -726,7 +728,7 @@ fn open_members<S: Source>(
     Some(members)
 }
 
-/// Reads a key, and the value behind it. No break is looked for between the two.
+/// Reads a key, and the value after it. No break is looked for between the two.
 #[cycle(read)]
 #[inline(always)]
 fn read_member<S: Source>(
@@ -734,7 +736,7 @@ fn read_member<S: Source>(
     reader: &mut S,
     failure: &mut Option<DecodeError<S::Error>>,
 ) -> Option<(Value, Value)>
-    ensures does { DoesUnder ReadsMember StopsMember
+    ensures does { DoesUnder ReadsMember RejectsMember
         (S.view reader.old) (S.view reader.new) (answered result failure.new) }
     ensures key { IfSome result (λ member. IsItem (view member.0)) }
     ensures value { IfSome result (λ member. IsItem (view member.1)) }

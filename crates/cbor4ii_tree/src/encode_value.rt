@@ -1,13 +1,13 @@
 //! Values, written.
 ghost use Rattle.std.specs.Prelude.{◌++◌, ◌<◌, ◌≤◌, ℕ, List, length, OnOk, OnSome, IfNone, IsSome};
-ghost use Rattle.cbor4ii_items.specs.Writing.{Writes, WritesWhole};
+ghost use Rattle.cbor4ii_items.specs.Writing.{Writes, WritesAtomically};
 ghost use Rattle.cbor4ii_items.specs.Numbers.{shortest_head};
-ghost use Rattle.cbor4ii_items.specs.Strings.{counted_string};
+ghost use Rattle.cbor4ii_items.specs.Strings.{definite_string};
 ghost use Rattle.cbor4ii_items.specs.SequenceBytes.{items_bytes};
 ghost use Rattle.cbor4ii_items.specs.Decoding.{CostFits};
 ghost use Rattle.cbor4ii_tree.specs.Cost.{Budget};
-ghost use Rattle.cbor4ii_tree.specs.Canonical.{canon, canon_cost, with_bignums};
-ghost use Rattle.cbor4ii_tree.specs.Spelling.{Spells, ReadsPlainly};
+ghost use Rattle.cbor4ii_tree.specs.Canonical.{canonical_encoding, canonical_cost, with_bignums};
+ghost use Rattle.cbor4ii_tree.specs.Encodings.{Encodes, DecodesTo};
 ghost use Rattle.cbor4ii_tree.specs.Encoding.{value_bytes, member_bytes};
 ghost use Rattle.cbor4ii_tree.specs.Sending.{sent, Sends};
 ghost use Rattle.cbor4ii_tree.specs.View.{view, items_view, members_view, float_view};
@@ -22,28 +22,30 @@ use cbor4ii_items::types::{Bytes, F16, F32, F64, Null, Tag};
 use cbor4ii_rw::error::EncodeError;
 use cbor4ii_rw::write::Write;
 
-/// A value is written as its canonical spelling (RFC 8949 section 4.1): shortest heads, lengths
+/// A value is written as its canonical encoding (RFC 8949 section 4.1): shortest heads, lengths
 /// given, null as `f6`, floats in their own width, integers beyond 64 bits as bignums without
 /// leading zeros (section 3.4.3). Pairs keep their order.
 impl Encode for Value {
-    ghost bytes = { λ v. canon (view v) };
+    ghost bytes = { λ v. canonical_encoding (view v) };
 
-    /// Appends the value's canonical spelling to what `writer` holds: one push a head, a string's
+    /// Appends the value's canonical encoding to what `writer` holds: one push a head, a string's
     /// content, a float or a simple value. It is read back from there, with bignums as tags.
     ///
     /// # Errors
     ///
-    /// `Write`: the writer failed in the call. A whole writer then holds what it held before and a
-    /// beginning of the spelling.
+    /// `Write`: the writer failed in the call. An atomic writer then holds what it held before and
+    /// a beginning of the encoding.
     fn encode<W: Write>(&self, writer: &mut W) -> Result<(), EncodeError<W::Error>>
-        ensures writes { Writes W.whole (canon (view self.now))
+        ensures writes { Writes W.atomic (canonical_encoding (view self.now))
             (W.view writer.old) (W.view writer.new) result }
         ensures item { OnOk result (IsItem (view self.now)) }
-        ensures spells { OnOk result (Spells
-            (canon (view self.now)) (with_bignums (view self.now)) (canon_cost (view self.now))) }
+        ensures encodes { OnOk result (Encodes
+            (canonical_encoding (view self.now)) (with_bignums (view self.now))
+            (canonical_cost (view self.now))) }
         ensures reads_back { OnOk result ((budget : Budget) (more : List ℕ) →
-            CostFits (canon_cost (view self.now)) budget →
-            ReadsPlainly (canon (view self.now) ++ more) budget (with_bignums (view self.now))
+            CostFits (canonical_cost (view self.now)) budget →
+            DecodesTo (canonical_encoding (view self.now) ++ more) budget
+            (with_bignums (view self.now))
             more) }
     {
         let mut failure = None;
@@ -63,7 +65,7 @@ fn put_value<W: Write>(
     value: &Value,
     failure: &mut Option<EncodeError<W::Error>>,
 ) -> Option<()>
-    ensures writes { Writes W.whole (value_bytes value.now)
+    ensures writes { Writes W.atomic (value_bytes value.now)
         (W.view writer.old) (W.view writer.new) (sent result failure.new) }
     ensures item { OnSome result (IsItem (view value.now)) }
     ensures failed { IfNone result (IsSome failure.new) }
@@ -88,7 +90,7 @@ fn put<W: Write, T: Encode>(
     item: &T,
     failure: &mut Option<EncodeError<W::Error>>,
 ) -> Option<()>
-    ensures writes { Writes W.whole (T.bytes item.now)
+    ensures writes { Writes W.atomic (T.bytes item.now)
         (W.view writer.old) (W.view writer.new) (sent result failure.new) }
     ensures failed { IfNone result (IsSome failure.new) }
 {
@@ -105,7 +107,7 @@ fn put_head<W: Write>(
     failure: &mut Option<EncodeError<W::Error>>,
 ) -> Option<()>
     requires { major < 8 }
-    ensures writes { WritesWhole W.whole (shortest_head major argument)
+    ensures writes { WritesAtomically W.atomic (shortest_head major argument)
         (W.view writer.old) (W.view writer.new) (sent result failure.new) }
     ensures failed { IfNone result (IsSome failure.new) }
 {
@@ -128,7 +130,7 @@ fn put_long_head<W: Write>(
 ) -> Option<()>
     requires major { major < 8 }
     requires long { 256 ≤ argument }
-    ensures writes { WritesWhole W.whole (shortest_head major argument)
+    ensures writes { WritesAtomically W.atomic (shortest_head major argument)
         (W.view writer.old) (W.view writer.new) (sent result failure.new) }
     ensures failed { IfNone result (IsSome failure.new) }
 {
@@ -156,7 +158,7 @@ fn put_string<W: Write>(
     failure: &mut Option<EncodeError<W::Error>>,
 ) -> Option<()>
     requires { major < 8 }
-    ensures writes { Writes W.whole (counted_string major content.now)
+    ensures writes { Writes W.atomic (definite_string major content.now)
         (W.view writer.old) (W.view writer.new) (sent result failure.new) }
     ensures failed { IfNone result (IsSome failure.new) }
 {
@@ -171,7 +173,7 @@ fn push<W: Write>(
     bytes: &[u8],
     failure: &mut Option<EncodeError<W::Error>>,
 ) -> Option<()>
-    ensures writes { WritesWhole W.whole bytes.now
+    ensures writes { WritesAtomically W.atomic bytes.now
         (W.view writer.old) (W.view writer.new) (sent result failure.new) }
     ensures failed { IfNone result (IsSome failure.new) }
 {
@@ -205,7 +207,7 @@ fn put_integer<W: Write>(
     number: i128,
     failure: &mut Option<EncodeError<W::Error>>,
 ) -> Option<()>
-    ensures writes { Writes W.whole (canon (integer number))
+    ensures writes { Writes W.atomic (canonical_encoding (integer number))
         (W.view writer.old) (W.view writer.new) (sent result failure.new) }
     ensures item { IsItem (integer number) }
     ensures failed { IfNone result (IsSome failure.new) }
@@ -223,7 +225,7 @@ fn put_float<W: Write>(
     bits: FloatBits,
     failure: &mut Option<EncodeError<W::Error>>,
 ) -> Option<()>
-    ensures writes { Writes W.whole (canon (float_view bits))
+    ensures writes { Writes W.atomic (canonical_encoding (float_view bits))
         (W.view writer.old) (W.view writer.new) (sent result failure.new) }
     ensures item { IsItem (float_view bits) }
     ensures failed { IfNone result (IsSome failure.new) }
@@ -243,7 +245,7 @@ fn put_array<W: Write>(
     items: &[Value],
     failure: &mut Option<EncodeError<W::Error>>,
 ) -> Option<()>
-    ensures writes { Writes W.whole
+    ensures writes { Writes W.atomic
         (shortest_head 4 (length items.now) ++ items_bytes value_bytes items.now)
         (W.view writer.old) (W.view writer.new) (sent result failure.new) }
     ensures items { OnSome result (AreItems (items_view items.now)) }
@@ -261,7 +263,7 @@ fn put_map<W: Write>(
     members: &[(Value, Value)],
     failure: &mut Option<EncodeError<W::Error>>,
 ) -> Option<()>
-    ensures writes { Writes W.whole
+    ensures writes { Writes W.atomic
         (shortest_head 5 (length members.now) ++ items_bytes member_bytes members.now)
         (W.view writer.old) (W.view writer.new) (sent result failure.new) }
     ensures members { OnSome result (AreMembers (members_view members.now)) }
@@ -280,7 +282,7 @@ fn put_tag<W: Write>(
     inner: &Value,
     failure: &mut Option<EncodeError<W::Error>>,
 ) -> Option<()>
-    ensures writes { Writes W.whole (shortest_head 6 number ++ value_bytes inner.now)
+    ensures writes { Writes W.atomic (shortest_head 6 number ++ value_bytes inner.now)
         (W.view writer.old) (W.view writer.new) (sent result failure.new) }
     ensures item { OnSome result (IsItem (view inner.now)) }
     ensures failed { IfNone result (IsSome failure.new) }
@@ -295,7 +297,7 @@ fn put_items<W: Write>(
     items: &[Value],
     failure: &mut Option<EncodeError<W::Error>>,
 ) -> Option<()>
-    ensures writes { Writes W.whole (items_bytes value_bytes items.now)
+    ensures writes { Writes W.atomic (items_bytes value_bytes items.now)
         (W.view writer.old) (W.view writer.new) (sent result failure.new) }
     ensures items { OnSome result (AreItems (items_view items.now)) }
     ensures failed { IfNone result (IsSome failure.new) }
@@ -312,7 +314,7 @@ fn put_members<W: Write>(
     members: &[(Value, Value)],
     failure: &mut Option<EncodeError<W::Error>>,
 ) -> Option<()>
-    ensures writes { Writes W.whole (items_bytes member_bytes members.now)
+    ensures writes { Writes W.atomic (items_bytes member_bytes members.now)
         (W.view writer.old) (W.view writer.new) (sent result failure.new) }
     ensures members { OnSome result (AreMembers (members_view members.now)) }
     ensures failed { IfNone result (IsSome failure.new) }

@@ -1,13 +1,13 @@
 //! Items that are skipped.
-ghost use Rattle.cbor4ii_items.specs.Decoding.{Decodes, leaf_spelling};
-ghost use Rattle.cbor4ii_tree.specs.Promises.{Others, OnlySkips, AllSkips, FrontSkips, EofSkips};
+ghost use Rattle.cbor4ii_items.specs.Decoding.{Decodes, leaf_format};
+ghost use Rattle.cbor4ii_tree.specs.Promises.{Others, OnlySkips, AllSkips, PrefixSkips, EofSkips};
 ghost use Rattle.cbor4ii_tree.specs.Promises.{DepthSkips, FinalSkips, ExactSkips};
-ghost use Rattle.cbor4ii_tree.specs.Ignored.{ReadsIgnored, StopsIgnored};
+ghost use Rattle.cbor4ii_tree.specs.Ignored.{ReadsIgnored, RejectsIgnored};
 ghost use Rattle.cbor4ii_tree.specs.Laws.Ignoring.{ignored_lawful};
 
-use crate::front::Own;
+use crate::prefix::Own;
 use crate::skip::skip_item;
-use cbor4ii_items::decode::{Decode, Spelled};
+use cbor4ii_items::decode::{Decodable, Decode};
 use cbor4ii_rw::error::DecodeError;
 use cbor4ii_rw::read::Source;
 use std::alloc::Global;
@@ -17,8 +17,8 @@ use std::alloc::Global;
 pub struct IgnoredAny;
 
 /// One item is skipped, under a step for each level.
-impl Spelled for IgnoredAny {
-    ghost spelling = { leaf_spelling ReadsIgnored StopsIgnored };
+impl Decodable for IgnoredAny {
+    ghost format = { leaf_format ReadsIgnored RejectsIgnored };
 
     fn is_never_empty() -> bool {
         true
@@ -32,8 +32,8 @@ impl Spelled for IgnoredAny {
 ///
 /// # Errors
 ///
-/// `Read` is told at `Decode::decode`. The others speak of the item or of one inside it. What
-/// stands before the refused byte is taken, and each `Eof` leaves nothing:
+/// `Read` is described at `Decode::decode`. The others speak of the item or of one inside it. What
+/// stands before the rejected byte is taken, and each `Eof` leaves nothing:
 ///
 /// - `DepthOverflow` by "ignored-any": no step is left for an item. Nothing of it is taken
 /// - `Eof` by "ignored-any" with 1: no byte is left where a first byte should come
@@ -49,11 +49,11 @@ impl Spelled for IgnoredAny {
 ///   `f7` and `f9` to `fb`, and no break where one may come
 impl<S: Source> Decode<S> for IgnoredAny {
     fn decode(alloc: Global, reader: &mut S) -> Result<IgnoredAny, DecodeError<S::Error>>
-        ensures decodes { Decodes (leaf_spelling ReadsIgnored StopsIgnored)
+        ensures decodes { Decodes (leaf_format ReadsIgnored RejectsIgnored)
             (S.view reader.old) (S.view reader.new) result }
         ensures only { OnlySkips (S.view reader.old) (S.view reader.new) result }
         ensures all { AllSkips (S.view reader.old) (S.view reader.new) result }
-        ensures front { FrontSkips (S.view reader.old) result }
+        ensures prefix { PrefixSkips (S.view reader.old) result }
         ensures eof { EofSkips (S.view reader.old) (S.view reader.new) result }
         ensures depth { DepthSkips (S.view reader.old) result }
         ensures never { FinalSkips (S.view reader.old) result }

@@ -2,13 +2,13 @@
 //! (RFC 8949 section 3). Of what does not, the look hands on the first byte.
 ghost use Rattle.std.specs.Prelude.{◌≡◌, ◌≤◌, ◌+◌, ◌∷◌, ◌/◌, ◌%◌, ◌⊎◌, IfOk, OnErr, IfSome};
 ghost use Rattle.std.specs.Prelude.{true};
-ghost use Rattle.cbor4ii_rw.specs.Reader.{Breaks};
-ghost use Rattle.cbor4ii_items.specs.Head.{ArgumentBehind, byte_count, shortest};
-ghost use Rattle.cbor4ii_tree.specs.Front.{Offers};
+ghost use Rattle.cbor4ii_rw.specs.Reader.{ReaderFails};
+ghost use Rattle.cbor4ii_items.specs.Head.{ArgumentAfter, byte_count, shortest};
+ghost use Rattle.cbor4ii_tree.specs.Prefix.{Offers};
 ghost use Rattle.cbor4ii_tree.specs.Leaf.{ExactHead, SeesLeaf, SeesNext, TakesLeaf, ItemTaken};
 ghost use Rattle.cbor4ii_tree.specs.Leaf.{OnTaken};
-ghost use Rattle.cbor4ii_tree.specs.Strictly.{ReadsExactlyUnder, StopsExactlyUnder};
-ghost use Rattle.cbor4ii_tree.specs.Valuing.{ReadsUnder, StopsUnder};
+ghost use Rattle.cbor4ii_tree.specs.CanonicalCalls.{ReadsCanonicallyUnder, RejectsCanonicallyUnder};
+ghost use Rattle.cbor4ii_tree.specs.Valuing.{ReadsUnder, RejectsUnder};
 
 use crate::simple::simple_of;
 use crate::slot::{leave, leave_end};
@@ -24,7 +24,7 @@ use std::alloc::Global;
 pub(crate) enum Leaf {
     /// A value that holds no other, in so many bytes.
     Whole(Value, usize),
-    /// A string behind a head of so many bytes, whose content has no memory.
+    /// A string after a head of so many bytes, whose content has no memory.
     NoMemory(usize),
     /// No byte.
     End,
@@ -59,9 +59,9 @@ pub(crate) enum Looked {
 }
 
 /// Takes the value that comes next, where it holds no other and one look shows it whole. Where
-/// `exact` is set, its spelling has to be the canonical one. Else it takes nothing, and answers
-/// what the look has shown of the value. Where the look shows no byte, the value is refused. A
-/// refusal is left in `failure`.
+/// `exact` is set, its encoding has to be the canonical one. Else it takes nothing, and answers
+/// what the look has shown of the value. Where the look shows no byte, the value is rejected. An
+/// error is left in `failure`.
 #[inline(always)]
 pub(crate) fn take_leaf<S: Source>(
     alloc: Global,
@@ -69,9 +69,10 @@ pub(crate) fn take_leaf<S: Source>(
     exact: bool,
     failure: &mut Option<DecodeError<S::Error>>,
 ) -> Option<Looked>
-    ensures takes { TakesLeaf ⊥ ReadsUnder StopsUnder
+    ensures takes { TakesLeaf ⊥ ReadsUnder RejectsUnder
         (S.view reader.old) (S.view reader.new) result failure.new }
-    ensures exactly { exact ≡ true → TakesLeaf (Unit {0}) ReadsExactlyUnder StopsExactlyUnder
+    ensures exactly { exact ≡ true → TakesLeaf (Unit {0}) ReadsCanonicallyUnder
+        RejectsCanonicallyUnder
         (S.view reader.old) (S.view reader.new) result failure.new }
     ensures item { IfSome result ItemTaken }
     ensures progress { IfSome result (λ looked. OnTaken looked
@@ -104,7 +105,7 @@ pub(crate) fn take_leaf<S: Source>(
 fn glance<S: Source>(alloc: Global, reader: &mut S, exact: bool) -> Result<Leaf, S::Error>
     ensures offers { IfOk result (λ seen. Offers 1 (SeesLeaf (exact ≡ true) seen)
         (S.view reader.old) (S.view reader.new)) }
-    ensures breaks { OnErr result (Breaks (S.view reader.old) (S.view reader.new)) }
+    ensures breaks { OnErr result (ReaderFails (S.view reader.old) (S.view reader.new)) }
 {
     let mut failure = None;
     let want = reader.window();
@@ -119,12 +120,12 @@ fn glance<S: Source>(alloc: Global, reader: &mut S, exact: bool) -> Result<Leaf,
 pub(crate) fn leaf_of(alloc: Global, shown: &[u8], exact: bool) -> Leaf
     ensures { SeesLeaf (exact ≡ true) result shown.now }
 {
-    let [first, behind @ ..] = shown else {
+    let [first, trailing @ ..] = shown else {
         return Leaf::End;
     };
     let first = *first;
-    match argument_of(first, behind, exact) {
-        Some((number, size)) => leaf_behind(alloc, first, behind, number, size),
+    match argument_of(first, trailing, exact) {
+        Some((number, size)) => leaf_after(alloc, first, trailing, number, size),
         None => Leaf::Begins(Next { first, head: None }),
     }
 }
@@ -133,14 +134,14 @@ pub(crate) fn leaf_of(alloc: Global, shown: &[u8], exact: bool) -> Leaf
 /// stand whole in what is shown. A text that is no UTF-8, and a byte of major type 7, are left to
 /// `leaf_of`.
 #[inline(always)]
-pub(crate) fn undecided(first: u8, behind: &[u8], exact: bool) -> Option<Next>
-    ensures { IfSome result (λ n. SeesNext (exact ≡ true) n (first ∷ behind.now)) }
+pub(crate) fn undecided(first: u8, trailing: &[u8], exact: bool) -> Option<Next>
+    ensures { IfSome result (λ n. SeesNext (exact ≡ true) n (first ∷ trailing.now)) }
 {
-    let Some((argument, size)) = argument_of(first, behind, exact) else {
+    let Some((argument, size)) = argument_of(first, trailing, exact) else {
         return Some(Next { first, head: None });
     };
     match first / 32 {
-        major::BYTES | major::STRING if argument > behind[size..].len() as u64 => {
+        major::BYTES | major::STRING if argument > trailing[size..].len() as u64 => {
             Some(Next { first, head: None })
         }
         major::ARRAY | major::MAP | major::TAG => Some(Next {
@@ -154,22 +155,22 @@ pub(crate) fn undecided(first: u8, behind: &[u8], exact: bool) -> Option<Next>
     }
 }
 
-/// The argument that stands whole behind this first byte, and how many bytes it has. Where `exact`
-/// is set, it is told only of a head that canonical spellings have.
+/// The argument that stands whole after this first byte, and how many bytes it has. Where `exact`
+/// is set, it is reported only of a head that canonical encodings have.
 #[inline(always)]
-fn argument_of(first: u8, behind: &[u8], exact: bool) -> Option<(u64, usize)>
+fn argument_of(first: u8, trailing: &[u8], exact: bool) -> Option<(u64, usize)>
     ensures stands { IfSome result (λ found.
-        ArgumentBehind (first % 32) behind.now found.0 found.1) }
+        ArgumentAfter (first % 32) trailing.now found.0 found.1) }
     ensures exact { exact ≡ true → IfSome result (λ found. ExactHead first found.0 found.1) }
 {
-    let (number, size) = argument(first % 32, behind)?;
+    let (number, size) = argument(first % 32, trailing)?;
     if exact && !is_exact(first, number, size) {
         return None;
     }
     Some((number, size))
 }
 
-/// Whether a head is one that canonical spellings have. A float has one width, so each is.
+/// Whether a head is one that canonical encodings have. A float has one width, so each is.
 #[inline(always)]
 pub(crate) fn is_exact(first: u8, number: u64, size: usize) -> bool
     ensures { result ≡ true → ExactHead first number size }
@@ -181,7 +182,7 @@ pub(crate) fn is_exact(first: u8, number: u64, size: usize) -> bool
     }
 }
 
-/// In how many bytes behind the first one the shortest head has this argument.
+/// In how many bytes after the first one the shortest head has this argument.
 #[inline(always)]
 fn least_size(number: u64) -> usize
     ensures { result ≡ byte_count (shortest number) }
@@ -199,17 +200,17 @@ fn least_size(number: u64) -> usize
     }
 }
 
-/// The same, by the first byte and the argument, which has so many of the bytes behind it.
+/// The same, by the first byte and the argument, which has so many of the bytes after it.
 #[inline(always)]
-fn leaf_behind(alloc: Global, first: u8, behind: &[u8], number: u64, size: usize) -> Leaf
-    requires { ArgumentBehind (first % 32) behind.now number size }
-    ensures { SeesLeaf (ExactHead first number size) result (first ∷ behind.now) }
+fn leaf_after(alloc: Global, first: u8, trailing: &[u8], number: u64, size: usize) -> Leaf
+    requires { ArgumentAfter (first % 32) trailing.now number size }
+    ensures { SeesLeaf (ExactHead first number size) result (first ∷ trailing.now) }
 {
     match first / 32 {
         major::UNSIGNED => Leaf::Whole(Value::Integer(number as i128), 1 + size),
         major::NEGATIVE => Leaf::Whole(Value::Integer(-1 - number as i128), 1 + size),
-        major::BYTES | major::STRING => string_behind(alloc, first, behind, number, size),
-        major::SIMPLE => simple_behind(first, behind, number, size),
+        major::BYTES | major::STRING => string_after(alloc, first, trailing, number, size),
+        major::SIMPLE => simple_after(first, trailing, number, size),
         _ => Leaf::Begins(Next {
             first,
             head: Some(Head {
@@ -222,10 +223,10 @@ fn leaf_behind(alloc: Global, first: u8, behind: &[u8], number: u64, size: usize
 
 /// The same of a byte of major type 7.
 #[inline(always)]
-fn simple_behind(first: u8, behind: &[u8], number: u64, size: usize) -> Leaf
-    requires argument { ArgumentBehind (first % 32) behind.now number size }
+fn simple_after(first: u8, trailing: &[u8], number: u64, size: usize) -> Leaf
+    requires argument { ArgumentAfter (first % 32) trailing.now number size }
     requires major { first / 32 ≡ 7 }
-    ensures { SeesLeaf (ExactHead first number size) result (first ∷ behind.now) }
+    ensures { SeesLeaf (ExactHead first number size) result (first ∷ trailing.now) }
 {
     match first {
         marker::F16 => Leaf::Whole(Value::Float(FloatBits::F16(number as u16)), 3),
@@ -240,12 +241,12 @@ fn simple_behind(first: u8, behind: &[u8], number: u64, size: usize) -> Leaf
 
 /// The same of a string, whose argument says how many bytes its content has.
 #[inline(always)]
-fn string_behind(alloc: Global, first: u8, behind: &[u8], number: u64, size: usize) -> Leaf
-    requires argument { ArgumentBehind (first % 32) behind.now number size }
+fn string_after(alloc: Global, first: u8, trailing: &[u8], number: u64, size: usize) -> Leaf
+    requires argument { ArgumentAfter (first % 32) trailing.now number size }
     requires major { (first / 32 ≡ 2) ⊎ (first / 32 ≡ 3) }
-    ensures { SeesLeaf (ExactHead first number size) result (first ∷ behind.now) }
+    ensures { SeesLeaf (ExactHead first number size) result (first ∷ trailing.now) }
 {
-    let rest = &behind[size..];
+    let rest = &trailing[size..];
     if number > rest.len() as u64 {
         return Leaf::Begins(Next { first, head: None });
     }

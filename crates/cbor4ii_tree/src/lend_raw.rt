@@ -3,20 +3,20 @@ ghost use Rattle.std.specs.Prelude.{◌≡◌, ◌≤◌, ℕ, List, length, tak
 ghost use Rattle.std.specs.Prelude.{IfErr};
 ghost use Rattle.cbor4ii_rw.specs.Long.{FillsLong};
 ghost use Rattle.cbor4ii_rw.specs.Reader.{KeepsAllButBudget};
-ghost use Rattle.cbor4ii_tree.specs.Raw.{raw_spelling, Unmoved, RefusesFront};
-ghost use Rattle.cbor4ii_tree.specs.Raw.{TakesItem, StopsAsSkipping, LacksFront, most};
-ghost use Rattle.cbor4ii_tree.specs.Raw.{SkipsFront, StopsFront, Captures};
+ghost use Rattle.cbor4ii_tree.specs.Raw.{raw_format, Unmoved, RejectsOnPrefix};
+ghost use Rattle.cbor4ii_tree.specs.Raw.{TakesItem, RejectsAsSkipping, LacksPrefix, most};
+ghost use Rattle.cbor4ii_tree.specs.Raw.{SkipsPrefix, RejectsPrefix, Captures};
 ghost use Rattle.cbor4ii_items.specs.Decoding.{IsExact, Decodes};
 
-use crate::front::Lent;
+use crate::prefix::Lent;
 use crate::skip::skip_item;
 use cbor4ii_rw::error::DecodeError;
 use cbor4ii_rw::read::Source;
 use std::alloc::Global;
 
-/// Why no front is lent.
+/// Why no prefix is lent.
 #[derive(Debug)]
-pub(crate) enum NoFront<E> {
+pub(crate) enum NoPrefix<E> {
     /// The reader failed.
     Read(E),
     /// The bytes do not live as long as the input.
@@ -27,8 +27,8 @@ pub(crate) enum NoFront<E> {
 /// every `Read<'de>`.
 ///
 /// A function whose signature holds a `'static` name, as each error's, cannot fill a reader that
-/// names a lifetime. So what fills is a trait of what is lent, and a front that is not lent is
-/// refused without its name.
+/// names a lifetime. So what fills is a trait of what is lent, and a prefix that is not lent is
+/// rejected without its name.
 pub(crate) trait LendRaw<S: Source>: Sized {
     // The bytes.
     ghost content: { Self → List ℕ };
@@ -37,13 +37,13 @@ pub(crate) trait LendRaw<S: Source>: Sized {
     ///
     /// `Read` where the reader failed; `Short` where some bytes are left, and they do not live as
     /// long as the input.
-    fn lend_front(reader: &mut S) -> Result<Self, NoFront<S::Error>>
+    fn lend_prefix(reader: &mut S) -> Result<Self, NoPrefix<S::Error>>
         ensures lent { IfOk result
             (λ v. FillsLong most (content v) (S.view reader.old) (S.view reader.new)) }
-        ensures lacks { IfErr result (LacksFront (S.view reader.old) (S.view reader.new)) };
+        ensures lacks { IfErr result (LacksPrefix (S.view reader.old) (S.view reader.new)) };
 
     /// The bytes.
-    fn front(&self) -> &[u8]
+    fn prefix(&self) -> &[u8]
         ensures { result.now ≡ content self.now };
 
     /// The first `size` bytes alone.
@@ -60,14 +60,14 @@ pub(crate) fn take_raw<T: LendRaw<S>, S: Source>(
     alloc: Global,
     reader: &mut S,
 ) -> Result<T, DecodeError<S::Error>>
-    ensures decodes { Decodes (raw_spelling T.content)
+    ensures decodes { Decodes (raw_format T.content)
         (S.view reader.old) (S.view reader.new) result }
     ensures whole { IsExact false (S.view reader.old) →
         TakesItem T.content (S.view reader.old) (S.view reader.new) result }
     ensures exact { IsExact false (S.view reader.old) →
-        StopsAsSkipping (S.view reader.old) (S.view reader.new) result }
+        RejectsAsSkipping (S.view reader.old) (S.view reader.new) result }
     ensures unmoved { IfErr result (Unmoved (S.view reader.old) (S.view reader.new)) }
-    ensures refuses { RefusesFront (S.view reader.old) result }
+    ensures errs { RejectsOnPrefix (S.view reader.old) result }
 {
     capture(reader)
 }
@@ -76,8 +76,8 @@ pub(crate) fn take_raw<T: LendRaw<S>, S: Source>(
 pub(crate) fn capture<T: LendRaw<S>, S: Source>(reader: &mut S) -> Result<T, DecodeError<S::Error>>
     ensures { Captures T.content (S.view reader.old) (S.view reader.new) result }
 {
-    match T::lend_front(reader) {
-        Ok(lent) => match skip_lent(lent.front(), reader) {
+    match T::lend_prefix(reader) {
+        Ok(lent) => match skip_lent(lent.prefix(), reader) {
             Ok(size) => {
                 reader.advance(size);
                 Ok(lent.cut(size))
@@ -87,8 +87,8 @@ pub(crate) fn capture<T: LendRaw<S>, S: Source>(reader: &mut S) -> Result<T, Dec
                 Err(error)
             }
         },
-        Err(NoFront::Short) => Err(DecodeError::RequireBorrowed { name: "raw-value" }),
-        Err(NoFront::Read(error)) => Err(DecodeError::Read(error)),
+        Err(NoPrefix::Short) => Err(DecodeError::RequireBorrowed { name: "raw-value" }),
+        Err(NoPrefix::Read(error)) => Err(DecodeError::Read(error)),
     }
 }
 
@@ -97,8 +97,8 @@ pub(crate) fn skip_lent<S: Source>(
     shown: &[u8],
     reader: &mut S,
 ) -> Result<usize, DecodeError<S::Error>>
-    ensures skips { IfOk result (SkipsFront shown.now (S.view reader.old).budget) }
-    ensures stops { IfErr result (StopsFront shown.now (S.view reader.old).budget) }
+    ensures skips { IfOk result (SkipsPrefix shown.now (S.view reader.old).budget) }
+    ensures rejects { IfErr result (RejectsPrefix shown.now (S.view reader.old).budget) }
     ensures stays { KeepsAllButBudget (S.view reader.old) (S.view reader.new) }
     ensures budget { (S.view reader.new).budget ≡ (S.view reader.old).budget }
 {

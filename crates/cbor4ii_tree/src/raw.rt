@@ -1,14 +1,14 @@
 //! Items that are kept as their bytes.
 ghost use Rattle.std.specs.Prelude.{◌≡◌, true, false, IfErr};
-ghost use Rattle.cbor4ii_items.specs.Writing.{WritesWhole};
+ghost use Rattle.cbor4ii_items.specs.Writing.{WritesAtomically};
 ghost use Rattle.cbor4ii_items.specs.Decoding.{IsExact, Decodes};
-ghost use Rattle.cbor4ii_tree.specs.Raw.{raw_content, raw_spelling, Unmoved, RefusesFront};
+ghost use Rattle.cbor4ii_tree.specs.Raw.{raw_content, raw_format, Unmoved, RejectsOnPrefix};
 ghost use Rattle.cbor4ii_tree.specs.Raw.{TakesItem};
-ghost use Rattle.cbor4ii_tree.specs.Raw.{StopsAsSkipping};
+ghost use Rattle.cbor4ii_tree.specs.Raw.{RejectsAsSkipping};
 ghost use Rattle.cbor4ii_tree.specs.Laws.Capturing.{raw_lawful};
 
-use crate::lend_raw::{LendRaw, NoFront, take_raw};
-use cbor4ii_items::decode::{Decode, Spelled};
+use crate::lend_raw::{LendRaw, NoPrefix, take_raw};
+use cbor4ii_items::decode::{Decodable, Decode};
 use cbor4ii_items::encode::Encode;
 use cbor4ii_rw::ask::lend;
 use cbor4ii_rw::error::{DecodeError, EncodeError};
@@ -30,8 +30,8 @@ impl<'de> RawValue<'de> {
 }
 
 /// One item, skipped under a step for each level.
-impl<'de> Spelled for RawValue<'de> {
-    ghost spelling = { raw_spelling raw_content };
+impl<'de> Decodable for RawValue<'de> {
+    ghost format = { raw_format raw_content };
 
     fn is_never_empty() -> bool
         ensures { result ≡ true }
@@ -46,21 +46,21 @@ impl<'de> Spelled for RawValue<'de> {
 impl<'de, R: Read<'de>> LendRaw<R> for RawValue<'de> {
     ghost content = { raw_content };
 
-    fn lend_front(reader: &mut R) -> Result<RawValue<'de>, NoFront<R::Error>> {
+    fn lend_prefix(reader: &mut R) -> Result<RawValue<'de>, NoPrefix<R::Error>> {
         let mut failure = None;
         match lend(reader, usize::MAX, &mut failure) {
-            Some(Reference::Long(front)) => Ok(RawValue(front)),
-            Some(Reference::Short(front)) => {
-                if front.len() == 0 {
+            Some(Reference::Long(prefix)) => Ok(RawValue(prefix)),
+            Some(Reference::Short(prefix)) => {
+                if prefix.len() == 0 {
                     return Ok(RawValue(&[]));
                 }
-                Err(NoFront::Short)
+                Err(NoPrefix::Short)
             }
-            None => Err(NoFront::Read(failure.unwrap())),
+            None => Err(NoPrefix::Read(failure.unwrap())),
         }
     }
 
-    fn front(&self) -> &[u8] {
+    fn prefix(&self) -> &[u8] {
         self.0
     }
 
@@ -85,14 +85,14 @@ impl<'de, R: Read<'de>> LendRaw<R> for RawValue<'de> {
 /// - those of `IgnoredAny` in the bytes that were lent, and where no byte is left
 impl<'de, R: Read<'de>> Decode<R> for RawValue<'de> {
     fn decode(alloc: Global, reader: &mut R) -> Result<RawValue<'de>, DecodeError<R::Error>>
-        ensures decodes { Decodes (raw_spelling raw_content)
+        ensures decodes { Decodes (raw_format raw_content)
             (R.view reader.old) (R.view reader.new) result }
         ensures whole { IsExact false (R.view reader.old) →
             TakesItem raw_content (R.view reader.old) (R.view reader.new) result }
         ensures exact { IsExact false (R.view reader.old) →
-            StopsAsSkipping (R.view reader.old) (R.view reader.new) result }
+            RejectsAsSkipping (R.view reader.old) (R.view reader.new) result }
         ensures unmoved { IfErr result (Unmoved (R.view reader.old) (R.view reader.new)) }
-        ensures refuses { RefusesFront (R.view reader.old) result }
+        ensures errs { RejectsOnPrefix (R.view reader.old) result }
     {
         take_raw(alloc, reader)
     }
@@ -102,12 +102,12 @@ impl<'de, R: Read<'de>> Decode<R> for RawValue<'de> {
 ///
 /// # Errors
 ///
-/// `Write`: the writer failed. A whole writer then holds what it held before.
+/// `Write`: the writer failed. An atomic writer then holds what it held before.
 impl Encode for RawValue<'_> {
     ghost bytes = { raw_content };
 
     fn encode<W: Write>(&self, writer: &mut W) -> Result<(), EncodeError<W::Error>>
-        ensures { WritesWhole W.whole (raw_content self.now)
+        ensures { WritesAtomically W.atomic (raw_content self.now)
             (W.view writer.old) (W.view writer.new) result }
     {
         match writer.push(self.0) {

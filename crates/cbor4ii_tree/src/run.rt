@@ -1,10 +1,10 @@
-//! Runs: values that hold no other, as many as one look shows, put behind the items of an array or
+//! Runs: values that hold no other, as many as one look shows, put after the items of an array or
 //! the keys and values of a map.
 ghost use Rattle.std.specs.Prelude.{◌≡◌, ◌<◌, ◌≤◌, ◌*◌, ◌++◌, ◌∷◌, [], ℕ, List, length, true};
 ghost use Rattle.std.specs.Prelude.{false};
 ghost use Rattle.std.specs.Prelude.{OnSome, IfNone, IfOk, OnErr, None};
-ghost use Rattle.cbor4ii_rw.specs.Reader.{Breaks};
-ghost use Rattle.cbor4ii_tree.specs.Front.{Offers};
+ghost use Rattle.cbor4ii_rw.specs.Reader.{ReaderFails};
+ghost use Rattle.cbor4ii_tree.specs.Prefix.{Offers};
 ghost use Rattle.cbor4ii_tree.specs.LeafRuns.{flat, PutsRun, TakesRun};
 ghost use Rattle.cbor4ii_tree.specs.declared.value.Value.{Value};
 
@@ -20,7 +20,7 @@ use std::alloc::Global;
 pub(crate) enum Ran {
     /// Values, in so many bytes.
     Whole(usize),
-    /// One that is not decided here, behind values in so many bytes.
+    /// One that is not decided here, after values in so many bytes.
     Before(Next, usize),
     /// None: the value that comes next is not decided here.
     Begins(Next),
@@ -30,7 +30,7 @@ pub(crate) enum Ran {
     End,
 }
 
-/// What values are put behind: the items of an array, or the pairs of a map.
+/// What values are put after: the items of an array, or the pairs of a map.
 pub(crate) trait Parts {
     // The values in order, of a pair the key first.
     ghost flat: { Self → List Value };
@@ -43,7 +43,7 @@ pub(crate) trait Parts {
         ensures less { result ≡ true → length (flat self.now) < width * most }
         ensures full { result ≡ false → width * most ≤ length (flat self.now) };
 
-    /// Puts a value behind those that there are. None where memory is refused.
+    /// Puts a value after those that there are. None where memory is rejected.
     fn put(&mut self, value: Value) -> Option<()>
         ensures { OnSome result (flat self.new ≡ flat self.old ++ value ∷ []) };
 }
@@ -72,7 +72,7 @@ pub(crate) struct Pairs {
     pub(crate) key: Option<Value>,
 }
 
-/// Pairs: a part is a key, and the value behind it.
+/// Pairs: a part is a key, and the value after it.
 impl Parts for Pairs {
     ghost flat = { flat };
 
@@ -95,7 +95,7 @@ impl Parts for Pairs {
     }
 }
 
-/// Puts a part behind those that there are. None where memory is refused.
+/// Puts a part after those that there are. None where memory is rejected.
 #[inline(always)]
 fn push<T: Drop>(parts: &mut Vec<T>, part: T) -> Option<()>
     ensures { OnSome result (parts.new.items ≡ parts.old.items ++ part ∷ []) }
@@ -103,7 +103,7 @@ fn push<T: Drop>(parts: &mut Vec<T>, part: T) -> Option<()>
     parts.push(part).ok()
 }
 
-/// Puts a value behind those that there are. Where memory is refused, `failure` is left empty.
+/// Puts a value after those that there are. Where memory is rejected, `failure` is left empty.
 #[inline(always)]
 pub(crate) fn put_value<P: Parts, E: Drop>(
     parts: &mut P,
@@ -123,10 +123,10 @@ pub(crate) fn put_value<P: Parts, E: Drop>(
 }
 
 /// Takes the values that come next, as long as they hold no other and one look shows them whole,
-/// and puts them behind `parts`, up to `most` whole parts, of which one at least is missing. It
+/// and puts them after `parts`, up to `most` whole parts, of which one at least is missing. It
 /// answers what the look has shown of a value that it leaves undecided. Where `exact` is set, the
-/// values are in their canonical spelling. Where the look shows no byte, the missing value is
-/// refused. A refusal is left in `failure`.
+/// values are in their canonical encoding. Where the look shows no byte, the missing value is
+/// rejected. An error is left in `failure`.
 #[inline(always)]
 pub(crate) fn take_run<S: Source, P: Parts>(
     alloc: Global,
@@ -166,7 +166,7 @@ pub(crate) fn take_run<S: Source, P: Parts>(
     }
 }
 
-/// Puts the values that one look shows behind `parts`, at as many bytes as the reader lets a look
+/// Puts the values that one look shows after `parts`, at as many bytes as the reader lets a look
 /// ask for.
 #[inline(always)]
 fn glance_run<S: Source, P: Parts>(
@@ -180,7 +180,7 @@ fn glance_run<S: Source, P: Parts>(
     ensures offers { IfOk result (λ ran. Offers 1
         (PutsRun (exact ≡ true) (P.width * most) (P.flat parts.old) (P.flat parts.new) ran)
         (S.view reader.old) (S.view reader.new)) }
-    ensures breaks { OnErr result (Breaks (S.view reader.old) (S.view reader.new)) }
+    ensures breaks { OnErr result (ReaderFails (S.view reader.old) (S.view reader.new)) }
 {
     let mut failure = None;
     let want = reader.window();
@@ -190,17 +190,17 @@ fn glance_run<S: Source, P: Parts>(
     }
 }
 
-/// Puts the values at the front of the shown bytes behind `parts`.
+/// Puts the values at the front of the shown bytes after `parts`.
 #[inline(always)]
 fn run_of<P: Parts>(alloc: Global, shown: &[u8], exact: bool, most: usize, parts: &mut P) -> Ran
     requires { length (P.flat parts.old) < P.width * most }
     ensures { PutsRun (exact ≡ true) (P.width * most) (P.flat parts.old) (P.flat parts.new)
         result shown.now }
 {
-    let [first, behind @ ..] = shown else {
+    let [first, trailing @ ..] = shown else {
         return Ran::End;
     };
-    match undecided(*first, behind, exact) {
+    match undecided(*first, trailing, exact) {
         Some(next) => Ran::Begins(next),
         None => put_run(alloc, shown, exact, most, parts),
     }

@@ -2,8 +2,8 @@
 ghost use Rattle.std.specs.Prelude.{◌+◌, ◌≤◌, OnOk, IfOk};
 ghost use Rattle.cbor4ii_tree.specs.Does.{DoesUnder};
 ghost use Rattle.cbor4ii_tree.specs.Item.{IsItem};
-ghost use Rattle.cbor4ii_tree.specs.Strictly.{ReadsExactlyUnder, StopsBehindFirst};
-ghost use Rattle.cbor4ii_tree.specs.Valuing.{ReadsUnder, StopsFirst, SimpleOf, IsNoSimple};
+ghost use Rattle.cbor4ii_tree.specs.CanonicalCalls.{ReadsCanonicallyUnder, RejectsAfterFirst};
+ghost use Rattle.cbor4ii_tree.specs.Valuing.{ReadsUnder, RejectsFirst, SimpleOf, IsNoSimple};
 ghost use Rattle.cbor4ii_tree.specs.View.{view};
 
 use crate::value::{FloatBits, Value};
@@ -28,8 +28,8 @@ pub(crate) fn simple_of(first: u8) -> Option<Value>
     }
 }
 
-/// Reads a float, whose first byte is shown. Each width is spelled in one way, so a float is read
-/// alike where spellings are free and where they are canonical.
+/// Reads a float, whose first byte is shown. Each width is encoded in one way, so a float is read
+/// alike where encodings are free and where they are canonical.
 pub(crate) fn read_float<S: Source>(
     alloc: Global,
     reader: &mut S,
@@ -37,9 +37,9 @@ pub(crate) fn read_float<S: Source>(
 ) -> Result<Value, DecodeError<S::Error>>
     requires major { 224 ≤ first }
     requires other { IsNoSimple first }
-    ensures does { DoesUnder ReadsUnder (StopsFirst first)
+    ensures does { DoesUnder ReadsUnder (RejectsFirst first)
         (S.view reader.old) (S.view reader.new) result }
-    ensures exactly { DoesUnder ReadsExactlyUnder (StopsBehindFirst first)
+    ensures exactly { DoesUnder ReadsCanonicallyUnder (RejectsAfterFirst first)
         (S.view reader.old) (S.view reader.new) result }
     ensures item { IfOk result (λ v. IsItem (view v)) }
     ensures progress { OnOk result ((S.view reader.new).bound + 1 ≤ (S.view reader.old).bound) }

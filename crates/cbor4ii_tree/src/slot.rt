@@ -1,16 +1,16 @@
-//! Answers whose refusal is left in a slot.
+//! Answers whose error is left in a slot.
 //!
-//! A refusal is as large as the reader's error, which may be of any size. So what calls itself,
-//! item in item, hands up no more than a value or none, and the refusal goes through a reference.
+//! An error is as large as the reader's error, which may be of any size. So what calls itself,
+//! item in item, hands up no more than a value or none, and the error goes through a reference.
 ghost use Rattle.std.specs.Prelude.{◌≡◌, ◌∷◌, ◌++◌, [], Some, None, OnSome, IfNone};
 ghost use Rattle.cbor4ii_rw.specs.declared.error.DecodeError.TheVariants.{DepthOverflow, Eof};
 ghost use Rattle.cbor4ii_rw.specs.declared.error.DecodeError.TheVariants.{NotCanonical};
 ghost use Rattle.cbor4ii_rw.specs.declared.error.Len.TheVariants.{Small};
-ghost use Rattle.cbor4ii_tree.specs.Does.{answered, refusal_left};
+ghost use Rattle.cbor4ii_tree.specs.Does.{answered, error_left};
 
 use cbor4ii_rw::error::{DecodeError, Len, StaticStr};
 
-/// The answer without its refusal, which goes to `failure`.
+/// The answer without its error, which goes to `failure`.
 #[inline(always)]
 pub(crate) fn part<T, E: Drop>(
     answer: Result<T, DecodeError<E>>,
@@ -27,7 +27,7 @@ pub(crate) fn part<T, E: Drop>(
     }
 }
 
-/// The refusal goes to `failure`.
+/// The error goes to `failure`.
 #[cold]
 #[inline(never)]
 pub(crate) fn leave<E: Drop>(error: E, failure: &mut Option<E>)
@@ -66,7 +66,7 @@ pub(crate) fn leave_not_canonical<E: Drop>(name: StaticStr, failure: &mut Option
     *failure = Some(DecodeError::NotCanonical { name });
 }
 
-/// The value, or the refusal that was left. An empty slot stands for refused memory.
+/// The value, or the error that was left. An empty slot stands for rejected memory.
 #[inline(always)]
 pub(crate) fn whole<T: Drop, E: Drop>(
     value: Option<T>,
@@ -76,15 +76,15 @@ pub(crate) fn whole<T: Drop, E: Drop>(
 {
     match value {
         Some(value) => Ok(value),
-        None => Err(refusal(failure)),
+        None => Err(err(failure)),
     }
 }
 
-/// The refusal that was left. It stays out of line, so that a value costs no look at the slot.
+/// The error that was left. It stays out of line, so that a value costs no look at the slot.
 #[cold]
 #[inline(never)]
-fn refusal<E: Drop>(failure: &mut Option<DecodeError<E>>) -> DecodeError<E>
-    ensures { result ≡ refusal_left failure.old }
+fn err<E: Drop>(failure: &mut Option<DecodeError<E>>) -> DecodeError<E>
+    ensures { result ≡ error_left failure.old }
 {
     match failure.take() {
         Some(error) => error,
@@ -92,7 +92,7 @@ fn refusal<E: Drop>(failure: &mut Option<DecodeError<E>>) -> DecodeError<E>
     }
 }
 
-/// Puts an item behind those that are there. Where memory is refused, `failure` is left empty.
+/// Puts an item after those that are there. Where memory is rejected, `failure` is left empty.
 #[inline(always)]
 pub(crate) fn keep<T: Drop, E: Drop>(
     items: &mut Vec<T>,

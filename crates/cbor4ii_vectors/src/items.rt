@@ -1,6 +1,6 @@
 //! The items that rows read, each by its own decoder.
 use crate::rows::{ReadBy, ReadFrom};
-use cbor4ii_items::decode::{Decode, Spelled};
+use cbor4ii_items::decode::{Decodable, Decode};
 use cbor4ii_items::types::{
     Bytes, F16, F32, F64, Map, Maybe, Negative, Nothing, Simple, Tag, UncheckedStr,
 };
@@ -294,7 +294,7 @@ impl ReadFrom for Map<Vec<(Nothing, u8)>> {
 #[derive(Debug, PartialEq, Drop)]
 pub struct Lent<T>(pub T);
 
-impl<S: Source, T: Spelled + Decode<S>> ReadBy<S> for Lent<T> {
+impl<S: Source, T: Decodable + Decode<S>> ReadBy<S> for Lent<T> {
     fn read_by(alloc: Global, reader: &mut S) -> Result<Lent<T>, DecodeError<S::Error>> {
         Ok(Lent(T::decode(alloc, reader)?))
     }

@@ -2,9 +2,9 @@
 //! compared.
 #![tactic(auto)]
 
+mod errors;
 pub mod items;
 pub mod readers;
-mod refusals;
 pub mod rows;
 pub mod streams;
 pub mod writers;

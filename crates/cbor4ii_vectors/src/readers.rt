@@ -1,8 +1,8 @@
 //! Readers for tests: a decoder has to answer alike however its input is shown.
 ghost use Rattle.std.specs.Prelude.{◌≡◌, None, Some, IsTrue, take, false};
 ghost use Rattle.std.proofs.Common.{rules};
-ghost use Rattle.cbor4ii_rw.specs.Reader.{Breaks, StepsIn, step_back};
-ghost use Rattle.cbor4ii_rw.specs.View.{Told};
+ghost use Rattle.cbor4ii_rw.specs.Reader.{ReaderFails, StepsIn, step_back};
+ghost use Rattle.cbor4ii_rw.specs.View.{IfKnown};
 ghost use Rattle.cbor4ii_vectors.specs.Tells.{test_view, counting_view, asked_view};
 
 use cbor4ii_rw::error::Never;
@@ -38,7 +38,7 @@ pub struct TestReader<'a> {
 impl<'a> TestReader<'a> {
     /// A reader with `limit` steps that shows one byte at a time, which does not outlive the fill.
     pub fn short(bytes: &'a [u8], limit: usize) -> TestReader<'a>
-        ensures told { (test_view result).told ≡ Some bytes.now }
+        ensures known { (test_view result).known ≡ Some bytes.now }
         ensures budget { (test_view result).budget ≡ Some limit }
         ensures failures { (test_view result).failures ≡ 0 }
     {
@@ -47,7 +47,7 @@ impl<'a> TestReader<'a> {
 
     /// A reader with `limit` steps that shows one byte at a time, which lives as long as the input.
     pub fn long(bytes: &'a [u8], limit: usize) -> TestReader<'a>
-        ensures told { (test_view result).told ≡ Some bytes.now }
+        ensures known { (test_view result).known ≡ Some bytes.now }
         ensures budget { (test_view result).budget ≡ Some limit }
         ensures failures { (test_view result).failures ≡ 0 }
     {
@@ -57,20 +57,20 @@ impl<'a> TestReader<'a> {
     /// A reader with `limit` steps that shows all that is left, whatever is wanted, which lives as
     /// long as the input.
     pub fn whole(bytes: &'a [u8], limit: usize) -> TestReader<'a>
-        ensures told { (test_view result).told ≡ Some bytes.now }
+        ensures known { (test_view result).known ≡ Some bytes.now }
         ensures budget { (test_view result).budget ≡ Some limit }
         ensures failures { (test_view result).failures ≡ 0 }
-        ensures whole { IsTrue (test_view result).lends_whole }
+        ensures whole { IsTrue (test_view result).zero_copy }
     {
         TestReader::new(bytes, Some(limit), true, true)
     }
 
     /// As `whole`, and lets items nest without a limit.
     pub fn unlimited(bytes: &'a [u8]) -> TestReader<'a>
-        ensures told { (test_view result).told ≡ Some bytes.now }
+        ensures known { (test_view result).known ≡ Some bytes.now }
         ensures budget { (test_view result).budget ≡ None }
         ensures failures { (test_view result).failures ≡ 0 }
-        ensures whole { IsTrue (test_view result).lends_whole }
+        ensures whole { IsTrue (test_view result).zero_copy }
     {
         TestReader::new(bytes, None, true, true)
     }
@@ -79,7 +79,7 @@ impl<'a> TestReader<'a> {
     /// the input, and whose second is of one byte, which does not outlive it, and so on in turn. It
     /// shows all that is left and one byte in turn.
     pub fn in_turn(bytes: &'a [u8], limit: usize) -> TestReader<'a>
-        ensures told { (test_view result).told ≡ Some bytes.now }
+        ensures known { (test_view result).known ≡ Some bytes.now }
         ensures budget { (test_view result).budget ≡ Some limit }
         ensures failures { (test_view result).failures ≡ 0 }
     {
@@ -91,10 +91,10 @@ impl<'a> TestReader<'a> {
 
     /// A reader that fails at no show which comes.
     fn new(bytes: &'a [u8], steps: Option<usize>, is_whole: bool, is_long: bool) -> TestReader<'a>
-        ensures told { (test_view result).told ≡ Some bytes.now }
+        ensures known { (test_view result).known ≡ Some bytes.now }
         ensures budget { (test_view result).budget ≡ steps }
         ensures failures { (test_view result).failures ≡ 0 }
-        ensures whole { IsTrue is_long → (test_view result).lends_whole ≡ is_whole }
+        ensures whole { IsTrue is_long → (test_view result).zero_copy ≡ is_whole }
     {
         TestReader {
             bytes,
@@ -129,7 +129,7 @@ impl<'a> TestReader<'a> {
 
     /// The same reader, which loses what is left where it fails.
     pub fn forgetting(self) -> TestReader<'a>
-        ensures told { (test_view result).told ≡ (test_view self.entry).told }
+        ensures known { (test_view result).known ≡ (test_view self.entry).known }
         ensures budget { (test_view result).budget ≡ (test_view self.entry).budget }
         ensures failures { (test_view result).failures ≡ (test_view self.entry).failures }
     {
@@ -141,7 +141,7 @@ impl<'a> TestReader<'a> {
 
     /// The bytes that are left.
     pub fn remaining(&self) -> &'a [u8]
-        ensures { Told (test_view self.now).told (λ xs. result.now ≡ xs) }
+        ensures { IfKnown (test_view self.now).known (λ xs. result.now ≡ xs) }
     {
         self.bytes
     }
@@ -163,10 +163,10 @@ impl<'a> TestReader<'a> {
     /// Whether this is the show that fails, which is counted then.
     fn fails(&mut self) -> bool
         ensures kept { result ≡ false → test_view self.new ≡ test_view self.old }
-        ensures broken { IsTrue result → Breaks (test_view self.old) (test_view self.new) }
+        ensures broken { IsTrue result → ReaderFails (test_view self.old) (test_view self.new) }
     {
-        let is_told = self.shows == 0 || (self.fails_at_end && self.bytes.is_empty());
-        if is_told && self.failures == 0 {
+        let has_debug_text = self.shows == 0 || (self.fails_at_end && self.bytes.is_empty());
+        if has_debug_text && self.failures == 0 {
             self.failures = 1;
             if self.forgets {
                 self.bytes = &[];
@@ -182,7 +182,7 @@ impl<'a> TestReader<'a> {
     fn shows_whole(&mut self) -> bool
         ensures kept { test_view self.new ≡ test_view self.old }
         ensures bytes { self.new.bytes.now ≡ self.old.bytes.now }
-        ensures whole { IsTrue (test_view self.old).lends_whole → IsTrue result }
+        ensures whole { IsTrue (test_view self.old).zero_copy → IsTrue result }
     {
         let is_whole = self.is_whole;
         self.is_whole = is_whole != self.takes_turns;
@@ -191,7 +191,7 @@ impl<'a> TestReader<'a> {
 
     /// Whether the next fill is of all that is left.
     fn fills_whole(&self) -> bool
-        ensures { IsTrue (test_view self.now).lends_whole → IsTrue result }
+        ensures { IsTrue (test_view self.now).zero_copy → IsTrue result }
     {
         if self.takes_turns {
             self.is_long
@@ -204,7 +204,7 @@ impl<'a> TestReader<'a> {
     fn fills_long(&mut self) -> bool
         ensures kept { test_view self.new ≡ test_view self.old }
         ensures bytes { self.new.bytes.now ≡ self.old.bytes.now }
-        ensures whole { IsTrue (test_view self.old).lends_whole → IsTrue result }
+        ensures whole { IsTrue (test_view self.old).zero_copy → IsTrue result }
     {
         let is_long = self.is_long;
         self.is_long = is_long != self.takes_turns;
@@ -212,7 +212,7 @@ impl<'a> TestReader<'a> {
     }
 
     /// What it shows: all that is left, or one byte of it.
-    fn front(&self, is_whole: bool) -> &'a [u8]
+    fn prefix(&self, is_whole: bool) -> &'a [u8]
         ensures whole { IsTrue is_whole → result.now ≡ self.now.bytes.now }
         ensures byte { is_whole ≡ false → result.now ≡ take 1 self.now.bytes.now }
     {
@@ -256,7 +256,7 @@ impl Source for TestReader<'_> {
             return Err(Failure);
         }
         let is_whole = self.shows_whole();
-        Ok(self.front(is_whole))
+        Ok(self.prefix(is_whole))
     }
 
     fn advance(&mut self, n: usize) {
@@ -271,7 +271,7 @@ impl Source for TestReader<'_> {
         give_step(&mut self.steps);
     }
 
-    ghost told_within_bound = { λ reader xs is. Prim.search rules };
+    ghost known_within_bound = { λ reader xs is. Prim.search rules };
 }
 
 impl<'de> Read<'de> for TestReader<'de> {
@@ -281,9 +281,9 @@ impl<'de> Read<'de> for TestReader<'de> {
         }
         let is_whole = self.fills_whole();
         if self.fills_long() {
-            return Ok(Reference::Long(self.front(is_whole)));
+            return Ok(Reference::Long(self.prefix(is_whole)));
         }
-        Ok(Reference::Short(self.front(is_whole)))
+        Ok(Reference::Short(self.prefix(is_whole)))
     }
 }
 
@@ -291,16 +291,16 @@ impl<'de> Read<'de> for TestReader<'de> {
 impl<'de> FillLong for TestReader<'de> {
     type Long = &'de [u8];
 
-    ghost never_lends = { false };
+    ghost never_borrows = { false };
 
     fn fill_long(&mut self, _want: usize) -> Result<Option<&'de [u8]>, Failure> {
         if self.fails() {
             return Err(Failure);
         }
         let is_whole = self.fills_whole();
-        let front = self.front(is_whole);
-        if self.fills_long() || front.is_empty() {
-            return Ok(Some(front));
+        let prefix = self.prefix(is_whole);
+        if self.fills_long() || prefix.is_empty() {
+            return Ok(Some(prefix));
         }
         Ok(None)
     }
@@ -318,7 +318,7 @@ pub struct Counting<'a> {
 impl<'a> Counting<'a> {
     /// A reader over `bytes`, which lets items nest without a limit.
     pub fn new(bytes: &'a [u8]) -> Counting<'a>
-        ensures told { (counting_view result).told ≡ Some bytes.now }
+        ensures known { (counting_view result).known ≡ Some bytes.now }
     {
         Counting {
             bytes,
@@ -359,7 +359,7 @@ impl Source for Counting<'_> {
 
     fn step_out(&mut self) {}
 
-    ghost told_within_bound = { λ reader xs is. Prim.search rules };
+    ghost known_within_bound = { λ reader xs is. Prim.search rules };
 }
 
 impl<'de> Read<'de> for Counting<'de> {
@@ -372,7 +372,7 @@ impl<'de> Read<'de> for Counting<'de> {
 impl<'de> FillLong for Counting<'de> {
     type Long = &'de [u8];
 
-    ghost never_lends = { false };
+    ghost never_borrows = { false };
 
     fn fill_long(&mut self, want: usize) -> Result<Option<&'de [u8]>, Never> {
         self.shows = self.shows.saturating_add(1);
@@ -402,7 +402,7 @@ pub struct Asked<'a> {
     taken: usize,
     asks: Asks,
     // How many bytes it shows at most; one where this is none.
-    front: usize,
+    prefix: usize,
     // Whether a look may ask it for 4,096 bytes.
     is_wide: bool,
     // It fails where more is wanted.
@@ -414,7 +414,7 @@ impl<'a> Asked<'a> {
     /// A reader over `bytes` of which nothing was asked yet. It shows what is wanted, and says of
     /// itself no more than a reader has to.
     pub fn new(bytes: &'a [u8]) -> Asked<'a>
-        ensures told { (asked_view result).told ≡ Some bytes.now }
+        ensures known { (asked_view result).known ≡ Some bytes.now }
     {
         let asks = Asks {
             looks: 0,
@@ -426,7 +426,7 @@ impl<'a> Asked<'a> {
             bytes,
             taken: 0,
             asks,
-            front: usize::MAX,
+            prefix: usize::MAX,
             is_wide: false,
             most: usize::MAX,
             failures: 0,
@@ -434,8 +434,8 @@ impl<'a> Asked<'a> {
     }
 
     /// The same reader, which shows at most so many bytes at a time, and one at least.
-    pub fn showing(self, front: usize) -> Asked<'a> {
-        Asked { front, ..self }
+    pub fn showing(self, prefix: usize) -> Asked<'a> {
+        Asked { prefix, ..self }
     }
 
     /// The same reader, which lets a look ask for 4,096 bytes.
@@ -447,7 +447,7 @@ impl<'a> Asked<'a> {
     }
 
     /// The same reader, which fails where more than so many bytes are wanted.
-    pub fn refusing_above(self, most: usize) -> Asked<'a> {
+    pub fn rejecting_above(self, most: usize) -> Asked<'a> {
         Asked { most, ..self }
     }
 
@@ -481,8 +481,8 @@ impl Source for Asked<'_> {
             self.failures = self.failures.saturating_add(1);
             return Err(Failure);
         }
-        let front = want.min(self.front.max(1));
-        Ok(&self.bytes[..self.bytes.len().min(front)])
+        let prefix = want.min(self.prefix.max(1));
+        Ok(&self.bytes[..self.bytes.len().min(prefix)])
     }
 
     fn window(&self) -> usize {
@@ -500,5 +500,5 @@ impl Source for Asked<'_> {
 
     fn step_out(&mut self) {}
 
-    ghost told_within_bound = { λ reader xs is. Prim.search rules };
+    ghost known_within_bound = { λ reader xs is. Prim.search rules };
 }

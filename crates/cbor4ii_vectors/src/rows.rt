@@ -1,7 +1,7 @@
 //! How a row is tried: read over each reader, written, and with a fault at each place.
 //!
 //! What a row finds wrong is the failure of the test that tries it, and says of which bytes. Where
-//! memory is refused, the row says nothing, and that refusal is the test's failure.
+//! memory is rejected, the row says nothing, and that error is the test's failure.
 use crate::readers::{Failure, TestReader};
 use crate::streams::{FailingSink, FailingStream};
 use crate::writers::{FailingWriter, PushLengths};
@@ -21,7 +21,7 @@ use std::io::ErrorKind;
 use std::marker::PhantomData;
 use std::test::Fail;
 
-/// What a row's bytes are read as: a value, or the text of the refusal.
+/// What a row's bytes are read as: a value, or the text of the error.
 pub type Want<T> = Result<T, &'static str>;
 
 /// A row: bytes, what they are read as, and what is left of them.
@@ -75,7 +75,7 @@ where
         + ReadBy<Stream>,
 {}
 
-/// One behind the other.
+/// One after the other.
 #[derive(Debug, PartialEq, Drop)]
 pub struct Pair<A, B>(pub A, pub B);
 
@@ -173,7 +173,7 @@ where
     Ok(())
 }
 
-/// As `reads`, for what holds borrowed parts, where it is no matter whether they are lent.
+/// As `reads`, for what holds borrowed slices, where it is no matter whether they are lent.
 pub fn reads_alike<T>(
     alloc: Global,
     bytes: &'static [u8],
@@ -218,7 +218,7 @@ impl<S: Source, T: ReadBy<S> + Debug + Drop> ReadBy<S> for ByText<T> {
 pub fn by_text<T>(alloc: Global, want: &Want<&str>) -> Result<Want<ByText<T>>, AllocError> {
     match want {
         Ok(text) => Ok(Ok(ByText::new(String::from_str(alloc, text)?))),
-        Err(refusal) => Ok(Err(refusal)),
+        Err(rejection) => Ok(Err(rejection)),
     }
 }
 
@@ -244,7 +244,7 @@ where
     Ok(())
 }
 
-// As `reads_within`, for what holds borrowed parts, where it is no matter whether they are lent.
+// As `reads_within`, for what holds borrowed slices, where it is no matter whether they are lent.
 fn reads_alike_within<T>(
     alloc: Global,
     bytes: &'static [u8],
@@ -260,7 +260,7 @@ where
     fails_at_each_show(alloc, bytes, limit, false, Some(want))?;
     fails_at_each_show(alloc, bytes, limit, true, Some(want))?;
     fails_at_each_look(alloc, bytes, limit, Some(want))?;
-    asks_nothing_behind(alloc, item_of(bytes, rest), limit, want)
+    asks_nothing_after(alloc, item_of(bytes, rest), limit, want)
 }
 
 // Over each reader, with no fault and in one piece.
@@ -342,7 +342,7 @@ where
     Ok(())
 }
 
-/// As `reads`, for a borrowed value over each reader that lends whole.
+/// As `reads`, for a borrowed value over each zero-copy reader.
 pub fn lends<T>(alloc: Global, bytes: &'static [u8], want: Want<T>, rest: &[u8]) -> Result<(), Fail>
 where
     T: ReadByEach + PartialEq + Debug + Drop,
@@ -368,22 +368,22 @@ where
     fails_at_each_show::<T>(alloc, bytes, STEPS, false, None)?;
     fails_at_each_show(alloc, bytes, STEPS, true, Some(want))?;
     fails_at_each_look::<T>(alloc, bytes, STEPS, None)?;
-    asks_whole_nothing_behind(alloc, item_of(bytes, rest), STEPS, want)
+    asks_whole_nothing_after(alloc, item_of(bytes, rest), STEPS, want)
 }
 
-/// What is borrowed is refused with so many steps, over a slice and over a reader that lends whole.
+/// What is borrowed is rejected with so many steps, over a slice and over a zero-copy reader.
 /// That reader fails at the first show, at the second, and so on until none is left to fail.
-/// Nothing is taken, and the answer is the reader's error where it fails, and else the refusal.
+/// Nothing is taken, and the answer is the reader's error where it fails, and else the error.
 pub fn lends_none<T>(
     alloc: Global,
     bytes: &'static [u8],
     limit: usize,
-    refusal: &'static str,
+    rejection: &'static str,
 ) -> Result<(), Fail>
 where
     T: ReadBy<SliceReader<'static>> + ReadBy<TestReader<'static>> + PartialEq + Debug + Drop,
 {
-    let want: Want<T> = Err(refusal);
+    let want: Want<T> = Err(rejection);
     let mut slice = SliceReader::with_limit(bytes, limit);
     reads_over(alloc, &mut slice, bytes, &want, bytes)?;
     for shows in 0..MOST_CALLS {
@@ -458,7 +458,7 @@ where
 }
 
 /// Reads all the bytes over this reader as one value, with the steps as before. Where memory is
-/// refused, an end of the bytes is left.
+/// rejected, an end of the bytes is left.
 pub fn reads_all<T, S>(alloc: Global, reader: &mut S, bytes: &[u8]) -> Result<T, Fail>
 where
     T: ReadBy<S> + Drop,
@@ -513,45 +513,45 @@ fn leaves_an_end<S: Source>(alloc: Global, reader: &mut S, bytes: &[u8]) -> Resu
 
 /// Each proper front of the item is the end of the input, over each reader that does not fail:
 /// nothing is left, and the steps are as before.
-pub fn ends_at_each_front<T>(alloc: Global, item: &'static [u8], limit: usize) -> Result<(), Fail>
+pub fn ends_at_each_prefix<T>(alloc: Global, item: &'static [u8], limit: usize) -> Result<(), Fail>
 where
     T: ReadFrom + Debug + Drop,
 {
     for shown in 0..item.len() {
-        let front = &item[..shown];
-        ends::<T, _>(alloc, &mut SliceReader::with_limit(front, limit), front)?;
-        ends::<T, _>(alloc, &mut TestReader::long(front, limit), front)?;
-        ends::<T, _>(alloc, &mut TestReader::short(front, limit), front)?;
-        ends::<T, _>(alloc, &mut TestReader::whole(front, limit), front)?;
-        ends::<T, _>(alloc, &mut TestReader::in_turn(front, limit), front)?;
-        ends::<T, _>(alloc, &mut TestReader::unlimited(front), front)?;
-        ends_in_segments::<T>(alloc, front, limit)?;
+        let prefix = &item[..shown];
+        ends::<T, _>(alloc, &mut SliceReader::with_limit(prefix, limit), prefix)?;
+        ends::<T, _>(alloc, &mut TestReader::long(prefix, limit), prefix)?;
+        ends::<T, _>(alloc, &mut TestReader::short(prefix, limit), prefix)?;
+        ends::<T, _>(alloc, &mut TestReader::whole(prefix, limit), prefix)?;
+        ends::<T, _>(alloc, &mut TestReader::in_turn(prefix, limit), prefix)?;
+        ends::<T, _>(alloc, &mut TestReader::unlimited(prefix), prefix)?;
+        ends_in_segments::<T>(alloc, prefix, limit)?;
         for most in [1, usize::MAX] {
-            ends::<T, _>(alloc, &mut stream(front, most, usize::MAX, limit), front)?;
+            ends::<T, _>(alloc, &mut stream(prefix, most, usize::MAX, limit), prefix)?;
         }
     }
     Ok(())
 }
 
-// In two halves, with no byte behind them.
+// In two halves, with no byte after them.
 fn ends_in_segments<T: ReadFrom + Debug + Drop>(
     alloc: Global,
-    front: &[u8],
+    prefix: &[u8],
     limit: usize,
 ) -> Result<(), Fail> {
-    let (first, second) = front.split_at(front.len() / 2);
+    let (first, second) = prefix.split_at(prefix.len() / 2);
     let segments = [first, second, b""];
     ends::<T, _>(
         alloc,
         &mut SegmentReader::with_limit(&segments, limit),
-        front,
+        prefix,
     )
 }
 
 fn ends<T: ReadFrom + Debug + Drop, S: Source>(
     alloc: Global,
     reader: &mut S,
-    front: &[u8],
+    prefix: &[u8],
 ) -> Result<(), Fail> {
     let budget = steps(reader);
     let got = T::read_from(alloc, reader);
@@ -559,9 +559,9 @@ fn ends<T: ReadFrom + Debug + Drop, S: Source>(
         return Err(Fail::from(DecodeError::<Never>::OutOfMemory));
     }
     if matches!(got, Err(DecodeError::Eof { .. })) && steps(reader) == budget {
-        return leaves(reader, front, b"");
+        return leaves(reader, prefix, b"");
     }
-    Err(Fail::new(format_args!("{got:?} of the front {front:?}")))
+    Err(Fail::new(format_args!("{got:?} of the prefix {prefix:?}")))
 }
 
 // Compares an answer.
@@ -736,7 +736,7 @@ fn fails_at_look<T: ReadBy<Stream> + PartialEq + Debug + Drop>(
 // The item of a row that is read, alone, over readers that fail in the place of showing that
 // nothing is left: the answer is the same, since an item says itself where it ends. A row that
 // takes no byte is no such row, since what follows may say what it is.
-fn asks_nothing_behind<T>(
+fn asks_nothing_after<T>(
     alloc: Global,
     item: &'static [u8],
     limit: usize,
@@ -748,7 +748,7 @@ where
     if want.is_err() || item.is_empty() {
         return Ok(());
     }
-    asks_whole_nothing_behind(alloc, item, limit, want)?;
+    asks_whole_nothing_after(alloc, item, limit, want)?;
     let mut short = TestReader::short(item, limit).failing_at_end();
     is_same(T::read_by(alloc, &mut short), item, want)?;
     for most in [1, usize::MAX] {
@@ -760,7 +760,7 @@ where
 }
 
 // As `asks_nothing_behind`, over the reader that shows all that is left.
-fn asks_whole_nothing_behind<T>(
+fn asks_whole_nothing_after<T>(
     alloc: Global,
     item: &'static [u8],
     limit: usize,
@@ -783,7 +783,7 @@ fn item_of(bytes: &'static [u8], rest: &[u8]) -> &'static [u8] {
 
 /// What a row writes: a value, or an item in parts.
 pub trait WriteTo {
-    /// Writes it behind what `writer` holds.
+    /// Writes it after what `writer` holds.
     fn write_to<W: Write>(&self, writer: &mut W) -> Result<(), EncodeError<W::Error>>;
 }
 
@@ -793,7 +793,7 @@ impl<T: Encode> WriteTo for T {
     }
 }
 
-/// Writes the value behind a byte that stands there, and with a fault at each push and at each
+/// Writes the value after a byte that stands there, and with a fault at each push and at each
 /// byte. Answers how many pushes it takes.
 pub fn writes<T: WriteTo>(alloc: Global, value: &T, bytes: &[u8]) -> Result<usize, Fail> {
     let mut writer = BufWriter::new(vec![in alloc; 0xff]?);
@@ -806,8 +806,8 @@ pub fn writes<T: WriteTo>(alloc: Global, value: &T, bytes: &[u8]) -> Result<usiz
     Ok(pushes.lengths().len())
 }
 
-// What a writer holds behind a byte that stood there is what is wanted, or a front of it where
-// memory is refused, which is the failure of the test.
+// What a writer holds after a byte that stood there is what is wanted, or a prefix of it where
+// memory is rejected, which is the failure of the test.
 fn is_appended<E: Debug + Drop>(
     got: Result<(), EncodeError<E>>,
     held: Option<&[u8]>,
@@ -842,8 +842,9 @@ fn fails_at_each_push<T: WriteTo>(
     for (push, length) in lengths.iter().enumerate() {
         let mut writer = FailingWriter::new(Vec::with_capacity(alloc, bytes.len())?, push);
         let got = value.write_to(&mut writer);
-        let is_told = matches!(got, Err(EncodeError::Write(Failure))) && writer.failures() == 1;
-        if !is_told || bytes.get(..held) != Some(writer.buffer()) {
+        let has_debug_text = matches!(got, Err(EncodeError::Write(Failure)))
+            && writer.failures() == 1;
+        if !has_debug_text || bytes.get(..held) != Some(writer.buffer()) {
             return Err(Fail::new(format_args!("{got:?} where push {push} fails, of {bytes:?}")));
         }
         held = held.saturating_add(*length);
@@ -857,9 +858,9 @@ fn fails_at_each_byte<T: WriteTo>(alloc: Global, value: &T, bytes: &[u8]) -> Res
         let sink = FailingSink::new(Vec::with_capacity(alloc, bytes.len())?, room);
         let mut writer = IoWriter::new(sink);
         let got = value.write_to(&mut writer);
-        let is_told =
+        let has_debug_text =
             matches!(&got, Err(EncodeError::Write(error)) if error.kind() == ErrorKind::Other);
-        if !is_told || bytes.get(..room) != Some(writer.into_inner().buffer()) {
+        if !has_debug_text || bytes.get(..room) != Some(writer.into_inner().buffer()) {
             return Err(Fail::new(format_args!("{got:?} where byte {room} fails, of {bytes:?}")));
         }
     }

@@ -17,7 +17,7 @@ pub struct FailingWriter {
 }
 
 impl FailingWriter {
-    /// A writer behind what stands in `bytes`, that takes so many pushes before it fails.
+    /// A writer that appends to `bytes`, that takes so many pushes before it fails.
     pub fn new(bytes: Vec<u8>, pushes: usize) -> FailingWriter
         ensures written { (failing_output result).written ≡ Some bytes.items }
         ensures failures { (failing_output result).failures ≡ 0 }
@@ -47,13 +47,13 @@ impl FailingWriter {
 impl Write for FailingWriter {
     type Error = Failure;
 
-    ghost whole = { true };
+    ghost atomic = { true };
 
     ghost view = { failing_output };
 
     fn push(&mut self, input: &[u8]) -> Result<(), Failure> {
-        let is_told = self.pushes == 0 && self.failures == 0;
-        if is_told || self.bytes.extend_from_slice(input).is_err() {
+        let has_debug_text = self.pushes == 0 && self.failures == 0;
+        if has_debug_text || self.bytes.extend_from_slice(input).is_err() {
             self.failures = self.failures.saturating_add(1);
             return Err(Failure);
         }
@@ -89,7 +89,7 @@ impl PushLengths {
 impl Write for PushLengths {
     type Error = Failure;
 
-    ghost whole = { false };
+    ghost atomic = { false };
 
     ghost view = { pushed_output };
 

@@ -12,7 +12,7 @@ use cbor4ii_vectors::{eof, mismatch, table};
 use std::alloc::Global;
 use std::test::Fail;
 
-/// The first item of an array, with how many there are before it and behind it.
+/// The first item of an array, with how many there are before it and after it.
 #[derive(Debug, PartialEq, Drop)]
 struct First(Option<usize>, Option<u8>, Option<usize>);
 
@@ -52,18 +52,18 @@ const DROPPED: &[RowWithin<Answer<Dropped>>] = table! {
     (b"\x81\x80", 1, Ok(Is(Dropped)), b"\x80"),
 };
 
-/// The item behind the head of an array, which was opened and dropped.
+/// The item after the head of an array, which was opened and dropped.
 #[derive(Debug, PartialEq, Drop)]
-struct BehindDropped(Value);
+struct AfterDropped(Value);
 
-impl ReadFrom for BehindDropped {
+impl ReadFrom for AfterDropped {
     fn read_from<S: Source>(
         alloc: Global,
         reader: &mut S,
-    ) -> Result<BehindDropped, core_error::DecodeError<S::Error>> {
+    ) -> Result<AfterDropped, core_error::DecodeError<S::Error>> {
         let mut de = Deserializer::new(reader);
         if let Answer::Is(Dropped) = Answer::of(Dropped::take(alloc, &mut de))? {
-            return Ok(BehindDropped(Value::decode(alloc, de.into_inner())?));
+            return Ok(AfterDropped(Value::decode(alloc, de.into_inner())?));
         }
         Err(core_error::DecodeError::Custom {
             name: "dropped",
@@ -72,11 +72,11 @@ impl ReadFrom for BehindDropped {
     }
 }
 
-// 128 arrays, one in another, behind the head of one more.
+// 128 arrays, one in another, after the head of one more.
 #[test]
-fn what_stands_behind_a_dropped_accessor(rt: HostRuntime) -> Result<(), Fail> {
+fn what_stands_after_a_dropped_accessor(rt: HostRuntime) -> Result<(), Fail> {
     let alloc = rt.alloc();
-    let value = Ok(BehindDropped(nested_value(alloc, 127)?));
+    let value = Ok(AfterDropped(nested_value(alloc, 127)?));
     reads(alloc, nested(alloc, 128)?, value, b"")
 }
 
@@ -108,7 +108,7 @@ const ENDED: &[Row<Answer<Ended>>] = table! {
     (b"\x9f\x01\xff\xff", Ok(Is(Ended(Some(1), None, None))), b"\xff"),
 };
 
-/// What stands on both sides of an item that may be refused.
+/// What stands on both sides of an item that may be rejected.
 #[derive(Debug, PartialEq, Drop)]
 struct GoesOn(Option<u8>, bool, Option<u8>, Option<u8>);
 
@@ -119,13 +119,13 @@ impl Take for GoesOn {
     ) -> Result<GoesOn, DecodeError<S::Error>> {
         let mut items = de.deserialize_tuple(3)?;
         let first = items.next_element(alloc)?;
-        let is_refused = match items.next_element::<u8>(alloc) {
+        let is_rejected = match items.next_element::<u8>(alloc) {
             Ok(_) => false,
             Err(DecodeError::Core(core_error::DecodeError::Mismatch { .. })) => true,
             Err(error) => return Err(error),
         };
         let third = items.next_element(alloc)?;
-        Ok(GoesOn(first, is_refused, third, items.next_element(alloc)?))
+        Ok(GoesOn(first, is_rejected, third, items.next_element(alloc)?))
     }
 }
 
@@ -134,7 +134,7 @@ const GOES_ON: &[Row<Answer<GoesOn>>] = table! {
 };
 
 /// The first item of an array, which is read from what the accessor lends, and whether another one
-/// comes behind it.
+/// comes after it.
 #[derive(Debug, PartialEq, Drop)]
 struct Lent(bool, u8, bool);
 
@@ -188,7 +188,7 @@ fn what_an_accessor_answers_later(rt: HostRuntime) -> Result<(), Fail> {
     reads_all(alloc, TUPLE_STRUCTS, &[])
 }
 
-/// The entries of a map, in both ways, and what stands behind them.
+/// The entries of a map, in both ways, and what follows them.
 #[derive(Debug, PartialEq, Drop)]
 struct Entries(
     Option<(u8, u8)>,
@@ -212,14 +212,14 @@ impl Take for Entries {
     }
 }
 
-// Of a map of an indefinite and of a known length.
+// Of a map of an indefinite and of definite length.
 const OPEN: Answer<Entries> = Is(Entries(Some((1, 2)), Some(3), 4, None, None));
 
-const COUNTED: Answer<Entries> = Is(Entries(Some((1, 2)), Some(3), 4, None, Some(0)));
+const DEFINITE: Answer<Entries> = Is(Entries(Some((1, 2)), Some(3), 4, None, Some(0)));
 
 const ENTRIES: &[Row<Answer<Entries>>] = table! {
     (b"\xbf\x01\x02\x03\x04\xff", Ok(OPEN), b""),
-    (b"\xa2\x01\x02\x03\x04\xff", Ok(COUNTED), b"\xff"),
+    (b"\xa2\x01\x02\x03\x04\xff", Ok(DEFINITE), b"\xff"),
     (b"\x80", Err(mismatch!("map", 0x80)), b""),
 };
 

@@ -2,7 +2,9 @@
 use crate::growth::{ARRAYS, MAPS, PARTS, grows};
 use crate::nested::{nested, nested_value};
 use crate::typed::Answer::{self, Is};
-use crate::typed::{BothTold, Refused, RowTold, RowToldWithin, Take, refuses, tells, tells_all};
+use crate::typed::{
+    BothShown, Rejected, RowShown, RowShownWithin, Take, rejects, tells, tells_all,
+};
 use cbor4ii::Value;
 use cbor4ii::serde::{DecodeError, Deserializer};
 use cbor4ii_rw::read::Source;
@@ -11,7 +13,7 @@ use cbor4ii_vectors::{eof, mismatch, no_step, table, unsupported};
 use std::alloc::{AllocError, Global};
 use std::test::Fail;
 
-const REFUSED: &[Refused] = table! {
+const REJECTED: &[Rejected] = table! {
     (b"\xd8\x02\x41\x05", unsupported!("any", 0xd8), b"\xd8\x02\x41\x05"),
     (b"\xc1\x00", unsupported!("any", 0xc1), b"\xc1\x00"),
     (b"\xff", unsupported!("any", 0xff), b"\xff"),
@@ -25,7 +27,7 @@ const REFUSED: &[Refused] = table! {
     (b"\x99\x00", eof!("array", 2), b""),
 };
 
-const REFUSED_WITHIN: &[RowToldWithin] = table! {
+const REJECTED_WITHIN: &[RowShownWithin] = table! {
     (b"\x05", 0, Err(no_step!("any")), b"\x05"),
     (b"\x7f\x61a\xff", 1, Err(no_step!("str")), b"\x61a\xff"),
     (b"\x80", 1, Err(no_step!("seq")), b"\x80"),
@@ -34,25 +36,25 @@ const REFUSED_WITHIN: &[RowToldWithin] = table! {
 };
 
 #[test]
-fn what_is_refused(rt: HostRuntime) -> Result<(), Fail> {
+fn what_is_rejected(rt: HostRuntime) -> Result<(), Fail> {
     let alloc = rt.alloc();
-    refuses::<Answer<Value>>(alloc, REFUSED)?;
-    tells_all::<Answer<Value>>(alloc, &[], REFUSED_WITHIN)
+    rejects::<Answer<Value>>(alloc, REJECTED)?;
+    tells_all::<Answer<Value>>(alloc, &[], REJECTED_WITHIN)
 }
 
-const CONTAINERS: &[BothTold] = table! {
+const CONTAINERS: &[BothShown] = table! {
     (b"\xa1\x01\x82\xf5\x61a", "Is(Map([(Integer(1), Array([Bool(true), Text(\"a\")]))]))"),
     (b"\x82\x01\x81\xf6", "Is(Array([Integer(1), Array([Null])]))"),
     (b"\xa2\x01\x02\x01\x03", "Is(Map([(Integer(1), Integer(2)), (Integer(1), Integer(3))]))"),
     (b"\xa1\x61a\xf4", "Is(Map([(Text(\"a\"), Bool(false))]))"),
 };
 
-const CONTAINERS_READ: &[RowTold] = table! {
+const CONTAINERS_READ: &[RowShown] = table! {
     (b"\x9f\x01\x80\xff\x02", Ok("Is(Array([Integer(1), Array([])]))"), b"\x02"),
     (b"\xbf\x61a\xf4\xff", Ok("Is(Map([(Text(\"a\"), Bool(false))]))"), b""),
 };
 
-const CONTAINERS_WITHIN: &[RowToldWithin] = table! {
+const CONTAINERS_WITHIN: &[RowShownWithin] = table! {
     (b"\x80", 2, Ok("Is(Array([]))"), b""),
     (b"\xa0", 2, Ok("Is(Map([]))"), b""),
 };
@@ -112,7 +114,7 @@ impl Take for ByCall {
     }
 }
 
-// 2^64 - 1 and a byte behind it, 2^64, 2^64 + 98, and 2^127.
+// 2^64 - 1 and a byte after it, 2^64, 2^64 + 98, and 2^127.
 const EIGHT_BYTES: &[u8] = b"\xc2\x48\xff\xff\xff\xff\xff\xff\xff\xff\x00";
 
 const NINE_BYTES: &[u8] = b"\xc2\x49\x01\x00\x00\x00\x00\x00\x00\x00\x00";
@@ -122,7 +124,7 @@ const GREATER: &[u8] = b"\xc2\x49\x01\x00\x00\x00\x00\x00\x00\x00\x62";
 const TOO_GREAT: &[u8] =
     b"\xc2\x50\x80\x00\x00\x00\x00\x00\x00\x00\x00\x00\x00\x00\x00\x00\x00\x00";
 
-const BY_CALL: &[RowTold] = table! {
+const BY_CALL: &[RowShown] = table! {
     (EIGHT_BYTES, Ok("Is(ByCall(Integer(18446744073709551615)))"), b"\x00"),
     (NINE_BYTES, Ok("Is(ByCall(Integer(18446744073709551616)))"), b""),
     (GREATER, Ok("Is(ByCall(Integer(18446744073709551714)))"), b""),
@@ -131,7 +133,7 @@ const BY_CALL: &[RowTold] = table! {
     (b"", Err(eof!("any", 1)), b""),
 };
 
-const BY_CALL_WITHIN: &[RowToldWithin] = table! {
+const BY_CALL_WITHIN: &[RowShownWithin] = table! {
     (b"\x05", 0, Err(no_step!("any")), b"\x05"),
     (b"\x80", 1, Err(no_step!("seq")), b"\x80"),
     (b"\x80", 2, Ok("Is(ByCall(Array([])))"), b""),

@@ -1,7 +1,7 @@
 //! Rows of items that hold no other, read as values.
 use crate::growth::{LETTERS, grows_by_letters, text_of};
 use crate::typed::Answer::{self, Is};
-use crate::typed::{BothTold, Refused, RowTold, RowToldWithin, refuses, tells};
+use crate::typed::{BothShown, Rejected, RowShown, RowShownWithin, rejects, tells};
 use cbor4ii::Value;
 use cbor4ii_vectors::{cast_overflow, eof, mismatch, require_length, require_utf8, table};
 use std::test::Fail;
@@ -11,15 +11,15 @@ const GREATEST: &[u8] = b"\xc2\x50\x7f\xff\xff\xff\xff\xff\xff\xff\xff\xff\xff\x
 
 const LEAST: &[u8] = b"\xc3\x50\x7f\xff\xff\xff\xff\xff\xff\xff\xff\xff\xff\xff\xff\xff\xff\xff";
 
-// 2^127, and a byte behind it.
+// 2^127, and a byte after it.
 const TOO_GREAT: &[u8] =
     b"\xc2\x50\x80\x00\x00\x00\x00\x00\x00\x00\x00\x00\x00\x00\x00\x00\x00\x00\x00";
 
-// -1 - 2^127, and a byte behind it.
+// -1 - 2^127, and a byte after it.
 const TOO_LOW: &[u8] =
     b"\xc3\x50\x80\x00\x00\x00\x00\x00\x00\x00\x00\x00\x00\x00\x00\x00\x00\x00\x05";
 
-const INTEGERS: &[BothTold] = table! {
+const INTEGERS: &[BothShown] = table! {
     (b"\x05", "Is(Integer(5))"),
     (b"\x29", "Is(Integer(-10))"),
     (b"\x38\x63", "Is(Integer(-100))"),
@@ -32,14 +32,14 @@ const INTEGERS: &[BothTold] = table! {
     (LEAST, "Is(Integer(-170141183460469231731687303715884105728))"),
 };
 
-const INTEGERS_READ: &[RowTold] = table! {
+const INTEGERS_READ: &[RowShown] = table! {
     (b"\x18\x05\x00", Ok("Is(Integer(5))"), b"\x00"),
     (b"\xc2\x40", Ok("Is(Integer(0))"), b""),
     (TOO_GREAT, Ok("Custom(\"integer out of range\")"), b"\x00"),
 };
 
 // A bignum takes one step.
-const INTEGERS_WITHIN: &[RowToldWithin] = table! {
+const INTEGERS_WITHIN: &[RowShownWithin] = table! {
     (b"\xc2\x41\x05", 1, Ok("Is(Integer(5))"), b""),
 };
 
@@ -48,7 +48,7 @@ fn integers(rt: HostRuntime) -> Result<(), Fail> {
     tells::<Answer<Value>>(rt.alloc(), INTEGERS, INTEGERS_READ, INTEGERS_WITHIN)
 }
 
-const LEAVES: &[BothTold] = table! {
+const LEAVES: &[BothShown] = table! {
     (b"\x42\x01\x02", "Is(Bytes([1, 2]))"),
     (b"\x61a", "Is(Text(\"a\"))"),
     (b"\xf4", "Is(Bool(false))"),
@@ -61,12 +61,12 @@ const LEAVES: &[BothTold] = table! {
     (b"\xfb\x7f\xf0\x00\x00\x00\x00\x00\x00", "Is(Float(F64(9218868437227405312)))"),
 };
 
-const LEAVES_READ: &[RowTold] = table! {
+const LEAVES_READ: &[RowShown] = table! {
     (b"\xf6\xf7", Ok("Is(Null)"), b"\xf7"),
     (b"\xf7", Ok("Is(Null)"), b""),
 };
 
-const LEAVES_WITHIN: &[RowToldWithin] = table! {
+const LEAVES_WITHIN: &[RowShownWithin] = table! {
     (b"\x5f\x41\x01\x41\x02\xff", 2, Ok("Is(Bytes([1, 2]))"), b""),
     (b"\x61a", 1, Ok("Is(Text(\"a\"))"), b""),
     (b"\x7f\x61a\xff", 2, Ok("Is(Text(\"a\"))"), b""),
@@ -77,7 +77,7 @@ fn strings_simple_values_and_floats(rt: HostRuntime) -> Result<(), Fail> {
     tells::<Answer<Value>>(rt.alloc(), LEAVES, LEAVES_READ, LEAVES_WITHIN)
 }
 
-const REFUSED: &[Refused] = table! {
+const REJECTED: &[Rejected] = table! {
     (TOO_LOW, cast_overflow!("i128"), b"\x05"),
     (b"\xc2\x5f\xff", require_length!("u128::bytes"), b"\xff"),
     (b"\xc3\x01\x02", mismatch!("-i128::bytes", 0x01), b"\x02"),
@@ -89,8 +89,8 @@ const REFUSED: &[Refused] = table! {
 };
 
 #[test]
-fn leaves_that_are_refused(rt: HostRuntime) -> Result<(), Fail> {
-    refuses::<Answer<Value>>(rt.alloc(), REFUSED)
+fn leaves_that_are_rejected(rt: HostRuntime) -> Result<(), Fail> {
+    rejects::<Answer<Value>>(rt.alloc(), REJECTED)
 }
 
 #[test]

@@ -1,6 +1,6 @@
-//! Rows of strings that are borrowed from the input, and refused where they are not lent.
+//! Rows of strings that are borrowed from the input, and rejected where they are not lent.
 use crate::lent_strings::{Kind, reads_byte_strings, reads_texts};
-use crate::typed::{comes_back_lent, is_refused};
+use crate::typed::{comes_back_lent, is_rejected};
 use cbor4ii::serde::{DecodeError, from_reader, from_slice};
 use cbor4ii::types::Bytes;
 use cbor4ii_rw::error as core_error;
@@ -33,15 +33,15 @@ fn strings_that_are_lent_come_back(rt: HostRuntime) -> Result<(), Fail> {
 const NOT_LENT: &str = require_borrowed!("str");
 
 #[test]
-fn a_text_that_is_not_lent_is_refused(rt: HostRuntime) -> Result<(), Fail> {
+fn a_text_that_is_not_lent_is_rejected(rt: HostRuntime) -> Result<(), Fail> {
     let alloc = rt.alloc();
     let got = from_slice::<&[u8], &str>(alloc, b"\x7f\x61a\xff".as_slice());
-    is_refused(got, NOT_LENT)?;
+    is_rejected(got, NOT_LENT)?;
     let got = from_reader::<&[u8], &str>(alloc, b"\x61a".as_slice());
-    is_refused(got, NOT_LENT)
+    is_rejected(got, NOT_LENT)
 }
 
-// A text of one letter, and what stands behind it.
+// A text of one letter, and what follows it.
 const LETTER: &[u8] = b"\x61\x61\x06";
 
 /// Whether the stream's fault is the answer where a text is to be lent out of it. Where it is not,
@@ -56,12 +56,12 @@ fn fails_before_a_text<R: BufRead>(alloc: Global, stream: &mut R) -> Result<bool
     if is_fault {
         return Ok(true);
     }
-    is_refused(got, NOT_LENT)?;
+    is_rejected(got, NOT_LENT)?;
     Ok(false)
 }
 
 /// Whether a stream of single bytes that fails at this look does, which is the answer then, and the
-/// letter is left in it. Where it does not, the text was taken, and what stands behind it is left.
+/// letter is left in it. Where it does not, the text was taken, and what follows it is left.
 fn fails_at_look(alloc: Global, looks: usize) -> Result<bool, Fail> {
     let mut stream = FailingStream::new(LETTER, 1, looks);
     let is_fault = fails_before_a_text(alloc, &mut stream)?;

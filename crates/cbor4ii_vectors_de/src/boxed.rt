@@ -1,17 +1,17 @@
 //! Rows of values in a box.
-use crate::typed::{Answer, BothTold, RowTold, RowToldWithin, tells};
+use crate::typed::{Answer, BothShown, RowShown, RowShownWithin, tells};
 use cbor4ii_vectors::{mismatch, table};
 use std::test::Fail;
 
-const BOXES: &[BothTold] = table! {
+const BOXES: &[BothShown] = table! {
     (b"\x0a", "Is(10)"),
 };
 
-const BOXES_READ: &[RowTold] = table! {
+const BOXES_READ: &[RowShown] = table! {
     (b"\x20\x06", Err(mismatch!("u32", 0x20)), b"\x06"),
 };
 
-const BOXES_WITHIN: &[RowToldWithin] = table! {
+const BOXES_WITHIN: &[RowShownWithin] = table! {
     (b"\x05\x06", 0, Ok("Is(5)"), b"\x06"),
 };
 

@@ -7,7 +7,7 @@ use std::test::Fail;
 const FAILED: DecodeError<u8> = DecodeError::Core(core_error::DecodeError::Read(5));
 
 #[test]
-fn errors_are_told(rt: HostRuntime) -> Result<(), Fail> {
+fn errors_are_reported(rt: HostRuntime) -> Result<(), Fail> {
     assert_eq!(rt; DecodeError::read(5u8), FAILED);
     assert_eq!(rt;
         DecodeError::from(core_error::DecodeError::Read(5u8)),

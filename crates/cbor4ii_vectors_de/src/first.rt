@@ -1,5 +1,5 @@
 //! The value at the front of a slice, and of a stream.
-use crate::typed::{BothTold, come_back, comes_back_lent, is_at_front, is_refused};
+use crate::typed::{BothShown, come_back, comes_back_lent, is_at_front, is_rejected};
 use cbor4ii::Value;
 use cbor4ii::serde::{DecodeError, from_reader, from_slice};
 use cbor4ii_rw::error as core_error;
@@ -36,15 +36,15 @@ fn the_value_at_the_front_of_bytes_of_the_test(rt: HostRuntime) -> Result<(), Fa
     comes_back_lent::<&[u8], String>(alloc, &bytes, &bytes, "\"a\"")
 }
 
-const NUMBERS_BOTH: &[BothTold] = table! {
+const NUMBERS_BOTH: &[BothShown] = table! {
     (b"\x0a", "Some(10)"),
 };
 
-const UNITS_BOTH: &[BothTold] = table! {
+const UNITS_BOTH: &[BothShown] = table! {
     (b"\x80", "()"),
 };
 
-const OPTIONAL_UNITS_BOTH: &[BothTold] = table! {
+const OPTIONAL_UNITS_BOTH: &[BothShown] = table! {
     (b"\x80", "Some(())"),
 };
 
@@ -56,11 +56,11 @@ fn numbers_and_units_come_back(rt: HostRuntime) -> Result<(), Fail> {
     come_back::<Option<()>>(alloc, OPTIONAL_UNITS_BOTH)
 }
 
-const OPTIONS_BOTH: &[BothTold] = table! {
+const OPTIONS_BOTH: &[BothShown] = table! {
     (b"\x83\x18\x99\xf6\x18\x33", "[Some(153), None, Some(51)]"),
 };
 
-const PAIRS_BOTH: &[BothTold] = table! {
+const PAIRS_BOTH: &[BothShown] = table! {
     (b"\x81\x82\x0a\x1a\x00\x01\x86\x9f", "Some([(10, 99999)])"),
 };
 
@@ -71,7 +71,7 @@ fn arrays_come_back(rt: HostRuntime) -> Result<(), Fail> {
     come_back::<Option<Vec<(u128, i128)>>>(alloc, PAIRS_BOTH)
 }
 
-const ANY_BOTH: &[BothTold] = table! {
+const ANY_BOTH: &[BothShown] = table! {
     (b"\xf6", "Null"),
     (b"\xa1\x61a\xf4", "Map([(Text(\"a\"), Bool(false))])"),
     (b"\xc2\x49\x01\x00\x00\x00\x00\x00\x00\x00\x62", "Integer(18446744073709551714)"),
@@ -89,17 +89,17 @@ fn number_at_front<R: BufRead>(alloc: Global, stream: &mut R) -> Result<u8, Fail
 }
 
 #[test]
-fn a_stream_stands_behind_the_value_that_was_read(rt: HostRuntime) -> Result<(), Fail> {
+fn a_stream_stands_after_the_value_that_was_read(rt: HostRuntime) -> Result<(), Fail> {
     let mut stream: &[u8] = b"\x05\x06";
     assert_eq!(rt; number_at_front(rt.alloc(), &mut stream)?, 5);
     assert_eq!(rt; stream, b"\x06".as_slice());
     Ok(())
 }
 
-// Each byte is shown alone: the first of the value's leaves the stream at the look behind it, and
+// Each byte is shown alone: the first of the value's leaves the stream at the look after it, and
 // the second when the reader is dropped.
 #[test]
-fn a_stream_of_single_bytes_stands_behind_the_value(rt: HostRuntime) -> Result<(), Fail> {
+fn a_stream_of_single_bytes_stands_after_the_value(rt: HostRuntime) -> Result<(), Fail> {
     let mut stream = FailingStream::new(b"\x18\x05\x06", 1, usize::MAX);
     assert_eq!(rt; number_at_front(rt.alloc(), &mut stream)?, 5);
     assert_eq!(rt; stream.remaining(), b"\x06".as_slice());
@@ -125,7 +125,7 @@ const NEGATIVE: &str = mismatch!("u8", 0x20);
 /// No number from 0 on stands at the front of a stream that is lent.
 fn is_negative_at_front<R: BufRead>(alloc: Global, stream: &mut R) -> Result<(), Fail> {
     let got: Result<u8, DecodeError<io::Error>> = from_reader(alloc, stream);
-    is_refused(got, NEGATIVE)
+    is_rejected(got, NEGATIVE)
 }
 
 // The first byte is taken, and no other.
@@ -133,7 +133,7 @@ fn is_negative_at_front<R: BufRead>(alloc: Global, stream: &mut R) -> Result<(),
 fn a_value_that_is_refused_at_the_front(rt: HostRuntime) -> Result<(), Fail> {
     let alloc = rt.alloc();
     let got = from_slice::<&[u8], u8>(alloc, b"\x20\x06".as_slice());
-    is_refused(got, NEGATIVE)?;
+    is_rejected(got, NEGATIVE)?;
     let mut stream: &[u8] = b"\x20\x06";
     is_negative_at_front(alloc, &mut stream)?;
     assert_eq!(rt; stream, b"\x06".as_slice());

@@ -12,7 +12,7 @@ pub const PARTS: u16 = 300;
 /// How many letters a text has: 0x4e20. At most 16384 bytes are reserved.
 pub const LETTERS: usize = 20_000;
 
-/// What stands before the parts, before or behind each of them, and behind the last one.
+/// What stands before the parts, before or after each of them, and after the last one.
 pub type Shape = (&'static [u8], &'static [u8], &'static [u8]);
 
 /// Arrays of 300 numbers, of a known and of an indefinite length.
@@ -21,17 +21,17 @@ pub const ARRAYS: &[Shape] = table! {
     (b"\x9f", b"", b"\xff"),
 };
 
-/// Maps of 300 numbers, each with a 5 behind it.
+/// Maps of 300 numbers, each with a 5 after it.
 pub const MAPS: &[Shape] = table! {
     (b"\xb9\x01\x2c", b"\x05", b""),
     (b"\xbf", b"\x05", b"\xff"),
 };
 
-// The bytes of 300 parts of this shape: the numbers from 0 on, each in two bytes behind its head.
+// The bytes of 300 parts of this shape: the numbers from 0 on, each in two bytes after its head.
 fn numbered(alloc: Global, shape: &Shape) -> Result<&'static [u8], Fail> {
-    let (front, at_each, end) = *shape;
+    let (prefix, at_each, end) = *shape;
     let mut bytes = Vec::new(alloc);
-    bytes.extend_from_slice(front)?;
+    bytes.extend_from_slice(prefix)?;
     for number in 0..PARTS {
         bytes.push(0x19)?;
         bytes.extend_from_slice(number.to_be_bytes().as_slice())?;
@@ -53,7 +53,7 @@ where
     Ok(())
 }
 
-// What stands before the letters, before each of them, and behind them: a text of a known length,
+// What stands before the letters, before each of them, and after them: a text of definite length,
 // and one of an indefinite length with a chunk for each letter.
 const TEXTS: &[Shape] = table! {
     (b"\x79\x4e\x20", b"", b""),
@@ -69,10 +69,10 @@ pub fn text_of(alloc: Global, letters: usize) -> Result<String, Fail> {
 
 /// The bytes of the text of so many letters in this shape.
 pub fn lettered(alloc: Global, shape: &Shape, letters: usize) -> Result<&'static [u8], Fail> {
-    let (front, at_each, end) = *shape;
+    let (prefix, at_each, end) = *shape;
     let text = text_of(alloc, letters)?;
     let mut bytes = Vec::new(alloc);
-    bytes.extend_from_slice(front)?;
+    bytes.extend_from_slice(prefix)?;
     for letter in text.as_bytes() {
         bytes.extend_from_slice(at_each)?;
         bytes.push(*letter)?;

@@ -4,7 +4,7 @@ use crate::typed::{Take, reads_all};
 use cbor4ii::dec::IgnoredAny;
 use cbor4ii::serde::{DecodeError, Deserializer};
 use cbor4ii_rw::read::Source;
-use cbor4ii_vectors::rows::{Row, RowWithin, ends_at_each_front};
+use cbor4ii_vectors::rows::{Row, RowWithin, ends_at_each_prefix};
 use cbor4ii_vectors::{eof, no_step, table, unsupported};
 use std::alloc::Global;
 use std::test::Fail;
@@ -49,6 +49,6 @@ const TWO: &[Row<Answer<Two>>] = table! {
 fn items_are_skipped(rt: HostRuntime) -> Result<(), Fail> {
     let alloc = rt.alloc();
     reads_all(alloc, SKIPPED, SKIPPED_WITHIN)?;
-    ends_at_each_front::<Answer<IgnoredAny>>(alloc, b"\x9f\x81\x01\x61a\xff", 256)?;
+    ends_at_each_prefix::<Answer<IgnoredAny>>(alloc, b"\x9f\x81\x01\x61a\xff", 256)?;
     reads_all(alloc, TWO, &[])
 }

@@ -3,7 +3,7 @@ ghost use Rattle.std.specs.Prelude.{◌≡◌, [], codes};
 ghost use Rattle.std.proofs.Common.{◌∙◌, sym, refl};
 ghost use Rattle.cbor4ii_items.specs.Laws.Arguments.{argument_one, argument_within, zero_small};
 ghost use Rattle.cbor4ii_items.specs.Numbers.{ReadsUnsigned};
-ghost use Rattle.cbor4ii.specs.CodecFields.{fields_codec, part, no_parts};
+ghost use Rattle.cbor4ii.specs.CodecFields.{fields_codec, with_field, no_fields};
 ghost use Rattle.cbor4ii.specs.Fields.{no_values};
 ghost use Rattle.cbor4ii.specs.Typed.{not_exact};
 
@@ -20,7 +20,7 @@ fn laws_of_values_are_called(rt: HostRuntime) {
     laws::orders_are_total::<String>();
     laws::values_cost_no_more_than_canonical_ones();
     laws::what_is_written_is_read::<u8, Never>();
-    laws::refused_options_are_not_read::<u8>();
+    laws::rejected_options_are_not_read::<u8>();
 }
 
 /// A struct of two fields, which its call answers as they are held.
@@ -28,8 +28,8 @@ struct Two(u8, bool);
 
 impl Described for Two {
     ghost codec = { fields_codec (λ t. (t.0, (t.1, no_values)))
-        (part (codes "b") [] ⟦<u8 as Described>⟧.codec
-        (part (codes "f") [] ⟦<bool as Described>⟧.codec no_parts refl) refl) refl };
+        (with_field (codes "b") [] ⟦<u8 as Described>⟧.codec
+        (with_field (codes "f") [] ⟦<bool as Described>⟧.codec no_fields refl) refl) refl };
 }
 
 #[test]

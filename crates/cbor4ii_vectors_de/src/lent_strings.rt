@@ -119,7 +119,7 @@ impl Strings for IoReader<FailingStream<'static>> {
 }
 
 /// What a string is read as: its content, and whether it is borrowed, or the text of the codec's
-/// refusal.
+/// error.
 type Want = Result<(&'static [u8], bool), &'static str>;
 
 /// What a type that is always borrowed is read as.
@@ -169,7 +169,7 @@ fn reads<S: Strings + Drop>(
 
 /// A string whose content is all between its head and the rest: over a slice, over segments that
 /// cut it at each place, and out of streams.
-fn reads_counted(
+fn reads_definite(
     kind: Kind,
     alloc: Global,
     bytes: &'static [u8],
@@ -194,7 +194,7 @@ fn reads_counted(
     reads_of_streams(kind, alloc, bytes, Ok((content, false)), rest)
 }
 
-/// A string that no reader lends, or that is refused: over the same readers, one answer.
+/// A string that no reader lends, or that is rejected: over the same readers, one answer.
 fn reads_alike(
     kind: Kind,
     alloc: Global,
@@ -328,7 +328,7 @@ fn fails_at_look(
 
 /// Bytes of a string that is borrowed where its content is lent whole, its content, and what is
 /// left of them.
-type Counted = (&'static [u8], &'static [u8], &'static [u8]);
+type Definite = (&'static [u8], &'static [u8], &'static [u8]);
 
 /// Bytes that are read alike over each reader, what they are read as, and what is left of them.
 type Alike = (&'static [u8], Want, &'static [u8]);
@@ -337,12 +337,12 @@ type Alike = (&'static [u8], Want, &'static [u8]);
 fn reads_rows(
     kinds: &[Kind],
     alloc: Global,
-    counted: &[Counted],
+    counted: &[Definite],
     alike: &[Alike],
 ) -> Result<(), Fail> {
     for kind in kinds {
         for (bytes, content, rest) in counted {
-            reads_counted(*kind, alloc, bytes, content, rest)?;
+            reads_definite(*kind, alloc, bytes, content, rest)?;
         }
         for (bytes, want, rest) in alike {
             reads_alike(*kind, alloc, bytes, *want, rest)?;
@@ -364,8 +364,8 @@ fn reads_with_no_step(kinds: &[Kind], alloc: Global, row: Alike) -> Result<(), F
 /// How many letters a long string has: 0x012c. It is cut at each place, and read with each fault.
 const FEW: usize = 300;
 
-/// What is left behind a long string.
-const BEHIND: &[u8] = b"\x01";
+/// What is consumed a long string.
+const AFTER: &[u8] = b"\x01";
 
 /// Strings of 300 letters, by each way to read: one that is counted, and others in chunks.
 fn reads_long(
@@ -377,12 +377,12 @@ fn reads_long(
     let content = lettered(alloc, &(b"", b"", b""), FEW)?;
     let bytes = lettered(alloc, counted, FEW)?;
     for kind in kinds {
-        reads_counted(*kind, alloc, bytes, content, BEHIND)?;
+        reads_definite(*kind, alloc, bytes, content, AFTER)?;
     }
     for shape in in_chunks {
         let bytes = lettered(alloc, shape, FEW)?;
         for kind in kinds {
-            reads_alike(*kind, alloc, bytes, Ok((content, false)), BEHIND)?;
+            reads_alike(*kind, alloc, bytes, Ok((content, false)), AFTER)?;
         }
     }
     Ok(())
@@ -399,18 +399,18 @@ fn reads_longer(
     let bytes = lettered(alloc, counted, LETTERS)?;
     let copied = Ok((content, false));
     for kind in kinds {
-        reads_many(*kind, alloc, bytes, Ok((content, true)), copied, BEHIND)?;
+        reads_many(*kind, alloc, bytes, Ok((content, true)), copied, AFTER)?;
     }
     for shape in in_chunks {
         let bytes = lettered(alloc, shape, LETTERS)?;
         for kind in kinds {
-            reads_many(*kind, alloc, bytes, copied, copied, BEHIND)?;
+            reads_many(*kind, alloc, bytes, copied, copied, AFTER)?;
         }
     }
     Ok(())
 }
 
-const TEXTS_COUNTED: &[Counted] = table! {
+const TEXTS_DEFINITE: &[Definite] = table! {
     (b"\x64IETF\x01", b"IETF", b"\x01"),
     (b"\x62\xc3\xbc", b"\xc3\xbc", b""),
     (b"\x63123", b"123", b""),
@@ -443,13 +443,13 @@ const TEXT_WITH_NO_STEP: Alike = (b"\x7f\x61a\xff", Err(no_step!("str")), b"\x61
 
 /// The rows of texts, by each of these ways to read.
 pub fn reads_texts(kinds: &[Kind], alloc: Global) -> Result<(), Fail> {
-    reads_rows(kinds, alloc, TEXTS_COUNTED, TEXTS_ALIKE)?;
+    reads_rows(kinds, alloc, TEXTS_DEFINITE, TEXTS_ALIKE)?;
     reads_with_no_step(kinds, alloc, TEXT_WITH_NO_STEP)?;
     reads_long(kinds, alloc, &LONG_TEXT, LONG_TEXTS_IN_CHUNKS)?;
     reads_longer(kinds, alloc, &LONGER_TEXT, LONGER_TEXTS_IN_CHUNKS)
 }
 
-const BYTE_STRINGS_COUNTED: &[Counted] = table! {
+const BYTE_STRINGS_DEFINITE: &[Definite] = table! {
     (b"\x44\x01\x02\x03\x04\xff", b"\x01\x02\x03\x04", b"\xff"),
     (b"\x43123", b"123", b""),
 };
@@ -479,7 +479,7 @@ const BYTE_STRING_WITH_NO_STEP: Alike = (b"\x5f\x41a\xff", Err(no_step!("bytes")
 
 /// The rows of byte strings, by each of these ways to read.
 pub fn reads_byte_strings(kinds: &[Kind], alloc: Global) -> Result<(), Fail> {
-    reads_rows(kinds, alloc, BYTE_STRINGS_COUNTED, BYTE_STRINGS_ALIKE)?;
+    reads_rows(kinds, alloc, BYTE_STRINGS_DEFINITE, BYTE_STRINGS_ALIKE)?;
     reads_with_no_step(kinds, alloc, BYTE_STRING_WITH_NO_STEP)?;
     reads_long(kinds, alloc, &LONG_BYTE_STRING, LONG_BYTE_STRINGS_IN_CHUNKS)?;
     reads_longer(

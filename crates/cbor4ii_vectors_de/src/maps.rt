@@ -1,16 +1,16 @@
 //! Rows of ordered maps.
-use crate::typed::{Answer, BothTold, RowTold, RowToldWithin, tells};
+use crate::typed::{Answer, BothShown, RowShown, RowShownWithin, tells};
 use cbor4ii_items::types::Bytes;
 use cbor4ii_vectors::{eof, mismatch, no_step, table};
 use std::collections::BTreeMap;
 use std::test::Fail;
 
-const MAPS: &[BothTold] = table! {
+const MAPS: &[BothShown] = table! {
     (b"\xa0", "Is({})"),
     (b"\xa2\x01\x02\x03\x04", "Is({1: 2, 3: 4})"),
 };
 
-const MAPS_READ: &[RowTold] = table! {
+const MAPS_READ: &[RowShown] = table! {
     (b"\xbf\x01\x02", Err(eof!("break", 1)), b""),
     (b"\x80\x01", Err(mismatch!("map", 0x80)), b"\x01"),
     (b"\xa1\x61\x02", Err(mismatch!("u8", 0x61)), b"\x02"),
@@ -19,7 +19,7 @@ const MAPS_READ: &[RowTold] = table! {
     (b"\xa2\x01\x02\x01\x03", Ok("Is({1: 3})"), b""),
 };
 
-const MAPS_WITHIN: &[RowToldWithin] = table! {
+const MAPS_WITHIN: &[RowShownWithin] = table! {
     (b"\xa2\x01\x02\x01\x03", 1, Ok("Is({1: 3})"), b""),
     (b"\xbf\x01\x02\x01\x03\xff\x00", 1, Ok("Is({1: 3})"), b"\x00"),
     (b"\xa1\x01\x02", 0, Err(no_step!("map")), b"\xa1\x01\x02"),
@@ -32,7 +32,7 @@ fn maps(rt: HostRuntime) -> Result<(), Fail> {
 
 const OF_TEXTS_TO_ARRAYS: &str = "Is({\"obj\": [], \"obj2\": [\"obj3\", \"obj4\", \"\"]})";
 
-const MAPS_OF_TEXTS_TO_ARRAYS: &[BothTold] = table! {
+const MAPS_OF_TEXTS_TO_ARRAYS: &[BothShown] = table! {
     (b"\xa2\x63obj\x80\x64obj2\x83\x64obj3\x64obj4\x60", OF_TEXTS_TO_ARRAYS),
 };
 
@@ -43,12 +43,12 @@ fn maps_of_texts_to_arrays(rt: HostRuntime) -> Result<(), Fail> {
 
 const OF_BYTES: &str = "Is({Bytes([1]): 2, Bytes([1, 0]): 3, Bytes([2]): 1})";
 
-const MAPS_OF_BYTES_BOTH: &[BothTold] = table! {
+const MAPS_OF_BYTES_BOTH: &[BothShown] = table! {
     (b"\xa3\x41\x01\x02\x42\x01\x00\x03\x41\x02\x01", OF_BYTES),
 };
 
 // Byte strings stand in the order of their bytes, whatever order they come in.
-const MAPS_OF_BYTES: &[RowTold] = table! {
+const MAPS_OF_BYTES: &[RowShown] = table! {
     (b"\xa3\x41\x02\x01\x42\x01\x00\x03\x41\x01\x02", Ok(OF_BYTES), b""),
 };
 

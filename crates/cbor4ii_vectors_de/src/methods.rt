@@ -66,7 +66,7 @@ fn numbers(rt: HostRuntime) -> Result<(), Fail> {
     reads_all(alloc, SIGNED, &[])
 }
 
-/// A float of each type, and two units behind them.
+/// A float of each type, and two units after them.
 #[derive(Debug, PartialEq, Drop)]
 struct FloatsAndUnits(F16, F32, F64);
 
@@ -84,7 +84,7 @@ impl Take for FloatsAndUnits {
     }
 }
 
-const SPELLED: &[u8] =
+const ENCODED: &[u8] =
     b"\xf9\x3c\x00\xfa\x7f\x80\x00\x00\xfb\x7f\xf0\x00\x00\x00\x00\x00\x00\x80\x80";
 
 const READ: Answer<FloatsAndUnits> = Is(FloatsAndUnits(
@@ -94,7 +94,7 @@ const READ: Answer<FloatsAndUnits> = Is(FloatsAndUnits(
 ));
 
 const FLOATS_AND_UNITS: &[Row<Answer<FloatsAndUnits>>] = table! {
-    (SPELLED, Ok(READ), b""),
+    (ENCODED, Ok(READ), b""),
 };
 
 #[test]

@@ -1,14 +1,14 @@
 //! Rows of texts and byte strings that are owned.
 use crate::growth::{LETTERS, grows_by_letters, text_of};
 use crate::typed::Answer::{self, Is};
-use crate::typed::{BothTold, Refused, RowTold, RowToldWithin, refuses, tells, tells_all};
+use crate::typed::{BothShown, Rejected, RowShown, RowShownWithin, rejects, tells, tells_all};
 use cbor4ii::types::Bytes;
 use cbor4ii_vectors::rows::writes;
 use cbor4ii_vectors::{eof, mismatch, no_step, require_length, require_utf8, table};
 use std::alloc::Global;
 use std::test::Fail;
 
-const TEXTS: &[BothTold] = table! {
+const TEXTS: &[BothShown] = table! {
     (b"\x60", "Is(\"\")"),
     (b"\x61a", "Is(\"a\")"),
     (b"\x64IETF", "Is(\"IETF\")"),
@@ -18,17 +18,17 @@ const TEXTS: &[BothTold] = table! {
     (b"\x64\xf0\x90\x85\x91", "Is(\"\u{10151}\")"),
 };
 
-const TEXTS_READ: &[RowTold] = table! {
+const TEXTS_READ: &[RowShown] = table! {
     (b"\x7f\x65strea\x64ming\xff", Ok("Is(\"streaming\")"), b""),
     (b"\x7f\x61\xc3\x61\xa9\xff\x01", Ok("Is(\"é\")"), b"\x01"),
     (b"\x7f\xff\x01", Ok("Is(\"\")"), b"\x01"),
 };
 
-const TEXTS_WITHIN: &[RowToldWithin] = table! {
+const TEXTS_WITHIN: &[RowShownWithin] = table! {
     (b"\x7f\x61a\xff", 0, Err(no_step!("str")), b"\x61a\xff"),
 };
 
-const TEXTS_REFUSED: &[Refused] = table! {
+const TEXTS_REJECTED: &[Rejected] = table! {
     (b"\x00", mismatch!("str", 0x00), b""),
     (b"\x41\x41", mismatch!("str", 0x41), b"\x41"),
     (b"\x62\xff\xff\x01", require_utf8!("str"), b"\x01"),
@@ -43,10 +43,10 @@ const TEXTS_REFUSED: &[Refused] = table! {
 fn owned_texts(rt: HostRuntime) -> Result<(), Fail> {
     let alloc = rt.alloc();
     tells::<Answer<String>>(alloc, TEXTS, TEXTS_READ, TEXTS_WITHIN)?;
-    refuses::<Answer<String>>(alloc, TEXTS_REFUSED)
+    rejects::<Answer<String>>(alloc, TEXTS_REJECTED)
 }
 
-const BYTE_STRINGS: &[RowTold] = table! {
+const BYTE_STRINGS: &[RowShown] = table! {
     (b"\x40\x01", Ok("Is(Bytes([]))"), b"\x01"),
     (b"\x44\x01\x02\x03\x04", Ok("Is(Bytes([1, 2, 3, 4]))"), b""),
     (b"\x43123", Ok("Is(Bytes([49, 50, 51]))"), b""),
@@ -55,7 +55,7 @@ const BYTE_STRINGS: &[RowTold] = table! {
     (b"\x42\x01", Err(eof!("bytes", 1)), b""),
 };
 
-const BYTE_STRINGS_WITHIN: &[RowToldWithin] = table! {
+const BYTE_STRINGS_WITHIN: &[RowShownWithin] = table! {
     (b"\x5f\x42\x01\x02\x41\x03\xff\x00", 1, Ok("Is(Bytes([1, 2, 3]))"), b"\x00"),
     (b"\x5f\x41a\xff", 0, Err(no_step!("bytes")), b"\x41a\xff"),
 };

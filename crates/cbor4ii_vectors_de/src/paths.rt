@@ -82,7 +82,7 @@ const TOO_GREAT: dec::Error<Never> = dec::Error::ArithmeticOverflow {
 };
 
 #[test]
-fn refusals(rt: HostRuntime) -> Result<(), Fail> {
+fn errors(rt: HostRuntime) -> Result<(), Fail> {
     let answer = IgnoredAny::decode(rt.alloc(), &mut SliceReader::new(b""));
     assert_eq!(rt; answer, Err(NO_BYTE));
     assert!(rt; NO_BYTE != TOO_GREAT);
@@ -115,7 +115,7 @@ fn an_indefinite_length(rt: HostRuntime) -> Result<(), Fail> {
 const NAME: StaticStr = "str";
 
 #[test]
-fn a_string_that_is_spelled_in_one_way(rt: HostRuntime) -> Result<(), Fail> {
+fn a_string_that_is_encoded_in_one_way(rt: HostRuntime) -> Result<(), Fail> {
     let mut reader = SliceReader::new(b"\x61a");
     let content = canonical_buf(rt.alloc(), NAME, major::STRING, &mut reader)?;
     assert_eq!(rt; content.as_slice(), b"a".as_slice());
@@ -124,8 +124,8 @@ fn a_string_that_is_spelled_in_one_way(rt: HostRuntime) -> Result<(), Fail> {
 
 /// Whether the next byte is this one, lent for as long as the input lives.
 fn lends<'de, R: Read<'de>>(reader: &mut R, byte: u8) -> bool {
-    let front = ask::lend(reader, 1, &mut None);
-    matches!(front, Some(Reference::Long(shown)) if shown.first() == Some(&byte))
+    let prefix = ask::lend(reader, 1, &mut None);
+    matches!(prefix, Some(Reference::Long(shown)) if shown.first() == Some(&byte))
 }
 
 #[test]

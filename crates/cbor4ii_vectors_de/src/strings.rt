@@ -1,6 +1,6 @@
 //! Rows of strings that are read by the name of a call.
 use crate::lent_strings::{Kind, reads_byte_strings, reads_texts};
-use crate::typed::{Answer, RowTold, RowToldWithin, Take, tells_all};
+use crate::typed::{Answer, RowShown, RowShownWithin, Take, tells_all};
 use cbor4ii::serde::{DecodeError, Deserializer};
 use cbor4ii_rw::read::Source;
 use cbor4ii_vectors::{mismatch, no_step, table};
@@ -31,12 +31,12 @@ impl Take for Owned {
     }
 }
 
-const OWNED: &[RowTold] = table! {
+const OWNED: &[RowShown] = table! {
     (b"\x7f\x61a\xff\x5f\x41a\xff\x01", Ok("Is(Owned(\"a\", [97]))"), b"\x01"),
     (b"\x60\x61\x61", Err(mismatch!("bytes", 0x61)), b"\x61"),
 };
 
-const OWNED_WITHIN: &[RowToldWithin] = table! {
+const OWNED_WITHIN: &[RowShownWithin] = table! {
     (b"\x60\x5f\x41a\xff", 0, Err(no_step!("bytes")), b"\x41a\xff"),
 };
 

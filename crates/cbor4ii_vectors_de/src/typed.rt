@@ -9,7 +9,7 @@ use cbor4ii_rw::read::Source;
 use cbor4ii_rw::slice_reader::SliceReader;
 use cbor4ii_rw::write::Write;
 use cbor4ii_vectors::rows::{
-    ReadFrom, Row, RowWithin, Want, WriteTo, ends_at_each_front, reads, reads_alike, reads_rows,
+    ReadFrom, Row, RowWithin, Want, WriteTo, ends_at_each_prefix, reads, reads_alike, reads_rows,
     reads_rows_within, reads_texts, reads_texts_within, writes,
 };
 use cbor4ii_vectors_ser::typed::write_typed;
@@ -20,12 +20,12 @@ use std::test::Fail;
 // The steps of a reader that is given no other limit.
 const STEPS: usize = 256;
 
-/// What is read as a typed value: a value, or the refusal that is no refusal of the codec.
+/// What is read as a typed value: a value, or the error that is no error of the codec.
 #[derive(Debug, PartialEq, Drop)]
 pub enum Answer<T> {
     /// The value.
     Is(T),
-    /// A refusal in words of its own.
+    /// An error in words of its own.
     Custom(StaticStr),
 }
 
@@ -41,7 +41,7 @@ pub trait Take: Sized {
 }
 
 impl<T> Answer<T> {
-    /// The answer of calls, or the refusal of the codec.
+    /// The answer of calls, or the error of the codec.
     pub fn of<E>(got: Result<T, DecodeError<E>>) -> Result<Answer<T>, core_error::DecodeError<E>> {
         match got {
             Ok(value) => Ok(Answer::Is(value)),
@@ -60,7 +60,7 @@ impl<T: Take> ReadFrom for Answer<T> {
     }
 }
 
-/// A refusal in words writes nothing.
+/// An error in words writes nothing.
 impl<T: Serialize> WriteTo for Answer<T> {
     fn write_to<W: Write>(&self, writer: &mut W) -> Result<(), core_error::EncodeError<W::Error>> {
         match self {
@@ -73,7 +73,7 @@ impl<T: Serialize> WriteTo for Answer<T> {
 /// Bytes, and the value that is written as them and read back from them.
 pub type Both<T> = (&'static [u8], Want<Answer<T>>);
 
-/// What each row reads is written as the row's bytes, and read back from them. Each proper front
+/// What each row reads is written as the row's bytes, and read back from them. Each proper prefix
 /// of them is the end of the input.
 pub fn go_both_ways<A>(alloc: Global, rows: &[(&'static [u8], Want<A>)]) -> Result<(), Fail>
 where
@@ -84,7 +84,7 @@ where
             writes(alloc, answer, bytes)?;
         }
         reads_alike(alloc, bytes, want, b"")?;
-        ends_at_each_front::<A>(alloc, bytes, STEPS)?;
+        ends_at_each_prefix::<A>(alloc, bytes, STEPS)?;
     }
     Ok(())
 }
@@ -98,16 +98,16 @@ where
     reads_rows_within(alloc, within)
 }
 
-/// Bytes, the text of their refusal, and what is left of them.
-pub type Refused = (&'static [u8], &'static str, &'static [u8]);
+/// Bytes, the text of their error, and what is left of them.
+pub type Rejected = (&'static [u8], &'static str, &'static [u8]);
 
-/// Reads the rows of bytes that are refused.
-pub fn refuses<A>(alloc: Global, rows: &[Refused]) -> Result<(), Fail>
+/// Reads the rows of bytes that are rejected.
+pub fn rejects<A>(alloc: Global, rows: &[Rejected]) -> Result<(), Fail>
 where
     A: ReadFrom + PartialEq + Debug + Drop,
 {
-    for &(bytes, refusal, rest) in rows {
-        reads::<A>(alloc, bytes, Err(refusal), rest)?;
+    for &(bytes, rejection, rest) in rows {
+        reads::<A>(alloc, bytes, Err(rejection), rest)?;
     }
     Ok(())
 }
@@ -128,16 +128,16 @@ where
 }
 
 /// Bytes, and the text of the answer that is read from them and written as them.
-pub type BothTold = (&'static [u8], &'static str);
+pub type BothShown = (&'static [u8], &'static str);
 
 /// A row that holds the text of the answer.
-pub type RowTold = Row<&'static str>;
+pub type RowShown = Row<&'static str>;
 
 /// A row within a limit that holds the text of the answer.
-pub type RowToldWithin = RowWithin<&'static str>;
+pub type RowShownWithin = RowWithin<&'static str>;
 
 /// As `go_both_ways`, where each row holds the text of the answer: what is read is written.
-fn tell_both_ways<A>(alloc: Global, rows: &[BothTold]) -> Result<(), Fail>
+fn tell_both_ways<A>(alloc: Global, rows: &[BothShown]) -> Result<(), Fail>
 where
     A: WriteTo + ReadFrom + Debug + Drop,
 {
@@ -145,13 +145,13 @@ where
         let answer = A::read_from(alloc, &mut SliceReader::new(bytes))?;
         writes(alloc, &answer, bytes)?;
         reads_texts::<A>(alloc, &[(bytes, Ok(text), b"")])?;
-        ends_at_each_front::<A>(alloc, bytes, STEPS)?;
+        ends_at_each_prefix::<A>(alloc, bytes, STEPS)?;
     }
     Ok(())
 }
 
 /// As `reads_all`, where each row holds the text of the answer.
-pub fn tells_all<A>(alloc: Global, rows: &[RowTold], within: &[RowToldWithin]) -> Result<(), Fail>
+pub fn tells_all<A>(alloc: Global, rows: &[RowShown], within: &[RowShownWithin]) -> Result<(), Fail>
 where
     A: ReadFrom + Debug + Drop,
 {
@@ -162,9 +162,9 @@ where
 /// As `tries`, where each row holds the text of the answer.
 pub fn tells<A>(
     alloc: Global,
-    both: &[BothTold],
-    rows: &[RowTold],
-    within: &[RowToldWithin],
+    both: &[BothShown],
+    rows: &[RowShown],
+    within: &[RowShownWithin],
 ) -> Result<(), Fail>
 where
     A: WriteTo + ReadFrom + Debug + Drop,
@@ -173,8 +173,8 @@ where
     tells_all::<A>(alloc, rows, within)
 }
 
-/// The codec refuses the value with this text. Where memory was refused the row says nothing.
-pub fn is_refused<T: Drop, E: Debug + Drop>(
+/// The codec rejects the value with this text. Where memory was refused the row says nothing.
+pub fn is_rejected<T: Drop, E: Debug + Drop>(
     got: Result<T, DecodeError<E>>,
     want: &str,
 ) -> Result<(), Fail> {
@@ -225,7 +225,7 @@ where
 }
 
 /// As `comes_back`, for rows of bytes, each with the text of its value.
-pub fn come_back<T>(alloc: Global, rows: &[BothTold]) -> Result<(), Fail>
+pub fn come_back<T>(alloc: Global, rows: &[BothShown]) -> Result<(), Fail>
 where
     T: Deserialize<SliceReader<'static>>
         + Deserialize<IoReader<&'static [u8]>>

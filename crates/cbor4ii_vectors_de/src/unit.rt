@@ -27,7 +27,7 @@ fn units(rt: HostRuntime) -> Result<(), Fail> {
     tries(rt.alloc(), UNITS, UNITS_READ, UNITS_WITHIN)
 }
 
-/// A unit, and a struct without fields behind it.
+/// A unit, and a struct without fields after it.
 #[derive(Debug, PartialEq, Drop)]
 struct ByCall;
 

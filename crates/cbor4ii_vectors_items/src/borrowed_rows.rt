@@ -35,8 +35,8 @@ pub enum Kind {
 /// A row: what is read, its bytes, the text of the answer, and what is left of the bytes.
 pub type BorrowedRow = (Kind, &'static [u8], &'static str, &'static [u8]);
 
-/// A row of a string that is cut, how many bytes stand before its content, and the refusals of a
-/// content that is cut behind its first byte, its second and so on, which is left.
+/// A row of a string that is cut, how many bytes stand before its content, and the errors of a
+/// content that is cut after its first byte, its second and so on, which is left.
 pub type CutRow = (BorrowedRow, usize, &'static [&'static str]);
 
 // The steps of a reader that is given no other limit.
@@ -45,7 +45,7 @@ const STEPS: usize = 256;
 // No row takes more shows or looks.
 const MOST_CALLS: usize = 64;
 
-// What is read, or the refusal, as its text.
+// What is read, or the error, as its text.
 fn answer<'de, R: Read<'de>>(kind: Kind, alloc: Global, reader: &mut R) -> InlineText<128> {
     match kind {
         Kind::Text => text(<&'de str>::decode(alloc, reader)),
@@ -165,7 +165,7 @@ fn answers_short(
     Ok(())
 }
 
-/// Reads the rows over each reader: where no borrowed part comes, it is no matter what is lent.
+/// Reads the rows over each reader: where no borrowed slice comes, it is no matter what is lent.
 pub fn rows_alike(alloc: Global, rows: &[BorrowedRow]) -> Result<(), Fail> {
     for (kind, bytes, want, rest) in rows {
         answers_alike(*kind, alloc, bytes, STEPS, want, rest)?;
@@ -201,8 +201,8 @@ pub fn answers_alike(
 /// Reads the rows over two segments, for each place where the bytes can be cut. Where that is not
 /// within the content, the string is lent.
 pub fn lends_rows_in_segments(alloc: Global, rows: &[CutRow]) -> Result<(), Fail> {
-    for (row, head, refusals) in rows {
-        lends_in_segments(alloc, row, *head, refusals)?;
+    for (row, head, errors) in rows {
+        lends_in_segments(alloc, row, *head, errors)?;
     }
     Ok(())
 }
@@ -211,19 +211,19 @@ fn lends_in_segments(
     alloc: Global,
     row: &BorrowedRow,
     head: usize,
-    refusals: &[&str],
+    errors: &[&str],
 ) -> Result<(), Fail> {
     let (kind, bytes, want, rest) = *row;
     let content = bytes.get(head..).ok_or("no content")?;
     for place in 1..bytes.len() {
         let segments = [&bytes[..place], &bytes[place..]];
         let mut reader = SegmentReader::new(&segments);
-        let refusal = match place.checked_sub(head) {
-            Some(shown) if shown > 0 => refusals.get(shown - 1),
+        let rejection = match place.checked_sub(head) {
+            Some(shown) if shown > 0 => errors.get(shown - 1),
             _ => None,
         };
-        match refusal {
-            Some(refusal) => answers(kind, alloc, &mut reader, bytes, refusal, content)?,
+        match rejection {
+            Some(rejection) => answers(kind, alloc, &mut reader, bytes, rejection, content)?,
             None => answers(kind, alloc, &mut reader, bytes, want, rest)?,
         }
     }

@@ -7,7 +7,7 @@ const BOXES: &[(&[u8], &str, usize)] = table! {
     (b"\x05", "5", 1),
 };
 
-const REFUSED_BOXES: &[Row<&str>] = table! {
+const REJECTED_BOXES: &[Row<&str>] = table! {
     (b"\x61", Err(mismatch!("u8", 0x61)), b""),
 };
 
@@ -15,5 +15,5 @@ const REFUSED_BOXES: &[Row<&str>] = table! {
 fn boxes(rt: HostRuntime) -> Result<(), Fail> {
     let alloc = rt.alloc();
     texts_go_both_ways::<Box<u8>>(alloc, BOXES)?;
-    reads_texts::<Box<u8>>(alloc, REFUSED_BOXES)
+    reads_texts::<Box<u8>>(alloc, REJECTED_BOXES)
 }

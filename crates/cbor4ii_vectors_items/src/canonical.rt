@@ -1,4 +1,4 @@
-//! Rows of heads and strings that are spelled in one way, by the shortest head.
+//! Rows of heads and strings that are encoded in one way, by the shortest head.
 use cbor4ii_items::canonical::{canonical_buf, canonical_head};
 use cbor4ii_items::initial::peek;
 use cbor4ii_rw::error::DecodeError;
@@ -8,7 +8,7 @@ use cbor4ii_vectors::{eof, mismatch, not_canonical, table};
 use std::alloc::Global;
 use std::test::Fail;
 
-// A spelling, and not the canonical one.
+// An encoding, and not the canonical one.
 const OTHER: &str = not_canonical!("canonical");
 
 // A shortest head of the major type that the first byte says; before one of major type 7, of a tag.
@@ -56,7 +56,7 @@ fn shortest_heads(rt: HostRuntime) -> Result<(), Fail> {
     reads_rows(rt.alloc(), SHORTEST_HEADS)
 }
 
-// A byte string behind a shortest head.
+// A byte string after a shortest head.
 #[derive(Debug, Drop)]
 struct Content(Vec<u8>);
 
@@ -69,7 +69,7 @@ impl ReadFrom for Content {
     }
 }
 
-const STRINGS_BEHIND_SHORTEST_HEADS: &[Row<&str>] = table! {
+const STRINGS_AFTER_SHORTEST_HEADS: &[Row<&str>] = table! {
     (b"\x42\x01\x02\x03", Ok("Content([1, 2])"), b"\x03"),
     (b"\x40", Ok("Content([])"), b""),
     (b"\x42\x01", Err(eof!("bytes", 1)), b""),
@@ -77,7 +77,7 @@ const STRINGS_BEHIND_SHORTEST_HEADS: &[Row<&str>] = table! {
     (b"\x5f\x40\xff", Err(OTHER), b"\x40\xff"),
 };
 
-// A text behind a shortest head, as its bytes.
+// A text after a shortest head, as its bytes.
 #[derive(Debug, Drop)]
 struct TextContent(Vec<u8>);
 
@@ -90,15 +90,15 @@ impl ReadFrom for TextContent {
     }
 }
 
-const TEXTS_BEHIND_SHORTEST_HEADS: &[Row<&str>] = table! {
+const TEXTS_AFTER_SHORTEST_HEADS: &[Row<&str>] = table! {
     (b"\x63abc", Ok("TextContent([97, 98, 99])"), b""),
     (b"\x43abc", Err(mismatch!("str", 0x43)), b"abc"),
     (b"\x78\x01a", Err(OTHER), b"a"),
 };
 
 #[test]
-fn strings_behind_shortest_heads(rt: HostRuntime) -> Result<(), Fail> {
+fn strings_after_shortest_heads(rt: HostRuntime) -> Result<(), Fail> {
     let alloc = rt.alloc();
-    reads_texts::<Content>(alloc, STRINGS_BEHIND_SHORTEST_HEADS)?;
-    reads_texts::<TextContent>(alloc, TEXTS_BEHIND_SHORTEST_HEADS)
+    reads_texts::<Content>(alloc, STRINGS_AFTER_SHORTEST_HEADS)?;
+    reads_texts::<TextContent>(alloc, TEXTS_AFTER_SHORTEST_HEADS)
 }

@@ -19,8 +19,10 @@ pub enum Kind {
     Bytes,
 }
 
-// The answer, or the text of the refusal.
-fn told<T: Drop, E: Debug + Drop>(got: Result<T, DecodeError<E>>) -> Result<T, InlineText<128>> {
+// The answer, or the text of the error.
+fn reported<T: Drop, E: Debug + Drop>(
+    got: Result<T, DecodeError<E>>,
+) -> Result<T, InlineText<128>> {
     match got {
         Ok(found) => Ok(found),
         Err(error) => Err(InlineText::of(error)),
@@ -34,22 +36,22 @@ fn content(text: CowStr<'_, Global>) -> CowSlice<'_, u8, Global> {
     }
 }
 
-/// What is read, or the text of the refusal.
+/// What is read, or the text of the error.
 pub fn decode<'de, R: Read<'de>>(
     kind: Kind,
     alloc: Global,
     reader: &mut R,
 ) -> Result<CowSlice<'de, u8, Global>, InlineText<128>> {
     match kind {
-        Kind::Text => Ok(content(told(CowStr::decode(alloc, reader))?)),
+        Kind::Text => Ok(content(reported(CowStr::decode(alloc, reader))?)),
         Kind::Unchecked => {
-            Ok(told(UncheckedStr::<CowSlice<'de, u8, Global>>::decode(alloc, reader))?.0)
+            Ok(reported(UncheckedStr::<CowSlice<'de, u8, Global>>::decode(alloc, reader))?.0)
         }
-        Kind::Bytes => Ok(told(Bytes::<CowSlice<'de, u8, Global>>::decode(alloc, reader))?.0),
+        Kind::Bytes => Ok(reported(Bytes::<CowSlice<'de, u8, Global>>::decode(alloc, reader))?.0),
     }
 }
 
-/// The answer is this content, borrowed or owned, or a refusal of this text; these bytes are left,
+/// The answer is this content, borrowed or owned, or an error of this text; these bytes are left,
 /// and the steps are as before.
 pub fn decodes<'de, R: Read<'de>>(
     kind: Kind,

@@ -1,5 +1,5 @@
 //! What types say of themselves, and how beginnings of arrays are compared.
-use cbor4ii_items::decode::{ArrayStart, Spelled};
+use cbor4ii_items::decode::{ArrayStart, Decodable};
 use cbor4ii_items::types::{F16, Map, Maybe, Negative, Nothing, Simple, Tag};
 use std::alloc::Global;
 use std::borrow::CowStr;

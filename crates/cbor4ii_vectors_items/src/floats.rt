@@ -45,19 +45,19 @@ fn floats(rt: HostRuntime) -> Result<(), Fail> {
     rows_go_both_ways(alloc, FLOATS_DOUBLES)
 }
 
-const REFUSED_FLOATS_HALVES: &[Row<F16>] = table! {
+const REJECTED_FLOATS_HALVES: &[Row<F16>] = table! {
     (b"", Err(eof!("f16", 1)), b""),
     (b"\xf9\x7b", Err(eof!("f16", 2)), b""),
     (b"\xf4\x00", Err(mismatch!("f16", 0xf4)), b"\xf4\x00"),
 };
 
-const REFUSED_FLOATS_SINGLES: &[Row<F32>] = table! {
+const REJECTED_FLOATS_SINGLES: &[Row<F32>] = table! {
     (b"", Err(eof!("f32", 1)), b""),
     (b"\xfa\x47\xc3", Err(eof!("f32", 4)), b""),
     (b"\xfb\x00", Err(mismatch!("f32", 0xfb)), b"\xfb\x00"),
 };
 
-const REFUSED_FLOATS_DOUBLES: &[Row<F64>] = table! {
+const REJECTED_FLOATS_DOUBLES: &[Row<F64>] = table! {
     (b"", Err(eof!("f64", 1)), b""),
     (b"\xfb\x3f", Err(eof!("f64", 8)), b""),
     (b"\xf9\x00\x00", Err(mismatch!("f64", 0xf9)), b"\xf9\x00\x00"),
@@ -65,11 +65,11 @@ const REFUSED_FLOATS_DOUBLES: &[Row<F64>] = table! {
 };
 
 #[test]
-fn refused_floats(rt: HostRuntime) -> Result<(), Fail> {
+fn rejected_floats(rt: HostRuntime) -> Result<(), Fail> {
     let alloc = rt.alloc();
-    reads_rows(alloc, REFUSED_FLOATS_HALVES)?;
-    reads_rows(alloc, REFUSED_FLOATS_SINGLES)?;
-    reads_rows(alloc, REFUSED_FLOATS_DOUBLES)
+    reads_rows(alloc, REJECTED_FLOATS_HALVES)?;
+    reads_rows(alloc, REJECTED_FLOATS_SINGLES)?;
+    reads_rows(alloc, REJECTED_FLOATS_DOUBLES)
 }
 
 // A float that stands whole in front takes one look.

@@ -1,4 +1,4 @@
-//! The next byte, which stays, the parts of a first byte, and the argument behind it.
+//! The next byte, which stays, the parts of a first byte, and the argument after it.
 use cbor4ii_items::initial::{argument, high, if_major, low, peek};
 use cbor4ii_rw::error::{DecodeError, Len};
 use cbor4ii_rw::io_reader::IoReader;
@@ -35,7 +35,7 @@ fn parts_of_a_first_byte(rt: HostRuntime) {
 }
 
 #[test]
-fn arguments_behind_a_first_byte(rt: HostRuntime) {
+fn arguments_after_a_first_byte(rt: HostRuntime) {
     assert_eq!(rt; argument(23, &[0xff]), Some((23, 0)));
     assert_eq!(rt; argument(24, &[0x18, 0xff]), Some((24, 1)));
     assert_eq!(rt; argument(25, &[1, 0]), Some((256, 2)));
@@ -44,7 +44,7 @@ fn arguments_behind_a_first_byte(rt: HostRuntime) {
 }
 
 #[test]
-fn no_argument_stands_behind_a_first_byte(rt: HostRuntime) {
+fn no_argument_stands_after_a_first_byte(rt: HostRuntime) {
     assert_eq!(rt; argument(24, &[]), None);
     assert_eq!(rt; argument(25, &[1]), None);
     assert_eq!(rt; argument(26, &[0, 1, 0]), None);

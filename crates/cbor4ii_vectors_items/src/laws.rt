@@ -1,11 +1,11 @@
 //! The laws are called.
 use cbor4ii_items::laws::{
     arrays_are_read_back, integers_are_read_back, lengths_are_read_back, maps_are_read_back,
-    no_spelling_begins_another, parts_are_read_back, refused_arrays_are_not_read,
-    refused_lengths_are_not_read, refused_maps_are_not_read, refused_numbers_are_not_read,
-    refused_parts_are_not_read, refused_simple_values_are_not_read, refused_strings_are_not_read,
-    shortest_is_least, simple_values_are_read_back, strings_are_read_back,
-    what_is_written_is_decoded,
+    no_encoding_begins_another, parts_are_read_back, rejected_arrays_are_not_read,
+    rejected_lengths_are_not_read, rejected_maps_are_not_read, rejected_numbers_are_not_read,
+    rejected_parts_are_not_read, rejected_simple_values_are_not_read,
+    rejected_strings_are_not_read, shortest_is_least, simple_values_are_read_back,
+    strings_are_read_back, what_is_written_is_decoded,
 };
 use cbor4ii_items::types::Tag;
 use cbor4ii_rw::error::Never;
@@ -22,12 +22,12 @@ fn laws_are_called(rt: HostRuntime) {
     arrays_are_read_back::<u8>();
     maps_are_read_back::<u8, String>();
     what_is_written_is_decoded::<SliceReader, Tag<u8>, Never>();
-    no_spelling_begins_another::<SliceReader, Tag<u8>>();
-    refused_numbers_are_not_read();
-    refused_simple_values_are_not_read();
-    refused_lengths_are_not_read();
-    refused_strings_are_not_read::<u8>();
-    refused_parts_are_not_read::<u8>();
-    refused_arrays_are_not_read::<SliceReader, Tag<u8>>();
-    refused_maps_are_not_read::<SliceReader, Tag<u8>, String>();
+    no_encoding_begins_another::<SliceReader, Tag<u8>>();
+    rejected_numbers_are_not_read();
+    rejected_simple_values_are_not_read();
+    rejected_lengths_are_not_read();
+    rejected_strings_are_not_read::<u8>();
+    rejected_parts_are_not_read::<u8>();
+    rejected_arrays_are_not_read::<SliceReader, Tag<u8>>();
+    rejected_maps_are_not_read::<SliceReader, Tag<u8>, String>();
 }

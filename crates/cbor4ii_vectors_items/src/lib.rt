@@ -20,8 +20,6 @@ mod encode;
 #[cfg(test)]
 mod floats;
 #[cfg(test)]
-mod front;
-#[cfg(test)]
 mod in_parts;
 #[cfg(test)]
 mod indefinite;
@@ -39,6 +37,8 @@ mod nothing;
 mod numbers;
 #[cfg(test)]
 mod option;
+#[cfg(test)]
+mod prefix;
 #[cfg(test)]
 mod reserve;
 #[cfg(test)]

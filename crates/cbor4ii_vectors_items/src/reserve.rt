@@ -81,7 +81,7 @@ fn maps_of_300_pairs(rt: HostRuntime) -> Result<(), Fail> {
     Ok(())
 }
 
-// Chunks of 20 bytes, each behind this head.
+// Chunks of 20 bytes, each after this head.
 fn in_chunks(alloc: Global, content: &[u8], head: u8) -> Result<Vec<u8>, AllocError> {
     let mut bytes = Vec::new(alloc);
     for chunk in content.chunks(20) {

@@ -117,7 +117,7 @@ fn the_least_and_the_greatest_limit(rt: HostRuntime) -> Result<(), Fail> {
     reads_rows_within(rt.alloc(), LEAST_AND_GREATEST)
 }
 
-// Before the tagged item comes, the tag is refused alike over every reader.
+// Before the tagged item comes, the tag is rejected alike over every reader.
 const BEFORE_A_BORROWED_ITEM: &[BorrowedRow] = table! {
     (Tagged, b"", eof!("tag", 1), b""),
     (Tagged, b"\xd8", eof!("tag", 1), b""),

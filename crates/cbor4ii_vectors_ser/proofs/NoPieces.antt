@@ -10,10 +10,10 @@ use Rattle.cbor4ii_ser.specs.TextState.{TextSeen, Wrote, Pends, outcome}
 writes_nothing : {T E : Type 0} {whole : Bool} (o : Output) (t : T)
     → Writes {E = E} whole [] o o (Ok t)
 writes_nothing o t = record {
-  appends = λ xs told. told ∙ ap Some (sym (append-nil xs));
+  appends = λ xs known. known ∙ ap Some (sym (append-nil xs));
   counts = refl;
   failed = tt;
-  front = λ whole. tt;
+  prefix = λ whole. tt;
 }
 
 -- no piece was written

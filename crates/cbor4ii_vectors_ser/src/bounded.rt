@@ -1,5 +1,5 @@
 //! Tuples, structs and variants that are written part by part, of a length that is given.
-use crate::tagged::{has_written, is_refused, tagged};
+use crate::tagged::{has_written, is_rejected, tagged};
 use crate::typed::{Put, Typed};
 use cbor4ii_rw::buf_writer::BufWriter;
 use cbor4ii_rw::error::TryReserveError;
@@ -78,10 +78,10 @@ fn what_a_struct_says_of_itself(rt: HostRuntime) -> Result<(), Fail> {
     Ok(())
 }
 
-// Whether a struct whose only field is refused still wants that field.
+// Whether a struct whose only field is rejected still wants that field.
 fn a_struct_wants_it(ser: &mut Serializer<BufWriter>, tagged: &Value) -> Result<bool, Fail> {
     let mut fields = ser.serialize_struct("Struct", 1)?;
-    is_refused(fields.serialize_field("a", tagged))?;
+    is_rejected(fields.serialize_field("a", tagged))?;
     Ok(fields.left() == 1)
 }
 

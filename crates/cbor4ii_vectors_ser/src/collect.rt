@@ -1,5 +1,5 @@
 //! Arrays and maps that are written part by part, of a known and of an indefinite length.
-use crate::tagged::{has_written, is_refused, tagged};
+use crate::tagged::{has_written, is_rejected, tagged};
 use crate::typed::{Put, Typed};
 use cbor4ii_rw::buf_writer::BufWriter;
 use cbor4ii_rw::error::TryReserveError;
@@ -69,18 +69,18 @@ fn what_a_collect_says_of_itself(rt: HostRuntime) -> Result<(), Fail> {
     Ok(())
 }
 
-// Whether an array whose second item is refused still wants that item.
+// Whether an array whose second item is rejected still wants that item.
 fn an_array_wants_it(ser: &mut Serializer<BufWriter>, tagged: &Value) -> Result<bool, Fail> {
     let mut items = ser.serialize_seq(Some(2))?;
     items.serialize_element(&1u8)?;
-    is_refused(items.serialize_element(tagged))?;
+    is_rejected(items.serialize_element(tagged))?;
     Ok(items.left() == Some(1))
 }
 
-// Whether a map whose only value is refused has its key, and still wants that value.
+// Whether a map whose only value is rejected has its key, and still wants that value.
 fn a_map_wants_it(ser: &mut Serializer<BufWriter>, tagged: &Value) -> Result<bool, Fail> {
     let mut entries = ser.serialize_map(Some(1))?;
-    is_refused(entries.serialize_entry(&1u8, tagged))?;
+    is_rejected(entries.serialize_entry(&1u8, tagged))?;
     Ok(entries.left() == Some(0) && entries.owes_value())
 }
 

@@ -6,7 +6,7 @@ use std::test::Fail;
 
 const FAILED: EncodeError<u8> = EncodeError::Core(core_error::EncodeError::Write(1));
 
-const REFUSED: EncodeError<u8> = EncodeError::Custom("text refused");
+const REJECTED: EncodeError<u8> = EncodeError::Custom("text refused");
 
 fn is_shown(error: &EncodeError<u8>, text: &str) -> bool {
     InlineText::<64>::of(error).as_str() == text
@@ -20,6 +20,6 @@ fn errors(rt: HostRuntime) -> Result<(), Fail> {
         FAILED
     );
     assert!(rt; is_shown(&FAILED, "Core(Write(1))"));
-    assert!(rt; is_shown(&REFUSED, "Custom(\"text refused\")"));
+    assert!(rt; is_shown(&REJECTED, "Custom(\"text refused\")"));
     Ok(())
 }

@@ -1,5 +1,5 @@
 //! The calls of a serializer for structs and variants of several parts.
-use crate::tagged::{is_refused_behind, tagged};
+use crate::tagged::{is_rejected_after, tagged};
 use crate::typed::{Put, Typed};
 use cbor4ii_rw::write::Write;
 use cbor4ii_ser::error::EncodeError;
@@ -176,7 +176,7 @@ fn calls_for_variants_of_parts(rt: HostRuntime) -> Result<(), Fail> {
     Ok(())
 }
 
-/// A struct whose second field is refused.
+/// A struct whose second field is rejected.
 #[derive(Drop)]
 struct TaggedField(Value);
 
@@ -189,5 +189,5 @@ impl Put for TaggedField {
 #[test]
 fn what_stands_before_a_tag(rt: HostRuntime) -> Result<(), Fail> {
     let alloc = rt.alloc();
-    is_refused_behind(alloc, TaggedField(tagged(alloc)?), b"\xa2\x61a\x01\x61b")
+    is_rejected_after(alloc, TaggedField(tagged(alloc)?), b"\xa2\x61a\x01\x61b")
 }

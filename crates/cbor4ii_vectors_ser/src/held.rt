@@ -11,7 +11,7 @@ fn writes_letters(alloc: Global, count: usize, parts: Parts<'_>) -> Result<(), F
     writes_text(alloc, letters(alloc, count)?, parts)
 }
 
-// As `writes_letters`, with an empty piece before and behind.
+// As `writes_letters`, with an empty piece before and after.
 fn writes_between(alloc: Global, count: usize, parts: Parts<'_>) -> Result<(), Fail> {
     writes_text(alloc, ("", (letters(alloc, count)?, "")), parts)
 }
@@ -48,14 +48,14 @@ fn long_texts(rt: HostRuntime) -> Result<(), Fail> {
     writes_between(alloc, 256, LEAST_LONG)
 }
 
-/// A text twice, one behind the other.
+/// A text twice, one after the other.
 #[derive(Clone, Copy)]
 struct Twice<T>(T);
 
 impl<T: Text + Copy> Text for Twice<T> {
     ghost pieces = { λ text. ⟦<(T, T) as Text>⟧.pieces (text.0, text.0) };
 
-    ghost refuses = { λ text. ⟦<(T, T) as Text>⟧.refuses (text.0, text.0) };
+    ghost fails_itself = { λ text. ⟦<(T, T) as Text>⟧.fails_itself (text.0, text.0) };
 
     fn write_to<W: Write>(&self, out: &mut TextWriter<'_, W>) -> Result<(), TextFault> {
         (self.0, self.0).write_to(out)
@@ -69,7 +69,7 @@ const ONES: SixteenTimes<SixteenTimes<&str>> = Twice(Twice(Twice(Twice(Twice(Twi
     "a",
 ))))))));
 
-// As `writes_text`, for a piece of so many letters, and 257 pieces of one letter behind it.
+// As `writes_text`, for a piece of so many letters, and 257 pieces of one letter after it.
 fn writes_before_ones(alloc: Global, first: usize, parts: Parts<'_>) -> Result<(), Fail> {
     writes_text(alloc, (letters(alloc, first)?, (ONES, "a")), parts)
 }

@@ -1,5 +1,5 @@
 //! Rows of the types that are one head or string, and of boxes, references and options.
-use crate::tagged::{is_refused_behind, tagged};
+use crate::tagged::{is_rejected_after, tagged};
 use crate::typed::Typed;
 use cbor4ii_items::decode::Decode;
 use cbor4ii_items::types::{Bytes, F16, F32, F64};
@@ -66,7 +66,7 @@ fn greatest_numbers(ser: &mut Serializer<PushLengths>) -> Result<(), EncodeError
     F64(u64::MAX).serialize(ser)
 }
 
-// A push has all bytes of a number, the first one and those behind it.
+// A push has all bytes of a number, the first one and those after it.
 #[test]
 fn numbers_in_one_push(rt: HostRuntime) -> Result<(), Fail> {
     let mut ser = Serializer::new(PushLengths::new(rt.alloc()));
@@ -76,10 +76,10 @@ fn numbers_in_one_push(rt: HostRuntime) -> Result<(), Fail> {
     Ok(())
 }
 
-// What an option and a box write before a part that is refused.
+// What an option and a box write before a part that is rejected.
 #[test]
 fn what_holds_a_tag(rt: HostRuntime) -> Result<(), Fail> {
     let alloc = rt.alloc();
-    is_refused_behind(alloc, Some(tagged(alloc)?), b"")?;
-    is_refused_behind(alloc, Box::new(alloc, tagged(alloc)?)?, b"")
+    is_rejected_after(alloc, Some(tagged(alloc)?), b"")?;
+    is_rejected_after(alloc, Box::new(alloc, tagged(alloc)?)?, b"")
 }

@@ -1,5 +1,5 @@
 //! Rows of maps, which are written in the order of their keys.
-use crate::tagged::{is_refused_behind, tagged};
+use crate::tagged::{is_rejected_after, tagged};
 use crate::typed::Typed;
 use cbor4ii_vectors::rows::writes;
 use std::alloc::{AllocError, Global};
@@ -25,11 +25,11 @@ fn maps_in_the_order_of_their_keys(rt: HostRuntime) -> Result<(), Fail> {
     Ok(())
 }
 
-// What a map writes before a value that is refused.
+// What a map writes before a value that is rejected.
 #[test]
 fn what_stands_before_a_tag(rt: HostRuntime) -> Result<(), Fail> {
     let alloc = rt.alloc();
     let mut map = BTreeMap::new(alloc);
     map.insert(1u8, tagged(alloc)?)?;
-    is_refused_behind(alloc, map, b"\xa1\x01")
+    is_rejected_after(alloc, map, b"\xa1\x01")
 }

@@ -1,5 +1,5 @@
 //! Rows of vectors.
-use crate::tagged::{is_refused_behind, tagged};
+use crate::tagged::{is_rejected_after, tagged};
 use crate::typed::Typed;
 use cbor4ii_tree::Value;
 use cbor4ii_vectors::rows::writes;
@@ -13,10 +13,10 @@ fn vectors(rt: HostRuntime) -> Result<(), Fail> {
     Ok(())
 }
 
-// What a vector writes before an item that is refused.
+// What a vector writes before an item that is rejected.
 #[test]
 fn what_stands_before_a_tag(rt: HostRuntime) -> Result<(), Fail> {
     let alloc = rt.alloc();
     let items = vec![in alloc; Value::Integer(1), tagged(alloc)?]?;
-    is_refused_behind(alloc, items, b"\x82\x01")
+    is_rejected_after(alloc, items, b"\x82\x01")
 }

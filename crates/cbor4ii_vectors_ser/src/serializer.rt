@@ -1,5 +1,5 @@
 //! The calls of a serializer for values by name, and for structs and variants of one part or none.
-use crate::tagged::{is_refused_behind, tagged};
+use crate::tagged::{is_rejected_after, tagged};
 use crate::typed::{Put, Typed};
 use cbor4ii_rw::buf_writer::BufWriter;
 use cbor4ii_rw::write::Write;
@@ -92,7 +92,7 @@ fn calls_for_variants(rt: HostRuntime) -> Result<(), Fail> {
     Ok(())
 }
 
-/// A variant whose content is refused.
+/// A variant whose content is rejected.
 #[derive(Drop)]
 struct TaggedVariant(Value);
 
@@ -105,5 +105,5 @@ impl Put for TaggedVariant {
 #[test]
 fn what_stands_before_a_tag(rt: HostRuntime) -> Result<(), Fail> {
     let alloc = rt.alloc();
-    is_refused_behind(alloc, TaggedVariant(tagged(alloc)?), b"\xa1\x61N")
+    is_rejected_after(alloc, TaggedVariant(tagged(alloc)?), b"\xa1\x61N")
 }

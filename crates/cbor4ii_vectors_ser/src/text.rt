@@ -1,9 +1,9 @@
-//! Texts in pieces: of no piece, refused by themselves, and over a writer that fails.
+//! Texts in pieces: of no piece, rejected by themselves, and over a writer that fails.
 ghost use Rattle.std.specs.Prelude.{◌∷◌, [], true, false};
 
 use crate::by_pieces::{ByPieces, EMPTY, writes_text};
 use crate::pieces::{Parts, joined, letters};
-use crate::typed::Refused;
+use crate::typed::Rejected;
 use cbor4ii_rw::write::Write;
 use cbor4ii_ser::text::{Text, TextFault, TextWriter};
 use cbor4ii_vectors::rows::writes;
@@ -18,7 +18,7 @@ struct NoPiece;
 impl Text for NoPiece {
     ghost pieces = { λ _. [] };
 
-    ghost refuses = { λ _. false };
+    ghost fails_itself = { λ _. false };
 
     fn write_to<W: Write>(&self, _out: &mut TextWriter<'_, W>) -> Result<(), TextFault> {
         Ok(())
@@ -30,21 +30,21 @@ fn a_text_of_no_piece(rt: HostRuntime) -> Result<(), Fail> {
     writes_text(rt.alloc(), NoPiece, EMPTY)
 }
 
-// The text refuses by itself, and these parts stand before that.
-fn is_refused_behind<T: Text + Drop>(alloc: Global, text: T, parts: Parts<'_>) -> Result<(), Fail> {
-    let refused = Refused(ByPieces(text), "text refused");
-    writes(alloc, &refused, &joined(alloc, parts)?)?;
+// The text fails by itself, and these parts stand before that.
+fn is_rejected_after<T: Text + Drop>(alloc: Global, text: T, parts: Parts<'_>) -> Result<(), Fail> {
+    let rejected = Rejected(ByPieces(text), "text refused");
+    writes(alloc, &rejected, &joined(alloc, parts)?)?;
     Ok(())
 }
 
-/// A text that refuses behind one piece.
+/// A text that rejects after one piece.
 #[derive(Drop)]
-struct Refusing<'a>(&'a str);
+struct Rejecting<'a>(&'a str);
 
-impl<'a> Text for Refusing<'a> {
+impl<'a> Text for Rejecting<'a> {
     ghost pieces = { λ text. text.0.now ∷ [] };
 
-    ghost refuses = { λ _. true };
+    ghost fails_itself = { λ _. true };
 
     fn write_to<W: Write>(&self, out: &mut TextWriter<'_, W>) -> Result<(), TextFault> {
         out.write_str(self.0)?;
@@ -55,19 +55,19 @@ impl<'a> Text for Refusing<'a> {
 const FIRST_CHUNK: Parts<'static> = &[(b"\x7f\x78\xc8", 200)];
 
 #[test]
-fn a_text_that_refuses(rt: HostRuntime) -> Result<(), Fail> {
+fn a_text_that_rejects(rt: HostRuntime) -> Result<(), Fail> {
     let alloc = rt.alloc();
-    is_refused_behind(alloc, Refusing("ab"), &[])?;
+    is_rejected_after(alloc, Rejecting("ab"), &[])?;
     let first = letters(alloc, 200)?;
     let second = letters(alloc, 56)?;
-    is_refused_behind(alloc, (first, Refusing(&second)), FIRST_CHUNK)
+    is_rejected_after(alloc, (first, Rejecting(&second)), FIRST_CHUNK)
 }
 
 // Of the second nothing is written, though it is too long to be held back.
 #[test]
-fn a_text_behind_one_that_refuses(rt: HostRuntime) -> Result<(), Fail> {
+fn a_text_after_one_that_rejects(rt: HostRuntime) -> Result<(), Fail> {
     let alloc = rt.alloc();
-    is_refused_behind(alloc, (Refusing("ab"), letters(alloc, 256)?), &[])
+    is_rejected_after(alloc, (Rejecting("ab"), letters(alloc, 256)?), &[])
 }
 
 // Letters until they are pushed, which fails; then everything fails.

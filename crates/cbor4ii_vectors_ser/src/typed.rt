@@ -27,7 +27,7 @@ fn spoil<W: Write>(writer: &mut W) -> Result<(), core_error::EncodeError<W::Erro
     }
 }
 
-/// Writes the value behind what `writer` holds. A value that is refused spoils its row.
+/// Writes the value after what `writer` holds. A value that is rejected spoils its row.
 pub fn write_typed<T: Put, W: Write>(
     value: &T,
     writer: &mut W,
@@ -50,12 +50,12 @@ impl<T: Put> WriteTo for Typed<T> {
     }
 }
 
-/// Calls of a serializer that end with a refusal in these words: what stands before it. One that is
-/// not refused so spoils its row.
+/// Calls of a serializer that end with an error in these words: what stands before it. One that is
+/// not rejected so spoils its row.
 #[derive(Drop)]
-pub struct Refused<T>(pub T, pub StaticStr);
+pub struct Rejected<T>(pub T, pub StaticStr);
 
-impl<T: Put> WriteTo for Refused<T> {
+impl<T: Put> WriteTo for Rejected<T> {
     fn write_to<W: Write>(&self, writer: &mut W) -> Result<(), core_error::EncodeError<W::Error>> {
         let mut ser = Serializer::new(writer);
         match self.0.put(&mut ser) {

@@ -1,5 +1,5 @@
 //! Whole items that have a tag, which are not written.
-use crate::tagged::{is_refused, is_refused_behind};
+use crate::tagged::{is_rejected, is_rejected_after};
 use cbor4ii_items::decode::Decode;
 use cbor4ii_rw::slice_reader::SliceReader;
 use cbor4ii_ser::write_all::to_vec;
@@ -21,8 +21,8 @@ fn is_not_written(alloc: Global, bytes: &[u8], text: &str) -> Result<(), Fail> {
     if format!(in alloc; "{value:?}")?.as_str() != text {
         return Err(Fail::new(format_args!("{value:?} in the place of {text}")));
     }
-    is_refused(to_vec(Vec::new(alloc), &value))?;
-    is_refused_behind(alloc, value, b"")
+    is_rejected(to_vec(Vec::new(alloc), &value))?;
+    is_rejected_after(alloc, value, b"")
 }
 
 fn are_not_written(alloc: Global, rows: &[(&[u8], &str)]) -> Result<(), Fail> {

@@ -1,5 +1,5 @@
 //! One value, written whole: into memory, and into a stream, which may fail.
-use crate::tagged::{TAG, is_refused, tagged};
+use crate::tagged::{TAG, is_rejected, tagged};
 use cbor4ii_rw::error as core_error;
 use cbor4ii_rw::error::StaticStr;
 use cbor4ii_ser::error::EncodeError;
@@ -53,8 +53,8 @@ fn a_stream_that_fails(rt: HostRuntime) -> Result<(), Fail> {
     Ok(())
 }
 
-// The words of a refusal.
-fn refusal<W: Drop>(got: Result<W, EncodeError<io::Error>>) -> Option<StaticStr> {
+// The words of an error.
+fn rejection<W: Drop>(got: Result<W, EncodeError<io::Error>>) -> Option<StaticStr> {
     match got {
         Err(EncodeError::Custom(words)) => Some(words),
         _ => None,
@@ -65,8 +65,8 @@ fn refusal<W: Drop>(got: Result<W, EncodeError<io::Error>>) -> Option<StaticStr>
 fn a_value_without_an_item(rt: HostRuntime) -> Result<(), Fail> {
     let alloc = rt.alloc();
     let value = tagged(alloc)?;
-    is_refused(to_vec(Vec::new(alloc), &value))?;
+    is_rejected(to_vec(Vec::new(alloc), &value))?;
     let mut room = [0u8; 2];
-    assert!(rt; refusal(to_writer(room.as_mut_slice(), &value)) == Some(TAG));
+    assert!(rt; rejection(to_writer(room.as_mut_slice(), &value)) == Some(TAG));
     Ok(())
 }

@@ -1,7 +1,7 @@
 //! Items that are kept as a copy of their bytes.
 //!
-//! Rows that hold of `RawValue` alike stand in `raw.rt`, and what skipping refuses in
-//! `decode_value/refusals.rt`.
+//! Rows that hold of `RawValue` alike stand in `raw.rt`, and what skipping rejects in
+//! `decode_value/errors.rt`.
 use crate::ignored::ITEMS;
 use crate::kept::{Copied, ITEM, MAP, wanted};
 use crate::literal::Literal::{self, Integer, Null};
@@ -74,8 +74,8 @@ fn are_pair(map: &Map<Vec<(BoxedRawValue, BoxedRawValue)>>) -> Result<(), Fail> 
     is_copy(value, b"\x81\x03")
 }
 
-// Behind a reference.
-fn copy_behind<S: FillLong>(
+// After a reference.
+fn copy_after<S: FillLong>(
     alloc: Global,
     reader: &mut S,
 ) -> Result<BoxedRawValue, DecodeError<S::Error>> {
@@ -83,11 +83,11 @@ fn copy_behind<S: FillLong>(
 }
 
 #[test]
-fn behind_references(rt: HostRuntime) -> Result<(), Fail> {
+fn after_references(rt: HostRuntime) -> Result<(), Fail> {
     let alloc = rt.alloc();
     let mut reader = SliceReader::new(b"\x82\x01\x02\x03");
-    is_copy(&copy_behind(alloc, &mut reader)?, b"\x82\x01\x02")?;
-    is_copy(&copy_behind(alloc, &mut reader)?, b"\x03")?;
+    is_copy(&copy_after(alloc, &mut reader)?, b"\x82\x01\x02")?;
+    is_copy(&copy_after(alloc, &mut reader)?, b"\x03")?;
     assert!(rt; reader.remaining().is_empty());
     Ok(())
 }

@@ -1,4 +1,4 @@
-//! Values that are read from their canonical spelling alone: what is refused.
+//! Values that are read from their canonical encoding alone: what is rejected.
 //!
 //! What is read stands with the rows of `decode_value.rt`, and of `decode_value/growth.rt`.
 use crate::item::Item;
@@ -8,13 +8,13 @@ use cbor4ii_vectors::{eof, mismatch, no_step, not_canonical, require_utf8, table
 use std::alloc::{AllocError, Global};
 use std::test::Fail;
 
-// A spelling, and not the canonical one.
+// An encoding, and not the canonical one.
 const OTHER: &str = not_canonical!("canonical");
 
-// What is no canonical spelling of a value, and what begins none: the refusal, and what is left.
-type Refused = (&'static [u8], &'static str, &'static [u8]);
+// What is no canonical encoding of a value, and what begins none: the error, and what is left.
+type Rejected = (&'static [u8], &'static str, &'static [u8]);
 
-const REFUSED: &[Refused] = table! {
+const REJECTED: &[Rejected] = table! {
     (b"\x9f", OTHER, b""),
     (b"\x5f", OTHER, b""),
     (b"\xf7", OTHER, b""),
@@ -51,8 +51,8 @@ const REFUSED: &[Refused] = table! {
     (b"\xa1\x18\x17\x00", OTHER, b"\x00"),
 };
 
-// A head of each width that is as short as can be, with no byte behind it, and one that is longer.
-const HEADS: &[Refused] = table! {
+// A head of each width that is as short as can be, with no byte after it, and one that is longer.
+const HEADS: &[Rejected] = table! {
     (b"\x97", eof!("value", 1), b""),
     (b"\x98\x18", eof!("value", 1), b""),
     (b"\x98\xff", eof!("value", 1), b""),
@@ -96,47 +96,47 @@ const HEADS: &[Refused] = table! {
     (b"\xdb\x00\x00\x00\x00\xff\xff\xff\xff", OTHER, b""),
 };
 
-fn refuses_rows(alloc: Global, rows: &[Refused]) -> Result<(), Fail> {
-    for &(bytes, refusal, rest) in rows {
-        refuses(alloc, bytes, refusal, rest)?;
+fn rejects_rows(alloc: Global, rows: &[Rejected]) -> Result<(), Fail> {
+    for &(bytes, error, rest) in rows {
+        rejects(alloc, bytes, error, rest)?;
     }
     Ok(())
 }
 
-fn refuses(
+fn rejects(
     alloc: Global,
     bytes: &'static [u8],
-    refusal: &'static str,
+    error: &'static str,
     rest: &[u8],
 ) -> Result<(), Fail> {
-    reads::<Item<Canonical>>(alloc, bytes, Err(refusal), rest)
+    reads::<Item<Canonical>>(alloc, bytes, Err(error), rest)
 }
 
 #[test]
-fn other_spellings_are_refused(rt: HostRuntime) -> Result<(), Fail> {
-    refuses_rows(rt.alloc(), REFUSED)
+fn other_encodings_are_rejected(rt: HostRuntime) -> Result<(), Fail> {
+    rejects_rows(rt.alloc(), REJECTED)
 }
 
 #[test]
 fn heads_of_each_width(rt: HostRuntime) -> Result<(), Fail> {
-    refuses_rows(rt.alloc(), HEADS)
+    rejects_rows(rt.alloc(), HEADS)
 }
 
-// 255 tags, and these bytes behind them.
+// 255 tags, and these bytes after them.
 fn below_255_tags(alloc: Global, item: &[u8]) -> Result<&'static [u8], AllocError> {
     let mut bytes = vec![in alloc; 0xc1; 255]?;
     bytes.extend_from_slice(item)?;
     Ok(bytes.leak())
 }
 
-fn refuses_below_255_tags(
+fn rejects_below_255_tags(
     alloc: Global,
     item: &[u8],
-    refusal: &'static str,
+    error: &'static str,
     rest: &[u8],
 ) -> Result<(), Fail> {
     let bytes = below_255_tags(alloc, item)?;
-    reads_within::<Item<Canonical>>(alloc, bytes, 256, &Err(refusal), rest)
+    reads_within::<Item<Canonical>>(alloc, bytes, 256, &Err(error), rest)
 }
 
 // A string of indefinite length is met before a step is taken for its chunk; an array's step comes
@@ -144,6 +144,6 @@ fn refuses_below_255_tags(
 #[test]
 fn at_the_last_step(rt: HostRuntime) -> Result<(), Fail> {
     let alloc = rt.alloc();
-    refuses_below_255_tags(alloc, b"\x5f\x40\xff", OTHER, b"\x40\xff")?;
-    refuses_below_255_tags(alloc, b"\x9f\xff", no_step!("array"), b"\x9f\xff")
+    rejects_below_255_tags(alloc, b"\x5f\x40\xff", OTHER, b"\x40\xff")?;
+    rejects_below_255_tags(alloc, b"\x9f\xff", no_step!("array"), b"\x9f\xff")
 }

@@ -1,6 +1,6 @@
-//! Values that are read from each spelling, and with it skipped, copied and written.
+//! Values that are read from each encoding, and with it skipped, copied and written.
 //!
-//! What is written is the one spelling that `Canonical` reads.
+//! What is written is the one encoding that `Canonical` reads.
 use crate::item::Item;
 use crate::item_rows::{reads_and_writes, reads_canonical, reads_item};
 use crate::literal::Literal::{self, Array, Bool, Bytes, Float, Integer, Map, Null, Tag, Text};
@@ -14,8 +14,8 @@ use std::test::Fail;
 
 mod asked;
 mod depth;
+mod errors;
 mod growth;
-mod refusals;
 mod window;
 
 // [1, [2, 3], [4, 5]]
@@ -213,11 +213,11 @@ const FUN_OPEN: &[u8] = b"\xbf\x63Fun\xf5\x63Amt\x21\xff";
 
 const STRINGS_OPEN: &[u8] = b"\x9f\x5f\x41\x01\xff\x41\x02\xff";
 
-// Items that are spelled otherwise than they are written: what is read, what it is, what is
-// written, and what the refusal of another spelling leaves: all behind the first head that is one.
-type Spelling = (&'static [u8], Literal, &'static [u8], &'static [u8]);
+// Items that are encoded otherwise than they are written: what is read, what it is, what is
+// written, and what the error of another encoding leaves: all after the first head that is one.
+type Encoding = (&'static [u8], Literal, &'static [u8], &'static [u8]);
 
-const SPELLINGS: &[Spelling] = table! {
+const ENCODINGS: &[Encoding] = table! {
     (b"\x18\x05", Integer(5), b"\x05", b""),
     (b"\x19\x00\x05", Integer(5), b"\x05", b""),
     (b"\x1a\x00\x00\x00\x05", Integer(5), b"\x05", b""),
@@ -263,7 +263,7 @@ const SPELLINGS: &[Spelling] = table! {
     (STRINGS_OPEN, TWO_STRINGS, b"\x82\x41\x01\x41\x02", b"\x5f\x41\x01\xff\x41\x02\xff"),
 };
 
-fn reads_spellings(alloc: Global, rows: &[Spelling]) -> Result<(), Fail> {
+fn reads_encodings(alloc: Global, rows: &[Encoding]) -> Result<(), Fail> {
     for (item, literal, written, rest) in rows {
         reads_and_writes(alloc, item, literal, written)?;
         is_not_canonical(alloc, item, rest)?;
@@ -277,8 +277,8 @@ fn is_not_canonical(alloc: Global, item: &'static [u8], rest: &[u8]) -> Result<(
 }
 
 #[test]
-fn other_spellings_are_read(rt: HostRuntime) -> Result<(), Fail> {
-    reads_spellings(rt.alloc(), SPELLINGS)
+fn other_encodings_are_read(rt: HostRuntime) -> Result<(), Fail> {
+    reads_encodings(rt.alloc(), ENCODINGS)
 }
 
 // 1 to 25, and its bytes: counted, and up to a break.
@@ -289,7 +289,7 @@ const ONE_TO_25: Literal = Array(table! {
     Integer(23), Integer(24), Integer(25),
 });
 
-const COUNTED: &[u8] = b"\x98\x19\x01\x02\x03\x04\x05\x06\x07\x08\x09\x0a\x0b\x0c\x0d\
+const DEFINITE: &[u8] = b"\x98\x19\x01\x02\x03\x04\x05\x06\x07\x08\x09\x0a\x0b\x0c\x0d\
     \x0e\x0f\x10\x11\x12\x13\x14\x15\x16\x17\x18\x18\x18\x19";
 
 const OPEN: &[u8] = b"\x9f\x01\x02\x03\x04\x05\x06\x07\x08\x09\x0a\x0b\x0c\x0d\
@@ -298,9 +298,9 @@ const OPEN: &[u8] = b"\x9f\x01\x02\x03\x04\x05\x06\x07\x08\x09\x0a\x0b\x0c\x0d\
 #[test]
 fn an_array_of_25(rt: HostRuntime) -> Result<(), Fail> {
     let alloc = rt.alloc();
-    reads_and_writes(alloc, COUNTED, &ONE_TO_25, COUNTED)?;
-    reads_canonical(alloc, COUNTED, &ONE_TO_25)?;
-    reads_and_writes(alloc, OPEN, &ONE_TO_25, COUNTED)?;
+    reads_and_writes(alloc, DEFINITE, &ONE_TO_25, DEFINITE)?;
+    reads_canonical(alloc, DEFINITE, &ONE_TO_25)?;
+    reads_and_writes(alloc, OPEN, &ONE_TO_25, DEFINITE)?;
     is_not_canonical(alloc, OPEN, &OPEN[1..])
 }
 
@@ -323,9 +323,9 @@ fn each_kind_that_takes_memory(rt: HostRuntime) -> Result<(), Fail> {
 
 const ONE_AND_TWO: Literal = Array(&[Integer(1), Integer(2)]);
 
-// Each front of [1, 2] ends too early, whether it is read or skipped.
+// Each prefix of [1, 2] ends too early, whether it is read or skipped.
 #[test]
-fn fronts_of_an_array_of_two(rt: HostRuntime) -> Result<(), Fail> {
+fn prefixes_of_an_array_of_two(rt: HostRuntime) -> Result<(), Fail> {
     reads_item(rt.alloc(), b"\x82\x01\x02", 256, &ONE_AND_TWO)
 }
 
@@ -368,8 +368,8 @@ type Two = Pair<Item<Value>, Item<Value>>;
 fn four(alloc: Global) -> Result<Pair<Two, Two>, AllocError> {
     let array = Value::Array(vec![in alloc; Value::Integer(1), Value::Integer(2)]?);
     let bytes = Value::Bytes(vec![in alloc; 1]?);
-    let front = Pair(Item(array), Item(Value::Null));
-    Ok(Pair(front, Pair(Item(bytes), Item(Value::Integer(3)))))
+    let prefix = Pair(Item(array), Item(Value::Null));
+    Ok(Pair(prefix, Pair(Item(bytes), Item(Value::Integer(3)))))
 }
 
 fn reads_four(alloc: Global, bytes: &'static [u8]) -> Result<(), Fail> {

@@ -1,8 +1,8 @@
 //! Items that are skipped.
 //!
-//! `decode_value.rt` skips each item that it reads. What skipping refuses stands beside what a
-//! value refuses, in `decode_value/refusals.rt` and `decode_value/depth.rt`.
-use crate::item_rows::{refuses_to_skip, skips, skips_item};
+//! `decode_value.rt` skips each item that it reads. What skipping rejects stands beside what a
+//! value rejects, in `decode_value/errors.rt` and `decode_value/depth.rt`.
+use crate::item_rows::{rejects_to_skip, skips, skips_item};
 use cbor4ii_items::decode::Decode;
 use cbor4ii_tree::IgnoredAny;
 use cbor4ii_vectors::readers::Counting;
@@ -38,7 +38,7 @@ pub const ITEMS: &[&[u8]] = table! {
     b"\xdb\xff\xff\xff\xff\xff\xff\xff\xfe\x6bhello world",
 };
 
-// Items that are skipped, with bytes behind them that are left.
+// Items that are skipped, with bytes after them that are left.
 const FOLLOWED: &[(&[u8], &[u8])] = table! {
     (b"\x84\x00\xf4\x60\xa0\x00", b"\x00"),
     (b"\xbf\x00\x00\x00\x00\xff\x00", b"\x00"),
@@ -58,7 +58,7 @@ fn skips_items(alloc: Global, items: &[&'static [u8]]) -> Result<(), Fail> {
     Ok(())
 }
 
-fn skips_fronts(alloc: Global, rows: &[(&'static [u8], &[u8])]) -> Result<(), Fail> {
+fn skips_prefixes(alloc: Global, rows: &[(&'static [u8], &[u8])]) -> Result<(), Fail> {
     for (bytes, rest) in rows {
         skips(alloc, bytes, Ok(IgnoredAny), rest)?;
     }
@@ -69,7 +69,7 @@ fn skips_fronts(alloc: Global, rows: &[(&'static [u8], &[u8])]) -> Result<(), Fa
 fn any_item_is_skipped(rt: HostRuntime) -> Result<(), Fail> {
     let alloc = rt.alloc();
     skips_items(alloc, ITEMS)?;
-    skips_fronts(alloc, FOLLOWED)
+    skips_prefixes(alloc, FOLLOWED)
 }
 
 // What is skipped with no more than so many steps.
@@ -104,7 +104,7 @@ fn within_a_limit(rt: HostRuntime) -> Result<(), Fail> {
     skips_within(rt.alloc(), WITHIN)
 }
 
-// Zeros behind a head and before an end: the answer of skipping, and what is left.
+// Zeros after a head and before an end: the answer of skipping, and what is left.
 type Zeros = (
     &'static [u8],
     usize,
@@ -114,7 +114,8 @@ type Zeros = (
 );
 
 const ZEROS: &[Zeros] = table! {
-    // Arrays of 200 and of 300 items, counted and open, and open strings.
+    // Arrays of 200 and of 300 items, of definite and of indefinite length, and indefinite-length
+    // strings.
     (b"\x98\xc8", 200, b"", Ok(IgnoredAny), b""),
     (b"\x98\xc8", 200, b"\x00", Ok(IgnoredAny), b"\x00"),
     (b"\x99\x01\x2c", 300, b"", Ok(IgnoredAny), b""),
@@ -122,11 +123,11 @@ const ZEROS: &[Zeros] = table! {
     (b"\x9f", 300, b"\xff", Ok(IgnoredAny), b""),
     (b"\x9f", 300, b"\xff\x00", Ok(IgnoredAny), b"\x00"),
     (b"\x5f", 300, b"\xff\x00", Ok(IgnoredAny), b"\x00"),
-    // Maps of 300 pairs, counted and open.
+    // Maps of 300 pairs, of definite and of indefinite length.
     (b"\xb9\x01\x2c", 600, b"", Ok(IgnoredAny), b""),
     (b"\xb9\x01\x2c", 600, b"\x00", Ok(IgnoredAny), b"\x00"),
     (b"\xbf", 600, b"\xff\x00", Ok(IgnoredAny), b"\x00"),
-    // A key with no value behind it.
+    // A key with no value after it.
     (b"\xbf", 601, b"\xff", Err(unsupported!("ignored-any", 0xff)), b"\xff"),
     (b"\xbf", 255, b"\xff", Err(unsupported!("ignored-any", 0xff)), b"\xff"),
     (b"\xb9\x01\x2c", 599, b"", Err(eof!("ignored-any", 1)), b""),
@@ -135,7 +136,7 @@ const ZEROS: &[Zeros] = table! {
     (b"\x9b\xff\xff\xff\xff\xff\xff\xff\xff", 300, b"", Err(eof!("ignored-any", 1)), b""),
     (b"\xbb\xff\xff\xff\xff\xff\xff\xff\xff", 300, b"", Err(eof!("ignored-any", 1)), b""),
     (b"\x9f", 300, b"", Err(eof!("break", 1)), b""),
-    // What is refused stands behind many that are skipped.
+    // What is rejected follows many that are skipped.
     (b"\x9f", 300, b"\xf3\xff", Err(unsupported!("ignored-any", 0xf3)), b"\xf3\xff"),
     (b"\x99\x01\x2c", 298, b"\xff\x00", Err(unsupported!("ignored-any", 0xff)), b"\xff\x00"),
 };
@@ -145,7 +146,7 @@ fn skips_zeros(alloc: Global, rows: &[Zeros]) -> Result<(), Fail> {
         let bytes = zeros(alloc, head, count, end)?.leak();
         match want {
             Ok(any) => skips(alloc, bytes, Ok(any), rest)?,
-            Err(refusal) => refuses_to_skip(alloc, bytes, refusal, rest)?,
+            Err(error) => rejects_to_skip(alloc, bytes, error, rest)?,
         }
     }
     Ok(())
@@ -162,7 +163,7 @@ fn zeros(alloc: Global, head: &[u8], count: usize, end: &[u8]) -> Result<Vec<u8>
     Ok(bytes)
 }
 
-// A head, and an item behind it so many times.
+// A head, and an item after it so many times.
 fn repeated(alloc: Global, head: &[u8], count: usize, item: &[u8]) -> Result<Vec<u8>, AllocError> {
     let mut bytes = head.to_vec(alloc)?;
     for _ in 0..count {

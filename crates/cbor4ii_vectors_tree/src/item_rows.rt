@@ -8,13 +8,13 @@ use cbor4ii_tree::{BoxedRawValue, Canonical, IgnoredAny, RawValue, Value};
 use cbor4ii_vectors::items::Lent;
 use cbor4ii_vectors::readers::TestReader;
 use cbor4ii_vectors::rows::{
-    Want, ends_at_each_front, lends_none, reads, reads_over, reads_within, writes,
+    Want, ends_at_each_prefix, lends_none, reads, reads_over, reads_within, writes,
 };
 use std::alloc::Global;
 use std::test::Fail;
 
 /// The item is read as this value with so many steps and with no limit, and as a copy of it, and it
-/// is skipped. Each proper front of it is the end of the input.
+/// is skipped. Each proper prefix of it is the end of the input.
 pub fn reads_item(
     alloc: Global,
     item: &'static [u8],
@@ -35,7 +35,7 @@ pub fn reads_value(
     let want = Ok(Item(value));
     reads_within(alloc, item, limit, &want, b"")?;
     reads_over(alloc, &mut TestReader::unlimited(item), item, &want, b"")?;
-    ends_at_each_front::<Item<Value>>(alloc, item, limit)?;
+    ends_at_each_prefix::<Item<Value>>(alloc, item, limit)?;
     skips_item(alloc, item, limit)
 }
 
@@ -61,24 +61,24 @@ pub fn writes_value(alloc: Global, literal: &Literal, written: &[u8]) -> Result<
     writes(alloc, &literal.to_value(alloc)?, written)
 }
 
-/// The item is the one spelling that is read as this value where no other is.
+/// The item is the one encoding that is read as this value where no other is.
 pub fn reads_canonical(alloc: Global, item: &'static [u8], literal: &Literal) -> Result<(), Fail> {
     let value = Canonical(literal.to_value(alloc)?);
     reads(alloc, item, Ok(Item(value)), b"")?;
-    ends_at_each_front::<Item<Canonical>>(alloc, item, 256)
+    ends_at_each_prefix::<Item<Canonical>>(alloc, item, 256)
 }
 
-/// The item is skipped with so many steps, and with no limit. Each proper front of it is the end of
-/// the input.
+/// The item is skipped with so many steps, and with no limit. Each proper prefix of it is the end
+/// of the input.
 pub fn skips_item(alloc: Global, item: &'static [u8], limit: usize) -> Result<(), Fail> {
     let want = Ok(Item(IgnoredAny));
     reads_within(alloc, item, limit, &want, b"")?;
     let mut unlimited = TestReader::unlimited(item);
     reads_over(alloc, &mut unlimited, item, &want, b"")?;
-    ends_at_each_front::<Item<IgnoredAny>>(alloc, item, limit)
+    ends_at_each_prefix::<Item<IgnoredAny>>(alloc, item, limit)
 }
 
-/// The front of the bytes is skipped, with 256 steps and with no limit, or that is refused.
+/// The front of the bytes is skipped, with 256 steps and with no limit, or that is rejected.
 pub fn skips(
     alloc: Global,
     bytes: &'static [u8],
@@ -99,37 +99,37 @@ pub fn skips_within(
     reads_within(alloc, bytes, limit, &want.map(|any| Item(any)), rest)
 }
 
-/// Skipping is refused, and with it an item that is kept, of which nothing is taken.
-pub fn refuses_to_skip(
+/// Skipping is rejected, and with it an item that is kept, of which nothing is taken.
+pub fn rejects_to_skip(
     alloc: Global,
     bytes: &'static [u8],
-    refusal: &'static str,
+    error: &'static str,
     rest: &[u8],
 ) -> Result<(), Fail> {
-    skips(alloc, bytes, Err(refusal), rest)?;
-    keeps_none(alloc, bytes, 256, refusal)
+    skips(alloc, bytes, Err(error), rest)?;
+    keeps_none(alloc, bytes, 256, error)
 }
 
 /// As `refuses_to_skip`, with so many steps.
-pub fn refuses_to_skip_within(
+pub fn rejects_to_skip_within(
     alloc: Global,
     bytes: &'static [u8],
     limit: usize,
-    refusal: &'static str,
+    error: &'static str,
     rest: &[u8],
 ) -> Result<(), Fail> {
-    skips_within(alloc, bytes, limit, Err(refusal), rest)?;
-    keeps_none(alloc, bytes, limit, refusal)
+    skips_within(alloc, bytes, limit, Err(error), rest)?;
+    keeps_none(alloc, bytes, limit, error)
 }
 
-// An item that is kept as its bytes, lent or copied, is refused as skipping refuses it. Nothing is
+// An item that is kept as its bytes, lent or copied, is rejected as skipping rejects it. Nothing is
 // taken, also where the reader fails.
 fn keeps_none(
     alloc: Global,
     bytes: &'static [u8],
     limit: usize,
-    refusal: &'static str,
+    error: &'static str,
 ) -> Result<(), Fail> {
-    lends_none::<Lent<RawValue>>(alloc, bytes, limit, refusal)?;
-    lends_none::<Lent<BoxedRawValue>>(alloc, bytes, limit, refusal)
+    lends_none::<Lent<RawValue>>(alloc, bytes, limit, error)?;
+    lends_none::<Lent<BoxedRawValue>>(alloc, bytes, limit, error)
 }

@@ -1,5 +1,5 @@
 //! Items that are kept as their bytes, as what a row reads.
-use cbor4ii_items::decode::{Decode, Spelled};
+use cbor4ii_items::decode::{Decodable, Decode};
 use cbor4ii_items::types::Map;
 use cbor4ii_rw::error::DecodeError;
 use cbor4ii_rw::read::Source;
@@ -41,7 +41,7 @@ impl<T> BytesOf<T> {
     }
 }
 
-impl<S: Source, T: Spelled + Decode<S> + Kept + Drop> ReadBy<S> for BytesOf<T> {
+impl<S: Source, T: Decodable + Decode<S> + Kept + Drop> ReadBy<S> for BytesOf<T> {
     fn read_by(alloc: Global, reader: &mut S) -> Result<BytesOf<T>, DecodeError<S::Error>> {
         let kept = T::decode(alloc, reader)?;
         match BytesOf::new(alloc, kept.item()) {
@@ -61,7 +61,7 @@ pub type Copied = BytesOf<BoxedRawValue>;
 pub fn wanted<T>(alloc: Global, want: Want<&[u8]>) -> Result<Want<BytesOf<T>>, AllocError> {
     match want {
         Ok(item) => Ok(Ok(BytesOf::new(alloc, item)?)),
-        Err(refusal) => Ok(Err(refusal)),
+        Err(rejection) => Ok(Err(rejection)),
     }
 }
 
@@ -74,7 +74,7 @@ pub const ITEM: &[u8] = b"\xa1\x65value\x18\x99";
 #[derive(Debug, PartialEq, Drop)]
 pub struct UnderKey<T>(pub BytesOf<T>);
 
-impl<S: Source, T: Spelled + Decode<S> + Kept + Drop> ReadBy<S> for UnderKey<T> {
+impl<S: Source, T: Decodable + Decode<S> + Kept + Drop> ReadBy<S> for UnderKey<T> {
     fn read_by(alloc: Global, reader: &mut S) -> Result<UnderKey<T>, DecodeError<S::Error>> {
         let map = <Map<Vec<(String, T)>>>::decode(alloc, reader)?;
         let [(_, kept)] = map.0.as_slice() else {

@@ -3,7 +3,7 @@
 //!
 //! Files of that crate with nothing public have none here:
 //! - `leaf.rt`, `run.rt`, `simple.rt` and `slot.rt` are called by `Value` and `Canonical`
-//! - `skip.rt`, `unseen.rt`, `ahead.rt` and `front.rt` are called by `IgnoredAny`
+//! - `skip.rt`, `unseen.rt`, `ahead.rt` and `prefix.rt` are called by `IgnoredAny`
 //! - `lend_raw.rt` is called by `RawValue` and `BoxedRawValue`, and `range.rt` by a law
 //!
 //! The rows' values come from RFC 8949 (its Appendix A above all) and from worked examples, never

@@ -1,7 +1,7 @@
 //! Items that are kept as their bytes and lent by the reader.
 //!
-//! Rows that hold of `BoxedRawValue` alike are tried of both here. What skipping refuses is refused
-//! of both in `decode_value/refusals.rt`.
+//! Rows that hold of `BoxedRawValue` alike are tried of both here. What skipping rejects is
+//! rejected of both in `decode_value/errors.rt`.
 use crate::ignored::ITEMS;
 use crate::kept::{BytesOf, Copied, ITEM, Lent, MAP, UnderKey, wanted};
 use cbor4ii_items::decode::Decode;
@@ -74,28 +74,28 @@ fn lends_within(alloc: Global, item: &'static [u8], limit: usize) -> Result<(), 
     reads_over(alloc, &mut reader, item, &want, b"")
 }
 
-// A front of an item that ends too early is the end of the input, and nothing moves.
+// A prefix of an item that ends too early is the end of the input, and nothing moves.
 #[test]
-fn fronts_of_items(rt: HostRuntime) -> Result<(), Fail> {
-    lends_no_fronts(rt.alloc(), ITEMS)
+fn prefixes_of_items(rt: HostRuntime) -> Result<(), Fail> {
+    lends_no_prefixes(rt.alloc(), ITEMS)
 }
 
-fn lends_no_fronts(alloc: Global, items: &[&[u8]]) -> Result<(), Fail> {
+fn lends_no_prefixes(alloc: Global, items: &[&[u8]]) -> Result<(), Fail> {
     for item in items {
         for shown in 0..item.len() {
-            lends_no_front(alloc, &item[..shown])?;
+            lends_no_prefix(alloc, &item[..shown])?;
         }
     }
     Ok(())
 }
 
-fn lends_no_front(alloc: Global, front: &[u8]) -> Result<(), Fail> {
-    let mut reader = SliceReader::new(front);
+fn lends_no_prefix(alloc: Global, prefix: &[u8]) -> Result<(), Fail> {
+    let mut reader = SliceReader::new(prefix);
     let got = RawValue::decode(alloc, &mut reader);
-    if matches!(got, Err(DecodeError::Eof { .. })) && reader.remaining() == front {
+    if matches!(got, Err(DecodeError::Eof { .. })) && reader.remaining() == prefix {
         return Ok(());
     }
-    Err(Fail::new(format_args!("{got:?} of {front:?}")))
+    Err(Fail::new(format_args!("{got:?} of {prefix:?}")))
 }
 
 const OF_SHORT_BYTES: &[(&[u8], &str)] = table! {
@@ -103,7 +103,7 @@ const OF_SHORT_BYTES: &[(&[u8], &str)] = table! {
     (b"", CUT_OFF),
 };
 
-// Bytes that do not live as long as the input are refused, and before any step.
+// Bytes that do not live as long as the input are rejected, and before any step.
 #[test]
 fn short_bytes(rt: HostRuntime) -> Result<(), Fail> {
     keeps_no_short_bytes(rt.alloc(), OF_SHORT_BYTES)?;
@@ -111,9 +111,9 @@ fn short_bytes(rt: HostRuntime) -> Result<(), Fail> {
 }
 
 fn keeps_no_short_bytes(alloc: Global, rows: &[(&'static [u8], &'static str)]) -> Result<(), Fail> {
-    for &(bytes, refusal) in rows {
-        lends_short::<Lent>(alloc, bytes, Err(refusal), bytes)?;
-        lends_short::<Copied>(alloc, bytes, Err(refusal), bytes)?;
+    for &(bytes, rejection) in rows {
+        lends_short::<Lent>(alloc, bytes, Err(rejection), bytes)?;
+        lends_short::<Copied>(alloc, bytes, Err(rejection), bytes)?;
     }
     Ok(())
 }
@@ -189,7 +189,7 @@ fn keeps_in_segments(alloc: Global, rows: &[InSegments]) -> Result<(), Fail> {
     Ok(())
 }
 
-// Segments, whether the raw item stands in the first, and the values behind it.
+// Segments, whether the raw item stands in the first, and the values after it.
 type BeforeValues = (&'static [&'static [u8]], bool, &'static [&'static str]);
 
 const BEFORE_VALUES: &[BeforeValues] = table! {
@@ -200,11 +200,11 @@ const BEFORE_VALUES: &[BeforeValues] = table! {
 };
 
 #[test]
-fn values_behind_items_in_segments(rt: HostRuntime) -> Result<(), Fail> {
-    reads_behind(rt.alloc(), BEFORE_VALUES)
+fn values_after_items_in_segments(rt: HostRuntime) -> Result<(), Fail> {
+    reads_after(rt.alloc(), BEFORE_VALUES)
 }
 
-fn reads_behind(alloc: Global, rows: &[BeforeValues]) -> Result<(), Fail> {
+fn reads_after(alloc: Global, rows: &[BeforeValues]) -> Result<(), Fail> {
     for &(segments, is_lent, values) in rows {
         let mut reader = SegmentReader::new(segments);
         stands_before(alloc, &mut reader, is_lent)?;

@@ -42,7 +42,7 @@ nothing_owed (Ok v) {a = a} m progress = record {
   progress = progress;
   memory = tt;
   sound = record {
-    at = λ xs told. let p = m.by.rest xs told in
+    at = λ xs known. let p = m.by.rest xs known in
         record { count = p.0; cost = 0; read = tt; fits = fits_zero a.budget; left = p.1.left };
   };
   complete = not_exact;

@@ -7,8 +7,8 @@ use Rattle.cbor4ii_items.specs.Decoding.{Reads}
 use Rattle.cbor4ii_items.specs.Floats.{float_one, float_within, float_positive}
 use Rattle.cbor4ii_items.specs.Laws.Bignums.{u128_one, u128_within, u128_positive, i128_one}
 use Rattle.cbor4ii_items.specs.Laws.Bignums.{i128_within, i128_positive}
-use Rattle.cbor4ii_items.specs.Sequences.{ReadsParts, Unbroken, ReadsInside, ReadsSequence}
-use Rattle.cbor4ii_items.specs.Sequences.{ReadsPair, SamePair, SameParts}
+use Rattle.cbor4ii_items.specs.Sequences.{ReadsElements, Unbroken, ReadsInside, ReadsSequence}
+use Rattle.cbor4ii_items.specs.Sequences.{ReadsPair, SamePair, SameElements}
 use Rattle.cbor4ii_items.specs.Laws.Sequences.{sequence_one, sequence_within, sequence_positive}
 use Rattle.cbor4ii_items.specs.Simple.{simple_lawful, bool_one}
 use Rattle.cbor4ii_items.specs.Simple.{bool_within, bool_positive}
@@ -46,13 +46,13 @@ view_text s t e =
     let g : view (of_text t) ≡ text (text_content t) = search (rules, the_lemmas) in
     f ∙ ap text e ∙ sym g
 
-items_same : (vs ws : List Value) → SameParts SameView vs ws → items_view vs ≡ items_view ws
+items_same : (vs ws : List Value) → SameElements SameView vs ws → items_view vs ≡ items_view ws
 items_same [] [] h = refl
 items_same [] (w ∷ ws) h = absurd h
 items_same (v ∷ vs) [] h = absurd h
 items_same (v ∷ vs) (w ∷ ws) h = ap₂ item h.0 (items_same vs ws h.1)
 
-members_same : (ps qs : List (Value × Value)) → SameParts (SamePair SameView SameView) ps qs
+members_same : (ps qs : List (Value × Value)) → SameElements (SamePair SameView SameView) ps qs
     → members_view ps ≡ members_view qs
 members_same [] [] h = refl
 members_same [] (q ∷ qs) h = absurd h
@@ -227,7 +227,8 @@ at_laws (suc k) = stepped_laws (inside_laws (at_laws k))
 abbrev ReadsMore : {V : Type 0} → Reads V → Reads V → Type 0
 ReadsMore {V} f g = (xs : List ℕ) (v : V) (n c : ℕ) → f xs v n c → g xs v n c
 
-parts_more : {P : Type 0} {f g : Reads P} → ReadsMore f g → ReadsMore (ReadsParts f) (ReadsParts g)
+parts_more : {P : Type 0} {f g : Reads P} → ReadsMore f g → ReadsMore (ReadsElements f)
+    (ReadsElements g)
 parts_more more xs [] n c h = h
 parts_more more xs (p ∷ ps) n c h = (
   h.0,
@@ -320,8 +321,8 @@ module _ {P : Type 0} (reads : Reads P) (to : ℕ → Reads P)
   abbrev Bounded : Type 0
   Bounded = (xs : List ℕ) (p : P) (n c : ℕ) → reads xs p n c → (k : ℕ) × to k xs p n c
 
-  parts_in : Bounded → (xs : List ℕ) (ps : List P) (n c : ℕ) → ReadsParts reads xs ps n c
-      → (k : ℕ) × ReadsParts (to k) xs ps n c
+  parts_in : Bounded → (xs : List ℕ) (ps : List P) (n c : ℕ) → ReadsElements reads xs ps n c
+      → (k : ℕ) × ReadsElements (to k) xs ps n c
   parts_in bound xs [] n c h = (0, h)
   parts_in bound xs (p ∷ ps) n c h =
       let s = bound xs p h.0 h.1 h.4 in

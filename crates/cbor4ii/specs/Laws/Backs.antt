@@ -15,15 +15,17 @@ use Rattle.cbor4ii_items.specs.Containers.{BeginsNull, ReadsOption}
 use Rattle.cbor4ii_items.specs.Decoding.{Reads}
 use Rattle.cbor4ii_items.specs.Numbers.{shortest_head}
 use Rattle.cbor4ii_items.specs.ReadBack.{ReadsBack, greatest_cost, pair_cost}
-use Rattle.cbor4ii_items.specs.Sequences.{ReadsParts, ReadsCountedParts, ReadsSequence, ReadsPair}
-use Rattle.cbor4ii_items.specs.Laws.PartsBack.{pair_back, behind, headed}
-use Rattle.cbor4ii_ser.specs.Item.{Encoding, encoded, refused, followed, each_item, entry_item}
+use Rattle.cbor4ii_items.specs.Sequences.{ReadsElements, ReadsDefiniteElements, ReadsSequence}
+use Rattle.cbor4ii_items.specs.Sequences.{ReadsPair}
+use Rattle.cbor4ii_items.specs.Laws.PartsBack.{pair_back, trailing, headed}
+use Rattle.cbor4ii_ser.specs.Item.{Encoding, encoded, rejected, followed, each_encoding}
+use Rattle.cbor4ii_ser.specs.Item.{entry_encoding}
 use Rattle.cbor4ii.specs.Built.{built, put_all, ReadsBuilt}
 use Rattle.cbor4ii.specs.ReadBack.{IsReadBack, BeginsOther, IsNullItem}
 use Rattle.cbor4ii.specs.Stepped.{Stepped}
-use Rattle.cbor4ii.specs.Tuples.{ReadsBehind, ReadsTriple}
+use Rattle.cbor4ii.specs.Tuples.{ReadsAfter, ReadsTriple}
 
--- ---- one behind the other
+-- ---- one after the other
 
 -- ---- values that may be absent
 
@@ -37,7 +39,7 @@ some_first bytes rest h = omega (arith, ap length h.2, length-append bytes rest)
 pub some_read_back : {V : Type 0} (reads : Reads V) (item : Encoding) (v : V) (cost : ℕ)
     → IsReadBack reads item v cost → BeginsOther item
     → IsReadBack (ReadsOption (Stepped reads)) item (Some v) (1 + cost)
-some_read_back reads (refused bytes words) v cost back other = tt
+some_read_back reads (rejected bytes words) v cost back other = tt
 some_read_back reads (encoded bytes) v cost back other =
     λ rest. (other_first bytes rest other, some_first bytes rest other, (cost, back rest, refl))
 
@@ -53,12 +55,12 @@ null_read_back reads item (inr e) = null_at reads 0xf7 item (inr refl) e
 
 -- ---- tuples
 
-behind_back : {V : Type 0} (count : ℕ) (reads : Reads V) (bytes : List ℕ) (v : V) (cost : ℕ)
+after_back : {V : Type 0} (count : ℕ) (reads : Reads V) (bytes : List ℕ) (v : V) (cost : ℕ)
     → count < 2 ^ 64 → ReadsBack reads bytes v cost
-    → ReadsBack (Stepped (ReadsBehind count reads)) (shortest_head 4 count ++ bytes) v (1 + cost)
-behind_back count reads bytes v cost h back rest =
+    → ReadsBack (Stepped (ReadsAfter count reads)) (shortest_head 4 count ++ bytes) v (1 + cost)
+after_back count reads bytes v cost h back rest =
     let start = shortest_head 4 count in
-    let parts = subst (λ zs. reads zs v (length bytes) cost) (sym (behind start bytes rest).left)
+    let parts = subst (λ zs. reads zs v (length bytes) cost) (sym (trailing start bytes rest).left)
     (back rest) in (
       cost,
       record {
@@ -79,33 +81,33 @@ two_back first second xs ys p c d h k =
 
 pub pair_read_back : {A B : Type 0} (first : Reads A) (second : Reads B) (a b : Encoding)
     (p : A × B) (c d : ℕ) → IsReadBack first a p.0 c → IsReadBack second b p.1 d
-    → IsReadBack (Stepped (ReadsBehind 2 (ReadsPair first second)))
+    → IsReadBack (Stepped (ReadsAfter 2 (ReadsPair first second)))
     (followed (encoded (shortest_head 4 2)) (followed a (followed b (encoded [])))) p
     (1 + max c d)
 unfolding followed
-pair_read_back first second (refused xs words) b p c d h k = tt
-pair_read_back first second (encoded xs) (refused ys words) p c d h k = tt
+pair_read_back first second (rejected xs words) b p c d h k = tt
+pair_read_back first second (encoded xs) (rejected ys words) p c d h k = tt
 pair_read_back first second (encoded xs) (encoded ys) p c d h k =
-    behind_back 2 (ReadsPair first second) (xs ++ (ys ++ [])) p (max c d) (omega arith)
+    after_back 2 (ReadsPair first second) (xs ++ (ys ++ [])) p (max c d) (omega arith)
     (subst (λ zs. ReadsBack (ReadsPair first second) (xs ++ zs) p (max c d)) (sym (append-nil ys))
     (two_back first second xs ys p c d h k))
 
 pub triple_read_back : {A B C : Type 0} (first : Reads A) (second : Reads B) (third : Reads C)
     (a b c : Encoding) (p : A × B × C) (i j k : ℕ) → IsReadBack first a p.0 i
     → IsReadBack second b p.1 j → IsReadBack third c p.2 k
-    → IsReadBack (Stepped (ReadsBehind 3 (ReadsTriple first second third)))
+    → IsReadBack (Stepped (ReadsAfter 3 (ReadsTriple first second third)))
     (followed (encoded (shortest_head 4 3)) (followed a (followed b (followed c (encoded [])))))
     p (1 + max i (max j k))
 unfolding followed
-triple_read_back first second third (refused xs words) b c p i j k f g h = tt
-triple_read_back first second third (encoded xs) (refused ys words) c p i j k f g h = tt
-triple_read_back first second third (encoded xs) (encoded ys) (refused zs words) p i j k f g h = tt
+triple_read_back first second third (rejected xs words) b c p i j k f g h = tt
+triple_read_back first second third (encoded xs) (rejected ys words) c p i j k f g h = tt
+triple_read_back first second third (encoded xs) (encoded ys) (rejected zs words) p i j k f g h = tt
 triple_read_back first second third (encoded xs) (encoded ys) (encoded zs) p i j k f g h =
     let inner = two_back second third ys zs (p.1, p.2) j k g h in
     let whole : ReadsBack (ReadsTriple first second third) (xs ++ (ys ++ zs)) p (max i (max j k)) =
     two_back first (ReadsPair second third) xs (ys ++ zs)
     (p.0, (p.1, p.2)) i (max j k) f inner in
-    behind_back 3 (ReadsTriple first second third) (xs ++ (ys ++ (zs ++ []))) p (max i (max j k))
+    after_back 3 (ReadsTriple first second third) (xs ++ (ys ++ (zs ++ []))) p (max i (max j k))
     (omega arith)
     (subst (λ ws. ReadsBack (ReadsTriple first second third)
     (xs ++ (ys ++ ws)) p (max i (max j k))) (sym (append-nil zs)) whole)
@@ -114,39 +116,39 @@ triple_read_back first second third (encoded xs) (encoded ys) (encoded zs) p i j
 
 module _ {P : Type 0} (reads : Reads P) where
   more_back : (p : P) (ps : List P) (xs ys : List ℕ) (c d : ℕ) → ReadsBack reads xs p c
-      → ReadsBack (ReadsParts reads) ys ps d
-      → ReadsBack (ReadsParts reads) (xs ++ ys) (p ∷ ps) (max c d)
+      → ReadsBack (ReadsElements reads) ys ps d
+      → ReadsBack (ReadsElements reads) (xs ++ ys) (p ∷ ps) (max c d)
   more_back p ps xs ys c d h k rest =
-      let b = behind xs ys rest in (
+      let b = trailing xs ys rest in (
         length xs,
         c,
         length ys,
         d,
         subst (λ zs. reads zs p (length xs) c) (sym b.whole) (h (ys ++ rest)),
-        subst (λ zs. ReadsParts reads zs ps (length ys) d) (sym b.left) (k rest),
+        subst (λ zs. ReadsElements reads zs ps (length ys) d) (sym b.left) (k rest),
         length-append xs ys,
         refl,
       )
 
   pub joined_back : (o q : Encoding) (p : P) (ps : List P) (c d : ℕ) → IsReadBack reads o p c
-      → IsReadBack (ReadsParts reads) q ps d
-      → IsReadBack (ReadsParts reads) (followed o q) (p ∷ ps) (max c d)
+      → IsReadBack (ReadsElements reads) q ps d
+      → IsReadBack (ReadsElements reads) (followed o q) (p ∷ ps) (max c d)
   unfolding followed
-  joined_back (refused xs words) q p ps c d h k = tt
-  joined_back (encoded xs) (refused ys words) p ps c d h k = tt
+  joined_back (rejected xs words) q p ps c d h k = tt
+  joined_back (encoded xs) (rejected ys words) p ps c d h k = tt
   joined_back (encoded xs) (encoded ys) p ps c d h k = more_back p ps xs ys c d h k
 
-  pub counted_back : (major : ℕ) (never_empty : Bool) (ps : List P) (o : Encoding) (cost : ℕ)
-      → length ps < 2 ^ 64 → IsReadBack (ReadsParts reads) o ps cost
+  pub definite_back : (major : ℕ) (never_empty : Bool) (ps : List P) (o : Encoding) (cost : ℕ)
+      → length ps < 2 ^ 64 → IsReadBack (ReadsElements reads) o ps cost
       → IsReadBack (ReadsSequence major reads never_empty)
       (followed (encoded (shortest_head major (length ps))) o) ps (1 + cost)
   unfolding followed
-  counted_back major never_empty ps (refused bytes words) cost small h = tt
-  counted_back major never_empty ps (encoded bytes) cost small h = λ rest. (
+  definite_back major never_empty ps (rejected bytes words) cost small h = tt
+  definite_back major never_empty ps (encoded bytes) cost small h = λ rest. (
       let start = shortest_head major (length ps) in
-      let parts = subst (λ zs. ReadsParts reads zs ps (length bytes) cost)
-      (sym (behind start bytes rest).left) (h rest) in
-      let counted : ReadsCountedParts major reads ((start ++ bytes) ++ rest) ps
+      let parts = subst (λ zs. ReadsElements reads zs ps (length bytes) cost)
+      (sym (trailing start bytes rest).left) (h rest) in
+      let counted : ReadsDefiniteElements major reads ((start ++ bytes) ++ rest) ps
       (length (start ++ bytes)) cost =
       record {
         before = length start;
@@ -159,20 +161,20 @@ module _ {P : Type 0} (reads : Reads P) where
 
 module _ {P : Type 0} (reads : Reads P) (item : P → Encoding) (cost : P → ℕ) where
   items_back : (ps : List P) → All (λ p. IsReadBack reads (item p) p (cost p)) ps
-      → IsReadBack (ReadsParts reads) (each_item item ps) ps (greatest_cost cost ps)
+      → IsReadBack (ReadsElements reads) (each_encoding item ps) ps (greatest_cost cost ps)
   items_back [] h = λ rest. (refl, refl)
   items_back (p ∷ ps) h =
       let Q : P → Type 0 = λ q. IsReadBack reads (item q) q (cost q) in
-      joined_back reads (item p) (each_item item ps) p ps (cost p) (greatest_cost cost ps)
+      joined_back reads (item p) (each_encoding item ps) p ps (cost p) (greatest_cost cost ps)
       (All-head Q p ps h) (items_back ps (All-tail Q p ps h))
 
   pub sequence_read_back : (major : ℕ) (never_empty : Bool) (ps : List P) → length ps < 2 ^ 64
       → All (λ p. IsReadBack reads (item p) p (cost p)) ps
       → IsReadBack (ReadsSequence major reads never_empty)
-      (followed (encoded (shortest_head major (length ps))) (each_item item ps)) ps
+      (followed (encoded (shortest_head major (length ps))) (each_encoding item ps)) ps
       (1 + greatest_cost cost ps)
   sequence_read_back major never_empty ps small h =
-      counted_back reads major never_empty ps (each_item item ps) (greatest_cost cost ps) small
+      definite_back reads major never_empty ps (each_encoding item ps) (greatest_cost cost ps) small
       (items_back ps h)
 
 -- ---- maps
@@ -181,8 +183,8 @@ pub entry_back : {K V : Type 0} (first : Reads K) (second : Reads V) (a b : Enco
     (c d : ℕ) → IsReadBack first a p.0 c → IsReadBack second b p.1 d
     → IsReadBack (ReadsPair first second) (followed a b) p (max c d)
 unfolding followed
-entry_back first second (refused xs words) b p c d h k = tt
-entry_back first second (encoded xs) (refused ys words) p c d h k = tt
+entry_back first second (rejected xs words) b p c d h k = tt
+entry_back first second (encoded xs) (rejected ys words) p c d h k = tt
 entry_back first second (encoded xs) (encoded ys) p c d h k = two_back first second xs ys p c d h k
 
 pub entries_back : {K V : Type 0} (first : Reads K) (second : Reads V) (key : K → Encoding)
@@ -190,7 +192,7 @@ pub entries_back : {K V : Type 0} (first : Reads K) (second : Reads V) (key : K 
     → All (λ p. IsReadBack first (key p.0) p.0 (key_cost p.0)) ps
     → All (λ p. IsReadBack second (value p.1) p.1 (value_cost p.1)) ps
     → All (λ p. IsReadBack (ReadsPair first second)
-    (entry_item key value p) p (pair_cost key_cost value_cost p)) ps
+    (entry_encoding key value p) p (pair_cost key_cost value_cost p)) ps
 entries_back first second key value key_cost value_cost ps h k =
     λ i d room. entry_back first second _ _ _ _ _ (h i d room) (k i d room)
 
@@ -201,7 +203,7 @@ module _ {K : Type 0} (cmp : K → K → Ordering) (total : IsTotalOrder cmp) wh
   after o k e is less = sym is ∙ (total.antisymm k e ∙ ap ordering_reverse less)
 
 module _ {K V : Type 0} (cmp : K → K → Ordering) (total : IsTotalOrder cmp) where
-  -- an entry behind all others is put at the end
+  -- an entry after all others is put at the end
   at_end : (es : List (K × V)) (p : K × V) → AllByRecursion (λ e. cmp e.0 p.0 ≡ Less) es
       → insert_entry cmp es p.0 p.1 ≡ es ++ p ∷ []
   at_end [] p h = refl
@@ -234,5 +236,5 @@ pub map_read_back : {K V M : Type 0} (entries : M → List (K × V)) (cmp : K �
     (reads : Reads (List (K × V))) (o : Encoding) (m : M) (cost : ℕ)
     → built cmp (entries m) ≡ entries m → IsReadBack reads o (entries m) cost
     → IsReadBack (ReadsBuilt entries cmp reads) o m cost
-map_read_back entries cmp reads (refused bytes words) m cost e h = tt
+map_read_back entries cmp reads (rejected bytes words) m cost e h = tt
 map_read_back entries cmp reads (encoded bytes) m cost e h = λ rest. (entries m, h rest, sym e)

@@ -1,8 +1,8 @@
--- The fields of a struct are read back behind their names: none, and one before others.
+-- The fields of a struct are read back after their names: none, and one before others.
 use Rattle.std.proofs.Common.{◌≡◌, ◌≢◌, inl, inr, ℕ, List, [], ◌∷◌, max, map, refl, sym, ap, ◌∙◌}
 use Rattle.std.specs.List.{AllByRecursion}
 use Rattle.cbor4ii_items.specs.Decoding.{Reads}
-use Rattle.cbor4ii_ser.specs.Item.{Encoding, encoded, refused}
+use Rattle.cbor4ii_ser.specs.Item.{Encoding, encoded, rejected}
 use Rattle.cbor4ii.specs.Fields.{ReadsNamed, named_field, no_field, no_values, changed}
 use Rattle.cbor4ii.specs.Places.{Place}
 use Rattle.cbor4ii.specs.ReadBack.{IsReadBack, IsName, NamedItems, ChangesBack, FieldsBack}
@@ -15,11 +15,11 @@ module _ {T P V : Type 0} (place : Place T P) (own : List ℕ) (reads : Reads T)
   abbrev below : (V → V) → P × V → P × V
   below change = λ (values : P × V). (values.0, change values.1)
 
-  -- behind another name an item is read as one of the others
+  -- after another name an item is read as one of the others
   other_back : (name : List ℕ) (item : Encoding) (change : V → V) (cost : ℕ) → name ≢ own
       → IsReadBack (named name) item change cost
       → IsReadBack (named_field place.put own reads named name) item (below change) cost
-  other_back name (refused bytes words) change cost other back = tt
+  other_back name (rejected bytes words) change cost other back = tt
   other_back name (encoded bytes) change cost other back =
       λ rest. inr (other, change, back rest, refl)
 
@@ -45,11 +45,11 @@ module _ {T P V : Type 0} (place : Place T P) (own : List ℕ) (reads : Reads T)
   changed_below o values [] = refl
   changed_below o values (change ∷ changes) = changed_below o (change values) changes
 
-  -- behind its own name an item is read as the field
+  -- after its own name an item is read as the field
   own_back : (item : Encoding) (v : T) (cost : ℕ) → IsReadBack reads item v cost
       → IsReadBack (named_field place.put own reads named own) item
       (λ (values : P × V). (place.put v values.0, values.1)) cost
-  own_back (refused bytes words) v cost back = tt
+  own_back (rejected bytes words) v cost back = tt
   own_back (encoded bytes) v cost back = λ rest. inl (refl, v, back rest, refl)
 
   pub field_back : (first values : V) (parts : NamedItems) (cost : ℕ) (item : Encoding) (v : T)
@@ -70,7 +70,7 @@ module _ {T P V : Type 0} (place : Place T P) (own : List ℕ) (reads : Reads T)
       refl,
     );
     made =
-        ap (λ (behind : V). (place.put v place.none, behind)) others.made
+        ap (λ (trailing : V). (place.put v place.none, trailing)) others.made
         ∙ sym (changed_below (place.put v place.none) first others.changes);
   }
 
@@ -84,7 +84,7 @@ module _ {T P V : Type 0} (place : Place T P) (own : List ℕ) (reads : Reads T)
     changes = map below others.changes;
     each = others_back parts others.changes cost apart others.each;
     made =
-        ap (λ (behind : V). (place.none, behind)) others.made
+        ap (λ (trailing : V). (place.none, trailing)) others.made
         ∙ sym (changed_below place.none first others.changes);
   }
 

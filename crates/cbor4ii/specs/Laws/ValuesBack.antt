@@ -1,4 +1,4 @@
--- A value of the tree in which no tag stands is read back from its canonical spelling.
+-- A value of the tree in which no tag stands is read back from its canonical encoding.
 use Rattle.std.proofs.Common.{◌≡◌, inl, inr, ℕ, suc, ◌+◌, ◌*◌, ◌/◌, ◌<◌, ◌≤◌, ◌^◌, List, [], ◌∷◌}
 use Rattle.std.proofs.Common.{◌++◌, length, take, map, max, Bool, true, false, ◌||◌, cond, ltb}
 use Rattle.std.proofs.Common.{ltb-true, ℤ, pos, negsuc, refl, sym, ap, ◌∙◌, subst, arith, rules}
@@ -11,18 +11,19 @@ use Rattle.std.specs.declared.boxed.Box.{Box}
 use Rattle.std.specs.formers.vec.Vec.{mapped}
 use Rattle.cbor4ii_items.specs.Decoding.{Reads}
 use Rattle.cbor4ii_items.specs.Floats.{float_bytes}
-use Rattle.cbor4ii_items.specs.Head.{head, open_head, additional, shortest, eight}
+use Rattle.cbor4ii_items.specs.Head.{head, indefinite_head, additional, shortest, eight}
 use Rattle.cbor4ii_items.specs.Heads.{ReadsHead}
 use Rattle.cbor4ii_items.specs.Initial.{Sign, unsigned, negative}
 use Rattle.cbor4ii_items.specs.Numbers.{ReadsI128, ReadsU128, shortest_head, bignum_bytes}
 use Rattle.cbor4ii_items.specs.Sequences.{ReadsSequence, ReadsPair}
 use Rattle.cbor4ii_items.specs.ReadBack.{ReadsBack, greatest_cost, pair_cost}
-use Rattle.cbor4ii_items.specs.Strings.{counted_string, bytes_content, text_content}
-use Rattle.cbor4ii_items.specs.Laws.LeavesBack.{counted_back, string_back, text_back, simple_back}
+use Rattle.cbor4ii_items.specs.Strings.{definite_string, bytes_content, text_content}
+use Rattle.cbor4ii_items.specs.Laws.LeavesBack.{definite_back, string_back, text_back, simple_back}
 use Rattle.cbor4ii_items.specs.Laws.LeavesBack.{float_back}
 use Rattle.cbor4ii_items.specs.Laws.NumbersBack.{head_back, u128_back, i128_back}
 use Rattle.cbor4ii_tree.specs.Laws.Numbers.{additional-lt}
-use Rattle.cbor4ii_tree.specs.Canonical.{canon, canon_cost, canon_trees, canon_pairs, bignum}
+use Rattle.cbor4ii_tree.specs.Canonical.{canonical_encoding, canonical_cost, canonical_trees}
+use Rattle.cbor4ii_tree.specs.Canonical.{canonical_pairs, bignum}
 use Rattle.cbor4ii_tree.specs.declared.value.Value.TheFolds.{ind-Value}
 use Rattle.cbor4ii_tree.specs.Item.{Item, null, boolean, integer, float, bytes_item, text, sequence}
 use Rattle.cbor4ii_tree.specs.Item.{mapping, tag, Items, no_items, item, Members, no_members}
@@ -37,9 +38,10 @@ use Rattle.cbor4ii_tree.specs.declared.value.Value.TheOpen.{Value-F}
 use Rattle.cbor4ii_tree.specs.declared.value.Value.TheVariants as variants
 use Rattle.cbor4ii_tree.specs.Cost.{cost}
 use Rattle.cbor4ii_tree.specs.Cost as Cost
-use Rattle.cbor4ii_ser.specs.Item.{Encoding, encoded, refused, followed, each_item, entry_item}
+use Rattle.cbor4ii_ser.specs.Item.{Encoding, encoded, rejected, followed, each_encoding}
+use Rattle.cbor4ii_ser.specs.Item.{entry_encoding}
 use Rattle.cbor4ii_ser.specs.Values.{holds_tag, some_holds_tag, members_hold_tag, unless}
-use Rattle.cbor4ii_ser.specs.Values.{value_item}
+use Rattle.cbor4ii_ser.specs.Values.{value_encoding}
 use Rattle.cbor4ii.specs.declared.serde.de.any_leaf.AnyKind.{AnyKind}
 use Rattle.cbor4ii.specs.declared.serde.de.any_leaf.AnyKind.TheVariants.{Leaf, Array, Map}
 use Rattle.cbor4ii.specs.declared.serde.de.any_leaf.AnyLeaf.TheVariants.{Integer, Bignum, Bytes}
@@ -72,13 +74,13 @@ by_head k major kinds width count m xs v n c h r =
 
 module _ {P : Type 0} (reads : Reads P) (k : AnyKind) (major : ℕ)
     (kinds : (b : ℕ) → kind_by major b ≡ k) where
-  by_sequence : (xs : List ℕ) (ps : List P) (v : Value) (n c : ℕ) → kind (open_head major) ≡ k
+  by_sequence : (xs : List ℕ) (ps : List P) (v : Value) (n c : ℕ) → kind (indefinite_head major) ≡ k
       → ReadsSequence major reads true xs ps n c → KindAs ReadsAny k xs v n c
       → ReadsAny xs v n (1 + c)
   by_sequence xs ps v n c opens (d, inl counted, e) r =
       by_head k major kinds 8 (length ps) counted.before xs v n c counted.head r
   by_sequence xs ps v n c opens (d, inr ended, e) r =
-      by_kind k (open_head major) xs v n c ended.begins opens r
+      by_kind k (indefinite_head major) xs v n c ended.begins opens r
 
 -- ---- integers
 
@@ -116,7 +118,7 @@ below_zero_back false k e h rest =
 
 -- the value is read back, if it is one of the program
 abbrev BackAs : Item → Value → Type 0
-BackAs i v = IsItem i → IsReadBack ReadsAny (value_item i) v (any_cost i)
+BackAs i v = IsItem i → IsReadBack ReadsAny (value_encoding i) v (any_cost i)
 
 abbrev Back : Value → Type 0
 Back v = BackAs (view v) v
@@ -165,20 +167,20 @@ floats_back f = as_seen (values.Float f) (float_view f) (search (rules, the_lemm
 
 bytes_back : (v : Vec ℕ Global) → Back (values.Bytes v)
 bytes_back v = as_seen (values.Bytes v) (bytes_item v.items) (search (rules, the_lemmas)) (λ h rest.
-    let content = counted_string 2 v.items in
+    let content = definite_string 2 v.items in
     by_head (Leaf Bytes) 2 (λ b. refl) 8 (length v.items) _ (content ++ rest) (values.Bytes v)
-    (length content) 0 (counted_back 2 v.items rest h).head
+    (length content) 0 (definite_back 2 v.items rest h).head
     (record { 0 = v }, string_back bytes_content (record { 0 = v }) h 2 rest, refl))
 
 texts_back : (s : String Global) → Back (values.Text s)
 texts_back s =
     as_seen (values.Text s) (text (string_bytes s)) (search (rules, the_lemmas)) (λ h rest.
-    let content = counted_string 3 (string_bytes s) in
+    let content = definite_string 3 (string_bytes s) in
     by_head (Leaf Text) 3 (λ b. refl) 8 (length (string_bytes s)) _ (content ++ rest)
-    (values.Text s) (length content) 0 (counted_back 3 (string_bytes s) rest h.0).head
+    (values.Text s) (length content) 0 (definite_back 3 (string_bytes s) rest h.0).head
     (s, text_back text_content s h.0 h.1 rest, refl))
 
--- ---- items, one behind another
+-- ---- items, one after another
 
 -- where the second is an item, the first is that item
 abbrev Agrees : Encoding → Encoding → Type 0
@@ -190,11 +192,11 @@ agrees a b e bytes is = e ∙ is
 agrees_on : (a b c : Encoding) → Agrees a b → Agrees b c → Agrees a c
 agrees_on a b c h k bytes is = h bytes (k bytes is)
 
--- one behind the other
+-- one after the other
 agree_both : (a b c d : Encoding) → Agrees a c → Agrees b d → Agrees (followed a b) (followed c d)
 unfolding followed
-agree_both a b (refused xs words) d h k bytes is = absurd (cc)
-agree_both a b (encoded xs) (refused ys words) h k bytes is = absurd (cc)
+agree_both a b (rejected xs words) d h k bytes is = absurd (cc)
+agree_both a b (encoded xs) (rejected ys words) h k bytes is = absurd (cc)
 agree_both a b (encoded xs) (encoded ys) h k bytes is = rw (h xs refl, k ys refl) is
 
 joined : (s t : Bool) (xs ys : List ℕ)
@@ -207,48 +209,49 @@ joined false false xs ys bytes is = is
 -- what is read back from an item is so where another agrees with it
 back_as : {V : Type 0} (reads : Reads V) (a b : Encoding) (v : V) (cost : ℕ) → Agrees a b
     → IsReadBack reads a v cost → IsReadBack reads b v cost
-back_as reads a (refused bytes words) v cost h back = tt
+back_as reads a (rejected bytes words) v cost h back = tt
 back_as reads a (encoded bytes) v cost h back =
     subst (λ o. IsReadBack reads o v cost) (h bytes refl) back
 
 abbrev own_item : Value → Encoding
-own_item v = value_item (view v)
+own_item v = value_encoding (view v)
 
 abbrev own_entry : Value × Value → Encoding
-own_entry = entry_item own_item own_item
+own_entry = entry_encoding own_item own_item
 
-items_joined : (vs : List Value) → Agrees (each_item own_item vs)
-    (unless (some_holds_tag (items_view vs)) (bytes_all (canon_trees (items_view vs))))
+items_joined : (vs : List Value) → Agrees (each_encoding own_item vs)
+    (unless (some_holds_tag (items_view vs)) (bytes_all (canonical_trees (items_view vs))))
 items_joined [] = agrees _ _ refl
 items_joined (v ∷ vs) =
     agrees_on _ _ _ (agree_both (own_item v) _ (own_item v) _ (agrees _ _ refl) (items_joined vs))
-    (joined (holds_tag (view v)) (some_holds_tag (items_view vs)) (canon (view v))
-    (bytes_all (canon_trees (items_view vs))))
+    (joined (holds_tag (view v)) (some_holds_tag (items_view vs)) (canonical_encoding (view v))
+    (bytes_all (canonical_trees (items_view vs))))
 
-entries_joined : (ms : List (Value × Value)) → Agrees (each_item own_entry ms)
-    (unless (members_hold_tag (members_view ms)) (bytes_pairs (canon_pairs (members_view ms))))
+entries_joined : (ms : List (Value × Value)) → Agrees (each_encoding own_entry ms)
+    (unless (members_hold_tag (members_view ms)) (bytes_pairs (canonical_pairs (members_view ms))))
 entries_joined [] = agrees _ _ refl
 entries_joined (m ∷ ms) =
     let s = holds_tag (view m.0) in
     let t = holds_tag (view m.1) in
     let u = members_hold_tag (members_view ms) in
-    let key = canon (view m.0) in
-    let value = canon (view m.1) in
-    let others = bytes_pairs (canon_pairs (members_view ms)) in
-    agrees_on _ _ _ (agree_both (own_entry m) (each_item own_entry ms) (unless (s || t)
+    let key = canonical_encoding (view m.0) in
+    let value = canonical_encoding (view m.1) in
+    let others = bytes_pairs (canonical_pairs (members_view ms)) in
+    agrees_on _ _ _ (agree_both (own_entry m) (each_encoding own_entry ms) (unless (s || t)
     (key ++ value)) (unless u others) (joined s t key value) (entries_joined ms))
     (agrees_on _ _ _ (joined (s || t) u (key ++ value) others)
     (agrees _ _ (ap (unless ((s || t) || u)) (append_assoc key value others))))
 
-counted_items : (vs : List Value)
-    → (item_count (items_view vs) ≡ length vs) × (count (canon_trees (items_view vs)) ≡ length vs)
-counted_items [] = (refl, refl)
-counted_items (v ∷ vs) = (ap suc (counted_items vs).0, ap suc (counted_items vs).1)
+definite_items : (vs : List Value)
+    → (item_count (items_view vs) ≡ length vs) × (count (canonical_trees (items_view vs)) ≡
+    length vs)
+definite_items [] = (refl, refl)
+definite_items (v ∷ vs) = (ap suc (definite_items vs).0, ap suc (definite_items vs).1)
 
-counted_members : (ms : List (Value × Value)) → (member_count (members_view ms) ≡ length ms)
-    × (pair_count (canon_pairs (members_view ms)) ≡ length ms)
-counted_members [] = (refl, refl)
-counted_members (m ∷ ms) = (ap suc (counted_members ms).0, ap suc (counted_members ms).1)
+definite_members : (ms : List (Value × Value)) → (member_count (members_view ms) ≡ length ms)
+    × (pair_count (canonical_pairs (members_view ms)) ≡ length ms)
+definite_members [] = (refl, refl)
+definite_members (m ∷ ms) = (ap suc (definite_members ms).0, ap suc (definite_members ms).1)
 
 -- the head of a sequence counts its parts in two ways
 one_head : (major n m k : ℕ) (t : Bool) (ys : List ℕ) → m ≡ k → n ≡ k
@@ -257,23 +260,23 @@ one_head : (major n m k : ℕ) (t : Bool) (ys : List ℕ) → m ≡ k → n ≡ 
 one_head major n m k t ys e f = rw (e, f) (joined false t (shortest_head major k) ys)
 
 array_is : (vs : List Value)
-    → Agrees (followed (encoded (shortest_head 4 (length vs))) (each_item own_item vs))
-    (value_item (sequence (items_view vs)))
+    → Agrees (followed (encoded (shortest_head 4 (length vs))) (each_encoding own_item vs))
+    (value_encoding (sequence (items_view vs)))
 array_is vs =
     let start = encoded (shortest_head 4 (length vs)) in
     agrees_on _ _ _ (agree_both start _ start _ (agrees _ _ refl) (items_joined vs))
     (one_head 4 _ _ (length vs) (some_holds_tag (items_view vs))
-    (bytes_all (canon_trees (items_view vs))) (counted_items vs).0 (counted_items vs).1)
+    (bytes_all (canonical_trees (items_view vs))) (definite_items vs).0 (definite_items vs).1)
 
 map_is : (ms : List (Value × Value))
-    → Agrees (followed (encoded (shortest_head 5 (length ms))) (each_item own_entry ms))
-    (value_item (mapping (members_view ms)))
+    → Agrees (followed (encoded (shortest_head 5 (length ms))) (each_encoding own_entry ms))
+    (value_encoding (mapping (members_view ms)))
 map_is ms =
     let start = encoded (shortest_head 5 (length ms)) in
     agrees_on _ _ _ (agree_both start _ start _ (agrees _ _ refl) (entries_joined ms))
     (one_head 5 _ _ (length ms) (members_hold_tag (members_view ms))
-    (bytes_pairs (canon_pairs (members_view ms)))
-    (counted_members ms).0 (counted_members ms).1)
+    (bytes_pairs (canonical_pairs (members_view ms)))
+    (definite_members ms).0 (definite_members ms).1)
 
 -- ---- what they cost
 
@@ -295,12 +298,12 @@ abbrev IsBack : Value → Type 0
 IsBack v = IsReadBack ReadsAny (own_item v) v (own_cost v)
 
 under_value : {P : Type 0} (reads : Reads P) (k : AnyKind) (major : ℕ)
-    → ((b : ℕ) → kind_by major b ≡ k) → kind (open_head major) ≡ k → (ps : List P) (v : Value)
+    → ((b : ℕ) → kind_by major b ≡ k) → kind (indefinite_head major) ≡ k → (ps : List P) (v : Value)
     → ((xs : List ℕ) (n c : ℕ) → ReadsSequence major reads true xs ps n c
     → KindAs ReadsAny k xs v n c)
     → (o : Encoding) (c : ℕ) → IsReadBack (ReadsSequence major reads true) o ps c
     → IsReadBack ReadsAny o v (1 + c)
-under_value reads k major kinds opens ps v as_kind (refused bytes words) c h = tt
+under_value reads k major kinds opens ps v as_kind (rejected bytes words) c h = tt
 under_value reads k major kinds opens ps v as_kind (encoded bytes) c h =
     λ rest. by_sequence reads k major kinds (bytes ++ rest) ps v (length bytes) c opens (h rest)
     (as_kind (bytes ++ rest) (length bytes) c (h rest))
@@ -312,11 +315,11 @@ array_read : (vs : Vec Value Global) → All IsBack vs.items
     → BackAs (sequence (items_view vs.items)) (values.Array vs)
 array_read vs all h =
     let read = sequence_read_back ReadsAny own_item own_cost 4 true vs.items
-    (omega (arith, h.0, (counted_items vs.items).0)) all in
+    (omega (arith, h.0, (definite_items vs.items).0)) all in
     let value = under_value ReadsAny Array 4 (λ b. refl) refl vs.items (values.Array vs)
     (λ xs n c r. (vs, r, refl)) _ _ read in
     let own = back_as ReadsAny (followed (encoded (shortest_head 4 (length vs.items)))
-    (each_item own_item vs.items)) (value_item (sequence (items_view vs.items)))
+    (each_encoding own_item vs.items)) (value_encoding (sequence (items_view vs.items)))
     (values.Array vs) (1 + (1 + greatest_cost own_cost vs.items)) (array_is vs.items) value in
     rw (items_cost vs.items, two_steps (greatest_any_cost (items_view vs.items))) at own
 
@@ -327,13 +330,13 @@ map_read ms keys contents h =
     entries_back ReadsAny ReadsAny own_item own_item own_cost own_cost ms.items keys contents in
     let read =
     sequence_read_back (ReadsPair ReadsAny ReadsAny) own_entry (pair_cost own_cost own_cost) 5
-    true ms.items (omega (arith, h.0, (counted_members ms.items).0)) entries in
+    true ms.items (omega (arith, h.0, (definite_members ms.items).0)) entries in
     let value =
     under_value (ReadsPair ReadsAny ReadsAny) Map 5 (λ b. refl) refl ms.items (values.Map ms)
     (λ xs n c r. (ms, r, refl)) _ _ read in
     let own = back_as ReadsAny
-    (followed (encoded (shortest_head 5 (length ms.items))) (each_item own_entry ms.items))
-    (value_item (mapping (members_view ms.items))) (values.Map ms)
+    (followed (encoded (shortest_head 5 (length ms.items))) (each_encoding own_entry ms.items))
+    (value_encoding (mapping (members_view ms.items))) (values.Map ms)
     (1 + (1 + greatest_cost (pair_cost own_cost own_cost) ms.items)) (map_is ms.items) value in
     rw (members_cost ms.items, two_steps (greatest_any_pair_cost (members_view ms.items))) at own
 
@@ -398,7 +401,7 @@ value_back =
     ind-Value Back
     (λ x y is. subst (λ z. Back (values.roll-Value z)) is (one_more (λ e. e.0) (λ e. e.1) y))
 
--- ---- the canonical spelling costs no less
+-- ---- the canonical encoding costs no less
 
 least_integer : (t : Bool) (s : Sign) (n : ℕ)
     → 1 ≤ cost (cond t (int s n (shortest n)) (bignum s n))
@@ -406,7 +409,7 @@ least_integer true s n = omega arith
 least_integer false s n = omega arith
 
 mutual
-  pub cost_least : (v : Item) → any_cost v ≤ canon_cost v
+  pub cost_least : (v : Item) → any_cost v ≤ canonical_cost v
   cost_least null = omega arith
   cost_least (boolean b) = omega arith
   cost_least (integer (pos n)) = least_integer (ltb n (2 ^ 64)) unsigned n
@@ -418,11 +421,11 @@ mutual
   cost_least (mapping ms) = omega (arith, pair_costs_least ms)
   cost_least (tag n v) = omega (arith, cost_least v)
 
-  costs_least : (vs : Items) → greatest_any_cost vs ≤ Cost.greatest_cost (canon_trees vs)
+  costs_least : (vs : Items) → greatest_any_cost vs ≤ Cost.greatest_cost (canonical_trees vs)
   costs_least no_items = omega arith
   costs_least (item v vs) = omega (arith, cost_least v, costs_least vs)
 
   pair_costs_least : (ms : Members)
-      → greatest_any_pair_cost ms ≤ Cost.greatest_pair_cost (canon_pairs ms)
+      → greatest_any_pair_cost ms ≤ Cost.greatest_pair_cost (canonical_pairs ms)
   pair_costs_least no_members = omega arith
   pair_costs_least (member k v ms) = omega (arith, cost_least k, cost_least v, pair_costs_least ms)

@@ -3,7 +3,7 @@ use Rattle.std.proofs.Common.{◌≡◌, ◌⊎◌, inl, inr, ℕ, ◌+◌, ◌*
 use Rattle.std.proofs.Common.{take, Bool, true, ap, subst, arith}
 use Rattle.std.proofs.lemmas.List.{length-drop, length-take}
 use Rattle.cbor4ii_items.specs.Decoding.{Reads}
-use Rattle.cbor4ii_items.specs.Head.{additional, open_head}
+use Rattle.cbor4ii_items.specs.Head.{additional, indefinite_head}
 use Rattle.cbor4ii_items.specs.Sequences.{ReadsPair, SamePair}
 use Rattle.cbor4ii_items.specs.Strings.{ReadsText}
 use Rattle.cbor4ii_items.specs.Laws.Heads.{additional-lt}
@@ -23,7 +23,7 @@ text_no_entry xs name n c (inl h, utf8) e =
     omega (arith, same, additional-lt (length name) head.wide head.fits)
 text_no_entry xs name n c (inr h, utf8) e =
     let first = h.begins in
-    let same : open_head 3 ≡ 0xa1 = cc in
+    let same : indefinite_head 3 ≡ 0xa1 = cc in
     omega (arith, same)
 
 text_laws : Lawful ReadsText (λ (v w : List ℕ). v ≡ w) true

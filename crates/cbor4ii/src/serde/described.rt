@@ -48,134 +48,134 @@ pub trait Described: Sized {
 /// program's. A name is read into memory of some `alloc`.
 pub fn described_values_are_read_back<T: Described>()
     ensures back { (alloc : Global) (v : T) → T.codec.stands v →
-        IsReadBack T.codec.promise.spelling.reads (T.codec.item v) v (T.codec.cost v) }
-    ensures one { (v : T) → T.codec.stands v → IsOneItem canonical (T.codec.item v) }
+        IsReadBack T.codec.promise.format.reads (T.codec.encoding v) v (T.codec.cost v) }
+    ensures one { (v : T) → T.codec.stands v → IsOneItem canonical (T.codec.encoding v) }
 {}
 
 impl Described for u8 {
-    ghost codec = { leaf_codec ⟦<u8 as Typed>⟧.promise ⟦<u8 as Serialize>⟧.item
+    ghost codec = { leaf_codec ⟦<u8 as Typed>⟧.promise ⟦<u8 as Serialize>⟧.encoding
         (λ v. v < 2 ^ 8) (argument_back 0 one)
         (unsigned_is_one (2 ^ 8) (lit≤ tt)) };
 }
 
 impl Described for u16 {
-    ghost codec = { leaf_codec ⟦<u16 as Typed>⟧.promise ⟦<u16 as Serialize>⟧.item
+    ghost codec = { leaf_codec ⟦<u16 as Typed>⟧.promise ⟦<u16 as Serialize>⟧.encoding
         (λ v. v < 2 ^ 16) (argument_back 0 two)
         (unsigned_is_one (2 ^ 16) (lit≤ tt)) };
 }
 
 impl Described for u32 {
-    ghost codec = { leaf_codec ⟦<u32 as Typed>⟧.promise ⟦<u32 as Serialize>⟧.item
+    ghost codec = { leaf_codec ⟦<u32 as Typed>⟧.promise ⟦<u32 as Serialize>⟧.encoding
         (λ v. v < 2 ^ 32) (argument_back 0 four)
         (unsigned_is_one (2 ^ 32) (lit≤ tt)) };
 }
 
 impl Described for u64 {
-    ghost codec = { leaf_codec ⟦<u64 as Typed>⟧.promise ⟦<u64 as Serialize>⟧.item
+    ghost codec = { leaf_codec ⟦<u64 as Typed>⟧.promise ⟦<u64 as Serialize>⟧.encoding
         (λ v. v < 2 ^ 64) (argument_back 0 eight)
         (unsigned_is_one (2 ^ 64) (lit≤ tt)) };
 }
 
 impl Described for u128 {
-    ghost codec = { leaf_codec ⟦<u128 as Typed>⟧.promise ⟦<u128 as Serialize>⟧.item
+    ghost codec = { leaf_codec ⟦<u128 as Typed>⟧.promise ⟦<u128 as Serialize>⟧.encoding
         (λ v. v < 2 ^ 128) u128_back
         (λ v h. unsigned_bytes_are_item canonical v) };
 }
 
 impl Described for i8 {
-    ghost codec = { leaf_codec ⟦<i8 as Typed>⟧.promise ⟦<i8 as Serialize>⟧.item
+    ghost codec = { leaf_codec ⟦<i8 as Typed>⟧.promise ⟦<i8 as Serialize>⟧.encoding
         (IsWithin (2 ^ 7)) (λ v. signed_back one (2 ^ 7) v (lit≤ tt))
         (signed_is_one (2 ^ 7) (lit≤ tt)) };
 }
 
 impl Described for i16 {
-    ghost codec = { leaf_codec ⟦<i16 as Typed>⟧.promise ⟦<i16 as Serialize>⟧.item
+    ghost codec = { leaf_codec ⟦<i16 as Typed>⟧.promise ⟦<i16 as Serialize>⟧.encoding
         (IsWithin (2 ^ 15)) (λ v. signed_back two (2 ^ 15) v (lit≤ tt))
         (signed_is_one (2 ^ 15) (lit≤ tt)) };
 }
 
 impl Described for i32 {
-    ghost codec = { leaf_codec ⟦<i32 as Typed>⟧.promise ⟦<i32 as Serialize>⟧.item
+    ghost codec = { leaf_codec ⟦<i32 as Typed>⟧.promise ⟦<i32 as Serialize>⟧.encoding
         (IsWithin (2 ^ 31)) (λ v. signed_back four (2 ^ 31) v (lit≤ tt))
         (signed_is_one (2 ^ 31) (lit≤ tt)) };
 }
 
 impl Described for i64 {
-    ghost codec = { leaf_codec ⟦<i64 as Typed>⟧.promise ⟦<i64 as Serialize>⟧.item
+    ghost codec = { leaf_codec ⟦<i64 as Typed>⟧.promise ⟦<i64 as Serialize>⟧.encoding
         (IsWithin (2 ^ 63)) (λ v. signed_back eight (2 ^ 63) v (lit≤ tt))
         (signed_is_one (2 ^ 63) (lit≤ tt)) };
 }
 
 impl Described for i128 {
-    ghost codec = { leaf_codec ⟦<i128 as Typed>⟧.promise ⟦<i128 as Serialize>⟧.item
+    ghost codec = { leaf_codec ⟦<i128 as Typed>⟧.promise ⟦<i128 as Serialize>⟧.encoding
         (IsWithin (2 ^ 127)) i128_back
         (λ v h. signed_bytes_are_item canonical v) };
 }
 
 impl Described for F16 {
-    ghost codec = { leaf_codec ⟦<F16 as Typed>⟧.promise ⟦<F16 as Serialize>⟧.item
+    ghost codec = { leaf_codec ⟦<F16 as Typed>⟧.promise ⟦<F16 as Serialize>⟧.encoding
         (λ v. v.0 < 2 ^ 16) (λ v. float_back 0xf9 2 v.0)
         (λ v. float_is_item canonical half v.0) };
 }
 
 impl Described for F32 {
-    ghost codec = { leaf_codec ⟦<F32 as Typed>⟧.promise ⟦<F32 as Serialize>⟧.item
+    ghost codec = { leaf_codec ⟦<F32 as Typed>⟧.promise ⟦<F32 as Serialize>⟧.encoding
         (λ v. v.0 < 2 ^ 32) (λ v. float_back 0xfa 4 v.0)
         (λ v. float_is_item canonical single v.0) };
 }
 
 impl Described for F64 {
-    ghost codec = { leaf_codec ⟦<F64 as Typed>⟧.promise ⟦<F64 as Serialize>⟧.item
+    ghost codec = { leaf_codec ⟦<F64 as Typed>⟧.promise ⟦<F64 as Serialize>⟧.encoding
         (λ v. v.0 < 2 ^ 64) (λ v. float_back 0xfb 8 v.0)
         (λ v. float_is_item canonical double v.0) };
 }
 
 impl Described for bool {
-    ghost codec = { leaf_codec ⟦<bool as Typed>⟧.promise ⟦<bool as Serialize>⟧.item
+    ghost codec = { leaf_codec ⟦<bool as Typed>⟧.promise ⟦<bool as Serialize>⟧.encoding
         any_value (λ v any. bool_back v)
         (λ v any. bool_is_item canonical v) };
 }
 
 impl Described for char {
-    ghost codec = { leaf_codec ⟦<char as Typed>⟧.promise ⟦<char as Serialize>⟧.item
+    ghost codec = { leaf_codec ⟦<char as Typed>⟧.promise ⟦<char as Serialize>⟧.encoding
         IsScalar character_is_back
         (character_is_item canonical) };
 }
 
 impl<'de> Described for &'de str {
-    ghost codec = { leaf_codec ⟦<&'de str as Typed>⟧.promise ⟦<&'de str as Serialize>⟧.item
+    ghost codec = { leaf_codec ⟦<&'de str as Typed>⟧.promise ⟦<&'de str as Serialize>⟧.encoding
         (λ v. IsText v.now) (λ v h. lent_back lent_str v h.0 3 true (λ is. h.1))
         (λ v h. text_is_item canonical v.now h.0 h.1) };
 }
 
 impl Described for String {
-    ghost codec = { leaf_codec ⟦<String as Typed>⟧.promise ⟦<String as Serialize>⟧.item
+    ghost codec = { leaf_codec ⟦<String as Typed>⟧.promise ⟦<String as Serialize>⟧.encoding
         any_value string_is_back
         (λ v any. owned_text_is_item canonical v) };
 }
 
 impl<'de> Described for CowStr<'de, Global> {
     ghost codec = { leaf_codec ⟦<CowStr<'de, Global> as Typed>⟧.promise
-        ⟦<CowStr<'de, Global> as Serialize>⟧.item
+        ⟦<CowStr<'de, Global> as Serialize>⟧.encoding
         (λ v. IsText (cow_text v)) (λ v h. text_back cow_text v h.0 h.1)
         (λ v h. text_is_item canonical (cow_text v) h.0 h.1) };
 }
 
 impl<'de> Described for Bytes<&'de [u8]> {
     ghost codec = { leaf_codec ⟦<Bytes<&'de [u8]> as Typed>⟧.promise
-        ⟦<Bytes<&'de [u8]> as Serialize>⟧.item
+        ⟦<Bytes<&'de [u8]> as Serialize>⟧.encoding
         (λ v. AreFew v.0.now) (λ v h. lent_back lent_bytes v h 2 false not_exact)
         (λ v. bytes_are_item canonical v.0.now) };
 }
 
 impl Described for Bytes<Vec<u8>> {
     ghost codec = { leaf_codec ⟦<Bytes<Vec<u8>> as Typed>⟧.promise
-        ⟦<Bytes<Vec<u8>> as Serialize>⟧.item
+        ⟦<Bytes<Vec<u8>> as Serialize>⟧.encoding
         any_value bytes_are_back bytes_are_one };
 }
 
 impl Described for () {
-    ghost codec = { leaf_codec ⟦<() as Typed>⟧.promise ⟦<() as Serialize>⟧.item
+    ghost codec = { leaf_codec ⟦<() as Typed>⟧.promise ⟦<() as Serialize>⟧.encoding
         any_value unit_is_back
         (λ v any. unit_is_item canonical) };
 }
@@ -209,7 +209,7 @@ impl<K: Described + Ord, V: Described> Described for BTreeMap<K, V> {
 impl Described for Value {
     ghost codec = { record {
       promise = ⟦<Value as Typed>⟧.promise;
-      item = ⟦<Value as Serialize>⟧.item;
+      encoding = ⟦<Value as Serialize>⟧.encoding;
       stands = λ v. IsItem (view v);
       cost = λ v. any_cost (view v);
       back = λ alloc. value_back;

@@ -6,17 +6,17 @@ ghost use Rattle.std.specs.Cmp.{IsTotalOrder};
 ghost use Rattle.cbor4ii_rw.specs.Reader.{KeepsAllButBudget};
 ghost use Rattle.cbor4ii_rw.specs.View.{View};
 ghost use Rattle.cbor4ii_rw.specs.declared.error.DecodeError.{DecodeError};
-ghost use Rattle.cbor4ii_items.specs.Decoding.{Reads, CostFits, Sound, Refuses};
+ghost use Rattle.cbor4ii_items.specs.Decoding.{Reads, CostFits, Sound, Complete};
 ghost use Rattle.cbor4ii_items.specs.NeverBoth.{NeverBoth};
-ghost use Rattle.cbor4ii_items.specs.Refusal.{refusal_of};
+ghost use Rattle.cbor4ii_items.specs.InputError.{input_error_of};
 ghost use Rattle.cbor4ii_items.specs.Moves.{Kept};
-ghost use Rattle.cbor4ii_items.specs.Strings.{counted_string, ReadsTextAs};
-ghost use Rattle.cbor4ii_tree.specs.Canonical.{canon_cost};
+ghost use Rattle.cbor4ii_items.specs.Strings.{definite_string, ReadsTextAs};
+ghost use Rattle.cbor4ii_tree.specs.Canonical.{canonical_cost};
 ghost use Rattle.cbor4ii_tree.specs.Item.{Item};
-ghost use Rattle.cbor4ii_ser.specs.Item.{Encoding, encoded, variant_item};
+ghost use Rattle.cbor4ii_ser.specs.Item.{Encoding, encoded, variant_encoding};
 ghost use Rattle.cbor4ii_ser.specs.OneItem.{canonical};
 ghost use Rattle.cbor4ii.specs.AnyCost.{any_cost};
-ghost use Rattle.cbor4ii.specs.Optional.{ReadsPresence, StopsPresence};
+ghost use Rattle.cbor4ii.specs.Optional.{ReadsPresence, RejectsPresence};
 ghost use Rattle.cbor4ii.specs.ReadBack.{IsReadBack, IsNullItem, IsName};
 ghost use Rattle.cbor4ii.specs.Typed.{Lawful};
 ghost use Rattle.cbor4ii.specs.Variants.{OpensEnum, ReadsContent, ReadsVariant};
@@ -26,14 +26,14 @@ use cbor4ii_ser::serialize::Serialize;
 
 /// A value that may be absent and whose item is null or undefined is read as none.
 pub fn null_is_read_as_none<T: Typed + Serialize>()
-    ensures { (v : T) → IsNullItem (T.item v) →
-        IsReadBack ⟦<Option<T> as Typed>⟧.promise.spelling.reads
-        (⟦<Option<T> as Serialize>⟧.item (Some v)) None 0 }
+    ensures { (v : T) → IsNullItem (T.encoding v) →
+        IsReadBack ⟦<Option<T> as Typed>⟧.promise.format.reads
+        (⟦<Option<T> as Serialize>⟧.encoding (Some v)) None 0 }
 {}
 
-/// A value of the tree costs no more than its canonical spelling does.
+/// A value of the tree costs no more than its canonical encoding does.
 pub fn values_cost_no_more_than_canonical_ones()
-    ensures { (v : Item) → any_cost v ≤ canon_cost v }
+    ensures { (v : Item) → any_cost v ≤ canonical_cost v }
 {}
 
 /// The order of keys is total, as `Ord` asks. That a map is read back stands on it.
@@ -42,12 +42,12 @@ pub fn orders_are_total<K: Ord>()
 {}
 
 /// An enum, by the names of its variants: what the laws of variants speak of. It has no call.
-/// Behind a name that is no variant's nothing is read.
+/// After a name that is no variant's nothing is read.
 pub trait EnumValues: Sized {
     // this name alone, without content, stands for this value
     ghost units: { List ℕ → Self → Type 0 };
 
-    // how the content behind this name is read, as a value
+    // how the content after this name is read, as a value
     ghost contents: { List ℕ → Reads Self };
 
     // the two values mean the same
@@ -87,34 +87,35 @@ pub fn variants_are_read_by_calls<N, V: EnumValues>()
 /// like, wherever its content is, at one step and the content's cost.
 pub fn variants_are_read_back<V: EnumValues>()
     ensures unit { (name : List ℕ) (v : V) → IsName name → V.units name v →
-        IsReadBack (ReadsVariant V.units V.contents) (encoded (counted_string 3 name)) v 1 }
+        IsReadBack (ReadsVariant V.units V.contents) (encoded (definite_string 3 name)) v 1 }
     ensures content { (name : List ℕ) (v : V) (content : Encoding) (cost : ℕ) → IsName name →
         IsReadBack (V.contents name) content v cost →
-        IsReadBack (ReadsVariant V.units V.contents) (variant_item name content) v (1 + cost) }
+        IsReadBack (ReadsVariant V.units V.contents) (variant_encoding name content) v (1 + cost) }
 {}
 
-/// What is read back is what `deserialize` answers, over a reader that tells the item's bytes and
-/// something behind them: a value that means the same, with what stands behind left, and where the
-/// budget has the cost, no refusal of the bytes.
+/// What is read back is what `deserialize` answers, over a reader that reports the item's bytes and
+/// something after them: a value that means the same, with what follows left, and where the
+/// budget has the cost, no error of the bytes.
 pub fn what_is_written_is_read<T: Typed + Serialize, E>()
     ensures accepted { IsTrue T.promise.exact → (bytes rest : List ℕ) (v w : T) (cost : ℕ)
-        (old new : View) → T.item v ≡ encoded bytes → IsReadBack T.promise.spelling.reads (T.item v)
+        (old new : View) → T.encoding v ≡ encoded bytes → IsReadBack T.promise.format.reads
+        (T.encoding v)
         v cost →
-        old.told ≡ Some (bytes ++ rest) → Sound T.promise.spelling.reads old new w →
-        T.promise.spelling.same v w × (new.told ≡ Some rest) }
-    ensures not_refused { (bytes rest : List ℕ) (v : T) (cost : ℕ) (old : View)
-        (error : DecodeError E) → T.item v ≡ encoded bytes →
-        IsReadBack T.promise.spelling.reads (T.item v) v cost → CostFits cost old.budget →
-        old.told ≡ Some (bytes ++ rest) → Refuses T.promise.spelling.reads old error →
-        refusal_of error ≡ None }
+        old.known ≡ Some (bytes ++ rest) → Sound T.promise.format.reads old new w →
+        T.promise.format.same v w × (new.known ≡ Some rest) }
+    ensures not_rejected { (bytes rest : List ℕ) (v : T) (cost : ℕ) (old : View)
+        (error : DecodeError E) → T.encoding v ≡ encoded bytes →
+        IsReadBack T.promise.format.reads (T.encoding v) v cost → CostFits cost old.budget →
+        old.known ≡ Some (bytes ++ rest) → Complete T.promise.format.reads old error →
+        input_error_of error ≡ None }
 {}
 
-/// A value that may be absent and is refused is not read, where its type is exact and so are its
-/// refusals. Of whether one comes the same holds.
-pub fn refused_options_are_not_read<T: Typed>()
-    ensures value { IsTrue T.promise.told → NeverBoth T.promise.spelling.reads
-        T.promise.spelling.begins →
-        NeverBoth ⟦<Option<T> as Typed>⟧.promise.spelling.reads
-        ⟦<Option<T> as Typed>⟧.promise.spelling.begins }
-    ensures presence { NeverBoth ReadsPresence StopsPresence }
+/// A value that may be absent and is rejected is not read, where its type is exact and so are its
+/// errors. Of whether one comes the same holds.
+pub fn rejected_options_are_not_read<T: Typed>()
+    ensures value { IsTrue T.promise.known → NeverBoth T.promise.format.reads
+        T.promise.format.begins →
+        NeverBoth ⟦<Option<T> as Typed>⟧.promise.format.reads
+        ⟦<Option<T> as Typed>⟧.promise.format.begins }
+    ensures presence { NeverBoth ReadsPresence RejectsPresence }
 {}

@@ -1,6 +1,6 @@
 //! Rows of the maps that are written and read by hand.
 use crate::by_hand::{Record, decode_record, write_record};
-use crate::refusal::is_refused;
+use crate::rejected::is_rejected;
 use cbor4ii_rw::error::{DecodeError, Never};
 use cbor4ii_rw::slice_reader::SliceReader;
 use cbor4ii_vectors::{eof, mismatch};
@@ -35,7 +35,7 @@ fn decoded(alloc: Global, bytes: &[u8]) -> Result<Option<Record>, DecodeError<Ne
     decode_record(alloc, &mut SliceReader::new(bytes))
 }
 
-// A map of a known length, one with another key, and one without a name.
+// A map of definite length, one with another key, and one without a name.
 #[test]
 fn another_map_is_none(rt: HostRuntime) -> Result<(), Fail> {
     let alloc = rt.alloc();
@@ -46,9 +46,9 @@ fn another_map_is_none(rt: HostRuntime) -> Result<(), Fail> {
 }
 
 #[test]
-fn other_bytes_are_refused(rt: HostRuntime) -> Result<(), Fail> {
+fn other_bytes_are_rejected(rt: HostRuntime) -> Result<(), Fail> {
     let alloc = rt.alloc();
-    is_refused(decoded(alloc, b"\x80"), mismatch!("map", 128))?;
-    is_refused(decoded(alloc, b"\xbf\x01"), mismatch!("str", 1))?;
-    is_refused(decoded(alloc, b"\xbf\x62id"), eof!("u64", 1))
+    is_rejected(decoded(alloc, b"\x80"), mismatch!("map", 128))?;
+    is_rejected(decoded(alloc, b"\xbf\x01"), mismatch!("str", 1))?;
+    is_rejected(decoded(alloc, b"\xbf\x62id"), eof!("u64", 1))
 }

@@ -1,6 +1,6 @@
-//! Rows of items that are written in their canonical spelling.
+//! Rows of items that are written in their canonical encoding.
 use crate::canonical::canonical;
-use crate::refusal::is_refused;
+use crate::rejected::is_rejected;
 use cbor4ii_vectors::{eof, require_utf8};
 use std::test::Fail;
 
@@ -13,8 +13,8 @@ fn an_item_is_written_anew(rt: HostRuntime) -> Result<(), Fail> {
 }
 
 #[test]
-fn other_bytes_are_refused(rt: HostRuntime) -> Result<(), Fail> {
+fn other_bytes_are_rejected(rt: HostRuntime) -> Result<(), Fail> {
     let alloc = rt.alloc();
-    is_refused(canonical(alloc, b"\x9f\x01"), eof!("break", 1))?;
-    is_refused(canonical(alloc, b"\x62\xff\xff"), require_utf8!("str"))
+    is_rejected(canonical(alloc, b"\x9f\x01"), eof!("break", 1))?;
+    is_rejected(canonical(alloc, b"\x62\xff\xff"), require_utf8!("str"))
 }

@@ -1,6 +1,6 @@
 //! Rows of enums, read by a function, and written and read by the calls for one value.
 ghost use Rattle.std.specs.Prelude.{codes};
-ghost use Rattle.cbor4ii_ser.specs.Item.{variant_item};
+ghost use Rattle.cbor4ii_ser.specs.Item.{variant_encoding};
 ghost use Rattle.cbor4ii_examples.specs.declared.enumeration.tests.Letters.TheVariants.{A};
 
 use crate::enumeration::{Enum, read_enum};
@@ -13,7 +13,9 @@ use cbor4ii_rw::error::{Never, StaticStr};
 use cbor4ii_rw::read::Source;
 use cbor4ii_rw::write::Write;
 use cbor4ii_vectors::{mismatch, no_step, table};
-use cbor4ii_vectors_de::typed::{Answer, BothTold, RowTold, RowToldWithin, Take, come_back, tells};
+use cbor4ii_vectors_de::typed::{
+    Answer, BothShown, RowShown, RowShownWithin, Take, come_back, tells,
+};
 use std::alloc::Global;
 use std::test::Fail;
 
@@ -26,7 +28,7 @@ impl Take for Enum {
     }
 }
 
-const VARIANTS: &[BothTold] = table! {
+const VARIANTS: &[BothShown] = table! {
     (b"\x64Unit", "Is(Unit)"),
     // 0x999, and then 0x99 and -0x99.
     (b"\xa1\x67NewType\x19\x09\x99", "Is(NewType(2457))"),
@@ -34,7 +36,7 @@ const VARIANTS: &[BothTold] = table! {
     (b"\xa1\x66Struct\xa2\x61x\x18\x99\x61y\x38\x98", "Is(Struct { x: 153, y: -153 })"),
 };
 
-const VARIANTS_READ: &[RowTold] = table! {
+const VARIANTS_READ: &[RowShown] = table! {
     (b"\x64Unit\x00", Ok("Is(Unit)"), b"\x00"),
     (b"\x65Other", Ok("Custom(\"another variant\")"), b""),
     (b"\x66Struct\xa0", Err(mismatch!("enum", 102)), b"\xa0"),
@@ -42,7 +44,7 @@ const VARIANTS_READ: &[RowTold] = table! {
     (b"\xa1\x64Unit\x01", Err(mismatch!("enum", 161)), b"\x01"),
 };
 
-const VARIANTS_WITHIN: &[RowToldWithin] = table! {
+const VARIANTS_WITHIN: &[RowShownWithin] = table! {
     (b"\x64Unit", 0, Err(no_step!("enum")), b"\x64Unit"),
 };
 
@@ -102,7 +104,7 @@ impl<S: Source> Deserialize<S> for Fields {
     }
 }
 
-const VALUES: &[BothTold] = table! {
+const VALUES: &[BothShown] = table! {
     (b"\x64Unit", "Unit"),
     // 0x999, and then 0x99 and -0x99.
     (b"\xa1\x67NewType\x19\x09\x99", "NewType(2457)"),
@@ -122,8 +124,8 @@ enum Letters {
 }
 
 impl Serialize for Letters {
-    ghost item = { λ l. elim l [
-      | A s ↦ variant_item (codes "A") (⟦<String as Serialize>⟧.item s)
+    ghost encoding = { λ l. elim l [
+      | A s ↦ variant_encoding (codes "A") (⟦<String as Serialize>⟧.encoding s)
     ] };
 
     fn serialize<W: Write>(&self, ser: &mut Serializer<W>) -> Result<(), EncodeError<W::Error>> {
@@ -161,11 +163,11 @@ impl Take for Letters {
     }
 }
 
-const EMPTY_TEXT: &[BothTold] = table! {
+const EMPTY_TEXT: &[BothShown] = table! {
     (b"\xa1\x61A\x60", "A(\"\")"),
 };
 
-const EMPTY_TEXT_ANSWERED: &[BothTold] = table! {
+const EMPTY_TEXT_ANSWERED: &[BothShown] = table! {
     (b"\xa1\x61A\x60", "Is(A(\"\"))"),
 };
 

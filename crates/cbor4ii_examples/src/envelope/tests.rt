@@ -1,4 +1,4 @@
-//! Rows of envelopes, over a check that tells which bytes it was handed.
+//! Rows of envelopes, over a check that reports which bytes it was handed.
 ghost use Rattle.std.specs.Prelude.{[]};
 ghost use Rattle.cbor4ii_ser.specs.Item.{encoded};
 
@@ -65,7 +65,7 @@ fn a_payload_is_sealed(rt: HostRuntime) -> Result<(), Fail> {
 struct Silent;
 
 impl Serialize for Silent {
-    ghost item = { λ silent. encoded [] };
+    ghost encoding = { λ silent. encoded [] };
 
     fn serialize<W: Write>(&self, _ser: &mut Serializer<W>) -> Result<(), EncodeError<W::Error>> {
         Ok(())
@@ -77,22 +77,22 @@ impl Serialize for Silent {
 fn a_payload_without_an_item_is_not_sealed(rt: HostRuntime) -> Result<(), Fail> {
     let alloc = rt.alloc();
     let tag = Value::Tag(1, Box::new(alloc, Value::Null)?);
-    let refusal = seal(alloc, &Expected(b""), &tag).err();
+    let rejection = seal(alloc, &Expected(b""), &tag).err();
     let words = "serialization Tag via serde is not supported";
     assert_eq!(rt;
-        refusal,
+        rejection,
         Some(SealError::Encode(EncodeError::Custom(words)))
     );
-    let refusal = seal(alloc, &Expected(b""), &Silent).err();
+    let rejection = seal(alloc, &Expected(b""), &Silent).err();
     let missing = Eof {
         name: "ignored-any",
         expect: Small(1),
     };
-    assert_eq!(rt; refusal, Some(SealError::Payload(missing)));
+    assert_eq!(rt; rejection, Some(SealError::Payload(missing)));
     Ok(())
 }
 
-const SEALED_TOLD: &str =
+const SEALED_SHOWN: &str =
     "Envelope { key: 7, signature: Bytes([171, 205]), payload: RawValue([161, 102, 115, 116, \
 97, 116, 117, 115, 24, 200]) }";
 
@@ -100,7 +100,7 @@ const SEALED_TOLD: &str =
 fn an_envelope_comes_back(rt: HostRuntime) -> Result<(), Fail> {
     let alloc = rt.alloc();
     let bytes = Vec::from_slice(alloc, SEALED)?;
-    comes_back_lent::<&[u8], envelope::Envelope<'_>>(alloc, &bytes, &bytes, SEALED_TOLD)
+    comes_back_lent::<&[u8], envelope::Envelope<'_>>(alloc, &bytes, &bytes, SEALED_SHOWN)
 }
 
 type Opened = (&'static [u8], &'static [u8], u16);
@@ -182,7 +182,7 @@ const NO_MAP: OpenError = Payload(Core(Mismatch {
 
 const NO_STATUS: OpenError = Payload(Custom("a reply has no status"));
 
-fn refuses(alloc: Global, rows: &[Refusal]) -> Result<(), Fail> {
+fn rejects(alloc: Global, rows: &[Refusal]) -> Result<(), Fail> {
     for (bytes, message, want) in rows {
         let opened: Result<Reply, OpenError> = open(alloc, &Expected(message), bytes);
         match opened {
@@ -194,15 +194,15 @@ fn refuses(alloc: Global, rows: &[Refusal]) -> Result<(), Fail> {
 }
 
 #[test]
-fn other_envelopes_are_refused(rt: HostRuntime) -> Result<(), Fail> {
+fn other_envelopes_are_rejected(rt: HostRuntime) -> Result<(), Fail> {
     let alloc = rt.alloc();
-    refuses(alloc, NOT_SIGNED)?;
-    refuses(alloc, NO_ENVELOPE)?;
-    refuses(alloc, NO_PAYLOAD)
+    rejects(alloc, NOT_SIGNED)?;
+    rejects(alloc, NO_ENVELOPE)?;
+    rejects(alloc, NO_PAYLOAD)
 }
 
 #[test]
-fn an_envelope_that_is_cut_is_refused(rt: HostRuntime) -> Result<(), Fail> {
+fn an_envelope_that_is_cut_is_rejected(rt: HostRuntime) -> Result<(), Fail> {
     for end in 0..SEALED.len() {
         let opened: Result<Reply, OpenError> = open(rt.alloc(), &Expected(REPLY), &SEALED[..end]);
         match opened {

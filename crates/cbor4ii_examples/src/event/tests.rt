@@ -5,7 +5,7 @@ use cbor4ii_rw::read::Source;
 use cbor4ii_rw::write::Write;
 use cbor4ii_vectors::{eof, mismatch, no_step, require_length, table};
 use cbor4ii_vectors_de::typed::{
-    Answer, BothTold, Refused, RowTold, RowToldWithin, Take, comes_back, refuses, tells,
+    Answer, BothShown, Rejected, RowShown, RowShownWithin, Take, comes_back, rejects, tells,
 };
 use std::alloc::Global;
 use std::collections::BTreeMap;
@@ -20,7 +20,7 @@ impl Take for Event {
     }
 }
 
-const EVENTS_REFUSED: &[Refused] = table! {
+const EVENTS_REJECTED: &[Rejected] = table! {
     (b"", eof!("enum", 1), b""),
     (b"\x05", mismatch!("enum", 5), b"\x05"),
     (b"\xa1\x67Started\x00", mismatch!("enum", 161), b"\x00"),
@@ -32,27 +32,27 @@ const EVENTS_REFUSED: &[Refused] = table! {
 
 const SAMPLED: &[u8] = b"\xa1\x67Sampled\xa3\x66sensor\x62t1\x65value\x38\x63\x64note\xf6";
 
-const SAMPLED_TOLD: &str = "Is(Sampled(Sample { sensor: \"t1\", value: -100, note: None }))";
+const SAMPLED_SHOWN: &str = "Is(Sampled(Sample { sensor: \"t1\", value: -100, note: None }))";
 
 const NOTED: &[u8] = b"\xa1\x67Sampled\xa3\x66sensor\x62t1\x65value\x38\x63\x64note\x64cold";
 
-const NOTED_TOLD: &str =
+const NOTED_SHOWN: &str =
     "Is(Sampled(Sample { sensor: \"t1\", value: -100, note: Some(\"cold\") }))";
 
-const EVENTS: &[BothTold] = table! {
+const EVENTS: &[BothShown] = table! {
     (b"\x67Started", "Is(Started)"),
-    (SAMPLED, SAMPLED_TOLD),
-    (NOTED, NOTED_TOLD),
+    (SAMPLED, SAMPLED_SHOWN),
+    (NOTED, NOTED_SHOWN),
     (b"\xa1\x65Moved\x82\x01\x20", "Is(Moved(1, -1))"),
     (b"\xa1\x65Named\xa2\x62id\x19\x01\xf4\x64name\x61a", "Is(Named { id: 500, name: \"a\" })"),
 };
 
-const EVENTS_READ: &[RowTold] = table! {
+const EVENTS_READ: &[RowShown] = table! {
     (b"\x67Stopped\x00", Ok("Custom(\"no such event\")"), b"\x00"),
     (b"\xa1\x65Named\xa0\x00", Ok("Custom(\"a name has no id\")"), b"\x00"),
 };
 
-const EVENTS_WITHIN: &[RowToldWithin] = table! {
+const EVENTS_WITHIN: &[RowShownWithin] = table! {
     (b"\x67Started", 0, Err(no_step!("enum")), b"\x67Started"),
     (b"\x67Started", 1, Ok("Is(Started)"), b""),
     (b"\xa1\x65Moved\x82\x01\x20", 1, Err(no_step!("tuple")), b"\x82\x01\x20"),
@@ -63,20 +63,20 @@ const EVENTS_WITHIN: &[RowToldWithin] = table! {
 fn events_are_written_and_read(rt: HostRuntime) -> Result<(), Fail> {
     let alloc = rt.alloc();
     tells::<Answer<Event>>(alloc, EVENTS, EVENTS_READ, EVENTS_WITHIN)?;
-    refuses::<Answer<Event>>(alloc, EVENTS_REFUSED)
+    rejects::<Answer<Event>>(alloc, EVENTS_REJECTED)
 }
 
 const ARRAY_OF_EVENTS: &[u8] = b"\x83\x67Started\
 \xa1\x67Sampled\xa3\x66sensor\x62t1\x65value\x38\x63\x64note\xf6\
 \xa1\x65Named\xa2\x62id\x19\x01\xf4\x64name\x61a";
 
-const ARRAY_OF_EVENTS_TOLD: &str = "[Started, \
+const ARRAY_OF_EVENTS_SHOWN: &str = "[Started, \
 Sampled(Sample { sensor: \"t1\", value: -100, note: None }), \
 Named { id: 500, name: \"a\" }]";
 
 #[test]
 fn a_vector_of_events_comes_back(rt: HostRuntime) -> Result<(), Fail> {
-    comes_back::<Vec<Event>>(rt.alloc(), ARRAY_OF_EVENTS, ARRAY_OF_EVENTS_TOLD)
+    comes_back::<Vec<Event>>(rt.alloc(), ARRAY_OF_EVENTS, ARRAY_OF_EVENTS_SHOWN)
 }
 
 /// Events by their numbers.
@@ -84,7 +84,7 @@ fn a_vector_of_events_comes_back(rt: HostRuntime) -> Result<(), Fail> {
 struct Log(BTreeMap<u8, Event>);
 
 impl Serialize for Log {
-    ghost item = { λ log. ⟦<BTreeMap<u8, Event> as Serialize>⟧.item log.0 };
+    ghost encoding = { λ log. ⟦<BTreeMap<u8, Event> as Serialize>⟧.encoding log.0 };
 
     fn serialize<W: Write>(&self, ser: &mut Serializer<W>) -> Result<(), EncodeError<W::Error>> {
         self.0.serialize(ser)
@@ -105,12 +105,12 @@ const MAP_OF_EVENTS: &[u8] = b"\xa4\x01\x67Started\x02\
 \xa1\x65Moved\x82\x01\x20\x04\
 \xa1\x65Named\xa2\x62id\x19\x01\xf4\x64name\x61a";
 
-const MAP_OF_EVENTS_TOLD: &str = "Is(Log({1: Started, \
+const MAP_OF_EVENTS_SHOWN: &str = "Is(Log({1: Started, \
 2: Sampled(Sample { sensor: \"t1\", value: -100, note: None }), \
 3: Moved(1, -1), 4: Named { id: 500, name: \"a\" }}))";
 
-const MAPS_OF_EVENTS: &[BothTold] = table! {
-    (MAP_OF_EVENTS, MAP_OF_EVENTS_TOLD),
+const MAPS_OF_EVENTS: &[BothShown] = table! {
+    (MAP_OF_EVENTS, MAP_OF_EVENTS_SHOWN),
 };
 
 #[test]

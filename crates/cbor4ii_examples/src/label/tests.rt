@@ -1,6 +1,6 @@
 //! Rows of structs that borrow from the input.
 ghost use Rattle.std.specs.Prelude.{◌∷◌, [], codes};
-ghost use Rattle.cbor4ii_ser.specs.Item.{field, struct_item};
+ghost use Rattle.cbor4ii_ser.specs.Item.{field, struct_encoding};
 
 use crate::enumeration::Enum;
 use crate::label::Label;
@@ -41,17 +41,17 @@ fn a_text_outlives_the_struct_that_borrowed_it(rt: HostRuntime) -> Result<(), Fa
 }
 
 #[test]
-fn a_label_without_a_text_is_refused(rt: HostRuntime) -> Result<(), Fail> {
-    let refusal = text_of(rt.alloc(), b"\xa1\x62id\x05").err();
-    assert_eq!(rt; refusal, Some(DecodeError::Custom("a label has no text")));
+fn a_label_without_a_text_is_rejected(rt: HostRuntime) -> Result<(), Fail> {
+    let rejection = text_of(rt.alloc(), b"\xa1\x62id\x05").err();
+    assert_eq!(rt; rejection, Some(DecodeError::Custom("a label has no text")));
     Ok(())
 }
 
 #[test]
 fn a_text_in_chunks_cannot_be_lent(rt: HostRuntime) -> Result<(), Fail> {
-    let refusal = text_of(rt.alloc(), b"\xa1\x64text\x7f\x61a\xff").err();
+    let rejection = text_of(rt.alloc(), b"\xa1\x64text\x7f\x61a\xff").err();
     let wanted = CoreError::RequireBorrowed { name: "str" };
-    assert_eq!(rt; refusal, Some(DecodeError::Core(wanted)));
+    assert_eq!(rt; rejection, Some(DecodeError::Core(wanted)));
     Ok(())
 }
 
@@ -67,12 +67,14 @@ struct Record<'a> {
 }
 
 impl<'a> Serialize for Record<'a> {
-    ghost item = { λ r. struct_item (field (codes "name") (⟦<char as Serialize>⟧.item r.name)
-        ∷ field (codes "objects") (⟦<BTreeMap<String, Vec<String>> as Serialize>⟧.item r.objects)
-        ∷ field (codes "bytes") (⟦<Bytes<&'a [u8]> as Serialize>⟧.item r.bytes)
-        ∷ field (codes "variants") (⟦<BTreeMap<String, Enum> as Serialize>⟧.item r.variants)
-        ∷ field (codes "unit") (⟦<Option<()> as Serialize>⟧.item r.unit)
-        ∷ field (codes "text") (⟦<&'a str as Serialize>⟧.item r.text) ∷ []) };
+    ghost encoding = { λ r. struct_encoding
+        (field (codes "name") (⟦<char as Serialize>⟧.encoding r.name)
+        ∷ field (codes "objects") (⟦<BTreeMap<String, Vec<String>> as Serialize>⟧.encoding
+        r.objects)
+        ∷ field (codes "bytes") (⟦<Bytes<&'a [u8]> as Serialize>⟧.encoding r.bytes)
+        ∷ field (codes "variants") (⟦<BTreeMap<String, Enum> as Serialize>⟧.encoding r.variants)
+        ∷ field (codes "unit") (⟦<Option<()> as Serialize>⟧.encoding r.unit)
+        ∷ field (codes "text") (⟦<&'a str as Serialize>⟧.encoding r.text) ∷ []) };
 
     fn serialize<W: Write>(&self, ser: &mut Serializer<W>) -> Result<(), EncodeError<W::Error>> {
         ser.serialize_6_fields(
@@ -130,7 +132,7 @@ const RECORD: &[u8] = b"\xa6\x64name\x61G\
 \x64key2\xa1\x66Struct\xa2\x61x\x01\x61y\x38\x98\x64key3\xa1\x67NewType\x19\x03\xe7\
 \x64unit\x80\x64text\x6bhello world";
 
-const RECORD_TOLD: &str = "Record { name: 'G', \
+const RECORD_SHOWN: &str = "Record { name: 'G', \
 objects: {\"obj\": [], \"obj2\": [\"obj3\", \"obj4\", \"\"]}, \
 bytes: Bytes([1, 2, 3]), \
 variants: {\"key0\": Unit, \"key1\": Tuple(\"value\", true), \
@@ -141,5 +143,5 @@ unit: Some(()), text: \"hello world\" }";
 fn a_struct_of_each_kind_of_field_comes_back(rt: HostRuntime) -> Result<(), Fail> {
     let alloc = rt.alloc();
     let bytes = Vec::from_slice(alloc, RECORD)?;
-    comes_back_lent::<&[u8], Record<'_>>(alloc, &bytes, &bytes, RECORD_TOLD)
+    comes_back_lent::<&[u8], Record<'_>>(alloc, &bytes, &bytes, RECORD_SHOWN)
 }

@@ -17,7 +17,7 @@ const LOG: &[u8] = b"\x67Started\
 \xa1\x65Moved\x82\x01\x20\
 \xa1\x65Named\xa2\x62id\x19\x01\xf4\x64name\x61a";
 
-const TOLD: &str = "[Started, Moved(1, -1), Named { id: 500, name: \"a\" }]";
+const REPORTED: &str = "[Started, Moved(1, -1), Named { id: 500, name: \"a\" }]";
 
 // Where each event ends.
 const ENDS: [usize; 4] = [0, 8, 18, 39];
@@ -55,14 +55,14 @@ fn failed<E: Debug + Drop>(fault: Fault<E>) -> Fail {
 #[test]
 fn a_log_is_cut_anywhere(rt: HostRuntime) -> Result<(), Fail> {
     for end in 0..=LOG.len() {
-        assert_eq!(rt; read_in_two(rt.alloc(), end)?.as_str(), TOLD);
+        assert_eq!(rt; read_in_two(rt.alloc(), end)?.as_str(), REPORTED);
     }
     Ok(())
 }
 
 type Row = (&'static [u8], u64, DecodeError<Never>);
 
-// Behind a whole event comes what is none, and an event whose content is none.
+// After a whole event comes what is none, and an event whose content is none.
 const FAULTS: &[Row] = table! {
     (b"\x05", 0, Core(Mismatch { name: "enum", found: 5 })),
     (b"\x67Started\x05", 8, Core(Mismatch { name: "enum", found: 5 })),
@@ -101,8 +101,8 @@ fn replayed<R: BufRead + Drop>(
 #[test]
 fn a_stream_is_replayed(rt: HostRuntime) -> Result<(), Fail> {
     let stream = FailingStream::new(LOG, 1, usize::MAX);
-    let (told, outcome) = replayed(rt.alloc(), stream)?;
-    assert_eq!(rt; told.as_str(), TOLD);
+    let (reported, outcome) = replayed(rt.alloc(), stream)?;
+    assert_eq!(rt; reported.as_str(), REPORTED);
     assert!(rt; outcome.is_ok());
     Ok(())
 }
@@ -127,8 +127,8 @@ fn a_stream_that_is_cut_tells_it(rt: HostRuntime) -> Result<(), Fail> {
 #[test]
 fn a_stream_that_fails_tells_it(rt: HostRuntime) -> Result<(), Fail> {
     let stream = FailingStream::new(&LOG[..18], 1, usize::MAX).failing_at_end();
-    let (told, outcome) = replayed(rt.alloc(), stream)?;
-    assert_eq!(rt; told.as_str(), "[Started, Moved(1, -1)]");
+    let (reported, outcome) = replayed(rt.alloc(), stream)?;
+    assert_eq!(rt; reported.as_str(), "[Started, Moved(1, -1)]");
     match outcome {
         Err(fault) => {
             assert!(rt; matches!(&fault.error, Core(Read(_))));

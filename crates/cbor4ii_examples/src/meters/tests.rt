@@ -3,7 +3,7 @@ use crate::meters::Meters;
 use cbor4ii::serde::{DecodeError, Deserialize, Deserializer};
 use cbor4ii_rw::read::Source;
 use cbor4ii_vectors::{mismatch, table};
-use cbor4ii_vectors_de::typed::{Answer, BothTold, Refused, Take, comes_back, refuses, tells};
+use cbor4ii_vectors_de::typed::{Answer, BothShown, Rejected, Take, comes_back, rejects, tells};
 use std::alloc::Global;
 use std::test::Fail;
 
@@ -16,19 +16,19 @@ impl Take for Meters {
     }
 }
 
-const LENGTHS: &[BothTold] = table! {
+const LENGTHS: &[BothShown] = table! {
     (b"\x17", "Is(Meters(23))"),
     (b"\x19\x01\xf4", "Is(Meters(500))"),
 };
 
-const LENGTHS_REFUSED: &[Refused] = table! {
+const LENGTHS_REJECTED: &[Rejected] = table! {
     (b"\x20", mismatch!("u32", 32), b""),
 };
 
 #[test]
 fn lengths_are_written_and_read(rt: HostRuntime) -> Result<(), Fail> {
     tells::<Answer<Meters>>(rt.alloc(), LENGTHS, &[], &[])?;
-    refuses::<Answer<Meters>>(rt.alloc(), LENGTHS_REFUSED)
+    rejects::<Answer<Meters>>(rt.alloc(), LENGTHS_REJECTED)
 }
 
 #[test]

@@ -3,7 +3,9 @@ use crate::nest::Nest;
 use cbor4ii::serde::{DecodeError, Deserialize, Deserializer};
 use cbor4ii_rw::read::Source;
 use cbor4ii_vectors::{eof, mismatch, no_step, table};
-use cbor4ii_vectors_de::typed::{Answer, BothTold, RowTold, RowToldWithin, Take, come_back, tells};
+use cbor4ii_vectors_de::typed::{
+    Answer, BothShown, RowShown, RowShownWithin, Take, come_back, tells,
+};
 use std::alloc::Global;
 use std::test::Fail;
 
@@ -19,18 +21,18 @@ impl Take for Nest {
 const TWO_LISTS: &str =
     "Is(Nest { inner: [Nest { inner: [] }, Nest { inner: [Nest { inner: [] }] }] })";
 
-const NESTS_BOTH: &[BothTold] = table! {
+const NESTS_BOTH: &[BothShown] = table! {
     (b"\x80", "Is(Nest { inner: [] })"),
     (b"\x82\x80\x81\x80", TWO_LISTS),
 };
 
-const NESTS: &[RowTold] = table! {
+const NESTS: &[RowShown] = table! {
     (b"\x82\x80\x9f\x80\xff\x01", Ok(TWO_LISTS), b"\x01"),
     (b"\x82\x80\x05\x01", Err(mismatch!("array", 5)), b"\x01"),
     (b"\x9f\x80", Err(eof!("break", 1)), b""),
 };
 
-const NESTS_WITHIN: &[RowToldWithin] = table! {
+const NESTS_WITHIN: &[RowShownWithin] = table! {
     (b"\x81\x81\x80", 2, Err(no_step!("seq")), b"\x80"),
 };
 
@@ -39,7 +41,7 @@ fn lists_in_lists_are_written_and_read(rt: HostRuntime) -> Result<(), Fail> {
     tells::<Answer<Nest>>(rt.alloc(), NESTS_BOTH, NESTS, NESTS_WITHIN)
 }
 
-const INSIDE: &[BothTold] = table! {
+const INSIDE: &[BothShown] = table! {
     (b"\x82\x05\x81\x80", "(5, Some(Nest { inner: [Nest { inner: [] }] }))"),
     (b"\x82\x05\xf6", "(5, None)"),
 };

@@ -1,7 +1,7 @@
 //! Rows of a struct with an optional field, which is written and read in one call each, alone and
 //! as a field of another.
 ghost use Rattle.std.specs.Prelude.{◌∷◌, [], codes};
-ghost use Rattle.cbor4ii_ser.specs.Item.{field, struct_item};
+ghost use Rattle.cbor4ii_ser.specs.Item.{field, struct_encoding};
 
 use crate::point::{Point, point_is_read_back};
 use cbor4ii::serde::{DecodeError, Deserialize, Deserializer, EncodeError, Serialize, Serializer};
@@ -10,7 +10,8 @@ use cbor4ii_rw::read::Source;
 use cbor4ii_rw::write::Write;
 use cbor4ii_vectors::{eof, mismatch, no_step, table};
 use cbor4ii_vectors_de::typed::{
-    Answer, BothTold, Refused, RowTold, RowToldWithin, Take, comes_back, refuses, tells, tells_all,
+    Answer, BothShown, Rejected, RowShown, RowShownWithin, Take, comes_back, rejects, tells,
+    tells_all,
 };
 use std::alloc::Global;
 use std::test::Fail;
@@ -49,7 +50,7 @@ const WITHOUT_Y: &str = "Is(Point { x: 5, name: \"a\", y: None })";
 
 const WITH_Y: &str = "Is(Point { x: 5, name: \"a\", y: Some(-1) })";
 
-const POINTS_REFUSED: &[Refused] = table! {
+const POINTS_REJECTED: &[Rejected] = table! {
     (b"\xa1\x61x\x20\x01", mismatch!("u32", 32), b"\x01"),
     (b"\xa1\x01\x02", mismatch!("str", 1), b"\x02"),
     (b"\xa1\x61z", eof!("ignored-any", 1), b""),
@@ -57,12 +58,12 @@ const POINTS_REFUSED: &[Refused] = table! {
     (b"\x83\x05", mismatch!("map", 131), b"\x05"),
 };
 
-const POINTS: &[BothTold] = table! {
+const POINTS: &[BothShown] = table! {
     (b"\xa3\x61x\x05\x64name\x61a\x61y\xf6", WITHOUT_Y),
     (b"\xa3\x61x\x05\x64name\x61a\x61y\x20", WITH_Y),
 };
 
-const POINTS_READ: &[RowTold] = table! {
+const POINTS_READ: &[RowShown] = table! {
     (b"\xbf\x61y\x20\x64name\x61a\x61x\x05\xff\x00", Ok(WITH_Y), b"\x00"),
     (b"\xa4\x61z\x81\x82\x01\x02\x61y\x20\x61x\x05\x64name\x61a", Ok(WITH_Y), b""),
     (b"\xa4\x61x\x04\x61y\x20\x61x\x05\x64name\x61a\xff", Ok(WITH_Y), b"\xff"),
@@ -73,7 +74,7 @@ const POINTS_READ: &[RowTold] = table! {
     (b"\xa0\x00", Ok("Custom(\"a point has no x\")"), b"\x00"),
 };
 
-const POINTS_WITHIN: &[RowToldWithin] = table! {
+const POINTS_WITHIN: &[RowShownWithin] = table! {
     (b"\xa0", 0, Err(no_step!("map")), b"\xa0"),
     (b"\xa1\x61y\x05", 1, Err(no_step!("option")), b"\x05"),
 };
@@ -82,7 +83,7 @@ const POINTS_WITHIN: &[RowToldWithin] = table! {
 fn points_are_written_and_read(rt: HostRuntime) -> Result<(), Fail> {
     let alloc = rt.alloc();
     tells::<Answer<Point>>(alloc, POINTS, POINTS_READ, POINTS_WITHIN)?;
-    refuses::<Answer<Point>>(alloc, POINTS_REFUSED)
+    rejects::<Answer<Point>>(alloc, POINTS_REJECTED)
 }
 
 /// A struct of four fields, one of which is a struct itself.
@@ -95,10 +96,10 @@ struct Whole {
 }
 
 impl Serialize for Whole {
-    ghost item = { λ w. struct_item (field (codes "a") (⟦<u8 as Serialize>⟧.item w.a)
-        ∷ field (codes "b") (⟦<Option<u8> as Serialize>⟧.item w.b)
-        ∷ field (codes "c") (⟦<Vec<u8> as Serialize>⟧.item w.c)
-        ∷ field (codes "d") (⟦<Point as Serialize>⟧.item w.d) ∷ []) };
+    ghost encoding = { λ w. struct_encoding (field (codes "a") (⟦<u8 as Serialize>⟧.encoding w.a)
+        ∷ field (codes "b") (⟦<Option<u8> as Serialize>⟧.encoding w.b)
+        ∷ field (codes "c") (⟦<Vec<u8> as Serialize>⟧.encoding w.c)
+        ∷ field (codes "d") (⟦<Point as Serialize>⟧.encoding w.d) ∷ []) };
 
     fn serialize<W: Write>(&self, ser: &mut Serializer<W>) -> Result<(), EncodeError<W::Error>> {
         ser.serialize_4_fields(
@@ -158,19 +159,19 @@ impl Take for WithoutD {
 const WHOLE: &[u8] = b"\xa4\x61a\x01\x61b\x02\x61c\x82\x03\x04\x61d\
 \xa3\x61x\x05\x64name\x61a\x61y\xf6";
 
-const WHOLES: &[BothTold] = table! {
+const WHOLES: &[BothShown] = table! {
     (WHOLE, "Is(Whole { a: 1, b: Some(2), c: [3, 4], d: Point { x: 5, name: \"a\", y: None } })"),
 };
 
-const WHOLES_READ: &[RowTold] = table! {
+const WHOLES_READ: &[RowShown] = table! {
     (b"\xa1\x61a\x01", Ok("Custom(\"a field is missing\")"), b""),
 };
 
-const WITHOUT_C: &[RowTold] = table! {
+const WITHOUT_C: &[RowShown] = table! {
     (WHOLE, Ok("Is(WithoutC(1, Some(2), Point { x: 5, name: \"a\", y: None }))"), b""),
 };
 
-const WITHOUT_D: &[RowTold] = table! {
+const WITHOUT_D: &[RowShown] = table! {
     (WHOLE, Ok("Is(WithoutD(1, [3, 4], None))"), b""),
 };
 

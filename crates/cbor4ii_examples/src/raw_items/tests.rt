@@ -1,6 +1,6 @@
 //! Rows of items that are kept as their bytes, and of one that is skipped.
-use crate::raw_items::{behind_first, raw_items};
-use crate::refusal::is_refused;
+use crate::raw_items::{after_first, raw_items};
+use crate::rejected::is_rejected;
 use cbor4ii_vectors::{eof, mismatch};
 use std::test::Fail;
 
@@ -15,15 +15,15 @@ fn items_are_kept_as_they_stand(rt: HostRuntime) -> Result<(), Fail> {
 
 #[test]
 fn an_item_is_skipped(rt: HostRuntime) -> Result<(), Fail> {
-    let rest = behind_first(rt.alloc(), b"\xbf\x01\x5f\x80\xff\xff\x07")?;
+    let rest = after_first(rt.alloc(), b"\xbf\x01\x5f\x80\xff\xff\x07")?;
     assert_eq!(rt; rest, b"\x07".as_slice());
     Ok(())
 }
 
 #[test]
-fn other_bytes_are_refused(rt: HostRuntime) -> Result<(), Fail> {
+fn other_bytes_are_rejected(rt: HostRuntime) -> Result<(), Fail> {
     let alloc = rt.alloc();
-    is_refused(raw_items(alloc, b"\x05"), mismatch!("array", 5))?;
-    is_refused(raw_items(alloc, b"\x82\x05"), eof!("ignored-any", 1))?;
-    is_refused(behind_first(alloc, b"\x82\x05"), eof!("ignored-any", 1))
+    is_rejected(raw_items(alloc, b"\x05"), mismatch!("array", 5))?;
+    is_rejected(raw_items(alloc, b"\x82\x05"), eof!("ignored-any", 1))?;
+    is_rejected(after_first(alloc, b"\x82\x05"), eof!("ignored-any", 1))
 }

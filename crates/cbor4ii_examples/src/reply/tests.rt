@@ -3,7 +3,7 @@ use crate::reply::Reply;
 use cbor4ii::serde::{DecodeError, Deserialize, Deserializer};
 use cbor4ii_rw::read::Source;
 use cbor4ii_vectors::{mismatch, table};
-use cbor4ii_vectors_de::typed::{Answer, BothTold, RowTold, Take, tells};
+use cbor4ii_vectors_de::typed::{Answer, BothShown, RowShown, Take, tells};
 use std::alloc::Global;
 use std::test::Fail;
 
@@ -16,13 +16,13 @@ impl Take for Reply {
     }
 }
 
-const REPLIES_BOTH: &[BothTold] = table! {
+const REPLIES_BOTH: &[BothShown] = table! {
     (b"\xa1\x66status\x18\xc8", "Is(Reply { status: 200, reason: None })"),
     (b"\xa2\x66status\x05\x66reason\x61a", "Is(Reply { status: 5, reason: Some(\"a\") })"),
 };
 
 // A reason may come first, and is no null.
-const REPLIES: &[RowTold] = table! {
+const REPLIES: &[RowShown] = table! {
     (b"\xa2\x66reason\x60\x66status\x05", Ok("Is(Reply { status: 5, reason: Some(\"\") })"), b""),
     (b"\xa2\x66reason\xf6\x66status\x05", Err(mismatch!("str", 0xf6)), b"\x66status\x05"),
     (b"\xa0\x01", Ok("Custom(\"a reply has no status\")"), b"\x01"),

@@ -3,7 +3,7 @@ use crate::sample::Sample;
 use cbor4ii::serde::{DecodeError, Deserialize, Deserializer};
 use cbor4ii_rw::read::Source;
 use cbor4ii_vectors::{mismatch, no_step, table};
-use cbor4ii_vectors_de::typed::{Answer, RowTold, RowToldWithin, Take, tells_all};
+use cbor4ii_vectors_de::typed::{Answer, RowShown, RowShownWithin, Take, tells_all};
 use std::alloc::Global;
 use std::test::Fail;
 
@@ -20,7 +20,7 @@ const WITHOUT_NOTE: &str = "Is(Sample { sensor: \"t1\", value: -100, note: None 
 
 const WITH_NOTE: &str = "Is(Sample { sensor: \"t1\", value: -100, note: Some(\"cold\") })";
 
-const SAMPLES: &[RowTold] = table! {
+const SAMPLES: &[RowShown] = table! {
     // A note that is missing, and fields that are not known.
     (b"\xbf\x65value\x38\x63\x66sensor\x62t1\xff\x01", Ok(WITHOUT_NOTE), b"\x01"),
     (b"\xa4\x64unit\x61K\x66sensor\x62t1\x65value\x38\x63\x64note\x64cold", Ok(WITH_NOTE), b""),
@@ -30,7 +30,7 @@ const SAMPLES: &[RowTold] = table! {
     (b"\xa1\x65value\x61a", Err(mismatch!("i64", 97)), b"\x61a"),
 };
 
-const SAMPLES_WITHIN: &[RowToldWithin] = table! {
+const SAMPLES_WITHIN: &[RowShownWithin] = table! {
     (b"\xa0", 0, Err(no_step!("map")), b"\xa0"),
     (b"\xa1\x64note\x60", 1, Err(no_step!("option")), b"\x60"),
 };

@@ -1,4 +1,4 @@
-//! Rows of settings, and of the bytes at which their reading stops.
+//! Rows of settings, and of the bytes at which their reading fails.
 use crate::settings::{Settings, read_settings};
 use cbor4ii::serde::DecodeError::{Core, Custom};
 use cbor4ii::serde::{DecodeError, Deserialize, Deserializer};
@@ -6,7 +6,7 @@ use cbor4ii_rw::error::DecodeError::{Eof, Mismatch};
 use cbor4ii_rw::error::{Len, Never};
 use cbor4ii_rw::read::Source;
 use cbor4ii_vectors::table;
-use cbor4ii_vectors_de::typed::{Answer, RowTold, Take, comes_back, tells_all};
+use cbor4ii_vectors_de::typed::{Answer, RowShown, Take, comes_back, tells_all};
 use std::alloc::Global;
 use std::test::Fail;
 
@@ -22,21 +22,21 @@ impl Take for Settings {
 const ALL: &[u8] = b"\xa8\x64host\x61a\x64port\x01\x67verbose\xf5\x67workers\x02\x65cache\x03\
 \x65proxy\x61b\x67plugins\x81\x61c\x68greeting\x61d";
 
-const ALL_TOLD: &str = "Settings { host: \"a\", port: 1, verbose: true, workers: 2, cache: 3, \
+const ALL_SHOWN: &str = "Settings { host: \"a\", port: 1, verbose: true, workers: 2, cache: 3, \
 proxy: Some(\"b\"), plugins: Some([\"c\"]), greeting: Some(\"d\") }";
 
 #[test]
 fn settings_come_back(rt: HostRuntime) -> Result<(), Fail> {
-    comes_back::<Settings>(rt.alloc(), ALL, ALL_TOLD)
+    comes_back::<Settings>(rt.alloc(), ALL, ALL_SHOWN)
 }
 
 const DEFAULTS: &str = "Is(Settings { host: \"a\", port: 8080, verbose: false, workers: 4, \
 cache: 0, proxy: None, plugins: None, greeting: None })";
 
-const SETTINGS: &[RowTold] = table! {
+const SETTINGS: &[RowShown] = table! {
     (b"\xa1\x64host\x61a\x00", Ok(DEFAULTS), b"\x00"),
     (b"\xa2\x65color\x81\x01\x64host\x61a", Ok(DEFAULTS), b""),
-    // Of several ports the last counts; several hosts are refused.
+    // Of several ports the last counts; several hosts are rejected.
     (b"\xa3\x64port\x01\x64host\x61a\x64port\x19\x1f\x90", Ok(DEFAULTS), b""),
     (b"\xa2\x64host\x61a\x64host\x61a\x00", Ok("Custom(\"settings have one host\")"), b"\x00"),
     (b"\xa1\x64port\x01\x00", Ok("Custom(\"settings have one host\")"), b"\x00"),

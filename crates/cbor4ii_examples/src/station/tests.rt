@@ -60,7 +60,7 @@ fn stations_are_written_and_read(rt: HostRuntime) -> Result<(), Fail> {
     reads_texts::<StationList>(alloc, TWO_STATIONS)
 }
 
-const REFUSED_STATIONS: &[Row<&str>] = table! {
+const REJECTED_STATIONS: &[Row<&str>] = table! {
     (b"", Err(eof!("array", 1)), b""),
     (b"\xa2\x05", Err(mismatch!("array", 162)), b"\x05"),
     (b"\x81\x05", Err(require_length!("station", 1)), b"\x05"),
@@ -78,8 +78,8 @@ const STEPS: &[RowWithin<&str>] = table! {
 };
 
 #[test]
-fn other_bytes_are_refused(rt: HostRuntime) -> Result<(), Fail> {
+fn other_bytes_are_rejected(rt: HostRuntime) -> Result<(), Fail> {
     let alloc = rt.alloc();
-    reads_texts::<Station>(alloc, REFUSED_STATIONS)?;
+    reads_texts::<Station>(alloc, REJECTED_STATIONS)?;
     reads_texts_within::<Station>(alloc, STEPS)
 }

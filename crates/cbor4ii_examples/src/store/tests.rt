@@ -1,4 +1,4 @@
-//! Rows of what a store takes, and of what it refuses.
+//! Rows of what a store takes, and of what it rejects.
 use crate::store::StoreError::{Decode, Trailing};
 use crate::store::{StoreError, canonical_bytes, stored_value};
 use cbor4ii_rw::error::DecodeError::{Eof, Mismatch, NotCanonical, RequireUtf8};
@@ -7,10 +7,10 @@ use cbor4ii_tree::Value;
 use cbor4ii_vectors::table;
 use std::test::Fail;
 
-type Spelling = (&'static [u8], &'static [u8]);
+type Encoding = (&'static [u8], &'static [u8]);
 
-// Items, and their canonical spelling.
-const SPELLINGS: &[Spelling] = table! {
+// Items, and their canonical encoding.
+const ENCODINGS: &[Encoding] = table! {
     (b"\x18\x64", b"\x18\x64"),
     (b"\x19\x00\x64", b"\x18\x64"),
     (b"\x3b\x00\x00\x00\x00\x00\x00\x00\x63", b"\x38\x63"),
@@ -26,7 +26,7 @@ const SPELLINGS: &[Spelling] = table! {
 #[test]
 fn an_item_has_one_stored_form(rt: HostRuntime) -> Result<(), Fail> {
     let alloc = rt.alloc();
-    for (item, canonical) in SPELLINGS {
+    for (item, canonical) in ENCODINGS {
         assert_eq!(rt; canonical_bytes(alloc, item)?.as_slice(), *canonical);
         assert_eq!(rt; canonical_bytes(alloc, canonical)?.as_slice(), *canonical);
         stored_value(alloc, canonical)?;
@@ -64,24 +64,24 @@ const NO_ITEM: &[Refusal] = table! {
     (b"\xf6\xff", Trailing(1)),
 };
 
-// The row's bytes are refused as it says.
-fn is_refused<T: Drop>(answer: Result<T, StoreError>, row: &Refusal) -> Result<(), Fail> {
+// The row's bytes are rejected as it says.
+fn is_rejected<T: Drop>(answer: Result<T, StoreError>, row: &Refusal) -> Result<(), Fail> {
     let (bytes, want) = row;
     match answer.err() {
         Some(error) if error == *want => Ok(()),
-        refusal => Err(Fail::new(format_args!("{refusal:?} of {bytes:?}"))),
+        rejection => Err(Fail::new(format_args!("{rejection:?} of {bytes:?}"))),
     }
 }
 
 #[test]
-fn other_bytes_are_refused(rt: HostRuntime) -> Result<(), Fail> {
+fn other_bytes_are_rejected(rt: HostRuntime) -> Result<(), Fail> {
     let alloc = rt.alloc();
     for row in NO_ITEM {
-        is_refused(canonical_bytes(alloc, row.0), row)?;
-        is_refused(stored_value(alloc, row.0), row)?;
+        is_rejected(canonical_bytes(alloc, row.0), row)?;
+        is_rejected(stored_value(alloc, row.0), row)?;
     }
     for row in NOT_STORED {
-        is_refused(stored_value(alloc, row.0), row)?;
+        is_rejected(stored_value(alloc, row.0), row)?;
     }
     Ok(())
 }
@@ -90,7 +90,7 @@ fn other_bytes_are_refused(rt: HostRuntime) -> Result<(), Fail> {
 const CUT: &[u8] = b"\x82\x61a\xa1\x61b\x61c";
 
 #[test]
-fn an_item_that_is_cut_is_refused(rt: HostRuntime) -> Result<(), Fail> {
+fn an_item_that_is_cut_is_rejected(rt: HostRuntime) -> Result<(), Fail> {
     let alloc = rt.alloc();
     stored_value(alloc, CUT)?;
     for end in 0..CUT.len() {
@@ -103,7 +103,7 @@ fn an_item_that_is_cut_is_refused(rt: HostRuntime) -> Result<(), Fail> {
 }
 
 #[test]
-fn a_refusal_is_a_line(rt: HostRuntime) -> Result<(), Fail> {
+fn an_error_is_a_line(rt: HostRuntime) -> Result<(), Fail> {
     let alloc = rt.alloc();
     let line = format!(in alloc; "{}", Trailing(3))?;
     assert_eq!(rt; line.as_str(), "not stored: bytes behind the item: 3");

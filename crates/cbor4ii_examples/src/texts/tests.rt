@@ -1,5 +1,5 @@
 //! Rows of texts that are borrowed, and of those out of a stream.
-use crate::refusal::is_refused;
+use crate::rejected::is_rejected;
 use crate::texts::{borrowed, streamed};
 use cbor4ii_vectors::{eof, mismatch, require_length, require_utf8};
 use std::test::Fail;
@@ -14,16 +14,16 @@ fn texts_are_lent_or_joined(rt: HostRuntime) -> Result<(), Fail> {
 }
 
 #[test]
-fn what_cannot_be_lent_is_refused(rt: HostRuntime) -> Result<(), Fail> {
+fn what_cannot_be_lent_is_rejected(rt: HostRuntime) -> Result<(), Fail> {
     let alloc = rt.alloc();
-    is_refused(borrowed(alloc, b"\x62a"), require_length!("str", 1))?;
-    is_refused(borrowed(alloc, b"\x61\xff"), require_utf8!("str"))?;
-    is_refused(borrowed(alloc, b"\x7f\x61a\xff"), mismatch!("str", 127))
+    is_rejected(borrowed(alloc, b"\x62a"), require_length!("str", 1))?;
+    is_rejected(borrowed(alloc, b"\x61\xff"), require_utf8!("str"))?;
+    is_rejected(borrowed(alloc, b"\x7f\x61a\xff"), mismatch!("str", 127))
 }
 
 #[test]
-fn another_stream_is_refused(rt: HostRuntime) -> Result<(), Fail> {
+fn another_stream_is_rejected(rt: HostRuntime) -> Result<(), Fail> {
     let alloc = rt.alloc();
-    is_refused(streamed(alloc, b"\x7f\x61a".as_slice()), eof!("break", 1))?;
-    is_refused(streamed(alloc, b"\x05".as_slice()), mismatch!("str", 5))
+    is_rejected(streamed(alloc, b"\x7f\x61a".as_slice()), eof!("break", 1))?;
+    is_rejected(streamed(alloc, b"\x05".as_slice()), mismatch!("str", 5))
 }

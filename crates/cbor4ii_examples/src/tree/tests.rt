@@ -4,7 +4,7 @@ use cbor4ii::serde::{DecodeError, Deserialize, Deserializer};
 use cbor4ii_rw::read::Source;
 use cbor4ii_vectors::rows::writes;
 use cbor4ii_vectors::table;
-use cbor4ii_vectors_de::typed::{Answer, RowTold, Take, come_back, tells_all};
+use cbor4ii_vectors_de::typed::{Answer, RowShown, Take, come_back, tells_all};
 use cbor4ii_vectors_ser::typed::Typed;
 use std::alloc::Global;
 use std::collections::TryReserveError;
@@ -41,19 +41,19 @@ impl Take for Tree {
     }
 }
 
-const TREE_TOLD: &str = "Tree { id: 1, name: \"a\", children: [\
+const TREE_SHOWN: &str = "Tree { id: 1, name: \"a\", children: [\
 Tree { id: 2, name: \"b\", children: [] }, Tree { id: 3, name: \"\", children: [] }] }";
 
 #[test]
 fn a_tree_comes_back(rt: HostRuntime) -> Result<(), Fail> {
-    come_back::<Tree>(rt.alloc(), &[(TREE, TREE_TOLD)])
+    come_back::<Tree>(rt.alloc(), &[(TREE, TREE_SHOWN)])
 }
 
 const LEAF: &str = "Is(Tree { id: 5, name: \"a\", children: [] })";
 
 const NO_TREE: &str = "Custom(\"no tree\")";
 
-const TREES: &[RowTold] = table! {
+const TREES: &[RowShown] = table! {
     (b"\xbf\x64name\x61a\x00\x00\x62id\x05\xff\x01", Ok(LEAF), b"\x01"),
     (b"\xa1\x64name\x61a\x01", Ok(NO_TREE), b"\x01"),
     (b"\xa2\x64name\x61a\x62id\x20", Ok(NO_TREE), b""),

@@ -6,11 +6,11 @@ use Rattle.cbor4ii_rw.specs.View.{View}
 use Rattle.cbor4ii_rw.specs.declared.error.DecodeError.{DecodeError}
 use Rattle.cbor4ii_rw.specs.declared.error.DecodeError.TheVariants.{Read}
 use Rattle.cbor4ii_items.specs.Head.{IsBytes}
-use Rattle.cbor4ii_items.specs.Moves.{Kept, Broke, Moves}
-use Rattle.cbor4ii_items.specs.Refusal.{Refusal, refusal_of, is_read}
+use Rattle.cbor4ii_items.specs.Moves.{Kept, ReaderFailed, Moves}
+use Rattle.cbor4ii_items.specs.InputError.{InputError, input_error_of, is_read}
 use Rattle.cbor4ii_items.specs.Reading.{Reading, Runs}
-use Rattle.cbor4ii_items.specs.Decoding.{IsExact, Reads, StopsAt, CostFits, Sound, NoneRead}
-use Rattle.cbor4ii_items.specs.Decoding.{Refuses, Stops}
+use Rattle.cbor4ii_items.specs.Decoding.{IsExact, Reads, RejectsAt, CostFits, Sound, NoneRead}
+use Rattle.cbor4ii_items.specs.Decoding.{Complete, Rejects}
 use Rattle.std.proofs.lemmas.List.{length-drop}
 use Rattle.cbor4ii_items.specs.Laws.Heads.{IsBytes-take}
 
@@ -32,7 +32,7 @@ pub seen_of : (xs ys : List ℕ) (n : ℕ) → n ≤ length xs → IsBytes (take
 seen_of xs ys n room bytes e =
     λ m h. IsBytes-take m n xs (omega (arith, h, room, ap length e, length-drop n xs)) bytes
 
--- a reading of v that fits, and the bytes behind it
+-- a reading of v that fits, and the bytes after it
 pub record Found {V : Type 0} (reads : Reads V) (budget : Option ℕ) (xs : List ℕ) (v : V)
     (ys : List ℕ) : Type 0 where
   pub count : ℕ
@@ -48,10 +48,10 @@ pub sound_at : {V E : Type 0} {program : Reading V} {v : V} {a b : View} (reads 
     → Found reads a.budget xs v (drop n xs))
     → Runs {E = E} program a b (Ok v) → Sound reads a b v
 sound_at {v = v} {b = b} reads means p = record {
-  at = λ xs told.
-      let h = p.answers xs told in
-      let t = p.moves.by.rest xs told in
-      let e : h.0 ≡ drop t.0 xs = same_some _ _ b.told h.1 t.1.left in
+  at = λ xs known.
+      let h = p.answers xs known in
+      let t = p.moves.by.rest xs known in
+      let e : h.0 ≡ drop t.0 xs = same_some _ _ b.known h.1 t.1.left in
       let f = means xs t.0 (h.2 ∙ ap (λ (zs : List ℕ). Ok (v, zs)) e) t.1.within t.1.bytes in
       record {
         count = f.count;
@@ -69,9 +69,9 @@ sound_by reads means p =
     sound_at reads (λ xs n e within bytes.
     means xs (drop n xs) e (seen_of xs (drop n xs) n within bytes refl)) p
 
--- ---- a refusal
+-- ---- an error
 
-none_by : {V : Type 0} (program : Reading V) (reads : Reads V) (o : Option Refusal) (xs : List ℕ)
+none_by : {V : Type 0} (program : Reading V) (reads : Reads V) (o : Option InputError) (xs : List ℕ)
     (budget : Option ℕ) (left : Option (List ℕ))
     → ((v : V) (n c : ℕ) → reads xs v n c → CostFits c budget → program xs ≡ Ok (v, drop n xs))
     → IfSome o (λ z. (ys : List ℕ) × (left ≡ Some ys) × (program xs ≡ Err (z, ys)))
@@ -80,88 +80,92 @@ none_by program reads None xs budget left again h = tt
 none_by program reads (Some z) xs budget left again h =
     λ v n c r fits. let f = again v n c r fits in let g = h.2 in cc
 
-pub refuses_by : {V E : Type 0} {program : Reading V} {e : DecodeError E} {a b : View}
+pub complete_by : {V E : Type 0} {program : Reading V} {e : DecodeError E} {a b : View}
     (reads : Reads V) → ((xs : List ℕ) (v : V) (n c : ℕ) → reads xs v n c → CostFits c a.budget
     → program xs ≡ Ok (v, drop n xs))
-    → Runs program a b (Err e) → Refuses reads a e
-refuses_by {program = program} {e = e} {a = a} {b = b} reads again p = record {
-  at = λ xs told.
-      none_by program reads (refusal_of e) xs a.budget b.told (again xs) (p.answers xs told);
+    → Runs program a b (Err e) → Complete reads a e
+complete_by {program = program} {e = e} {a = a} {b = b} reads again p = record {
+  at = λ xs known.
+      none_by program reads (input_error_of e) xs a.budget b.known (again xs) (p.answers xs known);
 }
 
-pub not_read : {E : Type 0} (e : DecodeError E) (z : Refusal) → refusal_of e ≡ Some z
+pub not_read : {E : Type 0} (e : DecodeError E) (z : InputError) → input_error_of e ≡ Some z
     → is_read e ≡ false
 not_read (Read x) z h = cc
 not_read e z h = refl
 
-pub kept_of : (t : Bool) (a b : View) → t ≡ false → MatchBool t (Broke a b) (Kept a b) → Kept a b
+pub kept_of : (t : Bool) (a b : View) → t ≡ false → MatchBool t (ReaderFailed a b) (Kept a b) →
+    Kept a b
 kept_of true a b e k = cc
 kept_of false a b e k = k
 
-stopped_by : {V E : Type 0} (program : Reading V) (e : DecodeError E) (a b : View) (stops : StopsAt)
-    (xs : List ℕ) → a.told ≡ Some xs
-    → ((z : Refusal) (n : ℕ) → program xs ≡ Err (z, drop n xs) → n ≤ length xs → IsBytes (take n xs)
-    → stops xs a.budget z (drop n xs))
-    → Moves {V = V} a b (Err e) → (o : Option Refusal) → refusal_of e ≡ o
-    → IfSome o (λ z. (ys : List ℕ) × (b.told ≡ Some ys) × (program xs ≡ Err (z, ys)))
-    → IfSome o (λ z. (ys : List ℕ) × (b.told ≡ Some ys) × stops xs a.budget z ys)
-stopped_by program e a b stops xs told means moves None says h = tt
-stopped_by program e a b stops xs told means moves (Some z) says h =
+stopped_by : {V E : Type 0} (program : Reading V) (e : DecodeError E) (a b : View)
+    (rejects : RejectsAt)
+    (xs : List ℕ) → a.known ≡ Some xs
+    → ((z : InputError) (n : ℕ) → program xs ≡ Err (z, drop n xs) → n ≤ length xs → IsBytes
+    (take n xs)
+    → rejects xs a.budget z (drop n xs))
+    → Moves {V = V} a b (Err e) → (o : Option InputError) → input_error_of e ≡ o
+    → IfSome o (λ z. (ys : List ℕ) × (b.known ≡ Some ys) × (program xs ≡ Err (z, ys)))
+    → IfSome o (λ z. (ys : List ℕ) × (b.known ≡ Some ys) × rejects xs a.budget z ys)
+stopped_by program e a b rejects xs known means moves None says h = tt
+stopped_by program e a b rejects xs known means moves (Some z) says h =
     let k = kept_of (is_read e) a b (not_read e z says) moves.by in
-    let t = k.rest xs told in
-    let f : h.0 ≡ drop t.0 xs = same_some _ _ b.told h.1 t.1.left in (
+    let t = k.rest xs known in
+    let f : h.0 ≡ drop t.0 xs = same_some _ _ b.known h.1 t.1.left in (
       drop t.0 xs,
       t.1.left,
       means z t.0 (h.2 ∙ ap (λ (zs : List ℕ). Err (z, zs)) f) t.1.within t.1.bytes,
     )
 
-pub stops_at : {V E : Type 0} {program : Reading V} {e : DecodeError E} {a b : View}
-    (stops : StopsAt)
-    → ((xs : List ℕ) (z : Refusal) (n : ℕ) → program xs ≡ Err (z, drop n xs) → n ≤ length xs
-    → IsBytes (take n xs) → stops xs a.budget z (drop n xs))
-    → Runs {V = V} program a b (Err e) → Stops stops a b e
-stops_at {program = program} {e = e} {a = a} {b = b} stops means p =
+pub rejects_at : {V E : Type 0} {program : Reading V} {e : DecodeError E} {a b : View}
+    (rejects : RejectsAt)
+    → ((xs : List ℕ) (z : InputError) (n : ℕ) → program xs ≡ Err (z, drop n xs) → n ≤ length xs
+    → IsBytes (take n xs) → rejects xs a.budget z (drop n xs))
+    → Runs {V = V} program a b (Err e) → Rejects rejects a b e
+rejects_at {program = program} {e = e} {a = a} {b = b} rejects means p =
     record {
-      at = λ xs told. stopped_by program e a b stops xs told (means xs) p.moves
-          (refusal_of e) refl (p.answers xs told);
+      at = λ xs known. stopped_by program e a b rejects xs known (means xs) p.moves
+          (input_error_of e) refl (p.answers xs known);
     }
 
-pub stops_by : {V E : Type 0} {program : Reading V} {e : DecodeError E} {a b : View}
-    (stops : StopsAt) → ((xs : List ℕ) (z : Refusal) (ys : List ℕ) → program xs ≡ Err (z, ys)
-    → Seen xs ys → stops xs a.budget z ys)
-    → Runs {V = V} program a b (Err e) → Stops stops a b e
-stops_by stops means p =
-    stops_at stops (λ xs z n e within bytes.
+pub rejects_by : {V E : Type 0} {program : Reading V} {e : DecodeError E} {a b : View}
+    (rejects : RejectsAt) → ((xs : List ℕ) (z : InputError) (ys : List ℕ) → program xs ≡ Err (z, ys)
+    → Seen xs ys → rejects xs a.budget z ys)
+    → Runs {V = V} program a b (Err e) → Rejects rejects a b e
+rejects_by rejects means p =
+    rejects_at rejects (λ xs z n e within bytes.
     means xs z (drop n xs) e (seen_of xs (drop n xs) n within bytes refl)) p
 
 -- ---- one type as another
 
 -- what holds where an error speaks of the bytes
-pub if_some : (o : Option Refusal) {P Q : Type 0} → (P → Q) → IfSome o (λ z. P) → IfSome o (λ z. Q)
+pub if_some : (o : Option InputError) {P Q : Type 0} → (P → Q) → IfSome o (λ z. P) → IfSome o
+    (λ z. Q)
 if_some None f h = tt
 if_some (Some z) f h = f h
 
--- what holds whatever is refused
-pub always : {Q : Type 0} (o : Option Refusal) → Q → IfSome o (λ z. Q)
+-- what holds whatever is rejected
+pub always : {Q : Type 0} (o : Option InputError) → Q → IfSome o (λ z. Q)
 always None q = tt
 always (Some z) q = q
 
-pub refuses_as : {U V E : Type 0} {e : DecodeError E} {a : View} (f : Reads U) (g : Reads V)
+pub complete_as : {U V E : Type 0} {e : DecodeError E} {a : View} (f : Reads U) (g : Reads V)
     → ((xs : List ℕ) (budget : Option ℕ) → NoneRead f xs budget → NoneRead g xs budget)
-    → Refuses f a e → Refuses g a e
-refuses_as {e = e} {a = a} f g none p =
-    record { at = λ xs told. if_some (refusal_of e) (none xs a.budget) (p.at xs told) }
+    → Complete f a e → Complete g a e
+complete_as {e = e} {a = a} f g none p =
+    record { at = λ xs known. if_some (input_error_of e) (none xs a.budget) (p.at xs known) }
 
 -- ---- where acceptance is exact
 
 -- it stays so where the reader was kept
-pub exact_kept : (owned : Bool) (a b : View) (xs : List ℕ) → a.told ≡ Some xs → Kept a b
+pub exact_kept : (owned : Bool) (a b : View) (xs : List ℕ) → a.known ≡ Some xs → Kept a b
     → IsExact owned a → IsExact owned b
-exact_kept owned a b xs told kept (inl e) = inl e
-exact_kept owned a b xs told kept (inr e) =
-    let t = kept.rest xs told in
+exact_kept owned a b xs known kept (inl e) = inl e
+exact_kept owned a b xs known kept (inr e) =
+    let t = kept.rest xs known in
     inr (
-      kept.lends_whole e.0,
+      kept.zero_copy e.0,
       λ ys left. (let same : drop t.0 xs ≡ ys = let l = t.1.left in cc in
-          omega (arith, ap length same, length-drop t.0 xs, e.1 xs told)),
+          omega (arith, ap length same, length-drop t.0 xs, e.1 xs known)),
     )

@@ -3,8 +3,8 @@ use Rattle.std.proofs.Common.{◌≡◌, ℕ, ◌<◌, ◌≤◌, List, [], ◌+
 use Rattle.std.proofs.Common.{◌∙◌, arith}
 use Rattle.std.proofs.lemmas.List.{length-drop}
 use Rattle.cbor4ii_items.specs.Decoding.{IsLawful}
-use Rattle.cbor4ii_items.specs.Numbers.{argument_spelling, negative_spelling}
-use Rattle.cbor4ii_items.specs.Laws.Spellings.{lawful_by}
+use Rattle.cbor4ii_items.specs.Numbers.{argument_format, negative_format}
+use Rattle.cbor4ii_items.specs.Laws.Formats.{lawful_by}
 use Rattle.cbor4ii_items.specs.Reading.{Reading}
 use Rattle.cbor4ii_items.specs.Laws.Outcome.{same_value}
 use Rattle.cbor4ii_items.specs.Laws.Heads.{head_read, head_alone}
@@ -72,7 +72,7 @@ pub zero_small : 0 < 8
 zero_small = omega arith
 
 pub argument_lawful : (name : List ℕ) (major width : ℕ) → major < 8
-    → IsLawful (argument_spelling name major width)
+    → IsLawful (argument_format name major width)
 argument_lawful name major width m = record {
   one = argument_one major width m;
   within = argument_within major width m;
@@ -82,7 +82,7 @@ argument_lawful name major width m = record {
 
 -- ---- negative integers
 
-pub negative_lawful : (name : List ℕ) (width : ℕ) → IsLawful (negative_spelling name width)
+pub negative_lawful : (name : List ℕ) (width : ℕ) → IsLawful (negative_format name width)
 negative_lawful name width =
-    lawful_by (λ v. v.0) (argument_spelling name 1 width)
+    lawful_by (λ v. v.0) (argument_format name 1 width)
     (argument_lawful name 1 width (omega arith))

@@ -1,4 +1,4 @@
--- Integers of sixteen bytes are read exactly as they are spelled.
+-- Integers of sixteen bytes are read exactly as they are encoded.
 use Rattle.std.proofs.Common.{◌≡◌, ℕ, zero, suc, ◌+◌, ◌*◌, ◌/◌, ◌^◌, ◌<◌, ◌≤◌, inl, inr, List, []}
 use Rattle.std.proofs.Common.{◌∷◌, ◌++◌, length, drop, take, Ok, false, refl, sym, ap, ◌∙◌, subst}
 use Rattle.std.proofs.Common.{arith, ltb, le-ltb}
@@ -13,7 +13,7 @@ use Rattle.cbor4ii_items.specs.ReadNumber.{magnitude_at, unsigned_bignum_at, u12
 use Rattle.cbor4ii_items.specs.ReadNumber.{small_magnitude_at, signed_bignum_at, i128_by, i128_at}
 use Rattle.cbor4ii_items.specs.Magnitude.{number_of}
 use Rattle.cbor4ii_items.specs.Numbers.{ReadsMagnitude, ReadsBignum, ReadsU128, ReadsI128}
-use Rattle.cbor4ii_items.specs.Laws.Fronts.{drop_more, two_fronts, behind_front, the_front}
+use Rattle.cbor4ii_items.specs.Laws.Prefixes.{drop_more, two_prefixes, after_prefix, the_prefix}
 use Rattle.cbor4ii_items.specs.Laws.Heads.{head_read, head_alone}
 use Rattle.cbor4ii_items.specs.Laws.Arguments.{ReadBy, leaf_one, leaf_within, leaf_positive}
 use Rattle.cbor4ii_items.specs.Laws.Strings.{length_known}
@@ -53,20 +53,20 @@ magnitude_alone : (xs ys : List ℕ) (v n : ℕ) → ReadsMagnitude xs v n
     → ReadsMagnitude (take n xs ++ ys) v n
 magnitude_alone xs ys v n p =
     let h = (head_read [] 2 8 xs p.count p.before (omega arith) p.counted).1 in
-    let behind = drop p.before xs in
-    let long : p.count ≤ length behind = omega (arith, length-drop p.before xs, p.within) in
-    let same : take n xs ++ ys ≡ take p.before xs ++ (take p.count behind ++ ys) =
-    two_fronts p.before p.count n xs ys p.size in
-    let left : drop p.before (take n xs ++ ys) ≡ take p.count behind ++ ys =
-    ap (drop p.before) same ∙ behind_front p.before xs (take p.count behind ++ ys) h in
-    let content : take p.count (drop p.before (take n xs ++ ys)) ≡ take p.count behind =
-    ap (take p.count) left ∙ the_front p.count behind ys long in
+    let trailing = drop p.before xs in
+    let long : p.count ≤ length trailing = omega (arith, length-drop p.before xs, p.within) in
+    let same : take n xs ++ ys ≡ take p.before xs ++ (take p.count trailing ++ ys) =
+    two_prefixes p.before p.count n xs ys p.size in
+    let left : drop p.before (take n xs ++ ys) ≡ take p.count trailing ++ ys =
+    ap (drop p.before) same ∙ after_prefix p.before xs (take p.count trailing ++ ys) h in
+    let content : take p.count (drop p.before (take n xs ++ ys)) ≡ take p.count trailing =
+    ap (take p.count) left ∙ the_prefix p.count trailing ys long in
     record {
       count = p.count;
       before = p.before;
       counted =
           subst (λ zs. ReadsHead 2 8 zs p.count p.before) (sym same)
-          (head_alone 2 8 xs (take p.count behind ++ ys) p.count p.before p.counted);
+          (head_alone 2 8 xs (take p.count trailing ++ ys) p.count p.before p.counted);
       short = p.short;
       within =
           omega (
@@ -108,20 +108,20 @@ bignum_alone : (tag : ℕ) (xs ys : List ℕ) (v n : ℕ) → ReadsBignum tag xs
     → ReadsBignum tag (take n xs ++ ys) v n
 bignum_alone tag xs ys v n p =
     let h = (head_read [] 6 1 xs tag p.before (omega arith) p.tagged).1 in
-    let behind = drop p.before xs in
-    let same : take n xs ++ ys ≡ take p.before xs ++ (take p.size behind ++ ys) =
-    two_fronts p.before p.size n xs ys p.total in
-    let left : drop p.before (take n xs ++ ys) ≡ take p.size behind ++ ys =
-    ap (drop p.before) same ∙ behind_front p.before xs (take p.size behind ++ ys) h in
+    let trailing = drop p.before xs in
+    let same : take n xs ++ ys ≡ take p.before xs ++ (take p.size trailing ++ ys) =
+    two_prefixes p.before p.size n xs ys p.total in
+    let left : drop p.before (take n xs ++ ys) ≡ take p.size trailing ++ ys =
+    ap (drop p.before) same ∙ after_prefix p.before xs (take p.size trailing ++ ys) h in
     record {
       before = p.before;
       tagged =
           subst (λ zs. ReadsHead 6 1 zs tag p.before) (sym same)
-          (head_alone 6 1 xs (take p.size behind ++ ys) tag p.before p.tagged);
+          (head_alone 6 1 xs (take p.size trailing ++ ys) tag p.before p.tagged);
       size = p.size;
       magnitude =
           subst (λ zs. ReadsMagnitude zs v p.size) (sym left)
-          (magnitude_alone behind ys v p.size p.magnitude);
+          (magnitude_alone trailing ys v p.size p.magnitude);
       total = p.total;
     }
 

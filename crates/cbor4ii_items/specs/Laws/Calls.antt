@@ -2,24 +2,25 @@
 use Rattle.std.proofs.Common.{◌≡◌, ℕ, ◌+◌, ◌≤◌, inl, inr, List, drop, Option, Some, None}
 use Rattle.std.proofs.Common.{Result, Ok, Err, IsTrue, false, refl, sym, ap, ◌∙◌, subst, arith}
 use Rattle.std.proofs.Common.{Bool, true, IfSome, IfErr}
-use Rattle.cbor4ii_rw.specs.View.{View, Told}
+use Rattle.cbor4ii_rw.specs.View.{View, IfKnown}
 use Rattle.cbor4ii_rw.specs.declared.error.DecodeError.{DecodeError}
 use Rattle.cbor4ii_rw.specs.declared.error.DecodeError.TheVariants.{OutOfMemory}
-use Rattle.cbor4ii_items.specs.Decoding.{CostFits, IsExact, NoneRead, Sound, Spelling, Decodes}
-use Rattle.cbor4ii_items.specs.Decoding.{DecodesIf, spelling_by, taking_memory}
+use Rattle.cbor4ii_items.specs.Decoding.{CostFits, IsExact, NoneRead, Sound, Format, Decodes}
+use Rattle.cbor4ii_items.specs.Decoding.{DecodesIf, format_by, taking_memory}
 use Rattle.cbor4ii_items.specs.Moves.{Kept, Moves}
 use Rattle.cbor4ii_items.specs.Reading.{Reading, Runs}
-use Rattle.cbor4ii_items.specs.Refusal.{Refusal, refusal_of, is_out_of_memory}
-use Rattle.cbor4ii_items.specs.Laws.Answering.{Found, exact_kept, if_some, refuses_as}
+use Rattle.cbor4ii_items.specs.InputError.{InputError, input_error_of, is_out_of_memory}
+use Rattle.cbor4ii_items.specs.Laws.Answering.{Found, exact_kept, if_some, complete_as}
 use Rattle.cbor4ii_items.specs.Laws.Steps.{moves_then, moves_err, kept_then}
 
 -- another relation says why, where the first one does
-pub stops_as : (o : Option Refusal) (left : Option (List ℕ)) (f g : Refusal → List ℕ → Type 0)
-    → ((z : Refusal) (ys : List ℕ) → f z ys → g z ys)
+pub rejects_as : (o : Option InputError) (left : Option (List ℕ))
+    (f g : InputError → List ℕ → Type 0)
+    → ((z : InputError) (ys : List ℕ) → f z ys → g z ys)
     → IfSome o (λ z. (ys : List ℕ) × (left ≡ Some ys) × f z ys)
     → IfSome o (λ z. (ys : List ℕ) × (left ≡ Some ys) × g z ys)
-stops_as None left f g means h = tt
-stops_as (Some z) left f g means h = (h.0, h.1, means z h.0 h.2)
+rejects_as None left f g means h = tt
+rejects_as (Some z) left f g means h = (h.0, h.1, means z h.0 h.2)
 
 -- ---- memory
 
@@ -38,21 +39,22 @@ any_memory (Err e) = λ out. refl
 
 -- ---- a value, and an error
 
--- how bytes are refused, over any reader: of an exact type, no reading that fits begins them
-pub record Refused {V : Type 0} (exact : Bool) (s : Spelling V) (xs : List ℕ) (budget : Option ℕ)
-    (z : Refusal) (ys : List ℕ) : Type 0 where
+-- how bytes are rejected, over any reader: of an exact type, no reading that fits begins them
+pub record Rejected {V : Type 0} (exact : Bool) (s : Format V) (xs : List ℕ) (budget : Option ℕ)
+    (z : InputError) (ys : List ℕ) : Type 0 where
   pub none : IsTrue exact → NoneRead s.reads xs budget
-  pub stops : s.stops xs budget z ys
+  pub rejects : s.rejects xs budget z ys
   pub begins : s.begins xs budget z ys
 
-none_of : {P : Type 0} (o : Option Refusal) (left : Option (List ℕ)) {f : Refusal → List ℕ → Type 0}
-    → ((z : Refusal) (ys : List ℕ) → f z ys → P)
+none_of : {P : Type 0} (o : Option InputError) (left : Option (List ℕ)) {f : InputError → List ℕ →
+    Type 0}
+    → ((z : InputError) (ys : List ℕ) → f z ys → P)
     → IfSome o (λ z. (ys : List ℕ) × (left ≡ Some ys) × f z ys) → IfSome o (λ z. P)
 none_of None left means h = tt
 none_of (Some z) left means h = means z h.0 h.2
 
 -- an exact type promises more
-pub of_exact : {V E : Type 0} {exact : Bool} {s : Spelling V} {a b : View}
+pub of_exact : {V E : Type 0} {exact : Bool} {s : Format V} {a b : View}
     {r : Result V (DecodeError E)} → Decodes s a b r → DecodesIf exact s a b r
 of_exact d = record {
   moves = d.moves;
@@ -60,11 +62,11 @@ of_exact d = record {
   memory = d.memory;
   sound = d.sound;
   complete = λ is. d.complete;
-  stops = λ is. d.stops;
+  rejects = λ is. d.rejects;
   begins = d.begins;
 }
 
-pub exactly : {V E : Type 0} {s : Spelling V} {a b : View} {r : Result V (DecodeError E)}
+pub exactly : {V E : Type 0} {s : Format V} {a b : View} {r : Result V (DecodeError E)}
     → DecodesIf true s a b r → Decodes s a b r
 exactly d = record {
   moves = d.moves;
@@ -72,12 +74,12 @@ exactly d = record {
   memory = d.memory;
   sound = d.sound;
   complete = d.complete refl;
-  stops = d.stops refl;
+  rejects = d.rejects refl;
   begins = d.begins;
 }
 
 -- and what is exact under one condition is so under a narrower one
-pub exact_less : {V E : Type 0} {x y : Bool} {s : Spelling V} {a b : View}
+pub exact_less : {V E : Type 0} {x y : Bool} {s : Format V} {a b : View}
     {r : Result V (DecodeError E)} → (IsTrue y → IsTrue x) → DecodesIf x s a b r
     → DecodesIf y s a b r
 exact_less less d = record {
@@ -86,12 +88,12 @@ exact_less less d = record {
   memory = d.memory;
   sound = d.sound;
   complete = λ is. d.complete (less is);
-  stops = λ is. d.stops (less is);
+  rejects = λ is. d.rejects (less is);
   begins = d.begins;
 }
 
 -- of what is accepted, every type says the same
-pub accepted : {V E : Type 0} {exact : Bool} {s : Spelling V} {a b : View} {v : V}
+pub accepted : {V E : Type 0} {exact : Bool} {s : Format V} {a b : View} {v : V}
     → DecodesIf {E = E} exact s a b (Ok v) → Decodes {E = E} s a b (Ok v)
 accepted d = record {
   moves = d.moves;
@@ -99,11 +101,11 @@ accepted d = record {
   memory = d.memory;
   sound = d.sound;
   complete = λ sure. tt;
-  stops = λ sure. tt;
+  rejects = λ sure. tt;
   begins = tt;
 }
 
-module _ {V E : Type 0} (s : Spelling V) {a b : View} where
+module _ {V E : Type 0} (s : Format V) {a b : View} where
   pub ok : {v : V} → Kept a b → (IsTrue s.never_empty → b.bound + 1 ≤ a.bound) → Sound s.reads a b v
       → Decodes {E = E} s a b (Ok v)
   ok kept progress sound = record {
@@ -112,15 +114,15 @@ module _ {V E : Type 0} (s : Spelling V) {a b : View} where
     memory = tt;
     sound = sound;
     complete = λ sure. tt;
-    stops = λ sure. tt;
+    rejects = λ sure. tt;
     begins = tt;
   }
 
   -- an error of which all is known over any reader
   pub err_if : {exact : Bool} {e : DecodeError E} → Moves {V = V} a b (Err e)
       → (IsTrue (is_out_of_memory e) → IsTrue s.takes_memory)
-      → Told a.told (λ xs. IfSome (refusal_of e)
-      (λ z. (ys : List ℕ) × (b.told ≡ Some ys) × Refused exact s xs a.budget z ys))
+      → IfKnown a.known (λ xs. IfSome (input_error_of e)
+      (λ z. (ys : List ℕ) × (b.known ≡ Some ys) × Rejected exact s xs a.budget z ys))
       → DecodesIf exact s a b (Err e)
   err_if {exact = exact} {e = e} moves memory says = record {
     moves = moves;
@@ -128,100 +130,104 @@ module _ {V E : Type 0} (s : Spelling V) {a b : View} where
     memory = memory;
     sound = tt;
     complete = λ is sure. record {
-      at = λ xs told. none_of (refusal_of e) b.told {f = Refused exact s xs a.budget}
-          (λ z ys r. r.none is) (says xs told);
+      at = λ xs known. none_of (input_error_of e) b.known {f = Rejected exact s xs a.budget}
+          (λ z ys r. r.none is) (says xs known);
     };
-    stops = λ is sure. record {
-      at = λ xs told. stops_as (refusal_of e) b.told (Refused exact s xs a.budget)
-          (s.stops xs a.budget) (λ z ys r. r.stops) (says xs told);
+    rejects = λ is sure. record {
+      at = λ xs known. rejects_as (input_error_of e) b.known (Rejected exact s xs a.budget)
+          (s.rejects xs a.budget) (λ z ys r. r.rejects) (says xs known);
     };
     begins = record {
-      at = λ xs told. stops_as (refusal_of e) b.told (Refused exact s xs a.budget)
-          (s.begins xs a.budget) (λ z ys r. r.begins) (says xs told);
+      at = λ xs known. rejects_as (input_error_of e) b.known (Rejected exact s xs a.budget)
+          (s.begins xs a.budget) (λ z ys r. r.begins) (says xs known);
     };
   }
 
   pub err : {e : DecodeError E} → Moves {V = V} a b (Err e)
       → (IsTrue (is_out_of_memory e) → IsTrue s.takes_memory)
-      → Told a.told (λ xs. IfSome (refusal_of e)
-      (λ z. (ys : List ℕ) × (b.told ≡ Some ys) × Refused true s xs a.budget z ys))
+      → IfKnown a.known (λ xs. IfSome (input_error_of e)
+      (λ z. (ys : List ℕ) × (b.known ≡ Some ys) × Rejected true s xs a.budget z ys))
       → Decodes s a b (Err e)
   err moves memory says = exactly (err_if moves memory says)
 
   pub out_of_memory : IsTrue s.takes_memory → Kept a b → Decodes {E = E} s a b (Err OutOfMemory)
   out_of_memory takes kept =
-      err (record { by = kept; depth = λ none. refl }) (λ out. takes) (λ xs told. tt)
+      err (record { by = kept; depth = λ none. refl }) (λ out. takes) (λ xs known. tt)
 
   -- an error of a program
   pub err_of : {U : Type 0} {exact : Bool} {program : Reading U} {e : DecodeError E}
       → Runs {V = U} program a b (Err e) → is_out_of_memory e ≡ false
-      → ((xs : List ℕ) (z : Refusal) (ys : List ℕ) → program xs ≡ Err (z, ys)
-      → Refused exact s xs a.budget z ys) → DecodesIf exact s a b (Err e)
+      → ((xs : List ℕ) (z : InputError) (ys : List ℕ) → program xs ≡ Err (z, ys)
+      → Rejected exact s xs a.budget z ys) → DecodesIf exact s a b (Err e)
   err_of {exact = exact} {program = program} {e = e} p memory says =
       err_if (moves_err p.moves) (λ out. absurd (let f = sym memory ∙ out in cc))
-      (λ xs told. stops_as (refusal_of e) b.told (λ z ys. program xs ≡ Err (z, ys))
-      (Refused exact s xs a.budget) (says xs) (p.answers xs told))
+      (λ xs known. rejects_as (input_error_of e) b.known (λ z ys. program xs ≡ Err (z, ys))
+      (Rejected exact s xs a.budget) (says xs) (p.answers xs known))
 
--- ---- a part behind what was read
+-- ---- a part after what was read
 
--- a refusal of the part at ys is one of the whole at xs
-pub record Behind {U V : Type 0} (exact : Bool) (part : Spelling U) (whole : Spelling V)
+-- an error of the part at ys is one of the whole at xs
+pub record After {U V : Type 0} (exact : Bool) (part : Format U) (whole : Format V)
     (xs ys : List ℕ) (budget : Option ℕ) : Type 0 where
   pub none : IsTrue exact → NoneRead part.reads ys budget → NoneRead whole.reads xs budget
-  pub stops : (z : Refusal) (zs : List ℕ) → part.stops ys budget z zs → whole.stops xs budget z zs
-  pub begins : (z : Refusal) (zs : List ℕ) → part.begins ys budget z zs
+  pub rejects : (z : InputError) (zs : List ℕ) → part.rejects ys budget z zs → whole.rejects xs
+      budget z zs
+  pub begins : (z : InputError) (zs : List ℕ) → part.begins ys budget z zs
       → whole.begins xs budget z zs
 
 exact_as : (o p : Bool) (v : View) → (IsTrue o → IsTrue p) → IsExact o v → IsExact p v
 exact_as o p v f (inl e) = inl (f e)
 exact_as o p v f (inr e) = inr e
 
-module _ {U V E : Type 0} (part : Spelling U) (whole : Spelling V) {a m b : View} where
-  pub err_behind : {exact : Bool} {e : DecodeError E} → Kept a m
-      → Told a.told (λ xs. (ys : List ℕ) × (m.told ≡ Some ys)
-      × Behind exact part whole xs ys a.budget)
+module _ {U V E : Type 0} (part : Format U) (whole : Format V) {a m b : View} where
+  pub err_after : {exact : Bool} {e : DecodeError E} → Kept a m
+      → IfKnown a.known (λ xs. (ys : List ℕ) × (m.known ≡ Some ys)
+      × After exact part whole xs ys a.budget)
       → (IsTrue whole.owned → IsTrue part.owned)
       → (IsTrue part.takes_memory → IsTrue whole.takes_memory)
       → DecodesIf exact part m b (Err e) → DecodesIf exact whole a b (Err e)
-  err_behind {e = e} kept at owned memory d = record {
+  err_after {e = e} kept at owned memory d = record {
     moves = moves_then kept (moves_err d.moves);
     progress = λ some. tt;
     memory = λ out. memory (d.memory out);
     sound = tt;
     complete = λ is sure. record {
-      at = λ xs told.
-          let h = at xs told in
-          if_some (refusal_of e) (h.2.none is)
-          (subst (λ k. IfSome (refusal_of e) (λ z. NoneRead part.reads h.0 k)) kept.budget
-          ((d.complete is (exact_kept part.owned a m xs told kept
+      at = λ xs known.
+          let h = at xs known in
+          if_some (input_error_of e) (h.2.none is)
+          (subst (λ k. IfSome (input_error_of e) (λ z. NoneRead part.reads h.0 k)) kept.budget
+          ((d.complete is (exact_kept part.owned a m xs known kept
           (exact_as whole.owned part.owned a owned sure))).at h.0 h.1));
     };
-    stops = λ is sure. record {
-      at = λ xs told.
-          let h = at xs told in
-          stops_as (refusal_of e) b.told (part.stops h.0 m.budget) (whole.stops xs a.budget)
-          (λ z zs s. h.2.stops z zs (subst (λ k. part.stops h.0 k z zs) kept.budget s))
-          ((d.stops is (exact_kept part.owned a m xs told kept
+    rejects = λ is sure. record {
+      at = λ xs known.
+          let h = at xs known in
+          rejects_as (input_error_of e) b.known (part.rejects h.0 m.budget)
+          (whole.rejects xs a.budget)
+          (λ z zs s. h.2.rejects z zs (subst (λ k. part.rejects h.0 k z zs) kept.budget s))
+          ((d.rejects is (exact_kept part.owned a m xs known kept
           (exact_as whole.owned part.owned a owned sure))).at h.0 h.1);
     };
     begins = record {
-      at = λ xs told.
-          let h = at xs told in
-          stops_as (refusal_of e) b.told (part.begins h.0 m.budget) (whole.begins xs a.budget)
+      at = λ xs known.
+          let h = at xs known in
+          rejects_as (input_error_of e) b.known (part.begins h.0 m.budget)
+          (whole.begins xs a.budget)
           (λ z zs s. h.2.begins z zs (subst (λ k. part.begins h.0 k z zs) kept.budget s))
           (d.begins.at h.0 h.1);
     };
   }
 
   -- what was read of the part is a reading of the whole
-  pub ok_behind : {u : U} {v : V} → Kept a m
-      → Told a.told (λ xs. (ys : List ℕ) × (m.told ≡ Some ys) × ((n c : ℕ) → part.reads ys u n c
+  pub ok_after : {u : U} {v : V} → Kept a m
+      → IfKnown a.known (λ xs. (ys : List ℕ) × (m.known ≡ Some ys) ×
+      ((n c : ℕ) → part.reads ys u n c
       → CostFits c a.budget → Found whole.reads a.budget xs v (drop n ys)))
       → (IsTrue whole.never_empty → b.bound + 1 ≤ a.bound)
       → Decodes {E = E} part m b (Ok u) → Decodes {E = E} whole a b (Ok v)
-  ok_behind kept at progress d = ok whole (kept_then kept d.moves.by) progress (record {
-    at = λ xs told.
-        let h = at xs told in
+  ok_after kept at progress d = ok whole (kept_then kept d.moves.by) progress (record {
+    at = λ xs known.
+        let h = at xs known in
         let t = d.sound.at h.0 h.1 in
         let r = h.2 t.count t.cost t.read (subst (CostFits t.cost) kept.budget t.fits) in
         record {
@@ -233,34 +239,34 @@ module _ {U V E : Type 0} (part : Spelling U) (whole : Spelling V) {a m b : View
         };
   })
 
--- what stands before the part was taken, and the whole is then read and refused as the part is
-pub record Leads {V : Type 0} (exact : Bool) (part whole : Spelling V) (a m : View) : Type 0 where
+-- what stands before the part was taken, and the whole is then read and rejected as the part is
+pub record Leads {V : Type 0} (exact : Bool) (part whole : Format V) (a m : View) : Type 0 where
   pub kept : Kept a m
   pub progress : IsTrue whole.never_empty → m.bound + 1 ≤ a.bound
   pub owned : IsTrue whole.owned → IsTrue part.owned
   pub memory : IsTrue part.takes_memory → IsTrue whole.takes_memory
-  pub at : Told a.told (λ xs. (ys : List ℕ) × (m.told ≡ Some ys)
+  pub at : IfKnown a.known (λ xs. (ys : List ℕ) × (m.known ≡ Some ys)
       × ((v : V) (n c : ℕ) → part.reads ys v n c → CostFits c a.budget
       → Found whole.reads a.budget xs v (drop n ys))
-      × Behind exact part whole xs ys a.budget)
+      × After exact part whole xs ys a.budget)
 
-pub behind : {V E : Type 0} {exact : Bool} (part whole : Spelling V) {a m b : View}
+pub trailing : {V E : Type 0} {exact : Bool} (part whole : Format V) {a m b : View}
     (r : Result V (DecodeError E)) → Leads exact part whole a m → DecodesIf exact part m b r
     → DecodesIf exact whole a b r
-behind part whole {b = b} (Ok v) l d =
-    of_exact (ok_behind part whole l.kept (λ xs told. let h = l.at xs told in (h.0, h.1, h.2 v))
+trailing part whole {b = b} (Ok v) l d =
+    of_exact (ok_after part whole l.kept (λ xs known. let h = l.at xs known in (h.0, h.1, h.2 v))
     (λ some. omega (arith, l.progress some, d.moves.by.bound)) (accepted d))
-behind part whole {b = b} (Err e) l d =
-    err_behind part whole l.kept
-    (λ xs told. let h = l.at xs told in (h.0, h.1, h.3)) l.owned l.memory d
+trailing part whole {b = b} (Err e) l d =
+    err_after part whole l.kept
+    (λ xs known. let h = l.at xs known in (h.0, h.1, h.3)) l.owned l.memory d
 
 -- ---- one type as another
 
-module _ {U V E : Type 0} (part : V → U) (s : Spelling U) {a b : View} where
+module _ {U V E : Type 0} (part : V → U) (s : Format U) {a b : View} where
   pub by_ok : {v : V} {u : U} → part v ≡ u → Decodes {E = E} s a b (Ok u)
-      → Decodes {E = E} (spelling_by part s) a b (Ok v)
-  by_ok {v = v} same d = ok (spelling_by part s) d.moves.by d.progress (record {
-    at = λ xs told. let t = d.sound.at xs told in record {
+      → Decodes {E = E} (format_by part s) a b (Ok v)
+  by_ok {v = v} same d = ok (format_by part s) d.moves.by d.progress (record {
+    at = λ xs known. let t = d.sound.at xs known in record {
       count = t.count;
       cost = t.cost;
       read = subst (λ u. s.reads xs u t.count t.cost) (sym same) t.read;
@@ -270,23 +276,23 @@ module _ {U V E : Type 0} (part : V → U) (s : Spelling U) {a b : View} where
   })
 
   pub by_err_if : {exact : Bool} {e : DecodeError E} → DecodesIf exact s a b (Err e)
-      → DecodesIf exact (spelling_by part s) a b (Err e)
+      → DecodesIf exact (format_by part s) a b (Err e)
   by_err_if d = record {
     moves = moves_err d.moves;
     progress = λ some. tt;
     memory = d.memory;
     sound = tt;
-    complete = λ is sure. refuses_as s.reads (spelling_by part s).reads
+    complete = λ is sure. complete_as s.reads (format_by part s).reads
         (λ xs budget none v. none (part v)) (d.complete is sure);
-    stops = d.stops;
+    rejects = d.rejects;
     begins = d.begins;
   }
 
   pub by_err : {e : DecodeError E} → Decodes s a b (Err e)
-      → Decodes (spelling_by part s) a b (Err e)
+      → Decodes (format_by part s) a b (Err e)
   by_err d = exactly (by_err_if (of_exact d))
 
-pub in_memory : {V E : Type 0} (s : Spelling V) {a b : View} (r : Result V (DecodeError E))
+pub in_memory : {V E : Type 0} (s : Format V) {a b : View} (r : Result V (DecodeError E))
     → Decodes s a b r → Decodes (taking_memory s) a b r
 in_memory s (Ok v) d = ok (taking_memory s) d.moves.by d.progress d.sound
 in_memory s (Err e) d = record {
@@ -295,6 +301,6 @@ in_memory s (Err e) d = record {
   memory = λ out. refl;
   sound = tt;
   complete = d.complete;
-  stops = d.stops;
+  rejects = d.rejects;
   begins = d.begins;
 }

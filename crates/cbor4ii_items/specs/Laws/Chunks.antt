@@ -1,18 +1,18 @@
 -- Chunks up to a break, one by one.
 use Rattle.std.proofs.Common.{◌≡◌, ℕ, zero, suc, ◌<◌, List, length, Option, Result, Ok, Err, Bool}
 use Rattle.std.proofs.Common.{true, false, refl, ap, arith, if◌then◌else◌}
-use Rattle.cbor4ii_items.specs.Refusal.{Refusal}
+use Rattle.cbor4ii_items.specs.InputError.{InputError}
 use Rattle.cbor4ii_items.specs.Reading.{Reading, give, go_on, ◌>=>◌}
 use Rattle.cbor4ii_items.specs.ReadStrings.{break_at, chunk_at, chunks_on, chunks_at}
 use Rattle.cbor4ii_items.specs.Laws.ProgramEnds.{break_no, chunk_passed}
 
 -- where two programs go on alike, they are alike
-same_after : {U V : Type 0} (p q : U → Reading V) (r : Result (U × List ℕ) (Refusal × List ℕ))
+same_after : {U V : Type 0} (p q : U → Reading V) (r : Result (U × List ℕ) (InputError × List ℕ))
     → ((u : U) (ys : List ℕ) → r ≡ Ok (u, ys) → p u ys ≡ q u ys) → go_on r p ≡ go_on r q
 same_after p q (Ok w) h = h w.0 w.1 refl
 same_after p q (Err z) h = refl
 
--- the content, or another chunk and what is behind it
+-- the content, or another chunk and what follows it
 abbrev pub chunks_by : List ℕ → ℕ → Option ℕ → List ℕ → (List ℕ → Reading (List ℕ)) → Bool
     → Reading (List ℕ)
 chunks_by name major budget content next ended =

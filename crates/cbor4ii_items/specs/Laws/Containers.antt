@@ -4,16 +4,16 @@ use Rattle.std.proofs.Common.{take, Option, Some, None, Bool, true, false, IsTru
 use Rattle.std.proofs.Common.{◌∙◌, subst, arith, ◌≢◌}
 use Rattle.std.specs.Prelude.{◌&&◌}
 use Rattle.std.proofs.lemmas.List.{length-drop}
-use Rattle.cbor4ii_items.specs.Containers.{BeginsNull, ReadsOption, SameOption, StopsOption}
-use Rattle.cbor4ii_items.specs.Containers.{ReadsTag, StopsTag}
+use Rattle.cbor4ii_items.specs.Containers.{BeginsNull, ReadsOption, SameOption, RejectsOption}
+use Rattle.cbor4ii_items.specs.Containers.{ReadsTag, RejectsTag}
 use Rattle.cbor4ii_items.specs.declared.types.Tag.{Tag}
-use Rattle.cbor4ii_items.specs.Decoding.{Spelling, IsLawful, spelling_by, taking_memory}
-use Rattle.cbor4ii_items.specs.Laws.Spellings.{lawful_by, lawful_in_memory}
+use Rattle.cbor4ii_items.specs.Decoding.{Format, IsLawful, format_by, taking_memory}
+use Rattle.cbor4ii_items.specs.Laws.Formats.{lawful_by, lawful_in_memory}
 use Rattle.std.specs.declared.alloc.Global.{Global}
 use Rattle.std.specs.Prelude.{Box}
 use Rattle.cbor4ii_items.specs.Heads.{ReadsHead}
 use Rattle.cbor4ii_items.specs.Laws.Heads.{head_one, head_read, head_alone}
-use Rattle.cbor4ii_items.specs.Laws.Fronts.{two_fronts, behind_front}
+use Rattle.cbor4ii_items.specs.Laws.Prefixes.{two_prefixes, after_prefix}
 use Rattle.cbor4ii_items.specs.Decoding.{Reads, NoneRead, CostFits}
 
 -- ---- an item or none
@@ -62,7 +62,7 @@ both true true e = (refl, refl)
 both true false e = cc
 both false b e = cc
 
--- a front with at least one byte has the first byte
+-- a prefix with at least one byte has the first byte
 pub first_kept : (n : ℕ) (xs ys : List ℕ) → 1 ≤ n → n ≤ length xs
     → take 1 (take n xs ++ ys) ≡ take 1 xs
 first_kept zero xs ys some within = absurd (omega arith)
@@ -133,34 +133,35 @@ module _ {V : Type 0} (reads : Reads V) where
       → ReadsTag reads (take n xs ++ ys) i v n c
   tag_alone closed alone e xs ys i v n c p =
       let h = (head_read [] 6 8 xs i p.before (omega arith) p.head).1 in
-      let behind = drop p.before xs in
-      let same : take n xs ++ ys ≡ take p.before xs ++ (take p.count behind ++ ys) =
-      two_fronts p.before p.count n xs ys p.bytes in
-      let left : drop p.before (take n xs ++ ys) ≡ take p.count behind ++ ys =
-      ap (drop p.before) same ∙ behind_front p.before xs (take p.count behind ++ ys) h in
+      let trailing = drop p.before xs in
+      let same : take n xs ++ ys ≡ take p.before xs ++ (take p.count trailing ++ ys) =
+      two_prefixes p.before p.count n xs ys p.bytes in
+      let left : drop p.before (take n xs ++ ys) ≡ take p.count trailing ++ ys =
+      ap (drop p.before) same ∙ after_prefix p.before xs (take p.count trailing ++ ys) h in
       record {
         before = p.before;
         head =
             subst (λ zs. ReadsHead 6 8 zs i p.before) (sym same)
-            (head_alone 6 8 xs (take p.count behind ++ ys) i p.before p.head);
+            (head_alone 6 8 xs (take p.count trailing ++ ys) i p.before p.head);
         count = p.count;
-        item = subst (λ zs. reads zs v p.count c) (sym left) (alone e behind ys v p.count c p.item);
+        item = subst (λ zs. reads zs v p.count c) (sym left)
+            (alone e trailing ys v p.count c p.item);
         bytes = p.bytes;
       }
 
-abbrev pub option_spelling : {V : Type 0} → Spelling V → Spelling (Option V)
-option_spelling s = record {
+abbrev pub option_format : {V : Type 0} → Format V → Format (Option V)
+option_format s = record {
   reads = ReadsOption s.reads;
   same = SameOption s.same;
-  stops = StopsOption s.stops;
-  begins = StopsOption s.begins;
+  rejects = RejectsOption s.rejects;
+  begins = RejectsOption s.begins;
   never_empty = s.never_empty;
   owned = s.owned;
   takes_memory = s.takes_memory;
   closed = s.closed && s.never_empty;
 }
 
-pub option_lawful : {V : Type 0} (s : Spelling V) → IsLawful s → IsLawful (option_spelling s)
+pub option_lawful : {V : Type 0} (s : Format V) → IsLawful s → IsLawful (option_format s)
 option_lawful s h = record {
   one = option_one s.reads s.same h.one;
   within = option_within s.reads h.within;
@@ -168,19 +169,19 @@ option_lawful s h = record {
   alone = option_alone s.reads s.closed s.never_empty h.within h.positive h.alone;
 }
 
-abbrev pub tag_spelling : {V : Type 0} → Spelling V → Spelling (Tag V)
-tag_spelling s = record {
+abbrev pub tag_format : {V : Type 0} → Format V → Format (Tag V)
+tag_format s = record {
   reads = λ xs v. ReadsTag s.reads xs v.0 v.1;
   same = λ v w. (v.0 ≡ w.0) × s.same v.1 w.1;
-  stops = StopsTag s.stops;
-  begins = StopsTag s.begins;
+  rejects = RejectsTag s.rejects;
+  begins = RejectsTag s.begins;
   never_empty = true;
   owned = s.owned;
   takes_memory = s.takes_memory;
   closed = s.closed;
 }
 
-pub tag_lawful : {V : Type 0} (s : Spelling V) → IsLawful s → IsLawful (tag_spelling s)
+pub tag_lawful : {V : Type 0} (s : Format V) → IsLawful s → IsLawful (tag_format s)
 tag_lawful s h = record {
   one = λ xs v w. tag_one s.reads s.same h.one xs v.0 v.1 w.0 w.1;
   within = λ xs v. tag_within s.reads h.within xs v.0 v.1;
@@ -190,8 +191,8 @@ tag_lawful s h = record {
 
 -- ---- an item in a box
 
-abbrev pub boxed_spelling : {V : Type 0} → Spelling V → Spelling (Box V Global)
-boxed_spelling s = spelling_by (λ b. b.value) (taking_memory s)
+abbrev pub boxed_format : {V : Type 0} → Format V → Format (Box V Global)
+boxed_format s = format_by (λ b. b.value) (taking_memory s)
 
-pub boxed_lawful : {V : Type 0} (s : Spelling V) → IsLawful s → IsLawful (boxed_spelling s)
+pub boxed_lawful : {V : Type 0} (s : Format V) → IsLawful s → IsLawful (boxed_format s)
 boxed_lawful s h = lawful_by (λ b. b.value) (taking_memory s) (lawful_in_memory s h)

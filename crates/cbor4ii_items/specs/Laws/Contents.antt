@@ -1,4 +1,4 @@
--- Content of a known length, front by front.
+-- Content of definite length, prefix by prefix.
 use Rattle.std.proofs.Common.{◌≡◌, ℕ, zero, suc, ◌+◌, ◌-◌, ◌<◌, ◌≤◌, List, [], ◌∷◌, ◌++◌, length}
 use Rattle.std.proofs.Common.{get_or, take, drop, Option, Some, Ok, Err, Bool, true, false, refl}
 use Rattle.std.proofs.Common.{sym, ap, ap₂, ◌∙◌, subst, arith, ltb, ltb-true, ltb-false}
@@ -9,19 +9,19 @@ use Rattle.cbor4ii_rw.specs.View.{View}
 use Rattle.cbor4ii_items.specs.Lent.{Lends, IsOfInput}
 use denote.Ref.{Bor}
 use Rattle.std.specs.Prelude.{MatchOption}
-use Rattle.cbor4ii_rw.specs.Reference.{bytes_of, IsPart}
+use Rattle.cbor4ii_rw.specs.Reference.{bytes_of, IsSubslice}
 use Rattle.cbor4ii_rw.specs.declared.read.Reference.{Reference}
 use Rattle.cbor4ii_rw.specs.declared.read.Reference.TheVariants.{Long}
-use Rattle.cbor4ii_rw.specs.Reader.{Shows, Breaks, Advances, IsFront, counts}
-use Rattle.cbor4ii_rw.specs.View.{Told, place_of}
+use Rattle.cbor4ii_rw.specs.Reader.{Shows, ReaderFails, Advances, IsPrefix, counts}
+use Rattle.cbor4ii_rw.specs.View.{IfKnown, place_of}
 use Rattle.cbor4ii_items.specs.Head.{IsBytes}
 use Rattle.cbor4ii_items.specs.Moves.{Took}
-use Rattle.cbor4ii_items.specs.Refusal.{eof, len_of}
+use Rattle.cbor4ii_items.specs.InputError.{eof, len_of}
 use Rattle.cbor4ii_items.specs.Reading.{Reading, Reaches, Runs}
 use Rattle.cbor4ii_items.specs.Contents.{TakesOnto}
 use Rattle.cbor4ii_items.specs.ReadStrings.{content_on}
-use Rattle.cbor4ii_items.specs.Laws.CountedContent.{content_short, content_whole}
-use Rattle.cbor4ii_items.specs.Laws.Fronts.{drop_more}
+use Rattle.cbor4ii_items.specs.Laws.DefiniteContent.{content_short, content_whole}
+use Rattle.cbor4ii_items.specs.Laws.Prefixes.{drop_more}
 use Rattle.cbor4ii_items.specs.Laws.Steps.{kept_then}
 
 two_parts : (i count : ℕ) (before xs : List ℕ) → i ≤ count
@@ -51,7 +51,7 @@ more_by false name count i before xs h k e =
     ∙ sym (content_whole name (count - i) (before ++ take i xs) (drop i xs)
     (omega (arith, long, h, length-drop i xs))))
 
--- a front of the content was taken
+-- a prefix of the content was taken
 pub content_more : (name : List ℕ) (count i : ℕ) (before xs : List ℕ) → i ≤ count → i ≤ length xs
     → content_on name count before xs ≡ content_on name (count - i) (before ++ take i xs)
     (drop i xs)
@@ -70,8 +70,8 @@ pub reaches_content : {f : Reading (List ℕ)} (name : List ℕ) {missing n : �
     → Reaches f (content_on name (missing - n) after) a b
 reaches_content name {missing = missing} {n = n} {before = before} {after = after} p t = record {
   kept = kept_then p.kept t.kept;
-  leads = λ xs told.
-      let s = p.leads xs told in
+  leads = λ xs known.
+      let s = p.leads xs known in
       let u = t.at s.0 s.1 in (
         drop n s.0,
         u.1,
@@ -85,15 +85,15 @@ pub content_ends : {E : Type 0} {f : Reading (List ℕ)} (name : List ℕ) {miss
     → Runs {E = E} f a b (Ok content)
 content_ends name {missing = missing} {content = content} none p = record {
   moves = record { by = p.kept; depth = λ e. refl };
-  answers = λ xs told.
-      let s = p.leads xs told in (
+  answers = λ xs known.
+      let s = p.leads xs known in (
         s.0,
         s.1,
         s.2 ∙ (ap (λ j. content_on name j content s.0) none ∙ content_none name content s.0),
       );
 }
 
--- ---- a front that was shown and taken
+-- ---- a prefix that was shown and taken
 
 pub IsBytes-from : (bs : List ℕ) → ((i d : ℕ) → i < length bs → get_or bs i d < 256) → IsBytes bs
 IsBytes-from [] f = tt
@@ -110,109 +110,112 @@ take_take (suc n) zero xs h = absurd (omega arith)
 take_take (suc n) (suc m) [] h = refl
 take_take (suc n) (suc m) (x ∷ xs) h = ap (λ zs. x ∷ zs) (take_take n m xs (omega arith))
 
-front_is : (want n : ℕ) (shown xs : List ℕ) → IsFront want shown xs → n ≤ length shown
+prefix_is : (want n : ℕ) (shown xs : List ℕ) → IsPrefix want shown xs → n ≤ length shown
     → take n shown ≡ take n xs
-front_is want n shown xs front h =
+prefix_is want n shown xs prefix h =
     let cut : take n (take (length shown) xs) ≡ take n xs = take_take n (length shown) xs h in
-    ap (take n) (sym front.begins) ∙ cut
+    ap (take n) (sym prefix.begins) ∙ cut
 
-took_front : (want n : ℕ) (shown xs : List ℕ) (new : Option (List ℕ)) → IsFront want shown xs
+took_prefix : (want n : ℕ) (shown xs : List ℕ) (new : Option (List ℕ)) → IsPrefix want shown xs
     → n ≤ length shown → IsBytes (take n shown) → new ≡ Some (drop n xs) → Took xs new n
-took_front want n shown xs new front h bytes left = record {
+took_prefix want n shown xs new prefix h bytes left = record {
   left = left;
-  within = omega (arith, h, front.within);
-  bytes = subst IsBytes (front_is want n shown xs front h) bytes;
+  within = omega (arith, h, prefix.within);
+  bytes = subst IsBytes (prefix_is want n shown xs prefix h) bytes;
 }
 
-counts_front : (n : ℕ) (xs ys : List ℕ) (a m b : View) → n ≤ length xs → ys ≡ drop n xs
+counts_prefix : (n : ℕ) (xs ys : List ℕ) (a m b : View) → n ≤ length xs → ys ≡ drop n xs
     → m.taken ≡ a.taken → b.taken ≡ counts n m.taken → (k : ℕ) → k + length ys ≡ length xs
     → b.taken ≡ counts k a.taken
-counts_front n xs ys a m b h e first second k gone =
+counts_prefix n xs ys a m b h e first second k gone =
     let same : n ≡ k = omega (arith, h, gone, ap length e, length-drop n xs) in
     second ∙ ap₂ counts same first
 
-pub takes_front : {missing n : ℕ} {shown before after : List ℕ} {a m b : View} → Shows shown a m
-    → Told a.told (IsFront missing shown) → 1 ≤ n → n ≤ missing → n ≤ length shown → IsBytes after
+pub takes_prefix : {missing n : ℕ} {shown before after : List ℕ} {a m b : View} → Shows shown a m
+    → IfKnown a.known (IsPrefix missing shown) → 1 ≤ n → n ≤ missing → n ≤ length shown →
+    IsBytes after
     → after ≡ before ++ take n shown → Advances n m b
     → TakesOnto missing n before after a b
-takes_front {missing = missing} {n = n} {shown = shown} {before = before} {after = after} {a = a}
-    {m = m} {b = b} s front some most within bytes is adv =
+takes_prefix {missing = missing} {n = n} {shown = shown} {before = before} {after = after} {a = a}
+    {m = m} {b = b} s prefix some most within bytes is adv =
     let fresh : IsBytes (take n shown) =
     IsBytes-append before (take n shown) (subst IsBytes is bytes) in
     record {
       kept = record {
-        rest = λ xs told. (
+        rest = λ xs known. (
           n,
-          took_front missing n shown xs b.told (front xs told) within fresh
-              (adv.told xs (s.told xs told)),
+          took_prefix missing n shown xs b.known (prefix xs known) within fresh
+              (adv.known xs (s.known xs known)),
         );
-        counted = λ xs told ys left k gone.
-            let e : ys ≡ drop n xs = let d = adv.told xs (s.told xs told) in cc in
-            counts_front n xs ys a m b (omega (arith, within, (front xs told).within)) e s.taken
+        counted = λ xs known ys left k gone.
+            let e : ys ≡ drop n xs = let d = adv.known xs (s.known xs known) in cc in
+            counts_prefix n xs ys a m b (omega (arith, within, (prefix xs known).within)) e s.taken
             adv.taken k gone;
         bound = omega (arith, s.bound, adv.bound);
         budget = adv.budget ∙ s.budget;
         failures = adv.failures ∙ s.failures;
-        lends_whole = λ h. adv.lends_whole (s.lends_whole h);
+        zero_copy = λ h. adv.zero_copy (s.zero_copy h);
         remembers = λ h. adv.remembers (s.remembers h);
         ends_at = adv.ends_at ∙ s.ends_at;
       };
       some = some;
       most = most;
-      at = λ xs told. (
-        omega (arith, within, (front xs told).within),
-        adv.told xs (s.told xs told),
-        is ∙ ap (λ z. before ++ z) (front_is missing n shown xs (front xs told) within),
+      at = λ xs known. (
+        omega (arith, within, (prefix xs known).within),
+        adv.known xs (s.known xs known),
+        is ∙ ap (λ z. before ++ z) (prefix_is missing n shown xs (prefix xs known) within),
       );
     }
 
--- ---- a front that was lent and taken
+-- ---- a prefix that was lent and taken
 
-pub front_shown : (a b : View) (answer : Option Reference) (lent : Reference) (shown : Bor (List ℕ))
+pub prefix_shown : (a b : View) (answer : Option Reference) (lent : Reference)
+    (shown : Bor (List ℕ))
     → answer ≡ Some lent → lent ≡ Long shown
-    → MatchOption answer (Breaks a b) (λ s. Shows (bytes_of s) a b) → Shows shown.now a b
-front_shown a b answer lent shown e f h =
+    → MatchOption answer (ReaderFails a b) (λ s. Shows (bytes_of s) a b) → Shows shown.now a b
+prefix_shown a b answer lent shown e f h =
     subst (λ (s : Reference). Shows (bytes_of s) a b) f
-    (subst (λ o. MatchOption o (Breaks a b) (λ s. Shows (bytes_of s) a b)) e h)
+    (subst (λ o. MatchOption o (ReaderFails a b) (λ s. Shows (bytes_of s) a b)) e h)
 
-pub lends_front : {want n : ℕ} {shown content : List ℕ} {a m b : View} → Shows shown a m
-    → Told a.told (IsFront want shown) → n ≤ length shown → IsBytes (take n shown)
+pub lends_prefix : {want n : ℕ} {shown content : List ℕ} {a m b : View} → Shows shown a m
+    → IfKnown a.known (IsPrefix want shown) → n ≤ length shown → IsBytes (take n shown)
     → content ≡ take n shown → Advances n m b → Lends n content a b
-lends_front {want = want} {n = n} {shown = shown} {a = a} {m = m}
-    {b = b} s front within fresh is adv = record {
+lends_prefix {want = want} {n = n} {shown = shown} {a = a} {m = m}
+    {b = b} s prefix within fresh is adv = record {
       kept = record {
-        rest = λ xs told. (
+        rest = λ xs known. (
           n,
-          took_front want n shown xs b.told (front xs told) within fresh
-              (adv.told xs (s.told xs told)),
+          took_prefix want n shown xs b.known (prefix xs known) within fresh
+              (adv.known xs (s.known xs known)),
         );
-        counted = λ xs told ys left k gone.
-            let e : ys ≡ drop n xs = let d = adv.told xs (s.told xs told) in cc in
-            counts_front n xs ys a m b (omega (arith, within, (front xs told).within)) e s.taken
+        counted = λ xs known ys left k gone.
+            let e : ys ≡ drop n xs = let d = adv.known xs (s.known xs known) in cc in
+            counts_prefix n xs ys a m b (omega (arith, within, (prefix xs known).within)) e s.taken
             adv.taken k gone;
         bound = omega (arith, s.bound, adv.bound);
         budget = adv.budget ∙ s.budget;
         failures = adv.failures ∙ s.failures;
-        lends_whole = λ h. adv.lends_whole (s.lends_whole h);
+        zero_copy = λ h. adv.zero_copy (s.zero_copy h);
         remembers = λ h. adv.remembers (s.remembers h);
         ends_at = adv.ends_at ∙ s.ends_at;
       };
-      at = λ xs told. (
-        omega (arith, within, (front xs told).within),
-        adv.told xs (s.told xs told),
-        is ∙ front_is want n shown xs (front xs told) within,
+      at = λ xs known. (
+        omega (arith, within, (prefix xs known).within),
+        adv.known xs (s.known xs known),
+        is ∙ prefix_is want n shown xs (prefix xs known) within,
       );
     }
 
 -- the front of what was lent is the input's own, as all of that is
-pub front_is_of_input : {want n : ℕ} {shown content : Bor (List ℕ)} {a m b : View}
-    → Shows shown.now a m → Told a.told (IsFront want shown.now) → n ≤ length shown.now
-    → IsPart (Long shown) a → place_of content ≡ place_of shown → content.now ≡ take n shown.now
+pub prefix_is_of_input : {want n : ℕ} {shown content : Bor (List ℕ)} {a m b : View}
+    → Shows shown.now a m → IfKnown a.known (IsPrefix want shown.now) → n ≤ length shown.now
+    → IsSubslice (Long shown) a → place_of content ≡ place_of shown → content.now ≡ take n shown.now
     → Advances n m b → IsOfInput content a b
-front_is_of_input {want = want} {n = n} {shown = shown} s front within part same is adv xs told end
+prefix_is_of_input {want = want} {n = n} {shown = shown} s prefix within part same is adv xs
+    known end
     ends ys left =
-    let e : ys ≡ drop n xs = let d = adv.told xs (s.told xs told) in cc in
-    part end (sym (adv.ends_at ∙ s.ends_at) ∙ ends) xs told
+    let e : ys ≡ drop n xs = let d = adv.known xs (s.known xs known) in cc in
+    part end (sym (adv.ends_at ∙ s.ends_at) ∙ ends) xs known
     ∙ ap₂ (λ i j. (i, j)) (sym (ap (λ (p : ℕ × ℕ). p.0) same))
     (omega (
       arith,
@@ -222,7 +225,7 @@ front_is_of_input {want = want} {n = n} {shown = shown} s front within part same
       ap length e,
       length-drop n xs,
       within,
-      (front xs told).within,
+      (prefix xs known).within,
     ))
 
 pub first_bytes : (k : ℕ) (bs : List ℕ) → ((i : ℕ) → get_or bs i 0 < 256) → IsBytes (take k bs)

@@ -1,4 +1,4 @@
--- Heads are read off the front of bytes exactly as they are spelled there.
+-- Heads are read off the front of bytes exactly as they are encoded there.
 use Rattle.std.proofs.Common.{◌≡◌, ◌≢◌, ℕ, zero, suc, ◌+◌, ◌-◌, ◌*◌, ◌/◌, ◌%◌, ◌^◌, ◌<◌, ◌≤◌, List}
 use Rattle.std.proofs.Common.{[], ◌∷◌, ◌++◌, length, drop, take, Ok, Bool, true, false, refl, sym}
 use Rattle.std.proofs.Common.{ap, ap₂, ◌∙◌, subst, arith, pow-suc, mul_comm, mod-eq_of_lt, lt-ltb}
@@ -13,8 +13,8 @@ use Rattle.std.proofs.Math.Seq.{drop-append_seam, take-append_seam}
 use Rattle.cbor4ii_items.specs.Head.{Width, in_first, one as w_one, two, four, eight, byte_count}
 use Rattle.cbor4ii_items.specs.Head.{HeadFits, additional, head, IsBytes, shortest}
 use Rattle.cbor4ii_items.specs.Initial.{wide as in_width, info_of}
-use Rattle.cbor4ii_items.specs.Refusal.{mismatch}
-use Rattle.cbor4ii_items.specs.Reading.{give, refuse}
+use Rattle.cbor4ii_items.specs.InputError.{mismatch}
+use Rattle.cbor4ii_items.specs.Reading.{give, reject}
 use Rattle.cbor4ii_items.specs.Heads.{ReadsHead, Begins}
 use Rattle.cbor4ii_items.specs.ReadHead.{head_at, argument_at, number_on, following, allowed}
 use Rattle.cbor4ii_items.specs.Laws.Outcome.{same_value}
@@ -120,26 +120,27 @@ head_again name w major v width ys h le =
     eq-eqb ((32 * major + additional w v) / 32) major high in
     rw t (argument_again name w v width (32 * major + additional w v) ys low h le)
 
-pub behind_head : (w : Width) (major v n : ℕ) (ys : List ℕ) → n ≡ suc (byte_count w)
+pub following_head : (w : Width) (major v n : ℕ) (ys : List ℕ) → n ≡ suc (byte_count w)
     → (drop n (head major v w ++ ys) ≡ ys) × (n ≤ length (head major v w ++ ys))
-behind_head w major v n ys e =
+following_head w major v n ys e =
     let long : length (head major v w) ≡ n =
     ap suc (length-bytes_high_first (byte_count w) v) ∙ sym e in (
       ap (λ j. drop j (head major v w ++ ys)) (sym long) ∙ drop-append_seam (head major v w) ys,
       omega (arith, length-append (head major v w) ys, long),
     )
 
--- what stands behind a head that begins the input
+-- what follows a head that begins the input
 pub after_head : (major width : ℕ) (xs : List ℕ) (v n : ℕ) → (h : ReadsHead major width xs v n)
     → drop n xs ≡ h.rest
-after_head major width xs v n h = ap (drop n) h.is ∙ (behind_head h.wide major v n h.rest h.count).0
+after_head major width xs v n h =
+    ap (drop n) h.is ∙ (following_head h.wide major v n h.rest h.count).0
 
 -- a head that begins the input is the one that is read
 pub head_read : (name : List ℕ) (major width : ℕ) (xs : List ℕ) (v n : ℕ) → major < 8
     → ReadsHead major width xs v n
     → (head_at name major width xs ≡ Ok (v, drop n xs)) × (n ≤ length xs) × (1 ≤ n)
 head_read name major width xs v n m h =
-    let b = behind_head h.wide major v n h.rest h.count in
+    let b = following_head h.wide major v n h.rest h.count in
     let a : head_at name major width xs ≡ Ok (v, h.rest) = ap (head_at name major width) h.is
     ∙ head_again name h.wide major v width h.rest h.fits h.allowed in
     let d : drop n xs ≡ h.rest = after_head major width xs v n h in (
@@ -202,9 +203,9 @@ pub number_is : (name : List ℕ) (expect k v : ℕ) (bs ys : List ℕ) → IsBy
     → number_on name expect k 0 bs ≡ Ok (v, ys) → (bs ≡ bytes_high_first k v ++ ys) × (v < 256 ^ k)
 number_is name expect k v bs ys h e =
     let r = number_inverse name expect k 0 v bs ys e in
-    let front : bytes_high_first k v ≡ take k bs =
+    let prefix : bytes_high_first k v ≡ take k bs =
     ap₂ bytes_high_first (sym r.1) r.2 ∙ bytes_onto (take k bs) 0 h in (
-      r.0 ∙ ap (λ zs. zs ++ ys) (sym front),
+      r.0 ∙ ap (λ zs. zs ++ ys) (sym prefix),
       subst (λ z. z < 256 ^ k) (sym r.2)
           (subst (λ j. onto 0 (take k bs) < 256 ^ j) r.1 (onto-lt (take k bs) h)),
     )
@@ -277,7 +278,7 @@ argument_by : (s t : Bool) (name : List ℕ) (major width b v n : ℕ) (bs : Lis
     → ltb (b % 32) 24 ≡ s → allowed width (b % 32) ≡ t → b / 32 ≡ major → n ≤ length (b ∷ bs)
     → IsBytes (take n (b ∷ bs))
     → cond s (give (b % 32)) (cond t (number_on name (following (b % 32)) (following (b % 32)) 0)
-    (refuse (mismatch name b))) bs ≡ Ok (v, drop n (b ∷ bs))
+    (reject (mismatch name b))) bs ≡ Ok (v, drop n (b ∷ bs))
     → ReadsHead major width (b ∷ bs) v n
 argument_by true t name major width b v n bs es et m room bytes e =
     let pair = same_value (Ok (b % 32, bs)) refl e in
@@ -309,7 +310,7 @@ argument_by false true name major width b v n bs es et m room bytes e =
 
 head_by_inverse : (t : Bool) (name : List ℕ) (major width b v n : ℕ) (bs : List ℕ)
     → eqb (b / 32) major ≡ t → n ≤ length (b ∷ bs) → IsBytes (take n (b ∷ bs))
-    → cond t (argument_at name width b) (refuse (mismatch name b)) bs ≡ Ok (v, drop n (b ∷ bs))
+    → cond t (argument_at name width b) (reject (mismatch name b)) bs ≡ Ok (v, drop n (b ∷ bs))
     → ReadsHead major width (b ∷ bs) v n
 head_by_inverse true name major width b v n bs h room bytes e =
     argument_by (ltb (b % 32) 24) (allowed width (b % 32)) name major width b v n bs refl refl
@@ -331,14 +332,14 @@ head_one major width xs v w n m h p q =
     let pair = same_value (head_at [] major width xs) a.0 b.0 in
     (omega (arith, ap length pair.1, length-drop n xs, length-drop m xs, a.1, b.1), pair.0)
 
-head_front : (w : Width) (major v n : ℕ) (rest : List ℕ) → n ≡ suc (byte_count w) → (xs : List ℕ)
+head_prefix : (w : Width) (major v n : ℕ) (rest : List ℕ) → n ≡ suc (byte_count w) → (xs : List ℕ)
     → xs ≡ head major v w ++ rest → take n xs ≡ head major v w
-head_front w major v n rest e xs is =
+head_prefix w major v n rest e xs is =
     let long : length (head major v w) ≡ n =
     ap suc (length-bytes_high_first (byte_count w) v) ∙ sym e in
     ap₂ take (sym long) is ∙ take-append_seam (head major v w) rest
 
--- a head is read whatever stands behind it
+-- a head is read whatever follows it
 pub head_alone : (major width : ℕ) (xs ys : List ℕ) (v n : ℕ) → ReadsHead major width xs v n
     → ReadsHead major width (take n xs ++ ys) v n
 head_alone major width xs ys v n h = record {
@@ -346,7 +347,7 @@ head_alone major width xs ys v n h = record {
   allowed = h.allowed;
   fits = h.fits;
   rest = ys;
-  is = ap (λ zs. zs ++ ys) (head_front h.wide major v n h.rest h.count xs h.is);
+  is = ap (λ zs. zs ++ ys) (head_prefix h.wide major v n h.rest h.count xs h.is);
   count = h.count;
 }
 
@@ -393,7 +394,7 @@ pub record Completes (major : ℕ) (wide : Width) (xs : List ℕ) : Type 0 where
   pub some : missing ≢ []
   pub joined : head major argument wide ≡ xs ++ missing
 
--- a first byte with fewer bytes behind it than the argument has is the beginning of a head
+-- a first byte with fewer bytes after it than the argument has is the beginning of a head
 pub cut_head : (major width b : ℕ) (bs : List ℕ) (wide : Width) → Begins major width b wide
     → length bs < byte_count wide → IsBytes bs → Completes major wide (b ∷ bs)
 cut_head major width b bs wide begins short bytes =

@@ -1,19 +1,20 @@
--- What is one head, one byte or one float is not read where it is refused.
+-- What is one head, one byte or one float is not read where it is rejected.
 use Rattle.std.proofs.Common.{◌≡◌, ℕ, ◌+◌, ◌*◌, inl, inr, List, [], ◌∷◌, ◌++◌, length, take, Some}
 use Rattle.std.proofs.Common.{None, true, false, sym, ap, ◌∙◌, arith, length-append}
 use Rattle.std.specs.Int.{bytes_high_first}
 use Rattle.cbor4ii_items.specs.Head.{Width, byte_count, additional, HeadFits}
 use Rattle.cbor4ii_items.specs.Initial.{info_of, wide as in_width}
-use Rattle.cbor4ii_items.specs.Refusal.{Refusal}
-use Rattle.cbor4ii_items.specs.Heads.{ReadsHead, StopsHead}
-use Rattle.cbor4ii_items.specs.Numbers.{ReadsArgument, StopsArgument, ReadsNegative}
-use Rattle.cbor4ii_items.specs.Numbers.{StopsNegative}
-use Rattle.cbor4ii_items.specs.Floats.{ReadsFloat, StopsFloat}
-use Rattle.cbor4ii_items.specs.Simple.{ReadsSimple, StopsSimple, ReadsBool, StopsBool, bool_byte}
-use Rattle.cbor4ii_items.specs.Nothing.{ReadsNothing, StopsNothing}
-use Rattle.cbor4ii_items.specs.Lengths.{ReadsLength, StopsLength}
+use Rattle.cbor4ii_items.specs.InputError.{InputError}
+use Rattle.cbor4ii_items.specs.Heads.{ReadsHead, RejectsHead}
+use Rattle.cbor4ii_items.specs.Numbers.{ReadsArgument, RejectsArgument, ReadsNegative}
+use Rattle.cbor4ii_items.specs.Numbers.{RejectsNegative}
+use Rattle.cbor4ii_items.specs.Floats.{ReadsFloat, RejectsFloat}
+use Rattle.cbor4ii_items.specs.Simple.{ReadsSimple, RejectsSimple, ReadsBool, RejectsBool}
+use Rattle.cbor4ii_items.specs.Simple.{bool_byte}
+use Rattle.cbor4ii_items.specs.Nothing.{ReadsNothing, RejectsNothing}
+use Rattle.cbor4ii_items.specs.Lengths.{ReadsLength, RejectsLength}
 use Rattle.cbor4ii_items.specs.NeverBoth.{NeverBoth}
-use Rattle.cbor4ii_items.specs.Strings.{ReadsBreak, StopsBreak}
+use Rattle.cbor4ii_items.specs.Strings.{ReadsBreak, RejectsBreak}
 use Rattle.cbor4ii_items.specs.Laws.Heads.{info-additional, same_wide, length-bytes_high_first}
 
 -- ---- heads
@@ -28,45 +29,45 @@ one_width major b v w u wide fits suits p q =
     sym (info-additional v u fits) ∙ (ap info_of info ∙ info-additional w wide suits) in
     ap byte_count (same_wide u wide same)
 
-pub head_apart : (name : List ℕ) (major width : ℕ) (xs : List ℕ) (refusal : Refusal)
-    (rest : List ℕ) (v n : ℕ) → StopsHead name major width xs refusal rest
+pub head_apart : (name : List ℕ) (major width : ℕ) (xs : List ℕ) (err : InputError)
+    (rest : List ℕ) (v n : ℕ) → RejectsHead name major width xs err rest
     → ReadsHead major width xs v n → ⊥
-head_apart name major width [] refusal rest v n s h = let e = h.is in cc
-head_apart name major width (b ∷ bs) refusal rest v n (inl s) h =
+head_apart name major width [] err rest v n s h = let e = h.is in cc
+head_apart name major width (b ∷ bs) err rest v n (inl s) h =
     let first : b ≡ 32 * major + additional h.wide v = (let e = h.is in cc) in
     s.none h.wide (record { argument = v; fits = h.fits; allowed = h.allowed; is = first })
-head_apart name major width (b ∷ bs) refusal rest v n (inr s) h =
+head_apart name major width (b ∷ bs) err rest v n (inr s) h =
     let first : b ≡ 32 * major + additional h.wide v = (let e = h.is in cc) in
-    let behind : bs ≡ bytes_high_first (byte_count h.wide) v ++ h.rest = (let e = h.is in cc) in
+    let trailing : bs ≡ bytes_high_first (byte_count h.wide) v ++ h.rest = (let e = h.is in cc) in
     let same = one_width major b v s.begins.argument h.wide s.wide h.fits s.begins.fits first
     s.begins.is in
     absurd (omega (
       arith,
       s.short,
       same,
-      ap length behind,
+      ap length trailing,
       length-append (bytes_high_first (byte_count h.wide) v) h.rest,
       length-bytes_high_first (byte_count h.wide) v,
     ))
 
 pub argument_apart : (name : List ℕ) (major width : ℕ)
-    → NeverBoth (ReadsArgument major width) (StopsArgument name major width)
-argument_apart name major width xs budget refusal rest s v n c p fits =
-    head_apart name major width xs refusal rest v n s p.0
+    → NeverBoth (ReadsArgument major width) (RejectsArgument name major width)
+argument_apart name major width xs budget err rest s v n c p fits =
+    head_apart name major width xs err rest v n s p.0
 
 pub negative_apart : (name : List ℕ) (width : ℕ)
-    → NeverBoth (ReadsNegative width) (StopsNegative name width)
-negative_apart name width xs budget refusal rest s v n c p fits =
-    head_apart name 1 width xs refusal rest v.0 n s p.0
+    → NeverBoth (ReadsNegative width) (RejectsNegative name width)
+negative_apart name width xs budget err rest s v n c p fits =
+    head_apart name 1 width xs err rest v.0 n s p.0
 
-pub simple_apart : NeverBoth ReadsSimple StopsSimple
-simple_apart xs budget refusal rest s v n c p fits = head_apart _ 7 1 xs refusal rest v.0 n s p.0
+pub simple_apart : NeverBoth ReadsSimple RejectsSimple
+simple_apart xs budget err rest s v n c p fits = head_apart _ 7 1 xs err rest v.0 n s p.0
 
 pub length_apart : (name : List ℕ) (major : ℕ)
-    → NeverBoth (ReadsLength major) (StopsLength name major)
-length_apart name major xs budget refusal rest s (Some v) n c p fits =
-    head_apart name major 8 xs refusal rest v n s.1 p.0
-length_apart name major xs budget refusal rest s None n c p fits = s.0 p.0
+    → NeverBoth (ReadsLength major) (RejectsLength name major)
+length_apart name major xs budget err rest s (Some v) n c p fits =
+    head_apart name major 8 xs err rest v n s.1 p.0
+length_apart name major xs budget err rest s None n c p fits = s.0 p.0
 
 -- ---- one byte or none
 
@@ -74,33 +75,33 @@ no_break : (xs : List ℕ) (b : ℕ) → xs ≡ [] → take 1 xs ≡ b ∷ [] �
 no_break [] b e f = cc
 no_break (x ∷ xs) b e f = cc
 
-pub break_apart : NeverBoth ReadsBreak StopsBreak
-break_apart xs budget refusal rest s true n c p fits = no_break xs _ s.0 p.0
-break_apart xs budget refusal rest s false n c p fits = p.0 s.0
+pub break_apart : NeverBoth ReadsBreak RejectsBreak
+break_apart xs budget err rest s true n c p fits = no_break xs _ s.0 p.0
+break_apart xs budget err rest s false n c p fits = p.0 s.0
 
-pub bool_apart : NeverBoth ReadsBool StopsBool
-bool_apart [] budget refusal rest s v n c p fits = let e = p.0 in cc
-bool_apart (b ∷ bs) budget refusal rest s v n c p fits =
+pub bool_apart : NeverBoth ReadsBool RejectsBool
+bool_apart [] budget err rest s v n c p fits = let e = p.0 in cc
+bool_apart (b ∷ bs) budget err rest s v n c p fits =
     let is : b ≡ bool_byte v = (let e = p.0 in cc) in s.0 (v, is)
 
-pub nothing_apart : NeverBoth ReadsNothing StopsNothing
-nothing_apart xs budget refusal rest s v n c p fits = s
+pub nothing_apart : NeverBoth ReadsNothing RejectsNothing
+nothing_apart xs budget err rest s v n c p fits = s
 
 -- ---- floats
 
 pub float_apart : (name : List ℕ) (marker count : ℕ)
-    → NeverBoth (ReadsFloat marker count) (StopsFloat name marker count)
-float_apart name marker count [] budget refusal rest s v n c p fits = let e = p.is in cc
-float_apart name marker count (b ∷ bs) budget refusal rest (inl s) v n c p fits =
+    → NeverBoth (ReadsFloat marker count) (RejectsFloat name marker count)
+float_apart name marker count [] budget err rest s v n c p fits = let e = p.is in cc
+float_apart name marker count (b ∷ bs) budget err rest (inl s) v n c p fits =
     let is : b ≡ marker = (let e = p.is in cc) in s.0 is
-float_apart name marker count (b ∷ bs) budget refusal rest (inr s) v n c p fits =
-    let behind : bs ≡ bytes_high_first count v ++ p.rest = (let e = p.is in cc) in
-    let same : bs ≡ s.behind = (let e = s.is in cc) in
+float_apart name marker count (b ∷ bs) budget err rest (inr s) v n c p fits =
+    let trailing : bs ≡ bytes_high_first count v ++ p.rest = (let e = p.is in cc) in
+    let same : bs ≡ s.trailing = (let e = s.is in cc) in
     absurd (omega (
       arith,
       s.short,
       ap length same,
-      ap length behind,
+      ap length trailing,
       length-append (bytes_high_first count v) p.rest,
       length-bytes_high_first count v,
     ))

@@ -7,21 +7,21 @@ use Rattle.std.proofs.Math.Seq.{take-append_seam, drop-append_seam}
 use Rattle.cbor4ii_items.specs.Head.{one, eight}
 use Rattle.cbor4ii_items.specs.Heads.{ReadsHead}
 use Rattle.cbor4ii_items.specs.Laws.Heads.{length-bytes_high_first}
-use Rattle.cbor4ii_items.specs.Lent.{ReadsLent}
+use Rattle.cbor4ii_items.specs.Lent.{ReadsBorrowed}
 use Rattle.cbor4ii_items.specs.Numbers.{shortest_head}
 use Rattle.cbor4ii_items.specs.ReadBack.{ReadsBack}
 use Rattle.cbor4ii_items.specs.Simple.{ReadsSimple, ReadsBool, bool_byte}
 use Rattle.cbor4ii_items.specs.declared.types.Simple.{Simple}
 use Rattle.cbor4ii_items.specs.Floats.{ReadsFloat, float_bytes}
-use Rattle.cbor4ii_items.specs.Strings.{counted_string, ReadsCountedString, ReadsAs, ReadsTextAs}
+use Rattle.cbor4ii_items.specs.Strings.{definite_string, ReadsDefiniteString, ReadsAs, ReadsTextAs}
 use Rattle.cbor4ii_items.specs.Laws.NumbersBack.{head_back, argument_back}
 
 -- ---- strings
 
-pub counted_back : (major : ℕ) (content rest : List ℕ) → length content < 2 ^ 64
-    → ReadsCountedString major (counted_string major content ++ rest) content
-    (length (counted_string major content))
-counted_back major content rest h =
+pub definite_back : (major : ℕ) (content rest : List ℕ) → length content < 2 ^ 64
+    → ReadsDefiniteString major (definite_string major content ++ rest) content
+    (length (definite_string major content))
+definite_back major content rest h =
     let start = shortest_head major (length content) in
     let whole : (start ++ content) ++ rest ≡ start ++ (content ++ rest) =
     append_assoc start content rest in
@@ -38,16 +38,16 @@ counted_back major content rest h =
 
 module _ {V : Type 0} (content : V → List ℕ) (v : V) (h : length (content v) < 2 ^ 64) where
   pub string_back : (major : ℕ)
-      → ReadsBack (ReadsAs major content) (counted_string major (content v)) v 0
-  string_back major rest = inl (counted_back major (content v) rest h, refl)
+      → ReadsBack (ReadsAs major content) (definite_string major (content v)) v 0
+  string_back major rest = inl (definite_back major (content v) rest h, refl)
 
   pub text_back : IsUtf8 (content v)
-      → ReadsBack (ReadsTextAs content) (counted_string 3 (content v)) v 0
+      → ReadsBack (ReadsTextAs content) (definite_string 3 (content v)) v 0
   text_back utf8 rest = (string_back 3 rest, utf8)
 
   pub lent_back : (major : ℕ) (is_text : Bool) → (IsTrue is_text → IsUtf8 (content v))
-      → ReadsBack (ReadsLent major is_text content) (counted_string major (content v)) v 0
-  lent_back major is_text utf8 rest = (counted_back major (content v) rest h, refl, utf8)
+      → ReadsBack (ReadsBorrowed major is_text content) (definite_string major (content v)) v 0
+  lent_back major is_text utf8 rest = (definite_back major (content v) rest h, refl, utf8)
 
 -- ---- simple values
 

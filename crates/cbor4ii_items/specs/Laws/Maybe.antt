@@ -5,9 +5,9 @@ use Rattle.std.proofs.lemmas.List.{length-drop}
 use Rattle.cbor4ii_items.specs.Containers.{SameOption}
 use Rattle.cbor4ii_items.specs.Heads.{ReadsHead}
 use Rattle.cbor4ii_items.specs.Laws.Heads.{head_one, head_read, head_alone}
-use Rattle.cbor4ii_items.specs.Laws.Fronts.{two_fronts, behind_front}
-use Rattle.cbor4ii_items.specs.Maybe.{ReadsMaybe, StopsMaybe}
-use Rattle.cbor4ii_items.specs.Decoding.{Reads, Spelling, IsLawful}
+use Rattle.cbor4ii_items.specs.Laws.Prefixes.{two_prefixes, after_prefix}
+use Rattle.cbor4ii_items.specs.Maybe.{ReadsMaybe, RejectsMaybe}
+use Rattle.cbor4ii_items.specs.Decoding.{Reads, Format, IsLawful}
 use Rattle.cbor4ii_items.specs.declared.types.Maybe.{Maybe}
 
 -- an array has one count
@@ -55,34 +55,35 @@ module _ {V : Type 0} (reads : Reads V) where
   maybe_alone closed alone e xs ys None n c p = (head_alone 4 8 xs ys 0 n p.0, p.1)
   maybe_alone closed alone e xs ys (Some v) n c p =
       let h = (head_read [] 4 8 xs 1 p.before (omega arith) p.head).1 in
-      let behind = drop p.before xs in
-      let same : take n xs ++ ys ≡ take p.before xs ++ (take p.count behind ++ ys) =
-      two_fronts p.before p.count n xs ys p.bytes in
-      let left : drop p.before (take n xs ++ ys) ≡ take p.count behind ++ ys =
-      ap (drop p.before) same ∙ behind_front p.before xs (take p.count behind ++ ys) h in
+      let trailing = drop p.before xs in
+      let same : take n xs ++ ys ≡ take p.before xs ++ (take p.count trailing ++ ys) =
+      two_prefixes p.before p.count n xs ys p.bytes in
+      let left : drop p.before (take n xs ++ ys) ≡ take p.count trailing ++ ys =
+      ap (drop p.before) same ∙ after_prefix p.before xs (take p.count trailing ++ ys) h in
       record {
         before = p.before;
         head =
             subst (λ zs. ReadsHead 4 8 zs 1 p.before) (sym same)
-            (head_alone 4 8 xs (take p.count behind ++ ys) 1 p.before p.head);
+            (head_alone 4 8 xs (take p.count trailing ++ ys) 1 p.before p.head);
         count = p.count;
-        item = subst (λ zs. reads zs v p.count c) (sym left) (alone e behind ys v p.count c p.item);
+        item = subst (λ zs. reads zs v p.count c) (sym left)
+            (alone e trailing ys v p.count c p.item);
         bytes = p.bytes;
       }
 
-abbrev pub maybe_spelling : {V : Type 0} → Spelling V → Spelling (Maybe (Option V))
-maybe_spelling s = record {
+abbrev pub maybe_format : {V : Type 0} → Format V → Format (Maybe (Option V))
+maybe_format s = record {
   reads = λ xs v. ReadsMaybe s.reads xs v.0;
   same = λ v w. SameOption s.same v.0 w.0;
-  stops = StopsMaybe s.stops;
-  begins = StopsMaybe s.begins;
+  rejects = RejectsMaybe s.rejects;
+  begins = RejectsMaybe s.begins;
   never_empty = true;
   owned = s.owned;
   takes_memory = s.takes_memory;
   closed = s.closed;
 }
 
-pub maybe_lawful : {V : Type 0} (s : Spelling V) → IsLawful s → IsLawful (maybe_spelling s)
+pub maybe_lawful : {V : Type 0} (s : Format V) → IsLawful s → IsLawful (maybe_format s)
 maybe_lawful s h = record {
   one = λ xs v w. maybe_one s.reads s.same h.one xs v.0 w.0;
   within = λ xs v. maybe_within s.reads h.within xs v.0;

@@ -1,26 +1,26 @@
--- What an integer refuses is not read.
+-- What an integer rejects is not read.
 use Rattle.std.proofs.Common.{◌≡◌, ℕ, ◌/◌, ◌^◌, ◌<◌, inl, inr, List, [], ◌∷◌, take, drop, sym, ap}
 use Rattle.std.proofs.Common.{ap₂, ◌∙◌, subst, arith}
 use Rattle.std.specs.Prelude.{pos, negsuc}
 use Rattle.cbor4ii_items.specs.Heads.{ReadsHead}
 use Rattle.cbor4ii_items.specs.Magnitude.{number_of}
 use Rattle.cbor4ii_items.specs.NeverBoth.{NeverBoth}
-use Rattle.cbor4ii_items.specs.Numbers.{ReadsSigned, StopsHalf, head_refused, argument_too_great}
-use Rattle.cbor4ii_items.specs.Numbers.{StopsSigned, no_signed_byte, no_signed_head}
-use Rattle.cbor4ii_items.specs.Numbers.{positive_refused, negative_refused, ReadsMagnitude}
-use Rattle.cbor4ii_items.specs.Numbers.{StopsMagnitude, length_refused, length_open}
+use Rattle.cbor4ii_items.specs.Numbers.{ReadsSigned, RejectsHalf, head_rejected, argument_too_great}
+use Rattle.cbor4ii_items.specs.Numbers.{RejectsSigned, no_signed_byte, no_signed_head}
+use Rattle.cbor4ii_items.specs.Numbers.{positive_rejected, negative_rejected, ReadsMagnitude}
+use Rattle.cbor4ii_items.specs.Numbers.{RejectsMagnitude, length_rejected, length_indefinite}
 use Rattle.cbor4ii_items.specs.Numbers.{length_too_great, content_cut, ReadsBignum, ReadsU128}
-use Rattle.cbor4ii_items.specs.Numbers.{StopsU128, no_u128_byte, u128_head_refused}
-use Rattle.cbor4ii_items.specs.Numbers.{u128_tag_refused, other_u128_tag, u128_bytes_refused}
-use Rattle.cbor4ii_items.specs.Numbers.{ReadsI128, StopsI128, no_i128_byte, i128_head_refused}
-use Rattle.cbor4ii_items.specs.Numbers.{i128_negative_refused, i128_tag_refused, other_i128_tag}
-use Rattle.cbor4ii_items.specs.Numbers.{i128_bytes_refused, i128_negative_bytes_refused}
+use Rattle.cbor4ii_items.specs.Numbers.{RejectsU128, no_u128_byte, u128_head_rejected}
+use Rattle.cbor4ii_items.specs.Numbers.{u128_tag_rejected, other_u128_tag, u128_bytes_rejected}
+use Rattle.cbor4ii_items.specs.Numbers.{ReadsI128, RejectsI128, no_i128_byte, i128_head_rejected}
+use Rattle.cbor4ii_items.specs.Numbers.{i128_negative_rejected, i128_tag_rejected, other_i128_tag}
+use Rattle.cbor4ii_items.specs.Numbers.{i128_bytes_rejected, i128_negative_bytes_rejected}
 use Rattle.cbor4ii_items.specs.Numbers.{i128_too_great}
-use Rattle.cbor4ii_items.specs.Refusal.{Refusal}
+use Rattle.cbor4ii_items.specs.InputError.{InputError}
 use Rattle.cbor4ii_items.specs.Laws.Heads.{head_one}
 use Rattle.cbor4ii_items.specs.Laws.LeavesApart.{head_apart}
 use Rattle.cbor4ii_items.specs.Laws.Signed.{starts}
-use Rattle.cbor4ii_items.specs.Laws.Strings.{head_not_open}
+use Rattle.cbor4ii_items.specs.Laws.Strings.{head_not_indefinite}
 
 -- ---- the first byte
 
@@ -42,89 +42,89 @@ no_head major width xs v n e h = let f = h.is in cc
 
 -- ---- signed integers of at most eight bytes
 
-half_apart : (name : List ℕ) (major width limit : ℕ) (xs : List ℕ) (refusal : Refusal)
-    (rest : List ℕ) (v n : ℕ) → major < 8 → StopsHalf name major width limit xs refusal rest
+half_apart : (name : List ℕ) (major width limit : ℕ) (xs : List ℕ) (err : InputError)
+    (rest : List ℕ) (v n : ℕ) → major < 8 → RejectsHalf name major width limit xs err rest
     → ReadsHead major width xs v n → v < limit → ⊥
-half_apart name major width limit xs refusal rest v n m (head_refused s) h small =
-    head_apart name major width xs refusal rest v n s h
-half_apart name major width limit xs refusal rest v n m (argument_too_great w k g most e f) h
+half_apart name major width limit xs err rest v n m (head_rejected s) h small =
+    head_apart name major width xs err rest v n s h
+half_apart name major width limit xs err rest v n m (argument_too_great w k g most e f) h
     small =
     let same = head_one major width xs w v k n m g h in
     absurd (omega (arith, most, same.1, small))
 
 pub signed_apart : (name plus minus : List ℕ) (width limit : ℕ)
     → NeverBoth (ReadsSigned width limit)
-    (λ xs budget. StopsSigned name plus minus width limit xs)
-signed_apart name plus minus width limit xs budget refusal rest (no_signed_byte e f g) (pos k) n c p
+    (λ xs budget. RejectsSigned name plus minus width limit xs)
+signed_apart name plus minus width limit xs budget err rest (no_signed_byte e f g) (pos k) n c p
     fits =
     no_head 0 width xs k n e p.0
-signed_apart name plus minus width limit xs budget refusal rest (no_signed_byte e f g) (negsuc k) n
+signed_apart name plus minus width limit xs budget err rest (no_signed_byte e f g) (negsuc k) n
     c p fits =
     no_head 1 width xs k n e p.0
-signed_apart name plus minus width limit xs budget refusal rest (no_signed_head b bs e some f g)
+signed_apart name plus minus width limit xs budget err rest (no_signed_head b bs e some f g)
     (pos k) n c p fits =
     absurd (omega (arith, some, major_of 0 width xs k n b bs p.0 e))
-signed_apart name plus minus width limit xs budget refusal rest (no_signed_head b bs e some f g)
+signed_apart name plus minus width limit xs budget err rest (no_signed_head b bs e some f g)
     (negsuc k) n c p fits =
     absurd (omega (arith, some, major_of 1 width xs k n b bs p.0 e))
-signed_apart name plus minus width limit xs budget refusal rest (positive_refused b bs e type s)
+signed_apart name plus minus width limit xs budget err rest (positive_rejected b bs e type s)
     (pos k) n c p fits =
-    half_apart plus 0 width limit xs refusal rest k n (omega arith) s p.0 p.1
-signed_apart name plus minus width limit xs budget refusal rest (positive_refused b bs e type s)
+    half_apart plus 0 width limit xs err rest k n (omega arith) s p.0 p.1
+signed_apart name plus minus width limit xs budget err rest (positive_rejected b bs e type s)
     (negsuc k) n c p fits =
     absurd (omega (arith, type, major_of 1 width xs k n b bs p.0 e))
-signed_apart name plus minus width limit xs budget refusal rest (negative_refused b bs e type s)
+signed_apart name plus minus width limit xs budget err rest (negative_rejected b bs e type s)
     (pos k) n c p fits =
     absurd (omega (arith, type, major_of 0 width xs k n b bs p.0 e))
-signed_apart name plus minus width limit xs budget refusal rest (negative_refused b bs e type s)
+signed_apart name plus minus width limit xs budget err rest (negative_rejected b bs e type s)
     (negsuc k) n c p fits =
-    half_apart minus 1 width limit xs refusal rest k n (omega arith) s p.0 p.1
+    half_apart minus 1 width limit xs err rest k n (omega arith) s p.0 p.1
 
 -- ---- bignums of at most sixteen bytes
 
-magnitude_apart : (name xs : List ℕ) (refusal : Refusal) (rest : List ℕ) (v n : ℕ)
-    → StopsMagnitude name xs refusal rest → ReadsMagnitude xs v n → ⊥
-magnitude_apart name xs refusal rest v n (length_refused f s) p =
-    head_apart name 2 8 xs refusal rest p.count p.before s p.counted
-magnitude_apart name xs refusal rest v n (length_open e f) p =
-    head_not_open 2 xs p.count p.before (omega arith) p.counted (ap (take 1) e)
-magnitude_apart name xs refusal rest v n (length_too_great count before h most e f) p =
+magnitude_apart : (name xs : List ℕ) (err : InputError) (rest : List ℕ) (v n : ℕ)
+    → RejectsMagnitude name xs err rest → ReadsMagnitude xs v n → ⊥
+magnitude_apart name xs err rest v n (length_rejected f s) p =
+    head_apart name 2 8 xs err rest p.count p.before s p.counted
+magnitude_apart name xs err rest v n (length_indefinite e f) p =
+    head_not_indefinite 2 xs p.count p.before (omega arith) p.counted (ap (take 1) e)
+magnitude_apart name xs err rest v n (length_too_great count before h most e f) p =
     let same = head_one 2 8 xs count p.count before p.before (omega arith) h p.counted in
     absurd (omega (arith, most, same.1, p.short))
-magnitude_apart name xs refusal rest v n (content_cut count before h least short e f) p =
+magnitude_apart name xs err rest v n (content_cut count before h least short e f) p =
     let same = head_one 2 8 xs count p.count before p.before (omega arith) h p.counted in
     absurd (omega (arith, short, same.0, same.1, p.within))
 
--- behind the tag
-behind_apart : (tag : ℕ) (name xs : List ℕ) (refusal : Refusal) (rest : List ℕ) (before v n : ℕ)
-    → ReadsHead 6 1 xs tag before → StopsMagnitude name (drop before xs) refusal rest
+-- after the tag
+after_apart : (tag : ℕ) (name xs : List ℕ) (err : InputError) (rest : List ℕ) (before v n : ℕ)
+    → ReadsHead 6 1 xs tag before → RejectsMagnitude name (drop before xs) err rest
     → ReadsBignum tag xs v n → ⊥
-behind_apart tag name xs refusal rest before v n h s p =
+after_apart tag name xs err rest before v n h s p =
     let same = head_one 6 1 xs tag tag before p.before (omega arith) h p.tagged in
-    magnitude_apart name (drop p.before xs) refusal rest v p.size
-    (subst (λ i. StopsMagnitude name (drop i xs) refusal rest) same.0 s) p.magnitude
+    magnitude_apart name (drop p.before xs) err rest v p.size
+    (subst (λ i. RejectsMagnitude name (drop i xs) err rest) same.0 s) p.magnitude
 
-pub u128_apart : NeverBoth ReadsU128 (λ xs budget. StopsU128 xs)
-u128_apart xs budget refusal rest (no_u128_byte e f g) v n c (inl h, zero) fits =
+pub u128_apart : NeverBoth ReadsU128 (λ xs budget. RejectsU128 xs)
+u128_apart xs budget err rest (no_u128_byte e f g) v n c (inl h, zero) fits =
     no_head 0 8 xs v n e h
-u128_apart xs budget refusal rest (no_u128_byte e f g) v n c (inr h, zero) fits =
+u128_apart xs budget err rest (no_u128_byte e f g) v n c (inr h, zero) fits =
     no_head 6 1 xs 2 h.before e h.tagged
-u128_apart xs budget refusal rest (u128_head_refused b bs e type s) v n c (inl h, zero) fits =
-    head_apart _ 0 8 xs refusal rest v n s h
-u128_apart xs budget refusal rest (u128_head_refused b bs e type s) v n c (inr h, zero) fits =
+u128_apart xs budget err rest (u128_head_rejected b bs e type s) v n c (inl h, zero) fits =
+    head_apart _ 0 8 xs err rest v n s h
+u128_apart xs budget err rest (u128_head_rejected b bs e type s) v n c (inr h, zero) fits =
     absurd (omega (arith, type, major_of 6 1 xs 2 h.before b bs h.tagged e))
-u128_apart xs budget refusal rest (u128_tag_refused b bs e other s) v n c (inl h, zero) fits =
+u128_apart xs budget err rest (u128_tag_rejected b bs e other s) v n c (inl h, zero) fits =
     other (major_of 0 8 xs v n b bs h e)
-u128_apart xs budget refusal rest (u128_tag_refused b bs e other s) v n c (inr h, zero) fits =
-    head_apart _ 6 1 xs refusal rest 2 h.before s h.tagged
-u128_apart xs budget refusal rest (other_u128_tag tag before g other e f) v n c (inl h, zero) fits =
+u128_apart xs budget err rest (u128_tag_rejected b bs e other s) v n c (inr h, zero) fits =
+    head_apart _ 6 1 xs err rest 2 h.before s h.tagged
+u128_apart xs budget err rest (other_u128_tag tag before g other e f) v n c (inl h, zero) fits =
     absurd (omega (arith, two_majors 6 0 1 8 xs tag v before n g h))
-u128_apart xs budget refusal rest (other_u128_tag tag before g other e f) v n c (inr h, zero) fits =
+u128_apart xs budget err rest (other_u128_tag tag before g other e f) v n c (inr h, zero) fits =
     other (head_one 6 1 xs tag 2 before h.before (omega arith) g h.tagged).1
-u128_apart xs budget refusal rest (u128_bytes_refused before g s) v n c (inl h, zero) fits =
+u128_apart xs budget err rest (u128_bytes_rejected before g s) v n c (inl h, zero) fits =
     absurd (omega (arith, two_majors 6 0 1 8 xs 2 v before n g h))
-u128_apart xs budget refusal rest (u128_bytes_refused before g s) v n c (inr h, zero) fits =
-    behind_apart 2 _ xs refusal rest before v n g s h
+u128_apart xs budget err rest (u128_bytes_rejected before g s) v n c (inr h, zero) fits =
+    after_apart 2 _ xs err rest before v n g s h
 
 -- the bytes begin with one bignum
 same_bignum : (tag other : ℕ) (xs : List ℕ) (v w n k : ℕ) → ReadsBignum tag xs v n
@@ -139,88 +139,88 @@ same_bignum tag other xs v w n k g h =
     p.value ∙ (ap₂ (λ i j. number_of (take i (drop j (drop h.before xs)))) length_is.1 length_is.0
     ∙ sym q.value)
 
-positive_head_apart : (xs : List ℕ) (refusal : Refusal) (rest : List ℕ) (v n : ℕ)
-    → StopsI128 xs refusal rest → ReadsHead 0 8 xs v n → ⊥
-positive_head_apart xs refusal rest v n (no_i128_byte e f g) h =
+positive_head_apart : (xs : List ℕ) (err : InputError) (rest : List ℕ) (v n : ℕ)
+    → RejectsI128 xs err rest → ReadsHead 0 8 xs v n → ⊥
+positive_head_apart xs err rest v n (no_i128_byte e f g) h =
     no_head 0 8 xs v n e h
-positive_head_apart xs refusal rest v n (i128_head_refused b bs e type s) h =
-    head_apart _ 0 8 xs refusal rest v n s h
-positive_head_apart xs refusal rest v n (i128_negative_refused b bs e type s) h =
+positive_head_apart xs err rest v n (i128_head_rejected b bs e type s) h =
+    head_apart _ 0 8 xs err rest v n s h
+positive_head_apart xs err rest v n (i128_negative_rejected b bs e type s) h =
     absurd (omega (arith, type, major_of 0 8 xs v n b bs h e))
-positive_head_apart xs refusal rest v n (i128_tag_refused b bs e type s) h =
+positive_head_apart xs err rest v n (i128_tag_rejected b bs e type s) h =
     absurd (omega (arith, type, major_of 0 8 xs v n b bs h e))
-positive_head_apart xs refusal rest v n (other_i128_tag tag before g p q e f) h =
+positive_head_apart xs err rest v n (other_i128_tag tag before g p q e f) h =
     absurd (omega (arith, two_majors 6 0 1 8 xs tag v before n g h))
-positive_head_apart xs refusal rest v n (i128_bytes_refused before g s) h =
+positive_head_apart xs err rest v n (i128_bytes_rejected before g s) h =
     absurd (omega (arith, two_majors 6 0 1 8 xs 2 v before n g h))
-positive_head_apart xs refusal rest v n (i128_negative_bytes_refused before g s) h =
+positive_head_apart xs err rest v n (i128_negative_bytes_rejected before g s) h =
     absurd (omega (arith, two_majors 6 0 1 8 xs 3 v before n g h))
-positive_head_apart xs refusal rest v n (i128_too_great tag w k is g most e f) h =
+positive_head_apart xs err rest v n (i128_too_great tag w k is g most e f) h =
     absurd (omega (arith, two_majors 6 0 1 8 xs tag v g.before n g.tagged h))
 
-negative_head_apart : (xs : List ℕ) (refusal : Refusal) (rest : List ℕ) (v n : ℕ)
-    → StopsI128 xs refusal rest → ReadsHead 1 8 xs v n → ⊥
-negative_head_apart xs refusal rest v n (no_i128_byte e f g) h =
+negative_head_apart : (xs : List ℕ) (err : InputError) (rest : List ℕ) (v n : ℕ)
+    → RejectsI128 xs err rest → ReadsHead 1 8 xs v n → ⊥
+negative_head_apart xs err rest v n (no_i128_byte e f g) h =
     no_head 1 8 xs v n e h
-negative_head_apart xs refusal rest v n (i128_head_refused b bs e type s) h =
+negative_head_apart xs err rest v n (i128_head_rejected b bs e type s) h =
     absurd (omega (arith, type, major_of 1 8 xs v n b bs h e))
-negative_head_apart xs refusal rest v n (i128_negative_refused b bs e type s) h =
-    head_apart _ 1 8 xs refusal rest v n s h
-negative_head_apart xs refusal rest v n (i128_tag_refused b bs e type s) h =
+negative_head_apart xs err rest v n (i128_negative_rejected b bs e type s) h =
+    head_apart _ 1 8 xs err rest v n s h
+negative_head_apart xs err rest v n (i128_tag_rejected b bs e type s) h =
     absurd (omega (arith, type, major_of 1 8 xs v n b bs h e))
-negative_head_apart xs refusal rest v n (other_i128_tag tag before g p q e f) h =
+negative_head_apart xs err rest v n (other_i128_tag tag before g p q e f) h =
     absurd (omega (arith, two_majors 6 1 1 8 xs tag v before n g h))
-negative_head_apart xs refusal rest v n (i128_bytes_refused before g s) h =
+negative_head_apart xs err rest v n (i128_bytes_rejected before g s) h =
     absurd (omega (arith, two_majors 6 1 1 8 xs 2 v before n g h))
-negative_head_apart xs refusal rest v n (i128_negative_bytes_refused before g s) h =
+negative_head_apart xs err rest v n (i128_negative_bytes_rejected before g s) h =
     absurd (omega (arith, two_majors 6 1 1 8 xs 3 v before n g h))
-negative_head_apart xs refusal rest v n (i128_too_great tag w k is g most e f) h =
+negative_head_apart xs err rest v n (i128_too_great tag w k is g most e f) h =
     absurd (omega (arith, two_majors 6 1 1 8 xs tag v g.before n g.tagged h))
 
-positive_bignum_apart : (xs : List ℕ) (refusal : Refusal) (rest : List ℕ) (v n : ℕ)
-    → StopsI128 xs refusal rest → ReadsBignum 2 xs v n → v < 2 ^ 127 → ⊥
-positive_bignum_apart xs refusal rest v n (no_i128_byte e f g) h small =
+positive_bignum_apart : (xs : List ℕ) (err : InputError) (rest : List ℕ) (v n : ℕ)
+    → RejectsI128 xs err rest → ReadsBignum 2 xs v n → v < 2 ^ 127 → ⊥
+positive_bignum_apart xs err rest v n (no_i128_byte e f g) h small =
     no_head 6 1 xs 2 h.before e h.tagged
-positive_bignum_apart xs refusal rest v n (i128_head_refused b bs e type s) h small =
+positive_bignum_apart xs err rest v n (i128_head_rejected b bs e type s) h small =
     absurd (omega (arith, type, major_of 6 1 xs 2 h.before b bs h.tagged e))
-positive_bignum_apart xs refusal rest v n (i128_negative_refused b bs e type s) h small =
+positive_bignum_apart xs err rest v n (i128_negative_rejected b bs e type s) h small =
     absurd (omega (arith, type, major_of 6 1 xs 2 h.before b bs h.tagged e))
-positive_bignum_apart xs refusal rest v n (i128_tag_refused b bs e type s) h small =
-    head_apart _ 6 1 xs refusal rest 2 h.before s h.tagged
-positive_bignum_apart xs refusal rest v n (other_i128_tag tag before g p q e f) h small =
+positive_bignum_apart xs err rest v n (i128_tag_rejected b bs e type s) h small =
+    head_apart _ 6 1 xs err rest 2 h.before s h.tagged
+positive_bignum_apart xs err rest v n (other_i128_tag tag before g p q e f) h small =
     p (head_one 6 1 xs tag 2 before h.before (omega arith) g h.tagged).1
-positive_bignum_apart xs refusal rest v n (i128_bytes_refused before g s) h small =
-    behind_apart 2 _ xs refusal rest before v n g s h
-positive_bignum_apart xs refusal rest v n (i128_negative_bytes_refused before g s) h small =
+positive_bignum_apart xs err rest v n (i128_bytes_rejected before g s) h small =
+    after_apart 2 _ xs err rest before v n g s h
+positive_bignum_apart xs err rest v n (i128_negative_bytes_rejected before g s) h small =
     absurd (omega (arith, (head_one 6 1 xs 3 2 before h.before (omega arith) g h.tagged).1))
-positive_bignum_apart xs refusal rest v n (i128_too_great tag w k is g most e f) h small =
+positive_bignum_apart xs err rest v n (i128_too_great tag w k is g most e f) h small =
     absurd (omega (arith, most, small, same_bignum tag 2 xs w v k n g h))
 
-negative_bignum_apart : (xs : List ℕ) (refusal : Refusal) (rest : List ℕ) (v n : ℕ)
-    → StopsI128 xs refusal rest → ReadsBignum 3 xs v n → v < 2 ^ 127 → ⊥
-negative_bignum_apart xs refusal rest v n (no_i128_byte e f g) h small =
+negative_bignum_apart : (xs : List ℕ) (err : InputError) (rest : List ℕ) (v n : ℕ)
+    → RejectsI128 xs err rest → ReadsBignum 3 xs v n → v < 2 ^ 127 → ⊥
+negative_bignum_apart xs err rest v n (no_i128_byte e f g) h small =
     no_head 6 1 xs 3 h.before e h.tagged
-negative_bignum_apart xs refusal rest v n (i128_head_refused b bs e type s) h small =
+negative_bignum_apart xs err rest v n (i128_head_rejected b bs e type s) h small =
     absurd (omega (arith, type, major_of 6 1 xs 3 h.before b bs h.tagged e))
-negative_bignum_apart xs refusal rest v n (i128_negative_refused b bs e type s) h small =
+negative_bignum_apart xs err rest v n (i128_negative_rejected b bs e type s) h small =
     absurd (omega (arith, type, major_of 6 1 xs 3 h.before b bs h.tagged e))
-negative_bignum_apart xs refusal rest v n (i128_tag_refused b bs e type s) h small =
-    head_apart _ 6 1 xs refusal rest 3 h.before s h.tagged
-negative_bignum_apart xs refusal rest v n (other_i128_tag tag before g p q e f) h small =
+negative_bignum_apart xs err rest v n (i128_tag_rejected b bs e type s) h small =
+    head_apart _ 6 1 xs err rest 3 h.before s h.tagged
+negative_bignum_apart xs err rest v n (other_i128_tag tag before g p q e f) h small =
     q (head_one 6 1 xs tag 3 before h.before (omega arith) g h.tagged).1
-negative_bignum_apart xs refusal rest v n (i128_bytes_refused before g s) h small =
+negative_bignum_apart xs err rest v n (i128_bytes_rejected before g s) h small =
     absurd (omega (arith, (head_one 6 1 xs 2 3 before h.before (omega arith) g h.tagged).1))
-negative_bignum_apart xs refusal rest v n (i128_negative_bytes_refused before g s) h small =
-    behind_apart 3 _ xs refusal rest before v n g s h
-negative_bignum_apart xs refusal rest v n (i128_too_great tag w k is g most e f) h small =
+negative_bignum_apart xs err rest v n (i128_negative_bytes_rejected before g s) h small =
+    after_apart 3 _ xs err rest before v n g s h
+negative_bignum_apart xs err rest v n (i128_too_great tag w k is g most e f) h small =
     absurd (omega (arith, most, small, same_bignum tag 3 xs w v k n g h))
 
-pub i128_apart : NeverBoth ReadsI128 (λ xs budget. StopsI128 xs)
-i128_apart xs budget refusal rest s (pos k) n c (inl h, zero) fits =
-    positive_head_apart xs refusal rest k n s h
-i128_apart xs budget refusal rest s (pos k) n c (inr h, zero) fits =
-    positive_bignum_apart xs refusal rest k n s h.0 h.1
-i128_apart xs budget refusal rest s (negsuc k) n c (inl h, zero) fits =
-    negative_head_apart xs refusal rest k n s h
-i128_apart xs budget refusal rest s (negsuc k) n c (inr h, zero) fits =
-    negative_bignum_apart xs refusal rest k n s h.0 h.1
+pub i128_apart : NeverBoth ReadsI128 (λ xs budget. RejectsI128 xs)
+i128_apart xs budget err rest s (pos k) n c (inl h, zero) fits =
+    positive_head_apart xs err rest k n s h
+i128_apart xs budget err rest s (pos k) n c (inr h, zero) fits =
+    positive_bignum_apart xs err rest k n s h.0 h.1
+i128_apart xs budget err rest s (negsuc k) n c (inl h, zero) fits =
+    negative_head_apart xs err rest k n s h
+i128_apart xs budget err rest s (negsuc k) n c (inr h, zero) fits =
+    negative_bignum_apart xs err rest k n s h.0 h.1

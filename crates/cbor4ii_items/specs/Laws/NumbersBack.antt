@@ -14,15 +14,15 @@ use Rattle.cbor4ii_items.specs.ReadHead.{number_on}
 use Rattle.cbor4ii_items.specs.Magnitude.{number_of, without_leading_zeros, magnitude}
 use Rattle.cbor4ii_items.specs.Numbers.{ReadsArgument, ReadsSigned, IsWithin, ReadsMagnitude}
 use Rattle.cbor4ii_items.specs.Numbers.{ReadsBignum, ReadsU128, ReadsI128, shortest_head}
-use Rattle.cbor4ii_items.specs.Numbers.{signed_head, counted_string, bignum_bytes, unsigned_bytes}
+use Rattle.cbor4ii_items.specs.Numbers.{signed_head, definite_string, bignum_bytes, unsigned_bytes}
 use Rattle.cbor4ii_items.specs.Numbers.{signed_bytes}
 use Rattle.cbor4ii_items.specs.ReadBack.{ReadsBack, NoneBeginsAnother}
 use Rattle.cbor4ii_items.specs.Laws.Outcome.{same_value}
-use Rattle.cbor4ii_items.specs.Refusal.{Refusal, refusal_of}
+use Rattle.cbor4ii_items.specs.InputError.{InputError, input_error_of}
 use Rattle.cbor4ii_rw.specs.View.{View}
 use Rattle.cbor4ii_rw.specs.declared.error.DecodeError.{DecodeError}
 use Rattle.cbor4ii_items.specs.Laws.Bignums.{number_taken}
-use Rattle.cbor4ii_items.specs.Decoding.{Reads, CostFits, Sound, NoneRead, Refuses}
+use Rattle.cbor4ii_items.specs.Decoding.{Reads, CostFits, Sound, NoneRead, Complete}
 
 -- ---- the shortest head
 
@@ -135,25 +135,25 @@ number_of_bytes : (k n : ℕ) → n < 256 ^ k → number_of (bytes_high_first k 
 number_of_bytes k n h =
     let bs = bytes_high_first k n in
     let long : length bs ≡ k = length-bytes_high_first k n in
-    let front : take k (bs ++ []) ≡ bs =
+    let prefix : take k (bs ++ []) ≡ bs =
     ap (λ j. take j (bs ++ [])) (sym long) ∙ take-append_seam bs [] in
     let room : k ≤ length (bs ++ []) = omega (arith, length-append bs [], long) in
     let same = same_value (number_on [] 0 k 0 (bs ++ [])) (number_again [] 0 k n [] h)
     (number_taken [] 0 k 0 (bs ++ []) room) in
-    sym (same.0 ∙ ap number_of front)
+    sym (same.0 ∙ ap number_of prefix)
 
 string_back : (content rest : List ℕ) → length content ≤ 16 → IsBytes content
-    → ReadsMagnitude (counted_string 2 content ++ rest) (number_of content)
-    (length (counted_string 2 content))
+    → ReadsMagnitude (definite_string 2 content ++ rest) (number_of content)
+    (length (definite_string 2 content))
 string_back content rest short bytes =
     let start = shortest_head 2 (length content) in
-    let whole : counted_string 2 content ++ rest ≡ start ++ (content ++ rest) =
+    let whole : definite_string 2 content ++ rest ≡ start ++ (content ++ rest) =
     append_assoc start content rest in
-    let behind : drop (length start) (counted_string 2 content ++ rest) ≡ content ++ rest =
+    let trailing : drop (length start) (definite_string 2 content ++ rest) ≡ content ++ rest =
     ap (drop (length start)) whole ∙ drop-append_seam start (content ++ rest) in
     let inner : take (length content)
-    (drop (length start) (counted_string 2 content ++ rest)) ≡ content =
-    ap (take (length content)) behind ∙ take-append_seam content rest in
+    (drop (length start) (definite_string 2 content ++ rest)) ≡ content =
+    ap (take (length content)) trailing ∙ take-append_seam content rest in
     let small : length content < 256 ^ 8 = omega (arith, short) in
     record {
       count = length content;
@@ -179,12 +179,12 @@ bignum_back : (tag v : ℕ) → tag < 256 → v < 256 ^ 16 → (rest : List ℕ)
 bignum_back tag v small fits rest =
     let start = shortest_head 6 tag in
     let content = magnitude v in
-    let whole : bignum_bytes tag v ++ rest ≡ start ++ (counted_string 2 content ++ rest) =
-    append_assoc start (counted_string 2 content) rest in
-    let behind : drop (length start)
-    (bignum_bytes tag v ++ rest) ≡ counted_string 2 content ++ rest =
+    let whole : bignum_bytes tag v ++ rest ≡ start ++ (definite_string 2 content ++ rest) =
+    append_assoc start (definite_string 2 content) rest in
+    let trailing : drop (length start)
+    (bignum_bytes tag v ++ rest) ≡ definite_string 2 content ++ rest =
     ap (drop (length start)) whole
-    ∙ drop-append_seam start (counted_string 2 content ++ rest) in
+    ∙ drop-append_seam start (definite_string 2 content ++ rest) in
     let number : number_of content ≡ v =
     number_kept (bytes_high_first 16 v) ∙ number_of_bytes 16 v fits in
     let short : length content ≤ 16 =
@@ -199,13 +199,13 @@ bignum_back tag v small fits rest =
       before = length start;
       tagged =
           subst (λ zs. ReadsHead 6 1 zs tag (length start)) (sym whole)
-          (head_back 6 w_one tag small (counted_string 2 content ++ rest));
-      size = length (counted_string 2 content);
+          (head_back 6 w_one tag small (definite_string 2 content ++ rest));
+      size = length (definite_string 2 content);
       magnitude =
-          subst (λ zs. ReadsMagnitude zs v (length (counted_string 2 content))) (sym behind)
-          (subst (λ k. ReadsMagnitude (counted_string 2 content ++ rest) k
-          (length (counted_string 2 content))) number back);
-      total = length-append start (counted_string 2 content);
+          subst (λ zs. ReadsMagnitude zs v (length (definite_string 2 content))) (sym trailing)
+          (subst (λ k. ReadsMagnitude (definite_string 2 content ++ rest) k
+          (length (definite_string 2 content))) number back);
+      total = length-append start (definite_string 2 content);
     }
 
 -- an integer as a head's argument where it fits, else as a bignum
@@ -236,7 +236,7 @@ i128_back (negsuc k) h rest = (
   refl,
 )
 
--- ---- no spelling begins another
+-- ---- no encoding begins another
 
 nothing_more : (xs more : List ℕ) → length xs ≡ length (xs ++ more) → more ≡ []
 nothing_more xs [] e = refl
@@ -259,23 +259,25 @@ module _ {V : Type 0} (reads : Reads V) where
   pub decoded : (same : V → V → Type 0) → ((xs : List ℕ) (v w : V) (n m c d : ℕ) → reads xs v n c
       → reads xs w m d → (n ≡ m) × (c ≡ d) × same v w)
       → (bytes rest : List ℕ) (v w : V) (cost : ℕ) (old new : View) → ReadsBack reads bytes v cost
-      → old.told ≡ Some (bytes ++ rest) → Sound reads old new w → same v w × (new.told ≡ Some rest)
-  decoded same one bytes rest v w cost old new back told sound =
-      let t = sound.at (bytes ++ rest) told in
+      → old.known ≡ Some (bytes ++ rest) → Sound reads old new w → same v w ×
+      (new.known ≡ Some rest)
+  decoded same one bytes rest v w cost old new back known sound =
+      let t = sound.at (bytes ++ rest) known in
       let s = one (bytes ++ rest) v w (length bytes) t.count cost t.cost (back rest) t.read in (
         s.2,
         t.left ∙ ap (λ n. Some (drop n (bytes ++ rest))) (sym s.0)
             ∙ ap Some (drop-append_seam bytes rest),
       )
 
-  refused_none : (o : Option Refusal) (xs : List ℕ) (budget : Option ℕ) (v : V) (n c : ℕ)
+  rejected_none : (o : Option InputError) (xs : List ℕ) (budget : Option ℕ) (v : V) (n c : ℕ)
       → reads xs v n c → CostFits c budget → IfSome o (λ z. NoneRead reads xs budget) → o ≡ None
-  refused_none None xs budget v n c r fits none = refl
-  refused_none (Some z) xs budget v n c r fits none = absurd (none v n c r fits)
+  rejected_none None xs budget v n c r fits none = refl
+  rejected_none (Some z) xs budget v n c r fits none = absurd (none v n c r fits)
 
-  pub not_refused : {E : Type 0} (bytes rest : List ℕ) (v : V) (cost : ℕ) (old : View)
+  pub not_rejected : {E : Type 0} (bytes rest : List ℕ) (v : V) (cost : ℕ) (old : View)
       (error : DecodeError E) → ReadsBack reads bytes v cost → CostFits cost old.budget
-      → old.told ≡ Some (bytes ++ rest) → Refuses reads old error → refusal_of error ≡ None
-  not_refused bytes rest v cost old error back fits told refuses =
-      refused_none (refusal_of error) (bytes ++ rest) old.budget v (length bytes) cost (back rest)
-      fits (refuses.at (bytes ++ rest) told)
+      → old.known ≡ Some (bytes ++ rest) → Complete reads old error → input_error_of error ≡ None
+  not_rejected bytes rest v cost old error back fits known is_complete =
+      rejected_none (input_error_of error) (bytes ++ rest) old.budget v (length bytes) cost
+      (back rest)
+      fits (is_complete.at (bytes ++ rest) known)

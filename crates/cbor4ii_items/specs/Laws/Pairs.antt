@@ -1,4 +1,4 @@
--- A key, and its value behind it.
+-- A key, and its value after it.
 use Rattle.std.proofs.Common.{◌≡◌, ℕ, ◌+◌, ◌≤◌, inl, inr, List, drop, Option, Some, Ok, Err, refl}
 use Rattle.std.proofs.Common.{ap, ◌∙◌}
 use Rattle.std.proofs.Common.{subst, arith, max, IsTrue, Bool, true, false}
@@ -8,12 +8,12 @@ use Rattle.std.specs.Prelude.{◌||◌}
 use Rattle.cbor4ii_items.specs.Decoding.{Reads, CostFits, Sound}
 use Rattle.cbor4ii_items.specs.Moves.{Kept}
 use Rattle.cbor4ii_items.specs.Laws.Steps.{kept_then}
-use Rattle.cbor4ii_items.specs.Decoding.{StopsAt, NoneRead, Spelling, IsLawful, Decodes, DecodesIf}
-use Rattle.cbor4ii_items.specs.Sequences.{ReadsPair, StopsBehindKey, pair_spelling}
-use Rattle.cbor4ii_items.specs.Refusal.{Refusal}
-use Rattle.cbor4ii_items.specs.Laws.Calls.{ok, err_behind}
+use Rattle.cbor4ii_items.specs.Decoding.{RejectsAt, NoneRead, Format, IsLawful, Decodes, DecodesIf}
+use Rattle.cbor4ii_items.specs.Sequences.{ReadsPair, RejectsAfterKey, pair_format}
+use Rattle.cbor4ii_items.specs.InputError.{InputError}
+use Rattle.cbor4ii_items.specs.Laws.Calls.{ok, err_after}
 use Rattle.cbor4ii_items.specs.Laws.Containers.{both}
-use Rattle.cbor4ii_items.specs.Laws.Fronts.{drop_more}
+use Rattle.cbor4ii_items.specs.Laws.Prefixes.{drop_more}
 use Rattle.cbor4ii_items.specs.Laws.Running.{kept_alike}
 use Rattle.cbor4ii_items.specs.Laws.SequenceParts.{fits_less, fits_max}
 use Rattle.cbor4ii_items.specs.Laws.Sequences.{either}
@@ -28,8 +28,8 @@ module _ {K V : Type 0} (key_reads : Reads K) (value_reads : Reads V) where
   pub pair_sound : {a m b : View} {k : K} {v : V} → Kept a m → Sound key_reads a m k
       → Sound value_reads m b v → Sound (ReadsPair key_reads value_reads) a b (k, v)
   pair_sound {a = a} kept s t = record {
-    at = λ xs told.
-        let p = s.at xs told in
+    at = λ xs known.
+        let p = s.at xs known in
         let q = t.at (drop p.count xs) p.left in
         record {
           count = p.count + q.count;
@@ -63,7 +63,7 @@ module _ {K V : Type 0} (key_reads : Reads K) (value_reads : Reads V) where
   value_less xs p n c budget h fits =
       fits_less h.value_cost c budget (less_max_right c h.key_cost h.value_cost h.cost) fits
 
-module _ {K V : Type 0} (k : Spelling K) (v : Spelling V) where
+module _ {K V : Type 0} (k : Format K) (v : Format V) where
   no_key : (xs : List ℕ) (budget : Option ℕ) → NoneRead k.reads xs budget
       → NoneRead (ReadsPair k.reads v.reads) xs budget
   no_key xs budget none p n c h fits =
@@ -86,26 +86,26 @@ pub or_right : (x y : Bool) → IsTrue y → IsTrue (x || y)
 or_right true y h = refl
 or_right false y h = h
 
-module _ {K V E : Type 0} (k : Spelling K) (v : Spelling V) where
+module _ {K V E : Type 0} (k : Format K) (v : Format V) where
   pub pair_ok : {a m b : View} {key : K} {value : V} → Decodes {E = E} k a m (Ok key)
       → Decodes {E = E} v m b (Ok value)
-      → Decodes {E = E} (pair_spelling k v) a b (Ok (key, value))
+      → Decodes {E = E} (pair_format k v) a b (Ok (key, value))
   pair_ok s t =
-      ok (pair_spelling k v) (kept_then s.moves.by t.moves.by)
+      ok (pair_format k v) (kept_then s.moves.by t.moves.by)
       (λ some. elim (either k.never_empty v.never_empty some) [
         | inl e ↦ omega (arith, s.progress e, t.moves.by.bound)
         | inr e ↦ omega (arith, t.progress e, s.moves.by.bound)
       ]) (pair_sound k.reads v.reads s.moves.by s.sound t.sound)
 
   pub key_err : {exact : Bool} {a m : View} {e : DecodeError E} → DecodesIf exact k a m (Err e)
-      → DecodesIf exact (pair_spelling k v) a m (Err e)
+      → DecodesIf exact (pair_format k v) a m (Err e)
   key_err {a = a} t =
-      err_behind k (pair_spelling k v) (kept_alike a) (λ xs told. (
+      err_after k (pair_format k v) (kept_alike a) (λ xs known. (
         xs,
-        told,
+        known,
         record {
           none = λ is. no_key k v xs a.budget;
-          stops = λ z zs h. inl h;
+          rejects = λ z zs h. inl h;
           begins = λ z zs h. inl h;
         },
       )) (λ owned. (both k.owned v.owned owned).0) (or_left k.takes_memory v.takes_memory) t
@@ -113,13 +113,13 @@ module _ {K V E : Type 0} (k : Spelling K) (v : Spelling V) where
   pub value_err : {exact : Bool} {a m b : View} {key : K} {e : DecodeError E}
       → (IsTrue exact → IsLawful k)
       → Decodes {E = E} k a m (Ok key) → DecodesIf exact v m b (Err e)
-      → DecodesIf exact (pair_spelling k v) a b (Err e)
+      → DecodesIf exact (pair_format k v) a b (Err e)
   value_err {a = a} {key = key} lawful s t =
-      err_behind v (pair_spelling k v) s.moves.by (λ xs told.
-      let p = s.sound.at xs told in
-      let stop : (stops : StopsAt) (z : Refusal) (zs : List ℕ)
-      → stops (drop p.count xs) a.budget z zs → StopsBehindKey k.reads stops xs a.budget z zs =
-      λ stops z zs h. record {
+      err_after v (pair_format k v) s.moves.by (λ xs known.
+      let p = s.sound.at xs known in
+      let stop : (rejects : RejectsAt) (z : InputError) (zs : List ℕ)
+      → rejects (drop p.count xs) a.budget z zs → RejectsAfterKey k.reads rejects xs a.budget z zs =
+      λ rejects z zs h. record {
         whole = key;
         size = p.count;
         cost = p.cost;
@@ -131,7 +131,7 @@ module _ {K V E : Type 0} (k : Spelling K) (v : Spelling V) where
         p.left,
         record {
           none = λ is. no_value k v (lawful is) xs key p.count p.cost a.budget p.read;
-          stops = λ z zs h. inr (stop v.stops z zs h);
+          rejects = λ z zs h. inr (stop v.rejects z zs h);
           begins = λ z zs h. inr (stop v.begins z zs h);
         },
       )) (λ owned. (both k.owned v.owned owned).1) (or_right k.takes_memory v.takes_memory) t

@@ -1,4 +1,4 @@
--- Lengths, items behind a head, and sequences are read back from what is written.
+-- Lengths, items after a head, and sequences are read back from what is written.
 use Rattle.std.proofs.Common.{◌≡◌, ℕ, ◌+◌, ◌<◌, ◌^◌, List, [], ◌∷◌, ◌++◌, length, drop, Bool, Some}
 use Rattle.std.proofs.Common.{None, inl, refl, sym, ap, ◌∙◌, subst, arith, append_assoc}
 use Rattle.std.proofs.Common.{length-append}
@@ -14,7 +14,8 @@ use Rattle.cbor4ii_items.specs.Containers.{ReadsTag}
 use Rattle.cbor4ii_items.specs.Numbers.{shortest_head}
 use Rattle.cbor4ii_items.specs.ReadBack.{ReadsBack, greatest_cost, pair_cost}
 use Rattle.cbor4ii_items.specs.SequenceBytes.{items_bytes, pair_bytes}
-use Rattle.cbor4ii_items.specs.Sequences.{ReadsParts, ReadsCountedParts, ReadsSequence, ReadsPair}
+use Rattle.cbor4ii_items.specs.Sequences.{ReadsElements, ReadsDefiniteElements, ReadsSequence}
+use Rattle.cbor4ii_items.specs.Sequences.{ReadsPair}
 use Rattle.cbor4ii_items.specs.Strings.{opening}
 use Rattle.cbor4ii_items.specs.Laws.NumbersBack.{head_back}
 
@@ -22,36 +23,41 @@ pub length_back : (major len : ℕ) → len < 2 ^ 64
     → ReadsBack (ReadsLength major) (shortest_head major len) (Some len) 0
 length_back major len h rest = (head_back major eight len h rest, refl)
 
-pub open_back : (major : ℕ) → ReadsBack (ReadsLength major) (opening major) None 0
-open_back major rest = (refl, refl, refl)
+pub indefinite_back : (major : ℕ) → ReadsBack (ReadsLength major) (opening major) None 0
+indefinite_back major rest = (refl, refl, refl)
 
--- bytes behind a front, and others behind them
-pub record Behind (front bytes rest : List ℕ) : Type 0 where
-  pub whole : (front ++ bytes) ++ rest ≡ front ++ (bytes ++ rest)
-  pub left : drop (length front) ((front ++ bytes) ++ rest) ≡ bytes ++ rest
+-- bytes after a prefix, and others after them
+pub record After (prefix bytes rest : List ℕ) : Type 0 where
+  pub whole : (prefix ++ bytes) ++ rest ≡ prefix ++ (bytes ++ rest)
+  pub left : drop (length prefix) ((prefix ++ bytes) ++ rest) ≡ bytes ++ rest
 
-pub behind : (front bytes rest : List ℕ) → Behind front bytes rest
-behind front bytes rest =
-    let e = append_assoc front bytes rest in
-    record { whole = e; left = ap (drop (length front)) e ∙ drop-append_seam front (bytes ++ rest) }
+pub trailing : (prefix bytes rest : List ℕ) → After prefix bytes rest
+trailing prefix bytes rest =
+    let e = append_assoc prefix bytes rest in
+    record {
+      whole = e;
+      left = ap (drop (length prefix)) e ∙ drop-append_seam prefix
+          (bytes ++ rest);
+    }
 
--- a head of eight bytes of argument at most, whatever stands behind it
+-- a head of eight bytes of argument at most, whatever follows it
 pub headed : (major k : ℕ) (bytes rest : List ℕ) → k < 2 ^ 64
     → ReadsHead major 8 ((shortest_head major k ++ bytes) ++ rest) k
     (length (shortest_head major k))
 headed major k bytes rest h =
     let start = shortest_head major k in
-    subst (λ zs. ReadsHead major 8 zs k (length start)) (sym (behind start bytes rest).whole)
+    subst (λ zs. ReadsHead major 8 zs k (length start)) (sym (trailing start bytes rest).whole)
     (head_back major eight k h (bytes ++ rest))
 
--- what is read back, behind a front
-item_behind : {V : Type 0} (reads : Reads V) (front bytes : List ℕ) (v : V) (cost : ℕ)
+-- what is read back, after a prefix
+item_after : {V : Type 0} (reads : Reads V) (prefix bytes : List ℕ) (v : V) (cost : ℕ)
     → ReadsBack reads bytes v cost
-    → (rest : List ℕ) → reads (drop (length front) ((front ++ bytes) ++ rest)) v (length bytes) cost
-item_behind reads front bytes v cost back rest =
-    subst (λ zs. reads zs v (length bytes) cost) (sym (behind front bytes rest).left) (back rest)
+    → (rest : List ℕ) → reads (drop (length prefix) ((prefix ++ bytes) ++ rest)) v
+    (length bytes) cost
+item_after reads prefix bytes v cost back rest =
+    subst (λ zs. reads zs v (length bytes) cost) (sym (trailing prefix bytes rest).left) (back rest)
 
--- ---- items behind a head
+-- ---- items after a head
 
 module _ {V : Type 0} (reads : Reads V) (bytes : List ℕ) (v : V) (cost : ℕ)
     (back : ReadsBack reads bytes v cost) where
@@ -65,7 +71,7 @@ module _ {V : Type 0} (reads : Reads V) (bytes : List ℕ) (v : V) (cost : ℕ)
         before = length start;
         head = headed 6 number bytes rest h;
         count = length bytes;
-        item = item_behind reads start bytes v cost back rest;
+        item = item_after reads start bytes v cost back rest;
         bytes = length-append start bytes;
       }
 
@@ -76,7 +82,7 @@ module _ {V : Type 0} (reads : Reads V) (bytes : List ℕ) (v : V) (cost : ℕ)
         before = length start;
         head = headed 4 1 bytes rest (omega arith);
         count = length bytes;
-        item = item_behind reads start bytes v cost back rest;
+        item = item_after reads start bytes v cost back rest;
         bytes = length-append start bytes;
       }
 
@@ -88,21 +94,21 @@ none_back reads rest = (head_back 4 eight 0 (omega arith) rest, refl)
 
 module _ {P : Type 0} (reads : Reads P) (bytes : P → List ℕ) (cost : P → ℕ) where
   parts_back : (ps : List P) → All (λ p. ReadsBack reads (bytes p) p (cost p)) ps → (rest : List ℕ)
-      → ReadsParts reads (items_bytes bytes ps ++ rest) ps (length (items_bytes bytes ps))
+      → ReadsElements reads (items_bytes bytes ps ++ rest) ps (length (items_bytes bytes ps))
       (greatest_cost cost ps)
   parts_back [] back rest = (refl, refl)
   parts_back (p ∷ ps) back rest =
       let P : P → Type 0 = λ q. ReadsBack reads (bytes q) q (cost q) in
       let others = items_bytes bytes ps in
       let n = length (bytes p) in
-      let b = behind (bytes p) others rest in
+      let b = trailing (bytes p) others rest in
       let tail = parts_back ps (All-tail P p ps back) rest in (
         n,
         cost p,
         length others,
         greatest_cost cost ps,
         subst (λ zs. reads zs p n (cost p)) (sym b.whole) (All-head P p ps back (others ++ rest)),
-        subst (λ zs. ReadsParts reads zs ps (length others) (greatest_cost cost ps))
+        subst (λ zs. ReadsElements reads zs ps (length others) (greatest_cost cost ps))
             (sym b.left) tail,
         length-append (bytes p) others,
         refl,
@@ -115,9 +121,9 @@ module _ {P : Type 0} (reads : Reads P) (bytes : P → List ℕ) (cost : P → �
   sequence_back major never_empty ps h back rest =
       let start = shortest_head major (length ps) in
       let inside = items_bytes bytes ps in
-      let parts = subst (λ zs. ReadsParts reads zs ps (length inside) (greatest_cost cost ps))
-      (sym (behind start inside rest).left) (parts_back ps back rest) in
-      let counted : ReadsCountedParts major reads ((start ++ inside) ++ rest) ps
+      let parts = subst (λ zs. ReadsElements reads zs ps (length inside) (greatest_cost cost ps))
+      (sym (trailing start inside rest).left) (parts_back ps back rest) in
+      let counted : ReadsDefiniteElements major reads ((start ++ inside) ++ rest) ps
       (length (start ++ inside)) (greatest_cost cost ps) =
       record {
         before = length start;
@@ -143,10 +149,10 @@ pair_back key_reads value_reads key_bytes value_bytes key_cost value_cost p key 
       key_cost = key_cost p.0;
       key =
           subst (λ zs. key_reads zs p.0 (length first) (key_cost p.0))
-          (sym (behind first second rest).whole) (key (second ++ rest));
+          (sym (trailing first second rest).whole) (key (second ++ rest));
       value_size = length second;
       value_cost = value_cost p.1;
-      value = item_behind value_reads first second p.1 (value_cost p.1) value rest;
+      value = item_after value_reads first second p.1 (value_cost p.1) value rest;
       size = length-append first second;
       cost = refl;
     }

@@ -6,15 +6,15 @@ use Rattle.std.proofs.Common.{ltb, eqb, eq-eqb, eqb-true, ltb-false, cond}
 use Rattle.std.specs.Prelude.{codes}
 use Rattle.std.proofs.lemmas.List.{length-drop}
 use Rattle.cbor4ii_rw.specs.declared.error.Len.TheVariants.{Small}
-use Rattle.cbor4ii_items.specs.Head.{break, open_head}
-use Rattle.cbor4ii_items.specs.Refusal.{Refusal, mismatch, eof, len_of}
-use Rattle.cbor4ii_items.specs.Reading.{Reading, give, refuse, go_on, ◌>=>◌, byte_at}
-use Rattle.cbor4ii_items.specs.Laws.Outcome.{same_value, same_refusal}
+use Rattle.cbor4ii_items.specs.Head.{break, indefinite_head}
+use Rattle.cbor4ii_items.specs.InputError.{InputError, mismatch, eof, len_of}
+use Rattle.cbor4ii_items.specs.Reading.{Reading, give, reject, go_on, ◌>=>◌, byte_at}
+use Rattle.cbor4ii_items.specs.Laws.Outcome.{same_value, same_input_error}
 use Rattle.cbor4ii_items.specs.ReadHead.{number_on, argument_at, head_by, head_at, length_by}
 use Rattle.cbor4ii_items.specs.ReadHead.{length_at, following, allowed}
 use Rattle.cbor4ii_items.specs.ReadStrings.{content_on, break_at, chunk_by, chunk_inside_at}
 use Rattle.cbor4ii_items.specs.ReadStrings.{chunk_at}
-use Rattle.cbor4ii_items.specs.Laws.Fronts.{drop_more}
+use Rattle.cbor4ii_items.specs.Laws.Prefixes.{drop_more}
 
 -- some bytes were passed
 pub record Passed (xs ys : List ℕ) : Type 0 where
@@ -40,38 +40,38 @@ passed_length {xs = xs} p = omega (arith, ap length p.left, length-drop p.count 
 
 -- ---- the parts of an answer
 
-pub record OkParts {U V : Type 0} (first : Result (U × List ℕ) (Refusal × List ℕ))
+pub record OkParts {U V : Type 0} (first : Result (U × List ℕ) (InputError × List ℕ))
     (next : U → Reading V) (v : V) (zs : List ℕ) : Type 0 where
   pub value : U
   pub rest : List ℕ
   pub begun : first ≡ Ok (value, rest)
   pub ended : next value rest ≡ Ok (v, zs)
 
-pub ok_parts : {U V : Type 0} (first : Result (U × List ℕ) (Refusal × List ℕ))
+pub ok_parts : {U V : Type 0} (first : Result (U × List ℕ) (InputError × List ℕ))
     (next : U → Reading V) (v : V) (zs : List ℕ) → go_on first next ≡ Ok (v, zs)
     → OkParts first next v zs
 ok_parts (Ok p) next v zs e = record { value = p.0; rest = p.1; begun = refl; ended = e }
 ok_parts (Err p) next v zs e = cc
 
-pub record ErrParts {U V : Type 0} (first : Result (U × List ℕ) (Refusal × List ℕ))
-    (next : U → Reading V) (z : Refusal) (zs : List ℕ) : Type 0 where
+pub record ErrParts {U V : Type 0} (first : Result (U × List ℕ) (InputError × List ℕ))
+    (next : U → Reading V) (z : InputError) (zs : List ℕ) : Type 0 where
   pub value : U
   pub rest : List ℕ
   pub begun : first ≡ Ok (value, rest)
   pub ended : next value rest ≡ Err (z, zs)
 
-pub err_parts : {U V : Type 0} (first : Result (U × List ℕ) (Refusal × List ℕ))
-    (next : U → Reading V) (z : Refusal) (zs : List ℕ) → go_on first next ≡ Err (z, zs)
+pub err_parts : {U V : Type 0} (first : Result (U × List ℕ) (InputError × List ℕ))
+    (next : U → Reading V) (z : InputError) (zs : List ℕ) → go_on first next ≡ Err (z, zs)
     → (first ≡ Err (z, zs)) ⊎ ErrParts first next z zs
 err_parts (Ok p) next z zs e = inr (record { value = p.0; rest = p.1; begun = refl; ended = e })
 err_parts (Err p) next z zs e =
-    let f : p ≡ (z, zs) = cc in inl (ap (λ (q : Refusal × List ℕ). Err q) f)
+    let f : p ≡ (z, zs) = cc in inl (ap (λ (q : InputError × List ℕ). Err q) f)
 
 -- ---- a program that leaves an end of what it is given
 
 pub record LeavesEnd {V : Type 0} (program : Reading V) : Type 0 where
   pub ok : (xs : List ℕ) (v : V) (ys : List ℕ) → program xs ≡ Ok (v, ys) → Passed xs ys
-  pub err : (xs : List ℕ) (z : Refusal) (ys : List ℕ) → program xs ≡ Err (z, ys) → Passed xs ys
+  pub err : (xs : List ℕ) (z : InputError) (ys : List ℕ) → program xs ≡ Err (z, ys) → Passed xs ys
 
 pub give_leaves : {V : Type 0} (v : V) → LeavesEnd (give v)
 give_leaves v = record {
@@ -79,10 +79,10 @@ give_leaves v = record {
   err = λ xs z ys e. cc;
 }
 
-pub refuse_leaves : {V : Type 0} (z : Refusal) → LeavesEnd {V = V} (refuse z)
-refuse_leaves {V} z = record {
+pub reject_leaves : {V : Type 0} (z : InputError) → LeavesEnd {V = V} (reject z)
+reject_leaves {V} z = record {
   ok = λ xs w ys e. cc;
-  err = λ xs y ys e. passed_none xs ys (same_refusal (refuse {V = V} z xs) refl e).1;
+  err = λ xs y ys e. passed_none xs ys (same_input_error (reject {V = V} z xs) refl e).1;
 }
 
 pub if_leaves : {V : Type 0} (t : Bool) {f g : Reading V} → LeavesEnd f → LeavesEnd g
@@ -90,7 +90,7 @@ pub if_leaves : {V : Type 0} (t : Bool) {f g : Reading V} → LeavesEnd f → Le
 if_leaves true p q = p
 if_leaves false p q = q
 
-then_err : {U V : Type 0} {f : Reading U} {g : U → Reading V} (xs zs : List ℕ) (z : Refusal)
+then_err : {U V : Type 0} {f : Reading U} {g : U → Reading V} (xs zs : List ℕ) (z : InputError)
     → LeavesEnd f → ((u : U) → LeavesEnd (g u)) → (f xs ≡ Err (z, zs)) ⊎ ErrParts (f xs) g z zs
     → Passed xs zs
 then_err xs zs z p q (inl e) = p.err xs z zs e
@@ -111,9 +111,10 @@ byte_ok name expect [] v ys e = cc
 byte_ok name expect (b ∷ bs) v ys e =
     passed_one b bs ys (same_value (byte_at name expect (b ∷ bs)) refl e).1
 
-byte_err : (name : List ℕ) (expect : ℕ) (xs : List ℕ) (z : Refusal) (ys : List ℕ)
+byte_err : (name : List ℕ) (expect : ℕ) (xs : List ℕ) (z : InputError) (ys : List ℕ)
     → byte_at name expect xs ≡ Err (z, ys) → Passed xs ys
-byte_err name expect [] z ys e = passed_none [] ys (same_refusal (byte_at name expect []) refl e).1
+byte_err name expect [] z ys e =
+    passed_none [] ys (same_input_error (byte_at name expect []) refl e).1
 byte_err name expect (b ∷ bs) z ys e = cc
 
 pub byte_leaves : (name : List ℕ) (expect : ℕ) → LeavesEnd (byte_at name expect)
@@ -128,18 +129,18 @@ argument_leaves : (name : List ℕ) (width b : ℕ) → LeavesEnd (argument_at n
 argument_leaves name width b =
     let k = following (b % 32) in
     if_leaves (ltb (b % 32) 24) (give_leaves (b % 32)) (if_leaves (allowed width (b % 32))
-    (number_leaves name k k 0) (refuse_leaves (mismatch name b)))
+    (number_leaves name k k 0) (reject_leaves (mismatch name b)))
 
 head_by_leaves : (name : List ℕ) (major width b : ℕ) → LeavesEnd (head_by name major width b)
 head_by_leaves name major width b =
-    if_leaves (eqb (b / 32) major) (argument_leaves name width b) (refuse_leaves (mismatch name b))
+    if_leaves (eqb (b / 32) major) (argument_leaves name width b) (reject_leaves (mismatch name b))
 
 pub head_leaves : (name : List ℕ) (major width : ℕ) → LeavesEnd (head_at name major width)
 head_leaves name major width = then_leaves (byte_leaves name 1) (head_by_leaves name major width)
 
 length_by_leaves : (name : List ℕ) (major b : ℕ) → LeavesEnd (length_by name major b)
 length_by_leaves name major b =
-    if_leaves (eqb b (open_head major)) (give_leaves None)
+    if_leaves (eqb b (indefinite_head major)) (give_leaves None)
     (then_leaves (head_by_leaves name major 8 b) (λ n. give_leaves (Some n)))
 
 pub length_leaves : (name : List ℕ) (major : ℕ) → LeavesEnd (length_at name major)
@@ -171,7 +172,8 @@ some_by false name major b k bs ys e =
 pub length_some : (name : List ℕ) (major k : ℕ) (xs ys : List ℕ)
     → length_at name major xs ≡ Ok (Some k, ys) → head_at name major 8 xs ≡ Ok (k, ys)
 length_some name major k [] ys e = cc
-length_some name major k (b ∷ bs) ys e = some_by (eqb b (open_head major)) name major b k bs ys e
+length_some name major k (b ∷ bs) ys e =
+    some_by (eqb b (indefinite_head major)) name major b k bs ys e
 
 none_by : (t : Bool) (name : List ℕ) (major b : ℕ) (bs ys : List ℕ) → cond t (give None)
     (head_by name major 8 b >=> λ n. give (Some n)) bs ≡ Ok (None, ys) → (t ≡ true) × (ys ≡ bs)
@@ -182,19 +184,19 @@ none_by false name major b bs ys e =
     let f : Some g.value ≡ None = p.0 in
     cc
 
--- an open length is one byte
+-- an indefinite length is one byte
 pub length_none : (name : List ℕ) (major : ℕ) (xs ys : List ℕ)
     → length_at name major xs ≡ Ok (None, ys)
-    → (take 1 xs ≡ open_head major ∷ []) × (ys ≡ drop 1 xs)
+    → (take 1 xs ≡ indefinite_head major ∷ []) × (ys ≡ drop 1 xs)
 length_none name major [] ys e = cc
 length_none name major (b ∷ bs) ys e =
-    let p = none_by (eqb b (open_head major)) name major b bs ys e in
-    (ap (λ z. z ∷ []) (eqb-true b (open_head major) p.0), p.1)
+    let p = none_by (eqb b (indefinite_head major)) name major b bs ys e in
+    (ap (λ z. z ∷ []) (eqb-true b (indefinite_head major) p.0), p.1)
 
 -- ---- content
 
 content_by : (t : Bool) (name : List ℕ) (count : ℕ) (before xs v ys : List ℕ)
-    → ltb (length xs) count ≡ t → cond {A = Result (List ℕ × List ℕ) (Refusal × List ℕ)} t
+    → ltb (length xs) count ≡ t → cond {A = Result (List ℕ × List ℕ) (InputError × List ℕ)} t
     (Err (eof name (len_of (count - length xs)), []))
     (Ok (before ++ take count xs, drop count xs)) ≡ Ok (v, ys)
     → (count ≤ length xs) × (v ≡ before ++ take count xs) × (ys ≡ drop count xs)
@@ -218,7 +220,7 @@ content_passed name count before xs v ys e =
 -- ---- breaks
 
 yes_by : (t : Bool) (b : ℕ) (bs ys : List ℕ)
-    → cond {A = Result (Bool × List ℕ) (Refusal × List ℕ)} t (Ok (true, bs))
+    → cond {A = Result (Bool × List ℕ) (InputError × List ℕ)} t (Ok (true, bs))
     (Ok (false, b ∷ bs)) ≡ Ok (true, ys) → (t ≡ true) × (ys ≡ bs)
 yes_by true b bs ys e = (refl, sym (same_value (Ok (true, bs)) refl e).1)
 yes_by false b bs ys e =
@@ -231,7 +233,7 @@ break_yes (b ∷ bs) ys e =
     let p = yes_by (eqb b break) b bs ys e in (ap (λ z. z ∷ []) (eqb-true b break p.0), p.1)
 
 no_by : (t : Bool) (b : ℕ) (bs ys : List ℕ)
-    → cond {A = Result (Bool × List ℕ) (Refusal × List ℕ)} t (Ok (true, bs))
+    → cond {A = Result (Bool × List ℕ) (InputError × List ℕ)} t (Ok (true, bs))
     (Ok (false, b ∷ bs)) ≡ Ok (false, ys) → (t ≡ false) × (ys ≡ b ∷ bs)
 no_by true b bs ys e = let p = same_value (Ok (true, bs)) refl e in let f : true ≡ false = p.0 in cc
 no_by false b bs ys e = (refl, sym (same_value (Ok (false, b ∷ bs)) refl e).1)
@@ -245,16 +247,16 @@ break_no [] ys e = cc
 break_no (b ∷ bs) ys e =
     let p = no_by (eqb b break) b bs ys e in ((λ f. cc), not_first b break bs p.0, p.1)
 
-no_err_by : (t : Bool) (b : ℕ) (bs ys : List ℕ) (z : Refusal)
-    → cond {A = Result (Bool × List ℕ) (Refusal × List ℕ)} t (Ok (true, bs))
+no_err_by : (t : Bool) (b : ℕ) (bs ys : List ℕ) (z : InputError)
+    → cond {A = Result (Bool × List ℕ) (InputError × List ℕ)} t (Ok (true, bs))
     (Ok (false, b ∷ bs)) ≡ Err (z, ys) → ⊥
 no_err_by true b bs ys z e = cc
 no_err_by false b bs ys z e = cc
 
-pub break_refused : (xs ys : List ℕ) (z : Refusal) → break_at xs ≡ Err (z, ys)
+pub break_rejected : (xs ys : List ℕ) (z : InputError) → break_at xs ≡ Err (z, ys)
     → (xs ≡ []) × (z ≡ eof (codes "break") (Small 1)) × (ys ≡ [])
-break_refused [] ys z e = let p = same_refusal (break_at []) refl e in (refl, sym p.0, sym p.1)
-break_refused (b ∷ bs) ys z e = absurd (no_err_by (eqb b break) b bs ys z e)
+break_rejected [] ys z e = let p = same_input_error (break_at []) refl e in (refl, sym p.0, sym p.1)
+break_rejected (b ∷ bs) ys z e = absurd (no_err_by (eqb b break) b bs ys z e)
 
 -- ---- chunks
 

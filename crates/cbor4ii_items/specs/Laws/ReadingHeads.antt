@@ -7,13 +7,13 @@ use Rattle.std.proofs.Math.Nat.{pow-le-pow_right}
 use Rattle.cbor4ii_rw.specs.View.{View}
 use Rattle.cbor4ii_rw.specs.declared.error.DecodeError.{DecodeError}
 use Rattle.cbor4ii_rw.specs.declared.error.Len.TheVariants.{Small}
-use Rattle.cbor4ii_items.specs.Head.{open_head}
+use Rattle.cbor4ii_items.specs.Head.{indefinite_head}
 use Rattle.cbor4ii_items.specs.Reading.{give, ◌>=>◌, byte_at, Runs, Reaches}
 use Rattle.cbor4ii_items.specs.ReadHead.{number_on, argument_at, head_by, head_at, length_by}
 use Rattle.cbor4ii_items.specs.ReadHead.{length_at, following, allowed}
 use Rattle.cbor4ii_items.specs.Laws.Running.{runs_give, runs_as, runs_then, runs_err, reaches_start}
-use Rattle.cbor4ii_items.specs.Refusal.{Refusal, eof}
-use Rattle.cbor4ii_items.specs.Laws.Outcome.{same_refusal}
+use Rattle.cbor4ii_items.specs.InputError.{InputError, eof}
+use Rattle.cbor4ii_items.specs.Laws.Outcome.{same_input_error}
 
 -- ---- numbers
 
@@ -32,13 +32,13 @@ pub number_more : (name : List ℕ) (expect k i high : ℕ) → i < k → number
     ≡ (byte_at name expect >=> λ b. number_on name expect (k - (i + 1)) (high * 256 + b))
 number_more name expect k i high h = let e : k - i ≡ suc (k - (i + 1)) = omega arith in rw e refl
 
--- a number is refused only where too few bytes follow
-pub number_cut : (name : List ℕ) (expect k high : ℕ) (bs : List ℕ) (z : Refusal) (ys : List ℕ)
+-- a number is rejected only where too few bytes follow
+pub number_cut : (name : List ℕ) (expect k high : ℕ) (bs : List ℕ) (z : InputError) (ys : List ℕ)
     → number_on name expect k high bs ≡ Err (z, ys)
     → (length bs < k) × (z ≡ eof name (Small expect)) × (ys ≡ [])
 number_cut name expect zero high bs z ys e = cc
 number_cut name expect (suc k) high [] z ys e =
-    let p = same_refusal (byte_at name expect []) refl e in
+    let p = same_input_error (byte_at name expect []) refl e in
     (omega arith, sym p.0, sym p.1)
 number_cut name expect (suc k) high (b ∷ bs) z ys e =
     let r = number_cut name expect k (high * 256 + b) bs z ys e in
@@ -82,21 +82,22 @@ runs_head name major width b e p q =
 
 -- ---- lengths
 
-counted : (name : List ℕ) (major b : ℕ) → b ≢ open_head major → b / 32 ≡ major
+counted : (name : List ℕ) (major b : ℕ) → b ≢ indefinite_head major → b / 32 ≡ major
     → length_by name major b ≡ (argument_at name 8 b >=> λ n. give (Some n))
 counted name major b other e =
-    let t : eqb b (open_head major) ≡ false = ne_eqb b (open_head major) other in
+    let t : eqb b (indefinite_head major) ≡ false = ne_eqb b (indefinite_head major) other in
     rw t (ap (λ f. f >=> λ n. give (Some n)) (this_major name major 8 b e))
 
 pub runs_length_err : {E : Type 0} (name : List ℕ) (major b : ℕ) {a m c : View} {e : DecodeError E}
-    → b ≢ open_head major → b / 32 ≡ major → Runs {E = E} (byte_at name 1) a m (Ok b)
+    → b ≢ indefinite_head major → b / 32 ≡ major → Runs {E = E} (byte_at name 1) a m (Ok b)
     → Runs {V = ℕ} (argument_at name 8 b) m c (Err e)
     → Runs {V = Option ℕ} (length_at name major) a c (Err e)
 runs_length_err name major b other is p q =
     runs_then (length_by name major) p
     (runs_as (counted name major b other is) (runs_err (λ n. give (Some n)) q))
 
-pub runs_length : {E : Type 0} (name : List ℕ) (major b v : ℕ) {a m c : View} → b ≢ open_head major
+pub runs_length : {E : Type 0} (name : List ℕ) (major b v : ℕ) {a m c : View} →
+    b ≢ indefinite_head major
     → b / 32 ≡ major → Runs {E = E} (byte_at name 1) a m (Ok b)
     → Runs {E = E} (argument_at name 8 b) m c (Ok v)
     → Runs {V = Option ℕ} {E = E} (length_at name major) a c (Ok (Some v))

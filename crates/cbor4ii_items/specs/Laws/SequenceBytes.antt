@@ -1,4 +1,4 @@
--- Items, written one behind another.
+-- Items, written one after another.
 use Rattle.std.proofs.Common.{◌≡◌, ℕ, ◌+◌, ◌<◌, List, [], ◌∷◌, ◌++◌, length, get_or, take, drop}
 use Rattle.std.proofs.Common.{Option, Ok, Err, Bool, refl, sym, ap, ◌∙◌, append_assoc, subst}
 use Rattle.std.proofs.lemmas.List.{append-nil, take_more, take-append-drop}
@@ -12,7 +12,7 @@ use Rattle.cbor4ii_items.specs.Laws.Written.{appends_then, writes_then, writes_e
 writes_done : {E : Type 0} {whole : Bool} {xs : List ℕ} {a b : Output}
     → Appends xs a.written b.written → b.failures ≡ a.failures
     → Writes {T = Unit {0}} {E = E} whole xs a b (Ok tt)
-writes_done p q = record { appends = p; counts = q; failed = tt; front = λ whole. tt }
+writes_done p q = record { appends = p; counts = q; failed = tt; prefix = λ whole. tt }
 
 module _ {V : Type 0} (bytes : V → List ℕ) (vs : List V) where
   items-append : (us ws : List V)
@@ -30,7 +30,7 @@ module _ {V : Type 0} (bytes : V → List ℕ) (vs : List V) where
       ∙ (items-append (take i vs) (get_or vs i v ∷ []) ∙ ap (λ zs. items_bytes bytes (take i vs)
       ++ zs) (append-nil (bytes (get_or vs i v)) ∙ ap bytes (sym is)))
 
-  -- an item behind the others
+  -- an item after the others
   pub items_then : (i : ℕ) (v : V) (a m b : Option (List ℕ)) → i < length vs → v ≡ get_or vs i v
       → Appends (items_bytes bytes (take i vs)) a m → Appends (bytes v) m b
       → Appends (items_bytes bytes (take (i + 1) vs)) a b
@@ -46,12 +46,12 @@ module _ {V : Type 0} (bytes : V → List ℕ) (vs : List V) where
       → Writes {T = U} whole (items_bytes bytes vs) a b (Err e)
   items_err i v {e = e} h is p q w =
       let before = items_bytes bytes (take i vs) in
-      let behind = items_bytes bytes (drop (i + 1) vs) in
-      let parts : (before ++ bytes v) ++ behind ≡ items_bytes bytes vs =
-      ap (λ zs. zs ++ behind) (sym (items-more i v h is))
+      let trailing = items_bytes bytes (drop (i + 1) vs) in
+      let parts : (before ++ bytes v) ++ trailing ≡ items_bytes bytes vs =
+      ap (λ zs. zs ++ trailing) (sym (items-more i v h is))
       ∙ (sym (items-append (take (i + 1) vs) (drop (i + 1) vs))
       ∙ ap (items_bytes bytes) (take-append-drop (i + 1) vs)) in
-      writes_as (Err e) parts (writes_err behind (writes_then (Err e) (writes_done p q) w))
+      writes_as (Err e) parts (writes_err trailing (writes_then (Err e) (writes_done p q) w))
 
   -- all items
   pub items_all : {E : Type 0} {whole : Bool} (i : ℕ) {a b : Output} → i ≡ length vs

@@ -1,28 +1,28 @@
--- Parts, read one behind another.
+-- Parts, read one after another.
 use Rattle.std.proofs.Common.{◌≡◌, ◌≢◌, ℕ, ◌+◌, ◌<◌, ◌≤◌, ◌⊎◌, inl, inr, List, [], ◌∷◌, ◌++◌}
 use Rattle.std.proofs.Common.{length, drop, take, Option, Some, None, Ok, Err, Bool, true, false}
 use Rattle.std.proofs.Common.{IsTrue, refl, sym, ap, ◌∙◌, subst, arith, max, length-append}
 use Rattle.std.proofs.Math.Nat.{max-le}
-use Rattle.cbor4ii_rw.specs.View.{View, Told}
+use Rattle.cbor4ii_rw.specs.View.{View, IfKnown}
 use Rattle.cbor4ii_rw.specs.declared.error.DecodeError.{DecodeError}
 use Rattle.cbor4ii_rw.specs.declared.error.DecodeError.TheVariants.{RequireLength}
 use Rattle.cbor4ii_rw.specs.declared.error.Len.TheVariants.{Indefinite}
 use denote.Ref.{Bor}
 use Rattle.cbor4ii_items.specs.Head.{break}
-use Rattle.cbor4ii_items.specs.Refusal.{Refusal, is_out_of_memory}
+use Rattle.cbor4ii_items.specs.InputError.{InputError, is_out_of_memory}
 use Rattle.cbor4ii_items.specs.Moves.{Kept}
 use Rattle.cbor4ii_items.specs.Reading.{Runs}
-use Rattle.cbor4ii_items.specs.Decoding.{Reads, StopsAt, CostFits, Sound, NoneRead, Spelling}
+use Rattle.cbor4ii_items.specs.Decoding.{Reads, RejectsAt, CostFits, Sound, NoneRead, Format}
 use Rattle.cbor4ii_items.specs.Decoding.{IsLawful, Decodes, DecodesIf}
 use Rattle.cbor4ii_items.specs.ReadStrings.{break_at}
-use Rattle.cbor4ii_items.specs.Sequences.{ReadsParts, ReadsCount, Unbroken, ReadsUpToBreak}
-use Rattle.cbor4ii_items.specs.Sequences.{StopsPlace, no_byte, may_read_nothing, part_refused}
-use Rattle.cbor4ii_items.specs.Sequences.{StopsCount, StopsUpToBreak}
-use Rattle.cbor4ii_items.specs.Sequences.{count_of, open_of}
+use Rattle.cbor4ii_items.specs.Sequences.{ReadsElements, ReadsCount, Unbroken, ReadsUpToBreak}
+use Rattle.cbor4ii_items.specs.Sequences.{RejectsPlace, no_byte, may_read_nothing, part_rejected}
+use Rattle.cbor4ii_items.specs.Sequences.{RejectsCount, RejectsUpToBreak}
+use Rattle.cbor4ii_items.specs.Sequences.{count_of, indefinite_of}
 use Rattle.cbor4ii_items.specs.Laws.Answering.{fits_zero}
-use Rattle.cbor4ii_items.specs.Laws.Calls.{ok, err_if, err_of, err_behind}
-use Rattle.cbor4ii_items.specs.Laws.Fronts.{drop_more}
-use Rattle.cbor4ii_items.specs.Laws.ProgramEnds.{break_yes, break_no, break_refused}
+use Rattle.cbor4ii_items.specs.Laws.Calls.{ok, err_if, err_of, err_after}
+use Rattle.cbor4ii_items.specs.Laws.Prefixes.{drop_more}
+use Rattle.cbor4ii_items.specs.Laws.ProgramEnds.{break_yes, break_no, break_rejected}
 use Rattle.cbor4ii_items.specs.Laws.Sequences.{not_less, next_part, parts_size, unbroken_size}
 use Rattle.cbor4ii_items.specs.Laws.Sequences.{ends_at_break}
 use Rattle.cbor4ii_items.specs.Laws.Steps.{kept_then}
@@ -39,8 +39,8 @@ fits_max c d (Some n) p q = max-le p q
 -- ---- one more part
 
 module _ {P : Type 0} (reads : Reads P) where
-  parts_more : (xs : List ℕ) (ps : List P) (p : P) (n c k d : ℕ) → ReadsParts reads xs ps n c
-      → reads (drop n xs) p k d → ReadsParts reads xs (ps ++ p ∷ []) (n + k) (max c d)
+  parts_more : (xs : List ℕ) (ps : List P) (p : P) (n c k d : ℕ) → ReadsElements reads xs ps n c
+      → reads (drop n xs) p k d → ReadsElements reads xs (ps ++ p ∷ []) (n + k) (max c d)
   parts_more xs [] p n c k d h r = (
     k,
     d,
@@ -58,12 +58,12 @@ module _ {P : Type 0} (reads : Reads P) where
       (h.0, h.1, h.2 + k, max h.3 d, h.4, rest, omega (arith, h.6), omega (arith, h.7))
 
   pub parts_then : {a m b : View} {ps qs : List P} {p : P} → m.budget ≡ a.budget
-      → Sound (ReadsParts reads) a m ps → Sound reads m b p → qs ≡ ps ++ p ∷ []
-      → Sound (ReadsParts reads) a b qs
+      → Sound (ReadsElements reads) a m ps → Sound reads m b p → qs ≡ ps ++ p ∷ []
+      → Sound (ReadsElements reads) a b qs
   parts_then {a = a} {m = m} {b = b} {ps = ps} {p = p} budget s t added =
-      subst (λ ws. Sound (ReadsParts reads) a b ws) (sym added) (record {
-        at = λ xs told.
-            let u = s.at xs told in
+      subst (λ ws. Sound (ReadsElements reads) a b ws) (sym added) (record {
+        at = λ xs known.
+            let u = s.at xs known in
             let v = t.at (drop u.count xs) u.left in
             record {
               count = u.count + v.count;
@@ -74,32 +74,33 @@ module _ {P : Type 0} (reads : Reads P) where
             };
       })
 
-module _ {P : Type 0} (s : Spelling P) (lawful : IsLawful s) where
+module _ {P : Type 0} (s : Format P) (lawful : IsLawful s) where
   one_size : (xs : List ℕ) (p q : P) (n m c d : ℕ) → s.reads xs p n c → s.reads xs q m d → n ≡ m
   one_size xs p q n m c d g h = (lawful.one xs p q n m c d g h).0
 
 -- no part was read yet
-pub no_part : {P : Type 0} (reads : Reads P) {a m : View} {ps : List P} → m.told ≡ a.told → ps ≡ []
-    → Sound (ReadsParts reads) a m ps
+pub no_part : {P : Type 0} (reads : Reads P) {a m : View} {ps : List P} → m.known ≡ a.known →
+    ps ≡ []
+    → Sound (ReadsElements reads) a m ps
 no_part reads {a = a} {m = m} same none =
-    subst (λ qs. Sound (ReadsParts reads) a m qs) (sym none) (record {
-      at = λ xs told. record {
+    subst (λ qs. Sound (ReadsElements reads) a m qs) (sym none) (record {
+      at = λ xs known. record {
         count = 0;
         cost = 0;
         read = (refl, refl);
         fits = fits_zero a.budget;
-        left = same ∙ told;
+        left = same ∙ known;
       };
     })
 
 -- ---- so many parts
 
-module _ {P : Type 0} (s : Spelling P) where
+module _ {P : Type 0} (s : Format P) where
   -- the first so many parts
   pub record Begun (i : ℕ) (a m : View) (ps : List P) : Type 0 where
     pub kept : Kept a m
     pub count : length ps ≡ i
-    pub parts : Sound (ReadsParts s.reads) a m ps
+    pub parts : Sound (ReadsElements s.reads) a m ps
 
   pub count_more : {a m b : View} {i : ℕ} {ps qs : List P} {p : P} → Begun i a m ps → Kept m b
       → Sound s.reads m b p → qs ≡ ps ++ p ∷ [] → Begun (i + 1) a b qs
@@ -110,19 +111,19 @@ module _ {P : Type 0} (s : Spelling P) where
   }
 
   none_more : IsLawful s → (xs : List ℕ) (ps : List P) (n c count : ℕ) (budget : Option ℕ)
-      → ReadsParts s.reads xs ps n c → length ps < count → NoneRead s.reads (drop n xs) budget
+      → ReadsElements s.reads xs ps n c → length ps < count → NoneRead s.reads (drop n xs) budget
       → NoneRead (ReadsCount s.reads count) xs budget
   none_more lawful xs ps n c count budget h less none qs m d r fits =
       let a = next_part s.reads (one_size s lawful) xs ps qs n c m d h r.1
       (omega (arith, less, r.0)) in
       none a.0 a.1 a.2 a.3 (fits_less a.2 d budget a.4 fits)
 
-module _ {P W : Type 0} (items : W → List P) (s : Spelling P) where
+module _ {P W : Type 0} (items : W → List P) (s : Format P) where
   pub count_done : {E : Type 0} {a m : View} {v : W} {i count : ℕ} → Begun s i a m (items v)
       → i ≡ count → Decodes {E = E} (count_of items s count) a m (Ok v)
   count_done {count = count} h all =
       ok (count_of items s count) h.kept (λ some. cc) (record {
-        at = λ xs told. let u = h.parts.at xs told in record {
+        at = λ xs known. let u = h.parts.at xs known in record {
           count = u.count;
           cost = u.cost;
           read = (h.count ∙ all, u.read);
@@ -131,19 +132,20 @@ module _ {P W : Type 0} (items : W → List P) (s : Spelling P) where
         };
       })
 
-  -- what is refused behind some parts
+  -- what is rejected after some parts
   pub count_err : {E : Type 0} {exact : Bool} → (IsTrue exact → IsLawful s)
       → {a m b : View} {i count : ℕ} {ps : List P} {e : DecodeError E} → Begun s i a m ps
       → i < count → DecodesIf exact s m b (Err e) → DecodesIf exact (count_of items s count) a b
       (Err
       e)
   count_err lawful {a = a} {count = count} {ps = ps} h less t =
-      err_behind s (count_of items s count) h.kept (λ xs told.
-      let u = h.parts.at xs told in
+      err_after s (count_of items s count) h.kept (λ xs known.
+      let u = h.parts.at xs known in
       let fewer : length ps < count = omega (arith, less, h.count) in
-      let stop : (stops : StopsAt) (z : Refusal) (zs : List ℕ)
-      → stops (drop u.count xs) a.budget z zs → StopsCount s.reads stops count xs a.budget z zs =
-      λ stops z zs f. record {
+      let stop : (rejects : RejectsAt) (z : InputError) (zs : List ℕ)
+      → rejects (drop u.count xs) a.budget z zs → RejectsCount s.reads rejects count xs
+      a.budget z zs =
+      λ rejects z zs f. record {
         whole = ps;
         fewer = fewer;
         between = u.count;
@@ -157,7 +159,7 @@ module _ {P W : Type 0} (items : W → List P) (s : Spelling P) where
         record {
           none = λ is none v n c. none_more s (lawful is) xs ps u.count u.cost count a.budget u.read
               fewer none (items v) n c;
-          stops = stop s.stops;
+          rejects = stop s.rejects;
           begins = stop s.begins;
         },
       )) (λ o. o) (λ takes. refl) t
@@ -166,51 +168,51 @@ module _ {P W : Type 0} (items : W → List P) (s : Spelling P) where
 
 -- another byte than a break comes next, and stays
 pub record Stands (l m : View) : Type 0 where
-  pub at : Told l.told (λ xs. (m.told ≡ Some xs) × (xs ≢ []) × (take 1 xs ≡ break ∷ [] → ⊥))
+  pub at : IfKnown l.known (λ xs. (m.known ≡ Some xs) × (xs ≢ []) × (take 1 xs ≡ break ∷ [] → ⊥))
   pub kept : Kept l m
 
 pub stands : {E : Type 0} {ended : Bool} {l m : View} → ended ≡ false
     → Runs {E = E} break_at l m (Ok ended) → Stands l m
 stands {ended = ended} is q = record {
-  at = λ xs told.
-      let h = q.answers xs told in
+  at = λ xs known.
+      let h = q.answers xs known in
       let b = break_no xs h.0 (h.2 ∙ ap (λ (t : Bool). Ok (t, h.0)) is) in
       (h.1 ∙ ap Some b.2, b.0, b.1);
   kept = q.moves.by;
 }
 
 -- a break, or a part, where one of them should come
-abbrev ReadsPlace : {P : Type 0} → Spelling P → Reads (Option P)
+abbrev ReadsPlace : {P : Type 0} → Format P → Reads (Option P)
 ReadsPlace s xs None n c = (take 1 xs ≡ break ∷ []) × (c ≡ 0)
 ReadsPlace s xs (Some p) n c = Unbroken s.reads xs p n c × IsTrue s.never_empty
 
-abbrev pub place_spelling : {P : Type 0} → List ℕ → Spelling P → Spelling (Option P)
-place_spelling name s = record {
+abbrev pub place_format : {P : Type 0} → List ℕ → Format P → Format (Option P)
+place_format name s = record {
   reads = ReadsPlace s;
   same = λ v w. Unit {0};
-  stops = StopsPlace name s.stops s.never_empty;
-  begins = StopsPlace name s.begins s.never_empty;
+  rejects = RejectsPlace name s.rejects s.never_empty;
+  begins = RejectsPlace name s.begins s.never_empty;
   never_empty = false;
   owned = s.owned;
   takes_memory = s.takes_memory;
   closed = false;
 }
 
-module _ {P : Type 0} (s : Spelling P) where
+module _ {P : Type 0} (s : Format P) where
   -- some parts, none of them with a break in its place
   pub record Opened (a m : View) (ps : List P) : Type 0 where
     pub allowed : IsTrue s.never_empty ⊎ (ps ≡ [])
-    pub parts : Sound (ReadsParts (Unbroken s.reads)) a m ps
+    pub parts : Sound (ReadsElements (Unbroken s.reads)) a m ps
     pub kept : Kept a m
 
-  pub open_more : {a l m b : View} {ps qs : List P} {p : P} → IsTrue s.never_empty
+  pub indefinite_more : {a l m b : View} {ps qs : List P} {p : P} → IsTrue s.never_empty
       → Opened a l ps → Stands l m → Kept m b → Sound s.reads m b p → qs ≡ ps ++ p ∷ []
       → Opened a b qs
-  open_more {l = l} {b = b} {p = p} some h stays kept t added =
+  indefinite_more {l = l} {b = b} {p = p} some h stays kept t added =
       let part : Sound (Unbroken s.reads) l b p =
       record {
-        at = λ xs told.
-            let f = stays.at xs told in
+        at = λ xs known.
+            let f = stays.at xs known in
             let u = t.at xs f.0 in
             record {
               count = u.count;
@@ -228,10 +230,10 @@ module _ {P : Type 0} (s : Spelling P) where
 
   module _ (lawful : IsLawful s) where
     -- where neither a break nor a part stands, nothing is read
-    none_open : (xs : List ℕ) (ps : List P) (n c : ℕ) (budget : Option ℕ)
-        → ReadsParts (Unbroken s.reads) xs ps n c → NoneRead (ReadsPlace s) (drop n xs) budget
+    none_indefinite : (xs : List ℕ) (ps : List P) (n c : ℕ) (budget : Option ℕ)
+        → ReadsElements (Unbroken s.reads) xs ps n c → NoneRead (ReadsPlace s) (drop n xs) budget
         → NoneRead (ReadsUpToBreak s.reads s.never_empty) xs budget
-    none_open xs ps n c budget h none qs m d r fits =
+    none_indefinite xs ps n c budget h none qs m d r fits =
         let one = one_size s lawful in
         let short : length qs ≤ length ps = not_less (length qs) (length ps) (λ less.
         let a = next_part (Unbroken s.reads)
@@ -247,14 +249,14 @@ module _ {P : Type 0} (s : Spelling P) where
         none None 0 0
         (subst (λ j. take 1 (drop j xs) ≡ break ∷ []) (sym size) r.ends, refl) (fits_zero budget)
 
-module _ {P W : Type 0} (items : W → List P) (name : List ℕ) (s : Spelling P) where
-  pub open_done : {E : Type 0} {ended : Bool} {a l b : View} {v : W} → ended ≡ true
+module _ {P W : Type 0} (items : W → List P) (name : List ℕ) (s : Format P) where
+  pub indefinite_done : {E : Type 0} {ended : Bool} {a l b : View} {v : W} → ended ≡ true
       → Opened s a l (items v) → Runs {E = E} break_at l b (Ok ended)
-      → Decodes {E = E} (open_of items name s) a b (Ok v)
-  open_done {ended = ended} is h q =
-      ok (open_of items name s) (kept_then h.kept q.moves.by) (λ some. cc) (record {
-        at = λ xs told.
-            let u = h.parts.at xs told in
+      → Decodes {E = E} (indefinite_of items name s) a b (Ok v)
+  indefinite_done {ended = ended} is h q =
+      ok (indefinite_of items name s) (kept_then h.kept q.moves.by) (λ some. cc) (record {
+        at = λ xs known.
+            let u = h.parts.at xs known in
             let r = q.answers (drop u.count xs) u.left in
             let b = break_yes (drop u.count xs) r.0 (r.2 ∙ ap (λ (t : Bool). Ok (t, r.0)) is) in
             record {
@@ -272,18 +274,18 @@ module _ {P W : Type 0} (items : W → List P) (name : List ℕ) (s : Spelling P
             };
       })
 
-  -- what is refused behind some parts
-  pub open_err : {E : Type 0} {exact : Bool} → (IsTrue exact → IsLawful s)
+  -- what is rejected after some parts
+  pub indefinite_err : {E : Type 0} {exact : Bool} → (IsTrue exact → IsLawful s)
       → {a l b : View} {ps : List P} {e : DecodeError E} → Opened s a l ps
-      → DecodesIf exact (place_spelling name s) l b (Err e)
-      → DecodesIf exact (open_of items name s) a b (Err e)
-  open_err lawful {a = a} {ps = ps} h t =
-      err_behind (place_spelling name s) (open_of items name s) h.kept (λ xs told.
-      let u = h.parts.at xs told in
-      let stop : (stops : StopsAt) (z : Refusal) (zs : List ℕ)
-      → StopsPlace name stops s.never_empty (drop u.count xs) a.budget z zs
-      → StopsUpToBreak name s.reads stops s.never_empty xs a.budget z zs =
-      λ stops z zs f. record {
+      → DecodesIf exact (place_format name s) l b (Err e)
+      → DecodesIf exact (indefinite_of items name s) a b (Err e)
+  indefinite_err lawful {a = a} {ps = ps} h t =
+      err_after (place_format name s) (indefinite_of items name s) h.kept (λ xs known.
+      let u = h.parts.at xs known in
+      let stop : (rejects : RejectsAt) (z : InputError) (zs : List ℕ)
+      → RejectsPlace name rejects s.never_empty (drop u.count xs) a.budget z zs
+      → RejectsUpToBreak name s.reads rejects s.never_empty xs a.budget z zs =
+      λ rejects z zs f. record {
         whole = ps;
         allowed = h.allowed;
         between = u.count;
@@ -296,15 +298,15 @@ module _ {P W : Type 0} (items : W → List P) (name : List ℕ) (s : Spelling P
         u.left,
         record {
           none = λ is none v n c.
-              none_open s (lawful is) xs ps u.count u.cost a.budget u.read none (items v) n c;
-          stops = stop s.stops;
+              none_indefinite s (lawful is) xs ps u.count u.cost a.budget u.read none (items v) n c;
+          rejects = stop s.rejects;
           begins = stop s.begins;
         },
       )) (λ o. o) (λ takes. refl) t
 
--- ---- what is refused where a part or a break should come
+-- ---- what is rejected where a part or a break should come
 
-module _ {P : Type 0} (s : Spelling P) where
+module _ {P : Type 0} (s : Format P) where
   not_at_end : IsLawful s → (xs : List ℕ) (budget : Option ℕ) → xs ≡ []
       → NoneRead (ReadsPlace s) xs budget
   not_at_end lawful [] budget none None n c r fits = let f = r.0 in cc
@@ -326,44 +328,44 @@ module _ {P : Type 0} (s : Spelling P) where
   pub place_end : {E : Type 0} {exact : Bool} (name : List ℕ) {l m : View} {e : DecodeError E}
       → (IsTrue exact → IsLawful s)
       → Runs {V = Bool} break_at l m (Err e) → is_out_of_memory e ≡ false
-      → DecodesIf exact (place_spelling name s) l m (Err e)
+      → DecodesIf exact (place_format name s) l m (Err e)
   place_end name {l = l} lawful q memory =
-      err_of (place_spelling name s) q memory (λ xs z ys t. let b = break_refused xs ys z t in
+      err_of (place_format name s) q memory (λ xs z ys t. let b = break_rejected xs ys z t in
       record {
         none = λ is. not_at_end (lawful is) xs l.budget b.0;
-        stops = no_byte b.0 b.1 b.2;
+        rejects = no_byte b.0 b.1 b.2;
         begins = no_byte b.0 b.1 b.2;
       })
 
   -- parts may read nothing
   pub place_nothing : {E : Type 0} {exact : Bool} (name : Bor (List ℕ)) {l m : View}
       → s.never_empty ≡ false → Stands l m
-      → DecodesIf {E = E} exact (place_spelling name.now s) l m (Err (RequireLength name
+      → DecodesIf {E = E} exact (place_format name.now s) l m (Err (RequireLength name
       Indefinite))
   place_nothing name {l = l} empty stays =
-      err_if (place_spelling name.now s) (record { by = stays.kept; depth = λ none. refl })
-      (λ out. cc) (λ xs told. let f = stays.at xs told in (
+      err_if (place_format name.now s) (record { by = stays.kept; depth = λ none. refl })
+      (λ out. cc) (λ xs known. let f = stays.at xs known in (
         xs,
         f.0,
         record {
           none = λ is. not_empty xs l.budget f.2 empty;
-          stops = may_read_nothing f.1 f.2 empty refl refl;
+          rejects = may_read_nothing f.1 f.2 empty refl refl;
           begins = may_read_nothing f.1 f.2 empty refl refl;
         },
       ))
 
-  -- a part is refused
+  -- a part is rejected
   pub place_part : {E : Type 0} {exact : Bool} (name : List ℕ) {l m b : View} {e : DecodeError E}
       → IsTrue s.never_empty → Stands l m → DecodesIf exact s m b (Err e)
-      → DecodesIf exact (place_spelling name s) l b (Err e)
+      → DecodesIf exact (place_format name s) l b (Err e)
   place_part name {l = l} some stays t =
-      err_behind s (place_spelling name s) stays.kept (λ xs told.
-      let f = stays.at xs told in (
+      err_after s (place_format name s) stays.kept (λ xs known.
+      let f = stays.at xs known in (
         xs,
         f.0,
         record {
           none = λ is. not_part xs l.budget f.2;
-          stops = λ z zs. part_refused f.1 f.2 some;
-          begins = λ z zs. part_refused f.1 f.2 some;
+          rejects = λ z zs. part_rejected f.1 f.2 some;
+          begins = λ z zs. part_rejected f.1 f.2 some;
         },
       )) (λ o. o) (λ takes. takes) t

@@ -7,15 +7,17 @@ use Rattle.std.proofs.lemmas.List.{length-drop}
 use Rattle.cbor4ii_items.specs.Head.{break}
 use Rattle.cbor4ii_items.specs.Heads.{ReadsHead}
 use Rattle.cbor4ii_items.specs.Laws.Heads.{head_one, head_read, head_alone}
-use Rattle.cbor4ii_items.specs.Laws.Strings.{BeginsWith, head_not_open}
+use Rattle.cbor4ii_items.specs.Laws.Strings.{BeginsWith, head_not_indefinite}
 use Rattle.cbor4ii_items.specs.Laws.Containers.{both, first_kept}
-use Rattle.cbor4ii_items.specs.Laws.Fronts.{drop_more, two_fronts, behind_front}
-use Rattle.cbor4ii_items.specs.Sequences.{ReadsParts, Unbroken, ReadsUpToBreak, ReadsCountedParts}
-use Rattle.cbor4ii_items.specs.Sequences.{ReadsOpenParts, ReadsInside, ReadsSequence, SameParts}
-use Rattle.cbor4ii_items.specs.Sequences.{ReadsPair, SamePair, sequence_spelling, array_spelling}
-use Rattle.cbor4ii_items.specs.Sequences.{pair_spelling, map_spelling}
-use Rattle.cbor4ii_items.specs.Decoding.{Reads, Spelling, IsLawful}
-use Rattle.cbor4ii_items.specs.Laws.Spellings.{lawful_by}
+use Rattle.cbor4ii_items.specs.Laws.Prefixes.{drop_more, two_prefixes, after_prefix}
+use Rattle.cbor4ii_items.specs.Sequences.{ReadsElements, Unbroken, ReadsUpToBreak}
+use Rattle.cbor4ii_items.specs.Sequences.{ReadsDefiniteElements}
+use Rattle.cbor4ii_items.specs.Sequences.{ReadsIndefiniteElements, ReadsInside, ReadsSequence}
+use Rattle.cbor4ii_items.specs.Sequences.{SameElements}
+use Rattle.cbor4ii_items.specs.Sequences.{ReadsPair, SamePair, sequence_format, array_format}
+use Rattle.cbor4ii_items.specs.Sequences.{pair_format, map_format}
+use Rattle.cbor4ii_items.specs.Decoding.{Reads, Format, IsLawful}
+use Rattle.cbor4ii_items.specs.Laws.Formats.{lawful_by}
 
 pub not_less : (m n : ℕ) → (n < m → ⊥) → m ≤ n
 not_less m n h = omega arith
@@ -31,7 +33,7 @@ one_byte (x ∷ xs) b e = omega arith
 
 module _ {P : Type 0} (reads : Reads P) where
   pub parts_within : ((xs : List ℕ) (p : P) (n c : ℕ) → reads xs p n c → n ≤ length xs)
-      → (xs : List ℕ) (ps : List P) (n c : ℕ) → ReadsParts reads xs ps n c → n ≤ length xs
+      → (xs : List ℕ) (ps : List P) (n c : ℕ) → ReadsElements reads xs ps n c → n ≤ length xs
   parts_within within xs [] n c h = omega (arith, h.0)
   parts_within within xs (p ∷ ps) n c h =
       omega (
@@ -42,10 +44,10 @@ module _ {P : Type 0} (reads : Reads P) where
         length-drop h.0 xs,
       )
 
-  -- where more parts are read, one is read behind the first ones, at no more cost
+  -- where more parts are read, one is read after the first ones, at no more cost
   pub next_part : ((xs : List ℕ) (p q : P) (n m c d : ℕ) → reads xs p n c → reads xs q m d → n ≡ m)
-      → (xs : List ℕ) (ps qs : List P) (n c m d : ℕ) → ReadsParts reads xs ps n c
-      → ReadsParts reads xs qs m d → length ps < length qs
+      → (xs : List ℕ) (ps qs : List P) (n c m d : ℕ) → ReadsElements reads xs ps n c
+      → ReadsElements reads xs qs m d → length ps < length qs
       → (q : P) × (k : ℕ) × (e : ℕ) × reads (drop n xs) q k e × (e ≤ d)
   next_part one xs [] [] n c m d g h less = absurd (omega arith)
   next_part one xs (p ∷ ps) [] n c m d g h less = absurd (omega arith)
@@ -54,36 +56,36 @@ module _ {P : Type 0} (reads : Reads P) where
   next_part one xs (p ∷ ps) (q ∷ qs) n c m d g h less =
       let first : g.0 ≡ h.0 = one xs p q g.0 h.0 g.1 h.1 g.4 h.4 in
       let r = next_part one (drop g.0 xs) ps qs g.2 g.3 h.2 h.3 g.5
-      (subst (λ j. ReadsParts reads (drop j xs) qs h.2 h.3) (sym first) h.5) (omega arith) in
+      (subst (λ j. ReadsElements reads (drop j xs) qs h.2 h.3) (sym first) h.5) (omega arith) in
       let e : drop g.2 (drop g.0 xs) ≡ drop n xs =
       drop_more g.2 g.0 xs ∙ ap (λ j. drop j xs) (sym g.6) in
       (r.0, r.1, r.2, subst (λ ys. reads ys r.0 r.1 r.2) e r.3, omega (arith, r.4, h.7))
 
   -- as many parts take as many bytes
   pub parts_size : ((xs : List ℕ) (p q : P) (n m c d : ℕ) → reads xs p n c → reads xs q m d → n ≡ m)
-      → (xs : List ℕ) (ps qs : List P) (n m c d : ℕ) → ReadsParts reads xs ps n c
-      → ReadsParts reads xs qs m d → length ps ≡ length qs → n ≡ m
+      → (xs : List ℕ) (ps qs : List P) (n m c d : ℕ) → ReadsElements reads xs ps n c
+      → ReadsElements reads xs qs m d → length ps ≡ length qs → n ≡ m
   parts_size one xs [] [] n m c d g h e = g.0 ∙ sym h.0
   parts_size one xs [] (q ∷ qs) n m c d g h e = absurd (omega arith)
   parts_size one xs (p ∷ ps) [] n m c d g h e = absurd (omega arith)
   parts_size one xs (p ∷ ps) (q ∷ qs) n m c d g h e =
       let first : g.0 ≡ h.0 = one xs p q g.0 h.0 g.1 h.1 g.4 h.4 in
       let rest = parts_size one (drop g.0 xs) ps qs g.2 h.2 g.3 h.3 g.5
-      (subst (λ j. ReadsParts reads (drop j xs) qs h.2 h.3) (sym first) h.5) (omega arith) in
+      (subst (λ j. ReadsElements reads (drop j xs) qs h.2 h.3) (sym first) h.5) (omega arith) in
       omega (arith, g.6, h.6, first, rest)
 
   parts_one : (same : P → P → Type 0) → ((xs : List ℕ) (p q : P) (n m c d : ℕ) → reads xs p n c
       → reads xs q m d → (n ≡ m) × (c ≡ d) × same p q)
-      → (xs : List ℕ) (ps qs : List P) (n m c d : ℕ) → ReadsParts reads xs ps n c
-      → ReadsParts reads xs qs m d → length ps ≡ length qs
-      → (n ≡ m) × (c ≡ d) × SameParts same ps qs
+      → (xs : List ℕ) (ps qs : List P) (n m c d : ℕ) → ReadsElements reads xs ps n c
+      → ReadsElements reads xs qs m d → length ps ≡ length qs
+      → (n ≡ m) × (c ≡ d) × SameElements same ps qs
   parts_one same one xs [] [] n m c d g h e = (g.0 ∙ sym h.0, g.1 ∙ sym h.1, tt)
   parts_one same one xs [] (q ∷ qs) n m c d g h e = absurd (omega arith)
   parts_one same one xs (p ∷ ps) [] n m c d g h e = absurd (omega arith)
   parts_one same one xs (p ∷ ps) (q ∷ qs) n m c d g h e =
       let first = one xs p q g.0 h.0 g.1 h.1 g.4 h.4 in
       let rest = parts_one same one (drop g.0 xs) ps qs g.2 h.2 g.3 h.3 g.5
-      (subst (λ j. ReadsParts reads (drop j xs) qs h.2 h.3) (sym first.0) h.5) (omega arith) in (
+      (subst (λ j. ReadsElements reads (drop j xs) qs h.2 h.3) (sym first.0) h.5) (omega arith) in (
         omega (arith, g.6, h.6, first.0, rest.0),
         same_max c d g.1 h.1 g.3 h.3 g.7 h.7 first.1 rest.1,
         (first.2, rest.2),
@@ -91,28 +93,28 @@ module _ {P : Type 0} (reads : Reads P) where
 
   parts_alone : ((xs : List ℕ) (p : P) (n c : ℕ) → reads xs p n c → n ≤ length xs)
       → ((xs ys : List ℕ) (p : P) (n c : ℕ) → reads xs p n c → reads (take n xs ++ ys) p n c)
-      → (xs ys : List ℕ) (ps : List P) (n c : ℕ) → ReadsParts reads xs ps n c
-      → ReadsParts reads (take n xs ++ ys) ps n c
+      → (xs ys : List ℕ) (ps : List P) (n c : ℕ) → ReadsElements reads xs ps n c
+      → ReadsElements reads (take n xs ++ ys) ps n c
   parts_alone within alone xs ys [] n c h = h
   parts_alone within alone xs ys (p ∷ ps) n c h =
-      let behind = drop h.0 xs in
-      let tail = take h.2 behind ++ ys in
-      let whole : take n xs ++ ys ≡ take h.0 xs ++ tail = two_fronts h.0 h.2 n xs ys h.6 in
+      let trailing = drop h.0 xs in
+      let tail = take h.2 trailing ++ ys in
+      let whole : take n xs ++ ys ≡ take h.0 xs ++ tail = two_prefixes h.0 h.2 n xs ys h.6 in
       let left : drop h.0 (take n xs ++ ys) ≡ tail =
-      ap (drop h.0) whole ∙ behind_front h.0 xs tail (within xs p h.0 h.1 h.4) in (
+      ap (drop h.0) whole ∙ after_prefix h.0 xs tail (within xs p h.0 h.1 h.4) in (
         h.0,
         h.1,
         h.2,
         h.3,
         subst (λ zs. reads zs p h.0 h.1) (sym whole) (alone xs tail p h.0 h.1 h.4),
-        subst (λ zs. ReadsParts reads zs ps h.2 h.3) (sym left)
-            (parts_alone within alone behind ys ps h.2 h.3 h.5),
+        subst (λ zs. ReadsElements reads zs ps h.2 h.3) (sym left)
+            (parts_alone within alone trailing ys ps h.2 h.3 h.5),
         h.6,
         h.7,
       )
 
-  no_parts : (xs zs : List ℕ) (ps : List P) (n c : ℕ) → ps ≡ [] → ReadsParts reads xs ps n c
-      → ReadsParts reads zs ps n c
+  no_parts : (xs zs : List ℕ) (ps : List P) (n c : ℕ) → ps ≡ [] → ReadsElements reads xs ps n c
+      → ReadsElements reads zs ps n c
   no_parts xs zs [] n c e h = h
   no_parts xs zs (p ∷ ps) n c e h = cc
 
@@ -128,8 +130,9 @@ module _ {P : Type 0} (reads : Reads P) where
   -- at a break no more parts are read
   pub ends_at_break :
       ((xs : List ℕ) (p q : P) (n m c d : ℕ) → reads xs p n c → reads xs q m d → n ≡ m)
-      → (xs : List ℕ) (ps qs : List P) (n c m d : ℕ) → ReadsParts (Unbroken reads) xs ps n c
-      → BeginsWith (drop n xs) break → ReadsParts (Unbroken reads) xs qs m d → length qs ≤ length ps
+      → (xs : List ℕ) (ps qs : List P) (n c m d : ℕ) → ReadsElements (Unbroken reads) xs ps n c
+      → BeginsWith (drop n xs) break → ReadsElements (Unbroken reads) xs qs m d → length qs ≤
+      length ps
   ends_at_break one xs ps qs n c m d g ends h = not_less (length qs) (length ps) (λ less.
       let r = next_part (Unbroken reads) (unbroken_size one) xs ps qs n c m d g h less in
       r.3.0 ends)
@@ -143,7 +146,7 @@ module _ {P : Type 0} (reads : Reads P) where
       → reads xs q m d → (n ≡ m) × (c ≡ d) × same p q)
       → (never_empty : Bool) (xs : List ℕ) (ps qs : List P) (n m c d : ℕ)
       → ReadsUpToBreak reads never_empty xs ps n c → ReadsUpToBreak reads never_empty xs qs m d
-      → (n ≡ m) × (c ≡ d) × SameParts same ps qs
+      → (n ≡ m) × (c ≡ d) × SameElements same ps qs
   until_one same one never_empty xs ps qs n m c d g h =
       let size = whole_size same one in
       let more = ends_at_break size xs ps qs g.between c h.between d g.parts g.ends h.parts in
@@ -183,8 +186,8 @@ module _ {P : Type 0} (reads : Reads P) where
     )
 
     allowed_alone : (xs ys : List ℕ) (ps : List P) (n c : ℕ) → IsTrue never_empty ⊎ (ps ≡ [])
-        → ReadsParts (Unbroken reads) xs ps n c
-        → ReadsParts (Unbroken reads) (take n xs ++ ys) ps n c
+        → ReadsElements (Unbroken reads) xs ps n c
+        → ReadsElements (Unbroken reads) (take n xs ++ ys) ps n c
     allowed_alone xs ys ps n c (inl some) h =
         parts_alone (Unbroken reads) (unbroken_within within) (unbroken_alone some) xs ys ps n c h
     allowed_alone xs ys ps n c (inr none) h =
@@ -194,19 +197,19 @@ module _ {P : Type 0} (reads : Reads P) where
         → ReadsUpToBreak reads never_empty xs ps n c
         → ReadsUpToBreak reads never_empty (take n xs ++ ys) ps n c
     until_alone xs ys ps n c h =
-        let behind = drop h.between xs in
-        let tail = take 1 behind ++ ys in
+        let trailing = drop h.between xs in
+        let tail = take 1 trailing ++ ys in
         let whole : take n xs ++ ys ≡ take h.between xs ++ tail =
-        two_fronts h.between 1 n xs ys h.size in
+        two_prefixes h.between 1 n xs ys h.size in
         let room =
         parts_within (Unbroken reads) (unbroken_within within) xs ps h.between c h.parts in
         let left : drop h.between (take n xs ++ ys) ≡ tail =
-        ap (drop h.between) whole ∙ behind_front h.between xs tail room in
+        ap (drop h.between) whole ∙ after_prefix h.between xs tail room in
         record {
           allowed = h.allowed;
           between = h.between;
           parts =
-              subst (λ zs. ReadsParts (Unbroken reads) zs ps h.between c) (sym whole)
+              subst (λ zs. ReadsElements (Unbroken reads) zs ps h.between c) (sym whole)
               (allowed_alone xs tail ps h.between c h.allowed h.parts);
           ends = ap (take 1) left ∙ ap (λ (zs : List ℕ). take 1 (zs ++ ys)) h.ends;
           size = h.size;
@@ -215,25 +218,25 @@ module _ {P : Type 0} (reads : Reads P) where
 -- ---- sequences
 
 module _ {P : Type 0} (major : ℕ) (small : major < 8) (reads : Reads P) (never_empty : Bool) where
-  counted_one : (same : P → P → Type 0) → ((xs : List ℕ) (p q : P) (n m c d : ℕ) → reads xs p n c
+  definite_one : (same : P → P → Type 0) → ((xs : List ℕ) (p q : P) (n m c d : ℕ) → reads xs p n c
       → reads xs q m d → (n ≡ m) × (c ≡ d) × same p q)
-      → (xs : List ℕ) (ps qs : List P) (n m c d : ℕ) → ReadsCountedParts major reads xs ps n c
-      → ReadsCountedParts major reads xs qs m d → (n ≡ m) × (c ≡ d) × SameParts same ps qs
-  counted_one same one xs ps qs n m c d g h =
+      → (xs : List ℕ) (ps qs : List P) (n m c d : ℕ) → ReadsDefiniteElements major reads xs ps n c
+      → ReadsDefiniteElements major reads xs qs m d → (n ≡ m) × (c ≡ d) × SameElements same ps qs
+  definite_one same one xs ps qs n m c d g h =
       let e = head_one major 8 xs (length ps) (length qs) g.before h.before small g.head h.head in
       let r = parts_one reads same one (drop g.before xs) ps qs g.between h.between c d g.parts
-      (subst (λ j. ReadsParts reads (drop j xs) qs h.between d) (sym e.0) h.parts) e.1 in
+      (subst (λ j. ReadsElements reads (drop j xs) qs h.between d) (sym e.0) h.parts) e.1 in
       (omega (arith, g.size, h.size, e.0, r.0), r.1, r.2)
 
   inside_one : (same : P → P → Type 0) → ((xs : List ℕ) (p q : P) (n m c d : ℕ) → reads xs p n c
       → reads xs q m d → (n ≡ m) × (c ≡ d) × same p q)
       → (xs : List ℕ) (ps qs : List P) (n m c d : ℕ) → ReadsInside major reads never_empty xs ps n c
-      → ReadsInside major reads never_empty xs qs m d → (n ≡ m) × (c ≡ d) × SameParts same ps qs
-  inside_one same one xs ps qs n m c d (inl g) (inl h) = counted_one same one xs ps qs n m c d g h
+      → ReadsInside major reads never_empty xs qs m d → (n ≡ m) × (c ≡ d) × SameElements same ps qs
+  inside_one same one xs ps qs n m c d (inl g) (inl h) = definite_one same one xs ps qs n m c d g h
   inside_one same one xs ps qs n m c d (inl g) (inr h) =
-      absurd (head_not_open major xs (length ps) g.before small g.head h.begins)
+      absurd (head_not_indefinite major xs (length ps) g.before small g.head h.begins)
   inside_one same one xs ps qs n m c d (inr g) (inl h) =
-      absurd (head_not_open major xs (length qs) h.before small h.head g.begins)
+      absurd (head_not_indefinite major xs (length qs) h.before small h.head g.begins)
   inside_one same one xs ps qs n m c d (inr g) (inr h) =
       let r = until_one reads same one never_empty (drop 1 xs) ps qs g.between h.between c d g.parts
       h.parts in
@@ -243,7 +246,8 @@ module _ {P : Type 0} (major : ℕ) (small : major < 8) (reads : Reads P) (never
       → reads xs p n c → reads xs q m d → (n ≡ m) × (c ≡ d) × same p q)
       → (xs : List ℕ) (ps qs : List P) (n m c d : ℕ)
       → ReadsSequence major reads never_empty xs ps n c
-      → ReadsSequence major reads never_empty xs qs m d → (n ≡ m) × (c ≡ d) × SameParts same ps qs
+      → ReadsSequence major reads never_empty xs qs m d → (n ≡ m) × (c ≡ d) × SameElements
+      same ps qs
   sequence_one same one xs ps qs n m c d g h =
       let r = inside_one same one xs ps qs n m g.0 h.0 g.1 h.1 in
       (r.0, omega (arith, g.2, h.2, r.1), r.2)
@@ -287,17 +291,17 @@ module _ {P : Type 0} (major : ℕ) (small : major < 8) (reads : Reads P) (never
       (alone : (xs ys : List ℕ) (p : P) (n c : ℕ) → reads xs p n c → reads (take n xs ++ ys) p n c)
       (positive : IsTrue never_empty → (xs : List ℕ) (p : P) (n c : ℕ) → reads xs p n c
       → 1 ≤ n) where
-    counted_alone : (xs ys : List ℕ) (ps : List P) (n c : ℕ)
-        → ReadsCountedParts major reads xs ps n c
-        → ReadsCountedParts major reads (take n xs ++ ys) ps n c
-    counted_alone xs ys ps n c h =
+    definite_alone : (xs ys : List ℕ) (ps : List P) (n c : ℕ)
+        → ReadsDefiniteElements major reads xs ps n c
+        → ReadsDefiniteElements major reads (take n xs ++ ys) ps n c
+    definite_alone xs ys ps n c h =
         let room = (head_read [] major 8 xs (length ps) h.before small h.head).1 in
-        let behind = drop h.before xs in
-        let tail = take h.between behind ++ ys in
+        let trailing = drop h.before xs in
+        let tail = take h.between trailing ++ ys in
         let whole : take n xs ++ ys ≡ take h.before xs ++ tail =
-        two_fronts h.before h.between n xs ys h.size in
+        two_prefixes h.before h.between n xs ys h.size in
         let left : drop h.before (take n xs ++ ys) ≡ tail =
-        ap (drop h.before) whole ∙ behind_front h.before xs tail room in
+        ap (drop h.before) whole ∙ after_prefix h.before xs tail room in
         record {
           before = h.before;
           head =
@@ -305,20 +309,20 @@ module _ {P : Type 0} (major : ℕ) (small : major < 8) (reads : Reads P) (never
               (head_alone major 8 xs tail (length ps) h.before h.head);
           between = h.between;
           parts =
-              subst (λ zs. ReadsParts reads zs ps h.between c) (sym left)
-              (parts_alone reads within alone behind ys ps h.between c h.parts);
+              subst (λ zs. ReadsElements reads zs ps h.between c) (sym left)
+              (parts_alone reads within alone trailing ys ps h.between c h.parts);
           size = h.size;
         }
 
-    open_alone : (xs ys : List ℕ) (ps : List P) (n c : ℕ)
-        → ReadsOpenParts major reads never_empty xs ps n c
-        → ReadsOpenParts major reads never_empty (take n xs ++ ys) ps n c
-    open_alone xs ys ps n c h =
+    indefinite_alone : (xs ys : List ℕ) (ps : List P) (n c : ℕ)
+        → ReadsIndefiniteElements major reads never_empty xs ps n c
+        → ReadsIndefiniteElements major reads never_empty (take n xs ++ ys) ps n c
+    indefinite_alone xs ys ps n c h =
         let room = inside_within within xs ps n c (inr h) in
         let tail = take h.between (drop 1 xs) ++ ys in
         let left : drop 1 (take n xs ++ ys) ≡ tail =
-        ap (drop 1) (two_fronts 1 h.between n xs ys h.size)
-        ∙ behind_front 1 xs tail (one_byte xs _ h.begins) in
+        ap (drop 1) (two_prefixes 1 h.between n xs ys h.size)
+        ∙ after_prefix 1 xs tail (one_byte xs _ h.begins) in
         record {
           begins = first_kept n xs ys (omega (arith, h.size)) room ∙ h.begins;
           between = h.between;
@@ -332,8 +336,8 @@ module _ {P : Type 0} (major : ℕ) (small : major < 8) (reads : Reads P) (never
     inside_alone : (xs ys : List ℕ) (ps : List P) (n c : ℕ)
         → ReadsInside major reads never_empty xs ps n c
         → ReadsInside major reads never_empty (take n xs ++ ys) ps n c
-    inside_alone xs ys ps n c (inl h) = inl (counted_alone xs ys ps n c h)
-    inside_alone xs ys ps n c (inr h) = inr (open_alone xs ys ps n c h)
+    inside_alone xs ys ps n c (inl h) = inl (definite_alone xs ys ps n c h)
+    inside_alone xs ys ps n c (inr h) = inr (indefinite_alone xs ys ps n c h)
 
     pub sequence_alone : (xs ys : List ℕ) (ps : List P) (n c : ℕ)
         → ReadsSequence major reads never_empty xs ps n c
@@ -342,8 +346,8 @@ module _ {P : Type 0} (major : ℕ) (small : major < 8) (reads : Reads P) (never
 
 -- ---- the laws, as one
 
-pub sequence_lawful : {P : Type 0} (name : List ℕ) (major : ℕ) → major < 8 → (s : Spelling P)
-    → IsLawful s → IsLawful (sequence_spelling name major s)
+pub sequence_lawful : {P : Type 0} (name : List ℕ) (major : ℕ) → major < 8 → (s : Format P)
+    → IsLawful s → IsLawful (sequence_format name major s)
 sequence_lawful name major small s h = record {
   one = λ xs v w.
       sequence_one major small s.reads s.never_empty s.same h.one xs v.items w.items;
@@ -354,7 +358,7 @@ sequence_lawful name major small s h = record {
       v.items;
 }
 
-pub array_lawful : {V : Type 0} (s : Spelling V) → IsLawful s → IsLawful (array_spelling s)
+pub array_lawful : {V : Type 0} (s : Format V) → IsLawful s → IsLawful (array_format s)
 array_lawful s h = sequence_lawful (codes "array") 4 (omega arith) s h
 
 -- ---- pairs
@@ -420,12 +424,12 @@ module _ {K V : Type 0} (key_reads : Reads K) (value_reads : Reads V) where
       → (xs ys : List ℕ) (p : K × V) (n c : ℕ) → ReadsPair key_reads value_reads xs p n c
       → ReadsPair key_reads value_reads (take n xs ++ ys) p n c
   pair_alone key_within key_alone value_alone xs ys p n c h =
-      let behind = drop h.key_size xs in
-      let tail = take h.value_size behind ++ ys in
+      let trailing = drop h.key_size xs in
+      let tail = take h.value_size trailing ++ ys in
       let whole : take n xs ++ ys ≡ take h.key_size xs ++ tail =
-      two_fronts h.key_size h.value_size n xs ys h.size in
+      two_prefixes h.key_size h.value_size n xs ys h.size in
       let left : drop h.key_size (take n xs ++ ys) ≡ tail = ap (drop h.key_size) whole
-      ∙ behind_front h.key_size xs tail (key_within xs p.0 h.key_size h.key_cost h.key) in
+      ∙ after_prefix h.key_size xs tail (key_within xs p.0 h.key_size h.key_cost h.key) in
       record {
         key_size = h.key_size;
         key_cost = h.key_cost;
@@ -436,13 +440,13 @@ module _ {K V : Type 0} (key_reads : Reads K) (value_reads : Reads V) where
         value_cost = h.value_cost;
         value =
             subst (λ zs. value_reads zs p.1 h.value_size h.value_cost) (sym left)
-            (value_alone behind ys p.1 h.value_size h.value_cost h.value);
+            (value_alone trailing ys p.1 h.value_size h.value_cost h.value);
         size = h.size;
         cost = h.cost;
       }
 
-pub pair_lawful : {K V : Type 0} (k : Spelling K) (v : Spelling V) → IsLawful k → IsLawful v
-    → IsLawful (pair_spelling k v)
+pub pair_lawful : {K V : Type 0} (k : Format K) (v : Format V) → IsLawful k → IsLawful v
+    → IsLawful (pair_format k v)
 pair_lawful k v g h = record {
   one = pair_one k.reads v.reads k.same v.same g.one h.one;
   within = pair_within k.reads v.reads g.within h.within;
@@ -452,8 +456,8 @@ pair_lawful k v g h = record {
       pair_alone k.reads v.reads g.within (g.alone e.0) (h.alone e.1);
 }
 
-pub map_lawful : {K V : Type 0} (k : Spelling K) (v : Spelling V) → IsLawful k → IsLawful v
-    → IsLawful (map_spelling k v)
+pub map_lawful : {K V : Type 0} (k : Format K) (v : Format V) → IsLawful k → IsLawful v
+    → IsLawful (map_format k v)
 map_lawful k v g h =
-    lawful_by (λ m. m.0) (sequence_spelling (codes "map") 5 (pair_spelling k v))
-    (sequence_lawful (codes "map") 5 (omega arith) (pair_spelling k v) (pair_lawful k v g h))
+    lawful_by (λ m. m.0) (sequence_format (codes "map") 5 (pair_format k v))
+    (sequence_lawful (codes "map") 5 (omega arith) (pair_format k v) (pair_lawful k v g h))

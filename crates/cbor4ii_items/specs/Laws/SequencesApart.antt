@@ -1,23 +1,23 @@
--- What an array or a map refuses is not read, where its parts' refusals are not.
+-- What an array or a map rejects is not read, where its parts' errors are not.
 use Rattle.std.proofs.Common.{◌≡◌, ℕ, ◌+◌, ◌<◌, ◌≤◌, ◌⊎◌, inl, inr, List, [], length, take, drop}
 use Rattle.std.proofs.Common.{Option, Some, None, Bool, IsTrue, sym, ap, ◌∙◌, subst, arith}
 use Rattle.std.specs.Prelude.{◌||◌, codes}
-use Rattle.cbor4ii_items.specs.Decoding.{Reads, StopsAt, CostFits, Spelling, IsLawful}
+use Rattle.cbor4ii_items.specs.Decoding.{Reads, RejectsAt, CostFits, Format, IsLawful}
 use Rattle.cbor4ii_items.specs.Head.{break}
 use Rattle.cbor4ii_items.specs.NeverBoth.{NeverBoth}
-use Rattle.cbor4ii_items.specs.Refusal.{Refusal}
-use Rattle.cbor4ii_items.specs.Sequences.{ReadsParts, Unbroken, ReadsUpToBreak, ReadsInside}
-use Rattle.cbor4ii_items.specs.Sequences.{ReadsSequence, StopsCount, StopsPlace, no_byte}
-use Rattle.cbor4ii_items.specs.Sequences.{may_read_nothing, part_refused, StopsUpToBreak}
-use Rattle.cbor4ii_items.specs.Sequences.{StopsInside, length_refused, counted_refused}
-use Rattle.cbor4ii_items.specs.Sequences.{open_refused, after_step, StopsSequence, no_step}
-use Rattle.cbor4ii_items.specs.Sequences.{under_step, ReadsPair, StopsPair, array_spelling}
-use Rattle.cbor4ii_items.specs.Sequences.{map_spelling}
+use Rattle.cbor4ii_items.specs.InputError.{InputError}
+use Rattle.cbor4ii_items.specs.Sequences.{ReadsElements, Unbroken, ReadsUpToBreak, ReadsInside}
+use Rattle.cbor4ii_items.specs.Sequences.{ReadsSequence, RejectsCount, RejectsPlace, no_byte}
+use Rattle.cbor4ii_items.specs.Sequences.{may_read_nothing, part_rejected, RejectsUpToBreak}
+use Rattle.cbor4ii_items.specs.Sequences.{RejectsInside, length_rejected, definite_rejected}
+use Rattle.cbor4ii_items.specs.Sequences.{indefinite_rejected, after_step, RejectsSequence, no_step}
+use Rattle.cbor4ii_items.specs.Sequences.{under_step, ReadsPair, RejectsPair, array_format}
+use Rattle.cbor4ii_items.specs.Sequences.{map_format}
 use Rattle.cbor4ii_items.specs.Laws.Heads.{head_one}
 use Rattle.cbor4ii_items.specs.Laws.LeavesApart.{head_apart}
 use Rattle.cbor4ii_items.specs.Laws.Sequences.{next_part, parts_size, unbroken_size, ends_at_break}
 use Rattle.cbor4ii_items.specs.Laws.Sequences.{not_less, one_byte, pair_lawful}
-use Rattle.cbor4ii_items.specs.Laws.Strings.{BeginsWith, head_not_open}
+use Rattle.cbor4ii_items.specs.Laws.Strings.{BeginsWith, head_not_indefinite}
 
 -- ---- budgets
 
@@ -26,7 +26,7 @@ pub fits_less : (budget : Option ℕ) (e d : ℕ) → e ≤ d → CostFits d bud
 fits_less None e d less fits = tt
 fits_less (Some left) e d less fits = omega (arith, less, fits)
 
--- what fits under a step fits what is left behind it
+-- what fits under a step fits what is consumed it
 pub fits_after : (budget : Option ℕ) (d : ℕ) → CostFits (1 + d) budget
     → CostFits d (after_step budget)
 fits_after None d fits = tt
@@ -45,113 +45,114 @@ some_parts : {P : Type 0} (never_empty : Bool) (ps : List P) (k : ℕ)
 some_parts never_empty ps k (inl some) less = some
 some_parts never_empty ps k (inr e) less = absurd (omega (arith, less, ap length e))
 
-module _ {P : Type 0} (reads : Reads P) (stops : StopsAt) (apart : NeverBoth reads stops)
+module _ {P : Type 0} (reads : Reads P) (rejects : RejectsAt) (apart : NeverBoth reads rejects)
     (size : (xs : List ℕ) (p q : P) (n m c d : ℕ) → reads xs p n c → reads xs q m d → n ≡ m) where
-  count_apart : (count : ℕ) (xs : List ℕ) (budget : Option ℕ) (refusal : Refusal) (rest : List ℕ)
-      → StopsCount reads stops count xs budget refusal rest → (ps : List P) (n c : ℕ)
-      → length ps ≡ count → ReadsParts reads xs ps n c → CostFits c budget → ⊥
-  count_apart count xs budget refusal rest s ps n c e p fits =
+  count_apart : (count : ℕ) (xs : List ℕ) (budget : Option ℕ) (err : InputError) (rest : List ℕ)
+      → RejectsCount reads rejects count xs budget err rest → (ps : List P) (n c : ℕ)
+      → length ps ≡ count → ReadsElements reads xs ps n c → CostFits c budget → ⊥
+  count_apart count xs budget err rest s ps n c e p fits =
       let r = next_part reads size xs s.whole ps s.between s.cost n c s.parts p
       (omega (arith, s.fewer, e)) in
-      apart (drop s.between xs) budget refusal rest s.stop r.0 r.1 r.2 r.3
+      apart (drop s.between xs) budget err rest s.stop r.0 r.1 r.2 r.3
       (fits_less budget r.2 c r.4 fits)
 
   module _ (within : (xs : List ℕ) (p : P) (n c : ℕ) → reads xs p n c → n ≤ length xs)
       (never_empty : Bool) (positive : IsTrue never_empty → (xs : List ℕ) (p : P) (n c : ℕ)
       → reads xs p n c → 1 ≤ n) (name : List ℕ) where
     -- where a part is read
-    place_apart : (xs : List ℕ) (budget : Option ℕ) (refusal : Refusal) (rest : List ℕ)
-        → StopsPlace name stops never_empty xs budget refusal rest → IsTrue never_empty
+    place_apart : (xs : List ℕ) (budget : Option ℕ) (err : InputError) (rest : List ℕ)
+        → RejectsPlace name rejects never_empty xs budget err rest → IsTrue never_empty
         → (p : P) (n c : ℕ) → reads xs p n c → CostFits c budget → ⊥
-    place_apart xs budget refusal rest (no_byte e f g) some p n c r fits =
+    place_apart xs budget err rest (no_byte e f g) some p n c r fits =
         absurd (omega (arith, ap length e, within xs p n c r, positive some xs p n c r))
-    place_apart xs budget refusal rest (may_read_nothing a b e f g) some p n c r fits = cc
-    place_apart xs budget refusal rest (part_refused a b e s) some p n c r fits =
-        apart xs budget refusal rest s p n c r fits
+    place_apart xs budget err rest (may_read_nothing a b e f g) some p n c r fits = cc
+    place_apart xs budget err rest (part_rejected a b e s) some p n c r fits =
+        apart xs budget err rest s p n c r fits
 
     -- where a break comes
-    break_apart : (xs : List ℕ) (budget : Option ℕ) (refusal : Refusal) (rest : List ℕ)
-        → StopsPlace name stops never_empty xs budget refusal rest → BeginsWith xs break → ⊥
-    break_apart xs budget refusal rest (no_byte e f g) ends =
+    break_apart : (xs : List ℕ) (budget : Option ℕ) (err : InputError) (rest : List ℕ)
+        → RejectsPlace name rejects never_empty xs budget err rest → BeginsWith xs break → ⊥
+    break_apart xs budget err rest (no_byte e f g) ends =
         absurd (omega (arith, ap length e, one_byte xs break ends))
-    break_apart xs budget refusal rest (may_read_nothing a b e f g) ends = b ends
-    break_apart xs budget refusal rest (part_refused a b e s) ends = b ends
+    break_apart xs budget err rest (may_read_nothing a b e f g) ends = b ends
+    break_apart xs budget err rest (part_rejected a b e s) ends = b ends
 
-    until_apart : (xs : List ℕ) (budget : Option ℕ) (refusal : Refusal) (rest : List ℕ)
-        → StopsUpToBreak name reads stops never_empty xs budget refusal rest
+    until_apart : (xs : List ℕ) (budget : Option ℕ) (err : InputError) (rest : List ℕ)
+        → RejectsUpToBreak name reads rejects never_empty xs budget err rest
         → (ps : List P) (n c : ℕ) → ReadsUpToBreak reads never_empty xs ps n c
         → CostFits c budget → ⊥
-    until_apart xs budget refusal rest s ps n c p fits =
+    until_apart xs budget err rest s ps n c p fits =
         let fewer = ends_at_break reads size xs ps s.whole p.between c s.between s.cost p.parts
         p.ends s.parts in
         let most = not_less (length ps) (length s.whole) (λ less.
         let r = next_part (Unbroken reads) (unbroken_size reads size) xs s.whole ps s.between
         s.cost p.between c s.parts p.parts less in
-        place_apart (drop s.between xs) budget refusal rest s.stop
+        place_apart (drop s.between xs) budget err rest s.stop
         (some_parts never_empty ps (length s.whole) p.allowed less) r.0 r.1 r.2 r.3.1
         (fits_less budget r.2 c r.4 fits)) in
         let same : s.between ≡ p.between = parts_size (Unbroken reads) (unbroken_size reads size)
         xs s.whole ps s.between p.between s.cost c s.parts p.parts (omega (arith, fewer, most)) in
-        break_apart (drop s.between xs) budget refusal rest s.stop
+        break_apart (drop s.between xs) budget err rest s.stop
         (ap (λ j. take 1 (drop j xs)) same ∙ p.ends)
 
     module _ (major : ℕ) (small : major < 8) where
-      inside_apart : (xs : List ℕ) (budget : Option ℕ) (refusal : Refusal) (rest : List ℕ)
-          → StopsInside name major reads stops never_empty xs budget refusal rest
+      inside_apart : (xs : List ℕ) (budget : Option ℕ) (err : InputError) (rest : List ℕ)
+          → RejectsInside name major reads rejects never_empty xs budget err rest
           → (ps : List P) (n c : ℕ) → ReadsInside major reads never_empty xs ps n c
           → CostFits c budget → ⊥
-      inside_apart xs budget refusal rest (length_refused f s) ps n c (inl p) fits =
-          head_apart name major 8 xs refusal rest (length ps) p.before s p.head
-      inside_apart xs budget refusal rest (length_refused f s) ps n c (inr p) fits = f p.begins
-      inside_apart xs budget refusal rest (counted_refused count before h s) ps n c (inl p) fits =
+      inside_apart xs budget err rest (length_rejected f s) ps n c (inl p) fits =
+          head_apart name major 8 xs err rest (length ps) p.before s p.head
+      inside_apart xs budget err rest (length_rejected f s) ps n c (inr p) fits = f p.begins
+      inside_apart xs budget err rest (definite_rejected count before h s) ps n c (inl p) fits =
           let same = head_one major 8 xs (length ps) count p.before before small p.head h in
-          count_apart count (drop before xs) budget refusal rest s ps p.between c same.1
-          (subst (λ j. ReadsParts reads (drop j xs) ps p.between c) same.0 p.parts) fits
-      inside_apart xs budget refusal rest (counted_refused count before h s) ps n c (inr p) fits =
-          head_not_open major xs count before small h p.begins
-      inside_apart xs budget refusal rest (open_refused b s) ps n c (inl p) fits =
-          head_not_open major xs (length ps) p.before small p.head b
-      inside_apart xs budget refusal rest (open_refused b s) ps n c (inr p) fits =
-          until_apart (drop 1 xs) budget refusal rest s ps p.between c p.parts fits
+          count_apart count (drop before xs) budget err rest s ps p.between c same.1
+          (subst (λ j. ReadsElements reads (drop j xs) ps p.between c) same.0 p.parts) fits
+      inside_apart xs budget err rest (definite_rejected count before h s) ps n c (inr p) fits =
+          head_not_indefinite major xs count before small h p.begins
+      inside_apart xs budget err rest (indefinite_rejected b s) ps n c (inl p) fits =
+          head_not_indefinite major xs (length ps) p.before small p.head b
+      inside_apart xs budget err rest (indefinite_rejected b s) ps n c (inr p) fits =
+          until_apart (drop 1 xs) budget err rest s ps p.between c p.parts fits
 
       pub sequence_apart : NeverBoth (ReadsSequence major reads never_empty)
-          (StopsSequence name major reads stops never_empty)
-      sequence_apart xs budget refusal rest (no_step e f g) ps n c p fits =
+          (RejectsSequence name major reads rejects never_empty)
+      sequence_apart xs budget err rest (no_step e f g) ps n c p fits =
           none_left budget p.0 e (subst (λ k. CostFits k budget) p.2 fits)
-      sequence_apart xs budget refusal rest (under_step o s) ps n c p fits =
-          inside_apart xs (after_step budget) refusal rest s ps n p.0 p.1
+      sequence_apart xs budget err rest (under_step o s) ps n c p fits =
+          inside_apart xs (after_step budget) err rest s ps n p.0 p.1
           (fits_after budget p.0 (subst (λ k. CostFits k budget) p.2 fits))
 
 -- ---- arrays
 
-pub array_apart : {V : Type 0} (s : Spelling V) (stops : StopsAt) → IsLawful s
-    → NeverBoth s.reads stops → NeverBoth (array_spelling s).reads
-    (StopsSequence (codes "array") 4 s.reads stops s.never_empty)
-array_apart s stops h apart xs budget refusal rest f v =
-    sequence_apart s.reads stops apart (λ ys p q n m c d g k. (h.one ys p q n m c d g k).0) h.within
-    s.never_empty h.positive (codes "array") 4 (omega arith) xs budget refusal rest f v.items
+pub array_apart : {V : Type 0} (s : Format V) (rejects : RejectsAt) → IsLawful s
+    → NeverBoth s.reads rejects → NeverBoth (array_format s).reads
+    (RejectsSequence (codes "array") 4 s.reads rejects s.never_empty)
+array_apart s rejects h apart xs budget err rest f v =
+    sequence_apart s.reads rejects apart (λ ys p q n m c d g k. (h.one ys p q n m c d g k).0)
+    h.within
+    s.never_empty h.positive (codes "array") 4 (omega arith) xs budget err rest f v.items
 
 -- ---- maps
 
-module _ {K V : Type 0} (k : Spelling K) (v : Spelling V) (key_stops value_stops : StopsAt)
-    (g : IsLawful k) (h : IsLawful v) (key_apart : NeverBoth k.reads key_stops)
-    (value_apart : NeverBoth v.reads value_stops) where
-  pair_apart : NeverBoth (ReadsPair k.reads v.reads) (StopsPair k.reads key_stops value_stops)
-  pair_apart xs budget refusal rest (inl s) p n c f fits =
-      key_apart xs budget refusal rest s p.0 f.key_size f.key_cost f.key
+module _ {K V : Type 0} (k : Format K) (v : Format V) (key_rejects value_rejects : RejectsAt)
+    (g : IsLawful k) (h : IsLawful v) (key_apart : NeverBoth k.reads key_rejects)
+    (value_apart : NeverBoth v.reads value_rejects) where
+  pair_apart : NeverBoth (ReadsPair k.reads v.reads) (RejectsPair k.reads key_rejects value_rejects)
+  pair_apart xs budget err rest (inl s) p n c f fits =
+      key_apart xs budget err rest s p.0 f.key_size f.key_cost f.key
       (fits_less budget f.key_cost c (omega (arith, f.cost)) fits)
-  pair_apart xs budget refusal rest (inr s) p n c f fits =
+  pair_apart xs budget err rest (inr s) p n c f fits =
       let same = (g.one xs s.whole p.0 s.size f.key_size s.cost f.key_cost s.key f.key).0 in
-      value_apart (drop s.size xs) budget refusal rest s.stop p.1 f.value_size f.value_cost
+      value_apart (drop s.size xs) budget err rest s.stop p.1 f.value_size f.value_cost
       (subst (λ j. v.reads (drop j xs) p.1 f.value_size f.value_cost) (sym same) f.value)
       (fits_less budget f.value_cost c (omega (arith, f.cost)) fits)
 
-  pub map_apart : NeverBoth (map_spelling k v).reads (StopsSequence (codes "map") 5
-      (ReadsPair k.reads v.reads) (StopsPair k.reads key_stops value_stops)
+  pub map_apart : NeverBoth (map_format k v).reads (RejectsSequence (codes "map") 5
+      (ReadsPair k.reads v.reads) (RejectsPair k.reads key_rejects value_rejects)
       (k.never_empty || v.never_empty))
-  map_apart xs budget refusal rest s m =
+  map_apart xs budget err rest s m =
       let l = pair_lawful k v g h in
-      sequence_apart (ReadsPair k.reads v.reads) (StopsPair k.reads key_stops value_stops)
+      sequence_apart (ReadsPair k.reads v.reads) (RejectsPair k.reads key_rejects value_rejects)
       pair_apart (λ ys p q n o c d a b. (l.one ys p q n o c d a b).0) l.within
-      (k.never_empty || v.never_empty) l.positive (codes "map") 5 (omega arith) xs budget refusal
+      (k.never_empty || v.never_empty) l.positive (codes "map") 5 (omega arith) xs budget err
       rest s m.0.items

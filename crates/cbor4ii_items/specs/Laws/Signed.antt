@@ -1,4 +1,4 @@
--- Signed integers are read exactly as they are spelled.
+-- Signed integers are read exactly as they are encoded.
 use Rattle.std.proofs.Common.{◌≡◌, ℕ, ◌+◌, ◌*◌, ◌/◌, ◌<◌, ◌≤◌, List, [], ◌∷◌, ◌++◌, length, drop}
 use Rattle.std.proofs.Common.{take, Ok, true, refl, sym, ap, ◌∙◌, arith, eqb, eq-eqb, ltb, lt-ltb}
 use Rattle.std.specs.Prelude.{ℤ, pos, negsuc}
@@ -8,7 +8,7 @@ use Rattle.cbor4ii_items.specs.Reading.{peek_at, go_on, ◌>=>◌}
 use Rattle.cbor4ii_items.specs.Heads.{ReadsHead}
 use Rattle.cbor4ii_items.specs.ReadNumber.{below, head_below_at, as_positive, as_negative}
 use Rattle.cbor4ii_items.specs.ReadNumber.{signed_by, signed_at}
-use Rattle.cbor4ii_items.specs.Numbers.{ReadsSigned, signed_spelling}
+use Rattle.cbor4ii_items.specs.Numbers.{ReadsSigned, signed_format}
 use Rattle.cbor4ii_items.specs.Decoding.{IsLawful}
 use Rattle.cbor4ii_items.specs.Laws.Heads.{head_read, head_alone, additional-lt}
 use Rattle.cbor4ii_items.specs.Laws.Arguments.{ReadBy, leaf_one, leaf_within, leaf_positive}
@@ -112,7 +112,7 @@ signed_alone width limit xs ys (pos k) n c p = (head_alone 0 width xs ys k n p.0
 signed_alone width limit xs ys (negsuc k) n c p = (head_alone 1 width xs ys k n p.0, p.1, p.2)
 
 pub signed_lawful : (name plus minus : List ℕ) (width limit : ℕ)
-    → IsLawful (signed_spelling name plus minus width limit)
+    → IsLawful (signed_format name plus minus width limit)
 signed_lawful name plus minus width limit = record {
   one = signed_one width limit;
   within = signed_within width limit;

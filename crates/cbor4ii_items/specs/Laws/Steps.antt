@@ -8,8 +8,8 @@ use Rattle.cbor4ii_rw.specs.View.{View}
 use Rattle.cbor4ii_rw.specs.Reader.{counts}
 use Rattle.cbor4ii_rw.specs.declared.error.DecodeError.{DecodeError}
 use Rattle.cbor4ii_items.specs.Head.{IsBytes}
-use Rattle.cbor4ii_items.specs.Laws.Fronts.{drop_more}
-use Rattle.cbor4ii_items.specs.Moves.{Took, Ends, Counted, EndsOrForgets, Kept, Broke, Moves}
+use Rattle.cbor4ii_items.specs.Laws.Prefixes.{drop_more}
+use Rattle.cbor4ii_items.specs.Moves.{Took, Ends, Counted, EndsOrForgets, Kept, ReaderFailed, Moves}
 use Rattle.cbor4ii_items.specs.Moves.{is_failure}
 
 bytes_more : (n m : ℕ) (xs : List ℕ) → IsBytes (take n xs) → IsBytes (take m (drop n xs))
@@ -28,14 +28,14 @@ took_more xs b c n m p q = record {
 }
 
 ends_then : (a b c : Option (List ℕ)) → Ends a b → Ends b c → Ends a c
-ends_then a b c p q xs told =
-    let u = p xs told in
+ends_then a b c p q xs known =
+    let u = p xs known in
     let v = q (drop u.0 xs) u.1.left in
     (u.0 + v.0, took_more xs b c u.0 v.0 u.1 v.1)
 
 ends_or_then : (a b c : Option (List ℕ)) → Ends a b → EndsOrForgets b c → EndsOrForgets a c
-ends_or_then a b c p q xs told ys left =
-    let u = p xs told in
+ends_or_then a b c p q xs known ys left =
+    let u = p xs known in
     let v = q (drop u.0 xs) u.1.left ys left in
     (u.0 + v.0, v.1 ∙ drop_more v.0 u.0 xs)
 
@@ -49,20 +49,21 @@ counts_more n m k None sum = refl
 counts_more n m k (Some t) sum = let e : (t + n) + m ≡ t + k = omega (arith, sum) in ap Some e
 
 -- where no byte is gone, the count stays
-pub counted_none : (a b : View) → ((xs : List ℕ) → a.told ≡ Some xs → b.told ≡ Some xs)
+pub counted_none : (a b : View) → ((xs : List ℕ) → a.known ≡ Some xs → b.known ≡ Some xs)
     → b.taken ≡ a.taken → Counted a b
-counted_none a b same stays xs told ys left n gone =
-    let e : xs ≡ ys = let p = same xs told in cc in
+counted_none a b same stays xs known ys left n gone =
+    let e : xs ≡ ys = let p = same xs known in cc in
     stays ∙ sym (counts_none n a.taken (omega (arith, gone, ap length e)))
 
-counted_then : (a b c : View) → Ends a.told b.told → Ends b.told c.told → Counted a b → Counted b c
+counted_then : (a b c : View) → Ends a.known b.known → Ends b.known c.known → Counted a b →
+    Counted b c
     → Counted a c
-counted_then a b c p q first second xs told zs left n gone =
-    let u = p xs told in
+counted_then a b c p q first second xs known zs left n gone =
+    let u = p xs known in
     let v = q (drop u.0 xs) u.1.left in
     let e : drop v.0 (drop u.0 xs) ≡ zs = let l = v.1.left in cc in
     let one =
-    first xs told (drop u.0 xs) u.1.left u.0 (omega (arith, length-drop u.0 xs, u.1.within)) in
+    first xs known (drop u.0 xs) u.1.left u.0 (omega (arith, length-drop u.0 xs, u.1.within)) in
     let two = second (drop u.0 xs) u.1.left zs left v.0
     (omega (arith, ap length e, length-drop v.0 (drop u.0 xs), v.1.within)) in
     two ∙ ap (counts v.0) one ∙ counts_more u.0 v.0 n a.taken (omega (
@@ -77,30 +78,30 @@ counted_then a b c p q first second xs told zs left n gone =
 
 pub kept_then : {a b c : View} → Kept a b → Kept b c → Kept a c
 kept_then {a = a} {b = b} {c = c} p q = record {
-  rest = ends_then a.told b.told c.told p.rest q.rest;
+  rest = ends_then a.known b.known c.known p.rest q.rest;
   counted = counted_then a b c p.rest q.rest p.counted q.counted;
   bound = omega (arith, p.bound, q.bound);
   budget = q.budget ∙ p.budget;
   failures = q.failures ∙ p.failures;
-  lends_whole = λ h. q.lends_whole (p.lends_whole h);
+  zero_copy = λ h. q.zero_copy (p.zero_copy h);
   remembers = λ h. q.remembers (p.remembers h);
   ends_at = q.ends_at ∙ p.ends_at;
 }
 
-broke_then : {a b c : View} → Kept a b → Broke b c → Broke a c
+broke_then : {a b c : View} → Kept a b → ReaderFailed b c → ReaderFailed a c
 broke_then {a = a} {b = b} {c = c} p q = record {
-  rest = ends_or_then a.told b.told c.told p.rest q.rest;
-  left = λ is. ends_then a.told b.told c.told p.rest (q.left (p.remembers is));
+  rest = ends_or_then a.known b.known c.known p.rest q.rest;
+  left = λ is. ends_then a.known b.known c.known p.rest (q.left (p.remembers is));
   bound = omega (arith, p.bound, q.bound);
   budget = q.budget ∙ p.budget;
   failures = rw p.failures at q.failures;
-  lends_whole = λ h. q.lends_whole (p.lends_whole h);
+  zero_copy = λ h. q.zero_copy (p.zero_copy h);
   remembers = λ h. q.remembers (p.remembers h);
   ends_at = q.ends_at ∙ p.ends_at;
 }
 
-by_failure : (t : Bool) (a b c : View) → Kept a b → MatchBool t (Broke b c) (Kept b c)
-    → MatchBool t (Broke a c) (Kept a c)
+by_failure : (t : Bool) (a b c : View) → Kept a b → MatchBool t (ReaderFailed b c) (Kept b c)
+    → MatchBool t (ReaderFailed a c) (Kept a c)
 by_failure true a b c p q = broke_then p q
 by_failure false a b c p q = kept_then p q
 

@@ -1,10 +1,10 @@
--- Strings are read exactly as they are spelled.
+-- Strings are read exactly as they are encoded.
 use Rattle.std.proofs.Common.{◌≡◌, ◌≢◌, ℕ, zero, suc, ◌+◌, ◌*◌, ◌<◌, ◌≤◌, inl, inr, List, [], ◌∷◌}
 use Rattle.std.proofs.Common.{◌++◌, length, drop, take, Option, None, Some, Ok, true, false, refl}
 use Rattle.std.proofs.Common.{sym, ap, ap₂, ◌∙◌, subst, arith, eqb, eq-eqb, ne_eqb, append_assoc}
 use Rattle.std.specs.Int.{bytes_high_first}
 use Rattle.std.proofs.lemmas.List.{length-drop, append-nil, length-take}
-use Rattle.cbor4ii_items.specs.Head.{byte_count, additional, break, open_head}
+use Rattle.cbor4ii_items.specs.Head.{byte_count, additional, break, indefinite_head}
 use Rattle.cbor4ii_items.specs.Reading.{give, go_on}
 use Rattle.cbor4ii_items.specs.Decoding.{CostFits, IsLawful}
 use Rattle.cbor4ii_items.specs.Laws.Outcome.{same_value}
@@ -14,11 +14,11 @@ use Rattle.cbor4ii_items.specs.ReadHead.{head_at, length_at}
 use Rattle.cbor4ii_items.specs.ReadStrings.{content_on, break_at, chunk_by, chunk_inside_at}
 use Rattle.cbor4ii_items.specs.ReadStrings.{chunk_at, chunks_at, string_by, string_at}
 use Rattle.cbor4ii_items.specs.Laws.Chunks.{chunks_by, chunks_more}
-use Rattle.cbor4ii_items.specs.Laws.CountedContent.{content_whole}
-use Rattle.cbor4ii_items.specs.Laws.Fronts.{drop_more, two_fronts, behind_front, the_front}
-use Rattle.cbor4ii_items.specs.Strings.{ReadsCountedString, ReadsChunks, joined, chunk_cost}
-use Rattle.cbor4ii_items.specs.Strings.{ReadsOpenString, ReadsString, ReadsAs, ReadsTextAs}
-use Rattle.cbor4ii_items.specs.Strings.{as_spelling, text_spelling}
+use Rattle.cbor4ii_items.specs.Laws.DefiniteContent.{content_whole}
+use Rattle.cbor4ii_items.specs.Laws.Prefixes.{drop_more, two_prefixes, after_prefix, the_prefix}
+use Rattle.cbor4ii_items.specs.Strings.{ReadsDefiniteString, ReadsChunks, joined, chunk_cost}
+use Rattle.cbor4ii_items.specs.Strings.{ReadsIndefiniteString, ReadsString, ReadsAs, ReadsTextAs}
+use Rattle.cbor4ii_items.specs.Strings.{as_format, text_format}
 
 -- ---- the first byte
 
@@ -27,7 +27,7 @@ abbrev pub BeginsWith : List ℕ → ℕ → Type 0
 BeginsWith xs b = take 1 xs ≡ b ∷ []
 
 pub head_first : (major : ℕ) (xs : List ℕ) (v n : ℕ) → major < 8 → ReadsHead major 8 xs v n
-    → (b : ℕ) × (bs : List ℕ) × (xs ≡ b ∷ bs) × (b ≢ open_head major) × (b ≢ break)
+    → (b : ℕ) × (bs : List ℕ) × (xs ≡ b ∷ bs) × (b ≢ indefinite_head major) × (b ≢ break)
 head_first major xs v n m h =
     let small : additional h.wide v < 28 = additional-lt v h.wide h.fits in (
       32 * major + additional h.wide v,
@@ -37,13 +37,13 @@ head_first major xs v n m h =
       (λ e. omega (arith, small, e, m)),
     )
 
--- a head is neither an open length nor a break
-pub head_not_open : (major : ℕ) (xs : List ℕ) (v n : ℕ) → major < 8 → ReadsHead major 8 xs v n
-    → BeginsWith xs (open_head major) → ⊥
-head_not_open major xs v n m h e =
+-- a head is neither an indefinite length nor a break
+pub head_not_indefinite : (major : ℕ) (xs : List ℕ) (v n : ℕ) → major < 8 → ReadsHead major 8 xs v n
+    → BeginsWith xs (indefinite_head major) → ⊥
+head_not_indefinite major xs v n m h e =
     let f = head_first major xs v n m h in
     let first : take 1 xs ≡ f.0 ∷ [] = ap (take 1) f.2 in
-    let same : f.0 ≡ open_head major = cc in
+    let same : f.0 ≡ indefinite_head major = cc in
     f.3 same
 
 pub head_not_break : (major : ℕ) (xs : List ℕ) (v n : ℕ) → major < 8 → ReadsHead major 8 xs v n
@@ -56,10 +56,10 @@ head_not_break major xs v n m h e =
 
 -- ---- lengths
 
-length_by_head : (name : List ℕ) (major v b : ℕ) (bs ys : List ℕ) → b ≢ open_head major
+length_by_head : (name : List ℕ) (major v b : ℕ) (bs ys : List ℕ) → b ≢ indefinite_head major
     → head_at name major 8 (b ∷ bs) ≡ Ok (v, ys) → length_at name major (b ∷ bs) ≡ Ok (Some v, ys)
 length_by_head name major v b bs ys other e =
-    let t : eqb b (open_head major) ≡ false = ne_eqb b (open_head major) other in
+    let t : eqb b (indefinite_head major) ≡ false = ne_eqb b (indefinite_head major) other in
     rw t (ap (λ z. go_on z (λ (n : ℕ). give (Some n))) e)
 
 pub length_known : (name : List ℕ) (major : ℕ) (xs : List ℕ) (v n : ℕ) → major < 8
@@ -70,12 +70,13 @@ length_known name major xs v n m h =
     ap (head_at name major 8) (sym f.2) ∙ (head_read name major 8 xs v n m h).0 in
     ap (length_at name major) f.2 ∙ length_by_head name major v f.0 f.1 (drop n xs) f.3 e
 
-pub length_open : (name : List ℕ) (major : ℕ) (xs : List ℕ) → BeginsWith xs (open_head major)
+pub length_indefinite : (name : List ℕ) (major : ℕ) (xs : List ℕ) → BeginsWith xs
+    (indefinite_head major)
     → length_at name major xs ≡ Ok (None, drop 1 xs)
-length_open name major [] h = cc
-length_open name major (b ∷ bs) h =
-    let is : b ≡ open_head major = cc in
-    let t : eqb b (open_head major) ≡ true = eq-eqb b (open_head major) is in
+length_indefinite name major [] h = cc
+length_indefinite name major (b ∷ bs) h =
+    let is : b ≡ indefinite_head major = cc in
+    let t : eqb b (indefinite_head major) ≡ true = eq-eqb b (indefinite_head major) is in
     rw t refl
 
 pub break_again : (xs : List ℕ) → BeginsWith xs break → break_at xs ≡ Ok (true, drop 1 xs)
@@ -91,14 +92,14 @@ no_break b bs xs is other =
     ap break_at is ∙ (let e : break_at (b ∷ bs) ≡ Ok (false, b ∷ bs) = rw t refl in
     e ∙ ap (λ (z : List ℕ). Ok (false, z)) (sym is))
 
--- ---- strings of known length
+-- ---- strings of definite length
 
 fits_content : (v ys : List ℕ) → take (length v) ys ≡ v → length v ≤ length ys
 fits_content v ys e = omega (arith, ap length e, length-take (length v) ys)
 
-pub counted_within : (major : ℕ) (xs v : List ℕ) (n : ℕ) → major < 8
-    → ReadsCountedString major xs v n → (n ≤ length xs) × (1 ≤ n)
-counted_within major xs v n m h =
+pub definite_within : (major : ℕ) (xs v : List ℕ) (n : ℕ) → major < 8
+    → ReadsDefiniteString major xs v n → (n ≤ length xs) × (1 ≤ n)
+definite_within major xs v n m h =
     let r = head_read [] major 8 xs (length v) h.before m h.head in (
       omega (
         arith,
@@ -110,51 +111,51 @@ counted_within major xs v n m h =
       omega (arith, h.size, r.2),
     )
 
--- the content behind its head
-counted_content : (name before : List ℕ) (major : ℕ) (xs v : List ℕ) (n : ℕ)
-    → (h : ReadsCountedString major xs v n)
+-- the content after its head
+definite_content : (name before : List ℕ) (major : ℕ) (xs v : List ℕ) (n : ℕ)
+    → (h : ReadsDefiniteString major xs v n)
     → content_on name (length v) before (drop h.before xs) ≡ Ok (before ++ v, drop n xs)
-counted_content name before major xs v n h =
+definite_content name before major xs v n h =
     content_whole name (length v) before (drop h.before xs)
     (fits_content v (drop h.before xs) h.stands)
     ∙ ap₂ (λ (us ws : List ℕ). Ok (us, ws)) (ap (λ z. before ++ z) h.stands)
     (drop_more (length v) h.before xs ∙ ap (λ j. drop j xs) (sym h.size))
 
 inside_again : (name before : List ℕ) (major : ℕ) (xs v : List ℕ) (n : ℕ) → major < 8
-    → ReadsCountedString major xs v n
+    → ReadsDefiniteString major xs v n
     → chunk_inside_at name major before xs ≡ Ok (before ++ v, drop n xs)
 inside_again name before major xs v n m h =
     ap (λ z. go_on z (chunk_by name before))
     (length_known name major xs (length v) h.before m h.head)
-    ∙ counted_content name before major xs v n h
+    ∙ definite_content name before major xs v n h
 
-pub counted_again : (name : List ℕ) (major : ℕ) (budget : Option ℕ) (xs v : List ℕ) (n : ℕ)
-    → major < 8 → ReadsCountedString major xs v n
+pub definite_again : (name : List ℕ) (major : ℕ) (budget : Option ℕ) (xs v : List ℕ) (n : ℕ)
+    → major < 8 → ReadsDefiniteString major xs v n
     → string_at name major budget xs ≡ Ok (v, drop n xs)
-counted_again name major budget xs v n m h =
+definite_again name major budget xs v n m h =
     ap (λ z. go_on z (string_by name major budget))
     (length_known name major xs (length v) h.before m h.head)
-    ∙ counted_content name [] major xs v n h
+    ∙ definite_content name [] major xs v n h
 
--- with other bytes behind it
-pub counted_alone : (major : ℕ) (xs ys v : List ℕ) (n : ℕ) → major < 8
-    → ReadsCountedString major xs v n → ReadsCountedString major (take n xs ++ ys) v n
-counted_alone major xs ys v n m h =
+-- with other bytes after it
+pub definite_alone : (major : ℕ) (xs ys v : List ℕ) (n : ℕ) → major < 8
+    → ReadsDefiniteString major xs v n → ReadsDefiniteString major (take n xs ++ ys) v n
+definite_alone major xs ys v n m h =
     let i = h.before in
     let k = length v in
     let r = head_read [] major 8 xs k i m h.head in
     let e : take n xs ++ ys ≡ take i xs ++ (take k (drop i xs) ++ ys) =
-    two_fronts i k n xs ys h.size in
-    let behind : drop i (take n xs ++ ys) ≡ take k (drop i xs) ++ ys =
-    ap (drop i) e ∙ behind_front i xs (take k (drop i xs) ++ ys) r.1 in
+    two_prefixes i k n xs ys h.size in
+    let trailing : drop i (take n xs ++ ys) ≡ take k (drop i xs) ++ ys =
+    ap (drop i) e ∙ after_prefix i xs (take k (drop i xs) ++ ys) r.1 in
     record {
       before = i;
       head =
           subst (λ zs. ReadsHead major 8 zs k i) (sym e)
           (head_alone major 8 xs (take k (drop i xs) ++ ys) k i h.head);
       stands =
-          ap (take k) behind
-          ∙ (the_front k (drop i xs) ys (fits_content v (drop i xs) h.stands) ∙ h.stands);
+          ap (take k) trailing
+          ∙ (the_prefix k (drop i xs) ys (fits_content v (drop i xs) h.stands) ∙ h.stands);
       size = h.size;
     }
 
@@ -165,7 +166,7 @@ abbrev pub HasStep : Option ℕ → Type 0
 HasStep budget = CostFits 1 budget
 
 chunk_again : (name before : List ℕ) (major : ℕ) (budget : Option ℕ) (xs v : List ℕ) (n : ℕ)
-    → major < 8 → HasStep budget → ReadsCountedString major xs v n
+    → major < 8 → HasStep budget → ReadsDefiniteString major xs v n
     → chunk_at name major budget before xs ≡ Ok (before ++ v, drop n xs)
 chunk_again name before major None xs v n m s h = inside_again name before major xs v n m h
 chunk_again name before major (Some zero) xs v n m s h = absurd (omega (arith, s))
@@ -173,7 +174,7 @@ chunk_again name before major (Some (suc left)) xs v n m s h =
     inside_again name before major xs v n m h
 
 chunks_once : (name before : List ℕ) (major : ℕ) (budget : Option ℕ) (xs v : List ℕ) (n : ℕ)
-    → major < 8 → HasStep budget → ReadsCountedString major xs v n
+    → major < 8 → HasStep budget → ReadsDefiniteString major xs v n
     → chunks_at name major budget before xs ≡ chunks_at name major budget (before ++ v) (drop n xs)
 chunks_once name before major budget xs v n m s h =
     let f = head_first major xs (length v) h.before m h.head in
@@ -209,14 +210,14 @@ chunks_alone (v ∷ vs) major xs ys n m h =
     let i = h.0 in
     let j = h.1 in
     let e : take n xs ++ ys ≡ take i xs ++ (take j (drop i xs) ++ ys) =
-    two_fronts i j n xs ys h.4 in
-    let behind : drop i (take n xs ++ ys) ≡ take j (drop i xs) ++ ys = ap (drop i) e
-    ∙ behind_front i xs (take j (drop i xs) ++ ys) (counted_within major xs v i m h.2).0 in (
+    two_prefixes i j n xs ys h.4 in
+    let trailing : drop i (take n xs ++ ys) ≡ take j (drop i xs) ++ ys = ap (drop i) e
+    ∙ after_prefix i xs (take j (drop i xs) ++ ys) (definite_within major xs v i m h.2).0 in (
       i,
       j,
-      subst (λ zs. ReadsCountedString major zs v i) (sym e)
-          (counted_alone major xs (take j (drop i xs) ++ ys) v i m h.2),
-      subst (λ zs. ReadsChunks major vs zs j) (sym behind)
+      subst (λ zs. ReadsDefiniteString major zs v i) (sym e)
+          (definite_alone major xs (take j (drop i xs) ++ ys) v i m h.2),
+      subst (λ zs. ReadsChunks major vs zs j) (sym trailing)
           (chunks_alone vs major (drop i xs) ys j m h.3),
       h.4,
     )
@@ -227,9 +228,9 @@ some_byte : (b : ℕ) (ys : List ℕ) → BeginsWith ys b → 1 ≤ length ys
 some_byte b [] h = cc
 some_byte b (y ∷ ys) h = omega arith
 
-pub open_within : (major : ℕ) (xs v : List ℕ) (n c : ℕ) → ReadsOpenString major xs v n c
+pub indefinite_within : (major : ℕ) (xs v : List ℕ) (n c : ℕ) → ReadsIndefiniteString major xs v n c
     → n ≤ length xs
-open_within major xs v n c h =
+indefinite_within major xs v n c h =
     omega (
       arith,
       h.size,
@@ -237,10 +238,10 @@ open_within major xs v n c h =
       length-drop (1 + h.between) xs,
     )
 
-pub open_again : (name : List ℕ) (major : ℕ) (budget : Option ℕ) (xs v : List ℕ) (n c : ℕ)
-    → major < 8 → ReadsOpenString major xs v n c → CostFits c budget
+pub indefinite_again : (name : List ℕ) (major : ℕ) (budget : Option ℕ) (xs v : List ℕ) (n c : ℕ)
+    → major < 8 → ReadsIndefiniteString major xs v n c → CostFits c budget
     → string_at name major budget xs ≡ Ok (v, drop n xs)
-open_again name major budget xs v n c m h fits =
+indefinite_again name major budget xs v n c m h fits =
     let k = h.between in
     let steps : CostFits (chunk_cost h.chunks) budget =
     subst (λ (j : ℕ). CostFits j budget) h.cost fits in
@@ -249,39 +250,40 @@ open_again name major budget xs v n c m h fits =
     break_again (drop k (drop 1 xs)) (ap (take 1) there ∙ h.ends) in
     let last : drop 1 (drop k (drop 1 xs)) ≡ drop n xs = ap (drop 1) there ∙ (drop_more 1 (1 + k) xs
     ∙ ap (λ j. drop j xs) (let e : (1 + k) + 1 ≡ n = omega (arith, h.size) in e)) in
-    ap (λ z. go_on z (string_by name major budget)) (length_open name major xs h.begins)
+    ap (λ z. go_on z (string_by name major budget)) (length_indefinite name major xs h.begins)
     ∙ (chunks_again h.chunks name [] major budget (drop 1 xs) k m steps h.read
     ∙ (ap (λ p. p (drop k (drop 1 xs))) (chunks_more name major budget (joined h.chunks))
     ∙ (ap (λ z. go_on z
     (chunks_by name major budget (joined h.chunks) (chunks_at name major budget))) ended
     ∙ ap₂ (λ (us ws : List ℕ). Ok (us, ws)) (sym h.value) last)))
 
-open_alone : (major : ℕ) (xs ys v : List ℕ) (n c : ℕ) → major < 8 → ReadsOpenString major xs v n c
-    → ReadsOpenString major (take n xs ++ ys) v n c
-open_alone major xs ys v n c m h =
+indefinite_alone : (major : ℕ) (xs ys v : List ℕ) (n c : ℕ) → major < 8 → ReadsIndefiniteString
+    major xs v n c
+    → ReadsIndefiniteString major (take n xs ++ ys) v n c
+indefinite_alone major xs ys v n c m h =
     let k = h.between in
     let tail = take 1 (drop (1 + k) xs) ++ ys in
-    let long = open_within major xs v n c h in
+    let long = indefinite_within major xs v n c h in
     let e : take n xs ++ ys ≡ take (1 + k) xs ++ tail =
-    two_fronts (1 + k) 1 n xs ys (omega (arith, h.size)) in
+    two_prefixes (1 + k) 1 n xs ys (omega (arith, h.size)) in
     let f : take (1 + k) xs ++ tail ≡ take 1 xs ++ (take k (drop 1 xs) ++ tail) =
-    two_fronts 1 k (1 + k) xs tail refl in
+    two_prefixes 1 k (1 + k) xs tail refl in
     let first : take 1 (take n xs ++ ys) ≡ take 1 xs = ap (take 1) (e ∙ f)
-    ∙ the_front 1 xs (take k (drop 1 xs) ++ tail) (omega (arith, long, h.size)) in
-    let behind : drop 1 (take n xs ++ ys) ≡ take k (drop 1 xs) ++ tail = ap (drop 1) (e ∙ f)
-    ∙ behind_front 1 xs (take k (drop 1 xs) ++ tail) (omega (arith, long, h.size)) in
+    ∙ the_prefix 1 xs (take k (drop 1 xs) ++ tail) (omega (arith, long, h.size)) in
+    let trailing : drop 1 (take n xs ++ ys) ≡ take k (drop 1 xs) ++ tail = ap (drop 1) (e ∙ f)
+    ∙ after_prefix 1 xs (take k (drop 1 xs) ++ tail) (omega (arith, long, h.size)) in
     let end : drop (1 + k) (take n xs ++ ys) ≡ tail =
-    ap (drop (1 + k)) e ∙ behind_front (1 + k) xs tail (omega (arith, long, h.size)) in
+    ap (drop (1 + k)) e ∙ after_prefix (1 + k) xs tail (omega (arith, long, h.size)) in
     record {
       begins = first ∙ h.begins;
       chunks = h.chunks;
       between = k;
       read =
-          subst (λ zs. ReadsChunks major h.chunks zs k) (sym behind)
+          subst (λ zs. ReadsChunks major h.chunks zs k) (sym trailing)
           (chunks_alone h.chunks major (drop 1 xs) tail k m h.read);
       ends =
           ap (take 1) end
-          ∙ (the_front 1 (drop (1 + k) xs) ys (some_byte break (drop (1 + k) xs) h.ends)
+          ∙ (the_prefix 1 (drop (1 + k) xs) ys (some_byte break (drop (1 + k) xs) h.ends)
           ∙ h.ends);
       value = h.value;
       size = h.size;
@@ -307,32 +309,32 @@ pub string_again : (name : List ℕ) (major : ℕ) (budget : Option ℕ) (xs v :
     → major < 8 → ReadsString major xs v n c → CostFits c budget
     → string_at name major budget xs ≡ Ok (v, drop n xs)
 string_again name major budget xs v n c m (inl h) fits =
-    counted_again name major budget xs v n m h.0
+    definite_again name major budget xs v n m h.0
 string_again name major budget xs v n c m (inr h) fits =
-    open_again name major budget xs v n c m h fits
+    indefinite_again name major budget xs v n c m h fits
 
 pub string_within : (major : ℕ) (xs v : List ℕ) (n c : ℕ) → major < 8 → ReadsString major xs v n c
     → n ≤ length xs
-string_within major xs v n c m (inl h) = (counted_within major xs v n m h.0).0
-string_within major xs v n c m (inr h) = open_within major xs v n c h
+string_within major xs v n c m (inl h) = (definite_within major xs v n m h.0).0
+string_within major xs v n c m (inr h) = indefinite_within major xs v n c h
 
 pub string_positive : (major : ℕ) (xs v : List ℕ) (n c : ℕ) → major < 8 → ReadsString major xs v n c
     → 1 ≤ n
-string_positive major xs v n c m (inl h) = (counted_within major xs v n m h.0).1
+string_positive major xs v n c m (inl h) = (definite_within major xs v n m h.0).1
 string_positive major xs v n c m (inr h) = omega (arith, h.size)
 
 pub string_alone : (major : ℕ) (xs ys v : List ℕ) (n c : ℕ) → major < 8 → ReadsString major xs v n c
     → ReadsString major (take n xs ++ ys) v n c
-string_alone major xs ys v n c m (inl h) = inl (counted_alone major xs ys v n m h.0, h.1)
-string_alone major xs ys v n c m (inr h) = inr (open_alone major xs ys v n c m h)
+string_alone major xs ys v n c m (inl h) = inl (definite_alone major xs ys v n m h.0, h.1)
+string_alone major xs ys v n c m (inr h) = inr (indefinite_alone major xs ys v n c m h)
 
 same_cost : (major : ℕ) (xs v w : List ℕ) (n k c d : ℕ) → major < 8 → ReadsString major xs v n c
     → ReadsString major xs w k d → c ≡ d
 same_cost major xs v w n k c d m (inl p) (inl q) = p.1 ∙ sym q.1
 same_cost major xs v w n k c d m (inl p) (inr q) =
-    absurd (head_not_open major xs (length v) p.0.before m p.0.head q.begins)
+    absurd (head_not_indefinite major xs (length v) p.0.before m p.0.head q.begins)
 same_cost major xs v w n k c d m (inr p) (inl q) =
-    absurd (head_not_open major xs (length w) q.0.before m q.0.head p.begins)
+    absurd (head_not_indefinite major xs (length w) q.0.before m q.0.head p.begins)
 same_cost major xs v w n k c d m (inr p) (inr q) =
     p.cost ∙ (cost_one p.chunks q.chunks major (drop 1 xs) p.between q.between m p.read
     (ap (take 1) (drop_more p.between 1 xs) ∙ p.ends) q.read
@@ -395,7 +397,7 @@ module _ {V : Type 0} (content : V → List ℕ) where
   text_alone xs ys v n c p = (string_alone 3 xs ys (content v) n c three_small p.0, p.1)
 
 pub as_lawful : {V : Type 0} (name : List ℕ) (major : ℕ) → major < 8 → (content : V → List ℕ)
-    → IsLawful (as_spelling name major content)
+    → IsLawful (as_format name major content)
 as_lawful name major small content = record {
   one = as_one major small content;
   within = as_within major small content;
@@ -404,7 +406,7 @@ as_lawful name major small content = record {
 }
 
 pub text_lawful : {V : Type 0} (name : List ℕ) (content : V → List ℕ)
-    → IsLawful (text_spelling name content)
+    → IsLawful (text_format name content)
 text_lawful name content = record {
   one = text_one content;
   within = text_within content;

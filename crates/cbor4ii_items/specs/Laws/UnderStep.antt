@@ -6,7 +6,7 @@ use Rattle.std.specs.Prelude.{MatchBool}
 use Rattle.cbor4ii_rw.specs.View.{View}
 use Rattle.cbor4ii_rw.specs.Reader.{Failed, KeepsAllButBudget, StepsIn, step_back, counts}
 use Rattle.cbor4ii_rw.specs.declared.error.DecodeError.{DecodeError}
-use Rattle.cbor4ii_items.specs.Moves.{Kept, Broke, is_failure, Moves}
+use Rattle.cbor4ii_items.specs.Moves.{Kept, ReaderFailed, is_failure, Moves}
 use Rattle.cbor4ii_items.specs.Reading.{Reading, AnswersAs, Runs}
 use Rattle.cbor4ii_items.specs.Decoding.{IsExact, CostFits}
 use Rattle.cbor4ii_items.specs.Sequences.{after_step}
@@ -49,39 +49,39 @@ no_step (Some left) new h = let e : left ≡ 0 = h.0 in (ap Some e, h.1 ∙ ap S
 module _ {a b c d : View} (i : KeepsAllButBudget a b) (o : KeepsAllButBudget c d) where
   kept_around : (c.budget ≡ b.budget → d.budget ≡ a.budget) → Kept b c → Kept a d
   kept_around same k = record {
-    rest = λ xs told. let u = k.rest xs (i.told ∙ told) in
-        (u.0, record { left = o.told ∙ u.1.left; within = u.1.within; bytes = u.1.bytes });
-    counted = λ xs told ys left n gone. o.taken
-        ∙ (k.counted xs (i.told ∙ told) ys (sym o.told ∙ left) n gone ∙ ap (counts n) i.taken);
+    rest = λ xs known. let u = k.rest xs (i.known ∙ known) in
+        (u.0, record { left = o.known ∙ u.1.left; within = u.1.within; bytes = u.1.bytes });
+    counted = λ xs known ys left n gone. o.taken
+        ∙ (k.counted xs (i.known ∙ known) ys (sym o.known ∙ left) n gone ∙ ap (counts n) i.taken);
     bound = omega (arith, k.bound, i.bound, o.bound);
     budget = same k.budget;
     failures = o.failures ∙ (k.failures ∙ i.failures);
-    lends_whole =
-        λ h. subst IsTrue (sym o.lends_whole) (k.lends_whole (subst IsTrue (sym i.lends_whole) h));
+    zero_copy =
+        λ h. subst IsTrue (sym o.zero_copy) (k.zero_copy (subst IsTrue (sym i.zero_copy) h));
     remembers =
         λ h. subst IsTrue (sym o.remembers) (k.remembers (subst IsTrue (sym i.remembers) h));
     ends_at = o.ends_at ∙ (k.ends_at ∙ i.ends_at);
   }
 
-  broke_around : (c.budget ≡ b.budget → d.budget ≡ a.budget) → Broke b c → Broke a d
+  broke_around : (c.budget ≡ b.budget → d.budget ≡ a.budget) → ReaderFailed b c → ReaderFailed a d
   broke_around same k = record {
-    rest = λ xs told ys left. k.rest xs (i.told ∙ told) ys (sym o.told ∙ left);
-    left = λ is xs told. let u = k.left (subst IsTrue (sym i.remembers) is) xs (i.told ∙ told) in
-        (u.0, record { left = o.told ∙ u.1.left; within = u.1.within; bytes = u.1.bytes });
+    rest = λ xs known ys left. k.rest xs (i.known ∙ known) ys (sym o.known ∙ left);
+    left = λ is xs known. let u = k.left (subst IsTrue (sym i.remembers) is) xs (i.known ∙ known) in
+        (u.0, record { left = o.known ∙ u.1.left; within = u.1.within; bytes = u.1.bytes });
     bound = omega (arith, k.bound, i.bound, o.bound);
     budget = same k.budget;
     failures =
         subst (λ n. Failed n d.failures) i.failures
         (subst (λ n. Failed b.failures n) (sym o.failures) k.failures);
-    lends_whole =
-        λ h. subst IsTrue (sym o.lends_whole) (k.lends_whole (subst IsTrue (sym i.lends_whole) h));
+    zero_copy =
+        λ h. subst IsTrue (sym o.zero_copy) (k.zero_copy (subst IsTrue (sym i.zero_copy) h));
     remembers =
         λ h. subst IsTrue (sym o.remembers) (k.remembers (subst IsTrue (sym i.remembers) h));
     ends_at = o.ends_at ∙ (k.ends_at ∙ i.ends_at);
   }
 
   pub moves_around : (t : Bool) → (c.budget ≡ b.budget → d.budget ≡ a.budget)
-      → MatchBool t (Broke b c) (Kept b c) → MatchBool t (Broke a d) (Kept a d)
+      → MatchBool t (ReaderFailed b c) (Kept b c) → MatchBool t (ReaderFailed a d) (Kept a d)
   moves_around true same k = broke_around same k
   moves_around false same k = kept_around same k
 
@@ -93,8 +93,8 @@ module _ {a b c d : View} (i : KeepsAllButBudget a b) (o : KeepsAllButBudget c d
       by = moves_around (is_failure r) same f.moves.by;
       depth = λ none. f.moves.depth (inner none);
     };
-    answers = λ xs told. subst (λ new. AnswersAs (p xs) new r) (sym o.told)
-        (f.answers xs (i.told ∙ told));
+    answers = λ xs known. subst (λ new. AnswersAs (p xs) new r) (sym o.known)
+        (f.answers xs (i.known ∙ known));
   }
 
 -- acceptance stays exact
@@ -102,7 +102,7 @@ pub exact_step : (owned : Bool) (a b : View) → KeepsAllButBudget a b → IsExa
     → IsExact owned b
 exact_step owned a b k (inl e) = inl e
 exact_step owned a b k (inr e) =
-    inr (subst IsTrue (sym k.lends_whole) e.0, λ xs told. e.1 xs (sym k.told ∙ told))
+    inr (subst IsTrue (sym k.zero_copy) e.0, λ xs known. e.1 xs (sym k.known ∙ known))
 
 -- a call whose step was taken and given back
 pub moves_stepped : {V E : Type 0} (r : Result V (DecodeError E)) (a b c d : View)

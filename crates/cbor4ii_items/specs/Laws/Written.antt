@@ -6,22 +6,23 @@ use Rattle.std.proofs.Math.Seq.{take-append-add}
 use Rattle.std.proofs.lemmas.List.{take-append-le, length-take}
 use Rattle.cbor4ii_rw.specs.Reader.{Failed}
 use Rattle.cbor4ii_rw.specs.Writer.{Output, Appends}
-use Rattle.cbor4ii_items.specs.Writing.{AppendsFront, Writes}
+use Rattle.cbor4ii_items.specs.Writing.{AppendsPrefix, Writes}
 
 pub appends_then : (xs ys : List ℕ) (a m b : Option (List ℕ)) → Appends xs a m → Appends ys m b
     → Appends (xs ++ ys) a b
-appends_then xs ys a m b p q held told =
-    q (held ++ xs) (p held told) ∙ ap Some (append_assoc held xs ys)
+appends_then xs ys a m b p q held known =
+    q (held ++ xs) (p held known) ∙ ap Some (append_assoc held xs ys)
 
-pub starts_then : (xs ys front : List ℕ) → StartsWith ys front → StartsWith (xs ++ ys) (xs ++ front)
-starts_then xs ys front h =
-    ap (λ n. take n (xs ++ ys)) (length-append xs front)
-    ∙ (take-append-add xs ys (length front) ∙ ap (λ z. xs ++ z) h)
+pub starts_then : (xs ys prefix : List ℕ) → StartsWith ys prefix → StartsWith (xs ++ ys)
+    (xs ++ prefix)
+starts_then xs ys prefix h =
+    ap (λ n. take n (xs ++ ys)) (length-append xs prefix)
+    ∙ (take-append-add xs ys (length prefix) ∙ ap (λ z. xs ++ z) h)
 
-front_then : (xs ys : List ℕ) (a m b : Option (List ℕ)) → Appends xs a m → AppendsFront ys m b
-    → AppendsFront (xs ++ ys) a b
-front_then xs ys a m b p q held told =
-    let f = q (held ++ xs) (p held told) in
+prefix_then : (xs ys : List ℕ) (a m b : Option (List ℕ)) → Appends xs a m → AppendsPrefix ys m b
+    → AppendsPrefix (xs ++ ys) a b
+prefix_then xs ys a m b p q held known =
+    let f = q (held ++ xs) (p held known) in
     (xs ++ f.0, starts_then xs ys f.0 f.1, f.2 ∙ ap Some (append_assoc held xs f.0))
 
 -- the bytes of one call, and then those of another
@@ -32,20 +33,20 @@ writes_then {xs = xs} {ys = ys} {a = a} {m = m} {b = b} (Ok u) p q = record {
   appends = appends_then xs ys a.written m.written b.written p.appends q.appends;
   counts = q.counts ∙ p.counts;
   failed = tt;
-  front = λ whole. tt;
+  prefix = λ whole. tt;
 }
 writes_then {xs = xs} {ys = ys} {a = a} {m = m} {b = b} (Err e) p q = record {
   appends = tt;
   counts = tt;
   failed = subst (λ n. Failed n b.failures) p.counts q.failed;
-  front = λ whole. front_then xs ys a.written m.written b.written p.appends (q.front whole);
+  prefix = λ whole. prefix_then xs ys a.written m.written b.written p.appends (q.prefix whole);
 }
 
-pub starts_more : (xs ys front : List ℕ) → StartsWith xs front → StartsWith (xs ++ ys) front
-starts_more xs ys front h =
-    let long : length front ≤ length xs =
-    omega (arith, ap length h, length-take (length front) xs) in
-    take-append-le (length front) xs ys long ∙ h
+pub starts_more : (xs ys prefix : List ℕ) → StartsWith xs prefix → StartsWith (xs ++ ys) prefix
+starts_more xs ys prefix h =
+    let long : length prefix ≤ length xs =
+    omega (arith, ap length h, length-take (length prefix) xs) in
+    take-append-le (length prefix) xs ys long ∙ h
 
 -- where the first call fails, there is no other
 pub writes_err : {T U E : Type 0} {whole : Bool} {xs : List ℕ} (ys : List ℕ) {a b : Output} {e : E}
@@ -54,8 +55,9 @@ writes_err {xs = xs} ys p = record {
   appends = tt;
   counts = tt;
   failed = p.failed;
-  front =
-      λ whole held told. let f = p.front whole held told in (f.0, starts_more xs ys f.0 f.1, f.2);
+  prefix =
+      λ whole held known. let f =
+      p.prefix whole held known in (f.0, starts_more xs ys f.0 f.1, f.2);
 }
 
 pub writes_as : {T E : Type 0} {whole : Bool} {xs ys : List ℕ} {a b : Output} (r : Result T E)

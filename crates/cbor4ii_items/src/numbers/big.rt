@@ -2,30 +2,30 @@
 ghost use Rattle.std.specs.Prelude.{◌≡◌, ◌+◌, ◌<◌, ◌≤◌, ◌^◌, OnOk, IfOk, true, false, pos, negsuc};
 ghost use Rattle.std.specs.Prelude.{IfErr};
 ghost use Rattle.cbor4ii_items.specs.Reading.{Runs};
-ghost use Rattle.cbor4ii_items.specs.Refusal.{is_out_of_memory};
+ghost use Rattle.cbor4ii_items.specs.InputError.{is_out_of_memory};
 ghost use Rattle.cbor4ii_items.specs.ReadNumber.{magnitude_at, small_magnitude_at};
 ghost use Rattle.cbor4ii_items.specs.ReadNumber.{unsigned_bignum_at, u128_at, signed_bignum_at};
 ghost use Rattle.cbor4ii_items.specs.ReadNumber.{i128_at};
-ghost use Rattle.cbor4ii_items.specs.Numbers.{ReadsU128, StopsU128, ReadsI128, StopsI128};
+ghost use Rattle.cbor4ii_items.specs.Numbers.{ReadsU128, RejectsU128, ReadsI128, RejectsI128};
 ghost use Rattle.cbor4ii_items.specs.Numbers.{unsigned_bytes, signed_bytes};
 ghost use Rattle.cbor4ii_items.specs.Laws.Bignums.{u128_one, u128_within, u128_positive};
 ghost use Rattle.cbor4ii_items.specs.Laws.Bignums.{u128_alone, i128_one, i128_within};
 ghost use Rattle.cbor4ii_items.specs.Laws.Bignums.{i128_positive, i128_alone};
-ghost use Rattle.cbor4ii_items.specs.Decoding.{leaf_spelling};
+ghost use Rattle.cbor4ii_items.specs.Decoding.{leaf_format};
 
-use crate::decode::{Decode, Spelled};
+use crate::decode::{Decodable, Decode};
 use crate::encode::Encode;
-use crate::front::take_head;
 use crate::head::{head, length, number, peek};
 use crate::initial::if_major;
 use crate::major;
+use crate::prefix::take_head;
 use crate::push::{NEGATIVE_BIGNUM, POSITIVE_BIGNUM, push_signed_integer, push_unsigned_integer};
 use cbor4ii_rw::error::{DecodeError, EncodeError, Len, StaticStr};
 use cbor4ii_rw::read::Source;
 use cbor4ii_rw::write::Write;
 use std::alloc::Global;
 
-/// A counted byte string of at most sixteen bytes, as a number.
+/// A definite-length byte string of at most sixteen bytes, as a number.
 fn magnitude<S: Source>(reader: &mut S, name: StaticStr) -> Result<u128, DecodeError<S::Error>>
     ensures runs { Runs (magnitude_at name.now) (S.view reader.old) (S.view reader.new) result }
     ensures memory { IfErr result (λ error. is_out_of_memory error ≡ false) }
@@ -47,7 +47,7 @@ fn magnitude<S: Source>(reader: &mut S, name: StaticStr) -> Result<u128, DecodeE
     }
 }
 
-/// A counted byte string of at most sixteen bytes, as a number below 2^127.
+/// A definite-length byte string of at most sixteen bytes, as a number below 2^127.
 fn small_magnitude<S: Source>(
     reader: &mut S,
     name: StaticStr,
@@ -64,7 +64,7 @@ fn small_magnitude<S: Source>(
     Ok(number)
 }
 
-/// The number of a bignum from 0 on, behind its tag.
+/// The number of a bignum from 0 on, after its tag.
 fn unsigned_bignum<S: Source>(reader: &mut S, tag: u8) -> Result<u128, DecodeError<S::Error>>
     ensures runs { Runs (unsigned_bignum_at tag) (S.view reader.old) (S.view reader.new) result }
     ensures memory { IfErr result (λ error. is_out_of_memory error ≡ false) }
@@ -106,7 +106,7 @@ fn u128_by_bytes<S: Source>(reader: &mut S) -> Result<u128, DecodeError<S::Error
     unsigned_bignum(reader, tag as u8)
 }
 
-/// The number of a bignum of either sign, behind its tag.
+/// The number of a bignum of either sign, after its tag.
 fn signed_bignum<S: Source>(reader: &mut S, tag: u8) -> Result<i128, DecodeError<S::Error>>
     ensures runs { Runs (signed_bignum_at tag) (S.view reader.old) (S.view reader.new) result }
     ensures memory { IfErr result (λ error. is_out_of_memory error ≡ false) }
@@ -186,8 +186,8 @@ fn negative(n: u128) -> i128
     -1 - n as i128
 }
 
-impl Spelled for u128 {
-    ghost spelling = { leaf_spelling ReadsU128 (λ xs budget. StopsU128 xs) };
+impl Decodable for u128 {
+    ghost format = { leaf_format ReadsU128 (λ xs budget. RejectsU128 xs) };
 
     fn is_never_empty() -> bool {
         true
@@ -206,7 +206,7 @@ impl Spelled for u128 {
 ///
 /// # Errors
 ///
-/// `Read` is told at `Decode::decode`. The others:
+/// `Read` is described at `Decode::decode`. The others:
 ///
 /// - `Eof` by "u128" with 1: no byte is left, or none for the number of a tag that takes a byte.
 ///   Nothing is left then
@@ -221,7 +221,7 @@ impl Spelled for u128 {
 /// - `Eof` by "u128::bytes" with 1: no byte follows the tag
 /// - `Eof` by "u128::bytes" with k: the argument of the byte string's head has k bytes and fewer
 ///   are left. Nothing is left then
-/// - `Mismatch` by "u128::bytes" with the byte behind the tag, which is taken: it begins no byte
+/// - `Mismatch` by "u128::bytes" with the byte after the tag, which is taken: it begins no byte
 ///   string
 /// - `RequireLength` by "u128::bytes" with `Indefinite`: the byte string has an indefinite length.
 ///   What follows its first byte is left
@@ -246,8 +246,8 @@ impl Encode for u128 {
     }
 }
 
-impl Spelled for i128 {
-    ghost spelling = { leaf_spelling ReadsI128 (λ xs budget. StopsI128 xs) };
+impl Decodable for i128 {
+    ghost format = { leaf_format ReadsI128 (λ xs budget. RejectsI128 xs) };
 
     fn is_never_empty() -> bool {
         true
@@ -267,7 +267,7 @@ impl Spelled for i128 {
 ///
 /// # Errors
 ///
-/// `Read` is told at `Decode::decode`. The others:
+/// `Read` is described at `Decode::decode`. The others:
 ///
 /// - `Eof` by "i128" with 1: no byte is left, or none for the number of a tag that takes a byte.
 ///   Nothing is left then
@@ -281,8 +281,8 @@ impl Spelled for i128 {
 ///   neither a head of major type 1 nor a tag with at most one byte of argument
 /// - `Mismatch` by "i128::tag" with the number of the tag: it is neither 2 nor 3. What follows the
 ///   tag is left
-/// - those of the byte string of a `u128`, by "+i128::bytes" behind tag 2 and by "-i128::bytes"
-///   behind tag 3, which leave the same
+/// - those of the byte string of a `u128`, by "+i128::bytes" after tag 2 and by "-i128::bytes"
+///   after tag 3, which leave the same
 /// - `CastOverflow` by "i128": the number of the byte string is 2^127 or greater. The whole item is
 ///   taken then
 impl<S: Source> Decode<S> for i128 {

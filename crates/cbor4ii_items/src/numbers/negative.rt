@@ -1,10 +1,10 @@
 //! Negative integers of at most eight bytes, as -1 - n for the unsigned n.
 ghost use Rattle.std.specs.Prelude.{codes};
-ghost use Rattle.cbor4ii_items.specs.Writing.{WritesWhole};
-ghost use Rattle.cbor4ii_items.specs.Numbers.{negative_spelling, shortest_head};
+ghost use Rattle.cbor4ii_items.specs.Writing.{WritesAtomically};
+ghost use Rattle.cbor4ii_items.specs.Numbers.{negative_format, shortest_head};
 ghost use Rattle.cbor4ii_items.specs.Laws.Arguments.{negative_lawful};
 
-use crate::decode::{Decode, Spelled};
+use crate::decode::{Decodable, Decode};
 use crate::encode::Encode;
 use crate::head::lone_head;
 use crate::major;
@@ -15,8 +15,8 @@ use cbor4ii_rw::read::Source;
 use cbor4ii_rw::write::Write;
 use std::alloc::Global;
 
-impl Spelled for Negative<u8> {
-    ghost spelling = { negative_spelling (codes "-u8") 1 };
+impl Decodable for Negative<u8> {
+    ghost format = { negative_format (codes "-u8") 1 };
 
     fn is_never_empty() -> bool {
         true
@@ -30,7 +30,7 @@ impl Spelled for Negative<u8> {
 ///
 /// # Errors
 ///
-/// `Read` is told at `Decode::decode`. The others have the name "-u8":
+/// `Read` is described at `Decode::decode`. The others have the name "-u8":
 ///
 /// - `Eof` with 1: no byte is left
 /// - `Eof` with k: the argument has k bytes and fewer are left. Nothing is left then
@@ -48,21 +48,21 @@ impl<S: Source> Decode<S> for Negative<u8> {
 ///
 /// # Errors
 ///
-/// `Write`: the writer failed. A whole writer then holds what it held before.
+/// `Write`: the writer failed. An atomic writer then holds what it held before.
 impl Encode for Negative<u8> {
     ghost bytes = { λ v. shortest_head 1 v.0 };
 
     #[inline(always)]
     fn encode<W: Write>(&self, writer: &mut W) -> Result<(), EncodeError<W::Error>>
-        ensures { WritesWhole W.whole (shortest_head 1 self.now.0)
+        ensures { WritesAtomically W.atomic (shortest_head 1 self.now.0)
             (W.view writer.old) (W.view writer.new) result }
     {
         push_head(writer, major::NEGATIVE, self.0 as u64)
     }
 }
 
-impl Spelled for Negative<u16> {
-    ghost spelling = { negative_spelling (codes "-u16") 2 };
+impl Decodable for Negative<u16> {
+    ghost format = { negative_format (codes "-u16") 2 };
 
     fn is_never_empty() -> bool {
         true
@@ -76,7 +76,7 @@ impl Spelled for Negative<u16> {
 ///
 /// # Errors
 ///
-/// `Read` is told at `Decode::decode`. The others have the name "-u16":
+/// `Read` is described at `Decode::decode`. The others have the name "-u16":
 ///
 /// - `Eof` with 1: no byte is left
 /// - `Eof` with k: the argument has k bytes and fewer are left. Nothing is left then
@@ -96,15 +96,15 @@ impl Encode for Negative<u16> {
 
     #[inline(always)]
     fn encode<W: Write>(&self, writer: &mut W) -> Result<(), EncodeError<W::Error>>
-        ensures { WritesWhole W.whole (shortest_head 1 self.now.0)
+        ensures { WritesAtomically W.atomic (shortest_head 1 self.now.0)
             (W.view writer.old) (W.view writer.new) result }
     {
         push_head(writer, major::NEGATIVE, self.0 as u64)
     }
 }
 
-impl Spelled for Negative<u32> {
-    ghost spelling = { negative_spelling (codes "-u32") 4 };
+impl Decodable for Negative<u32> {
+    ghost format = { negative_format (codes "-u32") 4 };
 
     fn is_never_empty() -> bool {
         true
@@ -118,7 +118,7 @@ impl Spelled for Negative<u32> {
 ///
 /// # Errors
 ///
-/// `Read` is told at `Decode::decode`. The others have the name "-u32":
+/// `Read` is described at `Decode::decode`. The others have the name "-u32":
 ///
 /// - `Eof` with 1: no byte is left
 /// - `Eof` with k: the argument has k bytes and fewer are left. Nothing is left then
@@ -138,15 +138,15 @@ impl Encode for Negative<u32> {
 
     #[inline(always)]
     fn encode<W: Write>(&self, writer: &mut W) -> Result<(), EncodeError<W::Error>>
-        ensures { WritesWhole W.whole (shortest_head 1 self.now.0)
+        ensures { WritesAtomically W.atomic (shortest_head 1 self.now.0)
             (W.view writer.old) (W.view writer.new) result }
     {
         push_head(writer, major::NEGATIVE, self.0 as u64)
     }
 }
 
-impl Spelled for Negative<u64> {
-    ghost spelling = { negative_spelling (codes "-u64") 8 };
+impl Decodable for Negative<u64> {
+    ghost format = { negative_format (codes "-u64") 8 };
 
     fn is_never_empty() -> bool {
         true
@@ -160,7 +160,7 @@ impl Spelled for Negative<u64> {
 ///
 /// # Errors
 ///
-/// `Read` is told at `Decode::decode`. The others have the name "-u64":
+/// `Read` is described at `Decode::decode`. The others have the name "-u64":
 ///
 /// - `Eof` with 1: no byte is left
 /// - `Eof` with k: the argument has k bytes and fewer are left. Nothing is left then
@@ -182,10 +182,10 @@ impl Encode for Negative<u64> {
     ///
     /// # Errors
     ///
-    /// `Write`: the writer failed. A whole writer then holds what it held before.
+    /// `Write`: the writer failed. An atomic writer then holds what it held before.
     #[inline(always)]
     fn encode<W: Write>(&self, writer: &mut W) -> Result<(), EncodeError<W::Error>>
-        ensures { WritesWhole W.whole (shortest_head 1 self.now.0)
+        ensures { WritesAtomically W.atomic (shortest_head 1 self.now.0)
             (W.view writer.old) (W.view writer.new) result }
     {
         push_head(writer, major::NEGATIVE, self.0)

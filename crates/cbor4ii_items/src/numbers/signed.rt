@@ -2,19 +2,19 @@
 ghost use Rattle.std.specs.Prelude.{◌≡◌, ◌+◌, ◌<◌, ◌≤◌, ◌^◌, OnOk, IfOk, IfErr, true, false, codes};
 ghost use Rattle.std.specs.Prelude.{pos, negsuc};
 ghost use Rattle.cbor4ii_items.specs.Reading.{Runs};
-ghost use Rattle.cbor4ii_items.specs.Refusal.{is_out_of_memory};
+ghost use Rattle.cbor4ii_items.specs.InputError.{is_out_of_memory};
 ghost use Rattle.cbor4ii_items.specs.ReadNumber.{head_below_at, signed_at};
-ghost use Rattle.cbor4ii_items.specs.Writing.{WritesWhole};
+ghost use Rattle.cbor4ii_items.specs.Writing.{WritesAtomically};
 ghost use Rattle.cbor4ii_items.specs.Decoding.{Decodes};
-ghost use Rattle.cbor4ii_items.specs.Numbers.{IsWithin, signed_head, signed_spelling};
+ghost use Rattle.cbor4ii_items.specs.Numbers.{IsWithin, signed_head, signed_format};
 ghost use Rattle.cbor4ii_items.specs.Laws.Signed.{signed_lawful};
 
-use crate::decode::{Decode, Spelled};
+use crate::decode::{Decodable, Decode};
 use crate::encode::Encode;
-use crate::front::take_head;
 use crate::head::{head, peek};
 use crate::initial::if_major;
 use crate::major;
+use crate::prefix::take_head;
 use crate::push::push_signed;
 use cbor4ii_rw::error::{DecodeError, EncodeError, StaticStr};
 use cbor4ii_rw::read::Source;
@@ -148,7 +148,7 @@ fn negative(n: u64) -> i64
     -1 - n as i64
 }
 
-/// A signed number that is a whole item: what is read, and how it is refused.
+/// A signed number that is a whole item: what is read, and how it is rejected.
 #[inline(always)]
 fn lone_signed<S: Source>(
     reader: &mut S,
@@ -160,14 +160,14 @@ fn lone_signed<S: Source>(
 ) -> Result<i64, DecodeError<S::Error>>
     requires { limit ≤ 2 ^ 63 }
     ensures range { IfOk result (IsWithin limit) }
-    ensures decodes { Decodes (signed_spelling name.now plus.now minus.now width limit)
+    ensures decodes { Decodes (signed_format name.now plus.now minus.now width limit)
         (S.view reader.old) (S.view reader.new) result }
 {
     signed(reader, name, plus, minus, width, limit)
 }
 
-impl Spelled for i8 {
-    ghost spelling = { signed_spelling (codes "i8") (codes "+i8") (codes "-i8") 1
+impl Decodable for i8 {
+    ghost format = { signed_format (codes "i8") (codes "+i8") (codes "-i8") 1
         (2 ^ 7) };
 
     fn is_never_empty() -> bool {
@@ -183,8 +183,8 @@ impl Spelled for i8 {
 ///
 /// # Errors
 ///
-/// `Read` is told at `Decode::decode`. Of a head of major type 0 the name is "+i8", of one of major
-/// type 1 it is "-i8":
+/// `Read` is described at `Decode::decode`. Of a head of major type 0 the name is "+i8", of one of
+/// major type 1 it is "-i8":
 ///
 /// - `Eof` by "i8" with 1: no byte is left
 /// - `Mismatch` by "i8" with the next byte, which stays: it is of another major type
@@ -206,21 +206,21 @@ impl<S: Source> Decode<S> for i8 {
 ///
 /// # Errors
 ///
-/// `Write`: the writer failed. A whole writer then holds what it held before.
+/// `Write`: the writer failed. An atomic writer then holds what it held before.
 impl Encode for i8 {
     ghost bytes = { signed_head };
 
     #[inline(always)]
     fn encode<W: Write>(&self, writer: &mut W) -> Result<(), EncodeError<W::Error>>
-        ensures { WritesWhole W.whole (signed_head self.now)
+        ensures { WritesAtomically W.atomic (signed_head self.now)
             (W.view writer.old) (W.view writer.new) result }
     {
         push_signed(writer, *self as i64)
     }
 }
 
-impl Spelled for i16 {
-    ghost spelling = { signed_spelling (codes "i16") (codes "+i16") (codes "-i16") 2
+impl Decodable for i16 {
+    ghost format = { signed_format (codes "i16") (codes "+i16") (codes "-i16") 2
         (2 ^ 15) };
 
     fn is_never_empty() -> bool {
@@ -236,7 +236,7 @@ impl Spelled for i16 {
 ///
 /// # Errors
 ///
-/// `Read` is told at `Decode::decode`. Of a head of major type 0 the name is "+i16", of one of
+/// `Read` is described at `Decode::decode`. Of a head of major type 0 the name is "+i16", of one of
 /// major type 1 it is "-i16":
 ///
 /// - `Eof` by "i16" with 1: no byte is left
@@ -260,15 +260,15 @@ impl Encode for i16 {
 
     #[inline(always)]
     fn encode<W: Write>(&self, writer: &mut W) -> Result<(), EncodeError<W::Error>>
-        ensures { WritesWhole W.whole (signed_head self.now)
+        ensures { WritesAtomically W.atomic (signed_head self.now)
             (W.view writer.old) (W.view writer.new) result }
     {
         push_signed(writer, *self as i64)
     }
 }
 
-impl Spelled for i32 {
-    ghost spelling = { signed_spelling (codes "i32") (codes "+i32") (codes "-i32") 4
+impl Decodable for i32 {
+    ghost format = { signed_format (codes "i32") (codes "+i32") (codes "-i32") 4
         (2 ^ 31) };
 
     fn is_never_empty() -> bool {
@@ -284,7 +284,7 @@ impl Spelled for i32 {
 ///
 /// # Errors
 ///
-/// `Read` is told at `Decode::decode`. Of a head of major type 0 the name is "+i32", of one of
+/// `Read` is described at `Decode::decode`. Of a head of major type 0 the name is "+i32", of one of
 /// major type 1 it is "-i32":
 ///
 /// - `Eof` by "i32" with 1: no byte is left
@@ -308,15 +308,15 @@ impl Encode for i32 {
 
     #[inline(always)]
     fn encode<W: Write>(&self, writer: &mut W) -> Result<(), EncodeError<W::Error>>
-        ensures { WritesWhole W.whole (signed_head self.now)
+        ensures { WritesAtomically W.atomic (signed_head self.now)
             (W.view writer.old) (W.view writer.new) result }
     {
         push_signed(writer, *self as i64)
     }
 }
 
-impl Spelled for i64 {
-    ghost spelling = { signed_spelling (codes "i64") (codes "+i64") (codes "-i64") 8
+impl Decodable for i64 {
+    ghost format = { signed_format (codes "i64") (codes "+i64") (codes "-i64") 8
         (2 ^ 63) };
 
     fn is_never_empty() -> bool {
@@ -332,7 +332,7 @@ impl Spelled for i64 {
 ///
 /// # Errors
 ///
-/// `Read` is told at `Decode::decode`. Of a head of major type 0 the name is "+i64", of one of
+/// `Read` is described at `Decode::decode`. Of a head of major type 0 the name is "+i64", of one of
 /// major type 1 it is "-i64":
 ///
 /// - `Eof` by "i64" with 1: no byte is left
@@ -356,7 +356,7 @@ impl Encode for i64 {
 
     #[inline(always)]
     fn encode<W: Write>(&self, writer: &mut W) -> Result<(), EncodeError<W::Error>>
-        ensures { WritesWhole W.whole (signed_head self.now)
+        ensures { WritesAtomically W.atomic (signed_head self.now)
             (W.view writer.old) (W.view writer.new) result }
     {
         push_signed(writer, *self)

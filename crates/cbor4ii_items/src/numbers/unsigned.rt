@@ -1,10 +1,10 @@
 //! Unsigned integers of at most eight bytes.
 ghost use Rattle.std.specs.Prelude.{codes};
-ghost use Rattle.cbor4ii_items.specs.Writing.{WritesWhole};
-ghost use Rattle.cbor4ii_items.specs.Numbers.{argument_spelling, shortest_head};
+ghost use Rattle.cbor4ii_items.specs.Writing.{WritesAtomically};
+ghost use Rattle.cbor4ii_items.specs.Numbers.{argument_format, shortest_head};
 ghost use Rattle.cbor4ii_items.specs.Laws.Arguments.{argument_lawful, zero_small};
 
-use crate::decode::{Decode, Spelled};
+use crate::decode::{Decodable, Decode};
 use crate::encode::Encode;
 use crate::head::lone_head;
 use crate::major;
@@ -14,8 +14,8 @@ use cbor4ii_rw::read::Source;
 use cbor4ii_rw::write::Write;
 use std::alloc::Global;
 
-impl Spelled for u8 {
-    ghost spelling = { argument_spelling (codes "u8") 0 1 };
+impl Decodable for u8 {
+    ghost format = { argument_format (codes "u8") 0 1 };
 
     fn is_never_empty() -> bool {
         true
@@ -29,7 +29,7 @@ impl Spelled for u8 {
 ///
 /// # Errors
 ///
-/// `Read` is told at `Decode::decode`. The others have the name "u8":
+/// `Read` is described at `Decode::decode`. The others have the name "u8":
 ///
 /// - `Eof` with 1: no byte is left
 /// - `Eof` with k: the argument has k bytes and fewer are left. Nothing is left then
@@ -47,21 +47,21 @@ impl<S: Source> Decode<S> for u8 {
 ///
 /// # Errors
 ///
-/// `Write`: the writer failed. A whole writer then holds what it held before.
+/// `Write`: the writer failed. An atomic writer then holds what it held before.
 impl Encode for u8 {
     ghost bytes = { shortest_head 0 };
 
     #[inline(always)]
     fn encode<W: Write>(&self, writer: &mut W) -> Result<(), EncodeError<W::Error>>
-        ensures { WritesWhole W.whole (shortest_head 0 self.now)
+        ensures { WritesAtomically W.atomic (shortest_head 0 self.now)
             (W.view writer.old) (W.view writer.new) result }
     {
         push_head(writer, major::UNSIGNED, *self as u64)
     }
 }
 
-impl Spelled for u16 {
-    ghost spelling = { argument_spelling (codes "u16") 0 2 };
+impl Decodable for u16 {
+    ghost format = { argument_format (codes "u16") 0 2 };
 
     fn is_never_empty() -> bool {
         true
@@ -75,7 +75,7 @@ impl Spelled for u16 {
 ///
 /// # Errors
 ///
-/// `Read` is told at `Decode::decode`. The others have the name "u16":
+/// `Read` is described at `Decode::decode`. The others have the name "u16":
 ///
 /// - `Eof` with 1: no byte is left
 /// - `Eof` with k: the argument has k bytes and fewer are left. Nothing is left then
@@ -94,15 +94,15 @@ impl Encode for u16 {
 
     #[inline(always)]
     fn encode<W: Write>(&self, writer: &mut W) -> Result<(), EncodeError<W::Error>>
-        ensures { WritesWhole W.whole (shortest_head 0 self.now)
+        ensures { WritesAtomically W.atomic (shortest_head 0 self.now)
             (W.view writer.old) (W.view writer.new) result }
     {
         push_head(writer, major::UNSIGNED, *self as u64)
     }
 }
 
-impl Spelled for u32 {
-    ghost spelling = { argument_spelling (codes "u32") 0 4 };
+impl Decodable for u32 {
+    ghost format = { argument_format (codes "u32") 0 4 };
 
     fn is_never_empty() -> bool {
         true
@@ -116,7 +116,7 @@ impl Spelled for u32 {
 ///
 /// # Errors
 ///
-/// `Read` is told at `Decode::decode`. The others have the name "u32":
+/// `Read` is described at `Decode::decode`. The others have the name "u32":
 ///
 /// - `Eof` with 1: no byte is left
 /// - `Eof` with k: the argument has k bytes and fewer are left. Nothing is left then
@@ -135,15 +135,15 @@ impl Encode for u32 {
 
     #[inline(always)]
     fn encode<W: Write>(&self, writer: &mut W) -> Result<(), EncodeError<W::Error>>
-        ensures { WritesWhole W.whole (shortest_head 0 self.now)
+        ensures { WritesAtomically W.atomic (shortest_head 0 self.now)
             (W.view writer.old) (W.view writer.new) result }
     {
         push_head(writer, major::UNSIGNED, *self as u64)
     }
 }
 
-impl Spelled for u64 {
-    ghost spelling = { argument_spelling (codes "u64") 0 8 };
+impl Decodable for u64 {
+    ghost format = { argument_format (codes "u64") 0 8 };
 
     fn is_never_empty() -> bool {
         true
@@ -157,7 +157,7 @@ impl Spelled for u64 {
 ///
 /// # Errors
 ///
-/// `Read` is told at `Decode::decode`. The others have the name "u64":
+/// `Read` is described at `Decode::decode`. The others have the name "u64":
 ///
 /// - `Eof` with 1: no byte is left
 /// - `Eof` with k: the argument has k bytes and fewer are left. Nothing is left then
@@ -178,10 +178,10 @@ impl Encode for u64 {
     ///
     /// # Errors
     ///
-    /// `Write`: the writer failed. A whole writer then holds what it held before.
+    /// `Write`: the writer failed. An atomic writer then holds what it held before.
     #[inline(always)]
     fn encode<W: Write>(&self, writer: &mut W) -> Result<(), EncodeError<W::Error>>
-        ensures { WritesWhole W.whole (shortest_head 0 self.now)
+        ensures { WritesAtomically W.atomic (shortest_head 0 self.now)
             (W.view writer.old) (W.view writer.new) result }
     {
         push_head(writer, major::UNSIGNED, *self)

@@ -1,28 +1,28 @@
 //! Arrays, read (RFC 8949 sections 3.1 and 3.2.2).
-ghost use Rattle.cbor4ii_items.specs.Sequences.{array_spelling};
+ghost use Rattle.cbor4ii_items.specs.Sequences.{array_format};
 ghost use Rattle.cbor4ii_items.specs.Laws.Sequences.{array_lawful};
 
-use crate::decode::{Decode, Spelled};
+use crate::decode::{Decodable, Decode};
 use crate::major;
 use crate::sequences::parts::{Sequence, take_sequence};
 use cbor4ii_rw::error::DecodeError;
 use cbor4ii_rw::read::Source;
 use std::alloc::Global;
 
-impl<T: Spelled> Spelled for Vec<T> {
-    ghost spelling = { array_spelling T.spelling };
+impl<T: Decodable> Decodable for Vec<T> {
+    ghost format = { array_format T.format };
 
     fn is_never_empty() -> bool {
         true
     }
 
-    ghost lawful = { array_lawful T.spelling T.lawful };
+    ghost lawful = { array_lawful T.format T.lawful };
 }
 
 impl<S: Source, T: Decode<S> + Drop> Sequence<S> for Vec<T> {
     type Part = T;
 
-    ghost part = { T.spelling };
+    ghost part = { T.format };
 
     fn is_part_never_empty() -> bool {
         T::is_never_empty()
@@ -36,19 +36,19 @@ impl<S: Source, T: Decode<S> + Drop> Sequence<S> for Vec<T> {
     ghost lawful = { T.lawful };
 }
 
-/// An array of items, counted or up to a break (RFC 8949 sections 3.1 and 3.2.2), under one step of
-/// the reader's budget, which is given back whatever the answer is. At most 256 items have their
-/// place reserved before any of them came.
+/// An array of items, of definite or indefinite length (RFC 8949 sections 3.1 and 3.2.2), under one
+/// step of the reader's budget, which is given back whatever the answer is. At most 256 items have
+/// their place reserved before any of them came.
 ///
 /// Of a type that may read nothing, an array of indefinite length is read only where its break
-/// comes at once, since no reading of it would end. A counted one ends, but where its items read no
-/// byte it takes as many turns as its head says, whatever follows: `Vec<Nothing>` takes 2^64 - 1 of
-/// them for the nine bytes `9b ff ff ff ff ff ff ff ff`.
+/// comes at once, since no reading of it would end. A definite-length one ends, but where its items
+/// read no byte it takes as many turns as its head says, whatever follows: `Vec<Nothing>` takes
+/// 2^64 - 1 of them for the nine bytes `9b ff ff ff ff ff ff ff ff`.
 ///
 /// # Errors
 ///
-/// `Read` and `OutOfMemory` are told at `Decode::decode`. The others come in this order, by "array"
-/// where no other name is said:
+/// `Read` and `OutOfMemory` are described at `Decode::decode`. The others come in this order, by
+/// "array" where no other name is said:
 ///
 /// - `DepthOverflow`: no step is left. Nothing is taken then
 /// - `Eof` with 1: no byte is left

@@ -28,7 +28,7 @@ impl<T: Encode> Encode for Vec<T> {
     }
 }
 
-/// A map: its shortest head in one push, and then each key with its value behind it, in the order
+/// A map: its shortest head in one push, and then each key with its value after it, in the order
 /// of the slice.
 impl<'a, K: Encode, V: Encode> Encode for Map<&'a [(K, V)]> {
     ghost bytes = { λ v. map_bytes K.bytes V.bytes v.0.now };
@@ -39,7 +39,7 @@ impl<'a, K: Encode, V: Encode> Encode for Map<&'a [(K, V)]> {
 }
 
 fn push_array<W: Write, T: Encode>(writer: &mut W, items: &[T]) -> Result<(), EncodeError<W::Error>>
-    ensures { Writes W.whole (array_bytes T.bytes items.now)
+    ensures { Writes W.atomic (array_bytes T.bytes items.now)
         (W.view writer.old) (W.view writer.new) result }
 {
     push_head(writer, major::ARRAY, items.len() as u64)?;
@@ -50,7 +50,7 @@ fn push_map<W: Write, K: Encode, V: Encode>(
     writer: &mut W,
     pairs: &[(K, V)],
 ) -> Result<(), EncodeError<W::Error>>
-    ensures { Writes W.whole (map_bytes K.bytes V.bytes pairs.now)
+    ensures { Writes W.atomic (map_bytes K.bytes V.bytes pairs.now)
         (W.view writer.old) (W.view writer.new) result }
 {
     push_head(writer, major::MAP, pairs.len() as u64)?;
@@ -58,7 +58,7 @@ fn push_map<W: Write, K: Encode, V: Encode>(
 }
 
 fn push_items<W: Write, T: Encode>(writer: &mut W, items: &[T]) -> Result<(), EncodeError<W::Error>>
-    ensures { Writes W.whole (items_bytes T.bytes items.now)
+    ensures { Writes W.atomic (items_bytes T.bytes items.now)
         (W.view writer.old) (W.view writer.new) result }
 {
     for item in items {
@@ -71,7 +71,7 @@ fn push_pairs<W: Write, K: Encode, V: Encode>(
     writer: &mut W,
     pairs: &[(K, V)],
 ) -> Result<(), EncodeError<W::Error>>
-    ensures { Writes W.whole (items_bytes (pair_bytes K.bytes V.bytes) pairs.now)
+    ensures { Writes W.atomic (items_bytes (pair_bytes K.bytes V.bytes) pairs.now)
         (W.view writer.old) (W.view writer.new) result }
 {
     for pair in pairs {
@@ -80,12 +80,12 @@ fn push_pairs<W: Write, K: Encode, V: Encode>(
     Ok(())
 }
 
-/// Writes a key, and its value behind it.
+/// Writes a key, and its value after it.
 fn push_pair<W: Write, K: Encode, V: Encode>(
     writer: &mut W,
     pair: &(K, V),
 ) -> Result<(), EncodeError<W::Error>>
-    ensures { Writes W.whole (pair_bytes K.bytes V.bytes pair.now)
+    ensures { Writes W.atomic (pair_bytes K.bytes V.bytes pair.now)
         (W.view writer.old) (W.view writer.new) result }
 {
     pair.0.encode(writer)?;

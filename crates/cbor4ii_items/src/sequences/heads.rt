@@ -1,15 +1,15 @@
-//! Arrays and maps that are written in parts, and their lengths alone (RFC 8949 sections 3.1 and
+//! Arrays and maps that are written in elements, and their lengths alone (RFC 8949 sections 3.1 and
 //! 3.2.2).
 ghost use Rattle.std.specs.Prelude.{codes};
 ghost use Rattle.cbor4ii_items.specs.Numbers.{shortest_head};
 ghost use Rattle.cbor4ii_items.specs.Strings.{opening, closing};
-ghost use Rattle.cbor4ii_items.specs.Writing.{WritesWhole};
+ghost use Rattle.cbor4ii_items.specs.Writing.{WritesAtomically};
 ghost use Rattle.cbor4ii_items.specs.Decoding.{Decodes};
-ghost use Rattle.cbor4ii_items.specs.Lengths.{length_spelling};
+ghost use Rattle.cbor4ii_items.specs.Lengths.{length_format};
 
 use crate::head::lone_length;
 use crate::major;
-use crate::push::{push_end, push_head, push_open};
+use crate::push::{push_end, push_head, push_indefinite};
 use crate::types::{Array, Map};
 use cbor4ii_rw::error::{DecodeError, EncodeError};
 use cbor4ii_rw::read::Source;
@@ -23,12 +23,12 @@ impl Array<()> {
     ///
     /// The budget stays.
     ///
-    /// - `Read`: the reader failed. A part of the head may be taken then
+    /// - `Read`: the reader failed. An element of the head may be taken then
     /// - `Eof` by "array" with 1: no byte is left
     /// - `Eof` by "array" with k: the argument has k bytes and fewer are left. Nothing is left then
     /// - `Mismatch` by "array" with the first byte, which is taken: it begins no array
     pub fn len<S: Source>(reader: &mut S) -> Result<Option<usize>, DecodeError<S::Error>>
-        ensures { Decodes (length_spelling (codes "array") 4)
+        ensures { Decodes (length_format (codes "array") 4)
             (S.view reader.old) (S.view reader.new) result }
     {
         lone_length(reader, "array", major::ARRAY)
@@ -38,9 +38,9 @@ impl Array<()> {
     ///
     /// # Errors
     ///
-    /// `Write`: the writer failed. A whole writer then holds what it held before.
+    /// `Write`: the writer failed. An atomic writer then holds what it held before.
     pub fn bounded<W: Write>(len: usize, writer: &mut W) -> Result<(), EncodeError<W::Error>>
-        ensures { WritesWhole W.whole (shortest_head 4 len)
+        ensures { WritesAtomically W.atomic (shortest_head 4 len)
             (W.view writer.old) (W.view writer.new) result }
     {
         push_head(writer, major::ARRAY, len as u64)
@@ -51,20 +51,21 @@ impl Array<()> {
     ///
     /// # Errors
     ///
-    /// `Write`: the writer failed. A whole writer then holds what it held before.
+    /// `Write`: the writer failed. An atomic writer then holds what it held before.
     pub fn unbounded<W: Write>(writer: &mut W) -> Result<(), EncodeError<W::Error>>
-        ensures { WritesWhole W.whole (opening 4) (W.view writer.old) (W.view writer.new) result }
+        ensures { WritesAtomically W.atomic (opening 4) (W.view writer.old) (W.view writer.new)
+            result }
     {
-        push_open(writer, major::ARRAY)
+        push_indefinite(writer, major::ARRAY)
     }
 
     /// Writes the end of an indefinite length, one byte, in one push.
     ///
     /// # Errors
     ///
-    /// `Write`: the writer failed. A whole writer then holds what it held before.
+    /// `Write`: the writer failed. An atomic writer then holds what it held before.
     pub fn end<W: Write>(writer: &mut W) -> Result<(), EncodeError<W::Error>>
-        ensures { WritesWhole W.whole closing (W.view writer.old) (W.view writer.new) result }
+        ensures { WritesAtomically W.atomic closing (W.view writer.old) (W.view writer.new) result }
     {
         push_end(writer)
     }
@@ -78,12 +79,12 @@ impl Map<()> {
     ///
     /// The budget stays.
     ///
-    /// - `Read`: the reader failed. A part of the head may be taken then
+    /// - `Read`: the reader failed. An element of the head may be taken then
     /// - `Eof` by "map" with 1: no byte is left
     /// - `Eof` by "map" with k: the argument has k bytes and fewer are left. Nothing is left then
     /// - `Mismatch` by "map" with the first byte, which is taken: it begins no map
     pub fn len<S: Source>(reader: &mut S) -> Result<Option<usize>, DecodeError<S::Error>>
-        ensures { Decodes (length_spelling (codes "map") 5)
+        ensures { Decodes (length_format (codes "map") 5)
             (S.view reader.old) (S.view reader.new) result }
     {
         lone_length(reader, "map", major::MAP)
@@ -93,9 +94,9 @@ impl Map<()> {
     ///
     /// # Errors
     ///
-    /// `Write`: the writer failed. A whole writer then holds what it held before.
+    /// `Write`: the writer failed. An atomic writer then holds what it held before.
     pub fn bounded<W: Write>(len: usize, writer: &mut W) -> Result<(), EncodeError<W::Error>>
-        ensures { WritesWhole W.whole (shortest_head 5 len)
+        ensures { WritesAtomically W.atomic (shortest_head 5 len)
             (W.view writer.old) (W.view writer.new) result }
     {
         push_head(writer, major::MAP, len as u64)
@@ -106,20 +107,21 @@ impl Map<()> {
     ///
     /// # Errors
     ///
-    /// `Write`: the writer failed. A whole writer then holds what it held before.
+    /// `Write`: the writer failed. An atomic writer then holds what it held before.
     pub fn unbounded<W: Write>(writer: &mut W) -> Result<(), EncodeError<W::Error>>
-        ensures { WritesWhole W.whole (opening 5) (W.view writer.old) (W.view writer.new) result }
+        ensures { WritesAtomically W.atomic (opening 5) (W.view writer.old) (W.view writer.new)
+            result }
     {
-        push_open(writer, major::MAP)
+        push_indefinite(writer, major::MAP)
     }
 
     /// Writes the end of an indefinite length, one byte, in one push.
     ///
     /// # Errors
     ///
-    /// `Write`: the writer failed. A whole writer then holds what it held before.
+    /// `Write`: the writer failed. An atomic writer then holds what it held before.
     pub fn end<W: Write>(writer: &mut W) -> Result<(), EncodeError<W::Error>>
-        ensures { WritesWhole W.whole closing (W.view writer.old) (W.view writer.new) result }
+        ensures { WritesAtomically W.atomic closing (W.view writer.old) (W.view writer.new) result }
     {
         push_end(writer)
     }

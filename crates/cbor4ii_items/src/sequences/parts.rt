@@ -1,9 +1,10 @@
-//! What arrays and maps share: a head that counts parts, or parts up to a break (RFC 8949
-//! sections 3.1 and 3.2.2). A part of an array is an item, and one of a map a key and its value.
+//! What arrays and maps share: a head that counts elements, or elements up to a break (RFC 8949
+//! sections 3.1 and 3.2.2). An element of an array is an item, and one of a map a key and its
+//! value.
 ghost use Rattle.std.specs.Prelude.{◌≡◌, ◌<◌};
-ghost use Rattle.cbor4ii_items.specs.Decoding.{Spelling, IsLawful, Decodes};
-ghost use Rattle.cbor4ii_items.specs.Sequences.{count_spelling, open_spelling, inside_spelling};
-ghost use Rattle.cbor4ii_items.specs.Sequences.{sequence_spelling};
+ghost use Rattle.cbor4ii_items.specs.Decoding.{Format, IsLawful, Decodes};
+ghost use Rattle.cbor4ii_items.specs.Sequences.{count_format, indefinite_format, inside_format};
+ghost use Rattle.cbor4ii_items.specs.Sequences.{sequence_format};
 
 use crate::head::length;
 use crate::indefinite::take_break;
@@ -12,19 +13,19 @@ use cbor4ii_rw::error::{DecodeError, Len, StaticStr};
 use cbor4ii_rw::read::Source;
 use std::alloc::Global;
 
-/// A type of arrays or of maps, by its parts.
+/// A type of arrays or of maps, by its elements.
 pub(crate) trait Sequence<S: Source>: Sized {
     /// An item, or a key and its value.
     type Part: Drop;
 
-    // How a part is spelled.
-    ghost part: { Spelling Self.Part };
+    // How an element is encoded.
+    ghost part: { Format Self.Part };
 
-    /// Whether a part always reads a byte.
+    /// Whether an element always reads a byte.
     fn is_part_never_empty() -> bool
         ensures { result ≡ part.never_empty };
 
-    /// Reads one part.
+    /// Reads one element.
     fn take_part(alloc: Global, reader: &mut S) -> Result<Self::Part, DecodeError<S::Error>>
         ensures { Decodes Self.part (S.view reader.old) (S.view reader.new) result };
 
@@ -39,7 +40,7 @@ pub(crate) fn take_sequence<S: Source, Q: Sequence<S>>(
     major: u8,
 ) -> Result<Vec<Q::Part>, DecodeError<S::Error>>
     requires { major < 8 }
-    ensures { Decodes (sequence_spelling name.now major Q.part)
+    ensures { Decodes (sequence_format name.now major Q.part)
         (S.view reader.old) (S.view reader.new) result }
 {
     if !reader.step_in() {
@@ -58,22 +59,22 @@ fn take_inside<S: Source, Q: Sequence<S>>(
     major: u8,
 ) -> Result<Vec<Q::Part>, DecodeError<S::Error>>
     requires { major < 8 }
-    ensures { Decodes (inside_spelling name.now major Q.part)
+    ensures { Decodes (inside_format name.now major Q.part)
         (S.view reader.old) (S.view reader.new) result }
 {
     match length(reader, name, major)? {
-        Some(count) => take_counted::<S, Q>(alloc, reader, count),
-        None => take_open::<S, Q>(alloc, reader, name),
+        Some(count) => take_definite::<S, Q>(alloc, reader, count),
+        None => take_indefinite::<S, Q>(alloc, reader, name),
     }
 }
 
-/// Reads so many parts. A count alone takes little memory: more is taken as the parts come.
-fn take_counted<S: Source, Q: Sequence<S>>(
+/// Reads so many elements. A count alone takes little memory: more is taken as the elements come.
+fn take_definite<S: Source, Q: Sequence<S>>(
     alloc: Global,
     reader: &mut S,
     count: u64,
 ) -> Result<Vec<Q::Part>, DecodeError<S::Error>>
-    ensures { Decodes (count_spelling Q.part count)
+    ensures { Decodes (count_format Q.part count)
         (S.view reader.old) (S.view reader.new) result }
 {
     let mut parts = Vec::new(alloc);
@@ -90,13 +91,13 @@ fn take_counted<S: Source, Q: Sequence<S>>(
     Ok(parts)
 }
 
-/// Reads parts up to a break.
-fn take_open<S: Source, Q: Sequence<S>>(
+/// Reads elements up to a break.
+fn take_indefinite<S: Source, Q: Sequence<S>>(
     alloc: Global,
     reader: &mut S,
     name: StaticStr,
 ) -> Result<Vec<Q::Part>, DecodeError<S::Error>>
-    ensures { Decodes (open_spelling name.now Q.part)
+    ensures { Decodes (indefinite_format name.now Q.part)
         (S.view reader.old) (S.view reader.new) result }
 {
     let mut parts = Vec::new(alloc);

@@ -1,13 +1,13 @@
-//! Borrowed strings, read: parts of the input, with no copy (RFC 8949 section 3.1).
+//! Borrowed strings, read: slices of the input, with no copy (RFC 8949 section 3.1).
 ghost use Rattle.std.specs.Prelude.{◌≡◌, true, false, codes, IfOk};
 ghost use Rattle.cbor4ii_items.specs.Decoding.{Decodes};
-ghost use Rattle.cbor4ii_items.specs.Lent.{lent_spelling, lent_str, lent_bytes};
+ghost use Rattle.cbor4ii_items.specs.Lent.{lent_format, lent_str, lent_bytes};
 ghost use Rattle.cbor4ii_items.specs.Lent.{lent_unchecked, IsOfInput, stands_anywhere};
 ghost use Rattle.cbor4ii_items.specs.Lent.{bytes_stand, unchecked_stands};
 ghost use Rattle.cbor4ii_items.specs.Laws.Lent.{lent_lawful};
 ghost use Rattle.cbor4ii_items.specs.Laws.Strings.{two_small, three_small};
 
-use crate::decode::{Decode, Spelled};
+use crate::decode::{Decodable, Decode};
 use crate::major;
 use crate::strings::lent::{Lacks, Lend, lend_content, lend_text, take_lent};
 use crate::types::{Bytes, UncheckedStr};
@@ -15,8 +15,8 @@ use cbor4ii_rw::error::{DecodeError, StaticStr};
 use cbor4ii_rw::read::Read;
 use std::alloc::Global;
 
-impl<'de> Spelled for &'de str {
-    ghost spelling = { lent_spelling (codes "str") 3 true lent_str };
+impl<'de> Decodable for &'de str {
+    ghost format = { lent_format (codes "str") 3 true lent_str };
 
     fn is_never_empty() -> bool
         ensures { result ≡ true }
@@ -57,7 +57,7 @@ impl<'de, R: Read<'de>> Lend<R> for &'de str {
 ///
 /// # Errors
 ///
-/// `Read` is told at `Decode::decode`. The others come in this order, by "str":
+/// `Read` is described at `Decode::decode`. The others come in this order, by "str":
 ///
 /// - `Eof` with 1: no byte is left
 /// - `Eof` with k: the argument of the head has k bytes and fewer are left. Nothing is left then
@@ -72,8 +72,8 @@ impl<'de, R: Read<'de>> Decode<R> for &'de str {
     }
 }
 
-impl<'de> Spelled for Bytes<&'de [u8]> {
-    ghost spelling = { lent_spelling (codes "bytes") 2 false lent_bytes };
+impl<'de> Decodable for Bytes<&'de [u8]> {
+    ghost format = { lent_format (codes "bytes") 2 false lent_bytes };
 
     fn is_never_empty() -> bool
         ensures { result ≡ true }
@@ -113,12 +113,12 @@ impl<'de, R: Read<'de>> Lend<R> for Bytes<&'de [u8]> {
 
 /// A byte string, of definite length, as it stands in the input, with no copy (RFC 8949 section
 /// 3.1). It is read only where one fill lends all of its bytes as long as the input lives. No step
-/// is taken and no memory. It is the input's own part: what is left begins right behind it, where
-/// the reader tells the place of its end.
+/// is taken and no memory. It is the input's own part: what is left begins right after it, where
+/// the reader reports the place of its end.
 ///
 /// # Errors
 ///
-/// `Read` is told at `Decode::decode`. The others come in this order, by "bytes":
+/// `Read` is described at `Decode::decode`. The others come in this order, by "bytes":
 ///
 /// - `Eof` with 1: no byte is left
 /// - `Eof` with k: the argument of the head has k bytes and fewer are left. Nothing is left then
@@ -129,15 +129,15 @@ impl<'de, R: Read<'de>> Lend<R> for Bytes<&'de [u8]> {
 impl<'de, R: Read<'de>> Decode<R> for Bytes<&'de [u8]> {
     fn decode(alloc: Global, reader: &mut R) -> Result<Bytes<&'de [u8]>, DecodeError<R::Error>>
         ensures place { IfOk result (λ v. IsOfInput v.0 (R.view reader.old) (R.view reader.new)) }
-        ensures decodes { Decodes (lent_spelling (codes "bytes") 2 false lent_bytes)
+        ensures decodes { Decodes (lent_format (codes "bytes") 2 false lent_bytes)
             (R.view reader.old) (R.view reader.new) result }
     {
         take_lent(alloc, reader)
     }
 }
 
-impl<'de> Spelled for UncheckedStr<&'de [u8]> {
-    ghost spelling = { lent_spelling (codes "str") 3 false lent_unchecked };
+impl<'de> Decodable for UncheckedStr<&'de [u8]> {
+    ghost format = { lent_format (codes "str") 3 false lent_unchecked };
 
     fn is_never_empty() -> bool
         ensures { result ≡ true }
@@ -181,7 +181,7 @@ impl<'de, R: Read<'de>> Lend<R> for UncheckedStr<&'de [u8]> {
 ///
 /// # Errors
 ///
-/// `Read` is told at `Decode::decode`. The others come in this order, by "str":
+/// `Read` is described at `Decode::decode`. The others come in this order, by "str":
 ///
 /// - `Eof` with 1: no byte is left
 /// - `Eof` with k: the argument of the head has k bytes and fewer are left. Nothing is left then
@@ -195,7 +195,7 @@ impl<'de, R: Read<'de>> Decode<R> for UncheckedStr<&'de [u8]> {
         reader: &mut R,
     ) -> Result<UncheckedStr<&'de [u8]>, DecodeError<R::Error>>
         ensures place { IfOk result (λ v. IsOfInput v.0 (R.view reader.old) (R.view reader.new)) }
-        ensures decodes { Decodes (lent_spelling (codes "str") 3 false lent_unchecked)
+        ensures decodes { Decodes (lent_format (codes "str") 3 false lent_unchecked)
             (R.view reader.old) (R.view reader.new) result }
     {
         take_lent(alloc, reader)

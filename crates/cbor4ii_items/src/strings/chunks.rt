@@ -6,7 +6,7 @@ ghost use Rattle.cbor4ii_items.specs.ReadStrings.{chunk_inside_at, chunk_at, chu
 
 use crate::head::length;
 use crate::indefinite::take_break;
-use crate::strings::counted::take_content;
+use crate::strings::definite::take_content;
 use cbor4ii_rw::error::{DecodeError, Len, StaticStr};
 use cbor4ii_rw::read::Source;
 use std::alloc::Global;
@@ -29,7 +29,7 @@ pub(crate) fn take_chunks<S: Source>(
     Ok(content)
 }
 
-/// Takes a chunk under one step, behind what `content` holds.
+/// Takes a chunk under one step, after what `content` holds.
 fn take_chunk<S: Source>(
     reader: &mut S,
     name: StaticStr,
@@ -49,7 +49,7 @@ fn take_chunk<S: Source>(
     outcome
 }
 
-/// Takes the content of a string of definite length, behind what `content` holds.
+/// Takes the content of a string of definite length, after what `content` holds.
 fn take_chunk_inside<S: Source>(
     reader: &mut S,
     name: StaticStr,

@@ -1,15 +1,15 @@
-//! The content of strings of known or of indefinite length, taken off a reader.
+//! The content of strings of definite or of indefinite length, taken off a reader.
 ghost use Rattle.std.specs.Prelude.{◌+◌, ◌≤◌, ◌<◌, OnOk, []};
 ghost use Rattle.cbor4ii_items.specs.Contents.{listed};
 ghost use Rattle.cbor4ii_items.specs.Reading.{Runs};
 ghost use Rattle.cbor4ii_items.specs.ReadStrings.{content_on, string_at};
 ghost use Rattle.cbor4ii_items.specs.Decoding.{Decodes};
-ghost use Rattle.cbor4ii_items.specs.Strings.{string_spelling, text_spelling, text_content};
+ghost use Rattle.cbor4ii_items.specs.Strings.{string_format, text_format, text_content};
 
 use crate::head::length;
 use crate::major;
 use crate::strings::chunks::take_chunks;
-use crate::strings::counted::take_content;
+use crate::strings::definite::take_content;
 use cbor4ii_rw::error::{DecodeError, StaticStr};
 use cbor4ii_rw::read::Source;
 use std::alloc::Global;
@@ -21,7 +21,7 @@ pub(crate) fn take_text<S: Source>(
     reader: &mut S,
     name: StaticStr,
 ) -> Result<String, DecodeError<S::Error>>
-    ensures { Decodes (text_spelling name.now text_content)
+    ensures { Decodes (text_format name.now text_content)
         (S.view reader.old) (S.view reader.new) result }
 {
     match String::from_utf8(lone_string(alloc, reader, name, major::STRING)?) {
@@ -39,7 +39,7 @@ pub(crate) fn lone_string<S: Source>(
     major: u8,
 ) -> Result<Vec<u8>, DecodeError<S::Error>>
     requires { major < 8 }
-    ensures { Decodes (string_spelling name.now major)
+    ensures { Decodes (string_format name.now major)
         (S.view reader.old) (S.view reader.new) (listed result) }
 {
     take_string(alloc, reader, name, major)

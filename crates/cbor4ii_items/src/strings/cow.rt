@@ -2,17 +2,17 @@
 ghost use Rattle.std.specs.Prelude.{◌≡◌, true, false, codes, IfOk};
 ghost use mathlib.Core.Path.{refl};
 ghost use Rattle.std.specs.Cow.{IsBorrowedStr, IsOwnedStr};
-ghost use Rattle.cbor4ii_items.specs.Cow.{BorrowsWhereCounted, cow_text, cow_bytes, cow_unchecked};
+ghost use Rattle.cbor4ii_items.specs.Cow.{BorrowsWhereDefinite, cow_text, cow_bytes, cow_unchecked};
 ghost use Rattle.cbor4ii_items.specs.Cow.{IsBorrowedBytes, IsOwnedBytes, IsBorrowedUnchecked};
 ghost use Rattle.cbor4ii_items.specs.Cow.{IsOwnedUnchecked, nothing_to_test, cow_bytes_stand};
 ghost use Rattle.cbor4ii_items.specs.Cow.{cow_unchecked_stands, owned_stands};
 ghost use Rattle.cbor4ii_items.specs.Lent.{stands_anywhere};
-ghost use Rattle.cbor4ii_rw.specs.View.{Told};
+ghost use Rattle.cbor4ii_rw.specs.View.{IfKnown};
 ghost use Rattle.cbor4ii_items.specs.Decoding.{Decodes};
-ghost use Rattle.cbor4ii_items.specs.Strings.{as_spelling, text_spelling};
+ghost use Rattle.cbor4ii_items.specs.Strings.{as_format, text_format};
 ghost use Rattle.cbor4ii_items.specs.Laws.Strings.{two_small, three_small, as_lawful, text_lawful};
 
-use crate::decode::{Decode, Spelled};
+use crate::decode::{Decodable, Decode};
 use crate::major;
 use crate::strings::lent::{Lacks, lend_content, lend_text};
 use crate::strings::lent_or_owned::{LendOrOwn, take_cow};
@@ -22,8 +22,8 @@ use cbor4ii_rw::read::Read;
 use std::alloc::Global;
 use std::borrow::{CowSlice, CowStr};
 
-impl<'de> Spelled for CowStr<'de, Global> {
-    ghost spelling = { text_spelling (codes "str") cow_text };
+impl<'de> Decodable for CowStr<'de, Global> {
+    ghost format = { text_format (codes "str") cow_text };
 
     fn is_never_empty() -> bool
         ensures { result ≡ true }
@@ -79,15 +79,15 @@ impl<'de, R: Read<'de>> LendOrOwn<R> for CowStr<'de, Global> {
 }
 
 /// A text string that is UTF-8, of definite or of indefinite length (RFC 8949 sections 3.1 and
-/// 3.2.3). One of definite length is a part of the input where one fill lends all of its bytes as
+/// 3.2.3). One of definite length is a slice of the input where one fill lends all of its bytes as
 /// long as the input lives. Elsewhere they are copied. One of indefinite length is always copied,
-/// of one chunk too: it is known only behind a chunk whether more follow. A copy takes steps and
+/// of one chunk too: it is known only after a chunk whether more follow. A copy takes steps and
 /// memory as that of an owned string does.
 ///
 /// # Errors
 ///
-/// `Read` and `OutOfMemory` are told at `Decode::decode`. The others come in this order, over every
-/// reader, by "str" where no other name is said:
+/// `Read` and `OutOfMemory` are described at `Decode::decode`. The others come in this order, over
+/// every reader, by "str" where no other name is said:
 ///
 /// - `Eof` with 1: no byte is left
 /// - `Eof` with k: the argument of the head has k bytes and fewer are left. Nothing is left then
@@ -102,17 +102,17 @@ impl<'de, R: Read<'de>> LendOrOwn<R> for CowStr<'de, Global> {
 /// - `RequireUtf8`: the text is not UTF-8. The whole item is taken then
 impl<'de, R: Read<'de>> Decode<R> for CowStr<'de, Global> {
     fn decode(alloc: Global, reader: &mut R) -> Result<CowStr<'de, Global>, DecodeError<R::Error>>
-        ensures decodes { Decodes (text_spelling (codes "str") cow_text)
+        ensures decodes { Decodes (text_format (codes "str") cow_text)
             (R.view reader.old) (R.view reader.new) result }
         ensures borrows { IfOk result
-            (BorrowsWhereCounted 3 IsBorrowedStr IsOwnedStr (R.view reader.old)) }
+            (BorrowsWhereDefinite 3 IsBorrowedStr IsOwnedStr (R.view reader.old)) }
     {
         take_cow(alloc, reader)
     }
 }
 
-impl<'de> Spelled for Bytes<CowSlice<'de, u8, Global>> {
-    ghost spelling = { as_spelling (codes "bytes") 2 cow_bytes };
+impl<'de> Decodable for Bytes<CowSlice<'de, u8, Global>> {
+    ghost format = { as_format (codes "bytes") 2 cow_bytes };
 
     fn is_never_empty() -> bool
         ensures { result ≡ true }
@@ -168,15 +168,15 @@ impl<'de, R: Read<'de>> LendOrOwn<R> for Bytes<CowSlice<'de, u8, Global>> {
 }
 
 /// A byte string, of definite or of indefinite length (RFC 8949 sections 3.1 and 3.2.3). One of
-/// definite length is a part of the input where one fill lends all of its bytes as long as the
+/// definite length is a slice of the input where one fill lends all of its bytes as long as the
 /// input lives. Elsewhere they are copied. One of indefinite length is always copied, of one chunk
-/// too: it is known only behind a chunk whether more follow. A copy takes steps and memory as that
+/// too: it is known only after a chunk whether more follow. A copy takes steps and memory as that
 /// of an owned string does.
 ///
 /// # Errors
 ///
-/// `Read` and `OutOfMemory` are told at `Decode::decode`. The others come in this order, over every
-/// reader, by "bytes" where no other name is said:
+/// `Read` and `OutOfMemory` are described at `Decode::decode`. The others come in this order, over
+/// every reader, by "bytes" where no other name is said:
 ///
 /// - `Eof` with 1: no byte is left
 /// - `Eof` with k: the argument of the head has k bytes and fewer are left. Nothing is left then
@@ -193,19 +193,19 @@ impl<'de, R: Read<'de>> Decode<R> for Bytes<CowSlice<'de, u8, Global>> {
         alloc: Global,
         reader: &mut R,
     ) -> Result<Bytes<CowSlice<'de, u8, Global>>, DecodeError<R::Error>>
-        ensures place { IfOk result (λ v. Told (R.view reader.old).told
+        ensures place { IfOk result (λ v. IfKnown (R.view reader.old).known
             (λ _. cow_bytes_stand v (R.view reader.new))) }
-        ensures decodes { Decodes (as_spelling (codes "bytes") 2 cow_bytes)
+        ensures decodes { Decodes (as_format (codes "bytes") 2 cow_bytes)
             (R.view reader.old) (R.view reader.new) result }
         ensures borrows { IfOk result
-            (BorrowsWhereCounted 2 IsBorrowedBytes IsOwnedBytes (R.view reader.old)) }
+            (BorrowsWhereDefinite 2 IsBorrowedBytes IsOwnedBytes (R.view reader.old)) }
     {
         take_cow(alloc, reader)
     }
 }
 
-impl<'de> Spelled for UncheckedStr<CowSlice<'de, u8, Global>> {
-    ghost spelling = { as_spelling (codes "str") 3 cow_unchecked };
+impl<'de> Decodable for UncheckedStr<CowSlice<'de, u8, Global>> {
+    ghost format = { as_format (codes "str") 3 cow_unchecked };
 
     fn is_never_empty() -> bool
         ensures { result ≡ true }
@@ -261,15 +261,15 @@ impl<'de, R: Read<'de>> LendOrOwn<R> for UncheckedStr<CowSlice<'de, u8, Global>>
 }
 
 /// A text string, whatever its bytes, of definite or of indefinite length (RFC 8949 sections 3.1
-/// and 3.2.3). One of definite length is a part of the input where one fill lends all of its bytes
+/// and 3.2.3). One of definite length is a slice of the input where one fill lends all of its bytes
 /// as long as the input lives. Elsewhere they are copied. One of indefinite length is always
-/// copied, of one chunk too: it is known only behind a chunk whether more follow. A copy takes
+/// copied, of one chunk too: it is known only after a chunk whether more follow. A copy takes
 /// steps and memory as that of an owned string does.
 ///
 /// # Errors
 ///
-/// `Read` and `OutOfMemory` are told at `Decode::decode`. The others come in this order, over every
-/// reader, by "str" where no other name is said:
+/// `Read` and `OutOfMemory` are described at `Decode::decode`. The others come in this order, over
+/// every reader, by "str" where no other name is said:
 ///
 /// - `Eof` with 1: no byte is left
 /// - `Eof` with k: the argument of the head has k bytes and fewer are left. Nothing is left then
@@ -286,12 +286,12 @@ impl<'de, R: Read<'de>> Decode<R> for UncheckedStr<CowSlice<'de, u8, Global>> {
         alloc: Global,
         reader: &mut R,
     ) -> Result<UncheckedStr<CowSlice<'de, u8, Global>>, DecodeError<R::Error>>
-        ensures place { IfOk result (λ v. Told (R.view reader.old).told
+        ensures place { IfOk result (λ v. IfKnown (R.view reader.old).known
             (λ _. cow_unchecked_stands v (R.view reader.new))) }
-        ensures decodes { Decodes (as_spelling (codes "str") 3 cow_unchecked)
+        ensures decodes { Decodes (as_format (codes "str") 3 cow_unchecked)
             (R.view reader.old) (R.view reader.new) result }
         ensures borrows { IfOk result
-            (BorrowsWhereCounted 3 IsBorrowedUnchecked IsOwnedUnchecked (R.view reader.old)) }
+            (BorrowsWhereDefinite 3 IsBorrowedUnchecked IsOwnedUnchecked (R.view reader.old)) }
     {
         take_cow(alloc, reader)
     }

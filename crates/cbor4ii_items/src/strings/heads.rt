@@ -1,10 +1,10 @@
 //! Strings that are written in parts: their heads and their ends (RFC 8949 sections 3.1 and 3.2.3).
-ghost use Rattle.cbor4ii_items.specs.Writing.{WritesWhole};
+ghost use Rattle.cbor4ii_items.specs.Writing.{WritesAtomically};
 ghost use Rattle.cbor4ii_items.specs.Numbers.{shortest_head};
 ghost use Rattle.cbor4ii_items.specs.Strings.{opening, closing};
 
 use crate::major;
-use crate::push::{push_end, push_head, push_open};
+use crate::push::{push_end, push_head, push_indefinite};
 use crate::types::{Bytes, UncheckedStr};
 use cbor4ii_rw::error::EncodeError;
 use cbor4ii_rw::write::Write;
@@ -15,9 +15,9 @@ impl Bytes<()> {
     ///
     /// # Errors
     ///
-    /// `Write`: the writer failed. A whole writer then holds what it held before.
+    /// `Write`: the writer failed. An atomic writer then holds what it held before.
     pub fn bounded<W: Write>(len: usize, writer: &mut W) -> Result<(), EncodeError<W::Error>>
-        ensures { WritesWhole W.whole (shortest_head 2 len)
+        ensures { WritesAtomically W.atomic (shortest_head 2 len)
             (W.view writer.old) (W.view writer.new) result }
     {
         push_head(writer, major::BYTES, len as u64)
@@ -28,20 +28,21 @@ impl Bytes<()> {
     ///
     /// # Errors
     ///
-    /// `Write`: the writer failed. A whole writer then holds what it held before.
+    /// `Write`: the writer failed. An atomic writer then holds what it held before.
     pub fn unbounded<W: Write>(writer: &mut W) -> Result<(), EncodeError<W::Error>>
-        ensures { WritesWhole W.whole (opening 2) (W.view writer.old) (W.view writer.new) result }
+        ensures { WritesAtomically W.atomic (opening 2) (W.view writer.old) (W.view writer.new)
+            result }
     {
-        push_open(writer, major::BYTES)
+        push_indefinite(writer, major::BYTES)
     }
 
     /// Writes the end of an indefinite length, one byte, in one push.
     ///
     /// # Errors
     ///
-    /// `Write`: the writer failed. A whole writer then holds what it held before.
+    /// `Write`: the writer failed. An atomic writer then holds what it held before.
     pub fn end<W: Write>(writer: &mut W) -> Result<(), EncodeError<W::Error>>
-        ensures { WritesWhole W.whole closing (W.view writer.old) (W.view writer.new) result }
+        ensures { WritesAtomically W.atomic closing (W.view writer.old) (W.view writer.new) result }
     {
         push_end(writer)
     }
@@ -53,9 +54,9 @@ impl UncheckedStr<()> {
     ///
     /// # Errors
     ///
-    /// `Write`: the writer failed. A whole writer then holds what it held before.
+    /// `Write`: the writer failed. An atomic writer then holds what it held before.
     pub fn bounded<W: Write>(len: usize, writer: &mut W) -> Result<(), EncodeError<W::Error>>
-        ensures { WritesWhole W.whole (shortest_head 3 len)
+        ensures { WritesAtomically W.atomic (shortest_head 3 len)
             (W.view writer.old) (W.view writer.new) result }
     {
         push_head(writer, major::STRING, len as u64)
@@ -66,20 +67,21 @@ impl UncheckedStr<()> {
     ///
     /// # Errors
     ///
-    /// `Write`: the writer failed. A whole writer then holds what it held before.
+    /// `Write`: the writer failed. An atomic writer then holds what it held before.
     pub fn unbounded<W: Write>(writer: &mut W) -> Result<(), EncodeError<W::Error>>
-        ensures { WritesWhole W.whole (opening 3) (W.view writer.old) (W.view writer.new) result }
+        ensures { WritesAtomically W.atomic (opening 3) (W.view writer.old) (W.view writer.new)
+            result }
     {
-        push_open(writer, major::STRING)
+        push_indefinite(writer, major::STRING)
     }
 
     /// Writes the end of an indefinite length, one byte, in one push.
     ///
     /// # Errors
     ///
-    /// `Write`: the writer failed. A whole writer then holds what it held before.
+    /// `Write`: the writer failed. An atomic writer then holds what it held before.
     pub fn end<W: Write>(writer: &mut W) -> Result<(), EncodeError<W::Error>>
-        ensures { WritesWhole W.whole closing (W.view writer.old) (W.view writer.new) result }
+        ensures { WritesAtomically W.atomic closing (W.view writer.old) (W.view writer.new) result }
     {
         push_end(writer)
     }

@@ -1,10 +1,10 @@
-//! Content that is lent: parts of the input that live as long as it.
+//! Content that is lent: slices of the input that live as long as it.
 ghost use Rattle.std.specs.Prelude.{◌≡◌, ℕ, ◌≤◌, ◌<◌, List, Bool, length, take, IfOk};
 ghost use Rattle.std.specs.Prelude.{IfErr, IsTrue, IsUtf8, true, false};
 ghost use Rattle.cbor4ii_items.specs.Head.{IsBytes};
-ghost use Rattle.cbor4ii_rw.specs.View.{View, Told, place_of};
+ghost use Rattle.cbor4ii_rw.specs.View.{View, IfKnown, place_of};
 ghost use Rattle.cbor4ii_items.specs.Decoding.{Decodes};
-ghost use Rattle.cbor4ii_items.specs.Lent.{lent_spelling, Lends, LacksContent, Named, IsOfInput};
+ghost use Rattle.cbor4ii_items.specs.Lent.{lent_format, Lends, LacksContent, Named, IsOfInput};
 
 use crate::head::lone_head;
 use cbor4ii_rw::ask::lend;
@@ -27,12 +27,12 @@ pub(crate) enum Lacks<E> {
 /// A value that a content is lent to.
 ///
 /// A function whose signature holds a `'static` name cannot fill a reader that names a lifetime,
-/// so what is lent knows its name here, and is refused without it.
+/// so what is lent knows its name here, and is rejected without it.
 pub(crate) trait Lend<S: Source>: Sized {
     // The value's content.
     ghost content: { Self → List ℕ };
 
-    // The name in refusals.
+    // The name in errors.
     ghost name: { List ℕ };
 
     // The major type.
@@ -56,7 +56,7 @@ pub(crate) trait Lend<S: Source>: Sized {
             (λ v. Lends count (content v) (S.view reader.old) (S.view reader.new)) }
         ensures utf8 { IfOk result (λ v. IsTrue is_text → IsUtf8 (content v)) }
         ensures place { IfOk result
-            (λ v. Told (S.view reader.old).told (λ _. stands v (S.view reader.new))) }
+            (λ v. IfKnown (S.view reader.old).known (λ _. stands v (S.view reader.new))) }
         ensures lacks { IfErr result
             (LacksContent count is_text (S.view reader.old) (S.view reader.new)) };
 }
@@ -67,8 +67,8 @@ pub(crate) fn take_lent<T: Lend<S>, S: Source>(
     reader: &mut S,
 ) -> Result<T, DecodeError<S::Error>>
     ensures place { IfOk result
-        (λ v. Told (S.view reader.old).told (λ _. T.stands v (S.view reader.new))) }
-    ensures decodes { Decodes (lent_spelling T.name T.major T.is_text T.content)
+        (λ v. IfKnown (S.view reader.old).known (λ _. T.stands v (S.view reader.new))) }
+    ensures decodes { Decodes (lent_format T.name T.major T.is_text T.content)
         (S.view reader.old) (S.view reader.new) result }
 {
     let count = lone_head(reader, T::name(), T::major(), 8)?;
@@ -110,7 +110,7 @@ pub(crate) fn lend_content<'de, R: Read<'de>>(
                 return Err(Lacks::Few(shown.len()));
             }
             reader.advance(want);
-            Ok(front(shown, want))
+            Ok(prefix(shown, want))
         }
         Some(Reference::Short(_)) => Err(Lacks::Short),
         None => Err(Lacks::Read(failure.unwrap())),
@@ -137,7 +137,7 @@ pub(crate) fn lend_text<'de, R: Read<'de>>(
 }
 
 /// The first bytes. That they are bytes is known where a slice is a parameter.
-fn front(shown: &[u8], count: usize) -> &[u8]
+fn prefix(shown: &[u8], count: usize) -> &[u8]
     requires { count ≤ length shown.now }
     ensures value { result.now ≡ take count shown.now }
     ensures place { place_of result ≡ place_of shown.entry }

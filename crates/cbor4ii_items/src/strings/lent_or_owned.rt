@@ -3,8 +3,8 @@ ghost use Rattle.std.specs.Prelude.{◌≡◌, ℕ, ◌+◌, ◌≤◌, ◌<◌,
 ghost use Rattle.std.specs.Prelude.{IfSome, IsTrue, IsUtf8};
 ghost use Rattle.cbor4ii_items.specs.Lent.{Lends, LacksContent};
 ghost use Rattle.cbor4ii_items.specs.ReadStrings.{content_on, string_at};
-ghost use Rattle.cbor4ii_rw.specs.View.{View, Told};
-ghost use Rattle.cbor4ii_items.specs.Cow.{either_spelling, TakesContent, BorrowsWhereCounted};
+ghost use Rattle.cbor4ii_rw.specs.View.{View, IfKnown};
+ghost use Rattle.cbor4ii_items.specs.Cow.{either_format, TakesContent, BorrowsWhereDefinite};
 ghost use Rattle.cbor4ii_items.specs.Cow.{IsBorrowedWhereWhole, Holds};
 ghost use Rattle.cbor4ii_items.specs.Decoding.{Decodes};
 
@@ -23,16 +23,16 @@ pub(crate) trait LendOrOwn<S: Source>: Sized {
     // The value's content.
     ghost content: { Self → List ℕ };
 
-    // The value is a part of the input.
+    // The value is a slice of the input.
     ghost IsBorrowed: { Self → Type 0 };
 
     // The value has a content of its own.
     ghost IsOwned: { Self → Type 0 };
 
-    // Where a value that is a part of the input stands: before what a reader has left.
+    // Where a value that is a slice of the input stands: before what a reader has left.
     ghost stands: { Self → View → Type 0 };
 
-    // The name in refusals.
+    // The name in errors.
     ghost name: { List ℕ };
 
     // The major type.
@@ -53,7 +53,7 @@ pub(crate) trait LendOrOwn<S: Source>: Sized {
         ensures utf8 { IfOk result (λ v. IsTrue is_text → IsUtf8 (content v)) }
         ensures borrowed { IfOk result IsBorrowed }
         ensures place { IfOk result
-            (λ v. Told (S.view reader.old).told (λ _. stands v (S.view reader.new))) }
+            (λ v. IfKnown (S.view reader.old).known (λ _. stands v (S.view reader.new))) }
         ensures lacks { IfErr result
             (LacksContent count is_text (S.view reader.old) (S.view reader.new)) };
 
@@ -78,11 +78,11 @@ pub(crate) fn take_cow<T: LendOrOwn<S>, S: Source>(
     reader: &mut S,
 ) -> Result<T, DecodeError<S::Error>>
     ensures place { IfOk result
-        (λ v. Told (S.view reader.old).told (λ _. T.stands v (S.view reader.new))) }
-    ensures decodes { Decodes (either_spelling T.is_text T.name T.major T.content)
+        (λ v. IfKnown (S.view reader.old).known (λ _. T.stands v (S.view reader.new))) }
+    ensures decodes { Decodes (either_format T.is_text T.name T.major T.content)
         (S.view reader.old) (S.view reader.new) result }
     ensures borrows { IfOk result
-        (BorrowsWhereCounted T.major T.IsBorrowed T.IsOwned (S.view reader.old)) }
+        (BorrowsWhereDefinite T.major T.IsBorrowed T.IsOwned (S.view reader.old)) }
 {
     match take_either(alloc, reader)? {
         Some(value) => Ok(value),
@@ -100,9 +100,9 @@ fn take_either<T: LendOrOwn<S>, S: Source>(
         (S.view reader.old) (S.view reader.new) result }
     ensures progress { OnOk result ((S.view reader.new).bound + 1 ≤ (S.view reader.old).bound) }
     ensures borrows { IfOk result (λ value. IfSome value
-        (BorrowsWhereCounted T.major T.IsBorrowed T.IsOwned (S.view reader.old))) }
+        (BorrowsWhereDefinite T.major T.IsBorrowed T.IsOwned (S.view reader.old))) }
     ensures place { IfOk result (λ value. IfSome value
-        (λ v. Told (S.view reader.old).told (λ _. T.stands v (S.view reader.new)))) }
+        (λ v. IfKnown (S.view reader.old).known (λ _. T.stands v (S.view reader.new)))) }
 {
     match length(reader, T::name(), T::major())? {
         Some(count) => lend_or_copy(alloc, reader, count),
@@ -121,7 +121,7 @@ fn lend_or_copy<T: LendOrOwn<S>, S: Source>(
     ensures borrows { IfOk result (λ value. IfSome value
         (IsBorrowedWhereWhole T.IsBorrowed (S.view reader.old))) }
     ensures place { IfOk result (λ value. IfSome value
-        (λ v. Told (S.view reader.old).told (λ _. T.stands v (S.view reader.new)))) }
+        (λ v. IfKnown (S.view reader.old).known (λ _. T.stands v (S.view reader.new)))) }
 {
     match T::lend_from(reader, count) {
         Ok(value) => Ok(Some(value)),

@@ -1,10 +1,10 @@
 //! Owned strings, read (RFC 8949 sections 3.1 and 3.2.3).
 ghost use Rattle.std.specs.Prelude.{true, codes};
-ghost use Rattle.cbor4ii_items.specs.Strings.{as_spelling, text_spelling, bytes_content};
+ghost use Rattle.cbor4ii_items.specs.Strings.{as_format, text_format, bytes_content};
 ghost use Rattle.cbor4ii_items.specs.Strings.{unchecked_content, text_content};
 ghost use Rattle.cbor4ii_items.specs.Laws.Strings.{two_small, three_small, as_lawful, text_lawful};
 
-use crate::decode::{Decode, Spelled};
+use crate::decode::{Decodable, Decode};
 use crate::major;
 use crate::strings::content::{lone_string, take_text};
 use crate::types::{Bytes, UncheckedStr};
@@ -12,8 +12,8 @@ use cbor4ii_rw::error::DecodeError;
 use cbor4ii_rw::read::Source;
 use std::alloc::Global;
 
-impl Spelled for Bytes<Vec<u8>> {
-    ghost spelling = { as_spelling (codes "bytes") 2 bytes_content };
+impl Decodable for Bytes<Vec<u8>> {
+    ghost format = { as_format (codes "bytes") 2 bytes_content };
 
     fn is_never_empty() -> bool {
         true
@@ -28,8 +28,8 @@ impl Spelled for Bytes<Vec<u8>> {
 ///
 /// # Errors
 ///
-/// `Read` and `OutOfMemory` are told at `Decode::decode`. The others come in this order, by "bytes"
-/// where no other name is said:
+/// `Read` and `OutOfMemory` are described at `Decode::decode`. The others come in this order, by
+/// "bytes" where no other name is said:
 ///
 /// - `Eof` with 1: no byte is left
 /// - `Eof` with k: the argument of the head has k bytes and fewer are left. Nothing is left then
@@ -48,8 +48,8 @@ impl<S: Source> Decode<S> for Bytes<Vec<u8>> {
     }
 }
 
-impl Spelled for UncheckedStr<Vec<u8>> {
-    ghost spelling = { as_spelling (codes "str") 3 unchecked_content };
+impl Decodable for UncheckedStr<Vec<u8>> {
+    ghost format = { as_format (codes "str") 3 unchecked_content };
 
     fn is_never_empty() -> bool {
         true
@@ -64,8 +64,8 @@ impl Spelled for UncheckedStr<Vec<u8>> {
 ///
 /// # Errors
 ///
-/// `Read` and `OutOfMemory` are told at `Decode::decode`. The others come in this order, by "str"
-/// where no other name is said:
+/// `Read` and `OutOfMemory` are described at `Decode::decode`. The others come in this order, by
+/// "str" where no other name is said:
 ///
 /// - `Eof` with 1: no byte is left
 /// - `Eof` with k: the argument of the head has k bytes and fewer are left. Nothing is left then
@@ -87,8 +87,8 @@ impl<S: Source> Decode<S> for UncheckedStr<Vec<u8>> {
     }
 }
 
-impl Spelled for String {
-    ghost spelling = { text_spelling (codes "str") text_content };
+impl Decodable for String {
+    ghost format = { text_format (codes "str") text_content };
 
     fn is_never_empty() -> bool {
         true
@@ -104,8 +104,8 @@ impl Spelled for String {
 ///
 /// # Errors
 ///
-/// `Read` and `OutOfMemory` are told at `Decode::decode`. The others come in this order, by "str"
-/// where no other name is said:
+/// `Read` and `OutOfMemory` are described at `Decode::decode`. The others come in this order, by
+/// "str" where no other name is said:
 ///
 /// - `Eof` with 1: no byte is left
 /// - `Eof` with k: the argument of the head has k bytes and fewer are left. Nothing is left then

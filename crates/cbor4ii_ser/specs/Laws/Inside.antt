@@ -6,35 +6,39 @@ use Rattle.std.proofs.Common.{◌≡◌, ◌⊎◌, inl, inr, List, [], ◌∷�
 use Rattle.std.proofs.Common.{refl, ap, ◌∙◌}
 use Rattle.std.proofs.lemmas.List.{length-map}
 use Rattle.cbor4ii_items.specs.Numbers.{shortest_head}
-use Rattle.cbor4ii_ser.specs.Item.{Encoding, encoded, followed, each_item, array_item, entry_item}
-use Rattle.cbor4ii_ser.specs.Item.{map_item, option_item}
+use Rattle.cbor4ii_ser.specs.Item.{Encoding, encoded, followed, each_encoding, array_encoding}
+use Rattle.cbor4ii_ser.specs.Item.{entry_encoding}
+use Rattle.cbor4ii_ser.specs.Item.{map_encoding, option_encoding}
 
 each_mapped : {U V : Type 0} (f : U → V) (item : V → Encoding) (us : List U)
-    → each_item item (map f us) ≡ each_item (λ u. item (f u)) us
+    → each_encoding item (map f us) ≡ each_encoding (λ u. item (f u)) us
 each_mapped f item [] = refl
 each_mapped f item (u ∷ us) = ap (followed (item (f u))) (each_mapped f item us)
 
 -- the values of an array
 pub array_mapped : {U V : Type 0} (f : U → V) (item : V → Encoding) (us : List U)
-    → array_item item (map f us) ≡ array_item (λ u. item (f u)) us
+    → array_encoding item (map f us) ≡ array_encoding (λ u. item (f u)) us
 array_mapped f item us =
-    ap (λ n. followed (encoded (shortest_head 4 n)) (each_item item (map f us))) (length-map us f)
+    ap (λ n. followed (encoded (shortest_head 4 n)) (each_encoding item (map f us)))
+    (length-map us f)
     ∙ ap (followed (encoded (shortest_head 4 (length us)))) (each_mapped f item us)
 
 -- the entries of a map
 pub map_mapped : {K V L U : Type 0} (f : K × V → L × U) (key : L → Encoding) (value : U → Encoding)
-    (es : List (K × V)) → map_item key value (map f es)
+    (es : List (K × V)) → map_encoding key value (map f es)
     ≡ followed (encoded (shortest_head 5 (length es)))
-    (each_item (λ e. followed (key (f e).0) (value (f e).1)) es)
+    (each_encoding (λ e. followed (key (f e).0) (value (f e).1)) es)
 map_mapped f key value es =
-    ap (λ n. followed (encoded (shortest_head 5 n)) (each_item (entry_item key value) (map f es)))
+    ap (λ n. followed (encoded (shortest_head 5 n)) (each_encoding (entry_encoding key value)
+    (map f es)))
     (length-map es f)
-    ∙ ap (followed (encoded (shortest_head 5 (length es)))) (each_mapped f (entry_item key value) es)
+    ∙ ap (followed (encoded (shortest_head 5 (length es))))
+    (each_mapped f (entry_encoding key value) es)
 
 -- the value that an option holds
 pub option_cases : {V : Type 0} (item : V → Encoding) (o : Option V)
-    → ((o ≡ None) × (option_item item o ≡ encoded (0xf6 ∷ [])))
-    ⊎ ((v : V) × (o ≡ Some v) × (option_item item o ≡ item v))
+    → ((o ≡ None) × (option_encoding item o ≡ encoded (0xf6 ∷ [])))
+    ⊎ ((v : V) × (o ≡ Some v) × (option_encoding item o ≡ item v))
 option_cases item None = inl (refl, refl)
 option_cases item (Some v) = inr (v, refl, refl)
 

@@ -10,60 +10,61 @@ use Rattle.cbor4ii_rw.specs.Writer.{Output, Appends}
 use Rattle.cbor4ii_items.specs.Laws.Written.{appends_then, starts_then, starts_more}
 use Rattle.cbor4ii_ser.specs.declared.error.EncodeError.{EncodeError}
 use Rattle.cbor4ii_ser.specs.declared.error.EncodeError.TheVariants.{Core, Custom}
-use Rattle.cbor4ii_items.specs.Writing.{AppendsFront}
-use Rattle.cbor4ii_ser.specs.Item.{Encoding, encoded, refused, bytes_written, followed, each_item}
+use Rattle.cbor4ii_items.specs.Writing.{AppendsPrefix}
+use Rattle.cbor4ii_ser.specs.Item.{Encoding, encoded, rejected, bytes_written, followed}
+use Rattle.cbor4ii_ser.specs.Item.{each_encoding}
 use Rattle.cbor4ii_ser.specs.Serializing.{Serializes, Blames}
 
 pub followed_assoc : (a b c : Encoding) → followed (followed a b) c ≡ followed a (followed b c)
 unfolding followed
-followed_assoc (refused xs words) b c = refl
-followed_assoc (encoded xs) (refused ys words) c = refl
-followed_assoc (encoded xs) (encoded ys) (refused zs words) =
-    ap (λ (bytes : List ℕ). refused bytes words) (append_assoc xs ys zs)
+followed_assoc (rejected xs words) b c = refl
+followed_assoc (encoded xs) (rejected ys words) c = refl
+followed_assoc (encoded xs) (encoded ys) (rejected zs words) =
+    ap (λ (bytes : List ℕ). rejected bytes words) (append_assoc xs ys zs)
 followed_assoc (encoded xs) (encoded ys) (encoded zs) = ap encoded (append_assoc xs ys zs)
 
 nil_followed : (a : Encoding) → followed (encoded []) a ≡ a
 unfolding followed
-nil_followed (refused xs words) = refl
+nil_followed (rejected xs words) = refl
 nil_followed (encoded xs) = refl
 
 pub followed_nil : (a : Encoding) → followed a (encoded []) ≡ a
 unfolding followed
-followed_nil (refused xs words) = refl
+followed_nil (rejected xs words) = refl
 followed_nil (encoded xs) = ap encoded (append-nil xs)
 
 pub followed_both : (xs ys : List ℕ) (b : Encoding)
     → followed (encoded (xs ++ ys)) b ≡ followed (encoded xs) (followed (encoded ys) b)
 unfolding followed
-followed_both xs ys (refused zs words) =
-    ap (λ (bytes : List ℕ). refused bytes words) (append_assoc xs ys zs)
+followed_both xs ys (rejected zs words) =
+    ap (λ (bytes : List ℕ). rejected bytes words) (append_assoc xs ys zs)
 followed_both xs ys (encoded zs) = ap encoded (append_assoc xs ys zs)
 
 begins_then : (xs : List ℕ) (b : Encoding) (old mid new : Option (List ℕ)) → Appends xs old mid
-    → AppendsFront (bytes_written b) mid new
-    → AppendsFront (bytes_written (followed (encoded xs) b)) old new
+    → AppendsPrefix (bytes_written b) mid new
+    → AppendsPrefix (bytes_written (followed (encoded xs) b)) old new
 unfolding followed
-begins_then xs (refused ys words) old mid new p q held told =
-    let f = q (held ++ xs) (p held told) in
+begins_then xs (rejected ys words) old mid new p q held known =
+    let f = q (held ++ xs) (p held known) in
     (xs ++ f.0, starts_then xs ys f.0 f.1, f.2 ∙ ap Some (append_assoc held xs f.0))
-begins_then xs (encoded ys) old mid new p q held told =
-    let f = q (held ++ xs) (p held told) in
+begins_then xs (encoded ys) old mid new p q held known =
+    let f = q (held ++ xs) (p held known) in
     (xs ++ f.0, starts_then xs ys f.0 f.1, f.2 ∙ ap Some (append_assoc held xs f.0))
 
-begins_more : (a b : Encoding) (old new : Option (List ℕ)) → AppendsFront (bytes_written a) old new
-    → AppendsFront (bytes_written (followed a b)) old new
+begins_more : (a b : Encoding) (old new : Option (List ℕ)) → AppendsPrefix (bytes_written a) old new
+    → AppendsPrefix (bytes_written (followed a b)) old new
 unfolding followed
-begins_more (refused xs words) b old new p held told = p held told
-begins_more (encoded xs) (refused ys words) old new p held told =
-    let f = p held told in (f.0, starts_more xs ys f.0 f.1, f.2)
-begins_more (encoded xs) (encoded ys) old new p held told =
-    let f = p held told in (f.0, starts_more xs ys f.0 f.1, f.2)
+begins_more (rejected xs words) b old new p held known = p held known
+begins_more (encoded xs) (rejected ys words) old new p held known =
+    let f = p held known in (f.0, starts_more xs ys f.0 f.1, f.2)
+begins_more (encoded xs) (encoded ys) old new p held known =
+    let f = p held known in (f.0, starts_more xs ys f.0 f.1, f.2)
 
 blames_more : {E : Type 0} (a b : Encoding) (old new : Output) (e : EncodeError E)
     → Blames a old new e → Blames (followed a b) old new e
 unfolding followed
 blames_more a b old new (Core error) p = p
-blames_more (refused xs words) b old new (Custom text) p = p
+blames_more (rejected xs words) b old new (Custom text) p = p
 blames_more (encoded xs) b old new (Custom text) p = absurd p.0
 
 blames_then : {E : Type 0} (xs : List ℕ) (b : Encoding) (old mid new : Output) (e : EncodeError E)
@@ -72,7 +73,7 @@ blames_then : {E : Type 0} (xs : List ℕ) (b : Encoding) (old mid new : Output)
 unfolding followed
 blames_then xs b old mid new (Core error) first is p = subst (λ n. Failed n new.failures) is p
 blames_then xs (encoded ys) old mid new (Custom text) first is p = absurd p.0
-blames_then xs (refused ys words) old mid new (Custom text) first is p =
+blames_then xs (rejected ys words) old mid new (Custom text) first is p =
     ((appends_then xs ys old.written mid.written new.written first p.0.0, p.0.1), p.1 ∙ is)
 
 -- where one part fails, there is no other
@@ -83,7 +84,7 @@ serializes_err a b {old = old} {new = new} {e = e} p = record {
   appends = tt;
   counts = tt;
   failed = blames_more a b old new e p.failed;
-  front = λ whole. begins_more a b old.written new.written (p.front whole);
+  prefix = λ whole. begins_more a b old.written new.written (p.prefix whole);
 }
 
 -- what a `?` answers there
@@ -100,20 +101,20 @@ pub serializes_then : {T U E : Type 0} {whole : Bool} (a b : Encoding) {old mid 
     {t : T} (r : Result U (EncodeError E)) → Serializes {E = E} whole a old mid (Ok t)
     → Serializes whole b mid new r → Serializes whole (followed a b) old new r
 unfolding followed
-serializes_then (refused xs words) b r p q = absurd p.appends
-serializes_then (encoded xs) (refused ys words) {old = old} {mid = mid} {new = new} (Ok u) p q =
+serializes_then (rejected xs words) b r p q = absurd p.appends
+serializes_then (encoded xs) (rejected ys words) {old = old} {mid = mid} {new = new} (Ok u) p q =
     absurd q.appends
 serializes_then (encoded xs) (encoded ys) {old = old} {mid = mid} {new = new} (Ok u) p q = record {
   appends = appends_then xs ys old.written mid.written new.written p.appends q.appends;
   counts = q.counts ∙ p.counts;
   failed = tt;
-  front = λ whole. tt;
+  prefix = λ whole. tt;
 }
 serializes_then (encoded xs) b {old = old} {mid = mid} {new = new} (Err e) p q = record {
   appends = tt;
   counts = tt;
   failed = blames_then xs b old mid new e p.appends p.counts q.failed;
-  front = λ whole. begins_then xs b old.written mid.written new.written p.appends (q.front whole);
+  prefix = λ whole. begins_then xs b old.written mid.written new.written p.appends (q.prefix whole);
 }
 
 -- the same, where many parts follow one another
@@ -139,49 +140,49 @@ serializes_at {whole = whole} {a = a} {old = old} {r = r} p is =
 pub serializes_nil : {E : Type 0} {whole : Bool} (old : Output)
     → Serializes {T = Unit {0}} {E = E} whole (encoded []) old old (Ok tt)
 serializes_nil old = record {
-  appends = λ held told. told ∙ ap Some (sym (append-nil held));
+  appends = λ held known. known ∙ ap Some (sym (append-nil held));
   counts = refl;
   failed = tt;
-  front = λ whole. tt;
+  prefix = λ whole. tt;
 }
 
 module _ {V : Type 0} (item : V → Encoding) where
   pub items_append : (us ws : List V)
-      → each_item item (us ++ ws) ≡ followed (each_item item us) (each_item item ws)
-  items_append [] ws = sym (nil_followed (each_item item ws))
+      → each_encoding item (us ++ ws) ≡ followed (each_encoding item us) (each_encoding item ws)
+  items_append [] ws = sym (nil_followed (each_encoding item ws))
   items_append (u ∷ us) ws =
       ap (followed (item u)) (items_append us ws)
-      ∙ sym (followed_assoc (item u) (each_item item us) (each_item item ws))
+      ∙ sym (followed_assoc (item u) (each_encoding item us) (each_encoding item ws))
 
-  -- those before a value, it, and those behind it
-  pub items_turn : (us : List V) (v : V) (ws : List V) → followed (each_item item us)
-      (followed (item v) (each_item item ws)) ≡ each_item item (us ++ (v ∷ ws))
+  -- those before a value, it, and those after it
+  pub items_turn : (us : List V) (v : V) (ws : List V) → followed (each_encoding item us)
+      (followed (item v) (each_encoding item ws)) ≡ each_encoding item (us ++ (v ∷ ws))
   items_turn us v ws = sym (items_append us (v ∷ ws))
 
   -- one more item
   pub items_push : (us : List V) (v : V)
-      → followed (each_item item us) (item v) ≡ each_item item (us ++ (v ∷ []))
+      → followed (each_encoding item us) (item v) ≡ each_encoding item (us ++ (v ∷ []))
   items_push us v =
-      sym (items_append us (v ∷ []) ∙ ap (followed (each_item item us)) (followed_nil (item v)))
+      sym (items_append us (v ∷ []) ∙ ap (followed (each_encoding item us)) (followed_nil (item v)))
 
 module _ {V : Type 0} (item : V → Encoding) (vs : List V) where
   -- one more item
   pub items_more : (i : ℕ) (v : V) → i < length vs → v ≡ get_or vs i v
-      → followed (each_item item (take i vs)) (item v) ≡ each_item item (take (i + 1) vs)
+      → followed (each_encoding item (take i vs)) (item v) ≡ each_encoding item (take (i + 1) vs)
   items_more i v h is =
-      sym (ap (each_item item) (take_more vs i v h)
+      sym (ap (each_encoding item) (take_more vs i v h)
       ∙ (items_append item (take i vs) (get_or vs i v ∷ [])
-      ∙ ap (followed (each_item item (take i vs)))
+      ∙ ap (followed (each_encoding item (take i vs)))
       (followed_nil (item (get_or vs i v)) ∙ ap item (sym is))))
 
-  -- those behind it
-  pub items_behind : (i : ℕ) (v : V) → i < length vs → v ≡ get_or vs i v
-      → followed (followed (each_item item (take i vs)) (item v))
-      (each_item item (drop (i + 1) vs)) ≡ each_item item vs
-  items_behind i v h is =
-      ap (λ z. followed z (each_item item (drop (i + 1) vs))) (items_more i v h is)
+  -- those after it
+  pub items_after : (i : ℕ) (v : V) → i < length vs → v ≡ get_or vs i v
+      → followed (followed (each_encoding item (take i vs)) (item v))
+      (each_encoding item (drop (i + 1) vs)) ≡ each_encoding item vs
+  items_after i v h is =
+      ap (λ z. followed z (each_encoding item (drop (i + 1) vs))) (items_more i v h is)
       ∙ (sym (items_append item (take (i + 1) vs) (drop (i + 1) vs))
-      ∙ ap (each_item item) (take-append-drop (i + 1) vs))
+      ∙ ap (each_encoding item) (take-append-drop (i + 1) vs))
 
 -- ---- of calls whose item is never missing
 

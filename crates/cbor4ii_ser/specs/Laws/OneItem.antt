@@ -12,7 +12,7 @@ use Rattle.std.specs.declared.string.String.{String}
 use Rattle.std.proofs.lemmas.List.Elements.{All-head, All-tail}
 use Rattle.std.proofs.lemmas.Str.{IsUtf8-encode, IsUtf8-string_bytes, length-encode}
 use Rattle.std.proofs.lemmas.Str.{len_utf8_bounds}
-use Rattle.cbor4ii_items.specs.Head.{shortest, open_head, break}
+use Rattle.cbor4ii_items.specs.Head.{shortest, indefinite_head, break}
 use Rattle.cbor4ii_items.specs.Initial.{Sign, unsigned, negative, sign_major, Kind, byte_string}
 use Rattle.cbor4ii_items.specs.Initial.{text_string, kind_major, Simple, simple_false, simple_true}
 use Rattle.cbor4ii_items.specs.Initial.{simple_null, simple_undefined, simple_byte, Precision}
@@ -22,22 +22,25 @@ use Rattle.cbor4ii_items.specs.Magnitude.{magnitude}
 use Rattle.cbor4ii_items.specs.Numbers.{shortest_head, signed_head, signed_bytes, unsigned_bytes}
 use Rattle.cbor4ii_items.specs.Numbers.{integer_bytes, bignum_bytes, IsWithin}
 use Rattle.cbor4ii_items.specs.Simple.{bool_byte}
-use Rattle.cbor4ii_items.specs.Strings.{counted_string, opening, closing}
+use Rattle.cbor4ii_items.specs.Strings.{definite_string, opening, closing}
 use Rattle.cbor4ii_items.specs.Laws.Heads.{length-bytes_high_first, if_cases, shortest_fits}
 use Rattle.cbor4ii_items.specs.Laws.NumbersBack.{length-without_leading_zeros}
-use Rattle.cbor4ii_tree.specs.Tree.{Tree, int, string, chunked, array, array_open, map_of, map_open}
+use Rattle.cbor4ii_tree.specs.Tree.{Tree, int, string, chunked, array, array_indefinite, map_of}
+use Rattle.cbor4ii_tree.specs.Tree.{map_indefinite}
 use Rattle.cbor4ii_tree.specs.Tree.{tagged, simple, bits, Trees, no_trees, tree, Pairs, no_pairs}
 use Rattle.cbor4ii_tree.specs.Tree.{pair, count, pair_count, bytes, bytes_all, bytes_pairs}
 use Rattle.cbor4ii_tree.specs.Tree.{LooseAll, LoosePairs, SoundStringsAll, SoundStringsPairs}
 use Rattle.cbor4ii_tree.specs.Tree.{TextIsUtf8}
-use Rattle.cbor4ii_tree.specs.Strict.{Strict, StrictAll, StrictPairs}
-use Rattle.cbor4ii_ser.specs.Item.{Encoding, encoded, refused, IfEncoded, followed, each_item}
-use Rattle.cbor4ii_ser.specs.Item.{parts, tuple_item, array_item, entry_item, map_item, field}
-use Rattle.cbor4ii_ser.specs.Item.{struct_item, option_item, variant_head, variant_item}
-use Rattle.cbor4ii_ser.specs.Item.{tuple_variant_item, struct_variant_item}
+use Rattle.cbor4ii_tree.specs.CanonicalShape.{CanonicalShape, CanonicalShapeAll}
+use Rattle.cbor4ii_tree.specs.CanonicalShape.{CanonicalShapePairs}
+use Rattle.cbor4ii_ser.specs.Item.{Encoding, encoded, rejected, IfEncoded, followed, each_encoding}
+use Rattle.cbor4ii_ser.specs.Item.{parts, tuple_encoding, array_encoding, entry_encoding}
+use Rattle.cbor4ii_ser.specs.Item.{map_encoding, field}
+use Rattle.cbor4ii_ser.specs.Item.{struct_encoding, option_encoding, variant_head, variant_encoding}
+use Rattle.cbor4ii_ser.specs.Item.{tuple_variant_encoding, struct_variant_encoding}
 use Rattle.cbor4ii_ser.specs.OneItem.{ShortestHeads, AllShortestHeads, PairsShortestHeads, Form}
 use Rattle.cbor4ii_ser.specs.OneItem.{shortest_heads, canonical, IsOfForm, OneItem, IsOneItem}
-use Rattle.cbor4ii_ser.specs.OneItem.{OneEntry, IsOneEntry, collected_item}
+use Rattle.cbor4ii_ser.specs.OneItem.{OneEntry, IsOneEntry, collected_encoding}
 use Rattle.cbor4ii_ser.specs.Laws.Joining.{followed_both, followed_nil}
 
 -- ---- trees
@@ -69,7 +72,7 @@ tag_formed canonical n t h p = (((shortest_fits n h, p.0.0), p.0.1), (refl, p.1)
 -- each of the trees is of the form
 abbrev pub AreOfForm : Form → Trees → Type 0
 AreOfForm shortest_heads ts = (LooseAll ts × SoundStringsAll ts) × AllShortestHeads ts
-AreOfForm canonical ts = (LooseAll ts × SoundStringsAll ts) × StrictAll ts
+AreOfForm canonical ts = (LooseAll ts × SoundStringsAll ts) × CanonicalShapeAll ts
 
 pub none_formed : (form : Form) → AreOfForm form no_trees
 none_formed shortest_heads = ((tt, tt), tt)
@@ -88,7 +91,7 @@ array_formed canonical ts h p = (((shortest_fits (count ts) h, p.0.0), p.0.1), (
 -- each key and each value is of the form
 abbrev pub ArePairsOfForm : Form → Pairs → Type 0
 ArePairsOfForm shortest_heads ps = (LoosePairs ps × SoundStringsPairs ps) × PairsShortestHeads ps
-ArePairsOfForm canonical ps = (LoosePairs ps × SoundStringsPairs ps) × StrictPairs ps
+ArePairsOfForm canonical ps = (LoosePairs ps × SoundStringsPairs ps) × CanonicalShapePairs ps
 
 pub no_pairs_formed : (form : Form) → ArePairsOfForm form no_pairs
 no_pairs_formed shortest_heads = ((tt, tt), tt)
@@ -113,17 +116,17 @@ pub by_recursion : {V : Type 0} (P : V → Type 0) (vs : List V) → All P vs �
 by_recursion P [] h = tt
 by_recursion P (v ∷ vs) h = (All-head P v vs h, by_recursion P vs (All-tail P v vs h))
 
--- ---- one encoding behind another
+-- ---- one encoding after another
 
 if_followed : (P Q R : List ℕ → Type 0) (a b : Encoding)
     → ((xs ys : List ℕ) → P xs → Q ys → R (xs ++ ys)) → IfEncoded a P → IfEncoded b Q
     → IfEncoded (followed a b) R
 unfolding followed
-if_followed P Q R (refused xs words) b f p q = tt
-if_followed P Q R (encoded xs) (refused ys words) f p q = tt
+if_followed P Q R (rejected xs words) b f p q = tt
+if_followed P Q R (encoded xs) (rejected ys words) f p q = tt
 if_followed P Q R (encoded xs) (encoded ys) f p q = f xs ys p q
 
--- a head, or a name, and what stands behind it
+-- a head, or a name, and what follows it
 if_headed : (Q R : List ℕ → Type 0) (xs : List ℕ) (b : Encoding)
     → ((ys : List ℕ) → Q ys → R (xs ++ ys)) → IfEncoded b Q → IfEncoded (followed (encoded xs) b) R
 if_headed Q R xs b f q = if_followed (λ zs. zs ≡ xs) Q R (encoded xs) b (λ zs ys e p.
@@ -132,34 +135,34 @@ if_headed Q R xs b f q = if_followed (λ zs. zs ≡ xs) Q R (encoded xs) b (λ z
 -- ---- canonical items have shortest heads
 
 mutual
-  shortest_in_strict : (t : Tree) → Strict t → ShortestHeads t
+  shortest_in_strict : (t : Tree) → CanonicalShape t → ShortestHeads t
   shortest_in_strict (int s n w) h = h
   shortest_in_strict (string k w content) h = h
   shortest_in_strict (chunked k ts) h = absurd h
   shortest_in_strict (array w ts) h = (h.0, all_in_strict ts h.1)
-  shortest_in_strict (array_open ts) h = absurd h
+  shortest_in_strict (array_indefinite ts) h = absurd h
   shortest_in_strict (map_of w ps) h = (h.0, pairs_in_strict ps h.1)
-  shortest_in_strict (map_open ps) h = absurd h
+  shortest_in_strict (map_indefinite ps) h = absurd h
   shortest_in_strict (tagged n w t) h = (h.0, shortest_in_strict t h.1)
   shortest_in_strict (simple s) h = tt
   shortest_in_strict (bits p n) h = tt
 
-  all_in_strict : (ts : Trees) → StrictAll ts → AllShortestHeads ts
+  all_in_strict : (ts : Trees) → CanonicalShapeAll ts → AllShortestHeads ts
   all_in_strict no_trees h = tt
   all_in_strict (tree t ts) h = (shortest_in_strict t h.0, all_in_strict ts h.1)
 
-  pairs_in_strict : (ps : Pairs) → StrictPairs ps → PairsShortestHeads ps
+  pairs_in_strict : (ps : Pairs) → CanonicalShapePairs ps → PairsShortestHeads ps
   pairs_in_strict no_pairs h = tt
   pairs_in_strict (pair k v ps) h =
       (shortest_in_strict k h.0, shortest_in_strict v h.1, pairs_in_strict ps h.2)
 
 pub canonical_is_item : (form : Form) (item : Encoding) → IsOneItem canonical item
     → IsOneItem form item
-canonical_is_item form (refused xs words) p = tt
+canonical_is_item form (rejected xs words) p = tt
 canonical_is_item canonical (encoded xs) p = p
 canonical_is_item shortest_heads (encoded xs) p = record {
-  spelled = p.spelled;
-  formed = (p.formed.0, shortest_in_strict p.spelled p.formed.1);
+  of_tree = p.of_tree;
+  formed = (p.formed.0, shortest_in_strict p.of_tree p.formed.1);
   bytes_are = p.bytes_are;
 }
 
@@ -174,7 +177,7 @@ within_greater limit greater (negsuc n) le h = omega (arith, le, h)
 module _ (form : Form) where
   head_is_item : (s : Sign) (n : ℕ) → n < 2 ^ 64 → OneItem form (shortest_head (sign_major s) n)
   head_is_item s n h =
-      record { spelled = int s n (shortest n); formed = int_formed form s n h; bytes_are = refl }
+      record { of_tree = int s n (shortest n); formed = int_formed form s n h; bytes_are = refl }
 
   -- an unsigned integer
   pub unsigned_is_item : (n : ℕ) → n < 2 ^ 64 → IsOneItem form (encoded (shortest_head 0 n))
@@ -186,39 +189,39 @@ module _ (form : Form) where
   signed_is_item (negsuc n) h = head_is_item negative n h
 
   string_is_item : (k : Kind) (content : List ℕ) → length content < 2 ^ 64 → TextIsUtf8 k content
-      → OneItem form (counted_string (kind_major k) content)
+      → OneItem form (definite_string (kind_major k) content)
   string_is_item k content h utf8 = record {
-    spelled = string k (shortest (length content)) content;
+    of_tree = string k (shortest (length content)) content;
     formed = string_formed form k content h utf8;
     bytes_are = refl;
   }
 
   -- a text, as the name of a variant that has no content
   pub text_is_item : (content : List ℕ) → length content < 2 ^ 64 → IsUtf8 content
-      → IsOneItem form (encoded (counted_string 3 content))
+      → IsOneItem form (encoded (definite_string 3 content))
   text_is_item content h utf8 = string_is_item text_string content h utf8
 
   -- a text that the program owns
   pub owned_text_is_item : (v : String Global)
-      → IsOneItem form (encoded (counted_string 3 (string_bytes v)))
+      → IsOneItem form (encoded (definite_string 3 (string_bytes v)))
   owned_text_is_item v =
       text_is_item (string_bytes v) (omega (arith, v.bytes.ok.0, v.bytes.ok.1, v.bytes.small))
       (IsUtf8-string_bytes v)
 
   -- a text of one character
   pub character_is_item : (c : ℕ) → IsScalar c
-      → IsOneItem form (encoded (counted_string 3 (encode_utf8 c)))
+      → IsOneItem form (encoded (definite_string 3 (encode_utf8 c)))
   character_is_item c h =
       text_is_item (encode_utf8 c) (omega (arith, length-encode c, (len_utf8_bounds c).1))
       (IsUtf8-encode c h)
 
   pub bytes_are_item : (content : List ℕ) → length content < 2 ^ 64
-      → IsOneItem form (encoded (counted_string 2 content))
+      → IsOneItem form (encoded (definite_string 2 content))
   bytes_are_item content h = string_is_item byte_string content h tt
 
   simple_is_item : (s : Simple) → s ≢ simple_undefined → OneItem form (simple_byte s ∷ [])
   simple_is_item s h =
-      record { spelled = simple s; formed = simple_formed form s h; bytes_are = refl }
+      record { of_tree = simple s; formed = simple_formed form s h; bytes_are = refl }
 
   pub bool_is_item : (b : Bool) → IsOneItem form (encoded (bool_byte b ∷ []))
   bool_is_item false = simple_is_item simple_false (λ e. cc)
@@ -231,7 +234,7 @@ module _ (form : Form) where
   pub float_is_item : (p : Precision) (n : ℕ) → n < 256 ^ precision_bytes p
       → IsOneItem form (encoded (float_bytes (precision_byte p) (precision_bytes p) n))
   float_is_item p n h =
-      record { spelled = bits p n; formed = bits_formed form p n h; bytes_are = refl }
+      record { of_tree = bits p n; formed = bits_formed form p n h; bytes_are = refl }
 
   -- ---- bignums
 
@@ -244,7 +247,7 @@ module _ (form : Form) where
   bignum_is_item tag n h =
       let inner = string byte_string (shortest (length (magnitude n))) (magnitude n) in
       record {
-        spelled = tagged tag (shortest tag) inner;
+        of_tree = tagged tag (shortest tag) inner;
         formed = tag_formed form tag inner h
             (string_formed form byte_string (magnitude n) (length-magnitude n) tt);
         bytes_are = refl;
@@ -268,71 +271,71 @@ module _ (form : Form) where
 -- ---- arrays
 
 -- The bytes are those of so many trees of the form.
-record SomeItems (form : Form) (n : ℕ) (spelling : List ℕ) : Type 0 where
-  spelled : Trees
-  formed : AreOfForm form spelled
-  many : count spelled ≡ n
-  bytes_are : bytes_all spelled ≡ spelling
+record SomeItems (form : Form) (n : ℕ) (encoding : List ℕ) : Type 0 where
+  of_tree : Trees
+  formed : AreOfForm form of_tree
+  many : count of_tree ≡ n
+  bytes_are : bytes_all of_tree ≡ encoding
 
 module _ (form : Form) where
   one_more : (n : ℕ) (xs ys : List ℕ) → OneItem form xs → SomeItems form n ys
       → SomeItems form (suc n) (xs ++ ys)
   one_more n xs ys p q = record {
-    spelled = tree p.spelled q.spelled;
-    formed = more_formed form p.spelled q.spelled p.formed q.formed;
+    of_tree = tree p.of_tree q.of_tree;
+    formed = more_formed form p.of_tree q.of_tree p.formed q.formed;
     many = ap suc q.many;
     bytes_are = ap₂ (λ us ws. us ++ ws) p.bytes_are q.bytes_are;
   }
 
   each_is : {V : Type 0} (item : V → Encoding) (vs : List V)
       → AllByRecursion (λ v. IsOneItem form (item v)) vs
-      → IfEncoded (each_item item vs) (SomeItems form (length vs))
+      → IfEncoded (each_encoding item vs) (SomeItems form (length vs))
   each_is item [] h =
-      record { spelled = no_trees; formed = none_formed form; many = refl; bytes_are = refl }
+      record { of_tree = no_trees; formed = none_formed form; many = refl; bytes_are = refl }
   each_is item (v ∷ vs) h =
       if_followed (OneItem form) (SomeItems form (length vs)) (SomeItems form (suc (length vs)))
-      (item v) (each_item item vs) (one_more (length vs)) h.0 (each_is item vs h.1)
+      (item v) (each_encoding item vs) (one_more (length vs)) h.0 (each_is item vs h.1)
 
   array_of : (n : ℕ) → n < 2 ^ 64 → (ys : List ℕ) → SomeItems form n ys
       → OneItem form (shortest_head 4 n ++ ys)
   array_of n h ys q = record {
-    spelled = array (shortest (count q.spelled)) q.spelled;
-    formed = array_formed form q.spelled (omega (arith, h, q.many)) q.formed;
+    of_tree = array (shortest (count q.of_tree)) q.of_tree;
+    formed = array_formed form q.of_tree (omega (arith, h, q.many)) q.formed;
     bytes_are = ap₂ (λ k zs. shortest_head 4 k ++ zs) q.many q.bytes_are;
   }
 
   -- an array of no item
   pub unit_is_item : IsOneItem form (encoded (shortest_head 4 0))
   unit_is_item = record {
-    spelled = array (shortest 0) no_trees;
+    of_tree = array (shortest 0) no_trees;
     formed = array_formed form no_trees (omega arith) (none_formed form);
     bytes_are = refl;
   }
 
   -- an array of values
   pub array_is_item : {V : Type 0} (item : V → Encoding) (vs : List V) → length vs < 2 ^ 64
-      → AllByRecursion (λ v. IsOneItem form (item v)) vs → IsOneItem form (array_item item vs)
+      → AllByRecursion (λ v. IsOneItem form (item v)) vs → IsOneItem form (array_encoding item vs)
   array_is_item item vs h p =
       if_headed (SomeItems form (length vs)) (OneItem form) (shortest_head 4 (length vs))
-      (each_item item vs) (array_of (length vs) h) (each_is item vs p)
+      (each_encoding item vs) (array_of (length vs) h) (each_is item vs p)
 
   -- an array of so many parts
   pub tuple_is_item : (ps : List Encoding) → length ps < 2 ^ 64 → AllByRecursion (IsOneItem form) ps
-      → IsOneItem form (tuple_item ps)
+      → IsOneItem form (tuple_encoding ps)
   tuple_is_item ps h p = array_is_item (λ part. part) ps h p
 
 -- an array that ends at a break
-pub open_array_is_item : {V : Type 0} (item : V → Encoding) (vs : List V)
+pub indefinite_array_is_item : {V : Type 0} (item : V → Encoding) (vs : List V)
     → AllByRecursion (λ v. IsOneItem shortest_heads (item v)) vs
-    → IsOneItem shortest_heads (collected_item 4 None (each_item item vs))
-open_array_is_item item vs p =
+    → IsOneItem shortest_heads (collected_encoding 4 None (each_encoding item vs))
+indefinite_array_is_item item vs p =
     let Ended : List ℕ → Type 0 = λ zs. OneItem shortest_heads (opening 4 ++ zs) in
     if_headed Ended (OneItem shortest_heads) (opening 4)
-    (followed (each_item item vs) (encoded closing)) (λ zs q. q)
+    (followed (each_encoding item vs) (encoded closing)) (λ zs q. q)
     (if_followed (SomeItems shortest_heads (length vs)) (λ zs. zs ≡ closing) Ended
-    (each_item item vs) (encoded closing)
+    (each_encoding item vs) (encoded closing)
     (λ ys zs q e. record {
-      spelled = array_open q.spelled;
+      of_tree = array_indefinite q.of_tree;
       formed = q.formed;
       bytes_are = ap₂ (λ us ws. opening 4 ++ (us ++ ws)) q.bytes_are (sym e);
     }) (each_is shortest_heads item vs p) refl)
@@ -340,71 +343,72 @@ open_array_is_item item vs p =
 -- ---- maps
 
 -- The bytes are those of so many pairs of the form.
-record SomeEntries (form : Form) (n : ℕ) (spelling : List ℕ) : Type 0 where
-  spelled : Pairs
-  formed : ArePairsOfForm form spelled
-  many : pair_count spelled ≡ n
-  bytes_are : bytes_pairs spelled ≡ spelling
+record SomeEntries (form : Form) (n : ℕ) (encoding : List ℕ) : Type 0 where
+  of_tree : Pairs
+  formed : ArePairsOfForm form of_tree
+  many : pair_count of_tree ≡ n
+  bytes_are : bytes_pairs of_tree ≡ encoding
 
 module _ (form : Form) where
   one_entry_more : (n : ℕ) (xs ys : List ℕ) → OneEntry form xs → SomeEntries form n ys
       → SomeEntries form (suc n) (xs ++ ys)
   one_entry_more n xs ys p q = record {
-    spelled = pair p.key p.held q.spelled;
-    formed = more_pairs_formed form p.key p.held q.spelled p.key_formed p.held_formed q.formed;
+    of_tree = pair p.key p.held q.of_tree;
+    formed = more_pairs_formed form p.key p.held q.of_tree p.key_formed p.held_formed q.formed;
     many = ap suc q.many;
-    bytes_are = sym (append_assoc (bytes p.key) (bytes p.held) (bytes_pairs q.spelled))
+    bytes_are = sym (append_assoc (bytes p.key) (bytes p.held) (bytes_pairs q.of_tree))
         ∙ ap₂ (λ us ws. us ++ ws) p.bytes_are q.bytes_are;
   }
 
   each_is_entry : {V : Type 0} (item : V → Encoding) (vs : List V)
       → AllByRecursion (λ v. IsOneEntry form (item v)) vs
-      → IfEncoded (each_item item vs) (SomeEntries form (length vs))
+      → IfEncoded (each_encoding item vs) (SomeEntries form (length vs))
   each_is_entry item [] h =
-      record { spelled = no_pairs; formed = no_pairs_formed form; many = refl; bytes_are = refl }
+      record { of_tree = no_pairs; formed = no_pairs_formed form; many = refl; bytes_are = refl }
   each_is_entry item (v ∷ vs) h =
       if_followed (OneEntry form) (SomeEntries form (length vs))
-      (SomeEntries form (suc (length vs))) (item v) (each_item item vs) (one_entry_more (length vs))
+      (SomeEntries form (suc (length vs))) (item v) (each_encoding item vs)
+      (one_entry_more (length vs))
       h.0 (each_is_entry item vs h.1)
 
   map_of_entries : (n : ℕ) → n < 2 ^ 64 → (ys : List ℕ) → SomeEntries form n ys
       → OneItem form (shortest_head 5 n ++ ys)
   map_of_entries n h ys q = record {
-    spelled = map_of (shortest (pair_count q.spelled)) q.spelled;
-    formed = map_formed form q.spelled (omega (arith, h, q.many)) q.formed;
+    of_tree = map_of (shortest (pair_count q.of_tree)) q.of_tree;
+    formed = map_formed form q.of_tree (omega (arith, h, q.many)) q.formed;
     bytes_are = ap₂ (λ k zs. shortest_head 5 k ++ zs) q.many q.bytes_are;
   }
 
   -- a map of entries, whatever writes each
   entries_are_item : {V : Type 0} (item : V → Encoding) (vs : List V) → length vs < 2 ^ 64
       → AllByRecursion (λ v. IsOneEntry form (item v)) vs
-      → IsOneItem form (followed (encoded (shortest_head 5 (length vs))) (each_item item vs))
+      → IsOneItem form (followed (encoded (shortest_head 5 (length vs))) (each_encoding item vs))
   entries_are_item item vs h p =
       if_headed (SomeEntries form (length vs)) (OneItem form) (shortest_head 5 (length vs))
-      (each_item item vs) (map_of_entries (length vs) h) (each_is_entry item vs p)
+      (each_encoding item vs) (map_of_entries (length vs) h) (each_is_entry item vs p)
 
-  -- a key, and its value behind it
+  -- a key, and its value after it
   pub pair_is_entry : (a b : Encoding) → IsOneItem form a → IsOneItem form b
       → IsOneEntry form (followed a b)
   pair_is_entry a b p q = if_followed (OneItem form) (OneItem form) (OneEntry form) a b
       (λ xs ys k v. record {
-        key = k.spelled;
-        held = v.spelled;
+        key = k.of_tree;
+        held = v.of_tree;
         key_formed = k.formed;
         held_formed = v.formed;
         bytes_are = ap₂ (λ us ws. us ++ ws) k.bytes_are v.bytes_are;
       }) p q
 
-  -- a name, and its value behind it
+  -- a name, and its value after it
   pub field_is_entry : (name : List ℕ) (value : Encoding) → length name < 2 ^ 64 → IsUtf8 name
       → IsOneItem form value → IsOneEntry form (field name value)
   field_is_entry name value h utf8 p =
-      pair_is_entry (encoded (counted_string 3 name)) value (text_is_item form name h utf8) p
+      pair_is_entry (encoded (definite_string 3 name)) value (text_is_item form name h utf8) p
 
   each_pair_is_entry : {K V : Type 0} (key : K → Encoding) (value : V → Encoding)
       (es : List (K × V))
       → AllByRecursion (λ e. IsOneItem form (key e.0) × IsOneItem form (value e.1)) es
-      → AllByRecursion (λ e. IsOneEntry form (entry_item key value e)) es
+      → AllByRecursion (λ e. IsOneEntry form (entry_encoding key value e)) es
   each_pair_is_entry key value [] h = tt
   each_pair_is_entry key value (e ∷ es) h =
       (pair_is_entry (key e.0) (value e.1) h.0.0 h.0.1, each_pair_is_entry key value es h.1)
@@ -413,55 +417,55 @@ module _ (form : Form) where
   pub map_is_item : {K V : Type 0} (key : K → Encoding) (value : V → Encoding)
       (entries : List (K × V)) → length entries < 2 ^ 64
       → AllByRecursion (λ e. IsOneItem form (key e.0) × IsOneItem form (value e.1)) entries
-      → IsOneItem form (map_item key value entries)
+      → IsOneItem form (map_encoding key value entries)
   map_is_item key value entries h p =
-      entries_are_item (entry_item key value) entries h (each_pair_is_entry key value entries p)
+      entries_are_item (entry_encoding key value) entries h (each_pair_is_entry key value entries p)
 
   -- a map of so many fields
   pub struct_is_item : (fields : List Encoding) → length fields < 2 ^ 64
-      → AllByRecursion (IsOneEntry form) fields → IsOneItem form (struct_item fields)
+      → AllByRecursion (IsOneEntry form) fields → IsOneItem form (struct_encoding fields)
   struct_is_item fields h p = entries_are_item (λ part. part) fields h p
 
 -- a map that ends at a break
-pub open_map_is_item : {V : Type 0} (entry : V → Encoding) (vs : List V)
+pub indefinite_map_is_item : {V : Type 0} (entry : V → Encoding) (vs : List V)
     → AllByRecursion (λ v. IsOneEntry shortest_heads (entry v)) vs
-    → IsOneItem shortest_heads (collected_item 5 None (each_item entry vs))
-open_map_is_item entry vs p =
+    → IsOneItem shortest_heads (collected_encoding 5 None (each_encoding entry vs))
+indefinite_map_is_item entry vs p =
     let Ended : List ℕ → Type 0 = λ zs. OneItem shortest_heads (opening 5 ++ zs) in
     if_headed Ended (OneItem shortest_heads) (opening 5)
-    (followed (each_item entry vs) (encoded closing)) (λ zs q. q)
+    (followed (each_encoding entry vs) (encoded closing)) (λ zs q. q)
     (if_followed (SomeEntries shortest_heads (length vs)) (λ zs. zs ≡ closing) Ended
-    (each_item entry vs) (encoded closing)
+    (each_encoding entry vs) (encoded closing)
     (λ ys zs q e. record {
-      spelled = map_open q.spelled;
+      of_tree = map_indefinite q.of_tree;
       formed = q.formed;
       bytes_are = ap₂ (λ us ws. opening 5 ++ (us ++ ws)) q.bytes_are (sym e);
     }) (each_is_entry shortest_heads entry vs p) refl)
 
 -- one whose length is given is the head and the parts
 pub collected_with_length : (major n : ℕ) (inner : Encoding)
-    → collected_item major (Some n) inner ≡ followed (encoded (shortest_head major n)) inner
+    → collected_encoding major (Some n) inner ≡ followed (encoded (shortest_head major n)) inner
 collected_with_length major n inner =
     ap (followed (encoded (shortest_head major n))) (followed_nil inner)
 
 -- ---- options and variants
 
 variant_is_struct : (name : List ℕ) (content : Encoding)
-    → struct_item (field name content ∷ []) ≡ variant_item name content
+    → struct_encoding (field name content ∷ []) ≡ variant_encoding name content
 variant_is_struct name content =
     ap (followed (encoded (shortest_head 5 1))) (followed_nil (field name content))
-    ∙ sym (followed_both (shortest_head 5 1) (counted_string 3 name) content)
+    ∙ sym (followed_both (shortest_head 5 1) (definite_string 3 name) content)
 
 module _ (form : Form) where
   -- null, or the value's item
   pub option_is_item : {V : Type 0} (item : V → Encoding) (v : Option V)
-      → ((u : V) → v ≡ Some u → IsOneItem form (item u)) → IsOneItem form (option_item item v)
+      → ((u : V) → v ≡ Some u → IsOneItem form (item u)) → IsOneItem form (option_encoding item v)
   option_is_item item None p = null_is_item form
   option_is_item item (Some u) p = p u refl
 
   -- a map of one entry, from the variant's name to its content
   pub variant_is_item : (name : List ℕ) (content : Encoding) → length name < 2 ^ 64 → IsUtf8 name
-      → IsOneItem form content → IsOneItem form (variant_item name content)
+      → IsOneItem form content → IsOneItem form (variant_encoding name content)
   variant_is_item name content h utf8 p =
       subst (IsOneItem form) (variant_is_struct name content)
       (struct_is_item form (field name content ∷ []) (omega arith)
@@ -470,17 +474,17 @@ module _ (form : Form) where
   -- one whose content is an array of so many parts
   pub tuple_variant_is_item : (name : List ℕ) (ps : List Encoding) → length name < 2 ^ 64
       → IsUtf8 name → length ps < 2 ^ 64 → AllByRecursion (IsOneItem form) ps
-      → IsOneItem form (tuple_variant_item name ps)
+      → IsOneItem form (tuple_variant_encoding name ps)
   tuple_variant_is_item name ps h utf8 few p =
       subst (IsOneItem form)
       (sym (followed_both (variant_head name) (shortest_head 4 (length ps)) (parts ps)))
-      (variant_is_item name (tuple_item ps) h utf8 (tuple_is_item form ps few p))
+      (variant_is_item name (tuple_encoding ps) h utf8 (tuple_is_item form ps few p))
 
   -- one whose content is a map of so many fields
   pub struct_variant_is_item : (name : List ℕ) (fields : List Encoding) → length name < 2 ^ 64
       → IsUtf8 name → length fields < 2 ^ 64 → AllByRecursion (IsOneEntry form) fields
-      → IsOneItem form (struct_variant_item name fields)
+      → IsOneItem form (struct_variant_encoding name fields)
   struct_variant_is_item name fields h utf8 few p =
       subst (IsOneItem form)
       (sym (followed_both (variant_head name) (shortest_head 5 (length fields)) (parts fields)))
-      (variant_is_item name (struct_item fields) h utf8 (struct_is_item form fields few p))
+      (variant_is_item name (struct_encoding fields) h utf8 (struct_is_item form fields few p))

@@ -6,7 +6,7 @@ use Rattle.std.proofs.lemmas.List.{append-nil}
 use Rattle.cbor4ii_rw.specs.Writer.{Output}
 use Rattle.cbor4ii_items.specs.Writing.{Writes}
 use Rattle.cbor4ii_items.specs.Laws.Written.{writes_then, writes_err, writes_as}
-use Rattle.cbor4ii_ser.specs.Pieces.{Pending, written, after, fits_behind, piece_bytes}
+use Rattle.cbor4ii_ser.specs.Pieces.{Pending, written, after, fits_after, piece_bytes}
 use Rattle.cbor4ii_ser.specs.Pieces.{piece_pending}
 use Rattle.cbor4ii_ser.specs.TextState.{TextSeen, Wrote, Pends, outcome}
 
@@ -14,24 +14,24 @@ pub after_append : (p : Pending) (ps qs : List (List ℕ))
     → after p (ps ++ qs) ≡ after (after p ps) qs
 unfolding after
 after_append p [] qs = refl
-after_append p (a ∷ ps) qs = after_append (piece_pending (fits_behind p a) p a) ps qs
+after_append p (a ∷ ps) qs = after_append (piece_pending (fits_after p a) p a) ps qs
 
 pub written_append : (p : Pending) (ps qs : List (List ℕ))
     → written p (ps ++ qs) ≡ written p ps ++ written (after p ps) qs
 unfolding written after
 written_append p [] qs = refl
 written_append p (a ∷ ps) qs =
-    ap (λ z. piece_bytes (fits_behind p a) p a ++ z)
-    (written_append (piece_pending (fits_behind p a) p a) ps qs)
-    ∙ sym (append_assoc (piece_bytes (fits_behind p a) p a)
-    (written (piece_pending (fits_behind p a) p a) ps)
-    (written (after (piece_pending (fits_behind p a) p a) ps) qs))
+    ap (λ z. piece_bytes (fits_after p a) p a ++ z)
+    (written_append (piece_pending (fits_after p a) p a) ps qs)
+    ∙ sym (append_assoc (piece_bytes (fits_after p a) p a)
+    (written (piece_pending (fits_after p a) p a) ps)
+    (written (after (piece_pending (fits_after p a) p a) ps) qs))
 
-written_one : (p : Pending) (a : List ℕ) → written p (a ∷ []) ≡ piece_bytes (fits_behind p a) p a
+written_one : (p : Pending) (a : List ℕ) → written p (a ∷ []) ≡ piece_bytes (fits_after p a) p a
 unfolding written
-written_one p a = append-nil (piece_bytes (fits_behind p a) p a)
+written_one p a = append-nil (piece_bytes (fits_after p a) p a)
 
-after_one : (p : Pending) (a : List ℕ) → after p (a ∷ []) ≡ piece_pending (fits_behind p a) p a
+after_one : (p : Pending) (a : List ℕ) → after p (a ∷ []) ≡ piece_pending (fits_after p a) p a
 unfolding after
 after_one p a = refl
 
@@ -82,7 +82,7 @@ pends_cut : {E : Type 0} (ps qs : List (List ℕ)) (p q : Pending) (f : Option E
 pends_cut ps qs p q (Some e) x is = tt
 pends_cut ps qs p q None x is = absurd (cc)
 
--- after an error nothing comes behind
+-- after an error nothing comes after
 pub wrote_cut : {E : Type 0} {whole : Bool} {ps : List (List ℕ)} (qs : List (List ℕ))
     {a b : TextSeen E} (e : E) → b.failure ≡ Some e → Wrote whole ps a b
     → Wrote whole (ps ++ qs) a b
@@ -95,8 +95,8 @@ wrote_cut {ps = ps} qs {a = a} {b = b} e is w = record {
 -- one piece
 pub wrote_one : {E : Type 0} {whole : Bool} (piece : List ℕ) {p q : Pending} {o n : Output}
     {f : Option E} → f ≡ None
-    → Writes {T = Unit {0}} {E = E} whole (piece_bytes (fits_behind p piece) p piece) o n (Ok tt)
-    → q ≡ piece_pending (fits_behind p piece) p piece
+    → Writes {T = Unit {0}} {E = E} whole (piece_bytes (fits_after p piece) p piece) o n (Ok tt)
+    → q ≡ piece_pending (fits_after p piece) p piece
     → Wrote {E = E} whole (piece ∷ []) (record { output = o; pending = p; failure = f })
     (record { output = n; pending = q; failure = f })
 wrote_one {E = E} {whole = whole} piece {p = p} {q = q} {o = o} {n = n} {f = f} none w is = record {
@@ -108,7 +108,7 @@ wrote_one {E = E} {whole = whole} piece {p = p} {q = q} {o = o} {n = n} {f = f} 
 
 pub wrote_one_err : {E : Type 0} {whole : Bool} (piece : List ℕ) {p q : Pending} {o n : Output}
     {f : Option E} {error : E} → f ≡ None → Writes {T = Unit {0}}
-    {E = E} whole (piece_bytes (fits_behind p piece) p piece) o n (Err error)
+    {E = E} whole (piece_bytes (fits_after p piece) p piece) o n (Err error)
     → Wrote {E = E} whole (piece ∷ []) (record { output = o; pending = p; failure = f })
     (record { output = n; pending = q; failure = Some error })
 wrote_one_err {E = E} {whole = whole} piece {p = p} {error = error} none w = record {
@@ -121,11 +121,11 @@ some_of : {E : Type 0} (o : Option E) → IsSome o → (e : E) × (o ≡ Some e)
 some_of None h = absurd (cc)
 some_of (Some e) h = (e, refl)
 
--- the first of two texts refuses, or its writer failed
-pub wrote_refused : {E : Type 0} {whole : Bool} (refuses : Bool) (ps qs : List (List ℕ))
-    {a b : TextSeen E} → (refuses ≡ true) ⊎ IsSome b.failure → Wrote whole ps a b
-    → Wrote whole (if refuses then ps else (ps ++ qs)) a b
-wrote_refused true ps qs why w = w
-wrote_refused false ps qs (inl is) w = absurd (cc)
-wrote_refused false ps qs {b = b} (inr some) w =
+-- the first of two texts rejects, or its writer failed
+pub wrote_rejected : {E : Type 0} {whole : Bool} (fails_itself : Bool) (ps qs : List (List ℕ))
+    {a b : TextSeen E} → (fails_itself ≡ true) ⊎ IsSome b.failure → Wrote whole ps a b
+    → Wrote whole (if fails_itself then ps else (ps ++ qs)) a b
+wrote_rejected true ps qs why w = w
+wrote_rejected false ps qs (inl is) w = absurd (cc)
+wrote_rejected false ps qs {b = b} (inr some) w =
     let found = some_of b.failure some in wrote_cut qs found.0 found.1 w

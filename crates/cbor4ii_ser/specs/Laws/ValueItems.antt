@@ -1,4 +1,4 @@
--- The canonical spelling of a value of the tree is one item.
+-- The canonical encoding of a value of the tree is one item.
 use Rattle.std.proofs.Common.{◌≡◌, ℕ, suc, ◌^◌, ◌<◌, List, Bool, true, false, refl, ap, subst}
 use Rattle.std.proofs.Common.{arith, ltb, ltb-true, pos, negsuc}
 use Rattle.cbor4ii_items.specs.Head.{shortest}
@@ -10,20 +10,21 @@ use Rattle.cbor4ii_tree.specs.Tree.{array, map_of, count, pair_count}
 use Rattle.cbor4ii_tree.specs.Item.{Item, null, boolean, integer, float, bytes_item, text, sequence}
 use Rattle.cbor4ii_tree.specs.Item.{mapping, tag, Items, no_items, item, Members, no_members}
 use Rattle.cbor4ii_tree.specs.Item.{member, item_count, member_count, IsItem, AreItems, AreMembers}
-use Rattle.cbor4ii_tree.specs.Canonical.{canon, canon_tree, canon_trees, canon_pairs, integer_tree}
+use Rattle.cbor4ii_tree.specs.Canonical.{canonical_encoding, canonical_tree, canonical_trees}
+use Rattle.cbor4ii_tree.specs.Canonical.{canonical_pairs, integer_tree}
 use Rattle.cbor4ii_tree.specs.Canonical.{sign_tag}
 use Rattle.cbor4ii_ser.specs.OneItem.{Form, IsOfForm, OneItem, IsOneItem}
-use Rattle.cbor4ii_ser.specs.Values.{unless, value_item, holds_tag}
+use Rattle.cbor4ii_ser.specs.Values.{unless, value_encoding, holds_tag}
 use Rattle.cbor4ii_ser.specs.Laws.OneItem.{int_formed, string_formed, simple_formed, bits_formed}
 use Rattle.cbor4ii_ser.specs.Laws.OneItem.{tag_formed, AreOfForm, none_formed, more_formed}
 use Rattle.cbor4ii_ser.specs.Laws.OneItem.{array_formed, ArePairsOfForm, no_pairs_formed}
 use Rattle.cbor4ii_ser.specs.Laws.OneItem.{more_pairs_formed, map_formed, length-magnitude}
 
-count_canon : (vs : Items) → count (canon_trees vs) ≡ item_count vs
-count_canon no_items = refl
-count_canon (item v vs) = ap suc (count_canon vs)
+count_canonical : (vs : Items) → count (canonical_trees vs) ≡ item_count vs
+count_canonical no_items = refl
+count_canonical (item v vs) = ap suc (count_canonical vs)
 
-count_pairs : (ms : Members) → pair_count (canon_pairs ms) ≡ member_count ms
+count_pairs : (ms : Members) → pair_count (canonical_pairs ms) ≡ member_count ms
 count_pairs no_members = refl
 count_pairs (member k v ms) = ap suc (count_pairs ms)
 
@@ -36,7 +37,7 @@ module _ (form : Form) where
       (string_formed form byte_string (magnitude n) (length-magnitude form n) tt))
 
   mutual
-    value_formed : (v : Item) → IsItem v → IsOfForm form (canon_tree v)
+    value_formed : (v : Item) → IsItem v → IsOfForm form (canonical_tree v)
     value_formed null h = simple_formed form simple_null (λ e. cc)
     value_formed (boolean false) h = simple_formed form simple_false (λ e. cc)
     value_formed (boolean true) h = simple_formed form simple_true (λ e. cc)
@@ -46,33 +47,34 @@ module _ (form : Form) where
     value_formed (bytes_item bs) h = string_formed form byte_string bs h tt
     value_formed (text bs) h = string_formed form text_string bs h.0 h.1
     value_formed (sequence vs) h =
-        subst (λ n. IsOfForm form (array (shortest n) (canon_trees vs))) (count_canon vs)
-        (array_formed form (canon_trees vs) (omega (arith, h.0, count_canon vs))
+        subst (λ n. IsOfForm form (array (shortest n) (canonical_trees vs))) (count_canonical vs)
+        (array_formed form (canonical_trees vs) (omega (arith, h.0, count_canonical vs))
         (values_formed vs h.1))
     value_formed (mapping ms) h =
-        subst (λ n. IsOfForm form (map_of (shortest n) (canon_pairs ms))) (count_pairs ms)
-        (map_formed form (canon_pairs ms) (omega (arith, h.0, count_pairs ms))
+        subst (λ n. IsOfForm form (map_of (shortest n) (canonical_pairs ms))) (count_pairs ms)
+        (map_formed form (canonical_pairs ms) (omega (arith, h.0, count_pairs ms))
         (members_formed ms h.1))
-    value_formed (tag n v) h = tag_formed form n (canon_tree v) h.0 (value_formed v h.1)
+    value_formed (tag n v) h = tag_formed form n (canonical_tree v) h.0 (value_formed v h.1)
 
-    values_formed : (vs : Items) → AreItems vs → AreOfForm form (canon_trees vs)
+    values_formed : (vs : Items) → AreItems vs → AreOfForm form (canonical_trees vs)
     values_formed no_items h = none_formed form
     values_formed (item v vs) h =
-        more_formed form (canon_tree v) (canon_trees vs) (value_formed v h.0)
+        more_formed form (canonical_tree v) (canonical_trees vs) (value_formed v h.0)
         (values_formed vs h.1)
 
-    members_formed : (ms : Members) → AreMembers ms → ArePairsOfForm form (canon_pairs ms)
+    members_formed : (ms : Members) → AreMembers ms → ArePairsOfForm form (canonical_pairs ms)
     members_formed no_members h = no_pairs_formed form
     members_formed (member k v ms) h =
-        more_pairs_formed form (canon_tree k) (canon_tree v) (canon_pairs ms) (value_formed k h.0)
+        more_pairs_formed form (canonical_tree k) (canonical_tree v) (canonical_pairs ms)
+        (value_formed k h.0)
         (value_formed v h.1) (members_formed ms h.2)
 
-  unless_is_item : (refuses : Bool) (xs : List ℕ) → OneItem form xs
-      → IsOneItem form (unless refuses xs)
+  unless_is_item : (fails_itself : Bool) (xs : List ℕ) → OneItem form xs
+      → IsOneItem form (unless fails_itself xs)
   unless_is_item true xs p = tt
   unless_is_item false xs p = p
 
-  -- a value in which no tag stands, as its canonical spelling
-  pub value_is_item : (v : Item) → IsItem v → IsOneItem form (value_item v)
-  value_is_item v h = unless_is_item (holds_tag v) (canon v)
-      (record { spelled = canon_tree v; formed = value_formed v h; bytes_are = refl })
+  -- a value in which no tag stands, as its canonical encoding
+  pub value_is_item : (v : Item) → IsItem v → IsOneItem form (value_encoding v)
+  value_is_item v h = unless_is_item (holds_tag v) (canonical_encoding v)
+      (record { of_tree = canonical_tree v; formed = value_formed v h; bytes_are = refl })

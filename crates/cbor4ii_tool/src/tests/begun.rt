@@ -1,4 +1,4 @@
-//! Runs under another limit than 256 steps, and runs that begin behind bytes that were taken.
+//! Runs under another limit than 256 steps, and runs that begin after bytes that were taken.
 use super::had_memory;
 use super::streams::{Input, Output};
 use super::table::table;
@@ -99,7 +99,7 @@ fn runs_on(
     Ok((outcome, reader.taken(), writer.into_inner()))
 }
 
-// The whole run, and the same with a flush that fails, behind all that was taken.
+// The whole run, and the same with a flush that fails, after all that was taken.
 fn runs_begun(rt: &(impl Abort + AllocGlobal), row: &Begun, stays: bool) -> io::Result<()> {
     let mut output = Output::new(rt.alloc())?;
     output.stays = stays;
@@ -140,7 +140,7 @@ fn fails_begun(rt: &(impl Abort + AllocGlobal), row: &Begun) -> io::Result<()> {
 }
 
 #[test]
-fn behind_bytes_that_were_taken(rt: HostRuntime) -> io::Result<()> {
+fn after_bytes_that_were_taken(rt: HostRuntime) -> io::Result<()> {
     for row in BEGUN {
         runs_begun(&rt, row, false)?;
         runs_begun(&rt, row, true)?;

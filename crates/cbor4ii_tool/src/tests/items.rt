@@ -1,4 +1,4 @@
-//! What `canon`, `lens` and `strict` make of one item, or of what is none.
+//! What `canonical_encoding`, `lens` and `strict` make of one item, or of what is none.
 use super::had_memory;
 use super::streams::Output;
 use super::table::table;
@@ -30,7 +30,7 @@ const BAR: &[u8] = b"\xa1\x63bar\xa1\x65value\x18\x99";
 // [1, [2, 3], [4, 5]].
 const NUMBERS: &[u8] = b"\x83\x01\x82\x02\x03\x82\x04\x05";
 
-// An input, and what `canon` and `lens` make of it.
+// An input, and what `canonical_encoding` and `lens` make of it.
 const ITEMS: &[(&[u8], Want, Want)] = table! {
     (b"", Ok(b""), Ok(b"")),
     (b"\x1b\x00\x00\x00\x00\x00\x00\x00\x05", Ok(b"\x05"), Ok(b"9\n")),
@@ -58,8 +58,8 @@ const ITEMS: &[(&[u8], Want, Want)] = table! {
     (b"\xf8\x14", Err(Kind::Unsupported), Err(Kind::Unsupported)),
 };
 
-// Items with indefinite lengths and longer heads (RFC 8949 appendix A, and others), what `canon`
-// and `lens` make of them.
+// Items with indefinite lengths and longer heads (RFC 8949 appendix A, and others), what
+// `canonical_encoding` and `lens` make of them.
 const READ: &[(&[u8], Want, Want)] = table! {
     (b"\x5f\x42\x01\x02\x43\x03\x04\x05\xff", Ok(b"\x45\x01\x02\x03\x04\x05"), Ok(b"9\n")),
     (b"\x7f\x65strea\x64ming\xff", Ok(b"\x69streaming"), Ok(b"13\n")),
@@ -88,7 +88,7 @@ const NESTED: &[(usize, bool, Want)] = table! {
     (256, false, Err(Kind::DepthOverflow)),
 };
 
-// Values in their canonical spelling.
+// Values in their canonical encoding.
 const WRITTEN: &[&[u8]] = table! {
     b"\x45\x01\x02\x03\x04\x05",
     b"\x69\x73\x74\x72\x65\x61\x6d\x69\x6e\x67",
@@ -147,10 +147,10 @@ fn converts_by_each(
     converts(rt, command, input, 512, want)
 }
 
-// Each row by `canon` and by `lens`.
+// Each row by `canonical_encoding` and by `lens`.
 fn rows_hold(rt: &(impl Abort + AllocGlobal), rows: &[(&[u8], Want, Want)]) -> io::Result<()> {
-    for (input, canon, lens) in rows {
-        converts_by_each(rt, Command::Canon, input, *canon)?;
+    for (input, canonical_encoding, lens) in rows {
+        converts_by_each(rt, Command::Canon, input, *canonical_encoding)?;
         converts_by_each(rt, Command::Lens, input, *lens)?;
     }
     Ok(())
@@ -162,7 +162,7 @@ fn one_item(rt: HostRuntime) -> io::Result<()> {
 }
 
 #[test]
-fn items_of_other_spellings(rt: HostRuntime) -> io::Result<()> {
+fn items_of_other_encodings(rt: HostRuntime) -> io::Result<()> {
     rows_hold(&rt, READ)
 }
 
@@ -170,20 +170,20 @@ fn items_of_other_spellings(rt: HostRuntime) -> io::Result<()> {
 fn nested_items(rt: HostRuntime) -> io::Result<()> {
     for &(count, is_value, lens) in NESTED {
         let input = nested(rt.alloc(), count)?;
-        let canon = if is_value {
+        let canonical_encoding = if is_value {
             Ok(input)
         } else {
             Err(Kind::DepthOverflow)
         };
-        converts_by_each(&rt, Command::Canon, input, canon)?;
-        converts_by_each(&rt, Command::Strict, input, canon)?;
+        converts_by_each(&rt, Command::Canon, input, canonical_encoding)?;
+        converts_by_each(&rt, Command::Strict, input, canonical_encoding)?;
         converts_by_each(&rt, Command::Lens, input, lens)?;
     }
     Ok(())
 }
 
 #[test]
-fn canonical_spellings_stay(rt: HostRuntime) -> io::Result<()> {
+fn canonical_encodings_stay(rt: HostRuntime) -> io::Result<()> {
     for input in WRITTEN {
         converts_by_each(&rt, Command::Strict, input, Ok(input))?;
     }

@@ -105,7 +105,7 @@ fn prints(rt: &(impl Abort + AllocGlobal), row: Printed) -> io::Result<()> {
 }
 
 #[test]
-fn kinds_of_refusals(rt: HostRuntime) -> io::Result<()> {
+fn kinds_of_errors(rt: HostRuntime) -> io::Result<()> {
     let deep = b"fault at 0: DepthOverflow\n".as_slice();
     prints(&rt, (Command::Canon, nested(rt.alloc(), 128)?, b"", deep))?;
     prints(&rt, (Command::Lens, nested(rt.alloc(), 256)?, b"", deep))?;

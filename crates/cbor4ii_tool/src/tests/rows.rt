@@ -7,7 +7,7 @@ pub struct Row {
     pub input: &'static [u8],
     pub written: &'static [u8],
     pub fault: Option<Fault>,
-    /// How many bytes are taken, of what is refused too.
+    /// How many bytes are taken, of what is rejected too.
     pub taken: u64,
     /// What standard error gets.
     pub errors: &'static [u8],

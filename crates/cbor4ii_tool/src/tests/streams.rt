@@ -2,7 +2,7 @@
 use std::alloc::Global;
 use std::io::{self, ErrorKind, Read, Write};
 
-/// Bytes to be read. The read behind `good_reads` others fails, and later ones do not.
+/// Bytes to be read. The read after `good_reads` others fails, and later ones do not.
 #[derive(Drop)]
 pub struct Input {
     pub left: &'static [u8],
@@ -20,7 +20,7 @@ impl Read for Input {
     }
 }
 
-/// Bytes that were written. The write behind `good_writes` others fails, and later ones do not.
+/// Bytes that were written. The write after `good_writes` others fails, and later ones do not.
 #[derive(Drop)]
 pub struct Output {
     pub written: Vec<u8>,

@@ -1,162 +1,170 @@
--- Where reading a canonical spelling stops by another refusal than that it is not canonical,
--- reading a value stops so.
+-- Where reading a canonical encoding is rejected by another error than that it is not canonical,
+-- reading a value fails so.
 use Rattle.std.proofs.Common.{◌≡◌, ℕ, zero, suc, ◌*◌, ◌/◌, ◌⊎◌, inl, inr, List, [], ◌∷◌, length}
 use Rattle.std.proofs.Common.{Option, Some, None, refl, ap, ◌∙◌, take, arith}
-use Rattle.cbor4ii_items.specs.Head.{open_head, shortest}
-use Rattle.cbor4ii_items.specs.Heads.{StopsHead}
-use Rattle.cbor4ii_items.specs.Lengths.{StopsLength}
-use Rattle.cbor4ii_items.specs.Refusal.{not_canonical}
-use Rattle.cbor4ii_items.specs.Shortest.{canonical_name, OpensLength, StopsShortest}
-use Rattle.cbor4ii_items.specs.Shortest.{shortest_refused, shortest_open, too_long}
-use Rattle.cbor4ii_items.specs.Shortest.{StopsShortestString, length_refused, content_cut}
-use Rattle.cbor4ii_items.specs.Strings.{string_head_refused, string_cut}
+use Rattle.cbor4ii_items.specs.Head.{indefinite_head, shortest}
+use Rattle.cbor4ii_items.specs.Heads.{RejectsHead}
+use Rattle.cbor4ii_items.specs.Lengths.{RejectsLength}
+use Rattle.cbor4ii_items.specs.InputError.{not_canonical}
+use Rattle.cbor4ii_items.specs.Shortest.{canonical_name, OpensLength, RejectsShortest}
+use Rattle.cbor4ii_items.specs.Shortest.{shortest_rejected, shortest_indefinite, too_long}
+use Rattle.cbor4ii_items.specs.Shortest.{RejectsShortestString, length_rejected, content_cut}
+use Rattle.cbor4ii_items.specs.Strings.{string_head_rejected, string_cut}
 use Rattle.cbor4ii_items.specs.Initial.{unsigned, negative, Kind, byte_string, text_string}
 use Rattle.cbor4ii_items.specs.Initial.{kind_major, Initial, starts_string, starts_array}
 use Rattle.cbor4ii_items.specs.Initial.{starts_map, starts_tag, starts_simple, starts_bits}
 use Rattle.cbor4ii_items.specs.Initial.{other_simple, simple_undefined, initial}
 use Rattle.cbor4ii_items.specs.Laws.Heads.{shortest_fits}
 use Rattle.cbor4ii_tree.specs.Cost.{Budget, step_in}
-use Rattle.cbor4ii_tree.specs.Refusal.{Refusal, depth_overflow, sign_name, kind_name, array_name}
-use Rattle.cbor4ii_tree.specs.Refusal.{map_name, tag_name, value_name}
-use Rattle.cbor4ii_tree.specs.Stops.{Stopping, StopsAtStep, AtHead, StopsInCount}
-use Rattle.cbor4ii_tree.specs.StopsReading.{Readable, StopsReading}
-use Rattle.cbor4ii_tree.specs.StopsStrictly.{Exactly, AtShortest, StrictArrayStops, StrictMapStops}
-use Rattle.cbor4ii_tree.specs.StopsStrictly.{StrictOtherStops, StrictStopsBy, StrictStopsFrom}
-use Rattle.cbor4ii_tree.specs.StopsStrictly.{StrictStopsWithin, StopsStrictly}
-use Rattle.cbor4ii_tree.specs.Valuing.{StopsOneValue, StopsUnder}
+use Rattle.cbor4ii_tree.specs.InputError.{InputError, depth_overflow, sign_name, kind_name}
+use Rattle.cbor4ii_tree.specs.InputError.{array_name}
+use Rattle.cbor4ii_tree.specs.InputError.{map_name, tag_name, value_name}
+use Rattle.cbor4ii_tree.specs.Rejections.{Stopping, RejectsAtStep, AtHead, RejectsInCount}
+use Rattle.cbor4ii_tree.specs.ReadingRejects.{Readable, ReadingRejects}
+use Rattle.cbor4ii_tree.specs.CanonicalRejects.{FitsCanonically, AtShortest, CanonicalArrayRejects}
+use Rattle.cbor4ii_tree.specs.CanonicalRejects.{CanonicalMapRejects}
+use Rattle.cbor4ii_tree.specs.CanonicalRejects.{CanonicalOtherRejects, CanonicalRejectsBy}
+use Rattle.cbor4ii_tree.specs.CanonicalRejects.{CanonicalRejectsFrom}
+use Rattle.cbor4ii_tree.specs.CanonicalRejects.{CanonicalRejectsWithin, CanonicalRejects}
+use Rattle.cbor4ii_tree.specs.Valuing.{RejectsOneValue, RejectsUnder}
 use Rattle.cbor4ii_tree.specs.Laws.Initials.{initial_string, initial_array, initial_map}
 use Rattle.cbor4ii_tree.specs.Laws.Initials.{initial_tag}
 use Rattle.cbor4ii_tree.proofs.answers.Nesting.{reading_by_parts}
 use Rattle.cbor4ii_tree.proofs.parts.Widen.{each_covers}
-use Rattle.cbor4ii_tree.proofs.values.Calls.{int_stops}
-use Rattle.cbor4ii_tree.proofs.values.Heads.{at_row, tag_stops}
-use Rattle.cbor4ii_tree.proofs.values.Strings.{string_stops}
-use Rattle.cbor4ii_tree.proofs.values.Sequences.{array_no_step, map_no_step, array_length_stops}
-use Rattle.cbor4ii_tree.proofs.values.Sequences.{map_length_stops, step_taken}
+use Rattle.cbor4ii_tree.proofs.values.Calls.{int_rejects}
+use Rattle.cbor4ii_tree.proofs.values.Heads.{at_row, tag_rejects}
+use Rattle.cbor4ii_tree.proofs.values.Strings.{string_rejects}
+use Rattle.cbor4ii_tree.proofs.values.Sequences.{array_no_step, map_no_step, array_length_rejects}
+use Rattle.cbor4ii_tree.proofs.values.Sequences.{map_length_rejects, step_taken}
 use Rattle.cbor4ii_tree.proofs.canonical.Lacking.{first_is}
 
-abbrev OrValue : (Refusal → List ℕ → Type 0) → Refusal → List ℕ → Type 0
-OrValue stops e rest = (e ≡ not_canonical canonical_name) ⊎ stops e rest
+abbrev OrValue : (InputError → List ℕ → Type 0) → InputError → List ℕ → Type 0
+OrValue rejects e rest = (e ≡ not_canonical canonical_name) ⊎ rejects e rest
 
 -- of a part of the item
-abbrev Parts : Budget → Stopping → Refusal → List ℕ → Type 0
-Parts budget stops e rest =
-    (ys : List ℕ) → stops ys e rest → OrValue (StopsOneValue budget ys) e rest
+abbrev Parts : Budget → Stopping → InputError → List ℕ → Type 0
+Parts budget rejects e rest =
+    (ys : List ℕ) → rejects ys e rest → OrValue (RejectsOneValue budget ys) e rest
 
-or_value : (S T : Refusal → List ℕ → Type 0) (e : Refusal) (rest : List ℕ) → (S e rest → T e rest)
+or_value : (S T : InputError → List ℕ → Type 0) (e : InputError) (rest : List ℕ) →
+    (S e rest → T e rest)
     → OrValue S e rest → OrValue T e rest
 or_value S T e rest f (inl is) = inl is
 or_value S T e rest f (inr s) = inr (f s)
 
 -- ---- heads and strings
 
-head_value : (name : List ℕ) (major b : ℕ) (bs : List ℕ) (budget : Budget) (e : Refusal)
-    (rest : List ℕ) → StopsShortest name major (b ∷ bs) budget e rest
-    → OrValue (λ z ys. (¬ (OpensLength major b)) × StopsHead name major 8 (b ∷ bs) z ys) e rest
-head_value name major b bs budget e rest (shortest_refused closed h) = inr (closed b bs refl, h)
-head_value name major b bs budget e rest (shortest_open c opens is says) = inl says
+head_value : (name : List ℕ) (major b : ℕ) (bs : List ℕ) (budget : Budget) (e : InputError)
+    (rest : List ℕ) → RejectsShortest name major (b ∷ bs) budget e rest
+    → OrValue (λ z ys. (¬ (OpensLength major b)) × RejectsHead name major 8 (b ∷ bs) z ys) e rest
+head_value name major b bs budget e rest (shortest_rejected closed h) = inr (closed b bs refl, h)
+head_value name major b bs budget e rest (shortest_indefinite c opens is says) = inl says
 head_value name major b bs budget e rest (too_long v n h other says left) = inl says
 
-closed_at : (major b : ℕ) (bs : List ℕ) → (b ≡ open_head major → ⊥)
-    → take 1 (b ∷ bs) ≡ open_head major ∷ [] → ⊥
+closed_at : (major b : ℕ) (bs : List ℕ) → (b ≡ indefinite_head major → ⊥)
+    → take 1 (b ∷ bs) ≡ indefinite_head major ∷ [] → ⊥
 closed_at major b bs other e = other (cc)
 
-length_value : (name : List ℕ) (major b : ℕ) (bs : List ℕ) (budget : Budget) (e : Refusal)
-    (rest : List ℕ) → (b ≡ open_head major → OpensLength major b)
-    → StopsShortest name major (b ∷ bs) budget e rest
-    → OrValue (StopsLength name major (b ∷ bs) budget) e rest
+length_value : (name : List ℕ) (major b : ℕ) (bs : List ℕ) (budget : Budget) (e : InputError)
+    (rest : List ℕ) → (b ≡ indefinite_head major → OpensLength major b)
+    → RejectsShortest name major (b ∷ bs) budget e rest
+    → OrValue (RejectsLength name major (b ∷ bs) budget) e rest
 length_value name major b bs budget e rest opens h =
-    or_value (λ z ys. (¬ (OpensLength major b)) × StopsHead name major 8 (b ∷ bs) z ys)
-    (StopsLength name major (b ∷ bs) budget) e rest
+    or_value (λ z ys. (¬ (OpensLength major b)) × RejectsHead name major 8 (b ∷ bs) z ys)
+    (RejectsLength name major (b ∷ bs) budget) e rest
     (λ k. (closed_at major b bs (λ is. k.0 (opens is)), k.1))
     (head_value name major b bs budget e rest h)
 
-kind_opens : (k : Kind) (b : ℕ) → b ≡ open_head (kind_major k) → OpensLength (kind_major k) b
+kind_opens : (k : Kind) (b : ℕ) → b ≡ indefinite_head (kind_major k) → OpensLength (kind_major k) b
 kind_opens byte_string b is = (omega arith, omega arith, is)
 kind_opens text_string b is = (omega arith, omega arith, is)
 
-string_value : (k : Kind) (b : ℕ) (bs : List ℕ) (budget : Budget) (e : Refusal) (rest : List ℕ)
-    → b / 32 ≡ kind_major k → StopsShortestString (kind_name k) (kind_major k)
-    (b ∷ bs) budget e rest → OrValue (StopsUnder budget (b ∷ bs)) e rest
-string_value k b bs budget e rest m (length_refused h) =
-    or_value (StopsLength (kind_name k) (kind_major k) (b ∷ bs) budget) (StopsUnder budget (b ∷ bs))
-    e rest (λ s. string_stops budget k b bs e rest m (string_head_refused s.0 s.1))
+string_value : (k : Kind) (b : ℕ) (bs : List ℕ) (budget : Budget) (e : InputError) (rest : List ℕ)
+    → b / 32 ≡ kind_major k → RejectsShortestString (kind_name k) (kind_major k)
+    (b ∷ bs) budget e rest → OrValue (RejectsUnder budget (b ∷ bs)) e rest
+string_value k b bs budget e rest m (length_rejected h) =
+    or_value (RejectsLength (kind_name k) (kind_major k) (b ∷ bs) budget)
+    (RejectsUnder budget (b ∷ bs))
+    e rest (λ s. string_rejects budget k b bs e rest m (string_head_rejected s.0 s.1))
     (length_value (kind_name k) (kind_major k) b bs budget e rest (kind_opens k b) h)
 string_value k b bs budget e rest m (content_cut c least) =
-    inr (string_stops budget k b bs e rest m (string_cut c))
+    inr (string_rejects budget k b bs e rest m (string_cut c))
 
 -- ---- items that follow a head
 
-items_value : (budget : Budget) (stops : Stopping) (n : ℕ) (xs : List ℕ) (e : Refusal)
-    (rest : List ℕ) → Parts budget stops e rest → StopsInCount (Exactly budget) stops n xs e rest
-    → OrValue (StopsInCount (Readable budget) (StopsOneValue budget) n xs) e rest
-items_value budget stops n xs e rest f s =
-    or_value (StopsOneValue budget s.after)
-    (StopsInCount (Readable budget) (StopsOneValue budget) n xs) e rest
+items_value : (budget : Budget) (rejects : Stopping) (n : ℕ) (xs : List ℕ) (e : InputError)
+    (rest : List ℕ) → Parts budget rejects e rest → RejectsInCount (FitsCanonically budget) rejects
+    n xs e rest
+    → OrValue (RejectsInCount (Readable budget) (RejectsOneValue budget) n xs) e rest
+items_value budget rejects n xs e rest f s =
+    or_value (RejectsOneValue budget s.after)
+    (RejectsInCount (Readable budget) (RejectsOneValue budget) n xs) e rest
     (λ h. record {
-      front = s.front;
+      prefix = s.prefix;
       after = s.after;
       few = s.few;
-      whole = each_covers (Exactly budget) (Readable budget)
-          (λ t w. (w.0.0, w.1)) s.front s.whole;
+      whole = each_covers (FitsCanonically budget) (Readable budget)
+          (λ t w. (w.0.0, w.1)) s.prefix s.whole;
       is = s.is;
       stopped = h;
     }) (f s.after s.stopped)
 
-array_value : (outer inner : Budget) (stops : Stopping) (b : ℕ) (bs : List ℕ) (e : Refusal)
-    (rest : List ℕ) → step_in outer ≡ Some inner → b / 32 ≡ 4 → Parts inner stops e rest
-    → AtShortest array_name 4 inner (StopsInCount (Exactly inner) stops) (b ∷ bs) e rest
-    → OrValue (StopsUnder outer (b ∷ bs)) e rest
-array_value outer inner stops b bs e rest step m f (inl h) =
-    or_value (StopsLength array_name 4 (b ∷ bs) inner) (StopsUnder outer (b ∷ bs)) e rest
-    (λ s. array_length_stops inner (b ∷ bs) inner e rest s b bs refl m outer step)
+array_value : (outer inner : Budget) (rejects : Stopping) (b : ℕ) (bs : List ℕ) (e : InputError)
+    (rest : List ℕ) → step_in outer ≡ Some inner → b / 32 ≡ 4 → Parts inner rejects e rest
+    → AtShortest array_name 4 inner (RejectsInCount (FitsCanonically inner) rejects) (b ∷ bs) e rest
+    → OrValue (RejectsUnder outer (b ∷ bs)) e rest
+array_value outer inner rejects b bs e rest step m f (inl h) =
+    or_value (RejectsLength array_name 4 (b ∷ bs) inner) (RejectsUnder outer (b ∷ bs)) e rest
+    (λ s. array_length_rejects inner (b ∷ bs) inner e rest s b bs refl m outer step)
     (length_value array_name 4 b bs inner e rest (λ is. (omega arith, omega arith, is)) h)
-array_value outer inner stops b bs e rest step m f (inr h) =
+array_value outer inner rejects b bs e rest step m f (inr h) =
     let n = h.argument in
     let w = shortest n in
     let fits = shortest_fits n h.is.0 in
-    or_value (StopsInCount (Readable inner) (StopsOneValue inner) n h.after)
-    (StopsUnder outer (b ∷ bs)) e rest
+    or_value (RejectsInCount (Readable inner) (RejectsOneValue inner) n h.after)
+    (RejectsUnder outer (b ∷ bs)) e rest
     (λ s. at_row outer (starts_array w) b bs e rest
     (ap initial (first_is 4 n b bs h.after h.is) ∙ initial_array n w fits)
     (step_taken array_name (b ∷ bs) (λ inner. AtHead array_name 4 w b
-    (StopsInCount (Readable inner) (StopsOneValue inner)) bs) outer inner e rest step
+    (RejectsInCount (Readable inner) (RejectsOneValue inner)) bs) outer inner e rest step
     (inr (record { argument = n; after = h.after; fits = fits; is = h.is.1; stopped = s }))))
-    (items_value inner stops n h.after e rest f h.stopped)
+    (items_value inner rejects n h.after e rest f h.stopped)
 
-map_value : (outer inner : Budget) (stops : Stopping) (b : ℕ) (bs : List ℕ) (e : Refusal)
-    (rest : List ℕ) → step_in outer ≡ Some inner → b / 32 ≡ 5 → Parts inner stops e rest
-    → AtShortest map_name 5 inner (λ n. StopsInCount (Exactly inner) stops (2 * n)) (b ∷ bs) e rest
-    → OrValue (StopsUnder outer (b ∷ bs)) e rest
-map_value outer inner stops b bs e rest step m f (inl h) =
-    or_value (StopsLength map_name 5 (b ∷ bs) inner) (StopsUnder outer (b ∷ bs)) e rest
-    (λ s. map_length_stops inner (b ∷ bs) inner e rest s b bs refl m outer step)
+map_value : (outer inner : Budget) (rejects : Stopping) (b : ℕ) (bs : List ℕ) (e : InputError)
+    (rest : List ℕ) → step_in outer ≡ Some inner → b / 32 ≡ 5 → Parts inner rejects e rest
+    → AtShortest map_name 5 inner (λ n. RejectsInCount (FitsCanonically inner) rejects (2 * n))
+    (b ∷ bs) e rest
+    → OrValue (RejectsUnder outer (b ∷ bs)) e rest
+map_value outer inner rejects b bs e rest step m f (inl h) =
+    or_value (RejectsLength map_name 5 (b ∷ bs) inner) (RejectsUnder outer (b ∷ bs)) e rest
+    (λ s. map_length_rejects inner (b ∷ bs) inner e rest s b bs refl m outer step)
     (length_value map_name 5 b bs inner e rest (λ is. (omega arith, omega arith, is)) h)
-map_value outer inner stops b bs e rest step m f (inr h) =
+map_value outer inner rejects b bs e rest step m f (inr h) =
     let n = h.argument in
     let w = shortest n in
     let fits = shortest_fits n h.is.0 in
-    or_value (StopsInCount (Readable inner) (StopsOneValue inner) (2 * n) h.after)
-    (StopsUnder outer (b ∷ bs)) e rest
+    or_value (RejectsInCount (Readable inner) (RejectsOneValue inner) (2 * n) h.after)
+    (RejectsUnder outer (b ∷ bs)) e rest
     (λ s. at_row outer (starts_map w) b bs e rest
     (ap initial (first_is 5 n b bs h.after h.is) ∙ initial_map n w fits)
     (step_taken map_name (b ∷ bs) (λ inner. AtHead map_name 5 w b (λ n.
-    StopsInCount (Readable inner) (StopsOneValue inner) (2 * n)) bs) outer inner e rest step
+    RejectsInCount (Readable inner) (RejectsOneValue inner) (2 * n)) bs) outer inner e rest step
     (inr (record { argument = n; after = h.after; fits = fits; is = h.is.1; stopped = s }))))
-    (items_value inner stops (2 * n) h.after e rest f h.stopped)
+    (items_value inner rejects (2 * n) h.after e rest f h.stopped)
 
-tag_value : (budget : Budget) (stops : Stopping) (b : ℕ) (bs : List ℕ) (e : Refusal) (rest : List ℕ)
-    → b / 32 ≡ 6 → Parts budget stops e rest → AtShortest tag_name 6 budget (λ n. stops)
-    (b ∷ bs) e rest → OrValue (StopsUnder budget (b ∷ bs)) e rest
-tag_value budget stops b bs e rest m f (inl h) =
-    or_value (λ z ys. (¬ (OpensLength 6 b)) × StopsHead tag_name 6 8 (b ∷ bs) z ys)
-    (StopsUnder budget (b ∷ bs)) e rest (λ s. tag_stops budget b bs e rest m s.1)
+tag_value : (budget : Budget) (rejects : Stopping) (b : ℕ) (bs : List ℕ) (e : InputError)
+    (rest : List ℕ)
+    → b / 32 ≡ 6 → Parts budget rejects e rest → AtShortest tag_name 6 budget (λ n. rejects)
+    (b ∷ bs) e rest → OrValue (RejectsUnder budget (b ∷ bs)) e rest
+tag_value budget rejects b bs e rest m f (inl h) =
+    or_value (λ z ys. (¬ (OpensLength 6 b)) × RejectsHead tag_name 6 8 (b ∷ bs) z ys)
+    (RejectsUnder budget (b ∷ bs)) e rest (λ s. tag_rejects budget b bs e rest m s.1)
     (head_value tag_name 6 b bs budget e rest h)
-tag_value budget stops b bs e rest m f (inr h) =
+tag_value budget rejects b bs e rest m f (inr h) =
     let n = h.argument in
     let w = shortest n in
     let fits = shortest_fits n h.is.0 in
-    or_value (StopsOneValue budget h.after) (StopsUnder budget (b ∷ bs)) e rest
+    or_value (RejectsOneValue budget h.after) (RejectsUnder budget (b ∷ bs)) e rest
     (λ s. at_row budget (starts_tag w) b bs e rest
     (ap initial (first_is 6 n b bs h.after h.is) ∙ initial_tag n w fits)
     (inr (record { argument = n; after = h.after; fits = fits; is = h.is.1; stopped = s })))
@@ -164,8 +172,9 @@ tag_value budget stops b bs e rest m f (inr h) =
 
 -- ---- by the first byte
 
-other_value : (budget : Budget) (b : ℕ) (bs : List ℕ) (e : Refusal) (rest : List ℕ) (i : Initial)
-    → initial b ≡ i → StrictOtherStops i b bs e rest → OrValue (StopsUnder budget (b ∷ bs)) e rest
+other_value : (budget : Budget) (b : ℕ) (bs : List ℕ) (e : InputError) (rest : List ℕ) (i : Initial)
+    → initial b ≡ i → CanonicalOtherRejects i b bs e rest → OrValue
+    (RejectsUnder budget (b ∷ bs)) e rest
 other_value budget b bs e rest (starts_simple simple_undefined) is h = inl h.0
 other_value budget b bs e rest (starts_bits p) is h =
     inr (at_row budget (starts_bits p) b bs e rest is h)
@@ -173,74 +182,79 @@ other_value budget b bs e rest other_simple is h = inr (at_row budget other_simp
 other_value budget b bs e rest _ is h = absurd h
 
 stepped_value : (name : List ℕ) (outer : Budget) (xs : List ℕ)
-    (S : Budget → Refusal → List ℕ → Type 0) (e : Refusal) (rest : List ℕ)
-    → (outer ≡ Some 0 → StopsUnder outer xs (depth_overflow name) xs) → ((inner : Budget)
-    → step_in outer ≡ Some inner → S inner e rest → OrValue (StopsUnder outer xs) e rest)
-    → StopsAtStep name (step_in outer) xs S e rest
-    → OrValue (StopsUnder outer xs) e rest
+    (S : Budget → InputError → List ℕ → Type 0) (e : InputError) (rest : List ℕ)
+    → (outer ≡ Some 0 → RejectsUnder outer xs (depth_overflow name) xs) → ((inner : Budget)
+    → step_in outer ≡ Some inner → S inner e rest → OrValue (RejectsUnder outer xs) e rest)
+    → RejectsAtStep name (step_in outer) xs S e rest
+    → OrValue (RejectsUnder outer xs) e rest
 stepped_value name None xs S e rest none f h = f None refl h
 stepped_value name (Some zero) xs S e rest none f h = inr (rw (h.0, h.1) (none refl))
 stepped_value name (Some (suc n)) xs S e rest none f h = f (Some n) refl h
 
-by_value : (stops : Budget → Stopping) (budget : Budget) (k b : ℕ) (bs : List ℕ) (e : Refusal)
-    (rest : List ℕ) → b / 32 ≡ k → ((o : Budget) → Parts o (stops o) e rest)
-    → StrictStopsBy stops budget k b bs e rest → OrValue (StopsUnder budget (b ∷ bs)) e rest
-by_value stops budget zero b bs e rest m f h =
-    or_value (λ z ys. (¬ (OpensLength 0 b)) × StopsHead (sign_name unsigned) 0 8 (b ∷ bs) z ys)
-    (StopsUnder budget (b ∷ bs)) e rest (λ s. int_stops budget unsigned b bs e rest m s.1)
+by_value : (rejects : Budget → Stopping) (budget : Budget) (k b : ℕ) (bs : List ℕ) (e : InputError)
+    (rest : List ℕ) → b / 32 ≡ k → ((o : Budget) → Parts o (rejects o) e rest)
+    → CanonicalRejectsBy rejects budget k b bs e rest → OrValue
+    (RejectsUnder budget (b ∷ bs)) e rest
+by_value rejects budget zero b bs e rest m f h =
+    or_value (λ z ys. (¬ (OpensLength 0 b)) × RejectsHead (sign_name unsigned) 0 8 (b ∷ bs) z ys)
+    (RejectsUnder budget (b ∷ bs)) e rest (λ s. int_rejects budget unsigned b bs e rest m s.1)
     (head_value (sign_name unsigned) 0 b bs budget e rest h)
-by_value stops budget (suc zero) b bs e rest m f h =
-    or_value (λ z ys. (¬ (OpensLength 1 b)) × StopsHead (sign_name negative) 1 8 (b ∷ bs) z ys)
-    (StopsUnder budget (b ∷ bs)) e rest (λ s. int_stops budget negative b bs e rest m s.1)
+by_value rejects budget (suc zero) b bs e rest m f h =
+    or_value (λ z ys. (¬ (OpensLength 1 b)) × RejectsHead (sign_name negative) 1 8 (b ∷ bs) z ys)
+    (RejectsUnder budget (b ∷ bs)) e rest (λ s. int_rejects budget negative b bs e rest m s.1)
     (head_value (sign_name negative) 1 b bs budget e rest h)
-by_value stops budget (suc (suc zero)) b bs e rest m f h =
+by_value rejects budget (suc (suc zero)) b bs e rest m f h =
     string_value byte_string b bs budget e rest m h
-by_value stops budget (suc (suc (suc zero))) b bs e rest m f (inl h) =
+by_value rejects budget (suc (suc (suc zero))) b bs e rest m f (inl h) =
     string_value text_string b bs budget e rest m h
-by_value stops budget (suc (suc (suc zero))) b bs e rest m f (inr h) =
+by_value rejects budget (suc (suc (suc zero))) b bs e rest m f (inr h) =
     let n = h.argument in
     let w = shortest n in
     let fits = shortest_fits n h.is.0 in
     inr (at_row budget (starts_string text_string w) b bs e rest (ap initial
     (first_is 3 n b bs h.after h.is) ∙ initial_string text_string n w fits) (inr (record
     { argument = n; after = h.after; fits = fits; is = h.is.1; stopped = h.stopped })))
-by_value stops budget (suc (suc (suc (suc zero)))) b bs e rest m f h =
-    stepped_value array_name budget (b ∷ bs) (λ inner. StrictArrayStops stops inner (b ∷ bs)) e rest
+by_value rejects budget (suc (suc (suc (suc zero)))) b bs e rest m f h =
+    stepped_value array_name budget (b ∷ bs) (λ inner. CanonicalArrayRejects rejects inner
+    (b ∷ bs)) e rest
     (λ none. array_no_step budget none (b ∷ bs) b bs refl m)
-    (λ inner step. array_value budget inner (stops inner) b bs e rest step m (f inner)) h
-by_value stops budget (suc (suc (suc (suc (suc zero))))) b bs e rest m f h =
-    stepped_value map_name budget (b ∷ bs) (λ inner. StrictMapStops stops inner (b ∷ bs)) e rest
+    (λ inner step. array_value budget inner (rejects inner) b bs e rest step m (f inner)) h
+by_value rejects budget (suc (suc (suc (suc (suc zero))))) b bs e rest m f h =
+    stepped_value map_name budget (b ∷ bs) (λ inner. CanonicalMapRejects rejects inner
+    (b ∷ bs)) e rest
     (λ none. map_no_step budget none (b ∷ bs) b bs refl m)
-    (λ inner step. map_value budget inner (stops inner) b bs e rest step m (f inner)) h
-by_value stops budget (suc (suc (suc (suc (suc (suc zero)))))) b bs e rest m f h =
-    tag_value budget (stops budget) b bs e rest m (f budget) h
-by_value stops budget (suc (suc (suc (suc (suc (suc (suc k))))))) b bs e rest m f h =
+    (λ inner step. map_value budget inner (rejects inner) b bs e rest step m (f inner)) h
+by_value rejects budget (suc (suc (suc (suc (suc (suc zero)))))) b bs e rest m f h =
+    tag_value budget (rejects budget) b bs e rest m (f budget) h
+by_value rejects budget (suc (suc (suc (suc (suc (suc (suc k))))))) b bs e rest m f h =
     other_value budget b bs e rest (initial b) refl h
 
-from_value : (stops : Budget → Stopping) (budget : Budget) (xs : List ℕ) (e : Refusal)
-    (rest : List ℕ) → ((o : Budget) → Parts o (stops o) e rest)
-    → StrictStopsFrom stops budget xs e rest → OrValue (StopsUnder budget xs) e rest
-from_value stops budget [] e rest f h = inr h
-from_value stops budget (b ∷ bs) e rest f h = by_value stops budget (b / 32) b bs e rest refl f h
+from_value : (rejects : Budget → Stopping) (budget : Budget) (xs : List ℕ) (e : InputError)
+    (rest : List ℕ) → ((o : Budget) → Parts o (rejects o) e rest)
+    → CanonicalRejectsFrom rejects budget xs e rest → OrValue (RejectsUnder budget xs) e rest
+from_value rejects budget [] e rest f h = inr h
+from_value rejects budget (b ∷ bs) e rest f h =
+    by_value rejects budget (b / 32) b bs e rest refl f h
 
 or_step : (name : List ℕ) (step : Option Budget) (here : List ℕ)
-    (S T : Budget → Refusal → List ℕ → Type 0) (e : Refusal) (rest : List ℕ)
+    (S T : Budget → InputError → List ℕ → Type 0) (e : InputError) (rest : List ℕ)
     → ((inner : Budget) → S inner e rest → OrValue (T inner) e rest)
-    → StopsAtStep name step here S e rest → OrValue (StopsAtStep name step here T) e rest
+    → RejectsAtStep name step here S e rest → OrValue (RejectsAtStep name step here T) e rest
 or_step name None here S T e rest f h = inr h
 or_step name (Some inner) here S T e rest f h = f inner h
 
-within_value : (n : ℕ) (budget : Budget) (e : Refusal) (rest : List ℕ)
-    → Parts budget (StrictStopsWithin n budget) e rest
+within_value : (n : ℕ) (budget : Budget) (e : InputError) (rest : List ℕ)
+    → Parts budget (CanonicalRejectsWithin n budget) e rest
 within_value zero budget e rest xs h = absurd h
 within_value (suc n) budget e rest xs h =
-    or_value (StopsAtStep value_name (step_in budget) xs (λ inner. StopsUnder inner xs))
-    (StopsOneValue budget xs) e rest (reading_by_parts xs budget e rest).1
-    (or_step value_name (step_in budget) xs (λ inner. StrictStopsFrom (StrictStopsWithin n) inner
-    xs) (λ inner. StopsUnder inner xs) e rest (λ inner.
-    from_value (StrictStopsWithin n) inner xs e rest (λ o. within_value n o e rest)) h)
+    or_value (RejectsAtStep value_name (step_in budget) xs (λ inner. RejectsUnder inner xs))
+    (RejectsOneValue budget xs) e rest (reading_by_parts xs budget e rest).1
+    (or_step value_name (step_in budget) xs (λ inner. CanonicalRejectsFrom
+    (CanonicalRejectsWithin n) inner
+    xs) (λ inner. RejectsUnder inner xs) e rest (λ inner.
+    from_value (CanonicalRejectsWithin n) inner xs e rest (λ o. within_value n o e rest)) h)
 
-pub strictly_as_value : (xs : List ℕ) (budget : Budget) (e : Refusal) (rest : List ℕ)
-    → StopsStrictly xs budget e rest
-    → (e ≡ not_canonical canonical_name) ⊎ StopsReading xs budget e rest
-strictly_as_value xs budget e rest h = within_value (suc (length xs)) budget e rest xs h
+pub canonically_as_value : (xs : List ℕ) (budget : Budget) (e : InputError) (rest : List ℕ)
+    → CanonicalRejects xs budget e rest
+    → (e ≡ not_canonical canonical_name) ⊎ ReadingRejects xs budget e rest
+canonically_as_value xs budget e rest h = within_value (suc (length xs)) budget e rest xs h

@@ -1,4 +1,4 @@
--- The calls of reading a value that is spelled in one way, one behind another.
+-- The calls of reading a value that is encoded in one way, one after another.
 use Rattle.std.proofs.Common.{◌≡◌, ◌≢◌, ℕ, suc, ◌+◌, ◌/◌, ◌<◌, ◌≤◌, inl, inr, List, ◌∷◌}
 use Rattle.std.proofs.Common.{◌⊎◌, ◌++◌, length, drop, Option, Some, None, Result, Ok, Err, IfOk}
 use Rattle.std.proofs.Common.{IfErr}
@@ -12,19 +12,19 @@ use mir.Syntax.{w128}
 use Rattle.cbor4ii_rw.specs.View.{View}
 use Rattle.cbor4ii_rw.specs.Reader.{Advances, KeepsAllButBudget, StepsIn, step_back}
 use Rattle.cbor4ii_rw.specs.declared.error.DecodeError.{DecodeError}
-use Rattle.cbor4ii_items.specs.Refusal.{Refusal, refusal_of, is_read, is_depth_overflow}
-use Rattle.cbor4ii_items.specs.Refusal.{not_canonical}
+use Rattle.cbor4ii_items.specs.InputError.{InputError, input_error_of, is_read, is_depth_overflow}
+use Rattle.cbor4ii_items.specs.InputError.{not_canonical}
 use Rattle.cbor4ii_items.specs.Head.{HeadFits, head, shortest}
 use Rattle.cbor4ii_items.specs.Heads.{ReadsHead}
 use Rattle.cbor4ii_items.specs.Laws.Heads.{after_head, length-bytes_high_first, shortest_fits}
 use Rattle.cbor4ii_items.specs.Laws.Heads.{argument_below}
-use Rattle.cbor4ii_items.specs.Laws.Fronts.{drop_more}
-use Rattle.cbor4ii_items.specs.Floats.{ReadsFloat, StopsFloat, float_bytes}
+use Rattle.cbor4ii_items.specs.Laws.Prefixes.{drop_more}
+use Rattle.cbor4ii_items.specs.Floats.{ReadsFloat, RejectsFloat, float_bytes}
 use Rattle.cbor4ii_items.specs.Moves.{Moves}
-use Rattle.cbor4ii_items.specs.Decoding.{CostFits, Sound, Stops}
+use Rattle.cbor4ii_items.specs.Decoding.{CostFits, Sound, Rejects}
 use Rattle.cbor4ii_items.specs.Reading.{Runs, peek_at}
 use Rattle.cbor4ii_items.specs.Shortest.{canonical_name, ReadsShortest, ReadsShortestString}
-use Rattle.cbor4ii_items.specs.Shortest.{StopsShortest}
+use Rattle.cbor4ii_items.specs.Shortest.{RejectsShortest}
 use Rattle.cbor4ii_items.specs.Initial.{unsigned, negative, byte_string, text_string, Simple}
 use Rattle.cbor4ii_items.specs.Initial.{simple_undefined, simple_byte, Precision, precision_byte}
 use Rattle.cbor4ii_items.specs.Initial.{precision_bytes, initial}
@@ -36,31 +36,35 @@ use Rattle.cbor4ii_tree.specs.Tree.{bits, bytes, bytes_all, bytes_pairs}
 use Rattle.cbor4ii_tree.specs.Item.{no_items, item, integer, float, sequence, mapping, tag}
 use Rattle.cbor4ii_tree.specs.Cost.{Budget, cost, greatest_cost, greatest_pair_cost}
 use Rattle.cbor4ii_tree.specs.Laws.Initials.{initial_simple, initial_bits}
-use Rattle.cbor4ii_tree.specs.Refusal.{value_name, kind_name, precision_name}
-use Rattle.cbor4ii_tree.specs.Refusal.{tag_name}
-use Rattle.cbor4ii_tree.specs.LeafRuns.{StopsWhereNone}
+use Rattle.cbor4ii_tree.specs.InputError.{value_name, kind_name, precision_name}
+use Rattle.cbor4ii_tree.specs.InputError.{tag_name}
+use Rattle.cbor4ii_tree.specs.LeafRuns.{RejectsWhereNone}
 use Rattle.cbor4ii_tree.proofs.values.LeafRuns.{OneUnder}
-use Rattle.cbor4ii_tree.specs.Refusal.{unsupported, require_utf8}
-use Rattle.cbor4ii_tree.specs.Stops.{Stopping, StopsAtStep}
+use Rattle.cbor4ii_tree.specs.InputError.{unsupported, require_utf8}
+use Rattle.cbor4ii_tree.specs.Rejections.{Stopping, RejectsAtStep}
 use Rattle.cbor4ii_tree.specs.View.{view}
 use Rattle.cbor4ii_tree.specs.Does.{Accepting, Does, answered}
 use Rattle.cbor4ii_tree.specs.Valuing.{ReadsStepped, SimpleOf, TakesSimple}
-use Rattle.cbor4ii_tree.specs.StopsStrictly.{Exactly, ShortestAt, AtShortest, StrictTextStops}
-use Rattle.cbor4ii_tree.specs.StopsStrictly.{StrictOtherStops, StrictStopsBy}
-use Rattle.cbor4ii_tree.specs.Strictly.{raise, ReadsExactly, StopsExactly, ReadsExactlyUnder}
-use Rattle.cbor4ii_tree.specs.Strictly.{StopsExactlyUnder, StopsBehindFirst, StopsExactlyStepped}
-use Rattle.cbor4ii_tree.specs.Strictly.{ReadsExactlyTagged, StopsBehindMajor}
-use Rattle.cbor4ii_tree.specs.Strictly.{StringAt, ExactItems, StopsAtShortest, TakesShortest}
-use Rattle.cbor4ii_tree.specs.Strictly.{ExactMembers, AcceptsCount}
+use Rattle.cbor4ii_tree.specs.CanonicalRejects.{FitsCanonically, ShortestAt, AtShortest}
+use Rattle.cbor4ii_tree.specs.CanonicalRejects.{CanonicalTextRejects}
+use Rattle.cbor4ii_tree.specs.CanonicalRejects.{CanonicalOtherRejects, CanonicalRejectsBy}
+use Rattle.cbor4ii_tree.specs.CanonicalCalls.{raise, ReadsCanonically, RejectsCanonically}
+use Rattle.cbor4ii_tree.specs.CanonicalCalls.{ReadsCanonicallyUnder}
+use Rattle.cbor4ii_tree.specs.CanonicalCalls.{RejectsCanonicallyUnder, RejectsAfterFirst}
+use Rattle.cbor4ii_tree.specs.CanonicalCalls.{RejectsCanonicallyStepped}
+use Rattle.cbor4ii_tree.specs.CanonicalCalls.{ReadsCanonicallyTagged, RejectsAfterMajor}
+use Rattle.cbor4ii_tree.specs.CanonicalCalls.{StringAt, CanonicalItems, RejectsAtShortest}
+use Rattle.cbor4ii_tree.specs.CanonicalCalls.{TakesShortest}
+use Rattle.cbor4ii_tree.specs.CanonicalCalls.{CanonicalMembers, AcceptsCount}
 use Rattle.cbor4ii_tree.proofs.skip_calls.Doing.{Reached, reached_start, reached_by, reached_then}
 use Rattle.cbor4ii_tree.proofs.skip_calls.Doing.{reached_as, does_ok, does_err, does_after}
-use Rattle.cbor4ii_tree.proofs.skip_calls.Doing.{does_refuse, does_stops, does_stepped}
+use Rattle.cbor4ii_tree.proofs.skip_calls.Doing.{does_reject, does_rejects, does_stepped}
 use Rattle.cbor4ii_tree.proofs.skip_calls.Doing.{reached_peek, reached_first, reached_sound}
 use Rattle.cbor4ii_tree.proofs.skip_calls.Doing.{steps_in}
-use Rattle.cbor4ii_tree.proofs.skip_calls.Doing.{call_stops, still_refused}
+use Rattle.cbor4ii_tree.proofs.skip_calls.Doing.{call_rejects, still_rejected}
 use Rattle.cbor4ii_tree.proofs.answers.Nesting.{strict_by_parts}
-use Rattle.cbor4ii_tree.proofs.canonical.Exactly.{raised, fits_raise, all_exactly}
-use Rattle.cbor4ii_tree.proofs.canonical.Exactly.{all_pairs_exactly, precision_major}
+use Rattle.cbor4ii_tree.proofs.canonical.FitsCanonically.{raised, fits_raise, all_exactly}
+use Rattle.cbor4ii_tree.proofs.canonical.FitsCanonically.{all_pairs_exactly, precision_major}
 use Rattle.cbor4ii_tree.proofs.values.Calls.{Peeked, small_z}
 use Rattle.cbor4ii_tree.proofs.values.Heads.{negative_z, float_cut, other_byte}
 use Rattle.cbor4ii_tree.proofs.values.Strings.{view-Bytes, view-Text}
@@ -87,15 +91,15 @@ reached_shortest major n moves s =
 pub head_taken : {E : Type 0} (name : List ℕ) (major : ℕ) {a c : View} (r : Option ℕ)
     (failure : Option (DecodeError E)) → Moves a c (answered r failure)
     → IfOk (answered r failure) (Sound (ReadsShortest major) a c)
-    → IfErr (answered r failure) (Stops (StopsShortest name major) a c)
-    → Does (TakesShortest major a.budget) (StopsAtShortest name major a.budget) a c
+    → IfErr (answered r failure) (Rejects (RejectsShortest name major) a c)
+    → Does (TakesShortest major a.budget) (RejectsAtShortest name major a.budget) a c
     (answered r failure)
 head_taken name major {a = a} (Some n) failure moves s h =
-    does_ok (TakesShortest major a.budget) (StopsAtShortest name major a.budget)
+    does_ok (TakesShortest major a.budget) (RejectsAtShortest name major a.budget)
     (reached_shortest major n moves s)
 head_taken name major {a = a} None failure moves s h =
-    call_stops (TakesShortest major a.budget) (StopsShortest name major)
-    (StopsAtShortest name major a.budget) (λ xs z rest h. h) moves h
+    call_rejects (TakesShortest major a.budget) (RejectsShortest name major)
+    (RejectsAtShortest name major a.budget) (λ xs z rest h. h) moves h
 
 -- ---- strings
 
@@ -114,13 +118,14 @@ pub reached_string : {E : Type 0} (major : ℕ) (v : Vec ℕ Global) {a m : View
     → Reached (StringAt major v.items) a m
 reached_string {E = E} major v {a = a} {m = m} moves s = record {
   kept = moves.by;
-  at = λ xs told. let t = s.at xs told in
+  at = λ xs known. let t = s.at xs known in
       (drop t.count xs, t.left, string_of major v.items xs t.count t.cost t.read);
 }
 
 -- a whole text that is no UTF-8
 pub no_text : (budget : Budget) (content xs ys : List ℕ) → ¬ (IsUtf8 content)
-    → StringAt 3 content xs ys → StrictTextStops budget xs (require_utf8 (kind_name text_string)) ys
+    → StringAt 3 content xs ys → CanonicalTextRejects budget xs
+    (require_utf8 (kind_name text_string)) ys
 no_text budget content xs ys invalid h =
     inr (record {
       argument = length content;
@@ -131,18 +136,18 @@ no_text budget content xs ys invalid h =
         long = refl;
         invalid = invalid;
         is = refl;
-        refusal = refl;
+        err = refl;
       };
     })
 
--- what stops by the major type of the first byte
-pub at_major : (k : ℕ) (budget : Budget) (b : ℕ) (bs : List ℕ) (e : Refusal) (rest : List ℕ)
-    → b / 32 ≡ k → StrictStopsBy StopsExactly budget k b bs e rest
-    → StopsExactlyUnder budget (b ∷ bs) e rest
+-- what fails by the major type of the first byte
+pub at_major : (k : ℕ) (budget : Budget) (b : ℕ) (bs : List ℕ) (e : InputError) (rest : List ℕ)
+    → b / 32 ≡ k → CanonicalRejectsBy RejectsCanonically budget k b bs e rest
+    → RejectsCanonicallyUnder budget (b ∷ bs) e rest
 at_major k budget b bs e rest is h =
-    subst (λ j. StrictStopsBy StopsExactly budget j b bs e rest) (sym is) h
+    subst (λ j. CanonicalRejectsBy RejectsCanonically budget j b bs e rest) (sym is) h
 
--- ---- behind a byte that was looked at
+-- ---- after a byte that was looked at
 
 module _ (b : ℕ) {E : Type 0} {a m : View}
     (first : Runs {E = E} (peek_at value_name 1) a m (Ok b)) where
@@ -152,79 +157,82 @@ module _ (b : ℕ) {E : Type 0} {a m : View}
       (reached_peek value_name 1 b first) p
 
   pub exact_ok : {c : View} (P : List ℕ → List ℕ → Type 0) (w : Value)
-      → ((xs ys : List ℕ) → P xs ys → ReadsExactlyUnder a.budget xs w ys) → Reached P m c
-      → Does {E = E} (ReadsExactlyUnder a.budget) (StopsExactlyUnder a.budget) a c (Ok w)
+      → ((xs ys : List ℕ) → P xs ys → ReadsCanonicallyUnder a.budget xs w ys) → Reached P m c
+      → Does {E = E} (ReadsCanonicallyUnder a.budget) (RejectsCanonicallyUnder a.budget) a c (Ok w)
   exact_ok P w f p =
-      does_ok (ReadsExactlyUnder a.budget) (StopsExactlyUnder a.budget)
-      (reached_as P (λ xs ys. ReadsExactlyUnder a.budget xs w ys) f (looked_at P p))
+      does_ok (ReadsCanonicallyUnder a.budget) (RejectsCanonicallyUnder a.budget)
+      (reached_as P (λ xs ys. ReadsCanonicallyUnder a.budget xs w ys) f (looked_at P p))
 
   pub exact_err : {V : Type 0} (k : ℕ) (A : Accepting V) (S : Budget → Stopping) {e : DecodeError E}
-      {c : View} → b / 32 ≡ k → ((bs : List ℕ) (z : Refusal) (rest : List ℕ)
-      → S a.budget (b ∷ bs) z rest → StrictStopsBy StopsExactly a.budget k b bs z rest)
+      {c : View} → b / 32 ≡ k → ((bs : List ℕ) (z : InputError) (rest : List ℕ)
+      → S a.budget (b ∷ bs) z rest → CanonicalRejectsBy RejectsCanonically a.budget k b bs z rest)
       → Does {V = V} A (S m.budget) m c (Err e)
-      → Does {V = Value} (ReadsExactlyUnder a.budget) (StopsExactlyUnder a.budget) a c (Err e)
+      → Does {V = Value} (ReadsCanonicallyUnder a.budget) (RejectsCanonicallyUnder a.budget) a c
+      (Err e)
   exact_err k A S is f d =
-      does_err (Peeked b) A (ReadsExactlyUnder a.budget) (S m.budget) (StopsExactlyUnder a.budget)
-      (λ xs ys z rest p h. subst (λ x. StopsExactlyUnder a.budget x z rest) (sym p.1)
+      does_err (Peeked b) A (ReadsCanonicallyUnder a.budget) (S m.budget)
+      (RejectsCanonicallyUnder a.budget)
+      (λ xs ys z rest p h. subst (λ x. RejectsCanonicallyUnder a.budget x z rest) (sym p.1)
       (at_major k a.budget b p.0 z rest is (f p.0 z rest (subst (λ o. S o (b ∷ p.0) z rest)
       first.moves.by.budget (subst (λ x. S m.budget x z rest) (p.2 ∙ p.1) h)))))
       (reached_peek value_name 1 b first) d
 
-  -- what a first byte tells
+  -- what a first byte reports
   pub exact_first : {r : Result Value (DecodeError E)} {c : View}
-      → Does (ReadsExactlyUnder m.budget) (StopsBehindFirst b m.budget) m c r
-      → Does (ReadsExactlyUnder a.budget) (StopsExactlyUnder a.budget) a c r
+      → Does (ReadsCanonicallyUnder m.budget) (RejectsAfterFirst b m.budget) m c r
+      → Does (ReadsCanonicallyUnder a.budget) (RejectsCanonicallyUnder a.budget) a c r
   exact_first d =
-      does_after (Peeked b) (ReadsExactlyUnder m.budget) (ReadsExactlyUnder a.budget)
-      (StopsBehindFirst b m.budget) (StopsExactlyUnder a.budget)
-      (λ xs ys zs v p h. subst (λ o. ReadsExactlyUnder o xs v zs) first.moves.by.budget
-      (subst (λ x. ReadsExactlyUnder m.budget x v zs) p.2 h))
-      (λ xs ys z rest p h. subst (λ o. StopsExactlyUnder o xs z rest) first.moves.by.budget
-      (subst (λ x. StopsExactlyUnder m.budget x z rest) p.2 (h p.0 (p.2 ∙ p.1))))
+      does_after (Peeked b) (ReadsCanonicallyUnder m.budget) (ReadsCanonicallyUnder a.budget)
+      (RejectsAfterFirst b m.budget) (RejectsCanonicallyUnder a.budget)
+      (λ xs ys zs v p h. subst (λ o. ReadsCanonicallyUnder o xs v zs) first.moves.by.budget
+      (subst (λ x. ReadsCanonicallyUnder m.budget x v zs) p.2 h))
+      (λ xs ys z rest p h. subst (λ o. RejectsCanonicallyUnder o xs z rest) first.moves.by.budget
+      (subst (λ x. RejectsCanonicallyUnder m.budget x z rest) p.2 (h p.0 (p.2 ∙ p.1))))
       (reached_peek value_name 1 b first) d
 
-  -- what a major type tells
+  -- what a major type reports
   pub exact_major : (k : ℕ) {r : Result Value (DecodeError E)} {c : View} → b / 32 ≡ k
-      → Does (ReadsExactlyUnder m.budget) (StopsBehindMajor k m.budget) m c r
-      → Does (ReadsExactlyUnder a.budget) (StopsExactlyUnder a.budget) a c r
+      → Does (ReadsCanonicallyUnder m.budget) (RejectsAfterMajor k m.budget) m c r
+      → Does (ReadsCanonicallyUnder a.budget) (RejectsCanonicallyUnder a.budget) a c r
   exact_major k is d =
-      does_after (Peeked b) (ReadsExactlyUnder m.budget) (ReadsExactlyUnder a.budget)
-      (StopsBehindMajor k m.budget) (StopsExactlyUnder a.budget)
-      (λ xs ys zs v p h. subst (λ o. ReadsExactlyUnder o xs v zs) first.moves.by.budget
-      (subst (λ x. ReadsExactlyUnder m.budget x v zs) p.2 h))
-      (λ xs ys z rest p h. subst (λ o. StopsExactlyUnder o xs z rest) first.moves.by.budget
-      (subst (λ x. StopsExactlyUnder m.budget x z rest) p.2 (h b p.0 (p.2 ∙ p.1) is)))
+      does_after (Peeked b) (ReadsCanonicallyUnder m.budget) (ReadsCanonicallyUnder a.budget)
+      (RejectsAfterMajor k m.budget) (RejectsCanonicallyUnder a.budget)
+      (λ xs ys zs v p h. subst (λ o. ReadsCanonicallyUnder o xs v zs) first.moves.by.budget
+      (subst (λ x. ReadsCanonicallyUnder m.budget x v zs) p.2 h))
+      (λ xs ys z rest p h. subst (λ o. RejectsCanonicallyUnder o xs z rest) first.moves.by.budget
+      (subst (λ x. RejectsCanonicallyUnder m.budget x z rest) p.2 (h b p.0 (p.2 ∙ p.1) is)))
       (reached_peek value_name 1 b first) d
 
 -- ---- tags
 
 pub exact_tagged_ok : {E : Type 0} (n : ℕ) {v : Value} {a c : View} (w : Value)
-    → view w ≡ tag n (view v) → Does {E = E} (ReadsExactly a.budget) (StopsExactly a.budget) a c
+    → view w ≡ tag n (view v) → Does {E = E} (ReadsCanonically a.budget)
+    (RejectsCanonically a.budget) a c
     (Ok v)
-    → Does {E = E} (ReadsExactlyTagged n a.budget) (StopsExactly a.budget) a c (Ok w)
+    → Does {E = E} (ReadsCanonicallyTagged n a.budget) (RejectsCanonically a.budget) a c (Ok w)
 exact_tagged_ok n {v = v} {a = a} w is d =
-    does_ok (ReadsExactlyTagged n a.budget) (StopsExactly a.budget)
-    (reached_as (λ xs ys. ReadsExactly a.budget xs v ys)
-    (λ xs ys. ReadsExactlyTagged n a.budget xs w ys) (λ xs ys h. (v, is, h)) (reached_by d))
+    does_ok (ReadsCanonicallyTagged n a.budget) (RejectsCanonically a.budget)
+    (reached_as (λ xs ys. ReadsCanonically a.budget xs v ys)
+    (λ xs ys. ReadsCanonicallyTagged n a.budget xs w ys) (λ xs ys h. (v, is, h)) (reached_by d))
 
 pub exact_tagged_err : {E : Type 0} (n : ℕ) {a c : View} {e : DecodeError E}
-    → Does {V = Value} (ReadsExactly a.budget) (StopsExactly a.budget) a c (Err e)
-    → Does {V = Value} (ReadsExactlyTagged n a.budget) (StopsExactly a.budget) a c (Err e)
+    → Does {V = Value} (ReadsCanonically a.budget) (RejectsCanonically a.budget) a c (Err e)
+    → Does {V = Value} (ReadsCanonicallyTagged n a.budget) (RejectsCanonically a.budget) a c (Err e)
 exact_tagged_err n {a = a} d =
-    does_err (λ xs ys. xs ≡ ys) (ReadsExactly a.budget) (ReadsExactlyTagged n a.budget)
-    (StopsExactly a.budget) (StopsExactly a.budget)
-    (λ xs ys z rest e s. subst (λ x. StopsExactly a.budget x z rest) (sym e) s)
+    does_err (λ xs ys. xs ≡ ys) (ReadsCanonically a.budget) (ReadsCanonicallyTagged n a.budget)
+    (RejectsCanonically a.budget) (RejectsCanonically a.budget)
+    (λ xs ys z rest e s. subst (λ x. RejectsCanonically a.budget x z rest) (sym e) s)
     (reached_start (λ xs ys. xs ≡ ys) a (λ xs. refl)) d
 
 pub exact_tag_does : {E : Type 0} (n : ℕ) {r : Result Value (DecodeError E)} {a l c : View}
     → Reached (ShortestAt 6 n) a l
-    → Does (ReadsExactlyTagged n l.budget) (StopsExactly l.budget) l c r
-    → Does (ReadsExactlyUnder a.budget) (StopsBehindMajor 6 a.budget) a c r
+    → Does (ReadsCanonicallyTagged n l.budget) (RejectsCanonically l.budget) l c r
+    → Does (ReadsCanonicallyUnder a.budget) (RejectsAfterMajor 6 a.budget) a c r
 exact_tag_does n {a = a} {l = l} p d =
-    does_after (ShortestAt 6 n) (ReadsExactlyTagged n l.budget) (ReadsExactlyUnder a.budget)
-    (StopsExactly l.budget) (StopsBehindMajor 6 a.budget)
+    does_after (ShortestAt 6 n) (ReadsCanonicallyTagged n l.budget) (ReadsCanonicallyUnder a.budget)
+    (RejectsCanonically l.budget) (RejectsAfterMajor 6 a.budget)
     (λ xs ys zs w h r.
-    let s = subst (λ o. ReadsExactly o ys r.0 zs) p.kept.budget r.2 in
+    let s = subst (λ o. ReadsCanonically o ys r.0 zs) p.kept.budget r.2 in
     let wide = shortest n in (
       tagged n wide s.0,
       (
@@ -236,58 +244,58 @@ exact_tag_does n {a = a} {l = l} p d =
           ∙ sym (append_assoc (head 6 n wide) (bytes s.0) zs),
     ))
     (λ xs ys z rest h s b bs is m.
-    subst (λ x. StopsExactlyUnder a.budget x z rest) (sym is)
+    subst (λ x. RejectsCanonicallyUnder a.budget x z rest) (sym is)
     (at_major 6 a.budget b bs z rest m
     (inr (record {
       argument = n;
       after = ys;
       is = subst (λ x. ShortestAt 6 n x ys) is h;
-      stopped = subst (λ o. StopsExactly o ys z rest) p.kept.budget s;
+      stopped = subst (λ o. RejectsCanonically o ys z rest) p.kept.budget s;
     })))) p d
 
-pub exact_tag_refused : {E : Type 0} {e : DecodeError E} {a c : View}
-    → Does {V = ℕ} (TakesShortest 6 a.budget) (StopsAtShortest tag_name 6 a.budget) a c (Err e)
-    → Does {V = Value} (ReadsExactlyUnder a.budget) (StopsBehindMajor 6 a.budget) a c (Err e)
-exact_tag_refused {a = a} d =
-    still_refused (TakesShortest 6 a.budget) (ReadsExactlyUnder a.budget)
-    (StopsAtShortest tag_name 6 a.budget) (StopsBehindMajor 6 a.budget)
-    (λ xs z rest h b bs is m. subst (λ x. StopsExactlyUnder a.budget x z rest) (sym is)
+pub exact_tag_rejected : {E : Type 0} {e : DecodeError E} {a c : View}
+    → Does {V = ℕ} (TakesShortest 6 a.budget) (RejectsAtShortest tag_name 6 a.budget) a c (Err e)
+    → Does {V = Value} (ReadsCanonicallyUnder a.budget) (RejectsAfterMajor 6 a.budget) a c (Err e)
+exact_tag_rejected {a = a} d =
+    still_rejected (TakesShortest 6 a.budget) (ReadsCanonicallyUnder a.budget)
+    (RejectsAtShortest tag_name 6 a.budget) (RejectsAfterMajor 6 a.budget)
+    (λ xs z rest h b bs is m. subst (λ x. RejectsCanonicallyUnder a.budget x z rest) (sym is)
     (at_major 6 a.budget b bs z rest m
-    (inl (subst (λ x. StopsShortest tag_name 6 x a.budget z rest) is h)))) d
+    (inl (subst (λ x. RejectsShortest tag_name 6 x a.budget z rest) is h)))) d
 
--- ---- what a first byte tells
+-- ---- what a first byte reports
 
 pub leaf_exact : {E : Type 0} (b : ℕ) (P : List ℕ → List ℕ → Type 0) (w : Value) {a c : View}
-    → ((xs ys : List ℕ) → P xs ys → ReadsExactlyUnder a.budget xs w ys) → Reached P a c
-    → Does {E = E} (ReadsExactlyUnder a.budget) (StopsBehindFirst b a.budget) a c (Ok w)
+    → ((xs ys : List ℕ) → P xs ys → ReadsCanonicallyUnder a.budget xs w ys) → Reached P a c
+    → Does {E = E} (ReadsCanonicallyUnder a.budget) (RejectsAfterFirst b a.budget) a c (Ok w)
 leaf_exact b P w {a = a} f p =
-    does_ok (ReadsExactlyUnder a.budget) (StopsBehindFirst b a.budget)
-    (reached_as P (λ xs ys. ReadsExactlyUnder a.budget xs w ys) f p)
+    does_ok (ReadsCanonicallyUnder a.budget) (RejectsAfterFirst b a.budget)
+    (reached_as P (λ xs ys. ReadsCanonicallyUnder a.budget xs w ys) f p)
 
 pub leaf_err : {V E : Type 0} (b k : ℕ) (A : Accepting V) (S : Stopping) {e : DecodeError E}
-    {a c : View} → b / 32 ≡ k → ((bs : List ℕ) (z : Refusal) (rest : List ℕ) → S (b ∷ bs) z rest
-    → StrictStopsBy StopsExactly a.budget k b bs z rest) → Does {V = V} A S a c (Err e)
-    → Does {V = Value} (ReadsExactlyUnder a.budget) (StopsBehindFirst b a.budget) a c (Err e)
+    {a c : View} → b / 32 ≡ k → ((bs : List ℕ) (z : InputError) (rest : List ℕ) → S (b ∷ bs) z rest
+    → CanonicalRejectsBy RejectsCanonically a.budget k b bs z rest) → Does {V = V} A S a c (Err e)
+    → Does {V = Value} (ReadsCanonicallyUnder a.budget) (RejectsAfterFirst b a.budget) a c (Err e)
 leaf_err b k A S {a = a} is f d =
-    does_err (λ xs ys. ys ≡ xs) A (ReadsExactlyUnder a.budget) S (StopsBehindFirst b a.budget)
-    (λ xs ys z rest p h bs i. subst (λ x. StopsExactlyUnder a.budget x z rest) (sym i)
+    does_err (λ xs ys. ys ≡ xs) A (ReadsCanonicallyUnder a.budget) S (RejectsAfterFirst b a.budget)
+    (λ xs ys z rest p h bs i. subst (λ x. RejectsCanonicallyUnder a.budget x z rest) (sym i)
     (at_major k a.budget b bs z rest is (f bs z rest (subst (λ x. S x z rest) (p ∙ i) h))))
     (reached_start (λ xs ys. ys ≡ xs) a (λ xs. refl)) d
 
 -- a head or a string of the crate below
-pub leaf_stops : {U E : Type 0} (b k : ℕ) (S : List ℕ → Option ℕ → Refusal → List ℕ → Type 0)
-    {e : DecodeError E} {a c : View} → b / 32 ≡ k → ((bs : List ℕ) (z : Refusal) (rest : List ℕ)
-    → S (b ∷ bs) a.budget z rest → StrictStopsBy StopsExactly a.budget k b bs z rest)
-    → Moves {V = U} a c (Err e) → Stops S a c e
-    → Does {V = Value} (ReadsExactlyUnder a.budget) (StopsBehindFirst b a.budget) a c (Err e)
-leaf_stops {U = U} b k S {a = a} is f moves s =
+pub leaf_rejects : {U E : Type 0} (b k : ℕ) (S : List ℕ → Option ℕ → InputError → List ℕ → Type 0)
+    {e : DecodeError E} {a c : View} → b / 32 ≡ k → ((bs : List ℕ) (z : InputError) (rest : List ℕ)
+    → S (b ∷ bs) a.budget z rest → CanonicalRejectsBy RejectsCanonically a.budget k b bs z rest)
+    → Moves {V = U} a c (Err e) → Rejects S a c e
+    → Does {V = Value} (ReadsCanonicallyUnder a.budget) (RejectsAfterFirst b a.budget) a c (Err e)
+leaf_rejects {U = U} b k S {a = a} is f moves s =
     leaf_err b k (λ xs (v : U) ys. Unit {0})
-    (λ xs. S xs a.budget) is f (does_stops (λ xs (v : U) ys. Unit {0}) S moves s)
+    (λ xs. S xs a.budget) is f (does_rejects (λ xs (v : U) ys. Unit {0}) S moves s)
 
 -- ---- values that are a head, a string, or a simple value
 
 pub unsigned_exact : (inner : Budget) (n : ℕ) (xs ys : List ℕ) → ShortestAt 0 n xs ys
-    → ReadsExactlyUnder inner xs (Integer (to_z w128 n)) ys
+    → ReadsCanonicallyUnder inner xs (Integer (to_z w128 n)) ys
 unsigned_exact inner n xs ys h = let small = h.0 in (
   int unsigned n (shortest n),
   (((shortest_fits n h.0, tt), refl), fits_raise 0 inner (fits_zero inner)),
@@ -297,7 +305,7 @@ unsigned_exact inner n xs ys h = let small = h.0 in (
 )
 
 pub negative_exact : (inner : Budget) (n : ℕ) (xs ys : List ℕ) → ShortestAt 1 n xs ys
-    → ReadsExactlyUnder inner xs (Integer (to_z w128 (of_z w128 (negsuc 0 -ℤ to_z w128 n)))) ys
+    → ReadsCanonicallyUnder inner xs (Integer (to_z w128 (of_z w128 (negsuc 0 -ℤ to_z w128 n)))) ys
 negative_exact inner n xs ys h = let small = h.0 in (
   int negative n (shortest n),
   (((shortest_fits n h.0, tt), refl), fits_raise 0 inner (fits_zero inner)),
@@ -306,7 +314,7 @@ negative_exact inner n xs ys h = let small = h.0 in (
 )
 
 pub bytes_exact : (inner : Budget) (v : Vec ℕ Global) (xs ys : List ℕ) → StringAt 2 v.items xs ys
-    → ReadsExactlyUnder inner xs (Bytes v) ys
+    → ReadsCanonicallyUnder inner xs (Bytes v) ys
 bytes_exact inner v xs ys h =
     let k = length v.items in (
       string byte_string (shortest k) v.items,
@@ -316,7 +324,7 @@ bytes_exact inner v xs ys h =
     )
 
 pub text_exact : (inner : Budget) (v : String Global) (xs ys : List ℕ) → IsUtf8 (string_bytes v)
-    → StringAt 3 (string_bytes v) xs ys → ReadsExactlyUnder inner xs (Text v) ys
+    → StringAt 3 (string_bytes v) xs ys → ReadsCanonicallyUnder inner xs (Text v) ys
 text_exact inner v xs ys valid h =
     let k = length (string_bytes v) in (
       string text_string (shortest k) (string_bytes v),
@@ -327,10 +335,10 @@ text_exact inner v xs ys valid h =
 
 pub simple_exact : {E : Type 0} (b : ℕ) {a m c : View} {v : Value} → Runs {E = E}
     (peek_at value_name 1) a m (Ok b) → b < 256 → Advances 1 m c → b ≢ 247 → SimpleOf b (Some v)
-    → Does {E = E} (ReadsExactlyUnder a.budget) (StopsExactlyUnder a.budget) a c (Ok v)
+    → Does {E = E} (ReadsCanonicallyUnder a.budget) (RejectsCanonicallyUnder a.budget) a c (Ok v)
 simple_exact b {a = a} {v = v} first small adv other s =
-    does_ok (ReadsExactlyUnder a.budget) (StopsExactlyUnder a.budget)
-    (reached_as (λ xs ys. xs ≡ b ∷ ys) (λ xs ys. ReadsExactlyUnder a.budget xs v ys)
+    does_ok (ReadsCanonicallyUnder a.budget) (RejectsCanonicallyUnder a.budget)
+    (reached_as (λ xs ys. xs ≡ b ∷ ys) (λ xs ys. ReadsCanonicallyUnder a.budget xs v ys)
     (λ xs ys e. (
       simple s.0,
       (
@@ -342,29 +350,33 @@ simple_exact b {a = a} {v = v} first small adv other s =
     ))
     (reached_first value_name 1 b first small adv))
 
--- what is told of a value that holds no other
+-- what is reported of a value that holds no other
 pub alone_exact : {E : Type 0} (b : ℕ) {a m c : View} {r : Result Value (DecodeError E)}
     → Runs {E = E} (peek_at value_name 1) a m (Ok b) → b < 256 → b ≢ 247
     → TakesSimple b m c r
-    ⊎ Does (ReadsExactlyUnder m.budget) (StopsBehindFirst b m.budget) m c r
-    → Does (ReadsExactlyUnder a.budget) (StopsExactlyUnder a.budget) a c r
+    ⊎ Does (ReadsCanonicallyUnder m.budget) (RejectsAfterFirst b m.budget) m c r
+    → Does (ReadsCanonicallyUnder a.budget) (RejectsCanonicallyUnder a.budget) a c r
 alone_exact b {a = a} {c = c} first small other (inl h) =
-    subst (λ r. Does (ReadsExactlyUnder a.budget) (StopsExactlyUnder a.budget) a c r) (sym h.1)
+    subst (λ r. Does (ReadsCanonicallyUnder a.budget) (RejectsCanonicallyUnder a.budget) a c r)
+    (sym h.1)
     (simple_exact b first small h.3 other h.2)
 alone_exact b first small other (inr d) = exact_first b first d
 
 -- undefined is not canonical
-pub undefined_stops : {E : Type 0} (b : ℕ) {e : DecodeError E} {a m c : View}
+pub undefined_rejects : {E : Type 0} (b : ℕ) {e : DecodeError E} {a m c : View}
     → Runs {E = E} (peek_at value_name 1) a m (Ok b) → b < 256 → Advances 1 m c → b ≡ 247
-    → refusal_of e ≡ Some (not_canonical canonical_name) → is_read e ≡ false
+    → input_error_of e ≡ Some (not_canonical canonical_name) → is_read e ≡ false
     → is_depth_overflow e ≡ false
-    → Does {V = Value} (ReadsExactlyUnder a.budget) (StopsExactlyUnder a.budget) a c (Err e)
-undefined_stops b {a = a} first small adv is says read shallow =
-    does_refuse (λ xs ys. xs ≡ b ∷ ys) (ReadsExactlyUnder a.budget) (StopsExactlyUnder a.budget)
+    → Does {V = Value} (ReadsCanonicallyUnder a.budget) (RejectsCanonicallyUnder a.budget) a c
+    (Err e)
+undefined_rejects b {a = a} first small adv is says read shallow =
+    does_reject (λ xs ys. xs ≡ b ∷ ys) (ReadsCanonicallyUnder a.budget)
+    (RejectsCanonicallyUnder a.budget)
     (not_canonical canonical_name) says read shallow
-    (λ xs ys e. subst (λ x. StopsExactlyUnder a.budget x (not_canonical canonical_name) ys) (sym e)
+    (λ xs ys e. subst (λ x. RejectsCanonicallyUnder a.budget x (not_canonical canonical_name) ys)
+    (sym e)
     (at_major 7 a.budget b ys (not_canonical canonical_name) ys (omega (arith, is))
-    (subst (λ i. StrictOtherStops i b ys (not_canonical canonical_name) ys)
+    (subst (λ i. CanonicalOtherRejects i b ys (not_canonical canonical_name) ys)
     (sym (ap initial is ∙ initial_simple simple_undefined)) (refl, refl))))
     (reached_first value_name 1 b first small adv)
 
@@ -374,104 +386,106 @@ pub float_exact : {E : Type 0} (p : Precision) {V : Type 0} (content : V → ℕ
     (f : FloatBits) {S : Stopping} {a c : View} → float p (content v) ≡ view (Float f)
     → Moves {E = E} a c (Ok v)
     → Sound (λ xs v. ReadsFloat (precision_byte p) (precision_bytes p) xs (content v)) a c v
-    → Does {E = E} (ReadsExactlyUnder a.budget) S a c (Ok (Float f))
+    → Does {E = E} (ReadsCanonicallyUnder a.budget) S a c (Ok (Float f))
 float_exact p content {v = v} f {S = S} {a = a} is moves s =
-    does_ok (ReadsExactlyUnder a.budget) S
+    does_ok (ReadsCanonicallyUnder a.budget) S
     (reached_sound (λ xs v. ReadsFloat (precision_byte p) (precision_bytes p) xs (content v))
-    (λ xs ys. ReadsExactlyUnder a.budget xs (Float f) ys)
+    (λ xs ys. ReadsCanonicallyUnder a.budget xs (Float f) ys)
     (λ xs n k _ r.
-    let front = float_bytes (precision_byte p) (precision_bytes p) (content v) in
-    let left : drop n xs ≡ r.rest = ap (drop n) r.is ∙ ap (λ j. drop j (front ++ r.rest))
+    let prefix = float_bytes (precision_byte p) (precision_bytes p) (content v) in
+    let left : drop n xs ≡ r.rest = ap (drop n) r.is ∙ ap (λ j. drop j (prefix ++ r.rest))
     (r.size ∙ sym (ap suc (length-bytes_high_first (precision_bytes p) (content v))))
-    ∙ drop-append_seam front r.rest in (
+    ∙ drop-append_seam prefix r.rest in (
       bits p (content v),
       (((r.fits, tt), tt), fits_raise 0 a.budget (fits_zero a.budget)),
       is,
-      r.is ∙ ap (λ z. front ++ z) (sym left),
+      r.is ∙ ap (λ z. prefix ++ z) (sym left),
     )) moves s)
 
-pub float_stops : {U E : Type 0} (p : Precision) (b : ℕ) {e : DecodeError E} {a c : View}
+pub float_rejects : {U E : Type 0} (p : Precision) (b : ℕ) {e : DecodeError E} {a c : View}
     → b ≡ precision_byte p → Moves {V = U} a c (Err e)
-    → Stops (StopsFloat (precision_name p) (precision_byte p) (precision_bytes p)) a c e
-    → Does {V = Value} (ReadsExactlyUnder a.budget) (StopsBehindFirst b a.budget) a c (Err e)
-float_stops p b {a = a} is moves s =
-    leaf_stops b 7 (StopsFloat (precision_name p) (precision_byte p) (precision_bytes p))
+    → Rejects (RejectsFloat (precision_name p) (precision_byte p) (precision_bytes p)) a c e
+    → Does {V = Value} (ReadsCanonicallyUnder a.budget) (RejectsAfterFirst b a.budget) a c (Err e)
+float_rejects p b {a = a} is moves s =
+    leaf_rejects b 7 (RejectsFloat (precision_name p) (precision_byte p) (precision_bytes p))
     (ap (λ j. j / 32) is ∙ precision_major p)
-    (λ bs z rest h. subst (λ i. StrictOtherStops i b bs z rest)
+    (λ bs z rest h. subst (λ i. CanonicalOtherRejects i b bs z rest)
     (sym (ap initial is ∙ initial_bits p)) (float_cut p b bs z rest a.budget is h)) moves s
 
 pub no_value : {E : Type 0} (b : ℕ) {e : DecodeError E} {a : View} → 224 ≤ b → b < 256
     → ((s : Simple) → b ≡ simple_byte s → ⊥) → b ≢ 249 → b ≢ 250 → b ≢ 251
-    → refusal_of e ≡ Some (unsupported value_name b) → is_read e ≡ false
+    → input_error_of e ≡ Some (unsupported value_name b) → is_read e ≡ false
     → is_depth_overflow e ≡ false
-    → Does {V = Value} (ReadsExactlyUnder a.budget) (StopsBehindFirst b a.budget) a a (Err e)
+    → Does {V = Value} (ReadsCanonicallyUnder a.budget) (RejectsAfterFirst b a.budget) a a (Err e)
 no_value b {a = a} low high none f g h says read shallow =
-    does_refuse (λ xs ys. xs ≡ ys) (ReadsExactlyUnder a.budget) (StopsBehindFirst b a.budget)
+    does_reject (λ xs ys. xs ≡ ys) (ReadsCanonicallyUnder a.budget) (RejectsAfterFirst b a.budget)
     (unsupported value_name b) says read shallow
-    (λ xs ys e bs is. subst (λ x. StopsExactlyUnder a.budget x (unsupported value_name b) ys)
+    (λ xs ys e bs is. subst (λ x. RejectsCanonicallyUnder a.budget x (unsupported value_name b) ys)
     (sym is)
     (at_major 7 a.budget b bs (unsupported value_name b) ys (omega (arith, low, high))
-    (subst (λ i. StrictOtherStops i b bs (unsupported value_name b) ys)
+    (subst (λ i. CanonicalOtherRejects i b bs (unsupported value_name b) ys)
     (sym (other_byte b low high none f g h)) (refl, sym e ∙ is))))
     (reached_start (λ xs ys. xs ≡ ys) a (λ xs. refl))
 
 -- ---- steps
 
 -- what is said of one value
-pub one_exactly : OneUnder Exactly StopsExactly ReadsExactlyUnder StopsExactlyUnder
+pub one_exactly : OneUnder FitsCanonically RejectsCanonically ReadsCanonicallyUnder
+    RejectsCanonicallyUnder
 one_exactly = record {
   reads = λ budget inner step xs v ys h.
       let up : budget ≡ raise inner = raised budget inner step in
-      let t = subst (λ o. ReadsExactly o xs v ys) (sym up) h in (
+      let t = subst (λ o. ReadsCanonically o xs v ys) (sym up) h in (
         tree t.0 no_trees,
         refl,
         (t.1, tt),
         ap (λ i. item i no_items) t.2,
         t.3 ∙ ap (λ r. r ++ ys) (sym (append-nil (bytes t.0))),
       );
-  refuses = λ budget inner step xs z rest h.
+  errs = λ budget inner step xs z rest h.
       (strict_by_parts xs budget z rest).1
-      (subst (λ o. StopsAtStep value_name o xs (λ inner. StopsExactlyUnder inner xs) z rest)
+      (subst (λ o. RejectsAtStep value_name o xs (λ inner. RejectsCanonicallyUnder inner xs) z rest)
       (sym step) h);
 }
 
 -- no byte is left where a value is to begin
-pub none_exactly : (budget : Budget) (xs : List ℕ) (z : Refusal) (rest : List ℕ)
-    → StopsWhereNone xs z rest → StopsExactlyUnder budget xs z rest
-none_exactly budget xs z rest s = subst (λ x. StopsExactlyUnder budget x z rest) (sym s.0) s.1
+pub none_exactly : (budget : Budget) (xs : List ℕ) (z : InputError) (rest : List ℕ)
+    → RejectsWhereNone xs z rest → RejectsCanonicallyUnder budget xs z rest
+none_exactly budget xs z rest s = subst (λ x. RejectsCanonicallyUnder budget x z rest) (sym s.0) s.1
 
 pub stepped_one : {E : Type 0} {r : Result Value (DecodeError E)} {a b c d : View}
-    → StepsIn a.budget b.budget true → KeepsAllButBudget a b → Does (ReadsExactlyUnder b.budget)
-    (StopsExactlyUnder b.budget) b c r → d.budget ≡ step_back c.budget → KeepsAllButBudget c d
-    → Does (ReadsExactly a.budget) (StopsExactly a.budget) a d r
+    → StepsIn a.budget b.budget true → KeepsAllButBudget a b → Does (ReadsCanonicallyUnder b.budget)
+    (RejectsCanonicallyUnder b.budget) b c r → d.budget ≡ step_back c.budget → KeepsAllButBudget c d
+    → Does (ReadsCanonically a.budget) (RejectsCanonically a.budget) a d r
 stepped_one {a = a} {b = b} takes inward w gives outward =
     let step = steps_in a.budget b.budget takes in
     let up : a.budget ≡ raise b.budget = raised a.budget b.budget step in
-    does_stepped (ReadsExactlyUnder b.budget) (ReadsExactly a.budget) (StopsExactlyUnder b.budget)
-    (StopsExactly a.budget) (λ xs ys v h. subst (λ o. ReadsExactly o xs v ys) (sym up) h)
+    does_stepped (ReadsCanonicallyUnder b.budget) (ReadsCanonically a.budget)
+    (RejectsCanonicallyUnder b.budget)
+    (RejectsCanonically a.budget) (λ xs ys v h. subst (λ o. ReadsCanonically o xs v ys) (sym up) h)
     (λ xs e rest h. (strict_by_parts xs a.budget e rest).1
-    (subst (λ o. StopsAtStep value_name o xs (λ inner. StopsExactlyUnder inner xs) e rest)
+    (subst (λ o. RejectsAtStep value_name o xs (λ inner. RejectsCanonicallyUnder inner xs) e rest)
     (sym step) h)) takes inward w gives outward
 
 pub stepped_more : {V E : Type 0} (name : List ℕ) (reads : Budget → Accepting V)
     (S : Budget → Stopping) {r : Result V (DecodeError E)} {a b c d : View}
     → StepsIn a.budget b.budget true → KeepsAllButBudget a b → Does (reads b.budget)
     (S b.budget) b c r → d.budget ≡ step_back c.budget → KeepsAllButBudget c d
-    → Does (ReadsStepped reads a.budget) (StopsExactlyStepped name S a.budget) a d r
+    → Does (ReadsStepped reads a.budget) (RejectsCanonicallyStepped name S a.budget) a d r
 stepped_more name reads S {a = a} {b = b} takes inward w gives outward =
     let step = steps_in a.budget b.budget takes in
     does_stepped (reads b.budget) (ReadsStepped reads a.budget) (S b.budget)
-    (StopsExactlyStepped name S a.budget) (λ xs ys v h. (b.budget, step, h))
-    (λ xs e rest h. subst (λ o. StopsAtStep name o xs (λ inner. S inner xs) e rest) (sym step) h)
+    (RejectsCanonicallyStepped name S a.budget) (λ xs ys v h. (b.budget, step, h))
+    (λ xs e rest h. subst (λ o. RejectsAtStep name o xs (λ inner. S inner xs) e rest) (sym step) h)
     takes inward w gives outward
 
 -- ---- heads that count what follows
 
-pub counted_does : {V E : Type 0} (name : List ℕ) (major n : ℕ) (reads : ℕ → Budget → Accepting V)
+pub definite_does : {V E : Type 0} (name : List ℕ) (major n : ℕ) (reads : ℕ → Budget → Accepting V)
     (S : Budget → ℕ → Stopping) {r : Result V (DecodeError E)} {a m c : View}
     → Reached (ShortestAt major n) a m → Does (reads n m.budget) (S m.budget n) m c r
     → Does (AcceptsCount major reads a.budget) (AtShortest name major a.budget (S a.budget)) a c r
-counted_does name major n reads S {a = a} {m = m} p d =
+definite_does name major n reads S {a = a} {m = m} p d =
     does_after (ShortestAt major n) (reads n m.budget) (AcceptsCount major reads a.budget)
     (S m.budget n) (AtShortest name major a.budget (S a.budget))
     (λ xs ys zs v h s. (n, ys, h, subst (λ o. reads n o ys v zs) p.kept.budget s))
@@ -482,7 +496,7 @@ counted_does name major n reads S {a = a} {m = m} p d =
       stopped = subst (λ o. S o n ys e rest) p.kept.budget s;
     })) p d
 
--- ---- values, one behind another
+-- ---- values, one after another
 
 -- ---- arrays and maps
 
@@ -491,8 +505,8 @@ fits_two c None h = tt
 fits_two c (Some n) h = omega arith
 
 pub array_exact : (inner : Budget) (v : Vec Value Global) (xs ys : List ℕ) → ReadsStepped
-    (λ o xs (v : Vec Value Global) ys. AcceptsCount 4 ExactItems o xs v.items ys) inner xs v ys
-    → ReadsExactlyUnder inner xs (Array v) ys
+    (λ o xs (v : Vec Value Global) ys. AcceptsCount 4 CanonicalItems o xs v.items ys) inner xs v ys
+    → ReadsCanonicallyUnder inner xs (Array v) ys
 array_exact inner v xs ys h =
     let deep = h.0 in
     let c = h.2 in
@@ -517,8 +531,8 @@ array_exact inner v xs ys h =
 
 pub map_exact : (inner : Budget) (v : Vec (Value × Value) Global) (xs ys : List ℕ)
     → ReadsStepped (λ o xs (v : Vec (Value × Value) Global) ys.
-    AcceptsCount 5 ExactMembers o xs v.items ys) inner xs v ys
-    → ReadsExactlyUnder inner xs (Map v) ys
+    AcceptsCount 5 CanonicalMembers o xs v.items ys) inner xs v ys
+    → ReadsCanonicallyUnder inner xs (Map v) ys
 map_exact inner v xs ys h =
     let deep = h.0 in
     let c = h.2 in

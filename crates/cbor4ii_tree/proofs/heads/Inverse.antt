@@ -7,7 +7,7 @@ use Rattle.std.specs.Int.{bytes_high_first}
 use Rattle.cbor4ii_items.specs.Head.{IsBytes}
 use Rattle.cbor4ii_items.specs.Laws.Heads.{onto-lt, bytes_onto}
 use Rattle.cbor4ii_items.specs.Magnitude.{number_of}
-use Rattle.cbor4ii_tree.specs.Parse.{front_at, number_at}
+use Rattle.cbor4ii_tree.specs.Parse.{prefix_at, number_at}
 use Rattle.cbor4ii_tree.specs.Skip.{whole_number_at}
 use Rattle.cbor4ii_tree.specs.Laws.Binds.{bind_ok, guard_ok, same_ok}
 
@@ -21,10 +21,10 @@ IsBytes-drop zero bs h = h
 IsBytes-drop (suc k) [] h = tt
 IsBytes-drop (suc k) (b ∷ bs) h = IsBytes-drop k bs h.1
 
-pub front_inverse : (name : List ℕ) (k : ℕ) (bs xs after : List ℕ) → IsBytes bs
-    → front_at name k bs ≡ Ok (xs, after)
+pub prefix_inverse : (name : List ℕ) (k : ℕ) (bs xs after : List ℕ) → IsBytes bs
+    → prefix_at name k bs ≡ Ok (xs, after)
     → (bs ≡ xs ++ after) × (length xs ≡ k) × IsBytes xs × IsBytes after
-front_inverse name k bs xs after h e =
+prefix_inverse name k bs xs after h e =
     let g = guard_ok (ltb (length bs) k) _ (take k bs, drop k bs) (xs, after) e in
     let x : take k bs ≡ xs = ap (λ (p : List ℕ × List ℕ). p.0) g.1 in
     let y : drop k bs ≡ after = ap (λ (p : List ℕ × List ℕ). p.1) g.1 in
@@ -49,8 +49,8 @@ pub record Whole (k n : ℕ) (bs after : List ℕ) : Type 0 where
 
 whole_of : (k n : ℕ) (bs xs rest after : List ℕ) → bs ≡ xs ++ rest → length xs ≡ k → IsBytes xs
     → IsBytes rest → number_of xs ≡ n → rest ≡ after → Whole k n bs after
-whole_of k n bs xs rest after split len front more x y =
-    let p = number_of_bytes k xs len front in
+whole_of k n bs xs rest after split len prefix more x y =
+    let p = number_of_bytes k xs len prefix in
     record {
       is = split ∙ ap₂ ◌++◌ (sym p.0 ∙ ap (bytes_high_first k) x) y;
       below = subst (λ j. j < 256 ^ k) x p.1;
@@ -60,8 +60,8 @@ whole_of k n bs xs rest after split len front more x y =
 pub whole_number_inverse : (name : List ℕ) (k n : ℕ) (bs after : List ℕ) → IsBytes bs
     → whole_number_at name k bs ≡ Ok (n, after) → Whole k n bs after
 whole_number_inverse name k n bs after h e =
-    let b = bind_ok (front_at name k bs) (λ p. Ok (number_of p.0, p.1)) (n, after) e in
-    let f = front_inverse name k bs b.0.0 b.0.1 h b.1 in
+    let b = bind_ok (prefix_at name k bs) (λ p. Ok (number_of p.0, p.1)) (n, after) e in
+    let f = prefix_inverse name k bs b.0.0 b.0.1 h b.1 in
     let same = same_ok (Ok (number_of b.0.0, b.0.1)) (number_of b.0.0, b.0.1) (n, after) refl b.2 in
     let x : number_of b.0.0 ≡ n = ap (λ (p : ℕ × List ℕ). p.0) same in
     let y : b.0.1 ≡ after = ap (λ (p : ℕ × List ℕ). p.1) same in

@@ -2,12 +2,14 @@
 use Rattle.std.proofs.Common.{◌≡◌, ℕ, zero, suc, ◌+◌, ◌*◌, ◌/◌, ◌%◌, ◌<◌, List, ◌∷◌, ◌++◌, Ok, refl}
 use Rattle.std.proofs.Common.{ap, ap₂, ◌∙◌, arith, ltb, eqb, ltb-true, eqb-true, subst}
 use Rattle.cbor4ii_items.specs.Head.{Width, in_first, one, two, four, eight, HeadFits, additional}
-use Rattle.cbor4ii_items.specs.Head.{byte_count, head, open_head, IsBytes}
+use Rattle.cbor4ii_items.specs.Head.{byte_count, head, indefinite_head, IsBytes}
 use Rattle.cbor4ii_items.specs.Initial.{Sign, unsigned, negative, sign_major, Kind, byte_string}
 use Rattle.cbor4ii_items.specs.Initial.{text_string, kind_major, simple_byte, precision_byte, Info}
-use Rattle.cbor4ii_items.specs.Initial.{wide, open_ended, reserved, info_of, Initial, starts_int}
+use Rattle.cbor4ii_items.specs.Initial.{wide, indefinite_ended, reserved, info_of, Initial}
+use Rattle.cbor4ii_items.specs.Initial.{starts_int}
 use Rattle.cbor4ii_items.specs.Initial.{starts_string, starts_chunks, starts_array}
-use Rattle.cbor4ii_items.specs.Initial.{starts_open_array, starts_map, starts_open_map, starts_tag}
+use Rattle.cbor4ii_items.specs.Initial.{starts_indefinite_array, starts_map, starts_indefinite_map}
+use Rattle.cbor4ii_items.specs.Initial.{starts_tag}
 use Rattle.cbor4ii_items.specs.Initial.{starts_simple, starts_bits, initial, int_by_info}
 use Rattle.cbor4ii_items.specs.Initial.{string_by_info, array_by_info, map_by_info, tag_by_info}
 use Rattle.cbor4ii_items.specs.Initial.{simple_by_info, by_major}
@@ -26,7 +28,7 @@ WidthSays eight i = i ≡ 27
 
 abbrev pub InfoSays : ℕ → Info → Type 0
 InfoSays i (wide w) = WidthSays w i
-InfoSays i open_ended = i ≡ 31
+InfoSays i indefinite_ended = i ≡ 31
 InfoSays i reserved = Unit {0}
 
 abbrev pub HeadByte : ℕ → Width → ℕ → Type 0
@@ -35,11 +37,11 @@ HeadByte major w b = (i : ℕ) × (b ≡ 32 * major + i) × WidthSays w i
 abbrev pub Means : ℕ → Initial → Type 0
 Means b (starts_int s w) = HeadByte (sign_major s) w b
 Means b (starts_string k w) = HeadByte (kind_major k) w b
-Means b (starts_chunks k) = b ≡ open_head (kind_major k)
+Means b (starts_chunks k) = b ≡ indefinite_head (kind_major k)
 Means b (starts_array w) = HeadByte 4 w b
-Means b starts_open_array = b ≡ open_head 4
+Means b starts_indefinite_array = b ≡ indefinite_head 4
 Means b (starts_map w) = HeadByte 5 w b
-Means b starts_open_map = b ≡ open_head 5
+Means b starts_indefinite_map = b ≡ indefinite_head 5
 Means b (starts_tag w) = HeadByte 6 w b
 Means b (starts_simple s) = b ≡ simple_byte s
 Means b (starts_bits p) = b ≡ precision_byte p
@@ -68,29 +70,29 @@ simple_says i b e =
 int_says : (s : Sign) (i b : ℕ) (info : Info) → b ≡ 32 * sign_major s + i → InfoSays i info
     → Means b (int_by_info s info)
 int_says s i b (wide w) e h = (i, e, h)
-int_says s i b open_ended e h = tt
+int_says s i b indefinite_ended e h = tt
 int_says s i b reserved e h = tt
 
 string_says : (k : Kind) (i b : ℕ) (info : Info) → b ≡ 32 * kind_major k + i → InfoSays i info
     → Means b (string_by_info k info)
 string_says k i b (wide w) e h = (i, e, h)
-string_says k i b open_ended e h = e ∙ ap (λ j. 32 * kind_major k + j) h
+string_says k i b indefinite_ended e h = e ∙ ap (λ j. 32 * kind_major k + j) h
 string_says k i b reserved e h = tt
 
 array_says : (i b : ℕ) (info : Info) → b ≡ 32 * 4 + i → InfoSays i info
     → Means b (array_by_info info)
 array_says i b (wide w) e h = (i, e, h)
-array_says i b open_ended e h = omega arith
+array_says i b indefinite_ended e h = omega arith
 array_says i b reserved e h = tt
 
 map_says : (i b : ℕ) (info : Info) → b ≡ 32 * 5 + i → InfoSays i info → Means b (map_by_info info)
 map_says i b (wide w) e h = (i, e, h)
-map_says i b open_ended e h = omega arith
+map_says i b indefinite_ended e h = omega arith
 map_says i b reserved e h = tt
 
 tag_says : (i b : ℕ) (info : Info) → b ≡ 32 * 6 + i → InfoSays i info → Means b (tag_by_info info)
 tag_says i b (wide w) e h = (i, e, h)
-tag_says i b open_ended e h = tt
+tag_says i b indefinite_ended e h = tt
 tag_says i b reserved e h = tt
 
 major_says : (m i b : ℕ) → m < 8 → b ≡ 32 * m + i → Means b (by_major m i)

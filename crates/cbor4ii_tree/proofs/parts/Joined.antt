@@ -1,8 +1,8 @@
--- Items behind others, and pairs behind others.
+-- Items after others, and pairs after others.
 use Rattle.std.proofs.Common.{◌≡◌, ℕ, ◌+◌, List, ◌++◌, refl, sym, ap, ◌∙◌, arith, append_assoc}
 use Rattle.cbor4ii_tree.specs.Tree.{Tree, Trees, no_trees, tree, Pairs, no_pairs, pair, count}
 use Rattle.cbor4ii_tree.specs.Tree.{bytes, bytes_all, bytes_pairs}
-use Rattle.cbor4ii_tree.specs.Stops.{Each, EachPair}
+use Rattle.cbor4ii_tree.specs.Rejections.{Each, EachPair}
 
 unfoldable pub join : Trees → Trees → Trees
 join no_trees us = us

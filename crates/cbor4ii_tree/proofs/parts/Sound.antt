@@ -4,9 +4,9 @@ use Rattle.std.proofs.Common.{ap₂, ◌∙◌, eqb, eqb-true, subst, append_ass
 use Rattle.cbor4ii_items.specs.Head.{Width, head, break, IsBytes}
 use Rattle.cbor4ii_tree.specs.Tree.{Tree, Trees, no_trees, tree, Pairs, no_pairs, pair, count}
 use Rattle.cbor4ii_tree.specs.Tree.{pair_count, bytes, bytes_all, bytes_pairs}
-use Rattle.cbor4ii_tree.specs.Stops.{Each, EachPair}
-use Rattle.cbor4ii_tree.specs.Parse.{Parser, ◌>>=◌, trees_at, pairs_at, open_trees_at}
-use Rattle.cbor4ii_tree.specs.Parse.{open_pairs_at}
+use Rattle.cbor4ii_tree.specs.Rejections.{Each, EachPair}
+use Rattle.cbor4ii_tree.specs.Parse.{Parser, ◌>>=◌, trees_at, pairs_at, indefinite_trees_at}
+use Rattle.cbor4ii_tree.specs.Parse.{indefinite_pairs_at}
 use Rattle.cbor4ii_tree.specs.Laws.Binds.{bind_ok, same_ok, chosen, no_ok}
 
 pub record Took (Whole : Tree → Type 0) (bs : List ℕ) (p : Tree × List ℕ) : Type 0 where
@@ -28,12 +28,13 @@ pub record TookPairs (Whole : Tree → Type 0) (n : ℕ) (bs : List ℕ)
   pub more : IsBytes p.1
 
 -- items, and then a break
-pub record TookOpen (Whole : Tree → Type 0) (bs : List ℕ) (p : Trees × List ℕ) : Type 0 where
+pub record TookIndefinite (Whole : Tree → Type 0) (bs : List ℕ) (p : Trees × List ℕ) : Type 0 where
   pub whole : Each Whole p.0
   pub is : bs ≡ (bytes_all p.0 ++ break ∷ []) ++ p.1
   pub more : IsBytes p.1
 
-pub record TookOpenPairs (Whole : Tree → Type 0) (bs : List ℕ) (p : Pairs × List ℕ) : Type 0 where
+pub record TookIndefinitePairs (Whole : Tree → Type 0) (bs : List ℕ) (p : Pairs × List ℕ) :
+    Type 0 where
   pub whole : EachPair Whole p.0
   pub is : bs ≡ (bytes_pairs p.0 ++ break ∷ []) ++ p.1
   pub more : IsBytes p.1
@@ -92,23 +93,25 @@ pairs_sound item Whole s (suc n) bs p h e =
     regroup : (a b c x : List ℕ) → a ++ (b ++ (c ++ x)) ≡ (a ++ (b ++ c)) ++ x
     regroup a b c x = simp append_assoc
 
-pub open_trees_sound : (item : Parser Tree) (Whole : Tree → Type 0) → IsSound item Whole
-    → (n : ℕ) (bs : List ℕ) (p : Trees × List ℕ) → IsBytes bs → open_trees_at item n bs ≡ Ok p
-    → TookOpen Whole bs p
-unfolding open_trees_at
-open_trees_sound item Whole s n [] p h e = absurd (no_ok {A = Trees} _ p e)
-open_trees_sound item Whole s zero (b ∷ bs) p h e = absurd (no_ok {A = Trees} _ p e)
-open_trees_sound item Whole s (suc n) (b ∷ bs) p h e =
+pub indefinite_trees_sound : (item : Parser Tree) (Whole : Tree → Type 0) → IsSound item Whole
+    → (n : ℕ) (bs : List ℕ) (p : Trees × List ℕ) → IsBytes bs → indefinite_trees_at item n bs ≡ Ok p
+    → TookIndefinite Whole bs p
+unfolding indefinite_trees_at
+indefinite_trees_sound item Whole s n [] p h e = absurd (no_ok {A = Trees} _ p e)
+indefinite_trees_sound item Whole s zero (b ∷ bs) p h e = absurd (no_ok {A = Trees} _ p e)
+indefinite_trees_sound item Whole s (suc n) (b ∷ bs) p h e =
     elim (chosen (eqb b break) (Ok (no_trees, bs)) _ (Ok p) e) [
-      | inl f ↦ subst (TookOpen Whole (b ∷ bs)) (same_ok _ (no_trees, bs) p refl f.1)
+      | inl f ↦ subst (TookIndefinite Whole (b ∷ bs)) (same_ok _ (no_trees, bs) p refl f.1)
           (record { whole = tt; is = ap (λ c. c ∷ bs) (eqb-true b break f.0); more = h.1 })
       | inr f ↦
           let x = bind_ok (item (b ∷ bs))
-          (λ y. open_trees_at item n y.1 >>= λ q. Ok (tree y.0 q.0, q.1)) p f.1 in
-          let y = bind_ok (open_trees_at item n x.0.1) (λ q. Ok (tree x.0.0 q.0, q.1)) p x.2 in
+          (λ y. indefinite_trees_at item n y.1 >>= λ q. Ok (tree y.0 q.0, q.1)) p f.1 in
+          let y = bind_ok (indefinite_trees_at item n x.0.1) (λ q. Ok (tree x.0.0 q.0, q.1))
+          p x.2 in
           let one = s (b ∷ bs) x.0 h x.1 in
-          let all = open_trees_sound item Whole s n x.0.1 y.0 one.more y.1 in
-          subst (TookOpen Whole (b ∷ bs)) (same_ok _ (tree x.0.0 y.0.0, y.0.1) p refl y.2) (record {
+          let all = indefinite_trees_sound item Whole s n x.0.1 y.0 one.more y.1 in
+          subst (TookIndefinite Whole (b ∷ bs)) (same_ok _ (tree x.0.0 y.0.0, y.0.1) p refl y.2)
+          (record {
             whole = (one.whole, all.whole);
             is =
                 one.is ∙ ap (λ r. bytes x.0.0 ++ r) all.is
@@ -120,27 +123,27 @@ open_trees_sound item Whole s (suc n) (b ∷ bs) p h e =
     regroup : (a b x : List ℕ) → a ++ ((b ++ break ∷ []) ++ x) ≡ ((a ++ b) ++ break ∷ []) ++ x
     regroup a b x = simp append_assoc
 
-pub open_pairs_sound : (item : Parser Tree) (Whole : Tree → Type 0) → IsSound item Whole
-    → (n : ℕ) (bs : List ℕ) (p : Pairs × List ℕ) → IsBytes bs → open_pairs_at item n bs ≡ Ok p
-    → TookOpenPairs Whole bs p
-unfolding open_pairs_at
-open_pairs_sound item Whole s n [] p h e = absurd (no_ok {A = Pairs} _ p e)
-open_pairs_sound item Whole s zero (b ∷ bs) p h e = absurd (no_ok {A = Pairs} _ p e)
-open_pairs_sound item Whole s (suc n) (b ∷ bs) p h e =
+pub indefinite_pairs_sound : (item : Parser Tree) (Whole : Tree → Type 0) → IsSound item Whole
+    → (n : ℕ) (bs : List ℕ) (p : Pairs × List ℕ) → IsBytes bs → indefinite_pairs_at item n bs ≡ Ok p
+    → TookIndefinitePairs Whole bs p
+unfolding indefinite_pairs_at
+indefinite_pairs_sound item Whole s n [] p h e = absurd (no_ok {A = Pairs} _ p e)
+indefinite_pairs_sound item Whole s zero (b ∷ bs) p h e = absurd (no_ok {A = Pairs} _ p e)
+indefinite_pairs_sound item Whole s (suc n) (b ∷ bs) p h e =
     elim (chosen (eqb b break) (Ok (no_pairs, bs)) _ (Ok p) e) [
-      | inl f ↦ subst (TookOpenPairs Whole (b ∷ bs)) (same_ok _ (no_pairs, bs) p refl f.1)
+      | inl f ↦ subst (TookIndefinitePairs Whole (b ∷ bs)) (same_ok _ (no_pairs, bs) p refl f.1)
           (record { whole = tt; is = ap (λ c. c ∷ bs) (eqb-true b break f.0); more = h.1 })
       | inr f ↦
-          let k = bind_ok (item (b ∷ bs)) (λ k. item k.1 >>= λ v. open_pairs_at item n v.1
+          let k = bind_ok (item (b ∷ bs)) (λ k. item k.1 >>= λ v. indefinite_pairs_at item n v.1
           >>= λ q. Ok (pair k.0 v.0 q.0, q.1)) p f.1 in
           let v = bind_ok (item k.0.1)
-          (λ v. open_pairs_at item n v.1 >>= λ q. Ok (pair k.0.0 v.0 q.0, q.1)) p k.2 in
+          (λ v. indefinite_pairs_at item n v.1 >>= λ q. Ok (pair k.0.0 v.0 q.0, q.1)) p k.2 in
           let y =
-          bind_ok (open_pairs_at item n v.0.1) (λ q. Ok (pair k.0.0 v.0.0 q.0, q.1)) p v.2 in
+          bind_ok (indefinite_pairs_at item n v.0.1) (λ q. Ok (pair k.0.0 v.0.0 q.0, q.1)) p v.2 in
           let key = s (b ∷ bs) k.0 h k.1 in
           let val = s k.0.1 v.0 key.more v.1 in
-          let all = open_pairs_sound item Whole s n v.0.1 y.0 val.more y.1 in
-          subst (TookOpenPairs Whole (b ∷ bs))
+          let all = indefinite_pairs_sound item Whole s n v.0.1 y.0 val.more y.1 in
+          subst (TookIndefinitePairs Whole (b ∷ bs))
           (same_ok _ (pair k.0.0 v.0.0 y.0.0, y.0.1) p refl y.2) (record {
             whole = (key.whole, val.whole, all.whole);
             is =
@@ -154,7 +157,7 @@ open_pairs_sound item Whole s (suc n) (b ∷ bs) p h e =
         → a ++ (b ++ ((c ++ break ∷ []) ++ x)) ≡ ((a ++ (b ++ c)) ++ break ∷ []) ++ x
     regroup a b c x = simp append_assoc
 
--- behind a head whose argument counts what follows
+-- after a head whose argument counts what follows
 pub counted : (major n m : ℕ) (w : Width) (b : ℕ) (bs after part rest : List ℕ)
     → b ∷ bs ≡ head major n w ++ after → m ≡ n → after ≡ part ++ rest
     → b ∷ bs ≡ (head major m w ++ part) ++ rest

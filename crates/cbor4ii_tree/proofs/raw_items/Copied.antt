@@ -2,63 +2,63 @@
 use Rattle.std.proofs.Common.{◌≡◌, ℕ, inl, inr, List, [], drop, Some, Result, Ok, Err}
 use Rattle.std.proofs.Common.{true, false, refl, sym, subst, IfErr}
 use Rattle.std.proofs.Common.{IsTrue}
-use Rattle.cbor4ii_rw.specs.View.{View, Told}
+use Rattle.cbor4ii_rw.specs.View.{View, IfKnown}
 use Rattle.cbor4ii_rw.specs.declared.error.DecodeError.{DecodeError}
 use Rattle.cbor4ii_items.specs.Decoding.{IsExact, Decodes}
 use Rattle.cbor4ii_items.specs.Laws.Calls.{in_memory, out_of_memory}
-use Rattle.cbor4ii_items.specs.Refusal.{is_out_of_memory}
+use Rattle.cbor4ii_items.specs.InputError.{is_out_of_memory}
 use Rattle.cbor4ii_tree.specs.declared.boxed_raw.BoxedRawValue.{BoxedRawValue}
 use Rattle.cbor4ii_tree.specs.Tree.{Tree, bytes}
 use Rattle.cbor4ii_tree.specs.Cost.{Budget, skip_cost}
-use Rattle.cbor4ii_tree.specs.Refusal.{Refusal}
-use Rattle.cbor4ii_tree.specs.Spelling.{Skips}
-use Rattle.cbor4ii_tree.specs.StopsSkipping.{StopsSkipping}
-use Rattle.cbor4ii_tree.specs.Promises.{Answered, Refused}
-use Rattle.cbor4ii_tree.specs.Raw.{raw_spelling, RefusedFront, SkipsFront}
+use Rattle.cbor4ii_tree.specs.InputError.{InputError}
+use Rattle.cbor4ii_tree.specs.Encodings.{Skips}
+use Rattle.cbor4ii_tree.specs.SkippingRejects.{SkippingRejects}
+use Rattle.cbor4ii_tree.specs.Promises.{Answered, Rejected}
+use Rattle.cbor4ii_tree.specs.Raw.{raw_format, RejectedPrefix, SkipsPrefix}
 use Rattle.cbor4ii_tree.specs.BoxedRaw.{boxed_content, CapturesCopy, UnmovedOrLacks, SkippedTo}
-use Rattle.cbor4ii_tree.specs.BoxedRaw.{CopiesItem, boxed_raw_spelling}
+use Rattle.cbor4ii_tree.specs.BoxedRaw.{CopiesItem, boxed_raw_format}
 use Rattle.cbor4ii_tree.proofs.raw_items.Unlent.{no_item}
 use Rattle.cbor4ii_tree.proofs.raw_items.Captured.{item_at, skips_read, raw_decodes, raw_memory}
-use Rattle.cbor4ii_tree.proofs.raw_items.Captured.{raw_unmoved, raw_refused, raw_whole, raw_exact}
+use Rattle.cbor4ii_tree.proofs.raw_items.Captured.{raw_unmoved, raw_rejected, raw_whole, raw_exact}
 
 -- ---- a copy of what was lent
 
 -- no byte is lent, so no item is
 pub none_read : {lent shown : List ℕ} {budget : Budget} {n : ℕ} {A : Type 0} → lent ≡ []
-    → shown ≡ lent → SkipsFront shown budget n → A
+    → shown ≡ lent → SkipsPrefix shown budget n → A
 none_read none is item = absurd (no_item none is item)
 
 -- ---- what a copied item says of the bytes
 
 module _ {E : Type 0} (a b : View) where
   copy_decodes : (r : Result BoxedRawValue (DecodeError E)) → CapturesCopy a b r
-      → Decodes boxed_raw_spelling a b r
+      → Decodes boxed_raw_format a b r
   copy_decodes (Ok v) c =
-      in_memory (raw_spelling boxed_content) (Ok v) (raw_decodes boxed_content a b (Ok v) c)
+      in_memory (raw_format boxed_content) (Ok v) (raw_decodes boxed_content a b (Ok v) c)
   copy_decodes (Err e) (inl n) =
-      in_memory (raw_spelling boxed_content) (Err e) (raw_decodes boxed_content a b (Err e) n)
+      in_memory (raw_format boxed_content) (Err e) (raw_decodes boxed_content a b (Err e) n)
   copy_decodes (Err e) (inr l) =
-      subst (λ (z : DecodeError E). Decodes boxed_raw_spelling a b (Err z)) (sym l.lacks)
-      (out_of_memory boxed_raw_spelling refl l.captured.lends.kept)
+      subst (λ (z : DecodeError E). Decodes boxed_raw_format a b (Err z)) (sym l.lacks)
+      (out_of_memory boxed_raw_format refl l.captured.lends.kept)
 
   copy_whole : (r : Result BoxedRawValue (DecodeError E)) → CapturesCopy a b r → IsExact false a
-      → Told a.told (λ xs. (t : Tree) (rest : List ℕ) → Skips xs a.budget t rest
-      → Answered (λ v. (boxed_content v ≡ bytes t) × (b.told ≡ Some rest)) (λ _. ⊥) r)
+      → IfKnown a.known (λ xs. (t : Tree) (rest : List ℕ) → Skips xs a.budget t rest
+      → Answered (λ v. (boxed_content v ≡ bytes t) × (b.known ≡ Some rest)) (λ _. ⊥) r)
   copy_whole (Ok v) c exact = raw_whole {E = E} boxed_content a b (Ok v) c exact
   copy_whole (Err e) (inl n) exact = raw_whole boxed_content a b (Err e) n exact
   copy_whole (Err e) (inr l) exact =
-      λ xs told t rest s. subst (λ (z : DecodeError E). Answered {V = BoxedRawValue}
-      (λ v. (boxed_content v ≡ bytes t) × (b.told ≡ Some rest)) (λ _. ⊥) (Err z))
+      λ xs known t rest s. subst (λ (z : DecodeError E). Answered {V = BoxedRawValue}
+      (λ v. (boxed_content v ≡ bytes t) × (b.known ≡ Some rest)) (λ _. ⊥) (Err z))
       (sym l.lacks) tt
 
   copy_exact : (r : Result BoxedRawValue (DecodeError E)) → CapturesCopy a b r → IsExact false a
-      → Told a.told (λ xs. (e : Refusal) (left : List ℕ) → StopsSkipping xs a.budget e left
-      → Answered (λ _. ⊥) (λ f. (f ≡ e) × (b.told ≡ Some xs)) r)
+      → IfKnown a.known (λ xs. (e : InputError) (left : List ℕ) → SkippingRejects xs a.budget e left
+      → Answered (λ _. ⊥) (λ f. (f ≡ e) × (b.known ≡ Some xs)) r)
   copy_exact (Ok v) c exact = raw_exact {E = E} boxed_content a b (Ok v) c exact
   copy_exact (Err e) (inl n) exact = raw_exact boxed_content a b (Err e) n exact
   copy_exact (Err e) (inr l) exact =
-      λ xs told z left s. subst (λ (y : DecodeError E). Answered {V = BoxedRawValue} (λ _. ⊥)
-      (λ f. (f ≡ z) × (b.told ≡ Some xs)) (Err y)) (sym l.lacks) tt
+      λ xs known z left s. subst (λ (y : DecodeError E). Answered {V = BoxedRawValue} (λ _. ⊥)
+      (λ f. (f ≡ z) × (b.known ≡ Some xs)) (Err y)) (sym l.lacks) tt
 
   copy_unmoved : (r : Result BoxedRawValue (DecodeError E)) → CapturesCopy a b r
       → IfErr r (UnmovedOrLacks a b)
@@ -67,27 +67,27 @@ module _ {E : Type 0} (a b : View) where
   copy_unmoved (Err e) (inr l) =
       inl (subst (λ (z : DecodeError E). IsTrue (is_out_of_memory z)) (sym l.lacks) refl)
 
-  copy_refused : (r : Result BoxedRawValue (DecodeError E)) → CapturesCopy a b r
-      → Told a.told (λ xs. Refused (RefusedFront a xs) r)
-  copy_refused (Ok v) c = λ xs told. tt
-  copy_refused (Err e) (inl n) = raw_refused boxed_content a b (Err e) n
-  copy_refused (Err e) (inr l) = λ xs told.
-      subst (λ (z : DecodeError E). Refused {V = BoxedRawValue} (RefusedFront a xs) (Err z))
+  copy_rejected : (r : Result BoxedRawValue (DecodeError E)) → CapturesCopy a b r
+      → IfKnown a.known (λ xs. Rejected (RejectedPrefix a xs) r)
+  copy_rejected (Ok v) c = λ xs known. tt
+  copy_rejected (Err e) (inl n) = raw_rejected boxed_content a b (Err e) n
+  copy_rejected (Err e) (inr l) = λ xs known.
+      subst (λ (z : DecodeError E). Rejected {V = BoxedRawValue} (RejectedPrefix a xs) (Err z))
       (sym l.lacks) tt
 
-  copy_behind : (r : Result BoxedRawValue (DecodeError E)) → CapturesCopy a b r
-      → IfErr r (λ e. IsTrue (is_out_of_memory e) → Told a.told (SkippedTo a b))
-  copy_behind (Ok v) c = tt
-  copy_behind (Err e) (inl n) =
+  copy_after : (r : Result BoxedRawValue (DecodeError E)) → CapturesCopy a b r
+      → IfErr r (λ e. IsTrue (is_out_of_memory e) → IfKnown a.known (SkippedTo a b))
+  copy_after (Ok v) c = tt
+  copy_after (Err e) (inl n) =
       λ out. let never : false ≡ true = raw_memory boxed_content a b (Err e) n out in cc
-  copy_behind (Err e) (inr l) = λ out xs told.
+  copy_after (Err e) (inr l) = λ out xs known.
       let c = l.captured in
-      let p = item_at (λ (z : List ℕ). z) a b l.item c xs told in (
-        p.spelled,
+      let p = item_at (λ (z : List ℕ). z) a b l.item c xs known in (
+        p.of_tree,
         drop c.count xs,
         skips_read xs c.count (skip_cost c.item.skipped) a.budget p
             c.item.skips.fits,
-        (c.lends.at xs told).1,
+        (c.lends.at xs known).1,
       )
 
   pub copies_item : (r : Result BoxedRawValue (DecodeError E)) → CapturesCopy a b r
@@ -95,8 +95,8 @@ module _ {E : Type 0} (a b : View) where
   copies_item r c = record {
     decodes = copy_decodes r c;
     unmoved = copy_unmoved r c;
-    refuses = copy_refused r c;
-    behind = copy_behind r c;
+    errs = copy_rejected r c;
+    trailing = copy_after r c;
     whole = copy_whole r c;
     exact = copy_exact r c;
   }

@@ -5,21 +5,21 @@ use Rattle.cbor4ii_rw.specs.View.{View}
 use Rattle.cbor4ii_rw.specs.Long.{FillsLong}
 use Rattle.cbor4ii_rw.specs.Reader.{KeepsAllButBudget}
 use Rattle.cbor4ii_rw.specs.declared.error.DecodeError.{DecodeError}
-use Rattle.cbor4ii_items.specs.Decoding.{Stops}
-use Rattle.cbor4ii_items.specs.Refusal.{refusal_of, is_out_of_memory}
+use Rattle.cbor4ii_items.specs.Decoding.{Rejects}
+use Rattle.cbor4ii_items.specs.InputError.{input_error_of, is_out_of_memory}
 use Rattle.cbor4ii_tree.specs.Tree.{bytes}
 use Rattle.cbor4ii_tree.specs.Cost.{Budget}
 use Rattle.cbor4ii_tree.specs.Laws.Initials.{length-bytes-pos}
-use Rattle.cbor4ii_tree.specs.StopsSkipping.{StopsSkipping}
-use Rattle.cbor4ii_tree.specs.Raw.{most, SkipsFront, StopsFront}
-use Rattle.cbor4ii_tree.specs.BoxedRaw.{StopsRawUnlent}
+use Rattle.cbor4ii_tree.specs.SkippingRejects.{SkippingRejects}
+use Rattle.cbor4ii_tree.specs.Raw.{most, SkipsPrefix, RejectsPrefix}
+use Rattle.cbor4ii_tree.specs.BoxedRaw.{RejectsRawUnlent}
 use Rattle.cbor4ii_tree.proofs.raw_items.Captured.{if_some}
 
 -- no item stands in no bytes
 pub no_item : {budget : Budget} {shown lent : List ℕ} {n : ℕ} → lent ≡ [] → shown ≡ lent
-    → SkipsFront shown budget n → ⊥
+    → SkipsPrefix shown budget n → ⊥
 no_item {budget = budget} {n = n} none is item =
-    let i = subst (λ z. SkipsFront z budget n) (is ∙ none) item in
+    let i = subst (λ z. SkipsPrefix z budget n) (is ∙ none) item in
     absurd (omega (
       arith,
       ap length i.skips.begins,
@@ -28,27 +28,28 @@ no_item {budget = budget} {n = n} none is item =
     ))
 
 -- no byte is left
-pub none_stops : {E : Type 0} {shown lent : List ℕ} {a m k : View} {e : DecodeError E} → lent ≡ []
-    → shown ≡ lent → FillsLong most lent a m → StopsFront shown m.budget e → KeepsAllButBudget m k
-    → (is_out_of_memory e ≡ false) × Stops StopsRawUnlent a k e
-none_stops {a = a} {m = m} {k = k} {e = e} none is lent stops same =
+pub none_rejects : {E : Type 0} {shown lent : List ℕ} {a m k : View} {e : DecodeError E} → lent ≡ []
+    → shown ≡ lent → FillsLong most lent a m → RejectsPrefix shown m.budget e →
+    KeepsAllButBudget m k
+    → (is_out_of_memory e ≡ false) × Rejects RejectsRawUnlent a k e
+none_rejects {a = a} {m = m} {k = k} {e = e} none is lent rejects same =
     let l = subst (λ z. FillsLong most z a m) none lent in
-    let s = subst (λ z. StopsFront z m.budget e) (is ∙ none) stops in (
+    let s = subst (λ z. RejectsPrefix z m.budget e) (is ∙ none) rejects in (
       s.memory,
       record {
-        at = λ xs told.
-            if_some (refusal_of e) (λ z. (left : List ℕ) × StopsSkipping [] m.budget z left)
-            (λ z. (rest : List ℕ) × (k.told ≡ Some rest) × StopsRawUnlent xs a.budget z rest)
+        at = λ xs known.
+            if_some (input_error_of e) (λ z. (left : List ℕ) × SkippingRejects [] m.budget z left)
+            (λ z. (rest : List ℕ) × (k.known ≡ Some rest) × RejectsRawUnlent xs a.budget z rest)
             (λ z h. (
               xs,
-              same.told ∙ l.shows.told xs told,
+              same.known ∙ l.shows.known xs known,
               (
                 refl,
                 inr (
-                  (l.front xs told).ends (omega arith) refl,
-                  (h.0, subst (λ o. StopsSkipping [] o z h.0) l.shows.budget h.1),
+                  (l.prefix xs known).ends (omega arith) refl,
+                  (h.0, subst (λ o. SkippingRejects [] o z h.0) l.shows.budget h.1),
                 ),
               ),
-            )) s.stops;
+            )) s.rejects;
       },
     )

@@ -7,16 +7,16 @@ use Rattle.cbor4ii_tree.specs.Item.{Item}
 use Rattle.cbor4ii_tree.specs.Meaning.{value}
 use Rattle.cbor4ii_items.specs.Decoding.{CostFits}
 use Rattle.cbor4ii_tree.specs.Cost.{Budget, cost}
-use Rattle.cbor4ii_tree.specs.Refusal.{Refusal}
-use Rattle.cbor4ii_tree.specs.Spelling.{ReadsPlainly, SomeAnswer, AtMostOne}
-use Rattle.cbor4ii_tree.specs.StopsReading.{Readable, StopsReading}
+use Rattle.cbor4ii_tree.specs.InputError.{InputError}
+use Rattle.cbor4ii_tree.specs.Encodings.{DecodesTo, SomeAnswer, AtMostOne}
+use Rattle.cbor4ii_tree.specs.ReadingRejects.{Readable, ReadingRejects}
 use Rattle.cbor4ii_tree.specs.Read.{read, read_tree}
 use Rattle.cbor4ii_tree.proofs.answers.Answers.{some_answer_of, at_most_one_of}
 use Rattle.cbor4ii_tree.specs.Laws.Binds.{parts, apart, bind_ok, bind_err, then_err, no_err}
 use Rattle.cbor4ii_tree.proofs.reading.Again.{read_again}
 use Rattle.cbor4ii_tree.proofs.reading.Sound.{read_sound}
-use Rattle.cbor4ii_tree.proofs.reading.Refuses.{read_refuses}
-use Rattle.cbor4ii_tree.proofs.reading.Stops.{read_stops}
+use Rattle.cbor4ii_tree.proofs.reading.Rejects.{read_errs}
+use Rattle.cbor4ii_tree.proofs.reading.Rejections.{read_rejects}
 
 -- a plain tree that fits is read as its value
 pub read_plain : (t : Tree) (budget : Budget) (rest : List ℕ) → Readable budget t
@@ -25,25 +25,25 @@ read_plain t budget rest w =
     rw (read_again (suc (length (bytes t ++ rest))) budget t rest w (omega arith)) refl
 
 pub read_from_Reads : (input : List ℕ) (budget : Budget) (v : Item) (rest : List ℕ)
-    → ReadsPlainly input budget v rest → read budget input ≡ Ok (v, rest)
+    → DecodesTo input budget v rest → read budget input ≡ Ok (v, rest)
 read_from_Reads input budget v rest r =
-    let s = r.spells in
-    let same : input ≡ bytes s.spelled ++ rest = r.begins ∙ ap (λ x. x ++ rest) (sym s.bytes_are) in
-    let fits : CostFits (cost s.spelled) budget = rw s.cost_is r.fits in
-    ap (read budget) same ∙ read_plain s.spelled budget rest (s.plain, fits)
+    let s = r.encodes in
+    let same : input ≡ bytes s.of_tree ++ rest = r.begins ∙ ap (λ x. x ++ rest) (sym s.bytes_are) in
+    let fits : CostFits (cost s.of_tree) budget = rw s.cost_is r.fits in
+    ap (read budget) same ∙ read_plain s.of_tree budget rest (s.plain, fits)
     ∙ ap (λ w. Ok (w, rest)) s.value_is
 
 pub Reads_from_read : (input : List ℕ) (budget : Budget) (v : Item) (rest : List ℕ) → IsBytes input
-    → read budget input ≡ Ok (v, rest) → ReadsPlainly input budget v rest
+    → read budget input ≡ Ok (v, rest) → DecodesTo input budget v rest
 Reads_from_read input budget v rest h e =
     let x = bind_ok (read_tree budget input) (λ p. Ok (value p.0, p.1)) (v, rest) e in
     let took = read_sound (suc (length input)) budget input x.0 h x.1 in
     let same = parts (Ok (value x.0.0, x.0.1)) (value x.0.0) v x.0.1 rest refl x.2 in
     record {
-      spelling = bytes x.0.0;
+      encoding = bytes x.0.0;
       steps = cost x.0.0;
-      spells = record {
-        spelled = x.0.0;
+      encodes = record {
+        of_tree = x.0.0;
         plain = took.whole.0;
         bytes_are = refl;
         value_is = same.0;
@@ -53,36 +53,37 @@ Reads_from_read input budget v rest h e =
       begins = took.is ∙ ap (λ y. bytes x.0.0 ++ y) same.1;
     }
 
-pub read_from_Stops : (input : List ℕ) (budget : Budget) (e : Refusal) (rest : List ℕ)
-    → StopsReading input budget e rest → read budget input ≡ Err (e, rest)
-read_from_Stops input budget e rest s =
+pub read_from_Rejects : (input : List ℕ) (budget : Budget) (e : InputError) (rest : List ℕ)
+    → ReadingRejects input budget e rest → read budget input ≡ Err (e, rest)
+read_from_Rejects input budget e rest s =
     then_err (read_tree budget input) _ (e, rest)
-    (read_stops (suc (length input)) budget input e rest (omega arith) s)
+    (read_rejects (suc (length input)) budget input e rest (omega arith) s)
 
-pub Stops_from_read : (input : List ℕ) (budget : Budget) (e : Refusal) (rest : List ℕ)
-    → IsBytes input → read budget input ≡ Err (e, rest) → StopsReading input budget e rest
-Stops_from_read input budget e rest h x =
+pub Rejects_from_read : (input : List ℕ) (budget : Budget) (e : InputError) (rest : List ℕ)
+    → IsBytes input → read budget input ≡ Err (e, rest) → ReadingRejects input budget e rest
+Rejects_from_read input budget e rest h x =
     elim (bind_err (read_tree budget input) (λ p. Ok (value p.0, p.1)) (e, rest) x) [
-      | inl g ↦ read_refuses (suc (length input)) budget input e rest h (omega arith) g
+      | inl g ↦ read_errs (suc (length input)) budget input e rest h (omega arith) g
       | inr g ↦ absurd (no_err {A = Item} _ _ g.2)
     ]
 
 pub some_reading : (input : List ℕ) (budget : Budget) → IsBytes input
-    → SomeAnswer (ReadsPlainly input budget) (StopsReading input budget)
+    → SomeAnswer (DecodesTo input budget) (ReadingRejects input budget)
 some_reading input budget h =
-    some_answer_of (read budget input) (ReadsPlainly input budget) (StopsReading input budget)
-    (λ v x. Reads_from_read input budget v x h) (λ e x. Stops_from_read input budget e x h)
+    some_answer_of (read budget input) (DecodesTo input budget) (ReadingRejects input budget)
+    (λ v x. Reads_from_read input budget v x h) (λ e x. Rejects_from_read input budget e x h)
 
 -- of any numbers
 pub one_reading : (input : List ℕ) (budget : Budget)
-    → AtMostOne (ReadsPlainly input budget) (StopsReading input budget)
+    → AtMostOne (DecodesTo input budget) (ReadingRejects input budget)
 one_reading input budget =
-    at_most_one_of (read budget input) (ReadsPlainly input budget) (StopsReading input budget)
-    (read_from_Reads input budget) (read_from_Stops input budget)
+    at_most_one_of (read budget input) (DecodesTo input budget) (ReadingRejects input budget)
+    (read_from_Reads input budget) (read_from_Rejects input budget)
 
 -- what is accepted does not stop, of any numbers
-pub not_both : (input : List ℕ) (budget : Budget) (v : Item) (x : List ℕ) (e : Refusal) (y : List ℕ)
-    → ReadsPlainly input budget v x → StopsReading input budget e y → ⊥
+pub not_both : (input : List ℕ) (budget : Budget) (v : Item) (x : List ℕ) (e : InputError)
+    (y : List ℕ)
+    → DecodesTo input budget v x → ReadingRejects input budget e y → ⊥
 not_both input budget v x e y s u =
     apart (read budget input) (v, x) (e, y) (read_from_Reads input budget v x s)
-    (read_from_Stops input budget e y u)
+    (read_from_Rejects input budget e y u)

@@ -1,4 +1,4 @@
--- Strings and chunks: read back, sound, refused, and stopping.
+-- Strings and chunks: read back, sound, rejected, and stopping.
 use Rattle.std.proofs.Common.{◌≡◌, ℕ, ◌+◌, ◌*◌, inl, inr, List, [], ◌∷◌, ◌++◌, length, Ok, Err}
 use Rattle.std.proofs.Common.{refl, sym, subst, append_assoc}
 use Rattle.std.proofs.lemmas.Str.{is_utf8-from_IsUtf8}
@@ -6,27 +6,29 @@ use Rattle.std.specs.Int.{bytes_high_first}
 use Rattle.cbor4ii_items.specs.Head.{Width, HeadFits, additional, byte_count, head, IsBytes}
 use Rattle.cbor4ii_items.specs.Initial.{Kind, byte_string, text_string, kind_major, Initial}
 use Rattle.cbor4ii_items.specs.Initial.{starts_string, starts_chunks, initial}
-use Rattle.cbor4ii_tree.specs.Tree.{Tree, int, string, chunked, array, array_open, map_of, map_open}
+use Rattle.cbor4ii_tree.specs.Tree.{Tree, int, string, chunked, array, array_indefinite, map_of}
+use Rattle.cbor4ii_tree.specs.Tree.{map_indefinite}
 use Rattle.cbor4ii_tree.specs.Tree.{tagged, simple, bits, TextIsUtf8}
 use Rattle.cbor4ii_items.specs.Decoding.{CostFits}
 use Rattle.cbor4ii_items.specs.Laws.Answering.{fits_zero}
 use Rattle.cbor4ii_tree.specs.Cost.{Budget, step_in}
-use Rattle.cbor4ii_tree.specs.Refusal.{Refusal, kind_name}
-use Rattle.cbor4ii_tree.specs.Stops.{Missing}
-use Rattle.cbor4ii_tree.specs.StopsReading.{ReadableChunk, CutString, ChunkStopsBy, ChunkStops}
-use Rattle.cbor4ii_tree.specs.Parse.{◌>>=◌, front_at, argument_of_width}
-use Rattle.cbor4ii_tree.specs.Read.{tested, counted_string_at, chunk_tree_by, chunk_tree_at}
+use Rattle.cbor4ii_tree.specs.InputError.{InputError, kind_name}
+use Rattle.cbor4ii_tree.specs.Rejections.{Missing}
+use Rattle.cbor4ii_tree.specs.ReadingRejects.{ReadableChunk, CutString, ChunkRejectsBy}
+use Rattle.cbor4ii_tree.specs.ReadingRejects.{ChunkRejects}
+use Rattle.cbor4ii_tree.specs.Parse.{◌>>=◌, prefix_at, argument_of_width}
+use Rattle.cbor4ii_tree.specs.Read.{tested, definite_string_at, chunk_tree_by, chunk_tree_at}
 use Rattle.cbor4ii_tree.specs.Laws.Binds.{bind_ok, bind_err, same_ok, no_ok, no_err, is_err, err}
 use Rattle.cbor4ii_tree.specs.Laws.Binds.{then_err, step_left, step_up, stepped_ok, stepped_err}
-use Rattle.cbor4ii_tree.specs.Laws.Binds.{stepped_stops}
+use Rattle.cbor4ii_tree.specs.Laws.Binds.{stepped_rejects}
 use Rattle.cbor4ii_tree.specs.Laws.Initials.{initial_string, begins}
-use Rattle.cbor4ii_tree.proofs.heads.Inverse.{front_inverse}
+use Rattle.cbor4ii_tree.proofs.heads.Inverse.{prefix_inverse}
 use Rattle.cbor4ii_tree.proofs.heads.Means.{HeadByte, Means, means, argument_inverse}
-use Rattle.cbor4ii_tree.specs.Laws.HeadsAgain.{front_again, argument_again}
+use Rattle.cbor4ii_tree.specs.Laws.HeadsAgain.{prefix_again, argument_again}
 use Rattle.cbor4ii_tree.specs.Laws.PartsAgain.{Again, StartNoBreak}
 use Rattle.cbor4ii_tree.proofs.parts.Sound.{Took, IsSound, counted}
-use Rattle.cbor4ii_tree.proofs.parts.Refuse.{Refuses, front_err, at_head}
-use Rattle.cbor4ii_tree.proofs.parts.Stop.{Gives, missing_front, head_stops}
+use Rattle.cbor4ii_tree.proofs.parts.Reject.{Complete, prefix_err, at_head}
+use Rattle.cbor4ii_tree.proofs.parts.Stop.{Gives, missing_prefix, head_rejects}
 
 pub chunks_start : (k : Kind) (b : Budget) → StartNoBreak (ReadableChunk k b)
 chunks_start k b t w = begins t w.0
@@ -39,11 +41,11 @@ tested_again byte_string content t x h = refl
 tested_again text_string content t x h = rw (is_utf8-from_IsUtf8 content h) refl
 
 pub string_again : (k : Kind) (w : Width) (content x : List ℕ) → HeadFits w (length content)
-    → counted_string_at k w (32 * kind_major k + additional w (length content))
+    → definite_string_at k w (32 * kind_major k + additional w (length content))
     (bytes_high_first (byte_count w) (length content) ++ (content ++ x)) ≡ Ok (content, x)
 string_again k w content x l =
     rw (argument_again (kind_name k) (kind_major k) (length content) w (content ++ x) l)
-    (front_again (kind_name k) (length content) content x refl)
+    (prefix_again (kind_name k) (length content) content x refl)
 
 pub record TookString (k : Kind) (w : Width) (b : ℕ) (bs : List ℕ)
     (p : List ℕ × List ℕ) : Type 0 where
@@ -52,13 +54,13 @@ pub record TookString (k : Kind) (w : Width) (b : ℕ) (bs : List ℕ)
   pub more : IsBytes p.1
 
 pub string_sound : (k : Kind) (w : Width) (b : ℕ) (bs : List ℕ) (p : List ℕ × List ℕ)
-    → HeadByte (kind_major k) w b → IsBytes bs → counted_string_at k w b bs ≡ Ok p
+    → HeadByte (kind_major k) w b → IsBytes bs → definite_string_at k w b bs ≡ Ok p
     → TookString k w b bs p
 string_sound k w b bs p m h e =
     let x = bind_ok (argument_of_width (kind_name k) w b bs)
-    (λ n. front_at (kind_name k) n.0 n.1) p e in
+    (λ n. prefix_at (kind_name k) n.0 n.1) p e in
     let top = argument_inverse (kind_name k) (kind_major k) x.0.0 w b bs x.0.1 h m x.1 in
-    let part = front_inverse (kind_name k) x.0.0 x.0.1 p.0 p.1 top.more x.2 in
+    let part = prefix_inverse (kind_name k) x.0.0 x.0.1 p.0 p.1 top.more x.2 in
     record {
       fits = subst (HeadFits w) (sym part.1) top.fits;
       is = counted (kind_major k) x.0.0
@@ -66,20 +68,20 @@ string_sound k w b bs p m h e =
       more = part.3;
     }
 
-pub string_refuses : (k : Kind) (w : Width) (b : ℕ) (bs : List ℕ) (e : Refusal) (rest : List ℕ)
-    → HeadByte (kind_major k) w b → IsBytes bs → counted_string_at k w b bs ≡ Err (e, rest)
+pub string_errs : (k : Kind) (w : Width) (b : ℕ) (bs : List ℕ) (e : InputError) (rest : List ℕ)
+    → HeadByte (kind_major k) w b → IsBytes bs → definite_string_at k w b bs ≡ Err (e, rest)
     → CutString k w b bs e rest
-string_refuses k w b bs e rest m h x =
-    at_head {A = List ℕ} (kind_name k) (kind_major k) w b bs (λ n. front_at (kind_name k) n.0 n.1)
-    (Missing (kind_name k)) e rest h m (λ n more le y. front_err (kind_name k) n.0 n.1 e rest y)
+string_errs k w b bs e rest m h x =
+    at_head {A = List ℕ} (kind_name k) (kind_major k) w b bs (λ n. prefix_at (kind_name k) n.0 n.1)
+    (Missing (kind_name k)) e rest h m (λ n more le y. prefix_err (kind_name k) n.0 n.1 e rest y)
     x
 
-pub string_stops : (k : Kind) (w : Width) (b : ℕ) (bs : List ℕ) (e : Refusal) (rest : List ℕ)
-    → CutString k w b bs e rest → counted_string_at k w b bs ≡ Err (e, rest)
-string_stops k w b bs e rest s =
-    head_stops {A = List ℕ} (kind_name k)
-    (kind_major k) w b bs (λ n. front_at (kind_name k) n.0 n.1) (Missing (kind_name k)) e rest
-    (λ n after le st. missing_front (kind_name k) n after e rest st) s
+pub string_rejects : (k : Kind) (w : Width) (b : ℕ) (bs : List ℕ) (e : InputError) (rest : List ℕ)
+    → CutString k w b bs e rest → definite_string_at k w b bs ≡ Err (e, rest)
+string_rejects k w b bs e rest s =
+    head_rejects {A = List ℕ} (kind_name k)
+    (kind_major k) w b bs (λ n. prefix_at (kind_name k) n.0 n.1) (Missing (kind_name k)) e rest
+    (λ n after le st. missing_prefix (kind_name k) n after e rest st) s
 
 -- ---- chunks
 
@@ -107,19 +109,19 @@ chunk_again k b bound (string j w content) x h lt =
 chunk_again k b bound (int s n w) x h lt = absurd h.1
 chunk_again k b bound (chunked j ts) x h lt = absurd h.1
 chunk_again k b bound (array w ts) x h lt = absurd h.1
-chunk_again k b bound (array_open ts) x h lt = absurd h.1
+chunk_again k b bound (array_indefinite ts) x h lt = absurd h.1
 chunk_again k b bound (map_of w ps) x h lt = absurd h.1
-chunk_again k b bound (map_open ps) x h lt = absurd h.1
+chunk_again k b bound (map_indefinite ps) x h lt = absurd h.1
 chunk_again k b bound (tagged n w t) x h lt = absurd h.1
 chunk_again k b bound (simple s) x h lt = absurd h.1
 chunk_again k b bound (bits p n) x h lt = absurd h.1
 
 same_chunk : (k : Kind) (budget : Budget) (w : Width) (b : ℕ) (bs : List ℕ) (p : Tree × List ℕ)
     → CostFits 1 budget → HeadByte (kind_major k) w b → IsBytes bs
-    → (counted_string_at k w b bs >>= λ q. Ok (string k w q.0, q.1)) ≡ Ok p
+    → (definite_string_at k w b bs >>= λ q. Ok (string k w q.0, q.1)) ≡ Ok p
     → Took (ReadableChunk k budget) (b ∷ bs) p
 same_chunk k budget w b bs p f m h e =
-    let x = bind_ok (counted_string_at k w b bs) (λ q. Ok (string k w q.0, q.1)) p e in
+    let x = bind_ok (definite_string_at k w b bs) (λ q. Ok (string k w q.0, q.1)) p e in
     let took = string_sound k w b bs x.0 m h x.1 in
     subst (Took (ReadableChunk k budget) (b ∷ bs)) (same_ok _ (string k w x.0.0, x.0.1) p refl x.2)
     (record { whole = (took.fits, refl, f); is = took.is; more = took.more })
@@ -154,16 +156,17 @@ chunk_sound k budget (b ∷ bs) p h e =
     chunk_tree_by_sound k budget (initial b) b bs p (step_up budget t.0 0 t.1 (fits_zero t.0))
     (means b h.0) h.1 t.2
 
-same_chunk_err : (k : Kind) (w : Width) (b : ℕ) (bs : List ℕ) (e : Refusal) (rest : List ℕ)
+same_chunk_err : (k : Kind) (w : Width) (b : ℕ) (bs : List ℕ) (e : InputError) (rest : List ℕ)
     → HeadByte (kind_major k) w b → IsBytes bs
-    → (counted_string_at k w b bs >>= λ q. Ok (string k w q.0, q.1)) ≡ Err (e, rest)
+    → (definite_string_at k w b bs >>= λ q. Ok (string k w q.0, q.1)) ≡ Err (e, rest)
     → CutString k w b bs e rest
 same_chunk_err k w b bs e rest m h x =
-    elim (bind_err (counted_string_at k w b bs) (λ q. Ok (string k w q.0, q.1)) (e, rest) x)
-    [ inl g ↦ string_refuses k w b bs e rest m h g | inr g ↦ absurd (no_err _ _ g.2) ]
+    elim (bind_err (definite_string_at k w b bs) (λ q. Ok (string k w q.0, q.1)) (e, rest) x)
+    [ inl g ↦ string_errs k w b bs e rest m h g | inr g ↦ absurd (no_err _ _ g.2) ]
 
-chunk_tree_by_err : (k : Kind) (i : Initial) (b : ℕ) (bs : List ℕ) (e : Refusal) (rest : List ℕ)
-    → Means b i → IsBytes bs → chunk_tree_by k i b bs ≡ Err (e, rest) → ChunkStopsBy k i b bs e rest
+chunk_tree_by_err : (k : Kind) (i : Initial) (b : ℕ) (bs : List ℕ) (e : InputError) (rest : List ℕ)
+    → Means b i → IsBytes bs → chunk_tree_by k i b bs ≡ Err (e, rest) → ChunkRejectsBy k i b
+    bs e rest
 chunk_tree_by_err byte_string (starts_string byte_string w) b bs e rest m h x =
     same_chunk_err byte_string w b bs e rest m h x
 chunk_tree_by_err text_string (starts_string text_string w) b bs e rest m h x =
@@ -183,35 +186,36 @@ chunk_tree_by_err text_string (starts_chunks byte_string) b bs e rest m h x =
 chunk_tree_by_err byte_string _ b bs e rest m h x = is_err {A = Tree} _ _ _ _ x
 chunk_tree_by_err text_string _ b bs e rest m h x = is_err {A = Tree} _ _ _ _ x
 
-pub chunk_refuses : (k : Kind) (budget : Budget) (bound : ℕ)
-    → Refuses (chunk_tree_at k budget) (ChunkStops k budget) bound
-chunk_refuses k budget bound [] e rest h lt x = is_err {A = Tree} _ _ _ _ x
-chunk_refuses k budget bound (b ∷ bs) e rest h lt x =
+pub chunk_errs : (k : Kind) (budget : Budget) (bound : ℕ)
+    → Complete (chunk_tree_at k budget) (ChunkRejects k budget) bound
+chunk_errs k budget bound [] e rest h lt x = is_err {A = Tree} _ _ _ _ x
+chunk_errs k budget bound (b ∷ bs) e rest h lt x =
     stepped_err (kind_name k) (step_in budget) (b ∷ bs) (λ inner. chunk_tree_by k (initial b) b bs)
-    (λ inner. ChunkStopsBy k (initial b) b bs) e rest
+    (λ inner. ChunkRejectsBy k (initial b) b bs) e rest
     (λ inner is y. chunk_tree_by_err k (initial b) b bs e rest (means b h.0) h.1 y) x
 
-chunk_tree_by_stops : (k : Kind) (i : Initial) (b : ℕ) (bs : List ℕ) (e : Refusal) (rest : List ℕ)
-    → ChunkStopsBy k i b bs e rest → chunk_tree_by k i b bs ≡ Err (e, rest)
-chunk_tree_by_stops byte_string (starts_string byte_string w) b bs e rest s =
-    then_err (counted_string_at byte_string w b bs) _ (e, rest)
-    (string_stops byte_string w b bs e rest s)
-chunk_tree_by_stops text_string (starts_string text_string w) b bs e rest s =
-    then_err (counted_string_at text_string w b bs) _ (e, rest)
-    (string_stops text_string w b bs e rest s)
-chunk_tree_by_stops byte_string (starts_string text_string w) b bs e rest s = err _ _ _ _ s
-chunk_tree_by_stops text_string (starts_string byte_string w) b bs e rest s = err _ _ _ _ s
-chunk_tree_by_stops byte_string (starts_chunks byte_string) b bs e rest s = err _ _ _ _ s
-chunk_tree_by_stops text_string (starts_chunks text_string) b bs e rest s = err _ _ _ _ s
-chunk_tree_by_stops byte_string (starts_chunks text_string) b bs e rest s = err _ _ _ _ s
-chunk_tree_by_stops text_string (starts_chunks byte_string) b bs e rest s = err _ _ _ _ s
-chunk_tree_by_stops byte_string _ b bs e rest s = err _ _ _ _ s
-chunk_tree_by_stops text_string _ b bs e rest s = err _ _ _ _ s
+chunk_tree_by_rejects : (k : Kind) (i : Initial) (b : ℕ) (bs : List ℕ) (e : InputError)
+    (rest : List ℕ)
+    → ChunkRejectsBy k i b bs e rest → chunk_tree_by k i b bs ≡ Err (e, rest)
+chunk_tree_by_rejects byte_string (starts_string byte_string w) b bs e rest s =
+    then_err (definite_string_at byte_string w b bs) _ (e, rest)
+    (string_rejects byte_string w b bs e rest s)
+chunk_tree_by_rejects text_string (starts_string text_string w) b bs e rest s =
+    then_err (definite_string_at text_string w b bs) _ (e, rest)
+    (string_rejects text_string w b bs e rest s)
+chunk_tree_by_rejects byte_string (starts_string text_string w) b bs e rest s = err _ _ _ _ s
+chunk_tree_by_rejects text_string (starts_string byte_string w) b bs e rest s = err _ _ _ _ s
+chunk_tree_by_rejects byte_string (starts_chunks byte_string) b bs e rest s = err _ _ _ _ s
+chunk_tree_by_rejects text_string (starts_chunks text_string) b bs e rest s = err _ _ _ _ s
+chunk_tree_by_rejects byte_string (starts_chunks text_string) b bs e rest s = err _ _ _ _ s
+chunk_tree_by_rejects text_string (starts_chunks byte_string) b bs e rest s = err _ _ _ _ s
+chunk_tree_by_rejects byte_string _ b bs e rest s = err _ _ _ _ s
+chunk_tree_by_rejects text_string _ b bs e rest s = err _ _ _ _ s
 
-pub chunk_stops : (k : Kind) (budget : Budget) (bound : ℕ)
-    → Gives (chunk_tree_at k budget) (ChunkStops k budget) bound
-chunk_stops k budget bound [] e rest lt s = err _ _ _ _ s
-chunk_stops k budget bound (b ∷ bs) e rest lt s =
-    stepped_stops (kind_name k) (step_in budget) (b ∷ bs)
-    (λ inner. chunk_tree_by k (initial b) b bs) (λ inner. ChunkStopsBy k (initial b) b bs) e
-    rest (λ inner is y. chunk_tree_by_stops k (initial b) b bs e rest y) s
+pub chunk_rejects : (k : Kind) (budget : Budget) (bound : ℕ)
+    → Gives (chunk_tree_at k budget) (ChunkRejects k budget) bound
+chunk_rejects k budget bound [] e rest lt s = err _ _ _ _ s
+chunk_rejects k budget bound (b ∷ bs) e rest lt s =
+    stepped_rejects (kind_name k) (step_in budget) (b ∷ bs)
+    (λ inner. chunk_tree_by k (initial b) b bs) (λ inner. ChunkRejectsBy k (initial b) b bs) e
+    rest (λ inner is y. chunk_tree_by_rejects k (initial b) b bs e rest y) s

@@ -6,29 +6,32 @@ use Rattle.std.specs.Str.{is_utf8}
 use Rattle.cbor4ii_items.specs.Head.{HeadFits, IsBytes}
 use Rattle.cbor4ii_items.specs.Initial.{sign_major, Kind, byte_string, text_string, precision_bytes}
 use Rattle.cbor4ii_items.specs.Initial.{Initial, starts_int, bad_int, starts_string, starts_chunks}
-use Rattle.cbor4ii_items.specs.Initial.{bad_string, starts_array, starts_open_array, bad_array}
-use Rattle.cbor4ii_items.specs.Initial.{starts_map, starts_open_map, bad_map, starts_tag, bad_tag}
+use Rattle.cbor4ii_items.specs.Initial.{bad_string, starts_array, starts_indefinite_array}
+use Rattle.cbor4ii_items.specs.Initial.{bad_array}
+use Rattle.cbor4ii_items.specs.Initial.{starts_map, starts_indefinite_map, bad_map, starts_tag}
+use Rattle.cbor4ii_items.specs.Initial.{bad_tag}
 use Rattle.cbor4ii_items.specs.Initial.{starts_simple, starts_bits, other_simple, initial}
-use Rattle.cbor4ii_tree.specs.Tree.{Tree, int, string, chunked, array, array_open, map_of, map_open}
+use Rattle.cbor4ii_tree.specs.Tree.{Tree, int, string, chunked, array, array_indefinite, map_of}
+use Rattle.cbor4ii_tree.specs.Tree.{map_indefinite}
 use Rattle.cbor4ii_tree.specs.Tree.{tagged, simple, bits, Trees, no_trees, tree, count, pair_count}
 use Rattle.cbor4ii_tree.specs.Tree.{bytes, bytes_all, bytes_pairs, joined_chunks, TextIsUtf8}
 use Rattle.cbor4ii_items.specs.Decoding.{CostFits}
 use Rattle.cbor4ii_items.specs.Laws.Answering.{fits_zero}
 use Rattle.cbor4ii_items.specs.Laws.SequenceParts.{fits_less}
 use Rattle.cbor4ii_tree.specs.Cost.{Budget, step_in, chunks_cost}
-use Rattle.cbor4ii_tree.specs.Refusal.{sign_name, precision_name, array_name, map_name, tag_name}
-use Rattle.cbor4ii_tree.specs.Refusal.{value_name}
-use Rattle.cbor4ii_tree.specs.Stops.{Each}
-use Rattle.cbor4ii_tree.specs.StopsReading.{Readable, ReadableChunk}
+use Rattle.cbor4ii_tree.specs.InputError.{sign_name, precision_name, array_name, map_name, tag_name}
+use Rattle.cbor4ii_tree.specs.InputError.{value_name}
+use Rattle.cbor4ii_tree.specs.Rejections.{Each}
+use Rattle.cbor4ii_tree.specs.ReadingRejects.{Readable, ReadableChunk}
 use Rattle.cbor4ii_tree.specs.Parse.{Parser, ◌>>=◌, number_at, argument_of_width, trees_at}
-use Rattle.cbor4ii_tree.specs.Parse.{pairs_at, open_trees_at, open_pairs_at}
-use Rattle.cbor4ii_tree.specs.Read.{tested, counted_string_at, chunk_tree_at, read_by, read_from}
+use Rattle.cbor4ii_tree.specs.Parse.{pairs_at, indefinite_trees_at, indefinite_pairs_at}
+use Rattle.cbor4ii_tree.specs.Read.{tested, definite_string_at, chunk_tree_at, read_by, read_from}
 use Rattle.cbor4ii_tree.specs.Read.{read_within}
 use Rattle.cbor4ii_tree.specs.Laws.Binds.{bind_ok, same_ok, no_ok, chosen, stepped_ok, step_up}
 use Rattle.cbor4ii_tree.proofs.heads.Inverse.{number_inverse}
 use Rattle.cbor4ii_tree.proofs.heads.Means.{Means, means, argument_inverse}
 use Rattle.cbor4ii_tree.proofs.parts.Sound.{Took, IsSound, trees_sound, pairs_sound}
-use Rattle.cbor4ii_tree.proofs.parts.Sound.{open_trees_sound, open_pairs_sound, counted}
+use Rattle.cbor4ii_tree.proofs.parts.Sound.{indefinite_trees_sound, indefinite_pairs_sound, counted}
 use Rattle.cbor4ii_tree.specs.Laws.Wholes.{all_readable, all_pairs_readable, all_chunks}
 use Rattle.cbor4ii_tree.proofs.reading.Chunks.{string_sound, chunk_sound}
 
@@ -68,15 +71,15 @@ by_sound item b outer s up (starts_int sg w) a bs p m h e =
     (record { whole = ((top.fits, tt), up 0 (fits_zero b)); is = top.is; more = top.more })
 by_sound item b outer s up (bad_int sg) a bs p m h e = absurd (no_ok {A = Tree} _ p e)
 by_sound item b outer s up (starts_string k w) a bs p m h e =
-    let x = bind_ok (counted_string_at k w a bs) (λ q. tested k q.0 (string k w q.0) q.1) p e in
+    let x = bind_ok (definite_string_at k w a bs) (λ q. tested k q.0 (string k w q.0) q.1) p e in
     let took = string_sound k w a bs x.0 m h x.1 in
     let test = tested_sound k x.0.0 (string k w x.0.0) x.0.1 p x.2 in
     subst (Took (Readable outer) (a ∷ bs)) test.1 (record
     { whole = ((took.fits, test.0), up 0 (fits_zero b)); is = took.is; more = took.more })
 by_sound item b outer s up (starts_chunks k) a bs p m h e =
-    let x = bind_ok (open_trees_at (chunk_tree_at k b) (suc (length bs)) bs)
+    let x = bind_ok (indefinite_trees_at (chunk_tree_at k b) (suc (length bs)) bs)
     (λ q. tested k (joined_chunks q.0) (chunked k q.0) q.1) p e in
-    let all = open_trees_sound (chunk_tree_at k b) (ReadableChunk k b) (chunk_sound k b)
+    let all = indefinite_trees_sound (chunk_tree_at k b) (ReadableChunk k b) (chunk_sound k b)
     (suc (length bs)) bs x.0 h x.1 in
     let test = tested_sound k (joined_chunks x.0.0) (chunked k x.0.0) x.0.1 p x.2 in
     let w = all_chunks k x.0.0 b all.whole in
@@ -109,16 +112,16 @@ by_sound item b outer s up (starts_array w) a bs p m h e =
           all.is;
       more = all.more;
     })
-by_sound item b outer s up starts_open_array a bs p m h e =
-    let t = stepped_ok array_name (step_in b) (a ∷ bs) (λ inner. open_trees_at (item inner)
-    (suc (length bs)) bs >>= λ q. Ok (array_open q.0, q.1)) p e in
+by_sound item b outer s up starts_indefinite_array a bs p m h e =
+    let t = stepped_ok array_name (step_in b) (a ∷ bs) (λ inner. indefinite_trees_at (item inner)
+    (suc (length bs)) bs >>= λ q. Ok (array_indefinite q.0, q.1)) p e in
     let inner : Budget = t.0 in
-    let y = bind_ok (open_trees_at (item inner) (suc (length bs)) bs)
-    (λ q. Ok (array_open q.0, q.1)) p t.2 in
+    let y = bind_ok (indefinite_trees_at (item inner) (suc (length bs)) bs)
+    (λ q. Ok (array_indefinite q.0, q.1)) p t.2 in
     let all =
-    open_trees_sound (item inner) (Readable inner) (s inner) (suc (length bs)) bs y.0 h y.1 in
+    indefinite_trees_sound (item inner) (Readable inner) (s inner) (suc (length bs)) bs y.0 h y.1 in
     let each = all_readable y.0.0 inner all.whole in
-    subst (Took (Readable outer) (a ∷ bs)) (same_ok _ (array_open y.0.0, y.0.1) p refl y.2)
+    subst (Took (Readable outer) (a ∷ bs)) (same_ok _ (array_indefinite y.0.0, y.0.1) p refl y.2)
     (record {
       whole = ((each.0.0, each.0.1), up_two outer b inner _ up t.1 each.1);
       is = ap₂ ◌∷◌ m all.is;
@@ -147,16 +150,16 @@ by_sound item b outer s up (starts_map w) a bs p m h e =
           all.number all.is;
       more = all.more;
     })
-by_sound item b outer s up starts_open_map a bs p m h e =
-    let t = stepped_ok map_name (step_in b) (a ∷ bs) (λ inner. open_pairs_at (item inner)
-    (suc (length bs)) bs >>= λ q. Ok (map_open q.0, q.1)) p e in
+by_sound item b outer s up starts_indefinite_map a bs p m h e =
+    let t = stepped_ok map_name (step_in b) (a ∷ bs) (λ inner. indefinite_pairs_at (item inner)
+    (suc (length bs)) bs >>= λ q. Ok (map_indefinite q.0, q.1)) p e in
     let inner : Budget = t.0 in
-    let y = bind_ok (open_pairs_at (item inner) (suc (length bs)) bs)
-    (λ q. Ok (map_open q.0, q.1)) p t.2 in
+    let y = bind_ok (indefinite_pairs_at (item inner) (suc (length bs)) bs)
+    (λ q. Ok (map_indefinite q.0, q.1)) p t.2 in
     let all =
-    open_pairs_sound (item inner) (Readable inner) (s inner) (suc (length bs)) bs y.0 h y.1 in
+    indefinite_pairs_sound (item inner) (Readable inner) (s inner) (suc (length bs)) bs y.0 h y.1 in
     let each = all_pairs_readable y.0.0 inner all.whole in
-    subst (Took (Readable outer) (a ∷ bs)) (same_ok _ (map_open y.0.0, y.0.1) p refl y.2)
+    subst (Took (Readable outer) (a ∷ bs)) (same_ok _ (map_indefinite y.0.0, y.0.1) p refl y.2)
     (record {
       whole = ((each.0.0, each.0.1), up_two outer b inner _ up t.1 each.1);
       is = ap₂ ◌∷◌ m all.is;

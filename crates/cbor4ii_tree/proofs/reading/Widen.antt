@@ -1,41 +1,46 @@
--- Where reading a value stops, it goes on to stop.
+-- Where reading a value is rejected, it goes on to stop.
 use Rattle.std.proofs.Common.{ℕ, zero, suc, ◌*◌, ◌≤◌, inl, inr, List, [], ◌∷◌, ◌++◌, length, None}
 use Rattle.std.proofs.Common.{ap, ◌∙◌, arith, append_assoc, length-append}
 use Rattle.cbor4ii_items.specs.Head.{Width, byte_count, break}
 use Rattle.cbor4ii_items.specs.Initial.{Kind, byte_string, text_string, kind_major, precision_bytes}
 use Rattle.cbor4ii_items.specs.Initial.{Initial, starts_int, bad_int, starts_string, starts_chunks}
-use Rattle.cbor4ii_items.specs.Initial.{bad_string, starts_array, starts_open_array, bad_array}
-use Rattle.cbor4ii_items.specs.Initial.{starts_map, starts_open_map, bad_map, starts_tag, bad_tag}
+use Rattle.cbor4ii_items.specs.Initial.{bad_string, starts_array, starts_indefinite_array}
+use Rattle.cbor4ii_items.specs.Initial.{bad_array}
+use Rattle.cbor4ii_items.specs.Initial.{starts_map, starts_indefinite_map, bad_map, starts_tag}
+use Rattle.cbor4ii_items.specs.Initial.{bad_tag}
 use Rattle.cbor4ii_items.specs.Initial.{starts_simple, starts_bits, other_simple, initial}
 use Rattle.cbor4ii_tree.specs.Tree.{bytes_all}
 use Rattle.cbor4ii_tree.specs.Cost.{Budget, cost}
-use Rattle.cbor4ii_tree.specs.Refusal.{Refusal, IsEof, IsDepthOverflow, sign_name, kind_name}
-use Rattle.cbor4ii_tree.specs.Refusal.{precision_name, array_name, map_name, tag_name, value_name}
-use Rattle.cbor4ii_tree.specs.Stops.{Stopping, Is, Missing, AtHead, StopsInCount, OpenItems}
-use Rattle.cbor4ii_tree.specs.Stops.{OpenPairs}
-use Rattle.cbor4ii_tree.specs.StopsReading.{Readable, ReadableChunk, CutString, NoUtf8}
-use Rattle.cbor4ii_tree.specs.StopsReading.{ChunkStopsBy, ChunkStops, ReadingStopsBy}
-use Rattle.cbor4ii_tree.specs.StopsReading.{ReadingStopsFrom, ReadingStopsWithin, StopsReading}
+use Rattle.cbor4ii_tree.specs.InputError.{InputError, IsEof, IsDepthOverflow, sign_name, kind_name}
+use Rattle.cbor4ii_tree.specs.InputError.{precision_name, array_name, map_name, tag_name}
+use Rattle.cbor4ii_tree.specs.InputError.{value_name}
+use Rattle.cbor4ii_tree.specs.Rejections.{Stopping, Is, Missing, AtHead, RejectsInCount}
+use Rattle.cbor4ii_tree.specs.Rejections.{IndefiniteItems}
+use Rattle.cbor4ii_tree.specs.Rejections.{IndefinitePairs}
+use Rattle.cbor4ii_tree.specs.ReadingRejects.{Readable, ReadableChunk, CutString, NoUtf8}
+use Rattle.cbor4ii_tree.specs.ReadingRejects.{ChunkRejectsBy, ChunkRejects, ReadingRejectsBy}
+use Rattle.cbor4ii_tree.specs.ReadingRejects.{ReadingRejectsFrom, ReadingRejectsWithin}
+use Rattle.cbor4ii_tree.specs.ReadingRejects.{ReadingRejects}
 use Rattle.cbor4ii_tree.proofs.parts.Widen.{Goes, Calm, Widens, widens_same, widens_none}
 use Rattle.cbor4ii_tree.proofs.parts.Widen.{widens_fits, Covers, each_covers, is_goes, missing_goes}
-use Rattle.cbor4ii_tree.proofs.parts.Widen.{missing_all_goes, no_byte_goes, behind_head_goes}
-use Rattle.cbor4ii_tree.proofs.parts.Widen.{at_head_goes, stepped_goes, counted_goes, items_goes}
+use Rattle.cbor4ii_tree.proofs.parts.Widen.{missing_all_goes, no_byte_goes, after_head_goes}
+use Rattle.cbor4ii_tree.proofs.parts.Widen.{at_head_goes, stepped_goes, definite_goes, items_goes}
 use Rattle.cbor4ii_tree.proofs.parts.Widen.{pairs_goes}
 
-readable_covers : (e : Refusal) (b c : Budget) → Widens e b c → Covers (Readable b) (Readable c)
+readable_covers : (e : InputError) (b c : Budget) → Widens e b c → Covers (Readable b) (Readable c)
 readable_covers e b c w t h = (h.0, widens_fits e b c (cost t) w h.1)
 
-chunk_covers : (k : Kind) (e : Refusal) (b c : Budget) → Widens e b c
+chunk_covers : (k : Kind) (e : InputError) (b c : Budget) → Widens e b c
     → Covers (ReadableChunk k b) (ReadableChunk k c)
 chunk_covers k e b c w t h = (h.0, h.1, widens_fits e b c (cost t) w h.2)
 
-cut_goes : (k : Kind) (e : Refusal) (more : List ℕ) → Calm e more → (v : Width) (a : ℕ)
+cut_goes : (k : Kind) (e : InputError) (more : List ℕ) → Calm e more → (v : Width) (a : ℕ)
     → Goes e more (CutString k v a) (CutString k v a)
 cut_goes k e more calm v a =
     at_head_goes (kind_name k) (kind_major k) v a e more (Missing (kind_name k))
     (Missing (kind_name k)) calm (λ n. missing_goes (kind_name k) n e more calm)
 
-no_utf8_goes : (k : Kind) (e : Refusal) (more : List ℕ) (n : ℕ)
+no_utf8_goes : (k : Kind) (e : InputError) (more : List ℕ) (n : ℕ)
     → Goes e more (NoUtf8 k n) (NoUtf8 k n)
 no_utf8_goes k e more n bs rest x =
     record {
@@ -43,11 +48,11 @@ no_utf8_goes k e more n bs rest x =
       long = x.long;
       invalid = x.invalid;
       is = ap (λ r. r ++ more) x.is ∙ append_assoc x.content rest more;
-      refusal = x.refusal;
+      err = x.err;
     }
 
-chunk_by_goes : (k : Kind) (e : Refusal) (more : List ℕ) → Calm e more → (i : Initial) (a : ℕ)
-    → Goes e more (ChunkStopsBy k i a) (ChunkStopsBy k i a)
+chunk_by_goes : (k : Kind) (e : InputError) (more : List ℕ) → Calm e more → (i : Initial) (a : ℕ)
+    → Goes e more (ChunkRejectsBy k i a) (ChunkRejectsBy k i a)
 chunk_by_goes byte_string e more calm (starts_string byte_string v) a bs rest x =
     cut_goes byte_string e more calm v a bs rest x
 chunk_by_goes text_string e more calm (starts_string text_string v) a bs rest x =
@@ -67,28 +72,28 @@ chunk_by_goes text_string e more calm (starts_chunks byte_string) a bs rest x =
 chunk_by_goes byte_string e more calm _ a bs rest x = is_goes _ e _ rest more x
 chunk_by_goes text_string e more calm _ a bs rest x = is_goes _ e _ rest more x
 
-chunk_goes : (k : Kind) (b c : Budget) (e : Refusal) (more : List ℕ) → Calm e more → Widens e b c
-    → Goes e more (ChunkStops k b) (ChunkStops k c)
-chunk_goes k b c e more calm w [] rest x = no_byte_goes _ _ (ChunkStops k c) e rest more calm x x
+chunk_goes : (k : Kind) (b c : Budget) (e : InputError) (more : List ℕ) → Calm e more → Widens e b c
+    → Goes e more (ChunkRejects k b) (ChunkRejects k c)
+chunk_goes k b c e more calm w [] rest x = no_byte_goes _ _ (ChunkRejects k c) e rest more calm x x
 chunk_goes k b c e more calm w (a ∷ bs) rest x =
-    stepped_goes (kind_name k) b c e (a ∷ bs) rest more (λ inner. ChunkStopsBy k (initial a) a bs)
-    (λ inner. ChunkStopsBy k (initial a) a (bs ++ more)) w
+    stepped_goes (kind_name k) b c e (a ∷ bs) rest more (λ inner. ChunkRejectsBy k (initial a) a bs)
+    (λ inner. ChunkRejectsBy k (initial a) a (bs ++ more)) w
     (λ inner outer v y. chunk_by_goes k e more calm (initial a) a bs rest y) x
 
-by_goes : (b c : Budget) (e : Refusal) (more : List ℕ) (s t : Budget → Stopping) → Calm e more
+by_goes : (b c : Budget) (e : InputError) (more : List ℕ) (s t : Budget → Stopping) → Calm e more
     → Widens e b c → ((x y : Budget) → Widens e x y → Goes e more (s x) (t y))
-    → (i : Initial) (a : ℕ) → Goes e more (ReadingStopsBy s b i a) (ReadingStopsBy t c i a)
+    → (i : Initial) (a : ℕ) → Goes e more (ReadingRejectsBy s b i a) (ReadingRejectsBy t c i a)
 by_goes b c e more s t calm w k (starts_int sg v) a bs rest x =
     missing_all_goes (sign_name sg) (byte_count v) e more calm bs rest x
 by_goes b c e more s t calm w k (bad_int sg) a bs rest x = is_goes _ e _ rest more x
 by_goes b c e more s t calm w k (starts_string kd v) a bs rest (inl x) =
     inl (cut_goes kd e more calm v a bs rest x)
 by_goes b c e more s t calm w k (starts_string kd v) a bs rest (inr x) =
-    inr (behind_head_goes (kind_major kd) v a e more (NoUtf8 kd) (NoUtf8 kd)
+    inr (after_head_goes (kind_major kd) v a e more (NoUtf8 kd) (NoUtf8 kd)
     (no_utf8_goes kd e more) bs rest x)
 by_goes b c e more s t calm w k (starts_chunks kd) a bs rest (inl x) =
-    inl (items_goes (ReadableChunk kd b) (ReadableChunk kd c) e more (ChunkStops kd b)
-    (ChunkStops kd c) calm (chunk_covers kd e b c w)
+    inl (items_goes (ReadableChunk kd b) (ReadableChunk kd c) e more (ChunkRejects kd b)
+    (ChunkRejects kd c) calm (chunk_covers kd e b c w)
     (chunk_goes kd b c e more calm w) bs rest x)
 by_goes b c e more s t calm w k (starts_chunks kd) a bs rest (inr x) =
     inr (record {
@@ -98,22 +103,22 @@ by_goes b c e more s t calm w k (starts_chunks kd) a bs rest (inr x) =
       is = ap (λ r. r ++ more) x.is ∙ append_assoc
           (bytes_all x.chunks) (break ∷ rest) more;
       invalid = x.invalid;
-      refusal = x.refusal;
+      err = x.err;
     })
 by_goes b c e more s t calm w k (bad_string kd) a bs rest x = is_goes _ e _ rest more x
 by_goes b c e more s t calm w k (starts_array v) a bs rest x =
     stepped_goes array_name b c e (a ∷ bs) rest more
-    (λ inner. AtHead array_name 4 v a (StopsInCount (Readable inner) (s inner)) bs)
-    (λ inner. AtHead array_name 4 v a (StopsInCount (Readable inner) (t inner)) (bs ++ more)) w
+    (λ inner. AtHead array_name 4 v a (RejectsInCount (Readable inner) (s inner)) bs)
+    (λ inner. AtHead array_name 4 v a (RejectsInCount (Readable inner) (t inner)) (bs ++ more)) w
     (λ inner outer u y.
-    at_head_goes array_name 4 v a e more (StopsInCount (Readable inner) (s inner))
-    (StopsInCount (Readable outer) (t outer)) calm
-    (λ n. counted_goes (Readable inner) (Readable outer) e more (s inner)
+    at_head_goes array_name 4 v a e more (RejectsInCount (Readable inner) (s inner))
+    (RejectsInCount (Readable outer) (t outer)) calm
+    (λ n. definite_goes (Readable inner) (Readable outer) e more (s inner)
     (t outer) n (readable_covers e inner outer u) (k inner outer u)) bs rest y) x
-by_goes b c e more s t calm w k starts_open_array a bs rest x =
+by_goes b c e more s t calm w k starts_indefinite_array a bs rest x =
     stepped_goes array_name b c e (a ∷ bs) rest more
-    (λ inner. OpenItems (Readable inner) (s inner) bs)
-    (λ inner. OpenItems (Readable inner) (t inner) (bs ++ more)) w (λ inner outer u y.
+    (λ inner. IndefiniteItems (Readable inner) (s inner) bs)
+    (λ inner. IndefiniteItems (Readable inner) (t inner) (bs ++ more)) w (λ inner outer u y.
     items_goes (Readable inner) (Readable outer) e more (s inner)
     (t outer) calm (readable_covers e inner outer u) (k inner outer u) bs rest y) x
 by_goes b c e more s t calm w k bad_array a bs rest x =
@@ -121,17 +126,17 @@ by_goes b c e more s t calm w k bad_array a bs rest x =
     (λ inner. Is _ (bs ++ more)) w (λ inner outer u y. is_goes _ e bs rest more y) x
 by_goes b c e more s t calm w k (starts_map v) a bs rest x =
     stepped_goes map_name b c e (a ∷ bs) rest more
-    (λ inner. AtHead map_name 5 v a (λ n. StopsInCount (Readable inner) (s inner) (2 * n)) bs)
-    (λ inner. AtHead map_name 5 v a (λ n. StopsInCount (Readable inner) (t inner) (2 * n))
+    (λ inner. AtHead map_name 5 v a (λ n. RejectsInCount (Readable inner) (s inner) (2 * n)) bs)
+    (λ inner. AtHead map_name 5 v a (λ n. RejectsInCount (Readable inner) (t inner) (2 * n))
     (bs ++ more)) w (λ inner outer u y.
-    at_head_goes map_name 5 v a e more (λ n. StopsInCount (Readable inner) (s inner) (2 * n))
-    (λ n. StopsInCount (Readable outer) (t outer) (2 * n)) calm
-    (λ n. counted_goes (Readable inner) (Readable outer) e more (s inner) (t outer) (2 * n)
+    at_head_goes map_name 5 v a e more (λ n. RejectsInCount (Readable inner) (s inner) (2 * n))
+    (λ n. RejectsInCount (Readable outer) (t outer) (2 * n)) calm
+    (λ n. definite_goes (Readable inner) (Readable outer) e more (s inner) (t outer) (2 * n)
     (readable_covers e inner outer u) (k inner outer u)) bs rest y) x
-by_goes b c e more s t calm w k starts_open_map a bs rest x =
+by_goes b c e more s t calm w k starts_indefinite_map a bs rest x =
     stepped_goes map_name b c e (a ∷ bs) rest more
-    (λ inner. OpenPairs (Readable inner) (s inner) bs)
-    (λ inner. OpenPairs (Readable inner) (t inner) (bs ++ more)) w (λ inner outer u y.
+    (λ inner. IndefinitePairs (Readable inner) (s inner) bs)
+    (λ inner. IndefinitePairs (Readable inner) (t inner) (bs ++ more)) w (λ inner outer u y.
     pairs_goes (Readable inner) (Readable outer) e more (s inner)
     (t outer) calm (readable_covers e inner outer u) (k inner outer u) bs rest y) x
 by_goes b c e more s t calm w k bad_map a bs rest x =
@@ -145,38 +150,39 @@ by_goes b c e more s t calm w k (starts_bits p) a bs rest x =
     missing_all_goes (precision_name p) (precision_bytes p) e more calm bs rest x
 by_goes b c e more s t calm w k other_simple a bs rest x = is_goes _ e _ rest more x
 
-from_goes : (b c : Budget) (e : Refusal) (more : List ℕ) (s t : Budget → Stopping) → Calm e more
+from_goes : (b c : Budget) (e : InputError) (more : List ℕ) (s t : Budget → Stopping) → Calm e more
     → Widens e b c → ((x y : Budget) → Widens e x y → Goes e more (s x) (t y))
-    → Goes e more (ReadingStopsFrom s b) (ReadingStopsFrom t c)
+    → Goes e more (ReadingRejectsFrom s b) (ReadingRejectsFrom t c)
 from_goes b c e more s t calm w k [] rest x =
-    no_byte_goes _ _ (ReadingStopsFrom t c) e rest more calm x x
+    no_byte_goes _ _ (ReadingRejectsFrom t c) e rest more calm x x
 from_goes b c e more s t calm w k (a ∷ bs) rest x =
     by_goes b c e more s t calm w k (initial a) a bs rest x
 
-within_goes : (n m : ℕ) (b c : Budget) (e : Refusal) (more : List ℕ) → n ≤ m → Calm e more
-    → Widens e b c → Goes e more (ReadingStopsWithin n b) (ReadingStopsWithin m c)
+within_goes : (n m : ℕ) (b c : Budget) (e : InputError) (more : List ℕ) → n ≤ m → Calm e more
+    → Widens e b c → Goes e more (ReadingRejectsWithin n b) (ReadingRejectsWithin m c)
 within_goes zero m b c e more le calm w bs rest x = absurd x
 within_goes (suc n) zero b c e more le calm w bs rest x = absurd (omega arith)
 within_goes (suc n) (suc m) b c e more le calm w bs rest x =
     stepped_goes value_name b c e bs rest more
-    (λ inner. ReadingStopsFrom (ReadingStopsWithin n) inner bs)
-    (λ inner. ReadingStopsFrom (ReadingStopsWithin m) inner (bs ++ more)) w
-    (λ inner outer v y. from_goes inner outer e more (ReadingStopsWithin n) (ReadingStopsWithin m)
+    (λ inner. ReadingRejectsFrom (ReadingRejectsWithin n) inner bs)
+    (λ inner. ReadingRejectsFrom (ReadingRejectsWithin m) inner (bs ++ more)) w
+    (λ inner outer v y. from_goes inner outer e more (ReadingRejectsWithin n)
+    (ReadingRejectsWithin m)
     calm v (λ p q u. within_goes n m p q e more (omega arith) calm u) bs rest y) x
 
--- further bytes mend no refusal but the end of the input
-pub reading_persists : (input more : List ℕ) (budget : Budget) (e : Refusal) (rest : List ℕ)
-    → ¬ (IsEof e) → StopsReading input budget e rest
-    → StopsReading (input ++ more) budget e (rest ++ more)
+-- further bytes mend no error but the end of the input
+pub reading_persists : (input more : List ℕ) (budget : Budget) (e : InputError) (rest : List ℕ)
+    → ¬ (IsEof e) → ReadingRejects input budget e rest
+    → ReadingRejects (input ++ more) budget e (rest ++ more)
 reading_persists input more budget e rest h s =
     within_goes (suc (length input)) (suc (length (input ++ more))) budget budget e more
     (omega (arith, length-append input more)) (λ y. absurd (h y))
     (widens_same e budget) input rest s
 
 -- nor do further steps, but one for want of a step
-pub reading_unbounded : (input : List ℕ) (budget : Budget) (e : Refusal) (rest : List ℕ)
-    → ¬ (IsEof e) → ¬ (IsDepthOverflow e) → (more : List ℕ) → StopsReading input budget e rest
-    → StopsReading (input ++ more) None e (rest ++ more)
+pub reading_unbounded : (input : List ℕ) (budget : Budget) (e : InputError) (rest : List ℕ)
+    → ¬ (IsEof e) → ¬ (IsDepthOverflow e) → (more : List ℕ) → ReadingRejects input budget e rest
+    → ReadingRejects (input ++ more) None e (rest ++ more)
 reading_unbounded input budget e rest h d more s =
     within_goes (suc (length input))
     (suc (length (input ++ more))) budget None e more (omega (arith, length-append input more))

@@ -1,12 +1,12 @@
--- Bytes that are skipped, front by front, and the arguments of heads.
+-- Bytes that are skipped, prefix by prefix, and the arguments of heads.
 use Rattle.std.proofs.Common.{◌≡◌, ℕ, ◌+◌, ◌-◌, ◌<◌, ◌≤◌, List, [], ◌++◌}
 use Rattle.std.proofs.Common.{length, take, drop, Option, Some, None, Ok, Err, true, false, refl}
 use Rattle.std.proofs.Common.{sym, ap, ◌∙◌, subst, arith, IfSome, append_assoc, length-append}
 use Rattle.std.proofs.Common.{take-append-drop, ltb, ltb-true, ltb-false, Bool}
 use Rattle.std.proofs.lemmas.List.{length-take-le}
 use denote.Ref.{Bor}
-use Rattle.cbor4ii_rw.specs.View.{View, Told}
-use Rattle.cbor4ii_rw.specs.Reader.{Shows, Advances, IsFront}
+use Rattle.cbor4ii_rw.specs.View.{View, IfKnown}
+use Rattle.cbor4ii_rw.specs.Reader.{Shows, Advances, IsPrefix}
 use Rattle.cbor4ii_rw.specs.declared.error.Len.{Len}
 use Rattle.cbor4ii_rw.specs.declared.error.Len.TheVariants.{Small, Big}
 use Rattle.cbor4ii_rw.specs.declared.error.DecodeError.{DecodeError}
@@ -15,8 +15,8 @@ use Rattle.cbor4ii_items.specs.Head.{Width, in_first, one, two, four, eight, byt
 use Rattle.cbor4ii_items.specs.Initial.{info_of, wide}
 use Rattle.cbor4ii_items.specs.ReadHead.{number_on}
 use Rattle.cbor4ii_items.specs.Reading.{Runs}
-use Rattle.cbor4ii_items.specs.Refusal.{Refusal, refusal_of, eof, len_of}
-use Rattle.cbor4ii_items.specs.Laws.Contents.{lends_front}
+use Rattle.cbor4ii_items.specs.InputError.{InputError, input_error_of, eof, len_of}
+use Rattle.cbor4ii_items.specs.Laws.Contents.{lends_prefix}
 use Rattle.cbor4ii_items.specs.Laws.Running.{shows_kept}
 use Rattle.cbor4ii_items.specs.Laws.Steps.{moves_err}
 use Rattle.cbor4ii_items.specs.Laws.ReadingHeads.{number_cut}
@@ -24,11 +24,11 @@ use Rattle.cbor4ii_tree.proofs.heads.Means.{WidthSays, InfoSays, info_says}
 use Rattle.cbor4ii_tree.specs.Skipping.{additional_of}
 use Rattle.cbor4ii_tree.specs.declared.skip.Additional.{Additional}
 use Rattle.cbor4ii_tree.specs.declared.skip.Additional.TheVariants.{Wide}
-use Rattle.cbor4ii_tree.specs.Stops.{Missing, MissingAll}
+use Rattle.cbor4ii_tree.specs.Rejections.{Missing, MissingAll}
 use Rattle.cbor4ii_tree.specs.Does.{Does}
 use Rattle.cbor4ii_tree.specs.HeadParts.{ArgumentAt, DropsBytes, DropsSome}
-use Rattle.cbor4ii_tree.proofs.skip_calls.Doing.{does_ok, does_refuse}
-use Rattle.cbor4ii_tree.proofs.parts.Fronts.{IsBytes-append}
+use Rattle.cbor4ii_tree.proofs.skip_calls.Doing.{does_ok, does_reject}
+use Rattle.cbor4ii_tree.proofs.parts.Prefixes.{IsBytes-append}
 
 pub len_is : (n : ℕ) (l : Len) → (n < 65536 → l ≡ Small n) → (65536 ≤ n → l ≡ Big) → l ≡ len_of n
 len_is n l s b = by_size (ltb n 65536) refl
@@ -40,32 +40,33 @@ len_is n l s b = by_size (ltb n 65536) refl
 -- ---- what is shown
 
 pub none_shown : {E : Type 0} {name : Bor (List ℕ)} (missing : ℕ) {l : Len} {shown : List ℕ}
-    {a b : View} → 1 ≤ missing → Shows shown a b → Told a.told (IsFront missing shown)
+    {a b : View} → 1 ≤ missing → Shows shown a b → IfKnown a.known (IsPrefix missing shown)
     → length shown ≡ 0 → (missing < 65536 → l ≡ Small missing) → (65536 ≤ missing → l ≡ Big)
     → Does {V = ℕ} {E = E} (DropsSome missing) (Missing name.now missing) a b (Err (Eof name l))
-none_shown {name = name} missing {l = l} {a = a} {b = b} some s front none small big =
+none_shown {name = name} missing {l = l} {a = a} {b = b} some s prefix none small big =
     let is : l ≡ len_of missing = len_is missing l small big in
-    does_refuse (λ xs ys. (xs ≡ []) × (ys ≡ [])) (DropsSome missing) (Missing name.now missing)
+    does_reject (λ xs ys. (xs ≡ []) × (ys ≡ [])) (DropsSome missing) (Missing name.now missing)
     (eof name.now l) refl refl refl
     (λ xs ys e. let z : length xs ≡ 0 = ap length e.0 in
     let gap : missing - length xs ≡ missing = omega (arith, z) in
     (omega (arith, z), (ap (eof name.now) (is ∙ ap len_of (sym gap)), e.1)))
     (record {
       kept = shows_kept s;
-      at = λ xs told. let e =
-          (front xs told).ends (omega (arith, some)) none in (xs, s.told xs told, (e, e));
+      at = λ xs known. let e =
+          (prefix xs known).ends (omega (arith, some)) none in (xs, s.known xs known, (e, e));
     })
 
 pub some_shown : {E : Type 0} {name : List ℕ} (missing : ℕ) {n : ℕ} {shown : List ℕ} {a m b : View}
-    → Shows shown a m → Told a.told (IsFront missing shown) → 1 ≤ n → n ≤ missing → n ≤ length shown
+    → Shows shown a m → IfKnown a.known (IsPrefix missing shown) → 1 ≤ n → n ≤ missing →
+    n ≤ length shown
     → IsBytes (take n shown) → Advances n m b
     → Does {V = ℕ} {E = E} (DropsSome missing) (Missing name missing) a b (Ok n)
-some_shown {name = name} missing {n = n} {shown = shown} s front some most within bytes adv =
-    let l = lends_front s front within bytes refl adv in
+some_shown {name = name} missing {n = n} {shown = shown} s prefix some most within bytes adv =
+    let l = lends_prefix s prefix within bytes refl adv in
     does_ok (DropsSome missing) (Missing name missing) (record {
       kept = l.kept;
-      at = λ xs told.
-          let t = l.at xs told in (
+      at = λ xs known.
+          let t = l.at xs known in (
             drop n xs,
             t.1,
             (
@@ -82,7 +83,7 @@ some_shown {name = name} missing {n = n} {shown = shown} s front some most withi
           );
     })
 
--- ---- bytes one front after another
+-- ---- bytes one prefix after another
 
 -- so many are missing yet
 abbrev pub Dropped : ℕ → ℕ → List ℕ → List ℕ → Type 0
@@ -105,7 +106,8 @@ dropped_more count missing n xs ys zs d s = (
   },
 )
 
-pub dropped_cut : (name : List ℕ) (count missing : ℕ) (xs ys : List ℕ) (e : Refusal) (rest : List ℕ)
+pub dropped_cut : (name : List ℕ) (count missing : ℕ) (xs ys : List ℕ) (e : InputError)
+    (rest : List ℕ)
     → Dropped count missing xs ys → Missing name missing ys e rest → Missing name count xs e rest
 dropped_cut name count missing xs ys e rest d m =
     let size : length xs ≡ d.0 + length ys =
@@ -132,7 +134,7 @@ pub width_is : (w : Width) (i k : ℕ) (a : Additional) → info_of i ≡ wide w
 width_is w i k a is by at =
     let e : additional_of (info_of i) ≡ Wide (byte_count w) = ap additional_of is in cc
 
-cut_at : (o : Option Refusal) (name : List ℕ) (k : ℕ) (w : Width) (xs : List ℕ)
+cut_at : (o : Option InputError) (name : List ℕ) (k : ℕ) (w : Width) (xs : List ℕ)
     (new : Option (List ℕ)) → byte_count w ≡ k
     → IfSome o (λ z. (ys : List ℕ) × (new ≡ Some ys) × (number_on name k k 0 xs ≡ Err (z, ys)))
     → IfSome o (λ z. (ys : List ℕ) × (new ≡ Some ys) × MissingAll name (byte_count w) xs z ys)
@@ -154,5 +156,5 @@ pub argument_cut : {E : Type 0} (name : List ℕ) (w : Width) (first k : ℕ) {a
 argument_cut name w first k {b = b} {e = e} size p = record {
   moves = moves_err p.moves;
   ok = tt;
-  err = λ xs told. cut_at (refusal_of e) name k w xs b.told size (p.answers xs told);
+  err = λ xs known. cut_at (input_error_of e) name k w xs b.known size (p.answers xs known);
 }

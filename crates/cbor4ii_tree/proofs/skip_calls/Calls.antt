@@ -1,44 +1,46 @@
--- The calls of skipping, one behind another.
+-- The calls of skipping, one after another.
 use Rattle.std.proofs.Common.{◌≡◌, ◌≢◌, ℕ, List, [], ◌∷◌, Result, Ok, Err, Bool, true, false, sym}
 use Rattle.std.proofs.Common.{subst}
 use Rattle.cbor4ii_rw.specs.View.{View}
 use Rattle.cbor4ii_rw.specs.declared.error.DecodeError.{DecodeError}
 use Rattle.cbor4ii_items.specs.Head.{break}
 use Rattle.cbor4ii_items.specs.Moves.{Moves}
-use Rattle.cbor4ii_items.specs.Decoding.{Sound, Stops}
-use Rattle.cbor4ii_items.specs.Strings.{ReadsBreak, StopsBreak}
-use Rattle.cbor4ii_items.specs.Refusal.{Refusal}
-use Rattle.cbor4ii_tree.specs.Refusal.{eof, Small, break_name}
+use Rattle.cbor4ii_items.specs.Decoding.{Sound, Rejects}
+use Rattle.cbor4ii_items.specs.Strings.{ReadsBreak, RejectsBreak}
+use Rattle.cbor4ii_items.specs.InputError.{InputError}
+use Rattle.cbor4ii_tree.specs.InputError.{eof, Small, break_name}
 use Rattle.cbor4ii_tree.specs.Cost.{Budget}
-use Rattle.cbor4ii_tree.specs.Stops.{Stopping}
+use Rattle.cbor4ii_tree.specs.Rejections.{Stopping}
 use Rattle.cbor4ii_tree.specs.Does.{Accepting, Does}
-use Rattle.cbor4ii_tree.specs.Skipping.{SkipsOne, StopsSkippingOne, SkipsUnder, StopsSkippingUnder}
-use Rattle.cbor4ii_tree.specs.Skipping.{SkipsBehind, StopsSkippingBehind, Leads}
-use Rattle.cbor4ii_tree.specs.declared.skip.Behind.{Behind}
+use Rattle.cbor4ii_tree.specs.Skipping.{SkipsOne, RejectsSkippingOne, SkipsUnder}
+use Rattle.cbor4ii_tree.specs.Skipping.{RejectsSkippingUnder}
+use Rattle.cbor4ii_tree.specs.Skipping.{SkipsAfter, RejectsSkippingAfter, Leads}
+use Rattle.cbor4ii_tree.specs.declared.skip.After.{After}
 use Rattle.cbor4ii_tree.proofs.skip_calls.Doing.{Reached, reached_by, reached_then, does_after}
-use Rattle.cbor4ii_tree.proofs.skip_calls.Doing.{does_err, does_stops, reached_sound}
+use Rattle.cbor4ii_tree.proofs.skip_calls.Doing.{does_err, does_rejects, reached_sound}
 use Rattle.cbor4ii_tree.proofs.skip_calls.Parts.{SkippedPairs, IsOther, after_break, other_byte}
 
--- ---- behind a head
+-- ---- after a head
 
-pub went_on : {E : Type 0} (behind : Behind) {v : Behind} {r : Result (Unit {0}) (DecodeError E)}
-    {a m b : View} → v ≡ behind → Does {E = E} (Leads a.budget)
-    (StopsSkippingUnder a.budget) a m (Ok v) → Does (λ xs _ ys. SkipsBehind behind m.budget xs ys)
-    (StopsSkippingBehind behind m.budget) m b r
-    → Does (λ xs _ ys. SkipsUnder a.budget xs ys) (StopsSkippingUnder a.budget) a b r
-went_on behind {v = v} {a = a} {m = m} is h d =
+pub went_on : {E : Type 0} (trailing : After) {v : After} {r : Result (Unit {0}) (DecodeError E)}
+    {a m b : View} → v ≡ trailing → Does {E = E} (Leads a.budget)
+    (RejectsSkippingUnder a.budget) a m (Ok v) → Does
+    (λ xs _ ys. SkipsAfter trailing m.budget xs ys)
+    (RejectsSkippingAfter trailing m.budget) m b r
+    → Does (λ xs _ ys. SkipsUnder a.budget xs ys) (RejectsSkippingUnder a.budget) a b r
+went_on trailing {v = v} {a = a} {m = m} is h d =
     let same : m.budget ≡ a.budget = h.moves.by.budget in
-    does_after (λ xs ys. Leads a.budget xs v ys) (λ xs _ ys. SkipsBehind behind m.budget xs ys)
-    (λ xs _ ys. SkipsUnder a.budget xs ys) (StopsSkippingBehind behind m.budget)
-    (StopsSkippingUnder a.budget)
+    does_after (λ xs ys. Leads a.budget xs v ys) (λ xs _ ys. SkipsAfter trailing m.budget xs ys)
+    (λ xs _ ys. SkipsUnder a.budget xs ys) (RejectsSkippingAfter trailing m.budget)
+    (RejectsSkippingUnder a.budget)
     (λ xs ys zs w l s. (subst (λ z. Leads a.budget xs z ys) is l).skips zs
-    (subst (λ o. SkipsBehind behind o ys zs) same s))
-    (λ xs ys e rest l s. (subst (λ z. Leads a.budget xs z ys) is l).stops e rest
-    (subst (λ o. StopsSkippingBehind behind o ys e rest) same s)) (reached_by h) d
+    (subst (λ o. SkipsAfter trailing o ys zs) same s))
+    (λ xs ys e rest l s. (subst (λ z. Leads a.budget xs z ys) is l).rejects e rest
+    (subst (λ o. RejectsSkippingAfter trailing o ys e rest) same s)) (reached_by h) d
 
 -- ---- one more item
 
--- what came before, and no break behind it
+-- what came before, and no break after it
 abbrev pub Before : (Budget → List ℕ → List ℕ → Type 0) → Budget → List ℕ → List ℕ → Type 0
 Before P budget xs ys = P budget xs ys × (ys ≢ []) × ((bs : List ℕ) → ys ≡ break ∷ bs → ⊥)
 
@@ -46,21 +48,21 @@ module _ (P : Budget → List ℕ → List ℕ → Type 0) {a m : View} (p : Rea
   -- it was skipped
   pub more : {E : Type 0} (Q : List ℕ → List ℕ → Type 0) {v : Unit {0}} {b : View}
       → ((xs ys zs : List ℕ) → P a.budget xs ys → SkipsOne a.budget ys zs → Q xs zs) → Does {E = E}
-      (λ xs _ ys. SkipsOne m.budget xs ys) (StopsSkippingOne m.budget) m b (Ok v) → Reached Q a b
+      (λ xs _ ys. SkipsOne m.budget xs ys) (RejectsSkippingOne m.budget) m b (Ok v) → Reached Q a b
   more Q {v = v} f d =
       reached_then (P a.budget) (SkipsOne m.budget) Q (λ xs ys zs h s.
       f xs ys zs h (subst (λ o. SkipsOne o ys zs) p.kept.budget s)) p (reached_by d)
 
   -- it stopped
   pub ends : {U E : Type 0} (B : Accepting U) (T : Stopping) {e : DecodeError E} {b : View}
-      → ((xs ys : List ℕ) (z : Refusal) (rest : List ℕ) → P a.budget xs ys
-      → StopsSkippingOne a.budget ys z rest → T xs z rest)
+      → ((xs ys : List ℕ) (z : InputError) (rest : List ℕ) → P a.budget xs ys
+      → RejectsSkippingOne a.budget ys z rest → T xs z rest)
       → Does {V = Unit {0}} (λ xs _ ys. SkipsOne m.budget xs ys)
-      (StopsSkippingOne m.budget) m b (Err e) → Does {V = U} B T a b (Err e)
+      (RejectsSkippingOne m.budget) m b (Err e) → Does {V = U} B T a b (Err e)
   ends B T f d =
       does_err (P a.budget)
-      (λ xs _ ys. SkipsOne m.budget xs ys) B (StopsSkippingOne m.budget) T (λ xs ys z rest h s.
-      f xs ys z rest h (subst (λ o. StopsSkippingOne o ys z rest) p.kept.budget s)) p d
+      (λ xs _ ys. SkipsOne m.budget xs ys) B (RejectsSkippingOne m.budget) T (λ xs ys z rest h s.
+      f xs ys z rest h (subst (λ o. RejectsSkippingOne o ys z rest) p.kept.budget s)) p d
 
   -- a break
   pub broke : {E : Type 0} (Q : List ℕ → List ℕ → Type 0) {v : Bool} {b : View}
@@ -87,12 +89,12 @@ module _ (P : Budget → List ℕ → List ℕ → Type 0) {a m : View} (p : Rea
   -- neither
   pub at_end : {U E : Type 0} (B : Accepting U) (T : Stopping) {e : DecodeError E} {b : View}
       → ((xs ys : List ℕ) → P a.budget xs ys → ys ≡ [] → T xs (eof break_name (Small 1)) [])
-      → Moves {V = Bool} m b (Err e) → Stops StopsBreak m b e → Does {V = U} B T a b (Err e)
+      → Moves {V = Bool} m b (Err e) → Rejects RejectsBreak m b e → Does {V = U} B T a b (Err e)
   at_end B T f moves s =
-      does_err (P a.budget) (λ xs (_ : Bool) ys. Unit {0}) B (λ xs. StopsBreak xs m.budget) T
+      does_err (P a.budget) (λ xs (_ : Bool) ys. Unit {0}) B (λ xs. RejectsBreak xs m.budget) T
       (λ xs ys z rest h k. subst (λ y. T xs y rest) (sym k.1)
       (subst (T xs (eof break_name (Small 1))) (sym k.2) (f xs ys h k.0))) p
-      (does_stops (λ xs (_ : Bool) ys. Unit {0}) StopsBreak moves s)
+      (does_rejects (λ xs (_ : Bool) ys. Unit {0}) RejectsBreak moves s)
 
 -- whole pairs, and a key
 abbrev pub WithKey : Budget → List ℕ → List ℕ → Type 0

@@ -8,20 +8,21 @@ use Rattle.cbor4ii_items.specs.Laws.UnderStep.{step_again, step_unbound}
 use Rattle.cbor4ii_tree.specs.Tree.{bytes_all}
 use Rattle.cbor4ii_tree.specs.Cost.{Budget, step_in}
 use Rattle.cbor4ii_tree.specs.Deeper.{Deeper, GoesOn, budgeted}
-use Rattle.cbor4ii_tree.specs.Stops.{Stopping}
-use Rattle.cbor4ii_tree.specs.StopsSkipping.{Skippable}
+use Rattle.cbor4ii_tree.specs.Rejections.{Stopping}
+use Rattle.cbor4ii_tree.specs.SkippingRejects.{Skippable}
 use Rattle.cbor4ii_tree.specs.Does.{Accepting, Does, answered}
-use Rattle.cbor4ii_tree.specs.Skipping.{SkipsItems, StopsSkippingOne, StopsSkippingItems}
-use Rattle.cbor4ii_tree.specs.Ahead.{TakesHead, CountsAmong, SkipsSome, StopsSome, StopsSomeUnder}
+use Rattle.cbor4ii_tree.specs.Skipping.{SkipsItems, RejectsSkippingOne, RejectsSkippingItems}
+use Rattle.cbor4ii_tree.specs.Ahead.{TakesHead, CountsAmong, SkipsSome, RejectsSome}
+use Rattle.cbor4ii_tree.specs.Ahead.{RejectsSomeUnder}
 use Rattle.cbor4ii_tree.specs.Ahead.{GoesUnder}
-use Rattle.cbor4ii_tree.specs.declared.skip.Behind.TheVariants as behind
+use Rattle.cbor4ii_tree.specs.declared.skip.After.TheVariants as trailing
 use Rattle.cbor4ii_tree.specs.declared.skip.Went.{Went}
 use Rattle.cbor4ii_tree.specs.declared.skip.Went.TheVariants.{Into}
 use Rattle.cbor4ii_tree.specs.declared.ahead.Among.TheVariants as among
 use Rattle.cbor4ii_tree.proofs.parts.Joined.{join, count-join, each-join, bytes-join}
 use Rattle.cbor4ii_tree.proofs.skip_calls.Doing.{Reached, reached_by, reached_then, reached_as}
 use Rattle.cbor4ii_tree.proofs.skip_calls.Doing.{does_ok, does_err, does_around, steps_in}
-use Rattle.cbor4ii_tree.proofs.skip_calls.Fronts.{keeps_alike, keeps_then}
+use Rattle.cbor4ii_tree.proofs.skip_calls.Prefixes.{keeps_alike, keeps_then}
 use Rattle.cbor4ii_tree.proofs.skip_calls.Parts.{items_join, items_none, items_more, items_stop}
 use Rattle.cbor4ii_tree.proofs.skip_calls.Runs.{Same, same_start, some_items, into}
 
@@ -49,36 +50,36 @@ all_back d start same gives h = gives start (subst (λ b. Deeper d start b) same
 
 pub alike_within : (s : Budget) (v : View) → KeepsAllButBudget v (budgeted s v)
 alike_within s v = record {
-  told = refl;
+  known = refl;
   bound = refl;
   advanceable = refl;
   failures = refl;
   taken = refl;
-  lends_whole = refl;
+  zero_copy = refl;
   remembers = refl;
   ends_at = refl;
 }
 
 pub alike_without : (s : Budget) (v : View) → KeepsAllButBudget (budgeted s v) v
 alike_without s v = record {
-  told = refl;
+  known = refl;
   bound = refl;
   advanceable = refl;
   failures = refl;
   taken = refl;
-  lends_whole = refl;
+  zero_copy = refl;
   remembers = refl;
   ends_at = refl;
 }
 
 alike_both : (s u : Budget) (v : View) → KeepsAllButBudget (budgeted s v) (budgeted u v)
 alike_both s u v = record {
-  told = refl;
+  known = refl;
   bound = refl;
   advanceable = refl;
   failures = refl;
   taken = refl;
-  lends_whole = refl;
+  zero_copy = refl;
   remembers = refl;
   ends_at = refl;
 }
@@ -106,7 +107,7 @@ goes_then : (total left now : ℕ) (a m n : Budget) (xs ys zs : List ℕ) → Go
 goes_then total left now a m n xs ys zs g h = record {
   skips = λ rest s.
       g.skips rest (h.skips rest s);
-  stops = λ e rest s. g.stops e rest (h.stops e rest s);
+  rejects = λ e rest s. g.rejects e rest (h.rejects e rest s);
 }
 
 -- some of them were skipped
@@ -115,29 +116,29 @@ goes_past : (total left some : ℕ) (budget inner : Budget) (xs ys : List ℕ) �
 goes_past total left some budget inner xs ys same sum h = record {
   skips = λ rest s. subst (λ n. SkipsItems n budget xs rest) (omega (arith, sum))
       (items_join some left budget xs ys rest h (subst (λ b. SkipsItems left b ys rest) same s));
-  stops = λ e rest s.
-      let k = subst (λ b. StopsSkippingItems left b ys e rest) same s in
+  rejects = λ e rest s.
+      let k = subst (λ b. RejectsSkippingItems left b ys e rest) same s in
       record {
-        front = join h.0 k.front;
+        prefix = join h.0 k.prefix;
         after = k.after;
-        few = omega (arith, count-join h.0 k.front, h.1, k.few, sum);
-        whole = each-join (Skippable budget) h.0 k.front h.2 k.whole;
-        is = h.3 ∙ ap (λ r. bytes_all h.0 ++ r) k.is ∙ sym (bytes-join h.0 k.front k.after);
+        few = omega (arith, count-join h.0 k.prefix, h.1, k.few, sum);
+        whole = each-join (Skippable budget) h.0 k.prefix h.2 k.whole;
+        is = h.3 ∙ ap (λ r. bytes_all h.0 ++ r) k.is ∙ sym (bytes-join h.0 k.prefix k.after);
         stopped = k.stopped;
       };
 }
 
 -- the head of the last was taken
 goes_into : (total n : ℕ) (budget between inner : Budget) (xs ys : List ℕ) → total ≡ 1
-    → inner ≡ between → step_in budget ≡ Some between → TakesHead between xs (behind.Items n) ys
+    → inner ≡ between → step_in budget ≡ Some between → TakesHead between xs (trailing.Items n) ys
     → GoesOn total budget inner xs n ys
 goes_into total n budget between inner xs ys last same step h = record {
   skips = λ rest s. subst (λ k. SkipsItems k budget xs rest) (omega (arith, last))
       (items_more 0 budget xs xs rest (items_none budget xs)
       (h.leads.skips rest (subst (λ b. SkipsItems n b ys rest) same s) budget step));
-  stops = λ e rest s. items_stop 0 total budget xs xs e rest (omega (arith, last))
+  rejects = λ e rest s. items_stop 0 total budget xs xs e rest (omega (arith, last))
       (items_none budget xs)
-      (h.leads.stops e rest (subst (λ b. StopsSkippingItems n b ys e rest) same s) budget step);
+      (h.leads.rejects e rest (subst (λ b. RejectsSkippingItems n b ys e rest) same s) budget step);
 }
 
 -- ---- one look further
@@ -151,20 +152,20 @@ module _ (left : ℕ) {a b : View} {sa sb : Budget} (e : a.budget ≡ sa) (f : b
   -- the head of the last item was taken
   pub gone_into : {E : Type 0} (n : ℕ) {went : Went} {c : View} → left ≡ 1 → went ≡ Into n
       → Does {E = E} (GoesUnder (among.Items left) b.budget)
-      (StopsSomeUnder (among.Items left) b.budget) b c (Ok went)
+      (RejectsSomeUnder (among.Items left) b.budget) b c (Ok went)
       → Does {E = E} (GoesOn left a.budget c.budget)
-      (StopsSkippingItems left a.budget) a (budgeted a.budget c) (Ok n)
+      (RejectsSkippingItems left a.budget) a (budgeted a.budget c) (Ok n)
   gone_into n {went = went} {c = c} last is d =
       let same : c.budget ≡ b.budget = d.moves.by.budget in
       does_around (λ xs k ys. (k ≡ n) × GoesOn left a.budget c.budget xs n ys)
-      (GoesOn left a.budget c.budget) (StopsSkippingItems left a.budget)
-      (StopsSkippingItems left a.budget)
+      (GoesOn left a.budget c.budget) (RejectsSkippingItems left a.budget)
+      (RejectsSkippingItems left a.budget)
       (λ xs ys k h. subst (λ j. GoesOn left a.budget c.budget xs j ys) (sym h.0) h.1)
       (λ xs e rest h. h) inward (alike_within a.budget c)
       (λ none. step_unbound a.budget b.budget steps none) (λ _. refl)
       (does_ok (λ xs k ys. (k ≡ n) × GoesOn left a.budget c.budget xs n ys)
-      (StopsSkippingItems left a.budget)
-      (reached_as (λ xs ys. TakesHead b.budget xs (behind.Items n) ys)
+      (RejectsSkippingItems left a.budget)
+      (reached_as (λ xs ys. TakesHead b.budget xs (trailing.Items n) ys)
       (λ xs ys. (n ≡ n) × GoesOn left a.budget c.budget xs n ys)
       (λ xs ys h. (
         refl,
@@ -175,16 +176,17 @@ module _ (left : ℕ) {a b : View} {sa sb : Budget} (e : a.budget ≡ sa) (f : b
 module _ (left : ℕ) {a d : View} where
   -- some were skipped
   pub gone_past : {E : Type 0} (some : ℕ) → 1 ≤ some → some ≤ left → Does {E = E}
-      (SkipsSome (among.Items left) a.budget) (StopsSome (among.Items left) a.budget) a d (Ok some)
+      (SkipsSome (among.Items left) a.budget) (RejectsSome (among.Items left) a.budget) a d
+      (Ok some)
       → Does {E = E} (GoesOn left a.budget d.budget)
-      (StopsSkippingItems left a.budget) a (budgeted a.budget d) (Ok (left - some))
+      (RejectsSkippingItems left a.budget) a (budgeted a.budget d) (Ok (left - some))
   gone_past some any few k =
       let same : d.budget ≡ a.budget = k.moves.by.budget in
       does_around (GoesOn left a.budget d.budget) (GoesOn left a.budget d.budget)
-      (StopsSkippingItems left a.budget) (StopsSkippingItems left a.budget) (λ xs ys v h. h)
+      (RejectsSkippingItems left a.budget) (RejectsSkippingItems left a.budget) (λ xs ys v h. h)
       (λ xs e rest h. h) (keeps_alike a a refl) (alike_within a.budget d) (λ none. none)
       (λ _. refl)
-      (does_ok (GoesOn left a.budget d.budget) (StopsSkippingItems left a.budget)
+      (does_ok (GoesOn left a.budget d.budget) (RejectsSkippingItems left a.budget)
       (reached_as (λ xs ys. SkipsSome (among.Items left) a.budget xs some ys)
       (λ xs ys. GoesOn left a.budget d.budget xs (left - some) ys)
       (λ xs ys h. goes_past left (left - some) some a.budget d.budget xs ys same
@@ -193,26 +195,27 @@ module _ (left : ℕ) {a d : View} where
 
   -- or it stopped
   pub gone_nowhere : {E : Type 0} {inner : Budget} {e : DecodeError E} → 1 ≤ left → Does {V = ℕ}
-      (SkipsSome (among.Items left) a.budget) (StopsSome (among.Items left) a.budget) a d (Err e)
+      (SkipsSome (among.Items left) a.budget) (RejectsSome (among.Items left) a.budget) a d (Err e)
       → Does {V = ℕ} (GoesOn left a.budget inner)
-      (StopsSkippingItems left a.budget) a (budgeted a.budget d) (Err e)
+      (RejectsSkippingItems left a.budget) a (budgeted a.budget d) (Err e)
   gone_nowhere {inner = inner} any k =
       does_around (GoesOn left a.budget inner) (GoesOn left a.budget inner)
-      (StopsSkippingItems left a.budget) (StopsSkippingItems left a.budget) (λ xs ys v h. h)
+      (RejectsSkippingItems left a.budget) (RejectsSkippingItems left a.budget) (λ xs ys v h. h)
       (λ xs e rest h. h) (keeps_alike a a refl) (alike_within a.budget d) (λ none. none)
       (λ _. refl)
       (does_err Same (SkipsSome (among.Items left) a.budget) (GoesOn left a.budget inner)
-      (StopsSkippingOne a.budget) (StopsSkippingItems left a.budget)
+      (RejectsSkippingOne a.budget) (RejectsSkippingItems left a.budget)
       (λ xs ys z rest e s. items_stop 0 left a.budget xs xs z rest (omega (arith, any))
-      (items_none a.budget xs) (subst (λ x. StopsSkippingOne a.budget x z rest) e s))
+      (items_none a.budget xs) (subst (λ x. RejectsSkippingOne a.budget x z rest) e s))
       (same_start a) k)
 
   -- no step was left
   pub gone_without : {E : Type 0} {inner : Budget} (failure : Option (DecodeError E)) (r : Option ℕ)
       → 1 ≤ left → IfSome r (λ n. n ≡ 0) → IfSome r (λ n. CountsAmong (among.Items left) n)
       → Does (SkipsSome (among.Items left) a.budget)
-      (StopsSome (among.Items left) a.budget) a d (answered r failure)
-      → Does (GoesOn left a.budget inner) (StopsSkippingItems left a.budget) a (budgeted a.budget d)
+      (RejectsSome (among.Items left) a.budget) a d (answered r failure)
+      → Does (GoesOn left a.budget inner) (RejectsSkippingItems left a.budget) a
+      (budgeted a.budget d)
       (answered r failure)
   gone_without failure (Some n) any none some k = absurd (omega (arith, none, some.0))
   gone_without failure None any none some k = gone_nowhere any k
@@ -222,7 +225,7 @@ module _ (left : ℕ) {a d : View} where
 module _ (total left : ℕ) {a m : View}
     (p : Reached (λ xs ys. GoesOn total a.budget m.budget xs left ys) a (budgeted a.budget m)) where
   pub gone_on : {E : Type 0} (now : ℕ) {n : View} → Does {E = E} (GoesOn left m.budget n.budget)
-      (StopsSkippingItems left m.budget) m (budgeted m.budget n) (Ok now)
+      (RejectsSkippingItems left m.budget) m (budgeted m.budget n) (Ok now)
       → (a.budget ≡ None → m.budget ≡ None)
       → Reached (λ xs ys. GoesOn total a.budget n.budget xs now ys) a (budgeted a.budget n)
   gone_on now {n = n} d unbound =
@@ -231,26 +234,26 @@ module _ (total left : ℕ) {a m : View}
       (λ xs ys. GoesOn total a.budget n.budget xs now ys)
       (λ xs ys zs g h. goes_then total left now a.budget m.budget n.budget xs ys zs g h) p
       (reached_by (does_budgeted a.budget (GoesOn left m.budget n.budget)
-      (StopsSkippingItems left m.budget) n unbound d))
+      (RejectsSkippingItems left m.budget) n unbound d))
 
   pub gone_no_further : {E : Type 0} {e : DecodeError E} {n : View}
       → (a.budget ≡ None → m.budget ≡ None) → Does {V = ℕ} (GoesOn left m.budget n.budget)
-      (StopsSkippingItems left m.budget) m (budgeted m.budget n) (Err e)
+      (RejectsSkippingItems left m.budget) m (budgeted m.budget n) (Err e)
       → Does {V = Unit {0}} (λ xs _ ys. SkipsItems total a.budget xs ys)
-      (StopsSkippingItems total a.budget) a (budgeted a.budget n) (Err e)
+      (RejectsSkippingItems total a.budget) a (budgeted a.budget n) (Err e)
   gone_no_further {n = n} unbound d =
       does_err (λ xs ys. GoesOn total a.budget m.budget xs left ys) (GoesOn left m.budget n.budget)
       (λ xs (_ : Unit {0}) ys. SkipsItems total a.budget xs ys)
-      (StopsSkippingItems left m.budget) (StopsSkippingItems total a.budget)
-      (λ xs ys z rest g s. g.stops z rest s) p (does_budgeted a.budget
-      (GoesOn left m.budget n.budget) (StopsSkippingItems left m.budget) n unbound d)
+      (RejectsSkippingItems left m.budget) (RejectsSkippingItems total a.budget)
+      (λ xs ys z rest g s. g.rejects z rest s) p (does_budgeted a.budget
+      (GoesOn left m.budget n.budget) (RejectsSkippingItems left m.budget) n unbound d)
 
   pub all_gone : {E : Type 0} → left ≡ 0
       → Does {E = E} (λ xs (_ : Unit {0}) ys. SkipsItems total a.budget xs ys)
-      (StopsSkippingItems total a.budget) a (budgeted a.budget m) (Ok tt)
+      (RejectsSkippingItems total a.budget) a (budgeted a.budget m) (Ok tt)
   all_gone none =
       does_ok (λ xs (_ : Unit {0}) ys. SkipsItems total a.budget xs ys)
-      (StopsSkippingItems total a.budget)
+      (RejectsSkippingItems total a.budget)
       (reached_as (λ xs ys. GoesOn total a.budget m.budget xs left ys)
       (SkipsItems total a.budget)
       (λ xs ys g. g.skips ys

@@ -4,25 +4,26 @@ use Rattle.std.proofs.Common.{length, take, drop, refl, sym, ap, ◌∙◌, subs
 use Rattle.std.proofs.Common.{take-append-drop, length-append, length-drop}
 use Rattle.std.proofs.lemmas.List.{length-take-le}
 use Rattle.std.specs.Int.{bytes_high_first}
-use Rattle.cbor4ii_items.specs.Head.{Width, byte_count, HeadFits, additional, ArgumentBehind}
+use Rattle.cbor4ii_items.specs.Head.{Width, byte_count, HeadFits, additional, ArgumentAfter}
 use Rattle.cbor4ii_items.specs.Head.{IsBytes, break}
 use Rattle.cbor4ii_items.specs.Initial.{info_of, wide, initial}
 use Rattle.cbor4ii_items.specs.Laws.Heads.{info-additional, length-bytes_high_first, same_wide}
-use Rattle.cbor4ii_items.specs.Laws.Fronts.{drop_more}
+use Rattle.cbor4ii_items.specs.Laws.Prefixes.{drop_more}
 use Rattle.cbor4ii_tree.specs.Cost.{Budget}
 use Rattle.cbor4ii_tree.specs.HeadParts.{ArgumentAt}
 use Rattle.cbor4ii_tree.specs.Runs.{IsLeafAt}
-use Rattle.cbor4ii_tree.specs.Skipping.{start_of, Leads, StopsSkippingBehind}
-use Rattle.cbor4ii_tree.specs.Refusal.{Refusal}
+use Rattle.cbor4ii_tree.specs.Skipping.{start_of, Leads, RejectsSkippingAfter}
+use Rattle.cbor4ii_tree.specs.InputError.{InputError}
 use Rattle.cbor4ii_tree.specs.declared.skip.Start.{Start}
 use Rattle.cbor4ii_tree.specs.Ahead.{BeginsHead, BeginsWithBreak}
-use Rattle.cbor4ii_tree.specs.declared.skip.Behind.{Behind}
-use Rattle.cbor4ii_tree.specs.declared.skip.Behind.TheVariants.{Nothing, Bytes, Items, Members}
-use Rattle.cbor4ii_tree.specs.declared.skip.Behind.TheVariants.{Open, OpenMembers}
+use Rattle.cbor4ii_tree.specs.declared.skip.After.{After}
+use Rattle.cbor4ii_tree.specs.declared.skip.After.TheVariants.{Nothing, Bytes, Items, Members}
+use Rattle.cbor4ii_tree.specs.declared.skip.After.TheVariants.{Indefinite, IndefiniteMembers}
 use Rattle.cbor4ii_tree.specs.declared.skip.Start.TheVariants as start
 use Rattle.cbor4ii_tree.proofs.heads.Inverse.{IsBytes-take, IsBytes-drop}
 use Rattle.cbor4ii_tree.proofs.skip_calls.Leading.{whole, content_info, items_info, members_info}
-use Rattle.cbor4ii_tree.proofs.skip_calls.Leading.{tag_info, open_leads, open_members_leads}
+use Rattle.cbor4ii_tree.proofs.skip_calls.Leading.{tag_info, indefinite_leads}
+use Rattle.cbor4ii_tree.proofs.skip_calls.Leading.{indefinite_members_leads}
 
 -- ---- an item that holds no other
 
@@ -45,16 +46,16 @@ sees_leaf size shown some l fresh = record {
 
 -- ---- heads
 
--- so many bytes behind the first
-behind_first : (size k : ℕ) (behind : Behind) (b : ℕ) (bs : List ℕ) → size ≡ suc k → b < 256
+-- so many bytes after the first
+after_first : (size k : ℕ) (trailing : After) (b : ℕ) (bs : List ℕ) → size ≡ suc k → b < 256
     → k ≤ length bs → IsBytes (take k bs)
-    → ((inner : Budget) (ys : List ℕ) (e : Refusal) (rest : List ℕ)
-    → StopsSkippingBehind behind inner ys e rest → b ≢ break)
+    → ((inner : Budget) (ys : List ℕ) (e : InputError) (rest : List ℕ)
+    → RejectsSkippingAfter trailing inner ys e rest → b ≢ break)
     → ((inner : Budget) (after : List ℕ)
-    → Leads inner (b ∷ (bs ++ after)) behind (drop k bs ++ after))
-    → BeginsHead size behind (b ∷ bs)
-behind_first size k behind b bs e small h fresh other f =
-    subst (λ j. BeginsHead j behind (b ∷ bs)) (sym e) (record {
+    → Leads inner (b ∷ (bs ++ after)) trailing (drop k bs ++ after))
+    → BeginsHead size trailing (b ∷ bs)
+after_first size k trailing b bs e small h fresh other f =
+    subst (λ j. BeginsHead j trailing (b ∷ bs)) (sym e) (record {
       some = omega arith;
       within = omega (arith, h);
       bytes = (small, fresh);
@@ -73,7 +74,7 @@ unfolding initial
 other_byte b s is f e = f (sym is ∙ ap (λ j. start_of (initial j)) e)
 
 module _ (b n k : ℕ) (bs : List ℕ) (small : b < 256) (fresh : IsBytes bs)
-    (a : ArgumentBehind (b % 32) bs n k) where
+    (a : ArgumentAfter (b % 32) bs n k) where
   within : k ≤ length bs
   within =
       omega (
@@ -100,7 +101,7 @@ module _ (b n k : ℕ) (bs : List ℕ) (small : b < 256) (fresh : IsBytes bs)
 
   pub sees_string : start_of (initial b) ≡ start.Content → BeginsHead (1 + k) (Bytes n) (b ∷ bs)
   sees_string s =
-      behind_first (1 + k) k (Bytes n) b bs (omega arith) small within (IsBytes-take k bs fresh)
+      after_first (1 + k) k (Bytes n) b bs (omega arith) small within (IsBytes-take k bs fresh)
       (λ _ _ _ _ _. other_byte b start.Content s (λ u. cc))
       (λ inner after. let i = content_info inner b small s in
       i.3 (bs ++ after) (drop k bs ++ after) n (read i.0 i.1 after))
@@ -109,7 +110,7 @@ module _ (b n k : ℕ) (bs : List ℕ) (small : b < 256) (fresh : IsBytes bs)
       → BeginsHead (1 + k + n) Nothing (b ∷ bs)
   sees_content s le =
       let room : n ≤ length (drop k bs) = omega (arith, length-drop k bs, le) in
-      behind_first (1 + k + n) (k + n) Nothing b bs (omega arith) small (omega (arith, le, within))
+      after_first (1 + k + n) (k + n) Nothing b bs (omega arith) small (omega (arith, le, within))
       (IsBytes-take (k + n) bs fresh) (λ _ _ _ _ h. absurd h)
       (λ inner after.
       let i = content_info inner b small s in
@@ -126,38 +127,39 @@ module _ (b n k : ℕ) (bs : List ℕ) (small : b < 256) (fresh : IsBytes bs)
 
   pub sees_items : start_of (initial b) ≡ start.Items → BeginsHead (1 + k) (Items n) (b ∷ bs)
   sees_items s =
-      behind_first (1 + k) k (Items n) b bs (omega arith) small within (IsBytes-take k bs fresh)
+      after_first (1 + k) k (Items n) b bs (omega arith) small within (IsBytes-take k bs fresh)
       (λ _ _ _ _ _. other_byte b start.Items s (λ u. cc))
       (λ inner after. let i = items_info inner b small s in
       i.3 (bs ++ after) (drop k bs ++ after) n (read i.0 i.1 after))
 
   pub sees_members : start_of (initial b) ≡ start.Members → BeginsHead (1 + k) (Members n) (b ∷ bs)
   sees_members s =
-      behind_first (1 + k) k (Members n) b bs (omega arith) small within (IsBytes-take k bs fresh)
+      after_first (1 + k) k (Members n) b bs (omega arith) small within (IsBytes-take k bs fresh)
       (λ _ _ _ _ _. other_byte b start.Members s (λ u. cc))
       (λ inner after. let i = members_info inner b small s in
       i.3 (bs ++ after) (drop k bs ++ after) n (read i.0 i.1 after))
 
   pub sees_tag : start_of (initial b) ≡ start.Tag → BeginsHead (1 + k) (Items 1) (b ∷ bs)
   sees_tag s =
-      behind_first (1 + k) k (Items 1) b bs (omega arith) small within (IsBytes-take k bs fresh)
+      after_first (1 + k) k (Items 1) b bs (omega arith) small within (IsBytes-take k bs fresh)
       (λ _ _ _ _ _. other_byte b start.Tag s (λ u. cc))
       (λ inner after. let i = tag_info inner b small s in
       i.3 (bs ++ after) (drop k bs ++ after) n (read i.0 i.1 after))
 
-pub sees_open : (b : ℕ) (bs : List ℕ) → b < 256 → start_of (initial b) ≡ start.Open
-    → BeginsHead 1 Open (b ∷ bs)
-sees_open b bs small s =
-    behind_first 1 0 Open b bs refl small (omega arith) tt
-    (λ _ _ _ _ _. other_byte b start.Open s (λ u. cc))
-    (λ inner after. open_leads inner b small s (bs ++ after))
+pub sees_indefinite : (b : ℕ) (bs : List ℕ) → b < 256 → start_of (initial b) ≡ start.Indefinite
+    → BeginsHead 1 Indefinite (b ∷ bs)
+sees_indefinite b bs small s =
+    after_first 1 0 Indefinite b bs refl small (omega arith) tt
+    (λ _ _ _ _ _. other_byte b start.Indefinite s (λ u. cc))
+    (λ inner after. indefinite_leads inner b small s (bs ++ after))
 
-pub sees_open_members : (b : ℕ) (bs : List ℕ) → b < 256 → start_of (initial b) ≡ start.OpenMembers
-    → BeginsHead 1 OpenMembers (b ∷ bs)
-sees_open_members b bs small s =
-    behind_first 1 0 OpenMembers b bs refl small (omega arith) tt
-    (λ _ _ _ _ _. other_byte b start.OpenMembers s (λ u. cc))
-    (λ inner after. open_members_leads inner b small s (bs ++ after))
+pub sees_indefinite_members : (b : ℕ) (bs : List ℕ) → b < 256 → start_of (initial b) ≡
+    start.IndefiniteMembers
+    → BeginsHead 1 IndefiniteMembers (b ∷ bs)
+sees_indefinite_members b bs small s =
+    after_first 1 0 IndefiniteMembers b bs refl small (omega arith) tt
+    (λ _ _ _ _ _. other_byte b start.IndefiniteMembers s (λ u. cc))
+    (λ inner after. indefinite_members_leads inner b small s (bs ++ after))
 
 -- ---- a break
 

@@ -4,30 +4,33 @@ use Rattle.std.proofs.Common.{◌++◌, length, refl, sym, ap, ap₂, ◌∙◌,
 use Rattle.std.proofs.Common.{append-nil, lt-ltb}
 use Rattle.std.proofs.lemmas.List.{nil_from_length}
 use Rattle.cbor4ii_items.specs.Head.{Width, in_first, one, two, four, eight, byte_count, HeadFits}
-use Rattle.cbor4ii_items.specs.Head.{head, open_head, break}
+use Rattle.cbor4ii_items.specs.Head.{head, indefinite_head, break}
 use Rattle.cbor4ii_items.specs.Initial.{sign_major, kind_major, precision_bytes, info_of, wide}
 use Rattle.cbor4ii_items.specs.Initial.{Initial, starts_int, starts_string, starts_chunks}
-use Rattle.cbor4ii_items.specs.Initial.{bad_string, starts_array, starts_open_array, bad_array}
-use Rattle.cbor4ii_items.specs.Initial.{starts_map, starts_open_map, bad_map, starts_tag, bad_tag}
+use Rattle.cbor4ii_items.specs.Initial.{bad_string, starts_array, starts_indefinite_array}
+use Rattle.cbor4ii_items.specs.Initial.{bad_array}
+use Rattle.cbor4ii_items.specs.Initial.{starts_map, starts_indefinite_map, bad_map, starts_tag}
+use Rattle.cbor4ii_items.specs.Initial.{bad_tag}
 use Rattle.cbor4ii_items.specs.Initial.{starts_simple, starts_bits, initial, Kind, Precision, Sign}
 use Rattle.cbor4ii_items.specs.Initial.{Simple}
 use Rattle.cbor4ii_items.specs.Decoding.{CostFits}
 use Rattle.cbor4ii_items.specs.Magnitude.{number_of}
 use Rattle.cbor4ii_items.specs.Laws.Answering.{fits_zero}
 use Rattle.cbor4ii_tree.specs.Tree.{Tree, Trees, no_trees, tree, Pairs, no_pairs, pair, int, string}
-use Rattle.cbor4ii_tree.specs.Tree.{chunked, array, array_open, map_of, map_open, tagged, simple}
+use Rattle.cbor4ii_tree.specs.Tree.{chunked, array, array_indefinite, map_of, map_indefinite}
+use Rattle.cbor4ii_tree.specs.Tree.{tagged, simple}
 use Rattle.cbor4ii_tree.specs.Tree.{bits, count, pair_count, bytes, bytes_all, bytes_pairs, Loose}
 use Rattle.cbor4ii_tree.specs.Tree.{LooseAll, LoosePairs}
 use Rattle.cbor4ii_tree.specs.Cost.{Budget, skip_cost, greatest_skip_cost, greatest_pair_skip_cost}
-use Rattle.cbor4ii_tree.specs.Refusal.{Refusal, mismatch, tag_name, ignored_any}
-use Rattle.cbor4ii_tree.specs.Stops.{Missing, MissingAll, StopsAtStep}
-use Rattle.cbor4ii_tree.specs.StopsSkipping.{SkippingStopsBy, StopsSkipping}
+use Rattle.cbor4ii_tree.specs.InputError.{InputError, mismatch, tag_name, ignored_any}
+use Rattle.cbor4ii_tree.specs.Rejections.{Missing, MissingAll, RejectsAtStep}
+use Rattle.cbor4ii_tree.specs.SkippingRejects.{SkippingRejectsBy, SkippingRejects}
 use Rattle.cbor4ii_tree.specs.HeadParts.{ArgumentAt, DropsBytes}
 use Rattle.cbor4ii_tree.specs.Runs.{TakesLeaf}
-use Rattle.cbor4ii_tree.specs.Skipping.{start_of, SkipsItems, StopsSkippingItems, SkipsUnder}
-use Rattle.cbor4ii_tree.specs.Skipping.{StopsSkippingUnder, Leads}
-use Rattle.cbor4ii_tree.specs.declared.skip.Behind.TheVariants.{Nothing, Bytes, Items, Members}
-use Rattle.cbor4ii_tree.specs.declared.skip.Behind.TheVariants.{Open, OpenMembers}
+use Rattle.cbor4ii_tree.specs.Skipping.{start_of, SkipsItems, RejectsSkippingItems, SkipsUnder}
+use Rattle.cbor4ii_tree.specs.Skipping.{RejectsSkippingUnder, Leads}
+use Rattle.cbor4ii_tree.specs.declared.skip.After.TheVariants.{Nothing, Bytes, Items, Members}
+use Rattle.cbor4ii_tree.specs.declared.skip.After.TheVariants.{Indefinite, IndefiniteMembers}
 use Rattle.cbor4ii_tree.specs.declared.skip.Start.TheVariants as start
 use Rattle.cbor4ii_tree.specs.Laws.Binds.{step_up}
 use Rattle.cbor4ii_tree.proofs.answers.Nesting.{skipping_by_parts}
@@ -65,46 +68,48 @@ pub starts_a_tag : (i : Initial) → start_of i ≡ start.Tag → (w : Width) ×
 starts_a_tag (starts_tag w) e = (w, refl)
 starts_a_tag _ e = cc
 
-pub starts_open : (i : Initial) → start_of i ≡ start.Open
-    → ((k : Kind) × (i ≡ starts_chunks k)) ⊎ (i ≡ starts_open_array)
-starts_open (starts_chunks k) e = inl (k, refl)
-starts_open starts_open_array e = inr refl
-starts_open _ e = cc
+pub starts_indefinite : (i : Initial) → start_of i ≡ start.Indefinite
+    → ((k : Kind) × (i ≡ starts_chunks k)) ⊎ (i ≡ starts_indefinite_array)
+starts_indefinite (starts_chunks k) e = inl (k, refl)
+starts_indefinite starts_indefinite_array e = inr refl
+starts_indefinite _ e = cc
 
-pub starts_open_members : (i : Initial) → start_of i ≡ start.OpenMembers → i ≡ starts_open_map
-starts_open_members starts_open_map e = refl
-starts_open_members _ e = cc
+pub starts_indefinite_members : (i : Initial) → start_of i ≡ start.IndefiniteMembers →
+    i ≡ starts_indefinite_map
+starts_indefinite_members starts_indefinite_map e = refl
+starts_indefinite_members _ e = cc
 
 -- ---- where it stops
 
-pub stops_by : (inner : Budget) (i : Initial) (b : ℕ) (bs : List ℕ) (e : Refusal) (rest : List ℕ)
-    → initial b ≡ i → SkippingStopsBy (λ part. StopsSkipping part inner) inner i b bs e rest
-    → StopsSkippingUnder inner (b ∷ bs) e rest
-stops_by inner i b bs e rest is h budget step =
+pub rejects_by : (inner : Budget) (i : Initial) (b : ℕ) (bs : List ℕ) (e : InputError)
+    (rest : List ℕ)
+    → initial b ≡ i → SkippingRejectsBy (λ part. SkippingRejects part inner) inner i b bs e rest
+    → RejectsSkippingUnder inner (b ∷ bs) e rest
+rejects_by inner i b bs e rest is h budget step =
     (skipping_by_parts (b ∷ bs) budget e rest).1
-    (subst (λ o. StopsAtStep ignored_any o (b ∷ bs) (λ inner. SkippingStopsBy
-    (λ part. StopsSkipping part inner) inner (initial b) b bs) e rest) (sym step)
-    (subst (λ j. SkippingStopsBy (λ part. StopsSkipping part inner) inner j b bs e rest)
+    (subst (λ o. RejectsAtStep ignored_any o (b ∷ bs) (λ inner. SkippingRejectsBy
+    (λ part. SkippingRejects part inner) inner (initial b) b bs) e rest) (sym step)
+    (subst (λ j. SkippingRejectsBy (λ part. SkippingRejects part inner) inner j b bs e rest)
     (sym is) h))
 
 pub is_taken : (inner : Budget) (b : ℕ) (bs : List ℕ) → start_of (initial b) ≡ start.Taken
-    → StopsSkippingUnder inner (b ∷ bs) (mismatch ignored_any b) bs
+    → RejectsSkippingUnder inner (b ∷ bs) (mismatch ignored_any b) bs
 is_taken inner b bs e = by_row (initial b) refl e
   where
     by_row : (i : Initial) → initial b ≡ i → start_of i ≡ start.Taken
-        → StopsSkippingUnder inner (b ∷ bs) (mismatch ignored_any b) bs
-    by_row (bad_string k) is e = stops_by inner (bad_string k) b bs _ _ is (refl, refl)
-    by_row bad_array is e = stops_by inner bad_array b bs _ _ is (refl, refl)
-    by_row bad_map is e = stops_by inner bad_map b bs _ _ is (refl, refl)
+        → RejectsSkippingUnder inner (b ∷ bs) (mismatch ignored_any b) bs
+    by_row (bad_string k) is e = rejects_by inner (bad_string k) b bs _ _ is (refl, refl)
+    by_row bad_array is e = rejects_by inner bad_array b bs _ _ is (refl, refl)
+    by_row bad_map is e = rejects_by inner bad_map b bs _ _ is (refl, refl)
     by_row _ is e = cc
 
 pub no_tag : (inner : Budget) (b : ℕ) (bs : List ℕ) → start_of (initial b) ≡ start.NoTag
-    → StopsSkippingUnder inner (b ∷ bs) (mismatch tag_name b) bs
+    → RejectsSkippingUnder inner (b ∷ bs) (mismatch tag_name b) bs
 no_tag inner b bs e = by_row (initial b) refl e
   where
     by_row : (i : Initial) → initial b ≡ i → start_of i ≡ start.NoTag
-        → StopsSkippingUnder inner (b ∷ bs) (mismatch tag_name b) bs
-    by_row bad_tag is e = stops_by inner bad_tag b bs _ _ is (refl, refl)
+        → RejectsSkippingUnder inner (b ∷ bs) (mismatch tag_name b) bs
+    by_row bad_tag is e = rejects_by inner bad_tag b bs _ _ is (refl, refl)
     by_row _ is e = cc
 
 -- ---- heads
@@ -132,7 +137,7 @@ info_by two i h = rw h refl
 info_by four i h = rw h refl
 info_by eight i h = rw h refl
 
--- a row that has a width tells it of the additional information
+-- a row that has a width reports it of the additional information
 pub head_info : (major : ℕ) (w : Width) (b : ℕ) → HeadByte major w b → info_of (b % 32) ≡ wide w
 head_info major w b h = info_by w (b % 32) (says_at major w b h).1
 
@@ -193,10 +198,10 @@ whole inner xs ys (t, l, is) = record {
       begins = is ∙ ap (λ r. bytes t ++ r) (sym e);
     },
   );
-  stops = λ e rest h. absurd h;
+  rejects = λ e rest h. absurd h;
 }
 
--- so many bytes behind the first are all of the item
+-- so many bytes after the first are all of the item
 pub bytes_leaf : (b k : ℕ) (bs ys : List ℕ) → b < 256 → start_of (initial b) ≡ start.Bytes k
     → DropsBytes k bs ys → TakesLeaf (b ∷ bs) ys
 bytes_leaf b k bs ys small e d = elim (starts_bytes (initial b) k e) [
@@ -224,15 +229,15 @@ pub leads_bytes : (inner : Budget) (b k : ℕ) (bs ys : List ℕ) → b < 256
     → start_of (initial b) ≡ start.Bytes k → DropsBytes k bs ys → Leads inner (b ∷ bs) Nothing ys
 leads_bytes inner b k bs ys small e d = whole inner (b ∷ bs) ys (bytes_leaf b k bs ys small e d)
 
-pub bytes_cut : (inner : Budget) (b k : ℕ) (bs : List ℕ) (e : Refusal) (rest : List ℕ)
+pub bytes_cut : (inner : Budget) (b k : ℕ) (bs : List ℕ) (e : InputError) (rest : List ℕ)
     → start_of (initial b) ≡ start.Bytes k → Missing ignored_any k bs e rest
-    → StopsSkippingUnder inner (b ∷ bs) e rest
+    → RejectsSkippingUnder inner (b ∷ bs) e rest
 bytes_cut inner b k bs e rest s h = elim (starts_bytes (initial b) k s) [
-  | inl x ↦ stops_by inner (starts_int x.0 x.1) b bs e rest x.2
+  | inl x ↦ rejects_by inner (starts_int x.0 x.1) b bs e rest x.2
       (subst (λ j. Missing ignored_any j bs e rest) (sym x.3) h)
   | inr y ↦ elim y [
     | inl x ↦ absurd (omega (arith, h.0, x.2))
-    | inr x ↦ stops_by inner (starts_bits x.0) b bs e rest x.1
+    | inr x ↦ rejects_by inner (starts_bits x.0) b bs e rest x.1
         (subst (λ j. Missing ignored_any j bs e rest) (sym x.2) h)
   ]
 ]
@@ -280,8 +285,9 @@ module _ (inner : Budget) (b : ℕ) (small : b < 256) where
   -- strings
   module _ (s : start_of (initial b) ≡ start.Content) where
     pub content_info : (w : Width) × (info_of (b % 32) ≡ wide w)
-        × ((bs : List ℕ) (e : Refusal) (rest : List ℕ) → MissingAll ignored_any (byte_count w) bs e
-        rest → StopsSkippingUnder inner (b ∷ bs) e rest)
+        × ((bs : List ℕ) (e : InputError) (rest : List ℕ) → MissingAll ignored_any
+        (byte_count w) bs e
+        rest → RejectsSkippingUnder inner (b ∷ bs) e rest)
         × ((bs ys : List ℕ) (n : ℕ) → ArgumentAt w b bs n ys → Leads inner (b ∷ bs) (Bytes n) ys)
         × ((bs ys zs : List ℕ) (n : ℕ) → ArgumentAt w b bs n ys → DropsBytes n ys zs
         → TakesLeaf (b ∷ bs) zs)
@@ -297,10 +303,10 @@ module _ (inner : Budget) (b : ℕ) (small : b < 256) where
         ) in (
           x.1,
           head_info (kind_major x.0) x.1 b m,
-          λ bs e rest h. stops_by inner (starts_string x.0 x.1) b bs e rest x.2 (inl h),
+          λ bs e rest h. rejects_by inner (starts_string x.0 x.1) b bs e rest x.2 (inl h),
           λ bs ys n a. record {
             skips = λ rest d. (whole inner (b ∷ bs) rest (leaf bs ys rest n a d)).skips rest refl;
-            stops = λ e rest h. stops_by inner (starts_string x.0 x.1) b bs e rest x.2
+            rejects = λ e rest h. rejects_by inner (starts_string x.0 x.1) b bs e rest x.2
                 (inr (record {
                   argument = n;
                   after = ys;
@@ -312,7 +318,7 @@ module _ (inner : Budget) (b : ℕ) (small : b < 256) where
           leaf,
         )
 
-  -- so many items behind a head
+  -- so many items after a head
   items_lead : (major n : ℕ) (w : Width) (bs ys : List ℕ) (make : Trees → Tree)
       → b ∷ bs ≡ head major n w ++ ys
       → ((ts : Trees) → count ts ≡ n → LooseAll ts
@@ -334,15 +340,16 @@ module _ (inner : Budget) (b : ℕ) (small : b < 256) where
 
   module _ (s : start_of (initial b) ≡ start.Items) where
     pub items_info : (w : Width) × (info_of (b % 32) ≡ wide w)
-        × ((bs : List ℕ) (e : Refusal) (rest : List ℕ) → MissingAll ignored_any (byte_count w) bs e
-        rest → StopsSkippingUnder inner (b ∷ bs) e rest)
+        × ((bs : List ℕ) (e : InputError) (rest : List ℕ) → MissingAll ignored_any
+        (byte_count w) bs e
+        rest → RejectsSkippingUnder inner (b ∷ bs) e rest)
         × ((bs ys : List ℕ) (n : ℕ) → ArgumentAt w b bs n ys → Leads inner (b ∷ bs) (Items n) ys)
     items_info =
         let x = starts_items (initial b) s in
         let m = row b (starts_array x.0) small x.1 in (
           x.0,
           head_info 4 x.0 b m,
-          λ bs e rest h. stops_by inner (starts_array x.0) b bs e rest x.1 (inl h),
+          λ bs e rest h. rejects_by inner (starts_array x.0) b bs e rest x.1 (inl h),
           λ bs ys n a. record {
             skips =
                 items_lead 4 n x.0 bs ys (array x.0) (head_is 4 x.0 b n bs ys m a)
@@ -351,8 +358,8 @@ module _ (inner : Budget) (b : ℕ) (small : b < 256) where
                   refl,
                   ap (λ j. head 4 j x.0 ++ bytes_all ts) c,
                 ));
-            stops = λ e rest h.
-                stops_by inner (starts_array x.0) b bs e rest x.1 (inr (record {
+            rejects = λ e rest h.
+                rejects_by inner (starts_array x.0) b bs e rest x.1 (inr (record {
                   argument = n;
                   after = ys;
                   fits = a.fits;
@@ -376,15 +383,15 @@ module _ (inner : Budget) (b : ℕ) (small : b < 256) where
     one_tree w n f (tree t (tree u us)) c l = absurd (omega (arith, c))
 
     pub tag_info : (w : Width) × (info_of (b % 32) ≡ wide w)
-        × ((bs : List ℕ) (e : Refusal) (rest : List ℕ) → MissingAll tag_name (byte_count w) bs e
-        rest → StopsSkippingUnder inner (b ∷ bs) e rest)
+        × ((bs : List ℕ) (e : InputError) (rest : List ℕ) → MissingAll tag_name (byte_count w) bs e
+        rest → RejectsSkippingUnder inner (b ∷ bs) e rest)
         × ((bs ys : List ℕ) (n : ℕ) → ArgumentAt w b bs n ys → Leads inner (b ∷ bs) (Items 1) ys)
     tag_info =
         let x = starts_a_tag (initial b) s in
         let m = row b (starts_tag x.0) small x.1 in (
           x.0,
           head_info 6 x.0 b m,
-          λ bs e rest h. stops_by inner (starts_tag x.0) b bs e rest x.1 (inl h),
+          λ bs e rest h. rejects_by inner (starts_tag x.0) b bs e rest x.1 (inl h),
           λ bs ys n a. record {
             skips = λ rest h budget step.
                 let all = all_skippable h.0 inner h.2 in
@@ -401,7 +408,7 @@ module _ (inner : Budget) (b : ℕ) (small : b < 256) where
                         ∙ ap (λ r. r ++ rest) (sym t.3)));
                   },
                 );
-            stops = λ e rest h. stops_by inner (starts_tag x.0) b bs e rest x.1
+            rejects = λ e rest h. rejects_by inner (starts_tag x.0) b bs e rest x.1
                 (inr (record {
                   argument = n;
                   after = ys;
@@ -412,13 +419,14 @@ module _ (inner : Budget) (b : ℕ) (small : b < 256) where
           },
         )
       where
-        only : (ys : List ℕ) (e : Refusal) (rest : List ℕ) → StopsSkippingItems 1 inner ys e rest
-            → StopsSkipping ys inner e rest
-        only ys e rest h = at_front h.front h.few h.is
+        only : (ys : List ℕ) (e : InputError) (rest : List ℕ) → RejectsSkippingItems 1 inner
+            ys e rest
+            → SkippingRejects ys inner e rest
+        only ys e rest h = at_front h.prefix h.few h.is
           where
             at_front : (ts : Trees) → count ts < 1 → ys ≡ bytes_all ts ++ h.after
-                → StopsSkipping ys inner e rest
-            at_front no_trees f is = subst (λ x. StopsSkipping x inner e rest) (sym is) h.stopped
+                → SkippingRejects ys inner e rest
+            at_front no_trees f is = subst (λ x. SkippingRejects x inner e rest) (sym is) h.stopped
             at_front (tree t ts) f is = absurd (omega (arith, f))
 
   -- keys and values in turn
@@ -440,15 +448,16 @@ module _ (inner : Budget) (b : ℕ) (small : b < 256) where
 
   module _ (s : start_of (initial b) ≡ start.Members) where
     pub members_info : (w : Width) × (info_of (b % 32) ≡ wide w)
-        × ((bs : List ℕ) (e : Refusal) (rest : List ℕ) → MissingAll ignored_any (byte_count w) bs e
-        rest → StopsSkippingUnder inner (b ∷ bs) e rest)
+        × ((bs : List ℕ) (e : InputError) (rest : List ℕ) → MissingAll ignored_any
+        (byte_count w) bs e
+        rest → RejectsSkippingUnder inner (b ∷ bs) e rest)
         × ((bs ys : List ℕ) (n : ℕ) → ArgumentAt w b bs n ys → Leads inner (b ∷ bs) (Members n) ys)
     members_info =
         let x = starts_members (initial b) s in
         let m = row b (starts_map x.0) small x.1 in (
           x.0,
           head_info 5 x.0 b m,
-          λ bs e rest h. stops_by inner (starts_map x.0) b bs e rest x.1 (inl h),
+          λ bs e rest h. rejects_by inner (starts_map x.0) b bs e rest x.1 (inl h),
           λ bs ys n a. record {
             skips = λ rest h budget step.
                 let all = all_skippable h.0 inner h.2 in
@@ -464,8 +473,8 @@ module _ (inner : Budget) (b : ℕ) (small : b < 256) where
                         (head_is 5 x.0 b n bs ys m a) t.1 (h.3 ∙ ap (λ r. r ++ rest) (sym t.4));
                   },
                 );
-            stops = λ e rest h.
-                stops_by inner (starts_map x.0) b bs e rest x.1 (inr (record {
+            rejects = λ e rest h.
+                rejects_by inner (starts_map x.0) b bs e rest x.1 (inr (record {
                   argument = n;
                   after = ys;
                   fits = a.fits;
@@ -476,43 +485,45 @@ module _ (inner : Budget) (b : ℕ) (small : b < 256) where
         )
 
   -- items up to a break
-  pub open_leads : start_of (initial b) ≡ start.Open → (ys : List ℕ) → Leads inner (b ∷ ys) Open ys
-  open_leads s ys = elim (starts_open (initial b) s) [
+  pub indefinite_leads : start_of (initial b) ≡ start.Indefinite → (ys : List ℕ) → Leads inner
+      (b ∷ ys) Indefinite ys
+  indefinite_leads s ys = elim (starts_indefinite (initial b) s) [
     | inl x ↦ (let m : Means b (starts_chunks x.0) = row b (starts_chunks x.0) small x.1 in record {
       skips = λ rest h budget step. let all = all_skippable h.0 inner h.1 in (
         chunked x.0 h.0,
         record {
           loose = all.0;
           fits = step_up budget inner _ step all.1;
-          begins = ended (open_head (kind_major x.0)) (bytes_all h.0) ys rest m h.2;
+          begins = ended (indefinite_head (kind_major x.0)) (bytes_all h.0) ys rest m h.2;
         },
       );
-      stops = λ e rest h. stops_by inner (starts_chunks x.0) b ys e rest x.1 h;
+      rejects = λ e rest h. rejects_by inner (starts_chunks x.0) b ys e rest x.1 h;
     })
-    | inr x ↦ (let m : Means b starts_open_array = row b starts_open_array small x in record {
-      skips = λ rest h budget step. let all = all_skippable h.0 inner h.1 in (
-        array_open h.0,
+    | inr x ↦ (let m : Means b starts_indefinite_array = row b starts_indefinite_array small x in
         record {
-          loose = all.0;
-          fits = step_up budget inner _ step all.1;
-          begins = ended (open_head 4) (bytes_all h.0) ys rest m h.2;
-        },
-      );
-      stops = λ e rest h. stops_by inner starts_open_array b ys e rest x h;
-    })
+          skips = λ rest h budget step. let all = all_skippable h.0 inner h.1 in (
+            array_indefinite h.0,
+            record {
+              loose = all.0;
+              fits = step_up budget inner _ step all.1;
+              begins = ended (indefinite_head 4) (bytes_all h.0) ys rest m h.2;
+            },
+          );
+          rejects = λ e rest h. rejects_by inner starts_indefinite_array b ys e rest x h;
+        })
   ]
     where
       ended : (o : ℕ) (part ys rest : List ℕ) → b ≡ o → ys ≡ part ++ (break ∷ rest)
           → b ∷ ys ≡ (o ∷ (part ++ break ∷ [])) ++ rest
       ended o part ys rest e f = ap₂ ◌∷◌ e (f ∙ sym (append_assoc part (break ∷ []) rest))
 
-  pub open_members_leads : start_of (initial b) ≡ start.OpenMembers → (ys : List ℕ)
-      → Leads inner (b ∷ ys) OpenMembers ys
-  open_members_leads s ys =
-      let x = starts_open_members (initial b) s in
-      let m : Means b starts_open_map = row b starts_open_map small x in record {
+  pub indefinite_members_leads : start_of (initial b) ≡ start.IndefiniteMembers → (ys : List ℕ)
+      → Leads inner (b ∷ ys) IndefiniteMembers ys
+  indefinite_members_leads s ys =
+      let x = starts_indefinite_members (initial b) s in
+      let m : Means b starts_indefinite_map = row b starts_indefinite_map small x in record {
         skips = λ rest h budget step. let all = all_pairs_skippable h.0 inner h.1 in (
-          map_open h.0,
+          map_indefinite h.0,
           record {
             loose = all.0;
             fits = step_up budget inner _ step all.1;
@@ -520,5 +531,5 @@ module _ (inner : Budget) (b : ℕ) (small : b < 256) where
                 ap₂ ◌∷◌ m (h.2 ∙ sym (append_assoc (bytes_pairs h.0) (break ∷ []) rest));
           },
         );
-        stops = λ e rest h. stops_by inner starts_open_map b ys e rest x h;
+        rejects = λ e rest h. rejects_by inner starts_indefinite_map b ys e rest x h;
       }

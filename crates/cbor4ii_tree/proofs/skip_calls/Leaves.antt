@@ -1,4 +1,4 @@
--- Items that hold no other, one behind another.
+-- Items that hold no other, one after another.
 use Rattle.std.proofs.Common.{◌≡◌, ◌≢◌, ℕ, zero, suc, ◌+◌, ◌-◌, ◌*◌, ◌%◌, ◌<◌, ◌≤◌, ◌&&◌, List, []}
 use Rattle.std.proofs.Common.{◌∷◌, ◌++◌, length, get_or, take, drop, None, refl, sym, ap, ap₂, ◌∙◌}
 use Rattle.std.proofs.Common.{subst, arith, true, false, Bool, cond, ltb, ltb-true, eqb, eqb-true}
@@ -13,8 +13,8 @@ use Rattle.cbor4ii_items.specs.Initial.{initial}
 use Rattle.cbor4ii_items.specs.Decoding.{CostFits}
 use Rattle.cbor4ii_tree.specs.Tree.{Trees, no_trees, tree, count, bytes, bytes_all}
 use Rattle.cbor4ii_tree.specs.Cost.{Budget}
-use Rattle.cbor4ii_tree.specs.Stops.{Each}
-use Rattle.cbor4ii_tree.specs.StopsSkipping.{Skippable}
+use Rattle.cbor4ii_tree.specs.Rejections.{Each}
+use Rattle.cbor4ii_tree.specs.SkippingRejects.{Skippable}
 use Rattle.cbor4ii_tree.specs.HeadParts.{DropsBytes}
 use Rattle.cbor4ii_tree.specs.Skipping.{start_of, SkipsItems}
 use Rattle.cbor4ii_tree.specs.Runs.{IsLeaf, TakesLeaf, IsLeafAt, IsPairAt, BeginsRun, TakesRun}
@@ -41,7 +41,7 @@ zero_is : (t : Bool) (low k : ℕ) → eqb low 0 ≡ t → cond t 1 0 ≡ suc k 
 zero_is true low k e h = (omega (arith, h), eqb-true low 0 e)
 zero_is false low k e h = absurd (omega (arith, h))
 
--- the first byte, and as many behind it as it says
+-- the first byte, and as many after it as it says
 leaf_here : (b k : ℕ) (bs : List ℕ) → b < 256 → leaf_bytes b ≡ suc k → length bs ≡ k → IsBytes bs
     → TakesLeaf (b ∷ bs) []
 unfolding leaf_bytes

@@ -4,8 +4,8 @@ use Rattle.std.proofs.Common.{arith, append_assoc, append-nil}
 use Rattle.cbor4ii_tree.specs.Tree.{Tree, Trees, no_trees, tree, Pairs, no_pairs, pair, count}
 use Rattle.cbor4ii_tree.specs.Tree.{bytes, bytes_all, bytes_pairs}
 use Rattle.cbor4ii_tree.specs.Cost.{Budget}
-use Rattle.cbor4ii_tree.specs.Stops.{Each, EachPair}
-use Rattle.cbor4ii_tree.specs.StopsSkipping.{Skippable}
+use Rattle.cbor4ii_tree.specs.Rejections.{Each, EachPair}
+use Rattle.cbor4ii_tree.specs.SkippingRejects.{Skippable}
 use Rattle.cbor4ii_tree.specs.Skipping.{SkipsItems}
 use Rattle.cbor4ii_tree.proofs.skip_calls.Parts.{SkippedPairs}
 use Rattle.cbor4ii_tree.proofs.skip_calls.Calls.{WithKey}

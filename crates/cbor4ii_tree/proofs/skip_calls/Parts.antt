@@ -1,16 +1,17 @@
--- Items that are skipped one behind another.
+-- Items that are skipped one after another.
 use Rattle.std.proofs.Common.{◌≡◌, ◌≢◌, ℕ, ◌+◌, ◌<◌, inl, inr, List, [], ◌∷◌, ◌++◌, true, false}
 use Rattle.std.proofs.Common.{refl, sym, ap, ap₂, ◌∙◌, take, drop, arith, subst, ◌≤◌}
 use Rattle.cbor4ii_items.specs.Head.{break}
 use Rattle.cbor4ii_items.specs.Strings.{ReadsBreak}
 use Rattle.cbor4ii_tree.specs.Tree.{Trees, no_trees, Pairs, no_pairs, bytes, bytes_all, bytes_pairs}
 use Rattle.cbor4ii_tree.specs.Cost.{Budget}
-use Rattle.cbor4ii_tree.specs.Refusal.{Refusal}
-use Rattle.cbor4ii_tree.specs.Stops.{Each, EachPair, NoBreak}
-use Rattle.cbor4ii_tree.specs.StopsSkipping.{Skippable}
-use Rattle.cbor4ii_tree.specs.Skipping.{SkipsOne, StopsSkippingOne, SkipsItems, StopsSkippingItems}
-use Rattle.cbor4ii_tree.specs.Skipping.{SkipsOpen, StopsSkippingOpen, SkipsMembers}
-use Rattle.cbor4ii_tree.specs.Skipping.{StopsSkippingMembers}
+use Rattle.cbor4ii_tree.specs.InputError.{InputError}
+use Rattle.cbor4ii_tree.specs.Rejections.{Each, EachPair, NoBreak}
+use Rattle.cbor4ii_tree.specs.SkippingRejects.{Skippable}
+use Rattle.cbor4ii_tree.specs.Skipping.{SkipsOne, RejectsSkippingOne, SkipsItems}
+use Rattle.cbor4ii_tree.specs.Skipping.{RejectsSkippingItems}
+use Rattle.cbor4ii_tree.specs.Skipping.{SkipsIndefinite, RejectsSkippingIndefinite, SkipsMembers}
+use Rattle.cbor4ii_tree.specs.Skipping.{RejectsSkippingMembers}
 use Rattle.cbor4ii_tree.proofs.parts.Joined.{join, count-join, each-join, bytes-join}
 use Rattle.cbor4ii_tree.proofs.parts.Pushed.{push, count-push, each-push, bytes-push, push_pair}
 use Rattle.cbor4ii_tree.proofs.parts.Pushed.{each-push_pair, bytes-push_pair}
@@ -59,27 +60,36 @@ items_more n budget xs ys zs h k = (
   h.3 ∙ ap (λ r. bytes_all h.0 ++ r) k.1.begins ∙ sym (bytes-push h.0 k.0 zs),
 )
 
-pub items_stop : (i n : ℕ) (budget : Budget) (xs ys : List ℕ) (e : Refusal) (rest : List ℕ) → i < n
-    → SkipsItems i budget xs ys → StopsSkippingOne budget ys e rest
-    → StopsSkippingItems n budget xs e rest
+pub items_stop : (i n : ℕ) (budget : Budget) (xs ys : List ℕ) (e : InputError) (rest : List ℕ)
+    → i < n
+    → SkipsItems i budget xs ys → RejectsSkippingOne budget ys e rest
+    → RejectsSkippingItems n budget xs e rest
 items_stop i n budget xs ys e rest lt h s =
-    record { front = h.0; after = ys; few = omega (arith, h.1); whole = h.2; is = h.3; stopped = s }
+    record {
+      prefix = h.0;
+      after = ys;
+      few = omega (arith, h.1);
+      whole = h.2;
+      is = h.3;
+      stopped = s;
+    }
 
-pub no_break : (budget : Budget) (ys : List ℕ) (e : Refusal) (rest : List ℕ) → ys ≢ []
-    → (take_break : (bs : List ℕ) → ys ≡ break ∷ bs → ⊥) → StopsSkippingOne budget ys e rest
-    → NoBreak (StopsSkippingOne budget) ys e rest
+pub no_break : (budget : Budget) (ys : List ℕ) (e : InputError) (rest : List ℕ) → ys ≢ []
+    → (take_break : (bs : List ℕ) → ys ≡ break ∷ bs → ⊥) → RejectsSkippingOne budget ys e rest
+    → NoBreak (RejectsSkippingOne budget) ys e rest
 no_break budget [] e rest some none s = absurd (some refl)
 no_break budget (b ∷ bs) e rest some none s = ((λ f. none bs (ap (λ c. c ∷ bs) f)), s)
 
-pub open_stop : (budget : Budget) (xs ys : List ℕ) (e : Refusal) (rest : List ℕ)
-    → SkippedEach budget xs ys → NoBreak (StopsSkippingOne budget) ys e rest
-    → StopsSkippingOpen budget xs e rest
-open_stop budget xs ys e rest h s =
-    record { front = h.0; after = ys; whole = h.1; is = h.2; stopped = s }
+pub indefinite_stop : (budget : Budget) (xs ys : List ℕ) (e : InputError) (rest : List ℕ)
+    → SkippedEach budget xs ys → NoBreak (RejectsSkippingOne budget) ys e rest
+    → RejectsSkippingIndefinite budget xs e rest
+indefinite_stop budget xs ys e rest h s =
+    record { prefix = h.0; after = ys; whole = h.1; is = h.2; stopped = s }
 
-pub open_done : (budget : Budget) (xs ys zs : List ℕ) → SkippedEach budget xs ys → ys ≡ break ∷ zs
-    → SkipsOpen budget xs zs
-open_done budget xs ys zs h e = (h.0, h.1, h.2 ∙ ap (λ r. bytes_all h.0 ++ r) e)
+pub indefinite_done : (budget : Budget) (xs ys zs : List ℕ) → SkippedEach budget xs ys →
+    ys ≡ break ∷ zs
+    → SkipsIndefinite budget xs zs
+indefinite_done budget xs ys zs h e = (h.0, h.1, h.2 ∙ ap (λ r. bytes_all h.0 ++ r) e)
 
 -- ---- some at once
 
@@ -100,9 +110,9 @@ pub left_none : (total left : ℕ) (budget : Budget) (xs ys : List ℕ) → left
 left_none total left budget xs ys none h =
     subst (λ n. SkipsItems n budget xs ys) (omega (arith, h.1, none)) h.2
 
-pub left_stop : (total left : ℕ) (budget : Budget) (xs ys : List ℕ) (e : Refusal) (rest : List ℕ)
-    → 1 ≤ left → Left total left budget xs ys → StopsSkippingOne budget ys e rest
-    → StopsSkippingItems total budget xs e rest
+pub left_stop : (total left : ℕ) (budget : Budget) (xs ys : List ℕ) (e : InputError) (rest : List ℕ)
+    → 1 ≤ left → Left total left budget xs ys → RejectsSkippingOne budget ys e rest
+    → RejectsSkippingItems total budget xs e rest
 left_stop total left budget xs ys e rest some h s =
     items_stop h.0 total budget xs ys e rest (omega (arith, h.1, some)) h.2 s
 
@@ -117,18 +127,18 @@ pairs_more budget xs ys ws zs h k v = (
       ∙ sym (bytes-push_pair h.0 k.0 v.0 zs),
 )
 
-pub key_stop : (budget : Budget) (xs ys : List ℕ) (e : Refusal) (rest : List ℕ)
-    → SkippedPairs budget xs ys → NoBreak (StopsSkippingOne budget) ys e rest
-    → StopsSkippingMembers budget xs e rest
+pub key_stop : (budget : Budget) (xs ys : List ℕ) (e : InputError) (rest : List ℕ)
+    → SkippedPairs budget xs ys → NoBreak (RejectsSkippingOne budget) ys e rest
+    → RejectsSkippingMembers budget xs e rest
 key_stop budget xs ys e rest h s =
-    record { front = h.0; after = ys; whole = h.1; is = h.2; stopped = inl s }
+    record { prefix = h.0; after = ys; whole = h.1; is = h.2; stopped = inl s }
 
-pub value_stop : (budget : Budget) (xs ys ws : List ℕ) (e : Refusal) (rest : List ℕ)
-    → SkippedPairs budget xs ys → SkipsOne budget ys ws → StopsSkippingOne budget ws e rest
-    → StopsSkippingMembers budget xs e rest
+pub value_stop : (budget : Budget) (xs ys ws : List ℕ) (e : InputError) (rest : List ℕ)
+    → SkippedPairs budget xs ys → SkipsOne budget ys ws → RejectsSkippingOne budget ws e rest
+    → RejectsSkippingMembers budget xs e rest
 value_stop budget xs ys ws e rest h k s =
     record {
-      front = h.0;
+      prefix = h.0;
       after = ys;
       whole = h.1;
       is = h.2;

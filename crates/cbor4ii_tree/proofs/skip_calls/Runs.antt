@@ -1,4 +1,4 @@
--- Calls of skipping that take some items, one behind another.
+-- Calls of skipping that take some items, one after another.
 use Rattle.std.proofs.Common.{◌≡◌, ◌≢◌, ℕ, ◌+◌, ◌≤◌, inl, inr, List, [], ◌∷◌, ◌++◌, append-nil}
 use Rattle.std.proofs.Common.{Result, Ok, Err, Option, Some, None, Bool, true, false, IsTrue, IfOk}
 use Rattle.std.proofs.Common.{IfErr, IfSome, refl, sym, ap, ◌∙◌, subst, arith}
@@ -9,35 +9,39 @@ use Rattle.cbor4ii_rw.specs.declared.error.DecodeError.{DecodeError}
 use Rattle.cbor4ii_rw.specs.declared.error.DecodeError.TheVariants.{DepthOverflow}
 use Rattle.cbor4ii_items.specs.Head.{break}
 use Rattle.cbor4ii_items.specs.Moves.{Moves}
-use Rattle.cbor4ii_items.specs.Decoding.{Sound, Stops}
-use Rattle.cbor4ii_items.specs.Strings.{ReadsBreak, StopsBreak}
-use Rattle.cbor4ii_items.specs.Refusal.{Refusal}
+use Rattle.cbor4ii_items.specs.Decoding.{Sound, Rejects}
+use Rattle.cbor4ii_items.specs.Strings.{ReadsBreak, RejectsBreak}
+use Rattle.cbor4ii_items.specs.InputError.{InputError}
 use Rattle.cbor4ii_items.specs.Laws.Answering.{fits_zero}
 use Rattle.cbor4ii_items.specs.Laws.UnderStep.{no_step}
-use Rattle.cbor4ii_tree.specs.Refusal.{depth_overflow, ignored_any}
+use Rattle.cbor4ii_tree.specs.InputError.{depth_overflow, ignored_any}
 use Rattle.cbor4ii_tree.specs.Tree.{no_trees, tree, bytes}
 use Rattle.cbor4ii_tree.specs.Cost.{Budget}
-use Rattle.cbor4ii_tree.specs.Stops.{Stopping, NoBreak}
+use Rattle.cbor4ii_tree.specs.Rejections.{Stopping, NoBreak}
 use Rattle.cbor4ii_tree.specs.Does.{Accepting, Does}
-use Rattle.cbor4ii_tree.specs.Skipping.{SkipsOne, StopsSkippingOne, SkipsItems, StopsSkippingItems}
-use Rattle.cbor4ii_tree.specs.Skipping.{SkipsUnder, StopsSkippingUnder, SkipsBehind}
-use Rattle.cbor4ii_tree.specs.Skipping.{StopsSkippingBehind}
+use Rattle.cbor4ii_tree.specs.Skipping.{SkipsOne, RejectsSkippingOne, SkipsItems}
+use Rattle.cbor4ii_tree.specs.Skipping.{RejectsSkippingItems}
+use Rattle.cbor4ii_tree.specs.Skipping.{SkipsUnder, RejectsSkippingUnder, SkipsAfter}
+use Rattle.cbor4ii_tree.specs.Skipping.{RejectsSkippingAfter}
 use Rattle.cbor4ii_tree.specs.Ahead.{TakesAhead, TakesHead, Passes, Allows, Awaits, CountsAmong}
-use Rattle.cbor4ii_tree.specs.Ahead.{IsOpen, SkipsSome, StopsSome, SkipsSomeUnder, StopsSomeUnder}
-use Rattle.cbor4ii_tree.specs.Ahead.{GoesUnder, CountsWent, EndsOrNot, StopsAtEnd, NeverStops}
-use Rattle.cbor4ii_tree.specs.declared.skip.Behind.{Behind}
-use Rattle.cbor4ii_tree.specs.declared.skip.Behind.TheVariants.{Nothing}
-use Rattle.cbor4ii_tree.specs.declared.skip.Behind.TheVariants as left_behind
+use Rattle.cbor4ii_tree.specs.Ahead.{IsIndefinite, SkipsSome, RejectsSome, SkipsSomeUnder}
+use Rattle.cbor4ii_tree.specs.Ahead.{RejectsSomeUnder}
+use Rattle.cbor4ii_tree.specs.Ahead.{GoesUnder, CountsWent, EndsOrNot, RejectsAtEnd, NeverRejects}
+use Rattle.cbor4ii_tree.specs.declared.skip.After.{After}
+use Rattle.cbor4ii_tree.specs.declared.skip.After.TheVariants.{Nothing}
+use Rattle.cbor4ii_tree.specs.declared.skip.After.TheVariants as left_after
 use Rattle.cbor4ii_tree.specs.declared.skip.Went.{Went}
 use Rattle.cbor4ii_tree.specs.declared.skip.Went.TheVariants.{Past, Into}
 use Rattle.cbor4ii_tree.specs.declared.ahead.Among.{Among}
-use Rattle.cbor4ii_tree.specs.declared.ahead.Among.TheVariants.{Items, Pairs, OpenItems, OpenPairs}
+use Rattle.cbor4ii_tree.specs.declared.ahead.Among.TheVariants.{Items, Pairs, IndefiniteItems}
+use Rattle.cbor4ii_tree.specs.declared.ahead.Among.TheVariants.{IndefinitePairs}
 use Rattle.cbor4ii_tree.specs.declared.ahead.Ahead.{Ahead}
 use Rattle.cbor4ii_tree.specs.declared.ahead.Ahead.TheVariants.{Run, Head, Unseen}
 use Rattle.cbor4ii_tree.specs.Laws.Binds.{step_up}
 use Rattle.cbor4ii_tree.proofs.skip_calls.Doing.{Reached, reached_start, reached_by, reached_then}
 use Rattle.cbor4ii_tree.proofs.skip_calls.Doing.{reached_as, reached_sound, does_after, does_ok}
-use Rattle.cbor4ii_tree.proofs.skip_calls.Doing.{does_err, does_stops, does_stepped, does_refuse_by}
+use Rattle.cbor4ii_tree.proofs.skip_calls.Doing.{does_err, does_rejects, does_stepped}
+use Rattle.cbor4ii_tree.proofs.skip_calls.Doing.{does_reject_by}
 use Rattle.cbor4ii_tree.proofs.skip_calls.Doing.{steps_in, kept_budget}
 use Rattle.cbor4ii_tree.proofs.skip_calls.Leaves.{run_items}
 use Rattle.cbor4ii_tree.proofs.skip_calls.Parts.{IsOther, after_break, other_byte, no_break}
@@ -61,22 +65,22 @@ same_stop A B S {a = a} d =
 pub counts_one : (among : Among) → Awaits among → CountsAmong among 1
 counts_one (Items most) h = (omega arith, h)
 counts_one (Pairs most) h = (omega arith, omega (arith, h))
-counts_one OpenItems h = tt
-counts_one OpenPairs h = tt
+counts_one IndefiniteItems h = tt
+counts_one IndefinitePairs h = tt
 
-pub counts_none : (among : Among) → IsOpen among → CountsAmong among 0
+pub counts_none : (among : Among) → IsIndefinite among → CountsAmong among 0
 counts_none (Items most) h = absurd h
 counts_none (Pairs most) h = absurd h
-counts_none OpenItems h = tt
-counts_none OpenPairs h = tt
+counts_none IndefiniteItems h = tt
+counts_none IndefinitePairs h = tt
 
 pub passes_some : (among : Among) (n size old new : ℕ) {seen : Ahead} → seen ≡ Run n size
     → Passes among seen old new → (1 ≤ n) × Allows among n × (new + 1 ≤ old)
 passes_some among n size old new is h = subst (λ s. Passes among s old new) is h
 
-pub passes_head : (among : Among) (size : ℕ) (behind : Behind) (old new : ℕ) {seen : Ahead}
-    → seen ≡ Head size behind → Passes among seen old new → new + 1 ≤ old
-passes_head among size behind old new is h = subst (λ s. Passes among s old new) is h
+pub passes_head : (among : Among) (size : ℕ) (trailing : After) (old new : ℕ) {seen : Ahead}
+    → seen ≡ Head size trailing → Passes among seen old new → new + 1 ≤ old
+passes_head among size trailing old new is h = subst (λ s. Passes among s old new) is h
 
 -- ---- how far an answer leads
 
@@ -89,37 +93,39 @@ pub progress_around : (r : Option ℕ) (a b c d : ℕ) → IfSome r (λ n. 1 ≤
 progress_around (Some n) a b c d h e f = λ some. omega (arith, e, f, h some)
 progress_around None a b c d h k f = tt
 
--- ---- where an item stops
+-- ---- where an item is rejected
 
-stops_among : (among : Among) (budget : Budget) (xs : List ℕ) (e : Refusal) (rest : List ℕ)
-    → (IsOpen among → (xs ≢ []) × ((bs : List ℕ) → xs ≡ break ∷ bs → ⊥))
-    → StopsSkippingOne budget xs e rest → StopsSome among budget xs e rest
-stops_among (Items most) budget xs e rest h s = s
-stops_among (Pairs most) budget xs e rest h s = s
-stops_among OpenItems budget xs e rest h s = let o = h tt in no_break budget xs e rest o.0 o.1 s
-stops_among OpenPairs budget xs e rest h s = let o = h tt in no_break budget xs e rest o.0 o.1 s
+rejects_among : (among : Among) (budget : Budget) (xs : List ℕ) (e : InputError) (rest : List ℕ)
+    → (IsIndefinite among → (xs ≢ []) × ((bs : List ℕ) → xs ≡ break ∷ bs → ⊥))
+    → RejectsSkippingOne budget xs e rest → RejectsSome among budget xs e rest
+rejects_among (Items most) budget xs e rest h s = s
+rejects_among (Pairs most) budget xs e rest h s = s
+rejects_among IndefiniteItems budget xs e rest h s =
+    let o = h tt in no_break budget xs e rest o.0 o.1 s
+rejects_among IndefinitePairs budget xs e rest h s =
+    let o = h tt in no_break budget xs e rest o.0 o.1 s
 
-end_stops : (among : Among) (budget : Budget) (xs : List ℕ) (e : Refusal) (rest : List ℕ)
-    → StopsAtEnd among xs e rest → StopsSome among budget xs e rest
-end_stops (Items most) budget xs e rest h = absurd h.0
-end_stops (Pairs most) budget xs e rest h = absurd h.0
-end_stops OpenItems budget xs e rest h =
-    subst (λ ys. NoBreak (StopsSkippingOne budget) ys e rest) (sym h.1) h.2
-end_stops OpenPairs budget xs e rest h =
-    subst (λ ys. NoBreak (StopsSkippingOne budget) ys e rest) (sym h.1) h.2
+end_rejects : (among : Among) (budget : Budget) (xs : List ℕ) (e : InputError) (rest : List ℕ)
+    → RejectsAtEnd among xs e rest → RejectsSome among budget xs e rest
+end_rejects (Items most) budget xs e rest h = absurd h.0
+end_rejects (Pairs most) budget xs e rest h = absurd h.0
+end_rejects IndefiniteItems budget xs e rest h =
+    subst (λ ys. NoBreak (RejectsSkippingOne budget) ys e rest) (sym h.1) h.2
+end_rejects IndefinitePairs budget xs e rest h =
+    subst (λ ys. NoBreak (RejectsSkippingOne budget) ys e rest) (sym h.1) h.2
 
 -- ---- a break where one may come
 
-module _ (among : Among) (here : IsOpen among) {a b : View} where
+module _ (among : Among) (here : IsIndefinite among) {a b : View} where
   pub ends_here : {E : Type 0} (v : Bool) → Moves {E = E} a b (Ok v) → Sound ReadsBreak a b v
-      → Does {E = E} (EndsOrNot among) (StopsAtEnd among) a b (Ok v)
+      → Does {E = E} (EndsOrNot among) (RejectsAtEnd among) a b (Ok v)
   ends_here true moves s =
-      does_ok (EndsOrNot among) (StopsAtEnd among) (reached_as (λ xs ys. xs ≡ break ∷ ys)
+      does_ok (EndsOrNot among) (RejectsAtEnd among) (reached_as (λ xs ys. xs ≡ break ∷ ys)
       (λ xs ys. EndsOrNot among xs true ys) (λ xs ys e. (here, e))
       (reached_sound ReadsBreak (λ xs ys. xs ≡ break ∷ ys)
       (λ xs n c _ r. after_break xs n c r) moves s))
   ends_here false moves s =
-      does_ok (EndsOrNot among) (StopsAtEnd among)
+      does_ok (EndsOrNot among) (RejectsAtEnd among)
       (reached_as IsOther (λ xs ys. EndsOrNot among xs false ys)
       (λ xs ys o. (
         o.0,
@@ -131,58 +137,63 @@ module _ (among : Among) (here : IsOpen among) {a b : View} where
       (reached_sound ReadsBreak IsOther (λ xs n c _ r. other_byte xs n c r) moves s))
 
   pub ends_cut : {E : Type 0} {e : DecodeError E} → Moves {V = Bool} a b (Err e)
-      → Stops StopsBreak a b e → Does {V = Bool} (EndsOrNot among) (StopsAtEnd among) a b (Err e)
+      → Rejects RejectsBreak a b e → Does {V = Bool} (EndsOrNot among) (RejectsAtEnd among) a b
+      (Err e)
   ends_cut moves s =
-      does_err Same (λ xs (_ : Bool) ys. Unit {0}) (EndsOrNot among) (λ xs. StopsBreak xs a.budget)
-      (StopsAtEnd among)
+      does_err Same (λ xs (_ : Bool) ys. Unit {0}) (EndsOrNot among)
+      (λ xs. RejectsBreak xs a.budget)
+      (RejectsAtEnd among)
       (λ xs ys z rest e k. (here, sym e ∙ k.0, (k.1, k.2))) (same_start a)
-      (does_stops (λ xs (_ : Bool) ys. Unit {0}) StopsBreak moves s)
+      (does_rejects (λ xs (_ : Bool) ys. Unit {0}) RejectsBreak moves s)
 
-pub ends_open : {E : Type 0} (among : Among) (r : Result Bool (DecodeError E)) {a b : View}
-    → IsOpen among → Moves a b r → IfOk r (Sound ReadsBreak a b) → IfErr r (Stops StopsBreak a b)
-    → Does (EndsOrNot among) (StopsAtEnd among) a b r
-ends_open among (Ok v) here moves sound stops = ends_here among here v moves sound
-ends_open among (Err e) here moves sound stops = ends_cut among here moves stops
+pub ends_indefinite : {E : Type 0} (among : Among) (r : Result Bool (DecodeError E)) {a b : View}
+    → IsIndefinite among → Moves a b r → IfOk r (Sound ReadsBreak a b) → IfErr r
+    (Rejects RejectsBreak a b)
+    → Does (EndsOrNot among) (RejectsAtEnd among) a b r
+ends_indefinite among (Ok v) here moves sound rejects = ends_here among here v moves sound
+ends_indefinite among (Err e) here moves sound rejects = ends_cut among here moves rejects
 
-pub open_where : {E : Type 0} (among : Among) (r : Result Bool (DecodeError E)) → IsOpen among
-    → IfOk r (λ ended. IsTrue ended → IsOpen among)
-open_where among (Ok v) here = λ _. here
-open_where among (Err e) here = tt
+pub indefinite_where : {E : Type 0} (among : Among) (r : Result Bool (DecodeError E)) →
+    IsIndefinite among
+    → IfOk r (λ ended. IsTrue ended → IsIndefinite among)
+indefinite_where among (Ok v) here = λ _. here
+indefinite_where among (Err e) here = tt
 
-pub ends_not : {E : Type 0} (among : Among) {a : View} → (IsOpen among → ⊥)
-    → Does {E = E} (EndsOrNot among) (StopsAtEnd among) a a (Ok false)
+pub ends_not : {E : Type 0} (among : Among) {a : View} → (IsIndefinite among → ⊥)
+    → Does {E = E} (EndsOrNot among) (RejectsAtEnd among) a a (Ok false)
 ends_not among {a = a} closed =
-    does_ok (EndsOrNot among) (StopsAtEnd among) (reached_start
+    does_ok (EndsOrNot among) (RejectsAtEnd among) (reached_start
     (λ xs ys. EndsOrNot among xs false ys) a (λ xs. (refl, λ o. absurd (closed o))))
 
 module _ (among : Among) {a m : View} where
   pub ended_some : {E : Type 0} {v : Bool} → v ≡ true
-      → Does {E = E} (EndsOrNot among) (StopsAtEnd among) a m (Ok v)
-      → Does {E = E} (SkipsSomeUnder among a.budget) (StopsSomeUnder among a.budget) a m (Ok 0)
+      → Does {E = E} (EndsOrNot among) (RejectsAtEnd among) a m (Ok v)
+      → Does {E = E} (SkipsSomeUnder among a.budget) (RejectsSomeUnder among a.budget) a m (Ok 0)
   ended_some {v = v} is d =
-      does_ok (SkipsSomeUnder among a.budget) (StopsSomeUnder among a.budget)
+      does_ok (SkipsSomeUnder among a.budget) (RejectsSomeUnder among a.budget)
       (reached_as (λ xs ys. EndsOrNot among xs v ys)
       (λ xs ys. SkipsSomeUnder among a.budget xs 0 ys)
       (λ xs ys h budget step. let k = subst (λ z. EndsOrNot among xs z ys) is h in
       inl (k.0, refl, k.1)) (reached_by d))
 
   pub cut_some : {E : Type 0} {e : DecodeError E}
-      → Does {V = Bool} (EndsOrNot among) (StopsAtEnd among) a m (Err e)
-      → Does {V = ℕ} (SkipsSomeUnder among a.budget) (StopsSomeUnder among a.budget) a m (Err e)
+      → Does {V = Bool} (EndsOrNot among) (RejectsAtEnd among) a m (Err e)
+      → Does {V = ℕ} (SkipsSomeUnder among a.budget) (RejectsSomeUnder among a.budget) a m (Err e)
   cut_some d =
-      does_err Same (EndsOrNot among) (SkipsSomeUnder among a.budget) (StopsAtEnd among)
-      (StopsSomeUnder among a.budget)
-      (λ xs ys z rest e s budget step. subst (λ x. StopsSome among budget x z rest) e
-      (end_stops among budget ys z rest s)) (same_start a) d
+      does_err Same (EndsOrNot among) (SkipsSomeUnder among a.budget) (RejectsAtEnd among)
+      (RejectsSomeUnder among a.budget)
+      (λ xs ys z rest e s budget step. subst (λ x. RejectsSome among budget x z rest) e
+      (end_rejects among budget ys z rest s)) (same_start a) d
 
   -- the item that stands here was skipped
   pub one_unseen : {E : Type 0} {v : Bool} {u : Unit {0}} {b : View} → v ≡ false
-      → Does {E = E} (EndsOrNot among) (StopsAtEnd among) a m (Ok v)
-      → Does {E = E} (λ xs _ ys. SkipsUnder m.budget xs ys) (StopsSkippingUnder m.budget) m b (Ok u)
-      → Does {E = E} (SkipsSomeUnder among a.budget) (StopsSomeUnder among a.budget) a b (Ok 1)
+      → Does {E = E} (EndsOrNot among) (RejectsAtEnd among) a m (Ok v)
+      → Does {E = E} (λ xs _ ys. SkipsUnder m.budget xs ys) (RejectsSkippingUnder m.budget) m
+      b (Ok u)
+      → Does {E = E} (SkipsSomeUnder among a.budget) (RejectsSomeUnder among a.budget) a b (Ok 1)
   one_unseen {v = v} is d k =
       let same : m.budget ≡ a.budget = d.moves.by.budget in
-      does_ok (SkipsSomeUnder among a.budget) (StopsSomeUnder among a.budget)
+      does_ok (SkipsSomeUnder among a.budget) (RejectsSomeUnder among a.budget)
       (reached_then (λ xs ys. EndsOrNot among xs v ys) (SkipsUnder m.budget)
       (λ xs ys. SkipsSomeUnder among a.budget xs 1 ys)
       (λ xs ys zs h s budget step.
@@ -196,50 +207,51 @@ module _ (among : Among) {a m : View} where
 
   -- or it stopped
   pub stopped_unseen : {E : Type 0} {v : Bool} {e : DecodeError E} {b : View} → v ≡ false
-      → Does {E = E} (EndsOrNot among) (StopsAtEnd among) a m (Ok v) → Does {V = Unit {0}}
-      (λ xs _ ys. SkipsUnder m.budget xs ys) (StopsSkippingUnder m.budget) m b (Err e)
-      → Does {V = ℕ} (SkipsSomeUnder among a.budget) (StopsSomeUnder among a.budget) a b (Err e)
+      → Does {E = E} (EndsOrNot among) (RejectsAtEnd among) a m (Ok v) → Does {V = Unit {0}}
+      (λ xs _ ys. SkipsUnder m.budget xs ys) (RejectsSkippingUnder m.budget) m b (Err e)
+      → Does {V = ℕ} (SkipsSomeUnder among a.budget) (RejectsSomeUnder among a.budget) a b (Err e)
   stopped_unseen {v = v} is d k =
       let same : m.budget ≡ a.budget = d.moves.by.budget in
       does_err (λ xs ys. EndsOrNot among xs v ys)
       (λ xs (_ : Unit {0}) ys. SkipsUnder m.budget xs ys) (SkipsSomeUnder among a.budget)
-      (StopsSkippingUnder m.budget) (StopsSomeUnder among a.budget)
+      (RejectsSkippingUnder m.budget) (RejectsSomeUnder among a.budget)
       (λ xs ys z rest h s budget step.
       let o = subst (λ z. EndsOrNot among xs z ys) is h in
-      subst (λ x. StopsSome among budget x z rest) o.0
-      (stops_among among budget ys z rest o.1 (s budget (step ∙ ap Some (sym same)))))
+      subst (λ x. RejectsSome among budget x z rest) o.0
+      (rejects_among among budget ys z rest o.1 (s budget (step ∙ ap Some (sym same)))))
       (reached_by d) k
 
   -- no step is left
   pub ended_none : {E : Type 0} {v : Bool} → v ≡ true
-      → Does {E = E} (EndsOrNot among) (StopsAtEnd among) a m (Ok v)
-      → Does {E = E} (SkipsSome among (Some 0)) (StopsSome among (Some 0)) a m (Ok 0)
+      → Does {E = E} (EndsOrNot among) (RejectsAtEnd among) a m (Ok v)
+      → Does {E = E} (SkipsSome among (Some 0)) (RejectsSome among (Some 0)) a m (Ok 0)
   ended_none {v = v} is d =
-      does_ok (SkipsSome among (Some 0)) (StopsSome among (Some 0))
+      does_ok (SkipsSome among (Some 0)) (RejectsSome among (Some 0))
       (reached_as (λ xs ys. EndsOrNot among xs v ys) (λ xs ys. SkipsSome among (Some 0) xs 0 ys)
       (λ xs ys h. let k = subst (λ z. EndsOrNot among xs z ys) is h in inl (k.0, refl, k.1))
       (reached_by d))
 
   pub cut_none : {E : Type 0} {e : DecodeError E}
-      → Does {V = Bool} (EndsOrNot among) (StopsAtEnd among) a m (Err e)
-      → Does {V = ℕ} (SkipsSome among (Some 0)) (StopsSome among (Some 0)) a m (Err e)
+      → Does {V = Bool} (EndsOrNot among) (RejectsAtEnd among) a m (Err e)
+      → Does {V = ℕ} (SkipsSome among (Some 0)) (RejectsSome among (Some 0)) a m (Err e)
   cut_none d =
-      does_err Same (EndsOrNot among) (SkipsSome among (Some 0)) (StopsAtEnd among)
-      (StopsSome among (Some 0))
-      (λ xs ys z rest e s. subst (λ x. StopsSome among (Some 0) x z rest) e
-      (end_stops among (Some 0) ys z rest s)) (same_start a) d
+      does_err Same (EndsOrNot among) (SkipsSome among (Some 0)) (RejectsAtEnd among)
+      (RejectsSome among (Some 0))
+      (λ xs ys z rest e s. subst (λ x. RejectsSome among (Some 0) x z rest) e
+      (end_rejects among (Some 0) ys z rest s)) (same_start a) d
 
   pub stopped_none : {E : Type 0} {v : Bool} {name : Bor (List ℕ)} → a.budget ≡ Some 0
       → name.now ≡ ignored_any → v ≡ false
-      → Does {E = E} (EndsOrNot among) (StopsAtEnd among) a m (Ok v) → Does {V = ℕ} {E = E}
-      (SkipsSome among (Some 0)) (StopsSome among (Some 0)) a m (Err (DepthOverflow name))
+      → Does {E = E} (EndsOrNot among) (RejectsAtEnd among) a m (Ok v) → Does {V = ℕ} {E = E}
+      (SkipsSome among (Some 0)) (RejectsSome among (Some 0)) a m (Err (DepthOverflow name))
   stopped_none {v = v} {name = name} left named is d =
-      does_refuse_by (λ xs ys. EndsOrNot among xs v ys) (SkipsSome among (Some 0))
-      (StopsSome among (Some 0))
+      does_reject_by (λ xs ys. EndsOrNot among xs v ys) (SkipsSome among (Some 0))
+      (RejectsSome among (Some 0))
       (depth_overflow name.now) refl refl (λ none. some_none a.budget none left)
       (λ xs ys h.
       let o = subst (λ z. EndsOrNot among xs z ys) is h in
-      subst (λ x. StopsSome among (Some 0) x (depth_overflow name.now) ys) o.0 (stops_among among
+      subst (λ x. RejectsSome among (Some 0) x (depth_overflow name.now) ys) o.0
+      (rejects_among among
       (Some 0) ys (depth_overflow name.now) ys o.1 (ap depth_overflow named, refl)))
       (reached_by d)
     where
@@ -251,13 +263,13 @@ module _ (among : Among) {a m : View} where
 pub some_by : {E : Type 0} (among : Among) {r : Result ℕ (DecodeError E)} {a b c d : View}
     {sa sb sc sd : Budget} → a.budget ≡ sa → b.budget ≡ sb → c.budget ≡ sc → d.budget ≡ sd
     → StepsIn sa sb true → KeepsAllButBudget a b → Does (SkipsSomeUnder among b.budget)
-    (StopsSomeUnder among b.budget) b c r → sd ≡ step_back sc → KeepsAllButBudget c d
-    → Does (SkipsSome among a.budget) (StopsSome among a.budget) a d r
+    (RejectsSomeUnder among b.budget) b c r → sd ≡ step_back sc → KeepsAllButBudget c d
+    → Does (SkipsSome among a.budget) (RejectsSome among a.budget) a d r
 some_by among {a = a} {b = b} {sa = sa} e f g h takes inward w gives outward =
     let steps = subst (λ o. StepsIn o b.budget true) (sym e)
     (subst (λ o. StepsIn sa o true) (sym f) takes) in
     does_stepped (SkipsSomeUnder among b.budget) (SkipsSome among a.budget)
-    (StopsSomeUnder among b.budget) (StopsSome among a.budget)
+    (RejectsSomeUnder among b.budget) (RejectsSome among a.budget)
     (λ xs ys v h. h a.budget (steps_in a.budget b.budget steps))
     (λ xs e rest h. h a.budget (steps_in a.budget b.budget steps)) steps inward w
     (h ∙ (gives ∙ ap step_back (sym g))) outward
@@ -267,30 +279,31 @@ none_left sa sb left e h = let n = no_step sa sb h in e ∙ (n.1 ∙ n.0)
 
 pub without_step : {E : Type 0} (among : Among) {r : Result ℕ (DecodeError E)} {a b c : View}
     {sa sb : Budget} → a.budget ≡ sa → b.budget ≡ sb → StepsIn sa sb false → KeepsAllButBudget a b
-    → Does (SkipsSome among (Some 0)) (StopsSome among (Some 0)) b c r
-    → Does (SkipsSome among a.budget) (StopsSome among a.budget) a c r
+    → Does (SkipsSome among (Some 0)) (RejectsSome among (Some 0)) b c r
+    → Does (SkipsSome among a.budget) (RejectsSome among a.budget) a c r
 without_step among {a = a} {b = b} {sa = sa} {sb = sb} e f takes k d =
     let n = no_step sa sb takes in
     let none : Some 0 ≡ a.budget = sym (e ∙ n.0) in
-    does_after Same (SkipsSome among (Some 0)) (SkipsSome among a.budget) (StopsSome among (Some 0))
-    (StopsSome among a.budget)
+    does_after Same (SkipsSome among (Some 0)) (SkipsSome among a.budget)
+    (RejectsSome among (Some 0))
+    (RejectsSome among a.budget)
     (λ xs ys zs v e s. subst (λ o. SkipsSome among o xs v zs) none
     (subst (λ x. SkipsSome among (Some 0) x v zs) e s))
-    (λ xs ys z rest e s. subst (λ o. StopsSome among o xs z rest) none
-    (subst (λ x. StopsSome among (Some 0) x z rest) e s))
+    (λ xs ys z rest e s. subst (λ o. RejectsSome among o xs z rest) none
+    (subst (λ x. RejectsSome among (Some 0) x z rest) e s))
     (record {
       kept = kept_budget a b k (f ∙ (n.1 ∙ sym e));
-      at = λ xs told. (xs, k.told ∙ told, refl);
+      at = λ xs known. (xs, k.known ∙ known, refl);
     }) d
 
 -- ---- under it
 
 -- a run was taken
 pub ran : {E : Type 0} (among : Among) (n size : ℕ) {seen : Ahead} {a m : View} → seen ≡ Run n size
-    → 1 ≤ n → Does {V = Ahead} {E = E} (TakesAhead among a.budget) NeverStops a m (Ok seen)
-    → Does {E = E} (SkipsSomeUnder among a.budget) (StopsSomeUnder among a.budget) a m (Ok n)
+    → 1 ≤ n → Does {V = Ahead} {E = E} (TakesAhead among a.budget) NeverRejects a m (Ok seen)
+    → Does {E = E} (SkipsSomeUnder among a.budget) (RejectsSomeUnder among a.budget) a m (Ok n)
 ran among n size {seen = seen} {a = a} is some d =
-    does_ok (SkipsSomeUnder among a.budget) (StopsSomeUnder among a.budget)
+    does_ok (SkipsSomeUnder among a.budget) (RejectsSomeUnder among a.budget)
     (reached_as (λ xs ys. TakesAhead among a.budget xs seen ys)
     (λ xs ys. SkipsSomeUnder among a.budget xs n ys)
     (λ xs ys h budget step. inr (
@@ -302,83 +315,83 @@ ran among n size {seen = seen} {a = a} is some d =
 
 -- the reader failed
 pub not_ran : {U E : Type 0} (among : Among) (A : Accepting U) (T : Stopping) {e : DecodeError E}
-    {a b : View} → Does {V = Ahead} (TakesAhead among a.budget) NeverStops a b (Err e)
+    {a b : View} → Does {V = Ahead} (TakesAhead among a.budget) NeverRejects a b (Err e)
     → Does {V = U} A T a b (Err e)
 not_ran among A T {a = a} d =
-    does_err Same (TakesAhead among a.budget) A NeverStops T (λ xs ys z rest u h. absurd h)
+    does_err Same (TakesAhead among a.budget) A NeverRejects T (λ xs ys z rest u h. absurd h)
     (same_start a) d
 
--- what is behind a head was skipped
-module _ (among : Among) (behind : Behind) {a m : View} (same : m.budget ≡ a.budget)
-    (p : Reached (λ xs ys. TakesHead a.budget xs behind ys) a m) where
-  behind_one : {E : Type 0} {u : Unit {0}} {b : View}
-      → Does {E = E} (λ xs _ ys. SkipsBehind behind m.budget xs ys)
-      (StopsSkippingBehind behind m.budget) m b (Ok u)
-      → Does {E = E} (SkipsSomeUnder among a.budget) (StopsSomeUnder among a.budget) a b (Ok 1)
-  behind_one d =
-      does_ok (SkipsSomeUnder among a.budget) (StopsSomeUnder among a.budget)
-      (reached_then (λ xs ys. TakesHead a.budget xs behind ys) (SkipsBehind behind m.budget)
+-- what follows a head was skipped
+module _ (among : Among) (trailing : After) {a m : View} (same : m.budget ≡ a.budget)
+    (p : Reached (λ xs ys. TakesHead a.budget xs trailing ys) a m) where
+  after_one : {E : Type 0} {u : Unit {0}} {b : View}
+      → Does {E = E} (λ xs _ ys. SkipsAfter trailing m.budget xs ys)
+      (RejectsSkippingAfter trailing m.budget) m b (Ok u)
+      → Does {E = E} (SkipsSomeUnder among a.budget) (RejectsSomeUnder among a.budget) a b (Ok 1)
+  after_one d =
+      does_ok (SkipsSomeUnder among a.budget) (RejectsSomeUnder among a.budget)
+      (reached_then (λ xs ys. TakesHead a.budget xs trailing ys) (SkipsAfter trailing m.budget)
       (λ xs ys. SkipsSomeUnder among a.budget xs 1 ys)
       (λ xs ys zs t s budget step. inr (
         omega arith,
         items_more 0 budget xs xs zs (items_none budget
-            xs) (t.leads.skips zs (subst (λ o. SkipsBehind behind o ys zs) same s) budget step),
+            xs) (t.leads.skips zs (subst (λ o. SkipsAfter trailing o ys zs) same s) budget step),
       ))
       p (reached_by d))
 
-  behind_stopped : {E : Type 0} {e : DecodeError E} {b : View}
-      → Does {V = Unit {0}} (λ xs _ ys. SkipsBehind behind m.budget xs ys)
-      (StopsSkippingBehind behind m.budget) m b (Err e)
-      → Does {V = ℕ} (SkipsSomeUnder among a.budget) (StopsSomeUnder among a.budget) a b (Err e)
-  behind_stopped d =
-      does_err (λ xs ys. TakesHead a.budget xs behind ys)
-      (λ xs (_ : Unit {0}) ys. SkipsBehind behind m.budget xs ys)
-      (SkipsSomeUnder among a.budget) (StopsSkippingBehind behind m.budget)
-      (StopsSomeUnder among a.budget)
+  after_stopped : {E : Type 0} {e : DecodeError E} {b : View}
+      → Does {V = Unit {0}} (λ xs _ ys. SkipsAfter trailing m.budget xs ys)
+      (RejectsSkippingAfter trailing m.budget) m b (Err e)
+      → Does {V = ℕ} (SkipsSomeUnder among a.budget) (RejectsSomeUnder among a.budget) a b (Err e)
+  after_stopped d =
+      does_err (λ xs ys. TakesHead a.budget xs trailing ys)
+      (λ xs (_ : Unit {0}) ys. SkipsAfter trailing m.budget xs ys)
+      (SkipsSomeUnder among a.budget) (RejectsSkippingAfter trailing m.budget)
+      (RejectsSomeUnder among a.budget)
       (λ xs ys z rest t s budget step.
-      let r = subst (λ o. StopsSkippingBehind behind o ys z rest) same s in
-      stops_among among budget xs z rest (λ _. t.item z rest r)
-      (t.leads.stops z rest r budget step)) p d
+      let r = subst (λ o. RejectsSkippingAfter trailing o ys z rest) same s in
+      rejects_among among budget xs z rest (λ _. t.item z rest r)
+      (t.leads.rejects z rest r budget step)) p d
 
 -- a head was taken
-module _ (among : Among) (size : ℕ) (behind : Behind) {seen : Ahead} {a m : View}
-    (is : seen ≡ Head size behind) where
+module _ (among : Among) (size : ℕ) (trailing : After) {seen : Ahead} {a m : View}
+    (is : seen ≡ Head size trailing) where
   head_taken : {E : Type 0}
-      → Does {V = Ahead} {E = E} (TakesAhead among a.budget) NeverStops a m (Ok seen)
-      → Reached (λ xs ys. TakesHead a.budget xs behind ys) a m
+      → Does {V = Ahead} {E = E} (TakesAhead among a.budget) NeverRejects a m (Ok seen)
+      → Reached (λ xs ys. TakesHead a.budget xs trailing ys) a m
   head_taken h =
       reached_as (λ xs ys. TakesAhead among a.budget xs seen ys)
-      (λ xs ys. TakesHead a.budget xs behind ys)
+      (λ xs ys. TakesHead a.budget xs trailing ys)
       (λ xs ys t. subst (λ s. TakesAhead among a.budget xs s ys) is t) (reached_by h)
 
   pub head_one : {E : Type 0} {u : Unit {0}} {b : View}
-      → Does {V = Ahead} {E = E} (TakesAhead among a.budget) NeverStops a m (Ok seen)
-      → Does {E = E} (λ xs _ ys. SkipsBehind behind m.budget xs ys)
-      (StopsSkippingBehind behind m.budget) m b (Ok u)
-      → Does {E = E} (SkipsSomeUnder among a.budget) (StopsSomeUnder among a.budget) a b (Ok 1)
-  head_one h d = behind_one among behind h.moves.by.budget (head_taken h) d
+      → Does {V = Ahead} {E = E} (TakesAhead among a.budget) NeverRejects a m (Ok seen)
+      → Does {E = E} (λ xs _ ys. SkipsAfter trailing m.budget xs ys)
+      (RejectsSkippingAfter trailing m.budget) m b (Ok u)
+      → Does {E = E} (SkipsSomeUnder among a.budget) (RejectsSomeUnder among a.budget) a b (Ok 1)
+  head_one h d = after_one among trailing h.moves.by.budget (head_taken h) d
 
   pub head_stopped : {E : Type 0} {e : DecodeError E} {b : View}
-      → Does {V = Ahead} {E = E} (TakesAhead among a.budget) NeverStops a m (Ok seen)
-      → Does {V = Unit {0}} (λ xs _ ys. SkipsBehind behind m.budget xs ys)
-      (StopsSkippingBehind behind m.budget) m b (Err e)
-      → Does {V = ℕ} (SkipsSomeUnder among a.budget) (StopsSomeUnder among a.budget) a b (Err e)
-  head_stopped h d = behind_stopped among behind h.moves.by.budget (head_taken h) d
+      → Does {V = Ahead} {E = E} (TakesAhead among a.budget) NeverRejects a m (Ok seen)
+      → Does {V = Unit {0}} (λ xs _ ys. SkipsAfter trailing m.budget xs ys)
+      (RejectsSkippingAfter trailing m.budget) m b (Err e)
+      → Does {V = ℕ} (SkipsSomeUnder among a.budget) (RejectsSomeUnder among a.budget) a b (Err e)
+  head_stopped h d = after_stopped among trailing h.moves.by.budget (head_taken h) d
 
 -- nothing was
 pub nothing_taken : {E : Type 0} (among : Among) {seen : Ahead} {r : Result ℕ (DecodeError E)}
     {a m b : View} → seen ≡ Unseen
-    → Does {V = Ahead} {E = E} (TakesAhead among a.budget) NeverStops a m (Ok seen)
-    → Does (SkipsSomeUnder among m.budget) (StopsSomeUnder among m.budget) m b r
-    → Does (SkipsSomeUnder among a.budget) (StopsSomeUnder among a.budget) a b r
+    → Does {V = Ahead} {E = E} (TakesAhead among a.budget) NeverRejects a m (Ok seen)
+    → Does (SkipsSomeUnder among m.budget) (RejectsSomeUnder among m.budget) m b r
+    → Does (SkipsSomeUnder among a.budget) (RejectsSomeUnder among a.budget) a b r
 nothing_taken among {seen = seen} {a = a} {m = m} is h d =
     let same : m.budget ≡ a.budget = h.moves.by.budget in
     does_after Same (SkipsSomeUnder among m.budget) (SkipsSomeUnder among a.budget)
-    (StopsSomeUnder among m.budget) (StopsSomeUnder among a.budget)
+    (RejectsSomeUnder among m.budget) (RejectsSomeUnder among a.budget)
     (λ xs ys zs v e s. subst (λ x. SkipsSomeUnder among a.budget x v zs) e
     (subst (λ o. SkipsSomeUnder among o ys v zs) same s))
-    (λ xs ys z rest e s. subst (λ x. StopsSomeUnder among a.budget x z rest) e
-    (subst (λ o. StopsSomeUnder among o ys z rest) same s))
+    (λ xs ys z rest e s. subst (λ x. RejectsSomeUnder among a.budget x z rest) e
+    (subst (λ o. RejectsSomeUnder among o ys z rest) same s))
     (reached_as (λ xs ys. TakesAhead among a.budget xs seen ys) Same
     (λ xs ys t. subst (λ s. TakesAhead among a.budget xs s ys) is t) (reached_by h)) d
 
@@ -386,62 +399,62 @@ nothing_taken among {seen = seen} {a = a} {m = m} is h d =
 
 module _ (among : Among) {a m : View} where
   pub past : {E : Type 0} (n : ℕ)
-      → Does {E = E} (SkipsSomeUnder among a.budget) (StopsSomeUnder among a.budget) a m (Ok n)
-      → Does {E = E} (GoesUnder among a.budget) (StopsSomeUnder among a.budget) a m (Ok (Past n))
-  past n d = does_ok (GoesUnder among a.budget) (StopsSomeUnder among a.budget) (reached_by d)
+      → Does {E = E} (SkipsSomeUnder among a.budget) (RejectsSomeUnder among a.budget) a m (Ok n)
+      → Does {E = E} (GoesUnder among a.budget) (RejectsSomeUnder among a.budget) a m (Ok (Past n))
+  past n d = does_ok (GoesUnder among a.budget) (RejectsSomeUnder among a.budget) (reached_by d)
 
   pub was_past : {E : Type 0} (n : ℕ) {went : Went} → went ≡ Past n
-      → Does {E = E} (GoesUnder among a.budget) (StopsSomeUnder among a.budget) a m (Ok went)
-      → Does {E = E} (SkipsSomeUnder among a.budget) (StopsSomeUnder among a.budget) a m (Ok n)
+      → Does {E = E} (GoesUnder among a.budget) (RejectsSomeUnder among a.budget) a m (Ok went)
+      → Does {E = E} (SkipsSomeUnder among a.budget) (RejectsSomeUnder among a.budget) a m (Ok n)
   was_past n {went = went} is d =
-      does_ok (SkipsSomeUnder among a.budget) (StopsSomeUnder among a.budget)
+      does_ok (SkipsSomeUnder among a.budget) (RejectsSomeUnder among a.budget)
       (reached_as (λ xs ys. GoesUnder among a.budget xs went ys)
       (λ xs ys. SkipsSomeUnder among a.budget xs n ys)
       (λ xs ys h. subst (λ w. GoesUnder among a.budget xs w ys) is h) (reached_by d))
 
   pub went_nowhere : {E : Type 0} {e : DecodeError E}
-      → Does {V = ℕ} (SkipsSomeUnder among a.budget) (StopsSomeUnder among a.budget) a m (Err e)
-      → Does {V = Went} (GoesUnder among a.budget) (StopsSomeUnder among a.budget) a m (Err e)
+      → Does {V = ℕ} (SkipsSomeUnder among a.budget) (RejectsSomeUnder among a.budget) a m (Err e)
+      → Does {V = Went} (GoesUnder among a.budget) (RejectsSomeUnder among a.budget) a m (Err e)
   went_nowhere d =
       same_stop (SkipsSomeUnder among a.budget) (GoesUnder among a.budget)
-      (StopsSomeUnder among a.budget) d
+      (RejectsSomeUnder among a.budget) d
 
   pub was_nowhere : {E : Type 0} {e : DecodeError E}
-      → Does {V = Went} (GoesUnder among a.budget) (StopsSomeUnder among a.budget) a m (Err e)
-      → Does {V = ℕ} (SkipsSomeUnder among a.budget) (StopsSomeUnder among a.budget) a m (Err e)
+      → Does {V = Went} (GoesUnder among a.budget) (RejectsSomeUnder among a.budget) a m (Err e)
+      → Does {V = ℕ} (SkipsSomeUnder among a.budget) (RejectsSomeUnder among a.budget) a m (Err e)
   was_nowhere d =
       same_stop (GoesUnder among a.budget) (SkipsSomeUnder among a.budget)
-      (StopsSomeUnder among a.budget) d
+      (RejectsSomeUnder among a.budget) d
 
   pub into : {E : Type 0} (n : ℕ) {went : Went} → went ≡ Into n
-      → Does {E = E} (GoesUnder among a.budget) (StopsSomeUnder among a.budget) a m (Ok went)
-      → Reached (λ xs ys. TakesHead a.budget xs (left_behind.Items n) ys) a m
+      → Does {E = E} (GoesUnder among a.budget) (RejectsSomeUnder among a.budget) a m (Ok went)
+      → Reached (λ xs ys. TakesHead a.budget xs (left_after.Items n) ys) a m
   into n {went = went} is d =
       reached_as (λ xs ys. GoesUnder among a.budget xs went ys)
-      (λ xs ys. TakesHead a.budget xs (left_behind.Items n) ys)
+      (λ xs ys. TakesHead a.budget xs (left_after.Items n) ys)
       (λ xs ys h. subst (λ w. GoesUnder among a.budget xs w ys) is h) (reached_by d)
 
-  -- the items behind the head were skipped
+  -- the items after the head were skipped
   pub into_one : {E : Type 0} (n : ℕ) {went : Went} {u : Unit {0}} {b : View} → went ≡ Into n
-      → Does {E = E} (GoesUnder among a.budget) (StopsSomeUnder among a.budget) a m (Ok went)
+      → Does {E = E} (GoesUnder among a.budget) (RejectsSomeUnder among a.budget) a m (Ok went)
       → Does {E = E} (λ xs _ ys. SkipsItems n m.budget xs ys)
-      (StopsSkippingItems n m.budget) m b (Ok u)
-      → Does {E = E} (SkipsSomeUnder among a.budget) (StopsSomeUnder among a.budget) a b (Ok 1)
-  into_one n is h d = behind_one among (left_behind.Items n) h.moves.by.budget (into n is h) d
+      (RejectsSkippingItems n m.budget) m b (Ok u)
+      → Does {E = E} (SkipsSomeUnder among a.budget) (RejectsSomeUnder among a.budget) a b (Ok 1)
+  into_one n is h d = after_one among (left_after.Items n) h.moves.by.budget (into n is h) d
 
   pub into_stopped : {E : Type 0} (n : ℕ) {went : Went} {e : DecodeError E} {b : View}
       → went ≡ Into n → Does {V = Went} {E = E} (GoesUnder among a.budget)
-      (StopsSomeUnder among a.budget) a m (Ok went) → Does {V = Unit {0}}
-      (λ xs _ ys. SkipsItems n m.budget xs ys) (StopsSkippingItems n m.budget) m b (Err e)
-      → Does {V = ℕ} (SkipsSomeUnder among a.budget) (StopsSomeUnder among a.budget) a b (Err e)
+      (RejectsSomeUnder among a.budget) a m (Ok went) → Does {V = Unit {0}}
+      (λ xs _ ys. SkipsItems n m.budget xs ys) (RejectsSkippingItems n m.budget) m b (Err e)
+      → Does {V = ℕ} (SkipsSomeUnder among a.budget) (RejectsSomeUnder among a.budget) a b (Err e)
   into_stopped n is h d =
-      behind_stopped among (left_behind.Items n) h.moves.by.budget (into n is h) d
+      after_stopped among (left_after.Items n) h.moves.by.budget (into n is h) d
 
 pub counts_past : (among : Among) (n : ℕ) {went : Went} → went ≡ Past n → CountsWent among went
     → CountsAmong among n
 counts_past among n is h = subst (λ w. CountsWent among w) is h
 
--- ---- one behind another
+-- ---- one after another
 
 pub some_items : (among : Among) (budget : Budget) (xs : List ℕ) (n : ℕ) (ys : List ℕ) → 1 ≤ n
     → SkipsSome among budget xs n ys → SkipsItems n budget xs ys
@@ -455,7 +468,7 @@ no_items among budget xs n ys none (inr h) = absurd (omega (arith, none, h.0))
 
 module _ (total left : ℕ) {a m : View} (p : Reached (Left total left a.budget) a m) where
   pub left_less : {E : Type 0} (among : Among) (n less : ℕ) {b : View} → less + n ≡ left → 1 ≤ n
-      → Does {E = E} (SkipsSome among m.budget) (StopsSome among m.budget) m b (Ok n)
+      → Does {E = E} (SkipsSome among m.budget) (RejectsSome among m.budget) m b (Ok n)
       → Reached (Left total less a.budget) a b
   left_less among n less e some d =
       reached_then (Left total left a.budget) (λ xs ys. SkipsSome among m.budget xs n ys)
@@ -464,7 +477,7 @@ module _ (total left : ℕ) {a m : View} (p : Reached (Left total left a.budget)
       ys zs) p.kept.budget (some_items among m.budget ys n zs some s))) p (reached_by d)
 
   pub left_one : {E : Type 0} (less : ℕ) {u : Unit {0}} {b : View} → less + 1 ≡ left
-      → Does {E = E} (λ xs _ ys. SkipsOne m.budget xs ys) (StopsSkippingOne m.budget) m b (Ok u)
+      → Does {E = E} (λ xs _ ys. SkipsOne m.budget xs ys) (RejectsSkippingOne m.budget) m b (Ok u)
       → Reached (Left total less a.budget) a b
   left_one less e d =
       reached_then (Left total left a.budget) (SkipsOne m.budget) (Left total less a.budget)
@@ -473,28 +486,28 @@ module _ (total left : ℕ) {a m : View} (p : Reached (Left total left a.budget)
       (reached_by d)
 
   pub left_stopped : {V E : Type 0} (A : Accepting V) {e : DecodeError E} {b : View} → 1 ≤ left
-      → Does A (StopsSkippingOne m.budget) m b (Err e) → Does {V = Unit {0}}
-      (λ xs _ ys. SkipsItems total a.budget xs ys) (StopsSkippingItems total a.budget) a b (Err e)
+      → Does A (RejectsSkippingOne m.budget) m b (Err e) → Does {V = Unit {0}}
+      (λ xs _ ys. SkipsItems total a.budget xs ys) (RejectsSkippingItems total a.budget) a b (Err e)
   left_stopped A some d =
       does_err (Left total left a.budget) A
-      (λ xs (_ : Unit {0}) ys. SkipsItems total a.budget xs ys) (StopsSkippingOne m.budget)
-      (StopsSkippingItems total a.budget)
+      (λ xs (_ : Unit {0}) ys. SkipsItems total a.budget xs ys) (RejectsSkippingOne m.budget)
+      (RejectsSkippingItems total a.budget)
       (λ xs ys z rest h s. left_stop total left a.budget xs ys z rest some h
-      (subst (λ o. StopsSkippingOne o ys z rest) p.kept.budget s)) p d
+      (subst (λ o. RejectsSkippingOne o ys z rest) p.kept.budget s)) p d
 
   pub all_skipped : {E : Type 0} → left ≡ 0
       → Does {E = E} (λ xs (_ : Unit {0}) ys. SkipsItems total a.budget xs ys)
-      (StopsSkippingItems total a.budget) a m (Ok tt)
+      (RejectsSkippingItems total a.budget) a m (Ok tt)
   all_skipped none =
       does_ok (λ xs (_ : Unit {0}) ys. SkipsItems total a.budget xs ys)
-      (StopsSkippingItems total a.budget) (reached_as (Left total left a.budget)
+      (RejectsSkippingItems total a.budget) (reached_as (Left total left a.budget)
       (SkipsItems total a.budget) (λ xs ys h. left_none total left a.budget xs ys none h) p)
 
 module _ (P : Budget → List ℕ → List ℕ → Type 0) {a m : View} (p : Reached (P a.budget) a m) where
   -- some were skipped
   pub more_some : {E : Type 0} (among : Among) (n : ℕ) (Q : List ℕ → List ℕ → Type 0) {b : View}
       → ((xs ys zs : List ℕ) → P a.budget xs ys → SkipsItems n a.budget ys zs → Q xs zs) → 1 ≤ n
-      → Does {E = E} (SkipsSome among m.budget) (StopsSome among m.budget) m b (Ok n)
+      → Does {E = E} (SkipsSome among m.budget) (RejectsSome among m.budget) m b (Ok n)
       → Reached Q a b
   more_some among n Q f some d =
       reached_then (P a.budget) (λ xs ys. SkipsSome among m.budget xs n ys) Q
@@ -504,38 +517,38 @@ module _ (P : Budget → List ℕ → List ℕ → Type 0) {a m : View} (p : Rea
   -- a break was taken
   pub broke_some : {E : Type 0} (among : Among) (n : ℕ) (Q : List ℕ → List ℕ → Type 0) {b : View}
       → ((xs ys zs : List ℕ) → P a.budget xs ys → ys ≡ break ∷ zs → Q xs zs) → n ≡ 0 → Does {E = E}
-      (SkipsSome among m.budget) (StopsSome among m.budget) m b (Ok n) → Reached Q a b
+      (SkipsSome among m.budget) (RejectsSome among m.budget) m b (Ok n) → Reached Q a b
   broke_some among n Q f none d =
       reached_then (P a.budget) (λ xs ys. SkipsSome among m.budget xs n ys) Q
       (λ xs ys zs h s. f xs ys zs h (no_items among m.budget ys n zs none s)) p (reached_by d)
 
   -- neither
   pub ends_some : {U E : Type 0} (among : Among) (B : Accepting U) (T : Stopping)
-      {e : DecodeError E} {b : View} → ((xs ys : List ℕ) (z : Refusal) (rest : List ℕ)
-      → P a.budget xs ys → StopsSome among a.budget ys z rest → T xs z rest)
-      → Does {V = ℕ} (SkipsSome among m.budget) (StopsSome among m.budget) m b (Err e)
+      {e : DecodeError E} {b : View} → ((xs ys : List ℕ) (z : InputError) (rest : List ℕ)
+      → P a.budget xs ys → RejectsSome among a.budget ys z rest → T xs z rest)
+      → Does {V = ℕ} (SkipsSome among m.budget) (RejectsSome among m.budget) m b (Err e)
       → Does {V = U} B T a b (Err e)
   ends_some among B T f d =
       does_err (P a.budget)
-      (SkipsSome among m.budget) B (StopsSome among m.budget) T (λ xs ys z rest h s.
-      f xs ys z rest h (subst (λ o. StopsSome among o ys z rest) p.kept.budget s)) p d
+      (SkipsSome among m.budget) B (RejectsSome among m.budget) T (λ xs ys z rest h s.
+      f xs ys z rest h (subst (λ o. RejectsSome among o ys z rest) p.kept.budget s)) p d
 
--- ---- behind a head, whatever is left
+-- ---- after a head, whatever is left
 
-pub goes_on : {E : Type 0} (v : Behind) {behind : Behind} {r : Result (Unit {0}) (DecodeError E)}
-    {a b : View} → behind ≡ v → Does (λ xs _ ys. SkipsBehind v a.budget xs ys)
-    (StopsSkippingBehind v a.budget) a b r → Does (λ xs _ ys. SkipsBehind behind a.budget xs ys)
-    (StopsSkippingBehind behind a.budget) a b r
+pub goes_on : {E : Type 0} (v : After) {trailing : After} {r : Result (Unit {0}) (DecodeError E)}
+    {a b : View} → trailing ≡ v → Does (λ xs _ ys. SkipsAfter v a.budget xs ys)
+    (RejectsSkippingAfter v a.budget) a b r → Does (λ xs _ ys. SkipsAfter trailing a.budget xs ys)
+    (RejectsSkippingAfter trailing a.budget) a b r
 goes_on v {r = r} {a = a} {b = b} is d =
-    subst (λ z. Does (λ xs _ ys. SkipsBehind z a.budget xs ys)
-    (StopsSkippingBehind z a.budget) a b r) (sym is) d
+    subst (λ z. Does (λ xs _ ys. SkipsAfter z a.budget xs ys)
+    (RejectsSkippingAfter z a.budget) a b r) (sym is) d
 
-pub goes_no_further : {E : Type 0} {behind : Behind} {a : View} → behind ≡ Nothing
-    → Does {E = E} (λ xs (_ : Unit {0}) ys. SkipsBehind behind a.budget xs ys)
-    (StopsSkippingBehind behind a.budget) a a (Ok tt)
+pub goes_no_further : {E : Type 0} {trailing : After} {a : View} → trailing ≡ Nothing
+    → Does {E = E} (λ xs (_ : Unit {0}) ys. SkipsAfter trailing a.budget xs ys)
+    (RejectsSkippingAfter trailing a.budget) a a (Ok tt)
 goes_no_further {a = a} is =
-    goes_on Nothing is (does_ok (λ xs (_ : Unit {0}) ys. SkipsBehind Nothing a.budget xs ys)
-    (StopsSkippingBehind Nothing a.budget) (same_start a))
+    goes_on Nothing is (does_ok (λ xs (_ : Unit {0}) ys. SkipsAfter Nothing a.budget xs ys)
+    (RejectsSkippingAfter Nothing a.budget) (same_start a))
 
 -- ---- one item
 
@@ -552,19 +565,20 @@ only_one budget xs ys (tree t no_trees, c, w, is) = (
 only_one budget xs ys (tree t (tree u us), c, w, is) = absurd (omega (arith, c))
 
 pub one_done : {E : Type 0} (n : ℕ) {a b : View} → 1 ≤ n → n ≤ 1 → Does {E = E}
-    (SkipsSome (Items 1) a.budget) (StopsSome (Items 1) a.budget) a b (Ok n) → Does {E = E}
-    (λ xs (_ : Unit {0}) ys. SkipsOne a.budget xs ys) (StopsSkippingOne a.budget) a b (Ok tt)
+    (SkipsSome (Items 1) a.budget) (RejectsSome (Items 1) a.budget) a b (Ok n) → Does {E = E}
+    (λ xs (_ : Unit {0}) ys. SkipsOne a.budget xs ys) (RejectsSkippingOne a.budget) a b (Ok tt)
 one_done n {a = a} some most d =
-    does_ok (λ xs (_ : Unit {0}) ys. SkipsOne a.budget xs ys) (StopsSkippingOne a.budget)
+    does_ok (λ xs (_ : Unit {0}) ys. SkipsOne a.budget xs ys) (RejectsSkippingOne a.budget)
     (reached_as (λ xs ys. SkipsSome (Items 1) a.budget xs n ys) (SkipsOne a.budget)
     (λ xs ys s. only_one a.budget xs ys (subst (λ j. SkipsItems j a.budget xs ys)
     (omega (arith, some, most)) (some_items (Items 1) a.budget xs n ys some s)))
     (reached_by d))
 
 pub none_done : {E : Type 0} {e : DecodeError E} {a b : View} → Does {V = ℕ}
-    (SkipsSome (Items 1) a.budget) (StopsSome (Items 1) a.budget) a b (Err e) → Does {V = Unit {0}}
-    (λ xs _ ys. SkipsOne a.budget xs ys) (StopsSkippingOne a.budget) a b (Err e)
+    (SkipsSome (Items 1) a.budget) (RejectsSome (Items 1) a.budget) a b (Err e) →
+    Does {V = Unit {0}}
+    (λ xs _ ys. SkipsOne a.budget xs ys) (RejectsSkippingOne a.budget) a b (Err e)
 none_done {a = a} d =
     does_err Same (SkipsSome (Items 1) a.budget) (λ xs (_ : Unit {0}) ys. SkipsOne a.budget xs ys)
-    (StopsSkippingOne a.budget) (StopsSkippingOne a.budget)
-    (λ xs ys z rest e s. subst (λ x. StopsSkippingOne a.budget x z rest) e s) (same_start a) d
+    (RejectsSkippingOne a.budget) (RejectsSkippingOne a.budget)
+    (λ xs ys z rest e s. subst (λ x. RejectsSkippingOne a.budget x z rest) e s) (same_start a) d

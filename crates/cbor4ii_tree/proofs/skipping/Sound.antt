@@ -4,26 +4,30 @@ use Rattle.std.proofs.Common.{subst}
 use Rattle.cbor4ii_items.specs.Head.{HeadFits, IsBytes}
 use Rattle.cbor4ii_items.specs.Initial.{sign_major, kind_major, precision_bytes, Initial}
 use Rattle.cbor4ii_items.specs.Initial.{starts_int, bad_int, starts_string, starts_chunks}
-use Rattle.cbor4ii_items.specs.Initial.{bad_string, starts_array, starts_open_array, bad_array}
-use Rattle.cbor4ii_items.specs.Initial.{starts_map, starts_open_map, bad_map, starts_tag, bad_tag}
+use Rattle.cbor4ii_items.specs.Initial.{bad_string, starts_array, starts_indefinite_array}
+use Rattle.cbor4ii_items.specs.Initial.{bad_array}
+use Rattle.cbor4ii_items.specs.Initial.{starts_map, starts_indefinite_map, bad_map, starts_tag}
+use Rattle.cbor4ii_items.specs.Initial.{bad_tag}
 use Rattle.cbor4ii_items.specs.Initial.{starts_simple, starts_bits, other_simple, initial}
-use Rattle.cbor4ii_tree.specs.Tree.{Tree, int, string, chunked, array, array_open, map_of, map_open}
+use Rattle.cbor4ii_tree.specs.Tree.{Tree, int, string, chunked, array, array_indefinite, map_of}
+use Rattle.cbor4ii_tree.specs.Tree.{map_indefinite}
 use Rattle.cbor4ii_tree.specs.Tree.{tagged, simple, bits, count, pair_count, bytes, bytes_all}
 use Rattle.cbor4ii_tree.specs.Tree.{bytes_pairs}
 use Rattle.cbor4ii_items.specs.Decoding.{CostFits}
 use Rattle.cbor4ii_items.specs.Laws.Answering.{fits_zero}
 use Rattle.cbor4ii_tree.specs.Cost.{Budget, step_in}
-use Rattle.cbor4ii_tree.specs.Refusal.{ignored_any, tag_name}
-use Rattle.cbor4ii_tree.specs.StopsSkipping.{Skippable}
-use Rattle.cbor4ii_tree.specs.Parse.{Parser, ◌>>=◌, front_at, argument_of_width, trees_at, pairs_at}
-use Rattle.cbor4ii_tree.specs.Parse.{open_trees_at, open_pairs_at}
+use Rattle.cbor4ii_tree.specs.InputError.{ignored_any, tag_name}
+use Rattle.cbor4ii_tree.specs.SkippingRejects.{Skippable}
+use Rattle.cbor4ii_tree.specs.Parse.{Parser, ◌>>=◌, prefix_at, argument_of_width, trees_at}
+use Rattle.cbor4ii_tree.specs.Parse.{pairs_at}
+use Rattle.cbor4ii_tree.specs.Parse.{indefinite_trees_at, indefinite_pairs_at}
 use Rattle.cbor4ii_tree.specs.Skip.{whole_number_at, whole_argument_at, skip_by, skip_from}
 use Rattle.cbor4ii_tree.specs.Skip.{skip_within}
 use Rattle.cbor4ii_tree.specs.Laws.Binds.{bind_ok, same_ok, no_ok, stepped_ok, step_up}
-use Rattle.cbor4ii_tree.proofs.heads.Inverse.{front_inverse, whole_number_inverse}
+use Rattle.cbor4ii_tree.proofs.heads.Inverse.{prefix_inverse, whole_number_inverse}
 use Rattle.cbor4ii_tree.proofs.heads.Means.{Means, means, argument_inverse, whole_argument_inverse}
 use Rattle.cbor4ii_tree.proofs.parts.Sound.{Took, IsSound, trees_sound, pairs_sound}
-use Rattle.cbor4ii_tree.proofs.parts.Sound.{open_trees_sound, open_pairs_sound, counted}
+use Rattle.cbor4ii_tree.proofs.parts.Sound.{indefinite_trees_sound, indefinite_pairs_sound, counted}
 use Rattle.cbor4ii_tree.specs.Laws.Wholes.{all_skippable, all_pairs_skippable}
 
 abbrev Up : Budget → Budget → Type 0
@@ -40,10 +44,10 @@ by_sound item inner outer s up (starts_int sg w) b bs p m h e =
 by_sound item inner outer s up (bad_int sg) b bs p m h e = absurd (no_ok {A = Tree} _ p e)
 by_sound item inner outer s up (starts_string k w) b bs p m h e =
     let x = bind_ok (argument_of_width ignored_any w b bs)
-    (λ n. front_at ignored_any n.0 n.1 >>= λ q. Ok (string k w q.0, q.1)) p e in
-    let y = bind_ok (front_at ignored_any x.0.0 x.0.1) (λ q. Ok (string k w q.0, q.1)) p x.2 in
+    (λ n. prefix_at ignored_any n.0 n.1 >>= λ q. Ok (string k w q.0, q.1)) p e in
+    let y = bind_ok (prefix_at ignored_any x.0.0 x.0.1) (λ q. Ok (string k w q.0, q.1)) p x.2 in
     let top = argument_inverse ignored_any (kind_major k) x.0.0 w b bs x.0.1 h m x.1 in
-    let part = front_inverse ignored_any x.0.0 x.0.1 y.0.0 y.0.1 top.more y.1 in
+    let part = prefix_inverse ignored_any x.0.0 x.0.1 y.0.0 y.0.1 top.more y.1 in
     subst (Took (Skippable outer) (b ∷ bs)) (same_ok _ (string k w y.0.0, y.0.1) p refl y.2)
     (record {
       whole = (subst (HeadFits w) (sym part.1) top.fits, up 0 (fits_zero inner));
@@ -52,8 +56,9 @@ by_sound item inner outer s up (starts_string k w) b bs p m h e =
       more = part.3;
     })
 by_sound item inner outer s up (starts_chunks k) b bs p m h e =
-    let y = bind_ok (open_trees_at item (suc (length bs)) bs) (λ q. Ok (chunked k q.0, q.1)) p e in
-    let all = open_trees_sound item (Skippable inner) s (suc (length bs)) bs y.0 h y.1 in
+    let y = bind_ok (indefinite_trees_at item (suc (length bs)) bs)
+    (λ q. Ok (chunked k q.0, q.1)) p e in
+    let all = indefinite_trees_sound item (Skippable inner) s (suc (length bs)) bs y.0 h y.1 in
     let w = all_skippable y.0.0 inner all.whole in
     subst (Took (Skippable outer) (b ∷ bs)) (same_ok _ (chunked k y.0.0, y.0.1) p refl y.2)
     (record { whole = (w.0, up _ w.1); is = ap₂ ◌∷◌ m all.is; more = all.more })
@@ -72,11 +77,12 @@ by_sound item inner outer s up (starts_array w) b bs p m h e =
           all.is;
       more = all.more;
     })
-by_sound item inner outer s up starts_open_array b bs p m h e =
-    let y = bind_ok (open_trees_at item (suc (length bs)) bs) (λ q. Ok (array_open q.0, q.1)) p e in
-    let all = open_trees_sound item (Skippable inner) s (suc (length bs)) bs y.0 h y.1 in
+by_sound item inner outer s up starts_indefinite_array b bs p m h e =
+    let y = bind_ok (indefinite_trees_at item (suc (length bs)) bs)
+    (λ q. Ok (array_indefinite q.0, q.1)) p e in
+    let all = indefinite_trees_sound item (Skippable inner) s (suc (length bs)) bs y.0 h y.1 in
     let w = all_skippable y.0.0 inner all.whole in
-    subst (Took (Skippable outer) (b ∷ bs)) (same_ok _ (array_open y.0.0, y.0.1) p refl y.2)
+    subst (Took (Skippable outer) (b ∷ bs)) (same_ok _ (array_indefinite y.0.0, y.0.1) p refl y.2)
     (record { whole = (w.0, up _ w.1); is = ap₂ ◌∷◌ m all.is; more = all.more })
 by_sound item inner outer s up bad_array b bs p m h e = absurd (no_ok {A = Tree} _ p e)
 by_sound item inner outer s up (starts_map w) b bs p m h e =
@@ -93,11 +99,12 @@ by_sound item inner outer s up (starts_map w) b bs p m h e =
           all.number all.is;
       more = all.more;
     })
-by_sound item inner outer s up starts_open_map b bs p m h e =
-    let y = bind_ok (open_pairs_at item (suc (length bs)) bs) (λ q. Ok (map_open q.0, q.1)) p e in
-    let all = open_pairs_sound item (Skippable inner) s (suc (length bs)) bs y.0 h y.1 in
+by_sound item inner outer s up starts_indefinite_map b bs p m h e =
+    let y = bind_ok (indefinite_pairs_at item (suc (length bs)) bs)
+    (λ q. Ok (map_indefinite q.0, q.1)) p e in
+    let all = indefinite_pairs_sound item (Skippable inner) s (suc (length bs)) bs y.0 h y.1 in
     let w = all_pairs_skippable y.0.0 inner all.whole in
-    subst (Took (Skippable outer) (b ∷ bs)) (same_ok _ (map_open y.0.0, y.0.1) p refl y.2)
+    subst (Took (Skippable outer) (b ∷ bs)) (same_ok _ (map_indefinite y.0.0, y.0.1) p refl y.2)
     (record { whole = (w.0, up _ w.1); is = ap₂ ◌∷◌ m all.is; more = all.more })
 by_sound item inner outer s up bad_map b bs p m h e = absurd (no_ok {A = Tree} _ p e)
 by_sound item inner outer s up (starts_tag w) b bs p m h e =

@@ -1,4 +1,4 @@
--- An answer of a value that is there, or of a refusal that was left; and how far a call leads that
+-- An answer of a value that is there, or of an error that was left; and how far a call leads that
 -- stands within another, by the bound of its reader.
 use Rattle.std.proofs.Common.{◌≡◌, ℕ, ◌+◌, ◌≤◌, Option, Some, None, OnOk, OnSome, IfOk, IfSome}
 use Rattle.std.proofs.Common.{arith}
@@ -17,10 +17,10 @@ pub went_on : {V E : Type 0} (a : ℕ) (r : Option V) (failure : Option (DecodeE
 went_on a (Some v) failure h k = omega (arith, h, k.by.bound)
 went_on a None failure h k = tt
 
-pub behind : {V E : Type 0} (a m b : ℕ) (r : Option V) (failure : Option (DecodeError E)) → m ≤ a
+pub trailing : {V E : Type 0} (a m b : ℕ) (r : Option V) (failure : Option (DecodeError E)) → m ≤ a
     → OnOk (answered r failure) (b + 1 ≤ m) → OnSome r (b + 1 ≤ a)
-behind a m b (Some v) failure e h = omega (arith, e, h)
-behind a m b None failure e h = tt
+trailing a m b (Some v) failure e h = omega (arith, e, h)
+trailing a m b None failure e h = tt
 
 pub further : {V : Type 0} (a m b : ℕ) (r : Option V) → m ≤ a → OnSome r (b + 1 ≤ m)
     → OnSome r (b + 1 ≤ a)
@@ -32,12 +32,12 @@ pub found : {V E : Type 0} (r : Option V) (failure : Option (DecodeError E)) (P 
 found (Some v) failure P h = h
 found None failure P h = tt
 
-pub told_if : {V E : Type 0} (r : Option V) (failure : Option (DecodeError E)) (P : V → Type 0)
+pub known_if : {V E : Type 0} (r : Option V) (failure : Option (DecodeError E)) (P : V → Type 0)
     → IfSome r P → IfOk (answered r failure) P
-told_if (Some v) failure P h = h
-told_if None failure P h = tt
+known_if (Some v) failure P h = h
+known_if None failure P h = tt
 
-pub told_on : {V E : Type 0} (r : Option V) (failure : Option (DecodeError E)) (P : Type 0)
+pub known_on : {V E : Type 0} (r : Option V) (failure : Option (DecodeError E)) (P : Type 0)
     → OnSome r P → OnOk (answered r failure) P
-told_on (Some v) failure P h = h
-told_on None failure P h = tt
+known_on (Some v) failure P h = h
+known_on None failure P h = tt

@@ -3,8 +3,8 @@ use Rattle.std.proofs.Common.{◌≡◌, ℕ, zero, suc, ◌+◌, ◌/◌, ◌�
 use Rattle.std.proofs.Common.{take, drop, take-append-drop, length-drop, true, Some, IfSome, IsTrue}
 use Rattle.std.proofs.Common.{Result, Ok}
 use Rattle.std.proofs.Common.{refl, sym, ap, ◌∙◌, subst, arith}
-use Rattle.cbor4ii_rw.specs.Reader.{Advances, IsFront, KeepsAllButBudget, Shows, StepsIn, counts}
-use Rattle.cbor4ii_rw.specs.View.{View, Told}
+use Rattle.cbor4ii_rw.specs.Reader.{Advances, IsPrefix, KeepsAllButBudget, Shows, StepsIn, counts}
+use Rattle.cbor4ii_rw.specs.View.{View, IfKnown}
 use Rattle.cbor4ii_rw.specs.declared.error.DecodeError.{DecodeError}
 use Rattle.cbor4ii_items.specs.Head.{IsBytes, head}
 use Rattle.cbor4ii_items.specs.Laws.Heads.{argument_below}
@@ -15,12 +15,12 @@ use Rattle.cbor4ii_items.specs.Reading.{Runs, peek_at}
 use Rattle.cbor4ii_tree.specs.Cost.{Budget}
 use Rattle.cbor4ii_tree.specs.Deeper.{budgeted}
 use Rattle.cbor4ii_tree.specs.Does.{Accepting, Does}
-use Rattle.cbor4ii_tree.specs.Front.{Offers}
+use Rattle.cbor4ii_tree.specs.Prefix.{Offers}
 use Rattle.cbor4ii_tree.specs.Leaf.{HeadStands, SeesLeaf, SeesNext, ShowsHead}
 use Rattle.cbor4ii_tree.specs.Leaf.{ShowsNext}
-use Rattle.cbor4ii_tree.specs.Refusal.{value_name}
-use Rattle.cbor4ii_tree.specs.Stops.{Stopping}
-use Rattle.cbor4ii_tree.specs.StopsStrictly.{ShortestAt}
+use Rattle.cbor4ii_tree.specs.InputError.{value_name}
+use Rattle.cbor4ii_tree.specs.Rejections.{Stopping}
+use Rattle.cbor4ii_tree.specs.CanonicalRejects.{ShortestAt}
 use Rattle.cbor4ii_tree.specs.declared.leaf.Leaf.{Leaf}
 use Rattle.cbor4ii_tree.specs.declared.leaf.Leaf.TheVariants.{Begins}
 use Rattle.cbor4ii_tree.specs.declared.leaf.Next.{Next}
@@ -38,34 +38,34 @@ take_less (suc n) zero xs h = absurd (omega (arith, h))
 take_less (suc n) (suc m) [] h = refl
 take_less (suc n) (suc m) (x ∷ xs) h = ap (λ zs. x ∷ zs) (take_less n m xs (omega (arith, h)))
 
-pub front_shown : (size : ℕ) (shown xs : List ℕ) → size ≤ length shown
+pub prefix_shown : (size : ℕ) (shown xs : List ℕ) → size ≤ length shown
     → take (length shown) xs ≡ shown → take size xs ≡ take size shown
-front_shown size shown xs within e =
+prefix_shown size shown xs within e =
     sym (take_less size (length shown) xs within) ∙ ap (take size) e
 
 head_shown : (exact : Type 0) (major n size : ℕ) {shown : List ℕ} {a m : View} → Shows shown a m
-    → Told a.told (IsFront 1 shown) → HeadStands exact major n size shown
+    → IfKnown a.known (IsPrefix 1 shown) → HeadStands exact major n size shown
     → ShowsHead exact major n size a m
-head_shown exact major n size {shown = shown} shows front s = record {
+head_shown exact major n size {shown = shown} shows prefix s = record {
   kept = shows_kept shows;
   can = omega (arith, shows.advanceable, s.within);
   shown = shown;
   stands = s;
-  begins = λ xs told.
-      let f = front xs told in (
-        shows.told xs told,
+  begins = λ xs known.
+      let f = prefix xs known in (
+        shows.known xs known,
         omega (arith, s.within, f.within),
-        front_shown size shown xs s.within f.begins,
+        prefix_shown size shown xs s.within f.begins,
       );
 }
 
 pub next_shown : (E exact : Type 0) (n : Next) {shown : List ℕ} {a m : View}
-    → Shows shown a m → Told a.told (IsFront 1 shown) → SeesNext exact n shown
+    → Shows shown a m → IfKnown a.known (IsPrefix 1 shown) → SeesNext exact n shown
     → ShowsNext E exact n a m
-next_shown E exact n shows front s = record {
-  first = shows_first n.first s.behind shows front s.begins;
+next_shown E exact n shows prefix s = record {
+  first = shows_first n.first s.trailing shows prefix s.begins;
   head =
-      some_as n.head (λ h. head_shown exact (n.first / 32) h.argument h.size shows front) s.head;
+      some_as n.head (λ h. head_shown exact (n.first / 32) h.argument h.size shows prefix) s.head;
 }
 
 loosely : (exact other : Type 0) → (other → exact) → (major n size : ℕ) (shown : List ℕ)
@@ -84,7 +84,7 @@ loosely exact other f major n size shown s = record {
 pub sees_loosely : (exact other : Type 0) → (other → exact) → (n : Next) (shown : List ℕ)
     → SeesNext exact n shown → SeesNext other n shown
 sees_loosely exact other f n shown s = record {
-  behind = s.behind;
+  trailing = s.trailing;
   begins = s.begins;
   head =
       some_as n.head (λ h. loosely exact other f (n.first / 32) h.argument h.size shown) s.head;
@@ -95,40 +95,40 @@ pub undecided : (E exact other : Type 0) → (other → exact) → {a m : View} 
     {seen : Leaf} → seen ≡ Begins n → Offers 1 (SeesLeaf exact seen) a m → ShowsNext E other n a m
 undecided E exact other f {a = a} {m = m} n is h =
     let o = subst (λ s. Offers 1 (SeesLeaf exact s) a m) is h in
-    next_shown E other n o.shows o.front (sees_loosely exact other f n o.shown o.is)
+    next_shown E other n o.shows o.prefix (sees_loosely exact other f n o.shown o.is)
 
 -- ---- a head that was shown
 
 module _ {exact : Type 0} {major n size : ℕ} {a m : View} (s : ShowsHead exact major n size a m)
   where
-    head_is : Told a.told (λ xs. xs ≡ head major n s.stands.width ++ drop size xs)
-    head_is xs told =
+    head_is : IfKnown a.known (λ xs. xs ≡ head major n s.stands.width ++ drop size xs)
+    head_is xs known =
         sym (take-append-drop size xs)
-        ∙ ap (λ r. r ++ drop size xs) ((s.begins xs told).2 ∙ s.stands.is)
+        ∙ ap (λ r. r ++ drop size xs) ((s.begins xs known).2 ∙ s.stands.is)
 
     taken_kept : {c : View} → Advances size m c → Kept a c
     taken_kept {c = c} adv = record {
-      rest = λ xs told.
-          let b = s.begins xs told in (
+      rest = λ xs known.
+          let b = s.begins xs known in (
             size,
             record {
-              left = adv.told xs b.0;
+              left = adv.known xs b.0;
               within = b.1;
               bytes = subst IsBytes (sym b.2) s.stands.fresh;
             },
           );
-      counted = λ xs told ys left k gone.
-          let b = s.begins xs told in
-          let e : ys ≡ drop size xs = let t = adv.told xs b.0 in cc in
+      counted = λ xs known ys left k gone.
+          let b = s.begins xs known in
+          let e : ys ≡ drop size xs = let t = adv.known xs b.0 in cc in
           let same : 0 + size ≡ k =
           omega (arith, gone, ap length e, length-drop size xs, b.1) in
           adv.taken
-          ∙ ap (counts size) (s.kept.counted xs told xs b.0 0 (omega arith))
+          ∙ ap (counts size) (s.kept.counted xs known xs b.0 0 (omega arith))
           ∙ counts_more 0 size k a.taken same;
       bound = omega (arith, s.kept.bound, adv.bound);
       budget = adv.budget ∙ s.kept.budget;
       failures = adv.failures ∙ s.kept.failures;
-      lends_whole = λ h. adv.lends_whole (s.kept.lends_whole h);
+      zero_copy = λ h. adv.zero_copy (s.kept.zero_copy h);
       remembers = λ h. adv.remembers (s.kept.remembers h);
       ends_at = adv.ends_at ∙ s.kept.ends_at;
     }
@@ -137,22 +137,22 @@ module _ {exact : Type 0} {major n size : ℕ} {a m : View} (s : ShowsHead exact
     pub reached_head : {c : View} → Advances size m c → Reached (HeadAt major n) a c
     reached_head adv = record {
       kept = taken_kept adv;
-      at = λ xs told. (
+      at = λ xs known. (
         drop size xs,
-        adv.told xs (s.begins xs told).0,
-        (s.stands.width, s.stands.fits, head_is xs told),
+        adv.known xs (s.begins xs known).0,
+        (s.stands.width, s.stands.fits, head_is xs known),
       );
     }
 
     pub reached_least : {c : View} → exact → Advances size m c → Reached (ShortestAt major n) a c
     reached_least holds adv = record {
       kept = taken_kept adv;
-      at = λ xs told. (
+      at = λ xs known. (
         drop size xs,
-        adv.told xs (s.begins xs told).0,
+        adv.known xs (s.begins xs known).0,
         (
           argument_below s.stands.width n s.stands.fits,
-          head_is xs told
+          head_is xs known
               ∙ ap (λ w. head major n w ++ drop size xs) (s.stands.least holds),
         ),
       );
@@ -163,15 +163,15 @@ module _ {exact : Type 0} {major n size : ℕ} {a m : View} (s : ShowsHead exact
 kept_stepped : {a m b : View} → Kept a m → KeepsAllButBudget m b
     → Kept (budgeted b.budget a) b
 kept_stepped {a = a} {m = m} {b = b} h k = record {
-  rest = λ xs told.
-      let t = h.rest xs told in
-      (t.0, record { left = k.told ∙ t.1.left; within = t.1.within; bytes = t.1.bytes });
-  counted = λ xs told ys left n gone.
-      k.taken ∙ h.counted xs told ys (sym k.told ∙ left) n gone;
+  rest = λ xs known.
+      let t = h.rest xs known in
+      (t.0, record { left = k.known ∙ t.1.left; within = t.1.within; bytes = t.1.bytes });
+  counted = λ xs known ys left n gone.
+      k.taken ∙ h.counted xs known ys (sym k.known ∙ left) n gone;
   bound = omega (arith, h.bound, k.bound);
   budget = refl;
   failures = k.failures ∙ h.failures;
-  lends_whole = λ w. subst IsTrue (sym k.lends_whole) (h.lends_whole w);
+  zero_copy = λ w. subst IsTrue (sym k.zero_copy) (h.zero_copy w);
   remembers = λ w. subst IsTrue (sym k.remembers) (h.remembers w);
   ends_at = k.ends_at ∙ h.ends_at;
 }
@@ -184,8 +184,8 @@ head_stepped {a = a} {m = m} {b = b} s k = record {
   can = omega (arith, s.can, k.advanceable);
   shown = s.shown;
   stands = s.stands;
-  begins = λ xs told.
-      let t = s.begins xs told in (k.told ∙ t.0, t.1, t.2);
+  begins = λ xs known.
+      let t = s.begins xs known in (k.known ∙ t.0, t.1, t.2);
 }
 
 -- ---- a first byte that was shown
@@ -196,17 +196,17 @@ module _ (first : ℕ) {E : Type 0} {a m : View}
   pub peeks_here : Runs {V = ℕ} {E = E} (peek_at value_name 1) a a (Ok first)
   peeks_here = record {
     moves = record { by = kept_alike a; depth = λ e. refl };
-    answers = λ xs told.
-        let h = s.answers xs told in
+    answers = λ xs known.
+        let h = s.answers xs known in
         let q = peeked value_name 1 first xs h.0 h.2 in
-        (xs, told, subst (λ r. peek_at value_name 1 xs ≡ Ok (first, r)) q.2 h.2);
+        (xs, known, subst (λ r. peek_at value_name 1 xs ≡ Ok (first, r)) q.2 h.2);
   }
 
-  -- what a call does behind it
-  pub behind_peeked : {V : Type 0} (A : Budget → Accepting V) (S : Budget → Stopping)
+  -- what a call does after it
+  pub after_peeked : {V : Type 0} (A : Budget → Accepting V) (S : Budget → Stopping)
       {r : Result V (DecodeError E)} {b : View} → Does (A m.budget) (S m.budget) m b r
       → Does (A a.budget) (S a.budget) a b r
-  behind_peeked A S d =
+  after_peeked A S d =
       does_after (λ xs ys. xs ≡ ys) (A m.budget) (A a.budget) (S m.budget) (S a.budget)
       (λ xs ys zs v e h. subst (λ x. A a.budget x v zs) (sym e)
       (subst (λ o. A o ys v zs) s.moves.by.budget h))
@@ -219,8 +219,8 @@ module _ (first : ℕ) {E : Type 0} {a m : View}
       → Runs {V = ℕ} {E = E} (peek_at value_name 1) (budgeted b.budget a) b (Ok first)
   peek_stepped k = record {
     moves = record { by = kept_stepped s.moves.by k; depth = λ e. refl };
-    answers = λ xs told.
-        let t = s.answers xs told in (t.0, k.told ∙ t.1, t.2);
+    answers = λ xs known.
+        let t = s.answers xs known in (t.0, k.known ∙ t.1, t.2);
   }
 
   pub peek_step : (b : View) → StepsIn m.budget b.budget true
@@ -234,11 +234,11 @@ module _ {E exact : Type 0} (n : Next) {a m : View} (s : ShowsNext E exact n a m
   pub peeks_next : Runs {V = ℕ} {E = E} (peek_at value_name 1) a a (Ok n.first)
   peeks_next = peeks_here n.first s.first.runs
 
-  -- what a call does behind it
-  pub behind_next : {V : Type 0} (A : Budget → Accepting V) (S : Budget → Stopping)
+  -- what a call does after it
+  pub after_next : {V : Type 0} (A : Budget → Accepting V) (S : Budget → Stopping)
       {r : Result V (DecodeError E)} {b : View} → Does (A m.budget) (S m.budget) m b r
       → Does (A a.budget) (S a.budget) a b r
-  behind_next A S d = behind_peeked n.first s.first.runs A S d
+  after_next A S d = after_peeked n.first s.first.runs A S d
 
   -- under a step
   pub next_stepped : {b : View} → KeepsAllButBudget m b

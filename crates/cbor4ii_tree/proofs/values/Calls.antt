@@ -1,13 +1,13 @@
--- The calls of reading a value, one behind another.
+-- The calls of reading a value, one after another.
 use Rattle.std.proofs.Common.{◌≡◌, ℕ, ◌/◌, ◌%◌, ◌<◌, List, [], ◌∷◌, ◌++◌, drop, Some, Result}
 use Rattle.std.proofs.Common.{true, refl, sym, ap, ◌∙◌, subst, arith, inl, inr}
 use Rattle.cbor4ii_rw.specs.View.{View}
 use Rattle.cbor4ii_rw.specs.Reader.{KeepsAllButBudget, StepsIn, step_back}
 use Rattle.cbor4ii_rw.specs.declared.error.DecodeError.{DecodeError}
-use Rattle.cbor4ii_items.specs.Refusal.{Refusal}
+use Rattle.cbor4ii_items.specs.InputError.{InputError}
 use Rattle.cbor4ii_items.specs.Head.{Width, in_first, one, two, four, eight, byte_count, additional}
-use Rattle.cbor4ii_items.specs.Head.{HeadFits, head, open_head}
-use Rattle.cbor4ii_items.specs.Heads.{StopsHead, Begins}
+use Rattle.cbor4ii_items.specs.Head.{HeadFits, head, indefinite_head}
+use Rattle.cbor4ii_items.specs.Heads.{RejectsHead, Begins}
 use Rattle.cbor4ii_items.specs.Laws.Heads.{after_head}
 use Rattle.cbor4ii_items.specs.Numbers.{ReadsUnsigned}
 use Rattle.std.specs.Prelude.{pos, ◌^◌}
@@ -17,10 +17,10 @@ use mir.Syntax.{w128}
 use Rattle.cbor4ii_tree.specs.declared.value.Value.{Integer}
 use Rattle.cbor4ii_tree.specs.Item.{integer}
 use Rattle.cbor4ii_tree.specs.Laws.Binds.{step_up}
-use Rattle.cbor4ii_items.specs.Initial.{Info, wide, open_ended, reserved, info_of, initial}
+use Rattle.cbor4ii_items.specs.Initial.{Info, wide, indefinite_ended, reserved, info_of, initial}
 use Rattle.cbor4ii_items.specs.Initial.{by_major, int_by_info, Sign, unsigned, negative, sign_major}
 use Rattle.cbor4ii_items.specs.Laws.Answering.{fits_zero}
-use Rattle.cbor4ii_tree.specs.Refusal.{sign_name}
+use Rattle.cbor4ii_tree.specs.InputError.{sign_name}
 use Rattle.cbor4ii_tree.specs.Laws.Numbers.{additional-lt, info-additional}
 use Rattle.cbor4ii_tree.proofs.heads.Means.{WidthSays, InfoSays, info_says}
 use Rattle.cbor4ii_tree.proofs.skip_calls.Bytes.{says_width}
@@ -29,14 +29,14 @@ use Rattle.cbor4ii_tree.specs.Tree.{Tree, Trees, int, no_trees, tree}
 use Rattle.cbor4ii_tree.specs.Item.{no_items, item}
 use Rattle.cbor4ii_tree.specs.Meaning.{value, values}
 use Rattle.cbor4ii_tree.specs.Cost.{Budget, step_in}
-use Rattle.cbor4ii_tree.specs.Refusal.{value_name}
-use Rattle.cbor4ii_tree.specs.Refusal.{eof, mismatch, Small, len_of}
-use Rattle.cbor4ii_tree.specs.Stops.{StopsAtStep, Is, MissingAll}
-use Rattle.cbor4ii_tree.specs.StopsReading.{ReadingStopsFrom, ReadingStopsBy}
-use Rattle.cbor4ii_tree.specs.StopsReading.{StopsReading}
+use Rattle.cbor4ii_tree.specs.InputError.{value_name}
+use Rattle.cbor4ii_tree.specs.InputError.{eof, mismatch, Small, len_of}
+use Rattle.cbor4ii_tree.specs.Rejections.{RejectsAtStep, Is, MissingAll}
+use Rattle.cbor4ii_tree.specs.ReadingRejects.{ReadingRejectsFrom, ReadingRejectsBy}
+use Rattle.cbor4ii_tree.specs.ReadingRejects.{ReadingRejects}
 use Rattle.cbor4ii_tree.specs.View.{view, items_view}
 use Rattle.cbor4ii_tree.specs.Does.{Does}
-use Rattle.cbor4ii_tree.specs.Valuing.{ReadsOneValue, StopsOneValue, ReadsUnder, StopsUnder}
+use Rattle.cbor4ii_tree.specs.Valuing.{ReadsOneValue, RejectsOneValue, ReadsUnder, RejectsUnder}
 use Rattle.cbor4ii_tree.proofs.skip_calls.Doing.{does_stepped, steps_in}
 use Rattle.cbor4ii_tree.proofs.answers.Nesting.{reading_by_parts}
 use Rattle.cbor4ii_tree.proofs.parts.Pushed.{push}
@@ -44,23 +44,23 @@ use Rattle.cbor4ii_tree.proofs.values.Encoding.{view-Integer}
 
 -- ---- a step
 
-pub stops_under : (inner budget : Budget) (xs : List ℕ) (e : Refusal) (rest : List ℕ)
-    → step_in budget ≡ Some inner → StopsUnder inner xs e rest → StopsOneValue budget xs e rest
-stops_under inner budget xs e rest step h =
-    (reading_by_parts xs budget e rest).1 (subst (λ o. StopsAtStep value_name o xs (λ inner.
-    ReadingStopsFrom (λ left part. StopsReading part left) inner xs) e rest) (sym step) h)
+pub rejects_under : (inner budget : Budget) (xs : List ℕ) (e : InputError) (rest : List ℕ)
+    → step_in budget ≡ Some inner → RejectsUnder inner xs e rest → RejectsOneValue budget xs e rest
+rejects_under inner budget xs e rest step h =
+    (reading_by_parts xs budget e rest).1 (subst (λ o. RejectsAtStep value_name o xs (λ inner.
+    ReadingRejectsFrom (λ left part. ReadingRejects part left) inner xs) e rest) (sym step) h)
 
 pub stepped : {E : Type 0} {r : Result Value (DecodeError E)} {a b c d : View}
     → StepsIn a.budget b.budget true → KeepsAllButBudget a b → Does (ReadsUnder b.budget)
-    (StopsUnder b.budget) b c r → d.budget ≡ step_back c.budget → KeepsAllButBudget c d
-    → Does (ReadsOneValue a.budget) (StopsOneValue a.budget) a d r
+    (RejectsUnder b.budget) b c r → d.budget ≡ step_back c.budget → KeepsAllButBudget c d
+    → Does (ReadsOneValue a.budget) (RejectsOneValue a.budget) a d r
 stepped {a = a} {b = b} takes inward w gives outward =
-    does_stepped (ReadsUnder b.budget) (ReadsOneValue a.budget) (StopsUnder b.budget)
-    (StopsOneValue a.budget) (λ xs ys v h. h a.budget (steps_in a.budget b.budget takes))
-    (λ xs e rest h. stops_under b.budget a.budget xs e rest (steps_in a.budget b.budget takes) h)
+    does_stepped (ReadsUnder b.budget) (ReadsOneValue a.budget) (RejectsUnder b.budget)
+    (RejectsOneValue a.budget) (λ xs ys v h. h a.budget (steps_in a.budget b.budget takes))
+    (λ xs e rest h. rejects_under b.budget a.budget xs e rest (steps_in a.budget b.budget takes) h)
     takes inward w gives outward
 
--- ---- items, one behind another
+-- ---- items, one after another
 
 pub values-push : (ts : Trees) (t : Tree) (vs : List Value) (v : Value) → values ts ≡ items_view vs
     → value t ≡ view v → values (push ts t) ≡ items_view (vs ++ v ∷ [])
@@ -74,7 +74,7 @@ values-push (tree u us) t (w ∷ vs) v e f =
     let more = values-push us t vs v tail f in
     ap (λ i. item i (values (push us t))) head ∙ ap (item (view w)) more
 
--- ---- heads that are refused
+-- ---- heads that are rejected
 
 pub small_count : (name : List ℕ) (w : Width)
     → eof name (Small (byte_count w)) ≡ eof name (len_of (byte_count w))
@@ -114,8 +114,9 @@ same_width : (w v : Width) (i : Info) → i ≡ wide w → i ≡ wide v → w �
 same_width w v i p q = cc
 
 -- a head of this row is cut
-pub head_cut : (name : List ℕ) (major b : ℕ) (bs : List ℕ) (w : Width) (e : Refusal) (rest : List ℕ)
-    → b / 32 ≡ major → info_of (b % 32) ≡ wide w → StopsHead name major 8 (b ∷ bs) e rest
+pub head_cut : (name : List ℕ) (major b : ℕ) (bs : List ℕ) (w : Width) (e : InputError)
+    (rest : List ℕ)
+    → b / 32 ≡ major → info_of (b % 32) ≡ wide w → RejectsHead name major 8 (b ∷ bs) e rest
     → MissingAll name (byte_count w) bs e rest
 head_cut name major b bs w e rest m is (inl h) = absurd (h.none w (width_begins major b w m is))
 head_cut name major b bs w e rest m is (inr h) =
@@ -125,8 +126,8 @@ head_cut name major b bs w e rest m is (inr h) =
     (h.short, (h.answer ∙ small_count name h.wide, h.left))
 
 -- a byte that is no head's
-pub no_head : (name : List ℕ) (major b : ℕ) (bs : List ℕ) (e : Refusal) (rest : List ℕ)
-    → ((w : Width) → info_of (b % 32) ≡ wide w → ⊥) → StopsHead name major 8 (b ∷ bs) e rest
+pub no_head : (name : List ℕ) (major b : ℕ) (bs : List ℕ) (e : InputError) (rest : List ℕ)
+    → ((w : Width) → info_of (b % 32) ≡ wide w → ⊥) → RejectsHead name major 8 (b ∷ bs) e rest
     → Is (mismatch name b) bs e rest
 no_head name major b bs e rest none (inl h) = (h.answer, h.left)
 no_head name major b bs e rest none (inr h) =
@@ -136,17 +137,18 @@ pub initial_of : (b major : ℕ) → b / 32 ≡ major → initial b ≡ by_major
 unfolding initial
 initial_of b major m = ap (λ j. by_major j (b % 32)) m
 
-pub open_byte : (major b : ℕ) → b / 32 ≡ major → info_of (b % 32) ≡ open_ended → b ≡ open_head major
-open_byte major b m is =
+pub indefinite_byte : (major b : ℕ) → b / 32 ≡ major → info_of (b % 32) ≡ indefinite_ended →
+    b ≡ indefinite_head major
+indefinite_byte major b m is =
     let low : b % 32 ≡ 31 = subst (InfoSays (b % 32)) is (info_says (b % 32)) in
     omega (arith, low, m)
 
--- an integer's head is refused
-pub int_stops : (inner : Budget) (s : Sign) (b : ℕ) (bs : List ℕ) (e : Refusal) (rest : List ℕ)
-    → b / 32 ≡ sign_major s → StopsHead (sign_name s) (sign_major s) 8 (b ∷ bs) e rest
-    → StopsUnder inner (b ∷ bs) e rest
-int_stops inner s b bs e rest m h =
-    subst (λ i. ReadingStopsBy (λ left part. StopsReading part left) inner i b bs e rest)
+-- an integer's head is rejected
+pub int_rejects : (inner : Budget) (s : Sign) (b : ℕ) (bs : List ℕ) (e : InputError) (rest : List ℕ)
+    → b / 32 ≡ sign_major s → RejectsHead (sign_name s) (sign_major s) 8 (b ∷ bs) e rest
+    → RejectsUnder inner (b ∷ bs) e rest
+int_rejects inner s b bs e rest m h =
+    subst (λ i. ReadingRejectsBy (λ left part. ReadingRejects part left) inner i b bs e rest)
     (sym (initial_of b (sign_major s) m ∙ row s (b % 32))) (by_info (info_of (b % 32)) refl)
   where
     row : (s : Sign) (i : ℕ) → by_major (sign_major s) i ≡ int_by_info s (info_of i)
@@ -154,9 +156,10 @@ int_stops inner s b bs e rest m h =
     row negative i = refl
 
     by_info : (i : Info) → info_of (b % 32) ≡ i
-        → ReadingStopsBy (λ left part. StopsReading part left) inner (int_by_info s i) b bs e rest
+        → ReadingRejectsBy (λ left part. ReadingRejects part left) inner (int_by_info s i) b
+        bs e rest
     by_info (wide w) is = head_cut (sign_name s) (sign_major s) b bs w e rest m is h
-    by_info open_ended is = no_head (sign_name s) (sign_major s) b bs e rest (λ w f. cc) h
+    by_info indefinite_ended is = no_head (sign_name s) (sign_major s) b bs e rest (λ w f. cc) h
     by_info reserved is = no_head (sign_name s) (sign_major s) b bs e rest (λ w f. cc) h
 
 -- ---- integers

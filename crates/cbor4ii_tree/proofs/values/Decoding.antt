@@ -6,96 +6,97 @@ use Rattle.std.proofs.Common.{take-append-drop}
 use Rattle.std.proofs.Math.Seq.{drop-append_seam, take-append_seam}
 use Rattle.cbor4ii_rw.specs.View.{View}
 use Rattle.cbor4ii_rw.specs.declared.error.DecodeError.{DecodeError}
-use Rattle.cbor4ii_items.specs.Refusal.{Refusal, refusal_of}
-use Rattle.cbor4ii_items.specs.Decoding.{Sound, Refuses, Stops, NoneRead, CostFits}
+use Rattle.cbor4ii_items.specs.InputError.{InputError, input_error_of}
+use Rattle.cbor4ii_items.specs.Decoding.{Sound, Complete, Rejects, NoneRead, CostFits}
 use Rattle.cbor4ii_items.specs.Decoding.{Decodes}
 use Rattle.cbor4ii_items.specs.Laws.Calls.{any_memory}
 use Rattle.cbor4ii_tree.specs.declared.value.Value.{Value}
 use Rattle.cbor4ii_tree.specs.Tree.{bytes}
 use Rattle.cbor4ii_tree.specs.Item.{Item}
 use Rattle.cbor4ii_tree.specs.Cost.{Budget, cost}
-use Rattle.cbor4ii_tree.specs.Spelling.{ReadsPlainly}
+use Rattle.cbor4ii_tree.specs.Encodings.{DecodesTo}
 use Rattle.cbor4ii_tree.specs.View.{view}
 use Rattle.cbor4ii_tree.specs.Does.{Does}
-use Rattle.cbor4ii_tree.specs.Promises.{ReadsValue, value_spelling}
-use Rattle.cbor4ii_tree.specs.Valuing.{ReadsOneValue, StopsOneValue}
-use Rattle.cbor4ii_tree.specs.StopsReading.{StopsReading}
+use Rattle.cbor4ii_tree.specs.Promises.{ReadsValue, value_format}
+use Rattle.cbor4ii_tree.specs.Valuing.{ReadsOneValue, RejectsOneValue}
+use Rattle.cbor4ii_tree.specs.ReadingRejects.{ReadingRejects}
 use Rattle.cbor4ii_tree.proofs.reading.Answer.{not_both}
 
 -- ---- in the words of the definitions
 
-reads_front : (budget : Budget) (xs : List ℕ) (v : Item) (n c : ℕ) → ReadsValue xs v n c
-    → CostFits c budget → ReadsPlainly xs budget v (drop n xs)
-reads_front budget xs v n c r fits = record {
-  spelling = take n xs;
+reads_prefix : (budget : Budget) (xs : List ℕ) (v : Item) (n c : ℕ) → ReadsValue xs v n c
+    → CostFits c budget → DecodesTo xs budget v (drop n xs)
+reads_prefix budget xs v n c r fits = record {
+  encoding = take n xs;
   steps = c;
-  spells = r.spells;
+  encodes = r.encodes;
   fits = fits;
   begins = sym (take-append-drop n xs);
 }
 
-by_refusal : (o : Option Refusal) (P Q : Refusal → Type 0) → ((z : Refusal) → P z → Q z)
+by_error : (o : Option InputError) (P Q : InputError → Type 0) → ((z : InputError) → P z → Q z)
     → IfSome o P → IfSome o Q
-by_refusal None P Q f h = tt
-by_refusal (Some z) P Q f h = f z h
+by_error None P Q f h = tt
+by_error (Some z) P Q f h = f z h
 
 -- ---- what a decoding call promises
 
 module _ {E : Type 0} {a b : View} where
   value_sound : (r : Result Value (DecodeError E)) → Does (ReadsOneValue a.budget)
-      (StopsOneValue a.budget) a b r → IfOk r (Sound (λ xs (v : Value). ReadsValue xs (view v)) a b)
+      (RejectsOneValue a.budget) a b r → IfOk r
+      (Sound (λ xs (v : Value). ReadsValue xs (view v)) a b)
   value_sound (Err e) d = tt
   value_sound (Ok v) d = record {
-    at = λ xs told.
-        let s = d.ok xs told in
+    at = λ xs known.
+        let s = d.ok xs known in
         let t = s.2.0 in
         let n = length (bytes t) in
-        let behind : drop n xs ≡ s.0 = ap (drop n) s.2.3 ∙ drop-append_seam (bytes t) s.0 in
-        let front : take n xs ≡ bytes t = ap (take n) s.2.3 ∙ take-append_seam (bytes t) s.0 in
+        let trailing : drop n xs ≡ s.0 = ap (drop n) s.2.3 ∙ drop-append_seam (bytes t) s.0 in
+        let prefix : take n xs ≡ bytes t = ap (take n) s.2.3 ∙ take-append_seam (bytes t) s.0 in
         record {
           count = n;
           cost = cost t;
           read = record {
             within = omega (arith, ap length s.2.3, length-append (bytes t) s.0);
-            spells = record {
-              spelled = t;
+            encodes = record {
+              of_tree = t;
               plain = s.2.1.0;
-              bytes_are = sym front;
+              bytes_are = sym prefix;
               value_is = s.2.2;
               cost_is = refl;
             };
           };
           fits = s.2.1.1;
-          left = s.1 ∙ ap Some (sym behind);
+          left = s.1 ∙ ap Some (sym trailing);
         };
   }
 
-  value_refuses : (r : Result Value (DecodeError E))
-      → Does (ReadsOneValue a.budget) (StopsOneValue a.budget) a b r
-      → IfErr r (Refuses (λ xs (v : Value). ReadsValue xs (view v)) a)
-  value_refuses (Ok v) d = tt
-  value_refuses (Err e) d = record {
-    at = λ xs told. by_refusal (refusal_of e)
-        (λ z. (ys : List ℕ) × (b.told ≡ Some ys) × StopsReading xs a.budget z ys)
+  value_complete : (r : Result Value (DecodeError E))
+      → Does (ReadsOneValue a.budget) (RejectsOneValue a.budget) a b r
+      → IfErr r (Complete (λ xs (v : Value). ReadsValue xs (view v)) a)
+  value_complete (Ok v) d = tt
+  value_complete (Err e) d = record {
+    at = λ xs known. by_error (input_error_of e)
+        (λ z. (ys : List ℕ) × (b.known ≡ Some ys) × ReadingRejects xs a.budget z ys)
         (λ z. NoneRead (λ xs (v : Value). ReadsValue xs (view v)) xs a.budget)
         (λ z h v n c r fits. not_both xs a.budget (view v)
-        (drop n xs) z h.0 (reads_front a.budget xs (view v) n c r fits) h.2)
-        (d.err xs told);
+        (drop n xs) z h.0 (reads_prefix a.budget xs (view v) n c r fits) h.2)
+        (d.err xs known);
   }
 
-  value_stops : (r : Result Value (DecodeError E)) → Does (ReadsOneValue a.budget)
-      (StopsOneValue a.budget) a b r → IfErr r (Stops StopsReading a b)
-  value_stops (Ok v) d = tt
-  value_stops (Err e) d = record { at = λ xs told. d.err xs told }
+  value_rejects : (r : Result Value (DecodeError E)) → Does (ReadsOneValue a.budget)
+      (RejectsOneValue a.budget) a b r → IfErr r (Rejects ReadingRejects a b)
+  value_rejects (Ok v) d = tt
+  value_rejects (Err e) d = record { at = λ xs known. d.err xs known }
 
   pub value_decodes : (r : Result Value (DecodeError E)) → Does (ReadsOneValue a.budget)
-      (StopsOneValue a.budget) a b r → OnOk r (b.bound + 1 ≤ a.bound) → Decodes value_spelling a b r
+      (RejectsOneValue a.budget) a b r → OnOk r (b.bound + 1 ≤ a.bound) → Decodes value_format a b r
   value_decodes r d progress = record {
     moves = d.moves;
     progress = λ some. progress;
     memory = any_memory r;
     sound = value_sound r d;
-    complete = λ exact. value_refuses r d;
-    stops = λ exact. value_stops r d;
-    begins = value_stops r d;
+    complete = λ exact. value_complete r d;
+    rejects = λ exact. value_rejects r d;
+    begins = value_rejects r d;
   }

@@ -11,12 +11,13 @@ use Rattle.cbor4ii_items.specs.SequenceBytes.{items_bytes}
 use Rattle.cbor4ii_tree.specs.Tree.{int, bytes, bytes_all, bytes_pairs, count, pair_count}
 use Rattle.cbor4ii_tree.specs.Item.{boolean, integer, sequence, mapping, tag, item_count}
 use Rattle.cbor4ii_tree.specs.Item.{member_count}
-use Rattle.cbor4ii_tree.specs.Canonical.{canon, canon_trees, canon_pairs, bignum, sign_tag}
+use Rattle.cbor4ii_tree.specs.Canonical.{canonical_encoding, canonical_trees, canonical_pairs}
+use Rattle.cbor4ii_tree.specs.Canonical.{bignum, sign_tag}
 use Rattle.cbor4ii_tree.specs.View.{view, items_view, members_view}
 use Rattle.cbor4ii_tree.specs.Encoding.{value_bytes, member_bytes}
 use Rattle.cbor4ii_tree.specs.declared.value.Value.{Value, Bool as VBool, Integer, Array, Map, Tag}
 use Rattle.cbor4ii_tree.specs.declared.value.Value.{the_lemmas}
-use Rattle.cbor4ii_tree.proofs.spellings.Canonical.{count-canon, count-pairs}
+use Rattle.cbor4ii_tree.proofs.encodings.Canonical.{count-canonical_encoding, count-pairs}
 use Rattle.cbor4ii_tree.proofs.values.Views.{item_count-items_view, member_count-members_view}
 use Rattle.cbor4ii_tree.proofs.values.Views.{view-Map}
 
@@ -28,42 +29,44 @@ by_size : (b : Bool) (s : Sign) (n : ℕ)
 by_size true s n = refl
 by_size false s n = refl
 
-pub signed-canon : (z : ℤ) → signed_bytes z ≡ canon (integer z)
-signed-canon (pos n) = sym (by_size (ltb n (2 ^ 64)) unsigned n)
-signed-canon (negsuc n) = sym (by_size (ltb n (2 ^ 64)) negative n)
+pub signed-canonical_encoding : (z : ℤ) → signed_bytes z ≡ canonical_encoding (integer z)
+signed-canonical_encoding (pos n) = sym (by_size (ltb n (2 ^ 64)) unsigned n)
+signed-canonical_encoding (negsuc n) = sym (by_size (ltb n (2 ^ 64)) negative n)
 
 -- ---- arrays and maps
 
-pub items-canon : (vs : List Value)
-    → items_bytes value_bytes vs ≡ bytes_all (canon_trees (items_view vs))
-items-canon [] = refl
-items-canon (v ∷ vs) = ap (λ z. value_bytes v ++ z) (items-canon vs)
+pub items-canonical_encoding : (vs : List Value)
+    → items_bytes value_bytes vs ≡ bytes_all (canonical_trees (items_view vs))
+items-canonical_encoding [] = refl
+items-canonical_encoding (v ∷ vs) = ap (λ z. value_bytes v ++ z) (items-canonical_encoding vs)
 
-pub members-canon : (ms : List (Value × Value))
-    → items_bytes member_bytes ms ≡ bytes_pairs (canon_pairs (members_view ms))
-members-canon [] = refl
-members-canon (m ∷ ms) =
+pub members-canonical_encoding : (ms : List (Value × Value))
+    → items_bytes member_bytes ms ≡ bytes_pairs (canonical_pairs (members_view ms))
+members-canonical_encoding [] = refl
+members-canonical_encoding (m ∷ ms) =
     append_assoc (value_bytes m.0) (value_bytes m.1) (items_bytes member_bytes ms)
-    ∙ ap (λ z. value_bytes m.0 ++ (value_bytes m.1 ++ z)) (members-canon ms)
+    ∙ ap (λ z. value_bytes m.0 ++ (value_bytes m.1 ++ z)) (members-canonical_encoding ms)
 
--- the shortest head with the count of the items, which is told in two ways
+-- the shortest head with the count of the items, which is described in two ways
 headed : (major n m k : ℕ) (xs ys : List ℕ) → n ≡ k → m ≡ k → xs ≡ ys
     → shortest_head major n ++ xs ≡ head major m (shortest k) ++ ys
 headed major n m k xs ys e f g = rw (e, f, g) refl
 
-pub sequence-canon : (n : ℕ) (vs : List Value) → n ≡ length vs
-    → shortest_head 4 n ++ items_bytes value_bytes vs ≡ canon (sequence (items_view vs))
-sequence-canon n vs e =
-    headed 4 n (count (canon_trees (items_view vs)))
+pub sequence-canonical_encoding : (n : ℕ) (vs : List Value) → n ≡ length vs
+    → shortest_head 4 n ++ items_bytes value_bytes vs ≡ canonical_encoding
+    (sequence (items_view vs))
+sequence-canonical_encoding n vs e =
+    headed 4 n (count (canonical_trees (items_view vs)))
     (item_count (items_view vs)) _ _ (e ∙ sym (item_count-items_view vs))
-    (count-canon (items_view vs)) (items-canon vs)
+    (count-canonical_encoding (items_view vs)) (items-canonical_encoding vs)
 
-pub mapping-canon : (n : ℕ) (ms : List (Value × Value)) → n ≡ length ms
-    → shortest_head 5 n ++ items_bytes member_bytes ms ≡ canon (mapping (members_view ms))
-mapping-canon n ms e =
-    headed 5 n (pair_count (canon_pairs (members_view ms)))
+pub mapping-canonical_encoding : (n : ℕ) (ms : List (Value × Value)) → n ≡ length ms
+    → shortest_head 5 n ++ items_bytes member_bytes ms ≡ canonical_encoding
+    (mapping (members_view ms))
+mapping-canonical_encoding n ms e =
+    headed 5 n (pair_count (canonical_pairs (members_view ms)))
     (member_count (members_view ms)) _ _ (e ∙ sym (member_count-members_view ms))
-    (count-pairs (members_view ms)) (members-canon ms)
+    (count-pairs (members_view ms)) (members-canonical_encoding ms)
 
 -- ---- values
 
@@ -73,26 +76,29 @@ view-Bool b = search (rules, the_lemmas)
 pub view-Array : (v : Vec Value Global) → view (Array v) ≡ sequence (items_view v.items)
 view-Array v = search (rules, the_lemmas)
 
-bool-canon : (b : Bool) → bool_byte b ∷ [] ≡ canon (boolean b)
-bool-canon false = refl
-bool-canon true = refl
+bool-canonical_encoding : (b : Bool) → bool_byte b ∷ [] ≡ canonical_encoding (boolean b)
+bool-canonical_encoding false = refl
+bool-canonical_encoding true = refl
 
 pub Bool-bytes : (value : Value) (b : Bool) → value ≡ VBool b → bool_byte b ∷ [] ≡ value_bytes value
-Bool-bytes value b e = bool-canon b ∙ sym (ap canon (ap view e ∙ view-Bool b))
+Bool-bytes value b e = bool-canonical_encoding b ∙ sym
+    (ap canonical_encoding (ap view e ∙ view-Bool b))
 
 pub Array-bytes : (value : Value) (v : Vec Value Global) (n : ℕ) (vs : List Value) → value ≡ Array v
     → vs ≡ v.items → n ≡ length vs
     → shortest_head 4 n ++ items_bytes value_bytes vs ≡ value_bytes value
 Array-bytes value v n vs e same len =
-    sequence-canon n vs len ∙ ap (λ l. canon (sequence (items_view l))) same
-    ∙ sym (ap canon (ap view e ∙ view-Array v))
+    sequence-canonical_encoding n vs len ∙ ap
+    (λ l. canonical_encoding (sequence (items_view l))) same
+    ∙ sym (ap canonical_encoding (ap view e ∙ view-Array v))
 
 pub Map-bytes : (value : Value) (v : Vec (Value × Value) Global) (n : ℕ) (ms : List (Value × Value))
     → value ≡ Map v → ms ≡ v.items → n ≡ length ms
     → shortest_head 5 n ++ items_bytes member_bytes ms ≡ value_bytes value
 Map-bytes value v n ms e same len =
-    mapping-canon n ms len ∙ ap (λ l. canon (mapping (members_view l))) same
-    ∙ sym (ap canon (ap view e ∙ view-Map v))
+    mapping-canonical_encoding n ms len ∙ ap
+    (λ l. canonical_encoding (mapping (members_view l))) same
+    ∙ sym (ap canonical_encoding (ap view e ∙ view-Map v))
 
 pub view-Integer : (z : ℤ) → view (Integer z) ≡ integer z
 view-Integer z = search (rules, the_lemmas)
@@ -104,7 +110,7 @@ pub Tag-bytes : (value inner : Value) (n : ℕ) (b : Box Value Global) → value
     → inner ≡ b.value → shortest_head 6 n ++ value_bytes inner ≡ value_bytes value
 Tag-bytes value inner n b e same =
     ap (λ w. shortest_head 6 n ++ value_bytes w) same
-    ∙ sym (ap canon (ap view e ∙ view-Tag n b))
+    ∙ sym (ap canonical_encoding (ap view e ∙ view-Tag n b))
 
 -- ---- calls
 

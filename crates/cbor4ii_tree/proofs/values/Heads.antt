@@ -13,23 +13,24 @@ use mir.Syntax.{w128}
 use Rattle.cbor4ii_rw.specs.View.{View}
 use Rattle.cbor4ii_rw.specs.Reader.{Advances}
 use Rattle.cbor4ii_rw.specs.declared.error.DecodeError.{DecodeError}
-use Rattle.cbor4ii_items.specs.Refusal.{Refusal, refusal_of, is_read, is_depth_overflow}
+use Rattle.cbor4ii_items.specs.InputError.{InputError, input_error_of, is_read, is_depth_overflow}
 use Rattle.cbor4ii_items.specs.Head.{byte_count, additional, head}
-use Rattle.cbor4ii_items.specs.Heads.{StopsHead, ReadsHead}
+use Rattle.cbor4ii_items.specs.Heads.{RejectsHead, ReadsHead}
 use Rattle.cbor4ii_items.specs.Laws.Heads.{after_head, length-bytes_high_first}
-use Rattle.cbor4ii_items.specs.Numbers.{ReadsArgument, StopsArgument}
-use Rattle.cbor4ii_items.specs.Floats.{ReadsFloat, StopsFloat, float_bytes}
+use Rattle.cbor4ii_items.specs.Numbers.{ReadsArgument, RejectsArgument}
+use Rattle.cbor4ii_items.specs.Floats.{ReadsFloat, RejectsFloat, float_bytes}
 use Rattle.cbor4ii_items.specs.Moves.{Moves}
-use Rattle.cbor4ii_items.specs.Decoding.{CostFits, Sound, Stops}
+use Rattle.cbor4ii_items.specs.Decoding.{CostFits, Sound, Rejects}
 use Rattle.cbor4ii_items.specs.Reading.{Runs, peek_at}
-use Rattle.cbor4ii_items.specs.Initial.{Initial, Info, wide, open_ended, reserved, info_of, initial}
+use Rattle.cbor4ii_items.specs.Initial.{Initial, Info, wide, indefinite_ended, reserved, info_of}
+use Rattle.cbor4ii_items.specs.Initial.{initial}
 use Rattle.cbor4ii_items.specs.Initial.{simple_by_info, tag_by_info, negative, Simple, simple_byte}
 use Rattle.cbor4ii_items.specs.Initial.{Precision, half, single, double, precision_byte}
 use Rattle.cbor4ii_items.specs.Initial.{precision_bytes, starts_tag, starts_bits, other_simple}
 use Rattle.cbor4ii_items.specs.Initial.{simple_false, simple_true, simple_null, simple_undefined}
 use Rattle.cbor4ii_items.specs.Laws.Answering.{fits_zero}
-use Rattle.cbor4ii_tree.specs.Refusal.{eof, unsupported, Small, len_of, precision_name, tag_name}
-use Rattle.cbor4ii_tree.specs.Refusal.{value_name}
+use Rattle.cbor4ii_tree.specs.InputError.{eof, unsupported, Small, len_of, precision_name, tag_name}
+use Rattle.cbor4ii_tree.specs.InputError.{value_name}
 use Rattle.cbor4ii_tree.specs.Laws.Initials.{initial_tag, initial_bits}
 use Rattle.cbor4ii_tree.specs.declared.value.Value.{Value, Integer, Float, Tag, the_lemmas}
 use Rattle.cbor4ii_tree.specs.declared.value.FloatBits.{FloatBits}
@@ -38,40 +39,42 @@ use Rattle.cbor4ii_tree.specs.Tree.{int, tagged, simple, bits, bytes}
 use Rattle.cbor4ii_tree.specs.Item.{integer, float, tag}
 use Rattle.cbor4ii_tree.specs.Cost.{Budget, cost}
 use Rattle.cbor4ii_tree.specs.Laws.Binds.{step_up}
-use Rattle.cbor4ii_tree.specs.Stops.{Stopping, MissingAll}
-use Rattle.cbor4ii_tree.specs.StopsReading.{ReadingStopsBy, StopsReading}
+use Rattle.cbor4ii_tree.specs.Rejections.{Stopping, MissingAll}
+use Rattle.cbor4ii_tree.specs.ReadingRejects.{ReadingRejectsBy, ReadingRejects}
 use Rattle.cbor4ii_tree.specs.View.{view}
 use Rattle.cbor4ii_tree.specs.Does.{Accepting, Does, answered}
-use Rattle.cbor4ii_tree.specs.Valuing.{HeadAt, ReadsOneValue, ReadsTagged, StopsOneValue}
-use Rattle.cbor4ii_tree.specs.Valuing.{ReadsUnder, StopsUnder, TakesTag}
-use Rattle.cbor4ii_tree.specs.Valuing.{StopsFirst, StopsOf, SimpleOf, TakesSimple}
+use Rattle.cbor4ii_tree.specs.Valuing.{HeadAt, ReadsOneValue, ReadsTagged, RejectsOneValue}
+use Rattle.cbor4ii_tree.specs.Valuing.{ReadsUnder, RejectsUnder, TakesTag}
+use Rattle.cbor4ii_tree.specs.Valuing.{RejectsFirst, RejectsOf, SimpleOf, TakesSimple}
 use Rattle.cbor4ii_tree.proofs.skip_calls.Doing.{Reached, reached_start, reached_by}
 use Rattle.cbor4ii_tree.proofs.skip_calls.Doing.{reached_as, does_ok, does_err, does_after}
-use Rattle.cbor4ii_tree.proofs.skip_calls.Doing.{does_refuse, does_stops, call_stops, reached_peek}
+use Rattle.cbor4ii_tree.proofs.skip_calls.Doing.{does_reject, does_rejects, call_rejects}
+use Rattle.cbor4ii_tree.proofs.skip_calls.Doing.{reached_peek}
 use Rattle.cbor4ii_tree.proofs.skip_calls.Doing.{reached_first, reached_sound}
 use Rattle.cbor4ii_tree.proofs.values.Calls.{Peeked, head_cut, no_head, initial_of, small_z}
 use Rattle.cbor4ii_tree.proofs.values.Calls.{fits_less}
 use Rattle.cbor4ii_tree.proofs.values.Encoding.{view-Integer}
 
--- ---- behind a byte that was looked at
+-- ---- after a byte that was looked at
 
-pub at_row : (inner : Budget) (i : Initial) (b : ℕ) (bs : List ℕ) (e : Refusal) (rest : List ℕ)
-    → initial b ≡ i → ReadingStopsBy (λ left part. StopsReading part left) inner i b bs e rest
-    → StopsUnder inner (b ∷ bs) e rest
+pub at_row : (inner : Budget) (i : Initial) (b : ℕ) (bs : List ℕ) (e : InputError) (rest : List ℕ)
+    → initial b ≡ i → ReadingRejectsBy (λ left part. ReadingRejects part left) inner i b bs e rest
+    → RejectsUnder inner (b ∷ bs) e rest
 at_row inner i b bs e rest is h =
-    subst (λ j. ReadingStopsBy (λ left part. StopsReading part left) inner j b bs e rest) (sym is) h
+    subst (λ j. ReadingRejectsBy (λ left part. ReadingRejects part left) inner j b bs e rest)
+    (sym is) h
 
 module _ (b : ℕ) {E : Type 0} {a m : View}
     (first : Runs {E = E} (peek_at value_name 1) a m (Ok b)) where
   pub arm_does : (A : Accepting Value) (S : Stopping) {r : Result Value (DecodeError E)} {c : View}
       → ((bs ys : List ℕ) (v : Value) → A (b ∷ bs) v ys → ReadsUnder a.budget (b ∷ bs) v ys)
-      → ((bs : List ℕ) (z : Refusal) (rest : List ℕ) → S (b ∷ bs) z rest
-      → StopsUnder a.budget (b ∷ bs) z rest)
-      → Does A S m c r → Does (ReadsUnder a.budget) (StopsUnder a.budget) a c r
-  arm_does A S f g d = does_after (Peeked b) A (ReadsUnder a.budget) S (StopsUnder a.budget)
+      → ((bs : List ℕ) (z : InputError) (rest : List ℕ) → S (b ∷ bs) z rest
+      → RejectsUnder a.budget (b ∷ bs) z rest)
+      → Does A S m c r → Does (ReadsUnder a.budget) (RejectsUnder a.budget) a c r
+  arm_does A S f g d = does_after (Peeked b) A (ReadsUnder a.budget) S (RejectsUnder a.budget)
       (λ xs ys zs v p h. subst (λ x. ReadsUnder a.budget x v zs) (sym p.1)
       (f p.0 zs v (subst (λ x. A x v zs) (p.2 ∙ p.1) h)))
-      (λ xs ys z rest p h. subst (λ x. StopsUnder a.budget x z rest) (sym p.1)
+      (λ xs ys z rest p h. subst (λ x. RejectsUnder a.budget x z rest) (sym p.1)
       (g p.0 z rest (subst (λ x. S x z rest) (p.2 ∙ p.1) h)))
       (reached_peek value_name 1 b first) d
 
@@ -100,9 +103,9 @@ negative_reads inner v n c xs r budget step = (
 
 pub simple_read : {E : Type 0} (b : ℕ) {a m c : View} {v : Value}
     → Runs {E = E} (peek_at value_name 1) a m (Ok b) → b < 256 → Advances 1 m c
-    → SimpleOf b (Some v) → Does {E = E} (ReadsUnder a.budget) (StopsUnder a.budget) a c (Ok v)
+    → SimpleOf b (Some v) → Does {E = E} (ReadsUnder a.budget) (RejectsUnder a.budget) a c (Ok v)
 simple_read b {a = a} {v = v} first small adv s =
-    does_ok (ReadsUnder a.budget) (StopsUnder a.budget)
+    does_ok (ReadsUnder a.budget) (RejectsUnder a.budget)
     (reached_as (λ xs ys. xs ≡ b ∷ ys) (λ xs ys. ReadsUnder a.budget xs v ys)
     (λ xs ys e budget step. (
       simple s.0,
@@ -115,20 +118,20 @@ simple_read b {a = a} {v = v} first small adv s =
     ))
     (reached_first value_name 1 b first small adv))
 
--- what is told of a value that holds no other
+-- what is reported of a value that holds no other
 pub alone_does : {E : Type 0} (b : ℕ) {a m c : View} {r : Result Value (DecodeError E)}
     → Runs {E = E} (peek_at value_name 1) a m (Ok b) → b < 256
-    → TakesSimple b m c r ⊎ Does (ReadsUnder m.budget) (StopsFirst b m.budget) m c r
-    → Does (ReadsUnder a.budget) (StopsUnder a.budget) a c r
+    → TakesSimple b m c r ⊎ Does (ReadsUnder m.budget) (RejectsFirst b m.budget) m c r
+    → Does (ReadsUnder a.budget) (RejectsUnder a.budget) a c r
 alone_does b {a = a} {c = c} first small (inl h) =
-    subst (λ r. Does (ReadsUnder a.budget) (StopsUnder a.budget) a c r) (sym h.1)
+    subst (λ r. Does (ReadsUnder a.budget) (RejectsUnder a.budget) a c r) (sym h.1)
     (simple_read b first small h.3 h.2)
 alone_does b {m = m} first small (inr d) =
-    arm_does b first (λ xs v ys. ReadsUnder m.budget xs v ys) (StopsFirst b m.budget)
+    arm_does b first (λ xs v ys. ReadsUnder m.budget xs v ys) (RejectsFirst b m.budget)
     (λ bs ys v h. subst (λ o. ReadsUnder o (b ∷ bs) v ys) first.moves.by.budget h)
-    (λ bs z rest h. subst (λ o. StopsUnder o (b ∷ bs) z rest) first.moves.by.budget (h bs refl)) d
+    (λ bs z rest h. subst (λ o. RejectsUnder o (b ∷ bs) z rest) first.moves.by.budget (h bs refl)) d
 
--- ---- what a first byte tells
+-- ---- what a first byte reports
 
 pub leaf_read : {V E : Type 0} (R : List ℕ → V → ℕ → ℕ → Type 0) {v : V} (w : Value) {S : Stopping}
     {a c : View} → ((xs : List ℕ) (n k : ℕ) → CostFits k a.budget → R xs v n k
@@ -138,18 +141,19 @@ leaf_read R w {S = S} {a = a} f moves s =
     does_ok (ReadsUnder a.budget) S
     (reached_sound R (λ xs ys. ReadsUnder a.budget xs w ys) f moves s)
 
-pub leaf_refused : {V E : Type 0} (first : ℕ) (S : List ℕ → Option ℕ → Refusal → List ℕ → Type 0)
-    {a c : View} {e : DecodeError E} → ((bs : List ℕ) (z : Refusal) (rest : List ℕ)
-    → S (first ∷ bs) a.budget z rest → StopsUnder a.budget (first ∷ bs) z rest)
-    → Moves {V = V} a c (Err e) → Stops S a c e
-    → Does {V = Value} (ReadsUnder a.budget) (StopsFirst first a.budget) a c (Err e)
-leaf_refused {V = V} first S {a = a} f moves s =
+pub leaf_rejected : {V E : Type 0} (first : ℕ) (S : List ℕ → Option ℕ → InputError → List ℕ →
+    Type 0)
+    {a c : View} {e : DecodeError E} → ((bs : List ℕ) (z : InputError) (rest : List ℕ)
+    → S (first ∷ bs) a.budget z rest → RejectsUnder a.budget (first ∷ bs) z rest)
+    → Moves {V = V} a c (Err e) → Rejects S a c e
+    → Does {V = Value} (ReadsUnder a.budget) (RejectsFirst first a.budget) a c (Err e)
+leaf_rejected {V = V} first S {a = a} f moves s =
     does_err (λ xs ys. xs ≡ ys) (λ xs (v : V) ys. Unit {0}) (ReadsUnder a.budget)
-    (λ xs. S xs a.budget) (StopsFirst first a.budget)
-    (λ xs ys z rest e h bs is. subst (λ x. StopsUnder a.budget x z rest) (sym is)
+    (λ xs. S xs a.budget) (RejectsFirst first a.budget)
+    (λ xs ys z rest e h bs is. subst (λ x. RejectsUnder a.budget x z rest) (sym is)
     (f bs z rest (subst (λ x. S x a.budget z rest) (sym e ∙ is) h)))
     (reached_start (λ xs ys. xs ≡ ys) a (λ xs. refl))
-    (does_stops (λ xs (v : V) ys. Unit {0}) S moves s)
+    (does_rejects (λ xs (v : V) ys. Unit {0}) S moves s)
 
 -- ---- floats
 
@@ -169,14 +173,14 @@ pub float_read : {E : Type 0} (p : Precision) {V : Type 0} (content : V → ℕ)
 float_read p content {v = v} f {a = a} is moves s =
     leaf_read (λ xs v. ReadsFloat (precision_byte p) (precision_bytes p) xs (content v)) (Float f)
     (λ xs n k _ r budget step.
-    let front = float_bytes (precision_byte p) (precision_bytes p) (content v) in
-    let left : drop n xs ≡ r.rest = ap (drop n) r.is ∙ ap (λ j. drop j (front ++ r.rest))
+    let prefix = float_bytes (precision_byte p) (precision_bytes p) (content v) in
+    let left : drop n xs ≡ r.rest = ap (drop n) r.is ∙ ap (λ j. drop j (prefix ++ r.rest))
     (r.size ∙ sym (ap suc (length-bytes_high_first (precision_bytes p) (content v))))
-    ∙ drop-append_seam front r.rest in (
+    ∙ drop-append_seam prefix r.rest in (
       bits p (content v),
       ((r.fits, tt), step_up budget a.budget 0 step (fits_zero a.budget)),
       is,
-      r.is ∙ ap (λ z. front ++ z) (sym left),
+      r.is ∙ ap (λ z. prefix ++ z) (sym left),
     )) moves s
 
 missing_bits : (p : Precision) (name : List ℕ)
@@ -185,24 +189,24 @@ missing_bits half name = refl
 missing_bits single name = refl
 missing_bits double name = refl
 
-pub float_cut : (p : Precision) (b : ℕ) (bs : List ℕ) (e : Refusal) (rest : List ℕ)
+pub float_cut : (p : Precision) (b : ℕ) (bs : List ℕ) (e : InputError) (rest : List ℕ)
     (budget : Budget) → b ≡ precision_byte p
-    → StopsFloat (precision_name p) (precision_byte p) (precision_bytes p) (b ∷ bs) budget e rest
+    → RejectsFloat (precision_name p) (precision_byte p) (precision_bytes p) (b ∷ bs) budget e rest
     → MissingAll (precision_name p) (precision_bytes p) bs e rest
 float_cut p b bs e rest budget is (inl h) = absurd (h.0 is)
 float_cut p b bs e rest budget is (inr h) =
     let i = h.is in
-    let same : h.behind ≡ bs = cc in (
+    let same : h.trailing ≡ bs = cc in (
       subst (λ z. length z < precision_bytes p) same h.short,
       (h.answer ∙ missing_bits p (precision_name p), h.left),
     )
 
-pub float_refused : {V E : Type 0} (p : Precision) (first : ℕ) {a c : View} {e : DecodeError E}
+pub float_rejected : {V E : Type 0} (p : Precision) (first : ℕ) {a c : View} {e : DecodeError E}
     → first ≡ precision_byte p → Moves {V = V} a c (Err e)
-    → Stops (StopsFloat (precision_name p) (precision_byte p) (precision_bytes p)) a c e
-    → Does {V = Value} (ReadsUnder a.budget) (StopsFirst first a.budget) a c (Err e)
-float_refused p first {a = a} is moves s =
-    leaf_refused first (StopsFloat (precision_name p) (precision_byte p) (precision_bytes p))
+    → Rejects (RejectsFloat (precision_name p) (precision_byte p) (precision_bytes p)) a c e
+    → Does {V = Value} (ReadsUnder a.budget) (RejectsFirst first a.budget) a c (Err e)
+float_rejected p first {a = a} is moves s =
+    leaf_rejected first (RejectsFloat (precision_name p) (precision_byte p) (precision_bytes p))
     (λ bs z rest h. at_row a.budget (starts_bits p) first bs z rest
     (ap initial is ∙ initial_bits p) (float_cut p first bs z rest a.budget is h)) moves s
 
@@ -230,13 +234,14 @@ other_byte b low high none e f g =
 
 pub no_value : {E : Type 0} (first : ℕ) {e : DecodeError E} {a : View} → 224 ≤ first → first < 256
     → ((s : Simple) → first ≡ simple_byte s → ⊥) → first ≢ 249 → first ≢ 250 → first ≢ 251
-    → refusal_of e ≡ Some (unsupported value_name first) → is_read e ≡ false
+    → input_error_of e ≡ Some (unsupported value_name first) → is_read e ≡ false
     → is_depth_overflow e ≡ false
-    → Does {V = Value} (ReadsUnder a.budget) (StopsFirst first a.budget) a a (Err e)
+    → Does {V = Value} (ReadsUnder a.budget) (RejectsFirst first a.budget) a a (Err e)
 no_value first {a = a} low high none f g h says read shallow =
-    does_refuse (λ xs ys. xs ≡ ys) (ReadsUnder a.budget) (StopsFirst first a.budget)
+    does_reject (λ xs ys. xs ≡ ys) (ReadsUnder a.budget) (RejectsFirst first a.budget)
     (unsupported value_name first) says read shallow
-    (λ xs ys e bs is. subst (λ x. StopsUnder a.budget x (unsupported value_name first) ys) (sym is)
+    (λ xs ys e bs is. subst (λ x. RejectsUnder a.budget x (unsupported value_name first) ys)
+    (sym is)
     (at_row a.budget other_simple first bs _ ys (other_byte first low high none f g h)
     (refl, sym e ∙ is)))
     (reached_start (λ xs ys. xs ≡ ys) a (λ xs. refl))
@@ -263,29 +268,30 @@ pub view-Tag : (n : ℕ) (v : Rattle.std.proofs.Common.Box Value Rattle.std.proo
     → view (Tag n v) ≡ tag n (view v.value)
 view-Tag n v = search (rules, the_lemmas)
 
--- behind the head of a tag
+-- after the head of a tag
 pub tagged_ok : {E : Type 0} (n : ℕ) {v : Value} {a c : View} (w : Value) → view w ≡ tag n (view v)
-    → Does {E = E} (ReadsOneValue a.budget) (StopsOneValue a.budget) a c (Ok v)
-    → Does {E = E} (ReadsTagged n a.budget) (StopsOneValue a.budget) a c (Ok w)
-tagged_ok n {v = v} {a = a} w is d = does_ok (ReadsTagged n a.budget) (StopsOneValue a.budget)
+    → Does {E = E} (ReadsOneValue a.budget) (RejectsOneValue a.budget) a c (Ok v)
+    → Does {E = E} (ReadsTagged n a.budget) (RejectsOneValue a.budget) a c (Ok w)
+tagged_ok n {v = v} {a = a} w is d = does_ok (ReadsTagged n a.budget) (RejectsOneValue a.budget)
     (reached_as (λ xs ys. ReadsOneValue a.budget xs v ys) (λ xs ys. ReadsTagged n a.budget xs w ys)
     (λ xs ys h. (v, is, h)) (reached_by d))
 
 pub tagged_err : {E : Type 0} (n : ℕ) {a c : View} {e : DecodeError E}
-    → Does {V = Value} (ReadsOneValue a.budget) (StopsOneValue a.budget) a c (Err e)
-    → Does {V = Value} (ReadsTagged n a.budget) (StopsOneValue a.budget) a c (Err e)
+    → Does {V = Value} (ReadsOneValue a.budget) (RejectsOneValue a.budget) a c (Err e)
+    → Does {V = Value} (ReadsTagged n a.budget) (RejectsOneValue a.budget) a c (Err e)
 tagged_err n {a = a} d =
     does_err (λ xs ys. xs ≡ ys) (ReadsOneValue a.budget) (ReadsTagged n a.budget)
-    (StopsOneValue a.budget) (StopsOneValue a.budget)
-    (λ xs ys z rest e s. subst (λ x. StopsOneValue a.budget x z rest) (sym e) s)
+    (RejectsOneValue a.budget) (RejectsOneValue a.budget)
+    (λ xs ys z rest e s. subst (λ x. RejectsOneValue a.budget x z rest) (sym e) s)
     (reached_start (λ xs ys. xs ≡ ys) a (λ xs. refl)) d
 
 pub tag_does : {E : Type 0} (n : ℕ) {r : Result Value (DecodeError E)} {a m c : View}
-    → Reached (HeadAt 6 n) a m → Does (ReadsTagged n m.budget) (StopsOneValue m.budget) m c r
-    → Does (ReadsUnder a.budget) (StopsOf 6 a.budget) a c r
+    → Reached (HeadAt 6 n) a m → Does (ReadsTagged n m.budget) (RejectsOneValue m.budget) m c r
+    → Does (ReadsUnder a.budget) (RejectsOf 6 a.budget) a c r
 tag_does n {a = a} {m = m} p d =
-    does_after (HeadAt 6 n) (ReadsTagged n m.budget) (ReadsUnder a.budget) (StopsOneValue m.budget)
-    (StopsOf 6 a.budget)
+    does_after (HeadAt 6 n) (ReadsTagged n m.budget) (ReadsUnder a.budget)
+    (RejectsOneValue m.budget)
+    (RejectsOf 6 a.budget)
     (λ xs ys zs w h r budget step.
     let s = subst (λ o. ReadsOneValue o ys r.0 zs) p.kept.budget r.2 in (
       tagged n h.0 s.0,
@@ -295,33 +301,35 @@ tag_does n {a = a} {m = m} p d =
           ∙ sym (append_assoc (head 6 n h.0) (bytes s.0) zs),
     ))
     (λ xs ys z rest h s0 _ _ _ _.
-    let s = subst (λ o. StopsOneValue o ys z rest) p.kept.budget s0 in
-    subst (λ x. StopsUnder a.budget x z rest) (sym h.2)
+    let s = subst (λ o. RejectsOneValue o ys z rest) p.kept.budget s0 in
+    subst (λ x. RejectsUnder a.budget x z rest) (sym h.2)
     (at_row a.budget (starts_tag h.0) (32 * 6 + additional h.0 n)
     (bytes_high_first (byte_count h.0) n ++ ys) z rest (initial_tag n h.0 h.1)
     (inr (record { argument = n; after = ys; fits = h.1; is = refl; stopped = s })))) p d
 
-pub tag_stops : (inner : Budget) (b : ℕ) (bs : List ℕ) (e : Refusal) (rest : List ℕ) → b / 32 ≡ 6
-    → StopsHead tag_name 6 8 (b ∷ bs) e rest → StopsUnder inner (b ∷ bs) e rest
-tag_stops inner b bs e rest m h =
+pub tag_rejects : (inner : Budget) (b : ℕ) (bs : List ℕ) (e : InputError) (rest : List ℕ) →
+    b / 32 ≡ 6
+    → RejectsHead tag_name 6 8 (b ∷ bs) e rest → RejectsUnder inner (b ∷ bs) e rest
+tag_rejects inner b bs e rest m h =
     at_row inner (tag_by_info (info_of (b % 32))) b bs e rest (initial_of b 6 m)
     (by_info (info_of (b % 32)) refl)
   where
     by_info : (i : Info) → info_of (b % 32) ≡ i
-        → ReadingStopsBy (λ left part. StopsReading part left) inner (tag_by_info i) b bs e rest
+        → ReadingRejectsBy (λ left part. ReadingRejects part left) inner (tag_by_info i) b bs e rest
     by_info (wide w) is = inl (head_cut tag_name 6 b bs w e rest m is h)
-    by_info open_ended is = no_head tag_name 6 b bs e rest (λ w f. cc) h
+    by_info indefinite_ended is = no_head tag_name 6 b bs e rest (λ w f. cc) h
     by_info reserved is = no_head tag_name 6 b bs e rest (λ w f. cc) h
 
 -- the number that the head of a tag has
 pub tag_taken : {E : Type 0} {a c : View} (r : Option ℕ) (failure : Option (DecodeError E))
     → Moves a c (answered r failure)
     → IfOk (answered r failure) (Sound (ReadsArgument 6 8) a c)
-    → IfErr (answered r failure) (Stops (StopsArgument tag_name 6 8) a c)
-    → Does (TakesTag a.budget) (StopsOf 6 a.budget) a c (answered r failure)
+    → IfErr (answered r failure) (Rejects (RejectsArgument tag_name 6 8) a c)
+    → Does (TakesTag a.budget) (RejectsOf 6 a.budget) a c (answered r failure)
 tag_taken {a = a} (Some n) failure moves s h =
-    does_ok (TakesTag a.budget) (StopsOf 6 a.budget) (reached_tag n moves s)
+    does_ok (TakesTag a.budget) (RejectsOf 6 a.budget) (reached_tag n moves s)
 tag_taken {a = a} None failure moves s h =
-    call_stops (TakesTag a.budget) (StopsArgument tag_name 6 8) (StopsOf 6 a.budget)
-    (λ xs z rest h b bs is m. subst (λ x. StopsUnder a.budget x z rest) (sym is)
-    (tag_stops a.budget b bs z rest m (subst (λ x. StopsHead tag_name 6 8 x z rest) is h))) moves h
+    call_rejects (TakesTag a.budget) (RejectsArgument tag_name 6 8) (RejectsOf 6 a.budget)
+    (λ xs z rest h b bs is m. subst (λ x. RejectsUnder a.budget x z rest) (sym is)
+    (tag_rejects a.budget b bs z rest m (subst (λ x. RejectsHead tag_name 6 8 x z rest) is h)))
+    moves h

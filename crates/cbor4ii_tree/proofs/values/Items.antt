@@ -36,19 +36,20 @@ members_are ns ms k v e h i j =
 small : {A : Type 0} (v : Vec A Global) → length v.items < 2 ^ 64
 small v = omega (arith, v.small, v.ok.0, v.ok.1)
 
-pub array_item : (v : Vec Value Global) → AreItems (items_view v.items) → IsItem (view (Array v))
-array_item v h =
+pub array_encoding : (v : Vec Value Global) → AreItems (items_view v.items) → IsItem
+    (view (Array v))
+array_encoding v h =
     subst IsItem (sym (view-Array v))
     (subst (λ n. n < 2 ^ 64) (sym (item_count-items_view v.items)) (small v), h)
 
-pub map_item : (v : Vec (Value × Value) Global) → AreMembers (members_view v.items)
+pub map_encoding : (v : Vec (Value × Value) Global) → AreMembers (members_view v.items)
     → IsItem (view (Map v))
-map_item v h =
+map_encoding v h =
     subst IsItem (sym (view-Map v))
     (subst (λ n. n < 2 ^ 64) (sym (member_count-members_view v.items)) (small v), h)
 
-pub text_item : (v : String Global) → IsItem (view (Text v))
-text_item v = subst IsItem (sym (view-Text v)) (small v.bytes, IsUtf8-string_bytes v)
+pub text_encoding : (v : String Global) → IsItem (view (Text v))
+text_encoding v = subst IsItem (sym (view-Text v)) (small v.bytes, IsUtf8-string_bytes v)
 
 pub bytes_item_is : (v : Vec ℕ Global) → IsItem (view (Bytes v))
 bytes_item_is v = subst IsItem (sym (view-Bytes v)) (small v)

@@ -1,4 +1,4 @@
--- Runs: values that hold no other, one behind another in shown bytes.
+-- Runs: values that hold no other, one after another in shown bytes.
 use Rattle.std.proofs.Common.{◌≡◌, ℕ, suc, ◌+◌, ◌-◌, ◌*◌, ◌/◌, ◌<◌, ◌≤◌, ◌⊎◌, List, [], ◌∷◌}
 use Rattle.std.proofs.Common.{◌++◌}
 use Rattle.std.proofs.Common.{length, take, drop, Option, Some, None, refl, sym, ap, ap₂, ◌∙◌}
@@ -11,53 +11,54 @@ use Rattle.std.proofs.Math.Seq.{take-add}
 use Rattle.std.proofs.lemmas.Bool.{ltb-true, ltb-false}
 use Rattle.std.proofs.lemmas.List.{append-nil, drop-take}
 use denote.Ref.{Bor}
-use Rattle.cbor4ii_rw.specs.Reader.{Advances, Breaks, IsFront, KeepsAllButBudget, Shows, StepsIn}
+use Rattle.cbor4ii_rw.specs.Reader.{Advances, ReaderFails, IsPrefix, KeepsAllButBudget, Shows}
+use Rattle.cbor4ii_rw.specs.Reader.{StepsIn}
 use Rattle.cbor4ii_rw.specs.Reader.{step_back}
-use Rattle.cbor4ii_rw.specs.View.{View, Told}
+use Rattle.cbor4ii_rw.specs.View.{View, IfKnown}
 use Rattle.cbor4ii_rw.specs.declared.error.DecodeError.{DecodeError}
 use Rattle.cbor4ii_rw.specs.declared.error.DecodeError.TheVariants.{OutOfMemory, Eof, Read}
 use Rattle.cbor4ii_items.specs.Decoding.{CostFits}
 use Rattle.cbor4ii_items.specs.Head.{IsBytes}
-use Rattle.cbor4ii_items.specs.Refusal.{refusal_of, is_read, depth_overflow}
+use Rattle.cbor4ii_items.specs.InputError.{input_error_of, is_read, depth_overflow}
 use Rattle.cbor4ii_items.specs.Laws.Answering.{fits_zero}
-use Rattle.cbor4ii_items.specs.Laws.Contents.{lends_front}
+use Rattle.cbor4ii_items.specs.Laws.Contents.{lends_prefix}
 use Rattle.cbor4ii_items.specs.Laws.Steps.{counted_none, kept_then}
-use Rattle.cbor4ii_items.specs.Moves.{Broke, Kept}
+use Rattle.cbor4ii_items.specs.Moves.{ReaderFailed, Kept}
 use Rattle.cbor4ii_items.specs.Reading.{Runs, peek_at}
 use Rattle.cbor4ii_tree.specs.Cost.{Budget, step_in}
-use Rattle.cbor4ii_tree.specs.Does.{Accepting, Does, answered, refusal_left}
-use Rattle.cbor4ii_tree.specs.Front.{Offers}
+use Rattle.cbor4ii_tree.specs.Does.{Accepting, Does, answered, error_left}
+use Rattle.cbor4ii_tree.specs.Prefix.{Offers}
 use Rattle.cbor4ii_tree.specs.Item.{AreItems, AreMembers, IsItem, item, no_items}
 use Rattle.cbor4ii_tree.specs.Laws.Binds.{step_up}
-use Rattle.cbor4ii_tree.specs.Leaf.{DoesBehindNext, HeadStands, SeesNext, ShowsHead, ShowsNext}
+use Rattle.cbor4ii_tree.specs.Leaf.{DoesAfterNext, HeadStands, SeesNext, ShowsHead, ShowsNext}
 use Rattle.cbor4ii_tree.specs.Leaf.{StandsAhead, WantsContent}
-use Rattle.cbor4ii_tree.specs.LeafRuns.{flat_pairs, flat_values, IsLeaf, StandInFront, PutsBehind}
-use Rattle.cbor4ii_tree.specs.LeafRuns.{PutsRun, RefusesMemory, ReadsEach, PutsItems, RunsBefore}
-use Rattle.cbor4ii_tree.specs.LeafRuns.{PutsItemsUnder, KeepsItems, StopsItemsUnder}
-use Rattle.cbor4ii_tree.specs.LeafRuns.{StopsWhereNone, TakesBy}
-use Rattle.cbor4ii_tree.specs.Refusal.{Refusal, value_name}
-use Rattle.cbor4ii_tree.specs.Refusal.{Small}
-use Rattle.cbor4ii_tree.specs.Stops.{Each, EachPair, Stopping, StopsInCount}
-use Rattle.cbor4ii_tree.specs.StopsReading.{Readable}
-use Rattle.cbor4ii_tree.specs.StopsStrictly.{Exactly}
+use Rattle.cbor4ii_tree.specs.LeafRuns.{flat_pairs, flat_values, IsLeaf, StandInFront, PutsAfter}
+use Rattle.cbor4ii_tree.specs.LeafRuns.{PutsRun, RejectsMemory, ReadsEach, PutsItems, RunsBefore}
+use Rattle.cbor4ii_tree.specs.LeafRuns.{PutsItemsUnder, KeepsItems, RejectsItemsUnder}
+use Rattle.cbor4ii_tree.specs.LeafRuns.{RejectsWhereNone, TakesBy}
+use Rattle.cbor4ii_tree.specs.InputError.{InputError, value_name}
+use Rattle.cbor4ii_tree.specs.InputError.{Small}
+use Rattle.cbor4ii_tree.specs.Rejections.{Each, EachPair, Stopping, RejectsInCount}
+use Rattle.cbor4ii_tree.specs.ReadingRejects.{Readable}
+use Rattle.cbor4ii_tree.specs.CanonicalRejects.{FitsCanonically}
 use Rattle.cbor4ii_tree.specs.Tree.{Tree, Trees, no_trees, tree, Pairs, no_pairs, pair, bytes}
 use Rattle.cbor4ii_tree.specs.Tree.{bytes_all, bytes_pairs, count, pair_count}
 use Rattle.cbor4ii_tree.specs.Meaning.{value, values, member_values}
-use Rattle.cbor4ii_tree.specs.Valuing.{ReadsUnder, StopsOneValue, StopsUnder}
+use Rattle.cbor4ii_tree.specs.Valuing.{ReadsUnder, RejectsOneValue, RejectsUnder}
 use Rattle.cbor4ii_tree.specs.View.{view, items_view, members_view}
 use Rattle.cbor4ii_tree.specs.declared.value.Value.{Value}
 use Rattle.cbor4ii_tree.specs.declared.leaf.Next.{Next}
 use Rattle.cbor4ii_tree.specs.declared.run.Ran.{Ran}
 use Rattle.cbor4ii_tree.specs.declared.run.Ran.TheVariants as run
-use Rattle.cbor4ii_tree.proofs.parts.Fronts.{IsBytes-append}
+use Rattle.cbor4ii_tree.proofs.parts.Prefixes.{IsBytes-append}
 use Rattle.cbor4ii_tree.proofs.parts.Joined.{join, count-join, each-join, bytes-join}
 use Rattle.cbor4ii_tree.proofs.skip_calls.Doing.{does_ok, does_no_memory, does_stepped, steps_in}
 use Rattle.cbor4ii_tree.proofs.skip_calls.Doing.{Reached, reached_start, reached_then, reached_by}
 use Rattle.cbor4ii_tree.proofs.skip_calls.Doing.{does_err, does_no_step}
-use Rattle.cbor4ii_tree.proofs.values.Calls.{stops_under}
+use Rattle.cbor4ii_tree.proofs.values.Calls.{rejects_under}
 use Rattle.cbor4ii_tree.proofs.values.Ends.{none_shown}
 use Rattle.cbor4ii_tree.proofs.values.Items.{items_are}
-use Rattle.cbor4ii_tree.proofs.values.ByHead.{front_shown, next_shown, sees_loosely}
+use Rattle.cbor4ii_tree.proofs.values.ByHead.{prefix_shown, next_shown, sees_loosely}
 use Rattle.cbor4ii_tree.proofs.values.Leaves.{MayTake, some_as, wants_may}
 
 -- ---- lists of values
@@ -179,13 +180,13 @@ may_more at n size shown h l e =
     })
 
 pub put_none : (exact : Type 0) (items : List Value) (shown : List ℕ)
-    → PutsBehind exact 0 shown items items
+    → PutsAfter exact 0 shown items items
 put_none exact items shown =
     record { new = []; is = sym (append-nil items); stand = stand_none exact shown }
 
 pub put_more : (exact : Type 0) (before items after : List Value) (at n size : ℕ) (shown : List ℕ)
-    → PutsBehind exact at shown before items → PutsBehind exact n (drop at shown) items after
-    → size ≡ at + n → PutsBehind exact size shown before after
+    → PutsAfter exact at shown before items → PutsAfter exact n (drop at shown) items after
+    → size ≡ at + n → PutsAfter exact size shown before after
 put_more exact before items after at n size shown p l e = record {
   new = p.new ++ l.new;
   is = l.is ∙ (ap (λ r. r ++ l.new) p.is ∙ append_assoc before p.new l.new);
@@ -196,9 +197,9 @@ put_more exact before items after at n size shown p l e = record {
 
 -- one more value
 pub put_one : (exact : Type 0) (before items after : List Value) (v : Value) (at n : ℕ)
-    (shown : List ℕ) → PutsBehind exact at shown before items
+    (shown : List ℕ) → PutsAfter exact at shown before items
     → StandsAhead exact v n (drop at shown) → after ≡ items ++ v ∷ []
-    → PutsBehind exact (at + n) shown before after
+    → PutsAfter exact (at + n) shown before after
 put_one exact before items after v at n shown p l is =
     put_more exact before items after at n (at + n) shown p
     (record { new = v ∷ []; is = is; stand = stand_one exact v n (drop at shown) l }) refl
@@ -210,10 +211,10 @@ put_well (Some v) e f p = p
 put_well None e f p = cc
 
 -- memory was refused where the last of some values was put
-pub refused_growth : (exact : Type 0) (before items : List Value) (v : Value) (at n : ℕ)
-    (shown : List ℕ) → PutsBehind exact at shown before items
-    → StandsAhead exact v n (drop at shown) → RefusesMemory exact (at + n) shown
-refused_growth exact before items v at n shown p l = record {
+pub rejected_growth : (exact : Type 0) (before items : List Value) (v : Value) (at n : ℕ)
+    (shown : List ℕ) → PutsAfter exact at shown before items
+    → StandsAhead exact v n (drop at shown) → RejectsMemory exact (at + n) shown
+rejected_growth exact before items v at n shown p l = record {
   values = p.new ++ v ∷ [];
   taken = at + n;
   stand =
@@ -222,9 +223,9 @@ refused_growth exact before items v at n shown p l = record {
 }
 
 -- so many bytes may be taken then
-pub refused_may : (exact : Type 0) (size : ℕ) (shown : List ℕ) → RefusesMemory exact size shown
+pub rejected_may : (exact : Type 0) (size : ℕ) (shown : List ℕ) → RejectsMemory exact size shown
     → MayTake size shown
-refused_may exact size shown r = by_place r.at
+rejected_may exact size shown r = by_place r.at
   where
     stands : MayTake r.taken shown
     stands = record { within = r.stand.within; fresh = r.stand.fresh }
@@ -245,7 +246,7 @@ LeafIs exact Whole =
 pub leaf_readable : (exact : Type 0) → LeafIs exact Readable
 leaf_readable exact budget t fits h = (h.0, subst (λ c. CostFits c budget) (sym h.1) fits)
 
-pub leaf_exactly : (exact : Type 0) → exact → LeafIs exact Exactly
+pub leaf_exactly : (exact : Type 0) → exact → LeafIs exact FitsCanonically
 leaf_exactly exact holds budget t fits h =
     ((h.0, h.2 holds), subst (λ c. CostFits c budget) (sym h.1) fits)
 
@@ -256,69 +257,69 @@ each_fits exact Whole f budget no_trees fits h = tt
 each_fits exact Whole f budget (tree t ts) fits h =
     (f budget t fits h.0, each_fits exact Whole f budget ts fits h.1)
 
-begins_with : (first : ℕ) (behind shown xs : List ℕ) → shown ≡ first ∷ behind
+begins_with : (first : ℕ) (trailing shown xs : List ℕ) → shown ≡ first ∷ trailing
     → take (length shown) xs ≡ shown → xs ≡ first ∷ drop 1 xs
-begins_with first behind shown xs is e =
+begins_with first trailing shown xs is e =
     by_first xs (subst (λ s. take (length s) xs ≡ s) is e)
   where
-    by_first : (xs : List ℕ) → take (length (first ∷ behind)) xs ≡ first ∷ behind
+    by_first : (xs : List ℕ) → take (length (first ∷ trailing)) xs ≡ first ∷ trailing
         → xs ≡ first ∷ drop 1 xs
     by_first [] f = cc
     by_first (x ∷ xs) f = let g : x ≡ first = cc in ap (λ c. c ∷ xs) g
 
-begins_behind : (size : ℕ) (shown xs : List ℕ) → size ≤ length shown
+begins_after : (size : ℕ) (shown xs : List ℕ) → size ≤ length shown
     → take (length shown) xs ≡ shown
     → take (length (drop size shown)) (drop size xs) ≡ drop size shown
-begins_behind size shown xs within e =
+begins_after size shown xs within e =
     let many : size + length (drop size shown) ≡ length shown =
     omega (arith, within, length-drop size shown) in
     sym (drop-take size (length (drop size shown)) xs)
     ∙ ap (λ n. drop size (take n xs)) many ∙ ap (drop size) e
 
--- told bytes only where they were told before
+-- known bytes only where they were reported before
 abbrev narrowed : Option (List ℕ) → Option (List ℕ) → Option (List ℕ)
 narrowed None new = None
 narrowed (Some xs) new = new
 
-narrowed_told : (old new : Option (List ℕ)) (xs : List ℕ) → old ≡ Some xs → narrowed old new ≡ new
-narrowed_told None new xs e = cc
-narrowed_told (Some ys) new xs e = refl
+narrowed_known : (old new : Option (List ℕ)) (xs : List ℕ) → old ≡ Some xs → narrowed old new ≡ new
+narrowed_known None new xs e = cc
+narrowed_known (Some ys) new xs e = refl
 
-told_narrowed : (old new : Option (List ℕ)) (ys : List ℕ) → narrowed old new ≡ Some ys
+known_narrowed : (old new : Option (List ℕ)) (ys : List ℕ) → narrowed old new ≡ Some ys
     → (xs : List ℕ) × (old ≡ Some xs) × (new ≡ Some ys)
-told_narrowed None new ys e = cc
-told_narrowed (Some xs) new ys e = (xs, refl, e)
+known_narrowed None new ys e = cc
+known_narrowed (Some xs) new ys e = (xs, refl, e)
 
 abbrev narrow : View → View → View
 narrow old new = record {
-  told = narrowed old.told new.told;
+  known = narrowed old.known new.known;
   bound = new.bound;
   advanceable = new.advanceable;
   budget = new.budget;
   failures = new.failures;
   taken = new.taken;
-  lends_whole = new.lends_whole;
+  zero_copy = new.zero_copy;
   remembers = new.remembers;
   ends_at = new.ends_at;
 }
 
 narrow_kept : {a b : View} → Kept a b → Kept a (narrow a b)
 narrow_kept {a = a} {b = b} k = record {
-  rest = λ xs told.
-      let t = k.rest xs told in (
+  rest = λ xs known.
+      let t = k.rest xs known in (
         t.0,
         record {
-          left = narrowed_told a.told b.told xs told ∙ t.1.left;
+          left = narrowed_known a.known b.known xs known ∙ t.1.left;
           within = t.1.within;
           bytes = t.1.bytes;
         },
       );
-  counted = λ xs told ys left.
-      k.counted xs told ys (sym (narrowed_told a.told b.told xs told) ∙ left);
+  counted = λ xs known ys left.
+      k.counted xs known ys (sym (narrowed_known a.known b.known xs known) ∙ left);
   bound = k.bound;
   budget = k.budget;
   failures = k.failures;
-  lends_whole = k.lends_whole;
+  zero_copy = k.zero_copy;
   remembers = k.remembers;
   ends_at = k.ends_at;
 }
@@ -327,48 +328,49 @@ does_narrow : {V E : Type 0} {A : Accepting V} {S : Stopping} {v : V} {a b : Vie
     → Does {E = E} A S a b (Ok v) → Does {E = E} A S a (narrow a b) (Ok v)
 does_narrow {a = a} {b = b} d = record {
   moves = record { by = narrow_kept d.moves.by; depth = λ e. refl };
-  ok = λ xs told.
-      let t = d.ok xs told in (t.0, narrowed_told a.told b.told xs told ∙ t.1, t.2);
+  ok = λ xs known.
+      let t = d.ok xs known in (t.0, narrowed_known a.known b.known xs known ∙ t.1, t.2);
   err = tt;
 }
 
 narrow_begun : (a b : View) → Kept (narrow a b) b
 narrow_begun a b = record {
-  rest = λ ys told. (
+  rest = λ ys known. (
     0,
     record {
-      left = (told_narrowed a.told b.told ys told).2;
+      left = (known_narrowed a.known b.known ys known).2;
       within = omega arith;
       bytes = tt;
     },
   );
-  counted = counted_none (narrow a b) b (λ ys told. (told_narrowed a.told b.told ys told).2) refl;
+  counted = counted_none (narrow a b) b
+      (λ ys known. (known_narrowed a.known b.known ys known).2) refl;
   bound = omega arith;
   budget = refl;
   failures = refl;
-  lends_whole = λ h. h;
+  zero_copy = λ h. h;
   remembers = λ h. h;
   ends_at = refl;
 }
 
--- what is left was shown, from where its bytes are told only as before
+-- what is left was shown, from where its bytes are known only as before
 narrow_shows : {E : Type 0} (first : ℕ) {a b : View} → Kept a b
-    → Told a.told (λ xs. (behind : List ℕ) × (b.told ≡ Some (first ∷ behind)))
+    → IfKnown a.known (λ xs. (trailing : List ℕ) × (b.known ≡ Some (first ∷ trailing)))
     → Runs {V = ℕ} {E = E} (peek_at value_name 1) (narrow a b) b (Ok first)
 narrow_shows first {a = a} {b = b} k next = record {
   moves = record { by = narrow_begun a b; depth = λ e. refl };
-  answers = λ ys told.
-      let t = told_narrowed a.told b.told ys told in
+  answers = λ ys known.
+      let t = known_narrowed a.known b.known ys known in
       let n = next t.0 t.1 in
       let e : ys ≡ first ∷ n.0 = let f = t.2 in let g = n.1 in cc in
       (ys, t.2, ap (peek_at value_name 1) e ∙ ap (λ zs. Ok (first, zs)) (sym e));
 }
 
--- what stands behind what was taken was shown, from where its bytes are told only as before
-head_behind : (exact : Type 0) (size major n k : ℕ) {shown : List ℕ} {a m b : View}
-    → Shows shown a m → Told a.told (IsFront 1 shown) → size ≤ length shown → Advances size m b
+-- what follows what was taken was shown, from where its bytes are known only as before
+head_after : (exact : Type 0) (size major n k : ℕ) {shown : List ℕ} {a m b : View}
+    → Shows shown a m → IfKnown a.known (IsPrefix 1 shown) → size ≤ length shown → Advances size m b
     → HeadStands exact major n k (drop size shown) → ShowsHead exact major n k (narrow a b) b
-head_behind exact size major n k {shown = shown} {a = a} {b = b} shows front within adv s = record {
+head_after exact size major n k {shown = shown} {a = a} {b = b} shows prefix within adv s = record {
   kept = narrow_begun a b;
   can =
       omega (
@@ -381,38 +383,38 @@ head_behind exact size major n k {shown = shown} {a = a} {b = b} shows front wit
       );
   shown = drop size shown;
   stands = s;
-  begins = λ ys told.
-      let t = told_narrowed a.told b.told ys told in
+  begins = λ ys known.
+      let t = known_narrowed a.known b.known ys known in
       let e : ys ≡ drop size t.0 =
       let f = t.2 in
-      let g = adv.told t.0 (shows.told t.0 t.1) in
+      let g = adv.known t.0 (shows.known t.0 t.1) in
       cc in
-      let begins = begins_behind size shown t.0 within (front t.0 t.1).begins in (
+      let begins = begins_after size shown t.0 within (prefix t.0 t.1).begins in (
         t.2,
         omega (
           arith,
           ap length e,
           length-drop size t.0,
           length-drop size shown,
-          (front t.0 t.1).within,
+          (prefix t.0 t.1).within,
           s.within,
           within,
         ),
         subst (λ x. take k x ≡ take k (drop size shown)) (sym e)
-            (front_shown k (drop size shown) (drop size t.0) s.within begins),
+            (prefix_shown k (drop size shown) (drop size t.0) s.within begins),
       );
 }
 
-next_behind : (E exact : Type 0) (size : ℕ) (n : Next) {shown : List ℕ} {a m b : View}
-    → Shows shown a m → Told a.told (IsFront 1 shown) → size ≤ length shown → Advances size m b
+next_after : (E exact : Type 0) (size : ℕ) (n : Next) {shown : List ℕ} {a m b : View}
+    → Shows shown a m → IfKnown a.known (IsPrefix 1 shown) → size ≤ length shown → Advances size m b
     → Kept a b → SeesNext exact n (drop size shown) → ShowsNext E exact n (narrow a b) b
-next_behind E exact size n {shown = shown} {a = a} {b = b} shows front within adv kept s = record {
+next_after E exact size n {shown = shown} {a = a} {b = b} shows prefix within adv kept s = record {
   first = record {
-    runs = narrow_shows n.first kept (λ xs told. (
+    runs = narrow_shows n.first kept (λ xs known. (
       drop 1 (drop size xs),
-      adv.told xs (shows.told xs told)
-          ∙ ap Some (begins_with n.first s.behind (drop size shown) (drop size xs) s.begins
-          (begins_behind size shown xs within (front xs told).begins)),
+      adv.known xs (shows.known xs known)
+          ∙ ap Some (begins_with n.first s.trailing (drop size shown) (drop size xs) s.begins
+          (begins_after size shown xs within (prefix xs known).begins)),
     ));
     can =
         omega (
@@ -426,28 +428,28 @@ next_behind E exact size n {shown = shown} {a = a} {b = b} shows front within ad
   };
   head =
       some_as n.head
-      (λ h. head_behind exact size (n.first / 32) h.argument h.size shows front within adv) s.head;
+      (λ h. head_after exact size (n.first / 32) h.argument h.size shows prefix within adv) s.head;
 }
 
-behind_are : (exact : Type 0) (before after : List Value) {size : ℕ} {shown : List ℕ}
-    → PutsBehind exact size shown before after → KeepsItems before after
-behind_are exact before after p kept =
+after_are : (exact : Type 0) (before after : List Value) {size : ℕ} {shown : List ℕ}
+    → PutsAfter exact size shown before after → KeepsItems before after
+after_are exact before after p kept =
     subst (λ x. AreItems (items_view x)) (sym p.is)
     (AreItems-append before p.new kept p.stand.ranged)
 
 module _ (exact : Type 0) (full : ℕ) (before after : List Value) {E : Type 0} {a m b : View} where
   puts_taken : (Whole : Budget → Tree → Type 0) → LeafIs exact Whole → (want size : ℕ)
-      {shown : List ℕ} → Shows shown a m → Told a.told (IsFront want shown)
-      → PutsBehind exact size shown before after → Advances size m b
+      {shown : List ℕ} → Shows shown a m → IfKnown a.known (IsPrefix want shown)
+      → PutsAfter exact size shown before after → Advances size m b
       → Does {V = Unit {0}} {E = E} (PutsItemsUnder Whole before after a.budget)
-      StopsWhereNone a b (Ok tt)
-  puts_taken Whole f want size shows front p adv =
+      RejectsWhereNone a b (Ok tt)
+  puts_taken Whole f want size shows prefix p adv =
       let s = p.stand in
-      let l = lends_front shows front s.within s.fresh refl adv in
-      does_ok (PutsItemsUnder Whole before after a.budget) StopsWhereNone (record {
+      let l = lends_prefix shows prefix s.within s.fresh refl adv in
+      does_ok (PutsItemsUnder Whole before after a.budget) RejectsWhereNone (record {
         kept = l.kept;
-        at = λ xs told.
-            let t = l.at xs told in (
+        at = λ xs known.
+            let t = l.at xs known in (
               drop size xs,
               t.1,
               λ budget step. (
@@ -469,10 +471,10 @@ module _ (exact : Type 0) (full : ℕ) (before after : List Value) {E : Type 0} 
   pub takes_whole : (Whole : Budget → Tree → Type 0) → LeafIs exact Whole → (size : ℕ) {seen : Ran}
       → seen ≡ run.Whole size → Offers 1 (PutsRun exact full before after seen) a m
       → Advances size m b → Does {V = Unit {0}} {E = E}
-      (PutsItemsUnder Whole before after a.budget) StopsWhereNone a b (Ok tt)
+      (PutsItemsUnder Whole before after a.budget) RejectsWhereNone a b (Ok tt)
   takes_whole Whole f size is h adv =
       let o = subst (λ s. Offers 1 (PutsRun exact full before after s) a m) is h in
-      puts_taken Whole f 1 size o.shows o.front o.is.puts adv
+      puts_taken Whole f 1 size o.shows o.prefix o.is.puts adv
 
   pub takes_before : (Whole : Budget → Tree → Type 0) → LeafIs exact Whole → (other : Type 0)
       → (other → exact) → (size : ℕ) (n : Next) {seen : Ran} → seen ≡ run.Before n size
@@ -480,25 +482,26 @@ module _ (exact : Type 0) (full : ℕ) (before after : List Value) {E : Type 0} 
       → RunsBefore E other Whole n before after a b
   takes_before Whole f other g size n is h adv =
       let o = subst (λ s. Offers 1 (PutsRun exact full before after s) a m) is h in
-      let d = puts_taken Whole f 1 size o.shows o.front o.is.puts adv in
+      let d = puts_taken Whole f 1 size o.shows o.prefix o.is.puts adv in
       record {
         mid = narrow a b;
         puts = does_narrow d;
         shows =
-            next_behind E other size n o.shows o.front o.is.puts.stand.within adv d.moves.by
+            next_after E other size n o.shows o.prefix o.is.puts.stand.within adv d.moves.by
             (sees_loosely exact other g n (drop size o.shown) o.is.next);
       }
 
   pub run_no_memory : (Whole : Budget → Tree → Type 0) (size : ℕ) {seen : Ran}
       → seen ≡ run.NoMemory size → Offers 1 (PutsRun exact full before after seen) a m
       → Advances size m b
-      → Does {V = Unit {0}} {E = E} (PutsItemsUnder Whole before after a.budget) StopsWhereNone a b
+      → Does {V = Unit {0}} {E = E} (PutsItemsUnder Whole before after a.budget)
+      RejectsWhereNone a b
       (Err OutOfMemory)
   run_no_memory Whole size is h adv =
       let o = subst (λ s. Offers 1 (PutsRun exact full before after s) a m) is h in
-      let may = refused_may exact size o.shown o.is in
-      let l = lends_front o.shows o.front may.within may.fresh refl adv in
-      does_no_memory (PutsItemsUnder Whole before after a.budget) StopsWhereNone refl l.kept
+      let may = rejected_may exact size o.shown o.is in
+      let l = lends_prefix o.shows o.prefix may.within may.fresh refl adv in
+      does_no_memory (PutsItemsUnder Whole before after a.budget) RejectsWhereNone refl l.kept
 
 module _ (exact : Type 0) (full : ℕ) (before after : List Value) {E : Type 0} {a m : View} where
   -- nothing was put
@@ -510,37 +513,38 @@ module _ (exact : Type 0) (full : ℕ) (before after : List Value) {E : Type 0} 
       record {
         mid = a;
         puts =
-            does_ok (PutsItemsUnder Whole before after a.budget) StopsWhereNone
+            does_ok (PutsItemsUnder Whole before after a.budget) RejectsWhereNone
             (reached_start (λ xs ys. PutsItemsUnder Whole before after a.budget xs tt ys) a
             (λ xs budget step. (
               [],
               o.is.0 ∙ sym (append-nil before),
               (no_trees, refl, tt, refl, refl),
             )));
-        shows = next_shown E other n o.shows o.front (sees_loosely exact other g n o.shown o.is.1);
+        shows = next_shown E other n o.shows o.prefix (sees_loosely exact other g n o.shown o.is.1);
       }
 
   pub run_ends : (Whole : Budget → Tree → Type 0) {seen : Ran} → seen ≡ run.End
       → Offers 1 (PutsRun exact full before after seen) a m → {name : Bor (List ℕ)}
       → name.now ≡ value_name
-      → Does {V = Unit {0}} {E = E} (PutsItemsUnder Whole before after a.budget) StopsWhereNone a m
+      → Does {V = Unit {0}} {E = E} (PutsItemsUnder Whole before after a.budget)
+      RejectsWhereNone a m
       (Err (Eof name (Small 1)))
   run_ends Whole is h says =
       let o = subst (λ s. Offers 1 (PutsRun exact full before after s) a m) is h in
-      none_shown (PutsItemsUnder Whole before after a.budget) StopsWhereNone
-      (λ z rest is. (refl, is)) 1 says (omega arith) o.shows o.front o.is
+      none_shown (PutsItemsUnder Whole before after a.budget) RejectsWhereNone
+      (λ z rest is. (refl, is)) 1 says (omega arith) o.shows o.prefix o.is
 
 module _ (exact : Type 0) (full : ℕ) (before after : List Value) {a m : View} where
   pub whole_items : (size : ℕ) {seen : Ran} → seen ≡ run.Whole size
       → Offers 1 (PutsRun exact full before after seen) a m → KeepsItems before after
   whole_items size is h =
-      behind_are exact before after
+      after_are exact before after
       (subst (λ s. Offers 1 (PutsRun exact full before after s) a m) is h).is.puts
 
   pub before_items : (size : ℕ) (n : Next) {seen : Ran} → seen ≡ run.Before n size
       → Offers 1 (PutsRun exact full before after seen) a m → KeepsItems before after
   before_items size n is h =
-      behind_are exact before after
+      after_are exact before after
       (subst (λ s. Offers 1 (PutsRun exact full before after s) a m) is h).is.puts
 
   pub whole_seen : (size : ℕ) {seen : Ran} → seen ≡ run.Whole size
@@ -567,30 +571,30 @@ module _ (exact : Type 0) (full : ℕ) (before after : List Value) {a m : View} 
   none_put n is h =
       (subst (λ s. Offers 1 (PutsRun exact full before after s) a m) is h).is.0
 
-breaks_broke : {a b : View} → Breaks a b → Broke a b
+breaks_broke : {a b : View} → ReaderFails a b → ReaderFailed a b
 breaks_broke b = record {
-  rest = λ xs told ys left. (0, b.told xs told ys left);
-  left = λ remembers xs told. (
+  rest = λ xs known ys left. (0, b.known xs known ys left);
+  left = λ remembers xs known. (
     0,
-    record { left = b.kept remembers xs told; within = omega arith; bytes = tt },
+    record { left = b.kept remembers xs known; within = omega arith; bytes = tt },
   );
   bound = b.bound;
   budget = b.budget;
   failures = b.failures;
-  lends_whole = b.lends_whole;
+  zero_copy = b.zero_copy;
   remembers = b.remembers;
   ends_at = b.ends_at;
 }
 
 -- the reader failed
 pub run_broke : (before after : List Value) {E : Type 0} {a b : View}
-    (Whole : Budget → Tree → Type 0) (error : E) → Breaks a b
-    → Does {V = Unit {0}} {E = E} (PutsItemsUnder Whole before after a.budget) StopsWhereNone a b
+    (Whole : Budget → Tree → Type 0) (error : E) → ReaderFails a b
+    → Does {V = Unit {0}} {E = E} (PutsItemsUnder Whole before after a.budget) RejectsWhereNone a b
     (Err (Read error))
 run_broke before after Whole error breaks = record {
   moves = record { by = breaks_broke breaks; depth = λ none. refl };
   ok = tt;
-  err = λ xs told. tt;
+  err = λ xs known. tt;
 }
 
 pub still_are : {before after : List Value} → after ≡ before → KeepsItems before after
@@ -600,7 +604,7 @@ pub none_lacks : (full : ℕ) (before after : List Value) → after ≡ before �
     → length after < full
 none_lacks full before after is lacks = subst (λ vs. length vs < full) (sym is) lacks
 
--- ---- behind other items
+-- ---- after other items
 
 pub none_yet : (W : Tree → Type 0) (vs : List Value) → vs ≡ [] → (xs : List ℕ)
     → ReadsEach W (length vs) xs vs xs
@@ -621,35 +625,35 @@ join_items W vs ws xs ys zs h k = (
   h.4 ∙ ap (λ r. bytes_all h.0 ++ r) k.4 ∙ sym (bytes-join h.0 k.0 zs),
 )
 
--- behind more values before them
+-- after more values before them
 stopped_further : (W : Tree → Type 0) (stop : Stopping) (vs : List Value) (full : ℕ)
-    (xs ys : List ℕ) (z : Refusal) (rest : List ℕ) → ReadsEach W (length vs) xs vs ys
-    → StopsInCount W stop (full - length vs) ys z rest → StopsInCount W stop full xs z rest
+    (xs ys : List ℕ) (z : InputError) (rest : List ℕ) → ReadsEach W (length vs) xs vs ys
+    → RejectsInCount W stop (full - length vs) ys z rest → RejectsInCount W stop full xs z rest
 stopped_further W stop vs full xs ys z rest h s = record {
-  front = join h.0 s.front;
+  prefix = join h.0 s.prefix;
   after = s.after;
-  few = omega (arith, count-join h.0 s.front, h.1, s.few);
-  whole = each-join W h.0 s.front h.2 s.whole;
+  few = omega (arith, count-join h.0 s.prefix, h.1, s.few);
+  whole = each-join W h.0 s.prefix h.2 s.whole;
   is =
-      h.4 ∙ ap (λ r. bytes_all h.0 ++ r) s.is ∙ sym (bytes-join h.0 s.front s.after);
+      h.4 ∙ ap (λ r. bytes_all h.0 ++ r) s.is ∙ sym (bytes-join h.0 s.prefix s.after);
   stopped = s.stopped;
 }
 
--- ---- a turn: a run, and the value behind it
+-- ---- a turn: a run, and the value after it
 
--- what it says of a value that it is read, or refused, where its step was taken
-pub record OneUnder (Whole : Budget → Tree → Type 0) (stops : Budget → Stopping)
-    (reads_under : Budget → Accepting Value) (stops_under : Budget → Stopping) : Type 0 where
+-- what it says of a value that it is read, or rejected, where its step was taken
+pub record OneUnder (Whole : Budget → Tree → Type 0) (rejects : Budget → Stopping)
+    (reads_under : Budget → Accepting Value) (rejects_under : Budget → Stopping) : Type 0 where
   pub reads : (budget inner : Budget) → step_in budget ≡ Some inner → (xs : List ℕ) (v : Value)
       (ys : List ℕ) → reads_under inner xs v ys → ReadsEach (Whole budget) 1 xs (v ∷ []) ys
-  pub refuses : (budget inner : Budget) → step_in budget ≡ Some inner → (xs : List ℕ) (z : Refusal)
-      (rest : List ℕ) → stops_under inner xs z rest → stops budget xs z rest
+  pub errs : (budget inner : Budget) → step_in budget ≡ Some inner → (xs : List ℕ) (z : InputError)
+      (rest : List ℕ) → rejects_under inner xs z rest → rejects budget xs z rest
 
-pub stopped_behind : (W : Tree → Type 0) (stop : Stopping) (vs : List Value) (room : ℕ)
-    (xs ys : List ℕ) (z : Refusal) (rest : List ℕ) → ReadsEach W (length vs) xs vs ys
-    → length vs < room → stop ys z rest → StopsInCount W stop room xs z rest
-stopped_behind W stop vs room xs ys z rest h few s = record {
-  front = h.0;
+pub stopped_after : (W : Tree → Type 0) (stop : Stopping) (vs : List Value) (room : ℕ)
+    (xs ys : List ℕ) (z : InputError) (rest : List ℕ) → ReadsEach W (length vs) xs vs ys
+    → length vs < room → stop ys z rest → RejectsInCount W stop room xs z rest
+stopped_after W stop vs room xs ys z rest h few s = record {
+  prefix = h.0;
   after = ys;
   few = omega (arith, h.1, few);
   whole = h.2;
@@ -657,39 +661,40 @@ stopped_behind W stop vs room xs ys z rest h few s = record {
   stopped = s;
 }
 
-module _ (Whole : Budget → Tree → Type 0) (stops : Budget → Stopping)
-    (reads_under : Budget → Accepting Value) (stops_under : Budget → Stopping)
-    (one : OneUnder Whole stops reads_under stops_under) (full : ℕ) (before : List Value)
+module _ (Whole : Budget → Tree → Type 0) (rejects : Budget → Stopping)
+    (reads_under : Budget → Accepting Value) (rejects_under : Budget → Stopping)
+    (one : OneUnder Whole rejects reads_under rejects_under) (full : ℕ) (before : List Value)
     {E : Type 0} {a : View} where
   -- no byte is left
   pub turn_ends : (after : List Value) {e : DecodeError E} {b : View} → length before < full
-      → ((xs : List ℕ) (z : Refusal) (rest : List ℕ) → StopsWhereNone xs z rest
-      → stops_under a.budget xs z rest)
-      → Does {V = Unit {0}} {E = E} (PutsItemsUnder Whole before after a.budget) StopsWhereNone a b
+      → ((xs : List ℕ) (z : InputError) (rest : List ℕ) → RejectsWhereNone xs z rest
+      → rejects_under a.budget xs z rest)
+      → Does {V = Unit {0}} {E = E} (PutsItemsUnder Whole before after a.budget)
+      RejectsWhereNone a b
       (Err e)
       → Does {V = Unit {0}} {E = E} (PutsItemsUnder Whole before after a.budget)
-      (StopsItemsUnder Whole stops (full - length before) a.budget) a b (Err e)
+      (RejectsItemsUnder Whole rejects (full - length before) a.budget) a b (Err e)
   turn_ends after lacks ends d =
       does_err (λ xs ys. xs ≡ ys) (PutsItemsUnder Whole before after a.budget)
-      (PutsItemsUnder Whole before after a.budget) StopsWhereNone
-      (StopsItemsUnder Whole stops (full - length before) a.budget)
+      (PutsItemsUnder Whole before after a.budget) RejectsWhereNone
+      (RejectsItemsUnder Whole rejects (full - length before) a.budget)
       (λ xs ys z rest is s budget step.
-      stopped_behind (Whole budget) (stops budget) [] (full - length before) xs xs z rest
+      stopped_after (Whole budget) (rejects budget) [] (full - length before) xs xs z rest
       (no_trees, refl, tt, refl, refl) (omega (arith, lacks))
-      (one.refuses budget a.budget step xs z rest
-      (subst (λ x. stops_under a.budget x z rest) (sym is) (ends ys z rest s))))
+      (one.errs budget a.budget step xs z rest
+      (subst (λ x. rejects_under a.budget x z rest) (sym is) (ends ys z rest s))))
       (reached_start (λ xs ys. xs ≡ ys) a (λ xs. refl)) d
 
   module _ (exact : Type 0) (mid : List Value) {m : View} (n : Next)
       (run : RunsBefore E exact Whole n before mid a m) where
-    -- the run, and a value behind it
+    -- the run, and a value after it
     pub turn_value : (after : List Value) {v : Value} {b : View} → after ≡ mid ++ v ∷ []
-        → DoesBehindNext {E = E} exact n reads_under stops_under m b (Ok v)
+        → DoesAfterNext {E = E} exact n reads_under rejects_under m b (Ok v)
         → Does {V = Unit {0}} {E = E} (PutsItemsUnder Whole before after a.budget)
-        (StopsItemsUnder Whole stops (full - length before) a.budget) a b (Ok tt)
+        (RejectsItemsUnder Whole rejects (full - length before) a.budget) a b (Ok tt)
     turn_value after {v = v} is d =
         does_ok (PutsItemsUnder Whole before after a.budget)
-        (StopsItemsUnder Whole stops (full - length before) a.budget)
+        (RejectsItemsUnder Whole rejects (full - length before) a.budget)
         (reached_then (λ xs ys. PutsItemsUnder Whole before mid a.budget xs tt ys)
         (λ xs ys. reads_under run.mid.budget xs v ys)
         (λ xs ys. PutsItemsUnder Whole before after a.budget xs tt ys)
@@ -703,34 +708,36 @@ module _ (Whole : Budget → Tree → Type 0) (stops : Budget → Stopping)
         ))
         (reached_by run.puts) (reached_by (d run.mid run.shows)))
 
-    -- the value is refused
-    pub turn_refused : {V : Type 0} (B : Accepting V) {e : DecodeError E} {b : View}
+    -- the value is rejected
+    pub turn_rejected : {V : Type 0} (B : Accepting V) {e : DecodeError E} {b : View}
         → length mid < full
-        → DoesBehindNext {V = Value} {E = E} exact n reads_under stops_under m b (Err e)
-        → Does {V = V} B (StopsItemsUnder Whole stops (full - length before) a.budget) a b (Err e)
-    turn_refused B lacks d =
+        → DoesAfterNext {V = Value} {E = E} exact n reads_under rejects_under m b (Err e)
+        → Does {V = V} B (RejectsItemsUnder Whole rejects (full - length before) a.budget) a b
+        (Err e)
+    turn_rejected B lacks d =
         does_err (λ xs ys. PutsItemsUnder Whole before mid a.budget xs tt ys)
-        (reads_under run.mid.budget) B (stops_under run.mid.budget)
-        (StopsItemsUnder Whole stops (full - length before) a.budget)
+        (reads_under run.mid.budget) B (rejects_under run.mid.budget)
+        (RejectsItemsUnder Whole rejects (full - length before) a.budget)
         (λ xs ys z rest h s budget step.
         let p = h budget step in
-        stopped_behind (Whole budget) (stops budget) p.0 (full - length before) xs ys z rest p.2
+        stopped_after (Whole budget) (rejects budget) p.0 (full - length before) xs ys z rest p.2
         (omega (arith, lacks, ap length p.1, length-append before p.0))
-        (one.refuses budget a.budget step ys z rest
-        (subst (λ o. stops_under o ys z rest) run.puts.moves.by.budget s)))
+        (one.errs budget a.budget step ys z rest
+        (subst (λ o. rejects_under o ys z rest) run.puts.moves.by.budget s)))
         (reached_by run.puts) (d run.mid run.shows)
 
-    -- the value is put behind the run, or there is no memory for that
+    -- the value is put after the run, or there is no memory for that
     pub turn_put : (after : List Value) {v : Value} {b : View} (r : Option (Unit {0}))
         (failure : Option (DecodeError E)) → OnSome r (after ≡ mid ++ v ∷ [])
-        → IfNone r (failure ≡ None) → DoesBehindNext {E = E} exact n reads_under stops_under m b (Ok
+        → IfNone r (failure ≡ None) → DoesAfterNext {E = E} exact n reads_under rejects_under
+        m b (Ok
         v)
         → Does {V = Unit {0}} {E = E} (PutsItemsUnder Whole before after a.budget)
-        (StopsItemsUnder Whole stops (full - length before) a.budget) a b (answered r failure)
+        (RejectsItemsUnder Whole rejects (full - length before) a.budget) a b (answered r failure)
     turn_put after (Some u) failure is none d = turn_value after is d
     turn_put after None failure is none d =
         does_no_memory (PutsItemsUnder Whole before after a.budget)
-        (StopsItemsUnder Whole stops (full - length before) a.budget) (ap refusal_left none)
+        (RejectsItemsUnder Whole rejects (full - length before) a.budget) (ap error_left none)
         (kept_then run.puts.moves.by (d run.mid run.shows).moves.by)
 
 -- ---- what a run answers
@@ -755,47 +762,47 @@ put_items before mid after v (Some u) is keeps ranged =
 put_items before mid after v None is keeps ranged = tt
 
 -- under a step
-pub turn_stepped : (Whole : Budget → Tree → Type 0) (stops : Budget → Stopping) (room : ℕ)
+pub turn_stepped : (Whole : Budget → Tree → Type 0) (rejects : Budget → Stopping) (room : ℕ)
     (before after : List Value) {E : Type 0}
     {r : Result (Unit {0}) (DecodeError E)} {a b c d : View} → StepsIn a.budget b.budget true
     → KeepsAllButBudget a b
     → Does (PutsItemsUnder Whole before after b.budget)
-    (StopsItemsUnder Whole stops room b.budget) b c r
+    (RejectsItemsUnder Whole rejects room b.budget) b c r
     → d.budget ≡ step_back c.budget → KeepsAllButBudget c d
     → Does (PutsItems Whole before after a.budget)
-    (StopsInCount (Whole a.budget) (stops a.budget) room) a d r
-turn_stepped Whole stops room before after {a = a} {b = b} takes inward w gives outward =
+    (RejectsInCount (Whole a.budget) (rejects a.budget) room) a d r
+turn_stepped Whole rejects room before after {a = a} {b = b} takes inward w gives outward =
     let step = steps_in a.budget b.budget takes in
     does_stepped (PutsItemsUnder Whole before after b.budget)
-    (PutsItems Whole before after a.budget) (StopsItemsUnder Whole stops room b.budget)
-    (StopsInCount (Whole a.budget) (stops a.budget) room)
+    (PutsItems Whole before after a.budget) (RejectsItemsUnder Whole rejects room b.budget)
+    (RejectsInCount (Whole a.budget) (rejects a.budget) room)
     (λ xs ys v h. h a.budget step) (λ xs e rest h. h a.budget step)
     takes inward w gives outward
 
 -- no step is left
-pub turn_unstepped : (Whole : Budget → Tree → Type 0) (stops : Budget → Stopping) (full : ℕ)
+pub turn_unstepped : (Whole : Budget → Tree → Type 0) (rejects : Budget → Stopping) (full : ℕ)
     (before after : List Value) {E : Type 0} {e : DecodeError E} {a b : View}
-    → length before < full → refusal_of e ≡ Some (depth_overflow value_name) → is_read e ≡ false
+    → length before < full → input_error_of e ≡ Some (depth_overflow value_name) → is_read e ≡ false
     → (a.budget ≡ Some 0 → (xs : List ℕ)
-    → stops a.budget xs (depth_overflow value_name) xs)
+    → rejects a.budget xs (depth_overflow value_name) xs)
     → StepsIn a.budget b.budget false → KeepsAllButBudget a b
     → Does {V = Unit {0}} (PutsItems Whole before after a.budget)
-    (StopsInCount (Whole a.budget) (stops a.budget) (full - length before)) a b (Err e)
-turn_unstepped Whole stops full before after {a = a} lacks says read f takes k =
+    (RejectsInCount (Whole a.budget) (rejects a.budget) (full - length before)) a b (Err e)
+turn_unstepped Whole rejects full before after {a = a} lacks says read f takes k =
     does_no_step value_name (PutsItems Whole before after a.budget)
-    (StopsInCount (Whole a.budget) (stops a.budget) (full - length before)) says read
-    (λ none xs. stopped_behind (Whole a.budget) (stops a.budget) [] (full - length before) xs xs
+    (RejectsInCount (Whole a.budget) (rejects a.budget) (full - length before)) says read
+    (λ none xs. stopped_after (Whole a.budget) (rejects a.budget) [] (full - length before) xs xs
     (depth_overflow value_name) xs (no_trees, refl, tt, refl, refl) (omega (arith, lacks))
     (f none xs)) takes k
 
--- ---- turns, one behind another
+-- ---- turns, one after another
 
-module _ (Whole : Budget → Tree → Type 0) (stops : Budget → Stopping) (full : ℕ)
+module _ (Whole : Budget → Tree → Type 0) (rejects : Budget → Stopping) (full : ℕ)
     (items after : List Value) {a m : View}
     (p : Reached (λ xs ys. ReadsEach (Whole a.budget) (length items) xs items ys) a m) where
   pub ran : {E : Type 0} {u : Unit {0}} {b : View}
       → Does {E = E} (PutsItems Whole items after m.budget)
-      (StopsInCount (Whole m.budget) (stops m.budget) (full - length items)) m b (Ok u)
+      (RejectsInCount (Whole m.budget) (rejects m.budget) (full - length items)) m b (Ok u)
       → Reached (λ xs ys. ReadsEach (Whole a.budget) (length after) xs after ys) a b
   ran {u = u} d =
       reached_then (λ xs ys. ReadsEach (Whole a.budget) (length items) xs items ys)
@@ -807,18 +814,20 @@ module _ (Whole : Budget → Tree → Type 0) (stops : Budget → Stopping) (ful
       (subst (λ o. ReadsEach (Whole o) (length s.0) ys s.0 zs) p.kept.budget s.2)))
       p (reached_by d)
 
-  pub run_stops : {V E : Type 0} (B : Accepting V) → {e : DecodeError E} {b : View}
+  pub run_rejects : {V E : Type 0} (B : Accepting V) → {e : DecodeError E} {b : View}
       → Does {V = Unit {0}} (PutsItems Whole items after m.budget)
-      (StopsInCount (Whole m.budget) (stops m.budget) (full - length items)) m b (Err e)
-      → Does {V = V} B (StopsInCount (Whole a.budget) (stops a.budget) full) a b (Err e)
-  run_stops B d =
+      (RejectsInCount (Whole m.budget) (rejects m.budget) (full - length items)) m b (Err e)
+      → Does {V = V} B (RejectsInCount (Whole a.budget) (rejects a.budget) full) a b (Err e)
+  run_rejects B d =
       does_err (λ xs ys. ReadsEach (Whole a.budget) (length items) xs items ys)
       (PutsItems Whole items after m.budget) B
-      (StopsInCount (Whole m.budget) (stops m.budget) (full - length items))
-      (StopsInCount (Whole a.budget) (stops a.budget) full)
-      (λ xs ys z rest h s. stopped_further (Whole a.budget) (stops a.budget) items full xs ys z rest
+      (RejectsInCount (Whole m.budget) (rejects m.budget) (full - length items))
+      (RejectsInCount (Whole a.budget) (rejects a.budget) full)
+      (λ xs ys z rest h s. stopped_further (Whole a.budget) (rejects a.budget) items full xs
+      ys z rest
       h
-      (subst (λ o. StopsInCount (Whole o) (stops o) (full - length items) ys z rest) p.kept.budget
+      (subst (λ o. RejectsInCount (Whole o) (rejects o) (full - length items) ys z rest)
+      p.kept.budget
       s)) p d
 
 -- ---- pairs
@@ -841,13 +850,13 @@ in_pairs W (m ∷ ms) (tree k no_trees) n h e = cc
 in_pairs W (m ∷ ms) (tree k (tree v ts)) n h e =
     let many : count ts ≡ length (flat_values ms) = cc in
     let key : value k ≡ view m.0 = cc in
-    let behind : value v ≡ view m.1 = cc in
+    let trailing : value v ≡ view m.1 = cc in
     let tail : values ts ≡ items_view (flat_values ms) = cc in
     let r = in_pairs W ms ts many h.1.1 tail in (
       pair k v r.0,
       ap suc r.1,
       (h.0, h.1.0, r.2),
-      cc (key, behind, r.3),
+      cc (key, trailing, r.3),
       ap (λ z. bytes k ++ (bytes v ++ z)) r.4,
     )
 
@@ -894,17 +903,17 @@ pub both_there : (ms : List (Value × Value)) (key : Option Value) (most : ℕ)
 both_there ms key most few full = omega (arith, few, full)
 
 -- of one value a part, so many parts
-pub stop_alone : (Whole : Budget → Tree → Type 0) (stops : Budget → Stopping) (n : ℕ)
+pub stop_alone : (Whole : Budget → Tree → Type 0) (rejects : Budget → Stopping) (n : ℕ)
     (budget : Budget) {V E : Type 0} (B : Accepting V) {e : DecodeError E} {a b : View}
-    → Does {V = V} B (StopsInCount (Whole budget) (stops budget) (1 * n)) a b (Err e)
-    → Does {V = V} B (StopsInCount (Whole budget) (stops budget) n) a b (Err e)
-stop_alone Whole stops n budget {V = V} B {e = e} {a = a} {b = b} d =
+    → Does {V = V} B (RejectsInCount (Whole budget) (rejects budget) (1 * n)) a b (Err e)
+    → Does {V = V} B (RejectsInCount (Whole budget) (rejects budget) n) a b (Err e)
+stop_alone Whole rejects n budget {V = V} B {e = e} {a = a} {b = b} d =
     let one : 1 * n ≡ n = omega arith in
-    subst (λ j. Does {V = V} B (StopsInCount (Whole budget) (stops budget) j) a b (Err e)) one d
+    subst (λ j. Does {V = V} B (RejectsInCount (Whole budget) (rejects budget) j) a b (Err e)) one d
 
 -- ---- what is said of one value
 
-pub one_read : OneUnder Readable StopsOneValue ReadsUnder StopsUnder
+pub one_read : OneUnder Readable RejectsOneValue ReadsUnder RejectsUnder
 one_read = record {
   reads = λ budget inner step xs v ys h.
       let t = h budget step in (
@@ -914,10 +923,10 @@ one_read = record {
         ap (λ i. item i no_items) t.2,
         t.3 ∙ ap (λ r. r ++ ys) (sym (append-nil (bytes t.0))),
       );
-  refuses = λ budget inner step xs z rest h. stops_under inner budget xs z rest step h;
+  errs = λ budget inner step xs z rest h. rejects_under inner budget xs z rest step h;
 }
 
 -- no byte is left where a value is to begin
-pub none_under : (budget : Budget) (xs : List ℕ) (z : Refusal) (rest : List ℕ)
-    → StopsWhereNone xs z rest → StopsUnder budget xs z rest
-none_under budget xs z rest s = subst (λ x. StopsUnder budget x z rest) (sym s.0) s.1
+pub none_under : (budget : Budget) (xs : List ℕ) (z : InputError) (rest : List ℕ)
+    → RejectsWhereNone xs z rest → RejectsUnder budget xs z rest
+none_under budget xs z rest s = subst (λ x. RejectsUnder budget x z rest) (sym s.0) s.1

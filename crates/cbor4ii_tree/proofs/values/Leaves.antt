@@ -8,7 +8,7 @@ use Rattle.std.proofs.Math.Seq.{take-append_seam, take-add}
 use Rattle.std.proofs.lemmas.List.{length-take-le}
 use Rattle.std.specs.Int.{bytes_high_first}
 use denote.Ref.{Bor}
-use Rattle.cbor4ii_items.specs.Head.{Width, byte_count, additional, HeadFits, ArgumentBehind}
+use Rattle.cbor4ii_items.specs.Head.{Width, byte_count, additional, HeadFits, ArgumentAfter}
 use Rattle.cbor4ii_items.specs.Head.{IsBytes, shortest}
 use Rattle.cbor4ii_items.specs.Initial.{Sign, sign_major, Precision, precision_byte}
 use Rattle.cbor4ii_items.specs.Initial.{precision_bytes, half, single, double, Simple}
@@ -18,26 +18,26 @@ use Rattle.cbor4ii_items.specs.Initial.{byte_string, text_string}
 use Rattle.cbor4ii_items.specs.Head.{in_first, one, two, four, eight, head}
 use Rattle.cbor4ii_items.specs.Laws.Heads.{length-bytes_high_first}
 use Rattle.cbor4ii_items.specs.Laws.Answering.{fits_zero}
-use Rattle.cbor4ii_items.specs.Laws.Contents.{lends_front}
-use Rattle.cbor4ii_rw.specs.Reader.{Advances, IsFront, Shows}
+use Rattle.cbor4ii_items.specs.Laws.Contents.{lends_prefix}
+use Rattle.cbor4ii_rw.specs.Reader.{Advances, IsPrefix, Shows}
 use Rattle.cbor4ii_rw.specs.declared.error.DecodeError.{DecodeError}
 use Rattle.cbor4ii_items.specs.Laws.Running.{runs_peek}
 use Rattle.cbor4ii_items.specs.Reading.{Runs, peek_at}
-use Rattle.cbor4ii_rw.specs.View.{View, Told}
+use Rattle.cbor4ii_rw.specs.View.{View, IfKnown}
 use Rattle.cbor4ii_tree.specs.Cost.{Budget}
 use Rattle.cbor4ii_tree.specs.Does.{Accepting, Does}
-use Rattle.cbor4ii_tree.specs.Front.{Offers}
+use Rattle.cbor4ii_tree.specs.Prefix.{Offers}
 use Rattle.cbor4ii_tree.specs.Item.{integer, float, IsItem}
 use Rattle.cbor4ii_tree.specs.Laws.Binds.{step_up}
-use Rattle.cbor4ii_tree.specs.Leaf.{CanTake, DoesBehindNext, ExactHead, StandsAhead}
+use Rattle.cbor4ii_tree.specs.Leaf.{CanTake, DoesAfterNext, ExactHead, StandsAhead}
 use Rattle.cbor4ii_tree.specs.Leaf.{SeesLeaf, ShowsFirst, ShowsNext, TakesLeaf, WantsContent}
 use Rattle.cbor4ii_tree.specs.Meaning.{number, simple_item, content_item}
-use Rattle.cbor4ii_tree.specs.Refusal.{value_name}
-use Rattle.cbor4ii_tree.specs.Refusal.{Small}
-use Rattle.cbor4ii_tree.specs.Stops.{Stopping}
-use Rattle.cbor4ii_tree.specs.Strictly.{ReadsExactlyUnder, StopsExactlyUnder, raise}
+use Rattle.cbor4ii_tree.specs.InputError.{value_name}
+use Rattle.cbor4ii_tree.specs.InputError.{Small}
+use Rattle.cbor4ii_tree.specs.Rejections.{Stopping}
+use Rattle.cbor4ii_tree.specs.CanonicalCalls.{ReadsCanonicallyUnder, RejectsCanonicallyUnder, raise}
 use Rattle.cbor4ii_tree.specs.Tree.{int, bits, simple, string, bytes, TextIsUtf8}
-use Rattle.cbor4ii_tree.specs.Valuing.{SimpleOf, ReadsUnder, StopsUnder}
+use Rattle.cbor4ii_tree.specs.Valuing.{SimpleOf, ReadsUnder, RejectsUnder}
 use Rattle.cbor4ii_tree.specs.View.{view}
 use Rattle.cbor4ii_tree.specs.declared.value.Value.{Value, Integer, Float}
 use Rattle.cbor4ii_tree.specs.declared.value.FloatBits.{FloatBits}
@@ -49,7 +49,7 @@ use Rattle.cbor4ii_tree.specs.declared.leaf.Looked.TheVariants.{Taken}
 use Rattle.cbor4ii_tree.specs.declared.leaf.Looked.TheVariants as looked
 use Rattle.cbor4ii_rw.specs.declared.error.DecodeError.TheVariants.{OutOfMemory, Eof}
 use Rattle.cbor4ii_items.specs.Decoding.{CostFits}
-use Rattle.cbor4ii_tree.proofs.canonical.Exactly.{fits_raise}
+use Rattle.cbor4ii_tree.proofs.canonical.FitsCanonically.{fits_raise}
 use Rattle.cbor4ii_tree.proofs.skip_calls.Doing.{does_ok, does_no_memory}
 use Rattle.cbor4ii_tree.proofs.heads.Inverse.{IsBytes-take}
 use Rattle.cbor4ii_tree.proofs.values.Calls.{fits_less}
@@ -103,7 +103,7 @@ no_kind byte_string e = absurd (omega (arith, e))
 no_kind text_string e = absurd (omega (arith, e))
 
 module _ (b n k : ℕ) (bs : List ℕ) (small : b < 256) (fresh : IsBytes bs)
-    (a : ArgumentBehind (b % 32) bs n k) where
+    (a : ArgumentAfter (b % 32) bs n k) where
   stands : k ≤ length bs
   stands =
       omega (
@@ -226,14 +226,14 @@ wants_may n shown w = record {
 
 -- ---- the byte that was shown first
 
-pub shows_first : {E : Type 0} (first : ℕ) (behind : List ℕ) {shown : List ℕ} {a m : View}
-    → Shows shown a m → Told a.told (IsFront 1 shown) → shown ≡ first ∷ behind
+pub shows_first : {E : Type 0} (first : ℕ) (trailing : List ℕ) {shown : List ℕ} {a m : View}
+    → Shows shown a m → IfKnown a.known (IsPrefix 1 shown) → shown ≡ first ∷ trailing
     → ShowsFirst E first a m
-shows_first {E = E} first behind {shown = shown} {a = a} {m = m} shows front is = record {
+shows_first {E = E} first trailing {shown = shown} {a = a} {m = m} shows prefix is = record {
   runs =
       subst (λ b. Runs {E = E} (peek_at value_name 1) a m (Ok b))
       (ap (λ xs. get_or xs 0 0) is)
-      (runs_peek value_name 1 shows front (λ none. let e = ap length is in cc));
+      (runs_peek value_name 1 shows prefix (λ none. let e = ap length is in cc));
   can = omega (arith, shows.advanceable, ap length is);
 }
 
@@ -246,11 +246,11 @@ module _ {E : Type 0} (exact : Type 0) {a m b : View} where
       → A xs v ys) → Does {E = E} A S a b (Ok v)
   taken A S v size is h adv f =
       let o = subst (λ s. Offers 1 (SeesLeaf exact s) a m) is h in
-      let l = lends_front o.shows o.front o.is.within o.is.fresh refl adv in
+      let l = lends_prefix o.shows o.prefix o.is.within o.is.fresh refl adv in
       does_ok A S (record {
         kept = l.kept;
-        at = λ xs told.
-            let t = l.at xs told in (
+        at = λ xs known.
+            let t = l.at xs known in (
               drop size xs,
               t.1,
               f o.shown xs (drop size xs) o.is (sym (take-append-drop size xs)
@@ -260,9 +260,9 @@ module _ {E : Type 0} (exact : Type 0) {a m b : View} where
 
   pub takes_leaf : (v : Value) (size : ℕ) {seen : Leaf} → seen ≡ Whole v size
       → Offers 1 (SeesLeaf exact seen) a m → Advances size m b
-      → Does {E = E} (ReadsUnder a.budget) (StopsUnder a.budget) a b (Ok v)
+      → Does {E = E} (ReadsUnder a.budget) (RejectsUnder a.budget) a b (Ok v)
   takes_leaf v size is h adv =
-      taken (ReadsUnder a.budget) (StopsUnder a.budget) v size is h adv
+      taken (ReadsUnder a.budget) (RejectsUnder a.budget) v size is h adv
       (λ shown xs ys l begins budget step. (
         l.item,
         (
@@ -276,9 +276,9 @@ module _ {E : Type 0} (exact : Type 0) {a m b : View} where
 
   pub takes_exact_leaf : (v : Value) (size : ℕ) {seen : Leaf} → seen ≡ Whole v size
       → Offers 1 (SeesLeaf exact seen) a m → Advances size m b → exact
-      → Does {E = E} (ReadsExactlyUnder a.budget) (StopsExactlyUnder a.budget) a b (Ok v)
+      → Does {E = E} (ReadsCanonicallyUnder a.budget) (RejectsCanonicallyUnder a.budget) a b (Ok v)
   takes_exact_leaf v size is h adv holds =
-      taken (ReadsExactlyUnder a.budget) (StopsExactlyUnder a.budget) v size is h adv
+      taken (ReadsCanonicallyUnder a.budget) (RejectsCanonicallyUnder a.budget) v size is h adv
       (λ shown xs ys l begins. (
         l.item,
         (
@@ -296,7 +296,7 @@ module _ {E : Type 0} (exact : Type 0) {a m b : View} where
   no_content A S size is h adv =
       let o = subst (λ s. Offers 1 (SeesLeaf exact s) a m) is h in
       let may = wants_may size o.shown o.is in
-      let l = lends_front o.shows o.front may.within may.fresh refl adv in
+      let l = lends_prefix o.shows o.prefix may.within may.fresh refl adv in
       does_no_memory A S refl l.kept
 
 pub no_value : {E : Type 0} (exact : Type 0) {a b : View} (A : Accepting Value) (S : Stopping)
@@ -305,7 +305,7 @@ pub no_value : {E : Type 0} (exact : Type 0) {a b : View} (A : Accepting Value) 
     → Does {V = Value} {E = E} A S a b (Err (Eof name (Small 1)))
 no_value exact {a = a} {b = b} A S ends is h says =
     let o = subst (λ s. Offers 1 (SeesLeaf exact s) a b) is h in
-    none_shown A S ends 1 says (omega arith) o.shows o.front o.is
+    none_shown A S ends 1 says (omega arith) o.shows o.prefix o.is
 
 pub leaf_item : (exact : Type 0) {a m : View} (v : Value) (size : ℕ) {seen : Leaf}
     → seen ≡ Whole v size → Offers 1 (SeesLeaf exact seen) a m → IsItem (view v)
@@ -325,7 +325,7 @@ found_leaf exact A S {a = a} {b = b} v failure is t =
 pub after_look : {E : Type 0} (exact : Type 0) (A : Budget → Accepting Value)
     (S : Budget → Stopping) {r : Result Value (DecodeError E)} {a b : View} (m : View)
     {seen : Looked} (n : Next) (failure : Option (DecodeError E)) → seen ≡ looked.Begins n
-    → TakesLeaf exact A S a m (Some seen) failure → DoesBehindNext exact n A S m b r
+    → TakesLeaf exact A S a m (Some seen) failure → DoesAfterNext exact n A S m b r
     → Does (A a.budget) (S a.budget) a b r
 after_look exact A S {a = a} m n failure is t d =
     d a (subst (λ o. TakesLeaf exact A S a m (Some o) failure) is t)

@@ -1,11 +1,11 @@
--- Values that are read one behind another.
+-- Values that are read one after another.
 use Rattle.std.proofs.Common.{◌≡◌, ℕ, List, ◌++◌}
 use Rattle.cbor4ii_tree.specs.declared.value.Value.{Value}
 use Rattle.cbor4ii_tree.specs.Tree.{Trees, Pairs, bytes_all, bytes_pairs}
 use Rattle.cbor4ii_tree.specs.Meaning.{values, member_values}
 use Rattle.cbor4ii_tree.specs.Cost.{Budget}
-use Rattle.cbor4ii_tree.specs.Stops.{Each, EachPair}
-use Rattle.cbor4ii_tree.specs.StopsReading.{Readable}
+use Rattle.cbor4ii_tree.specs.Rejections.{Each, EachPair}
+use Rattle.cbor4ii_tree.specs.ReadingRejects.{Readable}
 use Rattle.cbor4ii_tree.specs.View.{items_view, members_view}
 
 abbrev pub ReadEach : List Value → Budget → List ℕ → List ℕ → Type 0

@@ -6,46 +6,52 @@ use Rattle.std.specs.Int.{bytes_high_first}
 use Rattle.cbor4ii_rw.specs.View.{View}
 use Rattle.cbor4ii_rw.specs.Reader.{KeepsAllButBudget, StepsIn, step_back}
 use Rattle.cbor4ii_rw.specs.declared.error.DecodeError.{DecodeError}
-use Rattle.cbor4ii_items.specs.Refusal.{Refusal}
-use Rattle.cbor4ii_items.specs.Head.{byte_count, additional, HeadFits, head, open_head, break}
-use Rattle.cbor4ii_items.specs.Heads.{StopsHead}
-use Rattle.cbor4ii_items.specs.Lengths.{ReadsLength, StopsLength}
+use Rattle.cbor4ii_items.specs.InputError.{InputError}
+use Rattle.cbor4ii_items.specs.Head.{byte_count, additional, HeadFits, head, indefinite_head, break}
+use Rattle.cbor4ii_items.specs.Heads.{RejectsHead}
+use Rattle.cbor4ii_items.specs.Lengths.{ReadsLength, RejectsLength}
 use Rattle.cbor4ii_items.specs.Moves.{Moves}
-use Rattle.cbor4ii_items.specs.Decoding.{CostFits, Sound, Stops}
-use Rattle.cbor4ii_items.specs.Initial.{Info, wide, open_ended, reserved, info_of, array_by_info}
-use Rattle.cbor4ii_items.specs.Initial.{map_by_info, starts_array, starts_open_array, starts_map}
-use Rattle.cbor4ii_items.specs.Initial.{starts_open_map}
+use Rattle.cbor4ii_items.specs.Decoding.{CostFits, Sound, Rejects}
+use Rattle.cbor4ii_items.specs.Initial.{Info, wide, indefinite_ended, reserved, info_of}
+use Rattle.cbor4ii_items.specs.Initial.{array_by_info}
+use Rattle.cbor4ii_items.specs.Initial.{map_by_info, starts_array, starts_indefinite_array}
+use Rattle.cbor4ii_items.specs.Initial.{starts_map}
+use Rattle.cbor4ii_items.specs.Initial.{starts_indefinite_map}
 use Rattle.cbor4ii_items.specs.Laws.SequenceParts.{fits_less}
-use Rattle.cbor4ii_tree.specs.Refusal.{array_name, map_name}
-use Rattle.cbor4ii_tree.specs.Refusal.{break_name}
-use Rattle.cbor4ii_tree.specs.Laws.Initials.{initial_array, initial_map, initial_open_array}
-use Rattle.cbor4ii_tree.specs.Laws.Initials.{initial_open_map}
+use Rattle.cbor4ii_tree.specs.InputError.{array_name, map_name}
+use Rattle.cbor4ii_tree.specs.InputError.{break_name}
+use Rattle.cbor4ii_tree.specs.Laws.Initials.{initial_array, initial_map, initial_indefinite_array}
+use Rattle.cbor4ii_tree.specs.Laws.Initials.{initial_indefinite_map}
 use Rattle.cbor4ii_tree.specs.Laws.Wholes.{all_readable, all_pairs_readable}
 use Rattle.cbor4ii_tree.specs.declared.value.Value.{Value, Array, Map}
-use Rattle.cbor4ii_tree.specs.Tree.{Tree, no_trees, Pairs, no_pairs, pair, array, array_open}
-use Rattle.cbor4ii_tree.specs.Tree.{map_of, map_open, bytes, bytes_all, bytes_pairs}
+use Rattle.cbor4ii_tree.specs.Tree.{Tree, no_trees, Pairs, no_pairs, pair, array, array_indefinite}
+use Rattle.cbor4ii_tree.specs.Tree.{map_of, map_indefinite, bytes, bytes_all, bytes_pairs}
 use Rattle.cbor4ii_tree.specs.Item.{no_members, member, sequence, mapping}
 use Rattle.cbor4ii_tree.specs.Meaning.{value, member_values}
 use Rattle.cbor4ii_tree.specs.Cost.{Budget, step_in, greatest_cost, greatest_pair_cost}
 use Rattle.cbor4ii_tree.specs.Laws.Binds.{step_up}
-use Rattle.cbor4ii_tree.specs.Refusal.{eof, mismatch, depth_overflow, Small}
-use Rattle.cbor4ii_tree.specs.Stops.{Stopping, Is, AtHead, StopsAtStep, StopsInCount, OpenItems}
-use Rattle.cbor4ii_tree.specs.Stops.{OpenPairs, NoBreak}
-use Rattle.cbor4ii_tree.specs.StopsReading.{Readable, ReadingStopsBy, StopsReading}
+use Rattle.cbor4ii_tree.specs.InputError.{eof, mismatch, depth_overflow, Small}
+use Rattle.cbor4ii_tree.specs.Rejections.{Stopping, Is, AtHead, RejectsAtStep, RejectsInCount}
+use Rattle.cbor4ii_tree.specs.Rejections.{IndefiniteItems}
+use Rattle.cbor4ii_tree.specs.Rejections.{IndefinitePairs, NoBreak}
+use Rattle.cbor4ii_tree.specs.ReadingRejects.{Readable, ReadingRejectsBy, ReadingRejects}
 use Rattle.cbor4ii_tree.specs.View.{view, items_view, members_view}
 use Rattle.cbor4ii_tree.specs.Does.{Accepting, Does, answered}
-use Rattle.cbor4ii_tree.specs.Valuing.{HeadAt, ReadsOneValue, StopsOneValue, ReadsUnder}
-use Rattle.cbor4ii_tree.specs.Valuing.{MakesArray, MakesMap, StopsUnder, TakesLength}
-use Rattle.cbor4ii_tree.specs.Valuing.{ReadsItems, StopsItems, ReadsOpenItems, StopsOpenItems}
-use Rattle.cbor4ii_tree.specs.Valuing.{ReadsMembers, ReadsOpenMembers, StopsOpenMembers}
-use Rattle.cbor4ii_tree.specs.Valuing.{ReadsMember, StopsMember, StopsMembers, ReadsArrayInside}
-use Rattle.cbor4ii_tree.specs.Valuing.{ReadsMapInside, StopsMajor, StopsOf, ReadsStepped}
+use Rattle.cbor4ii_tree.specs.Valuing.{HeadAt, ReadsOneValue, RejectsOneValue, ReadsUnder}
+use Rattle.cbor4ii_tree.specs.Valuing.{MakesArray, MakesMap, RejectsUnder, TakesLength}
+use Rattle.cbor4ii_tree.specs.Valuing.{ReadsItems, RejectsItems, ReadsIndefiniteItems}
+use Rattle.cbor4ii_tree.specs.Valuing.{RejectsIndefiniteItems}
+use Rattle.cbor4ii_tree.specs.Valuing.{ReadsMembers, ReadsIndefiniteMembers}
+use Rattle.cbor4ii_tree.specs.Valuing.{RejectsIndefiniteMembers}
+use Rattle.cbor4ii_tree.specs.Valuing.{ReadsMember, RejectsMember, RejectsMembers, ReadsArrayInside}
+use Rattle.cbor4ii_tree.specs.Valuing.{ReadsMapInside, RejectsMajor, RejectsOf, ReadsStepped}
 use Rattle.cbor4ii_tree.proofs.skip_calls.Doing.{Reached, reached_start, reached_by, reached_then}
-use Rattle.cbor4ii_tree.proofs.skip_calls.Doing.{does_err, does_after, does_stops, does_stepped}
+use Rattle.cbor4ii_tree.proofs.skip_calls.Doing.{does_err, does_after, does_rejects, does_stepped}
 use Rattle.cbor4ii_tree.proofs.skip_calls.Doing.{reached_as, reached_sound, steps_in, does_ok}
 use Rattle.cbor4ii_tree.proofs.values.Views.{view-Map}
 use Rattle.cbor4ii_tree.proofs.values.Parts.{ReadEach, ReadPairs}
-use Rattle.cbor4ii_tree.proofs.values.Calls.{head_cut, no_head, initial_of, values-push, open_byte}
+use Rattle.cbor4ii_tree.proofs.values.Calls.{head_cut, no_head, initial_of, values-push}
+use Rattle.cbor4ii_tree.proofs.values.Calls.{indefinite_byte}
 use Rattle.cbor4ii_tree.proofs.parts.Pushed.{push, each-push, bytes-push, push_pair}
 use Rattle.cbor4ii_tree.proofs.parts.Pushed.{each-push_pair, bytes-push_pair}
 use Rattle.cbor4ii_tree.proofs.values.Heads.{at_row, first_is, head_at}
@@ -53,138 +59,141 @@ use Rattle.cbor4ii_tree.proofs.values.Encoding.{view-Array}
 
 -- ---- steps
 
-pub step_taken : (name here : List ℕ) (S : Budget → Refusal → List ℕ → Type 0)
-    (outer inner : Budget) (e : Refusal) (rest : List ℕ) → step_in outer ≡ Some inner
-    → S inner e rest → StopsAtStep name (step_in outer) here S e rest
+pub step_taken : (name here : List ℕ) (S : Budget → InputError → List ℕ → Type 0)
+    (outer inner : Budget) (e : InputError) (rest : List ℕ) → step_in outer ≡ Some inner
+    → S inner e rest → RejectsAtStep name (step_in outer) here S e rest
 step_taken name here S outer inner e rest step x =
-    subst (λ o. StopsAtStep name o here S e rest) (sym step) x
+    subst (λ o. RejectsAtStep name o here S e rest) (sym step) x
 
-no_step_left : (name here : List ℕ) (S : Budget → Refusal → List ℕ → Type 0) (outer : Budget)
-    → outer ≡ Some 0 → StopsAtStep name (step_in outer) here S (depth_overflow name) here
+no_step_left : (name here : List ℕ) (S : Budget → InputError → List ℕ → Type 0) (outer : Budget)
+    → outer ≡ Some 0 → RejectsAtStep name (step_in outer) here S (depth_overflow name) here
 no_step_left name here S outer none =
-    subst (λ o. StopsAtStep name (step_in o) here S (depth_overflow name) here) (sym none)
+    subst (λ o. RejectsAtStep name (step_in o) here S (depth_overflow name) here) (sym none)
     (refl, refl)
 
 pub major_stepped : {V : Type 0} (reads : Budget → Accepting V) (major : ℕ) {E : Type 0}
     {r : Result V (DecodeError E)} {a b c d : View} → StepsIn a.budget b.budget true
-    → KeepsAllButBudget a b → Does (reads b.budget) (StopsMajor major b.budget) b c r
+    → KeepsAllButBudget a b → Does (reads b.budget) (RejectsMajor major b.budget) b c r
     → d.budget ≡ step_back c.budget → KeepsAllButBudget c d
-    → Does (ReadsStepped reads a.budget) (StopsOf major a.budget) a d r
+    → Does (ReadsStepped reads a.budget) (RejectsOf major a.budget) a d r
 major_stepped reads major {a = a} {b = b} takes inward w gives outward =
     let step = steps_in a.budget b.budget takes in
-    does_stepped (reads b.budget) (ReadsStepped reads a.budget) (StopsMajor major b.budget)
-    (StopsOf major a.budget) (λ xs ys v h. (b.budget, step, h))
+    does_stepped (reads b.budget) (ReadsStepped reads a.budget) (RejectsMajor major b.budget)
+    (RejectsOf major a.budget) (λ xs ys v h. (b.budget, step, h))
     (λ xs e rest h first bs is m. h first bs is m a.budget step) takes inward w gives outward
 
 array_deep : (outer : Budget) (b : ℕ) (bs : List ℕ) → outer ≡ Some 0 → b / 32 ≡ 4
-    → StopsUnder outer (b ∷ bs) (depth_overflow array_name) (b ∷ bs)
+    → RejectsUnder outer (b ∷ bs) (depth_overflow array_name) (b ∷ bs)
 array_deep outer b bs none m =
     at_row outer (array_by_info (info_of (b % 32))) b bs _ _ (initial_of b 4 m)
     (by_info (info_of (b % 32)))
   where
-    by_info : (i : Info) → ReadingStopsBy (λ left part. StopsReading part left) outer
+    by_info : (i : Info) → ReadingRejectsBy (λ left part. ReadingRejects part left) outer
         (array_by_info i) b bs (depth_overflow array_name) (b ∷ bs)
     by_info (wide w) =
         no_step_left array_name (b ∷ bs) (λ inner. AtHead array_name 4 w b
-        (StopsInCount (Readable inner) (λ part. StopsReading part inner)) bs) outer none
-    by_info open_ended =
+        (RejectsInCount (Readable inner) (λ part. ReadingRejects part inner)) bs) outer none
+    by_info indefinite_ended =
         no_step_left array_name (b ∷ bs)
-        (λ inner. OpenItems (Readable inner) (λ part. StopsReading part inner) bs) outer none
+        (λ inner. IndefiniteItems (Readable inner) (λ part. ReadingRejects part inner) bs)
+        outer none
     by_info reserved =
         no_step_left array_name (b ∷ bs) (λ inner. Is (mismatch array_name b) bs) outer none
 
 map_deep : (outer : Budget) (b : ℕ) (bs : List ℕ) → outer ≡ Some 0 → b / 32 ≡ 5
-    → StopsUnder outer (b ∷ bs) (depth_overflow map_name) (b ∷ bs)
+    → RejectsUnder outer (b ∷ bs) (depth_overflow map_name) (b ∷ bs)
 map_deep outer b bs none m =
     at_row outer (map_by_info (info_of (b % 32))) b bs _ _ (initial_of b 5 m)
     (by_info (info_of (b % 32)))
   where
-    by_info : (i : Info) → ReadingStopsBy (λ left part. StopsReading part left) outer
+    by_info : (i : Info) → ReadingRejectsBy (λ left part. ReadingRejects part left) outer
         (map_by_info i) b bs (depth_overflow map_name) (b ∷ bs)
     by_info (wide w) =
         no_step_left map_name (b ∷ bs)
-        (λ inner. AtHead map_name 5 w b (λ n. StopsInCount (Readable inner)
-        (λ part. StopsReading part inner) (2 * n)) bs) outer none
-    by_info open_ended =
+        (λ inner. AtHead map_name 5 w b (λ n. RejectsInCount (Readable inner)
+        (λ part. ReadingRejects part inner) (2 * n)) bs) outer none
+    by_info indefinite_ended =
         no_step_left map_name (b ∷ bs)
-        (λ inner. OpenPairs (Readable inner) (λ part. StopsReading part inner) bs) outer none
+        (λ inner. IndefinitePairs (Readable inner) (λ part. ReadingRejects part inner) bs)
+        outer none
     by_info reserved =
         no_step_left map_name (b ∷ bs) (λ inner. Is (mismatch map_name b) bs) outer none
 
 pub array_no_step : (budget : Budget) → budget ≡ Some 0 → (xs : List ℕ)
-    → StopsOf 4 budget xs (depth_overflow array_name) xs
+    → RejectsOf 4 budget xs (depth_overflow array_name) xs
 array_no_step budget none xs b bs is m =
-    subst (λ x. StopsUnder budget x (depth_overflow array_name) x) (sym is)
+    subst (λ x. RejectsUnder budget x (depth_overflow array_name) x) (sym is)
     (array_deep budget b bs none m)
 
 pub map_no_step : (budget : Budget) → budget ≡ Some 0 → (xs : List ℕ)
-    → StopsOf 5 budget xs (depth_overflow map_name) xs
+    → RejectsOf 5 budget xs (depth_overflow map_name) xs
 map_no_step budget none xs b bs is m =
-    subst (λ x. StopsUnder budget x (depth_overflow map_name) x) (sym is)
+    subst (λ x. RejectsUnder budget x (depth_overflow map_name) x) (sym is)
     (map_deep budget b bs none m)
 
 -- ---- heads
 
-array_head_stops : (inner outer : Budget) (b : ℕ) (bs : List ℕ) (e : Refusal) (rest : List ℕ)
-    → step_in outer ≡ Some inner → b / 32 ≡ 4 → (take 1 (b ∷ bs) ≡ open_head 4 ∷ [] → ⊥)
-    → StopsHead array_name 4 8 (b ∷ bs) e rest → StopsUnder outer (b ∷ bs) e rest
-array_head_stops inner outer b bs e rest step m closed h =
+array_head_rejects : (inner outer : Budget) (b : ℕ) (bs : List ℕ) (e : InputError) (rest : List ℕ)
+    → step_in outer ≡ Some inner → b / 32 ≡ 4 → (take 1 (b ∷ bs) ≡ indefinite_head 4 ∷ [] → ⊥)
+    → RejectsHead array_name 4 8 (b ∷ bs) e rest → RejectsUnder outer (b ∷ bs) e rest
+array_head_rejects inner outer b bs e rest step m closed h =
     at_row outer (array_by_info (info_of (b % 32))) b bs e rest (initial_of b 4 m)
     (by_info (info_of (b % 32)) refl)
   where
     by_info : (i : Info) → info_of (b % 32) ≡ i
-        → ReadingStopsBy (λ left part. StopsReading part left) outer (array_by_info i) b bs e rest
+        → ReadingRejectsBy (λ left part. ReadingRejects part left) outer (array_by_info i) b
+        bs e rest
     by_info (wide w) is =
         step_taken array_name (b ∷ bs) (λ inner. AtHead array_name 4 w b
-        (StopsInCount (Readable inner) (λ part. StopsReading part inner)) bs) outer inner e
+        (RejectsInCount (Readable inner) (λ part. ReadingRejects part inner)) bs) outer inner e
         rest step (inl (head_cut array_name 4 b bs w e rest m is h))
-    by_info open_ended is = absurd (closed (ap (λ c. c ∷ []) (open_byte 4 b m is)))
+    by_info indefinite_ended is = absurd (closed (ap (λ c. c ∷ []) (indefinite_byte 4 b m is)))
     by_info reserved is =
         step_taken array_name (b ∷ bs) (λ inner. Is (mismatch array_name b) bs) outer inner e rest
         step (no_head array_name 4 b bs e rest (λ w f. cc) h)
 
-map_head_stops : (inner outer : Budget) (b : ℕ) (bs : List ℕ) (e : Refusal) (rest : List ℕ)
-    → step_in outer ≡ Some inner → b / 32 ≡ 5 → (take 1 (b ∷ bs) ≡ open_head 5 ∷ [] → ⊥)
-    → StopsHead map_name 5 8 (b ∷ bs) e rest → StopsUnder outer (b ∷ bs) e rest
-map_head_stops inner outer b bs e rest step m closed h =
+map_head_rejects : (inner outer : Budget) (b : ℕ) (bs : List ℕ) (e : InputError) (rest : List ℕ)
+    → step_in outer ≡ Some inner → b / 32 ≡ 5 → (take 1 (b ∷ bs) ≡ indefinite_head 5 ∷ [] → ⊥)
+    → RejectsHead map_name 5 8 (b ∷ bs) e rest → RejectsUnder outer (b ∷ bs) e rest
+map_head_rejects inner outer b bs e rest step m closed h =
     at_row outer (map_by_info (info_of (b % 32))) b bs e rest (initial_of b 5 m)
     (by_info (info_of (b % 32)) refl)
   where
     by_info : (i : Info) → info_of (b % 32) ≡ i
-        → ReadingStopsBy (λ left part. StopsReading part left) outer (map_by_info i) b bs e rest
+        → ReadingRejectsBy (λ left part. ReadingRejects part left) outer (map_by_info i) b bs e rest
     by_info (wide w) is =
         step_taken map_name (b ∷ bs) (λ inner. AtHead map_name 5 w b
-        (λ n. StopsInCount (Readable inner) (λ part. StopsReading part inner) (2 * n)) bs)
+        (λ n. RejectsInCount (Readable inner) (λ part. ReadingRejects part inner) (2 * n)) bs)
         outer inner e rest step (inl (head_cut map_name 5 b bs w e rest m is h))
-    by_info open_ended is = absurd (closed (ap (λ c. c ∷ []) (open_byte 5 b m is)))
+    by_info indefinite_ended is = absurd (closed (ap (λ c. c ∷ []) (indefinite_byte 5 b m is)))
     by_info reserved is =
         step_taken map_name (b ∷ bs) (λ inner. Is (mismatch map_name b) bs) outer inner e rest step
         (no_head map_name 5 b bs e rest (λ w f. cc) h)
 
-pub array_length_stops : (inner : Budget) (xs : List ℕ) (budget : Budget) (e : Refusal)
-    (rest : List ℕ) → StopsLength array_name 4 xs budget e rest → StopsMajor 4 inner xs e rest
-array_length_stops inner xs budget e rest h b bs is m outer step =
-    let k = subst (λ x. StopsLength array_name 4 x budget e rest) is h in
-    subst (λ x. StopsUnder outer x e rest) (sym is)
-    (array_head_stops inner outer b bs e rest step m k.0 k.1)
+pub array_length_rejects : (inner : Budget) (xs : List ℕ) (budget : Budget) (e : InputError)
+    (rest : List ℕ) → RejectsLength array_name 4 xs budget e rest → RejectsMajor 4 inner xs e rest
+array_length_rejects inner xs budget e rest h b bs is m outer step =
+    let k = subst (λ x. RejectsLength array_name 4 x budget e rest) is h in
+    subst (λ x. RejectsUnder outer x e rest) (sym is)
+    (array_head_rejects inner outer b bs e rest step m k.0 k.1)
 
-pub map_length_stops : (inner : Budget) (xs : List ℕ) (budget : Budget) (e : Refusal)
-    (rest : List ℕ) → StopsLength map_name 5 xs budget e rest → StopsMajor 5 inner xs e rest
-map_length_stops inner xs budget e rest h b bs is m outer step =
-    let k = subst (λ x. StopsLength map_name 5 x budget e rest) is h in
-    subst (λ x. StopsUnder outer x e rest) (sym is)
-    (map_head_stops inner outer b bs e rest step m k.0 k.1)
+pub map_length_rejects : (inner : Budget) (xs : List ℕ) (budget : Budget) (e : InputError)
+    (rest : List ℕ) → RejectsLength map_name 5 xs budget e rest → RejectsMajor 5 inner xs e rest
+map_length_rejects inner xs budget e rest h b bs is m outer step =
+    let k = subst (λ x. RejectsLength map_name 5 x budget e rest) is h in
+    subst (λ x. RejectsUnder outer x e rest) (sym is)
+    (map_head_rejects inner outer b bs e rest step m k.0 k.1)
 
-pub length_refused : {U V E : Type 0} (name : List ℕ) (major : ℕ) (A : Accepting V) (T : Stopping)
-    {a c : View} {e : DecodeError E} → ((xs : List ℕ) (z : Refusal) (rest : List ℕ)
-    → StopsLength name major xs a.budget z rest → T xs z rest) → Moves {V = U} a c (Err e)
-    → Stops (StopsLength name major) a c e → Does {V = V} A T a c (Err e)
-length_refused {U = U} name major A T {a = a} f moves s =
+pub length_rejected : {U V E : Type 0} (name : List ℕ) (major : ℕ) (A : Accepting V) (T : Stopping)
+    {a c : View} {e : DecodeError E} → ((xs : List ℕ) (z : InputError) (rest : List ℕ)
+    → RejectsLength name major xs a.budget z rest → T xs z rest) → Moves {V = U} a c (Err e)
+    → Rejects (RejectsLength name major) a c e → Does {V = V} A T a c (Err e)
+length_rejected {U = U} name major A T {a = a} f moves s =
     does_err (λ xs ys. xs ≡ ys)
-    (λ xs (v : U) ys. Unit {0}) A (λ xs. StopsLength name major xs a.budget) T
+    (λ xs (v : U) ys. Unit {0}) A (λ xs. RejectsLength name major xs a.budget) T
     (λ xs ys z rest e h. subst (λ x. T x z rest) (sym e) (f ys z rest h))
     (reached_start (λ xs ys. xs ≡ ys) a (λ xs. refl))
-    (does_stops (λ xs (v : U) ys. Unit {0}) (StopsLength name major) moves s)
+    (does_rejects (λ xs (v : U) ys. Unit {0}) (RejectsLength name major) moves s)
 
 pub reached_length : {E : Type 0} (major n : ℕ) {o : Option ℕ} {a m : View} → o ≡ Some n
     → Moves {E = E} a m (Ok o) → Sound (ReadsLength major) a m o → Reached (HeadAt major n) a m
@@ -192,30 +201,31 @@ reached_length major n is moves s =
     reached_sound (ReadsLength major) (HeadAt major n) (λ xs k c _ r.
     head_at major n xs k (subst (λ z. ReadsLength major xs z k c) is r).0) moves s
 
-abbrev pub OpenAt : ℕ → List ℕ → List ℕ → Type 0
-OpenAt major xs ys = xs ≡ open_head major ∷ ys
+abbrev pub IndefiniteAt : ℕ → List ℕ → List ℕ → Type 0
+IndefiniteAt major xs ys = xs ≡ indefinite_head major ∷ ys
 
-pub reached_open : {E : Type 0} (major : ℕ) {o : Option ℕ} {a m : View} → o ≡ None
-    → Moves {E = E} a m (Ok o) → Sound (ReadsLength major) a m o → Reached (OpenAt major) a m
-reached_open major is moves s =
-    reached_sound (ReadsLength major) (OpenAt major) (λ xs k c _ r.
+pub reached_indefinite : {E : Type 0} (major : ℕ) {o : Option ℕ} {a m : View} → o ≡ None
+    → Moves {E = E} a m (Ok o) → Sound (ReadsLength major) a m o → Reached (IndefiniteAt major) a m
+reached_indefinite major is moves s =
+    reached_sound (ReadsLength major) (IndefiniteAt major) (λ xs k c _ r.
     let h = subst (λ z. ReadsLength major xs z k c) is r in
-    first_is (open_head major) xs h.0 ∙ ap (λ j. open_head major ∷ drop j xs) (sym h.1)) moves s
+    first_is (indefinite_head major) xs h.0 ∙ ap (λ j. indefinite_head major ∷ drop j xs) (sym h.1))
+    moves s
 
 -- the length that a head says
 pub length_does : {E : Type 0} (name : List ℕ) (major : ℕ) (T : Budget → Stopping) {a c : View}
-    (r : Option (Option ℕ)) (failure : Option (DecodeError E)) → ((xs : List ℕ) (z : Refusal)
-    (rest : List ℕ) → StopsLength name major xs a.budget z rest → T a.budget xs z rest)
+    (r : Option (Option ℕ)) (failure : Option (DecodeError E)) → ((xs : List ℕ) (z : InputError)
+    (rest : List ℕ) → RejectsLength name major xs a.budget z rest → T a.budget xs z rest)
     → Moves a c (answered r failure)
     → IfOk (answered r failure) (Sound (ReadsLength major) a c)
-    → IfErr (answered r failure) (Stops (StopsLength name major) a c)
+    → IfErr (answered r failure) (Rejects (RejectsLength name major) a c)
     → Does (TakesLength major a.budget) (T a.budget) a c (answered r failure)
 length_does name major T {a = a} (Some (Some n)) failure f moves s h =
     does_ok (TakesLength major a.budget) (T a.budget) (reached_length major n refl moves s)
 length_does name major T {a = a} (Some None) failure f moves s h =
-    does_ok (TakesLength major a.budget) (T a.budget) (reached_open major refl moves s)
+    does_ok (TakesLength major a.budget) (T a.budget) (reached_indefinite major refl moves s)
 length_does name major T {a = a} None failure f moves s h =
-    length_refused {U = Option ℕ} name major (TakesLength major a.budget) (T a.budget) f moves h
+    length_rejected {U = Option ℕ} name major (TakesLength major a.budget) (T a.budget) f moves h
 
 pub some_follow : {E : Type 0} (major n : ℕ) {o : Option ℕ} {S : Stopping} {a m : View}
     → o ≡ Some n → Does {E = E} (TakesLength major a.budget) S a m (Ok o)
@@ -225,62 +235,68 @@ some_follow major n {o = o} {a = a} is d =
     (λ xs ys h. subst (λ z. TakesLength major a.budget xs z ys) is h) (reached_by d)
 
 pub none_follow : {E : Type 0} (major : ℕ) {o : Option ℕ} {S : Stopping} {a m : View} → o ≡ None
-    → Does {E = E} (TakesLength major a.budget) S a m (Ok o) → Reached (OpenAt major) a m
+    → Does {E = E} (TakesLength major a.budget) S a m (Ok o) → Reached (IndefiniteAt major) a m
 none_follow major {o = o} {a = a} is d =
-    reached_as (λ xs ys. TakesLength major a.budget xs o ys) (OpenAt major)
+    reached_as (λ xs ys. TakesLength major a.budget xs o ys) (IndefiniteAt major)
     (λ xs ys h. subst (λ z. TakesLength major a.budget xs z ys) is h) (reached_by d)
 
 -- ---- arrays
 
-pub array_counted : {E : Type 0} (n : ℕ) {r : Result (Vec Value Global) (DecodeError E)}
+pub array_definite : {E : Type 0} (n : ℕ) {r : Result (Vec Value Global) (DecodeError E)}
     {a m b : View} → Reached (HeadAt 4 n) a m
-    → Does (λ xs v ys. ReadsItems n m.budget xs v.items ys) (StopsItems n m.budget) m b r
-    → Does (λ xs v ys. ReadsArrayInside a.budget xs v.items ys) (StopsMajor 4 a.budget) a b r
-array_counted n {a = a} {m = m} p d =
+    → Does (λ xs v ys. ReadsItems n m.budget xs v.items ys) (RejectsItems n m.budget) m b r
+    → Does (λ xs v ys. ReadsArrayInside a.budget xs v.items ys) (RejectsMajor 4 a.budget) a b r
+array_definite n {a = a} {m = m} p d =
     does_after (HeadAt 4 n) (λ xs v ys. ReadsItems n m.budget xs v.items ys)
-    (λ xs v ys. ReadsArrayInside a.budget xs v.items ys) (StopsItems n m.budget)
-    (StopsMajor 4 a.budget)
+    (λ xs v ys. ReadsArrayInside a.budget xs v.items ys) (RejectsItems n m.budget)
+    (RejectsMajor 4 a.budget)
     (λ xs ys zs v h s.
     inl (h.0, n, ys, h.1, h.2, subst (λ o. ReadsItems n o ys v.items zs) p.kept.budget s))
-    (λ xs ys e rest h s b bs is major outer step. subst (λ x. StopsUnder outer x e rest) (sym h.2)
+    (λ xs ys e rest h s b bs is major outer step. subst (λ x. RejectsUnder outer x e rest) (sym h.2)
     (at_row outer (starts_array h.0) (32 * 4 + additional h.0 n)
     (bytes_high_first (byte_count h.0) n ++ ys) e rest (initial_array n h.0 h.1)
     (step_taken array_name (head 4 n h.0 ++ ys)
     (λ inner. AtHead array_name 4 h.0 (32 * 4 + additional h.0 n)
-    (StopsInCount (Readable inner) (λ part. StopsReading part inner))
+    (RejectsInCount (Readable inner) (λ part. ReadingRejects part inner))
     (bytes_high_first (byte_count h.0) n ++ ys)) outer a.budget e rest step
     (inr (record {
       argument = n;
       after = ys;
       fits = h.1;
       is = refl;
-      stopped = subst (λ o. StopsItems n o ys e rest) p.kept.budget s;
+      stopped = subst (λ o. RejectsItems n o ys e rest) p.kept.budget s;
     }))))) p d
 
 -- none of them
 pub array_of_none : {E : Type 0} (v : Vec Value Global) {m : View} → v.items ≡ []
     → Does {E = E} (λ xs (u : Vec Value Global) ys. ReadsItems 0 m.budget xs u.items ys)
-    (StopsItems 0 m.budget) m m (Ok v)
+    (RejectsItems 0 m.budget) m m (Ok v)
 array_of_none v {m = m} e =
-    does_ok (λ xs (u : Vec Value Global) ys. ReadsItems 0 m.budget xs u.items ys) (StopsItems 0
+    does_ok (λ xs (u : Vec Value Global) ys. ReadsItems 0 m.budget xs u.items ys) (RejectsItems 0
     m.budget)
     (reached_start (λ xs ys. ReadsItems 0 m.budget xs v.items ys) m
     (λ xs. subst (λ us. ReadsItems 0 m.budget xs us xs) (sym e) (no_trees, refl, tt, refl, refl)))
 
 pub array_opened : {E : Type 0} {r : Result (Vec Value Global) (DecodeError E)} {a m b : View}
-    → Reached (OpenAt 4) a m
-    → Does (λ xs v ys. ReadsOpenItems m.budget xs v.items ys) (StopsOpenItems m.budget) m b r
-    → Does (λ xs v ys. ReadsArrayInside a.budget xs v.items ys) (StopsMajor 4 a.budget) a b r
+    → Reached (IndefiniteAt 4) a m
+    → Does (λ xs v ys. ReadsIndefiniteItems m.budget xs v.items ys)
+    (RejectsIndefiniteItems m.budget) m b r
+    → Does (λ xs v ys. ReadsArrayInside a.budget xs v.items ys) (RejectsMajor 4 a.budget) a b r
 array_opened {a = a} {m = m} p d =
-    does_after (OpenAt 4) (λ xs v ys. ReadsOpenItems m.budget xs v.items ys)
-    (λ xs v ys. ReadsArrayInside a.budget xs v.items ys) (StopsOpenItems m.budget)
-    (StopsMajor 4 a.budget)
-    (λ xs ys zs v h s. inr (ys, h, subst (λ o. ReadsOpenItems o ys v.items zs) p.kept.budget s))
-    (λ xs ys e rest h s b bs is major outer step. subst (λ x. StopsUnder outer x e rest) (sym h)
-    (at_row outer starts_open_array (open_head 4) ys e rest initial_open_array
-    (step_taken array_name (open_head 4 ∷ ys)
-    (λ inner. OpenItems (Readable inner) (λ part. StopsReading part inner) ys) outer
-    a.budget e rest step (subst (λ o. StopsOpenItems o ys e rest) p.kept.budget s)))) p d
+    does_after (IndefiniteAt 4) (λ xs v ys. ReadsIndefiniteItems m.budget xs v.items ys)
+    (λ xs v ys. ReadsArrayInside a.budget xs v.items ys) (RejectsIndefiniteItems m.budget)
+    (RejectsMajor 4 a.budget)
+    (λ xs ys zs v h s. inr (
+      ys,
+      h,
+      subst (λ o. ReadsIndefiniteItems o ys v.items zs)
+          p.kept.budget s,
+    ))
+    (λ xs ys e rest h s b bs is major outer step. subst (λ x. RejectsUnder outer x e rest) (sym h)
+    (at_row outer starts_indefinite_array (indefinite_head 4) ys e rest initial_indefinite_array
+    (step_taken array_name (indefinite_head 4 ∷ ys)
+    (λ inner. IndefiniteItems (Readable inner) (λ part. ReadingRejects part inner) ys) outer
+    a.budget e rest step (subst (λ o. RejectsIndefiniteItems o ys e rest) p.kept.budget s)))) p d
 
 two_steps : (c : ℕ) (budget inner deep : Budget) → step_in budget ≡ Some inner
     → step_in inner ≡ Some deep → CostFits c deep → CostFits (2 + c) budget
@@ -307,10 +323,11 @@ array_tree budget inner deep vs xs ys s t (inl q) =
 array_tree budget inner deep vs xs ys s t (inr q) =
     let i = q.2 in
     let all = all_readable i.0 deep i.1 in (
-      array_open i.0,
+      array_indefinite i.0,
       ((all.0.0, all.0.1), two_steps (greatest_cost i.0) budget inner deep s t all.1),
       ap sequence i.2,
-      q.1 ∙ ap (λ r. open_head 4 ∷ r) (i.3 ∙ sym (append_assoc (bytes_all i.0) (break ∷ []) ys)),
+      q.1 ∙ ap (λ r. indefinite_head 4 ∷ r)
+          (i.3 ∙ sym (append_assoc (bytes_all i.0) (break ∷ []) ys)),
     )
 
 pub array_reads : (inner : Budget) (v : Vec Value Global) (xs ys : List ℕ) → ReadsStepped
@@ -320,7 +337,7 @@ array_reads inner v xs ys h budget step =
     let t = array_tree budget inner h.0 v.items xs ys step h.1 h.2 in
     (t.0, t.1, t.2 ∙ sym (view-Array v), t.3)
 
--- ---- values one behind another, up to a break
+-- ---- values one after another, up to a break
 
 pub each_none : (budget : Budget) (vs : List Value) (xs : List ℕ) → vs ≡ []
     → ReadEach vs budget xs xs
@@ -336,36 +353,38 @@ each_more budget vs ws v xs ys zs is h k = (
   h.3 ∙ ap (λ r. bytes_all h.0 ++ r) k.3 ∙ sym (bytes-push h.0 k.0 zs),
 )
 
-pub open_end : (budget : Budget) (vs : List Value) (xs ys : List ℕ) → ReadEach vs budget xs ys
-    → ys ≡ [] → StopsOpenItems budget xs (eof break_name (Small 1)) []
-open_end budget vs xs ys h e = record {
-  front = h.0;
+pub indefinite_end : (budget : Budget) (vs : List Value) (xs ys : List ℕ) → ReadEach vs budget xs ys
+    → ys ≡ [] → RejectsIndefiniteItems budget xs (eof break_name (Small 1)) []
+indefinite_end budget vs xs ys h e = record {
+  prefix = h.0;
   after = [];
   whole = h.1;
   is = h.3 ∙ ap (λ r. bytes_all h.0 ++ r) e;
   stopped = (refl, refl);
 }
 
-no_break : (budget : Budget) (ys : List ℕ) (e : Refusal) (rest : List ℕ) → ys ≢ []
-    → ((bs : List ℕ) → ys ≡ break ∷ bs → ⊥) → StopsOneValue budget ys e rest
-    → NoBreak (StopsOneValue budget) ys e rest
+no_break : (budget : Budget) (ys : List ℕ) (e : InputError) (rest : List ℕ) → ys ≢ []
+    → ((bs : List ℕ) → ys ≡ break ∷ bs → ⊥) → RejectsOneValue budget ys e rest
+    → NoBreak (RejectsOneValue budget) ys e rest
 no_break budget [] e rest some none s = absurd (some refl)
 no_break budget (b ∷ bs) e rest some none s = ((λ f. none bs (ap (λ c. c ∷ bs) f)), s)
 
-pub open_stop : (budget : Budget) (vs : List Value) (xs ys : List ℕ) (e : Refusal) (rest : List ℕ)
+pub indefinite_stop : (budget : Budget) (vs : List Value) (xs ys : List ℕ) (e : InputError)
+    (rest : List ℕ)
     → ys ≢ [] → ((bs : List ℕ) → ys ≡ break ∷ bs → ⊥) → ReadEach vs budget xs ys
-    → StopsOneValue budget ys e rest → StopsOpenItems budget xs e rest
-open_stop budget vs xs ys e rest some none h s = record {
-  front = h.0;
+    → RejectsOneValue budget ys e rest → RejectsIndefiniteItems budget xs e rest
+indefinite_stop budget vs xs ys e rest some none h s = record {
+  prefix = h.0;
   after = ys;
   whole = h.1;
   is = h.3;
   stopped = no_break budget ys e rest some none s;
 }
 
-pub open_done : (budget : Budget) (vs : List Value) (xs ys zs : List ℕ) → ReadEach vs budget xs ys
-    → ys ≡ break ∷ zs → ReadsOpenItems budget xs vs zs
-open_done budget vs xs ys zs h e = (h.0, h.1, h.2, h.3 ∙ ap (λ r. bytes_all h.0 ++ r) e)
+pub indefinite_done : (budget : Budget) (vs : List Value) (xs ys zs : List ℕ) → ReadEach vs
+    budget xs ys
+    → ys ≡ break ∷ zs → ReadsIndefiniteItems budget xs vs zs
+indefinite_done budget vs xs ys zs h e = (h.0, h.1, h.2, h.3 ∙ ap (λ r. bytes_all h.0 ++ r) e)
 
 -- ---- pairs
 
@@ -401,83 +420,90 @@ pairs_more budget ms ns m xs ys zs is h w =
     )
 
 pub members_end : (budget : Budget) (ms : List (Value × Value)) (xs ys : List ℕ)
-    → ReadPairs ms budget xs ys → ys ≡ [] → StopsOpenMembers budget xs (eof break_name (Small 1)) []
+    → ReadPairs ms budget xs ys → ys ≡ [] → RejectsIndefiniteMembers budget xs
+    (eof break_name (Small 1)) []
 members_end budget ms xs ys h e = record {
-  front = h.0;
+  prefix = h.0;
   after = [];
   whole = h.1;
   is = h.3 ∙ ap (λ r. bytes_pairs h.0 ++ r) e;
   stopped = inl (refl, refl);
 }
 
-pub pair_stop : (budget : Budget) (ms : List (Value × Value)) (xs ys : List ℕ) (e : Refusal)
+pub pair_stop : (budget : Budget) (ms : List (Value × Value)) (xs ys : List ℕ) (e : InputError)
     (rest : List ℕ) → ys ≢ [] → ((bs : List ℕ) → ys ≡ break ∷ bs → ⊥) → ReadPairs ms budget xs ys
-    → StopsMember budget ys e rest → StopsOpenMembers budget xs e rest
+    → RejectsMember budget ys e rest → RejectsIndefiniteMembers budget xs e rest
 pair_stop budget ms xs ys e rest some none h (inl s) = record {
-  front = h.0;
+  prefix = h.0;
   after = ys;
   whole = h.1;
   is = h.3;
   stopped = inl (no_break budget ys e rest some none s);
 }
 pair_stop budget ms xs ys e rest some none h (inr k) =
-    record { front = h.0; after = ys; whole = h.1; is = h.3; stopped = inr k }
+    record { prefix = h.0; after = ys; whole = h.1; is = h.3; stopped = inr k }
 
 pub members_done : (budget : Budget) (ms : List (Value × Value)) (xs ys zs : List ℕ)
-    → ReadPairs ms budget xs ys → ys ≡ break ∷ zs → ReadsOpenMembers budget xs ms zs
+    → ReadPairs ms budget xs ys → ys ≡ break ∷ zs → ReadsIndefiniteMembers budget xs ms zs
 members_done budget ms xs ys zs h e = (h.0, h.1, h.2, h.3 ∙ ap (λ r. bytes_pairs h.0 ++ r) e)
 
 -- ---- maps
 
-pub map_counted : {E : Type 0} (n : ℕ) {r : Result (Vec (Value × Value) Global) (DecodeError E)}
+pub map_definite : {E : Type 0} (n : ℕ) {r : Result (Vec (Value × Value) Global) (DecodeError E)}
     {a m b : View} → Reached (HeadAt 5 n) a m
-    → Does (λ xs v ys. ReadsMembers n m.budget xs v.items ys) (StopsMembers n m.budget) m b r
-    → Does (λ xs v ys. ReadsMapInside a.budget xs v.items ys) (StopsMajor 5 a.budget) a b r
-map_counted n {a = a} {m = m} p d =
+    → Does (λ xs v ys. ReadsMembers n m.budget xs v.items ys) (RejectsMembers n m.budget) m b r
+    → Does (λ xs v ys. ReadsMapInside a.budget xs v.items ys) (RejectsMajor 5 a.budget) a b r
+map_definite n {a = a} {m = m} p d =
     does_after (HeadAt 5 n) (λ xs v ys. ReadsMembers n m.budget xs v.items ys)
-    (λ xs v ys. ReadsMapInside a.budget xs v.items ys) (StopsMembers n m.budget)
-    (StopsMajor 5 a.budget)
+    (λ xs v ys. ReadsMapInside a.budget xs v.items ys) (RejectsMembers n m.budget)
+    (RejectsMajor 5 a.budget)
     (λ xs ys zs v h s.
     inl (h.0, n, ys, h.1, h.2, subst (λ o. ReadsMembers n o ys v.items zs) p.kept.budget s))
-    (λ xs ys e rest h s b bs is major outer step. subst (λ x. StopsUnder outer x e rest) (sym h.2)
+    (λ xs ys e rest h s b bs is major outer step. subst (λ x. RejectsUnder outer x e rest) (sym h.2)
     (at_row outer (starts_map h.0) (32 * 5 + additional h.0 n)
     (bytes_high_first (byte_count h.0) n ++ ys) e rest (initial_map n h.0 h.1)
     (step_taken map_name (head 5 n h.0 ++ ys)
     (λ inner. AtHead map_name 5 h.0 (32 * 5 + additional h.0 n)
-    (λ n. StopsInCount (Readable inner) (λ part. StopsReading part inner) (2 * n))
+    (λ n. RejectsInCount (Readable inner) (λ part. ReadingRejects part inner) (2 * n))
     (bytes_high_first (byte_count h.0) n ++ ys)) outer a.budget e rest step
     (inr (record {
       argument = n;
       after = ys;
       fits = h.1;
       is = refl;
-      stopped = subst (λ o. StopsMembers n o ys e rest) p.kept.budget s;
+      stopped = subst (λ o. RejectsMembers n o ys e rest) p.kept.budget s;
     }))))) p d
 
 -- none of them
 pub map_of_none : {E : Type 0} (v : Vec (Value × Value) Global) {m : View} → v.items ≡ []
     → Does {E = E} (λ xs (u : Vec (Value × Value) Global) ys. ReadsMembers 0 m.budget xs u.items ys)
-    (StopsMembers 0 m.budget) m m (Ok v)
+    (RejectsMembers 0 m.budget) m m (Ok v)
 map_of_none v {m = m} e =
     does_ok (λ xs (u : Vec (Value × Value) Global) ys. ReadsMembers 0 m.budget xs u.items ys)
-    (StopsMembers 0 m.budget)
+    (RejectsMembers 0 m.budget)
     (reached_start (λ xs ys. ReadsMembers 0 m.budget xs v.items ys) m
     (λ xs. subst (λ us. ReadsMembers 0 m.budget xs us xs) (sym e) (no_pairs, refl, tt, refl, refl)))
 
 pub map_opened : {E : Type 0} {r : Result (Vec (Value × Value) Global) (DecodeError E)}
-    {a m b : View} → Reached (OpenAt 5) a m
-    → Does (λ xs v ys. ReadsOpenMembers m.budget xs v.items ys) (StopsOpenMembers m.budget) m b r
-    → Does (λ xs v ys. ReadsMapInside a.budget xs v.items ys) (StopsMajor 5 a.budget) a b r
+    {a m b : View} → Reached (IndefiniteAt 5) a m
+    → Does (λ xs v ys. ReadsIndefiniteMembers m.budget xs v.items ys)
+    (RejectsIndefiniteMembers m.budget) m b r
+    → Does (λ xs v ys. ReadsMapInside a.budget xs v.items ys) (RejectsMajor 5 a.budget) a b r
 map_opened {a = a} {m = m} p d =
-    does_after (OpenAt 5) (λ xs v ys. ReadsOpenMembers m.budget xs v.items ys)
-    (λ xs v ys. ReadsMapInside a.budget xs v.items ys) (StopsOpenMembers m.budget)
-    (StopsMajor 5 a.budget)
-    (λ xs ys zs v h s. inr (ys, h, subst (λ o. ReadsOpenMembers o ys v.items zs) p.kept.budget s))
-    (λ xs ys e rest h s b bs is major outer step. subst (λ x. StopsUnder outer x e rest) (sym h)
-    (at_row outer starts_open_map (open_head 5) ys e rest initial_open_map
-    (step_taken map_name (open_head 5 ∷ ys)
-    (λ inner. OpenPairs (Readable inner) (λ part. StopsReading part inner) ys) outer
-    a.budget e rest step (subst (λ o. StopsOpenMembers o ys e rest) p.kept.budget s)))) p d
+    does_after (IndefiniteAt 5) (λ xs v ys. ReadsIndefiniteMembers m.budget xs v.items ys)
+    (λ xs v ys. ReadsMapInside a.budget xs v.items ys) (RejectsIndefiniteMembers m.budget)
+    (RejectsMajor 5 a.budget)
+    (λ xs ys zs v h s. inr (
+      ys,
+      h,
+      subst (λ o. ReadsIndefiniteMembers o ys v.items zs)
+          p.kept.budget s,
+    ))
+    (λ xs ys e rest h s b bs is major outer step. subst (λ x. RejectsUnder outer x e rest) (sym h)
+    (at_row outer starts_indefinite_map (indefinite_head 5) ys e rest initial_indefinite_map
+    (step_taken map_name (indefinite_head 5 ∷ ys)
+    (λ inner. IndefinitePairs (Readable inner) (λ part. ReadingRejects part inner) ys) outer
+    a.budget e rest step (subst (λ o. RejectsIndefiniteMembers o ys e rest) p.kept.budget s)))) p d
 
 map_tree : (budget inner deep : Budget) (ms : List (Value × Value)) (xs ys : List ℕ)
     → step_in budget ≡ Some inner → step_in inner ≡ Some deep → ReadsMapInside deep xs ms ys
@@ -498,10 +524,11 @@ map_tree budget inner deep ms xs ys s t (inl q) =
 map_tree budget inner deep ms xs ys s t (inr q) =
     let i = q.2 in
     let all = all_pairs_readable i.0 deep i.1 in (
-      map_open i.0,
+      map_indefinite i.0,
       ((all.0.0, all.0.1), two_steps (greatest_pair_cost i.0) budget inner deep s t all.1),
       ap mapping i.2,
-      q.1 ∙ ap (λ r. open_head 5 ∷ r) (i.3 ∙ sym (append_assoc (bytes_pairs i.0) (break ∷ []) ys)),
+      q.1 ∙ ap (λ r. indefinite_head 5 ∷ r)
+          (i.3 ∙ sym (append_assoc (bytes_pairs i.0) (break ∷ []) ys)),
     )
 
 pub map_reads : (inner : Budget) (v : Vec (Value × Value) Global) (xs ys : List ℕ) → ReadsStepped
@@ -513,30 +540,31 @@ map_reads inner v xs ys h budget step =
 
 -- ---- a pair
 
-pub value_stop : (budget : Budget) (key : Value) (xs ys : List ℕ) (e : Refusal) (rest : List ℕ)
-    → ReadsOneValue budget xs key ys → StopsOneValue budget ys e rest → StopsMember budget xs e rest
+pub value_stop : (budget : Budget) (key : Value) (xs ys : List ℕ) (e : InputError) (rest : List ℕ)
+    → ReadsOneValue budget xs key ys → RejectsOneValue budget ys e rest → RejectsMember budget
+    xs e rest
 value_stop budget key xs ys e rest k s =
     inr (record { key = k.0; after = ys; whole = k.1; is = k.3; stopped = s })
 
 -- ---- calls
 
 -- one more of what is read so
-module _ {V : Type 0} (reads : Budget → Accepting V) (stops : Budget → Stopping)
+module _ {V : Type 0} (reads : Budget → Accepting V) (rejects : Budget → Stopping)
     (P : List ℕ → List ℕ → Type 0) {a m : View} (p : Reached P a m) where
   pub more : {E : Type 0} (Q : List ℕ → List ℕ → Type 0) {v : V} {b : View}
       → ((xs ys zs : List ℕ) → P xs ys → reads a.budget ys v zs → Q xs zs)
-      → Does {E = E} (reads m.budget) (stops m.budget) m b (Ok v) → Reached Q a b
+      → Does {E = E} (reads m.budget) (rejects m.budget) m b (Ok v) → Reached Q a b
   more Q {v = v} f d =
       reached_then P (λ xs ys. reads m.budget xs v ys) Q (λ xs ys zs h s.
       f xs ys zs h (subst (λ o. reads o ys v zs) p.kept.budget s)) p (reached_by d)
 
   pub ends : {U E : Type 0} (B : Accepting U) (T : Stopping) {e : DecodeError E} {b : View}
-      → ((xs ys : List ℕ) (z : Refusal) (rest : List ℕ) → P xs ys → stops a.budget ys z rest
-      → T xs z rest) → Does {V = V} (reads m.budget) (stops m.budget) m b (Err e)
+      → ((xs ys : List ℕ) (z : InputError) (rest : List ℕ) → P xs ys → rejects a.budget ys z rest
+      → T xs z rest) → Does {V = V} (reads m.budget) (rejects m.budget) m b (Err e)
       → Does {V = U} B T a b (Err e)
   ends B T f d =
-      does_err P (reads m.budget) B (stops m.budget) T (λ xs ys z rest h s.
-      f xs ys z rest h (subst (λ o. stops o ys z rest) p.kept.budget s)) p d
+      does_err P (reads m.budget) B (rejects m.budget) T (λ xs ys z rest h s.
+      f xs ys z rest h (subst (λ o. rejects o ys z rest) p.kept.budget s)) p d
 
 -- ---- as a value
 

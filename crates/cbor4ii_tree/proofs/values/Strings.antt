@@ -1,22 +1,27 @@
--- Strings of values: what is read as a string is a tree, and where a string stops a value does.
+-- Strings of values: what is read as a string is a tree, and where a string is rejected a value
+-- does.
 use Rattle.std.proofs.Common.{◌≡◌, ◌≢◌, ℕ, zero, suc, ◌+◌, ◌-◌, ◌*◌, ◌/◌, ◌%◌, ◌<◌, List, [], ◌∷◌}
 use Rattle.std.proofs.Common.{◌++◌, length, drop, take, Some, None, Bool, true, false, refl, sym}
 use Rattle.std.proofs.Common.{ap, ap₂, ◌∙◌, subst, arith, append_assoc, length-append}
 use Rattle.std.proofs.Common.{take-append-drop, inl, inr, rules, cond, IsUtf8, eqb, eqb-true}
 use Rattle.std.proofs.Common.{eq-eqb, get_or, string_bytes, Vec, Global, String}
 use Rattle.std.specs.Int.{bytes_high_first}
-use Rattle.cbor4ii_items.specs.Refusal.{Refusal}
-use Rattle.cbor4ii_items.specs.Head.{Width, byte_count, additional, head, open_head, break}
-use Rattle.cbor4ii_items.specs.Heads.{StopsHead, Begins, CutHead}
+use Rattle.cbor4ii_items.specs.InputError.{InputError}
+use Rattle.cbor4ii_items.specs.Head.{Width, byte_count, additional, head, indefinite_head, break}
+use Rattle.cbor4ii_items.specs.Heads.{RejectsHead, Begins, CutHead}
 use Rattle.cbor4ii_items.specs.Laws.Heads.{after_head, length-bytes_high_first}
-use Rattle.cbor4ii_items.specs.Laws.Fronts.{drop_more}
+use Rattle.cbor4ii_items.specs.Laws.Prefixes.{drop_more}
 use Rattle.cbor4ii_items.specs.Decoding.{CostFits}
 use Rattle.cbor4ii_items.specs.Strings as strings
-use Rattle.cbor4ii_items.specs.Strings.{ReadsCountedString, ReadsChunks, chunk_cost, ReadsString}
-use Rattle.cbor4ii_items.specs.Strings.{CutContent, StopsChunk, no_chunk_byte, no_step, chunk_open}
-use Rattle.cbor4ii_items.specs.Strings.{chunk_refused, chunk_cut, StopsString, string_head_refused}
-use Rattle.cbor4ii_items.specs.Strings.{string_cut, string_open, StopsText, no_string, no_utf8}
-use Rattle.cbor4ii_items.specs.Initial.{Initial, Info, wide, open_ended, reserved, info_of, initial}
+use Rattle.cbor4ii_items.specs.Strings.{ReadsDefiniteString, ReadsChunks, chunk_cost, ReadsString}
+use Rattle.cbor4ii_items.specs.Strings.{CutContent, RejectsChunk, no_chunk_byte, no_step}
+use Rattle.cbor4ii_items.specs.Strings.{chunk_indefinite}
+use Rattle.cbor4ii_items.specs.Strings.{chunk_rejected, chunk_cut, RejectsString}
+use Rattle.cbor4ii_items.specs.Strings.{string_head_rejected}
+use Rattle.cbor4ii_items.specs.Strings.{string_cut, string_indefinite, RejectsText, no_string}
+use Rattle.cbor4ii_items.specs.Strings.{no_utf8}
+use Rattle.cbor4ii_items.specs.Initial.{Initial, Info, wide, indefinite_ended, reserved, info_of}
+use Rattle.cbor4ii_items.specs.Initial.{initial}
 use Rattle.cbor4ii_items.specs.Initial.{by_major, int_by_info, string_by_info, array_by_info}
 use Rattle.cbor4ii_items.specs.Initial.{map_by_info, tag_by_info, simple_by_info, unsigned}
 use Rattle.cbor4ii_items.specs.Initial.{negative, Sign, Kind, byte_string, text_string, kind_major}
@@ -25,8 +30,8 @@ use Rattle.cbor4ii_items.specs.Initial.{starts_simple, starts_bits, other_simple
 use Rattle.cbor4ii_items.specs.Initial.{simple_true, simple_null, simple_undefined, half, single}
 use Rattle.cbor4ii_items.specs.Initial.{double}
 use Rattle.cbor4ii_items.specs.Laws.Answering.{fits_zero}
-use Rattle.cbor4ii_tree.specs.Refusal.{eof, mismatch, require_length, require_utf8, Indefinite}
-use Rattle.cbor4ii_tree.specs.Refusal.{len_of, kind_name}
+use Rattle.cbor4ii_tree.specs.InputError.{eof, mismatch, require_length, require_utf8, Indefinite}
+use Rattle.cbor4ii_tree.specs.InputError.{len_of, kind_name}
 use Rattle.cbor4ii_tree.specs.Laws.Initials.{initial_string, initial_chunks, head_below, kind_below}
 use Rattle.cbor4ii_tree.specs.declared.value.Value.{Bytes, Text, the_lemmas}
 use Rattle.cbor4ii_tree.specs.Tree.{Tree, Trees, no_trees, tree, string, chunked, bytes, bytes_all}
@@ -35,30 +40,31 @@ use Rattle.cbor4ii_tree.specs.Item.{bytes_item, text}
 use Rattle.cbor4ii_tree.specs.Meaning.{value, content_item}
 use Rattle.cbor4ii_tree.specs.Cost.{Budget, step_in, chunks_cost}
 use Rattle.cbor4ii_tree.specs.Laws.Binds.{step_up}
-use Rattle.cbor4ii_tree.specs.Stops.{Is, StopsAtStep, Each, NoBreak}
-use Rattle.cbor4ii_tree.specs.StopsReading.{Readable, ReadableChunk, CutString, ChunkStopsBy}
-use Rattle.cbor4ii_tree.specs.StopsReading.{ChunkStops, ReadingStopsBy, StopsReading}
+use Rattle.cbor4ii_tree.specs.Rejections.{Is, RejectsAtStep, Each, NoBreak}
+use Rattle.cbor4ii_tree.specs.ReadingRejects.{Readable, ReadableChunk, CutString, ChunkRejectsBy}
+use Rattle.cbor4ii_tree.specs.ReadingRejects.{ChunkRejects, ReadingRejectsBy, ReadingRejects}
 use Rattle.cbor4ii_tree.specs.View.{view}
-use Rattle.cbor4ii_tree.specs.Valuing.{ReadsUnder, StopsUnder}
+use Rattle.cbor4ii_tree.specs.Valuing.{ReadsUnder, RejectsUnder}
 use Rattle.cbor4ii_tree.proofs.values.Calls.{head_cut, no_head, initial_of, width_begins}
-use Rattle.cbor4ii_tree.proofs.values.Calls.{small_count, open_byte}
+use Rattle.cbor4ii_tree.proofs.values.Calls.{small_count, indefinite_byte}
 use Rattle.cbor4ii_tree.proofs.values.Heads.{at_row, first_is}
 
--- ---- strings of known length
+-- ---- strings of definite length
 
-content_behind : (major : ℕ) (xs content : List ℕ) (n : ℕ)
-    → (r : ReadsCountedString major xs content n) → r.head.rest ≡ content ++ drop n xs
-content_behind major xs content n r =
+content_after : (major : ℕ) (xs content : List ℕ) (n : ℕ)
+    → (r : ReadsDefiniteString major xs content n) → r.head.rest ≡ content ++ drop n xs
+content_after major xs content n r =
     sym (after_head major 8 xs (length content) r.before r.head)
     ∙ sym (take-append-drop (length content) (drop r.before xs)) ∙ ap₂ ◌++◌ r.stands
     (drop_more (length content) r.before xs ∙ ap (λ j. drop j xs) (sym r.size))
 
-counted_is : (major : ℕ) (xs content : List ℕ) (n : ℕ) → (r : ReadsCountedString major xs content n)
+definite_is : (major : ℕ) (xs content : List ℕ) (n : ℕ) →
+    (r : ReadsDefiniteString major xs content n)
     → xs ≡ (head major (length content) r.head.wide ++ content) ++ drop n xs
-counted_is major xs content n r =
-    let front = head major (length content) r.head.wide in
-    r.head.is ∙ ap (λ z. front ++ z) (content_behind major xs content n r)
-    ∙ sym (append_assoc front content (drop n xs))
+definite_is major xs content n r =
+    let prefix = head major (length content) r.head.wide in
+    r.head.is ∙ ap (λ z. prefix ++ z) (content_after major xs content n r)
+    ∙ sym (append_assoc prefix content (drop n xs))
 
 -- ---- chunks
 
@@ -92,7 +98,7 @@ chunk_trees k (chunk ∷ chunks) xs n r =
       are = (refl, t.are);
       content = ap (λ z. chunk ++ z) t.content;
       is =
-          counted_is (kind_major k) xs chunk r.0 r.2
+          definite_is (kind_major k) xs chunk r.0 r.2
           ∙ ap (λ z. bytes first ++ z) (t.is ∙ ap (λ z. bytes_all t.trees ++ z)
           (drop_more r.1 r.0 xs ∙ ap (λ j. drop j xs) (sym r.4)))
           ∙ sym (append_assoc (bytes first) (bytes_all t.trees) (drop n xs));
@@ -107,22 +113,22 @@ chunk_trees k (chunk ∷ chunks) xs n r =
 
 -- ---- strings that are read
 
-record OpenTree (k : Kind) (xs content : List ℕ) (n c : ℕ) : Type 0 where
+record IndefiniteTree (k : Kind) (xs content : List ℕ) (n c : ℕ) : Type 0 where
   trees : Trees
   loose : LooseAll trees
   are : AreChunks k trees
   says : content ≡ joined_chunks trees
-  behind : (bs : List ℕ) → xs ≡ open_head (kind_major k) ∷ bs
+  trailing : (bs : List ℕ) → xs ≡ indefinite_head (kind_major k) ∷ bs
       → bs ≡ bytes_all trees ++ break ∷ drop n xs
-  begins : xs ≡ open_head (kind_major k) ∷ drop 1 xs
+  begins : xs ≡ indefinite_head (kind_major k) ∷ drop 1 xs
   costs : chunks_cost trees ≡ 1 + c
   fit : (budget : Budget) → CostFits c budget → Each (ReadableChunk k budget) trees
 
-open_tree : (k : Kind) (xs content : List ℕ) (n c : ℕ)
-    → strings.ReadsOpenString (kind_major k) xs content n c → OpenTree k xs content n c
-open_tree k xs content n c r =
+indefinite_tree : (k : Kind) (xs content : List ℕ) (n c : ℕ)
+    → strings.ReadsIndefiniteString (kind_major k) xs content n c → IndefiniteTree k xs content n c
+indefinite_tree k xs content n c r =
     let t = chunk_trees k r.chunks (drop 1 xs) r.between r.read in
-    let whole = first_is (open_head (kind_major k)) xs r.begins in
+    let whole = first_is (indefinite_head (kind_major k)) xs r.begins in
     let ended : drop r.between (drop 1 xs) ≡ break ∷ drop n xs =
     drop_more r.between 1 xs ∙ first_is break (drop (1 + r.between) xs) r.ends
     ∙ ap (λ z. break ∷ z) (drop_more 1 (1 + r.between) xs ∙ ap (λ j. drop j xs)
@@ -132,7 +138,7 @@ open_tree k xs content n c r =
       loose = t.loose;
       are = t.are;
       says = r.value ∙ sym t.content;
-      behind = λ bs e. (let same : drop 1 xs ≡ bs = ap (drop 1) e in
+      trailing = λ bs e. (let same : drop 1 xs ≡ bs = ap (drop 1) e in
           sym same ∙ t.is ∙ ap (λ z. bytes_all t.trees ++ z) ended);
       begins = whole;
       costs = t.costs ∙ ap (λ j. 1 + j) (sym r.cost);
@@ -148,23 +154,23 @@ string_tree k budget inner xs content n c step fits valid (inl r) = (
   string k r.0.head.wide content,
   ((r.0.head.fits, valid), step_up budget inner 0 step (fits_zero inner)),
   refl,
-  counted_is (kind_major k) xs content n r.0,
+  definite_is (kind_major k) xs content n r.0,
 )
 string_tree k budget inner xs content n c step fits valid (inr r) =
-    let o = open_tree k xs content n c r in (
+    let o = indefinite_tree k xs content n c r in (
       chunked k o.trees,
       (
         (o.loose, (o.are, subst (TextIsUtf8 k) o.says valid)),
         subst (λ j. CostFits j budget) (sym o.costs) (step_up budget inner c step fits),
       ),
       ap (content_item k) (sym o.says),
-      o.begins ∙ ap (λ z. open_head (kind_major k) ∷ z) (o.behind (drop 1 xs) o.begins
+      o.begins ∙ ap (λ z. indefinite_head (kind_major k) ∷ z) (o.trailing (drop 1 xs) o.begins
           ∙ sym (append_assoc (bytes_all o.trees) (break ∷ []) (drop n xs))),
     )
 
--- ---- strings that are refused
+-- ---- strings that are rejected
 
-record CutRow (k : Kind) (b : ℕ) (bs : List ℕ) (e : Refusal) (rest : List ℕ) : Type 0 where
+record CutRow (k : Kind) (b : ℕ) (bs : List ℕ) (e : InputError) (rest : List ℕ) : Type 0 where
   width : Width
   row : initial b ≡ starts_string k width
   below : b < 255
@@ -174,7 +180,7 @@ first_of : (major n : ℕ) (w : Width) (b : ℕ) (bs ys : List ℕ) → b ∷ bs
     → b ≡ 32 * major + additional w n
 first_of major n w b bs ys e = ap (λ z. get_or z 0 0) e
 
-cut_content : (k : Kind) (b : ℕ) (bs : List ℕ) (e : Refusal) (rest : List ℕ)
+cut_content : (k : Kind) (b : ℕ) (bs : List ℕ) (e : InputError) (rest : List ℕ)
     → CutContent (kind_name k) (kind_major k) (b ∷ bs) e rest → CutRow k b bs e rest
 cut_content k b bs e rest h =
     let w = h.head.wide in
@@ -207,7 +213,7 @@ cut_content k b bs e rest h =
           });
     }
 
-cut_head : (k : Kind) (b : ℕ) (bs : List ℕ) (e : Refusal) (rest : List ℕ)
+cut_head : (k : Kind) (b : ℕ) (bs : List ℕ) (e : InputError) (rest : List ℕ)
     → CutHead (kind_name k) (kind_major k) 8 b bs e rest → CutRow k b bs e rest
 cut_head k b bs e rest h = record {
   width = h.wide;
@@ -240,64 +246,64 @@ simple_row P f g h i =
     (if_any P (eqb i 25) _ _ (g half)
     (if_any P (eqb i 26) _ _ (g single) (if_any P (eqb i 27) _ _ (g double) h))))))
 
-module _ (c : ℕ) (cs : List ℕ) (e : Refusal) (rest : List ℕ) where
+module _ (c : ℕ) (cs : List ℕ) (e : InputError) (rest : List ℕ) where
   int_row : (k : Kind) (s : Sign) (x : Info) → Is (mismatch (kind_name k) c) cs e rest
-      → ChunkStopsBy k (int_by_info s x) c cs e rest
+      → ChunkRejectsBy k (int_by_info s x) c cs e rest
   int_row byte_string s (wide w) h = h
-  int_row byte_string s open_ended h = h
+  int_row byte_string s indefinite_ended h = h
   int_row byte_string s reserved h = h
   int_row text_string s (wide w) h = h
-  int_row text_string s open_ended h = h
+  int_row text_string s indefinite_ended h = h
   int_row text_string s reserved h = h
 
   text_row : (x : Info) → Is (mismatch (kind_name byte_string) c) cs e rest
-      → ChunkStopsBy byte_string (string_by_info text_string x) c cs e rest
+      → ChunkRejectsBy byte_string (string_by_info text_string x) c cs e rest
   text_row (wide w) h = h
-  text_row open_ended h = h
+  text_row indefinite_ended h = h
   text_row reserved h = h
 
   bytes_row : (x : Info) → Is (mismatch (kind_name text_string) c) cs e rest
-      → ChunkStopsBy text_string (string_by_info byte_string x) c cs e rest
+      → ChunkRejectsBy text_string (string_by_info byte_string x) c cs e rest
   bytes_row (wide w) h = h
-  bytes_row open_ended h = h
+  bytes_row indefinite_ended h = h
   bytes_row reserved h = h
 
   array_row : (k : Kind) (x : Info) → Is (mismatch (kind_name k) c) cs e rest
-      → ChunkStopsBy k (array_by_info x) c cs e rest
+      → ChunkRejectsBy k (array_by_info x) c cs e rest
   array_row byte_string (wide w) h = h
-  array_row byte_string open_ended h = h
+  array_row byte_string indefinite_ended h = h
   array_row byte_string reserved h = h
   array_row text_string (wide w) h = h
-  array_row text_string open_ended h = h
+  array_row text_string indefinite_ended h = h
   array_row text_string reserved h = h
 
   map_row : (k : Kind) (x : Info) → Is (mismatch (kind_name k) c) cs e rest
-      → ChunkStopsBy k (map_by_info x) c cs e rest
+      → ChunkRejectsBy k (map_by_info x) c cs e rest
   map_row byte_string (wide w) h = h
-  map_row byte_string open_ended h = h
+  map_row byte_string indefinite_ended h = h
   map_row byte_string reserved h = h
   map_row text_string (wide w) h = h
-  map_row text_string open_ended h = h
+  map_row text_string indefinite_ended h = h
   map_row text_string reserved h = h
 
   tag_row : (k : Kind) (x : Info) → Is (mismatch (kind_name k) c) cs e rest
-      → ChunkStopsBy k (tag_by_info x) c cs e rest
+      → ChunkRejectsBy k (tag_by_info x) c cs e rest
   tag_row byte_string (wide w) h = h
-  tag_row byte_string open_ended h = h
+  tag_row byte_string indefinite_ended h = h
   tag_row byte_string reserved h = h
   tag_row text_string (wide w) h = h
-  tag_row text_string open_ended h = h
+  tag_row text_string indefinite_ended h = h
   tag_row text_string reserved h = h
 
   other_row : (k : Kind) (i : ℕ) → Is (mismatch (kind_name k) c) cs e rest
-      → ChunkStopsBy k (simple_by_info i) c cs e rest
+      → ChunkRejectsBy k (simple_by_info i) c cs e rest
   other_row byte_string i h =
-      simple_row (λ i. ChunkStopsBy byte_string i c cs e rest) (λ s. h) (λ p. h) h i
+      simple_row (λ i. ChunkRejectsBy byte_string i c cs e rest) (λ s. h) (λ p. h) h i
   other_row text_string i h =
-      simple_row (λ i. ChunkStopsBy text_string i c cs e rest) (λ s. h) (λ p. h) h i
+      simple_row (λ i. ChunkRejectsBy text_string i c cs e rest) (λ s. h) (λ p. h) h i
 
   other_major : (k : Kind) (j i : ℕ) → j ≢ kind_major k → Is (mismatch (kind_name k) c) cs e rest
-      → ChunkStopsBy k (by_major j i) c cs e rest
+      → ChunkRejectsBy k (by_major j i) c cs e rest
   other_major k zero i ne h = int_row k unsigned (info_of i) h
   other_major k (suc zero) i ne h = int_row k negative (info_of i) h
   other_major byte_string (suc (suc zero)) i ne h = absurd (ne refl)
@@ -310,140 +316,143 @@ module _ (c : ℕ) (cs : List ℕ) (e : Refusal) (rest : List ℕ) where
   other_major k (suc (suc (suc (suc (suc (suc (suc j))))))) i ne h = other_row k i h
 
   bad_row : (k : Kind) → Is (mismatch (kind_name k) c) cs e rest
-      → ChunkStopsBy k (bad_string k) c cs e rest
+      → ChunkRejectsBy k (bad_string k) c cs e rest
   bad_row byte_string h = h
   bad_row text_string h = h
 
-  open_row : (k : Kind) → Is (require_length (kind_name k) Indefinite) cs e rest
-      → ChunkStopsBy k (starts_chunks k) c cs e rest
-  open_row byte_string h = h
-  open_row text_string h = h
+  indefinite_row : (k : Kind) → Is (require_length (kind_name k) Indefinite) cs e rest
+      → ChunkRejectsBy k (starts_chunks k) c cs e rest
+  indefinite_row byte_string h = h
+  indefinite_row text_string h = h
 
   cut_row : (k : Kind) (w : Width) → CutString k w c cs e rest
-      → ChunkStopsBy k (starts_string k w) c cs e rest
+      → ChunkRejectsBy k (starts_string k w) c cs e rest
   cut_row byte_string w h = h
   cut_row text_string w h = h
 
   not_chunk : (k : Kind) → ((w : Width) → Begins (kind_major k) 8 c w → ⊥)
-      → (c ≡ open_head (kind_major k) → ⊥) → Is (mismatch (kind_name k) c) cs e rest
-      → ChunkStopsBy k (initial c) c cs e rest
+      → (c ≡ indefinite_head (kind_major k) → ⊥) → Is (mismatch (kind_name k) c) cs e rest
+      → ChunkRejectsBy k (initial c) c cs e rest
   not_chunk k none closed h = by_test (eqb (c / 32) (kind_major k)) refl
     where
       by_info : c / 32 ≡ kind_major k → (x : Info) → info_of (c % 32) ≡ x
-          → ChunkStopsBy k (string_by_info k x) c cs e rest
+          → ChunkRejectsBy k (string_by_info k x) c cs e rest
       by_info m (wide w) is = absurd (none w (width_begins (kind_major k) c w m is))
-      by_info m open_ended is = absurd (closed (open_byte (kind_major k) c m is))
+      by_info m indefinite_ended is = absurd (closed (indefinite_byte (kind_major k) c m is))
       by_info m reserved is = bad_row k h
 
       by_test : (t : Bool) → eqb (c / 32) (kind_major k) ≡ t
-          → ChunkStopsBy k (initial c) c cs e rest
+          → ChunkRejectsBy k (initial c) c cs e rest
       by_test true is =
           let m = eqb-true (c / 32) (kind_major k) is in
-          subst (λ i. ChunkStopsBy k i c cs e rest) (sym (row_of k c m))
+          subst (λ i. ChunkRejectsBy k i c cs e rest) (sym (row_of k c m))
           (by_info m (info_of (c % 32)) refl)
       by_test false is =
-          subst (λ i. ChunkStopsBy k i c cs e rest) (sym (initial_of c (c / 32) refl))
+          subst (λ i. ChunkRejectsBy k i c cs e rest) (sym (initial_of c (c / 32) refl))
           (other_major k (c / 32) (c % 32) (λ m. (let t : eqb (c / 32)
           (kind_major k) ≡ true = eq-eqb (c / 32) (kind_major k) m in cc)) h)
 
-  by_head : (k : Kind) → (c ≡ open_head (kind_major k) → ⊥) → StopsHead (kind_name k)
-      (kind_major k) 8 (c ∷ cs) e rest → ChunkStopsBy k (initial c) c cs e rest
+  by_head : (k : Kind) → (c ≡ indefinite_head (kind_major k) → ⊥) → RejectsHead (kind_name k)
+      (kind_major k) 8 (c ∷ cs) e rest → ChunkRejectsBy k (initial c) c cs e rest
   by_head k closed (inl h) = not_chunk k h.none closed (h.answer, h.left)
   by_head k closed (inr h) =
       let r = cut_head k c cs e rest h in
-      subst (λ i. ChunkStopsBy k i c cs e rest) (sym r.row) (cut_row k r.width r.cut)
+      subst (λ i. ChunkRejectsBy k i c cs e rest) (sym r.row) (cut_row k r.width r.cut)
 
 has_step : (o : Budget) → o ≢ Some 0 → (inner : Budget) × (step_in o ≡ Some inner)
 has_step None h = (None, refl)
 has_step (Some zero) h = absurd (h refl)
 has_step (Some (suc n)) h = (Some n, refl)
 
-with_step : (k : Kind) (budget : Budget) (c : ℕ) (cs : List ℕ) (e : Refusal) (rest : List ℕ)
-    → budget ≢ Some 0 → c ≢ break → ChunkStopsBy k (initial c) c cs e rest
-    → NoBreak (ChunkStops k budget) (c ∷ cs) e rest
+with_step : (k : Kind) (budget : Budget) (c : ℕ) (cs : List ℕ) (e : InputError) (rest : List ℕ)
+    → budget ≢ Some 0 → c ≢ break → ChunkRejectsBy k (initial c) c cs e rest
+    → NoBreak (ChunkRejects k budget) (c ∷ cs) e rest
 with_step k budget c cs e rest some other h = (
   other,
-  subst (λ o. StopsAtStep (kind_name k) o (c ∷ cs)
-      (λ inner. ChunkStopsBy k (initial c) c cs) e rest) (sym (has_step budget some).1) h,
+  subst (λ o. RejectsAtStep (kind_name k) o (c ∷ cs)
+      (λ inner. ChunkRejectsBy k (initial c) c cs) e rest) (sym (has_step budget some).1) h,
 )
 
 begins_with : (b c : ℕ) (cs : List ℕ) → (take 1 (c ∷ cs) ≡ b ∷ [] → ⊥) → c ≡ b → ⊥
 begins_with b c cs h e = h (ap (λ d. d ∷ []) e)
 
-open_apart : (k : Kind) → open_head (kind_major k) ≢ break
-open_apart byte_string e = omega (arith, e)
-open_apart text_string e = omega (arith, e)
+indefinite_apart : (k : Kind) → indefinite_head (kind_major k) ≢ break
+indefinite_apart byte_string e = omega (arith, e)
+indefinite_apart text_string e = omega (arith, e)
 
-chunk_stops : (k : Kind) (budget : Budget) (xs : List ℕ) (e : Refusal) (rest : List ℕ)
-    → StopsChunk (kind_name k) (kind_major k) xs budget e rest
-    → NoBreak (ChunkStops k budget) xs e rest
-chunk_stops k budget [] e rest (no_chunk_byte none answer left) = (answer, left)
-chunk_stops k budget (c ∷ cs) e rest (no_chunk_byte none answer left) = cc
-chunk_stops k budget [] e rest (no_step some other step answer left) = absurd (some refl)
-chunk_stops k budget (c ∷ cs) e rest (no_step some other step answer left) = (
+chunk_rejects : (k : Kind) (budget : Budget) (xs : List ℕ) (e : InputError) (rest : List ℕ)
+    → RejectsChunk (kind_name k) (kind_major k) xs budget e rest
+    → NoBreak (ChunkRejects k budget) xs e rest
+chunk_rejects k budget [] e rest (no_chunk_byte none answer left) = (answer, left)
+chunk_rejects k budget (c ∷ cs) e rest (no_chunk_byte none answer left) = cc
+chunk_rejects k budget [] e rest (no_step some other step answer left) = absurd (some refl)
+chunk_rejects k budget (c ∷ cs) e rest (no_step some other step answer left) = (
   begins_with break c cs other,
-  subst (λ o. StopsAtStep (kind_name k) (step_in o) (c ∷ cs)
-      (λ inner. ChunkStopsBy k (initial c) c cs) e rest) (sym step) (answer, left),
+  subst (λ o. RejectsAtStep (kind_name k) (step_in o) (c ∷ cs)
+      (λ inner. ChunkRejectsBy k (initial c) c cs) e rest) (sym step) (answer, left),
 )
-chunk_stops k budget [] e rest (chunk_open step is answer) = cc
-chunk_stops k budget (c ∷ cs) e rest (chunk_open step is answer) =
-    let first : c ≡ open_head (kind_major k) = ap (λ z. get_or z 0 0) is in
+chunk_rejects k budget [] e rest (chunk_indefinite step is answer) = cc
+chunk_rejects k budget (c ∷ cs) e rest (chunk_indefinite step is answer) =
+    let first : c ≡ indefinite_head (kind_major k) = ap (λ z. get_or z 0 0) is in
     let left : rest ≡ cs = sym (ap (drop 1) is) in
-    with_step k budget c cs e rest step (λ f. open_apart k (sym first ∙ f))
-    (subst (λ i. ChunkStopsBy k i c cs e rest) (sym (ap initial first ∙ initial_chunks k))
-    (open_row c cs e rest k (answer, left)))
-chunk_stops k budget [] e rest (chunk_refused step other closed some h) = absurd (some refl)
-chunk_stops k budget (c ∷ cs) e rest (chunk_refused step other closed some h) =
+    with_step k budget c cs e rest step (λ f. indefinite_apart k (sym first ∙ f))
+    (subst (λ i. ChunkRejectsBy k i c cs e rest) (sym (ap initial first ∙ initial_chunks k))
+    (indefinite_row c cs e rest k (answer, left)))
+chunk_rejects k budget [] e rest (chunk_rejected step other closed some h) = absurd (some refl)
+chunk_rejects k budget (c ∷ cs) e rest (chunk_rejected step other closed some h) =
     with_step k budget c cs e rest step (begins_with break c cs other)
-    (by_head c cs e rest k (begins_with (open_head (kind_major k)) c cs closed) h)
-chunk_stops k budget [] e rest (chunk_cut step h) = absurd (omega (arith, ap length h.head.is))
-chunk_stops k budget (c ∷ cs) e rest (chunk_cut step h) =
+    (by_head c cs e rest k (begins_with (indefinite_head (kind_major k)) c cs closed) h)
+chunk_rejects k budget [] e rest (chunk_cut step h) = absurd (omega (arith, ap length h.head.is))
+chunk_rejects k budget (c ∷ cs) e rest (chunk_cut step h) =
     let r = cut_content k c cs e rest h in
     with_step k budget c cs e rest step (λ f. omega (arith, f, r.below))
-    (subst (λ i. ChunkStopsBy k i c cs e rest) (sym r.row)
+    (subst (λ i. ChunkRejectsBy k i c cs e rest) (sym r.row)
     (cut_row c cs e rest k r.width r.cut))
 
 -- ---- strings
 
-head_stops : (inner : Budget) (k : Kind) (b : ℕ) (bs : List ℕ) (e : Refusal) (rest : List ℕ)
-    → b / 32 ≡ kind_major k → (take 1 (b ∷ bs) ≡ open_head (kind_major k) ∷ [] → ⊥)
-    → StopsHead (kind_name k) (kind_major k) 8 (b ∷ bs) e rest → StopsUnder inner (b ∷ bs) e rest
-head_stops inner k b bs e rest m closed h =
+head_rejects : (inner : Budget) (k : Kind) (b : ℕ) (bs : List ℕ) (e : InputError) (rest : List ℕ)
+    → b / 32 ≡ kind_major k → (take 1 (b ∷ bs) ≡ indefinite_head (kind_major k) ∷ [] → ⊥)
+    → RejectsHead (kind_name k) (kind_major k) 8 (b ∷ bs) e rest → RejectsUnder inner
+    (b ∷ bs) e rest
+head_rejects inner k b bs e rest m closed h =
     at_row inner (string_by_info k (info_of (b % 32))) b bs e rest (row_of k b m)
     (by_info (info_of (b % 32)) refl)
   where
-    by_info : (i : Info) → info_of (b % 32) ≡ i → ReadingStopsBy
-        (λ left part. StopsReading part left) inner (string_by_info k i) b bs e rest
+    by_info : (i : Info) → info_of (b % 32) ≡ i → ReadingRejectsBy
+        (λ left part. ReadingRejects part left) inner (string_by_info k i) b bs e rest
     by_info (wide w) is = inl (inl (head_cut (kind_name k) (kind_major k) b bs w e rest m is h))
-    by_info open_ended is =
+    by_info indefinite_ended is =
         absurd
-        (begins_with (open_head (kind_major k)) b bs closed (open_byte (kind_major k) b m is))
+        (begins_with (indefinite_head (kind_major k)) b bs closed
+        (indefinite_byte (kind_major k) b m is))
     by_info reserved is = no_head (kind_name k) (kind_major k) b bs e rest (λ w f. cc) h
 
-pub string_stops : (inner : Budget) (k : Kind) (b : ℕ) (bs : List ℕ) (e : Refusal) (rest : List ℕ)
-    → b / 32 ≡ kind_major k → StopsString (kind_name k) (kind_major k) (b ∷ bs) inner e rest
-    → StopsUnder inner (b ∷ bs) e rest
-string_stops inner k b bs e rest m (string_head_refused closed h) =
-    head_stops inner k b bs e rest m closed h
-string_stops inner k b bs e rest m (string_cut h) =
+pub string_rejects : (inner : Budget) (k : Kind) (b : ℕ) (bs : List ℕ) (e : InputError)
+    (rest : List ℕ)
+    → b / 32 ≡ kind_major k → RejectsString (kind_name k) (kind_major k) (b ∷ bs) inner e rest
+    → RejectsUnder inner (b ∷ bs) e rest
+string_rejects inner k b bs e rest m (string_head_rejected closed h) =
+    head_rejects inner k b bs e rest m closed h
+string_rejects inner k b bs e rest m (string_cut h) =
     let r = cut_content k b bs e rest h in
     at_row inner (starts_string k r.width) b bs e rest r.row (inl r.cut)
-string_stops inner k b bs e rest m (string_open begins o) =
-    let first : b ≡ open_head (kind_major k) = ap (λ z. get_or z 0 0) begins in
+string_rejects inner k b bs e rest m (string_indefinite begins o) =
+    let first : b ≡ indefinite_head (kind_major k) = ap (λ z. get_or z 0 0) begins in
     let t = chunk_trees k o.chunks bs o.between o.read in
     at_row inner (starts_chunks k) b bs e rest (ap initial first ∙ initial_chunks k)
     (inl (record {
-      front = t.trees;
+      prefix = t.trees;
       after = drop o.between bs;
       whole = t.fit inner o.fits;
       is = t.is;
-      stopped = chunk_stops k inner (drop o.between bs) e rest o.stop;
+      stopped = chunk_rejects k inner (drop o.between bs) e rest o.stop;
     }))
 
-text_invalid : (inner : Budget) (b : ℕ) (bs content : List ℕ) (n c : ℕ) (e : Refusal)
+text_invalid : (inner : Budget) (b : ℕ) (bs content : List ℕ) (n c : ℕ) (e : InputError)
     (rest : List ℕ) → ReadsString 3 (b ∷ bs) content n c → CostFits c inner → (IsUtf8 content → ⊥)
     → e ≡ require_utf8 (kind_name text_string) → rest ≡ drop n (b ∷ bs)
-    → StopsUnder inner (b ∷ bs) e rest
+    → RejectsUnder inner (b ∷ bs) e rest
 text_invalid inner b bs content n c e rest (inl r) fits invalid answer left =
     let h = r.0.head in
     let first = first_of 3 (length content) h.wide b bs h.rest h.is in
@@ -459,28 +468,29 @@ text_invalid inner b bs content n c e rest (inl r) fits invalid answer left =
             content = content;
             long = refl;
             invalid = invalid;
-            is = content_behind 3
+            is = content_after 3
                 (b ∷ bs) content n r.0 ∙ ap (λ z. content ++ z) (sym left);
-            refusal = answer;
+            err = answer;
           };
     }))
 text_invalid inner b bs content n c e rest (inr r) fits invalid answer left =
-    let o = open_tree text_string (b ∷ bs) content n c r in
-    let first : b ≡ open_head 3 = ap (λ z. get_or z 0 0) o.begins in
+    let o = indefinite_tree text_string (b ∷ bs) content n c r in
+    let first : b ≡ indefinite_head 3 = ap (λ z. get_or z 0 0) o.begins in
     at_row inner (starts_chunks text_string) b bs e rest
     (ap initial first ∙ initial_chunks text_string)
     (inr (record {
       chunks = o.trees;
       whole = o.fit inner fits;
-      is = o.behind bs o.begins ∙ ap (λ z. bytes_all o.trees ++ break ∷ z) (sym left);
+      is = o.trailing bs o.begins ∙ ap (λ z. bytes_all o.trees ++ break ∷ z) (sym left);
       invalid = λ u. invalid (subst IsUtf8 (sym o.says) u);
-      refusal = answer;
+      err = answer;
     }))
 
-pub text_stops : (inner : Budget) (b : ℕ) (bs : List ℕ) (e : Refusal) (rest : List ℕ) → b / 32 ≡ 3
-    → StopsText (kind_name text_string) (b ∷ bs) inner e rest → StopsUnder inner (b ∷ bs) e rest
-text_stops inner b bs e rest m (no_string h) = string_stops inner text_string b bs e rest m h
-text_stops inner b bs e rest m (no_utf8 content n c r fits invalid answer left) =
+pub text_rejects : (inner : Budget) (b : ℕ) (bs : List ℕ) (e : InputError) (rest : List ℕ) →
+    b / 32 ≡ 3
+    → RejectsText (kind_name text_string) (b ∷ bs) inner e rest → RejectsUnder inner (b ∷ bs) e rest
+text_rejects inner b bs e rest m (no_string h) = string_rejects inner text_string b bs e rest m h
+text_rejects inner b bs e rest m (no_utf8 content n c r fits invalid answer left) =
     text_invalid inner b bs content n c e rest r fits invalid answer left
 
 -- ---- values

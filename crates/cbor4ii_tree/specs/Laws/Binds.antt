@@ -4,8 +4,8 @@ use Rattle.std.proofs.Common.{Ok, Err, Result, refl, sym, ap, arith, cond, true,
 use Rattle.cbor4ii_items.specs.Decoding.{CostFits}
 use Rattle.cbor4ii_items.specs.Reading.{Reading, go_on}
 use Rattle.cbor4ii_tree.specs.Cost.{Budget, step_in}
-use Rattle.cbor4ii_tree.specs.Refusal.{Refusal}
-use Rattle.cbor4ii_tree.specs.Stops.{Is, StopsAtStep}
+use Rattle.cbor4ii_tree.specs.InputError.{InputError}
+use Rattle.cbor4ii_tree.specs.Rejections.{Is, RejectsAtStep}
 use Rattle.cbor4ii_tree.specs.Parse.{Answer, ◌>>=◌, stepped}
 
 pub same_ok : {A E : Type 0} (r : Result A E) (x y : A) → r ≡ Ok x → r ≡ Ok y → x ≡ y
@@ -17,11 +17,12 @@ same_err r x y p q = cc
 pub apart : {A E : Type 0} (r : Result A E) (x : A) (y : E) → r ≡ Ok x → r ≡ Err y → ⊥
 apart r x y p q = cc
 
-pub no_err : {A : Type 0} (x : A × List ℕ) (z : Refusal × List ℕ)
+pub no_err : {A : Type 0} (x : A × List ℕ) (z : InputError × List ℕ)
     → ◌≡◌ {A = Answer A} (Ok x) (Err z) → ⊥
 no_err x z e = cc
 
-pub no_ok : {A : Type 0} (z : Refusal × List ℕ) (x : A × List ℕ) → ◌≡◌ {A = Answer A} (Err z) (Ok x)
+pub no_ok : {A : Type 0} (z : InputError × List ℕ) (x : A × List ℕ) → ◌≡◌ {A = Answer A}
+    (Err z) (Ok x)
     → ⊥
 no_ok z x e = cc
 
@@ -30,31 +31,32 @@ pub bind_ok : {A B : Type 0} (r : Answer A) (f : A × List ℕ → Answer B) (y 
 bind_ok (Ok x) f y e = (x, refl, e)
 bind_ok {B = B} (Err z) f y e = absurd (no_ok {A = B} z y e)
 
-pub bind_err : {A B : Type 0} (r : Answer A) (f : A × List ℕ → Answer B) (z : Refusal × List ℕ)
+pub bind_err : {A B : Type 0} (r : Answer A) (f : A × List ℕ → Answer B) (z : InputError × List ℕ)
     → (r >>= f) ≡ Err z → (r ≡ Err z) ⊎ ((x : A × List ℕ) × (r ≡ Ok x) × (f x ≡ Err z))
 bind_err (Ok x) f z e = inr (x, refl, e)
 bind_err {B = B} (Err y) f z e = inl (ap Err (same_err {A = B × List ℕ} (Err y) y z refl e))
 
-pub then_err : {A B : Type 0} (r : Answer A) (next : A → Reading B) (z : Refusal × List ℕ)
+pub then_err : {A B : Type 0} (r : Answer A) (next : A → Reading B) (z : InputError × List ℕ)
     → r ≡ Err z → go_on r next ≡ Err z
 then_err r next z e = rw e refl
 
-pub guard_ok : {A : Type 0} (b : Bool) (z : Refusal × List ℕ) (x y : A × List ℕ)
+pub guard_ok : {A : Type 0} (b : Bool) (z : InputError × List ℕ) (x y : A × List ℕ)
     → ◌≡◌ {A = Answer A} (cond b (Err z) (Ok x)) (Ok y) → (b ≡ false) × (x ≡ y)
 guard_ok {A} true z x y e = absurd (no_ok {A = A} z y e)
-guard_ok {A} false z x y e = (refl, same_ok {E = Refusal × List ℕ} (Ok x) x y refl e)
+guard_ok {A} false z x y e = (refl, same_ok {E = InputError × List ℕ} (Ok x) x y refl e)
 
-pub is_err : {A : Type 0} (f : Refusal) (left : List ℕ) (e : Refusal) (rest : List ℕ)
+pub is_err : {A : Type 0} (f : InputError) (left : List ℕ) (e : InputError) (rest : List ℕ)
     → ◌≡◌ {A = Answer A} (Err (f, left)) (Err (e, rest)) → Is f left e rest
 is_err {A} f left e rest h =
     let s = same_err {A = A × List ℕ} (Err (f, left)) (f, left) (e, rest) refl h in
-    (sym (ap (λ (p : Refusal × List ℕ). p.0) s), sym (ap (λ (p : Refusal × List ℕ). p.1) s))
+    (sym (ap (λ (p : InputError × List ℕ). p.0) s), sym (ap (λ (p : InputError × List ℕ). p.1) s))
 
-pub err : {A : Type 0} (f : Refusal) (left : List ℕ) (e : Refusal) (rest : List ℕ)
+pub err : {A : Type 0} (f : InputError) (left : List ℕ) (e : InputError) (rest : List ℕ)
     → Is f left e rest → ◌≡◌ {A = Answer A} (Err (f, left)) (Err (e, rest))
 err f left e rest h = cc
 
-pub guard_err : {A : Type 0} (b : Bool) (f : Refusal) (left : List ℕ) (x : A × List ℕ) (e : Refusal)
+pub guard_err : {A : Type 0} (b : Bool) (f : InputError) (left : List ℕ) (x : A × List ℕ)
+    (e : InputError)
     (rest : List ℕ) → ◌≡◌ {A = Answer A} (cond b (Err (f, left)) (Ok x)) (Err (e, rest))
     → (b ≡ true) × Is f left e rest
 guard_err {A} true f left x e rest h = (refl, is_err {A = A} f left e rest h)
@@ -99,17 +101,17 @@ stepped_ok {A} name None here next x e = absurd (no_ok {A = A} _ x e)
 stepped_ok name (Some inner) here next x e = (inner, refl, e)
 
 pub stepped_err : {A : Type 0} (name : List ℕ) (step : Option Budget) (here : List ℕ)
-    (next : Budget → Answer A) (stops : Budget → Refusal → List ℕ → Type 0) (e : Refusal)
+    (next : Budget → Answer A) (rejects : Budget → InputError → List ℕ → Type 0) (e : InputError)
     (rest : List ℕ)
-    → ((inner : Budget) → step ≡ Some inner → next inner ≡ Err (e, rest) → stops inner e rest)
-    → stepped name step here next ≡ Err (e, rest) → StopsAtStep name step here stops e rest
-stepped_err {A} name None here next stops e rest k x = is_err {A = A} _ _ _ _ x
-stepped_err name (Some inner) here next stops e rest k x = k inner refl x
+    → ((inner : Budget) → step ≡ Some inner → next inner ≡ Err (e, rest) → rejects inner e rest)
+    → stepped name step here next ≡ Err (e, rest) → RejectsAtStep name step here rejects e rest
+stepped_err {A} name None here next rejects e rest k x = is_err {A = A} _ _ _ _ x
+stepped_err name (Some inner) here next rejects e rest k x = k inner refl x
 
-pub stepped_stops : {A : Type 0} (name : List ℕ) (step : Option Budget) (here : List ℕ)
-    (next : Budget → Answer A) (stops : Budget → Refusal → List ℕ → Type 0) (e : Refusal)
+pub stepped_rejects : {A : Type 0} (name : List ℕ) (step : Option Budget) (here : List ℕ)
+    (next : Budget → Answer A) (rejects : Budget → InputError → List ℕ → Type 0) (e : InputError)
     (rest : List ℕ)
-    → ((inner : Budget) → step ≡ Some inner → stops inner e rest → next inner ≡ Err (e, rest))
-    → StopsAtStep name step here stops e rest → stepped name step here next ≡ Err (e, rest)
-stepped_stops name None here next stops e rest k x = err _ _ _ _ x
-stepped_stops name (Some inner) here next stops e rest k x = k inner refl x
+    → ((inner : Budget) → step ≡ Some inner → rejects inner e rest → next inner ≡ Err (e, rest))
+    → RejectsAtStep name step here rejects e rest → stepped name step here next ≡ Err (e, rest)
+stepped_rejects name None here next rejects e rest k x = err _ _ _ _ x
+stepped_rejects name (Some inner) here next rejects e rest k x = k inner refl x

@@ -5,11 +5,11 @@ use Rattle.std.proofs.lemmas.List.{length-take-le}
 use Rattle.std.proofs.Math.Seq.{take-append_seam}
 use Rattle.cbor4ii_tree.specs.declared.decode_canonical.Canonical.{Canonical}
 use Rattle.cbor4ii_tree.specs.Item.{Item}
-use Rattle.cbor4ii_tree.specs.Strict.{SpellsStrictly}
+use Rattle.cbor4ii_tree.specs.CanonicalShape.{EncodesCanonically}
 use Rattle.cbor4ii_tree.specs.View.{view}
 use Rattle.cbor4ii_tree.specs.Promises.{ReadsValue}
 use Rattle.cbor4ii_tree.specs.Canonically.{ReadsCanonicalItem, ReadsCanonical}
-use Rattle.cbor4ii_tree.specs.Canonically.{canonical_spelling}
+use Rattle.cbor4ii_tree.specs.Canonically.{canonical_format}
 use Rattle.cbor4ii_items.specs.Decoding.{IsLawful}
 use Rattle.cbor4ii_tree.specs.Laws.Values.{value_one, value_positive}
 
@@ -17,12 +17,12 @@ use Rattle.cbor4ii_tree.specs.Laws.Values.{value_one, value_positive}
 as_value : (xs : List ℕ) (v : Item) (n c : ℕ) → ReadsCanonicalItem xs v n c → ReadsValue xs v n c
 as_value xs v n c p = record {
   within = p.within;
-  spells = record {
-    spelled = p.spells.spelled;
-    plain = p.spells.canonical.0;
-    bytes_are = p.spells.bytes_are;
-    value_is = p.spells.value_is;
-    cost_is = p.spells.cost_is;
+  encodes = record {
+    of_tree = p.encodes.of_tree;
+    plain = p.encodes.canonical.0;
+    bytes_are = p.encodes.bytes_are;
+    value_is = p.encodes.value_is;
+    cost_is = p.encodes.cost_is;
   };
 }
 
@@ -43,14 +43,14 @@ pub canonical_alone : IsTrue true → (xs ys : List ℕ) (v : Canonical) (n c : 
     → ReadsCanonical xs v n c → ReadsCanonical (take n xs ++ ys) v n c
 canonical_alone e xs ys v n c p =
     let long : length (take n xs) ≡ n = length-take-le n xs p.within in
-    let front : take n (take n xs ++ ys) ≡ take n xs =
+    let prefix : take n (take n xs ++ ys) ≡ take n xs =
     ap (λ j. take j (take n xs ++ ys)) (sym long) ∙ take-append_seam (take n xs) ys in
     record {
       within = omega (arith, length-append (take n xs) ys, long);
-      spells = subst (λ z. SpellsStrictly z (view v.0) c) (sym front) p.spells;
+      encodes = subst (λ z. EncodesCanonically z (view v.0) c) (sym prefix) p.encodes;
     }
 
-pub canonical_lawful : IsLawful canonical_spelling
+pub canonical_lawful : IsLawful canonical_format
 canonical_lawful = record {
   one = canonical_one;
   within = canonical_within;

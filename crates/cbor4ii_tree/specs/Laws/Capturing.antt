@@ -3,9 +3,9 @@ use Rattle.std.proofs.Common.{◌≡◌, ℕ, ◌≤◌, List, ◌++◌, length,
 use Rattle.std.proofs.lemmas.List.{length-take-le}
 use Rattle.std.proofs.Math.Seq.{take-append_seam}
 use Rattle.cbor4ii_tree.specs.Laws.Ignoring.{tree_one, tree_within, tree_positive, tree_alone}
-use Rattle.cbor4ii_tree.specs.Raw.{ReadsRaw, raw_spelling}
-use Rattle.cbor4ii_items.specs.Laws.Spellings.{lawful_in_memory}
-use Rattle.cbor4ii_tree.specs.BoxedRaw.{boxed_content, boxed_raw_spelling}
+use Rattle.cbor4ii_tree.specs.Raw.{ReadsRaw, raw_format}
+use Rattle.cbor4ii_items.specs.Laws.Formats.{lawful_in_memory}
+use Rattle.cbor4ii_tree.specs.BoxedRaw.{boxed_content, boxed_raw_format}
 use Rattle.cbor4ii_items.specs.Decoding.{IsLawful}
 
 pub raw_one : {V : Type 0} (content : V → List ℕ) (xs : List ℕ) (v w : V) (n m c d : ℕ)
@@ -32,7 +32,7 @@ raw_alone content xs ys v n c p =
       p.1 ∙ (sym (take-append_seam t ys) ∙ ap (λ j. take j (t ++ ys)) size),
     )
 
-pub raw_lawful : {V : Type 0} (content : V → List ℕ) → IsLawful (raw_spelling content)
+pub raw_lawful : {V : Type 0} (content : V → List ℕ) → IsLawful (raw_format content)
 raw_lawful content = record {
   one = raw_one content;
   within = raw_within content;
@@ -40,5 +40,5 @@ raw_lawful content = record {
   alone = λ closed. raw_alone content;
 }
 
-pub boxed_raw_lawful : IsLawful boxed_raw_spelling
-boxed_raw_lawful = lawful_in_memory (raw_spelling boxed_content) (raw_lawful boxed_content)
+pub boxed_raw_lawful : IsLawful boxed_raw_format
+boxed_raw_lawful = lawful_in_memory (raw_format boxed_content) (raw_lawful boxed_content)

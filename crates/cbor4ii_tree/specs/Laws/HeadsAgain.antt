@@ -5,13 +5,13 @@ use Rattle.std.specs.Int.{bytes_high_first}
 use Rattle.cbor4ii_items.specs.Head.{Width, in_first, one, two, four, eight, HeadFits, additional}
 use Rattle.cbor4ii_items.specs.Head.{byte_count, head}
 use Rattle.cbor4ii_items.specs.Laws.Heads.{length-bytes_high_first}
-use Rattle.cbor4ii_tree.specs.Parse.{front_at, number_at, argument_of_width}
+use Rattle.cbor4ii_tree.specs.Parse.{prefix_at, number_at, argument_of_width}
 use Rattle.cbor4ii_tree.specs.Skip.{whole_number_at, whole_argument_at}
 use Rattle.cbor4ii_tree.specs.Laws.Numbers.{low_bytes}
 
-pub front_again : (name : List ℕ) (k : ℕ) (xs x : List ℕ) → length xs ≡ k
-    → front_at name k (xs ++ x) ≡ Ok (xs, x)
-front_again name k xs x e =
+pub prefix_again : (name : List ℕ) (k : ℕ) (xs x : List ℕ) → length xs ≡ k
+    → prefix_at name k (xs ++ x) ≡ Ok (xs, x)
+prefix_again name k xs x e =
     let room : k ≤ length (xs ++ x) = omega (arith, length-append xs x) in
     rw (le-ltb (length (xs ++ x)) k room, take_at xs x k e, drop_at xs x k e) refl
 
@@ -35,7 +35,7 @@ pub whole_number_again : (name : List ℕ) (k n : ℕ) (x : List ℕ) → n < 25
 whole_number_again name k n x h =
     let same : n % 256 ^ k ≡ n = mod-eq_of_lt h in
     rw (
-      front_again name k (bytes_high_first k n) x (length-bytes_high_first k n),
+      prefix_again name k (bytes_high_first k n) x (length-bytes_high_first k n),
       low_bytes k n,
       same,
     ) refl

@@ -5,27 +5,27 @@ use Rattle.std.proofs.Math.Seq.{take-append_seam, drop-append_seam}
 use Rattle.cbor4ii_tree.specs.declared.ignored.IgnoredAny.{IgnoredAny}
 use Rattle.cbor4ii_tree.specs.Tree.{Tree, bytes, Loose}
 use Rattle.cbor4ii_tree.specs.Cost.{skip_cost}
-use Rattle.cbor4ii_tree.specs.Ignored.{ReadsTree, ReadsIgnored, StopsIgnored}
-use Rattle.cbor4ii_items.specs.Decoding.{IsLawful, leaf_spelling}
+use Rattle.cbor4ii_tree.specs.Ignored.{ReadsTree, ReadsIgnored, RejectsIgnored}
+use Rattle.cbor4ii_items.specs.Decoding.{IsLawful, leaf_format}
 use Rattle.cbor4ii_tree.specs.Laws.SkippingAgain.{skip_again}
 use Rattle.cbor4ii_tree.specs.Skip.{skip}
 use Rattle.cbor4ii_tree.specs.Laws.Binds.{parts}
 use Rattle.cbor4ii_tree.specs.Laws.Initials.{length-bytes-pos}
 
-spelling_again : (t : Tree) (x : List ℕ) → Loose t → skip None (bytes t ++ x) ≡ Ok (t, x)
-spelling_again t x l = skip_again (suc (length (bytes t ++ x))) None t x (l, tt) (omega arith)
+encoding_again : (t : Tree) (x : List ℕ) → Loose t → skip None (bytes t ++ x) ≡ Ok (t, x)
+encoding_again t x l = skip_again (suc (length (bytes t ++ x))) None t x (l, tt) (omega arith)
 
-pub one_spelling : (t u : Tree) (x y : List ℕ) → Loose t → Loose u → bytes t ++ x ≡ bytes u ++ y
+pub one_encoding : (t u : Tree) (x y : List ℕ) → Loose t → Loose u → bytes t ++ x ≡ bytes u ++ y
     → (t ≡ u) × (x ≡ y)
-one_spelling t u x y l m e =
-    parts (skip None (bytes t ++ x)) t u x y (spelling_again t x l)
-    (subst (λ (z : List ℕ). skip None z ≡ Ok (u, y)) (sym e) (spelling_again u y m))
+one_encoding t u x y l m e =
+    parts (skip None (bytes t ++ x)) t u x y (encoding_again t x l)
+    (subst (λ (z : List ℕ). skip None z ≡ Ok (u, y)) (sym e) (encoding_again u y m))
 
 -- ---- a tree at the front
 
 pub tree_one : (xs : List ℕ) (n m c d : ℕ) → ReadsTree xs n c → ReadsTree xs m d → (n ≡ m) × (c ≡ d)
 tree_one xs n m c d p q =
-    let same = one_spelling p.spelled q.spelled (drop n xs)
+    let same = one_encoding p.of_tree q.of_tree (drop n xs)
     (drop m xs) p.loose q.loose (sym p.begins ∙ q.begins) in (
       p.size ∙ ap (λ t. length (bytes t)) same.0 ∙ sym q.size,
       p.cost ∙ ap skip_cost same.0 ∙ sym q.cost,
@@ -33,23 +33,23 @@ tree_one xs n m c d p q =
 
 pub tree_within : (xs : List ℕ) (n c : ℕ) → ReadsTree xs n c → n ≤ length xs
 tree_within xs n c p =
-    omega (arith, ap length p.begins, length-append (bytes p.spelled) (drop n xs), p.size)
+    omega (arith, ap length p.begins, length-append (bytes p.of_tree) (drop n xs), p.size)
 
 pub tree_positive : (xs : List ℕ) (n c : ℕ) → ReadsTree xs n c → 1 ≤ n
-tree_positive xs n c p = omega (arith, p.size, length-bytes-pos p.spelled)
+tree_positive xs n c p = omega (arith, p.size, length-bytes-pos p.of_tree)
 
 -- its bytes are the first n
-pub tree_front : (xs : List ℕ) (n c : ℕ) (p : ReadsTree xs n c) → take n xs ≡ bytes p.spelled
-tree_front xs n c p =
-    let t = bytes p.spelled in
+pub tree_prefix : (xs : List ℕ) (n c : ℕ) (p : ReadsTree xs n c) → take n xs ≡ bytes p.of_tree
+tree_prefix xs n c p =
+    let t = bytes p.of_tree in
     ap (take n) p.begins ∙ ap (λ j. take j (t ++ drop n xs)) p.size ∙ take-append_seam t (drop n xs)
 
 pub tree_alone : (xs ys : List ℕ) (n c : ℕ) → ReadsTree xs n c → ReadsTree (take n xs ++ ys) n c
 tree_alone xs ys n c p =
-    let t = bytes p.spelled in
-    let all : take n xs ++ ys ≡ t ++ ys = ap (λ z. z ++ ys) (tree_front xs n c p) in
+    let t = bytes p.of_tree in
+    let all : take n xs ++ ys ≡ t ++ ys = ap (λ z. z ++ ys) (tree_prefix xs n c p) in
     record {
-      spelled = p.spelled;
+      of_tree = p.of_tree;
       loose = p.loose;
       begins =
           all ∙ ap (λ z. t ++ z)
@@ -76,7 +76,7 @@ pub ignored_alone : IsTrue true → (xs ys : List ℕ) (v : IgnoredAny) (n c : �
     → ReadsIgnored xs v n c → ReadsIgnored (take n xs ++ ys) v n c
 ignored_alone e xs ys v n c p = tree_alone xs ys n c p
 
-pub ignored_lawful : IsLawful (leaf_spelling ReadsIgnored StopsIgnored)
+pub ignored_lawful : IsLawful (leaf_format ReadsIgnored RejectsIgnored)
 ignored_lawful = record {
   one = ignored_one;
   within = ignored_within;

@@ -1,15 +1,18 @@
 -- The initial bytes of trees.
 use Rattle.std.proofs.Common.{◌≡◌, ℕ, ◌+◌, ◌*◌, ◌<◌, ◌≤◌, List, ◌∷◌, length, refl, ap, ◌∙◌, arith}
-use Rattle.cbor4ii_items.specs.Head.{Width, HeadFits, additional, open_head}
+use Rattle.cbor4ii_items.specs.Head.{Width, HeadFits, additional, indefinite_head}
 use Rattle.cbor4ii_items.specs.Initial.{Sign, unsigned, negative, sign_major, Kind, byte_string}
 use Rattle.cbor4ii_items.specs.Initial.{text_string, kind_major, Simple, simple_false, simple_true}
 use Rattle.cbor4ii_items.specs.Initial.{simple_null, simple_undefined, simple_byte, Precision, half}
 use Rattle.cbor4ii_items.specs.Initial.{single, double, precision_byte, starts_int, starts_string}
-use Rattle.cbor4ii_items.specs.Initial.{starts_chunks, starts_array, starts_open_array, starts_map}
-use Rattle.cbor4ii_items.specs.Initial.{starts_open_map, starts_tag, starts_simple, starts_bits}
+use Rattle.cbor4ii_items.specs.Initial.{starts_chunks, starts_array, starts_indefinite_array}
+use Rattle.cbor4ii_items.specs.Initial.{starts_map}
+use Rattle.cbor4ii_items.specs.Initial.{starts_indefinite_map, starts_tag, starts_simple}
+use Rattle.cbor4ii_items.specs.Initial.{starts_bits}
 use Rattle.cbor4ii_items.specs.Initial.{initial, int_by_info, string_by_info, array_by_info}
 use Rattle.cbor4ii_items.specs.Initial.{map_by_info, tag_by_info}
-use Rattle.cbor4ii_tree.specs.Tree.{Tree, int, string, chunked, array, array_open, map_of, map_open}
+use Rattle.cbor4ii_tree.specs.Tree.{Tree, int, string, chunked, array, array_indefinite, map_of}
+use Rattle.cbor4ii_tree.specs.Tree.{map_indefinite}
 use Rattle.cbor4ii_tree.specs.Tree.{tagged, simple, bits, count, pair_count, bytes, Loose}
 use Rattle.cbor4ii_tree.specs.Laws.Numbers.{additional-lt, info-additional, initial-head}
 
@@ -39,7 +42,7 @@ pub initial_tag : (n : ℕ) (w : Width) → HeadFits w n
     → initial (32 * 6 + additional w n) ≡ starts_tag w
 initial_tag n w h = initial-head 6 n w h ∙ ap tag_by_info (info-additional n w h)
 
-pub initial_chunks : (k : Kind) → initial (open_head (kind_major k)) ≡ starts_chunks k
+pub initial_chunks : (k : Kind) → initial (indefinite_head (kind_major k)) ≡ starts_chunks k
 unfolding initial
 initial_chunks byte_string = refl
 initial_chunks text_string = refl
@@ -57,13 +60,13 @@ initial_bits half = refl
 initial_bits single = refl
 initial_bits double = refl
 
-pub initial_open_array : initial (open_head 4) ≡ starts_open_array
+pub initial_indefinite_array : initial (indefinite_head 4) ≡ starts_indefinite_array
 unfolding initial
-initial_open_array = refl
+initial_indefinite_array = refl
 
-pub initial_open_map : initial (open_head 5) ≡ starts_open_map
+pub initial_indefinite_map : initial (indefinite_head 5) ≡ starts_indefinite_map
 unfolding initial
-initial_open_map = refl
+initial_indefinite_map = refl
 
 -- ---- the first byte of a tree is no break
 
@@ -99,9 +102,9 @@ begins (string k w content) l =
     (_, _, refl, head_below (kind_major k) (length content) w (kind_below k) l)
 begins (chunked k ts) l = (_, _, refl, omega (arith, kind_below k))
 begins (array w ts) l = (_, _, refl, head_below 4 (count ts) w (omega arith) l.0)
-begins (array_open ts) l = (_, _, refl, omega arith)
+begins (array_indefinite ts) l = (_, _, refl, omega arith)
 begins (map_of w ps) l = (_, _, refl, head_below 5 (pair_count ps) w (omega arith) l.0)
-begins (map_open ps) l = (_, _, refl, omega arith)
+begins (map_indefinite ps) l = (_, _, refl, omega arith)
 begins (tagged n w t) l = (_, _, refl, head_below 6 n w (omega arith) l.0)
 begins (simple s) l = (_, _, refl, simple_below s)
 begins (bits p n) l = (_, _, refl, precision_below p)

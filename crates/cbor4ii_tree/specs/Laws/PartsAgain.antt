@@ -4,9 +4,9 @@ use Rattle.std.proofs.Common.{◌∙◌, arith, subst, ne_eqb, append_assoc, len
 use Rattle.cbor4ii_items.specs.Head.{break}
 use Rattle.cbor4ii_tree.specs.Tree.{Tree, Trees, no_trees, tree, Pairs, no_pairs, pair, count}
 use Rattle.cbor4ii_tree.specs.Tree.{pair_count, bytes, bytes_all, bytes_pairs}
-use Rattle.cbor4ii_tree.specs.Stops.{Each, EachPair}
-use Rattle.cbor4ii_tree.specs.Parse.{Parser, ◌>>=◌, trees_at, pairs_at, open_trees_at}
-use Rattle.cbor4ii_tree.specs.Parse.{open_pairs_at}
+use Rattle.cbor4ii_tree.specs.Rejections.{Each, EachPair}
+use Rattle.cbor4ii_tree.specs.Parse.{Parser, ◌>>=◌, trees_at, pairs_at, indefinite_trees_at}
+use Rattle.cbor4ii_tree.specs.Parse.{indefinite_pairs_at}
 use Rattle.cbor4ii_tree.specs.Laws.Initials.{BeginsNoBreak, length-bytes-pos}
 
 -- below so many bytes, whole items are read back
@@ -24,18 +24,19 @@ shorter a b bound h = omega (arith, length-append a b)
 pub pair_split : (a b c x : List ℕ) → (a ++ (b ++ c)) ++ x ≡ a ++ (b ++ (c ++ x))
 pair_split a b c x = simp append_assoc
 
--- a turn of an open sequence reads an item
-pub open_turn : (item : Parser Tree) (n : ℕ) (bs x : List ℕ) → BeginsNoBreak bs
-    → open_trees_at item (suc n)
-    (bs ++ x) ≡ (item (bs ++ x) >>= λ p. open_trees_at item n p.1 >>= λ q. Ok (tree p.0 q.0, q.1))
-unfolding open_trees_at
-open_turn item n bs x h = rw (h.2, ne_eqb h.0 255 (omega arith)) refl
+-- a turn of an indefinite-length sequence reads an item
+pub indefinite_turn : (item : Parser Tree) (n : ℕ) (bs x : List ℕ) → BeginsNoBreak bs
+    → indefinite_trees_at item (suc n)
+    (bs ++ x) ≡ (item (bs ++ x) >>= λ p. indefinite_trees_at item n p.1 >>= λ q. Ok
+    (tree p.0 q.0, q.1))
+unfolding indefinite_trees_at
+indefinite_turn item n bs x h = rw (h.2, ne_eqb h.0 255 (omega arith)) refl
 
-pub open_pair_turn : (item : Parser Tree) (n : ℕ) (bs x : List ℕ) → BeginsNoBreak bs
-    → open_pairs_at item (suc n) (bs ++ x) ≡ (item (bs ++ x) >>= λ k. item k.1
-    >>= λ v. open_pairs_at item n v.1 >>= λ q. Ok (pair k.0 v.0 q.0, q.1))
-unfolding open_pairs_at
-open_pair_turn item n bs x h = rw (h.2, ne_eqb h.0 255 (omega arith)) refl
+pub indefinite_pair_turn : (item : Parser Tree) (n : ℕ) (bs x : List ℕ) → BeginsNoBreak bs
+    → indefinite_pairs_at item (suc n) (bs ++ x) ≡ (item (bs ++ x) >>= λ k. item k.1
+    >>= λ v. indefinite_pairs_at item n v.1 >>= λ q. Ok (pair k.0 v.0 q.0, q.1))
+unfolding indefinite_pairs_at
+indefinite_pair_turn item n bs x h = rw (h.2, ne_eqb h.0 255 (omega arith)) refl
 
 pub trees_again : (item : Parser Tree) (Whole : Tree → Type 0) (bound : ℕ) → Again item Whole bound
     → (ts : Trees) (x : List ℕ) → Each Whole ts → length (bytes_all ts ++ x) < bound
@@ -70,50 +71,51 @@ pairs_again item Whole bound a (pair k v ps) x w lt =
       pairs_again item Whole bound a ps x w.2 (shorter (bytes v) rest bound lt3),
     ) refl
 
-open_end : (item : Parser Tree) (n : ℕ) (x : List ℕ)
-    → open_trees_at item (suc n) (break ∷ x) ≡ Ok (no_trees, x)
-unfolding open_trees_at
-open_end item n x = refl
+indefinite_end : (item : Parser Tree) (n : ℕ) (x : List ℕ)
+    → indefinite_trees_at item (suc n) (break ∷ x) ≡ Ok (no_trees, x)
+unfolding indefinite_trees_at
+indefinite_end item n x = refl
 
-open_pairs_end : (item : Parser Tree) (n : ℕ) (x : List ℕ)
-    → open_pairs_at item (suc n) (break ∷ x) ≡ Ok (no_pairs, x)
-unfolding open_pairs_at
-open_pairs_end item n x = refl
+indefinite_pairs_end : (item : Parser Tree) (n : ℕ) (x : List ℕ)
+    → indefinite_pairs_at item (suc n) (break ∷ x) ≡ Ok (no_pairs, x)
+unfolding indefinite_pairs_at
+indefinite_pairs_end item n x = refl
 
 -- where the bytes are no more than the turns, these are enough
-pub open_trees_again : (item : Parser Tree) (Whole : Tree → Type 0) (bound : ℕ)
+pub indefinite_trees_again : (item : Parser Tree) (Whole : Tree → Type 0) (bound : ℕ)
     → Again item Whole bound → StartNoBreak Whole → (ts : Trees) (n : ℕ) (x : List ℕ)
     → Each Whole ts → length (bytes_all ts ++ break ∷ x) ≤ n
     → length (bytes_all ts ++ break ∷ x) < bound
-    → open_trees_at item n (bytes_all ts ++ break ∷ x) ≡ Ok (ts, x)
-open_trees_again item Whole bound a s no_trees zero x w more lt = absurd (omega arith)
-open_trees_again item Whole bound a s no_trees (suc n) x w more lt = open_end item n x
-open_trees_again item Whole bound a s (tree t ts) zero x w more lt =
+    → indefinite_trees_at item n (bytes_all ts ++ break ∷ x) ≡ Ok (ts, x)
+indefinite_trees_again item Whole bound a s no_trees zero x w more lt = absurd (omega arith)
+indefinite_trees_again item Whole bound a s no_trees (suc n) x w more lt = indefinite_end item n x
+indefinite_trees_again item Whole bound a s (tree t ts) zero x w more lt =
     absurd (omega (arith, length-append (bytes t ++ bytes_all ts) (break ∷ x)))
-open_trees_again item Whole bound a s (tree t ts) (suc n) x w more lt =
+indefinite_trees_again item Whole bound a s (tree t ts) (suc n) x w more lt =
     let rest : List ℕ = bytes_all ts ++ break ∷ x in
     let same : (bytes t ++ bytes_all ts) ++ break ∷ x ≡ bytes t ++ rest =
     append_assoc (bytes t) (bytes_all ts) (break ∷ x) in
     let lt2 : length (bytes t ++ rest) < bound = subst (λ y. length y < bound) same lt in
     let fewer : length rest ≤ n =
     omega (arith, ap length same, length-append (bytes t) rest, length-bytes-pos t) in
-    ap (open_trees_at item (suc n)) same
-    ∙ (open_turn item n (bytes t) rest (s t w.0) ∙ rw (
+    ap (indefinite_trees_at item (suc n)) same
+    ∙ (indefinite_turn item n (bytes t) rest (s t w.0) ∙ rw (
       a t rest w.0 lt2,
-      open_trees_again item Whole
+      indefinite_trees_again item Whole
           bound a s ts n x w.1 fewer (shorter (bytes t) rest bound lt2),
     ) refl)
 
-pub open_pairs_again : (item : Parser Tree) (Whole : Tree → Type 0) (bound : ℕ)
+pub indefinite_pairs_again : (item : Parser Tree) (Whole : Tree → Type 0) (bound : ℕ)
     → Again item Whole bound → StartNoBreak Whole → (ps : Pairs) (n : ℕ) (x : List ℕ)
     → EachPair Whole ps → length (bytes_pairs ps ++ break ∷ x) ≤ n
     → length (bytes_pairs ps ++ break ∷ x) < bound
-    → open_pairs_at item n (bytes_pairs ps ++ break ∷ x) ≡ Ok (ps, x)
-open_pairs_again item Whole bound a s no_pairs zero x w more lt = absurd (omega arith)
-open_pairs_again item Whole bound a s no_pairs (suc n) x w more lt = open_pairs_end item n x
-open_pairs_again item Whole bound a s (pair k v ps) zero x w more lt =
+    → indefinite_pairs_at item n (bytes_pairs ps ++ break ∷ x) ≡ Ok (ps, x)
+indefinite_pairs_again item Whole bound a s no_pairs zero x w more lt = absurd (omega arith)
+indefinite_pairs_again item Whole bound a s no_pairs (suc n) x w more lt =
+    indefinite_pairs_end item n x
+indefinite_pairs_again item Whole bound a s (pair k v ps) zero x w more lt =
     absurd (omega (arith, length-append (bytes k ++ (bytes v ++ bytes_pairs ps)) (break ∷ x)))
-open_pairs_again item Whole bound a s (pair k v ps) (suc n) x w more lt =
+indefinite_pairs_again item Whole bound a s (pair k v ps) (suc n) x w more lt =
     let rest : List ℕ = bytes_pairs ps ++ break ∷ x in
     let same : (bytes k ++ (bytes v ++ bytes_pairs ps)) ++ break ∷ x ≡ bytes k
     ++ (bytes v ++ rest) = pair_split (bytes k) (bytes v) (bytes_pairs ps) (break ∷ x) in
@@ -128,11 +130,11 @@ open_pairs_again item Whole bound a s (pair k v ps) (suc n) x w more lt =
       length-append (bytes v) rest,
       length-bytes-pos k,
     ) in
-    ap (open_pairs_at item (suc n)) same
-    ∙ (open_pair_turn item n (bytes k) (bytes v ++ rest) (s k w.0)
+    ap (indefinite_pairs_at item (suc n)) same
+    ∙ (indefinite_pair_turn item n (bytes k) (bytes v ++ rest) (s k w.0)
     ∙ rw (
       a k (bytes v ++ rest) w.0 lt2,
       a v rest w.1 lt3,
-      open_pairs_again item Whole bound
+      indefinite_pairs_again item Whole bound
           a s ps n x w.2 fewer (shorter (bytes v) rest bound lt3),
     ) refl)

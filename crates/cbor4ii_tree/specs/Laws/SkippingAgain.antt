@@ -4,26 +4,27 @@ use Rattle.std.proofs.Common.{ap, ◌∙◌, arith, append_assoc, length-append}
 use Rattle.std.specs.Int.{bytes_high_first}
 use Rattle.cbor4ii_items.specs.Head.{byte_count, break}
 use Rattle.cbor4ii_items.specs.Initial.{sign_major, kind_major, precision_bytes, Initial, initial}
-use Rattle.cbor4ii_tree.specs.Tree.{Tree, int, string, chunked, array, array_open, map_of, map_open}
+use Rattle.cbor4ii_tree.specs.Tree.{Tree, int, string, chunked, array, array_indefinite, map_of}
+use Rattle.cbor4ii_tree.specs.Tree.{map_indefinite}
 use Rattle.cbor4ii_tree.specs.Tree.{tagged, simple, bits, count, pair_count, bytes, bytes_all}
 use Rattle.cbor4ii_tree.specs.Tree.{bytes_pairs, Loose}
 use Rattle.cbor4ii_items.specs.Decoding.{CostFits}
 use Rattle.cbor4ii_items.specs.Laws.SequenceParts.{fits_less}
 use Rattle.cbor4ii_tree.specs.Cost.{Budget, skip_cost}
-use Rattle.cbor4ii_tree.specs.Refusal.{ignored_any, tag_name}
-use Rattle.cbor4ii_tree.specs.StopsSkipping.{Skippable}
+use Rattle.cbor4ii_tree.specs.InputError.{ignored_any, tag_name}
+use Rattle.cbor4ii_tree.specs.SkippingRejects.{Skippable}
 use Rattle.cbor4ii_tree.specs.Parse.{Parser}
 use Rattle.cbor4ii_tree.specs.Skip.{skip_by, skip_from, skip_within}
 use Rattle.cbor4ii_tree.specs.Laws.Binds.{left, step_left}
 use Rattle.cbor4ii_tree.specs.Laws.Budgets.{fits_left}
 use Rattle.cbor4ii_tree.specs.Laws.Initials.{initial_int, initial_string, initial_array}
 use Rattle.cbor4ii_tree.specs.Laws.Initials.{initial_map, initial_tag, initial_chunks}
-use Rattle.cbor4ii_tree.specs.Laws.Initials.{initial_simple, initial_bits, initial_open_array}
-use Rattle.cbor4ii_tree.specs.Laws.Initials.{initial_open_map, begins}
-use Rattle.cbor4ii_tree.specs.Laws.HeadsAgain.{front_again, argument_again, whole_argument_again}
+use Rattle.cbor4ii_tree.specs.Laws.Initials.{initial_simple, initial_bits, initial_indefinite_array}
+use Rattle.cbor4ii_tree.specs.Laws.Initials.{initial_indefinite_map, begins}
+use Rattle.cbor4ii_tree.specs.Laws.HeadsAgain.{prefix_again, argument_again, whole_argument_again}
 use Rattle.cbor4ii_tree.specs.Laws.HeadsAgain.{whole_number_again}
 use Rattle.cbor4ii_tree.specs.Laws.PartsAgain.{Again, StartNoBreak, trees_again, pairs_again}
-use Rattle.cbor4ii_tree.specs.Laws.PartsAgain.{open_trees_again, open_pairs_again}
+use Rattle.cbor4ii_tree.specs.Laws.PartsAgain.{indefinite_trees_again, indefinite_pairs_again}
 use Rattle.cbor4ii_tree.specs.Laws.Wholes.{each_skippable, each_pair_skippable}
 
 pub skippable_starts : (b : Budget) → StartNoBreak (Skippable b)
@@ -33,15 +34,15 @@ pub skip_cost-pos : (t : Tree) → 1 ≤ skip_cost t
 skip_cost-pos (int s n w) = omega arith
 skip_cost-pos _ = omega arith
 
--- behind the initial byte, and behind the head
-pub behind_head : (xs ys x : List ℕ) (n : ℕ) → suc (length ((xs ++ ys) ++ x)) < suc n
+-- after the initial byte, and after the head
+pub following_head : (xs ys x : List ℕ) (n : ℕ) → suc (length ((xs ++ ys) ++ x)) < suc n
     → length (ys ++ x) < n
-behind_head xs ys x n h =
+following_head xs ys x n h =
     omega (arith, length-append (xs ++ ys) x, length-append xs ys, length-append ys x)
 
-pub behind_open : (xs x : List ℕ) (n : ℕ) → suc (length ((xs ++ break ∷ []) ++ x)) < suc n
+pub after_indefinite : (xs x : List ℕ) (n : ℕ) → suc (length ((xs ++ break ∷ []) ++ x)) < suc n
     → length (xs ++ break ∷ x) < n
-behind_open xs x n h = omega (arith, ap length (append_assoc xs (break ∷ []) x))
+after_indefinite xs x n h = omega (arith, ap length (append_assoc xs (break ∷ []) x))
 
 by_initial : (item : Parser Tree) (b : ℕ) (bs : List ℕ) (i : Initial) → initial b ≡ i
     → skip_from item (b ∷ bs) ≡ skip_by item i b bs
@@ -58,19 +59,19 @@ from_again item n b a (string k w content) x l f lt =
     ∙ rw (
       append_assoc (bytes_high_first (byte_count w) (length content)) content x,
       argument_again ignored_any (kind_major k) (length content) w (content ++ x) l,
-      front_again ignored_any (length content) content x refl,
+      prefix_again ignored_any (length content) content x refl,
     ) refl
 from_again item n b a (chunked k ts) x l f lt =
-    let lt2 = behind_open (bytes_all ts) x n lt in
+    let lt2 = after_indefinite (bytes_all ts) x n lt in
     by_initial item _ _ _ (initial_chunks k)
     ∙ rw (
       append_assoc (bytes_all ts) (break ∷ []) x,
-      open_trees_again item (Skippable (left b)) n a
+      indefinite_trees_again item (Skippable (left b)) n a
           (skippable_starts (left b)) ts (suc (length (bytes_all ts ++ break ∷ x))) x
           (each_skippable ts (left b) l (fits_left _ b f)) (omega arith) lt2,
     ) refl
 from_again item n b a (array w ts) x l f lt =
-    let lt2 = behind_head (bytes_high_first (byte_count w) (count ts)) (bytes_all ts) x n lt in
+    let lt2 = following_head (bytes_high_first (byte_count w) (count ts)) (bytes_all ts) x n lt in
     by_initial item _ _ _ (initial_array (count ts) w l.0)
     ∙ rw (
       append_assoc (bytes_high_first (byte_count w) (count ts)) (bytes_all ts) x,
@@ -79,18 +80,18 @@ from_again item n b a (array w ts) x l f lt =
           (Skippable (left b)) n a ts x (each_skippable ts (left b) l.1 (fits_left _ b f)) lt2,
     )
     refl
-from_again item n b a (array_open ts) x l f lt =
-    let lt2 = behind_open (bytes_all ts) x n lt in
-    by_initial item _ _ _ initial_open_array
+from_again item n b a (array_indefinite ts) x l f lt =
+    let lt2 = after_indefinite (bytes_all ts) x n lt in
+    by_initial item _ _ _ initial_indefinite_array
     ∙ rw (
       append_assoc (bytes_all ts) (break ∷ []) x,
-      open_trees_again item (Skippable (left b)) n a
+      indefinite_trees_again item (Skippable (left b)) n a
           (skippable_starts (left b)) ts (suc (length (bytes_all ts ++ break ∷ x))) x
           (each_skippable ts (left b) l (fits_left _ b f)) (omega arith) lt2,
     ) refl
 from_again item n b a (map_of w ps) x l f lt =
     let lt2 =
-    behind_head (bytes_high_first (byte_count w) (pair_count ps)) (bytes_pairs ps) x n lt in
+    following_head (bytes_high_first (byte_count w) (pair_count ps)) (bytes_pairs ps) x n lt in
     by_initial item _ _ _ (initial_map (pair_count ps) w l.0)
     ∙ rw (
       append_assoc (bytes_high_first (byte_count w) (pair_count ps)) (bytes_pairs ps) x,
@@ -98,17 +99,17 @@ from_again item n b a (map_of w ps) x l f lt =
       pairs_again item (Skippable (left b)) n a ps x
           (each_pair_skippable ps (left b) l.1 (fits_left _ b f)) lt2,
     ) refl
-from_again item n b a (map_open ps) x l f lt =
-    let lt2 = behind_open (bytes_pairs ps) x n lt in
-    by_initial item _ _ _ initial_open_map
+from_again item n b a (map_indefinite ps) x l f lt =
+    let lt2 = after_indefinite (bytes_pairs ps) x n lt in
+    by_initial item _ _ _ initial_indefinite_map
     ∙ rw (
       append_assoc (bytes_pairs ps) (break ∷ []) x,
-      open_pairs_again item (Skippable (left b)) n
+      indefinite_pairs_again item (Skippable (left b)) n
           a (skippable_starts (left b)) ps (suc (length (bytes_pairs ps ++ break ∷ x))) x
           (each_pair_skippable ps (left b) l (fits_left _ b f)) (omega arith) lt2,
     ) refl
 from_again item n b a (tagged m w t) x l f lt =
-    let lt2 = behind_head (bytes_high_first (byte_count w) m) (bytes t) x n lt in
+    let lt2 = following_head (bytes_high_first (byte_count w) m) (bytes t) x n lt in
     by_initial item _ _ _ (initial_tag m w l.0)
     ∙ rw (
       append_assoc (bytes_high_first (byte_count w) m) (bytes t) x,

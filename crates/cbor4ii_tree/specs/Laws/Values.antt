@@ -8,28 +8,28 @@ use Rattle.cbor4ii_tree.specs.Tree.{bytes}
 use Rattle.cbor4ii_tree.specs.Item.{Item}
 use Rattle.cbor4ii_tree.specs.Meaning.{value}
 use Rattle.cbor4ii_tree.specs.Cost.{cost}
-use Rattle.cbor4ii_tree.specs.Spelling.{Spells}
+use Rattle.cbor4ii_tree.specs.Encodings.{Encodes}
 use Rattle.cbor4ii_tree.specs.View.{view}
-use Rattle.cbor4ii_tree.specs.Promises.{ReadsValue, value_spelling}
+use Rattle.cbor4ii_tree.specs.Promises.{ReadsValue, value_format}
 use Rattle.cbor4ii_items.specs.Decoding.{IsLawful}
-use Rattle.cbor4ii_tree.specs.Laws.Ignoring.{one_spelling}
+use Rattle.cbor4ii_tree.specs.Laws.Ignoring.{one_encoding}
 use Rattle.cbor4ii_tree.specs.Laws.Initials.{length-bytes-pos}
 
 -- so many bytes are those of the tree
 pub size_is : (xs : List ℕ) (v : Item) (n c : ℕ) → (p : ReadsValue xs v n c)
-    → n ≡ length (bytes p.spells.spelled)
-size_is xs v n c p = sym (length-take-le n xs p.within) ∙ ap length (sym p.spells.bytes_are)
+    → n ≡ length (bytes p.encodes.of_tree)
+size_is xs v n c p = sym (length-take-le n xs p.within) ∙ ap length (sym p.encodes.bytes_are)
 
 pub begins : (xs : List ℕ) (v : Item) (n c : ℕ) → (p : ReadsValue xs v n c)
-    → xs ≡ bytes p.spells.spelled ++ drop n xs
-begins xs v n c p = sym (take-append-drop n xs) ∙ ap (λ z. z ++ drop n xs) (sym p.spells.bytes_are)
+    → xs ≡ bytes p.encodes.of_tree ++ drop n xs
+begins xs v n c p = sym (take-append-drop n xs) ∙ ap (λ z. z ++ drop n xs) (sym p.encodes.bytes_are)
 
 pub value_one : (xs : List ℕ) (v w : Value) (n m c d : ℕ) → ReadsValue xs (view v) n c
     → ReadsValue xs (view w) m d → (n ≡ m) × (c ≡ d) × (view v ≡ view w)
 value_one xs v w n m c d p q =
-    let s = p.spells in
-    let t = q.spells in
-    let same = one_spelling s.spelled t.spelled (drop n xs) (drop m xs) s.plain.0 t.plain.0
+    let s = p.encodes in
+    let t = q.encodes in
+    let same = one_encoding s.of_tree t.of_tree (drop n xs) (drop m xs) s.plain.0 t.plain.0
     (sym (begins xs (view v) n c p) ∙ begins xs (view w) m d q) in (
       size_is xs (view v) n c p ∙ ap (λ t. length (bytes t)) same.0
           ∙ sym (size_is xs (view w) m d q),
@@ -43,20 +43,20 @@ value_within xs v n c p = p.within
 pub value_positive : IsTrue true → (xs : List ℕ) (v : Value) (n c : ℕ) → ReadsValue xs (view v) n c
     → 1 ≤ n
 value_positive e xs v n c p =
-    omega (arith, size_is xs (view v) n c p, length-bytes-pos p.spells.spelled)
+    omega (arith, size_is xs (view v) n c p, length-bytes-pos p.encodes.of_tree)
 
 pub value_alone : IsTrue true → (xs ys : List ℕ) (v : Value) (n c : ℕ) → ReadsValue xs (view v) n c
     → ReadsValue (take n xs ++ ys) (view v) n c
 value_alone e xs ys v n c p =
     let long : length (take n xs) ≡ n = length-take-le n xs p.within in
-    let front : take n (take n xs ++ ys) ≡ take n xs =
+    let prefix : take n (take n xs ++ ys) ≡ take n xs =
     ap (λ j. take j (take n xs ++ ys)) (sym long) ∙ take-append_seam (take n xs) ys in
     record {
       within = omega (arith, length-append (take n xs) ys, long);
-      spells = subst (λ z. Spells z (view v) c) (sym front) p.spells;
+      encodes = subst (λ z. Encodes z (view v) c) (sym prefix) p.encodes;
     }
 
-pub value_lawful : IsLawful value_spelling
+pub value_lawful : IsLawful value_format
 value_lawful =
     record {
       one = value_one;

@@ -8,9 +8,9 @@ use Rattle.cbor4ii_items.specs.Laws.Answering.{fits_zero}
 use Rattle.cbor4ii_items.specs.Laws.SequenceParts.{fits_less, fits_max}
 use Rattle.cbor4ii_tree.specs.Cost.{Budget, cost, greatest_cost, greatest_pair_cost, skip_cost}
 use Rattle.cbor4ii_tree.specs.Cost.{greatest_skip_cost, greatest_pair_skip_cost}
-use Rattle.cbor4ii_tree.specs.Stops.{Each, EachPair}
-use Rattle.cbor4ii_tree.specs.StopsSkipping.{Skippable}
-use Rattle.cbor4ii_tree.specs.StopsReading.{Readable, ReadableChunk}
+use Rattle.cbor4ii_tree.specs.Rejections.{Each, EachPair}
+use Rattle.cbor4ii_tree.specs.SkippingRejects.{Skippable}
+use Rattle.cbor4ii_tree.specs.ReadingRejects.{Readable, ReadableChunk}
 
 pub each_skippable : (ts : Trees) (b : Budget) → LooseAll ts → CostFits (greatest_skip_cost ts) b
     → Each (Skippable b) ts

@@ -1,4 +1,4 @@
-//! Rows of integers of 128 bits: those of one head, bignums (RFC 8949 section 3.4.3), and refusals.
+//! Rows of integers of 128 bits: those of one head, bignums (RFC 8949 section 3.4.3), and errors.
 use crate::numbers::signed::SIGNED_INTEGERS;
 use crate::numbers::unsigned::UNSIGNED_INTEGERS;
 use cbor4ii_vectors::rows::{Row, reads_rows, texts_go_both_ways, writes_in, writes_rows};
@@ -25,11 +25,11 @@ const LEAST: &[u8] = b"\xc3\x50\x7f\xff\xff\xff\xff\xff\xff\xff\xff\xff\xff\xff\
 // The least number that is no bignum.
 const LEAST_OF_ONE_HEAD: &[u8] = b"\x3b\xff\xff\xff\xff\xff\xff\xff\xff";
 
-// More bytes than a bignum of 128 bits has, and these behind its head.
+// More bytes than a bignum of 128 bits has, and these after its head.
 const SEVENTEEN: &[u8] =
     b"\xc2\x51\x01\x02\x03\x04\x05\x06\x07\x08\x09\x0a\x0b\x0c\x0d\x0e\x0f\x10\x11";
 
-const BEHIND_SEVENTEEN: &[u8] =
+const AFTER_SEVENTEEN: &[u8] =
     b"\x01\x02\x03\x04\x05\x06\x07\x08\x09\x0a\x0b\x0c\x0d\x0e\x0f\x10\x11";
 
 // One more than the greatest number of i128.
@@ -47,7 +47,7 @@ const U128: &[Row<u128>] = table! {
     (b"\xd9\x00\x02\x41\x05", Err(mismatch!("u128", 0xd9)), b"\x00\x02\x41\x05"),
     (b"\xc3\x40", Err(mismatch!("u128::tag", 0x03)), b"\x40"),
     (b"\xc2\x5f", Err(require_length!("u128::bytes")), b""),
-    (SEVENTEEN, Err(length_overflow!("u128::bytes", 17)), BEHIND_SEVENTEEN),
+    (SEVENTEEN, Err(length_overflow!("u128::bytes", 17)), AFTER_SEVENTEEN),
     (b"\xc2\x42\x01", Err(eof!("u128::bytes", 2)), b""),
 };
 

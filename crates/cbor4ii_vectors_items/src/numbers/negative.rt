@@ -1,4 +1,4 @@
-//! Rows of negative integers, held as their arguments: the edges of each type, and refusals.
+//! Rows of negative integers, held as their arguments: the edges of each type, and errors.
 use cbor4ii_items::types::Negative;
 use cbor4ii_vectors::rows::{Row, reads_rows, texts_go_both_ways, writes_in};
 use cbor4ii_vectors::{eof, mismatch, table};

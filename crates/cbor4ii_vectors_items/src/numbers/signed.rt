@@ -1,4 +1,4 @@
-//! Rows of signed integers: RFC 8949 Appendix A, the edges of each type, and refusals.
+//! Rows of signed integers: RFC 8949 Appendix A, the edges of each type, and errors.
 use cbor4ii_vectors::rows::{Row, reads_rows, texts_go_both_ways, writes_in};
 use cbor4ii_vectors::{cast_overflow, eof, mismatch, table};
 use std::test::Fail;

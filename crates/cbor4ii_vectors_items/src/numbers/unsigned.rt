@@ -1,4 +1,4 @@
-//! Rows of unsigned integers: RFC 8949 Appendix A, the edges of each type, and refusals.
+//! Rows of unsigned integers: RFC 8949 Appendix A, the edges of each type, and errors.
 use cbor4ii_items::decode::Decode;
 use cbor4ii_items::encode::Encode;
 use cbor4ii_rw::buf_writer::BufWriter;

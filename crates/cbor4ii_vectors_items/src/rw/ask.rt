@@ -1,4 +1,4 @@
-//! How a reader is asked for its next byte, and what is told where it fails.
+//! How a reader is asked for its next byte, and what is reported where it fails.
 use crate::rw::shown::takes;
 use cbor4ii_items::decode::Decode;
 use cbor4ii_rw::ask::{lend, look};

@@ -1,4 +1,4 @@
-//! A buffer appends what is pushed, or nothing where memory is refused.
+//! A buffer appends what is pushed, or nothing where memory is rejected.
 use cbor4ii_rw::buf_writer::BufWriter;
 use cbor4ii_rw::write::Write;
 use std::test::Fail;

@@ -1,4 +1,4 @@
-//! Readers and writers behind references.
+//! Readers and writers after references.
 use crate::rw::shown::{gives, shows};
 use cbor4ii_items::decode::Decode;
 use cbor4ii_items::encode::Encode;
@@ -15,15 +15,15 @@ use std::io::ErrorKind;
 use std::test::Fail;
 
 #[test]
-fn a_reader_behind_a_reference_gives_its_bytes(rt: HostRuntime) -> Result<(), Fail> {
-    let mut behind = SliceReader::new(b"abcde");
-    assert!(rt; gives(&rt, rt.alloc(), &mut &mut behind, 3)?);
-    assert!(rt; behind.remaining().is_empty());
+fn a_reader_after_a_reference_gives_its_bytes(rt: HostRuntime) -> Result<(), Fail> {
+    let mut after = SliceReader::new(b"abcde");
+    assert!(rt; gives(&rt, rt.alloc(), &mut &mut after, 3)?);
+    assert!(rt; after.remaining().is_empty());
     Ok(())
 }
 
 #[test]
-fn as_much_is_shown_as_is_wanted_of_what_is_behind(rt: HostRuntime) {
+fn as_much_is_shown_as_is_wanted_of_what_is_after(rt: HostRuntime) {
     let mut slice = SliceReader::new(b"abc");
     assert!(rt; shows(&mut &mut slice, 0, b"", 0));
     assert!(rt; shows(&mut &mut slice, 1, b"a", 0));
@@ -32,7 +32,7 @@ fn as_much_is_shown_as_is_wanted_of_what_is_behind(rt: HostRuntime) {
 
 // How many bytes a look may ask for, which each of the three readers says, and another does not.
 #[test]
-fn a_look_may_ask_for_as_many_bytes_behind_a_reference(rt: HostRuntime) {
+fn a_look_may_ask_for_as_many_bytes_after_a_reference(rt: HostRuntime) {
     assert_eq!(rt; window(&&mut SliceReader::new(b"")), usize::MAX);
     assert_eq!(rt; window(&&mut SegmentReader::new(&[])), usize::MAX);
     assert_eq!(rt; window(&&mut IoReader::new(b"".as_slice())), usize::MAX);
@@ -45,7 +45,7 @@ fn window<S: Source>(reader: &S) -> usize {
 
 // A reader behind a reference fails as the reader does.
 #[test]
-fn a_failure_behind_a_reference(rt: HostRuntime) {
+fn a_failure_after_a_reference(rt: HostRuntime) {
     let mut reader = IoReader::new(FailingStream::new(b"abc", 2, 0));
     let mut failure = None;
     assert!(rt; lend(&mut &mut reader, 1, &mut failure).is_none());

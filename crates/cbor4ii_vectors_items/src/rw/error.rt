@@ -1,4 +1,4 @@
-//! The texts of refusals, and how refusals are compared.
+//! The texts of errors, and how errors are compared.
 use cbor4ii_rw::error::{ArithmeticOverflow, DecodeError, EncodeError, Len, StaticStr};
 use cbor4ii_vectors::{
     cast_overflow, eof, length_overflow, mismatch, no_step, not_canonical, require_borrowed,
@@ -31,11 +31,11 @@ const TEXTS: &[(DecodeError<u8>, &str)] = table! {
     (DecodeError::NotCanonical { name: NAME }, not_canonical!("str")),
 };
 
-// Of a refusal both texts are the same.
+// Of an error both texts are the same.
 fn has_text<T: Debug + Display>(error: &T, text: &str) -> bool {
     let shown = InlineText::<64>::of(error);
-    let told = InlineText::<64>::of(format_args!("{error:?}"));
-    shown.as_str() == text && told.as_str() == text
+    let reported = InlineText::<64>::of(format_args!("{error:?}"));
+    shown.as_str() == text && reported.as_str() == text
 }
 
 #[test]
@@ -54,7 +54,7 @@ fn lengths_beyond_two_bytes_are_big(rt: HostRuntime) {
 }
 
 #[test]
-fn refusals_are_compared(rt: HostRuntime) -> Result<(), Fail> {
+fn errors_are_compared(rt: HostRuntime) -> Result<(), Fail> {
     let eof: DecodeError<u8> = DecodeError::Eof {
         name: "u8",
         expect: Len::new(1),

@@ -74,9 +74,9 @@ fn a_stream_that_fails_loses_no_byte(rt: HostRuntime) {
     assert_eq!(rt; reader.into_inner().remaining(), b"bc".as_slice());
 }
 
-// Another look goes on behind the byte that was taken.
+// Another look goes on after the byte that was taken.
 #[test]
-fn a_stream_goes_on_behind_a_failure(rt: HostRuntime) {
+fn a_stream_goes_on_after_a_failure(rt: HostRuntime) {
     let mut reader = IoReader::new(FailingStream::new(b"abc", 2, 1));
     assert!(rt; takes(&mut reader, Some(b'a')));
     assert!(rt; ask::next_byte(&mut reader).is_err());

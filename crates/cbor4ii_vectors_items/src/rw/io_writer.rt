@@ -1,4 +1,4 @@
-//! A stream is appended to, and what fails there is told.
+//! A stream is appended to, and what fails there is reported.
 use cbor4ii_rw::io_writer::IoWriter;
 use cbor4ii_rw::write::Write;
 use cbor4ii_vectors::streams::FailingSink;
@@ -67,9 +67,9 @@ fn a_push_of_70000_bytes_is_one_write(rt: HostRuntime) -> Result<(), Fail> {
     Ok(())
 }
 
-// Of a push that a stream refuses, the stream may hold a part.
+// Of a push that a stream rejects, the stream may hold a part.
 #[test]
-fn a_write_that_fails_is_told(rt: HostRuntime) -> Result<(), Fail> {
+fn a_write_that_fails_is_reported(rt: HostRuntime) -> Result<(), Fail> {
     let mut writer = IoWriter::new(FailingSink::new(Vec::with_capacity(rt.alloc(), 3)?, 2));
     writer.push(b"a")?;
     let failed = writer.push(b"bc");
@@ -81,7 +81,7 @@ fn a_write_that_fails_is_told(rt: HostRuntime) -> Result<(), Fail> {
 
 // Which error a flush hands on, no clause says.
 #[test]
-fn a_flush_that_fails_is_told(rt: HostRuntime) {
+fn a_flush_that_fails_is_reported(rt: HostRuntime) {
     let sink = FailingSink::new(Vec::new(rt.alloc()), 0).failing_at_flush(ErrorKind::TimedOut);
     let mut writer = IoWriter::new(sink);
     let failed = writer.flush();

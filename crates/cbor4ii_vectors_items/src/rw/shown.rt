@@ -26,8 +26,8 @@ fn give_some<'de, R: Read<'de>>(
     Ok(Some(long))
 }
 
-/// The reader gives "abcde", `want` bytes at a time, in at most 20 fills, and nothing behind it;
-/// whether every front was `Long`.
+/// The reader gives "abcde", `want` bytes at a time, in at most 20 fills, and nothing after it;
+/// whether every prefix was `Long`.
 pub fn gives<'de, R: Read<'de>>(
     rt: &impl Abort,
     alloc: Global,

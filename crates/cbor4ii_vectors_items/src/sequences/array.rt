@@ -1,4 +1,4 @@
-//! Rows of arrays, read: counted and open ones, nesting, and refusals.
+//! Rows of arrays, read: ones of definite and of indefinite length, nesting, and errors.
 use crate::borrowed_rows::Kind::{ArraysOfTexts, ByteStrings, Texts};
 use crate::borrowed_rows::{BorrowedRow, answers_alike, lends_rows, rows_alike};
 use cbor4ii_items::types::Nothing;
@@ -10,8 +10,8 @@ use cbor4ii_vectors::rows::{
 use cbor4ii_vectors::{eof, mismatch, no_step, require_length, table};
 use std::test::Fail;
 
-// 1 to 25 behind their number.
-const COUNTED: &[u8] = &[
+// 1 to 25 after their number.
+const DEFINITE: &[u8] = &[
     0x98, 0x19, 1, 2, 3, 4, 5, 6, 7, 8, 9, 10, 11, 12, 13, 14, 15, 16, 17, 18, 19, 20, 21, 22, 23,
     0x18, 24, 0x18, 25,
 ];
@@ -54,7 +54,7 @@ fn arrays_of_numbers(rt: HostRuntime) -> Result<(), Fail> {
 const WRITTEN: &[(&[u8], &str, usize)] = table! {
     (b"\x80", "[]", 1),
     (b"\x83\x01\x02\x03", "[1, 2, 3]", 4),
-    (COUNTED, ONE_TO_25, 26),
+    (DEFINITE, ONE_TO_25, 26),
 };
 
 #[test]
@@ -134,7 +134,7 @@ fn arrays_of_texts(rt: HostRuntime) -> Result<(), Fail> {
     reads_texts_within::<Vec<String>>(alloc, STEPS_OF_TEXTS)
 }
 
-// Before a first item comes, an array of borrowed items is refused alike over every reader.
+// Before a first item comes, an array of borrowed items is rejected alike over every reader.
 const BEFORE_A_BORROWED_ITEM: &[BorrowedRow] = table! {
     (Texts, b"", eof!("array", 1), b""),
     (Texts, b"\x9f", eof!("break", 1), b""),
@@ -190,7 +190,8 @@ fn open_arrays_of_300_numbers(rt: HostRuntime) -> Result<(), Fail> {
     Ok(())
 }
 
-// An open array of 20 texts of one letter: 0x61 is the head of such a text, and the letter a.
+// An indefinite-length array of 20 texts of one letter: 0x61 is the head of such a text, and the
+// letter a.
 #[test]
 fn open_arrays_of_20_texts(rt: HostRuntime) -> Result<(), Fail> {
     let mut bytes = [0x61; 42];

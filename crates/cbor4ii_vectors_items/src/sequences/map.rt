@@ -1,4 +1,4 @@
-//! Rows of maps, read: counted and open ones, and refusals.
+//! Rows of maps, read: ones of definite and of indefinite length, and errors.
 use crate::borrowed_rows::Kind::{NumbersToTexts, TextsToNumbers};
 use crate::borrowed_rows::{BorrowedRow, answers_alike, lends_rows, rows_alike};
 use cbor4ii_items::types::{Map, Nothing};
@@ -67,7 +67,7 @@ fn maps_of_nothing(rt: HostRuntime) -> Result<(), Fail> {
     reads_texts::<Map<Vec<(Nothing, u8)>>>(alloc, NOTHING_TO_NUMBERS)
 }
 
-// Before a first borrowed part comes, a map is refused alike over every reader.
+// Before a first borrowed slice comes, a map is rejected alike over every reader.
 const BEFORE_A_BORROWED_PART: &[BorrowedRow] = table! {
     (NumbersToTexts, b"", eof!("map", 1), b""),
     (NumbersToTexts, b"\xbf", eof!("break", 1), b""),
@@ -76,7 +76,7 @@ const BEFORE_A_BORROWED_PART: &[BorrowedRow] = table! {
     (NumbersToTexts, b"\xa1\x61\x02", mismatch!("u8", 0x61), b"\x02"),
 };
 
-// With its borrowed parts lent, the map is read.
+// With its borrowed slices lent, the map is read.
 const BORROWED_PARTS: &[BorrowedRow] = table! {
     (TextsToNumbers, b"\xa1\x61a\x01", "Map([(\"a\", 1)])", b""),
 };

@@ -14,7 +14,7 @@ use cbor4ii_rw::slice_reader::SliceReader;
 use cbor4ii_vectors::{eof, mismatch, require_borrowed, require_length, require_utf8, table};
 use std::test::Fail;
 
-// A text that is a part of the input.
+// A text that is a slice of the input.
 #[test]
 fn a_borrowed_text(rt: HostRuntime) -> Result<(), Fail> {
     let mut reader = SliceReader::new(b"\x64IETF\x01");
@@ -50,7 +50,7 @@ fn borrowed_strings(rt: HostRuntime) -> Result<(), Fail> {
     lends_rows(rt.alloc(), STRINGS)
 }
 
-const REFUSED: &[BorrowedRow] = table! {
+const REJECTED: &[BorrowedRow] = table! {
     (Text, b"", eof!("str", 1), b""),
     (Text, b"\x78", eof!("str", 1), b""),
     (Text, b"\x41a", mismatch!("str", 0x41), b"a"),
@@ -65,8 +65,8 @@ const REFUSED: &[BorrowedRow] = table! {
 };
 
 #[test]
-fn refused_borrowed_strings(rt: HostRuntime) -> Result<(), Fail> {
-    lends_rows(rt.alloc(), REFUSED)
+fn rejected_borrowed_strings(rt: HostRuntime) -> Result<(), Fail> {
+    lends_rows(rt.alloc(), REJECTED)
 }
 
 // A reader that lends one byte at a time lends the content of one byte, and no longer one.

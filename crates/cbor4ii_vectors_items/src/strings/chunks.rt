@@ -61,7 +61,8 @@ fn a_step_for_each_chunk(rt: HostRuntime) -> Result<(), Fail> {
 // In the tests below a decoder is the first that takes memory, so that each of its growths can be
 // refused in turn.
 //
-// An open text of 1024 chunks of 16 bytes: 0x70 is the head of such a chunk, and the letter p.
+// An indefinite-length text of 1024 chunks of 16 bytes: 0x70 is the head of such a chunk, and the
+// letter p.
 #[test]
 fn texts_in_chunks(rt: HostRuntime) -> Result<(), Fail> {
     let mut bytes = [0x70; 17410];

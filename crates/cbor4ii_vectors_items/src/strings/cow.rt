@@ -95,10 +95,10 @@ fn fails(
     Err(Fail::new(format_args!("not a failed show of {bytes:?}")))
 }
 
-// That the refusal is the reader's error, which has this text. Where memory was refused the row
+// That the error is the reader's error, which has this text. Where memory was refused the row
 // says nothing.
-fn is_failure(refusal: &InlineText<128>, error: &str) -> Result<bool, Fail> {
-    let text = refusal.as_str();
+fn is_failure(rejection: &InlineText<128>, error: &str) -> Result<bool, Fail> {
+    let text = rejection.as_str();
     if text == "OutOfMemory" {
         return Err(Fail::from(DecodeError::<Never>::OutOfMemory));
     }
@@ -165,7 +165,7 @@ fn borrowed_or_owned(rt: HostRuntime) -> Result<(), Fail> {
     Ok(())
 }
 
-const REFUSED_TEXTS: &[(&[u8], &str, &[u8])] = table! {
+const REJECTED_TEXTS: &[(&[u8], &str, &[u8])] = table! {
     (b"", eof!("str", 1), b""),
     (b"\x62\xff\xff", require_utf8!("str"), b""),
     (b"\x63\xed\xa0\x80\x01", require_utf8!("str"), b"\x01"),
@@ -186,27 +186,27 @@ fn texts_alike(
 }
 
 #[test]
-fn refused_texts(rt: HostRuntime) -> Result<(), Fail> {
-    for &(bytes, refusal, rest) in REFUSED_TEXTS {
-        texts_alike(rt.alloc(), bytes, &Err(refusal), rest)?;
+fn rejected_texts(rt: HostRuntime) -> Result<(), Fail> {
+    for &(bytes, rejection, rest) in REJECTED_TEXTS {
+        texts_alike(rt.alloc(), bytes, &Err(rejection), rest)?;
     }
     Ok(())
 }
 
-const REFUSED: &[(Kind, &[u8], &str, &[u8])] = table! {
+const REJECTED: &[(Kind, &[u8], &str, &[u8])] = table! {
     (Kind::Unchecked, b"\x40\x01", mismatch!("str", 0x40), b"\x01"),
     (Kind::Bytes, b"\x43\x01", eof!("bytes", 2), b""),
     (Kind::Bytes, b"\x5f\x5f\xff\xff", require_length!("bytes"), b"\xff\xff"),
 };
 
 #[test]
-fn refused(rt: HostRuntime) -> Result<(), Fail> {
+fn rejected(rt: HostRuntime) -> Result<(), Fail> {
     let alloc = rt.alloc();
-    for &(kind, bytes, refusal, rest) in REFUSED {
-        decodes_whole(kind, alloc, bytes, Err(refusal), rest)?;
+    for &(kind, bytes, rejection, rest) in REJECTED {
+        decodes_whole(kind, alloc, bytes, Err(rejection), rest)?;
         let mut long = TestReader::long(bytes, 1);
-        decodes(kind, alloc, &mut long, bytes, Err(refusal), rest)?;
-        decodes_short(kind, alloc, bytes, Err(refusal), rest)?;
+        decodes(kind, alloc, &mut long, bytes, Err(rejection), rest)?;
+        decodes_short(kind, alloc, bytes, Err(rejection), rest)?;
     }
     Ok(())
 }
@@ -235,7 +235,7 @@ fn texts_over_each_reader(rt: HostRuntime) -> Result<(), Fail> {
 
 // Here a decoder is the first that takes memory, so that each of its growths can be refused.
 //
-// An open text of 1024 chunks of 16 bytes, which might be borrowed if it were counted.
+// An indefinite-length text of 1024 chunks of 16 bytes, which might be borrowed if it were counted.
 #[test]
 fn texts_that_might_be_borrowed(rt: HostRuntime) -> Result<(), Fail> {
     let mut bytes = [0x70; 17410];

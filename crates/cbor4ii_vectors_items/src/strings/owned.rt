@@ -1,4 +1,4 @@
-//! Rows of owned strings: RFC 8949 Appendix A, what stands behind them, and refusals.
+//! Rows of owned strings: RFC 8949 Appendix A, what follows them, and errors.
 use cbor4ii_items::decode::Decode;
 use cbor4ii_items::types::{Bytes, UncheckedStr};
 use cbor4ii_rw::io_reader::IoReader;
@@ -68,7 +68,7 @@ fn byte_strings(rt: HostRuntime) -> Result<(), Fail> {
     reads_texts::<Bytes<Vec<u8>>>(rt.alloc(), BYTE_STRINGS)
 }
 
-const REFUSED_TEXTS: &[Row<&str>] = table! {
+const REJECTED_TEXTS: &[Row<&str>] = table! {
     (b"\x7f\x61a\x7f\xff", Err(require_length!("str")), b"\xff"),
     (b"\x7f\x1c", Err(mismatch!("str", 0x1c)), b""),
     (b"", Err(eof!("str", 1)), b""),
@@ -86,11 +86,11 @@ const REFUSED_TEXTS: &[Row<&str>] = table! {
 };
 
 #[test]
-fn refused_texts(rt: HostRuntime) -> Result<(), Fail> {
-    reads_texts::<String>(rt.alloc(), REFUSED_TEXTS)
+fn rejected_texts(rt: HostRuntime) -> Result<(), Fail> {
+    reads_texts::<String>(rt.alloc(), REJECTED_TEXTS)
 }
 
-// A text of 4 bytes and 1019 zeros behind it, which a stream shows all at once.
+// A text of 4 bytes and 1019 zeros after it, which a stream shows all at once.
 #[test]
 fn a_text_before_many_bytes(rt: HostRuntime) -> Result<(), Fail> {
     let alloc = rt.alloc();

@@ -2,7 +2,7 @@
 //! many have to have come where the reader waits for all that is wanted.
 //!
 //! A value takes a look for its first byte, one of nine bytes for its head, and one for the content
-//! of a string. A float takes one of as many bytes as it has, in the place of its head. A spelling
+//! of a string. A float takes one of as many bytes as it has, in the place of its head. An encoding
 //! that has to be the canonical one takes a look more for each head. A head that does not stand
 //! whole in what is shown takes one more for each of its bytes, and content one for each part.
 //!
@@ -24,8 +24,8 @@ use std::test::Fail;
 // and over one that lets a look ask for 4,096 bytes and shows what is wanted.
 type Looks = (usize, usize, usize);
 
-// A head, a part that stands behind it so many times, the most bytes that a look wants, and that
-// have to have come; the looks of a value, and of one in its canonical spelling.
+// A head, a part that follows it so many times, the most bytes that a look wants, and that
+// have to have come; the looks of a value, and of one in its canonical encoding.
 type Row = (
     &'static [u8],
     &'static [u8],
@@ -129,14 +129,14 @@ fn asks_at_most<T: ReadFrom + Drop>(
     most: (usize, usize),
     looks: Looks,
 ) -> Result<(), Fail> {
-    let narrow = Asked::new(bytes).refusing_above(most.0);
+    let narrow = Asked::new(bytes).rejecting_above(most.0);
     looks_at_most::<T>(alloc, narrow, bytes, is_read, looks.0, most.1)?;
-    let narrow = Asked::new(bytes).refusing_above(most.0).showing(1);
+    let narrow = Asked::new(bytes).rejecting_above(most.0).showing(1);
     looks_at_most::<T>(alloc, narrow, bytes, is_read, looks.1, most.1)?;
     let largest = most.0.max(4_096);
-    let wide = Asked::new(bytes).wide().refusing_above(largest);
+    let wide = Asked::new(bytes).wide().rejecting_above(largest);
     looks_at_most::<T>(alloc, wide, bytes, is_read, looks.2, usize::MAX)?;
-    let wide = Asked::new(bytes).wide().refusing_above(largest).showing(1);
+    let wide = Asked::new(bytes).wide().rejecting_above(largest).showing(1);
     looks_at_most::<T>(alloc, wide, bytes, is_read, looks.1, usize::MAX)
 }
 
@@ -179,8 +179,8 @@ fn many_items_are_asked_for(rt: HostRuntime) -> Result<(), Fail> {
     asks_rows(rt.alloc(), MANY)
 }
 
-// Items of indefinite length, and what is no canonical spelling or no value: whether a value is
-// read, and then as `Row`. None of them is read from its canonical spelling.
+// Items of indefinite length, and what is no canonical encoding or no value: whether a value is
+// read, and then as `Row`. None of them is read from its canonical encoding.
 type OtherRow = (&'static [u8], bool, (usize, usize), Looks, Looks);
 
 const OTHERS: &[OtherRow] = table! {
@@ -192,7 +192,7 @@ const OTHERS: &[OtherRow] = table! {
     (b"\x81\xff", false, (9, 9), (3, 3, 3), (4, 4, 4)),
 };
 
-// Where the first byte of an indefinite length is refused, no look wants more than that byte.
+// Where the first byte of an indefinite length is rejected, no look wants more than that byte.
 fn asks_other_rows(alloc: Global, rows: &[OtherRow]) -> Result<(), Fail> {
     for &(bytes, is_read, most, looks, strict) in rows {
         asks_at_most::<Item<Value>>(alloc, bytes, is_read, most, looks)?;
@@ -207,7 +207,7 @@ fn others_are_asked_for(rt: HostRuntime) -> Result<(), Fail> {
     asks_other_rows(rt.alloc(), OTHERS)
 }
 
-// Bytes that end too early: alone, in an array, as a key, as a value, behind a tag, and within a
+// Bytes that end too early: alone, in an array, as a key, as a value, after a tag, and within a
 // head or a string. One look finds the end.
 const ENDS: &[&[u8]] = table! {
     b"",
@@ -236,7 +236,7 @@ const ENDS: &[&[u8]] = table! {
     b"\xa1\x61a\x62a",
 };
 
-// The same, of what has no canonical spelling.
+// The same, of what has no canonical encoding.
 const OPEN_ENDS: &[&[u8]] = table! {
     b"\x9f",
     b"\x9f\x00",
@@ -249,9 +249,9 @@ const OPEN_ENDS: &[&[u8]] = table! {
 
 fn ends_once<T: ReadFrom + Drop>(alloc: Global, rows: &[&[u8]]) -> Result<(), Fail> {
     for bytes in rows {
-        for front in [1, usize::MAX] {
-            ends::<T>(alloc, Asked::new(bytes).showing(front), bytes)?;
-            ends::<T>(alloc, Asked::new(bytes).showing(front).wide(), bytes)?;
+        for prefix in [1, usize::MAX] {
+            ends::<T>(alloc, Asked::new(bytes).showing(prefix), bytes)?;
+            ends::<T>(alloc, Asked::new(bytes).showing(prefix).wide(), bytes)?;
         }
     }
     Ok(())
@@ -272,7 +272,7 @@ fn the_end_is_looked_at_once(rt: HostRuntime) -> Result<(), Fail> {
     ends_once::<Item<Canonical>>(alloc, ENDS)
 }
 
-// Parts on both sides of the 4,096 bytes of a look: a head, a part that stands behind it so many
+// Parts on both sides of the 4,096 bytes of a look: a head, a part that follows it so many
 // times, and the most looks over a reader that lets one ask for so many and shows what is wanted.
 // Its head takes one.
 const AROUND: &[(&[u8], &[u8], usize, usize, usize)] = table! {
@@ -284,7 +284,7 @@ const AROUND: &[(&[u8], &[u8], usize, usize, usize)] = table! {
     (b"\x99\x05\x56", b"\x62ab", 1_366, 4, 5),
     (b"\xb9\x08\x00", b"\x05\x06", 2_048, 2, 2),
     (b"\xb9\x08\x01", b"\x05\x06", 2_049, 3, 3),
-    // Behind 1,365 pairs a byte more is shown: a front of the next key, or all of it.
+    // After 1,365 pairs a byte more is shown: a prefix of the next key, or all of it.
     (b"\xb9\x05\x78", b"\x18\x18\x05", 1_400, 4, 5),
     (b"\xb9\x05\x78", b"\x05\x18\x18", 1_400, 3, 3),
     (b"\x59\x0f\xfd", b"a", 4_093, 1, 1),
@@ -296,9 +296,9 @@ const AROUND: &[(&[u8], &[u8], usize, usize, usize)] = table! {
 fn looks_around(alloc: Global, rows: &[(&[u8], &[u8], usize, usize, usize)]) -> Result<(), Fail> {
     for &(head, part, count, looks, strict) in rows {
         let bytes = repeated(alloc, head, part, count, b"")?;
-        let wide = Asked::new(bytes).wide().refusing_above(4_096);
+        let wide = Asked::new(bytes).wide().rejecting_above(4_096);
         looks_at_most::<Item<Value>>(alloc, wide, bytes, true, looks, usize::MAX)?;
-        let wide = Asked::new(bytes).wide().refusing_above(4_096);
+        let wide = Asked::new(bytes).wide().rejecting_above(4_096);
         looks_at_most::<Item<Canonical>>(alloc, wide, bytes, true, strict, usize::MAX)?;
     }
     Ok(())
@@ -328,23 +328,23 @@ fn looks_shown(
     alloc: Global,
     rows: &[(&[u8], &[u8], usize, usize, usize, usize)],
 ) -> Result<(), Fail> {
-    for &(head, part, count, front, looks, strict) in rows {
+    for &(head, part, count, prefix, looks, strict) in rows {
         let bytes = repeated(alloc, head, part, count, b"")?;
-        looks_in_fronts::<Item<Value>>(alloc, bytes, front, looks)?;
-        looks_in_fronts::<Item<Canonical>>(alloc, bytes, front, strict)?;
+        looks_in_prefixes::<Item<Value>>(alloc, bytes, prefix, looks)?;
+        looks_in_prefixes::<Item<Canonical>>(alloc, bytes, prefix, strict)?;
     }
     Ok(())
 }
 
-fn looks_in_fronts<T: ReadFrom + Drop>(
+fn looks_in_prefixes<T: ReadFrom + Drop>(
     alloc: Global,
     bytes: &[u8],
-    front: usize,
+    prefix: usize,
     looks: usize,
 ) -> Result<(), Fail> {
-    let narrow = Asked::new(bytes).showing(front);
+    let narrow = Asked::new(bytes).showing(prefix);
     looks_at_most::<T>(alloc, narrow, bytes, true, looks, usize::MAX)?;
-    let wide = Asked::new(bytes).wide().showing(front);
+    let wide = Asked::new(bytes).wide().showing(prefix);
     looks_at_most::<T>(alloc, wide, bytes, true, looks, usize::MAX)
 }
 
@@ -353,8 +353,8 @@ fn few_bytes_at_a_time(rt: HostRuntime) -> Result<(), Fail> {
     looks_shown(rt.alloc(), SHOWN)
 }
 
-// Behind a reference.
-fn read_behind<S: Source>(
+// After a reference.
+fn read_after<S: Source>(
     alloc: Global,
     reader: &mut S,
 ) -> Result<Item<Value>, DecodeError<S::Error>> {
@@ -363,9 +363,9 @@ fn read_behind<S: Source>(
 
 // A reader behind a reference hands on how many bytes a look may ask for.
 #[test]
-fn behind_a_reference(rt: HostRuntime) -> Result<(), Fail> {
+fn after_a_reference(rt: HostRuntime) -> Result<(), Fail> {
     let mut reader = Asked::new(b"\x83\x01\x02\x03").wide();
-    let _ = read_behind(rt.alloc(), &mut reader)?;
+    let _ = read_after(rt.alloc(), &mut reader)?;
     assert_eq!(rt; reader.asks().looks, 2);
     Ok(())
 }

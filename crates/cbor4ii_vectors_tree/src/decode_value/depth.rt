@@ -1,21 +1,21 @@
 //! Rows of items that are nested deep: each level takes steps of the reader, and has to give them
 //! back.
 use crate::item::Item;
-use crate::item_rows::{reads_value, refuses_to_skip_within, skips_item};
+use crate::item_rows::{reads_value, rejects_to_skip_within, skips_item};
 use cbor4ii_tree::{IgnoredAny, Value};
 use cbor4ii_vectors::readers::TestReader;
-use cbor4ii_vectors::rows::{Pair, ends_at_each_front, reads_over, reads_within};
+use cbor4ii_vectors::rows::{Pair, ends_at_each_prefix, reads_over, reads_within};
 use cbor4ii_vectors::{no_step, table};
 use std::alloc::{AllocError, Global};
 use std::test::Fail;
 
 const NO_STEP: &str = no_step!("ignored-any");
 
-// So many heads, and what stands behind them: the refusal of a value, how many bytes it leaves, and
-// how many are left where skipping is refused.
-type Refused = (u8, usize, &'static [u8], &'static str, usize, Option<usize>);
+// So many heads, and what follows them: the error of a value, how many bytes it leaves, and
+// how many are left where skipping is rejected.
+type Rejected = (u8, usize, &'static [u8], &'static str, usize, Option<usize>);
 
-const REFUSED: &[Refused] = table! {
+const REJECTED: &[Rejected] = table! {
     (0x81, 128, b"\x80", no_step!("value"), 1, None),
     (0x81, 255, b"\x80", no_step!("value"), 128, None),
     (0x81, 256, b"\x80", no_step!("value"), 129, Some(1)),
@@ -25,7 +25,7 @@ const REFUSED: &[Refused] = table! {
     (0xc1, 256, b"\x00", no_step!("value"), 1, Some(1)),
 };
 
-const REFUSED_BEFORE_MANY: &[Refused] = table! {
+const REJECTED_BEFORE_MANY: &[Rejected] = table! {
     (0x81, 10000, b"", no_step!("value"), 9872, Some(9744)),
     (0x9f, 10000, b"", no_step!("value"), 9872, Some(9744)),
 };
@@ -55,35 +55,35 @@ fn tags(alloc: Global, count: usize) -> Result<Value, AllocError> {
     Ok(value)
 }
 
-fn refuses(
+fn rejects(
     alloc: Global,
     bytes: &'static [u8],
-    refusal: &'static str,
+    error: &'static str,
     rest: &[u8],
 ) -> Result<(), Fail> {
-    reads_within::<Item<Value>>(alloc, bytes, 256, &Err(refusal), rest)
+    reads_within::<Item<Value>>(alloc, bytes, 256, &Err(error), rest)
 }
 
-fn refuses_rows(alloc: Global, rows: &[Refused]) -> Result<(), Fail> {
+fn rejects_rows(alloc: Global, rows: &[Rejected]) -> Result<(), Fail> {
     for &(head, count, item, read, left, skipped) in rows {
         let bytes = nested(alloc, head, count, item)?;
-        refuses(alloc, bytes, read, end(bytes, left)?)?;
+        rejects(alloc, bytes, read, end(bytes, left)?)?;
         match skipped {
             None => skips_item(alloc, bytes, 256)?,
-            Some(left) => refuses_to_skip_within(alloc, bytes, 256, NO_STEP, end(bytes, left)?)?,
+            Some(left) => rejects_to_skip_within(alloc, bytes, 256, NO_STEP, end(bytes, left)?)?,
         }
     }
     Ok(())
 }
 
 #[test]
-fn too_deep_items_are_refused(rt: HostRuntime) -> Result<(), Fail> {
-    refuses_rows(rt.alloc(), REFUSED)
+fn too_deep_items_are_rejected(rt: HostRuntime) -> Result<(), Fail> {
+    rejects_rows(rt.alloc(), REJECTED)
 }
 
 #[test]
-fn refused_before_many_bytes(rt: HostRuntime) -> Result<(), Fail> {
-    refuses_rows(rt.alloc(), REFUSED_BEFORE_MANY)
+fn rejected_before_many_bytes(rt: HostRuntime) -> Result<(), Fail> {
+    rejects_rows(rt.alloc(), REJECTED_BEFORE_MANY)
 }
 
 // So many bytes at the end of these.
@@ -117,8 +117,8 @@ type Three = Pair<Item<Value>, Pair<Item<Value>, Item<Value>>>;
 // 1,000 arrays and one that is empty, and then 0 and null.
 fn deep(alloc: Global) -> Result<Three, AllocError> {
     let deep = arrays(alloc, 1000)?;
-    let behind = Pair(Item(Value::Integer(0)), Item(Value::Null));
-    Ok(Pair(Item(deep), behind))
+    let after = Pair(Item(Value::Integer(0)), Item(Value::Null));
+    Ok(Pair(Item(deep), after))
 }
 
 #[test]
@@ -131,9 +131,9 @@ fn greatest_limit_and_none(rt: HostRuntime) -> Result<(), Fail> {
 }
 
 #[test]
-fn fronts_of_a_thousand_arrays(rt: HostRuntime) -> Result<(), Fail> {
+fn prefixes_of_a_thousand_arrays(rt: HostRuntime) -> Result<(), Fail> {
     let alloc = rt.alloc();
     let bytes = nested(alloc, 0x81, 1000, b"\x80")?;
-    ends_at_each_front::<Item<Value>>(alloc, bytes, usize::MAX)?;
-    ends_at_each_front::<Item<IgnoredAny>>(alloc, bytes, usize::MAX)
+    ends_at_each_prefix::<Item<Value>>(alloc, bytes, usize::MAX)?;
+    ends_at_each_prefix::<Item<IgnoredAny>>(alloc, bytes, usize::MAX)
 }

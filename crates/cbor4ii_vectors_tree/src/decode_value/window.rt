@@ -13,8 +13,8 @@ fn reads(alloc: Global, bytes: &'static [u8], value: Value) -> Result<(), Fail> 
     reads_around_a_look(alloc, bytes, &Ok(Item(value)))
 }
 
-// Also where no other spelling is read.
-fn reads_strictly(alloc: Global, bytes: &'static [u8], value: Value) -> Result<(), Fail> {
+// Also where no other encoding is read.
+fn reads_canonically(alloc: Global, bytes: &'static [u8], value: Value) -> Result<(), Fail> {
     reads(alloc, bytes, value.try_clone()?)?;
     reads_around_a_look(alloc, bytes, &Ok(Item(Canonical(value))))
 }
@@ -23,7 +23,7 @@ fn reads_strictly(alloc: Global, bytes: &'static [u8], value: Value) -> Result<(
 fn arrays_of_5000_items(rt: HostRuntime) -> Result<(), Fail> {
     let alloc = rt.alloc();
     let counted = repeated(alloc, b"\x99\x13\x88", b"\x05", 5_000, b"")?;
-    reads_strictly(alloc, counted, array(alloc, 5_000)?)?;
+    reads_canonically(alloc, counted, array(alloc, 5_000)?)?;
     let open = repeated(alloc, b"\x9f", b"\x05", 5_000, b"\xff")?;
     reads(alloc, open, array(alloc, 5_000)?)
 }
@@ -32,7 +32,7 @@ fn arrays_of_5000_items(rt: HostRuntime) -> Result<(), Fail> {
 fn maps_of_2500_pairs(rt: HostRuntime) -> Result<(), Fail> {
     let alloc = rt.alloc();
     let counted = repeated(alloc, b"\xb9\x09\xc4", b"\x05\x06", 2_500, b"")?;
-    reads_strictly(alloc, counted, map(alloc, 6, 2_500)?)?;
+    reads_canonically(alloc, counted, map(alloc, 6, 2_500)?)?;
     let open = repeated(alloc, b"\xbf", b"\x05\x06", 2_500, b"\xff")?;
     reads(alloc, open, map(alloc, 6, 2_500)?)
 }
@@ -50,14 +50,14 @@ fn empty_arrays(alloc: Global, count: usize) -> Result<Value, AllocError> {
 fn an_array_of_4001_arrays(rt: HostRuntime) -> Result<(), Fail> {
     let alloc = rt.alloc();
     let bytes = repeated(alloc, b"\x99\x0f\xa1", b"\x80", 4_001, b"")?;
-    reads_strictly(alloc, bytes, empty_arrays(alloc, 4_001)?)
+    reads_canonically(alloc, bytes, empty_arrays(alloc, 4_001)?)
 }
 
-// What stands behind the first byte of a string's head: the argument that says its length, and that
+// What follows the first byte of a string's head: the argument that says its length, and that
 // length. With their heads the strings have 4,094 to 4,098 bytes.
 type Length = (&'static [u8], usize);
 
-// Behind 59 and 79, the shortest heads. Of 4,094 bytes and more are the content too.
+// After 59 and 79, the shortest heads. Of 4,094 bytes and more are the content too.
 const IN_2_BYTES: &[Length] = table! {
     (b"\x0f\xfb", 4_091),
     (b"\x0f\xfc", 4_092),
@@ -69,7 +69,7 @@ const IN_2_BYTES: &[Length] = table! {
     (b"\x10\x02", 4_098),
 };
 
-// Behind 5a and 7a.
+// After 5a and 7a.
 const IN_4_BYTES: &[Length] = table! {
     (b"\x00\x00\x0f\xf9", 4_089),
     (b"\x00\x00\x0f\xfa", 4_090),
@@ -78,7 +78,7 @@ const IN_4_BYTES: &[Length] = table! {
     (b"\x00\x00\x0f\xfd", 4_093),
 };
 
-// Behind 5b and 7b.
+// After 5b and 7b.
 const IN_8_BYTES: &[Length] = table! {
     (b"\x00\x00\x00\x00\x00\x00\x0f\xf5", 4_085),
     (b"\x00\x00\x00\x00\x00\x00\x0f\xf6", 4_086),
@@ -96,7 +96,7 @@ enum Place {
     AsValue,
 }
 
-// What stands in front of the string there, and behind it.
+// What stands in front of the string there, and after it.
 const PLACES: &[(Place, &[u8], &[u8])] = table! {
     (Place::Alone, b"", b""),
     (Place::InArray, b"\x81", b""),
@@ -120,7 +120,7 @@ fn pair(alloc: Global, key: Value, value: Value) -> Result<Value, AllocError> {
     Ok(Value::Map(pairs))
 }
 
-// In each place, and also where no other spelling is read, if this is the shortest.
+// In each place, and also where no other encoding is read, if this is the shortest.
 fn reads_in_places(
     alloc: Global,
     string: &[u8],
@@ -131,7 +131,7 @@ fn reads_in_places(
         let bytes = repeated(alloc, head, string, 1, end)?;
         let value = placed(alloc, place, value.try_clone()?)?;
         if is_shortest {
-            reads_strictly(alloc, bytes, value)?;
+            reads_canonically(alloc, bytes, value)?;
         } else {
             reads(alloc, bytes, value)?;
         }
@@ -155,7 +155,7 @@ fn reads_strings(
     Ok(())
 }
 
-// A head, and so many letters a behind it.
+// A head, and so many letters a after it.
 fn letters(
     alloc: Global,
     first: u8,

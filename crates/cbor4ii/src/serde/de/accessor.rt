@@ -2,18 +2,18 @@
 ghost use Rattle.std.specs.Prelude.{[], ◌≡◌, ◌&&◌, IfOk, codes};
 ghost use Rattle.std.specs.Borrow.{sem, Lends, RestsIfErr};
 ghost use mir.Syntax.{named};
-ghost use Rattle.cbor4ii_rw.specs.Reader.{Breaks};
+ghost use Rattle.cbor4ii_rw.specs.Reader.{ReaderFails};
 ghost use Rattle.cbor4ii_items.specs.Moves.{OnRead};
 ghost use Rattle.cbor4ii_items.specs.Decoding.{Decodes, DecodesIf};
-ghost use Rattle.cbor4ii_items.specs.Lengths.{length_spelling};
+ghost use Rattle.cbor4ii_items.specs.Lengths.{length_format};
 ghost use Rattle.cbor4ii.specs.contracts.serde.de.accessor.Accessor.{the_row as the_accessor};
 ghost use Rattle.cbor4ii.specs.contracts.serde.de.deserializer.Deserializer.{the_row};
-ghost use Rattle.cbor4ii.specs.declared.serde.de.accessor.Left.TheVariants.{Counted};
+ghost use Rattle.cbor4ii.specs.declared.serde.de.accessor.Left.TheVariants.{Definite};
 ghost use Rattle.cbor4ii.specs.Accessing.{inside, deserializer_of, lender_of, left_in, steps_held};
-ghost use Rattle.cbor4ii.specs.Accessing.{with_deserializer, OpensParts, RefusedAs, Closes, hint};
-ghost use Rattle.cbor4ii.specs.Accessing.{start_spelling, next_spelling, Starts, GoesOn};
-ghost use Rattle.cbor4ii.specs.Stepped.{stepped_spelling};
-ghost use Rattle.cbor4ii.specs.Tuples.{counted_head};
+ghost use Rattle.cbor4ii.specs.Accessing.{with_deserializer, OpensParts, RejectedAs, Closes, hint};
+ghost use Rattle.cbor4ii.specs.Accessing.{start_format, next_format, Starts, GoesOn};
+ghost use Rattle.cbor4ii.specs.Stepped.{stepped_format};
+ghost use Rattle.cbor4ii.specs.Tuples.{container_head};
 ghost use Rattle.cbor4ii.specs.Typed.{input, answer_of, Deserializes};
 ghost use Rattle.cbor4ii.specs.TypedParts.{part_of, two_of};
 
@@ -30,9 +30,9 @@ use std::alloc::Global;
 #[derive(Clone, Copy)]
 pub enum Left {
     /// So many items, or pairs.
-    Counted(usize),
+    Definite(usize),
     /// Items or pairs up to a break.
-    Open,
+    Indefinite,
     /// Nothing: the break was taken.
     Ended,
 }
@@ -80,8 +80,8 @@ impl<S: Source> Deserializer<S> {
     ///   left then
     /// - `Core` of `Mismatch` by "array" with the first byte, which is taken: it begins no array
     pub fn deserialize_seq(&mut self) -> Result<Accessor<'_, S>, DecodeError<S::Error>>
-        ensures* refused { sem 𝓛 (RestsIfErr (the_row S.row) self.entry lender_of result (λ new.
-            RefusedAs (stepped_spelling (codes "seq") (length_spelling (codes "array") 4))
+        ensures* rejected { sem 𝓛 (RestsIfErr (the_row S.row) self.entry lender_of result (λ new.
+            RejectedAs (stepped_format (codes "seq") (length_format (codes "array") 4))
             (input S.view self.old) (input S.view new) (answer_of result))) }
         ensures same_reference { IfOk result
             (λ accessor. lender_of accessor ≡ self.entry.ghost_name) }
@@ -112,20 +112,20 @@ impl<S: Source> Deserializer<S> {
         &mut self,
         len: usize,
     ) -> Result<Accessor<'_, S>, DecodeError<S::Error>>
-        ensures* refused { sem 𝓛 (RestsIfErr (the_row S.row) self.entry lender_of result (λ new.
-            RefusedAs (stepped_spelling (codes "tuple") (counted_head len))
+        ensures* rejected { sem 𝓛 (RestsIfErr (the_row S.row) self.entry lender_of result (λ new.
+            RejectedAs (stepped_format (codes "tuple") (container_head len))
             (input S.view self.old) (input S.view new) (answer_of result))) }
         ensures same_reference { IfOk result
             (λ accessor. lender_of accessor ≡ self.entry.ghost_name) }
         ensures opened { IfOk result (λ accessor. OpensParts 4 (input S.view self.old)
             (inside S.view accessor) (left_in accessor)) }
         ensures steps { IfOk result (λ accessor. steps_held accessor ≡ 1) }
-        ensures left { IfOk result (λ accessor. left_in accessor ≡ Counted len) }
+        ensures left { IfOk result (λ accessor. left_in accessor ≡ Definite len) }
     {
         match begin_tuple(&mut self.reader, len) {
             Ok(()) => Ok(Accessor {
                 de: self,
-                left: Left::Counted(len),
+                left: Left::Definite(len),
                 nested: false,
             }),
             Err(error) => Err(DecodeError::Core(error)),
@@ -138,8 +138,8 @@ impl<S: Source> Deserializer<S> {
     ///
     /// Those of `deserialize_seq`, by "map" in the place of "seq" and "array".
     pub fn deserialize_map(&mut self) -> Result<Accessor<'_, S>, DecodeError<S::Error>>
-        ensures* refused { sem 𝓛 (RestsIfErr (the_row S.row) self.entry lender_of result (λ new.
-            RefusedAs (stepped_spelling (codes "map") (length_spelling (codes "map") 5))
+        ensures* rejected { sem 𝓛 (RestsIfErr (the_row S.row) self.entry lender_of result (λ new.
+            RejectedAs (stepped_format (codes "map") (length_format (codes "map") 5))
             (input S.view self.old) (input S.view new) (answer_of result))) }
         ensures same_reference { IfOk result
             (λ accessor. lender_of accessor ≡ self.entry.ghost_name) }
@@ -158,7 +158,7 @@ impl<S: Source> Deserializer<S> {
     }
 
     /// A struct whose fields have no names, read by `deserialize_tuple`. Its own name is not
-    /// spelled.
+    /// encoded.
     ///
     /// # Errors
     ///
@@ -168,21 +168,21 @@ impl<S: Source> Deserializer<S> {
         name: StaticStr,
         len: usize,
     ) -> Result<Accessor<'_, S>, DecodeError<S::Error>>
-        ensures* refused { sem 𝓛 (RestsIfErr (the_row S.row) self.entry lender_of result (λ new.
-            RefusedAs (stepped_spelling (codes "tuple") (counted_head len))
+        ensures* rejected { sem 𝓛 (RestsIfErr (the_row S.row) self.entry lender_of result (λ new.
+            RejectedAs (stepped_format (codes "tuple") (container_head len))
             (input S.view self.old) (input S.view new) (answer_of result))) }
         ensures same_reference { IfOk result
             (λ accessor. lender_of accessor ≡ self.entry.ghost_name) }
         ensures opened { IfOk result (λ accessor. OpensParts 4 (input S.view self.old)
             (inside S.view accessor) (left_in accessor)) }
         ensures steps { IfOk result (λ accessor. steps_held accessor ≡ 1) }
-        ensures left { IfOk result (λ accessor. left_in accessor ≡ Counted len) }
+        ensures left { IfOk result (λ accessor. left_in accessor ≡ Definite len) }
     {
         self.deserialize_tuple(len)
     }
 
     /// A struct, as a map of its fields' names and values, read by `deserialize_map`. Its own name
-    /// is not spelled, and no name of a field is asked for.
+    /// is not encoded, and no name of a field is asked for.
     ///
     /// # Errors
     ///
@@ -192,8 +192,8 @@ impl<S: Source> Deserializer<S> {
         name: StaticStr,
         fields: &[StaticStr],
     ) -> Result<Accessor<'_, S>, DecodeError<S::Error>>
-        ensures* refused { sem 𝓛 (RestsIfErr (the_row S.row) self.entry lender_of result (λ new.
-            RefusedAs (stepped_spelling (codes "map") (length_spelling (codes "map") 5))
+        ensures* rejected { sem 𝓛 (RestsIfErr (the_row S.row) self.entry lender_of result (λ new.
+            RejectedAs (stepped_format (codes "map") (length_format (codes "map") 5))
             (input S.view self.old) (input S.view new) (answer_of result))) }
         ensures same_reference { IfOk result
             (λ accessor. lender_of accessor ≡ self.entry.ghost_name) }
@@ -222,19 +222,19 @@ impl<'a, S: Source> Accessor<'a, S> {
     /// - `Core` of `Read`: the reader failed
     /// - `Core` of `Eof` by "break" with 1: no byte is left
     pub fn starts_element(&mut self) -> Result<bool, DecodeError<S::Error>>
-        ensures decodes { Decodes (start_spelling (left_in self.old))
+        ensures decodes { Decodes (start_format (left_in self.old))
             (inside S.view self.old) (inside S.view self.new) (answer_of result) }
         ensures failed { OnRead (answer_of result)
-            (Breaks (inside S.view self.old) (inside S.view self.new)) }
+            (ReaderFails (inside S.view self.old) (inside S.view self.new)) }
         ensures starts { Starts S.view self.old self.new result }
     {
         match self.left {
-            Left::Counted(0) => Ok(false),
-            Left::Counted(count) => {
-                self.left = Left::Counted(count - 1);
+            Left::Definite(0) => Ok(false),
+            Left::Definite(count) => {
+                self.left = Left::Definite(count - 1);
                 Ok(true)
             }
-            Left::Open => match is_break(&mut self.de.reader) {
+            Left::Indefinite => match is_break(&mut self.de.reader) {
                 Ok(true) => {
                     self.left = Left::Ended;
                     Ok(false)
@@ -247,7 +247,7 @@ impl<'a, S: Source> Accessor<'a, S> {
     }
 
     /// The deserializer that the parts are read from, for a part that `starts_element` said comes,
-    /// or for the value behind a key. It is not counted.
+    /// or for the value after a key. It is not counted.
     pub fn deserializer(&mut self) -> &mut Deserializer<S>
         ensures* writes_back { sem 𝓛 (Lends (the_accessor (record { mir = named 0; lft = [] })
             S.row S.Error.row)
@@ -257,7 +257,7 @@ impl<'a, S: Source> Accessor<'a, S> {
         self.de
     }
 
-    /// The next item, or none at the end, and from then on always. After a refusal it goes on with
+    /// The next item, or none at the end, and from then on always. After an error it goes on with
     /// what is left then.
     ///
     /// # Errors
@@ -272,7 +272,7 @@ impl<'a, S: Source> Accessor<'a, S> {
         alloc: Global,
     ) -> Result<Option<T>, DecodeError<S::Error>>
         ensures decodes { DecodesIf T.promise.exact
-            (next_spelling (left_in self.old) (part_of T.promise))
+            (next_format (left_in self.old) (part_of T.promise))
             (inside S.view self.old) (inside S.view self.new) (answer_of result) }
         ensures goes_on { GoesOn S.view self.old self.new result }
     {
@@ -296,14 +296,14 @@ impl<'a, S: Source> Accessor<'a, S> {
         alloc: Global,
     ) -> Result<Option<K>, DecodeError<S::Error>>
         ensures decodes { DecodesIf K.promise.exact
-            (next_spelling (left_in self.old) (part_of K.promise))
+            (next_format (left_in self.old) (part_of K.promise))
             (inside S.view self.old) (inside S.view self.new) (answer_of result) }
         ensures goes_on { GoesOn S.view self.old self.new result }
     {
         self.next_element::<K>(alloc)
     }
 
-    /// The next item, whatever it is: behind a key, its value. It is not counted.
+    /// The next item, whatever it is: after a key, its value. It is not counted.
     ///
     /// # Errors
     ///
@@ -335,7 +335,7 @@ impl<'a, S: Source> Accessor<'a, S> {
         alloc: Global,
     ) -> Result<Option<(K, V)>, DecodeError<S::Error>>
         ensures decodes { DecodesIf (K.promise.exact && V.promise.exact)
-            (next_spelling (left_in self.old) (two_of K.promise V.promise))
+            (next_format (left_in self.old) (two_of K.promise V.promise))
             (inside S.view self.old) (inside S.view self.new) (answer_of result) }
         ensures goes_on { GoesOn S.view self.old self.new result }
     {
@@ -354,8 +354,8 @@ impl<'a, S: Source> Accessor<'a, S> {
         ensures { result ≡ hint (left_in self.now) }
     {
         match self.left {
-            Left::Counted(count) => Some(count),
-            Left::Open => None,
+            Left::Definite(count) => Some(count),
+            Left::Indefinite => None,
             Left::Ended => None,
         }
     }

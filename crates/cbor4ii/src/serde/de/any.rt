@@ -1,11 +1,11 @@
 //! Any item, read as a value.
 ghost use Rattle.std.specs.Prelude.{◌≡◌, [], ◌∷◌, ◌++◌, true, IsTrue, codes};
 ghost use Rattle.cbor4ii_items.specs.Decoding.{Decodes};
-ghost use Rattle.cbor4ii_items.specs.Sequences.{count_spelling, open_spelling};
-ghost use Rattle.cbor4ii.specs.AnySpelling.{any_spelling, any_inside, values_inside};
-ghost use Rattle.cbor4ii.specs.AnySpelling.{values_spelling, any_pair, pairs_inside};
-ghost use Rattle.cbor4ii.specs.AnySpelling.{pairs_spelling, AddsOne};
-ghost use Rattle.cbor4ii.specs.AnyStops.{StopsAny};
+ghost use Rattle.cbor4ii_items.specs.Sequences.{count_format, indefinite_format};
+ghost use Rattle.cbor4ii.specs.AnyFormat.{any_format, any_inside, values_inside};
+ghost use Rattle.cbor4ii.specs.AnyFormat.{values_format, any_pair, pairs_inside};
+ghost use Rattle.cbor4ii.specs.AnyFormat.{pairs_format, AddsOne};
+ghost use Rattle.cbor4ii.specs.AnyRejects.{RejectsAny};
 ghost use Rattle.cbor4ii.specs.Laws.Any.{any_laws};
 ghost use Rattle.cbor4ii.specs.Typed.{input, answer_of, Deserializes, typed_by};
 
@@ -33,8 +33,8 @@ impl<S: Source> Deserializer<S> {
     ///
     /// # Errors
     ///
-    /// `Read` and `OutOfMemory` are told at `Deserialize::deserialize`. All but the last one come
-    /// as `Core`:
+    /// `Read` and `OutOfMemory` are described at `Deserialize::deserialize`. All but the last one
+    /// come as `Core`:
     ///
     /// - `DepthOverflow` by "any": no step is left. Nothing is taken then
     /// - `Eof` by "any" with 1: no byte is left
@@ -56,7 +56,7 @@ impl<S: Source> Deserializer<S> {
 }
 
 impl Typed for Value {
-    ghost promise = { typed_by StopsAny true true any_laws };
+    ghost promise = { typed_by RejectsAny true true any_laws };
 }
 
 /// Any item but a tag, read by `Deserializer::deserialize_any`.
@@ -79,7 +79,7 @@ fn read_any<S: Source>(
     alloc: Global,
     de: &mut Deserializer<S>,
 ) -> Result<Value, DecodeError<S::Error>>
-    ensures { Decodes any_spelling
+    ensures { Decodes any_format
         (input S.view de.old) (input S.view de.new) (answer_of result) }
 {
     if !de.reader.step_in() {
@@ -126,7 +126,7 @@ fn any_array<S: Source>(
     alloc: Global,
     de: &mut Deserializer<S>,
 ) -> Result<Vec<Value>, DecodeError<S::Error>>
-    ensures { Decodes values_spelling
+    ensures { Decodes values_format
         (input S.view de.old) (input S.view de.new) (answer_of result) }
 {
     if !de.reader.step_in() {
@@ -146,19 +146,19 @@ fn array_inside<S: Source>(
         (input S.view de.old) (input S.view de.new) (answer_of result) }
 {
     match Array::<()>::len(&mut de.reader) {
-        Ok(Some(count)) => counted_values(alloc, de, count),
-        Ok(None) => open_values(alloc, de),
+        Ok(Some(count)) => definite_values(alloc, de, count),
+        Ok(None) => indefinite_values(alloc, de),
         Err(error) => Err(DecodeError::Core(error)),
     }
 }
 
 #[cycle(any)]
-fn counted_values<S: Source>(
+fn definite_values<S: Source>(
     alloc: Global,
     de: &mut Deserializer<S>,
     count: usize,
 ) -> Result<Vec<Value>, DecodeError<S::Error>>
-    ensures { Decodes (count_spelling any_spelling count)
+    ensures { Decodes (count_format any_format count)
         (input S.view de.old) (input S.view de.new) (answer_of result) }
 {
     let mut values = Vec::new(alloc);
@@ -172,11 +172,11 @@ fn counted_values<S: Source>(
 }
 
 #[cycle(any)]
-fn open_values<S: Source>(
+fn indefinite_values<S: Source>(
     alloc: Global,
     de: &mut Deserializer<S>,
 ) -> Result<Vec<Value>, DecodeError<S::Error>>
-    ensures { Decodes (open_spelling (codes "array") any_spelling)
+    ensures { Decodes (indefinite_format (codes "array") any_format)
         (input S.view de.old) (input S.view de.new) (answer_of result) }
 {
     let mut values = Vec::new(alloc);
@@ -186,14 +186,14 @@ fn open_values<S: Source>(
     Ok(values)
 }
 
-/// Reads a value, behind those that `values` holds.
+/// Reads a value, after those that `values` holds.
 #[cycle(any)]
 fn add_value<S: Source>(
     alloc: Global,
     de: &mut Deserializer<S>,
     values: &mut Vec<Value>,
 ) -> Result<(), DecodeError<S::Error>>
-    ensures { AddsOne any_spelling values.old.items values.new.items
+    ensures { AddsOne any_format values.old.items values.new.items
         (input S.view de.old) (input S.view de.new) (answer_of result) }
 {
     let value = read_any(alloc, de)?;
@@ -209,7 +209,7 @@ fn any_map<S: Source>(
     alloc: Global,
     de: &mut Deserializer<S>,
 ) -> Result<Vec<(Value, Value)>, DecodeError<S::Error>>
-    ensures { Decodes pairs_spelling
+    ensures { Decodes pairs_format
         (input S.view de.old) (input S.view de.new) (answer_of result) }
 {
     if !de.reader.step_in() {
@@ -229,19 +229,19 @@ fn map_inside<S: Source>(
         (input S.view de.old) (input S.view de.new) (answer_of result) }
 {
     match Map::<()>::len(&mut de.reader) {
-        Ok(Some(count)) => counted_pairs(alloc, de, count),
-        Ok(None) => open_pairs(alloc, de),
+        Ok(Some(count)) => definite_pairs(alloc, de, count),
+        Ok(None) => indefinite_pairs(alloc, de),
         Err(error) => Err(DecodeError::Core(error)),
     }
 }
 
 #[cycle(any)]
-fn counted_pairs<S: Source>(
+fn definite_pairs<S: Source>(
     alloc: Global,
     de: &mut Deserializer<S>,
     count: usize,
 ) -> Result<Vec<(Value, Value)>, DecodeError<S::Error>>
-    ensures { Decodes (count_spelling any_pair count)
+    ensures { Decodes (count_format any_pair count)
         (input S.view de.old) (input S.view de.new) (answer_of result) }
 {
     let mut pairs = Vec::new(alloc);
@@ -255,11 +255,11 @@ fn counted_pairs<S: Source>(
 }
 
 #[cycle(any)]
-fn open_pairs<S: Source>(
+fn indefinite_pairs<S: Source>(
     alloc: Global,
     de: &mut Deserializer<S>,
 ) -> Result<Vec<(Value, Value)>, DecodeError<S::Error>>
-    ensures { Decodes (open_spelling (codes "map") any_pair)
+    ensures { Decodes (indefinite_format (codes "map") any_pair)
         (input S.view de.old) (input S.view de.new) (answer_of result) }
 {
     let mut pairs = Vec::new(alloc);
@@ -269,7 +269,7 @@ fn open_pairs<S: Source>(
     Ok(pairs)
 }
 
-/// Reads a pair, behind those that `pairs` holds.
+/// Reads a pair, after those that `pairs` holds.
 #[cycle(any)]
 fn add_pair<S: Source>(
     alloc: Global,
@@ -286,7 +286,7 @@ fn add_pair<S: Source>(
     Ok(())
 }
 
-/// Reads a key, and the value behind it. No break is looked for between the two.
+/// Reads a key, and the value after it. No break is looked for between the two.
 #[cycle(any)]
 fn read_pair<S: Source>(
     alloc: Global,
@@ -302,7 +302,7 @@ fn read_pair<S: Source>(
     }
 }
 
-/// Puts an item behind those that are there, if there is memory for it.
+/// Puts an item after those that are there, if there is memory for it.
 fn keep<T: Drop>(items: &mut Vec<T>, item: T) -> bool
     ensures { IsTrue result → items.new.items ≡ items.old.items ++ item ∷ [] }
 {

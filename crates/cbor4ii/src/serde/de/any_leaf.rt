@@ -4,7 +4,7 @@ ghost use Rattle.cbor4ii_items.specs.Decoding.{Decodes};
 ghost use Rattle.cbor4ii_tree.specs.declared.value.Value.{Value as AnyValue};
 ghost use Rattle.cbor4ii.specs.Any.{kind, tag_kind, simple_kind, of_integer, of_bytes, of_text};
 ghost use Rattle.cbor4ii.specs.Any.{of_bool, of_null, of_f16, of_f32, of_f64};
-ghost use Rattle.cbor4ii.specs.AnySpelling.{any_leaf, formed_spelling};
+ghost use Rattle.cbor4ii.specs.AnyFormat.{any_leaf, formed_format};
 ghost use Rattle.cbor4ii.specs.declared.serde.de.any_leaf.AnyLeaf.TheVariants.{Bignum};
 ghost use Rattle.cbor4ii.specs.Typed.{input, answer_of};
 
@@ -135,7 +135,7 @@ impl AsValue for bool {
     }
 }
 
-// Read behind a first byte that says null or undefined alone.
+// Read after a first byte that says null or undefined alone.
 impl AsValue for Simple {
     ghost form = { of_null };
 
@@ -195,7 +195,7 @@ fn take_as<S: Source, T: Decode<S> + AsValue>(
     alloc: Global,
     de: &mut Deserializer<S>,
 ) -> Result<Value, DecodeError<S::Error>>
-    ensures { Decodes (formed_spelling T.form T.spelling)
+    ensures { Decodes (formed_format T.form T.format)
         (input S.view de.old) (input S.view de.new) (answer_of result) }
 {
     match take_item::<S, T>(alloc, de) {

@@ -5,7 +5,7 @@ ghost use Rattle.std.specs.declared.borrow.CowSlice.TheVariants.{Borrowed};
 ghost use Rattle.cbor4ii_rw.specs.Slice.{slice_view};
 ghost use Rattle.cbor4ii_items.specs.Cow.{cow_text, cow_bytes, IsBorrowedBytes, IsOwnedBytes};
 ghost use Rattle.cbor4ii_items.specs.Lent.{IsOfInput, lent_str, lent_bytes};
-ghost use Rattle.cbor4ii.specs.Borrowed.{Borrows, RefusesCopy, unlent_bytes, unlent_text};
+ghost use Rattle.cbor4ii.specs.Borrowed.{Borrows, RejectsCopy, unlent_bytes, unlent_text};
 ghost use Rattle.cbor4ii.specs.Typed.{input, answer_of, Deserializes};
 
 use crate::serde::de::deserialize::{Deserialize, Typed};
@@ -75,10 +75,10 @@ impl<'de, R: BufRead + Drop> Deserialize<IoReader<R>> for &'de str {
         ensures item { Deserializes unlent_text
             (input ⟦<IoReader<R> as Source>⟧.view de.old)
             (input ⟦<IoReader<R> as Source>⟧.view de.new) (answer_of result) }
-        ensures refused { IsErr result }
+        ensures rejected { IsErr result }
     {
         let found = de.deserialize_str(alloc);
-        refuse_copy("str", found)
+        reject_copy("str", found)
     }
 }
 
@@ -102,7 +102,7 @@ impl<'de> Typed for Bytes<&'de [u8]> {
 }
 
 /// A byte string of definite length, as it stands in the input, read as a borrowed text is. It is
-/// the input's own part: what is left begins right behind it.
+/// the input's own part: what is left begins right after it.
 ///
 /// # Errors
 ///
@@ -154,10 +154,10 @@ impl<'de, R: BufRead + Drop> Deserialize<IoReader<R>> for Bytes<&'de [u8]> {
         ensures item { Deserializes unlent_bytes
             (input ⟦<IoReader<R> as Source>⟧.view de.old)
             (input ⟦<IoReader<R> as Source>⟧.view de.new) (answer_of result) }
-        ensures refused { IsErr result }
+        ensures rejected { IsErr result }
     {
         let found = <Bytes<CowSlice<'de, u8, Global>>>::deserialize(alloc, de);
-        refuse_copy("bytes", found)
+        reject_copy("bytes", found)
     }
 }
 
@@ -179,11 +179,11 @@ fn lent_slice<'de, E>(
 }
 
 /// A copy does not stand for what is to be lent.
-fn refuse_copy<V: Drop, W, E>(
+fn reject_copy<V: Drop, W, E>(
     name: StaticStr,
     found: Result<V, DecodeError<E>>,
 ) -> Result<W, DecodeError<E>>
-    ensures { RefusesCopy name.now found result }
+    ensures { RejectsCopy name.now found result }
 {
     match found {
         Ok(_) => Err(DecodeError::Core(core_error::DecodeError::RequireBorrowed { name })),

@@ -1,7 +1,7 @@
 //! Values in a box.
 ghost use Rattle.std.specs.Prelude.{◌≡◌, false, IfErr, IsTrue};
 ghost use Rattle.cbor4ii_items.specs.Decoding.{Sound};
-ghost use Rattle.cbor4ii_items.specs.Refusal.{is_out_of_memory};
+ghost use Rattle.cbor4ii_items.specs.InputError.{is_out_of_memory};
 ghost use Rattle.cbor4ii.specs.Typed.{input, answer_of, as_core, Deserializes};
 ghost use Rattle.cbor4ii.specs.TypedParts.{typed_box};
 
@@ -27,9 +27,9 @@ impl<S: Source, T: Deserialize<S> + Drop> Deserialize<S> for Box<T> {
     fn deserialize(alloc: Global, de: &mut Deserializer<S>) -> Result<Box<T>, DecodeError<S::Error>>
         ensures promised { Deserializes (typed_box T.promise)
             (input S.view de.old) (input S.view de.new) (answer_of result) }
-        ensures behind { T.promise.spelling.takes_memory ≡ false →
+        ensures after_item { T.promise.format.takes_memory ≡ false →
             IfErr result (λ error. IsTrue (is_out_of_memory (as_core error)) →
-            (v : T) × Sound T.promise.spelling.reads
+            (v : T) × Sound T.promise.format.reads
             (input S.view de.old) (input S.view de.new) v) }
     {
         let value = match T::deserialize(alloc, de) {

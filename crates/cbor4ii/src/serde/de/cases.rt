@@ -2,9 +2,9 @@
 ghost use Rattle.std.specs.Prelude.{ℕ, List};
 ghost use Rattle.std.specs.Borrow.{Bor};
 ghost use Rattle.cbor4ii_items.specs.Decoding.{DecodesIf};
-ghost use Rattle.cbor4ii.specs.Cases.{Cases as Variants, Holding, holding_spelling, case_spelling};
+ghost use Rattle.cbor4ii.specs.Cases.{Cases as Variants, Holding, holding_format, case_format};
 ghost use Rattle.cbor4ii.specs.Cases.{unit_case, held_case, otherwise, cases_by, enum_of};
-ghost use Rattle.cbor4ii.specs.Cases.{inside_spelling, named_spelling};
+ghost use Rattle.cbor4ii.specs.Cases.{inside_format, named_format};
 ghost use Rattle.cbor4ii.specs.Made.{made_from};
 ghost use Rattle.cbor4ii.specs.Names.{StandsAt};
 ghost use Rattle.cbor4ii.specs.Typed.{input, answer_of, Deserializes};
@@ -19,27 +19,27 @@ use cbor4ii_rw::error::{Never, StaticStr};
 use cbor4ii_rw::read::Source;
 use std::alloc::Global;
 
-/// One of two: the value of a variant, or of one behind it.
+/// One of two: the value of a variant, or of one after it.
 #[derive(Debug, PartialEq, Eq, Drop)]
 pub enum Choice<A, B> {
     /// Of this one.
     First(A),
-    /// Of one behind it.
+    /// Of one after it.
     Other(B),
 }
 
 /// What a variant holds, as a value of type `T`.
 pub trait Case<S: Source, T>: Sized + Drop {
-    // What stands for the value: a content behind the name, or the name alone; and how what stands
-    // there is refused, by the form.
+    // What stands for the value: a content after the name, or the name alone; and how what stands
+    // there is rejected, by the form.
     ghost holding: { Holding T };
 
-    /// Reads it behind the name. `form` says whether a content stands there, and the first byte of
+    /// Reads it after the name. `form` says whether a content stands there, and the first byte of
     /// the variant.
     ///
     /// # Errors
     ///
-    /// Those that `holding` tells for this form, with what they leave. `Unit` and `Holds` answer
+    /// Those that `holding` reports for this form, with what they leave. `Unit` and `Holds` answer
     /// `Core` of `Mismatch` by "enum" with the variant's first byte where it has the other form.
     /// Nothing is taken then. Of `Holds` those of the value come too.
     fn take(
@@ -48,7 +48,7 @@ pub trait Case<S: Source, T>: Sized + Drop {
         form: (bool, u8),
         de: &mut Deserializer<S>,
     ) -> Result<T, DecodeError<S::Error>>
-        ensures { DecodesIf holding.exact (holding_spelling holding form)
+        ensures { DecodesIf holding.exact (holding_format holding form)
             (input S.view de.old) (input S.view de.new) (answer_of result) };
 }
 
@@ -101,20 +101,20 @@ impl<S: Source, T: Deserialize<S>> Case<S, T> for Holds {
     }
 }
 
-/// What the variants of an enum hold, one behind another, in the order of their names: nested
-/// pairs, and behind them `Otherwise`.
+/// What the variants of an enum hold, one after another, in the order of their names: nested
+/// pairs, and after them `Otherwise`.
 pub trait Cases<S: Source, R>: Sized + Drop {
     // The variants that have these names: what stands for the values of each, and how it is
-    // refused.
+    // rejected.
     ghost cases: { Self → List (Bor (List ℕ)) → Variants R };
 
     /// Reads what the variant holds whose name stands at this place among the names.
     ///
     /// # Errors
     ///
-    /// Those that `cases` tells for the name, with what they leave. Of a pair they are those of its
-    /// variant, or of the variants behind it. Of `Otherwise` it is `Custom` in its words, and what
-    /// stands behind the name stays.
+    /// Those that `cases` reports for the name, with what they leave. Of a pair they are those of
+    /// its variant, or of the variants after it. Of `Otherwise` it is `Custom` in its words, and
+    /// what follows the name stays.
     fn take(
         self,
         alloc: Global,
@@ -124,11 +124,11 @@ pub trait Cases<S: Source, R>: Sized + Drop {
         de: &mut Deserializer<S>,
     ) -> Result<R, DecodeError<S::Error>>
         ensures { (name : List ℕ) → StandsAt name names.now at →
-            DecodesIf (cases self names.now).exact (case_spelling (cases self names.now) form name)
+            DecodesIf (cases self names.now).exact (case_format (cases self names.now) form name)
             (input S.view de.old) (input S.view de.new) (answer_of result) };
 }
 
-/// No other variant: every other name is refused in these words.
+/// No other variant: every other name is rejected in these words.
 #[derive(Debug, Drop)]
 pub struct Otherwise(pub StaticStr);
 
@@ -148,7 +148,7 @@ impl<S: Source> Cases<S, Never> for Otherwise {
     }
 }
 
-/// A variant, and those behind it.
+/// A variant, and those after it.
 impl<S: Source, A: Drop, B: Drop, C: Case<S, A>, D: Cases<S, B>> Cases<S, Choice<A, B>> for (C, D) {
     ghost cases = { λ cases. cases_by C.holding (D.cases cases.1) };
 
@@ -163,9 +163,9 @@ impl<S: Source, A: Drop, B: Drop, C: Case<S, A>, D: Cases<S, B>> Cases<S, Choice
     ) -> Result<Choice<A, B>, DecodeError<S::Error>> {
         let (case, cases) = self;
         match names {
-            [_, behind @ ..] => {
+            [_, trailing @ ..] => {
                 if at > 0 {
-                    match cases.take(alloc, behind, at - 1, form, de) {
+                    match cases.take(alloc, trailing, at - 1, form, de) {
                         Ok(value) => Ok(Choice::Other(value)),
                         Err(error) => Err(error),
                     }
@@ -187,10 +187,10 @@ impl<S: Source, A: Drop, B: Drop, C: Case<S, A>, D: Cases<S, B>> Cases<S, Choice
 impl<S: Source> Deserializer<S> {
     /// An enum: a text, which is the name of a variant that holds nothing, or a map of one entry,
     /// from the name of a variant to what it holds. `cases` says what each variant holds, in the
-    /// order of the names. The enum's own name is not spelled.
+    /// order of the names. The enum's own name is not encoded.
     ///
     /// A name is read as a `String`. It takes no memory where it stands whole in what the reader
-    /// shows, behind its length in one byte. The budget is as before, whatever the answer is.
+    /// shows, after its length in one byte. The budget is as before, whatever the answer is.
     ///
     /// # Errors
     ///
@@ -198,7 +198,7 @@ impl<S: Source> Deserializer<S> {
     /// - those of `String`, at the name
     /// - `Custom` in the words of `Otherwise`: the name is that of no variant. It is taken then
     /// - `Core` of `Mismatch` by "enum" with the variant's first byte: the variant has the other
-    ///   form. What stands behind the name is left
+    ///   form. What follows the name is left
     /// - those of what the variant holds, with what they leave
     pub fn deserialize_variant<T: From<R>, R: Drop, C: Cases<S, R>>(
         &mut self,
@@ -230,7 +230,7 @@ fn variant_inside<S: Source, R: Drop, C: Cases<S, R>>(
     cases: C,
 ) -> Result<R, DecodeError<S::Error>>
     ensures { DecodesIf (C.cases cases variants.now).exact
-        (inside_spelling (C.cases cases variants.now))
+        (inside_format (C.cases cases variants.now))
         (input S.view de.old) (input S.view de.new) (answer_of result) }
 {
     match take_form(&mut de.reader) {
@@ -248,7 +248,7 @@ fn named_variant<S: Source, R: Drop, C: Cases<S, R>>(
     cases: C,
 ) -> Result<R, DecodeError<S::Error>>
     ensures { DecodesIf (C.cases cases variants.now).exact
-        (named_spelling (C.cases cases variants.now) form)
+        (named_format (C.cases cases variants.now) form)
         (input S.view de.old) (input S.view de.new) (answer_of result) }
 {
     match take_name(alloc, de, variants) {

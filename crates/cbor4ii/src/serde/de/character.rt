@@ -1,7 +1,7 @@
 //! Characters.
 ghost use Rattle.std.specs.Prelude.{◌≡◌, true, IfSome, IsNone};
 ghost use Rattle.std.specs.Char.{encode_utf8};
-ghost use Rattle.cbor4ii.specs.Character.{StopsChar, NoCharacter, char_laws};
+ghost use Rattle.cbor4ii.specs.Character.{RejectsChar, NoCharacter, char_laws};
 ghost use Rattle.cbor4ii.specs.Typed.{input, answer_of, typed_by, Deserializes};
 
 use crate::serde::de::deserialize::{Deserialize, Typed};
@@ -11,7 +11,7 @@ use cbor4ii_rw::read::Source;
 use std::alloc::Global;
 
 impl Typed for char {
-    ghost promise = { typed_by StopsChar true true char_laws };
+    ghost promise = { typed_by RejectsChar true true char_laws };
 }
 
 /// A text of exactly one character, read by `Deserializer::deserialize_char`.

@@ -3,7 +3,7 @@
 ghost use Rattle.std.specs.Prelude.{codes, IfOk};
 ghost use Rattle.std.proofs.Common.{refl};
 ghost use Rattle.std.specs.Cow.{IsBorrowedStr, IsOwnedStr};
-ghost use Rattle.cbor4ii_items.specs.Cow.{BorrowsWhereCounted, cow_text, cow_bytes};
+ghost use Rattle.cbor4ii_items.specs.Cow.{BorrowsWhereDefinite, cow_text, cow_bytes};
 ghost use Rattle.cbor4ii_items.specs.Cow.{IsBorrowedBytes, IsOwnedBytes};
 ghost use Rattle.cbor4ii_items.specs.Laws.Strings.{two_small, text_lawful, as_lawful};
 ghost use Rattle.cbor4ii.specs.Typed.{input, answer_of, exactly, Deserializes};
@@ -27,7 +27,7 @@ impl<'de> Typed for CowStr<'de, Global> {
     ghost promise = { exactly refl (text_lawful (codes "str") cow_text) };
 }
 
-/// A text: a part of the input where its length is definite, a copy of its chunks where it is not.
+/// A text: a slice of the input where its length is definite, a copy of its chunks where it is not.
 ///
 /// # Errors
 ///
@@ -40,14 +40,14 @@ impl<'de> Deserialize<SliceReader<'de>> for CowStr<'de, Global> {
         ensures item { Deserializes ⟦<CowStr<'de, Global> as Typed>⟧.promise
             (input ⟦<SliceReader<'de> as Source>⟧.view de.old)
             (input ⟦<SliceReader<'de> as Source>⟧.view de.new) (answer_of result) }
-        ensures borrows { IfOk result (BorrowsWhereCounted 3 IsBorrowedStr IsOwnedStr
+        ensures borrows { IfOk result (BorrowsWhereDefinite 3 IsBorrowedStr IsOwnedStr
             (input ⟦<SliceReader<'de> as Source>⟧.view de.old)) }
     {
         typed(CowStr::decode(alloc, &mut de.reader))
     }
 }
 
-/// A part of the input where the text has a definite length and stands in one segment, and a copy
+/// A slice of the input where the text has a definite length and stands in one segment, and a copy
 /// elsewhere.
 ///
 /// # Errors
@@ -61,7 +61,7 @@ impl<'de> Deserialize<SegmentReader<'de>> for CowStr<'de, Global> {
         ensures item { Deserializes ⟦<CowStr<'de, Global> as Typed>⟧.promise
             (input ⟦<SegmentReader<'de> as Source>⟧.view de.old)
             (input ⟦<SegmentReader<'de> as Source>⟧.view de.new) (answer_of result) }
-        ensures borrows { IfOk result (BorrowsWhereCounted 3 IsBorrowedStr IsOwnedStr
+        ensures borrows { IfOk result (BorrowsWhereDefinite 3 IsBorrowedStr IsOwnedStr
             (input ⟦<SegmentReader<'de> as Source>⟧.view de.old)) }
     {
         typed(CowStr::decode(alloc, &mut de.reader))
@@ -91,7 +91,7 @@ impl<'de> Typed for Bytes<CowSlice<'de, u8, Global>> {
     ghost promise = { exactly refl (as_lawful (codes "bytes") 2 two_small cow_bytes) };
 }
 
-/// A byte string: a part of the input where its length is definite, a copy of its chunks where it
+/// A byte string: a slice of the input where its length is definite, a copy of its chunks where it
 /// is not.
 ///
 /// # Errors
@@ -106,15 +106,15 @@ impl<'de> Deserialize<SliceReader<'de>> for Bytes<CowSlice<'de, u8, Global>> {
             ⟦<Bytes<CowSlice<'de, u8, Global>> as Typed>⟧.promise
             (input ⟦<SliceReader<'de> as Source>⟧.view de.old)
             (input ⟦<SliceReader<'de> as Source>⟧.view de.new) (answer_of result) }
-        ensures borrows { IfOk result (BorrowsWhereCounted 2 IsBorrowedBytes IsOwnedBytes
+        ensures borrows { IfOk result (BorrowsWhereDefinite 2 IsBorrowedBytes IsOwnedBytes
             (input ⟦<SliceReader<'de> as Source>⟧.view de.old)) }
     {
         typed(<Bytes<CowSlice<'de, u8, Global>>>::decode(alloc, &mut de.reader))
     }
 }
 
-/// A part of the input where the string has a definite length and stands in one segment, and a copy
-/// elsewhere.
+/// A slice of the input where the string has a definite length and stands in one segment, and a
+/// copy elsewhere.
 ///
 /// # Errors
 ///
@@ -128,7 +128,7 @@ impl<'de> Deserialize<SegmentReader<'de>> for Bytes<CowSlice<'de, u8, Global>> {
             ⟦<Bytes<CowSlice<'de, u8, Global>> as Typed>⟧.promise
             (input ⟦<SegmentReader<'de> as Source>⟧.view de.old)
             (input ⟦<SegmentReader<'de> as Source>⟧.view de.new) (answer_of result) }
-        ensures borrows { IfOk result (BorrowsWhereCounted 2 IsBorrowedBytes IsOwnedBytes
+        ensures borrows { IfOk result (BorrowsWhereDefinite 2 IsBorrowedBytes IsOwnedBytes
             (input ⟦<SegmentReader<'de> as Source>⟧.view de.old)) }
     {
         typed(<Bytes<CowSlice<'de, u8, Global>>>::decode(alloc, &mut de.reader))

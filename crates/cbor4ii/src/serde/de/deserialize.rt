@@ -10,7 +10,7 @@ use std::alloc::Global;
 /// means the same over all of them. No code runs for it. A type that promises nothing of the bytes
 /// leaves it out.
 pub trait Typed: Sized {
-    // What is read, how bytes are refused, and how much of that the type promises.
+    // What is read, how bytes are rejected, and how much of that the type promises.
     ghost promise: { Promise Self } = { nothing };
 }
 
@@ -21,23 +21,23 @@ pub trait Deserialize<S: Source>: Typed {
     ///
     /// Over any lawful reader, also one that does not tell its bytes, and whatever the answer is:
     /// the budget is as before, the bytes that are left are an end of those that were there, no
-    /// more can come than before, and a reader that lends whole still does. An accepted value took
+    /// more can come than before, and a reader that is zero-copy stays so. An accepted value took
     /// at least one byte.
     ///
     /// # Errors
     ///
     /// - `Core` of `Read` with the reader's error: the reader failed in the call. A part of the
-    ///   value may be taken then. The bytes that are left stay told where the reader remembers
-    ///   them, and may be told no more otherwise
+    ///   value may be taken then. The bytes that are left stay known where the reader remembers
+    ///   them, and may be known no more otherwise
     /// - `Core` of `OutOfMemory`: a growth was refused. Only a type that may take memory answers
     ///   it, and a part of the value may be taken then
     /// - all other errors speak of the bytes. `Core` of `DepthOverflow` comes only where the
     ///   reader has a budget
     ///
-    /// Of an exact type that needs no borrowed part, these come only where no value whose
+    /// Of an exact type that needs no borrowed slice, these come only where no value whose
     /// steps fit the budget begins the bytes. The same holds of another exact type where the reader
-    /// lends whole and has fewer than 2^64 bytes left. Of a type that tells its refusals, `begins`
-    /// of its spelling says which error it is, with which fields, and which bytes are left.
+    /// is zero-copy and has fewer than 2^64 bytes left. Of a type that reports its errors, `begins`
+    /// of its format says which error it is, with which fields, and which bytes are left.
     fn deserialize(alloc: Global, de: &mut Deserializer<S>) -> Result<Self, DecodeError<S::Error>>
         ensures { Deserializes Self.promise
             (input S.view de.old) (input S.view de.new) (answer_of result) };

@@ -61,7 +61,7 @@ impl<S: Source> Deserializer<S> {
         &mut self,
         alloc: Global,
     ) -> Result<T, DecodeError<S::Error>>
-        ensures { Decodes T.spelling
+        ensures { Decodes T.format
             (input S.view self.old) (input S.view self.new) (answer_of result) }
     {
         take_item(alloc, self)
@@ -74,7 +74,7 @@ pub(crate) fn take_item<S: Source, T: Decode<S>>(
     alloc: Global,
     de: &mut Deserializer<S>,
 ) -> Result<T, DecodeError<S::Error>>
-    ensures { Decodes T.spelling
+    ensures { Decodes T.format
         (input S.view de.old) (input S.view de.new) (answer_of result) }
 {
     typed(T::decode(alloc, &mut de.reader))

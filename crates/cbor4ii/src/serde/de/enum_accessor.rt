@@ -3,22 +3,22 @@ ghost use Rattle.std.specs.Prelude.{[], ◌≡◌, ◌≤◌, ◌+◌, true, fal
 ghost use Rattle.std.specs.Prelude.{OnOk, IsOk, codes};
 ghost use Rattle.std.specs.Borrow.{sem, LendsIfOk, RestsIfErr};
 ghost use mir.Syntax.{named};
-ghost use Rattle.cbor4ii_rw.specs.Reader.{Breaks};
+ghost use Rattle.cbor4ii_rw.specs.Reader.{ReaderFails};
 ghost use Rattle.cbor4ii_items.specs.Moves.{OnRead};
-ghost use Rattle.cbor4ii_items.specs.Decoding.{IsExact, Sound, Refuses, Stops, Decodes};
-ghost use Rattle.cbor4ii_items.specs.Lengths.{ReadsLength, StopsLength};
-ghost use Rattle.cbor4ii_items.specs.Refusal.{is_out_of_memory};
+ghost use Rattle.cbor4ii_items.specs.Decoding.{IsExact, Sound, Complete, Rejects, Decodes};
+ghost use Rattle.cbor4ii_items.specs.Lengths.{ReadsLength, RejectsLength};
+ghost use Rattle.cbor4ii_items.specs.InputError.{is_out_of_memory};
 ghost use Rattle.cbor4ii.specs.contracts.serde.de.deserializer.Deserializer.{the_row};
 ghost use Rattle.cbor4ii.specs.contracts.serde.de.enum_accessor.EnumAccessor.{the_row as the_enum};
-ghost use Rattle.cbor4ii.specs.declared.serde.de.accessor.Left.TheVariants.{Counted};
+ghost use Rattle.cbor4ii.specs.declared.serde.de.accessor.Left.TheVariants.{Definite};
 ghost use Rattle.cbor4ii.specs.Accessing.{inside, lender_of, left_in, steps_held, OpensParts};
-ghost use Rattle.cbor4ii.specs.Accessing.{Closes, Finishes, RefusedAs};
-ghost use Rattle.cbor4ii.specs.Stepped.{Stepped, StopsStepped, stepped_spelling};
-ghost use Rattle.cbor4ii.specs.Tuples.{ReadsCountOf, StopsCountOf};
+ghost use Rattle.cbor4ii.specs.Accessing.{Closes, Finishes, RejectedAs};
+ghost use Rattle.cbor4ii.specs.Stepped.{Stepped, RejectsStepped, stepped_format};
+ghost use Rattle.cbor4ii.specs.Tuples.{ReadsCountOf, RejectsCountOf};
 ghost use Rattle.cbor4ii.specs.Typed.{input, answer_of, as_core, said_by, Deserializes};
 ghost use Rattle.cbor4ii.specs.Variants.{inside_enum, reference_of_enum, deserializer_of_enum};
 ghost use Rattle.cbor4ii.specs.Variants.{lender_of_enum, form_of, with_content, OpensEnum};
-ghost use Rattle.cbor4ii.specs.Variants.{ReadsContent, StopsContent, SaysOther, form_spelling};
+ghost use Rattle.cbor4ii.specs.Variants.{ReadsContent, RejectsContent, SaysOther, form_format};
 
 use crate::serde::de::accessor::{Accessor, Left};
 use crate::serde::de::deserialize::Deserialize;
@@ -61,7 +61,7 @@ impl<'a, S: Source> Drop for EnumAccessor<'a, S> {
 
 impl<S: Source> Deserializer<S> {
     /// A variant: a text, its name, or a map of one entry, from its name to its content. A step is
-    /// taken, and the head of the map; a text stays. The enum's own name is not spelled, and no
+    /// taken, and the head of the map; a text stays. The enum's own name is not encoded, and no
     /// name of a variant is asked for.
     ///
     /// # Errors
@@ -79,11 +79,11 @@ impl<S: Source> Deserializer<S> {
         name: StaticStr,
         variants: &[StaticStr],
     ) -> Result<EnumAccessor<'_, S>, DecodeError<S::Error>>
-        ensures* refused { sem 𝓛 (RestsIfErr (the_row S.row) self.entry
+        ensures* rejected { sem 𝓛 (RestsIfErr (the_row S.row) self.entry
             lender_of_enum result (λ new.
-            RefusedAs (stepped_spelling (codes "enum") form_spelling)
+            RejectedAs (stepped_format (codes "enum") form_format)
             (input S.view self.old) (input S.view new) (answer_of result) ×
-            OnRead (answer_of result) (Breaks (input S.view self.old) (input S.view new)))) }
+            OnRead (answer_of result) (ReaderFails (input S.view self.old) (input S.view new)))) }
         ensures same_reference { IfOk result
             (λ accessor. lender_of_enum accessor ≡ self.entry.ghost_name) }
         ensures opened { IfOk result (λ accessor. OpensEnum (input S.view self.old)
@@ -100,13 +100,13 @@ impl<S: Source> Deserializer<S> {
     }
 }
 
-/// A step, and then the form. Where it is refused, the step is given back.
+/// A step, and then the form. Where it is rejected, the step is given back.
 #[inline(always)]
 fn begin_enum<S: Source>(reader: &mut S) -> Result<(bool, u8), core_error::DecodeError<S::Error>>
     ensures opened { IfOk result (OpensEnum (S.view reader.old) (S.view reader.new)) }
-    ensures refused { RefusedAs (stepped_spelling (codes "enum") form_spelling)
+    ensures rejected { RejectedAs (stepped_format (codes "enum") form_format)
         (S.view reader.old) (S.view reader.new) result }
-    ensures failed { OnRead result (Breaks (S.view reader.old) (S.view reader.new)) }
+    ensures failed { OnRead result (ReaderFails (S.view reader.old) (S.view reader.new)) }
 {
     if !reader.step_in() {
         return Err(core_error::DecodeError::DepthOverflow { name: "enum" });
@@ -125,8 +125,8 @@ fn begin_enum<S: Source>(reader: &mut S) -> Result<(bool, u8), core_error::Decod
 pub(crate) fn take_form<S: Source>(
     reader: &mut S,
 ) -> Result<(bool, u8), core_error::DecodeError<S::Error>>
-    ensures decodes { Decodes form_spelling (S.view reader.old) (S.view reader.new) result }
-    ensures failed { OnRead result (Breaks (S.view reader.old) (S.view reader.new)) }
+    ensures decodes { Decodes form_format (S.view reader.old) (S.view reader.new) result }
+    ensures failed { OnRead result (ReaderFails (S.view reader.old) (S.view reader.new)) }
 {
     match peek(reader, "enum") {
         Ok(first) => {
@@ -146,7 +146,7 @@ pub(crate) fn take_form<S: Source>(
     }
 }
 
-/// The content of a variant that holds items without names. Where it is refused, its step and that
+/// The content of a variant that holds items without names. Where it is rejected, its step and that
 /// of the variant are given back.
 fn begin_tuple_content<S: Source>(
     reader: &mut S,
@@ -155,14 +155,15 @@ fn begin_tuple_content<S: Source>(
     len: usize,
 ) -> Result<(), core_error::DecodeError<S::Error>>
     ensures opened { OnOk result
-        (OpensParts 4 (S.view reader.old) (S.view reader.new) (Counted len)) }
+        (OpensParts 4 (S.view reader.old) (S.view reader.new) (Definite len)) }
     ensures finishes { OnErr result (Finishes 1 (S.view reader.old) (S.view reader.new) result) }
     ensures wrong { content ≡ false → SaysOther found result }
     ensures memory { IfErr result (λ error. is_out_of_memory error ≡ false) }
     ensures complete { IfErr result
-        (Refuses (ReadsContent content (Stepped (ReadsCountOf len))) (S.view reader.old)) }
-    ensures stops { IfErr result
-        (Stops (StopsContent (content, found) (StopsStepped (codes "tuple") (StopsCountOf len)))
+        (Complete (ReadsContent content (Stepped (ReadsCountOf len))) (S.view reader.old)) }
+    ensures rejects { IfErr result
+        (Rejects (RejectsContent (content, found) (RejectsStepped (codes "tuple")
+        (RejectsCountOf len)))
         (S.view reader.old) (S.view reader.new)) }
 {
     if !content {
@@ -181,7 +182,7 @@ fn begin_tuple_content<S: Source>(
     }
 }
 
-/// The content of a variant that holds named fields. Where it is refused, its step and that of the
+/// The content of a variant that holds named fields. Where it is rejected, its step and that of the
 /// variant are given back.
 fn begin_map_content<S: Source>(
     reader: &mut S,
@@ -194,9 +195,10 @@ fn begin_map_content<S: Source>(
     ensures wrong { content ≡ false → SaysOther found result }
     ensures memory { IfErr result (λ error. is_out_of_memory error ≡ false) }
     ensures complete { IfErr result
-        (Refuses (ReadsContent content (Stepped (ReadsLength 5))) (S.view reader.old)) }
-    ensures stops { IfErr result (Stops
-        (StopsContent (content, found) (StopsStepped (codes "map") (StopsLength (codes "map") 5)))
+        (Complete (ReadsContent content (Stepped (ReadsLength 5))) (S.view reader.old)) }
+    ensures rejects { IfErr result (Rejects
+        (RejectsContent (content, found) (RejectsStepped (codes "map")
+        (RejectsLength (codes "map") 5)))
         (S.view reader.old) (S.view reader.new)) }
 {
     if !content {
@@ -305,20 +307,20 @@ impl<'a, S: Source> EnumAccessor<'a, S> {
             × Closes 1 (inside_enum S.view self.entry) (input S.view self.exit.0.now) }
         ensures memory { IfErr result
             (λ error. IsTrue (is_out_of_memory (as_core error)) →
-            IsTrue T.promise.spelling.takes_memory) }
+            IsTrue T.promise.format.takes_memory) }
         ensures progress { OnOk result
             ((input S.view self.exit.0.now).bound + 1
             ≤ (inside_enum S.view self.entry).bound) }
         ensures sound { IfOk result (Sound (ReadsContent (form_of self.entry).0
-            T.promise.spelling.reads)
+            T.promise.format.reads)
             (inside_enum S.view self.entry) (input S.view self.exit.0.now)) }
-        ensures complete { IsTrue T.promise.exact → IsExact T.promise.spelling.owned
+        ensures complete { IsTrue T.promise.exact → IsExact T.promise.format.owned
             (inside_enum S.view self.entry) →
-            IfErr result (λ error. Refuses (ReadsContent (form_of self.entry).0
-            T.promise.spelling.reads)
+            IfErr result (λ error. Complete (ReadsContent (form_of self.entry).0
+            T.promise.format.reads)
             (inside_enum S.view self.entry) (as_core error)) }
-        ensures stops { IfErr result (λ error. Stops
-            (StopsContent (form_of self.entry) (said_by T.promise))
+        ensures rejects { IfErr result (λ error. Rejects
+            (RejectsContent (form_of self.entry) (said_by T.promise))
             (inside_enum S.view self.entry) (input S.view self.exit.0.now) (as_core error)) }
     {
         if !self.content {
@@ -340,11 +342,11 @@ impl<'a, S: Source> EnumAccessor<'a, S> {
     /// - that of `content`, where no content follows the name
     /// - those of `deserialize_tuple`
     pub fn tuple_variant(self, len: usize) -> Result<Accessor<'a, S>, DecodeError<S::Error>>
-        ensures* refused { sem 𝓛 (RestsIfErr (the_row S.row) (reference_of_enum self.entry)
+        ensures* rejected { sem 𝓛 (RestsIfErr (the_row S.row) (reference_of_enum self.entry)
             lender_of result (λ new.
             Finishes 1 (inside_enum S.view self.entry) (input S.view new) (answer_of result) ×
-            IfErr result (λ error. Stops (StopsContent (form_of self.entry)
-            (StopsStepped (codes "tuple") (StopsCountOf len)))
+            IfErr result (λ error. Rejects (RejectsContent (form_of self.entry)
+            (RejectsStepped (codes "tuple") (RejectsCountOf len)))
             (inside_enum S.view self.entry) (input S.view new) (as_core error)))) }
         ensures same_reference { IfOk result
             (λ accessor. lender_of accessor ≡ lender_of_enum self.entry) }
@@ -353,17 +355,17 @@ impl<'a, S: Source> EnumAccessor<'a, S> {
         ensures opened { IfOk result (λ accessor. OpensParts 4 (inside_enum S.view self.entry)
             (inside S.view accessor) (left_in accessor)) }
         ensures steps { IfOk result (λ accessor. steps_held accessor ≡ 2) }
-        ensures left { IfOk result (λ accessor. left_in accessor ≡ Counted len) }
+        ensures left { IfOk result (λ accessor. left_in accessor ≡ Definite len) }
         ensures memory { IfErr result (λ error. is_out_of_memory (as_core error) ≡ false) }
         ensures complete { IfErr result (λ error.
-            Refuses (ReadsContent (form_of self.entry).0 (Stepped (ReadsCountOf len)))
+            Complete (ReadsContent (form_of self.entry).0 (Stepped (ReadsCountOf len)))
             (inside_enum S.view self.entry) (as_core error)) }
     {
         let EnumAccessor { de, content, found } = self;
         match begin_tuple_content(&mut de.reader, content, found, len) {
             Ok(()) => Ok(Accessor {
                 de,
-                left: Left::Counted(len),
+                left: Left::Definite(len),
                 nested: true,
             }),
             Err(error) => Err(DecodeError::Core(error)),
@@ -380,11 +382,11 @@ impl<'a, S: Source> EnumAccessor<'a, S> {
     /// - that of `content`, where no content follows the name
     /// - those of `deserialize_map`
     pub fn struct_variant(self) -> Result<Accessor<'a, S>, DecodeError<S::Error>>
-        ensures* refused { sem 𝓛 (RestsIfErr (the_row S.row) (reference_of_enum self.entry)
+        ensures* rejected { sem 𝓛 (RestsIfErr (the_row S.row) (reference_of_enum self.entry)
             lender_of result (λ new.
             Finishes 1 (inside_enum S.view self.entry) (input S.view new) (answer_of result) ×
-            IfErr result (λ error. Stops (StopsContent (form_of self.entry)
-            (StopsStepped (codes "map") (StopsLength (codes "map") 5)))
+            IfErr result (λ error. Rejects (RejectsContent (form_of self.entry)
+            (RejectsStepped (codes "map") (RejectsLength (codes "map") 5)))
             (inside_enum S.view self.entry) (input S.view new) (as_core error)))) }
         ensures same_reference { IfOk result
             (λ accessor. lender_of accessor ≡ lender_of_enum self.entry) }
@@ -395,7 +397,7 @@ impl<'a, S: Source> EnumAccessor<'a, S> {
         ensures steps { IfOk result (λ accessor. steps_held accessor ≡ 2) }
         ensures memory { IfErr result (λ error. is_out_of_memory (as_core error) ≡ false) }
         ensures complete { IfErr result (λ error.
-            Refuses (ReadsContent (form_of self.entry).0 (Stepped (ReadsLength 5)))
+            Complete (ReadsContent (form_of self.entry).0 (Stepped (ReadsLength 5)))
             (inside_enum S.view self.entry) (as_core error)) }
     {
         let EnumAccessor { de, content, found } = self;

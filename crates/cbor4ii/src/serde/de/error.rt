@@ -14,8 +14,8 @@ use std::fmt;
 pub enum DecodeError<E> {
     /// An error of the codec.
     Core(core_error::DecodeError<E>),
-    /// A type refuses what it reads, and the text says why. Of this crate's own types it comes
-    /// behind a whole item that stands for no value of the type: "expected one character" and
+    /// A type rejects what it reads, and the text says why. Of this crate's own types it comes
+    /// after a whole item that stands for no value of the type: "expected one character" and
     /// "integer out of range". A user's own type says when it comes, and what is left then.
     Custom(StaticStr),
 }

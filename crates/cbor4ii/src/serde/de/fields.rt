@@ -1,12 +1,12 @@
 //! Structs that are read from their named fields in one call.
 ghost use Rattle.std.specs.Prelude.{◌≡◌, ℕ, List, codes};
 ghost use Rattle.std.specs.Borrow.{Bor};
-ghost use Rattle.cbor4ii_items.specs.Sequences.{count_of, open_of, inside_of, in_list};
+ghost use Rattle.cbor4ii_items.specs.Sequences.{count_of, indefinite_of, inside_of, in_list};
 ghost use Rattle.cbor4ii.specs.Fields.{no_values, made, all_made, Alters};
 ghost use Rattle.cbor4ii.specs.Names.{StandsAt};
 ghost use Rattle.cbor4ii.specs.Made.{made_from};
 ghost use Rattle.cbor4ii.specs.Presence.{made_struct};
-ghost use Rattle.cbor4ii.specs.Structs.{Fields, no_more, field, fields_by, behind_name, entry_of};
+ghost use Rattle.cbor4ii.specs.Structs.{Fields, no_more, field, fields_by, after_name, entry_of};
 ghost use Rattle.cbor4ii.specs.Structs.{entries_of, struct_of};
 ghost use Rattle.cbor4ii.specs.Typed.{input, answer_of, Deserializes};
 
@@ -41,7 +41,7 @@ impl Places for () {
     fn none() {}
 }
 
-/// A field, and those behind it.
+/// A field, and those after it.
 impl<P: Place, V: Places> Places for (P, V) {
     ghost fields = { fields_by P.place P.Value.promise V.fields };
 
@@ -68,7 +68,7 @@ pub trait Values<S: Source>: Places {
         de: &mut Deserializer<S>,
     ) -> Result<(), DecodeError<S::Error>>
         ensures { (name : List ℕ) → StandsAt name names.now at →
-            Alters made (Self.fields names.now).exact (behind_name (Self.fields names.now) name)
+            Alters made (Self.fields names.now).exact (after_name (Self.fields names.now) name)
             self.old self.new (input S.view de.old) (input S.view de.new) (answer_of result) };
 }
 
@@ -86,7 +86,7 @@ impl<S: Source> Values<S> for () {
     }
 }
 
-/// A field, and those behind it.
+/// A field, and those after it.
 impl<S: Source, P: Place, V: Values<S>> Values<S> for (P, V)
 where
     P::Value: Deserialize<S>,
@@ -100,9 +100,9 @@ where
         de: &mut Deserializer<S>,
     ) -> Result<(), DecodeError<S::Error>> {
         match names {
-            [_, behind @ ..] => {
+            [_, trailing @ ..] => {
                 if at > 0 {
-                    return self.1.take(alloc, behind, at - 1, de);
+                    return self.1.take(alloc, trailing, at - 1, de);
                 }
                 match <P::Value>::deserialize(alloc, de) {
                     Ok(value) => {
@@ -117,7 +117,7 @@ where
     }
 }
 
-/// Reads a name and what stands behind it.
+/// Reads a name and what follows it.
 #[inline(always)]
 fn take_field<S: Source, V: Values<S>>(
     alloc: Global,
@@ -168,15 +168,15 @@ fn fields_inside<S: Source, V: Values<S>>(
         (input S.view de.old) (input S.view de.new) (answer_of result) }
 {
     match Map::<()>::len(&mut de.reader) {
-        Ok(Some(count)) => counted_fields(alloc, de, names, values, count),
-        Ok(None) => open_fields(alloc, de, names, values),
+        Ok(Some(count)) => definite_fields(alloc, de, names, values, count),
+        Ok(None) => indefinite_fields(alloc, de, names, values),
         Err(error) => Err(DecodeError::Core(error)),
     }
 }
 
 /// The same of so many entries.
 #[inline(always)]
-fn counted_fields<S: Source, V: Values<S>>(
+fn definite_fields<S: Source, V: Values<S>>(
     alloc: Global,
     de: &mut Deserializer<S>,
     names: &[StaticStr],
@@ -194,14 +194,14 @@ fn counted_fields<S: Source, V: Values<S>>(
 }
 
 /// The same of entries up to a break.
-fn open_fields<S: Source, V: Values<S>>(
+fn indefinite_fields<S: Source, V: Values<S>>(
     alloc: Global,
     de: &mut Deserializer<S>,
     names: &[StaticStr],
     values: &mut V,
 ) -> Result<(), DecodeError<S::Error>>
     ensures { Alters all_made (V.fields names.now).exact
-        (open_of in_list (codes "map") (entry_of (V.fields names.now))) values.old values.new
+        (indefinite_of in_list (codes "map") (entry_of (V.fields names.now))) values.old values.new
         (input S.view de.old) (input S.view de.new) (answer_of result) }
 {
     while !takes_break(de)? {
@@ -212,21 +212,21 @@ fn open_fields<S: Source, V: Values<S>>(
 
 /// Each of these reads a struct: a map from its fields' names to their values, of any length, in
 /// any order. An entry of another name is skipped, a field of which no entry came is none, and of
-/// several entries of one name the last counts, or the struct is refused where the field may come
-/// once. Of two fields of one name the first is read. The struct's own name is not spelled.
+/// several entries of one name the last counts, or the struct is rejected where the field may come
+/// once. Of two fields of one name the first is read. The struct's own name is not encoded.
 ///
 /// A name is read as a `String`, and what is skipped as `IgnoredAny`, both under the step of the
-/// map. A name takes no memory where it stands whole in what the reader shows, behind its length in
+/// map. A name takes no memory where it stands whole in what the reader shows, after its length in
 /// one byte. The budget is as before, whatever the answer is.
 ///
 /// # Errors
 ///
-/// They are told at `deserialize_fields`, which alone answers one for a field that is missing. What
-/// was read before is let go then, and what stands behind it is left.
+/// They are described at `deserialize_fields`, which alone answers one for a field that is missing.
+/// What was read before is let go then, and what follows it is left.
 impl<S: Source> Deserializer<S> {
     /// A struct of any number of fields, which have these names. `presences` says of each whether
     /// it has to be there, what stands in its place else, and whether it may come once alone.
-    /// `missing` has the words of each, in the order of the names, with which a struct is refused
+    /// `missing` has the words of each, in the order of the names, with which a struct is rejected
     /// that lacks it, or in which it comes again. The struct is made of the values, nested pairs in
     /// the order of the names.
     ///

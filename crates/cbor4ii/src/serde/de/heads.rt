@@ -1,10 +1,10 @@
 //! A step, and then the head of what is read part by part.
 ghost use Rattle.std.specs.Prelude.{OnOk, IfOk, codes};
-ghost use Rattle.cbor4ii_items.specs.Lengths.{length_spelling};
-ghost use Rattle.cbor4ii.specs.declared.serde.de.accessor.Left.TheVariants.{Counted};
-ghost use Rattle.cbor4ii.specs.Accessing.{OpensParts, RefusedAs};
-ghost use Rattle.cbor4ii.specs.Stepped.{stepped_spelling};
-ghost use Rattle.cbor4ii.specs.Tuples.{counted_head};
+ghost use Rattle.cbor4ii_items.specs.Lengths.{length_format};
+ghost use Rattle.cbor4ii.specs.declared.serde.de.accessor.Left.TheVariants.{Definite};
+ghost use Rattle.cbor4ii.specs.Accessing.{OpensParts, RejectedAs};
+ghost use Rattle.cbor4ii.specs.Stepped.{stepped_format};
+ghost use Rattle.cbor4ii.specs.Tuples.{container_head};
 
 use crate::serde::de::accessor::Left;
 use crate::serde::de::tuples::take_count;
@@ -12,20 +12,20 @@ use cbor4ii_items::types::{Array, Map};
 use cbor4ii_rw::error::DecodeError;
 use cbor4ii_rw::read::Source;
 
-/// An array of any length. Where it is refused, the step is given back.
+/// An array of any length. Where it is rejected, the step is given back.
 pub(crate) fn begin_array<S: Source>(reader: &mut S) -> Result<Left, DecodeError<S::Error>>
     ensures opened { IfOk result (λ left.
         OpensParts 4 (S.view reader.old) (S.view reader.new) left) }
-    ensures refused { RefusedAs
-        (stepped_spelling (codes "seq") (length_spelling (codes "array") 4))
+    ensures rejected { RejectedAs
+        (stepped_format (codes "seq") (length_format (codes "array") 4))
         (S.view reader.old) (S.view reader.new) result }
 {
     if !reader.step_in() {
         return Err(DecodeError::DepthOverflow { name: "seq" });
     }
     match Array::<()>::len(reader) {
-        Ok(Some(count)) => Ok(Left::Counted(count)),
-        Ok(None) => Ok(Left::Open),
+        Ok(Some(count)) => Ok(Left::Definite(count)),
+        Ok(None) => Ok(Left::Indefinite),
         Err(error) => {
             reader.step_out();
             Err(error)
@@ -33,20 +33,20 @@ pub(crate) fn begin_array<S: Source>(reader: &mut S) -> Result<Left, DecodeError
     }
 }
 
-/// A map of any length. Where it is refused, the step is given back.
+/// A map of any length. Where it is rejected, the step is given back.
 pub(crate) fn begin_map<S: Source>(reader: &mut S) -> Result<Left, DecodeError<S::Error>>
     ensures opened { IfOk result (λ left.
         OpensParts 5 (S.view reader.old) (S.view reader.new) left) }
-    ensures refused { RefusedAs
-        (stepped_spelling (codes "map") (length_spelling (codes "map") 5))
+    ensures rejected { RejectedAs
+        (stepped_format (codes "map") (length_format (codes "map") 5))
         (S.view reader.old) (S.view reader.new) result }
 {
     if !reader.step_in() {
         return Err(DecodeError::DepthOverflow { name: "map" });
     }
     match Map::<()>::len(reader) {
-        Ok(Some(count)) => Ok(Left::Counted(count)),
-        Ok(None) => Ok(Left::Open),
+        Ok(Some(count)) => Ok(Left::Definite(count)),
+        Ok(None) => Ok(Left::Indefinite),
         Err(error) => {
             reader.step_out();
             Err(error)
@@ -54,14 +54,14 @@ pub(crate) fn begin_map<S: Source>(reader: &mut S) -> Result<Left, DecodeError<S
     }
 }
 
-/// An array of so many items. Where it is refused, the step is given back.
+/// An array of so many items. Where it is rejected, the step is given back.
 pub(crate) fn begin_tuple<S: Source>(
     reader: &mut S,
     len: usize,
 ) -> Result<(), DecodeError<S::Error>>
     ensures opened { OnOk result
-        (OpensParts 4 (S.view reader.old) (S.view reader.new) (Counted len)) }
-    ensures refused { RefusedAs (stepped_spelling (codes "tuple") (counted_head len))
+        (OpensParts 4 (S.view reader.old) (S.view reader.new) (Definite len)) }
+    ensures rejected { RejectedAs (stepped_format (codes "tuple") (container_head len))
         (S.view reader.old) (S.view reader.new) result }
 {
     if !reader.step_in() {

@@ -1,10 +1,10 @@
 //! Items that are skipped.
 ghost use Rattle.std.proofs.Common.{refl};
 ghost use Rattle.cbor4ii_items.specs.Decoding.{Decodes};
-ghost use Rattle.cbor4ii_tree.specs.Promises.{Others, OnlySkips, AllSkips, FrontSkips, EofSkips};
+ghost use Rattle.cbor4ii_tree.specs.Promises.{Others, OnlySkips, AllSkips, PrefixSkips, EofSkips};
 ghost use Rattle.cbor4ii_tree.specs.Promises.{DepthSkips, FinalSkips, ExactSkips};
 ghost use Rattle.cbor4ii_tree.specs.Laws.Ignoring.{ignored_lawful};
-ghost use Rattle.cbor4ii.specs.ItemRead.{skipped_spelling};
+ghost use Rattle.cbor4ii.specs.ItemRead.{skipped_format};
 ghost use Rattle.cbor4ii.specs.Typed.{input, answer_of, exactly};
 
 use crate::serde::de::deserialize::{Deserialize, Typed};
@@ -41,12 +41,12 @@ impl<S: Source> Deserializer<S> {
     /// Those of `IgnoredAny` as an item of the codec, each as `Core`, with its fields and what it
     /// leaves.
     pub fn deserialize_ignored_any(&mut self, alloc: Global) -> Result<(), DecodeError<S::Error>>
-        ensures item { Decodes skipped_spelling
+        ensures item { Decodes skipped_format
             (input S.view self.old) (input S.view self.new) (answer_of result) }
         ensures only { OnlySkips (input S.view self.old) (input S.view self.new)
             (answer_of result) }
         ensures all { AllSkips (input S.view self.old) (input S.view self.new) (answer_of result) }
-        ensures front { FrontSkips (input S.view self.old) (answer_of result) }
+        ensures prefix { PrefixSkips (input S.view self.old) (answer_of result) }
         ensures eof { EofSkips (input S.view self.old) (input S.view self.new) (answer_of result) }
         ensures depth { DepthSkips (input S.view self.old) (answer_of result) }
         ensures never { FinalSkips (input S.view self.old) (answer_of result) }

@@ -11,7 +11,7 @@ ghost use Rattle.cbor4ii.specs.Typed.{exactly};
 use crate::serde::de::deserialize::{Deserialize, Typed};
 use crate::serde::de::deserializer::{Deserializer, take_item};
 use crate::serde::de::error::DecodeError;
-use cbor4ii_items::decode::Spelled;
+use cbor4ii_items::decode::Decodable;
 use cbor4ii_rw::read::Source;
 use std::alloc::Global;
 
@@ -24,7 +24,8 @@ impl Typed for u8 {
 ///
 /// # Errors
 ///
-/// `Core` of `Read` is told at `Deserialize::deserialize`. The others are `Core` of these, by "u8":
+/// `Core` of `Read` is described at `Deserialize::deserialize`. The others are `Core` of these, by
+/// "u8":
 ///
 /// - `Eof` with 1: no byte is left
 /// - `Eof` with k: the argument has k bytes and fewer are left. Nothing is left then
@@ -86,7 +87,7 @@ impl<S: Source> Deserialize<S> for u64 {
 }
 
 impl Typed for u128 {
-    ghost promise = { exactly {spelling = ⟦<u128 as Spelled>⟧.spelling} refl (record {
+    ghost promise = { exactly {format = ⟦<u128 as Decodable>⟧.format} refl (record {
       one = u128_one;
       within = u128_within;
       positive = λ _. u128_positive;
@@ -122,8 +123,8 @@ impl Typed for i8 {
 ///
 /// # Errors
 ///
-/// `Core` of `Read` is told at `Deserialize::deserialize`. The others are `Core` of these. Of a
-/// head of major type 0 the name is "+i8", of one of major type 1 it is "-i8":
+/// `Core` of `Read` is described at `Deserialize::deserialize`. The others are `Core` of these. Of
+/// a head of major type 0 the name is "+i8", of one of major type 1 it is "-i8":
 ///
 /// - `Eof` by "i8" with 1: no byte is left
 /// - `Mismatch` by "i8" with the next byte, which stays: it is of another major type
@@ -195,7 +196,7 @@ impl<S: Source> Deserialize<S> for i64 {
 }
 
 impl Typed for i128 {
-    ghost promise = { exactly {spelling = ⟦<i128 as Spelled>⟧.spelling} refl (record {
+    ghost promise = { exactly {format = ⟦<i128 as Decodable>⟧.format} refl (record {
       one = i128_one;
       within = i128_within;
       positive = λ _. i128_positive;
@@ -214,7 +215,7 @@ impl Typed for i128 {
 /// - by "i128" at a number of 2^127 or more
 /// - by "u64" at a head of major type 0
 /// - by "i128::tag" at a tag that is neither 2 nor 3
-/// - by "+i128::bytes" or "-i128::bytes" at the byte string behind tag 2 or 3
+/// - by "+i128::bytes" or "-i128::bytes" at the byte string after tag 2 or 3
 impl<S: Source> Deserialize<S> for i128 {
     #[inline(always)]
     fn deserialize(alloc: Global, de: &mut Deserializer<S>) -> Result<i128, DecodeError<S::Error>> {

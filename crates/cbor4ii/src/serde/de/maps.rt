@@ -50,9 +50,9 @@ impl<S: Source, K: Deserialize<S> + Ord + Drop, V: Deserialize<S> + Drop> Sequen
     ghost small = { five_small };
 }
 
-/// A map, counted or up to a break, under one step of the budget, which is given back whatever the
-/// answer is. Of equal keys the first stays, with the last value. No break is looked for between a
-/// key and its value.
+/// A map, of definite or indefinite length, under one step of the budget, which is given back
+/// whatever the answer is. Of equal keys the first stays, with the last value. No break is looked
+/// for between a key and its value.
 ///
 /// # Errors
 ///

@@ -6,13 +6,13 @@ ghost use Rattle.cbor4ii.specs.Typed.{input, answer_of, Deserializes};
 use crate::serde::de::deserialize::Deserialize;
 use crate::serde::de::deserializer::{Deserializer, take_item};
 use crate::serde::de::error::DecodeError;
-use cbor4ii_items::decode::Spelled;
+use cbor4ii_items::decode::Decodable;
 use cbor4ii_items::types::{F16, F32, F64};
 use cbor4ii_rw::error::StaticStr;
 use cbor4ii_rw::read::Source;
 use std::alloc::Global;
 
-/// Each of these reads the item at the front of what is left, and leaves what stands behind it. It
+/// Each of these reads the item at the front of what is left, and leaves what follows it. It
 /// moves the reader as `Deserialize::deserialize` does, and needs no step unless it says so.
 ///
 /// # Errors
@@ -28,7 +28,7 @@ impl<S: Source> Deserializer<S> {
     /// Those of `bool`, each as `Core`: `Read`, and `Eof` or `Mismatch` by "bool", which take
     /// nothing.
     pub fn deserialize_bool(&mut self, alloc: Global) -> Result<bool, DecodeError<S::Error>>
-        ensures { Decodes ⟦<bool as Spelled>⟧.spelling
+        ensures { Decodes ⟦<bool as Decodable>⟧.format
             (input S.view self.old) (input S.view self.new) (answer_of result) }
     {
         take_item(alloc, self)
@@ -40,7 +40,7 @@ impl<S: Source> Deserializer<S> {
     ///
     /// Those of `u8`, each as `Core`: `Read`, and `Eof` or `Mismatch` by "u8".
     pub fn deserialize_u8(&mut self, alloc: Global) -> Result<u8, DecodeError<S::Error>>
-        ensures { Decodes ⟦<u8 as Spelled>⟧.spelling
+        ensures { Decodes ⟦<u8 as Decodable>⟧.format
             (input S.view self.old) (input S.view self.new) (answer_of result) }
     {
         take_item(alloc, self)
@@ -52,7 +52,7 @@ impl<S: Source> Deserializer<S> {
     ///
     /// Those of `u16`, each as `Core`: `Read`, and `Eof` or `Mismatch` by "u16".
     pub fn deserialize_u16(&mut self, alloc: Global) -> Result<u16, DecodeError<S::Error>>
-        ensures { Decodes ⟦<u16 as Spelled>⟧.spelling
+        ensures { Decodes ⟦<u16 as Decodable>⟧.format
             (input S.view self.old) (input S.view self.new) (answer_of result) }
     {
         take_item(alloc, self)
@@ -64,7 +64,7 @@ impl<S: Source> Deserializer<S> {
     ///
     /// Those of `u32`, each as `Core`: `Read`, and `Eof` or `Mismatch` by "u32".
     pub fn deserialize_u32(&mut self, alloc: Global) -> Result<u32, DecodeError<S::Error>>
-        ensures { Decodes ⟦<u32 as Spelled>⟧.spelling
+        ensures { Decodes ⟦<u32 as Decodable>⟧.format
             (input S.view self.old) (input S.view self.new) (answer_of result) }
     {
         take_item(alloc, self)
@@ -76,7 +76,7 @@ impl<S: Source> Deserializer<S> {
     ///
     /// Those of `u64`, each as `Core`: `Read`, and `Eof` or `Mismatch` by "u64".
     pub fn deserialize_u64(&mut self, alloc: Global) -> Result<u64, DecodeError<S::Error>>
-        ensures { Decodes ⟦<u64 as Spelled>⟧.spelling
+        ensures { Decodes ⟦<u64 as Decodable>⟧.format
             (input S.view self.old) (input S.view self.new) (answer_of result) }
     {
         take_item(alloc, self)
@@ -88,7 +88,7 @@ impl<S: Source> Deserializer<S> {
     ///
     /// Those of `u128`, each as `Core`.
     pub fn deserialize_u128(&mut self, alloc: Global) -> Result<u128, DecodeError<S::Error>>
-        ensures { Decodes ⟦<u128 as Spelled>⟧.spelling
+        ensures { Decodes ⟦<u128 as Decodable>⟧.format
             (input S.view self.old) (input S.view self.new) (answer_of result) }
     {
         take_item(alloc, self)
@@ -100,7 +100,7 @@ impl<S: Source> Deserializer<S> {
     ///
     /// Those of `i8`, each as `Core`: `Read`, and `Eof`, `Mismatch` or `CastOverflow`.
     pub fn deserialize_i8(&mut self, alloc: Global) -> Result<i8, DecodeError<S::Error>>
-        ensures { Decodes ⟦<i8 as Spelled>⟧.spelling
+        ensures { Decodes ⟦<i8 as Decodable>⟧.format
             (input S.view self.old) (input S.view self.new) (answer_of result) }
     {
         take_item(alloc, self)
@@ -112,7 +112,7 @@ impl<S: Source> Deserializer<S> {
     ///
     /// Those of `i16`, each as `Core`: `Read`, and `Eof`, `Mismatch` or `CastOverflow`.
     pub fn deserialize_i16(&mut self, alloc: Global) -> Result<i16, DecodeError<S::Error>>
-        ensures { Decodes ⟦<i16 as Spelled>⟧.spelling
+        ensures { Decodes ⟦<i16 as Decodable>⟧.format
             (input S.view self.old) (input S.view self.new) (answer_of result) }
     {
         take_item(alloc, self)
@@ -124,7 +124,7 @@ impl<S: Source> Deserializer<S> {
     ///
     /// Those of `i32`, each as `Core`: `Read`, and `Eof`, `Mismatch` or `CastOverflow`.
     pub fn deserialize_i32(&mut self, alloc: Global) -> Result<i32, DecodeError<S::Error>>
-        ensures { Decodes ⟦<i32 as Spelled>⟧.spelling
+        ensures { Decodes ⟦<i32 as Decodable>⟧.format
             (input S.view self.old) (input S.view self.new) (answer_of result) }
     {
         take_item(alloc, self)
@@ -136,7 +136,7 @@ impl<S: Source> Deserializer<S> {
     ///
     /// Those of `i64`, each as `Core`: `Read`, and `Eof`, `Mismatch` or `CastOverflow`.
     pub fn deserialize_i64(&mut self, alloc: Global) -> Result<i64, DecodeError<S::Error>>
-        ensures { Decodes ⟦<i64 as Spelled>⟧.spelling
+        ensures { Decodes ⟦<i64 as Decodable>⟧.format
             (input S.view self.old) (input S.view self.new) (answer_of result) }
     {
         take_item(alloc, self)
@@ -148,7 +148,7 @@ impl<S: Source> Deserializer<S> {
     ///
     /// Those of `i128`, each as `Core`.
     pub fn deserialize_i128(&mut self, alloc: Global) -> Result<i128, DecodeError<S::Error>>
-        ensures { Decodes ⟦<i128 as Spelled>⟧.spelling
+        ensures { Decodes ⟦<i128 as Decodable>⟧.format
             (input S.view self.old) (input S.view self.new) (answer_of result) }
     {
         take_item(alloc, self)
@@ -160,7 +160,7 @@ impl<S: Source> Deserializer<S> {
     ///
     /// Those of `F16`, each as `Core`: `Read`, and `Eof` or `Mismatch` by "f16".
     pub fn deserialize_f16(&mut self, alloc: Global) -> Result<F16, DecodeError<S::Error>>
-        ensures { Decodes ⟦<F16 as Spelled>⟧.spelling
+        ensures { Decodes ⟦<F16 as Decodable>⟧.format
             (input S.view self.old) (input S.view self.new) (answer_of result) }
     {
         take_item(alloc, self)
@@ -172,7 +172,7 @@ impl<S: Source> Deserializer<S> {
     ///
     /// Those of `F32`, each as `Core`: `Read`, and `Eof` or `Mismatch` by "f32".
     pub fn deserialize_f32(&mut self, alloc: Global) -> Result<F32, DecodeError<S::Error>>
-        ensures { Decodes ⟦<F32 as Spelled>⟧.spelling
+        ensures { Decodes ⟦<F32 as Decodable>⟧.format
             (input S.view self.old) (input S.view self.new) (answer_of result) }
     {
         take_item(alloc, self)
@@ -184,7 +184,7 @@ impl<S: Source> Deserializer<S> {
     ///
     /// Those of `F64`, each as `Core`: `Read`, and `Eof` or `Mismatch` by "f64".
     pub fn deserialize_f64(&mut self, alloc: Global) -> Result<F64, DecodeError<S::Error>>
-        ensures { Decodes ⟦<F64 as Spelled>⟧.spelling
+        ensures { Decodes ⟦<F64 as Decodable>⟧.format
             (input S.view self.old) (input S.view self.new) (answer_of result) }
     {
         take_item(alloc, self)
@@ -197,13 +197,13 @@ impl<S: Source> Deserializer<S> {
     ///
     /// Those of `String`, each as `Core`, by "str" where no other name is said.
     pub fn deserialize_string(&mut self, alloc: Global) -> Result<String, DecodeError<S::Error>>
-        ensures { Decodes ⟦<String as Spelled>⟧.spelling
+        ensures { Decodes ⟦<String as Decodable>⟧.format
             (input S.view self.old) (input S.view self.new) (answer_of result) }
     {
         take_item(alloc, self)
     }
 
-    /// A struct of one field, read as that field is. Its name is not spelled.
+    /// A struct of one field, read as that field is. Its name is not encoded.
     ///
     /// # Errors
     ///

@@ -1,5 +1,5 @@
 //! Names of fields, read and found among some names. No memory is taken for one that stands whole
-//! in what the reader shows, behind its length in one byte.
+//! in what the reader shows, after its length in one byte.
 ghost use Rattle.std.specs.Prelude.{◌≡◌, ◌≢◌, ◌≤◌, ◌<◌, length, true, false, IsUtf8, IfSome};
 ghost use Rattle.cbor4ii.specs.Names.{StandsAt, IsWholeName, TakesName, TakesShown};
 ghost use Rattle.cbor4ii.specs.Typed.{input, answer_of};
@@ -52,7 +52,7 @@ fn take_any_name<S: Source>(
     }
 }
 
-/// Takes a name that stands whole in the front that is shown, behind its length in one byte, and
+/// Takes a name that stands whole in the prefix that is shown, after its length in one byte, and
 /// answers its place as `take_name` does. Where there is none, or it is not UTF-8, none, and
 /// nothing is taken. An error is the reader's.
 #[inline(always)]
@@ -77,7 +77,7 @@ fn take_shown_name<S: Source>(
     }
 }
 
-/// The place of the name that stands whole at the front of `shown`, behind its length in one byte,
+/// The place of the name that stands whole at the front of `shown`, after its length in one byte,
 /// and the number of bytes of both.
 #[inline(always)]
 fn whole_name(shown: &[u8], names: &[StaticStr]) -> Option<(usize, usize)>

@@ -23,8 +23,8 @@ impl Typed for String {
 ///
 /// # Errors
 ///
-/// `Core` of `Read` and of `OutOfMemory` are told at `Deserialize::deserialize`. The others are
-/// `Core` of these, by "str" where no other name is said:
+/// `Core` of `Read` and of `OutOfMemory` are described at `Deserialize::deserialize`. The others
+/// are `Core` of these, by "str" where no other name is said:
 ///
 /// - `Eof` with 1: no byte is left
 /// - `Eof` with k: the argument of the head has k bytes and fewer are left. Nothing is left then

@@ -1,11 +1,11 @@
 //! What arrays and maps share, read into a vector of their parts.
 ghost use Rattle.std.specs.Prelude.{ℕ, ◌≡◌, ◌<◌, List, Bool, IsTrue, false, IfErr};
-ghost use Rattle.cbor4ii_items.specs.Decoding.{Spelling, IsLawful, Decodes, DecodesIf};
-ghost use Rattle.cbor4ii_items.specs.Lengths.{length_spelling};
+ghost use Rattle.cbor4ii_items.specs.Decoding.{Format, IsLawful, Decodes, DecodesIf};
+ghost use Rattle.cbor4ii_items.specs.Lengths.{length_format};
 ghost use Rattle.cbor4ii_items.specs.Reading.{Runs};
 ghost use Rattle.cbor4ii_items.specs.ReadStrings.{break_at};
-ghost use Rattle.cbor4ii_items.specs.Refusal.{is_out_of_memory};
-ghost use Rattle.cbor4ii_items.specs.Sequences.{count_of, open_of, inside_of, in_list};
+ghost use Rattle.cbor4ii_items.specs.InputError.{is_out_of_memory};
+ghost use Rattle.cbor4ii_items.specs.Sequences.{count_of, indefinite_of, inside_of, in_list};
 ghost use Rattle.cbor4ii.specs.Sequence.{sequence_of};
 ghost use Rattle.cbor4ii.specs.Typed.{input, answer_of, parts_answer, as_core};
 
@@ -23,20 +23,20 @@ pub(crate) trait Sequence<S: Source>: Sized {
     /// An item, or a key and its value.
     type Part: Drop;
 
-    // How a part is spelled, and whether it is exact.
-    ghost part: { Spelling Self.Part };
+    // How a part is encoded, and whether it is exact.
+    ghost part: { Format Self.Part };
 
     ghost exact: { Bool };
 
     // The major type.
     ghost major: { ℕ };
 
-    // The name in refusals.
+    // The name in errors.
     ghost name: { List ℕ };
 
     /// Takes the head.
     fn take_length(reader: &mut S) -> Result<Option<usize>, core_error::DecodeError<S::Error>>
-        ensures { Decodes (length_spelling Self.name Self.major)
+        ensures { Decodes (length_format Self.name Self.major)
             (S.view reader.old) (S.view reader.new) result };
 
     /// Reads one part.
@@ -82,15 +82,15 @@ fn take_inside<S: Source, Q: Sequence<S>>(
         (input S.view de.old) (input S.view de.new) (parts_answer result) }
 {
     match Q::take_length(&mut de.reader) {
-        Ok(Some(count)) => take_counted::<S, Q>(alloc, de, count),
-        Ok(None) => take_open::<S, Q>(alloc, de),
+        Ok(Some(count)) => take_definite::<S, Q>(alloc, de, count),
+        Ok(None) => take_indefinite::<S, Q>(alloc, de),
         Err(error) => Err(DecodeError::Core(error)),
     }
 }
 
 /// Reads so many parts. A count alone takes little memory: more is taken as the parts come.
 #[inline(always)]
-fn take_counted<S: Source, Q: Sequence<S>>(
+fn take_definite<S: Source, Q: Sequence<S>>(
     alloc: Global,
     de: &mut Deserializer<S>,
     count: usize,
@@ -113,11 +113,11 @@ fn take_counted<S: Source, Q: Sequence<S>>(
 }
 
 /// Reads parts up to a break.
-fn take_open<S: Source, Q: Sequence<S>>(
+fn take_indefinite<S: Source, Q: Sequence<S>>(
     alloc: Global,
     de: &mut Deserializer<S>,
 ) -> Result<Vec<Q::Part>, DecodeError<S::Error>>
-    ensures { DecodesIf Q.exact (open_of in_list Q.name Q.part)
+    ensures { DecodesIf Q.exact (indefinite_of in_list Q.name Q.part)
         (input S.view de.old) (input S.view de.new) (parts_answer result) }
 {
     let mut parts = Vec::new(alloc);

@@ -49,7 +49,7 @@ pub enum Single<T> {
     Repeated,
 }
 
-/// Several values are told from one.
+/// Several values are reported from one.
 impl<T: Typed + Drop> Place for Single<T> {
     type Value = T;
 

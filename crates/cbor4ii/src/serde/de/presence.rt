@@ -3,7 +3,7 @@ ghost use Rattle.std.specs.Prelude.{◌≡◌, ℕ, List, Option, Result, Ok};
 ghost use Rattle.std.specs.Borrow.{Bor};
 ghost use Rattle.cbor4ii.specs.Presence.{outcome, or_words, or_value, or_none, once, paired};
 ghost use Rattle.cbor4ii.specs.Presence.{SameFate, words_fate, value_fate, once_fate, pair_fate};
-ghost use Rattle.cbor4ii.specs.Presence.{first_of, behind_of};
+ghost use Rattle.cbor4ii.specs.Presence.{first_of, after_of};
 
 use crate::serde::de::deserialize::Typed;
 use crate::serde::de::fields::Places;
@@ -15,24 +15,24 @@ pub trait Presence<P: Place>: Sized + Drop {
     /// What the struct has of it.
     type Value: Drop;
 
-    // What becomes of what was read; the list is the words of a refusal.
+    // What becomes of what was read; the list is the words of an error.
     ghost made: { Self → List ℕ → P → Result Self.Value (List ℕ) };
 
-    /// Makes it of what was read, or refuses the struct in these words.
+    /// Makes it of what was read, or rejects the struct in these words.
     ///
     /// # Errors
     ///
-    /// The words that `made` gives, where it refuses: of `Required` where no value was read, and of
-    /// `Once` also where several were. `Or` and `Optional` never refuse.
+    /// The words that `made` gives, where it rejects: of `Required` where no value was read, and of
+    /// `Once` also where several were. `Or` and `Optional` never reject.
     fn value(self, words: StaticStr, read: P) -> Result<Self::Value, StaticStr>
         ensures { outcome result ≡ made self words.now read };
 
-    // A law: whether it refuses depends on nothing but how many values were read.
+    // A law: whether it rejects depends on nothing but how many values were read.
     ghost fate: { (kind : Self) (words : List ℕ) (o p : P) → P.place.came o ≡ P.place.came p →
         SameFate (made kind words o) (made kind words p) };
 }
 
-/// A field that has to be there. Where it is missing, the struct is refused.
+/// A field that has to be there. Where it is missing, the struct is rejected.
 #[derive(Debug, Drop)]
 pub struct Required;
 
@@ -93,7 +93,7 @@ impl<T: Typed + Drop> Presence<Option<T>> for Optional {
 }
 
 /// A field that may come once: as the kind inside says, and where it comes more than once, the
-/// struct is refused.
+/// struct is rejected.
 #[derive(Debug, Drop)]
 pub struct Once<K>(pub K);
 
@@ -120,20 +120,20 @@ pub trait Presences<V: Places>: Sized + Drop {
     /// What the struct has of them: nested pairs too.
     type Values: Drop;
 
-    // What becomes of the values that were read; the list is the words of each field's refusal.
+    // What becomes of the values that were read; the list is the words of each field's error.
     ghost made: { Self → List (Bor (List ℕ)) → V → Result Self.Values (List ℕ) };
 
-    /// Makes it of the values that were read, or refuses the struct in the words of the first field
+    /// Makes it of the values that were read, or rejects the struct in the words of the first field
     /// that does. `missing` has the words of each field, in their order.
     ///
     /// # Errors
     ///
-    /// The words that `made` gives, where it refuses: of a pair those of its field, or of the
-    /// fields behind it.
+    /// The words that `made` gives, where it rejects: of a pair those of its field, or of the
+    /// fields after it.
     fn values(self, missing: &[StaticStr], read: V) -> Result<Self::Values, StaticStr>
         ensures { outcome result ≡ made self missing.now read };
 
-    // A law: values that mean the same are made or refused alike.
+    // A law: values that mean the same are made or rejected alike.
     ghost fate: { (kinds : Self) (words names : List (Bor (List ℕ))) (v w : V) →
         (V.fields names).same v w → SameFate (made kinds words v) (made kinds words w) };
 }
@@ -151,13 +151,13 @@ impl Presences<()> for () {
     ghost fate = { λ kinds words names v w s. tt };
 }
 
-/// A field, and those behind it.
+/// A field, and those after it.
 impl<P: Place + Drop, O: Presence<P>, V: Places + Drop, K: Presences<V>> Presences<(P, V)>
     for (O, K) {
     type Values = (O::Value, K::Values);
 
     ghost made = { λ kinds words v. paired (O.made kinds.0 (first_of words) v.0)
-        (K.made kinds.1 (behind_of words) v.1) };
+        (K.made kinds.1 (after_of words) v.1) };
 
     fn values(
         self,
@@ -167,7 +167,7 @@ impl<P: Place + Drop, O: Presence<P>, V: Places + Drop, K: Presences<V>> Presenc
         let (presence, presences) = self;
         let (first, others) = read;
         match presence.value(first_words(missing), first) {
-            Ok(value) => match presences.values(words_behind(missing), others) {
+            Ok(value) => match presences.values(words_after(missing), others) {
                 Ok(values) => Ok((value, values)),
                 Err(words) => Err(words),
             },
@@ -176,8 +176,8 @@ impl<P: Place + Drop, O: Presence<P>, V: Places + Drop, K: Presences<V>> Presenc
     }
 
     ghost fate = { λ kinds words. pair_fate P.place P.Value.promise V.fields
-        (O.made kinds.0 (first_of words)) (K.made kinds.1 (behind_of words))
-        (O.fate kinds.0 (first_of words)) (K.fate kinds.1 (behind_of words)) };
+        (O.made kinds.0 (first_of words)) (K.made kinds.1 (after_of words))
+        (O.fate kinds.0 (first_of words)) (K.fate kinds.1 (after_of words)) };
 }
 
 /// The words of the first field, and none where there are none.
@@ -190,12 +190,12 @@ fn first_words(missing: &[StaticStr]) -> StaticStr
     }
 }
 
-/// The words of the fields behind the first.
-fn words_behind(missing: &[StaticStr]) -> &[StaticStr]
-    ensures { result.now ≡ behind_of missing.now }
+/// The words of the fields after the first.
+fn words_after(missing: &[StaticStr]) -> &[StaticStr]
+    ensures { result.now ≡ after_of missing.now }
 {
     match missing {
-        [_, behind @ ..] => behind,
+        [_, trailing @ ..] => trailing,
         [] => missing,
     }
 }

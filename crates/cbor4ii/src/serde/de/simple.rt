@@ -2,8 +2,8 @@
 ghost use Rattle.std.specs.Prelude.{codes};
 ghost use Rattle.std.proofs.Common.{refl};
 ghost use Rattle.cbor4ii_items.specs.Simple.{bool_lawful};
-ghost use Rattle.cbor4ii_items.specs.Floats.{float_spelling, float_lawful};
-ghost use Rattle.cbor4ii_items.specs.Laws.Spellings.{lawful_by};
+ghost use Rattle.cbor4ii_items.specs.Floats.{float_format, float_lawful};
+ghost use Rattle.cbor4ii_items.specs.Laws.Formats.{lawful_by};
 ghost use Rattle.cbor4ii.specs.Typed.{exactly};
 
 use crate::serde::de::deserialize::{Deserialize, Typed};
@@ -21,7 +21,7 @@ impl Typed for bool {
 ///
 /// # Errors
 ///
-/// `Core` of `Read` is told at `Deserialize::deserialize`. The others are `Core` of these, by
+/// `Core` of `Read` is described at `Deserialize::deserialize`. The others are `Core` of these, by
 /// "bool", and nothing is taken then:
 ///
 /// - `Eof` with 1: no byte is left
@@ -35,14 +35,14 @@ impl<S: Source> Deserialize<S> for bool {
 
 impl Typed for F16 {
     ghost promise = { exactly refl (lawful_by (λ v. v.0)
-        (float_spelling (codes "f16") 0xf9 2) (float_lawful (codes "f16") 0xf9 2)) };
+        (float_format (codes "f16") 0xf9 2) (float_lawful (codes "f16") 0xf9 2)) };
 }
 
 /// A float of two bytes, as its bits (RFC 8949 section 3.3). It takes no step.
 ///
 /// # Errors
 ///
-/// `Core` of `Read` is told at `Deserialize::deserialize`. The others are `Core` of these, by
+/// `Core` of `Read` is described at `Deserialize::deserialize`. The others are `Core` of these, by
 /// "f16":
 ///
 /// - `Eof` with 1: no byte is left
@@ -57,14 +57,14 @@ impl<S: Source> Deserialize<S> for F16 {
 
 impl Typed for F32 {
     ghost promise = { exactly refl (lawful_by (λ v. v.0)
-        (float_spelling (codes "f32") 0xfa 4) (float_lawful (codes "f32") 0xfa 4)) };
+        (float_format (codes "f32") 0xfa 4) (float_lawful (codes "f32") 0xfa 4)) };
 }
 
 /// A float of four bytes, as its bits (RFC 8949 section 3.3). It takes no step.
 ///
 /// # Errors
 ///
-/// `Core` of `Read` is told at `Deserialize::deserialize`. The others are `Core` of these, by
+/// `Core` of `Read` is described at `Deserialize::deserialize`. The others are `Core` of these, by
 /// "f32":
 ///
 /// - `Eof` with 1: no byte is left
@@ -79,14 +79,14 @@ impl<S: Source> Deserialize<S> for F32 {
 
 impl Typed for F64 {
     ghost promise = { exactly refl (lawful_by (λ v. v.0)
-        (float_spelling (codes "f64") 0xfb 8) (float_lawful (codes "f64") 0xfb 8)) };
+        (float_format (codes "f64") 0xfb 8) (float_lawful (codes "f64") 0xfb 8)) };
 }
 
 /// A float of eight bytes, as its bits (RFC 8949 section 3.3). It takes no step.
 ///
 /// # Errors
 ///
-/// `Core` of `Read` is told at `Deserialize::deserialize`. The others are `Core` of these, by
+/// `Core` of `Read` is described at `Deserialize::deserialize`. The others are `Core` of these, by
 /// "f64":
 ///
 /// - `Eof` with 1: no byte is left

@@ -3,16 +3,16 @@ ghost use Rattle.std.specs.Prelude.{[], ◌≡◌, ◌≤◌, ◌+◌, false, Ok
 ghost use Rattle.std.specs.Prelude.{OnSome};
 ghost use Rattle.std.specs.Borrow.{sem, Lends, RestsIfErr};
 ghost use mir.Syntax.{named};
-ghost use Rattle.cbor4ii_rw.specs.Reader.{Breaks};
+ghost use Rattle.cbor4ii_rw.specs.Reader.{ReaderFails};
 ghost use Rattle.cbor4ii_items.specs.Moves.{OnRead};
-ghost use Rattle.cbor4ii_items.specs.Decoding.{IsExact, Sound, Refuses, Stops};
-ghost use Rattle.cbor4ii_items.specs.Refusal.{is_out_of_memory};
+ghost use Rattle.cbor4ii_items.specs.Decoding.{IsExact, Sound, Complete, Rejects};
+ghost use Rattle.cbor4ii_items.specs.InputError.{is_out_of_memory};
 ghost use Rattle.cbor4ii.specs.contracts.serde.de.deserializer.Deserializer.{the_row};
 ghost use Rattle.cbor4ii.specs.contracts.serde.de.some_accessor.SomeAccessor.{the_row as the_some};
-ghost use Rattle.cbor4ii.specs.Accessing.{Closes, Finishes, RefusedAs};
+ghost use Rattle.cbor4ii.specs.Accessing.{Closes, Finishes, RejectedAs};
 ghost use Rattle.cbor4ii.specs.Optional.{inside_some, deserializer_of_some, lender_of_some, comes};
 ghost use Rattle.cbor4ii.specs.Optional.{steps_of_some, with_value_from, OpensOption};
-ghost use Rattle.cbor4ii.specs.Optional.{ReadsComingValue, presence_spelling};
+ghost use Rattle.cbor4ii.specs.Optional.{ReadsComingValue, presence_format};
 ghost use Rattle.cbor4ii.specs.Typed.{input, answer_of, as_core};
 
 use crate::serde::de::deserialize::Deserialize;
@@ -56,11 +56,11 @@ impl<S: Source> Deserializer<S> {
     /// - `Core` of `Eof` by "option" with 1: no byte is left
     /// - `Core` of `DepthOverflow` by "option": a value comes and no step is left
     pub fn deserialize_option(&mut self) -> Result<SomeAccessor<'_, S>, DecodeError<S::Error>>
-        ensures* refused { sem 𝓛 (RestsIfErr (the_row S.row) self.entry
+        ensures* rejected { sem 𝓛 (RestsIfErr (the_row S.row) self.entry
             lender_of_some result (λ new.
-            RefusedAs presence_spelling
+            RejectedAs presence_format
             (input S.view self.old) (input S.view new) (answer_of result) ×
-            OnRead (answer_of result) (Breaks (input S.view self.old) (input S.view new)))) }
+            OnRead (answer_of result) (ReaderFails (input S.view self.old) (input S.view new)))) }
         ensures same_reference { IfOk result
             (λ accessor. lender_of_some accessor ≡ self.entry.ghost_name) }
         ensures opened { IfOk result (λ accessor. OpensOption (input S.view self.old)
@@ -76,8 +76,8 @@ impl<S: Source> Deserializer<S> {
 /// Whether a value comes. Where one does a step is taken.
 fn begin_option<S: Source>(reader: &mut S) -> Result<bool, core_error::DecodeError<S::Error>>
     ensures opened { IfOk result (OpensOption (S.view reader.old) (S.view reader.new)) }
-    ensures refused { RefusedAs presence_spelling (S.view reader.old) (S.view reader.new) result }
-    ensures failed { OnRead result (Breaks (S.view reader.old) (S.view reader.new)) }
+    ensures rejected { RejectedAs presence_format (S.view reader.old) (S.view reader.new) result }
+    ensures failed { OnRead result (ReaderFails (S.view reader.old) (S.view reader.new)) }
 {
     match peek(reader, "option") {
         Ok(first) => {
@@ -128,20 +128,20 @@ impl<'a, S: Source> SomeAccessor<'a, S> {
             × (input S.view self.exit.0.now ≡ inside_some S.view self.entry) }
         ensures memory { IfErr result
             (λ error. IsTrue (is_out_of_memory (as_core error)) →
-            IsTrue T.promise.spelling.takes_memory) }
+            IsTrue T.promise.format.takes_memory) }
         ensures progress { IfOk result (λ value. OnSome value
             ((input S.view self.exit.0.now).bound + 1
             ≤ (inside_some S.view self.entry).bound)) }
         ensures sound { IfOk result (Sound (ReadsComingValue (comes self.entry)
-            T.promise.spelling.reads)
+            T.promise.format.reads)
             (inside_some S.view self.entry) (input S.view self.exit.0.now)) }
-        ensures complete { IsTrue T.promise.exact → IsExact T.promise.spelling.owned
+        ensures complete { IsTrue T.promise.exact → IsExact T.promise.format.owned
             (inside_some S.view self.entry) →
-            IfErr result (λ error. Refuses (ReadsComingValue (comes self.entry)
-            T.promise.spelling.reads)
+            IfErr result (λ error. Complete (ReadsComingValue (comes self.entry)
+            T.promise.format.reads)
             (inside_some S.view self.entry) (as_core error)) }
-        ensures stops { IsTrue T.promise.told → IfErr result
-            (λ error. Stops T.promise.spelling.begins
+        ensures rejects { IsTrue T.promise.known → IfErr result
+            (λ error. Rejects T.promise.format.begins
             (inside_some S.view self.entry) (input S.view self.exit.0.now) (as_core error)) }
     {
         if !self.some {

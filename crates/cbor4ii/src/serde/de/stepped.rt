@@ -1,6 +1,6 @@
 //! What is read under one step more.
 ghost use Rattle.cbor4ii_items.specs.Decoding.{DecodesIf};
-ghost use Rattle.cbor4ii.specs.Stepped.{stepped_spelling};
+ghost use Rattle.cbor4ii.specs.Stepped.{stepped_format};
 ghost use Rattle.cbor4ii.specs.Typed.{input, answer_of};
 ghost use Rattle.cbor4ii.specs.TypedParts.{part_of};
 
@@ -19,7 +19,7 @@ pub(crate) fn under_step<S: Source, T: Deserialize<S>>(
     de: &mut Deserializer<S>,
     name: StaticStr,
 ) -> Result<T, DecodeError<S::Error>>
-    ensures { DecodesIf T.promise.exact (stepped_spelling name.now (part_of T.promise))
+    ensures { DecodesIf T.promise.exact (stepped_format name.now (part_of T.promise))
         (input S.view de.old) (input S.view de.new) (answer_of result) }
 {
     if !de.reader.step_in() {

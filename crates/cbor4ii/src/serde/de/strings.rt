@@ -3,8 +3,8 @@
 ghost use Rattle.std.specs.Prelude.{codes, IfOk};
 ghost use Rattle.std.specs.Cow.{IsBorrowedStr, IsOwnedStr, cow_slice_items, IsBorrowedSlice};
 ghost use Rattle.std.specs.Cow.{IsOwnedSlice};
-ghost use Rattle.cbor4ii_items.specs.Cow.{BorrowsWhereCounted, cow_text, cow_bytes};
-ghost use Rattle.cbor4ii_items.specs.Strings.{as_spelling, text_spelling};
+ghost use Rattle.cbor4ii_items.specs.Cow.{BorrowsWhereDefinite, cow_text, cow_bytes};
+ghost use Rattle.cbor4ii_items.specs.Strings.{as_format, text_format};
 ghost use Rattle.cbor4ii_items.specs.Decoding.{Decodes};
 ghost use Rattle.cbor4ii.specs.Borrowed.{Copies, Unwraps};
 ghost use Rattle.cbor4ii.specs.Typed.{input, answer_of};
@@ -32,7 +32,7 @@ impl<S: Source> Deserializer<S> {
     ///
     /// Those of `Bytes<Vec<u8>>`, each as `Core`, by "bytes" where no other name is said.
     pub fn deserialize_byte_buf(&mut self, alloc: Global) -> Result<Vec<u8>, DecodeError<S::Error>>
-        ensures { Decodes (as_spelling (codes "bytes") 2 (λ v. v.items))
+        ensures { Decodes (as_format (codes "bytes") 2 (λ v. v.items))
             (input S.view self.old) (input S.view self.new) (answer_of result) }
     {
         unwrapped(<Bytes<Vec<u8>>>::decode(alloc, &mut self.reader))
@@ -50,7 +50,7 @@ fn unwrapped<T, E>(found: Result<Bytes<T>, core_error::DecodeError<E>>) -> Resul
 }
 
 impl<'de> Deserializer<SliceReader<'de>> {
-    /// A text. Where its length is definite it is a part of the input, with no copy. Where it is
+    /// A text. Where its length is definite it is a slice of the input, with no copy. Where it is
     /// not it is a copy of its chunks, for which it needs a step.
     ///
     /// # Errors
@@ -60,10 +60,10 @@ impl<'de> Deserializer<SliceReader<'de>> {
         &mut self,
         alloc: Global,
     ) -> Result<CowStr<'de, Global>, DecodeError<Never>>
-        ensures item { Decodes (text_spelling (codes "str") cow_text)
+        ensures item { Decodes (text_format (codes "str") cow_text)
             (input ⟦<SliceReader<'de> as Source>⟧.view self.old)
             (input ⟦<SliceReader<'de> as Source>⟧.view self.new) (answer_of result) }
-        ensures borrows { IfOk result (BorrowsWhereCounted 3 IsBorrowedStr IsOwnedStr
+        ensures borrows { IfOk result (BorrowsWhereDefinite 3 IsBorrowedStr IsOwnedStr
             (input ⟦<SliceReader<'de> as Source>⟧.view self.old)) }
     {
         typed(CowStr::decode(alloc, &mut self.reader))
@@ -78,16 +78,16 @@ impl<'de> Deserializer<SliceReader<'de>> {
         &mut self,
         alloc: Global,
     ) -> Result<CowStr<'de, Global>, DecodeError<Never>>
-        ensures item { Decodes (text_spelling (codes "str") cow_text)
+        ensures item { Decodes (text_format (codes "str") cow_text)
             (input ⟦<SliceReader<'de> as Source>⟧.view self.old)
             (input ⟦<SliceReader<'de> as Source>⟧.view self.new) (answer_of result) }
-        ensures borrows { IfOk result (BorrowsWhereCounted 3 IsBorrowedStr IsOwnedStr
+        ensures borrows { IfOk result (BorrowsWhereDefinite 3 IsBorrowedStr IsOwnedStr
             (input ⟦<SliceReader<'de> as Source>⟧.view self.old)) }
     {
         self.deserialize_str(alloc)
     }
 
-    /// A byte string. Where its length is definite it is a part of the input, with no copy. Where
+    /// A byte string. Where its length is definite it is a slice of the input, with no copy. Where
     /// it is not it is a copy of its chunks, for which it needs a step.
     ///
     /// # Errors
@@ -97,10 +97,10 @@ impl<'de> Deserializer<SliceReader<'de>> {
         &mut self,
         alloc: Global,
     ) -> Result<CowSlice<'de, u8, Global>, DecodeError<Never>>
-        ensures item { Decodes (as_spelling (codes "bytes") 2 cow_slice_items)
+        ensures item { Decodes (as_format (codes "bytes") 2 cow_slice_items)
             (input ⟦<SliceReader<'de> as Source>⟧.view self.old)
             (input ⟦<SliceReader<'de> as Source>⟧.view self.new) (answer_of result) }
-        ensures borrows { IfOk result (BorrowsWhereCounted 2 IsBorrowedSlice IsOwnedSlice
+        ensures borrows { IfOk result (BorrowsWhereDefinite 2 IsBorrowedSlice IsOwnedSlice
             (input ⟦<SliceReader<'de> as Source>⟧.view self.old)) }
     {
         unwrapped(<Bytes<CowSlice<'de, u8, Global>>>::decode(alloc, &mut self.reader))
@@ -108,8 +108,9 @@ impl<'de> Deserializer<SliceReader<'de>> {
 }
 
 impl<'de> Deserializer<SegmentReader<'de>> {
-    /// A text. Where its length is definite and it stands in one segment it is a part of the input,
-    /// with no copy. It is a copy elsewhere. One of indefinite length needs a step for its chunks.
+    /// A text. Where its length is definite and it stands in one segment it is a slice of the
+    /// input, with no copy. It is a copy elsewhere. One of indefinite length needs a step for its
+    /// chunks.
     ///
     /// # Errors
     ///
@@ -118,10 +119,10 @@ impl<'de> Deserializer<SegmentReader<'de>> {
         &mut self,
         alloc: Global,
     ) -> Result<CowStr<'de, Global>, DecodeError<Never>>
-        ensures item { Decodes (text_spelling (codes "str") cow_text)
+        ensures item { Decodes (text_format (codes "str") cow_text)
             (input ⟦<SegmentReader<'de> as Source>⟧.view self.old)
             (input ⟦<SegmentReader<'de> as Source>⟧.view self.new) (answer_of result) }
-        ensures borrows { IfOk result (BorrowsWhereCounted 3 IsBorrowedStr IsOwnedStr
+        ensures borrows { IfOk result (BorrowsWhereDefinite 3 IsBorrowedStr IsOwnedStr
             (input ⟦<SegmentReader<'de> as Source>⟧.view self.old)) }
     {
         typed(CowStr::decode(alloc, &mut self.reader))
@@ -136,10 +137,10 @@ impl<'de> Deserializer<SegmentReader<'de>> {
         &mut self,
         alloc: Global,
     ) -> Result<CowStr<'de, Global>, DecodeError<Never>>
-        ensures item { Decodes (text_spelling (codes "str") cow_text)
+        ensures item { Decodes (text_format (codes "str") cow_text)
             (input ⟦<SegmentReader<'de> as Source>⟧.view self.old)
             (input ⟦<SegmentReader<'de> as Source>⟧.view self.new) (answer_of result) }
-        ensures borrows { IfOk result (BorrowsWhereCounted 3 IsBorrowedStr IsOwnedStr
+        ensures borrows { IfOk result (BorrowsWhereDefinite 3 IsBorrowedStr IsOwnedStr
             (input ⟦<SegmentReader<'de> as Source>⟧.view self.old)) }
     {
         self.deserialize_str(alloc)
@@ -154,10 +155,10 @@ impl<'de> Deserializer<SegmentReader<'de>> {
         &mut self,
         alloc: Global,
     ) -> Result<CowSlice<'de, u8, Global>, DecodeError<Never>>
-        ensures item { Decodes (as_spelling (codes "bytes") 2 cow_slice_items)
+        ensures item { Decodes (as_format (codes "bytes") 2 cow_slice_items)
             (input ⟦<SegmentReader<'de> as Source>⟧.view self.old)
             (input ⟦<SegmentReader<'de> as Source>⟧.view self.new) (answer_of result) }
-        ensures borrows { IfOk result (BorrowsWhereCounted 2 IsBorrowedSlice IsOwnedSlice
+        ensures borrows { IfOk result (BorrowsWhereDefinite 2 IsBorrowedSlice IsOwnedSlice
             (input ⟦<SegmentReader<'de> as Source>⟧.view self.old)) }
     {
         unwrapped(<Bytes<CowSlice<'de, u8, Global>>>::decode(alloc, &mut self.reader))
@@ -175,7 +176,7 @@ impl<R: BufRead + Drop> Deserializer<IoReader<R>> {
         &mut self,
         alloc: Global,
     ) -> Result<CowStr<'de, Global>, DecodeError<io::Error>>
-        ensures item { Decodes (text_spelling (codes "str") cow_text)
+        ensures item { Decodes (text_format (codes "str") cow_text)
             (input ⟦<IoReader<R> as Source>⟧.view self.old)
             (input ⟦<IoReader<R> as Source>⟧.view self.new) (answer_of result) }
         ensures copied { IfOk result IsOwnedStr }
@@ -193,7 +194,7 @@ impl<R: BufRead + Drop> Deserializer<IoReader<R>> {
         &mut self,
         alloc: Global,
     ) -> Result<CowStr<'de, Global>, DecodeError<io::Error>>
-        ensures item { Decodes (text_spelling (codes "str") cow_text)
+        ensures item { Decodes (text_format (codes "str") cow_text)
             (input ⟦<IoReader<R> as Source>⟧.view self.old)
             (input ⟦<IoReader<R> as Source>⟧.view self.new) (answer_of result) }
         ensures copied { IfOk result IsOwnedStr }
@@ -210,7 +211,7 @@ impl<R: BufRead + Drop> Deserializer<IoReader<R>> {
         &mut self,
         alloc: Global,
     ) -> Result<CowSlice<'de, u8, Global>, DecodeError<io::Error>>
-        ensures item { Decodes (as_spelling (codes "bytes") 2 cow_slice_items)
+        ensures item { Decodes (as_format (codes "bytes") 2 cow_slice_items)
             (input ⟦<IoReader<R> as Source>⟧.view self.old)
             (input ⟦<IoReader<R> as Source>⟧.view self.new) (answer_of result) }
         ensures copied { IfOk result IsOwnedSlice }

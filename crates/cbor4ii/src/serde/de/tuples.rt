@@ -2,7 +2,7 @@
 ghost use Rattle.std.specs.Prelude.{◌&&◌};
 ghost use Rattle.cbor4ii_items.specs.Decoding.{Decodes, DecodesIf};
 ghost use Rattle.cbor4ii.specs.Typed.{input, answer_of};
-ghost use Rattle.cbor4ii.specs.Tuples.{counted_head, behind_spelling};
+ghost use Rattle.cbor4ii.specs.Tuples.{container_head, after_format};
 ghost use Rattle.cbor4ii.specs.TypedParts.{two_of, three_of, typed_pair, typed_triple};
 
 use crate::serde::de::deserialize::{Deserialize, Typed};
@@ -33,20 +33,20 @@ impl<S: Source, A: Deserialize<S> + Drop, B: Deserialize<S>> Deserialize<S> for 
         if !de.reader.step_in() {
             return Err(DecodeError::Core(core_error::DecodeError::DepthOverflow { name: "tuple" }));
         }
-        let outcome = pair_behind::<S, A, B>(alloc, de);
+        let outcome = pair_after::<S, A, B>(alloc, de);
         de.reader.step_out();
         outcome
     }
 }
 
-/// Reads a head that counts two, and the two behind it.
+/// Reads a head that counts two, and the two after it.
 #[inline(always)]
-fn pair_behind<S: Source, A: Deserialize<S> + Drop, B: Deserialize<S>>(
+fn pair_after<S: Source, A: Deserialize<S> + Drop, B: Deserialize<S>>(
     alloc: Global,
     de: &mut Deserializer<S>,
 ) -> Result<(A, B), DecodeError<S::Error>>
     ensures { DecodesIf (A.promise.exact && B.promise.exact)
-        (behind_spelling 2 (two_of A.promise B.promise))
+        (after_format 2 (two_of A.promise B.promise))
         (input S.view de.old) (input S.view de.new) (answer_of result) }
 {
     match take_count(&mut de.reader, 2) {
@@ -77,7 +77,7 @@ pub(crate) fn take_count<S: Source>(
     reader: &mut S,
     count: usize,
 ) -> Result<(), core_error::DecodeError<S::Error>>
-    ensures { Decodes (counted_head count) (S.view reader.old) (S.view reader.new) result }
+    ensures { Decodes (container_head count) (S.view reader.old) (S.view reader.new) result }
 {
     match Array::<()>::len(reader) {
         Ok(Some(found)) => {
@@ -117,20 +117,20 @@ impl<S: Source, A: Deserialize<S> + Drop, B: Deserialize<S> + Drop, C: Deseriali
         if !de.reader.step_in() {
             return Err(DecodeError::Core(core_error::DecodeError::DepthOverflow { name: "tuple" }));
         }
-        let outcome = triple_behind::<S, A, B, C>(alloc, de);
+        let outcome = triple_after::<S, A, B, C>(alloc, de);
         de.reader.step_out();
         outcome
     }
 }
 
-/// Reads a head that counts three, and the three behind it.
+/// Reads a head that counts three, and the three after it.
 #[inline(always)]
-fn triple_behind<S: Source, A: Deserialize<S> + Drop, B: Deserialize<S> + Drop, C: Deserialize<S>>(
+fn triple_after<S: Source, A: Deserialize<S> + Drop, B: Deserialize<S> + Drop, C: Deserialize<S>>(
     alloc: Global,
     de: &mut Deserializer<S>,
 ) -> Result<(A, B, C), DecodeError<S::Error>>
     ensures { DecodesIf (A.promise.exact && (B.promise.exact && C.promise.exact))
-        (behind_spelling 3 (three_of A.promise B.promise C.promise))
+        (after_format 3 (three_of A.promise B.promise C.promise))
         (input S.view de.old) (input S.view de.new) (answer_of result) }
 {
     match take_count(&mut de.reader, 3) {

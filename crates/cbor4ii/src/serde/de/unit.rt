@@ -1,6 +1,6 @@
 //! The unit.
 ghost use Rattle.std.specs.Prelude.{true, false};
-ghost use Rattle.cbor4ii.specs.Tuples.{StopsUnit, unit_laws};
+ghost use Rattle.cbor4ii.specs.Tuples.{RejectsUnit, unit_laws};
 ghost use Rattle.cbor4ii.specs.Typed.{input, answer_of, typed_by, Deserializes};
 
 use crate::serde::de::deserialize::{Deserialize, Typed};
@@ -16,7 +16,7 @@ use std::alloc::Global;
 const UNIT: u8 = 0x80;
 
 impl Typed for () {
-    ghost promise = { typed_by StopsUnit true false unit_laws };
+    ghost promise = { typed_by RejectsUnit true false unit_laws };
 }
 
 /// An array of no item, in one byte, `80` (RFC 8949 section 3.1). It takes no step and no memory.
@@ -58,7 +58,7 @@ impl<S: Source> Deserializer<S> {
         }
     }
 
-    /// A struct without fields, read as the unit is. Its name is not spelled.
+    /// A struct without fields, read as the unit is. Its name is not encoded.
     ///
     /// # Errors
     ///

@@ -45,9 +45,9 @@ impl<S: Source, T: Deserialize<S> + Drop> Sequence<S> for Vec<T> {
     ghost small = { four_small };
 }
 
-/// An array of values, counted or up to a break (RFC 8949 sections 3.1 and 3.2.2), under one step
-/// of the budget, which is given back whatever the answer is. At most 256 values have their place
-/// reserved before any of them came.
+/// An array of values, of definite or indefinite length (RFC 8949 sections 3.1 and 3.2.2), under
+/// one step of the budget, which is given back whatever the answer is. At most 256 values have
+/// their place reserved before any of them came.
 ///
 /// # Errors
 ///
@@ -58,7 +58,7 @@ impl<S: Source, T: Deserialize<S> + Drop> Sequence<S> for Vec<T> {
 ///   of a value or a break
 /// - those of a value, with what they leave
 ///
-/// `Core` of `OutOfMemory` is told at `Deserialize::deserialize`.
+/// `Core` of `OutOfMemory` is described at `Deserialize::deserialize`.
 impl<S: Source, T: Deserialize<S> + Drop> Deserialize<S> for Vec<T> {
     #[inline(always)]
     fn deserialize(

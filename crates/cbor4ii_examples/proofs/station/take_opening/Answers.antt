@@ -1,6 +1,7 @@
 use Rattle.std.proofs.Common.{refl}
 use Rattle.std.proofs.lemmas.Result.{err_from_is_err_and}
-use Rattle.cbor4ii_examples.proofs.Stations.{counted_opening, open_opening, opening_ok, opening_err}
+use Rattle.cbor4ii_examples.proofs.Stations.{definite_opening, indefinite_opening, opening_ok}
+use Rattle.cbor4ii_examples.proofs.Stations.{opening_err}
 use Rattle.cbor4ii_examples.proofs.Stations.{opening_other}
 use Rattle.cbor4ii_examples.proofs.station.take_opening.Goals as goal
 
@@ -11,12 +12,12 @@ returns-in_err-len g c =
 
 pub returns-in-None : goal.returns-in-None
 returns-in-None g c =
-    let d = c.in_ok-len.ensures in opening_ok d (open_opening c.in-None.is d.sound)
+    let d = c.in_ok-len.ensures in opening_ok d (indefinite_opening c.in-None.is d.sound)
 
 pub returns-in-Some-eq2 : goal.returns-in-Some-eq2
 returns-in-Some-eq2 g c =
     let d = c.in_ok-len.ensures in
-    opening_ok d (counted_opening c.in-Some-eq2.is c.in-Some-eq2.field-0-test d.sound)
+    opening_ok d (definite_opening c.in-Some-eq2.is c.in-Some-eq2.field-0-test d.sound)
 
 pub returns-in-Some : goal.returns-in-Some
 returns-in-Some g c =

@@ -3,10 +3,11 @@ use Rattle.std.proofs.lemmas.Result.{err_from_is_err_and}
 use Rattle.cbor4ii_items.proofs.Shortest.{runs_opening, runs_head_err, runs_shortest, runs_too_long}
 use Rattle.cbor4ii_items.proofs.canonical.take_shortest.Goals as goal
 
-pub returns-then-is_open-clause-runs : goal.returns-then-is_open-clause-runs
-returns-then-is_open-clause-runs g c =
+pub returns-then-is_indefinite-clause-runs : goal.returns-then-is_indefinite-clause-runs
+returns-then-is_indefinite-clause-runs g c =
     runs_opening c.args.name.now c.args.major c.in_ok-first.first c.in_ok-first.ensures.runs
-    c.in_ok-first.ensures.byte c.advance.ensures (sym c.is_open.ensures ∙ c.if-is_open.true)
+    c.in_ok-first.ensures.byte c.advance.ensures
+    (sym c.is_indefinite.ensures ∙ c.if-is_indefinite.true)
     refl refl refl
 
 pub returns-in_err-argument-clause-runs : goal.returns-in_err-argument-clause-runs
@@ -15,18 +16,18 @@ returns-in_err-argument-clause-runs g c =
     c.from_residual-in_err-argument.ensures.1 in
     rw (p.1, p.2)
     (runs_head_err c.args.name.now c.args.major c.in_ok-first.first c.in_ok-first.ensures.runs
-    (sym c.is_open.ensures ∙ c.if-is_open.false) c.in_err-argument.ensures.runs)
+    (sym c.is_indefinite.ensures ∙ c.if-is_indefinite.false) c.in_err-argument.ensures.runs)
 
 pub returns-then-first-shortest_info-clause-runs : goal.returns-then-first-shortest_info-clause-runs
 returns-then-first-shortest_info-clause-runs g c =
     runs_too_long c.args.name.now c.args.major c.in_ok-first.first c.in_ok-first.ensures.runs
-    (sym c.is_open.ensures ∙ c.if-is_open.false) c.in_ok-argument.ensures.runs
+    (sym c.is_indefinite.ensures ∙ c.if-is_indefinite.false) c.in_ok-argument.ensures.runs
     (λ e. c.if-first-shortest_info.true (e ∙ sym c.shortest_info.ensures)) refl refl refl
 
 pub returns-clause-runs : goal.returns-clause-runs
 returns-clause-runs g c =
     runs_shortest c.args.name.now c.args.major c.in_ok-first.first c.in_ok-first.ensures.runs
-    (sym c.is_open.ensures ∙ c.if-is_open.false) c.in_ok-argument.ensures.runs
+    (sym c.is_indefinite.ensures ∙ c.if-is_indefinite.false) c.in_ok-argument.ensures.runs
     (c.if-first-shortest_info.false ∙ c.shortest_info.ensures)
 
 pub returns-in_err-first-clause-memory : goal.returns-in_err-first-clause-memory

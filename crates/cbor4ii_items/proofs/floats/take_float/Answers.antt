@@ -7,9 +7,9 @@ use Rattle.cbor4ii_items.proofs.floats.take_float.Goals as goal
 pub returns-in-Some-in_front-clause-runs : goal.returns-in-Some-in_front-clause-runs
 returns-in-Some-in_front-clause-runs g c =
     runs_float _ (omega arith) (looked _ _ _ _ c.in-Some.is c.look.follows.holds-at-none)
-    c.in-Some.ensures.front c.in-Some-in_front.ensures c.advance.ensures
+    c.in-Some.ensures.prefix c.in-Some-in_front.ensures c.advance.ensures
 
 pub returns-in-Some-clause-runs : goal.returns-in-Some-clause-runs
 returns-in-Some-clause-runs g c =
     let s = looked _ _ _ _ c.in-Some.is c.look.follows.holds-at-none in
-    runs_stayed (record { kept = shows_kept s; told = s.told }) c.float_by_bytes.ensures.runs
+    runs_stayed (record { kept = shows_kept s; known = s.known }) c.float_by_bytes.ensures.runs

@@ -1,11 +1,11 @@
 use Rattle.std.proofs.Common.{[]}
 use Rattle.cbor4ii_items.proofs.WholeHeads.{found_some, found_none, runs_stayed, progress_stayed}
-use Rattle.cbor4ii_items.proofs.WholeHeads.{runs_broke, runs_counted}
+use Rattle.cbor4ii_items.proofs.WholeHeads.{runs_broke, runs_definite}
 use Rattle.cbor4ii_items.proofs.head.length.Goals as goal
 
 pub returns-in-Ok-Some-clause-runs : goal.returns-in-Ok-Some-clause-runs
 returns-in-Ok-Some-clause-runs g c =
-    runs_counted _ _ c.requires
+    runs_definite _ _ c.requires
     (found_some _ _ c.in-Ok-Some.field-0-is (c.in-Ok-Some.ensures.runs c.args.name.now))
 
 pub returns-in-Ok-None-clause-runs : goal.returns-in-Ok-None-clause-runs

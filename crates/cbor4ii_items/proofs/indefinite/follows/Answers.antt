@@ -1,27 +1,28 @@
 use Rattle.std.proofs.Common.{true, false, refl, rules}
 use Rattle.std.proofs.lemmas.Result.{err_from_is_err_and}
-use Rattle.cbor4ii_items.proofs.NextByte.{counted_follows, open_follows, open_follows_not}
+use Rattle.cbor4ii_items.proofs.NextByte.{definite_follows, indefinite_follows}
+use Rattle.cbor4ii_items.proofs.NextByte.{indefinite_follows_not}
 use Rattle.cbor4ii_items.proofs.indefinite.follows.Goals as goal
 
 pub returns-in_err-is_break-in-None-clause-decodes :
     goal.returns-in_err-is_break-in-None-clause-decodes
 returns-in_err-is_break-in-None-clause-decodes g c =
     let p = err_from_is_err_and c.from_residual.result c.from_residual.ensures.1 in
-    rw (p.1, p.2) (open_follows_not c.in-None.is c.in_err-is_break-in-None.ensures.decodes)
+    rw (p.1, p.2) (indefinite_follows_not c.in-None.is c.in_err-is_break-in-None.ensures.decodes)
 
 pub returns-then-branch-clause-decodes : goal.returns-then-branch-clause-decodes
 returns-then-branch-clause-decodes g c =
-    open_follows false c.in-None.is c.if-branch.true c.in_ok-is_break-in-None.ensures.decodes
+    indefinite_follows false c.in-None.is c.if-branch.true c.in_ok-is_break-in-None.ensures.decodes
 
 pub returns-else-branch-clause-decodes : goal.returns-else-branch-clause-decodes
 returns-else-branch-clause-decodes g c =
-    open_follows true c.in-None.is c.if-branch.false c.in_ok-is_break-in-None.ensures.decodes
+    indefinite_follows true c.in-None.is c.if-branch.false c.in_ok-is_break-in-None.ensures.decodes
 
 pub returns-in-Some-eq0-clause-decodes : goal.returns-in-Some-eq0-clause-decodes
-returns-in-Some-eq0-clause-decodes g c = counted_follows false c.in-Some-eq0.is (search rules)
+returns-in-Some-eq0-clause-decodes g c = definite_follows false c.in-Some-eq0.is (search rules)
 
 pub returns-in-Some-clause-decodes : goal.returns-in-Some-clause-decodes
-returns-in-Some-clause-decodes g c = counted_follows true c.in-Some.is (search rules)
+returns-in-Some-clause-decodes g c = definite_follows true c.in-Some.is (search rules)
 
 pub returns-in-Some-clause-left : goal.returns-in-Some-clause-left
 returns-in-Some-clause-left g c = rw c.in-Some.is refl

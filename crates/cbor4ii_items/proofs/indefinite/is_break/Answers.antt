@@ -1,4 +1,4 @@
-use Rattle.cbor4ii_items.specs.Laws.Breaks.{break_decodes}
+use Rattle.cbor4ii_items.specs.Laws.ReaderFails.{break_decodes}
 use Rattle.cbor4ii_items.proofs.indefinite.is_break.Goals as goal
 
 pub returns-clause-decodes : goal.returns-clause-decodes

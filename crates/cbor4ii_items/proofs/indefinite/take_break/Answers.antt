@@ -1,7 +1,7 @@
 use Rattle.std.proofs.lemmas.Result.{err_from_is_err_and}
 use Rattle.std.proofs.Common.{IsTrue, false}
 use Rattle.cbor4ii_items.specs.Laws.Running.{runs_err, runs_byte}
-use Rattle.cbor4ii_items.specs.Laws.Breaks.{runs_break}
+use Rattle.cbor4ii_items.specs.Laws.ReaderFails.{runs_break}
 use Rattle.cbor4ii_items.proofs.indefinite.take_break.Goals as goal
 
 pub returns-then-byte-clause-runs : goal.returns-then-byte-clause-runs

@@ -2,40 +2,40 @@ use Rattle.std.proofs.Common.{◌≡◌, ℕ, ◌<◌, ◌≤◌, List, [], ◌+
 use Rattle.std.proofs.Common.{None, IfSome, refl, sym, ap, ◌∙◌, subst, arith, length-append}
 use Rattle.std.specs.Int.{bytes_high_first}
 use Rattle.std.proofs.lemmas.List.{append-nil}
-use Rattle.cbor4ii_items.specs.Front.{IsArgument}
+use Rattle.cbor4ii_items.specs.Prefix.{IsArgument}
 use Rattle.cbor4ii_items.specs.Head.{Width, in_first, one, two, four, eight, byte_count, HeadFits}
-use Rattle.cbor4ii_items.specs.Head.{additional, ArgumentBehind, LacksArgument, IsBytes}
+use Rattle.cbor4ii_items.specs.Head.{additional, ArgumentAfter, LacksArgument, IsBytes}
 use Rattle.cbor4ii_items.specs.ReadHead.{following}
 use Rattle.cbor4ii_items.specs.Laws.Heads.{additional-lt, length-bytes_high_first, number_is}
 use Rattle.cbor4ii_items.specs.Laws.Heads.{wide_of}
 use Rattle.cbor4ii_items.proofs.initial.argument.Goals as goal
 
-in_first_byte : (info : ℕ) (behind : List ℕ) → info < 24 → ArgumentBehind info behind info 0
-in_first_byte info behind small =
+in_first_byte : (info : ℕ) (trailing : List ℕ) → info < 24 → ArgumentAfter info trailing info 0
+in_first_byte info trailing small =
     record { width = in_first; fits = omega (arith, small); says = refl; size = refl; is = refl }
 
-in_following : (info n : ℕ) (behind : List ℕ) → 24 ≤ info → info < 28 → IsArgument info behind n
-    → ArgumentBehind info behind n (following info)
-in_following info n behind from to a =
+in_following : (info n : ℕ) (trailing : List ℕ) → 24 ≤ info → info < 28 → IsArgument info trailing n
+    → ArgumentAfter info trailing n (following info)
+in_following info n trailing from to a =
     let k = following info in
     let w = wide_of info from to in
-    let read = number_is [] k k n (behind ++ []) (drop k behind ++ [])
-    (subst (λ bs. IsBytes (take k bs)) (sym (append-nil behind)) a.bytes) (a.number [] []) in
+    let read = number_is [] k k n (trailing ++ []) (drop k trailing ++ [])
+    (subst (λ bs. IsBytes (take k bs)) (sym (append-nil trailing)) a.bytes) (a.number [] []) in
     record {
       width = w.wide;
       fits = w.fits n a.fits;
       says = w.info n;
       size = sym w.count;
       is =
-          sym (append-nil behind)
-          ∙ (read.0 ∙ ap (λ bs. bytes_high_first k n ++ bs) (append-nil (drop k behind)));
+          sym (append-nil trailing)
+          ∙ (read.0 ∙ ap (λ bs. bytes_high_first k n ++ bs) (append-nil (drop k trailing)));
     }
 
-found : (info : ℕ) (behind : List ℕ) → 24 ≤ info → info < 28 → (o : Option (ℕ × ℕ))
-    → IfSome o (λ f. IsArgument info behind f.0) → IfSome o (λ f. f.1 ≡ following info)
-    → IfSome o (λ f. ArgumentBehind info behind f.0 f.1)
-found info behind from to None a size = tt
-found info behind from to (Some f) a size = rw size (in_following info f.0 behind from to a)
+found : (info : ℕ) (trailing : List ℕ) → 24 ≤ info → info < 28 → (o : Option (ℕ × ℕ))
+    → IfSome o (λ f. IsArgument info trailing f.0) → IfSome o (λ f. f.1 ≡ following info)
+    → IfSome o (λ f. ArgumentAfter info trailing f.0 f.1)
+found info trailing from to None a size = tt
+found info trailing from to (Some f) a size = rw size (in_following info f.0 trailing from to a)
 
 -- from 24 on the argument follows in as many bytes as the additional information says
 follows : (info n : ℕ) (w : Width) → 24 ≤ info → HeadFits w n → additional w n ≡ info
@@ -46,9 +46,9 @@ follows info n two from fits says = ap following says
 follows info n four from fits says = ap following says
 follows info n eight from fits says = ap following says
 
-too_few : (info : ℕ) (behind : List ℕ) → 24 ≤ info → length behind < following info
-    → LacksArgument info behind
-too_few info behind from short n k a =
+too_few : (info : ℕ) (trailing : List ℕ) → 24 ≤ info → length trailing < following info
+    → LacksArgument info trailing
+too_few info trailing from short n k a =
     let size = follows info n a.width from a.fits a.says in
     omega (
       arith,
@@ -56,13 +56,13 @@ too_few info behind from short n k a =
       a.size,
       size,
       ap length a.is,
-      length-append (bytes_high_first k n) (drop k behind),
+      length-append (bytes_high_first k n) (drop k trailing),
       length-bytes_high_first k n,
     )
 
 pub returns-then-info-lt24-clause-some : goal.returns-then-info-lt24-clause-some
 returns-then-info-lt24-clause-some c =
-    in_first_byte c.args.info c.args.behind.now c.if-info-lt24.true
+    in_first_byte c.args.info c.args.trailing.now c.if-info-lt24.true
 
 pub returns-then-info-gt27-clause-none : goal.returns-then-info-gt27-clause-none
 returns-then-info-gt27-clause-none c =
@@ -70,11 +70,11 @@ returns-then-info-gt27-clause-none c =
 
 pub returns-clause-some : goal.returns-clause-some
 returns-clause-some c =
-    found c.args.info c.args.behind.now (omega (arith, c.if-info-lt24.false))
+    found c.args.info c.args.trailing.now (omega (arith, c.if-info-lt24.false))
     (omega (arith, c.if-info-gt27.false)) c.shown_argument.result c.shown_argument.ensures.some
     c.shown_argument.ensures.size
 
 pub returns-clause-none : goal.returns-clause-none
 returns-clause-none c =
-    λ e. too_few c.args.info c.args.behind.now (omega (arith, c.if-info-lt24.false))
+    λ e. too_few c.args.info c.args.trailing.now (omega (arith, c.if-info-lt24.false))
     (c.shown_argument.ensures.none e)

@@ -3,5 +3,5 @@ use Rattle.cbor4ii_items.proofs.laws.arrays_are_read_back.Goals as goal
 
 pub returns : goal.returns
 returns g c v cost h back =
-    sequence_back g.T.Spelled.spelling.reads g.T.Encode.bytes cost 4
-    g.T.Spelled.spelling.never_empty v.items h back
+    sequence_back g.T.Decodable.format.reads g.T.Encode.bytes cost 4
+    g.T.Decodable.format.never_empty v.items h back

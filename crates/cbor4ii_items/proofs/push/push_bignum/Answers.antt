@@ -1,7 +1,7 @@
 use Rattle.std.proofs.Common.{ap, ◌∙◌}
 use Rattle.std.proofs.lemmas.Result.{err_from_is_err_and}
 use Rattle.cbor4ii_items.specs.Magnitude.{without_leading_zeros}
-use Rattle.cbor4ii_items.specs.Numbers.{counted_string}
+use Rattle.cbor4ii_items.specs.Numbers.{definite_string}
 use Rattle.cbor4ii_items.specs.Laws.Written.{writes_then, writes_err, writes_as}
 use Rattle.cbor4ii_items.proofs.push.push_bignum.Goals as goal
 
@@ -12,5 +12,5 @@ returns-in_err-push_head g c =
 
 pub returns : goal.returns
 returns g c = writes_then c.push_string.result c.in_ok-push_head.ensures.writes
-    (writes_as c.push_string.result (ap (counted_string 2) (c.without_leading_zeros.ensures
+    (writes_as c.push_string.result (ap (definite_string 2) (c.without_leading_zeros.ensures
     ∙ ap without_leading_zeros c.to_be_bytes.ensures)) c.push_string.ensures)

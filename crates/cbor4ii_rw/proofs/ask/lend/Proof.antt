@@ -56,9 +56,9 @@ use Rattle.cbor4ii_rw.specs.declared.read.Source as Source
 use Rattle.cbor4ii_rw.specs.declared.read.Reference.{Reference}
 use Rattle.cbor4ii_rw.specs.contracts.read.Reference as RF
 use Rattle.cbor4ii_rw.proofs.read.Reference.TheLaws as RFL
-use Rattle.cbor4ii_rw.specs.View.{Told}
-use Rattle.cbor4ii_rw.specs.Reader.{IsFront, IsEnough, Shows, Breaks}
-use Rattle.cbor4ii_rw.specs.Reference.{bytes_of, IsLong, IsPart}
+use Rattle.cbor4ii_rw.specs.View.{IfKnown}
+use Rattle.cbor4ii_rw.specs.Reader.{IsPrefix, IsEnough, Shows, ReaderFails}
+use Rattle.cbor4ii_rw.specs.Reference.{bytes_of, IsLong, IsSubslice}
 use Rattle.cbor4ii_rw.specs.Parted.{Parts}
 use Rattle.cbor4ii_rw.proofs.Parted.{is_option, at_option, slot_kept, error_kept, leaves}
 use Rattle.cbor4ii_rw.proofs.Results.{nm, RR, Filled, filled_result}
@@ -177,28 +177,29 @@ module _ (R E : RattleType) (gR : Read.Ghosts R.Denot E.Denot) (dR : Dict)
     y.1,
   )
 
-  abbrev Front : ℕ → R.Denot → Result Reference E.Denot → Type 0
-  Front want x r = IfOk r (λ shown. Told (gS.view x).told (IsFront want (bytes_of shown)))
+  abbrev Prefix : ℕ → R.Denot → Result Reference E.Denot → Type 0
+  Prefix want x r = IfOk r (λ shown. IfKnown (gS.view x).known (IsPrefix want (bytes_of shown)))
 
   abbrev Bounded : R.Denot → Result Reference E.Denot → Type 0
   Bounded x r = IfOk r (λ shown. length (bytes_of shown) ≤ (gS.view x).bound)
 
   abbrev Whole : ℕ → R.Denot → Result Reference E.Denot → Type 0
-  Whole want x r = IsTrue (gS.view x).lends_whole
-      → IfOk r (λ shown. Told (gS.view x).told (IsEnough want (bytes_of shown)))
+  Whole want x r = IsTrue (gS.view x).zero_copy
+      → IfOk r (λ shown. IfKnown (gS.view x).known (IsEnough want (bytes_of shown)))
 
   abbrev Lasting : R.Denot → Result Reference E.Denot → Type 0
-  Lasting x r = IsTrue (gS.view x).lends_whole → IfOk r IsLong
+  Lasting x r = IsTrue (gS.view x).zero_copy → IfOk r IsLong
 
   abbrev Placed : R.Denot → Result Reference E.Denot → Type 0
-  Placed x r = IfOk r (λ shown. IsPart shown (gS.view x))
+  Placed x r = IfOk r (λ shown. IsSubslice shown (gS.view x))
 
   abbrev Left : R.Denot → R.Denot → Result Reference E.Denot → Type 0
   Left x new r = MatchResult r (λ shown. Shows (bytes_of shown) (gS.view x) (gS.view new))
-      (λ _. Breaks (gS.view x) (gS.view new))
+      (λ _. ReaderFails (gS.view x) (gS.view new))
 
   abbrev LeftBy : R.Denot → R.Denot → Option Reference → Type 0
-  LeftBy x new t = MatchOption t (Breaks (gS.view x) (gS.view new)) (λ shown. Shows (bytes_of shown)
+  LeftBy x new t = MatchOption t (ReaderFails (gS.view x) (gS.view new))
+      (λ shown. Shows (bytes_of shown)
       (gS.view x) (gS.view new))
 
   walk : (y : Bound) → y.0.3.1.0 < 2 ^ 64
@@ -266,14 +267,15 @@ module _ (R E : RattleType) (gR : Read.Ghosts R.Denot E.Denot) (dR : Dict)
       κ2)) z1.0.0 z1.0.3). ‵
       (lasts (M.ended R E gR dR gS dS gD dD dX (method_P R E gR dR gS dS gD dD dX Pp κ2)) z1.0.0
       z1.0.3 ws)
-      ⊛ raw (fact 𝓤 (Front want x r)) ⊛ raw (fact 𝓤 (Bounded x r)) ⊛ raw (fact 𝓤 (Whole want x r)) ⊛
+      ⊛ raw (fact 𝓤 (Prefix want x r)) ⊛ raw (fact 𝓤 (Bounded x r)) ⊛ raw
+      (fact 𝓤 (Whole want x r)) ⊛
       raw (fact 𝓤 (Lasting x r)) ⊛ raw (fact 𝓤 (Placed x r)) ⊛
       ‵ (Rests P' self (λ new. Left x new r)))))) (id⊢ 𝓤 _) $
       await ! tt $ pick ! (λ r. split ! $ split ! $ move ! (1 ∷ []) $
       peeks ! (Filled E κ2 κ0) _ (shows 𝓛 (Filled E κ2 κ0)) r (v1 ∷ []) (λ is.
       lands_as ! refl refl ((filled_result E LE 𝓛 κ2 κ0).typed r (v1 ∷ []) is).0 $
       move ! (2 ∷ []) $ pick ! (λ ws. split ! $ drop ! $ split3 ! $
-      heard ! (Front want x r) (λ front. heard ! (Bounded x r) (λ bounded. split3 ! $
+      heard ! (Prefix want x r) (λ prefix. heard ! (Bounded x r) (λ bounded. split3 ! $
       heard ! (Whole want x r) (λ whole. heard ! (Lasting x r) (λ lasting.
       split ! $ heard ! (Placed x r) (λ placed. fpick ! (λ s.
       -- [resγ; the result; the tokens; κ1; the slot]
@@ -319,9 +321,11 @@ module _ (R E : RattleType) (gR : Read.Ghosts R.Denot E.Denot) (dR : Dict)
       -- [last values; the result; the tokens; κ3; resγ]
       returns ! (look_at ! 0 refl) $ free_all ! refl $
       let same = is_option r slot.now ws2.1.0 t parted in
-      let shown_front = λ (sh : Reference). Told (gS.view x).told (IsFront want (bytes_of sh)) in
-      let shown_enough = λ (sh : Reference). Told (gS.view x).told (IsEnough want (bytes_of sh)) in
-      let shown_placed = λ (sh : Reference). IsPart sh (gS.view x) in
+      let shown_prefix = λ (sh : Reference). IfKnown (gS.view x).known
+      (IsPrefix want (bytes_of sh)) in
+      let shown_enough = λ (sh : Reference). IfKnown (gS.view x).known
+      (IsEnough want (bytes_of sh)) in
+      let shown_placed = λ (sh : Reference). IsSubslice sh (gS.view x) in
       let shown_bounded = λ (sh : Reference). length (bytes_of sh) ≤ (gS.view x).bound in
       fsplit3 ! $ move ! (1 ∷ 2 ∷ []) $ fjoin ! $ nothing ! $ fjoin ! $ nothing ! $ fjoin ! $
       move ! (0 ∷ 2 ∷ []) $ join ! $
@@ -335,7 +339,7 @@ module _ (R E : RattleType) (gR : Read.Ghosts R.Denot E.Denot) (dR : Dict)
         s.0,
         (λ _. tt),
         subst (LeftBy x s.0.1) (sym same)
-            (leaves (Breaks (gS.view x) (gS.view s.0.1))
+            (leaves (ReaderFails (gS.view x) (gS.view s.0.1))
             (λ shown. Shows (bytes_of shown) (gS.view x) (gS.view s.0.1)) r s.2),
       ) $
       use0 𝓛 (raw (fact 𝓤 (IfNone t (IsSome ws2.1.0)))) (fact_i 𝓤 (IfNone t (IsSome ws2.1.0))
@@ -345,19 +349,19 @@ module _ (R E : RattleType) (gR : Read.Ghosts R.Denot E.Denot) (dR : Dict)
       $ join ! $
       use0 𝓛 (raw (fact 𝓤 (IfSome t shown_placed))) (fact_i 𝓤 (IfSome t shown_placed) (emp 𝓤)
       (subst (λ u. IfSome u shown_placed) (sym same) (at_option shown_placed r placed))) $ join ! $
-      use0 𝓛 (raw (fact 𝓤 (IsTrue (gS.view x).lends_whole → IfSome t IsLong)))
-      (fact_i 𝓤 (IsTrue (gS.view x).lends_whole → IfSome t IsLong) (emp 𝓤)
+      use0 𝓛 (raw (fact 𝓤 (IsTrue (gS.view x).zero_copy → IfSome t IsLong)))
+      (fact_i 𝓤 (IsTrue (gS.view x).zero_copy → IfSome t IsLong) (emp 𝓤)
       (λ l. subst (λ u. IfSome u IsLong) (sym same) (at_option IsLong r (lasting l)))) $
       join ! $
-      use0 𝓛 (raw (fact 𝓤 (IsTrue (gS.view x).lends_whole → IfSome t shown_enough)))
-      (fact_i 𝓤 (IsTrue (gS.view x).lends_whole → IfSome t shown_enough) (emp 𝓤)
+      use0 𝓛 (raw (fact 𝓤 (IsTrue (gS.view x).zero_copy → IfSome t shown_enough)))
+      (fact_i 𝓤 (IsTrue (gS.view x).zero_copy → IfSome t shown_enough) (emp 𝓤)
       (λ l. subst (λ u. IfSome u shown_enough) (sym same) (at_option shown_enough r (whole l))))
       $ join ! $
       use0 𝓛 (raw (fact 𝓤 (IfSome t shown_bounded))) (fact_i 𝓤 (IfSome t shown_bounded) (emp 𝓤)
       (subst (λ u. IfSome u shown_bounded) (sym same) (at_option shown_bounded r bounded))) $
       join ! $
-      use0 𝓛 (raw (fact 𝓤 (IfSome t shown_front))) (fact_i 𝓤 (IfSome t shown_front) (emp 𝓤)
-      (subst (λ u. IfSome u shown_front) (sym same) (at_option shown_front r front))) $ join ! $
+      use0 𝓛 (raw (fact 𝓤 (IfSome t shown_prefix))) (fact_i 𝓤 (IfSome t shown_prefix) (emp 𝓤)
+      (subst (λ u. IfSome u shown_prefix) (sym same) (at_option shown_prefix r prefix))) $ join ! $
       keep ! (1 ∷ 0 ∷ []) $
       suffices ! _ (ends_at 𝓛 (ended R E gR dR gS dS gD dD dX Pp) (stayed R E gR dR gS dS gD dD dX
       Pp) held (at y) v2 t (tt, (tt, (ws2.1.0, tt))) (tt, (tt, (tt, tt)))) $

@@ -52,8 +52,8 @@ use Rattle.std.proofs.option.Option.TheLaws as OPTL
 use Rattle.std.specs.declared.fmt.Debug as Debug
 use Rattle.cbor4ii_rw.specs.declared.read.Source as Source
 use Rattle.std.specs.Borrow.{Bor}
-use Rattle.cbor4ii_rw.specs.View.{Told}
-use Rattle.cbor4ii_rw.specs.Reader.{IsFront, IsEnough, Shows, Breaks}
+use Rattle.cbor4ii_rw.specs.View.{IfKnown}
+use Rattle.cbor4ii_rw.specs.Reader.{IsPrefix, IsEnough, Shows, ReaderFails}
 use Rattle.cbor4ii_rw.specs.Parted.{Parts}
 use Rattle.cbor4ii_rw.proofs.Parted.{is_option, at_option, slot_kept, error_kept, leaves}
 use Rattle.cbor4ii_rw.proofs.Results.{SF, slice_laws, Shown, shown_result}
@@ -162,22 +162,22 @@ module _ (R E : RattleType) (gS : Source.Ghosts R.Denot E.Denot) (dS : Dict)
     y.1,
   )
 
-  abbrev Front : ℕ → R.Denot → Result (Bor (List ℕ)) E.Denot → Type 0
-  Front want x r = IfOk r (λ shown. Told (gS.view x).told (IsFront want shown.now))
+  abbrev Prefix : ℕ → R.Denot → Result (Bor (List ℕ)) E.Denot → Type 0
+  Prefix want x r = IfOk r (λ shown. IfKnown (gS.view x).known (IsPrefix want shown.now))
 
   abbrev Bounded : R.Denot → Result (Bor (List ℕ)) E.Denot → Type 0
   Bounded x r = IfOk r (λ shown. length shown.now ≤ (gS.view x).bound)
 
   abbrev Whole : ℕ → R.Denot → Result (Bor (List ℕ)) E.Denot → Type 0
-  Whole want x r = IsTrue (gS.view x).lends_whole
-      → IfOk r (λ shown. Told (gS.view x).told (IsEnough want shown.now))
+  Whole want x r = IsTrue (gS.view x).zero_copy
+      → IfOk r (λ shown. IfKnown (gS.view x).known (IsEnough want shown.now))
 
   abbrev Left : R.Denot → R.Denot → Result (Bor (List ℕ)) E.Denot → Type 0
   Left x new r = MatchResult r (λ shown. Shows shown.now (gS.view x) (gS.view new))
-      (λ _. Breaks (gS.view x) (gS.view new))
+      (λ _. ReaderFails (gS.view x) (gS.view new))
 
   abbrev LeftBy : R.Denot → R.Denot → Option (Bor (List ℕ)) → Type 0
-  LeftBy x new t = MatchOption t (Breaks (gS.view x) (gS.view new))
+  LeftBy x new t = MatchOption t (ReaderFails (gS.view x) (gS.view new))
       (λ shown. Shows shown.now (gS.view x) (gS.view new))
 
   walk : (y : Bound) → y.0.3.1.0 < 2 ^ 64
@@ -233,13 +233,14 @@ module _ (R E : RattleType) (gS : Source.Ghosts R.Denot E.Denot) (dS : Dict)
       ((Shown E κ0).own_val r (v1 ∷ []))) ⊛
       some (λ (ws : Lasts (M.ended R E gS dS gD dD dX) z1.0.0 z1.0.3). ‵
       (lasts (M.ended R E gS dS gD dD dX) z1.0.0 z1.0.3 ws)
-      ⊛ raw (fact 𝓤 (Front want x r)) ⊛ raw (fact 𝓤 (Bounded x r)) ⊛ raw (fact 𝓤 (Whole want x r)) ⊛
+      ⊛ raw (fact 𝓤 (Prefix want x r)) ⊛ raw (fact 𝓤 (Bounded x r)) ⊛ raw
+      (fact 𝓤 (Whole want x r)) ⊛
       ‵ (Rests P' self (λ new. Left x new r)))))) (id⊢ 𝓤 _) $
       await ! tt $ pick ! (λ r. split ! $ split ! $ move ! (1 ∷ []) $
       peeks ! (Shown E κ0) _ (shows 𝓛 (Shown E κ0)) r (v1 ∷ []) (λ is.
       lands_as ! refl refl ((shown_result E LE 𝓛 κ0).typed r (v1 ∷ []) is).0 $
       move ! (2 ∷ []) $ pick ! (λ ws. split ! $ drop ! $ split3 ! $
-      heard ! (Front want x r) (λ front. heard ! (Bounded x r) (λ bounded. split ! $
+      heard ! (Prefix want x r) (λ prefix. heard ! (Bounded x r) (λ bounded. split ! $
       heard ! (Whole want x r) (λ whole. fpick ! (λ s.
       -- [resγ; the result; the tokens; κ1; the slot]
       sets ! (addr ! (through ! refl (stop !))) refl (tt, tt) $
@@ -278,8 +279,8 @@ module _ (R E : RattleType) (gS : Source.Ghosts R.Denot E.Denot) (dS : Dict)
       -- [last values; the result; the tokens; κ2; resγ]
       returns ! (look_at ! 0 refl) $ free_all ! refl $
       let same = is_option r slot.now ws2.1.0 t parted in
-      let shown_front = λ (sh : Bor (List ℕ)). Told (gS.view x).told (IsFront want sh.now) in
-      let shown_enough = λ (sh : Bor (List ℕ)). Told (gS.view x).told (IsEnough want sh.now) in
+      let shown_prefix = λ (sh : Bor (List ℕ)). IfKnown (gS.view x).known (IsPrefix want sh.now) in
+      let shown_enough = λ (sh : Bor (List ℕ)). IfKnown (gS.view x).known (IsEnough want sh.now) in
       let shown_bounded = λ (sh : Bor (List ℕ)). length sh.now ≤ (gS.view x).bound in
       fsplit3 ! $ move ! (1 ∷ 2 ∷ []) $ fjoin ! $ nothing ! $ fjoin ! $ nothing ! $ fjoin ! $
       move ! (0 ∷ 2 ∷ []) $ join ! $
@@ -291,7 +292,7 @@ module _ (R E : RattleType) (gS : Source.Ghosts R.Denot E.Denot) (dS : Dict)
         s.0,
         (λ _. tt),
         subst (LeftBy x s.0.1) (sym same)
-            (leaves (Breaks (gS.view x) (gS.view s.0.1)) (λ shown. Shows shown.now (gS.view x)
+            (leaves (ReaderFails (gS.view x) (gS.view s.0.1)) (λ shown. Shows shown.now (gS.view x)
             (gS.view s.0.1)) r s.2),
       ) $
       use0 𝓛 (raw (fact 𝓤 (IfNone t (IsSome ws2.1.0)))) (fact_i 𝓤 (IfNone t (IsSome ws2.1.0))
@@ -299,15 +300,15 @@ module _ (R E : RattleType) (gS : Source.Ghosts R.Denot E.Denot) (dS : Dict)
       use0 𝓛 (raw (fact 𝓤 (OnSome t (ws2.1.0 ≡ slot.now))))
       (fact_i 𝓤 (OnSome t (ws2.1.0 ≡ slot.now)) (emp 𝓤) (slot_kept r slot.now ws2.1.0 t parted))
       $ join ! $
-      use0 𝓛 (raw (fact 𝓤 (IsTrue (gS.view x).lends_whole → IfSome t shown_enough)))
-      (fact_i 𝓤 (IsTrue (gS.view x).lends_whole → IfSome t shown_enough) (emp 𝓤)
+      use0 𝓛 (raw (fact 𝓤 (IsTrue (gS.view x).zero_copy → IfSome t shown_enough)))
+      (fact_i 𝓤 (IsTrue (gS.view x).zero_copy → IfSome t shown_enough) (emp 𝓤)
       (λ l. subst (λ u. IfSome u shown_enough) (sym same) (at_option shown_enough r (whole l))))
       $ join ! $
       use0 𝓛 (raw (fact 𝓤 (IfSome t shown_bounded))) (fact_i 𝓤 (IfSome t shown_bounded) (emp 𝓤)
       (subst (λ u. IfSome u shown_bounded) (sym same) (at_option shown_bounded r bounded))) $
       join ! $
-      use0 𝓛 (raw (fact 𝓤 (IfSome t shown_front))) (fact_i 𝓤 (IfSome t shown_front) (emp 𝓤)
-      (subst (λ u. IfSome u shown_front) (sym same) (at_option shown_front r front))) $ join ! $
+      use0 𝓛 (raw (fact 𝓤 (IfSome t shown_prefix))) (fact_i 𝓤 (IfSome t shown_prefix) (emp 𝓤)
+      (subst (λ u. IfSome u shown_prefix) (sym same) (at_option shown_prefix r prefix))) $ join ! $
       keep ! (1 ∷ 0 ∷ []) $
       suffices ! _ (ends_at 𝓛 (ended R E gS dS gD dD dX) (stayed R E gS dS gD dD dX) held (at y) v2
       t (tt, (tt, (ws2.1.0, tt))) (tt, (tt, (tt, tt)))) $

@@ -2,7 +2,7 @@ use Rattle.std.proofs.Common.{rules, arith, ℕ, ◌≤◌, List, [], ◌∷◌,
 use Rattle.std.proofs.Common.{ap, ◌∙◌}
 use Rattle.std.specs.Prelude.{MatchOption}
 use Rattle.std.specs.Io.{StartsWith}
-use Rattle.cbor4ii_rw.specs.Reader.{Shows, Breaks, counts}
+use Rattle.cbor4ii_rw.specs.Reader.{Shows, ReaderFails, counts}
 use Rattle.cbor4ii_rw.proofs.ask.next_byte.Goals as goal
 
 first_begins : (bytes xs : List ℕ) → 1 ≤ length bytes → StartsWith xs bytes
@@ -17,20 +17,20 @@ returns-clause-byte g c =
     let left = c.look.follows.lender-at-none in
     let shown = c.in-Some-len1-up.field-0.now in
     let shows : Shows shown (view c.args.reader.now) (view left) =
-    subst (λ r. MatchOption r (Breaks (view c.args.reader.now) (view left))
+    subst (λ r. MatchOption r (ReaderFails (view c.args.reader.now) (view left))
     (λ s. Shows s.now (view c.args.reader.now) (view left))) c.in-Some-len1-up.is
     c.look.follows.holds-at-none in
     let by = c.advance.ensures in record {
-      told = λ xs is. (
+      known = λ xs is. (
         first_begins shown xs c.in-Some-len1-up.len_at_least
-            (c.in-Some-len1-up.ensures.front xs is).begins,
-        by.told xs (shows.told xs is),
+            (c.in-Some-len1-up.ensures.prefix xs is).begins,
+        by.known xs (shows.known xs is),
       );
       bound = omega (arith, by.bound, shows.bound);
       budget = cc (by.budget, shows.budget);
       failures = cc (by.failures, shows.failures);
       taken = by.taken ∙ ap (counts 1) shows.taken;
-      lends_whole = λ is. by.lends_whole (shows.lends_whole is);
+      zero_copy = λ is. by.zero_copy (shows.zero_copy is);
       remembers = λ is. by.remembers (shows.remembers is);
       ends_at = by.ends_at ∙ shows.ends_at;
     }

@@ -193,8 +193,8 @@ module _ (R : RattleType) (gB : BufRead.Ghosts R.Denot) (dB : Dict) (gR : Read.G
       (IO.the_type P').to_one 𝓛 (λ x. (IO.struct P').make x tt) (λ x. refl) (0, []) (z, (w, tt))
       b o)
 
-  abbrev Front : R.Denot → Result (Bor (List ℕ)) Error → Type 0
-  Front x r = IfSome (gR.remaining x) (λ xs. IfOk r (λ s. StartsWith xs s.now))
+  abbrev Prefix : R.Denot → Result (Bor (List ℕ)) Error → Type 0
+  Prefix x r = IfSome (gR.remaining x) (λ xs. IfOk r (λ s. StartsWith xs s.now))
 
   abbrev End : R.Denot → Result (Bor (List ℕ)) Error → Type 0
   End x r = IfSome (gR.remaining x) (λ xs. IfOk r (λ s. length s.now ≡ 0 → xs ≡ []))
@@ -269,7 +269,7 @@ module _ (R : RattleType) (gB : BufRead.Ghosts R.Denot) (dB : Dict) (gR : Read.G
       ⊛ ‵ ((RR κ).own_val r (v ∷ []))) ⊛
       some (λ (ws : Unit {0} × (T.Denot × Unit {0})). ‵
       (lasts (G.ended (Q R gB dB gR dR) gB dB gR dR) z.0.0 z.0.3 ws) ⊛ raw
-      (fact 𝓤 (Front d.inner r)) ⊛ raw (fact 𝓤 (End d.inner r))
+      (fact 𝓤 (Prefix d.inner r)) ⊛ raw (fact 𝓤 (End d.inner r))
       ⊛ ‵ (Rests P' ri (λ new. FillKeeps (gR.remaining d.inner) (gR.remaining new)
       (gB.consumable_len new) r)) ⊛ raw (fact 𝓤 (TallyMoves d.tally ws.1.0 r)))))) (id⊢ 𝓤 _) $
       await ! tt $ pick ! (λ r. split ! $ split ! $ move ! (1 ∷ []) $

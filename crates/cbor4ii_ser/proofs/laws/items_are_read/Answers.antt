@@ -3,8 +3,8 @@ use Rattle.cbor4ii_items.specs.Decoding.{CostFits}
 use Rattle.cbor4ii_tree.specs.Cost.{Budget, cost}
 use Rattle.cbor4ii_tree.specs.Item.{Item}
 use Rattle.cbor4ii_tree.specs.Meaning.{value}
-use Rattle.cbor4ii_tree.specs.Spelling.{Spells, ReadsPlainly, Skips}
-use Rattle.cbor4ii_tree.specs.Strict.{SpellsStrictly}
+use Rattle.cbor4ii_tree.specs.Encodings.{Encodes, DecodesTo, Skips}
+use Rattle.cbor4ii_tree.specs.CanonicalShape.{EncodesCanonically}
 use Rattle.cbor4ii_tree.specs.Tree.{Tree, Plain}
 use Rattle.cbor4ii_ser.specs.OneItem.{Form, shortest_heads, canonical, IsOfForm, OneItem}
 use Rattle.cbor4ii_ser.specs.OneItem.{IsReadWhole, IsReadCanonically}
@@ -14,23 +14,23 @@ is_plain : (form : Form) (t : Tree) → IsOfForm form t → Plain t
 is_plain shortest_heads t p = p.0
 is_plain canonical t p = p.0
 
-spells : (form : Form) (bytes : List ℕ) (p : OneItem form bytes)
-    → Spells bytes (value p.spelled) (cost p.spelled)
-spells form bytes p = record {
-  spelled = p.spelled;
-  plain = is_plain form p.spelled p.formed;
+encodes : (form : Form) (bytes : List ℕ) (p : OneItem form bytes)
+    → Encodes bytes (value p.of_tree) (cost p.of_tree)
+encodes form bytes p = record {
+  of_tree = p.of_tree;
+  plain = is_plain form p.of_tree p.formed;
   bytes_are = p.bytes_are;
   value_is = refl;
   cost_is = refl;
 }
 
 reads : (form : Form) (bytes : List ℕ) (p : OneItem form bytes) (rest : List ℕ) (budget : Budget)
-    → CostFits (cost p.spelled) budget
-    → ReadsPlainly (bytes ++ rest) budget (value p.spelled) rest
+    → CostFits (cost p.of_tree) budget
+    → DecodesTo (bytes ++ rest) budget (value p.of_tree) rest
 reads form bytes p rest budget fits = record {
-  spelling = bytes;
-  steps = cost p.spelled;
-  spells = spells form bytes p;
+  encoding = bytes;
+  steps = cost p.of_tree;
+  encodes = encodes form bytes p;
   fits = fits;
   begins = refl;
 }
@@ -38,19 +38,19 @@ reads form bytes p rest budget fits = record {
 -- where what is read as a value is skipped
 whole : (form : Form) (bytes : List ℕ) (p : OneItem form bytes)
     → ((input : List ℕ) (budget : Budget) (v : Item) (rest : List ℕ)
-    → ReadsPlainly input budget v rest → (t : Tree) × Skips input budget t rest)
-    → IsReadWhole bytes (value p.spelled) (cost p.spelled)
+    → DecodesTo input budget v rest → (t : Tree) × Skips input budget t rest)
+    → IsReadWhole bytes (value p.of_tree) (cost p.of_tree)
 whole form bytes p skipped = record {
-  spells = spells form bytes p;
+  encodes = encodes form bytes p;
   reads = reads form bytes p;
-  skips = λ rest budget fits. skipped (bytes ++ rest) budget (value p.spelled) rest
+  skips = λ rest budget fits. skipped (bytes ++ rest) budget (value p.of_tree) rest
       (reads form bytes p rest budget fits);
 }
 
-spells_strictly : (bytes : List ℕ) (p : OneItem canonical bytes)
-    → SpellsStrictly bytes (value p.spelled) (cost p.spelled)
-spells_strictly bytes p = record {
-  spelled = p.spelled;
+encodes_canonically : (bytes : List ℕ) (p : OneItem canonical bytes)
+    → EncodesCanonically bytes (value p.of_tree) (cost p.of_tree)
+encodes_canonically bytes p = record {
+  of_tree = p.of_tree;
   canonical = p.formed;
   bytes_are = p.bytes_are;
   value_is = refl;
@@ -58,13 +58,13 @@ spells_strictly bytes p = record {
 }
 
 canonically : (bytes : List ℕ) (p : OneItem canonical bytes)
-    → IsReadCanonically bytes (value p.spelled) (cost p.spelled)
+    → IsReadCanonically bytes (value p.of_tree) (cost p.of_tree)
 canonically bytes p = record {
-  spells = spells_strictly bytes p;
+  encodes = encodes_canonically bytes p;
   reads = λ rest budget fits. record {
-    spelling = bytes;
-    steps = cost p.spelled;
-    spells = spells_strictly bytes p;
+    encoding = bytes;
+    steps = cost p.of_tree;
+    encodes = encodes_canonically bytes p;
     fits = fits;
     begins = refl;
   };
@@ -72,15 +72,15 @@ canonically bytes p = record {
 
 pub returns-clause-any : goal.returns-clause-any
 returns-clause-any c form bytes p = (
-  value p.spelled,
-  cost p.spelled,
+  value p.of_tree,
+  cost p.of_tree,
   whole form bytes p c.skipping_takes_what_reading_takes.ensures,
 )
 
 pub returns-clause-canonically : goal.returns-clause-canonically
 returns-clause-canonically c bytes p = (
-  value p.spelled,
-  cost p.spelled,
+  value p.of_tree,
+  cost p.of_tree,
   whole canonical bytes p c.skipping_takes_what_reading_takes.ensures,
   canonically bytes p,
 )

@@ -8,4 +8,4 @@ pub returns-clause-reference : goal.returns-clause-reference
 returns-clause-reference g c form v is = is
 
 pub returns-clause-option : goal.returns-clause-option
-returns-clause-option g c form v = option_is_item form g.T.Serialize.item v
+returns-clause-option g c form v = option_is_item form g.T.Serialize.encoding v

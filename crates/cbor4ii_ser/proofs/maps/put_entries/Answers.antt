@@ -1,5 +1,5 @@
 use Rattle.std.proofs.Common.{◌++◌, ◌∷◌, [], sym, ap, ◌∙◌, append_assoc}
-use Rattle.cbor4ii_ser.specs.Item.{each_item, entry_item}
+use Rattle.cbor4ii_ser.specs.Item.{each_encoding, entry_encoding}
 use Rattle.cbor4ii_ser.specs.Laws.Joining.{serializes_then, serializes_out, serializes_as}
 use Rattle.cbor4ii_ser.specs.Laws.Joining.{items_turn, items_push}
 use Rattle.cbor4ii_ser.proofs.maps.put_entries.Goals as goal
@@ -11,16 +11,17 @@ loop-key-preserved g c =
       done ++ (e ∷ []),
       c.loop-key.invariant.1 ∙ (ap (λ z. done ++ z) c.in-Some.ensures.steps
           ∙ sym (append_assoc done (e ∷ []) c.next.new.self)),
-      serializes_as _ (items_push (entry_item g.K.Serialize.item g.V.Serialize.item) done e)
+      serializes_as _ (items_push (entry_encoding g.K.Serialize.encoding g.V.Serialize.encoding)
+          done e)
           (serializes_then _ _ _ c.loop-key.invariant.2 c.in_ok-put_entry.ensures),
     )
 
 pub returns-in_err-put_entry : goal.returns-in_err-put_entry
 returns-in_err-put_entry g c =
-    let item = entry_item g.K.Serialize.item g.V.Serialize.item in
+    let item = entry_encoding g.K.Serialize.encoding g.V.Serialize.encoding in
     let done = c.loop-key.invariant.0 in
     let e : g.row.K.Denot × g.row.V.Denot = (c.in-Some.key.now, c.in-Some.value.now) in
     let all = c.loop-key.invariant.1 ∙ ap (λ z. done ++ z) c.in-Some.ensures.steps in
-    serializes_as _ (items_turn item done e c.next.new.self ∙ sym (ap (each_item item) all))
+    serializes_as _ (items_turn item done e c.next.new.self ∙ sym (ap (each_encoding item) all))
     (serializes_then _ _ _ c.loop-key.invariant.2 (serializes_out
-    (each_item item c.next.new.self) c.from_residual.ensures.1 c.in_err-put_entry.ensures))
+    (each_encoding item c.next.new.self) c.from_residual.ensures.1 c.in_err-put_entry.ensures))

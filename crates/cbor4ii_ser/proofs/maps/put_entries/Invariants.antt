@@ -1,5 +1,5 @@
 use Rattle.std.proofs.Common.{◌≡◌, ◌++◌, List, Ok}
-use Rattle.cbor4ii_ser.specs.Item.{each_item, entry_item}
+use Rattle.cbor4ii_ser.specs.Item.{each_encoding, entry_encoding}
 use Rattle.cbor4ii_ser.specs.Serializing.{Serializes, output}
 use Rattle.cbor4ii_ser.proofs.maps.put_entries.Given as goal
 
@@ -7,6 +7,6 @@ use Rattle.cbor4ii_ser.proofs.maps.put_entries.Given as goal
 abbrev pub invariant-loop-key : goal.invariant-loop-key
 invariant-loop-key g l =
     (done : List (g.row.K.Denot × g.row.V.Denot)) × (l.map.entries ≡ done ++ l.key-iterator)
-    × Serializes {T = Unit {0}} {E = g.row.W-Error.Denot} g.W.Write.whole
-    (each_item (entry_item g.K.Serialize.item g.V.Serialize.item) done)
+    × Serializes {T = Unit {0}} {E = g.row.W-Error.Denot} g.W.Write.atomic
+    (each_encoding (entry_encoding g.K.Serialize.encoding g.V.Serialize.encoding) done)
     (output g.W.Write.view l.fn.ser) (output g.W.Write.view l.ser) (Ok tt)

@@ -1,10 +1,11 @@
 use Rattle.std.proofs.Common.{take, Ok}
-use Rattle.cbor4ii_ser.specs.Item.{each_item}
+use Rattle.cbor4ii_ser.specs.Item.{each_encoding}
 use Rattle.cbor4ii_ser.specs.Serializing.{Serializes, output}
 use Rattle.cbor4ii_ser.proofs.sequences.put_items.Given as goal
 
 abbrev pub invariant-loop-item : goal.invariant-loop-item
 invariant-loop-item g l =
-    Serializes {T = Unit {0}} {E = g.row.W-Error.Denot} g.W.Write.whole
-    (each_item g.T.Serialize.item (take l.item-index l.items)) (output g.W.Write.view l.fn.ser)
+    Serializes {T = Unit {0}} {E = g.row.W-Error.Denot} g.W.Write.atomic
+    (each_encoding g.T.Serialize.encoding (take l.item-index l.items))
+    (output g.W.Write.view l.fn.ser)
     (output g.W.Write.view l.ser) (Ok tt)

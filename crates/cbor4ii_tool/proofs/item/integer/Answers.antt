@@ -10,7 +10,7 @@ returns-in_err-item-clause-fails g c =
     let held = g.W.Write.view c.args.writer.now in
     let fails : Fails Ints c.in_err-item.field-0.0 (g.S.Source.view c.args.reader.now)
     (g.S.Source.view c.read.new.reader) held held =
-    integer_fails _ _ _ held c.in_err-item.ensures.refuses c.in_err-item.ensures.steady in
+    integer_fails _ _ _ held c.in_err-item.ensures.errs c.in_err-item.ensures.steady in
     search (fails, rules)
 
 pub returns-clause-done : goal.returns-clause-done

@@ -2,7 +2,7 @@ use Rattle.std.proofs.Common.{Ok, sym, ap, ◌∙◌}
 use Rattle.cbor4ii_rw.specs.Stream.{most_bytes, cut_known}
 use Rattle.cbor4ii_tool.specs.Fault.{status_of}
 use Rattle.cbor4ii_tool.specs.Program.{EndsIn}
-use Rattle.cbor4ii_tool.proofs.Chosen.{named, is_named, not_refused}
+use Rattle.cbor4ii_tool.proofs.Chosen.{named, is_named, not_rejected}
 use Rattle.cbor4ii_tool.proofs.program.program.Goals.{in-Ok-Some, in-Err, in-Err-outcome}
 use Rattle.cbor4ii_tool.proofs.program.program.Goals.{in_default}
 use Rattle.cbor4ii_tool.proofs.program.program.Goals as goal
@@ -20,12 +20,12 @@ returns-clause-runs g c = elim c.match-chosen.branch [
         ]) ∙ w.outcome-is),
         w.stream-outcome.ensures.runs,
       )
-  | in-Err w ↦ not_refused _ _ _ _ c.chosen.ensures.chooses w.in-Err.is
+  | in-Err w ↦ not_rejected _ _ _ _ c.chosen.ensures.chooses w.in-Err.is
 ]
 
 pub returns-clause-usage : goal.returns-clause-usage
 returns-clause-usage g c = elim c.match-chosen.branch [
   | in-Ok-Some w ↦ named _ _ _ _ c.chosen.ensures.chooses
       (w.in-Ok-Some.is ∙ ap Ok w.in-Ok-Some.field-0-is)
-  | in-Err w ↦ not_refused _ _ _ _ c.chosen.ensures.chooses w.in-Err.is
+  | in-Err w ↦ not_rejected _ _ _ _ c.chosen.ensures.chooses w.in-Err.is
 ]

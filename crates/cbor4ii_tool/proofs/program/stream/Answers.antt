@@ -8,7 +8,7 @@ returns-in_default-clause-runs g c = no_buffer c.args.command _ (g.W.Write.conte
 pub returns-clause-runs : goal.returns-clause-runs
 returns-clause-runs g c =
     let opened = c.in-Ok-Ok in
-    through_buffers c.args.command _ _ _ _ _ _ _ c.run.result c.new-3.ensures.told
+    through_buffers c.args.command _ _ _ _ _ _ _ c.run.result c.new-3.ensures.known
     c.new-3.ensures.taken c.new-3.ensures.budget
     (read_through _ _ _ opened.ensures.capacity opened.ensures.empty
     ∙ ap g.R.Read.remaining opened.ensures.inner)

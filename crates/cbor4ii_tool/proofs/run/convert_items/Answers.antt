@@ -20,19 +20,19 @@ returns-in-Err-clause-runs g c =
 pub returns-then-is_end-clause-runs : goal.returns-then-is_end-clause-runs
 returns-then-is_end-clause-runs g c =
     ended c.args.command _ _ _ _ _ c.loop-is_end.invariant
-    (λ xs told. (c.in-Ok.ensures.end xs told).0 c.if-is_end.true)
+    (λ xs known. (c.in-Ok.ensures.end xs known).0 c.if-is_end.true)
 
 pub returns-in-Err-convert-clause-runs : goal.returns-in-Err-convert-clause-runs
 returns-in-Err-convert-clause-runs g c =
     stopped c.args.command c.taken-at.result c.in-Err-convert.kind _ _ _ _ _ _ _
     c.loop-is_end.invariant c.taken-at.ensures.taken c.in-Ok.ensures.shows
-    (λ xs told none. not_true c.in-Ok.is_end c.if-is_end.false
-    ((c.in-Ok.ensures.end xs told).1 none)) c.in-Err-convert.ensures.fails
+    (λ xs known none. not_true c.in-Ok.is_end c.if-is_end.false
+    ((c.in-Ok.ensures.end xs known).1 none)) c.in-Err-convert.ensures.fails
 
 pub returns-then-is_end-clause-ended : goal.returns-then-is_end-clause-ended
 returns-then-is_end-clause-ended g c =
     nothing_left c.args.command _ _ _ _ _ c.loop-is_end.invariant c.in-Ok.ensures.shows
-    (λ xs told. (c.in-Ok.ensures.end xs told).0 c.if-is_end.true)
+    (λ xs known. (c.in-Ok.ensures.end xs known).0 c.if-is_end.true)
 
 pub returns-in-Err-clause-leaves : goal.returns-in-Err-clause-leaves
 returns-in-Err-clause-leaves g c =

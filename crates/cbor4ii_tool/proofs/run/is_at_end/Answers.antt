@@ -6,8 +6,8 @@ never : IsTrue false → ⊥
 never t = cc
 
 pub returns-in-Some-clause-end : goal.returns-in-Some-clause-end
-returns-in-Some-clause-end g c xs told = (
+returns-in-Some-clause-end g c xs known = (
   λ t. absurd (never t),
   λ none.
-      absurd (not_end _ xs (c.in-Some.ensures.front xs told) c.in-Some.len_at_least none),
+      absurd (not_end _ xs (c.in-Some.ensures.prefix xs known) c.in-Some.len_at_least none),
 )

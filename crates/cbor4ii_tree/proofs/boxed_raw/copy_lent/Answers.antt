@@ -2,7 +2,7 @@ use Rattle.std.proofs.Common.{inl, inr, refl, ap, ◌∙◌, take, List, ℕ}
 use Rattle.cbor4ii_tree.specs.BoxedRaw.{boxed_content}
 use Rattle.cbor4ii_tree.proofs.raw_items.Captured.{captured, stopped_in}
 use Rattle.cbor4ii_tree.proofs.raw_items.Copied.{none_read}
-use Rattle.cbor4ii_tree.proofs.raw_items.Unlent.{none_stops}
+use Rattle.cbor4ii_tree.proofs.raw_items.Unlent.{none_rejects}
 use Rattle.cbor4ii_tree.proofs.boxed_raw.copy_lent.Goals as goal
 
 pub returns-in-Ok-from_slice-clause-copies : goal.returns-in-Ok-from_slice-clause-copies
@@ -36,11 +36,11 @@ returns-in-Ok-clause-unlent g c never =
 pub returns-in-Ok-Some-clause-copies : goal.returns-in-Ok-Some-clause-copies
 returns-in-Ok-Some-clause-copies g c =
     inl (stopped_in (rw c.in-Ok-Some.field-0-is at c.in-Ok-Some.ensures.fills) c.as_slice.ensures
-    c.in-Err-skip_lent.ensures.stops c.in-Err-skip_lent.ensures.stays
+    c.in-Err-skip_lent.ensures.rejects c.in-Err-skip_lent.ensures.stays
     c.in-Err-skip_lent.ensures.budget)
 
 pub returns-in-Ok-Some-clause-unlent : goal.returns-in-Ok-Some-clause-unlent
 returns-in-Ok-Some-clause-unlent g c never =
-    none_stops (rw c.in-Ok-Some.field-0-is at c.in-Ok-Some.ensures.never never) c.as_slice.ensures
-    (rw c.in-Ok-Some.field-0-is at c.in-Ok-Some.ensures.fills) c.in-Err-skip_lent.ensures.stops
+    none_rejects (rw c.in-Ok-Some.field-0-is at c.in-Ok-Some.ensures.never never) c.as_slice.ensures
+    (rw c.in-Ok-Some.field-0-is at c.in-Ok-Some.ensures.fills) c.in-Err-skip_lent.ensures.rejects
     c.in-Err-skip_lent.ensures.stays

@@ -1,39 +1,44 @@
 use Rattle.std.proofs.Common.{refl, ap, inl, arith, ◌∙◌, ◌-◌, ◌*◌}
 use Rattle.std.proofs.Common.{length, Vec, Global}
-use Rattle.cbor4ii_tree.specs.StopsStrictly.{Exactly}
+use Rattle.cbor4ii_tree.specs.CanonicalRejects.{FitsCanonically}
 use Rattle.cbor4ii_tree.specs.Deeper.{budgeted}
 use Rattle.cbor4ii_tree.specs.declared.value.Value.{Value, Array, Map, Tag}
 use Rattle.cbor4ii_tree.specs.Item.{tag}
 use Rattle.cbor4ii_tree.specs.View.{view}
-use Rattle.cbor4ii_tree.specs.Refusal.{array_name, map_name, value_name}
+use Rattle.cbor4ii_tree.specs.InputError.{array_name, map_name, value_name}
 use Rattle.cbor4ii_tree.specs.Valuing.{ReadsStepped}
-use Rattle.cbor4ii_tree.specs.StopsStrictly.{StrictArrayStops, StrictMapStops}
-use Rattle.cbor4ii_tree.specs.Strictly.{ReadsExactly, ReadsExactlyTagged, StopsExactly}
-use Rattle.cbor4ii_tree.specs.Strictly.{ReadsExactlyUnder}
-use Rattle.cbor4ii_tree.specs.Strictly.{StopsExactlyUnder, StopsExactlyStepped, ExactItems}
-use Rattle.cbor4ii_tree.specs.Strictly.{StopsAtShortest, StopsExactItems, TakesShortest}
-use Rattle.cbor4ii_tree.specs.Strictly.{ExactMembers, AcceptsCount}
+use Rattle.cbor4ii_tree.specs.CanonicalRejects.{CanonicalArrayRejects, CanonicalMapRejects}
+use Rattle.cbor4ii_tree.specs.CanonicalCalls.{ReadsCanonically, ReadsCanonicallyTagged}
+use Rattle.cbor4ii_tree.specs.CanonicalCalls.{RejectsCanonically}
+use Rattle.cbor4ii_tree.specs.CanonicalCalls.{ReadsCanonicallyUnder}
+use Rattle.cbor4ii_tree.specs.CanonicalCalls.{RejectsCanonicallyUnder, RejectsCanonicallyStepped}
+use Rattle.cbor4ii_tree.specs.CanonicalCalls.{CanonicalItems}
+use Rattle.cbor4ii_tree.specs.CanonicalCalls.{RejectsAtShortest, RejectsCanonicalItems}
+use Rattle.cbor4ii_tree.specs.CanonicalCalls.{TakesShortest}
+use Rattle.cbor4ii_tree.specs.CanonicalCalls.{CanonicalMembers, AcceptsCount}
 use Rattle.cbor4ii_tree.proofs.skip_calls.Doing.{reached_start, reached_by, does_ok}
 use Rattle.cbor4ii_tree.proofs.skip_calls.Doing.{does_no_memory, does_no_step}
 use Rattle.cbor4ii_tree.proofs.values.Heads.{view-Tag}
 use Rattle.cbor4ii_tree.proofs.canonical.Calls.{exact_ok, exact_err}
-use Rattle.cbor4ii_tree.proofs.skip_calls.Doing.{still_refused}
+use Rattle.cbor4ii_tree.proofs.skip_calls.Doing.{still_rejected}
 use Rattle.cbor4ii_tree.proofs.canonical.Calls.{alone_exact, exact_major}
-use Rattle.cbor4ii_tree.proofs.canonical.Calls.{exact_tag_does, exact_tag_refused, exact_tagged_err}
+use Rattle.cbor4ii_tree.proofs.canonical.Calls.{exact_tag_does, exact_tag_rejected}
+use Rattle.cbor4ii_tree.proofs.canonical.Calls.{exact_tagged_err}
 use Rattle.cbor4ii_tree.proofs.canonical.Calls.{exact_tagged_ok}
-use Rattle.cbor4ii_tree.proofs.canonical.Calls.{undefined_stops}
-use Rattle.cbor4ii_tree.proofs.canonical.Calls.{stepped_one, stepped_more, counted_does}
+use Rattle.cbor4ii_tree.proofs.canonical.Calls.{undefined_rejects}
+use Rattle.cbor4ii_tree.proofs.canonical.Calls.{stepped_one, stepped_more, definite_does}
 use Rattle.cbor4ii_tree.proofs.canonical.Calls.{array_exact, map_exact}
 use Rattle.cbor4ii_items.specs.Laws.Running.{kept_alike}
 use Rattle.cbor4ii_tree.proofs.values.Answered.{went_on, around}
 use Rattle.cbor4ii_tree.proofs.values.Leaves.{after_look, found_leaf}
 use Rattle.cbor4ii_tree.proofs.skip_calls.Deeper.{alike_within}
-use Rattle.cbor4ii_tree.proofs.values.ByHead.{behind_next, next_step, next_stepped, peeks_next}
+use Rattle.cbor4ii_tree.proofs.values.ByHead.{after_next, next_step, next_stepped, peeks_next}
 use Rattle.cbor4ii_tree.specs.LeafRuns.{flat, flat_values, ReadsEach}
 use Rattle.cbor4ii_tree.proofs.skip_calls.Doing.{reached_as}
-use Rattle.cbor4ii_tree.proofs.values.LeafRuns.{none_yet, none_too_many, ran, run_stops, stop_alone}
+use Rattle.cbor4ii_tree.proofs.values.LeafRuns.{none_yet, none_too_many, ran, run_rejects}
+use Rattle.cbor4ii_tree.proofs.values.LeafRuns.{stop_alone}
 use Rattle.cbor4ii_tree.proofs.values.LeafRuns.{both_there, pairs_are_read, turn_stepped}
-use Rattle.cbor4ii_tree.proofs.values.LeafRuns.{turn_unstepped, turn_put, turn_refused, turn_ends}
+use Rattle.cbor4ii_tree.proofs.values.LeafRuns.{turn_unstepped, turn_put, turn_rejected, turn_ends}
 use Rattle.cbor4ii_tree.proofs.values.LeafRuns.{run_before, on_found}
 use Rattle.cbor4ii_tree.proofs.canonical.Calls.{one_exactly, none_exactly}
 use Rattle.cbor4ii_tree.proofs.decode_canonical.+strict.Goals as goal
@@ -42,7 +47,8 @@ pub read_next-returns-in_ok-read_array-in-4-clause-does :
     goal.read_next-returns-in_ok-read_array-in-4-clause-does
 read_next-returns-in_ok-read_array-in-4-clause-does g t c before shows =
     exact_ok c.args.next.first (peeks_next c.args.next shows)
-    (λ xs ys. ReadsStepped (λ o xs (v : Vec Value Global) ys. AcceptsCount 4 ExactItems o xs v.items
+    (λ xs ys. ReadsStepped (λ o xs (v : Vec Value Global) ys. AcceptsCount 4 CanonicalItems o xs
+    v.items
     ys)
     before.budget xs c.in_ok-read_array-in-4.field-0 ys)
     (Array c.in_ok-read_array-in-4.field-0)
@@ -53,9 +59,10 @@ pub read_next-returns-in_err-read_array-in-4-clause-does :
     goal.read_next-returns-in_err-read_array-in-4-clause-does
 read_next-returns-in_err-read_array-in-4-clause-does g t c before shows =
     rw c.from_residual.ensures (exact_err c.args.next.first (peeks_next c.args.next shows) 4
-    (ReadsStepped (λ o xs (v : Vec Value Global) ys. AcceptsCount 4 ExactItems o xs v.items ys)
+    (ReadsStepped (λ o xs (v : Vec Value Global) ys. AcceptsCount 4 CanonicalItems o xs v.items ys)
     before.budget)
-    (StopsExactlyStepped array_name (StrictArrayStops StopsExactly)) c.in-4.is (λ bs z rest h. h)
+    (RejectsCanonicallyStepped array_name (CanonicalArrayRejects RejectsCanonically)) c.in-4.is
+    (λ bs z rest h. h)
     (c.in_err-read_array-in-4.ensures.does before shows))
 
 pub read_next-returns-in_ok-read_array-in-4-clause-progress :
@@ -70,9 +77,9 @@ read_next-returns-in_err-read_array-in-4-clause-progress g t c =
 
 pub read_array-returns-clause-does : goal.read_array-returns-clause-does
 read_array-returns-clause-does g t c before shows =
-    stepped_more array_name (λ o xs (v : Vec Value Global) ys. AcceptsCount 4 ExactItems o xs
+    stepped_more array_name (λ o xs (v : Vec Value Global) ys. AcceptsCount 4 CanonicalItems o xs
     v.items ys)
-    (StrictArrayStops StopsExactly)
+    (CanonicalArrayRejects RejectsCanonically)
     (next_step c.args.next shows (g.S.Source.view c.step_in.new.self)
     c.if-not-step_in.ensures.budget) (alike_within _ before)
     (c.array_inside-outcome.ensures.does
@@ -84,33 +91,35 @@ pub read_array-returns-then-not-step_in-clause-does :
     goal.read_array-returns-then-not-step_in-clause-does
 read_array-returns-then-not-step_in-clause-does g t c before shows =
     let budget = (g.S.Source.view c.args.reader.now).budget in
-    let accepts = ReadsStepped (λ o xs (v : Vec Value Global) ys. AcceptsCount 4 ExactItems o xs
+    let accepts = ReadsStepped (λ o xs (v : Vec Value Global) ys. AcceptsCount 4 CanonicalItems o xs
     v.items ys) in
-    let stops = StopsExactlyStepped array_name (StrictArrayStops StopsExactly) in
-    rw c.leave_deep.ensures (behind_next c.args.next shows accepts stops
-    (does_no_step array_name (accepts budget) (stops budget) refl refl
+    let rejects = RejectsCanonicallyStepped array_name (CanonicalArrayRejects RejectsCanonically) in
+    rw c.leave_deep.ensures (after_next c.args.next shows accepts rejects
+    (does_no_step array_name (accepts budget) (rejects budget) refl refl
     (λ none xs. rw none (refl, refl)) c.if-not-step_in.ensures.budget c.step_in.ensures.others))
 
 pub array_inside-returns-clause-does : goal.array_inside-returns-clause-does
 array_inside-returns-clause-does g t c before shows =
-    counted_does array_name 4 c.in_ok-count.count
-    (λ n o xs (v : Vec Value Global) ys. ExactItems n o xs v.items ys)
-    (λ o n. StopsExactItems n o) (reached_by (c.in_ok-count.ensures.does before shows))
-    c.counted_items.ensures
+    definite_does array_name 4 c.in_ok-count.count
+    (λ n o xs (v : Vec Value Global) ys. CanonicalItems n o xs v.items ys)
+    (λ o n. RejectsCanonicalItems n o) (reached_by (c.in_ok-count.ensures.does before shows))
+    c.definite_items.ensures
 
 pub array_inside-returns-in_err-count-clause-does :
     goal.array_inside-returns-in_err-count-clause-does
 array_inside-returns-in_err-count-clause-does g t c before shows =
-    rw c.from_residual.ensures (still_refused (TakesShortest 4 before.budget)
-    (λ xs (v : Vec Value Global) ys. AcceptsCount 4 ExactItems before.budget xs v.items ys)
-    (StopsAtShortest array_name 4 before.budget) (StrictArrayStops StopsExactly before.budget)
+    rw c.from_residual.ensures (still_rejected (TakesShortest 4 before.budget)
+    (λ xs (v : Vec Value Global) ys. AcceptsCount 4 CanonicalItems before.budget xs v.items ys)
+    (RejectsAtShortest array_name 4 before.budget) (CanonicalArrayRejects RejectsCanonically
+    before.budget)
     (λ xs z rest h. inl h) (c.in_err-count.ensures.does before shows))
 
 pub read_next-returns-in_ok-read_map-in-5-clause-does :
     goal.read_next-returns-in_ok-read_map-in-5-clause-does
 read_next-returns-in_ok-read_map-in-5-clause-does g t c before shows =
     exact_ok c.args.next.first (peeks_next c.args.next shows)
-    (λ xs ys. ReadsStepped (λ o xs (v : Vec (Value × Value) Global) ys. AcceptsCount 5 ExactMembers
+    (λ xs ys. ReadsStepped (λ o xs (v : Vec (Value × Value) Global) ys. AcceptsCount 5
+    CanonicalMembers
     o xs v.items ys)
     before.budget xs c.in_ok-read_map-in-5.field-0 ys)
     (Map c.in_ok-read_map-in-5.field-0)
@@ -122,9 +131,10 @@ pub read_next-returns-in_err-read_map-in-5-clause-does :
 read_next-returns-in_err-read_map-in-5-clause-does g t c before shows =
     rw c.from_residual-in_err-read_map-in-5.ensures
     (exact_err c.args.next.first (peeks_next c.args.next shows) 5
-    (ReadsStepped (λ o xs (v : Vec (Value × Value) Global) ys. AcceptsCount 5 ExactMembers o xs
+    (ReadsStepped (λ o xs (v : Vec (Value × Value) Global) ys. AcceptsCount 5 CanonicalMembers o xs
     v.items ys) before.budget)
-    (StopsExactlyStepped map_name (StrictMapStops StopsExactly)) c.in-5.is (λ bs z rest h. h)
+    (RejectsCanonicallyStepped map_name (CanonicalMapRejects RejectsCanonically)) c.in-5.is
+    (λ bs z rest h. h)
     (c.in_err-read_map-in-5.ensures.does before shows))
 
 pub read_next-returns-in_ok-read_map-in-5-clause-progress :
@@ -139,9 +149,10 @@ read_next-returns-in_err-read_map-in-5-clause-progress g t c =
 
 pub read_map-returns-clause-does : goal.read_map-returns-clause-does
 read_map-returns-clause-does g t c before shows =
-    stepped_more map_name (λ o xs (v : Vec (Value × Value) Global) ys. AcceptsCount 5 ExactMembers o
+    stepped_more map_name (λ o xs (v : Vec (Value × Value) Global) ys. AcceptsCount 5
+    CanonicalMembers o
     xs v.items ys)
-    (StrictMapStops StopsExactly)
+    (CanonicalMapRejects RejectsCanonically)
     (next_step c.args.next shows (g.S.Source.view c.step_in.new.self)
     c.if-not-step_in.ensures.budget) (alike_within _ before)
     (c.map_inside-outcome.ensures.does
@@ -154,25 +165,27 @@ pub read_map-returns-then-not-step_in-clause-does :
 read_map-returns-then-not-step_in-clause-does g t c before shows =
     let budget = (g.S.Source.view c.args.reader.now).budget in
     let accepts = ReadsStepped (λ o xs (v : Vec (Value × Value) Global) ys. AcceptsCount 5
-    ExactMembers o xs v.items ys) in
-    let stops = StopsExactlyStepped map_name (StrictMapStops StopsExactly) in
-    rw c.leave_deep.ensures (behind_next c.args.next shows accepts stops
-    (does_no_step map_name (accepts budget) (stops budget) refl refl
+    CanonicalMembers o xs v.items ys) in
+    let rejects = RejectsCanonicallyStepped map_name (CanonicalMapRejects RejectsCanonically) in
+    rw c.leave_deep.ensures (after_next c.args.next shows accepts rejects
+    (does_no_step map_name (accepts budget) (rejects budget) refl refl
     (λ none xs. rw none (refl, refl)) c.if-not-step_in.ensures.budget c.step_in.ensures.others))
 
 pub map_inside-returns-clause-does : goal.map_inside-returns-clause-does
 map_inside-returns-clause-does g t c before shows =
-    counted_does map_name 5 c.in_ok-count.count
-    (λ n o xs (v : Vec (Value × Value) Global) ys. ExactMembers n o xs v.items ys)
-    (λ o n. StopsExactItems (2 * n) o) (reached_by (c.in_ok-count.ensures.does before shows))
-    c.counted_members.ensures
+    definite_does map_name 5 c.in_ok-count.count
+    (λ n o xs (v : Vec (Value × Value) Global) ys. CanonicalMembers n o xs v.items ys)
+    (λ o n. RejectsCanonicalItems (2 * n) o) (reached_by (c.in_ok-count.ensures.does before shows))
+    c.definite_members.ensures
 
 pub map_inside-returns-in_err-count-clause-does : goal.map_inside-returns-in_err-count-clause-does
 map_inside-returns-in_err-count-clause-does g t c before shows =
-    rw c.from_residual.ensures (still_refused (TakesShortest 5 before.budget)
-    (λ xs (v : Vec (Value × Value) Global) ys. AcceptsCount 5 ExactMembers before.budget xs v.items
+    rw c.from_residual.ensures (still_rejected (TakesShortest 5 before.budget)
+    (λ xs (v : Vec (Value × Value) Global) ys. AcceptsCount 5 CanonicalMembers before.budget xs
+    v.items
     ys)
-    (StopsAtShortest map_name 5 before.budget) (StrictMapStops StopsExactly before.budget)
+    (RejectsAtShortest map_name 5 before.budget) (CanonicalMapRejects RejectsCanonically
+    before.budget)
     (λ xs z rest h. inl h) (c.in_err-count.ensures.does before shows))
 
 pub read_next-returns-in-6-clause-does : goal.read_next-returns-in-6-clause-does
@@ -185,7 +198,7 @@ read_next-returns-in-6-clause-progress g t c = c.read_tag.ensures.progress
 
 pub read_tag-returns-in_err-number-clause-does : goal.read_tag-returns-in_err-number-clause-does
 read_tag-returns-in_err-number-clause-does g t c before shows =
-    rw c.from_residual.ensures (exact_tag_refused (c.in_err-number.ensures.does before shows))
+    rw c.from_residual.ensures (exact_tag_rejected (c.in_err-number.ensures.does before shows))
 
 pub read_tag-returns-clause-does : goal.read_tag-returns-clause-does
 read_tag-returns-clause-does g t c before shows =
@@ -195,7 +208,7 @@ read_tag-returns-clause-does g t c before shows =
 pub read_next-returns-then-next-eq-UNDEFINED-clause-does :
     goal.read_next-returns-then-next-eq-UNDEFINED-clause-does
 read_next-returns-then-next-eq-UNDEFINED-clause-does g t c before shows =
-    rw c.leave_not_canonical.ensures (undefined_stops c.args.next.first shows.first.runs
+    rw c.leave_not_canonical.ensures (undefined_rejects c.args.next.first shows.first.runs
     (omega arith)
     c.advance.ensures c.if-next-eq-UNDEFINED.true refl refl refl)
 
@@ -215,12 +228,14 @@ read_next-returns-in_default-clause-does g t c before shows =
 
 pub read_inside-returns-in-Taken-clause-does : goal.read_inside-returns-in-Taken-clause-does
 read_inside-returns-in-Taken-clause-does g t c =
-    found_leaf (Unit {0}) ReadsExactlyUnder StopsExactlyUnder c.in-Taken.value _ c.in-Taken.is
+    found_leaf (Unit {0}) ReadsCanonicallyUnder RejectsCanonicallyUnder c.in-Taken.value _
+    c.in-Taken.is
     (c.in_ok-value.ensures.exactly refl)
 
 pub read_inside-returns-in-Begins-clause-does : goal.read_inside-returns-in-Begins-clause-does
 read_inside-returns-in-Begins-clause-does g t c =
-    after_look (Unit {0}) ReadsExactlyUnder StopsExactlyUnder _ c.in-Begins.next _ c.in-Begins.is
+    after_look (Unit {0}) ReadsCanonicallyUnder RejectsCanonicallyUnder _ c.in-Begins.next _
+    c.in-Begins.is
     (c.in_ok-value.ensures.exactly refl) c.read_next.ensures.does
 
 pub read_inside-returns-in_err-value-clause-does : goal.read_inside-returns-in_err-value-clause-does
@@ -235,9 +250,9 @@ read_one-returns-clause-does g t c =
 pub read_one-returns-then-not-step_in-clause-does :
     goal.read_one-returns-then-not-step_in-clause-does
 read_one-returns-then-not-step_in-clause-does g t c =
-    rw c.leave_deep.ensures (does_no_step value_name (ReadsExactly (g.S.Source.view
+    rw c.leave_deep.ensures (does_no_step value_name (ReadsCanonically (g.S.Source.view
     c.args.reader.now).budget)
-    (StopsExactly (g.S.Source.view c.args.reader.now).budget) refl refl
+    (RejectsCanonically (g.S.Source.view c.args.reader.now).budget) refl refl
     (λ none xs. rw none (refl, refl)) c.if-not-step_in.ensures.budget c.step_in.ensures.others)
 
 pub array_inside-returns-in_err-count-clause-progress :
@@ -279,25 +294,26 @@ read_map-returns-clause-progress g t c =
 
 pub array_inside-returns-clause-progress : goal.array_inside-returns-clause-progress
 array_inside-returns-clause-progress g t c =
-    went_on _ c.counted_items.result _ c.in_ok-count.ensures.progress c.counted_items.ensures.moves
+    went_on _ c.definite_items.result _ c.in_ok-count.ensures.progress
+    c.definite_items.ensures.moves
 
 pub map_inside-returns-clause-progress : goal.map_inside-returns-clause-progress
 map_inside-returns-clause-progress g t c =
-    went_on _ c.counted_members.result _ c.in_ok-count.ensures.progress
-    c.counted_members.ensures.moves
+    went_on _ c.definite_members.result _ c.in_ok-count.ensures.progress
+    c.definite_members.ensures.moves
 
-pub counted_items-returns-then-is_err : goal.counted_items-returns-then-is_err
-counted_items-returns-then-is_err g t c =
+pub definite_items-returns-then-is_err : goal.definite_items-returns-then-is_err
+definite_items-returns-then-is_err g t c =
     does_no_memory (λ xs (v : Vec Value Global) ys.
-    ExactItems c.args.count (g.S.Source.view c.args.reader.now).budget xs v.items ys)
-    (StopsExactItems c.args.count (g.S.Source.view c.args.reader.now).budget) refl
+    CanonicalItems c.args.count (g.S.Source.view c.args.reader.now).budget xs v.items ys)
+    (RejectsCanonicalItems c.args.count (g.S.Source.view c.args.reader.now).budget) refl
     (kept_alike _)
 
-pub counted_members-returns-then-is_err : goal.counted_members-returns-then-is_err
-counted_members-returns-then-is_err g t c =
+pub definite_members-returns-then-is_err : goal.definite_members-returns-then-is_err
+definite_members-returns-then-is_err g t c =
     does_no_memory (λ xs (v : Vec (Value × Value) Global) ys.
-    ExactMembers c.args.count (g.S.Source.view c.args.reader.now).budget xs v.items ys)
-    (StopsExactItems (2 * c.args.count) (g.S.Source.view c.args.reader.now).budget) refl
+    CanonicalMembers c.args.count (g.S.Source.view c.args.reader.now).budget xs v.items ys)
+    (RejectsCanonicalItems (2 * c.args.count) (g.S.Source.view c.args.reader.now).budget) refl
     (kept_alike _)
 
 pub read_tagged-returns-in_err-inner-clause-does :
@@ -318,15 +334,16 @@ read_tag-returns-clause-progress g t c =
 
 pub read_tagged-returns-clause-does : goal.read_tagged-returns-clause-does
 read_tagged-returns-clause-does g t c =
-    does_no_memory (ReadsExactlyTagged c.args.number (g.S.Source.view c.args.reader.now).budget)
-    (StopsExactly (g.S.Source.view c.args.reader.now).budget) refl
+    does_no_memory (ReadsCanonicallyTagged c.args.number (g.S.Source.view c.args.reader.now).budget)
+    (RejectsCanonically (g.S.Source.view c.args.reader.now).budget) refl
     c.in_ok-inner.ensures.does.moves.by
 
--- ---- as many values as one look decides, and the one behind them
+-- ---- as many values as one look decides, and the one after them
 
 pub more_items-returns-clause-does : goal.more_items-returns-clause-does
 more_items-returns-clause-does g t c =
-    turn_stepped Exactly StopsExactly (1 * c.args.count - length c.args.items.now.items)
+    turn_stepped FitsCanonically RejectsCanonically
+    (1 * c.args.count - length c.args.items.now.items)
     c.args.items.now.items _
     c.if-not-step_in.ensures.budget c.step_in.ensures.others c.items_inside-outcome.ensures.does
     c.step_out.ensures.budget c.step_out.ensures.others
@@ -334,7 +351,7 @@ more_items-returns-clause-does g t c =
 pub more_items-returns-then-not-step_in-clause-does :
     goal.more_items-returns-then-not-step_in-clause-does
 more_items-returns-then-not-step_in-clause-does g t c =
-    rw c.leave_deep.ensures (turn_unstepped Exactly StopsExactly (1 * c.args.count)
+    rw c.leave_deep.ensures (turn_unstepped FitsCanonically RejectsCanonically (1 * c.args.count)
     c.args.items.now.items _
     c.requires refl refl (λ none xs. rw none (refl, refl)) c.if-not-step_in.ensures.budget
     c.step_in.ensures.others)
@@ -342,9 +359,11 @@ more_items-returns-then-not-step_in-clause-does g t c =
 pub items_inside-returns-in_ok-value-in-Some-clause-does :
     goal.items_inside-returns-in_ok-value-in-Some-clause-does
 items_inside-returns-in_ok-value-in-Some-clause-does g t c =
-    turn_put Exactly StopsExactly _ _ one_exactly (1 * c.args.count) c.args.items.now.items
+    turn_put FitsCanonically RejectsCanonically _ _ one_exactly (1 * c.args.count)
+    c.args.items.now.items
     (Unit {0}) c.take_run.new.parts.items c.in-Some.next
-    (run_before (Unit {0}) Exactly c.args.items.now.items c.take_run.new.parts.items c.in-Some.next
+    (run_before (Unit {0}) FitsCanonically c.args.items.now.items c.take_run.new.parts.items
+    c.in-Some.next
     _
     c.in-Some.is (c.in_ok-next.ensures.exactly refl)) c.put_value.new.parts.items
     c.put_value.result _
@@ -353,11 +372,13 @@ items_inside-returns-in_ok-value-in-Some-clause-does g t c =
 pub items_inside-returns-in_err-value-in-Some-clause-does :
     goal.items_inside-returns-in_err-value-in-Some-clause-does
 items_inside-returns-in_err-value-in-Some-clause-does g t c =
-    rw c.from_residual-in_err-value-in-Some.ensures (turn_refused Exactly StopsExactly _ _
+    rw c.from_residual-in_err-value-in-Some.ensures
+    (turn_rejected FitsCanonically RejectsCanonically _ _
     one_exactly
     (1 * c.args.count) c.args.items.now.items
     (Unit {0}) c.take_run.new.parts.items c.in-Some.next
-    (run_before (Unit {0}) Exactly c.args.items.now.items c.take_run.new.parts.items c.in-Some.next
+    (run_before (Unit {0}) FitsCanonically c.args.items.now.items c.take_run.new.parts.items
+    c.in-Some.next
     _
     c.in-Some.is (c.in_ok-next.ensures.exactly refl)) _
     (on_found c.in-Some.next c.in-Some.is c.in_ok-next.ensures.lacks)
@@ -366,13 +387,15 @@ items_inside-returns-in_err-value-in-Some-clause-does g t c =
 pub items_inside-returns-in_err-next-clause-does :
     goal.items_inside-returns-in_err-next-clause-does
 items_inside-returns-in_err-next-clause-does g t c =
-    rw c.from_residual.ensures (turn_ends Exactly StopsExactly _ _ one_exactly (1 * c.args.count)
+    rw c.from_residual.ensures (turn_ends FitsCanonically RejectsCanonically _ _ one_exactly
+    (1 * c.args.count)
     c.args.items.now.items
     c.take_run.new.parts.items c.requires (none_exactly _) (c.in_err-next.ensures.exactly refl))
 
 pub more_members-returns-clause-does : goal.more_members-returns-clause-does
 more_members-returns-clause-does g t c =
-    turn_stepped Exactly StopsExactly (2 * c.args.count - length (flat c.args.pairs.now)) (flat
+    turn_stepped FitsCanonically RejectsCanonically
+    (2 * c.args.count - length (flat c.args.pairs.now)) (flat
     c.args.pairs.now) _
     c.if-not-step_in.ensures.budget c.step_in.ensures.others c.members_inside-outcome.ensures.does
     c.step_out.ensures.budget c.step_out.ensures.others
@@ -380,7 +403,8 @@ more_members-returns-clause-does g t c =
 pub more_members-returns-then-not-step_in-clause-does :
     goal.more_members-returns-then-not-step_in-clause-does
 more_members-returns-then-not-step_in-clause-does g t c =
-    rw c.leave_deep.ensures (turn_unstepped Exactly StopsExactly (2 * c.args.count) (flat
+    rw c.leave_deep.ensures (turn_unstepped FitsCanonically RejectsCanonically
+    (2 * c.args.count) (flat
     c.args.pairs.now) _
     c.requires refl refl (λ none xs. rw none (refl, refl)) c.if-not-step_in.ensures.budget
     c.step_in.ensures.others)
@@ -388,9 +412,10 @@ more_members-returns-then-not-step_in-clause-does g t c =
 pub members_inside-returns-in_ok-value-in-Some-clause-does :
     goal.members_inside-returns-in_ok-value-in-Some-clause-does
 members_inside-returns-in_ok-value-in-Some-clause-does g t c =
-    turn_put Exactly StopsExactly _ _ one_exactly (2 * c.args.count) (flat c.args.pairs.now)
+    turn_put FitsCanonically RejectsCanonically _ _ one_exactly (2 * c.args.count)
+    (flat c.args.pairs.now)
     (Unit {0}) (flat c.take_run.new.parts) c.in-Some.next
-    (run_before (Unit {0}) Exactly (flat c.args.pairs.now) (flat c.take_run.new.parts)
+    (run_before (Unit {0}) FitsCanonically (flat c.args.pairs.now) (flat c.take_run.new.parts)
     c.in-Some.next _
     c.in-Some.is (c.in_ok-next.ensures.exactly refl)) (flat c.put_value.new.parts)
     c.put_value.result _
@@ -399,11 +424,12 @@ members_inside-returns-in_ok-value-in-Some-clause-does g t c =
 pub members_inside-returns-in_err-value-in-Some-clause-does :
     goal.members_inside-returns-in_err-value-in-Some-clause-does
 members_inside-returns-in_err-value-in-Some-clause-does g t c =
-    rw c.from_residual-in_err-value-in-Some.ensures (turn_refused Exactly StopsExactly _ _
+    rw c.from_residual-in_err-value-in-Some.ensures
+    (turn_rejected FitsCanonically RejectsCanonically _ _
     one_exactly
     (2 * c.args.count) (flat c.args.pairs.now)
     (Unit {0}) (flat c.take_run.new.parts) c.in-Some.next
-    (run_before (Unit {0}) Exactly (flat c.args.pairs.now) (flat c.take_run.new.parts)
+    (run_before (Unit {0}) FitsCanonically (flat c.args.pairs.now) (flat c.take_run.new.parts)
     c.in-Some.next _
     c.in-Some.is (c.in_ok-next.ensures.exactly refl)) _
     (on_found c.in-Some.next c.in-Some.is c.in_ok-next.ensures.lacks)
@@ -412,84 +438,90 @@ members_inside-returns-in_err-value-in-Some-clause-does g t c =
 pub members_inside-returns-in_err-next-clause-does :
     goal.members_inside-returns-in_err-next-clause-does
 members_inside-returns-in_err-next-clause-does g t c =
-    rw c.from_residual.ensures (turn_ends Exactly StopsExactly _ _ one_exactly (2 * c.args.count)
+    rw c.from_residual.ensures (turn_ends FitsCanonically RejectsCanonically _ _ one_exactly
+    (2 * c.args.count)
     (flat c.args.pairs.now)
     (flat c.take_run.new.parts) c.requires (none_exactly _) (c.in_err-next.ensures.exactly refl))
 
 -- ---- an array whose items are counted
 
-pub counted_items-loop-alloc-init : goal.counted_items-loop-alloc-init
-counted_items-loop-alloc-init g t c = record {
+pub definite_items-loop-alloc-init : goal.definite_items-loop-alloc-init
+definite_items-loop-alloc-init g t c = record {
   reached =
-      reached_start (λ xs ys. ReadsEach (Exactly (g.S.Source.view c.args.reader.now).budget)
+      reached_start (λ xs ys. ReadsEach (FitsCanonically (g.S.Source.view c.args.reader.now).budget)
       (length c.reserve.new.self.items) xs c.reserve.new.self.items ys) _
-      (none_yet (Exactly (g.S.Source.view c.args.reader.now).budget) _ (cc));
+      (none_yet (FitsCanonically (g.S.Source.view c.args.reader.now).budget) _ (cc));
   few = none_too_many _ (1 * c.args.count) (cc);
 }
 
-pub counted_items-loop-alloc-preserved : goal.counted_items-loop-alloc-preserved
-counted_items-loop-alloc-preserved g t c = record {
+pub definite_items-loop-alloc-preserved : goal.definite_items-loop-alloc-preserved
+definite_items-loop-alloc-preserved g t c = record {
   reached =
-      ran Exactly StopsExactly (1 * c.args.count) c.loop-alloc.items.items
+      ran FitsCanonically RejectsCanonically (1 * c.args.count) c.loop-alloc.items.items
       c.more_items.new.items.items c.loop-alloc.invariant.reached
       c.in_ok-more_items.ensures.does;
   few = c.in_ok-more_items.ensures.few;
 }
 
-pub counted_items-returns-in_err-more_items :
-    goal.counted_items-returns-in_err-more_items
-counted_items-returns-in_err-more_items g t c =
-    rw c.from_residual.ensures (stop_alone Exactly StopsExactly c.args.count (g.S.Source.view
+pub definite_items-returns-in_err-more_items :
+    goal.definite_items-returns-in_err-more_items
+definite_items-returns-in_err-more_items g t c =
+    rw c.from_residual.ensures (stop_alone FitsCanonically RejectsCanonically c.args.count
+    (g.S.Source.view
     c.args.reader.now).budget
-    (λ xs (v : Vec Value Global) ys. ExactItems c.args.count (g.S.Source.view
+    (λ xs (v : Vec Value Global) ys. CanonicalItems c.args.count (g.S.Source.view
     c.args.reader.now).budget xs v.items ys)
-    (run_stops Exactly StopsExactly (1 * c.args.count) c.loop-alloc.items.items
+    (run_rejects FitsCanonically RejectsCanonically (1 * c.args.count) c.loop-alloc.items.items
     c.more_items.new.items.items c.loop-alloc.invariant.reached
-    (λ xs (v : Vec Value Global) ys. ExactItems c.args.count (g.S.Source.view
+    (λ xs (v : Vec Value Global) ys. CanonicalItems c.args.count (g.S.Source.view
     c.args.reader.now).budget xs v.items ys)
     c.in_err-more_items.ensures.does))
 
 -- ---- a map whose pairs are counted
 
-pub counted_members-loop-alloc-init : goal.counted_members-loop-alloc-init
-counted_members-loop-alloc-init g t c = record {
+pub definite_members-loop-alloc-init : goal.definite_members-loop-alloc-init
+definite_members-loop-alloc-init g t c = record {
   reached =
-      reached_start (λ xs ys. ReadsEach (Exactly (g.S.Source.view c.args.reader.now).budget)
+      reached_start (λ xs ys. ReadsEach (FitsCanonically (g.S.Source.view c.args.reader.now).budget)
       (length (flat_values c.reserve.new.self.items)) xs (flat_values c.reserve.new.self.items) ys)
       _
-      (none_yet (Exactly (g.S.Source.view c.args.reader.now).budget) _ (cc));
+      (none_yet (FitsCanonically (g.S.Source.view c.args.reader.now).budget) _ (cc));
   few = none_too_many _ (2 * c.args.count) (cc);
 }
 
-pub counted_members-loop-alloc-preserved : goal.counted_members-loop-alloc-preserved
-counted_members-loop-alloc-preserved g t c = record {
+pub definite_members-loop-alloc-preserved : goal.definite_members-loop-alloc-preserved
+definite_members-loop-alloc-preserved g t c = record {
   reached =
-      ran Exactly StopsExactly (2 * c.args.count) (flat c.loop-alloc.pairs) (flat
+      ran FitsCanonically RejectsCanonically (2 * c.args.count) (flat c.loop-alloc.pairs) (flat
       c.more_members.new.pairs) c.loop-alloc.invariant.reached
       c.in_ok-more_members.ensures.does;
   few = c.in_ok-more_members.ensures.few;
 }
 
-pub counted_members-returns-in_err-more_members :
-    goal.counted_members-returns-in_err-more_members
-counted_members-returns-in_err-more_members g t c =
-    rw c.from_residual.ensures (run_stops Exactly StopsExactly (2 * c.args.count) (flat
+pub definite_members-returns-in_err-more_members :
+    goal.definite_members-returns-in_err-more_members
+definite_members-returns-in_err-more_members g t c =
+    rw c.from_residual.ensures (run_rejects FitsCanonically RejectsCanonically
+    (2 * c.args.count) (flat
     c.loop-alloc.pairs) (flat c.more_members.new.pairs) c.loop-alloc.invariant.reached
-    (λ xs (v : Vec (Value × Value) Global) ys. ExactMembers c.args.count (g.S.Source.view
+    (λ xs (v : Vec (Value × Value) Global) ys. CanonicalMembers c.args.count (g.S.Source.view
     c.args.reader.now).budget xs v.items ys)
     c.in_err-more_members.ensures.does)
 
-pub counted_members-returns : goal.counted_members-returns
-counted_members-returns g t c =
+pub definite_members-returns : goal.definite_members-returns
+definite_members-returns g t c =
     let budget = (g.S.Source.view c.args.reader.now).budget in
     let pairs = c.loop-alloc.pairs in
     let all = both_there pairs.members.items pairs.key c.args.count c.loop-alloc.invariant.few
     (c.lacks.ensures.full c.loop-alloc-test.false) in
-    does_ok (λ xs (v : Vec (Value × Value) Global) ys. ExactMembers c.args.count budget xs v.items
+    does_ok (λ xs (v : Vec (Value × Value) Global) ys. CanonicalMembers c.args.count budget xs
+    v.items
     ys)
-    (StopsExactItems (2 * c.args.count) budget)
-    (reached_as (λ xs ys. ReadsEach (Exactly budget) (length (flat pairs)) xs (flat pairs) ys)
-    (λ xs ys. ExactMembers c.args.count budget xs pairs.members.items ys)
-    (λ xs ys h. pairs_are_read (Exactly budget) pairs.members.items pairs.key c.args.count xs ys
+    (RejectsCanonicalItems (2 * c.args.count) budget)
+    (reached_as (λ xs ys. ReadsEach (FitsCanonically budget) (length (flat pairs)) xs
+    (flat pairs) ys)
+    (λ xs ys. CanonicalMembers c.args.count budget xs pairs.members.items ys)
+    (λ xs ys h. pairs_are_read (FitsCanonically budget) pairs.members.items pairs.key
+    c.args.count xs ys
     all h)
     c.loop-alloc.invariant.reached)

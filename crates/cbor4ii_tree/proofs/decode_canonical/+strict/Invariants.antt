@@ -1,6 +1,6 @@
 use Rattle.std.proofs.Common.{◌+◌, ◌*◌, ◌≤◌, length}
 use Rattle.cbor4ii_tree.specs.LeafRuns.{flat}
-use Rattle.cbor4ii_tree.specs.Strictly.{ExactItems}
+use Rattle.cbor4ii_tree.specs.CanonicalCalls.{CanonicalItems}
 use Rattle.cbor4ii_tree.proofs.skip_calls.Doing.{Reached}
 use Rattle.cbor4ii_tree.proofs.decode_canonical.+strict.Given as goal
 
@@ -31,11 +31,11 @@ decreases-array_inside g l = 8 * (g.S.Source.view l.reader.now).bound + 1
 abbrev pub decreases-map_inside : goal.decreases-map_inside
 decreases-map_inside g l = 8 * (g.S.Source.view l.reader.now).bound + 1
 
-abbrev pub decreases-counted_items : goal.decreases-counted_items
-decreases-counted_items g l = 8 * (g.S.Source.view l.reader.now).bound + 7
+abbrev pub decreases-definite_items : goal.decreases-definite_items
+decreases-definite_items g l = 8 * (g.S.Source.view l.reader.now).bound + 7
 
-abbrev pub decreases-counted_members : goal.decreases-counted_members
-decreases-counted_members g l = 8 * (g.S.Source.view l.reader.now).bound + 7
+abbrev pub decreases-definite_members : goal.decreases-definite_members
+decreases-definite_members g l = 8 * (g.S.Source.view l.reader.now).bound + 7
 
 abbrev pub decreases-more_items : goal.decreases-more_items
 decreases-more_items g l = 8 * (g.S.Source.view l.reader.now).bound + 5
@@ -49,24 +49,24 @@ decreases-more_members g l = 8 * (g.S.Source.view l.reader.now).bound + 5
 abbrev pub decreases-members_inside : goal.decreases-members_inside
 decreases-members_inside g l = 8 * (g.S.Source.view l.reader.now).bound + 4
 
-abbrev pub invariant-counted_items-loop-alloc : goal.invariant-counted_items-loop-alloc
-invariant-counted_items-loop-alloc g l = record {
-  reached : Reached (λ xs ys. ExactItems (length l.items.items)
+abbrev pub invariant-definite_items-loop-alloc : goal.invariant-definite_items-loop-alloc
+invariant-definite_items-loop-alloc g l = record {
+  reached : Reached (λ xs ys. CanonicalItems (length l.items.items)
       (g.S.Source.view l.fn.reader).budget xs l.items.items ys) (g.S.Source.view l.fn.reader)
       (g.S.Source.view l.reader);
   few : length l.items.items ≤ 1 * l.count;
 }
 
-abbrev pub decreases-counted_items-loop-alloc : goal.decreases-counted_items-loop-alloc
-decreases-counted_items-loop-alloc g l = (g.S.Source.view l.reader).bound
+abbrev pub decreases-definite_items-loop-alloc : goal.decreases-definite_items-loop-alloc
+decreases-definite_items-loop-alloc g l = (g.S.Source.view l.reader).bound
 
-abbrev pub invariant-counted_members-loop-alloc : goal.invariant-counted_members-loop-alloc
-invariant-counted_members-loop-alloc g l = record {
-  reached : Reached (λ xs ys. ExactItems (length (flat l.pairs))
+abbrev pub invariant-definite_members-loop-alloc : goal.invariant-definite_members-loop-alloc
+invariant-definite_members-loop-alloc g l = record {
+  reached : Reached (λ xs ys. CanonicalItems (length (flat l.pairs))
       (g.S.Source.view l.fn.reader).budget xs (flat l.pairs) ys) (g.S.Source.view l.fn.reader)
       (g.S.Source.view l.reader);
   few : length (flat l.pairs) ≤ 2 * l.count;
 }
 
-abbrev pub decreases-counted_members-loop-alloc : goal.decreases-counted_members-loop-alloc
-decreases-counted_members-loop-alloc g l = (g.S.Source.view l.reader).bound
+abbrev pub decreases-definite_members-loop-alloc : goal.decreases-definite_members-loop-alloc
+decreases-definite_members-loop-alloc g l = (g.S.Source.view l.reader).bound

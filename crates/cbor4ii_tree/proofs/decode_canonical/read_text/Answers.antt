@@ -1,27 +1,27 @@
 use Rattle.std.proofs.Common.{ℕ, ap, sym, refl, inl, subst, Vec, Global}
 use Rattle.std.proofs.lemmas.Result.{err_from_is_err_and}
 use Rattle.cbor4ii_items.specs.Initial.{text_string}
-use Rattle.cbor4ii_items.specs.Shortest.{StopsShortestString}
-use Rattle.cbor4ii_tree.specs.Refusal.{require_utf8, kind_name}
-use Rattle.cbor4ii_tree.specs.StopsStrictly.{StrictTextStops}
-use Rattle.cbor4ii_tree.specs.Strictly.{StringAt, TextAt}
-use Rattle.cbor4ii_tree.proofs.skip_calls.Doing.{does_ok, does_refuse, reached_as}
+use Rattle.cbor4ii_items.specs.Shortest.{RejectsShortestString}
+use Rattle.cbor4ii_tree.specs.InputError.{require_utf8, kind_name}
+use Rattle.cbor4ii_tree.specs.CanonicalRejects.{CanonicalTextRejects}
+use Rattle.cbor4ii_tree.specs.CanonicalCalls.{StringAt, TextAt}
+use Rattle.cbor4ii_tree.proofs.skip_calls.Doing.{does_ok, does_reject, reached_as}
 use Rattle.cbor4ii_tree.proofs.canonical.Calls.{reached_string, no_text}
-use Rattle.cbor4ii_tree.proofs.skip_calls.Doing.{call_stops}
+use Rattle.cbor4ii_tree.proofs.skip_calls.Doing.{call_rejects}
 use Rattle.cbor4ii_tree.proofs.decode_canonical.read_text.Goals as goal
 
 pub returns-in_err-canonical_buf-clause-does : goal.returns-in_err-canonical_buf-clause-does
 returns-in_err-canonical_buf-clause-does g c =
     let p = err_from_is_err_and c.from_residual.result c.from_residual.ensures.1 in
-    rw (p.1, p.2) (call_stops (TextAt (g.S.Source.view c.args.reader.now).budget)
-    (StopsShortestString (kind_name text_string) 3)
-    (StrictTextStops (g.S.Source.view c.args.reader.now).budget) (λ xs z rest h. inl h)
+    rw (p.1, p.2) (call_rejects (TextAt (g.S.Source.view c.args.reader.now).budget)
+    (RejectsShortestString (kind_name text_string) 3)
+    (CanonicalTextRejects (g.S.Source.view c.args.reader.now).budget) (λ xs z rest h. inl h)
     c.in_err-canonical_buf.ensures.moves c.in_err-canonical_buf.ensures.begins)
 
 pub returns-in-Ok-clause-does : goal.returns-in-Ok-clause-does
 returns-in-Ok-clause-does g c =
     does_ok (TextAt (g.S.Source.view c.args.reader.now).budget)
-    (StrictTextStops (g.S.Source.view c.args.reader.now).budget)
+    (CanonicalTextRejects (g.S.Source.view c.args.reader.now).budget)
     (reached_as (StringAt 3 c.in_ok-canonical_buf.field-0.items)
     (λ xs ys. TextAt (g.S.Source.view c.args.reader.now).budget xs c.in-Ok.text ys)
     (λ xs ys h. subst (λ content. StringAt 3 content xs ys)
@@ -31,9 +31,9 @@ returns-in-Ok-clause-does g c =
 
 pub returns-clause-does : goal.returns-clause-does
 returns-clause-does g c =
-    does_refuse (StringAt 3 c.in_ok-canonical_buf.field-0.items)
+    does_reject (StringAt 3 c.in_ok-canonical_buf.field-0.items)
     (TextAt (g.S.Source.view c.args.reader.now).budget)
-    (StrictTextStops (g.S.Source.view c.args.reader.now).budget)
+    (CanonicalTextRejects (g.S.Source.view c.args.reader.now).budget)
     (require_utf8 (kind_name text_string)) refl refl refl
     (λ xs ys h.
     no_text (g.S.Source.view c.args.reader.now).budget c.in_ok-canonical_buf.field-0.items

@@ -1,17 +1,19 @@
 use Rattle.std.proofs.Common.{length, Some, inl, refl, ap, subst, arith, ◌-◌, ◌*◌}
 use Rattle.std.proofs.Common.{◌∙◌, ◌∷◌, ◌≡◌}
-use Rattle.cbor4ii_tree.specs.Does.{refusal_left}
-use Rattle.cbor4ii_tree.specs.Valuing.{ReadsOneValue, StopsOneValue, ReadsMember, StopsMember}
+use Rattle.cbor4ii_tree.specs.Does.{error_left}
+use Rattle.cbor4ii_tree.specs.Valuing.{ReadsOneValue, RejectsOneValue, ReadsMember, RejectsMember}
 use Rattle.cbor4ii_tree.specs.Valuing.{MakesArray, MakesMap, TakesLength, TakesTag}
-use Rattle.cbor4ii_tree.specs.Valuing.{ReadsTagged, StopsMembers, ReadsStepped, StopsOf, ReadsItems}
-use Rattle.cbor4ii_tree.specs.Valuing.{ReadsArrayInside, ReadsMapInside, StopsMajor}
-use Rattle.cbor4ii_tree.specs.Valuing.{ReadsMembers, ReadsOpenItems, StopsOpenItems}
-use Rattle.cbor4ii_tree.specs.Valuing.{ReadsOpenMembers, StopsOpenMembers, ReadsUnder, StopsUnder}
+use Rattle.cbor4ii_tree.specs.Valuing.{ReadsTagged, RejectsMembers, ReadsStepped, RejectsOf}
+use Rattle.cbor4ii_tree.specs.Valuing.{ReadsItems}
+use Rattle.cbor4ii_tree.specs.Valuing.{ReadsArrayInside, ReadsMapInside, RejectsMajor}
+use Rattle.cbor4ii_tree.specs.Valuing.{ReadsMembers, ReadsIndefiniteItems, RejectsIndefiniteItems}
+use Rattle.cbor4ii_tree.specs.Valuing.{ReadsIndefiniteMembers, RejectsIndefiniteMembers, ReadsUnder}
+use Rattle.cbor4ii_tree.specs.Valuing.{RejectsUnder}
 use Rattle.cbor4ii_tree.specs.Deeper.{budgeted}
 use Rattle.cbor4ii_tree.specs.declared.value.Value.{Tag}
 use Rattle.cbor4ii_tree.specs.Item.{tag}
 use Rattle.cbor4ii_tree.specs.View.{view}
-use Rattle.cbor4ii_tree.specs.Refusal.{array_name, map_name, value_name}
+use Rattle.cbor4ii_tree.specs.InputError.{array_name, map_name, value_name}
 use Rattle.cbor4ii_items.specs.Laws.Steps.{kept_then}
 use Rattle.cbor4ii_tree.proofs.skip_calls.Doing.{reached_start, reached_by, does_ok}
 use Rattle.cbor4ii_tree.proofs.skip_calls.Doing.{does_no_memory, does_no_step}
@@ -23,112 +25,117 @@ use Rattle.cbor4ii_tree.proofs.values.Heads.{tag_does, tagged_err, tagged_ok}
 use Rattle.cbor4ii_tree.proofs.values.Heads.{view-Tag}
 use Rattle.cbor4ii_tree.proofs.values.Sequences.{major_stepped, array_no_step, map_no_step}
 use Rattle.cbor4ii_tree.proofs.values.Sequences.{none_follow, some_follow}
-use Rattle.cbor4ii_tree.proofs.skip_calls.Doing.{still_refused}
-use Rattle.cbor4ii_tree.proofs.values.Sequences.{array_counted, array_of_none, array_opened}
+use Rattle.cbor4ii_tree.proofs.skip_calls.Doing.{still_rejected}
+use Rattle.cbor4ii_tree.proofs.values.Sequences.{array_definite, array_of_none, array_opened}
 use Rattle.cbor4ii_tree.proofs.values.Sequences.{array_makes, made_array, made_map, map_makes}
-use Rattle.cbor4ii_tree.proofs.values.Sequences.{map_counted, map_of_none, map_opened}
+use Rattle.cbor4ii_tree.proofs.values.Sequences.{map_definite, map_of_none, map_opened}
 use Rattle.cbor4ii_tree.proofs.values.Sequences.{each_none}
-use Rattle.cbor4ii_tree.proofs.values.Sequences.{each_more, open_end, open_stop, open_done}
+use Rattle.cbor4ii_tree.proofs.values.Sequences.{each_more, indefinite_end, indefinite_stop}
+use Rattle.cbor4ii_tree.proofs.values.Sequences.{indefinite_done}
 use Rattle.cbor4ii_tree.proofs.values.Sequences.{pairs_none, pairs_more, members_end, pair_stop}
 use Rattle.cbor4ii_tree.proofs.values.Sequences.{value_stop, members_done, more, ends}
 use Rattle.cbor4ii_tree.proofs.values.Items.{items_none, items_are, members_none_are, members_are}
-use Rattle.cbor4ii_tree.proofs.values.Items.{array_item, map_item}
+use Rattle.cbor4ii_tree.proofs.values.Items.{array_encoding, map_encoding}
 use Rattle.cbor4ii_items.specs.Laws.Running.{kept_alike}
 use Rattle.cbor4ii_tree.proofs.values.Answered.{went_on, around}
 use Rattle.cbor4ii_tree.proofs.values.Leaves.{after_look}
 use Rattle.cbor4ii_tree.proofs.skip_calls.Deeper.{alike_within}
-use Rattle.cbor4ii_tree.proofs.values.ByHead.{behind_next, next_step, next_stepped, peeks_next}
-use Rattle.cbor4ii_tree.specs.StopsReading.{Readable}
+use Rattle.cbor4ii_tree.proofs.values.ByHead.{after_next, next_step, next_stepped, peeks_next}
+use Rattle.cbor4ii_tree.specs.ReadingRejects.{Readable}
 use Rattle.cbor4ii_tree.specs.LeafRuns.{flat, flat_values, ReadsEach}
 use Rattle.cbor4ii_tree.proofs.skip_calls.Doing.{reached_as}
-use Rattle.cbor4ii_tree.proofs.values.LeafRuns.{none_yet, none_too_many, ran, run_stops, stop_alone}
+use Rattle.cbor4ii_tree.proofs.values.LeafRuns.{none_yet, none_too_many, ran, run_rejects}
+use Rattle.cbor4ii_tree.proofs.values.LeafRuns.{stop_alone}
 use Rattle.cbor4ii_tree.proofs.values.LeafRuns.{both_there, pairs_are_read, pairs_are}
 use Rattle.cbor4ii_tree.proofs.values.LeafRuns.{turn_stepped, turn_unstepped, turn_put}
-use Rattle.cbor4ii_tree.proofs.values.LeafRuns.{turn_refused}
+use Rattle.cbor4ii_tree.proofs.values.LeafRuns.{turn_rejected}
 use Rattle.cbor4ii_tree.proofs.values.LeafRuns.{turn_ends, run_before, on_found, put_items}
 use Rattle.cbor4ii_tree.proofs.values.LeafRuns.{one_read, none_under}
 use Rattle.cbor4ii_tree.proofs.decode_value.+read.Goals as goal
 
 pub array_inside-returns-in-Some-eq0-clause-does : goal.array_inside-returns-in-Some-eq0-clause-does
 array_inside-returns-in-Some-eq0-clause-does g t c before shows =
-    made_array c.new.result (array_counted 0
+    made_array c.new.result (array_definite 0
     (some_follow 4 0 (c.in-Some-eq0.is ∙ ap Some c.in-Some-eq0.field-0-test)
     (c.in_ok-take_array.ensures.does before shows))
     (array_of_none c.new.result (cc)))
 
 pub array_inside-returns-in-Some-eq0-clause-item : goal.array_inside-returns-in-Some-eq0-clause-item
-array_inside-returns-in-Some-eq0-clause-item g t c = array_item c.new.result (items_none (cc))
+array_inside-returns-in-Some-eq0-clause-item g t c = array_encoding c.new.result (items_none (cc))
 
-pub array_inside-returns-in_ok-counted_items-in-Some-clause-does :
-    goal.array_inside-returns-in_ok-counted_items-in-Some-clause-does
-array_inside-returns-in_ok-counted_items-in-Some-clause-does g t c before shows =
-    made_array c.in_ok-counted_items-in-Some.field-0 (array_counted c.in-Some.count
+pub array_inside-returns-in_ok-definite_items-in-Some-clause-does :
+    goal.array_inside-returns-in_ok-definite_items-in-Some-clause-does
+array_inside-returns-in_ok-definite_items-in-Some-clause-does g t c before shows =
+    made_array c.in_ok-definite_items-in-Some.field-0 (array_definite c.in-Some.count
     (some_follow 4 c.in-Some.count c.in-Some.is (c.in_ok-take_array.ensures.does before shows))
-    c.in_ok-counted_items-in-Some.ensures.does)
+    c.in_ok-definite_items-in-Some.ensures.does)
 
-pub array_inside-returns-in_ok-counted_items-in-Some-clause-item :
-    goal.array_inside-returns-in_ok-counted_items-in-Some-clause-item
-array_inside-returns-in_ok-counted_items-in-Some-clause-item g t c =
-    array_item c.in_ok-counted_items-in-Some.field-0 c.in_ok-counted_items-in-Some.ensures.items
+pub array_inside-returns-in_ok-definite_items-in-Some-clause-item :
+    goal.array_inside-returns-in_ok-definite_items-in-Some-clause-item
+array_inside-returns-in_ok-definite_items-in-Some-clause-item g t c =
+    array_encoding c.in_ok-definite_items-in-Some.field-0
+    c.in_ok-definite_items-in-Some.ensures.items
 
-pub array_inside-returns-in_ok-counted_items-in-Some-clause-progress :
-    goal.array_inside-returns-in_ok-counted_items-in-Some-clause-progress
-array_inside-returns-in_ok-counted_items-in-Some-clause-progress g t c =
+pub array_inside-returns-in_ok-definite_items-in-Some-clause-progress :
+    goal.array_inside-returns-in_ok-definite_items-in-Some-clause-progress
+array_inside-returns-in_ok-definite_items-in-Some-clause-progress g t c =
     omega (
       arith,
       c.in_ok-take_array.ensures.progress,
-      c.in_ok-counted_items-in-Some.ensures.does.moves.by.bound,
+      c.in_ok-definite_items-in-Some.ensures.does.moves.by.bound,
     )
 
-pub array_inside-returns-in_err-counted_items-in-Some-clause-does :
-    goal.array_inside-returns-in_err-counted_items-in-Some-clause-does
-array_inside-returns-in_err-counted_items-in-Some-clause-does g t c before shows =
-    rw c.from_residual-in_err-counted_items-in-Some.ensures
-    (still_refused (λ xs v ys. ReadsArrayInside before.budget xs v.items ys)
-    (MakesArray ReadsArrayInside before.budget) (StopsMajor 4 before.budget)
-    (StopsMajor 4 before.budget)
-    (λ xs z rest h. h) (array_counted c.in-Some.count
+pub array_inside-returns-in_err-definite_items-in-Some-clause-does :
+    goal.array_inside-returns-in_err-definite_items-in-Some-clause-does
+array_inside-returns-in_err-definite_items-in-Some-clause-does g t c before shows =
+    rw c.from_residual-in_err-definite_items-in-Some.ensures
+    (still_rejected (λ xs v ys. ReadsArrayInside before.budget xs v.items ys)
+    (MakesArray ReadsArrayInside before.budget) (RejectsMajor 4 before.budget)
+    (RejectsMajor 4 before.budget)
+    (λ xs z rest h. h) (array_definite c.in-Some.count
     (some_follow 4 c.in-Some.count c.in-Some.is (c.in_ok-take_array.ensures.does before shows))
-    c.in_err-counted_items-in-Some.ensures.does))
+    c.in_err-definite_items-in-Some.ensures.does))
 
-pub array_inside-returns-in_ok-open_items-in-None-clause-does :
-    goal.array_inside-returns-in_ok-open_items-in-None-clause-does
-array_inside-returns-in_ok-open_items-in-None-clause-does g t c before shows =
-    made_array c.in_ok-open_items-in-None.field-0
+pub array_inside-returns-in_ok-indefinite_items-in-None-clause-does :
+    goal.array_inside-returns-in_ok-indefinite_items-in-None-clause-does
+array_inside-returns-in_ok-indefinite_items-in-None-clause-does g t c before shows =
+    made_array c.in_ok-indefinite_items-in-None.field-0
     (array_opened (none_follow 4 c.in-None.is (c.in_ok-take_array.ensures.does before shows))
-    c.in_ok-open_items-in-None.ensures.does)
+    c.in_ok-indefinite_items-in-None.ensures.does)
 
-pub array_inside-returns-in_ok-open_items-in-None-clause-item :
-    goal.array_inside-returns-in_ok-open_items-in-None-clause-item
-array_inside-returns-in_ok-open_items-in-None-clause-item g t c =
-    array_item c.in_ok-open_items-in-None.field-0 c.in_ok-open_items-in-None.ensures.items
+pub array_inside-returns-in_ok-indefinite_items-in-None-clause-item :
+    goal.array_inside-returns-in_ok-indefinite_items-in-None-clause-item
+array_inside-returns-in_ok-indefinite_items-in-None-clause-item g t c =
+    array_encoding c.in_ok-indefinite_items-in-None.field-0
+    c.in_ok-indefinite_items-in-None.ensures.items
 
-pub array_inside-returns-in_ok-open_items-in-None-clause-progress :
-    goal.array_inside-returns-in_ok-open_items-in-None-clause-progress
-array_inside-returns-in_ok-open_items-in-None-clause-progress g t c =
+pub array_inside-returns-in_ok-indefinite_items-in-None-clause-progress :
+    goal.array_inside-returns-in_ok-indefinite_items-in-None-clause-progress
+array_inside-returns-in_ok-indefinite_items-in-None-clause-progress g t c =
     omega (
       arith,
       c.in_ok-take_array.ensures.progress,
-      c.in_ok-open_items-in-None.ensures.does.moves.by.bound,
+      c.in_ok-indefinite_items-in-None.ensures.does.moves.by.bound,
     )
 
-pub array_inside-returns-in_err-open_items-in-None-clause-does :
-    goal.array_inside-returns-in_err-open_items-in-None-clause-does
-array_inside-returns-in_err-open_items-in-None-clause-does g t c before shows =
-    rw c.from_residual-in_err-open_items-in-None.ensures
-    (still_refused (λ xs v ys. ReadsArrayInside before.budget xs v.items ys)
-    (MakesArray ReadsArrayInside before.budget) (StopsMajor 4 before.budget)
-    (StopsMajor 4 before.budget)
+pub array_inside-returns-in_err-indefinite_items-in-None-clause-does :
+    goal.array_inside-returns-in_err-indefinite_items-in-None-clause-does
+array_inside-returns-in_err-indefinite_items-in-None-clause-does g t c before shows =
+    rw c.from_residual-in_err-indefinite_items-in-None.ensures
+    (still_rejected (λ xs v ys. ReadsArrayInside before.budget xs v.items ys)
+    (MakesArray ReadsArrayInside before.budget) (RejectsMajor 4 before.budget)
+    (RejectsMajor 4 before.budget)
     (λ xs z rest h. h)
     (array_opened (none_follow 4 c.in-None.is (c.in_ok-take_array.ensures.does before shows))
-    c.in_err-open_items-in-None.ensures.does))
+    c.in_err-indefinite_items-in-None.ensures.does))
 
 pub array_inside-returns-in_err-take_array-clause-does :
     goal.array_inside-returns-in_err-take_array-clause-does
 array_inside-returns-in_err-take_array-clause-does g t c before shows =
-    rw c.from_residual.ensures (still_refused (TakesLength 4 before.budget)
-    (MakesArray ReadsArrayInside before.budget) (StopsMajor 4 before.budget)
-    (StopsMajor 4 before.budget) (λ xs z rest h. h) (c.in_err-take_array.ensures.does before shows))
+    rw c.from_residual.ensures (still_rejected (TakesLength 4 before.budget)
+    (MakesArray ReadsArrayInside before.budget) (RejectsMajor 4 before.budget)
+    (RejectsMajor 4 before.budget) (λ xs z rest h. h) (c.in_err-take_array.ensures.does before
+    shows))
 
 pub read_array-returns-clause-does : goal.read_array-returns-clause-does
 read_array-returns-clause-does g t c before shows =
@@ -145,8 +152,8 @@ pub read_array-returns-then-not-step_in-clause-does :
 read_array-returns-then-not-step_in-clause-does g t c before shows =
     let budget = (g.S.Source.view c.args.reader.now).budget in
     let accepts = ReadsStepped (MakesArray ReadsArrayInside) in
-    rw c.leave_deep.ensures (behind_next c.args.next shows accepts (StopsOf 4)
-    (does_no_step array_name (accepts budget) (StopsOf 4 budget) refl refl
+    rw c.leave_deep.ensures (after_next c.args.next shows accepts (RejectsOf 4)
+    (does_no_step array_name (accepts budget) (RejectsOf 4 budget) refl refl
     (λ none xs. array_no_step budget none xs) c.if-not-step_in.ensures.budget
     c.step_in.ensures.others))
 
@@ -169,7 +176,7 @@ read_array-returns-then-not-step_in-clause-progress g t c = tt
 pub read_next-returns-in-4-clause-does : goal.read_next-returns-in-4-clause-does
 read_next-returns-in-4-clause-does g t c before shows =
     arm_does c.args.next.first (peeks_next c.args.next shows)
-    (ReadsStepped (MakesArray ReadsArrayInside) before.budget) (StopsOf 4 before.budget)
+    (ReadsStepped (MakesArray ReadsArrayInside) before.budget) (RejectsOf 4 before.budget)
     (λ bs ys v h. array_makes before.budget v (c.args.next.first ∷ bs) ys h)
     (λ bs z rest h. h c.args.next.first bs refl c.in-4.is)
     (c.read_array.ensures.does before shows)
@@ -182,84 +189,86 @@ read_next-returns-in-4-clause-progress g t c = c.read_array.ensures.progress
 
 pub map_inside-returns-in-Some-eq0-clause-does : goal.map_inside-returns-in-Some-eq0-clause-does
 map_inside-returns-in-Some-eq0-clause-does g t c before shows =
-    made_map c.new.result (map_counted 0
+    made_map c.new.result (map_definite 0
     (some_follow 5 0 (c.in-Some-eq0.is ∙ ap Some c.in-Some-eq0.field-0-test)
     (c.in_ok-take_map.ensures.does before shows))
     (map_of_none c.new.result (cc)))
 
 pub map_inside-returns-in-Some-eq0-clause-item : goal.map_inside-returns-in-Some-eq0-clause-item
-map_inside-returns-in-Some-eq0-clause-item g t c = map_item c.new.result (members_none_are (cc))
+map_inside-returns-in-Some-eq0-clause-item g t c = map_encoding c.new.result (members_none_are (cc))
 
-pub map_inside-returns-in_ok-counted_members-in-Some-clause-does :
-    goal.map_inside-returns-in_ok-counted_members-in-Some-clause-does
-map_inside-returns-in_ok-counted_members-in-Some-clause-does g t c before shows =
-    made_map c.in_ok-counted_members-in-Some.field-0 (map_counted c.in-Some.count
+pub map_inside-returns-in_ok-definite_members-in-Some-clause-does :
+    goal.map_inside-returns-in_ok-definite_members-in-Some-clause-does
+map_inside-returns-in_ok-definite_members-in-Some-clause-does g t c before shows =
+    made_map c.in_ok-definite_members-in-Some.field-0 (map_definite c.in-Some.count
     (some_follow 5 c.in-Some.count c.in-Some.is (c.in_ok-take_map.ensures.does before shows))
-    c.in_ok-counted_members-in-Some.ensures.does)
+    c.in_ok-definite_members-in-Some.ensures.does)
 
-pub map_inside-returns-in_ok-counted_members-in-Some-clause-item :
-    goal.map_inside-returns-in_ok-counted_members-in-Some-clause-item
-map_inside-returns-in_ok-counted_members-in-Some-clause-item g t c =
-    map_item c.in_ok-counted_members-in-Some.field-0 c.in_ok-counted_members-in-Some.ensures.items
+pub map_inside-returns-in_ok-definite_members-in-Some-clause-item :
+    goal.map_inside-returns-in_ok-definite_members-in-Some-clause-item
+map_inside-returns-in_ok-definite_members-in-Some-clause-item g t c =
+    map_encoding c.in_ok-definite_members-in-Some.field-0
+    c.in_ok-definite_members-in-Some.ensures.items
 
-pub map_inside-returns-in_ok-counted_members-in-Some-clause-progress :
-    goal.map_inside-returns-in_ok-counted_members-in-Some-clause-progress
-map_inside-returns-in_ok-counted_members-in-Some-clause-progress g t c =
+pub map_inside-returns-in_ok-definite_members-in-Some-clause-progress :
+    goal.map_inside-returns-in_ok-definite_members-in-Some-clause-progress
+map_inside-returns-in_ok-definite_members-in-Some-clause-progress g t c =
     omega (
       arith,
       c.in_ok-take_map.ensures.progress,
-      c.in_ok-counted_members-in-Some.ensures.does.moves.by.bound,
+      c.in_ok-definite_members-in-Some.ensures.does.moves.by.bound,
     )
 
-pub map_inside-returns-in_err-counted_members-in-Some-clause-does :
-    goal.map_inside-returns-in_err-counted_members-in-Some-clause-does
-map_inside-returns-in_err-counted_members-in-Some-clause-does g t c before shows =
-    rw c.from_residual-in_err-counted_members-in-Some.ensures
-    (still_refused (λ xs v ys. ReadsMapInside before.budget xs v.items ys)
-    (MakesMap ReadsMapInside before.budget) (StopsMajor 5 before.budget)
-    (StopsMajor 5 before.budget)
-    (λ xs z rest h. h) (map_counted c.in-Some.count
+pub map_inside-returns-in_err-definite_members-in-Some-clause-does :
+    goal.map_inside-returns-in_err-definite_members-in-Some-clause-does
+map_inside-returns-in_err-definite_members-in-Some-clause-does g t c before shows =
+    rw c.from_residual-in_err-definite_members-in-Some.ensures
+    (still_rejected (λ xs v ys. ReadsMapInside before.budget xs v.items ys)
+    (MakesMap ReadsMapInside before.budget) (RejectsMajor 5 before.budget)
+    (RejectsMajor 5 before.budget)
+    (λ xs z rest h. h) (map_definite c.in-Some.count
     (some_follow 5 c.in-Some.count c.in-Some.is (c.in_ok-take_map.ensures.does before shows))
-    c.in_err-counted_members-in-Some.ensures.does))
+    c.in_err-definite_members-in-Some.ensures.does))
 
-pub map_inside-returns-in_ok-open_members-in-None-clause-does :
-    goal.map_inside-returns-in_ok-open_members-in-None-clause-does
-map_inside-returns-in_ok-open_members-in-None-clause-does g t c before shows =
-    made_map c.in_ok-open_members-in-None.field-0
+pub map_inside-returns-in_ok-indefinite_members-in-None-clause-does :
+    goal.map_inside-returns-in_ok-indefinite_members-in-None-clause-does
+map_inside-returns-in_ok-indefinite_members-in-None-clause-does g t c before shows =
+    made_map c.in_ok-indefinite_members-in-None.field-0
     (map_opened (none_follow 5 c.in-None.is (c.in_ok-take_map.ensures.does before shows))
-    c.in_ok-open_members-in-None.ensures.does)
+    c.in_ok-indefinite_members-in-None.ensures.does)
 
-pub map_inside-returns-in_ok-open_members-in-None-clause-item :
-    goal.map_inside-returns-in_ok-open_members-in-None-clause-item
-map_inside-returns-in_ok-open_members-in-None-clause-item g t c =
-    map_item c.in_ok-open_members-in-None.field-0 c.in_ok-open_members-in-None.ensures.items
+pub map_inside-returns-in_ok-indefinite_members-in-None-clause-item :
+    goal.map_inside-returns-in_ok-indefinite_members-in-None-clause-item
+map_inside-returns-in_ok-indefinite_members-in-None-clause-item g t c =
+    map_encoding c.in_ok-indefinite_members-in-None.field-0
+    c.in_ok-indefinite_members-in-None.ensures.items
 
-pub map_inside-returns-in_ok-open_members-in-None-clause-progress :
-    goal.map_inside-returns-in_ok-open_members-in-None-clause-progress
-map_inside-returns-in_ok-open_members-in-None-clause-progress g t c =
+pub map_inside-returns-in_ok-indefinite_members-in-None-clause-progress :
+    goal.map_inside-returns-in_ok-indefinite_members-in-None-clause-progress
+map_inside-returns-in_ok-indefinite_members-in-None-clause-progress g t c =
     omega (
       arith,
       c.in_ok-take_map.ensures.progress,
-      c.in_ok-open_members-in-None.ensures.does.moves.by.bound,
+      c.in_ok-indefinite_members-in-None.ensures.does.moves.by.bound,
     )
 
-pub map_inside-returns-in_err-open_members-in-None-clause-does :
-    goal.map_inside-returns-in_err-open_members-in-None-clause-does
-map_inside-returns-in_err-open_members-in-None-clause-does g t c before shows =
-    rw c.from_residual-in_err-open_members-in-None.ensures
-    (still_refused (λ xs v ys. ReadsMapInside before.budget xs v.items ys)
-    (MakesMap ReadsMapInside before.budget) (StopsMajor 5 before.budget)
-    (StopsMajor 5 before.budget)
+pub map_inside-returns-in_err-indefinite_members-in-None-clause-does :
+    goal.map_inside-returns-in_err-indefinite_members-in-None-clause-does
+map_inside-returns-in_err-indefinite_members-in-None-clause-does g t c before shows =
+    rw c.from_residual-in_err-indefinite_members-in-None.ensures
+    (still_rejected (λ xs v ys. ReadsMapInside before.budget xs v.items ys)
+    (MakesMap ReadsMapInside before.budget) (RejectsMajor 5 before.budget)
+    (RejectsMajor 5 before.budget)
     (λ xs z rest h. h)
     (map_opened (none_follow 5 c.in-None.is (c.in_ok-take_map.ensures.does before shows))
-    c.in_err-open_members-in-None.ensures.does))
+    c.in_err-indefinite_members-in-None.ensures.does))
 
 pub map_inside-returns-in_err-take_map-clause-does :
     goal.map_inside-returns-in_err-take_map-clause-does
 map_inside-returns-in_err-take_map-clause-does g t c before shows =
-    rw c.from_residual.ensures (still_refused (TakesLength 5 before.budget)
-    (MakesMap ReadsMapInside before.budget) (StopsMajor 5 before.budget)
-    (StopsMajor 5 before.budget) (λ xs z rest h. h) (c.in_err-take_map.ensures.does before shows))
+    rw c.from_residual.ensures (still_rejected (TakesLength 5 before.budget)
+    (MakesMap ReadsMapInside before.budget) (RejectsMajor 5 before.budget)
+    (RejectsMajor 5 before.budget) (λ xs z rest h. h) (c.in_err-take_map.ensures.does before shows))
 
 pub read_map-returns-clause-does : goal.read_map-returns-clause-does
 read_map-returns-clause-does g t c before shows =
@@ -276,8 +285,8 @@ pub read_map-returns-then-not-step_in-clause-does :
 read_map-returns-then-not-step_in-clause-does g t c before shows =
     let budget = (g.S.Source.view c.args.reader.now).budget in
     let accepts = ReadsStepped (MakesMap ReadsMapInside) in
-    rw c.leave_deep.ensures (behind_next c.args.next shows accepts (StopsOf 5)
-    (does_no_step map_name (accepts budget) (StopsOf 5 budget) refl refl
+    rw c.leave_deep.ensures (after_next c.args.next shows accepts (RejectsOf 5)
+    (does_no_step map_name (accepts budget) (RejectsOf 5 budget) refl refl
     (λ none xs. map_no_step budget none xs) c.if-not-step_in.ensures.budget
     c.step_in.ensures.others))
 
@@ -300,7 +309,7 @@ read_map-returns-then-not-step_in-clause-progress g t c = tt
 pub read_next-returns-in-5-clause-does : goal.read_next-returns-in-5-clause-does
 read_next-returns-in-5-clause-does g t c before shows =
     arm_does c.args.next.first (peeks_next c.args.next shows)
-    (ReadsStepped (MakesMap ReadsMapInside) before.budget) (StopsOf 5 before.budget)
+    (ReadsStepped (MakesMap ReadsMapInside) before.budget) (RejectsOf 5 before.budget)
     (λ bs ys v h. map_makes before.budget v (c.args.next.first ∷ bs) ys h)
     (λ bs z rest h. h c.args.next.first bs refl c.in-5.is)
     (c.read_map.ensures.does before shows)
@@ -314,7 +323,7 @@ read_next-returns-in-5-clause-progress g t c = c.read_map.ensures.progress
 pub read_next-returns-in-6-clause-does : goal.read_next-returns-in-6-clause-does
 read_next-returns-in-6-clause-does g t c before shows =
     arm_does c.args.next.first (peeks_next c.args.next shows)
-    (λ xs v ys. ReadsUnder before.budget xs v ys) (StopsOf 6 before.budget)
+    (λ xs v ys. ReadsUnder before.budget xs v ys) (RejectsOf 6 before.budget)
     (λ bs ys v h. h) (λ bs z rest h. h c.args.next.first bs refl c.in-6.is)
     (c.read_tag.ensures.does before shows)
 
@@ -338,9 +347,9 @@ read_next-returns-in_default-clause-progress g t c = c.read_alone.ensures.progre
 
 pub read_tag-returns-in_err-number-clause-does : goal.read_tag-returns-in_err-number-clause-does
 read_tag-returns-in_err-number-clause-does g t c before shows =
-    rw c.from_residual.ensures (still_refused (TakesTag before.budget)
-    (λ xs v ys. ReadsUnder before.budget xs v ys) (StopsOf 6 before.budget)
-    (StopsOf 6 before.budget) (λ xs z rest h. h) (c.in_err-number.ensures.does before shows))
+    rw c.from_residual.ensures (still_rejected (TakesTag before.budget)
+    (λ xs v ys. ReadsUnder before.budget xs v ys) (RejectsOf 6 before.budget)
+    (RejectsOf 6 before.budget) (λ xs z rest h. h) (c.in_err-number.ensures.does before shows))
 
 pub read_tag-returns-clause-does : goal.read_tag-returns-clause-does
 read_tag-returns-clause-does g t c before shows =
@@ -349,21 +358,21 @@ read_tag-returns-clause-does g t c before shows =
 
 pub read_inside-returns-in-Begins-clause-does : goal.read_inside-returns-in-Begins-clause-does
 read_inside-returns-in-Begins-clause-does g t c =
-    after_look ⊥ ReadsUnder StopsUnder _ c.in-Begins.next _ c.in-Begins.is
+    after_look ⊥ ReadsUnder RejectsUnder _ c.in-Begins.next _ c.in-Begins.is
     c.in_ok-value.ensures.takes c.read_next.ensures.does
 
-pub open_items-loop-items-init : goal.open_items-loop-items-init
-open_items-loop-items-init g t c = record {
+pub indefinite_items-loop-items-init : goal.indefinite_items-loop-items-init
+indefinite_items-loop-items-init g t c = record {
   reached =
       reached_start (ReadEach _ (g.S.Source.view c.args.reader.now).budget) _
       (λ xs. each_none (g.S.Source.view c.args.reader.now).budget _ xs (cc));
   items = items_none (cc);
 }
 
-pub open_items-loop-items-preserved : goal.open_items-loop-items-preserved
-open_items-loop-items-preserved g t c = record {
+pub indefinite_items-loop-items-preserved : goal.indefinite_items-loop-items-preserved
+indefinite_items-loop-items-preserved g t c = record {
   reached =
-      more ReadsOneValue StopsOneValue
+      more ReadsOneValue RejectsOneValue
       (Before (ReadEach c.loop-items.items.items) (g.S.Source.view c.args.reader.now).budget)
       (other (ReadEach c.loop-items.items.items) c.loop-items.invariant.reached
       c.if-not-branch.true (rw c.in_ok-part.ensures at c.is_break.ensures.decodes.moves) (rw
@@ -377,52 +386,54 @@ open_items-loop-items-preserved g t c = record {
       c.loop-items.invariant.items c.in_ok-value.ensures.item;
 }
 
-pub open_items-returns-clause-does : goal.open_items-returns-clause-does
-open_items-returns-clause-does g t c =
-    (does_ok (λ xs v ys. ReadsOpenItems (g.S.Source.view c.args.reader.now).budget xs v.items ys)
-    (StopsOpenItems (g.S.Source.view c.args.reader.now).budget)
+pub indefinite_items-returns-clause-does : goal.indefinite_items-returns-clause-does
+indefinite_items-returns-clause-does g t c =
+    (does_ok (λ xs v ys. ReadsIndefiniteItems (g.S.Source.view c.args.reader.now).budget xs
+    v.items ys)
+    (RejectsIndefiniteItems (g.S.Source.view c.args.reader.now).budget)
     (broke (ReadEach c.loop-items.items.items) c.loop-items.invariant.reached
-    (λ xs ys. ReadsOpenItems (g.S.Source.view c.args.reader.now).budget xs
-    c.loop-items.items.items ys) (λ xs ys zs h e. open_done
+    (λ xs ys. ReadsIndefiniteItems (g.S.Source.view c.args.reader.now).budget xs
+    c.loop-items.items.items ys) (λ xs ys zs h e. indefinite_done
     (g.S.Source.view c.args.reader.now).budget c.loop-items.items.items xs ys zs h e)
     c.if-not-branch.false (rw c.in_ok-part.ensures at c.is_break.ensures.decodes.moves) (rw
     c.in_ok-part.ensures at c.is_break.ensures.decodes.sound)))
 
-pub open_items-returns-in_err-part-clause-does :
-    goal.open_items-returns-in_err-part-clause-does
-open_items-returns-in_err-part-clause-does g t c =
+pub indefinite_items-returns-in_err-part-clause-does :
+    goal.indefinite_items-returns-in_err-part-clause-does
+indefinite_items-returns-in_err-part-clause-does g t c =
     rw c.from_residual.ensures (at_end (ReadEach c.loop-items.items.items)
     c.loop-items.invariant.reached
-    (λ xs v ys. ReadsOpenItems (g.S.Source.view c.args.reader.now).budget xs v.items ys)
-    (StopsOpenItems (g.S.Source.view c.args.reader.now).budget) (λ xs ys h e.
-    open_end (g.S.Source.view c.args.reader.now).budget c.loop-items.items.items xs ys h e)
+    (λ xs v ys. ReadsIndefiniteItems (g.S.Source.view c.args.reader.now).budget xs v.items ys)
+    (RejectsIndefiniteItems (g.S.Source.view c.args.reader.now).budget) (λ xs ys h e.
+    indefinite_end (g.S.Source.view c.args.reader.now).budget c.loop-items.items.items xs ys h e)
     (rw c.in_err-part.ensures at c.is_break.ensures.decodes.moves) (rw c.in_err-part.ensures at
     c.is_break.ensures.decodes.begins))
 
-pub open_items-returns-in_err-value-clause-does : goal.open_items-returns-in_err-value-clause-does
-open_items-returns-in_err-value-clause-does g t c =
-    rw c.from_residual-in_err-value.ensures (ends ReadsOneValue StopsOneValue
+pub indefinite_items-returns-in_err-value-clause-does :
+    goal.indefinite_items-returns-in_err-value-clause-does
+indefinite_items-returns-in_err-value-clause-does g t c =
+    rw c.from_residual-in_err-value.ensures (ends ReadsOneValue RejectsOneValue
     (Before (ReadEach c.loop-items.items.items) (g.S.Source.view c.args.reader.now).budget)
     (other (ReadEach c.loop-items.items.items) c.loop-items.invariant.reached
     c.if-not-branch.true (rw c.in_ok-part.ensures at c.is_break.ensures.decodes.moves) (rw
     c.in_ok-part.ensures at c.is_break.ensures.decodes.sound))
-    (λ xs v ys. ReadsOpenItems (g.S.Source.view c.args.reader.now).budget xs v.items ys)
-    (StopsOpenItems (g.S.Source.view c.args.reader.now).budget)
-    (λ xs ys z rest h s. open_stop (g.S.Source.view c.args.reader.now).budget
+    (λ xs v ys. ReadsIndefiniteItems (g.S.Source.view c.args.reader.now).budget xs v.items ys)
+    (RejectsIndefiniteItems (g.S.Source.view c.args.reader.now).budget)
+    (λ xs ys z rest h s. indefinite_stop (g.S.Source.view c.args.reader.now).budget
     c.loop-items.items.items xs ys z rest h.1 h.2 h.0 s) c.in_err-value.ensures.does)
 
-pub open_members-loop-members-init : goal.open_members-loop-members-init
-open_members-loop-members-init g t c = record {
+pub indefinite_members-loop-members-init : goal.indefinite_members-loop-members-init
+indefinite_members-loop-members-init g t c = record {
   reached =
       reached_start (ReadPairs _ (g.S.Source.view c.args.reader.now).budget) _
       (λ xs. pairs_none (g.S.Source.view c.args.reader.now).budget _ xs (cc));
   items = members_none_are (cc);
 }
 
-pub open_members-loop-members-preserved : goal.open_members-loop-members-preserved
-open_members-loop-members-preserved g t c = record {
+pub indefinite_members-loop-members-preserved : goal.indefinite_members-loop-members-preserved
+indefinite_members-loop-members-preserved g t c = record {
   reached =
-      more ReadsMember StopsMember (Before (ReadPairs c.loop-members.members.items)
+      more ReadsMember RejectsMember (Before (ReadPairs c.loop-members.members.items)
       (g.S.Source.view c.args.reader.now).budget)
       (other (ReadPairs c.loop-members.members.items) c.loop-members.invariant.reached
       c.if-not-branch.true (rw c.in_ok-part.ensures at c.is_break.ensures.decodes.moves) (rw
@@ -437,47 +448,48 @@ open_members-loop-members-preserved g t c = record {
       c.in_ok-member.ensures.value;
 }
 
-pub open_members-returns-clause-does : goal.open_members-returns-clause-does
-open_members-returns-clause-does g t c =
-    (does_ok (λ xs v ys. ReadsOpenMembers (g.S.Source.view c.args.reader.now).budget xs v.items ys)
-    (StopsOpenMembers (g.S.Source.view c.args.reader.now).budget)
+pub indefinite_members-returns-clause-does : goal.indefinite_members-returns-clause-does
+indefinite_members-returns-clause-does g t c =
+    (does_ok (λ xs v ys. ReadsIndefiniteMembers (g.S.Source.view c.args.reader.now).budget xs
+    v.items ys)
+    (RejectsIndefiniteMembers (g.S.Source.view c.args.reader.now).budget)
     (broke (ReadPairs c.loop-members.members.items) c.loop-members.invariant.reached
-    (λ xs ys. ReadsOpenMembers (g.S.Source.view c.args.reader.now).budget xs
+    (λ xs ys. ReadsIndefiniteMembers (g.S.Source.view c.args.reader.now).budget xs
     c.loop-members.members.items ys) (λ xs ys zs h e. members_done
     (g.S.Source.view c.args.reader.now).budget c.loop-members.members.items xs ys zs h e)
     c.if-not-branch.false (rw c.in_ok-part.ensures at c.is_break.ensures.decodes.moves) (rw
     c.in_ok-part.ensures at c.is_break.ensures.decodes.sound)))
 
-pub open_members-returns-in_err-part-clause-does :
-    goal.open_members-returns-in_err-part-clause-does
-open_members-returns-in_err-part-clause-does g t c =
+pub indefinite_members-returns-in_err-part-clause-does :
+    goal.indefinite_members-returns-in_err-part-clause-does
+indefinite_members-returns-in_err-part-clause-does g t c =
     rw c.from_residual.ensures (at_end (ReadPairs c.loop-members.members.items)
     c.loop-members.invariant.reached
-    (λ xs v ys. ReadsOpenMembers (g.S.Source.view c.args.reader.now).budget xs v.items ys)
-    (StopsOpenMembers (g.S.Source.view c.args.reader.now).budget) (λ xs ys h e. members_end
+    (λ xs v ys. ReadsIndefiniteMembers (g.S.Source.view c.args.reader.now).budget xs v.items ys)
+    (RejectsIndefiniteMembers (g.S.Source.view c.args.reader.now).budget) (λ xs ys h e. members_end
     (g.S.Source.view c.args.reader.now).budget c.loop-members.members.items xs ys h e)
     (rw c.in_err-part.ensures at c.is_break.ensures.decodes.moves) (rw c.in_err-part.ensures at
     c.is_break.ensures.decodes.begins))
 
-pub open_members-returns-in_err-member-clause-does :
-    goal.open_members-returns-in_err-member-clause-does
-open_members-returns-in_err-member-clause-does g t c =
-    rw c.from_residual-in_err-member.ensures (ends ReadsMember StopsMember (Before (ReadPairs
+pub indefinite_members-returns-in_err-member-clause-does :
+    goal.indefinite_members-returns-in_err-member-clause-does
+indefinite_members-returns-in_err-member-clause-does g t c =
+    rw c.from_residual-in_err-member.ensures (ends ReadsMember RejectsMember (Before (ReadPairs
     c.loop-members.members.items)
     (g.S.Source.view c.args.reader.now).budget)
     (other (ReadPairs c.loop-members.members.items) c.loop-members.invariant.reached
     c.if-not-branch.true (rw c.in_ok-part.ensures at c.is_break.ensures.decodes.moves) (rw
     c.in_ok-part.ensures at c.is_break.ensures.decodes.sound))
-    (λ xs v ys. ReadsOpenMembers (g.S.Source.view c.args.reader.now).budget xs v.items ys)
-    (StopsOpenMembers (g.S.Source.view c.args.reader.now).budget)
+    (λ xs v ys. ReadsIndefiniteMembers (g.S.Source.view c.args.reader.now).budget xs v.items ys)
+    (RejectsIndefiniteMembers (g.S.Source.view c.args.reader.now).budget)
     (λ xs ys z rest h s. pair_stop (g.S.Source.view c.args.reader.now).budget
     c.loop-members.members.items xs ys z rest h.1 h.2 h.0 s) c.in_err-member.ensures.does)
 
 pub read_member-returns-clause-does : goal.read_member-returns-clause-does
 read_member-returns-clause-does g t c =
     does_ok (ReadsMember (g.S.Source.view c.args.reader.now).budget)
-    (StopsMember (g.S.Source.view c.args.reader.now).budget)
-    (more ReadsOneValue StopsOneValue (λ xs ys.
+    (RejectsMember (g.S.Source.view c.args.reader.now).budget)
+    (more ReadsOneValue RejectsOneValue (λ xs ys.
     ReadsOneValue (g.S.Source.view c.args.reader.now).budget xs c.in_ok-key.key ys)
     (reached_by c.in_ok-key.ensures.does) (λ xs ys. ReadsMember
     (g.S.Source.view c.args.reader.now).budget xs (c.in_ok-key.key, c.in_ok-value.value) ys)
@@ -485,20 +497,20 @@ read_member-returns-clause-does g t c =
 
 pub read_member-returns-in_err-key-clause-does : goal.read_member-returns-in_err-key-clause-does
 read_member-returns-in_err-key-clause-does g t c =
-    rw c.from_residual.ensures (ends ReadsOneValue StopsOneValue (λ xs ys. ys ≡ xs)
+    rw c.from_residual.ensures (ends ReadsOneValue RejectsOneValue (λ xs ys. ys ≡ xs)
     (reached_start (λ xs ys. ys ≡ xs) _ (λ xs. refl))
     (ReadsMember (g.S.Source.view c.args.reader.now).budget)
-    (StopsMember (g.S.Source.view c.args.reader.now).budget) (λ xs ys z rest h s. inl
-    (subst (λ x. StopsOneValue (g.S.Source.view c.args.reader.now).budget x z rest) h s))
+    (RejectsMember (g.S.Source.view c.args.reader.now).budget) (λ xs ys z rest h s. inl
+    (subst (λ x. RejectsOneValue (g.S.Source.view c.args.reader.now).budget x z rest) h s))
     c.in_err-key.ensures.does)
 
 pub read_member-returns-in_err-value-clause-does : goal.read_member-returns-in_err-value-clause-does
 read_member-returns-in_err-value-clause-does g t c =
-    rw c.from_residual-in_err-value.ensures (ends ReadsOneValue StopsOneValue (λ xs ys.
+    rw c.from_residual-in_err-value.ensures (ends ReadsOneValue RejectsOneValue (λ xs ys.
     ReadsOneValue (g.S.Source.view
     c.args.reader.now).budget xs c.in_ok-key.key ys) (reached_by c.in_ok-key.ensures.does)
     (ReadsMember (g.S.Source.view c.args.reader.now).budget)
-    (StopsMember (g.S.Source.view c.args.reader.now).budget)
+    (RejectsMember (g.S.Source.view c.args.reader.now).budget)
     (λ xs ys z rest h s. value_stop (g.S.Source.view c.args.reader.now).budget
     c.in_ok-key.key xs ys z rest h s) c.in_err-value.ensures.does)
 
@@ -507,52 +519,56 @@ read_value-returns-clause-does g t c =
     stepped c.if-not-step_in.ensures.budget c.step_in.ensures.others
     c.read_inside-outcome.ensures.does c.step_out.ensures.budget c.step_out.ensures.others
 
-pub open_items-returns-in_err-keep-clause-does : goal.open_items-returns-in_err-keep-clause-does
-open_items-returns-in_err-keep-clause-does g t c =
+pub indefinite_items-returns-in_err-keep-clause-does :
+    goal.indefinite_items-returns-in_err-keep-clause-does
+indefinite_items-returns-in_err-keep-clause-does g t c =
     rw c.from_residual-in_err-keep.ensures (does_no_memory
-    (λ xs v ys. ReadsOpenItems (g.S.Source.view c.args.reader.now).budget xs v.items ys)
-    (StopsOpenItems (g.S.Source.view c.args.reader.now).budget) (ap refusal_left
+    (λ xs v ys. ReadsIndefiniteItems (g.S.Source.view c.args.reader.now).budget xs v.items ys)
+    (RejectsIndefiniteItems (g.S.Source.view c.args.reader.now).budget) (ap error_left
     c.in_err-keep.ensures.memory)
     (kept_then (kept_then c.loop-items.invariant.reached.kept
     (rw c.in_ok-part.ensures at c.is_break.ensures.decodes.moves).by)
     c.in_ok-value.ensures.does.moves.by))
 
-pub open_members-returns-in_err-keep-clause-does : goal.open_members-returns-in_err-keep-clause-does
-open_members-returns-in_err-keep-clause-does g t c =
+pub indefinite_members-returns-in_err-keep-clause-does :
+    goal.indefinite_members-returns-in_err-keep-clause-does
+indefinite_members-returns-in_err-keep-clause-does g t c =
     rw c.from_residual-in_err-keep.ensures (does_no_memory
-    (λ xs v ys. ReadsOpenMembers (g.S.Source.view c.args.reader.now).budget xs v.items ys)
-    (StopsOpenMembers (g.S.Source.view c.args.reader.now).budget)
-    (ap refusal_left c.in_err-keep.ensures.memory) (kept_then (kept_then
+    (λ xs v ys. ReadsIndefiniteMembers (g.S.Source.view c.args.reader.now).budget xs v.items ys)
+    (RejectsIndefiniteMembers (g.S.Source.view c.args.reader.now).budget)
+    (ap error_left c.in_err-keep.ensures.memory) (kept_then (kept_then
     c.loop-members.invariant.reached.kept
     (rw c.in_ok-part.ensures at c.is_break.ensures.decodes.moves).by)
     c.in_ok-member.ensures.does.moves.by))
 
-pub open_items-returns-in_err-part-clause-items :
-    goal.open_items-returns-in_err-part-clause-items
-open_items-returns-in_err-part-clause-items g t c =
+pub indefinite_items-returns-in_err-part-clause-items :
+    goal.indefinite_items-returns-in_err-part-clause-items
+indefinite_items-returns-in_err-part-clause-items g t c =
     rw c.from_residual.ensures tt
 
-pub open_items-returns-in_err-value-clause-items : goal.open_items-returns-in_err-value-clause-items
-open_items-returns-in_err-value-clause-items g t c =
+pub indefinite_items-returns-in_err-value-clause-items :
+    goal.indefinite_items-returns-in_err-value-clause-items
+indefinite_items-returns-in_err-value-clause-items g t c =
     rw c.from_residual-in_err-value.ensures tt
 
-pub open_items-returns-in_err-keep-clause-items : goal.open_items-returns-in_err-keep-clause-items
-open_items-returns-in_err-keep-clause-items g t c =
+pub indefinite_items-returns-in_err-keep-clause-items :
+    goal.indefinite_items-returns-in_err-keep-clause-items
+indefinite_items-returns-in_err-keep-clause-items g t c =
     rw c.from_residual-in_err-keep.ensures tt
 
-pub open_members-returns-in_err-part-clause-items :
-    goal.open_members-returns-in_err-part-clause-items
-open_members-returns-in_err-part-clause-items g t c =
+pub indefinite_members-returns-in_err-part-clause-items :
+    goal.indefinite_members-returns-in_err-part-clause-items
+indefinite_members-returns-in_err-part-clause-items g t c =
     rw c.from_residual.ensures tt
 
-pub open_members-returns-in_err-member-clause-items :
-    goal.open_members-returns-in_err-member-clause-items
-open_members-returns-in_err-member-clause-items g t c =
+pub indefinite_members-returns-in_err-member-clause-items :
+    goal.indefinite_members-returns-in_err-member-clause-items
+indefinite_members-returns-in_err-member-clause-items g t c =
     rw c.from_residual-in_err-member.ensures tt
 
-pub open_members-returns-in_err-keep-clause-items :
-    goal.open_members-returns-in_err-keep-clause-items
-open_members-returns-in_err-keep-clause-items g t c =
+pub indefinite_members-returns-in_err-keep-clause-items :
+    goal.indefinite_members-returns-in_err-keep-clause-items
+indefinite_members-returns-in_err-keep-clause-items g t c =
     rw c.from_residual-in_err-keep.ensures tt
 
 pub read_member-returns-in_err-key-clause-key : goal.read_member-returns-in_err-key-clause-key
@@ -590,18 +606,18 @@ pub read_value-returns-then-not-step_in-clause-progress :
     goal.read_value-returns-then-not-step_in-clause-progress
 read_value-returns-then-not-step_in-clause-progress g t c = tt
 
-pub counted_members-returns-then-is_err-clause-does :
-    goal.counted_members-returns-then-is_err-clause-does
-counted_members-returns-then-is_err-clause-does g t c =
+pub definite_members-returns-then-is_err-clause-does :
+    goal.definite_members-returns-then-is_err-clause-does
+definite_members-returns-then-is_err-clause-does g t c =
     does_no_memory (λ xs v ys.
     ReadsMembers c.args.count (g.S.Source.view c.args.reader.now).budget xs v.items ys)
-    (StopsMembers c.args.count (g.S.Source.view c.args.reader.now).budget) refl (kept_alike _)
+    (RejectsMembers c.args.count (g.S.Source.view c.args.reader.now).budget) refl (kept_alike _)
 
-pub open_items-returns-clause-items : goal.open_items-returns-clause-items
-open_items-returns-clause-items g t c = c.loop-items.invariant.items
+pub indefinite_items-returns-clause-items : goal.indefinite_items-returns-clause-items
+indefinite_items-returns-clause-items g t c = c.loop-items.invariant.items
 
-pub open_members-returns-clause-items : goal.open_members-returns-clause-items
-open_members-returns-clause-items g t c = c.loop-members.invariant.items
+pub indefinite_members-returns-clause-items : goal.indefinite_members-returns-clause-items
+indefinite_members-returns-clause-items g t c = c.loop-members.invariant.items
 
 pub read_value-returns-clause-item : goal.read_value-returns-clause-item
 read_value-returns-clause-item g t c = c.read_inside-outcome.ensures.item
@@ -616,7 +632,7 @@ pub read_value-returns-then-not-step_in-clause-does :
 read_value-returns-then-not-step_in-clause-does g t c =
     rw c.leave_deep.ensures (does_no_step value_name (ReadsOneValue (g.S.Source.view
     c.args.reader.now).budget)
-    (StopsOneValue (g.S.Source.view c.args.reader.now).budget) refl refl
+    (RejectsOneValue (g.S.Source.view c.args.reader.now).budget) refl refl
     (λ none xs. rw none (refl, refl)) c.if-not-step_in.ensures.budget c.step_in.ensures.others)
 
 pub read_member-returns-clause-key : goal.read_member-returns-clause-key
@@ -629,16 +645,16 @@ pub read_member-returns-clause-progress : goal.read_member-returns-clause-progre
 read_member-returns-clause-progress g t c =
     omega (arith, c.in_ok-key.ensures.progress, c.in_ok-value.ensures.progress)
 
-pub open_items-loop-items-smaller : goal.open_items-loop-items-smaller
-open_items-loop-items-smaller g t c =
+pub indefinite_items-loop-items-smaller : goal.indefinite_items-loop-items-smaller
+indefinite_items-loop-items-smaller g t c =
     omega (
       arith,
       (rw c.in_ok-part.ensures at c.is_break.ensures.decodes.moves).by.bound,
       c.in_ok-value.ensures.progress,
     )
 
-pub open_members-loop-members-smaller : goal.open_members-loop-members-smaller
-open_members-loop-members-smaller g t c =
+pub indefinite_members-loop-members-smaller : goal.indefinite_members-loop-members-smaller
+indefinite_members-loop-members-smaller g t c =
     omega (
       arith,
       (rw c.in_ok-part.ensures at c.is_break.ensures.decodes.moves).by.bound,
@@ -664,14 +680,14 @@ read_tag-returns-clause-progress g t c =
 pub read_tagged-returns-clause-does : goal.read_tagged-returns-clause-does
 read_tagged-returns-clause-does g t c =
     does_no_memory (ReadsTagged c.args.number (g.S.Source.view c.args.reader.now).budget)
-    (StopsOneValue (g.S.Source.view c.args.reader.now).budget) refl
+    (RejectsOneValue (g.S.Source.view c.args.reader.now).budget) refl
     c.in_ok-inner.ensures.does.moves.by
 
--- ---- as many values as one look decides, and the one behind them
+-- ---- as many values as one look decides, and the one after them
 
 pub more_items-returns-clause-does : goal.more_items-returns-clause-does
 more_items-returns-clause-does g t c =
-    turn_stepped Readable StopsOneValue (1 * c.args.count - length c.args.items.now.items)
+    turn_stepped Readable RejectsOneValue (1 * c.args.count - length c.args.items.now.items)
     c.args.items.now.items _
     c.if-not-step_in.ensures.budget c.step_in.ensures.others c.items_inside-outcome.ensures.does
     c.step_out.ensures.budget c.step_out.ensures.others
@@ -679,7 +695,7 @@ more_items-returns-clause-does g t c =
 pub more_items-returns-then-not-step_in-clause-does :
     goal.more_items-returns-then-not-step_in-clause-does
 more_items-returns-then-not-step_in-clause-does g t c =
-    rw c.leave_deep.ensures (turn_unstepped Readable StopsOneValue (1 * c.args.count)
+    rw c.leave_deep.ensures (turn_unstepped Readable RejectsOneValue (1 * c.args.count)
     c.args.items.now.items _
     c.requires refl refl (λ none xs. rw none (refl, refl)) c.if-not-step_in.ensures.budget
     c.step_in.ensures.others)
@@ -687,7 +703,7 @@ more_items-returns-then-not-step_in-clause-does g t c =
 pub items_inside-returns-in_ok-value-in-Some-clause-does :
     goal.items_inside-returns-in_ok-value-in-Some-clause-does
 items_inside-returns-in_ok-value-in-Some-clause-does g t c =
-    turn_put Readable StopsOneValue _ _ one_read (1 * c.args.count) c.args.items.now.items
+    turn_put Readable RejectsOneValue _ _ one_read (1 * c.args.count) c.args.items.now.items
     ⊥ c.take_run.new.parts.items c.in-Some.next
     (run_before ⊥ Readable c.args.items.now.items c.take_run.new.parts.items c.in-Some.next _
     c.in-Some.is c.in_ok-next.ensures.puts) c.put_value.new.parts.items c.put_value.result _
@@ -697,7 +713,7 @@ pub items_inside-returns-in_err-value-in-Some-clause-does :
     goal.items_inside-returns-in_err-value-in-Some-clause-does
 items_inside-returns-in_err-value-in-Some-clause-does g t c =
     rw c.from_residual-in_err-value-in-Some.ensures
-    (turn_refused Readable StopsOneValue _ _ one_read (1 * c.args.count) c.args.items.now.items
+    (turn_rejected Readable RejectsOneValue _ _ one_read (1 * c.args.count) c.args.items.now.items
     ⊥ c.take_run.new.parts.items c.in-Some.next
     (run_before ⊥ Readable c.args.items.now.items c.take_run.new.parts.items c.in-Some.next _
     c.in-Some.is c.in_ok-next.ensures.puts) _
@@ -707,7 +723,7 @@ items_inside-returns-in_err-value-in-Some-clause-does g t c =
 pub items_inside-returns-in_err-next-clause-does :
     goal.items_inside-returns-in_err-next-clause-does
 items_inside-returns-in_err-next-clause-does g t c =
-    rw c.from_residual.ensures (turn_ends Readable StopsOneValue _ _ one_read (1 * c.args.count)
+    rw c.from_residual.ensures (turn_ends Readable RejectsOneValue _ _ one_read (1 * c.args.count)
     c.args.items.now.items
     c.take_run.new.parts.items c.requires (none_under _) c.in_err-next.ensures.puts)
 
@@ -720,7 +736,7 @@ items_inside-returns-in_ok-value-in-Some-clause-items g t c =
 
 pub more_members-returns-clause-does : goal.more_members-returns-clause-does
 more_members-returns-clause-does g t c =
-    turn_stepped Readable StopsOneValue (2 * c.args.count - length (flat c.args.pairs.now)) (flat
+    turn_stepped Readable RejectsOneValue (2 * c.args.count - length (flat c.args.pairs.now)) (flat
     c.args.pairs.now) _
     c.if-not-step_in.ensures.budget c.step_in.ensures.others c.members_inside-outcome.ensures.does
     c.step_out.ensures.budget c.step_out.ensures.others
@@ -728,7 +744,7 @@ more_members-returns-clause-does g t c =
 pub more_members-returns-then-not-step_in-clause-does :
     goal.more_members-returns-then-not-step_in-clause-does
 more_members-returns-then-not-step_in-clause-does g t c =
-    rw c.leave_deep.ensures (turn_unstepped Readable StopsOneValue (2 * c.args.count) (flat
+    rw c.leave_deep.ensures (turn_unstepped Readable RejectsOneValue (2 * c.args.count) (flat
     c.args.pairs.now) _
     c.requires refl refl (λ none xs. rw none (refl, refl)) c.if-not-step_in.ensures.budget
     c.step_in.ensures.others)
@@ -736,7 +752,7 @@ more_members-returns-then-not-step_in-clause-does g t c =
 pub members_inside-returns-in_ok-value-in-Some-clause-does :
     goal.members_inside-returns-in_ok-value-in-Some-clause-does
 members_inside-returns-in_ok-value-in-Some-clause-does g t c =
-    turn_put Readable StopsOneValue _ _ one_read (2 * c.args.count) (flat c.args.pairs.now)
+    turn_put Readable RejectsOneValue _ _ one_read (2 * c.args.count) (flat c.args.pairs.now)
     ⊥ (flat
     c.take_run.new.parts) c.in-Some.next
     (run_before ⊥ Readable (flat c.args.pairs.now) (flat c.take_run.new.parts) c.in-Some.next _
@@ -747,7 +763,7 @@ pub members_inside-returns-in_err-value-in-Some-clause-does :
     goal.members_inside-returns-in_err-value-in-Some-clause-does
 members_inside-returns-in_err-value-in-Some-clause-does g t c =
     rw c.from_residual-in_err-value-in-Some.ensures
-    (turn_refused Readable StopsOneValue _ _ one_read (2 * c.args.count) (flat c.args.pairs.now)
+    (turn_rejected Readable RejectsOneValue _ _ one_read (2 * c.args.count) (flat c.args.pairs.now)
     ⊥ (flat c.take_run.new.parts) c.in-Some.next
     (run_before ⊥ Readable (flat c.args.pairs.now) (flat c.take_run.new.parts) c.in-Some.next _
     c.in-Some.is c.in_ok-next.ensures.puts) _
@@ -757,7 +773,7 @@ members_inside-returns-in_err-value-in-Some-clause-does g t c =
 pub members_inside-returns-in_err-next-clause-does :
     goal.members_inside-returns-in_err-next-clause-does
 members_inside-returns-in_err-next-clause-does g t c =
-    rw c.from_residual.ensures (turn_ends Readable StopsOneValue _ _ one_read (2 * c.args.count)
+    rw c.from_residual.ensures (turn_ends Readable RejectsOneValue _ _ one_read (2 * c.args.count)
     (flat c.args.pairs.now)
     (flat c.take_run.new.parts) c.requires (none_under _) c.in_err-next.ensures.puts)
 
@@ -770,8 +786,8 @@ members_inside-returns-in_ok-value-in-Some-clause-items g t c =
 
 -- ---- an array whose items are counted
 
-pub counted_items-loop-alloc-init : goal.counted_items-loop-alloc-init
-counted_items-loop-alloc-init g t c = record {
+pub definite_items-loop-alloc-init : goal.definite_items-loop-alloc-init
+definite_items-loop-alloc-init g t c = record {
   reached =
       reached_start (λ xs ys. ReadsEach (Readable (g.S.Source.view c.args.reader.now).budget)
       (length c.reserve.new.self.items) xs c.reserve.new.self.items ys) _
@@ -780,31 +796,31 @@ counted_items-loop-alloc-init g t c = record {
   few = none_too_many _ (1 * c.args.count) (cc);
 }
 
-pub counted_items-loop-alloc-preserved : goal.counted_items-loop-alloc-preserved
-counted_items-loop-alloc-preserved g t c = record {
+pub definite_items-loop-alloc-preserved : goal.definite_items-loop-alloc-preserved
+definite_items-loop-alloc-preserved g t c = record {
   reached =
-      ran Readable StopsOneValue (1 * c.args.count) c.loop-alloc.items.items
+      ran Readable RejectsOneValue (1 * c.args.count) c.loop-alloc.items.items
       c.more_items.new.items.items c.loop-alloc.invariant.reached
       c.in_ok-more_items.ensures.does;
   items = c.in_ok-more_items.ensures.items c.loop-alloc.invariant.items;
   few = c.in_ok-more_items.ensures.few;
 }
 
-pub counted_items-returns-in_err-more_items-clause-does :
-    goal.counted_items-returns-in_err-more_items-clause-does
-counted_items-returns-in_err-more_items-clause-does g t c =
-    rw c.from_residual.ensures (stop_alone Readable StopsOneValue c.args.count (g.S.Source.view
+pub definite_items-returns-in_err-more_items-clause-does :
+    goal.definite_items-returns-in_err-more_items-clause-does
+definite_items-returns-in_err-more_items-clause-does g t c =
+    rw c.from_residual.ensures (stop_alone Readable RejectsOneValue c.args.count (g.S.Source.view
     c.args.reader.now).budget
     (λ xs v ys. ReadsItems c.args.count (g.S.Source.view c.args.reader.now).budget xs v.items ys)
-    (run_stops Readable StopsOneValue (1 * c.args.count) c.loop-alloc.items.items
+    (run_rejects Readable RejectsOneValue (1 * c.args.count) c.loop-alloc.items.items
     c.more_items.new.items.items c.loop-alloc.invariant.reached
     (λ xs v ys. ReadsItems c.args.count (g.S.Source.view c.args.reader.now).budget xs v.items ys)
     c.in_err-more_items.ensures.does))
 
 -- ---- a map whose pairs are counted
 
-pub counted_members-loop-alloc-init : goal.counted_members-loop-alloc-init
-counted_members-loop-alloc-init g t c = record {
+pub definite_members-loop-alloc-init : goal.definite_members-loop-alloc-init
+definite_members-loop-alloc-init g t c = record {
   reached =
       reached_start (λ xs ys. ReadsEach (Readable (g.S.Source.view c.args.reader.now).budget)
       (length (flat_values c.reserve.new.self.items)) xs (flat_values c.reserve.new.self.items) ys)
@@ -814,40 +830,40 @@ counted_members-loop-alloc-init g t c = record {
   few = none_too_many _ (2 * c.args.count) (cc);
 }
 
-pub counted_members-loop-alloc-preserved : goal.counted_members-loop-alloc-preserved
-counted_members-loop-alloc-preserved g t c = record {
+pub definite_members-loop-alloc-preserved : goal.definite_members-loop-alloc-preserved
+definite_members-loop-alloc-preserved g t c = record {
   reached =
-      ran Readable StopsOneValue (2 * c.args.count) (flat c.loop-alloc.pairs) (flat
+      ran Readable RejectsOneValue (2 * c.args.count) (flat c.loop-alloc.pairs) (flat
       c.more_members.new.pairs) c.loop-alloc.invariant.reached
       c.in_ok-more_members.ensures.does;
   items = c.in_ok-more_members.ensures.items c.loop-alloc.invariant.items;
   few = c.in_ok-more_members.ensures.few;
 }
 
-pub counted_members-returns-in_err-more_members-clause-does :
-    goal.counted_members-returns-in_err-more_members-clause-does
-counted_members-returns-in_err-more_members-clause-does g t c =
-    rw c.from_residual.ensures (run_stops Readable StopsOneValue (2 * c.args.count) (flat
+pub definite_members-returns-in_err-more_members-clause-does :
+    goal.definite_members-returns-in_err-more_members-clause-does
+definite_members-returns-in_err-more_members-clause-does g t c =
+    rw c.from_residual.ensures (run_rejects Readable RejectsOneValue (2 * c.args.count) (flat
     c.loop-alloc.pairs) (flat c.more_members.new.pairs) c.loop-alloc.invariant.reached
     (λ xs v ys. ReadsMembers c.args.count (g.S.Source.view c.args.reader.now).budget xs v.items ys)
     c.in_err-more_members.ensures.does)
 
-pub counted_members-returns-clause-does : goal.counted_members-returns-clause-does
-counted_members-returns-clause-does g t c =
+pub definite_members-returns-clause-does : goal.definite_members-returns-clause-does
+definite_members-returns-clause-does g t c =
     let budget = (g.S.Source.view c.args.reader.now).budget in
     let pairs = c.loop-alloc.pairs in
     let all = both_there pairs.members.items pairs.key c.args.count c.loop-alloc.invariant.few
     (c.lacks.ensures.full c.loop-alloc-test.false) in
     does_ok (λ xs v ys. ReadsMembers c.args.count budget xs v.items ys)
-    (StopsMembers c.args.count budget)
+    (RejectsMembers c.args.count budget)
     (reached_as (λ xs ys. ReadsEach (Readable budget) (length (flat pairs)) xs (flat pairs) ys)
     (λ xs ys. ReadsMembers c.args.count budget xs pairs.members.items ys)
     (λ xs ys h. pairs_are_read (Readable budget) pairs.members.items pairs.key c.args.count xs ys
     all h)
     c.loop-alloc.invariant.reached)
 
-pub counted_members-returns-clause-items : goal.counted_members-returns-clause-items
-counted_members-returns-clause-items g t c =
+pub definite_members-returns-clause-items : goal.definite_members-returns-clause-items
+definite_members-returns-clause-items g t c =
     let pairs = c.loop-alloc.pairs in
     pairs_are pairs.members.items pairs.key c.args.count
     (both_there pairs.members.items pairs.key c.args.count c.loop-alloc.invariant.few

@@ -34,17 +34,17 @@ decreases-array_inside g l = 8 * (g.S.Source.view l.reader.now).bound + 1
 abbrev pub decreases-map_inside : goal.decreases-map_inside
 decreases-map_inside g l = 8 * (g.S.Source.view l.reader.now).bound + 1
 
-abbrev pub decreases-counted_items : goal.decreases-counted_items
-decreases-counted_items g l = 8 * (g.S.Source.view l.reader.now).bound + 7
+abbrev pub decreases-definite_items : goal.decreases-definite_items
+decreases-definite_items g l = 8 * (g.S.Source.view l.reader.now).bound + 7
 
-abbrev pub decreases-open_items : goal.decreases-open_items
-decreases-open_items g l = 8 * (g.S.Source.view l.reader.now).bound + 7
+abbrev pub decreases-indefinite_items : goal.decreases-indefinite_items
+decreases-indefinite_items g l = 8 * (g.S.Source.view l.reader.now).bound + 7
 
-abbrev pub decreases-counted_members : goal.decreases-counted_members
-decreases-counted_members g l = 8 * (g.S.Source.view l.reader.now).bound + 7
+abbrev pub decreases-definite_members : goal.decreases-definite_members
+decreases-definite_members g l = 8 * (g.S.Source.view l.reader.now).bound + 7
 
-abbrev pub decreases-open_members : goal.decreases-open_members
-decreases-open_members g l = 8 * (g.S.Source.view l.reader.now).bound + 7
+abbrev pub decreases-indefinite_members : goal.decreases-indefinite_members
+decreases-indefinite_members g l = 8 * (g.S.Source.view l.reader.now).bound + 7
 
 abbrev pub decreases-read_member : goal.decreases-read_member
 decreases-read_member g l = 8 * (g.S.Source.view l.reader.now).bound + 6
@@ -61,8 +61,8 @@ decreases-more_members g l = 8 * (g.S.Source.view l.reader.now).bound + 5
 abbrev pub decreases-members_inside : goal.decreases-members_inside
 decreases-members_inside g l = 8 * (g.S.Source.view l.reader.now).bound + 4
 
-abbrev pub invariant-counted_items-loop-alloc : goal.invariant-counted_items-loop-alloc
-invariant-counted_items-loop-alloc g l = record {
+abbrev pub invariant-definite_items-loop-alloc : goal.invariant-definite_items-loop-alloc
+invariant-definite_items-loop-alloc g l = record {
   reached : Reached (λ xs ys. ReadsItems (length l.items.items)
       (g.S.Source.view l.fn.reader).budget xs l.items.items ys) (g.S.Source.view l.fn.reader)
       (g.S.Source.view l.reader);
@@ -70,11 +70,11 @@ invariant-counted_items-loop-alloc g l = record {
   few : length l.items.items ≤ 1 * l.count;
 }
 
-abbrev pub decreases-counted_items-loop-alloc : goal.decreases-counted_items-loop-alloc
-decreases-counted_items-loop-alloc g l = (g.S.Source.view l.reader).bound
+abbrev pub decreases-definite_items-loop-alloc : goal.decreases-definite_items-loop-alloc
+decreases-definite_items-loop-alloc g l = (g.S.Source.view l.reader).bound
 
-abbrev pub invariant-counted_members-loop-alloc : goal.invariant-counted_members-loop-alloc
-invariant-counted_members-loop-alloc g l = record {
+abbrev pub invariant-definite_members-loop-alloc : goal.invariant-definite_members-loop-alloc
+invariant-definite_members-loop-alloc g l = record {
   reached : Reached (λ xs ys. ReadsItems (length (flat l.pairs))
       (g.S.Source.view l.fn.reader).budget xs (flat l.pairs) ys) (g.S.Source.view l.fn.reader)
       (g.S.Source.view l.reader);
@@ -82,27 +82,29 @@ invariant-counted_members-loop-alloc g l = record {
   few : length (flat l.pairs) ≤ 2 * l.count;
 }
 
-abbrev pub decreases-counted_members-loop-alloc : goal.decreases-counted_members-loop-alloc
-decreases-counted_members-loop-alloc g l = (g.S.Source.view l.reader).bound
+abbrev pub decreases-definite_members-loop-alloc : goal.decreases-definite_members-loop-alloc
+decreases-definite_members-loop-alloc g l = (g.S.Source.view l.reader).bound
 
-abbrev pub invariant-open_items-loop-items : goal.invariant-open_items-loop-items
-invariant-open_items-loop-items g l =
+abbrev pub invariant-indefinite_items-loop-items : goal.invariant-indefinite_items-loop-items
+invariant-indefinite_items-loop-items g l =
     record {
       reached : Reached (ReadEach l.items.items (g.S.Source.view l.fn.reader).budget)
           (g.S.Source.view l.fn.reader) (g.S.Source.view l.reader);
       items : AreItems (items_view l.items.items);
     }
 
-abbrev pub decreases-open_items-loop-items : goal.decreases-open_items-loop-items
-decreases-open_items-loop-items g l = (g.S.Source.view l.reader).bound
+abbrev pub decreases-indefinite_items-loop-items : goal.decreases-indefinite_items-loop-items
+decreases-indefinite_items-loop-items g l = (g.S.Source.view l.reader).bound
 
-abbrev pub invariant-open_members-loop-members : goal.invariant-open_members-loop-members
-invariant-open_members-loop-members g l =
+abbrev pub invariant-indefinite_members-loop-members :
+    goal.invariant-indefinite_members-loop-members
+invariant-indefinite_members-loop-members g l =
     record {
       reached : Reached (ReadPairs l.members.items (g.S.Source.view l.fn.reader).budget)
           (g.S.Source.view l.fn.reader) (g.S.Source.view l.reader);
       items : AreMembers (members_view l.members.items);
     }
 
-abbrev pub decreases-open_members-loop-members : goal.decreases-open_members-loop-members
-decreases-open_members-loop-members g l = (g.S.Source.view l.reader).bound
+abbrev pub decreases-indefinite_members-loop-members :
+    goal.decreases-indefinite_members-loop-members
+decreases-indefinite_members-loop-members g l = (g.S.Source.view l.reader).bound

@@ -1,22 +1,25 @@
 use Rattle.std.proofs.Common.{◌/◌, ◌≡◌, arith, refl}
 use Rattle.std.proofs.lemmas.Result.{err_from_is_err_and}
 use Rattle.cbor4ii_items.specs.Initial.{unsigned, negative, byte_string, text_string}
-use Rattle.cbor4ii_items.specs.Numbers.{ReadsUnsigned, StopsUnsigned, ReadsNegative, StopsNegative}
-use Rattle.cbor4ii_items.specs.Strings.{ReadsAs, ReadsTextAs, StopsString, StopsText, bytes_content}
+use Rattle.cbor4ii_items.specs.Numbers.{ReadsUnsigned, RejectsUnsigned, ReadsNegative}
+use Rattle.cbor4ii_items.specs.Numbers.{RejectsNegative}
+use Rattle.cbor4ii_items.specs.Strings.{ReadsAs, ReadsTextAs, RejectsString, RejectsText}
+use Rattle.cbor4ii_items.specs.Strings.{bytes_content}
 use Rattle.cbor4ii_items.specs.Strings.{text_content}
-use Rattle.cbor4ii_tree.specs.Refusal.{sign_name, kind_name}
+use Rattle.cbor4ii_tree.specs.InputError.{sign_name, kind_name}
 use Rattle.cbor4ii_tree.specs.declared.value.Value.{Bytes, Text}
-use Rattle.cbor4ii_tree.proofs.values.Calls.{unsigned_reads, int_stops}
-use Rattle.cbor4ii_tree.proofs.values.Heads.{leaf_read, leaf_refused, negative_reads}
-use Rattle.cbor4ii_tree.proofs.values.Strings.{string_stops, text_stops, bytes_reads, text_reads}
-use Rattle.cbor4ii_tree.proofs.values.Items.{text_item}
+use Rattle.cbor4ii_tree.proofs.values.Calls.{unsigned_reads, int_rejects}
+use Rattle.cbor4ii_tree.proofs.values.Heads.{leaf_read, leaf_rejected, negative_reads}
+use Rattle.cbor4ii_tree.proofs.values.Strings.{string_rejects, text_rejects, bytes_reads}
+use Rattle.cbor4ii_tree.proofs.values.Strings.{text_reads}
+use Rattle.cbor4ii_tree.proofs.values.Items.{text_encoding}
 use Rattle.cbor4ii_tree.proofs.decode_value.read_leaf.Goals as goal
 
 pub returns-in_err-decode-in-0-clause-does : goal.returns-in_err-decode-in-0-clause-does
 returns-in_err-decode-in-0-clause-does g c =
     let p = err_from_is_err_and c.from_residual.result c.from_residual.ensures.1 in
     rw (p.1, p.2)
-    (leaf_refused c.args.first (StopsUnsigned (sign_name unsigned) 8) (λ bs z rest h. int_stops
+    (leaf_rejected c.args.first (RejectsUnsigned (sign_name unsigned) 8) (λ bs z rest h. int_rejects
     (g.S.Source.view c.args.reader.now).budget unsigned c.args.first bs z rest c.in-0.is h)
     c.in_err-decode-in-0.ensures.moves c.in_err-decode-in-0.ensures.begins)
 
@@ -25,7 +28,7 @@ returns-in_err-number-in-1-clause-does g c =
     let p = err_from_is_err_and c.from_residual-in_err-number-in-1.result
     c.from_residual-in_err-number-in-1.ensures.1 in
     rw (p.1, p.2)
-    (leaf_refused c.args.first (StopsNegative (sign_name negative) 8) (λ bs z rest h. int_stops
+    (leaf_rejected c.args.first (RejectsNegative (sign_name negative) 8) (λ bs z rest h. int_rejects
     (g.S.Source.view c.args.reader.now).budget negative c.args.first bs z rest c.in-1.is h)
     c.in_err-number-in-1.ensures.moves c.in_err-number-in-1.ensures.begins)
 
@@ -33,8 +36,8 @@ pub returns-in_err-decode-in-2-clause-does : goal.returns-in_err-decode-in-2-cla
 returns-in_err-decode-in-2-clause-does g c =
     let p = err_from_is_err_and c.from_residual-in_err-decode-in-2.result
     c.from_residual-in_err-decode-in-2.ensures.1 in
-    rw (p.1, p.2) (leaf_refused c.args.first (StopsString (kind_name byte_string) 2)
-    (λ bs z rest h. string_stops (g.S.Source.view c.args.reader.now).budget byte_string
+    rw (p.1, p.2) (leaf_rejected c.args.first (RejectsString (kind_name byte_string) 2)
+    (λ bs z rest h. string_rejects (g.S.Source.view c.args.reader.now).budget byte_string
     c.args.first bs z rest c.in-2.is h) c.in_err-decode-in-2.ensures.moves
     c.in_err-decode-in-2.ensures.begins)
 
@@ -43,8 +46,8 @@ returns-in_err-decode-in_default-clause-does g c =
     let p = err_from_is_err_and c.from_residual-in_err-decode-in_default.result
     c.from_residual-in_err-decode-in_default.ensures.1 in
     let major : c.args.first / 32 ≡ 3 = omega (arith, c.requires.major, c.in_default) in
-    rw (p.1, p.2) (leaf_refused c.args.first (StopsText (kind_name text_string))
-    (λ bs z rest h. text_stops (g.S.Source.view c.args.reader.now).budget c.args.first bs z
+    rw (p.1, p.2) (leaf_rejected c.args.first (RejectsText (kind_name text_string))
+    (λ bs z rest h. text_rejects (g.S.Source.view c.args.reader.now).budget c.args.first bs z
     rest major h) c.in_err-decode-in_default.ensures.moves
     c.in_err-decode-in_default.ensures.begins)
 
@@ -74,7 +77,7 @@ returns-in_ok-decode-in_default-clause-does g c =
     c.in_ok-decode-in_default.ensures.moves c.in_ok-decode-in_default.ensures.sound
 
 pub returns-in_ok-decode-in_default-clause-item : goal.returns-in_ok-decode-in_default-clause-item
-returns-in_ok-decode-in_default-clause-item g c = text_item c.in_ok-decode-in_default.field-0
+returns-in_ok-decode-in_default-clause-item g c = text_encoding c.in_ok-decode-in_default.field-0
 
 pub returns-in_err-decode-in-0-clause-item : goal.returns-in_err-decode-in-0-clause-item
 returns-in_err-decode-in-0-clause-item g c =

@@ -1,6 +1,6 @@
 use Rattle.std.proofs.Common.{refl}
-use Rattle.cbor4ii_tree.specs.Refusal.{value_name}
-use Rattle.cbor4ii_tree.specs.Valuing.{ReadsOneValue, StopsOneValue}
+use Rattle.cbor4ii_tree.specs.InputError.{value_name}
+use Rattle.cbor4ii_tree.specs.Valuing.{ReadsOneValue, RejectsOneValue}
 use Rattle.cbor4ii_tree.proofs.skip_calls.Doing.{does_no_step}
 use Rattle.cbor4ii_tree.proofs.values.Answered.{around}
 use Rattle.cbor4ii_tree.proofs.values.Calls.{stepped}
@@ -32,5 +32,5 @@ pub returns-then-not-step_in-clause-does :
 returns-then-not-step_in-clause-does g c =
     rw c.leave_deep.ensures (does_no_step value_name (ReadsOneValue (g.S.Source.view
     c.args.reader.now).budget)
-    (StopsOneValue (g.S.Source.view c.args.reader.now).budget) refl refl
+    (RejectsOneValue (g.S.Source.view c.args.reader.now).budget) refl refl
     (λ none xs. rw none (refl, refl)) c.if-not-step_in.ensures.budget c.step_in.ensures.others)

@@ -7,7 +7,7 @@ use mir.Val.{to_z, of_z}
 use mir.Syntax.{w128}
 use Rattle.cbor4ii_tree.specs.Item.{integer}
 use Rattle.cbor4ii_tree.specs.View.{view}
-use Rattle.cbor4ii_tree.specs.Canonical.{canon}
+use Rattle.cbor4ii_tree.specs.Canonical.{canonical_encoding}
 use Rattle.cbor4ii_tree.specs.Encoding.{value_bytes, member_bytes}
 use Rattle.cbor4ii_tree.proofs.values.InRange.{items_step, members_step, array_in_range}
 use Rattle.cbor4ii_tree.proofs.values.InRange.{map_in_range, text_in_range}
@@ -115,7 +115,8 @@ pub put_value-returns-in-Integer-clause-writes : goal.put_value-returns-in-Integ
 put_value-returns-in-Integer-clause-writes g t c =
     let n = c.in-Integer.n in
     let back : to_z w128 (of_z w128 n) ≡ n = to_z-of_z w128 n (search rules) in
-    writes_as _ (ap (λ z. canon (integer z)) back ∙ sym (ap canon (ap view c.in-Integer.is
+    writes_as _ (ap (λ z. canonical_encoding (integer z)) back ∙ sym
+    (ap canonical_encoding (ap view c.in-Integer.is
     ∙ view-Integer n))) c.put_integer.ensures.writes
 
 pub put_value-returns-in-Text-clause-item : goal.put_value-returns-in-Text-clause-item

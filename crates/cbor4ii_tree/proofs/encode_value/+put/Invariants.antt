@@ -6,7 +6,7 @@ use Rattle.cbor4ii_tree.specs.View.{items_view, members_view}
 use Rattle.cbor4ii_tree.specs.Encoding.{value_bytes, member_bytes}
 use Rattle.cbor4ii_tree.proofs.encode_value.+put.Given as goal
 
--- so many were written, one behind another
+-- so many were written, one after another
 abbrev pub invariant-put_items-loop-item : goal.invariant-put_items-loop-item
 invariant-put_items-loop-item g l = record {
   appends : Appends (items_bytes value_bytes (take l.item-index l.items))

@@ -10,11 +10,11 @@ returns-clause-at_most_one c = lemmas.one_reading
 pub returns-clause-computes : goal.returns-clause-computes
 returns-clause-computes c = lemmas.read_from_Reads
 
-pub returns-clause-computes_refusal : goal.returns-clause-computes_refusal
-returns-clause-computes_refusal c = lemmas.read_from_Stops
+pub returns-clause-computes_error : goal.returns-clause-computes_error
+returns-clause-computes_error c = lemmas.read_from_Rejects
 
 pub returns-clause-means : goal.returns-clause-means
 returns-clause-means c = lemmas.Reads_from_read
 
-pub returns-clause-means_refusal : goal.returns-clause-means_refusal
-returns-clause-means_refusal c = lemmas.Stops_from_read
+pub returns-clause-means_error : goal.returns-clause-means_error
+returns-clause-means_error c = lemmas.Rejects_from_read

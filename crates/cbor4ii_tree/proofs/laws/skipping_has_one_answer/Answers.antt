@@ -10,11 +10,11 @@ returns-clause-at_most_one c = lemmas.one_skipping
 pub returns-clause-computes : goal.returns-clause-computes
 returns-clause-computes c = lemmas.skip_from_Skips
 
-pub returns-clause-computes_refusal : goal.returns-clause-computes_refusal
-returns-clause-computes_refusal c = lemmas.skip_from_Stops
+pub returns-clause-computes_error : goal.returns-clause-computes_error
+returns-clause-computes_error c = lemmas.skip_from_Rejects
 
 pub returns-clause-means : goal.returns-clause-means
 returns-clause-means c = lemmas.Skips_from_skip
 
-pub returns-clause-means_refusal : goal.returns-clause-means_refusal
-returns-clause-means_refusal c = lemmas.Stops_from_skip
+pub returns-clause-means_error : goal.returns-clause-means_error
+returns-clause-means_error c = lemmas.Rejects_from_skip

@@ -1,6 +1,6 @@
 use Rattle.std.proofs.Common.{◌≡◌, true, refl}
-use Rattle.cbor4ii_tree.specs.Strictly.{ReadsExactlyUnder, StopsExactlyUnder}
-use Rattle.cbor4ii_tree.specs.Valuing.{ReadsUnder, StopsUnder}
+use Rattle.cbor4ii_tree.specs.CanonicalCalls.{ReadsCanonicallyUnder, RejectsCanonicallyUnder}
+use Rattle.cbor4ii_tree.specs.Valuing.{ReadsUnder, RejectsUnder}
 use Rattle.cbor4ii_tree.proofs.values.Leaves.{takes_leaf, takes_exact_leaf, leaf_item, no_content}
 use Rattle.cbor4ii_tree.proofs.values.ByHead.{undecided}
 use Rattle.cbor4ii_tree.proofs.values.Leaves.{no_value}
@@ -32,14 +32,14 @@ pub returns-in-Ok-End-clause-takes : goal.returns-in-Ok-End-clause-takes
 returns-in-Ok-End-clause-takes g c =
     rw c.leave_end.ensures (no_value (c.args.exact ≡ true)
     (ReadsUnder (g.S.Source.view c.args.reader.now).budget)
-    (StopsUnder (g.S.Source.view c.args.reader.now).budget) (λ z rest is. is)
+    (RejectsUnder (g.S.Source.view c.args.reader.now).budget) (λ z rest is. is)
     c.in-Ok-End.field-0-is c.in-Ok-End.ensures.offers refl)
 
 pub returns-in-Ok-End-clause-exactly : goal.returns-in-Ok-End-clause-exactly
 returns-in-Ok-End-clause-exactly g c exact =
     rw c.leave_end.ensures (no_value (c.args.exact ≡ true)
-    (ReadsExactlyUnder (g.S.Source.view c.args.reader.now).budget)
-    (StopsExactlyUnder (g.S.Source.view c.args.reader.now).budget) (λ z rest is. is)
+    (ReadsCanonicallyUnder (g.S.Source.view c.args.reader.now).budget)
+    (RejectsCanonicallyUnder (g.S.Source.view c.args.reader.now).budget) (λ z rest is. is)
     c.in-Ok-End.field-0-is c.in-Ok-End.ensures.offers refl)
 
 pub returns-in-Ok-Begins-clause-takes : goal.returns-in-Ok-Begins-clause-takes

@@ -1,5 +1,5 @@
 use Rattle.cbor4ii_tree.proofs.raw_items.Captured.{raw_decodes, raw_whole, raw_exact, raw_unmoved}
-use Rattle.cbor4ii_tree.proofs.raw_items.Captured.{raw_refused}
+use Rattle.cbor4ii_tree.proofs.raw_items.Captured.{raw_rejected}
 use Rattle.cbor4ii_tree.proofs.lend_raw.take_raw.Goals as goal
 
 pub returns-clause-decodes : goal.returns-clause-decodes
@@ -14,5 +14,5 @@ returns-clause-exact g c = raw_exact g.T.LendRaw.content _ _ c.capture.result c.
 pub returns-clause-unmoved : goal.returns-clause-unmoved
 returns-clause-unmoved g c = raw_unmoved g.T.LendRaw.content _ _ c.capture.result c.capture.ensures
 
-pub returns-clause-refuses : goal.returns-clause-refuses
-returns-clause-refuses g c = raw_refused g.T.LendRaw.content _ _ c.capture.result c.capture.ensures
+pub returns-clause-errs : goal.returns-clause-errs
+returns-clause-errs g c = raw_rejected g.T.LendRaw.content _ _ c.capture.result c.capture.ensures

@@ -2,7 +2,7 @@ use Rattle.std.proofs.Common.{◌≡◌, ◌∷◌, [], length, length-append, a
 use Rattle.std.proofs.Common.{arith}
 use Rattle.std.proofs.lemmas.List.{take_rest}
 use Rattle.cbor4ii_tree.specs.Leaf.{StandsAhead}
-use Rattle.cbor4ii_tree.proofs.values.LeafRuns.{put_none, put_one, put_well, refused_growth}
+use Rattle.cbor4ii_tree.proofs.values.LeafRuns.{put_none, put_one, put_well, rejected_growth}
 use Rattle.cbor4ii_tree.proofs.run.put_run.Goals as goal
 
 pub loop-alloc-init : goal.loop-alloc-init
@@ -14,7 +14,7 @@ loop-alloc-init g c = record {
 
 pub returns-then-is_none : goal.returns-then-is_none
 returns-then-is_none g c =
-    refused_growth (c.args.exact ≡ true) (g.P.Parts.flat c.args.parts.now)
+    rejected_growth (c.args.exact ≡ true) (g.P.Parts.flat c.args.parts.now)
     (g.P.Parts.flat c.loop-alloc.parts) c.in-Whole.value c.loop-alloc.size c.in-Whole.bytes
     c.args.shown.now c.loop-alloc.invariant.puts
     (subst (StandsAhead (c.args.exact ≡ true) c.in-Whole.value c.in-Whole.bytes)

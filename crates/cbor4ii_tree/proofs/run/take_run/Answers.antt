@@ -1,6 +1,6 @@
 use Rattle.std.proofs.Common.{◌≡◌, true, refl, arith}
-use Rattle.cbor4ii_tree.specs.StopsReading.{Readable}
-use Rattle.cbor4ii_tree.specs.StopsStrictly.{Exactly}
+use Rattle.cbor4ii_tree.specs.ReadingRejects.{Readable}
+use Rattle.cbor4ii_tree.specs.CanonicalRejects.{FitsCanonically}
 use Rattle.cbor4ii_tree.proofs.values.LeafRuns.{leaf_readable, leaf_exactly, takes_whole}
 use Rattle.cbor4ii_tree.proofs.values.LeafRuns.{takes_before, takes_none, run_no_memory, run_ends}
 use Rattle.cbor4ii_tree.proofs.values.LeafRuns.{run_broke, whole_items, before_items, whole_seen}
@@ -20,7 +20,8 @@ returns-in-Ok-Whole g c =
           takes_whole exact _ _ _ Readable (leaf_readable exact) c.in-Ok-Whole.size is offers
           c.advance.ensures;
       exactly = λ holds.
-          takes_whole exact _ _ _ Exactly (leaf_exactly exact holds) c.in-Ok-Whole.size is offers
+          takes_whole exact _ _ _ FitsCanonically (leaf_exactly exact holds) c.in-Ok-Whole.size
+          is offers
           c.advance.ensures;
       items = whole_items exact _ _ _ c.in-Ok-Whole.size is offers;
       few = seen.1;
@@ -44,7 +45,8 @@ returns-in-Ok-Before g c =
     record {
       puts = puts;
       exactly = λ holds.
-          takes_before exact _ _ _ Exactly (leaf_exactly exact holds) (Unit {0}) (λ u. holds) size n
+          takes_before exact _ _ _ FitsCanonically (leaf_exactly exact holds) (Unit {0})
+          (λ u. holds) size n
           is offers advance;
       items = before_items exact _ _ _ size n is offers;
       few = omega (arith, seen.0);
@@ -65,7 +67,7 @@ returns-in-Ok-Begins g c =
     let lacks = none_lacks _ _ _ same c.requires in
     record {
       puts = puts;
-      exactly = λ holds. takes_none exact _ _ _ Exactly (Unit {0}) (λ u. holds) n is offers;
+      exactly = λ holds. takes_none exact _ _ _ FitsCanonically (Unit {0}) (λ u. holds) n is offers;
       items = still_are same;
       few = omega (arith, lacks);
       lacks = lacks;
@@ -83,7 +85,7 @@ returns-in-Ok-NoMemory g c =
     record {
       puts = run_no_memory exact _ _ _ Readable c.in-Ok-NoMemory.size is offers advance;
       exactly = λ holds.
-          run_no_memory exact _ _ _ Exactly c.in-Ok-NoMemory.size is offers advance;
+          run_no_memory exact _ _ _ FitsCanonically c.in-Ok-NoMemory.size is offers advance;
       items = tt;
       few = tt;
       lacks = tt;
@@ -99,7 +101,8 @@ returns-in-Ok-End g c =
     let offers = c.in-Ok-End.ensures.offers in
     record {
       puts = rw c.leave_end.ensures (run_ends exact _ _ _ Readable is offers refl);
-      exactly = λ holds. rw c.leave_end.ensures (run_ends exact _ _ _ Exactly is offers refl);
+      exactly = λ holds. rw c.leave_end.ensures (run_ends exact _ _ _ FitsCanonically is
+          offers refl);
       items = tt;
       few = tt;
       lacks = tt;
@@ -112,7 +115,7 @@ pub returns-in-Err : goal.returns-in-Err
 returns-in-Err g c = record {
   puts = rw c.leave.ensures (run_broke _ _ Readable c.in-Err.error c.in-Err.ensures.breaks);
   exactly = λ holds.
-      rw c.leave.ensures (run_broke _ _ Exactly c.in-Err.error c.in-Err.ensures.breaks);
+      rw c.leave.ensures (run_broke _ _ FitsCanonically c.in-Err.error c.in-Err.ensures.breaks);
   items = tt;
   few = tt;
   lacks = tt;

@@ -6,12 +6,12 @@ use Rattle.cbor4ii_items.specs.declared.types.F16.{F16 as Half}
 use Rattle.cbor4ii_items.specs.declared.types.F32.{F32 as Single}
 use Rattle.cbor4ii_items.specs.declared.types.F64.{F64 as Double}
 use Rattle.cbor4ii_tree.proofs.canonical.Calls as strict
-use Rattle.cbor4ii_tree.proofs.values.Heads.{float_read, float_refused, no_value, view-F16}
+use Rattle.cbor4ii_tree.proofs.values.Heads.{float_read, float_rejected, no_value, view-F16}
 use Rattle.cbor4ii_tree.proofs.values.Heads.{view-F32, view-F64}
 use Rattle.cbor4ii_tree.specs.declared.value.FloatBits.TheVariants.{F16, F32, F64}
 use Rattle.cbor4ii_tree.proofs.simple.read_float.Goals as goal
 
--- where spellings are free
+-- where encodings are free
 
 pub returns-in_ok-decode-in-249-clause-does : goal.returns-in_ok-decode-in-249-clause-does
 returns-in_ok-decode-in-249-clause-does g c =
@@ -34,21 +34,21 @@ returns-in_ok-decode-in-251-clause-does g c =
 pub returns-in_err-decode-in-249-clause-does : goal.returns-in_err-decode-in-249-clause-does
 returns-in_err-decode-in-249-clause-does g c =
     let p = err_from_is_err_and c.from_residual.result c.from_residual.ensures.1 in
-    rw (p.1, p.2) (float_refused half c.args.first c.in-249.is c.in_err-decode-in-249.ensures.moves
+    rw (p.1, p.2) (float_rejected half c.args.first c.in-249.is c.in_err-decode-in-249.ensures.moves
     c.in_err-decode-in-249.ensures.begins)
 
 pub returns-in_err-decode-in-250-clause-does : goal.returns-in_err-decode-in-250-clause-does
 returns-in_err-decode-in-250-clause-does g c =
     let p = err_from_is_err_and c.from_residual-in_err-decode-in-250.result
     c.from_residual-in_err-decode-in-250.ensures.1 in
-    rw (p.1, p.2) (float_refused single c.args.first c.in-250.is
+    rw (p.1, p.2) (float_rejected single c.args.first c.in-250.is
     c.in_err-decode-in-250.ensures.moves c.in_err-decode-in-250.ensures.begins)
 
 pub returns-in_err-decode-in-251-clause-does : goal.returns-in_err-decode-in-251-clause-does
 returns-in_err-decode-in-251-clause-does g c =
     let p = err_from_is_err_and c.from_residual-in_err-decode-in-251.result
     c.from_residual-in_err-decode-in-251.ensures.1 in
-    rw (p.1, p.2) (float_refused double c.args.first c.in-251.is
+    rw (p.1, p.2) (float_rejected double c.args.first c.in-251.is
     c.in_err-decode-in-251.ensures.moves c.in_err-decode-in-251.ensures.begins)
 
 pub returns-in_default-clause-does : goal.returns-in_default-clause-does
@@ -67,7 +67,7 @@ returns-in_ok-decode-in-249-clause-exactly g c =
 pub returns-in_err-decode-in-249-clause-exactly : goal.returns-in_err-decode-in-249-clause-exactly
 returns-in_err-decode-in-249-clause-exactly g c =
     let p = err_from_is_err_and c.from_residual.result c.from_residual.ensures.1 in
-    rw (p.1, p.2) (strict.float_stops half c.args.first c.in-249.is
+    rw (p.1, p.2) (strict.float_rejects half c.args.first c.in-249.is
     c.in_err-decode-in-249.ensures.moves c.in_err-decode-in-249.ensures.begins)
 
 pub returns-in_ok-decode-in-250-clause-exactly : goal.returns-in_ok-decode-in-250-clause-exactly
@@ -80,7 +80,7 @@ pub returns-in_err-decode-in-250-clause-exactly : goal.returns-in_err-decode-in-
 returns-in_err-decode-in-250-clause-exactly g c =
     let p = err_from_is_err_and c.from_residual-in_err-decode-in-250.result
     c.from_residual-in_err-decode-in-250.ensures.1 in
-    rw (p.1, p.2) (strict.float_stops single c.args.first c.in-250.is
+    rw (p.1, p.2) (strict.float_rejects single c.args.first c.in-250.is
     c.in_err-decode-in-250.ensures.moves c.in_err-decode-in-250.ensures.begins)
 
 pub returns-in_ok-decode-in-251-clause-exactly : goal.returns-in_ok-decode-in-251-clause-exactly
@@ -93,7 +93,7 @@ pub returns-in_err-decode-in-251-clause-exactly : goal.returns-in_err-decode-in-
 returns-in_err-decode-in-251-clause-exactly g c =
     let p = err_from_is_err_and c.from_residual-in_err-decode-in-251.result
     c.from_residual-in_err-decode-in-251.ensures.1 in
-    rw (p.1, p.2) (strict.float_stops double c.args.first c.in-251.is
+    rw (p.1, p.2) (strict.float_rejects double c.args.first c.in-251.is
     c.in_err-decode-in-251.ensures.moves c.in_err-decode-in-251.ensures.begins)
 
 pub returns-in_default-clause-exactly : goal.returns-in_default-clause-exactly

@@ -1,13 +1,15 @@
 use Rattle.std.proofs.Common.{refl, ◌-◌, ◌*◌, ◌∙◌, arith, rules}
-use Rattle.cbor4ii_tree.specs.Skipping.{SkipsItems, StopsSkippingItems, SkipsOpen}
-use Rattle.cbor4ii_tree.specs.Skipping.{StopsSkippingOpen, SkipsMembers, StopsSkippingMembers}
-use Rattle.cbor4ii_tree.specs.Ahead.{StopsSomeUnder, GoesUnder}
-use Rattle.cbor4ii_tree.specs.declared.skip.Behind.TheVariants as behind
+use Rattle.cbor4ii_tree.specs.Skipping.{SkipsItems, RejectsSkippingItems, SkipsIndefinite}
+use Rattle.cbor4ii_tree.specs.Skipping.{RejectsSkippingIndefinite, SkipsMembers}
+use Rattle.cbor4ii_tree.specs.Skipping.{RejectsSkippingMembers}
+use Rattle.cbor4ii_tree.specs.Ahead.{RejectsSomeUnder, GoesUnder}
+use Rattle.cbor4ii_tree.specs.declared.skip.After.TheVariants as trailing
 use Rattle.cbor4ii_tree.specs.declared.ahead.Among.TheVariants as among
 use Rattle.cbor4ii_tree.proofs.skip_calls.Doing.{reached_start, does_ok}
-use Rattle.cbor4ii_tree.proofs.skip_calls.Fronts.{keeps_alike, keeps_then}
+use Rattle.cbor4ii_tree.proofs.skip_calls.Prefixes.{keeps_alike, keeps_then}
 use Rattle.cbor4ii_tree.proofs.skip_calls.Parts.{SkippedEach, SkippedPairs, each_none, pairs_none}
-use Rattle.cbor4ii_tree.proofs.skip_calls.Parts.{each_join, open_stop, open_done, pairs_more}
+use Rattle.cbor4ii_tree.proofs.skip_calls.Parts.{each_join, indefinite_stop, indefinite_done}
+use Rattle.cbor4ii_tree.proofs.skip_calls.Parts.{pairs_more}
 use Rattle.cbor4ii_tree.proofs.skip_calls.Parts.{key_stop, value_stop, members_done, Left, left_all}
 use Rattle.cbor4ii_tree.proofs.skip_calls.Calls.{went_on, more, ends, WithKey}
 use Rattle.cbor4ii_tree.proofs.skip_calls.Pairs.{pairs_join, pairs_key}
@@ -39,14 +41,14 @@ skip_one-returns-in-Some-clause-progress g t c =
 pub skip_some-skip_without_step-requires-clause-no_step :
     goal.skip_some-skip_without_step-requires-clause-no_step
 skip_some-skip_without_step-requires-clause-no_step g t c =
-    let same = g.met.F.Front.same_budget in
+    let same = g.met.F.Prefix.same_budget in
     none_left _ _ _ (same _ _) c.if-not-step_in.ensures.budget
 
 pub skip_some-returns-then-not-step_in-clause-does :
     goal.skip_some-returns-then-not-step_in-clause-does
 skip_some-returns-then-not-step_in-clause-does g t c =
-    let same = g.met.F.Front.same_budget in
-    let moved = g.met.F.Front.moved in
+    let same = g.met.F.Prefix.same_budget in
+    let moved = g.met.F.Prefix.moved in
     without_step c.args.among (same _ _) (same _ _) c.if-not-step_in.ensures.budget
     (moved _ _ _ c.step_in.ensures.others) c.skip_without_step.ensures.does
 
@@ -62,17 +64,17 @@ skip_some-returns-then-not-step_in-clause-stays g t c = λ apart.
 
 pub skip_some-returns-clause-does : goal.skip_some-returns-clause-does
 skip_some-returns-clause-does g t c =
-    let same = g.met.F.Front.same_budget in
-    let moved = g.met.F.Front.moved in
+    let same = g.met.F.Prefix.same_budget in
+    let moved = g.met.F.Prefix.moved in
     some_by c.args.among (same _ _) (same _ _) (same _ _) (same _ _) c.if-not-step_in.ensures.budget
     (moved _ _ _ c.step_in.ensures.others) c.some_inside-outcome.ensures.does
     c.step_out.ensures.budget (moved _ _ _ c.step_out.ensures.others)
 
 pub skip_some-returns-clause-progress : goal.skip_some-returns-clause-progress
 skip_some-returns-clause-progress g t c =
-    let moved = g.met.F.Front.moved in
-    let inward = moved c.args.front.now _ _ c.step_in.ensures.others in
-    let outward = moved c.some_inside-outcome.new.front _ _ c.step_out.ensures.others in
+    let moved = g.met.F.Prefix.moved in
+    let inward = moved c.args.prefix.now _ _ c.step_in.ensures.others in
+    let outward = moved c.some_inside-outcome.new.prefix _ _ c.step_out.ensures.others in
     progress_around _ _ _ _ _ c.some_inside-outcome.ensures.progress (omega (arith, inward.bound))
     (omega (arith, outward.bound))
 
@@ -89,8 +91,8 @@ skip_some-returns-clause-stays g t c = λ apart. keeps_then c.step_in.ensures.ot
 pub go_some-returns-in-None-clause-does : goal.go_some-returns-in-None-clause-does
 go_some-returns-in-None-clause-does g t c =
     not_ran c.args.among
-    (GoesUnder c.args.among (g.F.Front.view c.args.front.now c.args.reader.now).budget)
-    (StopsSomeUnder c.args.among (g.F.Front.view c.args.front.now c.args.reader.now).budget)
+    (GoesUnder c.args.among (g.F.Prefix.view c.args.prefix.now c.args.reader.now).budget)
+    (RejectsSomeUnder c.args.among (g.F.Prefix.view c.args.prefix.now c.args.reader.now).budget)
     c.in-None.ensures.does
 
 pub go_some-returns-in-Some-Run-clause-does : goal.go_some-returns-in-Some-Run-clause-does
@@ -100,26 +102,26 @@ go_some-returns-in-Some-Run-clause-does g t c =
     past c.args.among c.in-Some-Run.count (ran c.args.among c.in-Some-Run.count _
     c.in-Some-Run.field-0-is k.0 c.in-Some-Run.ensures.does)
 
-pub go_some-returns-else-skip_behind-clause-does : goal.go_some-returns-else-skip_behind-clause-does
-go_some-returns-else-skip_behind-clause-does g t c =
-    went_nowhere c.args.among (head_stopped c.args.among _ c.in-Some-Head.behind
-    c.in-Some-Head.field-0-is c.in-Some-Head.ensures.does c.if-skip_behind.ensures.does)
+pub go_some-returns-else-skip_after-clause-does : goal.go_some-returns-else-skip_after-clause-does
+go_some-returns-else-skip_after-clause-does g t c =
+    went_nowhere c.args.among (head_stopped c.args.among _ c.in-Some-Head.trailing
+    c.in-Some-Head.field-0-is c.in-Some-Head.ensures.does c.if-skip_after.ensures.does)
 
-pub go_some-returns-then-skip_behind-clause-does : goal.go_some-returns-then-skip_behind-clause-does
-go_some-returns-then-skip_behind-clause-does g t c =
-    past c.args.among 1 (head_one c.args.among _ c.in-Some-Head.behind c.in-Some-Head.field-0-is
-    c.in-Some-Head.ensures.does c.if-skip_behind.ensures.does)
+pub go_some-returns-then-skip_after-clause-does : goal.go_some-returns-then-skip_after-clause-does
+go_some-returns-then-skip_after-clause-does g t c =
+    past c.args.among 1 (head_one c.args.among _ c.in-Some-Head.trailing c.in-Some-Head.field-0-is
+    c.in-Some-Head.ensures.does c.if-skip_after.ensures.does)
 
-pub go_some-returns-then-skip_behind-clause-counts :
-    goal.go_some-returns-then-skip_behind-clause-counts
-go_some-returns-then-skip_behind-clause-counts g t c = counts_one c.args.among c.requires
+pub go_some-returns-then-skip_after-clause-counts :
+    goal.go_some-returns-then-skip_after-clause-counts
+go_some-returns-then-skip_after-clause-counts g t c = counts_one c.args.among c.requires
 
-pub go_some-returns-then-skip_behind-clause-progress :
-    goal.go_some-returns-then-skip_behind-clause-progress
-go_some-returns-then-skip_behind-clause-progress g t c =
-    let k = passes_head c.args.among _ c.in-Some-Head.behind _ _ c.in-Some-Head.field-0-is
+pub go_some-returns-then-skip_after-clause-progress :
+    goal.go_some-returns-then-skip_after-clause-progress
+go_some-returns-then-skip_after-clause-progress g t c =
+    let k = passes_head c.args.among _ c.in-Some-Head.trailing _ _ c.in-Some-Head.field-0-is
     c.in-Some-Head.ensures.passes in
-    λ some. omega (arith, k, c.if-skip_behind.ensures.does.moves.by.bound)
+    λ some. omega (arith, k, c.if-skip_after.ensures.does.moves.by.bound)
 
 pub go_some-returns-in-Some-clause-does : goal.go_some-returns-in-Some-clause-does
 go_some-returns-in-Some-clause-does g t c =
@@ -146,11 +148,11 @@ some_inside-returns-else-skip_items-clause-does g t c =
 
 pub skip_items-returns-clause-does : goal.skip_items-returns-clause-does
 skip_items-returns-clause-does g t c =
-    let same = g.met.F.Front.same_budget in
-    let moved = g.met.F.Front.moved in
+    let same = g.met.F.Prefix.same_budget in
+    let moved = g.met.F.Prefix.moved in
     does_back (λ xs _ ys. SkipsItems c.args.count
-    (g.F.Front.view c.args.front.now c.args.reader.now).budget xs ys)
-    (StopsSkippingItems c.args.count (g.F.Front.view c.args.front.now c.args.reader.now).budget)
+    (g.F.Prefix.view c.args.prefix.now c.args.reader.now).budget xs ys)
+    (RejectsSkippingItems c.args.count (g.F.Prefix.view c.args.prefix.now c.args.reader.now).budget)
     (moved _ _ _ c.give_back.ensures.others) (same _ _
     ∙ all_back _ _ (same _ _) c.give_back.ensures.budget c.skip_inward-done.ensures.deeper)
     c.skip_inward-done.ensures.does
@@ -177,8 +179,8 @@ skip_inward-returns-clause-does g t c =
 pub skip_next-returns-then-not-step_in-clause-does :
     goal.skip_next-returns-then-not-step_in-clause-does
 skip_next-returns-then-not-step_in-clause-does g t c =
-    let same = g.met.F.Front.same_budget in
-    let moved = g.met.F.Front.moved in
+    let same = g.met.F.Prefix.same_budget in
+    let moved = g.met.F.Prefix.moved in
     gone_without c.args.left _ _ c.requires c.skip_without_step.ensures.none
     c.skip_without_step.ensures.counts (without_step (among.Items c.args.left) (same _ _)
     (same _ _) c.if-not-step_in.ensures.budget (moved _ _ _ c.step_in.ensures.others)
@@ -187,8 +189,8 @@ skip_next-returns-then-not-step_in-clause-does g t c =
 pub skip_next-returns-then-depth-lt18446744073709551615-clause-does :
     goal.skip_next-returns-then-depth-lt18446744073709551615-clause-does
 skip_next-returns-then-depth-lt18446744073709551615-clause-does g t c =
-    let same = g.met.F.Front.same_budget in
-    let moved = g.met.F.Front.moved in
+    let same = g.met.F.Prefix.same_budget in
+    let moved = g.met.F.Prefix.moved in
     gone_into c.args.left (same _ _) (same _ _) c.if-not-step_in.ensures.budget
     (moved _ _ _ c.step_in.ensures.others) c.in-Some-Into.count
     (omega (arith, c.if-left-eq1.true)) c.in-Some-Into.field-0-is c.in-Some-Into.ensures.does
@@ -204,8 +206,8 @@ skip_next-returns-then-depth-lt18446744073709551615-clause-stays g t c =
 
 pub skip_next-returns-then-done-clause-does : goal.skip_next-returns-then-done-clause-does
 skip_next-returns-then-done-clause-does g t c =
-    let same = g.met.F.Front.same_budget in
-    let moved = g.met.F.Front.moved in
+    let same = g.met.F.Prefix.same_budget in
+    let moved = g.met.F.Prefix.moved in
     gone_past c.args.left 1 (omega arith) c.requires
     (some_by (among.Items c.args.left) (same _ _) (same _ _) (same _ _)
     (same _ _) c.if-not-step_in.ensures.budget (moved _ _ _ c.step_in.ensures.others)
@@ -215,8 +217,8 @@ skip_next-returns-then-done-clause-does g t c =
 
 pub skip_next-returns-else-done-clause-does : goal.skip_next-returns-else-done-clause-does
 skip_next-returns-else-done-clause-does g t c =
-    let same = g.met.F.Front.same_budget in
-    let moved = g.met.F.Front.moved in
+    let same = g.met.F.Prefix.same_budget in
+    let moved = g.met.F.Prefix.moved in
     gone_nowhere c.args.left c.requires
     (some_by (among.Items c.args.left) (same _ _) (same _ _) (same _ _)
     (same _ _) c.if-not-step_in.ensures.budget (moved _ _ _ c.step_in.ensures.others)
@@ -226,8 +228,8 @@ skip_next-returns-else-done-clause-does g t c =
 
 pub skip_next-returns-in-Some-Past-clause-does : goal.skip_next-returns-in-Some-Past-clause-does
 skip_next-returns-in-Some-Past-clause-does g t c =
-    let same = g.met.F.Front.same_budget in
-    let moved = g.met.F.Front.moved in
+    let same = g.met.F.Prefix.same_budget in
+    let moved = g.met.F.Prefix.moved in
     let counts = counts_past (among.Items c.args.left) c.in-Some-Past.some c.in-Some-Past.field-0-is
     c.in-Some-Past.ensures.counts in
     gone_past c.args.left c.in-Some-Past.some counts.0 counts.1
@@ -239,46 +241,47 @@ skip_next-returns-in-Some-Past-clause-does g t c =
 
 pub skip_next-returns-in-None-clause-does : goal.skip_next-returns-in-None-clause-does
 skip_next-returns-in-None-clause-does g t c =
-    let same = g.met.F.Front.same_budget in
-    let moved = g.met.F.Front.moved in
+    let same = g.met.F.Prefix.same_budget in
+    let moved = g.met.F.Prefix.moved in
     gone_nowhere c.args.left c.requires
     (some_by (among.Items c.args.left) (same _ _) (same _ _) (same _ _)
     (same _ _) c.if-not-step_in.ensures.budget (moved _ _ _ c.step_in.ensures.others)
     (was_nowhere (among.Items c.args.left) c.in-None.ensures.does)
     c.step_out-in-None.ensures.budget (moved _ _ _ c.step_out-in-None.ensures.others))
 
-pub skip_behind-returns-in-Nothing-clause-does : goal.skip_behind-returns-in-Nothing-clause-does
-skip_behind-returns-in-Nothing-clause-does g t c = goes_no_further c.in-Nothing.is
+pub skip_after-returns-in-Nothing-clause-does : goal.skip_after-returns-in-Nothing-clause-does
+skip_after-returns-in-Nothing-clause-does g t c = goes_no_further c.in-Nothing.is
 
-pub skip_behind-returns-in-Bytes-clause-does : goal.skip_behind-returns-in-Bytes-clause-does
-skip_behind-returns-in-Bytes-clause-does g t c =
-    goes_on (behind.Bytes c.in-Bytes.count) c.in-Bytes.is c.skip_content.ensures.does
+pub skip_after-returns-in-Bytes-clause-does : goal.skip_after-returns-in-Bytes-clause-does
+skip_after-returns-in-Bytes-clause-does g t c =
+    goes_on (trailing.Bytes c.in-Bytes.count) c.in-Bytes.is c.skip_content.ensures.does
 
-pub skip_behind-returns-in-Items-clause-does : goal.skip_behind-returns-in-Items-clause-does
-skip_behind-returns-in-Items-clause-does g t c =
-    goes_on (behind.Items c.in-Items.count) c.in-Items.is c.skip_items.ensures.does
+pub skip_after-returns-in-Items-clause-does : goal.skip_after-returns-in-Items-clause-does
+skip_after-returns-in-Items-clause-does g t c =
+    goes_on (trailing.Items c.in-Items.count) c.in-Items.is c.skip_items.ensures.does
 
-pub skip_behind-returns-in-Members-clause-does : goal.skip_behind-returns-in-Members-clause-does
-skip_behind-returns-in-Members-clause-does g t c =
-    goes_on (behind.Members c.in-Members.count) c.in-Members.is c.skip_members.ensures.does
+pub skip_after-returns-in-Members-clause-does : goal.skip_after-returns-in-Members-clause-does
+skip_after-returns-in-Members-clause-does g t c =
+    goes_on (trailing.Members c.in-Members.count) c.in-Members.is c.skip_members.ensures.does
 
-pub skip_behind-returns-in-Bytes-clause-stays : goal.skip_behind-returns-in-Bytes-clause-stays
-skip_behind-returns-in-Bytes-clause-stays g t c =
+pub skip_after-returns-in-Bytes-clause-stays : goal.skip_after-returns-in-Bytes-clause-stays
+skip_after-returns-in-Bytes-clause-stays g t c =
     λ apart. keeps_alike _ _ (c.skip_content.ensures.stays apart)
 
-pub skip_behind-returns-in-Open-clause-does : goal.skip_behind-returns-in-Open-clause-does
-skip_behind-returns-in-Open-clause-does g t c =
-    goes_on behind.Open c.in-Open.is c.skip_open.ensures.does
+pub skip_after-returns-in-Indefinite-clause-does : goal.skip_after-returns-in-Indefinite-clause-does
+skip_after-returns-in-Indefinite-clause-does g t c =
+    goes_on trailing.Indefinite c.in-Indefinite.is c.skip_indefinite.ensures.does
 
-pub skip_behind-returns-in-OpenMembers-clause-does :
-    goal.skip_behind-returns-in-OpenMembers-clause-does
-skip_behind-returns-in-OpenMembers-clause-does g t c =
-    goes_on behind.OpenMembers c.in-OpenMembers.is c.skip_open_members.ensures.does
+pub skip_after-returns-in-IndefiniteMembers-clause-does :
+    goal.skip_after-returns-in-IndefiniteMembers-clause-does
+skip_after-returns-in-IndefiniteMembers-clause-does g t c =
+    goes_on trailing.IndefiniteMembers c.in-IndefiniteMembers.is
+    c.skip_indefinite_members.ensures.does
 
 pub skip_inside-returns-in-Some-clause-does : goal.skip_inside-returns-in-Some-clause-does
 skip_inside-returns-in-Some-clause-does g t c =
-    went_on c.in-Some.behind refl (rw c.in-Some.ensures at c.skip_head.ensures.does)
-    c.skip_behind.ensures.does
+    went_on c.in-Some.trailing refl (rw c.in-Some.ensures at c.skip_head.ensures.does)
+    c.skip_after.ensures.does
 
 pub skip_unseen-returns-in-None-clause-does : goal.skip_unseen-returns-in-None-clause-does
 skip_unseen-returns-in-None-clause-does g t c =
@@ -311,8 +314,8 @@ pub skip_members-loop-left-init : goal.skip_members-loop-left-init
 skip_members-loop-left-init g t c = record {
   reached =
       reached_start (Left (2 * c.args.count) (2 * c.args.count)
-      (g.F.Front.view c.args.front.now c.args.reader.now).budget) _
-      (left_all (2 * c.args.count) (g.F.Front.view c.args.front.now c.args.reader.now).budget);
+      (g.F.Prefix.view c.args.prefix.now c.args.reader.now).budget) _
+      (left_all (2 * c.args.count) (g.F.Prefix.view c.args.prefix.now c.args.reader.now).budget);
   stays = λ apart. keeps_alike _ _ refl;
 }
 
@@ -363,104 +366,107 @@ skip_members-returns-clause-does g t c =
     all_skipped (2 * c.args.count) (2 * c.loop-left.left) c.loop-left.invariant.reached
     (omega (arith, c.loop-left-test.false))
 
-pub skip_open-loop-init : goal.skip_open-loop-init
-skip_open-loop-init g t c = record {
+pub skip_indefinite-loop-init : goal.skip_indefinite-loop-init
+skip_indefinite-loop-init g t c = record {
   reached =
-      reached_start (SkippedEach (g.F.Front.view c.args.front.now c.args.reader.now).budget) _
-      (each_none (g.F.Front.view c.args.front.now c.args.reader.now).budget);
+      reached_start (SkippedEach (g.F.Prefix.view c.args.prefix.now c.args.reader.now).budget) _
+      (each_none (g.F.Prefix.view c.args.prefix.now c.args.reader.now).budget);
   stays = λ apart. keeps_alike _ _ refl;
 }
 
-pub skip_open-returns-in-None-clause-does : goal.skip_open-returns-in-None-clause-does
-skip_open-returns-in-None-clause-does g t c =
-    ends_some SkippedEach c.loop.invariant.reached among.OpenItems
-    (λ xs _ ys. SkipsOpen (g.F.Front.view c.args.front.now c.args.reader.now).budget xs ys)
-    (StopsSkippingOpen (g.F.Front.view c.args.front.now c.args.reader.now).budget)
-    (λ xs ys z rest h s. open_stop (g.F.Front.view c.args.front.now c.args.reader.now).budget xs
+pub skip_indefinite-returns-in-None-clause-does : goal.skip_indefinite-returns-in-None-clause-does
+skip_indefinite-returns-in-None-clause-does g t c =
+    ends_some SkippedEach c.loop.invariant.reached among.IndefiniteItems
+    (λ xs _ ys. SkipsIndefinite (g.F.Prefix.view c.args.prefix.now c.args.reader.now).budget xs ys)
+    (RejectsSkippingIndefinite (g.F.Prefix.view c.args.prefix.now c.args.reader.now).budget)
+    (λ xs ys z rest h s. indefinite_stop
+    (g.F.Prefix.view c.args.prefix.now c.args.reader.now).budget xs
     ys z rest h s) c.in-None.ensures.does
 
-pub skip_open-returns-in-Some-eq0-clause-does : goal.skip_open-returns-in-Some-eq0-clause-does
-skip_open-returns-in-Some-eq0-clause-does g t c =
-    does_ok (λ xs _ ys. SkipsOpen (g.F.Front.view c.args.front.now c.args.reader.now).budget xs ys)
-    (StopsSkippingOpen (g.F.Front.view c.args.front.now c.args.reader.now).budget)
-    (broke_some SkippedEach c.loop.invariant.reached among.OpenItems _
-    (SkipsOpen (g.F.Front.view c.args.front.now c.args.reader.now).budget)
-    (open_done (g.F.Front.view c.args.front.now c.args.reader.now).budget)
+pub skip_indefinite-returns-in-Some-eq0-clause-does :
+    goal.skip_indefinite-returns-in-Some-eq0-clause-does
+skip_indefinite-returns-in-Some-eq0-clause-does g t c =
+    does_ok (λ xs _ ys. SkipsIndefinite
+    (g.F.Prefix.view c.args.prefix.now c.args.reader.now).budget xs ys)
+    (RejectsSkippingIndefinite (g.F.Prefix.view c.args.prefix.now c.args.reader.now).budget)
+    (broke_some SkippedEach c.loop.invariant.reached among.IndefiniteItems _
+    (SkipsIndefinite (g.F.Prefix.view c.args.prefix.now c.args.reader.now).budget)
+    (indefinite_done (g.F.Prefix.view c.args.prefix.now c.args.reader.now).budget)
     c.in-Some-eq0.field-0-test c.in-Some-eq0.ensures.does)
 
-pub skip_open-loop-preserved : goal.skip_open-loop-preserved
-skip_open-loop-preserved g t c = record {
+pub skip_indefinite-loop-preserved : goal.skip_indefinite-loop-preserved
+skip_indefinite-loop-preserved g t c = record {
   reached =
-      more_some SkippedEach c.loop.invariant.reached among.OpenItems _
-      (SkippedEach (g.F.Front.view c.args.front.now c.args.reader.now).budget) (λ xs ys zs h s.
-      each_join _ (g.F.Front.view c.args.front.now c.args.reader.now).budget xs ys zs h s)
+      more_some SkippedEach c.loop.invariant.reached among.IndefiniteItems _
+      (SkippedEach (g.F.Prefix.view c.args.prefix.now c.args.reader.now).budget) (λ xs ys zs h s.
+      each_join _ (g.F.Prefix.view c.args.prefix.now c.args.reader.now).budget xs ys zs h s)
       (omega (arith, c.in-Some.field-0-test)) c.in-Some.ensures.does;
   stays = λ apart. keeps_then (c.loop.invariant.stays apart) (c.in-Some.ensures.stays apart);
 }
 
-pub skip_open_members-loop-some-init : goal.skip_open_members-loop-some-init
-skip_open_members-loop-some-init g t c = record {
+pub skip_indefinite_members-loop-some-init : goal.skip_indefinite_members-loop-some-init
+skip_indefinite_members-loop-some-init g t c = record {
   reached =
-      reached_start (SkippedPairs (g.F.Front.view c.args.front.now c.args.reader.now).budget) _
-      (pairs_none (g.F.Front.view c.args.front.now c.args.reader.now).budget);
+      reached_start (SkippedPairs (g.F.Prefix.view c.args.prefix.now c.args.reader.now).budget) _
+      (pairs_none (g.F.Prefix.view c.args.prefix.now c.args.reader.now).budget);
   stays = λ apart. keeps_alike _ _ refl;
 }
 
-pub skip_open_members-returns-in-None-clause-does :
-    goal.skip_open_members-returns-in-None-clause-does
-skip_open_members-returns-in-None-clause-does g t c =
-    ends_some SkippedPairs c.loop-some.invariant.reached among.OpenPairs
-    (λ xs _ ys. SkipsMembers (g.F.Front.view c.args.front.now c.args.reader.now).budget xs ys)
-    (StopsSkippingMembers (g.F.Front.view c.args.front.now c.args.reader.now).budget)
-    (λ xs ys z rest h s. key_stop (g.F.Front.view c.args.front.now c.args.reader.now).budget xs
+pub skip_indefinite_members-returns-in-None-clause-does :
+    goal.skip_indefinite_members-returns-in-None-clause-does
+skip_indefinite_members-returns-in-None-clause-does g t c =
+    ends_some SkippedPairs c.loop-some.invariant.reached among.IndefinitePairs
+    (λ xs _ ys. SkipsMembers (g.F.Prefix.view c.args.prefix.now c.args.reader.now).budget xs ys)
+    (RejectsSkippingMembers (g.F.Prefix.view c.args.prefix.now c.args.reader.now).budget)
+    (λ xs ys z rest h s. key_stop (g.F.Prefix.view c.args.prefix.now c.args.reader.now).budget xs
     ys z rest h s) c.in-None.ensures.does
 
-pub skip_open_members-returns-then-some-eq0-clause-does :
-    goal.skip_open_members-returns-then-some-eq0-clause-does
-skip_open_members-returns-then-some-eq0-clause-does g t c =
+pub skip_indefinite_members-returns-then-some-eq0-clause-does :
+    goal.skip_indefinite_members-returns-then-some-eq0-clause-does
+skip_indefinite_members-returns-then-some-eq0-clause-does g t c =
     does_ok
-    (λ xs _ ys. SkipsMembers (g.F.Front.view c.args.front.now c.args.reader.now).budget xs ys)
-    (StopsSkippingMembers (g.F.Front.view c.args.front.now c.args.reader.now).budget)
-    (broke_some SkippedPairs c.loop-some.invariant.reached among.OpenPairs c.in-Some.some
-    (SkipsMembers (g.F.Front.view c.args.front.now c.args.reader.now).budget)
-    (members_done (g.F.Front.view c.args.front.now c.args.reader.now).budget)
+    (λ xs _ ys. SkipsMembers (g.F.Prefix.view c.args.prefix.now c.args.reader.now).budget xs ys)
+    (RejectsSkippingMembers (g.F.Prefix.view c.args.prefix.now c.args.reader.now).budget)
+    (broke_some SkippedPairs c.loop-some.invariant.reached among.IndefinitePairs c.in-Some.some
+    (SkipsMembers (g.F.Prefix.view c.args.prefix.now c.args.reader.now).budget)
+    (members_done (g.F.Prefix.view c.args.prefix.now c.args.reader.now).budget)
     c.if-some-eq0.true c.in-Some.ensures.does)
 
-pub skip_open_members-returns-then-not-skip_one-clause-does :
-    goal.skip_open_members-returns-then-not-skip_one-clause-does
-skip_open_members-returns-then-not-skip_one-clause-does g t c =
-    ends WithKey (more_some SkippedPairs c.loop-some.invariant.reached among.OpenPairs
-    c.in-Some.some (WithKey (g.F.Front.view c.args.front.now c.args.reader.now).budget)
-    (λ xs ys zs h s. pairs_key c.in-Some.some (g.F.Front.view c.args.front.now
+pub skip_indefinite_members-returns-then-not-skip_one-clause-does :
+    goal.skip_indefinite_members-returns-then-not-skip_one-clause-does
+skip_indefinite_members-returns-then-not-skip_one-clause-does g t c =
+    ends WithKey (more_some SkippedPairs c.loop-some.invariant.reached among.IndefinitePairs
+    c.in-Some.some (WithKey (g.F.Prefix.view c.args.prefix.now c.args.reader.now).budget)
+    (λ xs ys zs h s. pairs_key c.in-Some.some (g.F.Prefix.view c.args.prefix.now
     c.args.reader.now).budget xs ys zs (omega (arith, c.if-some-eq1.true)) h s)
     (omega (arith, c.if-some-eq0.false)) c.in-Some.ensures.does)
-    (λ xs _ ys. SkipsMembers (g.F.Front.view c.args.front.now c.args.reader.now).budget xs ys)
-    (StopsSkippingMembers (g.F.Front.view c.args.front.now c.args.reader.now).budget)
-    (λ xs ys z rest h s. value_stop (g.F.Front.view c.args.front.now c.args.reader.now).budget
+    (λ xs _ ys. SkipsMembers (g.F.Prefix.view c.args.prefix.now c.args.reader.now).budget xs ys)
+    (RejectsSkippingMembers (g.F.Prefix.view c.args.prefix.now c.args.reader.now).budget)
+    (λ xs ys z rest h s. value_stop (g.F.Prefix.view c.args.prefix.now c.args.reader.now).budget
     xs h.0 ys z rest h.1 h.2 s) c.if-not-skip_one.ensures.does
 
-pub skip_open_members-loop-some-preserved-else-not-skip_one :
-    goal.skip_open_members-loop-some-preserved-else-not-skip_one
-skip_open_members-loop-some-preserved-else-not-skip_one g t c = record {
+pub skip_indefinite_members-loop-some-preserved-else-not-skip_one :
+    goal.skip_indefinite_members-loop-some-preserved-else-not-skip_one
+skip_indefinite_members-loop-some-preserved-else-not-skip_one g t c = record {
   reached =
-      more WithKey (more_some SkippedPairs c.loop-some.invariant.reached among.OpenPairs
-      c.in-Some.some (WithKey (g.F.Front.view c.args.front.now c.args.reader.now).budget)
-      (λ xs ys zs h s. pairs_key c.in-Some.some (g.F.Front.view c.args.front.now
+      more WithKey (more_some SkippedPairs c.loop-some.invariant.reached among.IndefinitePairs
+      c.in-Some.some (WithKey (g.F.Prefix.view c.args.prefix.now c.args.reader.now).budget)
+      (λ xs ys zs h s. pairs_key c.in-Some.some (g.F.Prefix.view c.args.prefix.now
       c.args.reader.now).budget xs ys zs (omega (arith, c.if-some-eq1.true)) h s)
       (omega (arith, c.if-some-eq0.false)) c.in-Some.ensures.does)
-      (SkippedPairs (g.F.Front.view c.args.front.now c.args.reader.now).budget)
-      (λ xs ys zs h s. pairs_more (g.F.Front.view c.args.front.now c.args.reader.now).budget xs
+      (SkippedPairs (g.F.Prefix.view c.args.prefix.now c.args.reader.now).budget)
+      (λ xs ys zs h s. pairs_more (g.F.Prefix.view c.args.prefix.now c.args.reader.now).budget xs
       h.0 ys zs h.1 h.2 s) c.if-not-skip_one.ensures.does;
   stays = λ apart. keeps_then (c.loop-some.invariant.stays apart)
       (keeps_then (c.in-Some.ensures.stays apart) (c.if-not-skip_one.ensures.stays apart));
 }
 
-pub skip_open_members-loop-some-preserved : goal.skip_open_members-loop-some-preserved
-skip_open_members-loop-some-preserved g t c = record {
+pub skip_indefinite_members-loop-some-preserved : goal.skip_indefinite_members-loop-some-preserved
+skip_indefinite_members-loop-some-preserved g t c = record {
   reached =
-      more_some SkippedPairs c.loop-some.invariant.reached among.OpenPairs c.in-Some.some
-      (SkippedPairs (g.F.Front.view c.args.front.now c.args.reader.now).budget)
-      (λ xs ys zs h s. pairs_join c.in-Some.some (g.F.Front.view c.args.front.now
+      more_some SkippedPairs c.loop-some.invariant.reached among.IndefinitePairs c.in-Some.some
+      (SkippedPairs (g.F.Prefix.view c.args.prefix.now c.args.reader.now).budget)
+      (λ xs ys zs h s. pairs_join c.in-Some.some (g.F.Prefix.view c.args.prefix.now
       c.args.reader.now).budget xs ys zs (omega (arith, c.if-some-eq1.false)) h s)
       (omega (arith, c.if-some-eq0.false)) c.in-Some.ensures.does;
   stays = λ apart. keeps_then (c.loop-some.invariant.stays apart) (c.in-Some.ensures.stays apart);
@@ -573,33 +579,33 @@ pub go_some-returns-in-Some-Run-clause-stays : goal.go_some-returns-in-Some-Run-
 go_some-returns-in-Some-Run-clause-stays g t c =
     λ apart. keeps_alike _ _ (c.in-Some-Run.ensures.stays apart)
 
-pub go_some-returns-then-skip_behind-clause-spares :
-    goal.go_some-returns-then-skip_behind-clause-spares
-go_some-returns-then-skip_behind-clause-spares g t c = tt
+pub go_some-returns-then-skip_after-clause-spares :
+    goal.go_some-returns-then-skip_after-clause-spares
+go_some-returns-then-skip_after-clause-spares g t c = tt
 
-pub go_some-returns-then-skip_behind-clause-stays :
-    goal.go_some-returns-then-skip_behind-clause-stays
-go_some-returns-then-skip_behind-clause-stays g t c =
+pub go_some-returns-then-skip_after-clause-stays :
+    goal.go_some-returns-then-skip_after-clause-stays
+go_some-returns-then-skip_after-clause-stays g t c =
     λ apart. keeps_then (keeps_alike _ _ (c.in-Some-Head.ensures.stays apart))
-    (c.if-skip_behind.ensures.stays apart)
+    (c.if-skip_after.ensures.stays apart)
 
-pub go_some-returns-else-skip_behind-clause-spares :
-    goal.go_some-returns-else-skip_behind-clause-spares
-go_some-returns-else-skip_behind-clause-spares g t c = c.if-skip_behind.ensures.spares
+pub go_some-returns-else-skip_after-clause-spares :
+    goal.go_some-returns-else-skip_after-clause-spares
+go_some-returns-else-skip_after-clause-spares g t c = c.if-skip_after.ensures.spares
 
-pub go_some-returns-else-skip_behind-clause-counts :
-    goal.go_some-returns-else-skip_behind-clause-counts
-go_some-returns-else-skip_behind-clause-counts g t c = tt
+pub go_some-returns-else-skip_after-clause-counts :
+    goal.go_some-returns-else-skip_after-clause-counts
+go_some-returns-else-skip_after-clause-counts g t c = tt
 
-pub go_some-returns-else-skip_behind-clause-progress :
-    goal.go_some-returns-else-skip_behind-clause-progress
-go_some-returns-else-skip_behind-clause-progress g t c = tt
+pub go_some-returns-else-skip_after-clause-progress :
+    goal.go_some-returns-else-skip_after-clause-progress
+go_some-returns-else-skip_after-clause-progress g t c = tt
 
-pub go_some-returns-else-skip_behind-clause-stays :
-    goal.go_some-returns-else-skip_behind-clause-stays
-go_some-returns-else-skip_behind-clause-stays g t c =
+pub go_some-returns-else-skip_after-clause-stays :
+    goal.go_some-returns-else-skip_after-clause-stays
+go_some-returns-else-skip_after-clause-stays g t c =
     λ apart. keeps_then (keeps_alike _ _ (c.in-Some-Head.ensures.stays apart))
-    (c.if-skip_behind.ensures.stays apart)
+    (c.if-skip_after.ensures.stays apart)
 
 pub go_some-returns-in-Some-Head-default-Items-clause-spares :
     goal.go_some-returns-in-Some-Head-default-Items-clause-spares
@@ -658,48 +664,51 @@ pub go_some-returns-in-None-clause-stays : goal.go_some-returns-in-None-clause-s
 go_some-returns-in-None-clause-stays g t c =
     λ apart. keeps_alike _ _ (c.in-None.ensures.stays apart)
 
-pub skip_behind-returns-in-Nothing-clause-spares : goal.skip_behind-returns-in-Nothing-clause-spares
-skip_behind-returns-in-Nothing-clause-spares g t c = tt
+pub skip_after-returns-in-Nothing-clause-spares : goal.skip_after-returns-in-Nothing-clause-spares
+skip_after-returns-in-Nothing-clause-spares g t c = tt
 
-pub skip_behind-returns-in-Nothing-clause-stays : goal.skip_behind-returns-in-Nothing-clause-stays
-skip_behind-returns-in-Nothing-clause-stays g t c = λ _. keeps_alike _ _ refl
+pub skip_after-returns-in-Nothing-clause-stays : goal.skip_after-returns-in-Nothing-clause-stays
+skip_after-returns-in-Nothing-clause-stays g t c = λ _. keeps_alike _ _ refl
 
-pub skip_behind-returns-in-Bytes-clause-spares : goal.skip_behind-returns-in-Bytes-clause-spares
-skip_behind-returns-in-Bytes-clause-spares g t c = c.skip_content.ensures.spares
+pub skip_after-returns-in-Bytes-clause-spares : goal.skip_after-returns-in-Bytes-clause-spares
+skip_after-returns-in-Bytes-clause-spares g t c = c.skip_content.ensures.spares
 
-pub skip_behind-returns-in-Items-clause-spares : goal.skip_behind-returns-in-Items-clause-spares
-skip_behind-returns-in-Items-clause-spares g t c = c.skip_items.ensures.spares
+pub skip_after-returns-in-Items-clause-spares : goal.skip_after-returns-in-Items-clause-spares
+skip_after-returns-in-Items-clause-spares g t c = c.skip_items.ensures.spares
 
-pub skip_behind-returns-in-Items-clause-stays : goal.skip_behind-returns-in-Items-clause-stays
-skip_behind-returns-in-Items-clause-stays g t c = c.skip_items.ensures.stays
+pub skip_after-returns-in-Items-clause-stays : goal.skip_after-returns-in-Items-clause-stays
+skip_after-returns-in-Items-clause-stays g t c = c.skip_items.ensures.stays
 
-pub skip_behind-returns-in-Members-clause-spares : goal.skip_behind-returns-in-Members-clause-spares
-skip_behind-returns-in-Members-clause-spares g t c = c.skip_members.ensures.spares
+pub skip_after-returns-in-Members-clause-spares : goal.skip_after-returns-in-Members-clause-spares
+skip_after-returns-in-Members-clause-spares g t c = c.skip_members.ensures.spares
 
-pub skip_behind-returns-in-Members-clause-stays : goal.skip_behind-returns-in-Members-clause-stays
-skip_behind-returns-in-Members-clause-stays g t c = c.skip_members.ensures.stays
+pub skip_after-returns-in-Members-clause-stays : goal.skip_after-returns-in-Members-clause-stays
+skip_after-returns-in-Members-clause-stays g t c = c.skip_members.ensures.stays
 
-pub skip_behind-returns-in-Open-clause-spares : goal.skip_behind-returns-in-Open-clause-spares
-skip_behind-returns-in-Open-clause-spares g t c = c.skip_open.ensures.spares
+pub skip_after-returns-in-Indefinite-clause-spares :
+    goal.skip_after-returns-in-Indefinite-clause-spares
+skip_after-returns-in-Indefinite-clause-spares g t c = c.skip_indefinite.ensures.spares
 
-pub skip_behind-returns-in-Open-clause-stays : goal.skip_behind-returns-in-Open-clause-stays
-skip_behind-returns-in-Open-clause-stays g t c = c.skip_open.ensures.stays
+pub skip_after-returns-in-Indefinite-clause-stays :
+    goal.skip_after-returns-in-Indefinite-clause-stays
+skip_after-returns-in-Indefinite-clause-stays g t c = c.skip_indefinite.ensures.stays
 
-pub skip_behind-returns-in-OpenMembers-clause-spares :
-    goal.skip_behind-returns-in-OpenMembers-clause-spares
-skip_behind-returns-in-OpenMembers-clause-spares g t c = c.skip_open_members.ensures.spares
+pub skip_after-returns-in-IndefiniteMembers-clause-spares :
+    goal.skip_after-returns-in-IndefiniteMembers-clause-spares
+skip_after-returns-in-IndefiniteMembers-clause-spares g t c =
+    c.skip_indefinite_members.ensures.spares
 
-pub skip_behind-returns-in-OpenMembers-clause-stays :
-    goal.skip_behind-returns-in-OpenMembers-clause-stays
-skip_behind-returns-in-OpenMembers-clause-stays g t c = c.skip_open_members.ensures.stays
+pub skip_after-returns-in-IndefiniteMembers-clause-stays :
+    goal.skip_after-returns-in-IndefiniteMembers-clause-stays
+skip_after-returns-in-IndefiniteMembers-clause-stays g t c = c.skip_indefinite_members.ensures.stays
 
 pub skip_inside-returns-in-Some-clause-spares : goal.skip_inside-returns-in-Some-clause-spares
-skip_inside-returns-in-Some-clause-spares g t c = c.skip_behind.ensures.spares
+skip_inside-returns-in-Some-clause-spares g t c = c.skip_after.ensures.spares
 
 pub skip_inside-returns-in-Some-clause-stays : goal.skip_inside-returns-in-Some-clause-stays
 skip_inside-returns-in-Some-clause-stays g t c =
     λ apart. keeps_then (keeps_alike _ _ (c.skip_head.ensures.stays apart))
-    (c.skip_behind.ensures.stays apart)
+    (c.skip_after.ensures.stays apart)
 
 pub skip_inside-returns-in-None-clause-spares : goal.skip_inside-returns-in-None-clause-spares
 skip_inside-returns-in-None-clause-spares g t c = rw c.in-None.ensures at c.skip_head.ensures.spares
@@ -807,45 +816,49 @@ skip_next-returns-in-None-clause-spares g t c = c.in-None.ensures.spares
 pub skip_next-returns-in-None-clause-progress : goal.skip_next-returns-in-None-clause-progress
 skip_next-returns-in-None-clause-progress g t c = tt
 
-pub skip_open-returns-in-Some-eq0-clause-spares : goal.skip_open-returns-in-Some-eq0-clause-spares
-skip_open-returns-in-Some-eq0-clause-spares g t c = tt
+pub skip_indefinite-returns-in-Some-eq0-clause-spares :
+    goal.skip_indefinite-returns-in-Some-eq0-clause-spares
+skip_indefinite-returns-in-Some-eq0-clause-spares g t c = tt
 
-pub skip_open-returns-in-Some-eq0-clause-stays : goal.skip_open-returns-in-Some-eq0-clause-stays
-skip_open-returns-in-Some-eq0-clause-stays g t c =
+pub skip_indefinite-returns-in-Some-eq0-clause-stays :
+    goal.skip_indefinite-returns-in-Some-eq0-clause-stays
+skip_indefinite-returns-in-Some-eq0-clause-stays g t c =
     λ apart. keeps_then (c.loop.invariant.stays apart) (c.in-Some-eq0.ensures.stays apart)
 
-pub skip_open-returns-in-None-clause-spares : goal.skip_open-returns-in-None-clause-spares
-skip_open-returns-in-None-clause-spares g t c = c.in-None.ensures.spares
+pub skip_indefinite-returns-in-None-clause-spares :
+    goal.skip_indefinite-returns-in-None-clause-spares
+skip_indefinite-returns-in-None-clause-spares g t c = c.in-None.ensures.spares
 
-pub skip_open-returns-in-None-clause-stays : goal.skip_open-returns-in-None-clause-stays
-skip_open-returns-in-None-clause-stays g t c =
+pub skip_indefinite-returns-in-None-clause-stays : goal.skip_indefinite-returns-in-None-clause-stays
+skip_indefinite-returns-in-None-clause-stays g t c =
     λ apart. keeps_then (c.loop.invariant.stays apart) (c.in-None.ensures.stays apart)
 
-pub skip_open_members-returns-in-None-clause-spares :
-    goal.skip_open_members-returns-in-None-clause-spares
-skip_open_members-returns-in-None-clause-spares g t c = c.in-None.ensures.spares
+pub skip_indefinite_members-returns-in-None-clause-spares :
+    goal.skip_indefinite_members-returns-in-None-clause-spares
+skip_indefinite_members-returns-in-None-clause-spares g t c = c.in-None.ensures.spares
 
-pub skip_open_members-returns-in-None-clause-stays :
-    goal.skip_open_members-returns-in-None-clause-stays
-skip_open_members-returns-in-None-clause-stays g t c =
+pub skip_indefinite_members-returns-in-None-clause-stays :
+    goal.skip_indefinite_members-returns-in-None-clause-stays
+skip_indefinite_members-returns-in-None-clause-stays g t c =
     λ apart. keeps_then (c.loop-some.invariant.stays apart) (c.in-None.ensures.stays apart)
 
-pub skip_open_members-returns-then-some-eq0-clause-spares :
-    goal.skip_open_members-returns-then-some-eq0-clause-spares
-skip_open_members-returns-then-some-eq0-clause-spares g t c = tt
+pub skip_indefinite_members-returns-then-some-eq0-clause-spares :
+    goal.skip_indefinite_members-returns-then-some-eq0-clause-spares
+skip_indefinite_members-returns-then-some-eq0-clause-spares g t c = tt
 
-pub skip_open_members-returns-then-some-eq0-clause-stays :
-    goal.skip_open_members-returns-then-some-eq0-clause-stays
-skip_open_members-returns-then-some-eq0-clause-stays g t c =
+pub skip_indefinite_members-returns-then-some-eq0-clause-stays :
+    goal.skip_indefinite_members-returns-then-some-eq0-clause-stays
+skip_indefinite_members-returns-then-some-eq0-clause-stays g t c =
     λ apart. keeps_then (c.loop-some.invariant.stays apart) (c.in-Some.ensures.stays apart)
 
-pub skip_open_members-returns-then-not-skip_one-clause-spares :
-    goal.skip_open_members-returns-then-not-skip_one-clause-spares
-skip_open_members-returns-then-not-skip_one-clause-spares g t c = c.if-not-skip_one.ensures.spares
+pub skip_indefinite_members-returns-then-not-skip_one-clause-spares :
+    goal.skip_indefinite_members-returns-then-not-skip_one-clause-spares
+skip_indefinite_members-returns-then-not-skip_one-clause-spares g t c =
+    c.if-not-skip_one.ensures.spares
 
-pub skip_open_members-returns-then-not-skip_one-clause-stays :
-    goal.skip_open_members-returns-then-not-skip_one-clause-stays
-skip_open_members-returns-then-not-skip_one-clause-stays g t c =
+pub skip_indefinite_members-returns-then-not-skip_one-clause-stays :
+    goal.skip_indefinite_members-returns-then-not-skip_one-clause-stays
+skip_indefinite_members-returns-then-not-skip_one-clause-stays g t c =
     λ apart. keeps_then (c.loop-some.invariant.stays apart)
     (keeps_then (c.in-Some.ensures.stays apart) (c.if-not-skip_one.ensures.stays apart))
 

@@ -1,5 +1,5 @@
 use Rattle.std.proofs.Common.{refl, arith}
-use Rattle.cbor4ii_tree.proofs.skip_calls.Fronts.{keeps_alike, keeps_then}
+use Rattle.cbor4ii_tree.proofs.skip_calls.Prefixes.{keeps_alike, keeps_then}
 use Rattle.cbor4ii_tree.proofs.skip_calls.Deeper.{one_back}
 use Rattle.cbor4ii_tree.proofs.skip.give_back.Goals as goal
 

@@ -1,6 +1,7 @@
 use Rattle.std.proofs.Common.{◌≡◌, ℕ, zero, suc, ◌+◌, ◌-◌, ◌<◌, ◌≤◌, ◌/◌, ◌%◌, refl, sym, ap, ◌∙◌}
 use Rattle.std.proofs.Common.{subst, arith}
-use Rattle.cbor4ii_items.specs.Initial.{Info, wide, open_ended, reserved, info_of, int_by_info}
+use Rattle.cbor4ii_items.specs.Initial.{Info, wide, indefinite_ended, reserved, info_of}
+use Rattle.cbor4ii_items.specs.Initial.{int_by_info}
 use Rattle.cbor4ii_items.specs.Initial.{string_by_info, Sign, unsigned, negative, Kind, byte_string}
 use Rattle.cbor4ii_items.specs.Initial.{text_string, simple_by_info, by_major, initial}
 use Rattle.cbor4ii_tree.specs.Skipping.{additional_of, start_of}
@@ -15,13 +16,13 @@ by_parts b = refl
 int_starts : (s : Sign) (i : Info) (count : ℕ) → Wide count ≡ additional_of i
     → Bytes count ≡ start_of (int_by_info s i)
 int_starts s (wide w) count e = cc
-int_starts s open_ended count e = cc
+int_starts s indefinite_ended count e = cc
 int_starts s reserved count e = cc
 
 string_starts : (k : Kind) (i : Info) (count : ℕ) → Wide count ≡ additional_of i
     → Content ≡ start_of (string_by_info k i)
 string_starts k (wide w) count e = refl
-string_starts k open_ended count e = cc
+string_starts k indefinite_ended count e = cc
 string_starts k reserved count e = cc
 
 low_starts : (major i count : ℕ) → major < 2 → Wide count ≡ additional_of (info_of i)

@@ -7,8 +7,8 @@ use Rattle.cbor4ii_tree.proofs.unseen.number.Given as goal
 abbrev pub invariant-loop-i : goal.invariant-loop-i
 invariant-loop-i g l = record {
   read : Reaches (number_on l.name l.bytes l.bytes 0)
-      (number_on l.name l.bytes (l.bytes - l.i) l.value) (g.F.Front.view l.fn.front l.fn.reader)
-      (g.F.Front.view l.front l.reader);
+      (number_on l.name l.bytes (l.bytes - l.i) l.value) (g.F.Prefix.view l.fn.prefix l.fn.reader)
+      (g.F.Prefix.view l.prefix l.reader);
   small : l.value < 256 ^ l.i;
-  stays : IsTrue g.F.Front.apart → g.S.Source.view l.reader ≡ g.S.Source.view l.fn.reader;
+  stays : IsTrue g.F.Prefix.apart → g.S.Source.view l.reader ≡ g.S.Source.view l.fn.reader;
 }

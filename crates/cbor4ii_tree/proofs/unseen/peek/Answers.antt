@@ -1,4 +1,4 @@
-use Rattle.cbor4ii_tree.proofs.skip_calls.Fronts.{offers_end, offers_byte}
+use Rattle.cbor4ii_tree.proofs.skip_calls.Prefixes.{offers_end, offers_byte}
 use Rattle.cbor4ii_tree.proofs.unseen.peek.Goals as goal
 
 pub returns-in-Ok-None-clause-runs : goal.returns-in-Ok-None-clause-runs

@@ -1,6 +1,6 @@
 use Rattle.std.proofs.Common.{arith, codes, refl, ◌∙◌}
 use Rattle.std.proofs.lemmas.Result.{err_from_is_err_and}
-use Rattle.cbor4ii_tree.specs.Stops.{Missing}
+use Rattle.cbor4ii_tree.specs.Rejections.{Missing}
 use Rattle.cbor4ii_tree.specs.HeadParts.{DropsBytes, DropsSome}
 use Rattle.cbor4ii_tree.proofs.skip_calls.Doing.{reached_start, reached_by, reached_then}
 use Rattle.cbor4ii_tree.proofs.skip_calls.Doing.{reached_as, does_ok, does_err}

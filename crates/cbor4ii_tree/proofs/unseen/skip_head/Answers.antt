@@ -1,17 +1,17 @@
 use Rattle.std.proofs.Common.{refl, arith, sym, ◌∙◌}
 use Rattle.std.proofs.lemmas.Result.{err_from_is_err_and}
 use Rattle.cbor4ii_items.specs.Head.{byte_count}
-use Rattle.cbor4ii_items.specs.Refusal.{mismatch}
+use Rattle.cbor4ii_items.specs.InputError.{mismatch}
 use Rattle.cbor4ii_tree.specs.HeadParts.{ArgumentAt, DropsBytes}
-use Rattle.cbor4ii_tree.specs.Stops.{Missing, MissingAll}
-use Rattle.cbor4ii_tree.specs.Refusal.{ignored_any, tag_name}
-use Rattle.cbor4ii_tree.specs.declared.skip.Behind.TheVariants as behind
+use Rattle.cbor4ii_tree.specs.Rejections.{Missing, MissingAll}
+use Rattle.cbor4ii_tree.specs.InputError.{ignored_any, tag_name}
+use Rattle.cbor4ii_tree.specs.declared.skip.After.TheVariants as trailing
 use Rattle.cbor4ii_tree.specs.declared.skip.Start.TheVariants as start
 use Rattle.cbor4ii_tree.proofs.skip_calls.Doing.{reached_first}
 use Rattle.cbor4ii_tree.proofs.skip_calls.Leading.{leads_bytes, bytes_cut, content_info, items_info}
-use Rattle.cbor4ii_tree.proofs.skip_calls.Leading.{members_info, tag_info, open_leads}
-use Rattle.cbor4ii_tree.proofs.skip_calls.Leading.{open_members_leads, is_taken, no_tag}
-use Rattle.cbor4ii_tree.proofs.skip_calls.Heads.{first_err, first_ok, first_alone, first_refused}
+use Rattle.cbor4ii_tree.proofs.skip_calls.Leading.{members_info, tag_info, indefinite_leads}
+use Rattle.cbor4ii_tree.proofs.skip_calls.Leading.{indefinite_members_leads, is_taken, no_tag}
+use Rattle.cbor4ii_tree.proofs.skip_calls.Heads.{first_err, first_ok, first_alone, first_rejected}
 use Rattle.cbor4ii_tree.proofs.skip_calls.Heads.{takes}
 use Rattle.cbor4ii_tree.proofs.unseen.skip_head.Goals as goal
 
@@ -21,35 +21,36 @@ returns-in_err-skip_bytes-in-Bytes-clause-does g c =
     let p = err_from_is_err_and c.from_residual-in_err-skip_bytes-in-Bytes.result
     c.from_residual-in_err-skip_bytes-in-Bytes.ensures.1 in
     rw (p.1, p.2)
-    (first_err (g.F.Front.view c.args.front.now c.args.reader.now).budget (reached_first
+    (first_err (g.F.Prefix.view c.args.prefix.now c.args.reader.now).budget (reached_first
     ignored_any 1 c.in_ok-first.first c.in_ok-first.ensures.runs c.in_ok-first.ensures.byte
     (c.take_first.ensures.takes (takes (start.Bytes c.in-Bytes.count) c.in-Bytes.is tt)))
     (λ xs _ ys. DropsBytes c.in-Bytes.count xs ys) (Missing ignored_any c.in-Bytes.count)
-    (λ bs e rest h. bytes_cut (g.F.Front.view c.args.front.now c.args.reader.now).budget
+    (λ bs e rest h. bytes_cut (g.F.Prefix.view c.args.prefix.now c.args.reader.now).budget
     c.in_ok-first.first c.in-Bytes.count bs e rest (sym c.start_of-start.ensures
     ∙ c.in-Bytes.is) h) c.in_err-skip_bytes-in-Bytes.ensures.does)
 
 pub returns-in_ok-skip_bytes-in-Bytes-clause-does :
     goal.returns-in_ok-skip_bytes-in-Bytes-clause-does
 returns-in_ok-skip_bytes-in-Bytes-clause-does g c =
-    first_ok (g.F.Front.view c.args.front.now c.args.reader.now).budget (reached_first ignored_any 1
+    first_ok (g.F.Prefix.view c.args.prefix.now c.args.reader.now).budget
+    (reached_first ignored_any 1
     c.in_ok-first.first c.in_ok-first.ensures.runs c.in_ok-first.ensures.byte
     (c.take_first.ensures.takes (takes (start.Bytes c.in-Bytes.count) c.in-Bytes.is tt)))
     (λ xs _ ys. DropsBytes c.in-Bytes.count xs ys)
-    (Missing ignored_any c.in-Bytes.count) behind.Nothing
-    (λ bs ys h. leads_bytes (g.F.Front.view c.args.front.now c.args.reader.now).budget
+    (Missing ignored_any c.in-Bytes.count) trailing.Nothing
+    (λ bs ys h. leads_bytes (g.F.Prefix.view c.args.prefix.now c.args.reader.now).budget
     c.in_ok-first.first c.in-Bytes.count bs ys c.in_ok-first.ensures.byte (sym
     c.start_of-start.ensures ∙ c.in-Bytes.is) h) c.in_ok-skip_bytes-in-Bytes.ensures.does
 
 pub returns-in_err-argument-in-Items-clause-does : goal.returns-in_err-argument-in-Items-clause-does
 returns-in_err-argument-in-Items-clause-does g c =
     let i =
-    items_info (g.F.Front.view c.args.front.now c.args.reader.now).budget c.in_ok-first.first
+    items_info (g.F.Prefix.view c.args.prefix.now c.args.reader.now).budget c.in_ok-first.first
     c.in_ok-first.ensures.byte (sym c.start_of-start.ensures ∙ c.in-Items.is) in
     let p = err_from_is_err_and c.from_residual-in_err-argument-in-Items.result
     c.from_residual-in_err-argument-in-Items.ensures.1 in
     rw (p.1, p.2)
-    (first_err (g.F.Front.view c.args.front.now c.args.reader.now).budget (reached_first
+    (first_err (g.F.Prefix.view c.args.prefix.now c.args.reader.now).budget (reached_first
     ignored_any 1 c.in_ok-first.first c.in_ok-first.ensures.runs c.in_ok-first.ensures.byte
     (c.take_first.ensures.takes (takes start.Items c.in-Items.is tt)))
     (ArgumentAt i.0 c.in_ok-first.first) (MissingAll ignored_any (byte_count i.0)) i.2
@@ -58,20 +59,21 @@ returns-in_err-argument-in-Items-clause-does g c =
 pub returns-in_ok-argument-in-Items-clause-does : goal.returns-in_ok-argument-in-Items-clause-does
 returns-in_ok-argument-in-Items-clause-does g c =
     let i =
-    items_info (g.F.Front.view c.args.front.now c.args.reader.now).budget c.in_ok-first.first
+    items_info (g.F.Prefix.view c.args.prefix.now c.args.reader.now).budget c.in_ok-first.first
     c.in_ok-first.ensures.byte (sym c.start_of-start.ensures ∙ c.in-Items.is) in
-    first_ok (g.F.Front.view c.args.front.now c.args.reader.now).budget (reached_first ignored_any 1
+    first_ok (g.F.Prefix.view c.args.prefix.now c.args.reader.now).budget
+    (reached_first ignored_any 1
     c.in_ok-first.first c.in_ok-first.ensures.runs c.in_ok-first.ensures.byte
     (c.take_first.ensures.takes (takes start.Items c.in-Items.is tt)))
     (ArgumentAt i.0 c.in_ok-first.first) (MissingAll ignored_any (byte_count i.0))
-    (behind.Items c.in_ok-argument-in-Items.field-0) (λ bs ys h. i.3 bs ys _ h)
+    (trailing.Items c.in_ok-argument-in-Items.field-0) (λ bs ys h. i.3 bs ys _ h)
     (c.in_ok-argument-in-Items.ensures.does i.0 i.1)
 
 pub returns-in_ok-argument-in-Items-clause-progress :
     goal.returns-in_ok-argument-in-Items-clause-progress
 returns-in_ok-argument-in-Items-clause-progress g c =
     let i =
-    items_info (g.F.Front.view c.args.front.now c.args.reader.now).budget c.in_ok-first.first
+    items_info (g.F.Prefix.view c.args.prefix.now c.args.reader.now).budget c.in_ok-first.first
     c.in_ok-first.ensures.byte (sym c.start_of-start.ensures ∙ c.in-Items.is) in
     omega (
       arith,
@@ -84,12 +86,12 @@ pub returns-in_err-argument-in-Members-clause-does :
     goal.returns-in_err-argument-in-Members-clause-does
 returns-in_err-argument-in-Members-clause-does g c =
     let i =
-    members_info (g.F.Front.view c.args.front.now c.args.reader.now).budget c.in_ok-first.first
+    members_info (g.F.Prefix.view c.args.prefix.now c.args.reader.now).budget c.in_ok-first.first
     c.in_ok-first.ensures.byte (sym c.start_of-start.ensures ∙ c.in-Members.is) in
     let p = err_from_is_err_and c.from_residual-in_err-argument-in-Members.result
     c.from_residual-in_err-argument-in-Members.ensures.1 in
     rw (p.1, p.2)
-    (first_err (g.F.Front.view c.args.front.now c.args.reader.now).budget (reached_first
+    (first_err (g.F.Prefix.view c.args.prefix.now c.args.reader.now).budget (reached_first
     ignored_any 1 c.in_ok-first.first c.in_ok-first.ensures.runs c.in_ok-first.ensures.byte
     (c.take_first.ensures.takes (takes start.Members c.in-Members.is tt)))
     (ArgumentAt i.0 c.in_ok-first.first) (MissingAll ignored_any (byte_count i.0)) i.2
@@ -99,20 +101,21 @@ pub returns-in_ok-argument-in-Members-clause-does :
     goal.returns-in_ok-argument-in-Members-clause-does
 returns-in_ok-argument-in-Members-clause-does g c =
     let i =
-    members_info (g.F.Front.view c.args.front.now c.args.reader.now).budget c.in_ok-first.first
+    members_info (g.F.Prefix.view c.args.prefix.now c.args.reader.now).budget c.in_ok-first.first
     c.in_ok-first.ensures.byte (sym c.start_of-start.ensures ∙ c.in-Members.is) in
-    first_ok (g.F.Front.view c.args.front.now c.args.reader.now).budget (reached_first ignored_any 1
+    first_ok (g.F.Prefix.view c.args.prefix.now c.args.reader.now).budget
+    (reached_first ignored_any 1
     c.in_ok-first.first c.in_ok-first.ensures.runs c.in_ok-first.ensures.byte
     (c.take_first.ensures.takes (takes start.Members c.in-Members.is tt)))
     (ArgumentAt i.0 c.in_ok-first.first) (MissingAll ignored_any (byte_count i.0))
-    (behind.Members c.in_ok-argument-in-Members.field-0) (λ bs ys h. i.3 bs ys _ h)
+    (trailing.Members c.in_ok-argument-in-Members.field-0) (λ bs ys h. i.3 bs ys _ h)
     (c.in_ok-argument-in-Members.ensures.does i.0 i.1)
 
 pub returns-in_ok-argument-in-Members-clause-progress :
     goal.returns-in_ok-argument-in-Members-clause-progress
 returns-in_ok-argument-in-Members-clause-progress g c =
     let i =
-    members_info (g.F.Front.view c.args.front.now c.args.reader.now).budget c.in_ok-first.first
+    members_info (g.F.Prefix.view c.args.prefix.now c.args.reader.now).budget c.in_ok-first.first
     c.in_ok-first.ensures.byte (sym c.start_of-start.ensures ∙ c.in-Members.is) in
     omega (
       arith,
@@ -123,12 +126,13 @@ returns-in_ok-argument-in-Members-clause-progress g c =
 
 pub returns-in_err-argument-in-Tag-clause-does : goal.returns-in_err-argument-in-Tag-clause-does
 returns-in_err-argument-in-Tag-clause-does g c =
-    let i = tag_info (g.F.Front.view c.args.front.now c.args.reader.now).budget c.in_ok-first.first
+    let i = tag_info (g.F.Prefix.view c.args.prefix.now c.args.reader.now).budget
+    c.in_ok-first.first
     c.in_ok-first.ensures.byte (sym c.start_of-start.ensures ∙ c.in-Tag.is) in
     let p = err_from_is_err_and c.from_residual-in_err-argument-in-Tag.result
     c.from_residual-in_err-argument-in-Tag.ensures.1 in
     rw (p.1, p.2)
-    (first_err (g.F.Front.view c.args.front.now c.args.reader.now).budget (reached_first
+    (first_err (g.F.Prefix.view c.args.prefix.now c.args.reader.now).budget (reached_first
     ignored_any 1 c.in_ok-first.first c.in_ok-first.ensures.runs c.in_ok-first.ensures.byte
     (c.take_first.ensures.takes (takes start.Tag c.in-Tag.is tt)))
     (ArgumentAt i.0 c.in_ok-first.first) (MissingAll tag_name (byte_count i.0)) i.2
@@ -136,18 +140,21 @@ returns-in_err-argument-in-Tag-clause-does g c =
 
 pub returns-in_ok-argument-in-Tag-clause-does : goal.returns-in_ok-argument-in-Tag-clause-does
 returns-in_ok-argument-in-Tag-clause-does g c =
-    let i = tag_info (g.F.Front.view c.args.front.now c.args.reader.now).budget c.in_ok-first.first
+    let i = tag_info (g.F.Prefix.view c.args.prefix.now c.args.reader.now).budget
+    c.in_ok-first.first
     c.in_ok-first.ensures.byte (sym c.start_of-start.ensures ∙ c.in-Tag.is) in
-    first_ok (g.F.Front.view c.args.front.now c.args.reader.now).budget (reached_first ignored_any 1
+    first_ok (g.F.Prefix.view c.args.prefix.now c.args.reader.now).budget
+    (reached_first ignored_any 1
     c.in_ok-first.first c.in_ok-first.ensures.runs c.in_ok-first.ensures.byte
     (c.take_first.ensures.takes (takes start.Tag c.in-Tag.is tt)))
-    (ArgumentAt i.0 c.in_ok-first.first) (MissingAll tag_name (byte_count i.0)) (behind.Items 1)
+    (ArgumentAt i.0 c.in_ok-first.first) (MissingAll tag_name (byte_count i.0)) (trailing.Items 1)
     (λ bs ys h. i.3 bs ys _ h) (c.in_ok-argument-in-Tag.ensures.does i.0 i.1)
 
 pub returns-in_ok-argument-in-Tag-clause-progress :
     goal.returns-in_ok-argument-in-Tag-clause-progress
 returns-in_ok-argument-in-Tag-clause-progress g c =
-    let i = tag_info (g.F.Front.view c.args.front.now c.args.reader.now).budget c.in_ok-first.first
+    let i = tag_info (g.F.Prefix.view c.args.prefix.now c.args.reader.now).budget
+    c.in_ok-first.first
     c.in_ok-first.ensures.byte (sym c.start_of-start.ensures ∙ c.in-Tag.is) in
     omega (
       arith,
@@ -160,12 +167,12 @@ pub returns-in_err-argument-in-Content-clause-does :
     goal.returns-in_err-argument-in-Content-clause-does
 returns-in_err-argument-in-Content-clause-does g c =
     let i =
-    content_info (g.F.Front.view c.args.front.now c.args.reader.now).budget c.in_ok-first.first
+    content_info (g.F.Prefix.view c.args.prefix.now c.args.reader.now).budget c.in_ok-first.first
     c.in_ok-first.ensures.byte (sym c.start_of-start.ensures ∙ c.in-Content.is) in
     let p = err_from_is_err_and c.from_residual-in_err-argument-in-Content.result
     c.from_residual-in_err-argument-in-Content.ensures.1 in
     rw (p.1, p.2)
-    (first_err (g.F.Front.view c.args.front.now c.args.reader.now).budget (reached_first
+    (first_err (g.F.Prefix.view c.args.prefix.now c.args.reader.now).budget (reached_first
     ignored_any 1 c.in_ok-first.first c.in_ok-first.ensures.runs c.in_ok-first.ensures.byte
     (c.take_first.ensures.takes (takes start.Content c.in-Content.is tt)))
     (ArgumentAt i.0 c.in_ok-first.first) (MissingAll ignored_any (byte_count i.0)) i.2
@@ -175,20 +182,21 @@ pub returns-in_ok-argument-in-Content-clause-does :
     goal.returns-in_ok-argument-in-Content-clause-does
 returns-in_ok-argument-in-Content-clause-does g c =
     let i =
-    content_info (g.F.Front.view c.args.front.now c.args.reader.now).budget c.in_ok-first.first
+    content_info (g.F.Prefix.view c.args.prefix.now c.args.reader.now).budget c.in_ok-first.first
     c.in_ok-first.ensures.byte (sym c.start_of-start.ensures ∙ c.in-Content.is) in
-    first_ok (g.F.Front.view c.args.front.now c.args.reader.now).budget (reached_first ignored_any 1
+    first_ok (g.F.Prefix.view c.args.prefix.now c.args.reader.now).budget
+    (reached_first ignored_any 1
     c.in_ok-first.first c.in_ok-first.ensures.runs c.in_ok-first.ensures.byte
     (c.take_first.ensures.takes (takes start.Content c.in-Content.is tt)))
     (ArgumentAt i.0 c.in_ok-first.first) (MissingAll ignored_any (byte_count i.0))
-    (behind.Bytes c.in_ok-argument-in-Content.field-0) (λ bs ys h. i.3 bs ys _ h)
+    (trailing.Bytes c.in_ok-argument-in-Content.field-0) (λ bs ys h. i.3 bs ys _ h)
     (c.in_ok-argument-in-Content.ensures.does i.0 i.1)
 
 pub returns-in_ok-argument-in-Content-clause-progress :
     goal.returns-in_ok-argument-in-Content-clause-progress
 returns-in_ok-argument-in-Content-clause-progress g c =
     let i =
-    content_info (g.F.Front.view c.args.front.now c.args.reader.now).budget c.in_ok-first.first
+    content_info (g.F.Prefix.view c.args.prefix.now c.args.reader.now).budget c.in_ok-first.first
     c.in_ok-first.ensures.byte (sym c.start_of-start.ensures ∙ c.in-Content.is) in
     omega (
       arith,
@@ -197,54 +205,55 @@ returns-in_ok-argument-in-Content-clause-progress g c =
       (c.in_ok-argument-in-Content.ensures.does i.0 i.1).moves.by.bound,
     )
 
-pub returns-in-Open-clause-does : goal.returns-in-Open-clause-does
-returns-in-Open-clause-does g c =
-    first_alone (g.F.Front.view c.args.front.now c.args.reader.now).budget (reached_first
+pub returns-in-Indefinite-clause-does : goal.returns-in-Indefinite-clause-does
+returns-in-Indefinite-clause-does g c =
+    first_alone (g.F.Prefix.view c.args.prefix.now c.args.reader.now).budget (reached_first
     ignored_any 1 c.in_ok-first.first c.in_ok-first.ensures.runs c.in_ok-first.ensures.byte
-    (c.take_first.ensures.takes (takes start.Open c.in-Open.is tt))) behind.Open
-    (open_leads (g.F.Front.view c.args.front.now c.args.reader.now).budget c.in_ok-first.first
-    c.in_ok-first.ensures.byte (sym c.start_of-start.ensures ∙ c.in-Open.is))
+    (c.take_first.ensures.takes (takes start.Indefinite c.in-Indefinite.is tt))) trailing.Indefinite
+    (indefinite_leads (g.F.Prefix.view c.args.prefix.now c.args.reader.now).budget
+    c.in_ok-first.first
+    c.in_ok-first.ensures.byte (sym c.start_of-start.ensures ∙ c.in-Indefinite.is))
 
-pub returns-in-Open-clause-spares : goal.returns-in-Open-clause-spares
-returns-in-Open-clause-spares g c = tt
+pub returns-in-Indefinite-clause-spares : goal.returns-in-Indefinite-clause-spares
+returns-in-Indefinite-clause-spares g c = tt
 
-pub returns-in-Open-clause-progress : goal.returns-in-Open-clause-progress
-returns-in-Open-clause-progress g c =
+pub returns-in-Indefinite-clause-progress : goal.returns-in-Indefinite-clause-progress
+returns-in-Indefinite-clause-progress g c =
     omega (
       arith,
       c.in_ok-first.ensures.runs.moves.by.bound,
-      (c.take_first.ensures.takes (takes start.Open c.in-Open.is tt)).bound,
+      (c.take_first.ensures.takes (takes start.Indefinite c.in-Indefinite.is tt)).bound,
     )
 
-pub returns-in-Open-clause-stays : goal.returns-in-Open-clause-stays
-returns-in-Open-clause-stays g c =
+pub returns-in-Indefinite-clause-stays : goal.returns-in-Indefinite-clause-stays
+returns-in-Indefinite-clause-stays g c =
     λ apart. c.take_first.ensures.stays apart ∙ c.in_ok-first.ensures.stays apart
 
-pub returns-in-OpenMembers-clause-does : goal.returns-in-OpenMembers-clause-does
-returns-in-OpenMembers-clause-does g c =
-    first_alone (g.F.Front.view c.args.front.now c.args.reader.now).budget (reached_first
+pub returns-in-IndefiniteMembers-clause-does : goal.returns-in-IndefiniteMembers-clause-does
+returns-in-IndefiniteMembers-clause-does g c =
+    first_alone (g.F.Prefix.view c.args.prefix.now c.args.reader.now).budget (reached_first
     ignored_any 1 c.in_ok-first.first c.in_ok-first.ensures.runs c.in_ok-first.ensures.byte
-    (c.take_first.ensures.takes (takes start.OpenMembers c.in-OpenMembers.is tt)))
-    behind.OpenMembers (open_members_leads
-    (g.F.Front.view c.args.front.now c.args.reader.now).budget c.in_ok-first.first
-    c.in_ok-first.ensures.byte (sym c.start_of-start.ensures ∙ c.in-OpenMembers.is))
+    (c.take_first.ensures.takes (takes start.IndefiniteMembers c.in-IndefiniteMembers.is tt)))
+    trailing.IndefiniteMembers (indefinite_members_leads
+    (g.F.Prefix.view c.args.prefix.now c.args.reader.now).budget c.in_ok-first.first
+    c.in_ok-first.ensures.byte (sym c.start_of-start.ensures ∙ c.in-IndefiniteMembers.is))
 
 pub returns-in-Taken-clause-does : goal.returns-in-Taken-clause-does
 returns-in-Taken-clause-does g c =
-    first_refused (g.F.Front.view c.args.front.now c.args.reader.now).budget (reached_first
+    first_rejected (g.F.Prefix.view c.args.prefix.now c.args.reader.now).budget (reached_first
     ignored_any 1 c.in_ok-first.first c.in_ok-first.ensures.runs c.in_ok-first.ensures.byte
     (c.take_first.ensures.takes (takes start.Taken c.in-Taken.is tt)))
     (mismatch ignored_any c.in_ok-first.first) refl refl refl
-    (λ bs. is_taken (g.F.Front.view c.args.front.now c.args.reader.now).budget
+    (λ bs. is_taken (g.F.Prefix.view c.args.prefix.now c.args.reader.now).budget
     c.in_ok-first.first bs (sym c.start_of-start.ensures ∙ c.in-Taken.is))
 
 pub returns-in-NoTag-clause-does : goal.returns-in-NoTag-clause-does
 returns-in-NoTag-clause-does g c =
-    first_refused (g.F.Front.view c.args.front.now c.args.reader.now).budget (reached_first
+    first_rejected (g.F.Prefix.view c.args.prefix.now c.args.reader.now).budget (reached_first
     ignored_any 1 c.in_ok-first.first c.in_ok-first.ensures.runs c.in_ok-first.ensures.byte
     (c.take_first.ensures.takes (takes start.NoTag c.in-NoTag.is tt)))
     (mismatch tag_name c.in_ok-first.first) refl refl refl
-    (λ bs. no_tag (g.F.Front.view c.args.front.now c.args.reader.now).budget c.in_ok-first.first
+    (λ bs. no_tag (g.F.Prefix.view c.args.prefix.now c.args.reader.now).budget c.in_ok-first.first
     bs (sym c.start_of-start.ensures ∙ c.in-NoTag.is))
 
 pub returns-in_err-argument-in-Content-clause-spares :
@@ -362,11 +371,11 @@ pub returns-in-Unsupported-clause-stays : goal.returns-in-Unsupported-clause-sta
 returns-in-Unsupported-clause-stays g c =
     λ apart. c.take_first.ensures.stays apart ∙ c.in_ok-first.ensures.stays apart
 
-pub returns-in-OpenMembers-clause-spares : goal.returns-in-OpenMembers-clause-spares
-returns-in-OpenMembers-clause-spares g c = tt
+pub returns-in-IndefiniteMembers-clause-spares : goal.returns-in-IndefiniteMembers-clause-spares
+returns-in-IndefiniteMembers-clause-spares g c = tt
 
-pub returns-in-OpenMembers-clause-stays : goal.returns-in-OpenMembers-clause-stays
-returns-in-OpenMembers-clause-stays g c =
+pub returns-in-IndefiniteMembers-clause-stays : goal.returns-in-IndefiniteMembers-clause-stays
+returns-in-IndefiniteMembers-clause-stays g c =
     λ apart. c.take_first.ensures.stays apart ∙ c.in_ok-first.ensures.stays apart
 
 pub returns-in_err-skip_bytes-in-Bytes-clause-spares :

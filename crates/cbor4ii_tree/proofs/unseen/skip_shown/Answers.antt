@@ -1,4 +1,4 @@
-use Rattle.cbor4ii_tree.proofs.skip_calls.Fronts.{offers_none, offers_some}
+use Rattle.cbor4ii_tree.proofs.skip_calls.Prefixes.{offers_none, offers_some}
 use Rattle.cbor4ii_tree.proofs.unseen.skip_shown.Goals as goal
 
 pub returns-in-Ok-eq0-clause-does : goal.returns-in-Ok-eq0-clause-does

@@ -1,5 +1,5 @@
 use Rattle.cbor4ii_items.specs.Laws.Running.{runs_byte}
-use Rattle.cbor4ii_items.specs.Laws.Breaks.{runs_break}
+use Rattle.cbor4ii_items.specs.Laws.ReaderFails.{runs_break}
 use Rattle.cbor4ii_tree.proofs.unseen.take_break.Goals as goal
 
 pub returns-then-byte-clause-runs : goal.returns-then-byte-clause-runs

@@ -11,10 +11,10 @@ returns g c = record {
   memory = search rules;
   sound =
       record {
-        at = λ xs told.
-            record { count = 0; cost = 0; read = (refl, refl); fits = fits_zero _; left = told };
+        at = λ xs known.
+            record { count = 0; cost = 0; read = (refl, refl); fits = fits_zero _; left = known };
       };
   complete = search rules;
-  stops = search rules;
+  rejects = search rules;
   begins = search rules;
 }

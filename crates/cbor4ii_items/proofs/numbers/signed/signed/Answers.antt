@@ -1,12 +1,12 @@
 use Rattle.std.proofs.Common.{rules, [], arith}
 use Rattle.cbor4ii_items.proofs.WholeHeads.{found_some, found_none, runs_stayed, progress_stayed}
 use Rattle.cbor4ii_items.proofs.WholeHeads.{runs_broke}
-use Rattle.cbor4ii_items.proofs.SignedRuns.{plus_read, plus_refused, positive_is}
+use Rattle.cbor4ii_items.proofs.SignedRuns.{plus_read, plus_rejected, positive_is}
 use Rattle.cbor4ii_items.proofs.numbers.signed.signed.Goals as goal
 
 pub returns-then-argument-limit-clause-runs : goal.returns-then-argument-limit-clause-runs
 returns-then-argument-limit-clause-runs g c =
-    plus_refused _ _ _ _ _ c.if-argument-limit.true
+    plus_rejected _ _ _ _ _ c.if-argument-limit.true
     (found_some _ _ c.in-Ok-Some.field-0-is (c.in-Ok-Some.ensures.runs c.args.plus.now))
 
 pub returns-else-argument-limit-clause-runs : goal.returns-else-argument-limit-clause-runs

@@ -7,17 +7,17 @@ use Rattle.cbor4ii_items.proofs.option.OptionDecode.decode.Goals as goal
 pub returns-in_err-first : goal.returns-in_err-first
 returns-in_err-first g c =
     let p = err_from_is_err_and c.from_residual.result c.from_residual.ensures.1 in
-    rw (p.1, p.2) (option_end g.T.Spelled.spelling c.in_err-first.ensures.runs
+    rw (p.1, p.2) (option_end g.T.Decodable.format c.in_err-first.ensures.runs
     c.in_err-first.ensures.memory)
 
 pub returns-in-Ok : goal.returns-in-Ok
 returns-in-Ok g c =
-    option_some g.T.Spelled.spelling c.in_ok-first.ensures.runs c.if-first.false
+    option_some g.T.Decodable.format c.in_ok-first.ensures.runs c.if-first.false
     c.if-first-2.false c.in-Ok.ensures
 
 pub returns-in-Err : goal.returns-in-Err
 returns-in-Err g c =
-    option_err g.T.Spelled.spelling c.in_ok-first.ensures.runs c.if-first.false
+    option_err g.T.Decodable.format c.in_ok-first.ensures.runs c.if-first.false
     c.if-first-2.false c.in-Err.ensures
 
 pub returns-then-first : goal.returns-then-first
@@ -30,6 +30,6 @@ returns-then-first g c = record {
   memory = tt;
   sound = search rules;
   complete = λ exact. tt;
-  stops = λ exact. tt;
+  rejects = λ exact. tt;
   begins = tt;
 }

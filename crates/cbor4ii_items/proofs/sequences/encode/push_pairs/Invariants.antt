@@ -3,7 +3,7 @@ use Rattle.cbor4ii_rw.specs.Writer.{Appends}
 use Rattle.cbor4ii_items.specs.SequenceBytes.{items_bytes, pair_bytes}
 use Rattle.cbor4ii_items.proofs.sequences.encode.push_pairs.Given as goal
 
--- so many were written, one behind another
+-- so many were written, one after another
 abbrev pub invariant-loop-pair : goal.invariant-loop-pair
 invariant-loop-pair g l = record {
   appends : Appends

@@ -1,8 +1,8 @@
 use Rattle.std.proofs.Common.{Ok, Err}
 use Rattle.std.proofs.lemmas.Result.{err_from_is_err_and}
-use Rattle.cbor4ii_items.specs.Laws.Calls.{behind, of_exact, exactly}
+use Rattle.cbor4ii_items.specs.Laws.Calls.{trailing, of_exact, exactly}
 use Rattle.cbor4ii_items.specs.Laws.SequenceHeads.{head_err, counts, opens}
-use Rattle.cbor4ii_items.specs.Sequences.{count_spelling, open_spelling, inside_spelling}
+use Rattle.cbor4ii_items.specs.Sequences.{count_format, indefinite_format, inside_format}
 use Rattle.cbor4ii_items.specs.Sequences.{in_vector}
 use Rattle.cbor4ii_items.proofs.Leaves.{decodes_of_runs}
 use Rattle.cbor4ii_items.proofs.Lengths.{length_leaf}
@@ -18,16 +18,16 @@ returns-in_err-count g c =
 pub returns-in-Some : goal.returns-in-Some
 returns-in-Some g c =
     let s = g.Q.Sequence.part in
-    exactly (behind (count_spelling s _) (inside_spelling c.args.name.now c.args.major s)
-    c.take_counted.result (counts in_vector c.args.name.now c.args.major s c.requires c.in-Some.is
+    exactly (trailing (count_format s _) (inside_format c.args.name.now c.args.major s)
+    c.take_definite.result (counts in_vector c.args.name.now c.args.major s c.requires c.in-Some.is
     (decodes_of_runs (length_leaf c.args.name.now _ c.requires) (Ok _) c.in_ok-count.ensures.runs
-    tt c.in_ok-count.ensures.progress)) (of_exact c.take_counted.ensures))
+    tt c.in_ok-count.ensures.progress)) (of_exact c.take_definite.ensures))
 
 pub returns-in-None : goal.returns-in-None
 returns-in-None g c =
     let s = g.Q.Sequence.part in
-    exactly (behind (open_spelling c.args.name.now s)
-    (inside_spelling c.args.name.now c.args.major s) c.take_open.result
+    exactly (trailing (indefinite_format c.args.name.now s)
+    (inside_format c.args.name.now c.args.major s) c.take_indefinite.result
     (opens in_vector c.args.name.now c.args.major s c.requires c.in-None.is
     (decodes_of_runs (length_leaf c.args.name.now _ c.requires) (Ok _) c.in_ok-count.ensures.runs
-    tt c.in_ok-count.ensures.progress)) (of_exact c.take_open.ensures))
+    tt c.in_ok-count.ensures.progress)) (of_exact c.take_indefinite.ensures))

@@ -1,5 +1,5 @@
 use Rattle.std.proofs.Common.{rules}
-use Rattle.cbor4ii_items.proofs.OpenStrings.{chunk_runs}
+use Rattle.cbor4ii_items.proofs.IndefiniteStrings.{chunk_runs}
 use Rattle.cbor4ii_items.proofs.strings.chunks.take_chunk.Goals as goal
 
 pub returns-clause-runs : goal.returns-clause-runs

@@ -1,4 +1,4 @@
-use Rattle.cbor4ii_items.proofs.OpenStrings.{string_known, string_chunks}
+use Rattle.cbor4ii_items.proofs.IndefiniteStrings.{string_known, string_chunks}
 use Rattle.std.proofs.lemmas.Result.{err_from_is_err_and}
 use Rattle.cbor4ii_items.specs.ReadStrings.{string_by}
 use Rattle.cbor4ii_items.specs.Laws.Running.{runs_err}

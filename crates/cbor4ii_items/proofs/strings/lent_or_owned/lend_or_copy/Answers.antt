@@ -28,7 +28,7 @@ pub returns-in-Err-Few-clause-borrows : goal.returns-in-Err-Few-clause-borrows
 returns-in-Err-Few-clause-borrows g c =
     let l = rw c.in-Err-Few.field-0-is at c.in-Err-Few.ensures.lacks in
     few_borrows g.T.LendOrOwn.name c.args.count _ _ g.T.LendOrOwn.IsBorrowed
-    c.copy-in-Err-Few.result l.0 (λ whole xs told. (l.1 whole xs told).0)
+    c.copy-in-Err-Few.result l.0 (λ whole xs known. (l.1 whole xs known).0)
     c.copy-in-Err-Few.ensures.takes
 
 pub returns-in-Err-Read-clause-takes : goal.returns-in-Err-Read-clause-takes

@@ -1,5 +1,5 @@
 use Rattle.std.proofs.lemmas.Result.{err_from_is_err_and}
-use Rattle.cbor4ii_items.proofs.OpenStrings.{string_chunks}
+use Rattle.cbor4ii_items.proofs.IndefiniteStrings.{string_chunks}
 use Rattle.cbor4ii_items.proofs.CowAnswers.{either_known, known_borrows, joined_owns}
 use Rattle.cbor4ii_items.proofs.strings.lent_or_owned.take_either.Goals as goal
 

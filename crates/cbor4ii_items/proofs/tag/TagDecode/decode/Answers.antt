@@ -6,12 +6,12 @@ use Rattle.cbor4ii_items.proofs.tag.TagDecode.decode.Goals as goal
 pub returns-in_err-number : goal.returns-in_err-number
 returns-in_err-number g c =
     let p = err_from_is_err_and c.from_residual.result c.from_residual.ensures.1 in
-    rw (p.1, p.2) (tag_head_err g.T.Spelled.spelling c.in_err-number.ensures.decodes)
+    rw (p.1, p.2) (tag_head_err g.T.Decodable.format c.in_err-number.ensures.decodes)
 
 pub returns-in-Ok : goal.returns-in-Ok
 returns-in-Ok g c =
-    tag_ok g.T.Spelled.spelling c.in_ok-number.ensures.decodes refl refl c.in-Ok.ensures
+    tag_ok g.T.Decodable.format c.in_ok-number.ensures.decodes refl refl c.in-Ok.ensures
 
 pub returns-in-Err : goal.returns-in-Err
 returns-in-Err g c =
-    tag_err g.T.Spelled.spelling c.in_ok-number.ensures.decodes c.in-Err.ensures
+    tag_err g.T.Decodable.format c.in_ok-number.ensures.decodes c.in-Err.ensures

@@ -50,9 +50,9 @@ use Rattle.std.specs.declared.fmt.Debug as Debug
 use Rattle.cbor4ii_rw.specs.declared.read.Read as Read
 use Rattle.cbor4ii_rw.specs.declared.read.Source as Source
 use Rattle.cbor4ii_rw.specs.declared.read.Reference.{Reference}
-use Rattle.cbor4ii_rw.specs.View.{Told}
-use Rattle.cbor4ii_rw.specs.Reader.{IsFront, IsEnough, Shows, Breaks}
-use Rattle.cbor4ii_rw.specs.Reference.{bytes_of, IsLong, IsPart}
+use Rattle.cbor4ii_rw.specs.View.{IfKnown}
+use Rattle.cbor4ii_rw.specs.Reader.{IsPrefix, IsEnough, Shows, ReaderFails}
+use Rattle.cbor4ii_rw.specs.Reference.{bytes_of, IsLong, IsSubslice}
 use Rattle.cbor4ii_rw.proofs.Results.{Filled, filled_result}
 use Rattle.cbor4ii_rw.specs.contracts.read.Read.fill as M
 use Rattle.cbor4ii_rw.specs.contracts.by_ref.RefMutRead.fill as F
@@ -120,25 +120,25 @@ module _ (R E : RattleType) (gR : Read.Ghosts R.Denot E.Denot) (dR : Dict)
   abbrev at : Bound → Bound
   at y = ((y.0.0, y.0.1, y.0.2, y.0.3, (mut_vals y.0.3.0, (vint w64 y.0.3.1.0 ∷ [], tt))), y.1)
 
-  abbrev Front : ℕ → R.Denot → Result Reference E.Denot → Type 0
-  Front want x r = IfOk r (λ shown. Told (gS.view x).told (IsFront want (bytes_of shown)))
+  abbrev Prefix : ℕ → R.Denot → Result Reference E.Denot → Type 0
+  Prefix want x r = IfOk r (λ shown. IfKnown (gS.view x).known (IsPrefix want (bytes_of shown)))
 
   abbrev Bounded : R.Denot → Result Reference E.Denot → Type 0
   Bounded x r = IfOk r (λ shown. length (bytes_of shown) ≤ (gS.view x).bound)
 
   abbrev Whole : ℕ → R.Denot → Result Reference E.Denot → Type 0
-  Whole want x r = IsTrue (gS.view x).lends_whole
-      → IfOk r (λ shown. Told (gS.view x).told (IsEnough want (bytes_of shown)))
+  Whole want x r = IsTrue (gS.view x).zero_copy
+      → IfOk r (λ shown. IfKnown (gS.view x).known (IsEnough want (bytes_of shown)))
 
   abbrev Lasting : R.Denot → Result Reference E.Denot → Type 0
-  Lasting x r = IsTrue (gS.view x).lends_whole → IfOk r IsLong
+  Lasting x r = IsTrue (gS.view x).zero_copy → IfOk r IsLong
 
   abbrev Placed : R.Denot → Result Reference E.Denot → Type 0
-  Placed x r = IfOk r (λ shown. IsPart shown (gS.view x))
+  Placed x r = IfOk r (λ shown. IsSubslice shown (gS.view x))
 
   abbrev Left : R.Denot → R.Denot → Result Reference E.Denot → Type 0
   Left x new r = MatchResult r (λ shown. Shows (bytes_of shown) (gS.view x) (gS.view new))
-      (λ _. Breaks (gS.view x) (gS.view new))
+      (λ _. ReaderFails (gS.view x) (gS.view new))
 
   walk : (y : Bound) → y.0.3.1.0 < 2 ^ 64
       → ent 𝓤 ((walk_of 𝓛 (ended R E gR dR gS dS gD dD dX Pp) (stayed R E gR dR gS dS gD dD dX Pp)
@@ -214,14 +214,15 @@ module _ (R E : RattleType) (gR : Read.Ghosts R.Denot E.Denot) (dR : Dict)
       κ2)) z1.0.0 z1.0.3). ‵
       (lasts (M.ended R E gR dR gS dS gD dD dX (method_P R E gR dR gS dS gD dD dX Pp κ2)) z1.0.0
       z1.0.3 ws)
-      ⊛ raw (fact 𝓤 (Front want x r)) ⊛ raw (fact 𝓤 (Bounded x r)) ⊛ raw (fact 𝓤 (Whole want x r)) ⊛
+      ⊛ raw (fact 𝓤 (Prefix want x r)) ⊛ raw (fact 𝓤 (Bounded x r)) ⊛ raw
+      (fact 𝓤 (Whole want x r)) ⊛
       raw (fact 𝓤 (Lasting x r)) ⊛ raw (fact 𝓤 (Placed x r)) ⊛
       ‵ (Rests P' loan (λ new. Left x new r)))))) (id⊢ 𝓤 _) $
       await ! tt $ pick ! (λ r. split ! $ split ! $ move ! (1 ∷ []) $
       peeks ! (Filled E κ2 κ0) _ (shows 𝓛 (Filled E κ2 κ0)) r (v ∷ []) (λ is.
       lands_as ! refl refl ((filled_result E LE 𝓛 κ2 κ0).typed r (v ∷ []) is).0 $
       move ! (2 ∷ []) $ pick ! (λ ws. split ! $ drop ! $ split3 ! $
-      heard ! (Front want x r) (λ front. heard ! (Bounded x r) (λ bounded. split3 ! $
+      heard ! (Prefix want x r) (λ prefix. heard ! (Bounded x r) (λ bounded. split3 ! $
       heard ! (Whole want x r) (λ whole. heard ! (Lasting x r) (λ lasting.
       split ! $ heard ! (Placed x r) (λ placed. fpick ! (λ s.
       -- [what is said of the loan; the result; the tokens; κ1; how self follows]
@@ -239,7 +240,7 @@ module _ (R E : RattleType) (gR : Read.Ghosts R.Denot E.Denot) (dR : Dict)
       use0 𝓛 (raw (fact 𝓤 (Lasting x r))) (fact_i 𝓤 (Lasting x r) (emp 𝓤) lasting) $ join ! $
       use0 𝓛 (raw (fact 𝓤 (Whole want x r))) (fact_i 𝓤 (Whole want x r) (emp 𝓤) whole) $ join ! $
       use0 𝓛 (raw (fact 𝓤 (Bounded x r))) (fact_i 𝓤 (Bounded x r) (emp 𝓤) bounded) $ join ! $
-      use0 𝓛 (raw (fact 𝓤 (Front want x r))) (fact_i 𝓤 (Front want x r) (emp 𝓤) front) $ join ! $
+      use0 𝓛 (raw (fact 𝓤 (Prefix want x r))) (fact_i 𝓤 (Prefix want x r) (emp 𝓤) prefix) $ join ! $
       keep ! (1 ∷ 0 ∷ []) $
       suffices ! _ (ends_at 𝓛 (ended R E gR dR gS dS gD dD dX Pp) (stayed R E gR dR gS dS gD dD dX
       Pp) held (at y) v r (tt, (tt, tt)) (tt, (tt, tt))) $

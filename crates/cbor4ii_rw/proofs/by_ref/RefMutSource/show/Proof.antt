@@ -48,8 +48,8 @@ use Rattle.std.specs.Io.BufRead.{Rests}
 use Rattle.std.specs.declared.fmt.Debug as Debug
 use Rattle.cbor4ii_rw.specs.declared.read.Source as Source
 use Rattle.std.specs.Borrow.{Bor}
-use Rattle.cbor4ii_rw.specs.View.{Told}
-use Rattle.cbor4ii_rw.specs.Reader.{IsFront, IsEnough, Shows, Breaks}
+use Rattle.cbor4ii_rw.specs.View.{IfKnown}
+use Rattle.cbor4ii_rw.specs.Reader.{IsPrefix, IsEnough, Shows, ReaderFails}
 use Rattle.cbor4ii_rw.proofs.Results.{Shown, shown_result}
 use Rattle.cbor4ii_rw.specs.contracts.read.Source.show as M
 use Rattle.cbor4ii_rw.specs.contracts.by_ref.RefMutSource.show as F
@@ -108,19 +108,19 @@ module _ (R E : RattleType) (gS : Source.Ghosts R.Denot E.Denot) (dS : Dict)
   abbrev at : Bound → Bound
   at y = ((y.0.0, y.0.1, y.0.2, y.0.3, (mut_vals y.0.3.0, (vint w64 y.0.3.1.0 ∷ [], tt))), y.1)
 
-  abbrev Front : ℕ → R.Denot → Result (Bor (List ℕ)) E.Denot → Type 0
-  Front want x r = IfOk r (λ shown. Told (gS.view x).told (IsFront want shown.now))
+  abbrev Prefix : ℕ → R.Denot → Result (Bor (List ℕ)) E.Denot → Type 0
+  Prefix want x r = IfOk r (λ shown. IfKnown (gS.view x).known (IsPrefix want shown.now))
 
   abbrev Bounded : R.Denot → Result (Bor (List ℕ)) E.Denot → Type 0
   Bounded x r = IfOk r (λ shown. length shown.now ≤ (gS.view x).bound)
 
   abbrev Whole : ℕ → R.Denot → Result (Bor (List ℕ)) E.Denot → Type 0
-  Whole want x r = IsTrue (gS.view x).lends_whole
-      → IfOk r (λ shown. Told (gS.view x).told (IsEnough want shown.now))
+  Whole want x r = IsTrue (gS.view x).zero_copy
+      → IfOk r (λ shown. IfKnown (gS.view x).known (IsEnough want shown.now))
 
   abbrev Left : R.Denot → R.Denot → Result (Bor (List ℕ)) E.Denot → Type 0
   Left x new r = MatchResult r (λ shown. Shows shown.now (gS.view x) (gS.view new))
-      (λ _. Breaks (gS.view x) (gS.view new))
+      (λ _. ReaderFails (gS.view x) (gS.view new))
 
   walk : (y : Bound) → y.0.3.1.0 < 2 ^ 64
       → ent 𝓤 ((walk_of 𝓛 (ended R E gS dS gD dD dX) (stayed R E gS dS gD dD dX) held).pre (at y))
@@ -185,13 +185,14 @@ module _ (R E : RattleType) (gS : Source.Ghosts R.Denot E.Denot) (dS : Dict)
       ((Shown E κ0).own_val r (v ∷ []))) ⊛
       some (λ (ws : Lasts (M.ended R E gS dS gD dD dX) z1.0.0 z1.0.3). ‵
       (lasts (M.ended R E gS dS gD dD dX) z1.0.0 z1.0.3 ws)
-      ⊛ raw (fact 𝓤 (Front want x r)) ⊛ raw (fact 𝓤 (Bounded x r)) ⊛ raw (fact 𝓤 (Whole want x r)) ⊛
+      ⊛ raw (fact 𝓤 (Prefix want x r)) ⊛ raw (fact 𝓤 (Bounded x r)) ⊛ raw
+      (fact 𝓤 (Whole want x r)) ⊛
       ‵ (Rests P' loan (λ new. Left x new r)))))) (id⊢ 𝓤 _) $
       await ! tt $ pick ! (λ r. split ! $ split ! $ move ! (1 ∷ []) $
       peeks ! (Shown E κ0) _ (shows 𝓛 (Shown E κ0)) r (v ∷ []) (λ is.
       lands_as ! refl refl ((shown_result E LE 𝓛 κ0).typed r (v ∷ []) is).0 $
       move ! (2 ∷ []) $ pick ! (λ ws. split ! $ drop ! $ split3 ! $
-      heard ! (Front want x r) (λ front. heard ! (Bounded x r) (λ bounded. split ! $
+      heard ! (Prefix want x r) (λ prefix. heard ! (Bounded x r) (λ bounded. split ! $
       heard ! (Whole want x r) (λ whole. fpick ! (λ s.
       -- [what is said of the loan; the result; the tokens; κ1; how self follows]
       let new : (In' κ1).Denot = at_last h s.0.1 in
@@ -206,7 +207,7 @@ module _ (R E : RattleType) (gS : Source.Ghosts R.Denot E.Denot) (dS : Dict)
       (((λ _. new), new), (λ _. tt), s.2) $
       use0 𝓛 (raw (fact 𝓤 (Whole want x r))) (fact_i 𝓤 (Whole want x r) (emp 𝓤) whole) $ join ! $
       use0 𝓛 (raw (fact 𝓤 (Bounded x r))) (fact_i 𝓤 (Bounded x r) (emp 𝓤) bounded) $ join ! $
-      use0 𝓛 (raw (fact 𝓤 (Front want x r))) (fact_i 𝓤 (Front want x r) (emp 𝓤) front) $ join ! $
+      use0 𝓛 (raw (fact 𝓤 (Prefix want x r))) (fact_i 𝓤 (Prefix want x r) (emp 𝓤) prefix) $ join ! $
       keep ! (1 ∷ 0 ∷ []) $
       suffices ! _ (ends_at 𝓛 (ended R E gS dS gD dD dX) (stayed R E gS dS gD dD dX) held (at y) v r
       (tt, (tt, tt)) (tt, (tt, tt))) $

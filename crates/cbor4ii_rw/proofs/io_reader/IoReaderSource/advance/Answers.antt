@@ -4,14 +4,14 @@ use Rattle.cbor4ii_rw.proofs.io_reader.IoReaderSource.advance.Goals as goal
 
 pub returns : goal.returns
 returns g c = record {
-  told = drops_left c.args.n _ _ c.args.self.now.tally _ refl refl refl (omega (arith, c.requires))
+  known = drops_left c.args.n _ _ c.args.self.now.tally _ refl refl refl (omega (arith, c.requires))
       (omega (arith, c.requires));
   bound = omega (arith, c.requires);
   advanceable = omega (arith, c.requires);
   budget = refl;
   failures = refl;
   taken = refl;
-  lends_whole = λ lent. lent;
+  zero_copy = λ lent. lent;
   remembers = λ is. is;
   ends_at = refl;
 }

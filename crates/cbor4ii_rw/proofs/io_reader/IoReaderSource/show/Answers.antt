@@ -6,7 +6,7 @@ use Rattle.std.specs.Io.BufRead.{FillKeeps}
 use Rattle.std.specs.Io.KnownBytes.{Keeps}
 use Rattle.cbor4ii_rw.specs.declared.io_reader.Tally.{Tally}
 use Rattle.cbor4ii_rw.specs.Stream.{most_bytes, held_bytes, TallyMoves}
-use Rattle.cbor4ii_rw.proofs.StreamLemmas.{cut_front, held_cases, held_now, keeps_cut, may_forget}
+use Rattle.cbor4ii_rw.proofs.StreamLemmas.{cut_prefix, held_cases, held_now, keeps_cut, may_forget}
 use Rattle.cbor4ii_rw.proofs.StreamLemmas.{takes_none}
 use Rattle.cbor4ii_rw.proofs.io_reader.IoReaderSource.show.Goals as goal
 
@@ -39,8 +39,8 @@ returns-in-Ok g c =
     held_now w limit v.tally bytes counts.1 kept.0 (subst (λ k. IfSome limit (λ most. k ≤ most))
     (sym counts.0) kept.1) in
     let keeps = cases (λ o. Keeps o (held_bytes w limit v.tally)) tt held_after in
-    let front = cases (λ o. IfSome o (λ left. StartsWith left shown)) tt
-    (λ bytes e. subst (λ o. IfSome o (λ left. StartsWith left shown)) e c.in-Ok.ensures.front)
+    let prefix = cases (λ o. IfSome o (λ left. StartsWith left shown)) tt
+    (λ bytes e. subst (λ o. IfSome o (λ left. StartsWith left shown)) e c.in-Ok.ensures.prefix)
     in
     let end = cases (λ o. IfSome o (λ left. length shown ≡ 0 → left ≡ [])) tt
     (λ bytes e. subst (λ o. IfSome o (λ left. length shown ≡ 0 → left ≡ [])) e
@@ -53,19 +53,19 @@ returns-in-Ok g c =
         refl,
         λ _. tt,
         record {
-          told = keeps_cut most (most_bytes - v.tally.taken) _ _ same keeps;
+          known = keeps_cut most (most_bytes - v.tally.taken) _ _ same keeps;
           bound = le_of_eq same;
           advanceable = omega (arith, long, counts.0, counts.1, counts.2);
           budget = ap Some counts.4;
           failures = counts.3;
           taken = ap Some counts.2;
-          lends_whole = λ lent. lent;
+          zero_copy = λ lent. lent;
           remembers = λ is. is;
           ends_at = refl;
         },
       ),
       record {
-        front = cut_front _ _ shown most n is left front end;
+        prefix = cut_prefix _ _ shown most n is left prefix end;
         bounded = omega (arith, long);
         ended = λ _. refl;
         after_borrow = tt;
@@ -101,24 +101,24 @@ returns-in-Err g c =
     c.settle.ensures.stream (λ o. Keeps o (held_bytes w limit v.tally)) tt held_after in
     let left : 0 < most = search rules in
     let same : most_bytes - v.tally.taken ≡ most = ap (λ k. most_bytes - k) counts.2 in
-    let told = keeps_cut most (most_bytes - v.tally.taken) _ _ same keeps in (
+    let known = keeps_cut most (most_bytes - v.tally.taken) _ _ same keeps in (
       (
         refl,
         λ _. tt,
         record {
-          told = may_forget _ _ told;
-          kept = λ is. told;
+          known = may_forget _ _ known;
+          kept = λ is. known;
           bound = le_of_eq same;
           budget = ap Some counts.4;
           failures = counts.3;
           taken = ap Some counts.2;
-          lends_whole = λ lent. lent;
+          zero_copy = λ lent. lent;
           remembers = λ is. is;
           ends_at = refl;
         },
       ),
       record {
-        front = tt;
+        prefix = tt;
         bounded = tt;
         ended = λ none. absurd (omega (arith, left, none));
         after_borrow = tt;

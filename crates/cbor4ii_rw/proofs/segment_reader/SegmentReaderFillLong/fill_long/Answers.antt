@@ -1,9 +1,9 @@
 use Rattle.std.proofs.Common.{arith, ◌≡◌, Some, length, take, nat_lt, refl, sym, ap, subst, ◌∙◌}
 use Rattle.std.specs.Prelude.{IsTrue}
 use Rattle.cbor4ii_rw.specs.Segments.{joined_segments, rest_of, full_of}
-use Rattle.cbor4ii_rw.specs.Reader.{IsFront, IsEnough}
-use Rattle.cbor4ii_rw.proofs.Told.{told_some}
-use Rattle.cbor4ii_rw.proofs.SegmentLemmas.{front_of_current, current_is_enough, current_is_shown}
+use Rattle.cbor4ii_rw.specs.Reader.{IsPrefix, IsEnough}
+use Rattle.cbor4ii_rw.proofs.IfKnown.{known_some}
+use Rattle.cbor4ii_rw.proofs.SegmentLemmas.{prefix_of_current, current_is_enough, current_is_shown}
 use Rattle.cbor4ii_rw.proofs.SegmentLemmas.{shown_length}
 use Rattle.cbor4ii_rw.proofs.segment_reader.SegmentReaderFillLong.fill_long.Goals as goal
 
@@ -13,7 +13,7 @@ returns-clause-fills c =
     let current = reader.current.now in let others = reader.segments.now in
     let shown = take n current in
     let kept = c.pass_empty.ensures.bytes in
-    let front = subst (λ rest. IsFront want shown rest) kept (front_of_current want n current
+    let prefix = subst (λ rest. IsPrefix want shown rest) kept (prefix_of_current want n current
     (joined_segments others) c.min-long.ensures c.pass_empty.ensures.end) in
     let long = shown_length want n current c.min-long.ensures in
     let one_left : IsTrue (nat_lt (full_of c.args.self.now) 2)
@@ -24,26 +24,26 @@ returns-clause-fills c =
     subst (λ rest. IsEnough want shown rest) kept (current_is_enough want n current others
     c.min-long.ensures c.pass_empty.ensures.end (one_left one)) in record {
       shows = record {
-        told = λ xs is. subst (λ rest. Some rest ≡ Some xs) (sym kept) is;
+        known = λ xs is. subst (λ rest. Some rest ≡ Some xs) (sym kept) is;
         bound = omega (arith, ap length kept);
         advanceable = omega (arith, long, c.min-long.ensures);
         budget = ap Some c.pass_empty.ensures.steps;
         failures = refl;
         taken = refl;
-        lends_whole = one_left;
+        zero_copy = one_left;
         remembers = λ is. is;
         ends_at = refl;
       };
-      front = told_some (IsFront want shown) _ front;
-      enough = λ one. told_some (IsEnough want shown) _ (enough one);
+      prefix = known_some (IsPrefix want shown) _ prefix;
+      enough = λ one. known_some (IsEnough want shown) _ (enough one);
     }
 
 pub returns-clause-bounded : goal.returns-clause-bounded
 returns-clause-bounded c =
-    let front = front_of_current c.args.want c.min-long.result c.pass_empty.new.self.current.now
+    let prefix = prefix_of_current c.args.want c.min-long.result c.pass_empty.new.self.current.now
     (joined_segments c.pass_empty.new.self.segments.now) c.min-long.ensures
     c.pass_empty.ensures.end in
-    omega (arith, front.within, ap length c.pass_empty.ensures.bytes)
+    omega (arith, prefix.within, ap length c.pass_empty.ensures.bytes)
 
 pub returns-clause-segment : goal.returns-clause-segment
 returns-clause-segment c =

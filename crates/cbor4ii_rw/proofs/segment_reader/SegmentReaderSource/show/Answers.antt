@@ -1,9 +1,9 @@
 use Rattle.std.proofs.Common.{arith, ◌≡◌, Some, length, take, nat_lt, refl, sym, ap, subst, ◌∙◌}
 use Rattle.std.specs.Prelude.{IsTrue}
 use Rattle.cbor4ii_rw.specs.Segments.{joined_segments, rest_of, full_of, shown_segment}
-use Rattle.cbor4ii_rw.specs.Reader.{IsFront, IsEnough}
-use Rattle.cbor4ii_rw.proofs.Told.{told_some}
-use Rattle.cbor4ii_rw.proofs.SegmentLemmas.{front_of_current, current_is_enough, current_is_shown}
+use Rattle.cbor4ii_rw.specs.Reader.{IsPrefix, IsEnough}
+use Rattle.cbor4ii_rw.proofs.IfKnown.{known_some}
+use Rattle.cbor4ii_rw.proofs.SegmentLemmas.{prefix_of_current, current_is_enough, current_is_shown}
 use Rattle.cbor4ii_rw.proofs.SegmentLemmas.{shown_length}
 use Rattle.cbor4ii_rw.proofs.segment_reader.SegmentReaderSource.show.Goals as goal
 
@@ -13,7 +13,7 @@ returns c =
     let current = reader.current.now in let others = reader.segments.now in
     let shown = take n current in
     let kept = c.pass_empty.ensures.bytes in
-    let front = subst (λ rest. IsFront want shown rest) kept (front_of_current want n current
+    let prefix = subst (λ rest. IsPrefix want shown rest) kept (prefix_of_current want n current
     (joined_segments others) c.min-shown.ensures c.pass_empty.ensures.end) in
     let segment : shown_segment c.args.self.now ≡ current = sym c.pass_empty.ensures.segment
     ∙ current_is_shown current others c.pass_empty.ensures.end in
@@ -29,21 +29,21 @@ returns c =
         refl,
         λ _. tt,
         record {
-          told = λ xs is. subst (λ rest. Some rest ≡ Some xs) (sym kept) is;
+          known = λ xs is. subst (λ rest. Some rest ≡ Some xs) (sym kept) is;
           bound = omega (arith, ap length kept);
           advanceable = omega (arith, long, c.min-shown.ensures);
           budget = ap Some c.pass_empty.ensures.steps;
           failures = refl;
           taken = refl;
-          lends_whole = one_left;
+          zero_copy = one_left;
           remembers = λ is. is;
           ends_at = refl;
         },
       ),
       record {
-        front = told_some (IsFront want shown) _ front;
-        bounded = front.within;
-        enough = λ one. told_some (IsEnough want shown) _ (enough one);
+        prefix = known_some (IsPrefix want shown) _ prefix;
+        bounded = prefix.within;
+        enough = λ one. known_some (IsEnough want shown) _ (enough one);
         segment = omega (arith, long, c.min-shown.ensures, ap length segment);
         after_borrow = tt;
       },

@@ -13,9 +13,9 @@ pub returns-in_err-put_field-clause-left : goal.returns-in_err-put_field-clause-
 returns-in_err-put_field-clause-left g c =
     rw (err_from_is_err_and c.from_residual.result c.from_residual.ensures.1).1 tt
 
-pub returns-in_err-put_field-clause-left_at_refusal :
-    goal.returns-in_err-put_field-clause-left_at_refusal
-returns-in_err-put_field-clause-left_at_refusal g c =
+pub returns-in_err-put_field-clause-left_at_error :
+    goal.returns-in_err-put_field-clause-left_at_error
+returns-in_err-put_field-clause-left_at_error g c =
     rw (err_from_is_err_and c.from_residual.result c.from_residual.ensures.1).1 refl
 
 pub returns-in_err-put_field-clause-written : goal.returns-in_err-put_field-clause-written
@@ -32,8 +32,8 @@ returns-clause-keyed g c = refl
 pub returns-clause-left : goal.returns-clause-left
 returns-clause-left g c = refl
 
-pub returns-clause-left_at_refusal : goal.returns-clause-left_at_refusal
-returns-clause-left_at_refusal g c = tt
+pub returns-clause-left_at_error : goal.returns-clause-left_at_error
+returns-clause-left_at_error g c = tt
 
 pub returns-clause-written : goal.returns-clause-written
 returns-clause-written g c = c.in_ok-put_field.ensures

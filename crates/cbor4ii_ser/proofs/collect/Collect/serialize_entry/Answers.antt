@@ -37,21 +37,21 @@ pub returns-in_err-serialize_key-clause-left : goal.returns-in_err-serialize_key
 returns-in_err-serialize_key-clause-left g c =
     rw (err_from_is_err_and c.from_residual.result c.from_residual.ensures.1).1 tt
 
-pub returns-in_err-serialize_key-clause-refused_at_key :
-    goal.returns-in_err-serialize_key-clause-refused_at_key
-returns-in_err-serialize_key-clause-refused_at_key g c =
+pub returns-in_err-serialize_key-clause-rejected_at_key :
+    goal.returns-in_err-serialize_key-clause-rejected_at_key
+returns-in_err-serialize_key-clause-rejected_at_key g c =
     let p = err_from_is_err_and c.from_residual.result c.from_residual.ensures.1 in
     rw (p.1, p.2) (λ _. (
-      c.in_err-serialize_key.ensures.left_at_refusal,
+      c.in_err-serialize_key.ensures.left_at_error,
       c.in_err-serialize_key.ensures.written,
     ))
 
-pub returns-in_err-serialize_key-clause-refused_at_value :
-    goal.returns-in_err-serialize_key-clause-refused_at_value
-returns-in_err-serialize_key-clause-refused_at_value g c =
+pub returns-in_err-serialize_key-clause-rejected_at_value :
+    goal.returns-in_err-serialize_key-clause-rejected_at_value
+returns-in_err-serialize_key-clause-rejected_at_value g c =
     let p = err_from_is_err_and c.from_residual.result c.from_residual.ensures.1 in
     rw (p.1, p.2) (λ t. absurd (let h : false ≡ true = sym c.requires.owes
-    ∙ (sym c.in_err-serialize_key.ensures.owes_at_refusal ∙ t) in cc))
+    ∙ (sym c.in_err-serialize_key.ensures.owes_at_error ∙ t) in cc))
 
 pub serialize_value-requires-clause-keyed : goal.serialize_value-requires-clause-keyed
 serialize_value-requires-clause-keyed g c = c.in_ok-serialize_key.ensures.keyed ∙ c.requires.keyed

@@ -1,4 +1,4 @@
-use Rattle.cbor4ii_ser.specs.Pieces.{chunk_most, fits_behind, release_bytes}
+use Rattle.cbor4ii_ser.specs.Pieces.{chunk_most, fits_after, release_bytes}
 use Rattle.std.proofs.lemmas.Bool.{lt-leb, le-leb}
 use Rattle.std.proofs.lemmas.Result.{err_from_is_err_and}
 use Rattle.std.proofs.Common.{arith, sym, refl, ap, ◌∙◌, Some, Ok, ◌≡◌, false, true, length, nat_le}
@@ -13,10 +13,10 @@ returns-then-piece-self-clause-writes g c =
     writes_as _ (sym (piece_bytes_short (pending_of c.args.self.now) c.args.piece.now
     (omega (arith, length-take c.args.self.now.size c.args.self.now.bytes))))
     (record {
-      appends = λ held told. told ∙ ap Some (sym (append-nil held));
+      appends = λ held known. known ∙ ap Some (sym (append-nil held));
       counts = refl;
       failed = tt;
-      front = λ _. tt;
+      prefix = λ _. tt;
     })
 
 pub returns-else-piece-le255-clause-writes : goal.returns-else-piece-le255-clause-writes
@@ -28,7 +28,7 @@ returns-else-piece-le255-clause-writes g c =
       appends = c.encode.ensures.appends;
       counts = c.encode.ensures.counts;
       failed = c.encode.ensures.failed;
-      front = c.encode.ensures.front;
+      prefix = c.encode.ensures.prefix;
     }))
 
 pub returns-then-piece-self-clause-pends : goal.returns-then-piece-self-clause-pends
@@ -40,7 +40,7 @@ returns-then-piece-self-clause-pends g c =
 pub returns-in_err-release-clause-writes : goal.returns-in_err-release-clause-writes
 returns-in_err-release-clause-writes g c =
     let p = err_from_is_err_and c.from_residual.result c.from_residual.ensures.1 in
-    let h : fits_behind (pending_of c.args.self.now) c.args.piece.now ≡ false = lt-leb _ chunk_most
+    let h : fits_after (pending_of c.args.self.now) c.args.piece.now ≡ false = lt-leb _ chunk_most
     (omega (arith, length-take c.args.self.now.size c.args.self.now.bytes)) in
     rw (p.1, p.2) (rw h (writes_err _ c.in_err-release.ensures))
 
@@ -50,7 +50,7 @@ returns-in_err-release-clause-pends g c =
 
 pub returns-then-piece-le255-clause-writes : goal.returns-then-piece-le255-clause-writes
 returns-then-piece-le255-clause-writes g c =
-    let h : fits_behind (pending_of c.args.self.now) c.args.piece.now ≡ false = lt-leb _ chunk_most
+    let h : fits_after (pending_of c.args.self.now) c.args.piece.now ≡ false = lt-leb _ chunk_most
     (omega (arith, length-take c.args.self.now.size c.args.self.now.bytes)) in
     let k : nat_le (length c.args.piece.now) chunk_most ≡ true =
     le-leb _ chunk_most (omega arith) in
@@ -59,7 +59,7 @@ returns-then-piece-le255-clause-writes g c =
 
 pub returns-then-piece-le255-clause-pends : goal.returns-then-piece-le255-clause-pends
 returns-then-piece-le255-clause-pends g c =
-    let h : fits_behind (pending_of c.args.self.now) c.args.piece.now ≡ false = lt-leb _ chunk_most
+    let h : fits_after (pending_of c.args.self.now) c.args.piece.now ≡ false = lt-leb _ chunk_most
     (omega (arith, length-take c.args.self.now.size c.args.self.now.bytes)) in
     let k : nat_le (length c.args.piece.now) chunk_most ≡ true =
     le-leb _ chunk_most (omega arith) in

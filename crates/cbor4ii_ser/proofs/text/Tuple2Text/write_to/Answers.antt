@@ -1,11 +1,11 @@
 use Rattle.std.proofs.Common.{◌∙◌}
 use Rattle.std.proofs.lemmas.Result.{err_from_is_err_and}
-use Rattle.cbor4ii_ser.specs.Laws.Pieces.{wrote_then, wrote_refused}
+use Rattle.cbor4ii_ser.specs.Laws.Pieces.{wrote_then, wrote_rejected}
 use Rattle.cbor4ii_ser.proofs.text.Tuple2Text.write_to.Goals as goal
 
 pub returns-in_err-write_to-clause-wrote : goal.returns-in_err-write_to-clause-wrote
 returns-in_err-write_to-clause-wrote g c =
-    wrote_refused (g.A.Text.refuses c.args.self.now.0) (g.A.Text.pieces c.args.self.now.0)
+    wrote_rejected (g.A.Text.fails_itself c.args.self.now.0) (g.A.Text.pieces c.args.self.now.0)
     (g.B.Text.pieces c.args.self.now.1) c.in_err-write_to.ensures.blames
     c.in_err-write_to.ensures.wrote
 

@@ -10,8 +10,8 @@ returns-then-holds_tag-clause-written g c =
     rw (sym c.if-holds_tag.ensures) (record {
       appends = tt;
       counts = tt;
-      failed = ((λ held told. told ∙ ap Some (sym (append-nil held)), refl), refl);
-      front = λ whole held told. ([], refl, told ∙ ap Some (sym (append-nil held)));
+      failed = ((λ held known. known ∙ ap Some (sym (append-nil held)), refl), refl);
+      prefix = λ whole held known. ([], refl, known ∙ ap Some (sym (append-nil held)));
     })
 
 pub returns-clause-written : goal.returns-clause-written

@@ -1,6 +1,6 @@
 use Rattle.std.proofs.Common.{[], Some, ap, ◌∙◌, sym, subst}
-use Rattle.cbor4ii_tree.specs.Canonical.{canon_cost, with_bignums}
-use Rattle.cbor4ii_tree.specs.Spelling.{Spells}
+use Rattle.cbor4ii_tree.specs.Canonical.{canonical_cost, with_bignums}
+use Rattle.cbor4ii_tree.specs.Encodings.{Encodes}
 use Rattle.cbor4ii_tree.specs.View.{view}
 use Rattle.cbor4ii_tree.proofs.boxed_raw.BoxedRawValue.from_value.Goals as goal
 
@@ -11,8 +11,8 @@ returns-clause-content c =
     let inside = c.into_inner.ensures in
     cc
 
-pub returns-clause-spells : goal.returns-clause-spells
-returns-clause-spells c =
-    subst (λ bs. Spells bs (with_bignums (view c.args.value.now))
-    (canon_cost (view c.args.value.now)))
-    (sym (returns-clause-content c)) c.in_ok-encode.ensures.spells
+pub returns-clause-encodes : goal.returns-clause-encodes
+returns-clause-encodes c =
+    subst (λ bs. Encodes bs (with_bignums (view c.args.value.now))
+    (canonical_cost (view c.args.value.now)))
+    (sym (returns-clause-content c)) c.in_ok-encode.ensures.encodes

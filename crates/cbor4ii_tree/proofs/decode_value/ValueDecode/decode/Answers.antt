@@ -1,18 +1,18 @@
 use Rattle.cbor4ii_tree.proofs.values.Decoding.{value_decodes}
-use Rattle.cbor4ii_tree.proofs.answers.Promises.{only_reads, all_reads, front_reads, eof_reads}
+use Rattle.cbor4ii_tree.proofs.answers.Promises.{only_reads, all_reads, prefix_reads, eof_reads}
 use Rattle.cbor4ii_tree.proofs.answers.Promises.{depth_reads, final_reads, others_reads, size_reads}
 use Rattle.cbor4ii_tree.proofs.answers.Promises.{exact_reads, skips_reads, canonical_reads}
-use Rattle.cbor4ii_tree.proofs.values.Answered.{told_if, told_on}
+use Rattle.cbor4ii_tree.proofs.values.Answered.{known_if, known_on}
 use Rattle.cbor4ii_tree.proofs.decode_value.ValueDecode.decode.Goals as goal
 
 pub returns-clause-decodes : goal.returns-clause-decodes
 returns-clause-decodes g c =
     rw c.whole.ensures (value_decodes _ c.read_outermost-value.ensures.does
-    (told_on c.read_outermost-value.result _ _ c.read_outermost-value.ensures.progress))
+    (known_on c.read_outermost-value.result _ _ c.read_outermost-value.ensures.progress))
 
 pub returns-clause-item : goal.returns-clause-item
 returns-clause-item g c =
-    rw c.whole.ensures (told_if c.read_outermost-value.result _ _
+    rw c.whole.ensures (known_if c.read_outermost-value.result _ _
     c.read_outermost-value.ensures.item)
 
 pub returns-clause-only : goal.returns-clause-only
@@ -23,9 +23,9 @@ pub returns-clause-all : goal.returns-clause-all
 returns-clause-all g c =
     rw c.whole.ensures (all_reads _ c.read_outermost-value.ensures.does)
 
-pub returns-clause-front : goal.returns-clause-front
-returns-clause-front g c =
-    rw c.whole.ensures (front_reads _ c.read_outermost-value.ensures.does)
+pub returns-clause-prefix : goal.returns-clause-prefix
+returns-clause-prefix g c =
+    rw c.whole.ensures (prefix_reads _ c.read_outermost-value.ensures.does)
 
 pub returns-clause-eof : goal.returns-clause-eof
 returns-clause-eof g c =
@@ -57,6 +57,6 @@ returns-clause-skips g c =
 
 pub returns-clause-canonical : goal.returns-clause-canonical
 returns-clause-canonical g c =
-    rw c.whole.ensures (canonical_reads _ c.read_outermost-value.ensures.does (told_if
+    rw c.whole.ensures (canonical_reads _ c.read_outermost-value.ensures.does (known_if
     c.read_outermost-value.result _ _
     c.read_outermost-value.ensures.item))

@@ -1,6 +1,6 @@
 use Rattle.cbor4ii_tree.proofs.skip_calls.Ignoring.{ignored_ok, ignored_err}
 use Rattle.std.proofs.Common.{Ok, Err}
-use Rattle.cbor4ii_tree.proofs.answers.Promises.{all_skips, front_skips, eof_skips, depth_skips}
+use Rattle.cbor4ii_tree.proofs.answers.Promises.{all_skips, prefix_skips, eof_skips, depth_skips}
 use Rattle.cbor4ii_tree.proofs.answers.Promises.{final_skips, others_skips, exact_skips}
 use Rattle.cbor4ii_tree.proofs.ignored.IgnoredAnyDecode.decode.Goals as goal
 
@@ -11,15 +11,15 @@ pub returns-in-Err-clause-decodes : goal.returns-in-Err-clause-decodes
 returns-in-Err-clause-decodes g c = ignored_err c.in-Err.ensures.does c.in-Err.ensures.spares
 
 pub returns-in-Ok-clause-only : goal.returns-in-Ok-clause-only
-returns-in-Ok-clause-only g c xs told =
-    let s = c.in-Ok.ensures.does.ok xs told in
+returns-in-Ok-clause-only g c xs known =
+    let s = c.in-Ok.ensures.does.ok xs known in
     (s.2.0, s.0, s.1, s.2.1)
 
 pub returns-in-Ok-clause-all : goal.returns-in-Ok-clause-all
 returns-in-Ok-clause-all g c = all_skips (Ok c.in-Ok.field-0) c.in-Ok.ensures.does
 
-pub returns-in-Ok-clause-front : goal.returns-in-Ok-clause-front
-returns-in-Ok-clause-front g c = front_skips (Ok c.in-Ok.field-0) c.in-Ok.ensures.does
+pub returns-in-Ok-clause-prefix : goal.returns-in-Ok-clause-prefix
+returns-in-Ok-clause-prefix g c = prefix_skips (Ok c.in-Ok.field-0) c.in-Ok.ensures.does
 
 pub returns-in-Ok-clause-exact : goal.returns-in-Ok-clause-exact
 returns-in-Ok-clause-exact g c = exact_skips (Ok c.in-Ok.field-0) c.in-Ok.ensures.does
@@ -27,8 +27,8 @@ returns-in-Ok-clause-exact g c = exact_skips (Ok c.in-Ok.field-0) c.in-Ok.ensure
 pub returns-in-Err-clause-all : goal.returns-in-Err-clause-all
 returns-in-Err-clause-all g c = all_skips (Err c.in-Err.error) c.in-Err.ensures.does
 
-pub returns-in-Err-clause-front : goal.returns-in-Err-clause-front
-returns-in-Err-clause-front g c = front_skips (Err c.in-Err.error) c.in-Err.ensures.does
+pub returns-in-Err-clause-prefix : goal.returns-in-Err-clause-prefix
+returns-in-Err-clause-prefix g c = prefix_skips (Err c.in-Err.error) c.in-Err.ensures.does
 
 pub returns-in-Err-clause-eof : goal.returns-in-Err-clause-eof
 returns-in-Err-clause-eof g c = eof_skips (Err c.in-Err.error) c.in-Err.ensures.does

@@ -13,7 +13,7 @@ use mir.Syntax.{a_type, dcons, dnil, erased, Args}
 use prog.Wp.{Tables}
 use Rattle.cbor4ii_tree.specs.contracts.raw.RawValue as RawValue
 use Rattle.cbor4ii_tree.proofs.raw.RawValue.TheLaws.{the_row_laws}
-use Rattle.cbor4ii_tree.proofs.raw_items.Told.{told}
+use Rattle.cbor4ii_tree.proofs.raw_items.IfKnown.{known}
 use Rattle.cbor4ii_tree.specs.contracts.raw.RawValueLendRaw.TheImpl as lends
 use Rattle.cbor4ii_tree.proofs.raw.RawValueLendRaw.TheImpl.Met.{bound}
 use Rattle.cbor4ii_tree.specs.contracts.raw.RawValueDecode.decode as f
@@ -31,15 +31,15 @@ decode_spec {M} 𝓤 𝓛 𝓜 𝓡 wired R E LR LE gR dR gS dS gD dD dd P b1 b2
     (f.spec R E gR dR gS dS gD dD dd P 𝓛 𝓜.mem 𝓡.returns)) 𝓣.C 𝓣.Λ (#f args)
     (inst_fn args code.function)
     (code.unfolded 𝓤 𝓛.H 𝓜 𝓡 wired (R, (E, tt)) dR dS dD dd) (λ y.
-    told 𝓤 𝓛 𝓜 𝓡 (code.calls-cbor4ii_tree::lend_raw::take_raw 𝓡.env wired) R E LR LE gS dS gD dD dd
+    known 𝓤 𝓛 𝓜 𝓡 (code.calls-cbor4ii_tree::lend_raw::take_raw 𝓡.env wired) R E LR LE gS dS gD dD dd
     P b2 b3 b4
     (λ κ. RawValue.the_row (record { mir = erased; lft = κ }))
     (λ κ. the_row_laws (record { mir = erased; lft = κ }))
     (λ κ. search (⊑_meet, ⊑_refl, ⊑_static))
     (bare (layout (RawValue.the_row (record { mir = erased; lft = [] })))) (λ κ. refl)
     (λ κ. lends.ghosts R E gR dR gS dS gD dD dd) (lends.dict R E gR dR gS dS gD dD dd)
-    (λ κs p. bound 𝓡.env (code.calls-cbor4ii_tree::raw::RawValueLendRaw::lend_front 𝓡.env wired)
-    (code.calls-cbor4ii_tree::raw::RawValueLendRaw::front 𝓡.env wired)
+    (λ κs p. bound 𝓡.env (code.calls-cbor4ii_tree::raw::RawValueLendRaw::lend_prefix 𝓡.env wired)
+    (code.calls-cbor4ii_tree::raw::RawValueLendRaw::prefix 𝓡.env wired)
     (code.calls-cbor4ii_tree::raw::RawValueLendRaw::cut 𝓡.env wired)
     (code.calls-cbor4ii_tree::raw::RawValueLendRaw::discard 𝓡.env wired) κs.1.0 R E LR LE gR
     dR gS dS gD dD dd M 𝓤 𝓛 𝓜 𝓡 (b1 κs p) b2 b3 b4)

@@ -1,16 +1,17 @@
 use Rattle.std.proofs.Common.{refl, arith, rules, Ok, Err}
 use Rattle.std.specs.Prelude.{codes}
 use Rattle.std.proofs.lemmas.Result.{err_from_is_err_and}
-use Rattle.cbor4ii_items.specs.Laws.Calls.{behind, out_of_memory}
+use Rattle.cbor4ii_items.specs.Laws.Calls.{trailing, out_of_memory}
 use Rattle.cbor4ii_items.specs.Laws.Pairs.{pair_ok, key_err, value_err}
 use Rattle.cbor4ii_items.specs.Laws.Calls.{of_exact, exactly}
 use Rattle.cbor4ii_items.specs.Sequences.{in_vector}
 use Rattle.cbor4ii_items.specs.Laws.SequenceParts.{count_more, count_done, count_err, stands}
-use Rattle.cbor4ii_items.specs.Laws.SequenceParts.{open_more, open_done, open_err, place_end}
+use Rattle.cbor4ii_items.specs.Laws.SequenceParts.{indefinite_more, indefinite_done, indefinite_err}
+use Rattle.cbor4ii_items.specs.Laws.SequenceParts.{place_end}
 use Rattle.cbor4ii_items.specs.Laws.SequenceParts.{place_part}
-use Rattle.cbor4ii_items.specs.Sequences.{count_spelling, open_spelling}
-use Rattle.cbor4ii.specs.AnySpelling.{any_spelling, any_inside, kind_spelling, values_inside}
-use Rattle.cbor4ii.specs.AnySpelling.{values_spelling, any_pair, pairs_inside, pairs_spelling}
+use Rattle.cbor4ii_items.specs.Sequences.{count_format, indefinite_format}
+use Rattle.cbor4ii.specs.AnyFormat.{any_format, any_inside, kind_format, values_inside}
+use Rattle.cbor4ii.specs.AnyFormat.{values_format, any_pair, pairs_inside, pairs_format}
 use Rattle.cbor4ii.specs.declared.serde.de.any_leaf.AnyKind.TheVariants.{Leaf, Array, Map}
 use Rattle.cbor4ii.specs.Any.{of_array, of_map}
 use Rattle.cbor4ii.specs.Sequence.{four_small, five_small}
@@ -49,25 +50,25 @@ pub any_inside-returns-in-Ok-any_array : goal.any_inside-returns-in-Ok-any_array
 any_inside-returns-in-Ok-any_array g t c =
     let d = c.in-Ok.ensures.decodes in
     of_kind Array d.moves.by (saw d.moves d.sound) c.in-Array.ensures (Ok _)
-    (as_ok values_spelling (kind_spelling Array) of_array an_array c.in-Ok-any_array.ensures)
+    (as_ok values_format (kind_format Array) of_array an_array c.in-Ok-any_array.ensures)
 
 pub any_inside-returns-in-Err-any_array : goal.any_inside-returns-in-Err-any_array
 any_inside-returns-in-Err-any_array g t c =
     let d = c.in-Ok.ensures.decodes in
     of_kind Array d.moves.by (saw d.moves d.sound) c.in-Array.ensures (Err _)
-    (as_err values_spelling (kind_spelling Array) of_array an_array c.in-Err-any_array.ensures)
+    (as_err values_format (kind_format Array) of_array an_array c.in-Err-any_array.ensures)
 
 pub any_inside-returns-in-Ok-any_map : goal.any_inside-returns-in-Ok-any_map
 any_inside-returns-in-Ok-any_map g t c =
     let d = c.in-Ok.ensures.decodes in
     of_kind Map d.moves.by (saw d.moves d.sound) c.in-Map.ensures (Ok _)
-    (as_ok pairs_spelling (kind_spelling Map) of_map a_map c.in-Ok-any_map.ensures)
+    (as_ok pairs_format (kind_format Map) of_map a_map c.in-Ok-any_map.ensures)
 
 pub any_inside-returns-in-Err-any_map : goal.any_inside-returns-in-Err-any_map
 any_inside-returns-in-Err-any_map g t c =
     let d = c.in-Ok.ensures.decodes in
     of_kind Map d.moves.by (saw d.moves d.sound) c.in-Map.ensures (Err _)
-    (as_err pairs_spelling (kind_spelling Map) of_map a_map c.in-Err-any_map.ensures)
+    (as_err pairs_format (kind_format Map) of_map a_map c.in-Err-any_map.ensures)
 
 pub any_inside-returns-in-Other : goal.any_inside-returns-in-Other
 any_inside-returns-in-Other g t c =
@@ -89,83 +90,84 @@ any_array-returns g t c =
 
 pub array_inside-returns-in-Err : goal.array_inside-returns-in-Err
 array_inside-returns-in-Err g t c =
-    exactly (head_err in_vector (codes "array") 4 any_spelling four_small
+    exactly (head_err in_vector (codes "array") 4 any_format four_small
     (of_exact c.in-Err.ensures))
 
 pub array_inside-returns-in-Ok-Some : goal.array_inside-returns-in-Ok-Some
 array_inside-returns-in-Ok-Some g t c =
-    exactly (behind (count_spelling any_spelling _) values_inside
-    (answer_of c.counted_values.result)
-    (counts in_vector (codes "array") 4 any_spelling four_small c.in-Ok-Some.field-0-is
+    exactly (trailing (count_format any_format _) values_inside
+    (answer_of c.definite_values.result)
+    (counts in_vector (codes "array") 4 any_format four_small c.in-Ok-Some.field-0-is
     c.in-Ok-Some.ensures)
-    (of_exact c.counted_values.ensures))
+    (of_exact c.definite_values.ensures))
 
 pub array_inside-returns-in-Ok-None : goal.array_inside-returns-in-Ok-None
 array_inside-returns-in-Ok-None g t c =
-    exactly (behind (open_spelling (codes "array") any_spelling) values_inside
-    (answer_of c.open_values.result)
-    (opens in_vector (codes "array") 4 any_spelling four_small c.in-Ok-None.field-0-is
+    exactly (trailing (indefinite_format (codes "array") any_format) values_inside
+    (answer_of c.indefinite_values.result)
+    (opens in_vector (codes "array") 4 any_format four_small c.in-Ok-None.field-0-is
     c.in-Ok-None.ensures)
-    (of_exact c.open_values.ensures))
+    (of_exact c.indefinite_values.ensures))
 
-pub counted_values-returns-then-is_err : goal.counted_values-returns-then-is_err
-counted_values-returns-then-is_err g t c =
-    out_of_memory (count_spelling any_spelling c.args.count) refl (search rules)
+pub definite_values-returns-then-is_err : goal.definite_values-returns-then-is_err
+definite_values-returns-then-is_err g t c =
+    out_of_memory (count_format any_format c.args.count) refl (search rules)
 
-pub counted_values-returns-in_err-add_value : goal.counted_values-returns-in_err-add_value
-counted_values-returns-in_err-add_value g t c =
+pub definite_values-returns-in_err-add_value : goal.definite_values-returns-in_err-add_value
+definite_values-returns-in_err-add_value g t c =
     let p = err_from_is_err_and c.from_residual.result c.from_residual.ensures.1 in
-    rw (p.1, p.2) (exactly (count_err in_vector any_spelling (λ is. any_lawful) c.loop-i.invariant
+    rw (p.1, p.2) (exactly (count_err in_vector any_format (λ is. any_lawful) c.loop-i.invariant
     c.loop-i-test.true
     (of_exact c.in_err-add_value.ensures)))
 
-pub counted_values-loop-i-preserved : goal.counted_values-loop-i-preserved
-counted_values-loop-i-preserved g t c =
-    count_more any_spelling c.loop-i.invariant c.in_ok-add_value.ensures.read.moves.by
+pub definite_values-loop-i-preserved : goal.definite_values-loop-i-preserved
+definite_values-loop-i-preserved g t c =
+    count_more any_format c.loop-i.invariant c.in_ok-add_value.ensures.read.moves.by
     c.in_ok-add_value.ensures.read.sound
     c.in_ok-add_value.ensures.added
 
-pub counted_values-returns : goal.counted_values-returns
-counted_values-returns g t c =
-    count_done in_vector any_spelling c.loop-i.invariant
+pub definite_values-returns : goal.definite_values-returns
+definite_values-returns g t c =
+    count_done in_vector any_format c.loop-i.invariant
     (omega (arith, c.loop-i-test.false, c.loop-i.auto.i-end))
 
-pub open_values-returns-in_err-takes_break : goal.open_values-returns-in_err-takes_break
-open_values-returns-in_err-takes_break g t c =
+pub indefinite_values-returns-in_err-takes_break : goal.indefinite_values-returns-in_err-takes_break
+indefinite_values-returns-in_err-takes_break g t c =
     let p = err_from_is_err_and c.from_residual.result c.from_residual.ensures.1 in
-    rw (p.1, p.2) (exactly (open_err in_vector (codes "array") any_spelling (λ is. any_lawful)
+    rw (p.1, p.2) (exactly (indefinite_err in_vector (codes "array") any_format (λ is. any_lawful)
     c.loop-values.invariant
-    (place_end any_spelling (codes "array") (λ is. any_lawful) c.in_err-takes_break.ensures.runs
+    (place_end any_format (codes "array") (λ is. any_lawful) c.in_err-takes_break.ensures.runs
     c.in_err-takes_break.ensures.memory)))
 
-pub open_values-returns-in_err-add_value : goal.open_values-returns-in_err-add_value
-open_values-returns-in_err-add_value g t c =
+pub indefinite_values-returns-in_err-add_value : goal.indefinite_values-returns-in_err-add_value
+indefinite_values-returns-in_err-add_value g t c =
     let p = err_from_is_err_and c.from_residual-in_err-add_value.result
     c.from_residual-in_err-add_value.ensures.1 in
-    rw (p.1, p.2) (exactly (open_err in_vector (codes "array") any_spelling (λ is. any_lawful)
+    rw (p.1, p.2) (exactly (indefinite_err in_vector (codes "array") any_format (λ is. any_lawful)
     c.loop-values.invariant
-    (place_part any_spelling (codes "array") refl
+    (place_part any_format (codes "array") refl
     (stands c.if-not-branch.true c.in_ok-takes_break.ensures.runs)
     (of_exact c.in_err-add_value.ensures))))
 
-pub open_values-loop-values-preserved : goal.open_values-loop-values-preserved
-open_values-loop-values-preserved g t c =
-    open_more any_spelling refl c.loop-values.invariant
+pub indefinite_values-loop-values-preserved : goal.indefinite_values-loop-values-preserved
+indefinite_values-loop-values-preserved g t c =
+    indefinite_more any_format refl c.loop-values.invariant
     (stands c.if-not-branch.true c.in_ok-takes_break.ensures.runs)
     c.in_ok-add_value.ensures.read.moves.by c.in_ok-add_value.ensures.read.sound
     c.in_ok-add_value.ensures.added
 
-pub open_values-loop-values-smaller : goal.open_values-loop-values-smaller
-open_values-loop-values-smaller g t c =
+pub indefinite_values-loop-values-smaller : goal.indefinite_values-loop-values-smaller
+indefinite_values-loop-values-smaller g t c =
     omega (
       arith,
       c.in_ok-add_value.ensures.read.progress refl,
       c.in_ok-takes_break.ensures.runs.moves.by.bound,
     )
 
-pub open_values-returns : goal.open_values-returns
-open_values-returns g t c =
-    open_done in_vector (codes "array") any_spelling c.if-not-branch.false c.loop-values.invariant
+pub indefinite_values-returns : goal.indefinite_values-returns
+indefinite_values-returns g t c =
+    indefinite_done in_vector (codes "array") any_format c.if-not-branch.false
+    c.loop-values.invariant
     c.in_ok-takes_break.ensures.runs
 
 pub add_value-returns-in_err-value : goal.add_value-returns-in_err-value
@@ -174,7 +176,7 @@ add_value-returns-in_err-value g t c =
     rw (p.1, p.2) c.in_err-value.ensures
 
 pub add_value-returns-then-not-keep : goal.add_value-returns-then-not-keep
-add_value-returns-then-not-keep g t c = out_of_memory any_spelling refl
+add_value-returns-then-not-keep g t c = out_of_memory any_format refl
     c.in_ok-value.ensures.moves.by
 
 pub add_value-returns : goal.add_value-returns
@@ -203,77 +205,77 @@ map_inside-returns-in-Err g t c =
 
 pub map_inside-returns-in-Ok-Some : goal.map_inside-returns-in-Ok-Some
 map_inside-returns-in-Ok-Some g t c =
-    exactly (behind (count_spelling any_pair _) pairs_inside (answer_of c.counted_pairs.result)
+    exactly (trailing (count_format any_pair _) pairs_inside (answer_of c.definite_pairs.result)
     (counts in_vector (codes "map") 5 any_pair five_small c.in-Ok-Some.field-0-is
     c.in-Ok-Some.ensures)
-    (of_exact c.counted_pairs.ensures))
+    (of_exact c.definite_pairs.ensures))
 
 pub map_inside-returns-in-Ok-None : goal.map_inside-returns-in-Ok-None
 map_inside-returns-in-Ok-None g t c =
-    exactly (behind (open_spelling (codes "map") any_pair) pairs_inside
-    (answer_of c.open_pairs.result)
+    exactly (trailing (indefinite_format (codes "map") any_pair) pairs_inside
+    (answer_of c.indefinite_pairs.result)
     (opens in_vector (codes "map") 5 any_pair five_small c.in-Ok-None.field-0-is
     c.in-Ok-None.ensures)
-    (of_exact c.open_pairs.ensures))
+    (of_exact c.indefinite_pairs.ensures))
 
-pub counted_pairs-returns-then-is_err : goal.counted_pairs-returns-then-is_err
-counted_pairs-returns-then-is_err g t c =
-    out_of_memory (count_spelling any_pair c.args.count) refl (search rules)
+pub definite_pairs-returns-then-is_err : goal.definite_pairs-returns-then-is_err
+definite_pairs-returns-then-is_err g t c =
+    out_of_memory (count_format any_pair c.args.count) refl (search rules)
 
-pub counted_pairs-returns-in_err-add_pair : goal.counted_pairs-returns-in_err-add_pair
-counted_pairs-returns-in_err-add_pair g t c =
+pub definite_pairs-returns-in_err-add_pair : goal.definite_pairs-returns-in_err-add_pair
+definite_pairs-returns-in_err-add_pair g t c =
     let p = err_from_is_err_and c.from_residual.result c.from_residual.ensures.1 in
     rw (p.1, p.2) (exactly (count_err in_vector any_pair (λ is. pair_is_lawful) c.loop-i.invariant
     c.loop-i-test.true
     (of_exact c.in_err-add_pair.ensures)))
 
-pub counted_pairs-loop-i-preserved : goal.counted_pairs-loop-i-preserved
-counted_pairs-loop-i-preserved g t c =
+pub definite_pairs-loop-i-preserved : goal.definite_pairs-loop-i-preserved
+definite_pairs-loop-i-preserved g t c =
     count_more any_pair c.loop-i.invariant c.in_ok-add_pair.ensures.read.moves.by
     c.in_ok-add_pair.ensures.read.sound
     c.in_ok-add_pair.ensures.added
 
-pub counted_pairs-returns : goal.counted_pairs-returns
-counted_pairs-returns g t c =
+pub definite_pairs-returns : goal.definite_pairs-returns
+definite_pairs-returns g t c =
     count_done in_vector any_pair c.loop-i.invariant
     (omega (arith, c.loop-i-test.false, c.loop-i.auto.i-end))
 
-pub open_pairs-returns-in_err-takes_break : goal.open_pairs-returns-in_err-takes_break
-open_pairs-returns-in_err-takes_break g t c =
+pub indefinite_pairs-returns-in_err-takes_break : goal.indefinite_pairs-returns-in_err-takes_break
+indefinite_pairs-returns-in_err-takes_break g t c =
     let p = err_from_is_err_and c.from_residual.result c.from_residual.ensures.1 in
-    rw (p.1, p.2) (exactly (open_err in_vector (codes "map") any_pair (λ is. pair_is_lawful)
+    rw (p.1, p.2) (exactly (indefinite_err in_vector (codes "map") any_pair (λ is. pair_is_lawful)
     c.loop-pairs.invariant
     (place_end any_pair (codes "map") (λ is. pair_is_lawful) c.in_err-takes_break.ensures.runs
     c.in_err-takes_break.ensures.memory)))
 
-pub open_pairs-returns-in_err-add_pair : goal.open_pairs-returns-in_err-add_pair
-open_pairs-returns-in_err-add_pair g t c =
+pub indefinite_pairs-returns-in_err-add_pair : goal.indefinite_pairs-returns-in_err-add_pair
+indefinite_pairs-returns-in_err-add_pair g t c =
     let p = err_from_is_err_and c.from_residual-in_err-add_pair.result
     c.from_residual-in_err-add_pair.ensures.1 in
-    rw (p.1, p.2) (exactly (open_err in_vector (codes "map") any_pair (λ is. pair_is_lawful)
+    rw (p.1, p.2) (exactly (indefinite_err in_vector (codes "map") any_pair (λ is. pair_is_lawful)
     c.loop-pairs.invariant
     (place_part any_pair (codes "map") refl
     (stands c.if-not-branch.true c.in_ok-takes_break.ensures.runs)
     (of_exact c.in_err-add_pair.ensures))))
 
-pub open_pairs-loop-pairs-preserved : goal.open_pairs-loop-pairs-preserved
-open_pairs-loop-pairs-preserved g t c =
-    open_more any_pair refl c.loop-pairs.invariant
+pub indefinite_pairs-loop-pairs-preserved : goal.indefinite_pairs-loop-pairs-preserved
+indefinite_pairs-loop-pairs-preserved g t c =
+    indefinite_more any_pair refl c.loop-pairs.invariant
     (stands c.if-not-branch.true c.in_ok-takes_break.ensures.runs)
     c.in_ok-add_pair.ensures.read.moves.by c.in_ok-add_pair.ensures.read.sound
     c.in_ok-add_pair.ensures.added
 
-pub open_pairs-loop-pairs-smaller : goal.open_pairs-loop-pairs-smaller
-open_pairs-loop-pairs-smaller g t c =
+pub indefinite_pairs-loop-pairs-smaller : goal.indefinite_pairs-loop-pairs-smaller
+indefinite_pairs-loop-pairs-smaller g t c =
     omega (
       arith,
       c.in_ok-add_pair.ensures.read.progress refl,
       c.in_ok-takes_break.ensures.runs.moves.by.bound,
     )
 
-pub open_pairs-returns : goal.open_pairs-returns
-open_pairs-returns g t c =
-    open_done in_vector (codes "map") any_pair c.if-not-branch.false c.loop-pairs.invariant
+pub indefinite_pairs-returns : goal.indefinite_pairs-returns
+indefinite_pairs-returns g t c =
+    indefinite_done in_vector (codes "map") any_pair c.if-not-branch.false c.loop-pairs.invariant
     c.in_ok-takes_break.ensures.runs
 
 pub add_pair-returns-in_err-pair : goal.add_pair-returns-in_err-pair
@@ -294,13 +296,13 @@ add_pair-returns g t c = record {
 pub read_pair-returns-in_err-key : goal.read_pair-returns-in_err-key
 read_pair-returns-in_err-key g t c =
     let p = err_from_is_err_and c.from_residual.result c.from_residual.ensures.1 in
-    rw (p.1, p.2) (exactly (key_err any_spelling any_spelling (of_exact c.in_err-key.ensures)))
+    rw (p.1, p.2) (exactly (key_err any_format any_format (of_exact c.in_err-key.ensures)))
 
 pub read_pair-returns-in-Ok : goal.read_pair-returns-in-Ok
 read_pair-returns-in-Ok g t c =
-    pair_ok any_spelling any_spelling c.in_ok-key.ensures c.in-Ok.ensures
+    pair_ok any_format any_format c.in_ok-key.ensures c.in-Ok.ensures
 
 pub read_pair-returns-in-Err : goal.read_pair-returns-in-Err
 read_pair-returns-in-Err g t c =
-    exactly (value_err any_spelling any_spelling (λ is. any_lawful) c.in_ok-key.ensures
+    exactly (value_err any_format any_format (λ is. any_lawful) c.in_ok-key.ensures
     (of_exact c.in-Err.ensures))

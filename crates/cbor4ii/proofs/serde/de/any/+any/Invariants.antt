@@ -1,6 +1,6 @@
 use Rattle.std.proofs.Common.{◌+◌, ◌*◌}
 use Rattle.cbor4ii_items.specs.Laws.SequenceParts.{Begun, Opened}
-use Rattle.cbor4ii.specs.AnySpelling.{any_spelling, any_pair}
+use Rattle.cbor4ii.specs.AnyFormat.{any_format, any_pair}
 use Rattle.cbor4ii.proofs.serde.de.any.+any.Given as goal
 
 abbrev pub decreases-read_any : goal.decreases-read_any
@@ -21,17 +21,17 @@ decreases-array_inside g l = 7 * (g.S.Source.view l.de.now.reader).bound + 0
 abbrev pub decreases-map_inside : goal.decreases-map_inside
 decreases-map_inside g l = 7 * (g.S.Source.view l.de.now.reader).bound + 0
 
-abbrev pub decreases-counted_values : goal.decreases-counted_values
-decreases-counted_values g l = 7 * (g.S.Source.view l.de.now.reader).bound + 6
+abbrev pub decreases-definite_values : goal.decreases-definite_values
+decreases-definite_values g l = 7 * (g.S.Source.view l.de.now.reader).bound + 6
 
-abbrev pub decreases-open_values : goal.decreases-open_values
-decreases-open_values g l = 7 * (g.S.Source.view l.de.now.reader).bound + 6
+abbrev pub decreases-indefinite_values : goal.decreases-indefinite_values
+decreases-indefinite_values g l = 7 * (g.S.Source.view l.de.now.reader).bound + 6
 
-abbrev pub decreases-counted_pairs : goal.decreases-counted_pairs
-decreases-counted_pairs g l = 7 * (g.S.Source.view l.de.now.reader).bound + 6
+abbrev pub decreases-definite_pairs : goal.decreases-definite_pairs
+decreases-definite_pairs g l = 7 * (g.S.Source.view l.de.now.reader).bound + 6
 
-abbrev pub decreases-open_pairs : goal.decreases-open_pairs
-decreases-open_pairs g l = 7 * (g.S.Source.view l.de.now.reader).bound + 6
+abbrev pub decreases-indefinite_pairs : goal.decreases-indefinite_pairs
+decreases-indefinite_pairs g l = 7 * (g.S.Source.view l.de.now.reader).bound + 6
 
 abbrev pub decreases-add_value : goal.decreases-add_value
 decreases-add_value g l = 7 * (g.S.Source.view l.de.now.reader).bound + 5
@@ -42,26 +42,26 @@ decreases-add_pair g l = 7 * (g.S.Source.view l.de.now.reader).bound + 5
 abbrev pub decreases-read_pair : goal.decreases-read_pair
 decreases-read_pair g l = 7 * (g.S.Source.view l.de.now.reader).bound + 4
 
-abbrev pub invariant-counted_values-loop-i : goal.invariant-counted_values-loop-i
-invariant-counted_values-loop-i g l =
-    Begun any_spelling l.i (g.S.Source.view l.fn.de.reader) (g.S.Source.view l.de.reader)
+abbrev pub invariant-definite_values-loop-i : goal.invariant-definite_values-loop-i
+invariant-definite_values-loop-i g l =
+    Begun any_format l.i (g.S.Source.view l.fn.de.reader) (g.S.Source.view l.de.reader)
     l.values.items
 
-abbrev pub invariant-counted_pairs-loop-i : goal.invariant-counted_pairs-loop-i
-invariant-counted_pairs-loop-i g l =
+abbrev pub invariant-definite_pairs-loop-i : goal.invariant-definite_pairs-loop-i
+invariant-definite_pairs-loop-i g l =
     Begun any_pair l.i (g.S.Source.view l.fn.de.reader) (g.S.Source.view l.de.reader) l.pairs.items
 
-abbrev pub invariant-open_values-loop-values : goal.invariant-open_values-loop-values
-invariant-open_values-loop-values g l =
-    Opened any_spelling (g.S.Source.view l.fn.de.reader) (g.S.Source.view l.de.reader)
+abbrev pub invariant-indefinite_values-loop-values : goal.invariant-indefinite_values-loop-values
+invariant-indefinite_values-loop-values g l =
+    Opened any_format (g.S.Source.view l.fn.de.reader) (g.S.Source.view l.de.reader)
     l.values.items
 
-abbrev pub decreases-open_values-loop-values : goal.decreases-open_values-loop-values
-decreases-open_values-loop-values g l = (g.S.Source.view l.de.reader).bound
+abbrev pub decreases-indefinite_values-loop-values : goal.decreases-indefinite_values-loop-values
+decreases-indefinite_values-loop-values g l = (g.S.Source.view l.de.reader).bound
 
-abbrev pub invariant-open_pairs-loop-pairs : goal.invariant-open_pairs-loop-pairs
-invariant-open_pairs-loop-pairs g l =
+abbrev pub invariant-indefinite_pairs-loop-pairs : goal.invariant-indefinite_pairs-loop-pairs
+invariant-indefinite_pairs-loop-pairs g l =
     Opened any_pair (g.S.Source.view l.fn.de.reader) (g.S.Source.view l.de.reader) l.pairs.items
 
-abbrev pub decreases-open_pairs-loop-pairs : goal.decreases-open_pairs-loop-pairs
-decreases-open_pairs-loop-pairs g l = (g.S.Source.view l.de.reader).bound
+abbrev pub decreases-indefinite_pairs-loop-pairs : goal.decreases-indefinite_pairs-loop-pairs
+decreases-indefinite_pairs-loop-pairs g l = (g.S.Source.view l.de.reader).bound

@@ -1,8 +1,8 @@
 use Rattle.std.proofs.Common.{refl, arith}
 use Rattle.cbor4ii_items.specs.Laws.Calls.{ok}
-use Rattle.cbor4ii.specs.AnySpelling.{any_leaf}
+use Rattle.cbor4ii.specs.AnyFormat.{any_leaf}
 use Rattle.cbor4ii.specs.declared.serde.de.any_leaf.AnyLeaf.TheVariants.{Bignum}
-use Rattle.cbor4ii.proofs.AnyAnswers.{bignum_sound, too_great, too_great_stops, bignum_err}
+use Rattle.cbor4ii.proofs.AnyAnswers.{bignum_sound, too_great, too_great_rejects, bignum_err}
 use Rattle.cbor4ii.proofs.serde.de.any_leaf.take_bignum.Goals as goal
 
 pub returns-then-number : goal.returns-then-number
@@ -12,16 +12,16 @@ returns-then-number g c =
 
 pub returns-else-number : goal.returns-else-number
 returns-else-number g c =
-    let stops =
-    too_great_stops _ refl (omega (arith, c.if-number.false)) c.in-Ok.ensures.sound in
+    let rejects =
+    too_great_rejects _ refl (omega (arith, c.if-number.false)) c.in-Ok.ensures.sound in
     record {
       moves = record { by = c.in-Ok.ensures.moves.by; depth = λ none. refl };
       progress = λ some. tt;
       memory = λ out. refl;
       sound = tt;
       complete = λ sure. too_great (omega (arith, c.if-number.false)) c.in-Ok.ensures.sound;
-      stops = λ sure. stops;
-      begins = stops;
+      rejects = λ sure. rejects;
+      begins = rejects;
     }
 
 pub returns-in-Err : goal.returns-in-Err

@@ -1,30 +1,30 @@
 use Rattle.std.specs.Prelude.{codes}
 use Rattle.cbor4ii_items.specs.Laws.Calls.{of_exact}
 use Rattle.cbor4ii_items.specs.Laws.SequenceHeads.{head_err, counts, opens}
-use Rattle.cbor4ii_items.specs.Sequences.{count_of, open_of, inside_of, in_list}
+use Rattle.cbor4ii_items.specs.Sequences.{count_of, indefinite_of, inside_of, in_list}
 use Rattle.cbor4ii.specs.Fields.{all_made}
 use Rattle.cbor4ii.specs.Sequence.{five_small}
 use Rattle.cbor4ii.specs.Structs.{entry_of}
 use Rattle.cbor4ii.specs.Typed.{answer_of}
-use Rattle.cbor4ii.proofs.Filling.{alters_behind}
+use Rattle.cbor4ii.proofs.Filling.{alters_after}
 use Rattle.cbor4ii.proofs.serde.de.fields.fields_inside.Goals as goal
 
 pub returns-in-Ok-Some : goal.returns-in-Ok-Some
 returns-in-Ok-Some g c =
     let entry = entry_of (g.V.Places.fields c.args.names.now) in
-    alters_behind all_made (g.V.Places.fields c.args.names.now).exact _ _
+    alters_after all_made (g.V.Places.fields c.args.names.now).exact _ _
     (count_of in_list entry _) (inside_of in_list (codes "map") 5 entry) _
-    (answer_of c.counted_fields.result) (counts in_list (codes "map") 5 entry five_small
-    c.in-Ok-Some.field-0-is c.in-Ok-Some.ensures) c.counted_fields.ensures
+    (answer_of c.definite_fields.result) (counts in_list (codes "map") 5 entry five_small
+    c.in-Ok-Some.field-0-is c.in-Ok-Some.ensures) c.definite_fields.ensures
 
 pub returns-in-Ok-None : goal.returns-in-Ok-None
 returns-in-Ok-None g c =
     let entry = entry_of (g.V.Places.fields c.args.names.now) in
-    alters_behind all_made (g.V.Places.fields c.args.names.now).exact _ _
-    (open_of in_list (codes "map") entry)
-    (inside_of in_list (codes "map") 5 entry) _ (answer_of c.open_fields.result)
+    alters_after all_made (g.V.Places.fields c.args.names.now).exact _ _
+    (indefinite_of in_list (codes "map") entry)
+    (inside_of in_list (codes "map") 5 entry) _ (answer_of c.indefinite_fields.result)
     (opens in_list (codes "map") 5 entry five_small c.in-Ok-None.field-0-is c.in-Ok-None.ensures)
-    c.open_fields.ensures
+    c.indefinite_fields.ensures
 
 pub returns-in-Err : goal.returns-in-Err
 returns-in-Err g c =

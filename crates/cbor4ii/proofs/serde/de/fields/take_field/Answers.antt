@@ -14,4 +14,4 @@ returns-in-Ok g c =
 pub returns-in-Err : goal.returns-in-Err
 returns-in-Err g c =
     let f = g.V.Places.fields c.args.names.now in
-    name_err f.named f.stops (SameChange f.same) f.owned c.in-Err.ensures
+    name_err f.named f.rejects (SameChange f.same) f.owned c.in-Err.ensures

@@ -4,4 +4,4 @@ use Rattle.cbor4ii.proofs.serde.de.first.from_slice.Goals as goal
 pub returns : goal.returns
 returns g c =
     first_lent _ c.read_first.result _ (c.read_first.ensures c.reader.ensures.budget)
-    c.reader.ensures.told c.reader.ensures.lends
+    c.reader.ensures.known c.reader.ensures.lends

@@ -1,15 +1,15 @@
 use Rattle.std.proofs.Common.{ap, sym, arith, Err, codes, refl, rules}
-use Rattle.cbor4ii_items.specs.Lengths.{length_spelling}
-use Rattle.cbor4ii.specs.Accessing.{left_behind}
+use Rattle.cbor4ii_items.specs.Lengths.{length_format}
+use Rattle.cbor4ii.specs.Accessing.{left_after}
 use Rattle.cbor4ii.proofs.Steps.{no_step_left, under}
 use Rattle.cbor4ii.proofs.serde.de.heads.begin_map.Goals as goal
 
 pub returns-then-not-step_in-clause-opened : goal.returns-then-not-step_in-clause-opened
 returns-then-not-step_in-clause-opened g c = tt
 
-pub returns-then-not-step_in-clause-refused : goal.returns-then-not-step_in-clause-refused
-returns-then-not-step_in-clause-refused g c =
-    no_step_left (length_spelling (codes "map") 5) _ (search rules)
+pub returns-then-not-step_in-clause-rejected : goal.returns-then-not-step_in-clause-rejected
+returns-then-not-step_in-clause-rejected g c =
+    no_step_left (length_format (codes "map") 5) _ (search rules)
     c.if-not-step_in.ensures.budget c.step_in.ensures.others
 
 pub returns-in-Ok-Some-clause-opened : goal.returns-in-Ok-Some-clause-opened
@@ -21,7 +21,7 @@ returns-in-Ok-Some-clause-opened g c = record {
   progress = omega (arith, (c.in-Ok-Some.ensures.progress refl), c.step_in.ensures.others.bound);
   length = c.in-Ok-Some.field-0;
   head = c.in-Ok-Some.ensures.sound;
-  begun = sym (ap left_behind c.in-Ok-Some.field-0-is);
+  begun = sym (ap left_after c.in-Ok-Some.field-0-is);
 }
 
 pub returns-in-Ok-None-clause-opened : goal.returns-in-Ok-None-clause-opened
@@ -33,14 +33,14 @@ returns-in-Ok-None-clause-opened g c = record {
   progress = omega (arith, (c.in-Ok-None.ensures.progress refl), c.step_in.ensures.others.bound);
   length = c.in-Ok-None.field-0;
   head = c.in-Ok-None.ensures.sound;
-  begun = sym (ap left_behind c.in-Ok-None.field-0-is);
+  begun = sym (ap left_after c.in-Ok-None.field-0-is);
 }
 
 pub returns-in-Err-clause-opened : goal.returns-in-Err-clause-opened
 returns-in-Err-clause-opened g c = tt
 
-pub returns-in-Err-clause-refused : goal.returns-in-Err-clause-refused
-returns-in-Err-clause-refused g c =
-    under (length_spelling (codes "map") 5) (codes "map")
+pub returns-in-Err-clause-rejected : goal.returns-in-Err-clause-rejected
+returns-in-Err-clause-rejected g c =
+    under (length_format (codes "map") 5) (codes "map")
     c.if-not-step_in.ensures.budget c.step_in.ensures.others c.step_out.ensures.others
     (Err c.in-Err.error) c.step_out.ensures.budget c.in-Err.ensures

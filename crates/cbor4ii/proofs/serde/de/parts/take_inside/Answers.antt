@@ -1,24 +1,25 @@
-use Rattle.cbor4ii_items.specs.Laws.Calls.{behind, of_exact}
+use Rattle.cbor4ii_items.specs.Laws.Calls.{trailing, of_exact}
 use Rattle.cbor4ii_items.specs.Laws.SequenceHeads.{head_err, counts, opens}
-use Rattle.cbor4ii_items.specs.Sequences.{count_of, open_of, inside_of, in_list}
+use Rattle.cbor4ii_items.specs.Sequences.{count_of, indefinite_of, inside_of, in_list}
 use Rattle.cbor4ii.specs.Typed.{parts_answer}
 use Rattle.cbor4ii.proofs.serde.de.parts.take_inside.Goals as goal
 
 pub returns-in-Ok-Some : goal.returns-in-Ok-Some
 returns-in-Ok-Some g c =
     let s = g.Q.Sequence.part in
-    behind (count_of in_list s _) (inside_of in_list g.Q.Sequence.name g.Q.Sequence.major s)
-    (parts_answer c.take_counted.result)
+    trailing (count_of in_list s _) (inside_of in_list g.Q.Sequence.name g.Q.Sequence.major s)
+    (parts_answer c.take_definite.result)
     (counts in_list g.Q.Sequence.name g.Q.Sequence.major s g.met.Q.Sequence.small
-    c.in-Ok-Some.field-0-is c.in-Ok-Some.ensures) c.take_counted.ensures
+    c.in-Ok-Some.field-0-is c.in-Ok-Some.ensures) c.take_definite.ensures
 
 pub returns-in-Ok-None : goal.returns-in-Ok-None
 returns-in-Ok-None g c =
     let s = g.Q.Sequence.part in
-    behind (open_of in_list g.Q.Sequence.name s)
-    (inside_of in_list g.Q.Sequence.name g.Q.Sequence.major s) (parts_answer c.take_open.result)
+    trailing (indefinite_of in_list g.Q.Sequence.name s)
+    (inside_of in_list g.Q.Sequence.name g.Q.Sequence.major s)
+    (parts_answer c.take_indefinite.result)
     (opens in_list g.Q.Sequence.name g.Q.Sequence.major s g.met.Q.Sequence.small
-    c.in-Ok-None.field-0-is c.in-Ok-None.ensures) c.take_open.ensures
+    c.in-Ok-None.field-0-is c.in-Ok-None.ensures) c.take_indefinite.ensures
 
 pub returns-in-Err : goal.returns-in-Err
 returns-in-Err g c =

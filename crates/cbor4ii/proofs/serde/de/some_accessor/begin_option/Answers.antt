@@ -1,7 +1,7 @@
 use Rattle.cbor4ii_items.specs.Laws.Steps.{moves_err}
 use Rattle.std.proofs.Common.{refl, inl, inr, arith, rules}
-use Rattle.cbor4ii.proofs.Looking.{kept_next, saw, option_refuses}
-use Rattle.cbor4ii.proofs.Presence.{null_coming, value_coming, no_step_refuses, no_step_stops}
+use Rattle.cbor4ii.proofs.Looking.{kept_next, saw, option_complete}
+use Rattle.cbor4ii.proofs.Presence.{null_coming, value_coming, no_step_complete, no_step_rejects}
 use Rattle.cbor4ii.proofs.Presence.{presence_ended, no_null}
 use Rattle.cbor4ii.proofs.serde.de.some_accessor.begin_option.Goals.{then-first-via-then-first, then-first-via-else-first+then-first-2}
 use Rattle.cbor4ii.proofs.serde.de.some_accessor.begin_option.Goals as goal
@@ -61,37 +61,37 @@ returns-in-Err-clause-opened g c = tt
 pub returns-in-Err-clause-failed : goal.returns-in-Err-clause-failed
 returns-in-Err-clause-failed g c = c.in-Err.ensures.failed
 
-pub returns-then-first-clause-refused : goal.returns-then-first-clause-refused
-returns-then-first-clause-refused g c = tt
+pub returns-then-first-clause-rejected : goal.returns-then-first-clause-rejected
+returns-then-first-clause-rejected g c = tt
 
-pub returns-else-not-step_in-clause-refused : goal.returns-else-not-step_in-clause-refused
-returns-else-not-step_in-clause-refused g c = tt
+pub returns-else-not-step_in-clause-rejected : goal.returns-else-not-step_in-clause-rejected
+returns-else-not-step_in-clause-rejected g c = tt
 
-pub returns-then-not-step_in-clause-refused : goal.returns-then-not-step_in-clause-refused
-returns-then-not-step_in-clause-refused g c =
+pub returns-then-not-step_in-clause-rejected : goal.returns-then-not-step_in-clause-rejected
+returns-then-not-step_in-clause-rejected g c =
     let seen = saw c.in-Ok.ensures.decodes.moves c.in-Ok.ensures.decodes.sound in
-    let stops = no_step_stops refl seen c.if-first.false c.if-first-2.false
+    let rejects = no_step_rejects refl seen c.if-first.false c.if-first-2.false
     c.if-not-step_in.ensures.budget c.step_in.ensures.others in
     record {
       moves = search rules;
       progress = λ some. tt;
       memory = λ out. cc;
       sound = tt;
-      complete = λ sure. no_step_refuses _ seen c.if-first.false c.if-first-2.false
+      complete = λ sure. no_step_complete _ seen c.if-first.false c.if-first-2.false
           c.if-not-step_in.ensures.budget;
-      stops = λ sure. stops;
-      begins = stops;
+      rejects = λ sure. rejects;
+      begins = rejects;
     }
 
-pub returns-in-Err-clause-refused : goal.returns-in-Err-clause-refused
-returns-in-Err-clause-refused g c =
+pub returns-in-Err-clause-rejected : goal.returns-in-Err-clause-rejected
+returns-in-Err-clause-rejected g c =
     let d = c.in-Err.ensures.decodes in
     record {
       moves = moves_err d.moves;
       progress = λ some. tt;
       memory = d.memory;
       sound = tt;
-      complete = λ sure. option_refuses _ (d.complete (inl refl));
-      stops = λ sure. presence_ended d.begins;
+      complete = λ sure. option_complete _ (d.complete (inl refl));
+      rejects = λ sure. presence_ended d.begins;
       begins = presence_ended d.begins;
     }

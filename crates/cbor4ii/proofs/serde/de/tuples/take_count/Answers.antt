@@ -1,6 +1,7 @@
 use Rattle.std.proofs.Common.{refl}
-use Rattle.cbor4ii.proofs.Tupled.{head_counts, head_differs, head_missing, not_count, not_open}
-use Rattle.cbor4ii.proofs.Tupled.{counted_len, open_len}
+use Rattle.cbor4ii.proofs.Tupled.{head_counts, head_differs, head_missing, not_count}
+use Rattle.cbor4ii.proofs.Tupled.{not_indefinite}
+use Rattle.cbor4ii.proofs.Tupled.{definite_len, indefinite_len}
 use Rattle.cbor4ii.proofs.serde.de.tuples.take_count.Goals as goal
 
 pub returns-then-found-count : goal.returns-then-found-count
@@ -10,13 +11,13 @@ returns-then-found-count g c =
 pub returns-else-found-count : goal.returns-else-found-count
 returns-else-found-count g c =
     head_differs refl (not_count c.in-Ok-Some.field-0-is c.if-found-count.false)
-    (counted_len c.in-Ok-Some.field-0-is c.new.ensures.small c.new.ensures.big)
+    (definite_len c.in-Ok-Some.field-0-is c.new.ensures.small c.new.ensures.big)
     c.in-Ok-Some.ensures
 
 pub returns-in-Ok-None : goal.returns-in-Ok-None
 returns-in-Ok-None g c =
-    head_differs refl (not_open c.in-Ok-None.field-0-is)
-    (open_len c.in-Ok-None.field-0-is) c.in-Ok-None.ensures
+    head_differs refl (not_indefinite c.in-Ok-None.field-0-is)
+    (indefinite_len c.in-Ok-None.field-0-is) c.in-Ok-None.ensures
 
 pub returns-in-Err : goal.returns-in-Err
 returns-in-Err g c = head_missing c.in-Err.ensures

@@ -1,7 +1,7 @@
 use Rattle.std.proofs.Common.{Ok, Err, refl}
 use Rattle.std.proofs.lemmas.Result.{err_from_is_err_and}
 use Rattle.cbor4ii_items.specs.Laws.Calls.{by_ok, by_err_if, of_exact, accepted}
-use Rattle.cbor4ii_items.specs.Sequences.{pair_spelling}
+use Rattle.cbor4ii_items.specs.Sequences.{pair_format}
 use Rattle.cbor4ii.specs.Tuples.{three}
 use Rattle.cbor4ii.specs.TypedParts.{part_of, part_lawful, two_of}
 use Rattle.cbor4ii.proofs.Pairs.{two_ok, first_err, second_err}
@@ -13,20 +13,20 @@ returns-in_err-first g c =
     let p = err_from_is_err_and c.from_residual.result c.from_residual.ensures.1 in
     let first = part_of g.A.Typed.promise in
     let others = two_of g.B.Typed.promise g.C.Typed.promise in
-    rw (p.1, p.2) (by_err_if three (pair_spelling first others) (first_err first others _
+    rw (p.1, p.2) (by_err_if three (pair_format first others) (first_err first others _
     (tell g.A.Typed.promise (Err _) c.in_err-first.ensures)))
 
 pub returns-in-Ok : goal.returns-in-Ok
 returns-in-Ok g c =
     let first = part_of g.A.Typed.promise in
     let others = two_of g.B.Typed.promise g.C.Typed.promise in
-    of_exact (by_ok three (pair_spelling first others) refl (accepted (two_ok first others
+    of_exact (by_ok three (pair_format first others) refl (accepted (two_ok first others
     (tell g.A.Typed.promise (Ok _) c.in_ok-first.ensures) c.in-Ok.ensures)))
 
 pub returns-in-Err : goal.returns-in-Err
 returns-in-Err g c =
     let first = part_of g.A.Typed.promise in
     let others = two_of g.B.Typed.promise g.C.Typed.promise in
-    by_err_if three (pair_spelling first others) (second_err first others
+    by_err_if three (pair_format first others) (second_err first others
     (part_lawful g.A.Typed.promise) (tell g.A.Typed.promise (Ok _) c.in_ok-first.ensures)
     c.in-Err.ensures)

@@ -6,16 +6,16 @@ use Rattle.cbor4ii_items.proofs.sequences.map.MapVecTuple2Sequence.take_part.Goa
 pub returns-in_err-key : goal.returns-in_err-key
 returns-in_err-key g c =
     let p = err_from_is_err_and c.from_residual.result c.from_residual.ensures.1 in
-    rw (p.1, p.2) (exactly (key_err g.K.Spelled.spelling g.V.Spelled.spelling
+    rw (p.1, p.2) (exactly (key_err g.K.Decodable.format g.V.Decodable.format
     (of_exact c.in_err-key.ensures)))
 
 pub returns-in_err-value : goal.returns-in_err-value
 returns-in_err-value g c =
     let p = err_from_is_err_and c.from_residual-in_err-value.result
     c.from_residual-in_err-value.ensures.1 in
-    rw (p.1, p.2) (exactly (value_err g.K.Spelled.spelling g.V.Spelled.spelling
-    (λ is. g.met.K.Spelled.lawful) c.in_ok-key.ensures (of_exact c.in_err-value.ensures)))
+    rw (p.1, p.2) (exactly (value_err g.K.Decodable.format g.V.Decodable.format
+    (λ is. g.met.K.Decodable.lawful) c.in_ok-key.ensures (of_exact c.in_err-value.ensures)))
 
 pub returns : goal.returns
 returns g c =
-    pair_ok g.K.Spelled.spelling g.V.Spelled.spelling c.in_ok-key.ensures c.in_ok-value.ensures
+    pair_ok g.K.Decodable.format g.V.Decodable.format c.in_ok-key.ensures c.in_ok-value.ensures

@@ -16,8 +16,8 @@ use borrow.Table.Str.{str_laws}
 use denote.Text.{str-field}
 use base.Logic.{snd∗}
 use Rattle.std.specs.Prelude.{IfOk}
-use Rattle.cbor4ii_rw.specs.View.{Told}
-use Rattle.cbor4ii_items.proofs.Told.{told_less}
+use Rattle.cbor4ii_rw.specs.View.{IfKnown}
+use Rattle.cbor4ii_items.proofs.IfKnown.{known_less}
 use Rattle.cbor4ii_items.specs.contracts.strings.borrowed.RefStrLend.TheImpl as lends
 use Rattle.cbor4ii_items.proofs.strings.borrowed.RefStrLend.TheImpl.Met.{bound}
 use Rattle.cbor4ii_items.specs.contracts.strings.borrowed.RefStrDecode.decode as f
@@ -35,7 +35,8 @@ decode_spec {M} 𝓤 𝓛 𝓜 𝓡 wired R E LR LE gR dR gS dS gD dD dd P b1 b2
     (f.spec R E gR dR gS dS gD dD dd P 𝓛 𝓜.mem 𝓡.returns)) 𝓣.C 𝓣.Λ (#f args)
     (inst_fn args code.function)
     (code.unfolded 𝓤 𝓛.H 𝓜 𝓡 wired (R, (E, tt)) dR dS dD dd) (λ y.
-    told_less 𝓤 𝓛 𝓜 𝓡 (code.calls-cbor4ii_items::strings::lent::take_lent 𝓡.env wired) R E LR LE gS dS gD
+    known_less 𝓤 𝓛 𝓜 𝓡 (code.calls-cbor4ii_items::strings::lent::take_lent 𝓡.env wired) R E LR LE
+    gS dS gD
     dD dd P b2 b3 b4
     (λ κ. (str-field (record { mir = erased; lft = κ })).row)
     (λ κ. str_laws (record { mir = erased; lft = κ })) (λ κ. search (⊑_meet, ⊑_refl, ⊑_static))
@@ -47,5 +48,5 @@ decode_spec {M} 𝓤 𝓛 𝓜 𝓡 wired R E LR LE gR dR gS dS gD dD dd P b1 b2
     R E LR LE gR dR gS dS gD dD dd M 𝓤 𝓛 𝓜 𝓡 (b1 κs p) b2 b3 b4)
     y.0.0 y.0.1 y.0.2 y.0.3.0 y.0.3.1.0 y.0.4.0 y.0.4.1.0
     (λ z e. (f.clauses R E gR dR gS dS gD dD dd P 𝓛 𝓜.mem 𝓡.returns y.0.0 y.0.3).ensures tt z e)
-    (λ z e. snd∗ 𝓤 (fact 𝓤 (IfOk z (λ v. Told (gS.view y.0.3.1.0.now).told (λ xs. Unit {0}))))
+    (λ z e. snd∗ 𝓤 (fact 𝓤 (IfOk z (λ v. IfKnown (gS.view y.0.3.1.0.now).known (λ xs. Unit {0}))))
     ((f.clauses R E gR dR gS dS gD dD dd P 𝓛 𝓜.mem 𝓡.returns y.0.0 y.0.3).ensures tt z e)) _ _ _ _ _ _ refl _ _ _ _ _ _ _ _ _)

@@ -16,7 +16,7 @@ use prog.Wp.{Tables}
 use Rattle.cbor4ii_items.specs.contracts.types.UncheckedStr as UncheckedStr
 use Rattle.cbor4ii_items.proofs.types.UncheckedStr.TheLaws.{the_row_laws}
 use Rattle.cbor4ii_items.specs.Laws.Forward.{bytes_laws}
-use Rattle.cbor4ii_items.proofs.Told.{told}
+use Rattle.cbor4ii_items.proofs.IfKnown.{known}
 use Rattle.cbor4ii_items.specs.contracts.strings.borrowed.UncheckedStrRefSliceU8Lend.TheImpl as lends
 use Rattle.cbor4ii_items.proofs.strings.borrowed.UncheckedStrRefSliceU8Lend.TheImpl.Met.{bound}
 use Rattle.cbor4ii_items.specs.contracts.strings.borrowed.UncheckedStrRefSliceU8Decode.decode as f
@@ -34,7 +34,8 @@ decode_spec {M} 𝓤 𝓛 𝓜 𝓡 wired R E LR LE gR dR gS dS gD dD dd P b1 b2
     (f.spec R E gR dR gS dS gD dD dd P 𝓛 𝓜.mem 𝓡.returns)) 𝓣.C 𝓣.Λ (#f args)
     (inst_fn args code.function)
     (code.unfolded 𝓤 𝓛.H 𝓜 𝓡 wired (R, (E, tt)) dR dS dD dd) (λ y.
-    told 𝓤 𝓛 𝓜 𝓡 (code.calls-cbor4ii_items::strings::lent::take_lent 𝓡.env wired) R E LR LE gS dS gD
+    known 𝓤 𝓛 𝓜 𝓡 (code.calls-cbor4ii_items::strings::lent::take_lent 𝓡.env wired) R E LR LE
+    gS dS gD
     dD dd P b2 b3 b4
     (λ κ. UncheckedStr.the_row (shr_slice_field (record { mir = erased; lft = κ }) u8 tt).row)
     (λ κ. the_row_laws (shr_slice_field (record { mir = erased; lft = κ }) u8 tt).row

@@ -15,7 +15,7 @@ use prog.Wp.{Tables}
 use Rattle.cbor4ii_items.specs.contracts.types.UncheckedStr as UncheckedStr
 use Rattle.cbor4ii_items.proofs.types.UncheckedStr.TheLaws.{the_row_laws}
 use Rattle.cbor4ii_items.proofs.CowRows.{slice_row, slice_laws}
-use Rattle.cbor4ii_items.proofs.ToldCow.{told}
+use Rattle.cbor4ii_items.proofs.KnownCow.{known}
 use Rattle.cbor4ii_items.specs.contracts.strings.cow.UncheckedStrCowSliceU8GlobalLendOrOwn.TheImpl as lends
 use Rattle.cbor4ii_items.proofs.strings.cow.UncheckedStrCowSliceU8GlobalLendOrOwn.TheImpl.Met.{bound}
 use Rattle.cbor4ii_items.specs.contracts.strings.cow.UncheckedStrCowSliceU8GlobalDecode.decode as f
@@ -36,7 +36,7 @@ decode_spec {M} 𝓤 𝓛 𝓜 𝓡 wired R E LR LE gR dR gS dS gD dD dd P b1 b2
     (f.spec R E gR dR gS dS gD dD dd P 𝓛 𝓜.mem 𝓡.returns)) 𝓣.C 𝓣.Λ (#f args)
     (inst_fn args code.function)
     (code.unfolded 𝓤 𝓛.H 𝓜 𝓡 wired (R, (E, tt)) dR dS dD dd) (λ y.
-    told 𝓤 𝓛 𝓜 𝓡 (code.calls-cbor4ii_items::strings::lent_or_owned::take_cow 𝓡.env wired) R E LR LE
+    known 𝓤 𝓛 𝓜 𝓡 (code.calls-cbor4ii_items::strings::lent_or_owned::take_cow 𝓡.env wired) R E LR LE
     gS dS gD dD dd P b2 b3 b4
     (λ κ. UncheckedStr.the_row (slice_row κ)) (λ κ. the_row_laws (slice_row κ) (slice_laws κ))
     lives (bare (layout (UncheckedStr.the_row (slice_row [])))) (λ κ. refl)

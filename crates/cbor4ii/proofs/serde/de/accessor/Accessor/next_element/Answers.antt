@@ -1,7 +1,7 @@
 use Rattle.std.proofs.Common.{Ok, Err}
 use Rattle.cbor4ii_items.specs.Laws.Calls.{of_exact, accepted}
 use Rattle.cbor4ii.specs.TypedParts.{part_of}
-use Rattle.cbor4ii.proofs.Going.{next_end, next_part, next_refused, next_err, may_go_on}
+use Rattle.cbor4ii.proofs.Going.{next_end, next_part, next_rejected, next_err, may_go_on}
 use Rattle.cbor4ii.proofs.Going.{left_started, left_ended, tried_started, shrinks_by}
 use Rattle.cbor4ii.proofs.Promised.{tell}
 use Rattle.cbor4ii.proofs.serde.de.accessor.Accessor.next_element.Goals as goal
@@ -25,7 +25,7 @@ returns-in-Ok-false-clause-decodes g c =
 
 pub returns-in-Err-clause-decodes : goal.returns-in-Err-clause-decodes
 returns-in-Err-clause-decodes g c =
-    next_refused _ (part_of g.T.Typed.promise) c.in-Err.ensures.decodes
+    next_rejected _ (part_of g.T.Typed.promise) c.in-Err.ensures.decodes
 
 pub returns-in-Ok-clause-goes_on : goal.returns-in-Ok-clause-goes_on
 returns-in-Ok-clause-goes_on g c =

@@ -1,17 +1,19 @@
 use Rattle.std.proofs.Common.{refl}
-use Rattle.cbor4ii.proofs.Going.{start_open, start_refused}
+use Rattle.cbor4ii.proofs.Going.{start_indefinite, start_rejected}
 use Rattle.cbor4ii.proofs.serde.de.accessor.Accessor.starts_element.Goals as goal
 
 pub returns-in-Ok-true-clause-decodes : goal.returns-in-Ok-true-clause-decodes
 returns-in-Ok-true-clause-decodes g c =
-    rw c.in-Open.is (start_open (rw c.in-Ok-true.field-0-test at c.in-Ok-true.ensures.decodes))
+    rw c.in-Indefinite.is (start_indefinite
+    (rw c.in-Ok-true.field-0-test at c.in-Ok-true.ensures.decodes))
 
 pub returns-in-Ok-false-clause-decodes : goal.returns-in-Ok-false-clause-decodes
 returns-in-Ok-false-clause-decodes g c =
-    rw c.in-Open.is (start_open (rw c.in-Ok-false.field-0-test at c.in-Ok-false.ensures.decodes))
+    rw c.in-Indefinite.is (start_indefinite
+    (rw c.in-Ok-false.field-0-test at c.in-Ok-false.ensures.decodes))
 
 pub returns-in-Err-clause-decodes : goal.returns-in-Err-clause-decodes
-returns-in-Err-clause-decodes g c = rw c.in-Open.is (start_refused c.in-Err.ensures.decodes)
+returns-in-Err-clause-decodes g c = rw c.in-Indefinite.is (start_rejected c.in-Err.ensures.decodes)
 
 pub returns-in-Err-clause-failed : goal.returns-in-Err-clause-failed
 returns-in-Err-clause-failed g c = c.in-Err.ensures.failed
@@ -20,20 +22,20 @@ pub returns-in-Ok-true-clause-starts : goal.returns-in-Ok-true-clause-starts
 returns-in-Ok-true-clause-starts g c = record {
   same_reference = refl;
   same_steps = refl;
-  left = rw c.in-Open.is refl;
+  left = rw c.in-Indefinite.is refl;
   asked = tt;
   kept = tt;
-  still = λ not. absurd (not c.in-Open.is);
+  still = λ not. absurd (not c.in-Indefinite.is);
 }
 
 pub returns-in-Ok-false-clause-starts : goal.returns-in-Ok-false-clause-starts
 returns-in-Ok-false-clause-starts g c = record {
   same_reference = refl;
   same_steps = refl;
-  left = rw c.in-Open.is refl;
+  left = rw c.in-Indefinite.is refl;
   asked = tt;
   kept = tt;
-  still = λ not. absurd (not c.in-Open.is);
+  still = λ not. absurd (not c.in-Indefinite.is);
 }
 
 pub returns-in-Err-clause-starts : goal.returns-in-Err-clause-starts
@@ -41,7 +43,7 @@ returns-in-Err-clause-starts g c = record {
   same_reference = refl;
   same_steps = refl;
   left = tt;
-  asked = c.in-Open.is;
-  kept = c.in-Open.is;
-  still = λ not. absurd (not c.in-Open.is);
+  asked = c.in-Indefinite.is;
+  kept = c.in-Indefinite.is;
+  still = λ not. absurd (not c.in-Indefinite.is);
 }

@@ -1,5 +1,5 @@
 use Rattle.std.proofs.Common.{refl}
-use Rattle.cbor4ii_items.specs.Laws.Answering.{refuses_as}
+use Rattle.cbor4ii_items.specs.Laws.Answering.{complete_as}
 use Rattle.cbor4ii_items.specs.Laws.Steps.{moves_err}
 use Rattle.cbor4ii.specs.TypedParts.{typed_box}
 use Rattle.cbor4ii.proofs.Forms.{sound_as}
@@ -12,7 +12,7 @@ returns-in-Err-clause-promised g c = record {
   progress = tt;
   memory = λ out. refl;
   sound = tt;
-  complete = λ is sure. refuses_as g.T.Typed.promise.spelling.reads _
+  complete = λ is sure. complete_as g.T.Typed.promise.format.reads _
       (λ xs budget none b. none b.value) (c.in-Err.ensures.complete is sure);
   begins = c.in-Err.ensures.begins;
 }
@@ -20,11 +20,11 @@ returns-in-Err-clause-promised g c = record {
 pub returns-in-Ok-new-clause-promised : goal.returns-in-Ok-new-clause-promised
 returns-in-Ok-new-clause-promised g c =
     ok (typed_box g.T.Typed.promise) c.in-Ok.ensures.moves.by c.in-Ok.ensures.progress
-    (sound_as g.T.Typed.promise.spelling.reads (λ b. b.value) c.in-Ok-new.ensures.ok
+    (sound_as g.T.Typed.promise.format.reads (λ b. b.value) c.in-Ok-new.ensures.ok
     c.in-Ok.ensures.sound)
 
-pub returns-in-Ok-new-clause-behind : goal.returns-in-Ok-new-clause-behind
-returns-in-Ok-new-clause-behind g c never = tt
+pub returns-in-Ok-new-clause-after_item : goal.returns-in-Ok-new-clause-after_item
+returns-in-Ok-new-clause-after_item g c never = tt
 
 pub returns-clause-promised : goal.returns-clause-promised
 returns-clause-promised g c =

@@ -1,7 +1,7 @@
 use Rattle.std.proofs.Common.{length, take, drop, get_or, ◌-◌}
 use Rattle.cbor4ii.proofs.Casing.{cases_first, cases_none, first_ok, first_err, other_ok, other_err}
 use Rattle.cbor4ii.proofs.Casing.{unnamed_ok, unnamed_err}
-use Rattle.cbor4ii.proofs.Names.{some_name, is_first, is_behind}
+use Rattle.cbor4ii.proofs.Names.{some_name, is_first, is_after}
 use Rattle.cbor4ii.proofs.serde.de.cases.Tuple2CasesChoice.take.Goals as goal
 
 pub returns-in-Ok-take : goal.returns-in-Ok-take
@@ -9,7 +9,7 @@ returns-in-Ok-take g c name which =
     let names = c.args.names.now in
     let some = c.in-len1-up.len_at_least in
     let d = some_name names some in
-    let h = is_behind name names c.args.at d some c.if-at-gt0.true which in
+    let h = is_after name names c.args.at d some c.if-at-gt0.true which in
     let others = g.D.Cases.cases c.args.self.1 in
     cases_first g.C.Case.holding others names c.args.form name d some
     (other_ok (get_or names 0 d).now g.C.Case.holding
@@ -21,7 +21,7 @@ returns-then-at-gt0 g c name which =
     let names = c.args.names.now in
     let some = c.in-len1-up.len_at_least in
     let d = some_name names some in
-    let h = is_behind name names c.args.at d some c.if-at-gt0.true which in
+    let h = is_after name names c.args.at d some c.if-at-gt0.true which in
     let others = g.D.Cases.cases c.args.self.1 in
     cases_first g.C.Case.holding others names c.args.form name d some
     (other_err (get_or names 0 d).now g.C.Case.holding

@@ -1,4 +1,4 @@
-use Rattle.cbor4ii.proofs.Told.{decoded}
+use Rattle.cbor4ii.proofs.IfKnown.{decoded}
 use Rattle.cbor4ii.proofs.serde.de.cow.CowStrGlobalDeserializeSegmentReader.deserialize.Goals as goal
 
 pub returns-clause-item : goal.returns-clause-item

@@ -1,8 +1,8 @@
 use Rattle.std.proofs.Common.{refl, inl, sym, ◌∙◌, subst}
 use Rattle.cbor4ii_items.specs.Laws.Steps.{moves_ok, moves_err}
 use Rattle.cbor4ii.specs.Character.{NoCharacter}
-use Rattle.cbor4ii.proofs.Characters.{char_sound, char_refuses, char_stops, other_moves}
-use Rattle.cbor4ii.proofs.Characters.{other_refuses, other_stops}
+use Rattle.cbor4ii.proofs.Characters.{char_sound, char_complete, char_rejects, other_moves}
+use Rattle.cbor4ii.proofs.Characters.{other_complete, other_rejects}
 use Rattle.cbor4ii.proofs.serde.de.deserializer.Deserializer.deserialize_char.Goals as goal
 
 pub returns-in-Some : goal.returns-in-Some
@@ -24,11 +24,12 @@ returns-in-Ok g c = record {
   memory = λ no. refl;
   sound = tt;
   complete =
-      λ is sure. other_refuses _ (subst NoCharacter c.as_str.ensures.value
+      λ is sure. other_complete _ (subst NoCharacter c.as_str.ensures.value
       (c.in-None.ensures.other refl))
       c.in-Ok.ensures.sound;
   begins =
-      λ is. other_stops _ (subst NoCharacter c.as_str.ensures.value (c.in-None.ensures.other refl))
+      λ is. other_rejects _ (subst NoCharacter c.as_str.ensures.value
+      (c.in-None.ensures.other refl))
       refl c.in-Ok.ensures.sound;
 }
 
@@ -38,6 +39,6 @@ returns g c = record {
   progress = tt;
   memory = λ some. refl;
   sound = tt;
-  complete = λ is sure. char_refuses c.args.alloc (c.in-Err.ensures.complete (inl refl));
-  begins = λ is. char_stops c.in-Err.ensures.begins;
+  complete = λ is sure. char_complete c.args.alloc (c.in-Err.ensures.complete (inl refl));
+  begins = λ is. char_rejects c.in-Err.ensures.begins;
 }

@@ -3,6 +3,6 @@ use Rattle.cbor4ii.proofs.serde.de.deserializer.Deserializer.deserialize_enum.Go
 
 pub returns-in-Err : goal.returns-in-Err
 returns-in-Err g c = (
-  (refl, (λ w. tt), (c.in-Err.ensures.refused, c.in-Err.ensures.failed)),
+  (refl, (λ w. tt), (c.in-Err.ensures.rejected, c.in-Err.ensures.failed)),
   (tt, tt),
 )

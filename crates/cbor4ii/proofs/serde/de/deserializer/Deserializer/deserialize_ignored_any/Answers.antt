@@ -1,5 +1,5 @@
 use Rattle.std.proofs.Common.{refl}
-use Rattle.cbor4ii_items.specs.Laws.Answering.{refuses_as}
+use Rattle.cbor4ii_items.specs.Laws.Answering.{complete_as}
 use Rattle.cbor4ii_items.specs.Laws.Steps.{moves_ok, moves_err}
 use Rattle.cbor4ii_tree.specs.Ignored.{ReadsIgnored}
 use Rattle.cbor4ii.specs.ItemRead.{ReadsSkipped}
@@ -13,7 +13,7 @@ returns-in-Ok-clause-item g c = record {
   memory = tt;
   sound = sound_as ReadsIgnored (λ _. c.in-Ok.field-0) refl c.in-Ok.ensures.decodes.sound;
   complete = λ e. tt;
-  stops = λ e. tt;
+  rejects = λ e. tt;
   begins = tt;
 }
 
@@ -23,9 +23,9 @@ returns-in-Err-clause-item g c = record {
   progress = λ e. tt;
   memory = c.in-Err.ensures.decodes.memory;
   sound = tt;
-  complete = λ e. refuses_as ReadsIgnored ReadsSkipped (λ xs budget none v. none record {})
+  complete = λ e. complete_as ReadsIgnored ReadsSkipped (λ xs budget none v. none record {})
       (c.in-Err.ensures.decodes.complete e);
-  stops = c.in-Err.ensures.decodes.stops;
+  rejects = c.in-Err.ensures.decodes.rejects;
   begins = c.in-Err.ensures.decodes.begins;
 }
 
@@ -35,8 +35,8 @@ returns-in-Ok-clause-only g c = c.in-Ok.ensures.only
 pub returns-in-Ok-clause-all : goal.returns-in-Ok-clause-all
 returns-in-Ok-clause-all g c = c.in-Ok.ensures.all
 
-pub returns-in-Ok-clause-front : goal.returns-in-Ok-clause-front
-returns-in-Ok-clause-front g c = c.in-Ok.ensures.front
+pub returns-in-Ok-clause-prefix : goal.returns-in-Ok-clause-prefix
+returns-in-Ok-clause-prefix g c = c.in-Ok.ensures.prefix
 
 pub returns-in-Ok-clause-eof : goal.returns-in-Ok-clause-eof
 returns-in-Ok-clause-eof g c = c.in-Ok.ensures.eof
@@ -59,8 +59,8 @@ returns-in-Err-clause-only g c = c.in-Err.ensures.only
 pub returns-in-Err-clause-all : goal.returns-in-Err-clause-all
 returns-in-Err-clause-all g c = c.in-Err.ensures.all
 
-pub returns-in-Err-clause-front : goal.returns-in-Err-clause-front
-returns-in-Err-clause-front g c = c.in-Err.ensures.front
+pub returns-in-Err-clause-prefix : goal.returns-in-Err-clause-prefix
+returns-in-Err-clause-prefix g c = c.in-Err.ensures.prefix
 
 pub returns-in-Err-clause-eof : goal.returns-in-Err-clause-eof
 returns-in-Err-clause-eof g c = c.in-Err.ensures.eof

@@ -3,9 +3,9 @@ use Rattle.cbor4ii.proofs.serde.de.deserializer.Deserializer.deserialize_map.Goa
 
 pub returns-in-Err : goal.returns-in-Err
 returns-in-Err g c = (
-  (refl, (λ w. tt), c.in-Err.ensures.refused),
+  (refl, (λ w. tt), c.in-Err.ensures.rejected),
   record {
-    refused = tt;
+    rejected = tt;
     same_reference = tt;
     opened = tt;
     steps = tt;

@@ -3,6 +3,6 @@ use Rattle.cbor4ii.proofs.serde.de.deserializer.Deserializer.deserialize_option.
 
 pub returns-in-Err : goal.returns-in-Err
 returns-in-Err g c = (
-  (refl, (λ w. tt), (c.in-Err.ensures.refused, c.in-Err.ensures.failed)),
-  record { refused = tt; same_reference = tt; opened = tt },
+  (refl, (λ w. tt), (c.in-Err.ensures.rejected, c.in-Err.ensures.failed)),
+  record { rejected = tt; same_reference = tt; opened = tt },
 )

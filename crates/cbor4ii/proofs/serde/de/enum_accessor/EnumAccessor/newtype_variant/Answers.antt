@@ -1,4 +1,4 @@
-use Rattle.cbor4ii.proofs.Told.{on_ok, if_ok, if_err}
+use Rattle.cbor4ii.proofs.IfKnown.{on_ok, if_ok, if_err}
 use Rattle.cbor4ii.proofs.Contents.{content_ok, content_err, content_said}
 use Rattle.cbor4ii.proofs.serde.de.enum_accessor.EnumAccessor.newtype_variant.Goals as goal
 
@@ -12,8 +12,8 @@ returns-clause-complete g c said exact =
     content_err _ c.deserialize.result _ c.if-not-self.false
     (if_err _ c.deserialize.result (c.deserialize.ensures.complete said exact))
 
-pub returns-clause-stops : goal.returns-clause-stops
-returns-clause-stops g c =
+pub returns-clause-rejects : goal.returns-clause-rejects
+returns-clause-rejects g c =
     content_said _ _ _ c.deserialize.result _ _ _ c.if-not-self.false c.drop-self-2.ensures.others
     c.deserialize.ensures.moves (λ is. if_err _ c.deserialize.result
     (c.deserialize.ensures.begins is))

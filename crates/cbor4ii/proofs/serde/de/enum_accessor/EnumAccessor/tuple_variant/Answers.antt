@@ -6,7 +6,7 @@ pub returns-in-Ok : goal.returns-in-Ok
 returns-in-Ok g c = (
   (refl, (λ w. refl), tt),
   record {
-    refused = tt;
+    rejected = tt;
     same_reference = refl;
     wrong = c.in-Ok.ensures.wrong;
     opened = c.in-Ok.ensures.opened;
@@ -29,11 +29,11 @@ returns-in-Err g c =
             moves = moves_err f.moves;
             closes = f.closes;
           },
-          c.in-Err.ensures.stops,
+          c.in-Err.ensures.rejects,
         ),
       ),
       record {
-        refused = tt;
+        rejected = tt;
         same_reference = tt;
         wrong = c.in-Err.ensures.wrong;
         opened = tt;

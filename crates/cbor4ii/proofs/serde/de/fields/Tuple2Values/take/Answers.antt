@@ -2,7 +2,7 @@ use Rattle.std.proofs.Common.{refl, ap, Ok, Err, length, take, drop, [], ◌-◌
 use Rattle.cbor4ii.specs.Structs.{unnamed}
 use Rattle.cbor4ii.specs.Typed.{answer_of}
 use Rattle.cbor4ii.proofs.Filling.{skips, field_ok, field_err, field_below, at_first, at_none}
-use Rattle.cbor4ii.proofs.Names.{some_name, is_first, is_behind}
+use Rattle.cbor4ii.proofs.Names.{some_name, is_first, is_after}
 use Rattle.cbor4ii.proofs.serde.de.fields.Tuple2Values.take.Goals as goal
 
 pub returns-then-at-gt0 : goal.returns-then-at-gt0
@@ -12,7 +12,7 @@ returns-then-at-gt0 g c name which =
     let p = g.P.Value.Typed.promise in
     let some = c.in-len1-up.len_at_least in
     let d = some_name names some in
-    let h = is_behind name names c.args.at d some c.if-at-gt0.true which in
+    let h = is_after name names c.args.at d some c.if-at-gt0.true which in
     at_first place p g.V.Places.fields names name _ _ _ _ (answer_of c.take.result) d some
     (field_below place _ p (g.V.Places.fields (take (length names - 1) (drop 1 names))) _ _
     (answer_of c.take.result) _ _ _ h.0 refl (c.take.ensures name h.1))

@@ -2,11 +2,11 @@ use Rattle.std.proofs.Common.{refl, inl, inr, arith}
 use Rattle.cbor4ii_items.specs.Laws.Steps.{moves_then, moves_ok, moves_err}
 use Rattle.cbor4ii_items.specs.Laws.Answering.{exact_kept}
 use Rattle.cbor4ii.specs.Typed.{said_by}
-use Rattle.cbor4ii.proofs.Looking.{kept_next, saw, some_sound, some_refuses, option_refuses}
+use Rattle.cbor4ii.proofs.Looking.{kept_next, saw, some_sound, some_complete, option_complete}
 use Rattle.cbor4ii.proofs.Looking.{null_sound}
 use Rattle.std.specs.Prelude.{codes}
-use Rattle.cbor4ii.specs.Stepped.{StopsStepped}
-use Rattle.cbor4ii.proofs.Beginnings.{option_stops, option_ended}
+use Rattle.cbor4ii.specs.Stepped.{RejectsStepped}
+use Rattle.cbor4ii.proofs.Beginnings.{option_rejects, option_ended}
 use Rattle.cbor4ii.proofs.serde.de.option.OptionDeserialize.deserialize.Goals.{then-first-via-then-first, then-first-via-else-first+then-first-2}
 use Rattle.cbor4ii.proofs.serde.de.option.OptionDeserialize.deserialize.Goals as goal
 
@@ -55,12 +55,12 @@ returns-in-Err-under_step g c = record {
   progress = tt;
   memory = c.in-Err-under_step.ensures.memory;
   sound = tt;
-  complete = λ is exact. some_refuses _ (saw c.in-Ok.ensures.decodes.moves
+  complete = λ is exact. some_complete _ (saw c.in-Ok.ensures.decodes.moves
       c.in-Ok.ensures.decodes.sound)
       c.if-first.false
-      c.if-first-2.false (λ xs told. c.in-Err-under_step.ensures.complete is
-      (exact_kept _ _ _ xs told c.in-Ok.ensures.decodes.moves.by exact));
-  begins = λ _. option_stops _ (saw c.in-Ok.ensures.decodes.moves c.in-Ok.ensures.decodes.sound)
+      c.if-first-2.false (λ xs known. c.in-Err-under_step.ensures.complete is
+      (exact_kept _ _ _ xs known c.in-Ok.ensures.decodes.moves.by exact));
+  begins = λ _. option_rejects _ (saw c.in-Ok.ensures.decodes.moves c.in-Ok.ensures.decodes.sound)
       c.if-first.false
       c.if-first-2.false c.in-Err-under_step.ensures.begins;
 }
@@ -71,7 +71,7 @@ returns-in-Err g c = record {
   progress = tt;
   memory = λ is. let no = c.in-Err.ensures.decodes.memory is in cc;
   sound = tt;
-  complete = λ is exact. option_refuses _ (c.in-Err.ensures.decodes.complete (inl refl));
-  begins = λ _. option_ended (StopsStepped (codes "option") (said_by g.T.Typed.promise))
+  complete = λ is exact. option_complete _ (c.in-Err.ensures.decodes.complete (inl refl));
+  begins = λ _. option_ended (RejectsStepped (codes "option") (said_by g.T.Typed.promise))
       c.in-Err.ensures.decodes.begins;
 }

@@ -1,6 +1,6 @@
 use Rattle.std.proofs.Common.{refl}
-use Rattle.cbor4ii.proofs.Presence.{value_sound, value_refuses, no_value_comes, unmoved}
-use Rattle.cbor4ii.proofs.Stopped.{stopped_behind}
+use Rattle.cbor4ii.proofs.Presence.{value_sound, value_complete, no_value_comes, unmoved}
+use Rattle.cbor4ii.proofs.Stopped.{stopped_after}
 use Rattle.cbor4ii.proofs.serde.de.some_accessor.SomeAccessor.value.Goals as goal
 
 pub returns-in-Ok-clause-sound : goal.returns-in-Ok-clause-sound
@@ -9,11 +9,11 @@ returns-in-Ok-clause-sound g c =
 
 pub returns-clause-complete : goal.returns-clause-complete
 returns-clause-complete g c said exact =
-    value_refuses _ c.if-not-self.false (c.in-Err.ensures.complete said exact)
+    value_complete _ c.if-not-self.false (c.in-Err.ensures.complete said exact)
 
-pub returns-clause-stops : goal.returns-clause-stops
-returns-clause-stops g c said =
-    stopped_behind _ c.drop-self-2.ensures.others (c.in-Err.ensures.begins said)
+pub returns-clause-rejects : goal.returns-clause-rejects
+returns-clause-rejects g c said =
+    stopped_after _ c.drop-self-2.ensures.others (c.in-Err.ensures.begins said)
 
 pub returns-in-Ok-clause-memory : goal.returns-in-Ok-clause-memory
 returns-in-Ok-clause-memory g c = tt
@@ -25,8 +25,8 @@ returns-in-Ok-clause-progress g c =
 pub returns-in-Ok-clause-complete : goal.returns-in-Ok-clause-complete
 returns-in-Ok-clause-complete g c said exact = tt
 
-pub returns-in-Ok-clause-stops : goal.returns-in-Ok-clause-stops
-returns-in-Ok-clause-stops g c said = tt
+pub returns-in-Ok-clause-rejects : goal.returns-in-Ok-clause-rejects
+returns-in-Ok-clause-rejects g c said = tt
 
 pub returns-clause-memory : goal.returns-clause-memory
 returns-clause-memory g c = c.in-Err.ensures.memory
@@ -46,8 +46,8 @@ returns-then-not-self-clause-progress g c = tt
 pub returns-then-not-self-clause-complete : goal.returns-then-not-self-clause-complete
 returns-then-not-self-clause-complete g c said exact = tt
 
-pub returns-then-not-self-clause-stops : goal.returns-then-not-self-clause-stops
-returns-then-not-self-clause-stops g c said = tt
+pub returns-then-not-self-clause-rejects : goal.returns-then-not-self-clause-rejects
+returns-then-not-self-clause-rejects g c said = tt
 
 pub returns-then-not-self-clause-absent : goal.returns-then-not-self-clause-absent
 returns-then-not-self-clause-absent g c none = (refl, unmoved none c.drop-self.ensures)

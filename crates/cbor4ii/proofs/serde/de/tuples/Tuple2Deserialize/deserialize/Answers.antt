@@ -1,6 +1,6 @@
 use Rattle.std.proofs.Common.{rules}
 use Rattle.cbor4ii_items.specs.Laws.Calls.{of_exact}
-use Rattle.cbor4ii.specs.Tuples.{behind_spelling}
+use Rattle.cbor4ii.specs.Tuples.{after_format}
 use Rattle.cbor4ii.specs.Typed.{answer_of}
 use Rattle.cbor4ii.specs.TypedParts.{two_of, typed_pair}
 use Rattle.cbor4ii.proofs.Promised.{promised}
@@ -9,14 +9,14 @@ use Rattle.cbor4ii.proofs.serde.de.tuples.Tuple2Deserialize.deserialize.Goals as
 
 pub returns-then-not-step_in : goal.returns-then-not-step_in
 returns-then-not-step_in g c =
-    let inside = behind_spelling 2 (two_of g.A.Typed.promise g.B.Typed.promise) in
+    let inside = after_format 2 (two_of g.A.Typed.promise g.B.Typed.promise) in
     promised (typed_pair g.A.Typed.promise g.B.Typed.promise) (of_exact (no_step_left inside _
     (search rules) c.if-not-step_in.ensures.budget c.step_in.ensures.others))
 
 pub returns : goal.returns
 returns g c =
-    let inside = behind_spelling 2 (two_of g.A.Typed.promise g.B.Typed.promise) in
+    let inside = after_format 2 (two_of g.A.Typed.promise g.B.Typed.promise) in
     promised (typed_pair g.A.Typed.promise g.B.Typed.promise) (under_if inside _
     c.if-not-step_in.ensures.budget c.step_in.ensures.others c.step_out.ensures.others
-    (answer_of c.pair_behind-outcome.result) c.step_out.ensures.budget
-    c.pair_behind-outcome.ensures)
+    (answer_of c.pair_after-outcome.result) c.step_out.ensures.budget
+    c.pair_after-outcome.ensures)

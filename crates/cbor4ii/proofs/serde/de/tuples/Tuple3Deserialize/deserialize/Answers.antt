@@ -1,6 +1,6 @@
 use Rattle.std.proofs.Common.{rules}
 use Rattle.cbor4ii_items.specs.Laws.Calls.{of_exact}
-use Rattle.cbor4ii.specs.Tuples.{behind_spelling}
+use Rattle.cbor4ii.specs.Tuples.{after_format}
 use Rattle.cbor4ii.specs.Typed.{answer_of}
 use Rattle.cbor4ii.specs.TypedParts.{three_of, typed_triple}
 use Rattle.cbor4ii.proofs.Promised.{promised}
@@ -9,7 +9,7 @@ use Rattle.cbor4ii.proofs.serde.de.tuples.Tuple3Deserialize.deserialize.Goals as
 
 pub returns-then-not-step_in : goal.returns-then-not-step_in
 returns-then-not-step_in g c =
-    let inside = behind_spelling 3 (three_of g.A.Typed.promise g.B.Typed.promise g.C.Typed.promise)
+    let inside = after_format 3 (three_of g.A.Typed.promise g.B.Typed.promise g.C.Typed.promise)
     in
     promised (typed_triple g.A.Typed.promise g.B.Typed.promise g.C.Typed.promise)
     (of_exact (no_step_left inside _
@@ -17,9 +17,9 @@ returns-then-not-step_in g c =
 
 pub returns : goal.returns
 returns g c =
-    let inside = behind_spelling 3 (three_of g.A.Typed.promise g.B.Typed.promise g.C.Typed.promise)
+    let inside = after_format 3 (three_of g.A.Typed.promise g.B.Typed.promise g.C.Typed.promise)
     in
     promised (typed_triple g.A.Typed.promise g.B.Typed.promise g.C.Typed.promise) (under_if inside _
     c.if-not-step_in.ensures.budget c.step_in.ensures.others c.step_out.ensures.others
-    (answer_of c.triple_behind-outcome.result) c.step_out.ensures.budget
-    c.triple_behind-outcome.ensures)
+    (answer_of c.triple_after-outcome.result) c.step_out.ensures.budget
+    c.triple_after-outcome.ensures)

@@ -1,0 +1,166 @@
+-- As `IfKnown`, with the callee `take_cow`, whose bound is `LendOrOwn`: the two differ in the names
+-- of what the check generates, and a file cannot take those as parameters.
+use mathlib.Core.Path.{◌≡◌}
+use Prim.Native.Nat.{ℕ}
+use mathlib.Core.List.{List, [], ◌∷◌, ◌++◌}
+use seplogic.Ra.Ura.{Ura}
+use base.Fml.{Lft}
+use base.Logic.{SProp, ent, ex, ex_i, ex_e, via, sep, snd∗, mono_r, emp}
+use contract.BorrowLft.{◌⊑◌}
+use contract.Lifetimes.{Lfts, Shares, AllOutlive}
+use contract.Monad.{fact, fact_use}
+use contract.Running.{Running, tables, tables_of}
+use denote.Exit.{yes}
+use denote.Param.{bounded, param, arg, layout}
+use denote.Param.Glue as Glue
+use denote.Param.Laws.{Laws, param_laws, arg_laws}
+use denote.RattleType.{RattleType}
+use denote.Ref.{MutBor}
+use denote.Signature.{type_at}
+use denote.Triple.Entry.{Args, on_entry, alive}
+use denote.Triple.Impl.{with_fact, pin_of}
+use denote.Triple.Clauses.{Ended, ClausesAt, AtExit, Lasts, at_exit, lasts}
+use denote.Triple.Spec.{triple_of, Back, exits}
+use denote.Triple.Statement.{Contract}
+use mir.Raw.{raw as bare}
+use mir.Syntax.{Ty, Dict, Callee, Home, Kind, Lifetime, a_type, dcons, dnil, named}
+use mir.Val.{Val}
+use prog.Model.{Model}
+use prog.Wired.{Wired}
+use prog.Wp.{Tables, WpFn}
+use sound.WpLaws.{WpFn-mono}
+use types.Logic.{Logic, sem}
+use Rattle.std.proofs.result.Result.TheLaws as ResultLaws
+use Rattle.std.specs.contracts.alloc.Global as Global
+use Rattle.std.specs.contracts.fmt.Debug.TheBound as DebugBound
+use Rattle.std.specs.declared.fmt.Debug as Debug
+use Rattle.cbor4ii_rw.specs.contracts.error.DecodeError as DecodeError
+use Rattle.cbor4ii_items.specs.contracts.strings.lent_or_owned.LendOrOwn.TheBound as LendBound
+use Rattle.cbor4ii_rw.specs.contracts.read.Source.TheBound as SourceBound
+use Rattle.cbor4ii_items.specs.declared.strings.lent_or_owned.LendOrOwn as Lend
+use Rattle.cbor4ii_rw.specs.declared.read.Source as Source
+use Rattle.cbor4ii_items.specs.contracts.strings.lent_or_owned.take_cow as g
+use Rattle.cbor4ii_items.specs.Laws.Forward.{lent, lent_fn, result_fit}
+use Rattle.cbor4ii_rw.proofs.error.DecodeError.TheLaws as ErrorLaws
+use Rattle.cbor4ii_items.proofs.strings.lent_or_owned.take_cow.Met.{met}
+use Rattle.cbor4ii_items.proofs.strings.lent_or_owned.take_cow.Symbol.{name as #g, code as g_code}
+
+module _ {M : Type 1} (𝓤 : Ura M) (𝓛 : Logic 𝓤) (𝓜 : Model 𝓤 𝓛.H) (𝓡 : Running 𝓤 𝓛.H 𝓜)
+    (wired : Wired 𝓡.env g_code)
+    (R E : RattleType) (LR : Laws R) (LE : Laws E) (gS : Source.Ghosts R.Denot E.Denot)
+    (dS : Dict) (gD : Debug.Ghosts E.Denot) (dD dd : Dict) (P : Lfts 4 → Type 0)
+    (b2 : SourceBound.Met 𝓛 𝓜 𝓡 𝓡.env R E gS dS gD dD) (b3 : DebugBound.Met 𝓛 𝓜 𝓡 𝓡.env E gD dD)
+    (b4 : Glue.Met 𝓛 𝓜 𝓡 𝓡.env E dd)
+    -- T, at each lifetime;  its MIR type as a call passes it;  its impl of `Lend`
+    (T : Lft → RattleType) (LT : (κ : Lft) → Laws (T κ)) (within : (κ : Lft) → κ ⊑ (T κ).lives)
+    (δ : Ty) (same : (κ : Lft) → bare δ ≡ bare (layout (T κ)))
+    (gT : (κ : Lft) → Lend.Ghosts (T κ).Denot R.Denot E.Denot) (dT : Dict) (bT : (κs : Lfts 4)
+    → P κs → LendBound.Met 𝓛 𝓜 𝓡 𝓡.env (T κs.1.0) R E (gT κs.1.0) dT gS dS gD dD) where
+  abbrev At : Lft → RattleType
+  At κ = arg δ yes (T κ)
+
+  abbrev 𝓣 : Tables 𝓤 𝓛.H
+  𝓣 = tables_of 𝓤 𝓛.H 𝓜 (tables 𝓤 𝓛.H 𝓜 𝓡 𝓡.env)
+
+  abbrev key : Callee
+  key =
+      #g (bounded (a_type ∷ a_type ∷ a_type ∷ []) (At [], (R, (E, tt)))
+      (dcons dT (dcons dS (dcons dD (dcons dd dnil)))))
+
+  abbrev Res : Lft → RattleType
+  Res κ = type_at (g.signature (At κ) R E).result (κ, (κ, (κ, (κ, tt))))
+
+  module _ (κs : Lfts 4) (qs : Shares 4) (bd : AllOutlive 4 (g.signature (At []) R E).outlives κs)
+      (x : Global.the_row.Denot) (r : MutBor R.Denot) (us vs : List Val) where
+    abbrev κ : Lft
+    κ = κs.1.0
+
+    abbrev G : Contract 𝓤
+    G =
+        triple_of 𝓛 (g.signature (At κ) R E)
+        (g.spec (At κ) R E (gT κ) dT gS dS gD dD dd 𝓛 𝓜.mem 𝓡.returns)
+
+    abbrev O : SProp 𝓤
+    O = on_entry 𝓛 (g.signature (At κ) R E) κs qs (x, (r, tt)) (us, (vs, tt))
+
+    abbrev FR : SProp 𝓤
+    FR = fact 𝓤 (κs.1.1.0 ⊑ R.lives)
+
+    abbrev FE : SProp 𝓤
+    FE = fact 𝓤 (κs.1.1.1.0 ⊑ E.lives)
+
+    pub known : (n : ℕ) (os : List (ℕ × ℕ)) (ks : List Kind) (givens params : ℕ) (τ₀ : Ty)
+        → bare τ₀ ≡ bare (layout (Res κ)) → (ℓ₂ ℓ₃ : Lifetime) (σ₂ σ₃ σ : Ty) (h₀ h₁ h₂ h₃ : Home)
+        → ent 𝓤 (sep 𝓤 O (sep 𝓤 FR (sep 𝓤 FE (sep 𝓤 (fact 𝓤 (P κs)) (emp 𝓤)))))
+        (WpFn 𝓤 𝓛.H 𝓣.C 𝓣.Λ (lent_fn key n os ks givens params τ₀ ℓ₂ ℓ₃ σ₂ σ₃ σ h₀ h₁ h₂ h₃)
+        (us ++ (vs ++ [])) (G.post ((κs, qs, bd, (x, (r, tt)), (us, (vs, tt))), tt)))
+    unfolding tables_of
+    known n os ks givens params τ₀ e ℓ₂ ℓ₃ σ₂ σ₃ σ h₀ h₁ h₂ h₃ =
+        let S = g.signature (At κ) R E in
+        let s = g.spec (At κ) R E (gT κ) dT gS dS gD dD dd 𝓛 𝓜.mem 𝓡.returns in
+        let y : G.Ghost = ((κs, qs, bd, (x, (r, tt)), (us, (vs, tt))), tt) in
+        let q : SProp 𝓤 = sep 𝓤 FR (sep 𝓤 FE (sep 𝓤 (fact 𝓤 (P κs)) (emp 𝓤))) in
+        let A : SProp 𝓤 = alive 𝓛 S κs qs in
+        let FT : Type 0 = κ ⊑ (At κ).lives in
+        fact_use 𝓤 (P κs)
+        (via 𝓤 q (snd∗ 𝓤 O q) (pin_of 𝓤 2 κs.1.1 (R.lives, (E.lives, tt)) (P κs) (emp 𝓤))) (λ p.
+        let b = bT κs p in
+        let LA : Laws (At κ) = arg_laws δ yes (T κ) (LT κ) (same κ) in
+        let m = met 𝓤 𝓛 𝓜 𝓡 wired (At κ) R E LA LR LE (gT κ) dT gS dS gD dD dd
+        (record {
+          S-Error-lives = b.S-Error-lives;
+          name = b.name;
+          major = b.major;
+          lend_from = b.lend_from;
+          own = b.own;
+          owned_stands = b.owned_stands;
+          small = b.small;
+          text = b.text;
+        }) b2 b3 b4 in
+        let L = ResultLaws.the_row_laws (param 0 (At κ)) (DecodeError.the_row (param 2 E))
+        (param_laws 0 (At κ) LA) (ErrorLaws.the_row_laws (param 2 E) (param_laws 2 E LE)) in
+        lent 𝓛 𝓣 key n os ks givens params τ₀ (λ v.
+        ex 𝓤 (λ (z : (Res κ).Denot). sep 𝓤 (Back 𝓛 S y.0 v z) ((s κs y.0.3).ensures tt z)))
+        (λ v. result_fit 𝓛 (Res κ) τ₀ L e A (λ z. (s κs y.0.3).ensures tt z) v) ℓ₂ ℓ₃ σ₂ σ₃ σ h₀
+        h₁ h₂ h₃ (named 0) κs.0 (param 1 R) x r us vs A q
+        (via 𝓤 (sep 𝓤 O (sep 𝓤 (fact 𝓤 FT) (sep 𝓤 FR (sep 𝓤 FE (emp 𝓤)))))
+        (mono_r 𝓤 O (via 𝓤 (sep 𝓤 FR (sep 𝓤 FE (emp 𝓤)))
+        (mono_r 𝓤 FR (mono_r 𝓤 FE (snd∗ 𝓤 (fact 𝓤 (P κs)) (emp 𝓤))))
+        (with_fact 𝓤 FT (sep 𝓤 FR (sep 𝓤 FE (emp 𝓤))) (within κ))))
+        (m y)))
+
+    abbrev Ends : Ended
+    Ends = g.ended (At κ) R E (gT κ) dT gS dS gD dD dd
+
+    abbrev Says : ClausesAt 𝓤 Ends κs
+    Says = g.clauses (At κ) R E (gT κ) dT gS dS gD dD dd 𝓛 𝓜.mem 𝓡.returns κs (x, (r, tt))
+
+    -- the same of a method that promises K, which is less
+    pub known_less : (K : (Res κ).Denot → AtExit Ends κs → SProp 𝓤)
+        → ((z : (Res κ).Denot) (e : AtExit Ends κs) → ent 𝓤 (Says.ensures tt z e) (K z e))
+        → (n : ℕ) (os : List (ℕ × ℕ)) (ks : List Kind) (givens params : ℕ) (τ₀ : Ty)
+        → bare τ₀ ≡ bare (layout (Res κ)) → (ℓ₂ ℓ₃ : Lifetime) (σ₂ σ₃ σ : Ty) (h₀ h₁ h₂ h₃ : Home)
+        → ent 𝓤 (sep 𝓤 O (sep 𝓤 FR (sep 𝓤 FE (sep 𝓤 (fact 𝓤 (P κs)) (emp 𝓤)))))
+        (WpFn 𝓤 𝓛.H 𝓣.C 𝓣.Λ (lent_fn key n os ks givens params τ₀ ℓ₂ ℓ₃ σ₂ σ₃ σ h₀ h₁ h₂ h₃)
+        (us ++ (vs ++ [])) (λ v. 𝓛.H.⇛ (ex 𝓤 (λ (z : (Res κ).Denot). sep 𝓤
+        (Back 𝓛 Ends.signature (κs, qs, bd, (x, (r, tt)), (us, (vs, tt))) v z)
+        (exits 𝓛 Ends.signature Ends.kept κs (x, (r, tt)) (K z))))))
+    known_less K less n os ks givens params τ₀ e ℓ₂ ℓ₃ σ₂ σ₃ σ h₀ h₁ h₂ h₃ =
+        let a : Args Ends.signature κs = (x, (r, tt)) in
+        let y : G.Ghost = ((κs, qs, bd, a, (us, (vs, tt))), tt) in
+        let back : Val → (Res κ).Denot → SProp 𝓤 = Back 𝓛 Ends.signature y.0 in
+        let all : (Res κ).Denot → Lasts Ends κs a → SProp 𝓤 = λ z ws.
+        sep 𝓤 (sem 𝓛 (lasts Ends κs a ws)) (Says.ensures tt z (at_exit Ends κs a ws)) in
+        let some : (Res κ).Denot → Lasts Ends κs a → SProp 𝓤 = λ z ws.
+        sep 𝓤 (sem 𝓛 (lasts Ends κs a ws)) (K z (at_exit Ends κs a ws)) in
+        let more : Val → (Res κ).Denot → SProp 𝓤 = λ v z. sep 𝓤 (back v z) (ex 𝓤 (all z)) in
+        let fewer : Val → (Res κ).Denot → SProp 𝓤 = λ v z. sep 𝓤 (back v z) (ex 𝓤 (some z)) in
+        let f = lent_fn key n os ks givens params τ₀ ℓ₂ ℓ₃ σ₂ σ₃ σ h₀ h₁ h₂ h₃ in
+        via 𝓤 _ (known n os ks givens params τ₀ e ℓ₂ ℓ₃ σ₂ σ₃ σ h₀ h₁ h₂ h₃)
+        (WpFn-mono 𝓤 𝓛.H 𝓛.laws 𝓣 f (us ++ (vs ++ [])) (G.post y)
+        (λ v. 𝓛.H.⇛ (ex 𝓤 (fewer v)))
+        (λ v. 𝓛.laws.⇛_mono (ex 𝓤 (more v)) (ex 𝓤 (fewer v))
+        (ex_e 𝓤 (more v) (λ (z : (Res κ).Denot). via 𝓤 (fewer v z)
+        (mono_r 𝓤 (back v z) (ex_e 𝓤 (all z) (λ (ws : Lasts Ends κs a).
+        via 𝓤 (some z ws) (mono_r 𝓤 (sem 𝓛 (lasts Ends κs a ws))
+        (less z (at_exit Ends κs a ws))) (ex_i 𝓤 (some z) ws)))) (ex_i 𝓤 (fewer v) z)))))

@@ -1,0 +1,193 @@
+-- The canonical encoding is an encoding.
+use Rattle.std.proofs.Common.{◌≡◌, ℕ, suc, ◌^◌, ◌<◌, List, length, Bool, true}
+use Rattle.std.proofs.Common.{false, cond, ltb, ltb-true, lt-ltb, pos, negsuc, refl, sym, ap, ap₂}
+use Rattle.std.proofs.Common.{arith, subst}
+use Rattle.std.specs.Int.{bytes_high_first}
+use Rattle.cbor4ii_items.specs.Head.{HeadFits, shortest}
+use Rattle.cbor4ii_items.specs.Initial.{Sign, unsigned, negative, Kind, byte_string, text_string}
+use Rattle.cbor4ii_items.specs.Initial.{simple_false, simple_true, simple_null, simple_undefined}
+use Rattle.cbor4ii_items.specs.Laws.Heads.{length-bytes_high_first, if_cases, shortest_fits}
+use Rattle.cbor4ii_items.specs.Laws.Heads.{argument_below}
+use Rattle.cbor4ii_items.specs.Laws.NumbersBack.{length-without_leading_zeros}
+use Rattle.cbor4ii_tree.specs.Tree.{Tree, int, string, chunked, array, array_indefinite, map_of}
+use Rattle.cbor4ii_tree.specs.Tree.{map_indefinite}
+use Rattle.cbor4ii_tree.specs.Tree.{tagged, simple, bits, Trees, no_trees, tree, Pairs, no_pairs}
+use Rattle.cbor4ii_tree.specs.Tree.{pair, joined_chunks, count, pair_count, Loose, LooseAll}
+use Rattle.cbor4ii_tree.specs.Tree.{LoosePairs, SoundStrings, SoundStringsAll, SoundStringsPairs}
+use Rattle.cbor4ii_tree.specs.Item.{Item, null, boolean, integer, float, bytes_item, text, sequence}
+use Rattle.cbor4ii_tree.specs.Item.{mapping, tag, Items, no_items, item, Members, no_members}
+use Rattle.cbor4ii_tree.specs.Item.{member, item_count, member_count, IsItem, AreItems, AreMembers}
+use Rattle.cbor4ii_tree.specs.Meaning.{value, values, member_values, number, content_item}
+use Rattle.cbor4ii_tree.specs.Cost.{cost}
+use Rattle.cbor4ii_tree.specs.Canonical.{canonical_encoding, canonical_tree, canonical_trees}
+use Rattle.cbor4ii_tree.specs.Canonical.{canonical_pairs, integer_tree}
+use Rattle.cbor4ii_tree.specs.Canonical.{bignum, magnitude, sign_tag}
+use Rattle.cbor4ii_tree.specs.Canonical.{with_bignums, with_bignums_all, with_bignums_members}
+use Rattle.cbor4ii_tree.specs.Canonical.{tagged_integer}
+use Rattle.cbor4ii_tree.specs.Encodings.{Encodes}
+
+length-magnitude : (n : ℕ) → length (magnitude n) < 2 ^ 64
+length-magnitude n =
+    omega
+    (arith, length-without_leading_zeros (bytes_high_first 16 n), length-bytes_high_first 16 n)
+
+loose_integer : (s : Sign) (n : ℕ) → Loose (integer_tree s n)
+loose_integer unsigned n =
+    if_cases Loose (ltb n (2 ^ 64)) _ _ (λ e. shortest_fits n (ltb-true n (2 ^ 64) e))
+    (λ e. (omega arith, shortest_fits (length (magnitude n)) (length-magnitude n)))
+loose_integer negative n =
+    if_cases Loose (ltb n (2 ^ 64)) _ _ (λ e. shortest_fits n (ltb-true n (2 ^ 64) e))
+    (λ e. (omega arith, shortest_fits (length (magnitude n)) (length-magnitude n)))
+
+sound_integer : (s : Sign) (n : ℕ) → SoundStrings (integer_tree s n)
+sound_integer s n = if_cases SoundStrings (ltb n (2 ^ 64)) _ _ (λ e. tt) (λ e. tt)
+
+pub count-canonical_encoding : (vs : Items) → count (canonical_trees vs) ≡ item_count vs
+count-canonical_encoding no_items = refl
+count-canonical_encoding (item v vs) = ap suc (count-canonical_encoding vs)
+
+pub count-pairs : (ms : Members) → pair_count (canonical_pairs ms) ≡ member_count ms
+count-pairs no_members = refl
+count-pairs (member k v ms) = ap suc (count-pairs ms)
+
+definite_fits : (n m : ℕ) → n ≡ m → m < 2 ^ 64 → HeadFits (shortest m) n
+definite_fits n m e h = subst (HeadFits (shortest m)) (sym e) (shortest_fits m h)
+
+mutual
+  pub loose_canonical : (v : Item) → IsItem v → Loose (canonical_tree v)
+  loose_canonical null h = tt
+  loose_canonical (boolean b) h = tt
+  loose_canonical (integer (pos n)) h = loose_integer unsigned n
+  loose_canonical (integer (negsuc n)) h = loose_integer negative n
+  loose_canonical (float p n) h = h
+  loose_canonical (bytes_item bs) h = shortest_fits (length bs) h
+  loose_canonical (text bs) h = shortest_fits (length bs) h.0
+  loose_canonical (sequence vs) h =
+      (definite_fits _ _ (count-canonical_encoding vs) h.0, loose_canonical_all vs h.1)
+  loose_canonical (mapping ms) h =
+      (definite_fits _ _ (count-pairs ms) h.0, loose_canonical_pairs ms h.1)
+  loose_canonical (tag n v) h = (shortest_fits n h.0, loose_canonical v h.1)
+
+  loose_canonical_all : (vs : Items) → AreItems vs → LooseAll (canonical_trees vs)
+  loose_canonical_all no_items h = tt
+  loose_canonical_all (item v vs) h = (loose_canonical v h.0, loose_canonical_all vs h.1)
+
+  loose_canonical_pairs : (ms : Members) → AreMembers ms → LoosePairs (canonical_pairs ms)
+  loose_canonical_pairs no_members h = tt
+  loose_canonical_pairs (member k v ms) h =
+      (loose_canonical k h.0, loose_canonical v h.1, loose_canonical_pairs ms h.2)
+
+mutual
+  pub sound_canonical : (v : Item) → IsItem v → SoundStrings (canonical_tree v)
+  sound_canonical null h = tt
+  sound_canonical (boolean b) h = tt
+  sound_canonical (integer (pos n)) h = sound_integer unsigned n
+  sound_canonical (integer (negsuc n)) h = sound_integer negative n
+  sound_canonical (float p n) h = tt
+  sound_canonical (bytes_item bs) h = tt
+  sound_canonical (text bs) h = h.1
+  sound_canonical (sequence vs) h = sound_canonical_all vs h.1
+  sound_canonical (mapping ms) h = sound_canonical_pairs ms h.1
+  sound_canonical (tag n v) h = sound_canonical v h.1
+
+  sound_canonical_all : (vs : Items) → AreItems vs → SoundStringsAll (canonical_trees vs)
+  sound_canonical_all no_items h = tt
+  sound_canonical_all (item v vs) h = (sound_canonical v h.0, sound_canonical_all vs h.1)
+
+  sound_canonical_pairs : (ms : Members) → AreMembers ms → SoundStringsPairs (canonical_pairs ms)
+  sound_canonical_pairs no_members h = tt
+  sound_canonical_pairs (member k v ms) h =
+      (sound_canonical k h.0, sound_canonical v h.1, sound_canonical_pairs ms h.2)
+
+value_integer : (s : Sign) (n : ℕ)
+    → value (integer_tree s n) ≡ tagged_integer s n (integer (number s n))
+value_integer s n = value_if (ltb n (2 ^ 64))
+  where
+    value_if : (b : Bool)
+        → value (cond b (Tree.int s n (shortest n)) (bignum s n)) ≡ cond b (integer (number s n))
+        (tag (sign_tag s) (bytes_item (magnitude n)))
+    value_if true = refl
+    value_if false = refl
+
+mutual
+  pub value-canonical_encoding : (v : Item) → value (canonical_tree v) ≡ with_bignums v
+  value-canonical_encoding null = refl
+  value-canonical_encoding (boolean false) = refl
+  value-canonical_encoding (boolean true) = refl
+  value-canonical_encoding (integer (pos n)) = value_integer unsigned n
+  value-canonical_encoding (integer (negsuc n)) = value_integer negative n
+  value-canonical_encoding (float p n) = refl
+  value-canonical_encoding (bytes_item bs) = refl
+  value-canonical_encoding (text bs) = refl
+  value-canonical_encoding (sequence vs) = ap sequence (values-canonical_encoding vs)
+  value-canonical_encoding (mapping ms) = ap mapping (member_values-canonical_encoding ms)
+  value-canonical_encoding (tag n v) = ap (tag n) (value-canonical_encoding v)
+
+  values-canonical_encoding : (vs : Items) → values (canonical_trees vs) ≡ with_bignums_all vs
+  values-canonical_encoding no_items = refl
+  values-canonical_encoding (item v vs) =
+      ap₂ item (value-canonical_encoding v) (values-canonical_encoding vs)
+
+  member_values-canonical_encoding : (ms : Members) → member_values (canonical_pairs ms) ≡
+      with_bignums_members ms
+  member_values-canonical_encoding no_members = refl
+  member_values-canonical_encoding (member k v ms) =
+      cc (
+        value-canonical_encoding k,
+        value-canonical_encoding v,
+        member_values-canonical_encoding ms,
+      )
+
+-- the canonical encoding is read back, with each large integer as its bignum
+pub canonical_encodes : (v : Item) → IsItem v → Encodes (canonical_encoding v) (with_bignums v)
+    (cost (canonical_tree v))
+canonical_encodes v h = record {
+  of_tree = canonical_tree v;
+  plain = (loose_canonical v h, sound_canonical v h);
+  bytes_are = refl;
+  value_is = value-canonical_encoding v;
+  cost_is = refl;
+}
+
+-- ---- what is read is no integer beyond its heads
+
+tagged_integer-small : (s : Sign) (n : ℕ) → n < 2 ^ 64
+    → tagged_integer s n (integer (number s n)) ≡ integer (number s n)
+tagged_integer-small s n h = rw (lt-ltb n (2 ^ 64) h) refl
+
+with_bignums-number : (s : Sign) (n : ℕ) → n < 2 ^ 64
+    → with_bignums (integer (number s n)) ≡ integer (number s n)
+with_bignums-number unsigned n h = tagged_integer-small unsigned n h
+with_bignums-number negative n h = tagged_integer-small negative n h
+
+with_bignums-content : (k : Kind) (content : List ℕ)
+    → with_bignums (content_item k content) ≡ content_item k content
+with_bignums-content byte_string content = refl
+with_bignums-content text_string content = refl
+
+mutual
+  pub with_bignums-value : (t : Tree) → Loose t → with_bignums (value t) ≡ value t
+  with_bignums-value (int s n w) h = with_bignums-number s n (argument_below w n h)
+  with_bignums-value (string k w content) h = with_bignums-content k content
+  with_bignums-value (chunked k ts) h = with_bignums-content k (joined_chunks ts)
+  with_bignums-value (array w ts) h = ap sequence (with_bignums-values ts h.1)
+  with_bignums-value (array_indefinite ts) h = ap sequence (with_bignums-values ts h)
+  with_bignums-value (map_of w ps) h = ap mapping (with_bignums-member_values ps h.1)
+  with_bignums-value (map_indefinite ps) h = ap mapping (with_bignums-member_values ps h)
+  with_bignums-value (tagged n w t) h = ap (tag n) (with_bignums-value t h.1)
+  with_bignums-value (simple simple_false) h = refl
+  with_bignums-value (simple simple_true) h = refl
+  with_bignums-value (simple simple_null) h = refl
+  with_bignums-value (simple simple_undefined) h = refl
+  with_bignums-value (bits p n) h = refl
+
+  with_bignums-values : (ts : Trees) → LooseAll ts → with_bignums_all (values ts) ≡ values ts
+  with_bignums-values no_trees h = refl
+  with_bignums-values (tree t ts) h =
+      ap₂ item (with_bignums-value t h.0) (with_bignums-values ts h.1)
+
+  with_bignums-member_values : (ps : Pairs) → LoosePairs ps
+      → with_bignums_members (member_values ps) ≡ member_values ps
+  with_bignums-member_values no_pairs h = refl
+  with_bignums-member_values (pair k v ps) h =
+      cc (with_bignums-value k h.0, with_bignums-value v h.1, with_bignums-member_values ps h.2)

@@ -1,0 +1,368 @@
+-- A canonical tree is the one whose bytes are the canonical encoding of its value.
+use Rattle.std.proofs.Common.{◌≡◌, ℕ, ◌+◌, ◌*◌, ◌^◌, ◌<◌, List, [], ◌∷◌, ◌++◌, length, true, false}
+use Rattle.std.proofs.Common.{ltb, ltb-true, lt-ltb, pos, negsuc, refl, sym, ap, ap₂, ◌∙◌, subst}
+use Rattle.std.proofs.Common.{arith, append_assoc}
+use Rattle.std.specs.Int.{bytes_high_first}
+use Rattle.std.proofs.lemmas.List.{append_cancel_left}
+use Rattle.std.specs.Prelude.{◌↔◌}
+use Rattle.cbor4ii_items.specs.Head.{Width, byte_count, HeadFits, additional, head, indefinite_head}
+use Rattle.cbor4ii_items.specs.Head.{shortest, break}
+use Rattle.cbor4ii_items.specs.Initial.{Sign, unsigned, negative, sign_major, Kind, byte_string}
+use Rattle.cbor4ii_items.specs.Initial.{text_string, kind_major, simple_false, simple_true}
+use Rattle.cbor4ii_items.specs.Initial.{simple_null, simple_undefined, simple_byte, info_of}
+use Rattle.cbor4ii_items.specs.Decoding.{CostFits}
+use Rattle.cbor4ii_items.specs.Laws.Heads.{if_cases, shortest_fits, argument_below, same_wide}
+use Rattle.cbor4ii_tree.specs.Tree.{Tree, int, string, chunked, array, array_indefinite, map_of}
+use Rattle.cbor4ii_tree.specs.Tree.{map_indefinite}
+use Rattle.cbor4ii_tree.specs.Tree.{tagged, simple, bits, Trees, no_trees, tree, Pairs, no_pairs}
+use Rattle.cbor4ii_tree.specs.Tree.{pair, count, pair_count, joined_chunks, bytes, bytes_all}
+use Rattle.cbor4ii_tree.specs.Tree.{bytes_pairs, Loose, LooseAll, LoosePairs, SoundStrings}
+use Rattle.cbor4ii_tree.specs.Tree.{SoundStringsAll, SoundStringsPairs, Plain}
+use Rattle.cbor4ii_tree.specs.Item.{Item, null, boolean, integer, float, bytes_item, text, sequence}
+use Rattle.cbor4ii_tree.specs.Item.{mapping, tag, Items, no_items, item, Members, no_members}
+use Rattle.cbor4ii_tree.specs.Item.{member, item_count, member_count, IsItem, AreItems, AreMembers}
+use Rattle.cbor4ii_tree.specs.Meaning.{value, values, member_values, number, content_item}
+use Rattle.cbor4ii_tree.specs.Cost.{cost, Budget}
+use Rattle.cbor4ii_tree.specs.Canonical.{canonical_encoding, canonical_cost, canonical_tree}
+use Rattle.cbor4ii_tree.specs.Canonical.{canonical_trees, canonical_pairs}
+use Rattle.cbor4ii_tree.specs.Canonical.{integer_tree, with_bignums}
+use Rattle.cbor4ii_tree.specs.CanonicalShape.{CanonicalShape, CanonicalShapeAll}
+use Rattle.cbor4ii_tree.specs.CanonicalShape.{CanonicalShapePairs, IsDecoded, EncodesCanonically}
+use Rattle.cbor4ii_tree.specs.CanonicalShape.{DecodesCanonically}
+use Rattle.cbor4ii_tree.specs.Laws.Numbers.{info-additional}
+use Rattle.cbor4ii_tree.specs.Laws.PartsAgain.{pair_split}
+use Rattle.cbor4ii_tree.specs.Laws.Ignoring.{one_encoding}
+use Rattle.cbor4ii_tree.proofs.encodings.Canonical.{count-canonical_encoding, count-pairs}
+use Rattle.cbor4ii_tree.proofs.encodings.Canonical.{loose_canonical, sound_canonical}
+use Rattle.cbor4ii_tree.proofs.encodings.Canonical.{value-canonical_encoding}
+use Rattle.cbor4ii_tree.proofs.encodings.Canonical.{with_bignums-value}
+use Rattle.cbor4ii_tree.proofs.encodings.Sizes.{integer-value, content-value, item_count-values}
+use Rattle.cbor4ii_tree.proofs.encodings.Sizes.{member_count-values}
+
+-- ---- what encoders write is strict
+
+strict_integer : (s : Sign) (n : ℕ) → CanonicalShape (integer_tree s n)
+strict_integer s n = if_cases CanonicalShape (ltb n (2 ^ 64)) _ _ (λ e. refl) (λ e. (refl, refl))
+
+mutual
+  pub strict_canonical : (v : Item) → CanonicalShape (canonical_tree v)
+  strict_canonical null = λ e. cc
+  strict_canonical (boolean false) = λ e. cc
+  strict_canonical (boolean true) = λ e. cc
+  strict_canonical (integer (pos n)) = strict_integer unsigned n
+  strict_canonical (integer (negsuc n)) = strict_integer negative n
+  strict_canonical (float p n) = tt
+  strict_canonical (bytes_item bs) = refl
+  strict_canonical (text bs) = refl
+  strict_canonical (sequence vs) =
+      (ap shortest (sym (count-canonical_encoding vs)), strict_canonical_all vs)
+  strict_canonical (mapping ms) = (ap shortest (sym (count-pairs ms)), strict_canonical_pairs ms)
+  strict_canonical (tag n v) = (refl, strict_canonical v)
+
+  strict_canonical_all : (vs : Items) → CanonicalShapeAll (canonical_trees vs)
+  strict_canonical_all no_items = tt
+  strict_canonical_all (item v vs) = (strict_canonical v, strict_canonical_all vs)
+
+  strict_canonical_pairs : (ms : Members) → CanonicalShapePairs (canonical_pairs ms)
+  strict_canonical_pairs no_members = tt
+  strict_canonical_pairs (member k v ms) =
+      (strict_canonical k, strict_canonical v, strict_canonical_pairs ms)
+
+-- ---- a strict tree is what encoders write
+
+canonical_encoding-integer : (s : Sign) (n : ℕ) → n < 2 ^ 64
+    → canonical_tree (integer (number s n)) ≡ int s n (shortest n)
+canonical_encoding-integer unsigned n h = rw (lt-ltb n (2 ^ 64) h) refl
+canonical_encoding-integer negative n h = rw (lt-ltb n (2 ^ 64) h) refl
+
+canonical_encoding-content : (k : Kind) (content : List ℕ)
+    → canonical_tree (content_item k content) ≡ string k (shortest (length content)) content
+canonical_encoding-content byte_string content = refl
+canonical_encoding-content text_string content = refl
+
+mutual
+  pub canonical_of_strict : (t : Tree) → Loose t → CanonicalShape t → canonical_tree (value t) ≡ t
+  canonical_of_strict (int s n w) l h =
+      canonical_encoding-integer s n (argument_below w n l) ∙ ap (int s n) (sym h)
+  canonical_of_strict (string k w content) l h =
+      canonical_encoding-content k content ∙ ap (λ u. string k u content) (sym h)
+  canonical_of_strict (chunked k ts) l h = absurd h
+  canonical_of_strict (array w ts) l h =
+      ap₂ array (ap shortest (item_count-values ts) ∙ sym h.0) (canonical_of_strict_all ts l.1 h.1)
+  canonical_of_strict (array_indefinite ts) l h = absurd h
+  canonical_of_strict (map_of w ps) l h =
+      ap₂ map_of (ap shortest (member_count-values ps) ∙ sym h.0)
+      (canonical_of_strict_pairs ps l.1 h.1)
+  canonical_of_strict (map_indefinite ps) l h = absurd h
+  canonical_of_strict (tagged n w t) l h = ap₂ (tagged n) (sym h.0) (canonical_of_strict t l.1 h.1)
+  canonical_of_strict (simple simple_false) l h = refl
+  canonical_of_strict (simple simple_true) l h = refl
+  canonical_of_strict (simple simple_null) l h = refl
+  canonical_of_strict (simple simple_undefined) l h = absurd (h refl)
+  canonical_of_strict (bits p n) l h = refl
+
+  canonical_of_strict_all : (ts : Trees) → LooseAll ts → CanonicalShapeAll ts → canonical_trees
+      (values ts) ≡ ts
+  canonical_of_strict_all no_trees l h = refl
+  canonical_of_strict_all (tree t ts) l h =
+      ap₂ tree (canonical_of_strict t l.0 h.0) (canonical_of_strict_all ts l.1 h.1)
+
+  canonical_of_strict_pairs : (ps : Pairs) → LoosePairs ps → CanonicalShapePairs ps
+      → canonical_pairs (member_values ps) ≡ ps
+  canonical_of_strict_pairs no_pairs l h = refl
+  canonical_of_strict_pairs (pair k v ps) l h =
+      cc (
+        canonical_of_strict k l.0 h.0,
+        canonical_of_strict v l.1 h.1,
+        canonical_of_strict_pairs ps
+            l.2 h.2,
+      )
+
+-- ---- what is encoded as encoders write is strict
+
+pub same_first : (a b : ℕ) (x y : List ℕ) → a ∷ x ≡ b ∷ y → (a ≡ b) × (x ≡ y)
+same_first a b x y e = (cc, cc)
+
+-- of one argument and one first byte the head is one
+pub same_width : (major n : ℕ) (w u : Width) → HeadFits w n → HeadFits u n
+    → 32 * major + additional w n ≡ 32 * major + additional u n → w ≡ u
+same_width major n w u h k e =
+    let low : additional w n ≡ additional u n = omega (arith, e) in
+    same_wide w u (sym (info-additional n w h) ∙ ap info_of low ∙ info-additional n u k)
+
+same_head : (major n : ℕ) (w : Width) (x y : List ℕ) → HeadFits w n
+    → head major n w ++ x ≡ head major n (shortest n) ++ y → (w ≡ shortest n) × (x ≡ y)
+same_head major n w x y h e =
+    let k = shortest_fits n (argument_below w n h) in
+    let first = same_first (32 * major + additional w n) (32 * major + additional (shortest n) n)
+    (bytes_high_first (byte_count w) n ++ x)
+    (bytes_high_first (byte_count (shortest n)) n ++ y) e in
+    let s : w ≡ shortest n = same_width major n w (shortest n) h k first.0 in (
+      s,
+      append_cancel_left (head major n (shortest n)) x y
+          (ap (λ u. head major n u ++ x) (sym s) ∙ e),
+    )
+
+additional-shortest : (n : ℕ) → additional (shortest n) n < 28
+additional-shortest n =
+    let P : Width → Type 0 = λ w. additional w n < 28 in
+    if_cases P (ltb n 24) _ _ (λ e. let lt = ltb-true n 24 e in omega (arith, lt))
+    (λ _. if_cases P (ltb n 256) _ _ (λ _. omega arith)
+    (λ _. if_cases P (ltb n (256 ^ 2)) _ _ (λ _. omega arith)
+    (λ _. if_cases P (ltb n (256 ^ 4)) _ _ (λ _. omega arith) (λ _. omega arith))))
+
+not_indefinite : (major n : ℕ) (x y : List ℕ) → indefinite_head major ∷ x ≡ head major n
+    (shortest n) ++ y → ⊥
+not_indefinite major n x y e =
+    let first = same_first (indefinite_head major) (32 * major + additional (shortest n) n) x
+    (bytes_high_first (byte_count (shortest n)) n ++ y) e in
+    omega (arith, first.0, additional-shortest n)
+
+mutual
+  pub strict_of_canonical : (t : Tree) (x y : List ℕ) → Loose t → bytes t ++ x ≡ canonical_encoding
+      (value t) ++ y
+      → CanonicalShape t × (x ≡ y)
+  strict_of_canonical (int s n w) x y l e =
+      same_head (sign_major s) n w x y l
+      (e ∙ ap (λ u. bytes u ++ y) (canonical_encoding-integer s n (argument_below w n l)))
+  strict_of_canonical (string k w content) x y l e =
+      let n = length content in
+      let same = e ∙ ap (λ u. bytes u ++ y) (canonical_encoding-content k content) in
+      let heads = same_head (kind_major k) n w (content ++ x)
+      (content ++ y) l (sym (append_assoc (head (kind_major k) n w) content x) ∙ same
+      ∙ append_assoc (head (kind_major k) n (shortest n)) content y) in
+      (heads.0, append_cancel_left content x y heads.1)
+  strict_of_canonical (chunked k ts) x y l e =
+      let content = joined_chunks ts in
+      let n = length content in
+      let same = e ∙ ap (λ u. bytes u ++ y) (canonical_encoding-content k content)
+      ∙ append_assoc (head (kind_major k) n (shortest n)) content y in
+      absurd (not_indefinite (kind_major k) n ((bytes_all ts ++ break ∷ []) ++ x)
+      (content ++ y) same)
+  strict_of_canonical (array w ts) x y l e =
+      let n = count ts in
+      let c : item_count (values ts) ≡ n = item_count-values ts in
+      let trailing = bytes_all (canonical_trees (values ts)) in
+      let same : (head 4 n w ++ bytes_all ts) ++ x ≡ (head 4 n (shortest n) ++ trailing) ++ y =
+      e ∙ ap (λ m. (head 4 (count (canonical_trees (values ts))) (shortest m) ++ trailing) ++ y) c
+      ∙ ap (λ m. (head 4 m (shortest n) ++ trailing) ++ y)
+      (count-canonical_encoding (values ts) ∙ c) in
+      let heads = same_head 4 n w (bytes_all ts ++ x)
+      (trailing ++ y) l.0 (sym (append_assoc (head 4 n w) (bytes_all ts) x) ∙ same
+      ∙ append_assoc (head 4 n (shortest n)) trailing y) in
+      let rest = strict_of_canonical_all ts x y l.1 heads.1 in
+      ((heads.0, rest.0), rest.1)
+  strict_of_canonical (array_indefinite ts) x y l e =
+      let vs = values ts in
+      let n = item_count vs in
+      let trailing = bytes_all (canonical_trees vs) in
+      absurd (not_indefinite 4 n ((bytes_all ts ++ break ∷ []) ++ x) (trailing ++ y)
+      (e ∙ ap (λ m. (head 4 m (shortest n) ++ trailing) ++ y) (count-canonical_encoding vs)
+      ∙ append_assoc (head 4 n (shortest n)) trailing y))
+  strict_of_canonical (map_of w ps) x y l e =
+      let n = pair_count ps in
+      let c : member_count (member_values ps) ≡ n = member_count-values ps in
+      let trailing = bytes_pairs (canonical_pairs (member_values ps)) in
+      let same : (head 5 n w ++ bytes_pairs ps) ++ x ≡ (head 5 n (shortest n) ++ trailing) ++ y =
+      e ∙ ap (λ m.
+      (head 5 (pair_count (canonical_pairs (member_values ps))) (shortest m) ++ trailing) ++ y) c
+      ∙ ap (λ m. (head 5 m (shortest n) ++ trailing) ++ y) (count-pairs (member_values ps) ∙ c) in
+      let heads = same_head 5 n w (bytes_pairs ps ++ x)
+      (trailing ++ y) l.0 (sym (append_assoc (head 5 n w) (bytes_pairs ps) x) ∙ same
+      ∙ append_assoc (head 5 n (shortest n)) trailing y) in
+      let rest = strict_of_canonical_pairs ps x y l.1 heads.1 in
+      ((heads.0, rest.0), rest.1)
+  strict_of_canonical (map_indefinite ps) x y l e =
+      let ms = member_values ps in
+      let n = member_count ms in
+      let trailing = bytes_pairs (canonical_pairs ms) in
+      absurd (not_indefinite 5 n ((bytes_pairs ps ++ break ∷ []) ++ x) (trailing ++ y)
+      (e ∙ ap (λ m. (head 5 m (shortest n) ++ trailing) ++ y) (count-pairs ms)
+      ∙ append_assoc (head 5 n (shortest n)) trailing y))
+  strict_of_canonical (tagged n w t) x y l e =
+      let heads = same_head 6 n w (bytes t ++ x)
+      (canonical_encoding (value t) ++ y) l.0 (sym (append_assoc (head 6 n w) (bytes t) x) ∙ e
+      ∙ append_assoc (head 6 n (shortest n)) (canonical_encoding (value t)) y) in
+      let rest = strict_of_canonical t x y l.1 heads.1 in
+      ((heads.0, rest.0), rest.1)
+  strict_of_canonical (simple simple_false) x y l e = (λ u. cc, (same_first _ _ _ _ e).1)
+  strict_of_canonical (simple simple_true) x y l e = (λ u. cc, (same_first _ _ _ _ e).1)
+  strict_of_canonical (simple simple_null) x y l e = (λ u. cc, (same_first _ _ _ _ e).1)
+  strict_of_canonical (simple simple_undefined) x y l e =
+      absurd (omega (
+        arith,
+        (same_first (simple_byte simple_undefined) (simple_byte simple_null) x y e).0,
+      ))
+  strict_of_canonical (bits p n) x y l e = (tt, append_cancel_left (bytes (bits p n)) x y e)
+
+  strict_of_canonical_all : (ts : Trees) (x y : List ℕ) → LooseAll ts
+      → bytes_all ts ++ x ≡ bytes_all (canonical_trees (values ts)) ++ y → CanonicalShapeAll ts ×
+      (x ≡ y)
+  strict_of_canonical_all no_trees x y l e = (tt, e)
+  strict_of_canonical_all (tree t ts) x y l e =
+      let trailing = bytes_all (canonical_trees (values ts)) in
+      let first = strict_of_canonical t (bytes_all ts ++ x)
+      (trailing ++ y) l.0 (sym (append_assoc (bytes t) (bytes_all ts) x) ∙ e
+      ∙ append_assoc (canonical_encoding (value t)) trailing y) in
+      let rest = strict_of_canonical_all ts x y l.1 first.1 in
+      ((first.0, rest.0), rest.1)
+
+  strict_of_canonical_pairs : (ps : Pairs) (x y : List ℕ) → LoosePairs ps
+      → bytes_pairs ps ++ x ≡ bytes_pairs (canonical_pairs (member_values ps)) ++ y
+      → CanonicalShapePairs ps × (x ≡ y)
+  strict_of_canonical_pairs no_pairs x y l e = (tt, e)
+  strict_of_canonical_pairs (pair k v ps) x y l e =
+      let trailing = bytes_pairs (canonical_pairs (member_values ps)) in
+      let key = strict_of_canonical k (bytes v ++ (bytes_pairs ps ++ x))
+      (canonical_encoding (value v) ++ (trailing ++ y)) l.0 (sym (pair_split (bytes k) (bytes v)
+      (bytes_pairs ps) x) ∙ e ∙ pair_split (canonical_encoding (value k))
+      (canonical_encoding (value v)) trailing y) in
+      let val = strict_of_canonical v (bytes_pairs ps ++ x) (trailing ++ y) l.1 key.1 in
+      let rest = strict_of_canonical_pairs ps x y l.2 val.1 in
+      ((key.0, val.0, rest.0), rest.1)
+
+-- a plain tree is strict exactly where its bytes are the canonical encoding of its value
+pub strict_iff_canonical : (t : Tree) → Plain t →
+    (CanonicalShape t ↔ (bytes t ≡ canonical_encoding (value t)))
+strict_iff_canonical t p = (
+  λ h. ap bytes (sym (canonical_of_strict t p.0 h)),
+  λ e. (strict_of_canonical t [] [] p.0 (ap (λ r. r ++ []) e)).0,
+)
+
+-- ---- what is read canonically
+
+mutual
+  pub item_of_strict : (t : Tree) → Loose t → SoundStrings t → CanonicalShape t → IsItem (value t)
+  item_of_strict (int s n w) l u h = integer-value s n (argument_below w n l)
+  item_of_strict (string k w content) l u h =
+      content-value k content u (argument_below w (length content) l)
+  item_of_strict (chunked k ts) l u h = absurd h
+  item_of_strict (array w ts) l u h = (
+    subst (λ n. n < 2 ^ 64) (sym (item_count-values ts)) (argument_below w (count ts) l.0),
+    items_of_strict ts l.1 u h.1,
+  )
+  item_of_strict (array_indefinite ts) l u h = absurd h
+  item_of_strict (map_of w ps) l u h = (
+    subst (λ n. n < 2 ^ 64) (sym (member_count-values ps))
+        (argument_below w (pair_count ps) l.0),
+    members_of_strict ps l.1 u h.1,
+  )
+  item_of_strict (map_indefinite ps) l u h = absurd h
+  item_of_strict (tagged n w t) l u h = (argument_below w n l.0, item_of_strict t l.1 u h.1)
+  item_of_strict (simple simple_false) l u h = tt
+  item_of_strict (simple simple_true) l u h = tt
+  item_of_strict (simple simple_null) l u h = tt
+  item_of_strict (simple simple_undefined) l u h = tt
+  item_of_strict (bits p n) l u h = l
+
+  items_of_strict : (ts : Trees) → LooseAll ts → SoundStringsAll ts → CanonicalShapeAll ts
+      → AreItems (values ts)
+  items_of_strict no_trees l u h = tt
+  items_of_strict (tree t ts) l u h = (item_of_strict t l.0 u.0 h.0, items_of_strict ts l.1 u.1 h.1)
+
+  members_of_strict : (ps : Pairs) → LoosePairs ps → SoundStringsPairs ps → CanonicalShapePairs ps
+      → AreMembers (member_values ps)
+  members_of_strict no_pairs l u h = tt
+  members_of_strict (pair k v ps) l u h =
+      (item_of_strict k l.0 u.0 h.0, item_of_strict v l.1 u.1 h.1, members_of_strict ps l.2 u.2 h.2)
+
+-- the tree of a value is the one that encoders write
+pub canonically_canonical : (encoding : List ℕ) (v : Item) (steps : ℕ)
+    → (s : EncodesCanonically encoding v steps) → canonical_tree v ≡ s.of_tree
+canonically_canonical encoding v steps s =
+    ap canonical_tree (sym s.value_is) ∙ canonical_of_strict s.of_tree s.canonical.0.0 s.canonical.1
+
+-- what is encoded so is the canonical encoding of a value that reading gives, at its cost
+pub canonically_encoded : (encoding : List ℕ) (v : Item) (steps : ℕ) → EncodesCanonically encoding
+    v steps
+    → IsDecoded v × (encoding ≡ canonical_encoding v) × (steps ≡ canonical_cost v)
+canonically_encoded encoding v steps s =
+    let same = canonically_canonical encoding v steps s in
+    let p = s.canonical.0 in (
+      (
+        subst IsItem s.value_is (item_of_strict s.of_tree p.0 p.1 s.canonical.1),
+        subst (λ w. with_bignums w ≡ w) s.value_is (with_bignums-value s.of_tree p.0),
+      ),
+      sym s.bytes_are ∙ ap bytes (sym same),
+      sym s.cost_is ∙ ap cost (sym same),
+    )
+
+-- the canonical encoding of a value that reading gives is one
+pub canonical_canonically : (v : Item) → IsDecoded v → EncodesCanonically (canonical_encoding v) v
+    (canonical_cost v)
+canonical_canonically v h = record {
+  of_tree = canonical_tree v;
+  canonical = ((loose_canonical v h.0, sound_canonical v h.0), strict_canonical v);
+  bytes_are = refl;
+  value_is = value-canonical_encoding v ∙ h.1;
+  cost_is = refl;
+}
+
+pub reads_canonically_iff : (input : List ℕ) (budget : Budget) (v : Item) (rest : List ℕ)
+    → DecodesCanonically input budget v rest
+    ↔ (IsDecoded v × CostFits (canonical_cost v) budget × (input ≡ canonical_encoding v ++ rest))
+reads_canonically_iff input budget v rest = (
+  λ r. let s =
+      canonically_encoded r.encoding v r.steps r.encodes in
+      (s.0, subst (λ c. CostFits c budget) s.2 r.fits, r.begins ∙ ap (λ x. x ++ rest) s.1),
+  λ h. record {
+    encoding = canonical_encoding v;
+    steps = canonical_cost v;
+    encodes = canonical_canonically v h.0;
+    fits = h.1;
+    begins = h.2;
+  },
+)
+
+-- two values are equal exactly where their bytes are
+pub equal_iff_bytes : (s t : List ℕ) (v w : Item) (c d : ℕ) → EncodesCanonically s v c
+    → EncodesCanonically t w d → ((v ≡ w) ↔ (s ≡ t))
+equal_iff_bytes s t v w c d p q =
+    let a = canonically_encoded s v c p in
+    let b = canonically_encoded t w d q in (
+      λ e. a.1 ∙ ap canonical_encoding e ∙ sym b.1,
+      λ e. let same =
+          one_encoding p.of_tree q.of_tree [] [] p.canonical.0.0 q.canonical.0.0
+          (ap (λ r. r ++ []) (p.bytes_are ∙ e ∙ sym q.bytes_are)) in
+          sym p.value_is ∙ ap value same.0 ∙ q.value_is,
+    )

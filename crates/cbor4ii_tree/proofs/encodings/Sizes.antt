@@ -1,0 +1,194 @@
+-- A value is no larger than the bytes that encode it.
+use Rattle.std.proofs.Common.{◌≡◌, ℕ, suc, ◌+◌, ◌^◌, ◌<◌, ◌≤◌, List, [], ◌∷◌, ◌++◌, length, refl}
+use Rattle.std.proofs.Common.{ap, subst, arith, length-append}
+use Rattle.std.specs.Int.{bytes_high_first}
+use Rattle.cbor4ii_items.specs.Head.{byte_count, break}
+use Rattle.cbor4ii_items.specs.Initial.{Sign, unsigned, negative, Kind, byte_string, text_string}
+use Rattle.cbor4ii_items.specs.Initial.{simple_false, simple_true, simple_null, simple_undefined}
+use Rattle.cbor4ii_items.specs.Laws.Heads.{argument_below}
+use Rattle.cbor4ii_tree.specs.Tree.{Tree, int, string, chunked, array, array_indefinite, map_of}
+use Rattle.cbor4ii_tree.specs.Tree.{map_indefinite}
+use Rattle.cbor4ii_tree.specs.Tree.{tagged, simple, bits, Trees, no_trees, tree, Pairs, no_pairs}
+use Rattle.cbor4ii_tree.specs.Tree.{pair, count, pair_count, bytes, bytes_all, bytes_pairs}
+use Rattle.cbor4ii_tree.specs.Tree.{joined_chunks, Loose, LooseAll, LoosePairs, SoundStrings}
+use Rattle.cbor4ii_tree.specs.Tree.{SoundStringsAll, SoundStringsPairs, TextIsUtf8}
+use Rattle.cbor4ii_tree.specs.Item.{Item, integer, item_count, member_count, IsItem, AreItems}
+use Rattle.cbor4ii_tree.specs.Item.{AreMembers, size, size_all, size_members}
+use Rattle.cbor4ii_tree.specs.Meaning.{value, values, member_values, content_item, number}
+use Rattle.cbor4ii_tree.specs.Encodings.{Encodes}
+use Rattle.cbor4ii_tree.specs.Laws.Initials.{length-bytes-pos}
+
+size-content : (k : Kind) (content : List ℕ) → size (content_item k content) ≤ 1 + length content
+size-content byte_string content = omega arith
+size-content text_string content = omega arith
+
+length-joined : (ts : Trees) → length (joined_chunks ts) ≤ length (bytes_all ts)
+length-joined no_trees = omega arith
+length-joined (tree (string k w content) ts) =
+    omega (
+      arith,
+      length-joined ts,
+      length-append content (joined_chunks ts),
+      length-append (bytes (string k w content)) (bytes_all ts),
+      length-append (bytes_high_first (byte_count w) (length content)) content,
+    )
+length-joined (tree t ts) = omega (arith, length-joined ts, length-append (bytes t) (bytes_all ts))
+
+mutual
+  pub size-value : (t : Tree) → size (value t) ≤ length (bytes t)
+  size-value (int s n w) = omega arith
+  size-value (string k w content) =
+      omega (
+        arith,
+        size-content k content,
+        length-append (bytes_high_first (byte_count w) (length content)) content,
+      )
+  size-value (chunked k ts) =
+      omega (
+        arith,
+        size-content k (joined_chunks ts),
+        length-joined ts,
+        length-append (bytes_all ts) (break ∷ []),
+      )
+  size-value (array w ts) =
+      omega (
+        arith,
+        size-values ts,
+        length-append (bytes_high_first (byte_count w) (count ts)) (bytes_all ts),
+      )
+  size-value (array_indefinite ts) =
+      omega (arith, size-values ts, length-append (bytes_all ts) (break ∷ []))
+  size-value (map_of w ps) =
+      omega (
+        arith,
+        size-member_values ps,
+        length-append (bytes_high_first (byte_count w) (pair_count ps)) (bytes_pairs ps),
+      )
+  size-value (map_indefinite ps) =
+      omega (arith, size-member_values ps, length-append (bytes_pairs ps) (break ∷ []))
+  size-value (tagged n w t) =
+      omega (arith, size-value t, length-append (bytes_high_first (byte_count w) n) (bytes t))
+  size-value (simple simple_false) = omega arith
+  size-value (simple simple_true) = omega arith
+  size-value (simple simple_null) = omega arith
+  size-value (simple simple_undefined) = omega arith
+  size-value (bits p n) = omega arith
+
+  size-values : (ts : Trees) → size_all (values ts) ≤ length (bytes_all ts)
+  size-values no_trees = omega arith
+  size-values (tree t ts) =
+      omega (arith, size-value t, size-values ts, length-append (bytes t) (bytes_all ts))
+
+  size-member_values : (ps : Pairs) → size_members (member_values ps) ≤ length (bytes_pairs ps)
+  size-member_values no_pairs = omega arith
+  size-member_values (pair k v ps) =
+      omega (
+        arith,
+        size-value k,
+        size-value v,
+        size-member_values ps,
+        length-append (bytes k)
+            (bytes v ++ bytes_pairs ps),
+        length-append (bytes v) (bytes_pairs ps),
+      )
+
+-- ---- so fewer than 2 ^ 64 bytes encode a value of the program
+
+pub integer-value : (s : Sign) (n : ℕ) → n < 2 ^ 64 → IsItem (integer (number s n))
+integer-value unsigned n h = omega arith
+integer-value negative n h = omega arith
+
+pub content-value : (k : Kind) (content : List ℕ) → TextIsUtf8 k content → length content < 2 ^ 64
+    → IsItem (content_item k content)
+content-value byte_string content h lt = lt
+content-value text_string content h lt = (lt, h)
+
+pub item_count-values : (ts : Trees) → item_count (values ts) ≡ count ts
+item_count-values no_trees = refl
+item_count-values (tree t ts) = ap suc (item_count-values ts)
+
+pub member_count-values : (ps : Pairs) → member_count (member_values ps) ≡ pair_count ps
+member_count-values no_pairs = refl
+member_count-values (pair k v ps) = ap suc (member_count-values ps)
+
+count-le : (ts : Trees) → count ts ≤ length (bytes_all ts)
+count-le no_trees = omega arith
+count-le (tree t ts) =
+    omega (arith, length-append (bytes t) (bytes_all ts), length-bytes-pos t, count-le ts)
+
+pair_count-le : (ps : Pairs) → pair_count ps ≤ length (bytes_pairs ps)
+pair_count-le no_pairs = omega arith
+pair_count-le (pair k v ps) =
+    omega (
+      arith,
+      length-append (bytes k) (bytes v ++ bytes_pairs ps),
+      length-append (bytes v) (bytes_pairs ps),
+      length-bytes-pos k,
+      pair_count-le ps,
+    )
+
+mutual
+  pub IsItem-value : (t : Tree) → Loose t → SoundStrings t → length (bytes t) < 2 ^ 64
+      → IsItem (value t)
+  IsItem-value (int s n w) l s' lt = integer-value s n (argument_below w n l)
+  IsItem-value (string k w content) l s lt =
+      content-value k content s (argument_below w (length content) l)
+  IsItem-value (chunked k ts) l s lt =
+      content-value k (joined_chunks ts) s.1
+      (omega (arith, length-joined ts, length-append (bytes_all ts) (break ∷ [])))
+  IsItem-value (array w ts) l s lt = (
+    omega (arith, item_count-values ts, argument_below w (count ts) l.0),
+    AreItems-values ts l.1 s (omega
+        (arith, length-append (bytes_high_first (byte_count w) (count ts)) (bytes_all ts))),
+  )
+  IsItem-value (array_indefinite ts) l s lt =
+      let less : length (bytes_all ts) < 2 ^ 64 =
+      omega (arith, length-append (bytes_all ts) (break ∷ [])) in
+      (omega (arith, item_count-values ts, count-le ts), AreItems-values ts l s less)
+  IsItem-value (map_of w ps) l s lt = (
+    omega (arith, member_count-values ps, argument_below w (pair_count ps) l.0),
+    AreMembers-values ps l.1 s (omega (
+      arith,
+      length-append (bytes_high_first (byte_count w) (pair_count ps)) (bytes_pairs ps),
+    )),
+  )
+  IsItem-value (map_indefinite ps) l s lt =
+      let less : length (bytes_pairs ps) < 2 ^ 64 =
+      omega (arith, length-append (bytes_pairs ps) (break ∷ [])) in
+      (omega (arith, member_count-values ps, pair_count-le ps), AreMembers-values ps l s less)
+  IsItem-value (tagged n w t) l s lt = (
+    argument_below w n l.0,
+    IsItem-value t l.1 s
+        (omega (arith, length-append (bytes_high_first (byte_count w) n) (bytes t))),
+  )
+  IsItem-value (simple simple_false) l s lt = tt
+  IsItem-value (simple simple_true) l s lt = tt
+  IsItem-value (simple simple_null) l s lt = tt
+  IsItem-value (simple simple_undefined) l s lt = tt
+  IsItem-value (bits p n) l s lt = l
+
+  AreItems-values : (ts : Trees) → LooseAll ts → SoundStringsAll ts → length (bytes_all ts) < 2 ^ 64
+      → AreItems (values ts)
+  AreItems-values no_trees l s lt = tt
+  AreItems-values (tree t ts) l s lt = (
+    IsItem-value t l.0 s.0 (omega (arith, length-append (bytes t) (bytes_all ts))),
+    AreItems-values ts l.1 s.1 (omega (arith, length-append (bytes t) (bytes_all ts))),
+  )
+
+  AreMembers-values : (ps : Pairs) → LoosePairs ps → SoundStringsPairs ps
+      → length (bytes_pairs ps) < 2 ^ 64 → AreMembers (member_values ps)
+  AreMembers-values no_pairs l s lt = tt
+  AreMembers-values (pair k v ps) l s lt =
+      let all = length-append (bytes k) (bytes v ++ bytes_pairs ps) in
+      let last = length-append (bytes v) (bytes_pairs ps) in (
+        IsItem-value k l.0 s.0 (omega (arith, all)),
+        IsItem-value v l.1 s.1
+            (omega (arith, all, last)),
+        AreMembers-values ps l.2 s.2 (omega (arith, all, last)),
+      )
+
+pub size-of_tree : (encoding : List ℕ) (v : Item) (steps : ℕ) → Encodes encoding v steps
+    → size v ≤ length encoding
+size-of_tree encoding v steps s =
+    subst (λ w. size w ≤ length encoding) s.value_is
+    (subst (λ r. size (value s.of_tree) ≤ length r) s.bytes_are (size-value s.of_tree))

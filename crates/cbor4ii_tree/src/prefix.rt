@@ -1,0 +1,165 @@
+//! Where skipped bytes come from: a reader, or bytes that it lent.
+//!
+//! An item that is kept as its bytes is skipped inside the bytes that one `fill` lends, under the
+//! steps of the reader that lent them. So what skips is written over both.
+ghost use Rattle.std.specs.Prelude.{◌≡◌, ◌≤◌, ◌<◌, Bool, take, length, min, IsTrue, IfOk, IfSome};
+ghost use Rattle.std.specs.Prelude.{OnErr, true, false};
+ghost use Rattle.cbor4ii_rw.specs.View.{View};
+ghost use Rattle.cbor4ii_rw.specs.Reader.{ReaderFails, Advances, KeepsAllButBudget};
+ghost use Rattle.cbor4ii_items.specs.Head.{IsBytes};
+ghost use Rattle.cbor4ii_tree.specs.Prefix.{lent_view, Offers, FirstByteIs, Ready};
+ghost use Rattle.cbor4ii_tree.specs.Ahead.{Sees};
+ghost use Rattle.cbor4ii_tree.specs.Laws.Prefixes.{own_budget, own_moved, lent_budget, lent_moved};
+
+use crate::ahead::{Ahead, Among, ahead_of};
+use cbor4ii_rw::ask::look;
+use cbor4ii_rw::read::Source;
+
+/// So many bytes are asked for in a look that decides what comes next.
+const WINDOW: usize = 256;
+
+/// Bytes that are looked at before they are taken, under the steps of a reader.
+pub(crate) trait Prefix<S: Source>: Sized {
+    // What is still to come, with the reader's budget.
+    ghost view: { Self → S → View };
+
+    // The bytes are not the reader's own.
+    ghost apart: { Bool };
+
+    /// The next byte, which stays; none at the end.
+    fn peek(&mut self, reader: &mut S) -> Result<Option<u8>, S::Error>
+        ensures offers { IfOk result (λ found. Offers 1 (FirstByteIs found)
+            (view self.old reader.old) (view self.new reader.new)) }
+        ensures byte { IfOk result (λ found. IfSome found (λ b. b < 256)) }
+        ensures breaks { OnErr result
+            (ReaderFails (view self.old reader.old) (view self.new reader.new)) }
+        ensures stays { IsTrue apart → S.view reader.new ≡ S.view reader.old };
+
+    /// How many bytes may be taken at once, at most so many; none at the end.
+    fn ready(&mut self, reader: &mut S, want: usize) -> Result<usize, S::Error>
+        ensures offers { IfOk result (λ count. Offers want (Ready want count)
+            (view self.old reader.old) (view self.new reader.new)) }
+        ensures breaks { OnErr result
+            (ReaderFails (view self.old reader.old) (view self.new reader.new)) }
+        ensures stays { IsTrue apart → S.view reader.new ≡ S.view reader.old };
+
+    /// What comes next, decided by one look at the front.
+    fn ahead(&mut self, reader: &mut S, among: Among) -> Result<Ahead, S::Error>
+        ensures offers { IfOk result (λ seen. Offers 256 (Sees among seen)
+            (view self.old reader.old) (view self.new reader.new)) }
+        ensures breaks { OnErr result
+            (ReaderFails (view self.old reader.old) (view self.new reader.new)) }
+        ensures stays { IsTrue apart → S.view reader.new ≡ S.view reader.old };
+
+    /// Takes so many bytes.
+    fn advance(&mut self, reader: &mut S, count: usize)
+        requires { count ≤ (view self.old reader.old).advanceable }
+        ensures takes { Advances count (view self.old reader.old) (view self.new reader.new) }
+        ensures stays { IsTrue apart → S.view reader.new ≡ S.view reader.old };
+
+    // The steps are the reader's.
+    ghost same_budget: { (prefix : Self) (reader : S) →
+        (view prefix reader).budget ≡ (S.view reader).budget };
+
+    // A step of the reader moves nothing else.
+    ghost moved: { (prefix : Self) (old new : S) →
+        KeepsAllButBudget (S.view old) (S.view new) →
+        KeepsAllButBudget (view prefix old) (view prefix new) };
+}
+
+/// The reader's own bytes.
+#[derive(Drop)]
+pub(crate) struct Own;
+
+impl<S: Source> Prefix<S> for Own {
+    ghost view = { λ own reader. S.view reader };
+
+    ghost apart = { false };
+
+    fn peek(&mut self, reader: &mut S) -> Result<Option<u8>, S::Error> {
+        let mut failure = None;
+        match look(reader, 1, &mut failure) {
+            Some(shown) => Ok(first_byte(shown)),
+            None => Err(failure.unwrap()),
+        }
+    }
+
+    fn ready(&mut self, reader: &mut S, want: usize) -> Result<usize, S::Error> {
+        let mut failure = None;
+        match look(reader, want, &mut failure) {
+            Some(shown) => Ok(prefix_size(shown, want)),
+            None => Err(failure.unwrap()),
+        }
+    }
+
+    #[inline(always)]
+    fn ahead(&mut self, reader: &mut S, among: Among) -> Result<Ahead, S::Error> {
+        let mut failure = None;
+        match look(reader, WINDOW, &mut failure) {
+            Some(shown) => Ok(ahead_of(shown, among)),
+            None => Err(failure.unwrap()),
+        }
+    }
+
+    #[inline(always)]
+    fn advance(&mut self, reader: &mut S, count: usize) {
+        reader.advance(count);
+    }
+
+    ghost same_budget = { λ own reader. own_budget (S.view reader) };
+
+    ghost moved = { λ own old new. own_moved (S.view old) (S.view new) };
+}
+
+/// Bytes that were lent.
+#[derive(Drop)]
+pub(crate) struct Lent<'a> {
+    pub(crate) rest: &'a [u8],
+}
+
+impl<S: Source> Prefix<S> for Lent<'_> {
+    ghost view = { λ lent reader. lent_view lent.rest.now (S.view reader) };
+
+    ghost apart = { true };
+
+    fn peek(&mut self, reader: &mut S) -> Result<Option<u8>, S::Error> {
+        Ok(first_byte(self.rest))
+    }
+
+    fn ready(&mut self, reader: &mut S, want: usize) -> Result<usize, S::Error> {
+        Ok(prefix_size(self.rest, want))
+    }
+
+    #[inline(always)]
+    fn ahead(&mut self, reader: &mut S, among: Among) -> Result<Ahead, S::Error> {
+        Ok(ahead_of(self.rest, among))
+    }
+
+    #[inline(always)]
+    fn advance(&mut self, reader: &mut S, count: usize) {
+        self.rest = &self.rest[count..];
+    }
+
+    ghost same_budget = { λ lent reader. lent_budget lent.rest.now (S.view reader) };
+
+    ghost moved = { λ lent old new. lent_moved lent.rest.now (S.view old) (S.view new) };
+}
+
+/// The first of the shown bytes.
+fn first_byte(shown: &[u8]) -> Option<u8>
+    ensures begins { FirstByteIs result shown.now }
+    ensures byte { IfSome result (λ b. b < 256) }
+{
+    if shown.len() == 0 {
+        return None;
+    }
+    Some(shown[0])
+}
+
+/// How many of the shown bytes are taken, and that these are bytes.
+fn prefix_size(shown: &[u8], want: usize) -> usize
+    ensures value { result ≡ min want (length shown.now) }
+    ensures bytes { IsBytes (take result shown.now) }
+{
+    want.min(shown.len())
+}
