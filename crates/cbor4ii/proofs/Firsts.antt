@@ -1,25 +1,22 @@
 -- The value at the front of an input.
-use Rattle.std.proofs.Common.{◌≡◌, ℕ, ◌<◌, ◌≤◌, ◌^◌, ◌⊎◌, inl, inr, List, length, Option, Some}
-use Rattle.std.proofs.Common.{None, Result, Ok, Err, Bool, true, sym, subst}
+use Rattle.std.proofs.Common.{◌≡◌, ℕ, ◌≤◌, inl, List, length, Option, Some}
+use Rattle.std.proofs.Common.{None, Result, Ok, Err, true, refl, sym, subst}
 use Rattle.std.specs.Prelude.{IfOk, IfErr, IfSome, IsTrue}
 use Rattle.cbor4ii_rw.specs.View.{View, IfKnown}
 use Rattle.cbor4ii_items.specs.InputError.{InputError, input_error_of}
 use Rattle.cbor4ii_items.specs.Decoding.{RejectsAt, CostFits, NoneRead, Sound, IsExact, Complete}
 use Rattle.cbor4ii_items.specs.Decoding.{Rejects}
 use Rattle.cbor4ii.specs.declared.serde.de.error.DecodeError.{DecodeError}
-use Rattle.cbor4ii.specs.First.{First, FirstOf, limit}
+use Rattle.cbor4ii.specs.First.{First, FirstOf, FirstWhole}
+use Rattle.cbor4ii_rw.specs.Input.{limit}
+use Rattle.cbor4ii_items.specs.Whole.{IsSure}
+use Rattle.cbor4ii_items.specs.Laws.Wholes.{sure_is_exact, trails, to_the_end}
+use Rattle.cbor4ii_items.specs.Laws.Wholes.{none_whole, whole_of}
+use Rattle.std.specs.Result.{IsErrAnd}
+use Rattle.cbor4ii_rw.specs.declared.error.WholeError.{WholeError}
+use Rattle.cbor4ii_rw.specs.declared.error.WholeError.TheVariants.{Decode, Trailing}
 use Rattle.cbor4ii.specs.Typed.{Promise, Deserializes, as_core, answer_of}
 use Rattle.cbor4ii.proofs.IfKnown.{if_ok, if_err}
-
-whole : (owned : Bool) (view : View) (bytes : List ℕ) → view.known ≡ Some bytes
-    → view.zero_copy ≡ true → IsTrue owned ⊎ (length bytes < 2 ^ 64) → IsExact owned view
-whole owned view bytes known lends (inl is) = inl is
-whole owned view bytes known lends (inr short) =
-    inr (
-      lends,
-      λ xs e. let same : xs ≡ bytes = cc in
-          subst (λ ys. length ys < 2 ^ 64) (sym same) short,
-    )
 
 if_stopped : (rejects : RejectsAt) (o : Option InputError) (left : Option (List ℕ)) (xs : List ℕ)
     (budget : Option ℕ) → budget ≡ Some limit
@@ -84,15 +81,59 @@ module _ {V E : Type 0} (p : Promise V) (r : Result V (DecodeError E)) where
 
   -- that of a slice, and of a stream
   pub first_lent : {view : View} (bytes : List ℕ) → FirstOf p view r → view.known ≡ Some bytes
-      → view.zero_copy ≡ true
-      → First p (IsTrue p.format.owned ⊎ (length bytes < 2 ^ 64)) (Some bytes) r
+      → view.zero_copy ≡ true → First p (IsSure p.format.owned bytes) (Some bytes) r
   first_lent {view = view} bytes f known lends =
-      as_known (IsExact p.format.owned view)
-      (IsTrue p.format.owned ⊎ (length bytes < 2 ^ 64)) view.known (Some bytes)
-      (whole p.format.owned view bytes known lends) known f.first
+      as_known (IsExact p.format.owned view) (IsSure p.format.owned bytes) view.known (Some bytes)
+      (sure_is_exact p.format.owned view bytes known lends) known f.first
 
   pub first_streamed : {view : View} (left : Option (List ℕ)) → FirstOf p view r → view.known ≡ left
       → First p (IsTrue p.format.owned) left r
   first_streamed {view = view} left f known =
       as_known (IsExact p.format.owned view) (IsTrue p.format.owned) view.known left
       (λ is. inl is) known f.first
+
+module _ {V E : Type 0} (p : Promise V) (bytes : List ℕ) (a b : View)
+    (known : a.known ≡ Some bytes) (budget : a.budget ≡ Some limit) where
+  -- an input is one value, and nothing else
+  pub first_whole : (v : V) (left : ℕ) → Deserializes {E = E} p a b (Ok v)
+      → IfKnown b.known (λ xs. left ≡ length xs) → left ≤ 0
+      → FirstWhole {E = E} p bytes (Ok v)
+  first_whole v left d counts none =
+      let all = to_the_end p.format.reads bytes a b known budget v left d.sound counts none in
+      record {
+        accepts = all;
+        whole = λ is. whole_of p.format (p.lawful is) bytes v all;
+        trailing = tt;
+        none = λ is. tt;
+        rejects = tt;
+      }
+
+  -- bytes follow the value
+  pub first_trails : (v : V) (left : ℕ) → Deserializes {E = E} p a b (Ok v)
+      → IfKnown b.known (λ xs. left ≡ length xs) → 1 ≤ left
+      → FirstWhole {E = E} p bytes (Err (Trailing left))
+  first_trails v left d counts more =
+      let some = trails p.format.reads bytes a b known budget v left d.sound counts more in
+      record {
+        accepts = tt;
+        whole = λ is. tt;
+        trailing = some;
+        none = λ is. none_whole p.format (p.lawful is) bytes left some;
+        rejects = tt;
+      }
+
+  -- no value is read
+  pub first_rejected : a.zero_copy ≡ true → (e : DecodeError E)
+      → Deserializes p a b (answer_of (Err e)) → (r : Result V (WholeError (DecodeError E)))
+      → IsErrAnd r (λ w. w ≡ Decode e) → FirstWhole p bytes r
+  first_rejected lends e d (Ok v) is = absurd is
+  first_rejected lends e d (Err w) is =
+      let first = first_lent p (Err e) bytes (first_of p (Err e) a b a refl d budget) known lends in
+      subst (λ z. FirstWhole p bytes (Err z)) (sym is)
+      (record {
+        accepts = tt;
+        whole = λ is. tt;
+        trailing = tt;
+        none = λ is. tt;
+        rejects = first;
+      })

@@ -1,14 +1,15 @@
 -- The value at the front of an input.
-use Rattle.std.specs.Prelude.{ℕ, ◌≤◌, List, Option, Some, Result, IfOk, IfErr, IfSome, IsTrue}
+use Rattle.std.specs.Prelude.{ℕ, ◌≤◌, List, Option, Some, Result, Err, IfOk, IfErr}
+use Rattle.std.specs.Prelude.{IfSome, IsTrue}
+use Rattle.cbor4ii_rw.specs.Input.{limit}
+use Rattle.cbor4ii_rw.specs.declared.error.WholeError.{WholeError}
 use Rattle.cbor4ii_rw.specs.View.{View, IfKnown}
 use Rattle.cbor4ii_items.specs.Decoding.{NoneRead, IsExact}
+use Rattle.cbor4ii_items.specs.Whole.{ReadsToTheEnd, IsWhole, NoneIsWhole, Trails, IsSure}
+use Rattle.cbor4ii_items.specs.Whole.{IfDecode, IfTrailing}
 use Rattle.cbor4ii_items.specs.InputError.{input_error_of, is_out_of_memory}
 use Rattle.cbor4ii.specs.declared.serde.de.error.DecodeError.{DecodeError}
 use Rattle.cbor4ii.specs.Typed.{Promise, as_core}
-
--- the steps that are given
-abbrev pub limit : ℕ
-limit = 256
 
 -- An accepted value is read at the front of the bytes, at a cost of at most 256. Memory is rejected
 -- only to a type that takes some. Of an exact type, where it is sure to be accepted, an error that
@@ -31,3 +32,16 @@ pub record First {V E : Type 0} (promise : Promise V) (sure : Type 0) (known : O
 pub record FirstOf {V E : Type 0} (promise : Promise V) (view : View)
     (answer : Result V (DecodeError E)) : Type 0 where
   pub first : First promise (IsExact promise.format.owned view) view.known answer
+
+-- An accepted value is read from the beginning, and is the whole input of an exact type. Bytes that
+-- follow a value are counted; of an exact type the whole input is read as no value then. Any other
+-- error is one of reading.
+pub record FirstWhole {V E : Type 0} (promise : Promise V) (bytes : List ℕ)
+    (answer : Result V (WholeError (DecodeError E))) : Type 0 where
+  pub accepts : IfOk answer (ReadsToTheEnd promise.format.reads bytes)
+  pub whole : IsTrue promise.exact → IfOk answer (IsWhole promise.format.reads bytes)
+  pub trailing : IfErr answer (λ error. IfTrailing error (Trails promise.format.reads bytes))
+  pub none : IsTrue promise.exact → IfErr answer (λ error. IfTrailing error
+      (λ left. NoneIsWhole promise.format.reads bytes))
+  pub rejects : IfErr answer (λ error. IfDecode error (λ why.
+      First promise (IsSure promise.format.owned bytes) (Some bytes) (Err why)))

@@ -17,7 +17,7 @@ use Rattle.cbor4ii.specs.Typed.{Promise, typed_format, typed_laws, lawful_as, sa
 
 -- ---- a part
 
--- a part as containers read it: where it does not tell its errors, nothing is said of them
+-- a part as containers read it: where it does not report its errors, nothing is said of them
 abbrev pub part_of : {V : Type 0} → Promise V → Format V
 part_of p = typed_format p.format.reads p.format.same (said_by p) p.format.owned
     p.format.takes_memory

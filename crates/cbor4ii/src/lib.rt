@@ -9,4 +9,6 @@ pub mod serde;
 pub mod utils;
 
 pub use cbor4ii_items::{major, marker, types};
-pub use cbor4ii_tree::{BoxedRawValue, Canonical, FloatBits, NoMemory, RawValue, Value};
+pub use cbor4ii_tree::{
+    BoxedRawValue, Canonical, FloatBits, NoMemory, PlainRawValue, RawValue, Value,
+};

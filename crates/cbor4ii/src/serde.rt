@@ -4,6 +4,8 @@ pub mod de;
 pub mod described;
 pub mod laws;
 
+pub use cbor4ii_rw::error::WholeError;
+pub use cbor4ii_rw::input::Input;
 pub use cbor4ii_ser::bounded::BoundedCollect;
 pub use cbor4ii_ser::collect::Collect;
 pub use cbor4ii_ser::error::EncodeError;
@@ -18,7 +20,7 @@ pub use de::deserializer::Deserializer;
 pub use de::enum_accessor::EnumAccessor;
 pub use de::error::DecodeError;
 pub use de::fields::{Places, Values};
-pub use de::first::{Input, from_reader, from_slice};
+pub use de::first::{from_reader, from_slice, from_slice_whole};
 pub use de::place::{Place, Single};
 pub use de::presence::{Once, Optional, Or, Presence, Presences, Required};
 pub use de::some_accessor::SomeAccessor;

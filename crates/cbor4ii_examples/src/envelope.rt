@@ -12,8 +12,7 @@ use cbor4ii::serde::{
     from_slice, to_vec,
 };
 use cbor4ii::types::Bytes;
-use cbor4ii_items::decode::Decode;
-use cbor4ii_rw::error::{DecodeError as CoreError, Never, StaticStr, TryReserveError};
+use cbor4ii_rw::error::{DecodeError as CoreError, Never, StaticStr, TryReserveError, WholeError};
 use cbor4ii_rw::slice_reader::SliceReader;
 use cbor4ii_rw::write::Write;
 use cbor4ii_tree::RawValue;
@@ -118,8 +117,8 @@ pub trait Verify {
 pub enum SealError {
     /// The payload or the envelope was not written.
     Encode(EncodeError<TryReserveError>),
-    /// What was written of the payload is no item that is read within 256 steps.
-    Payload(CoreError<Never>),
+    /// What was written of the payload is not one item, or one of more than 256 steps.
+    Payload(WholeError<CoreError<Never>>),
     /// There was no memory for the signature.
     OutOfMemory,
 }
@@ -140,15 +139,14 @@ pub enum OpenError {
 /// # Errors
 ///
 /// `Encode` where the payload has no item, or there is no memory for one. `Payload` where what its
-/// type writes is no item, or too deep. `OutOfMemory` where there is no memory for the signature.
+/// type writes is not one item, or too deep. `OutOfMemory` where there is no memory for the signature.
 pub fn seal<S: Sign, T: Serialize>(
     alloc: Global,
     signer: &S,
     payload: &T,
 ) -> Result<Vec<u8>, SealError> {
     let item = to_vec(Vec::new(alloc), payload).map_err(SealError::Encode)?;
-    let mut reader = SliceReader::new(&item);
-    let payload = RawValue::decode(alloc, &mut reader).map_err(SealError::Payload)?;
+    let payload = RawValue::new(&item).map_err(SealError::Payload)?;
     let message = payload.as_bytes();
     let signature = signer
         .sign(alloc, message)

@@ -37,3 +37,4 @@ pub mod NumbersApart
 pub mod ContainersApart
 pub mod SequencesApart
 pub mod StringsApart
+pub mod Wholes

@@ -25,6 +25,7 @@ pub mod Sequences
 pub mod SequenceBytes
 pub mod Next
 pub mod Shortest
+pub mod Whole
 -- ---- what the decoders do, without the reader: the words of private contracts
 pub mod Reading
 pub mod Contents

@@ -30,7 +30,7 @@ pub trait Decode<S: Source>: Decodable {
     /// Reads one item off the front of what `reader` has left. `alloc` gives what memory the
     /// value needs.
     ///
-    /// Over any lawful reader, also one that does not tell its bytes, and whatever the answer is:
+    /// Over any lawful reader, also one that does not report its bytes, and whatever the answer is:
     /// the budget is as before, the bytes that are left are an end of those that were there, no
     /// more can come than before, and a reader that is zero-copy stays so.
     ///

@@ -26,3 +26,4 @@ mod simple;
 mod strings;
 mod tag;
 pub mod types;
+pub mod whole;

@@ -104,6 +104,7 @@ fn value_rows(tally: &mut Tally) -> Result<(), Broken> {
     values::values(tally)?;
     values::refused(tally)?;
     values::copies(tally)?;
+    values::bignums(tally)?;
     lent::kept(tally)?;
     lent::strings(tally)
 }

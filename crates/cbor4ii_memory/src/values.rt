@@ -1,4 +1,4 @@
-//! Rows of whole items, and of their copies.
+//! Rows of whole items, of their copies, and of bignums that become tags.
 use crate::debug_text::has_debug_text;
 use crate::read::{RefusedRow, Row, reads_in_place, reads_rows, refuses_rows};
 use crate::tally::{Broken, Tally};
@@ -161,6 +161,24 @@ fn is_copied(tally: &mut Tally, value: &Value, text: &str) -> Result<(), Broken>
     match copy {
         Ok(copy) if has_debug_text(&copy, &text) => {}
         Ok(_) => return Err(Broken::new("Value::try_clone", "the copy is another value")),
+        Err(NoMemory) => tally.refuse(),
+    }
+    Ok(())
+}
+
+// An array of 2^64, which becomes a tag on its bytes.
+const TAGGED: &str = "Canonical(Array([Tag(2, Bytes([1, 0, 0, 0, 0, 0, 0, 0, 0]))]))";
+
+/// Integers beyond 64 bits become tags, or memory is rejected for them.
+pub fn bignums(tally: &mut Tally) -> Result<(), Broken> {
+    let mut items = Vec::new(tally.alloc());
+    if items.push(Value::Integer(18446744073709551616)).is_err() {
+        tally.refuse();
+        return Ok(());
+    }
+    match Canonical::try_from_value(tally.alloc(), Value::Array(items)) {
+        Ok(canonical) if has_debug_text(&canonical, &[(TAGGED, 1)]) => {}
+        Ok(_) => return Err(Broken::new("Canonical::try_from_value", "it is another value")),
         Err(NoMemory) => tally.refuse(),
     }
     Ok(())

@@ -9,3 +9,5 @@ pub mod Segments
 pub mod Stream
 pub mod Writer
 pub mod Written
+pub mod Errors
+pub mod Input

@@ -2,6 +2,8 @@
 ghost use Rattle.std.specs.Prelude.{◌≡◌, ◌<◌, ◌≤◌};
 ghost use Rattle.cbor4ii_rw.specs.declared.error.DecodeError.TheVariants.{Read};
 ghost use Rattle.cbor4ii_rw.specs.declared.error.EncodeError.TheVariants.{Write};
+ghost use Rattle.cbor4ii_rw.specs.declared.error.WholeError.TheVariants.{Decode};
+ghost use Rattle.cbor4ii_rw.specs.Errors.{is_eof, name_of, byte_of};
 
 /// Why a vector could not grow.
 pub use std::collections::TryReserveError;
@@ -48,8 +50,8 @@ pub enum ArithmeticOverflow {
 
 /// Why a value was not read. `name` says what was read: a type, or a part of its encoding.
 ///
-/// The calls tell their errors by this name, and with the other field. So `Eof` by "u8" with 1 is
-/// the one whose `name` is "u8" and whose `expect` is 1.
+/// Documents say an error by this name, and with the other field: `Eof` by "u8" with 1 is the one
+/// whose `name` is "u8" and whose `expect` is 1.
 #[derive(Clone, Debug, PartialEq, Eq, Drop)]
 pub enum DecodeError<E> {
     /// The reader failed.
@@ -122,6 +124,58 @@ pub enum DecodeError<E> {
     },
 }
 
+impl<E> DecodeError<E> {
+    /// Whether the input ended too early. Over a stream that is still written, more may come.
+    pub fn is_eof(&self) -> bool
+        ensures { result ≡ is_eof self.now }
+    {
+        matches!(self, DecodeError::Eof { .. })
+    }
+
+    /// What was read: `name` of the variants that have one. `Read` and `OutOfMemory` have none.
+    pub fn name(&self) -> Option<StaticStr>
+        ensures { result ≡ name_of self.now }
+    {
+        match self {
+            DecodeError::Mismatch { name, .. }
+            | DecodeError::Unsupported { name, .. }
+            | DecodeError::Eof { name, .. }
+            | DecodeError::RequireLength { name, .. }
+            | DecodeError::RequireBorrowed { name }
+            | DecodeError::RequireUtf8 { name }
+            | DecodeError::LengthOverflow { name, .. }
+            | DecodeError::CastOverflow { name }
+            | DecodeError::ArithmeticOverflow { name, .. }
+            | DecodeError::DepthOverflow { name }
+            | DecodeError::Custom { name, .. }
+            | DecodeError::NotCanonical { name } => Some(*name),
+            DecodeError::Read(_) | DecodeError::OutOfMemory => None,
+        }
+    }
+
+    /// The byte that was found: `found` of `Mismatch` and of `Unsupported`. Of a `Mismatch` by
+    /// "u128::tag" or "i128::tag" it is the number of the tag.
+    pub fn found(&self) -> Option<u8>
+        ensures { result ≡ byte_of self.now }
+    {
+        match self {
+            DecodeError::Mismatch { found, .. } | DecodeError::Unsupported { found, .. } => {
+                Some(*found)
+            }
+            _ => None,
+        }
+    }
+}
+
+/// Why an input is not one item and nothing else.
+#[derive(Clone, Debug, PartialEq, Eq, Drop)]
+pub enum WholeError<E> {
+    /// The input does not begin with an item that is read, or there was no memory for it.
+    Decode(E),
+    /// The input begins with such an item, and so many bytes follow it, one at least.
+    Trailing(usize),
+}
+
 /// Why a value was not written.
 #[derive(Clone, Debug, PartialEq, Eq, Drop)]
 pub enum EncodeError<E> {
@@ -135,6 +189,15 @@ impl<E> From<E> for DecodeError<E> {
 
     fn from(error: E) -> DecodeError<E> {
         DecodeError::Read(error)
+    }
+}
+
+/// The error of reading, in `Decode`.
+impl<E> From<E> for WholeError<E> {
+    ghost from_gives = { λ error result. result ≡ Decode error };
+
+    fn from(error: E) -> WholeError<E> {
+        WholeError::Decode(error)
     }
 }
 
@@ -161,6 +224,18 @@ impl<E: fmt::Debug> fmt::Display for EncodeError<E> {
     }
 }
 
+/// The error of reading, or how many bytes follow the item.
+impl<E: fmt::Display> fmt::Display for WholeError<E> {
+    fn fmt<W: fmt::Write>(&self, f: &mut fmt::Formatter<W>) -> fmt::Result {
+        match self {
+            WholeError::Decode(error) => write!(f, "{error}"),
+            WholeError::Trailing(left) => write!(f, "bytes after the item: {left}"),
+        }
+    }
+}
+
 impl<E: fmt::Debug + Drop> Error for DecodeError<E> {}
+
+impl<E: Error> Error for WholeError<E> {}
 
 impl<E: fmt::Debug + Drop> Error for EncodeError<E> {}

@@ -114,6 +114,13 @@ impl<R: BufRead> IoReader<R> {
         self.tally.taken
     }
 
+    /// How many steps are left.
+    pub fn steps(&self) -> usize
+        ensures { (stream_view R.Read.remaining R.consumable_len self.now).budget ≡ Some result }
+    {
+        self.tally.steps
+    }
+
     // Takes from the stream what was advanced, and forgets what it showed.
     fn settle(&mut self)
         ensures stream { DropsConsumable (R.Read.remaining self.old.inner)

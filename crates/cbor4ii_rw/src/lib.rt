@@ -9,6 +9,8 @@ pub mod ask;
 pub mod buf_writer;
 pub mod by_ref;
 pub mod error;
+pub mod explain;
+pub mod input;
 pub mod io_reader;
 pub mod io_writer;
 pub mod long;

@@ -1,6 +1,6 @@
 //! A reader over borrowed segments.
-ghost use Rattle.std.specs.Prelude.{◌≡◌, ◌≤◌, min, [], Some, false, length, nat_lt, IsTrue, IfOk};
-ghost use Rattle.std.specs.Prelude.{IfErr, IfSome, IfNone, IsSome, MatchResult};
+ghost use Rattle.std.specs.Prelude.{◌≡◌, ◌≤◌, ◌^◌, ◌-◌, min, [], Some, false, length, nat_lt};
+ghost use Rattle.std.specs.Prelude.{IsTrue, IfOk, IfErr, IfSome, IfNone, IsSome, MatchResult};
 ghost use Rattle.std.proofs.Common.{rules};
 ghost use Rattle.std.specs.Borrow.{sem};
 ghost use Rattle.std.specs.Io.BufRead.{Rests};
@@ -50,6 +50,26 @@ impl<'de> SegmentReader<'de> {
             segments,
             steps: limit,
         }
+    }
+
+    /// How many bytes are left; at most 2^64-1 are counted.
+    pub fn remaining(&self) -> usize
+        ensures { result ≡ min (length (rest_of self.now)) (2 ^ 64 - 1) }
+    {
+        let mut left = self.current.len();
+        let mut segments = self.segments;
+        while let [first, others @ ..] = segments {
+            left = left.saturating_add(first.len());
+            segments = others;
+        }
+        left
+    }
+
+    /// How many steps are left.
+    pub fn steps(&self) -> usize
+        ensures { (segment_view self.now).budget ≡ Some result }
+    {
+        self.steps
     }
 
     /// Goes on to the first segment that has bytes, if there is one.

@@ -53,6 +53,13 @@ impl<'a> SliceReader<'a> {
     {
         self.bytes
     }
+
+    /// How many steps are left.
+    pub fn steps(&self) -> usize
+        ensures { (slice_view self.now).budget ≡ Some result }
+    {
+        self.steps
+    }
 }
 
 /// It shows the first `want` bytes, or all where no more are left.

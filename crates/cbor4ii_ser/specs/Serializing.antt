@@ -36,7 +36,7 @@ abbrev pub SaysWhy : {E : Type 0} → Encoding → EncodeError E → Type 0
 SaysWhy item (Core error) = Unit {0}
 SaysWhy item (Custom text) = IsRejectedAnd item (λ bytes words. text.now ≡ words)
 
--- The key is written, and the call stopped in the value after it.
+-- The key is written, and the call failed in the value after it.
 pub record RejectsAtValue {E : Type 0} (atomic : Bool) (key value : Encoding) (old new : Output)
     (answer : Result (Unit {0}) (EncodeError E)) : Type 0 where
   pub between : Output

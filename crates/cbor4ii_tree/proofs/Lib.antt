@@ -8,3 +8,4 @@ pub mod answers
 pub mod canonical
 pub mod skip_calls
 pub mod raw_items
+pub mod PlainRaws

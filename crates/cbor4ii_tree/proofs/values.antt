@@ -13,5 +13,7 @@ pub mod Encoding
 pub mod Sent
 pub mod InRange
 pub mod Views
+pub mod Access
+pub mod Bignums
 pub mod Answered
 pub mod Ends

@@ -63,6 +63,6 @@ pub record CopiesItem {E : Type 0} (old new : View)
   -- want of memory comes after the item
   pub trailing : IfErr answer (λ error. IsTrue (is_out_of_memory error) →
       IfKnown old.known (SkippedTo old new))
-  -- over a zero-copy reader: exactly as skipping takes an item, or stops
+  -- over a zero-copy reader: exactly as skipping takes an item, or fails
   pub whole : IsExact false old → TakesItem boxed_content old new answer
   pub exact : IsExact false old → RejectsAsSkipping old new answer

@@ -1,4 +1,4 @@
--- What the parts of reading a value that is encoded in one way accept, and where they stop.
+-- What the parts of reading a value that is encoded in one way accept, and where they fail.
 use Rattle.std.specs.Prelude.{◌≡◌, ◌/◌, ℕ, suc, List, ◌∷◌, ◌++◌, length, Some, None}
 use Rattle.std.specs.Prelude.{string_bytes}
 use Rattle.cbor4ii_items.specs.Shortest.{RejectsShortest}

@@ -58,7 +58,7 @@ CanonicalMapRejects rejects budget xs e rest =
     rest
 
 -- Of major type 7, after the byte b, which says so (section 3.3): undefined is not canonical, and
--- the other simple values never stop.
+-- the other simple values never fail.
 abbrev pub CanonicalOtherRejects : Initial → ℕ → Stopping
 CanonicalOtherRejects (starts_simple simple_undefined) b bs e rest =
     Is (not_canonical canonical_name) bs e rest
@@ -100,7 +100,7 @@ CanonicalRejectsWithin (suc n) budget bs e rest =
     RejectsAtStep value_name (step_in budget) bs
     (λ inner. CanonicalRejectsFrom (CanonicalRejectsWithin n) inner bs) e rest
 
--- Reading a value from its canonical encoding at the front of the input under the budget stops
+-- Reading a value from its canonical encoding at the front of the input under the budget fails
 -- with the error, and leaves the rest.
 abbrev pub CanonicalRejects : List ℕ → Budget → InputError → List ℕ → Type 0
 CanonicalRejects input budget e rest =

@@ -1,6 +1,6 @@
--- One encoding a value. A strict tree has every head shortest (RFC 8949 section 4.1), no string in
--- chunks, no array or map without a length, and null only as null. A canonical tree is plain and
--- strict.
+-- One encoding a value. A tree of canonical shape has every head shortest (RFC 8949 section 4.1),
+-- no string in chunks, no array or map without a length, and null only as null. A canonical tree is
+-- plain and has this shape.
 use Rattle.std.specs.Prelude.{◌≡◌, ◌≢◌, ℕ, List, ◌++◌, length}
 use Rattle.cbor4ii_items.specs.Head.{shortest}
 use Rattle.cbor4ii_items.specs.Initial.{simple_undefined}

@@ -22,7 +22,7 @@ pub record Does {V E : Type 0} (accepts : Accepting V) (rejects : Stopping)
   pub err : IfErr answer (λ e. IfKnown old.known (λ xs. IfSome (input_error_of e) (λ z.
       (ys : List ℕ) × (new.known ≡ Some ys) × rejects xs z ys)))
 
--- the same of what is accepted and stops under a budget, here the reader's own
+-- the same of what is accepted and fails under a budget, here the reader's own
 abbrev pub DoesUnder : {V E : Type 0} → (Budget → Accepting V) → (Budget → Stopping) →
     View → View → Result V (DecodeError E) → Type 0
 DoesUnder accepts rejects old new answer =

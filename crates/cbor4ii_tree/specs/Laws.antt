@@ -8,6 +8,7 @@ pub mod Initials
 pub mod Numbers
 pub mod PartsAgain
 pub mod Wholes
+pub mod WholeInputs
 pub mod SkippingAgain
 pub mod Values
 pub mod CanonicalReading

@@ -15,10 +15,12 @@ pub mod ReadingRejects
 pub mod CanonicalRejects
 pub mod View
 pub mod ItemEquality
+pub mod Access
 pub mod Encoding
 pub mod Ignored
 pub mod Raw
 pub mod BoxedRaw
+pub mod PlainRaw
 -- ---- programs on lists
 pub mod Parse
 pub mod Skip

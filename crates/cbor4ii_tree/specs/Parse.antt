@@ -1,5 +1,5 @@
 -- The parts of the plain programs on lists. They compute, so that a row of bytes can be tried;
--- the laws tie them to trees and stops.
+-- the laws tie them to trees and rejections.
 use Rattle.std.specs.Prelude.{ℕ, zero, suc, ◌-◌, ◌%◌, ◌==◌, List, [], ◌∷◌, length, take, drop}
 use Rattle.std.specs.Prelude.{Option, Some, None, Result, Ok, Err, nat_lt, if◌then◌else◌}
 use Rattle.cbor4ii_items.specs.Head.{Width, in_first, one, two, four, eight, break}

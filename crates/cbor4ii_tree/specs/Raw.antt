@@ -81,7 +81,7 @@ RejectsAsSkipping old new answer = IfKnown old.known (λ xs. (e : InputError) (l
     SkippingRejects xs old.budget e left →
     Answered (λ _. ⊥) (λ f. (f ≡ e) × (new.known ≡ Some xs)) answer)
 
--- the reader failed: it may tell its bytes no more, but they are as they were, and a reader that
+-- the reader failed: it may report its bytes no more, but they are as they were, and a reader that
 -- remembers still reports them
 abbrev pub LeftAsTheyWere : View → View → Type 0
 LeftAsTheyWere old new =

@@ -125,7 +125,7 @@ ReadingRejectsWithin (suc n) budget bs e rest =
     RejectsAtStep value_name (step_in budget) bs
     (λ inner. ReadingRejectsFrom (ReadingRejectsWithin n) inner bs) e rest
 
--- Reading a value from the front of the input under the budget stops with the error, and
+-- Reading a value from the front of the input under the budget fails with the error, and
 -- leaves the rest.
 abbrev pub ReadingRejects : List ℕ → Budget → InputError → List ℕ → Type 0
 ReadingRejects input budget e rest = ReadingRejectsWithin (suc (length input)) budget input e rest

@@ -1,4 +1,4 @@
--- What the parts of skipping accept, and where they stop.
+-- What the parts of skipping accept, and where they fail.
 use Rattle.std.specs.Prelude.{◌≡◌, ℕ, ◌*◌, List, ◌∷◌, ◌++◌, Some}
 use Rattle.cbor4ii_items.specs.Head.{byte_count, break}
 use Rattle.cbor4ii_items.specs.Initial.{precision_bytes, Info, wide, indefinite_ended, reserved}

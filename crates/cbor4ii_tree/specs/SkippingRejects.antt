@@ -65,7 +65,7 @@ SkippingRejectsWithin (suc n) budget bs e rest =
     RejectsAtStep ignored_any (step_in budget) bs
     (λ inner. SkippingRejectsFrom (SkippingRejectsWithin n inner) inner bs) e rest
 
--- Skipping the item at the front of the input under the budget stops with the error, and
+-- Skipping the item at the front of the input under the budget fails with the error, and
 -- leaves the rest.
 abbrev pub SkippingRejects : List ℕ → Budget → InputError → List ℕ → Type 0
 SkippingRejects input budget e rest = SkippingRejectsWithin (suc (length input)) budget input e rest

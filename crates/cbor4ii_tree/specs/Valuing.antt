@@ -1,4 +1,4 @@
--- What the parts of reading a value accept, and where they stop.
+-- What the parts of reading a value accept, and where they fail.
 use Rattle.std.specs.Prelude.{◌≡◌, ℕ, ◌*◌, ◌/◌, List, ◌∷◌, ◌++◌, Option, Some, None, Result, Ok}
 use Rattle.std.specs.Prelude.{◌⊎◌}
 use Rattle.cbor4ii_rw.specs.View.{View}
@@ -86,7 +86,7 @@ ReadsArrayInside budget xs vs ys =
     ⊎ ((between : List ℕ) × (xs ≡ indefinite_head 4 ∷ between) × ReadsIndefiniteItems budget
     between vs ys)
 
--- What it is for an array, or a map, to stop is what it is for a value whose first byte is one of
+-- What it is for an array, or a map, to fail is what it is for a value whose first byte is one of
 -- its major type.
 abbrev pub RejectsMajor : ℕ → Budget → Stopping
 RejectsMajor major inner xs e rest = (b : ℕ) (bs : List ℕ) → xs ≡ b ∷ bs → b / 32 ≡ major →

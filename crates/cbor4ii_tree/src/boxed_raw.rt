@@ -10,8 +10,10 @@ ghost use Rattle.cbor4ii_tree.specs.View.{view};
 ghost use Rattle.cbor4ii_tree.specs.BoxedRaw.{boxed_content, CapturesCopy, CopiesItem};
 ghost use Rattle.cbor4ii_tree.specs.BoxedRaw.{CopiesNone, boxed_raw_format};
 ghost use Rattle.cbor4ii_tree.specs.Laws.Capturing.{boxed_raw_lawful};
+ghost use Rattle.cbor4ii_tree.specs.Raw.{raw_content};
 
 use crate::lend_raw::skip_lent;
+use crate::raw::RawValue;
 use crate::value::{NoMemory, Value};
 use cbor4ii_items::decode::{Decodable, Decode};
 use cbor4ii_items::encode::Encode;
@@ -35,6 +37,13 @@ impl BoxedRawValue {
         ensures { result.now ≡ boxed_content self.now }
     {
         &self.0
+    }
+
+    /// The item, lent.
+    pub fn as_raw(&self) -> RawValue<'_>
+        ensures { raw_content result ≡ boxed_content self.now }
+    {
+        RawValue::of(&self.0)
     }
 
     /// The value's canonical encoding.

@@ -1,12 +1,19 @@
 //! Laws of the definitions in `specs/`, each the contract of a function that does nothing. They
 //! hold of every tree, input and budget; where an input has to be one of bytes, the law says so.
 
-ghost use Rattle.std.specs.Prelude.{◌≡◌, ◌++◌, ◌≤◌, ◌<◌, ◌^◌, ◌↔◌, ℕ, List, [], length, Ok, Err};
+ghost use Rattle.std.specs.Prelude.{◌≡◌, ◌++◌, ◌≤◌, ◌<◌, ◌^◌, ◌↔◌, ℕ, List, [], length, Some, Ok};
+ghost use Rattle.std.specs.Prelude.{Err};
+ghost use Rattle.cbor4ii_rw.specs.Input.{limit};
 ghost use Rattle.cbor4ii_items.specs.Head.{IsBytes};
 ghost use Rattle.cbor4ii_tree.specs.Tree.{Tree, bytes, Loose, Plain, Joins};
 ghost use Rattle.cbor4ii_tree.specs.Item.{Item, IsItem, size};
 ghost use Rattle.cbor4ii_tree.specs.Meaning.{value};
 ghost use Rattle.cbor4ii_items.specs.Decoding.{CostFits};
+ghost use Rattle.cbor4ii_items.specs.Whole.{IsWhole};
+ghost use Rattle.cbor4ii_tree.specs.declared.decode_canonical.Canonical.{Canonical};
+ghost use Rattle.cbor4ii_tree.specs.declared.value.Value.{Value};
+ghost use Rattle.cbor4ii_tree.specs.Canonically.{canonical_format};
+ghost use Rattle.cbor4ii_tree.specs.Promises.{value_format};
 ghost use Rattle.cbor4ii_tree.specs.Cost.{Budget, skip_cost, cost};
 ghost use Rattle.cbor4ii_tree.specs.Canonical.{canonical_encoding, canonical_cost, with_bignums};
 ghost use Rattle.cbor4ii_tree.specs.InputError.{InputError, Len, eof, depth_overflow, IsFinal};
@@ -97,7 +104,7 @@ pub fn reading_has_one_answer()
         IsBytes input → read budget input ≡ Err (e, rest) → ReadingRejects input budget e rest }
 {}
 
-/// Where skipping or reading fails, a value or its canonical encoding alone, goes by where it stops
+/// Where skipping or reading fails, a value or its canonical encoding alone, goes by where it fails
 /// in the parts of the item, however deep these nest.
 pub fn errors_go_by_parts()
     ensures skipping { (input : List ℕ) (budget : Budget) (e : InputError) (rest : List ℕ) →
@@ -203,4 +210,17 @@ pub fn canonical_trees_are_canonical_encodings()
         (input ≡ canonical_encoding v ++ rest)) }
     ensures equal { (s t : List ℕ) (v w : Item) (c d : ℕ) →
         EncodesCanonically s v c → EncodesCanonically t w d → ((v ≡ w) ↔ (s ≡ t)) }
+{}
+
+/// An input that `decode_whole` accepts as a `Value` is an encoding of the value, and one that it
+/// accepts as `Canonical` is the canonical encoding. Two inputs of the latter are equal exactly
+/// where their values are.
+pub fn whole_inputs_are_encodings()
+    ensures value { (xs : List ℕ) (v : Value) →
+        (IsWhole value_format.reads xs v ↔ DecodesTo xs (Some limit) (view v) []) }
+    ensures canonical { (xs : List ℕ) (v : Canonical) →
+        (IsWhole canonical_format.reads xs v ↔ (IsDecoded (view v.0)
+        × (canonical_cost (view v.0) ≤ limit) × (xs ≡ canonical_encoding (view v.0)))) }
+    ensures equal { (s t : List ℕ) (v w : Canonical) → IsWhole canonical_format.reads s v
+        → IsWhole canonical_format.reads t w → ((view v.0 ≡ view w.0) ↔ (s ≡ t)) }
 {}

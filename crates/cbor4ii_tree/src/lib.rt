@@ -2,15 +2,20 @@
 //! that are read and written, items that are skipped, and items that are kept as their bytes.
 #![tactic(auto)]
 
+mod access;
 mod ahead;
+mod bignum;
 pub mod boxed_raw;
 pub mod decode_canonical;
 mod decode_value;
+mod encode_canonical;
 mod encode_value;
+mod from;
 pub mod ignored;
 pub mod laws;
 mod leaf;
 mod lend_raw;
+pub mod plain_raw;
 mod prefix;
 mod range;
 pub mod raw;
@@ -24,5 +29,6 @@ pub mod value;
 pub use boxed_raw::BoxedRawValue;
 pub use decode_canonical::Canonical;
 pub use ignored::IgnoredAny;
+pub use plain_raw::PlainRawValue;
 pub use raw::RawValue;
 pub use value::{FloatBits, NoMemory, Value};

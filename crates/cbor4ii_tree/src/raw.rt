@@ -1,26 +1,75 @@
 //! Items that are kept as their bytes.
-ghost use Rattle.std.specs.Prelude.{◌≡◌, true, false, IfErr};
+ghost use Rattle.std.specs.Prelude.{◌≡◌, true, false, IfOk, IfErr};
 ghost use Rattle.cbor4ii_items.specs.Writing.{WritesAtomically};
 ghost use Rattle.cbor4ii_items.specs.Decoding.{IsExact, Decodes};
+ghost use Rattle.cbor4ii_items.specs.Whole.{DecodesWhole};
+ghost use Rattle.cbor4ii_tree.specs.Promises.{value_format};
 ghost use Rattle.cbor4ii_tree.specs.Raw.{raw_content, raw_format, Unmoved, RejectsOnPrefix};
 ghost use Rattle.cbor4ii_tree.specs.Raw.{TakesItem};
 ghost use Rattle.cbor4ii_tree.specs.Raw.{RejectsAsSkipping};
 ghost use Rattle.cbor4ii_tree.specs.Laws.Capturing.{raw_lawful};
 
-use crate::lend_raw::{LendRaw, NoPrefix, take_raw};
+use crate::lend_raw::{LendRaw, NoPrefix, capture, take_raw};
+use crate::value::Value;
 use cbor4ii_items::decode::{Decodable, Decode};
 use cbor4ii_items::encode::Encode;
+use cbor4ii_items::whole::decode_whole;
 use cbor4ii_rw::ask::lend;
-use cbor4ii_rw::error::{DecodeError, EncodeError};
+use cbor4ii_rw::error::{DecodeError, EncodeError, Never, WholeError};
 use cbor4ii_rw::read::{Read, Reference};
+use cbor4ii_rw::slice_reader::SliceReader;
 use cbor4ii_rw::write::Write;
 use std::alloc::Global;
 
-/// One item, as its bytes stand in the input.
+/// One item, as its bytes stand in the input: well-formed, but for what a string of indefinite
+/// length holds, which may be any items (RFC 8949 section 3.2.3). Texts may be no UTF-8.
 #[derive(Clone, Copy, Debug, PartialEq, Eq)]
 pub struct RawValue<'de>(&'de [u8]);
 
 impl<'de> RawValue<'de> {
+    /// The item that `bytes` are: one item and nothing else, skipped with 256 steps. It is
+    /// accepted exactly where `IgnoredAny` takes all of the bytes. Nothing is copied.
+    ///
+    /// A string of indefinite length may hold any items then, as `5f 80 ff` does, and a text may be
+    /// no UTF-8. `PlainRawValue` rejects both.
+    ///
+    /// # Errors
+    ///
+    /// - `Decode` of an error of `IgnoredAny` over these bytes
+    /// - `Trailing`: they begin with an item, and so many bytes follow it
+    pub fn new(bytes: &'de [u8]) -> Result<RawValue<'de>, WholeError<DecodeError<Never>>>
+        ensures whole { DecodesWhole (raw_format raw_content) bytes.now result }
+        ensures content { IfOk result (λ raw. raw_content raw ≡ bytes.now) }
+    {
+        let mut reader = SliceReader::new(bytes);
+        let raw = capture(&mut reader)?;
+        let left = reader.remaining().len();
+        if left > 0 {
+            return Err(WholeError::Trailing(left));
+        }
+        Ok(raw)
+    }
+
+    /// The value that the item stands for, read with 256 steps.
+    ///
+    /// # Errors
+    ///
+    /// - `Decode` of an error of `Value` over the item's bytes. `OutOfMemory` where a growth was
+    ///   refused
+    /// - `Trailing`: never, of an item that was read or made by this crate
+    pub fn to_value(&self, alloc: Global) -> Result<Value, WholeError<DecodeError<Never>>>
+        ensures { DecodesWhole value_format (raw_content self.now) result }
+    {
+        decode_whole(alloc, self.0)
+    }
+
+    /// The item whose bytes these are.
+    pub(crate) fn of(bytes: &'de [u8]) -> RawValue<'de>
+        ensures { raw_content result ≡ bytes.now }
+    {
+        RawValue(bytes)
+    }
+
     /// The item's bytes.
     pub fn as_bytes(&self) -> &'de [u8]
         ensures { result.now ≡ raw_content self.now }

@@ -17,3 +17,21 @@ fn errors_are_reported(rt: HostRuntime) -> Result<(), Fail> {
     assert!(rt; DecodeError::<u8>::Custom("a") != FAILED);
     Ok(())
 }
+
+// Words for a person: the codec's, or the type's own.
+fn explains(error: &DecodeError<u8>, words: &str) -> bool {
+    InlineText::<64>::of(format_args!("{}", error.explain())).as_str() == words
+}
+
+#[test]
+fn errors_are_explained(rt: HostRuntime) {
+    let text = DecodeError::Core(core_error::DecodeError::RequireUtf8 { name: "str" });
+    assert!(rt; explains(&text, "str is not UTF-8"));
+    assert!(rt; explains(&FAILED, "the reader failed: 5"));
+    assert!(rt;
+        explains(
+            &DecodeError::Custom("integer out of range"),
+            "integer out of range"
+        )
+    );
+}

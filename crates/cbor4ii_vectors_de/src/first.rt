@@ -1,12 +1,17 @@
 //! The value at the front of a slice, and of a stream.
 use crate::typed::{BothShown, come_back, comes_back_lent, is_at_front, is_rejected};
 use cbor4ii::Value;
-use cbor4ii::serde::{DecodeError, from_reader, from_slice};
+use cbor4ii::serde::{
+    DecodeError, Deserialize, WholeError, from_reader, from_slice, from_slice_whole,
+};
 use cbor4ii_rw::error as core_error;
+use cbor4ii_rw::error::Len;
+use cbor4ii_rw::slice_reader::SliceReader;
 use cbor4ii_vectors::streams::FailingStream;
 use cbor4ii_vectors::{mismatch, table};
 use std::alloc::Global;
 use std::collections::BTreeMap;
+use std::fmt::{Debug, InlineText};
 use std::io::{self, BufRead, ErrorKind};
 use std::test::Fail;
 
@@ -80,6 +85,40 @@ const ANY_BOTH: &[BothShown] = table! {
 #[test]
 fn any_values_come_back(rt: HostRuntime) -> Result<(), Fail> {
     come_back::<Value>(rt.alloc(), ANY_BOTH)
+}
+
+// The text of what is read of the whole input.
+fn whole_reads<T: Deserialize<SliceReader<'static>> + Debug + Drop>(
+    alloc: Global,
+    input: &'static [u8],
+    text: &str,
+) -> Result<(), Fail> {
+    let value: T = from_slice_whole(alloc, input)?;
+    if InlineText::<128>::of(format_args!("{value:?}")).as_str() == text {
+        return Ok(());
+    }
+    Err(Fail::new(format_args!("{value:?} in the place of {text}")))
+}
+
+#[test]
+fn a_value_is_the_whole_input(rt: HostRuntime) -> Result<(), Fail> {
+    let alloc = rt.alloc();
+    whole_reads::<u8>(alloc, b"\x18\x05", "5")?;
+    whole_reads::<Option<u8>>(alloc, b"\xf6", "None")?;
+    whole_reads::<BTreeMap<u8, u8>>(alloc, b"\xbf\x01\x02\xff", "{1: 2}")
+}
+
+#[test]
+fn bytes_after_the_value_are_counted(rt: HostRuntime) {
+    let alloc = rt.alloc();
+    let more = from_slice_whole::<&[u8], u8>(alloc, b"\x05\x06\x07").err();
+    assert_eq!(rt; more, Some(WholeError::Trailing(2)));
+    let cut = core_error::DecodeError::Eof {
+        name: "u8",
+        expect: Len::Small(1),
+    };
+    let none = from_slice_whole::<&[u8], u8>(alloc, b"\x18").err();
+    assert_eq!(rt; none, Some(WholeError::Decode(DecodeError::Core(cut))));
 }
 
 /// The number at the front of a stream that is lent.

@@ -51,3 +51,5 @@ mod simple;
 mod strings;
 #[cfg(test)]
 mod tag;
+#[cfg(test)]
+mod whole;

@@ -4,6 +4,7 @@ mod ask;
 mod buf_writer;
 mod by_ref;
 mod error;
+mod explain;
 mod io_reader;
 mod io_writer;
 mod read;

@@ -239,3 +239,10 @@ fn is_copy(copy: &BoxedRawValue, item: &[u8]) -> Result<(), Fail> {
     }
     Err(Fail::new(format_args!("{copy:?} of {item:?}")))
 }
+
+#[test]
+fn a_copy_lends_its_item(rt: HostRuntime) -> Result<(), Fail> {
+    let copy = BoxedRawValue::decode(rt.alloc(), &mut SliceReader::new(b"\x82\x01\x02\x03"))?;
+    assert_eq!(rt; copy.as_raw().as_bytes(), b"\x82\x01\x02".as_slice());
+    Ok(())
+}

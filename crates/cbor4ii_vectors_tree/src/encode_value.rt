@@ -13,19 +13,19 @@ use std::alloc::{AllocError, Global};
 use std::test::Fail;
 
 // What is read back of 2^64, 2^64 + 98 and -2^64 - 1.
-const TWO_TO_64: Literal = Tag(2, &Bytes(b"\x01\x00\x00\x00\x00\x00\x00\x00\x00"));
+pub const TWO_TO_64: Literal = Tag(2, &Bytes(b"\x01\x00\x00\x00\x00\x00\x00\x00\x00"));
 
-const AND_98: Literal = Tag(2, &Bytes(b"\x01\x00\x00\x00\x00\x00\x00\x00\x62"));
+pub const AND_98: Literal = Tag(2, &Bytes(b"\x01\x00\x00\x00\x00\x00\x00\x00\x62"));
 
-const BELOW_64: Literal = Tag(3, &Bytes(b"\x01\x00\x00\x00\x00\x00\x00\x00\x00"));
+pub const BELOW_64: Literal = Tag(3, &Bytes(b"\x01\x00\x00\x00\x00\x00\x00\x00\x00"));
 
 // What is read back of the greatest and the least i128, and how they are written.
-const GREATEST: Literal = Tag(
+pub const GREATEST: Literal = Tag(
     2,
     &Bytes(b"\x7f\xff\xff\xff\xff\xff\xff\xff\xff\xff\xff\xff\xff\xff\xff\xff"),
 );
 
-const LEAST: Literal = Tag(
+pub const LEAST: Literal = Tag(
     3,
     &Bytes(b"\x7f\xff\xff\xff\xff\xff\xff\xff\xff\xff\xff\xff\xff\xff\xff\xff"),
 );
@@ -37,9 +37,9 @@ const LEAST_BYTES: &[u8] =
     b"\xc3\x50\x7f\xff\xff\xff\xff\xff\xff\xff\xff\xff\xff\xff\xff\xff\xff\xff";
 
 // Integers beyond 64 bits: what is written, and what that is read as.
-type Bignum = (Literal, &'static [u8], Literal);
+pub type Bignum = (Literal, &'static [u8], Literal);
 
-const BIGNUMS: &[Bignum] = table! {
+pub const BIGNUMS: &[Bignum] = table! {
     (Integer(18446744073709551616), b"\xc2\x49\x01\x00\x00\x00\x00\x00\x00\x00\x00", TWO_TO_64),
     (Integer(18446744073709551714), b"\xc2\x49\x01\x00\x00\x00\x00\x00\x00\x00\x62", AND_98),
     (Integer(-18446744073709551617), b"\xc3\x49\x01\x00\x00\x00\x00\x00\x00\x00\x00", BELOW_64),

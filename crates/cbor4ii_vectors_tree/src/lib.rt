@@ -5,11 +5,14 @@
 //! - `leaf.rt`, `run.rt`, `simple.rt` and `slot.rt` are called by `Value` and `Canonical`
 //! - `skip.rt`, `unseen.rt`, `ahead.rt` and `prefix.rt` are called by `IgnoredAny`
 //! - `lend_raw.rt` is called by `RawValue` and `BoxedRawValue`, and `range.rt` by a law
+//! - `bignum.rt` is called by `Canonical`
 //!
 //! The rows' values come from RFC 8949 (its Appendix A above all) and from worked examples, never
 //! from this codec's own answers.
 #![tactic(auto)]
 
+#[cfg(test)]
+mod access;
 #[cfg(test)]
 mod boxed_raw;
 #[cfg(test)]
@@ -17,7 +20,11 @@ mod decode_canonical;
 #[cfg(test)]
 mod decode_value;
 #[cfg(test)]
+mod encode_canonical;
+#[cfg(test)]
 mod encode_value;
+#[cfg(test)]
+mod from;
 #[cfg(test)]
 mod ignored;
 #[cfg(test)]
@@ -30,6 +37,8 @@ mod kept;
 mod laws;
 #[cfg(test)]
 mod literal;
+#[cfg(test)]
+mod plain_raw;
 #[cfg(test)]
 mod raw;
 #[cfg(test)]

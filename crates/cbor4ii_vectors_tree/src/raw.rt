@@ -6,7 +6,7 @@ use crate::ignored::ITEMS;
 use crate::kept::{BytesOf, Copied, ITEM, Lent, MAP, UnderKey, wanted};
 use cbor4ii_items::decode::Decode;
 use cbor4ii_items::types::Map;
-use cbor4ii_rw::error::DecodeError;
+use cbor4ii_rw::error::{DecodeError, Len, WholeError};
 use cbor4ii_rw::segment_reader::SegmentReader;
 use cbor4ii_rw::slice_reader::SliceReader;
 use cbor4ii_tree::{BoxedRawValue, RawValue, Value};
@@ -96,6 +96,46 @@ fn lends_no_prefix(alloc: Global, prefix: &[u8]) -> Result<(), Fail> {
         return Ok(());
     }
     Err(Fail::new(format_args!("{got:?} of {prefix:?}")))
+}
+
+// An array of RFC 8949, appendix A, and items that skipping alone takes.
+const ALONE: &[&[u8]] = table! {
+    b"\x9f\x01\x82\x02\x03\x82\x04\x05\xff",
+    b"\x5f\x80\xff",
+    b"\x61\xff",
+};
+
+#[test]
+fn an_item_from_bytes(rt: HostRuntime) -> Result<(), Fail> {
+    for item in ALONE {
+        assert_eq!(rt; RawValue::new(item)?.as_bytes(), *item);
+    }
+    assert_eq!(rt;
+        RawValue::new(b"\x01\x02\x03").err(),
+        Some(WholeError::Trailing(2))
+    );
+    let cut = DecodeError::Eof {
+        name: "ignored-any",
+        expect: Len::Small(1),
+    };
+    assert_eq!(rt;
+        RawValue::new(b"\x82\x01").err(),
+        Some(WholeError::Decode(cut))
+    );
+    Ok(())
+}
+
+#[test]
+fn an_item_that_is_no_value(rt: HostRuntime) -> Result<(), Fail> {
+    let alloc = rt.alloc();
+    assert_eq!(rt;
+        RawValue::new(b"\x18\x05")?.to_value(alloc)?,
+        Value::Integer(5)
+    );
+    let raw = RawValue::new(b"\x61\xff")?;
+    let wanted = WholeError::Decode(DecodeError::RequireUtf8 { name: "str" });
+    assert_eq!(rt; raw.to_value(alloc).err(), Some(wanted));
+    Ok(())
 }
 
 const OF_SHORT_BYTES: &[(&[u8], &str)] = table! {

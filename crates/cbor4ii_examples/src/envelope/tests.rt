@@ -9,7 +9,7 @@ use cbor4ii::serde::DecodeError::{Core, Custom};
 use cbor4ii::serde::{EncodeError, Serialize, Serializer};
 use cbor4ii_rw::error::DecodeError::{Eof, Mismatch, RequireBorrowed};
 use cbor4ii_rw::error::Len::Small;
-use cbor4ii_rw::error::{DecodeError as CoreError, Never};
+use cbor4ii_rw::error::{DecodeError as CoreError, Never, WholeError};
 use cbor4ii_rw::write::Write;
 use cbor4ii_tree::Value;
 use cbor4ii_vectors::table;
@@ -88,7 +88,10 @@ fn a_payload_without_an_item_is_not_sealed(rt: HostRuntime) -> Result<(), Fail> 
         name: "ignored-any",
         expect: Small(1),
     };
-    assert_eq!(rt; rejection, Some(SealError::Payload(missing)));
+    assert_eq!(rt;
+        rejection,
+        Some(SealError::Payload(WholeError::Decode(missing)))
+    );
     Ok(())
 }
 

@@ -1,8 +1,8 @@
 //! Rows of what a store takes, and of what it rejects.
-use crate::store::StoreError::{Decode, Trailing};
 use crate::store::{StoreError, canonical_bytes, stored_value};
 use cbor4ii_rw::error::DecodeError::{Eof, Mismatch, NotCanonical, RequireUtf8};
 use cbor4ii_rw::error::Len::Small;
+use cbor4ii_rw::error::WholeError::{Decode, Trailing};
 use cbor4ii_tree::Value;
 use cbor4ii_vectors::table;
 use std::test::Fail;
@@ -99,18 +99,5 @@ fn an_item_that_is_cut_is_rejected(rt: HostRuntime) -> Result<(), Fail> {
             _ => return Err(Fail::new(format_args!("{end} bytes are no end"))),
         }
     }
-    Ok(())
-}
-
-#[test]
-fn an_error_is_a_line(rt: HostRuntime) -> Result<(), Fail> {
-    let alloc = rt.alloc();
-    let line = format!(in alloc; "{}", Trailing(3))?;
-    assert_eq!(rt; line.as_str(), "not stored: bytes behind the item: 3");
-    let line = format!(in alloc; "{NOT_CANONICAL}")?;
-    assert_eq!(rt;
-        line.as_str(),
-        "not stored: NotCanonical { name: \"canonical\" }"
-    );
     Ok(())
 }

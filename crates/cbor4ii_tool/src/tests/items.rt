@@ -1,4 +1,4 @@
-//! What `canonical_encoding`, `lens` and `strict` make of one item, or of what is none.
+//! What `canon`, `lens` and `strict` make of one item, or of what is none.
 use super::had_memory;
 use super::streams::Output;
 use super::table::table;
@@ -30,7 +30,7 @@ const BAR: &[u8] = b"\xa1\x63bar\xa1\x65value\x18\x99";
 // [1, [2, 3], [4, 5]].
 const NUMBERS: &[u8] = b"\x83\x01\x82\x02\x03\x82\x04\x05";
 
-// An input, and what `canonical_encoding` and `lens` make of it.
+// An input, and what `canon` and `lens` make of it.
 const ITEMS: &[(&[u8], Want, Want)] = table! {
     (b"", Ok(b""), Ok(b"")),
     (b"\x1b\x00\x00\x00\x00\x00\x00\x00\x05", Ok(b"\x05"), Ok(b"9\n")),
@@ -59,7 +59,7 @@ const ITEMS: &[(&[u8], Want, Want)] = table! {
 };
 
 // Items with indefinite lengths and longer heads (RFC 8949 appendix A, and others), what
-// `canonical_encoding` and `lens` make of them.
+// `canon` and `lens` make of them.
 const READ: &[(&[u8], Want, Want)] = table! {
     (b"\x5f\x42\x01\x02\x43\x03\x04\x05\xff", Ok(b"\x45\x01\x02\x03\x04\x05"), Ok(b"9\n")),
     (b"\x7f\x65strea\x64ming\xff", Ok(b"\x69streaming"), Ok(b"13\n")),
@@ -147,7 +147,7 @@ fn converts_by_each(
     converts(rt, command, input, 512, want)
 }
 
-// Each row by `canonical_encoding` and by `lens`.
+// Each row by `canon` and by `lens`.
 fn rows_hold(rt: &(impl Abort + AllocGlobal), rows: &[(&[u8], Want, Want)]) -> io::Result<()> {
     for (input, canonical_encoding, lens) in rows {
         converts_by_each(rt, Command::Canon, input, *canonical_encoding)?;

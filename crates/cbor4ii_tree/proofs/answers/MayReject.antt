@@ -1,4 +1,4 @@
--- No other error stops than an end of the input, which leaves nothing, a want of steps, or one
+-- No other error comes than an end of the input, which leaves nothing, a want of steps, or one
 -- that nothing mends.
 use Rattle.std.proofs.Common.{◌≡◌, ℕ, zero, suc, ◌*◌, inl, inr, List, [], ◌∷◌, length, Option, Some}
 use Rattle.std.proofs.Common.{None, sym, subst}

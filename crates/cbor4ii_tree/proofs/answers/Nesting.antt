@@ -1,4 +1,4 @@
--- The bound on how deep items nest takes nothing away: a stop goes by the rejections of the parts,
+-- The bound on how deep items nest takes nothing away: a rejection goes by those of the parts,
 -- however deep these go.
 use Rattle.std.proofs.Common.{◌≡◌, ℕ, zero, suc, ◌*◌, ◌<◌, ◌≤◌, ◌⊎◌, inl, inr, ◌↔◌, ◌/◌, List, []}
 use Rattle.std.proofs.Common.{◌∷◌, ◌++◌, length, Option, Some, None, ap, arith, length-append}

@@ -1,4 +1,4 @@
--- What a decoding call promises of known bytes follows from what it accepts and where it stops.
+-- What a decoding call promises of known bytes follows from what it accepts and where it fails.
 use Rattle.std.proofs.Common.{◌≡◌, ℕ, ◌⊎◌, inl, inr, List, [], ◌++◌, length, take, drop, Option}
 use Rattle.std.proofs.Common.{Some, None, Result, Ok, Err, refl, sym, ap, ◌∙◌, subst}
 use Rattle.std.proofs.Common.{append_assoc, append-nil, arith, length-append, MatchBool, IfSome}
@@ -48,7 +48,7 @@ pub if_some : (o : Option InputError) (P Q : InputError → Type 0)
 if_some None P Q f p = tt
 if_some (Some z) P Q f p = f z refl p
 
--- the call stopped there
+-- the call failed there
 abbrev Stopped : Stopping → View → List ℕ → InputError → Type 0
 Stopped rejects b xs z = (ys : List ℕ) × (b.known ≡ Some ys) × rejects xs z ys
 

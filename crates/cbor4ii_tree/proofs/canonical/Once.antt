@@ -210,7 +210,7 @@ text_once budget xs e f x y (inr h) (inr k) =
 
 -- ---- items that follow a head
 
--- no canonical tree that fits stands where one stops
+-- no canonical tree that fits stands where one is rejected
 abbrev NoneThere : Budget → Stopping → Type 0
 NoneThere budget rejects =
     (xs : List ℕ) (e : InputError) (x : List ℕ) → rejects xs e x → ¬ (BeginsOne budget xs)

@@ -39,7 +39,7 @@ use Rattle.cbor4ii_tree.proofs.encodings.Canonical.{with_bignums-value}
 use Rattle.cbor4ii_tree.proofs.encodings.Sizes.{integer-value, content-value, item_count-values}
 use Rattle.cbor4ii_tree.proofs.encodings.Sizes.{member_count-values}
 
--- ---- what encoders write is strict
+-- ---- what encoders write has the shape
 
 strict_integer : (s : Sign) (n : ℕ) → CanonicalShape (integer_tree s n)
 strict_integer s n = if_cases CanonicalShape (ltb n (2 ^ 64)) _ _ (λ e. refl) (λ e. (refl, refl))
@@ -68,7 +68,7 @@ mutual
   strict_canonical_pairs (member k v ms) =
       (strict_canonical k, strict_canonical v, strict_canonical_pairs ms)
 
--- ---- a strict tree is what encoders write
+-- ---- a tree of this shape is what encoders write
 
 canonical_encoding-integer : (s : Sign) (n : ℕ) → n < 2 ^ 64
     → canonical_tree (integer (number s n)) ≡ int s n (shortest n)
@@ -118,7 +118,7 @@ mutual
             l.2 h.2,
       )
 
--- ---- what is encoded as encoders write is strict
+-- ---- what is encoded as encoders write has the shape
 
 pub same_first : (a b : ℕ) (x y : List ℕ) → a ∷ x ≡ b ∷ y → (a ≡ b) × (x ≡ y)
 same_first a b x y e = (cc, cc)
@@ -261,7 +261,7 @@ mutual
       let rest = strict_of_canonical_pairs ps x y l.2 val.1 in
       ((key.0, val.0, rest.0), rest.1)
 
--- a plain tree is strict exactly where its bytes are the canonical encoding of its value
+-- a plain tree has the shape exactly where its bytes are the canonical encoding of its value
 pub strict_iff_canonical : (t : Tree) → Plain t →
     (CanonicalShape t ↔ (bytes t ≡ canonical_encoding (value t)))
 strict_iff_canonical t p = (
@@ -327,16 +327,23 @@ canonically_encoded encoding v steps s =
       sym s.cost_is ∙ ap cost (sym same),
     )
 
+-- what is written of a value of the program encodes it canonically, with its bignums as tags
+pub written_canonically : (v : Item) → IsItem v → EncodesCanonically (canonical_encoding v)
+    (with_bignums v) (canonical_cost v)
+written_canonically v h = record {
+  of_tree = canonical_tree v;
+  canonical = ((loose_canonical v h, sound_canonical v h), strict_canonical v);
+  bytes_are = refl;
+  value_is = value-canonical_encoding v;
+  cost_is = refl;
+}
+
 -- the canonical encoding of a value that reading gives is one
 pub canonical_canonically : (v : Item) → IsDecoded v → EncodesCanonically (canonical_encoding v) v
     (canonical_cost v)
-canonical_canonically v h = record {
-  of_tree = canonical_tree v;
-  canonical = ((loose_canonical v h.0, sound_canonical v h.0), strict_canonical v);
-  bytes_are = refl;
-  value_is = value-canonical_encoding v ∙ h.1;
-  cost_is = refl;
-}
+canonical_canonically v h =
+    subst (λ w. EncodesCanonically (canonical_encoding v) w (canonical_cost v)) h.1
+    (written_canonically v h.0)
 
 pub reads_canonically_iff : (input : List ℕ) (budget : Budget) (v : Item) (rest : List ℕ)
     → DecodesCanonically input budget v rest

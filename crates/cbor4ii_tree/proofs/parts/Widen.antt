@@ -1,4 +1,4 @@
--- What stops goes on to stop: after further bytes, unless it is at the end of the input, and under
+-- What is rejected stays rejected: after further bytes, unless it is at the end of the input, and under
 -- a larger budget, unless for want of a step.
 use Rattle.std.proofs.Common.{◌≡◌, ℕ, zero, suc, ◌⊎◌, inl, inr, List, [], ◌∷◌, ◌++◌, Some, None}
 use Rattle.std.proofs.Common.{refl, sym, ap, ◌∙◌, arith, subst, append_assoc, append-nil}

@@ -80,7 +80,7 @@ one_reading input budget =
     at_most_one_of (read budget input) (DecodesTo input budget) (ReadingRejects input budget)
     (read_from_Reads input budget) (read_from_Rejects input budget)
 
--- what is accepted does not stop, of any numbers
+-- what is accepted does not fail, of any numbers
 pub not_both : (input : List ℕ) (budget : Budget) (v : Item) (x : List ℕ) (e : InputError)
     (y : List ℕ)
     → DecodesTo input budget v x → ReadingRejects input budget e y → ⊥

@@ -1,4 +1,4 @@
--- Strings and chunks: read back, sound, rejected, and stopping.
+-- Strings and chunks: read back, sound, rejected, and failing.
 use Rattle.std.proofs.Common.{◌≡◌, ℕ, ◌+◌, ◌*◌, inl, inr, List, [], ◌∷◌, ◌++◌, length, Ok, Err}
 use Rattle.std.proofs.Common.{refl, sym, subst, append_assoc}
 use Rattle.std.proofs.lemmas.Str.{is_utf8-from_IsUtf8}

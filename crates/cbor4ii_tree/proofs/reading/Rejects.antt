@@ -1,4 +1,4 @@
--- Where reading a value is rejected, it stops there.
+-- Where reading a value is rejected, it fails there.
 use Rattle.std.proofs.Common.{◌≡◌, ℕ, zero, suc, ◌*◌, ◌<◌, inl, inr, List, [], ◌∷◌, ◌++◌, length}
 use Rattle.std.proofs.Common.{Ok, Err, sym, ap, ◌∙◌, arith, true, false, Bool, append_assoc}
 use Rattle.std.proofs.lemmas.Str.{is_utf8-from_IsUtf8}

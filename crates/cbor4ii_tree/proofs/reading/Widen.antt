@@ -1,4 +1,4 @@
--- Where reading a value is rejected, it goes on to stop.
+-- Where reading a value is rejected, it stays rejected.
 use Rattle.std.proofs.Common.{ℕ, zero, suc, ◌*◌, ◌≤◌, inl, inr, List, [], ◌∷◌, ◌++◌, length, None}
 use Rattle.std.proofs.Common.{ap, ◌∙◌, arith, append_assoc, length-append}
 use Rattle.cbor4ii_items.specs.Head.{Width, byte_count, break}

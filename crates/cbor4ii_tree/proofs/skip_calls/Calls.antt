@@ -53,7 +53,7 @@ module _ (P : Budget → List ℕ → List ℕ → Type 0) {a m : View} (p : Rea
       reached_then (P a.budget) (SkipsOne m.budget) Q (λ xs ys zs h s.
       f xs ys zs h (subst (λ o. SkipsOne o ys zs) p.kept.budget s)) p (reached_by d)
 
-  -- it stopped
+  -- it failed
   pub ends : {U E : Type 0} (B : Accepting U) (T : Stopping) {e : DecodeError E} {b : View}
       → ((xs ys : List ℕ) (z : InputError) (rest : List ℕ) → P a.budget xs ys
       → RejectsSkippingOne a.budget ys z rest → T xs z rest)

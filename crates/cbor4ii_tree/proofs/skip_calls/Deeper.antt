@@ -193,7 +193,7 @@ module _ (left : ℕ) {a d : View} where
       (omega (arith, few)) (some_items (among.Items left) a.budget xs some ys any h))
       (reached_by k)))
 
-  -- or it stopped
+  -- or it failed
   pub gone_nowhere : {E : Type 0} {inner : Budget} {e : DecodeError E} → 1 ≤ left → Does {V = ℕ}
       (SkipsSome (among.Items left) a.budget) (RejectsSome (among.Items left) a.budget) a d (Err e)
       → Does {V = ℕ} (GoesOn left a.budget inner)

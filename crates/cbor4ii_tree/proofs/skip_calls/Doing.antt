@@ -164,7 +164,7 @@ does_rejects A S {e = e} {a = a} {b = b} moves s = record {
   err = λ xs known. stopped_at (input_error_of e) S xs a.budget b.known (s.at xs known);
 }
 
--- the same of another value, by what it is to stop there
+-- the same of another value, by what it is to fail there
 pub call_rejects : {U V E : Type 0} (B : Accepting V)
     (S : List ℕ → Option ℕ → InputError → List ℕ → Type 0) (T : Stopping) {e : DecodeError E}
     {a c : View}

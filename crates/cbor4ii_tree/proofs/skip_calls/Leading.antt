@@ -79,7 +79,7 @@ pub starts_indefinite_members : (i : Initial) → start_of i ≡ start.Indefinit
 starts_indefinite_members starts_indefinite_map e = refl
 starts_indefinite_members _ e = cc
 
--- ---- where it stops
+-- ---- where it fails
 
 pub rejects_by : (inner : Budget) (i : Initial) (b : ℕ) (bs : List ℕ) (e : InputError)
     (rest : List ℕ)

@@ -205,7 +205,7 @@ module _ (among : Among) {a m : View} where
       ))
       (reached_by d) (reached_by k))
 
-  -- or it stopped
+  -- or it failed
   pub stopped_unseen : {E : Type 0} {v : Bool} {e : DecodeError E} {b : View} → v ≡ false
       → Does {E = E} (EndsOrNot among) (RejectsAtEnd among) a m (Ok v) → Does {V = Unit {0}}
       (λ xs _ ys. SkipsUnder m.budget xs ys) (RejectsSkippingUnder m.budget) m b (Err e)

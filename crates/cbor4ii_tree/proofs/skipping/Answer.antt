@@ -51,7 +51,7 @@ one_skipping input budget =
     at_most_one_of (skip budget input) (Skips input budget) (SkippingRejects input budget)
     (skip_from_Skips input budget) (skip_from_Rejects input budget)
 
--- what is accepted does not stop, of any numbers
+-- what is accepted does not fail, of any numbers
 pub not_both : (input : List ℕ) (budget : Budget) (t : Tree) (x : List ℕ) (e : InputError)
     (y : List ℕ)
     → Skips input budget t x → SkippingRejects input budget e y → ⊥

@@ -1,4 +1,4 @@
--- Where skipping is rejected, it stops there.
+-- Where skipping is rejected, it fails there.
 use Rattle.std.proofs.Common.{◌≡◌, ℕ, zero, suc, ◌*◌, ◌<◌, inl, inr, List, [], ◌∷◌, length, Ok, Err}
 use Rattle.std.proofs.Common.{arith}
 use Rattle.cbor4ii_items.specs.Head.{Width, in_first, one, two, four, eight, byte_count, IsBytes}

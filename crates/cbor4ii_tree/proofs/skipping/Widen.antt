@@ -1,4 +1,4 @@
--- Where skipping fails, it goes on to stop.
+-- Where skipping fails, it stays rejected.
 use Rattle.std.proofs.Common.{ℕ, zero, suc, ◌*◌, ◌≤◌, List, [], ◌∷◌, ◌++◌, length, None, arith}
 use Rattle.std.proofs.Common.{length-append}
 use Rattle.cbor4ii_items.specs.Head.{byte_count}

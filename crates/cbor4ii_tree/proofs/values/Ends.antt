@@ -15,7 +15,7 @@ use Rattle.cbor4ii_tree.specs.Rejections.{Stopping, Is}
 use Rattle.cbor4ii_tree.specs.Does.{Accepting, Does}
 use Rattle.cbor4ii_tree.proofs.skip_calls.Doing.{does_reject}
 
--- an end of the input there stops so
+-- an end of the input there fails so
 abbrev pub Ending : Stopping → Type 0
 Ending T = (z : InputError) (rest : List ℕ) → Is (eof value_name (Small 1)) [] z rest → T [] z rest
 

@@ -31,7 +31,7 @@ length-members_view ms ns e =
 pub view-Map : (v : Vec (Value × Value) Global) → view (Map v) ≡ mapping (members_view v.items)
 view-Map v = search (rules, the_lemmas)
 
-item_injective : (v w : Item) (vs ws : Items) → item v vs ≡ item w ws → (v ≡ w) × (vs ≡ ws)
+pub item_injective : (v w : Item) (vs ws : Items) → item v vs ≡ item w ws → (v ≡ w) × (vs ≡ ws)
 item_injective v w vs ws e = (cc, cc)
 
 -- equal views at a place
@@ -54,7 +54,7 @@ items_view-push (x ∷ vs) (y ∷ ws) v w h e =
     let p = item_injective (view x) (view y) (items_view vs) (items_view ws) h in
     ap₂ item p.0 (items_view-push vs ws v w p.1 e)
 
-member_injective : (k l v w : Item) (ms ns : Members) → member k v ms ≡ member l w ns
+pub member_injective : (k l v w : Item) (ms ns : Members) → member k v ms ≡ member l w ns
     → (k ≡ l) × (v ≡ w) × (ms ≡ ns)
 member_injective k l v w ms ns e = (cc, cc, cc)
 

@@ -47,6 +47,35 @@ fn errors_have_the_texts_of_debug(rt: HostRuntime) {
     assert!(rt; has_text(&EncodeError::from(3u8), "Write(3)"));
 }
 
+// What an error says: whether it is an end of the input, its name, and the byte that was found.
+type Said = (DecodeError<u8>, bool, Option<StaticStr>, Option<u8>);
+
+const SAID: &[Said] = table! {
+    (DecodeError::Read(3), false, None, None),
+    (DecodeError::Mismatch { name: "u8", found: 64 }, false, Some("u8"), Some(64)),
+    (DecodeError::Unsupported { name: "value", found: 255 }, false, Some("value"), Some(255)),
+    (DecodeError::Eof { name: "str", expect: Len::Small(2) }, true, Some("str"), None),
+    (DecodeError::RequireLength { name: "str", found: Len::Small(9) }, false, Some("str"), None),
+    (DecodeError::RequireBorrowed { name: "bytes" }, false, Some("bytes"), None),
+    (DecodeError::RequireUtf8 { name: "str" }, false, Some("str"), None),
+    (DecodeError::LengthOverflow { name: "array", found: Len::Big }, false, Some("array"), None),
+    (DecodeError::CastOverflow { name: "u8" }, false, Some("u8"), None),
+    (DecodeError::ArithmeticOverflow { name: "a", ty: ArithmeticOverflow::Overflow }, false, Some("a"), None),
+    (DecodeError::DepthOverflow { name: "map" }, false, Some("map"), None),
+    (DecodeError::Custom { name: "mine", num: 7 }, false, Some("mine"), None),
+    (DecodeError::OutOfMemory, false, None, None),
+    (DecodeError::NotCanonical { name: "canonical" }, false, Some("canonical"), None),
+};
+
+#[test]
+fn errors_say_what_was_read(rt: HostRuntime) {
+    for (error, ends, name, found) in SAID {
+        assert_eq!(rt; error.is_eof(), *ends);
+        assert_eq!(rt; error.name(), *name);
+        assert_eq!(rt; error.found(), *found);
+    }
+}
+
 #[test]
 fn lengths_beyond_two_bytes_are_big(rt: HostRuntime) {
     assert_eq!(rt; Len::new(65535), Len::Small(65535));

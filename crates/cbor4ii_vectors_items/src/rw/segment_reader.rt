@@ -19,6 +19,18 @@ fn segments_give_their_bytes(rt: HostRuntime) -> Result<(), Fail> {
 }
 
 #[test]
+fn what_is_left_is_counted(rt: HostRuntime) {
+    assert_eq!(rt; SegmentReader::new(&[]).remaining(), 0);
+    let parts: [&[u8]; 5] = [b"", b"ab", b"", b"cde", b""];
+    let mut segments = SegmentReader::new(&parts);
+    assert_eq!(rt; segments.remaining(), 5);
+    assert!(rt; shows(&mut segments, 1, b"a", 1));
+    assert_eq!(rt; segments.remaining(), 4);
+    assert!(rt; shows(&mut segments, 9, b"b", 1));
+    assert_eq!(rt; segments.remaining(), 3);
+}
+
+#[test]
 fn no_more_is_shown_than_a_segment_has(rt: HostRuntime) {
     let parts: [&[u8]; 3] = [b"", b"ab", b"c"];
     let mut segments = SegmentReader::new(&parts);

@@ -53,3 +53,18 @@ fn a_budget_that_is_not_full_grows(rt: HostRuntime) {
     assert!(rt; grows(&mut SegmentReader::with_limit(&[], 1)));
     assert!(rt; grows(&mut IoReader::with_limit(b"".as_slice(), 1)));
 }
+
+#[test]
+fn readers_say_how_many_steps_are_left(rt: HostRuntime) {
+    let mut slice = SliceReader::with_limit(b"", 3);
+    assert!(rt; slice.step_in());
+    assert_eq!(rt; slice.steps(), 2);
+    let mut segments = SegmentReader::with_limit(&[], 2);
+    assert!(rt; segments.step_in());
+    assert_eq!(rt; segments.steps(), 1);
+    let mut stream = IoReader::new(b"".as_slice());
+    assert!(rt; stream.step_in());
+    assert_eq!(rt; stream.steps(), 255);
+    stream.step_out();
+    assert_eq!(rt; stream.steps(), 256);
+}

@@ -27,6 +27,25 @@ impl<E> DecodeError<E> {
     {
         DecodeError::Core(core_error::DecodeError::Read(error))
     }
+
+    /// This error in words for a person.
+    pub fn explain(&self) -> Explained<'_, E> {
+        Explained(self)
+    }
+}
+
+/// An error of a typed value in words for a person, on one line. `DecodeError::explain` answers it.
+#[derive(Debug, Drop)]
+pub struct Explained<'a, E>(&'a DecodeError<E>);
+
+/// The words of the codec's error, or those of the type.
+impl<E: fmt::Display> fmt::Display for Explained<'_, E> {
+    fn fmt<W: fmt::Write>(&self, f: &mut fmt::Formatter<W>) -> fmt::Result {
+        match self.0 {
+            DecodeError::Core(error) => write!(f, "{}", error.explain()),
+            DecodeError::Custom(words) => f.write_str(words),
+        }
+    }
 }
 
 /// The codec's own error, in `Core`.

@@ -1,44 +1,20 @@
 //! The value at the front of an input.
-ghost use Rattle.std.specs.Prelude.{ℕ, ◌≡◌, ◌<◌, ◌^◌, ◌⊎◌, List, length, Some, true, IsTrue};
+ghost use Rattle.std.specs.Prelude.{◌≡◌, Some, IsTrue};
+ghost use Rattle.cbor4ii_rw.specs.Input.{limit};
 ghost use Rattle.cbor4ii_rw.specs.Stream.{most_bytes, cut_known};
-ghost use Rattle.cbor4ii.specs.First.{First, FirstOf, limit};
+ghost use Rattle.cbor4ii.specs.First.{First, FirstOf, FirstWhole};
+ghost use Rattle.cbor4ii_items.specs.Whole.{IsSure};
 
 use crate::serde::de::deserialize::Deserialize;
 use crate::serde::de::deserializer::Deserializer;
 use crate::serde::de::error::DecodeError;
+use cbor4ii_rw::error::WholeError;
+use cbor4ii_rw::input::Input;
 use cbor4ii_rw::io_reader::IoReader;
 use cbor4ii_rw::read::Source;
-use cbor4ii_rw::slice_reader::SliceReader;
 use std::alloc::Global;
 use std::io;
 use std::io::BufRead;
-
-/// What `from_slice` reads: a slice.
-pub trait Input {
-    /// Its reader.
-    type Reader: Source + Drop;
-
-    // Its bytes, all of which its reader reports.
-    ghost bytes: { Self → List ℕ };
-
-    /// A reader over it, with 256 steps.
-    fn reader(self) -> Self::Reader
-        ensures known { (Self.Reader.Source.view result).known ≡ Some (bytes self) }
-        ensures budget { (Self.Reader.Source.view result).budget ≡ Some limit }
-        ensures lends { (Self.Reader.Source.view result).zero_copy ≡ true };
-}
-
-/// A slice, read by a `SliceReader`: it reports all its bytes, lends them without a copy, and never
-/// fails.
-impl<'a> Input for &'a [u8] {
-    type Reader = SliceReader<'a>;
-
-    ghost bytes = { λ slice. slice.now };
-
-    fn reader(self) -> SliceReader<'a> {
-        SliceReader::new(self)
-    }
-}
 
 /// Reads the value at the front of `input`, a slice, with 256 steps. What follows it is left
 /// alone.
@@ -54,11 +30,32 @@ pub fn from_slice<I: Input, T: Deserialize<I::Reader>>(
     alloc: Global,
     input: I,
 ) -> Result<T, DecodeError<<I::Reader as Source>::Error>>
-    ensures { First T.promise
-        (IsTrue T.promise.format.owned ⊎ (length (I.bytes input) < 2 ^ 64)) (Some (I.bytes input))
-        result }
+    ensures { First T.promise (IsSure T.promise.format.owned (I.bytes input))
+        (Some (I.bytes input)) result }
 {
     read_first(alloc, input.reader())
+}
+
+/// Reads `input`, a slice, as one value, with 256 steps. Of an exact type it is accepted exactly
+/// where the whole input is read as a value whose steps are at most 256, and there is memory.
+///
+/// # Errors
+///
+/// - `Decode` of an error of `from_slice`
+/// - `Trailing`: the input begins with a value, and so many bytes follow it
+pub fn from_slice_whole<I: Input, T: Deserialize<I::Reader> + Drop>(
+    alloc: Global,
+    input: I,
+) -> Result<T, WholeError<DecodeError<<I::Reader as Source>::Error>>>
+    ensures { FirstWhole T.promise (I.bytes input) result }
+{
+    let mut de = Deserializer::new(input.reader());
+    let value = T::deserialize(alloc, &mut de)?;
+    let left = I::left(&de.into_inner());
+    if left > 0 {
+        return Err(WholeError::Trailing(left));
+    }
+    Ok(value)
 }
 
 /// Reads the value at the front of a stream, with 256 steps. Of a stream, at most 2^64-1 bytes are

@@ -1,0 +1,98 @@
+-- An input that is read as one item.
+use Rattle.std.proofs.Common.{◌≡◌, ℕ, ◌+◌, ◌≤◌, ◌^◌, ◌<◌, inl, inr, List, length, drop, Option}
+use Rattle.std.proofs.Common.{Some, None, Result, Ok, Err, Bool, true, sym, subst, ◌∙◌, ◌-◌, arith}
+use Rattle.std.specs.Result.{IsErrAnd}
+use Rattle.std.proofs.lemmas.List.{length-drop}
+use Rattle.std.specs.Prelude.{IfSome}
+use Rattle.cbor4ii_rw.specs.Input.{limit}
+use Rattle.cbor4ii_rw.specs.View.{View, IfKnown}
+use Rattle.cbor4ii_rw.specs.declared.error.DecodeError.{DecodeError}
+use Rattle.cbor4ii_rw.specs.declared.error.WholeError.{WholeError}
+use Rattle.cbor4ii_rw.specs.declared.error.WholeError.TheVariants.{Decode}
+use Rattle.cbor4ii_items.specs.InputError.{InputError, input_error_of}
+use Rattle.cbor4ii_items.specs.Decoding.{Reads, Format, IsLawful, Sound, CostFits, NoneRead}
+use Rattle.cbor4ii_items.specs.Decoding.{IsExact}
+use Rattle.cbor4ii_items.specs.Decoding.{Decodes, RejectsAt}
+use Rattle.cbor4ii_items.specs.Whole.{IsWhole, NoneIsWhole, Trails, IsSure, NotBegun}
+use Rattle.cbor4ii_items.specs.Whole.{ReadsToTheEnd, DecodesWhole, IfDecode, IfTrailing}
+
+-- a type is exact over a reader that lends all of the input
+pub sure_is_exact : (owned : Bool) (a : View) (bytes : List ℕ) → a.known ≡ Some bytes
+    → a.zero_copy ≡ true → IsSure owned bytes → IsExact owned a
+sure_is_exact owned a bytes known lends (inl is) = inl is
+sure_is_exact owned a bytes known lends (inr short) =
+    inr (
+      lends,
+      λ xs e. let same : xs ≡ bytes = cc in
+          subst (λ ys. length ys < 2 ^ 64) (sym same) short,
+    )
+
+at_rest : (rejects : RejectsAt) (o : Option InputError) (left : Option (List ℕ)) (bytes : List ℕ)
+    (budget : Option ℕ) → budget ≡ Some limit
+    → IfSome o (λ err. (rest : List ℕ) × (left ≡ Some rest) × rejects bytes budget err rest)
+    → IfSome o (λ err. (rest : List ℕ) × rejects bytes (Some limit) err rest)
+at_rest rejects None left bytes budget is h = tt
+at_rest rejects (Some err) left bytes budget is h =
+    (h.0, subst (λ k. rejects bytes k err h.0) is h.2)
+
+module _ {V : Type 0} (reads : Reads V) (bytes : List ℕ) (a b : View)
+    (known : a.known ≡ Some bytes) (budget : a.budget ≡ Some limit) (v : V) (left : ℕ)
+    (sound : Sound reads a b v) (counts : IfKnown b.known (λ xs. left ≡ length xs)) where
+  rest : (count cost : ℕ) × reads bytes v count cost × (cost ≤ limit)
+      × (left ≡ length bytes - count)
+  rest =
+      let p = sound.at bytes known in (
+        p.count,
+        p.cost,
+        p.read,
+        subst (CostFits p.cost) budget p.fits,
+        counts (drop p.count bytes) p.left ∙ length-drop p.count bytes,
+      )
+
+  -- bytes are left after a value
+  pub trails : 1 ≤ left → Trails reads bytes left
+  trails some =
+      (v, (rest.0, rest.1, rest.2, rest.3, omega (arith, rest.4, some), some))
+
+  -- none are left
+  pub to_the_end : left ≤ 0 → ReadsToTheEnd reads bytes v
+  to_the_end none = (rest.0, rest.1, rest.2, rest.3, omega (arith, rest.4, none))
+
+module _ {V : Type 0} (format : Format V) (lawful : IsLawful format) (bytes : List ℕ) where
+  pub none_whole : (left : ℕ) → Trails format.reads bytes left → NoneIsWhole format.reads bytes
+  none_whole left t w whole =
+      let one = lawful.one bytes t.0 w t.1.0 (length bytes) t.1.1 whole.0 t.1.2 whole.1 in
+      omega (arith, one.0, t.1.4, t.1.5)
+
+  pub whole_of : (v : V) → ReadsToTheEnd format.reads bytes v → IsWhole format.reads bytes v
+  whole_of v r =
+      let all : r.0 ≡ length bytes = omega (arith, lawful.within bytes v r.0 r.1 r.2, r.4) in
+      (r.1, subst (λ n. format.reads bytes v n r.1) all r.2, r.3)
+
+module _ {V : Type 0} (format : Format V) (bytes : List ℕ) (a b : View)
+    (known : a.known ≡ Some bytes) (budget : a.budget ≡ Some limit) where
+  not_begun : {E : Type 0} → a.zero_copy ≡ true → (e : DecodeError E)
+      → Decodes format a b (Err e) → NotBegun format bytes e
+  not_begun lends e d =
+      let exact = sure_is_exact format.owned a bytes known lends in
+      record {
+        memory = d.memory;
+        complete = λ sure. subst
+            (λ k. IfSome (input_error_of e) (λ _. NoneRead format.reads bytes k)) budget
+            ((d.complete (exact sure)).at bytes known);
+        rejects = λ sure. at_rest format.rejects (input_error_of e) b.known bytes a.budget budget
+            ((d.rejects (exact sure)).at bytes known);
+        begins = at_rest format.begins (input_error_of e) b.known bytes a.budget budget
+            (d.begins.at bytes known);
+      }
+
+  pub rejected : {E : Type 0} → a.zero_copy ≡ true → (e : DecodeError E)
+      → Decodes format a b (Err e) → (r : Result V (WholeError (DecodeError E)))
+      → IsErrAnd r (λ w. w ≡ Decode e) → DecodesWhole format bytes r
+  rejected lends e d (Ok v) is = absurd is
+  rejected lends e d (Err w) is = record {
+    accepts = tt;
+    trailing = subst (λ w. IfTrailing w
+        (λ left. Trails format.reads bytes left × NoneIsWhole format.reads bytes)) (sym is) tt;
+    rejects = subst (λ w. IfDecode w (NotBegun format bytes)) (sym is) (not_begun lends e d);
+  }

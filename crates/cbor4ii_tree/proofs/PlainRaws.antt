@@ -1,0 +1,55 @@
+-- An input that is kept as its bytes, where it is read as a value.
+use Rattle.std.proofs.Common.{◌≡◌, ℕ, List, take, Option, Some, Result, Ok, Err, refl, sym, subst}
+use Rattle.std.specs.Result.{IsErrAnd}
+use Rattle.cbor4ii_rw.specs.declared.error.DecodeError.{DecodeError}
+use Rattle.cbor4ii_rw.specs.declared.error.WholeError.{WholeError}
+use Rattle.cbor4ii_rw.specs.declared.error.WholeError.TheVariants.{Decode, Trailing}
+use Rattle.cbor4ii_items.specs.Decoding.{NoneRead}
+use Rattle.cbor4ii_items.specs.InputError.{input_error_of}
+use Rattle.cbor4ii_items.specs.Laws.Answering.{if_some}
+use Rattle.cbor4ii_items.specs.Whole.{DecodesWhole, NoneIsWhole, NotBegun, Trails}
+use Rattle.cbor4ii_tree.specs.declared.plain_raw.PlainRawValue.{PlainRawValue}
+use Rattle.cbor4ii_tree.specs.Promises.{value_format}
+use Rattle.cbor4ii_tree.specs.PlainRaw.{plain_raw_format, ReadsPlainRaw}
+
+none : (xs : List ℕ) (budget : Option ℕ) → NoneRead value_format.reads xs budget
+    → NoneRead ReadsPlainRaw xs budget
+none xs budget h p n c read fits = h read.0 n c read.1.0 fits
+
+none_whole : (bytes : List ℕ) → NoneIsWhole value_format.reads bytes
+    → NoneIsWhole ReadsPlainRaw bytes
+none_whole bytes h p whole = h whole.1.0 (whole.0, whole.1.1.0, whole.2)
+
+trails : (bytes : List ℕ) (left : ℕ) → Trails value_format.reads bytes left
+    → Trails ReadsPlainRaw bytes left
+trails bytes left t =
+    let kept : PlainRawValue =
+    record { 0 = record { 0 = record { ref_ptr = (0, 0); now = take t.1.0 bytes } } } in
+    (kept, (t.1.0, t.1.1, (t.0, (t.1.2, refl)), t.1.3, t.1.4, t.1.5))
+
+not_begun : {E : Type 0} (bytes : List ℕ) (e : DecodeError E) → NotBegun value_format bytes e
+    → NotBegun plain_raw_format bytes e
+not_begun bytes e h = record {
+  memory = h.memory;
+  complete = λ sure. if_some (input_error_of e) (none bytes (Some 256)) (h.complete sure);
+  rejects = h.rejects;
+  begins = h.begins;
+}
+
+at_err : {E : Type 0} (bytes : List ℕ) (w : WholeError (DecodeError E))
+    → DecodesWhole value_format bytes (Err w) → DecodesWhole plain_raw_format bytes (Err w)
+at_err bytes (Decode e) d =
+    record { accepts = tt; trailing = tt; rejects = not_begun bytes e d.rejects }
+at_err bytes (Trailing left) d = record {
+  accepts = tt;
+  trailing = (trails bytes left d.trailing.0, none_whole bytes d.trailing.1);
+  rejects = tt;
+}
+
+pub rejected : {E : Type 0} (bytes : List ℕ) (w : WholeError (DecodeError E))
+    → DecodesWhole value_format bytes (Err w)
+    → (r : Result PlainRawValue (WholeError (DecodeError E))) → IsErrAnd r (λ x. x ≡ w)
+    → DecodesWhole plain_raw_format bytes r
+rejected bytes w d (Ok p) is = absurd is
+rejected bytes w d (Err x) is =
+    subst (λ z. DecodesWhole plain_raw_format bytes (Err z)) (sym is) (at_err bytes w d)

@@ -1,0 +1,44 @@
+use Rattle.std.proofs.Common.{rules, arith}
+use Rattle.cbor4ii_tree.specs.declared.value.Value.{the_lemmas}
+use Rattle.cbor4ii_tree.proofs.values.Bignums.{items_tagged, members_tagged, size-at}
+use Rattle.cbor4ii_tree.proofs.values.Bignums.{sizes-at}
+use Rattle.cbor4ii_tree.proofs.bignum.+bignums.Goals as goal
+
+-- the variant is opened, since its second part is what was changed
+pub tag_bignums-returns-in-Tag : goal.tag_bignums-returns-in-Tag
+unfolding Rattle.cbor4ii_tree.specs.declared.value.Value.TheViews.out-Value denote.Hole.Carrier.out
+tag_bignums-returns-in-Tag t c = rw c.in-Tag.is (search (rules, the_lemmas))
+
+pub tag_items-loop-i-preserved : goal.tag_items-loop-i-preserved
+tag_items-loop-i-preserved t c =
+    let i = c.loop-i.i in
+    let x = c.index-items-i.result in (
+      search rules,
+      items_tagged c.loop-i.items c.args.items.now i x c.tag_bignums.new.value (omega arith)
+          c.loop-i-test.true (c.loop-i.invariant.0.1 i x (omega arith)) c.loop-i.invariant.1
+          c.in_ok-tag_bignums.ensures,
+    )
+
+pub tag_members-loop-i-preserved : goal.tag_members-loop-i-preserved
+tag_members-loop-i-preserved t c =
+    let i = c.loop-i.i in
+    let x = c.index-members-i.result in (
+      search rules,
+      members_tagged c.loop-i.members c.args.members.now i x c.tag_member.new.member (omega arith)
+          c.loop-i-test.true (c.loop-i.invariant.0.1 i x (omega arith)) c.loop-i.invariant.1
+          c.in_ok-tag_member.ensures.key c.in_ok-tag_member.ensures.value,
+    )
+
+pub tag_items-tag_bignums-requires : goal.tag_items-tag_bignums-requires
+tag_items-tag_bignums-requires t c =
+    let i = c.loop-i.i in
+    let x = c.index-items-i.result in
+    let small = size-at c.args.items.now i x c.loop-i-test.true in
+    rw (c.loop-i.invariant.0.1 i x (omega arith)) (omega (arith, small, c.decreases), tt)
+
+pub tag_members-tag_member-requires : goal.tag_members-tag_member-requires
+tag_members-tag_member-requires t c =
+    let i = c.loop-i.i in
+    let x = c.index-members-i.result in
+    let small = sizes-at c.args.members.now i x c.loop-i-test.true in
+    rw (c.loop-i.invariant.0.1 i x (omega arith)) (omega (arith, small, c.decreases), tt)

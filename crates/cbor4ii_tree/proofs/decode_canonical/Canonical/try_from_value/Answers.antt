@@ -1,0 +1,10 @@
+use Rattle.std.proofs.Common.{◌∙◌, ap, sym}
+use Rattle.cbor4ii_tree.specs.Canonical.{with_bignums}
+use Rattle.cbor4ii_tree.specs.View.{view}
+use Rattle.cbor4ii_tree.proofs.values.Bignums.{with_bignums-again}
+use Rattle.cbor4ii_tree.proofs.decode_canonical.Canonical.try_from_value.Goals as goal
+
+pub returns-clause-tagged : goal.returns-clause-tagged
+returns-clause-tagged c =
+    let is = c.in_ok-tag_bignums.ensures in
+    ap with_bignums is ∙ with_bignums-again (view c.args.value) ∙ sym is

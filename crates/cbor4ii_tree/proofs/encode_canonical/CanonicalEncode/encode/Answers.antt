@@ -1,0 +1,23 @@
+use Rattle.std.proofs.Common.{refl}
+use Rattle.std.proofs.lemmas.Result.{on_ok_weaker}
+use Rattle.cbor4ii_tree.specs.Canonical.{canonical_encoding, canonical_cost}
+use Rattle.cbor4ii_tree.specs.View.{view}
+use Rattle.cbor4ii_tree.proofs.encodings.CanonicalShape.{written_canonically}
+use Rattle.cbor4ii_tree.proofs.encode_canonical.CanonicalEncode.encode.Goals as goal
+
+pub returns-clause-encodes : goal.returns-clause-encodes
+returns-clause-encodes g c =
+    on_ok_weaker c.encode.result (written_canonically (view c.args.self.now.0))
+    c.encode.ensures.item
+
+pub returns-clause-reads_back : goal.returns-clause-reads_back
+returns-clause-reads_back g c =
+    let v = view c.args.self.now.0 in
+    on_ok_weaker c.encode.result (λ is budget more fits. record {
+      encoding = canonical_encoding v;
+      steps = canonical_cost v;
+      encodes = written_canonically v is;
+      fits = fits;
+      begins = refl;
+    })
+    c.encode.ensures.item

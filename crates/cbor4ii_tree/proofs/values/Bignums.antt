@@ -1,0 +1,119 @@
+-- Integers beyond 64 bits as the tags that they are written as.
+use Rattle.std.proofs.Common.{◌≡◌, ℕ, zero, suc, ◌+◌, ◌<◌, ◌≤◌, List, [], ◌∷◌, ◌++◌, length, take}
+use Rattle.std.proofs.Common.{get_or, set, ap, ap₂, ◌∙◌, rules, arith, Vec, Global, ◌^◌, pos}
+use Rattle.std.proofs.Common.{negsuc, ltb, ltb-true, refl}
+use Rattle.std.proofs.lemmas.List.{take_more, take_more_set}
+use Rattle.cbor4ii_items.specs.Head.{shortest}
+use Rattle.cbor4ii_items.specs.Initial.{Sign, unsigned, negative}
+use Rattle.cbor4ii_items.specs.Laws.Heads.{if_cases, shortest_fits}
+use Rattle.cbor4ii_tree.specs.Canonical.{with_bignums, with_bignums_all, with_bignums_members}
+use Rattle.cbor4ii_tree.specs.Canonical.{magnitude, sign_tag, tagged_integer}
+use Rattle.cbor4ii_tree.specs.Item.{Item, null, boolean, integer, float, bytes_item, text, sequence}
+use Rattle.cbor4ii_tree.specs.Item.{mapping, tag, Items, no_items, item, Members, no_members}
+use Rattle.cbor4ii_tree.specs.Item.{member, size, size_all, size_members}
+use Rattle.cbor4ii_tree.specs.Meaning.{number}
+use Rattle.cbor4ii_tree.specs.Tree.{int}
+use Rattle.cbor4ii_tree.specs.View.{view, items_view, members_view}
+use Rattle.cbor4ii_tree.specs.declared.value.Value.{Value, Bytes, the_lemmas}
+use Rattle.cbor4ii_tree.proofs.encodings.Canonical.{with_bignums-value}
+use Rattle.cbor4ii_tree.proofs.values.Views.{item_injective, member_injective}
+
+pub view-Bytes : (v : Vec ℕ Global) → view (Bytes v) ≡ bytes_item v.items
+view-Bytes v = search (rules, the_lemmas)
+
+items-push : (vs ws : List Value) (v w : Value)
+    → items_view vs ≡ with_bignums_all (items_view ws) → view v ≡ with_bignums (view w)
+    → items_view (vs ++ v ∷ []) ≡ with_bignums_all (items_view (ws ++ w ∷ []))
+items-push [] [] v w h e = ap (λ x. item x no_items) e
+items-push [] (x ∷ ws) v w h e = cc
+items-push (x ∷ vs) [] v w h e = cc
+items-push (x ∷ vs) (y ∷ ws) v w h e =
+    let p = item_injective (view x) (with_bignums (view y)) (items_view vs)
+    (with_bignums_all (items_view ws)) h in
+    ap₂ item p.0 (items-push vs ws v w p.1 e)
+
+members-push : (ms ns : List (Value × Value)) (m n : Value × Value)
+    → members_view ms ≡ with_bignums_members (members_view ns)
+    → view m.0 ≡ with_bignums (view n.0) → view m.1 ≡ with_bignums (view n.1)
+    → members_view (ms ++ m ∷ []) ≡ with_bignums_members (members_view (ns ++ n ∷ []))
+members-push [] [] m n h e f = cc
+members-push [] (x ∷ ns) m n h e f = cc
+members-push (x ∷ ms) [] m n h e f = cc
+members-push (x ∷ ms) (y ∷ ns) m n h e f =
+    let p = member_injective (view x.0) (with_bignums (view y.0)) (view x.1)
+    (with_bignums (view y.1)) (members_view ms) (with_bignums_members (members_view ns)) h in
+    cc (p.0, p.1, members-push ms ns m n p.2 e f)
+
+-- one value more: y stands at the place of x
+pub items_tagged : (xs zs : List Value) (i : ℕ) (x y : Value) → i < length xs → i < length zs
+    → get_or xs i x ≡ get_or zs i x
+    → items_view (take i xs) ≡ with_bignums_all (items_view (take i zs))
+    → view y ≡ with_bignums (view (get_or xs i x))
+    → items_view (take (i + 1) (set xs i y)) ≡ with_bignums_all (items_view (take (i + 1) zs))
+items_tagged xs zs i x y in_xs in_zs same h e =
+    rw (take_more_set xs i y in_xs, take_more zs i x in_zs)
+    (items-push (take i xs) (take i zs) y (get_or zs i x) h
+    (e ∙ ap (λ v. with_bignums (view v)) same))
+
+pub members_tagged : (xs zs : List (Value × Value)) (i : ℕ) (x y : Value × Value) → i < length xs
+    → i < length zs → get_or xs i x ≡ get_or zs i x
+    → members_view (take i xs) ≡ with_bignums_members (members_view (take i zs))
+    → view y.0 ≡ with_bignums (view (get_or xs i x).0)
+    → view y.1 ≡ with_bignums (view (get_or xs i x).1)
+    → members_view (take (i + 1) (set xs i y)) ≡ with_bignums_members
+    (members_view (take (i + 1) zs))
+members_tagged xs zs i x y in_xs in_zs same h e f =
+    rw (take_more_set xs i y in_xs, take_more zs i x in_zs)
+    (members-push (take i xs) (take i zs) y (get_or zs i x) h
+    (e ∙ ap (λ (m : Value × Value). with_bignums (view m.0)) same)
+    (f ∙ ap (λ (m : Value × Value). with_bignums (view m.1)) same))
+
+-- ---- each part is smaller than the whole
+
+pub size-at : (vs : List Value) (i : ℕ) (d : Value) → i < length vs
+    → size (view (get_or vs i d)) ≤ size_all (items_view vs)
+size-at [] i d lt = absurd (omega arith)
+size-at (v ∷ vs) zero d lt = omega arith
+size-at (v ∷ vs) (suc i) d lt = omega (arith, size-at vs i d (omega arith))
+
+pub sizes-at : (ms : List (Value × Value)) (i : ℕ) (d : Value × Value) → i < length ms
+    → size (view (get_or ms i d).0) + size (view (get_or ms i d).1)
+    ≤ size_members (members_view ms)
+sizes-at [] i d lt = absurd (omega arith)
+sizes-at (m ∷ ms) zero d lt = omega arith
+sizes-at (m ∷ ms) (suc i) d lt = omega (arith, sizes-at ms i d (omega arith))
+
+-- ---- tags stay
+
+tagged_integer-again : (s : Sign) (n : ℕ)
+    → with_bignums (tagged_integer s n (integer (number s n)))
+    ≡ tagged_integer s n (integer (number s n))
+tagged_integer-again s n =
+    if_cases (λ v. with_bignums v ≡ v) (ltb n (2 ^ 64)) (integer (number s n))
+    (tag (sign_tag s) (bytes_item (magnitude n)))
+    (λ e. with_bignums-value (int s n (shortest n)) (shortest_fits n (ltb-true n (2 ^ 64) e)))
+    (λ e. refl)
+
+mutual
+  pub with_bignums-again : (v : Item) → with_bignums (with_bignums v) ≡ with_bignums v
+  with_bignums-again null = refl
+  with_bignums-again (boolean b) = refl
+  with_bignums-again (integer (pos n)) = tagged_integer-again unsigned n
+  with_bignums-again (integer (negsuc n)) = tagged_integer-again negative n
+  with_bignums-again (float p n) = refl
+  with_bignums-again (bytes_item bs) = refl
+  with_bignums-again (text bs) = refl
+  with_bignums-again (sequence vs) = ap sequence (with_bignums_all-again vs)
+  with_bignums-again (mapping ms) = ap mapping (with_bignums_members-again ms)
+  with_bignums-again (tag n v) = ap (tag n) (with_bignums-again v)
+
+  with_bignums_all-again : (vs : Items)
+      → with_bignums_all (with_bignums_all vs) ≡ with_bignums_all vs
+  with_bignums_all-again no_items = refl
+  with_bignums_all-again (item v vs) = ap₂ item (with_bignums-again v) (with_bignums_all-again vs)
+
+  with_bignums_members-again : (ms : Members)
+      → with_bignums_members (with_bignums_members ms) ≡ with_bignums_members ms
+  with_bignums_members-again no_members = refl
+  with_bignums_members-again (member k v ms) =
+      cc (with_bignums-again k, with_bignums-again v, with_bignums_members-again ms)

@@ -1,0 +1,65 @@
+-- What a value is looked into for: what it holds, and the pairs of a map by their keys.
+use Rattle.std.specs.Prelude.{◌≡◌, ℕ, ℤ, List, Bool, Option, Some, None, if◌then◌else◌, ◌⊎◌}
+use Rattle.cbor4ii_tree.specs.Item.{Item, boolean, integer, float, bytes_item, text, sequence}
+use Rattle.cbor4ii_tree.specs.Item.{mapping, tag, Items, Members, no_members, member}
+use Rattle.cbor4ii_tree.specs.ItemEquality.{item_eq}
+
+-- the truth value, of that kind alone
+abbrev pub as_bool : Item → Option Bool
+as_bool (boolean b) = Some b
+as_bool _ = None
+
+-- the integer, of that kind alone
+abbrev pub as_integer : Item → Option ℤ
+as_integer (integer z) = Some z
+as_integer _ = None
+
+-- the float itself, with its width, of that kind alone
+abbrev pub as_float : Item → Option Item
+as_float (float p n) = Some (float p n)
+as_float _ = None
+
+-- the content of a byte string alone
+abbrev pub as_bytes : Item → Option (List ℕ)
+as_bytes (bytes_item bs) = Some bs
+as_bytes _ = None
+
+-- the bytes of a text alone
+abbrev pub as_text : Item → Option (List ℕ)
+as_text (text bs) = Some bs
+as_text _ = None
+
+-- the values of an array alone
+abbrev pub as_array : Item → Option Items
+as_array (sequence vs) = Some vs
+as_array _ = None
+
+-- the pairs of a map alone
+abbrev pub as_map : Item → Option Members
+as_map (mapping ms) = Some ms
+as_map _ = None
+
+-- the number of a tag alone, and what it is on
+abbrev pub as_tag : Item → Option (ℕ × Item)
+as_tag (tag n v) = Some (n, v)
+as_tag _ = None
+
+-- the value of the first pair whose key is this text
+abbrev pub find_text : List ℕ → Members → Option Item
+find_text key no_members = None
+find_text key (member k v ms) = if item_eq k (text key) then Some v else find_text key ms
+
+-- some pair has this key
+abbrev pub HasKey : Item → Members → Type 0
+HasKey key no_members = ⊥
+HasKey key (member k v ms) = (k ≡ key) ⊎ HasKey key ms
+
+-- two pairs have equal keys
+abbrev pub HasEqualKeys : Members → Type 0
+HasEqualKeys no_members = ⊥
+HasEqualKeys (member k v ms) = HasKey k ms ⊎ HasEqualKeys ms
+
+-- a map two of whose pairs have equal keys
+abbrev pub MapHasEqualKeys : Item → Type 0
+MapHasEqualKeys (mapping ms) = HasEqualKeys ms
+MapHasEqualKeys _ = ⊥

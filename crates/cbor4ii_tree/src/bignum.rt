@@ -1,0 +1,106 @@
+//! Integers beyond 64 bits as the tags that they are written as (RFC 8949 section 3.4.3).
+ghost use Rattle.std.specs.Prelude.{◌≡◌, ◌⊎◌, OnOk, IfOk, pos, negsuc};
+ghost use Rattle.cbor4ii_items.specs.Magnitude.{without_leading_zeros, magnitude};
+ghost use Rattle.cbor4ii_tree.specs.Canonical.{with_bignums, with_bignums_all};
+ghost use Rattle.cbor4ii_tree.specs.Canonical.{with_bignums_members};
+ghost use Rattle.cbor4ii_tree.specs.Item.{bytes_item, integer, tag};
+ghost use Rattle.cbor4ii_tree.specs.View.{view, items_view, members_view};
+
+use crate::value::Value;
+use std::alloc::{AllocError, Global};
+
+/// The tag of a bignum from 0 on.
+const POSITIVE_BIGNUM: u64 = 2;
+/// The tag of a negative bignum: -1 - n for the number n of its bytes.
+const NEGATIVE_BIGNUM: u64 = 3;
+
+/// Turns each integer that has no head into the tag that it is written as, at any depth. Only these
+/// take memory.
+#[cycle(bignums)]
+pub(crate) fn tag_bignums(alloc: Global, value: &mut Value) -> Result<(), AllocError>
+    ensures { OnOk result (view value.new ≡ with_bignums (view value.old)) }
+{
+    match value {
+        Value::Integer(number) => {
+            let tagged = tagged_integer(alloc, *number)?;
+            *value = tagged;
+            Ok(())
+        }
+        Value::Array(items) => tag_items(alloc, items),
+        Value::Map(members) => tag_members(alloc, members),
+        Value::Tag(_, inner) => tag_bignums(alloc, inner),
+        _ => Ok(()),
+    }
+}
+
+#[cycle(bignums)]
+fn tag_items(alloc: Global, items: &mut [Value]) -> Result<(), AllocError>
+    ensures { OnOk result (items_view items.new ≡ with_bignums_all (items_view items.old)) }
+{
+    for i in 0..items.len() {
+        tag_bignums(alloc, &mut items[i])?;
+    }
+    Ok(())
+}
+
+#[cycle(bignums)]
+fn tag_members(alloc: Global, members: &mut [(Value, Value)]) -> Result<(), AllocError>
+    ensures { OnOk result (members_view members.new
+        ≡ with_bignums_members (members_view members.old)) }
+{
+    for i in 0..members.len() {
+        tag_member(alloc, &mut members[i])?;
+    }
+    Ok(())
+}
+
+#[cycle(bignums)]
+fn tag_member(alloc: Global, member: &mut (Value, Value)) -> Result<(), AllocError>
+    ensures key { OnOk result (view member.new.0 ≡ with_bignums (view member.old.0)) }
+    ensures value { OnOk result (view member.new.1 ≡ with_bignums (view member.old.1)) }
+{
+    tag_bignums(alloc, &mut member.0)?;
+    tag_bignums(alloc, &mut member.1)
+}
+
+/// An integer, or the tag that it is written as where it has no head.
+fn tagged_integer(alloc: Global, number: i128) -> Result<Value, AllocError>
+    ensures { IfOk result (λ value. view value ≡ with_bignums (integer number)) }
+{
+    let (tag, magnitude) = bignum_parts(number);
+    if magnitude <= u64::MAX as u128 {
+        return Ok(Value::Integer(number));
+    }
+    bignum(alloc, tag, magnitude)
+}
+
+/// The tag of an integer's bignum, and the number of its bytes.
+fn bignum_parts(number: i128) -> (u64, u128)
+    ensures { ((number ≡ pos result.1) × (result.0 ≡ 2))
+        ⊎ ((number ≡ negsuc result.1) × (result.0 ≡ 3)) }
+{
+    if number >= 0 {
+        (POSITIVE_BIGNUM, number as u128)
+    } else {
+        (NEGATIVE_BIGNUM, (-1 - number) as u128)
+    }
+}
+
+/// This tag on the bytes of the number.
+fn bignum(alloc: Global, number: u64, size: u128) -> Result<Value, AllocError>
+    ensures { IfOk result (λ value. view value ≡ tag number (bytes_item (magnitude size))) }
+{
+    let bytes = size.to_be_bytes();
+    let content = Vec::from_slice(alloc, without_leading_zeros(&bytes))?;
+    Ok(Value::Tag(number, Box::new(alloc, Value::Bytes(content))?))
+}
+
+fn without_leading_zeros(bytes: &[u8]) -> &[u8]
+    ensures { result.now ≡ without_leading_zeros bytes.now }
+{
+    let mut rest = bytes;
+    while let [0, tail @ ..] = rest {
+        rest = tail;
+    }
+    rest
+}

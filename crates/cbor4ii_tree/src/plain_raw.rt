@@ -1,0 +1,49 @@
+//! Items that are kept as their bytes, and are read as values.
+ghost use Rattle.std.specs.Prelude.{◌≡◌};
+ghost use Rattle.cbor4ii_items.specs.Whole.{DecodesWhole};
+ghost use Rattle.cbor4ii_tree.specs.PlainRaw.{plain_raw_content, plain_raw_format};
+ghost use Rattle.cbor4ii_tree.specs.Raw.{raw_content};
+
+use crate::raw::RawValue;
+use crate::value::Value;
+use cbor4ii_items::whole::decode_whole;
+use cbor4ii_rw::error::{DecodeError, Never, WholeError};
+use std::alloc::Global;
+
+/// One item that `Value` accepts: well-formed, and each text is UTF-8. Equal keys of a map are not
+/// looked for.
+#[derive(Clone, Copy, Debug, PartialEq, Eq)]
+pub struct PlainRawValue<'de>(RawValue<'de>);
+
+impl<'de> PlainRawValue<'de> {
+    /// The item that `bytes` are: one item and nothing else, which `Value` accepts with 256 steps.
+    /// The value is read and dropped, and the bytes are not copied.
+    ///
+    /// # Errors
+    ///
+    /// - `Decode` of an error of `Value` over these bytes. `OutOfMemory` where a growth was refused
+    /// - `Trailing`: they begin with an item, and so many bytes follow it
+    pub fn new(
+        alloc: Global,
+        bytes: &'de [u8],
+    ) -> Result<PlainRawValue<'de>, WholeError<DecodeError<Never>>>
+        ensures whole { DecodesWhole plain_raw_format bytes.now result }
+    {
+        let _value: Value = decode_whole(alloc, bytes)?;
+        Ok(PlainRawValue(RawValue::of(bytes)))
+    }
+
+    /// The item, of which it is not known any more that `Value` accepts it.
+    pub fn as_raw(&self) -> RawValue<'de>
+        ensures { raw_content result ≡ plain_raw_content self.now }
+    {
+        self.0
+    }
+
+    /// The item's bytes.
+    pub fn as_bytes(&self) -> &'de [u8]
+        ensures { result.now ≡ plain_raw_content self.now }
+    {
+        self.0.as_bytes()
+    }
+}
