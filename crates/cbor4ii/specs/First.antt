@@ -11,7 +11,7 @@ use Rattle.cbor4ii_items.specs.InputError.{input_error_of, is_out_of_memory}
 use Rattle.cbor4ii.specs.declared.serde.de.error.DecodeError.{DecodeError}
 use Rattle.cbor4ii.specs.Typed.{Promise, as_core}
 
--- An accepted value is read at the front of the bytes, at a cost of at most 256. Memory is rejected
+-- An accepted value is read at the front of the bytes, at a cost of at most 256. Memory is refused
 -- only to a type that takes some. Of an exact type, where it is sure to be accepted, an error that
 -- speaks of the bytes comes only where none is. Of a type that reports its errors it is one that
 -- the type gives there.

@@ -9,7 +9,7 @@ use cbor4ii_rw::write::Write;
 /// A type whose values are written as items.
 ///
 /// What a type of this repository writes is one item (RFC 8949 section 1.2) with shortest heads,
-/// and canonical unless a length is left open in it. A container's is so where those of its parts
+/// and canonical unless a length in it is indefinite. A container's is so where those of its parts
 /// are. The laws of the module `laws` say it of each type, from `numbers_are_items` on. Of such
 /// bytes `items_are_read` says that they are read, whatever follows them.
 ///

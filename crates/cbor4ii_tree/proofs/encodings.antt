@@ -4,3 +4,4 @@ pub mod CanonicalShape
 pub mod Costs
 pub mod Sizes
 pub mod Rows
+pub mod Order

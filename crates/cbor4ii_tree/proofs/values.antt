@@ -17,3 +17,4 @@ pub mod Access
 pub mod Bignums
 pub mod Answered
 pub mod Ends
+pub mod Ordered

@@ -17,6 +17,8 @@ pub mod View
 pub mod ItemEquality
 pub mod Access
 pub mod Encoding
+pub mod Order
+pub mod Hashing
 pub mod Ignored
 pub mod Raw
 pub mod BoxedRaw

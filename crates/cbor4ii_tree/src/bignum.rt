@@ -75,7 +75,7 @@ fn tagged_integer(alloc: Global, number: i128) -> Result<Value, AllocError>
 }
 
 /// The tag of an integer's bignum, and the number of its bytes.
-fn bignum_parts(number: i128) -> (u64, u128)
+pub(crate) fn bignum_parts(number: i128) -> (u64, u128)
     ensures { ((number ≡ pos result.1) × (result.0 ≡ 2))
         ⊎ ((number ≡ negsuc result.1) × (result.0 ≡ 3)) }
 {
@@ -95,7 +95,8 @@ fn bignum(alloc: Global, number: u64, size: u128) -> Result<Value, AllocError>
     Ok(Value::Tag(number, Box::new(alloc, Value::Bytes(content))?))
 }
 
-fn without_leading_zeros(bytes: &[u8]) -> &[u8]
+/// The bytes from the first that is not zero on.
+pub(crate) fn without_leading_zeros(bytes: &[u8]) -> &[u8]
     ensures { result.now ≡ without_leading_zeros bytes.now }
 {
     let mut rest = bytes;

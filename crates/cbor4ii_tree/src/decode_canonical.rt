@@ -47,7 +47,7 @@ use std::alloc::Global;
 /// A value that is read from its canonical encoding alone, the one that encoders write (RFC 8949
 /// section 4.1). Two that were read are equal exactly where their bytes are. What is written of one
 /// that was read, or made by `try_from_value`, is read back as it was.
-#[derive(Debug, PartialEq, Eq, Drop)]
+#[derive(Debug, PartialEq, Eq, Hash, Drop)]
 pub struct Canonical(pub Value);
 
 impl Decodable for Canonical {

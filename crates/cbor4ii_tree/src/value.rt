@@ -9,7 +9,7 @@ use std::alloc::AllocError;
 
 /// The bits of a float, in its own width (RFC 8949 section 3.3). They are compared as bits with
 /// their width, so `F16(0)` is not `F32(0)`, and a NaN equals itself.
-#[derive(Clone, Copy, Debug, PartialEq, Eq)]
+#[derive(Clone, Copy, Debug, PartialEq, Eq, Hash)]
 pub enum FloatBits {
     /// 16 bits, IEEE 754 half precision.
     F16(u16),

@@ -26,6 +26,8 @@ mod encode_value;
 #[cfg(test)]
 mod from;
 #[cfg(test)]
+mod hash;
+#[cfg(test)]
 mod ignored;
 #[cfg(test)]
 mod item;
@@ -37,6 +39,8 @@ mod kept;
 mod laws;
 #[cfg(test)]
 mod literal;
+#[cfg(test)]
+mod order;
 #[cfg(test)]
 mod plain_raw;
 #[cfg(test)]

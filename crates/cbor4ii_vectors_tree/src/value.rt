@@ -7,7 +7,7 @@ use std::alloc::{AllocError, Global};
 use std::test::Fail;
 
 // No two are equal: floats are compared as bits with their width, and arrays and maps in order.
-const DIFFERENT: &[Literal] = table! {
+pub const DIFFERENT: &[Literal] = table! {
     Null,
     Bool(false),
     Bool(true),

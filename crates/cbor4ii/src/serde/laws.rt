@@ -3,11 +3,13 @@
 ghost use Rattle.std.specs.Prelude.{ℕ, ◌≡◌, ◌+◌, ◌<◌, ◌≤◌, ◌++◌, List, Bool, true, Some, None};
 ghost use Rattle.std.specs.Prelude.{false, IsTrue};
 ghost use Rattle.std.specs.Cmp.{IsTotalOrder};
+ghost use Rattle.cbor4ii_rw.specs.Input.{limit};
 ghost use Rattle.cbor4ii_rw.specs.Reader.{KeepsAllButBudget};
 ghost use Rattle.cbor4ii_rw.specs.View.{View};
 ghost use Rattle.cbor4ii_rw.specs.declared.error.DecodeError.{DecodeError};
 ghost use Rattle.cbor4ii_items.specs.Decoding.{Reads, CostFits, Sound, Complete};
 ghost use Rattle.cbor4ii_items.specs.NeverBoth.{NeverBoth};
+ghost use Rattle.cbor4ii_items.specs.Whole.{IsWhole};
 ghost use Rattle.cbor4ii_items.specs.InputError.{input_error_of};
 ghost use Rattle.cbor4ii_items.specs.Moves.{Kept};
 ghost use Rattle.cbor4ii_items.specs.Strings.{definite_string, ReadsTextAs};
@@ -95,7 +97,8 @@ pub fn variants_are_read_back<V: EnumValues>()
 
 /// What is read back is what `deserialize` answers, over a reader that reports the item's bytes and
 /// something after them: a value that means the same, with what follows left, and where the
-/// budget has the cost, no error of the bytes.
+/// budget has the cost, no error of the bytes. Of the item alone `from_slice_whole` so answers a
+/// value that means the same, and where the cost is at most 256, no error of the bytes.
 pub fn what_is_written_is_read<T: Typed + Serialize, E>()
     ensures accepted { IsTrue T.promise.exact → (bytes rest : List ℕ) (v w : T) (cost : ℕ)
         (old new : View) → T.encoding v ≡ encoded bytes → IsReadBack T.promise.format.reads
@@ -108,6 +111,12 @@ pub fn what_is_written_is_read<T: Typed + Serialize, E>()
         IsReadBack T.promise.format.reads (T.encoding v) v cost → CostFits cost old.budget →
         old.known ≡ Some (bytes ++ rest) → Complete T.promise.format.reads old error →
         input_error_of error ≡ None }
+    ensures same { IsTrue T.promise.exact → (bytes : List ℕ) (v w : T) (cost : ℕ) →
+        T.encoding v ≡ encoded bytes → IsReadBack T.promise.format.reads (T.encoding v) v cost →
+        IsWhole T.promise.format.reads bytes w → T.promise.format.same v w }
+    ensures whole { (bytes : List ℕ) (v : T) (cost : ℕ) → T.encoding v ≡ encoded bytes →
+        IsReadBack T.promise.format.reads (T.encoding v) v cost → cost ≤ limit →
+        IsWhole T.promise.format.reads bytes v }
 {}
 
 /// A value that may be absent and is rejected is not read, where its type is exact and so are its

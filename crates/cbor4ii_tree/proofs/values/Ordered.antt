@@ -1,0 +1,77 @@
+-- Values whose encodings begin with equal heads.
+use Rattle.std.proofs.Common.{◌≡◌, ℕ, ◌+◌, ◌<◌, List, ◌∷◌, ◌++◌, length, drop, get_or, sym, ap}
+use Rattle.std.proofs.Common.{◌∙◌, subst₂, Vec, Global}
+use Rattle.std.proofs.lemmas.List.{drop_more}
+use Rattle.std.specs.declared.cmp.Ordering.{Ordering}
+use Rattle.std.specs.declared.cmp.Ordering.TheVariants.{Equal}
+use Rattle.cbor4ii_items.specs.SequenceBytes.{items_bytes}
+use Rattle.cbor4ii_tree.specs.Tree.{bytes_all, bytes_pairs}
+use Rattle.cbor4ii_tree.specs.Item.{sequence, mapping, item_count, member_count}
+use Rattle.cbor4ii_tree.specs.Canonical.{canonical_trees, canonical_pairs}
+use Rattle.cbor4ii_tree.specs.Encoding.{value_bytes, member_bytes}
+use Rattle.cbor4ii_tree.specs.Order.{Compares, head_of, after_head, major_of, elements_of, pairs_of}
+use Rattle.cbor4ii_tree.specs.View.{view, items_view, members_view}
+use Rattle.cbor4ii_tree.specs.declared.value.Value.{Value, Array, Map}
+use Rattle.cbor4ii_tree.proofs.encodings.Order.{compares_then, same_major, after_array, after_map}
+use Rattle.cbor4ii_tree.proofs.values.Encoding.{items-canonical_encoding, view-Array}
+use Rattle.cbor4ii_tree.proofs.values.Encoding.{members-canonical_encoding}
+use Rattle.cbor4ii_tree.proofs.values.Views.{view-Map, item_count-items_view}
+use Rattle.cbor4ii_tree.proofs.values.Views.{member_count-members_view}
+
+-- two lists of as many values, whose bytes follow the heads
+pub record Alike {A : Type 0} (bytes : A → List ℕ) (xs ys : List A) (s t : List ℕ) : Type 0 where
+  pub long : length xs ≡ length ys
+  pub first : items_bytes bytes xs ≡ s
+  pub second : items_bytes bytes ys ≡ t
+
+pub arrays : (a b : Value) (v : Vec Value Global) (ys : List Value) → a ≡ Array v
+    → items_view ys ≡ elements_of (view b) → head_of (view a) ≡ head_of (view b)
+    → Alike value_bytes v.items ys (after_head (view a)) (after_head (view b))
+arrays a b v ys is seen e =
+    let whole : view a ≡ sequence (items_view v.items) = ap view is ∙ view-Array v in
+    let major = sym (same_major (view a) (view b) e) ∙ ap major_of whole in
+    let other = after_array (view b) major in
+    record {
+      long =
+          sym (item_count-items_view v.items) ∙ sym (ap (λ w. (head_of w).1) whole)
+          ∙ ap (λ h. h.1) e ∙ sym other.0 ∙ ap item_count (sym seen) ∙ item_count-items_view ys;
+      first = items-canonical_encoding v.items ∙ sym (ap after_head whole);
+      second =
+          items-canonical_encoding ys ∙ ap (λ vs. bytes_all (canonical_trees vs)) seen
+          ∙ sym other.1;
+    }
+
+pub maps : (a b : Value) (v : Vec (Value × Value) Global) (ns : List (Value × Value)) → a ≡ Map v
+    → members_view ns ≡ pairs_of (view b) → head_of (view a) ≡ head_of (view b)
+    → Alike member_bytes v.items ns (after_head (view a)) (after_head (view b))
+maps a b v ns is seen e =
+    let whole : view a ≡ mapping (members_view v.items) = ap view is ∙ view-Map v in
+    let major = sym (same_major (view a) (view b) e) ∙ ap major_of whole in
+    let other = after_map (view b) major in
+    record {
+      long =
+          sym (member_count-members_view v.items) ∙ sym (ap (λ w. (head_of w).1) whole)
+          ∙ ap (λ h. h.1) e ∙ sym other.0 ∙ ap member_count (sym seen)
+          ∙ member_count-members_view ns;
+      first = members-canonical_encoding v.items ∙ sym (ap after_head whole);
+      second =
+          members-canonical_encoding ns ∙ ap (λ ms. bytes_pairs (canonical_pairs ms)) seen
+          ∙ sym other.1;
+    }
+
+bytes_from : {A : Type 0} (bytes : A → List ℕ) (xs : List A) (i : ℕ) (x : A) → i < length xs
+    → x ≡ get_or xs i x
+    → items_bytes bytes (drop i xs) ≡ bytes x ++ items_bytes bytes (drop (i + 1) xs)
+bytes_from bytes xs i x lt is =
+    ap (items_bytes bytes) (drop_more xs i x lt)
+    ∙ ap (λ y. items_bytes bytes (y ∷ drop (i + 1) xs)) (sym is)
+
+-- past two that are equal
+pub compares_from : {A : Type 0} (bytes : A → List ℕ) (xs ys : List A) (i : ℕ) (x y : A)
+    (r : Ordering) → i < length xs → i < length ys → x ≡ get_or xs i x → y ≡ get_or ys i y
+    → Compares Equal (bytes x) (bytes y)
+    → Compares r (items_bytes bytes (drop (i + 1) xs)) (items_bytes bytes (drop (i + 1) ys))
+    → Compares r (items_bytes bytes (drop i xs)) (items_bytes bytes (drop i ys))
+compares_from bytes xs ys i x y r in_xs in_ys is are here rest =
+    subst₂ (Compares r) (sym (bytes_from bytes xs i x in_xs is))
+    (sym (bytes_from bytes ys i y in_ys are)) (compares_then here rest)
