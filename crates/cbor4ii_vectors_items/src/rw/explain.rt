@@ -1,25 +1,33 @@
 //! Errors in words for a person.
-use cbor4ii_rw::error::{ArithmeticOverflow, DecodeError, Len};
+use cbor4ii_rw::error::ArithmeticOverflow::Overflow;
+use cbor4ii_rw::error::DecodeError as Error;
+use cbor4ii_rw::error::DecodeError::{
+    CastOverflow, Custom, DepthOverflow, Eof, LengthOverflow, Mismatch, NotCanonical, OutOfMemory,
+    Read, RequireBorrowed, RequireLength, RequireUtf8, Unsupported,
+};
+use cbor4ii_rw::error::Len::{Big, Indefinite, Small};
 use cbor4ii_vectors::table;
 use std::fmt::InlineText;
 
-const EXPLAINED: &[(DecodeError<u8>, &str)] = table! {
-    (DecodeError::Read(3), "the reader failed: 3"),
-    (DecodeError::Mismatch { name: "str", found: 5 }, "expected str, found the byte 0x05"),
-    (DecodeError::Unsupported { name: "value", found: 255 }, "the byte 0xff begins no value"),
-    (DecodeError::Eof { name: "str", expect: Len::Small(2) }, "the input ends within str, of which 2 bytes are wanted"),
-    (DecodeError::Eof { name: "str", expect: Len::Big }, "the input ends within str, of which more than 65535 bytes are wanted"),
-    (DecodeError::RequireLength { name: "tuple", found: Len::Small(3) }, "tuple of another length: 3"),
-    (DecodeError::RequireLength { name: "str", found: Len::Indefinite }, "str of another length: indefinite"),
-    (DecodeError::RequireBorrowed { name: "raw-value" }, "raw-value is not lent in one piece"),
-    (DecodeError::RequireUtf8 { name: "str" }, "str is not UTF-8"),
-    (DecodeError::LengthOverflow { name: "bytes", found: Len::Big }, "bytes is too long: more than 65535"),
-    (DecodeError::CastOverflow { name: "i8" }, "the number does not fit i8"),
-    (DecodeError::ArithmeticOverflow { name: "a", ty: ArithmeticOverflow::Overflow }, "a computation of a left its range"),
-    (DecodeError::DepthOverflow { name: "map" }, "map is nested too deep"),
-    (DecodeError::Custom { name: "mine", num: 7 }, "mine: 7"),
-    (DecodeError::OutOfMemory, "there is no memory for the value"),
-    (DecodeError::NotCanonical { name: "canonical" }, "the encoding is not the canonical one"),
+const LONG_CUT: &str = "the input ends within str, of which more than 65535 bytes are wanted";
+
+const EXPLAINED: &[(Error<u8>, &str)] = table! {
+    (Read(3), "the reader failed: 3"),
+    (Mismatch { name: "str", found: 5 }, "expected str, found the byte 0x05"),
+    (Unsupported { name: "value", found: 255 }, "the byte 0xff begins no value"),
+    (Eof { name: "str", expect: Small(2) }, "the input ends within str, of which 2 bytes are wanted"),
+    (Eof { name: "str", expect: Big }, LONG_CUT),
+    (RequireLength { name: "tuple", found: Small(3) }, "tuple of another length: 3"),
+    (RequireLength { name: "str", found: Indefinite }, "str of another length: indefinite"),
+    (RequireBorrowed { name: "raw-value" }, "raw-value is not lent in one piece"),
+    (RequireUtf8 { name: "str" }, "str is not UTF-8"),
+    (LengthOverflow { name: "bytes", found: Big }, "bytes is too long: more than 65535"),
+    (CastOverflow { name: "i8" }, "the number does not fit i8"),
+    (Error::ArithmeticOverflow { name: "a", ty: Overflow }, "a computation of a left its range"),
+    (DepthOverflow { name: "map" }, "map is nested too deep"),
+    (Custom { name: "mine", num: 7 }, "mine: 7"),
+    (OutOfMemory, "there is no memory for the value"),
+    (NotCanonical { name: "canonical" }, "the encoding is not the canonical one"),
 };
 
 #[test]
