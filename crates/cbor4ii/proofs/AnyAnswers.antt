@@ -10,7 +10,8 @@ use mir.Syntax.{w128}
 use Rattle.cbor4ii_rw.specs.View.{View}
 use Rattle.cbor4ii_rw.specs.declared.error.DecodeError.{DecodeError}
 use Rattle.cbor4ii_rw.specs.declared.error.DecodeError.TheVariants.{Custom, Unsupported}
-use Rattle.cbor4ii_items.specs.Decoding.{Reads, RejectsAt, CostFits, Sound, NoneRead, Complete}
+use Rattle.cbor4ii_items.specs.Decoding.{Reads, RejectsAt, Sound, NoneRead, Complete}
+use Rattle.cbor4ii_items.specs.Budget.{CostFits}
 use Rattle.cbor4ii_items.specs.Decoding.{Rejects}
 use Rattle.cbor4ii_items.specs.Decoding.{Format, IsLawful, Decodes, leaf_format}
 use Rattle.cbor4ii_items.specs.Moves.{Kept}

@@ -2,7 +2,8 @@
 use Rattle.std.proofs.Common.{ℕ, List, inl, inr, Bool, subst}
 use Rattle.std.specs.Prelude.{IsTrue, codes}
 use Rattle.cbor4ii_items.specs.Containers.{ReadsOption, RejectsOption}
-use Rattle.cbor4ii_items.specs.Decoding.{Reads, RejectsAt, CostFits}
+use Rattle.cbor4ii_items.specs.Decoding.{Reads, RejectsAt}
+use Rattle.cbor4ii_items.specs.Budget.{CostFits}
 use Rattle.cbor4ii_items.specs.NeverBoth.{NeverBoth}
 use Rattle.cbor4ii_items.specs.Sequences.{after_step}
 use Rattle.cbor4ii_items.specs.Laws.ContainersApart.{option_apart}

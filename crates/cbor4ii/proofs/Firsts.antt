@@ -4,7 +4,8 @@ use Rattle.std.proofs.Common.{None, Result, Ok, Err, true, refl, sym, subst}
 use Rattle.std.specs.Prelude.{IfOk, IfErr, IfSome, IsTrue}
 use Rattle.cbor4ii_rw.specs.View.{View, IfKnown}
 use Rattle.cbor4ii_items.specs.InputError.{InputError, input_error_of}
-use Rattle.cbor4ii_items.specs.Decoding.{RejectsAt, CostFits, NoneRead, Sound, IsExact, Complete}
+use Rattle.cbor4ii_items.specs.Decoding.{RejectsAt, NoneRead, Sound, IsExact, Complete}
+use Rattle.cbor4ii_items.specs.Budget.{CostFits}
 use Rattle.cbor4ii_items.specs.Decoding.{Rejects}
 use Rattle.cbor4ii.specs.declared.serde.de.error.DecodeError.{DecodeError}
 use Rattle.cbor4ii.specs.First.{First, FirstOf, FirstWhole}

@@ -9,7 +9,8 @@ use Rattle.cbor4ii_items.specs.InputError.{input_error_of}
 use Rattle.cbor4ii_items.specs.Moves.{Kept, Moves}
 use Rattle.cbor4ii_items.specs.Reading.{Runs, peek_at}
 use Rattle.cbor4ii_items.specs.Next.{ReadsNext}
-use Rattle.cbor4ii_items.specs.Decoding.{Reads, CostFits, Sound, NoneRead, Complete}
+use Rattle.cbor4ii_items.specs.Decoding.{Reads, Sound, NoneRead, Complete}
+use Rattle.cbor4ii_items.specs.Budget.{CostFits}
 use Rattle.cbor4ii_items.specs.Containers.{BeginsNull, ReadsOption}
 use Rattle.cbor4ii_items.specs.Laws.Answering.{fits_zero, if_some, complete_as}
 use Rattle.cbor4ii_items.specs.Laws.Running.{kept_taken}

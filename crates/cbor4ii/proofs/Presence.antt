@@ -9,7 +9,8 @@ use Rattle.cbor4ii_rw.specs.declared.error.DecodeError.{DecodeError}
 use Rattle.cbor4ii_rw.specs.declared.error.DecodeError.TheVariants.{DepthOverflow}
 use Rattle.cbor4ii_items.specs.InputError.{InputError, depth_overflow}
 use Rattle.cbor4ii_items.specs.Next.{RejectsNext}
-use Rattle.cbor4ii_items.specs.Decoding.{Reads, CostFits, Sound, NoneRead, Complete, Rejects}
+use Rattle.cbor4ii_items.specs.Decoding.{Reads, Sound, NoneRead, Complete, Rejects}
+use Rattle.cbor4ii_items.specs.Budget.{CostFits}
 use Rattle.cbor4ii_items.specs.Containers.{BeginsNull}
 use Rattle.cbor4ii_items.specs.Laws.Answering.{fits_zero, complete_as}
 use Rattle.cbor4ii_items.specs.Laws.UnderStep.{no_step}

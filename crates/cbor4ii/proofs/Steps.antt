@@ -6,7 +6,8 @@ use Rattle.cbor4ii_rw.specs.Reader.{ReaderFails, Failed, StepsIn, KeepsAllButBud
 use Rattle.cbor4ii_rw.specs.declared.error.DecodeError.{DecodeError}
 use Rattle.cbor4ii.specs.Stepped.{Stepped, RejectsStepped, stepped_format}
 use Rattle.cbor4ii_items.specs.InputError.{InputError, input_error_of}
-use Rattle.cbor4ii_items.specs.Decoding.{CostFits, Sound, Complete, Rejects, Format, Decodes}
+use Rattle.cbor4ii_items.specs.Decoding.{Sound, Complete, Rejects, Format, Decodes}
+use Rattle.cbor4ii_items.specs.Budget.{CostFits}
 use Rattle.cbor4ii_items.specs.Decoding.{DecodesIf}
 use Rattle.cbor4ii_items.specs.Moves.{Moves}
 use Rattle.cbor4ii_items.specs.Laws.Answering.{if_some}

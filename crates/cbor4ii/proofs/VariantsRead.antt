@@ -3,7 +3,8 @@ use Rattle.std.proofs.Common.{◌≡◌, inl, inr, ℕ, ◌+◌, List, [], ◌�
 use Rattle.std.proofs.Common.{false, Some, refl, ap, ◌∙◌, subst}
 use Rattle.cbor4ii_rw.specs.View.{View}
 use Rattle.cbor4ii_rw.specs.Reader.{KeepsAllButBudget}
-use Rattle.cbor4ii_items.specs.Decoding.{Reads, CostFits, Sound}
+use Rattle.cbor4ii_items.specs.Decoding.{Reads, Sound}
+use Rattle.cbor4ii_items.specs.Budget.{CostFits}
 use Rattle.cbor4ii_items.specs.Moves.{Kept}
 use Rattle.cbor4ii_items.specs.Strings.{ReadsText, ReadsTextAs}
 use Rattle.cbor4ii_items.specs.Laws.Prefixes.{drop_more}

@@ -6,7 +6,8 @@ use Rattle.cbor4ii_rw.specs.declared.error.DecodeError.{DecodeError as CoreError
 use Rattle.cbor4ii_rw.specs.declared.error.DecodeError.TheVariants.{RequireBorrowed, OutOfMemory}
 use Rattle.cbor4ii_items.specs.declared.types.Bytes.{Bytes}
 use Rattle.cbor4ii_items.specs.Cow.{cow_text, cow_bytes}
-use Rattle.cbor4ii_items.specs.Decoding.{Reads, RejectsAt, CostFits}
+use Rattle.cbor4ii_items.specs.Decoding.{Reads, RejectsAt}
+use Rattle.cbor4ii_items.specs.Budget.{CostFits}
 use Rattle.cbor4ii_items.specs.Laws.Lent.{lent_lawful}
 use Rattle.cbor4ii_items.specs.Laws.Strings.{two_small, three_small}
 use Rattle.cbor4ii_items.specs.Lent.{lent_str, lent_bytes}

@@ -3,7 +3,8 @@ use Rattle.std.proofs.Common.{◌≡◌, ℕ, List, [], ap, Option}
 use Rattle.std.proofs.lemmas.Str.{encode_same}
 use Rattle.std.specs.Prelude.{◌++◌, drop, true, codes}
 use Rattle.std.specs.Char.{encode_utf8}
-use Rattle.cbor4ii_items.specs.Decoding.{Reads, CostFits}
+use Rattle.cbor4ii_items.specs.Decoding.{Reads}
+use Rattle.cbor4ii_items.specs.Budget.{CostFits}
 use Rattle.cbor4ii_items.specs.InputError.{InputError}
 use Rattle.cbor4ii_items.specs.Strings.{ReadsText, ReadsTextAs, RejectsText}
 use Rattle.cbor4ii_items.specs.Laws.Strings.{text_one, text_within, text_positive}

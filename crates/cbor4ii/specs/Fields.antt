@@ -4,7 +4,8 @@ use Rattle.std.proofs.Common.{Bool, true, false, Result, Ok, Err, sym, subst}
 use Rattle.cbor4ii_rw.specs.View.{View}
 use Rattle.std.specs.Prelude.{codes}
 use Rattle.cbor4ii_rw.specs.declared.error.DecodeError.{DecodeError}
-use Rattle.cbor4ii_items.specs.Decoding.{Reads, RejectsAt, CostFits, Format, Decodes, DecodesIf}
+use Rattle.cbor4ii_items.specs.Decoding.{Reads, RejectsAt, Format, Decodes, DecodesIf}
+use Rattle.cbor4ii_items.specs.Budget.{CostFits}
 use Rattle.cbor4ii.specs.Beginning.{RejectsParts}
 use Rattle.cbor4ii_items.specs.Sequences.{ReadsSequence, ReadsPair, SamePair, SameElements}
 use Rattle.cbor4ii_items.specs.Strings.{ReadsTextAs, RejectsText, text_content}

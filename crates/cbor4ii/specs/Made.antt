@@ -1,6 +1,7 @@
 -- Values that are made of other values, or rejected in words.
 use Rattle.std.proofs.Common.{◌≡◌, ◌⊎◌, ℕ, List, drop, Option, Result, Ok, Err, refl}
-use Rattle.cbor4ii_items.specs.Decoding.{Reads, RejectsAt, CostFits, Format, IsLawful}
+use Rattle.cbor4ii_items.specs.Decoding.{Reads, RejectsAt, Format, IsLawful}
+use Rattle.cbor4ii_items.specs.Budget.{CostFits}
 use Rattle.cbor4ii_items.specs.InputError.{InputError}
 use Rattle.cbor4ii.specs.Typed.{Promise, typed_format, in_words, not_exact}
 

@@ -2,7 +2,8 @@
 use Rattle.std.proofs.Common.{◌≡◌, ℕ, ◌+◌, ◌≤◌, ◌⊎◌, List, ◌++◌, length, take, drop, Option, sym}
 use Rattle.std.proofs.Common.{ap, ◌∙◌, subst, arith, max}
 use Rattle.std.proofs.lemmas.List.{length-drop}
-use Rattle.cbor4ii_items.specs.Decoding.{Reads, RejectsAt, CostFits}
+use Rattle.cbor4ii_items.specs.Decoding.{Reads, RejectsAt}
+use Rattle.cbor4ii_items.specs.Budget.{CostFits}
 use Rattle.cbor4ii_items.specs.InputError.{InputError}
 use Rattle.cbor4ii_items.specs.Laws.Prefixes.{two_prefixes, after_prefix}
 use Rattle.cbor4ii_items.specs.Laws.Sequences.{same_max}

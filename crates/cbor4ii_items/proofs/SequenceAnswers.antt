@@ -10,7 +10,8 @@ use Rattle.cbor4ii_rw.specs.declared.error.DecodeError.TheVariants.{DepthOverflo
 use denote.Ref.{Bor}
 use Rattle.cbor4ii_items.specs.InputError.{InputError, input_error_of}
 use Rattle.cbor4ii_items.specs.Moves.{Moves}
-use Rattle.cbor4ii_items.specs.Decoding.{RejectsAt, CostFits, Format, Decodes}
+use Rattle.cbor4ii_items.specs.Decoding.{RejectsAt, Format, Decodes}
+use Rattle.cbor4ii_items.specs.Budget.{CostFits}
 use Rattle.cbor4ii_items.specs.Sequences.{RejectsInside, RejectsSequence, no_step, under_step}
 use Rattle.cbor4ii_items.specs.Sequences.{inside_format, sequence_format}
 use Rattle.cbor4ii_items.specs.Laws.Answering.{if_some}

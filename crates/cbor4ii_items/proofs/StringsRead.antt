@@ -9,7 +9,7 @@ use Rattle.cbor4ii_rw.specs.declared.error.Len.TheVariants.{Indefinite}
 use Rattle.cbor4ii_items.specs.Head.{break, indefinite_head, IsBytes}
 use Rattle.cbor4ii_items.specs.InputError.{InputError, eof, require_length, depth_overflow, len_of}
 use Rattle.cbor4ii_items.specs.Reading.{Reading, give, reject, go_on, ◌>=>◌}
-use Rattle.cbor4ii_items.specs.Decoding.{CostFits}
+use Rattle.cbor4ii_items.specs.Budget.{CostFits}
 use Rattle.cbor4ii_items.specs.Laws.Outcome.{same_value, same_input_error}
 use Rattle.cbor4ii_items.specs.Heads.{ReadsHead, RejectsHead}
 use Rattle.cbor4ii_items.specs.Laws.Heads.{read_head}

@@ -4,6 +4,7 @@ use Rattle.std.specs.Prelude.{Option, Result, IfSome, IfOk, IfErr, OnOk, IsTrue,
 use Rattle.std.specs.Prelude.{take, ◌++◌, ◌+◌}
 use Rattle.cbor4ii_rw.specs.View.{View, IfKnown}
 use Rattle.cbor4ii_rw.specs.declared.error.DecodeError.{DecodeError}
+use Rattle.cbor4ii_items.specs.Budget.{CostFits}
 use Rattle.cbor4ii_items.specs.InputError.{InputError, input_error_of, is_out_of_memory}
 use Rattle.cbor4ii_items.specs.Moves.{Moves}
 
@@ -15,11 +16,6 @@ Reads V = List ℕ → V → ℕ → ℕ → Type 0
 -- what a type rejects: the bytes to come, the budget, the error, and the bytes that are left
 abbrev pub RejectsAt : Type 1
 RejectsAt = List ℕ → Option ℕ → InputError → List ℕ → Type 0
-
--- a cost fits a budget; every cost fits where there is none
-abbrev pub CostFits : ℕ → Option ℕ → Type 0
-CostFits cost None = Unit {0}
-CostFits cost (Some budget) = cost ≤ budget
 
 -- a reading of v that fits the budget begins the bytes xs, and exactly its bytes were taken
 pub record Accepted {V : Type 0} (reads : List ℕ → V → ℕ → ℕ → Type 0) (xs : List ℕ)

@@ -5,6 +5,7 @@ pub mod Head
 pub mod Heads
 pub mod Initial
 pub mod InputError
+pub mod Budget
 pub mod Moves
 pub mod Decoding
 pub mod Writing

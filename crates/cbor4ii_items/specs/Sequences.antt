@@ -7,7 +7,8 @@ use Rattle.std.specs.Prelude.{IsTrue, codes}
 use Rattle.std.specs.declared.alloc.Global.{Global}
 use Rattle.std.specs.declared.vec.Vec.{Vec}
 use Rattle.cbor4ii_rw.specs.declared.error.Len.TheVariants.{Small, Indefinite}
-use Rattle.cbor4ii_items.specs.Decoding.{Reads, RejectsAt, CostFits, Format, format_by}
+use Rattle.cbor4ii_items.specs.Decoding.{Reads, RejectsAt, Format, format_by}
+use Rattle.cbor4ii_items.specs.Budget.{CostFits}
 use Rattle.cbor4ii_items.specs.Head.{break, indefinite_head}
 use Rattle.cbor4ii_items.specs.Heads.{ReadsHead, RejectsHead}
 use Rattle.cbor4ii_items.specs.declared.types.Map.{Map}

@@ -10,7 +10,7 @@ use Rattle.cbor4ii_tree.specs.Item.{Item}
 use Rattle.cbor4ii_tree.specs.Cost.{Budget}
 use Rattle.cbor4ii_tree.specs.Encodings.{Encodes, DecodesTo, Skips}
 use Rattle.cbor4ii_tree.specs.CanonicalShape.{CanonicalTree, EncodesCanonically, DecodesCanonically}
-use Rattle.cbor4ii_items.specs.Decoding.{CostFits}
+use Rattle.cbor4ii_items.specs.Budget.{CostFits}
 use Rattle.cbor4ii_ser.specs.Item.{Encoding, encoded, followed, IfEncoded}
 use Rattle.cbor4ii_ser.specs.Counts.{container_head, container_end}
 

@@ -16,7 +16,7 @@ use Rattle.cbor4ii_tree.specs.Tree.{Tree, bytes}
 use Rattle.cbor4ii_tree.specs.Encodings.{Skips, DecodesTo}
 use Rattle.cbor4ii_tree.specs.Canonical.{canonical_encoding}
 use Rattle.cbor4ii_tree.specs.View.{view}
-use Rattle.cbor4ii_tree.specs.Promises.{AllReads, AllSkips}
+use Rattle.cbor4ii_tree.specs.Headline.{AllReads, AllSkips}
 use Rattle.cbor4ii_tree.specs.CanonicalShape.{DecodesCanonically}
 use Rattle.cbor4ii_tree.specs.Canonically.{RejectsCanonical, AllCanonical}
 use Rattle.cbor4ii_tree.specs.declared.decode_canonical.Canonical.{Canonical}

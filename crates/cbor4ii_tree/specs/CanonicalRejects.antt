@@ -5,7 +5,7 @@ use Rattle.std.specs.Prelude.{◌⊎◌}
 use Rattle.cbor4ii_items.specs.Head.{head, shortest}
 use Rattle.cbor4ii_items.specs.InputError.{not_canonical}
 use Rattle.cbor4ii_items.specs.Shortest.{canonical_name, RejectsShortest, RejectsShortestString}
-use Rattle.cbor4ii_items.specs.Decoding.{CostFits}
+use Rattle.cbor4ii_items.specs.Budget.{CostFits}
 use Rattle.cbor4ii_items.specs.Initial.{unsigned, negative, byte_string, text_string}
 use Rattle.cbor4ii_items.specs.Initial.{simple_undefined, precision_bytes, Initial, starts_simple}
 use Rattle.cbor4ii_items.specs.Initial.{starts_bits, other_simple, initial}

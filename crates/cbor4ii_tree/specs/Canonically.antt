@@ -2,7 +2,8 @@
 use Rattle.std.specs.Prelude.{◌≡◌, ◌≤◌, ℕ, List, ◌++◌, length, take, Some, Result, IfOk, ◌⊎◌}
 use Rattle.cbor4ii_rw.specs.View.{View, IfKnown}
 use Rattle.cbor4ii_rw.specs.declared.error.DecodeError.{DecodeError}
-use Rattle.cbor4ii_items.specs.Decoding.{CostFits, Reads as ReadsOf, RejectsAt, Format}
+use Rattle.cbor4ii_items.specs.Decoding.{Reads as ReadsOf, RejectsAt, Format}
+use Rattle.cbor4ii_items.specs.Budget.{CostFits}
 use Rattle.cbor4ii_items.specs.Decoding.{leaf_format, format_by, taking_memory}
 use Rattle.cbor4ii_items.specs.InputError.{InputError, not_canonical}
 use Rattle.cbor4ii_tree.specs.Item.{Item}
@@ -13,7 +14,7 @@ use Rattle.cbor4ii_tree.specs.Encodings.{IsProperPrefix}
 use Rattle.cbor4ii_tree.specs.CanonicalShape.{IsDecoded, EncodesCanonically, DecodesCanonically}
 use Rattle.cbor4ii_tree.specs.ReadingRejects.{ReadingRejects}
 use Rattle.cbor4ii_tree.specs.CanonicalRejects.{CanonicalRejects}
-use Rattle.cbor4ii_tree.specs.Promises.{Answered, Rejected}
+use Rattle.cbor4ii_tree.specs.Headline.{Answered, Rejected}
 use Rattle.cbor4ii_tree.specs.View.{view}
 use Rattle.cbor4ii_tree.specs.declared.decode_canonical.Canonical.{Canonical}
 

@@ -3,7 +3,7 @@ use Rattle.std.specs.Prelude.{◌≡◌, ◌≢◌, ℕ, List, [], ◌++◌, ◌
 use Rattle.cbor4ii_tree.specs.Tree.{Tree, bytes, Loose, Plain}
 use Rattle.cbor4ii_tree.specs.Item.{Item}
 use Rattle.cbor4ii_tree.specs.Meaning.{value}
-use Rattle.cbor4ii_items.specs.Decoding.{CostFits}
+use Rattle.cbor4ii_items.specs.Budget.{CostFits}
 use Rattle.cbor4ii_tree.specs.Cost.{cost, skip_cost, Budget}
 use Rattle.cbor4ii_tree.specs.InputError.{InputError}
 

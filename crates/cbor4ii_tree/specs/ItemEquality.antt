@@ -3,13 +3,15 @@
 use Rattle.std.specs.Prelude.{◌≡◌, ℕ, ◌==◌, List, [], ◌∷◌, Bool, true, false, ◌&&◌}
 use Rattle.std.proofs.Common.{refl, sym, subst, ap, ap₂, ◌∙◌}
 use Rattle.std.specs.Bool.{Decides, beq}
-use Rattle.std.specs.Ordering.{int_eq}
+use Rattle.std.specs.Ordering.{int_eq, on}
 use Rattle.std.specs.Cmp.{IsEquivalence, decided, first_so, second_so, unsigned_Decides}
 use Rattle.std.specs.Cmp.{signed_Decides, booleans_Decides}
 use Rattle.cbor4ii_items.specs.Initial.{Precision, half, single, double}
 use Rattle.cbor4ii_tree.specs.Item.{Item, null, boolean, integer, float, bytes_item, text, sequence}
 use Rattle.cbor4ii_tree.specs.Item.{mapping, tag, Items, no_items, item, Members, no_members}
 use Rattle.cbor4ii_tree.specs.Item.{member}
+use Rattle.cbor4ii_tree.specs.View.{view}
+use Rattle.cbor4ii_tree.specs.declared.value.Value.{Value}
 
 abbrev pub precision_eq : Precision → Precision → Bool
 precision_eq half half = true
@@ -146,3 +148,7 @@ item_eq-Decides v w = (item_same v w, λ e. subst (λ x. item_eq v x ≡ true) e
 
 pub item_eq-equivalence : IsEquivalence item_eq
 item_eq-equivalence = decided item_eq item_eq-Decides
+
+-- what `==` of values answers
+abbrev pub same_view : Value → Value → Bool
+same_view = on view item_eq

@@ -1,6 +1,6 @@
 -- Values that hold no other, where they stand whole in shown bytes.
 use Rattle.std.specs.Prelude.{◌≡◌, ◌≢◌, ℕ, suc, ◌+◌, ◌≤◌, ◌/◌, ◌%◌, ◌⊎◌, List, ◌∷◌, length}
-use Rattle.std.specs.Prelude.{take, Option, Some, None, Result, Ok, Err, IfSome}
+use Rattle.std.specs.Prelude.{take, Option, Some, None, Result, Ok, Err, IfSome, Bool, true}
 use Rattle.cbor4ii_rw.specs.View.{View, IfKnown}
 use Rattle.cbor4ii_rw.specs.declared.error.DecodeError.{DecodeError}
 use Rattle.cbor4ii_items.specs.Head.{ArgumentAfter, HeadFits, IsBytes, Width, byte_count, head}
@@ -16,6 +16,7 @@ use Rattle.cbor4ii_tree.specs.InputError.{value_name}
 use Rattle.cbor4ii_tree.specs.Rejections.{Stopping}
 use Rattle.cbor4ii_tree.specs.CanonicalShape.{CanonicalShape}
 use Rattle.cbor4ii_tree.specs.Tree.{Tree, bytes, Plain}
+use Rattle.cbor4ii_tree.specs.Valuing.{ReadsUnder, RejectsUnder}
 use Rattle.cbor4ii_tree.specs.View.{view}
 use Rattle.cbor4ii_tree.specs.declared.value.Value.{Value}
 use Rattle.cbor4ii_tree.specs.declared.leaf.Leaf.{Leaf}
@@ -109,6 +110,12 @@ pub record CanTake (n : Next) (view : View) : Type 0 where
   pub first : 1 ≤ view.advanceable
   pub head : IfSome n.head (λ h. (1 ≤ h.size) × (h.size ≤ view.advanceable))
 
+-- as DoesUnder, of a call together with the look before it, which has shown this byte
+abbrev pub DoesAfterFirst : {V E : Type 0} → ℕ → (Budget → Accepting V) → (Budget → Stopping)
+    → View → View → Result V (DecodeError E) → Type 0
+DoesAfterFirst {E = E} first accepts rejects old new answer =
+    (before : View) → ShowsFirst E first before old → DoesUnder accepts rejects before new answer
+
 -- as DoesUnder, of a call together with the look before it, which has shown the value that comes
 -- next
 abbrev pub DoesAfterNext : {V E : Type 0} → Type 0 → Next → (Budget → Accepting V)
@@ -127,11 +134,11 @@ ItemTaken (Taken v) = IsItem (view v)
 ItemTaken (looked.Begins n) = Unit {0}
 
 -- a value was taken, or none and a look has shown it; or there is an error
-abbrev pub TakesLeaf : {E : Type 0} → Type 0 → (Budget → Accepting Value) → (Budget → Stopping)
-    → View → View → Option Looked → Option (DecodeError E) → Type 0
-TakesLeaf exact reads rejects old new None failure =
-    DoesUnder {V = Value} reads rejects old new (Err (error_left failure))
-TakesLeaf {E = E} exact reads rejects old new (Some (looked.Begins n)) failure =
-    ShowsNext E exact n old new
-TakesLeaf {E = E} exact reads rejects old new (Some (Taken v)) failure =
-    DoesUnder {E = E} reads rejects old new (Ok v)
+abbrev pub TakesLeaf : {E : Type 0} → Bool → View → View → Option Looked → Option (DecodeError E)
+    → Type 0
+TakesLeaf exact old new None failure =
+    DoesUnder (ReadsUnder exact) (RejectsUnder exact) old new (Err (error_left failure))
+TakesLeaf {E = E} exact old new (Some (looked.Begins n)) failure =
+    ShowsNext E (exact ≡ true) n old new
+TakesLeaf {E = E} exact old new (Some (Taken v)) failure =
+    DoesUnder {E = E} (ReadsUnder exact) (RejectsUnder exact) old new (Ok v)

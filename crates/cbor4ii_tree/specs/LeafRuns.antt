@@ -11,11 +11,10 @@ use Rattle.cbor4ii_tree.specs.Leaf.{CanTake, SeesNext, ShowsNext, WantsContent}
 use Rattle.cbor4ii_tree.specs.Meaning.{values}
 use Rattle.cbor4ii_tree.specs.InputError.{value_name}
 use Rattle.cbor4ii_tree.specs.InputError.{eof, Small}
-use Rattle.cbor4ii_tree.specs.Rejections.{Stopping, Is, Each, RejectsInCount}
-use Rattle.cbor4ii_tree.specs.ReadingRejects.{Readable}
-use Rattle.cbor4ii_tree.specs.CanonicalRejects.{FitsCanonically}
+use Rattle.cbor4ii_tree.specs.Rejections.{Stopping, Is, Each}
 use Rattle.cbor4ii_tree.specs.CanonicalShape.{CanonicalShape}
 use Rattle.cbor4ii_tree.specs.Tree.{Tree, Trees, Plain, count, bytes_all}
+use Rattle.cbor4ii_tree.specs.Valuing.{ReadsItems, RejectsItems}
 use Rattle.cbor4ii_tree.specs.View.{items_view}
 use Rattle.cbor4ii_tree.specs.declared.value.Value.{Value}
 use Rattle.cbor4ii_tree.specs.declared.leaf.Next.{Next}
@@ -97,22 +96,17 @@ PutsRun exact full before after run.End shown = length shown ≡ 0
 
 -- ---- taken
 
--- so many values, of which each encoding is such a tree
-abbrev pub ReadsEach : (Tree → Type 0) → ℕ → List ℕ → List Value → List ℕ → Type 0
-ReadsEach Whole n xs vs ys = (ts : Trees) × (count ts ≡ n) × Each Whole ts ×
-    (values ts ≡ items_view vs) × (xs ≡ bytes_all ts ++ ys)
-
 -- values were taken, and put after the others
-abbrev pub PutsItems : (Budget → Tree → Type 0) → List Value → List Value → Budget → List ℕ
-    → Unit {0} → List ℕ → Type 0
-PutsItems Whole before after budget xs _ ys =
-    (vs : List Value) × (after ≡ before ++ vs) × ReadsEach (Whole budget) (length vs) xs vs ys
+abbrev pub PutsItems : Bool → List Value → List Value → Budget → List ℕ → Unit {0} → List ℕ
+    → Type 0
+PutsItems exact before after budget xs _ ys =
+    (vs : List Value) × (after ≡ before ++ vs) × ReadsItems exact (length vs) budget xs vs ys
 
 -- the same under a step that leaves this budget
-abbrev pub PutsItemsUnder : (Budget → Tree → Type 0) → List Value → List Value → Budget → List ℕ
-    → Unit {0} → List ℕ → Type 0
-PutsItemsUnder Whole before after inner xs u ys = (budget : Budget) → step_in budget ≡ Some inner
-    → PutsItems Whole before after budget xs u ys
+abbrev pub PutsItemsUnder : Bool → List Value → List Value → Budget → List ℕ → Unit {0} → List ℕ
+    → Type 0
+PutsItemsUnder exact before after inner xs u ys = (budget : Budget) → step_in budget ≡ Some inner
+    → PutsItems exact before after budget xs u ys
 
 -- the items stay in range
 abbrev pub KeepsItems : List Value → List Value → Type 0
@@ -122,35 +116,28 @@ KeepsItems before after = AreItems (items_view before) → AreItems (items_view 
 abbrev pub RejectsWhereNone : Stopping
 RejectsWhereNone xs e rest = (xs ≡ []) × Is (eof value_name (Small 1)) [] e rest
 
--- so many values in all
-abbrev pub ReadsElements : (Budget → Tree → Type 0) → ℕ → List Value → Budget → List ℕ → Unit {0}
-    → List ℕ → Type 0
-ReadsElements Whole full vs budget xs _ ys = ReadsEach (Whole budget) full xs vs ys
-
 -- after fewer than so many values one is rejected, where the step that leaves this budget was taken
-abbrev pub RejectsItemsUnder : (Budget → Tree → Type 0) → (Budget → Stopping) → ℕ → Budget →
-    Stopping
-RejectsItemsUnder Whole rejects room inner xs e rest =
-    (budget : Budget) → step_in budget ≡ Some inner
-    → RejectsInCount (Whole budget) (rejects budget) room xs e rest
+abbrev pub RejectsItemsUnder : Bool → ℕ → Budget → Stopping
+RejectsItemsUnder exact room inner xs e rest =
+    (budget : Budget) → step_in budget ≡ Some inner → RejectsItems exact room budget xs e rest
 
 -- values were taken by a run, and after them a look has shown a value
-pub record RunsBefore (E exact : Type 0) (Whole : Budget → Tree → Type 0) (n : Next)
-    (before after : List Value) (old new : View) : Type 0 where
+pub record RunsBefore (E : Type 0) (exact : Bool) (n : Next) (before after : List Value)
+    (old new : View) : Type 0 where
   pub mid : View
-  pub puts : Does {V = Unit {0}} {E = E} (PutsItemsUnder Whole before after old.budget)
+  pub puts : Does {V = Unit {0}} {E = E} (PutsItemsUnder exact before after old.budget)
       RejectsWhereNone old mid (Ok tt)
-  pub shows : ShowsNext E exact n mid new
+  pub shows : ShowsNext E (exact ≡ true) n mid new
 
 -- values were taken by a run, or it was rejected
-abbrev pub TakesBy : {E : Type 0} → Type 0 → (Budget → Tree → Type 0) → List Value → List Value
-    → View → View → Option (Option Next) → Option (DecodeError E) → Type 0
-TakesBy {E = E} exact Whole before after old new (Some (Some n)) failure =
-    RunsBefore E exact Whole n before after old new
-TakesBy {E = E} exact Whole before after old new (Some None) failure =
-    Does {E = E} (PutsItemsUnder Whole before after old.budget) RejectsWhereNone old new (Ok tt)
-TakesBy exact Whole before after old new None failure =
-    Does {V = Unit {0}} (PutsItemsUnder Whole before after old.budget) RejectsWhereNone old new
+abbrev pub TakesBy : {E : Type 0} → Bool → List Value → List Value → View → View
+    → Option (Option Next) → Option (DecodeError E) → Type 0
+TakesBy {E = E} exact before after old new (Some (Some n)) failure =
+    RunsBefore E exact n before after old new
+TakesBy {E = E} exact before after old new (Some None) failure =
+    Does {E = E} (PutsItemsUnder exact before after old.budget) RejectsWhereNone old new (Ok tt)
+TakesBy exact before after old new None failure =
+    Does {V = Unit {0}} (PutsItemsUnder exact before after old.budget) RejectsWhereNone old new
     (Err (error_left failure))
 
 -- What a run takes of values, of which so many are to be there at most: the values before and after
@@ -158,9 +145,7 @@ TakesBy exact Whole before after old new None failure =
 pub record TakesRun {E : Type 0} (exact : Bool) (full : ℕ) (before after : List Value)
     (old new : View) (result : Option (Option Next)) (failure : Option (DecodeError E)) : Type 0
   where
-    pub puts : TakesBy ⊥ Readable before after old new result failure
-    pub exactly : exact ≡ true → TakesBy (Unit {0}) FitsCanonically before after old new
-        result failure
+    pub puts : TakesBy exact before after old new result failure
     pub items : OnSome result (KeepsItems before after)
     pub few : OnSome result (length after ≤ full)
     pub lacks : IfSome result (λ found. OnSome found (length after < full))

@@ -14,6 +14,7 @@ pub mod SkippingRejects
 pub mod ReadingRejects
 pub mod CanonicalRejects
 pub mod View
+pub mod Headline
 pub mod ItemEquality
 pub mod Access
 pub mod Encoding

@@ -1,19 +1,18 @@
--- What decoding calls promise of the bytes that the reader reports.
-use Rattle.std.specs.Prelude.{◌≡◌, ◌≤◌, ◌+◌, ℕ, List, [], ◌++◌, length, take}
-use Rattle.std.specs.Prelude.{Some, Result, Ok, Err, IfOk, IfSome}
+-- What reading a value and skipping an item promise beside the headline, of the bytes that the
+-- reader reports.
+use Rattle.std.specs.Prelude.{◌≡◌, ◌≤◌, ◌+◌, ℕ, List, [], ◌++◌, length, take, Some, Result, IfOk}
 use Rattle.cbor4ii_rw.specs.View.{View, IfKnown}
 use Rattle.cbor4ii_rw.specs.declared.error.DecodeError.{DecodeError}
-use Rattle.cbor4ii_items.specs.Decoding.{CostFits, Format, leaf_format, format_by}
-use Rattle.cbor4ii_items.specs.Decoding.{taking_memory}
-use Rattle.cbor4ii_tree.specs.Tree.{Tree, bytes, Loose, Joins}
+use Rattle.cbor4ii_items.specs.Budget.{CostFits}
+use Rattle.cbor4ii_items.specs.Decoding.{Format, leaf_format, format_by, taking_memory}
+use Rattle.cbor4ii_tree.specs.Tree.{Tree, bytes, Loose}
 use Rattle.cbor4ii_tree.specs.Item.{Item, size}
 use Rattle.cbor4ii_tree.specs.Cost.{Budget, skip_cost}
-use Rattle.cbor4ii_tree.specs.Canonical.{canonical_encoding, canonical_cost, with_bignums}
 use Rattle.cbor4ii_tree.specs.InputError.{InputError, IsEof, IsDepthOverflow, IsFinal, MayReject}
-use Rattle.cbor4ii_items.specs.InputError.{input_error_of}
 use Rattle.cbor4ii_tree.specs.Encodings.{Encodes, DecodesTo, Skips, IsProperPrefix}
 use Rattle.cbor4ii_tree.specs.SkippingRejects.{SkippingRejects}
 use Rattle.cbor4ii_tree.specs.ReadingRejects.{ReadingRejects}
+use Rattle.cbor4ii_tree.specs.Headline.{Answered, Rejected}
 use Rattle.cbor4ii_tree.specs.View.{view}
 use Rattle.cbor4ii_tree.specs.declared.value.Value.{Value}
 
@@ -25,16 +24,6 @@ pub record ReadsValue (xs : List ℕ) (v : Item) (n c : ℕ) : Type 0 where
 abbrev pub value_format : Format Value
 value_format = format_by view (taking_memory (leaf_format ReadsValue ReadingRejects))
 
--- what an answer says of the bytes: a failure of the reader and a want of memory say nothing
-abbrev pub Answered : {V E : Type 0} → (V → Type 0) → (InputError → Type 0) →
-    Result V (DecodeError E) → Type 0
-Answered accepts errs (Ok v) = accepts v
-Answered accepts errs (Err e) = IfSome (input_error_of e) errs
-
--- what an error says of the bytes
-abbrev pub Rejected : {V E : Type 0} → (InputError → Type 0) → Result V (DecodeError E) → Type 0
-Rejected errs answer = Answered (λ _. Unit {0}) errs answer
-
 -- no other error comes
 abbrev pub Others : {V E : Type 0} → View → Result V (DecodeError E) → Type 0
 Others old answer = IfKnown old.known (λ xs. Rejected MayReject answer)
@@ -45,11 +34,6 @@ Others old answer = IfKnown old.known (λ xs. Rejected MayReject answer)
 abbrev pub OnlySkips : {V E : Type 0} → View → View → Result V (DecodeError E) → Type 0
 OnlySkips old new answer = IfKnown old.known (λ xs. IfOk answer (λ _.
     (t : Tree) × (rest : List ℕ) × (new.known ≡ Some rest) × Skips xs old.budget t rest))
-
--- what fits and begins the bytes is accepted, and its bytes are taken
-abbrev pub AllSkips : {V E : Type 0} → View → View → Result V (DecodeError E) → Type 0
-AllSkips old new answer = IfKnown old.known (λ xs. (t : Tree) (rest : List ℕ) →
-    Skips xs old.budget t rest → Answered (λ _. new.known ≡ Some rest) (λ _. ⊥) answer)
 
 -- a proper prefix of what fits is an end of the input
 abbrev pub PrefixSkips : {V E : Type 0} → View → Result V (DecodeError E) → Type 0
@@ -82,29 +66,6 @@ ExactSkips old new answer = IfKnown old.known (λ xs. (e : InputError) (rest : L
 
 -- ---- a value is read
 
--- what is accepted is a value of which an encoding that fits begins the bytes, and that is taken
-abbrev pub OnlyReads : {E : Type 0} → View → View → Result Value (DecodeError E) → Type 0
-OnlyReads old new answer = IfKnown old.known (λ xs. IfOk answer (λ v.
-    (rest : List ℕ) × (new.known ≡ Some rest) × DecodesTo xs old.budget (view v) rest))
-
--- a value of which an encoding that fits begins the bytes is accepted, and that encoding is taken
-abbrev pub AllReads : {E : Type 0} → View → View → Result Value (DecodeError E) → Type 0
-AllReads old new answer = IfKnown old.known (λ xs. (v : Item) (rest : List ℕ) →
-    DecodesTo xs old.budget v rest →
-    Answered (λ w. (view w ≡ v) × (new.known ≡ Some rest)) (λ _. ⊥) answer)
-
--- a proper prefix of an encoding that fits is an end of the input
-abbrev pub PrefixReads : {E : Type 0} → View → Result Value (DecodeError E) → Type 0
-PrefixReads old answer = IfKnown old.known (λ xs. (encoding : List ℕ) (v : Item) (steps : ℕ) →
-    Encodes encoding v steps → CostFits steps old.budget → IsProperPrefix xs encoding →
-    Answered (λ _. ⊥) IsEof answer)
-
--- an end of the input leaves nothing, and comes only on a proper prefix of an item whose strings
--- join chunks of their kind
-abbrev pub EofReads : {V E : Type 0} → View → View → Result V (DecodeError E) → Type 0
-EofReads old new answer = IfKnown old.known (λ xs. Rejected (λ e. IsEof e →
-    (new.known ≡ Some []) × ((t : Tree) × Loose t × Joins t × IsProperPrefix xs (bytes t))) answer)
-
 -- where no step is left, no continuation fits
 abbrev pub DepthReads : {E : Type 0} → View → Result Value (DecodeError E) → Type 0
 DepthReads old answer = IfKnown old.known (λ xs. Rejected (λ e. IsDepthOverflow e →
@@ -127,20 +88,3 @@ ExactReads old new answer = IfKnown old.known (λ xs. (e : InputError) (rest : L
 abbrev pub SizeReads : {E : Type 0} → View → View → Result Value (DecodeError E) → Type 0
 SizeReads old new answer = IfKnown old.known (λ xs. IfOk answer (λ v.
     (rest : List ℕ) × (new.known ≡ Some rest) × (size (view v) + length rest ≤ length xs)))
-
--- skipping takes the same bytes
-abbrev pub SkipsReads : {E : Type 0} → View → View → Result Value (DecodeError E) → Type 0
-SkipsReads old new answer = IfKnown old.known (λ xs. IfOk answer (λ v.
-    (t : Tree) × (rest : List ℕ) × (new.known ≡ Some rest) × Skips xs old.budget t rest))
-
--- The canonical encoding encodes the value itself, costs no more than any other, and under the same
--- budget is read as it.
-pub record IsCanonical (budget : Budget) (v : Item) : Type 0 where
-  pub same : with_bignums v ≡ v
-  pub encodes : Encodes (canonical_encoding v) v (canonical_cost v)
-  pub least : (encoding : List ℕ) (steps : ℕ) → Encodes encoding v steps → canonical_cost v ≤ steps
-  pub reads : (more : List ℕ) → DecodesTo (canonical_encoding v ++ more) budget v more
-
-abbrev pub CanonicalReads : {E : Type 0} → View → Result Value (DecodeError E) → Type 0
-CanonicalReads old answer =
-    IfKnown old.known (λ xs. IfOk answer (λ v. IsCanonical old.budget (view v)))

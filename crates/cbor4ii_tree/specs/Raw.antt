@@ -20,7 +20,7 @@ use Rattle.cbor4ii_tree.specs.InputError.{InputError, require_borrowed}
 use Rattle.cbor4ii_tree.specs.Encodings.{Skips}
 use Rattle.cbor4ii_tree.specs.SkippingRejects.{SkippingRejects}
 use Rattle.cbor4ii_tree.specs.Ignored.{ReadsTree}
-use Rattle.cbor4ii_tree.specs.Promises.{Answered, Rejected}
+use Rattle.cbor4ii_tree.specs.Headline.{Answered, Rejected}
 
 -- the name in errors
 abbrev pub raw_value : List ℕ

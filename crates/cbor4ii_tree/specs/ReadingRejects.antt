@@ -9,7 +9,7 @@ use Rattle.cbor4ii_items.specs.Initial.{starts_map, starts_indefinite_map, bad_m
 use Rattle.cbor4ii_items.specs.Initial.{bad_tag}
 use Rattle.cbor4ii_items.specs.Initial.{starts_simple, starts_bits, other_simple, initial}
 use Rattle.cbor4ii_tree.specs.Tree.{Tree, Trees, bytes_all, Plain, Loose, IsChunk, joined_chunks}
-use Rattle.cbor4ii_items.specs.Decoding.{CostFits}
+use Rattle.cbor4ii_items.specs.Budget.{CostFits}
 use Rattle.cbor4ii_tree.specs.Cost.{Budget, step_in, cost}
 use Rattle.cbor4ii_tree.specs.InputError.{InputError, eof, mismatch, unsupported, require_length}
 use Rattle.cbor4ii_tree.specs.InputError.{require_utf8, Indefinite, Small, sign_name, kind_name}

@@ -8,7 +8,7 @@ use Rattle.cbor4ii_items.specs.Initial.{starts_indefinite_map}
 use Rattle.cbor4ii_items.specs.Initial.{bad_map, starts_tag, bad_tag, starts_simple, starts_bits}
 use Rattle.cbor4ii_items.specs.Initial.{other_simple, initial}
 use Rattle.cbor4ii_tree.specs.Tree.{Tree, Loose}
-use Rattle.cbor4ii_items.specs.Decoding.{CostFits}
+use Rattle.cbor4ii_items.specs.Budget.{CostFits}
 use Rattle.cbor4ii_tree.specs.Cost.{Budget, step_in, skip_cost}
 use Rattle.cbor4ii_tree.specs.InputError.{InputError, eof, mismatch, unsupported, Small, tag_name}
 use Rattle.cbor4ii_tree.specs.InputError.{ignored_any}

@@ -1,11 +1,9 @@
 -- What a `Value` of the program stands for.
-use Rattle.std.specs.Prelude.{List, [], ◌∷◌, Bool, map, string_bytes}
-use Rattle.std.specs.Ordering.{on}
+use Rattle.std.specs.Prelude.{List, [], ◌∷◌, map, string_bytes}
 use Rattle.cbor4ii_items.specs.Initial.{half, single, double}
 use Rattle.cbor4ii_tree.specs.Item.{Item, null, boolean, integer, float, bytes_item, text, sequence}
 use Rattle.cbor4ii_tree.specs.Item.{mapping, tag, Items, no_items, item, Members, no_members}
 use Rattle.cbor4ii_tree.specs.Item.{member}
-use Rattle.cbor4ii_tree.specs.ItemEquality.{item_eq}
 use Rattle.cbor4ii_tree.specs.declared.value.FloatBits.{FloatBits}
 use Rattle.cbor4ii_tree.specs.declared.value.FloatBits.TheVariants.{F16, F32, F64}
 use Rattle.cbor4ii_tree.specs.declared.value.Value.{Value, fold-Value}
@@ -47,7 +45,3 @@ pair_view m = (view m.0, view m.1)
 
 abbrev pub members_view : List (Value × Value) → Members
 members_view ms = members_of (map pair_view ms)
-
--- what `==` answers
-abbrev pub same_view : Value → Value → Bool
-same_view = on view item_eq

@@ -1,42 +1,41 @@
-//! Values, read.
+//! Values, read, from any encoding or from the canonical one alone.
 //!
 //! Each level of arrays, maps and tags takes one small frame of the stack: their loops and
 //! `read_tagged` stay out of line, and what leads from one of them to another is inline. What a
 //! loop answers is made a value where it comes back, so that each level has one place for it.
-ghost use Rattle.std.specs.Prelude.{◌≡◌, ◌+◌, ◌-◌, ◌*◌, ◌<◌, ◌≤◌, ◌/◌, ◌⊎◌, OnOk, IfOk, IfErr};
-ghost use Rattle.std.specs.Prelude.{IsTrue, true, false, length};
+ghost use Rattle.std.specs.Prelude.{◌≡◌, ◌+◌, ◌-◌, ◌*◌, ◌<◌, ◌≤◌, ◌/◌, ◌⊎◌, IfOk};
+ghost use Rattle.std.specs.Prelude.{true, false, length};
 ghost use Rattle.std.specs.Prelude.{OnSome, IfSome};
 ghost use Rattle.cbor4ii_tree.specs.Does.{DoesUnder, answered};
 ghost use Rattle.cbor4ii_tree.specs.Valuing.{ReadsOneValue, RejectsOneValue, ReadsUnder};
 ghost use Rattle.cbor4ii_tree.specs.Valuing.{RejectsUnder};
-ghost use Rattle.cbor4ii_tree.specs.Valuing.{ReadsStepped, RejectsOf, RejectsMajor, RejectsFirst};
+ghost use Rattle.cbor4ii_tree.specs.Valuing.{ReadsStepped, RejectsOf, RejectsMajor};
 ghost use Rattle.cbor4ii_tree.specs.Valuing.{ReadsVec, ReadsArrayInside, ReadsItems, RejectsItems};
 ghost use Rattle.cbor4ii_tree.specs.Valuing.{ReadsIndefiniteItems, RejectsIndefiniteItems};
 ghost use Rattle.cbor4ii_tree.specs.Valuing.{ReadsMapInside};
 ghost use Rattle.cbor4ii_tree.specs.Valuing.{ReadsMembers, RejectsMembers, ReadsIndefiniteMembers};
 ghost use Rattle.cbor4ii_tree.specs.Valuing.{RejectsIndefiniteMembers, ReadsMember, RejectsMember};
-ghost use Rattle.cbor4ii_tree.specs.Valuing.{ReadsTagged, TakesLength, TakesSimple, TakesTag};
+ghost use Rattle.cbor4ii_tree.specs.Valuing.{ReadsTagged, TakesLength, TakesTag};
 ghost use Rattle.cbor4ii_tree.specs.Valuing.{MakesArray, MakesMap};
-ghost use Rattle.cbor4ii_tree.specs.Leaf.{CanTake, DoesAfterNext};
+ghost use Rattle.cbor4ii_tree.specs.Leaf.{CanTake, DoesAfterFirst, DoesAfterNext};
 ghost use Rattle.cbor4ii_tree.specs.LeafRuns.{flat, KeepsItems, PutsItems, PutsItemsUnder};
 ghost use Rattle.cbor4ii_tree.specs.LeafRuns.{RejectsItemsUnder};
-ghost use Rattle.cbor4ii_tree.specs.ReadingRejects.{Readable};
-ghost use Rattle.cbor4ii_items.specs.InputError.{is_out_of_memory};
-ghost use Rattle.cbor4ii_tree.specs.InputError.{tag_name, array_name, map_name};
 ghost use Rattle.cbor4ii_tree.specs.Item.{IsItem, AreItems, AreMembers};
 ghost use Rattle.cbor4ii_tree.specs.View.{view, items_view, members_view};
-ghost use Rattle.cbor4ii_tree.specs.Promises.{value_format, OnlyReads, AllReads, PrefixReads};
-ghost use Rattle.cbor4ii_tree.specs.Promises.{EofReads, DepthReads, FinalReads, Others, SizeReads};
-ghost use Rattle.cbor4ii_tree.specs.Promises.{ExactReads, SkipsReads, CanonicalReads};
+ghost use Rattle.cbor4ii_tree.specs.Promises.{value_format};
+ghost use Rattle.cbor4ii_tree.specs.Headline.{OnlyReads, AllReads, PrefixReads};
+ghost use Rattle.cbor4ii_tree.specs.Promises.{DepthReads, FinalReads, Others, SizeReads};
+ghost use Rattle.cbor4ii_tree.specs.Headline.{EofReads};
+ghost use Rattle.cbor4ii_tree.specs.Promises.{ExactReads};
+ghost use Rattle.cbor4ii_tree.specs.Headline.{SkipsReads, CanonicalReads};
 ghost use Rattle.cbor4ii_items.specs.Decoding.{Decodes};
-ghost use Rattle.cbor4ii_items.specs.Numbers.{argument_format};
-ghost use Rattle.cbor4ii_items.specs.Lengths.{length_format};
 ghost use Rattle.cbor4ii_tree.specs.Laws.Values.{value_lawful};
 
+use crate::accepted::Encodings;
 use crate::leaf::{Looked, Next, take_leaf};
 use crate::run::{Pairs, Parts, put_value, take_run};
 use crate::simple::{read_float, simple_of};
-use crate::slot::{keep, leave_deep, part, whole};
+use crate::slot::{keep, leave_deep, leave_not_canonical, part, whole};
 use crate::value::Value;
 use cbor4ii_items::decode::{Decodable, Decode};
 use cbor4ii_items::indefinite::is_break;
@@ -46,12 +45,6 @@ use cbor4ii_items::types::{Array, Bytes, Map, Negative, Tag};
 use cbor4ii_rw::error::DecodeError;
 use cbor4ii_rw::read::Source;
 use std::alloc::Global;
-
-/// The first byte of an array of indefinite length, which is its head.
-const INDEFINITE_ARRAY: u8 = 0x9f;
-
-/// The first byte of a map of indefinite length, which is its head.
-const INDEFINITE_MAP: u8 = 0xbf;
 
 impl Decodable for Value {
     ghost format = { value_format };
@@ -116,21 +109,95 @@ impl<S: Source> Decode<S> for Value {
         ensures canonical { CanonicalReads (S.view reader.old) result }
     {
         let mut failure = None;
-        let value = read_outermost(alloc, reader, &mut failure);
+        let value = read_outermost::<S, AnyEncoding>(alloc, reader, &mut failure);
         whole(value, &mut failure)
     }
+}
+
+/// Each encoding is read.
+struct AnyEncoding;
+
+impl Encodings for AnyEncoding {
+    ghost exact = { false };
+
+    #[inline(always)]
+    fn accepts_head(_argument: u64, _size: usize) -> bool {
+        true
+    }
+
+    #[inline(always)]
+    fn accepts_simple(_first: u8) -> bool {
+        true
+    }
+
+    #[inline(always)]
+    fn take_length<S: Source>(
+        reader: &mut S,
+        major: u8,
+        first: u8,
+        failure: &mut Option<DecodeError<S::Error>>,
+    ) -> Option<Option<usize>> {
+        if first == major * 32 + 31 {
+            reader.advance(1);
+            return Some(None);
+        }
+        length(reader, major, failure)
+    }
+
+    #[inline(never)]
+    fn take_tag<S: Source>(
+        reader: &mut S,
+        failure: &mut Option<DecodeError<S::Error>>,
+    ) -> Option<u64> {
+        part(Tag::tag(reader), failure)
+    }
+
+    #[inline(always)]
+    fn read_leaf<S: Source>(
+        alloc: Global,
+        reader: &mut S,
+        first: u8,
+    ) -> Result<Value, DecodeError<S::Error>> {
+        match first / 32 {
+            major::UNSIGNED => Ok(Value::Integer(u64::decode(alloc, reader)? as i128)),
+            major::NEGATIVE => {
+                let number = Negative::<u64>::decode(alloc, reader)?;
+                Ok(Value::Integer(-1 - number.0 as i128))
+            }
+            major::BYTES => Ok(Value::Bytes(Bytes::<Vec<u8>>::decode(alloc, reader)?.0)),
+            _ => Ok(Value::Text(String::decode(alloc, reader)?)),
+        }
+    }
+}
+
+/// How many parts the head of an array or a map says. It stays out of line, as `read_alone`.
+#[inline(never)]
+fn length<S: Source>(
+    reader: &mut S,
+    major: u8,
+    failure: &mut Option<DecodeError<S::Error>>,
+) -> Option<Option<usize>>
+    requires { (major ≡ 4) ⊎ (major ≡ 5) }
+    ensures does { DoesUnder (TakesLength false major) (RejectsMajor false major)
+        (S.view reader.old) (S.view reader.new) (answered result failure.new) }
+    ensures progress { OnSome result ((S.view reader.new).bound + 1 ≤ (S.view reader.old).bound) }
+{
+    if major == major::ARRAY {
+        return part(Array::len(reader), failure);
+    }
+    part(Map::len(reader), failure)
 }
 
 /// Reads one value that stands in no other. What is under its step is a function apart, so that of
 /// several callers each takes the step and the answer in its own frame, and a lone one takes all.
 #[inline(always)]
-fn read_outermost<S: Source>(
+pub(crate) fn read_outermost<S: Source, A: Encodings>(
     alloc: Global,
     reader: &mut S,
     failure: &mut Option<DecodeError<S::Error>>,
 ) -> Option<Value>
-    ensures does { DoesUnder ReadsOneValue RejectsOneValue (S.view reader.old) (S.view reader.new)
-        (answered result failure.new) }
+    ensures does { DoesUnder (ReadsOneValue A.exact) (RejectsOneValue A.exact)
+        (S.view reader.old) (S.view reader.new) (answered result failure.new) }
     ensures item { IfSome result (λ v. IsItem (view v)) }
     ensures progress { OnSome result ((S.view reader.new).bound + 1 ≤ (S.view reader.old).bound) }
 {
@@ -138,36 +205,36 @@ fn read_outermost<S: Source>(
         leave_deep("value", failure);
         return None;
     }
-    let outcome = read_apart(alloc, reader, failure);
+    let outcome = read_apart::<S, A>(alloc, reader, failure);
     reader.step_out();
     outcome
 }
 
 /// Reads one value under a step that was taken.
-fn read_apart<S: Source>(
+fn read_apart<S: Source, A: Encodings>(
     alloc: Global,
     reader: &mut S,
     failure: &mut Option<DecodeError<S::Error>>,
 ) -> Option<Value>
-    ensures does { DoesUnder ReadsUnder RejectsUnder (S.view reader.old) (S.view reader.new)
-        (answered result failure.new) }
+    ensures does { DoesUnder (ReadsUnder A.exact) (RejectsUnder A.exact)
+        (S.view reader.old) (S.view reader.new) (answered result failure.new) }
     ensures item { IfSome result (λ v. IsItem (view v)) }
     ensures progress { OnSome result ((S.view reader.new).bound + 1 ≤ (S.view reader.old).bound) }
 {
-    read_inside(alloc, reader, failure)
+    read_inside::<S, A>(alloc, reader, failure)
 }
 
 /// Reads one value. Where it does not, the error goes to `failure`, which is left empty where
 /// memory was refused: no large answer is handed up from level to level.
 #[cycle(read)]
 #[inline(always)]
-fn read_value<S: Source>(
+fn read_value<S: Source, A: Encodings>(
     alloc: Global,
     reader: &mut S,
     failure: &mut Option<DecodeError<S::Error>>,
 ) -> Option<Value>
-    ensures does { DoesUnder ReadsOneValue RejectsOneValue (S.view reader.old) (S.view reader.new)
-        (answered result failure.new) }
+    ensures does { DoesUnder (ReadsOneValue A.exact) (RejectsOneValue A.exact)
+        (S.view reader.old) (S.view reader.new) (answered result failure.new) }
     ensures item { IfSome result (λ v. IsItem (view v)) }
     ensures progress { OnSome result ((S.view reader.new).bound + 1 ≤ (S.view reader.old).bound) }
 {
@@ -175,7 +242,7 @@ fn read_value<S: Source>(
         leave_deep("value", failure);
         return None;
     }
-    let outcome = read_inside(alloc, reader, failure);
+    let outcome = read_inside::<S, A>(alloc, reader, failure);
     reader.step_out();
     outcome
 }
@@ -183,49 +250,49 @@ fn read_value<S: Source>(
 /// Reads one value whose step was taken. One that holds no other is mostly decided in one look.
 #[cycle(read)]
 #[inline(always)]
-fn read_inside<S: Source>(
+fn read_inside<S: Source, A: Encodings>(
     alloc: Global,
     reader: &mut S,
     failure: &mut Option<DecodeError<S::Error>>,
 ) -> Option<Value>
-    ensures does { DoesUnder ReadsUnder RejectsUnder (S.view reader.old) (S.view reader.new)
-        (answered result failure.new) }
+    ensures does { DoesUnder (ReadsUnder A.exact) (RejectsUnder A.exact)
+        (S.view reader.old) (S.view reader.new) (answered result failure.new) }
     ensures item { IfSome result (λ v. IsItem (view v)) }
     ensures progress { OnSome result ((S.view reader.new).bound + 1 ≤ (S.view reader.old).bound) }
 {
-    match take_leaf(alloc, reader, false, failure)? {
+    match take_leaf::<S, A>(alloc, reader, failure)? {
         Looked::Taken(value) => Some(value),
-        Looked::Begins(next) => read_next(alloc, reader, next, failure),
+        Looked::Begins(next) => read_next::<S, A>(alloc, reader, next, failure),
     }
 }
 
 /// The same by what a look has shown of it.
 #[cycle(read)]
 #[inline(always)]
-fn read_next<S: Source>(
+fn read_next<S: Source, A: Encodings>(
     alloc: Global,
     reader: &mut S,
     next: Next,
     failure: &mut Option<DecodeError<S::Error>>,
 ) -> Option<Value>
     requires { CanTake next (S.view reader.old) }
-    ensures does { DoesAfterNext ⊥ next ReadsUnder RejectsUnder
+    ensures does { DoesAfterNext (A.exact ≡ true) next (ReadsUnder A.exact) (RejectsUnder A.exact)
         (S.view reader.old) (S.view reader.new) (answered result failure.new) }
     ensures item { IfSome result (λ v. IsItem (view v)) }
     ensures progress { OnSome result ((S.view reader.new).bound + 1 ≤ (S.view reader.old).bound) }
 {
     match next.first / 32 {
-        major::ARRAY => read_array(alloc, reader, next, failure),
-        major::MAP => read_map(alloc, reader, next, failure),
-        major::TAG => read_tag(alloc, reader, next, failure),
-        _ => read_alone(alloc, reader, next.first, failure),
+        major::ARRAY => read_array::<S, A>(alloc, reader, next, failure),
+        major::MAP => read_map::<S, A>(alloc, reader, next, failure),
+        major::TAG => read_tag::<S, A>(alloc, reader, next, failure),
+        _ => read_alone::<S, A>(alloc, reader, next.first, failure),
     }
 }
 
 /// Reads a tag, and the value after it.
 #[cycle(read)]
 #[inline(always)]
-fn read_tag<S: Source>(
+fn read_tag<S: Source, A: Encodings>(
     alloc: Global,
     reader: &mut S,
     next: Next,
@@ -233,30 +300,30 @@ fn read_tag<S: Source>(
 ) -> Option<Value>
     requires can { CanTake next (S.view reader.old) }
     requires major { next.first / 32 ≡ 6 }
-    ensures does { DoesAfterNext ⊥ next ReadsUnder (RejectsOf 6)
+    ensures does { DoesAfterNext (A.exact ≡ true) next (ReadsUnder A.exact) (RejectsOf A.exact 6)
         (S.view reader.old) (S.view reader.new) (answered result failure.new) }
     ensures item { IfSome result (λ v. IsItem (view v)) }
     ensures progress { OnSome result ((S.view reader.new).bound + 1 ≤ (S.view reader.old).bound) }
 {
-    let number = take_tag(reader, next, failure)?;
-    read_tagged(alloc, reader, number, failure)
+    let number = take_tag::<S, A>(reader, next, failure)?;
+    read_tagged::<S, A>(alloc, reader, number, failure)
 }
 
 /// Reads the value after the head of a tag.
 #[cycle(read)]
 #[inline(never)]
-fn read_tagged<S: Source>(
+fn read_tagged<S: Source, A: Encodings>(
     alloc: Global,
     reader: &mut S,
     number: u64,
     failure: &mut Option<DecodeError<S::Error>>,
 ) -> Option<Value>
-    ensures does { DoesUnder (ReadsTagged number) RejectsOneValue
+    ensures does { DoesUnder (ReadsTagged A.exact number) (RejectsOneValue A.exact)
         (S.view reader.old) (S.view reader.new) (answered result failure.new) }
     ensures item { IfSome result (λ v. IsItem (view v)) }
     ensures progress { OnSome result ((S.view reader.new).bound + 1 ≤ (S.view reader.old).bound) }
 {
-    let inner = read_value(alloc, reader, failure)?;
+    let inner = read_value::<S, A>(alloc, reader, failure)?;
     match Box::new(alloc, inner) {
         Ok(boxed) => Some(Value::Tag(number, boxed)),
         Err(_) => {
@@ -268,17 +335,15 @@ fn read_tagged<S: Source>(
 
 /// Takes the head of a tag, and answers its number.
 #[inline(always)]
-fn take_tag<S: Source>(
+fn take_tag<S: Source, A: Encodings>(
     reader: &mut S,
     next: Next,
     failure: &mut Option<DecodeError<S::Error>>,
 ) -> Option<u64>
     requires can { CanTake next (S.view reader.old) }
     requires major { next.first / 32 ≡ 6 }
-    ensures does { DoesAfterNext ⊥ next TakesTag (RejectsOf 6)
+    ensures does { DoesAfterNext (A.exact ≡ true) next (TakesTag A.exact) (RejectsOf A.exact 6)
         (S.view reader.old) (S.view reader.new) (answered result failure.new) }
-    ensures memory { IfErr (answered result failure.new)
-        (λ error. IsTrue (is_out_of_memory error) → IsTrue false) }
     ensures progress { OnSome result ((S.view reader.new).bound + 1 ≤ (S.view reader.old).bound) }
 {
     match next.head {
@@ -286,23 +351,40 @@ fn take_tag<S: Source>(
             reader.advance(head.size);
             Some(head.argument)
         }
-        None => tag_number(reader, failure),
+        None => A::take_tag(reader, failure),
     }
 }
 
-/// The same of a head that no look has shown whole. It stays out of line, as `read_alone`.
-#[inline(never)]
-fn tag_number<S: Source>(reader: &mut S, failure: &mut Option<DecodeError<S::Error>>) -> Option<u64>
-    ensures { Decodes (argument_format tag_name 6 8)
+/// Takes the head of an array or a map, and answers how many parts are to follow, none where its
+/// length is indefinite.
+#[inline(always)]
+fn take_length<S: Source, A: Encodings>(
+    reader: &mut S,
+    major: u8,
+    next: Next,
+    failure: &mut Option<DecodeError<S::Error>>,
+) -> Option<Option<usize>>
+    requires can { CanTake next (S.view reader.old) }
+    requires major { next.first / 32 ≡ major }
+    requires nests { (major ≡ 4) ⊎ (major ≡ 5) }
+    ensures does { DoesAfterNext (A.exact ≡ true) next
+        (TakesLength A.exact major) (RejectsMajor A.exact major)
         (S.view reader.old) (S.view reader.new) (answered result failure.new) }
+    ensures progress { OnSome result ((S.view reader.new).bound + 1 ≤ (S.view reader.old).bound) }
 {
-    part(Tag::tag(reader), failure)
+    match next.head {
+        Some(head) => {
+            reader.advance(head.size);
+            Some(Some(head.argument as usize))
+        }
+        None => A::take_length(reader, major, next.first, failure),
+    }
 }
 
 /// Reads a value that holds no other, whose first byte is shown. It stays out of line, so that the
 /// levels above pay nothing for its locals.
 #[inline(never)]
-fn read_alone<S: Source>(
+fn read_alone<S: Source, A: Encodings>(
     alloc: Global,
     reader: &mut S,
     first: u8,
@@ -310,15 +392,18 @@ fn read_alone<S: Source>(
 ) -> Option<Value>
     requires shown { 1 ≤ (S.view reader.old).advanceable }
     requires major { (first / 32 ≤ 3) ⊎ (first / 32 ≡ 7) }
-    ensures does { TakesSimple first
-        (S.view reader.old) (S.view reader.new) (answered result failure.new)
-        ⊎ DoesUnder ReadsUnder (RejectsFirst first)
+    ensures does { DoesAfterFirst first (ReadsUnder A.exact) (RejectsUnder A.exact)
         (S.view reader.old) (S.view reader.new) (answered result failure.new) }
     ensures item { IfSome result (λ v. IsItem (view v)) }
     ensures progress { OnSome result ((S.view reader.new).bound + 1 ≤ (S.view reader.old).bound) }
 {
     if first / 32 != major::SIMPLE {
-        return part(read_leaf(alloc, reader, first), failure);
+        return part(A::read_leaf(alloc, reader, first), failure);
+    }
+    if !A::accepts_simple(first) {
+        reader.advance(1);
+        leave_not_canonical("canonical", failure);
+        return None;
     }
     match simple_of(first) {
         Some(value) => {
@@ -329,34 +414,10 @@ fn read_alone<S: Source>(
     }
 }
 
-/// Reads an integer or a string, whose first byte is shown.
-#[inline(always)]
-fn read_leaf<S: Source>(
-    alloc: Global,
-    reader: &mut S,
-    first: u8,
-) -> Result<Value, DecodeError<S::Error>>
-    requires major { first / 32 ≤ 3 }
-    ensures does { DoesUnder ReadsUnder (RejectsFirst first)
-        (S.view reader.old) (S.view reader.new) result }
-    ensures item { IfOk result (λ v. IsItem (view v)) }
-    ensures progress { OnOk result ((S.view reader.new).bound + 1 ≤ (S.view reader.old).bound) }
-{
-    match first / 32 {
-        major::UNSIGNED => Ok(Value::Integer(u64::decode(alloc, reader)? as i128)),
-        major::NEGATIVE => {
-            let number = Negative::<u64>::decode(alloc, reader)?;
-            Ok(Value::Integer(-1 - number.0 as i128))
-        }
-        major::BYTES => Ok(Value::Bytes(Bytes::<Vec<u8>>::decode(alloc, reader)?.0)),
-        _ => Ok(Value::Text(String::decode(alloc, reader)?)),
-    }
-}
-
 /// Reads an array's values, under one step.
 #[cycle(read)]
 #[inline(always)]
-fn read_array<S: Source>(
+fn read_array<S: Source, A: Encodings>(
     alloc: Global,
     reader: &mut S,
     next: Next,
@@ -364,7 +425,8 @@ fn read_array<S: Source>(
 ) -> Option<Value>
     requires can { CanTake next (S.view reader.old) }
     requires major { next.first / 32 ≡ 4 }
-    ensures does { DoesAfterNext ⊥ next (ReadsStepped (MakesArray ReadsArrayInside)) (RejectsOf 4)
+    ensures does { DoesAfterNext (A.exact ≡ true) next
+        (ReadsStepped (MakesArray (ReadsArrayInside A.exact))) (RejectsOf A.exact 4)
         (S.view reader.old) (S.view reader.new) (answered result failure.new) }
     ensures item { IfSome result (λ v. IsItem (view v)) }
     ensures progress { OnSome result ((S.view reader.new).bound + 1 ≤ (S.view reader.old).bound) }
@@ -373,14 +435,14 @@ fn read_array<S: Source>(
         leave_deep("array", failure);
         return None;
     }
-    let outcome = array_inside(alloc, reader, next, failure);
+    let outcome = array_inside::<S, A>(alloc, reader, next, failure);
     reader.step_out();
     outcome
 }
 
 #[cycle(read)]
 #[inline(always)]
-fn array_inside<S: Source>(
+fn array_inside<S: Source, A: Encodings>(
     alloc: Global,
     reader: &mut S,
     next: Next,
@@ -388,69 +450,29 @@ fn array_inside<S: Source>(
 ) -> Option<Value>
     requires can { CanTake next (S.view reader.old) }
     requires major { next.first / 32 ≡ 4 }
-    ensures does { DoesAfterNext ⊥ next (MakesArray ReadsArrayInside) (RejectsMajor 4)
+    ensures does { DoesAfterNext (A.exact ≡ true) next
+        (MakesArray (ReadsArrayInside A.exact)) (RejectsMajor A.exact 4)
         (S.view reader.old) (S.view reader.new) (answered result failure.new) }
     ensures item { IfSome result (λ v. IsItem (view v)) }
     ensures progress { OnSome result ((S.view reader.new).bound + 1 ≤ (S.view reader.old).bound) }
 {
-    match take_array(reader, next, failure)? {
+    match take_length::<S, A>(reader, major::ARRAY, next, failure)? {
         Some(0) => Some(Value::Array(Vec::new(alloc))),
-        Some(count) => Some(Value::Array(definite_items(alloc, reader, count, failure)?)),
-        None => Some(Value::Array(indefinite_items(alloc, reader, failure)?)),
+        Some(count) => Some(Value::Array(definite_items::<S, A>(alloc, reader, count, failure)?)),
+        None => Some(Value::Array(indefinite_items::<S, A>(alloc, reader, failure)?)),
     }
-}
-
-/// Takes the head of an array, and answers how many items are to follow, none where its length is
-/// indefinite.
-#[inline(always)]
-fn take_array<S: Source>(
-    reader: &mut S,
-    next: Next,
-    failure: &mut Option<DecodeError<S::Error>>,
-) -> Option<Option<usize>>
-    requires can { CanTake next (S.view reader.old) }
-    requires major { next.first / 32 ≡ 4 }
-    ensures does { DoesAfterNext ⊥ next (TakesLength 4) (RejectsMajor 4)
-        (S.view reader.old) (S.view reader.new) (answered result failure.new) }
-    ensures memory { IfErr (answered result failure.new)
-        (λ error. IsTrue (is_out_of_memory error) → IsTrue false) }
-    ensures progress { OnSome result ((S.view reader.new).bound + 1 ≤ (S.view reader.old).bound) }
-{
-    match next.head {
-        Some(head) => {
-            reader.advance(head.size);
-            Some(Some(head.argument as usize))
-        }
-        None if next.first == INDEFINITE_ARRAY => {
-            reader.advance(1);
-            Some(None)
-        }
-        None => array_length(reader, failure),
-    }
-}
-
-/// The same of a head that no look has shown whole. It stays out of line, as `read_alone`.
-#[inline(never)]
-fn array_length<S: Source>(
-    reader: &mut S,
-    failure: &mut Option<DecodeError<S::Error>>,
-) -> Option<Option<usize>>
-    ensures { Decodes (length_format array_name 4)
-        (S.view reader.old) (S.view reader.new) (answered result failure.new) }
-{
-    part(Array::len(reader), failure)
 }
 
 /// Reads so many items.
 #[cycle(read)]
 #[inline(never)]
-fn definite_items<S: Source>(
+fn definite_items<S: Source, A: Encodings>(
     alloc: Global,
     reader: &mut S,
     count: usize,
     failure: &mut Option<DecodeError<S::Error>>,
 ) -> Option<Vec<Value>>
-    ensures does { DoesUnder (ReadsVec (ReadsItems count)) (RejectsItems count)
+    ensures does { DoesUnder (ReadsVec (ReadsItems A.exact count)) (RejectsItems A.exact count)
         (S.view reader.old) (S.view reader.new) (answered result failure.new) }
     ensures items { IfSome result (λ v. AreItems (items_view v.items)) }
 {
@@ -460,7 +482,7 @@ fn definite_items<S: Source>(
         return None;
     }
     while items.lacks(count) {
-        more_items(alloc, reader, count, &mut items, failure)?;
+        more_items::<S, A>(alloc, reader, count, &mut items, failure)?;
     }
     Some(items)
 }
@@ -469,7 +491,7 @@ fn definite_items<S: Source>(
 /// that it leaves undecided.
 #[cycle(read)]
 #[inline(always)]
-fn more_items<S: Source>(
+fn more_items<S: Source, A: Encodings>(
     alloc: Global,
     reader: &mut S,
     count: usize,
@@ -477,8 +499,8 @@ fn more_items<S: Source>(
     failure: &mut Option<DecodeError<S::Error>>,
 ) -> Option<()>
     requires { length items.old.items < 1 * count }
-    ensures does { DoesUnder (PutsItems Readable items.old.items items.new.items)
-        (RejectsItems (1 * count - length items.old.items))
+    ensures does { DoesUnder (PutsItems A.exact items.old.items items.new.items)
+        (RejectsItems A.exact (1 * count - length items.old.items))
         (S.view reader.old) (S.view reader.new) (answered result failure.new) }
     ensures items { OnSome result (KeepsItems items.old.items items.new.items) }
     ensures few { OnSome result (length items.new.items ≤ 1 * count) }
@@ -488,7 +510,7 @@ fn more_items<S: Source>(
         leave_deep("value", failure);
         return None;
     }
-    let outcome = items_inside(alloc, reader, count, items, failure);
+    let outcome = items_inside::<S, A>(alloc, reader, count, items, failure);
     reader.step_out();
     outcome
 }
@@ -496,7 +518,7 @@ fn more_items<S: Source>(
 /// The same where a step was taken, which each of the values takes in turn.
 #[cycle(read)]
 #[inline(always)]
-fn items_inside<S: Source>(
+fn items_inside<S: Source, A: Encodings>(
     alloc: Global,
     reader: &mut S,
     count: usize,
@@ -504,16 +526,16 @@ fn items_inside<S: Source>(
     failure: &mut Option<DecodeError<S::Error>>,
 ) -> Option<()>
     requires { length items.old.items < 1 * count }
-    ensures does { DoesUnder (PutsItemsUnder Readable items.old.items items.new.items)
-        (RejectsItemsUnder Readable RejectsOneValue (1 * count - length items.old.items))
+    ensures does { DoesUnder (PutsItemsUnder A.exact items.old.items items.new.items)
+        (RejectsItemsUnder A.exact (1 * count - length items.old.items))
         (S.view reader.old) (S.view reader.new) (answered result failure.new) }
     ensures items { OnSome result (KeepsItems items.old.items items.new.items) }
     ensures few { OnSome result (length items.new.items ≤ 1 * count) }
     ensures progress { OnSome result ((S.view reader.new).bound + 1 ≤ (S.view reader.old).bound) }
 {
-    match take_run(alloc, reader, false, count, items, failure)? {
+    match take_run::<S, A, Vec<Value>>(alloc, reader, count, items, failure)? {
         Some(next) => {
-            let value = read_next(alloc, reader, next, failure)?;
+            let value = read_next::<S, A>(alloc, reader, next, failure)?;
             put_value(items, value, failure)
         }
         None => Some(()),
@@ -524,7 +546,7 @@ fn items_inside<S: Source>(
 /// that it leaves undecided.
 #[cycle(read)]
 #[inline(always)]
-fn more_members<S: Source>(
+fn more_members<S: Source, A: Encodings>(
     alloc: Global,
     reader: &mut S,
     count: usize,
@@ -532,8 +554,8 @@ fn more_members<S: Source>(
     failure: &mut Option<DecodeError<S::Error>>,
 ) -> Option<()>
     requires { length (flat pairs.old) < 2 * count }
-    ensures does { DoesUnder (PutsItems Readable (flat pairs.old) (flat pairs.new))
-        (RejectsItems (2 * count - length (flat pairs.old)))
+    ensures does { DoesUnder (PutsItems A.exact (flat pairs.old) (flat pairs.new))
+        (RejectsItems A.exact (2 * count - length (flat pairs.old)))
         (S.view reader.old) (S.view reader.new) (answered result failure.new) }
     ensures items { OnSome result (KeepsItems (flat pairs.old) (flat pairs.new)) }
     ensures few { OnSome result (length (flat pairs.new) ≤ 2 * count) }
@@ -543,7 +565,7 @@ fn more_members<S: Source>(
         leave_deep("value", failure);
         return None;
     }
-    let outcome = members_inside(alloc, reader, count, pairs, failure);
+    let outcome = members_inside::<S, A>(alloc, reader, count, pairs, failure);
     reader.step_out();
     outcome
 }
@@ -551,7 +573,7 @@ fn more_members<S: Source>(
 /// The same where a step was taken, which each of the values takes in turn.
 #[cycle(read)]
 #[inline(always)]
-fn members_inside<S: Source>(
+fn members_inside<S: Source, A: Encodings>(
     alloc: Global,
     reader: &mut S,
     count: usize,
@@ -559,16 +581,16 @@ fn members_inside<S: Source>(
     failure: &mut Option<DecodeError<S::Error>>,
 ) -> Option<()>
     requires { length (flat pairs.old) < 2 * count }
-    ensures does { DoesUnder (PutsItemsUnder Readable (flat pairs.old) (flat pairs.new))
-        (RejectsItemsUnder Readable RejectsOneValue (2 * count - length (flat pairs.old)))
+    ensures does { DoesUnder (PutsItemsUnder A.exact (flat pairs.old) (flat pairs.new))
+        (RejectsItemsUnder A.exact (2 * count - length (flat pairs.old)))
         (S.view reader.old) (S.view reader.new) (answered result failure.new) }
     ensures items { OnSome result (KeepsItems (flat pairs.old) (flat pairs.new)) }
     ensures few { OnSome result (length (flat pairs.new) ≤ 2 * count) }
     ensures progress { OnSome result ((S.view reader.new).bound + 1 ≤ (S.view reader.old).bound) }
 {
-    match take_run(alloc, reader, false, count, pairs, failure)? {
+    match take_run::<S, A, Pairs>(alloc, reader, count, pairs, failure)? {
         Some(next) => {
-            let value = read_next(alloc, reader, next, failure)?;
+            let value = read_next::<S, A>(alloc, reader, next, failure)?;
             put_value(pairs, value, failure)
         }
         None => Some(()),
@@ -577,18 +599,19 @@ fn members_inside<S: Source>(
 
 #[cycle(read)]
 #[inline(never)]
-fn indefinite_items<S: Source>(
+fn indefinite_items<S: Source, A: Encodings>(
     alloc: Global,
     reader: &mut S,
     failure: &mut Option<DecodeError<S::Error>>,
 ) -> Option<Vec<Value>>
-    ensures does { DoesUnder (ReadsVec ReadsIndefiniteItems) RejectsIndefiniteItems
+    ensures does { DoesUnder
+        (ReadsVec (ReadsIndefiniteItems A.exact)) (RejectsIndefiniteItems A.exact)
         (S.view reader.old) (S.view reader.new) (answered result failure.new) }
     ensures items { IfSome result (λ v. AreItems (items_view v.items)) }
 {
     let mut items = Vec::new(alloc);
     while !part(is_break(reader), failure)? {
-        let value = read_value(alloc, reader, failure)?;
+        let value = read_value::<S, A>(alloc, reader, failure)?;
         keep(&mut items, value, failure)?;
     }
     Some(items)
@@ -597,7 +620,7 @@ fn indefinite_items<S: Source>(
 /// Reads a map's pairs, under one step.
 #[cycle(read)]
 #[inline(always)]
-fn read_map<S: Source>(
+fn read_map<S: Source, A: Encodings>(
     alloc: Global,
     reader: &mut S,
     next: Next,
@@ -605,7 +628,8 @@ fn read_map<S: Source>(
 ) -> Option<Value>
     requires can { CanTake next (S.view reader.old) }
     requires major { next.first / 32 ≡ 5 }
-    ensures does { DoesAfterNext ⊥ next (ReadsStepped (MakesMap ReadsMapInside)) (RejectsOf 5)
+    ensures does { DoesAfterNext (A.exact ≡ true) next
+        (ReadsStepped (MakesMap (ReadsMapInside A.exact))) (RejectsOf A.exact 5)
         (S.view reader.old) (S.view reader.new) (answered result failure.new) }
     ensures item { IfSome result (λ v. IsItem (view v)) }
     ensures progress { OnSome result ((S.view reader.new).bound + 1 ≤ (S.view reader.old).bound) }
@@ -614,14 +638,14 @@ fn read_map<S: Source>(
         leave_deep("map", failure);
         return None;
     }
-    let outcome = map_inside(alloc, reader, next, failure);
+    let outcome = map_inside::<S, A>(alloc, reader, next, failure);
     reader.step_out();
     outcome
 }
 
 #[cycle(read)]
 #[inline(always)]
-fn map_inside<S: Source>(
+fn map_inside<S: Source, A: Encodings>(
     alloc: Global,
     reader: &mut S,
     next: Next,
@@ -629,69 +653,29 @@ fn map_inside<S: Source>(
 ) -> Option<Value>
     requires can { CanTake next (S.view reader.old) }
     requires major { next.first / 32 ≡ 5 }
-    ensures does { DoesAfterNext ⊥ next (MakesMap ReadsMapInside) (RejectsMajor 5)
+    ensures does { DoesAfterNext (A.exact ≡ true) next
+        (MakesMap (ReadsMapInside A.exact)) (RejectsMajor A.exact 5)
         (S.view reader.old) (S.view reader.new) (answered result failure.new) }
     ensures item { IfSome result (λ v. IsItem (view v)) }
     ensures progress { OnSome result ((S.view reader.new).bound + 1 ≤ (S.view reader.old).bound) }
 {
-    match take_map(reader, next, failure)? {
+    match take_length::<S, A>(reader, major::MAP, next, failure)? {
         Some(0) => Some(Value::Map(Vec::new(alloc))),
-        Some(count) => Some(Value::Map(definite_members(alloc, reader, count, failure)?)),
-        None => Some(Value::Map(indefinite_members(alloc, reader, failure)?)),
+        Some(count) => Some(Value::Map(definite_members::<S, A>(alloc, reader, count, failure)?)),
+        None => Some(Value::Map(indefinite_members::<S, A>(alloc, reader, failure)?)),
     }
-}
-
-/// Takes the head of a map, and answers how many pairs are to follow, none where its length is
-/// indefinite.
-#[inline(always)]
-fn take_map<S: Source>(
-    reader: &mut S,
-    next: Next,
-    failure: &mut Option<DecodeError<S::Error>>,
-) -> Option<Option<usize>>
-    requires can { CanTake next (S.view reader.old) }
-    requires major { next.first / 32 ≡ 5 }
-    ensures does { DoesAfterNext ⊥ next (TakesLength 5) (RejectsMajor 5)
-        (S.view reader.old) (S.view reader.new) (answered result failure.new) }
-    ensures memory { IfErr (answered result failure.new)
-        (λ error. IsTrue (is_out_of_memory error) → IsTrue false) }
-    ensures progress { OnSome result ((S.view reader.new).bound + 1 ≤ (S.view reader.old).bound) }
-{
-    match next.head {
-        Some(head) => {
-            reader.advance(head.size);
-            Some(Some(head.argument as usize))
-        }
-        None if next.first == INDEFINITE_MAP => {
-            reader.advance(1);
-            Some(None)
-        }
-        None => map_length(reader, failure),
-    }
-}
-
-/// The same of a head that no look has shown whole. It stays out of line, as `read_alone`.
-#[inline(never)]
-fn map_length<S: Source>(
-    reader: &mut S,
-    failure: &mut Option<DecodeError<S::Error>>,
-) -> Option<Option<usize>>
-    ensures { Decodes (length_format map_name 5)
-        (S.view reader.old) (S.view reader.new) (answered result failure.new) }
-{
-    part(Map::len(reader), failure)
 }
 
 /// Reads so many pairs.
 #[cycle(read)]
 #[inline(never)]
-fn definite_members<S: Source>(
+fn definite_members<S: Source, A: Encodings>(
     alloc: Global,
     reader: &mut S,
     count: usize,
     failure: &mut Option<DecodeError<S::Error>>,
 ) -> Option<Vec<(Value, Value)>>
-    ensures does { DoesUnder (ReadsVec (ReadsMembers count)) (RejectsMembers count)
+    ensures does { DoesUnder (ReadsVec (ReadsMembers A.exact count)) (RejectsMembers A.exact count)
         (S.view reader.old) (S.view reader.new) (answered result failure.new) }
     ensures items { IfSome result (λ v. AreMembers (members_view v.items)) }
 {
@@ -704,25 +688,26 @@ fn definite_members<S: Source>(
         return None;
     }
     while pairs.lacks(count) {
-        more_members(alloc, reader, count, &mut pairs, failure)?;
+        more_members::<S, A>(alloc, reader, count, &mut pairs, failure)?;
     }
     Some(pairs.members)
 }
 
 #[cycle(read)]
 #[inline(never)]
-fn indefinite_members<S: Source>(
+fn indefinite_members<S: Source, A: Encodings>(
     alloc: Global,
     reader: &mut S,
     failure: &mut Option<DecodeError<S::Error>>,
 ) -> Option<Vec<(Value, Value)>>
-    ensures does { DoesUnder (ReadsVec ReadsIndefiniteMembers) RejectsIndefiniteMembers
+    ensures does { DoesUnder
+        (ReadsVec (ReadsIndefiniteMembers A.exact)) (RejectsIndefiniteMembers A.exact)
         (S.view reader.old) (S.view reader.new) (answered result failure.new) }
     ensures items { IfSome result (λ v. AreMembers (members_view v.items)) }
 {
     let mut members = Vec::new(alloc);
     while !part(is_break(reader), failure)? {
-        let member = read_member(alloc, reader, failure)?;
+        let member = read_member::<S, A>(alloc, reader, failure)?;
         keep(&mut members, member, failure)?;
     }
     Some(members)
@@ -731,18 +716,18 @@ fn indefinite_members<S: Source>(
 /// Reads a key, and the value after it. No break is looked for between the two.
 #[cycle(read)]
 #[inline(always)]
-fn read_member<S: Source>(
+fn read_member<S: Source, A: Encodings>(
     alloc: Global,
     reader: &mut S,
     failure: &mut Option<DecodeError<S::Error>>,
 ) -> Option<(Value, Value)>
-    ensures does { DoesUnder ReadsMember RejectsMember
+    ensures does { DoesUnder (ReadsMember A.exact) (RejectsMember A.exact)
         (S.view reader.old) (S.view reader.new) (answered result failure.new) }
     ensures key { IfSome result (λ member. IsItem (view member.0)) }
     ensures value { IfSome result (λ member. IsItem (view member.1)) }
     ensures progress { OnSome result ((S.view reader.new).bound + 1 ≤ (S.view reader.old).bound) }
 {
-    let key = read_value(alloc, reader, failure)?;
-    let value = read_value(alloc, reader, failure)?;
+    let key = read_value::<S, A>(alloc, reader, failure)?;
+    let value = read_value::<S, A>(alloc, reader, failure)?;
     Some((key, value))
 }

@@ -1,6 +1,6 @@
 //! Values that are encoded in one way, made and written.
 ghost use Rattle.std.specs.Prelude.{◌≡◌, ◌++◌, ℕ, List, OnOk, IfOk};
-ghost use Rattle.cbor4ii_items.specs.Decoding.{CostFits};
+ghost use Rattle.cbor4ii_items.specs.Budget.{CostFits};
 ghost use Rattle.cbor4ii_items.specs.Writing.{Writes};
 ghost use Rattle.cbor4ii_tree.specs.Canonical.{canonical_encoding, canonical_cost, with_bignums};
 ghost use Rattle.cbor4ii_tree.specs.CanonicalShape.{DecodesCanonically, EncodesCanonically};

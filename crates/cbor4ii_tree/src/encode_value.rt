@@ -4,7 +4,7 @@ ghost use Rattle.cbor4ii_items.specs.Writing.{Writes, WritesAtomically};
 ghost use Rattle.cbor4ii_items.specs.Numbers.{shortest_head};
 ghost use Rattle.cbor4ii_items.specs.Strings.{definite_string};
 ghost use Rattle.cbor4ii_items.specs.SequenceBytes.{items_bytes};
-ghost use Rattle.cbor4ii_items.specs.Decoding.{CostFits};
+ghost use Rattle.cbor4ii_items.specs.Budget.{CostFits};
 ghost use Rattle.cbor4ii_tree.specs.Cost.{Budget};
 ghost use Rattle.cbor4ii_tree.specs.Canonical.{canonical_encoding, canonical_cost, with_bignums};
 ghost use Rattle.cbor4ii_tree.specs.Encodings.{Encodes, DecodesTo};

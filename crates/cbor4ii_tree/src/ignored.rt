@@ -1,6 +1,7 @@
 //! Items that are skipped.
 ghost use Rattle.cbor4ii_items.specs.Decoding.{Decodes, leaf_format};
-ghost use Rattle.cbor4ii_tree.specs.Promises.{Others, OnlySkips, AllSkips, PrefixSkips, EofSkips};
+ghost use Rattle.cbor4ii_tree.specs.Promises.{Others, OnlySkips, PrefixSkips, EofSkips};
+ghost use Rattle.cbor4ii_tree.specs.Headline.{AllSkips};
 ghost use Rattle.cbor4ii_tree.specs.Promises.{DepthSkips, FinalSkips, ExactSkips};
 ghost use Rattle.cbor4ii_tree.specs.Ignored.{ReadsIgnored, RejectsIgnored};
 ghost use Rattle.cbor4ii_tree.specs.Laws.Ignoring.{ignored_lawful};

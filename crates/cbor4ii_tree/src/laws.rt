@@ -8,7 +8,7 @@ ghost use Rattle.cbor4ii_items.specs.Head.{IsBytes};
 ghost use Rattle.cbor4ii_tree.specs.Tree.{Tree, bytes, Loose, Plain, Joins};
 ghost use Rattle.cbor4ii_tree.specs.Item.{Item, IsItem, size};
 ghost use Rattle.cbor4ii_tree.specs.Meaning.{value};
-ghost use Rattle.cbor4ii_items.specs.Decoding.{CostFits};
+ghost use Rattle.cbor4ii_items.specs.Budget.{CostFits};
 ghost use Rattle.cbor4ii_items.specs.Whole.{IsWhole};
 ghost use Rattle.cbor4ii_tree.specs.declared.decode_canonical.Canonical.{Canonical};
 ghost use Rattle.cbor4ii_tree.specs.declared.value.Value.{Value};

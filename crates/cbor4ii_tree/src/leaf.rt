@@ -7,9 +7,8 @@ ghost use Rattle.cbor4ii_items.specs.Head.{ArgumentAfter, byte_count, shortest};
 ghost use Rattle.cbor4ii_tree.specs.Prefix.{Offers};
 ghost use Rattle.cbor4ii_tree.specs.Leaf.{ExactHead, SeesLeaf, SeesNext, TakesLeaf, ItemTaken};
 ghost use Rattle.cbor4ii_tree.specs.Leaf.{OnTaken};
-ghost use Rattle.cbor4ii_tree.specs.CanonicalCalls.{ReadsCanonicallyUnder, RejectsCanonicallyUnder};
-ghost use Rattle.cbor4ii_tree.specs.Valuing.{ReadsUnder, RejectsUnder};
 
+use crate::accepted::Encodings;
 use crate::simple::simple_of;
 use crate::slot::{leave, leave_end};
 use crate::value::{FloatBits, Value};
@@ -58,27 +57,22 @@ pub(crate) enum Looked {
     Begins(Next),
 }
 
-/// Takes the value that comes next, where it holds no other and one look shows it whole. Where
-/// `exact` is set, its encoding has to be the canonical one. Else it takes nothing, and answers
-/// what the look has shown of the value. Where the look shows no byte, the value is rejected. An
-/// error is left in `failure`.
+/// Takes the value that comes next, where it holds no other and one look shows it whole, in an
+/// encoding that is read. Else it takes nothing, and answers what the look has shown of the value.
+/// Where the look shows no byte, the value is rejected. An error is left in `failure`.
 #[inline(always)]
-pub(crate) fn take_leaf<S: Source>(
+pub(crate) fn take_leaf<S: Source, A: Encodings>(
     alloc: Global,
     reader: &mut S,
-    exact: bool,
     failure: &mut Option<DecodeError<S::Error>>,
 ) -> Option<Looked>
-    ensures takes { TakesLeaf ⊥ ReadsUnder RejectsUnder
-        (S.view reader.old) (S.view reader.new) result failure.new }
-    ensures exactly { exact ≡ true → TakesLeaf (Unit {0}) ReadsCanonicallyUnder
-        RejectsCanonicallyUnder
+    ensures takes { TakesLeaf A.exact
         (S.view reader.old) (S.view reader.new) result failure.new }
     ensures item { IfSome result ItemTaken }
     ensures progress { IfSome result (λ looked. OnTaken looked
         ((S.view reader.new).bound + 1 ≤ (S.view reader.old).bound)) }
 {
-    match glance(alloc, reader, exact) {
+    match glance::<S, A>(alloc, reader) {
         Ok(Leaf::Whole(value, size)) => {
             reader.advance(size);
             Some(Looked::Taken(value))
@@ -102,29 +96,29 @@ pub(crate) fn take_leaf<S: Source>(
 
 /// What comes next, decided by one look at as many bytes as the reader lets a look ask for.
 #[inline(always)]
-fn glance<S: Source>(alloc: Global, reader: &mut S, exact: bool) -> Result<Leaf, S::Error>
-    ensures offers { IfOk result (λ seen. Offers 1 (SeesLeaf (exact ≡ true) seen)
+fn glance<S: Source, A: Encodings>(alloc: Global, reader: &mut S) -> Result<Leaf, S::Error>
+    ensures offers { IfOk result (λ seen. Offers 1 (SeesLeaf (A.exact ≡ true) seen)
         (S.view reader.old) (S.view reader.new)) }
     ensures breaks { OnErr result (ReaderFails (S.view reader.old) (S.view reader.new)) }
 {
     let mut failure = None;
     let want = reader.window();
     match look(reader, want, &mut failure) {
-        Some(shown) => Ok(leaf_of(alloc, shown, exact)),
+        Some(shown) => Ok(leaf_of::<A>(alloc, shown)),
         None => Err(failure.unwrap()),
     }
 }
 
 /// What the shown bytes begin with.
 #[inline(always)]
-pub(crate) fn leaf_of(alloc: Global, shown: &[u8], exact: bool) -> Leaf
-    ensures { SeesLeaf (exact ≡ true) result shown.now }
+pub(crate) fn leaf_of<A: Encodings>(alloc: Global, shown: &[u8]) -> Leaf
+    ensures { SeesLeaf (A.exact ≡ true) result shown.now }
 {
     let [first, trailing @ ..] = shown else {
         return Leaf::End;
     };
     let first = *first;
-    match argument_of(first, trailing, exact) {
+    match argument_of::<A>(first, trailing) {
         Some((number, size)) => leaf_after(alloc, first, trailing, number, size),
         None => Leaf::Begins(Next { first, head: None }),
     }
@@ -134,10 +128,10 @@ pub(crate) fn leaf_of(alloc: Global, shown: &[u8], exact: bool) -> Leaf
 /// stand whole in what is shown. A text that is no UTF-8, and a byte of major type 7, are left to
 /// `leaf_of`.
 #[inline(always)]
-pub(crate) fn undecided(first: u8, trailing: &[u8], exact: bool) -> Option<Next>
-    ensures { IfSome result (λ n. SeesNext (exact ≡ true) n (first ∷ trailing.now)) }
+pub(crate) fn undecided<A: Encodings>(first: u8, trailing: &[u8]) -> Option<Next>
+    ensures { IfSome result (λ n. SeesNext (A.exact ≡ true) n (first ∷ trailing.now)) }
 {
-    let Some((argument, size)) = argument_of(first, trailing, exact) else {
+    let Some((argument, size)) = argument_of::<A>(first, trailing) else {
         return Some(Next { first, head: None });
     };
     match first / 32 {
@@ -155,36 +149,36 @@ pub(crate) fn undecided(first: u8, trailing: &[u8], exact: bool) -> Option<Next>
     }
 }
 
-/// The argument that stands whole after this first byte, and how many bytes it has. Where `exact`
-/// is set, it is reported only of a head that canonical encodings have.
+/// The argument that stands whole after this first byte, and how many bytes it has. It is reported
+/// only of a head that the encodings have.
 #[inline(always)]
-fn argument_of(first: u8, trailing: &[u8], exact: bool) -> Option<(u64, usize)>
+fn argument_of<A: Encodings>(first: u8, trailing: &[u8]) -> Option<(u64, usize)>
     ensures stands { IfSome result (λ found.
         ArgumentAfter (first % 32) trailing.now found.0 found.1) }
-    ensures exact { exact ≡ true → IfSome result (λ found. ExactHead first found.0 found.1) }
+    ensures exact { A.exact ≡ true → IfSome result (λ found. ExactHead first found.0 found.1) }
 {
     let (number, size) = argument(first % 32, trailing)?;
-    if exact && !is_exact(first, number, size) {
+    if !accepts::<A>(first, number, size) {
         return None;
     }
     Some((number, size))
 }
 
-/// Whether a head is one that canonical encodings have. A float has one width, so each is.
+/// Whether a head is one that the encodings have. A float has one width, so each is.
 #[inline(always)]
-pub(crate) fn is_exact(first: u8, number: u64, size: usize) -> bool
-    ensures { result ≡ true → ExactHead first number size }
+fn accepts<A: Encodings>(first: u8, number: u64, size: usize) -> bool
+    ensures { result ≡ true → A.exact ≡ true → ExactHead first number size }
 {
     if first / 32 == major::SIMPLE {
-        first != marker::UNDEFINED
+        A::accepts_simple(first)
     } else {
-        size == least_size(number)
+        A::accepts_head(number, size)
     }
 }
 
 /// In how many bytes after the first one the shortest head has this argument.
 #[inline(always)]
-fn least_size(number: u64) -> usize
+pub(crate) fn least_size(number: u64) -> usize
     ensures { result ≡ byte_count (shortest number) }
 {
     if number < 24 {

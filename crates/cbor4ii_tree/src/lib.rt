@@ -2,6 +2,7 @@
 //! that are read and written, items that are skipped, and items that are kept as their bytes.
 #![tactic(auto)]
 
+mod accepted;
 mod access;
 mod ahead;
 mod bignum;

@@ -8,6 +8,7 @@ ghost use Rattle.cbor4ii_tree.specs.Prefix.{Offers};
 ghost use Rattle.cbor4ii_tree.specs.LeafRuns.{flat, PutsRun, TakesRun};
 ghost use Rattle.cbor4ii_tree.specs.declared.value.Value.{Value};
 
+use crate::accepted::Encodings;
 use crate::leaf::{Leaf, Next, leaf_of, undecided};
 use crate::slot::{leave, leave_end};
 use crate::value::Value;
@@ -124,23 +125,22 @@ pub(crate) fn put_value<P: Parts, E: Drop>(
 
 /// Takes the values that come next, as long as they hold no other and one look shows them whole,
 /// and puts them after `parts`, up to `most` whole parts, of which one at least is missing. It
-/// answers what the look has shown of a value that it leaves undecided. Where `exact` is set, the
-/// values are in their canonical encoding. Where the look shows no byte, the missing value is
-/// rejected. An error is left in `failure`.
+/// answers what the look has shown of a value that it leaves undecided. The values are in an
+/// encoding that is read. Where the look shows no byte, the missing value is rejected. An error is
+/// left in `failure`.
 #[inline(always)]
-pub(crate) fn take_run<S: Source, P: Parts>(
+pub(crate) fn take_run<S: Source, A: Encodings, P: Parts>(
     alloc: Global,
     reader: &mut S,
-    exact: bool,
     most: usize,
     parts: &mut P,
     failure: &mut Option<DecodeError<S::Error>>,
 ) -> Option<Option<Next>>
     requires { length (P.flat parts.old) < P.width * most }
-    ensures { TakesRun exact (P.width * most) (P.flat parts.old) (P.flat parts.new)
+    ensures { TakesRun A.exact (P.width * most) (P.flat parts.old) (P.flat parts.new)
         (S.view reader.old) (S.view reader.new) result failure.new }
 {
-    match glance_run(alloc, reader, exact, most, parts) {
+    match glance_run::<S, A, P>(alloc, reader, most, parts) {
         Ok(Ran::Whole(size)) => {
             reader.advance(size);
             Some(None)
@@ -169,55 +169,54 @@ pub(crate) fn take_run<S: Source, P: Parts>(
 /// Puts the values that one look shows after `parts`, at as many bytes as the reader lets a look
 /// ask for.
 #[inline(always)]
-fn glance_run<S: Source, P: Parts>(
+fn glance_run<S: Source, A: Encodings, P: Parts>(
     alloc: Global,
     reader: &mut S,
-    exact: bool,
     most: usize,
     parts: &mut P,
 ) -> Result<Ran, S::Error>
     requires { length (P.flat parts.old) < P.width * most }
     ensures offers { IfOk result (λ ran. Offers 1
-        (PutsRun (exact ≡ true) (P.width * most) (P.flat parts.old) (P.flat parts.new) ran)
+        (PutsRun (A.exact ≡ true) (P.width * most) (P.flat parts.old) (P.flat parts.new) ran)
         (S.view reader.old) (S.view reader.new)) }
     ensures breaks { OnErr result (ReaderFails (S.view reader.old) (S.view reader.new)) }
 {
     let mut failure = None;
     let want = reader.window();
     match look(reader, want, &mut failure) {
-        Some(shown) => Ok(run_of(alloc, shown, exact, most, parts)),
+        Some(shown) => Ok(run_of::<A, P>(alloc, shown, most, parts)),
         None => Err(failure.unwrap()),
     }
 }
 
 /// Puts the values at the front of the shown bytes after `parts`.
 #[inline(always)]
-fn run_of<P: Parts>(alloc: Global, shown: &[u8], exact: bool, most: usize, parts: &mut P) -> Ran
+fn run_of<A: Encodings, P: Parts>(alloc: Global, shown: &[u8], most: usize, parts: &mut P) -> Ran
     requires { length (P.flat parts.old) < P.width * most }
-    ensures { PutsRun (exact ≡ true) (P.width * most) (P.flat parts.old) (P.flat parts.new)
+    ensures { PutsRun (A.exact ≡ true) (P.width * most) (P.flat parts.old) (P.flat parts.new)
         result shown.now }
 {
     let [first, trailing @ ..] = shown else {
         return Ran::End;
     };
-    match undecided(*first, trailing, exact) {
+    match undecided::<A>(*first, trailing) {
         Some(next) => Ran::Begins(next),
-        None => put_run(alloc, shown, exact, most, parts),
+        None => put_run::<A, P>(alloc, shown, most, parts),
     }
 }
 
 /// The same of bytes that are there. It stays out of line, so that each level of arrays and maps
 /// takes little stack.
 #[inline(never)]
-fn put_run<P: Parts>(alloc: Global, shown: &[u8], exact: bool, most: usize, parts: &mut P) -> Ran
+fn put_run<A: Encodings, P: Parts>(alloc: Global, shown: &[u8], most: usize, parts: &mut P) -> Ran
     requires some { 1 ≤ length shown.now }
     requires lacks { length (P.flat parts.old) < P.width * most }
-    ensures { PutsRun (exact ≡ true) (P.width * most) (P.flat parts.old) (P.flat parts.new)
+    ensures { PutsRun (A.exact ≡ true) (P.width * most) (P.flat parts.old) (P.flat parts.new)
         result shown.now }
 {
     let mut size = 0;
     while parts.lacks(most) {
-        match leaf_of(alloc, &shown[size..], exact) {
+        match leaf_of::<A>(alloc, &shown[size..]) {
             Leaf::Whole(value, bytes) => {
                 size += bytes;
                 if parts.put(value).is_none() {

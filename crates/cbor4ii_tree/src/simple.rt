@@ -1,8 +1,7 @@
 //! Simple values and floats, which `Value` and `Canonical` read alike (RFC 8949 section 3.3).
-ghost use Rattle.std.specs.Prelude.{◌+◌, ◌≤◌, OnOk, IfOk};
+ghost use Rattle.std.specs.Prelude.{◌+◌, ◌≤◌, Bool, OnOk, IfOk};
 ghost use Rattle.cbor4ii_tree.specs.Does.{DoesUnder};
 ghost use Rattle.cbor4ii_tree.specs.Item.{IsItem};
-ghost use Rattle.cbor4ii_tree.specs.CanonicalCalls.{ReadsCanonicallyUnder, RejectsAfterFirst};
 ghost use Rattle.cbor4ii_tree.specs.Valuing.{ReadsUnder, RejectsFirst, SimpleOf, IsNoSimple};
 ghost use Rattle.cbor4ii_tree.specs.View.{view};
 
@@ -37,9 +36,7 @@ pub(crate) fn read_float<S: Source>(
 ) -> Result<Value, DecodeError<S::Error>>
     requires major { 224 ≤ first }
     requires other { IsNoSimple first }
-    ensures does { DoesUnder ReadsUnder (RejectsFirst first)
-        (S.view reader.old) (S.view reader.new) result }
-    ensures exactly { DoesUnder ReadsCanonicallyUnder (RejectsAfterFirst first)
+    ensures does { (exact : Bool) → DoesUnder (ReadsUnder exact) (RejectsFirst exact first)
         (S.view reader.old) (S.view reader.new) result }
     ensures item { IfOk result (λ v. IsItem (view v)) }
     ensures progress { OnOk result ((S.view reader.new).bound + 1 ≤ (S.view reader.old).bound) }

@@ -3,7 +3,8 @@
 ghost use Rattle.std.specs.Prelude.{◌≡◌, ◌↔◌, IfOk, IsTrue};
 ghost use Rattle.std.specs.Cmp.{on_per, on_equiv, partial_equiv_from_equiv};
 ghost use Rattle.cbor4ii_tree.specs.ItemEquality.{item_eq-equivalence};
-ghost use Rattle.cbor4ii_tree.specs.View.{view, items_view, members_view, same_view};
+ghost use Rattle.cbor4ii_tree.specs.View.{view, items_view, members_view};
+ghost use Rattle.cbor4ii_tree.specs.ItemEquality.{same_view};
 
 use std::alloc::AllocError;
 

@@ -9,7 +9,8 @@ use Rattle.cbor4ii_items.specs.Head.{IsBytes}
 use Rattle.cbor4ii_items.specs.Moves.{Kept, ReaderFailed, Moves}
 use Rattle.cbor4ii_items.specs.InputError.{InputError, input_error_of, is_read}
 use Rattle.cbor4ii_items.specs.Reading.{Reading, Runs}
-use Rattle.cbor4ii_items.specs.Decoding.{IsExact, Reads, RejectsAt, CostFits, Sound, NoneRead}
+use Rattle.cbor4ii_items.specs.Decoding.{IsExact, Reads, RejectsAt, Sound, NoneRead}
+use Rattle.cbor4ii_items.specs.Budget.{CostFits}
 use Rattle.cbor4ii_items.specs.Decoding.{Complete, Rejects}
 use Rattle.std.proofs.lemmas.List.{length-drop}
 use Rattle.cbor4ii_items.specs.Laws.Heads.{IsBytes-take}

@@ -5,7 +5,8 @@ use Rattle.std.proofs.Common.{Bool, true, IfSome, IfErr}
 use Rattle.cbor4ii_rw.specs.View.{View, IfKnown}
 use Rattle.cbor4ii_rw.specs.declared.error.DecodeError.{DecodeError}
 use Rattle.cbor4ii_rw.specs.declared.error.DecodeError.TheVariants.{OutOfMemory}
-use Rattle.cbor4ii_items.specs.Decoding.{CostFits, IsExact, NoneRead, Sound, Format, Decodes}
+use Rattle.cbor4ii_items.specs.Decoding.{IsExact, NoneRead, Sound, Format, Decodes}
+use Rattle.cbor4ii_items.specs.Budget.{CostFits}
 use Rattle.cbor4ii_items.specs.Decoding.{DecodesIf, format_by, taking_memory}
 use Rattle.cbor4ii_items.specs.Moves.{Kept, Moves}
 use Rattle.cbor4ii_items.specs.Reading.{Reading, Runs}

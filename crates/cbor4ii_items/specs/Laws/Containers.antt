@@ -14,7 +14,8 @@ use Rattle.std.specs.Prelude.{Box}
 use Rattle.cbor4ii_items.specs.Heads.{ReadsHead}
 use Rattle.cbor4ii_items.specs.Laws.Heads.{head_one, head_read, head_alone}
 use Rattle.cbor4ii_items.specs.Laws.Prefixes.{two_prefixes, after_prefix}
-use Rattle.cbor4ii_items.specs.Decoding.{Reads, NoneRead, CostFits}
+use Rattle.cbor4ii_items.specs.Decoding.{Reads, NoneRead}
+use Rattle.cbor4ii_items.specs.Budget.{CostFits}
 
 -- ---- an item or none
 

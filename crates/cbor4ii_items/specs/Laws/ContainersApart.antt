@@ -3,7 +3,8 @@ use Rattle.std.proofs.Common.{◌≡◌, ℕ, ◌⊎◌, inl, inr, List, [], ◌
 use Rattle.std.proofs.Common.{◌∙◌, subst, arith}
 use Rattle.cbor4ii_items.specs.declared.types.Tag.{Tag}
 use Rattle.cbor4ii_items.specs.Containers.{ReadsOption, RejectsOption, ReadsTag, RejectsTag}
-use Rattle.cbor4ii_items.specs.Decoding.{Reads, RejectsAt, CostFits}
+use Rattle.cbor4ii_items.specs.Decoding.{Reads, RejectsAt}
+use Rattle.cbor4ii_items.specs.Budget.{CostFits}
 use Rattle.cbor4ii_items.specs.Heads.{ReadsHead}
 use Rattle.cbor4ii_items.specs.Maybe.{ReadsMaybe, RejectsFew, few_head_rejected, few_indefinite}
 use Rattle.cbor4ii_items.specs.Maybe.{few_other}

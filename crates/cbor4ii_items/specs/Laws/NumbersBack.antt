@@ -22,7 +22,8 @@ use Rattle.cbor4ii_items.specs.InputError.{InputError, input_error_of}
 use Rattle.cbor4ii_rw.specs.View.{View}
 use Rattle.cbor4ii_rw.specs.declared.error.DecodeError.{DecodeError}
 use Rattle.cbor4ii_items.specs.Laws.Bignums.{number_taken}
-use Rattle.cbor4ii_items.specs.Decoding.{Reads, CostFits, Sound, NoneRead, Complete}
+use Rattle.cbor4ii_items.specs.Decoding.{Reads, Sound, NoneRead, Complete}
+use Rattle.cbor4ii_items.specs.Budget.{CostFits}
 
 -- ---- the shortest head
 

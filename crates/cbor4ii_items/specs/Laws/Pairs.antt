@@ -5,7 +5,8 @@ use Rattle.std.proofs.Common.{subst, arith, max, IsTrue, Bool, true, false}
 use Rattle.cbor4ii_rw.specs.View.{View}
 use Rattle.cbor4ii_rw.specs.declared.error.DecodeError.{DecodeError}
 use Rattle.std.specs.Prelude.{◌||◌}
-use Rattle.cbor4ii_items.specs.Decoding.{Reads, CostFits, Sound}
+use Rattle.cbor4ii_items.specs.Decoding.{Reads, Sound}
+use Rattle.cbor4ii_items.specs.Budget.{CostFits}
 use Rattle.cbor4ii_items.specs.Moves.{Kept}
 use Rattle.cbor4ii_items.specs.Laws.Steps.{kept_then}
 use Rattle.cbor4ii_items.specs.Decoding.{RejectsAt, NoneRead, Format, IsLawful, Decodes, DecodesIf}

@@ -12,7 +12,8 @@ use Rattle.cbor4ii_items.specs.Head.{break}
 use Rattle.cbor4ii_items.specs.InputError.{InputError, is_out_of_memory}
 use Rattle.cbor4ii_items.specs.Moves.{Kept}
 use Rattle.cbor4ii_items.specs.Reading.{Runs}
-use Rattle.cbor4ii_items.specs.Decoding.{Reads, RejectsAt, CostFits, Sound, NoneRead, Format}
+use Rattle.cbor4ii_items.specs.Decoding.{Reads, RejectsAt, Sound, NoneRead, Format}
+use Rattle.cbor4ii_items.specs.Budget.{CostFits}
 use Rattle.cbor4ii_items.specs.Decoding.{IsLawful, Decodes, DecodesIf}
 use Rattle.cbor4ii_items.specs.ReadStrings.{break_at}
 use Rattle.cbor4ii_items.specs.Sequences.{ReadsElements, ReadsCount, Unbroken, ReadsUpToBreak}

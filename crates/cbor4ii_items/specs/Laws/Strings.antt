@@ -6,7 +6,8 @@ use Rattle.std.specs.Int.{bytes_high_first}
 use Rattle.std.proofs.lemmas.List.{length-drop, append-nil, length-take}
 use Rattle.cbor4ii_items.specs.Head.{byte_count, additional, break, indefinite_head}
 use Rattle.cbor4ii_items.specs.Reading.{give, go_on}
-use Rattle.cbor4ii_items.specs.Decoding.{CostFits, IsLawful}
+use Rattle.cbor4ii_items.specs.Decoding.{IsLawful}
+use Rattle.cbor4ii_items.specs.Budget.{CostFits}
 use Rattle.cbor4ii_items.specs.Laws.Outcome.{same_value}
 use Rattle.cbor4ii_items.specs.Heads.{ReadsHead}
 use Rattle.cbor4ii_items.specs.Laws.Heads.{head_read, head_alone, additional-lt}

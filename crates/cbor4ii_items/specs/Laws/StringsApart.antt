@@ -2,7 +2,7 @@
 use Rattle.std.proofs.Common.{◌≡◌, ℕ, ◌<◌, inl, inr, List, [], ◌∷◌, length, take, drop, Option}
 use Rattle.std.proofs.Common.{Bool, refl, sym, ap, ◌∙◌, subst, arith}
 use Rattle.std.specs.Prelude.{IsUtf8}
-use Rattle.cbor4ii_items.specs.Decoding.{CostFits}
+use Rattle.cbor4ii_items.specs.Budget.{CostFits}
 use Rattle.cbor4ii_items.specs.Head.{break, indefinite_head}
 use Rattle.cbor4ii_items.specs.Lent.{ReadsBorrowed, RejectsBorrowed, lent_head_rejected, too_few}
 use Rattle.cbor4ii_items.specs.Lent.{lent_no_utf8}

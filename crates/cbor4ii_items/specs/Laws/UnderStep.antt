@@ -8,7 +8,8 @@ use Rattle.cbor4ii_rw.specs.Reader.{Failed, KeepsAllButBudget, StepsIn, step_bac
 use Rattle.cbor4ii_rw.specs.declared.error.DecodeError.{DecodeError}
 use Rattle.cbor4ii_items.specs.Moves.{Kept, ReaderFailed, is_failure, Moves}
 use Rattle.cbor4ii_items.specs.Reading.{Reading, AnswersAs, Runs}
-use Rattle.cbor4ii_items.specs.Decoding.{IsExact, CostFits}
+use Rattle.cbor4ii_items.specs.Decoding.{IsExact}
+use Rattle.cbor4ii_items.specs.Budget.{CostFits}
 use Rattle.cbor4ii_items.specs.Sequences.{after_step}
 
 again : (left : ℕ) → 0 < left → left < 2 ^ 64 → step_back (Some (left - 1)) ≡ Some left

@@ -10,7 +10,8 @@ use Rattle.cbor4ii_rw.specs.declared.error.DecodeError.{DecodeError}
 use Rattle.cbor4ii_rw.specs.declared.error.WholeError.{WholeError}
 use Rattle.cbor4ii_rw.specs.declared.error.WholeError.TheVariants.{Decode}
 use Rattle.cbor4ii_items.specs.InputError.{InputError, input_error_of}
-use Rattle.cbor4ii_items.specs.Decoding.{Reads, Format, IsLawful, Sound, CostFits, NoneRead}
+use Rattle.cbor4ii_items.specs.Decoding.{Reads, Format, IsLawful, Sound, NoneRead}
+use Rattle.cbor4ii_items.specs.Budget.{CostFits}
 use Rattle.cbor4ii_items.specs.Decoding.{IsExact}
 use Rattle.cbor4ii_items.specs.Decoding.{Decodes, RejectsAt}
 use Rattle.cbor4ii_items.specs.Whole.{IsWhole, NoneIsWhole, Trails, IsSure, NotBegun}

@@ -1,4 +1,5 @@
 -- What a decoding call promises of known bytes follows from what it accepts and where it fails.
+use Rattle.std.proofs.Common.{false}
 use Rattle.std.proofs.Common.{◌≡◌, ℕ, ◌⊎◌, inl, inr, List, [], ◌++◌, length, take, drop, Option}
 use Rattle.std.proofs.Common.{Some, None, Result, Ok, Err, refl, sym, ap, ◌∙◌, subst}
 use Rattle.std.proofs.Common.{append_assoc, append-nil, arith, length-append, MatchBool, IfSome}
@@ -24,10 +25,13 @@ use Rattle.cbor4ii_tree.specs.Does.{Does}
 use Rattle.cbor4ii_tree.specs.Skipping.{SkipsOne, RejectsSkippingOne}
 use Rattle.cbor4ii_tree.specs.Valuing.{ReadsOneValue}
 use Rattle.cbor4ii_tree.specs.View.{view}
-use Rattle.cbor4ii_tree.specs.Promises.{Others, AllSkips, PrefixSkips, EofSkips, DepthSkips}
-use Rattle.cbor4ii_tree.specs.Promises.{FinalSkips, ExactSkips, OnlyReads, AllReads, PrefixReads}
-use Rattle.cbor4ii_tree.specs.Promises.{EofReads, DepthReads, FinalReads, ExactReads, SizeReads}
-use Rattle.cbor4ii_tree.specs.Promises.{SkipsReads, CanonicalReads}
+use Rattle.cbor4ii_tree.specs.Promises.{Others, PrefixSkips, EofSkips, DepthSkips}
+use Rattle.cbor4ii_tree.specs.Headline.{AllSkips}
+use Rattle.cbor4ii_tree.specs.Promises.{FinalSkips, ExactSkips}
+use Rattle.cbor4ii_tree.specs.Headline.{OnlyReads, AllReads, PrefixReads}
+use Rattle.cbor4ii_tree.specs.Promises.{DepthReads, FinalReads, ExactReads, SizeReads}
+use Rattle.cbor4ii_tree.specs.Headline.{EofReads}
+use Rattle.cbor4ii_tree.specs.Headline.{SkipsReads, CanonicalReads}
 use Rattle.cbor4ii_tree.proofs.encodings.Canonical.{canonical_encodes}
 use Rattle.cbor4ii_tree.proofs.answers.MayReject.{skipping_may_stop, skipping_leaves_nothing}
 use Rattle.cbor4ii_tree.proofs.answers.MayReject.{reading_may_stop, reading_leaves_nothing}
@@ -179,9 +183,11 @@ exact_skips {a = a} {b = b} (Err e) d = λ xs known z rest rejects.
 
 -- a call that reads a value
 abbrev ReadsCall : {E : Type 0} → View → View → Result Value (DecodeError E) → Type 0
-ReadsCall a b answer = Does (ReadsOneValue a.budget) (λ xs. ReadingRejects xs a.budget) a b answer
+ReadsCall a b answer = Does (ReadsOneValue false a.budget) (λ xs. ReadingRejects xs a.budget) a b
+    answer
 
-as_reads : (budget : Budget) (xs : List ℕ) (v : Value) (ys : List ℕ) → ReadsOneValue budget xs v ys
+as_reads : (budget : Budget) (xs : List ℕ) (v : Value) (ys : List ℕ) → ReadsOneValue false budget xs
+    v ys
     → DecodesTo xs budget (view v) ys
 as_reads budget xs v ys r =
     record {

@@ -1,5 +1,6 @@
 -- Where reading a canonical encoding is rejected by another error than that it is not canonical,
 -- reading a value fails so.
+use Rattle.std.proofs.Common.{false}
 use Rattle.std.proofs.Common.{◌≡◌, ℕ, zero, suc, ◌*◌, ◌/◌, ◌⊎◌, inl, inr, List, [], ◌∷◌, length}
 use Rattle.std.proofs.Common.{Option, Some, None, refl, ap, ◌∙◌, take, arith}
 use Rattle.cbor4ii_items.specs.Head.{indefinite_head, shortest}
@@ -44,7 +45,7 @@ OrValue rejects e rest = (e ≡ not_canonical canonical_name) ⊎ rejects e rest
 -- of a part of the item
 abbrev Parts : Budget → Stopping → InputError → List ℕ → Type 0
 Parts budget rejects e rest =
-    (ys : List ℕ) → rejects ys e rest → OrValue (RejectsOneValue budget ys) e rest
+    (ys : List ℕ) → rejects ys e rest → OrValue (RejectsOneValue false budget ys) e rest
 
 or_value : (S T : InputError → List ℕ → Type 0) (e : InputError) (rest : List ℕ) →
     (S e rest → T e rest)
@@ -81,10 +82,10 @@ kind_opens text_string b is = (omega arith, omega arith, is)
 
 string_value : (k : Kind) (b : ℕ) (bs : List ℕ) (budget : Budget) (e : InputError) (rest : List ℕ)
     → b / 32 ≡ kind_major k → RejectsShortestString (kind_name k) (kind_major k)
-    (b ∷ bs) budget e rest → OrValue (RejectsUnder budget (b ∷ bs)) e rest
+    (b ∷ bs) budget e rest → OrValue (RejectsUnder false budget (b ∷ bs)) e rest
 string_value k b bs budget e rest m (length_rejected h) =
     or_value (RejectsLength (kind_name k) (kind_major k) (b ∷ bs) budget)
-    (RejectsUnder budget (b ∷ bs))
+    (RejectsUnder false budget (b ∷ bs))
     e rest (λ s. string_rejects budget k b bs e rest m (string_head_rejected s.0 s.1))
     (length_value (kind_name k) (kind_major k) b bs budget e rest (kind_opens k b) h)
 string_value k b bs budget e rest m (content_cut c least) =
@@ -95,10 +96,10 @@ string_value k b bs budget e rest m (content_cut c least) =
 items_value : (budget : Budget) (rejects : Stopping) (n : ℕ) (xs : List ℕ) (e : InputError)
     (rest : List ℕ) → Parts budget rejects e rest → RejectsInCount (FitsCanonically budget) rejects
     n xs e rest
-    → OrValue (RejectsInCount (Readable budget) (RejectsOneValue budget) n xs) e rest
+    → OrValue (RejectsInCount (Readable budget) (RejectsOneValue false budget) n xs) e rest
 items_value budget rejects n xs e rest f s =
-    or_value (RejectsOneValue budget s.after)
-    (RejectsInCount (Readable budget) (RejectsOneValue budget) n xs) e rest
+    or_value (RejectsOneValue false budget s.after)
+    (RejectsInCount (Readable budget) (RejectsOneValue false budget) n xs) e rest
     (λ h. record {
       prefix = s.prefix;
       after = s.after;
@@ -112,21 +113,21 @@ items_value budget rejects n xs e rest f s =
 array_value : (outer inner : Budget) (rejects : Stopping) (b : ℕ) (bs : List ℕ) (e : InputError)
     (rest : List ℕ) → step_in outer ≡ Some inner → b / 32 ≡ 4 → Parts inner rejects e rest
     → AtShortest array_name 4 inner (RejectsInCount (FitsCanonically inner) rejects) (b ∷ bs) e rest
-    → OrValue (RejectsUnder outer (b ∷ bs)) e rest
+    → OrValue (RejectsUnder false outer (b ∷ bs)) e rest
 array_value outer inner rejects b bs e rest step m f (inl h) =
-    or_value (RejectsLength array_name 4 (b ∷ bs) inner) (RejectsUnder outer (b ∷ bs)) e rest
+    or_value (RejectsLength array_name 4 (b ∷ bs) inner) (RejectsUnder false outer (b ∷ bs)) e rest
     (λ s. array_length_rejects inner (b ∷ bs) inner e rest s b bs refl m outer step)
     (length_value array_name 4 b bs inner e rest (λ is. (omega arith, omega arith, is)) h)
 array_value outer inner rejects b bs e rest step m f (inr h) =
     let n = h.argument in
     let w = shortest n in
     let fits = shortest_fits n h.is.0 in
-    or_value (RejectsInCount (Readable inner) (RejectsOneValue inner) n h.after)
-    (RejectsUnder outer (b ∷ bs)) e rest
+    or_value (RejectsInCount (Readable inner) (RejectsOneValue false inner) n h.after)
+    (RejectsUnder false outer (b ∷ bs)) e rest
     (λ s. at_row outer (starts_array w) b bs e rest
     (ap initial (first_is 4 n b bs h.after h.is) ∙ initial_array n w fits)
     (step_taken array_name (b ∷ bs) (λ inner. AtHead array_name 4 w b
-    (RejectsInCount (Readable inner) (RejectsOneValue inner)) bs) outer inner e rest step
+    (RejectsInCount (Readable inner) (RejectsOneValue false inner)) bs) outer inner e rest step
     (inr (record { argument = n; after = h.after; fits = fits; is = h.is.1; stopped = s }))))
     (items_value inner rejects n h.after e rest f h.stopped)
 
@@ -134,37 +135,38 @@ map_value : (outer inner : Budget) (rejects : Stopping) (b : ℕ) (bs : List ℕ
     (rest : List ℕ) → step_in outer ≡ Some inner → b / 32 ≡ 5 → Parts inner rejects e rest
     → AtShortest map_name 5 inner (λ n. RejectsInCount (FitsCanonically inner) rejects (2 * n))
     (b ∷ bs) e rest
-    → OrValue (RejectsUnder outer (b ∷ bs)) e rest
+    → OrValue (RejectsUnder false outer (b ∷ bs)) e rest
 map_value outer inner rejects b bs e rest step m f (inl h) =
-    or_value (RejectsLength map_name 5 (b ∷ bs) inner) (RejectsUnder outer (b ∷ bs)) e rest
+    or_value (RejectsLength map_name 5 (b ∷ bs) inner) (RejectsUnder false outer (b ∷ bs)) e rest
     (λ s. map_length_rejects inner (b ∷ bs) inner e rest s b bs refl m outer step)
     (length_value map_name 5 b bs inner e rest (λ is. (omega arith, omega arith, is)) h)
 map_value outer inner rejects b bs e rest step m f (inr h) =
     let n = h.argument in
     let w = shortest n in
     let fits = shortest_fits n h.is.0 in
-    or_value (RejectsInCount (Readable inner) (RejectsOneValue inner) (2 * n) h.after)
-    (RejectsUnder outer (b ∷ bs)) e rest
+    or_value (RejectsInCount (Readable inner) (RejectsOneValue false inner) (2 * n) h.after)
+    (RejectsUnder false outer (b ∷ bs)) e rest
     (λ s. at_row outer (starts_map w) b bs e rest
     (ap initial (first_is 5 n b bs h.after h.is) ∙ initial_map n w fits)
     (step_taken map_name (b ∷ bs) (λ inner. AtHead map_name 5 w b (λ n.
-    RejectsInCount (Readable inner) (RejectsOneValue inner) (2 * n)) bs) outer inner e rest step
+    RejectsInCount (Readable inner) (RejectsOneValue false inner) (2 * n)) bs) outer inner e rest
+    step
     (inr (record { argument = n; after = h.after; fits = fits; is = h.is.1; stopped = s }))))
     (items_value inner rejects (2 * n) h.after e rest f h.stopped)
 
 tag_value : (budget : Budget) (rejects : Stopping) (b : ℕ) (bs : List ℕ) (e : InputError)
     (rest : List ℕ)
     → b / 32 ≡ 6 → Parts budget rejects e rest → AtShortest tag_name 6 budget (λ n. rejects)
-    (b ∷ bs) e rest → OrValue (RejectsUnder budget (b ∷ bs)) e rest
+    (b ∷ bs) e rest → OrValue (RejectsUnder false budget (b ∷ bs)) e rest
 tag_value budget rejects b bs e rest m f (inl h) =
     or_value (λ z ys. (¬ (OpensLength 6 b)) × RejectsHead tag_name 6 8 (b ∷ bs) z ys)
-    (RejectsUnder budget (b ∷ bs)) e rest (λ s. tag_rejects budget b bs e rest m s.1)
+    (RejectsUnder false budget (b ∷ bs)) e rest (λ s. tag_rejects budget b bs e rest m s.1)
     (head_value tag_name 6 b bs budget e rest h)
 tag_value budget rejects b bs e rest m f (inr h) =
     let n = h.argument in
     let w = shortest n in
     let fits = shortest_fits n h.is.0 in
-    or_value (RejectsOneValue budget h.after) (RejectsUnder budget (b ∷ bs)) e rest
+    or_value (RejectsOneValue false budget h.after) (RejectsUnder false budget (b ∷ bs)) e rest
     (λ s. at_row budget (starts_tag w) b bs e rest
     (ap initial (first_is 6 n b bs h.after h.is) ∙ initial_tag n w fits)
     (inr (record { argument = n; after = h.after; fits = fits; is = h.is.1; stopped = s })))
@@ -174,7 +176,7 @@ tag_value budget rejects b bs e rest m f (inr h) =
 
 other_value : (budget : Budget) (b : ℕ) (bs : List ℕ) (e : InputError) (rest : List ℕ) (i : Initial)
     → initial b ≡ i → CanonicalOtherRejects i b bs e rest → OrValue
-    (RejectsUnder budget (b ∷ bs)) e rest
+    (RejectsUnder false budget (b ∷ bs)) e rest
 other_value budget b bs e rest (starts_simple simple_undefined) is h = inl h.0
 other_value budget b bs e rest (starts_bits p) is h =
     inr (at_row budget (starts_bits p) b bs e rest is h)
@@ -183,10 +185,10 @@ other_value budget b bs e rest _ is h = absurd h
 
 stepped_value : (name : List ℕ) (outer : Budget) (xs : List ℕ)
     (S : Budget → InputError → List ℕ → Type 0) (e : InputError) (rest : List ℕ)
-    → (outer ≡ Some 0 → RejectsUnder outer xs (depth_overflow name) xs) → ((inner : Budget)
-    → step_in outer ≡ Some inner → S inner e rest → OrValue (RejectsUnder outer xs) e rest)
+    → (outer ≡ Some 0 → RejectsUnder false outer xs (depth_overflow name) xs) → ((inner : Budget)
+    → step_in outer ≡ Some inner → S inner e rest → OrValue (RejectsUnder false outer xs) e rest)
     → RejectsAtStep name (step_in outer) xs S e rest
-    → OrValue (RejectsUnder outer xs) e rest
+    → OrValue (RejectsUnder false outer xs) e rest
 stepped_value name None xs S e rest none f h = f None refl h
 stepped_value name (Some zero) xs S e rest none f h = inr (rw (h.0, h.1) (none refl))
 stepped_value name (Some (suc n)) xs S e rest none f h = f (Some n) refl h
@@ -194,14 +196,14 @@ stepped_value name (Some (suc n)) xs S e rest none f h = f (Some n) refl h
 by_value : (rejects : Budget → Stopping) (budget : Budget) (k b : ℕ) (bs : List ℕ) (e : InputError)
     (rest : List ℕ) → b / 32 ≡ k → ((o : Budget) → Parts o (rejects o) e rest)
     → CanonicalRejectsBy rejects budget k b bs e rest → OrValue
-    (RejectsUnder budget (b ∷ bs)) e rest
+    (RejectsUnder false budget (b ∷ bs)) e rest
 by_value rejects budget zero b bs e rest m f h =
     or_value (λ z ys. (¬ (OpensLength 0 b)) × RejectsHead (sign_name unsigned) 0 8 (b ∷ bs) z ys)
-    (RejectsUnder budget (b ∷ bs)) e rest (λ s. int_rejects budget unsigned b bs e rest m s.1)
+    (RejectsUnder false budget (b ∷ bs)) e rest (λ s. int_rejects budget unsigned b bs e rest m s.1)
     (head_value (sign_name unsigned) 0 b bs budget e rest h)
 by_value rejects budget (suc zero) b bs e rest m f h =
     or_value (λ z ys. (¬ (OpensLength 1 b)) × RejectsHead (sign_name negative) 1 8 (b ∷ bs) z ys)
-    (RejectsUnder budget (b ∷ bs)) e rest (λ s. int_rejects budget negative b bs e rest m s.1)
+    (RejectsUnder false budget (b ∷ bs)) e rest (λ s. int_rejects budget negative b bs e rest m s.1)
     (head_value (sign_name negative) 1 b bs budget e rest h)
 by_value rejects budget (suc (suc zero)) b bs e rest m f h =
     string_value byte_string b bs budget e rest m h
@@ -217,12 +219,12 @@ by_value rejects budget (suc (suc (suc zero))) b bs e rest m f (inr h) =
 by_value rejects budget (suc (suc (suc (suc zero)))) b bs e rest m f h =
     stepped_value array_name budget (b ∷ bs) (λ inner. CanonicalArrayRejects rejects inner
     (b ∷ bs)) e rest
-    (λ none. array_no_step budget none (b ∷ bs) b bs refl m)
+    (λ none. array_no_step false budget none (b ∷ bs) b bs refl m)
     (λ inner step. array_value budget inner (rejects inner) b bs e rest step m (f inner)) h
 by_value rejects budget (suc (suc (suc (suc (suc zero))))) b bs e rest m f h =
     stepped_value map_name budget (b ∷ bs) (λ inner. CanonicalMapRejects rejects inner
     (b ∷ bs)) e rest
-    (λ none. map_no_step budget none (b ∷ bs) b bs refl m)
+    (λ none. map_no_step false budget none (b ∷ bs) b bs refl m)
     (λ inner step. map_value budget inner (rejects inner) b bs e rest step m (f inner)) h
 by_value rejects budget (suc (suc (suc (suc (suc (suc zero)))))) b bs e rest m f h =
     tag_value budget (rejects budget) b bs e rest m (f budget) h
@@ -231,7 +233,7 @@ by_value rejects budget (suc (suc (suc (suc (suc (suc (suc k))))))) b bs e rest 
 
 from_value : (rejects : Budget → Stopping) (budget : Budget) (xs : List ℕ) (e : InputError)
     (rest : List ℕ) → ((o : Budget) → Parts o (rejects o) e rest)
-    → CanonicalRejectsFrom rejects budget xs e rest → OrValue (RejectsUnder budget xs) e rest
+    → CanonicalRejectsFrom rejects budget xs e rest → OrValue (RejectsUnder false budget xs) e rest
 from_value rejects budget [] e rest f h = inr h
 from_value rejects budget (b ∷ bs) e rest f h =
     by_value rejects budget (b / 32) b bs e rest refl f h
@@ -247,11 +249,11 @@ within_value : (n : ℕ) (budget : Budget) (e : InputError) (rest : List ℕ)
     → Parts budget (CanonicalRejectsWithin n budget) e rest
 within_value zero budget e rest xs h = absurd h
 within_value (suc n) budget e rest xs h =
-    or_value (RejectsAtStep value_name (step_in budget) xs (λ inner. RejectsUnder inner xs))
-    (RejectsOneValue budget xs) e rest (reading_by_parts xs budget e rest).1
+    or_value (RejectsAtStep value_name (step_in budget) xs (λ inner. RejectsUnder false inner xs))
+    (RejectsOneValue false budget xs) e rest (reading_by_parts xs budget e rest).1
     (or_step value_name (step_in budget) xs (λ inner. CanonicalRejectsFrom
     (CanonicalRejectsWithin n) inner
-    xs) (λ inner. RejectsUnder inner xs) e rest (λ inner.
+    xs) (λ inner. RejectsUnder false inner xs) e rest (λ inner.
     from_value (CanonicalRejectsWithin n) inner xs e rest (λ o. within_value n o e rest)) h)
 
 pub canonically_as_value : (xs : List ℕ) (budget : Budget) (e : InputError) (rest : List ℕ)

@@ -1,4 +1,5 @@
 -- Reading a value from its canonical encoding, as a decoding call, and what its answer says.
+use Rattle.std.proofs.Common.{true}
 use Rattle.std.proofs.Common.{◌≡◌, ℕ, List, [], ◌++◌, length, take, drop, None, Some, Ok, Err, inl}
 use Rattle.std.proofs.Common.{◌+◌, ◌≤◌, inr, refl, sym, ap, ◌∙◌, subst, arith, IfSome, append_assoc}
 use Rattle.std.proofs.Common.{append-nil, length-append, take-append-drop}
@@ -7,7 +8,8 @@ use Rattle.std.proofs.Math.Seq.{drop-append_seam, take-append_seam}
 use Rattle.cbor4ii_rw.specs.View.{View}
 use Rattle.cbor4ii_rw.specs.declared.error.DecodeError.{DecodeError}
 use Rattle.cbor4ii_items.specs.InputError.{InputError, input_error_of}
-use Rattle.cbor4ii_items.specs.Decoding.{CostFits, Sound, Complete, Rejects, NoneRead}
+use Rattle.cbor4ii_items.specs.Decoding.{Sound, Complete, Rejects, NoneRead}
+use Rattle.cbor4ii_items.specs.Budget.{CostFits}
 use Rattle.cbor4ii_items.specs.Decoding.{Decodes}
 use Rattle.cbor4ii_items.specs.Laws.Calls.{ok}
 use Rattle.cbor4ii_items.specs.Laws.Steps.{moves_err}
@@ -22,13 +24,13 @@ use Rattle.cbor4ii_tree.specs.InputError.{MayReject}
 use Rattle.cbor4ii_tree.specs.CanonicalShape.{DecodesCanonically}
 use Rattle.cbor4ii_tree.specs.ReadingRejects.{ReadingRejects}
 use Rattle.cbor4ii_tree.specs.CanonicalRejects.{CanonicalRejects}
-use Rattle.cbor4ii_tree.specs.CanonicalCalls.{ReadsCanonically, RejectsCanonically}
+use Rattle.cbor4ii_tree.specs.Valuing.{ReadsOneValue, RejectsOneValue}
 use Rattle.cbor4ii_tree.specs.Canonically.{ReadsCanonical, RejectsCanonical, IsNotCanonical}
 use Rattle.cbor4ii_tree.specs.Canonically.{OnlyCanonical, AllCanonical, TakesEncoding}
 use Rattle.cbor4ii_tree.specs.Canonically.{EveryEncoding, PrefixCanonical, DepthCanonical}
 use Rattle.cbor4ii_tree.specs.Canonically.{NeverCanonical, OthersCanonical, ValueCanonical}
 use Rattle.cbor4ii_tree.specs.Canonically.{ExactCanonical, canonical_format}
-use Rattle.cbor4ii_tree.specs.Promises.{EofReads}
+use Rattle.cbor4ii_tree.specs.Headline.{EofReads}
 use Rattle.cbor4ii_tree.specs.View.{view}
 use Rattle.cbor4ii_tree.specs.Does.{Does}
 use Rattle.cbor4ii_tree.specs.Laws.Ignoring.{one_encoding}
@@ -45,7 +47,7 @@ use Rattle.cbor4ii_tree.proofs.answers.Promises.{if_some, all_bytes, reading_eof
 -- ---- in the words of the definitions
 
 as_canonically : (budget : Budget) (xs : List ℕ) (v : Value) (ys : List ℕ)
-    → ReadsCanonically budget xs v ys → DecodesCanonically xs budget (view v) ys
+    → ReadsOneValue true budget xs v ys → DecodesCanonically xs budget (view v) ys
 as_canonically budget xs v ys r = record {
   encoding = bytes r.0;
   steps = cost r.0;
@@ -114,82 +116,83 @@ may_stop budget xs e rest h = elim (canonically_as_value xs budget e rest h) [
 -- ---- a value was read
 
 module _ {E : Type 0} {a b : View} {v : Value}
-    (d : Does {E = E} (ReadsCanonically a.budget) (RejectsCanonically a.budget) a b (Ok v)) where
-  canonical_sound : Sound ReadsCanonical a b (record { 0 = v })
-  canonical_sound = record {
-    at = λ xs known.
+    (d : Does {E = E} (ReadsOneValue true a.budget) (RejectsOneValue true a.budget) a b (Ok v))
+  where
+    canonical_sound : Sound ReadsCanonical a b (record { 0 = v })
+    canonical_sound = record {
+      at = λ xs known.
+          let s = d.ok xs known in
+          let t = s.2.0 in
+          let n = length (bytes t) in
+          let trailing : drop n xs ≡ s.0 = ap (drop n) s.2.3 ∙ drop-append_seam (bytes t) s.0 in
+          let prefix : take n xs ≡ bytes t = ap (take n) s.2.3 ∙ take-append_seam (bytes t) s.0 in
+          record {
+            count = n;
+            cost = cost t;
+            read = record {
+              within = omega (arith, ap length s.2.3, length-append (bytes t) s.0);
+              encodes = record {
+                of_tree = t;
+                canonical = s.2.1.0;
+                bytes_are = sym prefix;
+                value_is = s.2.2;
+                cost_is = refl;
+              };
+            };
+            fits = s.2.1.1;
+            left = s.1 ∙ ap Some (sym trailing);
+          };
+    }
+
+    pub canonical_ok : b.bound + 1 ≤ a.bound
+        → Decodes {E = E} canonical_format a b (Ok (record { 0 = v }))
+    canonical_ok progress = ok canonical_format d.moves.by (λ some. progress) canonical_sound
+
+    pub canonical_only : OnlyCanonical {E = E} a b (Ok (record { 0 = v }))
+    canonical_only = λ xs known. let s =
+        d.ok xs known in (s.0, s.1, as_canonically a.budget xs v s.0 s.2)
+
+    pub canonical_all : AllCanonical {E = E} a b (Ok (record { 0 = v }))
+    canonical_all = λ xs known w rest r.
         let s = d.ok xs known in
         let t = s.2.0 in
-        let n = length (bytes t) in
-        let trailing : drop n xs ≡ s.0 = ap (drop n) s.2.3 ∙ drop-append_seam (bytes t) s.0 in
-        let prefix : take n xs ≡ bytes t = ap (take n) s.2.3 ∙ take-append_seam (bytes t) s.0 in
-        record {
-          count = n;
-          cost = cost t;
-          read = record {
-            within = omega (arith, ap length s.2.3, length-append (bytes t) s.0);
-            encodes = record {
-              of_tree = t;
-              canonical = s.2.1.0;
-              bytes_are = sym prefix;
-              value_is = s.2.2;
-              cost_is = refl;
-            };
-          };
-          fits = s.2.1.1;
-          left = s.1 ∙ ap Some (sym trailing);
-        };
-  }
+        let c = r.encodes in
+        let same = one_encoding t c.of_tree s.0 rest s.2.1.0.0.0 c.canonical.0.0
+        (sym s.2.3 ∙ r.begins ∙ ap (λ z. z ++ rest) (sym c.bytes_are)) in
+        (sym s.2.2 ∙ ap value same.0 ∙ c.value_is, s.1 ∙ ap Some same.1)
 
-  pub canonical_ok : b.bound + 1 ≤ a.bound
-      → Decodes {E = E} canonical_format a b (Ok (record { 0 = v }))
-  canonical_ok progress = ok canonical_format d.moves.by (λ some. progress) canonical_sound
+    pub takes_encoding : TakesEncoding {E = E} a b (Ok (record { 0 = v }))
+    takes_encoding = λ xs known.
+        let s = d.ok xs known in
+        let r = (reads_canonically_iff xs a.budget (view v) s.0).0
+        (as_canonically a.budget xs v s.0 s.2) in
+        (s.0, s.1, r.0, r.1, r.2)
 
-  pub canonical_only : OnlyCanonical {E = E} a b (Ok (record { 0 = v }))
-  canonical_only = λ xs known. let s =
-      d.ok xs known in (s.0, s.1, as_canonically a.budget xs v s.0 s.2)
+    pub canonical_every : EveryEncoding {E = E} a b (Ok (record { 0 = v }))
+    canonical_every = λ xs known w rest decoded fits is.
+        canonical_all xs known w rest ((reads_canonically_iff xs a.budget w rest).1
+        (decoded, fits, is))
 
-  pub canonical_all : AllCanonical {E = E} a b (Ok (record { 0 = v }))
-  canonical_all = λ xs known w rest r.
-      let s = d.ok xs known in
-      let t = s.2.0 in
-      let c = r.encodes in
-      let same = one_encoding t c.of_tree s.0 rest s.2.1.0.0.0 c.canonical.0.0
-      (sym s.2.3 ∙ r.begins ∙ ap (λ z. z ++ rest) (sym c.bytes_are)) in
-      (sym s.2.2 ∙ ap value same.0 ∙ c.value_is, s.1 ∙ ap Some same.1)
+    pub canonical_prefix : PrefixCanonical {E = E} a (Ok (record { 0 = v }))
+    canonical_prefix = λ xs known w decoded fits prefix.
+        let s = d.ok xs known in
+        let t = s.2.0 in
+        let c = canonical_canonically w decoded in
+        let all : bytes t ++ (s.0 ++ prefix.0) ≡ bytes c.of_tree ++ [] =
+        sym (append_assoc (bytes t) s.0 prefix.0) ∙ ap (λ z. z ++ prefix.0) (sym s.2.3)
+        ∙ sym prefix.2 ∙ sym c.bytes_are ∙ sym (append-nil (bytes c.of_tree)) in
+        prefix.1 (none_left s.0 prefix.0
+        (one_encoding t c.of_tree (s.0 ++ prefix.0) [] s.2.1.0.0.0 c.canonical.0.0 all).1)
 
-  pub takes_encoding : TakesEncoding {E = E} a b (Ok (record { 0 = v }))
-  takes_encoding = λ xs known.
-      let s = d.ok xs known in
-      let r = (reads_canonically_iff xs a.budget (view v) s.0).0
-      (as_canonically a.budget xs v s.0 s.2) in
-      (s.0, s.1, r.0, r.1, r.2)
-
-  pub canonical_every : EveryEncoding {E = E} a b (Ok (record { 0 = v }))
-  canonical_every = λ xs known w rest decoded fits is.
-      canonical_all xs known w rest ((reads_canonically_iff xs a.budget w rest).1
-      (decoded, fits, is))
-
-  pub canonical_prefix : PrefixCanonical {E = E} a (Ok (record { 0 = v }))
-  canonical_prefix = λ xs known w decoded fits prefix.
-      let s = d.ok xs known in
-      let t = s.2.0 in
-      let c = canonical_canonically w decoded in
-      let all : bytes t ++ (s.0 ++ prefix.0) ≡ bytes c.of_tree ++ [] =
-      sym (append_assoc (bytes t) s.0 prefix.0) ∙ ap (λ z. z ++ prefix.0) (sym s.2.3)
-      ∙ sym prefix.2 ∙ sym c.bytes_are ∙ sym (append-nil (bytes c.of_tree)) in
-      prefix.1 (none_left s.0 prefix.0
-      (one_encoding t c.of_tree (s.0 ++ prefix.0) [] s.2.1.0.0.0 c.canonical.0.0 all).1)
-
-  pub canonical_exact : ExactCanonical {E = E} a b (Ok (record { 0 = v }))
-  canonical_exact = λ xs known z rest rejects. let s = d.ok xs known in
-      none_begins a.budget xs z rest (canonically_lacks a.budget xs z rest rejects)
-      (s.2.0, s.0, s.2.1, s.2.3)
+    pub canonical_exact : ExactCanonical {E = E} a b (Ok (record { 0 = v }))
+    canonical_exact = λ xs known z rest rejects. let s = d.ok xs known in
+        none_begins a.budget xs z rest (canonically_lacks a.budget xs z rest rejects)
+        (s.2.0, s.0, s.2.1, s.2.3)
 
 -- ---- it was rejected
 
 module _ {E : Type 0} {a b : View} {e : DecodeError E}
-    (d : Does {V = Value} (ReadsCanonically a.budget) (RejectsCanonically a.budget) a b
+    (d : Does {V = Value} (ReadsOneValue true a.budget) (RejectsOneValue true a.budget) a b
     (Err e)) where
   stopped : (xs : List ℕ) (Q : InputError → Type 0) → a.known ≡ Some xs →
       ((z : InputError) (ys : List ℕ)

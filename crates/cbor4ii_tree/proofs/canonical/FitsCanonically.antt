@@ -10,7 +10,7 @@ use Rattle.cbor4ii_items.specs.Head.{Width, byte_count, HeadFits}
 use Rattle.cbor4ii_items.specs.Head.{additional, head, shortest}
 use Rattle.cbor4ii_items.specs.Heads.{ReadsHead}
 use Rattle.cbor4ii_items.specs.Laws.Heads.{head_one, shortest_fits, argument_below, byte_count-le}
-use Rattle.cbor4ii_items.specs.Decoding.{CostFits}
+use Rattle.cbor4ii_items.specs.Budget.{CostFits}
 use Rattle.cbor4ii_items.specs.Initial.{unsigned, negative, byte_string, text_string, Simple}
 use Rattle.cbor4ii_items.specs.Initial.{simple_false, simple_true, simple_null, simple_undefined}
 use Rattle.cbor4ii_items.specs.Initial.{simple_byte, Precision, half, single, double}
@@ -22,7 +22,7 @@ use Rattle.cbor4ii_tree.specs.Tree.{map_indefinite}
 use Rattle.cbor4ii_tree.specs.Tree.{tagged, simple, bits, Trees, no_trees, tree, Pairs, no_pairs}
 use Rattle.cbor4ii_tree.specs.Tree.{pair, count, pair_count, bytes, bytes_all, bytes_pairs}
 use Rattle.cbor4ii_tree.specs.Tree.{LooseAll, LoosePairs, SoundStringsAll, SoundStringsPairs}
-use Rattle.cbor4ii_tree.specs.Cost.{Budget, step_in, cost, greatest_cost, greatest_pair_cost}
+use Rattle.cbor4ii_tree.specs.Cost.{Budget, cost, greatest_cost, greatest_pair_cost}
 use Rattle.cbor4ii_tree.specs.InputError.{InputError, eof, depth_overflow}
 use Rattle.cbor4ii_tree.specs.Rejections.{Stopping, Each, EachPair}
 use Rattle.cbor4ii_tree.specs.CanonicalShape.{CanonicalShape, CanonicalShapeAll}
@@ -90,14 +90,6 @@ BeginsOther budget xs =
 
 -- ---- budgets
 
-same_inner : (x y : Budget) → Some x ≡ Some y → x ≡ y
-same_inner x y e = cc
-
-pub raised : (b inner : Budget) → step_in b ≡ Some inner → b ≡ raise inner
-raised None inner e = ap raise (same_inner None inner e)
-raised (Some zero) inner e = cc
-raised (Some (suc n)) inner e = ap raise (same_inner (Some n) inner e)
-
 same_number : (n m : ℕ) → Some n ≡ Some m → n ≡ m
 same_number n m e = cc
 
@@ -115,10 +107,6 @@ none_raised (Some m) e = cc
 zero_raised : (a : Budget) → Some 0 ≡ raise a → ⊥
 zero_raised None e = cc
 zero_raised (Some m) e = let f : 0 ≡ suc m = same_number 0 (suc m) e in omega (arith, f)
-
-pub fits_raise : (c : ℕ) (b : Budget) → CostFits c b → CostFits (1 + c) (raise b)
-fits_raise c None h = tt
-fits_raise c (Some n) h = omega arith
 
 fits_lower : (c : ℕ) (b : Budget) → CostFits (1 + c) (raise b) → CostFits c b
 fits_lower c None h = tt

@@ -10,7 +10,7 @@ use Rattle.cbor4ii_items.specs.Head.{shortest, break}
 use Rattle.cbor4ii_items.specs.Initial.{Sign, unsigned, negative, sign_major, Kind, byte_string}
 use Rattle.cbor4ii_items.specs.Initial.{text_string, kind_major, simple_false, simple_true}
 use Rattle.cbor4ii_items.specs.Initial.{simple_null, simple_undefined, simple_byte, info_of}
-use Rattle.cbor4ii_items.specs.Decoding.{CostFits}
+use Rattle.cbor4ii_items.specs.Budget.{CostFits}
 use Rattle.cbor4ii_items.specs.Laws.Heads.{if_cases, shortest_fits, argument_below, same_wide}
 use Rattle.cbor4ii_tree.specs.Tree.{Tree, int, string, chunked, array, array_indefinite, map_of}
 use Rattle.cbor4ii_tree.specs.Tree.{map_indefinite}

@@ -5,7 +5,7 @@ use Rattle.std.proofs.Common.{refl, sym, ap, ◌∙◌, arith, subst, append_ass
 use Rattle.cbor4ii_items.specs.Head.{Width, byte_count, head}
 use Rattle.cbor4ii_tree.specs.Tree.{Tree, Trees, no_trees, tree, Pairs, no_pairs, pair, bytes}
 use Rattle.cbor4ii_tree.specs.Tree.{bytes_all, bytes_pairs}
-use Rattle.cbor4ii_items.specs.Decoding.{CostFits}
+use Rattle.cbor4ii_items.specs.Budget.{CostFits}
 use Rattle.cbor4ii_tree.specs.Cost.{Budget, step_in}
 use Rattle.cbor4ii_tree.specs.InputError.{InputError, eof, Len, IsEof, IsDepthOverflow}
 use Rattle.cbor4ii_tree.specs.Rejections.{Stopping, Is, Missing, MissingAll, AfterHead, AtHead}

@@ -16,7 +16,8 @@ use Rattle.cbor4ii_rw.specs.Reader.{Keeps}
 use Rattle.cbor4ii_rw.specs.Long.{FillsLong, BorrowsNone}
 use Rattle.cbor4ii_rw.specs.declared.error.DecodeError.{DecodeError}
 use Rattle.cbor4ii_items.specs.Moves.{Kept, ReaderFailed, Moves}
-use Rattle.cbor4ii_items.specs.Decoding.{CostFits, IsExact, Sound, NoneRead, Complete, Rejects}
+use Rattle.cbor4ii_items.specs.Decoding.{IsExact, Sound, NoneRead, Complete, Rejects}
+use Rattle.cbor4ii_items.specs.Budget.{CostFits}
 use Rattle.cbor4ii_items.specs.Decoding.{Decodes}
 use Rattle.cbor4ii_items.specs.InputError.{input_error_of, is_read, is_out_of_memory}
 use Rattle.cbor4ii_items.specs.Laws.Contents.{lends_prefix}
@@ -35,7 +36,7 @@ use Rattle.cbor4ii_tree.specs.Laws.Binds.{same_err}
 use Rattle.cbor4ii_tree.specs.Laws.Initials.{length-bytes-pos}
 use Rattle.cbor4ii_tree.proofs.skipping.Answer.{not_both, skip_from_Rejects}
 use Rattle.cbor4ii_tree.specs.Skip.{skip}
-use Rattle.cbor4ii_tree.specs.Promises.{Answered, Rejected}
+use Rattle.cbor4ii_tree.specs.Headline.{Answered, Rejected}
 use Rattle.cbor4ii_tree.specs.Raw.{ReadsRaw, RejectsRaw, BeginsRaw, RejectedPrefix, Unmoved}
 use Rattle.cbor4ii_tree.specs.Raw.{LeftAsTheyWere, raw_value, most}
 use Rattle.cbor4ii_tree.specs.Raw.{SkipsPrefix, RejectsPrefix, Captured, NotCaptured, failed}

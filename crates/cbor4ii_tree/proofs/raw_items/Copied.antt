@@ -13,7 +13,7 @@ use Rattle.cbor4ii_tree.specs.Cost.{Budget, skip_cost}
 use Rattle.cbor4ii_tree.specs.InputError.{InputError}
 use Rattle.cbor4ii_tree.specs.Encodings.{Skips}
 use Rattle.cbor4ii_tree.specs.SkippingRejects.{SkippingRejects}
-use Rattle.cbor4ii_tree.specs.Promises.{Answered, Rejected}
+use Rattle.cbor4ii_tree.specs.Headline.{Answered, Rejected}
 use Rattle.cbor4ii_tree.specs.Raw.{raw_format, RejectedPrefix, SkipsPrefix}
 use Rattle.cbor4ii_tree.specs.BoxedRaw.{boxed_content, CapturesCopy, UnmovedOrLacks, SkippedTo}
 use Rattle.cbor4ii_tree.specs.BoxedRaw.{CopiesItem, boxed_raw_format}

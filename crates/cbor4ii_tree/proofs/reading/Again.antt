@@ -9,7 +9,7 @@ use Rattle.cbor4ii_tree.specs.Tree.{map_indefinite}
 use Rattle.cbor4ii_tree.specs.Tree.{tagged, simple, bits, Trees, no_trees, tree, count, pair_count}
 use Rattle.cbor4ii_tree.specs.Tree.{bytes, bytes_all, bytes_pairs, joined_chunks, Loose}
 use Rattle.cbor4ii_tree.specs.Tree.{SoundStrings, AreChunks}
-use Rattle.cbor4ii_items.specs.Decoding.{CostFits}
+use Rattle.cbor4ii_items.specs.Budget.{CostFits}
 use Rattle.cbor4ii_items.specs.Laws.SequenceParts.{fits_less}
 use Rattle.cbor4ii_tree.specs.Cost.{Budget, cost, chunks_cost, greatest_cost, greatest_pair_cost}
 use Rattle.cbor4ii_tree.specs.InputError.{sign_name, precision_name, array_name, map_name, tag_name}

@@ -6,7 +6,7 @@ use Rattle.cbor4ii_items.specs.Head.{IsBytes}
 use Rattle.cbor4ii_tree.specs.Tree.{Tree, bytes, Loose, Joins}
 use Rattle.cbor4ii_tree.specs.Item.{Item, IsItem}
 use Rattle.cbor4ii_tree.specs.Meaning.{value}
-use Rattle.cbor4ii_items.specs.Decoding.{CostFits}
+use Rattle.cbor4ii_items.specs.Budget.{CostFits}
 use Rattle.cbor4ii_items.specs.Laws.SequenceParts.{fits_less}
 use Rattle.cbor4ii_tree.specs.Cost.{Budget, skip_cost, cost}
 use Rattle.cbor4ii_tree.specs.Canonical.{canonical_encoding, canonical_cost, with_bignums}

@@ -15,7 +15,7 @@ use Rattle.cbor4ii_tree.specs.Tree.{Tree, int, string, chunked, array, array_ind
 use Rattle.cbor4ii_tree.specs.Tree.{map_indefinite}
 use Rattle.cbor4ii_tree.specs.Tree.{tagged, simple, bits, Trees, no_trees, tree, count, pair_count}
 use Rattle.cbor4ii_tree.specs.Tree.{bytes, bytes_all, bytes_pairs, joined_chunks, TextIsUtf8}
-use Rattle.cbor4ii_items.specs.Decoding.{CostFits}
+use Rattle.cbor4ii_items.specs.Budget.{CostFits}
 use Rattle.cbor4ii_items.specs.Laws.Answering.{fits_zero}
 use Rattle.cbor4ii_items.specs.Laws.SequenceParts.{fits_less}
 use Rattle.cbor4ii_tree.specs.Cost.{Budget, step_in, chunks_cost}

@@ -8,7 +8,8 @@ use Rattle.cbor4ii_rw.specs.declared.error.DecodeError.{DecodeError}
 use Rattle.cbor4ii_rw.specs.declared.error.DecodeError.TheVariants.{OutOfMemory}
 use Rattle.cbor4ii_items.specs.InputError.{InputError, input_error_of, is_read, is_depth_overflow}
 use Rattle.cbor4ii_items.specs.InputError.{depth_overflow}
-use Rattle.cbor4ii_items.specs.Decoding.{CostFits, Sound, Rejects}
+use Rattle.cbor4ii_items.specs.Decoding.{Sound, Rejects}
+use Rattle.cbor4ii_items.specs.Budget.{CostFits}
 use Rattle.cbor4ii_items.specs.Moves.{Kept, Moves, is_failure}
 use Rattle.cbor4ii_items.specs.Reading.{Runs, peek_at}
 use Rattle.cbor4ii_items.specs.Laws.Steps.{moves_then, moves_err, kept_then, counted_none}

@@ -5,7 +5,8 @@ use Rattle.std.proofs.Math.Seq.{drop-append_seam}
 use Rattle.cbor4ii_rw.specs.View.{View}
 use Rattle.cbor4ii_rw.specs.declared.error.DecodeError.{DecodeError}
 use Rattle.cbor4ii_items.specs.InputError.{InputError, input_error_of, is_out_of_memory}
-use Rattle.cbor4ii_items.specs.Decoding.{Sound, Complete, NoneRead, CostFits, Decodes}
+use Rattle.cbor4ii_items.specs.Decoding.{Sound, Complete, NoneRead, Decodes}
+use Rattle.cbor4ii_items.specs.Budget.{CostFits}
 use Rattle.cbor4ii_items.specs.Decoding.{leaf_format}
 use Rattle.cbor4ii_items.specs.Laws.Calls.{ok, no_memory}
 use Rattle.cbor4ii_items.specs.Laws.Steps.{moves_err}

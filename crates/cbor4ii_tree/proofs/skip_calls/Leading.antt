@@ -13,7 +13,7 @@ use Rattle.cbor4ii_items.specs.Initial.{starts_map, starts_indefinite_map, bad_m
 use Rattle.cbor4ii_items.specs.Initial.{bad_tag}
 use Rattle.cbor4ii_items.specs.Initial.{starts_simple, starts_bits, initial, Kind, Precision, Sign}
 use Rattle.cbor4ii_items.specs.Initial.{Simple}
-use Rattle.cbor4ii_items.specs.Decoding.{CostFits}
+use Rattle.cbor4ii_items.specs.Budget.{CostFits}
 use Rattle.cbor4ii_items.specs.Magnitude.{number_of}
 use Rattle.cbor4ii_items.specs.Laws.Answering.{fits_zero}
 use Rattle.cbor4ii_tree.specs.Tree.{Tree, Trees, no_trees, tree, Pairs, no_pairs, pair, int, string}

@@ -10,7 +10,7 @@ use Rattle.cbor4ii_items.specs.Head.{IsBytes}
 use Rattle.cbor4ii_tree.proofs.heads.Inverse.{IsBytes-take, IsBytes-drop}
 use Rattle.cbor4ii_items.specs.Laws.Contents.{first_bytes}
 use Rattle.cbor4ii_items.specs.Initial.{initial}
-use Rattle.cbor4ii_items.specs.Decoding.{CostFits}
+use Rattle.cbor4ii_items.specs.Budget.{CostFits}
 use Rattle.cbor4ii_tree.specs.Tree.{Trees, no_trees, tree, count, bytes, bytes_all}
 use Rattle.cbor4ii_tree.specs.Cost.{Budget}
 use Rattle.cbor4ii_tree.specs.Rejections.{Each}

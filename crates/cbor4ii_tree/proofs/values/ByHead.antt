@@ -1,4 +1,5 @@
 -- Arrays, maps and tags by their heads, which a look has shown whole.
+use Rattle.std.proofs.Common.{Bool}
 use Rattle.std.proofs.Common.{◌≡◌, ℕ, zero, suc, ◌+◌, ◌/◌, ◌≤◌, List, [], ◌∷◌, ◌++◌, length}
 use Rattle.std.proofs.Common.{take, drop, take-append-drop, length-drop, true, Some, IfSome, IsTrue}
 use Rattle.std.proofs.Common.{Result, Ok}
@@ -68,95 +69,59 @@ next_shown E exact n shows prefix s = record {
       some_as n.head (λ h. head_shown exact (n.first / 32) h.argument h.size shows prefix) s.head;
 }
 
-loosely : (exact other : Type 0) → (other → exact) → (major n size : ℕ) (shown : List ℕ)
-    → HeadStands exact major n size shown → HeadStands other major n size shown
-loosely exact other f major n size shown s = record {
-  nests = s.nests;
-  within = s.within;
-  some = s.some;
-  fresh = s.fresh;
-  width = s.width;
-  fits = s.fits;
-  least = λ h. s.least (f h);
-  is = s.is;
-}
-
-pub sees_loosely : (exact other : Type 0) → (other → exact) → (n : Next) (shown : List ℕ)
-    → SeesNext exact n shown → SeesNext other n shown
-sees_loosely exact other f n shown s = record {
-  trailing = s.trailing;
-  begins = s.begins;
-  head =
-      some_as n.head (λ h. loosely exact other f (n.first / 32) h.argument h.size shown) s.head;
-}
-
 -- a look that decides nothing
-pub undecided : (E exact other : Type 0) → (other → exact) → {a m : View} (n : Next)
-    {seen : Leaf} → seen ≡ Begins n → Offers 1 (SeesLeaf exact seen) a m → ShowsNext E other n a m
-undecided E exact other f {a = a} {m = m} n is h =
+pub undecided : (E exact : Type 0) {a m : View} (n : Next) {seen : Leaf} → seen ≡ Begins n
+    → Offers 1 (SeesLeaf exact seen) a m → ShowsNext E exact n a m
+undecided E exact {a = a} {m = m} n is h =
     let o = subst (λ s. Offers 1 (SeesLeaf exact s) a m) is h in
-    next_shown E other n o.shows o.prefix (sees_loosely exact other f n o.shown o.is)
+    next_shown E exact n o.shows o.prefix o.is
 
 -- ---- a head that was shown
 
-module _ {exact : Type 0} {major n size : ℕ} {a m : View} (s : ShowsHead exact major n size a m)
-  where
-    head_is : IfKnown a.known (λ xs. xs ≡ head major n s.stands.width ++ drop size xs)
-    head_is xs known =
-        sym (take-append-drop size xs)
-        ∙ ap (λ r. r ++ drop size xs) ((s.begins xs known).2 ∙ s.stands.is)
+module _ (exact : Bool) {major n size : ℕ} {a m : View}
+    (s : ShowsHead (exact ≡ true) major n size a m) where
+  head_is : IfKnown a.known (λ xs. xs ≡ head major n s.stands.width ++ drop size xs)
+  head_is xs known =
+      sym (take-append-drop size xs)
+      ∙ ap (λ r. r ++ drop size xs) ((s.begins xs known).2 ∙ s.stands.is)
 
-    taken_kept : {c : View} → Advances size m c → Kept a c
-    taken_kept {c = c} adv = record {
-      rest = λ xs known.
-          let b = s.begins xs known in (
-            size,
-            record {
-              left = adv.known xs b.0;
-              within = b.1;
-              bytes = subst IsBytes (sym b.2) s.stands.fresh;
-            },
-          );
-      counted = λ xs known ys left k gone.
-          let b = s.begins xs known in
-          let e : ys ≡ drop size xs = let t = adv.known xs b.0 in cc in
-          let same : 0 + size ≡ k =
-          omega (arith, gone, ap length e, length-drop size xs, b.1) in
-          adv.taken
-          ∙ ap (counts size) (s.kept.counted xs known xs b.0 0 (omega arith))
-          ∙ counts_more 0 size k a.taken same;
-      bound = omega (arith, s.kept.bound, adv.bound);
-      budget = adv.budget ∙ s.kept.budget;
-      failures = adv.failures ∙ s.kept.failures;
-      zero_copy = λ h. adv.zero_copy (s.kept.zero_copy h);
-      remembers = λ h. adv.remembers (s.kept.remembers h);
-      ends_at = adv.ends_at ∙ s.kept.ends_at;
-    }
+  taken_kept : {c : View} → Advances size m c → Kept a c
+  taken_kept {c = c} adv = record {
+    rest = λ xs known.
+        let b = s.begins xs known in (
+          size,
+          record {
+            left = adv.known xs b.0;
+            within = b.1;
+            bytes = subst IsBytes (sym b.2) s.stands.fresh;
+          },
+        );
+    counted = λ xs known ys left k gone.
+        let b = s.begins xs known in
+        let e : ys ≡ drop size xs = let t = adv.known xs b.0 in cc in
+        let same : 0 + size ≡ k =
+        omega (arith, gone, ap length e, length-drop size xs, b.1) in
+        adv.taken
+        ∙ ap (counts size) (s.kept.counted xs known xs b.0 0 (omega arith))
+        ∙ counts_more 0 size k a.taken same;
+    bound = omega (arith, s.kept.bound, adv.bound);
+    budget = adv.budget ∙ s.kept.budget;
+    failures = adv.failures ∙ s.kept.failures;
+    zero_copy = λ h. adv.zero_copy (s.kept.zero_copy h);
+    remembers = λ h. adv.remembers (s.kept.remembers h);
+    ends_at = adv.ends_at ∙ s.kept.ends_at;
+  }
 
-    -- it was taken
-    pub reached_head : {c : View} → Advances size m c → Reached (HeadAt major n) a c
-    reached_head adv = record {
-      kept = taken_kept adv;
-      at = λ xs known. (
-        drop size xs,
-        adv.known xs (s.begins xs known).0,
-        (s.stands.width, s.stands.fits, head_is xs known),
-      );
-    }
-
-    pub reached_least : {c : View} → exact → Advances size m c → Reached (ShortestAt major n) a c
-    reached_least holds adv = record {
-      kept = taken_kept adv;
-      at = λ xs known. (
-        drop size xs,
-        adv.known xs (s.begins xs known).0,
-        (
-          argument_below s.stands.width n s.stands.fits,
-          head_is xs known
-              ∙ ap (λ w. head major n w ++ drop size xs) (s.stands.least holds),
-        ),
-      );
-    }
+  -- it was taken
+  pub reached_head : {c : View} → Advances size m c → Reached (HeadAt exact major n) a c
+  reached_head adv = record {
+    kept = taken_kept adv;
+    at = λ xs known. (
+      drop size xs,
+      adv.known xs (s.begins xs known).0,
+      (s.stands.width, s.stands.fits, s.stands.least, head_is xs known),
+    );
+  }
 
 -- ---- under a step
 
@@ -256,19 +221,12 @@ module _ {E exact : Type 0} (n : Next) {a m : View} (s : ShowsNext E exact n a m
       → StepsIn a.budget (budgeted b.budget a).budget true
   next_step b h = peek_step n.first s.first.runs b h
 
-  -- its head
-  module _ (h : Head) (is : n.head ≡ Some h) where
-    head_shows : ShowsHead exact (n.first / 32) h.argument h.size a m
-    head_shows =
-        subst (λ o. IfSome o (λ h. ShowsHead exact (n.first / 32) h.argument h.size a m)) is s.head
-
-    -- it was taken
-    pub takes_head : (major : ℕ) {c : View} → n.first / 32 ≡ major → Advances h.size m c
-        → Reached (HeadAt major h.argument) a c
-    takes_head major {c = c} e adv =
-        subst (λ j. Reached (HeadAt j h.argument) a c) e (reached_head head_shows adv)
-
-    pub takes_least : (major : ℕ) {c : View} → exact → n.first / 32 ≡ major → Advances h.size m c
-        → Reached (ShortestAt major h.argument) a c
-    takes_least major {c = c} holds e adv =
-        subst (λ j. Reached (ShortestAt j h.argument) a c) e (reached_least head_shows holds adv)
+-- its head was taken
+pub takes_head : (exact : Bool) {E : Type 0} (n : Next) {a m c : View} (major : ℕ) (h : Head)
+    → ShowsNext E (exact ≡ true) n a m → n.head ≡ Some h → n.first / 32 ≡ major
+    → Advances h.size m c → Reached (HeadAt exact major h.argument) a c
+takes_head exact n {a = a} {m = m} {c = c} major h s is e adv =
+    subst (λ j. Reached (HeadAt exact j h.argument) a c) e
+    (reached_head exact
+    (subst (λ o. IfSome o (λ h. ShowsHead (exact ≡ true) (n.first / 32) h.argument h.size a m)) is
+    s.head) adv)

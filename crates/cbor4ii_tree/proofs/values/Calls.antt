@@ -1,6 +1,6 @@
 -- The calls of reading a value, one after another.
-use Rattle.std.proofs.Common.{◌≡◌, ℕ, ◌/◌, ◌%◌, ◌<◌, List, [], ◌∷◌, ◌++◌, drop, Some, Result}
-use Rattle.std.proofs.Common.{true, refl, sym, ap, ◌∙◌, subst, arith, inl, inr}
+use Rattle.std.proofs.Common.{◌≡◌, ℕ, ◌/◌, ◌%◌, ◌<◌, List, [], ◌∷◌, ◌++◌, Some, Result}
+use Rattle.std.proofs.Common.{Bool, true, false, refl, sym, ap, ◌∙◌, subst, arith, inl, inr}
 use Rattle.cbor4ii_rw.specs.View.{View}
 use Rattle.cbor4ii_rw.specs.Reader.{KeepsAllButBudget, StepsIn, step_back}
 use Rattle.cbor4ii_rw.specs.declared.error.DecodeError.{DecodeError}
@@ -8,56 +8,85 @@ use Rattle.cbor4ii_items.specs.InputError.{InputError}
 use Rattle.cbor4ii_items.specs.Head.{Width, in_first, one, two, four, eight, byte_count, additional}
 use Rattle.cbor4ii_items.specs.Head.{HeadFits, head, indefinite_head}
 use Rattle.cbor4ii_items.specs.Heads.{RejectsHead, Begins}
-use Rattle.cbor4ii_items.specs.Laws.Heads.{after_head}
-use Rattle.cbor4ii_items.specs.Numbers.{ReadsUnsigned}
 use Rattle.std.specs.Prelude.{pos, ◌^◌}
 use Rattle.std.proofs.lemmas.Int.{to_z-of_z}
 use mir.Val.{to_z}
 use mir.Syntax.{w128}
-use Rattle.cbor4ii_tree.specs.declared.value.Value.{Integer}
-use Rattle.cbor4ii_tree.specs.Item.{integer}
-use Rattle.cbor4ii_tree.specs.Laws.Binds.{step_up}
 use Rattle.cbor4ii_items.specs.Initial.{Info, wide, indefinite_ended, reserved, info_of, initial}
 use Rattle.cbor4ii_items.specs.Initial.{by_major, int_by_info, Sign, unsigned, negative, sign_major}
-use Rattle.cbor4ii_items.specs.Laws.Answering.{fits_zero}
 use Rattle.cbor4ii_tree.specs.InputError.{sign_name}
 use Rattle.cbor4ii_tree.specs.Laws.Numbers.{additional-lt, info-additional}
 use Rattle.cbor4ii_tree.proofs.heads.Means.{WidthSays, InfoSays, info_says}
 use Rattle.cbor4ii_tree.proofs.skip_calls.Bytes.{says_width}
 use Rattle.cbor4ii_tree.specs.declared.value.Value.{Value}
-use Rattle.cbor4ii_tree.specs.Tree.{Tree, Trees, int, no_trees, tree}
+use Rattle.cbor4ii_tree.specs.Tree.{Tree, Trees, no_trees, tree, Plain}
+use Rattle.cbor4ii_tree.specs.CanonicalShape.{CanonicalShape}
+use Rattle.cbor4ii_items.specs.Budget.{CostFits}
+use Rattle.cbor4ii_items.specs.InputError.{depth_overflow}
 use Rattle.cbor4ii_tree.specs.Item.{no_items, item}
 use Rattle.cbor4ii_tree.specs.Meaning.{value, values}
-use Rattle.cbor4ii_tree.specs.Cost.{Budget, step_in}
+use Rattle.cbor4ii_tree.specs.Cost.{Budget, step_in, cost}
 use Rattle.cbor4ii_tree.specs.InputError.{value_name}
 use Rattle.cbor4ii_tree.specs.InputError.{eof, mismatch, Small, len_of}
 use Rattle.cbor4ii_tree.specs.Rejections.{RejectsAtStep, Is, MissingAll}
-use Rattle.cbor4ii_tree.specs.ReadingRejects.{ReadingRejectsFrom, ReadingRejectsBy}
+use Rattle.cbor4ii_tree.specs.ReadingRejects.{ReadingRejectsBy}
 use Rattle.cbor4ii_tree.specs.ReadingRejects.{ReadingRejects}
 use Rattle.cbor4ii_tree.specs.View.{view, items_view}
 use Rattle.cbor4ii_tree.specs.Does.{Does}
-use Rattle.cbor4ii_tree.specs.Valuing.{ReadsOneValue, RejectsOneValue, ReadsUnder, RejectsUnder}
+use Rattle.cbor4ii_tree.specs.Valuing.{Whole, ReadsOneValue, RejectsOneValue, ReadsUnder}
+use Rattle.cbor4ii_tree.specs.Valuing.{RejectsUnder}
 use Rattle.cbor4ii_tree.proofs.skip_calls.Doing.{does_stepped, steps_in}
-use Rattle.cbor4ii_tree.proofs.answers.Nesting.{reading_by_parts}
+use Rattle.cbor4ii_tree.proofs.answers.Nesting.{reading_by_parts, strict_by_parts}
 use Rattle.cbor4ii_tree.proofs.parts.Pushed.{push}
-use Rattle.cbor4ii_tree.proofs.values.Encoding.{view-Integer}
+
+-- ---- an encoding that is read whole
+
+pub whole : (exact : Bool) (budget : Budget) (t : Tree) → Plain t
+    → (exact ≡ true → CanonicalShape t) → CostFits (cost t) budget → Whole exact budget t
+whole false budget t plain shape fits = (plain, fits)
+whole true budget t plain shape fits = ((plain, shape refl), fits)
+
+pub whole_is : (exact : Bool) (budget : Budget) (t : Tree) → Whole exact budget t
+    → Plain t × (exact ≡ true → CanonicalShape t) × CostFits (cost t) budget
+whole_is false budget t h = (h.0, (λ e. cc), h.1)
+whole_is true budget t h = (h.0.0, (λ e. h.0.1), h.1)
 
 -- ---- a step
 
-pub rejects_under : (inner budget : Budget) (xs : List ℕ) (e : InputError) (rest : List ℕ)
-    → step_in budget ≡ Some inner → RejectsUnder inner xs e rest → RejectsOneValue budget xs e rest
-rejects_under inner budget xs e rest step h =
-    (reading_by_parts xs budget e rest).1 (subst (λ o. RejectsAtStep value_name o xs (λ inner.
-    ReadingRejectsFrom (λ left part. ReadingRejects part left) inner xs) e rest) (sym step) h)
+pub rejects_under : (exact : Bool) (inner budget : Budget) (xs : List ℕ) (e : InputError)
+    (rest : List ℕ) → step_in budget ≡ Some inner → RejectsUnder exact inner xs e rest
+    → RejectsOneValue exact budget xs e rest
+rejects_under false inner budget xs e rest step h =
+    (reading_by_parts xs budget e rest).1
+    (subst (λ o. RejectsAtStep value_name o xs (λ inner. RejectsUnder false inner xs) e rest)
+    (sym step) h)
+rejects_under true inner budget xs e rest step h =
+    (strict_by_parts xs budget e rest).1
+    (subst (λ o. RejectsAtStep value_name o xs (λ inner. RejectsUnder true inner xs) e rest)
+    (sym step) h)
 
-pub stepped : {E : Type 0} {r : Result Value (DecodeError E)} {a b c d : View}
-    → StepsIn a.budget b.budget true → KeepsAllButBudget a b → Does (ReadsUnder b.budget)
-    (RejectsUnder b.budget) b c r → d.budget ≡ step_back c.budget → KeepsAllButBudget c d
-    → Does (ReadsOneValue a.budget) (RejectsOneValue a.budget) a d r
-stepped {a = a} {b = b} takes inward w gives outward =
-    does_stepped (ReadsUnder b.budget) (ReadsOneValue a.budget) (RejectsUnder b.budget)
-    (RejectsOneValue a.budget) (λ xs ys v h. h a.budget (steps_in a.budget b.budget takes))
-    (λ xs e rest h. rejects_under b.budget a.budget xs e rest (steps_in a.budget b.budget takes) h)
+-- no step is left
+pub value_no_step : (exact : Bool) (budget : Budget) → budget ≡ Some 0 → (xs : List ℕ)
+    → RejectsOneValue exact budget xs (depth_overflow value_name) xs
+value_no_step false budget none xs = rw none (refl, refl)
+value_no_step true budget none xs = rw none (refl, refl)
+
+-- no byte is left
+pub value_no_byte : (exact : Bool) (budget : Budget) (z : InputError) (rest : List ℕ)
+    → Is (eof value_name (Small 1)) [] z rest → RejectsUnder exact budget [] z rest
+value_no_byte false budget z rest is = is
+value_no_byte true budget z rest is = is
+
+pub stepped : (exact : Bool) {E : Type 0} {r : Result Value (DecodeError E)} {a b c d : View}
+    → StepsIn a.budget b.budget true → KeepsAllButBudget a b
+    → Does (ReadsUnder exact b.budget) (RejectsUnder exact b.budget) b c r
+    → d.budget ≡ step_back c.budget → KeepsAllButBudget c d
+    → Does (ReadsOneValue exact a.budget) (RejectsOneValue exact a.budget) a d r
+stepped exact {a = a} {b = b} takes inward w gives outward =
+    let step = steps_in a.budget b.budget takes in
+    does_stepped (ReadsUnder exact b.budget) (ReadsOneValue exact a.budget)
+    (RejectsUnder exact b.budget) (RejectsOneValue exact a.budget) (λ xs ys v h. h a.budget step)
+    (λ xs e rest h. rejects_under exact b.budget a.budget xs e rest step h)
     takes inward w gives outward
 
 -- ---- items, one after another
@@ -146,7 +175,7 @@ indefinite_byte major b m is =
 -- an integer's head is rejected
 pub int_rejects : (inner : Budget) (s : Sign) (b : ℕ) (bs : List ℕ) (e : InputError) (rest : List ℕ)
     → b / 32 ≡ sign_major s → RejectsHead (sign_name s) (sign_major s) 8 (b ∷ bs) e rest
-    → RejectsUnder inner (b ∷ bs) e rest
+    → RejectsUnder false inner (b ∷ bs) e rest
 int_rejects inner s b bs e rest m h =
     subst (λ i. ReadingRejectsBy (λ left part. ReadingRejects part left) inner i b bs e rest)
     (sym (initial_of b (sign_major s) m ∙ row s (b % 32))) (by_info (info_of (b % 32)) refl)
@@ -176,13 +205,3 @@ fits_less one v h = omega arith
 fits_less two v h = omega arith
 fits_less four v h = omega arith
 fits_less eight v h = omega arith
-
-pub unsigned_reads : (inner : Budget) (v n c : ℕ) (xs : List ℕ) → ReadsUnsigned 8 xs v n c
-    → ReadsUnder inner xs (Integer (to_z w128 v)) (drop n xs)
-unsigned_reads inner v n c xs r budget step = (
-  int unsigned v r.0.wide,
-  ((r.0.fits, tt), step_up budget inner 0 step (fits_zero inner)),
-  ap integer (sym (small_z v (fits_less r.0.wide v r.0.fits)))
-      ∙ sym (view-Integer (to_z w128 v)),
-  r.0.is ∙ ap (λ z. head 0 v r.0.wide ++ z) (sym (after_head 0 8 xs v n r.0)),
-)

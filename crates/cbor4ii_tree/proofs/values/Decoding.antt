@@ -1,4 +1,5 @@
 -- Reading a value, as a decoding call, and what its answer says of the bytes.
+use Rattle.std.proofs.Common.{false}
 use Rattle.std.proofs.Common.{◌≡◌, ℕ, List, length, take, drop, Option, None, Some, Result, Ok, Err}
 use Rattle.std.proofs.Common.{refl, sym, ap, ◌∙◌, IfSome, IfOk, IfErr, OnOk, ◌+◌, ◌≤◌, arith}
 use Rattle.std.proofs.Common.{length-append}
@@ -7,7 +8,8 @@ use Rattle.std.proofs.Math.Seq.{drop-append_seam, take-append_seam}
 use Rattle.cbor4ii_rw.specs.View.{View}
 use Rattle.cbor4ii_rw.specs.declared.error.DecodeError.{DecodeError}
 use Rattle.cbor4ii_items.specs.InputError.{InputError, input_error_of}
-use Rattle.cbor4ii_items.specs.Decoding.{Sound, Complete, Rejects, NoneRead, CostFits}
+use Rattle.cbor4ii_items.specs.Decoding.{Sound, Complete, Rejects, NoneRead}
+use Rattle.cbor4ii_items.specs.Budget.{CostFits}
 use Rattle.cbor4ii_items.specs.Decoding.{Decodes}
 use Rattle.cbor4ii_items.specs.Laws.Calls.{any_memory}
 use Rattle.cbor4ii_tree.specs.declared.value.Value.{Value}
@@ -42,8 +44,8 @@ by_error (Some z) P Q f h = f z h
 -- ---- what a decoding call promises
 
 module _ {E : Type 0} {a b : View} where
-  value_sound : (r : Result Value (DecodeError E)) → Does (ReadsOneValue a.budget)
-      (RejectsOneValue a.budget) a b r → IfOk r
+  value_sound : (r : Result Value (DecodeError E)) → Does (ReadsOneValue false a.budget)
+      (RejectsOneValue false a.budget) a b r → IfOk r
       (Sound (λ xs (v : Value). ReadsValue xs (view v)) a b)
   value_sound (Err e) d = tt
   value_sound (Ok v) d = record {
@@ -72,7 +74,7 @@ module _ {E : Type 0} {a b : View} where
   }
 
   value_complete : (r : Result Value (DecodeError E))
-      → Does (ReadsOneValue a.budget) (RejectsOneValue a.budget) a b r
+      → Does (ReadsOneValue false a.budget) (RejectsOneValue false a.budget) a b r
       → IfErr r (Complete (λ xs (v : Value). ReadsValue xs (view v)) a)
   value_complete (Ok v) d = tt
   value_complete (Err e) d = record {
@@ -84,13 +86,14 @@ module _ {E : Type 0} {a b : View} where
         (d.err xs known);
   }
 
-  value_rejects : (r : Result Value (DecodeError E)) → Does (ReadsOneValue a.budget)
-      (RejectsOneValue a.budget) a b r → IfErr r (Rejects ReadingRejects a b)
+  value_rejects : (r : Result Value (DecodeError E)) → Does (ReadsOneValue false a.budget)
+      (RejectsOneValue false a.budget) a b r → IfErr r (Rejects ReadingRejects a b)
   value_rejects (Ok v) d = tt
   value_rejects (Err e) d = record { at = λ xs known. d.err xs known }
 
-  pub value_decodes : (r : Result Value (DecodeError E)) → Does (ReadsOneValue a.budget)
-      (RejectsOneValue a.budget) a b r → OnOk r (b.bound + 1 ≤ a.bound) → Decodes value_format a b r
+  pub value_decodes : (r : Result Value (DecodeError E)) → Does (ReadsOneValue false a.budget)
+      (RejectsOneValue false a.budget) a b r → OnOk r (b.bound + 1 ≤ a.bound) → Decodes value_format
+      a b r
   value_decodes r d progress = record {
     moves = d.moves;
     progress = λ some. progress;

@@ -1,8 +1,8 @@
 -- The parts of a value that are heads alone, and tags.
-use Rattle.std.proofs.Common.{◌⊎◌, ◌≡◌, ◌≢◌, ℕ, zero, suc, ◌+◌, ◌*◌, ◌/◌, ◌%◌, ◌<◌, ◌≤◌, ◌^◌, List}
 use Rattle.std.proofs.Common.{[]}
+use Rattle.std.proofs.Common.{◌⊎◌, ◌≡◌, ◌≢◌, ℕ, zero, suc, ◌+◌, ◌*◌, ◌/◌, ◌%◌, ◌<◌, ◌≤◌, ◌^◌, List}
 use Rattle.std.proofs.Common.{◌∷◌, ◌++◌, length, drop, take, Option, Some, None, Result, Ok, Err}
-use Rattle.std.proofs.Common.{IfOk, IfErr, false}
+use Rattle.std.proofs.Common.{IfOk, IfErr, Bool, true, false, ℤ}
 use Rattle.std.proofs.Common.{refl, sym, ap, ◌∙◌, subst, arith, append_assoc, inl, inr, rules, pos}
 use Rattle.std.proofs.Common.{negsuc, ◌-ℤ◌, ne_eqb}
 use Rattle.std.proofs.Math.Seq.{drop-append_seam}
@@ -14,13 +14,18 @@ use Rattle.cbor4ii_rw.specs.View.{View}
 use Rattle.cbor4ii_rw.specs.Reader.{Advances}
 use Rattle.cbor4ii_rw.specs.declared.error.DecodeError.{DecodeError}
 use Rattle.cbor4ii_items.specs.InputError.{InputError, input_error_of, is_read, is_depth_overflow}
-use Rattle.cbor4ii_items.specs.Head.{byte_count, additional, head}
+use Rattle.cbor4ii_items.specs.Head.{byte_count, additional, head, shortest}
 use Rattle.cbor4ii_items.specs.Heads.{RejectsHead, ReadsHead}
 use Rattle.cbor4ii_items.specs.Laws.Heads.{after_head, length-bytes_high_first}
+use Rattle.cbor4ii_items.specs.Laws.Heads.{argument_below}
+use Rattle.cbor4ii_items.specs.Shortest.{canonical_name}
+use Rattle.cbor4ii_items.specs.InputError.{not_canonical}
+use Rattle.cbor4ii_items.specs.Initial.{Sign, sign_major, unsigned}
 use Rattle.cbor4ii_items.specs.Numbers.{ReadsArgument, RejectsArgument}
 use Rattle.cbor4ii_items.specs.Floats.{ReadsFloat, RejectsFloat, float_bytes}
 use Rattle.cbor4ii_items.specs.Moves.{Moves}
-use Rattle.cbor4ii_items.specs.Decoding.{CostFits, Sound, Rejects}
+use Rattle.cbor4ii_items.specs.Decoding.{Sound, Rejects}
+use Rattle.cbor4ii_items.specs.Budget.{CostFits}
 use Rattle.cbor4ii_items.specs.Reading.{Runs, peek_at}
 use Rattle.cbor4ii_items.specs.Initial.{Initial, Info, wide, indefinite_ended, reserved, info_of}
 use Rattle.cbor4ii_items.specs.Initial.{initial}
@@ -31,54 +36,98 @@ use Rattle.cbor4ii_items.specs.Initial.{simple_false, simple_true, simple_null, 
 use Rattle.cbor4ii_items.specs.Laws.Answering.{fits_zero}
 use Rattle.cbor4ii_tree.specs.InputError.{eof, unsupported, Small, len_of, precision_name, tag_name}
 use Rattle.cbor4ii_tree.specs.InputError.{value_name}
-use Rattle.cbor4ii_tree.specs.Laws.Initials.{initial_tag, initial_bits}
+use Rattle.cbor4ii_tree.specs.Laws.Initials.{initial_tag, initial_bits, initial_simple}
 use Rattle.cbor4ii_tree.specs.declared.value.Value.{Value, Integer, Float, Tag, the_lemmas}
 use Rattle.cbor4ii_tree.specs.declared.value.FloatBits.{FloatBits}
 use Rattle.cbor4ii_tree.specs.declared.value.FloatBits.TheVariants.{F16, F32, F64}
 use Rattle.cbor4ii_tree.specs.Tree.{int, tagged, simple, bits, bytes}
 use Rattle.cbor4ii_tree.specs.Item.{integer, float, tag}
+use Rattle.cbor4ii_tree.specs.Meaning.{number}
 use Rattle.cbor4ii_tree.specs.Cost.{Budget, cost}
 use Rattle.cbor4ii_tree.specs.Laws.Binds.{step_up}
 use Rattle.cbor4ii_tree.specs.Rejections.{Stopping, MissingAll}
 use Rattle.cbor4ii_tree.specs.ReadingRejects.{ReadingRejectsBy, ReadingRejects}
+use Rattle.cbor4ii_tree.specs.CanonicalRejects.{ShortestAt, CanonicalRejectsBy}
+use Rattle.cbor4ii_tree.specs.CanonicalRejects.{CanonicalOtherRejects}
 use Rattle.cbor4ii_tree.specs.View.{view}
 use Rattle.cbor4ii_tree.specs.Does.{Accepting, Does, answered}
 use Rattle.cbor4ii_tree.specs.Valuing.{HeadAt, ReadsOneValue, ReadsTagged, RejectsOneValue}
 use Rattle.cbor4ii_tree.specs.Valuing.{ReadsUnder, RejectsUnder, TakesTag}
-use Rattle.cbor4ii_tree.specs.Valuing.{RejectsFirst, RejectsOf, SimpleOf, TakesSimple}
+use Rattle.cbor4ii_tree.specs.Valuing.{RejectsFirst, RejectsOf, SimpleOf}
 use Rattle.cbor4ii_tree.proofs.skip_calls.Doing.{Reached, reached_start, reached_by}
 use Rattle.cbor4ii_tree.proofs.skip_calls.Doing.{reached_as, does_ok, does_err, does_after}
 use Rattle.cbor4ii_tree.proofs.skip_calls.Doing.{does_reject, does_rejects, call_rejects}
 use Rattle.cbor4ii_tree.proofs.skip_calls.Doing.{reached_peek}
 use Rattle.cbor4ii_tree.proofs.skip_calls.Doing.{reached_first, reached_sound}
 use Rattle.cbor4ii_tree.proofs.values.Calls.{Peeked, head_cut, no_head, initial_of, small_z}
-use Rattle.cbor4ii_tree.proofs.values.Calls.{fits_less}
+use Rattle.cbor4ii_tree.proofs.values.Calls.{fits_less, whole, whole_is}
+use Rattle.cbor4ii_tree.proofs.canonical.FitsCanonically.{precision_major}
 use Rattle.cbor4ii_tree.proofs.values.Encoding.{view-Integer}
 
 -- ---- after a byte that was looked at
 
 pub at_row : (inner : Budget) (i : Initial) (b : ℕ) (bs : List ℕ) (e : InputError) (rest : List ℕ)
     → initial b ≡ i → ReadingRejectsBy (λ left part. ReadingRejects part left) inner i b bs e rest
-    → RejectsUnder inner (b ∷ bs) e rest
+    → RejectsUnder false inner (b ∷ bs) e rest
 at_row inner i b bs e rest is h =
     subst (λ j. ReadingRejectsBy (λ left part. ReadingRejects part left) inner j b bs e rest)
     (sym is) h
 
-module _ (b : ℕ) {E : Type 0} {a m : View}
+pub at_major : (k : ℕ) (budget : Budget) (b : ℕ) (bs : List ℕ) (e : InputError) (rest : List ℕ)
+    → b / 32 ≡ k → CanonicalRejectsBy (RejectsOneValue true) budget k b bs e rest
+    → RejectsUnder true budget (b ∷ bs) e rest
+at_major k budget b bs e rest is h =
+    subst (λ j. CanonicalRejectsBy (RejectsOneValue true) budget j b bs e rest) (sym is) h
+
+module _ (exact : Bool) (b : ℕ) {E : Type 0} {a m : View}
     (first : Runs {E = E} (peek_at value_name 1) a m (Ok b)) where
   pub arm_does : (A : Accepting Value) (S : Stopping) {r : Result Value (DecodeError E)} {c : View}
-      → ((bs ys : List ℕ) (v : Value) → A (b ∷ bs) v ys → ReadsUnder a.budget (b ∷ bs) v ys)
+      → ((bs ys : List ℕ) (v : Value) → A (b ∷ bs) v ys → ReadsUnder exact a.budget (b ∷ bs) v ys)
       → ((bs : List ℕ) (z : InputError) (rest : List ℕ) → S (b ∷ bs) z rest
-      → RejectsUnder a.budget (b ∷ bs) z rest)
-      → Does A S m c r → Does (ReadsUnder a.budget) (RejectsUnder a.budget) a c r
-  arm_does A S f g d = does_after (Peeked b) A (ReadsUnder a.budget) S (RejectsUnder a.budget)
-      (λ xs ys zs v p h. subst (λ x. ReadsUnder a.budget x v zs) (sym p.1)
+      → RejectsUnder exact a.budget (b ∷ bs) z rest)
+      → Does A S m c r → Does (ReadsUnder exact a.budget) (RejectsUnder exact a.budget) a c r
+  arm_does A S f g d =
+      does_after (Peeked b) A (ReadsUnder exact a.budget) S (RejectsUnder exact a.budget)
+      (λ xs ys zs v p h. subst (λ x. ReadsUnder exact a.budget x v zs) (sym p.1)
       (f p.0 zs v (subst (λ x. A x v zs) (p.2 ∙ p.1) h)))
-      (λ xs ys z rest p h. subst (λ x. RejectsUnder a.budget x z rest) (sym p.1)
+      (λ xs ys z rest p h. subst (λ x. RejectsUnder exact a.budget x z rest) (sym p.1)
       (g p.0 z rest (subst (λ x. S x z rest) (p.2 ∙ p.1) h)))
       (reached_peek value_name 1 b first) d
 
--- ---- negative integers
+  -- what a first byte reports
+  pub first_does : {r : Result Value (DecodeError E)} {c : View}
+      → Does (ReadsUnder exact m.budget) (RejectsFirst exact b m.budget) m c r
+      → Does (ReadsUnder exact a.budget) (RejectsUnder exact a.budget) a c r
+  first_does d =
+      arm_does (ReadsUnder exact m.budget) (RejectsFirst exact b m.budget)
+      (λ bs ys v h. subst (λ o. ReadsUnder exact o (b ∷ bs) v ys) first.moves.by.budget h)
+      (λ bs z rest h. subst (λ o. RejectsUnder exact o (b ∷ bs) z rest) first.moves.by.budget
+      (h bs refl)) d
+
+-- ---- heads
+
+pub head_at : (exact : Bool) (major n : ℕ) (xs : List ℕ) (k : ℕ) → (h : ReadsHead major 8 xs n k)
+    → (exact ≡ true → h.wide ≡ shortest n) → HeadAt exact major n xs (drop k xs)
+head_at exact major n xs k h least = (
+  h.wide,
+  h.fits,
+  least,
+  h.is ∙ ap (λ z. head major n h.wide ++ z) (sym (after_head major 8 xs n k h)),
+)
+
+pub first_is : (b : ℕ) (xs : List ℕ) → take 1 xs ≡ b ∷ [] → xs ≡ b ∷ drop 1 xs
+first_is b [] e = cc
+first_is b (x ∷ xs) e = let f : x ≡ b = cc in ap (λ c. c ∷ xs) f
+
+-- a canonical head is the shortest
+pub shortest_at : (major n : ℕ) (xs ys : List ℕ) → HeadAt true major n xs ys
+    → ShortestAt major n xs ys
+shortest_at major n xs ys h = (
+  argument_below h.0 n h.1,
+  h.3 ∙ ap (λ w. head major n w ++ ys) (h.2 refl),
+)
+
+-- ---- integers
 
 below_zero : (v : ℕ) → negsuc 0 -ℤ pos v ≡ negsuc v
 below_zero zero = refl
@@ -90,67 +139,85 @@ negative_z v h =
     ∙ ap (λ z. to_z w128 (of_z w128 z)) (below_zero v)
     ∙ to_z-of_z w128 (negsuc v) (record { sfits = h })
 
-pub negative_reads : (inner : Budget) (v n c : ℕ) (xs : List ℕ) → ReadsArgument 1 8 xs v n c
-    → ReadsUnder inner xs (Integer (to_z w128 (of_z w128 (negsuc 0 -ℤ to_z w128 v)))) (drop n xs)
-negative_reads inner v n c xs r budget step = (
-  int negative v r.0.wide,
-  ((r.0.fits, tt), step_up budget inner 0 step (fits_zero inner)),
-  ap integer (sym (negative_z v (fits_less r.0.wide v r.0.fits))) ∙ sym (view-Integer _),
-  r.0.is ∙ ap (λ z. head 1 v r.0.wide ++ z) (sym (after_head 1 8 xs v n r.0)),
+int_reads : (exact : Bool) (s : Sign) (inner : Budget) (n : ℕ) (z : ℤ) (xs ys : List ℕ)
+    → HeadAt exact (sign_major s) n xs ys → number s n ≡ z
+    → ReadsUnder exact inner xs (Integer z) ys
+int_reads exact s inner n z xs ys h is budget step = (
+  int s n h.0,
+  whole exact budget (int s n h.0) (h.1, tt) h.2 (step_up budget inner 0 step (fits_zero inner)),
+  ap integer is ∙ sym (view-Integer z),
+  h.3,
 )
+
+pub unsigned_reads : (exact : Bool) (inner : Budget) (n : ℕ) (xs ys : List ℕ)
+    → HeadAt exact 0 n xs ys → ReadsUnder exact inner xs (Integer (to_z w128 n)) ys
+unsigned_reads exact inner n xs ys h =
+    int_reads exact unsigned inner n _ xs ys h (sym (small_z n (fits_less h.0 n h.1)))
+
+pub negative_reads : (exact : Bool) (inner : Budget) (n : ℕ) (xs ys : List ℕ)
+    → HeadAt exact 1 n xs ys
+    → ReadsUnder exact inner xs (Integer (to_z w128 (of_z w128 (negsuc 0 -ℤ to_z w128 n)))) ys
+negative_reads exact inner n xs ys h =
+    int_reads exact negative inner n _ xs ys h (sym (negative_z n (fits_less h.0 n h.1)))
 
 -- ---- simple values
 
-pub simple_read : {E : Type 0} (b : ℕ) {a m c : View} {v : Value}
+pub simple_read : (exact : Bool) {E : Type 0} (b : ℕ) {a m c : View} {v : Value}
     → Runs {E = E} (peek_at value_name 1) a m (Ok b) → b < 256 → Advances 1 m c
-    → SimpleOf b (Some v) → Does {E = E} (ReadsUnder a.budget) (RejectsUnder a.budget) a c (Ok v)
-simple_read b {a = a} {v = v} first small adv s =
-    does_ok (ReadsUnder a.budget) (RejectsUnder a.budget)
-    (reached_as (λ xs ys. xs ≡ b ∷ ys) (λ xs ys. ReadsUnder a.budget xs v ys)
+    → (exact ≡ true → b ≢ simple_byte simple_undefined) → SimpleOf b (Some v)
+    → Does {E = E} (ReadsUnder exact a.budget) (RejectsUnder exact a.budget) a c (Ok v)
+simple_read exact b {a = a} {v = v} first small adv defined s =
+    does_ok (ReadsUnder exact a.budget) (RejectsUnder exact a.budget)
+    (reached_as (λ xs ys. xs ≡ b ∷ ys) (λ xs ys. ReadsUnder exact a.budget xs v ys)
     (λ xs ys e budget step. (
       simple s.0,
-      (
-        (tt, tt),
-        step_up budget a.budget 0 step (fits_zero a.budget),
-      ),
+      whole exact budget (simple s.0) (tt, tt) (λ holds u. defined holds (s.1 ∙ ap simple_byte u))
+          (step_up budget a.budget 0 step (fits_zero a.budget)),
       s.2,
       e ∙ ap (λ j. j ∷ ys) s.1,
     ))
     (reached_first value_name 1 b first small adv))
 
--- what is reported of a value that holds no other
-pub alone_does : {E : Type 0} (b : ℕ) {a m c : View} {r : Result Value (DecodeError E)}
-    → Runs {E = E} (peek_at value_name 1) a m (Ok b) → b < 256
-    → TakesSimple b m c r ⊎ Does (ReadsUnder m.budget) (RejectsFirst b m.budget) m c r
-    → Does (ReadsUnder a.budget) (RejectsUnder a.budget) a c r
-alone_does b {a = a} {c = c} first small (inl h) =
-    subst (λ r. Does (ReadsUnder a.budget) (RejectsUnder a.budget) a c r) (sym h.1)
-    (simple_read b first small h.3 h.2)
-alone_does b {m = m} first small (inr d) =
-    arm_does b first (λ xs v ys. ReadsUnder m.budget xs v ys) (RejectsFirst b m.budget)
-    (λ bs ys v h. subst (λ o. ReadsUnder o (b ∷ bs) v ys) first.moves.by.budget h)
-    (λ bs z rest h. subst (λ o. RejectsUnder o (b ∷ bs) z rest) first.moves.by.budget (h bs refl)) d
+-- undefined is not canonical
+pub undefined_rejected : (exact : Bool) {E : Type 0} (b : ℕ) {e : DecodeError E} {a m c : View}
+    → Runs {E = E} (peek_at value_name 1) a m (Ok b) → b < 256 → Advances 1 m c
+    → (exact ≡ true) × (b ≡ simple_byte simple_undefined)
+    → input_error_of e ≡ Some (not_canonical canonical_name) → is_read e ≡ false
+    → is_depth_overflow e ≡ false
+    → Does {V = Value} (ReadsUnder exact a.budget) (RejectsUnder exact a.budget) a c (Err e)
+undefined_rejected false b first small adv is says read shallow = absurd (false_true is.0)
+  where
+    false_true : false ≡ true → ⊥
+    false_true e = cc
+undefined_rejected true b {a = a} first small adv is says read shallow =
+    does_reject (λ xs ys. xs ≡ b ∷ ys) (ReadsUnder true a.budget) (RejectsUnder true a.budget)
+    (not_canonical canonical_name) says read shallow
+    (λ xs ys e. subst (λ x. RejectsUnder true a.budget x (not_canonical canonical_name) ys) (sym e)
+    (at_major 7 a.budget b ys (not_canonical canonical_name) ys (omega (arith, is.1))
+    (subst (λ i. CanonicalOtherRejects i b ys (not_canonical canonical_name) ys)
+    (sym (ap initial is.1 ∙ initial_simple simple_undefined)) (refl, refl))))
+    (reached_first value_name 1 b first small adv)
 
 -- ---- what a first byte reports
 
-pub leaf_read : {V E : Type 0} (R : List ℕ → V → ℕ → ℕ → Type 0) {v : V} (w : Value) {S : Stopping}
-    {a c : View} → ((xs : List ℕ) (n k : ℕ) → CostFits k a.budget → R xs v n k
-    → ReadsUnder a.budget xs w (drop n xs)) → Moves {E = E} a c (Ok v) → Sound R a c v
-    → Does {E = E} (ReadsUnder a.budget) S a c (Ok w)
-leaf_read R w {S = S} {a = a} f moves s =
-    does_ok (ReadsUnder a.budget) S
-    (reached_sound R (λ xs ys. ReadsUnder a.budget xs w ys) f moves s)
+pub leaf_read : (exact : Bool) {V E : Type 0} (R : List ℕ → V → ℕ → ℕ → Type 0) {v : V} (w : Value)
+    {S : Stopping} {a c : View} → ((xs : List ℕ) (n k : ℕ) → CostFits k a.budget → R xs v n k
+    → ReadsUnder exact a.budget xs w (drop n xs)) → Moves {E = E} a c (Ok v) → Sound R a c v
+    → Does {E = E} (ReadsUnder exact a.budget) S a c (Ok w)
+leaf_read exact R w {S = S} {a = a} f moves s =
+    does_ok (ReadsUnder exact a.budget) S
+    (reached_sound R (λ xs ys. ReadsUnder exact a.budget xs w ys) f moves s)
 
-pub leaf_rejected : {V E : Type 0} (first : ℕ) (S : List ℕ → Option ℕ → InputError → List ℕ →
-    Type 0)
-    {a c : View} {e : DecodeError E} → ((bs : List ℕ) (z : InputError) (rest : List ℕ)
-    → S (first ∷ bs) a.budget z rest → RejectsUnder a.budget (first ∷ bs) z rest)
+pub leaf_rejected : (exact : Bool) {V E : Type 0} (first : ℕ)
+    (S : List ℕ → Option ℕ → InputError → List ℕ → Type 0) {a c : View} {e : DecodeError E} →
+    ((bs : List ℕ) (z : InputError) (rest : List ℕ)
+    → S (first ∷ bs) a.budget z rest → RejectsUnder exact a.budget (first ∷ bs) z rest)
     → Moves {V = V} a c (Err e) → Rejects S a c e
-    → Does {V = Value} (ReadsUnder a.budget) (RejectsFirst first a.budget) a c (Err e)
-leaf_rejected {V = V} first S {a = a} f moves s =
-    does_err (λ xs ys. xs ≡ ys) (λ xs (v : V) ys. Unit {0}) (ReadsUnder a.budget)
-    (λ xs. S xs a.budget) (RejectsFirst first a.budget)
-    (λ xs ys z rest e h bs is. subst (λ x. RejectsUnder a.budget x z rest) (sym is)
+    → Does {V = Value} (ReadsUnder exact a.budget) (RejectsFirst exact first a.budget) a c (Err e)
+leaf_rejected exact {V = V} first S {a = a} f moves s =
+    does_err (λ xs ys. xs ≡ ys) (λ xs (v : V) ys. Unit {0}) (ReadsUnder exact a.budget)
+    (λ xs. S xs a.budget) (RejectsFirst exact first a.budget)
+    (λ xs ys z rest e h bs is. subst (λ x. RejectsUnder exact a.budget x z rest) (sym is)
     (f bs z rest (subst (λ x. S x a.budget z rest) (sym e ∙ is) h)))
     (reached_start (λ xs ys. xs ≡ ys) a (λ xs. refl))
     (does_rejects (λ xs (v : V) ys. Unit {0}) S moves s)
@@ -166,19 +233,21 @@ view-F32 n = search (rules, the_lemmas)
 pub view-F64 : (n : ℕ) → float double n ≡ view (Float (F64 n))
 view-F64 n = search (rules, the_lemmas)
 
-pub float_read : {E : Type 0} (p : Precision) {V : Type 0} (content : V → ℕ) {v : V} (f : FloatBits)
-    {S : Stopping} {a c : View} → float p (content v) ≡ view (Float f) → Moves {E = E} a c (Ok v)
+pub float_read : (exact : Bool) {E : Type 0} (p : Precision) {V : Type 0} (content : V → ℕ) {v : V}
+    (f : FloatBits) {S : Stopping} {a c : View} → float p (content v) ≡ view (Float f) → Moves
+    {E = E} a c (Ok v)
     → Sound (λ xs v. ReadsFloat (precision_byte p) (precision_bytes p) xs (content v)) a c v
-    → Does {E = E} (ReadsUnder a.budget) S a c (Ok (Float f))
-float_read p content {v = v} f {a = a} is moves s =
-    leaf_read (λ xs v. ReadsFloat (precision_byte p) (precision_bytes p) xs (content v)) (Float f)
-    (λ xs n k _ r budget step.
+    → Does {E = E} (ReadsUnder exact a.budget) S a c (Ok (Float f))
+float_read exact p content {v = v} f {a = a} is moves s =
+    leaf_read exact (λ xs v. ReadsFloat (precision_byte p) (precision_bytes p) xs (content v))
+    (Float f) (λ xs n k _ r budget step.
     let prefix = float_bytes (precision_byte p) (precision_bytes p) (content v) in
     let left : drop n xs ≡ r.rest = ap (drop n) r.is ∙ ap (λ j. drop j (prefix ++ r.rest))
     (r.size ∙ sym (ap suc (length-bytes_high_first (precision_bytes p) (content v))))
     ∙ drop-append_seam prefix r.rest in (
       bits p (content v),
-      ((r.fits, tt), step_up budget a.budget 0 step (fits_zero a.budget)),
+      whole exact budget (bits p (content v)) (r.fits, tt) (λ e. tt)
+          (step_up budget a.budget 0 step (fits_zero a.budget)),
       is,
       r.is ∙ ap (λ z. prefix ++ z) (sym left),
     )) moves s
@@ -201,14 +270,25 @@ float_cut p b bs e rest budget is (inr h) =
       (h.answer ∙ missing_bits p (precision_name p), h.left),
     )
 
-pub float_rejected : {V E : Type 0} (p : Precision) (first : ℕ) {a c : View} {e : DecodeError E}
-    → first ≡ precision_byte p → Moves {V = V} a c (Err e)
+float_row : (exact : Bool) (p : Precision) (inner : Budget) (b : ℕ) (bs : List ℕ) (e : InputError)
+    (rest : List ℕ) → b ≡ precision_byte p
+    → MissingAll (precision_name p) (precision_bytes p) bs e rest
+    → RejectsUnder exact inner (b ∷ bs) e rest
+float_row false p inner b bs e rest is h =
+    at_row inner (starts_bits p) b bs e rest (ap initial is ∙ initial_bits p) h
+float_row true p inner b bs e rest is h =
+    at_major 7 inner b bs e rest (ap (λ j. j / 32) is ∙ precision_major p)
+    (subst (λ i. CanonicalOtherRejects i b bs e rest) (sym (ap initial is ∙ initial_bits p)) h)
+
+pub float_rejected : (exact : Bool) {V E : Type 0} (p : Precision) (first : ℕ) {a c : View}
+    {e : DecodeError E} → first ≡ precision_byte p → Moves {V = V} a c (Err e)
     → Rejects (RejectsFloat (precision_name p) (precision_byte p) (precision_bytes p)) a c e
-    → Does {V = Value} (ReadsUnder a.budget) (RejectsFirst first a.budget) a c (Err e)
-float_rejected p first {a = a} is moves s =
-    leaf_rejected first (RejectsFloat (precision_name p) (precision_byte p) (precision_bytes p))
-    (λ bs z rest h. at_row a.budget (starts_bits p) first bs z rest
-    (ap initial is ∙ initial_bits p) (float_cut p first bs z rest a.budget is h)) moves s
+    → Does {V = Value} (ReadsUnder exact a.budget) (RejectsFirst exact first a.budget) a c (Err e)
+float_rejected exact p first {a = a} is moves s =
+    leaf_rejected exact first
+    (RejectsFloat (precision_name p) (precision_byte p) (precision_bytes p))
+    (λ bs z rest h. float_row exact p a.budget first bs z rest is
+    (float_cut p first bs z rest a.budget is h)) moves s
 
 other_row : (i : ℕ) → i ≢ 20 → i ≢ 21 → i ≢ 22 → i ≢ 23 → i ≢ 25 → i ≢ 26 → i ≢ 27
     → simple_by_info i ≡ other_simple
@@ -232,84 +312,88 @@ other_byte b low high none e f g =
     (λ h. none simple_undefined (omega (arith, h))) (λ h. e (omega (arith, h)))
     (λ h. f (omega (arith, h))) (λ h. g (omega (arith, h)))
 
-pub no_value : {E : Type 0} (first : ℕ) {e : DecodeError E} {a : View} → 224 ≤ first → first < 256
-    → ((s : Simple) → first ≡ simple_byte s → ⊥) → first ≢ 249 → first ≢ 250 → first ≢ 251
+other_rejected : (exact : Bool) (inner : Budget) (b : ℕ) (bs : List ℕ) → b / 32 ≡ 7
+    → initial b ≡ other_simple
+    → RejectsUnder exact inner (b ∷ bs) (unsupported value_name b) (b ∷ bs)
+other_rejected false inner b bs m is = at_row inner other_simple b bs _ _ is (refl, refl)
+other_rejected true inner b bs m is =
+    at_major 7 inner b bs _ _ m
+    (subst (λ i. CanonicalOtherRejects i b bs (unsupported value_name b) (b ∷ bs)) (sym is)
+    (refl, refl))
+
+pub no_value : (exact : Bool) {E : Type 0} (first : ℕ) {e : DecodeError E} {a : View}
+    → 224 ≤ first → first < 256 → ((s : Simple) → first ≡ simple_byte s → ⊥) → first ≢ 249 → first ≢
+    250 → first ≢ 251
     → input_error_of e ≡ Some (unsupported value_name first) → is_read e ≡ false
     → is_depth_overflow e ≡ false
-    → Does {V = Value} (ReadsUnder a.budget) (RejectsFirst first a.budget) a a (Err e)
-no_value first {a = a} low high none f g h says read shallow =
-    does_reject (λ xs ys. xs ≡ ys) (ReadsUnder a.budget) (RejectsFirst first a.budget)
+    → Does {V = Value} (ReadsUnder exact a.budget) (RejectsFirst exact first a.budget) a a (Err e)
+no_value exact first {a = a} low high none f g h says read shallow =
+    does_reject (λ xs ys. xs ≡ ys) (ReadsUnder exact a.budget) (RejectsFirst exact first a.budget)
     (unsupported value_name first) says read shallow
-    (λ xs ys e bs is. subst (λ x. RejectsUnder a.budget x (unsupported value_name first) ys)
+    (λ xs ys e bs is. subst (λ x. RejectsUnder exact a.budget x (unsupported value_name first) ys)
     (sym is)
-    (at_row a.budget other_simple first bs _ ys (other_byte first low high none f g h)
-    (refl, sym e ∙ is)))
+    (subst (λ y. RejectsUnder exact a.budget (first ∷ bs) (unsupported value_name first) y)
+    (sym is ∙ e) (other_rejected exact a.budget first bs (omega (arith, low, high))
+    (other_byte first low high none f g h))))
     (reached_start (λ xs ys. xs ≡ ys) a (λ xs. refl))
 
--- ---- heads that something follows
-
-pub head_at : (major n : ℕ) (xs : List ℕ) (k : ℕ) → ReadsHead major 8 xs n k
-    → HeadAt major n xs (drop k xs)
-head_at major n xs k h =
-    (h.wide, h.fits, h.is ∙ ap (λ z. head major n h.wide ++ z) (sym (after_head major 8 xs n k h)))
-
-pub first_is : (b : ℕ) (xs : List ℕ) → take 1 xs ≡ b ∷ [] → xs ≡ b ∷ drop 1 xs
-first_is b [] e = cc
-first_is b (x ∷ xs) e = let f : x ≡ b = cc in ap (λ c. c ∷ xs) f
-
 -- ---- tags
-
-pub reached_tag : {E : Type 0} (n : ℕ) {a c : View} → Moves {E = E} a c (Ok n)
-    → Sound (ReadsArgument 6 8) a c n → Reached (HeadAt 6 n) a c
-reached_tag n moves s =
-    reached_sound (ReadsArgument 6 8) (HeadAt 6 n) (λ xs k c _ r. head_at 6 n xs k r.0) moves s
 
 pub view-Tag : (n : ℕ) (v : Rattle.std.proofs.Common.Box Value Rattle.std.proofs.Common.Global)
     → view (Tag n v) ≡ tag n (view v.value)
 view-Tag n v = search (rules, the_lemmas)
 
 -- after the head of a tag
-pub tagged_ok : {E : Type 0} (n : ℕ) {v : Value} {a c : View} (w : Value) → view w ≡ tag n (view v)
-    → Does {E = E} (ReadsOneValue a.budget) (RejectsOneValue a.budget) a c (Ok v)
-    → Does {E = E} (ReadsTagged n a.budget) (RejectsOneValue a.budget) a c (Ok w)
-tagged_ok n {v = v} {a = a} w is d = does_ok (ReadsTagged n a.budget) (RejectsOneValue a.budget)
-    (reached_as (λ xs ys. ReadsOneValue a.budget xs v ys) (λ xs ys. ReadsTagged n a.budget xs w ys)
-    (λ xs ys h. (v, is, h)) (reached_by d))
+pub tagged_ok : (exact : Bool) {E : Type 0} (n : ℕ) {v : Value} {a c : View} (w : Value)
+    → view w ≡ tag n (view v)
+    → Does {E = E} (ReadsOneValue exact a.budget) (RejectsOneValue exact a.budget) a c (Ok v)
+    → Does {E = E} (ReadsTagged exact n a.budget) (RejectsOneValue exact a.budget) a c (Ok w)
+tagged_ok exact n {v = v} {a = a} w is d =
+    does_ok (ReadsTagged exact n a.budget) (RejectsOneValue exact a.budget)
+    (reached_as (λ xs ys. ReadsOneValue exact a.budget xs v ys)
+    (λ xs ys. ReadsTagged exact n a.budget xs w ys) (λ xs ys h. (v, is, h)) (reached_by d))
 
-pub tagged_err : {E : Type 0} (n : ℕ) {a c : View} {e : DecodeError E}
-    → Does {V = Value} (ReadsOneValue a.budget) (RejectsOneValue a.budget) a c (Err e)
-    → Does {V = Value} (ReadsTagged n a.budget) (RejectsOneValue a.budget) a c (Err e)
-tagged_err n {a = a} d =
-    does_err (λ xs ys. xs ≡ ys) (ReadsOneValue a.budget) (ReadsTagged n a.budget)
-    (RejectsOneValue a.budget) (RejectsOneValue a.budget)
-    (λ xs ys z rest e s. subst (λ x. RejectsOneValue a.budget x z rest) (sym e) s)
-    (reached_start (λ xs ys. xs ≡ ys) a (λ xs. refl)) d
+tag_row : (exact : Bool) (n : ℕ) (inner : Budget) (xs ys : List ℕ) (z : InputError) (rest : List ℕ)
+    → HeadAt exact 6 n xs ys → RejectsOneValue exact inner ys z rest
+    → RejectsOf exact 6 inner xs z rest
+tag_row false n inner xs ys z rest h s b bs is m =
+    subst (λ x. RejectsUnder false inner x z rest) (sym h.3)
+    (at_row inner (starts_tag h.0) (32 * 6 + additional h.0 n)
+    (bytes_high_first (byte_count h.0) n ++ ys) z rest (initial_tag n h.0 h.1)
+    (inr (record { argument = n; after = ys; fits = h.1; is = refl; stopped = s })))
+tag_row true n inner xs ys z rest h s b bs is m =
+    subst (λ x. RejectsUnder true inner x z rest) (sym is)
+    (at_major 6 inner b bs z rest m
+    (inr (record {
+      argument = n;
+      after = ys;
+      is = subst (λ x. ShortestAt 6 n x ys) is (shortest_at 6 n xs ys h);
+      stopped = s;
+    })))
 
-pub tag_does : {E : Type 0} (n : ℕ) {r : Result Value (DecodeError E)} {a m c : View}
-    → Reached (HeadAt 6 n) a m → Does (ReadsTagged n m.budget) (RejectsOneValue m.budget) m c r
-    → Does (ReadsUnder a.budget) (RejectsOf 6 a.budget) a c r
-tag_does n {a = a} {m = m} p d =
-    does_after (HeadAt 6 n) (ReadsTagged n m.budget) (ReadsUnder a.budget)
-    (RejectsOneValue m.budget)
-    (RejectsOf 6 a.budget)
+pub tag_does : (exact : Bool) {E : Type 0} (n : ℕ) {r : Result Value (DecodeError E)} {a m c : View}
+    → Reached (HeadAt exact 6 n) a m
+    → Does (ReadsTagged exact n m.budget) (RejectsOneValue exact m.budget) m c r
+    → Does (ReadsUnder exact a.budget) (RejectsOf exact 6 a.budget) a c r
+tag_does exact n {a = a} {m = m} p d =
+    does_after (HeadAt exact 6 n) (ReadsTagged exact n m.budget) (ReadsUnder exact a.budget)
+    (RejectsOneValue exact m.budget) (RejectsOf exact 6 a.budget)
     (λ xs ys zs w h r budget step.
-    let s = subst (λ o. ReadsOneValue o ys r.0 zs) p.kept.budget r.2 in (
+    let s = subst (λ o. ReadsOneValue exact o ys r.0 zs) p.kept.budget r.2 in
+    let t = whole_is exact a.budget s.0 s.1 in (
       tagged n h.0 s.0,
-      (((h.1, s.1.0.0), s.1.0.1), step_up budget a.budget (cost s.0) step s.1.1),
+      whole exact budget (tagged n h.0 s.0) ((h.1, t.0.0), t.0.1) (λ e. (h.2 e, t.1 e))
+          (step_up budget a.budget (cost s.0) step t.2),
       ap (tag n) s.2 ∙ sym r.1,
-      h.2 ∙ ap (λ z. head 6 n h.0 ++ z) s.3
+      h.3 ∙ ap (λ z. head 6 n h.0 ++ z) s.3
           ∙ sym (append_assoc (head 6 n h.0) (bytes s.0) zs),
     ))
-    (λ xs ys z rest h s0 _ _ _ _.
-    let s = subst (λ o. RejectsOneValue o ys z rest) p.kept.budget s0 in
-    subst (λ x. RejectsUnder a.budget x z rest) (sym h.2)
-    (at_row a.budget (starts_tag h.0) (32 * 6 + additional h.0 n)
-    (bytes_high_first (byte_count h.0) n ++ ys) z rest (initial_tag n h.0 h.1)
-    (inr (record { argument = n; after = ys; fits = h.1; is = refl; stopped = s })))) p d
+    (λ xs ys z rest h s. tag_row exact n a.budget xs ys z rest h
+    (subst (λ o. RejectsOneValue exact o ys z rest) p.kept.budget s)) p d
 
 pub tag_rejects : (inner : Budget) (b : ℕ) (bs : List ℕ) (e : InputError) (rest : List ℕ) →
     b / 32 ≡ 6
-    → RejectsHead tag_name 6 8 (b ∷ bs) e rest → RejectsUnder inner (b ∷ bs) e rest
+    → RejectsHead tag_name 6 8 (b ∷ bs) e rest → RejectsUnder false inner (b ∷ bs) e rest
 tag_rejects inner b bs e rest m h =
     at_row inner (tag_by_info (info_of (b % 32))) b bs e rest (initial_of b 6 m)
     (by_info (info_of (b % 32)) refl)
@@ -325,11 +409,14 @@ pub tag_taken : {E : Type 0} {a c : View} (r : Option ℕ) (failure : Option (De
     → Moves a c (answered r failure)
     → IfOk (answered r failure) (Sound (ReadsArgument 6 8) a c)
     → IfErr (answered r failure) (Rejects (RejectsArgument tag_name 6 8) a c)
-    → Does (TakesTag a.budget) (RejectsOf 6 a.budget) a c (answered r failure)
+    → Does (TakesTag false a.budget) (RejectsOf false 6 a.budget) a c (answered r failure)
 tag_taken {a = a} (Some n) failure moves s h =
-    does_ok (TakesTag a.budget) (RejectsOf 6 a.budget) (reached_tag n moves s)
+    does_ok (TakesTag false a.budget) (RejectsOf false 6 a.budget)
+    (reached_sound (ReadsArgument 6 8) (HeadAt false 6 n)
+    (λ xs k c _ r. head_at false 6 n xs k r.0 (λ e. cc)) moves s)
 tag_taken {a = a} None failure moves s h =
-    call_rejects (TakesTag a.budget) (RejectsArgument tag_name 6 8) (RejectsOf 6 a.budget)
-    (λ xs z rest h b bs is m. subst (λ x. RejectsUnder a.budget x z rest) (sym is)
+    call_rejects (TakesTag false a.budget) (RejectsArgument tag_name 6 8)
+    (RejectsOf false 6 a.budget)
+    (λ xs z rest h b bs is m. subst (λ x. RejectsUnder false a.budget x z rest) (sym is)
     (tag_rejects a.budget b bs z rest m (subst (λ x. RejectsHead tag_name 6 8 x z rest) is h)))
     moves h

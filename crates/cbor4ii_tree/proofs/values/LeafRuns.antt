@@ -1,4 +1,10 @@
 -- Runs: values that hold no other, one after another in shown bytes.
+use Rattle.cbor4ii_tree.proofs.values.Calls.{whole}
+use Rattle.cbor4ii_tree.proofs.values.Calls.{value_no_step}
+use Rattle.cbor4ii_tree.specs.Valuing.{Whole}
+use Rattle.cbor4ii_tree.specs.Valuing.{RejectsItems}
+use Rattle.cbor4ii_tree.specs.Valuing.{ReadsItems}
+use Rattle.cbor4ii_tree.proofs.values.Calls.{value_no_byte}
 use Rattle.std.proofs.Common.{◌≡◌, ℕ, suc, ◌+◌, ◌-◌, ◌*◌, ◌/◌, ◌<◌, ◌≤◌, ◌⊎◌, List, [], ◌∷◌}
 use Rattle.std.proofs.Common.{◌++◌}
 use Rattle.std.proofs.Common.{length, take, drop, Option, Some, None, refl, sym, ap, ap₂, ◌∙◌}
@@ -17,7 +23,7 @@ use Rattle.cbor4ii_rw.specs.Reader.{step_back}
 use Rattle.cbor4ii_rw.specs.View.{View, IfKnown}
 use Rattle.cbor4ii_rw.specs.declared.error.DecodeError.{DecodeError}
 use Rattle.cbor4ii_rw.specs.declared.error.DecodeError.TheVariants.{OutOfMemory, Eof, Read}
-use Rattle.cbor4ii_items.specs.Decoding.{CostFits}
+use Rattle.cbor4ii_items.specs.Budget.{CostFits}
 use Rattle.cbor4ii_items.specs.Head.{IsBytes}
 use Rattle.cbor4ii_items.specs.InputError.{input_error_of, is_read, depth_overflow}
 use Rattle.cbor4ii_items.specs.Laws.Answering.{fits_zero}
@@ -33,7 +39,8 @@ use Rattle.cbor4ii_tree.specs.Laws.Binds.{step_up}
 use Rattle.cbor4ii_tree.specs.Leaf.{DoesAfterNext, HeadStands, SeesNext, ShowsHead, ShowsNext}
 use Rattle.cbor4ii_tree.specs.Leaf.{StandsAhead, WantsContent}
 use Rattle.cbor4ii_tree.specs.LeafRuns.{flat_pairs, flat_values, IsLeaf, StandInFront, PutsAfter}
-use Rattle.cbor4ii_tree.specs.LeafRuns.{PutsRun, RejectsMemory, ReadsEach, PutsItems, RunsBefore}
+use Rattle.cbor4ii_tree.specs.LeafRuns.{PutsRun, RejectsMemory, PutsItems, RunsBefore}
+use Rattle.cbor4ii_tree.specs.Valuing.{ReadsEach}
 use Rattle.cbor4ii_tree.specs.LeafRuns.{PutsItemsUnder, KeepsItems, RejectsItemsUnder}
 use Rattle.cbor4ii_tree.specs.LeafRuns.{RejectsWhereNone, TakesBy}
 use Rattle.cbor4ii_tree.specs.InputError.{InputError, value_name}
@@ -58,7 +65,7 @@ use Rattle.cbor4ii_tree.proofs.skip_calls.Doing.{does_err, does_no_step}
 use Rattle.cbor4ii_tree.proofs.values.Calls.{rejects_under}
 use Rattle.cbor4ii_tree.proofs.values.Ends.{none_shown}
 use Rattle.cbor4ii_tree.proofs.values.Items.{items_are}
-use Rattle.cbor4ii_tree.proofs.values.ByHead.{prefix_shown, next_shown, sees_loosely}
+use Rattle.cbor4ii_tree.proofs.values.ByHead.{prefix_shown, next_shown}
 use Rattle.cbor4ii_tree.proofs.values.Leaves.{MayTake, some_as, wants_may}
 
 -- ---- lists of values
@@ -238,24 +245,17 @@ rejected_may exact size shown r = by_place r.at
 
 -- ---- taken
 
--- a leaf is such a tree
-abbrev pub LeafIs : Type 0 → (Budget → Tree → Type 0) → Type 0
-LeafIs exact Whole =
-    (budget : Budget) (t : Tree) → CostFits 1 budget → IsLeaf exact t → Whole budget t
+-- a leaf is read whole
+leaf_whole : (exact : Bool) (budget : Budget) (t : Tree) → CostFits 1 budget
+    → IsLeaf (exact ≡ true) t → Whole exact budget t
+leaf_whole exact budget t fits h =
+    whole exact budget t h.0 h.2 (subst (λ c. CostFits c budget) (sym h.1) fits)
 
-pub leaf_readable : (exact : Type 0) → LeafIs exact Readable
-leaf_readable exact budget t fits h = (h.0, subst (λ c. CostFits c budget) (sym h.1) fits)
-
-pub leaf_exactly : (exact : Type 0) → exact → LeafIs exact FitsCanonically
-leaf_exactly exact holds budget t fits h =
-    ((h.0, h.2 holds), subst (λ c. CostFits c budget) (sym h.1) fits)
-
-each_fits : (exact : Type 0) (Whole : Budget → Tree → Type 0) → LeafIs exact Whole
-    → (budget : Budget) (ts : Trees) → CostFits 1 budget → Each (IsLeaf exact) ts
-    → Each (Whole budget) ts
-each_fits exact Whole f budget no_trees fits h = tt
-each_fits exact Whole f budget (tree t ts) fits h =
-    (f budget t fits h.0, each_fits exact Whole f budget ts fits h.1)
+each_fits : (exact : Bool) (budget : Budget) (ts : Trees) → CostFits 1 budget
+    → Each (IsLeaf (exact ≡ true)) ts → Each (Whole exact budget) ts
+each_fits exact budget no_trees fits h = tt
+each_fits exact budget (tree t ts) fits h =
+    (leaf_whole exact budget t fits h.0, each_fits exact budget ts fits h.1)
 
 begins_with : (first : ℕ) (trailing shown xs : List ℕ) → shown ≡ first ∷ trailing
     → take (length shown) xs ≡ shown → xs ≡ first ∷ drop 1 xs
@@ -437,16 +437,16 @@ after_are exact before after p kept =
     subst (λ x. AreItems (items_view x)) (sym p.is)
     (AreItems-append before p.new kept p.stand.ranged)
 
-module _ (exact : Type 0) (full : ℕ) (before after : List Value) {E : Type 0} {a m b : View} where
-  puts_taken : (Whole : Budget → Tree → Type 0) → LeafIs exact Whole → (want size : ℕ)
-      {shown : List ℕ} → Shows shown a m → IfKnown a.known (IsPrefix want shown)
-      → PutsAfter exact size shown before after → Advances size m b
-      → Does {V = Unit {0}} {E = E} (PutsItemsUnder Whole before after a.budget)
+module _ (exact : Bool) (full : ℕ) (before after : List Value) {E : Type 0} {a m b : View} where
+  puts_taken : (want size : ℕ) {shown : List ℕ} → Shows shown a m
+      → IfKnown a.known (IsPrefix want shown) → PutsAfter (exact ≡ true) size shown before after
+      → Advances size m b
+      → Does {V = Unit {0}} {E = E} (PutsItemsUnder exact before after a.budget)
       RejectsWhereNone a b (Ok tt)
-  puts_taken Whole f want size shows prefix p adv =
+  puts_taken want size shows prefix p adv =
       let s = p.stand in
       let l = lends_prefix shows prefix s.within s.fresh refl adv in
-      does_ok (PutsItemsUnder Whole before after a.budget) RejectsWhereNone (record {
+      does_ok (PutsItemsUnder exact before after a.budget) RejectsWhereNone (record {
         kept = l.kept;
         at = λ xs known.
             let t = l.at xs known in (
@@ -458,7 +458,7 @@ module _ (exact : Type 0) (full : ℕ) (before after : List Value) {E : Type 0} 
                 (
                   s.trees,
                   s.many,
-                  each_fits exact Whole f budget s.trees
+                  each_fits exact budget s.trees
                       (step_up budget a.budget 0 step (fits_zero a.budget)) s.each,
                   s.means,
                   sym (take-append-drop size xs)
@@ -468,70 +468,67 @@ module _ (exact : Type 0) (full : ℕ) (before after : List Value) {E : Type 0} 
             );
       })
 
-  pub takes_whole : (Whole : Budget → Tree → Type 0) → LeafIs exact Whole → (size : ℕ) {seen : Ran}
-      → seen ≡ run.Whole size → Offers 1 (PutsRun exact full before after seen) a m
+  pub takes_whole : (size : ℕ) {seen : Ran} → seen ≡ run.Whole size
+      → Offers 1 (PutsRun (exact ≡ true) full before after seen) a m
       → Advances size m b → Does {V = Unit {0}} {E = E}
-      (PutsItemsUnder Whole before after a.budget) RejectsWhereNone a b (Ok tt)
-  takes_whole Whole f size is h adv =
-      let o = subst (λ s. Offers 1 (PutsRun exact full before after s) a m) is h in
-      puts_taken Whole f 1 size o.shows o.prefix o.is.puts adv
+      (PutsItemsUnder exact before after a.budget) RejectsWhereNone a b (Ok tt)
+  takes_whole size is h adv =
+      let o = subst (λ s. Offers 1 (PutsRun (exact ≡ true) full before after s) a m) is h in
+      puts_taken 1 size o.shows o.prefix o.is.puts adv
 
-  pub takes_before : (Whole : Budget → Tree → Type 0) → LeafIs exact Whole → (other : Type 0)
-      → (other → exact) → (size : ℕ) (n : Next) {seen : Ran} → seen ≡ run.Before n size
-      → Offers 1 (PutsRun exact full before after seen) a m → Advances size m b
-      → RunsBefore E other Whole n before after a b
-  takes_before Whole f other g size n is h adv =
-      let o = subst (λ s. Offers 1 (PutsRun exact full before after s) a m) is h in
-      let d = puts_taken Whole f 1 size o.shows o.prefix o.is.puts adv in
+  pub takes_before : (size : ℕ) (n : Next) {seen : Ran} → seen ≡ run.Before n size
+      → Offers 1 (PutsRun (exact ≡ true) full before after seen) a m → Advances size m b
+      → RunsBefore E exact n before after a b
+  takes_before size n is h adv =
+      let o = subst (λ s. Offers 1 (PutsRun (exact ≡ true) full before after s) a m) is h in
+      let d = puts_taken 1 size o.shows o.prefix o.is.puts adv in
       record {
         mid = narrow a b;
         puts = does_narrow d;
         shows =
-            next_after E other size n o.shows o.prefix o.is.puts.stand.within adv d.moves.by
-            (sees_loosely exact other g n (drop size o.shown) o.is.next);
+            next_after E (exact ≡ true) size n o.shows o.prefix o.is.puts.stand.within adv
+            d.moves.by o.is.next;
       }
 
-  pub run_no_memory : (Whole : Budget → Tree → Type 0) (size : ℕ) {seen : Ran}
-      → seen ≡ run.NoMemory size → Offers 1 (PutsRun exact full before after seen) a m
+  pub run_no_memory : (size : ℕ) {seen : Ran} → seen ≡ run.NoMemory size
+      → Offers 1 (PutsRun (exact ≡ true) full before after seen) a m
       → Advances size m b
-      → Does {V = Unit {0}} {E = E} (PutsItemsUnder Whole before after a.budget)
-      RejectsWhereNone a b
-      (Err OutOfMemory)
-  run_no_memory Whole size is h adv =
-      let o = subst (λ s. Offers 1 (PutsRun exact full before after s) a m) is h in
-      let may = rejected_may exact size o.shown o.is in
+      → Does {V = Unit {0}} {E = E} (PutsItemsUnder exact before after a.budget)
+      RejectsWhereNone a b (Err OutOfMemory)
+  run_no_memory size is h adv =
+      let o = subst (λ s. Offers 1 (PutsRun (exact ≡ true) full before after s) a m) is h in
+      let may = rejected_may (exact ≡ true) size o.shown o.is in
       let l = lends_prefix o.shows o.prefix may.within may.fresh refl adv in
-      does_no_memory (PutsItemsUnder Whole before after a.budget) RejectsWhereNone refl l.kept
+      does_no_memory (PutsItemsUnder exact before after a.budget) RejectsWhereNone refl l.kept
 
-module _ (exact : Type 0) (full : ℕ) (before after : List Value) {E : Type 0} {a m : View} where
+module _ (exact : Bool) (full : ℕ) (before after : List Value) {E : Type 0} {a m : View} where
   -- nothing was put
-  pub takes_none : (Whole : Budget → Tree → Type 0) (other : Type 0) → (other → exact) → (n : Next)
-      {seen : Ran} → seen ≡ run.Begins n → Offers 1 (PutsRun exact full before after seen) a m
-      → RunsBefore E other Whole n before after a m
-  takes_none Whole other g n is h =
-      let o = subst (λ s. Offers 1 (PutsRun exact full before after s) a m) is h in
+  pub takes_none : (n : Next) {seen : Ran} → seen ≡ run.Begins n
+      → Offers 1 (PutsRun (exact ≡ true) full before after seen) a m
+      → RunsBefore E exact n before after a m
+  takes_none n is h =
+      let o = subst (λ s. Offers 1 (PutsRun (exact ≡ true) full before after s) a m) is h in
       record {
         mid = a;
         puts =
-            does_ok (PutsItemsUnder Whole before after a.budget) RejectsWhereNone
-            (reached_start (λ xs ys. PutsItemsUnder Whole before after a.budget xs tt ys) a
+            does_ok (PutsItemsUnder exact before after a.budget) RejectsWhereNone
+            (reached_start (λ xs ys. PutsItemsUnder exact before after a.budget xs tt ys) a
             (λ xs budget step. (
               [],
               o.is.0 ∙ sym (append-nil before),
               (no_trees, refl, tt, refl, refl),
             )));
-        shows = next_shown E other n o.shows o.prefix (sees_loosely exact other g n o.shown o.is.1);
+        shows = next_shown E (exact ≡ true) n o.shows o.prefix o.is.1;
       }
 
-  pub run_ends : (Whole : Budget → Tree → Type 0) {seen : Ran} → seen ≡ run.End
-      → Offers 1 (PutsRun exact full before after seen) a m → {name : Bor (List ℕ)}
+  pub run_ends : {seen : Ran} → seen ≡ run.End
+      → Offers 1 (PutsRun (exact ≡ true) full before after seen) a m → {name : Bor (List ℕ)}
       → name.now ≡ value_name
-      → Does {V = Unit {0}} {E = E} (PutsItemsUnder Whole before after a.budget)
-      RejectsWhereNone a m
-      (Err (Eof name (Small 1)))
-  run_ends Whole is h says =
-      let o = subst (λ s. Offers 1 (PutsRun exact full before after s) a m) is h in
-      none_shown (PutsItemsUnder Whole before after a.budget) RejectsWhereNone
+      → Does {V = Unit {0}} {E = E} (PutsItemsUnder exact before after a.budget)
+      RejectsWhereNone a m (Err (Eof name (Small 1)))
+  run_ends is h says =
+      let o = subst (λ s. Offers 1 (PutsRun (exact ≡ true) full before after s) a m) is h in
+      none_shown (PutsItemsUnder exact before after a.budget) RejectsWhereNone
       (λ z rest is. (refl, is)) 1 says (omega arith) o.shows o.prefix o.is
 
 module _ (exact : Type 0) (full : ℕ) (before after : List Value) {a m : View} where
@@ -587,11 +584,11 @@ breaks_broke b = record {
 }
 
 -- the reader failed
-pub run_broke : (before after : List Value) {E : Type 0} {a b : View}
-    (Whole : Budget → Tree → Type 0) (error : E) → ReaderFails a b
-    → Does {V = Unit {0}} {E = E} (PutsItemsUnder Whole before after a.budget) RejectsWhereNone a b
+pub run_broke : (exact : Bool) (before after : List Value) {E : Type 0} {a b : View} (error : E)
+    → ReaderFails a b
+    → Does {V = Unit {0}} {E = E} (PutsItemsUnder exact before after a.budget) RejectsWhereNone a b
     (Err (Read error))
-run_broke before after Whole error breaks = record {
+run_broke exact before after error breaks = record {
   moves = record { by = breaks_broke breaks; depth = λ none. refl };
   ok = tt;
   err = λ xs known. tt;
@@ -641,13 +638,25 @@ stopped_further W stop vs full xs ys z rest h s = record {
 
 -- ---- a turn: a run, and the value after it
 
--- what it says of a value that it is read, or rejected, where its step was taken
-pub record OneUnder (Whole : Budget → Tree → Type 0) (rejects : Budget → Stopping)
-    (reads_under : Budget → Accepting Value) (rejects_under : Budget → Stopping) : Type 0 where
-  pub reads : (budget inner : Budget) → step_in budget ≡ Some inner → (xs : List ℕ) (v : Value)
-      (ys : List ℕ) → reads_under inner xs v ys → ReadsEach (Whole budget) 1 xs (v ∷ []) ys
-  pub errs : (budget inner : Budget) → step_in budget ≡ Some inner → (xs : List ℕ) (z : InputError)
-      (rest : List ℕ) → rejects_under inner xs z rest → rejects budget xs z rest
+-- a value whose step was taken
+one_read : (exact : Bool) (budget inner : Budget) → step_in budget ≡ Some inner → (xs : List ℕ)
+    (v : Value) (ys : List ℕ) → ReadsUnder exact inner xs v ys
+    → ReadsItems exact 1 budget xs (v ∷ []) ys
+one_read exact budget inner step xs v ys h =
+    let t = h budget step in (
+      tree t.0 no_trees,
+      refl,
+      (t.1, tt),
+      ap (λ i. item i no_items) t.2,
+      t.3 ∙ ap (λ r. r ++ ys) (sym (append-nil (bytes t.0))),
+    )
+
+-- no byte is left where a value is to begin
+none_under : (exact : Bool) (budget : Budget) (xs : List ℕ) (z : InputError) (rest : List ℕ)
+    → RejectsWhereNone xs z rest → RejectsUnder exact budget xs z rest
+none_under exact budget xs z rest s =
+    subst (λ x. RejectsUnder exact budget x z rest) (sym s.0)
+    (value_no_byte exact budget z rest s.1)
 
 pub stopped_after : (W : Tree → Type 0) (stop : Stopping) (vs : List Value) (room : ℕ)
     (xs ys : List ℕ) (z : InputError) (rest : List ℕ) → ReadsEach W (length vs) xs vs ys
@@ -661,94 +670,93 @@ stopped_after W stop vs room xs ys z rest h few s = record {
   stopped = s;
 }
 
-module _ (Whole : Budget → Tree → Type 0) (rejects : Budget → Stopping)
-    (reads_under : Budget → Accepting Value) (rejects_under : Budget → Stopping)
-    (one : OneUnder Whole rejects reads_under rejects_under) (full : ℕ) (before : List Value)
-    {E : Type 0} {a : View} where
+module _ (exact : Bool) (full : ℕ) (before : List Value) {E : Type 0} {a : View} where
   -- no byte is left
   pub turn_ends : (after : List Value) {e : DecodeError E} {b : View} → length before < full
-      → ((xs : List ℕ) (z : InputError) (rest : List ℕ) → RejectsWhereNone xs z rest
-      → rejects_under a.budget xs z rest)
-      → Does {V = Unit {0}} {E = E} (PutsItemsUnder Whole before after a.budget)
+      → Does {V = Unit {0}} {E = E} (PutsItemsUnder exact before after a.budget)
       RejectsWhereNone a b
       (Err e)
-      → Does {V = Unit {0}} {E = E} (PutsItemsUnder Whole before after a.budget)
-      (RejectsItemsUnder Whole rejects (full - length before) a.budget) a b (Err e)
-  turn_ends after lacks ends d =
-      does_err (λ xs ys. xs ≡ ys) (PutsItemsUnder Whole before after a.budget)
-      (PutsItemsUnder Whole before after a.budget) RejectsWhereNone
-      (RejectsItemsUnder Whole rejects (full - length before) a.budget)
+      → Does {V = Unit {0}} {E = E} (PutsItemsUnder exact before after a.budget)
+      (RejectsItemsUnder exact (full - length before) a.budget) a b (Err e)
+  turn_ends after lacks d =
+      does_err (λ xs ys. xs ≡ ys) (PutsItemsUnder exact before after a.budget)
+      (PutsItemsUnder exact before after a.budget) RejectsWhereNone
+      (RejectsItemsUnder exact (full - length before) a.budget)
       (λ xs ys z rest is s budget step.
-      stopped_after (Whole budget) (rejects budget) [] (full - length before) xs xs z rest
+      stopped_after (Whole exact budget) (RejectsOneValue exact budget) [] (full - length before) xs
+      xs z rest
       (no_trees, refl, tt, refl, refl) (omega (arith, lacks))
-      (one.errs budget a.budget step xs z rest
-      (subst (λ x. rejects_under a.budget x z rest) (sym is) (ends ys z rest s))))
+      (rejects_under exact a.budget budget xs z rest step
+      (subst (λ x. RejectsUnder exact a.budget x z rest) (sym is)
+      (none_under exact a.budget ys z rest s))))
       (reached_start (λ xs ys. xs ≡ ys) a (λ xs. refl)) d
 
-  module _ (exact : Type 0) (mid : List Value) {m : View} (n : Next)
-      (run : RunsBefore E exact Whole n before mid a m) where
-    -- the run, and a value after it
-    pub turn_value : (after : List Value) {v : Value} {b : View} → after ≡ mid ++ v ∷ []
-        → DoesAfterNext {E = E} exact n reads_under rejects_under m b (Ok v)
-        → Does {V = Unit {0}} {E = E} (PutsItemsUnder Whole before after a.budget)
-        (RejectsItemsUnder Whole rejects (full - length before) a.budget) a b (Ok tt)
-    turn_value after {v = v} is d =
-        does_ok (PutsItemsUnder Whole before after a.budget)
-        (RejectsItemsUnder Whole rejects (full - length before) a.budget)
-        (reached_then (λ xs ys. PutsItemsUnder Whole before mid a.budget xs tt ys)
-        (λ xs ys. reads_under run.mid.budget xs v ys)
-        (λ xs ys. PutsItemsUnder Whole before after a.budget xs tt ys)
-        (λ xs ys zs h s budget step.
-        let p = h budget step in
-        let r = one.reads budget a.budget step ys v zs
-        (subst (λ o. reads_under o ys v zs) run.puts.moves.by.budget s) in (
-          p.0 ++ v ∷ [],
-          is ∙ ap (λ r. r ++ v ∷ []) p.1 ∙ append_assoc before p.0 (v ∷ []),
-          join_items (Whole budget) p.0 (v ∷ []) xs ys zs p.2 r,
-        ))
-        (reached_by run.puts) (reached_by (d run.mid run.shows)))
+  module _ (mid : List Value) {m : View} (n : Next) (run : RunsBefore E exact n before mid a m)
+    where
+      -- the run, and a value after it
+      pub turn_value : (after : List Value) {v : Value} {b : View} → after ≡ mid ++ v ∷ []
+          → DoesAfterNext {E = E} (exact ≡ true) n (ReadsUnder exact) (RejectsUnder exact) m b
+          (Ok v)
+          → Does {V = Unit {0}} {E = E} (PutsItemsUnder exact before after a.budget)
+          (RejectsItemsUnder exact (full - length before) a.budget) a b (Ok tt)
+      turn_value after {v = v} is d =
+          does_ok (PutsItemsUnder exact before after a.budget)
+          (RejectsItemsUnder exact (full - length before) a.budget)
+          (reached_then (λ xs ys. PutsItemsUnder exact before mid a.budget xs tt ys)
+          (λ xs ys. ReadsUnder exact run.mid.budget xs v ys)
+          (λ xs ys. PutsItemsUnder exact before after a.budget xs tt ys)
+          (λ xs ys zs h s budget step.
+          let p = h budget step in
+          let r = one_read exact budget a.budget step ys v zs
+          (subst (λ o. ReadsUnder exact o ys v zs) run.puts.moves.by.budget s) in (
+            p.0 ++ v ∷ [],
+            is ∙ ap (λ r. r ++ v ∷ []) p.1 ∙ append_assoc before p.0 (v ∷ []),
+            join_items (Whole exact budget) p.0 (v ∷ []) xs ys zs p.2 r,
+          ))
+          (reached_by run.puts) (reached_by (d run.mid run.shows)))
 
-    -- the value is rejected
-    pub turn_rejected : {V : Type 0} (B : Accepting V) {e : DecodeError E} {b : View}
-        → length mid < full
-        → DoesAfterNext {V = Value} {E = E} exact n reads_under rejects_under m b (Err e)
-        → Does {V = V} B (RejectsItemsUnder Whole rejects (full - length before) a.budget) a b
-        (Err e)
-    turn_rejected B lacks d =
-        does_err (λ xs ys. PutsItemsUnder Whole before mid a.budget xs tt ys)
-        (reads_under run.mid.budget) B (rejects_under run.mid.budget)
-        (RejectsItemsUnder Whole rejects (full - length before) a.budget)
-        (λ xs ys z rest h s budget step.
-        let p = h budget step in
-        stopped_after (Whole budget) (rejects budget) p.0 (full - length before) xs ys z rest p.2
-        (omega (arith, lacks, ap length p.1, length-append before p.0))
-        (one.errs budget a.budget step ys z rest
-        (subst (λ o. rejects_under o ys z rest) run.puts.moves.by.budget s)))
-        (reached_by run.puts) (d run.mid run.shows)
+      -- the value is rejected
+      pub turn_rejected : {V : Type 0} (B : Accepting V) {e : DecodeError E} {b : View}
+          → length mid < full
+          → DoesAfterNext {V = Value} {E = E} (exact ≡ true) n (ReadsUnder exact)
+          (RejectsUnder exact) m b (Err e)
+          → Does {V = V} B (RejectsItemsUnder exact (full - length before) a.budget) a b
+          (Err e)
+      turn_rejected B lacks d =
+          does_err (λ xs ys. PutsItemsUnder exact before mid a.budget xs tt ys)
+          (ReadsUnder exact run.mid.budget) B (RejectsUnder exact run.mid.budget)
+          (RejectsItemsUnder exact (full - length before) a.budget)
+          (λ xs ys z rest h s budget step.
+          let p = h budget step in
+          stopped_after (Whole exact budget) (RejectsOneValue exact budget) p.0
+          (full - length before) xs ys z rest p.2
+          (omega (arith, lacks, ap length p.1, length-append before p.0))
+          (rejects_under exact a.budget budget ys z rest step
+          (subst (λ o. RejectsUnder exact o ys z rest) run.puts.moves.by.budget s)))
+          (reached_by run.puts) (d run.mid run.shows)
 
-    -- the value is put after the run, or there is no memory for that
-    pub turn_put : (after : List Value) {v : Value} {b : View} (r : Option (Unit {0}))
-        (failure : Option (DecodeError E)) → OnSome r (after ≡ mid ++ v ∷ [])
-        → IfNone r (failure ≡ None) → DoesAfterNext {E = E} exact n reads_under rejects_under
-        m b (Ok
-        v)
-        → Does {V = Unit {0}} {E = E} (PutsItemsUnder Whole before after a.budget)
-        (RejectsItemsUnder Whole rejects (full - length before) a.budget) a b (answered r failure)
-    turn_put after (Some u) failure is none d = turn_value after is d
-    turn_put after None failure is none d =
-        does_no_memory (PutsItemsUnder Whole before after a.budget)
-        (RejectsItemsUnder Whole rejects (full - length before) a.budget) (ap error_left none)
-        (kept_then run.puts.moves.by (d run.mid run.shows).moves.by)
+      -- the value is put after the run, or there is no memory for that
+      pub turn_put : (after : List Value) {v : Value} {b : View} (r : Option (Unit {0}))
+          (failure : Option (DecodeError E)) → OnSome r (after ≡ mid ++ v ∷ [])
+          → IfNone r (failure ≡ None) → DoesAfterNext {E = E} (exact ≡ true) n (ReadsUnder exact)
+          (RejectsUnder exact)
+          m b (Ok
+          v)
+          → Does {V = Unit {0}} {E = E} (PutsItemsUnder exact before after a.budget)
+          (RejectsItemsUnder exact (full - length before) a.budget) a b (answered r failure)
+      turn_put after (Some u) failure is none d = turn_value after is d
+      turn_put after None failure is none d =
+          does_no_memory (PutsItemsUnder exact before after a.budget)
+          (RejectsItemsUnder exact (full - length before) a.budget) (ap error_left none)
+          (kept_then run.puts.moves.by (d run.mid run.shows).moves.by)
 
 -- ---- what a run answers
 
-pub run_before : {E : Type 0} (exact : Type 0) (Whole : Budget → Tree → Type 0)
-    (before after : List Value) {a b : View} {found : Option Next} (n : Next)
-    (failure : Option (DecodeError E)) → found ≡ Some n
-    → TakesBy exact Whole before after a b (Some found) failure
-    → RunsBefore E exact Whole n before after a b
-run_before exact Whole before after {a = a} {b = b} n failure is t =
-    subst (λ o. TakesBy exact Whole before after a b (Some o) failure) is t
+pub run_before : (exact : Bool) {E : Type 0} (before after : List Value) {a b : View}
+    {found : Option Next} (n : Next) (failure : Option (DecodeError E)) → found ≡ Some n
+    → TakesBy exact before after a b (Some found) failure → RunsBefore E exact n before after a b
+run_before exact before after {a = a} {b = b} n failure is t =
+    subst (λ o. TakesBy exact before after a b (Some o) failure) is t
 
 pub on_found : {A : Type 0} {P : Type 0} {found : Option A} (v : A) → found ≡ Some v
     → OnSome found P → P
@@ -762,73 +770,64 @@ put_items before mid after v (Some u) is keeps ranged =
 put_items before mid after v None is keeps ranged = tt
 
 -- under a step
-pub turn_stepped : (Whole : Budget → Tree → Type 0) (rejects : Budget → Stopping) (room : ℕ)
-    (before after : List Value) {E : Type 0}
+pub turn_stepped : (exact : Bool) (room : ℕ) (before after : List Value) {E : Type 0}
     {r : Result (Unit {0}) (DecodeError E)} {a b c d : View} → StepsIn a.budget b.budget true
     → KeepsAllButBudget a b
-    → Does (PutsItemsUnder Whole before after b.budget)
-    (RejectsItemsUnder Whole rejects room b.budget) b c r
+    → Does (PutsItemsUnder exact before after b.budget) (RejectsItemsUnder exact room b.budget) b c
+    r
     → d.budget ≡ step_back c.budget → KeepsAllButBudget c d
-    → Does (PutsItems Whole before after a.budget)
-    (RejectsInCount (Whole a.budget) (rejects a.budget) room) a d r
-turn_stepped Whole rejects room before after {a = a} {b = b} takes inward w gives outward =
+    → Does (PutsItems exact before after a.budget) (RejectsItems exact room a.budget) a d r
+turn_stepped exact room before after {a = a} {b = b} takes inward w gives outward =
     let step = steps_in a.budget b.budget takes in
-    does_stepped (PutsItemsUnder Whole before after b.budget)
-    (PutsItems Whole before after a.budget) (RejectsItemsUnder Whole rejects room b.budget)
-    (RejectsInCount (Whole a.budget) (rejects a.budget) room)
-    (λ xs ys v h. h a.budget step) (λ xs e rest h. h a.budget step)
-    takes inward w gives outward
+    does_stepped (PutsItemsUnder exact before after b.budget)
+    (PutsItems exact before after a.budget) (RejectsItemsUnder exact room b.budget)
+    (RejectsItems exact room a.budget) (λ xs ys v h. h a.budget step)
+    (λ xs e rest h. h a.budget step) takes inward w gives outward
 
 -- no step is left
-pub turn_unstepped : (Whole : Budget → Tree → Type 0) (rejects : Budget → Stopping) (full : ℕ)
-    (before after : List Value) {E : Type 0} {e : DecodeError E} {a b : View}
-    → length before < full → input_error_of e ≡ Some (depth_overflow value_name) → is_read e ≡ false
-    → (a.budget ≡ Some 0 → (xs : List ℕ)
-    → rejects a.budget xs (depth_overflow value_name) xs)
+pub turn_unstepped : (exact : Bool) (full : ℕ) (before after : List Value) {E : Type 0}
+    {e : DecodeError E} {a b : View} → length before < full
+    → input_error_of e ≡ Some (depth_overflow value_name) → is_read e ≡ false
     → StepsIn a.budget b.budget false → KeepsAllButBudget a b
-    → Does {V = Unit {0}} (PutsItems Whole before after a.budget)
-    (RejectsInCount (Whole a.budget) (rejects a.budget) (full - length before)) a b (Err e)
-turn_unstepped Whole rejects full before after {a = a} lacks says read f takes k =
-    does_no_step value_name (PutsItems Whole before after a.budget)
-    (RejectsInCount (Whole a.budget) (rejects a.budget) (full - length before)) says read
-    (λ none xs. stopped_after (Whole a.budget) (rejects a.budget) [] (full - length before) xs xs
-    (depth_overflow value_name) xs (no_trees, refl, tt, refl, refl) (omega (arith, lacks))
-    (f none xs)) takes k
+    → Does {V = Unit {0}} (PutsItems exact before after a.budget)
+    (RejectsItems exact (full - length before) a.budget) a b (Err e)
+turn_unstepped exact full before after {a = a} lacks says read takes k =
+    does_no_step value_name (PutsItems exact before after a.budget)
+    (RejectsItems exact (full - length before) a.budget) says read
+    (λ none xs. stopped_after (Whole exact a.budget) (RejectsOneValue exact a.budget) []
+    (full - length before) xs xs (depth_overflow value_name) xs (no_trees, refl, tt, refl, refl)
+    (omega (arith, lacks)) (value_no_step exact a.budget none xs)) takes k
 
 -- ---- turns, one after another
 
-module _ (Whole : Budget → Tree → Type 0) (rejects : Budget → Stopping) (full : ℕ)
-    (items after : List Value) {a m : View}
-    (p : Reached (λ xs ys. ReadsEach (Whole a.budget) (length items) xs items ys) a m) where
+module _ (exact : Bool) (full : ℕ) (items after : List Value) {a m : View}
+    (p : Reached (λ xs ys. ReadsItems exact (length items) a.budget xs items ys) a m) where
   pub ran : {E : Type 0} {u : Unit {0}} {b : View}
-      → Does {E = E} (PutsItems Whole items after m.budget)
-      (RejectsInCount (Whole m.budget) (rejects m.budget) (full - length items)) m b (Ok u)
-      → Reached (λ xs ys. ReadsEach (Whole a.budget) (length after) xs after ys) a b
+      → Does {E = E} (PutsItems exact items after m.budget)
+      (RejectsItems exact (full - length items) m.budget) m b (Ok u)
+      → Reached (λ xs ys. ReadsItems exact (length after) a.budget xs after ys) a b
   ran {u = u} d =
-      reached_then (λ xs ys. ReadsEach (Whole a.budget) (length items) xs items ys)
-      (λ xs ys. PutsItems Whole items after m.budget xs u ys)
-      (λ xs ys. ReadsEach (Whole a.budget) (length after) xs after ys)
+      reached_then (λ xs ys. ReadsItems exact (length items) a.budget xs items ys)
+      (λ xs ys. PutsItems exact items after m.budget xs u ys)
+      (λ xs ys. ReadsItems exact (length after) a.budget xs after ys)
       (λ xs ys zs h s.
-      subst (λ us. ReadsEach (Whole a.budget) (length us) xs us zs) (sym s.1)
-      (join_items (Whole a.budget) items s.0 xs ys zs h
-      (subst (λ o. ReadsEach (Whole o) (length s.0) ys s.0 zs) p.kept.budget s.2)))
+      subst (λ us. ReadsItems exact (length us) a.budget xs us zs) (sym s.1)
+      (join_items (Whole exact a.budget) items s.0 xs ys zs h
+      (subst (λ o. ReadsItems exact (length s.0) o ys s.0 zs) p.kept.budget s.2)))
       p (reached_by d)
 
   pub run_rejects : {V E : Type 0} (B : Accepting V) → {e : DecodeError E} {b : View}
-      → Does {V = Unit {0}} (PutsItems Whole items after m.budget)
-      (RejectsInCount (Whole m.budget) (rejects m.budget) (full - length items)) m b (Err e)
-      → Does {V = V} B (RejectsInCount (Whole a.budget) (rejects a.budget) full) a b (Err e)
+      → Does {V = Unit {0}} (PutsItems exact items after m.budget)
+      (RejectsItems exact (full - length items) m.budget) m b (Err e)
+      → Does {V = V} B (RejectsItems exact full a.budget) a b (Err e)
   run_rejects B d =
-      does_err (λ xs ys. ReadsEach (Whole a.budget) (length items) xs items ys)
-      (PutsItems Whole items after m.budget) B
-      (RejectsInCount (Whole m.budget) (rejects m.budget) (full - length items))
-      (RejectsInCount (Whole a.budget) (rejects a.budget) full)
-      (λ xs ys z rest h s. stopped_further (Whole a.budget) (rejects a.budget) items full xs
-      ys z rest
-      h
-      (subst (λ o. RejectsInCount (Whole o) (rejects o) (full - length items) ys z rest)
-      p.kept.budget
-      s)) p d
+      does_err (λ xs ys. ReadsItems exact (length items) a.budget xs items ys)
+      (PutsItems exact items after m.budget) B (RejectsItems exact (full - length items) m.budget)
+      (RejectsItems exact full a.budget)
+      (λ xs ys z rest h s.
+      stopped_further (Whole exact a.budget) (RejectsOneValue exact a.budget) items full xs ys z
+      rest h (subst (λ o. RejectsItems exact (full - length items) o ys z rest) p.kept.budget s))
+      p d
 
 -- ---- pairs
 
@@ -903,30 +902,10 @@ pub both_there : (ms : List (Value × Value)) (key : Option Value) (most : ℕ)
 both_there ms key most few full = omega (arith, few, full)
 
 -- of one value a part, so many parts
-pub stop_alone : (Whole : Budget → Tree → Type 0) (rejects : Budget → Stopping) (n : ℕ)
-    (budget : Budget) {V E : Type 0} (B : Accepting V) {e : DecodeError E} {a b : View}
-    → Does {V = V} B (RejectsInCount (Whole budget) (rejects budget) (1 * n)) a b (Err e)
-    → Does {V = V} B (RejectsInCount (Whole budget) (rejects budget) n) a b (Err e)
-stop_alone Whole rejects n budget {V = V} B {e = e} {a = a} {b = b} d =
+pub stop_alone : (exact : Bool) (n : ℕ) (budget : Budget) {V E : Type 0} (B : Accepting V)
+    {e : DecodeError E} {a b : View}
+    → Does {V = V} B (RejectsItems exact (1 * n) budget) a b (Err e)
+    → Does {V = V} B (RejectsItems exact n budget) a b (Err e)
+stop_alone exact n budget {V = V} B {e = e} {a = a} {b = b} d =
     let one : 1 * n ≡ n = omega arith in
-    subst (λ j. Does {V = V} B (RejectsInCount (Whole budget) (rejects budget) j) a b (Err e)) one d
-
--- ---- what is said of one value
-
-pub one_read : OneUnder Readable RejectsOneValue ReadsUnder RejectsUnder
-one_read = record {
-  reads = λ budget inner step xs v ys h.
-      let t = h budget step in (
-        tree t.0 no_trees,
-        refl,
-        (t.1, tt),
-        ap (λ i. item i no_items) t.2,
-        t.3 ∙ ap (λ r. r ++ ys) (sym (append-nil (bytes t.0))),
-      );
-  errs = λ budget inner step xs z rest h. rejects_under inner budget xs z rest step h;
-}
-
--- no byte is left where a value is to begin
-pub none_under : (budget : Budget) (xs : List ℕ) (z : InputError) (rest : List ℕ)
-    → RejectsWhereNone xs z rest → RejectsUnder budget xs z rest
-none_under budget xs z rest s = subst (λ x. RejectsUnder budget x z rest) (sym s.0) s.1
+    subst (λ j. Does {V = V} B (RejectsItems exact j budget) a b (Err e)) one d

@@ -3,7 +3,7 @@ use Rattle.std.proofs.Common.{◌≡◌, ◌≢◌, ℕ, suc, ◌+◌, ◌-◌, 
 use Rattle.std.proofs.Common.{[], ◌∷◌, ◌++◌, length, take, drop, take-append-drop, length-append}
 use Rattle.std.proofs.Common.{length-drop, Result, Ok, Err, Option, Some, None, IfSome, refl, sym}
 use Rattle.std.proofs.Common.{ap, ◌∙◌}
-use Rattle.std.proofs.Common.{subst, arith, get_or}
+use Rattle.std.proofs.Common.{subst, arith, get_or, Bool, true}
 use Rattle.std.proofs.Math.Seq.{take-append_seam, take-add}
 use Rattle.std.proofs.lemmas.List.{length-take-le}
 use Rattle.std.specs.Int.{bytes_high_first}
@@ -24,8 +24,7 @@ use Rattle.cbor4ii_rw.specs.declared.error.DecodeError.{DecodeError}
 use Rattle.cbor4ii_items.specs.Laws.Running.{runs_peek}
 use Rattle.cbor4ii_items.specs.Reading.{Runs, peek_at}
 use Rattle.cbor4ii_rw.specs.View.{View, IfKnown}
-use Rattle.cbor4ii_tree.specs.Cost.{Budget}
-use Rattle.cbor4ii_tree.specs.Does.{Accepting, Does}
+use Rattle.cbor4ii_tree.specs.Does.{Does}
 use Rattle.cbor4ii_tree.specs.Prefix.{Offers}
 use Rattle.cbor4ii_tree.specs.Item.{integer, float, IsItem}
 use Rattle.cbor4ii_tree.specs.Laws.Binds.{step_up}
@@ -34,8 +33,6 @@ use Rattle.cbor4ii_tree.specs.Leaf.{SeesLeaf, ShowsFirst, ShowsNext, TakesLeaf, 
 use Rattle.cbor4ii_tree.specs.Meaning.{number, simple_item, content_item}
 use Rattle.cbor4ii_tree.specs.InputError.{value_name}
 use Rattle.cbor4ii_tree.specs.InputError.{Small}
-use Rattle.cbor4ii_tree.specs.Rejections.{Stopping}
-use Rattle.cbor4ii_tree.specs.CanonicalCalls.{ReadsCanonicallyUnder, RejectsCanonicallyUnder, raise}
 use Rattle.cbor4ii_tree.specs.Tree.{int, bits, simple, string, bytes, TextIsUtf8}
 use Rattle.cbor4ii_tree.specs.Valuing.{SimpleOf, ReadsUnder, RejectsUnder}
 use Rattle.cbor4ii_tree.specs.View.{view}
@@ -45,15 +42,13 @@ use Rattle.cbor4ii_tree.specs.declared.leaf.Leaf.{Leaf}
 use Rattle.cbor4ii_tree.specs.declared.leaf.Leaf.TheVariants.{Whole, NoMemory, End}
 use Rattle.cbor4ii_tree.specs.declared.leaf.Next.{Next}
 use Rattle.cbor4ii_tree.specs.declared.leaf.Looked.{Looked}
-use Rattle.cbor4ii_tree.specs.declared.leaf.Looked.TheVariants.{Taken}
 use Rattle.cbor4ii_tree.specs.declared.leaf.Looked.TheVariants as looked
 use Rattle.cbor4ii_rw.specs.declared.error.DecodeError.TheVariants.{OutOfMemory, Eof}
-use Rattle.cbor4ii_items.specs.Decoding.{CostFits}
-use Rattle.cbor4ii_tree.proofs.canonical.FitsCanonically.{fits_raise}
+use Rattle.cbor4ii_items.specs.Budget.{CostFits}
 use Rattle.cbor4ii_tree.proofs.skip_calls.Doing.{does_ok, does_no_memory}
 use Rattle.cbor4ii_tree.proofs.heads.Inverse.{IsBytes-take}
-use Rattle.cbor4ii_tree.proofs.values.Calls.{fits_less}
-use Rattle.cbor4ii_tree.proofs.values.Ends.{Ending, none_shown}
+use Rattle.cbor4ii_tree.proofs.values.Calls.{fits_less, whole, value_no_byte}
+use Rattle.cbor4ii_tree.proofs.values.Ends.{none_shown}
 use Rattle.cbor4ii_tree.proofs.values.Encoding.{view-Integer}
 
 in_range : (s : Sign) (n : ℕ) → n < 2 ^ 127 → IsItem (integer (number s n))
@@ -239,96 +234,64 @@ shows_first {E = E} first trailing {shown = shown} {a = a} {m = m} shows prefix 
 
 -- ---- what a look decides is taken
 
-module _ {E : Type 0} (exact : Type 0) {a m b : View} where
-  taken : (A : Accepting Value) (S : Stopping) (v : Value) (size : ℕ) {seen : Leaf}
-      → seen ≡ Whole v size → Offers 1 (SeesLeaf exact seen) a m → Advances size m b
-      → ((shown xs ys : List ℕ) → (l : StandsAhead exact v size shown) → xs ≡ bytes l.item ++ ys
-      → A xs v ys) → Does {E = E} A S a b (Ok v)
-  taken A S v size is h adv f =
-      let o = subst (λ s. Offers 1 (SeesLeaf exact s) a m) is h in
+module _ (exact : Bool) {E : Type 0} {a m b : View} where
+  pub takes_leaf : (v : Value) (size : ℕ) {seen : Leaf} → seen ≡ Whole v size
+      → Offers 1 (SeesLeaf (exact ≡ true) seen) a m → Advances size m b
+      → Does {E = E} (ReadsUnder exact a.budget) (RejectsUnder exact a.budget) a b (Ok v)
+  takes_leaf v size is h adv =
+      let o = subst (λ s. Offers 1 (SeesLeaf (exact ≡ true) s) a m) is h in
       let l = lends_prefix o.shows o.prefix o.is.within o.is.fresh refl adv in
-      does_ok A S (record {
+      does_ok (ReadsUnder exact a.budget) (RejectsUnder exact a.budget) (record {
         kept = l.kept;
         at = λ xs known.
             let t = l.at xs known in (
               drop size xs,
               t.1,
-              f o.shown xs (drop size xs) o.is (sym (take-append-drop size xs)
-                  ∙ ap (λ r. r ++ drop size xs) (sym t.2 ∙ o.is.is)),
+              λ budget step. (
+                o.is.item,
+                whole exact budget o.is.item o.is.plain o.is.strict
+                    (subst (λ j. CostFits j budget) (sym o.is.step)
+                    (step_up budget a.budget 0 step (fits_zero a.budget))),
+                o.is.means,
+                sym (take-append-drop size xs)
+                    ∙ ap (λ r. r ++ drop size xs) (sym t.2 ∙ o.is.is),
+              ),
             );
       })
 
-  pub takes_leaf : (v : Value) (size : ℕ) {seen : Leaf} → seen ≡ Whole v size
-      → Offers 1 (SeesLeaf exact seen) a m → Advances size m b
-      → Does {E = E} (ReadsUnder a.budget) (RejectsUnder a.budget) a b (Ok v)
-  takes_leaf v size is h adv =
-      taken (ReadsUnder a.budget) (RejectsUnder a.budget) v size is h adv
-      (λ shown xs ys l begins budget step. (
-        l.item,
-        (
-          l.plain,
-          subst (λ j. CostFits j budget) (sym l.step)
-              (step_up budget a.budget 0 step (fits_zero a.budget)),
-        ),
-        l.means,
-        begins,
-      ))
-
-  pub takes_exact_leaf : (v : Value) (size : ℕ) {seen : Leaf} → seen ≡ Whole v size
-      → Offers 1 (SeesLeaf exact seen) a m → Advances size m b → exact
-      → Does {E = E} (ReadsCanonicallyUnder a.budget) (RejectsCanonicallyUnder a.budget) a b (Ok v)
-  takes_exact_leaf v size is h adv holds =
-      taken (ReadsCanonicallyUnder a.budget) (RejectsCanonicallyUnder a.budget) v size is h adv
-      (λ shown xs ys l begins. (
-        l.item,
-        (
-          (l.plain, l.strict holds),
-          subst (λ j. CostFits j (raise a.budget)) (sym l.step)
-              (fits_raise 0 a.budget (fits_zero a.budget)),
-        ),
-        l.means,
-        begins,
-      ))
-
-  pub no_content : (A : Accepting Value) (S : Stopping) (size : ℕ) {seen : Leaf}
-      → seen ≡ NoMemory size → Offers 1 (SeesLeaf exact seen) a m → Advances size m b
-      → Does {V = Value} {E = E} A S a b (Err OutOfMemory)
-  no_content A S size is h adv =
-      let o = subst (λ s. Offers 1 (SeesLeaf exact s) a m) is h in
+  pub no_content : (size : ℕ) {seen : Leaf} → seen ≡ NoMemory size
+      → Offers 1 (SeesLeaf (exact ≡ true) seen) a m → Advances size m b
+      → Does {V = Value} {E = E} (ReadsUnder exact a.budget) (RejectsUnder exact a.budget) a b
+      (Err OutOfMemory)
+  no_content size is h adv =
+      let o = subst (λ s. Offers 1 (SeesLeaf (exact ≡ true) s) a m) is h in
       let may = wants_may size o.shown o.is in
       let l = lends_prefix o.shows o.prefix may.within may.fresh refl adv in
-      does_no_memory A S refl l.kept
+      does_no_memory (ReadsUnder exact a.budget) (RejectsUnder exact a.budget) refl l.kept
 
-pub no_value : {E : Type 0} (exact : Type 0) {a b : View} (A : Accepting Value) (S : Stopping)
-    → Ending S → {seen : Leaf} → seen ≡ End → Offers 1 (SeesLeaf exact seen) a b
-    → {name : Bor (List ℕ)} → name.now ≡ value_name
-    → Does {V = Value} {E = E} A S a b (Err (Eof name (Small 1)))
-no_value exact {a = a} {b = b} A S ends is h says =
-    let o = subst (λ s. Offers 1 (SeesLeaf exact s) a b) is h in
-    none_shown A S ends 1 says (omega arith) o.shows o.prefix o.is
+module _ (exact : Bool) {a m : View} where
+  pub no_value : {E : Type 0} {seen : Leaf} → seen ≡ End
+      → Offers 1 (SeesLeaf (exact ≡ true) seen) a m → {name : Bor (List ℕ)} → name.now ≡ value_name
+      → Does {V = Value} {E = E} (ReadsUnder exact a.budget) (RejectsUnder exact a.budget) a m
+      (Err (Eof name (Small 1)))
+  no_value is h says =
+      let o = subst (λ s. Offers 1 (SeesLeaf (exact ≡ true) s) a m) is h in
+      none_shown (ReadsUnder exact a.budget) (RejectsUnder exact a.budget)
+      (value_no_byte exact a.budget) 1 says (omega arith) o.shows o.prefix o.is
 
-pub leaf_item : (exact : Type 0) {a m : View} (v : Value) (size : ℕ) {seen : Leaf}
-    → seen ≡ Whole v size → Offers 1 (SeesLeaf exact seen) a m → IsItem (view v)
-leaf_item exact {a = a} {m = m} v size is h =
-    (subst (λ s. Offers 1 (SeesLeaf exact s) a m) is h).is.ranged
-
--- a value was taken
-pub found_leaf : {E : Type 0} (exact : Type 0) (A : Budget → Accepting Value)
-    (S : Budget → Stopping) {a b : View} {seen : Looked} (v : Value)
-    (failure : Option (DecodeError E)) → seen ≡ Taken v
-    → TakesLeaf exact A S a b (Some seen) failure
-    → Does {E = E} (A a.budget) (S a.budget) a b (Ok v)
-found_leaf exact A S {a = a} {b = b} v failure is t =
-    subst (λ o. TakesLeaf exact A S a b (Some o) failure) is t
+  pub leaf_item : (v : Value) (size : ℕ) {seen : Leaf} → seen ≡ Whole v size
+      → Offers 1 (SeesLeaf (exact ≡ true) seen) a m → IsItem (view v)
+  leaf_item v size is h =
+      (subst (λ s. Offers 1 (SeesLeaf (exact ≡ true) s) a m) is h).is.ranged
 
 -- nothing was taken yet
-pub after_look : {E : Type 0} (exact : Type 0) (A : Budget → Accepting Value)
-    (S : Budget → Stopping) {r : Result Value (DecodeError E)} {a b : View} (m : View)
-    {seen : Looked} (n : Next) (failure : Option (DecodeError E)) → seen ≡ looked.Begins n
-    → TakesLeaf exact A S a m (Some seen) failure → DoesAfterNext exact n A S m b r
-    → Does (A a.budget) (S a.budget) a b r
-after_look exact A S {a = a} m n failure is t d =
-    d a (subst (λ o. TakesLeaf exact A S a m (Some o) failure) is t)
+pub after_look : (exact : Bool) {E : Type 0} {r : Result Value (DecodeError E)} {a b : View}
+    (m : View) {seen : Looked} (n : Next) (failure : Option (DecodeError E))
+    → seen ≡ looked.Begins n → TakesLeaf exact a m (Some seen) failure
+    → DoesAfterNext (exact ≡ true) n (ReadsUnder exact) (RejectsUnder exact) m b r
+    → Does (ReadsUnder exact a.budget) (RejectsUnder exact a.budget) a b r
+after_look exact {a = a} m n failure is t d =
+    d a (subst (λ o. TakesLeaf exact a m (Some o) failure) is t)
 
 -- what follows of what is there
 pub some_as : {A : Type 0} {P Q : A → Type 0} (o : Option A) → ((x : A) → P x → Q x) → IfSome o P

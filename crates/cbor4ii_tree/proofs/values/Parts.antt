@@ -1,19 +1,19 @@
 -- Values that are read one after another.
-use Rattle.std.proofs.Common.{◌≡◌, ℕ, List, ◌++◌}
+use Rattle.std.proofs.Common.{◌≡◌, ℕ, Bool, List, ◌++◌}
 use Rattle.cbor4ii_tree.specs.declared.value.Value.{Value}
 use Rattle.cbor4ii_tree.specs.Tree.{Trees, Pairs, bytes_all, bytes_pairs}
 use Rattle.cbor4ii_tree.specs.Meaning.{values, member_values}
 use Rattle.cbor4ii_tree.specs.Cost.{Budget}
 use Rattle.cbor4ii_tree.specs.Rejections.{Each, EachPair}
-use Rattle.cbor4ii_tree.specs.ReadingRejects.{Readable}
+use Rattle.cbor4ii_tree.specs.Valuing.{Whole}
 use Rattle.cbor4ii_tree.specs.View.{items_view, members_view}
 
-abbrev pub ReadEach : List Value → Budget → List ℕ → List ℕ → Type 0
-ReadEach vs budget xs ys =
-    (ts : Trees) × Each (Readable budget) ts × (values ts ≡ items_view vs)
+abbrev pub ReadEach : Bool → List Value → Budget → List ℕ → List ℕ → Type 0
+ReadEach exact vs budget xs ys =
+    (ts : Trees) × Each (Whole exact budget) ts × (values ts ≡ items_view vs)
     × (xs ≡ bytes_all ts ++ ys)
 
-abbrev pub ReadPairs : List (Value × Value) → Budget → List ℕ → List ℕ → Type 0
-ReadPairs ms budget xs ys =
-    (ps : Pairs) × EachPair (Readable budget) ps × (member_values ps ≡ members_view ms)
+abbrev pub ReadPairs : Bool → List (Value × Value) → Budget → List ℕ → List ℕ → Type 0
+ReadPairs exact ms budget xs ys =
+    (ps : Pairs) × EachPair (Whole exact budget) ps × (member_values ps ≡ members_view ms)
     × (xs ≡ bytes_pairs ps ++ ys)

@@ -1,6 +1,7 @@
 -- Arrays and maps of values.
 use Rattle.std.proofs.Common.{◌≡◌, ◌≢◌, ℕ, ◌+◌, ◌*◌, ◌/◌, ◌%◌, List, [], ◌∷◌, ◌++◌, drop, take}
-use Rattle.std.proofs.Common.{Option, Some, None, Result, Ok, Err, true, refl, sym, ap, ap₂, ◌∙◌}
+use Rattle.std.proofs.Common.{Option, Some, None, Result, Ok, Err, Bool, true, false, refl, sym}
+use Rattle.std.proofs.Common.{ap, ap₂, ◌∙◌}
 use Rattle.std.proofs.Common.{subst, arith, append_assoc, inl, inr, Vec, Global, IfOk, IfErr}
 use Rattle.std.specs.Int.{bytes_high_first}
 use Rattle.cbor4ii_rw.specs.View.{View}
@@ -8,10 +9,13 @@ use Rattle.cbor4ii_rw.specs.Reader.{KeepsAllButBudget, StepsIn, step_back}
 use Rattle.cbor4ii_rw.specs.declared.error.DecodeError.{DecodeError}
 use Rattle.cbor4ii_items.specs.InputError.{InputError}
 use Rattle.cbor4ii_items.specs.Head.{byte_count, additional, HeadFits, head, indefinite_head, break}
+use Rattle.cbor4ii_items.specs.Head.{shortest}
 use Rattle.cbor4ii_items.specs.Heads.{RejectsHead}
 use Rattle.cbor4ii_items.specs.Lengths.{ReadsLength, RejectsLength}
+use Rattle.cbor4ii_items.specs.Shortest.{RejectsShortest}
 use Rattle.cbor4ii_items.specs.Moves.{Moves}
-use Rattle.cbor4ii_items.specs.Decoding.{CostFits, Sound, Rejects}
+use Rattle.cbor4ii_items.specs.Decoding.{Sound, Rejects}
+use Rattle.cbor4ii_items.specs.Budget.{CostFits}
 use Rattle.cbor4ii_items.specs.Initial.{Info, wide, indefinite_ended, reserved, info_of}
 use Rattle.cbor4ii_items.specs.Initial.{array_by_info}
 use Rattle.cbor4ii_items.specs.Initial.{map_by_info, starts_array, starts_indefinite_array}
@@ -24,20 +28,25 @@ use Rattle.cbor4ii_tree.specs.Laws.Initials.{initial_array, initial_map, initial
 use Rattle.cbor4ii_tree.specs.Laws.Initials.{initial_indefinite_map}
 use Rattle.cbor4ii_tree.specs.Laws.Wholes.{all_readable, all_pairs_readable}
 use Rattle.cbor4ii_tree.specs.declared.value.Value.{Value, Array, Map}
-use Rattle.cbor4ii_tree.specs.Tree.{Tree, no_trees, Pairs, no_pairs, pair, array, array_indefinite}
-use Rattle.cbor4ii_tree.specs.Tree.{map_of, map_indefinite, bytes, bytes_all, bytes_pairs}
+use Rattle.cbor4ii_tree.specs.Tree.{Tree, Trees, no_trees, Pairs, no_pairs, pair, array}
+use Rattle.cbor4ii_tree.specs.Tree.{array_indefinite, map_of, map_indefinite, bytes, bytes_all}
+use Rattle.cbor4ii_tree.specs.Tree.{bytes_pairs, LooseAll, LoosePairs, SoundStringsAll}
+use Rattle.cbor4ii_tree.specs.Tree.{SoundStringsPairs}
+use Rattle.cbor4ii_tree.specs.CanonicalShape.{CanonicalShapeAll, CanonicalShapePairs}
 use Rattle.cbor4ii_tree.specs.Item.{no_members, member, sequence, mapping}
 use Rattle.cbor4ii_tree.specs.Meaning.{value, member_values}
 use Rattle.cbor4ii_tree.specs.Cost.{Budget, step_in, greatest_cost, greatest_pair_cost}
 use Rattle.cbor4ii_tree.specs.Laws.Binds.{step_up}
 use Rattle.cbor4ii_tree.specs.InputError.{eof, mismatch, depth_overflow, Small}
-use Rattle.cbor4ii_tree.specs.Rejections.{Stopping, Is, AtHead, RejectsAtStep, RejectsInCount}
-use Rattle.cbor4ii_tree.specs.Rejections.{IndefiniteItems}
+use Rattle.cbor4ii_tree.specs.Rejections.{Stopping, Is, AtHead, RejectsAtStep, RejectsInCount, Each}
+use Rattle.cbor4ii_tree.specs.Rejections.{EachPair, IndefiniteItems}
 use Rattle.cbor4ii_tree.specs.Rejections.{IndefinitePairs, NoBreak}
 use Rattle.cbor4ii_tree.specs.ReadingRejects.{Readable, ReadingRejectsBy, ReadingRejects}
+use Rattle.cbor4ii_tree.specs.CanonicalRejects.{CanonicalArrayRejects, CanonicalMapRejects}
 use Rattle.cbor4ii_tree.specs.View.{view, items_view, members_view}
 use Rattle.cbor4ii_tree.specs.Does.{Accepting, Does, answered}
-use Rattle.cbor4ii_tree.specs.Valuing.{HeadAt, ReadsOneValue, RejectsOneValue, ReadsUnder}
+use Rattle.cbor4ii_tree.specs.Valuing.{Whole, HeadAt, IndefiniteAt, ReadsOneValue, RejectsOneValue}
+use Rattle.cbor4ii_tree.specs.Valuing.{ReadsUnder}
 use Rattle.cbor4ii_tree.specs.Valuing.{MakesArray, MakesMap, RejectsUnder, TakesLength}
 use Rattle.cbor4ii_tree.specs.Valuing.{ReadsItems, RejectsItems, ReadsIndefiniteItems}
 use Rattle.cbor4ii_tree.specs.Valuing.{RejectsIndefiniteItems}
@@ -46,16 +55,34 @@ use Rattle.cbor4ii_tree.specs.Valuing.{RejectsIndefiniteMembers}
 use Rattle.cbor4ii_tree.specs.Valuing.{ReadsMember, RejectsMember, RejectsMembers, ReadsArrayInside}
 use Rattle.cbor4ii_tree.specs.Valuing.{ReadsMapInside, RejectsMajor, RejectsOf, ReadsStepped}
 use Rattle.cbor4ii_tree.proofs.skip_calls.Doing.{Reached, reached_start, reached_by, reached_then}
-use Rattle.cbor4ii_tree.proofs.skip_calls.Doing.{does_err, does_after, does_rejects, does_stepped}
+use Rattle.cbor4ii_tree.proofs.skip_calls.Doing.{does_err, does_after, does_stepped, call_rejects}
 use Rattle.cbor4ii_tree.proofs.skip_calls.Doing.{reached_as, reached_sound, steps_in, does_ok}
+use Rattle.cbor4ii_tree.proofs.canonical.FitsCanonically.{all_exactly, all_pairs_exactly}
 use Rattle.cbor4ii_tree.proofs.values.Views.{view-Map}
 use Rattle.cbor4ii_tree.proofs.values.Parts.{ReadEach, ReadPairs}
-use Rattle.cbor4ii_tree.proofs.values.Calls.{head_cut, no_head, initial_of, values-push}
+use Rattle.cbor4ii_tree.proofs.values.Calls.{head_cut, no_head, initial_of, values-push, whole}
 use Rattle.cbor4ii_tree.proofs.values.Calls.{indefinite_byte}
 use Rattle.cbor4ii_tree.proofs.parts.Pushed.{push, each-push, bytes-push, push_pair}
 use Rattle.cbor4ii_tree.proofs.parts.Pushed.{each-push_pair, bytes-push_pair}
-use Rattle.cbor4ii_tree.proofs.values.Heads.{at_row, first_is, head_at}
+use Rattle.cbor4ii_tree.proofs.values.Heads.{at_row, at_major, first_is, head_at, shortest_at}
 use Rattle.cbor4ii_tree.proofs.values.Encoding.{view-Array}
+
+-- ---- encodings that are read whole, one after another
+
+not_both : true ≡ false → ⊥
+not_both e = cc
+
+all_whole : (exact : Bool) (ts : Trees) (b : Budget) → Each (Whole exact b) ts
+    → (LooseAll ts × SoundStringsAll ts) × (exact ≡ true → CanonicalShapeAll ts)
+    × CostFits (greatest_cost ts) b
+all_whole false ts b w = let r = all_readable ts b w in (r.0, (λ e. cc), r.1)
+all_whole true ts b w = let r = all_exactly ts b w in (r.0, (λ e. r.1), r.2)
+
+all_pairs_whole : (exact : Bool) (ps : Pairs) (b : Budget) → EachPair (Whole exact b) ps
+    → (LoosePairs ps × SoundStringsPairs ps) × (exact ≡ true → CanonicalShapePairs ps)
+    × CostFits (greatest_pair_cost ps) b
+all_pairs_whole false ps b w = let r = all_pairs_readable ps b w in (r.0, (λ e. cc), r.1)
+all_pairs_whole true ps b w = let r = all_pairs_exactly ps b w in (r.0, (λ e. r.1), r.2)
 
 -- ---- steps
 
@@ -71,19 +98,19 @@ no_step_left name here S outer none =
     subst (λ o. RejectsAtStep name (step_in o) here S (depth_overflow name) here) (sym none)
     (refl, refl)
 
-pub major_stepped : {V : Type 0} (reads : Budget → Accepting V) (major : ℕ) {E : Type 0}
-    {r : Result V (DecodeError E)} {a b c d : View} → StepsIn a.budget b.budget true
-    → KeepsAllButBudget a b → Does (reads b.budget) (RejectsMajor major b.budget) b c r
+pub major_stepped : (exact : Bool) {V : Type 0} (reads : Budget → Accepting V) (major : ℕ)
+    {E : Type 0} {r : Result V (DecodeError E)} {a b c d : View} → StepsIn a.budget b.budget true
+    → KeepsAllButBudget a b → Does (reads b.budget) (RejectsMajor exact major b.budget) b c r
     → d.budget ≡ step_back c.budget → KeepsAllButBudget c d
-    → Does (ReadsStepped reads a.budget) (RejectsOf major a.budget) a d r
-major_stepped reads major {a = a} {b = b} takes inward w gives outward =
+    → Does (ReadsStepped reads a.budget) (RejectsOf exact major a.budget) a d r
+major_stepped exact reads major {a = a} {b = b} takes inward w gives outward =
     let step = steps_in a.budget b.budget takes in
-    does_stepped (reads b.budget) (ReadsStepped reads a.budget) (RejectsMajor major b.budget)
-    (RejectsOf major a.budget) (λ xs ys v h. (b.budget, step, h))
+    does_stepped (reads b.budget) (ReadsStepped reads a.budget) (RejectsMajor exact major b.budget)
+    (RejectsOf exact major a.budget) (λ xs ys v h. (b.budget, step, h))
     (λ xs e rest h first bs is m. h first bs is m a.budget step) takes inward w gives outward
 
 array_deep : (outer : Budget) (b : ℕ) (bs : List ℕ) → outer ≡ Some 0 → b / 32 ≡ 4
-    → RejectsUnder outer (b ∷ bs) (depth_overflow array_name) (b ∷ bs)
+    → RejectsUnder false outer (b ∷ bs) (depth_overflow array_name) (b ∷ bs)
 array_deep outer b bs none m =
     at_row outer (array_by_info (info_of (b % 32))) b bs _ _ (initial_of b 4 m)
     (by_info (info_of (b % 32)))
@@ -101,7 +128,7 @@ array_deep outer b bs none m =
         no_step_left array_name (b ∷ bs) (λ inner. Is (mismatch array_name b) bs) outer none
 
 map_deep : (outer : Budget) (b : ℕ) (bs : List ℕ) → outer ≡ Some 0 → b / 32 ≡ 5
-    → RejectsUnder outer (b ∷ bs) (depth_overflow map_name) (b ∷ bs)
+    → RejectsUnder false outer (b ∷ bs) (depth_overflow map_name) (b ∷ bs)
 map_deep outer b bs none m =
     at_row outer (map_by_info (info_of (b % 32))) b bs _ _ (initial_of b 5 m)
     (by_info (info_of (b % 32)))
@@ -119,23 +146,33 @@ map_deep outer b bs none m =
     by_info reserved =
         no_step_left map_name (b ∷ bs) (λ inner. Is (mismatch map_name b) bs) outer none
 
-pub array_no_step : (budget : Budget) → budget ≡ Some 0 → (xs : List ℕ)
-    → RejectsOf 4 budget xs (depth_overflow array_name) xs
-array_no_step budget none xs b bs is m =
-    subst (λ x. RejectsUnder budget x (depth_overflow array_name) x) (sym is)
+pub array_no_step : (exact : Bool) (budget : Budget) → budget ≡ Some 0 → (xs : List ℕ)
+    → RejectsOf exact 4 budget xs (depth_overflow array_name) xs
+array_no_step false budget none xs b bs is m =
+    subst (λ x. RejectsUnder false budget x (depth_overflow array_name) x) (sym is)
     (array_deep budget b bs none m)
+array_no_step true budget none xs b bs is m =
+    subst (λ x. RejectsUnder true budget x (depth_overflow array_name) x) (sym is)
+    (at_major 4 budget b bs _ _ m
+    (no_step_left array_name (b ∷ bs)
+    (λ inner. CanonicalArrayRejects (RejectsOneValue true) inner (b ∷ bs)) budget none))
 
-pub map_no_step : (budget : Budget) → budget ≡ Some 0 → (xs : List ℕ)
-    → RejectsOf 5 budget xs (depth_overflow map_name) xs
-map_no_step budget none xs b bs is m =
-    subst (λ x. RejectsUnder budget x (depth_overflow map_name) x) (sym is)
+pub map_no_step : (exact : Bool) (budget : Budget) → budget ≡ Some 0 → (xs : List ℕ)
+    → RejectsOf exact 5 budget xs (depth_overflow map_name) xs
+map_no_step false budget none xs b bs is m =
+    subst (λ x. RejectsUnder false budget x (depth_overflow map_name) x) (sym is)
     (map_deep budget b bs none m)
+map_no_step true budget none xs b bs is m =
+    subst (λ x. RejectsUnder true budget x (depth_overflow map_name) x) (sym is)
+    (at_major 5 budget b bs _ _ m
+    (no_step_left map_name (b ∷ bs)
+    (λ inner. CanonicalMapRejects (RejectsOneValue true) inner (b ∷ bs)) budget none))
 
 -- ---- heads
 
 array_head_rejects : (inner outer : Budget) (b : ℕ) (bs : List ℕ) (e : InputError) (rest : List ℕ)
     → step_in outer ≡ Some inner → b / 32 ≡ 4 → (take 1 (b ∷ bs) ≡ indefinite_head 4 ∷ [] → ⊥)
-    → RejectsHead array_name 4 8 (b ∷ bs) e rest → RejectsUnder outer (b ∷ bs) e rest
+    → RejectsHead array_name 4 8 (b ∷ bs) e rest → RejectsUnder false outer (b ∷ bs) e rest
 array_head_rejects inner outer b bs e rest step m closed h =
     at_row outer (array_by_info (info_of (b % 32))) b bs e rest (initial_of b 4 m)
     (by_info (info_of (b % 32)) refl)
@@ -154,7 +191,7 @@ array_head_rejects inner outer b bs e rest step m closed h =
 
 map_head_rejects : (inner outer : Budget) (b : ℕ) (bs : List ℕ) (e : InputError) (rest : List ℕ)
     → step_in outer ≡ Some inner → b / 32 ≡ 5 → (take 1 (b ∷ bs) ≡ indefinite_head 5 ∷ [] → ⊥)
-    → RejectsHead map_name 5 8 (b ∷ bs) e rest → RejectsUnder outer (b ∷ bs) e rest
+    → RejectsHead map_name 5 8 (b ∷ bs) e rest → RejectsUnder false outer (b ∷ bs) e rest
 map_head_rejects inner outer b bs e rest step m closed h =
     at_row outer (map_by_info (info_of (b % 32))) b bs e rest (initial_of b 5 m)
     (by_info (info_of (b % 32)) refl)
@@ -171,46 +208,58 @@ map_head_rejects inner outer b bs e rest step m closed h =
         (no_head map_name 5 b bs e rest (λ w f. cc) h)
 
 pub array_length_rejects : (inner : Budget) (xs : List ℕ) (budget : Budget) (e : InputError)
-    (rest : List ℕ) → RejectsLength array_name 4 xs budget e rest → RejectsMajor 4 inner xs e rest
+    (rest : List ℕ) → RejectsLength array_name 4 xs budget e rest → RejectsMajor false 4 inner xs e
+    rest
 array_length_rejects inner xs budget e rest h b bs is m outer step =
     let k = subst (λ x. RejectsLength array_name 4 x budget e rest) is h in
-    subst (λ x. RejectsUnder outer x e rest) (sym is)
+    subst (λ x. RejectsUnder false outer x e rest) (sym is)
     (array_head_rejects inner outer b bs e rest step m k.0 k.1)
 
 pub map_length_rejects : (inner : Budget) (xs : List ℕ) (budget : Budget) (e : InputError)
-    (rest : List ℕ) → RejectsLength map_name 5 xs budget e rest → RejectsMajor 5 inner xs e rest
+    (rest : List ℕ) → RejectsLength map_name 5 xs budget e rest → RejectsMajor false 5 inner xs e
+    rest
 map_length_rejects inner xs budget e rest h b bs is m outer step =
     let k = subst (λ x. RejectsLength map_name 5 x budget e rest) is h in
-    subst (λ x. RejectsUnder outer x e rest) (sym is)
+    subst (λ x. RejectsUnder false outer x e rest) (sym is)
     (map_head_rejects inner outer b bs e rest step m k.0 k.1)
 
-pub length_rejected : {U V E : Type 0} (name : List ℕ) (major : ℕ) (A : Accepting V) (T : Stopping)
-    {a c : View} {e : DecodeError E} → ((xs : List ℕ) (z : InputError) (rest : List ℕ)
-    → RejectsLength name major xs a.budget z rest → T xs z rest) → Moves {V = U} a c (Err e)
-    → Rejects (RejectsLength name major) a c e → Does {V = V} A T a c (Err e)
-length_rejected {U = U} name major A T {a = a} f moves s =
-    does_err (λ xs ys. xs ≡ ys)
-    (λ xs (v : U) ys. Unit {0}) A (λ xs. RejectsLength name major xs a.budget) T
-    (λ xs ys z rest e h. subst (λ x. T x z rest) (sym e) (f ys z rest h))
-    (reached_start (λ xs ys. xs ≡ ys) a (λ xs. refl))
-    (does_rejects (λ xs (v : U) ys. Unit {0}) (RejectsLength name major) moves s)
+-- after the step a canonical array or map fails by its head, or by what follows it
+array_strict : (inner : Budget) (xs : List ℕ) (e : InputError) (rest : List ℕ)
+    → CanonicalArrayRejects (RejectsOneValue true) inner xs e rest
+    → RejectsMajor true 4 inner xs e rest
+array_strict inner xs e rest h b bs is m outer step =
+    subst (λ x. RejectsUnder true outer x e rest) (sym is)
+    (at_major 4 outer b bs e rest m
+    (step_taken array_name (b ∷ bs)
+    (λ inner. CanonicalArrayRejects (RejectsOneValue true) inner (b ∷ bs)) outer inner e rest step
+    (subst (λ x. CanonicalArrayRejects (RejectsOneValue true) inner x e rest) is h)))
 
-pub reached_length : {E : Type 0} (major n : ℕ) {o : Option ℕ} {a m : View} → o ≡ Some n
-    → Moves {E = E} a m (Ok o) → Sound (ReadsLength major) a m o → Reached (HeadAt major n) a m
-reached_length major n is moves s =
-    reached_sound (ReadsLength major) (HeadAt major n) (λ xs k c _ r.
-    head_at major n xs k (subst (λ z. ReadsLength major xs z k c) is r).0) moves s
+map_strict : (inner : Budget) (xs : List ℕ) (e : InputError) (rest : List ℕ)
+    → CanonicalMapRejects (RejectsOneValue true) inner xs e rest
+    → RejectsMajor true 5 inner xs e rest
+map_strict inner xs e rest h b bs is m outer step =
+    subst (λ x. RejectsUnder true outer x e rest) (sym is)
+    (at_major 5 outer b bs e rest m
+    (step_taken map_name (b ∷ bs)
+    (λ inner. CanonicalMapRejects (RejectsOneValue true) inner (b ∷ bs)) outer inner e rest step
+    (subst (λ x. CanonicalMapRejects (RejectsOneValue true) inner x e rest) is h)))
 
-abbrev pub IndefiniteAt : ℕ → List ℕ → List ℕ → Type 0
-IndefiniteAt major xs ys = xs ≡ indefinite_head major ∷ ys
+-- their heads are rejected
+pub array_shortest_rejects : (major : ℕ) → major ≡ 4 → (inner : Budget) (xs : List ℕ)
+    (e : InputError) (rest : List ℕ) → RejectsShortest array_name major xs inner e rest
+    → RejectsMajor true major inner xs e rest
+array_shortest_rejects major is inner xs e rest h =
+    subst (λ j. RejectsMajor true j inner xs e rest) (sym is)
+    (array_strict inner xs e rest
+    (inl (subst (λ j. RejectsShortest array_name j xs inner e rest) is h)))
 
-pub reached_indefinite : {E : Type 0} (major : ℕ) {o : Option ℕ} {a m : View} → o ≡ None
-    → Moves {E = E} a m (Ok o) → Sound (ReadsLength major) a m o → Reached (IndefiniteAt major) a m
-reached_indefinite major is moves s =
-    reached_sound (ReadsLength major) (IndefiniteAt major) (λ xs k c _ r.
-    let h = subst (λ z. ReadsLength major xs z k c) is r in
-    first_is (indefinite_head major) xs h.0 ∙ ap (λ j. indefinite_head major ∷ drop j xs) (sym h.1))
-    moves s
+pub map_shortest_rejects : (major : ℕ) → major ≡ 5 → (inner : Budget) (xs : List ℕ)
+    (e : InputError) (rest : List ℕ) → RejectsShortest map_name major xs inner e rest
+    → RejectsMajor true major inner xs e rest
+map_shortest_rejects major is inner xs e rest h =
+    subst (λ j. RejectsMajor true j inner xs e rest) (sym is)
+    (map_strict inner xs e rest
+    (inl (subst (λ j. RejectsShortest map_name j xs inner e rest) is h)))
 
 -- the length that a head says
 pub length_does : {E : Type 0} (name : List ℕ) (major : ℕ) (T : Budget → Stopping) {a c : View}
@@ -219,84 +268,109 @@ pub length_does : {E : Type 0} (name : List ℕ) (major : ℕ) (T : Budget → S
     → Moves a c (answered r failure)
     → IfOk (answered r failure) (Sound (ReadsLength major) a c)
     → IfErr (answered r failure) (Rejects (RejectsLength name major) a c)
-    → Does (TakesLength major a.budget) (T a.budget) a c (answered r failure)
+    → Does (TakesLength false major a.budget) (T a.budget) a c (answered r failure)
 length_does name major T {a = a} (Some (Some n)) failure f moves s h =
-    does_ok (TakesLength major a.budget) (T a.budget) (reached_length major n refl moves s)
+    does_ok (TakesLength false major a.budget) (T a.budget)
+    (reached_sound (ReadsLength major) (HeadAt false major n)
+    (λ xs k c _ r. head_at false major n xs k r.0 (λ e. cc)) moves s)
 length_does name major T {a = a} (Some None) failure f moves s h =
-    does_ok (TakesLength major a.budget) (T a.budget) (reached_indefinite major refl moves s)
+    does_ok (TakesLength false major a.budget) (T a.budget)
+    (reached_sound (ReadsLength major) (IndefiniteAt false major)
+    (λ xs k c _ r. (
+      refl,
+      first_is (indefinite_head major) xs r.0
+          ∙ ap (λ j. indefinite_head major ∷ drop j xs) (sym r.1),
+    )) moves s)
 length_does name major T {a = a} None failure f moves s h =
-    length_rejected {U = Option ℕ} name major (TakesLength major a.budget) (T a.budget) f moves h
+    call_rejects {U = Option ℕ} (TakesLength false major a.budget) (RejectsLength name major)
+    (T a.budget) f moves h
 
-pub some_follow : {E : Type 0} (major n : ℕ) {o : Option ℕ} {S : Stopping} {a m : View}
-    → o ≡ Some n → Does {E = E} (TakesLength major a.budget) S a m (Ok o)
-    → Reached (HeadAt major n) a m
-some_follow major n {o = o} {a = a} is d =
-    reached_as (λ xs ys. TakesLength major a.budget xs o ys) (HeadAt major n)
-    (λ xs ys h. subst (λ z. TakesLength major a.budget xs z ys) is h) (reached_by d)
+pub some_follow : (exact : Bool) {E : Type 0} (major n : ℕ) {o : Option ℕ} {S : Stopping}
+    {a m : View}
+    → o ≡ Some n → Does {E = E} (TakesLength exact major a.budget) S a m (Ok o)
+    → Reached (HeadAt exact major n) a m
+some_follow exact major n {o = o} {a = a} is d =
+    reached_as (λ xs ys. TakesLength exact major a.budget xs o ys) (HeadAt exact major n)
+    (λ xs ys h. subst (λ z. TakesLength exact major a.budget xs z ys) is h) (reached_by d)
 
-pub none_follow : {E : Type 0} (major : ℕ) {o : Option ℕ} {S : Stopping} {a m : View} → o ≡ None
-    → Does {E = E} (TakesLength major a.budget) S a m (Ok o) → Reached (IndefiniteAt major) a m
-none_follow major {o = o} {a = a} is d =
-    reached_as (λ xs ys. TakesLength major a.budget xs o ys) (IndefiniteAt major)
-    (λ xs ys h. subst (λ z. TakesLength major a.budget xs z ys) is h) (reached_by d)
+pub none_follow : (exact : Bool) {E : Type 0} (major : ℕ) {o : Option ℕ} {S : Stopping} {a m : View}
+    → o ≡ None
+    → Does {E = E} (TakesLength exact major a.budget) S a m (Ok o) → Reached
+    (IndefiniteAt exact major) a m
+none_follow exact major {o = o} {a = a} is d =
+    reached_as (λ xs ys. TakesLength exact major a.budget xs o ys) (IndefiniteAt exact major)
+    (λ xs ys h. subst (λ z. TakesLength exact major a.budget xs z ys) is h) (reached_by d)
 
 -- ---- arrays
 
-pub array_definite : {E : Type 0} (n : ℕ) {r : Result (Vec Value Global) (DecodeError E)}
-    {a m b : View} → Reached (HeadAt 4 n) a m
-    → Does (λ xs v ys. ReadsItems n m.budget xs v.items ys) (RejectsItems n m.budget) m b r
-    → Does (λ xs v ys. ReadsArrayInside a.budget xs v.items ys) (RejectsMajor 4 a.budget) a b r
-array_definite n {a = a} {m = m} p d =
-    does_after (HeadAt 4 n) (λ xs v ys. ReadsItems n m.budget xs v.items ys)
-    (λ xs v ys. ReadsArrayInside a.budget xs v.items ys) (RejectsItems n m.budget)
-    (RejectsMajor 4 a.budget)
-    (λ xs ys zs v h s.
-    inl (h.0, n, ys, h.1, h.2, subst (λ o. ReadsItems n o ys v.items zs) p.kept.budget s))
-    (λ xs ys e rest h s b bs is major outer step. subst (λ x. RejectsUnder outer x e rest) (sym h.2)
+array_row : (exact : Bool) (n : ℕ) (inner : Budget) (xs ys : List ℕ) (e : InputError)
+    (rest : List ℕ) → HeadAt exact 4 n xs ys → RejectsItems exact n inner ys e rest
+    → RejectsMajor exact 4 inner xs e rest
+array_row false n inner xs ys e rest h s b bs is m outer step =
+    subst (λ x. RejectsUnder false outer x e rest) (sym h.3)
     (at_row outer (starts_array h.0) (32 * 4 + additional h.0 n)
     (bytes_high_first (byte_count h.0) n ++ ys) e rest (initial_array n h.0 h.1)
     (step_taken array_name (head 4 n h.0 ++ ys)
     (λ inner. AtHead array_name 4 h.0 (32 * 4 + additional h.0 n)
-    (RejectsInCount (Readable inner) (λ part. ReadingRejects part inner))
-    (bytes_high_first (byte_count h.0) n ++ ys)) outer a.budget e rest step
-    (inr (record {
-      argument = n;
-      after = ys;
-      fits = h.1;
-      is = refl;
-      stopped = subst (λ o. RejectsItems n o ys e rest) p.kept.budget s;
-    }))))) p d
+    (RejectsInCount (Readable inner) (RejectsOneValue false inner))
+    (bytes_high_first (byte_count h.0) n ++ ys)) outer inner e rest step
+    (inr (record { argument = n; after = ys; fits = h.1; is = refl; stopped = s }))))
+array_row true n inner xs ys e rest h s b bs is m outer step =
+    array_strict inner xs e rest
+    (inr (record { argument = n; after = ys; is = shortest_at 4 n xs ys h; stopped = s }))
+    b bs is m outer step
 
--- none of them
-pub array_of_none : {E : Type 0} (v : Vec Value Global) {m : View} → v.items ≡ []
-    → Does {E = E} (λ xs (u : Vec Value Global) ys. ReadsItems 0 m.budget xs u.items ys)
-    (RejectsItems 0 m.budget) m m (Ok v)
-array_of_none v {m = m} e =
-    does_ok (λ xs (u : Vec Value Global) ys. ReadsItems 0 m.budget xs u.items ys) (RejectsItems 0
-    m.budget)
-    (reached_start (λ xs ys. ReadsItems 0 m.budget xs v.items ys) m
-    (λ xs. subst (λ us. ReadsItems 0 m.budget xs us xs) (sym e) (no_trees, refl, tt, refl, refl)))
-
-pub array_opened : {E : Type 0} {r : Result (Vec Value Global) (DecodeError E)} {a m b : View}
-    → Reached (IndefiniteAt 4) a m
-    → Does (λ xs v ys. ReadsIndefiniteItems m.budget xs v.items ys)
-    (RejectsIndefiniteItems m.budget) m b r
-    → Does (λ xs v ys. ReadsArrayInside a.budget xs v.items ys) (RejectsMajor 4 a.budget) a b r
-array_opened {a = a} {m = m} p d =
-    does_after (IndefiniteAt 4) (λ xs v ys. ReadsIndefiniteItems m.budget xs v.items ys)
-    (λ xs v ys. ReadsArrayInside a.budget xs v.items ys) (RejectsIndefiniteItems m.budget)
-    (RejectsMajor 4 a.budget)
-    (λ xs ys zs v h s. inr (
-      ys,
-      h,
-      subst (λ o. ReadsIndefiniteItems o ys v.items zs)
-          p.kept.budget s,
-    ))
-    (λ xs ys e rest h s b bs is major outer step. subst (λ x. RejectsUnder outer x e rest) (sym h)
+array_indefinite_row : (exact : Bool) (inner : Budget) (xs ys : List ℕ) (e : InputError)
+    (rest : List ℕ) → IndefiniteAt exact 4 xs ys → RejectsIndefiniteItems exact inner ys e rest
+    → RejectsMajor exact 4 inner xs e rest
+array_indefinite_row false inner xs ys e rest h s b bs is m outer step =
+    subst (λ x. RejectsUnder false outer x e rest) (sym h.1)
     (at_row outer starts_indefinite_array (indefinite_head 4) ys e rest initial_indefinite_array
     (step_taken array_name (indefinite_head 4 ∷ ys)
-    (λ inner. IndefiniteItems (Readable inner) (λ part. ReadingRejects part inner) ys) outer
-    a.budget e rest step (subst (λ o. RejectsIndefiniteItems o ys e rest) p.kept.budget s)))) p d
+    (λ inner. IndefiniteItems (Readable inner) (RejectsOneValue false inner) ys) outer inner e rest
+    step s))
+array_indefinite_row true inner xs ys e rest h s b bs is m outer step = absurd (not_both h.0)
+
+pub array_definite : (exact : Bool) {E : Type 0} (n : ℕ)
+    {r : Result (Vec Value Global) (DecodeError E)} {a m b : View} → Reached (HeadAt exact 4 n) a m
+    → Does (λ xs v ys. ReadsItems exact n m.budget xs v.items ys) (RejectsItems exact n m.budget)
+    m b r
+    → Does (λ xs v ys. ReadsArrayInside exact a.budget xs v.items ys)
+    (RejectsMajor exact 4 a.budget) a b r
+array_definite exact n {a = a} {m = m} p d =
+    does_after (HeadAt exact 4 n) (λ xs v ys. ReadsItems exact n m.budget xs v.items ys)
+    (λ xs v ys. ReadsArrayInside exact a.budget xs v.items ys) (RejectsItems exact n m.budget)
+    (RejectsMajor exact 4 a.budget)
+    (λ xs ys zs v h s.
+    inl (n, ys, h, subst (λ o. ReadsItems exact n o ys v.items zs) p.kept.budget s))
+    (λ xs ys e rest h s. array_row exact n a.budget xs ys e rest h
+    (subst (λ o. RejectsItems exact n o ys e rest) p.kept.budget s)) p d
+
+-- none of them
+pub array_of_none : (exact : Bool) {E : Type 0} (v : Vec Value Global) {m : View} → v.items ≡ []
+    → Does {E = E} (λ xs (u : Vec Value Global) ys. ReadsItems exact 0 m.budget xs u.items ys)
+    (RejectsItems exact 0 m.budget) m m (Ok v)
+array_of_none exact v {m = m} e =
+    does_ok (λ xs (u : Vec Value Global) ys. ReadsItems exact 0 m.budget xs u.items ys)
+    (RejectsItems exact 0 m.budget)
+    (reached_start (λ xs ys. ReadsItems exact 0 m.budget xs v.items ys) m
+    (λ xs. subst (λ us. ReadsItems exact 0 m.budget xs us xs) (sym e)
+    (no_trees, refl, tt, refl, refl)))
+
+pub array_opened : (exact : Bool) {E : Type 0} {r : Result (Vec Value Global) (DecodeError E)}
+    {a m b : View} → Reached (IndefiniteAt exact 4) a m
+    → Does (λ xs v ys. ReadsIndefiniteItems exact m.budget xs v.items ys)
+    (RejectsIndefiniteItems exact m.budget) m b r
+    → Does (λ xs v ys. ReadsArrayInside exact a.budget xs v.items ys)
+    (RejectsMajor exact 4 a.budget) a b r
+array_opened exact {a = a} {m = m} p d =
+    does_after (IndefiniteAt exact 4) (λ xs v ys. ReadsIndefiniteItems exact m.budget xs v.items ys)
+    (λ xs v ys. ReadsArrayInside exact a.budget xs v.items ys)
+    (RejectsIndefiniteItems exact m.budget) (RejectsMajor exact 4 a.budget)
+    (λ xs ys zs v h s.
+    inr (ys, h, subst (λ o. ReadsIndefiniteItems exact o ys v.items zs) p.kept.budget s))
+    (λ xs ys e rest h s. array_indefinite_row exact a.budget xs ys e rest h
+    (subst (λ o. RejectsIndefiniteItems exact o ys e rest) p.kept.budget s)) p d
 
 two_steps : (c : ℕ) (budget inner deep : Budget) → step_in budget ≡ Some inner
     → step_in inner ≡ Some deep → CostFits c deep → CostFits (2 + c) budget
@@ -304,58 +378,66 @@ two_steps c budget inner deep s t f =
     fits_less (2 + c) (1 + (1 + c)) budget (omega arith)
     (step_up budget inner (1 + c) s (step_up inner deep c t f))
 
-array_tree : (budget inner deep : Budget) (vs : List Value) (xs ys : List ℕ)
-    → step_in budget ≡ Some inner → step_in inner ≡ Some deep → ReadsArrayInside deep xs vs ys
-    → (t : Tree) × Readable budget t × (value t ≡ sequence (items_view vs)) × (xs ≡ bytes t ++ ys)
-array_tree budget inner deep vs xs ys s t (inl q) =
-    let i = q.5 in
-    let all = all_readable i.0 deep i.2 in (
-      array q.0 i.0,
-      (
-        ((subst (HeadFits q.0) (sym i.1) q.3, all.0.0), all.0.1),
-        two_steps (greatest_cost i.0) budget inner deep s t all.1,
-      ),
+array_tree : (exact : Bool) (budget inner deep : Budget) (vs : List Value) (xs ys : List ℕ)
+    → step_in budget ≡ Some inner → step_in inner ≡ Some deep
+    → ReadsArrayInside exact deep xs vs ys
+    → (t : Tree) × Whole exact budget t × (value t ≡ sequence (items_view vs))
+    × (xs ≡ bytes t ++ ys)
+array_tree exact budget inner deep vs xs ys s t (inl q) =
+    let h = q.2 in
+    let i = q.3 in
+    let all = all_whole exact i.0 deep i.2 in (
+      array h.0 i.0,
+      whole exact budget (array h.0 i.0) ((subst (HeadFits h.0) (sym i.1) h.1, all.0.0), all.0.1)
+          (λ e. (h.2 e ∙ ap shortest (sym i.1), all.1 e))
+          (two_steps (greatest_cost i.0) budget inner deep s t all.2),
       ap sequence i.3,
-      q.4 ∙ ap (λ r. head 4 q.1 q.0 ++ r) i.4
-          ∙ sym (append_assoc (head 4 q.1 q.0) (bytes_all i.0) ys)
-          ∙ ap (λ j. (head 4 j q.0 ++ bytes_all i.0) ++ ys) (sym i.1),
+      h.3 ∙ ap (λ r. head 4 q.0 h.0 ++ r) i.4
+          ∙ sym (append_assoc (head 4 q.0 h.0) (bytes_all i.0) ys)
+          ∙ ap (λ j. (head 4 j h.0 ++ bytes_all i.0) ++ ys) (sym i.1),
     )
-array_tree budget inner deep vs xs ys s t (inr q) =
+array_tree exact budget inner deep vs xs ys s t (inr q) =
+    let h = q.1 in
     let i = q.2 in
-    let all = all_readable i.0 deep i.1 in (
+    let all = all_whole exact i.0 deep i.1 in (
       array_indefinite i.0,
-      ((all.0.0, all.0.1), two_steps (greatest_cost i.0) budget inner deep s t all.1),
+      whole exact budget (array_indefinite i.0) (all.0.0, all.0.1)
+          (λ e. not_both (sym e ∙ h.0))
+          (two_steps (greatest_cost i.0) budget inner deep s t all.2),
       ap sequence i.2,
-      q.1 ∙ ap (λ r. indefinite_head 4 ∷ r)
+      h.1 ∙ ap (λ r. indefinite_head 4 ∷ r)
           (i.3 ∙ sym (append_assoc (bytes_all i.0) (break ∷ []) ys)),
     )
 
-pub array_reads : (inner : Budget) (v : Vec Value Global) (xs ys : List ℕ) → ReadsStepped
-    (λ o xs (v : Vec Value Global) ys. ReadsArrayInside o xs v.items ys) inner xs v ys
-    → ReadsUnder inner xs (Array v) ys
-array_reads inner v xs ys h budget step =
-    let t = array_tree budget inner h.0 v.items xs ys step h.1 h.2 in
+pub array_reads : (exact : Bool) (inner : Budget) (v : Vec Value Global) (xs ys : List ℕ)
+    → ReadsStepped
+    (λ o xs (v : Vec Value Global) ys. ReadsArrayInside exact o xs v.items ys) inner xs v ys
+    → ReadsUnder exact inner xs (Array v) ys
+array_reads exact inner v xs ys h budget step =
+    let t = array_tree exact budget inner h.0 v.items xs ys step h.1 h.2 in
     (t.0, t.1, t.2 ∙ sym (view-Array v), t.3)
 
 -- ---- values one after another, up to a break
 
-pub each_none : (budget : Budget) (vs : List Value) (xs : List ℕ) → vs ≡ []
-    → ReadEach vs budget xs xs
-each_none budget vs xs e = (no_trees, tt, sym (ap items_view e), refl)
+pub each_none : (exact : Bool) (budget : Budget) (vs : List Value) (xs : List ℕ) → vs ≡ []
+    → ReadEach exact vs budget xs xs
+each_none exact budget vs xs e = (no_trees, tt, sym (ap items_view e), refl)
 
-pub each_more : (budget : Budget) (vs ws : List Value) (v : Value) (xs ys zs : List ℕ)
-    → ws ≡ vs ++ v ∷ [] → ReadEach vs budget xs ys → ReadsOneValue budget ys v zs
-    → ReadEach ws budget xs zs
-each_more budget vs ws v xs ys zs is h k = (
+pub each_more : (exact : Bool) (budget : Budget) (vs ws : List Value) (v : Value)
+    (xs ys zs : List ℕ)
+    → ws ≡ vs ++ v ∷ [] → ReadEach exact vs budget xs ys → ReadsOneValue exact budget ys v zs
+    → ReadEach exact ws budget xs zs
+each_more exact budget vs ws v xs ys zs is h k = (
   push h.0 k.0,
-  each-push (Readable budget) h.0 k.0 h.1 k.1,
+  each-push (Whole exact budget) h.0 k.0 h.1 k.1,
   values-push h.0 k.0 vs v h.2 k.2 ∙ sym (ap items_view is),
   h.3 ∙ ap (λ r. bytes_all h.0 ++ r) k.3 ∙ sym (bytes-push h.0 k.0 zs),
 )
 
-pub indefinite_end : (budget : Budget) (vs : List Value) (xs ys : List ℕ) → ReadEach vs budget xs ys
-    → ys ≡ [] → RejectsIndefiniteItems budget xs (eof break_name (Small 1)) []
-indefinite_end budget vs xs ys h e = record {
+pub indefinite_end : (exact : Bool) (budget : Budget) (vs : List Value) (xs ys : List ℕ) → ReadEach
+    exact vs budget xs ys
+    → ys ≡ [] → RejectsIndefiniteItems exact budget xs (eof break_name (Small 1)) []
+indefinite_end exact budget vs xs ys h e = record {
   prefix = h.0;
   after = [];
   whole = h.1;
@@ -363,28 +445,30 @@ indefinite_end budget vs xs ys h e = record {
   stopped = (refl, refl);
 }
 
-no_break : (budget : Budget) (ys : List ℕ) (e : InputError) (rest : List ℕ) → ys ≢ []
-    → ((bs : List ℕ) → ys ≡ break ∷ bs → ⊥) → RejectsOneValue budget ys e rest
-    → NoBreak (RejectsOneValue budget) ys e rest
-no_break budget [] e rest some none s = absurd (some refl)
-no_break budget (b ∷ bs) e rest some none s = ((λ f. none bs (ap (λ c. c ∷ bs) f)), s)
+no_break : (exact : Bool) (budget : Budget) (ys : List ℕ) (e : InputError) (rest : List ℕ) → ys ≢ []
+    → ((bs : List ℕ) → ys ≡ break ∷ bs → ⊥) → RejectsOneValue exact budget ys e rest
+    → NoBreak (RejectsOneValue exact budget) ys e rest
+no_break exact budget [] e rest some none s = absurd (some refl)
+no_break exact budget (b ∷ bs) e rest some none s = ((λ f. none bs (ap (λ c. c ∷ bs) f)), s)
 
-pub indefinite_stop : (budget : Budget) (vs : List Value) (xs ys : List ℕ) (e : InputError)
+pub indefinite_stop : (exact : Bool) (budget : Budget) (vs : List Value) (xs ys : List ℕ)
+    (e : InputError)
     (rest : List ℕ)
-    → ys ≢ [] → ((bs : List ℕ) → ys ≡ break ∷ bs → ⊥) → ReadEach vs budget xs ys
-    → RejectsOneValue budget ys e rest → RejectsIndefiniteItems budget xs e rest
-indefinite_stop budget vs xs ys e rest some none h s = record {
+    → ys ≢ [] → ((bs : List ℕ) → ys ≡ break ∷ bs → ⊥) → ReadEach exact vs budget xs ys
+    → RejectsOneValue exact budget ys e rest → RejectsIndefiniteItems exact budget xs e rest
+indefinite_stop exact budget vs xs ys e rest some none h s = record {
   prefix = h.0;
   after = ys;
   whole = h.1;
   is = h.3;
-  stopped = no_break budget ys e rest some none s;
+  stopped = no_break exact budget ys e rest some none s;
 }
 
-pub indefinite_done : (budget : Budget) (vs : List Value) (xs ys zs : List ℕ) → ReadEach vs
+pub indefinite_done : (exact : Bool) (budget : Budget) (vs : List Value) (xs ys zs : List ℕ) →
+    ReadEach exact vs
     budget xs ys
-    → ys ≡ break ∷ zs → ReadsIndefiniteItems budget xs vs zs
-indefinite_done budget vs xs ys zs h e = (h.0, h.1, h.2, h.3 ∙ ap (λ r. bytes_all h.0 ++ r) e)
+    → ys ≡ break ∷ zs → ReadsIndefiniteItems exact budget xs vs zs
+indefinite_done exact budget vs xs ys zs h e = (h.0, h.1, h.2, h.3 ∙ ap (λ r. bytes_all h.0 ++ r) e)
 
 -- ---- pairs
 
@@ -402,27 +486,29 @@ values-push_pair (pair j u ps) k v (m ∷ ms) x y e f g =
     let more = values-push_pair ps k v ms x y tail f g in
     cc more
 
-pub pairs_none : (budget : Budget) (ms : List (Value × Value)) (xs : List ℕ) → ms ≡ []
-    → ReadPairs ms budget xs xs
-pairs_none budget ms xs e = (no_pairs, tt, sym (ap members_view e), refl)
+pub pairs_none : (exact : Bool) (budget : Budget) (ms : List (Value × Value)) (xs : List ℕ) → ms ≡
+    []
+    → ReadPairs exact ms budget xs xs
+pairs_none exact budget ms xs e = (no_pairs, tt, sym (ap members_view e), refl)
 
-pub pairs_more : (budget : Budget) (ms ns : List (Value × Value)) (m : Value × Value)
-    (xs ys zs : List ℕ) → ns ≡ ms ++ m ∷ [] → ReadPairs ms budget xs ys → ReadsMember budget ys m zs
-    → ReadPairs ns budget xs zs
-pairs_more budget ms ns m xs ys zs is h w =
+pub pairs_more : (exact : Bool) (budget : Budget) (ms ns : List (Value × Value)) (m : Value × Value)
+    (xs ys zs : List ℕ) → ns ≡ ms ++ m ∷ [] → ReadPairs exact ms budget xs ys → ReadsMember exact
+    budget ys m zs
+    → ReadPairs exact ns budget xs zs
+pairs_more exact budget ms ns m xs ys zs is h w =
     let k = w.1 in
     let v = w.2 in (
       push_pair h.0 k.0 v.0,
-      each-push_pair (Readable budget) h.0 k.0 v.0 h.1 k.1 v.1,
+      each-push_pair (Whole exact budget) h.0 k.0 v.0 h.1 k.1 v.1,
       values-push_pair h.0 k.0 v.0 ms m.0 m.1 h.2 k.2 v.2 ∙ sym (ap members_view is),
       h.3 ∙ ap (λ r. bytes_pairs h.0 ++ r) (k.3 ∙ ap (λ r. bytes k.0 ++ r) v.3)
           ∙ sym (bytes-push_pair h.0 k.0 v.0 zs),
     )
 
-pub members_end : (budget : Budget) (ms : List (Value × Value)) (xs ys : List ℕ)
-    → ReadPairs ms budget xs ys → ys ≡ [] → RejectsIndefiniteMembers budget xs
+pub members_end : (exact : Bool) (budget : Budget) (ms : List (Value × Value)) (xs ys : List ℕ)
+    → ReadPairs exact ms budget xs ys → ys ≡ [] → RejectsIndefiniteMembers exact budget xs
     (eof break_name (Small 1)) []
-members_end budget ms xs ys h e = record {
+members_end exact budget ms xs ys h e = record {
   prefix = h.0;
   after = [];
   whole = h.1;
@@ -430,120 +516,150 @@ members_end budget ms xs ys h e = record {
   stopped = inl (refl, refl);
 }
 
-pub pair_stop : (budget : Budget) (ms : List (Value × Value)) (xs ys : List ℕ) (e : InputError)
-    (rest : List ℕ) → ys ≢ [] → ((bs : List ℕ) → ys ≡ break ∷ bs → ⊥) → ReadPairs ms budget xs ys
-    → RejectsMember budget ys e rest → RejectsIndefiniteMembers budget xs e rest
-pair_stop budget ms xs ys e rest some none h (inl s) = record {
+pub pair_stop : (exact : Bool) (budget : Budget) (ms : List (Value × Value)) (xs ys : List ℕ)
+    (e : InputError)
+    (rest : List ℕ) → ys ≢ [] → ((bs : List ℕ) → ys ≡ break ∷ bs → ⊥) → ReadPairs exact ms budget xs
+    ys
+    → RejectsMember exact budget ys e rest → RejectsIndefiniteMembers exact budget xs e rest
+pair_stop exact budget ms xs ys e rest some none h (inl s) = record {
   prefix = h.0;
   after = ys;
   whole = h.1;
   is = h.3;
-  stopped = inl (no_break budget ys e rest some none s);
+  stopped = inl (no_break exact budget ys e rest some none s);
 }
-pair_stop budget ms xs ys e rest some none h (inr k) =
+pair_stop exact budget ms xs ys e rest some none h (inr k) =
     record { prefix = h.0; after = ys; whole = h.1; is = h.3; stopped = inr k }
 
-pub members_done : (budget : Budget) (ms : List (Value × Value)) (xs ys zs : List ℕ)
-    → ReadPairs ms budget xs ys → ys ≡ break ∷ zs → ReadsIndefiniteMembers budget xs ms zs
-members_done budget ms xs ys zs h e = (h.0, h.1, h.2, h.3 ∙ ap (λ r. bytes_pairs h.0 ++ r) e)
+pub members_done : (exact : Bool) (budget : Budget) (ms : List (Value × Value)) (xs ys zs : List ℕ)
+    → ReadPairs exact ms budget xs ys → ys ≡ break ∷ zs → ReadsIndefiniteMembers exact budget xs ms
+    zs
+members_done exact budget ms xs ys zs h e = (h.0, h.1, h.2, h.3 ∙ ap (λ r. bytes_pairs h.0 ++ r) e)
 
 -- ---- maps
 
-pub map_definite : {E : Type 0} (n : ℕ) {r : Result (Vec (Value × Value) Global) (DecodeError E)}
-    {a m b : View} → Reached (HeadAt 5 n) a m
-    → Does (λ xs v ys. ReadsMembers n m.budget xs v.items ys) (RejectsMembers n m.budget) m b r
-    → Does (λ xs v ys. ReadsMapInside a.budget xs v.items ys) (RejectsMajor 5 a.budget) a b r
-map_definite n {a = a} {m = m} p d =
-    does_after (HeadAt 5 n) (λ xs v ys. ReadsMembers n m.budget xs v.items ys)
-    (λ xs v ys. ReadsMapInside a.budget xs v.items ys) (RejectsMembers n m.budget)
-    (RejectsMajor 5 a.budget)
-    (λ xs ys zs v h s.
-    inl (h.0, n, ys, h.1, h.2, subst (λ o. ReadsMembers n o ys v.items zs) p.kept.budget s))
-    (λ xs ys e rest h s b bs is major outer step. subst (λ x. RejectsUnder outer x e rest) (sym h.2)
+map_row : (exact : Bool) (n : ℕ) (inner : Budget) (xs ys : List ℕ) (e : InputError)
+    (rest : List ℕ) → HeadAt exact 5 n xs ys → RejectsMembers exact n inner ys e rest
+    → RejectsMajor exact 5 inner xs e rest
+map_row false n inner xs ys e rest h s b bs is m outer step =
+    subst (λ x. RejectsUnder false outer x e rest) (sym h.3)
     (at_row outer (starts_map h.0) (32 * 5 + additional h.0 n)
     (bytes_high_first (byte_count h.0) n ++ ys) e rest (initial_map n h.0 h.1)
     (step_taken map_name (head 5 n h.0 ++ ys)
     (λ inner. AtHead map_name 5 h.0 (32 * 5 + additional h.0 n)
-    (λ n. RejectsInCount (Readable inner) (λ part. ReadingRejects part inner) (2 * n))
-    (bytes_high_first (byte_count h.0) n ++ ys)) outer a.budget e rest step
-    (inr (record {
-      argument = n;
-      after = ys;
-      fits = h.1;
-      is = refl;
-      stopped = subst (λ o. RejectsMembers n o ys e rest) p.kept.budget s;
-    }))))) p d
+    (λ n. RejectsInCount (Readable inner) (RejectsOneValue false inner) (2 * n))
+    (bytes_high_first (byte_count h.0) n ++ ys)) outer inner e rest step
+    (inr (record { argument = n; after = ys; fits = h.1; is = refl; stopped = s }))))
+map_row true n inner xs ys e rest h s b bs is m outer step =
+    map_strict inner xs e rest
+    (inr (record { argument = n; after = ys; is = shortest_at 5 n xs ys h; stopped = s }))
+    b bs is m outer step
 
--- none of them
-pub map_of_none : {E : Type 0} (v : Vec (Value × Value) Global) {m : View} → v.items ≡ []
-    → Does {E = E} (λ xs (u : Vec (Value × Value) Global) ys. ReadsMembers 0 m.budget xs u.items ys)
-    (RejectsMembers 0 m.budget) m m (Ok v)
-map_of_none v {m = m} e =
-    does_ok (λ xs (u : Vec (Value × Value) Global) ys. ReadsMembers 0 m.budget xs u.items ys)
-    (RejectsMembers 0 m.budget)
-    (reached_start (λ xs ys. ReadsMembers 0 m.budget xs v.items ys) m
-    (λ xs. subst (λ us. ReadsMembers 0 m.budget xs us xs) (sym e) (no_pairs, refl, tt, refl, refl)))
-
-pub map_opened : {E : Type 0} {r : Result (Vec (Value × Value) Global) (DecodeError E)}
-    {a m b : View} → Reached (IndefiniteAt 5) a m
-    → Does (λ xs v ys. ReadsIndefiniteMembers m.budget xs v.items ys)
-    (RejectsIndefiniteMembers m.budget) m b r
-    → Does (λ xs v ys. ReadsMapInside a.budget xs v.items ys) (RejectsMajor 5 a.budget) a b r
-map_opened {a = a} {m = m} p d =
-    does_after (IndefiniteAt 5) (λ xs v ys. ReadsIndefiniteMembers m.budget xs v.items ys)
-    (λ xs v ys. ReadsMapInside a.budget xs v.items ys) (RejectsIndefiniteMembers m.budget)
-    (RejectsMajor 5 a.budget)
-    (λ xs ys zs v h s. inr (
-      ys,
-      h,
-      subst (λ o. ReadsIndefiniteMembers o ys v.items zs)
-          p.kept.budget s,
-    ))
-    (λ xs ys e rest h s b bs is major outer step. subst (λ x. RejectsUnder outer x e rest) (sym h)
+map_indefinite_row : (exact : Bool) (inner : Budget) (xs ys : List ℕ) (e : InputError)
+    (rest : List ℕ) → IndefiniteAt exact 5 xs ys → RejectsIndefiniteMembers exact inner ys e rest
+    → RejectsMajor exact 5 inner xs e rest
+map_indefinite_row false inner xs ys e rest h s b bs is m outer step =
+    subst (λ x. RejectsUnder false outer x e rest) (sym h.1)
     (at_row outer starts_indefinite_map (indefinite_head 5) ys e rest initial_indefinite_map
     (step_taken map_name (indefinite_head 5 ∷ ys)
-    (λ inner. IndefinitePairs (Readable inner) (λ part. ReadingRejects part inner) ys) outer
-    a.budget e rest step (subst (λ o. RejectsIndefiniteMembers o ys e rest) p.kept.budget s)))) p d
+    (λ inner. IndefinitePairs (Readable inner) (RejectsOneValue false inner) ys) outer inner e rest
+    step s))
+map_indefinite_row true inner xs ys e rest h s b bs is m outer step = absurd (not_both h.0)
 
-map_tree : (budget inner deep : Budget) (ms : List (Value × Value)) (xs ys : List ℕ)
-    → step_in budget ≡ Some inner → step_in inner ≡ Some deep → ReadsMapInside deep xs ms ys
-    → (t : Tree) × Readable budget t × (value t ≡ mapping (members_view ms)) × (xs ≡ bytes t ++ ys)
-map_tree budget inner deep ms xs ys s t (inl q) =
-    let i = q.5 in
-    let all = all_pairs_readable i.0 deep i.2 in (
-      map_of q.0 i.0,
-      (
-        ((subst (HeadFits q.0) (sym i.1) q.3, all.0.0), all.0.1),
-        two_steps (greatest_pair_cost i.0) budget inner deep s t all.1,
-      ),
+pub map_definite : (exact : Bool) {E : Type 0} (n : ℕ)
+    {r : Result (Vec (Value × Value) Global) (DecodeError E)} {a m b : View} → Reached
+    (HeadAt exact 5 n) a m
+    → Does (λ xs v ys. ReadsMembers exact n m.budget xs v.items ys)
+    (RejectsMembers exact n m.budget)
+    m b r
+    → Does (λ xs v ys. ReadsMapInside exact a.budget xs v.items ys)
+    (RejectsMajor exact 5 a.budget) a b r
+map_definite exact n {a = a} {m = m} p d =
+    does_after (HeadAt exact 5 n) (λ xs v ys. ReadsMembers exact n m.budget xs v.items ys)
+    (λ xs v ys. ReadsMapInside exact a.budget xs v.items ys) (RejectsMembers exact n m.budget)
+    (RejectsMajor exact 5 a.budget)
+    (λ xs ys zs v h s.
+    inl (n, ys, h, subst (λ o. ReadsMembers exact n o ys v.items zs) p.kept.budget s))
+    (λ xs ys e rest h s. map_row exact n a.budget xs ys e rest h
+    (subst (λ o. RejectsMembers exact n o ys e rest) p.kept.budget s)) p d
+
+-- none of them
+pub map_of_none : (exact : Bool) {E : Type 0} (v : Vec (Value × Value) Global) {m : View} → v.items
+    ≡ []
+    → Does {E = E} (λ xs (u : Vec (Value × Value) Global) ys. ReadsMembers exact 0 m.budget xs
+    u.items ys)
+    (RejectsMembers exact 0 m.budget) m m (Ok v)
+map_of_none exact v {m = m} e =
+    does_ok (λ xs (u : Vec (Value × Value) Global) ys. ReadsMembers exact 0 m.budget xs u.items ys)
+    (RejectsMembers exact 0 m.budget)
+    (reached_start (λ xs ys. ReadsMembers exact 0 m.budget xs v.items ys) m
+    (λ xs. subst (λ us. ReadsMembers exact 0 m.budget xs us xs) (sym e)
+    (no_pairs, refl, tt, refl, refl)))
+
+pub map_opened : (exact : Bool) {E : Type 0} {r : Result (Vec (Value × Value) Global) (DecodeError
+    E)}
+    {a m b : View} → Reached (IndefiniteAt exact 5) a m
+    → Does (λ xs v ys. ReadsIndefiniteMembers exact m.budget xs v.items ys)
+    (RejectsIndefiniteMembers exact m.budget) m b r
+    → Does (λ xs v ys. ReadsMapInside exact a.budget xs v.items ys)
+    (RejectsMajor exact 5 a.budget) a b r
+map_opened exact {a = a} {m = m} p d =
+    does_after (IndefiniteAt exact 5) (λ xs v ys. ReadsIndefiniteMembers exact m.budget xs v.items
+    ys)
+    (λ xs v ys. ReadsMapInside exact a.budget xs v.items ys)
+    (RejectsIndefiniteMembers exact m.budget) (RejectsMajor exact 5 a.budget)
+    (λ xs ys zs v h s.
+    inr (ys, h, subst (λ o. ReadsIndefiniteMembers exact o ys v.items zs) p.kept.budget s))
+    (λ xs ys e rest h s. map_indefinite_row exact a.budget xs ys e rest h
+    (subst (λ o. RejectsIndefiniteMembers exact o ys e rest) p.kept.budget s)) p d
+
+map_tree : (exact : Bool) (budget inner deep : Budget) (ms : List (Value × Value)) (xs ys : List ℕ)
+    → step_in budget ≡ Some inner → step_in inner ≡ Some deep
+    → ReadsMapInside exact deep xs ms ys
+    → (t : Tree) × Whole exact budget t × (value t ≡ mapping (members_view ms))
+    × (xs ≡ bytes t ++ ys)
+map_tree exact budget inner deep ms xs ys s t (inl q) =
+    let h = q.2 in
+    let i = q.3 in
+    let all = all_pairs_whole exact i.0 deep i.2 in (
+      map_of h.0 i.0,
+      whole exact budget (map_of h.0 i.0) ((subst (HeadFits h.0) (sym i.1) h.1, all.0.0), all.0.1)
+          (λ e. (h.2 e ∙ ap shortest (sym i.1), all.1 e))
+          (two_steps (greatest_pair_cost i.0) budget inner deep s t all.2),
       ap mapping i.3,
-      q.4 ∙ ap (λ r. head 5 q.1 q.0 ++ r) i.4
-          ∙ sym (append_assoc (head 5 q.1 q.0) (bytes_pairs i.0) ys)
-          ∙ ap (λ j. (head 5 j q.0 ++ bytes_pairs i.0) ++ ys) (sym i.1),
+      h.3 ∙ ap (λ r. head 5 q.0 h.0 ++ r) i.4
+          ∙ sym (append_assoc (head 5 q.0 h.0) (bytes_pairs i.0) ys)
+          ∙ ap (λ j. (head 5 j h.0 ++ bytes_pairs i.0) ++ ys) (sym i.1),
     )
-map_tree budget inner deep ms xs ys s t (inr q) =
+map_tree exact budget inner deep ms xs ys s t (inr q) =
+    let h = q.1 in
     let i = q.2 in
-    let all = all_pairs_readable i.0 deep i.1 in (
+    let all = all_pairs_whole exact i.0 deep i.1 in (
       map_indefinite i.0,
-      ((all.0.0, all.0.1), two_steps (greatest_pair_cost i.0) budget inner deep s t all.1),
+      whole exact budget (map_indefinite i.0) (all.0.0, all.0.1)
+          (λ e. not_both (sym e ∙ h.0))
+          (two_steps (greatest_pair_cost i.0) budget inner deep s t all.2),
       ap mapping i.2,
-      q.1 ∙ ap (λ r. indefinite_head 5 ∷ r)
+      h.1 ∙ ap (λ r. indefinite_head 5 ∷ r)
           (i.3 ∙ sym (append_assoc (bytes_pairs i.0) (break ∷ []) ys)),
     )
 
-pub map_reads : (inner : Budget) (v : Vec (Value × Value) Global) (xs ys : List ℕ) → ReadsStepped
-    (λ o xs (v : Vec (Value × Value) Global) ys. ReadsMapInside o xs v.items ys) inner xs v ys
-    → ReadsUnder inner xs (Map v) ys
-map_reads inner v xs ys h budget step =
-    let t = map_tree budget inner h.0 v.items xs ys step h.1 h.2 in
+pub map_reads : (exact : Bool) (inner : Budget) (v : Vec (Value × Value) Global) (xs ys : List ℕ)
+    → ReadsStepped
+    (λ o xs (v : Vec (Value × Value) Global) ys. ReadsMapInside exact o xs v.items ys) inner xs v ys
+    → ReadsUnder exact inner xs (Map v) ys
+map_reads exact inner v xs ys h budget step =
+    let t = map_tree exact budget inner h.0 v.items xs ys step h.1 h.2 in
     (t.0, t.1, t.2 ∙ sym (view-Map v), t.3)
 
 -- ---- a pair
 
-pub value_stop : (budget : Budget) (key : Value) (xs ys : List ℕ) (e : InputError) (rest : List ℕ)
-    → ReadsOneValue budget xs key ys → RejectsOneValue budget ys e rest → RejectsMember budget
+pub value_stop : (exact : Bool) (budget : Budget) (key : Value) (xs ys : List ℕ) (e : InputError)
+    (rest : List ℕ)
+    → ReadsOneValue exact budget xs key ys → RejectsOneValue exact budget ys e rest → RejectsMember
+    exact budget
     xs e rest
-value_stop budget key xs ys e rest k s =
+value_stop exact budget key xs ys e rest k s =
     inr (record { key = k.0; after = ys; whole = k.1; is = k.3; stopped = s })
 
 -- ---- calls
@@ -568,32 +684,35 @@ module _ {V : Type 0} (reads : Budget → Accepting V) (rejects : Budget → Sto
 
 -- ---- as a value
 
-pub made_array : {E : Type 0} (v : Vec Value Global) {S : Stopping} {a b : View}
-    → Does {E = E} (λ xs u ys. ReadsArrayInside a.budget xs u.items ys) S a b (Ok v)
-    → Does {E = E} (MakesArray ReadsArrayInside a.budget) S a b (Ok (Array v))
-made_array v {S = S} {a = a} d =
-    does_ok (MakesArray ReadsArrayInside a.budget) S
-    (reached_as (λ xs ys. ReadsArrayInside a.budget xs v.items ys)
-    (λ xs ys. MakesArray ReadsArrayInside a.budget xs (Array v) ys) (λ xs ys h. (v, refl, h))
+pub made_array : (exact : Bool) {E : Type 0} (v : Vec Value Global) {S : Stopping} {a b : View}
+    → Does {E = E} (λ xs u ys. ReadsArrayInside exact a.budget xs u.items ys) S a b (Ok v)
+    → Does {E = E} (MakesArray (ReadsArrayInside exact) a.budget) S a b (Ok (Array v))
+made_array exact v {S = S} {a = a} d =
+    does_ok (MakesArray (ReadsArrayInside exact) a.budget) S
+    (reached_as (λ xs ys. ReadsArrayInside exact a.budget xs v.items ys)
+    (λ xs ys. MakesArray (ReadsArrayInside exact) a.budget xs (Array v) ys)
+    (λ xs ys h. (v, refl, h))
     (reached_by d))
 
-pub made_map : {E : Type 0} (v : Vec (Value × Value) Global) {S : Stopping} {a b : View}
-    → Does {E = E} (λ xs u ys. ReadsMapInside a.budget xs u.items ys) S a b (Ok v)
-    → Does {E = E} (MakesMap ReadsMapInside a.budget) S a b (Ok (Map v))
-made_map v {S = S} {a = a} d =
-    does_ok (MakesMap ReadsMapInside a.budget) S
-    (reached_as (λ xs ys. ReadsMapInside a.budget xs v.items ys)
-    (λ xs ys. MakesMap ReadsMapInside a.budget xs (Map v) ys) (λ xs ys h. (v, refl, h))
+pub made_map : (exact : Bool) {E : Type 0} (v : Vec (Value × Value) Global) {S : Stopping}
+    {a b : View}
+    → Does {E = E} (λ xs u ys. ReadsMapInside exact a.budget xs u.items ys) S a b (Ok v)
+    → Does {E = E} (MakesMap (ReadsMapInside exact) a.budget) S a b (Ok (Map v))
+made_map exact v {S = S} {a = a} d =
+    does_ok (MakesMap (ReadsMapInside exact) a.budget) S
+    (reached_as (λ xs ys. ReadsMapInside exact a.budget xs v.items ys)
+    (λ xs ys. MakesMap (ReadsMapInside exact) a.budget xs (Map v) ys) (λ xs ys h. (v, refl, h))
     (reached_by d))
 
-pub array_makes : (inner : Budget) (w : Value) (xs ys : List ℕ)
-    → ReadsStepped (MakesArray ReadsArrayInside) inner xs w ys → ReadsUnder inner xs w ys
-array_makes inner w xs ys h =
-    subst (λ u. ReadsUnder inner xs u ys) (sym h.2.1)
-    (array_reads inner h.2.0 xs ys (h.0, h.1, h.2.2))
+pub array_makes : (exact : Bool) (inner : Budget) (w : Value) (xs ys : List ℕ)
+    → ReadsStepped (MakesArray (ReadsArrayInside exact)) inner xs w ys → ReadsUnder exact inner xs w
+    ys
+array_makes exact inner w xs ys h =
+    subst (λ u. ReadsUnder exact inner xs u ys) (sym h.2.1)
+    (array_reads exact inner h.2.0 xs ys (h.0, h.1, h.2.2))
 
-pub map_makes : (inner : Budget) (w : Value) (xs ys : List ℕ)
-    → ReadsStepped (MakesMap ReadsMapInside) inner xs w ys → ReadsUnder inner xs w ys
-map_makes inner w xs ys h =
-    subst (λ u. ReadsUnder inner xs u ys) (sym h.2.1)
-    (map_reads inner h.2.0 xs ys (h.0, h.1, h.2.2))
+pub map_makes : (exact : Bool) (inner : Budget) (w : Value) (xs ys : List ℕ)
+    → ReadsStepped (MakesMap (ReadsMapInside exact)) inner xs w ys → ReadsUnder exact inner xs w ys
+map_makes exact inner w xs ys h =
+    subst (λ u. ReadsUnder exact inner xs u ys) (sym h.2.1)
+    (map_reads exact inner h.2.0 xs ys (h.0, h.1, h.2.2))

@@ -11,7 +11,7 @@ use Rattle.cbor4ii_items.specs.Head.{Width, byte_count, additional, head, indefi
 use Rattle.cbor4ii_items.specs.Heads.{RejectsHead, Begins, CutHead}
 use Rattle.cbor4ii_items.specs.Laws.Heads.{after_head, length-bytes_high_first}
 use Rattle.cbor4ii_items.specs.Laws.Prefixes.{drop_more}
-use Rattle.cbor4ii_items.specs.Decoding.{CostFits}
+use Rattle.cbor4ii_items.specs.Budget.{CostFits}
 use Rattle.cbor4ii_items.specs.Strings as strings
 use Rattle.cbor4ii_items.specs.Strings.{ReadsDefiniteString, ReadsChunks, chunk_cost, ReadsString}
 use Rattle.cbor4ii_items.specs.Strings.{CutContent, RejectsChunk, no_chunk_byte, no_step}
@@ -413,7 +413,7 @@ chunk_rejects k budget (c ∷ cs) e rest (chunk_cut step h) =
 
 head_rejects : (inner : Budget) (k : Kind) (b : ℕ) (bs : List ℕ) (e : InputError) (rest : List ℕ)
     → b / 32 ≡ kind_major k → (take 1 (b ∷ bs) ≡ indefinite_head (kind_major k) ∷ [] → ⊥)
-    → RejectsHead (kind_name k) (kind_major k) 8 (b ∷ bs) e rest → RejectsUnder inner
+    → RejectsHead (kind_name k) (kind_major k) 8 (b ∷ bs) e rest → RejectsUnder false inner
     (b ∷ bs) e rest
 head_rejects inner k b bs e rest m closed h =
     at_row inner (string_by_info k (info_of (b % 32))) b bs e rest (row_of k b m)
@@ -431,7 +431,7 @@ head_rejects inner k b bs e rest m closed h =
 pub string_rejects : (inner : Budget) (k : Kind) (b : ℕ) (bs : List ℕ) (e : InputError)
     (rest : List ℕ)
     → b / 32 ≡ kind_major k → RejectsString (kind_name k) (kind_major k) (b ∷ bs) inner e rest
-    → RejectsUnder inner (b ∷ bs) e rest
+    → RejectsUnder false inner (b ∷ bs) e rest
 string_rejects inner k b bs e rest m (string_head_rejected closed h) =
     head_rejects inner k b bs e rest m closed h
 string_rejects inner k b bs e rest m (string_cut h) =
@@ -452,7 +452,7 @@ string_rejects inner k b bs e rest m (string_indefinite begins o) =
 text_invalid : (inner : Budget) (b : ℕ) (bs content : List ℕ) (n c : ℕ) (e : InputError)
     (rest : List ℕ) → ReadsString 3 (b ∷ bs) content n c → CostFits c inner → (IsUtf8 content → ⊥)
     → e ≡ require_utf8 (kind_name text_string) → rest ≡ drop n (b ∷ bs)
-    → RejectsUnder inner (b ∷ bs) e rest
+    → RejectsUnder false inner (b ∷ bs) e rest
 text_invalid inner b bs content n c e rest (inl r) fits invalid answer left =
     let h = r.0.head in
     let first = first_of 3 (length content) h.wide b bs h.rest h.is in
@@ -488,7 +488,8 @@ text_invalid inner b bs content n c e rest (inr r) fits invalid answer left =
 
 pub text_rejects : (inner : Budget) (b : ℕ) (bs : List ℕ) (e : InputError) (rest : List ℕ) →
     b / 32 ≡ 3
-    → RejectsText (kind_name text_string) (b ∷ bs) inner e rest → RejectsUnder inner (b ∷ bs) e rest
+    → RejectsText (kind_name text_string) (b ∷ bs) inner e rest → RejectsUnder false inner (b ∷ bs)
+    e rest
 text_rejects inner b bs e rest m (no_string h) = string_rejects inner text_string b bs e rest m h
 text_rejects inner b bs e rest m (no_utf8 content n c r fits invalid answer left) =
     text_invalid inner b bs content n c e rest r fits invalid answer left
@@ -502,14 +503,14 @@ pub view-Text : (v : String Global) → view (Text v) ≡ text (string_bytes v)
 view-Text v = search (rules, the_lemmas)
 
 pub bytes_reads : (inner : Budget) (v : Vec ℕ Global) (xs : List ℕ) (n c : ℕ) → CostFits c inner
-    → ReadsString 2 xs v.items n c → ReadsUnder inner xs (Bytes v) (drop n xs)
+    → ReadsString 2 xs v.items n c → ReadsUnder false inner xs (Bytes v) (drop n xs)
 bytes_reads inner v xs n c fits r budget step =
     let t = string_tree byte_string budget inner xs v.items n c step fits tt r in
     (t.0, t.1, t.2 ∙ sym (view-Bytes v), t.3)
 
 pub text_reads : (inner : Budget) (v : String Global) (xs : List ℕ) (n c : ℕ) → CostFits c inner
     → ReadsString 3 xs (string_bytes v) n c → IsUtf8 (string_bytes v)
-    → ReadsUnder inner xs (Text v) (drop n xs)
+    → ReadsUnder false inner xs (Text v) (drop n xs)
 text_reads inner v xs n c fits r valid budget step =
     let t = string_tree text_string budget inner xs (string_bytes v) n c step fits valid r in
     (t.0, t.1, t.2 ∙ sym (view-Text v), t.3)

@@ -1,7 +1,7 @@
 -- Answers of the plain programs, taken apart and put together.
 use Rattle.std.proofs.Common.{◌≡◌, ℕ, zero, suc, ◌+◌, ◌-◌, ◌⊎◌, inl, inr, List, Option, Some, None}
 use Rattle.std.proofs.Common.{Ok, Err, Result, refl, sym, ap, arith, cond, true, false, Bool}
-use Rattle.cbor4ii_items.specs.Decoding.{CostFits}
+use Rattle.cbor4ii_items.specs.Budget.{CostFits}
 use Rattle.cbor4ii_items.specs.Reading.{Reading, go_on}
 use Rattle.cbor4ii_tree.specs.Cost.{Budget, step_in}
 use Rattle.cbor4ii_tree.specs.InputError.{InputError}

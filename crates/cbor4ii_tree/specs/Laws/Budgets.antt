@@ -1,6 +1,6 @@
 -- Costs that fit budgets.
 use Rattle.std.proofs.Common.{ℕ, ◌+◌, Some, None, arith}
-use Rattle.cbor4ii_items.specs.Decoding.{CostFits}
+use Rattle.cbor4ii_items.specs.Budget.{CostFits}
 use Rattle.cbor4ii_tree.specs.Cost.{Budget}
 use Rattle.cbor4ii_tree.specs.Laws.Binds.{left}
 

@@ -3,7 +3,7 @@ use Rattle.std.proofs.Common.{arith}
 use Rattle.cbor4ii_items.specs.Initial.{Kind}
 use Rattle.cbor4ii_tree.specs.Tree.{Trees, no_trees, tree, Pairs, no_pairs, pair, LooseAll}
 use Rattle.cbor4ii_tree.specs.Tree.{LoosePairs, SoundStringsAll, SoundStringsPairs, AreChunks}
-use Rattle.cbor4ii_items.specs.Decoding.{CostFits}
+use Rattle.cbor4ii_items.specs.Budget.{CostFits}
 use Rattle.cbor4ii_items.specs.Laws.Answering.{fits_zero}
 use Rattle.cbor4ii_items.specs.Laws.SequenceParts.{fits_less, fits_max}
 use Rattle.cbor4ii_tree.specs.Cost.{Budget, cost, greatest_cost, greatest_pair_cost, skip_cost}

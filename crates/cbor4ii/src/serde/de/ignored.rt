@@ -1,7 +1,8 @@
 //! Items that are skipped.
 ghost use Rattle.std.proofs.Common.{refl};
 ghost use Rattle.cbor4ii_items.specs.Decoding.{Decodes};
-ghost use Rattle.cbor4ii_tree.specs.Promises.{Others, OnlySkips, AllSkips, PrefixSkips, EofSkips};
+ghost use Rattle.cbor4ii_tree.specs.Promises.{Others, OnlySkips, PrefixSkips, EofSkips};
+ghost use Rattle.cbor4ii_tree.specs.Headline.{AllSkips};
 ghost use Rattle.cbor4ii_tree.specs.Promises.{DepthSkips, FinalSkips, ExactSkips};
 ghost use Rattle.cbor4ii_tree.specs.Laws.Ignoring.{ignored_lawful};
 ghost use Rattle.cbor4ii.specs.ItemRead.{skipped_format};

@@ -19,9 +19,9 @@ use Rattle.cbor4ii_tree.proofs.skip_calls.Doing.{reached_start, reached_by, does
 use Rattle.cbor4ii_tree.proofs.skip_calls.Doing.{does_no_memory, does_no_step}
 use Rattle.cbor4ii_tree.proofs.skip_calls.Calls.{Before, broke, other, at_end}
 use Rattle.cbor4ii_tree.proofs.values.Parts.{ReadEach, ReadPairs}
-use Rattle.cbor4ii_tree.proofs.values.Calls.{stepped}
-use Rattle.cbor4ii_tree.proofs.values.Heads.{arm_does, alone_does}
-use Rattle.cbor4ii_tree.proofs.values.Heads.{tag_does, tagged_err, tagged_ok}
+use Rattle.cbor4ii_tree.proofs.values.Calls.{stepped, value_no_step}
+use Rattle.cbor4ii_tree.proofs.values.Heads.{arm_does}
+use Rattle.cbor4ii_tree.proofs.values.Heads.{tag_does, tagged_ok}
 use Rattle.cbor4ii_tree.proofs.values.Heads.{view-Tag}
 use Rattle.cbor4ii_tree.proofs.values.Sequences.{major_stepped, array_no_step, map_no_step}
 use Rattle.cbor4ii_tree.proofs.values.Sequences.{none_follow, some_follow}
@@ -41,8 +41,9 @@ use Rattle.cbor4ii_tree.proofs.values.Answered.{went_on, around}
 use Rattle.cbor4ii_tree.proofs.values.Leaves.{after_look}
 use Rattle.cbor4ii_tree.proofs.skip_calls.Deeper.{alike_within}
 use Rattle.cbor4ii_tree.proofs.values.ByHead.{after_next, next_step, next_stepped, peeks_next}
-use Rattle.cbor4ii_tree.specs.ReadingRejects.{Readable}
-use Rattle.cbor4ii_tree.specs.LeafRuns.{flat, flat_values, ReadsEach}
+use Rattle.cbor4ii_tree.specs.Valuing.{Whole}
+use Rattle.cbor4ii_tree.specs.LeafRuns.{flat, flat_values}
+use Rattle.cbor4ii_tree.specs.Valuing.{ReadsEach}
 use Rattle.cbor4ii_tree.proofs.skip_calls.Doing.{reached_as}
 use Rattle.cbor4ii_tree.proofs.values.LeafRuns.{none_yet, none_too_many, ran, run_rejects}
 use Rattle.cbor4ii_tree.proofs.values.LeafRuns.{stop_alone}
@@ -50,15 +51,14 @@ use Rattle.cbor4ii_tree.proofs.values.LeafRuns.{both_there, pairs_are_read, pair
 use Rattle.cbor4ii_tree.proofs.values.LeafRuns.{turn_stepped, turn_unstepped, turn_put}
 use Rattle.cbor4ii_tree.proofs.values.LeafRuns.{turn_rejected}
 use Rattle.cbor4ii_tree.proofs.values.LeafRuns.{turn_ends, run_before, on_found, put_items}
-use Rattle.cbor4ii_tree.proofs.values.LeafRuns.{one_read, none_under}
 use Rattle.cbor4ii_tree.proofs.decode_value.+read.Goals as goal
 
 pub array_inside-returns-in-Some-eq0-clause-does : goal.array_inside-returns-in-Some-eq0-clause-does
 array_inside-returns-in-Some-eq0-clause-does g t c before shows =
-    made_array c.new.result (array_definite 0
-    (some_follow 4 0 (c.in-Some-eq0.is ∙ ap Some c.in-Some-eq0.field-0-test)
-    (c.in_ok-take_array.ensures.does before shows))
-    (array_of_none c.new.result (cc)))
+    made_array g.A.Encodings.exact c.new.result (array_definite g.A.Encodings.exact 0
+    (some_follow g.A.Encodings.exact 4 0 (c.in-Some-eq0.is ∙ ap Some c.in-Some-eq0.field-0-test)
+    (c.in_ok-take_length.ensures.does before shows))
+    (array_of_none g.A.Encodings.exact c.new.result (cc)))
 
 pub array_inside-returns-in-Some-eq0-clause-item : goal.array_inside-returns-in-Some-eq0-clause-item
 array_inside-returns-in-Some-eq0-clause-item g t c = array_encoding c.new.result (items_none (cc))
@@ -66,8 +66,10 @@ array_inside-returns-in-Some-eq0-clause-item g t c = array_encoding c.new.result
 pub array_inside-returns-in_ok-definite_items-in-Some-clause-does :
     goal.array_inside-returns-in_ok-definite_items-in-Some-clause-does
 array_inside-returns-in_ok-definite_items-in-Some-clause-does g t c before shows =
-    made_array c.in_ok-definite_items-in-Some.field-0 (array_definite c.in-Some.count
-    (some_follow 4 c.in-Some.count c.in-Some.is (c.in_ok-take_array.ensures.does before shows))
+    made_array g.A.Encodings.exact c.in_ok-definite_items-in-Some.field-0
+    (array_definite g.A.Encodings.exact c.in-Some.count
+    (some_follow g.A.Encodings.exact 4 c.in-Some.count c.in-Some.is
+    (c.in_ok-take_length.ensures.does before shows))
     c.in_ok-definite_items-in-Some.ensures.does)
 
 pub array_inside-returns-in_ok-definite_items-in-Some-clause-item :
@@ -81,7 +83,7 @@ pub array_inside-returns-in_ok-definite_items-in-Some-clause-progress :
 array_inside-returns-in_ok-definite_items-in-Some-clause-progress g t c =
     omega (
       arith,
-      c.in_ok-take_array.ensures.progress,
+      c.in_ok-take_length.ensures.progress,
       c.in_ok-definite_items-in-Some.ensures.does.moves.by.bound,
     )
 
@@ -89,18 +91,21 @@ pub array_inside-returns-in_err-definite_items-in-Some-clause-does :
     goal.array_inside-returns-in_err-definite_items-in-Some-clause-does
 array_inside-returns-in_err-definite_items-in-Some-clause-does g t c before shows =
     rw c.from_residual-in_err-definite_items-in-Some.ensures
-    (still_rejected (λ xs v ys. ReadsArrayInside before.budget xs v.items ys)
-    (MakesArray ReadsArrayInside before.budget) (RejectsMajor 4 before.budget)
-    (RejectsMajor 4 before.budget)
-    (λ xs z rest h. h) (array_definite c.in-Some.count
-    (some_follow 4 c.in-Some.count c.in-Some.is (c.in_ok-take_array.ensures.does before shows))
+    (still_rejected (λ xs v ys. ReadsArrayInside g.A.Encodings.exact before.budget xs v.items ys)
+    (MakesArray (ReadsArrayInside g.A.Encodings.exact) before.budget)
+    (RejectsMajor g.A.Encodings.exact 4 before.budget)
+    (RejectsMajor g.A.Encodings.exact 4 before.budget)
+    (λ xs z rest h. h) (array_definite g.A.Encodings.exact c.in-Some.count
+    (some_follow g.A.Encodings.exact 4 c.in-Some.count c.in-Some.is
+    (c.in_ok-take_length.ensures.does before shows))
     c.in_err-definite_items-in-Some.ensures.does))
 
 pub array_inside-returns-in_ok-indefinite_items-in-None-clause-does :
     goal.array_inside-returns-in_ok-indefinite_items-in-None-clause-does
 array_inside-returns-in_ok-indefinite_items-in-None-clause-does g t c before shows =
-    made_array c.in_ok-indefinite_items-in-None.field-0
-    (array_opened (none_follow 4 c.in-None.is (c.in_ok-take_array.ensures.does before shows))
+    made_array g.A.Encodings.exact c.in_ok-indefinite_items-in-None.field-0
+    (array_opened g.A.Encodings.exact (none_follow g.A.Encodings.exact 4 c.in-None.is
+    (c.in_ok-take_length.ensures.does before shows))
     c.in_ok-indefinite_items-in-None.ensures.does)
 
 pub array_inside-returns-in_ok-indefinite_items-in-None-clause-item :
@@ -114,7 +119,7 @@ pub array_inside-returns-in_ok-indefinite_items-in-None-clause-progress :
 array_inside-returns-in_ok-indefinite_items-in-None-clause-progress g t c =
     omega (
       arith,
-      c.in_ok-take_array.ensures.progress,
+      c.in_ok-take_length.ensures.progress,
       c.in_ok-indefinite_items-in-None.ensures.does.moves.by.bound,
     )
 
@@ -122,24 +127,28 @@ pub array_inside-returns-in_err-indefinite_items-in-None-clause-does :
     goal.array_inside-returns-in_err-indefinite_items-in-None-clause-does
 array_inside-returns-in_err-indefinite_items-in-None-clause-does g t c before shows =
     rw c.from_residual-in_err-indefinite_items-in-None.ensures
-    (still_rejected (λ xs v ys. ReadsArrayInside before.budget xs v.items ys)
-    (MakesArray ReadsArrayInside before.budget) (RejectsMajor 4 before.budget)
-    (RejectsMajor 4 before.budget)
+    (still_rejected (λ xs v ys. ReadsArrayInside g.A.Encodings.exact before.budget xs v.items ys)
+    (MakesArray (ReadsArrayInside g.A.Encodings.exact) before.budget)
+    (RejectsMajor g.A.Encodings.exact 4 before.budget)
+    (RejectsMajor g.A.Encodings.exact 4 before.budget)
     (λ xs z rest h. h)
-    (array_opened (none_follow 4 c.in-None.is (c.in_ok-take_array.ensures.does before shows))
+    (array_opened g.A.Encodings.exact (none_follow g.A.Encodings.exact 4 c.in-None.is
+    (c.in_ok-take_length.ensures.does before shows))
     c.in_err-indefinite_items-in-None.ensures.does))
 
-pub array_inside-returns-in_err-take_array-clause-does :
-    goal.array_inside-returns-in_err-take_array-clause-does
-array_inside-returns-in_err-take_array-clause-does g t c before shows =
-    rw c.from_residual.ensures (still_rejected (TakesLength 4 before.budget)
-    (MakesArray ReadsArrayInside before.budget) (RejectsMajor 4 before.budget)
-    (RejectsMajor 4 before.budget) (λ xs z rest h. h) (c.in_err-take_array.ensures.does before
+pub array_inside-returns-in_err-take_length-clause-does :
+    goal.array_inside-returns-in_err-take_length-clause-does
+array_inside-returns-in_err-take_length-clause-does g t c before shows =
+    rw c.from_residual.ensures (still_rejected (TakesLength g.A.Encodings.exact 4 before.budget)
+    (MakesArray (ReadsArrayInside g.A.Encodings.exact) before.budget)
+    (RejectsMajor g.A.Encodings.exact 4 before.budget)
+    (RejectsMajor g.A.Encodings.exact 4 before.budget) (λ xs z rest h. h)
+    (c.in_err-take_length.ensures.does before
     shows))
 
 pub read_array-returns-clause-does : goal.read_array-returns-clause-does
 read_array-returns-clause-does g t c before shows =
-    major_stepped (MakesArray ReadsArrayInside) 4
+    major_stepped g.A.Encodings.exact (MakesArray (ReadsArrayInside g.A.Encodings.exact)) 4
     (next_step c.args.next shows (g.S.Source.view c.step_in.new.self)
     c.if-not-step_in.ensures.budget) (alike_within _ before)
     (c.array_inside-outcome.ensures.does
@@ -151,10 +160,10 @@ pub read_array-returns-then-not-step_in-clause-does :
     goal.read_array-returns-then-not-step_in-clause-does
 read_array-returns-then-not-step_in-clause-does g t c before shows =
     let budget = (g.S.Source.view c.args.reader.now).budget in
-    let accepts = ReadsStepped (MakesArray ReadsArrayInside) in
-    rw c.leave_deep.ensures (after_next c.args.next shows accepts (RejectsOf 4)
-    (does_no_step array_name (accepts budget) (RejectsOf 4 budget) refl refl
-    (λ none xs. array_no_step budget none xs) c.if-not-step_in.ensures.budget
+    let accepts = ReadsStepped (MakesArray (ReadsArrayInside g.A.Encodings.exact)) in
+    rw c.leave_deep.ensures (after_next c.args.next shows accepts (RejectsOf g.A.Encodings.exact 4)
+    (does_no_step array_name (accepts budget) (RejectsOf g.A.Encodings.exact 4 budget) refl refl
+    (λ none xs. array_no_step g.A.Encodings.exact budget none xs) c.if-not-step_in.ensures.budget
     c.step_in.ensures.others))
 
 pub read_array-returns-clause-item : goal.read_array-returns-clause-item
@@ -175,9 +184,10 @@ read_array-returns-then-not-step_in-clause-progress g t c = tt
 
 pub read_next-returns-in-4-clause-does : goal.read_next-returns-in-4-clause-does
 read_next-returns-in-4-clause-does g t c before shows =
-    arm_does c.args.next.first (peeks_next c.args.next shows)
-    (ReadsStepped (MakesArray ReadsArrayInside) before.budget) (RejectsOf 4 before.budget)
-    (λ bs ys v h. array_makes before.budget v (c.args.next.first ∷ bs) ys h)
+    arm_does g.A.Encodings.exact c.args.next.first (peeks_next c.args.next shows)
+    (ReadsStepped (MakesArray (ReadsArrayInside g.A.Encodings.exact)) before.budget)
+    (RejectsOf g.A.Encodings.exact 4 before.budget)
+    (λ bs ys v h. array_makes g.A.Encodings.exact before.budget v (c.args.next.first ∷ bs) ys h)
     (λ bs z rest h. h c.args.next.first bs refl c.in-4.is)
     (c.read_array.ensures.does before shows)
 
@@ -189,10 +199,10 @@ read_next-returns-in-4-clause-progress g t c = c.read_array.ensures.progress
 
 pub map_inside-returns-in-Some-eq0-clause-does : goal.map_inside-returns-in-Some-eq0-clause-does
 map_inside-returns-in-Some-eq0-clause-does g t c before shows =
-    made_map c.new.result (map_definite 0
-    (some_follow 5 0 (c.in-Some-eq0.is ∙ ap Some c.in-Some-eq0.field-0-test)
-    (c.in_ok-take_map.ensures.does before shows))
-    (map_of_none c.new.result (cc)))
+    made_map g.A.Encodings.exact c.new.result (map_definite g.A.Encodings.exact 0
+    (some_follow g.A.Encodings.exact 5 0 (c.in-Some-eq0.is ∙ ap Some c.in-Some-eq0.field-0-test)
+    (c.in_ok-take_length.ensures.does before shows))
+    (map_of_none g.A.Encodings.exact c.new.result (cc)))
 
 pub map_inside-returns-in-Some-eq0-clause-item : goal.map_inside-returns-in-Some-eq0-clause-item
 map_inside-returns-in-Some-eq0-clause-item g t c = map_encoding c.new.result (members_none_are (cc))
@@ -200,8 +210,10 @@ map_inside-returns-in-Some-eq0-clause-item g t c = map_encoding c.new.result (me
 pub map_inside-returns-in_ok-definite_members-in-Some-clause-does :
     goal.map_inside-returns-in_ok-definite_members-in-Some-clause-does
 map_inside-returns-in_ok-definite_members-in-Some-clause-does g t c before shows =
-    made_map c.in_ok-definite_members-in-Some.field-0 (map_definite c.in-Some.count
-    (some_follow 5 c.in-Some.count c.in-Some.is (c.in_ok-take_map.ensures.does before shows))
+    made_map g.A.Encodings.exact c.in_ok-definite_members-in-Some.field-0
+    (map_definite g.A.Encodings.exact c.in-Some.count
+    (some_follow g.A.Encodings.exact 5 c.in-Some.count c.in-Some.is
+    (c.in_ok-take_length.ensures.does before shows))
     c.in_ok-definite_members-in-Some.ensures.does)
 
 pub map_inside-returns-in_ok-definite_members-in-Some-clause-item :
@@ -215,7 +227,7 @@ pub map_inside-returns-in_ok-definite_members-in-Some-clause-progress :
 map_inside-returns-in_ok-definite_members-in-Some-clause-progress g t c =
     omega (
       arith,
-      c.in_ok-take_map.ensures.progress,
+      c.in_ok-take_length.ensures.progress,
       c.in_ok-definite_members-in-Some.ensures.does.moves.by.bound,
     )
 
@@ -223,18 +235,21 @@ pub map_inside-returns-in_err-definite_members-in-Some-clause-does :
     goal.map_inside-returns-in_err-definite_members-in-Some-clause-does
 map_inside-returns-in_err-definite_members-in-Some-clause-does g t c before shows =
     rw c.from_residual-in_err-definite_members-in-Some.ensures
-    (still_rejected (λ xs v ys. ReadsMapInside before.budget xs v.items ys)
-    (MakesMap ReadsMapInside before.budget) (RejectsMajor 5 before.budget)
-    (RejectsMajor 5 before.budget)
-    (λ xs z rest h. h) (map_definite c.in-Some.count
-    (some_follow 5 c.in-Some.count c.in-Some.is (c.in_ok-take_map.ensures.does before shows))
+    (still_rejected (λ xs v ys. ReadsMapInside g.A.Encodings.exact before.budget xs v.items ys)
+    (MakesMap (ReadsMapInside g.A.Encodings.exact) before.budget)
+    (RejectsMajor g.A.Encodings.exact 5 before.budget)
+    (RejectsMajor g.A.Encodings.exact 5 before.budget)
+    (λ xs z rest h. h) (map_definite g.A.Encodings.exact c.in-Some.count
+    (some_follow g.A.Encodings.exact 5 c.in-Some.count c.in-Some.is
+    (c.in_ok-take_length.ensures.does before shows))
     c.in_err-definite_members-in-Some.ensures.does))
 
 pub map_inside-returns-in_ok-indefinite_members-in-None-clause-does :
     goal.map_inside-returns-in_ok-indefinite_members-in-None-clause-does
 map_inside-returns-in_ok-indefinite_members-in-None-clause-does g t c before shows =
-    made_map c.in_ok-indefinite_members-in-None.field-0
-    (map_opened (none_follow 5 c.in-None.is (c.in_ok-take_map.ensures.does before shows))
+    made_map g.A.Encodings.exact c.in_ok-indefinite_members-in-None.field-0
+    (map_opened g.A.Encodings.exact (none_follow g.A.Encodings.exact 5 c.in-None.is
+    (c.in_ok-take_length.ensures.does before shows))
     c.in_ok-indefinite_members-in-None.ensures.does)
 
 pub map_inside-returns-in_ok-indefinite_members-in-None-clause-item :
@@ -248,7 +263,7 @@ pub map_inside-returns-in_ok-indefinite_members-in-None-clause-progress :
 map_inside-returns-in_ok-indefinite_members-in-None-clause-progress g t c =
     omega (
       arith,
-      c.in_ok-take_map.ensures.progress,
+      c.in_ok-take_length.ensures.progress,
       c.in_ok-indefinite_members-in-None.ensures.does.moves.by.bound,
     )
 
@@ -256,23 +271,27 @@ pub map_inside-returns-in_err-indefinite_members-in-None-clause-does :
     goal.map_inside-returns-in_err-indefinite_members-in-None-clause-does
 map_inside-returns-in_err-indefinite_members-in-None-clause-does g t c before shows =
     rw c.from_residual-in_err-indefinite_members-in-None.ensures
-    (still_rejected (λ xs v ys. ReadsMapInside before.budget xs v.items ys)
-    (MakesMap ReadsMapInside before.budget) (RejectsMajor 5 before.budget)
-    (RejectsMajor 5 before.budget)
+    (still_rejected (λ xs v ys. ReadsMapInside g.A.Encodings.exact before.budget xs v.items ys)
+    (MakesMap (ReadsMapInside g.A.Encodings.exact) before.budget)
+    (RejectsMajor g.A.Encodings.exact 5 before.budget)
+    (RejectsMajor g.A.Encodings.exact 5 before.budget)
     (λ xs z rest h. h)
-    (map_opened (none_follow 5 c.in-None.is (c.in_ok-take_map.ensures.does before shows))
+    (map_opened g.A.Encodings.exact (none_follow g.A.Encodings.exact 5 c.in-None.is
+    (c.in_ok-take_length.ensures.does before shows))
     c.in_err-indefinite_members-in-None.ensures.does))
 
-pub map_inside-returns-in_err-take_map-clause-does :
-    goal.map_inside-returns-in_err-take_map-clause-does
-map_inside-returns-in_err-take_map-clause-does g t c before shows =
-    rw c.from_residual.ensures (still_rejected (TakesLength 5 before.budget)
-    (MakesMap ReadsMapInside before.budget) (RejectsMajor 5 before.budget)
-    (RejectsMajor 5 before.budget) (λ xs z rest h. h) (c.in_err-take_map.ensures.does before shows))
+pub map_inside-returns-in_err-take_length-clause-does :
+    goal.map_inside-returns-in_err-take_length-clause-does
+map_inside-returns-in_err-take_length-clause-does g t c before shows =
+    rw c.from_residual.ensures (still_rejected (TakesLength g.A.Encodings.exact 5 before.budget)
+    (MakesMap (ReadsMapInside g.A.Encodings.exact) before.budget)
+    (RejectsMajor g.A.Encodings.exact 5 before.budget)
+    (RejectsMajor g.A.Encodings.exact 5 before.budget) (λ xs z rest h. h)
+    (c.in_err-take_length.ensures.does before shows))
 
 pub read_map-returns-clause-does : goal.read_map-returns-clause-does
 read_map-returns-clause-does g t c before shows =
-    major_stepped (MakesMap ReadsMapInside) 5
+    major_stepped g.A.Encodings.exact (MakesMap (ReadsMapInside g.A.Encodings.exact)) 5
     (next_step c.args.next shows (g.S.Source.view c.step_in.new.self)
     c.if-not-step_in.ensures.budget) (alike_within _ before)
     (c.map_inside-outcome.ensures.does
@@ -284,10 +303,10 @@ pub read_map-returns-then-not-step_in-clause-does :
     goal.read_map-returns-then-not-step_in-clause-does
 read_map-returns-then-not-step_in-clause-does g t c before shows =
     let budget = (g.S.Source.view c.args.reader.now).budget in
-    let accepts = ReadsStepped (MakesMap ReadsMapInside) in
-    rw c.leave_deep.ensures (after_next c.args.next shows accepts (RejectsOf 5)
-    (does_no_step map_name (accepts budget) (RejectsOf 5 budget) refl refl
-    (λ none xs. map_no_step budget none xs) c.if-not-step_in.ensures.budget
+    let accepts = ReadsStepped (MakesMap (ReadsMapInside g.A.Encodings.exact)) in
+    rw c.leave_deep.ensures (after_next c.args.next shows accepts (RejectsOf g.A.Encodings.exact 5)
+    (does_no_step map_name (accepts budget) (RejectsOf g.A.Encodings.exact 5 budget) refl refl
+    (λ none xs. map_no_step g.A.Encodings.exact budget none xs) c.if-not-step_in.ensures.budget
     c.step_in.ensures.others))
 
 pub read_map-returns-clause-item : goal.read_map-returns-clause-item
@@ -308,9 +327,10 @@ read_map-returns-then-not-step_in-clause-progress g t c = tt
 
 pub read_next-returns-in-5-clause-does : goal.read_next-returns-in-5-clause-does
 read_next-returns-in-5-clause-does g t c before shows =
-    arm_does c.args.next.first (peeks_next c.args.next shows)
-    (ReadsStepped (MakesMap ReadsMapInside) before.budget) (RejectsOf 5 before.budget)
-    (λ bs ys v h. map_makes before.budget v (c.args.next.first ∷ bs) ys h)
+    arm_does g.A.Encodings.exact c.args.next.first (peeks_next c.args.next shows)
+    (ReadsStepped (MakesMap (ReadsMapInside g.A.Encodings.exact)) before.budget)
+    (RejectsOf g.A.Encodings.exact 5 before.budget)
+    (λ bs ys v h. map_makes g.A.Encodings.exact before.budget v (c.args.next.first ∷ bs) ys h)
     (λ bs z rest h. h c.args.next.first bs refl c.in-5.is)
     (c.read_map.ensures.does before shows)
 
@@ -322,8 +342,9 @@ read_next-returns-in-5-clause-progress g t c = c.read_map.ensures.progress
 
 pub read_next-returns-in-6-clause-does : goal.read_next-returns-in-6-clause-does
 read_next-returns-in-6-clause-does g t c before shows =
-    arm_does c.args.next.first (peeks_next c.args.next shows)
-    (λ xs v ys. ReadsUnder before.budget xs v ys) (RejectsOf 6 before.budget)
+    arm_does g.A.Encodings.exact c.args.next.first (peeks_next c.args.next shows)
+    (λ xs v ys. ReadsUnder g.A.Encodings.exact before.budget xs v ys)
+    (RejectsOf g.A.Encodings.exact 6 before.budget)
     (λ bs ys v h. h) (λ bs z rest h. h c.args.next.first bs refl c.in-6.is)
     (c.read_tag.ensures.does before shows)
 
@@ -335,8 +356,7 @@ read_next-returns-in-6-clause-progress g t c = c.read_tag.ensures.progress
 
 pub read_next-returns-in_default-clause-does : goal.read_next-returns-in_default-clause-does
 read_next-returns-in_default-clause-does g t c before shows =
-    alone_does c.args.next.first shows.first.runs
-    (omega arith) c.read_alone.ensures.does
+    c.read_alone.ensures.does before shows.first
 
 pub read_next-returns-in_default-clause-item : goal.read_next-returns-in_default-clause-item
 read_next-returns-in_default-clause-item g t c = c.read_alone.ensures.item
@@ -347,38 +367,42 @@ read_next-returns-in_default-clause-progress g t c = c.read_alone.ensures.progre
 
 pub read_tag-returns-in_err-number-clause-does : goal.read_tag-returns-in_err-number-clause-does
 read_tag-returns-in_err-number-clause-does g t c before shows =
-    rw c.from_residual.ensures (still_rejected (TakesTag before.budget)
-    (λ xs v ys. ReadsUnder before.budget xs v ys) (RejectsOf 6 before.budget)
-    (RejectsOf 6 before.budget) (λ xs z rest h. h) (c.in_err-number.ensures.does before shows))
+    rw c.from_residual.ensures (still_rejected (TakesTag g.A.Encodings.exact before.budget)
+    (λ xs v ys. ReadsUnder g.A.Encodings.exact before.budget xs v ys)
+    (RejectsOf g.A.Encodings.exact 6 before.budget)
+    (RejectsOf g.A.Encodings.exact 6 before.budget) (λ xs z rest h. h)
+    (c.in_err-number.ensures.does before shows))
 
 pub read_tag-returns-clause-does : goal.read_tag-returns-clause-does
 read_tag-returns-clause-does g t c before shows =
-    tag_does c.in_ok-number.number (reached_by (c.in_ok-number.ensures.does before shows))
+    tag_does g.A.Encodings.exact c.in_ok-number.number
+    (reached_by (c.in_ok-number.ensures.does before shows))
     c.read_tagged.ensures.does
 
 pub read_inside-returns-in-Begins-clause-does : goal.read_inside-returns-in-Begins-clause-does
 read_inside-returns-in-Begins-clause-does g t c =
-    after_look ⊥ ReadsUnder RejectsUnder _ c.in-Begins.next _ c.in-Begins.is
+    after_look g.A.Encodings.exact _ c.in-Begins.next _ c.in-Begins.is
     c.in_ok-value.ensures.takes c.read_next.ensures.does
 
 pub indefinite_items-loop-items-init : goal.indefinite_items-loop-items-init
 indefinite_items-loop-items-init g t c = record {
   reached =
-      reached_start (ReadEach _ (g.S.Source.view c.args.reader.now).budget) _
-      (λ xs. each_none (g.S.Source.view c.args.reader.now).budget _ xs (cc));
+      reached_start (ReadEach g.A.Encodings.exact _ (g.S.Source.view c.args.reader.now).budget) _
+      (λ xs. each_none g.A.Encodings.exact (g.S.Source.view c.args.reader.now).budget _ xs (cc));
   items = items_none (cc);
 }
 
 pub indefinite_items-loop-items-preserved : goal.indefinite_items-loop-items-preserved
 indefinite_items-loop-items-preserved g t c = record {
   reached =
-      more ReadsOneValue RejectsOneValue
-      (Before (ReadEach c.loop-items.items.items) (g.S.Source.view c.args.reader.now).budget)
-      (other (ReadEach c.loop-items.items.items) c.loop-items.invariant.reached
+      more (ReadsOneValue g.A.Encodings.exact) (RejectsOneValue g.A.Encodings.exact)
+      (Before (ReadEach g.A.Encodings.exact c.loop-items.items.items)
+      (g.S.Source.view c.args.reader.now).budget)
+      (other (ReadEach g.A.Encodings.exact c.loop-items.items.items) c.loop-items.invariant.reached
       c.if-not-branch.true (rw c.in_ok-part.ensures at c.is_break.ensures.decodes.moves) (rw
       c.in_ok-part.ensures at c.is_break.ensures.decodes.sound))
-      (ReadEach _ (g.S.Source.view c.args.reader.now).budget)
-      (λ xs ys zs h s. each_more (g.S.Source.view c.args.reader.now).budget
+      (ReadEach g.A.Encodings.exact _ (g.S.Source.view c.args.reader.now).budget)
+      (λ xs ys zs h s. each_more g.A.Encodings.exact (g.S.Source.view c.args.reader.now).budget
       c.loop-items.items.items _ c.in_ok-value.value xs ys zs c.in_ok-keep.ensures.kept h.0
       s) c.in_ok-value.ensures.does;
   items =
@@ -388,12 +412,13 @@ indefinite_items-loop-items-preserved g t c = record {
 
 pub indefinite_items-returns-clause-does : goal.indefinite_items-returns-clause-does
 indefinite_items-returns-clause-does g t c =
-    (does_ok (λ xs v ys. ReadsIndefiniteItems (g.S.Source.view c.args.reader.now).budget xs
+    (does_ok (λ xs v ys. ReadsIndefiniteItems g.A.Encodings.exact
+    (g.S.Source.view c.args.reader.now).budget xs
     v.items ys)
-    (RejectsIndefiniteItems (g.S.Source.view c.args.reader.now).budget)
-    (broke (ReadEach c.loop-items.items.items) c.loop-items.invariant.reached
-    (λ xs ys. ReadsIndefiniteItems (g.S.Source.view c.args.reader.now).budget xs
-    c.loop-items.items.items ys) (λ xs ys zs h e. indefinite_done
+    (RejectsIndefiniteItems g.A.Encodings.exact (g.S.Source.view c.args.reader.now).budget)
+    (broke (ReadEach g.A.Encodings.exact c.loop-items.items.items) c.loop-items.invariant.reached
+    (λ xs ys. ReadsIndefiniteItems g.A.Encodings.exact (g.S.Source.view c.args.reader.now).budget xs
+    c.loop-items.items.items ys) (λ xs ys zs h e. indefinite_done g.A.Encodings.exact
     (g.S.Source.view c.args.reader.now).budget c.loop-items.items.items xs ys zs h e)
     c.if-not-branch.false (rw c.in_ok-part.ensures at c.is_break.ensures.decodes.moves) (rw
     c.in_ok-part.ensures at c.is_break.ensures.decodes.sound)))
@@ -401,45 +426,54 @@ indefinite_items-returns-clause-does g t c =
 pub indefinite_items-returns-in_err-part-clause-does :
     goal.indefinite_items-returns-in_err-part-clause-does
 indefinite_items-returns-in_err-part-clause-does g t c =
-    rw c.from_residual.ensures (at_end (ReadEach c.loop-items.items.items)
+    rw c.from_residual.ensures (at_end (ReadEach g.A.Encodings.exact c.loop-items.items.items)
     c.loop-items.invariant.reached
-    (λ xs v ys. ReadsIndefiniteItems (g.S.Source.view c.args.reader.now).budget xs v.items ys)
-    (RejectsIndefiniteItems (g.S.Source.view c.args.reader.now).budget) (λ xs ys h e.
-    indefinite_end (g.S.Source.view c.args.reader.now).budget c.loop-items.items.items xs ys h e)
+    (λ xs v ys. ReadsIndefiniteItems g.A.Encodings.exact (g.S.Source.view c.args.reader.now).budget
+    xs v.items ys)
+    (RejectsIndefiniteItems g.A.Encodings.exact (g.S.Source.view c.args.reader.now).budget)
+    (λ xs ys h e.
+    indefinite_end g.A.Encodings.exact (g.S.Source.view c.args.reader.now).budget
+    c.loop-items.items.items xs ys h e)
     (rw c.in_err-part.ensures at c.is_break.ensures.decodes.moves) (rw c.in_err-part.ensures at
     c.is_break.ensures.decodes.begins))
 
 pub indefinite_items-returns-in_err-value-clause-does :
     goal.indefinite_items-returns-in_err-value-clause-does
 indefinite_items-returns-in_err-value-clause-does g t c =
-    rw c.from_residual-in_err-value.ensures (ends ReadsOneValue RejectsOneValue
-    (Before (ReadEach c.loop-items.items.items) (g.S.Source.view c.args.reader.now).budget)
-    (other (ReadEach c.loop-items.items.items) c.loop-items.invariant.reached
+    rw c.from_residual-in_err-value.ensures (ends (ReadsOneValue g.A.Encodings.exact)
+    (RejectsOneValue g.A.Encodings.exact)
+    (Before (ReadEach g.A.Encodings.exact c.loop-items.items.items)
+    (g.S.Source.view c.args.reader.now).budget)
+    (other (ReadEach g.A.Encodings.exact c.loop-items.items.items) c.loop-items.invariant.reached
     c.if-not-branch.true (rw c.in_ok-part.ensures at c.is_break.ensures.decodes.moves) (rw
     c.in_ok-part.ensures at c.is_break.ensures.decodes.sound))
-    (λ xs v ys. ReadsIndefiniteItems (g.S.Source.view c.args.reader.now).budget xs v.items ys)
-    (RejectsIndefiniteItems (g.S.Source.view c.args.reader.now).budget)
-    (λ xs ys z rest h s. indefinite_stop (g.S.Source.view c.args.reader.now).budget
+    (λ xs v ys. ReadsIndefiniteItems g.A.Encodings.exact (g.S.Source.view c.args.reader.now).budget
+    xs v.items ys)
+    (RejectsIndefiniteItems g.A.Encodings.exact (g.S.Source.view c.args.reader.now).budget)
+    (λ xs ys z rest h s. indefinite_stop g.A.Encodings.exact
+    (g.S.Source.view c.args.reader.now).budget
     c.loop-items.items.items xs ys z rest h.1 h.2 h.0 s) c.in_err-value.ensures.does)
 
 pub indefinite_members-loop-members-init : goal.indefinite_members-loop-members-init
 indefinite_members-loop-members-init g t c = record {
   reached =
-      reached_start (ReadPairs _ (g.S.Source.view c.args.reader.now).budget) _
-      (λ xs. pairs_none (g.S.Source.view c.args.reader.now).budget _ xs (cc));
+      reached_start (ReadPairs g.A.Encodings.exact _ (g.S.Source.view c.args.reader.now).budget) _
+      (λ xs. pairs_none g.A.Encodings.exact (g.S.Source.view c.args.reader.now).budget _ xs (cc));
   items = members_none_are (cc);
 }
 
 pub indefinite_members-loop-members-preserved : goal.indefinite_members-loop-members-preserved
 indefinite_members-loop-members-preserved g t c = record {
   reached =
-      more ReadsMember RejectsMember (Before (ReadPairs c.loop-members.members.items)
+      more (ReadsMember g.A.Encodings.exact) (RejectsMember g.A.Encodings.exact)
+      (Before (ReadPairs g.A.Encodings.exact c.loop-members.members.items)
       (g.S.Source.view c.args.reader.now).budget)
-      (other (ReadPairs c.loop-members.members.items) c.loop-members.invariant.reached
+      (other (ReadPairs g.A.Encodings.exact c.loop-members.members.items)
+      c.loop-members.invariant.reached
       c.if-not-branch.true (rw c.in_ok-part.ensures at c.is_break.ensures.decodes.moves) (rw
       c.in_ok-part.ensures at c.is_break.ensures.decodes.sound))
-      (ReadPairs _ (g.S.Source.view c.args.reader.now).budget)
-      (λ xs ys zs h s. pairs_more (g.S.Source.view c.args.reader.now).budget
+      (ReadPairs g.A.Encodings.exact _ (g.S.Source.view c.args.reader.now).budget)
+      (λ xs ys zs h s. pairs_more g.A.Encodings.exact (g.S.Source.view c.args.reader.now).budget
       c.loop-members.members.items _ c.in_ok-member.member xs ys zs
       c.in_ok-keep.ensures.kept h.0 s) c.in_ok-member.ensures.does;
   items =
@@ -450,12 +484,15 @@ indefinite_members-loop-members-preserved g t c = record {
 
 pub indefinite_members-returns-clause-does : goal.indefinite_members-returns-clause-does
 indefinite_members-returns-clause-does g t c =
-    (does_ok (λ xs v ys. ReadsIndefiniteMembers (g.S.Source.view c.args.reader.now).budget xs
+    (does_ok (λ xs v ys. ReadsIndefiniteMembers g.A.Encodings.exact
+    (g.S.Source.view c.args.reader.now).budget xs
     v.items ys)
-    (RejectsIndefiniteMembers (g.S.Source.view c.args.reader.now).budget)
-    (broke (ReadPairs c.loop-members.members.items) c.loop-members.invariant.reached
-    (λ xs ys. ReadsIndefiniteMembers (g.S.Source.view c.args.reader.now).budget xs
-    c.loop-members.members.items ys) (λ xs ys zs h e. members_done
+    (RejectsIndefiniteMembers g.A.Encodings.exact (g.S.Source.view c.args.reader.now).budget)
+    (broke (ReadPairs g.A.Encodings.exact c.loop-members.members.items)
+    c.loop-members.invariant.reached
+    (λ xs ys. ReadsIndefiniteMembers g.A.Encodings.exact (g.S.Source.view c.args.reader.now).budget
+    xs
+    c.loop-members.members.items ys) (λ xs ys zs h e. members_done g.A.Encodings.exact
     (g.S.Source.view c.args.reader.now).budget c.loop-members.members.items xs ys zs h e)
     c.if-not-branch.false (rw c.in_ok-part.ensures at c.is_break.ensures.decodes.moves) (rw
     c.in_ok-part.ensures at c.is_break.ensures.decodes.sound)))
@@ -463,10 +500,12 @@ indefinite_members-returns-clause-does g t c =
 pub indefinite_members-returns-in_err-part-clause-does :
     goal.indefinite_members-returns-in_err-part-clause-does
 indefinite_members-returns-in_err-part-clause-does g t c =
-    rw c.from_residual.ensures (at_end (ReadPairs c.loop-members.members.items)
+    rw c.from_residual.ensures (at_end (ReadPairs g.A.Encodings.exact c.loop-members.members.items)
     c.loop-members.invariant.reached
-    (λ xs v ys. ReadsIndefiniteMembers (g.S.Source.view c.args.reader.now).budget xs v.items ys)
-    (RejectsIndefiniteMembers (g.S.Source.view c.args.reader.now).budget) (λ xs ys h e. members_end
+    (λ xs v ys. ReadsIndefiniteMembers g.A.Encodings.exact
+    (g.S.Source.view c.args.reader.now).budget xs v.items ys)
+    (RejectsIndefiniteMembers g.A.Encodings.exact (g.S.Source.view c.args.reader.now).budget)
+    (λ xs ys h e. members_end g.A.Encodings.exact
     (g.S.Source.view c.args.reader.now).budget c.loop-members.members.items xs ys h e)
     (rw c.in_err-part.ensures at c.is_break.ensures.decodes.moves) (rw c.in_err-part.ensures at
     c.is_break.ensures.decodes.begins))
@@ -474,57 +513,67 @@ indefinite_members-returns-in_err-part-clause-does g t c =
 pub indefinite_members-returns-in_err-member-clause-does :
     goal.indefinite_members-returns-in_err-member-clause-does
 indefinite_members-returns-in_err-member-clause-does g t c =
-    rw c.from_residual-in_err-member.ensures (ends ReadsMember RejectsMember (Before (ReadPairs
+    rw c.from_residual-in_err-member.ensures (ends (ReadsMember g.A.Encodings.exact) (RejectsMember
+    g.A.Encodings.exact) (Before (ReadPairs g.A.Encodings.exact
     c.loop-members.members.items)
     (g.S.Source.view c.args.reader.now).budget)
-    (other (ReadPairs c.loop-members.members.items) c.loop-members.invariant.reached
+    (other (ReadPairs g.A.Encodings.exact c.loop-members.members.items)
+    c.loop-members.invariant.reached
     c.if-not-branch.true (rw c.in_ok-part.ensures at c.is_break.ensures.decodes.moves) (rw
     c.in_ok-part.ensures at c.is_break.ensures.decodes.sound))
-    (λ xs v ys. ReadsIndefiniteMembers (g.S.Source.view c.args.reader.now).budget xs v.items ys)
-    (RejectsIndefiniteMembers (g.S.Source.view c.args.reader.now).budget)
-    (λ xs ys z rest h s. pair_stop (g.S.Source.view c.args.reader.now).budget
+    (λ xs v ys. ReadsIndefiniteMembers g.A.Encodings.exact
+    (g.S.Source.view c.args.reader.now).budget xs v.items ys)
+    (RejectsIndefiniteMembers g.A.Encodings.exact (g.S.Source.view c.args.reader.now).budget)
+    (λ xs ys z rest h s. pair_stop g.A.Encodings.exact (g.S.Source.view c.args.reader.now).budget
     c.loop-members.members.items xs ys z rest h.1 h.2 h.0 s) c.in_err-member.ensures.does)
 
 pub read_member-returns-clause-does : goal.read_member-returns-clause-does
 read_member-returns-clause-does g t c =
-    does_ok (ReadsMember (g.S.Source.view c.args.reader.now).budget)
-    (RejectsMember (g.S.Source.view c.args.reader.now).budget)
-    (more ReadsOneValue RejectsOneValue (λ xs ys.
-    ReadsOneValue (g.S.Source.view c.args.reader.now).budget xs c.in_ok-key.key ys)
-    (reached_by c.in_ok-key.ensures.does) (λ xs ys. ReadsMember
+    does_ok (ReadsMember g.A.Encodings.exact (g.S.Source.view c.args.reader.now).budget)
+    (RejectsMember g.A.Encodings.exact (g.S.Source.view c.args.reader.now).budget)
+    (more (ReadsOneValue g.A.Encodings.exact) (RejectsOneValue g.A.Encodings.exact) (λ xs ys.
+    ReadsOneValue g.A.Encodings.exact (g.S.Source.view c.args.reader.now).budget xs c.in_ok-key.key
+    ys)
+    (reached_by c.in_ok-key.ensures.does) (λ xs ys. ReadsMember g.A.Encodings.exact
     (g.S.Source.view c.args.reader.now).budget xs (c.in_ok-key.key, c.in_ok-value.value) ys)
     (λ xs ys zs h s. (ys, h, s)) c.in_ok-value.ensures.does)
 
 pub read_member-returns-in_err-key-clause-does : goal.read_member-returns-in_err-key-clause-does
 read_member-returns-in_err-key-clause-does g t c =
-    rw c.from_residual.ensures (ends ReadsOneValue RejectsOneValue (λ xs ys. ys ≡ xs)
+    rw c.from_residual.ensures (ends (ReadsOneValue g.A.Encodings.exact) (RejectsOneValue
+    g.A.Encodings.exact) (λ xs ys. ys ≡ xs)
     (reached_start (λ xs ys. ys ≡ xs) _ (λ xs. refl))
-    (ReadsMember (g.S.Source.view c.args.reader.now).budget)
-    (RejectsMember (g.S.Source.view c.args.reader.now).budget) (λ xs ys z rest h s. inl
-    (subst (λ x. RejectsOneValue (g.S.Source.view c.args.reader.now).budget x z rest) h s))
+    (ReadsMember g.A.Encodings.exact (g.S.Source.view c.args.reader.now).budget)
+    (RejectsMember g.A.Encodings.exact (g.S.Source.view c.args.reader.now).budget)
+    (λ xs ys z rest h s. inl
+    (subst (λ x. RejectsOneValue g.A.Encodings.exact (g.S.Source.view c.args.reader.now).budget x z
+    rest) h s))
     c.in_err-key.ensures.does)
 
 pub read_member-returns-in_err-value-clause-does : goal.read_member-returns-in_err-value-clause-does
 read_member-returns-in_err-value-clause-does g t c =
-    rw c.from_residual-in_err-value.ensures (ends ReadsOneValue RejectsOneValue (λ xs ys.
-    ReadsOneValue (g.S.Source.view
+    rw c.from_residual-in_err-value.ensures (ends (ReadsOneValue g.A.Encodings.exact)
+    (RejectsOneValue g.A.Encodings.exact) (λ xs ys.
+    ReadsOneValue g.A.Encodings.exact (g.S.Source.view
     c.args.reader.now).budget xs c.in_ok-key.key ys) (reached_by c.in_ok-key.ensures.does)
-    (ReadsMember (g.S.Source.view c.args.reader.now).budget)
-    (RejectsMember (g.S.Source.view c.args.reader.now).budget)
-    (λ xs ys z rest h s. value_stop (g.S.Source.view c.args.reader.now).budget
+    (ReadsMember g.A.Encodings.exact (g.S.Source.view c.args.reader.now).budget)
+    (RejectsMember g.A.Encodings.exact (g.S.Source.view c.args.reader.now).budget)
+    (λ xs ys z rest h s. value_stop g.A.Encodings.exact (g.S.Source.view c.args.reader.now).budget
     c.in_ok-key.key xs ys z rest h s) c.in_err-value.ensures.does)
 
 pub read_value-returns-clause-does : goal.read_value-returns-clause-does
 read_value-returns-clause-does g t c =
-    stepped c.if-not-step_in.ensures.budget c.step_in.ensures.others
+    stepped g.A.Encodings.exact c.if-not-step_in.ensures.budget c.step_in.ensures.others
     c.read_inside-outcome.ensures.does c.step_out.ensures.budget c.step_out.ensures.others
 
 pub indefinite_items-returns-in_err-keep-clause-does :
     goal.indefinite_items-returns-in_err-keep-clause-does
 indefinite_items-returns-in_err-keep-clause-does g t c =
     rw c.from_residual-in_err-keep.ensures (does_no_memory
-    (λ xs v ys. ReadsIndefiniteItems (g.S.Source.view c.args.reader.now).budget xs v.items ys)
-    (RejectsIndefiniteItems (g.S.Source.view c.args.reader.now).budget) (ap error_left
+    (λ xs v ys. ReadsIndefiniteItems g.A.Encodings.exact (g.S.Source.view c.args.reader.now).budget
+    xs v.items ys)
+    (RejectsIndefiniteItems g.A.Encodings.exact (g.S.Source.view c.args.reader.now).budget)
+    (ap error_left
     c.in_err-keep.ensures.memory)
     (kept_then (kept_then c.loop-items.invariant.reached.kept
     (rw c.in_ok-part.ensures at c.is_break.ensures.decodes.moves).by)
@@ -534,8 +583,9 @@ pub indefinite_members-returns-in_err-keep-clause-does :
     goal.indefinite_members-returns-in_err-keep-clause-does
 indefinite_members-returns-in_err-keep-clause-does g t c =
     rw c.from_residual-in_err-keep.ensures (does_no_memory
-    (λ xs v ys. ReadsIndefiniteMembers (g.S.Source.view c.args.reader.now).budget xs v.items ys)
-    (RejectsIndefiniteMembers (g.S.Source.view c.args.reader.now).budget)
+    (λ xs v ys. ReadsIndefiniteMembers g.A.Encodings.exact
+    (g.S.Source.view c.args.reader.now).budget xs v.items ys)
+    (RejectsIndefiniteMembers g.A.Encodings.exact (g.S.Source.view c.args.reader.now).budget)
     (ap error_left c.in_err-keep.ensures.memory) (kept_then (kept_then
     c.loop-members.invariant.reached.kept
     (rw c.in_ok-part.ensures at c.is_break.ensures.decodes.moves).by)
@@ -610,8 +660,10 @@ pub definite_members-returns-then-is_err-clause-does :
     goal.definite_members-returns-then-is_err-clause-does
 definite_members-returns-then-is_err-clause-does g t c =
     does_no_memory (λ xs v ys.
-    ReadsMembers c.args.count (g.S.Source.view c.args.reader.now).budget xs v.items ys)
-    (RejectsMembers c.args.count (g.S.Source.view c.args.reader.now).budget) refl (kept_alike _)
+    ReadsMembers g.A.Encodings.exact c.args.count (g.S.Source.view c.args.reader.now).budget xs
+    v.items ys)
+    (RejectsMembers g.A.Encodings.exact c.args.count (g.S.Source.view c.args.reader.now).budget)
+    refl (kept_alike _)
 
 pub indefinite_items-returns-clause-items : goal.indefinite_items-returns-clause-items
 indefinite_items-returns-clause-items g t c = c.loop-items.invariant.items
@@ -630,10 +682,12 @@ read_value-returns-clause-progress g t c =
 pub read_value-returns-then-not-step_in-clause-does :
     goal.read_value-returns-then-not-step_in-clause-does
 read_value-returns-then-not-step_in-clause-does g t c =
-    rw c.leave_deep.ensures (does_no_step value_name (ReadsOneValue (g.S.Source.view
+    rw c.leave_deep.ensures (does_no_step value_name (ReadsOneValue g.A.Encodings.exact
+    (g.S.Source.view
     c.args.reader.now).budget)
-    (RejectsOneValue (g.S.Source.view c.args.reader.now).budget) refl refl
-    (λ none xs. rw none (refl, refl)) c.if-not-step_in.ensures.budget c.step_in.ensures.others)
+    (RejectsOneValue g.A.Encodings.exact (g.S.Source.view c.args.reader.now).budget) refl refl
+    (λ none xs. value_no_step g.A.Encodings.exact _ none xs) c.if-not-step_in.ensures.budget
+    c.step_in.ensures.others)
 
 pub read_member-returns-clause-key : goal.read_member-returns-clause-key
 read_member-returns-clause-key g t c = c.in_ok-key.ensures.item
@@ -664,11 +718,15 @@ indefinite_members-loop-members-smaller g t c =
 pub read_tagged-returns-in_err-inner-clause-does :
     goal.read_tagged-returns-in_err-inner-clause-does
 read_tagged-returns-in_err-inner-clause-does g t c =
-    rw c.from_residual.ensures (tagged_err c.args.number c.in_err-inner.ensures.does)
+    let exact = g.A.Encodings.exact in
+    let budget = (g.S.Source.view c.args.reader.now).budget in
+    rw c.from_residual.ensures (still_rejected (ReadsOneValue exact budget)
+    (ReadsTagged exact c.args.number budget) (RejectsOneValue exact budget)
+    (RejectsOneValue exact budget) (λ xs z rest h. h) c.in_err-inner.ensures.does)
 
 pub read_tagged-returns-in-Ok-clause-does : goal.read_tagged-returns-in-Ok-clause-does
 read_tagged-returns-in-Ok-clause-does g t c =
-    tagged_ok c.args.number (Tag c.args.number c.in-Ok.boxed)
+    tagged_ok g.A.Encodings.exact c.args.number (Tag c.args.number c.in-Ok.boxed)
     (view-Tag c.args.number c.in-Ok.boxed
     ∙ ap (λ x. tag c.args.number (view x)) c.in-Ok.ensures.ok) c.in_ok-inner.ensures.does
 
@@ -679,15 +737,17 @@ read_tag-returns-clause-progress g t c =
 
 pub read_tagged-returns-clause-does : goal.read_tagged-returns-clause-does
 read_tagged-returns-clause-does g t c =
-    does_no_memory (ReadsTagged c.args.number (g.S.Source.view c.args.reader.now).budget)
-    (RejectsOneValue (g.S.Source.view c.args.reader.now).budget) refl
+    does_no_memory (ReadsTagged g.A.Encodings.exact c.args.number (g.S.Source.view
+    c.args.reader.now).budget)
+    (RejectsOneValue g.A.Encodings.exact (g.S.Source.view c.args.reader.now).budget) refl
     c.in_ok-inner.ensures.does.moves.by
 
 -- ---- as many values as one look decides, and the one after them
 
 pub more_items-returns-clause-does : goal.more_items-returns-clause-does
 more_items-returns-clause-does g t c =
-    turn_stepped Readable RejectsOneValue (1 * c.args.count - length c.args.items.now.items)
+    turn_stepped g.A.Encodings.exact
+    (1 * c.args.count - length c.args.items.now.items)
     c.args.items.now.items _
     c.if-not-step_in.ensures.budget c.step_in.ensures.others c.items_inside-outcome.ensures.does
     c.step_out.ensures.budget c.step_out.ensures.others
@@ -695,17 +755,19 @@ more_items-returns-clause-does g t c =
 pub more_items-returns-then-not-step_in-clause-does :
     goal.more_items-returns-then-not-step_in-clause-does
 more_items-returns-then-not-step_in-clause-does g t c =
-    rw c.leave_deep.ensures (turn_unstepped Readable RejectsOneValue (1 * c.args.count)
+    rw c.leave_deep.ensures (turn_unstepped g.A.Encodings.exact (1 *
+    c.args.count)
     c.args.items.now.items _
-    c.requires refl refl (λ none xs. rw none (refl, refl)) c.if-not-step_in.ensures.budget
+    c.requires refl refl c.if-not-step_in.ensures.budget
     c.step_in.ensures.others)
 
 pub items_inside-returns-in_ok-value-in-Some-clause-does :
     goal.items_inside-returns-in_ok-value-in-Some-clause-does
 items_inside-returns-in_ok-value-in-Some-clause-does g t c =
-    turn_put Readable RejectsOneValue _ _ one_read (1 * c.args.count) c.args.items.now.items
-    ⊥ c.take_run.new.parts.items c.in-Some.next
-    (run_before ⊥ Readable c.args.items.now.items c.take_run.new.parts.items c.in-Some.next _
+    turn_put g.A.Encodings.exact (1 * c.args.count) c.args.items.now.items
+    c.take_run.new.parts.items c.in-Some.next
+    (run_before g.A.Encodings.exact c.args.items.now.items c.take_run.new.parts.items c.in-Some.next
+    _
     c.in-Some.is c.in_ok-next.ensures.puts) c.put_value.new.parts.items c.put_value.result _
     c.put_value.ensures.kept c.put_value.ensures.memory c.in_ok-value-in-Some.ensures.does
 
@@ -713,9 +775,10 @@ pub items_inside-returns-in_err-value-in-Some-clause-does :
     goal.items_inside-returns-in_err-value-in-Some-clause-does
 items_inside-returns-in_err-value-in-Some-clause-does g t c =
     rw c.from_residual-in_err-value-in-Some.ensures
-    (turn_rejected Readable RejectsOneValue _ _ one_read (1 * c.args.count) c.args.items.now.items
-    ⊥ c.take_run.new.parts.items c.in-Some.next
-    (run_before ⊥ Readable c.args.items.now.items c.take_run.new.parts.items c.in-Some.next _
+    (turn_rejected g.A.Encodings.exact (1 * c.args.count) c.args.items.now.items
+    c.take_run.new.parts.items c.in-Some.next
+    (run_before g.A.Encodings.exact c.args.items.now.items c.take_run.new.parts.items c.in-Some.next
+    _
     c.in-Some.is c.in_ok-next.ensures.puts) _
     (on_found c.in-Some.next c.in-Some.is c.in_ok-next.ensures.lacks)
     c.in_err-value-in-Some.ensures.does)
@@ -723,9 +786,9 @@ items_inside-returns-in_err-value-in-Some-clause-does g t c =
 pub items_inside-returns-in_err-next-clause-does :
     goal.items_inside-returns-in_err-next-clause-does
 items_inside-returns-in_err-next-clause-does g t c =
-    rw c.from_residual.ensures (turn_ends Readable RejectsOneValue _ _ one_read (1 * c.args.count)
+    rw c.from_residual.ensures (turn_ends g.A.Encodings.exact (1 * c.args.count)
     c.args.items.now.items
-    c.take_run.new.parts.items c.requires (none_under _) c.in_err-next.ensures.puts)
+    c.take_run.new.parts.items c.requires c.in_err-next.ensures.puts)
 
 pub items_inside-returns-in_ok-value-in-Some-clause-items :
     goal.items_inside-returns-in_ok-value-in-Some-clause-items
@@ -736,7 +799,8 @@ items_inside-returns-in_ok-value-in-Some-clause-items g t c =
 
 pub more_members-returns-clause-does : goal.more_members-returns-clause-does
 more_members-returns-clause-does g t c =
-    turn_stepped Readable RejectsOneValue (2 * c.args.count - length (flat c.args.pairs.now)) (flat
+    turn_stepped g.A.Encodings.exact
+    (2 * c.args.count - length (flat c.args.pairs.now)) (flat
     c.args.pairs.now) _
     c.if-not-step_in.ensures.budget c.step_in.ensures.others c.members_inside-outcome.ensures.does
     c.step_out.ensures.budget c.step_out.ensures.others
@@ -744,18 +808,19 @@ more_members-returns-clause-does g t c =
 pub more_members-returns-then-not-step_in-clause-does :
     goal.more_members-returns-then-not-step_in-clause-does
 more_members-returns-then-not-step_in-clause-does g t c =
-    rw c.leave_deep.ensures (turn_unstepped Readable RejectsOneValue (2 * c.args.count) (flat
+    rw c.leave_deep.ensures (turn_unstepped g.A.Encodings.exact (2 *
+    c.args.count) (flat
     c.args.pairs.now) _
-    c.requires refl refl (λ none xs. rw none (refl, refl)) c.if-not-step_in.ensures.budget
+    c.requires refl refl c.if-not-step_in.ensures.budget
     c.step_in.ensures.others)
 
 pub members_inside-returns-in_ok-value-in-Some-clause-does :
     goal.members_inside-returns-in_ok-value-in-Some-clause-does
 members_inside-returns-in_ok-value-in-Some-clause-does g t c =
-    turn_put Readable RejectsOneValue _ _ one_read (2 * c.args.count) (flat c.args.pairs.now)
-    ⊥ (flat
-    c.take_run.new.parts) c.in-Some.next
-    (run_before ⊥ Readable (flat c.args.pairs.now) (flat c.take_run.new.parts) c.in-Some.next _
+    turn_put g.A.Encodings.exact (2 * c.args.count) (flat c.args.pairs.now)
+    (flat c.take_run.new.parts) c.in-Some.next
+    (run_before g.A.Encodings.exact (flat c.args.pairs.now) (flat c.take_run.new.parts)
+    c.in-Some.next _
     c.in-Some.is c.in_ok-next.ensures.puts) (flat c.put_value.new.parts) c.put_value.result _
     c.put_value.ensures.kept c.put_value.ensures.memory c.in_ok-value-in-Some.ensures.does
 
@@ -763,9 +828,10 @@ pub members_inside-returns-in_err-value-in-Some-clause-does :
     goal.members_inside-returns-in_err-value-in-Some-clause-does
 members_inside-returns-in_err-value-in-Some-clause-does g t c =
     rw c.from_residual-in_err-value-in-Some.ensures
-    (turn_rejected Readable RejectsOneValue _ _ one_read (2 * c.args.count) (flat c.args.pairs.now)
-    ⊥ (flat c.take_run.new.parts) c.in-Some.next
-    (run_before ⊥ Readable (flat c.args.pairs.now) (flat c.take_run.new.parts) c.in-Some.next _
+    (turn_rejected g.A.Encodings.exact (2 * c.args.count) (flat c.args.pairs.now)
+    (flat c.take_run.new.parts) c.in-Some.next
+    (run_before g.A.Encodings.exact (flat c.args.pairs.now) (flat c.take_run.new.parts)
+    c.in-Some.next _
     c.in-Some.is c.in_ok-next.ensures.puts) _
     (on_found c.in-Some.next c.in-Some.is c.in_ok-next.ensures.lacks)
     c.in_err-value-in-Some.ensures.does)
@@ -773,9 +839,9 @@ members_inside-returns-in_err-value-in-Some-clause-does g t c =
 pub members_inside-returns-in_err-next-clause-does :
     goal.members_inside-returns-in_err-next-clause-does
 members_inside-returns-in_err-next-clause-does g t c =
-    rw c.from_residual.ensures (turn_ends Readable RejectsOneValue _ _ one_read (2 * c.args.count)
+    rw c.from_residual.ensures (turn_ends g.A.Encodings.exact (2 * c.args.count)
     (flat c.args.pairs.now)
-    (flat c.take_run.new.parts) c.requires (none_under _) c.in_err-next.ensures.puts)
+    (flat c.take_run.new.parts) c.requires c.in_err-next.ensures.puts)
 
 pub members_inside-returns-in_ok-value-in-Some-clause-items :
     goal.members_inside-returns-in_ok-value-in-Some-clause-items
@@ -789,9 +855,10 @@ members_inside-returns-in_ok-value-in-Some-clause-items g t c =
 pub definite_items-loop-alloc-init : goal.definite_items-loop-alloc-init
 definite_items-loop-alloc-init g t c = record {
   reached =
-      reached_start (λ xs ys. ReadsEach (Readable (g.S.Source.view c.args.reader.now).budget)
+      reached_start (λ xs ys. ReadsEach (Whole g.A.Encodings.exact (g.S.Source.view
+      c.args.reader.now).budget)
       (length c.reserve.new.self.items) xs c.reserve.new.self.items ys) _
-      (none_yet (Readable (g.S.Source.view c.args.reader.now).budget) _ (cc));
+      (none_yet (Whole g.A.Encodings.exact (g.S.Source.view c.args.reader.now).budget) _ (cc));
   items = items_none (cc);
   few = none_too_many _ (1 * c.args.count) (cc);
 }
@@ -799,7 +866,7 @@ definite_items-loop-alloc-init g t c = record {
 pub definite_items-loop-alloc-preserved : goal.definite_items-loop-alloc-preserved
 definite_items-loop-alloc-preserved g t c = record {
   reached =
-      ran Readable RejectsOneValue (1 * c.args.count) c.loop-alloc.items.items
+      ran g.A.Encodings.exact (1 * c.args.count) c.loop-alloc.items.items
       c.more_items.new.items.items c.loop-alloc.invariant.reached
       c.in_ok-more_items.ensures.does;
   items = c.in_ok-more_items.ensures.items c.loop-alloc.invariant.items;
@@ -809,12 +876,14 @@ definite_items-loop-alloc-preserved g t c = record {
 pub definite_items-returns-in_err-more_items-clause-does :
     goal.definite_items-returns-in_err-more_items-clause-does
 definite_items-returns-in_err-more_items-clause-does g t c =
-    rw c.from_residual.ensures (stop_alone Readable RejectsOneValue c.args.count (g.S.Source.view
+    rw c.from_residual.ensures (stop_alone g.A.Encodings.exact c.args.count (g.S.Source.view
     c.args.reader.now).budget
-    (λ xs v ys. ReadsItems c.args.count (g.S.Source.view c.args.reader.now).budget xs v.items ys)
-    (run_rejects Readable RejectsOneValue (1 * c.args.count) c.loop-alloc.items.items
+    (λ xs v ys. ReadsItems g.A.Encodings.exact c.args.count
+    (g.S.Source.view c.args.reader.now).budget xs v.items ys)
+    (run_rejects g.A.Encodings.exact (1 * c.args.count) c.loop-alloc.items.items
     c.more_items.new.items.items c.loop-alloc.invariant.reached
-    (λ xs v ys. ReadsItems c.args.count (g.S.Source.view c.args.reader.now).budget xs v.items ys)
+    (λ xs v ys. ReadsItems g.A.Encodings.exact c.args.count
+    (g.S.Source.view c.args.reader.now).budget xs v.items ys)
     c.in_err-more_items.ensures.does))
 
 -- ---- a map whose pairs are counted
@@ -822,10 +891,11 @@ definite_items-returns-in_err-more_items-clause-does g t c =
 pub definite_members-loop-alloc-init : goal.definite_members-loop-alloc-init
 definite_members-loop-alloc-init g t c = record {
   reached =
-      reached_start (λ xs ys. ReadsEach (Readable (g.S.Source.view c.args.reader.now).budget)
+      reached_start (λ xs ys. ReadsEach (Whole g.A.Encodings.exact (g.S.Source.view
+      c.args.reader.now).budget)
       (length (flat_values c.reserve.new.self.items)) xs (flat_values c.reserve.new.self.items) ys)
       _
-      (none_yet (Readable (g.S.Source.view c.args.reader.now).budget) _ (cc));
+      (none_yet (Whole g.A.Encodings.exact (g.S.Source.view c.args.reader.now).budget) _ (cc));
   items = items_none (cc);
   few = none_too_many _ (2 * c.args.count) (cc);
 }
@@ -833,7 +903,7 @@ definite_members-loop-alloc-init g t c = record {
 pub definite_members-loop-alloc-preserved : goal.definite_members-loop-alloc-preserved
 definite_members-loop-alloc-preserved g t c = record {
   reached =
-      ran Readable RejectsOneValue (2 * c.args.count) (flat c.loop-alloc.pairs) (flat
+      ran g.A.Encodings.exact (2 * c.args.count) (flat c.loop-alloc.pairs) (flat
       c.more_members.new.pairs) c.loop-alloc.invariant.reached
       c.in_ok-more_members.ensures.does;
   items = c.in_ok-more_members.ensures.items c.loop-alloc.invariant.items;
@@ -843,9 +913,11 @@ definite_members-loop-alloc-preserved g t c = record {
 pub definite_members-returns-in_err-more_members-clause-does :
     goal.definite_members-returns-in_err-more_members-clause-does
 definite_members-returns-in_err-more_members-clause-does g t c =
-    rw c.from_residual.ensures (run_rejects Readable RejectsOneValue (2 * c.args.count) (flat
+    rw c.from_residual.ensures (run_rejects g.A.Encodings.exact (2 *
+    c.args.count) (flat
     c.loop-alloc.pairs) (flat c.more_members.new.pairs) c.loop-alloc.invariant.reached
-    (λ xs v ys. ReadsMembers c.args.count (g.S.Source.view c.args.reader.now).budget xs v.items ys)
+    (λ xs v ys. ReadsMembers g.A.Encodings.exact c.args.count
+    (g.S.Source.view c.args.reader.now).budget xs v.items ys)
     c.in_err-more_members.ensures.does)
 
 pub definite_members-returns-clause-does : goal.definite_members-returns-clause-does
@@ -854,11 +926,13 @@ definite_members-returns-clause-does g t c =
     let pairs = c.loop-alloc.pairs in
     let all = both_there pairs.members.items pairs.key c.args.count c.loop-alloc.invariant.few
     (c.lacks.ensures.full c.loop-alloc-test.false) in
-    does_ok (λ xs v ys. ReadsMembers c.args.count budget xs v.items ys)
-    (RejectsMembers c.args.count budget)
-    (reached_as (λ xs ys. ReadsEach (Readable budget) (length (flat pairs)) xs (flat pairs) ys)
-    (λ xs ys. ReadsMembers c.args.count budget xs pairs.members.items ys)
-    (λ xs ys h. pairs_are_read (Readable budget) pairs.members.items pairs.key c.args.count xs ys
+    does_ok (λ xs v ys. ReadsMembers g.A.Encodings.exact c.args.count budget xs v.items ys)
+    (RejectsMembers g.A.Encodings.exact c.args.count budget)
+    (reached_as (λ xs ys. ReadsEach (Whole g.A.Encodings.exact budget) (length (flat pairs)) xs
+    (flat pairs) ys)
+    (λ xs ys. ReadsMembers g.A.Encodings.exact c.args.count budget xs pairs.members.items ys)
+    (λ xs ys h. pairs_are_read (Whole g.A.Encodings.exact budget) pairs.members.items pairs.key
+    c.args.count xs ys
     all h)
     c.loop-alloc.invariant.reached)
 

@@ -63,7 +63,7 @@ decreases-members_inside g l = 8 * (g.S.Source.view l.reader.now).bound + 4
 
 abbrev pub invariant-definite_items-loop-alloc : goal.invariant-definite_items-loop-alloc
 invariant-definite_items-loop-alloc g l = record {
-  reached : Reached (λ xs ys. ReadsItems (length l.items.items)
+  reached : Reached (λ xs ys. ReadsItems g.A.Encodings.exact (length l.items.items)
       (g.S.Source.view l.fn.reader).budget xs l.items.items ys) (g.S.Source.view l.fn.reader)
       (g.S.Source.view l.reader);
   items : AreItems (items_view l.items.items);
@@ -75,7 +75,7 @@ decreases-definite_items-loop-alloc g l = (g.S.Source.view l.reader).bound
 
 abbrev pub invariant-definite_members-loop-alloc : goal.invariant-definite_members-loop-alloc
 invariant-definite_members-loop-alloc g l = record {
-  reached : Reached (λ xs ys. ReadsItems (length (flat l.pairs))
+  reached : Reached (λ xs ys. ReadsItems g.A.Encodings.exact (length (flat l.pairs))
       (g.S.Source.view l.fn.reader).budget xs (flat l.pairs) ys) (g.S.Source.view l.fn.reader)
       (g.S.Source.view l.reader);
   items : AreItems (items_view (flat l.pairs));
@@ -88,7 +88,8 @@ decreases-definite_members-loop-alloc g l = (g.S.Source.view l.reader).bound
 abbrev pub invariant-indefinite_items-loop-items : goal.invariant-indefinite_items-loop-items
 invariant-indefinite_items-loop-items g l =
     record {
-      reached : Reached (ReadEach l.items.items (g.S.Source.view l.fn.reader).budget)
+      reached : Reached (ReadEach g.A.Encodings.exact l.items.items (g.S.Source.view
+          l.fn.reader).budget)
           (g.S.Source.view l.fn.reader) (g.S.Source.view l.reader);
       items : AreItems (items_view l.items.items);
     }
@@ -100,7 +101,8 @@ abbrev pub invariant-indefinite_members-loop-members :
     goal.invariant-indefinite_members-loop-members
 invariant-indefinite_members-loop-members g l =
     record {
-      reached : Reached (ReadPairs l.members.items (g.S.Source.view l.fn.reader).budget)
+      reached : Reached (ReadPairs g.A.Encodings.exact l.members.items (g.S.Source.view
+          l.fn.reader).budget)
           (g.S.Source.view l.fn.reader) (g.S.Source.view l.reader);
       items : AreMembers (members_view l.members.items);
     }

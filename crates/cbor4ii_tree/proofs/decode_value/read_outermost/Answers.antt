@@ -3,12 +3,12 @@ use Rattle.cbor4ii_tree.specs.InputError.{value_name}
 use Rattle.cbor4ii_tree.specs.Valuing.{ReadsOneValue, RejectsOneValue}
 use Rattle.cbor4ii_tree.proofs.skip_calls.Doing.{does_no_step}
 use Rattle.cbor4ii_tree.proofs.values.Answered.{around}
-use Rattle.cbor4ii_tree.proofs.values.Calls.{stepped}
+use Rattle.cbor4ii_tree.proofs.values.Calls.{stepped, value_no_step}
 use Rattle.cbor4ii_tree.proofs.decode_value.read_outermost.Goals as goal
 
 pub returns-clause-does : goal.returns-clause-does
 returns-clause-does g c =
-    stepped c.if-not-step_in.ensures.budget c.step_in.ensures.others
+    stepped g.A.Encodings.exact c.if-not-step_in.ensures.budget c.step_in.ensures.others
     c.read_apart-outcome.ensures.does c.step_out.ensures.budget c.step_out.ensures.others
 
 pub returns-then-not-step_in-clause-item :
@@ -30,7 +30,9 @@ returns-clause-progress g c =
 pub returns-then-not-step_in-clause-does :
     goal.returns-then-not-step_in-clause-does
 returns-then-not-step_in-clause-does g c =
-    rw c.leave_deep.ensures (does_no_step value_name (ReadsOneValue (g.S.Source.view
+    rw c.leave_deep.ensures (does_no_step value_name (ReadsOneValue g.A.Encodings.exact
+    (g.S.Source.view
     c.args.reader.now).budget)
-    (RejectsOneValue (g.S.Source.view c.args.reader.now).budget) refl refl
-    (λ none xs. rw none (refl, refl)) c.if-not-step_in.ensures.budget c.step_in.ensures.others)
+    (RejectsOneValue g.A.Encodings.exact (g.S.Source.view c.args.reader.now).budget) refl refl
+    (λ none xs. value_no_step g.A.Encodings.exact _ none xs) c.if-not-step_in.ensures.budget
+    c.step_in.ensures.others)

@@ -7,27 +7,27 @@ use Rattle.cbor4ii_tree.proofs.run.put_run.Goals as goal
 
 pub loop-alloc-init : goal.loop-alloc-init
 loop-alloc-init g c = record {
-  puts = put_none (c.args.exact ≡ true) (g.P.Parts.flat c.args.parts.now) c.args.shown.now;
+  puts = put_none (g.A.Encodings.exact ≡ true) (g.P.Parts.flat c.args.parts.now) c.args.shown.now;
   few = omega (arith, c.requires.lacks);
   none = λ e. refl;
 }
 
 pub returns-then-is_none : goal.returns-then-is_none
 returns-then-is_none g c =
-    rejected_growth (c.args.exact ≡ true) (g.P.Parts.flat c.args.parts.now)
+    rejected_growth (g.A.Encodings.exact ≡ true) (g.P.Parts.flat c.args.parts.now)
     (g.P.Parts.flat c.loop-alloc.parts) c.in-Whole.value c.loop-alloc.size c.in-Whole.bytes
     c.args.shown.now c.loop-alloc.invariant.puts
-    (subst (StandsAhead (c.args.exact ≡ true) c.in-Whole.value c.in-Whole.bytes)
+    (subst (StandsAhead (g.A.Encodings.exact ≡ true) c.in-Whole.value c.in-Whole.bytes)
     (take_rest c.args.shown.now c.loop-alloc.size) c.in-Whole.ensures)
 
 pub loop-alloc-preserved : goal.loop-alloc-preserved
 loop-alloc-preserved g c =
     let is = put_well c.put.result c.is_none.ensures c.if-is_none.false c.put.ensures in
-    let l = subst (StandsAhead (c.args.exact ≡ true) c.in-Whole.value c.in-Whole.bytes)
+    let l = subst (StandsAhead (g.A.Encodings.exact ≡ true) c.in-Whole.value c.in-Whole.bytes)
     (take_rest c.args.shown.now c.loop-alloc.size) c.in-Whole.ensures in
     record {
       puts =
-          put_one (c.args.exact ≡ true) (g.P.Parts.flat c.args.parts.now)
+          put_one (g.A.Encodings.exact ≡ true) (g.P.Parts.flat c.args.parts.now)
           (g.P.Parts.flat c.loop-alloc.parts) (g.P.Parts.flat c.put.new.self) c.in-Whole.value
           c.loop-alloc.size c.in-Whole.bytes c.args.shown.now c.loop-alloc.invariant.puts l is;
       few =

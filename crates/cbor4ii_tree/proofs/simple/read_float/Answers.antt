@@ -5,7 +5,6 @@ use Rattle.cbor4ii_items.specs.Initial.{half, single, double}
 use Rattle.cbor4ii_items.specs.declared.types.F16.{F16 as Half}
 use Rattle.cbor4ii_items.specs.declared.types.F32.{F32 as Single}
 use Rattle.cbor4ii_items.specs.declared.types.F64.{F64 as Double}
-use Rattle.cbor4ii_tree.proofs.canonical.Calls as strict
 use Rattle.cbor4ii_tree.proofs.values.Heads.{float_read, float_rejected, no_value, view-F16}
 use Rattle.cbor4ii_tree.proofs.values.Heads.{view-F32, view-F64}
 use Rattle.cbor4ii_tree.specs.declared.value.FloatBits.TheVariants.{F16, F32, F64}
@@ -14,93 +13,49 @@ use Rattle.cbor4ii_tree.proofs.simple.read_float.Goals as goal
 -- where encodings are free
 
 pub returns-in_ok-decode-in-249-clause-does : goal.returns-in_ok-decode-in-249-clause-does
-returns-in_ok-decode-in-249-clause-does g c =
-    float_read half (λ v. v.0) (F16 c.in_ok-decode-in-249.field-0.0)
+returns-in_ok-decode-in-249-clause-does g c exact =
+    float_read exact half (λ v. v.0) (F16 c.in_ok-decode-in-249.field-0.0)
     (view-F16 c.in_ok-decode-in-249.field-0.0) c.in_ok-decode-in-249.ensures.moves
     c.in_ok-decode-in-249.ensures.sound
 
 pub returns-in_ok-decode-in-250-clause-does : goal.returns-in_ok-decode-in-250-clause-does
-returns-in_ok-decode-in-250-clause-does g c =
-    float_read single (λ v. v.0) (F32 c.in_ok-decode-in-250.field-0.0)
+returns-in_ok-decode-in-250-clause-does g c exact =
+    float_read exact single (λ v. v.0) (F32 c.in_ok-decode-in-250.field-0.0)
     (view-F32 c.in_ok-decode-in-250.field-0.0) c.in_ok-decode-in-250.ensures.moves
     c.in_ok-decode-in-250.ensures.sound
 
 pub returns-in_ok-decode-in-251-clause-does : goal.returns-in_ok-decode-in-251-clause-does
-returns-in_ok-decode-in-251-clause-does g c =
-    float_read double (λ v. v.0) (F64 c.in_ok-decode-in-251.field-0.0)
+returns-in_ok-decode-in-251-clause-does g c exact =
+    float_read exact double (λ v. v.0) (F64 c.in_ok-decode-in-251.field-0.0)
     (view-F64 c.in_ok-decode-in-251.field-0.0) c.in_ok-decode-in-251.ensures.moves
     c.in_ok-decode-in-251.ensures.sound
 
 pub returns-in_err-decode-in-249-clause-does : goal.returns-in_err-decode-in-249-clause-does
-returns-in_err-decode-in-249-clause-does g c =
+returns-in_err-decode-in-249-clause-does g c exact =
     let p = err_from_is_err_and c.from_residual.result c.from_residual.ensures.1 in
-    rw (p.1, p.2) (float_rejected half c.args.first c.in-249.is c.in_err-decode-in-249.ensures.moves
+    rw (p.1, p.2) (float_rejected exact half c.args.first c.in-249.is
+    c.in_err-decode-in-249.ensures.moves
     c.in_err-decode-in-249.ensures.begins)
 
 pub returns-in_err-decode-in-250-clause-does : goal.returns-in_err-decode-in-250-clause-does
-returns-in_err-decode-in-250-clause-does g c =
+returns-in_err-decode-in-250-clause-does g c exact =
     let p = err_from_is_err_and c.from_residual-in_err-decode-in-250.result
     c.from_residual-in_err-decode-in-250.ensures.1 in
-    rw (p.1, p.2) (float_rejected single c.args.first c.in-250.is
+    rw (p.1, p.2) (float_rejected exact single c.args.first c.in-250.is
     c.in_err-decode-in-250.ensures.moves c.in_err-decode-in-250.ensures.begins)
 
 pub returns-in_err-decode-in-251-clause-does : goal.returns-in_err-decode-in-251-clause-does
-returns-in_err-decode-in-251-clause-does g c =
+returns-in_err-decode-in-251-clause-does g c exact =
     let p = err_from_is_err_and c.from_residual-in_err-decode-in-251.result
     c.from_residual-in_err-decode-in-251.ensures.1 in
-    rw (p.1, p.2) (float_rejected double c.args.first c.in-251.is
+    rw (p.1, p.2) (float_rejected exact double c.args.first c.in-251.is
     c.in_err-decode-in-251.ensures.moves c.in_err-decode-in-251.ensures.begins)
 
 pub returns-in_default-clause-does : goal.returns-in_default-clause-does
-returns-in_default-clause-does g c =
-    no_value c.args.first c.requires.major (Fits-lt-pow {w = w8} c.ranges.first) c.requires.other
+returns-in_default-clause-does g c exact =
+    no_value exact c.args.first c.requires.major (Fits-lt-pow {w = w8} c.ranges.first)
+    c.requires.other
     (λ h. omega (arith, h)) (λ h. omega (arith, h)) (λ h. omega (arith, h)) refl refl refl
-
--- where they are canonical
-
-pub returns-in_ok-decode-in-249-clause-exactly : goal.returns-in_ok-decode-in-249-clause-exactly
-returns-in_ok-decode-in-249-clause-exactly g c =
-    strict.float_exact half (λ (v : Half). v.0) (F16 c.in_ok-decode-in-249.field-0.0)
-    (view-F16 c.in_ok-decode-in-249.field-0.0) c.in_ok-decode-in-249.ensures.moves
-    c.in_ok-decode-in-249.ensures.sound
-
-pub returns-in_err-decode-in-249-clause-exactly : goal.returns-in_err-decode-in-249-clause-exactly
-returns-in_err-decode-in-249-clause-exactly g c =
-    let p = err_from_is_err_and c.from_residual.result c.from_residual.ensures.1 in
-    rw (p.1, p.2) (strict.float_rejects half c.args.first c.in-249.is
-    c.in_err-decode-in-249.ensures.moves c.in_err-decode-in-249.ensures.begins)
-
-pub returns-in_ok-decode-in-250-clause-exactly : goal.returns-in_ok-decode-in-250-clause-exactly
-returns-in_ok-decode-in-250-clause-exactly g c =
-    strict.float_exact single (λ (v : Single). v.0) (F32 c.in_ok-decode-in-250.field-0.0)
-    (view-F32 c.in_ok-decode-in-250.field-0.0) c.in_ok-decode-in-250.ensures.moves
-    c.in_ok-decode-in-250.ensures.sound
-
-pub returns-in_err-decode-in-250-clause-exactly : goal.returns-in_err-decode-in-250-clause-exactly
-returns-in_err-decode-in-250-clause-exactly g c =
-    let p = err_from_is_err_and c.from_residual-in_err-decode-in-250.result
-    c.from_residual-in_err-decode-in-250.ensures.1 in
-    rw (p.1, p.2) (strict.float_rejects single c.args.first c.in-250.is
-    c.in_err-decode-in-250.ensures.moves c.in_err-decode-in-250.ensures.begins)
-
-pub returns-in_ok-decode-in-251-clause-exactly : goal.returns-in_ok-decode-in-251-clause-exactly
-returns-in_ok-decode-in-251-clause-exactly g c =
-    strict.float_exact double (λ (v : Double). v.0) (F64 c.in_ok-decode-in-251.field-0.0)
-    (view-F64 c.in_ok-decode-in-251.field-0.0) c.in_ok-decode-in-251.ensures.moves
-    c.in_ok-decode-in-251.ensures.sound
-
-pub returns-in_err-decode-in-251-clause-exactly : goal.returns-in_err-decode-in-251-clause-exactly
-returns-in_err-decode-in-251-clause-exactly g c =
-    let p = err_from_is_err_and c.from_residual-in_err-decode-in-251.result
-    c.from_residual-in_err-decode-in-251.ensures.1 in
-    rw (p.1, p.2) (strict.float_rejects double c.args.first c.in-251.is
-    c.in_err-decode-in-251.ensures.moves c.in_err-decode-in-251.ensures.begins)
-
-pub returns-in_default-clause-exactly : goal.returns-in_default-clause-exactly
-returns-in_default-clause-exactly g c =
-    strict.no_value c.args.first c.requires.major (Fits-lt-pow {w = w8} c.ranges.first)
-    c.requires.other (λ h. omega (arith, h)) (λ h. omega (arith, h))
-    (λ h. omega (arith, h)) refl refl refl
 
 pub returns-in_err-decode-in-249-clause-item : goal.returns-in_err-decode-in-249-clause-item
 returns-in_err-decode-in-249-clause-item g c =

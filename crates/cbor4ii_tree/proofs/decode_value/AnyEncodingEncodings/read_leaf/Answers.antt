@@ -1,4 +1,5 @@
-use Rattle.std.proofs.Common.{◌/◌, ◌≡◌, arith, refl}
+use Rattle.std.proofs.Common.{false}
+use Rattle.std.proofs.Common.{◌/◌, ◌≡◌, arith, refl, drop}
 use Rattle.std.proofs.lemmas.Result.{err_from_is_err_and}
 use Rattle.cbor4ii_items.specs.Initial.{unsigned, negative, byte_string, text_string}
 use Rattle.cbor4ii_items.specs.Numbers.{ReadsUnsigned, RejectsUnsigned, ReadsNegative}
@@ -8,18 +9,20 @@ use Rattle.cbor4ii_items.specs.Strings.{bytes_content}
 use Rattle.cbor4ii_items.specs.Strings.{text_content}
 use Rattle.cbor4ii_tree.specs.InputError.{sign_name, kind_name}
 use Rattle.cbor4ii_tree.specs.declared.value.Value.{Bytes, Text}
-use Rattle.cbor4ii_tree.proofs.values.Calls.{unsigned_reads, int_rejects}
+use Rattle.cbor4ii_tree.proofs.values.Calls.{int_rejects}
 use Rattle.cbor4ii_tree.proofs.values.Heads.{leaf_read, leaf_rejected, negative_reads}
+use Rattle.cbor4ii_tree.proofs.values.Heads.{unsigned_reads, head_at}
 use Rattle.cbor4ii_tree.proofs.values.Strings.{string_rejects, text_rejects, bytes_reads}
 use Rattle.cbor4ii_tree.proofs.values.Strings.{text_reads}
 use Rattle.cbor4ii_tree.proofs.values.Items.{text_encoding}
-use Rattle.cbor4ii_tree.proofs.decode_value.read_leaf.Goals as goal
+use Rattle.cbor4ii_tree.proofs.decode_value.AnyEncodingEncodings.read_leaf.Goals as goal
 
 pub returns-in_err-decode-in-0-clause-does : goal.returns-in_err-decode-in-0-clause-does
 returns-in_err-decode-in-0-clause-does g c =
     let p = err_from_is_err_and c.from_residual.result c.from_residual.ensures.1 in
     rw (p.1, p.2)
-    (leaf_rejected c.args.first (RejectsUnsigned (sign_name unsigned) 8) (λ bs z rest h. int_rejects
+    (leaf_rejected false c.args.first (RejectsUnsigned (sign_name unsigned) 8)
+    (λ bs z rest h. int_rejects
     (g.S.Source.view c.args.reader.now).budget unsigned c.args.first bs z rest c.in-0.is h)
     c.in_err-decode-in-0.ensures.moves c.in_err-decode-in-0.ensures.begins)
 
@@ -28,7 +31,8 @@ returns-in_err-number-in-1-clause-does g c =
     let p = err_from_is_err_and c.from_residual-in_err-number-in-1.result
     c.from_residual-in_err-number-in-1.ensures.1 in
     rw (p.1, p.2)
-    (leaf_rejected c.args.first (RejectsNegative (sign_name negative) 8) (λ bs z rest h. int_rejects
+    (leaf_rejected false c.args.first (RejectsNegative (sign_name negative) 8)
+    (λ bs z rest h. int_rejects
     (g.S.Source.view c.args.reader.now).budget negative c.args.first bs z rest c.in-1.is h)
     c.in_err-number-in-1.ensures.moves c.in_err-number-in-1.ensures.begins)
 
@@ -36,7 +40,7 @@ pub returns-in_err-decode-in-2-clause-does : goal.returns-in_err-decode-in-2-cla
 returns-in_err-decode-in-2-clause-does g c =
     let p = err_from_is_err_and c.from_residual-in_err-decode-in-2.result
     c.from_residual-in_err-decode-in-2.ensures.1 in
-    rw (p.1, p.2) (leaf_rejected c.args.first (RejectsString (kind_name byte_string) 2)
+    rw (p.1, p.2) (leaf_rejected false c.args.first (RejectsString (kind_name byte_string) 2)
     (λ bs z rest h. string_rejects (g.S.Source.view c.args.reader.now).budget byte_string
     c.args.first bs z rest c.in-2.is h) c.in_err-decode-in-2.ensures.moves
     c.in_err-decode-in-2.ensures.begins)
@@ -46,32 +50,35 @@ returns-in_err-decode-in_default-clause-does g c =
     let p = err_from_is_err_and c.from_residual-in_err-decode-in_default.result
     c.from_residual-in_err-decode-in_default.ensures.1 in
     let major : c.args.first / 32 ≡ 3 = omega (arith, c.requires.major, c.in_default) in
-    rw (p.1, p.2) (leaf_rejected c.args.first (RejectsText (kind_name text_string))
+    rw (p.1, p.2) (leaf_rejected false c.args.first (RejectsText (kind_name text_string))
     (λ bs z rest h. text_rejects (g.S.Source.view c.args.reader.now).budget c.args.first bs z
     rest major h) c.in_err-decode-in_default.ensures.moves
     c.in_err-decode-in_default.ensures.begins)
 
 pub returns-in_ok-decode-in-0-clause-does : goal.returns-in_ok-decode-in-0-clause-does
 returns-in_ok-decode-in-0-clause-does g c =
-    leaf_read (ReadsUnsigned 8) _ (λ xs n k _ r. unsigned_reads
-    (g.S.Source.view c.args.reader.now).budget c.in_ok-decode-in-0.field-0 n k xs r)
+    leaf_read false (ReadsUnsigned 8) _ (λ xs n k _ r. unsigned_reads false
+    (g.S.Source.view c.args.reader.now).budget c.in_ok-decode-in-0.field-0 xs (drop n xs)
+    (head_at false 0 c.in_ok-decode-in-0.field-0 xs n r.0 (λ e. cc)))
     c.in_ok-decode-in-0.ensures.moves c.in_ok-decode-in-0.ensures.sound
 
 pub returns-in_ok-number-in-1-clause-does : goal.returns-in_ok-number-in-1-clause-does
 returns-in_ok-number-in-1-clause-does g c =
-    leaf_read (ReadsNegative 8) _ (λ xs n k _ r. negative_reads
-    (g.S.Source.view c.args.reader.now).budget c.in_ok-number-in-1.number.0 n k xs r)
+    leaf_read false (ReadsNegative 8) _ (λ xs n k _ r. negative_reads false
+    (g.S.Source.view c.args.reader.now).budget c.in_ok-number-in-1.number.0 xs (drop n xs)
+    (head_at false 1 c.in_ok-number-in-1.number.0 xs n r.0 (λ e. cc)))
     c.in_ok-number-in-1.ensures.moves c.in_ok-number-in-1.ensures.sound
 
 pub returns-in_ok-decode-in-2-clause-does : goal.returns-in_ok-decode-in-2-clause-does
 returns-in_ok-decode-in-2-clause-does g c =
-    leaf_read (ReadsAs 2 bytes_content) (Bytes c.in_ok-decode-in-2.field-0.0) (λ xs n k fits r.
+    leaf_read false (ReadsAs 2 bytes_content) (Bytes c.in_ok-decode-in-2.field-0.0)
+    (λ xs n k fits r.
     bytes_reads (g.S.Source.view c.args.reader.now).budget c.in_ok-decode-in-2.field-0.0 xs
     n k fits r) c.in_ok-decode-in-2.ensures.moves c.in_ok-decode-in-2.ensures.sound
 
 pub returns-in_ok-decode-in_default-clause-does : goal.returns-in_ok-decode-in_default-clause-does
 returns-in_ok-decode-in_default-clause-does g c =
-    leaf_read (ReadsTextAs text_content) (Text c.in_ok-decode-in_default.field-0)
+    leaf_read false (ReadsTextAs text_content) (Text c.in_ok-decode-in_default.field-0)
     (λ xs n k fits r. text_reads (g.S.Source.view c.args.reader.now).budget
     c.in_ok-decode-in_default.field-0 xs n k fits r.0 r.1)
     c.in_ok-decode-in_default.ensures.moves c.in_ok-decode-in_default.ensures.sound

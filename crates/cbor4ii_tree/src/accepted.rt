@@ -1,0 +1,75 @@
+//! Which encodings of a value are read: each, or the canonical one alone.
+//!
+//! Reading is written once over these two. What they differ in does not lead back to reading a
+//! value, so that the calls that do stay one cycle.
+ghost use Rattle.std.specs.Prelude.{◌≡◌, ◌≢◌, ◌+◌, ◌≤◌, ◌/◌, ◌⊎◌, Bool, OnOk, OnSome, IfOk};
+ghost use Rattle.std.specs.Prelude.{true, false};
+ghost use Rattle.cbor4ii_items.specs.Head.{byte_count, shortest};
+ghost use Rattle.cbor4ii_items.specs.Initial.{simple_byte, simple_undefined};
+ghost use Rattle.cbor4ii_tree.specs.Does.{DoesUnder, answered};
+ghost use Rattle.cbor4ii_tree.specs.Item.{IsItem};
+ghost use Rattle.cbor4ii_tree.specs.Leaf.{DoesAfterFirst};
+ghost use Rattle.cbor4ii_tree.specs.Valuing.{ReadsUnder, RejectsFirst, RejectsMajor, RejectsOf};
+ghost use Rattle.cbor4ii_tree.specs.Valuing.{TakesLength, TakesTag};
+ghost use Rattle.cbor4ii_tree.specs.View.{view};
+
+use crate::value::Value;
+use cbor4ii_rw::error::DecodeError;
+use cbor4ii_rw::read::Source;
+use std::alloc::Global;
+
+/// The encodings of a value that are read.
+pub(crate) trait Encodings {
+    // Each value is read from its canonical encoding alone.
+    ghost exact: { Bool };
+
+    /// Whether the argument of a head may have so many bytes after the first one.
+    fn accepts_head(argument: u64, size: usize) -> bool
+        ensures { result ≡ true → exact ≡ true → size ≡ byte_count (shortest argument) };
+
+    /// Whether this byte of major type 7 may begin a value. Else it is undefined, which is not
+    /// canonical.
+    fn accepts_simple(first: u8) -> bool
+        ensures accepted { result ≡ true → exact ≡ true → first ≢ simple_byte simple_undefined }
+        ensures rejected { result ≡ false →
+            (exact ≡ true) × (first ≡ simple_byte simple_undefined) };
+
+    /// Takes the head of an array or a map, which no look has shown whole, and answers how many
+    /// parts are to follow, none where its length is indefinite.
+    fn take_length<S: Source>(
+        reader: &mut S,
+        major: u8,
+        first: u8,
+        failure: &mut Option<DecodeError<S::Error>>,
+    ) -> Option<Option<usize>>
+        requires shown { 1 ≤ (S.view reader.old).advanceable }
+        requires major { first / 32 ≡ major }
+        requires nests { (major ≡ 4) ⊎ (major ≡ 5) }
+        ensures does { DoesAfterFirst first (TakesLength exact major) (RejectsMajor exact major)
+            (S.view reader.old) (S.view reader.new) (answered result failure.new) }
+        ensures progress { OnSome result
+            ((S.view reader.new).bound + 1 ≤ (S.view reader.old).bound) };
+
+    /// Takes the head of a tag, which no look has shown whole, and answers its number.
+    fn take_tag<S: Source>(
+        reader: &mut S,
+        failure: &mut Option<DecodeError<S::Error>>,
+    ) -> Option<u64>
+        ensures does { DoesUnder (TakesTag exact) (RejectsOf exact 6)
+            (S.view reader.old) (S.view reader.new) (answered result failure.new) }
+        ensures progress { OnSome result
+            ((S.view reader.new).bound + 1 ≤ (S.view reader.old).bound) };
+
+    /// Reads an integer or a string, whose first byte is shown.
+    fn read_leaf<S: Source>(
+        alloc: Global,
+        reader: &mut S,
+        first: u8,
+    ) -> Result<Value, DecodeError<S::Error>>
+        requires major { first / 32 ≤ 3 }
+        ensures does { DoesUnder (ReadsUnder exact) (RejectsFirst exact first)
+            (S.view reader.old) (S.view reader.new) result }
+        ensures item { IfOk result (λ v. IsItem (view v)) }
+        ensures progress { OnOk result
+            ((S.view reader.new).bound + 1 ≤ (S.view reader.old).bound) };
+}
