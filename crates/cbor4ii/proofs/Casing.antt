@@ -1,7 +1,7 @@
 -- A variant: its form, its name, and what it holds.
-use Rattle.std.proofs.Common.{◌≡◌, ◌≢◌, ◌-◌, ◌+◌, ◌≤◌, ◌<◌, inl, inr, ℕ, List, drop, take}
-use Rattle.std.proofs.Common.{length, get_or, Bool, true, false, Result, Ok, Err, refl, sym}
-use Rattle.std.proofs.Common.{ap, subst, Option, arith}
+use Rattle.std.proofs.Common.{◌≡◌, ◌≢◌, ◌+◌, inl, inr, ℕ, zero, suc, List, [], ◌∷◌, drop}
+use Rattle.std.proofs.Common.{Bool, true, false, Result, Ok, Err, refl}
+use Rattle.std.proofs.Common.{subst, Option, arith}
 use Rattle.std.specs.Prelude.{◌&&◌, not}
 use denote.Ref.{Bor}
 use Rattle.cbor4ii_rw.specs.View.{View}
@@ -18,10 +18,10 @@ use Rattle.cbor4ii.specs.declared.serde.de.cases.Choice.TheVariants.{First, Othe
 use Rattle.cbor4ii.specs.Cases.{Cases, Holding, reads_by, holding_format, case_format, case}
 use Rattle.cbor4ii.specs.Cases.{held_case, unnamed_case, cases_by, first_all}
 use Rattle.cbor4ii.specs.Cases.{other_all, reads_named, named_format, inside_format, form_one}
+use Rattle.cbor4ii.specs.Names.{StandsAt, IsFirst, IsAfter}
 use Rattle.cbor4ii.specs.Typed.{Promise, Deserializes}
 use Rattle.cbor4ii.specs.TypedParts.{part_of}
 use Rattle.cbor4ii.specs.Variants.{form_format}
-use Rattle.cbor4ii.proofs.Names.{names_split, names_none}
 use Rattle.cbor4ii.proofs.Promised.{tell}
 
 -- ---- what one variant holds
@@ -276,27 +276,58 @@ module _ {V E : Type 0} (cases : Cases V) {a m : View} where
 
 -- ---- by the names
 
-module _ {A B E : Type 0} (h : Holding A) (others : List (Bor (List ℕ)) → Cases B)
-    (names : List (Bor (List ℕ))) (form : Bool × ℕ) (name : List ℕ) {a b : View}
-    {r : Result (Choice A B) (DecodeError E)} where
-  pub cases_first : (d : Bor (List ℕ)) → 1 ≤ length names
-      → DecodesIf (h.exact && (others (take (length names - 1) (drop 1 names))).exact)
-      (case_format (case (get_or names 0 d).now h
-      (others (take (length names - 1) (drop 1 names)))) form name) a b r
-      → DecodesIf (cases_by h others names).exact
-      (case_format (cases_by h others names) form name) a b r
-  cases_first d some =
-      subst (λ (cases : Cases (Choice A B)). DecodesIf cases.exact (case_format cases form name) a
-      b r) (ap (cases_by h others) (sym (names_split names d some)))
+-- what is read of the first variant, and of one after it, as one of them all
+abbrev pub as_first : {A B E : Type 0} → Result A (DecodeError E)
+    → Result (Choice A B) (DecodeError E)
+as_first (Ok v) = Ok (First v)
+as_first (Err e) = Err e
 
-  pub cases_none : length names < 1
-      → DecodesIf (h.exact && (others names).exact)
-      (case_format (unnamed_case h (others names)) form name) a b r
+abbrev pub as_other : {A B E : Type 0} → Result B (DecodeError E)
+    → Result (Choice A B) (DecodeError E)
+as_other (Ok v) = Ok (Other v)
+as_other (Err e) = Err e
+
+module _ {A B E : Type 0} (h : Holding A) (others : List (Bor (List ℕ)) → Cases B)
+    (form : Bool × ℕ) (name : List ℕ) {a b : View} where
+  pub first_then : (names : List (Bor (List ℕ))) (at : ℕ) → IsFirst names at
+      → StandsAt name names at → (r : Result A (DecodeError E))
+      → DecodesIf h.exact (holding_format h form) a b r
       → DecodesIf (cases_by h others names).exact
-      (case_format (cases_by h others names) form name) a b r
-  cases_none less =
-      subst (λ (zs : List (Bor (List ℕ))). DecodesIf (h.exact && (others zs).exact)
-      (case_format (unnamed_case h (others zs)) form name) a b r
-      → DecodesIf (cases_by h others zs).exact (case_format (cases_by h others zs) form name) a b
-      r)
-      (sym (names_none names less)) (λ d. d)
+      (case_format (cases_by h others names) form name) a b (as_first r)
+  first_then [] at first which r d = absurd first
+  first_then (own ∷ names) (suc at) first which r d = absurd first
+  first_then (own ∷ names) zero first which (Ok v) d =
+      first_ok own.now h (others names) form which d
+  first_then (own ∷ names) zero first which (Err e) d =
+      first_err own.now h (others names) form which d
+
+  moved : (names trailing : List (Bor (List ℕ))) (at next : ℕ) → trailing ≡ names → next ≡ at
+      → (r : Result B (DecodeError E))
+      → (StandsAt name trailing next
+      → DecodesIf (others trailing).exact (case_format (others trailing) form name) a b r)
+      → StandsAt name names at
+      → DecodesIf (others names).exact (case_format (others names) form name) a b r
+  moved names trailing at next same place r d =
+      subst (λ zs. StandsAt name zs at → DecodesIf (others zs).exact
+      (case_format (others zs) form name) a b r) same
+      (subst (λ k. StandsAt name trailing k → DecodesIf (others trailing).exact
+      (case_format (others trailing) form name) a b r) place d)
+
+  pub other_then : (names : List (Bor (List ℕ))) (at : ℕ) (trailing : List (Bor (List ℕ)))
+      (next : ℕ) → IsAfter names at trailing next → StandsAt name names at
+      → (r : Result B (DecodeError E))
+      → (StandsAt name trailing next
+      → DecodesIf (others trailing).exact (case_format (others trailing) form name) a b r)
+      → DecodesIf (cases_by h others names).exact
+      (case_format (cases_by h others names) form name) a b (as_other r)
+  other_then [] at trailing next after which (Ok v) d =
+      unnamed_ok h (others []) name form (moved [] trailing at next after.0 after.1 (Ok v) d tt)
+  other_then [] at trailing next after which (Err e) d =
+      unnamed_err h (others []) name form (moved [] trailing at next after.0 after.1 (Err e) d tt)
+  other_then (own ∷ names) zero trailing next after which r d = absurd after
+  other_then (own ∷ names) (suc at) trailing next after which (Ok v) d =
+      other_ok own.now h (others names) form which.0
+      (moved names trailing at next after.0 after.1 (Ok v) d which.1)
+  other_then (own ∷ names) (suc at) trailing next after which (Err e) d =
+      other_err own.now h (others names) form which.0
+      (moved names trailing at next after.0 after.1 (Err e) d which.1)

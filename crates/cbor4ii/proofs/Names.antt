@@ -1,12 +1,14 @@
 -- Names of fields, found among some names and taken.
 use Rattle.std.proofs.Common.{◌-◌, ◌≡◌, ◌≢◌, inl, ℕ, zero, suc, ◌+◌, ◌<◌, ◌≤◌, ◌/◌, ◌%◌, List, []}
 use Rattle.std.proofs.Common.{◌∷◌, length, take, drop, get_or, slice_index_or, Result, Ok, Err}
-use Rattle.std.proofs.Common.{Bool, true, false, ltb, ltb-true, ltb-false, refl, sym, ap, ◌∙◌}
-use Rattle.std.proofs.Common.{subst, arith}
+use Rattle.std.proofs.Common.{Bool, true, false, ltb, ltb-true, ltb-false, refl, sym, ap, ap₂, ◌∙◌}
+use Rattle.std.proofs.Common.{subst, arith, ◌++◌, ◌^◌}
 use Rattle.std.proofs.Math.Seq.{take-length}
-use Rattle.std.proofs.lemmas.List.{length-take-le}
+use Rattle.std.proofs.Math.Seq.{take-append_seam}
+use Rattle.std.proofs.lemmas.List.{length-take-le, take-append-drop, append_assoc}
+use Rattle.std.proofs.lemmas.Option.{IfSome_then}
 use Rattle.std.proofs.lemmas.Str.{IsUtf8-string_bytes}
-use Rattle.std.specs.Prelude.{IsUtf8}
+use Rattle.std.specs.Prelude.{IsUtf8, IfSome, Option}
 use Rattle.std.specs.declared.alloc.Global.{Global}
 use Rattle.std.specs.declared.string.String.{String}
 use denote.Ref.{Bor}
@@ -15,7 +17,9 @@ use Rattle.cbor4ii_rw.specs.Reader.{Shows, Advances, IsPrefix}
 use Rattle.cbor4ii_rw.specs.declared.error.DecodeError.{DecodeError}
 use Rattle.cbor4ii_items.specs.Decoding.{Decodes}
 use Rattle.cbor4ii_items.specs.Budget.{CostFits}
-use Rattle.cbor4ii_items.specs.Head.{in_first}
+use Rattle.cbor4ii_items.specs.Head.{Width, in_first, one, two, four, eight, head, byte_count}
+use Rattle.cbor4ii_items.specs.Head.{HeadFits}
+use Rattle.cbor4ii_items.specs.Heads.{ReadsHead}
 use Rattle.cbor4ii_items.specs.Lent.{Stays}
 use Rattle.cbor4ii_items.specs.Strings.{ReadsDefiniteString, text_content}
 use Rattle.cbor4ii_items.specs.Laws.Answering.{fits_zero}
@@ -23,7 +27,8 @@ use Rattle.cbor4ii_items.specs.Laws.Calls.{ok, err_after, of_exact, exactly}
 use Rattle.cbor4ii_items.specs.Laws.Contents.{lends_prefix, first_bytes}
 use Rattle.cbor4ii_items.specs.Laws.Steps.{kept_then}
 use Rattle.cbor4ii.specs.Fields.{name_format}
-use Rattle.cbor4ii.specs.Names.{StandsAt, IsWholeName, NameAt, TakesName}
+use Rattle.cbor4ii_items.specs.Laws.Heads.{after_head}
+use Rattle.cbor4ii.specs.Names.{StandsAt, StandsAfter, IsWholeName, NameAt, TakesName}
 use Rattle.cbor4ii.specs.ReadBack.{text_of}
 
 -- ---- the place
@@ -120,68 +125,121 @@ is_after name (own ∷ names) (suc at) d some more h =
 
 -- ---- a name that stands whole in what is shown
 
+pub stands_after : (names : List (Bor (List ℕ))) (shown : List ℕ) (before size k at : ℕ)
+    → before + size ≤ length shown → StandsAt (take k (drop before shown)) names at → k ≡ size
+    → IsUtf8 (take k (drop before shown)) → StandsAfter names shown before size at (before + size)
+stands_after names shown before size k at within which same utf8 = record {
+  whole = refl;
+  within = within;
+  utf8 = subst (λ j. IsUtf8 (take j (drop before shown))) same utf8;
+  which = subst (λ j. StandsAt (take j (drop before shown)) names at) same which;
+}
+
 first_of : (b size : ℕ) → b / 32 ≡ 3 → size ≡ b % 32 → b ≡ 0x60 + size
 first_of b size high low = omega (arith, high, low)
 
-whole_by : (names : List (Bor (List ℕ))) (shown : List ℕ) (at size : ℕ) → 1 ≤ length shown
+short_by : (names : List (Bor (List ℕ))) (shown : List ℕ) (at size n : ℕ) → 1 ≤ length shown
     → slice_index_or shown 0 0 / 32 ≡ 3 → size ≡ slice_index_or shown 0 0 % 32 → size ≤ 23
-    → size ≤ length shown - 1 → IsUtf8 (take size (drop 1 shown))
-    → StandsAt (take size (drop 1 shown)) names at → ((i : ℕ) → get_or shown i 0 < 256)
-    → IsWholeName names shown at (1 + size)
-whole_by names [] at size some high low few room utf8 which bytes = absurd (omega (arith, some))
-whole_by names (b ∷ bs) at size some high low few room utf8 which bytes =
-    let long : length (take size bs) ≡ size = length-take-le size bs (omega (arith, room)) in
-    let e : suc size ≡ 1 + size = omega arith in
-    subst (IsWholeName names (b ∷ bs) at) e (record {
-      name = take size bs;
-      few = omega (arith, long, few);
-      utf8 = utf8;
-      size = omega (arith, long);
-      within = omega (arith, room, some);
-      stands =
-          ap (λ z. z ∷ take size bs) (first_of b size high low ∙ ap (λ k. 0x60 + k) (sym long));
-      bytes = first_bytes (suc size) (b ∷ bs) bytes;
-      which = which;
-    })
-
-pub whole : (names : List (Bor (List ℕ))) (shown : List ℕ) (at size k : ℕ) → 1 ≤ length shown
-    → slice_index_or shown 0 0 / 32 ≡ 3 → size ≡ slice_index_or shown 0 0 % 32 → size ≤ 23
-    → size ≤ length shown - 1 → ((i : ℕ) → get_or shown i 0 < 256)
-    → StandsAt (take k (drop 1 shown)) names at → k ≡ size → IsUtf8 (take k (drop 1 shown))
-    → IsWholeName names shown at (1 + size)
-whole names shown at size k some high low few room bytes which same utf8 =
-    whole_by names shown at size some high low few room
-    (subst (λ j. IsUtf8 (take j (drop 1 shown))) same utf8)
-    (subst (λ j. StandsAt (take j (drop 1 shown)) names at) same which) bytes
-
--- the bytes begin with it
-named_by : (xs name : List ℕ) → length name ≤ 23
-    → take (suc (length name)) xs ≡ (0x60 + length name) ∷ name
-    → ReadsDefiniteString 3 xs name (1 + length name)
-named_by [] name few e = cc
-named_by (x ∷ xs) name few e =
-    let first : x ≡ 0x60 + length name = cc in
-    let rest : take (length name) xs ≡ name = cc in
+    → ((i : ℕ) → get_or shown i 0 < 256) → StandsAfter names shown 1 size at n
+    → IsWholeName names shown at n
+short_by names [] at size n some high low few bytes s = absurd (omega (arith, some))
+short_by names (b ∷ bs) at size n some high low few bytes s =
+    let long : length (take size bs) ≡ size =
+    length-take-le size bs (omega (arith, s.whole, s.within)) in
+    let e : n ≡ suc size = omega (arith, s.whole) in
     record {
-      before = 1;
-      head = record {
-        wide = in_first;
-        allowed = omega arith;
-        fits = few;
-        rest = xs;
-        is = ap (λ z. z ∷ xs) first;
-        count = refl;
-      };
-      stands = rest;
-      size = refl;
+      name = take size bs;
+      width = in_first;
+      short = omega arith;
+      fits = omega (arith, long, few);
+      utf8 = s.utf8;
+      size = omega (arith, e, long);
+      within = s.within;
+      stands =
+          ap (λ j. take j (b ∷ bs)) e
+          ∙ ap (λ z. z ∷ take size bs) (first_of b size high low ∙ ap (λ k. 0x60 + k) (sym long));
+      bytes = first_bytes n (b ∷ bs) bytes;
+      which = s.which;
     }
 
-definite_name : (xs name : List ℕ) (n : ℕ) → length name ≤ 23 → n ≡ 1 + length name
-    → take n xs ≡ (0x60 + length name) ∷ name → ReadsDefiniteString 3 xs name n
-definite_name xs name n few size stands =
-    let e : n ≡ suc (length name) = omega (arith, size) in
-    subst (ReadsDefiniteString 3 xs name) (sym size)
-    (named_by xs name few (ap (λ k. take k xs) (sym e) ∙ stands))
+-- after a head of one byte
+pub short_name : (names : List (Bor (List ℕ))) (shown : List ℕ) (size : ℕ) (r : Option (ℕ × ℕ))
+    → 1 ≤ length shown → slice_index_or shown 0 0 / 32 ≡ 3
+    → size ≡ slice_index_or shown 0 0 % 32 → size ≤ 23 → ((i : ℕ) → get_or shown i 0 < 256)
+    → IfSome r (λ f. StandsAfter names shown 1 size f.0 f.1)
+    → IfSome r (λ f. IsWholeName names shown f.0 f.1)
+short_name names shown size r some high low few bytes s =
+    IfSome_then r s (λ f h. short_by names shown f.0 size f.1 some high low few bytes h)
+
+lowest : (v : ℕ) → v < 256 → v ≡ v % 256
+lowest v small = omega (arith, small)
+
+long_by : (names : List (Bor (List ℕ))) (shown : List ℕ) (at n : ℕ) → 2 ≤ length shown
+    → slice_index_or shown 0 0 ≡ 0x78 → ((i : ℕ) → get_or shown i 0 < 256)
+    → StandsAfter names shown 2 (slice_index_or shown 1 0) at n → IsWholeName names shown at n
+long_by names [] at n some first bytes s = absurd (omega (arith, some))
+long_by names (b ∷ []) at n some first bytes s = absurd (omega (arith, some))
+long_by names (b ∷ size ∷ bs) at n some first bytes s =
+    let long : length (take size bs) ≡ size =
+    length-take-le size bs (omega (arith, s.whole, s.within)) in
+    let e : n ≡ suc (suc size) = omega (arith, s.whole) in
+    let small : size < 256 = bytes 1 in
+    record {
+      name = take size bs;
+      width = one;
+      short = omega arith;
+      fits = omega (arith, long, small);
+      utf8 = s.utf8;
+      size = omega (arith, e, long);
+      within = s.within;
+      stands =
+          ap (λ j. take j (b ∷ size ∷ bs)) e
+          ∙ ap₂ (λ x y. x ∷ y ∷ take size bs) first
+          (lowest size small ∙ ap (λ k. k % 256) (sym long));
+      bytes = first_bytes n (b ∷ size ∷ bs) bytes;
+      which = s.which;
+    }
+
+-- after a head of two bytes
+pub long_name : (names : List (Bor (List ℕ))) (shown : List ℕ) (r : Option (ℕ × ℕ))
+    → 2 ≤ length shown → slice_index_or shown 0 0 ≡ 0x78
+    → ((i : ℕ) → get_or shown i 0 < 256)
+    → IfSome r (λ f. StandsAfter names shown 2 (slice_index_or shown 1 0) f.0 f.1)
+    → IfSome r (λ f. IsWholeName names shown f.0 f.1)
+long_name names shown r some first bytes s =
+    IfSome_then r s (λ f h. long_by names shown f.0 f.1 some first bytes h)
+
+-- the bytes begin with it
+definite_name : (xs name : List ℕ) (w : Width) (n : ℕ) → byte_count w ≤ 1
+    → HeadFits w (length name) → n ≡ 1 + byte_count w + length name
+    → take n xs ≡ head 3 (length name) w ++ name → ReadsDefiniteString 3 xs name n
+definite_name xs name w n short fits size stands =
+    let is : xs ≡ head 3 (length name) w ++ (name ++ drop n xs) =
+    sym (take-append-drop n xs) ∙ ap (λ zs. zs ++ drop n xs) stands
+    ∙ append_assoc (head 3 (length name) w) name (drop n xs) in
+    let h : ReadsHead 3 8 xs (length name) (suc (byte_count w)) = record {
+      wide = w;
+      allowed = omega (arith, short);
+      fits = fits;
+      rest = name ++ drop n xs;
+      is = is;
+      count = refl;
+    } in
+    record {
+      before = suc (byte_count w);
+      head = h;
+      stands =
+          ap (take (length name)) (after_head 3 8 xs (length name) (suc (byte_count w)) h)
+          ∙ take-append_seam name (drop n xs);
+      size = omega (arith, size);
+    }
+
+small_name : (w : Width) (v : ℕ) → byte_count w ≤ 1 → HeadFits w v → v < 2 ^ 63
+small_name in_first v short fits = omega (arith, fits)
+small_name one v short fits = omega (arith, fits)
+small_name two v short fits = absurd (omega (arith, short))
+small_name four v short fits = absurd (omega (arith, short))
+small_name eight v short fits = absurd (omega (arith, short))
 
 pub takes_shown : {names : List (Bor (List ℕ))} {shown : List ℕ} {at n want : ℕ} {a m b : View}
     → Shows shown a m → IfKnown a.known (IsPrefix want shown) → IsWholeName names shown at n
@@ -190,7 +248,7 @@ takes_shown {n = n} {a = a} s prefix w adv =
     let l = lends_prefix s prefix w.within w.bytes refl adv in
     record {
       name = w.name;
-      is = (w.utf8, omega (arith, w.few));
+      is = (w.utf8, small_name w.width (length w.name) w.short w.fits);
       kept = l.kept;
       progress = omega (arith, w.size, adv.bound, s.bound);
       read = record {
@@ -198,7 +256,10 @@ takes_shown {n = n} {a = a} s prefix w adv =
           count = n;
           cost = 0;
           read = (
-            inl (definite_name xs w.name n w.few w.size (sym p.2 ∙ w.stands), refl),
+            inl (
+              definite_name xs w.name w.width n w.short w.fits w.size (sym p.2 ∙ w.stands),
+              refl,
+            ),
             w.utf8,
           );
           fits = fits_zero a.budget;

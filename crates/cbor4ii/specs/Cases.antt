@@ -1,7 +1,7 @@
 -- What an enum that is read in one call promises, by what its variants hold.
 use Rattle.std.proofs.Common.{◌≡◌, ◌≢◌, ◌⊎◌, inl, inr, ℕ, List, [], ◌∷◌, drop, length, ◌≤◌}
-use Rattle.std.proofs.Common.{Option, Bool, true, false, IsTrue, refl, sym, subst, ap, ◌∙◌, ◌+◌}
-use Rattle.std.proofs.Common.{arith}
+use Rattle.std.proofs.Common.{Option, Result, Bool, true, false, IsTrue, refl, sym, subst, ap}
+use Rattle.std.proofs.Common.{◌∙◌, ◌+◌, arith}
 use Rattle.std.proofs.lemmas.List.{length-drop}
 use Rattle.std.specs.Prelude.{◌&&◌, codes}
 use denote.Ref.{Bor}
@@ -13,7 +13,9 @@ use Rattle.cbor4ii.specs.declared.serde.de.cases.Choice.{Choice}
 use Rattle.cbor4ii.specs.declared.serde.de.cases.Choice.TheVariants.{First, Other}
 use Rattle.cbor4ii.specs.Fields.{ReadsEntry, RejectsEntry, RejectsNamed, entry_laws, named_part}
 use Rattle.cbor4ii.specs.Fields.{named_entry}
+use Rattle.cbor4ii.specs.Presence.{made_struct}
 use Rattle.cbor4ii.specs.Stepped.{stepped_format, stepped_lawful}
+use Rattle.cbor4ii.specs.Structs.{Fields}
 use Rattle.cbor4ii.specs.Typed.{Promise, Lawful, typed_format, lawful_as, typed_laws, said_by}
 use Rattle.cbor4ii.specs.Typed.{any_two, in_words, not_exact}
 use Rattle.cbor4ii.specs.TypedParts.{container}
@@ -92,6 +94,10 @@ held_case p = record {
   unit_one = λ v w q r. absurd q;
   lawful = λ is. some_laws (typed_laws p is);
 }
+
+-- the values of named fields, of which this becomes
+abbrev pub fields_case : {V W : Type 0} → Fields V → (V → Result W (List ℕ)) → Holding W
+fields_case fields value = held_case (made_struct fields value)
 
 -- ---- all variants
 

@@ -1,6 +1,7 @@
 -- Enums in one word: how their variants are written and read, and that they are read back.
 use Rattle.std.proofs.Common.{◌≡◌, ◌≢◌, ◌+◌, ◌*◌, ◌++◌, ℕ, suc, List, [], ◌∷◌, length, max, Bool}
 use Rattle.std.proofs.Common.{true, false, IsTrue, ◌⊎◌, inl, inr, refl, sym, ap, subst, ltb, arith}
+use Rattle.std.proofs.Common.{ltb-true}
 use Rattle.std.specs.Prelude.{◌&&◌, not, bytes_eq}
 use Rattle.std.specs.declared.alloc.Global.{Global}
 use Rattle.std.proofs.lemmas.List.{append-nil}
@@ -20,6 +21,7 @@ use Rattle.cbor4ii.specs.Cases.{Cases, Holding, case, unit_case, held_case, othe
 use Rattle.cbor4ii.specs.Cases.{reads_named, enum_of}
 use Rattle.cbor4ii.specs.Codec.{Codec, any_value, made_back}
 use Rattle.cbor4ii.specs.CodecFields.{is_apart, is_new, is_name, is_other, are_ascii}
+use Rattle.cbor4ii.specs.CodecFields.{FieldCodecs, values_codec}
 use Rattle.cbor4ii.specs.Fields.{ReadsName}
 use Rattle.cbor4ii.specs.Laws.Backs.{two_back}
 use Rattle.cbor4ii.specs.Laws.StructsBack.{no_dearer}
@@ -154,6 +156,12 @@ module _ {T B : Type 0} (own : List ℕ) (c : Codec T) (others : CaseCodecs B)
     back = held_is_back;
     one = held_is_one;
   }
+
+-- a variant that holds named fields, fewer than 256, and others after it
+abbrev pub variant_of_fields : {V W B : Type 0} (own : List ℕ) (p : FieldCodecs V W)
+    → IsTrue (ltb (length p.names) 256) → (others : CaseCodecs B)
+    → IsTrue (is_new own others.names) → CaseCodecs (Choice W B)
+variant_of_fields own p few = variant own (values_codec p (ltb-true (length p.names) 256 few))
 
 module _ {B : Type 0} (own : List ℕ) (others : CaseCodecs B)
     (new : IsTrue (is_new own others.names)) where

@@ -240,18 +240,34 @@ module _ {V W : Type 0} (p : FieldCodecs V W) (few : length p.names < 256) where
   fields_are_one w h = struct_is_item canonical (fields_of (p.items w))
       (omega (arith, fields_count (p.items w), p.few w, few)) (p.entries w h)
 
+  pub values_are_back : (alloc : Global) (w : W) → p.stands w
+      → IsReadBack (struct_from p.shape).format.reads (struct_encoding (fields_of (p.items w))) w
+      (1 + p.cost w)
+  values_are_back alloc w h =
+      made_back (ReadsFields p.shape.fields.first p.shape.fields.named) (gives_ok p.shape.value)
+      (struct_encoding (fields_of (p.items w))) (p.held w) w (1 + p.cost w) (p.made w)
+      (fields_are_back alloc w h)
+
+  -- the values of the fields, as nested pairs
+  abbrev pub values_codec : Codec W
+  values_codec = record {
+    promise = struct_from p.shape;
+    encoding = λ w. struct_encoding (fields_of (p.items w));
+    stands = p.stands;
+    cost = λ w. 1 + p.cost w;
+    back = values_are_back;
+    one = fields_are_one;
+  }
+
 pub struct_is_back : {R V W : Type 0} (values : R → W) (p : FieldCodecs V W) → length p.names < 256
     → (alloc : Global) (r : R) → p.stands (values r)
     → IsReadBack (made_from (λ (w : W) (r : R). w ≡ values r) (struct_from p.shape)).format.reads
     (struct_encoding (fields_of (p.items (values r)))) r (1 + p.cost (values r))
-struct_is_back {R = R} {V = V} {W = W} values p few alloc r h =
+struct_is_back {R = R} {W = W} values p few alloc r h =
     let w = values r in
-    let encoding = struct_encoding (fields_of (p.items w)) in
-    made_back (struct_from p.shape).format.reads (λ (w : W) (r : R). w ≡ values r) encoding w r
-    (1 + p.cost w) refl
-    (made_back (ReadsFields p.shape.fields.first p.shape.fields.named) (gives_ok p.shape.value)
-    encoding
-    (p.held w) w (1 + p.cost w) (p.made w) (fields_are_back p few alloc w h))
+    made_back (struct_from p.shape).format.reads (λ (w : W) (r : R). w ≡ values r)
+    (struct_encoding (fields_of (p.items w))) w r (1 + p.cost w) refl
+    (values_are_back p few alloc w h)
 
 -- a struct that has these values of its fields, fewer than 256
 abbrev pub struct_codec : {R V W : Type 0} (values : R → W) (p : FieldCodecs V W)

@@ -1,11 +1,12 @@
 -- Names of fields, found among some names.
-use Rattle.std.specs.Prelude.{◌≡◌, ◌≢◌, ℕ, zero, suc, ◌+◌, ◌≤◌, List, [], ◌∷◌, length, take, IsUtf8}
+use Rattle.std.specs.Prelude.{◌≡◌, ◌≢◌, ℕ, zero, suc, ◌+◌, ◌≤◌, ◌++◌, List, [], ◌∷◌, length, take}
+use Rattle.std.specs.Prelude.{drop, IsUtf8}
 use Rattle.std.specs.Prelude.{Option, Some, None, Result, Ok, Err}
 use denote.Ref.{Bor}
 use Rattle.cbor4ii_rw.specs.View.{View}
 use Rattle.cbor4ii_rw.specs.declared.error.DecodeError.{DecodeError}
 use Rattle.cbor4ii_items.specs.Decoding.{Sound, Decodes}
-use Rattle.cbor4ii_items.specs.Head.{IsBytes}
+use Rattle.cbor4ii_items.specs.Head.{IsBytes, Width, HeadFits, head, byte_count}
 use Rattle.cbor4ii_items.specs.Lent.{Stays}
 use Rattle.cbor4ii_items.specs.Moves.{Kept}
 use Rattle.cbor4ii_items.specs.Strings.{ReadsText}
@@ -19,15 +20,42 @@ StandsAt name [] at = Unit {0}
 StandsAt name (own ∷ names) zero = name ≡ own.now
 StandsAt name (own ∷ names) (suc at) = (name ≢ own.now) × StandsAt name names at
 
--- A name stands whole at the front of the bytes, after its length, in so many bytes in all. It has
--- this place among the names.
+-- the first name stands at this place
+abbrev pub IsFirst : List (Bor (List ℕ)) → ℕ → Type 0
+IsFirst [] at = ⊥
+IsFirst (own ∷ names) zero = Unit {0}
+IsFirst (own ∷ names) (suc at) = ⊥
+
+-- after the first name come these, and the place is this one among them; without names both stay
+abbrev pub IsAfter : List (Bor (List ℕ)) → ℕ → List (Bor (List ℕ)) → ℕ → Type 0
+IsAfter [] at trailing next = (trailing ≡ []) × (next ≡ at)
+IsAfter (own ∷ names) zero trailing next = ⊥
+IsAfter (own ∷ names) (suc at) trailing next = (trailing ≡ names) × (next ≡ at)
+
+abbrev pub IsAfterFirst : List (Bor (List ℕ)) → ℕ → Option (Bor (List (Bor (List ℕ))) × ℕ)
+    → Type 0
+IsAfterFirst names at None = IsFirst names at
+IsAfterFirst names at (Some (trailing, next)) = IsAfter names at trailing.now next
+
+-- a name of this size stands after so many bytes, with this place among the names, and ends after n
+pub record StandsAfter (names : List (Bor (List ℕ))) (shown : List ℕ) (before size at n : ℕ)
+    : Type 0 where
+  pub whole : n ≡ before + size
+  pub within : n ≤ length shown
+  pub utf8 : IsUtf8 (take size (drop before shown))
+  pub which : StandsAt (take size (drop before shown)) names at
+
+-- A name stands whole at the start of the bytes, after its length in the first byte or in the next
+-- one, in so many bytes in all. It has this place among the names.
 pub record IsWholeName (names : List (Bor (List ℕ))) (shown : List ℕ) (at n : ℕ) : Type 0 where
   pub name : List ℕ
-  pub few : length name ≤ 23
+  pub width : Width
+  pub short : byte_count width ≤ 1
+  pub fits : HeadFits width (length name)
   pub utf8 : IsUtf8 name
-  pub size : n ≡ 1 + length name
+  pub size : n ≡ 1 + byte_count width + length name
   pub within : n ≤ length shown
-  pub stands : take n shown ≡ (0x60 + length name) ∷ name
+  pub stands : take n shown ≡ head 3 (length name) width ++ name
   pub bytes : IsBytes (take n shown)
   pub which : StandsAt name names at
 

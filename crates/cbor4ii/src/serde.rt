@@ -24,4 +24,5 @@ pub use de::first::{from_reader, from_slice, from_slice_whole};
 pub use de::place::{Place, Single};
 pub use de::presence::{Once, Optional, Or, Presence, Presences, Required};
 pub use de::some_accessor::SomeAccessor;
+pub use de::variant_fields::{FieldWords, HoldsFields};
 pub use described::{Described, described_values_are_read_back};

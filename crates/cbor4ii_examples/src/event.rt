@@ -1,21 +1,22 @@
 //! An enum that is written and read inside other types, as in a vector or a map.
 ghost use Rattle.std.specs.Prelude.{◌≡◌, codes};
 ghost use Rattle.std.proofs.Common.{refl};
-ghost use Rattle.cbor4ii.specs.CodecCases.{enum_codec, unit_variant, variant, no_case};
-ghost use Rattle.cbor4ii.specs.CodecFields.{struct_codec, with_field, no_fields};
-ghost use Rattle.cbor4ii.specs.Fields.{no_values};
+ghost use Rattle.cbor4ii.specs.CodecCases.{enum_codec, unit_variant, variant, variant_of_fields};
+ghost use Rattle.cbor4ii.specs.CodecCases.{no_case};
+ghost use Rattle.cbor4ii.specs.CodecFields.{with_field, no_fields};
 ghost use Rattle.cbor4ii_examples.specs.Event.{choice_of};
 
 use crate::sample::Sample;
 use cbor4ii::serde::Choice::{First, Other};
 use cbor4ii::serde::{
-    Choice, DecodeError, Described, Deserialize, Deserializer, EncodeError, Holds, Otherwise,
-    Required, Serialize, Serializer, Typed, Unit,
+    Choice, DecodeError, Described, Deserialize, Deserializer, EncodeError, FieldWords, Holds,
+    HoldsFields, Otherwise, Required, Serialize, Serializer, Typed, Unit,
 };
 use cbor4ii_rw::error::{Never, StaticStr};
 use cbor4ii_rw::read::Source;
 use cbor4ii_rw::write::Write;
 use std::alloc::Global;
+use std::marker::PhantomData;
 
 /// What happened at a station.
 #[derive(Debug, PartialEq, Eq, Drop)]
@@ -37,9 +38,7 @@ impl Serialize for Event {
     fn serialize<W: Write>(&self, ser: &mut Serializer<W>) -> Result<(), EncodeError<W::Error>> {
         match self {
             Event::Started => ser.serialize_unit_variant("Event", 0, "Started"),
-            Event::Sampled(sample) => {
-                ser.serialize_newtype_variant("Event", 1, "Sampled", sample)
-            }
+            Event::Sampled(sample) => ser.serialize_newtype_variant("Event", 1, "Sampled", sample),
             Event::Moved(east, north) => {
                 ser.serialize_newtype_variant("Event", 2, "Moved", &(*east, *north))
             }
@@ -57,12 +56,15 @@ impl<S: Source> Deserialize<S> for Event {
         alloc: Global,
         de: &mut Deserializer<S>,
     ) -> Result<Event, DecodeError<S::Error>> {
-        let cases = (Unit, (Holds, (Holds, (Holds, Otherwise("no such event")))));
-        de.deserialize_variant(alloc, "Event", &EVENTS, cases)
+        let missing = &["a name has no id", "a name has no text"];
+        let words = FieldWords(&["id", "name"], missing, PhantomData);
+        let presences = (Required, (Required, ()));
+        let named = HoldsFields(words, presences, Otherwise("no such event"));
+        de.deserialize_variant(alloc, "Event", &EVENTS, (Unit, (Holds, (Holds, named))))
     }
 }
 
-type Events = Choice<(), Choice<Sample, Choice<(i32, i32), Choice<Name, Never>>>>;
+type Events = Choice<(), Choice<Sample, Choice<(i32, i32), Choice<(u32, (String, ())), Never>>>>;
 
 impl From<Events> for Event {
     ghost from_gives = { λ c e. c ≡ choice_of e };
@@ -72,7 +74,7 @@ impl From<Events> for Event {
             First(()) => Event::Started,
             Other(First(sample)) => Event::Sampled(sample),
             Other(Other(First((east, north)))) => Event::Moved(east, north),
-            Other(Other(Other(First(Name { id, name })))) => Event::Named { id, name },
+            Other(Other(Other(First((id, (name, ())))))) => Event::Named { id, name },
         }
     }
 }
@@ -85,44 +87,11 @@ impl Described for Event {
     ghost codec = { enum_codec choice_of (unit_variant (codes "Started")
         (variant (codes "Sampled") ⟦<Sample as Described>⟧.codec
         (variant (codes "Moved") ⟦<(i32, i32) as Described>⟧.codec
-        (variant (codes "Named") ⟦<Name as Described>⟧.codec
-        (no_case (codes "no such event")) refl) refl) refl) refl) };
-}
-
-/// What a station is named.
-#[derive(Drop)]
-struct Name {
-    id: u32,
-    name: String,
-}
-
-impl<S: Source> Deserialize<S> for Name {
-    fn deserialize(alloc: Global, de: &mut Deserializer<S>) -> Result<Name, DecodeError<S::Error>> {
-        let missing = ["a name has no id", "a name has no text"];
-        let presences = (Required, (Required, ()));
-        de.deserialize_fields(alloc, "Named", &["id", "name"], &missing, presences)
-    }
-}
-
-impl From<(u32, (String, ()))> for Name {
-    ghost from_gives = { λ values n. values ≡ (n.id, (n.name, no_values)) };
-
-    fn from(values: (u32, (String, ()))) -> Name {
-        let (id, (name, ())) = values;
-        Name { id, name }
-    }
-}
-
-impl Typed for Name {
-    ghost promise = { ⟦<Name as Described>⟧.codec.promise };
-}
-
-impl Described for Name {
-    ghost codec = { struct_codec (λ n. (n.id, (n.name, no_values)))
+        (variant_of_fields (codes "Named")
         (with_field (codes "id") (codes "a name has no id") ⟦<u32 as Described>⟧.codec
         (with_field (codes "name") (codes "a name has no text") ⟦<String as Described>⟧.codec
-        no_fields
-        refl) refl) refl };
+        no_fields refl) refl) refl
+        (no_case (codes "no such event")) refl) refl) refl) refl) };
 }
 
 #[cfg(test)]

@@ -5,7 +5,7 @@ use cbor4ii::serde::{DecodeError, Deserializer};
 use cbor4ii::types::F64;
 use cbor4ii_rw::read::Source;
 use cbor4ii_vectors::rows::Row;
-use cbor4ii_vectors::{table, unsupported};
+use cbor4ii_vectors::{eof, require_utf8, table, unsupported};
 use std::alloc::Global;
 use std::test::Fail;
 
@@ -61,6 +61,38 @@ const ONES: &[Row<Answer<One>>] = table! {
     (b"\xa2\x61x\x62\xff\xff\x61y\x02", Ok(Is(One(Some(2)))), b""),
     (b"\xa1\x61x\xf8\x14", Err(unsupported!("ignored-any", 248)), b"\xf8\x14"),
 };
+
+/// A struct of two fields, of which one has a name of 24 letters.
+#[derive(Debug, PartialEq, Drop)]
+struct Long(Option<u8>, Option<u8>);
+
+impl Take for Long {
+    fn take<S: Source>(
+        alloc: Global,
+        de: &mut Deserializer<S>,
+    ) -> Result<Long, DecodeError<S::Error>> {
+        let (long, a) = de.deserialize_2_fields(alloc, "Long", "abcdefghijklmnopqrstuvwx", "a")?;
+        Ok(Long(long, a))
+    }
+}
+
+// The length of a name stands in the first byte, in the next one, or in the next two.
+const LONGS: &[Row<Answer<Long>>] = table! {
+    (b"\xa1\x78\x18abcdefghijklmnopqrstuvwx\x05", Ok(Is(Long(Some(5), None))), b""),
+    (b"\xa1\x79\x00\x18abcdefghijklmnopqrstuvwx\x05", Ok(Is(Long(Some(5), None))), b""),
+    (b"\xa1\x7f\x78\x18abcdefghijklmnopqrstuvwx\xff\x05", Ok(Is(Long(Some(5), None))), b""),
+    (b"\xa1\x78\x01a\x06\x07", Ok(Is(Long(None, Some(6)))), b"\x07"),
+    (b"\xa1\x78\x19abcdefghijklmnopqrstuvwxy\x05", Ok(Is(Long(None, None))), b""),
+    (b"\xa1\x77abcdefghijklmnopqrstuvw\x05", Ok(Is(Long(None, None))), b""),
+    (b"\xa1\x78\x02\xff\xff\x05", Err(require_utf8!("str")), b"\x05"),
+    (b"\xa1\x78\x18abc", Err(eof!("str", 21)), b""),
+    (b"\xa1\x78", Err(eof!("str", 1)), b""),
+};
+
+#[test]
+fn a_name_may_be_long(rt: HostRuntime) -> Result<(), Fail> {
+    reads_all(rt.alloc(), LONGS, &[])
+}
 
 /// A struct of two fields.
 #[derive(Debug, PartialEq, Drop)]

@@ -68,4 +68,6 @@ mod unit;
 #[cfg(test)]
 mod values;
 #[cfg(test)]
+mod variant_fields;
+#[cfg(test)]
 mod vector;

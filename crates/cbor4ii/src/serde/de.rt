@@ -32,4 +32,5 @@ mod stepped;
 mod strings;
 mod tuples;
 mod unit;
+pub mod variant_fields;
 mod vector;

@@ -6,7 +6,7 @@ ghost use Rattle.cbor4ii.specs.Cases.{Cases as Variants, Holding, holding_format
 ghost use Rattle.cbor4ii.specs.Cases.{unit_case, held_case, otherwise, cases_by, enum_of};
 ghost use Rattle.cbor4ii.specs.Cases.{inside_format, named_format};
 ghost use Rattle.cbor4ii.specs.Made.{made_from};
-ghost use Rattle.cbor4ii.specs.Names.{StandsAt};
+ghost use Rattle.cbor4ii.specs.Names.{StandsAt, IsAfterFirst};
 ghost use Rattle.cbor4ii.specs.Typed.{input, answer_of, Deserializes};
 
 use crate::serde::de::deserialize::Deserialize;
@@ -76,8 +76,8 @@ impl<S: Source> Case<S, ()> for Unit {
     }
 }
 
-/// A variant that holds a value: a tuple where it holds several without names, and a struct where
-/// they have names.
+/// A variant that holds a value: a tuple where it holds several without names. Where they have
+/// names it is a struct, or the variant is one of `HoldsFields`.
 #[derive(Debug, Drop)]
 pub struct Holds;
 
@@ -102,7 +102,7 @@ impl<S: Source, T: Deserialize<S>> Case<S, T> for Holds {
 }
 
 /// What the variants of an enum hold, one after another, in the order of their names: nested
-/// pairs, and after them `Otherwise`.
+/// pairs and `HoldsFields`, and after them `Otherwise`.
 pub trait Cases<S: Source, R>: Sized + Drop {
     // The variants that have these names: what stands for the values of each, and how it is
     // rejected.
@@ -113,8 +113,8 @@ pub trait Cases<S: Source, R>: Sized + Drop {
     /// # Errors
     ///
     /// Those that `cases` reports for the name, with what they leave. Of a pair they are those of
-    /// its variant, or of the variants after it. Of `Otherwise` it is `Custom` in its words, and
-    /// what follows the name stays.
+    /// its variant, or of the variants after it, and so of `HoldsFields`. Of `Otherwise` it is
+    /// `Custom` in its words, and what follows the name stays.
     fn take(
         self,
         alloc: Global,
@@ -162,25 +162,33 @@ impl<S: Source, A: Drop, B: Drop, C: Case<S, A>, D: Cases<S, B>> Cases<S, Choice
         de: &mut Deserializer<S>,
     ) -> Result<Choice<A, B>, DecodeError<S::Error>> {
         let (case, cases) = self;
-        match names {
-            [_, trailing @ ..] => {
-                if at > 0 {
-                    match cases.take(alloc, trailing, at - 1, form, de) {
-                        Ok(value) => Ok(Choice::Other(value)),
-                        Err(error) => Err(error),
-                    }
-                } else {
-                    match case.take(alloc, form, de) {
-                        Ok(value) => Ok(Choice::First(value)),
-                        Err(error) => Err(error),
-                    }
-                }
-            }
-            [] => match cases.take(alloc, names, at, form, de) {
+        match after_first(names, at) {
+            Some((trailing, at)) => match cases.take(alloc, trailing, at, form, de) {
                 Ok(value) => Ok(Choice::Other(value)),
                 Err(error) => Err(error),
             },
+            None => match case.take(alloc, form, de) {
+                Ok(value) => Ok(Choice::First(value)),
+                Err(error) => Err(error),
+            },
         }
+    }
+}
+
+/// The names after the first one, and the place among them; none where the place is the first.
+#[inline(always)]
+pub(crate) fn after_first(names: &[StaticStr], at: usize) -> Option<(&[StaticStr], usize)>
+    ensures { IsAfterFirst names.now at result }
+{
+    match names {
+        [_, trailing @ ..] => {
+            if at > 0 {
+                Some((trailing, at - 1))
+            } else {
+                None
+            }
+        }
+        [] => Some((names, at)),
     }
 }
 
@@ -190,7 +198,7 @@ impl<S: Source> Deserializer<S> {
     /// order of the names. The enum's own name is not encoded.
     ///
     /// A name is read as a `String`. It takes no memory where it stands whole in what the reader
-    /// shows, after its length in one byte. The budget is as before, whatever the answer is.
+    /// shows, after a head of one or two bytes. The budget is as before, whatever the answer is.
     ///
     /// # Errors
     ///

@@ -210,14 +210,36 @@ fn indefinite_fields<S: Source, V: Values<S>>(
     Ok(())
 }
 
+/// Reads a struct of fields of these names, and answers what it has of them.
+#[inline(always)]
+pub(crate) fn take_struct<S: Source, V: Values<S> + Drop, P: Presences<V>>(
+    alloc: Global,
+    de: &mut Deserializer<S>,
+    names: &[StaticStr],
+    missing: &[StaticStr],
+    presences: P,
+) -> Result<P::Values, DecodeError<S::Error>>
+    ensures { Deserializes (made_struct (V.fields names.now) (P.made presences missing.now))
+        (input S.view de.old) (input S.view de.new) (answer_of result) }
+{
+    let mut values = V::none();
+    match take_fields(alloc, de, names, &mut values) {
+        Ok(()) => match presences.values(missing, values) {
+            Ok(values) => Ok(values),
+            Err(words) => Err(DecodeError::Custom(words)),
+        },
+        Err(error) => Err(error),
+    }
+}
+
 /// Each of these reads a struct: a map from its fields' names to their values, of any length, in
 /// any order. An entry of another name is skipped, a field of which no entry came is none, and of
 /// several entries of one name the last counts, or the struct is rejected where the field may come
 /// once. Of two fields of one name the first is read. The struct's own name is not encoded.
 ///
 /// A name is read as a `String`, and what is skipped as `IgnoredAny`, both under the step of the
-/// map. A name takes no memory where it stands whole in what the reader shows, after its length in
-/// one byte. The budget is as before, whatever the answer is.
+/// map. A name takes no memory where it stands whole in what the reader shows, after a head of one
+/// or two bytes. The budget is as before, whatever the answer is.
 ///
 /// # Errors
 ///
@@ -251,12 +273,8 @@ impl<S: Source> Deserializer<S> {
             (made_struct (V.fields names.now) (P.made presences missing.now)))
             (input S.view self.old) (input S.view self.new) (answer_of result) }
     {
-        let mut values = V::none();
-        match take_fields(alloc, self, names, &mut values) {
-            Ok(()) => match presences.values(missing, values) {
-                Ok(values) => Ok(T::from(values)),
-                Err(words) => Err(DecodeError::Custom(words)),
-            },
+        match take_struct(alloc, self, names, missing, presences) {
+            Ok(values) => Ok(T::from(values)),
             Err(error) => Err(error),
         }
     }

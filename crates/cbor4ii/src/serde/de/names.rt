@@ -1,7 +1,7 @@
 //! Names of fields, read and found among some names. No memory is taken for one that stands whole
-//! in what the reader shows, after its length in one byte.
+//! in what the reader shows, after a head of one or two bytes.
 ghost use Rattle.std.specs.Prelude.{◌≡◌, ◌≢◌, ◌≤◌, ◌<◌, length, true, false, IsUtf8, IfSome};
-ghost use Rattle.cbor4ii.specs.Names.{StandsAt, IsWholeName, TakesName, TakesShown};
+ghost use Rattle.cbor4ii.specs.Names.{StandsAt, StandsAfter, IsWholeName, TakesName, TakesShown};
 ghost use Rattle.cbor4ii.specs.Typed.{input, answer_of};
 
 use crate::serde::de::deserialize::Deserialize;
@@ -14,8 +14,12 @@ use cbor4ii_rw::read::Source;
 use std::alloc::Global;
 use std::str;
 
-/// A name and its length in one byte have at most so many bytes.
-const LONGEST: usize = 24;
+/// So many bytes are looked at. They hold a name of up to 23 bytes with its head; a longer one is
+/// seen where more is shown.
+const LOOK: usize = 24;
+
+/// The first byte of a text whose length stands in the next byte (RFC 8949 section 3).
+const LONG_NAME: u8 = 0x78;
 
 /// Reads a name as a `String`, and answers which of `names` it is: the place of the first such, or
 /// how many there are where it is none of them.
@@ -52,8 +56,8 @@ fn take_any_name<S: Source>(
     }
 }
 
-/// Takes a name that stands whole in the prefix that is shown, after its length in one byte, and
-/// answers its place as `take_name` does. Where there is none, or it is not UTF-8, none, and
+/// Takes a name that stands whole in the prefix that is shown, after a head of one or two bytes.
+/// Answers its place as `take_name` does. Where there is none, or it is not UTF-8, none, and
 /// nothing is taken. An error is the reader's.
 #[inline(always)]
 fn take_shown_name<S: Source>(
@@ -64,7 +68,7 @@ fn take_shown_name<S: Source>(
         (answer_of result) }
 {
     let mut failure = None;
-    let found = match look(&mut de.reader, LONGEST, &mut failure) {
+    let found = match look(&mut de.reader, LOOK, &mut failure) {
         Some(shown) => whole_name(shown, names),
         None => return Err(DecodeError::read(failure.unwrap())),
     };
@@ -77,8 +81,8 @@ fn take_shown_name<S: Source>(
     }
 }
 
-/// The place of the name that stands whole at the front of `shown`, after its length in one byte,
-/// and the number of bytes of both.
+/// The place of the name that stands whole at the start of `shown`, after a head of one or two
+/// bytes, and the number of bytes of both.
 #[inline(always)]
 fn whole_name(shown: &[u8], names: &[StaticStr]) -> Option<(usize, usize)>
     ensures { IfSome result (λ found. IsWholeName names.now shown.now found.0 found.1) }
@@ -87,16 +91,50 @@ fn whole_name(shown: &[u8], names: &[StaticStr]) -> Option<(usize, usize)>
         return None;
     }
     let first = shown[0];
-    let size = (first % 32) as usize;
-    if first / 32 != major::STRING || size > 23 || shown.len() - 1 < size {
+    if first / 32 != major::STRING {
         return None;
     }
-    let name = &shown[1..1 + size];
+    let size = (first % 32) as usize;
+    if size > 23 {
+        return long_name(shown, names);
+    }
+    name_after(shown, 1, size, names)
+}
+
+/// The same of a name whose length stands in the byte after the first.
+#[cold]
+#[inline(never)]
+fn long_name(shown: &[u8], names: &[StaticStr]) -> Option<(usize, usize)>
+    ensures { IfSome result (λ found. IsWholeName names.now shown.now found.0 found.1) }
+{
+    if shown.len() < 2 || shown[0] != LONG_NAME {
+        return None;
+    }
+    name_after(shown, 2, shown[1] as usize, names)
+}
+
+/// The place of the name of `size` bytes after the first `before`, and the number of bytes of both.
+/// None where it does not stand whole there, or is not UTF-8.
+#[inline(always)]
+fn name_after(
+    shown: &[u8],
+    before: usize,
+    size: usize,
+    names: &[StaticStr],
+) -> Option<(usize, usize)>
+    requires { before ≤ length shown.now }
+    ensures { IfSome result (λ found.
+        StandsAfter names.now shown.now before size found.0 found.1) }
+{
+    if shown.len() - before < size {
+        return None;
+    }
+    let name = &shown[before..before + size];
     let at = place(names, name);
     if at == names.len() && !is_text(name) {
         return None;
     }
-    Some((at, 1 + size))
+    Some((at, before + size))
 }
 
 /// The place of the first of `names` that is `name`, or how many there are where none is.

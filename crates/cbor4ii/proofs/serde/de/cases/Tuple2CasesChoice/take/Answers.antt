@@ -1,65 +1,26 @@
-use Rattle.std.proofs.Common.{length, take, drop, get_or, ◌-◌}
-use Rattle.cbor4ii.proofs.Casing.{cases_first, cases_none, first_ok, first_err, other_ok, other_err}
-use Rattle.cbor4ii.proofs.Casing.{unnamed_ok, unnamed_err}
-use Rattle.cbor4ii.proofs.Names.{some_name, is_first, is_after}
+use Rattle.std.proofs.Common.{Ok, Err}
+use Rattle.cbor4ii.specs.Typed.{as_core}
+use Rattle.cbor4ii.proofs.Casing.{first_then, other_then}
 use Rattle.cbor4ii.proofs.serde.de.cases.Tuple2CasesChoice.take.Goals as goal
-
-pub returns-in-Ok-take : goal.returns-in-Ok-take
-returns-in-Ok-take g c name which =
-    let names = c.args.names.now in
-    let some = c.in-len1-up.len_at_least in
-    let d = some_name names some in
-    let h = is_after name names c.args.at d some c.if-at-gt0.true which in
-    let others = g.D.Cases.cases c.args.self.1 in
-    cases_first g.C.Case.holding others names c.args.form name d some
-    (other_ok (get_or names 0 d).now g.C.Case.holding
-    (others (take (length names - 1) (drop 1 names))) c.args.form h.0
-    (c.in-Ok-take.ensures name h.1))
-
-pub returns-then-at-gt0 : goal.returns-then-at-gt0
-returns-then-at-gt0 g c name which =
-    let names = c.args.names.now in
-    let some = c.in-len1-up.len_at_least in
-    let d = some_name names some in
-    let h = is_after name names c.args.at d some c.if-at-gt0.true which in
-    let others = g.D.Cases.cases c.args.self.1 in
-    cases_first g.C.Case.holding others names c.args.form name d some
-    (other_err (get_or names 0 d).now g.C.Case.holding
-    (others (take (length names - 1) (drop 1 names))) c.args.form h.0
-    (c.in-Err-take.ensures name h.1))
-
-pub returns-in-Ok-take-2 : goal.returns-in-Ok-take-2
-returns-in-Ok-take-2 g c name which =
-    let names = c.args.names.now in
-    let some = c.in-len1-up.len_at_least in
-    let d = some_name names some in
-    let h = is_first name names c.args.at d some c.if-at-gt0.false which in
-    let others = g.D.Cases.cases c.args.self.1 in
-    cases_first g.C.Case.holding others names c.args.form name d some
-    (first_ok (get_or names 0 d).now g.C.Case.holding
-    (others (take (length names - 1) (drop 1 names))) c.args.form h c.in-Ok-take-2.ensures)
-
-pub returns-in-len1-up : goal.returns-in-len1-up
-returns-in-len1-up g c name which =
-    let names = c.args.names.now in
-    let some = c.in-len1-up.len_at_least in
-    let d = some_name names some in
-    let h = is_first name names c.args.at d some c.if-at-gt0.false which in
-    let others = g.D.Cases.cases c.args.self.1 in
-    cases_first g.C.Case.holding others names c.args.form name d some
-    (first_err (get_or names 0 d).now g.C.Case.holding
-    (others (take (length names - 1) (drop 1 names))) c.args.form h c.in-Err-take-2.ensures)
 
 pub returns-in-Ok : goal.returns-in-Ok
 returns-in-Ok g c name which =
-    let others = g.D.Cases.cases c.args.self.1 in
-    cases_none g.C.Case.holding others c.args.names.now c.args.form name c.in-empty.len_below
-    (unnamed_ok g.C.Case.holding (others c.args.names.now) name c.args.form
-    (c.in-Ok.ensures name which))
+    other_then g.C.Case.holding (g.D.Cases.cases c.args.self.1) c.args.form name c.args.names.now
+    c.args.at c.in-Some.trailing.now c.in-Some.at c.in-Some.ensures which (Ok c.in-Ok.value)
+    (c.in-Ok.ensures name)
+
+pub returns-in-Some : goal.returns-in-Some
+returns-in-Some g c name which =
+    other_then g.C.Case.holding (g.D.Cases.cases c.args.self.1) c.args.form name c.args.names.now
+    c.args.at c.in-Some.trailing.now c.in-Some.at c.in-Some.ensures which
+    (Err (as_core c.in-Err.error)) (c.in-Err.ensures name)
+
+pub returns-in-Ok-take : goal.returns-in-Ok-take
+returns-in-Ok-take g c name which =
+    first_then g.C.Case.holding (g.D.Cases.cases c.args.self.1) c.args.form name c.args.names.now
+    c.args.at c.in-None.ensures which (Ok c.in-Ok-take.value) c.in-Ok-take.ensures
 
 pub returns : goal.returns
 returns g c name which =
-    let others = g.D.Cases.cases c.args.self.1 in
-    cases_none g.C.Case.holding others c.args.names.now c.args.form name c.in-empty.len_below
-    (unnamed_err g.C.Case.holding (others c.args.names.now) name c.args.form
-    (c.in-Err.ensures name which))
+    first_then g.C.Case.holding (g.D.Cases.cases c.args.self.1) c.args.form name c.args.names.now
+    c.args.at c.in-None.ensures which (Err (as_core c.in-Err-take.error)) c.in-Err-take.ensures

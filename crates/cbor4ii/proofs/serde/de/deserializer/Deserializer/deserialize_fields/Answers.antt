@@ -1,30 +1,14 @@
-use Rattle.std.proofs.Common.{sym}
 use Rattle.cbor4ii.specs.Presence.{made_struct}
-use Rattle.cbor4ii.specs.Structs.{struct_of}
-use Rattle.cbor4ii.proofs.Filling.{struct_ok, struct_err, from_first}
-use Rattle.cbor4ii.proofs.Making.{from_ok, from_err, made_ok, made_err, unmade}
+use Rattle.cbor4ii.proofs.Making.{from_ok, from_err}
 use Rattle.cbor4ii.proofs.serde.de.deserializer.Deserializer.deserialize_fields.Goals as goal
 
-pub returns-in-Ok-values : goal.returns-in-Ok-values
-returns-in-Ok-values g c =
-    let f = g.V.Places.fields c.args.names.now in
-    let value = g.P.Presences.made c.args.presences c.args.missing.now in
-    from_ok (made_struct f value) g.T.From.from_gives c.from.ensures
-    (made_ok (struct_of (λ v. v) f) value (sym c.in-Ok-values.ensures) (struct_ok (λ v. v) f
-    (from_first f (c.none-values.ensures c.args.names.now) c.in-Ok.ensures)))
-
-pub returns-in-Err-values : goal.returns-in-Err-values
-returns-in-Err-values g c =
-    let f = g.V.Places.fields c.args.names.now in
-    let value = g.P.Presences.made c.args.presences c.args.missing.now in
-    from_err (made_struct f value) g.T.From.from_gives (unmade (struct_of (λ v. v) f) value
-    (g.met.P.Presences.fate c.args.presences c.args.missing.now c.args.names.now)
-    (sym c.in-Err-values.ensures) (struct_ok (λ v. v) f
-    (from_first f (c.none-values.ensures c.args.names.now) c.in-Ok.ensures)))
+pub returns-in-Ok : goal.returns-in-Ok
+returns-in-Ok g c =
+    from_ok (made_struct (g.V.Places.fields c.args.names.now)
+    (g.P.Presences.made c.args.presences c.args.missing.now)) g.T.From.from_gives c.from.ensures
+    c.in-Ok.ensures
 
 pub returns-in-Err : goal.returns-in-Err
 returns-in-Err g c =
-    let f = g.V.Places.fields c.args.names.now in
-    let value = g.P.Presences.made c.args.presences c.args.missing.now in
-    from_err (made_struct f value) g.T.From.from_gives
-    (made_err (struct_of (λ v. v) f) value (struct_err (λ v. v) f c.in-Err.ensures))
+    from_err (made_struct (g.V.Places.fields c.args.names.now)
+    (g.P.Presences.made c.args.presences c.args.missing.now)) g.T.From.from_gives c.in-Err.ensures

@@ -1,0 +1,10 @@
+use Rattle.cbor4ii.specs.Presence.{made_struct}
+use Rattle.cbor4ii.specs.Typed.{answer_of}
+use Rattle.cbor4ii.proofs.Casing.{held_then}
+use Rattle.cbor4ii.proofs.serde.de.variant_fields.take_named.Goals as goal
+
+pub returns : goal.returns
+returns g c =
+    held_then (made_struct (g.V.Places.fields c.args.words.0.now)
+    (g.P.Presences.made c.args.presences c.args.words.1.now)) c.args.form
+    c.if-not-form.false (answer_of c.take_struct.result) c.take_struct.ensures

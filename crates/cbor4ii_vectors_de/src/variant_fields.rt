@@ -1,0 +1,109 @@
+//! Rows of variants that hold named fields, read in the call of their enum.
+use crate::typed::Answer::{self, Custom, Is};
+use crate::typed::{Take, reads_all};
+use cbor4ii::serde::Choice::{First, Other};
+use cbor4ii::serde::{
+    Choice, DecodeError, Deserializer, FieldWords, Holds, HoldsFields, Once, Optional, Or,
+    Otherwise, Required, Unit,
+};
+use cbor4ii_rw::error::{Never, StaticStr};
+use cbor4ii_rw::read::Source;
+use cbor4ii_vectors::rows::{Row, RowWithin};
+use cbor4ii_vectors::{eof, mismatch, no_step, table};
+use std::alloc::Global;
+use std::marker::PhantomData;
+use std::test::Fail;
+
+/// Two of the variants have fields, some of them of the same names.
+#[derive(Debug, PartialEq, Drop)]
+enum Shape {
+    Blank,
+    Round { x: u8, size: u8 },
+    Flat { size: u8, x: u8, note: Option<u8> },
+    Line(u8),
+}
+
+const SHAPES: [StaticStr; 4] = ["Blank", "Round", "Flat", "Line"];
+
+type Round = (u8, (u8, ()));
+
+type Flat = (u8, (u8, (Option<u8>, ())));
+
+impl From<Choice<(), Choice<Round, Choice<Flat, Choice<u8, Never>>>>> for Shape {
+    fn from(shapes: Choice<(), Choice<Round, Choice<Flat, Choice<u8, Never>>>>) -> Shape {
+        match shapes {
+            First(()) => Shape::Blank,
+            Other(First((x, (size, ())))) => Shape::Round { x, size },
+            Other(Other(First((size, (x, (note, ())))))) => Shape::Flat { size, x, note },
+            Other(Other(Other(First(length)))) => Shape::Line(length),
+        }
+    }
+}
+
+impl Take for Shape {
+    fn take<S: Source>(
+        alloc: Global,
+        de: &mut Deserializer<S>,
+    ) -> Result<Shape, DecodeError<S::Error>> {
+        let words = FieldWords(&["size", "x", "note"], &["", "not one x"], PhantomData);
+        let presences = (Or(7), (Once(Required), (Optional, ())));
+        let flat = HoldsFields(words, presences, (Holds, Otherwise("no such shape")));
+        let words = FieldWords(&["x", "size"], &["no x", "no size"], PhantomData);
+        let round = HoldsFields(words, (Required, (Required, ())), flat);
+        de.deserialize_variant(alloc, "Shape", &SHAPES, (Unit, round))
+    }
+}
+
+// The fields x and size, in a map of a length, in another order, and in a map of none.
+const ROUND: &[u8] = b"\xa1\x65Round\xa2\x61x\x01\x64size\x02";
+
+const TURNED: &[u8] = b"\xa1\x65Round\xa2\x64size\x02\x61x\x01";
+
+const OPEN: &[u8] = b"\xa1\x65Round\xbf\x61x\x01\x64size\x02\xff";
+
+// A field of the other variant is skipped, whatever its value.
+const NOTED: &[u8] = b"\xa1\x65Round\xa3\x61x\x01\x64note\x82\x61a\xf6\x64size\x02";
+
+const AGAIN: &[u8] = b"\xa1\x65Round\xa3\x61x\x01\x61x\x03\x64size\x02";
+
+const FLAT: &[u8] = b"\xa1\x64Flat\xa3\x61x\x05\x64note\x09\x64size\x03";
+
+const SHAPES_READ: &[Row<Answer<Shape>>] = table! {
+    (b"\x65Blank", Ok(Is(Shape::Blank)), b""),
+    (b"\xa1\x64Line\x09\x00", Ok(Is(Shape::Line(9))), b"\x00"),
+    (ROUND, Ok(Is(Shape::Round { x: 1, size: 2 })), b""),
+    (TURNED, Ok(Is(Shape::Round { x: 1, size: 2 })), b""),
+    (OPEN, Ok(Is(Shape::Round { x: 1, size: 2 })), b""),
+    (NOTED, Ok(Is(Shape::Round { x: 1, size: 2 })), b""),
+    // Of several entries of one name the last counts.
+    (AGAIN, Ok(Is(Shape::Round { x: 3, size: 2 })), b""),
+    (b"\xa1\x65Round\xa1\x61x\x01\x00", Ok(Custom("no size")), b"\x00"),
+    (b"\xa1\x65Round\xa0\x00", Ok(Custom("no x")), b"\x00"),
+    (b"\xa1\x65Round\xa1\x61x\xf6\x00", Err(mismatch!("u8", 246)), b"\x00"),
+    (b"\xa1\x65Round\x80\x00", Err(mismatch!("map", 128)), b"\x00"),
+    (b"\xa1\x65Round", Err(eof!("map", 1)), b""),
+    (b"\xa1\x65Round\xbf\x61x\x01", Err(eof!("break", 1)), b""),
+    (b"\x65Round\xa0", Err(mismatch!("enum", 101)), b"\xa0"),
+    (FLAT, Ok(Is(Shape::Flat { size: 3, x: 5, note: Some(9) })), b""),
+    (b"\xa1\x64Flat\xa1\x61x\x05", Ok(Is(Shape::Flat { size: 7, x: 5, note: None })), b""),
+    (b"\xa1\x64Flat\xa1\x64size\x03\x00", Ok(Custom("not one x")), b"\x00"),
+    (b"\xa1\x64Flat\xa2\x61x\x05\x61x\x05\x00", Ok(Custom("not one x")), b"\x00"),
+    (b"\xa1\x64Flat\xa2\x61x\x05\x64note\xf6\x00", Err(mismatch!("u8", 246)), b"\x00"),
+    (b"\x64Flat\x00", Err(mismatch!("enum", 100)), b"\x00"),
+    (b"\xa1\x65Blank\xa0", Err(mismatch!("enum", 161)), b"\xa0"),
+    (b"\xa1\x65Other\xa0", Ok(Custom("no such shape")), b"\xa0"),
+};
+
+const SHAPES_WITHIN: &[RowWithin<Answer<Shape>>] = table! {
+    (ROUND, 0, Err(no_step!("enum")), ROUND),
+    (ROUND, 1, Err(no_step!("map")), b"\xa2\x61x\x01\x64size\x02"),
+    (ROUND, 2, Ok(Is(Shape::Round { x: 1, size: 2 })), b""),
+    // What is skipped takes a step of its own, under that of the map.
+    (b"\xa1\x65Round\xa1\x61y\x80", 2, Err(no_step!("ignored-any")), b"\x80"),
+    (b"\xa1\x65Round\xa1\x61y\x80", 3, Ok(Custom("no x")), b""),
+};
+
+#[test]
+fn variants_of_fields_are_read(rt: HostRuntime) -> Result<(), Fail> {
+    reads_all(rt.alloc(), SHAPES_READ, SHAPES_WITHIN)
+}
