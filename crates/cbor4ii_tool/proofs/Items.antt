@@ -3,7 +3,7 @@ use Rattle.std.proofs.Common.{◌≡◌, ◌≢◌, ℕ, ◌+◌, ◌-◌, ◌�
 use Rattle.std.proofs.Common.{decimal, Option, Some, Result, Ok, Err, IsTrue, false, IfSome}
 use Rattle.std.proofs.Common.{inl, inr, refl, sym, ap, ◌∙◌, subst, arith, length-append}
 use Rattle.cbor4ii_rw.specs.View.{View, IfKnown}
-use Rattle.cbor4ii_rw.specs.Reader.{IsPrefix, Shows, ReaderFails, Failed, counts}
+use Rattle.cbor4ii_rw.specs.Reader.{Shows, ReaderFails, Failed, counts}
 use Rattle.cbor4ii_rw.specs.Writer.{Output, Appends}
 use Rattle.cbor4ii_rw.specs.declared.error.DecodeError.{DecodeError}
 use Rattle.cbor4ii_rw.specs.declared.error.DecodeError.TheVariants.{Read as ReadError}
@@ -38,15 +38,6 @@ use Rattle.cbor4ii_tool.specs.declared.fault.Kind.TheVariants.{Read, Mismatch, E
 use Rattle.cbor4ii_tool.specs.declared.fault.Kind.TheVariants.{Write}
 use Rattle.cbor4ii_tool.specs.declared.integer.Integer.{Integer}
 use Rattle.cbor4ii_tool.proofs.Integers.{none_begins_other, none_begins_cut}
-
--- ---- the end of the input
-
-nothing : (shown : List ℕ) → length shown ≤ 0 → 1 ≤ length shown → ⊥
-nothing shown a b = omega (arith, a, b)
-
-pub not_end : (shown xs : List ℕ) → IsPrefix 1 shown xs → 1 ≤ length shown → xs ≡ [] → ⊥
-not_end shown xs prefix some none =
-    nothing shown (subst (λ (ys : List ℕ). length shown ≤ length ys) none prefix.within) some
 
 -- ---- what is left
 

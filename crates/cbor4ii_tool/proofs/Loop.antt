@@ -10,7 +10,7 @@ use Rattle.cbor4ii_rw.specs.Reader.{Shows, Failed, counts}
 use Rattle.cbor4ii_rw.specs.Writer.{Output, Appends}
 use Rattle.cbor4ii_tool.specs.Item.{Converts, BeginsItem, ItemIsTaken, RejectsAs, IsRow, together}
 use Rattle.cbor4ii_tool.specs.Run.{StandsAt, FaultAt, RunsOver, FailedOrCounted}
-use Rattle.cbor4ii_tool.specs.Steps.{Leaves, Done, Fails, MovesFailures, Ran}
+use Rattle.cbor4ii_tool.specs.Steps.{Leaves, StandUpTo, Saw, Done, Fails, MovesFailures, Ran}
 use Rattle.cbor4ii_tool.proofs.Items.{same_bytes}
 use Rattle.cbor4ii_tool.specs.declared.command.Command.{Command}
 use Rattle.cbor4ii_tool.specs.declared.fault.Kind.{Kind}
@@ -101,6 +101,33 @@ more command start a b c held h i ran shows done = record {
             d.written);
       };
 }
+
+-- ---- what was seen
+
+stand_on : (seen count : ℕ) (taken : Option ℕ) (xs ys : List ℕ)
+    → count + length ys ≡ length xs → StandUpTo seen taken xs
+    → StandUpTo seen (counts count taken) ys
+stand_on seen count None xs ys sum stand = tt
+stand_on seen count (Some before) xs ys sum stand = omega (arith, sum, stand)
+
+-- an item after the look, or after none
+pub saw_more : (command : Command) (seen next : ℕ) (start a b c : View) (held h i : Output)
+    → Ran command start a held h → Saw seen start a → Shows [] a b
+    → IfKnown a.known (λ xs. StandUpTo seen a.taken xs → StandUpTo next b.taken xs)
+    → Done command b c h i → Saw next start c
+saw_more command seen next start a b c held h i ran saw shows sees done input known ys is =
+    let r = ran.over input known in
+    let shown = shows.known r.rest r.left_is in
+    let took = done.kept.rest r.rest shown in
+    let left : ys ≡ drop took.0 r.rest =
+    same_bytes ys (drop took.0 r.rest) c.known is took.1.left in
+    let all : took.0 + length ys ≡ length r.rest =
+    omega (arith, ap length left, length-drop took.0 r.rest, took.1.within) in
+    let moved : c.taken ≡ counts took.0 b.taken =
+    done.kept.counted r.rest shown ys is took.0 all in
+    subst (λ (taken : Option ℕ). StandUpTo next taken ys) (sym moved)
+    (stand_on next took.0 b.taken r.rest ys all
+    (sees r.rest r.left_is (saw input known r.rest r.left_is)))
 
 -- ---- the end
 

@@ -1,6 +1,6 @@
 -- What the parts of a run promise each other.
 use Rattle.std.specs.Prelude.{◌≡◌, ℕ, ◌+◌, ◌≤◌, ◌⊎◌, List, length, drop, Bool, true, Option, Some}
-use Rattle.std.specs.Prelude.{Ok, Err}
+use Rattle.std.specs.Prelude.{Ok, Err, IfSome}
 use Rattle.cbor4ii_rw.specs.View.{View, IfKnown}
 use Rattle.cbor4ii_rw.specs.Reader.{Failed, counts}
 use Rattle.cbor4ii_rw.specs.Writer.{Output, Appends, one_more}
@@ -21,6 +21,14 @@ pub record Leaves (old new : View) : Type 0 where
   pub budget : new.budget ≡ old.budget
   pub rest : EndsOrForgets old.known new.known
   pub counted : FailedOrCounted old new
+
+-- so many bytes in all, where they are counted, were taken or are among these
+abbrev pub StandUpTo : ℕ → Option ℕ → List ℕ → Type 0
+StandUpTo seen taken xs = IfSome taken (λ before. seen ≤ before + length xs)
+
+-- so many bytes were seen, and each was taken or is still to come
+abbrev pub Saw : ℕ → View → View → Type 0
+Saw seen old now = IfKnown old.known (λ input. IfKnown now.known (StandUpTo seen now.taken))
 
 -- ---- one item
 

@@ -16,6 +16,9 @@ pub fn write_line<W: Write>(number: u64, writer: &mut W) -> Result<(), W::Error>
     ensures failed { OnErr result
         (Failed (W.view writer.old).failures (W.view writer.new).failures) }
 {
+    if number < 10 {
+        return writer.push(&[b'0' + number as u8, b'\n']);
+    }
     let mut line = [b'\n'; MOST_DIGITS + 1];
     let start = put_digits(number, &mut line);
     writer.push(&line[start..])

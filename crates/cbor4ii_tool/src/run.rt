@@ -7,13 +7,13 @@ ghost use Rattle.cbor4ii_rw.specs.Written.{stream_output, is_flushed};
 ghost use Rattle.cbor4ii_items.specs.Moves.{EndsOrForgets};
 ghost use Rattle.cbor4ii_tool.specs.Run.{RunsOver, ConvertsWhole, WantsMemory, FailedOrCounted};
 ghost use Rattle.cbor4ii_tool.specs.Run.{RunBlames, Hands};
-ghost use Rattle.cbor4ii_tool.specs.Steps.{Leaves, EndsRun, MovesFailures, failed_at};
+ghost use Rattle.cbor4ii_tool.specs.Steps.{Leaves, EndsRun, MovesFailures, failed_at, StandUpTo};
 ghost use Rattle.cbor4ii_tool.specs.declared.fault.Kind.TheVariants.{Read};
 
 use crate::command::Command;
 use crate::fault::{Fault, Kind};
 use crate::item;
-use cbor4ii::dec::{Source, ask};
+use cbor4ii::dec::ask;
 use cbor4ii::enc::Write;
 use cbor4ii::utils::{IoReader, IoWriter};
 use std::alloc::Global;
@@ -134,9 +134,10 @@ fn convert_items<R: BufRead, W: Write>(
         (stream_view R.Read.remaining R.consumable_len reader.new)
         (W.view writer.old) (W.view writer.new) }
 {
+    let mut seen = 0;
     loop {
         let at = reader.taken();
-        let is_end = match is_at_end(reader) {
+        let is_end = match is_at_end(reader, &mut seen) {
             Ok(is_end) => is_end,
             Err(kind) => return Err(Fault { at, kind }),
         };
@@ -149,18 +150,35 @@ fn convert_items<R: BufRead, W: Write>(
     }
 }
 
-// Whether no byte is left.
-fn is_at_end<S: Source>(reader: &mut S) -> Result<bool, Kind>
-    ensures shows { OnOk result (Shows [] (S.view reader.old) (S.view reader.new)) }
+// Whether no byte is left. `seen` counts the bytes up to the end of what the last look here showed.
+// Where fewer were taken, one of them is left, and no look is needed.
+fn is_at_end<R: BufRead>(reader: &mut IoReader<R>, seen: &mut u64) -> Result<bool, Kind>
+    ensures shows { OnOk result (Shows []
+        (stream_view R.Read.remaining R.consumable_len reader.old)
+        (stream_view R.Read.remaining R.consumable_len reader.new)) }
     ensures end { IfOk result (λ end.
-        IfKnown (S.view reader.old).known (λ xs. IsTrue end ↔ (xs ≡ []))) }
+        IfKnown (stream_view R.Read.remaining R.consumable_len reader.old).known (λ xs.
+        StandUpTo seen.old (stream_view R.Read.remaining R.consumable_len reader.old).taken xs →
+        IsTrue end ↔ (xs ≡ []))) }
+    ensures seen { OnOk result
+        (IfKnown (stream_view R.Read.remaining R.consumable_len reader.old).known (λ xs.
+        StandUpTo seen.old (stream_view R.Read.remaining R.consumable_len reader.old).taken xs →
+        StandUpTo seen.new (stream_view R.Read.remaining R.consumable_len reader.new).taken xs)) }
     ensures kind { IfErr result (λ kind. kind ≡ Read) }
-    ensures breaks { OnErr result (ReaderFails (S.view reader.old) (S.view reader.new)) }
+    ensures breaks { OnErr result (ReaderFails
+        (stream_view R.Read.remaining R.consumable_len reader.old)
+        (stream_view R.Read.remaining R.consumable_len reader.new)) }
 {
+    let at = reader.taken();
+    if at < *seen {
+        return Ok(false);
+    }
     let mut failure = None;
     match ask::look(reader, 1, &mut failure) {
-        Some([]) => Ok(true),
-        Some(_) => Ok(false),
+        Some(shown) => {
+            *seen = at + shown.len() as u64;
+            Ok(shown.is_empty())
+        }
         None => Err(Kind::Read),
     }
 }

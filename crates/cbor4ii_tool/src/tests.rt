@@ -77,9 +77,14 @@ fn check_prefix(rt: &impl Abort, row: &Row, at: u64, output: &Output) {
 }
 
 // The run answers what the row says, and all of it is written and flushed.
-fn runs_whole(rt: &(impl Abort + AllocGlobal), row: &Row, width: usize) -> io::Result<()> {
+fn runs_whole(
+    rt: &(impl Abort + AllocGlobal),
+    row: &Row,
+    width: usize,
+    good_reads: usize,
+) -> io::Result<()> {
     let output = Output::new(rt.alloc())?;
-    let (outcome, output) = runs(rt, row, width, usize::MAX, output)?;
+    let (outcome, output) = runs(rt, row, width, good_reads, output)?;
     assert_eq!(rt; outcome, row.outcome(), "at {:?}", row.input);
     assert_eq!(rt;
         output.written.as_slice(),
@@ -94,8 +99,21 @@ fn runs_whole(rt: &(impl Abort + AllocGlobal), row: &Row, width: usize) -> io::R
 #[test]
 fn rows_over_streams(rt: HostRuntime) -> io::Result<()> {
     for row in ROWS {
-        runs_whole(&rt, row, 1)?;
-        runs_whole(&rt, row, 64)?;
+        runs_whole(&rt, row, 1, usize::MAX)?;
+        runs_whole(&rt, row, 64, usize::MAX)?;
+    }
+    Ok(())
+}
+
+// Where a read has found the end, none comes after it: one that came would fail.
+#[test]
+fn the_end_is_read_once(rt: HostRuntime) -> io::Result<()> {
+    for row in ROWS {
+        if row.fault.is_none() {
+            let length = row.input.len();
+            runs_whole(&rt, row, 1, length.saturating_add(1))?;
+            runs_whole(&rt, row, 64, length.min(1).saturating_add(1))?;
+        }
     }
     Ok(())
 }
