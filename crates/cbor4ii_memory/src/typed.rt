@@ -134,12 +134,12 @@ impl ReadFrom for Typed<Fields> {
 /// Two numbers.
 pub type Numbers = (Option<u8>, Option<u8>);
 
-/// A name whose length stands in a byte of its own: of 24 bytes.
-const LONG: &str = "abcdefghijklmnopqrstuvwx";
+/// The longest name that is compared where it stands: of 23 bytes.
+const LONGEST: &str = "abcdefghijklmnopqrstuvw";
 
 impl ReadFrom for Typed<Numbers> {
     fn read_from<S: Source>(alloc: Global, reader: &mut S) -> Result<Self, DecodeError<S::Error>> {
-        answer(Deserializer::new(reader).deserialize_2_fields(alloc, "Numbers", "a", LONG))
+        answer(Deserializer::new(reader).deserialize_2_fields(alloc, "Numbers", "a", LONGEST))
     }
 }
 

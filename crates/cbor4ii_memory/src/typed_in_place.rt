@@ -2,7 +2,7 @@
 //! where each allocation is refused.
 use crate::answer::{Answer, flag, great, number, unit};
 use crate::in_place::{DOUBLE, GREAT, Kind, LEAST, LESS, MUCH, SINGLE};
-use crate::read::{CallRow, Calls, Left, Meant, Row, makes_calls, reads_in_place, reads_over};
+use crate::read::{CallRow, Calls, Left, Row, makes_calls, reads_in_place};
 use crate::tally::{Broken, Tally};
 use crate::typed::{Numbers, Typed, as_core};
 use cbor4ii::dec::IgnoredAny;
@@ -10,7 +10,6 @@ use cbor4ii::serde::{self, Deserialize, Deserializer};
 use cbor4ii::types::{F16, F32, F64};
 use cbor4ii_rw::error::DecodeError;
 use cbor4ii_rw::read::Source;
-use cbor4ii_rw::slice_reader::SliceReader;
 use cbor4ii_vectors::table;
 use std::alloc::Global;
 
@@ -247,34 +246,11 @@ const NUMBERS: &[Row] = table! {
     (b"\xa2\x61z\x81\x05\x61a\x02", "Typed((Some(2), None))", b""),
 };
 
-// Names with their lengths in a byte of their own, and one of 23 bytes, that a slice shows whole.
-const NAMED: &[Row] = table! {
-    (b"\xa1\x78\x18abcdefghijklmnopqrstuvwx\x05\x00", "Typed((None, Some(5)))", b"\x00"),
-    (b"\xa1\x78\x19abcdefghijklmnopqrstuvwxy\x05", "Typed((None, None))", b""),
-    (b"\xa1\x77abcdefghijklmnopqrstuvw\x05", "Typed((None, None))", b""),
-    (b"\xa1\x78\x01a\x06", "Typed((Some(6), None))", b""),
-};
-
-fn reads_names(tally: &mut Tally) -> Result<(), Broken> {
-    for (bytes, text, rest) in NAMED {
-        let meant = Meant {
-            row: "a name in a slice",
-            bytes,
-            text: &[(text, 1)],
-            rest,
-            left: Left::Never,
-        };
-        reads_over::<Typed<Numbers>, _>(tally, &mut SliceReader::new(bytes), &meant)?;
-    }
-    Ok(())
-}
-
 /// Typed values and calls that take no memory.
 pub fn typed(tally: &mut Tally) -> Result<(), Broken> {
     makes_calls(tally, Left::Never, OWN_ROWS)?;
     makes_calls(tally, Left::Never, NAMED_ROWS)?;
     makes_calls(tally, Left::Never, OPENED_ROWS)?;
     makes_calls(tally, Left::Never, VARIANTS)?;
-    reads_names(tally)?;
     reads_in_place::<Typed<Numbers>>(tally, "deserialize_2_fields", NUMBERS)
 }
