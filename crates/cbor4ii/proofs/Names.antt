@@ -6,9 +6,8 @@ use Rattle.std.proofs.Common.{subst, arith, ◌++◌, ◌^◌}
 use Rattle.std.proofs.Math.Seq.{take-length}
 use Rattle.std.proofs.Math.Seq.{take-append_seam}
 use Rattle.std.proofs.lemmas.List.{length-take-le, take-append-drop, append_assoc}
-use Rattle.std.proofs.lemmas.Option.{IfSome_then}
 use Rattle.std.proofs.lemmas.Str.{IsUtf8-string_bytes}
-use Rattle.std.specs.Prelude.{IsUtf8, IfSome, Option}
+use Rattle.std.specs.Prelude.{IsUtf8}
 use Rattle.std.specs.declared.alloc.Global.{Global}
 use Rattle.std.specs.declared.string.String.{String}
 use denote.Ref.{Bor}
@@ -28,7 +27,10 @@ use Rattle.cbor4ii_items.specs.Laws.Contents.{lends_prefix, first_bytes}
 use Rattle.cbor4ii_items.specs.Laws.Steps.{kept_then}
 use Rattle.cbor4ii.specs.Fields.{name_format}
 use Rattle.cbor4ii_items.specs.Laws.Heads.{after_head}
-use Rattle.cbor4ii.specs.Names.{StandsAt, StandsAfter, IsWholeName, NameAt, TakesName}
+use Rattle.cbor4ii.specs.Names.{StandsAt, StandsAfter, IfWholeAfter, IsWholeName, IfWhole}
+use Rattle.cbor4ii.specs.Names.{NameAt, TakesName}
+use Rattle.cbor4ii.specs.declared.serde.de.names.Seen.{Seen}
+use Rattle.cbor4ii.specs.declared.serde.de.names.Seen.TheVariants.{Whole, Cut, Other}
 use Rattle.cbor4ii.specs.ReadBack.{text_of}
 
 -- ---- the place
@@ -163,13 +165,14 @@ short_by names (b ∷ bs) at size n some high low few bytes s =
     }
 
 -- after a head of one byte
-pub short_name : (names : List (Bor (List ℕ))) (shown : List ℕ) (size : ℕ) (r : Option (ℕ × ℕ))
+pub short_name : (names : List (Bor (List ℕ))) (shown : List ℕ) (size : ℕ) (r : Seen)
     → 1 ≤ length shown → slice_index_or shown 0 0 / 32 ≡ 3
     → size ≡ slice_index_or shown 0 0 % 32 → size ≤ 23 → ((i : ℕ) → get_or shown i 0 < 256)
-    → IfSome r (λ f. StandsAfter names shown 1 size f.0 f.1)
-    → IfSome r (λ f. IsWholeName names shown f.0 f.1)
-short_name names shown size r some high low few bytes s =
-    IfSome_then r s (λ f h. short_by names shown f.0 size f.1 some high low few bytes h)
+    → IfWholeAfter names shown 1 size r → IfWhole names shown r
+short_name names shown size (Whole at n) some high low few bytes s =
+    short_by names shown at size n some high low few bytes s
+short_name names shown size (Cut n) some high low few bytes s = tt
+short_name names shown size Other some high low few bytes s = tt
 
 lowest : (v : ℕ) → v < 256 → v ≡ v % 256
 lowest v small = omega (arith, small)
@@ -201,13 +204,13 @@ long_by names (b ∷ size ∷ bs) at n some first bytes s =
     }
 
 -- after a head of two bytes
-pub long_name : (names : List (Bor (List ℕ))) (shown : List ℕ) (r : Option (ℕ × ℕ))
-    → 2 ≤ length shown → slice_index_or shown 0 0 ≡ 0x78
-    → ((i : ℕ) → get_or shown i 0 < 256)
-    → IfSome r (λ f. StandsAfter names shown 2 (slice_index_or shown 1 0) f.0 f.1)
-    → IfSome r (λ f. IsWholeName names shown f.0 f.1)
-long_name names shown r some first bytes s =
-    IfSome_then r s (λ f h. long_by names shown f.0 f.1 some first bytes h)
+pub long_name : (names : List (Bor (List ℕ))) (shown : List ℕ) (r : Seen) → 2 ≤ length shown
+    → slice_index_or shown 0 0 ≡ 0x78 → ((i : ℕ) → get_or shown i 0 < 256)
+    → IfWholeAfter names shown 2 (slice_index_or shown 1 0) r → IfWhole names shown r
+long_name names shown (Whole at n) some first bytes s =
+    long_by names shown at n some first bytes s
+long_name names shown (Cut n) some first bytes s = tt
+long_name names shown Other some first bytes s = tt
 
 -- the bytes begin with it
 definite_name : (xs name : List ℕ) (w : Width) (n : ℕ) → byte_count w ≤ 1

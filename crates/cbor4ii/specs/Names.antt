@@ -12,6 +12,8 @@ use Rattle.cbor4ii_items.specs.Moves.{Kept}
 use Rattle.cbor4ii_items.specs.Strings.{ReadsText}
 use Rattle.cbor4ii.specs.Fields.{name_format}
 use Rattle.cbor4ii.specs.ReadBack.{IsName}
+use Rattle.cbor4ii.specs.declared.serde.de.names.Seen.{Seen}
+use Rattle.cbor4ii.specs.declared.serde.de.names.Seen.TheVariants.{Whole, Cut, Other}
 
 -- the first of the names that is this one stands at this place, which follows them all where
 -- none is
@@ -45,6 +47,12 @@ pub record StandsAfter (names : List (Bor (List ℕ))) (shown : List ℕ) (befor
   pub utf8 : IsUtf8 (take size (drop before shown))
   pub which : StandsAt (take size (drop before shown)) names at
 
+-- where a name is seen whole, it stands after so many bytes
+abbrev pub IfWholeAfter : List (Bor (List ℕ)) → List ℕ → ℕ → ℕ → Seen → Type 0
+IfWholeAfter names shown before size (Whole at n) = StandsAfter names shown before size at n
+IfWholeAfter names shown before size (Cut n) = Unit {0}
+IfWholeAfter names shown before size Other = Unit {0}
+
 -- A name stands whole at the start of the bytes, after its length in the first byte or in the next
 -- one, in so many bytes in all. It has this place among the names.
 pub record IsWholeName (names : List (Bor (List ℕ))) (shown : List ℕ) (at n : ℕ) : Type 0 where
@@ -58,6 +66,12 @@ pub record IsWholeName (names : List (Bor (List ℕ))) (shown : List ℕ) (at n 
   pub stands : take n shown ≡ head 3 (length name) width ++ name
   pub bytes : IsBytes (take n shown)
   pub which : StandsAt name names at
+
+-- where a name is seen whole, it stands at the start of the bytes
+abbrev pub IfWhole : List (Bor (List ℕ)) → List ℕ → Seen → Type 0
+IfWhole names shown (Whole at n) = IsWholeName names shown at n
+IfWhole names shown (Cut n) = Unit {0}
+IfWhole names shown Other = Unit {0}
 
 -- a name was taken, and has this place among the names
 pub record NameAt (names : List (Bor (List ℕ))) (at : ℕ) (old new : View) : Type 0 where
@@ -74,9 +88,10 @@ abbrev pub TakesName : {E : Type 0} → List (Bor (List ℕ)) → View → View
 TakesName names old new (Ok at) = NameAt names at old new
 TakesName names old new (Err e) = Decodes name_format old new (Err e)
 
--- the same of a name that is shown; where none is, nothing is taken
+-- the same of a name that is seen whole; of another nothing is taken
 abbrev pub TakesShown : {E : Type 0} → List (Bor (List ℕ)) → View → View
-    → Result (Option ℕ) (DecodeError E) → Type 0
-TakesShown names old new (Ok (Some at)) = NameAt names at old new
-TakesShown names old new (Ok None) = Stays old new
+    → Result Seen (DecodeError E) → Type 0
+TakesShown names old new (Ok (Whole at n)) = NameAt names at old new
+TakesShown names old new (Ok (Cut n)) = Stays old new
+TakesShown names old new (Ok Other) = Stays old new
 TakesShown names old new (Err e) = Decodes name_format old new (Err e)

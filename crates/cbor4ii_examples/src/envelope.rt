@@ -139,7 +139,8 @@ pub enum OpenError {
 /// # Errors
 ///
 /// `Encode` where the payload has no item, or there is no memory for one. `Payload` where what its
-/// type writes is not one item, or too deep. `OutOfMemory` where there is no memory for the signature.
+/// type writes is not one item, or too deep. `OutOfMemory` where there is no memory for the
+/// signature.
 pub fn seal<S: Sign, T: Serialize>(
     alloc: Global,
     signer: &S,

@@ -134,7 +134,7 @@ impl ReadFrom for Typed<Fields> {
 /// Two numbers.
 pub type Numbers = (Option<u8>, Option<u8>);
 
-/// The longest name that is compared where it stands: of 23 bytes.
+/// The longest name that the first look shows with its head: of 23 bytes.
 const LONGEST: &str = "abcdefghijklmnopqrstuvw";
 
 impl ReadFrom for Typed<Numbers> {

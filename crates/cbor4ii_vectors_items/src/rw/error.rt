@@ -1,5 +1,6 @@
 //! The texts of errors, and how errors are compared.
-use cbor4ii_rw::error::{ArithmeticOverflow, DecodeError, EncodeError, Len, StaticStr};
+use cbor4ii_rw::error::ArithmeticOverflow::{Overflow, Underflow};
+use cbor4ii_rw::error::{DecodeError, EncodeError, Len, StaticStr};
 use cbor4ii_vectors::{
     cast_overflow, eof, length_overflow, mismatch, no_step, not_canonical, require_borrowed,
     require_length, require_utf8, table, unsupported,
@@ -23,8 +24,8 @@ const TEXTS: &[(DecodeError<u8>, &str)] = table! {
     (DecodeError::RequireUtf8 { name: NAME }, require_utf8!("str")),
     (DecodeError::LengthOverflow { name: NAME, found: Len::Big }, length_overflow!("str", Big)),
     (DecodeError::CastOverflow { name: NAME }, cast_overflow!("str")),
-    (DecodeError::ArithmeticOverflow { name: NAME, ty: ArithmeticOverflow::Underflow }, UNDERFLOW),
-    (DecodeError::ArithmeticOverflow { name: NAME, ty: ArithmeticOverflow::Overflow }, OVERFLOW),
+    (DecodeError::ArithmeticOverflow { name: NAME, ty: Underflow }, UNDERFLOW),
+    (DecodeError::ArithmeticOverflow { name: NAME, ty: Overflow }, OVERFLOW),
     (DecodeError::DepthOverflow { name: NAME }, no_step!("str")),
     (DecodeError::Custom { name: NAME, num: 7 }, "Custom { name: \"str\", num: 7 }"),
     (DecodeError::OutOfMemory, "OutOfMemory"),
@@ -60,7 +61,7 @@ const SAID: &[Said] = table! {
     (DecodeError::RequireUtf8 { name: "str" }, false, Some("str"), None),
     (DecodeError::LengthOverflow { name: "array", found: Len::Big }, false, Some("array"), None),
     (DecodeError::CastOverflow { name: "u8" }, false, Some("u8"), None),
-    (DecodeError::ArithmeticOverflow { name: "a", ty: ArithmeticOverflow::Overflow }, false, Some("a"), None),
+    (DecodeError::ArithmeticOverflow { name: "a", ty: Overflow }, false, Some("a"), None),
     (DecodeError::DepthOverflow { name: "map" }, false, Some("map"), None),
     (DecodeError::Custom { name: "mine", num: 7 }, false, Some("mine"), None),
     (DecodeError::OutOfMemory, false, None, None),

@@ -9,13 +9,15 @@ use cbor4ii_rw::error::Len::{Big, Indefinite, Small};
 use cbor4ii_vectors::table;
 use std::fmt::InlineText;
 
+const CUT: &str = "the input ends within str, of which 2 bytes are wanted";
+
 const LONG_CUT: &str = "the input ends within str, of which more than 65535 bytes are wanted";
 
 const EXPLAINED: &[(Error<u8>, &str)] = table! {
     (Read(3), "the reader failed: 3"),
     (Mismatch { name: "str", found: 5 }, "expected str, found the byte 0x05"),
     (Unsupported { name: "value", found: 255 }, "the byte 0xff begins no value"),
-    (Eof { name: "str", expect: Small(2) }, "the input ends within str, of which 2 bytes are wanted"),
+    (Eof { name: "str", expect: Small(2) }, CUT),
     (Eof { name: "str", expect: Big }, LONG_CUT),
     (RequireLength { name: "tuple", found: Small(3) }, "tuple of another length: 3"),
     (RequireLength { name: "str", found: Indefinite }, "str of another length: indefinite"),

@@ -197,8 +197,9 @@ impl<S: Source> Deserializer<S> {
     /// from the name of a variant to what it holds. `cases` says what each variant holds, in the
     /// order of the names. The enum's own name is not encoded.
     ///
-    /// A name is read as a `String`. It takes no memory where it stands whole in what the reader
-    /// shows, after a head of one or two bytes. The budget is as before, whatever the answer is.
+    /// A name is read as a `String`. One of at most 255 bytes takes no memory where it stands whole
+    /// in what the reader shows, after a head of one or two bytes. The budget is as before,
+    /// whatever the answer is.
     ///
     /// # Errors
     ///

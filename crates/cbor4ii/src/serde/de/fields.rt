@@ -238,8 +238,8 @@ pub(crate) fn take_struct<S: Source, V: Values<S> + Drop, P: Presences<V>>(
 /// once. Of two fields of one name the first is read. The struct's own name is not encoded.
 ///
 /// A name is read as a `String`, and what is skipped as `IgnoredAny`, both under the step of the
-/// map. A name takes no memory where it stands whole in what the reader shows, after a head of one
-/// or two bytes. The budget is as before, whatever the answer is.
+/// map. A name of at most 255 bytes takes no memory where it stands whole in what the reader shows,
+/// after a head of one or two bytes. The budget is as before, whatever the answer is.
 ///
 /// # Errors
 ///

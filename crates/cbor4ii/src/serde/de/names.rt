@@ -1,7 +1,7 @@
-//! Names of fields, read and found among some names. No memory is taken for one that stands whole
-//! in what the reader shows, after a head of one or two bytes.
-ghost use Rattle.std.specs.Prelude.{◌≡◌, ◌≢◌, ◌≤◌, ◌<◌, length, true, false, IsUtf8, IfSome};
-ghost use Rattle.cbor4ii.specs.Names.{StandsAt, StandsAfter, IsWholeName, TakesName, TakesShown};
+//! Names of fields, read and found among some names. No memory is taken for one of at most 255
+//! bytes that stands whole in what the reader shows, after a head of one or two bytes.
+ghost use Rattle.std.specs.Prelude.{◌≡◌, ◌≢◌, ◌≤◌, ◌<◌, length, true, false, IsUtf8};
+ghost use Rattle.cbor4ii.specs.Names.{StandsAt, IfWhole, IfWholeAfter, TakesName, TakesShown};
 ghost use Rattle.cbor4ii.specs.Typed.{input, answer_of};
 
 use crate::serde::de::deserialize::Deserialize;
@@ -14,12 +14,22 @@ use cbor4ii_rw::read::Source;
 use std::alloc::Global;
 use std::str;
 
-/// So many bytes are looked at. They hold a name of up to 23 bytes with its head; a longer one is
-/// seen where more is shown.
+/// So many bytes are looked at first. They hold a name of up to 23 bytes with its head.
 const LOOK: usize = 24;
 
 /// The first byte of a text whose length stands in the next byte (RFC 8949 section 3).
 const LONG_NAME: u8 = 0x78;
+
+/// What a reader shows of a name.
+#[derive(Clone, Copy)]
+pub(crate) enum Seen {
+    /// All of it: its place among the names, and the number of bytes with its head.
+    Whole { at: usize, size: usize },
+    /// Less than these bytes, which it has with its head.
+    Cut(usize),
+    /// No text of at most 255 bytes in one piece.
+    Other,
+}
 
 /// Reads a name as a `String`, and answers which of `names` it is: the place of the first such, or
 /// how many there are where it is none of them.
@@ -32,9 +42,30 @@ pub(crate) fn take_name<S: Source>(
     ensures { TakesName names.now (input S.view de.old) (input S.view de.new)
         (answer_of result) }
 {
-    match take_shown_name(de, names) {
-        Ok(Some(at)) => Ok(at),
-        Ok(None) => take_any_name(alloc, de, names),
+    match take_shown_name(de, names, LOOK) {
+        Ok(Seen::Whole { at, .. }) => Ok(at),
+        Ok(Seen::Cut(size)) => take_longer_name(alloc, de, names, size),
+        Ok(Seen::Other) => take_any_name(alloc, de, names),
+        Err(error) => Err(error),
+    }
+}
+
+/// As `take_name`, of a name that stands whole in `size` bytes, which are looked at.
+#[cold]
+#[inline(never)]
+fn take_longer_name<S: Source>(
+    alloc: Global,
+    de: &mut Deserializer<S>,
+    names: &[StaticStr],
+    size: usize,
+) -> Result<usize, DecodeError<S::Error>>
+    ensures { TakesName names.now (input S.view de.old) (input S.view de.new)
+        (answer_of result) }
+{
+    match take_shown_name(de, names, size) {
+        Ok(Seen::Whole { at, .. }) => Ok(at),
+        Ok(Seen::Cut(_)) => take_any_name(alloc, de, names),
+        Ok(Seen::Other) => take_any_name(alloc, de, names),
         Err(error) => Err(error),
     }
 }
@@ -56,47 +87,47 @@ fn take_any_name<S: Source>(
     }
 }
 
-/// Takes a name that stands whole in the prefix that is shown, after a head of one or two bytes.
-/// Answers its place as `take_name` does. Where there is none, or it is not UTF-8, none, and
-/// nothing is taken. An error is the reader's.
+/// Looks at `want` bytes, and takes a name that stands whole in what is shown. Nothing is taken of
+/// any other. An error is the reader's.
 #[inline(always)]
 fn take_shown_name<S: Source>(
     de: &mut Deserializer<S>,
     names: &[StaticStr],
-) -> Result<Option<usize>, DecodeError<S::Error>>
+    want: usize,
+) -> Result<Seen, DecodeError<S::Error>>
     ensures { TakesShown names.now (input S.view de.old) (input S.view de.new)
         (answer_of result) }
 {
     let mut failure = None;
-    let found = match look(&mut de.reader, LOOK, &mut failure) {
-        Some(shown) => whole_name(shown, names),
+    let seen = match look(&mut de.reader, want, &mut failure) {
+        Some(shown) => seen_name(shown, names),
         None => return Err(DecodeError::read(failure.unwrap())),
     };
-    match found {
-        Some((at, size)) => {
+    match seen {
+        Seen::Whole { at, size } => {
             de.reader.advance(size);
-            Ok(Some(at))
+            Ok(Seen::Whole { at, size })
         }
-        None => Ok(None),
+        Seen::Cut(size) => Ok(Seen::Cut(size)),
+        Seen::Other => Ok(Seen::Other),
     }
 }
 
-/// The place of the name that stands whole at the start of `shown`, after a head of one or two
-/// bytes, and the number of bytes of both.
+/// What is seen of the name at the start of `shown`, after a head of one or two bytes.
 #[inline(always)]
-fn whole_name(shown: &[u8], names: &[StaticStr]) -> Option<(usize, usize)>
-    ensures { IfSome result (λ found. IsWholeName names.now shown.now found.0 found.1) }
+fn seen_name(shown: &[u8], names: &[StaticStr]) -> Seen
+    ensures { IfWhole names.now shown.now result }
 {
     if shown.len() == 0 {
-        return None;
+        return Seen::Other;
     }
     let first = shown[0];
     if first / 32 != major::STRING {
-        return None;
+        return Seen::Other;
     }
-    let size = (first % 32) as usize;
+    let size = first % 32;
     if size > 23 {
-        return long_name(shown, names);
+        return seen_long_name(shown, names);
     }
     name_after(shown, 1, size, names)
 }
@@ -104,37 +135,32 @@ fn whole_name(shown: &[u8], names: &[StaticStr]) -> Option<(usize, usize)>
 /// The same of a name whose length stands in the byte after the first.
 #[cold]
 #[inline(never)]
-fn long_name(shown: &[u8], names: &[StaticStr]) -> Option<(usize, usize)>
-    ensures { IfSome result (λ found. IsWholeName names.now shown.now found.0 found.1) }
+fn seen_long_name(shown: &[u8], names: &[StaticStr]) -> Seen
+    ensures { IfWhole names.now shown.now result }
 {
     if shown.len() < 2 || shown[0] != LONG_NAME {
-        return None;
+        return Seen::Other;
     }
-    name_after(shown, 2, shown[1] as usize, names)
+    name_after(shown, 2, shown[1], names)
 }
 
-/// The place of the name of `size` bytes after the first `before`, and the number of bytes of both.
-/// None where it does not stand whole there, or is not UTF-8.
+/// What is seen of the name of `size` bytes after the first `before`. One that is not UTF-8 is no
+/// name.
 #[inline(always)]
-fn name_after(
-    shown: &[u8],
-    before: usize,
-    size: usize,
-    names: &[StaticStr],
-) -> Option<(usize, usize)>
+fn name_after(shown: &[u8], before: usize, size: u8, names: &[StaticStr]) -> Seen
     requires { before ≤ length shown.now }
-    ensures { IfSome result (λ found.
-        StandsAfter names.now shown.now before size found.0 found.1) }
+    ensures { IfWholeAfter names.now shown.now before size result }
 {
-    if shown.len() - before < size {
-        return None;
+    let whole = before + size as usize;
+    if shown.len() < whole {
+        return Seen::Cut(whole);
     }
-    let name = &shown[before..before + size];
+    let name = &shown[before..whole];
     let at = place(names, name);
     if at == names.len() && !is_text(name) {
-        return None;
+        return Seen::Other;
     }
-    Some((at, before + size))
+    Seen::Whole { at, size: whole }
 }
 
 /// The place of the first of `names` that is `name`, or how many there are where none is.

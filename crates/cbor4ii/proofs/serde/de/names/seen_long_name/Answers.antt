@@ -1,6 +1,6 @@
 use Rattle.std.proofs.Common.{arith}
 use Rattle.cbor4ii.proofs.Names.{long_name}
-use Rattle.cbor4ii.proofs.serde.de.names.long_name.Goals as goal
+use Rattle.cbor4ii.proofs.serde.de.names.seen_long_name.Goals as goal
 
 pub returns : goal.returns
 returns c =

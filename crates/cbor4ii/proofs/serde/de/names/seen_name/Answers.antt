@@ -1,6 +1,6 @@
 use Rattle.std.proofs.Common.{refl, arith}
 use Rattle.cbor4ii.proofs.Names.{short_name}
-use Rattle.cbor4ii.proofs.serde.de.names.whole_name.Goals as goal
+use Rattle.cbor4ii.proofs.serde.de.names.seen_name.Goals as goal
 
 pub returns : goal.returns
 returns c =
