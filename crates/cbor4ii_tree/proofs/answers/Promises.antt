@@ -1,49 +1,31 @@
 -- What a decoding call promises of known bytes follows from what it accepts and where it fails.
-use Rattle.std.proofs.Common.{false}
-use Rattle.std.proofs.Common.{◌≡◌, ℕ, ◌⊎◌, inl, inr, List, [], ◌++◌, length, take, drop, Option}
-use Rattle.std.proofs.Common.{Some, None, Result, Ok, Err, refl, sym, ap, ◌∙◌, subst}
+use Rattle.std.proofs.Common.{false, ◌≡◌, ℕ, ◌⊎◌, inl, inr, List, [], ◌++◌, length, take, drop}
+use Rattle.std.proofs.Common.{Option, Some, None, Result, Ok, Err, refl, sym, ap, ◌∙◌, subst}
 use Rattle.std.proofs.Common.{append_assoc, append-nil, arith, length-append, MatchBool, IfSome}
-use Rattle.std.proofs.Common.{IfOk}
-use Rattle.std.proofs.lemmas.List.{take-append-drop}
-use Rattle.cbor4ii_rw.specs.View.{View}
-use Rattle.cbor4ii_rw.specs.declared.error.DecodeError.{DecodeError}
-use Rattle.cbor4ii_items.specs.Head.{IsBytes}
-use Rattle.cbor4ii_items.specs.InputError.{InputError, input_error_of}
-use Rattle.cbor4ii_items.specs.Moves.{Moves, Kept, ReaderFailed}
-use Rattle.cbor4ii_items.specs.Laws.Answering.{not_read}
-use Rattle.cbor4ii_tree.specs.declared.value.Value.{Value}
-use Rattle.cbor4ii_tree.specs.Tree.{Tree, bytes, Loose, Joins}
-use Rattle.cbor4ii_tree.specs.Item.{Item, IsItem}
-use Rattle.cbor4ii_tree.specs.Cost.{Budget, cost}
-use Rattle.cbor4ii_tree.specs.Canonical.{canonical_encoding, canonical_cost}
-use Rattle.cbor4ii_tree.specs.InputError.{eof, IsEof, IsDepthOverflow, IsFinal, MayReject}
-use Rattle.cbor4ii_tree.specs.Encodings.{Encodes, DecodesTo, Skips, IsProperPrefix}
-use Rattle.cbor4ii_tree.specs.Rejections.{Stopping}
-use Rattle.cbor4ii_tree.specs.SkippingRejects.{SkippingRejects}
-use Rattle.cbor4ii_tree.specs.ReadingRejects.{ReadingRejects}
-use Rattle.cbor4ii_tree.specs.Does.{Does}
-use Rattle.cbor4ii_tree.specs.Skipping.{SkipsOne, RejectsSkippingOne}
-use Rattle.cbor4ii_tree.specs.Valuing.{ReadsOneValue}
-use Rattle.cbor4ii_tree.specs.View.{view}
-use Rattle.cbor4ii_tree.specs.Promises.{Others, PrefixSkips, EofSkips, DepthSkips}
-use Rattle.cbor4ii_tree.specs.Headline.{AllSkips}
-use Rattle.cbor4ii_tree.specs.Promises.{FinalSkips, ExactSkips}
-use Rattle.cbor4ii_tree.specs.Headline.{OnlyReads, AllReads, PrefixReads}
+use Rattle.std.proofs.{Common.IfOk, lemmas.List.take-append-drop}
+use Rattle.cbor4ii_rw.specs.{View.View, declared.error.DecodeError.DecodeError}
+use Rattle.cbor4ii_items.specs.{Head.IsBytes, InputError.{InputError, input_error_of}}
+use Rattle.cbor4ii_items.specs.{Laws.Answering.not_read, Moves.{Moves, Kept, ReaderFailed}}
+use Rattle.cbor4ii_tree.specs.{Canonical.{canonical_encoding, canonical_cost}, Cost.{Budget, cost}}
+use Rattle.cbor4ii_tree.specs.{Does.Does, Encodings.{Encodes, DecodesTo, Skips, IsProperPrefix}}
+use Rattle.cbor4ii_tree.specs.Headline.{AllSkips, OnlyReads, AllReads, PrefixReads, EofReads}
+use Rattle.cbor4ii_tree.specs.{Headline.{SkipsReads, CanonicalReads}, InputError.{eof, IsEof}}
+use Rattle.cbor4ii_tree.specs.{InputError.{IsDepthOverflow, IsFinal, MayReject}, Item.Item}
+use Rattle.cbor4ii_tree.specs.{Item.IsItem, Laws.Ignoring.one_encoding, Promises.Others}
+use Rattle.cbor4ii_tree.specs.Promises.{PrefixSkips, EofSkips, DepthSkips, FinalSkips, ExactSkips}
 use Rattle.cbor4ii_tree.specs.Promises.{DepthReads, FinalReads, ExactReads, SizeReads}
-use Rattle.cbor4ii_tree.specs.Headline.{EofReads}
-use Rattle.cbor4ii_tree.specs.Headline.{SkipsReads, CanonicalReads}
-use Rattle.cbor4ii_tree.proofs.encodings.Canonical.{canonical_encodes}
+use Rattle.cbor4ii_tree.specs.{ReadingRejects.ReadingRejects, Rejections.Stopping}
+use Rattle.cbor4ii_tree.specs.Skipping.{SkipsOne, RejectsSkippingOne}
+use Rattle.cbor4ii_tree.specs.{SkippingRejects.SkippingRejects, Tree.{Tree, bytes, Loose, Joins}}
+use Rattle.cbor4ii_tree.specs.{Valuing.ReadsOneValue, View.view, declared.value.Value.Value}
 use Rattle.cbor4ii_tree.proofs.answers.MayReject.{skipping_may_stop, skipping_leaves_nothing}
 use Rattle.cbor4ii_tree.proofs.answers.MayReject.{reading_may_stop, reading_leaves_nothing}
-use Rattle.cbor4ii_tree.proofs.encodings.Sizes.{size-of_tree}
-use Rattle.cbor4ii_tree.proofs.skipping.Answer.{one_skipping}
-use Rattle.cbor4ii_tree.proofs.skipping.Laws.{none_left}
-use Rattle.cbor4ii_tree.proofs.skipping.Laws as skipping
+use Rattle.cbor4ii_tree.proofs.{encodings.Canonical.canonical_encodes, encodings.Sizes.size-of_tree}
+use Rattle.cbor4ii_tree.proofs.{reading.Answer.one_reading, reading.Widen.reading_persists}
+use Rattle.cbor4ii_tree.proofs.{skipping.Answer.one_skipping, skipping.Laws.none_left}
 use Rattle.cbor4ii_tree.proofs.skipping.Widen.{skipping_persists}
-use Rattle.cbor4ii_tree.proofs.reading.Answer.{one_reading}
+use Rattle.cbor4ii_tree.proofs.skipping.Laws as skipping
 use Rattle.cbor4ii_tree.proofs.reading.Laws as reading
-use Rattle.cbor4ii_tree.proofs.reading.Widen.{reading_persists}
-use Rattle.cbor4ii_tree.specs.Laws.Ignoring.{one_encoding}
 
 -- ---- what an error says
 
@@ -56,7 +38,7 @@ if_some (Some z) P Q f p = f z refl p
 abbrev Stopped : Stopping → View → List ℕ → InputError → Type 0
 Stopped rejects b xs z = (ys : List ℕ) × (b.known ≡ Some ys) × rejects xs z ys
 
-no_eof : (z : InputError) → IsDepthOverflow z ⊎ IsFinal z → ¬ (IsEof z)
+pub no_eof : (z : InputError) → IsDepthOverflow z ⊎ IsFinal z → ¬ (IsEof z)
 no_eof (eof name expect) (inl d) q = absurd d
 no_eof (eof name expect) (inr f) q = absurd f
 no_eof _ d q = absurd q
@@ -204,7 +186,7 @@ as_reads budget xs v ys r =
       begins = r.3;
     }
 
-reading_eof_alone : (xs back : List ℕ) (budget : Budget) (w : Item) (z : InputError) (ys : List ℕ)
+pub reading_eof_alone : (xs back : List ℕ) (budget : Budget) (w : Item) (z : InputError) (ys : List ℕ)
     → DecodesTo (xs ++ back) budget w [] → ReadingRejects xs budget z ys → IsEof z
 reading_eof_alone xs back budget w z ys r s = elim (reading_may_stop xs budget z ys s) [
   | inl q ↦ q

@@ -1,43 +1,34 @@
 -- Where reading a canonical encoding is rejected by another error than that it is not canonical,
 -- reading a value fails so.
-use Rattle.std.proofs.Common.{false}
-use Rattle.std.proofs.Common.{◌≡◌, ℕ, zero, suc, ◌*◌, ◌/◌, ◌⊎◌, inl, inr, List, [], ◌∷◌, length}
-use Rattle.std.proofs.Common.{Option, Some, None, refl, ap, ◌∙◌, take, arith}
-use Rattle.cbor4ii_items.specs.Head.{indefinite_head, shortest}
-use Rattle.cbor4ii_items.specs.Heads.{RejectsHead}
-use Rattle.cbor4ii_items.specs.Lengths.{RejectsLength}
-use Rattle.cbor4ii_items.specs.InputError.{not_canonical}
-use Rattle.cbor4ii_items.specs.Shortest.{canonical_name, OpensLength, RejectsShortest}
-use Rattle.cbor4ii_items.specs.Shortest.{shortest_rejected, shortest_indefinite, too_long}
-use Rattle.cbor4ii_items.specs.Shortest.{RejectsShortestString, length_rejected, content_cut}
-use Rattle.cbor4ii_items.specs.Strings.{string_head_rejected, string_cut}
+use Rattle.std.proofs.Common.{false, ◌≡◌, ℕ, zero, suc, ◌*◌, ◌/◌, ◌⊎◌, inl, inr, List, [], ◌∷◌}
+use Rattle.std.proofs.Common.{length, Option, Some, None, refl, ap, ◌∙◌, take, arith}
+use Rattle.cbor4ii_items.specs.{Head.{indefinite_head, shortest}, Heads.RejectsHead}
 use Rattle.cbor4ii_items.specs.Initial.{unsigned, negative, Kind, byte_string, text_string}
 use Rattle.cbor4ii_items.specs.Initial.{kind_major, Initial, starts_string, starts_array}
 use Rattle.cbor4ii_items.specs.Initial.{starts_map, starts_tag, starts_simple, starts_bits}
 use Rattle.cbor4ii_items.specs.Initial.{other_simple, simple_undefined, initial}
-use Rattle.cbor4ii_items.specs.Laws.Heads.{shortest_fits}
-use Rattle.cbor4ii_tree.specs.Cost.{Budget, step_in}
-use Rattle.cbor4ii_tree.specs.InputError.{InputError, depth_overflow, sign_name, kind_name}
-use Rattle.cbor4ii_tree.specs.InputError.{array_name}
-use Rattle.cbor4ii_tree.specs.InputError.{map_name, tag_name, value_name}
-use Rattle.cbor4ii_tree.specs.Rejections.{Stopping, RejectsAtStep, AtHead, RejectsInCount}
-use Rattle.cbor4ii_tree.specs.ReadingRejects.{Readable, ReadingRejects}
+use Rattle.cbor4ii_items.specs.{InputError.not_canonical, Laws.Heads.shortest_fits}
+use Rattle.cbor4ii_items.specs.{Lengths.RejectsLength, Shortest.{canonical_name, OpensLength}}
+use Rattle.cbor4ii_items.specs.Shortest.{RejectsShortest, shortest_rejected, shortest_indefinite}
+use Rattle.cbor4ii_items.specs.Shortest.{too_long, RejectsShortestString, length_rejected}
+use Rattle.cbor4ii_items.specs.{Shortest.content_cut, Strings.{string_head_rejected, string_cut}}
 use Rattle.cbor4ii_tree.specs.CanonicalRejects.{FitsCanonically, AtShortest, CanonicalArrayRejects}
-use Rattle.cbor4ii_tree.specs.CanonicalRejects.{CanonicalMapRejects}
-use Rattle.cbor4ii_tree.specs.CanonicalRejects.{CanonicalOtherRejects, CanonicalRejectsBy}
-use Rattle.cbor4ii_tree.specs.CanonicalRejects.{CanonicalRejectsFrom}
+use Rattle.cbor4ii_tree.specs.CanonicalRejects.{CanonicalMapRejects, CanonicalOtherRejects}
+use Rattle.cbor4ii_tree.specs.CanonicalRejects.{CanonicalRejectsBy, CanonicalRejectsFrom}
 use Rattle.cbor4ii_tree.specs.CanonicalRejects.{CanonicalRejectsWithin, CanonicalRejects}
-use Rattle.cbor4ii_tree.specs.Valuing.{RejectsOneValue, RejectsUnder}
-use Rattle.cbor4ii_tree.specs.Laws.Initials.{initial_string, initial_array, initial_map}
-use Rattle.cbor4ii_tree.specs.Laws.Initials.{initial_tag}
-use Rattle.cbor4ii_tree.proofs.answers.Nesting.{reading_by_parts}
-use Rattle.cbor4ii_tree.proofs.parts.Widen.{each_covers}
-use Rattle.cbor4ii_tree.proofs.values.Calls.{int_rejects}
-use Rattle.cbor4ii_tree.proofs.values.Heads.{at_row, tag_rejects}
-use Rattle.cbor4ii_tree.proofs.values.Strings.{string_rejects}
-use Rattle.cbor4ii_tree.proofs.values.Sequences.{array_no_step, map_no_step, array_length_rejects}
+use Rattle.cbor4ii_tree.specs.{Cost.{Budget, step_in}, InputError.{InputError, depth_overflow}}
+use Rattle.cbor4ii_tree.specs.InputError.{sign_name, kind_name, array_name, map_name, tag_name}
+use Rattle.cbor4ii_tree.specs.{InputError.value_name, Laws.Initials.{initial_string, initial_array}}
+use Rattle.cbor4ii_tree.specs.{Laws.Initials.{initial_map, initial_tag}, ReadingRejects.Readable}
+use Rattle.cbor4ii_tree.specs.{ReadingRejects.ReadingRejects, Rejections.{Stopping, RejectsAtStep}}
+use Rattle.cbor4ii_tree.specs.{Rejections.{AtHead, RejectsInCount}, Valuing.RejectsOneValue}
+use Rattle.cbor4ii_tree.specs.Valuing.{RejectsUnder}
+use Rattle.cbor4ii_tree.proofs.{answers.Nesting.reading_by_parts, canonical.NotCanonical.first_is}
+use Rattle.cbor4ii_tree.proofs.{parts.Widen.each_covers, values.Calls.int_rejects}
+use Rattle.cbor4ii_tree.proofs.{values.Heads.{at_row, tag_rejects}, values.Sequences.array_no_step}
+use Rattle.cbor4ii_tree.proofs.values.Sequences.{map_no_step, array_length_rejects}
 use Rattle.cbor4ii_tree.proofs.values.Sequences.{map_length_rejects, step_taken}
-use Rattle.cbor4ii_tree.proofs.canonical.Lacking.{first_is}
+use Rattle.cbor4ii_tree.proofs.values.Strings.{string_rejects}
 
 abbrev OrValue : (InputError → List ℕ → Type 0) → InputError → List ℕ → Type 0
 OrValue rejects e rest = (e ≡ not_canonical canonical_name) ⊎ rejects e rest
@@ -245,7 +236,7 @@ or_step : (name : List ℕ) (step : Option Budget) (here : List ℕ)
 or_step name None here S T e rest f h = inr h
 or_step name (Some inner) here S T e rest f h = f inner h
 
-within_value : (n : ℕ) (budget : Budget) (e : InputError) (rest : List ℕ)
+pub within_value : (n : ℕ) (budget : Budget) (e : InputError) (rest : List ℕ)
     → Parts budget (CanonicalRejectsWithin n budget) e rest
 within_value zero budget e rest xs h = absurd h
 within_value (suc n) budget e rest xs h =

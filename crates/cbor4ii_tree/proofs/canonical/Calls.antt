@@ -1,32 +1,22 @@
 -- Heads and strings that are encoded in one way.
-use Rattle.std.proofs.Common.{◌≡◌, ℕ, ◌/◌, List, ◌∷◌, ◌++◌, length, drop, Option, Some, None, Ok}
+use Rattle.std.proofs.Common.{◌≡◌, ℕ, List, ◌++◌, length, drop, Option, Some, None, Ok}
 use Rattle.std.proofs.Common.{IfOk, IfErr, true, refl, sym, ap, ap₂, ◌∙◌, subst, append_assoc, inl}
 use Rattle.std.proofs.Common.{inr, take-append-drop, Vec, Global, String}
 use Rattle.std.specs.Prelude.{IsUtf8, string_bytes}
-use Rattle.cbor4ii_rw.specs.View.{View}
-use Rattle.cbor4ii_rw.specs.declared.error.DecodeError.{DecodeError}
-use Rattle.cbor4ii_items.specs.InputError.{InputError}
-use Rattle.cbor4ii_items.specs.Head.{head, shortest}
-use Rattle.cbor4ii_items.specs.Laws.Heads.{shortest_fits}
-use Rattle.cbor4ii_items.specs.Laws.Prefixes.{drop_more}
-use Rattle.cbor4ii_items.specs.Moves.{Moves}
-use Rattle.cbor4ii_items.specs.Decoding.{Sound, Rejects}
-use Rattle.cbor4ii_items.specs.Shortest.{ReadsShortest, ReadsShortestString, RejectsShortest}
-use Rattle.cbor4ii_items.specs.Initial.{byte_string, text_string}
-use Rattle.cbor4ii_items.specs.Laws.Answering.{fits_zero}
+use Rattle.cbor4ii_rw.specs.{View.View, declared.error.DecodeError.DecodeError}
+use Rattle.cbor4ii_items.specs.{Decoding.{Sound, Rejects}, Head.{head, shortest}}
+use Rattle.cbor4ii_items.specs.{Initial.{byte_string, text_string}}
+use Rattle.cbor4ii_items.specs.{Laws.Answering.fits_zero, Laws.Heads.shortest_fits}
+use Rattle.cbor4ii_items.specs.{Laws.Prefixes.drop_more, Moves.Moves, Shortest.ReadsShortest}
+use Rattle.cbor4ii_items.specs.Shortest.{ReadsShortestString, RejectsShortest}
+use Rattle.cbor4ii_tree.specs.{CanonicalCalls.StringAt, CanonicalRejects.AtShortest}
+use Rattle.cbor4ii_tree.specs.{CanonicalRejects.CanonicalTextRejects, Cost.Budget, Does.Does}
+use Rattle.cbor4ii_tree.specs.{Does.answered, InputError.{kind_name, require_utf8, tag_name}}
+use Rattle.cbor4ii_tree.specs.{Laws.Binds.step_up, Tree.string, Valuing.{HeadAt, ReadsUnder}}
+use Rattle.cbor4ii_tree.specs.Valuing.{RejectsOf, RejectsOneValue, RejectsUnder, TakesTag}
 use Rattle.cbor4ii_tree.specs.declared.value.Value.{Bytes, Text}
-use Rattle.cbor4ii_tree.specs.Tree.{string}
-use Rattle.cbor4ii_tree.specs.Cost.{Budget}
-use Rattle.cbor4ii_tree.specs.Laws.Binds.{step_up}
-use Rattle.cbor4ii_tree.specs.InputError.{kind_name, require_utf8, tag_name}
-use Rattle.cbor4ii_tree.specs.Does.{Does, answered}
-use Rattle.cbor4ii_tree.specs.CanonicalRejects.{AtShortest, CanonicalTextRejects}
-use Rattle.cbor4ii_tree.specs.CanonicalCalls.{StringAt}
-use Rattle.cbor4ii_tree.specs.Valuing.{HeadAt, ReadsUnder, RejectsOf, RejectsOneValue}
-use Rattle.cbor4ii_tree.specs.Valuing.{RejectsUnder, TakesTag}
 use Rattle.cbor4ii_tree.proofs.skip_calls.Doing.{Reached, reached_sound, does_ok, call_rejects}
-use Rattle.cbor4ii_tree.proofs.values.Calls.{whole}
-use Rattle.cbor4ii_tree.proofs.values.Heads.{at_major, head_at, shortest_at}
+use Rattle.cbor4ii_tree.proofs.{values.Calls.whole, values.Heads.{at_major, head_at, shortest_at}}
 use Rattle.cbor4ii_tree.proofs.values.Strings.{view-Bytes, view-Text}
 
 -- ---- a shortest head

@@ -1,41 +1,33 @@
 -- A canonical tree is the one whose bytes are the canonical encoding of its value.
 use Rattle.std.proofs.Common.{◌≡◌, ℕ, ◌+◌, ◌*◌, ◌^◌, ◌<◌, List, [], ◌∷◌, ◌++◌, length, true, false}
 use Rattle.std.proofs.Common.{ltb, ltb-true, lt-ltb, pos, negsuc, refl, sym, ap, ap₂, ◌∙◌, subst}
-use Rattle.std.proofs.Common.{arith, append_assoc}
-use Rattle.std.specs.Int.{bytes_high_first}
-use Rattle.std.proofs.lemmas.List.{append_cancel_left}
-use Rattle.std.specs.Prelude.{◌↔◌}
-use Rattle.cbor4ii_items.specs.Head.{Width, byte_count, HeadFits, additional, head, indefinite_head}
-use Rattle.cbor4ii_items.specs.Head.{shortest, break}
-use Rattle.cbor4ii_items.specs.Initial.{Sign, unsigned, negative, sign_major, Kind, byte_string}
+use Rattle.std.proofs.{Common.{arith, append_assoc}, lemmas.List.append_cancel_left}
+use Rattle.std.specs.{Int.bytes_high_first, Prelude.◌↔◌}
+use Rattle.cbor4ii_items.specs.{Budget.CostFits, Head.{Width, byte_count, HeadFits, additional}}
+use Rattle.cbor4ii_items.specs.{Head.{head, indefinite_head, shortest, break}, Initial.Sign}
+use Rattle.cbor4ii_items.specs.Initial.{unsigned, negative, sign_major, Kind, byte_string}
 use Rattle.cbor4ii_items.specs.Initial.{text_string, kind_major, simple_false, simple_true}
 use Rattle.cbor4ii_items.specs.Initial.{simple_null, simple_undefined, simple_byte, info_of}
-use Rattle.cbor4ii_items.specs.Budget.{CostFits}
 use Rattle.cbor4ii_items.specs.Laws.Heads.{if_cases, shortest_fits, argument_below, same_wide}
-use Rattle.cbor4ii_tree.specs.Tree.{Tree, int, string, chunked, array, array_indefinite, map_of}
-use Rattle.cbor4ii_tree.specs.Tree.{map_indefinite}
-use Rattle.cbor4ii_tree.specs.Tree.{tagged, simple, bits, Trees, no_trees, tree, Pairs, no_pairs}
-use Rattle.cbor4ii_tree.specs.Tree.{pair, count, pair_count, joined_chunks, bytes, bytes_all}
-use Rattle.cbor4ii_tree.specs.Tree.{bytes_pairs, Loose, LooseAll, LoosePairs, SoundStrings}
-use Rattle.cbor4ii_tree.specs.Tree.{SoundStringsAll, SoundStringsPairs, Plain}
-use Rattle.cbor4ii_tree.specs.Item.{Item, null, boolean, integer, float, bytes_item, text, sequence}
-use Rattle.cbor4ii_tree.specs.Item.{mapping, tag, Items, no_items, item, Members, no_members}
-use Rattle.cbor4ii_tree.specs.Item.{member, item_count, member_count, IsItem, AreItems, AreMembers}
-use Rattle.cbor4ii_tree.specs.Meaning.{value, values, member_values, number, content_item}
-use Rattle.cbor4ii_tree.specs.Cost.{cost, Budget}
 use Rattle.cbor4ii_tree.specs.Canonical.{canonical_encoding, canonical_cost, canonical_tree}
-use Rattle.cbor4ii_tree.specs.Canonical.{canonical_trees, canonical_pairs}
-use Rattle.cbor4ii_tree.specs.Canonical.{integer_tree, with_bignums}
-use Rattle.cbor4ii_tree.specs.CanonicalShape.{CanonicalShape, CanonicalShapeAll}
-use Rattle.cbor4ii_tree.specs.CanonicalShape.{CanonicalShapePairs, IsDecoded, EncodesCanonically}
-use Rattle.cbor4ii_tree.specs.CanonicalShape.{DecodesCanonically}
-use Rattle.cbor4ii_tree.specs.Laws.Numbers.{info-additional}
-use Rattle.cbor4ii_tree.specs.Laws.PartsAgain.{pair_split}
-use Rattle.cbor4ii_tree.specs.Laws.Ignoring.{one_encoding}
+use Rattle.cbor4ii_tree.specs.Canonical.{canonical_trees, canonical_pairs, integer_tree}
+use Rattle.cbor4ii_tree.specs.{Canonical.with_bignums, CanonicalShape.CanonicalShape}
+use Rattle.cbor4ii_tree.specs.CanonicalShape.{CanonicalShapeAll, CanonicalShapePairs, IsDecoded}
+use Rattle.cbor4ii_tree.specs.{CanonicalShape.{EncodesCanonically, DecodesCanonically}, Cost.cost}
+use Rattle.cbor4ii_tree.specs.{Cost.Budget, Item.{Item, null, boolean, integer, float, bytes_item}}
+use Rattle.cbor4ii_tree.specs.Item.{text, sequence, mapping, tag, Items, no_items, item, Members}
+use Rattle.cbor4ii_tree.specs.Item.{no_members, member, item_count, member_count, IsItem, AreItems}
+use Rattle.cbor4ii_tree.specs.{Item.AreMembers, Laws.Ignoring.one_encoding}
+use Rattle.cbor4ii_tree.specs.{Laws.Numbers.info-additional, Laws.PartsAgain.pair_split}
+use Rattle.cbor4ii_tree.specs.Meaning.{value, values, member_values, number, content_item}
+use Rattle.cbor4ii_tree.specs.Tree.{Tree, int, string, chunked, array, array_indefinite, map_of}
+use Rattle.cbor4ii_tree.specs.Tree.{map_indefinite, tagged, simple, bits, Trees, no_trees, tree}
+use Rattle.cbor4ii_tree.specs.Tree.{Pairs, no_pairs, pair, count, pair_count, joined_chunks, bytes}
+use Rattle.cbor4ii_tree.specs.Tree.{bytes_all, bytes_pairs, Loose, LooseAll, LoosePairs}
+use Rattle.cbor4ii_tree.specs.Tree.{SoundStrings, SoundStringsAll, SoundStringsPairs, Plain}
 use Rattle.cbor4ii_tree.proofs.encodings.Canonical.{count-canonical_encoding, count-pairs}
 use Rattle.cbor4ii_tree.proofs.encodings.Canonical.{loose_canonical, sound_canonical}
-use Rattle.cbor4ii_tree.proofs.encodings.Canonical.{value-canonical_encoding}
-use Rattle.cbor4ii_tree.proofs.encodings.Canonical.{with_bignums-value}
+use Rattle.cbor4ii_tree.proofs.encodings.Canonical.{value-canonical_encoding, with_bignums-value}
 use Rattle.cbor4ii_tree.proofs.encodings.Sizes.{integer-value, content-value, item_count-values}
 use Rattle.cbor4ii_tree.proofs.encodings.Sizes.{member_count-values}
 
@@ -130,7 +122,7 @@ same_width major n w u h k e =
     let low : additional w n ≡ additional u n = omega (arith, e) in
     same_wide w u (sym (info-additional n w h) ∙ ap info_of low ∙ info-additional n u k)
 
-same_head : (major n : ℕ) (w : Width) (x y : List ℕ) → HeadFits w n
+pub same_head : (major n : ℕ) (w : Width) (x y : List ℕ) → HeadFits w n
     → head major n w ++ x ≡ head major n (shortest n) ++ y → (w ≡ shortest n) × (x ≡ y)
 same_head major n w x y h e =
     let k = shortest_fits n (argument_below w n h) in

@@ -3,31 +3,25 @@ use Rattle.std.proofs.Common.{◌≡◌, ◌≢◌, ℕ, zero, suc, ◌+◌, ◌
 use Rattle.std.proofs.Common.{◌∷◌, ◌++◌, length, Bool, true, false, cond, refl, sym, ap, ap₂, ◌∙◌}
 use Rattle.std.proofs.Common.{subst, subst₂, arith, append_assoc, append-nil, ltb, ltb-true, pos}
 use Rattle.std.proofs.Common.{negsuc, ℤ, mul-le-mul_right, pow-suc, mul_comm, mod-eq_of_lt, lt-ltb}
-use Rattle.std.proofs.Common.{le-ltb}
-use Rattle.std.proofs.Common.{◌⊎◌, inl, inr}
+use Rattle.std.proofs.{Common.{le-ltb, ◌⊎◌, inl, inr}, Math.Arith.mod-mul}
 use Rattle.std.proofs.Math.Nat.{pow-le-pow_right}
-use Rattle.std.proofs.Math.Arith.{mod-mul}
-use Rattle.std.specs.Int.{byte_at, bytes_high_first}
-use Rattle.std.specs.declared.cmp.Ordering.{Ordering}
-use Rattle.std.specs.declared.cmp.Ordering.TheVariants.{Less, Equal, Greater}
+use Rattle.std.specs.{Cmp.{ranks, nat_cmp_is, then_flip}, Cmp.Lexicographic.slice_cmp}
+use Rattle.std.specs.{Cmp.Lexicographic.nat_list_cmp_total, Int.{byte_at, bytes_high_first}}
 use Rattle.std.specs.Ordering.{MatchOrdering, nat_cmp, ordering_then, ordering_reverse}
-use Rattle.std.specs.Cmp.{ranks, nat_cmp_is, then_flip}
-use Rattle.std.specs.Cmp.Lexicographic.{slice_cmp, nat_list_cmp_total}
+use Rattle.std.specs.{declared.cmp.Ordering.Ordering, declared.cmp.Ordering.TheVariants.Less}
+use Rattle.std.specs.declared.cmp.Ordering.TheVariants.{Equal, Greater}
 use Rattle.cbor4ii_items.specs.Head.{Width, in_first, one, two, four, eight, HeadFits, additional}
-use Rattle.cbor4ii_items.specs.Head.{byte_count, head, shortest}
-use Rattle.cbor4ii_items.specs.Initial.{Sign, unsigned, negative, sign_major, half, single, double}
-use Rattle.cbor4ii_items.specs.Initial.{info_of}
-use Rattle.cbor4ii_items.specs.Numbers.{definite_string}
+use Rattle.cbor4ii_items.specs.{Head.{byte_count, head, shortest}, Initial.{Sign, unsigned}}
+use Rattle.cbor4ii_items.specs.Initial.{negative, sign_major, half, single, double, info_of}
 use Rattle.cbor4ii_items.specs.Laws.Heads.{additional-lt, info-additional, same_wide, if_cases}
-use Rattle.cbor4ii_items.specs.Laws.Heads.{shortest_fits}
-use Rattle.cbor4ii_tree.specs.Tree.{int, bytes, bytes_all, bytes_pairs}
-use Rattle.cbor4ii_tree.specs.Item.{Item, null, boolean, integer, float, bytes_item, text, sequence}
-use Rattle.cbor4ii_tree.specs.Item.{mapping, tag, item_count, member_count}
+use Rattle.cbor4ii_items.specs.{Laws.Heads.shortest_fits, Numbers.definite_string}
 use Rattle.cbor4ii_tree.specs.Canonical.{canonical_encoding, canonical_trees, canonical_pairs}
-use Rattle.cbor4ii_tree.specs.Canonical.{bignum, magnitude, sign_tag}
-use Rattle.cbor4ii_tree.specs.Order.{Compares, shortest_parts, integer_parts, head_of, HasHead}
-use Rattle.cbor4ii_tree.specs.Order.{after_head, integer_major, major_of, content_of}
-use Rattle.cbor4ii_tree.specs.Order.{elements_of, pairs_of}
+use Rattle.cbor4ii_tree.specs.{Canonical.{bignum, magnitude, sign_tag}, Item.{Item, null, boolean}}
+use Rattle.cbor4ii_tree.specs.Item.{integer, float, bytes_item, text, sequence, mapping, tag}
+use Rattle.cbor4ii_tree.specs.{Item.{item_count, member_count}, Order.{Compares, shortest_parts}}
+use Rattle.cbor4ii_tree.specs.Order.{integer_parts, head_of, HasHead, after_head, integer_major}
+use Rattle.cbor4ii_tree.specs.{Order.{major_of, content_of, elements_of, pairs_of}, Tree.int}
+use Rattle.cbor4ii_tree.specs.Tree.{bytes, bytes_all, bytes_pairs}
 use Rattle.cbor4ii_tree.proofs.encodings.Canonical.{count-canonical_encoding, count-pairs}
 
 -- ---- one comparison, and then another

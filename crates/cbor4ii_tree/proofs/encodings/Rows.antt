@@ -4,23 +4,18 @@
 -- it is 256 steps.
 use Rattle.std.proofs.Common.{◌≡◌, ℕ, zero, suc, ◌+◌, ◌-◌, ◌*◌, List, [], ◌∷◌, ◌++◌, Ok, Err}
 use Rattle.std.proofs.Common.{Result, None, Some, refl, pos, negsuc, codes, replicate, true, false}
+use Rattle.std.specs.{Prelude.{nat_lt, if◌then◌else◌}, Str.{is_utf8, chars}}
 use Prim.Native.String.{String}
-use Rattle.std.specs.Prelude.{nat_lt, if◌then◌else◌}
-use Rattle.std.specs.Str.{is_utf8, chars}
 use Rattle.cbor4ii_items.specs.Initial.{half, single, double, initial}
-use Rattle.cbor4ii_tree.specs.Tree.{Tree}
-use Rattle.cbor4ii_tree.specs.Item.{Item, null, boolean, integer, float, bytes_item, text, sequence}
-use Rattle.cbor4ii_tree.specs.Item.{mapping, tag, size}
 use Rattle.cbor4ii_tree.specs.Canonical.{canonical_encoding, canonical_cost, with_bignums}
-use Rattle.cbor4ii_tree.specs.Cost.{cost, skip_cost}
-use Rattle.cbor4ii_tree.specs.InputError.{InputError, eof, mismatch, unsupported, require_length}
-use Rattle.cbor4ii_tree.specs.InputError.{require_utf8, depth_overflow, Small, Big, Indefinite}
+use Rattle.cbor4ii_tree.specs.{Cost.{cost, skip_cost}, InputError.{InputError, eof, mismatch}}
+use Rattle.cbor4ii_tree.specs.InputError.{unsupported, require_length, require_utf8, depth_overflow}
+use Rattle.cbor4ii_tree.specs.{InputError.{Small, Big, Indefinite}, Item.{Item, null, boolean}}
+use Rattle.cbor4ii_tree.specs.Item.{integer, float, bytes_item, text, sequence, mapping, tag, size}
 use Rattle.cbor4ii_tree.specs.Parse.{Answer, argument_of_width, trees_at, pairs_at}
-use Rattle.cbor4ii_tree.specs.Parse.{indefinite_trees_at}
-use Rattle.cbor4ii_tree.specs.Parse.{indefinite_pairs_at}
-use Rattle.cbor4ii_tree.specs.Skip.{skip, skip_within, whole_argument_at}
-use Rattle.cbor4ii_tree.specs.Read.{read, read_tree, read_within}
-use Rattle.cbor4ii_tree.specs.View.{items_of, members_of}
+use Rattle.cbor4ii_tree.specs.{Parse.{indefinite_trees_at, indefinite_pairs_at}, Read.read}
+use Rattle.cbor4ii_tree.specs.{Read.{read_tree, read_within}, Skip.{skip, skip_within}}
+use Rattle.cbor4ii_tree.specs.{Skip.whole_argument_at, Tree.Tree, View.{items_of, members_of}}
 
 -- ---- how rows are written
 

@@ -6,17 +6,14 @@ use Rattle.std.proofs.Common.{arith, subst, length-append, append_assoc, append-
 use Rattle.std.proofs.lemmas.List.{length-replicate}
 use Rattle.std.specs.Int.{bytes_high_first}
 use Rattle.cbor4ii_items.specs.Head.{Width, in_first, one, two, four, eight, HeadFits, additional}
-use Rattle.cbor4ii_items.specs.Head.{byte_count, head, break, IsBytes}
-use Rattle.cbor4ii_items.specs.Initial.{unsigned}
+use Rattle.cbor4ii_items.specs.{Head.{byte_count, head, break, IsBytes}, Initial.unsigned}
 use Rattle.cbor4ii_items.specs.Magnitude.{number_of}
-use Rattle.cbor4ii_tree.specs.Tree.{Tree, int, Trees, no_trees, tree, Pairs, no_pairs, pair, count}
-use Rattle.cbor4ii_tree.specs.Tree.{pair_count, bytes, bytes_all, bytes_pairs}
-use Rattle.cbor4ii_tree.specs.Cost.{Budget, step_in}
-use Rattle.cbor4ii_tree.specs.InputError.{InputError, IsEof}
+use Rattle.cbor4ii_tree.specs.{Cost.{Budget, step_in}, InputError.{InputError, IsEof}}
 use Rattle.cbor4ii_tree.specs.Rejections.{Stopping, RejectsAtStep, Each, EachPair, NoBreak}
-use Rattle.cbor4ii_tree.specs.Rejections.{AfterKey}
-use Rattle.cbor4ii_tree.proofs.heads.Inverse.{number_of_bytes}
-use Rattle.cbor4ii_tree.proofs.heads.Means.{WidthSays, HeadByte}
+use Rattle.cbor4ii_tree.specs.{Rejections.AfterKey, Tree.{Tree, int, Trees, no_trees, tree, Pairs}}
+use Rattle.cbor4ii_tree.specs.Tree.{no_pairs, pair, count, pair_count, bytes, bytes_all}
+use Rattle.cbor4ii_tree.specs.Tree.{bytes_pairs}
+use Rattle.cbor4ii_tree.proofs.{heads.Inverse.number_of_bytes, heads.Means.{WidthSays, HeadByte}}
 use Rattle.cbor4ii_tree.proofs.parts.Joined.{join, count-join, each-join, join_pairs}
 use Rattle.cbor4ii_tree.proofs.parts.Joined.{each-join_pairs}
 

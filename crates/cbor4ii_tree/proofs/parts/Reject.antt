@@ -1,24 +1,19 @@
 -- Where a sequence is rejected, whole items stand before one that is rejected.
 use Rattle.std.proofs.Common.{◌≡◌, ℕ, zero, suc, ◌*◌, ◌<◌, ◌≤◌, inl, inr, List, [], ◌∷◌, ◌++◌}
 use Rattle.std.proofs.Common.{length, take, drop, Ok, Err, refl, sym, ap, ◌∙◌, arith, ltb, ltb-true}
-use Rattle.std.proofs.Common.{eqb, append_assoc, length-append}
-use Rattle.std.proofs.lemmas.Bool.{eqb-false}
+use Rattle.std.proofs.{Common.{eqb, append_assoc, length-append}, lemmas.Bool.eqb-false}
 use Rattle.std.specs.Int.{bytes_high_first}
 use Rattle.cbor4ii_items.specs.Head.{Width, in_first, one, two, four, eight, byte_count, break}
-use Rattle.cbor4ii_items.specs.Head.{IsBytes}
-use Rattle.cbor4ii_items.specs.Magnitude.{number_of}
-use Rattle.cbor4ii_tree.specs.Tree.{Tree, no_trees, tree, no_pairs, pair, bytes, bytes_all}
-use Rattle.cbor4ii_tree.specs.Tree.{bytes_pairs}
-use Rattle.cbor4ii_tree.specs.InputError.{InputError}
-use Rattle.cbor4ii_tree.specs.Rejections.{Stopping, Missing, MissingAll, AtHead, RejectsInCount}
-use Rattle.cbor4ii_tree.specs.Rejections.{IndefiniteItems}
-use Rattle.cbor4ii_tree.specs.Rejections.{IndefinitePairs, AfterKey}
+use Rattle.cbor4ii_items.specs.{Head.IsBytes, Magnitude.number_of}
+use Rattle.cbor4ii_tree.specs.{InputError.InputError, Laws.Binds.{bind_err, no_err, is_err}}
+use Rattle.cbor4ii_tree.specs.{Laws.Binds.{guard_err, chosen}, Laws.Initials.length-bytes-pos}
 use Rattle.cbor4ii_tree.specs.Parse.{Parser, Answer, ◌>>=◌, prefix_at, number_at, argument_of_width}
 use Rattle.cbor4ii_tree.specs.Parse.{trees_at, pairs_at, indefinite_trees_at, indefinite_pairs_at}
-use Rattle.cbor4ii_tree.specs.Laws.Binds.{bind_err, no_err, is_err, guard_err, chosen}
-use Rattle.cbor4ii_tree.specs.Laws.Initials.{length-bytes-pos}
-use Rattle.cbor4ii_tree.proofs.heads.Means.{HeadByte, Headed, argument_inverse}
-use Rattle.cbor4ii_tree.proofs.parts.Sound.{Took, IsSound}
+use Rattle.cbor4ii_tree.specs.Rejections.{Stopping, Missing, MissingAll, AtHead, RejectsInCount}
+use Rattle.cbor4ii_tree.specs.{Rejections.{IndefiniteItems, IndefinitePairs, AfterKey}, Tree.Tree}
+use Rattle.cbor4ii_tree.specs.Tree.{no_trees, tree, no_pairs, pair, bytes, bytes_all, bytes_pairs}
+use Rattle.cbor4ii_tree.proofs.{heads.Means.{HeadByte, Headed, argument_inverse}, parts.Sound.Took}
+use Rattle.cbor4ii_tree.proofs.parts.Sound.{IsSound}
 
 -- ---- heads and contents
 

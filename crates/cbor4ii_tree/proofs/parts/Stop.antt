@@ -4,20 +4,16 @@ use Rattle.std.proofs.Common.{length, Err, ap, ◌∙◌, arith, lt-ltb, ne_eqb,
 use Rattle.std.proofs.Common.{length-append}
 use Rattle.std.specs.Int.{bytes_high_first}
 use Rattle.cbor4ii_items.specs.Head.{Width, in_first, one, two, four, eight, byte_count, break}
-use Rattle.cbor4ii_tree.specs.Tree.{Tree, Trees, no_trees, tree, Pairs, no_pairs, pair, count}
-use Rattle.cbor4ii_tree.specs.Tree.{bytes, bytes_all, bytes_pairs}
-use Rattle.cbor4ii_tree.specs.InputError.{InputError}
-use Rattle.cbor4ii_tree.specs.Rejections.{Stopping, Missing, MissingAll, AtHead, Each, EachPair}
-use Rattle.cbor4ii_tree.specs.Rejections.{RejectsInCount, NoBreak, IndefiniteItems, AfterKey}
-use Rattle.cbor4ii_tree.specs.Rejections.{IndefinitePairs}
+use Rattle.cbor4ii_tree.specs.{InputError.InputError, Laws.Binds.{err, then_err}}
+use Rattle.cbor4ii_tree.specs.{Laws.HeadsAgain.argument_of, Laws.Initials.length-bytes-pos}
+use Rattle.cbor4ii_tree.specs.Laws.PartsAgain.{Again, StartNoBreak, shorter, pair_split}
+use Rattle.cbor4ii_tree.specs.Laws.PartsAgain.{indefinite_turn, indefinite_pair_turn}
 use Rattle.cbor4ii_tree.specs.Parse.{Parser, Answer, ◌>>=◌, prefix_at, number_at, argument_of_width}
 use Rattle.cbor4ii_tree.specs.Parse.{trees_at, pairs_at, indefinite_trees_at, indefinite_pairs_at}
-use Rattle.cbor4ii_tree.specs.Laws.Binds.{err, then_err}
-use Rattle.cbor4ii_tree.specs.Laws.Initials.{length-bytes-pos}
-use Rattle.cbor4ii_tree.specs.Laws.HeadsAgain.{argument_of}
-use Rattle.cbor4ii_tree.specs.Laws.PartsAgain.{Again, StartNoBreak, shorter, pair_split}
-use Rattle.cbor4ii_tree.specs.Laws.PartsAgain.{indefinite_turn}
-use Rattle.cbor4ii_tree.specs.Laws.PartsAgain.{indefinite_pair_turn}
+use Rattle.cbor4ii_tree.specs.Rejections.{Stopping, Missing, MissingAll, AtHead, Each, EachPair}
+use Rattle.cbor4ii_tree.specs.Rejections.{RejectsInCount, NoBreak, IndefiniteItems, AfterKey}
+use Rattle.cbor4ii_tree.specs.{Rejections.IndefinitePairs, Tree.{Tree, Trees, no_trees, tree}}
+use Rattle.cbor4ii_tree.specs.Tree.{Pairs, no_pairs, pair, count, bytes, bytes_all, bytes_pairs}
 
 -- ---- heads and contents
 

@@ -2,16 +2,13 @@
 -- a larger budget, unless for want of a step.
 use Rattle.std.proofs.Common.{◌≡◌, ℕ, zero, suc, ◌⊎◌, inl, inr, List, [], ◌∷◌, ◌++◌, Some, None}
 use Rattle.std.proofs.Common.{refl, sym, ap, ◌∙◌, arith, subst, append_assoc, append-nil}
-use Rattle.cbor4ii_items.specs.Head.{Width, byte_count, head}
-use Rattle.cbor4ii_tree.specs.Tree.{Tree, Trees, no_trees, tree, Pairs, no_pairs, pair, bytes}
-use Rattle.cbor4ii_tree.specs.Tree.{bytes_all, bytes_pairs}
-use Rattle.cbor4ii_items.specs.Budget.{CostFits}
-use Rattle.cbor4ii_tree.specs.Cost.{Budget, step_in}
-use Rattle.cbor4ii_tree.specs.InputError.{InputError, eof, Len, IsEof, IsDepthOverflow}
-use Rattle.cbor4ii_tree.specs.Rejections.{Stopping, Is, Missing, MissingAll, AfterHead, AtHead}
-use Rattle.cbor4ii_tree.specs.Rejections.{RejectsAtStep, Each, EachPair, RejectsInCount, NoBreak}
-use Rattle.cbor4ii_tree.specs.Rejections.{IndefiniteItems}
-use Rattle.cbor4ii_tree.specs.Rejections.{AfterKey, IndefinitePairs}
+use Rattle.cbor4ii_items.specs.{Budget.CostFits, Head.{Width, byte_count, head}}
+use Rattle.cbor4ii_tree.specs.{Cost.{Budget, step_in}, InputError.{InputError, eof, Len, IsEof}}
+use Rattle.cbor4ii_tree.specs.{InputError.IsDepthOverflow, Rejections.{Stopping, Is, Missing}}
+use Rattle.cbor4ii_tree.specs.Rejections.{MissingAll, AfterHead, AtHead, RejectsAtStep, Each}
+use Rattle.cbor4ii_tree.specs.Rejections.{EachPair, RejectsInCount, NoBreak, IndefiniteItems}
+use Rattle.cbor4ii_tree.specs.{Rejections.{AfterKey, IndefinitePairs}, Tree.{Tree, Trees, no_trees}}
+use Rattle.cbor4ii_tree.specs.Tree.{tree, Pairs, no_pairs, pair, bytes, bytes_all, bytes_pairs}
 
 -- of one error, before what comes later
 abbrev pub Goes : InputError → List ℕ → Stopping → Stopping → Type 0

@@ -1,33 +1,23 @@
 -- A method `decode(alloc, reader)` of an impl of `Decode` whose body is `known(alloc, reader)`, at
 -- a type T that names the impl's lifetime: what the callee ensures holds of it.
-use mathlib.Core.Path.{◌≡◌}
-use Prim.Native.Nat.{ℕ}
-use mathlib.Core.List.{List, [], ◌∷◌, ◌++◌}
-use seplogic.Ra.Ura.{Ura}
-use base.Fml.{Lft}
-use base.Logic.{SProp, ent, ex, via, sep, snd∗, mono_r, emp}
-use contract.BorrowLft.{◌⊑◌}
-use contract.Lifetimes.{Lfts, Shares, AllOutlive}
-use contract.Monad.{fact, fact_use}
-use contract.Running.{Running, tables, tables_of}
-use denote.Exit.{yes}
-use denote.Param.{bounded, param, arg, layout}
-use denote.Param.Glue as Glue
-use denote.Param.Laws.{Laws, param_laws, arg_laws}
-use denote.RattleType.{RattleType}
-use denote.Ref.{MutBor}
-use denote.Signature.{type_at}
-use denote.Triple.Entry.{on_entry, alive}
-use denote.Triple.Impl.{with_fact, pin_of}
-use denote.Triple.Spec.{triple_of, Back}
+use denote.{Exit.yes, Param.{bounded, param, arg, layout}, Param.Laws.{Laws, param_laws, arg_laws}}
+use denote.{RattleType.RattleType, Ref.MutBor, Signature.type_at, Triple.Entry.{on_entry, alive}}
+use denote.{Triple.Impl.{with_fact, pin_of}, Triple.Spec.{triple_of, Back}}
 use denote.Triple.Statement.{Contract}
-use mir.Raw.{raw as bare}
-use mir.Syntax.{Ty, Dict, Callee, Home, Kind, Lifetime, a_type, dcons, dnil, named}
-use mir.Val.{Val}
-use prog.Model.{Model}
-use prog.Wired.{Wired}
-use prog.Wp.{Tables, WpFn}
+use mathlib.{Core.List.{List, [], ◌∷◌, ◌++◌}, Core.Path.◌≡◌}
+use Prim.Native.Nat.{ℕ}
+use seplogic.Ra.Ura.{Ura}
+use base.{Fml.Lft, Logic.{SProp, ent, ex, via, sep, snd∗, mono_r, emp}}
+use contract.{BorrowLft.◌⊑◌, Lifetimes.{Lfts, Shares, AllOutlive}, Monad.{fact, fact_use}}
+use contract.Running.{Running, tables, tables_of}
+use mir.{Raw.raw as bare, Syntax.{Ty, Dict, Callee, Home, Kind, Lifetime, a_type, dcons, dnil}}
+use mir.{Syntax.named, Val.Val}
+use prog.{Model.Model, Wired.Wired, Wp.{Tables, WpFn}}
 use types.Logic.{Logic}
+use Rattle.cbor4ii_items.specs.Laws.Forward.{lent, lent_fn, result_fit}
+use Rattle.cbor4ii_tree.proofs.{lend_raw.take_raw.Met.met, lend_raw.take_raw.Symbol.name as #g}
+use Rattle.cbor4ii_tree.proofs.lend_raw.take_raw.Symbol.{code as g_code}
+use denote.Param.Glue as Glue
 use Rattle.std.proofs.result.Result.TheLaws as ResultLaws
 use Rattle.std.specs.contracts.alloc.Global as Global
 use Rattle.std.specs.contracts.fmt.Debug.TheBound as DebugBound
@@ -38,10 +28,7 @@ use Rattle.cbor4ii_rw.specs.contracts.read.Source.TheBound as SourceBound
 use Rattle.cbor4ii_tree.specs.declared.lend_raw.LendRaw as Lend
 use Rattle.cbor4ii_rw.specs.declared.read.Source as Source
 use Rattle.cbor4ii_tree.specs.contracts.lend_raw.take_raw as g
-use Rattle.cbor4ii_items.specs.Laws.Forward.{lent, lent_fn, result_fit}
 use Rattle.cbor4ii_rw.proofs.error.DecodeError.TheLaws as ErrorLaws
-use Rattle.cbor4ii_tree.proofs.lend_raw.take_raw.Met.{met}
-use Rattle.cbor4ii_tree.proofs.lend_raw.take_raw.Symbol.{name as #g, code as g_code}
 
 module _ {M : Type 1} (𝓤 : Ura M) (𝓛 : Logic 𝓤) (𝓜 : Model 𝓤 𝓛.H) (𝓡 : Running 𝓤 𝓛.H 𝓜)
     (wired : Wired 𝓡.env g_code)

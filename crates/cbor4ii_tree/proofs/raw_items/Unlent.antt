@@ -1,18 +1,12 @@
 -- What is said of an item that is to be kept, where the reader lends nothing.
-use Rattle.std.proofs.Common.{◌≡◌, ℕ, inr, List, [], length, drop, Some, false, refl, ap}
-use Rattle.std.proofs.Common.{◌∙◌, subst, arith, length-append}
-use Rattle.cbor4ii_rw.specs.View.{View}
-use Rattle.cbor4ii_rw.specs.Long.{FillsLong}
-use Rattle.cbor4ii_rw.specs.Reader.{KeepsAllButBudget}
+use Rattle.std.proofs.Common.{◌≡◌, ℕ, inr, List, [], length, drop, Some, false, refl, ap, ◌∙◌}
+use Rattle.std.proofs.Common.{subst, arith, length-append}
+use Rattle.cbor4ii_rw.specs.{Long.FillsLong, Reader.KeepsAllButBudget, View.View}
 use Rattle.cbor4ii_rw.specs.declared.error.DecodeError.{DecodeError}
-use Rattle.cbor4ii_items.specs.Decoding.{Rejects}
-use Rattle.cbor4ii_items.specs.InputError.{input_error_of, is_out_of_memory}
-use Rattle.cbor4ii_tree.specs.Tree.{bytes}
-use Rattle.cbor4ii_tree.specs.Cost.{Budget}
-use Rattle.cbor4ii_tree.specs.Laws.Initials.{length-bytes-pos}
-use Rattle.cbor4ii_tree.specs.SkippingRejects.{SkippingRejects}
-use Rattle.cbor4ii_tree.specs.Raw.{most, SkipsPrefix, RejectsPrefix}
-use Rattle.cbor4ii_tree.specs.BoxedRaw.{RejectsRawUnlent}
+use Rattle.cbor4ii_items.specs.{Decoding.Rejects, InputError.{input_error_of, is_out_of_memory}}
+use Rattle.cbor4ii_tree.specs.{BoxedRaw.RejectsRawUnlent, Cost.Budget}
+use Rattle.cbor4ii_tree.specs.{Laws.Initials.length-bytes-pos, Raw.{most, SkipsPrefix}}
+use Rattle.cbor4ii_tree.specs.{Raw.RejectsPrefix, SkippingRejects.SkippingRejects, Tree.bytes}
 use Rattle.cbor4ii_tree.proofs.raw_items.Captured.{if_some}
 
 -- no item stands in no bytes

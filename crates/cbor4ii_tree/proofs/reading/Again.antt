@@ -2,32 +2,27 @@
 use Rattle.std.proofs.Common.{◌≡◌, ℕ, zero, suc, ◌<◌, ◌≤◌, List, [], ◌∷◌, ◌++◌, length, Some, None}
 use Rattle.std.proofs.Common.{Ok, refl, ap, ◌∙◌, arith, append_assoc}
 use Rattle.std.specs.Int.{bytes_high_first}
-use Rattle.cbor4ii_items.specs.Head.{byte_count, break}
-use Rattle.cbor4ii_items.specs.Initial.{sign_major, Kind, precision_bytes, Initial, initial}
-use Rattle.cbor4ii_tree.specs.Tree.{Tree, int, string, chunked, array, array_indefinite, map_of}
-use Rattle.cbor4ii_tree.specs.Tree.{map_indefinite}
-use Rattle.cbor4ii_tree.specs.Tree.{tagged, simple, bits, Trees, no_trees, tree, count, pair_count}
-use Rattle.cbor4ii_tree.specs.Tree.{bytes, bytes_all, bytes_pairs, joined_chunks, Loose}
-use Rattle.cbor4ii_tree.specs.Tree.{SoundStrings, AreChunks}
-use Rattle.cbor4ii_items.specs.Budget.{CostFits}
+use Rattle.cbor4ii_items.specs.{Budget.CostFits, Head.{byte_count, break}, Initial.sign_major}
+use Rattle.cbor4ii_items.specs.Initial.{Kind, precision_bytes, Initial, initial}
 use Rattle.cbor4ii_items.specs.Laws.SequenceParts.{fits_less}
 use Rattle.cbor4ii_tree.specs.Cost.{Budget, cost, chunks_cost, greatest_cost, greatest_pair_cost}
 use Rattle.cbor4ii_tree.specs.InputError.{sign_name, precision_name, array_name, map_name, tag_name}
-use Rattle.cbor4ii_tree.specs.Rejections.{Each}
-use Rattle.cbor4ii_tree.specs.ReadingRejects.{Readable, ReadableChunk}
-use Rattle.cbor4ii_tree.specs.Parse.{Parser}
-use Rattle.cbor4ii_tree.specs.Read.{chunk_tree_at, read_by, read_from, read_within}
-use Rattle.cbor4ii_tree.specs.Laws.Binds.{left, step_left}
-use Rattle.cbor4ii_tree.specs.Laws.Budgets.{fits_left, fits_two}
+use Rattle.cbor4ii_tree.specs.{Laws.Binds.{left, step_left}, Laws.Budgets.{fits_left, fits_two}}
+use Rattle.cbor4ii_tree.specs.Laws.HeadsAgain.{argument_again, number_again}
 use Rattle.cbor4ii_tree.specs.Laws.Initials.{initial_int, initial_string, initial_array}
 use Rattle.cbor4ii_tree.specs.Laws.Initials.{initial_map, initial_tag, initial_chunks}
 use Rattle.cbor4ii_tree.specs.Laws.Initials.{initial_simple, initial_bits, initial_indefinite_array}
 use Rattle.cbor4ii_tree.specs.Laws.Initials.{initial_indefinite_map, begins}
-use Rattle.cbor4ii_tree.specs.Laws.HeadsAgain.{argument_again, number_again}
 use Rattle.cbor4ii_tree.specs.Laws.PartsAgain.{Again, StartNoBreak, trees_again, pairs_again}
 use Rattle.cbor4ii_tree.specs.Laws.PartsAgain.{indefinite_trees_again, indefinite_pairs_again}
-use Rattle.cbor4ii_tree.specs.Laws.Wholes.{each_readable, each_pair_readable, each_chunk}
 use Rattle.cbor4ii_tree.specs.Laws.SkippingAgain.{following_head, after_indefinite}
+use Rattle.cbor4ii_tree.specs.Laws.Wholes.{each_readable, each_pair_readable, each_chunk}
+use Rattle.cbor4ii_tree.specs.{Parse.Parser, Read.{chunk_tree_at, read_by, read_from, read_within}}
+use Rattle.cbor4ii_tree.specs.{ReadingRejects.{Readable, ReadableChunk}, Rejections.Each, Tree.Tree}
+use Rattle.cbor4ii_tree.specs.Tree.{int, string, chunked, array, array_indefinite, map_of}
+use Rattle.cbor4ii_tree.specs.Tree.{map_indefinite, tagged, simple, bits, Trees, no_trees, tree}
+use Rattle.cbor4ii_tree.specs.Tree.{count, pair_count, bytes, bytes_all, bytes_pairs, joined_chunks}
+use Rattle.cbor4ii_tree.specs.Tree.{Loose, SoundStrings, AreChunks}
 use Rattle.cbor4ii_tree.proofs.reading.Chunks.{chunks_start, tested_again, string_again}
 use Rattle.cbor4ii_tree.proofs.reading.Chunks.{chunk_again}
 

@@ -1,22 +1,15 @@
 -- Reading a value has one answer for each input and budget.
 use Rattle.std.proofs.Common.{◌≡◌, ℕ, suc, inl, inr, List, ◌++◌, length, Ok, Err, refl, sym, ap}
 use Rattle.std.proofs.Common.{◌∙◌, arith}
-use Rattle.cbor4ii_items.specs.Head.{IsBytes}
-use Rattle.cbor4ii_tree.specs.Tree.{Tree, bytes}
-use Rattle.cbor4ii_tree.specs.Item.{Item}
-use Rattle.cbor4ii_tree.specs.Meaning.{value}
-use Rattle.cbor4ii_items.specs.Budget.{CostFits}
-use Rattle.cbor4ii_tree.specs.Cost.{Budget, cost}
-use Rattle.cbor4ii_tree.specs.InputError.{InputError}
-use Rattle.cbor4ii_tree.specs.Encodings.{DecodesTo, SomeAnswer, AtMostOne}
-use Rattle.cbor4ii_tree.specs.ReadingRejects.{Readable, ReadingRejects}
-use Rattle.cbor4ii_tree.specs.Read.{read, read_tree}
+use Rattle.cbor4ii_items.specs.{Budget.CostFits, Head.IsBytes}
+use Rattle.cbor4ii_tree.specs.{Cost.{Budget, cost}, Encodings.{DecodesTo, SomeAnswer, AtMostOne}}
+use Rattle.cbor4ii_tree.specs.{InputError.InputError, Item.Item, Laws.Binds.{parts, apart, bind_ok}}
+use Rattle.cbor4ii_tree.specs.{Laws.Binds.{bind_err, then_err, no_err}, Meaning.value, Read.read}
+use Rattle.cbor4ii_tree.specs.{Read.read_tree, ReadingRejects.{Readable, ReadingRejects}, Tree.Tree}
+use Rattle.cbor4ii_tree.specs.Tree.{bytes}
 use Rattle.cbor4ii_tree.proofs.answers.Answers.{some_answer_of, at_most_one_of}
-use Rattle.cbor4ii_tree.specs.Laws.Binds.{parts, apart, bind_ok, bind_err, then_err, no_err}
-use Rattle.cbor4ii_tree.proofs.reading.Again.{read_again}
-use Rattle.cbor4ii_tree.proofs.reading.Sound.{read_sound}
-use Rattle.cbor4ii_tree.proofs.reading.Rejects.{read_errs}
-use Rattle.cbor4ii_tree.proofs.reading.Rejections.{read_rejects}
+use Rattle.cbor4ii_tree.proofs.{reading.Again.read_again, reading.Rejections.read_rejects}
+use Rattle.cbor4ii_tree.proofs.{reading.Rejects.read_errs, reading.Sound.read_sound}
 
 -- a plain tree that fits is read as its value
 pub read_plain : (t : Tree) (budget : Budget) (rest : List ℕ) → Readable budget t

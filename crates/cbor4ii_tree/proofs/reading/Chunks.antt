@@ -1,33 +1,26 @@
 -- Strings and chunks: read back, sound, rejected, and failing.
 use Rattle.std.proofs.Common.{◌≡◌, ℕ, ◌+◌, ◌*◌, inl, inr, List, [], ◌∷◌, ◌++◌, length, Ok, Err}
-use Rattle.std.proofs.Common.{refl, sym, subst, append_assoc}
-use Rattle.std.proofs.lemmas.Str.{is_utf8-from_IsUtf8}
+use Rattle.std.proofs.{Common.{refl, sym, subst, append_assoc}, lemmas.Str.is_utf8-from_IsUtf8}
 use Rattle.std.specs.Int.{bytes_high_first}
-use Rattle.cbor4ii_items.specs.Head.{Width, HeadFits, additional, byte_count, head, IsBytes}
-use Rattle.cbor4ii_items.specs.Initial.{Kind, byte_string, text_string, kind_major, Initial}
-use Rattle.cbor4ii_items.specs.Initial.{starts_string, starts_chunks, initial}
-use Rattle.cbor4ii_tree.specs.Tree.{Tree, int, string, chunked, array, array_indefinite, map_of}
-use Rattle.cbor4ii_tree.specs.Tree.{map_indefinite}
-use Rattle.cbor4ii_tree.specs.Tree.{tagged, simple, bits, TextIsUtf8}
-use Rattle.cbor4ii_items.specs.Budget.{CostFits}
+use Rattle.cbor4ii_items.specs.{Budget.CostFits, Head.{Width, HeadFits, additional, byte_count}}
+use Rattle.cbor4ii_items.specs.{Head.{head, IsBytes}, Initial.{Kind, byte_string, text_string}}
+use Rattle.cbor4ii_items.specs.Initial.{kind_major, Initial, starts_string, starts_chunks, initial}
 use Rattle.cbor4ii_items.specs.Laws.Answering.{fits_zero}
-use Rattle.cbor4ii_tree.specs.Cost.{Budget, step_in}
-use Rattle.cbor4ii_tree.specs.InputError.{InputError, kind_name}
-use Rattle.cbor4ii_tree.specs.Rejections.{Missing}
-use Rattle.cbor4ii_tree.specs.ReadingRejects.{ReadableChunk, CutString, ChunkRejectsBy}
-use Rattle.cbor4ii_tree.specs.ReadingRejects.{ChunkRejects}
-use Rattle.cbor4ii_tree.specs.Parse.{◌>>=◌, prefix_at, argument_of_width}
-use Rattle.cbor4ii_tree.specs.Read.{tested, definite_string_at, chunk_tree_by, chunk_tree_at}
+use Rattle.cbor4ii_tree.specs.{Cost.{Budget, step_in}, InputError.{InputError, kind_name}}
 use Rattle.cbor4ii_tree.specs.Laws.Binds.{bind_ok, bind_err, same_ok, no_ok, no_err, is_err, err}
 use Rattle.cbor4ii_tree.specs.Laws.Binds.{then_err, step_left, step_up, stepped_ok, stepped_err}
-use Rattle.cbor4ii_tree.specs.Laws.Binds.{stepped_rejects}
-use Rattle.cbor4ii_tree.specs.Laws.Initials.{initial_string, begins}
-use Rattle.cbor4ii_tree.proofs.heads.Inverse.{prefix_inverse}
-use Rattle.cbor4ii_tree.proofs.heads.Means.{HeadByte, Means, means, argument_inverse}
-use Rattle.cbor4ii_tree.specs.Laws.HeadsAgain.{prefix_again, argument_again}
-use Rattle.cbor4ii_tree.specs.Laws.PartsAgain.{Again, StartNoBreak}
-use Rattle.cbor4ii_tree.proofs.parts.Sound.{Took, IsSound, counted}
-use Rattle.cbor4ii_tree.proofs.parts.Reject.{Complete, prefix_err, at_head}
+use Rattle.cbor4ii_tree.specs.{Laws.Binds.stepped_rejects, Laws.HeadsAgain.prefix_again}
+use Rattle.cbor4ii_tree.specs.{Laws.HeadsAgain.argument_again, Laws.Initials.initial_string}
+use Rattle.cbor4ii_tree.specs.{Laws.Initials.begins, Laws.PartsAgain.{Again, StartNoBreak}}
+use Rattle.cbor4ii_tree.specs.{Parse.{◌>>=◌, prefix_at, argument_of_width}, Read.tested}
+use Rattle.cbor4ii_tree.specs.Read.{definite_string_at, chunk_tree_by, chunk_tree_at}
+use Rattle.cbor4ii_tree.specs.ReadingRejects.{ReadableChunk, CutString, ChunkRejectsBy}
+use Rattle.cbor4ii_tree.specs.{ReadingRejects.ChunkRejects, Rejections.Missing, Tree.{Tree, int}}
+use Rattle.cbor4ii_tree.specs.Tree.{string, chunked, array, array_indefinite, map_of}
+use Rattle.cbor4ii_tree.specs.Tree.{map_indefinite, tagged, simple, bits, TextIsUtf8}
+use Rattle.cbor4ii_tree.proofs.{heads.Inverse.prefix_inverse, heads.Means.{HeadByte, Means, means}}
+use Rattle.cbor4ii_tree.proofs.{heads.Means.argument_inverse, parts.Reject.{Complete, prefix_err}}
+use Rattle.cbor4ii_tree.proofs.{parts.Reject.at_head, parts.Sound.{Took, IsSound, counted}}
 use Rattle.cbor4ii_tree.proofs.parts.Stop.{Gives, missing_prefix, head_rejects}
 
 pub chunks_start : (k : Kind) (b : Budget) → StartNoBreak (ReadableChunk k b)

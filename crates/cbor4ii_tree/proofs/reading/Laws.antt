@@ -2,27 +2,20 @@
 -- skipped, and reads back.
 use Rattle.std.proofs.Common.{◌≡◌, ℕ, ◌<◌, ◌≤◌, ◌^◌, inl, inr, List, [], ◌++◌, length, None, refl}
 use Rattle.std.proofs.Common.{sym, ap, ◌∙◌, subst, append_assoc, append-nil, arith}
-use Rattle.cbor4ii_items.specs.Head.{IsBytes}
-use Rattle.cbor4ii_tree.specs.Tree.{Tree, bytes, Loose, Joins}
-use Rattle.cbor4ii_tree.specs.Item.{Item, IsItem}
-use Rattle.cbor4ii_tree.specs.Meaning.{value}
-use Rattle.cbor4ii_items.specs.Budget.{CostFits}
-use Rattle.cbor4ii_items.specs.Laws.SequenceParts.{fits_less}
-use Rattle.cbor4ii_tree.specs.Cost.{Budget, skip_cost, cost}
+use Rattle.cbor4ii_items.specs.{Budget.CostFits, Head.IsBytes, Laws.SequenceParts.fits_less}
 use Rattle.cbor4ii_tree.specs.Canonical.{canonical_encoding, canonical_cost, with_bignums}
-use Rattle.cbor4ii_tree.specs.InputError.{InputError, eof, mismatch, unsupported, require_length}
-use Rattle.cbor4ii_tree.specs.InputError.{require_utf8, depth_overflow, Len, IsEof, IsFinal}
-use Rattle.cbor4ii_tree.specs.Encodings.{Encodes, DecodesTo, Skips, IsProperPrefix}
-use Rattle.cbor4ii_tree.specs.ReadingRejects.{ReadingRejects}
+use Rattle.cbor4ii_tree.specs.{Cost.{Budget, skip_cost, cost}, Encodings.{Encodes, DecodesTo}}
+use Rattle.cbor4ii_tree.specs.{Encodings.{Skips, IsProperPrefix}, InputError.{InputError, eof}}
+use Rattle.cbor4ii_tree.specs.InputError.{mismatch, unsupported, require_length, require_utf8}
+use Rattle.cbor4ii_tree.specs.{InputError.{depth_overflow, Len, IsEof, IsFinal}, Item.Item}
+use Rattle.cbor4ii_tree.specs.{Item.IsItem, Laws.Ignoring.one_encoding, Meaning.value}
+use Rattle.cbor4ii_tree.specs.{ReadingRejects.ReadingRejects, Tree.{Tree, bytes, Loose, Joins}}
 use Rattle.cbor4ii_tree.proofs.encodings.Canonical.{canonical_encodes, with_bignums-value}
 use Rattle.cbor4ii_tree.proofs.encodings.Costs.{skip_cost-le, cost-canonical_encoding}
-use Rattle.cbor4ii_tree.proofs.parts.Prefixes.{whole_bytes}
-use Rattle.cbor4ii_tree.proofs.skipping.Laws.{none_left}
+use Rattle.cbor4ii_tree.proofs.{encodings.Sizes.IsItem-value, parts.Prefixes.whole_bytes}
 use Rattle.cbor4ii_tree.proofs.reading.Answer.{some_reading, not_both}
-use Rattle.cbor4ii_tree.proofs.reading.Prefixes.{reading_prefix}
-use Rattle.cbor4ii_tree.proofs.reading.Widen.{reading_persists, reading_unbounded}
-use Rattle.cbor4ii_tree.proofs.encodings.Sizes.{IsItem-value}
-use Rattle.cbor4ii_tree.specs.Laws.Ignoring.{one_encoding}
+use Rattle.cbor4ii_tree.proofs.{reading.Prefixes.reading_prefix, reading.Widen.reading_persists}
+use Rattle.cbor4ii_tree.proofs.{reading.Widen.reading_unbounded, skipping.Laws.none_left}
 
 abbrev RejectsAtEnd : List ℕ → Budget → Type 0
 RejectsAtEnd prefix budget =

@@ -2,39 +2,33 @@
 -- that joins chunks.
 use Rattle.std.proofs.Common.{◌≡◌, ℕ, zero, suc, ◌-◌, ◌*◌, inl, inr, List, [], ◌∷◌, ◌++◌, length}
 use Rattle.std.proofs.Common.{refl, sym, ap, ap₂, ◌∙◌, arith, subst, length-append, append_assoc}
-use Rattle.cbor4ii_items.specs.Head.{Width, in_first, HeadFits, head, IsBytes}
-use Rattle.cbor4ii_items.specs.Initial.{sign_major, Kind, byte_string, text_string, kind_major}
-use Rattle.cbor4ii_items.specs.Initial.{precision_bytes, Initial, starts_int, bad_int}
-use Rattle.cbor4ii_items.specs.Initial.{starts_string, starts_chunks, bad_string, starts_array}
-use Rattle.cbor4ii_items.specs.Initial.{starts_indefinite_array, bad_array, starts_map}
-use Rattle.cbor4ii_items.specs.Initial.{starts_indefinite_map}
-use Rattle.cbor4ii_items.specs.Initial.{bad_map, starts_tag, bad_tag, starts_simple, starts_bits}
+use Rattle.cbor4ii_items.specs.{Head.{Width, in_first, HeadFits, head, IsBytes}, Initial.sign_major}
+use Rattle.cbor4ii_items.specs.Initial.{Kind, byte_string, text_string, kind_major, precision_bytes}
+use Rattle.cbor4ii_items.specs.Initial.{Initial, starts_int, bad_int, starts_string, starts_chunks}
+use Rattle.cbor4ii_items.specs.Initial.{bad_string, starts_array, starts_indefinite_array}
+use Rattle.cbor4ii_items.specs.Initial.{bad_array, starts_map, starts_indefinite_map, bad_map}
+use Rattle.cbor4ii_items.specs.Initial.{starts_tag, bad_tag, starts_simple, starts_bits}
 use Rattle.cbor4ii_items.specs.Initial.{other_simple, initial}
-use Rattle.cbor4ii_tree.specs.Tree.{Tree, int, string, chunked, array, array_indefinite, map_of}
-use Rattle.cbor4ii_tree.specs.Tree.{map_indefinite}
-use Rattle.cbor4ii_tree.specs.Tree.{tagged, simple, bits, Trees, no_trees, tree, Pairs, no_pairs}
-use Rattle.cbor4ii_tree.specs.Tree.{pair, bytes, bytes_all, bytes_pairs, Loose, LooseAll}
-use Rattle.cbor4ii_tree.specs.Tree.{LoosePairs, IsChunk, AreChunks, SoundStrings, SoundStringsAll}
-use Rattle.cbor4ii_tree.specs.Tree.{SoundStringsPairs, Joins, JoinsAll, JoinsPairs}
-use Rattle.cbor4ii_tree.specs.Cost.{Budget}
-use Rattle.cbor4ii_tree.specs.InputError.{InputError, IsEof, array_name, map_name}
-use Rattle.cbor4ii_tree.specs.Rejections.{Stopping, AtHead, Each, EachPair, RejectsInCount}
-use Rattle.cbor4ii_tree.specs.Rejections.{IndefiniteItems}
-use Rattle.cbor4ii_tree.specs.Rejections.{IndefinitePairs}
+use Rattle.cbor4ii_tree.specs.{Cost.Budget, InputError.{InputError, IsEof, array_name, map_name}}
 use Rattle.cbor4ii_tree.specs.ReadingRejects.{Readable, ReadableChunk, CutString, ChunkRejectsBy}
 use Rattle.cbor4ii_tree.specs.ReadingRejects.{ChunkRejects, ReadingRejectsBy, ReadingRejectsFrom}
 use Rattle.cbor4ii_tree.specs.ReadingRejects.{ReadingRejectsWithin, ReadingRejects}
-use Rattle.cbor4ii_tree.proofs.heads.Means.{HeadByte, Means, means}
-use Rattle.cbor4ii_tree.proofs.parts.Widen.{each_covers, each_pair_covers}
-use Rattle.cbor4ii_tree.proofs.parts.Prefixes.{Prefix, prefix_of, Prefixes, IsMore, cons_some}
-use Rattle.cbor4ii_tree.proofs.parts.Prefixes.{then_some}
+use Rattle.cbor4ii_tree.specs.Rejections.{Stopping, AtHead, Each, EachPair, RejectsInCount}
+use Rattle.cbor4ii_tree.specs.{Rejections.{IndefiniteItems, IndefinitePairs}, Tree.{Tree, int}}
+use Rattle.cbor4ii_tree.specs.Tree.{string, chunked, array, array_indefinite, map_of}
+use Rattle.cbor4ii_tree.specs.Tree.{map_indefinite, tagged, simple, bits, Trees, no_trees, tree}
+use Rattle.cbor4ii_tree.specs.Tree.{Pairs, no_pairs, pair, bytes, bytes_all, bytes_pairs, Loose}
+use Rattle.cbor4ii_tree.specs.Tree.{LooseAll, LoosePairs, IsChunk, AreChunks, SoundStrings}
+use Rattle.cbor4ii_tree.specs.Tree.{SoundStringsAll, SoundStringsPairs, Joins, JoinsAll, JoinsPairs}
+use Rattle.cbor4ii_tree.proofs.{heads.Means.{HeadByte, Means, means}, parts.Prefixes.Prefix}
+use Rattle.cbor4ii_tree.proofs.parts.Prefixes.{prefix_of, Prefixes, IsMore, cons_some, then_some}
 use Rattle.cbor4ii_tree.proofs.parts.Prefixes.{zeros, zeros_bytes, zeros_some, length-zeros}
 use Rattle.cbor4ii_tree.proofs.parts.Prefixes.{IsBytes-after, stepped_prefix, filled, filled_number}
 use Rattle.cbor4ii_tree.proofs.parts.Prefixes.{with_head, nought, nought_bytes, nought_some}
-use Rattle.cbor4ii_tree.proofs.parts.Prefixes.{noughts}
-use Rattle.cbor4ii_tree.proofs.parts.Prefixes.{noughts_bytes, count-noughts, each-noughts}
+use Rattle.cbor4ii_tree.proofs.parts.Prefixes.{noughts, noughts_bytes, count-noughts, each-noughts}
 use Rattle.cbor4ii_tree.proofs.parts.Prefixes.{filled_items, paired, eof_only, indefinite_prefix}
-use Rattle.cbor4ii_tree.proofs.parts.Prefixes.{indefinite_pairs_prefix}
+use Rattle.cbor4ii_tree.proofs.{parts.Prefixes.indefinite_pairs_prefix, parts.Widen.each_covers}
+use Rattle.cbor4ii_tree.proofs.parts.Widen.{each_pair_covers}
 
 abbrev pub Outline : Tree → Type 0
 Outline t = Loose t × Joins t

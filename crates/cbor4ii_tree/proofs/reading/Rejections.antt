@@ -3,41 +3,33 @@ use Rattle.std.proofs.Common.{◌≡◌, ℕ, zero, suc, ◌*◌, ◌<◌, inl, 
 use Rattle.std.proofs.Common.{Ok, Err, refl, sym, ap, ◌∙◌, arith, true, false, Bool}
 use Rattle.std.proofs.lemmas.Str.{IsUtf8-from_is_utf8}
 use Rattle.std.specs.Str.{is_utf8}
-use Rattle.cbor4ii_items.specs.Head.{Width, break}
-use Rattle.cbor4ii_items.specs.Initial.{Kind, byte_string, text_string, kind_major, precision_bytes}
-use Rattle.cbor4ii_items.specs.Initial.{Initial, starts_int, bad_int, starts_string, starts_chunks}
-use Rattle.cbor4ii_items.specs.Initial.{bad_string, starts_array, starts_indefinite_array}
-use Rattle.cbor4ii_items.specs.Initial.{bad_array}
-use Rattle.cbor4ii_items.specs.Initial.{starts_map, starts_indefinite_map, bad_map, starts_tag}
-use Rattle.cbor4ii_items.specs.Initial.{bad_tag}
+use Rattle.cbor4ii_items.specs.{Head.{Width, break}, Initial.{Kind, byte_string, text_string}}
+use Rattle.cbor4ii_items.specs.Initial.{kind_major, precision_bytes, Initial, starts_int, bad_int}
+use Rattle.cbor4ii_items.specs.Initial.{starts_string, starts_chunks, bad_string, starts_array}
+use Rattle.cbor4ii_items.specs.Initial.{starts_indefinite_array, bad_array, starts_map}
+use Rattle.cbor4ii_items.specs.Initial.{starts_indefinite_map, bad_map, starts_tag, bad_tag}
 use Rattle.cbor4ii_items.specs.Initial.{starts_simple, starts_bits, other_simple, initial}
-use Rattle.cbor4ii_tree.specs.Tree.{Tree, string, chunked, array, array_indefinite, map_of}
-use Rattle.cbor4ii_tree.specs.Tree.{map_indefinite}
-use Rattle.cbor4ii_tree.specs.Tree.{tagged, joined_chunks, bytes_all}
-use Rattle.cbor4ii_tree.specs.Cost.{Budget, step_in}
-use Rattle.cbor4ii_tree.specs.InputError.{InputError, require_utf8, sign_name, kind_name}
-use Rattle.cbor4ii_tree.specs.InputError.{precision_name}
-use Rattle.cbor4ii_tree.specs.InputError.{array_name, map_name, tag_name, value_name}
+use Rattle.cbor4ii_tree.specs.{Cost.{Budget, step_in}, InputError.{InputError, require_utf8}}
+use Rattle.cbor4ii_tree.specs.InputError.{sign_name, kind_name, precision_name, array_name}
+use Rattle.cbor4ii_tree.specs.{InputError.{map_name, tag_name, value_name}, Laws.Binds.err}
+use Rattle.cbor4ii_tree.specs.{Laws.Binds.{then_err, stepped_rejects}, Laws.HeadsAgain.prefix_again}
+use Rattle.cbor4ii_tree.specs.{Laws.HeadsAgain.argument_of, Laws.PartsAgain.Again}
+use Rattle.cbor4ii_tree.specs.{Laws.PartsAgain.indefinite_trees_again, Parse.{Parser, ◌>>=◌}}
+use Rattle.cbor4ii_tree.specs.Parse.{prefix_at, number_at, argument_of_width, trees_at, pairs_at}
+use Rattle.cbor4ii_tree.specs.{Parse.{indefinite_trees_at, indefinite_pairs_at}, Read.tested}
+use Rattle.cbor4ii_tree.specs.Read.{definite_string_at, chunk_tree_at, read_by, read_from}
+use Rattle.cbor4ii_tree.specs.{Read.read_within, ReadingRejects.{Readable, ReadableChunk, IsNoUtf8}}
+use Rattle.cbor4ii_tree.specs.ReadingRejects.{NoUtf8, NoUtf8Joined, ChunkRejects, ReadingRejectsBy}
+use Rattle.cbor4ii_tree.specs.ReadingRejects.{ReadingRejectsFrom, ReadingRejectsWithin}
 use Rattle.cbor4ii_tree.specs.Rejections.{Stopping, Is, AtHead, AfterHead, RejectsInCount}
-use Rattle.cbor4ii_tree.specs.Rejections.{IndefiniteItems}
-use Rattle.cbor4ii_tree.specs.Rejections.{IndefinitePairs}
-use Rattle.cbor4ii_tree.specs.ReadingRejects.{Readable, ReadableChunk, IsNoUtf8, NoUtf8}
-use Rattle.cbor4ii_tree.specs.ReadingRejects.{NoUtf8Joined}
-use Rattle.cbor4ii_tree.specs.ReadingRejects.{ChunkRejects, ReadingRejectsBy, ReadingRejectsFrom}
-use Rattle.cbor4ii_tree.specs.ReadingRejects.{ReadingRejectsWithin}
-use Rattle.cbor4ii_tree.specs.Parse.{Parser, ◌>>=◌, prefix_at, number_at, argument_of_width}
-use Rattle.cbor4ii_tree.specs.Parse.{trees_at, pairs_at, indefinite_trees_at, indefinite_pairs_at}
-use Rattle.cbor4ii_tree.specs.Read.{tested, definite_string_at, chunk_tree_at, read_by, read_from}
-use Rattle.cbor4ii_tree.specs.Read.{read_within}
-use Rattle.cbor4ii_tree.specs.Laws.Binds.{err, then_err, stepped_rejects}
-use Rattle.cbor4ii_tree.specs.Laws.HeadsAgain.{prefix_again, argument_of}
-use Rattle.cbor4ii_tree.specs.Laws.PartsAgain.{Again, indefinite_trees_again}
+use Rattle.cbor4ii_tree.specs.{Rejections.{IndefiniteItems, IndefinitePairs}, Tree.{Tree, string}}
+use Rattle.cbor4ii_tree.specs.Tree.{chunked, array, array_indefinite, map_of, map_indefinite}
+use Rattle.cbor4ii_tree.specs.Tree.{tagged, joined_chunks, bytes_all}
 use Rattle.cbor4ii_tree.proofs.parts.Stop.{Gives, missing_number, missing_argument, head_rejects}
 use Rattle.cbor4ii_tree.proofs.parts.Stop.{trees_stop, pairs_stop, indefinite_trees_stop}
-use Rattle.cbor4ii_tree.proofs.parts.Stop.{indefinite_pairs_stop}
-use Rattle.cbor4ii_tree.proofs.reading.Chunks.{chunks_start, chunk_again, string_rejects}
-use Rattle.cbor4ii_tree.proofs.reading.Chunks.{chunk_rejects}
-use Rattle.cbor4ii_tree.proofs.reading.Again.{read_again, readable_starts}
+use Rattle.cbor4ii_tree.proofs.{parts.Stop.indefinite_pairs_stop, reading.Again.read_again}
+use Rattle.cbor4ii_tree.proofs.{reading.Again.readable_starts, reading.Chunks.chunks_start}
+use Rattle.cbor4ii_tree.proofs.reading.Chunks.{chunk_again, string_rejects, chunk_rejects}
 
 tested_rejects : (k : Kind) (content : List ℕ) (t : Tree) (rest : List ℕ) → IsNoUtf8 k content
     → tested k content t rest ≡ Err (require_utf8 (kind_name k), rest)

@@ -3,38 +3,32 @@ use Rattle.std.proofs.Common.{◌≡◌, ℕ, zero, suc, ◌*◌, ◌<◌, inl, 
 use Rattle.std.proofs.Common.{Ok, Err, sym, ap, ◌∙◌, arith, true, false, Bool, append_assoc}
 use Rattle.std.proofs.lemmas.Str.{is_utf8-from_IsUtf8}
 use Rattle.std.specs.Str.{is_utf8}
-use Rattle.cbor4ii_items.specs.Head.{Width, break, IsBytes}
-use Rattle.cbor4ii_items.specs.Initial.{Kind, byte_string, text_string, kind_major, precision_bytes}
-use Rattle.cbor4ii_items.specs.Initial.{Initial, starts_int, bad_int, starts_string, starts_chunks}
+use Rattle.cbor4ii_items.specs.{Head.{Width, break, IsBytes}, Initial.{Kind, byte_string}}
+use Rattle.cbor4ii_items.specs.Initial.{text_string, kind_major, precision_bytes, Initial}
+use Rattle.cbor4ii_items.specs.Initial.{starts_int, bad_int, starts_string, starts_chunks}
 use Rattle.cbor4ii_items.specs.Initial.{bad_string, starts_array, starts_indefinite_array}
-use Rattle.cbor4ii_items.specs.Initial.{bad_array}
-use Rattle.cbor4ii_items.specs.Initial.{starts_map, starts_indefinite_map, bad_map, starts_tag}
-use Rattle.cbor4ii_items.specs.Initial.{bad_tag}
-use Rattle.cbor4ii_items.specs.Initial.{starts_simple, starts_bits, other_simple, initial}
-use Rattle.cbor4ii_tree.specs.Tree.{Tree, int, string, chunked, array, array_indefinite, map_of}
-use Rattle.cbor4ii_tree.specs.Tree.{map_indefinite}
-use Rattle.cbor4ii_tree.specs.Tree.{tagged, bits, joined_chunks, bytes_all}
-use Rattle.cbor4ii_tree.specs.Cost.{Budget, step_in}
-use Rattle.cbor4ii_tree.specs.InputError.{InputError, require_utf8, sign_name, kind_name}
-use Rattle.cbor4ii_tree.specs.InputError.{precision_name}
-use Rattle.cbor4ii_tree.specs.InputError.{array_name, map_name, tag_name, value_name}
-use Rattle.cbor4ii_tree.specs.Rejections.{Stopping, Is, AtHead, AfterHead, RejectsInCount}
-use Rattle.cbor4ii_tree.specs.Rejections.{IndefiniteItems}
-use Rattle.cbor4ii_tree.specs.Rejections.{IndefinitePairs}
-use Rattle.cbor4ii_tree.specs.ReadingRejects.{Readable, ReadableChunk, IsNoUtf8, NoUtf8}
-use Rattle.cbor4ii_tree.specs.ReadingRejects.{ChunkRejects}
-use Rattle.cbor4ii_tree.specs.ReadingRejects.{ReadingRejectsBy, ReadingRejectsFrom}
-use Rattle.cbor4ii_tree.specs.ReadingRejects.{ReadingRejectsWithin}
+use Rattle.cbor4ii_items.specs.Initial.{bad_array, starts_map, starts_indefinite_map, bad_map}
+use Rattle.cbor4ii_items.specs.Initial.{starts_tag, bad_tag, starts_simple, starts_bits}
+use Rattle.cbor4ii_items.specs.Initial.{other_simple, initial}
+use Rattle.cbor4ii_tree.specs.{Cost.{Budget, step_in}, InputError.{InputError, require_utf8}}
+use Rattle.cbor4ii_tree.specs.InputError.{sign_name, kind_name, precision_name, array_name}
+use Rattle.cbor4ii_tree.specs.{InputError.{map_name, tag_name, value_name}, Laws.Binds.bind_ok}
+use Rattle.cbor4ii_tree.specs.Laws.Binds.{bind_err, no_err, is_err, chosen, stepped_err}
 use Rattle.cbor4ii_tree.specs.Parse.{Parser, ◌>>=◌, prefix_at, number_at, argument_of_width}
 use Rattle.cbor4ii_tree.specs.Parse.{trees_at, pairs_at, indefinite_trees_at, indefinite_pairs_at}
 use Rattle.cbor4ii_tree.specs.Read.{tested, definite_string_at, chunk_tree_at, read_by, read_from}
-use Rattle.cbor4ii_tree.specs.Read.{read_within}
-use Rattle.cbor4ii_tree.specs.Laws.Binds.{bind_ok, bind_err, no_err, is_err, chosen, stepped_err}
-use Rattle.cbor4ii_tree.proofs.heads.Inverse.{prefix_inverse}
-use Rattle.cbor4ii_tree.proofs.heads.Means.{HeadByte, Means, means, argument_inverse}
+use Rattle.cbor4ii_tree.specs.{Read.read_within, ReadingRejects.{Readable, ReadableChunk, IsNoUtf8}}
+use Rattle.cbor4ii_tree.specs.ReadingRejects.{NoUtf8, ChunkRejects, ReadingRejectsBy}
+use Rattle.cbor4ii_tree.specs.ReadingRejects.{ReadingRejectsFrom, ReadingRejectsWithin}
+use Rattle.cbor4ii_tree.specs.Rejections.{Stopping, Is, AtHead, AfterHead, RejectsInCount}
+use Rattle.cbor4ii_tree.specs.{Rejections.{IndefiniteItems, IndefinitePairs}, Tree.{Tree, int}}
+use Rattle.cbor4ii_tree.specs.Tree.{string, chunked, array, array_indefinite, map_of}
+use Rattle.cbor4ii_tree.specs.Tree.{map_indefinite, tagged, bits, joined_chunks, bytes_all}
+use Rattle.cbor4ii_tree.proofs.{heads.Inverse.prefix_inverse, heads.Means.{HeadByte, Means, means}}
+use Rattle.cbor4ii_tree.proofs.{heads.Means.argument_inverse, parts.Reject.{Complete, number_err}}
+use Rattle.cbor4ii_tree.proofs.parts.Reject.{argument_err, at_head, trees_err, pairs_err}
+use Rattle.cbor4ii_tree.proofs.parts.Reject.{indefinite_trees_err, indefinite_pairs_err}
 use Rattle.cbor4ii_tree.proofs.parts.Sound.{IsSound, indefinite_trees_sound}
-use Rattle.cbor4ii_tree.proofs.parts.Reject.{Complete, number_err, argument_err, at_head, trees_err}
-use Rattle.cbor4ii_tree.proofs.parts.Reject.{pairs_err, indefinite_trees_err, indefinite_pairs_err}
 use Rattle.cbor4ii_tree.proofs.reading.Chunks.{string_errs, chunk_sound, chunk_errs}
 use Rattle.cbor4ii_tree.proofs.reading.Sound.{read_sound}
 

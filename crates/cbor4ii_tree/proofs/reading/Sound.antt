@@ -3,36 +3,31 @@ use Rattle.std.proofs.Common.{◌≡◌, ℕ, zero, suc, ◌+◌, List, [], ◌�
 use Rattle.std.proofs.Common.{sym, ap, ap₂, subst, arith, inl, inr}
 use Rattle.std.proofs.lemmas.Str.{IsUtf8-from_is_utf8}
 use Rattle.std.specs.Str.{is_utf8}
-use Rattle.cbor4ii_items.specs.Head.{HeadFits, IsBytes}
-use Rattle.cbor4ii_items.specs.Initial.{sign_major, Kind, byte_string, text_string, precision_bytes}
-use Rattle.cbor4ii_items.specs.Initial.{Initial, starts_int, bad_int, starts_string, starts_chunks}
+use Rattle.cbor4ii_items.specs.{Budget.CostFits, Head.{HeadFits, IsBytes}, Initial.sign_major}
+use Rattle.cbor4ii_items.specs.Initial.{Kind, byte_string, text_string, precision_bytes, Initial}
+use Rattle.cbor4ii_items.specs.Initial.{starts_int, bad_int, starts_string, starts_chunks}
 use Rattle.cbor4ii_items.specs.Initial.{bad_string, starts_array, starts_indefinite_array}
-use Rattle.cbor4ii_items.specs.Initial.{bad_array}
-use Rattle.cbor4ii_items.specs.Initial.{starts_map, starts_indefinite_map, bad_map, starts_tag}
-use Rattle.cbor4ii_items.specs.Initial.{bad_tag}
-use Rattle.cbor4ii_items.specs.Initial.{starts_simple, starts_bits, other_simple, initial}
-use Rattle.cbor4ii_tree.specs.Tree.{Tree, int, string, chunked, array, array_indefinite, map_of}
-use Rattle.cbor4ii_tree.specs.Tree.{map_indefinite}
-use Rattle.cbor4ii_tree.specs.Tree.{tagged, simple, bits, Trees, no_trees, tree, count, pair_count}
-use Rattle.cbor4ii_tree.specs.Tree.{bytes, bytes_all, bytes_pairs, joined_chunks, TextIsUtf8}
-use Rattle.cbor4ii_items.specs.Budget.{CostFits}
-use Rattle.cbor4ii_items.specs.Laws.Answering.{fits_zero}
+use Rattle.cbor4ii_items.specs.Initial.{bad_array, starts_map, starts_indefinite_map, bad_map}
+use Rattle.cbor4ii_items.specs.Initial.{starts_tag, bad_tag, starts_simple, starts_bits}
+use Rattle.cbor4ii_items.specs.{Initial.{other_simple, initial}, Laws.Answering.fits_zero}
 use Rattle.cbor4ii_items.specs.Laws.SequenceParts.{fits_less}
-use Rattle.cbor4ii_tree.specs.Cost.{Budget, step_in, chunks_cost}
-use Rattle.cbor4ii_tree.specs.InputError.{sign_name, precision_name, array_name, map_name, tag_name}
-use Rattle.cbor4ii_tree.specs.InputError.{value_name}
-use Rattle.cbor4ii_tree.specs.Rejections.{Each}
-use Rattle.cbor4ii_tree.specs.ReadingRejects.{Readable, ReadableChunk}
-use Rattle.cbor4ii_tree.specs.Parse.{Parser, ◌>>=◌, number_at, argument_of_width, trees_at}
-use Rattle.cbor4ii_tree.specs.Parse.{pairs_at, indefinite_trees_at, indefinite_pairs_at}
-use Rattle.cbor4ii_tree.specs.Read.{tested, definite_string_at, chunk_tree_at, read_by, read_from}
-use Rattle.cbor4ii_tree.specs.Read.{read_within}
-use Rattle.cbor4ii_tree.specs.Laws.Binds.{bind_ok, same_ok, no_ok, chosen, stepped_ok, step_up}
-use Rattle.cbor4ii_tree.proofs.heads.Inverse.{number_inverse}
-use Rattle.cbor4ii_tree.proofs.heads.Means.{Means, means, argument_inverse}
-use Rattle.cbor4ii_tree.proofs.parts.Sound.{Took, IsSound, trees_sound, pairs_sound}
-use Rattle.cbor4ii_tree.proofs.parts.Sound.{indefinite_trees_sound, indefinite_pairs_sound, counted}
-use Rattle.cbor4ii_tree.specs.Laws.Wholes.{all_readable, all_pairs_readable, all_chunks}
+use Rattle.cbor4ii_tree.specs.{Cost.{Budget, step_in, chunks_cost}, InputError.sign_name}
+use Rattle.cbor4ii_tree.specs.InputError.{precision_name, array_name, map_name, tag_name}
+use Rattle.cbor4ii_tree.specs.{InputError.value_name, Laws.Binds.{bind_ok, same_ok, no_ok, chosen}}
+use Rattle.cbor4ii_tree.specs.{Laws.Binds.{stepped_ok, step_up}, Laws.Wholes.all_readable}
+use Rattle.cbor4ii_tree.specs.{Laws.Wholes.{all_pairs_readable, all_chunks}, Parse.{Parser, ◌>>=◌}}
+use Rattle.cbor4ii_tree.specs.Parse.{number_at, argument_of_width, trees_at, pairs_at}
+use Rattle.cbor4ii_tree.specs.{Parse.{indefinite_trees_at, indefinite_pairs_at}, Read.tested}
+use Rattle.cbor4ii_tree.specs.Read.{definite_string_at, chunk_tree_at, read_by, read_from}
+use Rattle.cbor4ii_tree.specs.{Read.read_within, ReadingRejects.{Readable, ReadableChunk}}
+use Rattle.cbor4ii_tree.specs.{Rejections.Each, Tree.{Tree, int, string, chunked, array}}
+use Rattle.cbor4ii_tree.specs.Tree.{array_indefinite, map_of, map_indefinite, tagged, simple, bits}
+use Rattle.cbor4ii_tree.specs.Tree.{Trees, no_trees, tree, count, pair_count, bytes, bytes_all}
+use Rattle.cbor4ii_tree.specs.Tree.{bytes_pairs, joined_chunks, TextIsUtf8}
+use Rattle.cbor4ii_tree.proofs.{heads.Inverse.number_inverse, heads.Means.{Means, means}}
+use Rattle.cbor4ii_tree.proofs.{heads.Means.argument_inverse, parts.Sound.{Took, IsSound}}
+use Rattle.cbor4ii_tree.proofs.parts.Sound.{trees_sound, pairs_sound, indefinite_trees_sound}
+use Rattle.cbor4ii_tree.proofs.parts.Sound.{indefinite_pairs_sound, counted}
 use Rattle.cbor4ii_tree.proofs.reading.Chunks.{string_sound, chunk_sound}
 
 -- a cost that fits two steps later

@@ -1,26 +1,21 @@
 -- Where reading a value is rejected, it stays rejected.
 use Rattle.std.proofs.Common.{ℕ, zero, suc, ◌*◌, ◌≤◌, inl, inr, List, [], ◌∷◌, ◌++◌, length, None}
 use Rattle.std.proofs.Common.{ap, ◌∙◌, arith, append_assoc, length-append}
-use Rattle.cbor4ii_items.specs.Head.{Width, byte_count, break}
-use Rattle.cbor4ii_items.specs.Initial.{Kind, byte_string, text_string, kind_major, precision_bytes}
-use Rattle.cbor4ii_items.specs.Initial.{Initial, starts_int, bad_int, starts_string, starts_chunks}
+use Rattle.cbor4ii_items.specs.{Head.{Width, byte_count, break}, Initial.{Kind, byte_string}}
+use Rattle.cbor4ii_items.specs.Initial.{text_string, kind_major, precision_bytes, Initial}
+use Rattle.cbor4ii_items.specs.Initial.{starts_int, bad_int, starts_string, starts_chunks}
 use Rattle.cbor4ii_items.specs.Initial.{bad_string, starts_array, starts_indefinite_array}
-use Rattle.cbor4ii_items.specs.Initial.{bad_array}
-use Rattle.cbor4ii_items.specs.Initial.{starts_map, starts_indefinite_map, bad_map, starts_tag}
-use Rattle.cbor4ii_items.specs.Initial.{bad_tag}
-use Rattle.cbor4ii_items.specs.Initial.{starts_simple, starts_bits, other_simple, initial}
-use Rattle.cbor4ii_tree.specs.Tree.{bytes_all}
-use Rattle.cbor4ii_tree.specs.Cost.{Budget, cost}
-use Rattle.cbor4ii_tree.specs.InputError.{InputError, IsEof, IsDepthOverflow, sign_name, kind_name}
-use Rattle.cbor4ii_tree.specs.InputError.{precision_name, array_name, map_name, tag_name}
-use Rattle.cbor4ii_tree.specs.InputError.{value_name}
+use Rattle.cbor4ii_items.specs.Initial.{bad_array, starts_map, starts_indefinite_map, bad_map}
+use Rattle.cbor4ii_items.specs.Initial.{starts_tag, bad_tag, starts_simple, starts_bits}
+use Rattle.cbor4ii_items.specs.Initial.{other_simple, initial}
+use Rattle.cbor4ii_tree.specs.{Cost.{Budget, cost}, InputError.{InputError, IsEof, IsDepthOverflow}}
+use Rattle.cbor4ii_tree.specs.InputError.{sign_name, kind_name, precision_name, array_name}
+use Rattle.cbor4ii_tree.specs.{InputError.{map_name, tag_name, value_name}, ReadingRejects.Readable}
+use Rattle.cbor4ii_tree.specs.ReadingRejects.{ReadableChunk, CutString, NoUtf8, ChunkRejectsBy}
+use Rattle.cbor4ii_tree.specs.ReadingRejects.{ChunkRejects, ReadingRejectsBy, ReadingRejectsFrom}
+use Rattle.cbor4ii_tree.specs.ReadingRejects.{ReadingRejectsWithin, ReadingRejects}
 use Rattle.cbor4ii_tree.specs.Rejections.{Stopping, Is, Missing, AtHead, RejectsInCount}
-use Rattle.cbor4ii_tree.specs.Rejections.{IndefiniteItems}
-use Rattle.cbor4ii_tree.specs.Rejections.{IndefinitePairs}
-use Rattle.cbor4ii_tree.specs.ReadingRejects.{Readable, ReadableChunk, CutString, NoUtf8}
-use Rattle.cbor4ii_tree.specs.ReadingRejects.{ChunkRejectsBy, ChunkRejects, ReadingRejectsBy}
-use Rattle.cbor4ii_tree.specs.ReadingRejects.{ReadingRejectsFrom, ReadingRejectsWithin}
-use Rattle.cbor4ii_tree.specs.ReadingRejects.{ReadingRejects}
+use Rattle.cbor4ii_tree.specs.{Rejections.{IndefiniteItems, IndefinitePairs}, Tree.bytes_all}
 use Rattle.cbor4ii_tree.proofs.parts.Widen.{Goes, Calm, Widens, widens_same, widens_none}
 use Rattle.cbor4ii_tree.proofs.parts.Widen.{widens_fits, Covers, each_covers, is_goes, missing_goes}
 use Rattle.cbor4ii_tree.proofs.parts.Widen.{missing_all_goes, no_byte_goes, after_head_goes}

@@ -1,19 +1,12 @@
 -- The calls of skipping, one after another.
 use Rattle.std.proofs.Common.{◌≡◌, ◌≢◌, ℕ, List, [], ◌∷◌, Result, Ok, Err, Bool, true, false, sym}
 use Rattle.std.proofs.Common.{subst}
-use Rattle.cbor4ii_rw.specs.View.{View}
-use Rattle.cbor4ii_rw.specs.declared.error.DecodeError.{DecodeError}
-use Rattle.cbor4ii_items.specs.Head.{break}
-use Rattle.cbor4ii_items.specs.Moves.{Moves}
-use Rattle.cbor4ii_items.specs.Decoding.{Sound, Rejects}
-use Rattle.cbor4ii_items.specs.Strings.{ReadsBreak, RejectsBreak}
-use Rattle.cbor4ii_items.specs.InputError.{InputError}
-use Rattle.cbor4ii_tree.specs.InputError.{eof, Small, break_name}
-use Rattle.cbor4ii_tree.specs.Cost.{Budget}
-use Rattle.cbor4ii_tree.specs.Rejections.{Stopping}
-use Rattle.cbor4ii_tree.specs.Does.{Accepting, Does}
-use Rattle.cbor4ii_tree.specs.Skipping.{SkipsOne, RejectsSkippingOne, SkipsUnder}
-use Rattle.cbor4ii_tree.specs.Skipping.{RejectsSkippingUnder}
+use Rattle.cbor4ii_rw.specs.{View.View, declared.error.DecodeError.DecodeError}
+use Rattle.cbor4ii_items.specs.{Decoding.{Sound, Rejects}, Head.break, InputError.InputError}
+use Rattle.cbor4ii_items.specs.{Moves.Moves, Strings.{ReadsBreak, RejectsBreak}}
+use Rattle.cbor4ii_tree.specs.{Cost.Budget, Does.{Accepting, Does}, InputError.{eof, Small}}
+use Rattle.cbor4ii_tree.specs.{InputError.break_name, Rejections.Stopping, Skipping.SkipsOne}
+use Rattle.cbor4ii_tree.specs.Skipping.{RejectsSkippingOne, SkipsUnder, RejectsSkippingUnder}
 use Rattle.cbor4ii_tree.specs.Skipping.{SkipsAfter, RejectsSkippingAfter, Leads}
 use Rattle.cbor4ii_tree.specs.declared.skip.After.{After}
 use Rattle.cbor4ii_tree.proofs.skip_calls.Doing.{Reached, reached_by, reached_then, does_after}

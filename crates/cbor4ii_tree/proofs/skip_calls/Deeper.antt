@@ -1,30 +1,24 @@
 -- Items in the last place of others: calls that go on with them under steps that are kept.
 use Rattle.std.proofs.Common.{◌≡◌, ℕ, zero, suc, ◌+◌, ◌-◌, ◌≤◌, ◌<◌, List, ◌++◌, Result, Ok, Err}
 use Rattle.std.proofs.Common.{Option, Some, None, true, IfSome, refl, sym, ap, ◌∙◌, subst, arith}
-use Rattle.cbor4ii_rw.specs.View.{View}
-use Rattle.cbor4ii_rw.specs.Reader.{KeepsAllButBudget, StepsIn, step_back}
+use Rattle.cbor4ii_rw.specs.{Reader.{KeepsAllButBudget, StepsIn, step_back}, View.View}
 use Rattle.cbor4ii_rw.specs.declared.error.DecodeError.{DecodeError}
 use Rattle.cbor4ii_items.specs.Laws.UnderStep.{step_again, step_unbound}
-use Rattle.cbor4ii_tree.specs.Tree.{bytes_all}
-use Rattle.cbor4ii_tree.specs.Cost.{Budget, step_in}
-use Rattle.cbor4ii_tree.specs.Deeper.{Deeper, GoesOn, budgeted}
-use Rattle.cbor4ii_tree.specs.Rejections.{Stopping}
-use Rattle.cbor4ii_tree.specs.SkippingRejects.{Skippable}
-use Rattle.cbor4ii_tree.specs.Does.{Accepting, Does, answered}
-use Rattle.cbor4ii_tree.specs.Skipping.{SkipsItems, RejectsSkippingOne, RejectsSkippingItems}
 use Rattle.cbor4ii_tree.specs.Ahead.{TakesHead, CountsAmong, SkipsSome, RejectsSome}
-use Rattle.cbor4ii_tree.specs.Ahead.{RejectsSomeUnder}
-use Rattle.cbor4ii_tree.specs.Ahead.{GoesUnder}
-use Rattle.cbor4ii_tree.specs.declared.skip.After.TheVariants as trailing
-use Rattle.cbor4ii_tree.specs.declared.skip.Went.{Went}
+use Rattle.cbor4ii_tree.specs.{Ahead.{RejectsSomeUnder, GoesUnder}, Cost.{Budget, step_in}}
+use Rattle.cbor4ii_tree.specs.{Deeper.{Deeper, GoesOn, budgeted}, Does.{Accepting, Does, answered}}
+use Rattle.cbor4ii_tree.specs.{Rejections.Stopping, Skipping.{SkipsItems, RejectsSkippingOne}}
+use Rattle.cbor4ii_tree.specs.{Skipping.RejectsSkippingItems, SkippingRejects.Skippable}
+use Rattle.cbor4ii_tree.specs.{Tree.bytes_all, declared.skip.Went.Went}
 use Rattle.cbor4ii_tree.specs.declared.skip.Went.TheVariants.{Into}
-use Rattle.cbor4ii_tree.specs.declared.ahead.Among.TheVariants as among
 use Rattle.cbor4ii_tree.proofs.parts.Joined.{join, count-join, each-join, bytes-join}
 use Rattle.cbor4ii_tree.proofs.skip_calls.Doing.{Reached, reached_by, reached_then, reached_as}
 use Rattle.cbor4ii_tree.proofs.skip_calls.Doing.{does_ok, does_err, does_around, steps_in}
-use Rattle.cbor4ii_tree.proofs.skip_calls.Prefixes.{keeps_alike, keeps_then}
 use Rattle.cbor4ii_tree.proofs.skip_calls.Parts.{items_join, items_none, items_more, items_stop}
-use Rattle.cbor4ii_tree.proofs.skip_calls.Runs.{Same, same_start, some_items, into}
+use Rattle.cbor4ii_tree.proofs.{skip_calls.Prefixes.{keeps_alike, keeps_then}, skip_calls.Runs.Same}
+use Rattle.cbor4ii_tree.proofs.skip_calls.Runs.{same_start, some_items, into}
+use Rattle.cbor4ii_tree.specs.declared.skip.After.TheVariants as trailing
+use Rattle.cbor4ii_tree.specs.declared.ahead.Among.TheVariants as among
 
 -- ---- steps that are kept
 

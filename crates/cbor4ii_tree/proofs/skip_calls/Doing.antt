@@ -2,22 +2,17 @@
 use Rattle.std.proofs.Common.{◌≡◌, ℕ, zero, suc, ◌-◌, ◌<◌, List, ◌∷◌, drop, Option, Some, None}
 use Rattle.std.proofs.Common.{Result, Ok, Err, true, false, IsTrue, refl, sym, ap, ◌∙◌, subst}
 use Rattle.std.proofs.Common.{arith, IfSome, IfOk, IfErr}
-use Rattle.cbor4ii_rw.specs.View.{View, IfKnown}
-use Rattle.cbor4ii_rw.specs.Reader.{KeepsAllButBudget, StepsIn, step_back, Advances}
-use Rattle.cbor4ii_rw.specs.declared.error.DecodeError.{DecodeError}
+use Rattle.cbor4ii_rw.specs.{Reader.{KeepsAllButBudget, StepsIn, step_back, Advances}, View.View}
+use Rattle.cbor4ii_rw.specs.{View.IfKnown, declared.error.DecodeError.DecodeError}
 use Rattle.cbor4ii_rw.specs.declared.error.DecodeError.TheVariants.{OutOfMemory}
-use Rattle.cbor4ii_items.specs.InputError.{InputError, input_error_of, is_read, is_depth_overflow}
-use Rattle.cbor4ii_items.specs.InputError.{depth_overflow}
-use Rattle.cbor4ii_items.specs.Decoding.{Sound, Rejects}
-use Rattle.cbor4ii_items.specs.Budget.{CostFits}
-use Rattle.cbor4ii_items.specs.Moves.{Kept, Moves, is_failure}
-use Rattle.cbor4ii_items.specs.Reading.{Runs, peek_at}
-use Rattle.cbor4ii_items.specs.Laws.Steps.{moves_then, moves_err, kept_then, counted_none}
-use Rattle.cbor4ii_items.specs.Laws.Running.{kept_alike, unread, peeked, kept_taken}
+use Rattle.cbor4ii_items.specs.{Budget.CostFits, Decoding.{Sound, Rejects}, InputError.InputError}
+use Rattle.cbor4ii_items.specs.InputError.{input_error_of, is_read, is_depth_overflow}
+use Rattle.cbor4ii_items.specs.{InputError.depth_overflow, Laws.Running.{kept_alike, unread}}
+use Rattle.cbor4ii_items.specs.{Laws.Running.{peeked, kept_taken}, Laws.Steps.moves_then}
+use Rattle.cbor4ii_items.specs.Laws.Steps.{moves_err, kept_then, counted_none}
 use Rattle.cbor4ii_items.specs.Laws.UnderStep.{step_again, step_unbound, moves_around, no_step}
-use Rattle.cbor4ii_tree.specs.Cost.{step_in}
-use Rattle.cbor4ii_tree.specs.Rejections.{Stopping}
-use Rattle.cbor4ii_tree.specs.Does.{Accepting, Does}
+use Rattle.cbor4ii_items.specs.{Moves.{Kept, Moves, is_failure}, Reading.{Runs, peek_at}}
+use Rattle.cbor4ii_tree.specs.{Cost.step_in, Does.{Accepting, Does}, Rejections.Stopping}
 
 -- Some calls went well: what was taken is reported by P.
 pub record Reached (P : List ℕ → List ℕ → Type 0) (a m : View) : Type 0 where

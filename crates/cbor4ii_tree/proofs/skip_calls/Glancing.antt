@@ -5,25 +5,21 @@ use Rattle.std.proofs.Common.{take-append-drop, length-append, length-drop}
 use Rattle.std.proofs.lemmas.List.{length-take-le}
 use Rattle.std.specs.Int.{bytes_high_first}
 use Rattle.cbor4ii_items.specs.Head.{Width, byte_count, HeadFits, additional, ArgumentAfter}
-use Rattle.cbor4ii_items.specs.Head.{IsBytes, break}
-use Rattle.cbor4ii_items.specs.Initial.{info_of, wide, initial}
+use Rattle.cbor4ii_items.specs.{Head.{IsBytes, break}, Initial.{info_of, wide, initial}}
 use Rattle.cbor4ii_items.specs.Laws.Heads.{info-additional, length-bytes_high_first, same_wide}
 use Rattle.cbor4ii_items.specs.Laws.Prefixes.{drop_more}
-use Rattle.cbor4ii_tree.specs.Cost.{Budget}
-use Rattle.cbor4ii_tree.specs.HeadParts.{ArgumentAt}
-use Rattle.cbor4ii_tree.specs.Runs.{IsLeafAt}
+use Rattle.cbor4ii_tree.specs.{Ahead.{BeginsHead, BeginsWithBreak}, Cost.Budget}
+use Rattle.cbor4ii_tree.specs.{HeadParts.ArgumentAt, InputError.InputError, Runs.IsLeafAt}
 use Rattle.cbor4ii_tree.specs.Skipping.{start_of, Leads, RejectsSkippingAfter}
-use Rattle.cbor4ii_tree.specs.InputError.{InputError}
+use Rattle.cbor4ii_tree.specs.{declared.skip.After.After, declared.skip.After.TheVariants.Nothing}
+use Rattle.cbor4ii_tree.specs.declared.skip.After.TheVariants.{Bytes, Items, Members, Indefinite}
+use Rattle.cbor4ii_tree.specs.declared.skip.After.TheVariants.{IndefiniteMembers}
 use Rattle.cbor4ii_tree.specs.declared.skip.Start.{Start}
-use Rattle.cbor4ii_tree.specs.Ahead.{BeginsHead, BeginsWithBreak}
-use Rattle.cbor4ii_tree.specs.declared.skip.After.{After}
-use Rattle.cbor4ii_tree.specs.declared.skip.After.TheVariants.{Nothing, Bytes, Items, Members}
-use Rattle.cbor4ii_tree.specs.declared.skip.After.TheVariants.{Indefinite, IndefiniteMembers}
-use Rattle.cbor4ii_tree.specs.declared.skip.Start.TheVariants as start
 use Rattle.cbor4ii_tree.proofs.heads.Inverse.{IsBytes-take, IsBytes-drop}
 use Rattle.cbor4ii_tree.proofs.skip_calls.Leading.{whole, content_info, items_info, members_info}
 use Rattle.cbor4ii_tree.proofs.skip_calls.Leading.{tag_info, indefinite_leads}
 use Rattle.cbor4ii_tree.proofs.skip_calls.Leading.{indefinite_members_leads}
+use Rattle.cbor4ii_tree.specs.declared.skip.Start.TheVariants as start
 
 -- ---- an item that holds no other
 

@@ -2,21 +2,15 @@
 use Rattle.std.proofs.Common.{◌≡◌, ℕ, List, ◌++◌, length, drop, Option, None, Some, Ok, Err, refl}
 use Rattle.std.proofs.Common.{◌+◌, ◌≤◌, false, sym, ap, ◌∙◌, subst, IfSome}
 use Rattle.std.proofs.Math.Seq.{drop-append_seam}
-use Rattle.cbor4ii_rw.specs.View.{View}
-use Rattle.cbor4ii_rw.specs.declared.error.DecodeError.{DecodeError}
-use Rattle.cbor4ii_items.specs.InputError.{InputError, input_error_of, is_out_of_memory}
-use Rattle.cbor4ii_items.specs.Decoding.{Sound, Complete, NoneRead, Decodes}
-use Rattle.cbor4ii_items.specs.Budget.{CostFits}
-use Rattle.cbor4ii_items.specs.Decoding.{leaf_format}
-use Rattle.cbor4ii_items.specs.Laws.Calls.{ok, no_memory}
+use Rattle.cbor4ii_rw.specs.{View.View, declared.error.DecodeError.DecodeError}
+use Rattle.cbor4ii_items.specs.{Budget.CostFits, Decoding.{Sound, Complete, NoneRead, Decodes}}
+use Rattle.cbor4ii_items.specs.{Decoding.leaf_format, InputError.{InputError, input_error_of}}
+use Rattle.cbor4ii_items.specs.{InputError.is_out_of_memory, Laws.Calls.{ok, no_memory}}
 use Rattle.cbor4ii_items.specs.Laws.Steps.{moves_err}
-use Rattle.cbor4ii_tree.specs.declared.ignored.IgnoredAny.{IgnoredAny}
-use Rattle.cbor4ii_tree.specs.Tree.{bytes}
-use Rattle.cbor4ii_tree.specs.Cost.{skip_cost}
-use Rattle.cbor4ii_tree.specs.Does.{Does}
-use Rattle.cbor4ii_tree.specs.Ignored.{ReadsIgnored, RejectsIgnored}
+use Rattle.cbor4ii_tree.specs.{Cost.skip_cost, Does.Does, Ignored.{ReadsIgnored, RejectsIgnored}}
 use Rattle.cbor4ii_tree.specs.Skipping.{SkipsOne, RejectsSkippingOne}
-use Rattle.cbor4ii_tree.specs.SkippingRejects.{SkippingRejects}
+use Rattle.cbor4ii_tree.specs.{SkippingRejects.SkippingRejects, Tree.bytes}
+use Rattle.cbor4ii_tree.specs.declared.ignored.IgnoredAny.{IgnoredAny}
 use Rattle.cbor4ii_tree.proofs.skipping.Answer.{not_both}
 
 ignored_sound : {E : Type 0} (v : IgnoredAny) {u : Unit {0}} {a b : View}

@@ -1,44 +1,34 @@
 -- What a head says of the item that it begins, where the item is skipped.
 use Rattle.std.proofs.Common.{◌≡◌, ℕ, zero, suc, ◌+◌, ◌*◌, ◌%◌, ◌<◌, ◌⊎◌, inl, inr, List, [], ◌∷◌}
 use Rattle.std.proofs.Common.{◌++◌, length, refl, sym, ap, ap₂, ◌∙◌, subst, arith, append_assoc}
-use Rattle.std.proofs.Common.{append-nil, lt-ltb}
-use Rattle.std.proofs.lemmas.List.{nil_from_length}
-use Rattle.cbor4ii_items.specs.Head.{Width, in_first, one, two, four, eight, byte_count, HeadFits}
-use Rattle.cbor4ii_items.specs.Head.{head, indefinite_head, break}
+use Rattle.std.proofs.{Common.{append-nil, lt-ltb}, lemmas.List.nil_from_length}
+use Rattle.cbor4ii_items.specs.{Budget.CostFits, Head.{Width, in_first, one, two, four, eight}}
+use Rattle.cbor4ii_items.specs.Head.{byte_count, HeadFits, head, indefinite_head, break}
 use Rattle.cbor4ii_items.specs.Initial.{sign_major, kind_major, precision_bytes, info_of, wide}
 use Rattle.cbor4ii_items.specs.Initial.{Initial, starts_int, starts_string, starts_chunks}
 use Rattle.cbor4ii_items.specs.Initial.{bad_string, starts_array, starts_indefinite_array}
-use Rattle.cbor4ii_items.specs.Initial.{bad_array}
-use Rattle.cbor4ii_items.specs.Initial.{starts_map, starts_indefinite_map, bad_map, starts_tag}
-use Rattle.cbor4ii_items.specs.Initial.{bad_tag}
-use Rattle.cbor4ii_items.specs.Initial.{starts_simple, starts_bits, initial, Kind, Precision, Sign}
-use Rattle.cbor4ii_items.specs.Initial.{Simple}
-use Rattle.cbor4ii_items.specs.Budget.{CostFits}
+use Rattle.cbor4ii_items.specs.Initial.{bad_array, starts_map, starts_indefinite_map, bad_map}
+use Rattle.cbor4ii_items.specs.Initial.{starts_tag, bad_tag, starts_simple, starts_bits, initial}
+use Rattle.cbor4ii_items.specs.{Initial.{Kind, Precision, Sign, Simple}, Laws.Answering.fits_zero}
 use Rattle.cbor4ii_items.specs.Magnitude.{number_of}
-use Rattle.cbor4ii_items.specs.Laws.Answering.{fits_zero}
-use Rattle.cbor4ii_tree.specs.Tree.{Tree, Trees, no_trees, tree, Pairs, no_pairs, pair, int, string}
-use Rattle.cbor4ii_tree.specs.Tree.{chunked, array, array_indefinite, map_of, map_indefinite}
-use Rattle.cbor4ii_tree.specs.Tree.{tagged, simple}
-use Rattle.cbor4ii_tree.specs.Tree.{bits, count, pair_count, bytes, bytes_all, bytes_pairs, Loose}
-use Rattle.cbor4ii_tree.specs.Tree.{LooseAll, LoosePairs}
 use Rattle.cbor4ii_tree.specs.Cost.{Budget, skip_cost, greatest_skip_cost, greatest_pair_skip_cost}
-use Rattle.cbor4ii_tree.specs.InputError.{InputError, mismatch, tag_name, ignored_any}
-use Rattle.cbor4ii_tree.specs.Rejections.{Missing, MissingAll, RejectsAtStep}
-use Rattle.cbor4ii_tree.specs.SkippingRejects.{SkippingRejectsBy, SkippingRejects}
-use Rattle.cbor4ii_tree.specs.HeadParts.{ArgumentAt, DropsBytes}
-use Rattle.cbor4ii_tree.specs.Runs.{TakesLeaf}
+use Rattle.cbor4ii_tree.specs.{HeadParts.{ArgumentAt, DropsBytes}, InputError.InputError}
+use Rattle.cbor4ii_tree.specs.{InputError.{mismatch, tag_name, ignored_any}, Laws.Binds.step_up}
+use Rattle.cbor4ii_tree.specs.{Laws.Wholes.{all_skippable, all_pairs_skippable}, Rejections.Missing}
+use Rattle.cbor4ii_tree.specs.{Rejections.{MissingAll, RejectsAtStep}, Runs.TakesLeaf}
 use Rattle.cbor4ii_tree.specs.Skipping.{start_of, SkipsItems, RejectsSkippingItems, SkipsUnder}
 use Rattle.cbor4ii_tree.specs.Skipping.{RejectsSkippingUnder, Leads}
+use Rattle.cbor4ii_tree.specs.{SkippingRejects.{SkippingRejectsBy, SkippingRejects}, Tree.Tree}
+use Rattle.cbor4ii_tree.specs.Tree.{Trees, no_trees, tree, Pairs, no_pairs, pair, int, string}
+use Rattle.cbor4ii_tree.specs.Tree.{chunked, array, array_indefinite, map_of, map_indefinite}
+use Rattle.cbor4ii_tree.specs.Tree.{tagged, simple, bits, count, pair_count, bytes, bytes_all}
+use Rattle.cbor4ii_tree.specs.Tree.{bytes_pairs, Loose, LooseAll, LoosePairs}
 use Rattle.cbor4ii_tree.specs.declared.skip.After.TheVariants.{Nothing, Bytes, Items, Members}
 use Rattle.cbor4ii_tree.specs.declared.skip.After.TheVariants.{Indefinite, IndefiniteMembers}
-use Rattle.cbor4ii_tree.specs.declared.skip.Start.TheVariants as start
-use Rattle.cbor4ii_tree.specs.Laws.Binds.{step_up}
-use Rattle.cbor4ii_tree.proofs.answers.Nesting.{skipping_by_parts}
-use Rattle.cbor4ii_tree.proofs.heads.Inverse.{number_of_bytes}
+use Rattle.cbor4ii_tree.proofs.{answers.Nesting.skipping_by_parts, heads.Inverse.number_of_bytes}
 use Rattle.cbor4ii_tree.proofs.heads.Means.{Means, means, HeadByte, WidthSays}
-use Rattle.cbor4ii_tree.proofs.skip_calls.Bytes.{says_width}
-use Rattle.cbor4ii_tree.proofs.parts.Sound.{counted}
-use Rattle.cbor4ii_tree.specs.Laws.Wholes.{all_skippable, all_pairs_skippable}
+use Rattle.cbor4ii_tree.proofs.{parts.Sound.counted, skip_calls.Bytes.says_width}
+use Rattle.cbor4ii_tree.specs.declared.skip.Start.TheVariants as start
 
 -- ---- which row
 

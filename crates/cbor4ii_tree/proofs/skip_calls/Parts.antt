@@ -1,17 +1,13 @@
 -- Items that are skipped one after another.
 use Rattle.std.proofs.Common.{◌≡◌, ◌≢◌, ℕ, ◌+◌, ◌<◌, inl, inr, List, [], ◌∷◌, ◌++◌, true, false}
 use Rattle.std.proofs.Common.{refl, sym, ap, ap₂, ◌∙◌, take, drop, arith, subst, ◌≤◌}
-use Rattle.cbor4ii_items.specs.Head.{break}
-use Rattle.cbor4ii_items.specs.Strings.{ReadsBreak}
+use Rattle.cbor4ii_items.specs.{Head.break, Strings.ReadsBreak}
+use Rattle.cbor4ii_tree.specs.{Cost.Budget, InputError.InputError, Rejections.{Each, EachPair}}
+use Rattle.cbor4ii_tree.specs.{Rejections.NoBreak, Skipping.{SkipsOne, RejectsSkippingOne}}
+use Rattle.cbor4ii_tree.specs.Skipping.{SkipsItems, RejectsSkippingItems, SkipsIndefinite}
+use Rattle.cbor4ii_tree.specs.Skipping.{RejectsSkippingIndefinite, SkipsMembers}
+use Rattle.cbor4ii_tree.specs.{Skipping.RejectsSkippingMembers, SkippingRejects.Skippable}
 use Rattle.cbor4ii_tree.specs.Tree.{Trees, no_trees, Pairs, no_pairs, bytes, bytes_all, bytes_pairs}
-use Rattle.cbor4ii_tree.specs.Cost.{Budget}
-use Rattle.cbor4ii_tree.specs.InputError.{InputError}
-use Rattle.cbor4ii_tree.specs.Rejections.{Each, EachPair, NoBreak}
-use Rattle.cbor4ii_tree.specs.SkippingRejects.{Skippable}
-use Rattle.cbor4ii_tree.specs.Skipping.{SkipsOne, RejectsSkippingOne, SkipsItems}
-use Rattle.cbor4ii_tree.specs.Skipping.{RejectsSkippingItems}
-use Rattle.cbor4ii_tree.specs.Skipping.{SkipsIndefinite, RejectsSkippingIndefinite, SkipsMembers}
-use Rattle.cbor4ii_tree.specs.Skipping.{RejectsSkippingMembers}
 use Rattle.cbor4ii_tree.proofs.parts.Joined.{join, count-join, each-join, bytes-join}
 use Rattle.cbor4ii_tree.proofs.parts.Pushed.{push, count-push, each-push, bytes-push, push_pair}
 use Rattle.cbor4ii_tree.proofs.parts.Pushed.{each-push_pair, bytes-push_pair}

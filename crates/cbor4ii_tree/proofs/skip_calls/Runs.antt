@@ -3,50 +3,36 @@ use Rattle.std.proofs.Common.{◌≡◌, ◌≢◌, ℕ, ◌+◌, ◌≤◌, inl
 use Rattle.std.proofs.Common.{Result, Ok, Err, Option, Some, None, Bool, true, false, IsTrue, IfOk}
 use Rattle.std.proofs.Common.{IfErr, IfSome, refl, sym, ap, ◌∙◌, subst, arith}
 use denote.Ref.{Bor}
-use Rattle.cbor4ii_rw.specs.View.{View}
-use Rattle.cbor4ii_rw.specs.Reader.{KeepsAllButBudget, StepsIn, step_back}
+use Rattle.cbor4ii_rw.specs.{Reader.{KeepsAllButBudget, StepsIn, step_back}, View.View}
 use Rattle.cbor4ii_rw.specs.declared.error.DecodeError.{DecodeError}
 use Rattle.cbor4ii_rw.specs.declared.error.DecodeError.TheVariants.{DepthOverflow}
-use Rattle.cbor4ii_items.specs.Head.{break}
-use Rattle.cbor4ii_items.specs.Moves.{Moves}
-use Rattle.cbor4ii_items.specs.Decoding.{Sound, Rejects}
+use Rattle.cbor4ii_items.specs.{Decoding.{Sound, Rejects}, Head.break, InputError.InputError}
+use Rattle.cbor4ii_items.specs.{Laws.Answering.fits_zero, Laws.UnderStep.no_step, Moves.Moves}
 use Rattle.cbor4ii_items.specs.Strings.{ReadsBreak, RejectsBreak}
-use Rattle.cbor4ii_items.specs.InputError.{InputError}
-use Rattle.cbor4ii_items.specs.Laws.Answering.{fits_zero}
-use Rattle.cbor4ii_items.specs.Laws.UnderStep.{no_step}
-use Rattle.cbor4ii_tree.specs.InputError.{depth_overflow, ignored_any}
-use Rattle.cbor4ii_tree.specs.Tree.{no_trees, tree, bytes}
-use Rattle.cbor4ii_tree.specs.Cost.{Budget}
-use Rattle.cbor4ii_tree.specs.Rejections.{Stopping, NoBreak}
-use Rattle.cbor4ii_tree.specs.Does.{Accepting, Does}
-use Rattle.cbor4ii_tree.specs.Skipping.{SkipsOne, RejectsSkippingOne, SkipsItems}
-use Rattle.cbor4ii_tree.specs.Skipping.{RejectsSkippingItems}
-use Rattle.cbor4ii_tree.specs.Skipping.{SkipsUnder, RejectsSkippingUnder, SkipsAfter}
-use Rattle.cbor4ii_tree.specs.Skipping.{RejectsSkippingAfter}
 use Rattle.cbor4ii_tree.specs.Ahead.{TakesAhead, TakesHead, Passes, Allows, Awaits, CountsAmong}
 use Rattle.cbor4ii_tree.specs.Ahead.{IsIndefinite, SkipsSome, RejectsSome, SkipsSomeUnder}
-use Rattle.cbor4ii_tree.specs.Ahead.{RejectsSomeUnder}
-use Rattle.cbor4ii_tree.specs.Ahead.{GoesUnder, CountsWent, EndsOrNot, RejectsAtEnd, NeverRejects}
-use Rattle.cbor4ii_tree.specs.declared.skip.After.{After}
-use Rattle.cbor4ii_tree.specs.declared.skip.After.TheVariants.{Nothing}
-use Rattle.cbor4ii_tree.specs.declared.skip.After.TheVariants as left_after
-use Rattle.cbor4ii_tree.specs.declared.skip.Went.{Went}
-use Rattle.cbor4ii_tree.specs.declared.skip.Went.TheVariants.{Past, Into}
-use Rattle.cbor4ii_tree.specs.declared.ahead.Among.{Among}
-use Rattle.cbor4ii_tree.specs.declared.ahead.Among.TheVariants.{Items, Pairs, IndefiniteItems}
-use Rattle.cbor4ii_tree.specs.declared.ahead.Among.TheVariants.{IndefinitePairs}
-use Rattle.cbor4ii_tree.specs.declared.ahead.Ahead.{Ahead}
+use Rattle.cbor4ii_tree.specs.Ahead.{RejectsSomeUnder, GoesUnder, CountsWent, EndsOrNot}
+use Rattle.cbor4ii_tree.specs.{Ahead.{RejectsAtEnd, NeverRejects}, Cost.Budget, Does.Accepting}
+use Rattle.cbor4ii_tree.specs.{Does.Does, InputError.{depth_overflow, ignored_any}}
+use Rattle.cbor4ii_tree.specs.{Laws.Binds.step_up, Rejections.{Stopping, NoBreak}}
+use Rattle.cbor4ii_tree.specs.Skipping.{SkipsOne, RejectsSkippingOne, SkipsItems}
+use Rattle.cbor4ii_tree.specs.Skipping.{RejectsSkippingItems, SkipsUnder, RejectsSkippingUnder}
+use Rattle.cbor4ii_tree.specs.{Skipping.{SkipsAfter, RejectsSkippingAfter}, Tree.{no_trees, tree}}
+use Rattle.cbor4ii_tree.specs.{Tree.bytes, declared.ahead.Ahead.Ahead}
 use Rattle.cbor4ii_tree.specs.declared.ahead.Ahead.TheVariants.{Run, Head, Unseen}
-use Rattle.cbor4ii_tree.specs.Laws.Binds.{step_up}
+use Rattle.cbor4ii_tree.specs.{declared.ahead.Among.Among, declared.ahead.Among.TheVariants.Items}
+use Rattle.cbor4ii_tree.specs.declared.ahead.Among.TheVariants.{Pairs, IndefiniteItems}
+use Rattle.cbor4ii_tree.specs.declared.ahead.Among.TheVariants.{IndefinitePairs}
+use Rattle.cbor4ii_tree.specs.{declared.skip.After.After, declared.skip.After.TheVariants.Nothing}
+use Rattle.cbor4ii_tree.specs.{declared.skip.Went.Went, declared.skip.Went.TheVariants.{Past, Into}}
 use Rattle.cbor4ii_tree.proofs.skip_calls.Doing.{Reached, reached_start, reached_by, reached_then}
 use Rattle.cbor4ii_tree.proofs.skip_calls.Doing.{reached_as, reached_sound, does_after, does_ok}
 use Rattle.cbor4ii_tree.proofs.skip_calls.Doing.{does_err, does_rejects, does_stepped}
-use Rattle.cbor4ii_tree.proofs.skip_calls.Doing.{does_reject_by}
-use Rattle.cbor4ii_tree.proofs.skip_calls.Doing.{steps_in, kept_budget}
-use Rattle.cbor4ii_tree.proofs.skip_calls.Leaves.{run_items}
-use Rattle.cbor4ii_tree.proofs.skip_calls.Parts.{IsOther, after_break, other_byte, no_break}
-use Rattle.cbor4ii_tree.proofs.skip_calls.Parts.{items_none, items_more, Left, left_some, left_none}
-use Rattle.cbor4ii_tree.proofs.skip_calls.Parts.{left_stop}
+use Rattle.cbor4ii_tree.proofs.skip_calls.Doing.{does_reject_by, steps_in, kept_budget}
+use Rattle.cbor4ii_tree.proofs.{skip_calls.Leaves.run_items, skip_calls.Parts.IsOther}
+use Rattle.cbor4ii_tree.proofs.skip_calls.Parts.{after_break, other_byte, no_break, items_none}
+use Rattle.cbor4ii_tree.proofs.skip_calls.Parts.{items_more, Left, left_some, left_none, left_stop}
+use Rattle.cbor4ii_tree.specs.declared.skip.After.TheVariants as left_after
 
 -- nothing was taken
 abbrev pub Same : List ℕ → List ℕ → Type 0

@@ -1,19 +1,15 @@
 -- What each error of skipping says of the bytes that may still come.
 use Rattle.std.proofs.Common.{◌≡◌, ℕ, inl, inr, List, [], ◌∷◌, ◌++◌, None, sym, ap, ◌∙◌, subst}
 use Rattle.std.proofs.Common.{append_assoc, append-nil}
-use Rattle.cbor4ii_items.specs.Head.{IsBytes}
-use Rattle.cbor4ii_tree.specs.Tree.{Tree, bytes, Loose}
-use Rattle.cbor4ii_items.specs.Budget.{CostFits}
-use Rattle.cbor4ii_tree.specs.Cost.{Budget, skip_cost}
+use Rattle.cbor4ii_items.specs.{Budget.CostFits, Head.IsBytes}
+use Rattle.cbor4ii_tree.specs.{Cost.{Budget, skip_cost}, Encodings.{Skips, IsProperPrefix}}
 use Rattle.cbor4ii_tree.specs.InputError.{InputError, eof, mismatch, unsupported, require_length}
 use Rattle.cbor4ii_tree.specs.InputError.{require_utf8, depth_overflow, Len, IsEof, IsFinal}
-use Rattle.cbor4ii_tree.specs.Encodings.{Skips, IsProperPrefix}
-use Rattle.cbor4ii_tree.specs.SkippingRejects.{SkippingRejects}
-use Rattle.cbor4ii_tree.proofs.parts.Prefixes.{whole_bytes}
-use Rattle.cbor4ii_tree.proofs.skipping.Answer.{some_skipping, not_both}
-use Rattle.cbor4ii_tree.proofs.skipping.Prefixes.{skipping_prefix}
+use Rattle.cbor4ii_tree.specs.{Laws.Ignoring.one_encoding, SkippingRejects.SkippingRejects}
+use Rattle.cbor4ii_tree.specs.Tree.{Tree, bytes, Loose}
+use Rattle.cbor4ii_tree.proofs.{parts.Prefixes.whole_bytes, skipping.Answer.some_skipping}
+use Rattle.cbor4ii_tree.proofs.{skipping.Answer.not_both, skipping.Prefixes.skipping_prefix}
 use Rattle.cbor4ii_tree.proofs.skipping.Widen.{skipping_persists, skipping_unbounded}
-use Rattle.cbor4ii_tree.specs.Laws.Ignoring.{one_encoding}
 
 pub none_left : (xs ys : List ℕ) → xs ++ ys ≡ [] → ys ≡ []
 none_left [] ys e = e

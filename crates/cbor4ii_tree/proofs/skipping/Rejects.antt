@@ -5,28 +5,22 @@ use Rattle.cbor4ii_items.specs.Head.{Width, in_first, one, two, four, eight, byt
 use Rattle.cbor4ii_items.specs.Initial.{kind_major, precision_bytes, Initial, starts_int, bad_int}
 use Rattle.cbor4ii_items.specs.Initial.{starts_string, starts_chunks, bad_string, starts_array}
 use Rattle.cbor4ii_items.specs.Initial.{starts_indefinite_array, bad_array, starts_map}
-use Rattle.cbor4ii_items.specs.Initial.{starts_indefinite_map}
-use Rattle.cbor4ii_items.specs.Initial.{bad_map, starts_tag, bad_tag, starts_simple, starts_bits}
-use Rattle.cbor4ii_items.specs.Initial.{other_simple, initial}
+use Rattle.cbor4ii_items.specs.Initial.{starts_indefinite_map, bad_map, starts_tag, bad_tag}
+use Rattle.cbor4ii_items.specs.Initial.{starts_simple, starts_bits, other_simple, initial}
 use Rattle.cbor4ii_items.specs.Magnitude.{number_of}
-use Rattle.cbor4ii_tree.specs.Tree.{Tree, int, string, chunked, array, array_indefinite, map_of}
-use Rattle.cbor4ii_tree.specs.Tree.{map_indefinite}
-use Rattle.cbor4ii_tree.specs.Tree.{tagged, bits}
-use Rattle.cbor4ii_tree.specs.Cost.{Budget, step_in}
-use Rattle.cbor4ii_tree.specs.InputError.{InputError, ignored_any, tag_name}
-use Rattle.cbor4ii_tree.specs.Rejections.{Stopping, Missing, RejectsInCount}
+use Rattle.cbor4ii_tree.specs.{Cost.{Budget, step_in}, InputError.{InputError, ignored_any}}
+use Rattle.cbor4ii_tree.specs.{InputError.tag_name, Laws.Binds.{bind_err, no_err, is_err}}
+use Rattle.cbor4ii_tree.specs.{Laws.Binds.stepped_err, Parse.{Parser, ◌>>=◌, prefix_at, trees_at}}
+use Rattle.cbor4ii_tree.specs.Parse.{pairs_at, indefinite_trees_at, indefinite_pairs_at}
+use Rattle.cbor4ii_tree.specs.{Rejections.{Stopping, Missing, RejectsInCount}, Skip.whole_number_at}
+use Rattle.cbor4ii_tree.specs.Skip.{whole_argument_at, skip_by, skip_from, skip_within}
 use Rattle.cbor4ii_tree.specs.SkippingRejects.{Skippable, SkippingRejectsBy, SkippingRejectsFrom}
-use Rattle.cbor4ii_tree.specs.SkippingRejects.{SkippingRejectsWithin}
-use Rattle.cbor4ii_tree.specs.Parse.{Parser, ◌>>=◌, prefix_at, trees_at, pairs_at}
-use Rattle.cbor4ii_tree.specs.Parse.{indefinite_trees_at}
-use Rattle.cbor4ii_tree.specs.Parse.{indefinite_pairs_at}
-use Rattle.cbor4ii_tree.specs.Skip.{whole_number_at, whole_argument_at, skip_by, skip_from}
-use Rattle.cbor4ii_tree.specs.Skip.{skip_within}
-use Rattle.cbor4ii_tree.specs.Laws.Binds.{bind_err, no_err, is_err, stepped_err}
-use Rattle.cbor4ii_tree.proofs.heads.Means.{Means, means}
-use Rattle.cbor4ii_tree.proofs.parts.Sound.{IsSound}
-use Rattle.cbor4ii_tree.proofs.parts.Reject.{Complete, prefix_err, at_head, trees_err, pairs_err}
-use Rattle.cbor4ii_tree.proofs.parts.Reject.{indefinite_trees_err, indefinite_pairs_err}
+use Rattle.cbor4ii_tree.specs.{SkippingRejects.SkippingRejectsWithin, Tree.{Tree, int, string}}
+use Rattle.cbor4ii_tree.specs.Tree.{chunked, array, array_indefinite, map_of, map_indefinite}
+use Rattle.cbor4ii_tree.specs.Tree.{tagged, bits}
+use Rattle.cbor4ii_tree.proofs.{heads.Means.{Means, means}, parts.Reject.{Complete, prefix_err}}
+use Rattle.cbor4ii_tree.proofs.parts.Reject.{at_head, trees_err, pairs_err, indefinite_trees_err}
+use Rattle.cbor4ii_tree.proofs.{parts.Reject.indefinite_pairs_err, parts.Sound.IsSound}
 use Rattle.cbor4ii_tree.proofs.skipping.Sound.{skip_sound}
 
 whole_number_err : (name : List ℕ) (k : ℕ) (bs : List ℕ) (e : InputError) (rest : List ℕ)

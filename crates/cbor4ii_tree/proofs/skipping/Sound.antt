@@ -1,34 +1,27 @@
 -- What is skipped is a loose tree whose skip cost fits.
 use Rattle.std.proofs.Common.{◌≡◌, ℕ, zero, suc, ◌+◌, List, [], ◌∷◌, length, Ok, refl, sym, ap, ap₂}
 use Rattle.std.proofs.Common.{subst}
-use Rattle.cbor4ii_items.specs.Head.{HeadFits, IsBytes}
-use Rattle.cbor4ii_items.specs.Initial.{sign_major, kind_major, precision_bytes, Initial}
-use Rattle.cbor4ii_items.specs.Initial.{starts_int, bad_int, starts_string, starts_chunks}
-use Rattle.cbor4ii_items.specs.Initial.{bad_string, starts_array, starts_indefinite_array}
-use Rattle.cbor4ii_items.specs.Initial.{bad_array}
-use Rattle.cbor4ii_items.specs.Initial.{starts_map, starts_indefinite_map, bad_map, starts_tag}
-use Rattle.cbor4ii_items.specs.Initial.{bad_tag}
+use Rattle.cbor4ii_items.specs.{Budget.CostFits, Head.{HeadFits, IsBytes}, Initial.sign_major}
+use Rattle.cbor4ii_items.specs.Initial.{kind_major, precision_bytes, Initial, starts_int, bad_int}
+use Rattle.cbor4ii_items.specs.Initial.{starts_string, starts_chunks, bad_string, starts_array}
+use Rattle.cbor4ii_items.specs.Initial.{starts_indefinite_array, bad_array, starts_map}
+use Rattle.cbor4ii_items.specs.Initial.{starts_indefinite_map, bad_map, starts_tag, bad_tag}
 use Rattle.cbor4ii_items.specs.Initial.{starts_simple, starts_bits, other_simple, initial}
-use Rattle.cbor4ii_tree.specs.Tree.{Tree, int, string, chunked, array, array_indefinite, map_of}
-use Rattle.cbor4ii_tree.specs.Tree.{map_indefinite}
-use Rattle.cbor4ii_tree.specs.Tree.{tagged, simple, bits, count, pair_count, bytes, bytes_all}
-use Rattle.cbor4ii_tree.specs.Tree.{bytes_pairs}
-use Rattle.cbor4ii_items.specs.Budget.{CostFits}
 use Rattle.cbor4ii_items.specs.Laws.Answering.{fits_zero}
-use Rattle.cbor4ii_tree.specs.Cost.{Budget, step_in}
-use Rattle.cbor4ii_tree.specs.InputError.{ignored_any, tag_name}
-use Rattle.cbor4ii_tree.specs.SkippingRejects.{Skippable}
-use Rattle.cbor4ii_tree.specs.Parse.{Parser, ◌>>=◌, prefix_at, argument_of_width, trees_at}
-use Rattle.cbor4ii_tree.specs.Parse.{pairs_at}
+use Rattle.cbor4ii_tree.specs.{Cost.{Budget, step_in}, InputError.{ignored_any, tag_name}}
+use Rattle.cbor4ii_tree.specs.Laws.Binds.{bind_ok, same_ok, no_ok, stepped_ok, step_up}
+use Rattle.cbor4ii_tree.specs.{Laws.Wholes.{all_skippable, all_pairs_skippable}, Parse.Parser}
+use Rattle.cbor4ii_tree.specs.Parse.{◌>>=◌, prefix_at, argument_of_width, trees_at, pairs_at}
 use Rattle.cbor4ii_tree.specs.Parse.{indefinite_trees_at, indefinite_pairs_at}
 use Rattle.cbor4ii_tree.specs.Skip.{whole_number_at, whole_argument_at, skip_by, skip_from}
-use Rattle.cbor4ii_tree.specs.Skip.{skip_within}
-use Rattle.cbor4ii_tree.specs.Laws.Binds.{bind_ok, same_ok, no_ok, stepped_ok, step_up}
+use Rattle.cbor4ii_tree.specs.{Skip.skip_within, SkippingRejects.Skippable, Tree.{Tree, int}}
+use Rattle.cbor4ii_tree.specs.Tree.{string, chunked, array, array_indefinite, map_of}
+use Rattle.cbor4ii_tree.specs.Tree.{map_indefinite, tagged, simple, bits, count, pair_count, bytes}
+use Rattle.cbor4ii_tree.specs.Tree.{bytes_all, bytes_pairs}
 use Rattle.cbor4ii_tree.proofs.heads.Inverse.{prefix_inverse, whole_number_inverse}
 use Rattle.cbor4ii_tree.proofs.heads.Means.{Means, means, argument_inverse, whole_argument_inverse}
 use Rattle.cbor4ii_tree.proofs.parts.Sound.{Took, IsSound, trees_sound, pairs_sound}
 use Rattle.cbor4ii_tree.proofs.parts.Sound.{indefinite_trees_sound, indefinite_pairs_sound, counted}
-use Rattle.cbor4ii_tree.specs.Laws.Wholes.{all_skippable, all_pairs_skippable}
 
 abbrev Up : Budget → Budget → Type 0
 Up inner outer = (c : ℕ) → CostFits c inner → CostFits (1 + c) outer

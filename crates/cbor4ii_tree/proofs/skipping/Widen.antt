@@ -1,15 +1,14 @@
 -- Where skipping fails, it stays rejected.
 use Rattle.std.proofs.Common.{ℕ, zero, suc, ◌*◌, ◌≤◌, List, [], ◌∷◌, ◌++◌, length, None, arith}
 use Rattle.std.proofs.Common.{length-append}
-use Rattle.cbor4ii_items.specs.Head.{byte_count}
-use Rattle.cbor4ii_items.specs.Initial.{kind_major, precision_bytes, Initial, starts_int, bad_int}
-use Rattle.cbor4ii_items.specs.Initial.{starts_string, starts_chunks, bad_string, starts_array}
-use Rattle.cbor4ii_items.specs.Initial.{starts_indefinite_array, bad_array, starts_map}
-use Rattle.cbor4ii_items.specs.Initial.{starts_indefinite_map}
-use Rattle.cbor4ii_items.specs.Initial.{bad_map, starts_tag, bad_tag, starts_simple, starts_bits}
+use Rattle.cbor4ii_items.specs.{Head.byte_count, Initial.{kind_major, precision_bytes, Initial}}
+use Rattle.cbor4ii_items.specs.Initial.{starts_int, bad_int, starts_string, starts_chunks}
+use Rattle.cbor4ii_items.specs.Initial.{bad_string, starts_array, starts_indefinite_array}
+use Rattle.cbor4ii_items.specs.Initial.{bad_array, starts_map, starts_indefinite_map, bad_map}
+use Rattle.cbor4ii_items.specs.Initial.{starts_tag, bad_tag, starts_simple, starts_bits}
 use Rattle.cbor4ii_items.specs.Initial.{other_simple, initial}
-use Rattle.cbor4ii_tree.specs.Cost.{Budget, skip_cost}
-use Rattle.cbor4ii_tree.specs.InputError.{InputError, IsEof, IsDepthOverflow, ignored_any, tag_name}
+use Rattle.cbor4ii_tree.specs.{Cost.{Budget, skip_cost}, InputError.{InputError, IsEof}}
+use Rattle.cbor4ii_tree.specs.InputError.{IsDepthOverflow, ignored_any, tag_name}
 use Rattle.cbor4ii_tree.specs.Rejections.{Stopping, Missing, RejectsInCount}
 use Rattle.cbor4ii_tree.specs.SkippingRejects.{Skippable, SkippingRejectsBy, SkippingRejectsFrom}
 use Rattle.cbor4ii_tree.specs.SkippingRejects.{SkippingRejectsWithin, SkippingRejects}

@@ -1,12 +1,9 @@
 -- The first pair of a map whose key is a text.
 use Rattle.std.proofs.Common.{◌≡◌, ◌≢◌, ℕ, ◌+◌, ◌<◌, List, ◌∷◌, length, drop, get_or, Bool, true}
-use Rattle.std.proofs.Common.{false, refl, sym, ap, ◌∙◌}
+use Rattle.std.proofs.{Common.{false, refl, sym, ap, ◌∙◌}, lemmas.List.drop_more}
 use Rattle.std.specs.Prelude.{Some}
-use Rattle.std.proofs.lemmas.List.{drop_more}
-use Rattle.cbor4ii_tree.specs.Item.{Item, text, Members, member}
-use Rattle.cbor4ii_tree.specs.ItemEquality.{item_eq, item_eq-Decides}
-use Rattle.cbor4ii_tree.specs.View.{view, members_view}
-use Rattle.cbor4ii_tree.specs.Access.{find_text}
+use Rattle.cbor4ii_tree.specs.{Access.find_text, Item.{Item, text, Members, member}}
+use Rattle.cbor4ii_tree.specs.{ItemEquality.{item_eq, item_eq-Decides}, View.{view, members_view}}
 use Rattle.cbor4ii_tree.specs.declared.value.Value.{Value}
 
 false_from_not : (b : Bool) → ¬ (b ≡ true) → b ≡ false

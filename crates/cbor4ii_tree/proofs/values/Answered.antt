@@ -2,8 +2,7 @@
 -- stands within another, by the bound of its reader.
 use Rattle.std.proofs.Common.{◌≡◌, ℕ, ◌+◌, ◌≤◌, Option, Some, None, OnOk, OnSome, IfOk, IfSome}
 use Rattle.std.proofs.Common.{arith}
-use Rattle.cbor4ii_rw.specs.View.{View}
-use Rattle.cbor4ii_rw.specs.declared.error.DecodeError.{DecodeError}
+use Rattle.cbor4ii_rw.specs.{View.View, declared.error.DecodeError.DecodeError}
 use Rattle.cbor4ii_items.specs.Moves.{Moves}
 use Rattle.cbor4ii_tree.specs.Does.{answered}
 

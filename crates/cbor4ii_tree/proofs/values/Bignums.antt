@@ -1,22 +1,18 @@
 -- Integers beyond 64 bits as the tags that they are written as.
 use Rattle.std.proofs.Common.{◌≡◌, ℕ, zero, suc, ◌+◌, ◌<◌, ◌≤◌, List, [], ◌∷◌, ◌++◌, length, take}
 use Rattle.std.proofs.Common.{get_or, set, ap, ap₂, ◌∙◌, rules, arith, Vec, Global, ◌^◌, pos}
-use Rattle.std.proofs.Common.{negsuc, ltb, ltb-true, refl}
-use Rattle.std.proofs.lemmas.List.{take_more, take_more_set}
-use Rattle.cbor4ii_items.specs.Head.{shortest}
-use Rattle.cbor4ii_items.specs.Initial.{Sign, unsigned, negative}
+use Rattle.std.proofs.{Common.{negsuc, ltb, ltb-true, refl}, lemmas.List.{take_more, take_more_set}}
+use Rattle.cbor4ii_items.specs.{Head.shortest, Initial.{Sign, unsigned, negative}}
 use Rattle.cbor4ii_items.specs.Laws.Heads.{if_cases, shortest_fits}
 use Rattle.cbor4ii_tree.specs.Canonical.{with_bignums, with_bignums_all, with_bignums_members}
-use Rattle.cbor4ii_tree.specs.Canonical.{magnitude, sign_tag, tagged_integer}
-use Rattle.cbor4ii_tree.specs.Item.{Item, null, boolean, integer, float, bytes_item, text, sequence}
-use Rattle.cbor4ii_tree.specs.Item.{mapping, tag, Items, no_items, item, Members, no_members}
-use Rattle.cbor4ii_tree.specs.Item.{member, size, size_all, size_members}
-use Rattle.cbor4ii_tree.specs.Meaning.{number}
-use Rattle.cbor4ii_tree.specs.Tree.{int}
-use Rattle.cbor4ii_tree.specs.View.{view, items_view, members_view}
-use Rattle.cbor4ii_tree.specs.declared.value.Value.{Value, Bytes, the_lemmas}
-use Rattle.cbor4ii_tree.proofs.encodings.Canonical.{with_bignums-value}
-use Rattle.cbor4ii_tree.proofs.values.Views.{item_injective, member_injective}
+use Rattle.cbor4ii_tree.specs.{Canonical.{magnitude, sign_tag, tagged_integer}, Item.{Item, null}}
+use Rattle.cbor4ii_tree.specs.Item.{boolean, integer, float, bytes_item, text, sequence, mapping}
+use Rattle.cbor4ii_tree.specs.Item.{tag, Items, no_items, item, Members, no_members, member, size}
+use Rattle.cbor4ii_tree.specs.{Item.{size_all, size_members}, Meaning.number, Tree.int, View.view}
+use Rattle.cbor4ii_tree.specs.{View.{items_view, members_view}, declared.value.Value.{Value, Bytes}}
+use Rattle.cbor4ii_tree.specs.declared.value.Value.{the_lemmas}
+use Rattle.cbor4ii_tree.proofs.{encodings.Canonical.with_bignums-value, values.Views.item_injective}
+use Rattle.cbor4ii_tree.proofs.values.Views.{member_injective}
 
 pub view-Bytes : (v : Vec ℕ Global) → view (Bytes v) ≡ bytes_item v.items
 view-Bytes v = search (rules, the_lemmas)

@@ -1,34 +1,19 @@
 -- Arrays, maps and tags by their heads, which a look has shown whole.
-use Rattle.std.proofs.Common.{Bool}
-use Rattle.std.proofs.Common.{◌≡◌, ℕ, zero, suc, ◌+◌, ◌/◌, ◌≤◌, List, [], ◌∷◌, ◌++◌, length}
+use Rattle.std.proofs.Common.{Bool, ◌≡◌, ℕ, zero, suc, ◌+◌, ◌/◌, ◌≤◌, List, [], ◌∷◌, ◌++◌, length}
 use Rattle.std.proofs.Common.{take, drop, take-append-drop, length-drop, true, Some, IfSome, IsTrue}
-use Rattle.std.proofs.Common.{Result, Ok}
-use Rattle.std.proofs.Common.{refl, sym, ap, ◌∙◌, subst, arith}
+use Rattle.std.proofs.Common.{Result, Ok, refl, sym, ap, ◌∙◌, subst, arith}
 use Rattle.cbor4ii_rw.specs.Reader.{Advances, IsPrefix, KeepsAllButBudget, Shows, StepsIn, counts}
-use Rattle.cbor4ii_rw.specs.View.{View, IfKnown}
-use Rattle.cbor4ii_rw.specs.declared.error.DecodeError.{DecodeError}
-use Rattle.cbor4ii_items.specs.Head.{IsBytes, head}
-use Rattle.cbor4ii_items.specs.Laws.Heads.{argument_below}
+use Rattle.cbor4ii_rw.specs.{View.{View, IfKnown}, declared.error.DecodeError.DecodeError}
+use Rattle.cbor4ii_items.specs.{Head.{IsBytes, head}}
 use Rattle.cbor4ii_items.specs.Laws.Running.{kept_alike, peeked, shows_kept}
-use Rattle.cbor4ii_items.specs.Laws.Steps.{counts_more}
-use Rattle.cbor4ii_items.specs.Moves.{Kept}
-use Rattle.cbor4ii_items.specs.Reading.{Runs, peek_at}
-use Rattle.cbor4ii_tree.specs.Cost.{Budget}
-use Rattle.cbor4ii_tree.specs.Deeper.{budgeted}
-use Rattle.cbor4ii_tree.specs.Does.{Accepting, Does}
-use Rattle.cbor4ii_tree.specs.Prefix.{Offers}
-use Rattle.cbor4ii_tree.specs.Leaf.{HeadStands, SeesLeaf, SeesNext, ShowsHead}
-use Rattle.cbor4ii_tree.specs.Leaf.{ShowsNext}
-use Rattle.cbor4ii_tree.specs.InputError.{value_name}
-use Rattle.cbor4ii_tree.specs.Rejections.{Stopping}
-use Rattle.cbor4ii_tree.specs.CanonicalRejects.{ShortestAt}
-use Rattle.cbor4ii_tree.specs.declared.leaf.Leaf.{Leaf}
-use Rattle.cbor4ii_tree.specs.declared.leaf.Leaf.TheVariants.{Begins}
+use Rattle.cbor4ii_items.specs.{Laws.Steps.counts_more, Moves.Kept, Reading.{Runs, peek_at}}
+use Rattle.cbor4ii_tree.specs.{Cost.Budget, Deeper.budgeted}
+use Rattle.cbor4ii_tree.specs.{Does.{Accepting, Does}, InputError.value_name, Leaf.HeadStands}
+use Rattle.cbor4ii_tree.specs.{Leaf.{SeesLeaf, SeesNext, ShowsHead, ShowsNext}, Prefix.Offers}
+use Rattle.cbor4ii_tree.specs.{Rejections.Stopping, Valuing.HeadAt, declared.leaf.Head.Head}
+use Rattle.cbor4ii_tree.specs.{declared.leaf.Leaf.Leaf, declared.leaf.Leaf.TheVariants.Begins}
 use Rattle.cbor4ii_tree.specs.declared.leaf.Next.{Next}
-use Rattle.cbor4ii_tree.specs.declared.leaf.Head.{Head}
-use Rattle.cbor4ii_tree.proofs.skip_calls.Doing.{Reached, does_after, reached_as}
-use Rattle.cbor4ii_tree.proofs.skip_calls.Doing.{reached_peek}
-use Rattle.cbor4ii_tree.specs.Valuing.{HeadAt}
+use Rattle.cbor4ii_tree.proofs.skip_calls.Doing.{Reached, does_after, reached_as, reached_peek}
 use Rattle.cbor4ii_tree.proofs.values.Leaves.{shows_first, some_as}
 
 -- ---- what a look has shown

@@ -1,43 +1,30 @@
 -- The calls of reading a value, one after another.
-use Rattle.std.proofs.Common.{◌≡◌, ℕ, ◌/◌, ◌%◌, ◌<◌, List, [], ◌∷◌, ◌++◌, Some, Result}
-use Rattle.std.proofs.Common.{Bool, true, false, refl, sym, ap, ◌∙◌, subst, arith, inl, inr}
-use Rattle.cbor4ii_rw.specs.View.{View}
-use Rattle.cbor4ii_rw.specs.Reader.{KeepsAllButBudget, StepsIn, step_back}
-use Rattle.cbor4ii_rw.specs.declared.error.DecodeError.{DecodeError}
-use Rattle.cbor4ii_items.specs.InputError.{InputError}
-use Rattle.cbor4ii_items.specs.Head.{Width, in_first, one, two, four, eight, byte_count, additional}
-use Rattle.cbor4ii_items.specs.Head.{HeadFits, head, indefinite_head}
-use Rattle.cbor4ii_items.specs.Heads.{RejectsHead, Begins}
-use Rattle.std.specs.Prelude.{pos, ◌^◌}
+use Rattle.std.proofs.Common.{◌≡◌, ℕ, ◌/◌, ◌%◌, ◌<◌, List, [], ◌∷◌, ◌++◌, Some, Result, Bool, true}
+use Rattle.std.proofs.Common.{false, refl, sym, ap, ◌∙◌, subst, arith, inl, inr}
 use Rattle.std.proofs.lemmas.Int.{to_z-of_z}
-use mir.Val.{to_z}
-use mir.Syntax.{w128}
-use Rattle.cbor4ii_items.specs.Initial.{Info, wide, indefinite_ended, reserved, info_of, initial}
-use Rattle.cbor4ii_items.specs.Initial.{by_major, int_by_info, Sign, unsigned, negative, sign_major}
-use Rattle.cbor4ii_tree.specs.InputError.{sign_name}
-use Rattle.cbor4ii_tree.specs.Laws.Numbers.{additional-lt, info-additional}
-use Rattle.cbor4ii_tree.proofs.heads.Means.{WidthSays, InfoSays, info_says}
-use Rattle.cbor4ii_tree.proofs.skip_calls.Bytes.{says_width}
-use Rattle.cbor4ii_tree.specs.declared.value.Value.{Value}
-use Rattle.cbor4ii_tree.specs.Tree.{Tree, Trees, no_trees, tree, Plain}
-use Rattle.cbor4ii_tree.specs.CanonicalShape.{CanonicalShape}
-use Rattle.cbor4ii_items.specs.Budget.{CostFits}
+use Rattle.std.specs.Prelude.{pos, ◌^◌}
+use mir.{Syntax.w128, Val.to_z}
+use Rattle.cbor4ii_rw.specs.{Reader.{KeepsAllButBudget, StepsIn, step_back}, View.View}
+use Rattle.cbor4ii_rw.specs.declared.error.DecodeError.{DecodeError}
+use Rattle.cbor4ii_items.specs.{Budget.CostFits, Head.{Width, in_first, one, two, four, eight}}
+use Rattle.cbor4ii_items.specs.Head.{byte_count, additional, HeadFits, indefinite_head}
+use Rattle.cbor4ii_items.specs.{Heads.{RejectsHead, Begins}, Initial.{Info, wide, indefinite_ended}}
+use Rattle.cbor4ii_items.specs.Initial.{reserved, info_of, initial, by_major, int_by_info, Sign}
+use Rattle.cbor4ii_items.specs.{Initial.{unsigned, negative, sign_major}, InputError.InputError}
 use Rattle.cbor4ii_items.specs.InputError.{depth_overflow}
-use Rattle.cbor4ii_tree.specs.Item.{no_items, item}
-use Rattle.cbor4ii_tree.specs.Meaning.{value, values}
-use Rattle.cbor4ii_tree.specs.Cost.{Budget, step_in, cost}
-use Rattle.cbor4ii_tree.specs.InputError.{value_name}
-use Rattle.cbor4ii_tree.specs.InputError.{eof, mismatch, Small, len_of}
-use Rattle.cbor4ii_tree.specs.Rejections.{RejectsAtStep, Is, MissingAll}
-use Rattle.cbor4ii_tree.specs.ReadingRejects.{ReadingRejectsBy}
-use Rattle.cbor4ii_tree.specs.ReadingRejects.{ReadingRejects}
-use Rattle.cbor4ii_tree.specs.View.{view, items_view}
-use Rattle.cbor4ii_tree.specs.Does.{Does}
-use Rattle.cbor4ii_tree.specs.Valuing.{Whole, ReadsOneValue, RejectsOneValue, ReadsUnder}
-use Rattle.cbor4ii_tree.specs.Valuing.{RejectsUnder}
-use Rattle.cbor4ii_tree.proofs.skip_calls.Doing.{does_stepped, steps_in}
+use Rattle.cbor4ii_tree.specs.{CanonicalShape.CanonicalShape, Cost.{Budget, step_in, cost}}
+use Rattle.cbor4ii_tree.specs.{Does.Does, InputError.{sign_name, value_name, eof, mismatch, Small}}
+use Rattle.cbor4ii_tree.specs.{InputError.len_of, Item.{no_items, item}, Laws.Numbers.additional-lt}
+use Rattle.cbor4ii_tree.specs.{Laws.Numbers.info-additional, Meaning.{value, values}}
+use Rattle.cbor4ii_tree.specs.ReadingRejects.{ReadingRejectsBy, ReadingRejects}
+use Rattle.cbor4ii_tree.specs.{Rejections.{RejectsAtStep, Is, MissingAll}, Tree.{Tree, Trees}}
+use Rattle.cbor4ii_tree.specs.{Tree.{no_trees, tree, Plain}, Valuing.{Whole, ReadsOneValue}}
+use Rattle.cbor4ii_tree.specs.{Valuing.{RejectsOneValue, ReadsUnder, RejectsUnder}, View.view}
+use Rattle.cbor4ii_tree.specs.{View.items_view, declared.value.Value.Value}
 use Rattle.cbor4ii_tree.proofs.answers.Nesting.{reading_by_parts, strict_by_parts}
-use Rattle.cbor4ii_tree.proofs.parts.Pushed.{push}
+use Rattle.cbor4ii_tree.proofs.{heads.Means.{WidthSays, InfoSays, info_says}, parts.Pushed.push}
+use Rattle.cbor4ii_tree.proofs.{skip_calls.Bytes.says_width, skip_calls.Doing.does_stepped}
+use Rattle.cbor4ii_tree.proofs.skip_calls.Doing.{steps_in}
 
 -- ---- an encoding that is read whole
 

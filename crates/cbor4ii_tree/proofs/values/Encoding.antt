@@ -3,18 +3,14 @@ use Rattle.std.proofs.Common.{◌≡◌, ℕ, ◌^◌, List, [], ◌∷◌, ◌+
 use Rattle.std.proofs.Common.{ltb, ℤ, pos, negsuc, refl, sym, ap, ◌∙◌, append_assoc, rules, Vec}
 use Rattle.std.proofs.Common.{Global, Box}
 use Rattle.std.specs.Prelude.{Result, Ok, Err, OnOk}
-use Rattle.cbor4ii_items.specs.Head.{shortest, head}
-use Rattle.cbor4ii_items.specs.Initial.{Sign, unsigned, negative, sign_major}
-use Rattle.cbor4ii_items.specs.Numbers.{shortest_head, bignum_bytes, signed_bytes}
-use Rattle.cbor4ii_items.specs.Simple.{bool_byte}
-use Rattle.cbor4ii_items.specs.SequenceBytes.{items_bytes}
-use Rattle.cbor4ii_tree.specs.Tree.{int, bytes, bytes_all, bytes_pairs, count, pair_count}
-use Rattle.cbor4ii_tree.specs.Item.{boolean, integer, sequence, mapping, tag, item_count}
-use Rattle.cbor4ii_tree.specs.Item.{member_count}
+use Rattle.cbor4ii_items.specs.{Head.{shortest, head}, Initial.{Sign, unsigned, negative}}
+use Rattle.cbor4ii_items.specs.{Initial.sign_major, Numbers.{shortest_head, bignum_bytes}}
+use Rattle.cbor4ii_items.specs.{Numbers.signed_bytes, SequenceBytes.items_bytes, Simple.bool_byte}
 use Rattle.cbor4ii_tree.specs.Canonical.{canonical_encoding, canonical_trees, canonical_pairs}
-use Rattle.cbor4ii_tree.specs.Canonical.{bignum, sign_tag}
-use Rattle.cbor4ii_tree.specs.View.{view, items_view, members_view}
-use Rattle.cbor4ii_tree.specs.Encoding.{value_bytes, member_bytes}
+use Rattle.cbor4ii_tree.specs.{Canonical.{bignum, sign_tag}, Encoding.{value_bytes, member_bytes}}
+use Rattle.cbor4ii_tree.specs.Item.{boolean, integer, sequence, mapping, tag, item_count}
+use Rattle.cbor4ii_tree.specs.{Item.member_count, Tree.{int, bytes, bytes_all, bytes_pairs, count}}
+use Rattle.cbor4ii_tree.specs.{Tree.pair_count, View.{view, items_view, members_view}}
 use Rattle.cbor4ii_tree.specs.declared.value.Value.{Value, Bool as VBool, Integer, Array, Map, Tag}
 use Rattle.cbor4ii_tree.specs.declared.value.Value.{the_lemmas}
 use Rattle.cbor4ii_tree.proofs.encodings.Canonical.{count-canonical_encoding, count-pairs}

@@ -2,17 +2,11 @@
 use Rattle.std.proofs.Common.{◌≡◌, ℕ, ◌<◌, List, [], ◌∷◌, length, Option, Some, None, Err, IfSome}
 use Rattle.std.proofs.Common.{refl, sym, ap, ◌∙◌, subst}
 use denote.Ref.{Bor}
-use Rattle.cbor4ii_rw.specs.View.{View, IfKnown}
-use Rattle.cbor4ii_rw.specs.Reader.{Shows, IsPrefix}
+use Rattle.cbor4ii_rw.specs.{Reader.{Shows, IsPrefix}, View.{View, IfKnown}}
 use Rattle.cbor4ii_rw.specs.declared.error.DecodeError.TheVariants.{Eof}
-use Rattle.cbor4ii_items.specs.InputError.{InputError}
-use Rattle.cbor4ii_items.specs.Reading.{peek_at}
-use Rattle.cbor4ii_items.specs.Laws.Running.{shows_kept}
-use Rattle.cbor4ii_tree.specs.InputError.{value_name}
-use Rattle.cbor4ii_tree.specs.Laws.Binds.{is_err}
-use Rattle.cbor4ii_tree.specs.InputError.{eof, Small}
-use Rattle.cbor4ii_tree.specs.Rejections.{Stopping, Is}
-use Rattle.cbor4ii_tree.specs.Does.{Accepting, Does}
+use Rattle.cbor4ii_items.specs.{InputError.InputError, Laws.Running.shows_kept, Reading.peek_at}
+use Rattle.cbor4ii_tree.specs.{Does.{Accepting, Does}, InputError.{value_name, eof, Small}}
+use Rattle.cbor4ii_tree.specs.{Laws.Binds.is_err, Rejections.{Stopping, Is}}
 use Rattle.cbor4ii_tree.proofs.skip_calls.Doing.{does_reject}
 
 -- an end of the input there fails so

@@ -1,68 +1,47 @@
 -- The parts of a value that are heads alone, and tags.
-use Rattle.std.proofs.Common.{[]}
-use Rattle.std.proofs.Common.{◌⊎◌, ◌≡◌, ◌≢◌, ℕ, zero, suc, ◌+◌, ◌*◌, ◌/◌, ◌%◌, ◌<◌, ◌≤◌, ◌^◌, List}
-use Rattle.std.proofs.Common.{◌∷◌, ◌++◌, length, drop, take, Option, Some, None, Result, Ok, Err}
-use Rattle.std.proofs.Common.{IfOk, IfErr, Bool, true, false, ℤ}
-use Rattle.std.proofs.Common.{refl, sym, ap, ◌∙◌, subst, arith, append_assoc, inl, inr, rules, pos}
-use Rattle.std.proofs.Common.{negsuc, ◌-ℤ◌, ne_eqb}
-use Rattle.std.proofs.Math.Seq.{drop-append_seam}
+use Rattle.std.proofs.Common.{[], ◌⊎◌, ◌≡◌, ◌≢◌, ℕ, zero, suc, ◌+◌, ◌*◌, ◌/◌, ◌%◌, ◌<◌, ◌≤◌, ◌^◌}
+use Rattle.std.proofs.Common.{List, ◌∷◌, ◌++◌, length, drop, take, Option, Some, None, Result, Ok}
+use Rattle.std.proofs.Common.{Err, IfOk, IfErr, Bool, true, false, ℤ, refl, sym, ap, ◌∙◌, subst}
+use Rattle.std.proofs.Common.{arith, append_assoc, inl, inr, rules, pos, negsuc, ◌-ℤ◌, ne_eqb}
+use Rattle.std.proofs.{Math.Seq.drop-append_seam, lemmas.Int.to_z-of_z}
 use Rattle.std.specs.Int.{bytes_high_first}
-use Rattle.std.proofs.lemmas.Int.{to_z-of_z}
-use mir.Val.{to_z, of_z}
-use mir.Syntax.{w128}
-use Rattle.cbor4ii_rw.specs.View.{View}
-use Rattle.cbor4ii_rw.specs.Reader.{Advances}
-use Rattle.cbor4ii_rw.specs.declared.error.DecodeError.{DecodeError}
-use Rattle.cbor4ii_items.specs.InputError.{InputError, input_error_of, is_read, is_depth_overflow}
-use Rattle.cbor4ii_items.specs.Head.{byte_count, additional, head, shortest}
-use Rattle.cbor4ii_items.specs.Heads.{RejectsHead, ReadsHead}
-use Rattle.cbor4ii_items.specs.Laws.Heads.{after_head, length-bytes_high_first}
-use Rattle.cbor4ii_items.specs.Laws.Heads.{argument_below}
-use Rattle.cbor4ii_items.specs.Shortest.{canonical_name}
-use Rattle.cbor4ii_items.specs.InputError.{not_canonical}
-use Rattle.cbor4ii_items.specs.Initial.{Sign, sign_major, unsigned}
-use Rattle.cbor4ii_items.specs.Numbers.{ReadsArgument, RejectsArgument}
-use Rattle.cbor4ii_items.specs.Floats.{ReadsFloat, RejectsFloat, float_bytes}
-use Rattle.cbor4ii_items.specs.Moves.{Moves}
-use Rattle.cbor4ii_items.specs.Decoding.{Sound, Rejects}
-use Rattle.cbor4ii_items.specs.Budget.{CostFits}
-use Rattle.cbor4ii_items.specs.Reading.{Runs, peek_at}
-use Rattle.cbor4ii_items.specs.Initial.{Initial, Info, wide, indefinite_ended, reserved, info_of}
-use Rattle.cbor4ii_items.specs.Initial.{initial}
-use Rattle.cbor4ii_items.specs.Initial.{simple_by_info, tag_by_info, negative, Simple, simple_byte}
-use Rattle.cbor4ii_items.specs.Initial.{Precision, half, single, double, precision_byte}
-use Rattle.cbor4ii_items.specs.Initial.{precision_bytes, starts_tag, starts_bits, other_simple}
-use Rattle.cbor4ii_items.specs.Initial.{simple_false, simple_true, simple_null, simple_undefined}
-use Rattle.cbor4ii_items.specs.Laws.Answering.{fits_zero}
-use Rattle.cbor4ii_tree.specs.InputError.{eof, unsupported, Small, len_of, precision_name, tag_name}
-use Rattle.cbor4ii_tree.specs.InputError.{value_name}
+use mir.{Syntax.w128, Val.{to_z, of_z}}
+use Rattle.cbor4ii_rw.specs.{Reader.Advances, View.View, declared.error.DecodeError.DecodeError}
+use Rattle.cbor4ii_items.specs.{Budget.CostFits, Decoding.{Sound, Rejects}, Floats.ReadsFloat}
+use Rattle.cbor4ii_items.specs.{Floats.{RejectsFloat, float_bytes}, Head.{byte_count, additional}}
+use Rattle.cbor4ii_items.specs.{Head.{head, shortest}, Heads.{RejectsHead, ReadsHead}, Initial.Sign}
+use Rattle.cbor4ii_items.specs.Initial.{sign_major, unsigned, Initial, Info, wide, indefinite_ended}
+use Rattle.cbor4ii_items.specs.Initial.{reserved, info_of, initial, simple_by_info, tag_by_info}
+use Rattle.cbor4ii_items.specs.Initial.{negative, Simple, simple_byte, Precision, half, single}
+use Rattle.cbor4ii_items.specs.Initial.{double, precision_byte, precision_bytes, starts_tag}
+use Rattle.cbor4ii_items.specs.Initial.{starts_bits, other_simple, simple_false, simple_true}
+use Rattle.cbor4ii_items.specs.{Initial.{simple_null, simple_undefined}, InputError.InputError}
+use Rattle.cbor4ii_items.specs.InputError.{input_error_of, is_read, is_depth_overflow}
+use Rattle.cbor4ii_items.specs.{InputError.not_canonical, Laws.Answering.fits_zero}
+use Rattle.cbor4ii_items.specs.Laws.Heads.{after_head, length-bytes_high_first, argument_below}
+use Rattle.cbor4ii_items.specs.{Moves.Moves, Numbers.{ReadsArgument, RejectsArgument}, Reading.Runs}
+use Rattle.cbor4ii_items.specs.{Reading.peek_at, Shortest.canonical_name}
+use Rattle.cbor4ii_tree.specs.CanonicalRejects.{ShortestAt, CanonicalRejectsBy}
+use Rattle.cbor4ii_tree.specs.{CanonicalRejects.CanonicalOtherRejects, Cost.{Budget, cost}}
+use Rattle.cbor4ii_tree.specs.{Does.{Accepting, Does, answered}, InputError.{eof, unsupported}}
+use Rattle.cbor4ii_tree.specs.InputError.{Small, len_of, precision_name, tag_name, value_name}
+use Rattle.cbor4ii_tree.specs.{Item.{integer, float, tag}, Laws.Binds.step_up}
 use Rattle.cbor4ii_tree.specs.Laws.Initials.{initial_tag, initial_bits, initial_simple}
-use Rattle.cbor4ii_tree.specs.declared.value.Value.{Value, Integer, Float, Tag, the_lemmas}
+use Rattle.cbor4ii_tree.specs.{Meaning.number, ReadingRejects.{ReadingRejectsBy, ReadingRejects}}
+use Rattle.cbor4ii_tree.specs.{Rejections.{Stopping, MissingAll}, Tree.{int, tagged, simple, bits}}
+use Rattle.cbor4ii_tree.specs.{Tree.bytes, Valuing.{HeadAt, ReadsOneValue, ReadsTagged}}
+use Rattle.cbor4ii_tree.specs.Valuing.{RejectsOneValue, ReadsUnder, RejectsUnder, TakesTag}
+use Rattle.cbor4ii_tree.specs.{Valuing.{RejectsFirst, RejectsOf, SimpleOf}, View.view}
 use Rattle.cbor4ii_tree.specs.declared.value.FloatBits.{FloatBits}
 use Rattle.cbor4ii_tree.specs.declared.value.FloatBits.TheVariants.{F16, F32, F64}
-use Rattle.cbor4ii_tree.specs.Tree.{int, tagged, simple, bits, bytes}
-use Rattle.cbor4ii_tree.specs.Item.{integer, float, tag}
-use Rattle.cbor4ii_tree.specs.Meaning.{number}
-use Rattle.cbor4ii_tree.specs.Cost.{Budget, cost}
-use Rattle.cbor4ii_tree.specs.Laws.Binds.{step_up}
-use Rattle.cbor4ii_tree.specs.Rejections.{Stopping, MissingAll}
-use Rattle.cbor4ii_tree.specs.ReadingRejects.{ReadingRejectsBy, ReadingRejects}
-use Rattle.cbor4ii_tree.specs.CanonicalRejects.{ShortestAt, CanonicalRejectsBy}
-use Rattle.cbor4ii_tree.specs.CanonicalRejects.{CanonicalOtherRejects}
-use Rattle.cbor4ii_tree.specs.View.{view}
-use Rattle.cbor4ii_tree.specs.Does.{Accepting, Does, answered}
-use Rattle.cbor4ii_tree.specs.Valuing.{HeadAt, ReadsOneValue, ReadsTagged, RejectsOneValue}
-use Rattle.cbor4ii_tree.specs.Valuing.{ReadsUnder, RejectsUnder, TakesTag}
-use Rattle.cbor4ii_tree.specs.Valuing.{RejectsFirst, RejectsOf, SimpleOf}
-use Rattle.cbor4ii_tree.proofs.skip_calls.Doing.{Reached, reached_start, reached_by}
-use Rattle.cbor4ii_tree.proofs.skip_calls.Doing.{reached_as, does_ok, does_err, does_after}
-use Rattle.cbor4ii_tree.proofs.skip_calls.Doing.{does_reject, does_rejects, call_rejects}
-use Rattle.cbor4ii_tree.proofs.skip_calls.Doing.{reached_peek}
-use Rattle.cbor4ii_tree.proofs.skip_calls.Doing.{reached_first, reached_sound}
-use Rattle.cbor4ii_tree.proofs.values.Calls.{Peeked, head_cut, no_head, initial_of, small_z}
-use Rattle.cbor4ii_tree.proofs.values.Calls.{fits_less, whole, whole_is}
-use Rattle.cbor4ii_tree.proofs.canonical.FitsCanonically.{precision_major}
-use Rattle.cbor4ii_tree.proofs.values.Encoding.{view-Integer}
+use Rattle.cbor4ii_tree.specs.declared.value.Value.{Value, Integer, Float, Tag, the_lemmas}
+use Rattle.cbor4ii_tree.proofs.{canonical.FitsCanonically.precision_major, skip_calls.Doing.Reached}
+use Rattle.cbor4ii_tree.proofs.skip_calls.Doing.{reached_start, reached_by, reached_as, does_ok}
+use Rattle.cbor4ii_tree.proofs.skip_calls.Doing.{does_err, does_after, does_reject, does_rejects}
+use Rattle.cbor4ii_tree.proofs.skip_calls.Doing.{call_rejects, reached_peek, reached_first}
+use Rattle.cbor4ii_tree.proofs.{skip_calls.Doing.reached_sound, values.Calls.{Peeked, head_cut}}
+use Rattle.cbor4ii_tree.proofs.values.Calls.{no_head, initial_of, small_z, fits_less, whole}
+use Rattle.cbor4ii_tree.proofs.{values.Calls.whole_is, values.Encoding.view-Integer}
 
 -- ---- after a byte that was looked at
 

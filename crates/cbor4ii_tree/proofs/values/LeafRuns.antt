@@ -1,72 +1,46 @@
 -- Runs: values that hold no other, one after another in shown bytes.
-use Rattle.cbor4ii_tree.proofs.values.Calls.{whole}
-use Rattle.cbor4ii_tree.proofs.values.Calls.{value_no_step}
-use Rattle.cbor4ii_tree.specs.Valuing.{Whole}
-use Rattle.cbor4ii_tree.specs.Valuing.{RejectsItems}
-use Rattle.cbor4ii_tree.specs.Valuing.{ReadsItems}
-use Rattle.cbor4ii_tree.proofs.values.Calls.{value_no_byte}
-use Rattle.std.proofs.Common.{◌≡◌, ℕ, suc, ◌+◌, ◌-◌, ◌*◌, ◌/◌, ◌<◌, ◌≤◌, ◌⊎◌, List, [], ◌∷◌}
-use Rattle.std.proofs.Common.{◌++◌}
+use Rattle.std.proofs.Common.{◌≡◌, ℕ, suc, ◌+◌, ◌-◌, ◌*◌, ◌/◌, ◌<◌, ◌≤◌, ◌⊎◌, List, [], ◌∷◌, ◌++◌}
 use Rattle.std.proofs.Common.{length, take, drop, Option, Some, None, refl, sym, ap, ap₂, ◌∙◌}
 use Rattle.std.proofs.Common.{subst, arith, append_assoc, length-append, length-drop}
 use Rattle.std.proofs.Common.{take-append-drop, Vec, Global, nat_lt, Bool, true, false, not, OnSome}
-use Rattle.std.proofs.Common.{IfNone, Result}
-use Rattle.std.proofs.Common.{Ok, Err, inl, inr}
+use Rattle.std.proofs.{Common.{IfNone, Result, Ok, Err, inl, inr}, Math.Seq.take-add}
+use Rattle.std.proofs.{lemmas.Bool.{ltb-true, ltb-false}, lemmas.List.{append-nil, drop-take}}
 use Rattle.std.specs.Option.{is_some}
-use Rattle.std.proofs.Math.Seq.{take-add}
-use Rattle.std.proofs.lemmas.Bool.{ltb-true, ltb-false}
-use Rattle.std.proofs.lemmas.List.{append-nil, drop-take}
 use denote.Ref.{Bor}
 use Rattle.cbor4ii_rw.specs.Reader.{Advances, ReaderFails, IsPrefix, KeepsAllButBudget, Shows}
-use Rattle.cbor4ii_rw.specs.Reader.{StepsIn}
-use Rattle.cbor4ii_rw.specs.Reader.{step_back}
-use Rattle.cbor4ii_rw.specs.View.{View, IfKnown}
+use Rattle.cbor4ii_rw.specs.{Reader.{StepsIn, step_back}, View.{View, IfKnown}}
 use Rattle.cbor4ii_rw.specs.declared.error.DecodeError.{DecodeError}
 use Rattle.cbor4ii_rw.specs.declared.error.DecodeError.TheVariants.{OutOfMemory, Eof, Read}
-use Rattle.cbor4ii_items.specs.Budget.{CostFits}
-use Rattle.cbor4ii_items.specs.Head.{IsBytes}
-use Rattle.cbor4ii_items.specs.InputError.{input_error_of, is_read, depth_overflow}
-use Rattle.cbor4ii_items.specs.Laws.Answering.{fits_zero}
-use Rattle.cbor4ii_items.specs.Laws.Contents.{lends_prefix}
-use Rattle.cbor4ii_items.specs.Laws.Steps.{counted_none, kept_then}
-use Rattle.cbor4ii_items.specs.Moves.{ReaderFailed, Kept}
-use Rattle.cbor4ii_items.specs.Reading.{Runs, peek_at}
-use Rattle.cbor4ii_tree.specs.Cost.{Budget, step_in}
-use Rattle.cbor4ii_tree.specs.Does.{Accepting, Does, answered, error_left}
-use Rattle.cbor4ii_tree.specs.Prefix.{Offers}
-use Rattle.cbor4ii_tree.specs.Item.{AreItems, AreMembers, IsItem, item, no_items}
-use Rattle.cbor4ii_tree.specs.Laws.Binds.{step_up}
-use Rattle.cbor4ii_tree.specs.Leaf.{DoesAfterNext, HeadStands, SeesNext, ShowsHead, ShowsNext}
-use Rattle.cbor4ii_tree.specs.Leaf.{StandsAhead, WantsContent}
-use Rattle.cbor4ii_tree.specs.LeafRuns.{flat_pairs, flat_values, IsLeaf, StandInFront, PutsAfter}
-use Rattle.cbor4ii_tree.specs.LeafRuns.{PutsRun, RejectsMemory, PutsItems, RunsBefore}
-use Rattle.cbor4ii_tree.specs.Valuing.{ReadsEach}
-use Rattle.cbor4ii_tree.specs.LeafRuns.{PutsItemsUnder, KeepsItems, RejectsItemsUnder}
-use Rattle.cbor4ii_tree.specs.LeafRuns.{RejectsWhereNone, TakesBy}
-use Rattle.cbor4ii_tree.specs.InputError.{InputError, value_name}
-use Rattle.cbor4ii_tree.specs.InputError.{Small}
-use Rattle.cbor4ii_tree.specs.Rejections.{Each, EachPair, Stopping, RejectsInCount}
-use Rattle.cbor4ii_tree.specs.ReadingRejects.{Readable}
-use Rattle.cbor4ii_tree.specs.CanonicalRejects.{FitsCanonically}
-use Rattle.cbor4ii_tree.specs.Tree.{Tree, Trees, no_trees, tree, Pairs, no_pairs, pair, bytes}
-use Rattle.cbor4ii_tree.specs.Tree.{bytes_all, bytes_pairs, count, pair_count}
-use Rattle.cbor4ii_tree.specs.Meaning.{value, values, member_values}
-use Rattle.cbor4ii_tree.specs.Valuing.{ReadsUnder, RejectsOneValue, RejectsUnder}
-use Rattle.cbor4ii_tree.specs.View.{view, items_view, members_view}
-use Rattle.cbor4ii_tree.specs.declared.value.Value.{Value}
-use Rattle.cbor4ii_tree.specs.declared.leaf.Next.{Next}
-use Rattle.cbor4ii_tree.specs.declared.run.Ran.{Ran}
-use Rattle.cbor4ii_tree.specs.declared.run.Ran.TheVariants as run
-use Rattle.cbor4ii_tree.proofs.parts.Prefixes.{IsBytes-append}
+use Rattle.cbor4ii_items.specs.{Budget.CostFits, Head.IsBytes, InputError.{input_error_of, is_read}}
+use Rattle.cbor4ii_items.specs.{InputError.depth_overflow, Laws.Answering.fits_zero}
+use Rattle.cbor4ii_items.specs.{Laws.Contents.lends_prefix, Laws.Steps.{counted_none, kept_then}}
+use Rattle.cbor4ii_items.specs.{Moves.{ReaderFailed, Kept}, Reading.{Runs, peek_at}}
 use Rattle.cbor4ii_tree.proofs.parts.Joined.{join, count-join, each-join, bytes-join}
-use Rattle.cbor4ii_tree.proofs.skip_calls.Doing.{does_ok, does_no_memory, does_stepped, steps_in}
-use Rattle.cbor4ii_tree.proofs.skip_calls.Doing.{Reached, reached_start, reached_then, reached_by}
-use Rattle.cbor4ii_tree.proofs.skip_calls.Doing.{does_err, does_no_step}
-use Rattle.cbor4ii_tree.proofs.values.Calls.{rejects_under}
-use Rattle.cbor4ii_tree.proofs.values.Ends.{none_shown}
-use Rattle.cbor4ii_tree.proofs.values.Items.{items_are}
-use Rattle.cbor4ii_tree.proofs.values.ByHead.{prefix_shown, next_shown}
-use Rattle.cbor4ii_tree.proofs.values.Leaves.{MayTake, some_as, wants_may}
+use Rattle.cbor4ii_tree.proofs.{parts.Prefixes.IsBytes-append, skip_calls.Doing.does_ok}
+use Rattle.cbor4ii_tree.proofs.skip_calls.Doing.{does_no_memory, does_stepped, steps_in, Reached}
+use Rattle.cbor4ii_tree.proofs.skip_calls.Doing.{reached_start, reached_then, reached_by, does_err}
+use Rattle.cbor4ii_tree.proofs.{skip_calls.Doing.does_no_step, values.ByHead.prefix_shown}
+use Rattle.cbor4ii_tree.proofs.{values.ByHead.next_shown, values.Calls.{whole, value_no_step}}
+use Rattle.cbor4ii_tree.proofs.{values.Calls.{value_no_byte, rejects_under}, values.Ends.none_shown}
+use Rattle.cbor4ii_tree.proofs.{values.Items.items_are, values.Leaves.{MayTake, some_as, wants_may}}
+use Rattle.cbor4ii_tree.specs.{Cost.{Budget, step_in}}
+use Rattle.cbor4ii_tree.specs.{Does.{Accepting, Does, answered, error_left}, InputError.InputError}
+use Rattle.cbor4ii_tree.specs.{InputError.{value_name, Small}, Item.{AreItems, AreMembers, IsItem}}
+use Rattle.cbor4ii_tree.specs.{Item.{item, no_items}, Laws.Binds.step_up, Leaf.DoesAfterNext}
+use Rattle.cbor4ii_tree.specs.Leaf.{HeadStands, SeesNext, ShowsHead, ShowsNext, StandsAhead}
+use Rattle.cbor4ii_tree.specs.{Leaf.WantsContent, LeafRuns.{flat_pairs, flat_values, IsLeaf}}
+use Rattle.cbor4ii_tree.specs.LeafRuns.{StandInFront, PutsAfter, PutsRun, RejectsMemory, PutsItems}
+use Rattle.cbor4ii_tree.specs.LeafRuns.{RunsBefore, PutsItemsUnder, KeepsItems, RejectsItemsUnder}
+use Rattle.cbor4ii_tree.specs.{LeafRuns.{RejectsWhereNone, TakesBy}, Meaning.{value, values}}
+use Rattle.cbor4ii_tree.specs.{Meaning.member_values, Prefix.Offers}
+use Rattle.cbor4ii_tree.specs.{Rejections.{Each, EachPair, Stopping, RejectsInCount}, Tree.Tree}
+use Rattle.cbor4ii_tree.specs.Tree.{Trees, no_trees, tree, Pairs, no_pairs, pair, bytes, bytes_all}
+use Rattle.cbor4ii_tree.specs.{Tree.{bytes_pairs, count, pair_count}, Valuing.{Whole, RejectsItems}}
+use Rattle.cbor4ii_tree.specs.Valuing.{ReadsItems, ReadsEach, ReadsUnder, RejectsOneValue}
+use Rattle.cbor4ii_tree.specs.{Valuing.RejectsUnder, View.{view, items_view, members_view}}
+use Rattle.cbor4ii_tree.specs.{declared.leaf.Next.Next, declared.run.Ran.Ran}
+use Rattle.cbor4ii_tree.specs.declared.value.Value.{Value}
+use Rattle.cbor4ii_tree.specs.declared.run.Ran.TheVariants as run
 
 -- ---- lists of values
 

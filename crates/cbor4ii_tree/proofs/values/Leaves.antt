@@ -1,55 +1,40 @@
 -- Values that hold no other, where they stand whole in shown bytes.
-use Rattle.std.proofs.Common.{◌≡◌, ◌≢◌, ℕ, suc, ◌+◌, ◌-◌, ◌*◌, ◌/◌, ◌%◌, ◌^◌, ◌<◌, ◌≤◌, ℤ, List}
-use Rattle.std.proofs.Common.{[], ◌∷◌, ◌++◌, length, take, drop, take-append-drop, length-append}
+use Rattle.std.proofs.Common.{◌≡◌, ◌≢◌, ℕ, suc, ◌+◌, ◌-◌, ◌*◌, ◌/◌, ◌%◌, ◌^◌, ◌<◌, ◌≤◌, ℤ, List, []}
+use Rattle.std.proofs.Common.{◌∷◌, ◌++◌, length, take, drop, take-append-drop, length-append}
 use Rattle.std.proofs.Common.{length-drop, Result, Ok, Err, Option, Some, None, IfSome, refl, sym}
-use Rattle.std.proofs.Common.{ap, ◌∙◌}
-use Rattle.std.proofs.Common.{subst, arith, get_or, Bool, true}
-use Rattle.std.proofs.Math.Seq.{take-append_seam, take-add}
-use Rattle.std.proofs.lemmas.List.{length-take-le}
+use Rattle.std.proofs.Common.{ap, ◌∙◌, subst, arith, get_or, Bool, true}
+use Rattle.std.proofs.{Math.Seq.{take-append_seam, take-add}, lemmas.List.length-take-le}
 use Rattle.std.specs.Int.{bytes_high_first}
 use denote.Ref.{Bor}
-use Rattle.cbor4ii_items.specs.Head.{Width, byte_count, additional, HeadFits, ArgumentAfter}
-use Rattle.cbor4ii_items.specs.Head.{IsBytes, shortest}
-use Rattle.cbor4ii_items.specs.Initial.{Sign, sign_major, Precision, precision_byte}
-use Rattle.cbor4ii_items.specs.Initial.{precision_bytes, half, single, double, Simple}
-use Rattle.cbor4ii_items.specs.Initial.{simple_false, simple_true, simple_null, simple_undefined}
-use Rattle.cbor4ii_items.specs.Initial.{unsigned, negative, Kind, kind_major, simple_byte}
-use Rattle.cbor4ii_items.specs.Initial.{byte_string, text_string}
-use Rattle.cbor4ii_items.specs.Head.{in_first, one, two, four, eight, head}
-use Rattle.cbor4ii_items.specs.Laws.Heads.{length-bytes_high_first}
-use Rattle.cbor4ii_items.specs.Laws.Answering.{fits_zero}
-use Rattle.cbor4ii_items.specs.Laws.Contents.{lends_prefix}
-use Rattle.cbor4ii_rw.specs.Reader.{Advances, IsPrefix, Shows}
+use Rattle.cbor4ii_rw.specs.{Reader.{Advances, IsPrefix, Shows}, View.{View, IfKnown}}
 use Rattle.cbor4ii_rw.specs.declared.error.DecodeError.{DecodeError}
-use Rattle.cbor4ii_items.specs.Laws.Running.{runs_peek}
-use Rattle.cbor4ii_items.specs.Reading.{Runs, peek_at}
-use Rattle.cbor4ii_rw.specs.View.{View, IfKnown}
-use Rattle.cbor4ii_tree.specs.Does.{Does}
-use Rattle.cbor4ii_tree.specs.Prefix.{Offers}
-use Rattle.cbor4ii_tree.specs.Item.{integer, float, IsItem}
-use Rattle.cbor4ii_tree.specs.Laws.Binds.{step_up}
-use Rattle.cbor4ii_tree.specs.Leaf.{CanTake, DoesAfterNext, ExactHead, StandsAhead}
-use Rattle.cbor4ii_tree.specs.Leaf.{SeesLeaf, ShowsFirst, ShowsNext, TakesLeaf, WantsContent}
-use Rattle.cbor4ii_tree.specs.Meaning.{number, simple_item, content_item}
-use Rattle.cbor4ii_tree.specs.InputError.{value_name}
-use Rattle.cbor4ii_tree.specs.InputError.{Small}
-use Rattle.cbor4ii_tree.specs.Tree.{int, bits, simple, string, bytes, TextIsUtf8}
-use Rattle.cbor4ii_tree.specs.Valuing.{SimpleOf, ReadsUnder, RejectsUnder}
-use Rattle.cbor4ii_tree.specs.View.{view}
-use Rattle.cbor4ii_tree.specs.declared.value.Value.{Value, Integer, Float}
-use Rattle.cbor4ii_tree.specs.declared.value.FloatBits.{FloatBits}
-use Rattle.cbor4ii_tree.specs.declared.leaf.Leaf.{Leaf}
-use Rattle.cbor4ii_tree.specs.declared.leaf.Leaf.TheVariants.{Whole, NoMemory, End}
-use Rattle.cbor4ii_tree.specs.declared.leaf.Next.{Next}
-use Rattle.cbor4ii_tree.specs.declared.leaf.Looked.{Looked}
-use Rattle.cbor4ii_tree.specs.declared.leaf.Looked.TheVariants as looked
 use Rattle.cbor4ii_rw.specs.declared.error.DecodeError.TheVariants.{OutOfMemory, Eof}
-use Rattle.cbor4ii_items.specs.Budget.{CostFits}
-use Rattle.cbor4ii_tree.proofs.skip_calls.Doing.{does_ok, does_no_memory}
-use Rattle.cbor4ii_tree.proofs.heads.Inverse.{IsBytes-take}
-use Rattle.cbor4ii_tree.proofs.values.Calls.{fits_less, whole, value_no_byte}
+use Rattle.cbor4ii_items.specs.{Budget.CostFits, Head.{Width, byte_count, additional, HeadFits}}
+use Rattle.cbor4ii_items.specs.Head.{ArgumentAfter, IsBytes, shortest, in_first, one, two, four}
+use Rattle.cbor4ii_items.specs.{Head.{eight, head}, Initial.{Sign, sign_major, Precision}}
+use Rattle.cbor4ii_items.specs.Initial.{precision_byte, precision_bytes, half, single, double}
+use Rattle.cbor4ii_items.specs.Initial.{Simple, simple_false, simple_true, simple_null}
+use Rattle.cbor4ii_items.specs.Initial.{simple_undefined, unsigned, negative, Kind, kind_major}
+use Rattle.cbor4ii_items.specs.Initial.{simple_byte, byte_string, text_string}
+use Rattle.cbor4ii_items.specs.{Laws.Answering.fits_zero, Laws.Contents.lends_prefix}
+use Rattle.cbor4ii_items.specs.{Laws.Heads.length-bytes_high_first, Laws.Running.runs_peek}
+use Rattle.cbor4ii_items.specs.Reading.{Runs, peek_at}
+use Rattle.cbor4ii_tree.specs.{Does.Does, InputError.{value_name, Small}, Item.{integer, float}}
+use Rattle.cbor4ii_tree.specs.{Item.IsItem, Laws.Binds.step_up, Leaf.{CanTake, DoesAfterNext}}
+use Rattle.cbor4ii_tree.specs.Leaf.{ExactHead, StandsAhead, SeesLeaf, ShowsFirst, ShowsNext}
+use Rattle.cbor4ii_tree.specs.{Leaf.{TakesLeaf, WantsContent}, Meaning.{number, simple_item}}
+use Rattle.cbor4ii_tree.specs.{Meaning.content_item, Prefix.Offers, Tree.{int, bits, simple}}
+use Rattle.cbor4ii_tree.specs.{Tree.{string, TextIsUtf8}, Valuing.{SimpleOf, ReadsUnder}}
+use Rattle.cbor4ii_tree.specs.{Valuing.RejectsUnder, View.view, declared.leaf.Leaf.Leaf}
+use Rattle.cbor4ii_tree.specs.declared.leaf.Leaf.TheVariants.{Whole, NoMemory, End}
+use Rattle.cbor4ii_tree.specs.{declared.leaf.Looked.Looked, declared.leaf.Next.Next}
+use Rattle.cbor4ii_tree.specs.{declared.value.FloatBits.FloatBits, declared.value.Value.Value}
+use Rattle.cbor4ii_tree.specs.declared.value.Value.{Integer, Float}
+use Rattle.cbor4ii_tree.proofs.{heads.Inverse.IsBytes-take, skip_calls.Doing.does_ok}
+use Rattle.cbor4ii_tree.proofs.{skip_calls.Doing.does_no_memory, values.Calls.{fits_less, whole}}
+use Rattle.cbor4ii_tree.proofs.{values.Calls.value_no_byte, values.Encoding.view-Integer}
 use Rattle.cbor4ii_tree.proofs.values.Ends.{none_shown}
-use Rattle.cbor4ii_tree.proofs.values.Encoding.{view-Integer}
+use Rattle.cbor4ii_tree.specs.declared.leaf.Looked.TheVariants as looked
 
 in_range : (s : Sign) (n : ℕ) → n < 2 ^ 127 → IsItem (integer (number s n))
 in_range unsigned n h = h

@@ -1,6 +1,6 @@
 -- Calls that write, whose error is left elsewhere.
-use Rattle.std.proofs.Common.{List, ℕ, Option, Some, None, Result, Ok, Err, Bool, OnSome}
-use Rattle.std.proofs.Common.{sym, subst}
+use Rattle.std.proofs.Common.{List, ℕ, Option, Some, None, Result, Ok, Err, Bool, OnSome, sym}
+use Rattle.std.proofs.Common.{subst}
 use Rattle.cbor4ii_rw.specs.Writer.{Output}
 use Rattle.cbor4ii_items.specs.Writing.{Writes}
 use Rattle.cbor4ii_tree.specs.Sending.{sent, Sends}

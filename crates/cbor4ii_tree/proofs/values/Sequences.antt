@@ -1,71 +1,54 @@
 -- Arrays and maps of values.
 use Rattle.std.proofs.Common.{◌≡◌, ◌≢◌, ℕ, ◌+◌, ◌*◌, ◌/◌, ◌%◌, List, [], ◌∷◌, ◌++◌, drop, take}
-use Rattle.std.proofs.Common.{Option, Some, None, Result, Ok, Err, Bool, true, false, refl, sym}
-use Rattle.std.proofs.Common.{ap, ap₂, ◌∙◌}
-use Rattle.std.proofs.Common.{subst, arith, append_assoc, inl, inr, Vec, Global, IfOk, IfErr}
+use Rattle.std.proofs.Common.{Option, Some, None, Result, Ok, Err, Bool, true, false, refl, sym, ap}
+use Rattle.std.proofs.Common.{ap₂, ◌∙◌, subst, arith, append_assoc, inl, inr, Vec, Global, IfOk}
+use Rattle.std.proofs.Common.{IfErr}
 use Rattle.std.specs.Int.{bytes_high_first}
-use Rattle.cbor4ii_rw.specs.View.{View}
-use Rattle.cbor4ii_rw.specs.Reader.{KeepsAllButBudget, StepsIn, step_back}
+use Rattle.cbor4ii_rw.specs.{Reader.{KeepsAllButBudget, StepsIn, step_back}, View.View}
 use Rattle.cbor4ii_rw.specs.declared.error.DecodeError.{DecodeError}
-use Rattle.cbor4ii_items.specs.InputError.{InputError}
-use Rattle.cbor4ii_items.specs.Head.{byte_count, additional, HeadFits, head, indefinite_head, break}
-use Rattle.cbor4ii_items.specs.Head.{shortest}
-use Rattle.cbor4ii_items.specs.Heads.{RejectsHead}
-use Rattle.cbor4ii_items.specs.Lengths.{ReadsLength, RejectsLength}
+use Rattle.cbor4ii_items.specs.{Budget.CostFits, Decoding.{Sound, Rejects}, Head.byte_count}
+use Rattle.cbor4ii_items.specs.Head.{additional, HeadFits, head, indefinite_head, break, shortest}
+use Rattle.cbor4ii_items.specs.{Heads.RejectsHead, Initial.{Info, wide, indefinite_ended, reserved}}
+use Rattle.cbor4ii_items.specs.Initial.{info_of, array_by_info, map_by_info, starts_array}
+use Rattle.cbor4ii_items.specs.Initial.{starts_indefinite_array, starts_map, starts_indefinite_map}
+use Rattle.cbor4ii_items.specs.{InputError.InputError, Laws.SequenceParts.fits_less}
+use Rattle.cbor4ii_items.specs.{Lengths.{ReadsLength, RejectsLength}, Moves.Moves}
 use Rattle.cbor4ii_items.specs.Shortest.{RejectsShortest}
-use Rattle.cbor4ii_items.specs.Moves.{Moves}
-use Rattle.cbor4ii_items.specs.Decoding.{Sound, Rejects}
-use Rattle.cbor4ii_items.specs.Budget.{CostFits}
-use Rattle.cbor4ii_items.specs.Initial.{Info, wide, indefinite_ended, reserved, info_of}
-use Rattle.cbor4ii_items.specs.Initial.{array_by_info}
-use Rattle.cbor4ii_items.specs.Initial.{map_by_info, starts_array, starts_indefinite_array}
-use Rattle.cbor4ii_items.specs.Initial.{starts_map}
-use Rattle.cbor4ii_items.specs.Initial.{starts_indefinite_map}
-use Rattle.cbor4ii_items.specs.Laws.SequenceParts.{fits_less}
-use Rattle.cbor4ii_tree.specs.InputError.{array_name, map_name}
-use Rattle.cbor4ii_tree.specs.InputError.{break_name}
+use Rattle.cbor4ii_tree.specs.CanonicalRejects.{CanonicalArrayRejects, CanonicalMapRejects}
+use Rattle.cbor4ii_tree.specs.{CanonicalShape.{CanonicalShapeAll, CanonicalShapePairs}, Cost.Budget}
+use Rattle.cbor4ii_tree.specs.{Cost.{step_in, greatest_cost, greatest_pair_cost}, Does.Accepting}
+use Rattle.cbor4ii_tree.specs.{Does.{Does, answered}, InputError.{array_name, map_name, break_name}}
+use Rattle.cbor4ii_tree.specs.{InputError.{eof, mismatch, depth_overflow, Small}, Item.no_members}
+use Rattle.cbor4ii_tree.specs.{Item.{member, sequence, mapping}, Laws.Binds.step_up}
 use Rattle.cbor4ii_tree.specs.Laws.Initials.{initial_array, initial_map, initial_indefinite_array}
-use Rattle.cbor4ii_tree.specs.Laws.Initials.{initial_indefinite_map}
-use Rattle.cbor4ii_tree.specs.Laws.Wholes.{all_readable, all_pairs_readable}
-use Rattle.cbor4ii_tree.specs.declared.value.Value.{Value, Array, Map}
+use Rattle.cbor4ii_tree.specs.{Laws.Initials.initial_indefinite_map, Laws.Wholes.all_readable}
+use Rattle.cbor4ii_tree.specs.{Laws.Wholes.all_pairs_readable, Meaning.{value, member_values}}
+use Rattle.cbor4ii_tree.specs.ReadingRejects.{Readable, ReadingRejectsBy, ReadingRejects}
+use Rattle.cbor4ii_tree.specs.Rejections.{Stopping, Is, AtHead, RejectsAtStep, RejectsInCount, Each}
+use Rattle.cbor4ii_tree.specs.Rejections.{EachPair, IndefiniteItems, IndefinitePairs, NoBreak}
 use Rattle.cbor4ii_tree.specs.Tree.{Tree, Trees, no_trees, Pairs, no_pairs, pair, array}
 use Rattle.cbor4ii_tree.specs.Tree.{array_indefinite, map_of, map_indefinite, bytes, bytes_all}
 use Rattle.cbor4ii_tree.specs.Tree.{bytes_pairs, LooseAll, LoosePairs, SoundStringsAll}
-use Rattle.cbor4ii_tree.specs.Tree.{SoundStringsPairs}
-use Rattle.cbor4ii_tree.specs.CanonicalShape.{CanonicalShapeAll, CanonicalShapePairs}
-use Rattle.cbor4ii_tree.specs.Item.{no_members, member, sequence, mapping}
-use Rattle.cbor4ii_tree.specs.Meaning.{value, member_values}
-use Rattle.cbor4ii_tree.specs.Cost.{Budget, step_in, greatest_cost, greatest_pair_cost}
-use Rattle.cbor4ii_tree.specs.Laws.Binds.{step_up}
-use Rattle.cbor4ii_tree.specs.InputError.{eof, mismatch, depth_overflow, Small}
-use Rattle.cbor4ii_tree.specs.Rejections.{Stopping, Is, AtHead, RejectsAtStep, RejectsInCount, Each}
-use Rattle.cbor4ii_tree.specs.Rejections.{EachPair, IndefiniteItems}
-use Rattle.cbor4ii_tree.specs.Rejections.{IndefinitePairs, NoBreak}
-use Rattle.cbor4ii_tree.specs.ReadingRejects.{Readable, ReadingRejectsBy, ReadingRejects}
-use Rattle.cbor4ii_tree.specs.CanonicalRejects.{CanonicalArrayRejects, CanonicalMapRejects}
-use Rattle.cbor4ii_tree.specs.View.{view, items_view, members_view}
-use Rattle.cbor4ii_tree.specs.Does.{Accepting, Does, answered}
-use Rattle.cbor4ii_tree.specs.Valuing.{Whole, HeadAt, IndefiniteAt, ReadsOneValue, RejectsOneValue}
-use Rattle.cbor4ii_tree.specs.Valuing.{ReadsUnder}
-use Rattle.cbor4ii_tree.specs.Valuing.{MakesArray, MakesMap, RejectsUnder, TakesLength}
-use Rattle.cbor4ii_tree.specs.Valuing.{ReadsItems, RejectsItems, ReadsIndefiniteItems}
-use Rattle.cbor4ii_tree.specs.Valuing.{RejectsIndefiniteItems}
+use Rattle.cbor4ii_tree.specs.{Tree.SoundStringsPairs, Valuing.{Whole, HeadAt, IndefiniteAt}}
+use Rattle.cbor4ii_tree.specs.Valuing.{ReadsOneValue, RejectsOneValue, ReadsUnder, MakesArray}
+use Rattle.cbor4ii_tree.specs.Valuing.{MakesMap, RejectsUnder, TakesLength, ReadsItems}
+use Rattle.cbor4ii_tree.specs.Valuing.{RejectsItems, ReadsIndefiniteItems, RejectsIndefiniteItems}
 use Rattle.cbor4ii_tree.specs.Valuing.{ReadsMembers, ReadsIndefiniteMembers}
-use Rattle.cbor4ii_tree.specs.Valuing.{RejectsIndefiniteMembers}
-use Rattle.cbor4ii_tree.specs.Valuing.{ReadsMember, RejectsMember, RejectsMembers, ReadsArrayInside}
-use Rattle.cbor4ii_tree.specs.Valuing.{ReadsMapInside, RejectsMajor, RejectsOf, ReadsStepped}
-use Rattle.cbor4ii_tree.proofs.skip_calls.Doing.{Reached, reached_start, reached_by, reached_then}
-use Rattle.cbor4ii_tree.proofs.skip_calls.Doing.{does_err, does_after, does_stepped, call_rejects}
-use Rattle.cbor4ii_tree.proofs.skip_calls.Doing.{reached_as, reached_sound, steps_in, does_ok}
+use Rattle.cbor4ii_tree.specs.Valuing.{RejectsIndefiniteMembers, ReadsMember, RejectsMember}
+use Rattle.cbor4ii_tree.specs.Valuing.{RejectsMembers, ReadsArrayInside, ReadsMapInside}
+use Rattle.cbor4ii_tree.specs.{Valuing.{RejectsMajor, RejectsOf, ReadsStepped}, View.view}
+use Rattle.cbor4ii_tree.specs.{View.{items_view, members_view}, declared.value.Value.{Value, Array}}
+use Rattle.cbor4ii_tree.specs.declared.value.Value.{Map}
 use Rattle.cbor4ii_tree.proofs.canonical.FitsCanonically.{all_exactly, all_pairs_exactly}
-use Rattle.cbor4ii_tree.proofs.values.Views.{view-Map}
-use Rattle.cbor4ii_tree.proofs.values.Parts.{ReadEach, ReadPairs}
+use Rattle.cbor4ii_tree.proofs.parts.Pushed.{push, each-push, bytes-push, push_pair, each-push_pair}
+use Rattle.cbor4ii_tree.proofs.{parts.Pushed.bytes-push_pair, skip_calls.Doing.Reached}
+use Rattle.cbor4ii_tree.proofs.skip_calls.Doing.{reached_start, reached_by, reached_then, does_err}
+use Rattle.cbor4ii_tree.proofs.skip_calls.Doing.{does_after, does_stepped, call_rejects, reached_as}
+use Rattle.cbor4ii_tree.proofs.skip_calls.Doing.{reached_sound, steps_in, does_ok}
 use Rattle.cbor4ii_tree.proofs.values.Calls.{head_cut, no_head, initial_of, values-push, whole}
-use Rattle.cbor4ii_tree.proofs.values.Calls.{indefinite_byte}
-use Rattle.cbor4ii_tree.proofs.parts.Pushed.{push, each-push, bytes-push, push_pair}
-use Rattle.cbor4ii_tree.proofs.parts.Pushed.{each-push_pair, bytes-push_pair}
+use Rattle.cbor4ii_tree.proofs.{values.Calls.indefinite_byte, values.Encoding.view-Array}
 use Rattle.cbor4ii_tree.proofs.values.Heads.{at_row, at_major, first_is, head_at, shortest_at}
-use Rattle.cbor4ii_tree.proofs.values.Encoding.{view-Array}
+use Rattle.cbor4ii_tree.proofs.{values.Parts.{ReadEach, ReadPairs}, values.Views.view-Map}
 
 -- ---- encodings that are read whole, one after another
 

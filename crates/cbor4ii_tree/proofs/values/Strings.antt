@@ -6,48 +6,39 @@ use Rattle.std.proofs.Common.{ap, ap₂, ◌∙◌, subst, arith, append_assoc, 
 use Rattle.std.proofs.Common.{take-append-drop, inl, inr, rules, cond, IsUtf8, eqb, eqb-true}
 use Rattle.std.proofs.Common.{eq-eqb, get_or, string_bytes, Vec, Global, String}
 use Rattle.std.specs.Int.{bytes_high_first}
-use Rattle.cbor4ii_items.specs.InputError.{InputError}
-use Rattle.cbor4ii_items.specs.Head.{Width, byte_count, additional, head, indefinite_head, break}
-use Rattle.cbor4ii_items.specs.Heads.{RejectsHead, Begins, CutHead}
-use Rattle.cbor4ii_items.specs.Laws.Heads.{after_head, length-bytes_high_first}
-use Rattle.cbor4ii_items.specs.Laws.Prefixes.{drop_more}
-use Rattle.cbor4ii_items.specs.Budget.{CostFits}
-use Rattle.cbor4ii_items.specs.Strings as strings
+use Rattle.cbor4ii_items.specs.{Budget.CostFits, Head.{Width, byte_count, additional, head}}
+use Rattle.cbor4ii_items.specs.{Head.{indefinite_head, break}, Heads.{RejectsHead, Begins, CutHead}}
+use Rattle.cbor4ii_items.specs.Initial.{Initial, Info, wide, indefinite_ended, reserved, info_of}
+use Rattle.cbor4ii_items.specs.Initial.{initial, by_major, int_by_info, string_by_info}
+use Rattle.cbor4ii_items.specs.Initial.{array_by_info, map_by_info, tag_by_info, simple_by_info}
+use Rattle.cbor4ii_items.specs.Initial.{unsigned, negative, Sign, Kind, byte_string, text_string}
+use Rattle.cbor4ii_items.specs.Initial.{kind_major, Simple, Precision, starts_string, starts_chunks}
+use Rattle.cbor4ii_items.specs.Initial.{bad_string, starts_simple, starts_bits, other_simple}
+use Rattle.cbor4ii_items.specs.Initial.{simple_false, simple_true, simple_null, simple_undefined}
+use Rattle.cbor4ii_items.specs.{Initial.{half, single, double}, InputError.InputError}
+use Rattle.cbor4ii_items.specs.{Laws.Answering.fits_zero, Laws.Heads.after_head}
+use Rattle.cbor4ii_items.specs.{Laws.Heads.length-bytes_high_first, Laws.Prefixes.drop_more}
 use Rattle.cbor4ii_items.specs.Strings.{ReadsDefiniteString, ReadsChunks, chunk_cost, ReadsString}
 use Rattle.cbor4ii_items.specs.Strings.{CutContent, RejectsChunk, no_chunk_byte, no_step}
-use Rattle.cbor4ii_items.specs.Strings.{chunk_indefinite}
-use Rattle.cbor4ii_items.specs.Strings.{chunk_rejected, chunk_cut, RejectsString}
-use Rattle.cbor4ii_items.specs.Strings.{string_head_rejected}
-use Rattle.cbor4ii_items.specs.Strings.{string_cut, string_indefinite, RejectsText, no_string}
-use Rattle.cbor4ii_items.specs.Strings.{no_utf8}
-use Rattle.cbor4ii_items.specs.Initial.{Initial, Info, wide, indefinite_ended, reserved, info_of}
-use Rattle.cbor4ii_items.specs.Initial.{initial}
-use Rattle.cbor4ii_items.specs.Initial.{by_major, int_by_info, string_by_info, array_by_info}
-use Rattle.cbor4ii_items.specs.Initial.{map_by_info, tag_by_info, simple_by_info, unsigned}
-use Rattle.cbor4ii_items.specs.Initial.{negative, Sign, Kind, byte_string, text_string, kind_major}
-use Rattle.cbor4ii_items.specs.Initial.{Simple, Precision, starts_string, starts_chunks, bad_string}
-use Rattle.cbor4ii_items.specs.Initial.{starts_simple, starts_bits, other_simple, simple_false}
-use Rattle.cbor4ii_items.specs.Initial.{simple_true, simple_null, simple_undefined, half, single}
-use Rattle.cbor4ii_items.specs.Initial.{double}
-use Rattle.cbor4ii_items.specs.Laws.Answering.{fits_zero}
-use Rattle.cbor4ii_tree.specs.InputError.{eof, mismatch, require_length, require_utf8, Indefinite}
-use Rattle.cbor4ii_tree.specs.InputError.{len_of, kind_name}
+use Rattle.cbor4ii_items.specs.Strings.{chunk_indefinite, chunk_rejected, chunk_cut, RejectsString}
+use Rattle.cbor4ii_items.specs.Strings.{string_head_rejected, string_cut, string_indefinite}
+use Rattle.cbor4ii_items.specs.Strings.{RejectsText, no_string, no_utf8}
+use Rattle.cbor4ii_tree.specs.{Cost.{Budget, step_in, chunks_cost}, InputError.{eof, mismatch}}
+use Rattle.cbor4ii_tree.specs.InputError.{require_length, require_utf8, Indefinite, len_of}
+use Rattle.cbor4ii_tree.specs.{InputError.kind_name, Item.{bytes_item, text}, Laws.Binds.step_up}
 use Rattle.cbor4ii_tree.specs.Laws.Initials.{initial_string, initial_chunks, head_below, kind_below}
-use Rattle.cbor4ii_tree.specs.declared.value.Value.{Bytes, Text, the_lemmas}
-use Rattle.cbor4ii_tree.specs.Tree.{Tree, Trees, no_trees, tree, string, chunked, bytes, bytes_all}
-use Rattle.cbor4ii_tree.specs.Tree.{LooseAll, AreChunks, joined_chunks, TextIsUtf8}
-use Rattle.cbor4ii_tree.specs.Item.{bytes_item, text}
-use Rattle.cbor4ii_tree.specs.Meaning.{value, content_item}
-use Rattle.cbor4ii_tree.specs.Cost.{Budget, step_in, chunks_cost}
-use Rattle.cbor4ii_tree.specs.Laws.Binds.{step_up}
-use Rattle.cbor4ii_tree.specs.Rejections.{Is, RejectsAtStep, Each, NoBreak}
-use Rattle.cbor4ii_tree.specs.ReadingRejects.{Readable, ReadableChunk, CutString, ChunkRejectsBy}
+use Rattle.cbor4ii_tree.specs.{Meaning.{value, content_item}, ReadingRejects.Readable}
+use Rattle.cbor4ii_tree.specs.ReadingRejects.{ReadableChunk, CutString, ChunkRejectsBy}
 use Rattle.cbor4ii_tree.specs.ReadingRejects.{ChunkRejects, ReadingRejectsBy, ReadingRejects}
-use Rattle.cbor4ii_tree.specs.View.{view}
-use Rattle.cbor4ii_tree.specs.Valuing.{ReadsUnder, RejectsUnder}
+use Rattle.cbor4ii_tree.specs.{Rejections.{Is, RejectsAtStep, Each, NoBreak}, Tree.{Tree, Trees}}
+use Rattle.cbor4ii_tree.specs.Tree.{no_trees, tree, string, chunked, bytes, bytes_all, LooseAll}
+use Rattle.cbor4ii_tree.specs.{Tree.{AreChunks, joined_chunks, TextIsUtf8}, Valuing.ReadsUnder}
+use Rattle.cbor4ii_tree.specs.{Valuing.RejectsUnder, View.view, declared.value.Value.{Bytes, Text}}
+use Rattle.cbor4ii_tree.specs.declared.value.Value.{the_lemmas}
 use Rattle.cbor4ii_tree.proofs.values.Calls.{head_cut, no_head, initial_of, width_begins}
-use Rattle.cbor4ii_tree.proofs.values.Calls.{small_count, indefinite_byte}
-use Rattle.cbor4ii_tree.proofs.values.Heads.{at_row, first_is}
+use Rattle.cbor4ii_tree.proofs.{values.Calls.{small_count, indefinite_byte}, values.Heads.at_row}
+use Rattle.cbor4ii_tree.proofs.values.Heads.{first_is}
+use Rattle.cbor4ii_items.specs.Strings as strings
 
 -- ---- strings of definite length
 

@@ -1,14 +1,11 @@
 -- Lists of values beside what they stand for.
 use Rattle.std.proofs.Common.{◌≡◌, ℕ, zero, suc, ◌<◌, List, [], ◌∷◌, ◌++◌, length, take, get_or}
-use Rattle.std.proofs.Common.{◌+◌, refl, sym, ap, ap₂, ◌∙◌, arith, ◌↔◌}
-use Rattle.std.specs.Prelude.{Vec}
+use Rattle.std.proofs.Common.{◌+◌, refl, sym, ap, ap₂, ◌∙◌, arith, ◌↔◌, Global, rules}
 use Rattle.std.proofs.lemmas.List.{take_more, get_or_default}
-use Rattle.std.proofs.Common.{Global}
+use Rattle.std.specs.Prelude.{Vec}
 use Rattle.cbor4ii_tree.specs.Item.{Item, Items, item, no_items, item_count, member_count, mapping}
-use Rattle.cbor4ii_tree.specs.Item.{Members, member}
-use Rattle.cbor4ii_tree.specs.View.{view, items_view, members_view}
+use Rattle.cbor4ii_tree.specs.{Item.{Members, member}, View.{view, items_view, members_view}}
 use Rattle.cbor4ii_tree.specs.declared.value.Value.{Value, Map, the_lemmas}
-use Rattle.std.proofs.Common.{rules}
 
 pub item_count-items_view : (vs : List Value) → item_count (items_view vs) ≡ length vs
 item_count-items_view [] = refl

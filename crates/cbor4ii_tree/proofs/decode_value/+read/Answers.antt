@@ -1,56 +1,39 @@
-use Rattle.std.proofs.Common.{length, Some, inl, refl, ap, subst, arith, ◌-◌, ◌*◌}
-use Rattle.std.proofs.Common.{◌∙◌, ◌∷◌, ◌≡◌}
-use Rattle.cbor4ii_tree.specs.Does.{error_left}
+use Rattle.std.proofs.Common.{length, Some, inl, refl, ap, subst, arith, ◌-◌, ◌*◌, ◌∙◌, ◌∷◌, ◌≡◌}
+use Rattle.cbor4ii_items.specs.{Laws.Running.kept_alike, Laws.Steps.kept_then}
+use Rattle.cbor4ii_tree.specs.{Deeper.budgeted, Does.error_left, InputError.{array_name, map_name}}
+use Rattle.cbor4ii_tree.specs.{InputError.value_name, Item.tag, LeafRuns.{flat, flat_values}}
 use Rattle.cbor4ii_tree.specs.Valuing.{ReadsOneValue, RejectsOneValue, ReadsMember, RejectsMember}
-use Rattle.cbor4ii_tree.specs.Valuing.{MakesArray, MakesMap, TakesLength, TakesTag}
-use Rattle.cbor4ii_tree.specs.Valuing.{ReadsTagged, RejectsMembers, ReadsStepped, RejectsOf}
-use Rattle.cbor4ii_tree.specs.Valuing.{ReadsItems}
-use Rattle.cbor4ii_tree.specs.Valuing.{ReadsArrayInside, ReadsMapInside, RejectsMajor}
-use Rattle.cbor4ii_tree.specs.Valuing.{ReadsMembers, ReadsIndefiniteItems, RejectsIndefiniteItems}
+use Rattle.cbor4ii_tree.specs.Valuing.{MakesArray, MakesMap, TakesLength, TakesTag, ReadsTagged}
+use Rattle.cbor4ii_tree.specs.Valuing.{RejectsMembers, ReadsStepped, RejectsOf, ReadsItems}
+use Rattle.cbor4ii_tree.specs.Valuing.{ReadsArrayInside, ReadsMapInside, RejectsMajor, ReadsMembers}
+use Rattle.cbor4ii_tree.specs.Valuing.{ReadsIndefiniteItems, RejectsIndefiniteItems}
 use Rattle.cbor4ii_tree.specs.Valuing.{ReadsIndefiniteMembers, RejectsIndefiniteMembers, ReadsUnder}
-use Rattle.cbor4ii_tree.specs.Valuing.{RejectsUnder}
-use Rattle.cbor4ii_tree.specs.Deeper.{budgeted}
+use Rattle.cbor4ii_tree.specs.{Valuing.{Whole, ReadsEach}, View.view}
 use Rattle.cbor4ii_tree.specs.declared.value.Value.{Tag}
-use Rattle.cbor4ii_tree.specs.Item.{tag}
-use Rattle.cbor4ii_tree.specs.View.{view}
-use Rattle.cbor4ii_tree.specs.InputError.{array_name, map_name, value_name}
-use Rattle.cbor4ii_items.specs.Laws.Steps.{kept_then}
-use Rattle.cbor4ii_tree.proofs.skip_calls.Doing.{reached_start, reached_by, does_ok}
-use Rattle.cbor4ii_tree.proofs.skip_calls.Doing.{does_no_memory, does_no_step}
 use Rattle.cbor4ii_tree.proofs.skip_calls.Calls.{Before, broke, other, at_end}
-use Rattle.cbor4ii_tree.proofs.values.Parts.{ReadEach, ReadPairs}
-use Rattle.cbor4ii_tree.proofs.values.Calls.{stepped, value_no_step}
-use Rattle.cbor4ii_tree.proofs.values.Heads.{arm_does}
-use Rattle.cbor4ii_tree.proofs.values.Heads.{tag_does, tagged_ok}
-use Rattle.cbor4ii_tree.proofs.values.Heads.{view-Tag}
-use Rattle.cbor4ii_tree.proofs.values.Sequences.{major_stepped, array_no_step, map_no_step}
-use Rattle.cbor4ii_tree.proofs.values.Sequences.{none_follow, some_follow}
-use Rattle.cbor4ii_tree.proofs.skip_calls.Doing.{still_rejected}
-use Rattle.cbor4ii_tree.proofs.values.Sequences.{array_definite, array_of_none, array_opened}
-use Rattle.cbor4ii_tree.proofs.values.Sequences.{array_makes, made_array, made_map, map_makes}
-use Rattle.cbor4ii_tree.proofs.values.Sequences.{map_definite, map_of_none, map_opened}
-use Rattle.cbor4ii_tree.proofs.values.Sequences.{each_none}
-use Rattle.cbor4ii_tree.proofs.values.Sequences.{each_more, indefinite_end, indefinite_stop}
-use Rattle.cbor4ii_tree.proofs.values.Sequences.{indefinite_done}
-use Rattle.cbor4ii_tree.proofs.values.Sequences.{pairs_none, pairs_more, members_end, pair_stop}
-use Rattle.cbor4ii_tree.proofs.values.Sequences.{value_stop, members_done, more, ends}
+use Rattle.cbor4ii_tree.proofs.{skip_calls.Deeper.alike_within, skip_calls.Doing.reached_start}
+use Rattle.cbor4ii_tree.proofs.skip_calls.Doing.{reached_by, does_ok, does_no_memory, does_no_step}
+use Rattle.cbor4ii_tree.proofs.skip_calls.Doing.{still_rejected, reached_as}
+use Rattle.cbor4ii_tree.proofs.{values.Answered.{went_on, around}, values.ByHead.after_next}
+use Rattle.cbor4ii_tree.proofs.values.ByHead.{next_step, next_stepped, peeks_next}
+use Rattle.cbor4ii_tree.proofs.{values.Calls.{stepped, value_no_step}, values.Heads.arm_does}
+use Rattle.cbor4ii_tree.proofs.values.Heads.{tag_does, tagged_ok, view-Tag}
 use Rattle.cbor4ii_tree.proofs.values.Items.{items_none, items_are, members_none_are, members_are}
 use Rattle.cbor4ii_tree.proofs.values.Items.{array_encoding, map_encoding}
-use Rattle.cbor4ii_items.specs.Laws.Running.{kept_alike}
-use Rattle.cbor4ii_tree.proofs.values.Answered.{went_on, around}
-use Rattle.cbor4ii_tree.proofs.values.Leaves.{after_look}
-use Rattle.cbor4ii_tree.proofs.skip_calls.Deeper.{alike_within}
-use Rattle.cbor4ii_tree.proofs.values.ByHead.{after_next, next_step, next_stepped, peeks_next}
-use Rattle.cbor4ii_tree.specs.Valuing.{Whole}
-use Rattle.cbor4ii_tree.specs.LeafRuns.{flat, flat_values}
-use Rattle.cbor4ii_tree.specs.Valuing.{ReadsEach}
-use Rattle.cbor4ii_tree.proofs.skip_calls.Doing.{reached_as}
 use Rattle.cbor4ii_tree.proofs.values.LeafRuns.{none_yet, none_too_many, ran, run_rejects}
-use Rattle.cbor4ii_tree.proofs.values.LeafRuns.{stop_alone}
-use Rattle.cbor4ii_tree.proofs.values.LeafRuns.{both_there, pairs_are_read, pairs_are}
+use Rattle.cbor4ii_tree.proofs.values.LeafRuns.{stop_alone, both_there, pairs_are_read, pairs_are}
 use Rattle.cbor4ii_tree.proofs.values.LeafRuns.{turn_stepped, turn_unstepped, turn_put}
-use Rattle.cbor4ii_tree.proofs.values.LeafRuns.{turn_rejected}
-use Rattle.cbor4ii_tree.proofs.values.LeafRuns.{turn_ends, run_before, on_found, put_items}
+use Rattle.cbor4ii_tree.proofs.values.LeafRuns.{turn_rejected, turn_ends, run_before, on_found}
+use Rattle.cbor4ii_tree.proofs.{values.LeafRuns.put_items, values.Leaves.after_look}
+use Rattle.cbor4ii_tree.proofs.{values.Parts.{ReadEach, ReadPairs}, values.Sequences.major_stepped}
+use Rattle.cbor4ii_tree.proofs.values.Sequences.{array_no_step, map_no_step, none_follow}
+use Rattle.cbor4ii_tree.proofs.values.Sequences.{some_follow, array_definite, array_of_none}
+use Rattle.cbor4ii_tree.proofs.values.Sequences.{array_opened, array_makes, made_array, made_map}
+use Rattle.cbor4ii_tree.proofs.values.Sequences.{map_makes, map_definite, map_of_none, map_opened}
+use Rattle.cbor4ii_tree.proofs.values.Sequences.{each_none, each_more, indefinite_end}
+use Rattle.cbor4ii_tree.proofs.values.Sequences.{indefinite_stop, indefinite_done, pairs_none}
+use Rattle.cbor4ii_tree.proofs.values.Sequences.{pairs_more, members_end, pair_stop, value_stop}
+use Rattle.cbor4ii_tree.proofs.values.Sequences.{members_done, more, ends}
 use Rattle.cbor4ii_tree.proofs.decode_value.+read.Goals as goal
 
 pub array_inside-returns-in-Some-eq0-clause-does : goal.array_inside-returns-in-Some-eq0-clause-does
@@ -78,15 +61,6 @@ array_inside-returns-in_ok-definite_items-in-Some-clause-item g t c =
     array_encoding c.in_ok-definite_items-in-Some.field-0
     c.in_ok-definite_items-in-Some.ensures.items
 
-pub array_inside-returns-in_ok-definite_items-in-Some-clause-progress :
-    goal.array_inside-returns-in_ok-definite_items-in-Some-clause-progress
-array_inside-returns-in_ok-definite_items-in-Some-clause-progress g t c =
-    omega (
-      arith,
-      c.in_ok-take_length.ensures.progress,
-      c.in_ok-definite_items-in-Some.ensures.does.moves.by.bound,
-    )
-
 pub array_inside-returns-in_err-definite_items-in-Some-clause-does :
     goal.array_inside-returns-in_err-definite_items-in-Some-clause-does
 array_inside-returns-in_err-definite_items-in-Some-clause-does g t c before shows =
@@ -113,15 +87,6 @@ pub array_inside-returns-in_ok-indefinite_items-in-None-clause-item :
 array_inside-returns-in_ok-indefinite_items-in-None-clause-item g t c =
     array_encoding c.in_ok-indefinite_items-in-None.field-0
     c.in_ok-indefinite_items-in-None.ensures.items
-
-pub array_inside-returns-in_ok-indefinite_items-in-None-clause-progress :
-    goal.array_inside-returns-in_ok-indefinite_items-in-None-clause-progress
-array_inside-returns-in_ok-indefinite_items-in-None-clause-progress g t c =
-    omega (
-      arith,
-      c.in_ok-take_length.ensures.progress,
-      c.in_ok-indefinite_items-in-None.ensures.does.moves.by.bound,
-    )
 
 pub array_inside-returns-in_err-indefinite_items-in-None-clause-does :
     goal.array_inside-returns-in_err-indefinite_items-in-None-clause-does
@@ -166,21 +131,10 @@ read_array-returns-then-not-step_in-clause-does g t c before shows =
     (λ none xs. array_no_step g.A.Encodings.exact budget none xs) c.if-not-step_in.ensures.budget
     c.step_in.ensures.others))
 
-pub read_array-returns-clause-item : goal.read_array-returns-clause-item
-read_array-returns-clause-item g t c = c.array_inside-outcome.ensures.item
-
 pub read_array-returns-clause-progress : goal.read_array-returns-clause-progress
 read_array-returns-clause-progress g t c =
     around _ _ _ _ _ c.step_in.ensures.others.bound c.step_out.ensures.others.bound
     c.array_inside-outcome.ensures.progress
-
-pub read_array-returns-then-not-step_in-clause-item :
-    goal.read_array-returns-then-not-step_in-clause-item
-read_array-returns-then-not-step_in-clause-item g t c = tt
-
-pub read_array-returns-then-not-step_in-clause-progress :
-    goal.read_array-returns-then-not-step_in-clause-progress
-read_array-returns-then-not-step_in-clause-progress g t c = tt
 
 pub read_next-returns-in-4-clause-does : goal.read_next-returns-in-4-clause-does
 read_next-returns-in-4-clause-does g t c before shows =
@@ -190,12 +144,6 @@ read_next-returns-in-4-clause-does g t c before shows =
     (λ bs ys v h. array_makes g.A.Encodings.exact before.budget v (c.args.next.first ∷ bs) ys h)
     (λ bs z rest h. h c.args.next.first bs refl c.in-4.is)
     (c.read_array.ensures.does before shows)
-
-pub read_next-returns-in-4-clause-item : goal.read_next-returns-in-4-clause-item
-read_next-returns-in-4-clause-item g t c = c.read_array.ensures.item
-
-pub read_next-returns-in-4-clause-progress : goal.read_next-returns-in-4-clause-progress
-read_next-returns-in-4-clause-progress g t c = c.read_array.ensures.progress
 
 pub map_inside-returns-in-Some-eq0-clause-does : goal.map_inside-returns-in-Some-eq0-clause-does
 map_inside-returns-in-Some-eq0-clause-does g t c before shows =
@@ -221,15 +169,6 @@ pub map_inside-returns-in_ok-definite_members-in-Some-clause-item :
 map_inside-returns-in_ok-definite_members-in-Some-clause-item g t c =
     map_encoding c.in_ok-definite_members-in-Some.field-0
     c.in_ok-definite_members-in-Some.ensures.items
-
-pub map_inside-returns-in_ok-definite_members-in-Some-clause-progress :
-    goal.map_inside-returns-in_ok-definite_members-in-Some-clause-progress
-map_inside-returns-in_ok-definite_members-in-Some-clause-progress g t c =
-    omega (
-      arith,
-      c.in_ok-take_length.ensures.progress,
-      c.in_ok-definite_members-in-Some.ensures.does.moves.by.bound,
-    )
 
 pub map_inside-returns-in_err-definite_members-in-Some-clause-does :
     goal.map_inside-returns-in_err-definite_members-in-Some-clause-does
@@ -257,15 +196,6 @@ pub map_inside-returns-in_ok-indefinite_members-in-None-clause-item :
 map_inside-returns-in_ok-indefinite_members-in-None-clause-item g t c =
     map_encoding c.in_ok-indefinite_members-in-None.field-0
     c.in_ok-indefinite_members-in-None.ensures.items
-
-pub map_inside-returns-in_ok-indefinite_members-in-None-clause-progress :
-    goal.map_inside-returns-in_ok-indefinite_members-in-None-clause-progress
-map_inside-returns-in_ok-indefinite_members-in-None-clause-progress g t c =
-    omega (
-      arith,
-      c.in_ok-take_length.ensures.progress,
-      c.in_ok-indefinite_members-in-None.ensures.does.moves.by.bound,
-    )
 
 pub map_inside-returns-in_err-indefinite_members-in-None-clause-does :
     goal.map_inside-returns-in_err-indefinite_members-in-None-clause-does
@@ -309,21 +239,10 @@ read_map-returns-then-not-step_in-clause-does g t c before shows =
     (λ none xs. map_no_step g.A.Encodings.exact budget none xs) c.if-not-step_in.ensures.budget
     c.step_in.ensures.others))
 
-pub read_map-returns-clause-item : goal.read_map-returns-clause-item
-read_map-returns-clause-item g t c = c.map_inside-outcome.ensures.item
-
 pub read_map-returns-clause-progress : goal.read_map-returns-clause-progress
 read_map-returns-clause-progress g t c =
     around _ _ _ _ _ c.step_in.ensures.others.bound c.step_out.ensures.others.bound
     c.map_inside-outcome.ensures.progress
-
-pub read_map-returns-then-not-step_in-clause-item :
-    goal.read_map-returns-then-not-step_in-clause-item
-read_map-returns-then-not-step_in-clause-item g t c = tt
-
-pub read_map-returns-then-not-step_in-clause-progress :
-    goal.read_map-returns-then-not-step_in-clause-progress
-read_map-returns-then-not-step_in-clause-progress g t c = tt
 
 pub read_next-returns-in-5-clause-does : goal.read_next-returns-in-5-clause-does
 read_next-returns-in-5-clause-does g t c before shows =
@@ -334,12 +253,6 @@ read_next-returns-in-5-clause-does g t c before shows =
     (λ bs z rest h. h c.args.next.first bs refl c.in-5.is)
     (c.read_map.ensures.does before shows)
 
-pub read_next-returns-in-5-clause-item : goal.read_next-returns-in-5-clause-item
-read_next-returns-in-5-clause-item g t c = c.read_map.ensures.item
-
-pub read_next-returns-in-5-clause-progress : goal.read_next-returns-in-5-clause-progress
-read_next-returns-in-5-clause-progress g t c = c.read_map.ensures.progress
-
 pub read_next-returns-in-6-clause-does : goal.read_next-returns-in-6-clause-does
 read_next-returns-in-6-clause-does g t c before shows =
     arm_does g.A.Encodings.exact c.args.next.first (peeks_next c.args.next shows)
@@ -347,23 +260,6 @@ read_next-returns-in-6-clause-does g t c before shows =
     (RejectsOf g.A.Encodings.exact 6 before.budget)
     (λ bs ys v h. h) (λ bs z rest h. h c.args.next.first bs refl c.in-6.is)
     (c.read_tag.ensures.does before shows)
-
-pub read_next-returns-in-6-clause-item : goal.read_next-returns-in-6-clause-item
-read_next-returns-in-6-clause-item g t c = c.read_tag.ensures.item
-
-pub read_next-returns-in-6-clause-progress : goal.read_next-returns-in-6-clause-progress
-read_next-returns-in-6-clause-progress g t c = c.read_tag.ensures.progress
-
-pub read_next-returns-in_default-clause-does : goal.read_next-returns-in_default-clause-does
-read_next-returns-in_default-clause-does g t c before shows =
-    c.read_alone.ensures.does before shows.first
-
-pub read_next-returns-in_default-clause-item : goal.read_next-returns-in_default-clause-item
-read_next-returns-in_default-clause-item g t c = c.read_alone.ensures.item
-
-pub read_next-returns-in_default-clause-progress :
-    goal.read_next-returns-in_default-clause-progress
-read_next-returns-in_default-clause-progress g t c = c.read_alone.ensures.progress
 
 pub read_tag-returns-in_err-number-clause-does : goal.read_tag-returns-in_err-number-clause-does
 read_tag-returns-in_err-number-clause-does g t c before shows =
@@ -591,71 +487,6 @@ indefinite_members-returns-in_err-keep-clause-does g t c =
     (rw c.in_ok-part.ensures at c.is_break.ensures.decodes.moves).by)
     c.in_ok-member.ensures.does.moves.by))
 
-pub indefinite_items-returns-in_err-part-clause-items :
-    goal.indefinite_items-returns-in_err-part-clause-items
-indefinite_items-returns-in_err-part-clause-items g t c =
-    rw c.from_residual.ensures tt
-
-pub indefinite_items-returns-in_err-value-clause-items :
-    goal.indefinite_items-returns-in_err-value-clause-items
-indefinite_items-returns-in_err-value-clause-items g t c =
-    rw c.from_residual-in_err-value.ensures tt
-
-pub indefinite_items-returns-in_err-keep-clause-items :
-    goal.indefinite_items-returns-in_err-keep-clause-items
-indefinite_items-returns-in_err-keep-clause-items g t c =
-    rw c.from_residual-in_err-keep.ensures tt
-
-pub indefinite_members-returns-in_err-part-clause-items :
-    goal.indefinite_members-returns-in_err-part-clause-items
-indefinite_members-returns-in_err-part-clause-items g t c =
-    rw c.from_residual.ensures tt
-
-pub indefinite_members-returns-in_err-member-clause-items :
-    goal.indefinite_members-returns-in_err-member-clause-items
-indefinite_members-returns-in_err-member-clause-items g t c =
-    rw c.from_residual-in_err-member.ensures tt
-
-pub indefinite_members-returns-in_err-keep-clause-items :
-    goal.indefinite_members-returns-in_err-keep-clause-items
-indefinite_members-returns-in_err-keep-clause-items g t c =
-    rw c.from_residual-in_err-keep.ensures tt
-
-pub read_member-returns-in_err-key-clause-key : goal.read_member-returns-in_err-key-clause-key
-read_member-returns-in_err-key-clause-key g t c =
-    rw c.from_residual.ensures tt
-
-pub read_member-returns-in_err-key-clause-value : goal.read_member-returns-in_err-key-clause-value
-read_member-returns-in_err-key-clause-value g t c =
-    rw c.from_residual.ensures tt
-
-pub read_member-returns-in_err-key-clause-progress :
-    goal.read_member-returns-in_err-key-clause-progress
-read_member-returns-in_err-key-clause-progress g t c =
-    rw c.from_residual.ensures tt
-
-pub read_member-returns-in_err-value-clause-key : goal.read_member-returns-in_err-value-clause-key
-read_member-returns-in_err-value-clause-key g t c =
-    rw c.from_residual-in_err-value.ensures tt
-
-pub read_member-returns-in_err-value-clause-value :
-    goal.read_member-returns-in_err-value-clause-value
-read_member-returns-in_err-value-clause-value g t c =
-    rw c.from_residual-in_err-value.ensures tt
-
-pub read_member-returns-in_err-value-clause-progress :
-    goal.read_member-returns-in_err-value-clause-progress
-read_member-returns-in_err-value-clause-progress g t c =
-    rw c.from_residual-in_err-value.ensures tt
-
-pub read_value-returns-then-not-step_in-clause-item :
-    goal.read_value-returns-then-not-step_in-clause-item
-read_value-returns-then-not-step_in-clause-item g t c = tt
-
-pub read_value-returns-then-not-step_in-clause-progress :
-    goal.read_value-returns-then-not-step_in-clause-progress
-read_value-returns-then-not-step_in-clause-progress g t c = tt
-
 pub definite_members-returns-then-is_err-clause-does :
     goal.definite_members-returns-then-is_err-clause-does
 definite_members-returns-then-is_err-clause-does g t c =
@@ -664,15 +495,6 @@ definite_members-returns-then-is_err-clause-does g t c =
     v.items ys)
     (RejectsMembers g.A.Encodings.exact c.args.count (g.S.Source.view c.args.reader.now).budget)
     refl (kept_alike _)
-
-pub indefinite_items-returns-clause-items : goal.indefinite_items-returns-clause-items
-indefinite_items-returns-clause-items g t c = c.loop-items.invariant.items
-
-pub indefinite_members-returns-clause-items : goal.indefinite_members-returns-clause-items
-indefinite_members-returns-clause-items g t c = c.loop-members.invariant.items
-
-pub read_value-returns-clause-item : goal.read_value-returns-clause-item
-read_value-returns-clause-item g t c = c.read_inside-outcome.ensures.item
 
 pub read_value-returns-clause-progress : goal.read_value-returns-clause-progress
 read_value-returns-clause-progress g t c =
@@ -688,16 +510,6 @@ read_value-returns-then-not-step_in-clause-does g t c =
     (RejectsOneValue g.A.Encodings.exact (g.S.Source.view c.args.reader.now).budget) refl refl
     (λ none xs. value_no_step g.A.Encodings.exact _ none xs) c.if-not-step_in.ensures.budget
     c.step_in.ensures.others)
-
-pub read_member-returns-clause-key : goal.read_member-returns-clause-key
-read_member-returns-clause-key g t c = c.in_ok-key.ensures.item
-
-pub read_member-returns-clause-value : goal.read_member-returns-clause-value
-read_member-returns-clause-value g t c = c.in_ok-value.ensures.item
-
-pub read_member-returns-clause-progress : goal.read_member-returns-clause-progress
-read_member-returns-clause-progress g t c =
-    omega (arith, c.in_ok-key.ensures.progress, c.in_ok-value.ensures.progress)
 
 pub indefinite_items-loop-items-smaller : goal.indefinite_items-loop-items-smaller
 indefinite_items-loop-items-smaller g t c =
@@ -943,3 +755,7 @@ definite_members-returns-clause-items g t c =
     (both_there pairs.members.items pairs.key c.args.count c.loop-alloc.invariant.few
     (c.lacks.ensures.full c.loop-alloc-test.false))
     c.loop-alloc.invariant.items
+
+pub read_next-returns-in_default-clause-does : goal.read_next-returns-in_default-clause-does
+read_next-returns-in_default-clause-does g t c before shows =
+    c.read_alone.ensures.does before shows.first

@@ -1,10 +1,7 @@
 use Rattle.std.proofs.Common.{◌+◌, ◌*◌, ◌≤◌, length}
-use Rattle.cbor4ii_tree.specs.LeafRuns.{flat}
-use Rattle.cbor4ii_tree.specs.Valuing.{ReadsItems}
-use Rattle.cbor4ii_tree.specs.Item.{AreItems, AreMembers}
+use Rattle.cbor4ii_tree.specs.{Item.{AreItems, AreMembers}, LeafRuns.flat, Valuing.ReadsItems}
 use Rattle.cbor4ii_tree.specs.View.{items_view, members_view}
-use Rattle.cbor4ii_tree.proofs.skip_calls.Doing.{Reached}
-use Rattle.cbor4ii_tree.proofs.values.Parts.{ReadEach, ReadPairs}
+use Rattle.cbor4ii_tree.proofs.{skip_calls.Doing.Reached, values.Parts.{ReadEach, ReadPairs}}
 use Rattle.cbor4ii_tree.proofs.decode_value.+read.Given as goal
 
 abbrev pub decreases-read_value : goal.decreases-read_value

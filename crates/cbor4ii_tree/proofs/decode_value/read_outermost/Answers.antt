@@ -1,8 +1,6 @@
 use Rattle.std.proofs.Common.{refl}
-use Rattle.cbor4ii_tree.specs.InputError.{value_name}
-use Rattle.cbor4ii_tree.specs.Valuing.{ReadsOneValue, RejectsOneValue}
-use Rattle.cbor4ii_tree.proofs.skip_calls.Doing.{does_no_step}
-use Rattle.cbor4ii_tree.proofs.values.Answered.{around}
+use Rattle.cbor4ii_tree.specs.{InputError.value_name, Valuing.{ReadsOneValue, RejectsOneValue}}
+use Rattle.cbor4ii_tree.proofs.{skip_calls.Doing.does_no_step, values.Answered.around}
 use Rattle.cbor4ii_tree.proofs.values.Calls.{stepped, value_no_step}
 use Rattle.cbor4ii_tree.proofs.decode_value.read_outermost.Goals as goal
 
@@ -10,17 +8,6 @@ pub returns-clause-does : goal.returns-clause-does
 returns-clause-does g c =
     stepped g.A.Encodings.exact c.if-not-step_in.ensures.budget c.step_in.ensures.others
     c.read_apart-outcome.ensures.does c.step_out.ensures.budget c.step_out.ensures.others
-
-pub returns-then-not-step_in-clause-item :
-    goal.returns-then-not-step_in-clause-item
-returns-then-not-step_in-clause-item g c = tt
-
-pub returns-then-not-step_in-clause-progress :
-    goal.returns-then-not-step_in-clause-progress
-returns-then-not-step_in-clause-progress g c = tt
-
-pub returns-clause-item : goal.returns-clause-item
-returns-clause-item g c = c.read_apart-outcome.ensures.item
 
 pub returns-clause-progress : goal.returns-clause-progress
 returns-clause-progress g c =

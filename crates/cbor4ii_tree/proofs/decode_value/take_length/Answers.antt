@@ -1,6 +1,5 @@
 use Rattle.cbor4ii_tree.specs.Valuing.{RejectsMajor, TakesLength}
-use Rattle.cbor4ii_tree.proofs.skip_calls.Doing.{does_ok}
-use Rattle.cbor4ii_tree.proofs.values.ByHead.{takes_head}
+use Rattle.cbor4ii_tree.proofs.{skip_calls.Doing.does_ok, values.ByHead.takes_head}
 use Rattle.cbor4ii_tree.proofs.decode_value.take_length.Goals as goal
 
 pub returns-in-Some-clause-does : goal.returns-in-Some-clause-does

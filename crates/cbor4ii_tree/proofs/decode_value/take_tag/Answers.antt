@@ -1,6 +1,5 @@
 use Rattle.cbor4ii_tree.specs.Valuing.{RejectsOf, TakesTag}
-use Rattle.cbor4ii_tree.proofs.skip_calls.Doing.{does_ok}
-use Rattle.cbor4ii_tree.proofs.values.ByHead.{after_next, takes_head}
+use Rattle.cbor4ii_tree.proofs.{skip_calls.Doing.does_ok, values.ByHead.{after_next, takes_head}}
 use Rattle.cbor4ii_tree.proofs.decode_value.take_tag.Goals as goal
 
 pub returns-in-Some-clause-does : goal.returns-in-Some-clause-does

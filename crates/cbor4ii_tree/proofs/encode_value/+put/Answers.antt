@@ -1,19 +1,15 @@
 use Rattle.std.specs.Prelude.{string_bytes}
 use Rattle.std.proofs.Common.{◌≡◌, ◌<◌, ◌^◌, length, refl, sym, ap, ◌∙◌, arith, rules}
-use Rattle.cbor4ii_items.specs.Laws.Written.{writes_then, writes_err, writes_as, appends_then}
-use Rattle.cbor4ii_items.specs.Laws.SequenceBytes.{items_then, items_err}
 use Rattle.std.proofs.lemmas.Int.{to_z-of_z}
-use mir.Val.{to_z, of_z}
-use mir.Syntax.{w128}
-use Rattle.cbor4ii_tree.specs.Item.{integer}
-use Rattle.cbor4ii_tree.specs.View.{view}
-use Rattle.cbor4ii_tree.specs.Canonical.{canonical_encoding}
-use Rattle.cbor4ii_tree.specs.Encoding.{value_bytes, member_bytes}
-use Rattle.cbor4ii_tree.proofs.values.InRange.{items_step, members_step, array_in_range}
-use Rattle.cbor4ii_tree.proofs.values.InRange.{map_in_range, text_in_range}
+use mir.{Syntax.w128, Val.{to_z, of_z}}
+use Rattle.cbor4ii_items.specs.Laws.SequenceBytes.{items_then, items_err}
+use Rattle.cbor4ii_items.specs.Laws.Written.{writes_then, writes_err, writes_as, appends_then}
+use Rattle.cbor4ii_tree.specs.{Canonical.canonical_encoding, Encoding.{value_bytes, member_bytes}}
+use Rattle.cbor4ii_tree.specs.{Item.integer, View.view}
 use Rattle.cbor4ii_tree.proofs.values.Encoding.{Bool-bytes, view-Integer, Array-bytes, Map-bytes}
-use Rattle.cbor4ii_tree.proofs.values.Encoding.{Tag-bytes}
-use Rattle.cbor4ii_tree.proofs.values.Sent.{on_some, on_any_some}
+use Rattle.cbor4ii_tree.proofs.{values.Encoding.Tag-bytes, values.InRange.items_step}
+use Rattle.cbor4ii_tree.proofs.values.InRange.{members_step, array_in_range, map_in_range}
+use Rattle.cbor4ii_tree.proofs.{values.InRange.text_in_range, values.Sent.{on_some, on_any_some}}
 use Rattle.cbor4ii_tree.proofs.encode_value.+put.Goals as goal
 
 pub put_items-returns-in_err-put_value-clause-writes :

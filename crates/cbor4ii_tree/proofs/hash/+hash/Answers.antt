@@ -1,6 +1,5 @@
 use Rattle.std.proofs.Common.{fold, sym, ap, ◌∙◌}
-use Rattle.cbor4ii_tree.specs.Hashing.{inner_writes, members_writes}
-use Rattle.cbor4ii_tree.specs.View.{view, members_view}
+use Rattle.cbor4ii_tree.specs.{Hashing.{inner_writes, members_writes}, View.{view, members_view}}
 use Rattle.cbor4ii_tree.proofs.values.Views.{view-Map}
 use Rattle.cbor4ii_tree.proofs.hash.+hash.Goals as goal
 

@@ -1,11 +1,8 @@
-use Rattle.std.proofs.Common.{◌∙◌, sym, ap, arith, w8, take, string_bytes}
-use Rattle.std.proofs.lemmas.List.{take_rest}
-use Rattle.std.proofs.lemmas.Str.{IsUtf8-string_bytes}
-use Rattle.std.proofs.Math.Facts.{Fits-lt-pow}
+use Rattle.std.proofs.{Common.{◌∙◌, sym, ap, arith, w8, take, string_bytes}, Math.Facts.Fits-lt-pow}
+use Rattle.std.proofs.{lemmas.List.take_rest, lemmas.Str.IsUtf8-string_bytes}
 use Rattle.cbor4ii_items.specs.Initial.{byte_string, text_string}
-use Rattle.cbor4ii_tree.proofs.skip_calls.Leaves.{shown_bytes}
-use Rattle.cbor4ii_tree.proofs.values.Items.{bytes_item_is, text_encoding}
-use Rattle.cbor4ii_tree.proofs.values.Leaves.{string_ahead}
+use Rattle.cbor4ii_tree.proofs.{skip_calls.Leaves.shown_bytes, values.Items.bytes_item_is}
+use Rattle.cbor4ii_tree.proofs.{values.Items.text_encoding, values.Leaves.string_ahead}
 use Rattle.cbor4ii_tree.proofs.values.Strings.{view-Bytes, view-Text}
 use Rattle.cbor4ii_tree.proofs.leaf.string_after.Goals as goal
 

@@ -1,6 +1,6 @@
 use Rattle.std.proofs.Common.{refl}
-use Rattle.cbor4ii_tree.proofs.values.Leaves.{takes_leaf, leaf_item, no_content, no_value}
-use Rattle.cbor4ii_tree.proofs.values.ByHead.{undecided}
+use Rattle.cbor4ii_tree.proofs.{values.ByHead.undecided, values.Leaves.{takes_leaf, leaf_item}}
+use Rattle.cbor4ii_tree.proofs.values.Leaves.{no_content, no_value}
 use Rattle.cbor4ii_tree.proofs.leaf.take_leaf.Goals as goal
 
 pub returns-in-Ok-Whole-clause-takes : goal.returns-in-Ok-Whole-clause-takes

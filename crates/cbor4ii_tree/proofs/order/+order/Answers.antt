@@ -1,12 +1,9 @@
 use Rattle.std.proofs.Common.{◌≡◌, length, sym, ap, ap₂, ◌∙◌, subst, subst₂, arith, rules}
 use Rattle.std.specs.declared.cmp.Ordering.TheVariants.{Equal}
 use Rattle.cbor4ii_items.specs.SequenceBytes.{items_bytes}
-use Rattle.cbor4ii_tree.specs.Encoding.{value_bytes, member_bytes}
-use Rattle.cbor4ii_tree.specs.Order.{Compares}
-use Rattle.cbor4ii_tree.specs.View.{view}
+use Rattle.cbor4ii_tree.specs.{Encoding.{value_bytes, member_bytes}, Order.Compares, View.view}
 use Rattle.cbor4ii_tree.specs.declared.value.Value.{the_lemmas}
-use Rattle.cbor4ii_tree.proofs.encodings.Order.{heads_cmp, same_heads, other_heads}
-use Rattle.cbor4ii_tree.proofs.encodings.Order.{compares_then}
+use Rattle.cbor4ii_tree.proofs.encodings.Order.{heads_cmp, same_heads, other_heads, compares_then}
 use Rattle.cbor4ii_tree.proofs.values.Ordered.{arrays, maps, compares_from}
 use Rattle.cbor4ii_tree.proofs.order.+order.Goals as goal
 

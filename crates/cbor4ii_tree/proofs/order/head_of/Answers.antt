@@ -1,9 +1,7 @@
 use Rattle.std.proofs.Common.{sym, ap, ◌∙◌, subst, arith}
-use Rattle.cbor4ii_tree.specs.Order.{head_of, HasHead, shortest_parts}
-use Rattle.cbor4ii_tree.specs.View.{view}
-use Rattle.cbor4ii_tree.proofs.values.Encoding.{view-Array}
-use Rattle.cbor4ii_tree.proofs.values.Views.{view-Map, item_count-items_view}
-use Rattle.cbor4ii_tree.proofs.values.Views.{member_count-members_view}
+use Rattle.cbor4ii_tree.specs.{Order.{head_of, HasHead, shortest_parts}, View.view}
+use Rattle.cbor4ii_tree.proofs.{values.Encoding.view-Array, values.Views.view-Map}
+use Rattle.cbor4ii_tree.proofs.values.Views.{item_count-items_view, member_count-members_view}
 use Rattle.cbor4ii_tree.proofs.order.head_of.Goals as goal
 
 pub returns-in-Array-clause-parts : goal.returns-in-Array-clause-parts

@@ -1,5 +1,4 @@
-use Rattle.std.proofs.Common.{◌≡◌, ◌∷◌, [], length, length-append, ap, subst, refl, true}
-use Rattle.std.proofs.Common.{arith}
+use Rattle.std.proofs.Common.{◌≡◌, ◌∷◌, [], length, length-append, ap, subst, refl, true, arith}
 use Rattle.std.proofs.lemmas.List.{take_rest}
 use Rattle.cbor4ii_tree.specs.Leaf.{StandsAhead}
 use Rattle.cbor4ii_tree.proofs.values.LeafRuns.{put_none, put_one, put_well, rejected_growth}

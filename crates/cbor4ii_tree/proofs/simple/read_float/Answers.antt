@@ -1,10 +1,6 @@
-use Rattle.std.proofs.Common.{arith, refl, w8}
+use Rattle.std.proofs.{Common.{arith, refl, w8}, Math.Facts.Fits-lt-pow}
 use Rattle.std.proofs.lemmas.Result.{err_from_is_err_and}
-use Rattle.std.proofs.Math.Facts.{Fits-lt-pow}
-use Rattle.cbor4ii_items.specs.Initial.{half, single, double}
-use Rattle.cbor4ii_items.specs.declared.types.F16.{F16 as Half}
-use Rattle.cbor4ii_items.specs.declared.types.F32.{F32 as Single}
-use Rattle.cbor4ii_items.specs.declared.types.F64.{F64 as Double}
+use Rattle.cbor4ii_items.specs.{Initial.{half, single, double}}
 use Rattle.cbor4ii_tree.proofs.values.Heads.{float_read, float_rejected, no_value, view-F16}
 use Rattle.cbor4ii_tree.proofs.values.Heads.{view-F32, view-F64}
 use Rattle.cbor4ii_tree.specs.declared.value.FloatBits.TheVariants.{F16, F32, F64}
@@ -88,18 +84,3 @@ returns-in_err-decode-in-251-clause-progress g c =
     let p = err_from_is_err_and c.from_residual-in_err-decode-in-251.result
     c.from_residual-in_err-decode-in-251.ensures.1 in
     rw p.1 tt
-
-pub returns-in_ok-decode-in-249-clause-progress : goal.returns-in_ok-decode-in-249-clause-progress
-returns-in_ok-decode-in-249-clause-progress g c = c.in_ok-decode-in-249.ensures.progress refl
-
-pub returns-in_ok-decode-in-250-clause-progress : goal.returns-in_ok-decode-in-250-clause-progress
-returns-in_ok-decode-in-250-clause-progress g c = c.in_ok-decode-in-250.ensures.progress refl
-
-pub returns-in_ok-decode-in-251-clause-progress : goal.returns-in_ok-decode-in-251-clause-progress
-returns-in_ok-decode-in-251-clause-progress g c = c.in_ok-decode-in-251.ensures.progress refl
-
-pub returns-in_default-clause-item : goal.returns-in_default-clause-item
-returns-in_default-clause-item g c = tt
-
-pub returns-in_default-clause-progress : goal.returns-in_default-clause-progress
-returns-in_default-clause-progress g c = tt

@@ -1,17 +1,11 @@
-use Rattle.std.proofs.Common.{sym, ap, ◌∙◌}
-use Rattle.std.proofs.lemmas.Result.{err_from_is_err_and}
-use Rattle.cbor4ii_tree.specs.Item.{sequence, mapping}
-use Rattle.cbor4ii_tree.specs.View.{view}
-use Rattle.cbor4ii_tree.proofs.values.Views.{view-Map}
+use Rattle.std.proofs.{Common.{sym, ap, ◌∙◌}, lemmas.Result.err_from_is_err_and}
+use Rattle.cbor4ii_tree.specs.{Item.{sequence, mapping}, View.view}
+use Rattle.cbor4ii_tree.proofs.{values.Encoding.view-Array, values.Views.view-Map}
 use Rattle.cbor4ii_tree.proofs.value.+copy.Goals as goal
-use Rattle.cbor4ii_tree.proofs.values.Encoding.{view-Array}
 
 pub copy_items-returns-in_err-copies : goal.copy_items-returns-in_err-copies
 copy_items-returns-in_err-copies t c =
     let p = err_from_is_err_and c.from_residual.result c.from_residual.ensures.1 in rw p.1 tt
-
-pub copy_items-bounds-item-items-item-index : goal.copy_items-bounds-item-items-item-index
-copy_items-bounds-item-items-item-index t c = c.loop-item-test.true
 
 pub copy_items-returns-in_err-copy_value : goal.copy_items-returns-in_err-copy_value
 copy_items-returns-in_err-copy_value t c =
@@ -28,10 +22,6 @@ copy_items-returns-in_err-push t c =
 pub copy_members-returns-in_err-copies : goal.copy_members-returns-in_err-copies
 copy_members-returns-in_err-copies t c =
     let p = err_from_is_err_and c.from_residual.result c.from_residual.ensures.1 in rw p.1 tt
-
-pub copy_members-bounds-member-items-member-index :
-    goal.copy_members-bounds-member-items-member-index
-copy_members-bounds-member-items-member-index t c = c.loop-member-test.true
 
 pub copy_members-returns-in_err-key : goal.copy_members-returns-in_err-key
 copy_members-returns-in_err-key t c =

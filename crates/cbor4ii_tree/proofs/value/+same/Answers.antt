@@ -1,5 +1,4 @@
-use Rattle.std.proofs.Common.{◌<◌, arith, length, sym, ap, ◌∙◌, refl}
-use Rattle.std.proofs.lemmas.List.{take_more}
+use Rattle.std.proofs.{Common.{◌<◌, arith, length, sym, ap, ◌∙◌, refl}, lemmas.List.take_more}
 use Rattle.cbor4ii_tree.specs.View.{view}
 use Rattle.cbor4ii_tree.proofs.values.Views.{length-items_view, length-members_view, view_at}
 use Rattle.cbor4ii_tree.proofs.values.Views.{items_view-push, views_at, members_more, mapping_same}

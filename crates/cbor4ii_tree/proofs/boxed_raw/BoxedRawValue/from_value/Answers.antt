@@ -1,6 +1,5 @@
 use Rattle.std.proofs.Common.{[], Some, ap, ◌∙◌, sym, subst}
-use Rattle.cbor4ii_tree.specs.Canonical.{canonical_cost, with_bignums}
-use Rattle.cbor4ii_tree.specs.Encodings.{Encodes}
+use Rattle.cbor4ii_tree.specs.{Canonical.{canonical_cost, with_bignums}, Encodings.Encodes}
 use Rattle.cbor4ii_tree.specs.View.{view}
 use Rattle.cbor4ii_tree.proofs.boxed_raw.BoxedRawValue.from_value.Goals as goal
 

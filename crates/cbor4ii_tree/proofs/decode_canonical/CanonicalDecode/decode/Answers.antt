@@ -3,10 +3,8 @@ use Rattle.std.proofs.lemmas.Result.{err_from_is_err_and}
 use Rattle.cbor4ii_rw.specs.declared.error.DecodeError.{DecodeError}
 use Rattle.cbor4ii_tree.specs.Does.{answered}
 use Rattle.cbor4ii_tree.proofs.canonical.Decoding.{canonical_ok, canonical_err, canonical_only}
-use Rattle.cbor4ii_tree.proofs.canonical.Decoding.{canonical_all}
-use Rattle.cbor4ii_tree.proofs.canonical.Decoding.{takes_encoding, canonical_every}
-use Rattle.cbor4ii_tree.proofs.canonical.Decoding.{canonical_prefix, canonical_exact}
-use Rattle.cbor4ii_tree.proofs.canonical.Decoding.{rejected_all}
+use Rattle.cbor4ii_tree.proofs.canonical.Decoding.{canonical_all, takes_encoding, canonical_every}
+use Rattle.cbor4ii_tree.proofs.canonical.Decoding.{canonical_prefix, canonical_exact, rejected_all}
 use Rattle.cbor4ii_tree.proofs.canonical.Decoding.{rejected_every, rejected_prefix, rejected_eof}
 use Rattle.cbor4ii_tree.proofs.canonical.Decoding.{rejected_depth, rejected_never, rejected_others}
 use Rattle.cbor4ii_tree.proofs.canonical.Decoding.{rejected_value, rejected_exact}

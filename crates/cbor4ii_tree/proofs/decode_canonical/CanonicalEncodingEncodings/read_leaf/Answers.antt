@@ -1,17 +1,14 @@
-use Rattle.std.proofs.Common.{true}
-use Rattle.std.proofs.Common.{◌/◌, ◌≡◌, arith, refl, sym, subst, drop}
-use Rattle.std.proofs.lemmas.Result.{err_from_is_err_and}
-use Rattle.std.proofs.lemmas.Str.{IsUtf8-string_bytes}
-use Rattle.cbor4ii_items.specs.Initial.{unsigned, negative, byte_string}
-use Rattle.cbor4ii_tree.specs.InputError.{sign_name, kind_name}
-use Rattle.cbor4ii_tree.specs.declared.value.Value.{Bytes, Text}
-use Rattle.cbor4ii_items.specs.Shortest.{ReadsShortest, ReadsShortestString, RejectsShortest}
+use Rattle.std.proofs.Common.{true, ◌/◌, ◌≡◌, arith, sym, subst, drop}
+use Rattle.std.proofs.{lemmas.Result.err_from_is_err_and, lemmas.Str.IsUtf8-string_bytes}
+use Rattle.cbor4ii_items.specs.{Initial.{unsigned, negative, byte_string}, Shortest.ReadsShortest}
+use Rattle.cbor4ii_items.specs.Shortest.{ReadsShortestString, RejectsShortest}
 use Rattle.cbor4ii_items.specs.Shortest.{RejectsShortestString}
-use Rattle.cbor4ii_tree.specs.CanonicalRejects.{CanonicalTextRejects}
-use Rattle.cbor4ii_tree.specs.CanonicalCalls.{TextAt}
-use Rattle.cbor4ii_tree.specs.Valuing.{ReadsUnder, RejectsFirst, RejectsUnder}
-use Rattle.cbor4ii_tree.proofs.skip_calls.Doing.{does_ok, reached_as, reached_by, still_rejected}
+use Rattle.cbor4ii_tree.specs.{CanonicalCalls.TextAt, CanonicalRejects.CanonicalTextRejects}
+use Rattle.cbor4ii_tree.specs.{InputError.{sign_name, kind_name}, Valuing.ReadsUnder}
+use Rattle.cbor4ii_tree.specs.{Valuing.{RejectsFirst, RejectsUnder}, declared.value.Value.Bytes}
+use Rattle.cbor4ii_tree.specs.declared.value.Value.{Text}
 use Rattle.cbor4ii_tree.proofs.canonical.Calls.{string_of, bytes_exact, text_exact}
+use Rattle.cbor4ii_tree.proofs.skip_calls.Doing.{does_ok, reached_as, reached_by, still_rejected}
 use Rattle.cbor4ii_tree.proofs.values.Heads.{at_major, head_at, leaf_read, leaf_rejected}
 use Rattle.cbor4ii_tree.proofs.values.Heads.{negative_reads, unsigned_reads}
 use Rattle.cbor4ii_tree.proofs.values.Items.{text_encoding}
@@ -149,21 +146,3 @@ returns-in_err-read_text-in_default-clause-progress g c =
     let p = err_from_is_err_and c.from_residual-in_err-read_text-in_default.result
     c.from_residual-in_err-read_text-in_default.ensures.1 in
     rw p.1 tt
-
-pub returns-in_ok-canonical_head-in-0-clause-progress :
-    goal.returns-in_ok-canonical_head-in-0-clause-progress
-returns-in_ok-canonical_head-in-0-clause-progress g c = c.in_ok-canonical_head-in-0.ensures.progress
-    refl
-
-pub returns-in_ok-number-in-1-clause-progress : goal.returns-in_ok-number-in-1-clause-progress
-returns-in_ok-number-in-1-clause-progress g c = c.in_ok-number-in-1.ensures.progress refl
-
-pub returns-in_ok-canonical_buf-in-2-clause-progress :
-    goal.returns-in_ok-canonical_buf-in-2-clause-progress
-returns-in_ok-canonical_buf-in-2-clause-progress g c = c.in_ok-canonical_buf-in-2.ensures.progress
-    refl
-
-pub returns-in_ok-read_text-in_default-clause-progress :
-    goal.returns-in_ok-read_text-in_default-clause-progress
-returns-in_ok-read_text-in_default-clause-progress g c =
-    c.in_ok-read_text-in_default.ensures.progress

@@ -1,10 +1,9 @@
 use Rattle.std.proofs.Common.{◌≡◌, ℕ, arith, true}
 use Rattle.cbor4ii_items.specs.Shortest.{RejectsShortest}
-use Rattle.cbor4ii_tree.specs.InputError.{array_name, map_name}
-use Rattle.cbor4ii_tree.specs.Valuing.{RejectsMajor, TakesLength}
-use Rattle.cbor4ii_tree.proofs.skip_calls.Doing.{call_rejects, does_ok}
-use Rattle.cbor4ii_tree.proofs.canonical.Calls.{reached_shortest}
-use Rattle.cbor4ii_tree.proofs.values.ByHead.{after_peeked}
+use Rattle.cbor4ii_tree.specs.{InputError.{array_name, map_name}, Valuing.RejectsMajor}
+use Rattle.cbor4ii_tree.specs.Valuing.{TakesLength}
+use Rattle.cbor4ii_tree.proofs.{canonical.Calls.reached_shortest, skip_calls.Doing.call_rejects}
+use Rattle.cbor4ii_tree.proofs.{skip_calls.Doing.does_ok, values.ByHead.after_peeked}
 use Rattle.cbor4ii_tree.proofs.values.Sequences.{array_shortest_rejects, map_shortest_rejects}
 use Rattle.cbor4ii_tree.proofs.decode_canonical.CanonicalEncodingEncodings.take_length.Goals as goal
 

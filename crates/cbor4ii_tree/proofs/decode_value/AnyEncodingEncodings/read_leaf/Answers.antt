@@ -1,20 +1,15 @@
-use Rattle.std.proofs.Common.{false}
-use Rattle.std.proofs.Common.{◌/◌, ◌≡◌, arith, refl, drop}
+use Rattle.std.proofs.Common.{false, ◌/◌, ◌≡◌, arith, drop}
 use Rattle.std.proofs.lemmas.Result.{err_from_is_err_and}
 use Rattle.cbor4ii_items.specs.Initial.{unsigned, negative, byte_string, text_string}
 use Rattle.cbor4ii_items.specs.Numbers.{ReadsUnsigned, RejectsUnsigned, ReadsNegative}
-use Rattle.cbor4ii_items.specs.Numbers.{RejectsNegative}
-use Rattle.cbor4ii_items.specs.Strings.{ReadsAs, ReadsTextAs, RejectsString, RejectsText}
-use Rattle.cbor4ii_items.specs.Strings.{bytes_content}
-use Rattle.cbor4ii_items.specs.Strings.{text_content}
-use Rattle.cbor4ii_tree.specs.InputError.{sign_name, kind_name}
-use Rattle.cbor4ii_tree.specs.declared.value.Value.{Bytes, Text}
-use Rattle.cbor4ii_tree.proofs.values.Calls.{int_rejects}
-use Rattle.cbor4ii_tree.proofs.values.Heads.{leaf_read, leaf_rejected, negative_reads}
-use Rattle.cbor4ii_tree.proofs.values.Heads.{unsigned_reads, head_at}
-use Rattle.cbor4ii_tree.proofs.values.Strings.{string_rejects, text_rejects, bytes_reads}
-use Rattle.cbor4ii_tree.proofs.values.Strings.{text_reads}
-use Rattle.cbor4ii_tree.proofs.values.Items.{text_encoding}
+use Rattle.cbor4ii_items.specs.{Numbers.RejectsNegative, Strings.{ReadsAs, ReadsTextAs}}
+use Rattle.cbor4ii_items.specs.Strings.{RejectsString, RejectsText, bytes_content, text_content}
+use Rattle.cbor4ii_tree.specs.{InputError.{sign_name, kind_name}, declared.value.Value.Bytes}
+use Rattle.cbor4ii_tree.specs.declared.value.Value.{Text}
+use Rattle.cbor4ii_tree.proofs.{values.Calls.int_rejects, values.Heads.{leaf_read, leaf_rejected}}
+use Rattle.cbor4ii_tree.proofs.values.Heads.{negative_reads, unsigned_reads, head_at}
+use Rattle.cbor4ii_tree.proofs.{values.Items.text_encoding, values.Strings.string_rejects}
+use Rattle.cbor4ii_tree.proofs.values.Strings.{text_rejects, bytes_reads, text_reads}
 use Rattle.cbor4ii_tree.proofs.decode_value.AnyEncodingEncodings.read_leaf.Goals as goal
 
 pub returns-in_err-decode-in-0-clause-does : goal.returns-in_err-decode-in-0-clause-does
@@ -130,17 +125,3 @@ returns-in_err-decode-in_default-clause-progress g c =
     let p = err_from_is_err_and c.from_residual-in_err-decode-in_default.result
     c.from_residual-in_err-decode-in_default.ensures.1 in
     rw p.1 tt
-
-pub returns-in_ok-decode-in-0-clause-progress : goal.returns-in_ok-decode-in-0-clause-progress
-returns-in_ok-decode-in-0-clause-progress g c = c.in_ok-decode-in-0.ensures.progress refl
-
-pub returns-in_ok-number-in-1-clause-progress : goal.returns-in_ok-number-in-1-clause-progress
-returns-in_ok-number-in-1-clause-progress g c = c.in_ok-number-in-1.ensures.progress refl
-
-pub returns-in_ok-decode-in-2-clause-progress : goal.returns-in_ok-decode-in-2-clause-progress
-returns-in_ok-decode-in-2-clause-progress g c = c.in_ok-decode-in-2.ensures.progress refl
-
-pub returns-in_ok-decode-in_default-clause-progress :
-    goal.returns-in_ok-decode-in_default-clause-progress
-returns-in_ok-decode-in_default-clause-progress g c =
-    c.in_ok-decode-in_default.ensures.progress refl

@@ -1,8 +1,7 @@
-use Rattle.cbor4ii_tree.proofs.values.Decoding.{value_decodes}
 use Rattle.cbor4ii_tree.proofs.answers.Promises.{only_reads, all_reads, prefix_reads, eof_reads}
 use Rattle.cbor4ii_tree.proofs.answers.Promises.{depth_reads, final_reads, others_reads, size_reads}
 use Rattle.cbor4ii_tree.proofs.answers.Promises.{exact_reads, skips_reads, canonical_reads}
-use Rattle.cbor4ii_tree.proofs.values.Answered.{known_if, known_on}
+use Rattle.cbor4ii_tree.proofs.{values.Answered.{known_if, known_on}, values.Decoding.value_decodes}
 use Rattle.cbor4ii_tree.proofs.decode_value.ValueDecode.decode.Goals as goal
 
 pub returns-clause-decodes : goal.returns-clause-decodes

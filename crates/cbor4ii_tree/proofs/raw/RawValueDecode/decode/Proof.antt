@@ -1,24 +1,17 @@
 -- `decode` names `'static` in its error beside a bound with a lifetime, so it forwards to a
 -- function over parameters, and this proof walks the forward by hand.
-use mathlib.Core.Path.{refl}
-use mathlib.Core.List.{[], ◌∷◌}
-use contract.BorrowLft.{⊑_meet, ⊑_refl, ⊑_static}
-use contract.Running.{tables, tables_of}
-use denote.Param.{bounded, layout}
-use denote.Triple.Spec.{triple_of}
-use denote.Triple.Table.{entered}
-use mir.MapTy.{inst_fn}
-use mir.Raw.{raw as bare}
-use mir.Syntax.{a_type, dcons, dnil, erased, Args}
+use denote.{Param.{bounded, layout}, Triple.Spec.triple_of, Triple.Table.entered}
+use mathlib.{Core.List.{[], ◌∷◌}, Core.Path.refl}
+use contract.{BorrowLft.{⊑_meet, ⊑_refl, ⊑_static}, Running.{tables, tables_of}}
+use mir.{MapTy.inst_fn, Raw.raw as bare, Syntax.{a_type, dcons, dnil, erased, Args}}
 use prog.Wp.{Tables}
-use Rattle.cbor4ii_tree.specs.contracts.raw.RawValue as RawValue
 use Rattle.cbor4ii_tree.proofs.raw.RawValue.TheLaws.{the_row_laws}
-use Rattle.cbor4ii_tree.proofs.raw_items.IfKnown.{known}
-use Rattle.cbor4ii_tree.specs.contracts.raw.RawValueLendRaw.TheImpl as lends
-use Rattle.cbor4ii_tree.proofs.raw.RawValueLendRaw.TheImpl.Met.{bound}
-use Rattle.cbor4ii_tree.specs.contracts.raw.RawValueDecode.decode as f
-use Rattle.cbor4ii_tree.specs.contracts.raw.RawValueDecode.decode.Key.{name as #f}
 use Rattle.cbor4ii_tree.proofs.raw.RawValueDecode.decode.Statement.{statement}
+use Rattle.cbor4ii_tree.proofs.{raw.RawValueLendRaw.TheImpl.Met.bound, raw_items.IfKnown.known}
+use Rattle.cbor4ii_tree.specs.contracts.raw.RawValueDecode.decode.Key.{name as #f}
+use Rattle.cbor4ii_tree.specs.contracts.raw.RawValue as RawValue
+use Rattle.cbor4ii_tree.specs.contracts.raw.RawValueLendRaw.TheImpl as lends
+use Rattle.cbor4ii_tree.specs.contracts.raw.RawValueDecode.decode as f
 use Rattle.cbor4ii_tree.proofs.raw.RawValueDecode.decode.Code as code
 
 pub decode_spec : {M : Type 1} → statement M

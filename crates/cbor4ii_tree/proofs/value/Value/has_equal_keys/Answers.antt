@@ -1,7 +1,5 @@
 use Rattle.std.proofs.Common.{◌↔◌, ◌∙◌, ap, sym, subst, IsTrue}
-use Rattle.cbor4ii_tree.specs.Access.{MapHasEqualKeys}
-use Rattle.cbor4ii_tree.specs.Item.{mapping}
-use Rattle.cbor4ii_tree.specs.View.{view, members_view}
+use Rattle.cbor4ii_tree.specs.{Access.MapHasEqualKeys, Item.mapping, View.{view, members_view}}
 use Rattle.cbor4ii_tree.proofs.values.Views.{view-Map}
 use Rattle.cbor4ii_tree.proofs.value.Value.has_equal_keys.Goals as goal
 
