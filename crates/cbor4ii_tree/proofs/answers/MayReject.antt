@@ -155,9 +155,8 @@ reading_by_known b s k (starts_array v) a bs e rest x =
     (λ inner z. at_head_known array_name 4 v a (RejectsInCount (Readable inner) (s inner))
     (λ n bs' e' rest' y. k inner y.after e' rest' y.stopped) bs e rest z) x
 reading_by_known b s k starts_indefinite_array a bs e rest x =
-    stepped_known _ (step_in b) (a ∷ bs) (λ inner. IndefiniteItems (Readable inner) (s inner)
-    bs) e rest
-    (λ inner z. items_known (Readable inner) (s inner) (k inner) bs e rest z) x
+    stepped_known _ (step_in b) (a ∷ bs) (λ inner. IndefiniteItems (Readable inner) (s inner) bs) e
+    rest (λ inner z. items_known (Readable inner) (s inner) (k inner) bs e rest z) x
 reading_by_known b s k bad_array a bs e rest x =
     stepped_known _ (step_in b) (a ∷ bs) (λ inner. Is (mismatch array_name a) bs) e rest
     (λ inner z. other _ e rest z.0 (inr (inr tt)) (λ h. h)) x
@@ -167,9 +166,8 @@ reading_by_known b s k (starts_map v) a bs e rest x =
     rest (λ inner z. at_head_known map_name 5 v a (λ n. RejectsInCount (Readable inner) (s inner)
     (2 * n)) (λ n bs' e' rest' y. k inner y.after e' rest' y.stopped) bs e rest z) x
 reading_by_known b s k starts_indefinite_map a bs e rest x =
-    stepped_known _ (step_in b) (a ∷ bs) (λ inner. IndefinitePairs (Readable inner) (s inner)
-    bs) e rest
-    (λ inner z. pairs_known (Readable inner) (s inner) (k inner) bs e rest z) x
+    stepped_known _ (step_in b) (a ∷ bs) (λ inner. IndefinitePairs (Readable inner) (s inner) bs) e
+    rest (λ inner z. pairs_known (Readable inner) (s inner) (k inner) bs e rest z) x
 reading_by_known b s k bad_map a bs e rest x =
     stepped_known _ (step_in b) (a ∷ bs) (λ inner. Is (mismatch map_name a) bs) e rest
     (λ inner z. other _ e rest z.0 (inr (inr tt)) (λ h. h)) x

@@ -6,6 +6,7 @@ use Rattle.std.specs.Int.{bytes_high_first}
 use Rattle.cbor4ii_items.specs.{Head.{Width, byte_count, head, shortest}, Initial.Initial}
 use Rattle.cbor4ii_items.specs.Initial.{starts_chunks, starts_array, starts_indefinite_array}
 use Rattle.cbor4ii_items.specs.Initial.{starts_map, starts_indefinite_map, starts_tag, initial}
+use Rattle.cbor4ii_tree.proofs.parts.Rejecting.{headed_by, in_count, in_items, in_pairs}
 use Rattle.cbor4ii_tree.specs.CanonicalRejects.{FitsCanonically, AtShortest, CanonicalArrayRejects}
 use Rattle.cbor4ii_tree.specs.CanonicalRejects.{CanonicalMapRejects, CanonicalRejectsBy}
 use Rattle.cbor4ii_tree.specs.CanonicalRejects.{CanonicalRejectsFrom, CanonicalRejectsWithin}
@@ -40,25 +41,13 @@ at_head_below k name major w b s t f bs e rest lt (inr x) =
     ap length x.is in
     let less : length x.after < k =
     omega (arith, same, length-append (bytes_high_first (byte_count w) x.argument) x.after) in
-    inr (record {
-      argument = x.argument;
-      after = x.after;
-      fits = x.fits;
-      is = x.is;
-      stopped = f x.argument x.after e rest less x.stopped;
-    })
+    inr (headed_by x.argument x.after x.fits x.is (f x.argument x.after e rest less x.stopped))
 
 definite_below : (k : ℕ) (W : Tree → Type 0) (s t : Stopping) (n : ℕ) → Below k s t
     → Below k (RejectsInCount W s n) (RejectsInCount W t n)
 definite_below k W s t n f bs e rest lt x =
-    record {
-      prefix = x.prefix;
-      after = x.after;
-      few = x.few;
-      whole = x.whole;
-      is = x.is;
-      stopped = f x.after e rest (trailing k bs (bytes_all x.prefix) x.after lt x.is) x.stopped;
-    }
+    in_count x.prefix x.after x.few x.whole x.is (f x.after e rest (trailing k bs
+    (bytes_all x.prefix) x.after lt x.is) x.stopped)
 
 no_break_below : (k : ℕ) (s t : Stopping) → Below k s t → Below k (NoBreak s) (NoBreak t)
 no_break_below k s t f [] e rest lt x = x
@@ -67,25 +56,14 @@ no_break_below k s t f (b ∷ bs) e rest lt x = (x.0, f (b ∷ bs) e rest lt x.1
 items_below : (k : ℕ) (W : Tree → Type 0) (s t : Stopping) → Below k s t
     → Below k (IndefiniteItems W s) (IndefiniteItems W t)
 items_below k W s t f bs e rest lt x =
-    record {
-      prefix = x.prefix;
-      after = x.after;
-      whole = x.whole;
-      is = x.is;
-      stopped = no_break_below
-          k s t f x.after e rest (trailing k bs (bytes_all x.prefix) x.after lt x.is) x.stopped;
-    }
+    in_items x.prefix x.after x.whole x.is (no_break_below k s t f x.after e rest (trailing k bs
+    (bytes_all x.prefix) x.after lt x.is) x.stopped)
 
 pairs_below : (k : ℕ) (W : Tree → Type 0) (s t : Stopping) → Below k s t
     → Below k (IndefinitePairs W s) (IndefinitePairs W t)
 pairs_below k W s t f bs e rest lt x =
-    record {
-      prefix = x.prefix;
-      after = x.after;
-      whole = x.whole;
-      is = x.is;
-      stopped = at_end x.after (trailing k bs (bytes_pairs x.prefix) x.after lt x.is) x.stopped;
-    }
+    in_pairs x.prefix x.after x.whole x.is (at_end x.after (trailing k bs (bytes_pairs x.prefix)
+    x.after lt x.is) x.stopped)
   where
     at_end : (after : List ℕ) → length after < k → NoBreak s after e rest
         ⊎ AfterKey W s after e rest → NoBreak t after e rest ⊎ AfterKey W t after e rest
@@ -110,17 +88,14 @@ stepped_by name (Some inner) here s t e rest f x = f inner x
 -- ---- over any relation that goes by the parts of an item
 
 module _ (name : List ℕ) (From : (Budget → Stopping) → Budget → Stopping)
-    (Within : ℕ → Budget → Stopping)
-    (none : (b : Budget) (bs : List ℕ) (e : InputError) (rest : List ℕ) → Within zero b bs e rest
-    → ⊥)
-    (opened : (n : ℕ) (b : Budget) (bs : List ℕ) (e : InputError) (rest : List ℕ)
-    → Within (suc n) b bs e rest
-    → RejectsAtStep name (step_in b) bs (λ inner. From (Within n) inner bs) e rest)
-    (closed : (n : ℕ) (b : Budget) (bs : List ℕ) (e : InputError) (rest : List ℕ)
-    → RejectsAtStep name (step_in b) bs (λ inner. From (Within n) inner bs) e rest
-    → Within (suc n) b bs e rest)
-    (below : (k : ℕ) (b : Budget) (s t : Budget → Stopping) → ((c : Budget) → Below k (s c) (t c))
-    → Below (suc k) (From s b) (From t b)) where
+    (Within : ℕ → Budget → Stopping) (none : (b : Budget) (bs : List ℕ) (e : InputError)
+    (rest : List ℕ) → Within zero b bs e rest → ⊥) (opened : (n : ℕ) (b : Budget) (bs : List ℕ)
+    (e : InputError) (rest : List ℕ) → Within (suc n) b bs e rest → RejectsAtStep name (step_in b)
+    bs (λ inner. From (Within n) inner bs) e rest) (closed : (n : ℕ) (b : Budget) (bs : List ℕ)
+    (e : InputError) (rest : List ℕ) → RejectsAtStep name (step_in b) bs (λ inner. From (Within n)
+    inner bs) e rest → Within (suc n) b bs e rest) (below : (k : ℕ) (b : Budget)
+    (s t : Budget → Stopping) → ((c : Budget) → Below k (s c) (t c)) → Below (suc k) (From s b)
+    (From t b)) where
   within : (k n m : ℕ) (b : Budget) → k ≤ n → k ≤ m → Below k (Within n b) (Within m b)
   within zero n m b p q bs e rest lt x = absurd (omega arith)
   within (suc k) zero m b p q bs e rest lt x = absurd (none b bs e rest x)
@@ -155,9 +130,8 @@ skip_by_below : (k : ℕ) (b : Budget) (s t : Stopping) → Below k s t → (i :
 skip_by_below k b s t f (starts_chunks kd) a bs e rest lt x =
     items_below k (Skippable b) s t f bs e rest lt x
 skip_by_below k b s t f (starts_array v) a bs e rest lt x =
-    at_head_below k ignored_any 4 v a (RejectsInCount (Skippable b) s)
-    (RejectsInCount (Skippable b) t)
-    (λ n. definite_below k (Skippable b) s t n f) bs e rest lt x
+    at_head_below k ignored_any 4 v a (RejectsInCount (Skippable b) s) (RejectsInCount (Skippable b)
+    t) (λ n. definite_below k (Skippable b) s t n f) bs e rest lt x
 skip_by_below k b s t f starts_indefinite_array a bs e rest lt x =
     items_below k (Skippable b) s t f bs e rest lt x
 skip_by_below k b s t f (starts_map v) a bs e rest lt x =
@@ -179,8 +153,10 @@ skip_from_below k b s t f (a ∷ bs) e rest lt x =
 pub skipping_by_parts : (input : List ℕ) (budget : Budget) (e : InputError) (rest : List ℕ)
     → SkippingRejects input budget e rest ↔ SkippingRejectsByParts input budget e rest
 skipping_by_parts =
-    by_parts ignored_any (λ s b. SkippingRejectsFrom (s b) b) SkippingRejectsWithin (λ b bs e rest h. h)
-    (λ n b bs e rest h. h) (λ n b bs e rest h. h) (λ k b s t f. skip_from_below k b (s b) (t b) (f b))
+    by_parts ignored_any (λ s b. SkippingRejectsFrom (s b) b) SkippingRejectsWithin
+    (λ b bs e rest h. h)
+    (λ n b bs e rest h. h) (λ n b bs e rest h. h) (λ k b s t f. skip_from_below k b (s b) (t b)
+    (f b))
 
 -- ---- reading
 
@@ -188,31 +164,26 @@ read_by_below : (k : ℕ) (b : Budget) (s t : Budget → Stopping)
     → ((c : Budget) → Below k (s c) (t c)) → (i : Initial) (a : ℕ)
     → Below k (ReadingRejectsBy s b i a) (ReadingRejectsBy t b i a)
 read_by_below k b s t f (starts_array v) a bs e rest lt x =
-    stepped_by array_name (step_in b) (a ∷ bs)
-    (λ inner. AtHead array_name 4 v a (RejectsInCount (Readable inner) (s inner)) bs)
-    (λ inner. AtHead array_name 4 v a (RejectsInCount (Readable inner) (t inner)) bs) e rest
-    (λ inner. at_head_below k array_name 4 v a (RejectsInCount (Readable inner) (s inner))
-    (RejectsInCount (Readable inner) (t inner))
-    (λ n. definite_below k (Readable inner) (s inner) (t inner) n (f inner)) bs e rest lt) x
+    stepped_by array_name (step_in b) (a ∷ bs) (λ inner. AtHead array_name 4 v a (RejectsInCount
+    (Readable inner) (s inner)) bs) (λ inner. AtHead array_name 4 v a (RejectsInCount
+    (Readable inner) (t inner)) bs) e rest (λ inner. at_head_below k array_name 4 v a
+    (RejectsInCount (Readable inner) (s inner)) (RejectsInCount (Readable inner) (t inner)) (λ n.
+    definite_below k (Readable inner) (s inner) (t inner) n (f inner)) bs e rest lt) x
 read_by_below k b s t f starts_indefinite_array a bs e rest lt x =
-    stepped_by array_name (step_in b) (a ∷ bs) (λ inner. IndefiniteItems (Readable inner)
-    (s inner) bs)
-    (λ inner. IndefiniteItems (Readable inner) (t inner) bs) e rest
-    (λ inner. items_below k (Readable inner) (s inner) (t inner) (f inner) bs e rest lt) x
+    stepped_by array_name (step_in b) (a ∷ bs) (λ inner. IndefiniteItems (Readable inner) (s inner)
+    bs) (λ inner. IndefiniteItems (Readable inner) (t inner) bs) e rest (λ inner. items_below k
+    (Readable inner) (s inner) (t inner) (f inner) bs e rest lt) x
 read_by_below k b s t f (starts_map v) a bs e rest lt x =
-    stepped_by map_name (step_in b) (a ∷ bs)
-    (λ inner. AtHead map_name 5 v a (λ n. RejectsInCount (Readable inner) (s inner) (2 * n)) bs)
-    (λ inner. AtHead map_name 5 v a (λ n. RejectsInCount (Readable inner) (t inner) (2 * n)) bs) e
-    rest
-    (λ inner. at_head_below k map_name 5 v a (λ n. RejectsInCount (Readable inner) (s inner)
-    (2 * n))
-    (λ n. RejectsInCount (Readable inner) (t inner) (2 * n)) (λ n.
-    definite_below k (Readable inner) (s inner) (t inner) (2 * n) (f inner)) bs e rest lt) x
+    stepped_by map_name (step_in b) (a ∷ bs) (λ inner. AtHead map_name 5 v a (λ n. RejectsInCount
+    (Readable inner) (s inner) (2 * n)) bs) (λ inner. AtHead map_name 5 v a (λ n. RejectsInCount
+    (Readable inner) (t inner) (2 * n)) bs) e rest (λ inner. at_head_below k map_name 5 v a (λ n.
+    RejectsInCount (Readable inner) (s inner) (2 * n)) (λ n. RejectsInCount (Readable inner)
+    (t inner) (2 * n)) (λ n. definite_below k (Readable inner) (s inner) (t inner) (2 * n)
+    (f inner)) bs e rest lt) x
 read_by_below k b s t f starts_indefinite_map a bs e rest lt x =
-    stepped_by map_name (step_in b) (a ∷ bs) (λ inner. IndefinitePairs (Readable inner)
-    (s inner) bs)
-    (λ inner. IndefinitePairs (Readable inner) (t inner) bs) e rest
-    (λ inner. pairs_below k (Readable inner) (s inner) (t inner) (f inner) bs e rest lt) x
+    stepped_by map_name (step_in b) (a ∷ bs) (λ inner. IndefinitePairs (Readable inner) (s inner)
+    bs) (λ inner. IndefinitePairs (Readable inner) (t inner) bs) e rest (λ inner. pairs_below k
+    (Readable inner) (s inner) (t inner) (f inner) bs e rest lt) x
 read_by_below k b s t f (starts_tag v) a bs e rest lt x =
     at_head_below k tag_name 6 v a (λ n. s b) (λ n. t b) (λ n. f b) bs e rest lt x
 read_by_below k b s t f _ a bs e rest lt x = x
@@ -252,20 +223,16 @@ strict_by_below : (k : ℕ) (b : Budget) (s t : Budget → Stopping)
     → Below k (CanonicalRejectsBy s b major a) (CanonicalRejectsBy t b major a)
 strict_by_below k b s t f (suc (suc (suc (suc zero)))) a bs e rest lt x =
     stepped_by array_name (step_in b) (a ∷ bs) (λ inner. CanonicalArrayRejects s inner (a ∷ bs))
-    (λ inner. CanonicalArrayRejects t inner (a ∷ bs)) e rest
-    (λ inner. at_shortest_below k array_name 4 inner (RejectsInCount (FitsCanonically inner)
-    (s inner))
-    (RejectsInCount (FitsCanonically inner) (t inner))
-    (λ n. definite_below k (FitsCanonically inner) (s inner)
+    (λ inner. CanonicalArrayRejects t inner (a ∷ bs)) e rest (λ inner. at_shortest_below k
+    array_name 4 inner (RejectsInCount (FitsCanonically inner) (s inner)) (RejectsInCount
+    (FitsCanonically inner) (t inner)) (λ n. definite_below k (FitsCanonically inner) (s inner)
     (t inner) n (f inner)) (a ∷ bs) e rest (omega arith)) x
 strict_by_below k b s t f (suc (suc (suc (suc (suc zero))))) a bs e rest lt x =
     stepped_by map_name (step_in b) (a ∷ bs) (λ inner. CanonicalMapRejects s inner (a ∷ bs))
-    (λ inner. CanonicalMapRejects t inner (a ∷ bs)) e rest
-    (λ inner. at_shortest_below k map_name 5 inner (λ n. RejectsInCount (FitsCanonically inner)
-    (s inner)
-    (2 * n)) (λ n. RejectsInCount (FitsCanonically inner) (t inner) (2 * n))
-    (λ n. definite_below k (FitsCanonically inner) (s inner) (t inner) (2 * n) (f inner))
-    (a ∷ bs) e rest (omega arith)) x
+    (λ inner. CanonicalMapRejects t inner (a ∷ bs)) e rest (λ inner. at_shortest_below k map_name 5
+    inner (λ n. RejectsInCount (FitsCanonically inner) (s inner) (2 * n)) (λ n. RejectsInCount
+    (FitsCanonically inner) (t inner) (2 * n)) (λ n. definite_below k (FitsCanonically inner)
+    (s inner) (t inner) (2 * n) (f inner)) (a ∷ bs) e rest (omega arith)) x
 strict_by_below k b s t f (suc (suc (suc (suc (suc (suc zero)))))) a bs e rest lt x =
     at_shortest_below k tag_name 6 b (λ n. s b) (λ n. t b) (λ n. f b)
     (a ∷ bs) e rest (omega arith) x

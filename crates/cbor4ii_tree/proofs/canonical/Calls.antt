@@ -1,13 +1,13 @@
 -- Heads and strings that are encoded in one way.
-use Rattle.std.proofs.Common.{◌≡◌, ℕ, List, ◌++◌, length, drop, Option, Some, None, Ok}
+use Rattle.std.proofs.Common.{◌≡◌, ℕ, ◌/◌, List, ◌∷◌, ◌++◌, length, drop, Option, Some, None, Ok}
 use Rattle.std.proofs.Common.{IfOk, IfErr, true, refl, sym, ap, ap₂, ◌∙◌, subst, append_assoc, inl}
 use Rattle.std.proofs.Common.{inr, take-append-drop, Vec, Global, String}
 use Rattle.std.specs.Prelude.{IsUtf8, string_bytes}
 use Rattle.cbor4ii_rw.specs.{View.View, declared.error.DecodeError.DecodeError}
-use Rattle.cbor4ii_items.specs.{Decoding.{Sound, Rejects}, Head.{head, shortest}}
-use Rattle.cbor4ii_items.specs.{Initial.{byte_string, text_string}}
 use Rattle.cbor4ii_items.specs.{Laws.Answering.fits_zero, Laws.Heads.shortest_fits}
 use Rattle.cbor4ii_items.specs.{Laws.Prefixes.drop_more, Moves.Moves, Shortest.ReadsShortest}
+use Rattle.cbor4ii_items.specs.{Decoding.{Sound, Rejects}, Head.{head, shortest}}
+use Rattle.cbor4ii_items.specs.{Initial.{byte_string, text_string}, InputError.InputError}
 use Rattle.cbor4ii_items.specs.Shortest.{ReadsShortestString, RejectsShortest}
 use Rattle.cbor4ii_tree.specs.{CanonicalCalls.StringAt, CanonicalRejects.AtShortest}
 use Rattle.cbor4ii_tree.specs.{CanonicalRejects.CanonicalTextRejects, Cost.Budget, Does.Does}
@@ -29,25 +29,21 @@ reached_shortest major n moves s =
 
 -- the number that the head of a tag has
 pub tag_shortest : {E : Type 0} {a c : View} (r : Option ℕ) (failure : Option (DecodeError E))
-    → Moves a c (answered r failure)
-    → IfOk (answered r failure) (Sound (ReadsShortest 6) a c)
-    → IfErr (answered r failure) (Rejects (RejectsShortest tag_name 6) a c)
-    → Does (TakesTag true a.budget) (RejectsOf true 6 a.budget) a c (answered r failure)
+    → Moves a c (answered r failure) → IfOk (answered r failure) (Sound (ReadsShortest 6) a c)
+    → IfErr (answered r failure) (Rejects (RejectsShortest tag_name 6) a c) → Does
+    (TakesTag true a.budget) (RejectsOf true 6 a.budget) a c (answered r failure)
 tag_shortest {a = a} (Some n) failure moves s h =
     does_ok (TakesTag true a.budget) (RejectsOf true 6 a.budget) (reached_shortest 6 n moves s)
 tag_shortest {a = a} None failure moves s h =
-    call_rejects {U = ℕ} (TakesTag true a.budget) (RejectsShortest tag_name 6)
-    (RejectsOf true 6 a.budget)
-    (λ xs z rest h b bs is m. subst (λ x. RejectsUnder true a.budget x z rest) (sym is)
-    (at_major 6 a.budget b bs z rest m
-    (subst (λ x. AtShortest tag_name 6 a.budget (λ n. RejectsOneValue true a.budget) x z rest) is
-    (inl h)))) moves h
+    call_rejects {U = ℕ} (TakesTag true a.budget) (RejectsShortest tag_name 6) (RejectsOf true 6
+    a.budget) (λ xs z rest h b bs is m. subst (λ x. RejectsUnder true a.budget x z rest) (sym is)
+    (at_major 6 a.budget b bs z rest m (subst (λ x. AtShortest tag_name 6 a.budget (λ n.
+    RejectsOneValue true a.budget) x z rest) is (inl h)))) moves h
 
 -- ---- strings
 
-pub string_of : (major : ℕ) (content xs : List ℕ) (n c : ℕ) → ReadsShortestString major xs content n
-    c
-    → StringAt major content xs (drop n xs)
+pub string_of : (major : ℕ) (content xs : List ℕ) (n c : ℕ)
+    → ReadsShortestString major xs content n c → StringAt major content xs (drop n xs)
 string_of major content xs n c r =
     let s = r.0 in
     let k = length content in

@@ -1,26 +1,28 @@
 -- Reading a value from its canonical encoding, as a decoding call, and what its answer says.
-use Rattle.std.proofs.Common.{true, ◌≡◌, ℕ, List, [], ◌++◌, length, take, drop, Some, Ok, Err}
+use Rattle.std.proofs.Common.{true, ◌≡◌, ℕ, List, [], ◌++◌, length, take, drop, None, Some, Ok, Err}
 use Rattle.std.proofs.Common.{inl, ◌+◌, ◌≤◌, inr, refl, sym, ap, ◌∙◌, subst, arith, IfSome}
 use Rattle.std.proofs.Common.{append_assoc, append-nil, length-append, take-append-drop, suc}
 use Rattle.std.proofs.Math.Seq.{drop-append_seam, take-append_seam}
 use Rattle.std.specs.Prelude.{◌⊎◌}
 use Rattle.cbor4ii_rw.specs.{View.View, declared.error.DecodeError.DecodeError}
-use Rattle.cbor4ii_items.specs.{Decoding.{Sound, Complete, Rejects, NoneRead}}
-use Rattle.cbor4ii_items.specs.{Decoding.Decodes, InputError.{InputError, input_error_of}}
 use Rattle.cbor4ii_items.specs.{InputError.not_canonical, Laws.Calls.ok, Laws.Steps.moves_err}
+use Rattle.cbor4ii_items.specs.{Budget.CostFits, Decoding.{Sound, Complete, Rejects, NoneRead}}
+use Rattle.cbor4ii_items.specs.{Decoding.Decodes, InputError.{InputError, input_error_of}}
 use Rattle.cbor4ii_tree.specs.{CanonicalRejects.CanonicalRejects, CanonicalShape.DecodesCanonically}
+use Rattle.cbor4ii_tree.specs.{Does.Does, Encodings.DecodesTo, Headline.EofReads, InputError.eof}
+use Rattle.cbor4ii_tree.specs.{InputError.MayReject, Item.Item, Laws.Ignoring.one_encoding}
+use Rattle.cbor4ii_tree.specs.{Meaning.value, ReadingRejects.ReadingRejects, Tree.bytes}
 use Rattle.cbor4ii_tree.specs.Canonically.{ReadsCanonical, RejectsCanonical, IsNotCanonical}
 use Rattle.cbor4ii_tree.specs.Canonically.{OnlyCanonical, AllCanonical, TakesEncoding}
 use Rattle.cbor4ii_tree.specs.Canonically.{EveryEncoding, PrefixCanonical, DepthCanonical}
 use Rattle.cbor4ii_tree.specs.Canonically.{NeverCanonical, OthersCanonical, ValueCanonical}
 use Rattle.cbor4ii_tree.specs.{Canonically.{ExactCanonical, canonical_format}, Cost.{Budget, cost}}
-use Rattle.cbor4ii_tree.specs.{Does.Does, Encodings.DecodesTo, Headline.EofReads, InputError.eof}
-use Rattle.cbor4ii_tree.specs.InputError.{IsEof, IsDepthOverflow, IsFinal}
-use Rattle.cbor4ii_tree.specs.{InputError.MayReject, Item.Item, Laws.Ignoring.one_encoding}
-use Rattle.cbor4ii_tree.specs.{Meaning.value, ReadingRejects.ReadingRejects, Tree.bytes}
+use Rattle.cbor4ii_tree.specs.InputError.{depth_overflow, IsEof, IsDepthOverflow, IsFinal}
 use Rattle.cbor4ii_tree.specs.{Valuing.{ReadsOneValue, RejectsOneValue}, View.view}
 use Rattle.cbor4ii_tree.specs.declared.decode_canonical.Canonical.{Canonical}
 use Rattle.cbor4ii_tree.specs.declared.value.Value.{Value}
+use Rattle.cbor4ii_tree.proofs.{reading.Answer.not_both, reading.Laws.final_stays}
+use Rattle.cbor4ii_tree.proofs.{reading.Widen.reading_persists, skipping.Laws.none_left}
 use Rattle.cbor4ii_tree.proofs.answers.MayReject.{reading_may_stop, reading_leaves_nothing}
 use Rattle.cbor4ii_tree.proofs.answers.Promises.{if_some, all_bytes, no_eof, reading_eof_prefix}
 use Rattle.cbor4ii_tree.proofs.answers.Promises.{reading_eof_alone}
@@ -29,8 +31,6 @@ use Rattle.cbor4ii_tree.proofs.canonical.NotCanonical.{loose, within_never}
 use Rattle.cbor4ii_tree.proofs.canonical.Once.{canonically_once}
 use Rattle.cbor4ii_tree.proofs.encodings.CanonicalShape.{reads_canonically_iff}
 use Rattle.cbor4ii_tree.proofs.encodings.CanonicalShape.{canonical_canonically}
-use Rattle.cbor4ii_tree.proofs.{reading.Answer.not_both, reading.Laws.final_stays}
-use Rattle.cbor4ii_tree.proofs.{reading.Widen.reading_persists, skipping.Laws.none_left}
 
 -- ---- in the words of the definitions
 
@@ -69,9 +69,8 @@ never_loose : (budget other : Budget) (xs more : List ℕ) (e : InputError) (res
     → ¬ (DecodesCanonically (xs ++ more) other v ys)
 never_loose budget other xs more e rest v ys h is r =
     let s = r.encodes in
-    within_never (suc (length xs)) budget xs rest more
-    (subst (λ z. CanonicalRejects xs budget z rest) is h)
-    (s.of_tree, ys, s.canonical, r.begins ∙ ap (λ z. z ++ ys) (sym s.bytes_are))
+    within_never (suc (length xs)) budget xs rest more (subst (λ z. CanonicalRejects xs budget z
+    rest) is h) (s.of_tree, ys, s.canonical, r.begins ∙ ap (λ z. z ++ ys) (sym s.bytes_are))
 
 -- what is canonical is not rejected
 canonical_or : (budget : Budget) (xs : List ℕ) (e : InputError) (rest : List ℕ) (v : Item)
@@ -213,10 +212,9 @@ module _ {E : Type 0} {a b : View} {v : Value}
 module _ {E : Type 0} {a b : View} {e : DecodeError E}
     (d : Does {V = Value} (ReadsOneValue true a.budget) (RejectsOneValue true a.budget) a b
     (Err e)) where
-  stopped : (xs : List ℕ) (Q : InputError → Type 0) → a.known ≡ Some xs →
-      ((z : InputError) (ys : List ℕ)
-      → input_error_of e ≡ Some z → b.known ≡ Some ys → CanonicalRejects xs a.budget z ys → Q z)
-      → IfSome (input_error_of e) Q
+  stopped : (xs : List ℕ) (Q : InputError → Type 0) → a.known ≡ Some xs → ((z : InputError)
+      (ys : List ℕ) → input_error_of e ≡ Some z → b.known ≡ Some ys → CanonicalRejects xs a.budget z
+      ys → Q z) → IfSome (input_error_of e) Q
   stopped xs Q known f =
       if_some (input_error_of e) (λ z. (ys : List ℕ) × (b.known ≡ Some ys)
       × CanonicalRejects xs a.budget z ys) Q (λ z is h. f z h.0 is h.1 h.2) (d.err xs known)

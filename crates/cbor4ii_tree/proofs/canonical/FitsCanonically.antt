@@ -1,5 +1,5 @@
 -- Trees that are encoded in one way: what begins bytes, by the major type of the first.
-use Rattle.std.proofs.Common.{◌≡◌, ◌≢◌, ℕ, zero, suc, ◌+◌, ◌*◌, ◌/◌, ◌^◌, ◌<◌, List, ◌∷◌, ◌++◌}
+use Rattle.std.proofs.Common.{◌≡◌, ◌≢◌, ℕ, zero, suc, ◌+◌, ◌*◌, ◌/◌, ◌^◌, ◌<◌, List, [], ◌∷◌, ◌++◌}
 use Rattle.std.proofs.Common.{length, refl, sym, ap, ◌∙◌, subst, arith, append_assoc}
 use Rattle.std.proofs.lemmas.List.{append_cancel_left}
 use Rattle.std.specs.Int.{bytes_high_first}
@@ -8,15 +8,15 @@ use Rattle.cbor4ii_items.specs.{Head.{head, shortest}, Heads.ReadsHead, Initial.
 use Rattle.cbor4ii_items.specs.Initial.{negative, byte_string, text_string, Simple, simple_false}
 use Rattle.cbor4ii_items.specs.Initial.{simple_true, simple_null, simple_undefined, simple_byte}
 use Rattle.cbor4ii_items.specs.Initial.{Precision, half, single, double, initial, precision_byte}
-use Rattle.cbor4ii_items.specs.Initial.{precision_bytes, starts_simple, starts_bits}
+use Rattle.cbor4ii_items.specs.Initial.{precision_bytes, starts_simple, starts_bits, Initial}
 use Rattle.cbor4ii_items.specs.{Laws.Answering.fits_zero, Laws.Heads.{head_one, shortest_fits}}
 use Rattle.cbor4ii_items.specs.Laws.Heads.{argument_below, byte_count-le}
 use Rattle.cbor4ii_items.specs.Laws.SequenceParts.{fits_max}
+use Rattle.cbor4ii_tree.specs.{Laws.Ignoring.one_encoding, Laws.Initials.initial_simple}
+use Rattle.cbor4ii_tree.specs.{Laws.Initials.initial_bits, Laws.Numbers.additional-lt}
 use Rattle.cbor4ii_tree.specs.CanonicalRejects.{FitsCanonically, ShortestAt}
 use Rattle.cbor4ii_tree.specs.CanonicalShape.{CanonicalShapeAll, CanonicalShapePairs, CanonicalTree}
 use Rattle.cbor4ii_tree.specs.Cost.{Budget, cost, greatest_cost, greatest_pair_cost}
-use Rattle.cbor4ii_tree.specs.{Laws.Ignoring.one_encoding, Laws.Initials.initial_simple}
-use Rattle.cbor4ii_tree.specs.{Laws.Initials.initial_bits, Laws.Numbers.additional-lt}
 use Rattle.cbor4ii_tree.specs.{Rejections.{Each, EachPair}, Tree.{Tree, int, string, chunked}}
 use Rattle.cbor4ii_tree.specs.Tree.{array, array_indefinite, map_of, map_indefinite, tagged, simple}
 use Rattle.cbor4ii_tree.specs.Tree.{bits, Trees, no_trees, tree, Pairs, no_pairs, pair, count}
@@ -61,9 +61,8 @@ one_head major n m x y small h k e =
 pub following_head : (major n : ℕ) (xs ys more : List ℕ) (m : ℕ) (zs : List ℕ) → major < 8
     → ShortestAt major n xs ys → ShortestAt major m (xs ++ more) zs → (n ≡ m) × (ys ++ more ≡ zs)
 following_head major n xs ys more m zs small h k =
-    one_head major n m (ys ++ more) zs small h.0 k.0
-    (sym (append_assoc (head major n (shortest n)) ys more) ∙ ap (λ r. r ++ more) (sym h.1)
-    ∙ k.1)
+    one_head major n m (ys ++ more) zs small h.0 k.0 (sym (append_assoc (head major n (shortest n))
+    ys more) ∙ ap (λ r. r ++ more) (sym h.1) ∙ k.1)
 
 -- ---- lists of canonical trees, each by itself or all together
 
@@ -202,9 +201,8 @@ arm_of (simple s) x xs ys c e =
     (λ u. c.1 (let row : starts_simple s ≡ starts_simple simple_undefined =
     sym (initial_simple s) ∙ u in cc))
 arm_of (bits p n) x xs ys c e =
-    arm_other x (precision_byte p) xs
-    (same_first x (precision_byte p) xs (bytes_high_first (precision_bytes p) n ++ ys) e).0
-    (precision_major p)
+    arm_other x (precision_byte p) xs (same_first x (precision_byte p) xs (bytes_high_first
+    (precision_bytes p) n ++ ys) e).0 (precision_major p)
     (λ u. (let row : starts_bits p ≡ starts_simple simple_undefined =
     sym (initial_bits p) ∙ u in cc))
 

@@ -1,6 +1,6 @@
 -- Where bytes are rejected since their encoding is not the canonical one, no canonical tree begins
 -- them, whatever follows.
-use Rattle.std.proofs.Common.{◌≡◌, ◌≢◌, ℕ, zero, suc, ◌+◌, ◌*◌, ◌/◌, ◌<◌, inl, inr, List, []}
+use Rattle.std.proofs.Common.{◌≡◌, ◌≢◌, ℕ, zero, suc, ◌+◌, ◌*◌, ◌/◌, ◌<◌, ◌⊎◌, inl, inr, List, []}
 use Rattle.std.proofs.Common.{◌∷◌, ◌++◌, Option, Some, None, refl, sym, ap, ◌∙◌, subst, arith}
 use Rattle.std.proofs.Common.{append_assoc}
 use Rattle.std.specs.Int.{bytes_high_first}
@@ -153,18 +153,15 @@ by_never rejects f budget (suc (suc (suc zero))) b bs rest more (inl h) =
 by_never rejects f budget (suc (suc (suc zero))) b bs rest more (inr h) =
     absurd (let says = h.stopped.err in cc)
 by_never rejects f budget (suc (suc (suc (suc zero)))) b bs rest more h =
-    stepped_never array_name (step_in budget) (b ∷ bs) rest
-    (λ inner. CanonicalArrayRejects rejects inner (b ∷ bs)) (Arm 4 (b ∷ (bs ++ more)))
-    (λ inner. at_head_never array_name 4 inner
-    (RejectsInCount (FitsCanonically inner) (rejects inner)) BeginsItems (omega arith)
-    (λ n. items_never inner (rejects inner) n (f inner)) (b ∷ bs) rest more) h
+    stepped_never array_name (step_in budget) (b ∷ bs) rest (λ inner. CanonicalArrayRejects rejects
+    inner (b ∷ bs)) (Arm 4 (b ∷ (bs ++ more))) (λ inner. at_head_never array_name 4 inner
+    (RejectsInCount (FitsCanonically inner) (rejects inner)) BeginsItems (omega arith) (λ n.
+    items_never inner (rejects inner) n (f inner)) (b ∷ bs) rest more) h
 by_never rejects f budget (suc (suc (suc (suc (suc zero))))) b bs rest more h =
-    stepped_never map_name (step_in budget) (b ∷ bs) rest
-    (λ inner. CanonicalMapRejects rejects inner (b ∷ bs)) (Arm 5 (b ∷ (bs ++ more)))
-    (λ inner. at_head_never map_name 5 inner
-    (λ n. RejectsInCount (FitsCanonically inner) (rejects inner) (2 * n))
-    (λ n. BeginsItems (2 * n)) (omega arith)
-    (λ n. items_never inner (rejects inner) (2 * n) (f inner)) (b ∷ bs) rest more) h
+    stepped_never map_name (step_in budget) (b ∷ bs) rest (λ inner. CanonicalMapRejects rejects
+    inner (b ∷ bs)) (Arm 5 (b ∷ (bs ++ more))) (λ inner. at_head_never map_name 5 inner (λ n.
+    RejectsInCount (FitsCanonically inner) (rejects inner) (2 * n)) (λ n. BeginsItems (2 * n))
+    (omega arith) (λ n. items_never inner (rejects inner) (2 * n) (f inner)) (b ∷ bs) rest more) h
 by_never rejects f budget (suc (suc (suc (suc (suc (suc zero)))))) b bs rest more h =
     at_head_never tag_name 6 budget (λ n. rejects budget) (λ n. BeginsOne) (omega arith)
     (λ n. f budget) (b ∷ bs) rest more h

@@ -2,15 +2,18 @@
 use Rattle.std.proofs.Common.{◌≡◌, ℕ, zero, suc, ◌+◌, ◌*◌, ◌/◌, ◌%◌, ◌<◌, inl, inr, List, [], ◌∷◌}
 use Rattle.std.proofs.Common.{◌++◌, length, drop, Option, Some, None, sym, ap, ◌∙◌, subst, arith}
 use Rattle.std.proofs.Common.{append_assoc, append-nil, length-append, refl}
+use Rattle.std.proofs.lemmas.List.{append_cancel_left}
 use Rattle.std.specs.Int.{bytes_high_first}
-use Rattle.cbor4ii_items.specs.Head.{Width, byte_count, additional, head, shortest}
-use Rattle.cbor4ii_items.specs.{Heads.{ReadsHead, Begins, RejectsHead}, Initial.byte_string}
-use Rattle.cbor4ii_items.specs.Initial.{text_string, wide, info_of, simple_undefined, Initial}
-use Rattle.cbor4ii_items.specs.Initial.{starts_simple, starts_bits, other_simple, initial}
-use Rattle.cbor4ii_items.specs.Laws.Heads.{head_one, additional-lt, length-bytes_high_first}
-use Rattle.cbor4ii_items.specs.{Laws.Heads.argument_below, Shortest.RejectsShortest}
+use Rattle.cbor4ii_items.specs.{Laws.Heads.argument_below, Shortest.RejectsShortest, Head.Width}
+use Rattle.cbor4ii_items.specs.{Head.{byte_count, additional, head, shortest}, Heads.ReadsHead}
+use Rattle.cbor4ii_items.specs.{Heads.{Begins, RejectsHead}, Initial.{byte_string, text_string}}
+use Rattle.cbor4ii_items.specs.Initial.{wide, info_of, simple_undefined, Initial, starts_simple}
+use Rattle.cbor4ii_items.specs.{Initial.{starts_bits, other_simple, initial}, Laws.Heads.head_one}
+use Rattle.cbor4ii_items.specs.Laws.Heads.{additional-lt, length-bytes_high_first}
 use Rattle.cbor4ii_items.specs.Shortest.{shortest_rejected, shortest_indefinite, too_long}
 use Rattle.cbor4ii_items.specs.Shortest.{RejectsShortestString, length_rejected, content_cut}
+use Rattle.cbor4ii_items.specs.Strings.{CutContent}
+use Rattle.cbor4ii_tree.specs.{InputError.value_name, Laws.Ignoring.one_encoding, Meaning.value}
 use Rattle.cbor4ii_tree.specs.CanonicalRejects.{FitsCanonically, ShortestAt, AfterShortest}
 use Rattle.cbor4ii_tree.specs.CanonicalRejects.{AtShortest, CanonicalTextRejects}
 use Rattle.cbor4ii_tree.specs.CanonicalRejects.{CanonicalArrayRejects, CanonicalMapRejects}
@@ -18,14 +21,13 @@ use Rattle.cbor4ii_tree.specs.CanonicalRejects.{CanonicalOtherRejects, Canonical
 use Rattle.cbor4ii_tree.specs.CanonicalRejects.{CanonicalRejectsFrom, CanonicalRejectsWithin}
 use Rattle.cbor4ii_tree.specs.{CanonicalRejects.CanonicalRejects, Cost.{Budget, step_in, cost}}
 use Rattle.cbor4ii_tree.specs.InputError.{InputError, kind_name, array_name, map_name, tag_name}
-use Rattle.cbor4ii_tree.specs.{InputError.value_name, Laws.Ignoring.one_encoding, Meaning.value}
 use Rattle.cbor4ii_tree.specs.Rejections.{Stopping, RejectsAtStep, Each, RejectsInCount}
 use Rattle.cbor4ii_tree.specs.Tree.{Tree, Trees, no_trees, tree, bytes, bytes_all}
-use Rattle.cbor4ii_tree.proofs.canonical.AsValue.{within_value, canonically_as_value}
 use Rattle.cbor4ii_tree.proofs.{canonical.FitsCanonically.one_head, canonical.NotCanonical.loose}
-use Rattle.cbor4ii_tree.proofs.canonical.NotCanonical.{head_here, longer, not_by_head, within_never}
 use Rattle.cbor4ii_tree.proofs.{encodings.CanonicalShape.same_first, reading.Answer.one_reading}
-use Rattle.cbor4ii_tree.proofs.{reading.Answer.not_both, values.Calls.begins_width}
+use Rattle.cbor4ii_tree.proofs.canonical.AsValue.{within_value, canonically_as_value}
+use Rattle.cbor4ii_tree.proofs.canonical.NotCanonical.{head_here, longer, not_by_head, within_never}
+use Rattle.cbor4ii_tree.proofs.{reading.Answer.{decodes_tree, not_both}, values.Calls.begins_width}
 
 -- where the bytes are rejected as not canonical, they are rejected in no other way
 abbrev One : Stopping → Type 0
@@ -164,15 +166,13 @@ items_after : (budget : Budget) (rejects : Stopping) → One rejects → NoneThe
 items_after budget rejects o none no_trees no_trees a b e x y h k is s t =
     o a e x y s (subst (λ z. rejects z loose y) (sym is) t)
 items_after budget rejects o none no_trees (tree u us) a b e x y h k is s t =
-    absurd
-    (none a e x s u (bytes_all us ++ b) k.0 (is ∙ append_assoc (bytes u) (bytes_all us) b))
+    absurd (none a e x s u (bytes_all us ++ b) k.0 (is ∙ append_assoc (bytes u) (bytes_all us) b))
 items_after budget rejects o none (tree t ts) no_trees a b e x y h k is s r =
     absurd (none b loose y r t (bytes_all ts ++ a) h.0
     (sym is ∙ append_assoc (bytes t) (bytes_all ts) a))
 items_after budget rejects o none (tree t ts) (tree u us) a b e x y h k is s r =
-    items_after budget rejects o none ts us a b e x y h.1 k.1
-    (one_encoding t u (bytes_all ts ++ a) (bytes_all us ++ b) h.0.0.0.0 k.0.0.0.0
-    (sym (append_assoc (bytes t) (bytes_all ts) a) ∙ is
+    items_after budget rejects o none ts us a b e x y h.1 k.1 (one_encoding t u (bytes_all ts ++ a)
+    (bytes_all us ++ b) h.0.0.0.0 k.0.0.0.0 (sym (append_assoc (bytes t) (bytes_all ts) a) ∙ is
     ∙ append_assoc (bytes u) (bytes_all us) b)).1 s r
 
 items_once : (budget : Budget) (rejects : Stopping) (n : ℕ) → One rejects → NoneThere budget rejects
@@ -209,18 +209,15 @@ by_once rejects budget (suc (suc zero)) b o none bs e x y h k =
 by_once rejects budget (suc (suc (suc zero))) b o none bs e x y h k =
     text_once budget (b ∷ bs) e x y h k
 by_once rejects budget (suc (suc (suc (suc zero)))) b o none bs e x y h k =
-    stepped_once array_name (step_in budget) (b ∷ bs)
-    (λ inner. CanonicalArrayRejects rejects inner (b ∷ bs)) e x y
-    (λ inner. at_shortest_once array_name 4 inner (RejectsInCount (FitsCanonically inner)
-    (rejects inner))
-    (omega arith) (λ n. items_once inner (rejects inner) n (o inner) (none inner))
-    (b ∷ bs) e x y) h k
+    stepped_once array_name (step_in budget) (b ∷ bs) (λ inner. CanonicalArrayRejects rejects inner
+    (b ∷ bs)) e x y (λ inner. at_shortest_once array_name 4 inner (RejectsInCount
+    (FitsCanonically inner) (rejects inner)) (omega arith) (λ n. items_once inner (rejects inner) n
+    (o inner) (none inner)) (b ∷ bs) e x y) h k
 by_once rejects budget (suc (suc (suc (suc (suc zero))))) b o none bs e x y h k =
-    stepped_once map_name (step_in budget) (b ∷ bs)
-    (λ inner. CanonicalMapRejects rejects inner (b ∷ bs)) e x y
-    (λ inner. at_shortest_once map_name 5 inner
-    (λ n. RejectsInCount (FitsCanonically inner) (rejects inner) (2 * n)) (omega arith) (λ n.
-    items_once inner (rejects inner) (2 * n) (o inner) (none inner)) (b ∷ bs) e x y) h k
+    stepped_once map_name (step_in budget) (b ∷ bs) (λ inner. CanonicalMapRejects rejects inner
+    (b ∷ bs)) e x y (λ inner. at_shortest_once map_name 5 inner (λ n. RejectsInCount
+    (FitsCanonically inner) (rejects inner) (2 * n)) (omega arith) (λ n. items_once inner
+    (rejects inner) (2 * n) (o inner) (none inner)) (b ∷ bs) e x y) h k
 by_once rejects budget (suc (suc (suc (suc (suc (suc zero)))))) b o none bs e x y h k =
     at_shortest_once tag_name 6 budget (λ n. rejects budget) (omega arith) (λ n. o budget)
     (b ∷ bs) e x y h k
@@ -238,28 +235,16 @@ none_within n budget xs e x s t ys fits is = elim (within_value n budget e x xs 
   | inl says ↦
       within_never n budget xs x [] (subst (λ z. CanonicalRejectsWithin n budget xs z x) says s)
       (t, ys, fits.0, append-nil xs ∙ is)
-  | inr r ↦ not_both xs budget (value t) ys e x (record {
-    encoding = bytes t;
-    steps = cost t;
-    encodes = record {
-      of_tree = t;
-      plain = fits.0.0;
-      bytes_are = refl;
-      value_is = refl;
-      cost_is = refl;
-    };
-    fits = fits.1;
-    begins = is;
-  }) r
+  | inr r ↦ not_both xs budget (value t) ys e x (decodes_tree t budget xs (value t) ys
+      (fits.0.0, fits.1) refl is) r
 ]
 
 within_once : (n : ℕ) (budget : Budget) → One (CanonicalRejectsWithin n budget)
 within_once zero budget xs e x y h k = absurd h
 within_once (suc n) budget xs e x y h k =
-    stepped_once value_name (step_in budget) xs
-    (λ inner. CanonicalRejectsFrom (CanonicalRejectsWithin n) inner xs) e x y
-    (λ inner. from_once (CanonicalRejectsWithin n) inner (within_once n) (none_within n) xs e x y)
-    h k
+    stepped_once value_name (step_in budget) xs (λ inner. CanonicalRejectsFrom
+    (CanonicalRejectsWithin n) inner xs) e x y (λ inner. from_once (CanonicalRejectsWithin n) inner
+    (within_once n) (none_within n) xs e x y) h k
 
 pub canonically_once : (budget : Budget) (xs : List ℕ) (e f : InputError) (x y : List ℕ)
     → CanonicalRejects xs budget e x → CanonicalRejects xs budget f y → (e ≡ f) × (x ≡ y)

@@ -8,10 +8,10 @@ use Rattle.cbor4ii_items.specs.Initial.{simple_null, simple_undefined}
 use Rattle.cbor4ii_items.specs.Laws.Heads.{length-bytes_high_first, if_cases, shortest_fits}
 use Rattle.cbor4ii_items.specs.Laws.Heads.{argument_below}
 use Rattle.cbor4ii_items.specs.Laws.NumbersBack.{length-without_leading_zeros}
+use Rattle.cbor4ii_tree.specs.{Canonical.tagged_integer, Cost.cost, Encodings.Encodes, Item.Item}
 use Rattle.cbor4ii_tree.specs.Canonical.{canonical_encoding, canonical_tree, canonical_trees}
 use Rattle.cbor4ii_tree.specs.Canonical.{canonical_pairs, integer_tree, bignum, magnitude, sign_tag}
 use Rattle.cbor4ii_tree.specs.Canonical.{with_bignums, with_bignums_all, with_bignums_members}
-use Rattle.cbor4ii_tree.specs.{Canonical.tagged_integer, Cost.cost, Encodings.Encodes, Item.Item}
 use Rattle.cbor4ii_tree.specs.Item.{null, boolean, integer, float, bytes_item, text, sequence}
 use Rattle.cbor4ii_tree.specs.Item.{mapping, tag, Items, no_items, item, Members, no_members}
 use Rattle.cbor4ii_tree.specs.Item.{member, item_count, member_count, IsItem, AreItems, AreMembers}
@@ -99,9 +99,8 @@ value_integer : (s : Sign) (n : ℕ)
     → value (integer_tree s n) ≡ tagged_integer s n (integer (number s n))
 value_integer s n = value_if (ltb n (2 ^ 64))
   where
-    value_if : (b : Bool)
-        → value (cond b (Tree.int s n (shortest n)) (bignum s n)) ≡ cond b (integer (number s n))
-        (tag (sign_tag s) (bytes_item (magnitude n)))
+    value_if : (b : Bool) → value (cond b (Tree.int s n (shortest n)) (bignum s n)) ≡ cond b
+        (integer (number s n)) (tag (sign_tag s) (bytes_item (magnitude n)))
     value_if true = refl
     value_if false = refl
 

@@ -9,16 +9,16 @@ use Rattle.cbor4ii_items.specs.Initial.{unsigned, negative, sign_major, Kind, by
 use Rattle.cbor4ii_items.specs.Initial.{text_string, kind_major, simple_false, simple_true}
 use Rattle.cbor4ii_items.specs.Initial.{simple_null, simple_undefined, simple_byte, info_of}
 use Rattle.cbor4ii_items.specs.Laws.Heads.{if_cases, shortest_fits, argument_below, same_wide}
+use Rattle.cbor4ii_tree.specs.{Canonical.with_bignums, CanonicalShape.CanonicalShape}
+use Rattle.cbor4ii_tree.specs.{Item.AreMembers, Laws.Ignoring.one_encoding}
+use Rattle.cbor4ii_tree.specs.{Laws.Numbers.info-additional, Laws.PartsAgain.pair_split}
 use Rattle.cbor4ii_tree.specs.Canonical.{canonical_encoding, canonical_cost, canonical_tree}
 use Rattle.cbor4ii_tree.specs.Canonical.{canonical_trees, canonical_pairs, integer_tree}
-use Rattle.cbor4ii_tree.specs.{Canonical.with_bignums, CanonicalShape.CanonicalShape}
 use Rattle.cbor4ii_tree.specs.CanonicalShape.{CanonicalShapeAll, CanonicalShapePairs, IsDecoded}
 use Rattle.cbor4ii_tree.specs.{CanonicalShape.{EncodesCanonically, DecodesCanonically}, Cost.cost}
 use Rattle.cbor4ii_tree.specs.{Cost.Budget, Item.{Item, null, boolean, integer, float, bytes_item}}
 use Rattle.cbor4ii_tree.specs.Item.{text, sequence, mapping, tag, Items, no_items, item, Members}
 use Rattle.cbor4ii_tree.specs.Item.{no_members, member, item_count, member_count, IsItem, AreItems}
-use Rattle.cbor4ii_tree.specs.{Item.AreMembers, Laws.Ignoring.one_encoding}
-use Rattle.cbor4ii_tree.specs.{Laws.Numbers.info-additional, Laws.PartsAgain.pair_split}
 use Rattle.cbor4ii_tree.specs.Meaning.{value, values, member_values, number, content_item}
 use Rattle.cbor4ii_tree.specs.Tree.{Tree, int, string, chunked, array, array_indefinite, map_of}
 use Rattle.cbor4ii_tree.specs.Tree.{map_indefinite, tagged, simple, bits, Trees, no_trees, tree}
@@ -138,9 +138,8 @@ same_head major n w x y h e =
 additional-shortest : (n : ℕ) → additional (shortest n) n < 28
 additional-shortest n =
     let P : Width → Type 0 = λ w. additional w n < 28 in
-    if_cases P (ltb n 24) _ _ (λ e. let lt = ltb-true n 24 e in omega (arith, lt))
-    (λ _. if_cases P (ltb n 256) _ _ (λ _. omega arith)
-    (λ _. if_cases P (ltb n (256 ^ 2)) _ _ (λ _. omega arith)
+    if_cases P (ltb n 24) _ _ (λ e. let lt = ltb-true n 24 e in omega (arith, lt)) (λ _. if_cases P
+    (ltb n 256) _ _ (λ _. omega arith) (λ _. if_cases P (ltb n (256 ^ 2)) _ _ (λ _. omega arith)
     (λ _. if_cases P (ltb n (256 ^ 4)) _ _ (λ _. omega arith) (λ _. omega arith))))
 
 not_indefinite : (major n : ℕ) (x y : List ℕ) → indefinite_head major ∷ x ≡ head major n
@@ -151,9 +150,8 @@ not_indefinite major n x y e =
     omega (arith, first.0, additional-shortest n)
 
 mutual
-  pub strict_of_canonical : (t : Tree) (x y : List ℕ) → Loose t → bytes t ++ x ≡ canonical_encoding
-      (value t) ++ y
-      → CanonicalShape t × (x ≡ y)
+  pub strict_of_canonical : (t : Tree) (x y : List ℕ) → Loose t
+      → bytes t ++ x ≡ canonical_encoding (value t) ++ y → CanonicalShape t × (x ≡ y)
   strict_of_canonical (int s n w) x y l e =
       same_head (sign_major s) n w x y l
       (e ∙ ap (λ u. bytes u ++ y) (canonical_encoding-integer s n (argument_below w n l)))
@@ -179,9 +177,8 @@ mutual
       e ∙ ap (λ m. (head 4 (count (canonical_trees (values ts))) (shortest m) ++ trailing) ++ y) c
       ∙ ap (λ m. (head 4 m (shortest n) ++ trailing) ++ y)
       (count-canonical_encoding (values ts) ∙ c) in
-      let heads = same_head 4 n w (bytes_all ts ++ x)
-      (trailing ++ y) l.0 (sym (append_assoc (head 4 n w) (bytes_all ts) x) ∙ same
-      ∙ append_assoc (head 4 n (shortest n)) trailing y) in
+      let heads = same_head 4 n w (bytes_all ts ++ x) (trailing ++ y) l.0 (sym (append_assoc
+      (head 4 n w) (bytes_all ts) x) ∙ same ∙ append_assoc (head 4 n (shortest n)) trailing y) in
       let rest = strict_of_canonical_all ts x y l.1 heads.1 in
       ((heads.0, rest.0), rest.1)
   strict_of_canonical (array_indefinite ts) x y l e =
@@ -199,9 +196,8 @@ mutual
       e ∙ ap (λ m.
       (head 5 (pair_count (canonical_pairs (member_values ps))) (shortest m) ++ trailing) ++ y) c
       ∙ ap (λ m. (head 5 m (shortest n) ++ trailing) ++ y) (count-pairs (member_values ps) ∙ c) in
-      let heads = same_head 5 n w (bytes_pairs ps ++ x)
-      (trailing ++ y) l.0 (sym (append_assoc (head 5 n w) (bytes_pairs ps) x) ∙ same
-      ∙ append_assoc (head 5 n (shortest n)) trailing y) in
+      let heads = same_head 5 n w (bytes_pairs ps ++ x) (trailing ++ y) l.0 (sym (append_assoc
+      (head 5 n w) (bytes_pairs ps) x) ∙ same ∙ append_assoc (head 5 n (shortest n)) trailing y) in
       let rest = strict_of_canonical_pairs ps x y l.1 heads.1 in
       ((heads.0, rest.0), rest.1)
   strict_of_canonical (map_indefinite ps) x y l e =
@@ -233,9 +229,8 @@ mutual
   strict_of_canonical_all no_trees x y l e = (tt, e)
   strict_of_canonical_all (tree t ts) x y l e =
       let trailing = bytes_all (canonical_trees (values ts)) in
-      let first = strict_of_canonical t (bytes_all ts ++ x)
-      (trailing ++ y) l.0 (sym (append_assoc (bytes t) (bytes_all ts) x) ∙ e
-      ∙ append_assoc (canonical_encoding (value t)) trailing y) in
+      let first = strict_of_canonical t (bytes_all ts ++ x) (trailing ++ y) l.0 (sym (append_assoc
+      (bytes t) (bytes_all ts) x) ∙ e ∙ append_assoc (canonical_encoding (value t)) trailing y) in
       let rest = strict_of_canonical_all ts x y l.1 first.1 in
       ((first.0, rest.0), rest.1)
 

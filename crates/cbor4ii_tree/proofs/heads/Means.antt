@@ -46,11 +46,10 @@ Means b _ = Unit {0}
 pub info_says : (i : ℕ) → InfoSays i (info_of i)
 info_says i =
     let P = InfoSays i in
-    if_cases P (ltb i 24) _ _ (λ h. ltb-true i 24 h)
-    (λ _. if_cases P (eqb i 24) _ _ (λ h. eqb-true i 24 h)
-    (λ _. if_cases P (eqb i 25) _ _ (λ h. eqb-true i 25 h)
-    (λ _. if_cases P (eqb i 26) _ _ (λ h. eqb-true i 26 h) (λ _. if_cases P (eqb i 27) _ _ (λ h.
-    eqb-true i 27 h) (λ _. if_cases P (eqb i 31) _ _ (λ h. eqb-true i 31 h) (λ _. tt))))))
+    if_cases P (ltb i 24) _ _ (λ h. ltb-true i 24 h) (λ _. if_cases P (eqb i 24) _ _ (λ h. eqb-true
+    i 24 h) (λ _. if_cases P (eqb i 25) _ _ (λ h. eqb-true i 25 h) (λ _. if_cases P (eqb i 26) _ _
+    (λ h. eqb-true i 26 h) (λ _. if_cases P (eqb i 27) _ _ (λ h. eqb-true i 27 h) (λ _. if_cases P
+    (eqb i 31) _ _ (λ h. eqb-true i 31 h) (λ _. tt))))))
 
 simple_says : (i b : ℕ) → b ≡ 224 + i → Means b (simple_by_info i)
 simple_says i b e =

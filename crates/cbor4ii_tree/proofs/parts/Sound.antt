@@ -13,6 +13,10 @@ pub record Took (Whole : Tree → Type 0) (bs : List ℕ) (p : Tree × List ℕ)
   pub is : bs ≡ bytes p.0 ++ p.1
   pub more : IsBytes p.1
 
+pub took : {Whole : Tree → Type 0} {bs : List ℕ} {p : Tree × List ℕ} → Whole p.0
+    → bs ≡ bytes p.0 ++ p.1 → IsBytes p.1 → Took Whole bs p
+took whole is more = record { whole = whole; is = is; more = more }
+
 pub record TookAll (Whole : Tree → Type 0) (n : ℕ) (bs : List ℕ) (p : Trees × List ℕ) : Type 0 where
   pub number : count p.0 ≡ n
   pub whole : Each Whole p.0

@@ -68,14 +68,12 @@ from_again item n b a (chunked k ts) x l s f lt =
     let all : List ℕ = bytes_all ts ++ break ∷ x in
     let each : Each (ReadableChunk k (left b)) ts =
     each_chunk k ts (left b) l s.0 (chunks_fit k ts b s.0 f) in
-    by_initial item (left b) _ _ _ (initial_chunks k)
-    ∙ rw (
+    by_initial item (left b) _ _ _ (initial_chunks k) ∙ rw (
       append_assoc (bytes_all ts) (break ∷ []) x,
       indefinite_trees_again (chunk_tree_at k (left b))
           (ReadableChunk k (left b)) n (chunk_again k (left b) n)
           (chunks_start k (left b)) ts (suc (length all)) x each (omega arith) lt2,
-    )
-    (tested_again k (joined_chunks ts) (chunked k ts) x s.1)
+    ) (tested_again k (joined_chunks ts) (chunked k ts) x s.1)
 from_again item n b a (array w ts) x l s f lt =
     let two = fits_two (greatest_cost ts) b f in
     let lt2 = following_head (bytes_high_first (byte_count w) (count ts)) (bytes_all ts) x n lt in
@@ -92,8 +90,7 @@ from_again item n b a (array_indefinite ts) x l s f lt =
     let two = fits_two (greatest_cost ts) b f in
     let lt2 = after_indefinite (bytes_all ts) x n lt in
     let all : List ℕ = bytes_all ts ++ break ∷ x in
-    by_initial item (left b) _ _ _ initial_indefinite_array
-    ∙ rw (
+    by_initial item (left b) _ _ _ initial_indefinite_array ∙ rw (
       step_left (left b) two.0,
       append_assoc (bytes_all ts) (break ∷ []) x,
       indefinite_trees_again (item (left (left b))) (Readable (left (left b))) n (a (left (left b)))
@@ -118,8 +115,7 @@ from_again item n b a (map_indefinite ps) x l s f lt =
     let two = fits_two (greatest_pair_cost ps) b f in
     let lt2 = after_indefinite (bytes_pairs ps) x n lt in
     let all : List ℕ = bytes_pairs ps ++ break ∷ x in
-    by_initial item (left b) _ _ _ initial_indefinite_map
-    ∙ rw (
+    by_initial item (left b) _ _ _ initial_indefinite_map ∙ rw (
       step_left (left b) two.0,
       append_assoc (bytes_pairs ps) (break ∷ []) x,
       indefinite_pairs_again (item (left (left b))) (Readable (left (left b))) n (a (left (left b)))
@@ -128,8 +124,7 @@ from_again item n b a (map_indefinite ps) x l s f lt =
     ) refl
 from_again item n b a (tagged m w t) x l s f lt =
     let lt2 = following_head (bytes_high_first (byte_count w) m) (bytes t) x n lt in
-    by_initial item (left b) _ _ _ (initial_tag m w l.0)
-    ∙ rw (
+    by_initial item (left b) _ _ _ (initial_tag m w l.0) ∙ rw (
       append_assoc (bytes_high_first (byte_count w) m) (bytes t) x,
       argument_again tag_name 6 m
           w (bytes t ++ x) l.0,

@@ -75,10 +75,9 @@ no_utf8 k w b bs p e rest m h x y =
 
 by_err : (item : Budget → Parser Tree) (budget : Budget) (rejects : Budget → Stopping) (bound : ℕ)
     → ((c : Budget) → IsSound (item c) (Readable c))
-    → ((c : Budget) → Complete (item c) (rejects c) bound)
-    → (i : Initial) (b : ℕ) (bs : List ℕ) (e : InputError) (rest : List ℕ)
-    → Means b i → IsBytes bs → length bs < bound → read_by item budget i b bs ≡ Err (e, rest)
-    → ReadingRejectsBy rejects budget i b bs e rest
+    → ((c : Budget) → Complete (item c) (rejects c) bound) → (i : Initial) (b : ℕ) (bs : List ℕ)
+    (e : InputError) (rest : List ℕ) → Means b i → IsBytes bs → length bs < bound
+    → read_by item budget i b bs ≡ Err (e, rest) → ReadingRejectsBy rejects budget i b bs e rest
 by_err item budget rejects bound s r (starts_int sg w) b bs e rest m h lt x =
     elim (bind_err (argument_of_width (sign_name sg) w b bs) (λ n. Ok (int sg n.0 w, n.1))
     (e, rest) x) [
@@ -97,9 +96,8 @@ by_err item budget rejects bound s r (starts_chunks k) b bs e rest m h lt x =
     (λ q. tested k (joined_chunks q.0) (chunked k q.0) q.1) (e, rest) x) [
       | inl g ↦ inl
           (indefinite_trees_err (chunk_tree_at k budget) (ReadableChunk k budget)
-          (ChunkRejects k budget)
-          (suc (length bs)) (chunk_sound k budget) (chunk_errs k budget (suc (length bs)))
-          (suc (length bs)) bs e rest h (omega arith) (omega arith) g)
+          (ChunkRejects k budget) (suc (length bs)) (chunk_sound k budget) (chunk_errs k budget
+          (suc (length bs))) (suc (length bs)) bs e rest h (omega arith) (omega arith) g)
       | inr g ↦
           let all = indefinite_trees_sound (chunk_tree_at k budget) (ReadableChunk k budget)
           (chunk_sound k budget) (suc (length bs)) bs g.0 h g.1 in
@@ -117,13 +115,12 @@ by_err item budget rejects bound s r (starts_chunks k) b bs e rest m h lt x =
 by_err item budget rejects bound s r (bad_string k) b bs e rest m h lt x =
     is_err {A = Tree} _ _ _ _ x
 by_err item budget rejects bound s r (starts_array w) b bs e rest m h lt x =
-    stepped_err {A = Tree} array_name (step_in budget) (b ∷ bs)
-    (λ inner. argument_of_width array_name w b bs >>= λ n. trees_at (item inner) n.0 n.1
-    >>= λ q. Ok (array w q.0, q.1))
+    stepped_err {A = Tree} array_name (step_in budget) (b ∷ bs) (λ inner. argument_of_width
+    array_name w b bs >>= λ n. trees_at (item inner) n.0 n.1 >>= λ q. Ok (array w q.0, q.1))
     (λ inner. AtHead array_name 4 w b (RejectsInCount (Readable inner) (rejects inner)) bs) e rest
-    (λ inner is z. at_head {A = Tree} array_name 4 w b bs
-    (λ n. trees_at (item inner) n.0 n.1 >>= λ q. Ok (array w q.0, q.1))
-    (RejectsInCount (Readable inner) (rejects inner)) e rest h m (λ n more le y.
+    (λ inner is z. at_head {A = Tree} array_name 4 w b bs (λ n. trees_at (item inner) n.0 n.1
+    >>= λ q. Ok (array w q.0, q.1)) (RejectsInCount (Readable inner) (rejects inner)) e rest h m
+    (λ n more le y.
     elim (bind_err {B = Tree} (trees_at (item inner) n.0 n.1) (λ q. Ok (array w q.0, q.1))
     (e, rest) y) [
       | inl g ↦ trees_err (item inner) (Readable inner)
@@ -131,28 +128,25 @@ by_err item budget rejects bound s r (starts_array w) b bs e rest m h lt x =
       | inr g ↦ absurd (no_err _ _ g.2)
     ]) z) x
 by_err item budget rejects bound s r starts_indefinite_array b bs e rest m h lt x =
-    stepped_err {A = Tree} array_name (step_in budget) (b ∷ bs)
-    (λ inner. indefinite_trees_at (item inner) (suc (length bs)) bs >>= λ q. Ok
-    (array_indefinite q.0, q.1))
-    (λ inner. IndefiniteItems (Readable inner) (rejects inner) bs) e rest (λ inner is z.
+    stepped_err {A = Tree} array_name (step_in budget) (b ∷ bs) (λ inner. indefinite_trees_at
+    (item inner) (suc (length bs)) bs >>= λ q. Ok (array_indefinite q.0, q.1)) (λ inner.
+    IndefiniteItems (Readable inner) (rejects inner) bs) e rest (λ inner is z.
     elim (bind_err {B = Tree} (indefinite_trees_at (item inner) (suc (length bs)) bs)
     (λ q. Ok (array_indefinite q.0, q.1)) (e, rest) z) [
       | inl g ↦ indefinite_trees_err (item inner) (Readable inner) (rejects inner) bound (s inner)
-          (r inner)
-          (suc (length bs)) bs e rest h lt (omega arith) g
+          (r inner) (suc (length bs)) bs e rest h lt (omega arith) g
       | inr g ↦ absurd (no_err _ _ g.2)
     ]) x
 by_err item budget rejects bound s r bad_array b bs e rest m h lt x =
     stepped_err {A = Tree} array_name (step_in budget) (b ∷ bs) (λ inner. Err _)
     (λ inner. Is _ bs) e rest (λ inner is z. is_err {A = Tree} _ _ _ _ z) x
 by_err item budget rejects bound s r (starts_map w) b bs e rest m h lt x =
-    stepped_err {A = Tree} map_name (step_in budget) (b ∷ bs)
-    (λ inner. argument_of_width map_name w b bs >>= λ n. pairs_at (item inner) n.0 n.1
-    >>= λ q. Ok (map_of w q.0, q.1)) (λ inner. AtHead map_name 5 w b
-    (λ n. RejectsInCount (Readable inner) (rejects inner) (2 * n)) bs) e rest
-    (λ inner is z. at_head {A = Tree} map_name 5 w b bs
-    (λ n. pairs_at (item inner) n.0 n.1 >>= λ q. Ok (map_of w q.0, q.1))
-    (λ n. RejectsInCount (Readable inner) (rejects inner) (2 * n)) e rest h m (λ n more le y.
+    stepped_err {A = Tree} map_name (step_in budget) (b ∷ bs) (λ inner. argument_of_width map_name w
+    b bs >>= λ n. pairs_at (item inner) n.0 n.1 >>= λ q. Ok (map_of w q.0, q.1)) (λ inner. AtHead
+    map_name 5 w b (λ n. RejectsInCount (Readable inner) (rejects inner) (2 * n)) bs) e rest
+    (λ inner is z. at_head {A = Tree} map_name 5 w b bs (λ n. pairs_at (item inner) n.0 n.1 >>= λ q.
+    Ok (map_of w q.0, q.1)) (λ n. RejectsInCount (Readable inner) (rejects inner) (2 * n)) e rest h
+    m (λ n more le y.
     elim (bind_err {B = Tree} (pairs_at (item inner) n.0 n.1) (λ q. Ok (map_of w q.0, q.1))
     (e, rest) y) [
       | inl g ↦ pairs_err (item inner) (Readable inner)
@@ -160,15 +154,13 @@ by_err item budget rejects bound s r (starts_map w) b bs e rest m h lt x =
       | inr g ↦ absurd (no_err _ _ g.2)
     ]) z) x
 by_err item budget rejects bound s r starts_indefinite_map b bs e rest m h lt x =
-    stepped_err {A = Tree} map_name (step_in budget) (b ∷ bs)
-    (λ inner. indefinite_pairs_at (item inner) (suc (length bs)) bs >>= λ q. Ok
-    (map_indefinite q.0, q.1))
-    (λ inner. IndefinitePairs (Readable inner) (rejects inner) bs) e rest (λ inner is z.
+    stepped_err {A = Tree} map_name (step_in budget) (b ∷ bs) (λ inner. indefinite_pairs_at
+    (item inner) (suc (length bs)) bs >>= λ q. Ok (map_indefinite q.0, q.1)) (λ inner.
+    IndefinitePairs (Readable inner) (rejects inner) bs) e rest (λ inner is z.
     elim (bind_err {B = Tree} (indefinite_pairs_at (item inner) (suc (length bs)) bs)
     (λ q. Ok (map_indefinite q.0, q.1)) (e, rest) z) [
       | inl g ↦ indefinite_pairs_err (item inner) (Readable inner) (rejects inner) bound (s inner)
-          (r inner)
-          (suc (length bs)) bs e rest h lt (omega arith) g
+          (r inner) (suc (length bs)) bs e rest h lt (omega arith) g
       | inr g ↦ absurd (no_err _ _ g.2)
     ]) x
 by_err item budget rejects bound s r bad_map b bs e rest m h lt x =
@@ -192,9 +184,8 @@ by_err item budget rejects bound s r other_simple b bs e rest m h lt x = is_err 
 
 from_err : (item : Budget → Parser Tree) (budget : Budget) (rejects : Budget → Stopping) (bound : ℕ)
     → ((c : Budget) → IsSound (item c) (Readable c))
-    → ((c : Budget) → Complete (item c) (rejects c) bound)
-    → (bs : List ℕ) (e : InputError) (rest : List ℕ)
-    → IsBytes bs → length bs < suc bound → read_from item budget bs ≡ Err (e, rest)
+    → ((c : Budget) → Complete (item c) (rejects c) bound) → (bs : List ℕ) (e : InputError)
+    (rest : List ℕ) → IsBytes bs → length bs < suc bound → read_from item budget bs ≡ Err (e, rest)
     → ReadingRejectsFrom rejects budget bs e rest
 from_err item budget rejects bound s r [] e rest h lt x = is_err {A = Tree} _ _ _ _ x
 from_err item budget rejects bound s r (b ∷ bs) e rest h lt x =

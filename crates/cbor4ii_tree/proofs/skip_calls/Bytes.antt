@@ -4,17 +4,17 @@ use Rattle.std.proofs.Common.{Option, Some, None, Ok, Err, true, false, refl, sy
 use Rattle.std.proofs.Common.{arith, IfSome, append_assoc, length-append, take-append-drop, ltb}
 use Rattle.std.proofs.{Common.{ltb-true, ltb-false, Bool}, lemmas.List.length-take-le}
 use denote.Ref.{Bor}
+use Rattle.cbor4ii_rw.specs.{declared.error.DecodeError.TheVariants.Eof, declared.error.Len.Len}
 use Rattle.cbor4ii_rw.specs.{Reader.{Shows, Advances, IsPrefix}, View.{View, IfKnown}}
 use Rattle.cbor4ii_rw.specs.declared.error.DecodeError.{DecodeError}
-use Rattle.cbor4ii_rw.specs.{declared.error.DecodeError.TheVariants.Eof, declared.error.Len.Len}
 use Rattle.cbor4ii_rw.specs.declared.error.Len.TheVariants.{Small, Big}
-use Rattle.cbor4ii_items.specs.Head.{Width, in_first, one, two, four, eight, byte_count, IsBytes}
+use Rattle.cbor4ii_items.specs.{Laws.ReadingHeads.number_cut, Laws.Running.shows_kept}
+use Rattle.cbor4ii_items.specs.{Laws.Steps.moves_err, ReadHead.number_on, Reading.Runs, Head.Width}
+use Rattle.cbor4ii_items.specs.Head.{in_first, one, two, four, eight, byte_count, IsBytes}
 use Rattle.cbor4ii_items.specs.{Initial.{info_of, wide}, InputError.{InputError, input_error_of}}
 use Rattle.cbor4ii_items.specs.{InputError.{eof, len_of}, Laws.Contents.lends_prefix}
-use Rattle.cbor4ii_items.specs.{Laws.ReadingHeads.number_cut, Laws.Running.shows_kept}
-use Rattle.cbor4ii_items.specs.{Laws.Steps.moves_err, ReadHead.number_on, Reading.Runs}
-use Rattle.cbor4ii_tree.proofs.heads.Means.{WidthSays, InfoSays, info_says}
 use Rattle.cbor4ii_tree.proofs.{parts.Prefixes.IsBytes-append, skip_calls.Doing.does_ok}
+use Rattle.cbor4ii_tree.proofs.heads.Means.{WidthSays, InfoSays, info_says}
 use Rattle.cbor4ii_tree.proofs.skip_calls.Doing.{does_reject}
 use Rattle.cbor4ii_tree.specs.{Does.Does, HeadParts.{ArgumentAt, DropsBytes, DropsSome}}
 use Rattle.cbor4ii_tree.specs.{Rejections.{Missing, MissingAll}, Skipping.additional_of}
@@ -37,8 +37,7 @@ pub none_shown : {E : Type 0} {name : Bor (List ℕ)} (missing : ℕ) {l : Len} 
 none_shown {name = name} missing {l = l} {a = a} {b = b} some s prefix none small big =
     let is : l ≡ len_of missing = len_is missing l small big in
     does_reject (λ xs ys. (xs ≡ []) × (ys ≡ [])) (DropsSome missing) (Missing name.now missing)
-    (eof name.now l) refl refl refl
-    (λ xs ys e. let z : length xs ≡ 0 = ap length e.0 in
+    (eof name.now l) refl refl refl (λ xs ys e. let z : length xs ≡ 0 = ap length e.0 in
     let gap : missing - length xs ≡ missing = omega (arith, z) in
     (omega (arith, z), (ap (eof name.now) (is ∙ ap len_of (sym gap)), e.1)))
     (record {
@@ -48,10 +47,9 @@ none_shown {name = name} missing {l = l} {a = a} {b = b} some s prefix none smal
     })
 
 pub some_shown : {E : Type 0} {name : List ℕ} (missing : ℕ) {n : ℕ} {shown : List ℕ} {a m b : View}
-    → Shows shown a m → IfKnown a.known (IsPrefix missing shown) → 1 ≤ n → n ≤ missing →
-    n ≤ length shown
-    → IsBytes (take n shown) → Advances n m b
-    → Does {V = ℕ} {E = E} (DropsSome missing) (Missing name missing) a b (Ok n)
+    → Shows shown a m → IfKnown a.known (IsPrefix missing shown) → 1 ≤ n → n ≤ missing
+    → n ≤ length shown → IsBytes (take n shown) → Advances n m b → Does {V = ℕ} {E = E}
+    (DropsSome missing) (Missing name missing) a b (Ok n)
 some_shown {name = name} missing {n = n} {shown = shown} s prefix some most within bytes adv =
     let l = lends_prefix s prefix within bytes refl adv in
     does_ok (DropsSome missing) (Missing name missing) (record {

@@ -4,8 +4,8 @@ use Rattle.std.proofs.Common.{subst}
 use Rattle.cbor4ii_rw.specs.{View.View, declared.error.DecodeError.DecodeError}
 use Rattle.cbor4ii_items.specs.{Decoding.{Sound, Rejects}, Head.break, InputError.InputError}
 use Rattle.cbor4ii_items.specs.{Moves.Moves, Strings.{ReadsBreak, RejectsBreak}}
-use Rattle.cbor4ii_tree.specs.{Cost.Budget, Does.{Accepting, Does}, InputError.{eof, Small}}
 use Rattle.cbor4ii_tree.specs.{InputError.break_name, Rejections.Stopping, Skipping.SkipsOne}
+use Rattle.cbor4ii_tree.specs.{Cost.Budget, Does.{Accepting, Does}, InputError.{eof, Small}}
 use Rattle.cbor4ii_tree.specs.Skipping.{RejectsSkippingOne, SkipsUnder, RejectsSkippingUnder}
 use Rattle.cbor4ii_tree.specs.Skipping.{SkipsAfter, RejectsSkippingAfter, Leads}
 use Rattle.cbor4ii_tree.specs.declared.skip.After.{After}
@@ -16,20 +16,18 @@ use Rattle.cbor4ii_tree.proofs.skip_calls.Parts.{SkippedPairs, IsOther, after_br
 -- ---- after a head
 
 pub went_on : {E : Type 0} (trailing : After) {v : After} {r : Result (Unit {0}) (DecodeError E)}
-    {a m b : View} → v ≡ trailing → Does {E = E} (Leads a.budget)
-    (RejectsSkippingUnder a.budget) a m (Ok v) → Does
-    (λ xs _ ys. SkipsAfter trailing m.budget xs ys)
-    (RejectsSkippingAfter trailing m.budget) m b r
-    → Does (λ xs _ ys. SkipsUnder a.budget xs ys) (RejectsSkippingUnder a.budget) a b r
+    {a m b : View} → v ≡ trailing → Does {E = E} (Leads a.budget) (RejectsSkippingUnder a.budget) a
+    m (Ok v) → Does (λ xs _ ys. SkipsAfter trailing m.budget xs ys) (RejectsSkippingAfter trailing
+    m.budget) m b r → Does (λ xs _ ys. SkipsUnder a.budget xs ys) (RejectsSkippingUnder a.budget) a
+    b r
 went_on trailing {v = v} {a = a} {m = m} is h d =
     let same : m.budget ≡ a.budget = h.moves.by.budget in
     does_after (λ xs ys. Leads a.budget xs v ys) (λ xs _ ys. SkipsAfter trailing m.budget xs ys)
     (λ xs _ ys. SkipsUnder a.budget xs ys) (RejectsSkippingAfter trailing m.budget)
-    (RejectsSkippingUnder a.budget)
-    (λ xs ys zs w l s. (subst (λ z. Leads a.budget xs z ys) is l).skips zs
-    (subst (λ o. SkipsAfter trailing o ys zs) same s))
-    (λ xs ys e rest l s. (subst (λ z. Leads a.budget xs z ys) is l).rejects e rest
-    (subst (λ o. RejectsSkippingAfter trailing o ys e rest) same s)) (reached_by h) d
+    (RejectsSkippingUnder a.budget) (λ xs ys zs w l s. (subst (λ z. Leads a.budget xs z ys) is
+    l).skips zs (subst (λ o. SkipsAfter trailing o ys zs) same s)) (λ xs ys e rest l s. (subst (λ z.
+    Leads a.budget xs z ys) is l).rejects e rest (subst (λ o. RejectsSkippingAfter trailing o ys e
+    rest) same s)) (reached_by h) d
 
 -- ---- one more item
 
@@ -70,14 +68,12 @@ module _ (P : Budget → List ℕ → List ℕ → Type 0) {a m : View} (p : Rea
   pub other : {E : Type 0} {v : Bool} {b : View} → v ≡ false → Moves {E = E} m b (Ok v)
       → Sound ReadsBreak m b v → Reached (Before P a.budget) a b
   other is moves s =
-      reached_then (P a.budget) IsOther (Before P a.budget)
-      (λ xs ys zs h o. (
+      reached_then (P a.budget) IsOther (Before P a.budget) (λ xs ys zs h o. (
         subst (P a.budget xs) (sym o.0) h,
         subst (λ ws. ws ≢ []) (sym o.0) o.1,
         subst (λ ws. (bs : List ℕ) → ws ≡ break ∷ bs → ⊥) (sym o.0) o.2,
-      )) p
-      (reached_sound ReadsBreak IsOther
-      (λ xs n c _ r. other_byte xs n c (subst (λ z. ReadsBreak xs z n c) is r)) moves s)
+      )) p (reached_sound ReadsBreak IsOther (λ xs n c _ r. other_byte xs n c (subst (λ z.
+      ReadsBreak xs z n c) is r)) moves s)
 
   -- neither
   pub at_end : {U E : Type 0} (B : Accepting U) (T : Stopping) {e : DecodeError E} {b : View}

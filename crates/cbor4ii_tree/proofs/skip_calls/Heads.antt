@@ -2,9 +2,9 @@
 use Rattle.std.proofs.Common.{◌≡◌, ℕ, List, ◌∷◌, Ok, Err, Some, false, sym, subst}
 use Rattle.cbor4ii_rw.specs.{View.View, declared.error.DecodeError.DecodeError}
 use Rattle.cbor4ii_items.specs.InputError.{InputError, input_error_of, is_read, is_depth_overflow}
-use Rattle.cbor4ii_tree.specs.{Cost.Budget, Does.{Accepting, Does}, Rejections.Stopping}
+use Rattle.cbor4ii_tree.specs.{declared.skip.After.After, declared.skip.Start.Start, Cost.Budget}
+use Rattle.cbor4ii_tree.specs.{Does.{Accepting, Does}, Rejections.Stopping}
 use Rattle.cbor4ii_tree.specs.Skipping.{RejectsSkippingUnder, Leads, TakesFirst}
-use Rattle.cbor4ii_tree.specs.{declared.skip.After.After, declared.skip.Start.Start}
 use Rattle.cbor4ii_tree.proofs.skip_calls.Doing.{Reached, reached_by, reached_then, reached_as}
 use Rattle.cbor4ii_tree.proofs.skip_calls.Doing.{does_ok, does_err, does_reject}
 
@@ -33,9 +33,8 @@ module _ (inner : Budget) {b : ℕ} {a c : View} (first : Reached (First b) a c)
       → ((bs : List ℕ) → Leads inner (b ∷ bs) trailing bs)
       → Does {E = E} (Leads inner) (RejectsSkippingUnder inner) a c (Ok trailing)
   first_alone trailing f =
-      does_ok (Leads inner) (RejectsSkippingUnder inner)
-      (reached_as (First b) (λ xs ys. Leads inner xs trailing ys)
-      (λ xs ys e. subst (λ x. Leads inner x trailing ys) (sym e) (f ys)) first)
+      does_ok (Leads inner) (RejectsSkippingUnder inner) (reached_as (First b) (λ xs ys. Leads inner
+      xs trailing ys) (λ xs ys e. subst (λ x. Leads inner x trailing ys) (sym e) (f ys)) first)
 
   pub first_rejected : {E : Type 0} (z : InputError) {e : DecodeError E} → input_error_of e ≡ Some z
       → is_read e ≡ false → is_depth_overflow e ≡ false

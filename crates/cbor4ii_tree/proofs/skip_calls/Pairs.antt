@@ -4,8 +4,8 @@ use Rattle.std.proofs.Common.{arith, append_assoc, append-nil}
 use Rattle.cbor4ii_tree.specs.{Cost.Budget, Rejections.{Each, EachPair}, Skipping.SkipsItems}
 use Rattle.cbor4ii_tree.specs.{SkippingRejects.Skippable, Tree.{Tree, Trees, no_trees, tree, Pairs}}
 use Rattle.cbor4ii_tree.specs.Tree.{no_pairs, pair, count, bytes, bytes_all, bytes_pairs}
-use Rattle.cbor4ii_tree.proofs.parts.Joined.{join_pairs, each-join_pairs, bytes-join_pairs}
 use Rattle.cbor4ii_tree.proofs.{skip_calls.Calls.WithKey, skip_calls.Parts.SkippedPairs}
+use Rattle.cbor4ii_tree.proofs.parts.Joined.{join_pairs, each-join_pairs, bytes-join_pairs}
 
 even_pairs : (W : Tree → Type 0) (n : ℕ) (ts : Trees) → count ts ≡ 2 * n → Each W ts
     → (ps : Pairs) × EachPair W ps × (bytes_all ts ≡ bytes_pairs ps)

@@ -3,17 +3,17 @@ use Rattle.std.proofs.Common.{◌≡◌, ◌≢◌, ℕ, ◌<◌, ◌≤◌, Lis
 use Rattle.std.proofs.Common.{refl, sym, ap, ◌∙◌, subst, arith, take-append-drop}
 use Rattle.std.proofs.lemmas.List.{drop-append-le}
 use denote.Ref.{Bor}
-use Rattle.cbor4ii_rw.specs.{Reader.{Advances, KeepsAllButBudget}, View.View}
 use Rattle.cbor4ii_rw.specs.{declared.error.DecodeError.TheVariants.Eof, declared.error.Len.Len}
+use Rattle.cbor4ii_rw.specs.{Reader.{Advances, KeepsAllButBudget}, View.View}
 use Rattle.cbor4ii_rw.specs.declared.error.Len.TheVariants.{Small, Big}
 use Rattle.cbor4ii_items.specs.{Laws.Contents.lends_prefix, Laws.Running.{runs_end, runs_peek}}
 use Rattle.cbor4ii_items.specs.Reading.{Runs, peek_at}
-use Rattle.cbor4ii_tree.specs.Ahead.{Sees, TakesAhead, TakesHead, Passes, NeverRejects}
 use Rattle.cbor4ii_tree.specs.{Cost.Budget, Does.Does, HeadParts.DropsSome, Prefix.Offers}
-use Rattle.cbor4ii_tree.specs.{Prefix.{FirstByteIs, Ready}, Rejections.Missing}
 use Rattle.cbor4ii_tree.specs.{declared.ahead.Ahead.Ahead, declared.ahead.Ahead.TheVariants.Run}
+use Rattle.cbor4ii_tree.specs.{declared.ahead.Among.Among, declared.skip.After.After, Ahead.Sees}
+use Rattle.cbor4ii_tree.specs.Ahead.{TakesAhead, TakesHead, Passes, NeverRejects}
+use Rattle.cbor4ii_tree.specs.{Prefix.{FirstByteIs, Ready}, Rejections.Missing}
 use Rattle.cbor4ii_tree.specs.declared.ahead.Ahead.TheVariants.{Head, Break}
-use Rattle.cbor4ii_tree.specs.{declared.ahead.Among.Among, declared.skip.After.After}
 use Rattle.cbor4ii_tree.proofs.{skip_calls.Bytes.{none_shown, some_shown}, skip_calls.Doing.does_ok}
 use Rattle.cbor4ii_tree.proofs.skip_calls.Glancing.{first_break}
 

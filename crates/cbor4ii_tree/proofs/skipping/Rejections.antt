@@ -6,9 +6,9 @@ use Rattle.cbor4ii_items.specs.Initial.{starts_string, starts_chunks, bad_string
 use Rattle.cbor4ii_items.specs.Initial.{starts_indefinite_array, bad_array, starts_map}
 use Rattle.cbor4ii_items.specs.Initial.{starts_indefinite_map, bad_map, starts_tag, bad_tag}
 use Rattle.cbor4ii_items.specs.Initial.{starts_simple, starts_bits, other_simple, initial}
-use Rattle.cbor4ii_tree.specs.{Cost.{Budget, step_in}, InputError.{InputError, ignored_any}}
-use Rattle.cbor4ii_tree.specs.{InputError.tag_name, Laws.Binds.{err, then_err, stepped_rejects}}
-use Rattle.cbor4ii_tree.specs.{Laws.PartsAgain.Again, Laws.SkippingAgain.skip_again}
+use Rattle.cbor4ii_tree.specs.{Laws.PartsAgain.Again, Laws.SkippingAgain.skip_again, Cost.Budget}
+use Rattle.cbor4ii_tree.specs.{Cost.step_in, InputError.{InputError, ignored_any, tag_name}}
+use Rattle.cbor4ii_tree.specs.Laws.Binds.{err, then_err, stepped_rejects}
 use Rattle.cbor4ii_tree.specs.{Laws.SkippingAgain.skippable_starts, Parse.{Parser, ◌>>=◌}}
 use Rattle.cbor4ii_tree.specs.Parse.{prefix_at, trees_at, pairs_at, indefinite_trees_at}
 use Rattle.cbor4ii_tree.specs.{Parse.indefinite_pairs_at, Rejections.{Stopping, Missing}}
@@ -64,11 +64,10 @@ by_rejects item budget rejects bound a g starts_indefinite_array b bs e rest lt 
     (suc (length bs)) bs e rest (omega arith) lt s)
 by_rejects item budget rejects bound a g bad_array b bs e rest lt s = err _ _ _ _ s
 by_rejects item budget rejects bound a g (starts_map w) b bs e rest lt s =
-    head_rejects {A = Tree} ignored_any 5 w b bs
-    (λ n. pairs_at item n.0 n.1 >>= λ q. Ok (map_of w q.0, q.1))
-    (λ n. RejectsInCount (Skippable budget) rejects (2 * n)) e rest (λ n after le st.
-    then_err {B = Tree} (pairs_at item n after) _ (e, rest)
-    (pairs_stop item (Skippable budget) rejects bound a g n after e rest (omega arith) st)) s
+    head_rejects {A = Tree} ignored_any 5 w b bs (λ n. pairs_at item n.0 n.1 >>= λ q. Ok
+    (map_of w q.0, q.1)) (λ n. RejectsInCount (Skippable budget) rejects (2 * n)) e rest
+    (λ n after le st. then_err {B = Tree} (pairs_at item n after) _ (e, rest) (pairs_stop item
+    (Skippable budget) rejects bound a g n after e rest (omega arith) st)) s
 by_rejects item budget rejects bound a g starts_indefinite_map b bs e rest lt s =
     then_err (indefinite_pairs_at item (suc (length bs)) bs) _ (e, rest)
     (indefinite_pairs_stop item (Skippable budget) rejects bound a (skippable_starts budget) g

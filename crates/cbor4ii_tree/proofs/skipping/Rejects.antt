@@ -18,9 +18,9 @@ use Rattle.cbor4ii_tree.specs.SkippingRejects.{Skippable, SkippingRejectsBy, Ski
 use Rattle.cbor4ii_tree.specs.{SkippingRejects.SkippingRejectsWithin, Tree.{Tree, int, string}}
 use Rattle.cbor4ii_tree.specs.Tree.{chunked, array, array_indefinite, map_of, map_indefinite}
 use Rattle.cbor4ii_tree.specs.Tree.{tagged, bits}
+use Rattle.cbor4ii_tree.proofs.{parts.Reject.indefinite_pairs_err, parts.Sound.IsSound}
 use Rattle.cbor4ii_tree.proofs.{heads.Means.{Means, means}, parts.Reject.{Complete, prefix_err}}
 use Rattle.cbor4ii_tree.proofs.parts.Reject.{at_head, trees_err, pairs_err, indefinite_trees_err}
-use Rattle.cbor4ii_tree.proofs.{parts.Reject.indefinite_pairs_err, parts.Sound.IsSound}
 use Rattle.cbor4ii_tree.proofs.skipping.Sound.{skip_sound}
 
 whole_number_err : (name : List ℕ) (k : ℕ) (bs : List ℕ) (e : InputError) (rest : List ℕ)
@@ -59,27 +59,25 @@ by_err item budget rejects bound s r (starts_chunks k) b bs e rest m h lt x =
     elim (bind_err (indefinite_trees_at item (suc (length bs)) bs) (λ q. Ok (chunked k q.0, q.1))
     (e, rest) x) [
       | inl g ↦ indefinite_trees_err item (Skippable budget) rejects bound s r (suc (length bs)) bs
-          e rest h
-          lt (omega arith) g
+          e rest h lt (omega arith) g
       | inr g ↦ absurd (no_err _ _ g.2)
     ]
 by_err item budget rejects bound s r (bad_string k) b bs e rest m h lt x = is_err _ _ _ _ x
 by_err item budget rejects bound s r (starts_array w) b bs e rest m h lt x =
-    at_head {A = Tree} ignored_any 4 w b bs
-    (λ n. trees_at item n.0 n.1 >>= λ q. Ok (array w q.0, q.1))
-    (RejectsInCount (Skippable budget) rejects) e rest h m (λ n more le y.
+    at_head {A = Tree} ignored_any 4 w b bs (λ n. trees_at item n.0 n.1 >>= λ q. Ok
+    (array w q.0, q.1)) (RejectsInCount (Skippable budget) rejects) e rest h m (λ n more le y.
     elim (bind_err {B = Tree} (trees_at item n.0 n.1) (λ q. Ok (array w q.0, q.1)) (e, rest) y) [
       | inl g ↦
           trees_err item (Skippable budget) rejects bound s r n.0 n.1 e rest more (omega arith) g
       | inr g ↦ absurd (no_err _ _ g.2)
     ]) x
 by_err item budget rejects bound s r starts_indefinite_array b bs e rest m h lt x =
-    elim (bind_err (indefinite_trees_at item (suc (length bs)) bs)
-    (λ q. Ok (array_indefinite q.0, q.1))
-    (e, rest) x) [
+    elim (bind_err (indefinite_trees_at item (suc (length bs)) bs) (λ q. Ok (
+      array_indefinite q.0,
+      q.1,
+    )) (e, rest) x) [
       | inl g ↦ indefinite_trees_err item (Skippable budget) rejects bound s r (suc (length bs)) bs
-          e rest h
-          lt (omega arith) g
+          e rest h lt (omega arith) g
       | inr g ↦ absurd (no_err _ _ g.2)
     ]
 by_err item budget rejects bound s r bad_array b bs e rest m h lt x = is_err _ _ _ _ x
@@ -93,12 +91,10 @@ by_err item budget rejects bound s r (starts_map w) b bs e rest m h lt x =
       | inr g ↦ absurd (no_err _ _ g.2)
     ]) x
 by_err item budget rejects bound s r starts_indefinite_map b bs e rest m h lt x =
-    elim (bind_err (indefinite_pairs_at item (suc (length bs)) bs)
-    (λ q. Ok (map_indefinite q.0, q.1))
-    (e, rest) x) [
+    elim (bind_err (indefinite_pairs_at item (suc (length bs)) bs) (λ q. Ok
+    (map_indefinite q.0, q.1)) (e, rest) x) [
       | inl g ↦ indefinite_pairs_err item (Skippable budget) rejects bound s r (suc (length bs)) bs
-          e rest h
-          lt (omega arith) g
+          e rest h lt (omega arith) g
       | inr g ↦ absurd (no_err _ _ g.2)
     ]
 by_err item budget rejects bound s r bad_map b bs e rest m h lt x = is_err _ _ _ _ x

@@ -24,8 +24,7 @@ members_from : (ms : List (Value × Value)) (i : ℕ) (m : Value × Value) → i
     → m ≡ get_or ms i m
     → members_view (drop i ms) ≡ member (view m.0) (view m.1) (members_view (drop (i + 1) ms))
 members_from ms i m lt is =
-    ap members_view (drop_more ms i m lt)
-    ∙ ap (λ n. members_view (n ∷ drop (i + 1) ms)) (sym is)
+    ap members_view (drop_more ms i m lt) ∙ ap (λ n. members_view (n ∷ drop (i + 1) ms)) (sym is)
 
 pub find_text-here : (key : List ℕ) (ms : List (Value × Value)) (i : ℕ) (m : Value × Value)
     → i < length ms → m ≡ get_or ms i m → view m.0 ≡ text key

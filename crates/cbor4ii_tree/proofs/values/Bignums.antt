@@ -42,27 +42,23 @@ members-push (x ∷ ms) (y ∷ ns) m n h e f =
 
 -- one value more: y stands at the place of x
 pub items_tagged : (xs zs : List Value) (i : ℕ) (x y : Value) → i < length xs → i < length zs
-    → get_or xs i x ≡ get_or zs i x
-    → items_view (take i xs) ≡ with_bignums_all (items_view (take i zs))
-    → view y ≡ with_bignums (view (get_or xs i x))
-    → items_view (take (i + 1) (set xs i y)) ≡ with_bignums_all (items_view (take (i + 1) zs))
+    → get_or xs i x ≡ get_or zs i x → items_view (take i xs) ≡ with_bignums_all
+    (items_view (take i zs)) → view y ≡ with_bignums (view (get_or xs i x)) → items_view (take
+    (i + 1) (set xs i y)) ≡ with_bignums_all (items_view (take (i + 1) zs))
 items_tagged xs zs i x y in_xs in_zs same h e =
-    rw (take_more_set xs i y in_xs, take_more zs i x in_zs)
-    (items-push (take i xs) (take i zs) y (get_or zs i x) h
-    (e ∙ ap (λ v. with_bignums (view v)) same))
+    rw (take_more_set xs i y in_xs, take_more zs i x in_zs) (items-push (take i xs) (take i zs) y
+    (get_or zs i x) h (e ∙ ap (λ v. with_bignums (view v)) same))
 
 pub members_tagged : (xs zs : List (Value × Value)) (i : ℕ) (x y : Value × Value) → i < length xs
-    → i < length zs → get_or xs i x ≡ get_or zs i x
-    → members_view (take i xs) ≡ with_bignums_members (members_view (take i zs))
+    → i < length zs → get_or xs i x ≡ get_or zs i x → members_view (take i xs)
+    ≡ with_bignums_members (members_view (take i zs))
     → view y.0 ≡ with_bignums (view (get_or xs i x).0)
-    → view y.1 ≡ with_bignums (view (get_or xs i x).1)
-    → members_view (take (i + 1) (set xs i y)) ≡ with_bignums_members
-    (members_view (take (i + 1) zs))
+    → view y.1 ≡ with_bignums (view (get_or xs i x).1) → members_view (take (i + 1) (set xs i y))
+    ≡ with_bignums_members (members_view (take (i + 1) zs))
 members_tagged xs zs i x y in_xs in_zs same h e f =
-    rw (take_more_set xs i y in_xs, take_more zs i x in_zs)
-    (members-push (take i xs) (take i zs) y (get_or zs i x) h
-    (e ∙ ap (λ (m : Value × Value). with_bignums (view m.0)) same)
-    (f ∙ ap (λ (m : Value × Value). with_bignums (view m.1)) same))
+    rw (take_more_set xs i y in_xs, take_more zs i x in_zs) (members-push (take i xs) (take i zs) y
+    (get_or zs i x) h (e ∙ ap (λ (m : Value × Value). with_bignums (view m.0)) same) (f ∙ ap
+    (λ (m : Value × Value). with_bignums (view m.1)) same))
 
 -- ---- each part is smaller than the whole
 
@@ -81,14 +77,12 @@ sizes-at (m ∷ ms) (suc i) d lt = omega (arith, sizes-at ms i d (omega arith))
 
 -- ---- tags stay
 
-tagged_integer-again : (s : Sign) (n : ℕ)
-    → with_bignums (tagged_integer s n (integer (number s n)))
+tagged_integer-again : (s : Sign) (n : ℕ) → with_bignums (tagged_integer s n (integer (number s n)))
     ≡ tagged_integer s n (integer (number s n))
 tagged_integer-again s n =
-    if_cases (λ v. with_bignums v ≡ v) (ltb n (2 ^ 64)) (integer (number s n))
-    (tag (sign_tag s) (bytes_item (magnitude n)))
-    (λ e. with_bignums-value (int s n (shortest n)) (shortest_fits n (ltb-true n (2 ^ 64) e)))
-    (λ e. refl)
+    if_cases (λ v. with_bignums v ≡ v) (ltb n (2 ^ 64)) (integer (number s n)) (tag (sign_tag s)
+    (bytes_item (magnitude n))) (λ e. with_bignums-value (int s n (shortest n)) (shortest_fits n
+    (ltb-true n (2 ^ 64) e))) (λ e. refl)
 
 mutual
   pub with_bignums-again : (v : Item) → with_bignums (with_bignums v) ≡ with_bignums v

@@ -4,14 +4,14 @@ use Rattle.std.proofs.Common.{take, drop, take-append-drop, length-drop, true, S
 use Rattle.std.proofs.Common.{Result, Ok, refl, sym, ap, ◌∙◌, subst, arith}
 use Rattle.cbor4ii_rw.specs.Reader.{Advances, IsPrefix, KeepsAllButBudget, Shows, StepsIn, counts}
 use Rattle.cbor4ii_rw.specs.{View.{View, IfKnown}, declared.error.DecodeError.DecodeError}
-use Rattle.cbor4ii_items.specs.{Head.{IsBytes, head}}
+use Rattle.cbor4ii_items.specs.{Head.{IsBytes, head}, Laws.Heads.argument_below}
 use Rattle.cbor4ii_items.specs.Laws.Running.{kept_alike, peeked, shows_kept}
 use Rattle.cbor4ii_items.specs.{Laws.Steps.counts_more, Moves.Kept, Reading.{Runs, peek_at}}
-use Rattle.cbor4ii_tree.specs.{Cost.Budget, Deeper.budgeted}
-use Rattle.cbor4ii_tree.specs.{Does.{Accepting, Does}, InputError.value_name, Leaf.HeadStands}
-use Rattle.cbor4ii_tree.specs.{Leaf.{SeesLeaf, SeesNext, ShowsHead, ShowsNext}, Prefix.Offers}
+use Rattle.cbor4ii_tree.specs.{CanonicalRejects.ShortestAt, Cost.Budget, Deeper.budgeted}
 use Rattle.cbor4ii_tree.specs.{Rejections.Stopping, Valuing.HeadAt, declared.leaf.Head.Head}
 use Rattle.cbor4ii_tree.specs.{declared.leaf.Leaf.Leaf, declared.leaf.Leaf.TheVariants.Begins}
+use Rattle.cbor4ii_tree.specs.{Does.{Accepting, Does}, InputError.value_name, Leaf.HeadStands}
+use Rattle.cbor4ii_tree.specs.{Leaf.{SeesLeaf, SeesNext, ShowsHead, ShowsNext}, Prefix.Offers}
 use Rattle.cbor4ii_tree.specs.declared.leaf.Next.{Next}
 use Rattle.cbor4ii_tree.proofs.skip_calls.Doing.{Reached, does_after, reached_as, reached_peek}
 use Rattle.cbor4ii_tree.proofs.values.Leaves.{shows_first, some_as}
@@ -86,9 +86,8 @@ module _ (exact : Bool) {major n size : ℕ} {a m : View}
         let e : ys ≡ drop size xs = let t = adv.known xs b.0 in cc in
         let same : 0 + size ≡ k =
         omega (arith, gone, ap length e, length-drop size xs, b.1) in
-        adv.taken
-        ∙ ap (counts size) (s.kept.counted xs known xs b.0 0 (omega arith))
-        ∙ counts_more 0 size k a.taken same;
+        adv.taken ∙ ap (counts size) (s.kept.counted xs known xs b.0 0 (omega arith)) ∙ counts_more
+        0 size k a.taken same;
     bound = omega (arith, s.kept.bound, adv.bound);
     budget = adv.budget ∙ s.kept.budget;
     failures = adv.failures ∙ s.kept.failures;
@@ -158,12 +157,11 @@ module _ (first : ℕ) {E : Type 0} {a m : View}
       → Does (A a.budget) (S a.budget) a b r
   after_peeked A S d =
       does_after (λ xs ys. xs ≡ ys) (A m.budget) (A a.budget) (S m.budget) (S a.budget)
-      (λ xs ys zs v e h. subst (λ x. A a.budget x v zs) (sym e)
-      (subst (λ o. A o ys v zs) s.moves.by.budget h))
-      (λ xs ys z rest e h. subst (λ x. S a.budget x z rest) (sym e)
-      (subst (λ o. S o ys z rest) s.moves.by.budget h))
-      (reached_as (λ xs ys. (rest : List ℕ) × (xs ≡ first ∷ rest) × (ys ≡ xs)) (λ xs ys. xs ≡ ys)
-      (λ xs ys p. sym p.2) (reached_peek value_name 1 first s)) d
+      (λ xs ys zs v e h. subst (λ x. A a.budget x v zs) (sym e) (subst (λ o. A o ys v zs)
+      s.moves.by.budget h)) (λ xs ys z rest e h. subst (λ x. S a.budget x z rest) (sym e) (subst
+      (λ o. S o ys z rest) s.moves.by.budget h)) (reached_as (λ xs ys. (rest : List ℕ)
+      × (xs ≡ first ∷ rest) × (ys ≡ xs)) (λ xs ys. xs ≡ ys) (λ xs ys p. sym p.2) (reached_peek
+      value_name 1 first s)) d
 
   pub peek_stepped : {b : View} → KeepsAllButBudget m b
       → Runs {V = ℕ} {E = E} (peek_at value_name 1) (budgeted b.budget a) b (Ok first)
@@ -211,7 +209,5 @@ pub takes_head : (exact : Bool) {E : Type 0} (n : Next) {a m c : View} (major : 
     → ShowsNext E (exact ≡ true) n a m → n.head ≡ Some h → n.first / 32 ≡ major
     → Advances h.size m c → Reached (HeadAt exact major h.argument) a c
 takes_head exact n {a = a} {m = m} {c = c} major h s is e adv =
-    subst (λ j. Reached (HeadAt exact j h.argument) a c) e
-    (reached_head exact
-    (subst (λ o. IfSome o (λ h. ShowsHead (exact ≡ true) (n.first / 32) h.argument h.size a m)) is
-    s.head) adv)
+    subst (λ j. Reached (HeadAt exact j h.argument) a c) e (reached_head exact (subst (λ o. IfSome o
+    (λ h. ShowsHead (exact ≡ true) (n.first / 32) h.argument h.size a m)) is s.head) adv)

@@ -68,10 +68,9 @@ module _ {E : Type 0} {a b : View} where
   value_complete (Ok v) d = tt
   value_complete (Err e) d = record {
     at = λ xs known. by_error (input_error_of e)
-        (λ z. (ys : List ℕ) × (b.known ≡ Some ys) × ReadingRejects xs a.budget z ys)
-        (λ z. NoneRead (λ xs (v : Value). ReadsValue xs (view v)) xs a.budget)
-        (λ z h v n c r fits. not_both xs a.budget (view v)
-        (drop n xs) z h.0 (reads_prefix a.budget xs (view v) n c r fits) h.2)
+        (λ z. (ys : List ℕ) × (b.known ≡ Some ys) × ReadingRejects xs a.budget z ys) (λ z. NoneRead
+        (λ xs (v : Value). ReadsValue xs (view v)) xs a.budget) (λ z h v n c r fits. not_both xs
+        a.budget (view v) (drop n xs) z h.0 (reads_prefix a.budget xs (view v) n c r fits) h.2)
         (d.err xs known);
   }
 

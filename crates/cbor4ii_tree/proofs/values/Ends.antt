@@ -28,10 +28,8 @@ pub none_shown : {V E : Type 0} (A : Accepting V) (T : Stopping) → Ending T �
     → Does {V = V} {E = E} A T a b (Err (Eof name (Small 1)))
 none_shown A T ends want is some shows prefix none =
     let z = eof value_name (Small 1) in
-    does_reject (λ xs ys. (xs ≡ []) × (ys ≡ [])) A T z
-    (ap (λ n. Some (eof n (Small 1))) is) refl refl
-    (λ xs ys h. subst (λ x. T x z ys) (sym h.0) (ends z ys (refl, h.1)))
-    (record {
+    does_reject (λ xs ys. (xs ≡ []) × (ys ≡ [])) A T z (ap (λ n. Some (eof n (Small 1))) is) refl
+    refl (λ xs ys h. subst (λ x. T x z ys) (sym h.0) (ends z ys (refl, h.1))) (record {
       kept = shows_kept shows;
       at = λ xs known.
           let e : xs ≡ [] = (prefix xs known).ends some none in

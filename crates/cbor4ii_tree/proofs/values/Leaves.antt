@@ -9,30 +9,30 @@ use denote.Ref.{Bor}
 use Rattle.cbor4ii_rw.specs.{Reader.{Advances, IsPrefix, Shows}, View.{View, IfKnown}}
 use Rattle.cbor4ii_rw.specs.declared.error.DecodeError.{DecodeError}
 use Rattle.cbor4ii_rw.specs.declared.error.DecodeError.TheVariants.{OutOfMemory, Eof}
+use Rattle.cbor4ii_items.specs.{Laws.Answering.fits_zero, Laws.Contents.lends_prefix}
+use Rattle.cbor4ii_items.specs.{Laws.Heads.length-bytes_high_first, Laws.Running.runs_peek}
 use Rattle.cbor4ii_items.specs.{Budget.CostFits, Head.{Width, byte_count, additional, HeadFits}}
 use Rattle.cbor4ii_items.specs.Head.{ArgumentAfter, IsBytes, shortest, in_first, one, two, four}
 use Rattle.cbor4ii_items.specs.{Head.{eight, head}, Initial.{Sign, sign_major, Precision}}
 use Rattle.cbor4ii_items.specs.Initial.{precision_byte, precision_bytes, half, single, double}
 use Rattle.cbor4ii_items.specs.Initial.{Simple, simple_false, simple_true, simple_null}
 use Rattle.cbor4ii_items.specs.Initial.{simple_undefined, unsigned, negative, Kind, kind_major}
-use Rattle.cbor4ii_items.specs.Initial.{simple_byte, byte_string, text_string}
-use Rattle.cbor4ii_items.specs.{Laws.Answering.fits_zero, Laws.Contents.lends_prefix}
-use Rattle.cbor4ii_items.specs.{Laws.Heads.length-bytes_high_first, Laws.Running.runs_peek}
-use Rattle.cbor4ii_items.specs.Reading.{Runs, peek_at}
+use Rattle.cbor4ii_items.specs.{Initial.{simple_byte, byte_string, text_string}, Reading.Runs}
+use Rattle.cbor4ii_items.specs.Reading.{peek_at}
+use Rattle.cbor4ii_tree.specs.{Valuing.RejectsUnder, View.view, declared.leaf.Leaf.Leaf}
+use Rattle.cbor4ii_tree.specs.{declared.leaf.Looked.Looked, declared.leaf.Next.Next}
+use Rattle.cbor4ii_tree.specs.{declared.value.FloatBits.FloatBits, declared.value.Value.Value}
 use Rattle.cbor4ii_tree.specs.{Does.Does, InputError.{value_name, Small}, Item.{integer, float}}
 use Rattle.cbor4ii_tree.specs.{Item.IsItem, Laws.Binds.step_up, Leaf.{CanTake, DoesAfterNext}}
 use Rattle.cbor4ii_tree.specs.Leaf.{ExactHead, StandsAhead, SeesLeaf, ShowsFirst, ShowsNext}
 use Rattle.cbor4ii_tree.specs.{Leaf.{TakesLeaf, WantsContent}, Meaning.{number, simple_item}}
 use Rattle.cbor4ii_tree.specs.{Meaning.content_item, Prefix.Offers, Tree.{int, bits, simple}}
-use Rattle.cbor4ii_tree.specs.{Tree.{string, TextIsUtf8}, Valuing.{SimpleOf, ReadsUnder}}
-use Rattle.cbor4ii_tree.specs.{Valuing.RejectsUnder, View.view, declared.leaf.Leaf.Leaf}
+use Rattle.cbor4ii_tree.specs.{Tree.{string, bytes, TextIsUtf8}, Valuing.{SimpleOf, ReadsUnder}}
 use Rattle.cbor4ii_tree.specs.declared.leaf.Leaf.TheVariants.{Whole, NoMemory, End}
-use Rattle.cbor4ii_tree.specs.{declared.leaf.Looked.Looked, declared.leaf.Next.Next}
-use Rattle.cbor4ii_tree.specs.{declared.value.FloatBits.FloatBits, declared.value.Value.Value}
 use Rattle.cbor4ii_tree.specs.declared.value.Value.{Integer, Float}
 use Rattle.cbor4ii_tree.proofs.{heads.Inverse.IsBytes-take, skip_calls.Doing.does_ok}
-use Rattle.cbor4ii_tree.proofs.{skip_calls.Doing.does_no_memory, values.Calls.{fits_less, whole}}
 use Rattle.cbor4ii_tree.proofs.{values.Calls.value_no_byte, values.Encoding.view-Integer}
+use Rattle.cbor4ii_tree.proofs.{skip_calls.Doing.does_no_memory, values.Calls.{fits_less, whole}}
 use Rattle.cbor4ii_tree.proofs.values.Ends.{none_shown}
 use Rattle.cbor4ii_tree.specs.declared.leaf.Looked.TheVariants as looked
 
@@ -95,10 +95,9 @@ module _ (b n k : ℕ) (bs : List ℕ) (small : b < 256) (fresh : IsBytes bs)
 
   argument : take k bs ≡ bytes_high_first (byte_count a.width) n
   argument =
-      ap (take k) a.is
-      ∙ ap (λ j. take j (bytes_high_first k n ++ drop k bs)) (sym (length-bytes_high_first k n))
-      ∙ take-append_seam (bytes_high_first k n) (drop k bs)
-      ∙ ap (λ j. bytes_high_first j n) a.size
+      ap (take k) a.is ∙ ap (λ j. take j (bytes_high_first k n ++ drop k bs)) (sym
+      (length-bytes_high_first k n)) ∙ take-append_seam (bytes_high_first k n) (drop k bs) ∙ ap
+      (λ j. bytes_high_first j n) a.size
 
   least : ExactHead b n k → b / 32 ≢ 7 → a.width ≡ shortest n
   least exact other = same_width a.width (shortest n) (sym a.size ∙ exact.least other)
@@ -142,9 +141,8 @@ module _ (b n k : ℕ) (bs : List ℕ) (small : b < 256) (fresh : IsBytes bs)
         means = means;
         ranged = subst IsItem means t.1;
         is =
-            ap (λ c. c ∷ take k bs) is
-            ∙ ap (λ r. precision_byte p ∷ r)
-            (argument ∙ ap (λ j. bytes_high_first j n) t.0);
+            ap (λ c. c ∷ take k bs) is ∙ ap (λ r. precision_byte p ∷ r) (argument ∙ ap (λ j.
+            bytes_high_first j n) t.0);
       })
 
   pub string_ahead : (kind : Kind) (v : Value) (size : ℕ) (content : List ℕ) → size ≡ suc (k + n)
@@ -167,13 +165,11 @@ module _ (b n k : ℕ) (bs : List ℕ) (small : b < 256) (fresh : IsBytes bs)
         means = means;
         ranged = ranged;
         is =
-            ap (λ r. b ∷ r) (take-add k n bs)
-            ∙ ap (λ c. c ∷ (take k bs ++ take n (drop k bs))) first
-            ∙ ap (λ r. (32 * kind_major kind + additional a.width n) ∷ (r ++ take n (drop k bs)))
-            argument
-            ∙ ap (λ r. (32 * kind_major kind + additional a.width n)
-            ∷ (bytes_high_first (byte_count a.width) n ++ r)) (sym is)
-            ∙ ap (λ j. head (kind_major kind) j a.width ++ content) (sym long);
+            ap (λ r. b ∷ r) (take-add k n bs) ∙ ap (λ c. c ∷ (take k bs ++ take n (drop k bs)))
+            first ∙ ap (λ r. (32 * kind_major kind + additional a.width n)
+            ∷ (r ++ take n (drop k bs))) argument ∙ ap (λ r. (32 * kind_major kind + additional
+            a.width n) ∷ (bytes_high_first (byte_count a.width) n ++ r)) (sym is) ∙ ap (λ j. head
+            (kind_major kind) j a.width ++ content) (sym long);
       })
 
 pub simple_ahead : (b n k : ℕ) (bs : List ℕ) (v : Value) → b < 256 → SimpleOf b (Some v)
@@ -211,8 +207,7 @@ pub shows_first : {E : Type 0} (first : ℕ) (trailing : List ℕ) {shown : List
     → ShowsFirst E first a m
 shows_first {E = E} first trailing {shown = shown} {a = a} {m = m} shows prefix is = record {
   runs =
-      subst (λ b. Runs {E = E} (peek_at value_name 1) a m (Ok b))
-      (ap (λ xs. get_or xs 0 0) is)
+      subst (λ b. Runs {E = E} (peek_at value_name 1) a m (Ok b)) (ap (λ xs. get_or xs 0 0) is)
       (runs_peek value_name 1 shows prefix (λ none. let e = ap length is in cc));
   can = omega (arith, shows.advanceable, ap length is);
 }

@@ -9,9 +9,9 @@ use Rattle.cbor4ii_tree.specs.{Item.member_count, Order.{Compares, head_of, afte
 use Rattle.cbor4ii_tree.specs.{Order.{elements_of, pairs_of}, Tree.{bytes_all, bytes_pairs}}
 use Rattle.cbor4ii_tree.specs.{View.{view, items_view, members_view}, declared.value.Value.Value}
 use Rattle.cbor4ii_tree.specs.declared.value.Value.{Array, Map}
+use Rattle.cbor4ii_tree.proofs.{values.Encoding.members-canonical_encoding, values.Views.view-Map}
 use Rattle.cbor4ii_tree.proofs.encodings.Order.{compares_then, same_major, after_array, after_map}
 use Rattle.cbor4ii_tree.proofs.values.Encoding.{items-canonical_encoding, view-Array}
-use Rattle.cbor4ii_tree.proofs.{values.Encoding.members-canonical_encoding, values.Views.view-Map}
 use Rattle.cbor4ii_tree.proofs.values.Views.{item_count-items_view, member_count-members_view}
 
 -- two lists of as many values, whose bytes follow the heads

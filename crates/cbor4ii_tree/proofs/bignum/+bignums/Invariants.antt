@@ -10,9 +10,8 @@ invariant-tag_items-loop-i l =
 
 abbrev pub invariant-tag_members-loop-i : goal.invariant-tag_members-loop-i
 invariant-tag_members-loop-i l =
-    goal.unvisited-tag_members-loop-i l
-    × (members_view (take l.i l.members)
-    ≡ with_bignums_members (members_view (take l.i l.initial.members)))
+    goal.unvisited-tag_members-loop-i l × (members_view (take l.i l.members) ≡ with_bignums_members
+    (members_view (take l.i l.initial.members)))
 
 -- the size of what is walked, with the caller above its helpers
 abbrev pub decreases-tag_bignums : goal.decreases-tag_bignums

@@ -86,8 +86,7 @@ abbrev pub invariant-indefinite_items-loop-items : goal.invariant-indefinite_ite
 invariant-indefinite_items-loop-items g l =
     record {
       reached : Reached (ReadEach g.A.Encodings.exact l.items.items (g.S.Source.view
-          l.fn.reader).budget)
-          (g.S.Source.view l.fn.reader) (g.S.Source.view l.reader);
+          l.fn.reader).budget) (g.S.Source.view l.fn.reader) (g.S.Source.view l.reader);
       items : AreItems (items_view l.items.items);
     }
 
@@ -99,8 +98,7 @@ abbrev pub invariant-indefinite_members-loop-members :
 invariant-indefinite_members-loop-members g l =
     record {
       reached : Reached (ReadPairs g.A.Encodings.exact l.members.items (g.S.Source.view
-          l.fn.reader).budget)
-          (g.S.Source.view l.fn.reader) (g.S.Source.view l.reader);
+          l.fn.reader).budget) (g.S.Source.view l.fn.reader) (g.S.Source.view l.reader);
       items : AreMembers (members_view l.members.items);
     }
 

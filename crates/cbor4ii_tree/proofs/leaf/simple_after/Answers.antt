@@ -26,6 +26,5 @@ returns-in-251 c =
 
 pub returns-in-Some : goal.returns-in-Some
 returns-in-Some c =
-    simple_ahead c.args.first c.args.number c.args.size c.args.trailing.now
-    c.in-Some.value (omega arith)
-    (subst (SimpleOf c.args.first) c.in-Some.is c.simple_of.ensures)
+    simple_ahead c.args.first c.args.number c.args.size c.args.trailing.now c.in-Some.value
+    (omega arith) (subst (SimpleOf c.args.first) c.in-Some.is c.simple_of.ensures)

@@ -6,6 +6,5 @@ use Rattle.cbor4ii_tree.proofs.order.cmp_with_string.Goals as goal
 pub returns-in_default : goal.returns-in_default
 returns-in_default c =
     other_heads (view c.args.value.now) (bytes_item c.args.content.now) c.cmp.result
-    c.head_of.ensures.short c.well_formed.1.0.0
-    (c.cmp.ensures ∙ ap₂ heads_cmp c.head_of.ensures.parts c.shortest_parts.ensures)
-    c.in_default.not-Equal
+    c.head_of.ensures.short c.well_formed.1.0.0 (c.cmp.ensures ∙ ap₂ heads_cmp
+    c.head_of.ensures.parts c.shortest_parts.ensures) c.in_default.not-Equal

@@ -13,11 +13,10 @@ loop-alloc-init g c = record {
 
 pub returns-then-is_none : goal.returns-then-is_none
 returns-then-is_none g c =
-    rejected_growth (g.A.Encodings.exact ≡ true) (g.P.Parts.flat c.args.parts.now)
-    (g.P.Parts.flat c.loop-alloc.parts) c.in-Whole.value c.loop-alloc.size c.in-Whole.bytes
-    c.args.shown.now c.loop-alloc.invariant.puts
-    (subst (StandsAhead (g.A.Encodings.exact ≡ true) c.in-Whole.value c.in-Whole.bytes)
-    (take_rest c.args.shown.now c.loop-alloc.size) c.in-Whole.ensures)
+    rejected_growth (g.A.Encodings.exact ≡ true) (g.P.Parts.flat c.args.parts.now) (g.P.Parts.flat
+    c.loop-alloc.parts) c.in-Whole.value c.loop-alloc.size c.in-Whole.bytes c.args.shown.now
+    c.loop-alloc.invariant.puts (subst (StandsAhead (g.A.Encodings.exact ≡ true) c.in-Whole.value
+    c.in-Whole.bytes) (take_rest c.args.shown.now c.loop-alloc.size) c.in-Whole.ensures)
 
 pub loop-alloc-preserved : goal.loop-alloc-preserved
 loop-alloc-preserved g c =

@@ -41,8 +41,7 @@ same_items-loop-i-preserved t c =
       take_more c.args.b.now c.loop-i.i y (omega arith),
       ← c.index-a-i.is,
       ← c.index-b-i.is,
-    )
-    (items_view-push _ _ x y c.loop-i.invariant (c.if-not-same_value.ensures.0 refl))
+    ) (items_view-push _ _ x y c.loop-i.invariant (c.if-not-same_value.ensures.0 refl))
 
 pub same_members-returns-then-not-same_value : goal.same_members-returns-then-not-same_value
 same_members-returns-then-not-same_value t c = (

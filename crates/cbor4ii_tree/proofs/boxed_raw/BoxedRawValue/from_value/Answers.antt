@@ -12,6 +12,5 @@ returns-clause-content c =
 
 pub returns-clause-encodes : goal.returns-clause-encodes
 returns-clause-encodes c =
-    subst (λ bs. Encodes bs (with_bignums (view c.args.value.now))
-    (canonical_cost (view c.args.value.now)))
-    (sym (returns-clause-content c)) c.in_ok-encode.ensures.encodes
+    subst (λ bs. Encodes bs (with_bignums (view c.args.value.now)) (canonical_cost
+    (view c.args.value.now))) (sym (returns-clause-content c)) c.in_ok-encode.ensures.encodes

@@ -1,5 +1,5 @@
-use Rattle.std.proofs.Common.{true, ◌/◌, ◌≡◌, arith, sym, subst, drop}
 use Rattle.std.proofs.{lemmas.Result.err_from_is_err_and, lemmas.Str.IsUtf8-string_bytes}
+use Rattle.std.proofs.Common.{true, ◌/◌, ◌≡◌, arith, sym, subst, drop}
 use Rattle.cbor4ii_items.specs.{Initial.{unsigned, negative, byte_string}, Shortest.ReadsShortest}
 use Rattle.cbor4ii_items.specs.Shortest.{ReadsShortestString, RejectsShortest}
 use Rattle.cbor4ii_items.specs.Shortest.{RejectsShortestString}
@@ -36,8 +36,7 @@ pub returns-in_err-canonical_buf-in-2-clause-does :
 returns-in_err-canonical_buf-in-2-clause-does g c =
     let p = err_from_is_err_and c.from_residual-in_err-canonical_buf-in-2.result
     c.from_residual-in_err-canonical_buf-in-2.ensures.1 in
-    rw (p.1, p.2)
-    (leaf_rejected true c.args.first (RejectsShortestString (kind_name byte_string) 2)
+    rw (p.1, p.2) (leaf_rejected true c.args.first (RejectsShortestString (kind_name byte_string) 2)
     (λ bs z rest h. at_major 2 (g.S.Source.view c.args.reader.now).budget c.args.first bs z rest
     c.in-2.is h) c.in_err-canonical_buf-in-2.ensures.moves
     c.in_err-canonical_buf-in-2.ensures.begins)
@@ -49,12 +48,10 @@ returns-in_err-read_text-in_default-clause-does g c =
     c.from_residual-in_err-read_text-in_default.ensures.1 in
     let budget = (g.S.Source.view c.args.reader.now).budget in
     let major : c.args.first / 32 ≡ 3 = omega (arith, c.requires.major, c.in_default) in
-    rw (p.1, p.2) (still_rejected (TextAt budget) (ReadsUnder true budget)
-    (CanonicalTextRejects budget) (RejectsFirst true c.args.first budget)
-    (λ xs z rest h bs is. subst (λ x. RejectsUnder true budget x z rest) (sym is)
-    (at_major 3 budget c.args.first bs z rest major
-    (subst (λ x. CanonicalTextRejects budget x z rest) is h)))
-    c.in_err-read_text-in_default.ensures.does)
+    rw (p.1, p.2) (still_rejected (TextAt budget) (ReadsUnder true budget) (CanonicalTextRejects
+    budget) (RejectsFirst true c.args.first budget) (λ xs z rest h bs is. subst (λ x. RejectsUnder
+    true budget x z rest) (sym is) (at_major 3 budget c.args.first bs z rest major (subst (λ x.
+    CanonicalTextRejects budget x z rest) is h))) c.in_err-read_text-in_default.ensures.does)
 
 pub returns-in_ok-canonical_head-in-0-clause-does :
     goal.returns-in_ok-canonical_head-in-0-clause-does
@@ -74,9 +71,8 @@ returns-in_ok-number-in-1-clause-does g c =
 pub returns-in_ok-canonical_buf-in-2-clause-does : goal.returns-in_ok-canonical_buf-in-2-clause-does
 returns-in_ok-canonical_buf-in-2-clause-does g c =
     let v = c.in_ok-canonical_buf-in-2.field-0 in
-    leaf_read true (ReadsShortestString 2) (Bytes v)
-    (λ xs n k _ r. bytes_exact (g.S.Source.view c.args.reader.now).budget v xs (drop n xs)
-    (string_of 2 v.items xs n k r))
+    leaf_read true (ReadsShortestString 2) (Bytes v) (λ xs n k _ r. bytes_exact (g.S.Source.view
+    c.args.reader.now).budget v xs (drop n xs) (string_of 2 v.items xs n k r))
     c.in_ok-canonical_buf-in-2.ensures.moves c.in_ok-canonical_buf-in-2.ensures.sound
 
 pub returns-in_ok-read_text-in_default-clause-does :
@@ -93,56 +89,3 @@ pub returns-in_ok-read_text-in_default-clause-item :
     goal.returns-in_ok-read_text-in_default-clause-item
 returns-in_ok-read_text-in_default-clause-item g c =
     text_encoding c.in_ok-read_text-in_default.field-0
-
-pub returns-in_err-canonical_head-in-0-clause-item :
-    goal.returns-in_err-canonical_head-in-0-clause-item
-returns-in_err-canonical_head-in-0-clause-item g c =
-    let p = err_from_is_err_and c.from_residual.result
-    c.from_residual.ensures.1 in
-    rw p.1 tt
-
-pub returns-in_err-number-in-1-clause-item :
-    goal.returns-in_err-number-in-1-clause-item
-returns-in_err-number-in-1-clause-item g c =
-    let p = err_from_is_err_and c.from_residual-in_err-number-in-1.result
-    c.from_residual-in_err-number-in-1.ensures.1 in
-    rw p.1 tt
-
-pub returns-in_err-canonical_buf-in-2-clause-item :
-    goal.returns-in_err-canonical_buf-in-2-clause-item
-returns-in_err-canonical_buf-in-2-clause-item g c =
-    let p = err_from_is_err_and c.from_residual-in_err-canonical_buf-in-2.result
-    c.from_residual-in_err-canonical_buf-in-2.ensures.1 in
-    rw p.1 tt
-
-pub returns-in_err-read_text-in_default-clause-item :
-    goal.returns-in_err-read_text-in_default-clause-item
-returns-in_err-read_text-in_default-clause-item g c =
-    let p = err_from_is_err_and c.from_residual-in_err-read_text-in_default.result
-    c.from_residual-in_err-read_text-in_default.ensures.1 in
-    rw p.1 tt
-
-pub returns-in_err-canonical_head-in-0-clause-progress :
-    goal.returns-in_err-canonical_head-in-0-clause-progress
-returns-in_err-canonical_head-in-0-clause-progress g c =
-    let p = err_from_is_err_and c.from_residual.result c.from_residual.ensures.1 in rw p.1 tt
-
-pub returns-in_err-number-in-1-clause-progress : goal.returns-in_err-number-in-1-clause-progress
-returns-in_err-number-in-1-clause-progress g c =
-    let p = err_from_is_err_and c.from_residual-in_err-number-in-1.result
-    c.from_residual-in_err-number-in-1.ensures.1 in
-    rw p.1 tt
-
-pub returns-in_err-canonical_buf-in-2-clause-progress :
-    goal.returns-in_err-canonical_buf-in-2-clause-progress
-returns-in_err-canonical_buf-in-2-clause-progress g c =
-    let p = err_from_is_err_and c.from_residual-in_err-canonical_buf-in-2.result
-    c.from_residual-in_err-canonical_buf-in-2.ensures.1 in
-    rw p.1 tt
-
-pub returns-in_err-read_text-in_default-clause-progress :
-    goal.returns-in_err-read_text-in_default-clause-progress
-returns-in_err-read_text-in_default-clause-progress g c =
-    let p = err_from_is_err_and c.from_residual-in_err-read_text-in_default.result
-    c.from_residual-in_err-read_text-in_default.ensures.1 in
-    rw p.1 tt

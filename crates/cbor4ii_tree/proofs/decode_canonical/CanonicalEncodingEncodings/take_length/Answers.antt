@@ -10,40 +10,34 @@ use Rattle.cbor4ii_tree.proofs.decode_canonical.CanonicalEncodingEncodings.take_
 pub returns-in_ok-count-clause-does : goal.returns-in_ok-count-clause-does
 returns-in_ok-count-clause-does g c before shows =
     let m = g.S.Source.view c.args.reader.now in
-    after_peeked c.args.first shows.runs (TakesLength true c.args.major)
-    (RejectsMajor true c.args.major)
-    (does_ok (TakesLength true c.args.major m.budget) (RejectsMajor true c.args.major m.budget)
-    (reached_shortest c.args.major c.in_ok-count.count c.in_ok-count.ensures.moves
+    after_peeked c.args.first shows.runs (TakesLength true c.args.major) (RejectsMajor true
+    c.args.major) (does_ok (TakesLength true c.args.major m.budget) (RejectsMajor true c.args.major
+    m.budget) (reached_shortest c.args.major c.in_ok-count.count c.in_ok-count.ensures.moves
     c.in_ok-count.ensures.sound))
 
 pub returns-in_err-count-clause-does : goal.returns-in_err-count-clause-does
 returns-in_err-count-clause-does g c before shows =
     let m = g.S.Source.view c.args.reader.now in
     rw c.from_residual.ensures (after_peeked c.args.first shows.runs (TakesLength true c.args.major)
-    (RejectsMajor true c.args.major)
-    (call_rejects {U = ℕ} (TakesLength true c.args.major m.budget)
+    (RejectsMajor true c.args.major) (call_rejects {U = ℕ} (TakesLength true c.args.major m.budget)
     (RejectsShortest array_name c.args.major) (RejectsMajor true c.args.major m.budget)
     (λ xs z rest h. array_shortest_rejects c.args.major c.if-major-eq-ARRAY.true m.budget xs z rest
-    h)
-    c.in_err-count.ensures.moves c.in_err-count.ensures.begins))
+    h) c.in_err-count.ensures.moves c.in_err-count.ensures.begins))
 
 pub returns-in_ok-count-2-clause-does : goal.returns-in_ok-count-2-clause-does
 returns-in_ok-count-2-clause-does g c before shows =
     let m = g.S.Source.view c.args.reader.now in
-    after_peeked c.args.first shows.runs (TakesLength true c.args.major)
-    (RejectsMajor true c.args.major)
-    (does_ok (TakesLength true c.args.major m.budget) (RejectsMajor true c.args.major m.budget)
-    (reached_shortest c.args.major c.in_ok-count-2.count c.in_ok-count-2.ensures.moves
+    after_peeked c.args.first shows.runs (TakesLength true c.args.major) (RejectsMajor true
+    c.args.major) (does_ok (TakesLength true c.args.major m.budget) (RejectsMajor true c.args.major
+    m.budget) (reached_shortest c.args.major c.in_ok-count-2.count c.in_ok-count-2.ensures.moves
     c.in_ok-count-2.ensures.sound))
 
 pub returns-in_err-count-2-clause-does : goal.returns-in_err-count-2-clause-does
 returns-in_err-count-2-clause-does g c before shows =
     let m = g.S.Source.view c.args.reader.now in
     let five : c.args.major ≡ 5 = omega (arith, c.requires.nests, c.if-major-eq-ARRAY.false) in
-    rw c.from_residual-in_err-count-2.ensures
-    (after_peeked c.args.first shows.runs (TakesLength true c.args.major)
-    (RejectsMajor true c.args.major)
-    (call_rejects {U = ℕ} (TakesLength true c.args.major m.budget)
-    (RejectsShortest map_name c.args.major) (RejectsMajor true c.args.major m.budget)
-    (λ xs z rest h. map_shortest_rejects c.args.major five m.budget xs z rest h)
+    rw c.from_residual-in_err-count-2.ensures (after_peeked c.args.first shows.runs (TakesLength
+    true c.args.major) (RejectsMajor true c.args.major) (call_rejects {U = ℕ} (TakesLength true
+    c.args.major m.budget) (RejectsShortest map_name c.args.major) (RejectsMajor true c.args.major
+    m.budget) (λ xs z rest h. map_shortest_rejects c.args.major five m.budget xs z rest h)
     c.in_err-count-2.ensures.moves c.in_err-count-2.ensures.begins))

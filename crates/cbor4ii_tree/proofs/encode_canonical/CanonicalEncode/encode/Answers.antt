@@ -17,5 +17,4 @@ returns-clause-reads_back g c =
       encodes = written_canonically v is;
       fits = fits;
       begins = refl;
-    })
-    c.encode.ensures.item
+    }) c.encode.ensures.item
