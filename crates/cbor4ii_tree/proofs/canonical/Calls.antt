@@ -33,7 +33,7 @@ pub tag_shortest : {E : Type 0} {a c : View} (r : Option ℕ) (failure : Option 
     → IfErr (answered r failure) (Rejects (RejectsShortest tag_name 6) a c) → Does
     (TakesTag true a.budget) (RejectsOf true 6 a.budget) a c (answered r failure)
 tag_shortest {a = a} (Some n) failure moves s h =
-    does_ok (TakesTag true a.budget) (RejectsOf true 6 a.budget) (reached_shortest 6 n moves s)
+    does_ok _ _ (reached_shortest 6 n moves s)
 tag_shortest {a = a} None failure moves s h =
     call_rejects {U = ℕ} (TakesTag true a.budget) (RejectsShortest tag_name 6) (RejectsOf true 6
     a.budget) (λ xs z rest h b bs is m. subst (λ x. RejectsUnder true a.budget x z rest) (sym is)

@@ -44,11 +44,6 @@ bytes-push_pair no_pairs k v x = simp (append_assoc, append-nil)
 bytes-push_pair (pair j u ps) k v x =
     simp append_assoc (ap (λ r. bytes j ++ (bytes u ++ r)) (bytes-push_pair ps k v x))
 
-pub count-push_pair : (ps : Pairs) (k v : Tree) → pair_count (push_pair ps k v) ≡ pair_count ps + 1
-unfolding push_pair
-count-push_pair no_pairs k v = omega arith
-count-push_pair (pair j u ps) k v = omega (arith, count-push_pair ps k v)
-
 -- the keys and the values, in turn
 unfoldable pub flat : Pairs → Trees
 flat no_pairs = no_trees

@@ -36,11 +36,10 @@ pub none_shown : {E : Type 0} {name : Bor (List ℕ)} (missing : ℕ) {l : Len} 
     → Does {V = ℕ} {E = E} (DropsSome missing) (Missing name.now missing) a b (Err (Eof name l))
 none_shown {name = name} missing {l = l} {a = a} {b = b} some s prefix none small big =
     let is : l ≡ len_of missing = len_is missing l small big in
-    does_reject (λ xs ys. (xs ≡ []) × (ys ≡ [])) (DropsSome missing) (Missing name.now missing)
+    does_reject (λ xs ys. (xs ≡ []) × (ys ≡ [])) _ _
     (eof name.now l) refl refl refl (λ xs ys e. let z : length xs ≡ 0 = ap length e.0 in
     let gap : missing - length xs ≡ missing = omega (arith, z) in
-    (omega (arith, z), (ap (eof name.now) (is ∙ ap len_of (sym gap)), e.1)))
-    (record {
+    (omega (arith, z), (ap (eof name.now) (is ∙ ap len_of (sym gap)), e.1))) (record {
       kept = shows_kept s;
       at = λ xs known. let e =
           (prefix xs known).ends (omega (arith, some)) none in (xs, s.known xs known, (e, e));
@@ -52,7 +51,7 @@ pub some_shown : {E : Type 0} {name : List ℕ} (missing : ℕ) {n : ℕ} {shown
     (DropsSome missing) (Missing name missing) a b (Ok n)
 some_shown {name = name} missing {n = n} {shown = shown} s prefix some most within bytes adv =
     let l = lends_prefix s prefix within bytes refl adv in
-    does_ok (DropsSome missing) (Missing name missing) (record {
+    does_ok _ _ (record {
       kept = l.kept;
       at = λ xs known.
           let t = l.at xs known in (

@@ -22,12 +22,11 @@ pub went_on : {E : Type 0} (trailing : After) {v : After} {r : Result (Unit {0})
     b r
 went_on trailing {v = v} {a = a} {m = m} is h d =
     let same : m.budget ≡ a.budget = h.moves.by.budget in
-    does_after (λ xs ys. Leads a.budget xs v ys) (λ xs _ ys. SkipsAfter trailing m.budget xs ys)
-    (λ xs _ ys. SkipsUnder a.budget xs ys) (RejectsSkippingAfter trailing m.budget)
-    (RejectsSkippingUnder a.budget) (λ xs ys zs w l s. (subst (λ z. Leads a.budget xs z ys) is
-    l).skips zs (subst (λ o. SkipsAfter trailing o ys zs) same s)) (λ xs ys e rest l s. (subst (λ z.
-    Leads a.budget xs z ys) is l).rejects e rest (subst (λ o. RejectsSkippingAfter trailing o ys e
-    rest) same s)) (reached_by h) d
+    does_after (λ xs ys. Leads a.budget xs v ys) (λ xs _ ys. SkipsAfter trailing m.budget xs ys) _
+    (RejectsSkippingAfter trailing m.budget) _ (λ xs ys zs w l s. (subst (λ z. Leads a.budget xs z
+    ys) is l).skips zs (subst (λ o. SkipsAfter trailing o ys zs) same s)) (λ xs ys e rest l s.
+    (subst (λ z. Leads a.budget xs z ys) is l).rejects e rest (subst (λ o. RejectsSkippingAfter
+    trailing o ys e rest) same s)) (reached_by h) d
 
 -- ---- one more item
 
@@ -45,15 +44,13 @@ module _ (P : Budget → List ℕ → List ℕ → Type 0) {a m : View} (p : Rea
       f xs ys zs h (subst (λ o. SkipsOne o ys zs) p.kept.budget s)) p (reached_by d)
 
   -- it failed
-  pub ends : {U E : Type 0} (B : Accepting U) (T : Stopping) {e : DecodeError E} {b : View}
-      → ((xs ys : List ℕ) (z : InputError) (rest : List ℕ) → P a.budget xs ys
-      → RejectsSkippingOne a.budget ys z rest → T xs z rest)
-      → Does {V = Unit {0}} (λ xs _ ys. SkipsOne m.budget xs ys)
+  pub ends : {U E : Type 0} (B : Accepting U) (T : Stopping) {e : DecodeError E} {b : View} → ((xs
+      ys : List ℕ) (z : InputError) (rest : List ℕ) → P a.budget xs ys → RejectsSkippingOne a.budget
+      ys z rest → T xs z rest) → Does {V = Unit {0}} (λ xs _ ys. SkipsOne m.budget xs ys)
       (RejectsSkippingOne m.budget) m b (Err e) → Does {V = U} B T a b (Err e)
   ends B T f d =
-      does_err (P a.budget)
-      (λ xs _ ys. SkipsOne m.budget xs ys) B (RejectsSkippingOne m.budget) T (λ xs ys z rest h s.
-      f xs ys z rest h (subst (λ o. RejectsSkippingOne o ys z rest) p.kept.budget s)) p d
+      does_err (P a.budget) _ B (RejectsSkippingOne m.budget) T (λ xs ys z rest h s. f xs ys z rest
+      h (subst (λ o. RejectsSkippingOne o ys z rest) p.kept.budget s)) p d
 
   -- a break
   pub broke : {E : Type 0} (Q : List ℕ → List ℕ → Type 0) {v : Bool} {b : View}
@@ -68,7 +65,7 @@ module _ (P : Budget → List ℕ → List ℕ → Type 0) {a m : View} (p : Rea
   pub other : {E : Type 0} {v : Bool} {b : View} → v ≡ false → Moves {E = E} m b (Ok v)
       → Sound ReadsBreak m b v → Reached (Before P a.budget) a b
   other is moves s =
-      reached_then (P a.budget) IsOther (Before P a.budget) (λ xs ys zs h o. (
+      reached_then (P a.budget) IsOther _ (λ xs ys zs h o. (
         subst (P a.budget xs) (sym o.0) h,
         subst (λ ws. ws ≢ []) (sym o.0) o.1,
         subst (λ ws. (bs : List ℕ) → ws ≡ break ∷ bs → ⊥) (sym o.0) o.2,
@@ -80,9 +77,8 @@ module _ (P : Budget → List ℕ → List ℕ → Type 0) {a m : View} (p : Rea
       → ((xs ys : List ℕ) → P a.budget xs ys → ys ≡ [] → T xs (eof break_name (Small 1)) [])
       → Moves {V = Bool} m b (Err e) → Rejects RejectsBreak m b e → Does {V = U} B T a b (Err e)
   at_end B T f moves s =
-      does_err (P a.budget) (λ xs (_ : Bool) ys. Unit {0}) B (λ xs. RejectsBreak xs m.budget) T
-      (λ xs ys z rest h k. subst (λ y. T xs y rest) (sym k.1)
-      (subst (T xs (eof break_name (Small 1))) (sym k.2) (f xs ys h k.0))) p
+      does_err (P a.budget) _ B (λ xs. RejectsBreak xs m.budget) T (λ xs ys z rest h k. subst (λ y.
+      T xs y rest) (sym k.1) (subst (T xs (eof break_name (Small 1))) (sym k.2) (f xs ys h k.0))) p
       (does_rejects (λ xs (_ : Bool) ys. Unit {0}) RejectsBreak moves s)
 
 -- whole pairs, and a key

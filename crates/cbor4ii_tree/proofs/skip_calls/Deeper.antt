@@ -132,9 +132,8 @@ module _ (left : ℕ) {a b : View} {sa sb : Budget} (e : a.budget ≡ sa) (f : b
       c.budget) (RejectsSkippingItems left a.budget) (RejectsSkippingItems left a.budget)
       (λ xs ys k h. subst (λ j. GoesOn left a.budget c.budget xs j ys) (sym h.0) h.1)
       (λ xs e rest h. h) inward (alike_within a.budget c) (λ none. step_unbound a.budget b.budget
-      steps none) (λ _. refl) (does_ok (λ xs k ys. (k ≡ n) × GoesOn left a.budget c.budget xs n ys)
-      (RejectsSkippingItems left a.budget) (reached_as (λ xs ys. TakesHead b.budget xs
-      (trailing.Items n) ys) (λ xs ys. (n ≡ n) × GoesOn left a.budget c.budget xs n ys) (λ xs ys h. (
+      steps none) (λ _. refl) (does_ok _ _ (reached_as (λ xs ys. TakesHead b.budget xs
+      (trailing.Items n) ys) _ (λ xs ys h. (
         refl,
         goes_into left n a.budget b.budget c.budget xs ys last same
             (steps_in a.budget b.budget steps) h,
@@ -151,9 +150,8 @@ module _ (left : ℕ) {a d : View} where
       does_around (GoesOn left a.budget d.budget) (GoesOn left a.budget d.budget)
       (RejectsSkippingItems left a.budget) (RejectsSkippingItems left a.budget) (λ xs ys v h. h)
       (λ xs e rest h. h) (keeps_alike a a refl) (alike_within a.budget d) (λ none. none) (λ _. refl)
-      (does_ok (GoesOn left a.budget d.budget) (RejectsSkippingItems left a.budget) (reached_as
-      (λ xs ys. SkipsSome (among.Items left) a.budget xs some ys) (λ xs ys. GoesOn left a.budget
-      d.budget xs (left - some) ys) (λ xs ys h. goes_past left (left - some) some a.budget d.budget
+      (does_ok _ _ (reached_as
+      (λ xs ys. SkipsSome (among.Items left) a.budget xs some ys) _ (λ xs ys h. goes_past left (left - some) some a.budget d.budget
       xs ys same (omega (arith, few)) (some_items (among.Items left) a.budget xs some ys any h))
       (reached_by k)))
 
@@ -165,11 +163,10 @@ module _ (left : ℕ) {a d : View} where
   gone_nowhere {inner = inner} any k =
       does_around (GoesOn left a.budget inner) (GoesOn left a.budget inner) (RejectsSkippingItems
       left a.budget) (RejectsSkippingItems left a.budget) (λ xs ys v h. h) (λ xs e rest h. h)
-      (keeps_alike a a refl) (alike_within a.budget d) (λ none. none) (λ _. refl) (does_err Same
-      (SkipsSome (among.Items left) a.budget) (GoesOn left a.budget inner) (RejectsSkippingOne
-      a.budget) (RejectsSkippingItems left a.budget) (λ xs ys z rest e s. items_stop 0 left a.budget
-      xs xs z rest (omega (arith, any)) (items_none a.budget xs) (subst (λ x. RejectsSkippingOne
-      a.budget x z rest) e s)) (same_start a) k)
+      (keeps_alike a a refl) (alike_within a.budget d) (λ none. none) (λ _. refl) (does_err Same _ _
+      (RejectsSkippingOne a.budget) _ (λ xs ys z rest e s. items_stop 0 left a.budget xs xs z rest
+      (omega (arith, any)) (items_none a.budget xs) (subst (λ x. RejectsSkippingOne a.budget x z
+      rest) e s)) (same_start a) k)
 
   -- no step was left
   pub gone_without : {E : Type 0} {inner : Budget} (failure : Option (DecodeError E)) (r : Option ℕ)
@@ -190,10 +187,9 @@ module _ (total left : ℕ) {a m : View}
       → Reached (λ xs ys. GoesOn total a.budget n.budget xs now ys) a (budgeted a.budget n)
   gone_on now {n = n} d unbound =
       reached_then (λ xs ys. GoesOn total a.budget m.budget xs left ys) (λ xs ys. GoesOn left
-      m.budget n.budget xs now ys) (λ xs ys. GoesOn total a.budget n.budget xs now ys)
-      (λ xs ys zs g h. goes_then total left now a.budget m.budget n.budget xs ys zs g h) p
-      (reached_by (does_budgeted a.budget (GoesOn left m.budget n.budget) (RejectsSkippingItems left
-      m.budget) n unbound d))
+      m.budget n.budget xs now ys) _ (λ xs ys zs g h. goes_then total left now a.budget m.budget
+      n.budget xs ys zs g h) p (reached_by (does_budgeted a.budget (GoesOn left m.budget n.budget)
+      (RejectsSkippingItems left m.budget) n unbound d))
 
   pub gone_no_further : {E : Type 0} {e : DecodeError E} {n : View}
       → (a.budget ≡ None → m.budget ≡ None) → Does {V = ℕ} (GoesOn left m.budget n.budget)
@@ -201,16 +197,12 @@ module _ (total left : ℕ) {a m : View}
       → Does {V = Unit {0}} (λ xs _ ys. SkipsItems total a.budget xs ys)
       (RejectsSkippingItems total a.budget) a (budgeted a.budget n) (Err e)
   gone_no_further {n = n} unbound d =
-      does_err (λ xs ys. GoesOn total a.budget m.budget xs left ys) (GoesOn left m.budget n.budget)
-      (λ xs (_ : Unit {0}) ys. SkipsItems total a.budget xs ys)
-      (RejectsSkippingItems left m.budget) (RejectsSkippingItems total a.budget)
-      (λ xs ys z rest g s. g.rejects z rest s) p (does_budgeted a.budget
-      (GoesOn left m.budget n.budget) (RejectsSkippingItems left m.budget) n unbound d)
+      does_err (λ xs ys. GoesOn total a.budget m.budget xs left ys) _ _ (RejectsSkippingItems left
+      m.budget) _ (λ xs ys z rest g s. g.rejects z rest s) p (does_budgeted a.budget (GoesOn left
+      m.budget n.budget) (RejectsSkippingItems left m.budget) n unbound d)
 
   pub all_gone : {E : Type 0} → left ≡ 0 → Does {E = E} (λ xs (_ : Unit {0}) ys. SkipsItems total
       a.budget xs ys) (RejectsSkippingItems total a.budget) a (budgeted a.budget m) (Ok tt)
   all_gone none =
-      does_ok (λ xs (_ : Unit {0}) ys. SkipsItems total a.budget xs ys) (RejectsSkippingItems total
-      a.budget) (reached_as (λ xs ys. GoesOn total a.budget m.budget xs left ys) (SkipsItems total
-      a.budget) (λ xs ys g. g.skips ys (subst (λ n. SkipsItems n m.budget ys ys) (sym none)
+      does_ok _ _ (reached_as (λ xs ys. GoesOn total a.budget m.budget xs left ys) _ (λ xs ys g. g.skips ys (subst (λ n. SkipsItems n m.budget ys ys) (sym none)
       (items_none m.budget ys))) p)

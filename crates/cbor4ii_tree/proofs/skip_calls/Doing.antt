@@ -108,6 +108,10 @@ still_rejected A B S T {a = a} f d =
     does_err (λ xs ys. xs ≡ ys) A B S T (λ xs ys z rest same h. subst (λ x. T x z rest) (sym same)
     (f ys z rest h)) (reached_start (λ xs ys. xs ≡ ys) a (λ xs. refl)) d
 
+pub refused : {U V E : Type 0} {A : Accepting U} {B : Accepting V} {S : Stopping}
+    {e : DecodeError E} {a b : View} → Does {V = U} A S a b (Err e) → Does {V = V} B S a b (Err e)
+refused {A = A} {B = B} {S = S} d = still_rejected A B S S (λ xs z rest h. h) d
+
 rejected_as : (o : Option InputError) (z : InputError) (T : InputError → List ℕ → Type 0)
     (new : Option (List ℕ)) → o ≡ Some z → (ys : List ℕ) × (new ≡ Some ys) × T z ys
     → IfSome o (λ z. (ys : List ℕ) × (new ≡ Some ys) × T z ys)

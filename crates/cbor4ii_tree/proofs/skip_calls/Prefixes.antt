@@ -56,7 +56,7 @@ module _ (among : Among) (inner : Budget) {a m b : View} where
       let o = subst (λ s. Offers 256 (Sees among s) a m) is h in
       let l = lends_prefix o.shows o.prefix o.is.begins.within o.is.bytes refl adv in
       let run = o.is.begins.run in
-      does_ok (TakesAhead among inner) NeverRejects (record {
+      does_ok _ _ (record {
         kept = l.kept;
         at = λ xs known.
             let t = l.at xs known in (
@@ -78,7 +78,7 @@ module _ (among : Among) (inner : Budget) {a m b : View} where
   takes_head size trailing is h adv =
       let o = subst (λ s. Offers 256 (Sees among s) a m) is h in
       let l = lends_prefix o.shows o.prefix o.is.within o.is.bytes refl adv in
-      does_ok (TakesAhead among inner) NeverRejects (record {
+      does_ok _ _ (record {
         kept = l.kept;
         at = λ xs known.
             let rest = drop (length o.shown) xs in
@@ -101,7 +101,7 @@ module _ (among : Among) (inner : Budget) {a m b : View} where
       let o = subst (λ s. Offers 256 (Sees among s) a m) is h in
       let first = first_break o.shown o.is.1 in
       let l = lends_prefix o.shows o.prefix o.is.1.some first.1 refl adv in
-      does_ok (TakesAhead among inner) NeverRejects (record {
+      does_ok _ _ (record {
         kept = l.kept;
         at = λ xs known.
             let t = l.at xs known in (

@@ -45,9 +45,8 @@ head_shown exact major n size {shown = shown} shows prefix s = record {
       );
 }
 
-pub next_shown : (E exact : Type 0) (n : Next) {shown : List ℕ} {a m : View}
-    → Shows shown a m → IfKnown a.known (IsPrefix 1 shown) → SeesNext exact n shown
-    → ShowsNext E exact n a m
+pub next_shown : (E exact : Type 0) (n : Next) {shown : List ℕ} {a m : View} → Shows shown a m
+    → IfKnown a.known (IsPrefix 1 shown) → SeesNext exact n shown → ShowsNext E exact n a m
 next_shown E exact n shows prefix s = record {
   first = shows_first n.first s.trailing shows prefix s.begins;
   head =
@@ -109,8 +108,7 @@ module _ (exact : Bool) {major n size : ℕ} {a m : View}
 
 -- ---- under a step
 
-kept_stepped : {a m b : View} → Kept a m → KeepsAllButBudget m b
-    → Kept (budgeted b.budget a) b
+kept_stepped : {a m b : View} → Kept a m → KeepsAllButBudget m b → Kept (budgeted b.budget a) b
 kept_stepped {a = a} {m = m} {b = b} h k = record {
   rest = λ xs known.
       let t = h.rest xs known in
@@ -156,12 +154,11 @@ module _ (first : ℕ) {E : Type 0} {a m : View}
       {r : Result V (DecodeError E)} {b : View} → Does (A m.budget) (S m.budget) m b r
       → Does (A a.budget) (S a.budget) a b r
   after_peeked A S d =
-      does_after (λ xs ys. xs ≡ ys) (A m.budget) (A a.budget) (S m.budget) (S a.budget)
-      (λ xs ys zs v e h. subst (λ x. A a.budget x v zs) (sym e) (subst (λ o. A o ys v zs)
-      s.moves.by.budget h)) (λ xs ys z rest e h. subst (λ x. S a.budget x z rest) (sym e) (subst
-      (λ o. S o ys z rest) s.moves.by.budget h)) (reached_as (λ xs ys. (rest : List ℕ)
-      × (xs ≡ first ∷ rest) × (ys ≡ xs)) (λ xs ys. xs ≡ ys) (λ xs ys p. sym p.2) (reached_peek
-      value_name 1 first s)) d
+      does_after (λ xs ys. xs ≡ ys) (A m.budget) _ (S m.budget) _ (λ xs ys zs v e h. subst (λ x. A
+      a.budget x v zs) (sym e) (subst (λ o. A o ys v zs) s.moves.by.budget h)) (λ xs ys z rest e h.
+      subst (λ x. S a.budget x z rest) (sym e) (subst (λ o. S o ys z rest) s.moves.by.budget h))
+      (reached_as (λ xs ys. (rest : List ℕ) × (xs ≡ first ∷ rest) × (ys ≡ xs)) _ (λ xs ys p. sym
+      p.2) (reached_peek value_name 1 first s)) d
 
   pub peek_stepped : {b : View} → KeepsAllButBudget m b
       → Runs {V = ℕ} {E = E} (peek_at value_name 1) (budgeted b.budget a) b (Ok first)

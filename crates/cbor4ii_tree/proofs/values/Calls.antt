@@ -68,10 +68,9 @@ pub stepped : (exact : Bool) {E : Type 0} {r : Result Value (DecodeError E)} {a 
     → Does (ReadsOneValue exact a.budget) (RejectsOneValue exact a.budget) a d r
 stepped exact {a = a} {b = b} takes inward w gives outward =
     let step = steps_in a.budget b.budget takes in
-    does_stepped (ReadsUnder exact b.budget) (ReadsOneValue exact a.budget)
-    (RejectsUnder exact b.budget) (RejectsOneValue exact a.budget) (λ xs ys v h. h a.budget step)
-    (λ xs e rest h. rejects_under exact b.budget a.budget xs e rest step h)
-    takes inward w gives outward
+    does_stepped (ReadsUnder exact b.budget) _ (RejectsUnder exact b.budget) _ (λ xs ys v h. h
+    a.budget step) (λ xs e rest h. rejects_under exact b.budget a.budget xs e rest step h) takes
+    inward w gives outward
 
 -- ---- items, one after another
 

@@ -93,9 +93,3 @@ pub Tag-bytes : (value inner : Value) (n : ℕ) (b : Box Value Global) → value
 Tag-bytes value inner n b e same =
     ap (λ w. shortest_head 6 n ++ value_bytes w) same
     ∙ sym (ap canonical_encoding (ap view e ∙ view-Tag n b))
-
--- ---- calls
-
-pub on_ok : {U E P Q : Type 0} (r : Result U E) → (P → Q) → OnOk r P → OnOk r Q
-on_ok (Ok u) f p = f p
-on_ok (Err e) f p = tt

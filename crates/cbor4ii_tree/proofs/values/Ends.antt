@@ -13,14 +13,6 @@ use Rattle.cbor4ii_tree.proofs.skip_calls.Doing.{does_reject}
 abbrev pub Ending : Stopping → Type 0
 Ending T = (z : InputError) (rest : List ℕ) → Is (eof value_name (Small 1)) [] z rest → T [] z rest
 
-at_end : (T : Stopping) → Ending T → (o : Option InputError) (xs : List ℕ) (new : Option (List ℕ))
-    → IfSome o (λ z. (ys : List ℕ) × (new ≡ Some ys) × (peek_at value_name 1 xs ≡ Err (z, ys)))
-    → IfSome o (λ z. (ys : List ℕ) × (new ≡ Some ys) × T xs z ys)
-at_end T ends None xs new h = tt
-at_end T ends (Some z) [] new h =
-    (h.0, h.1, ends z h.0 (is_err {A = ℕ} (eof value_name (Small 1)) [] z h.0 h.2))
-at_end T ends (Some z) (x ∷ xs) new h = let g = h.2 in cc
-
 -- a look has shown no byte
 pub none_shown : {V E : Type 0} (A : Accepting V) (T : Stopping) → Ending T → (want : ℕ)
     {shown : List ℕ} {a b : View} {name : Bor (List ℕ)} → name.now ≡ value_name → 0 < want

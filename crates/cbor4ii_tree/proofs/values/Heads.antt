@@ -65,21 +65,19 @@ module _ (exact : Bool) (b : ℕ) {E : Type 0} {a m : View}
       → RejectsUnder exact a.budget (b ∷ bs) z rest)
       → Does A S m c r → Does (ReadsUnder exact a.budget) (RejectsUnder exact a.budget) a c r
   arm_does A S f g d =
-      does_after (Peeked b) A (ReadsUnder exact a.budget) S (RejectsUnder exact a.budget)
-      (λ xs ys zs v p h. subst (λ x. ReadsUnder exact a.budget x v zs) (sym p.1) (f p.0 zs v (subst
-      (λ x. A x v zs) (p.2 ∙ p.1) h))) (λ xs ys z rest p h. subst (λ x. RejectsUnder exact a.budget
-      x z rest) (sym p.1) (g p.0 z rest (subst (λ x. S x z rest) (p.2 ∙ p.1) h))) (reached_peek
-      value_name 1 b first) d
+      does_after (Peeked b) A _ S _ (λ xs ys zs v p h. subst (λ x. ReadsUnder exact a.budget x v zs)
+      (sym p.1) (f p.0 zs v (subst (λ x. A x v zs) (p.2 ∙ p.1) h))) (λ xs ys z rest p h. subst (λ x.
+      RejectsUnder exact a.budget x z rest) (sym p.1) (g p.0 z rest (subst (λ x. S x z rest)
+      (p.2 ∙ p.1) h))) (reached_peek value_name 1 b first) d
 
   -- what a first byte reports
   pub first_does : {r : Result Value (DecodeError E)} {c : View}
       → Does (ReadsUnder exact m.budget) (RejectsFirst exact b m.budget) m c r
       → Does (ReadsUnder exact a.budget) (RejectsUnder exact a.budget) a c r
   first_does d =
-      arm_does (ReadsUnder exact m.budget) (RejectsFirst exact b m.budget)
-      (λ bs ys v h. subst (λ o. ReadsUnder exact o (b ∷ bs) v ys) first.moves.by.budget h)
-      (λ bs z rest h. subst (λ o. RejectsUnder exact o (b ∷ bs) z rest) first.moves.by.budget
-      (h bs refl)) d
+      arm_does (ReadsUnder exact m.budget) (RejectsFirst exact b m.budget) (λ bs ys v h. subst (λ o.
+      ReadsUnder exact o (b ∷ bs) v ys) first.moves.by.budget h) (λ bs z rest h. subst (λ o.
+      RejectsUnder exact o (b ∷ bs) z rest) first.moves.by.budget (h bs refl)) d
 
 -- ---- heads
 
@@ -143,9 +141,7 @@ pub simple_read : (exact : Bool) {E : Type 0} (b : ℕ) {a m c : View} {v : Valu
     → (exact ≡ true → b ≢ simple_byte simple_undefined) → SimpleOf b (Some v)
     → Does {E = E} (ReadsUnder exact a.budget) (RejectsUnder exact a.budget) a c (Ok v)
 simple_read exact b {a = a} {v = v} first small adv defined s =
-    does_ok (ReadsUnder exact a.budget) (RejectsUnder exact a.budget)
-    (reached_as (λ xs ys. xs ≡ b ∷ ys) (λ xs ys. ReadsUnder exact a.budget xs v ys)
-    (λ xs ys e budget step. (
+    does_ok _ _ (reached_as (λ xs ys. xs ≡ b ∷ ys) _ (λ xs ys e budget step. (
       simple s.0,
       whole exact budget (simple s.0) (tt, tt) (λ holds u. defined holds (s.1 ∙ ap simple_byte u))
           (step_up budget a.budget 0 step (fits_zero a.budget)),
@@ -164,7 +160,7 @@ undefined_rejected false b first small adv is says read shallow = absurd (false_
     false_true : false ≡ true → ⊥
     false_true e = cc
 undefined_rejected true b {a = a} first small adv is says read shallow =
-    does_reject (λ xs ys. xs ≡ b ∷ ys) (ReadsUnder true a.budget) (RejectsUnder true a.budget)
+    does_reject (λ xs ys. xs ≡ b ∷ ys) _ _
     (not_canonical canonical_name) says read shallow (λ xs ys e. subst (λ x. RejectsUnder true
     a.budget x (not_canonical canonical_name) ys) (sym e) (at_major 7 a.budget b ys (not_canonical
     canonical_name) ys (omega (arith, is.1)) (subst (λ i. CanonicalOtherRejects i b ys
@@ -178,8 +174,7 @@ pub leaf_read : (exact : Bool) {V E : Type 0} (R : List ℕ → V → ℕ → �
     → ReadsUnder exact a.budget xs w (drop n xs)) → Moves {E = E} a c (Ok v) → Sound R a c v
     → Does {E = E} (ReadsUnder exact a.budget) S a c (Ok w)
 leaf_read exact R w {S = S} {a = a} f moves s =
-    does_ok (ReadsUnder exact a.budget) S
-    (reached_sound R (λ xs ys. ReadsUnder exact a.budget xs w ys) f moves s)
+    does_ok _ S (reached_sound R (λ xs ys. ReadsUnder exact a.budget xs w ys) f moves s)
 
 pub leaf_rejected : (exact : Bool) {V E : Type 0} (first : ℕ)
     (S : List ℕ → Option ℕ → InputError → List ℕ → Type 0) {a c : View} {e : DecodeError E} → ((bs
@@ -187,8 +182,7 @@ pub leaf_rejected : (exact : Bool) {V E : Type 0} (first : ℕ)
     a.budget (first ∷ bs) z rest) → Moves {V = V} a c (Err e) → Rejects S a c e → Does {V = Value}
     (ReadsUnder exact a.budget) (RejectsFirst exact first a.budget) a c (Err e)
 leaf_rejected exact {V = V} first S {a = a} f moves s =
-    does_err (λ xs ys. xs ≡ ys) (λ xs (v : V) ys. Unit {0}) (ReadsUnder exact a.budget) (λ xs. S xs
-    a.budget) (RejectsFirst exact first a.budget) (λ xs ys z rest e h bs is. subst (λ x.
+    does_err (λ xs ys. xs ≡ ys) _ _ (λ xs. S xs a.budget) _ (λ xs ys z rest e h bs is. subst (λ x.
     RejectsUnder exact a.budget x z rest) (sym is) (f bs z rest (subst (λ x. S x a.budget z rest)
     (sym e ∙ is) h))) (reached_start (λ xs ys. xs ≡ ys) a (λ xs. refl)) (does_rejects
     (λ xs (v : V) ys. Unit {0}) S moves s)
@@ -295,12 +289,11 @@ pub no_value : (exact : Bool) {E : Type 0} (first : ℕ) {e : DecodeError E} {a 
     → is_depth_overflow e ≡ false → Does {V = Value} (ReadsUnder exact a.budget) (RejectsFirst exact
     first a.budget) a a (Err e)
 no_value exact first {a = a} low high none f g h says read shallow =
-    does_reject (λ xs ys. xs ≡ ys) (ReadsUnder exact a.budget) (RejectsFirst exact first a.budget)
-    (unsupported value_name first) says read shallow (λ xs ys e bs is. subst (λ x. RejectsUnder
-    exact a.budget x (unsupported value_name first) ys) (sym is) (subst (λ y. RejectsUnder exact
-    a.budget (first ∷ bs) (unsupported value_name first) y) (sym is ∙ e) (other_rejected exact
-    a.budget first bs (omega (arith, low, high)) (other_byte first low high none f g h))))
-    (reached_start (λ xs ys. xs ≡ ys) a (λ xs. refl))
+    does_reject (λ xs ys. xs ≡ ys) _ _ (unsupported value_name first) says read shallow
+    (λ xs ys e bs is. subst (λ x. RejectsUnder exact a.budget x (unsupported value_name first) ys)
+    (sym is) (subst (λ y. RejectsUnder exact a.budget (first ∷ bs) (unsupported value_name first) y)
+    (sym is ∙ e) (other_rejected exact a.budget first bs (omega (arith, low, high)) (other_byte
+    first low high none f g h)))) (reached_start (λ xs ys. xs ≡ ys) a (λ xs. refl))
 
 -- ---- tags
 
@@ -314,17 +307,15 @@ pub tagged_ok : (exact : Bool) {E : Type 0} (n : ℕ) {v : Value} {a c : View} (
     → Does {E = E} (ReadsOneValue exact a.budget) (RejectsOneValue exact a.budget) a c (Ok v)
     → Does {E = E} (ReadsTagged exact n a.budget) (RejectsOneValue exact a.budget) a c (Ok w)
 tagged_ok exact n {v = v} {a = a} w is d =
-    does_ok (ReadsTagged exact n a.budget) (RejectsOneValue exact a.budget)
-    (reached_as (λ xs ys. ReadsOneValue exact a.budget xs v ys)
-    (λ xs ys. ReadsTagged exact n a.budget xs w ys) (λ xs ys h. (v, is, h)) (reached_by d))
+    does_ok _ _ (reached_as (λ xs ys. ReadsOneValue exact a.budget xs v ys) _ (λ xs ys h.
+    (v, is, h)) (reached_by d))
 
 tag_row : (exact : Bool) (n : ℕ) (inner : Budget) (xs ys : List ℕ) (z : InputError) (rest : List ℕ)
     → HeadAt exact 6 n xs ys → RejectsOneValue exact inner ys z rest
     → RejectsOf exact 6 inner xs z rest
 tag_row false n inner xs ys z rest h s b bs is m =
-    subst (λ x. RejectsUnder false inner x z rest) (sym h.3)
-    (at_row inner (starts_tag h.0) (32 * 6 + additional h.0 n)
-    (bytes_high_first (byte_count h.0) n ++ ys) z rest (initial_tag n h.0 h.1)
+    subst (λ x. RejectsUnder false inner x z rest) (sym h.3) (at_row inner (starts_tag h.0) (32 * 6
+    + additional h.0 n) (bytes_high_first (byte_count h.0) n ++ ys) z rest (initial_tag n h.0 h.1)
     (inr (record { argument = n; after = ys; fits = h.1; is = refl; stopped = s })))
 tag_row true n inner xs ys z rest h s b bs is m =
     subst (λ x. RejectsUnder true inner x z rest) (sym is) (at_major 6 inner b bs z rest m (inr
@@ -339,9 +330,8 @@ pub tag_does : (exact : Bool) {E : Type 0} (n : ℕ) {r : Result Value (DecodeEr
     → Reached (HeadAt exact 6 n) a m → Does (ReadsTagged exact n m.budget) (RejectsOneValue exact
     m.budget) m c r → Does (ReadsUnder exact a.budget) (RejectsOf exact 6 a.budget) a c r
 tag_does exact n {a = a} {m = m} p d =
-    does_after (HeadAt exact 6 n) (ReadsTagged exact n m.budget) (ReadsUnder exact a.budget)
-    (RejectsOneValue exact m.budget) (RejectsOf exact 6 a.budget)
-    (λ xs ys zs w h r budget step.
+    does_after (HeadAt exact 6 n) (ReadsTagged exact n m.budget) _ (RejectsOneValue exact m.budget)
+    _ (λ xs ys zs w h r budget step.
     let s = subst (λ o. ReadsOneValue exact o ys r.0 zs) p.kept.budget r.2 in
     let t = whole_is exact a.budget s.0 s.1 in (
       tagged n h.0 s.0,
@@ -372,9 +362,8 @@ pub tag_taken : {E : Type 0} {a c : View} (r : Option ℕ) (failure : Option (De
     → IfErr (answered r failure) (Rejects (RejectsArgument tag_name 6 8) a c) → Does
     (TakesTag false a.budget) (RejectsOf false 6 a.budget) a c (answered r failure)
 tag_taken {a = a} (Some n) failure moves s h =
-    does_ok (TakesTag false a.budget) (RejectsOf false 6 a.budget)
-    (reached_sound (ReadsArgument 6 8) (HeadAt false 6 n)
-    (λ xs k c _ r. head_at false 6 n xs k r.0 (λ e. cc)) moves s)
+    does_ok _ _ (reached_sound (ReadsArgument 6 8) (HeadAt false 6 n) (λ xs k c _ r. head_at false 6
+    n xs k r.0 (λ e. cc)) moves s)
 tag_taken {a = a} None failure moves s h =
     call_rejects (TakesTag false a.budget) (RejectsArgument tag_name 6 8) (RejectsOf false 6
     a.budget) (λ xs z rest h b bs is m. subst (λ x. RejectsUnder false a.budget x z rest) (sym is)

@@ -178,9 +178,8 @@ put_more exact before items after at n size shown p l e = record {
 
 -- one more value
 pub put_one : (exact : Type 0) (before items after : List Value) (v : Value) (at n : ℕ)
-    (shown : List ℕ) → PutsAfter exact at shown before items
-    → StandsAhead exact v n (drop at shown) → after ≡ items ++ v ∷ []
-    → PutsAfter exact (at + n) shown before after
+    (shown : List ℕ) → PutsAfter exact at shown before items → StandsAhead exact v n (drop at shown)
+    → after ≡ items ++ v ∷ [] → PutsAfter exact (at + n) shown before after
 put_one exact before items after v at n shown p l is =
     put_more exact before items after at n (at + n) shown p
     (record { new = v ∷ []; is = is; stand = stand_one exact v n (drop at shown) l }) refl
@@ -407,7 +406,7 @@ module _ (exact : Bool) (full : ℕ) (before after : List Value) {E : Type 0} {a
   puts_taken want size shows prefix p adv =
       let s = p.stand in
       let l = lends_prefix shows prefix s.within s.fresh refl adv in
-      does_ok (PutsItemsUnder exact before after a.budget) RejectsWhereNone (record {
+      does_ok _ _ (record {
         kept = l.kept;
         at = λ xs known.
             let t = l.at xs known in (
@@ -459,7 +458,7 @@ module _ (exact : Bool) (full : ℕ) (before after : List Value) {E : Type 0} {a
       let o = subst (λ s. Offers 1 (PutsRun (exact ≡ true) full before after s) a m) is h in
       let may = rejected_may (exact ≡ true) size o.shown o.is in
       let l = lends_prefix o.shows o.prefix may.within may.fresh refl adv in
-      does_no_memory (PutsItemsUnder exact before after a.budget) RejectsWhereNone refl l.kept
+      does_no_memory _ _ refl l.kept
 
 module _ (exact : Bool) (full : ℕ) (before after : List Value) {E : Type 0} {a m : View} where
   -- nothing was put
@@ -471,9 +470,8 @@ module _ (exact : Bool) (full : ℕ) (before after : List Value) {E : Type 0} {a
       record {
         mid = a;
         puts =
-            does_ok (PutsItemsUnder exact before after a.budget) RejectsWhereNone
-            (reached_start (λ xs ys. PutsItemsUnder exact before after a.budget xs tt ys) a
-            (λ xs budget step. (
+            does_ok _ _ (reached_start (λ xs ys. PutsItemsUnder exact before after a.budget xs tt
+            ys) a (λ xs budget step. (
               [],
               o.is.0 ∙ sym (append-nil before),
               (no_trees, refl, tt, refl, refl),
@@ -624,9 +622,7 @@ module _ (exact : Bool) (full : ℕ) (before : List Value) {E : Type 0} {a : Vie
       (Err e) → Does {V = Unit {0}} {E = E} (PutsItemsUnder exact before after a.budget)
       (RejectsItemsUnder exact (full - length before) a.budget) a b (Err e)
   turn_ends after lacks d =
-      does_err (λ xs ys. xs ≡ ys) (PutsItemsUnder exact before after a.budget) (PutsItemsUnder exact
-      before after a.budget) RejectsWhereNone (RejectsItemsUnder exact (full - length before)
-      a.budget) (λ xs ys z rest is s budget step. stopped_after (Whole exact budget)
+      does_err (λ xs ys. xs ≡ ys) _ _ RejectsWhereNone _ (λ xs ys z rest is s budget step. stopped_after (Whole exact budget)
       (RejectsOneValue exact budget) [] (full - length before) xs xs z rest (
         no_trees,
         refl,
@@ -645,12 +641,8 @@ module _ (exact : Bool) (full : ℕ) (before : List Value) {E : Type 0} {a : Vie
           (Ok v) → Does {V = Unit {0}} {E = E} (PutsItemsUnder exact before after a.budget)
           (RejectsItemsUnder exact (full - length before) a.budget) a b (Ok tt)
       turn_value after {v = v} is d =
-          does_ok (PutsItemsUnder exact before after a.budget)
-          (RejectsItemsUnder exact (full - length before) a.budget)
-          (reached_then (λ xs ys. PutsItemsUnder exact before mid a.budget xs tt ys)
-          (λ xs ys. ReadsUnder exact run.mid.budget xs v ys)
-          (λ xs ys. PutsItemsUnder exact before after a.budget xs tt ys)
-          (λ xs ys zs h s budget step.
+          does_ok _ _ (reached_then (λ xs ys. PutsItemsUnder exact before mid a.budget xs tt ys)
+          (λ xs ys. ReadsUnder exact run.mid.budget xs v ys) _ (λ xs ys zs h s budget step.
           let p = h budget step in
           let r = one_read exact budget a.budget step ys v zs
           (subst (λ o. ReadsUnder exact o ys v zs) run.puts.moves.by.budget s) in (
@@ -665,10 +657,8 @@ module _ (exact : Bool) (full : ℕ) (before : List Value) {E : Type 0} {a : Vie
           (ReadsUnder exact) (RejectsUnder exact) m b (Err e) → Does {V = V} B (RejectsItemsUnder
           exact (full - length before) a.budget) a b (Err e)
       turn_rejected B lacks d =
-          does_err (λ xs ys. PutsItemsUnder exact before mid a.budget xs tt ys)
-          (ReadsUnder exact run.mid.budget) B (RejectsUnder exact run.mid.budget)
-          (RejectsItemsUnder exact (full - length before) a.budget)
-          (λ xs ys z rest h s budget step.
+          does_err (λ xs ys. PutsItemsUnder exact before mid a.budget xs tt ys) _ B (RejectsUnder
+          exact run.mid.budget) _ (λ xs ys z rest h s budget step.
           let p = h budget step in
           stopped_after (Whole exact budget) (RejectsOneValue exact budget) p.0
           (full - length before) xs ys z rest p.2 (omega (
@@ -677,9 +667,8 @@ module _ (exact : Bool) (full : ℕ) (before : List Value) {E : Type 0} {a : Vie
             ap length p.1,
             length-append
                 before p.0,
-          )) (rejects_under exact a.budget budget ys z rest step (subst (λ o. RejectsUnder
-          exact o ys z rest) run.puts.moves.by.budget s))) (reached_by run.puts)
-          (d run.mid run.shows)
+          )) (rejects_under exact a.budget budget ys z rest step (subst (λ o. RejectsUnder exact o
+          ys z rest) run.puts.moves.by.budget s))) (reached_by run.puts) (d run.mid run.shows)
 
       -- the value is put after the run, or there is no memory for that
       pub turn_put : (after : List Value) {v : Value} {b : View} (r : Option (Unit {0}))
@@ -690,9 +679,8 @@ module _ (exact : Bool) (full : ℕ) (before : List Value) {E : Type 0} {a : Vie
           (answered r failure)
       turn_put after (Some u) failure is none d = turn_value after is d
       turn_put after None failure is none d =
-          does_no_memory (PutsItemsUnder exact before after a.budget)
-          (RejectsItemsUnder exact (full - length before) a.budget) (ap error_left none)
-          (kept_then run.puts.moves.by (d run.mid run.shows).moves.by)
+          does_no_memory _ _ (ap error_left none) (kept_then run.puts.moves.by (d run.mid
+          run.shows).moves.by)
 
 -- ---- what a run answers
 
@@ -721,10 +709,9 @@ pub turn_stepped : (exact : Bool) (room : ℕ) (before after : List Value) {E : 
     (PutsItems exact before after a.budget) (RejectsItems exact room a.budget) a d r
 turn_stepped exact room before after {a = a} {b = b} takes inward w gives outward =
     let step = steps_in a.budget b.budget takes in
-    does_stepped (PutsItemsUnder exact before after b.budget)
-    (PutsItems exact before after a.budget) (RejectsItemsUnder exact room b.budget)
-    (RejectsItems exact room a.budget) (λ xs ys v h. h a.budget step)
-    (λ xs e rest h. h a.budget step) takes inward w gives outward
+    does_stepped (PutsItemsUnder exact before after b.budget) _ (RejectsItemsUnder exact room
+    b.budget) _ (λ xs ys v h. h a.budget step) (λ xs e rest h. h a.budget step) takes inward w gives
+    outward
 
 -- no step is left
 pub turn_unstepped : (exact : Bool) (full : ℕ) (before after : List Value) {E : Type 0}
@@ -733,11 +720,10 @@ pub turn_unstepped : (exact : Bool) (full : ℕ) (before after : List Value) {E 
     → StepsIn a.budget b.budget false → KeepsAllButBudget a b → Does {V = Unit {0}} (PutsItems exact
     before after a.budget) (RejectsItems exact (full - length before) a.budget) a b (Err e)
 turn_unstepped exact full before after {a = a} lacks says read takes k =
-    does_no_step value_name (PutsItems exact before after a.budget)
-    (RejectsItems exact (full - length before) a.budget) says read
-    (λ none xs. stopped_after (Whole exact a.budget) (RejectsOneValue exact a.budget) []
-    (full - length before) xs xs (depth_overflow value_name) xs (no_trees, refl, tt, refl, refl)
-    (omega (arith, lacks)) (value_no_step exact a.budget none xs)) takes k
+    does_no_step value_name _ _ says read (λ none xs. stopped_after (Whole exact a.budget)
+    (RejectsOneValue exact a.budget) [] (full - length before) xs xs (depth_overflow value_name) xs
+    (no_trees, refl, tt, refl, refl) (omega (arith, lacks)) (value_no_step exact a.budget none xs))
+    takes k
 
 -- ---- turns, one after another
 
@@ -748,8 +734,7 @@ module _ (exact : Bool) (full : ℕ) (items after : List Value) {a m : View}
       ReadsItems exact (length after) a.budget xs after ys) a b
   ran {u = u} d =
       reached_then (λ xs ys. ReadsItems exact (length items) a.budget xs items ys) (λ xs ys.
-      PutsItems exact items after m.budget xs u ys) (λ xs ys. ReadsItems exact (length after)
-      a.budget xs after ys) (λ xs ys zs h s. subst (λ us. ReadsItems exact (length us) a.budget xs
+      PutsItems exact items after m.budget xs u ys) _ (λ xs ys zs h s. subst (λ us. ReadsItems exact (length us) a.budget xs
       us zs) (sym s.1) (join_items (Whole exact a.budget) items s.0 xs ys zs h (subst (λ o.
       ReadsItems exact (length s.0) o ys s.0 zs) p.kept.budget s.2))) p (reached_by d)
 
@@ -758,9 +743,7 @@ module _ (exact : Bool) (full : ℕ) (items after : List Value) {a m : View}
       (RejectsItems exact (full - length items) m.budget) m b (Err e)
       → Does {V = V} B (RejectsItems exact full a.budget) a b (Err e)
   run_rejects B d =
-      does_err (λ xs ys. ReadsItems exact (length items) a.budget xs items ys) (PutsItems exact
-      items after m.budget) B (RejectsItems exact (full - length items) m.budget) (RejectsItems
-      exact full a.budget) (λ xs ys z rest h s. stopped_further (Whole exact a.budget)
+      does_err (λ xs ys. ReadsItems exact (length items) a.budget xs items ys) _ B (RejectsItems exact (full - length items) m.budget) _ (λ xs ys z rest h s. stopped_further (Whole exact a.budget)
       (RejectsOneValue exact a.budget) items full xs ys z rest h (subst (λ o. RejectsItems exact
       (full - length items) o ys z rest) p.kept.budget s)) p d
 

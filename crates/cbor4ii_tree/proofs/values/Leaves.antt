@@ -221,7 +221,7 @@ module _ (exact : Bool) {E : Type 0} {a m b : View} where
   takes_leaf v size is h adv =
       let o = subst (λ s. Offers 1 (SeesLeaf (exact ≡ true) s) a m) is h in
       let l = lends_prefix o.shows o.prefix o.is.within o.is.fresh refl adv in
-      does_ok (ReadsUnder exact a.budget) (RejectsUnder exact a.budget) (record {
+      does_ok _ _ (record {
         kept = l.kept;
         at = λ xs known.
             let t = l.at xs known in (
@@ -240,14 +240,13 @@ module _ (exact : Bool) {E : Type 0} {a m b : View} where
       })
 
   pub no_content : (size : ℕ) {seen : Leaf} → seen ≡ NoMemory size
-      → Offers 1 (SeesLeaf (exact ≡ true) seen) a m → Advances size m b
-      → Does {V = Value} {E = E} (ReadsUnder exact a.budget) (RejectsUnder exact a.budget) a b
-      (Err OutOfMemory)
+      → Offers 1 (SeesLeaf (exact ≡ true) seen) a m → Advances size m b → Does {V = Value} {E = E}
+      (ReadsUnder exact a.budget) (RejectsUnder exact a.budget) a b (Err OutOfMemory)
   no_content size is h adv =
       let o = subst (λ s. Offers 1 (SeesLeaf (exact ≡ true) s) a m) is h in
       let may = wants_may size o.shown o.is in
       let l = lends_prefix o.shows o.prefix may.within may.fresh refl adv in
-      does_no_memory (ReadsUnder exact a.budget) (RejectsUnder exact a.budget) refl l.kept
+      does_no_memory _ _ refl l.kept
 
 module _ (exact : Bool) {a m : View} where
   pub no_value : {E : Type 0} {seen : Leaf} → seen ≡ End
@@ -258,11 +257,6 @@ module _ (exact : Bool) {a m : View} where
       let o = subst (λ s. Offers 1 (SeesLeaf (exact ≡ true) s) a m) is h in
       none_shown (ReadsUnder exact a.budget) (RejectsUnder exact a.budget)
       (value_no_byte exact a.budget) 1 says (omega arith) o.shows o.prefix o.is
-
-  pub leaf_item : (v : Value) (size : ℕ) {seen : Leaf} → seen ≡ Whole v size
-      → Offers 1 (SeesLeaf (exact ≡ true) seen) a m → IsItem (view v)
-  leaf_item v size is h =
-      (subst (λ s. Offers 1 (SeesLeaf (exact ≡ true) s) a m) is h).is.ranged
 
 -- nothing was taken yet
 pub after_look : (exact : Bool) {E : Type 0} {r : Result Value (DecodeError E)} {a b : View}

@@ -5,11 +5,6 @@ use Rattle.cbor4ii_rw.specs.Writer.{Output}
 use Rattle.cbor4ii_items.specs.Writing.{Writes}
 use Rattle.cbor4ii_tree.specs.Sending.{sent, Sends}
 
--- another error says the same
-pub writes_other : {T U E F : Type 0} {whole : Bool} {xs : List ℕ} {a b : Output} {e : E} (f : F)
-    → Writes {T = T} whole xs a b (Err e) → Writes {T = U} whole xs a b (Err f)
-writes_other f p = record { appends = tt; counts = tt; failed = p.failed; prefix = p.prefix }
-
 pub on_some : {U P Q : Type 0} (r : Option U) → (P → Q) → OnSome r P → OnSome r Q
 on_some (Some u) f p = f p
 on_some None f p = tt

@@ -89,8 +89,8 @@ pub major_stepped : (exact : Bool) {V : Type 0} (reads : Budget → Accepting V)
     → Does (ReadsStepped reads a.budget) (RejectsOf exact major a.budget) a d r
 major_stepped exact reads major {a = a} {b = b} takes inward w gives outward =
     let step = steps_in a.budget b.budget takes in
-    does_stepped (reads b.budget) (ReadsStepped reads a.budget) (RejectsMajor exact major b.budget)
-    (RejectsOf exact major a.budget) (λ xs ys v h. (b.budget, step, h))
+    does_stepped (reads b.budget) _ (RejectsMajor exact major b.budget)
+    _ (λ xs ys v h. (b.budget, step, h))
     (λ xs e rest h first bs is m. h first bs is m a.budget step) takes inward w gives outward
 
 array_deep : (outer : Budget) (b : ℕ) (bs : List ℕ) → outer ≡ Some 0 → b / 32 ≡ 4
@@ -243,11 +243,10 @@ pub length_does : {E : Type 0} (name : List ℕ) (major : ℕ) (T : Budget → S
     → IfErr (answered r failure) (Rejects (RejectsLength name major) a c) → Does (TakesLength false
     major a.budget) (T a.budget) a c (answered r failure)
 length_does name major T {a = a} (Some (Some n)) failure f moves s h =
-    does_ok (TakesLength false major a.budget) (T a.budget) (reached_sound (ReadsLength major)
+    does_ok _ _ (reached_sound (ReadsLength major)
     (HeadAt false major n) (λ xs k c _ r. head_at false major n xs k r.0 (λ e. cc)) moves s)
 length_does name major T {a = a} (Some None) failure f moves s h =
-    does_ok (TakesLength false major a.budget) (T a.budget) (reached_sound (ReadsLength major)
-    (IndefiniteAt false major) (λ xs k c _ r. (
+    does_ok _ _ (reached_sound (ReadsLength major) (IndefiniteAt false major) (λ xs k c _ r. (
       refl,
       first_is (indefinite_head major) xs r.0
           ∙ ap (λ j. indefinite_head major ∷ drop j xs) (sym r.1),
@@ -260,14 +259,14 @@ pub some_follow : (exact : Bool) {E : Type 0} (major n : ℕ) {o : Option ℕ} {
     {a m : View} → o ≡ Some n → Does {E = E} (TakesLength exact major a.budget) S a m (Ok o)
     → Reached (HeadAt exact major n) a m
 some_follow exact major n {o = o} {a = a} is d =
-    reached_as (λ xs ys. TakesLength exact major a.budget xs o ys) (HeadAt exact major n)
+    reached_as (λ xs ys. TakesLength exact major a.budget xs o ys) _
     (λ xs ys h. subst (λ z. TakesLength exact major a.budget xs z ys) is h) (reached_by d)
 
 pub none_follow : (exact : Bool) {E : Type 0} (major : ℕ) {o : Option ℕ} {S : Stopping} {a m : View}
     → o ≡ None → Does {E = E} (TakesLength exact major a.budget) S a m (Ok o)
     → Reached (IndefiniteAt exact major) a m
 none_follow exact major {o = o} {a = a} is d =
-    reached_as (λ xs ys. TakesLength exact major a.budget xs o ys) (IndefiniteAt exact major)
+    reached_as (λ xs ys. TakesLength exact major a.budget xs o ys) _
     (λ xs ys h. subst (λ z. TakesLength exact major a.budget xs z ys) is h) (reached_by d)
 
 -- ---- arrays
@@ -307,9 +306,7 @@ pub array_definite : (exact : Bool) {E : Type 0} (n : ℕ)
     b r → Does (λ xs v ys. ReadsArrayInside exact a.budget xs v.items ys) (RejectsMajor exact 4
     a.budget) a b r
 array_definite exact n {a = a} {m = m} p d =
-    does_after (HeadAt exact 4 n) (λ xs v ys. ReadsItems exact n m.budget xs v.items ys) (λ xs v ys.
-    ReadsArrayInside exact a.budget xs v.items ys) (RejectsItems exact n m.budget) (RejectsMajor
-    exact 4 a.budget) (λ xs ys zs v h s. inl (
+    does_after (HeadAt exact 4 n) (λ xs v ys. ReadsItems exact n m.budget xs v.items ys) _ (RejectsItems exact n m.budget) _ (λ xs ys zs v h s. inl (
       n,
       ys,
       h,
@@ -323,9 +320,8 @@ pub array_of_none : (exact : Bool) {E : Type 0} (v : Vec Value Global) {m : View
     → Does {E = E} (λ xs (u : Vec Value Global) ys. ReadsItems exact 0 m.budget xs u.items ys)
     (RejectsItems exact 0 m.budget) m m (Ok v)
 array_of_none exact v {m = m} e =
-    does_ok (λ xs (u : Vec Value Global) ys. ReadsItems exact 0 m.budget xs u.items ys)
-    (RejectsItems exact 0 m.budget) (reached_start (λ xs ys. ReadsItems exact 0 m.budget xs v.items
-    ys) m (λ xs. subst (λ us. ReadsItems exact 0 m.budget xs us xs) (sym e) (
+    does_ok _ _ (reached_start (λ xs ys. ReadsItems exact 0 m.budget xs v.items ys) m (λ xs. subst
+    (λ us. ReadsItems exact 0 m.budget xs us xs) (sym e) (
       no_trees,
       refl,
       tt,
@@ -339,15 +335,13 @@ pub array_opened : (exact : Bool) {E : Type 0} {r : Result (Vec Value Global) (D
     ReadsArrayInside exact a.budget xs v.items ys) (RejectsMajor exact 4 a.budget) a b r
 array_opened exact {a = a} {m = m} p d =
     does_after (IndefiniteAt exact 4) (λ xs v ys. ReadsIndefiniteItems exact m.budget xs v.items ys)
-    (λ xs v ys. ReadsArrayInside exact a.budget xs v.items ys) (RejectsIndefiniteItems exact
-    m.budget) (RejectsMajor exact 4 a.budget) (λ xs ys zs v h s. inr (
+    _ (RejectsIndefiniteItems exact m.budget) _ (λ xs ys zs v h s. inr (
       ys,
       h,
       subst (λ o.
           ReadsIndefiniteItems exact o ys v.items zs) p.kept.budget s,
-    )) (λ xs ys e rest h s.
-    array_indefinite_row exact a.budget xs ys e rest h (subst (λ o. RejectsIndefiniteItems exact o
-    ys e rest) p.kept.budget s)) p d
+    )) (λ xs ys e rest h s. array_indefinite_row exact a.budget xs ys e rest h (subst (λ o.
+    RejectsIndefiniteItems exact o ys e rest) p.kept.budget s)) p d
 
 two_steps : (c : ℕ) (budget inner deep : Budget) → step_in budget ≡ Some inner
     → step_in inner ≡ Some deep → CostFits c deep → CostFits (2 + c) budget
@@ -383,13 +377,6 @@ array_tree exact budget inner deep vs xs ys s t (inr q) =
       h.1 ∙ ap (λ r. indefinite_head 4 ∷ r)
           (i.3 ∙ sym (append_assoc (bytes_all i.0) (break ∷ []) ys)),
     )
-
-pub array_reads : (exact : Bool) (inner : Budget) (v : Vec Value Global) (xs ys : List ℕ)
-    → ReadsStepped (λ o xs (v : Vec Value Global) ys. ReadsArrayInside exact o xs v.items ys) inner
-    xs v ys → ReadsUnder exact inner xs (Array v) ys
-array_reads exact inner v xs ys h budget step =
-    let t = array_tree exact budget inner h.0 v.items xs ys step h.1 h.2 in
-    (t.0, t.1, t.2 ∙ sym (view-Array v), t.3)
 
 -- ---- values one after another, up to a break
 
@@ -526,9 +513,8 @@ pub map_definite : (exact : Bool) {E : Type 0} (n : ℕ)
     (RejectsMembers exact n m.budget) m b r → Does (λ xs v ys. ReadsMapInside exact a.budget xs
     v.items ys) (RejectsMajor exact 5 a.budget) a b r
 map_definite exact n {a = a} {m = m} p d =
-    does_after (HeadAt exact 5 n) (λ xs v ys. ReadsMembers exact n m.budget xs v.items ys)
-    (λ xs v ys. ReadsMapInside exact a.budget xs v.items ys) (RejectsMembers exact n m.budget)
-    (RejectsMajor exact 5 a.budget) (λ xs ys zs v h s. inl (
+    does_after (HeadAt exact 5 n) (λ xs v ys. ReadsMembers exact n m.budget xs v.items ys) _
+    (RejectsMembers exact n m.budget) _ (λ xs ys zs v h s. inl (
       n,
       ys,
       h,
@@ -542,9 +528,8 @@ pub map_of_none : (exact : Bool) {E : Type 0} (v : Vec (Value × Value) Global) 
     → v.items ≡ [] → Does {E = E} (λ xs (u : Vec (Value × Value) Global) ys. ReadsMembers exact 0
     m.budget xs u.items ys) (RejectsMembers exact 0 m.budget) m m (Ok v)
 map_of_none exact v {m = m} e =
-    does_ok (λ xs (u : Vec (Value × Value) Global) ys. ReadsMembers exact 0 m.budget xs u.items ys)
-    (RejectsMembers exact 0 m.budget) (reached_start (λ xs ys. ReadsMembers exact 0 m.budget xs
-    v.items ys) m (λ xs. subst (λ us. ReadsMembers exact 0 m.budget xs us xs) (sym e) (
+    does_ok _ _ (reached_start (λ xs ys. ReadsMembers exact 0 m.budget xs v.items ys) m (λ xs. subst
+    (λ us. ReadsMembers exact 0 m.budget xs us xs) (sym e) (
       no_pairs,
       refl,
       tt,
@@ -559,15 +544,13 @@ pub map_opened : (exact : Bool) {E : Type 0}
     exact a.budget xs v.items ys) (RejectsMajor exact 5 a.budget) a b r
 map_opened exact {a = a} {m = m} p d =
     does_after (IndefiniteAt exact 5) (λ xs v ys. ReadsIndefiniteMembers exact m.budget xs v.items
-    ys) (λ xs v ys. ReadsMapInside exact a.budget xs v.items ys) (RejectsIndefiniteMembers exact
-    m.budget) (RejectsMajor exact 5 a.budget) (λ xs ys zs v h s. inr (
+    ys) _ (RejectsIndefiniteMembers exact m.budget) _ (λ xs ys zs v h s. inr (
       ys,
       h,
       subst (λ o.
           ReadsIndefiniteMembers exact o ys v.items zs) p.kept.budget s,
-    )) (λ xs ys e rest h s.
-    map_indefinite_row exact a.budget xs ys e rest h (subst (λ o. RejectsIndefiniteMembers exact o
-    ys e rest) p.kept.budget s)) p d
+    )) (λ xs ys e rest h s. map_indefinite_row exact a.budget xs ys e rest h (subst (λ o.
+    RejectsIndefiniteMembers exact o ys e rest) p.kept.budget s)) p d
 
 map_tree : (exact : Bool) (budget inner deep : Budget) (ms : List (Value × Value)) (xs ys : List ℕ)
     → step_in budget ≡ Some inner → step_in inner ≡ Some deep → ReadsMapInside exact deep xs ms ys →
@@ -598,13 +581,6 @@ map_tree exact budget inner deep ms xs ys s t (inr q) =
           (i.3 ∙ sym (append_assoc (bytes_pairs i.0) (break ∷ []) ys)),
     )
 
-pub map_reads : (exact : Bool) (inner : Budget) (v : Vec (Value × Value) Global) (xs ys : List ℕ)
-    → ReadsStepped (λ o xs (v : Vec (Value × Value) Global) ys. ReadsMapInside exact o xs v.items
-    ys) inner xs v ys → ReadsUnder exact inner xs (Map v) ys
-map_reads exact inner v xs ys h budget step =
-    let t = map_tree exact budget inner h.0 v.items xs ys step h.1 h.2 in
-    (t.0, t.1, t.2 ∙ sym (view-Map v), t.3)
-
 -- ---- a pair
 
 pub value_stop : (exact : Bool) (budget : Budget) (key : Value) (xs ys : List ℕ) (e : InputError)
@@ -630,7 +606,7 @@ module _ {V : Type 0} (reads : Budget → Accepting V) (rejects : Budget → Sto
       → T xs z rest) → Does {V = V} (reads m.budget) (rejects m.budget) m b (Err e)
       → Does {V = U} B T a b (Err e)
   ends B T f d =
-      does_err P (reads m.budget) B (rejects m.budget) T (λ xs ys z rest h s.
+      does_err P _ B (rejects m.budget) T (λ xs ys z rest h s.
       f xs ys z rest h (subst (λ o. rejects o ys z rest) p.kept.budget s)) p d
 
 -- ---- as a value
@@ -639,27 +615,24 @@ pub made_array : (exact : Bool) {E : Type 0} (v : Vec Value Global) {S : Stoppin
     → Does {E = E} (λ xs u ys. ReadsArrayInside exact a.budget xs u.items ys) S a b (Ok v)
     → Does {E = E} (MakesArray (ReadsArrayInside exact) a.budget) S a b (Ok (Array v))
 made_array exact v {S = S} {a = a} d =
-    does_ok (MakesArray (ReadsArrayInside exact) a.budget) S (reached_as (λ xs ys. ReadsArrayInside
-    exact a.budget xs v.items ys) (λ xs ys. MakesArray (ReadsArrayInside exact) a.budget xs
-    (Array v) ys) (λ xs ys h. (v, refl, h)) (reached_by d))
+    does_ok _ S (reached_as (λ xs ys. ReadsArrayInside
+    exact a.budget xs v.items ys) _ (λ xs ys h. (v, refl, h)) (reached_by d))
 
 pub made_map : (exact : Bool) {E : Type 0} (v : Vec (Value × Value) Global) {S : Stopping}
     {a b : View} → Does {E = E} (λ xs u ys. ReadsMapInside exact a.budget xs u.items ys) S a b
     (Ok v) → Does {E = E} (MakesMap (ReadsMapInside exact) a.budget) S a b (Ok (Map v))
 made_map exact v {S = S} {a = a} d =
-    does_ok (MakesMap (ReadsMapInside exact) a.budget) S (reached_as (λ xs ys. ReadsMapInside exact
-    a.budget xs v.items ys) (λ xs ys. MakesMap (ReadsMapInside exact) a.budget xs (Map v) ys)
-    (λ xs ys h. (v, refl, h)) (reached_by d))
+    does_ok _ S (reached_as (λ xs ys. ReadsMapInside exact a.budget xs v.items ys) _ (λ xs ys h.
+    (v, refl, h)) (reached_by d))
 
-pub array_makes : (exact : Bool) (inner : Budget) (w : Value) (xs ys : List ℕ)
-    → ReadsStepped (MakesArray (ReadsArrayInside exact)) inner xs w ys → ReadsUnder exact inner xs w
-    ys
-array_makes exact inner w xs ys h =
-    subst (λ u. ReadsUnder exact inner xs u ys) (sym h.2.1)
-    (array_reads exact inner h.2.0 xs ys (h.0, h.1, h.2.2))
+pub array_makes : (exact : Bool) (inner : Budget) (w : Value) (xs ys : List ℕ) → ReadsStepped
+    (MakesArray (ReadsArrayInside exact)) inner xs w ys → ReadsUnder exact inner xs w ys
+array_makes exact inner w xs ys h budget step =
+    let t = array_tree exact budget inner h.0 h.2.0.items xs ys step h.1 h.2.2 in
+    (t.0, t.1, t.2 ∙ sym (ap view h.2.1 ∙ view-Array h.2.0), t.3)
 
 pub map_makes : (exact : Bool) (inner : Budget) (w : Value) (xs ys : List ℕ)
     → ReadsStepped (MakesMap (ReadsMapInside exact)) inner xs w ys → ReadsUnder exact inner xs w ys
-map_makes exact inner w xs ys h =
-    subst (λ u. ReadsUnder exact inner xs u ys) (sym h.2.1)
-    (map_reads exact inner h.2.0 xs ys (h.0, h.1, h.2.2))
+map_makes exact inner w xs ys h budget step =
+    let t = map_tree exact budget inner h.0 h.2.0.items xs ys step h.1 h.2.2 in
+    (t.0, t.1, t.2 ∙ sym (ap view h.2.1 ∙ view-Map h.2.0), t.3)

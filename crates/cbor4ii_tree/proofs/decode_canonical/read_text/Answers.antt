@@ -17,18 +17,14 @@ returns-in_err-canonical_buf-clause-does g c =
 
 pub returns-in-Ok-clause-does : goal.returns-in-Ok-clause-does
 returns-in-Ok-clause-does g c =
-    does_ok (TextAt (g.S.Source.view c.args.reader.now).budget) (CanonicalTextRejects
-    (g.S.Source.view c.args.reader.now).budget) (reached_as (StringAt 3
-    c.in_ok-canonical_buf.field-0.items) (λ xs ys. TextAt (g.S.Source.view c.args.reader.now).budget
-    xs c.in-Ok.text ys) (λ xs ys h. subst (λ content. StringAt 3 content xs ys) (ap
-    (λ (v : Vec ℕ Global). v.items) (sym c.in-Ok.ensures.ok)) h) (reached_string 3
-    c.in_ok-canonical_buf.field-0 c.in_ok-canonical_buf.ensures.moves
-    c.in_ok-canonical_buf.ensures.sound))
+    does_ok _ _ (reached_as (StringAt 3 c.in_ok-canonical_buf.field-0.items) _ (λ xs ys h. subst
+    (λ content. StringAt 3 content xs ys) (ap (λ (v : Vec ℕ Global). v.items)
+    (sym c.in-Ok.ensures.ok)) h) (reached_string 3 c.in_ok-canonical_buf.field-0
+    c.in_ok-canonical_buf.ensures.moves c.in_ok-canonical_buf.ensures.sound))
 
 pub returns-clause-does : goal.returns-clause-does
 returns-clause-does g c =
-    does_reject (StringAt 3 c.in_ok-canonical_buf.field-0.items) (TextAt (g.S.Source.view
-    c.args.reader.now).budget) (CanonicalTextRejects (g.S.Source.view c.args.reader.now).budget)
+    does_reject (StringAt 3 c.in_ok-canonical_buf.field-0.items) _ _
     (require_utf8 (kind_name text_string)) refl refl refl (λ xs ys h. no_text (g.S.Source.view
     c.args.reader.now).budget c.in_ok-canonical_buf.field-0.items xs ys (λ u. let f =
     c.in-Err.ensures.succeeds u in cc) h) (reached_string 3 c.in_ok-canonical_buf.field-0

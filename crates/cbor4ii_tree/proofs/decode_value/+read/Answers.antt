@@ -14,7 +14,7 @@ use Rattle.cbor4ii_tree.proofs.{skip_calls.Deeper.alike_within, skip_calls.Doing
 use Rattle.cbor4ii_tree.proofs.{values.LeafRuns.put_items, values.Leaves.after_look}
 use Rattle.cbor4ii_tree.proofs.skip_calls.Calls.{Before, broke, other, at_end}
 use Rattle.cbor4ii_tree.proofs.skip_calls.Doing.{reached_by, does_ok, does_no_memory, does_no_step}
-use Rattle.cbor4ii_tree.proofs.skip_calls.Doing.{still_rejected, reached_as}
+use Rattle.cbor4ii_tree.proofs.skip_calls.Doing.{refused, reached_as}
 use Rattle.cbor4ii_tree.proofs.{values.ByHead.after_next}
 use Rattle.cbor4ii_tree.proofs.values.ByHead.{next_step, next_stepped, peeks_next}
 use Rattle.cbor4ii_tree.proofs.{values.Calls.{stepped, value_no_step}, values.Heads.arm_does}
@@ -60,10 +60,7 @@ array_inside-returns-in_ok-definite_items-in-Some-clause-item g t c =
 pub array_inside-returns-in_err-definite_items-in-Some-clause-does :
     goal.array_inside-returns-in_err-definite_items-in-Some-clause-does
 array_inside-returns-in_err-definite_items-in-Some-clause-does g t c before shows =
-    rw c.from_residual-in_err-definite_items-in-Some.ensures (still_rejected (λ xs v ys.
-    ReadsArrayInside g.A.Encodings.exact before.budget xs v.items ys) (MakesArray (ReadsArrayInside
-    g.A.Encodings.exact) before.budget) (RejectsMajor g.A.Encodings.exact 4 before.budget)
-    (RejectsMajor g.A.Encodings.exact 4 before.budget) (λ xs z rest h. h) (array_definite
+    rw c.from_residual-in_err-definite_items-in-Some.ensures (refused (array_definite
     g.A.Encodings.exact c.in-Some.count (some_follow g.A.Encodings.exact 4 c.in-Some.count
     c.in-Some.is (c.in_ok-take_length.ensures.does before shows))
     c.in_err-definite_items-in-Some.ensures.does))
@@ -84,10 +81,7 @@ array_inside-returns-in_ok-indefinite_items-in-None-clause-item g t c =
 pub array_inside-returns-in_err-indefinite_items-in-None-clause-does :
     goal.array_inside-returns-in_err-indefinite_items-in-None-clause-does
 array_inside-returns-in_err-indefinite_items-in-None-clause-does g t c before shows =
-    rw c.from_residual-in_err-indefinite_items-in-None.ensures (still_rejected (λ xs v ys.
-    ReadsArrayInside g.A.Encodings.exact before.budget xs v.items ys) (MakesArray (ReadsArrayInside
-    g.A.Encodings.exact) before.budget) (RejectsMajor g.A.Encodings.exact 4 before.budget)
-    (RejectsMajor g.A.Encodings.exact 4 before.budget) (λ xs z rest h. h) (array_opened
+    rw c.from_residual-in_err-indefinite_items-in-None.ensures (refused (array_opened
     g.A.Encodings.exact (none_follow g.A.Encodings.exact 4 c.in-None.is
     (c.in_ok-take_length.ensures.does before shows))
     c.in_err-indefinite_items-in-None.ensures.does))
@@ -95,10 +89,7 @@ array_inside-returns-in_err-indefinite_items-in-None-clause-does g t c before sh
 pub array_inside-returns-in_err-take_length-clause-does :
     goal.array_inside-returns-in_err-take_length-clause-does
 array_inside-returns-in_err-take_length-clause-does g t c before shows =
-    rw c.from_residual.ensures (still_rejected (TakesLength g.A.Encodings.exact 4 before.budget)
-    (MakesArray (ReadsArrayInside g.A.Encodings.exact) before.budget) (RejectsMajor
-    g.A.Encodings.exact 4 before.budget) (RejectsMajor g.A.Encodings.exact 4 before.budget)
-    (λ xs z rest h. h) (c.in_err-take_length.ensures.does before shows))
+    rw c.from_residual.ensures (refused (c.in_err-take_length.ensures.does before shows))
 
 pub read_array-returns-clause-does : goal.read_array-returns-clause-does
 read_array-returns-clause-does g t c before shows =
@@ -114,9 +105,8 @@ read_array-returns-then-not-step_in-clause-does g t c before shows =
     let budget = (g.S.Source.view c.args.reader.now).budget in
     let accepts = ReadsStepped (MakesArray (ReadsArrayInside g.A.Encodings.exact)) in
     rw c.leave_deep.ensures (after_next c.args.next shows accepts (RejectsOf g.A.Encodings.exact 4)
-    (does_no_step array_name (accepts budget) (RejectsOf g.A.Encodings.exact 4 budget) refl refl
-    (λ none xs. array_no_step g.A.Encodings.exact budget none xs) c.if-not-step_in.ensures.budget
-    c.step_in.ensures.others))
+    (does_no_step array_name _ _ refl refl (λ none xs. array_no_step g.A.Encodings.exact budget none
+    xs) c.if-not-step_in.ensures.budget c.step_in.ensures.others))
 
 pub read_next-returns-in-4-clause-does : goal.read_next-returns-in-4-clause-does
 read_next-returns-in-4-clause-does g t c before shows =
@@ -150,10 +140,7 @@ map_inside-returns-in_ok-definite_members-in-Some-clause-item g t c =
 pub map_inside-returns-in_err-definite_members-in-Some-clause-does :
     goal.map_inside-returns-in_err-definite_members-in-Some-clause-does
 map_inside-returns-in_err-definite_members-in-Some-clause-does g t c before shows =
-    rw c.from_residual-in_err-definite_members-in-Some.ensures (still_rejected (λ xs v ys.
-    ReadsMapInside g.A.Encodings.exact before.budget xs v.items ys) (MakesMap (ReadsMapInside
-    g.A.Encodings.exact) before.budget) (RejectsMajor g.A.Encodings.exact 5 before.budget)
-    (RejectsMajor g.A.Encodings.exact 5 before.budget) (λ xs z rest h. h) (map_definite
+    rw c.from_residual-in_err-definite_members-in-Some.ensures (refused (map_definite
     g.A.Encodings.exact c.in-Some.count (some_follow g.A.Encodings.exact 5 c.in-Some.count
     c.in-Some.is (c.in_ok-take_length.ensures.does before shows))
     c.in_err-definite_members-in-Some.ensures.does))
@@ -175,10 +162,7 @@ map_inside-returns-in_ok-indefinite_members-in-None-clause-item g t c =
 pub map_inside-returns-in_err-indefinite_members-in-None-clause-does :
     goal.map_inside-returns-in_err-indefinite_members-in-None-clause-does
 map_inside-returns-in_err-indefinite_members-in-None-clause-does g t c before shows =
-    rw c.from_residual-in_err-indefinite_members-in-None.ensures (still_rejected (λ xs v ys.
-    ReadsMapInside g.A.Encodings.exact before.budget xs v.items ys) (MakesMap (ReadsMapInside
-    g.A.Encodings.exact) before.budget) (RejectsMajor g.A.Encodings.exact 5 before.budget)
-    (RejectsMajor g.A.Encodings.exact 5 before.budget) (λ xs z rest h. h) (map_opened
+    rw c.from_residual-in_err-indefinite_members-in-None.ensures (refused (map_opened
     g.A.Encodings.exact (none_follow g.A.Encodings.exact 5 c.in-None.is
     (c.in_ok-take_length.ensures.does before shows))
     c.in_err-indefinite_members-in-None.ensures.does))
@@ -186,10 +170,7 @@ map_inside-returns-in_err-indefinite_members-in-None-clause-does g t c before sh
 pub map_inside-returns-in_err-take_length-clause-does :
     goal.map_inside-returns-in_err-take_length-clause-does
 map_inside-returns-in_err-take_length-clause-does g t c before shows =
-    rw c.from_residual.ensures (still_rejected (TakesLength g.A.Encodings.exact 5 before.budget)
-    (MakesMap (ReadsMapInside g.A.Encodings.exact) before.budget) (RejectsMajor g.A.Encodings.exact
-    5 before.budget) (RejectsMajor g.A.Encodings.exact 5 before.budget) (λ xs z rest h. h)
-    (c.in_err-take_length.ensures.does before shows))
+    rw c.from_residual.ensures (refused (c.in_err-take_length.ensures.does before shows))
 
 pub read_map-returns-clause-does : goal.read_map-returns-clause-does
 read_map-returns-clause-does g t c before shows =
@@ -205,9 +186,8 @@ read_map-returns-then-not-step_in-clause-does g t c before shows =
     let budget = (g.S.Source.view c.args.reader.now).budget in
     let accepts = ReadsStepped (MakesMap (ReadsMapInside g.A.Encodings.exact)) in
     rw c.leave_deep.ensures (after_next c.args.next shows accepts (RejectsOf g.A.Encodings.exact 5)
-    (does_no_step map_name (accepts budget) (RejectsOf g.A.Encodings.exact 5 budget) refl refl
-    (λ none xs. map_no_step g.A.Encodings.exact budget none xs) c.if-not-step_in.ensures.budget
-    c.step_in.ensures.others))
+    (does_no_step map_name _ _ refl refl (λ none xs. map_no_step g.A.Encodings.exact budget none xs)
+    c.if-not-step_in.ensures.budget c.step_in.ensures.others))
 
 pub read_next-returns-in-5-clause-does : goal.read_next-returns-in-5-clause-does
 read_next-returns-in-5-clause-does g t c before shows =
@@ -226,10 +206,7 @@ read_next-returns-in-6-clause-does g t c before shows =
 
 pub read_tag-returns-in_err-number-clause-does : goal.read_tag-returns-in_err-number-clause-does
 read_tag-returns-in_err-number-clause-does g t c before shows =
-    rw c.from_residual.ensures (still_rejected (TakesTag g.A.Encodings.exact before.budget)
-    (λ xs v ys. ReadsUnder g.A.Encodings.exact before.budget xs v ys) (RejectsOf g.A.Encodings.exact
-    6 before.budget) (RejectsOf g.A.Encodings.exact 6 before.budget) (λ xs z rest h. h)
-    (c.in_err-number.ensures.does before shows))
+    rw c.from_residual.ensures (refused (c.in_err-number.ensures.does before shows))
 
 pub read_tag-returns-clause-does : goal.read_tag-returns-clause-does
 read_tag-returns-clause-does g t c before shows =
@@ -268,9 +245,7 @@ indefinite_items-loop-items-preserved g t c = record {
 
 pub indefinite_items-returns-clause-does : goal.indefinite_items-returns-clause-does
 indefinite_items-returns-clause-does g t c =
-    (does_ok (λ xs v ys. ReadsIndefiniteItems g.A.Encodings.exact (g.S.Source.view
-    c.args.reader.now).budget xs v.items ys) (RejectsIndefiniteItems g.A.Encodings.exact
-    (g.S.Source.view c.args.reader.now).budget) (broke (ReadEach g.A.Encodings.exact
+    (does_ok _ _ (broke (ReadEach g.A.Encodings.exact
     c.loop-items.items.items) c.loop-items.invariant.reached (λ xs ys. ReadsIndefiniteItems
     g.A.Encodings.exact (g.S.Source.view c.args.reader.now).budget xs c.loop-items.items.items ys)
     (λ xs ys zs h e. indefinite_done g.A.Encodings.exact (g.S.Source.view c.args.reader.now).budget
@@ -332,9 +307,7 @@ indefinite_members-loop-members-preserved g t c = record {
 
 pub indefinite_members-returns-clause-does : goal.indefinite_members-returns-clause-does
 indefinite_members-returns-clause-does g t c =
-    (does_ok (λ xs v ys. ReadsIndefiniteMembers g.A.Encodings.exact (g.S.Source.view
-    c.args.reader.now).budget xs v.items ys) (RejectsIndefiniteMembers g.A.Encodings.exact
-    (g.S.Source.view c.args.reader.now).budget) (broke (ReadPairs g.A.Encodings.exact
+    (does_ok _ _ (broke (ReadPairs g.A.Encodings.exact
     c.loop-members.members.items) c.loop-members.invariant.reached (λ xs ys. ReadsIndefiniteMembers
     g.A.Encodings.exact (g.S.Source.view c.args.reader.now).budget xs c.loop-members.members.items
     ys) (λ xs ys zs h e. members_done g.A.Encodings.exact (g.S.Source.view c.args.reader.now).budget
@@ -369,13 +342,13 @@ indefinite_members-returns-in_err-member-clause-does g t c =
 
 pub read_member-returns-clause-does : goal.read_member-returns-clause-does
 read_member-returns-clause-does g t c =
-    does_ok (ReadsMember g.A.Encodings.exact (g.S.Source.view c.args.reader.now).budget)
-    (RejectsMember g.A.Encodings.exact (g.S.Source.view c.args.reader.now).budget) (more
-    (ReadsOneValue g.A.Encodings.exact) (RejectsOneValue g.A.Encodings.exact) (λ xs ys.
-    ReadsOneValue g.A.Encodings.exact (g.S.Source.view c.args.reader.now).budget xs c.in_ok-key.key
-    ys) (reached_by c.in_ok-key.ensures.does) (λ xs ys. ReadsMember g.A.Encodings.exact
-    (g.S.Source.view c.args.reader.now).budget xs (c.in_ok-key.key, c.in_ok-value.value) ys)
-    (λ xs ys zs h s. (ys, h, s)) c.in_ok-value.ensures.does)
+    does_ok _ _ (more (ReadsOneValue g.A.Encodings.exact) (RejectsOneValue g.A.Encodings.exact)
+    (λ xs ys. ReadsOneValue g.A.Encodings.exact (g.S.Source.view c.args.reader.now).budget xs
+    c.in_ok-key.key ys) (reached_by c.in_ok-key.ensures.does) (λ xs ys. ReadsMember
+    g.A.Encodings.exact (g.S.Source.view c.args.reader.now).budget xs (
+      c.in_ok-key.key,
+      c.in_ok-value.value,
+    ) ys) (λ xs ys zs h s. (ys, h, s)) c.in_ok-value.ensures.does)
 
 pub read_member-returns-in_err-key-clause-does : goal.read_member-returns-in_err-key-clause-does
 read_member-returns-in_err-key-clause-does g t c =
@@ -404,36 +377,28 @@ read_value-returns-clause-does g t c =
 pub indefinite_items-returns-in_err-keep-clause-does :
     goal.indefinite_items-returns-in_err-keep-clause-does
 indefinite_items-returns-in_err-keep-clause-does g t c =
-    rw c.from_residual-in_err-keep.ensures (does_no_memory (λ xs v ys. ReadsIndefiniteItems
-    g.A.Encodings.exact (g.S.Source.view c.args.reader.now).budget xs v.items ys)
-    (RejectsIndefiniteItems g.A.Encodings.exact (g.S.Source.view c.args.reader.now).budget) (ap
-    error_left c.in_err-keep.ensures.memory) (kept_then (kept_then
-    c.loop-items.invariant.reached.kept (rw c.in_ok-part.ensures at
-    c.is_break.ensures.decodes.moves).by) c.in_ok-value.ensures.does.moves.by))
+    rw c.from_residual-in_err-keep.ensures (does_no_memory _ _ (ap error_left
+    c.in_err-keep.ensures.memory) (kept_then (kept_then c.loop-items.invariant.reached.kept (rw
+    c.in_ok-part.ensures at c.is_break.ensures.decodes.moves).by)
+    c.in_ok-value.ensures.does.moves.by))
 
 pub indefinite_members-returns-in_err-keep-clause-does :
     goal.indefinite_members-returns-in_err-keep-clause-does
 indefinite_members-returns-in_err-keep-clause-does g t c =
-    rw c.from_residual-in_err-keep.ensures (does_no_memory (λ xs v ys. ReadsIndefiniteMembers
-    g.A.Encodings.exact (g.S.Source.view c.args.reader.now).budget xs v.items ys)
-    (RejectsIndefiniteMembers g.A.Encodings.exact (g.S.Source.view c.args.reader.now).budget) (ap
-    error_left c.in_err-keep.ensures.memory) (kept_then (kept_then
-    c.loop-members.invariant.reached.kept (rw c.in_ok-part.ensures at
-    c.is_break.ensures.decodes.moves).by) c.in_ok-member.ensures.does.moves.by))
+    rw c.from_residual-in_err-keep.ensures (does_no_memory _ _ (ap error_left
+    c.in_err-keep.ensures.memory) (kept_then (kept_then c.loop-members.invariant.reached.kept (rw
+    c.in_ok-part.ensures at c.is_break.ensures.decodes.moves).by)
+    c.in_ok-member.ensures.does.moves.by))
 
 pub definite_members-returns-then-is_err-clause-does :
     goal.definite_members-returns-then-is_err-clause-does
 definite_members-returns-then-is_err-clause-does g t c =
-    does_no_memory (λ xs v ys. ReadsMembers g.A.Encodings.exact c.args.count (g.S.Source.view
-    c.args.reader.now).budget xs v.items ys) (RejectsMembers g.A.Encodings.exact c.args.count
-    (g.S.Source.view c.args.reader.now).budget) refl (kept_alike _)
+    does_no_memory _ _ refl (kept_alike _)
 
 pub read_value-returns-then-not-step_in-clause-does :
     goal.read_value-returns-then-not-step_in-clause-does
 read_value-returns-then-not-step_in-clause-does g t c =
-    rw c.leave_deep.ensures (does_no_step value_name (ReadsOneValue g.A.Encodings.exact
-    (g.S.Source.view c.args.reader.now).budget) (RejectsOneValue g.A.Encodings.exact
-    (g.S.Source.view c.args.reader.now).budget) refl refl (λ none xs. value_no_step
+    rw c.leave_deep.ensures (does_no_step value_name _ _ refl refl (λ none xs. value_no_step
     g.A.Encodings.exact _ none xs) c.if-not-step_in.ensures.budget c.step_in.ensures.others)
 
 pub indefinite_items-loop-items-smaller : goal.indefinite_items-loop-items-smaller
@@ -457,9 +422,7 @@ pub read_tagged-returns-in_err-inner-clause-does :
 read_tagged-returns-in_err-inner-clause-does g t c =
     let exact = g.A.Encodings.exact in
     let budget = (g.S.Source.view c.args.reader.now).budget in
-    rw c.from_residual.ensures (still_rejected (ReadsOneValue exact budget)
-    (ReadsTagged exact c.args.number budget) (RejectsOneValue exact budget)
-    (RejectsOneValue exact budget) (λ xs z rest h. h) c.in_err-inner.ensures.does)
+    rw c.from_residual.ensures (refused c.in_err-inner.ensures.does)
 
 pub read_tagged-returns-in-Ok-clause-does : goal.read_tagged-returns-in-Ok-clause-does
 read_tagged-returns-in-Ok-clause-does g t c =
@@ -469,9 +432,7 @@ read_tagged-returns-in-Ok-clause-does g t c =
 
 pub read_tagged-returns-clause-does : goal.read_tagged-returns-clause-does
 read_tagged-returns-clause-does g t c =
-    does_no_memory (ReadsTagged g.A.Encodings.exact c.args.number (g.S.Source.view
-    c.args.reader.now).budget) (RejectsOneValue g.A.Encodings.exact (g.S.Source.view
-    c.args.reader.now).budget) refl c.in_ok-inner.ensures.does.moves.by
+    does_no_memory _ _ refl c.in_ok-inner.ensures.does.moves.by
 
 -- ---- as many values as one look decides, and the one after them
 
@@ -579,8 +540,7 @@ pub definite_items-loop-alloc-preserved : goal.definite_items-loop-alloc-preserv
 definite_items-loop-alloc-preserved g t c = record {
   reached =
       ran g.A.Encodings.exact (1 * c.args.count) c.loop-alloc.items.items
-      c.more_items.new.items.items c.loop-alloc.invariant.reached
-      c.in_ok-more_items.ensures.does;
+      c.more_items.new.items.items c.loop-alloc.invariant.reached c.in_ok-more_items.ensures.does;
   items = c.in_ok-more_items.ensures.items c.loop-alloc.invariant.items;
   few = c.in_ok-more_items.ensures.few;
 }
@@ -612,8 +572,7 @@ pub definite_members-loop-alloc-preserved : goal.definite_members-loop-alloc-pre
 definite_members-loop-alloc-preserved g t c = record {
   reached =
       ran g.A.Encodings.exact (2 * c.args.count) (flat c.loop-alloc.pairs) (flat
-      c.more_members.new.pairs) c.loop-alloc.invariant.reached
-      c.in_ok-more_members.ensures.does;
+      c.more_members.new.pairs) c.loop-alloc.invariant.reached c.in_ok-more_members.ensures.does;
   items = c.in_ok-more_members.ensures.items c.loop-alloc.invariant.items;
   few = c.in_ok-more_members.ensures.few;
 }
@@ -632,11 +591,9 @@ definite_members-returns-clause-does g t c =
     let pairs = c.loop-alloc.pairs in
     let all = both_there pairs.members.items pairs.key c.args.count c.loop-alloc.invariant.few
     (c.lacks.ensures.full c.loop-alloc-test.false) in
-    does_ok (λ xs v ys. ReadsMembers g.A.Encodings.exact c.args.count budget xs v.items ys)
-    (RejectsMembers g.A.Encodings.exact c.args.count budget) (reached_as (λ xs ys. ReadsEach (Whole
-    g.A.Encodings.exact budget) (length (flat pairs)) xs (flat pairs) ys) (λ xs ys. ReadsMembers
-    g.A.Encodings.exact c.args.count budget xs pairs.members.items ys) (λ xs ys h. pairs_are_read
-    (Whole g.A.Encodings.exact budget) pairs.members.items pairs.key c.args.count xs ys all h)
+    does_ok _ _ (reached_as (λ xs ys. ReadsEach (Whole g.A.Encodings.exact budget)
+    (length (flat pairs)) xs (flat pairs) ys) _ (λ xs ys h. pairs_are_read (Whole
+    g.A.Encodings.exact budget) pairs.members.items pairs.key c.args.count xs ys all h)
     c.loop-alloc.invariant.reached)
 
 pub definite_members-returns-clause-items : goal.definite_members-returns-clause-items

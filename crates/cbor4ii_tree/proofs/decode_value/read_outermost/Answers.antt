@@ -12,7 +12,5 @@ returns-clause-does g c =
 pub returns-then-not-step_in-clause-does :
     goal.returns-then-not-step_in-clause-does
 returns-then-not-step_in-clause-does g c =
-    rw c.leave_deep.ensures (does_no_step value_name (ReadsOneValue g.A.Encodings.exact
-    (g.S.Source.view c.args.reader.now).budget) (RejectsOneValue g.A.Encodings.exact
-    (g.S.Source.view c.args.reader.now).budget) refl refl (λ none xs. value_no_step
+    rw c.leave_deep.ensures (does_no_step value_name _ _ refl refl (λ none xs. value_no_step
     g.A.Encodings.exact _ none xs) c.if-not-step_in.ensures.budget c.step_in.ensures.others)

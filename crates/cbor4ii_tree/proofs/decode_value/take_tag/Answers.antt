@@ -5,8 +5,7 @@ use Rattle.cbor4ii_tree.proofs.decode_value.take_tag.Goals as goal
 pub returns-in-Some-clause-does : goal.returns-in-Some-clause-does
 returns-in-Some-clause-does g c before shows =
     let exact = g.A.Encodings.exact in
-    does_ok (TakesTag exact before.budget) (RejectsOf exact 6 before.budget)
-    (takes_head exact c.args.next 6 c.in-Some.head shows c.in-Some.is c.requires.major
+    does_ok _ _ (takes_head exact c.args.next 6 c.in-Some.head shows c.in-Some.is c.requires.major
     c.advance.ensures)
 
 pub returns-in-None-clause-does : goal.returns-in-None-clause-does

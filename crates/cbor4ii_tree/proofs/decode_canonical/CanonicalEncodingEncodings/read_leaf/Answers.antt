@@ -48,8 +48,8 @@ returns-in_err-read_text-in_default-clause-does g c =
     c.from_residual-in_err-read_text-in_default.ensures.1 in
     let budget = (g.S.Source.view c.args.reader.now).budget in
     let major : c.args.first / 32 ≡ 3 = omega (arith, c.requires.major, c.in_default) in
-    rw (p.1, p.2) (still_rejected (TextAt budget) (ReadsUnder true budget) (CanonicalTextRejects
-    budget) (RejectsFirst true c.args.first budget) (λ xs z rest h bs is. subst (λ x. RejectsUnder
+    rw (p.1, p.2) (still_rejected _ _ (CanonicalTextRejects
+    budget) _ (λ xs z rest h bs is. subst (λ x. RejectsUnder
     true budget x z rest) (sym is) (at_major 3 budget c.args.first bs z rest major (subst (λ x.
     CanonicalTextRejects budget x z rest) is h))) c.in_err-read_text-in_default.ensures.does)
 
@@ -80,10 +80,8 @@ pub returns-in_ok-read_text-in_default-clause-does :
 returns-in_ok-read_text-in_default-clause-does g c =
     let budget = (g.S.Source.view c.args.reader.now).budget in
     let v = c.in_ok-read_text-in_default.field-0 in
-    does_ok (ReadsUnder true budget) (RejectsFirst true c.args.first budget)
-    (reached_as (λ xs ys. TextAt budget xs v ys) (λ xs ys. ReadsUnder true budget xs (Text v) ys)
-    (λ xs ys h. text_exact budget v xs ys (IsUtf8-string_bytes v) h)
-    (reached_by c.in_ok-read_text-in_default.ensures.does))
+    does_ok _ _ (reached_as (λ xs ys. TextAt budget xs v ys) _ (λ xs ys h. text_exact budget v xs ys
+    (IsUtf8-string_bytes v) h) (reached_by c.in_ok-read_text-in_default.ensures.does))
 
 pub returns-in_ok-read_text-in_default-clause-item :
     goal.returns-in_ok-read_text-in_default-clause-item

@@ -11,10 +11,11 @@ returns-then-first-major-clause-does g c before shows =
     let first = c.args.first in
     let major = c.args.major in
     let is : first ≡ indefinite_head major = omega (arith, c.if-first-major.true) in
-    does_ok (TakesLength false major before.budget) (RejectsMajor false major before.budget)
-    (reached_as (λ xs ys. xs ≡ first ∷ ys) (IndefiniteAt false major)
-    (λ xs ys h. (refl, subst (λ b. xs ≡ b ∷ ys) is h))
-    (reached_first value_name 1 first shows.runs (omega arith) c.advance.ensures))
+    does_ok _ _ (reached_as (λ xs ys. xs ≡ first ∷ ys) _ (λ xs ys h. (
+      refl,
+      subst (λ b. xs ≡ b ∷ ys)
+          is h,
+    )) (reached_first value_name 1 first shows.runs (omega arith) c.advance.ensures))
 
 pub returns-clause-does : goal.returns-clause-does
 returns-clause-does g c before shows =
