@@ -4,13 +4,11 @@ use Rattle.std.specs.Result.{IsErrAnd}
 use Rattle.cbor4ii_rw.specs.declared.error.DecodeError.{DecodeError}
 use Rattle.cbor4ii_rw.specs.declared.error.WholeError.{WholeError}
 use Rattle.cbor4ii_rw.specs.declared.error.WholeError.TheVariants.{Decode, Trailing}
-use Rattle.cbor4ii_items.specs.Decoding.{NoneRead}
-use Rattle.cbor4ii_items.specs.InputError.{input_error_of}
-use Rattle.cbor4ii_items.specs.Laws.Answering.{if_some}
-use Rattle.cbor4ii_items.specs.Whole.{DecodesWhole, NoneIsWhole, NotBegun, Trails}
+use Rattle.cbor4ii_items.specs.{Decoding.NoneRead, InputError.input_error_of}
+use Rattle.cbor4ii_items.specs.{Laws.Answering.if_some, Whole.{DecodesWhole, NoneIsWhole, NotBegun}}
+use Rattle.cbor4ii_items.specs.Whole.{Trails}
+use Rattle.cbor4ii_tree.specs.{PlainRaw.{plain_raw_format, ReadsPlainRaw}, Promises.value_format}
 use Rattle.cbor4ii_tree.specs.declared.plain_raw.PlainRawValue.{PlainRawValue}
-use Rattle.cbor4ii_tree.specs.Promises.{value_format}
-use Rattle.cbor4ii_tree.specs.PlainRaw.{plain_raw_format, ReadsPlainRaw}
 
 none : (xs : List ℕ) (budget : Option ℕ) → NoneRead value_format.reads xs budget
     → NoneRead ReadsPlainRaw xs budget

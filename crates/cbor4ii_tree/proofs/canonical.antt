@@ -2,6 +2,6 @@
 pub mod Decoding
 pub mod Calls
 pub mod FitsCanonically
-pub mod Lacking
+pub mod NotCanonical
 pub mod AsValue
 pub mod Once

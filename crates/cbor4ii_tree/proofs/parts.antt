@@ -5,3 +5,5 @@ pub mod Widen
 pub mod Prefixes
 pub mod Pushed
 pub mod Joined
+pub mod Rejecting
+pub mod Cut

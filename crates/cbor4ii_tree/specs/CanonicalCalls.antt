@@ -1,15 +1,10 @@
--- What the parts of reading a string that is encoded in one way accept, and steps.
-use Rattle.std.specs.Prelude.{ℕ, suc, List, ◌++◌, length, Some, None, string_bytes}
+-- What the parts of reading a string that is encoded in one way accept.
+use Rattle.std.specs.Prelude.{ℕ, List, ◌++◌, length, string_bytes}
 use Rattle.cbor4ii_tree.specs.Does.{Accepting}
 use Rattle.cbor4ii_tree.specs.Cost.{Budget}
 use Rattle.cbor4ii_tree.specs.CanonicalRejects.{ShortestAt}
 use Rattle.std.specs.declared.alloc.Global.{Global}
 use Rattle.std.specs.declared.string.String.{String}
-
--- the budget before a step that leaves this one
-abbrev pub raise : Budget → Budget
-raise None = None
-raise (Some n) = Some (suc n)
 
 -- a shortest head of the content's length, the content, and what follows it
 abbrev pub StringAt : ℕ → List ℕ → List ℕ → List ℕ → Type 0

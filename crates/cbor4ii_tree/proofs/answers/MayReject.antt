@@ -2,28 +2,22 @@
 -- that nothing mends.
 use Rattle.std.proofs.Common.{◌≡◌, ℕ, zero, suc, ◌*◌, inl, inr, List, [], ◌∷◌, length, Option, Some}
 use Rattle.std.proofs.Common.{None, sym, subst}
-use Rattle.cbor4ii_items.specs.Head.{Width}
-use Rattle.cbor4ii_items.specs.Initial.{Kind, byte_string, text_string, kind_major, Initial}
-use Rattle.cbor4ii_items.specs.Initial.{starts_int, bad_int, starts_string, starts_chunks}
+use Rattle.cbor4ii_items.specs.{Head.Width, Initial.{Kind, byte_string, text_string, kind_major}}
+use Rattle.cbor4ii_items.specs.Initial.{Initial, starts_int, bad_int, starts_string, starts_chunks}
 use Rattle.cbor4ii_items.specs.Initial.{bad_string, starts_array, starts_indefinite_array}
-use Rattle.cbor4ii_items.specs.Initial.{bad_array}
-use Rattle.cbor4ii_items.specs.Initial.{starts_map, starts_indefinite_map, bad_map, starts_tag}
-use Rattle.cbor4ii_items.specs.Initial.{bad_tag}
-use Rattle.cbor4ii_items.specs.Initial.{starts_simple, starts_bits, other_simple, initial}
-use Rattle.cbor4ii_tree.specs.Tree.{Tree}
-use Rattle.cbor4ii_tree.specs.Cost.{Budget, step_in}
-use Rattle.cbor4ii_tree.specs.InputError.{InputError, Len, eof, mismatch, MayReject, IsEof}
-use Rattle.cbor4ii_tree.specs.InputError.{ignored_any}
-use Rattle.cbor4ii_tree.specs.InputError.{tag_name, array_name, map_name, kind_name}
-use Rattle.cbor4ii_tree.specs.Rejections.{Stopping, Is, Missing, AtHead, RejectsInCount}
-use Rattle.cbor4ii_tree.specs.Rejections.{RejectsAtStep}
-use Rattle.cbor4ii_tree.specs.Rejections.{NoBreak, IndefiniteItems, IndefinitePairs}
-use Rattle.cbor4ii_tree.specs.SkippingRejects.{Skippable, SkippingRejectsBy, SkippingRejectsFrom}
-use Rattle.cbor4ii_tree.specs.SkippingRejects.{SkippingRejectsWithin, SkippingRejects}
-use Rattle.cbor4ii_tree.specs.ReadingRejects.{Readable, CutString, ChunkRejectsBy, ChunkRejects}
+use Rattle.cbor4ii_items.specs.Initial.{bad_array, starts_map, starts_indefinite_map, bad_map}
+use Rattle.cbor4ii_items.specs.Initial.{starts_tag, bad_tag, starts_simple, starts_bits}
+use Rattle.cbor4ii_items.specs.Initial.{other_simple, initial}
+use Rattle.cbor4ii_tree.specs.{Cost.{Budget, step_in}, InputError.{InputError, Len, eof, mismatch}}
+use Rattle.cbor4ii_tree.specs.InputError.{MayReject, IsEof, ignored_any, tag_name, array_name}
+use Rattle.cbor4ii_tree.specs.{InputError.{map_name, kind_name}, ReadingRejects.Readable}
+use Rattle.cbor4ii_tree.specs.ReadingRejects.{CutString, ChunkRejectsBy, ChunkRejects}
 use Rattle.cbor4ii_tree.specs.ReadingRejects.{ReadingRejectsBy, ReadingRejectsFrom}
-use Rattle.cbor4ii_tree.specs.ReadingRejects.{ReadingRejectsWithin}
-use Rattle.cbor4ii_tree.specs.ReadingRejects.{ReadingRejects}
+use Rattle.cbor4ii_tree.specs.ReadingRejects.{ReadingRejectsWithin, ReadingRejects}
+use Rattle.cbor4ii_tree.specs.Rejections.{Stopping, Is, Missing, AtHead, RejectsInCount}
+use Rattle.cbor4ii_tree.specs.Rejections.{RejectsAtStep, NoBreak, IndefiniteItems, IndefinitePairs}
+use Rattle.cbor4ii_tree.specs.SkippingRejects.{Skippable, SkippingRejectsBy, SkippingRejectsFrom}
+use Rattle.cbor4ii_tree.specs.{SkippingRejects.{SkippingRejectsWithin, SkippingRejects}, Tree.Tree}
 
 -- the error is one of these, and an end of the input leaves nothing
 abbrev Says : InputError → List ℕ → Type 0
@@ -161,9 +155,8 @@ reading_by_known b s k (starts_array v) a bs e rest x =
     (λ inner z. at_head_known array_name 4 v a (RejectsInCount (Readable inner) (s inner))
     (λ n bs' e' rest' y. k inner y.after e' rest' y.stopped) bs e rest z) x
 reading_by_known b s k starts_indefinite_array a bs e rest x =
-    stepped_known _ (step_in b) (a ∷ bs) (λ inner. IndefiniteItems (Readable inner) (s inner)
-    bs) e rest
-    (λ inner z. items_known (Readable inner) (s inner) (k inner) bs e rest z) x
+    stepped_known _ (step_in b) (a ∷ bs) (λ inner. IndefiniteItems (Readable inner) (s inner) bs) e
+    rest (λ inner z. items_known (Readable inner) (s inner) (k inner) bs e rest z) x
 reading_by_known b s k bad_array a bs e rest x =
     stepped_known _ (step_in b) (a ∷ bs) (λ inner. Is (mismatch array_name a) bs) e rest
     (λ inner z. other _ e rest z.0 (inr (inr tt)) (λ h. h)) x
@@ -173,9 +166,8 @@ reading_by_known b s k (starts_map v) a bs e rest x =
     rest (λ inner z. at_head_known map_name 5 v a (λ n. RejectsInCount (Readable inner) (s inner)
     (2 * n)) (λ n bs' e' rest' y. k inner y.after e' rest' y.stopped) bs e rest z) x
 reading_by_known b s k starts_indefinite_map a bs e rest x =
-    stepped_known _ (step_in b) (a ∷ bs) (λ inner. IndefinitePairs (Readable inner) (s inner)
-    bs) e rest
-    (λ inner z. pairs_known (Readable inner) (s inner) (k inner) bs e rest z) x
+    stepped_known _ (step_in b) (a ∷ bs) (λ inner. IndefinitePairs (Readable inner) (s inner) bs) e
+    rest (λ inner z. pairs_known (Readable inner) (s inner) (k inner) bs e rest z) x
 reading_by_known b s k bad_map a bs e rest x =
     stepped_known _ (step_in b) (a ∷ bs) (λ inner. Is (mismatch map_name a) bs) e rest
     (λ inner z. other _ e rest z.0 (inr (inr tt)) (λ h. h)) x

@@ -1,49 +1,32 @@
 -- What a decoding call promises of known bytes follows from what it accepts and where it fails.
-use Rattle.std.proofs.Common.{false}
-use Rattle.std.proofs.Common.{◌≡◌, ℕ, ◌⊎◌, inl, inr, List, [], ◌++◌, length, take, drop, Option}
-use Rattle.std.proofs.Common.{Some, None, Result, Ok, Err, refl, sym, ap, ◌∙◌, subst}
-use Rattle.std.proofs.Common.{append_assoc, append-nil, arith, length-append, MatchBool, IfSome}
-use Rattle.std.proofs.Common.{IfOk}
-use Rattle.std.proofs.lemmas.List.{take-append-drop}
-use Rattle.cbor4ii_rw.specs.View.{View}
-use Rattle.cbor4ii_rw.specs.declared.error.DecodeError.{DecodeError}
-use Rattle.cbor4ii_items.specs.Head.{IsBytes}
-use Rattle.cbor4ii_items.specs.InputError.{InputError, input_error_of}
-use Rattle.cbor4ii_items.specs.Moves.{Moves, Kept, ReaderFailed}
-use Rattle.cbor4ii_items.specs.Laws.Answering.{not_read}
-use Rattle.cbor4ii_tree.specs.declared.value.Value.{Value}
-use Rattle.cbor4ii_tree.specs.Tree.{Tree, bytes, Loose, Joins}
-use Rattle.cbor4ii_tree.specs.Item.{Item, IsItem}
-use Rattle.cbor4ii_tree.specs.Cost.{Budget, cost}
-use Rattle.cbor4ii_tree.specs.Canonical.{canonical_encoding, canonical_cost}
-use Rattle.cbor4ii_tree.specs.InputError.{eof, IsEof, IsDepthOverflow, IsFinal, MayReject}
-use Rattle.cbor4ii_tree.specs.Encodings.{Encodes, DecodesTo, Skips, IsProperPrefix}
-use Rattle.cbor4ii_tree.specs.Rejections.{Stopping}
-use Rattle.cbor4ii_tree.specs.SkippingRejects.{SkippingRejects}
-use Rattle.cbor4ii_tree.specs.ReadingRejects.{ReadingRejects}
-use Rattle.cbor4ii_tree.specs.Does.{Does}
-use Rattle.cbor4ii_tree.specs.Skipping.{SkipsOne, RejectsSkippingOne}
-use Rattle.cbor4ii_tree.specs.Valuing.{ReadsOneValue}
-use Rattle.cbor4ii_tree.specs.View.{view}
-use Rattle.cbor4ii_tree.specs.Promises.{Others, PrefixSkips, EofSkips, DepthSkips}
-use Rattle.cbor4ii_tree.specs.Headline.{AllSkips}
-use Rattle.cbor4ii_tree.specs.Promises.{FinalSkips, ExactSkips}
-use Rattle.cbor4ii_tree.specs.Headline.{OnlyReads, AllReads, PrefixReads}
-use Rattle.cbor4ii_tree.specs.Promises.{DepthReads, FinalReads, ExactReads, SizeReads}
-use Rattle.cbor4ii_tree.specs.Headline.{EofReads}
-use Rattle.cbor4ii_tree.specs.Headline.{SkipsReads, CanonicalReads}
-use Rattle.cbor4ii_tree.proofs.encodings.Canonical.{canonical_encodes}
+use Rattle.std.proofs.{Common.IfOk, lemmas.List.take-append-drop, Common.{false, ◌≡◌, ℕ, ◌⊎◌, inl}}
+use Rattle.std.proofs.Common.{inr, List, [], ◌++◌, length, take, drop, Option, Some, None, Result}
+use Rattle.std.proofs.Common.{Ok, Err, refl, sym, ap, ◌∙◌, subst, append_assoc, append-nil, arith}
+use Rattle.std.proofs.Common.{length-append, MatchBool, IfSome}
+use Rattle.cbor4ii_rw.specs.{View.View, declared.error.DecodeError.DecodeError}
+use Rattle.cbor4ii_items.specs.{Head.IsBytes, InputError.{InputError, input_error_of}}
+use Rattle.cbor4ii_items.specs.{Laws.Answering.not_read, Moves.{Moves, Kept, ReaderFailed}}
+use Rattle.cbor4ii_tree.proofs.{encodings.Canonical.canonical_encodes, encodings.Sizes.size-of_tree}
+use Rattle.cbor4ii_tree.proofs.{skipping.Answer.one_skipping, skipping.Laws.none_left}
 use Rattle.cbor4ii_tree.proofs.answers.MayReject.{skipping_may_stop, skipping_leaves_nothing}
 use Rattle.cbor4ii_tree.proofs.answers.MayReject.{reading_may_stop, reading_leaves_nothing}
-use Rattle.cbor4ii_tree.proofs.encodings.Sizes.{size-of_tree}
-use Rattle.cbor4ii_tree.proofs.skipping.Answer.{one_skipping}
-use Rattle.cbor4ii_tree.proofs.skipping.Laws.{none_left}
-use Rattle.cbor4ii_tree.proofs.skipping.Laws as skipping
+use Rattle.cbor4ii_tree.proofs.{parts.Rejecting.skips_by, reading.Answer.decodes_tree}
+use Rattle.cbor4ii_tree.proofs.{reading.Answer.one_reading, reading.Widen.reading_persists}
 use Rattle.cbor4ii_tree.proofs.skipping.Widen.{skipping_persists}
-use Rattle.cbor4ii_tree.proofs.reading.Answer.{one_reading}
+use Rattle.cbor4ii_tree.specs.{Item.IsItem, Laws.Ignoring.one_encoding, Promises.Others}
+use Rattle.cbor4ii_tree.specs.{ReadingRejects.ReadingRejects, Rejections.Stopping}
+use Rattle.cbor4ii_tree.specs.{Valuing.ReadsOneValue, View.view, declared.value.Value.Value}
+use Rattle.cbor4ii_tree.specs.{Canonical.{canonical_encoding, canonical_cost}, Cost.{Budget, cost}}
+use Rattle.cbor4ii_tree.specs.{Does.Does, Encodings.{Encodes, DecodesTo, Skips, IsProperPrefix}}
+use Rattle.cbor4ii_tree.specs.Headline.{AllSkips, OnlyReads, AllReads, PrefixReads, EofReads}
+use Rattle.cbor4ii_tree.specs.{Headline.{SkipsReads, CanonicalReads}, InputError.{eof, IsEof}}
+use Rattle.cbor4ii_tree.specs.{InputError.{IsDepthOverflow, IsFinal, MayReject}, Item.Item}
+use Rattle.cbor4ii_tree.specs.Promises.{PrefixSkips, EofSkips, DepthSkips, FinalSkips, ExactSkips}
+use Rattle.cbor4ii_tree.specs.Promises.{DepthReads, FinalReads, ExactReads, SizeReads}
+use Rattle.cbor4ii_tree.specs.Skipping.{SkipsOne, RejectsSkippingOne}
+use Rattle.cbor4ii_tree.specs.{SkippingRejects.SkippingRejects, Tree.{Tree, bytes, Loose, Joins}}
+use Rattle.cbor4ii_tree.proofs.skipping.Laws as skipping
 use Rattle.cbor4ii_tree.proofs.reading.Laws as reading
-use Rattle.cbor4ii_tree.proofs.reading.Widen.{reading_persists}
-use Rattle.cbor4ii_tree.specs.Laws.Ignoring.{one_encoding}
 
 -- ---- what an error says
 
@@ -56,7 +39,7 @@ if_some (Some z) P Q f p = f z refl p
 abbrev Stopped : Stopping → View → List ℕ → InputError → Type 0
 Stopped rejects b xs z = (ys : List ℕ) × (b.known ≡ Some ys) × rejects xs z ys
 
-no_eof : (z : InputError) → IsDepthOverflow z ⊎ IsFinal z → ¬ (IsEof z)
+pub no_eof : (z : InputError) → IsDepthOverflow z ⊎ IsFinal z → ¬ (IsEof z)
 no_eof (eof name expect) (inl d) q = absurd d
 no_eof (eof name expect) (inr f) q = absurd f
 no_eof _ d q = absurd q
@@ -119,11 +102,8 @@ prefix_skips {a = a} (Ok v) d = λ xs known t loose fits prefix. let s = d.ok xs
     (none_left s.0 prefix.0 (one_encoding s.2.0 t (s.0 ++ prefix.0) [] s.2.1.loose loose all).1)
 prefix_skips {a = a} {b = b} (Err e) d = λ xs known t loose fits prefix.
     if_some (input_error_of e) (Stopped (λ ys. SkippingRejects ys a.budget) b xs) IsEof
-    (λ z says h. skipping_eof_alone xs prefix.0 a.budget t z h.0 (record {
-      loose = loose;
-      fits = fits;
-      begins = sym prefix.2 ∙ sym (append-nil (bytes t));
-    }) h.2) (d.err xs known)
+    (λ z says h. skipping_eof_alone xs prefix.0 a.budget t z h.0 (skips_by loose fits (sym prefix.2
+    ∙ sym (append-nil (bytes t)))) h.2) (d.err xs known)
 
 pub eof_skips : {V E : Type 0} {a b : View} (answer : Result V (DecodeError E))
     → SkipsCall a b answer → EofSkips a b answer
@@ -137,37 +117,33 @@ eof_skips {V = V} {a = a} {b = b} (Err e) d = λ xs known.
       none,
       skipping_eof_prefix xs a.budget z h.0 ended
           (all_bytes {V = V} a b e z xs says d.moves known none) h.2,
-    ))
-    (d.err xs known)
+    )) (d.err xs known)
 
 pub depth_skips : {V E : Type 0} {a b : View} (answer : Result V (DecodeError E))
     → SkipsCall a b answer → DepthSkips a answer
 depth_skips (Ok v) d = λ xs known. tt
 depth_skips {a = a} {b = b} (Err e) d = λ xs known.
-    if_some (input_error_of e) (Stopped (λ ys. SkippingRejects ys a.budget) b xs)
-    (λ z. IsDepthOverflow z
-    → (more : List ℕ) (t : Tree) (after : List ℕ) → ¬ (Skips (xs ++ more) a.budget t after))
-    (λ z says h deep more t after r. (one_skipping (xs ++ more) a.budget).not_both t after z
-    (h.0 ++ more) r (skipping_persists xs more a.budget z h.0 (no_eof z (inl deep)) h.2))
+    if_some (input_error_of e) (Stopped (λ ys. SkippingRejects ys a.budget) b xs) (λ z.
+    IsDepthOverflow z → (more : List ℕ) (t : Tree) (after : List ℕ) → ¬ (Skips (xs ++ more) a.budget
+    t after)) (λ z says h deep more t after r. (one_skipping (xs ++ more) a.budget).not_both t after
+    z (h.0 ++ more) r (skipping_persists xs more a.budget z h.0 (no_eof z (inl deep)) h.2))
     (d.err xs known)
 
 pub final_skips : {V E : Type 0} {a b : View} (answer : Result V (DecodeError E))
     → SkipsCall a b answer → FinalSkips a answer
 final_skips (Ok v) d = λ xs known. tt
 final_skips {a = a} {b = b} (Err e) d = λ xs known.
-    if_some (input_error_of e) (Stopped (λ ys. SkippingRejects ys a.budget) b xs)
-    (λ z. IsFinal z → (more : List ℕ) (other : Budget) (t : Tree) (after : List ℕ)
-    → ¬ (Skips (xs ++ more) other t after))
-    (λ z says h final more other t after r.
-    skipping.final_stays xs more a.budget other z h.0 t after final h.2 r) (d.err xs known)
+    if_some (input_error_of e) (Stopped (λ ys. SkippingRejects ys a.budget) b xs) (λ z. IsFinal z
+    → (more : List ℕ) (other : Budget) (t : Tree) (after : List ℕ) → ¬ (Skips (xs ++ more) other t
+    after)) (λ z says h final more other t after r. skipping.final_stays xs more a.budget other z
+    h.0 t after final h.2 r) (d.err xs known)
 
 pub others_skips : {V E : Type 0} {a b : View} (answer : Result V (DecodeError E))
     → SkipsCall a b answer → Others a answer
 others_skips (Ok v) d = λ xs known. tt
 others_skips {a = a} {b = b} (Err e) d =
     λ xs known. if_some (input_error_of e) (Stopped (λ ys. SkippingRejects ys a.budget) b xs)
-    MayReject
-    (λ z says h. skipping_may_stop xs a.budget z h.0 h.2) (d.err xs known)
+    MayReject (λ z says h. skipping_may_stop xs a.budget z h.0 h.2) (d.err xs known)
 
 pub exact_skips : {V E : Type 0} {a b : View} (answer : Result V (DecodeError E))
     → SkipsCall a b answer → ExactSkips a b answer
@@ -186,25 +162,12 @@ abbrev ReadsCall : {E : Type 0} → View → View → Result Value (DecodeError 
 ReadsCall a b answer = Does (ReadsOneValue false a.budget) (λ xs. ReadingRejects xs a.budget) a b
     answer
 
-as_reads : (budget : Budget) (xs : List ℕ) (v : Value) (ys : List ℕ) → ReadsOneValue false budget xs
-    v ys
-    → DecodesTo xs budget (view v) ys
-as_reads budget xs v ys r =
-    record {
-      encoding = bytes r.0;
-      steps = cost r.0;
-      encodes = record {
-        of_tree = r.0;
-        plain = r.1.0;
-        bytes_are = refl;
-        value_is = r.2;
-        cost_is = refl;
-      };
-      fits = r.1.1;
-      begins = r.3;
-    }
+as_reads : (budget : Budget) (xs : List ℕ) (v : Value) (ys : List ℕ)
+    → ReadsOneValue false budget xs v ys → DecodesTo xs budget (view v) ys
+as_reads budget xs v ys r = decodes_tree r.0 budget xs (view v) ys r.1 r.2 r.3
 
-reading_eof_alone : (xs back : List ℕ) (budget : Budget) (w : Item) (z : InputError) (ys : List ℕ)
+pub reading_eof_alone : (xs back : List ℕ) (budget : Budget) (w : Item) (z : InputError)
+    (ys : List ℕ)
     → DecodesTo (xs ++ back) budget w [] → ReadingRejects xs budget z ys → IsEof z
 reading_eof_alone xs back budget w z ys r s = elim (reading_may_stop xs budget z ys s) [
   | inl q ↦ q
@@ -242,13 +205,11 @@ prefix_reads {a = a} (Ok v) d =
     let all : g.encoding ++ (s.0 ++ prefix.0) ≡ encoding ++ [] =
     sym (append_assoc g.encoding s.0 prefix.0) ∙ ap (λ r. r ++ prefix.0) (sym g.begins)
     ∙ sym prefix.2 ∙ sym (append-nil encoding) in
-    prefix.1 (none_left s.0 prefix.0 (reading.one_encoded g.encoding encoding (view v) w
-    g.steps steps
-    (s.0 ++ prefix.0) [] g.encodes encodes all).3)
+    prefix.1 (none_left s.0 prefix.0 (reading.one_encoded g.encoding encoding (view v) w g.steps
+    steps (s.0 ++ prefix.0) [] g.encodes encodes all).3)
 prefix_reads {a = a} {b = b} (Err e) d = λ xs known encoding w steps encodes fits prefix.
-    if_some (input_error_of e)
-    (Stopped (λ ys. ReadingRejects ys a.budget) b xs) IsEof (λ z says h. reading_eof_alone xs
-    prefix.0 a.budget w z h.0 (record {
+    if_some (input_error_of e) (Stopped (λ ys. ReadingRejects ys a.budget) b xs) IsEof (λ z says h.
+    reading_eof_alone xs prefix.0 a.budget w z h.0 (record {
       encoding = encoding;
       steps = steps;
       encodes = encodes;
@@ -268,37 +229,33 @@ eof_reads {E = E} {a = a} {b = b} (Err e) d = λ xs known.
       none,
       reading_eof_prefix xs a.budget z h.0 ended
           (all_bytes {V = Value} a b e z xs says d.moves known none) h.2,
-    ))
-    (d.err xs known)
+    )) (d.err xs known)
 
 pub depth_reads : {E : Type 0} {a b : View} (answer : Result Value (DecodeError E))
     → ReadsCall a b answer → DepthReads a answer
 depth_reads (Ok v) d = λ xs known. tt
 depth_reads {a = a} {b = b} (Err e) d = λ xs known.
-    if_some (input_error_of e) (Stopped (λ ys. ReadingRejects ys a.budget) b xs)
-    (λ z. IsDepthOverflow z → (more : List ℕ) (w : Item) (after : List ℕ)
-    → ¬ (DecodesTo (xs ++ more) a.budget w after))
-    (λ z says h deep more w after r. (one_reading (xs ++ more) a.budget).not_both w after z
-    (h.0 ++ more) r (reading_persists xs more a.budget z h.0 (no_eof z (inl deep)) h.2))
+    if_some (input_error_of e) (Stopped (λ ys. ReadingRejects ys a.budget) b xs) (λ z.
+    IsDepthOverflow z → (more : List ℕ) (w : Item) (after : List ℕ) → ¬ (DecodesTo (xs ++ more)
+    a.budget w after)) (λ z says h deep more w after r. (one_reading (xs ++ more) a.budget).not_both
+    w after z (h.0 ++ more) r (reading_persists xs more a.budget z h.0 (no_eof z (inl deep)) h.2))
     (d.err xs known)
 
 pub final_reads : {E : Type 0} {a b : View} (answer : Result Value (DecodeError E))
     → ReadsCall a b answer → FinalReads a answer
 final_reads (Ok v) d = λ xs known. tt
 final_reads {a = a} {b = b} (Err e) d = λ xs known.
-    if_some (input_error_of e) (Stopped (λ ys. ReadingRejects ys a.budget) b xs)
-    (λ z. IsFinal z → (more : List ℕ) (other : Budget) (w : Item) (after : List ℕ)
-    → ¬ (DecodesTo (xs ++ more) other w after))
-    (λ z says h final more other w after r.
-    reading.final_stays xs more a.budget other z h.0 w after final h.2 r) (d.err xs known)
+    if_some (input_error_of e) (Stopped (λ ys. ReadingRejects ys a.budget) b xs) (λ z. IsFinal z
+    → (more : List ℕ) (other : Budget) (w : Item) (after : List ℕ) → ¬ (DecodesTo (xs ++ more) other
+    w after)) (λ z says h final more other w after r. reading.final_stays xs more a.budget other z
+    h.0 w after final h.2 r) (d.err xs known)
 
 pub others_reads : {E : Type 0} {a b : View} (answer : Result Value (DecodeError E))
     → ReadsCall a b answer → Others a answer
 others_reads (Ok v) d = λ xs known. tt
 others_reads {a = a} {b = b} (Err e) d =
     λ xs known. if_some (input_error_of e) (Stopped (λ ys. ReadingRejects ys a.budget) b xs)
-    MayReject
-    (λ z says h. reading_may_stop xs a.budget z h.0 h.2) (d.err xs known)
+    MayReject (λ z says h. reading_may_stop xs a.budget z h.0 h.2) (d.err xs known)
 
 pub exact_reads : {E : Type 0} {a b : View} (answer : Result Value (DecodeError E))
     → ReadsCall a b answer → ExactReads a b answer

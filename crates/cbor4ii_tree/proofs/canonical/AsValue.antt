@@ -1,43 +1,34 @@
 -- Where reading a canonical encoding is rejected by another error than that it is not canonical,
 -- reading a value fails so.
-use Rattle.std.proofs.Common.{false}
-use Rattle.std.proofs.Common.{◌≡◌, ℕ, zero, suc, ◌*◌, ◌/◌, ◌⊎◌, inl, inr, List, [], ◌∷◌, length}
-use Rattle.std.proofs.Common.{Option, Some, None, refl, ap, ◌∙◌, take, arith}
-use Rattle.cbor4ii_items.specs.Head.{indefinite_head, shortest}
-use Rattle.cbor4ii_items.specs.Heads.{RejectsHead}
-use Rattle.cbor4ii_items.specs.Lengths.{RejectsLength}
-use Rattle.cbor4ii_items.specs.InputError.{not_canonical}
-use Rattle.cbor4ii_items.specs.Shortest.{canonical_name, OpensLength, RejectsShortest}
-use Rattle.cbor4ii_items.specs.Shortest.{shortest_rejected, shortest_indefinite, too_long}
-use Rattle.cbor4ii_items.specs.Shortest.{RejectsShortestString, length_rejected, content_cut}
-use Rattle.cbor4ii_items.specs.Strings.{string_head_rejected, string_cut}
+use Rattle.std.proofs.Common.{false, ◌≡◌, ℕ, zero, suc, ◌*◌, ◌/◌, ◌⊎◌, inl, inr, List, [], ◌∷◌}
+use Rattle.std.proofs.Common.{length, Option, Some, None, refl, ap, ◌∙◌, take, arith}
+use Rattle.cbor4ii_items.specs.{InputError.not_canonical, Laws.Heads.shortest_fits}
+use Rattle.cbor4ii_items.specs.{Head.{indefinite_head, shortest}, Heads.RejectsHead}
 use Rattle.cbor4ii_items.specs.Initial.{unsigned, negative, Kind, byte_string, text_string}
 use Rattle.cbor4ii_items.specs.Initial.{kind_major, Initial, starts_string, starts_array}
 use Rattle.cbor4ii_items.specs.Initial.{starts_map, starts_tag, starts_simple, starts_bits}
 use Rattle.cbor4ii_items.specs.Initial.{other_simple, simple_undefined, initial}
-use Rattle.cbor4ii_items.specs.Laws.Heads.{shortest_fits}
-use Rattle.cbor4ii_tree.specs.Cost.{Budget, step_in}
-use Rattle.cbor4ii_tree.specs.InputError.{InputError, depth_overflow, sign_name, kind_name}
-use Rattle.cbor4ii_tree.specs.InputError.{array_name}
-use Rattle.cbor4ii_tree.specs.InputError.{map_name, tag_name, value_name}
-use Rattle.cbor4ii_tree.specs.Rejections.{Stopping, RejectsAtStep, AtHead, RejectsInCount}
-use Rattle.cbor4ii_tree.specs.ReadingRejects.{Readable, ReadingRejects}
-use Rattle.cbor4ii_tree.specs.CanonicalRejects.{FitsCanonically, AtShortest, CanonicalArrayRejects}
-use Rattle.cbor4ii_tree.specs.CanonicalRejects.{CanonicalMapRejects}
-use Rattle.cbor4ii_tree.specs.CanonicalRejects.{CanonicalOtherRejects, CanonicalRejectsBy}
-use Rattle.cbor4ii_tree.specs.CanonicalRejects.{CanonicalRejectsFrom}
-use Rattle.cbor4ii_tree.specs.CanonicalRejects.{CanonicalRejectsWithin, CanonicalRejects}
-use Rattle.cbor4ii_tree.specs.Valuing.{RejectsOneValue, RejectsUnder}
-use Rattle.cbor4ii_tree.specs.Laws.Initials.{initial_string, initial_array, initial_map}
-use Rattle.cbor4ii_tree.specs.Laws.Initials.{initial_tag}
-use Rattle.cbor4ii_tree.proofs.answers.Nesting.{reading_by_parts}
-use Rattle.cbor4ii_tree.proofs.parts.Widen.{each_covers}
-use Rattle.cbor4ii_tree.proofs.values.Calls.{int_rejects}
-use Rattle.cbor4ii_tree.proofs.values.Heads.{at_row, tag_rejects}
-use Rattle.cbor4ii_tree.proofs.values.Strings.{string_rejects}
+use Rattle.cbor4ii_items.specs.{Lengths.RejectsLength, Shortest.{canonical_name, OpensLength}}
+use Rattle.cbor4ii_items.specs.Shortest.{RejectsShortest, shortest_rejected, shortest_indefinite}
+use Rattle.cbor4ii_items.specs.Shortest.{too_long, RejectsShortestString, length_rejected}
+use Rattle.cbor4ii_items.specs.{Shortest.content_cut, Strings.{string_head_rejected, string_cut}}
+use Rattle.cbor4ii_tree.proofs.{answers.Nesting.reading_by_parts, canonical.NotCanonical.first_is}
+use Rattle.cbor4ii_tree.proofs.{parts.Widen.each_covers, values.Calls.int_rejects}
+use Rattle.cbor4ii_tree.proofs.{parts.Rejecting.in_count, values.Heads.{at_row, tag_rejects}}
 use Rattle.cbor4ii_tree.proofs.values.Sequences.{array_no_step, map_no_step, array_length_rejects}
 use Rattle.cbor4ii_tree.proofs.values.Sequences.{map_length_rejects, step_taken}
-use Rattle.cbor4ii_tree.proofs.canonical.Lacking.{first_is}
+use Rattle.cbor4ii_tree.proofs.values.Strings.{string_rejects}
+use Rattle.cbor4ii_tree.specs.CanonicalRejects.{FitsCanonically, AtShortest, CanonicalArrayRejects}
+use Rattle.cbor4ii_tree.specs.CanonicalRejects.{CanonicalMapRejects, CanonicalOtherRejects}
+use Rattle.cbor4ii_tree.specs.CanonicalRejects.{CanonicalRejectsBy, CanonicalRejectsFrom}
+use Rattle.cbor4ii_tree.specs.CanonicalRejects.{CanonicalRejectsWithin, CanonicalRejects}
+use Rattle.cbor4ii_tree.specs.{Cost.{Budget, step_in}, InputError.{InputError, depth_overflow}}
+use Rattle.cbor4ii_tree.specs.InputError.{sign_name, kind_name, array_name, map_name, tag_name}
+use Rattle.cbor4ii_tree.specs.{InputError.value_name, Laws.Initials.{initial_string, initial_array}}
+use Rattle.cbor4ii_tree.specs.{Laws.Initials.{initial_map, initial_tag}, ReadingRejects.Readable}
+use Rattle.cbor4ii_tree.specs.{ReadingRejects.ReadingRejects, Rejections.{Stopping, RejectsAtStep}}
+use Rattle.cbor4ii_tree.specs.{Rejections.{AtHead, RejectsInCount}, Valuing.RejectsOneValue}
+use Rattle.cbor4ii_tree.specs.Valuing.{RejectsUnder}
 
 abbrev OrValue : (InputError → List ℕ → Type 0) → InputError → List ℕ → Type 0
 OrValue rejects e rest = (e ≡ not_canonical canonical_name) ⊎ rejects e rest
@@ -47,9 +38,8 @@ abbrev Parts : Budget → Stopping → InputError → List ℕ → Type 0
 Parts budget rejects e rest =
     (ys : List ℕ) → rejects ys e rest → OrValue (RejectsOneValue false budget ys) e rest
 
-or_value : (S T : InputError → List ℕ → Type 0) (e : InputError) (rest : List ℕ) →
-    (S e rest → T e rest)
-    → OrValue S e rest → OrValue T e rest
+or_value : (S T : InputError → List ℕ → Type 0) (e : InputError) (rest : List ℕ)
+    → (S e rest → T e rest) → OrValue S e rest → OrValue T e rest
 or_value S T e rest f (inl is) = inl is
 or_value S T e rest f (inr s) = inr (f s)
 
@@ -72,9 +62,11 @@ length_value : (name : List ℕ) (major b : ℕ) (bs : List ℕ) (budget : Budge
     → OrValue (RejectsLength name major (b ∷ bs) budget) e rest
 length_value name major b bs budget e rest opens h =
     or_value (λ z ys. (¬ (OpensLength major b)) × RejectsHead name major 8 (b ∷ bs) z ys)
-    (RejectsLength name major (b ∷ bs) budget) e rest
-    (λ k. (closed_at major b bs (λ is. k.0 (opens is)), k.1))
-    (head_value name major b bs budget e rest h)
+    (RejectsLength name major (b ∷ bs) budget) e rest (λ k. (
+      closed_at major b bs (λ is. k.0
+          (opens is)),
+      k.1,
+    )) (head_value name major b bs budget e rest h)
 
 kind_opens : (k : Kind) (b : ℕ) → b ≡ indefinite_head (kind_major k) → OpensLength (kind_major k) b
 kind_opens byte_string b is = (omega arith, omega arith, is)
@@ -84,9 +76,8 @@ string_value : (k : Kind) (b : ℕ) (bs : List ℕ) (budget : Budget) (e : Input
     → b / 32 ≡ kind_major k → RejectsShortestString (kind_name k) (kind_major k)
     (b ∷ bs) budget e rest → OrValue (RejectsUnder false budget (b ∷ bs)) e rest
 string_value k b bs budget e rest m (length_rejected h) =
-    or_value (RejectsLength (kind_name k) (kind_major k) (b ∷ bs) budget)
-    (RejectsUnder false budget (b ∷ bs))
-    e rest (λ s. string_rejects budget k b bs e rest m (string_head_rejected s.0 s.1))
+    or_value (RejectsLength (kind_name k) (kind_major k) (b ∷ bs) budget) (RejectsUnder false budget
+    (b ∷ bs)) e rest (λ s. string_rejects budget k b bs e rest m (string_head_rejected s.0 s.1))
     (length_value (kind_name k) (kind_major k) b bs budget e rest (kind_opens k b) h)
 string_value k b bs budget e rest m (content_cut c least) =
     inr (string_rejects budget k b bs e rest m (string_cut c))
@@ -100,15 +91,8 @@ items_value : (budget : Budget) (rejects : Stopping) (n : ℕ) (xs : List ℕ) (
 items_value budget rejects n xs e rest f s =
     or_value (RejectsOneValue false budget s.after)
     (RejectsInCount (Readable budget) (RejectsOneValue false budget) n xs) e rest
-    (λ h. record {
-      prefix = s.prefix;
-      after = s.after;
-      few = s.few;
-      whole = each_covers (FitsCanonically budget) (Readable budget)
-          (λ t w. (w.0.0, w.1)) s.prefix s.whole;
-      is = s.is;
-      stopped = h;
-    }) (f s.after s.stopped)
+    (λ h. in_count s.prefix s.after s.few (each_covers (FitsCanonically budget) (Readable budget)
+    (λ t w. (w.0.0, w.1)) s.prefix s.whole) s.is h) (f s.after s.stopped)
 
 array_value : (outer inner : Budget) (rejects : Stopping) (b : ℕ) (bs : List ℕ) (e : InputError)
     (rest : List ℕ) → step_in outer ≡ Some inner → b / 32 ≡ 4 → Parts inner rejects e rest
@@ -122,20 +106,22 @@ array_value outer inner rejects b bs e rest step m f (inr h) =
     let n = h.argument in
     let w = shortest n in
     let fits = shortest_fits n h.is.0 in
-    or_value (RejectsInCount (Readable inner) (RejectsOneValue false inner) n h.after)
-    (RejectsUnder false outer (b ∷ bs)) e rest
-    (λ s. at_row outer (starts_array w) b bs e rest
-    (ap initial (first_is 4 n b bs h.after h.is) ∙ initial_array n w fits)
-    (step_taken array_name (b ∷ bs) (λ inner. AtHead array_name 4 w b
-    (RejectsInCount (Readable inner) (RejectsOneValue false inner)) bs) outer inner e rest step
-    (inr (record { argument = n; after = h.after; fits = fits; is = h.is.1; stopped = s }))))
-    (items_value inner rejects n h.after e rest f h.stopped)
+    or_value (RejectsInCount (Readable inner) (RejectsOneValue false inner) n h.after) (RejectsUnder
+    false outer (b ∷ bs)) e rest (λ s. at_row outer (starts_array w) b bs e rest (ap initial
+    (first_is 4 n b bs h.after h.is) ∙ initial_array n w fits) (step_taken array_name (b ∷ bs)
+    (λ inner. AtHead array_name 4 w b (RejectsInCount (Readable inner) (RejectsOneValue false
+    inner)) bs) outer inner e rest step (inr (record {
+      argument = n;
+      after = h.after;
+      fits = fits;
+      is = h.is.1;
+      stopped = s;
+    })))) (items_value inner rejects n h.after e rest f h.stopped)
 
 map_value : (outer inner : Budget) (rejects : Stopping) (b : ℕ) (bs : List ℕ) (e : InputError)
     (rest : List ℕ) → step_in outer ≡ Some inner → b / 32 ≡ 5 → Parts inner rejects e rest
     → AtShortest map_name 5 inner (λ n. RejectsInCount (FitsCanonically inner) rejects (2 * n))
-    (b ∷ bs) e rest
-    → OrValue (RejectsUnder false outer (b ∷ bs)) e rest
+    (b ∷ bs) e rest → OrValue (RejectsUnder false outer (b ∷ bs)) e rest
 map_value outer inner rejects b bs e rest step m f (inl h) =
     or_value (RejectsLength map_name 5 (b ∷ bs) inner) (RejectsUnder false outer (b ∷ bs)) e rest
     (λ s. map_length_rejects inner (b ∷ bs) inner e rest s b bs refl m outer step)
@@ -145,14 +131,18 @@ map_value outer inner rejects b bs e rest step m f (inr h) =
     let w = shortest n in
     let fits = shortest_fits n h.is.0 in
     or_value (RejectsInCount (Readable inner) (RejectsOneValue false inner) (2 * n) h.after)
-    (RejectsUnder false outer (b ∷ bs)) e rest
-    (λ s. at_row outer (starts_map w) b bs e rest
-    (ap initial (first_is 5 n b bs h.after h.is) ∙ initial_map n w fits)
-    (step_taken map_name (b ∷ bs) (λ inner. AtHead map_name 5 w b (λ n.
-    RejectsInCount (Readable inner) (RejectsOneValue false inner) (2 * n)) bs) outer inner e rest
-    step
-    (inr (record { argument = n; after = h.after; fits = fits; is = h.is.1; stopped = s }))))
-    (items_value inner rejects (2 * n) h.after e rest f h.stopped)
+    (RejectsUnder false outer (b ∷ bs)) e rest (λ s. at_row outer (starts_map w) b bs e rest (ap
+    initial (first_is 5 n b bs h.after h.is) ∙ initial_map n w fits) (step_taken map_name (b ∷ bs)
+    (λ inner. AtHead map_name 5 w b (λ n. RejectsInCount (Readable inner) (RejectsOneValue false
+    inner) (2 * n)) bs) outer inner e rest step (inr (record {
+      argument = n;
+      after = h.after;
+      fits =
+          fits;
+      is = h.is.1;
+      stopped = s;
+    })))) (items_value inner rejects (2 * n) h.after e rest f
+    h.stopped)
 
 tag_value : (budget : Budget) (rejects : Stopping) (b : ℕ) (bs : List ℕ) (e : InputError)
     (rest : List ℕ)
@@ -167,10 +157,14 @@ tag_value budget rejects b bs e rest m f (inr h) =
     let w = shortest n in
     let fits = shortest_fits n h.is.0 in
     or_value (RejectsOneValue false budget h.after) (RejectsUnder false budget (b ∷ bs)) e rest
-    (λ s. at_row budget (starts_tag w) b bs e rest
-    (ap initial (first_is 6 n b bs h.after h.is) ∙ initial_tag n w fits)
-    (inr (record { argument = n; after = h.after; fits = fits; is = h.is.1; stopped = s })))
-    (f h.after h.stopped)
+    (λ s. at_row budget (starts_tag w) b bs e rest (ap initial (first_is 6 n b bs h.after h.is)
+    ∙ initial_tag n w fits) (inr (record {
+      argument = n;
+      after = h.after;
+      fits = fits;
+      is = h.is.1;
+      stopped = s;
+    }))) (f h.after h.stopped)
 
 -- ---- by the first byte
 
@@ -184,11 +178,10 @@ other_value budget b bs e rest other_simple is h = inr (at_row budget other_simp
 other_value budget b bs e rest _ is h = absurd h
 
 stepped_value : (name : List ℕ) (outer : Budget) (xs : List ℕ)
-    (S : Budget → InputError → List ℕ → Type 0) (e : InputError) (rest : List ℕ)
-    → (outer ≡ Some 0 → RejectsUnder false outer xs (depth_overflow name) xs) → ((inner : Budget)
-    → step_in outer ≡ Some inner → S inner e rest → OrValue (RejectsUnder false outer xs) e rest)
-    → RejectsAtStep name (step_in outer) xs S e rest
-    → OrValue (RejectsUnder false outer xs) e rest
+    (S : Budget → InputError → List ℕ → Type 0) (e : InputError) (rest : List ℕ) → (outer ≡ Some 0
+    → RejectsUnder false outer xs (depth_overflow name) xs) → ((inner : Budget) → step_in outer
+    ≡ Some inner → S inner e rest → OrValue (RejectsUnder false outer xs) e rest)
+    → RejectsAtStep name (step_in outer) xs S e rest → OrValue (RejectsUnder false outer xs) e rest
 stepped_value name None xs S e rest none f h = f None refl h
 stepped_value name (Some zero) xs S e rest none f h = inr (rw (h.0, h.1) (none refl))
 stepped_value name (Some (suc n)) xs S e rest none f h = f (Some n) refl h
@@ -217,15 +210,13 @@ by_value rejects budget (suc (suc (suc zero))) b bs e rest m f (inr h) =
     (first_is 3 n b bs h.after h.is) ∙ initial_string text_string n w fits) (inr (record
     { argument = n; after = h.after; fits = fits; is = h.is.1; stopped = h.stopped })))
 by_value rejects budget (suc (suc (suc (suc zero)))) b bs e rest m f h =
-    stepped_value array_name budget (b ∷ bs) (λ inner. CanonicalArrayRejects rejects inner
-    (b ∷ bs)) e rest
-    (λ none. array_no_step false budget none (b ∷ bs) b bs refl m)
-    (λ inner step. array_value budget inner (rejects inner) b bs e rest step m (f inner)) h
+    stepped_value array_name budget (b ∷ bs) (λ inner. CanonicalArrayRejects rejects inner (b ∷ bs))
+    e rest (λ none. array_no_step false budget none (b ∷ bs) b bs refl m) (λ inner step. array_value
+    budget inner (rejects inner) b bs e rest step m (f inner)) h
 by_value rejects budget (suc (suc (suc (suc (suc zero))))) b bs e rest m f h =
-    stepped_value map_name budget (b ∷ bs) (λ inner. CanonicalMapRejects rejects inner
-    (b ∷ bs)) e rest
-    (λ none. map_no_step false budget none (b ∷ bs) b bs refl m)
-    (λ inner step. map_value budget inner (rejects inner) b bs e rest step m (f inner)) h
+    stepped_value map_name budget (b ∷ bs) (λ inner. CanonicalMapRejects rejects inner (b ∷ bs)) e
+    rest (λ none. map_no_step false budget none (b ∷ bs) b bs refl m) (λ inner step. map_value
+    budget inner (rejects inner) b bs e rest step m (f inner)) h
 by_value rejects budget (suc (suc (suc (suc (suc (suc zero)))))) b bs e rest m f h =
     tag_value budget (rejects budget) b bs e rest m (f budget) h
 by_value rejects budget (suc (suc (suc (suc (suc (suc (suc k))))))) b bs e rest m f h =
@@ -245,16 +236,15 @@ or_step : (name : List ℕ) (step : Option Budget) (here : List ℕ)
 or_step name None here S T e rest f h = inr h
 or_step name (Some inner) here S T e rest f h = f inner h
 
-within_value : (n : ℕ) (budget : Budget) (e : InputError) (rest : List ℕ)
+pub within_value : (n : ℕ) (budget : Budget) (e : InputError) (rest : List ℕ)
     → Parts budget (CanonicalRejectsWithin n budget) e rest
 within_value zero budget e rest xs h = absurd h
 within_value (suc n) budget e rest xs h =
     or_value (RejectsAtStep value_name (step_in budget) xs (λ inner. RejectsUnder false inner xs))
-    (RejectsOneValue false budget xs) e rest (reading_by_parts xs budget e rest).1
-    (or_step value_name (step_in budget) xs (λ inner. CanonicalRejectsFrom
-    (CanonicalRejectsWithin n) inner
-    xs) (λ inner. RejectsUnder false inner xs) e rest (λ inner.
-    from_value (CanonicalRejectsWithin n) inner xs e rest (λ o. within_value n o e rest)) h)
+    (RejectsOneValue false budget xs) e rest (reading_by_parts xs budget e rest).1 (or_step
+    value_name (step_in budget) xs (λ inner. CanonicalRejectsFrom (CanonicalRejectsWithin n) inner
+    xs) (λ inner. RejectsUnder false inner xs) e rest (λ inner. from_value
+    (CanonicalRejectsWithin n) inner xs e rest (λ o. within_value n o e rest)) h)
 
 pub canonically_as_value : (xs : List ℕ) (budget : Budget) (e : InputError) (rest : List ℕ)
     → CanonicalRejects xs budget e rest

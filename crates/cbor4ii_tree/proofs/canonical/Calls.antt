@@ -3,30 +3,20 @@ use Rattle.std.proofs.Common.{◌≡◌, ℕ, ◌/◌, List, ◌∷◌, ◌++◌
 use Rattle.std.proofs.Common.{IfOk, IfErr, true, refl, sym, ap, ap₂, ◌∙◌, subst, append_assoc, inl}
 use Rattle.std.proofs.Common.{inr, take-append-drop, Vec, Global, String}
 use Rattle.std.specs.Prelude.{IsUtf8, string_bytes}
-use Rattle.cbor4ii_rw.specs.View.{View}
-use Rattle.cbor4ii_rw.specs.declared.error.DecodeError.{DecodeError}
-use Rattle.cbor4ii_items.specs.InputError.{InputError}
-use Rattle.cbor4ii_items.specs.Head.{head, shortest}
-use Rattle.cbor4ii_items.specs.Laws.Heads.{shortest_fits}
-use Rattle.cbor4ii_items.specs.Laws.Prefixes.{drop_more}
-use Rattle.cbor4ii_items.specs.Moves.{Moves}
-use Rattle.cbor4ii_items.specs.Decoding.{Sound, Rejects}
-use Rattle.cbor4ii_items.specs.Shortest.{ReadsShortest, ReadsShortestString, RejectsShortest}
-use Rattle.cbor4ii_items.specs.Initial.{byte_string, text_string}
-use Rattle.cbor4ii_items.specs.Laws.Answering.{fits_zero}
+use Rattle.cbor4ii_rw.specs.{View.View, declared.error.DecodeError.DecodeError}
+use Rattle.cbor4ii_items.specs.{Laws.Answering.fits_zero, Laws.Heads.shortest_fits}
+use Rattle.cbor4ii_items.specs.{Laws.Prefixes.drop_more, Moves.Moves, Shortest.ReadsShortest}
+use Rattle.cbor4ii_items.specs.{Decoding.{Sound, Rejects}, Head.{head, shortest}}
+use Rattle.cbor4ii_items.specs.{Initial.{byte_string, text_string}, InputError.InputError}
+use Rattle.cbor4ii_items.specs.Shortest.{ReadsShortestString, RejectsShortest}
+use Rattle.cbor4ii_tree.specs.{CanonicalCalls.StringAt, CanonicalRejects.AtShortest}
+use Rattle.cbor4ii_tree.specs.{CanonicalRejects.CanonicalTextRejects, Cost.Budget, Does.Does}
+use Rattle.cbor4ii_tree.specs.{Does.answered, InputError.{kind_name, require_utf8, tag_name}}
+use Rattle.cbor4ii_tree.specs.{Laws.Binds.step_up, Tree.string, Valuing.{HeadAt, ReadsUnder}}
+use Rattle.cbor4ii_tree.specs.Valuing.{RejectsOf, RejectsOneValue, RejectsUnder, TakesTag}
 use Rattle.cbor4ii_tree.specs.declared.value.Value.{Bytes, Text}
-use Rattle.cbor4ii_tree.specs.Tree.{string}
-use Rattle.cbor4ii_tree.specs.Cost.{Budget}
-use Rattle.cbor4ii_tree.specs.Laws.Binds.{step_up}
-use Rattle.cbor4ii_tree.specs.InputError.{kind_name, require_utf8, tag_name}
-use Rattle.cbor4ii_tree.specs.Does.{Does, answered}
-use Rattle.cbor4ii_tree.specs.CanonicalRejects.{AtShortest, CanonicalTextRejects}
-use Rattle.cbor4ii_tree.specs.CanonicalCalls.{StringAt}
-use Rattle.cbor4ii_tree.specs.Valuing.{HeadAt, ReadsUnder, RejectsOf, RejectsOneValue}
-use Rattle.cbor4ii_tree.specs.Valuing.{RejectsUnder, TakesTag}
 use Rattle.cbor4ii_tree.proofs.skip_calls.Doing.{Reached, reached_sound, does_ok, call_rejects}
-use Rattle.cbor4ii_tree.proofs.values.Calls.{whole}
-use Rattle.cbor4ii_tree.proofs.values.Heads.{at_major, head_at, shortest_at}
+use Rattle.cbor4ii_tree.proofs.{values.Calls.whole, values.Heads.{at_major, head_at, shortest_at}}
 use Rattle.cbor4ii_tree.proofs.values.Strings.{view-Bytes, view-Text}
 
 -- ---- a shortest head
@@ -39,25 +29,21 @@ reached_shortest major n moves s =
 
 -- the number that the head of a tag has
 pub tag_shortest : {E : Type 0} {a c : View} (r : Option ℕ) (failure : Option (DecodeError E))
-    → Moves a c (answered r failure)
-    → IfOk (answered r failure) (Sound (ReadsShortest 6) a c)
-    → IfErr (answered r failure) (Rejects (RejectsShortest tag_name 6) a c)
-    → Does (TakesTag true a.budget) (RejectsOf true 6 a.budget) a c (answered r failure)
+    → Moves a c (answered r failure) → IfOk (answered r failure) (Sound (ReadsShortest 6) a c)
+    → IfErr (answered r failure) (Rejects (RejectsShortest tag_name 6) a c) → Does
+    (TakesTag true a.budget) (RejectsOf true 6 a.budget) a c (answered r failure)
 tag_shortest {a = a} (Some n) failure moves s h =
-    does_ok (TakesTag true a.budget) (RejectsOf true 6 a.budget) (reached_shortest 6 n moves s)
+    does_ok _ _ (reached_shortest 6 n moves s)
 tag_shortest {a = a} None failure moves s h =
-    call_rejects {U = ℕ} (TakesTag true a.budget) (RejectsShortest tag_name 6)
-    (RejectsOf true 6 a.budget)
-    (λ xs z rest h b bs is m. subst (λ x. RejectsUnder true a.budget x z rest) (sym is)
-    (at_major 6 a.budget b bs z rest m
-    (subst (λ x. AtShortest tag_name 6 a.budget (λ n. RejectsOneValue true a.budget) x z rest) is
-    (inl h)))) moves h
+    call_rejects {U = ℕ} (TakesTag true a.budget) (RejectsShortest tag_name 6) (RejectsOf true 6
+    a.budget) (λ xs z rest h b bs is m. subst (λ x. RejectsUnder true a.budget x z rest) (sym is)
+    (at_major 6 a.budget b bs z rest m (subst (λ x. AtShortest tag_name 6 a.budget (λ n.
+    RejectsOneValue true a.budget) x z rest) is (inl h)))) moves h
 
 -- ---- strings
 
-pub string_of : (major : ℕ) (content xs : List ℕ) (n c : ℕ) → ReadsShortestString major xs content n
-    c
-    → StringAt major content xs (drop n xs)
+pub string_of : (major : ℕ) (content xs : List ℕ) (n c : ℕ)
+    → ReadsShortestString major xs content n c → StringAt major content xs (drop n xs)
 string_of major content xs n c r =
     let s = r.0 in
     let k = length content in

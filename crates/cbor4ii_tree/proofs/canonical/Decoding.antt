@@ -1,48 +1,36 @@
 -- Reading a value from its canonical encoding, as a decoding call, and what its answer says.
-use Rattle.std.proofs.Common.{true}
-use Rattle.std.proofs.Common.{◌≡◌, ℕ, List, [], ◌++◌, length, take, drop, None, Some, Ok, Err, inl}
-use Rattle.std.proofs.Common.{◌+◌, ◌≤◌, inr, refl, sym, ap, ◌∙◌, subst, arith, IfSome, append_assoc}
-use Rattle.std.proofs.Common.{append-nil, length-append, take-append-drop}
-use Rattle.std.specs.Prelude.{◌⊎◌}
+use Rattle.std.proofs.Common.{true, ◌≡◌, ℕ, List, [], ◌++◌, length, take, drop, None, Some, Ok, Err}
+use Rattle.std.proofs.Common.{inl, ◌+◌, ◌≤◌, inr, refl, sym, ap, ◌∙◌, subst, arith, IfSome}
+use Rattle.std.proofs.Common.{append_assoc, append-nil, length-append, take-append-drop, suc}
 use Rattle.std.proofs.Math.Seq.{drop-append_seam, take-append_seam}
-use Rattle.cbor4ii_rw.specs.View.{View}
-use Rattle.cbor4ii_rw.specs.declared.error.DecodeError.{DecodeError}
-use Rattle.cbor4ii_items.specs.InputError.{InputError, input_error_of}
-use Rattle.cbor4ii_items.specs.Decoding.{Sound, Complete, Rejects, NoneRead}
-use Rattle.cbor4ii_items.specs.Budget.{CostFits}
-use Rattle.cbor4ii_items.specs.Decoding.{Decodes}
-use Rattle.cbor4ii_items.specs.Laws.Calls.{ok}
-use Rattle.cbor4ii_items.specs.Laws.Steps.{moves_err}
-use Rattle.cbor4ii_tree.specs.declared.value.Value.{Value}
-use Rattle.cbor4ii_tree.specs.declared.decode_canonical.Canonical.{Canonical}
-use Rattle.cbor4ii_tree.specs.Tree.{bytes}
-use Rattle.cbor4ii_tree.specs.Item.{Item}
-use Rattle.cbor4ii_tree.specs.Meaning.{value}
-use Rattle.cbor4ii_tree.specs.Cost.{Budget, cost}
-use Rattle.cbor4ii_tree.specs.InputError.{eof, depth_overflow, IsEof, IsDepthOverflow, IsFinal}
-use Rattle.cbor4ii_tree.specs.InputError.{MayReject}
-use Rattle.cbor4ii_tree.specs.CanonicalShape.{DecodesCanonically}
-use Rattle.cbor4ii_tree.specs.ReadingRejects.{ReadingRejects}
-use Rattle.cbor4ii_tree.specs.CanonicalRejects.{CanonicalRejects}
-use Rattle.cbor4ii_tree.specs.Valuing.{ReadsOneValue, RejectsOneValue}
+use Rattle.std.specs.Prelude.{◌⊎◌}
+use Rattle.cbor4ii_rw.specs.{View.View, declared.error.DecodeError.DecodeError}
+use Rattle.cbor4ii_items.specs.{InputError.not_canonical, Laws.Calls.ok, Laws.Steps.moves_err}
+use Rattle.cbor4ii_items.specs.{Budget.CostFits, Decoding.{Sound, Complete, Rejects, NoneRead}}
+use Rattle.cbor4ii_items.specs.{Decoding.Decodes, InputError.{InputError, input_error_of}}
+use Rattle.cbor4ii_tree.specs.{CanonicalRejects.CanonicalRejects, CanonicalShape.DecodesCanonically}
+use Rattle.cbor4ii_tree.specs.{Does.Does, Encodings.DecodesTo, Headline.EofReads, InputError.eof}
+use Rattle.cbor4ii_tree.specs.{InputError.MayReject, Item.Item, Laws.Ignoring.one_encoding}
+use Rattle.cbor4ii_tree.specs.{Meaning.value, ReadingRejects.ReadingRejects, Tree.bytes}
 use Rattle.cbor4ii_tree.specs.Canonically.{ReadsCanonical, RejectsCanonical, IsNotCanonical}
 use Rattle.cbor4ii_tree.specs.Canonically.{OnlyCanonical, AllCanonical, TakesEncoding}
 use Rattle.cbor4ii_tree.specs.Canonically.{EveryEncoding, PrefixCanonical, DepthCanonical}
 use Rattle.cbor4ii_tree.specs.Canonically.{NeverCanonical, OthersCanonical, ValueCanonical}
-use Rattle.cbor4ii_tree.specs.Canonically.{ExactCanonical, canonical_format}
-use Rattle.cbor4ii_tree.specs.Headline.{EofReads}
-use Rattle.cbor4ii_tree.specs.View.{view}
-use Rattle.cbor4ii_tree.specs.Does.{Does}
-use Rattle.cbor4ii_tree.specs.Laws.Ignoring.{one_encoding}
+use Rattle.cbor4ii_tree.specs.{Canonically.{ExactCanonical, canonical_format}, Cost.{Budget, cost}}
+use Rattle.cbor4ii_tree.specs.InputError.{depth_overflow, IsEof, IsDepthOverflow, IsFinal}
+use Rattle.cbor4ii_tree.specs.{Valuing.{ReadsOneValue, RejectsOneValue}, View.view}
+use Rattle.cbor4ii_tree.specs.declared.decode_canonical.Canonical.{Canonical}
+use Rattle.cbor4ii_tree.specs.declared.value.Value.{Value}
+use Rattle.cbor4ii_tree.proofs.{reading.Answer.not_both, reading.Laws.final_stays}
+use Rattle.cbor4ii_tree.proofs.{reading.Widen.reading_persists, skipping.Laws.none_left}
+use Rattle.cbor4ii_tree.proofs.answers.MayReject.{reading_may_stop, reading_leaves_nothing}
+use Rattle.cbor4ii_tree.proofs.answers.Promises.{if_some, all_bytes, no_eof, reading_eof_prefix}
+use Rattle.cbor4ii_tree.proofs.answers.Promises.{reading_eof_alone}
+use Rattle.cbor4ii_tree.proofs.canonical.AsValue.{canonically_as_value}
+use Rattle.cbor4ii_tree.proofs.canonical.NotCanonical.{loose, within_never}
+use Rattle.cbor4ii_tree.proofs.canonical.Once.{canonically_once}
 use Rattle.cbor4ii_tree.proofs.encodings.CanonicalShape.{reads_canonically_iff}
 use Rattle.cbor4ii_tree.proofs.encodings.CanonicalShape.{canonical_canonically}
-use Rattle.cbor4ii_tree.proofs.skipping.Laws.{none_left}
-use Rattle.cbor4ii_tree.proofs.canonical.FitsCanonically.{Lacks, BeginsOne, unbounded, none_begins}
-use Rattle.cbor4ii_tree.proofs.canonical.Lacking.{canonically_lacks}
-use Rattle.cbor4ii_tree.proofs.canonical.Once.{canonically_once}
-use Rattle.cbor4ii_tree.proofs.canonical.AsValue.{canonically_as_value}
-use Rattle.cbor4ii_tree.proofs.answers.MayReject.{reading_may_stop}
-use Rattle.cbor4ii_tree.proofs.answers.Promises.{if_some, all_bytes, reading_eof_prefix}
 
 -- ---- in the words of the definitions
 
@@ -57,44 +45,75 @@ as_canonically budget xs v ys r = record {
   begins = r.3;
 }
 
-begins_of : (budget : Budget) (xs : List ℕ) (v : Item) (ys : List ℕ) → DecodesCanonically xs
-    budget v ys
-    → BeginsOne budget xs
-begins_of budget xs v ys r =
-    let s = r.encodes in (
-      s.of_tree,
-      ys,
-      (s.canonical, subst (λ c. CostFits c budget) (sym s.cost_is) r.fits),
-      r.begins ∙ ap (λ z. z ++ ys) (sym s.bytes_are),
-    )
+as_read : (budget : Budget) (xs : List ℕ) (v : Item) (ys : List ℕ)
+    → DecodesCanonically xs budget v ys → DecodesTo xs budget v ys
+as_read budget xs v ys r = record {
+  encoding = r.encoding;
+  steps = r.steps;
+  encodes = record {
+    of_tree = r.encodes.of_tree;
+    plain = r.encodes.canonical.0;
+    bytes_are = r.encodes.bytes_are;
+    value_is = r.encodes.value_is;
+    cost_is = r.encodes.cost_is;
+  };
+  fits = r.fits;
+  begins = r.begins;
+}
 
 -- ---- what an error says
 
-is_eof : (budget : Budget) (xs back : List ℕ) (e : InputError) (rest : List ℕ)
-    → BeginsOne budget (xs ++ back) → Lacks BeginsOne budget xs e rest → IsEof e
-is_eof budget xs back (eof name n) rest c h = tt
-is_eof budget xs back (depth_overflow name) rest c h = absurd (h back c)
-is_eof budget xs back _ rest c h = absurd (h back (unbounded budget (xs ++ back) c))
+-- what is not canonical goes on as no canonical encoding
+never_loose : (budget other : Budget) (xs more : List ℕ) (e : InputError) (rest : List ℕ) (v : Item)
+    (ys : List ℕ) → CanonicalRejects xs budget e rest → e ≡ loose
+    → ¬ (DecodesCanonically (xs ++ more) other v ys)
+never_loose budget other xs more e rest v ys h is r =
+    let s = r.encodes in
+    within_never (suc (length xs)) budget xs rest more (subst (λ z. CanonicalRejects xs budget z
+    rest) is h) (s.of_tree, ys, s.canonical, r.begins ∙ ap (λ z. z ++ ys) (sym s.bytes_are))
 
-eof_left : (budget : Budget) (xs : List ℕ) (e : InputError) (rest : List ℕ)
-    → Lacks BeginsOne budget xs e rest → IsEof e → rest ≡ []
-eof_left budget xs (eof name n) rest h i = h.0
-eof_left budget xs _ rest h i = absurd i
+-- what is canonical is not rejected
+canonical_or : (budget : Budget) (xs : List ℕ) (e : InputError) (rest : List ℕ) (v : Item)
+    (ys : List ℕ) → CanonicalRejects xs budget e rest → ¬ (DecodesCanonically xs budget v ys)
+canonical_or budget xs e rest v ys h r = elim (canonically_as_value xs budget e rest h) [
+  | inl is ↦ never_loose budget budget xs [] e rest v ys h is
+      (subst (λ z. DecodesCanonically z budget v ys) (sym (append-nil xs)) r)
+  | inr s ↦ not_both xs budget v ys e rest (as_read budget xs v ys r) s
+]
+
+is_eof : (budget : Budget) (xs back : List ℕ) (e : InputError) (rest : List ℕ) (v : Item)
+    → DecodesCanonically (xs ++ back) budget v [] → CanonicalRejects xs budget e rest → IsEof e
+is_eof budget xs back e rest v r h = elim (canonically_as_value xs budget e rest h) [
+  | inl is ↦ absurd (never_loose budget budget xs back e rest v [] h is r)
+  | inr s ↦ reading_eof_alone xs back budget v e rest (as_read budget (xs ++ back) v [] r) s
+]
 
 deep : (budget : Budget) (xs : List ℕ) (e : InputError) (rest : List ℕ)
-    → Lacks BeginsOne budget xs e rest → IsDepthOverflow e → (more : List ℕ)
-    → ¬ (BeginsOne budget (xs ++ more))
-deep budget xs (depth_overflow name) rest h i = h
-deep budget xs _ rest h i = absurd i
+    → CanonicalRejects xs budget e rest → IsDepthOverflow e → (more : List ℕ) (v : Item)
+    (ys : List ℕ) → ¬ (DecodesCanonically (xs ++ more) budget v ys)
+deep budget xs e rest h i more v ys r = elim (canonically_as_value xs budget e rest h) [
+  | inl is ↦ never_loose budget budget xs more e rest v ys h is r
+  | inr s ↦ not_both (xs ++ more) budget v ys e (rest ++ more) (as_read budget (xs ++ more) v ys r)
+      (reading_persists xs more budget e rest (no_eof e (inl i)) s)
+]
 
 never : (budget : Budget) (xs : List ℕ) (e : InputError) (rest : List ℕ)
-    → Lacks BeginsOne budget xs e rest → IsFinal e ⊎ IsNotCanonical e → (more : List ℕ)
-    → ¬ (BeginsOne None (xs ++ more))
-never budget xs (eof name n) rest h (inl i) = absurd i
-never budget xs (eof name n) rest h (inr i) = absurd i
-never budget xs (depth_overflow name) rest h (inl i) = absurd i
-never budget xs (depth_overflow name) rest h (inr i) = absurd i
-never budget xs _ rest h i = h
+    → CanonicalRejects xs budget e rest → IsFinal e ⊎ IsNotCanonical e → (more : List ℕ)
+    (other : Budget) (v : Item) (ys : List ℕ) → ¬ (DecodesCanonically (xs ++ more) other v ys)
+never budget xs e rest h i more other v ys r = elim (canonically_as_value xs budget e rest h) [
+  | inl is ↦ never_loose budget other xs more e rest v ys h is r
+  | inr s ↦ final_stays xs more budget other e rest v ys (final e i (reading_may_stop xs budget e
+      rest s)) s (as_read other (xs ++ more) v ys r)
+]
+  where
+    final : (z : InputError) → IsFinal z ⊎ IsNotCanonical z → MayReject z → IsFinal z
+    final z (inl f) m = f
+    final (not_canonical name) (inr n) m = elim m [
+      | inl a ↦ absurd a
+      | inr b ↦ elim b
+          [ inl d ↦ absurd d | inr f ↦ f ]
+    ]
+    final _ (inr n) m = absurd n
 
 -- an error of a value
 of_value : (budget : Budget) (xs : List ℕ) (e : InputError) (rest : List ℕ)
@@ -186,40 +205,32 @@ module _ {E : Type 0} {a b : View} {v : Value}
 
     pub canonical_exact : ExactCanonical {E = E} a b (Ok (record { 0 = v }))
     canonical_exact = λ xs known z rest rejects. let s = d.ok xs known in
-        none_begins a.budget xs z rest (canonically_lacks a.budget xs z rest rejects)
-        (s.2.0, s.0, s.2.1, s.2.3)
+        canonical_or a.budget xs z rest (view v) s.0 rejects (as_canonically a.budget xs v s.0 s.2)
 
 -- ---- it was rejected
 
 module _ {E : Type 0} {a b : View} {e : DecodeError E}
     (d : Does {V = Value} (ReadsOneValue true a.budget) (RejectsOneValue true a.budget) a b
     (Err e)) where
-  stopped : (xs : List ℕ) (Q : InputError → Type 0) → a.known ≡ Some xs →
-      ((z : InputError) (ys : List ℕ)
-      → input_error_of e ≡ Some z → b.known ≡ Some ys → CanonicalRejects xs a.budget z ys → Q z)
-      → IfSome (input_error_of e) Q
+  stopped : (xs : List ℕ) (Q : InputError → Type 0) → a.known ≡ Some xs → ((z : InputError)
+      (ys : List ℕ) → input_error_of e ≡ Some z → b.known ≡ Some ys → CanonicalRejects xs a.budget z
+      ys → Q z) → IfSome (input_error_of e) Q
   stopped xs Q known f =
       if_some (input_error_of e) (λ z. (ys : List ℕ) × (b.known ≡ Some ys)
       × CanonicalRejects xs a.budget z ys) Q (λ z is h. f z h.0 is h.1 h.2) (d.err xs known)
 
-  says : (xs : List ℕ) (Q : InputError → Type 0) → a.known ≡ Some xs
-      → ((z : InputError) (ys : List ℕ) → b.known ≡ Some ys → Lacks BeginsOne a.budget xs z
-      ys → Q z)
-      → IfSome (input_error_of e) Q
-  says xs Q known f =
-      stopped xs Q known (λ z ys is left h. f z ys left (canonically_lacks a.budget xs z ys h))
-
   canonical_complete : Complete ReadsCanonical a e
   canonical_complete = record {
     at = λ xs known.
-        says xs (λ z. NoneRead ReadsCanonical xs a.budget) known (λ z ys left h v n c r fits.
-        let s = r.encodes in
-        none_begins a.budget xs z ys h (
-          s.of_tree,
-          drop n xs,
-          (s.canonical, subst (λ k. CostFits k a.budget) (sym s.cost_is) fits),
-          sym (take-append-drop n xs) ∙ ap (λ z. z ++ drop n xs) (sym s.bytes_are),
-        ));
+        stopped xs (λ z. NoneRead ReadsCanonical xs a.budget) known
+        (λ z ys is left h v n c r fits. let s = r.encodes in
+        canonical_or a.budget xs z ys (view v.0) (drop n xs) h (record {
+          encoding = take n xs;
+          steps = c;
+          encodes = s;
+          fits = fits;
+          begins = sym (take-append-drop n xs);
+        }));
   }
 
   canonical_rejects : Rejects RejectsCanonical a b e
@@ -237,8 +248,8 @@ module _ {E : Type 0} {a b : View} {e : DecodeError E}
   }
 
   pub rejected_all : AllCanonical {E = E} a b (Err e)
-  rejected_all = λ xs known w rest r. says xs (λ _. ⊥) known
-      (λ z ys left h. none_begins a.budget xs z ys h (begins_of a.budget xs w rest r))
+  rejected_all = λ xs known w rest r. stopped xs (λ _. ⊥) known
+      (λ z ys is left h. canonical_or a.budget xs z ys w rest h r)
 
   pub rejected_every : EveryEncoding {E = E} a b (Err e)
   rejected_every = λ xs known w rest decoded fits is.
@@ -246,29 +257,27 @@ module _ {E : Type 0} {a b : View} {e : DecodeError E}
       (decoded, fits, is))
 
   pub rejected_prefix : PrefixCanonical {E = E} a (Err e)
-  rejected_prefix = λ xs known w decoded fits prefix. says xs IsEof known (λ z ys left h.
-      is_eof a.budget xs prefix.0 z ys (begins_of a.budget (xs ++ prefix.0) w []
-      ((reads_canonically_iff
-      (xs ++ prefix.0) a.budget w []).1 (decoded, fits, sym prefix.2 ∙ sym (append-nil _))))
-      h)
+  rejected_prefix = λ xs known w decoded fits prefix. stopped xs IsEof known (λ z ys is left h.
+      is_eof a.budget xs prefix.0 z ys w ((reads_canonically_iff (xs ++ prefix.0) a.budget w []).1
+      (decoded, fits, sym prefix.2 ∙ sym (append-nil _))) h)
 
   pub rejected_eof : EofReads {V = Canonical} {E = E} a b (Err e)
   rejected_eof = λ xs known. stopped xs _ known (λ z ys is left h ended.
+      let s = of_value a.budget xs z ys h (eof_is_other z ended) in
       let none : b.known ≡ Some [] =
-      left ∙ ap Some (eof_left a.budget xs z ys (canonically_lacks a.budget xs z ys h) ended) in (
+      left ∙ ap Some (reading_leaves_nothing xs a.budget z ys ended s) in (
         none,
-        reading_eof_prefix xs a.budget z ys ended (all_bytes {V = Value} a b e z xs is d.moves
-            known none) (of_value a.budget xs z ys h (eof_is_other z ended)),
+        reading_eof_prefix xs a.budget z ys ended
+            (all_bytes {V = Value} a b e z xs is d.moves known none) s,
       ))
 
   pub rejected_depth : DepthCanonical {E = E} a (Err e)
-  rejected_depth = λ xs known. says xs _ known (λ z ys left h i more w after r.
-      deep a.budget xs z ys h i more (begins_of a.budget (xs ++ more) w after r))
+  rejected_depth = λ xs known.
+      stopped xs _ known (λ z ys is left h i more w after. deep a.budget xs z ys h i more w after)
 
   pub rejected_never : NeverCanonical {E = E} a (Err e)
-  rejected_never = λ xs known. says xs _ known (λ z ys left h i more other w after r. never
-      a.budget xs
-      z ys h i more (unbounded other (xs ++ more) (begins_of other (xs ++ more) w after r)))
+  rejected_never = λ xs known. stopped xs _ known (λ z ys is left h i more other w after.
+      never a.budget xs z ys h i more other w after)
 
   pub rejected_others : OthersCanonical {E = E} a (Err e)
   rejected_others = λ xs known. stopped xs _ known (λ z ys is left h. may_stop a.budget xs z ys h)

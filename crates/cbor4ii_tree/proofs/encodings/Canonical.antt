@@ -1,30 +1,26 @@
 -- The canonical encoding is an encoding.
-use Rattle.std.proofs.Common.{◌≡◌, ℕ, suc, ◌^◌, ◌<◌, List, length, Bool, true}
-use Rattle.std.proofs.Common.{false, cond, ltb, ltb-true, lt-ltb, pos, negsuc, refl, sym, ap, ap₂}
-use Rattle.std.proofs.Common.{arith, subst}
+use Rattle.std.proofs.Common.{◌≡◌, ℕ, suc, ◌^◌, ◌<◌, List, length, Bool, true, false, cond, ltb}
+use Rattle.std.proofs.Common.{ltb-true, lt-ltb, pos, negsuc, refl, sym, ap, ap₂, arith, subst}
 use Rattle.std.specs.Int.{bytes_high_first}
-use Rattle.cbor4ii_items.specs.Head.{HeadFits, shortest}
-use Rattle.cbor4ii_items.specs.Initial.{Sign, unsigned, negative, Kind, byte_string, text_string}
-use Rattle.cbor4ii_items.specs.Initial.{simple_false, simple_true, simple_null, simple_undefined}
+use Rattle.cbor4ii_items.specs.{Head.{HeadFits, shortest}, Initial.{Sign, unsigned, negative, Kind}}
+use Rattle.cbor4ii_items.specs.Initial.{byte_string, text_string, simple_false, simple_true}
+use Rattle.cbor4ii_items.specs.Initial.{simple_null, simple_undefined}
 use Rattle.cbor4ii_items.specs.Laws.Heads.{length-bytes_high_first, if_cases, shortest_fits}
 use Rattle.cbor4ii_items.specs.Laws.Heads.{argument_below}
 use Rattle.cbor4ii_items.specs.Laws.NumbersBack.{length-without_leading_zeros}
-use Rattle.cbor4ii_tree.specs.Tree.{Tree, int, string, chunked, array, array_indefinite, map_of}
-use Rattle.cbor4ii_tree.specs.Tree.{map_indefinite}
-use Rattle.cbor4ii_tree.specs.Tree.{tagged, simple, bits, Trees, no_trees, tree, Pairs, no_pairs}
-use Rattle.cbor4ii_tree.specs.Tree.{pair, joined_chunks, count, pair_count, Loose, LooseAll}
-use Rattle.cbor4ii_tree.specs.Tree.{LoosePairs, SoundStrings, SoundStringsAll, SoundStringsPairs}
-use Rattle.cbor4ii_tree.specs.Item.{Item, null, boolean, integer, float, bytes_item, text, sequence}
+use Rattle.cbor4ii_tree.specs.{Canonical.tagged_integer, Cost.cost, Encodings.Encodes, Item.Item}
+use Rattle.cbor4ii_tree.specs.Canonical.{canonical_encoding, canonical_tree, canonical_trees}
+use Rattle.cbor4ii_tree.specs.Canonical.{canonical_pairs, integer_tree, bignum, magnitude, sign_tag}
+use Rattle.cbor4ii_tree.specs.Canonical.{with_bignums, with_bignums_all, with_bignums_members}
+use Rattle.cbor4ii_tree.specs.Item.{null, boolean, integer, float, bytes_item, text, sequence}
 use Rattle.cbor4ii_tree.specs.Item.{mapping, tag, Items, no_items, item, Members, no_members}
 use Rattle.cbor4ii_tree.specs.Item.{member, item_count, member_count, IsItem, AreItems, AreMembers}
 use Rattle.cbor4ii_tree.specs.Meaning.{value, values, member_values, number, content_item}
-use Rattle.cbor4ii_tree.specs.Cost.{cost}
-use Rattle.cbor4ii_tree.specs.Canonical.{canonical_encoding, canonical_tree, canonical_trees}
-use Rattle.cbor4ii_tree.specs.Canonical.{canonical_pairs, integer_tree}
-use Rattle.cbor4ii_tree.specs.Canonical.{bignum, magnitude, sign_tag}
-use Rattle.cbor4ii_tree.specs.Canonical.{with_bignums, with_bignums_all, with_bignums_members}
-use Rattle.cbor4ii_tree.specs.Canonical.{tagged_integer}
-use Rattle.cbor4ii_tree.specs.Encodings.{Encodes}
+use Rattle.cbor4ii_tree.specs.Tree.{Tree, int, string, chunked, array, array_indefinite, map_of}
+use Rattle.cbor4ii_tree.specs.Tree.{map_indefinite, tagged, simple, bits, Trees, no_trees, tree}
+use Rattle.cbor4ii_tree.specs.Tree.{Pairs, no_pairs, pair, joined_chunks, count, pair_count, Loose}
+use Rattle.cbor4ii_tree.specs.Tree.{LooseAll, LoosePairs, SoundStrings, SoundStringsAll}
+use Rattle.cbor4ii_tree.specs.Tree.{SoundStringsPairs}
 
 length-magnitude : (n : ℕ) → length (magnitude n) < 2 ^ 64
 length-magnitude n =
@@ -103,9 +99,8 @@ value_integer : (s : Sign) (n : ℕ)
     → value (integer_tree s n) ≡ tagged_integer s n (integer (number s n))
 value_integer s n = value_if (ltb n (2 ^ 64))
   where
-    value_if : (b : Bool)
-        → value (cond b (Tree.int s n (shortest n)) (bignum s n)) ≡ cond b (integer (number s n))
-        (tag (sign_tag s) (bytes_item (magnitude n)))
+    value_if : (b : Bool) → value (cond b (Tree.int s n (shortest n)) (bignum s n)) ≡ cond b
+        (integer (number s n)) (tag (sign_tag s) (bytes_item (magnitude n)))
     value_if true = refl
     value_if false = refl
 

@@ -1,41 +1,33 @@
 -- A canonical tree is the one whose bytes are the canonical encoding of its value.
 use Rattle.std.proofs.Common.{◌≡◌, ℕ, ◌+◌, ◌*◌, ◌^◌, ◌<◌, List, [], ◌∷◌, ◌++◌, length, true, false}
 use Rattle.std.proofs.Common.{ltb, ltb-true, lt-ltb, pos, negsuc, refl, sym, ap, ap₂, ◌∙◌, subst}
-use Rattle.std.proofs.Common.{arith, append_assoc}
-use Rattle.std.specs.Int.{bytes_high_first}
-use Rattle.std.proofs.lemmas.List.{append_cancel_left}
-use Rattle.std.specs.Prelude.{◌↔◌}
-use Rattle.cbor4ii_items.specs.Head.{Width, byte_count, HeadFits, additional, head, indefinite_head}
-use Rattle.cbor4ii_items.specs.Head.{shortest, break}
-use Rattle.cbor4ii_items.specs.Initial.{Sign, unsigned, negative, sign_major, Kind, byte_string}
+use Rattle.std.proofs.{Common.{arith, append_assoc}, lemmas.List.append_cancel_left}
+use Rattle.std.specs.{Int.bytes_high_first, Prelude.◌↔◌}
+use Rattle.cbor4ii_items.specs.{Budget.CostFits, Head.{Width, byte_count, HeadFits, additional}}
+use Rattle.cbor4ii_items.specs.{Head.{head, indefinite_head, shortest, break}, Initial.Sign}
+use Rattle.cbor4ii_items.specs.Initial.{unsigned, negative, sign_major, Kind, byte_string}
 use Rattle.cbor4ii_items.specs.Initial.{text_string, kind_major, simple_false, simple_true}
 use Rattle.cbor4ii_items.specs.Initial.{simple_null, simple_undefined, simple_byte, info_of}
-use Rattle.cbor4ii_items.specs.Budget.{CostFits}
 use Rattle.cbor4ii_items.specs.Laws.Heads.{if_cases, shortest_fits, argument_below, same_wide}
-use Rattle.cbor4ii_tree.specs.Tree.{Tree, int, string, chunked, array, array_indefinite, map_of}
-use Rattle.cbor4ii_tree.specs.Tree.{map_indefinite}
-use Rattle.cbor4ii_tree.specs.Tree.{tagged, simple, bits, Trees, no_trees, tree, Pairs, no_pairs}
-use Rattle.cbor4ii_tree.specs.Tree.{pair, count, pair_count, joined_chunks, bytes, bytes_all}
-use Rattle.cbor4ii_tree.specs.Tree.{bytes_pairs, Loose, LooseAll, LoosePairs, SoundStrings}
-use Rattle.cbor4ii_tree.specs.Tree.{SoundStringsAll, SoundStringsPairs, Plain}
-use Rattle.cbor4ii_tree.specs.Item.{Item, null, boolean, integer, float, bytes_item, text, sequence}
-use Rattle.cbor4ii_tree.specs.Item.{mapping, tag, Items, no_items, item, Members, no_members}
-use Rattle.cbor4ii_tree.specs.Item.{member, item_count, member_count, IsItem, AreItems, AreMembers}
-use Rattle.cbor4ii_tree.specs.Meaning.{value, values, member_values, number, content_item}
-use Rattle.cbor4ii_tree.specs.Cost.{cost, Budget}
+use Rattle.cbor4ii_tree.specs.{Canonical.with_bignums, CanonicalShape.CanonicalShape}
+use Rattle.cbor4ii_tree.specs.{Item.AreMembers, Laws.Ignoring.one_encoding}
+use Rattle.cbor4ii_tree.specs.{Laws.Numbers.info-additional, Laws.PartsAgain.pair_split}
 use Rattle.cbor4ii_tree.specs.Canonical.{canonical_encoding, canonical_cost, canonical_tree}
-use Rattle.cbor4ii_tree.specs.Canonical.{canonical_trees, canonical_pairs}
-use Rattle.cbor4ii_tree.specs.Canonical.{integer_tree, with_bignums}
-use Rattle.cbor4ii_tree.specs.CanonicalShape.{CanonicalShape, CanonicalShapeAll}
-use Rattle.cbor4ii_tree.specs.CanonicalShape.{CanonicalShapePairs, IsDecoded, EncodesCanonically}
-use Rattle.cbor4ii_tree.specs.CanonicalShape.{DecodesCanonically}
-use Rattle.cbor4ii_tree.specs.Laws.Numbers.{info-additional}
-use Rattle.cbor4ii_tree.specs.Laws.PartsAgain.{pair_split}
-use Rattle.cbor4ii_tree.specs.Laws.Ignoring.{one_encoding}
+use Rattle.cbor4ii_tree.specs.Canonical.{canonical_trees, canonical_pairs, integer_tree}
+use Rattle.cbor4ii_tree.specs.CanonicalShape.{CanonicalShapeAll, CanonicalShapePairs, IsDecoded}
+use Rattle.cbor4ii_tree.specs.{CanonicalShape.{EncodesCanonically, DecodesCanonically}, Cost.cost}
+use Rattle.cbor4ii_tree.specs.{Cost.Budget, Item.{Item, null, boolean, integer, float, bytes_item}}
+use Rattle.cbor4ii_tree.specs.Item.{text, sequence, mapping, tag, Items, no_items, item, Members}
+use Rattle.cbor4ii_tree.specs.Item.{no_members, member, item_count, member_count, IsItem, AreItems}
+use Rattle.cbor4ii_tree.specs.Meaning.{value, values, member_values, number, content_item}
+use Rattle.cbor4ii_tree.specs.Tree.{Tree, int, string, chunked, array, array_indefinite, map_of}
+use Rattle.cbor4ii_tree.specs.Tree.{map_indefinite, tagged, simple, bits, Trees, no_trees, tree}
+use Rattle.cbor4ii_tree.specs.Tree.{Pairs, no_pairs, pair, count, pair_count, joined_chunks, bytes}
+use Rattle.cbor4ii_tree.specs.Tree.{bytes_all, bytes_pairs, Loose, LooseAll, LoosePairs}
+use Rattle.cbor4ii_tree.specs.Tree.{SoundStrings, SoundStringsAll, SoundStringsPairs, Plain}
 use Rattle.cbor4ii_tree.proofs.encodings.Canonical.{count-canonical_encoding, count-pairs}
 use Rattle.cbor4ii_tree.proofs.encodings.Canonical.{loose_canonical, sound_canonical}
-use Rattle.cbor4ii_tree.proofs.encodings.Canonical.{value-canonical_encoding}
-use Rattle.cbor4ii_tree.proofs.encodings.Canonical.{with_bignums-value}
+use Rattle.cbor4ii_tree.proofs.encodings.Canonical.{value-canonical_encoding, with_bignums-value}
 use Rattle.cbor4ii_tree.proofs.encodings.Sizes.{integer-value, content-value, item_count-values}
 use Rattle.cbor4ii_tree.proofs.encodings.Sizes.{member_count-values}
 
@@ -130,7 +122,7 @@ same_width major n w u h k e =
     let low : additional w n ≡ additional u n = omega (arith, e) in
     same_wide w u (sym (info-additional n w h) ∙ ap info_of low ∙ info-additional n u k)
 
-same_head : (major n : ℕ) (w : Width) (x y : List ℕ) → HeadFits w n
+pub same_head : (major n : ℕ) (w : Width) (x y : List ℕ) → HeadFits w n
     → head major n w ++ x ≡ head major n (shortest n) ++ y → (w ≡ shortest n) × (x ≡ y)
 same_head major n w x y h e =
     let k = shortest_fits n (argument_below w n h) in
@@ -146,9 +138,8 @@ same_head major n w x y h e =
 additional-shortest : (n : ℕ) → additional (shortest n) n < 28
 additional-shortest n =
     let P : Width → Type 0 = λ w. additional w n < 28 in
-    if_cases P (ltb n 24) _ _ (λ e. let lt = ltb-true n 24 e in omega (arith, lt))
-    (λ _. if_cases P (ltb n 256) _ _ (λ _. omega arith)
-    (λ _. if_cases P (ltb n (256 ^ 2)) _ _ (λ _. omega arith)
+    if_cases P (ltb n 24) _ _ (λ e. let lt = ltb-true n 24 e in omega (arith, lt)) (λ _. if_cases P
+    (ltb n 256) _ _ (λ _. omega arith) (λ _. if_cases P (ltb n (256 ^ 2)) _ _ (λ _. omega arith)
     (λ _. if_cases P (ltb n (256 ^ 4)) _ _ (λ _. omega arith) (λ _. omega arith))))
 
 not_indefinite : (major n : ℕ) (x y : List ℕ) → indefinite_head major ∷ x ≡ head major n
@@ -159,9 +150,8 @@ not_indefinite major n x y e =
     omega (arith, first.0, additional-shortest n)
 
 mutual
-  pub strict_of_canonical : (t : Tree) (x y : List ℕ) → Loose t → bytes t ++ x ≡ canonical_encoding
-      (value t) ++ y
-      → CanonicalShape t × (x ≡ y)
+  pub strict_of_canonical : (t : Tree) (x y : List ℕ) → Loose t
+      → bytes t ++ x ≡ canonical_encoding (value t) ++ y → CanonicalShape t × (x ≡ y)
   strict_of_canonical (int s n w) x y l e =
       same_head (sign_major s) n w x y l
       (e ∙ ap (λ u. bytes u ++ y) (canonical_encoding-integer s n (argument_below w n l)))
@@ -187,9 +177,8 @@ mutual
       e ∙ ap (λ m. (head 4 (count (canonical_trees (values ts))) (shortest m) ++ trailing) ++ y) c
       ∙ ap (λ m. (head 4 m (shortest n) ++ trailing) ++ y)
       (count-canonical_encoding (values ts) ∙ c) in
-      let heads = same_head 4 n w (bytes_all ts ++ x)
-      (trailing ++ y) l.0 (sym (append_assoc (head 4 n w) (bytes_all ts) x) ∙ same
-      ∙ append_assoc (head 4 n (shortest n)) trailing y) in
+      let heads = same_head 4 n w (bytes_all ts ++ x) (trailing ++ y) l.0 (sym (append_assoc
+      (head 4 n w) (bytes_all ts) x) ∙ same ∙ append_assoc (head 4 n (shortest n)) trailing y) in
       let rest = strict_of_canonical_all ts x y l.1 heads.1 in
       ((heads.0, rest.0), rest.1)
   strict_of_canonical (array_indefinite ts) x y l e =
@@ -207,9 +196,8 @@ mutual
       e ∙ ap (λ m.
       (head 5 (pair_count (canonical_pairs (member_values ps))) (shortest m) ++ trailing) ++ y) c
       ∙ ap (λ m. (head 5 m (shortest n) ++ trailing) ++ y) (count-pairs (member_values ps) ∙ c) in
-      let heads = same_head 5 n w (bytes_pairs ps ++ x)
-      (trailing ++ y) l.0 (sym (append_assoc (head 5 n w) (bytes_pairs ps) x) ∙ same
-      ∙ append_assoc (head 5 n (shortest n)) trailing y) in
+      let heads = same_head 5 n w (bytes_pairs ps ++ x) (trailing ++ y) l.0 (sym (append_assoc
+      (head 5 n w) (bytes_pairs ps) x) ∙ same ∙ append_assoc (head 5 n (shortest n)) trailing y) in
       let rest = strict_of_canonical_pairs ps x y l.1 heads.1 in
       ((heads.0, rest.0), rest.1)
   strict_of_canonical (map_indefinite ps) x y l e =
@@ -241,9 +229,8 @@ mutual
   strict_of_canonical_all no_trees x y l e = (tt, e)
   strict_of_canonical_all (tree t ts) x y l e =
       let trailing = bytes_all (canonical_trees (values ts)) in
-      let first = strict_of_canonical t (bytes_all ts ++ x)
-      (trailing ++ y) l.0 (sym (append_assoc (bytes t) (bytes_all ts) x) ∙ e
-      ∙ append_assoc (canonical_encoding (value t)) trailing y) in
+      let first = strict_of_canonical t (bytes_all ts ++ x) (trailing ++ y) l.0 (sym (append_assoc
+      (bytes t) (bytes_all ts) x) ∙ e ∙ append_assoc (canonical_encoding (value t)) trailing y) in
       let rest = strict_of_canonical_all ts x y l.1 first.1 in
       ((first.0, rest.0), rest.1)
 

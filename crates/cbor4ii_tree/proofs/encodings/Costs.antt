@@ -1,19 +1,17 @@
 -- Skipping takes no more steps than reading, and the canonical encoding no more than any other.
 use Rattle.std.proofs.Common.{ℕ, ◌+◌, ◌^◌, ◌<◌, ◌≤◌, arith, lt-ltb}
-use Rattle.cbor4ii_items.specs.Head.{in_first}
-use Rattle.cbor4ii_items.specs.Initial.{Sign, unsigned, negative, Kind, byte_string, text_string}
-use Rattle.cbor4ii_items.specs.Initial.{simple_false, simple_true, simple_null, simple_undefined}
-use Rattle.cbor4ii_items.specs.Laws.Heads.{argument_below}
-use Rattle.cbor4ii_tree.specs.Tree.{Tree, int, string, chunked, array, array_indefinite, map_of}
-use Rattle.cbor4ii_tree.specs.Tree.{map_indefinite}
-use Rattle.cbor4ii_tree.specs.Tree.{tagged, simple, bits, Trees, no_trees, tree, Pairs, no_pairs}
-use Rattle.cbor4ii_tree.specs.Tree.{pair, Loose, LooseAll, LoosePairs, IsChunk, AreChunks}
-use Rattle.cbor4ii_tree.specs.Tree.{SoundStrings, SoundStringsAll, SoundStringsPairs, joined_chunks}
-use Rattle.cbor4ii_tree.specs.Meaning.{value, values, member_values, content_item}
-use Rattle.cbor4ii_tree.specs.Cost.{cost, chunks_cost, greatest_cost, greatest_pair_cost, skip_cost}
-use Rattle.cbor4ii_tree.specs.Cost.{greatest_skip_cost, greatest_pair_skip_cost}
+use Rattle.cbor4ii_items.specs.{Head.in_first, Initial.{Sign, unsigned, negative, Kind}}
+use Rattle.cbor4ii_items.specs.Initial.{byte_string, text_string, simple_false, simple_true}
+use Rattle.cbor4ii_items.specs.{Initial.{simple_null, simple_undefined}, Laws.Heads.argument_below}
 use Rattle.cbor4ii_tree.specs.Canonical.{canonical_tree, canonical_trees, canonical_pairs}
-use Rattle.cbor4ii_tree.specs.Canonical.{integer_tree}
+use Rattle.cbor4ii_tree.specs.{Canonical.integer_tree, Cost.{cost, chunks_cost, greatest_cost}}
+use Rattle.cbor4ii_tree.specs.Cost.{greatest_pair_cost, skip_cost, greatest_skip_cost}
+use Rattle.cbor4ii_tree.specs.{Cost.greatest_pair_skip_cost, Meaning.{value, values, member_values}}
+use Rattle.cbor4ii_tree.specs.{Meaning.content_item, Tree.{Tree, int, string, chunked, array}}
+use Rattle.cbor4ii_tree.specs.Tree.{array_indefinite, map_of, map_indefinite, tagged, simple, bits}
+use Rattle.cbor4ii_tree.specs.Tree.{Trees, no_trees, tree, Pairs, no_pairs, pair, Loose, LooseAll}
+use Rattle.cbor4ii_tree.specs.Tree.{LoosePairs, IsChunk, AreChunks, SoundStrings, SoundStringsAll}
+use Rattle.cbor4ii_tree.specs.Tree.{SoundStringsPairs, joined_chunks}
 
 skip_cost-chunk : (k : Kind) (t : Tree) → IsChunk k t → skip_cost t ≤ 1
 skip_cost-chunk k (string j w content) h = omega arith

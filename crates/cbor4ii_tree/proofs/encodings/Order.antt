@@ -3,31 +3,25 @@ use Rattle.std.proofs.Common.{◌≡◌, ◌≢◌, ℕ, zero, suc, ◌+◌, ◌
 use Rattle.std.proofs.Common.{◌∷◌, ◌++◌, length, Bool, true, false, cond, refl, sym, ap, ap₂, ◌∙◌}
 use Rattle.std.proofs.Common.{subst, subst₂, arith, append_assoc, append-nil, ltb, ltb-true, pos}
 use Rattle.std.proofs.Common.{negsuc, ℤ, mul-le-mul_right, pow-suc, mul_comm, mod-eq_of_lt, lt-ltb}
-use Rattle.std.proofs.Common.{le-ltb}
-use Rattle.std.proofs.Common.{◌⊎◌, inl, inr}
+use Rattle.std.proofs.{Common.{le-ltb, ◌⊎◌, inl, inr}, Math.Arith.mod-mul}
 use Rattle.std.proofs.Math.Nat.{pow-le-pow_right}
-use Rattle.std.proofs.Math.Arith.{mod-mul}
-use Rattle.std.specs.Int.{byte_at, bytes_high_first}
-use Rattle.std.specs.declared.cmp.Ordering.{Ordering}
-use Rattle.std.specs.declared.cmp.Ordering.TheVariants.{Less, Equal, Greater}
+use Rattle.std.specs.{declared.cmp.Ordering.Ordering, declared.cmp.Ordering.TheVariants.Less}
+use Rattle.std.specs.{Cmp.{ranks, nat_cmp_is, then_flip}, Cmp.Lexicographic.slice_cmp}
+use Rattle.std.specs.{Cmp.Lexicographic.nat_list_cmp_total, Int.{byte_at, bytes_high_first}}
 use Rattle.std.specs.Ordering.{MatchOrdering, nat_cmp, ordering_then, ordering_reverse}
-use Rattle.std.specs.Cmp.{ranks, nat_cmp_is, then_flip}
-use Rattle.std.specs.Cmp.Lexicographic.{slice_cmp, nat_list_cmp_total}
-use Rattle.cbor4ii_items.specs.Head.{Width, in_first, one, two, four, eight, HeadFits, additional}
-use Rattle.cbor4ii_items.specs.Head.{byte_count, head, shortest}
-use Rattle.cbor4ii_items.specs.Initial.{Sign, unsigned, negative, sign_major, half, single, double}
-use Rattle.cbor4ii_items.specs.Initial.{info_of}
-use Rattle.cbor4ii_items.specs.Numbers.{definite_string}
+use Rattle.std.specs.declared.cmp.Ordering.TheVariants.{Equal, Greater}
+use Rattle.cbor4ii_items.specs.{Laws.Heads.shortest_fits, Numbers.definite_string, Head.Width}
+use Rattle.cbor4ii_items.specs.Head.{in_first, one, two, four, eight, HeadFits, additional}
+use Rattle.cbor4ii_items.specs.{Head.{byte_count, head, shortest}, Initial.{Sign, unsigned}}
+use Rattle.cbor4ii_items.specs.Initial.{negative, sign_major, half, single, double, info_of}
 use Rattle.cbor4ii_items.specs.Laws.Heads.{additional-lt, info-additional, same_wide, if_cases}
-use Rattle.cbor4ii_items.specs.Laws.Heads.{shortest_fits}
-use Rattle.cbor4ii_tree.specs.Tree.{int, bytes, bytes_all, bytes_pairs}
-use Rattle.cbor4ii_tree.specs.Item.{Item, null, boolean, integer, float, bytes_item, text, sequence}
-use Rattle.cbor4ii_tree.specs.Item.{mapping, tag, item_count, member_count}
 use Rattle.cbor4ii_tree.specs.Canonical.{canonical_encoding, canonical_trees, canonical_pairs}
-use Rattle.cbor4ii_tree.specs.Canonical.{bignum, magnitude, sign_tag}
-use Rattle.cbor4ii_tree.specs.Order.{Compares, shortest_parts, integer_parts, head_of, HasHead}
-use Rattle.cbor4ii_tree.specs.Order.{after_head, integer_major, major_of, content_of}
-use Rattle.cbor4ii_tree.specs.Order.{elements_of, pairs_of}
+use Rattle.cbor4ii_tree.specs.{Canonical.{bignum, magnitude, sign_tag}, Item.{Item, null, boolean}}
+use Rattle.cbor4ii_tree.specs.Item.{integer, float, bytes_item, text, sequence, mapping, tag}
+use Rattle.cbor4ii_tree.specs.{Item.{item_count, member_count}, Order.{Compares, shortest_parts}}
+use Rattle.cbor4ii_tree.specs.Order.{integer_parts, head_of, HasHead, after_head, integer_major}
+use Rattle.cbor4ii_tree.specs.{Order.{major_of, content_of, elements_of, pairs_of}, Tree.int}
+use Rattle.cbor4ii_tree.specs.Tree.{bytes, bytes_all, bytes_pairs}
 use Rattle.cbor4ii_tree.proofs.encodings.Canonical.{count-canonical_encoding, count-pairs}
 
 -- ---- one comparison, and then another
@@ -68,8 +62,7 @@ pub compares_first : {r : Ordering} {s t : List ℕ} (u v : List ℕ) → r ≢ 
     → Compares r (s ++ u) (t ++ v)
 compares_first {r} {s} {t} u v n a = record {
   before = λ x y.
-      ap₂ (slice_cmp nat_cmp) (append_assoc s u x) (append_assoc t v y)
-      ∙ a.before (u ++ x) (v ++ y)
+      ap₂ (slice_cmp nat_cmp) (append_assoc s u x) (append_assoc t v y) ∙ a.before (u ++ x) (v ++ y)
       ∙ decides r n (slice_cmp nat_cmp (u ++ x) (v ++ y)) (slice_cmp nat_cmp x y);
 }
 
@@ -80,10 +73,9 @@ pub compares_back : {r : Ordering} {s t : List ℕ} → Compares r s t
     → Compares (ordering_reverse r) t s
 compares_back {r} {s} {t} a = record {
   before = λ x y.
-      nat_list_cmp_total.antisymm (t ++ x) (s ++ y)
-      ∙ ap ordering_reverse (a.before y x)
-      ∙ sym (then_flip r (slice_cmp nat_cmp y x))
-      ∙ ap (ordering_then (ordering_reverse r)) (sym (nat_list_cmp_total.antisymm x y));
+      nat_list_cmp_total.antisymm (t ++ x) (s ++ y) ∙ ap ordering_reverse (a.before y x) ∙ sym
+      (then_flip r (slice_cmp nat_cmp y x)) ∙ ap (ordering_then (ordering_reverse r)) (sym
+      (nat_list_cmp_total.antisymm x y));
 }
 
 -- the first byte, and then the rest
@@ -192,10 +184,9 @@ compares_heads a n w b m u h l = compares_cons (initial_byte a n w) (initial_byt
     same_wide w u (sym (info-additional n w h) ∙ ap info_of same ∙ info-additional m u l) in
     by_width w u width h l same)
   where
-    by_width : (w u : Width) → w ≡ u → HeadFits w n → HeadFits u m
-        → additional w n ≡ additional u m
-        → Compares (nat_cmp n m) (bytes_high_first (byte_count w) n)
-        (bytes_high_first (byte_count u) m)
+    by_width : (w u : Width) → w ≡ u → HeadFits w n → HeadFits u m → additional w n ≡ additional u m
+        → Compares (nat_cmp n m) (bytes_high_first (byte_count w) n) (bytes_high_first
+        (byte_count u) m)
     by_width w u e h l same =
         subst (λ j. HeadFits j m → additional w n ≡ additional j m
         → Compares (nat_cmp n m) (bytes_high_first (byte_count w) n)
@@ -265,15 +256,13 @@ headed (bytes_item bs) h =
 headed (text bs) h =
     headed_by 3 (length bs) (shortest (length bs)) bs (shortest_fits (length bs) h)
 headed (sequence vs) h =
-    headed_as (ap (λ c. head 4 c (shortest (item_count vs)) ++ bytes_all (canonical_trees vs))
-    (sym (count-canonical_encoding vs)))
-    (headed_by 4 (item_count vs) (shortest (item_count vs)) (bytes_all (canonical_trees vs))
-    (shortest_fits (item_count vs) h))
+    headed_as (ap (λ c. head 4 c (shortest (item_count vs)) ++ bytes_all (canonical_trees vs)) (sym
+    (count-canonical_encoding vs))) (headed_by 4 (item_count vs) (shortest (item_count vs))
+    (bytes_all (canonical_trees vs)) (shortest_fits (item_count vs) h))
 headed (mapping ms) h =
     headed_as (ap (λ c. head 5 c (shortest (member_count ms)) ++ bytes_pairs (canonical_pairs ms))
-    (sym (count-pairs ms)))
-    (headed_by 5 (member_count ms) (shortest (member_count ms)) (bytes_pairs (canonical_pairs ms))
-    (shortest_fits (member_count ms) h))
+    (sym (count-pairs ms))) (headed_by 5 (member_count ms) (shortest (member_count ms)) (bytes_pairs
+    (canonical_pairs ms)) (shortest_fits (member_count ms) h))
 headed (tag n v) h = headed_by 6 n (shortest n) (canonical_encoding v) (shortest_fits n h)
 
 -- how the program compares heads
@@ -305,18 +294,16 @@ pub same_heads : (v w : Item) (r : Ordering) → HasHead v → HasHead w
 same_heads v w r h l e c =
     let a = headed v h in
     let b = headed w l in
-    subst₂ (Compares r) a.is b.is
-    (compares_then (subst (λ o. Compares o (head a.major a.argument a.wide)
-    (head b.major b.argument b.wide)) e (headed_heads a b)) c)
+    subst₂ (Compares r) a.is b.is (compares_then (subst (λ o. Compares o (head a.major a.argument
+    a.wide) (head b.major b.argument b.wide)) e (headed_heads a b)) c)
 
 -- ---- the major type of a head
 
 additional_below : (n : ℕ) → additional (shortest n) n < 32
 additional_below n =
     let P : Width → Type 0 = λ w. additional w n < 32 in
-    if_cases P (ltb n 24) _ _ (λ e. let lt = ltb-true n 24 e in omega (arith, lt))
-    (λ _. if_cases P (ltb n 256) _ _ (λ _. omega arith)
-    (λ _. if_cases P (ltb n (256 ^ 2)) _ _ (λ _. omega arith)
+    if_cases P (ltb n 24) _ _ (λ e. let lt = ltb-true n 24 e in omega (arith, lt)) (λ _. if_cases P
+    (ltb n 256) _ _ (λ _. omega arith) (λ _. if_cases P (ltb n (256 ^ 2)) _ _ (λ _. omega arith)
     (λ _. if_cases P (ltb n (256 ^ 4)) _ _ (λ _. omega arith) (λ _. omega arith))))
 
 major_is : (major n : ℕ) → (shortest_parts major n).0 / 32 ≡ major
@@ -325,9 +312,8 @@ major_is major n = omega (arith, additional_below n)
 integer_major_is : (s : Sign) (n : ℕ) → (integer_parts s n).0 / 32 ≡ integer_major s n
 integer_major_is s n = by (ltb n (2 ^ 64))
   where
-    by : (b : Bool)
-        → (cond b (shortest_parts (sign_major s) n) (shortest_parts 6 (sign_tag s))).0 / 32
-        ≡ cond b (sign_major s) 6
+    by : (b : Bool) → (cond b (shortest_parts (sign_major s) n) (shortest_parts 6 (sign_tag s))).0
+        / 32 ≡ cond b (sign_major s) 6
     by true = major_is (sign_major s) n
     by false = major_is 6 (sign_tag s)
 
@@ -360,14 +346,6 @@ not_integer s n lo other = absurd (by s (ltb n (2 ^ 64)) lo other)
     by negative true lo other = omega arith
     by s false lo other = other refl
 
-pub after_string : (v : Item) → 2 ≤ major_of v → major_of v ≤ 3
-    → (length (content_of v) ≡ (head_of v).1) × (after_head v ≡ content_of v)
-after_string (bytes_item bs) lo hi = (refl, refl)
-after_string (text bs) lo hi = (refl, refl)
-after_string (integer (pos n)) lo hi = not_integer unsigned n lo (omega arith)
-after_string (integer (negsuc n)) lo hi = not_integer negative n lo (omega arith)
-after_string _ lo hi = absurd (omega arith)
-
 pub after_array : (v : Item) → major_of v ≡ 4 → (item_count (elements_of v) ≡ (head_of v).1)
     × (after_head v ≡ bytes_all (canonical_trees (elements_of v)))
 after_array (sequence vs) e = (refl, refl)
@@ -381,14 +359,6 @@ after_map (mapping ms) e = (refl, refl)
 after_map (integer (pos n)) e = not_integer unsigned n (omega arith) (omega arith)
 after_map (integer (negsuc n)) e = not_integer negative n (omega arith) (omega arith)
 after_map _ e = absurd (omega arith)
-
-pub after_simple : (v : Item) → major_of v ≡ 7 → after_head v ≡ []
-after_simple null e = refl
-after_simple (boolean b) e = refl
-after_simple (float p n) e = refl
-after_simple (integer (pos n)) e = not_integer unsigned n (omega arith) (omega arith)
-after_simple (integer (negsuc n)) e = not_integer negative n (omega arith) (omega arith)
-after_simple _ e = absurd (omega arith)
 
 after_by : (s : Sign) (n : ℕ) (b : Bool) → cond b (sign_major s) 6 ≤ 1
     → cond b [] (definite_string 2 (magnitude n)) ≡ []

@@ -4,23 +4,18 @@
 -- it is 256 steps.
 use Rattle.std.proofs.Common.{◌≡◌, ℕ, zero, suc, ◌+◌, ◌-◌, ◌*◌, List, [], ◌∷◌, ◌++◌, Ok, Err}
 use Rattle.std.proofs.Common.{Result, None, Some, refl, pos, negsuc, codes, replicate, true, false}
+use Rattle.std.specs.{Prelude.{nat_lt, if◌then◌else◌}, Str.{is_utf8, chars}}
 use Prim.Native.String.{String}
-use Rattle.std.specs.Prelude.{nat_lt, if◌then◌else◌}
-use Rattle.std.specs.Str.{is_utf8, chars}
 use Rattle.cbor4ii_items.specs.Initial.{half, single, double, initial}
-use Rattle.cbor4ii_tree.specs.Tree.{Tree}
-use Rattle.cbor4ii_tree.specs.Item.{Item, null, boolean, integer, float, bytes_item, text, sequence}
-use Rattle.cbor4ii_tree.specs.Item.{mapping, tag, size}
 use Rattle.cbor4ii_tree.specs.Canonical.{canonical_encoding, canonical_cost, with_bignums}
-use Rattle.cbor4ii_tree.specs.Cost.{cost, skip_cost}
-use Rattle.cbor4ii_tree.specs.InputError.{InputError, eof, mismatch, unsupported, require_length}
-use Rattle.cbor4ii_tree.specs.InputError.{require_utf8, depth_overflow, Small, Big, Indefinite}
+use Rattle.cbor4ii_tree.specs.{Cost.{cost, skip_cost}, InputError.{InputError, eof, mismatch}}
+use Rattle.cbor4ii_tree.specs.InputError.{unsupported, require_length, require_utf8, depth_overflow}
+use Rattle.cbor4ii_tree.specs.{InputError.{Small, Big, Indefinite}, Item.{Item, null, boolean}}
+use Rattle.cbor4ii_tree.specs.Item.{integer, float, bytes_item, text, sequence, mapping, tag, size}
 use Rattle.cbor4ii_tree.specs.Parse.{Answer, argument_of_width, trees_at, pairs_at}
-use Rattle.cbor4ii_tree.specs.Parse.{indefinite_trees_at}
-use Rattle.cbor4ii_tree.specs.Parse.{indefinite_pairs_at}
-use Rattle.cbor4ii_tree.specs.Skip.{skip, skip_within, whole_argument_at}
-use Rattle.cbor4ii_tree.specs.Read.{read, read_tree, read_within}
-use Rattle.cbor4ii_tree.specs.View.{items_of, members_of}
+use Rattle.cbor4ii_tree.specs.{Parse.{indefinite_trees_at, indefinite_pairs_at}, Read.read}
+use Rattle.cbor4ii_tree.specs.{Read.{read_tree, read_within}, Skip.{skip, skip_within}}
+use Rattle.cbor4ii_tree.specs.{Skip.whole_argument_at, Tree.Tree, View.{items_of, members_of}}
 
 -- ---- how rows are written
 
@@ -47,850 +42,509 @@ abbrev numbers_from : ℕ → ℕ → List Item
 numbers_from first zero = []
 numbers_from first (suc n) = number first ∷ numbers_from (first + 1) n
 
--- the input is read whole as the value, which is written so
-abbrev Reads : String → Item → String → Type 0
-Reads input v written = (read (Some 256) (hex input) ≡ Ok (v, [])) ×
-    (canonical_encoding v ≡ hex written)
+abbrev octets : String → Item
+octets digits = bytes_item (hex digits)
 
-abbrev Writes : Item → String → Type 0
-Writes v written = canonical_encoding v ≡ hex written
+abbrev items : List Item → Item
+items vs = sequence (items_of vs)
+
+abbrev pairs : List (Item × Item) → Item
+pairs ms = mapping (members_of ms)
+
+-- each is what it has to be
+abbrev firsts : {A : Type 0} → List (A × A) → List A
+firsts [] = []
+firsts (row ∷ rows) = row.0 ∷ firsts rows
+
+abbrev seconds : {A : Type 0} → List (A × A) → List A
+seconds [] = []
+seconds (row ∷ rows) = row.1 ∷ seconds rows
+
+abbrev AllEqual : {A : Type 0} → List (A × A) → Type 0
+AllEqual rows = firsts rows ≡ seconds rows
+
+abbrev Read : Type 0
+Read = Answer Item × List ℕ
+
+-- the input is read whole as the value, which is written so
+abbrev reads : String → Item → String → Read × Read
+reads input v written =
+    ((read (Some 256) (hex input), canonical_encoding v), (Ok (v, []), hex written))
+
+abbrev writes : Item → String → List ℕ × List ℕ
+writes v written = (canonical_encoding v, hex written)
 
 -- the input is rejected so, and these bytes are left
-abbrev RejectsUnder : ℕ → String → InputError → String → Type 0
-RejectsUnder steps input e rest = read (Some steps) (hex input) ≡ Err (e, hex rest)
+abbrev rejects_under : ℕ → String → InputError → String → Answer Item × Answer Item
+rejects_under steps input e rest = (read (Some steps) (hex input), Err (e, hex rest))
 
-abbrev Complete : String → InputError → String → Type 0
-Complete = RejectsUnder 256
+abbrev rejects : String → InputError → String → Answer Item × Answer Item
+rejects = rejects_under 256
 
-abbrev ReadsUnder : ℕ → String → Item → Type 0
-ReadsUnder steps input v = read (Some steps) (hex input) ≡ Ok (v, [])
+abbrev reads_under : ℕ → String → Item → Answer Item × Answer Item
+reads_under steps input v = (read (Some steps) (hex input), Ok (v, []))
 
 -- the same where no budget bounds the steps
-abbrev ReadsAtAnyDepth : String → Item → Type 0
-ReadsAtAnyDepth input v = read None (hex input) ≡ Ok (v, [])
+abbrev reads_at_any_depth : String → Item → Answer Item × Answer Item
+reads_at_any_depth input v = (read None (hex input), Ok (v, []))
 
--- what was skipped is left out
-abbrev rest_of : Answer Tree → Result (List ℕ) (InputError × List ℕ)
+-- what was read or skipped is left out
+abbrev Rest : Type 0
+Rest = Result (List ℕ) (InputError × List ℕ)
+
+abbrev rest_of : {A : Type 0} → Answer A → Rest
 rest_of (Ok p) = Ok p.1
 rest_of (Err z) = Err z
 
 -- one item is skipped, and these bytes are left
-abbrev SkipsUnder : ℕ → String → String → Type 0
-SkipsUnder steps input rest = rest_of (skip (Some steps) (hex input)) ≡ Ok (hex rest)
+abbrev skips_under : ℕ → String → String → Rest × Rest
+skips_under steps input rest = (rest_of (skip (Some steps) (hex input)), Ok (hex rest))
 
-abbrev SkipsTo : String → String → Type 0
-SkipsTo = SkipsUnder 256
+abbrev skips : String → String → Rest × Rest
+skips = skips_under 256
 
-abbrev SkipsAtAnyDepth : String → String → Type 0
-SkipsAtAnyDepth input rest = rest_of (skip None (hex input)) ≡ Ok (hex rest)
+abbrev skips_at_any_depth : String → String → Rest × Rest
+skips_at_any_depth input rest = (rest_of (skip None (hex input)), Ok (hex rest))
 
-abbrev SkipRejectsUnder : ℕ → String → InputError → String → Type 0
-SkipRejectsUnder steps input e rest = skip (Some steps) (hex input) ≡ Err (e, hex rest)
+abbrev skip_rejects_under : ℕ → String → InputError → String → Rest × Rest
+skip_rejects_under steps input e rest =
+    (rest_of (skip (Some steps) (hex input)), Err (e, hex rest))
 
-abbrev SkipRejects : String → InputError → String → Type 0
-SkipRejects = SkipRejectsUnder 256
+abbrev skip_rejects : String → InputError → String → Rest × Rest
+skip_rejects = skip_rejects_under 256
 
 -- Integers, each in its shortest head (appendix A), and bignums as tags (section 3.4.3).
-abbrev IntegersRows : Type 0
-IntegersRows =
-    (Reads "00" (number 0) "00")
-    × (Reads "01" (number 1) "01")
-    × (Reads "0a" (number 10) "0a")
-    × (Reads "17" (number 23) "17")
-    × (Reads "18 18" (number 24) "18 18")
-    × (Reads "18 19" (number 25) "18 19")
-    × (Reads "18 64" (number 100) "18 64")
-    × (Reads "19 03 e8" (number 1000) "19 03 e8")
-    × (Reads "1a 00 0f 42 40" (number 1000000) "1a 00 0f 42 40")
-    × (Reads "1b 00 00 00 e8 d4 a5 10 00" (number 1000000000000) "1b 00 00 00 e8 d4 a5 10 00")
-    × (Reads "1b ff ff ff ff ff ff ff ff" (number 18446744073709551615)
-    "1b ff ff ff ff ff ff ff ff")
-    × (Reads "20" (integer (negsuc 0)) "20")
-    × (Reads "29" (integer (negsuc 9)) "29")
-    × (Reads "38 63" (integer (negsuc 99)) "38 63")
-    × (Reads "38 ff" (integer (negsuc 255)) "38 ff")
-    × (Reads "39 03 e7" (integer (negsuc 999)) "39 03 e7")
-    × (Reads "39 ff ff" (integer (negsuc 65535)) "39 ff ff")
-    × (Reads "3a ff ff ff ff" (integer (negsuc 4294967295)) "3a ff ff ff ff")
-    × (Reads "3b ff ff ff ff ff ff ff ff" (integer (negsuc 18446744073709551615))
-    "3b ff ff ff ff ff ff ff ff")
-    × (Reads "c2 49 01 00 00 00 00 00 00 00 00" (tag 2
-    (bytes_item (hex "01 00 00 00 00 00 00 00 00"))) "c2 49 01 00 00 00 00 00 00 00 00")
-    × (Reads "c3 49 01 00 00 00 00 00 00 00 00" (tag 3
-    (bytes_item (hex "01 00 00 00 00 00 00 00 00"))) "c3 49 01 00 00 00 00 00 00 00 00")
-    × (Writes (number 18446744073709551616) "c2 49 01 00 00 00 00 00 00 00 00")
-    × (Writes (integer (negsuc 18446744073709551616)) "c3 49 01 00 00 00 00 00 00 00 00")
-    × (Writes (number 18446744073709551714) "c2 49 01 00 00 00 00 00 00 00 62")
-    × (Writes (integer (negsuc 170141183460469231731687303715884105727))
-    "c3 50 7f ff ff ff ff ff ff ff ff ff ff ff ff ff ff ff")
-
-pub integers_rows : IntegersRows
+pub integers_rows : AllEqual
+    (reads "00" (number 0) "00"
+    ∷ reads "01" (number 1) "01"
+    ∷ reads "0a" (number 10) "0a"
+    ∷ reads "17" (number 23) "17"
+    ∷ reads "18 18" (number 24) "18 18"
+    ∷ reads "18 19" (number 25) "18 19"
+    ∷ reads "18 64" (number 100) "18 64"
+    ∷ reads "19 03 e8" (number 1000) "19 03 e8"
+    ∷ reads "1a 00 0f 42 40" (number 1000000) "1a 00 0f 42 40"
+    ∷ reads "1b 00 00 00 e8 d4 a5 10 00" (number 1000000000000) "1b 00 00 00 e8 d4 a5 10 00"
+    ∷ reads "1b ff ff ff ff ff ff ff ff" (number 18446744073709551615) "1b ff ff ff ff ff ff ff ff"
+    ∷ reads "20" (integer (negsuc 0)) "20"
+    ∷ reads "29" (integer (negsuc 9)) "29"
+    ∷ reads "38 63" (integer (negsuc 99)) "38 63"
+    ∷ reads "38 ff" (integer (negsuc 255)) "38 ff"
+    ∷ reads "39 03 e7" (integer (negsuc 999)) "39 03 e7"
+    ∷ reads "39 ff ff" (integer (negsuc 65535)) "39 ff ff"
+    ∷ reads "3a ff ff ff ff" (integer (negsuc 4294967295)) "3a ff ff ff ff"
+    ∷ reads "3b ff ff ff ff ff ff ff ff" (integer (negsuc 18446744073709551615))
+    "3b ff ff ff ff ff ff ff ff"
+    ∷ reads "c2 49 01 00 00 00 00 00 00 00 00" (tag 2 (octets "01 00 00 00 00 00 00 00 00"))
+    "c2 49 01 00 00 00 00 00 00 00 00"
+    ∷ reads "c3 49 01 00 00 00 00 00 00 00 00" (tag 3 (octets "01 00 00 00 00 00 00 00 00"))
+    "c3 49 01 00 00 00 00 00 00 00 00" ∷ [])
+    × AllEqual (writes (number 18446744073709551616) "c2 49 01 00 00 00 00 00 00 00 00"
+    ∷ writes (integer (negsuc 18446744073709551616)) "c3 49 01 00 00 00 00 00 00 00 00"
+    ∷ writes (number 18446744073709551714) "c2 49 01 00 00 00 00 00 00 00 62"
+    ∷ writes (integer (negsuc 170141183460469231731687303715884105727))
+    "c3 50 7f ff ff ff ff ff ff ff ff ff ff ff ff ff ff ff" ∷ [])
 unfolding read_within skip_within trees_at pairs_at indefinite_trees_at indefinite_pairs_at
-    argument_of_width
-    whole_argument_at initial is_utf8 chars lib.Utf8.encode
-integers_rows = (
-  (refl, refl),
-  (refl, refl),
-  (refl, refl),
-  (refl, refl),
-  (refl, refl),
-  (refl, refl),
-  (refl, refl),
-  (refl, refl),
-  (refl, refl),
-  (refl, refl),
-  (refl, refl),
-  (refl, refl),
-  (refl, refl),
-  (refl, refl),
-  (refl, refl),
-  (refl, refl),
-  (refl, refl),
-  (refl, refl),
-  (refl, refl),
-  (refl, refl),
-  (refl, refl),
-  refl,
-  refl,
-  refl,
-  refl,
-)
+    argument_of_width whole_argument_at initial is_utf8 chars lib.Utf8.encode
+integers_rows = (refl, refl)
 
 -- Heads longer than needed are read, and written short (section 4.1).
-abbrev LongerRows : Type 0
-LongerRows =
-    (Reads "1b 00 00 00 00 00 00 00 05" (number 5) "05")
-    × (Reads "18 05" (number 5) "05")
-    × (Reads "38 00" (integer (negsuc 0)) "20")
-    × (Reads "58 01 61" (bytes_item (hex "61")) "41 61")
-    × (Reads "78 01 61" (str "a") "61 61")
-    × (Reads "9a 00 00 00 01 00" (sequence (items_of ((number 0) ∷ []))) "81 00")
-    × (Reads "b8 01 01 02" (mapping (members_of (((number 1), (number 2)) ∷ []))) "a1 01 02")
-    × (Reads "db 00 00 00 00 00 00 00 2a 00" (tag 42 (number 0)) "d8 2a 00")
-    × (Reads "99 00 01 05" (sequence (items_of ((number 5) ∷ []))) "81 05")
-    × (Reads "bb 00 00 00 00 00 00 00 01 01 02"
-    (mapping (members_of (((number 1), (number 2)) ∷ []))) "a1 01 02")
-    × (Reads "59 00 01 61" (bytes_item (hex "61")) "41 61")
-
-pub longer_rows : LongerRows
+pub longer_rows : AllEqual
+    (reads "1b 00 00 00 00 00 00 00 05" (number 5) "05"
+    ∷ reads "18 05" (number 5) "05"
+    ∷ reads "38 00" (integer (negsuc 0)) "20"
+    ∷ reads "58 01 61" (octets "61") "41 61"
+    ∷ reads "78 01 61" (str "a") "61 61"
+    ∷ reads "9a 00 00 00 01 00" (items (number 0 ∷ [])) "81 00"
+    ∷ reads "b8 01 01 02" (pairs ((number 1, number 2) ∷ [])) "a1 01 02"
+    ∷ reads "db 00 00 00 00 00 00 00 2a 00" (tag 42 (number 0)) "d8 2a 00"
+    ∷ reads "99 00 01 05" (items (number 5 ∷ [])) "81 05"
+    ∷ reads "bb 00 00 00 00 00 00 00 01 01 02" (pairs ((number 1, number 2) ∷ [])) "a1 01 02"
+    ∷ reads "59 00 01 61" (octets "61") "41 61" ∷ [])
 unfolding read_within skip_within trees_at pairs_at indefinite_trees_at indefinite_pairs_at
-    argument_of_width
-    whole_argument_at initial is_utf8 chars lib.Utf8.encode
-longer_rows = (
-  (refl, refl),
-  (refl, refl),
-  (refl, refl),
-  (refl, refl),
-  (refl, refl),
-  (refl, refl),
-  (refl, refl),
-  (refl, refl),
-  (refl, refl),
-  (refl, refl),
-  (refl, refl),
-)
+    argument_of_width whole_argument_at initial is_utf8 chars lib.Utf8.encode
+longer_rows = refl
 
 -- Simple values and floats, whose bits are kept with their width (section 3.3). Undefined is null.
-abbrev SimplesRows : Type 0
-SimplesRows =
-    (Reads "f4" (boolean false) "f4")
-    × (Reads "f5" (boolean true) "f5")
-    × (Reads "f6" null "f6")
-    × (Reads "f7" null "f6")
-    × (Reads "f9 00 00" (float half 0x0000) "f9 00 00")
-    × (Reads "f9 80 00" (float half 0x8000) "f9 80 00")
-    × (Reads "f9 3c 00" (float half 0x3c00) "f9 3c 00")
-    × (Reads "f9 7b ff" (float half 0x7bff) "f9 7b ff")
-    × (Reads "f9 7e 00" (float half 0x7e00) "f9 7e 00")
-    × (Reads "f9 fc 00" (float half 0xfc00) "f9 fc 00")
-    × (Reads "fa 47 c3 50 00" (float single 0x47c35000) "fa 47 c3 50 00")
-    × (Reads "fa 7f 80 00 00" (float single 0x7f800000) "fa 7f 80 00 00")
-    × (Reads "fa 7f c0 00 00" (float single 0x7fc00000) "fa 7f c0 00 00")
-    × (Reads "fb 3f f1 99 99 99 99 99 9a" (float double 0x3ff199999999999a)
-    "fb 3f f1 99 99 99 99 99 9a")
-    × (Reads "fb 7e 37 e4 3c 88 00 75 9c" (float double 0x7e37e43c8800759c)
-    "fb 7e 37 e4 3c 88 00 75 9c")
-    × (Reads "fb c0 10 66 66 66 66 66 66" (float double 0xc010666666666666)
-    "fb c0 10 66 66 66 66 66 66")
-
-pub simples_rows : SimplesRows
+pub simples_rows : AllEqual
+    (reads "f4" (boolean false) "f4"
+    ∷ reads "f5" (boolean true) "f5"
+    ∷ reads "f6" null "f6"
+    ∷ reads "f7" null "f6"
+    ∷ reads "f9 00 00" (float half 0x0000) "f9 00 00"
+    ∷ reads "f9 80 00" (float half 0x8000) "f9 80 00"
+    ∷ reads "f9 3c 00" (float half 0x3c00) "f9 3c 00"
+    ∷ reads "f9 7b ff" (float half 0x7bff) "f9 7b ff"
+    ∷ reads "f9 7e 00" (float half 0x7e00) "f9 7e 00"
+    ∷ reads "f9 fc 00" (float half 0xfc00) "f9 fc 00"
+    ∷ reads "fa 47 c3 50 00" (float single 0x47c35000) "fa 47 c3 50 00"
+    ∷ reads "fa 7f 80 00 00" (float single 0x7f800000) "fa 7f 80 00 00"
+    ∷ reads "fa 7f c0 00 00" (float single 0x7fc00000) "fa 7f c0 00 00"
+    ∷ reads "fb 3f f1 99 99 99 99 99 9a" (float double 0x3ff199999999999a)
+    "fb 3f f1 99 99 99 99 99 9a"
+    ∷ reads "fb 7e 37 e4 3c 88 00 75 9c" (float double 0x7e37e43c8800759c)
+    "fb 7e 37 e4 3c 88 00 75 9c"
+    ∷ reads "fb c0 10 66 66 66 66 66 66" (float double 0xc010666666666666)
+    "fb c0 10 66 66 66 66 66 66" ∷ [])
 unfolding read_within skip_within trees_at pairs_at indefinite_trees_at indefinite_pairs_at
-    argument_of_width
-    whole_argument_at initial is_utf8 chars lib.Utf8.encode
-simples_rows = (
-  (refl, refl),
-  (refl, refl),
-  (refl, refl),
-  (refl, refl),
-  (refl, refl),
-  (refl, refl),
-  (refl, refl),
-  (refl, refl),
-  (refl, refl),
-  (refl, refl),
-  (refl, refl),
-  (refl, refl),
-  (refl, refl),
-  (refl, refl),
-  (refl, refl),
-  (refl, refl),
-)
+    argument_of_width whole_argument_at initial is_utf8 chars lib.Utf8.encode
+simples_rows = refl
 
 -- Byte strings, texts and tags (appendix A).
-abbrev StringsRows : Type 0
-StringsRows =
-    (Reads "40" (bytes_item (hex "")) "40")
-    × (Reads "44 01 02 03 04" (bytes_item (hex "01 02 03 04")) "44 01 02 03 04")
-    × (Reads "60" (text []) "60")
-    × (Reads "61 61" (str "a") "61 61")
-    × (Reads "64 49 45 54 46" (str "IETF") "64 49 45 54 46")
-    × (Reads "62 22 5c" (text (hex "22 5c")) "62 22 5c")
-    × (Reads "62 c3 bc" (text (hex "c3 bc")) "62 c3 bc")
-    × (Reads "63 e6 b0 b4" (text (hex "e6 b0 b4")) "63 e6 b0 b4")
-    × (Reads "64 f0 90 85 91" (text (hex "f0 90 85 91")) "64 f0 90 85 91")
-    × (Reads "c0 74 32 30 31 33 2d 30 33 2d 32 31 54 32 30 3a 30 34 3a 30 30 5a"
+pub strings_rows : AllEqual
+    (reads "40" (octets "") "40"
+    ∷ reads "44 01 02 03 04" (octets "01 02 03 04") "44 01 02 03 04"
+    ∷ reads "60" (text []) "60"
+    ∷ reads "61 61" (str "a") "61 61"
+    ∷ reads "64 49 45 54 46" (str "IETF") "64 49 45 54 46"
+    ∷ reads "62 22 5c" (text (hex "22 5c")) "62 22 5c"
+    ∷ reads "62 c3 bc" (text (hex "c3 bc")) "62 c3 bc"
+    ∷ reads "63 e6 b0 b4" (text (hex "e6 b0 b4")) "63 e6 b0 b4"
+    ∷ reads "64 f0 90 85 91" (text (hex "f0 90 85 91")) "64 f0 90 85 91"
+    ∷ reads "c0 74 32 30 31 33 2d 30 33 2d 32 31 54 32 30 3a 30 34 3a 30 30 5a"
     (tag 0 (str "2013-03-21T20:04:00Z"))
-    "c0 74 32 30 31 33 2d 30 33 2d 32 31 54 32 30 3a 30 34 3a 30 30 5a")
-    × (Reads "c1 1a 51 4b 67 b0" (tag 1 (number 1363896240)) "c1 1a 51 4b 67 b0")
-    × (Reads "c1 fb 41 d4 52 d9 ec 20 00 00" (tag 1 (float double 0x41d452d9ec200000))
-    "c1 fb 41 d4 52 d9 ec 20 00 00")
-    × (Reads "d7 44 01 02 03 04" (tag 23 (bytes_item (hex "01 02 03 04"))) "d7 44 01 02 03 04")
-    × (Reads "d8 18 45 64 49 45 54 46" (tag 24 (bytes_item (hex "64 49 45 54 46")))
-    "d8 18 45 64 49 45 54 46")
-    × (Reads "d8 20 76 68 74 74 70 3a 2f 2f 77 77 77 2e 65 78 61 6d 70 6c 65 2e 63 6f 6d"
+    "c0 74 32 30 31 33 2d 30 33 2d 32 31 54 32 30 3a 30 34 3a 30 30 5a"
+    ∷ reads "c1 1a 51 4b 67 b0" (tag 1 (number 1363896240)) "c1 1a 51 4b 67 b0"
+    ∷ reads "c1 fb 41 d4 52 d9 ec 20 00 00" (tag 1 (float double 0x41d452d9ec200000))
+    "c1 fb 41 d4 52 d9 ec 20 00 00"
+    ∷ reads "d7 44 01 02 03 04" (tag 23 (octets "01 02 03 04")) "d7 44 01 02 03 04"
+    ∷ reads "d8 18 45 64 49 45 54 46" (tag 24 (octets "64 49 45 54 46")) "d8 18 45 64 49 45 54 46"
+    ∷ reads "d8 20 76 68 74 74 70 3a 2f 2f 77 77 77 2e 65 78 61 6d 70 6c 65 2e 63 6f 6d"
     (tag 32 (str "http://www.example.com"))
-    "d8 20 76 68 74 74 70 3a 2f 2f 77 77 77 2e 65 78 61 6d 70 6c 65 2e 63 6f 6d")
-
-pub strings_rows : StringsRows
+    "d8 20 76 68 74 74 70 3a 2f 2f 77 77 77 2e 65 78 61 6d 70 6c 65 2e 63 6f 6d" ∷ [])
 unfolding read_within skip_within trees_at pairs_at indefinite_trees_at indefinite_pairs_at
-    argument_of_width
-    whole_argument_at initial is_utf8 chars lib.Utf8.encode
-strings_rows = (
-  (refl, refl),
-  (refl, refl),
-  (refl, refl),
-  (refl, refl),
-  (refl, refl),
-  (refl, refl),
-  (refl, refl),
-  (refl, refl),
-  (refl, refl),
-  (refl, refl),
-  (refl, refl),
-  (refl, refl),
-  (refl, refl),
-  (refl, refl),
-  (refl, refl),
-)
+    argument_of_width whole_argument_at initial is_utf8 chars lib.Utf8.encode
+strings_rows = refl
 
 -- Arrays and maps (appendix A). Pairs keep their order, and equal keys are kept.
-abbrev SequencesRows : Type 0
-SequencesRows =
-    (Reads "80" (sequence (items_of [])) "80")
-    × (Reads "83 01 02 03" (sequence (items_of ((number 1) ∷ (number 2) ∷ (number 3) ∷ [])))
-    "83 01 02 03")
-    × (Reads "83 01 82 02 03 82 04 05" (sequence
-    (items_of ((number 1) ∷ (sequence (items_of ((number 2) ∷ (number 3) ∷ []))) ∷ (sequence
-    (items_of ((number 4) ∷ (number 5) ∷ []))) ∷ []))) "83 01 82 02 03 82 04 05")
-    × (Reads
+pub sequences_rows : AllEqual
+    (reads "80" (items []) "80"
+    ∷ reads "83 01 02 03" (items (number 1 ∷ number 2 ∷ number 3 ∷ [])) "83 01 02 03"
+    ∷ reads "83 01 82 02 03 82 04 05" (items
+    (number 1 ∷ items (number 2 ∷ number 3 ∷ []) ∷ items (number 4 ∷ number 5 ∷ []) ∷ []))
+    "83 01 82 02 03 82 04 05"
+    ∷ reads "98 19 01 02 03 04 05 06 07 08 09 0a 0b 0c 0d 0e 0f 10 11 12 13 14 15 16 17 18 18 18 19"
+    (items (numbers_from 1 25))
     "98 19 01 02 03 04 05 06 07 08 09 0a 0b 0c 0d 0e 0f 10 11 12 13 14 15 16 17 18 18 18 19"
-    (sequence (items_of (numbers_from 1 25)))
-    "98 19 01 02 03 04 05 06 07 08 09 0a 0b 0c 0d 0e 0f 10 11 12 13 14 15 16 17 18 18 18 19")
-    × (Reads "a0" (mapping (members_of [])) "a0")
-    × (Reads "a2 01 02 03 04" (mapping (members_of
-    (((number 1), (number 2)) ∷ ((number 3), (number 4)) ∷ []))) "a2 01 02 03 04")
-    × (Reads "a2 61 61 01 61 62 82 02 03" (mapping (members_of (((str "a"), (number 1))
-    ∷ ((str "b"), (sequence (items_of ((number 2) ∷ (number 3) ∷ [])))) ∷ [])))
-    "a2 61 61 01 61 62 82 02 03")
-    × (Reads "82 61 61 a1 61 62 61 63" (sequence
-    (items_of ((str "a") ∷ (mapping (members_of (((str "b"), (str "c")) ∷ []))) ∷ [])))
-    "82 61 61 a1 61 62 61 63")
-    × (Reads "a2 03 04 01 02" (mapping (members_of
-    (((number 3), (number 4)) ∷ ((number 1), (number 2)) ∷ []))) "a2 03 04 01 02")
-    × (Reads "a2 01 02 01 03" (mapping (members_of
-    (((number 1), (number 2)) ∷ ((number 1), (number 3)) ∷ []))) "a2 01 02 01 03")
-
-pub sequences_rows : SequencesRows
+    ∷ reads "a0" (pairs []) "a0"
+    ∷ reads "a2 01 02 03 04" (pairs ((number 1, number 2) ∷ (number 3, number 4) ∷ []))
+    "a2 01 02 03 04"
+    ∷ reads "a2 61 61 01 61 62 82 02 03"
+    (pairs ((str "a", number 1) ∷ (str "b", items (number 2 ∷ number 3 ∷ [])) ∷ []))
+    "a2 61 61 01 61 62 82 02 03"
+    ∷ reads "82 61 61 a1 61 62 61 63" (items (str "a" ∷ pairs ((str "b", str "c") ∷ []) ∷ []))
+    "82 61 61 a1 61 62 61 63"
+    ∷ reads "a2 03 04 01 02" (pairs ((number 3, number 4) ∷ (number 1, number 2) ∷ []))
+    "a2 03 04 01 02"
+    ∷ reads "a2 01 02 01 03" (pairs ((number 1, number 2) ∷ (number 1, number 3) ∷ []))
+    "a2 01 02 01 03" ∷ [])
 unfolding read_within skip_within trees_at pairs_at indefinite_trees_at indefinite_pairs_at
-    argument_of_width
-    whole_argument_at initial is_utf8 chars lib.Utf8.encode
-sequences_rows = (
-  (refl, refl),
-  (refl, refl),
-  (refl, refl),
-  (refl, refl),
-  (refl, refl),
-  (refl, refl),
-  (refl, refl),
-  (refl, refl),
-  (refl, refl),
-  (refl, refl),
-)
+    argument_of_width whole_argument_at initial is_utf8 chars lib.Utf8.encode
+sequences_rows = refl
 
 -- Items without a length are read, and written with one (section 3.2). The text of a string is what
 -- its chunks join to.
-abbrev OpensRows : Type 0
-OpensRows =
-    (Reads "5f 42 01 02 43 03 04 05 ff" (bytes_item (hex "01 02 03 04 05")) "45 01 02 03 04 05")
-    × (Reads "7f 65 73 74 72 65 61 64 6d 69 6e 67 ff" (str "streaming")
-    "69 73 74 72 65 61 6d 69 6e 67")
-    × (Reads "7f 61 c3 61 a9 ff" (text (hex "c3 a9")) "62 c3 a9")
-    × (Reads "7f ff" (text []) "60")
-    × (Reads "9f ff" (sequence (items_of [])) "80")
-    × (Reads "9f 01 82 02 03 9f 04 05 ff ff" (sequence
-    (items_of ((number 1) ∷ (sequence (items_of ((number 2) ∷ (number 3) ∷ []))) ∷ (sequence
-    (items_of ((number 4) ∷ (number 5) ∷ []))) ∷ []))) "83 01 82 02 03 82 04 05")
-    × (Reads "9f 01 82 02 03 82 04 05 ff" (sequence
-    (items_of ((number 1) ∷ (sequence (items_of ((number 2) ∷ (number 3) ∷ []))) ∷ (sequence
-    (items_of ((number 4) ∷ (number 5) ∷ []))) ∷ []))) "83 01 82 02 03 82 04 05")
-    × (Reads "83 01 82 02 03 9f 04 05 ff" (sequence
-    (items_of ((number 1) ∷ (sequence (items_of ((number 2) ∷ (number 3) ∷ []))) ∷ (sequence
-    (items_of ((number 4) ∷ (number 5) ∷ []))) ∷ []))) "83 01 82 02 03 82 04 05")
-    × (Reads "83 01 9f 02 03 ff 82 04 05" (sequence
-    (items_of ((number 1) ∷ (sequence (items_of ((number 2) ∷ (number 3) ∷ []))) ∷ (sequence
-    (items_of ((number 4) ∷ (number 5) ∷ []))) ∷ []))) "83 01 82 02 03 82 04 05")
-    × (Reads "bf ff" (mapping (members_of [])) "a0")
-    × (Reads "bf 61 61 01 61 62 9f 02 03 ff ff" (mapping (members_of (((str "a"), (number 1))
-    ∷ ((str "b"), (sequence (items_of ((number 2) ∷ (number 3) ∷ [])))) ∷ [])))
-    "a2 61 61 01 61 62 82 02 03")
-    × (Reads "82 61 61 bf 61 62 61 63 ff" (sequence
-    (items_of ((str "a") ∷ (mapping (members_of (((str "b"), (str "c")) ∷ []))) ∷ [])))
-    "82 61 61 a1 61 62 61 63")
-    × (Reads "bf 63 46 75 6e f5 63 41 6d 74 21 ff" (mapping (members_of (((str "Fun"), boolean true)
-    ∷ ((str "Amt"), (integer (negsuc 1))) ∷ []))) "a2 63 46 75 6e f5 63 41 6d 74 21")
-    × (Reads "9f 7f ff 61 61 ff" (sequence (items_of (text [] ∷ (str "a") ∷ []))) "82 60 61 61")
-    × (Reads "a1 7f 61 6b ff 01" (mapping (members_of (((str "k"), (number 1)) ∷ [])))
-    "a1 61 6b 01")
-    × (Reads "9f 5f 41 01 ff 41 02 ff" (sequence
-    (items_of ((bytes_item (hex "01")) ∷ (bytes_item (hex "02")) ∷ []))) "82 41 01 41 02")
-
-pub opens_rows : OpensRows
+pub opens_rows : AllEqual
+    (reads "5f 42 01 02 43 03 04 05 ff" (octets "01 02 03 04 05") "45 01 02 03 04 05"
+    ∷ reads "7f 65 73 74 72 65 61 64 6d 69 6e 67 ff" (str "streaming")
+    "69 73 74 72 65 61 6d 69 6e 67"
+    ∷ reads "7f 61 c3 61 a9 ff" (text (hex "c3 a9")) "62 c3 a9"
+    ∷ reads "7f ff" (text []) "60"
+    ∷ reads "9f ff" (items []) "80"
+    ∷ reads "9f 01 82 02 03 9f 04 05 ff ff" (items
+    (number 1 ∷ items (number 2 ∷ number 3 ∷ []) ∷ items (number 4 ∷ number 5 ∷ []) ∷ []))
+    "83 01 82 02 03 82 04 05"
+    ∷ reads "9f 01 82 02 03 82 04 05 ff" (items
+    (number 1 ∷ items (number 2 ∷ number 3 ∷ []) ∷ items (number 4 ∷ number 5 ∷ []) ∷ []))
+    "83 01 82 02 03 82 04 05"
+    ∷ reads "83 01 82 02 03 9f 04 05 ff" (items
+    (number 1 ∷ items (number 2 ∷ number 3 ∷ []) ∷ items (number 4 ∷ number 5 ∷ []) ∷ []))
+    "83 01 82 02 03 82 04 05"
+    ∷ reads "83 01 9f 02 03 ff 82 04 05" (items
+    (number 1 ∷ items (number 2 ∷ number 3 ∷ []) ∷ items (number 4 ∷ number 5 ∷ []) ∷ []))
+    "83 01 82 02 03 82 04 05"
+    ∷ reads "bf ff" (pairs []) "a0"
+    ∷ reads "bf 61 61 01 61 62 9f 02 03 ff ff"
+    (pairs ((str "a", number 1) ∷ (str "b", items (number 2 ∷ number 3 ∷ [])) ∷ []))
+    "a2 61 61 01 61 62 82 02 03"
+    ∷ reads "82 61 61 bf 61 62 61 63 ff" (items (str "a" ∷ pairs ((str "b", str "c") ∷ []) ∷ []))
+    "82 61 61 a1 61 62 61 63"
+    ∷ reads "bf 63 46 75 6e f5 63 41 6d 74 21 ff"
+    (pairs ((str "Fun", boolean true) ∷ (str "Amt", integer (negsuc 1)) ∷ []))
+    "a2 63 46 75 6e f5 63 41 6d 74 21"
+    ∷ reads "9f 7f ff 61 61 ff" (items (text [] ∷ str "a" ∷ [])) "82 60 61 61"
+    ∷ reads "a1 7f 61 6b ff 01" (pairs ((str "k", number 1) ∷ [])) "a1 61 6b 01"
+    ∷ reads "9f 5f 41 01 ff 41 02 ff" (items (octets "01" ∷ octets "02" ∷ [])) "82 41 01 41 02"
+    ∷ [])
 unfolding read_within skip_within trees_at pairs_at indefinite_trees_at indefinite_pairs_at
-    argument_of_width
-    whole_argument_at initial is_utf8 chars lib.Utf8.encode
-opens_rows = (
-  (refl, refl),
-  (refl, refl),
-  (refl, refl),
-  (refl, refl),
-  (refl, refl),
-  (refl, refl),
-  (refl, refl),
-  (refl, refl),
-  (refl, refl),
-  (refl, refl),
-  (refl, refl),
-  (refl, refl),
-  (refl, refl),
-  (refl, refl),
-  (refl, refl),
-  (refl, refl),
-)
+    argument_of_width whole_argument_at initial is_utf8 chars lib.Utf8.encode
+opens_rows = refl
 
 -- The input ends: of a number, a float, a length or a tag the whole argument is asked for, of a
 -- content what is missing.
-abbrev EndsRows : Type 0
-EndsRows =
-    (Complete "" (eof (codes "value") (Small 1)) "")
-    × (Complete "8a" (eof (codes "value") (Small 1)) "")
-    × (Complete "82 01" (eof (codes "value") (Small 1)) "")
-    × (Complete "a1 01" (eof (codes "value") (Small 1)) "")
-    × (Complete "c1" (eof (codes "value") (Small 1)) "")
-    × (Complete "9f 01" (eof (codes "break") (Small 1)) "")
-    × (Complete "bf 01 02" (eof (codes "break") (Small 1)) "")
-    × (Complete "5f 41 01" (eof (codes "break") (Small 1)) "")
-    × (Complete "62 ff" (eof (codes "str") (Small 1)) "")
-    × (Complete "63 61 61" (eof (codes "str") (Small 1)) "")
-    × (Complete "43" (eof (codes "bytes") (Small 3)) "")
-    × (Complete "7f 62 61" (eof (codes "str") (Small 1)) "")
-    × (Complete "7a 86" (eof (codes "str") (Small 4)) "")
-    × (Complete "5b ff ff ff ff ff ff ff ff" (eof (codes "bytes") Big) "")
-    × (Complete "1b 01 02" (eof (codes "u64") (Small 8)) "")
-    × (Complete "39 01" (eof (codes "-u64") (Small 2)) "")
-    × (Complete "99 00" (eof (codes "array") (Small 2)) "")
-    × (Complete "bb 00" (eof (codes "map") (Small 8)) "")
-    × (Complete "da 00" (eof (codes "tag") (Small 4)) "")
-    × (Complete "fa 00" (eof (codes "f32") (Small 4)) "")
-    × (Complete "f9" (eof (codes "f16") (Small 2)) "")
-    × (Complete "fb 00" (eof (codes "f64") (Small 8)) "")
-    × (Complete "82 01 62 61" (eof (codes "str") (Small 1)) "")
-    × (Complete "3a" (eof (codes "-u64") (Small 4)) "")
-    × (Complete "5f" (eof (codes "break") (Small 1)) "")
-    × (Complete "7f" (eof (codes "break") (Small 1)) "")
-    × (Complete "bf" (eof (codes "break") (Small 1)) "")
-    × (Complete "5f 42" (eof (codes "bytes") (Small 2)) "")
-    × (Complete "5f 42 01" (eof (codes "bytes") (Small 1)) "")
-    × (Complete "5f 42 01 02" (eof (codes "break") (Small 1)) "")
-    × (Complete "5f 42 01 02 43" (eof (codes "bytes") (Small 3)) "")
-    × (Complete "5f 42 01 02 43 03" (eof (codes "bytes") (Small 2)) "")
-    × (Complete "5f 42 01 02 43 03 04" (eof (codes "bytes") (Small 1)) "")
-    × (Complete "5f 42 01 02 43 03 04 05" (eof (codes "break") (Small 1)) "")
-    × (Complete "5f 43 01" (eof (codes "bytes") (Small 2)) "")
-    × (Complete "5f 44 01" (eof (codes "bytes") (Small 3)) "")
-    × (Complete "a1" (eof (codes "value") (Small 1)) "")
-    × (Complete "bf 01" (eof (codes "value") (Small 1)) "")
-    × (Complete "bf 01 02 03" (eof (codes "value") (Small 1)) "")
-    × (Complete "59 ff ff" (eof (codes "bytes") (Small 65535)) "")
-    × (Complete "5a 00 01 00 00" (eof (codes "bytes") Big) "")
-
-pub ends_rows : EndsRows
+pub ends_rows : AllEqual
+    (rejects "" (eof (codes "value") (Small 1)) ""
+    ∷ rejects "8a" (eof (codes "value") (Small 1)) ""
+    ∷ rejects "82 01" (eof (codes "value") (Small 1)) ""
+    ∷ rejects "a1 01" (eof (codes "value") (Small 1)) ""
+    ∷ rejects "c1" (eof (codes "value") (Small 1)) ""
+    ∷ rejects "9f 01" (eof (codes "break") (Small 1)) ""
+    ∷ rejects "bf 01 02" (eof (codes "break") (Small 1)) ""
+    ∷ rejects "5f 41 01" (eof (codes "break") (Small 1)) ""
+    ∷ rejects "62 ff" (eof (codes "str") (Small 1)) ""
+    ∷ rejects "63 61 61" (eof (codes "str") (Small 1)) ""
+    ∷ rejects "43" (eof (codes "bytes") (Small 3)) ""
+    ∷ rejects "7f 62 61" (eof (codes "str") (Small 1)) ""
+    ∷ rejects "7a 86" (eof (codes "str") (Small 4)) ""
+    ∷ rejects "5b ff ff ff ff ff ff ff ff" (eof (codes "bytes") Big) ""
+    ∷ rejects "1b 01 02" (eof (codes "u64") (Small 8)) ""
+    ∷ rejects "39 01" (eof (codes "-u64") (Small 2)) ""
+    ∷ rejects "99 00" (eof (codes "array") (Small 2)) ""
+    ∷ rejects "bb 00" (eof (codes "map") (Small 8)) ""
+    ∷ rejects "da 00" (eof (codes "tag") (Small 4)) ""
+    ∷ rejects "fa 00" (eof (codes "f32") (Small 4)) ""
+    ∷ rejects "f9" (eof (codes "f16") (Small 2)) ""
+    ∷ rejects "fb 00" (eof (codes "f64") (Small 8)) ""
+    ∷ rejects "82 01 62 61" (eof (codes "str") (Small 1)) ""
+    ∷ rejects "3a" (eof (codes "-u64") (Small 4)) ""
+    ∷ rejects "5f" (eof (codes "break") (Small 1)) ""
+    ∷ rejects "7f" (eof (codes "break") (Small 1)) ""
+    ∷ rejects "bf" (eof (codes "break") (Small 1)) ""
+    ∷ rejects "5f 42" (eof (codes "bytes") (Small 2)) ""
+    ∷ rejects "5f 42 01" (eof (codes "bytes") (Small 1)) ""
+    ∷ rejects "5f 42 01 02" (eof (codes "break") (Small 1)) ""
+    ∷ rejects "5f 42 01 02 43" (eof (codes "bytes") (Small 3)) ""
+    ∷ rejects "5f 42 01 02 43 03" (eof (codes "bytes") (Small 2)) ""
+    ∷ rejects "5f 42 01 02 43 03 04" (eof (codes "bytes") (Small 1)) ""
+    ∷ rejects "5f 42 01 02 43 03 04 05" (eof (codes "break") (Small 1)) ""
+    ∷ rejects "5f 43 01" (eof (codes "bytes") (Small 2)) ""
+    ∷ rejects "5f 44 01" (eof (codes "bytes") (Small 3)) ""
+    ∷ rejects "a1" (eof (codes "value") (Small 1)) ""
+    ∷ rejects "bf 01" (eof (codes "value") (Small 1)) ""
+    ∷ rejects "bf 01 02 03" (eof (codes "value") (Small 1)) ""
+    ∷ rejects "59 ff ff" (eof (codes "bytes") (Small 65535)) ""
+    ∷ rejects "5a 00 01 00 00" (eof (codes "bytes") Big) "" ∷ [])
 unfolding read_within skip_within trees_at pairs_at indefinite_trees_at indefinite_pairs_at
-    argument_of_width
-    whole_argument_at initial is_utf8 chars lib.Utf8.encode
-ends_rows = (
-  refl,
-  refl,
-  refl,
-  refl,
-  refl,
-  refl,
-  refl,
-  refl,
-  refl,
-  refl,
-  refl,
-  refl,
-  refl,
-  refl,
-  refl,
-  refl,
-  refl,
-  refl,
-  refl,
-  refl,
-  refl,
-  refl,
-  refl,
-  refl,
-  refl,
-  refl,
-  refl,
-  refl,
-  refl,
-  refl,
-  refl,
-  refl,
-  refl,
-  refl,
-  refl,
-  refl,
-  refl,
-  refl,
-  refl,
-  refl,
-  refl,
-)
+    argument_of_width whole_argument_at initial is_utf8 chars lib.Utf8.encode
+ends_rows = refl
 
 -- Bytes that no continuation mends, and what they leave.
-abbrev FaultsRows : Type 0
-FaultsRows =
-    (Complete "1c 00" (mismatch (codes "u64") 0x1c) "00")
-    × (Complete "3f 00" (mismatch (codes "-u64") 0x3f) "00")
-    × (Complete "82 1c 00" (mismatch (codes "u64") 0x1c) "00")
-    × (Complete "5c" (mismatch (codes "bytes") 0x5c) "")
-    × (Complete "7d 00" (mismatch (codes "str") 0x7d) "00")
-    × (Complete "9c 00" (mismatch (codes "array") 0x9c) "00")
-    × (Complete "bd 00" (mismatch (codes "map") 0xbd) "00")
-    × (Complete "dc 00" (mismatch (codes "tag") 0xdc) "00")
-    × (Complete "df 00" (mismatch (codes "tag") 0xdf) "00")
-    × (Complete "ff" (unsupported (codes "value") 0xff) "ff")
-    × (Complete "e0" (unsupported (codes "value") 0xe0) "e0")
-    × (Complete "f8 14" (unsupported (codes "value") 0xf8) "f8 14")
-    × (Complete "bf 01 ff" (unsupported (codes "value") 0xff) "ff")
-    × (Complete "81 ff" (unsupported (codes "value") 0xff) "ff")
-    × (Complete "5f 80 ff" (mismatch (codes "bytes") 0x80) "ff")
-    × (Complete "5f 41 01 61 62 ff" (mismatch (codes "bytes") 0x61) "62 ff")
-    × (Complete "7f 41 61 ff" (mismatch (codes "str") 0x41) "61 ff")
-    × (Complete "5f 5c ff" (mismatch (codes "bytes") 0x5c) "ff")
-    × (Complete "5f 5f ff ff" (require_length (codes "bytes") Indefinite) "ff ff")
-    × (Complete "7f 7f ff ff" (require_length (codes "str") Indefinite) "ff ff")
-    × (Complete "62 ff ff" (require_utf8 (codes "str")) "")
-    × (Complete "63 ed a0 80 00" (require_utf8 (codes "str")) "00")
-    × (Complete "7f 61 c3 61 28 ff 00" (require_utf8 (codes "str")) "00")
-    × (Complete "61 80" (require_utf8 (codes "str")) "")
-    × (Complete "5f 7f ff ff" (mismatch (codes "bytes") 0x7f) "ff ff")
-    × (Complete "7f 5f ff ff" (mismatch (codes "str") 0x5f) "ff ff")
-    × (Complete "5f 9f ff ff" (mismatch (codes "bytes") 0x9f) "ff ff")
-    × (Complete "5f e0 ff" (mismatch (codes "bytes") 0xe0) "ff")
-    × (Complete "5f 00 ff" (mismatch (codes "bytes") 0x00) "ff")
-    × (Complete "5f 78" (mismatch (codes "bytes") 0x78) "")
-    × (Complete "82 5c 00" (mismatch (codes "bytes") 0x5c) "00")
-    × (Complete "bf 01 02 03 ff" (unsupported (codes "value") 0xff) "ff")
-    × (Complete "bf 81 ff ff" (unsupported (codes "value") 0xff) "ff ff")
-    × (Complete "a1 ff" (unsupported (codes "value") 0xff) "ff")
-    × (Complete "a1 01 ff" (unsupported (codes "value") 0xff) "ff")
-    × (Complete "c1 ff" (unsupported (codes "value") 0xff) "ff")
-    × (Complete "62 c0 80" (require_utf8 (codes "str")) "")
-    × (Complete "63 ed a0 80" (require_utf8 (codes "str")) "")
-    × (Complete "64 f4 90 80 80" (require_utf8 (codes "str")) "")
-    × (Complete "9f 62 ff ff 00 ff" (require_utf8 (codes "str")) "00 ff")
-
-pub faults_rows : FaultsRows
+pub faults_rows : AllEqual
+    (rejects "1c 00" (mismatch (codes "u64") 0x1c) "00"
+    ∷ rejects "3f 00" (mismatch (codes "-u64") 0x3f) "00"
+    ∷ rejects "82 1c 00" (mismatch (codes "u64") 0x1c) "00"
+    ∷ rejects "5c" (mismatch (codes "bytes") 0x5c) ""
+    ∷ rejects "7d 00" (mismatch (codes "str") 0x7d) "00"
+    ∷ rejects "9c 00" (mismatch (codes "array") 0x9c) "00"
+    ∷ rejects "bd 00" (mismatch (codes "map") 0xbd) "00"
+    ∷ rejects "dc 00" (mismatch (codes "tag") 0xdc) "00"
+    ∷ rejects "df 00" (mismatch (codes "tag") 0xdf) "00"
+    ∷ rejects "ff" (unsupported (codes "value") 0xff) "ff"
+    ∷ rejects "e0" (unsupported (codes "value") 0xe0) "e0"
+    ∷ rejects "f8 14" (unsupported (codes "value") 0xf8) "f8 14"
+    ∷ rejects "bf 01 ff" (unsupported (codes "value") 0xff) "ff"
+    ∷ rejects "81 ff" (unsupported (codes "value") 0xff) "ff"
+    ∷ rejects "5f 80 ff" (mismatch (codes "bytes") 0x80) "ff"
+    ∷ rejects "5f 41 01 61 62 ff" (mismatch (codes "bytes") 0x61) "62 ff"
+    ∷ rejects "7f 41 61 ff" (mismatch (codes "str") 0x41) "61 ff"
+    ∷ rejects "5f 5c ff" (mismatch (codes "bytes") 0x5c) "ff"
+    ∷ rejects "5f 5f ff ff" (require_length (codes "bytes") Indefinite) "ff ff"
+    ∷ rejects "7f 7f ff ff" (require_length (codes "str") Indefinite) "ff ff"
+    ∷ rejects "62 ff ff" (require_utf8 (codes "str")) ""
+    ∷ rejects "63 ed a0 80 00" (require_utf8 (codes "str")) "00"
+    ∷ rejects "7f 61 c3 61 28 ff 00" (require_utf8 (codes "str")) "00"
+    ∷ rejects "61 80" (require_utf8 (codes "str")) ""
+    ∷ rejects "5f 7f ff ff" (mismatch (codes "bytes") 0x7f) "ff ff"
+    ∷ rejects "7f 5f ff ff" (mismatch (codes "str") 0x5f) "ff ff"
+    ∷ rejects "5f 9f ff ff" (mismatch (codes "bytes") 0x9f) "ff ff"
+    ∷ rejects "5f e0 ff" (mismatch (codes "bytes") 0xe0) "ff"
+    ∷ rejects "5f 00 ff" (mismatch (codes "bytes") 0x00) "ff"
+    ∷ rejects "5f 78" (mismatch (codes "bytes") 0x78) ""
+    ∷ rejects "82 5c 00" (mismatch (codes "bytes") 0x5c) "00"
+    ∷ rejects "bf 01 02 03 ff" (unsupported (codes "value") 0xff) "ff"
+    ∷ rejects "bf 81 ff ff" (unsupported (codes "value") 0xff) "ff ff"
+    ∷ rejects "a1 ff" (unsupported (codes "value") 0xff) "ff"
+    ∷ rejects "a1 01 ff" (unsupported (codes "value") 0xff) "ff"
+    ∷ rejects "c1 ff" (unsupported (codes "value") 0xff) "ff"
+    ∷ rejects "62 c0 80" (require_utf8 (codes "str")) ""
+    ∷ rejects "63 ed a0 80" (require_utf8 (codes "str")) ""
+    ∷ rejects "64 f4 90 80 80" (require_utf8 (codes "str")) ""
+    ∷ rejects "9f 62 ff ff 00 ff" (require_utf8 (codes "str")) "00 ff" ∷ [])
 unfolding read_within skip_within trees_at pairs_at indefinite_trees_at indefinite_pairs_at
-    argument_of_width
-    whole_argument_at initial is_utf8 chars lib.Utf8.encode
-faults_rows = (
-  refl,
-  refl,
-  refl,
-  refl,
-  refl,
-  refl,
-  refl,
-  refl,
-  refl,
-  refl,
-  refl,
-  refl,
-  refl,
-  refl,
-  refl,
-  refl,
-  refl,
-  refl,
-  refl,
-  refl,
-  refl,
-  refl,
-  refl,
-  refl,
-  refl,
-  refl,
-  refl,
-  refl,
-  refl,
-  refl,
-  refl,
-  refl,
-  refl,
-  refl,
-  refl,
-  refl,
-  refl,
-  refl,
-  refl,
-  refl,
-)
+    argument_of_width whole_argument_at initial is_utf8 chars lib.Utf8.encode
+faults_rows = refl
 
 -- What a budget allows: one step a value, one more for an array or a map, one for a chunk.
-abbrev BudgetsRows : Type 0
-BudgetsRows =
-    (RejectsUnder 0 "00" (depth_overflow (codes "value")) "00")
-    × (RejectsUnder 0 "" (depth_overflow (codes "value")) "")
-    × (ReadsUnder 1 "00" (number 0))
-    × (RejectsUnder 1 "" (eof (codes "value") (Small 1)) "")
-    × (RejectsUnder 1 "80" (depth_overflow (codes "array")) "80")
-    × (ReadsUnder 2 "80" (sequence (items_of [])))
-    × (RejectsUnder 1 "9c" (depth_overflow (codes "array")) "9c")
-    × (RejectsUnder 1 "a0" (depth_overflow (codes "map")) "a0")
-    × (RejectsUnder 2 "81 00" (depth_overflow (codes "value")) "00")
-    × (ReadsUnder 3 "81 00" (sequence (items_of ((number 0) ∷ []))))
-    × (ReadsUnder 1 "7f ff" (text []))
-    × (RejectsUnder 1 "7f 61 61 ff" (depth_overflow (codes "str")) "61 61 ff")
-    × (ReadsUnder 2 "7f 61 61 ff" (str "a"))
-    × (RejectsUnder 1 "c1 00" (depth_overflow (codes "value")) "00")
-    × (ReadsUnder 2 "c1 00" (tag 1 (number 0)))
-    × (RejectsUnder 1 "5f" (eof (codes "break") (Small 1)) "")
-    × (RejectsUnder 1 "5f 41 01 ff" (depth_overflow (codes "bytes")) "41 01 ff")
-    × (RejectsUnder 2 "81" (depth_overflow (codes "value")) "")
-    × (RejectsUnder 1 "9f" (depth_overflow (codes "array")) "9f")
-    × (RejectsUnder 2 "9f 00 ff" (depth_overflow (codes "value")) "00 ff")
-    × (ReadsUnder 3 "9f 00 ff" (sequence (items_of ((number 0) ∷ []))))
-    × (RejectsUnder 2 "a1 00 00" (depth_overflow (codes "value")) "00 00")
-    × (ReadsUnder 3 "a1 00 00" (mapping (members_of (((number 0), (number 0)) ∷ []))))
-    × (RejectsUnder 3 "a1 00 81 00" (depth_overflow (codes "array")) "81 00")
-    × (RejectsUnder 1 "bf" (depth_overflow (codes "map")) "bf")
-    × (RejectsUnder 2 "bf 00 00 ff" (depth_overflow (codes "value")) "00 00 ff")
-    × (ReadsAtAnyDepth "c1 c1 00" (tag 1 (tag 1 (number 0))))
-
-pub budgets_rows : BudgetsRows
+pub budgets_rows : AllEqual
+    (rejects_under 0 "00" (depth_overflow (codes "value")) "00"
+    ∷ rejects_under 0 "" (depth_overflow (codes "value")) ""
+    ∷ reads_under 1 "00" (number 0)
+    ∷ rejects_under 1 "" (eof (codes "value") (Small 1)) ""
+    ∷ rejects_under 1 "80" (depth_overflow (codes "array")) "80"
+    ∷ reads_under 2 "80" (items [])
+    ∷ rejects_under 1 "9c" (depth_overflow (codes "array")) "9c"
+    ∷ rejects_under 1 "a0" (depth_overflow (codes "map")) "a0"
+    ∷ rejects_under 2 "81 00" (depth_overflow (codes "value")) "00"
+    ∷ reads_under 3 "81 00" (items (number 0 ∷ []))
+    ∷ reads_under 1 "7f ff" (text [])
+    ∷ rejects_under 1 "7f 61 61 ff" (depth_overflow (codes "str")) "61 61 ff"
+    ∷ reads_under 2 "7f 61 61 ff" (str "a")
+    ∷ rejects_under 1 "c1 00" (depth_overflow (codes "value")) "00"
+    ∷ reads_under 2 "c1 00" (tag 1 (number 0))
+    ∷ rejects_under 1 "5f" (eof (codes "break") (Small 1)) ""
+    ∷ rejects_under 1 "5f 41 01 ff" (depth_overflow (codes "bytes")) "41 01 ff"
+    ∷ rejects_under 2 "81" (depth_overflow (codes "value")) ""
+    ∷ rejects_under 1 "9f" (depth_overflow (codes "array")) "9f"
+    ∷ rejects_under 2 "9f 00 ff" (depth_overflow (codes "value")) "00 ff"
+    ∷ reads_under 3 "9f 00 ff" (items (number 0 ∷ []))
+    ∷ rejects_under 2 "a1 00 00" (depth_overflow (codes "value")) "00 00"
+    ∷ reads_under 3 "a1 00 00" (pairs ((number 0, number 0) ∷ []))
+    ∷ rejects_under 3 "a1 00 81 00" (depth_overflow (codes "array")) "81 00"
+    ∷ rejects_under 1 "bf" (depth_overflow (codes "map")) "bf"
+    ∷ rejects_under 2 "bf 00 00 ff" (depth_overflow (codes "value")) "00 00 ff"
+    ∷ reads_at_any_depth "c1 c1 00" (tag 1 (tag 1 (number 0))) ∷ [])
 unfolding read_within skip_within trees_at pairs_at indefinite_trees_at indefinite_pairs_at
-    argument_of_width
-    whole_argument_at initial is_utf8 chars lib.Utf8.encode
-budgets_rows = (
-  refl,
-  refl,
-  refl,
-  refl,
-  refl,
-  refl,
-  refl,
-  refl,
-  refl,
-  refl,
-  refl,
-  refl,
-  refl,
-  refl,
-  refl,
-  refl,
-  refl,
-  refl,
-  refl,
-  refl,
-  refl,
-  refl,
-  refl,
-  refl,
-  refl,
-  refl,
-  refl,
-)
+    argument_of_width whole_argument_at initial is_utf8 chars lib.Utf8.encode
+budgets_rows = refl
 
 -- Skipping tests no text, and takes any items as chunks. What is missing is reported of a number, a
 -- float and a content.
-abbrev SkippingRows : Type 0
-SkippingRows =
-    (SkipsTo "00" "")
-    × (SkipsTo "82 01 02 03" "03")
-    × (SkipsTo "a1 01 02 03" "03")
-    × (SkipsTo "5f 80 ff" "")
-    × (SkipsTo "5f 5f ff ff" "")
-    × (SkipsTo "62 ff ff" "")
-    × (SkipsTo "7f 61 c3 61 28 ff" "")
-    × (SkipsTo "bf 61 61 01 61 62 9f 02 03 ff ff 00" "00")
-    × (SkipsTo "db ff ff ff ff ff ff ff fe 6b 68 65 6c 6c 6f 20 77 6f 72 6c 64" "")
-    × (SkipRejects "" (eof (codes "ignored-any") (Small 1)) "")
-    × (SkipRejects "63 61 61" (eof (codes "ignored-any") (Small 1)) "")
-    × (SkipRejects "19 00" (eof (codes "ignored-any") (Small 1)) "")
-    × (SkipRejects "3a" (eof (codes "ignored-any") (Small 4)) "")
-    × (SkipRejects "1a 86" (eof (codes "ignored-any") (Small 3)) "")
-    × (SkipRejects "1b 01 02" (eof (codes "ignored-any") (Small 6)) "")
-    × (SkipRejects "fa 00" (eof (codes "ignored-any") (Small 3)) "")
-    × (SkipRejects "7a 86" (eof (codes "ignored-any") (Small 4)) "")
-    × (SkipRejects "da 00" (eof (codes "tag") (Small 4)) "")
-    × (SkipRejects "9f 01" (eof (codes "break") (Small 1)) "")
-    × (SkipRejects "5b ff ff ff ff ff ff ff ff 00" (eof (codes "ignored-any") Big) "")
-    × (SkipRejects "1c 00" (mismatch (codes "ignored-any") 0x1c) "1c 00")
-    × (SkipRejects "82 1c 00" (mismatch (codes "ignored-any") 0x1c) "1c 00")
-    × (SkipRejects "5c" (mismatch (codes "ignored-any") 0x5c) "")
-    × (SkipRejects "9d 00" (mismatch (codes "ignored-any") 0x9d) "00")
-    × (SkipRejects "be 00" (mismatch (codes "ignored-any") 0xbe) "00")
-    × (SkipRejects "dc 00" (mismatch (codes "tag") 0xdc) "00")
-    × (SkipRejects "bf 01 ff" (unsupported (codes "ignored-any") 0xff) "ff")
-    × (SkipRejects "f8 14" (unsupported (codes "ignored-any") 0xf8) "f8 14")
-    × (SkipRejectsUnder 0 "00" (depth_overflow (codes "ignored-any")) "00")
-    × (SkipRejectsUnder 1 "81 00" (depth_overflow (codes "ignored-any")) "00")
-    × (SkipsTo "84 00 f4 60 a0 00" "00")
-    × (SkipsTo "5f 00 40 ff" "")
-    × (SkipsTo "bf 00 00 00 00 ff 00" "00")
-    × (SkipsTo "5f 41 01 61 62 ff" "")
-    × (SkipsTo "9f 62 ff ff 00 ff" "")
-    × (SkipsUnder 1 "a0" "")
-    × (SkipsUnder 1 "9f ff" "")
-    × (SkipsUnder 1 "bf ff" "")
-    × (SkipsUnder 2 "a1 00 00" "")
-    × (SkipRejectsUnder 1 "a1 00 00" (depth_overflow (codes "ignored-any")) "00 00")
-    × (SkipRejectsUnder 1 "c1 00" (depth_overflow (codes "ignored-any")) "00")
-    × (SkipRejectsUnder 1 "5f 40 ff" (depth_overflow (codes "ignored-any")) "40 ff")
-    × (SkipRejects "5f" (eof (codes "break") (Small 1)) "")
-    × (SkipRejects "7f 01" (eof (codes "break") (Small 1)) "")
-    × (SkipRejects "bf" (eof (codes "break") (Small 1)) "")
-    × (SkipRejects "bf 00" (eof (codes "ignored-any") (Small 1)) "")
-    × (SkipRejects "a1 00" (eof (codes "ignored-any") (Small 1)) "")
-    × (SkipRejects "c1" (eof (codes "ignored-any") (Small 1)) "")
-    × (SkipRejects "5f 42 01" (eof (codes "ignored-any") (Small 1)) "")
-    × (SkipRejects "82 01 62 61" (eof (codes "ignored-any") (Small 1)) "")
-    × (SkipRejects "9a 00" (eof (codes "ignored-any") (Small 4)) "")
-    × (SkipRejects "9a 00 00 01" (eof (codes "ignored-any") (Small 4)) "")
-    × (SkipRejects "f9 00" (eof (codes "ignored-any") (Small 1)) "")
-    × (SkipRejects "3c 00" (mismatch (codes "ignored-any") 0x3c) "3c 00")
-    × (SkipRejects "7c 00" (mismatch (codes "ignored-any") 0x7c) "00")
-    × (SkipRejects "82 5c 00" (mismatch (codes "ignored-any") 0x5c) "00")
-    × (SkipRejects "bf 00 ff" (unsupported (codes "ignored-any") 0xff) "ff")
-    × (SkipRejects "bf 01 02 03 ff" (unsupported (codes "ignored-any") 0xff) "ff")
-    × (SkipRejects "c1 ff" (unsupported (codes "ignored-any") 0xff) "ff")
-    × (SkipsAtAnyDepth "c1 c1 00" "")
-
-pub skipping_rows : SkippingRows
+pub skipping_rows : AllEqual
+    (skips "00" ""
+    ∷ skips "82 01 02 03" "03"
+    ∷ skips "a1 01 02 03" "03"
+    ∷ skips "5f 80 ff" ""
+    ∷ skips "5f 5f ff ff" ""
+    ∷ skips "62 ff ff" ""
+    ∷ skips "7f 61 c3 61 28 ff" ""
+    ∷ skips "bf 61 61 01 61 62 9f 02 03 ff ff 00" "00"
+    ∷ skips "db ff ff ff ff ff ff ff fe 6b 68 65 6c 6c 6f 20 77 6f 72 6c 64" ""
+    ∷ skip_rejects "" (eof (codes "ignored-any") (Small 1)) ""
+    ∷ skip_rejects "63 61 61" (eof (codes "ignored-any") (Small 1)) ""
+    ∷ skip_rejects "19 00" (eof (codes "ignored-any") (Small 1)) ""
+    ∷ skip_rejects "3a" (eof (codes "ignored-any") (Small 4)) ""
+    ∷ skip_rejects "1a 86" (eof (codes "ignored-any") (Small 3)) ""
+    ∷ skip_rejects "1b 01 02" (eof (codes "ignored-any") (Small 6)) ""
+    ∷ skip_rejects "fa 00" (eof (codes "ignored-any") (Small 3)) ""
+    ∷ skip_rejects "7a 86" (eof (codes "ignored-any") (Small 4)) ""
+    ∷ skip_rejects "da 00" (eof (codes "tag") (Small 4)) ""
+    ∷ skip_rejects "9f 01" (eof (codes "break") (Small 1)) ""
+    ∷ skip_rejects "5b ff ff ff ff ff ff ff ff 00" (eof (codes "ignored-any") Big) ""
+    ∷ skip_rejects "1c 00" (mismatch (codes "ignored-any") 0x1c) "1c 00"
+    ∷ skip_rejects "82 1c 00" (mismatch (codes "ignored-any") 0x1c) "1c 00"
+    ∷ skip_rejects "5c" (mismatch (codes "ignored-any") 0x5c) ""
+    ∷ skip_rejects "9d 00" (mismatch (codes "ignored-any") 0x9d) "00"
+    ∷ skip_rejects "be 00" (mismatch (codes "ignored-any") 0xbe) "00"
+    ∷ skip_rejects "dc 00" (mismatch (codes "tag") 0xdc) "00"
+    ∷ skip_rejects "bf 01 ff" (unsupported (codes "ignored-any") 0xff) "ff"
+    ∷ skip_rejects "f8 14" (unsupported (codes "ignored-any") 0xf8) "f8 14"
+    ∷ skip_rejects_under 0 "00" (depth_overflow (codes "ignored-any")) "00"
+    ∷ skip_rejects_under 1 "81 00" (depth_overflow (codes "ignored-any")) "00"
+    ∷ skips "84 00 f4 60 a0 00" "00"
+    ∷ skips "5f 00 40 ff" ""
+    ∷ skips "bf 00 00 00 00 ff 00" "00"
+    ∷ skips "5f 41 01 61 62 ff" ""
+    ∷ skips "9f 62 ff ff 00 ff" ""
+    ∷ skips_under 1 "a0" ""
+    ∷ skips_under 1 "9f ff" ""
+    ∷ skips_under 1 "bf ff" ""
+    ∷ skips_under 2 "a1 00 00" ""
+    ∷ skip_rejects_under 1 "a1 00 00" (depth_overflow (codes "ignored-any")) "00 00"
+    ∷ skip_rejects_under 1 "c1 00" (depth_overflow (codes "ignored-any")) "00"
+    ∷ skip_rejects_under 1 "5f 40 ff" (depth_overflow (codes "ignored-any")) "40 ff"
+    ∷ skip_rejects "5f" (eof (codes "break") (Small 1)) ""
+    ∷ skip_rejects "7f 01" (eof (codes "break") (Small 1)) ""
+    ∷ skip_rejects "bf" (eof (codes "break") (Small 1)) ""
+    ∷ skip_rejects "bf 00" (eof (codes "ignored-any") (Small 1)) ""
+    ∷ skip_rejects "a1 00" (eof (codes "ignored-any") (Small 1)) ""
+    ∷ skip_rejects "c1" (eof (codes "ignored-any") (Small 1)) ""
+    ∷ skip_rejects "5f 42 01" (eof (codes "ignored-any") (Small 1)) ""
+    ∷ skip_rejects "82 01 62 61" (eof (codes "ignored-any") (Small 1)) ""
+    ∷ skip_rejects "9a 00" (eof (codes "ignored-any") (Small 4)) ""
+    ∷ skip_rejects "9a 00 00 01" (eof (codes "ignored-any") (Small 4)) ""
+    ∷ skip_rejects "f9 00" (eof (codes "ignored-any") (Small 1)) ""
+    ∷ skip_rejects "3c 00" (mismatch (codes "ignored-any") 0x3c) "3c 00"
+    ∷ skip_rejects "7c 00" (mismatch (codes "ignored-any") 0x7c) "00"
+    ∷ skip_rejects "82 5c 00" (mismatch (codes "ignored-any") 0x5c) "00"
+    ∷ skip_rejects "bf 00 ff" (unsupported (codes "ignored-any") 0xff) "ff"
+    ∷ skip_rejects "bf 01 02 03 ff" (unsupported (codes "ignored-any") 0xff) "ff"
+    ∷ skip_rejects "c1 ff" (unsupported (codes "ignored-any") 0xff) "ff"
+    ∷ skips_at_any_depth "c1 c1 00" "" ∷ [])
 unfolding read_within skip_within trees_at pairs_at indefinite_trees_at indefinite_pairs_at
-    argument_of_width
-    whole_argument_at initial is_utf8 chars lib.Utf8.encode
-skipping_rows = (
-  refl,
-  refl,
-  refl,
-  refl,
-  refl,
-  refl,
-  refl,
-  refl,
-  refl,
-  refl,
-  refl,
-  refl,
-  refl,
-  refl,
-  refl,
-  refl,
-  refl,
-  refl,
-  refl,
-  refl,
-  refl,
-  refl,
-  refl,
-  refl,
-  refl,
-  refl,
-  refl,
-  refl,
-  refl,
-  refl,
-  refl,
-  refl,
-  refl,
-  refl,
-  refl,
-  refl,
-  refl,
-  refl,
-  refl,
-  refl,
-  refl,
-  refl,
-  refl,
-  refl,
-  refl,
-  refl,
-  refl,
-  refl,
-  refl,
-  refl,
-  refl,
-  refl,
-  refl,
-  refl,
-  refl,
-  refl,
-  refl,
-  refl,
-  refl,
-  refl,
-)
+    argument_of_width whole_argument_at initial is_utf8 chars lib.Utf8.encode
+skipping_rows = refl
 
 -- What values and trees measure. The size counts each value once and the bytes of texts and byte
 -- strings. Reading takes a step a value, one more for an array or a map, one for chunks; skipping
 -- one a level. A bignum is a tag over bytes.
-abbrev item_at : Answer Tree → (Tree → ℕ) → Result ℕ (InputError × List ℕ)
+abbrev Measure : Type 0
+Measure = Result ℕ (InputError × List ℕ)
+
+abbrev item_at : Answer Tree → (Tree → ℕ) → Measure
 item_at (Ok p) measure = Ok (measure p.0)
 item_at (Err z) measure = Err z
 
-abbrev Costs : String → ℕ → ℕ → Type 0
-Costs input steps levels =
-    (item_at (read_tree (Some 256) (hex input)) cost ≡ Ok steps)
-    × (item_at (skip (Some 256) (hex input)) skip_cost ≡ Ok levels)
-
-abbrev MeasuresRows : Type 0
-MeasuresRows =
-    (Costs "00" 1 1)
-    × (Costs "80" 2 1)
-    × (Costs "82 01 61 61" 3 2)
-    × (Costs "a1 00 81 00" 5 3)
-    × (Costs "9f 9f 00 ff ff" 5 3)
-    × (Costs "c1 00" 2 2)
-    × (Costs "7f ff" 1 1)
-    × (Costs "7f 61 61 ff" 2 2)
-    × (size (sequence (items_of (number 1 ∷ str "a" ∷ []))) ≡ 4)
-    × (size (mapping (members_of ((number 0, tag 1 null) ∷ []))) ≡ 4)
-    × (size (bytes_item (hex "01 02 03")) ≡ 4)
-    × (canonical_cost null ≡ 1)
-    × (canonical_cost (sequence (items_of (number 1 ∷ str "a" ∷ []))) ≡ 3)
-    × (canonical_cost (mapping (members_of ((number 0, sequence (items_of (number 0 ∷ []))) ∷ [])))
-    ≡ 5)
-    × (canonical_cost (number 18446744073709551616) ≡ 2)
-    × (with_bignums (number 18446744073709551615) ≡ number 18446744073709551615)
-    × (with_bignums (number 18446744073709551616) ≡ tag 2
-    (bytes_item (hex "01 00 00 00 00 00 00 00 00")))
-    × (with_bignums (integer (negsuc 18446744073709551616)) ≡ tag 3
-    (bytes_item (hex "01 00 00 00 00 00 00 00 00")))
-
-pub measures_rows : MeasuresRows
-unfolding read_within skip_within trees_at pairs_at indefinite_trees_at indefinite_pairs_at
-    argument_of_width
-    whole_argument_at initial is_utf8 chars lib.Utf8.encode
-measures_rows = (
-  (refl, refl),
-  (refl, refl),
-  (refl, refl),
-  (refl, refl),
-  (refl, refl),
-  (refl, refl),
-  (refl, refl),
-  (refl, refl),
-  refl,
-  refl,
-  refl,
-  refl,
-  refl,
-  refl,
-  refl,
-  refl,
-  refl,
-  refl,
+abbrev costs : String → ℕ → ℕ → (Measure × Measure) × (Measure × Measure)
+costs input steps levels = (
+  (
+    item_at (read_tree (Some 256) (hex input)) cost,
+    item_at (skip (Some 256) (hex input)) skip_cost,
+  ),
+  (Ok steps, Ok levels),
 )
+
+pub measures_rows : AllEqual
+    (costs "00" 1 1
+    ∷ costs "80" 2 1
+    ∷ costs "82 01 61 61" 3 2
+    ∷ costs "a1 00 81 00" 5 3
+    ∷ costs "9f 9f 00 ff ff" 5 3
+    ∷ costs "c1 00" 2 2
+    ∷ costs "7f ff" 1 1
+    ∷ costs "7f 61 61 ff" 2 2 ∷ [])
+    × AllEqual ((size (items (number 1 ∷ str "a" ∷ [])), 4)
+    ∷ (size (pairs ((number 0, tag 1 null) ∷ [])), 4)
+    ∷ (size (octets "01 02 03"), 4)
+    ∷ (canonical_cost null, 1)
+    ∷ (canonical_cost (items (number 1 ∷ str "a" ∷ [])), 3)
+    ∷ (canonical_cost (pairs ((number 0, items (number 0 ∷ [])) ∷ [])), 5)
+    ∷ (canonical_cost (number 18446744073709551616), 2) ∷ [])
+    × AllEqual ((with_bignums (number 18446744073709551615), number 18446744073709551615)
+    ∷ (with_bignums (number 18446744073709551616), tag 2 (octets "01 00 00 00 00 00 00 00 00"))
+    ∷ (
+      with_bignums (integer (negsuc 18446744073709551616)),
+      tag 3 (octets "01 00 00 00 00 00 00 00 00"),
+    ) ∷ [])
+unfolding read_within skip_within trees_at pairs_at indefinite_trees_at indefinite_pairs_at
+    argument_of_width whole_argument_at initial is_utf8 chars lib.Utf8.encode
+measures_rows = (refl, refl, refl)
 
 -- How deep a budget of 256 steps goes: two steps an array, one step a tag, one a level for
 -- skipping.
-abbrev rest_read : Answer Item → Result (List ℕ) (InputError × List ℕ)
-rest_read (Ok p) = Ok p.1
-rest_read (Err z) = Err z
+abbrev read_under_heads : ℕ → ℕ → String → Rest
+read_under_heads n first trailing = rest_of (read (Some 256) (replicate n first ++ hex trailing))
 
-pub arrays_fit : rest_read (read (Some 256) (replicate 127 0x81 ++ hex "80")) ≡ Ok []
-unfolding read_within skip_within trees_at pairs_at indefinite_trees_at indefinite_pairs_at
-    argument_of_width
-    whole_argument_at initial is_utf8 chars lib.Utf8.encode
-arrays_fit = refl
+abbrev skipped_under_heads : ℕ → ℕ → String → Rest
+skipped_under_heads n first trailing = rest_of (skip (Some 256) (replicate n first ++ hex trailing))
 
-pub arrays_are_too_deep : read (Some 256)
-    (replicate 128 0x81 ++ hex "80") ≡ Err (depth_overflow (codes "value"), hex "80")
-unfolding read_within skip_within trees_at pairs_at indefinite_trees_at indefinite_pairs_at
-    argument_of_width
-    whole_argument_at initial is_utf8 chars lib.Utf8.encode
-arrays_are_too_deep = refl
+abbrev too_deep : String → String → Rest
+too_deep name rest = Err (depth_overflow (codes name), hex rest)
 
-pub skipped_arrays_fit : rest_of (skip (Some 256) (replicate 255 0x81 ++ hex "80")) ≡ Ok []
+pub depths_of_reading : AllEqual
+    ((read_under_heads 127 0x81 "80", Ok [])
+    ∷ (read_under_heads 128 0x81 "80", too_deep "value" "80")
+    ∷ (read_under_heads 254 0xc1 "7f 61 61 ff", Ok [])
+    ∷ (read_under_heads 255 0xc1 "7f 61 61 ff", too_deep "str" "61 61 ff")
+    ∷ (read_under_heads 255 0xc1 "80", too_deep "array" "80") ∷ [])
 unfolding read_within skip_within trees_at pairs_at indefinite_trees_at indefinite_pairs_at
-    argument_of_width
-    whole_argument_at initial is_utf8 chars lib.Utf8.encode
-skipped_arrays_fit = refl
+    argument_of_width whole_argument_at initial is_utf8 chars lib.Utf8.encode
+depths_of_reading = refl
 
-pub skipped_arrays_are_too_deep : skip (Some 256)
-    (replicate 256 0x81 ++ hex "80") ≡ Err (depth_overflow (codes "ignored-any"), hex "80")
+pub depths_of_skipping : AllEqual
+    ((skipped_under_heads 255 0x81 "80", Ok [])
+    ∷ (skipped_under_heads 256 0x81 "80", too_deep "ignored-any" "80")
+    ∷ (skipped_under_heads 255 0xc1 "80", Ok [])
+    ∷ (skipped_under_heads 255 0xc1 "7f 61 61 ff", too_deep "ignored-any" "61 61 ff") ∷ [])
 unfolding read_within skip_within trees_at pairs_at indefinite_trees_at indefinite_pairs_at
-    argument_of_width
-    whole_argument_at initial is_utf8 chars lib.Utf8.encode
-skipped_arrays_are_too_deep = refl
-
-pub tags_fit : rest_read (read (Some 256) (replicate 254 0xc1 ++ hex "7f 61 61 ff")) ≡ Ok []
-unfolding read_within skip_within trees_at pairs_at indefinite_trees_at indefinite_pairs_at
-    argument_of_width
-    whole_argument_at initial is_utf8 chars lib.Utf8.encode
-tags_fit = refl
-
-pub tags_are_too_deep : read (Some 256)
-    (replicate 255 0xc1 ++ hex "7f 61 61 ff") ≡ Err (depth_overflow (codes "str"), hex "61 61 ff")
-unfolding read_within skip_within trees_at pairs_at indefinite_trees_at indefinite_pairs_at
-    argument_of_width
-    whole_argument_at initial is_utf8 chars lib.Utf8.encode
-tags_are_too_deep = refl
-
-pub skipped_tags_fit : rest_of (skip (Some 256) (replicate 255 0xc1 ++ hex "80")) ≡ Ok []
-unfolding read_within skip_within trees_at pairs_at indefinite_trees_at indefinite_pairs_at
-    argument_of_width
-    whole_argument_at initial is_utf8 chars lib.Utf8.encode
-skipped_tags_fit = refl
-
-pub skipped_chunks_are_too_deep : skip (Some 256) (replicate 255 0xc1 ++ hex "7f 61 61 ff") ≡ Err
-    (depth_overflow (codes "ignored-any"), hex "61 61 ff")
-unfolding read_within skip_within trees_at pairs_at indefinite_trees_at indefinite_pairs_at
-    argument_of_width
-    whole_argument_at initial is_utf8 chars lib.Utf8.encode
-skipped_chunks_are_too_deep = refl
-
-pub array_under_tags_is_too_deep : read (Some 256)
-    (replicate 255 0xc1 ++ hex "80") ≡ Err (depth_overflow (codes "array"), hex "80")
-unfolding read_within skip_within trees_at pairs_at indefinite_trees_at indefinite_pairs_at
-    argument_of_width
-    whole_argument_at initial is_utf8 chars lib.Utf8.encode
-array_under_tags_is_too_deep = refl
+    argument_of_width whole_argument_at initial is_utf8 chars lib.Utf8.encode
+depths_of_skipping = refl

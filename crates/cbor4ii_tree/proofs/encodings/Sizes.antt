@@ -2,21 +2,18 @@
 use Rattle.std.proofs.Common.{◌≡◌, ℕ, suc, ◌+◌, ◌^◌, ◌<◌, ◌≤◌, List, [], ◌∷◌, ◌++◌, length, refl}
 use Rattle.std.proofs.Common.{ap, subst, arith, length-append}
 use Rattle.std.specs.Int.{bytes_high_first}
-use Rattle.cbor4ii_items.specs.Head.{byte_count, break}
-use Rattle.cbor4ii_items.specs.Initial.{Sign, unsigned, negative, Kind, byte_string, text_string}
-use Rattle.cbor4ii_items.specs.Initial.{simple_false, simple_true, simple_null, simple_undefined}
-use Rattle.cbor4ii_items.specs.Laws.Heads.{argument_below}
-use Rattle.cbor4ii_tree.specs.Tree.{Tree, int, string, chunked, array, array_indefinite, map_of}
-use Rattle.cbor4ii_tree.specs.Tree.{map_indefinite}
-use Rattle.cbor4ii_tree.specs.Tree.{tagged, simple, bits, Trees, no_trees, tree, Pairs, no_pairs}
-use Rattle.cbor4ii_tree.specs.Tree.{pair, count, pair_count, bytes, bytes_all, bytes_pairs}
-use Rattle.cbor4ii_tree.specs.Tree.{joined_chunks, Loose, LooseAll, LoosePairs, SoundStrings}
-use Rattle.cbor4ii_tree.specs.Tree.{SoundStringsAll, SoundStringsPairs, TextIsUtf8}
-use Rattle.cbor4ii_tree.specs.Item.{Item, integer, item_count, member_count, IsItem, AreItems}
-use Rattle.cbor4ii_tree.specs.Item.{AreMembers, size, size_all, size_members}
-use Rattle.cbor4ii_tree.specs.Meaning.{value, values, member_values, content_item, number}
-use Rattle.cbor4ii_tree.specs.Encodings.{Encodes}
-use Rattle.cbor4ii_tree.specs.Laws.Initials.{length-bytes-pos}
+use Rattle.cbor4ii_items.specs.{Head.{byte_count, break}, Initial.{Sign, unsigned, negative, Kind}}
+use Rattle.cbor4ii_items.specs.Initial.{byte_string, text_string, simple_false, simple_true}
+use Rattle.cbor4ii_items.specs.{Initial.{simple_null, simple_undefined}, Laws.Heads.argument_below}
+use Rattle.cbor4ii_tree.specs.{Encodings.Encodes, Item.{Item, integer, item_count, member_count}}
+use Rattle.cbor4ii_tree.specs.Item.{IsItem, AreItems, AreMembers, size, size_all, size_members}
+use Rattle.cbor4ii_tree.specs.{Laws.Initials.length-bytes-pos, Meaning.{value, values}}
+use Rattle.cbor4ii_tree.specs.{Meaning.{member_values, content_item, number}, Tree.{Tree, int}}
+use Rattle.cbor4ii_tree.specs.Tree.{string, chunked, array, array_indefinite, map_of}
+use Rattle.cbor4ii_tree.specs.Tree.{map_indefinite, tagged, simple, bits, Trees, no_trees, tree}
+use Rattle.cbor4ii_tree.specs.Tree.{Pairs, no_pairs, pair, count, pair_count, bytes, bytes_all}
+use Rattle.cbor4ii_tree.specs.Tree.{bytes_pairs, joined_chunks, Loose, LooseAll, LoosePairs}
+use Rattle.cbor4ii_tree.specs.Tree.{SoundStrings, SoundStringsAll, SoundStringsPairs, TextIsUtf8}
 
 size-content : (k : Kind) (content : List ℕ) → size (content_item k content) ≤ 1 + length content
 size-content byte_string content = omega arith

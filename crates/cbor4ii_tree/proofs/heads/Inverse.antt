@@ -1,15 +1,11 @@
 -- What a read answer says of the bytes.
-use Rattle.std.proofs.Common.{◌≡◌, ℕ, zero, suc, ◌^◌, ◌<◌, ◌≤◌, List, [], ◌∷◌, ◌++◌, length, take}
-use Rattle.std.proofs.Common.{drop, Ok, refl, sym, ap, ap₂, ◌∙◌, ltb, ltb-false, take-append-drop}
-use Rattle.std.proofs.Common.{subst}
-use Rattle.std.proofs.lemmas.List.{length-take-le}
+use Rattle.std.proofs.{Common.subst, lemmas.List.length-take-le, Common.{◌≡◌, ℕ, zero, suc, ◌^◌}}
+use Rattle.std.proofs.Common.{◌<◌, ◌≤◌, List, [], ◌∷◌, ◌++◌, length, take, drop, Ok, refl, sym, ap}
+use Rattle.std.proofs.Common.{ap₂, ◌∙◌, ltb, ltb-false, take-append-drop}
 use Rattle.std.specs.Int.{bytes_high_first}
-use Rattle.cbor4ii_items.specs.Head.{IsBytes}
-use Rattle.cbor4ii_items.specs.Laws.Heads.{onto-lt, bytes_onto}
-use Rattle.cbor4ii_items.specs.Magnitude.{number_of}
-use Rattle.cbor4ii_tree.specs.Parse.{prefix_at, number_at}
-use Rattle.cbor4ii_tree.specs.Skip.{whole_number_at}
-use Rattle.cbor4ii_tree.specs.Laws.Binds.{bind_ok, guard_ok, same_ok}
+use Rattle.cbor4ii_items.specs.{Head.IsBytes, Laws.Heads.{onto-lt, bytes_onto}, Magnitude.number_of}
+use Rattle.cbor4ii_tree.specs.{Parse.number_at, Skip.whole_number_at, Laws.Binds.bind_ok}
+use Rattle.cbor4ii_tree.specs.{Laws.Binds.{guard_ok, same_ok}, Parse.prefix_at}
 
 pub IsBytes-take : (k : ℕ) (bs : List ℕ) → IsBytes bs → IsBytes (take k bs)
 IsBytes-take zero bs h = tt

@@ -2,21 +2,17 @@
 use Rattle.std.proofs.Common.{◌≡◌, ℕ, zero, suc, ◌+◌, ◌*◌, ◌/◌, ◌%◌, ◌<◌, List, ◌∷◌, ◌++◌, Ok, refl}
 use Rattle.std.proofs.Common.{ap, ap₂, ◌∙◌, arith, ltb, eqb, ltb-true, eqb-true, subst}
 use Rattle.cbor4ii_items.specs.Head.{Width, in_first, one, two, four, eight, HeadFits, additional}
-use Rattle.cbor4ii_items.specs.Head.{byte_count, head, indefinite_head, IsBytes}
-use Rattle.cbor4ii_items.specs.Initial.{Sign, unsigned, negative, sign_major, Kind, byte_string}
+use Rattle.cbor4ii_items.specs.{Head.{byte_count, head, indefinite_head, IsBytes}, Initial.Sign}
+use Rattle.cbor4ii_items.specs.Initial.{unsigned, negative, sign_major, Kind, byte_string}
 use Rattle.cbor4ii_items.specs.Initial.{text_string, kind_major, simple_byte, precision_byte, Info}
 use Rattle.cbor4ii_items.specs.Initial.{wide, indefinite_ended, reserved, info_of, Initial}
-use Rattle.cbor4ii_items.specs.Initial.{starts_int}
-use Rattle.cbor4ii_items.specs.Initial.{starts_string, starts_chunks, starts_array}
+use Rattle.cbor4ii_items.specs.Initial.{starts_int, starts_string, starts_chunks, starts_array}
 use Rattle.cbor4ii_items.specs.Initial.{starts_indefinite_array, starts_map, starts_indefinite_map}
-use Rattle.cbor4ii_items.specs.Initial.{starts_tag}
-use Rattle.cbor4ii_items.specs.Initial.{starts_simple, starts_bits, initial, int_by_info}
-use Rattle.cbor4ii_items.specs.Initial.{string_by_info, array_by_info, map_by_info, tag_by_info}
-use Rattle.cbor4ii_items.specs.Initial.{simple_by_info, by_major}
+use Rattle.cbor4ii_items.specs.Initial.{starts_tag, starts_simple, starts_bits, initial}
+use Rattle.cbor4ii_items.specs.Initial.{int_by_info, string_by_info, array_by_info, map_by_info}
+use Rattle.cbor4ii_items.specs.Initial.{tag_by_info, simple_by_info, by_major}
 use Rattle.cbor4ii_items.specs.Laws.Heads.{if_cases}
-use Rattle.cbor4ii_tree.specs.Parse.{argument_of_width}
-use Rattle.cbor4ii_tree.specs.Skip.{whole_argument_at}
-use Rattle.cbor4ii_tree.specs.Laws.Binds.{parts}
+use Rattle.cbor4ii_tree.specs.{Laws.Binds.parts, Parse.argument_of_width, Skip.whole_argument_at}
 use Rattle.cbor4ii_tree.proofs.heads.Inverse.{Whole, number_inverse, whole_number_inverse}
 
 abbrev pub WidthSays : Width → ℕ → Type 0
@@ -50,11 +46,10 @@ Means b _ = Unit {0}
 pub info_says : (i : ℕ) → InfoSays i (info_of i)
 info_says i =
     let P = InfoSays i in
-    if_cases P (ltb i 24) _ _ (λ h. ltb-true i 24 h)
-    (λ _. if_cases P (eqb i 24) _ _ (λ h. eqb-true i 24 h)
-    (λ _. if_cases P (eqb i 25) _ _ (λ h. eqb-true i 25 h)
-    (λ _. if_cases P (eqb i 26) _ _ (λ h. eqb-true i 26 h) (λ _. if_cases P (eqb i 27) _ _ (λ h.
-    eqb-true i 27 h) (λ _. if_cases P (eqb i 31) _ _ (λ h. eqb-true i 31 h) (λ _. tt))))))
+    if_cases P (ltb i 24) _ _ (λ h. ltb-true i 24 h) (λ _. if_cases P (eqb i 24) _ _ (λ h. eqb-true
+    i 24 h) (λ _. if_cases P (eqb i 25) _ _ (λ h. eqb-true i 25 h) (λ _. if_cases P (eqb i 26) _ _
+    (λ h. eqb-true i 26 h) (λ _. if_cases P (eqb i 27) _ _ (λ h. eqb-true i 27 h) (λ _. if_cases P
+    (eqb i 31) _ _ (λ h. eqb-true i 31 h) (λ _. tt))))))
 
 simple_says : (i b : ℕ) → b ≡ 224 + i → Means b (simple_by_info i)
 simple_says i b e =

@@ -6,17 +6,14 @@ use Rattle.std.proofs.Common.{arith, subst, length-append, append_assoc, append-
 use Rattle.std.proofs.lemmas.List.{length-replicate}
 use Rattle.std.specs.Int.{bytes_high_first}
 use Rattle.cbor4ii_items.specs.Head.{Width, in_first, one, two, four, eight, HeadFits, additional}
-use Rattle.cbor4ii_items.specs.Head.{byte_count, head, break, IsBytes}
-use Rattle.cbor4ii_items.specs.Initial.{unsigned}
+use Rattle.cbor4ii_items.specs.{Head.{byte_count, head, break, IsBytes}, Initial.unsigned}
 use Rattle.cbor4ii_items.specs.Magnitude.{number_of}
-use Rattle.cbor4ii_tree.specs.Tree.{Tree, int, Trees, no_trees, tree, Pairs, no_pairs, pair, count}
-use Rattle.cbor4ii_tree.specs.Tree.{pair_count, bytes, bytes_all, bytes_pairs}
-use Rattle.cbor4ii_tree.specs.Cost.{Budget, step_in}
-use Rattle.cbor4ii_tree.specs.InputError.{InputError, IsEof}
+use Rattle.cbor4ii_tree.specs.{Cost.{Budget, step_in}, InputError.{InputError, IsEof}}
 use Rattle.cbor4ii_tree.specs.Rejections.{Stopping, RejectsAtStep, Each, EachPair, NoBreak}
-use Rattle.cbor4ii_tree.specs.Rejections.{AfterKey}
-use Rattle.cbor4ii_tree.proofs.heads.Inverse.{number_of_bytes}
-use Rattle.cbor4ii_tree.proofs.heads.Means.{WidthSays, HeadByte}
+use Rattle.cbor4ii_tree.specs.{Rejections.AfterKey, Tree.{Tree, int, Trees, no_trees, tree, Pairs}}
+use Rattle.cbor4ii_tree.specs.Tree.{no_pairs, pair, count, pair_count, bytes, bytes_all}
+use Rattle.cbor4ii_tree.specs.Tree.{bytes_pairs}
+use Rattle.cbor4ii_tree.proofs.{heads.Inverse.number_of_bytes, heads.Means.{WidthSays, HeadByte}}
 use Rattle.cbor4ii_tree.proofs.parts.Joined.{join, count-join, each-join, join_pairs}
 use Rattle.cbor4ii_tree.proofs.parts.Joined.{each-join_pairs}
 
@@ -232,10 +229,9 @@ indefinite_prefix Good rejects g bs prefix (b ∷ after) e rest h eo l is st =
         t.more ++ break ∷ [],
         then_some t.more (break ∷ []) t.some break_some.1,
         ap (λ r. r ++ break ∷ [])
-            (bytes-join prefix (tree t.whole no_trees) ∙ ap
-            (λ r. bytes_all prefix ++ (r ++ [])) t.is)
-            ∙ regroup (bytes_all prefix) (b ∷ after) t.more
-            ∙ ap (λ r. r ++ (t.more ++ break ∷ [])) (sym is),
+            (bytes-join prefix (tree t.whole no_trees) ∙ ap (λ r. bytes_all prefix ++ (r ++ []))
+            t.is) ∙ regroup (bytes_all prefix) (b ∷ after) t.more ∙ ap (λ r. r
+            ++ (t.more ++ break ∷ [])) (sym is),
       ),
       f.1,
     )
@@ -253,10 +249,9 @@ bytes-join_pairs (pair k v ps) qs =
 
 -- one more pair, of which the first bytes are there
 indefinite_pair : (Good : Tree → Type 0) (bs : List ℕ) (prefix : Pairs) (after : List ℕ)
-    (k v : Tree)
-    (more : List ℕ) → EachPair Good prefix → Good k → Good v → bs ≡ bytes_pairs prefix ++ after
-    → IsMore more → bytes k ++ bytes v ≡ after ++ more
-    → (ps : Pairs) × EachPair Good ps × (more' : List ℕ) × IsMore more'
+    (k v : Tree) (more : List ℕ) → EachPair Good prefix → Good k → Good v
+    → bs ≡ bytes_pairs prefix ++ after → IsMore more → bytes k ++ bytes v ≡ after ++ more →
+    (ps : Pairs) × EachPair Good ps × (more' : List ℕ) × IsMore more'
     × (bytes_pairs ps ++ break ∷ [] ≡ bs ++ more')
 indefinite_pair Good bs prefix after k v more l lk lv is some e =
     let last : Pairs = pair k v no_pairs in (
@@ -298,9 +293,8 @@ indefinite_pairs_prefix Good Whole rejects zero_good w g bs prefix (b ∷ after)
     (IsBytes-after (bytes_pairs prefix) (b ∷ after) (subst IsBytes is h)) eo st.1 in
     let t = f.0 in (
       indefinite_pair Good bs prefix (b ∷ after) t.whole nought (t.more ++ bytes nought) l t.good
-          zero_good
-          is (then_some t.more (bytes nought) t.some nought_bytes)
-          (ap (λ r. r ++ bytes nought) t.is ∙ append_assoc (b ∷ after) t.more (bytes nought)),
+          zero_good is (then_some t.more (bytes nought) t.some nought_bytes) (ap (λ r. r ++ bytes
+          nought) t.is ∙ append_assoc (b ∷ after) t.more (bytes nought)),
       f.1,
     )
 indefinite_pairs_prefix Good Whole rejects zero_good w g bs prefix after e rest h eo l is (inr st) =
@@ -308,9 +302,8 @@ indefinite_pairs_prefix Good Whole rejects zero_good w g bs prefix after e rest 
     (IsBytes-after (bytes_pairs prefix) after (subst IsBytes is h)))) eo st.stopped in
     let t = f.0 in (
       indefinite_pair Good bs prefix after st.key t.whole t.more l (w st.key st.whole) t.good
-          is t.some
-          (ap (λ r. bytes st.key ++ r) t.is ∙ sym (append_assoc (bytes st.key) st.after t.more)
-          ∙ ap (λ r. r ++ t.more) (sym st.is)),
+          is t.some (ap (λ r. bytes st.key ++ r) t.is ∙ sym (append_assoc (bytes st.key) st.after
+          t.more) ∙ ap (λ r. r ++ t.more) (sym st.is)),
       f.1,
     )
 

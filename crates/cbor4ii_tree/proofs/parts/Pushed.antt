@@ -1,9 +1,9 @@
 -- One more item after others, and one more pair.
 use Rattle.std.proofs.Common.{◌≡◌, ℕ, ◌+◌, ◌*◌, List, [], ◌++◌, refl, sym, ap, ◌∙◌, arith}
 use Rattle.std.proofs.Common.{append_assoc, append-nil}
-use Rattle.cbor4ii_tree.specs.Tree.{Tree, Trees, no_trees, tree, Pairs, no_pairs, pair, count}
-use Rattle.cbor4ii_tree.specs.Tree.{pair_count, bytes, bytes_all, bytes_pairs}
-use Rattle.cbor4ii_tree.specs.Rejections.{Each, EachPair}
+use Rattle.cbor4ii_tree.specs.{Rejections.{Each, EachPair}, Tree.{Tree, Trees, no_trees, tree}}
+use Rattle.cbor4ii_tree.specs.Tree.{Pairs, no_pairs, pair, count, pair_count, bytes, bytes_all}
+use Rattle.cbor4ii_tree.specs.Tree.{bytes_pairs}
 
 unfoldable pub push : Trees → Tree → Trees
 push no_trees t = tree t no_trees
@@ -43,11 +43,6 @@ unfolding push_pair
 bytes-push_pair no_pairs k v x = simp (append_assoc, append-nil)
 bytes-push_pair (pair j u ps) k v x =
     simp append_assoc (ap (λ r. bytes j ++ (bytes u ++ r)) (bytes-push_pair ps k v x))
-
-pub count-push_pair : (ps : Pairs) (k v : Tree) → pair_count (push_pair ps k v) ≡ pair_count ps + 1
-unfolding push_pair
-count-push_pair no_pairs k v = omega arith
-count-push_pair (pair j u ps) k v = omega (arith, count-push_pair ps k v)
 
 -- the keys and the values, in turn
 unfoldable pub flat : Pairs → Trees

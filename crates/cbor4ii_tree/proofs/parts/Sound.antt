@@ -2,17 +2,20 @@
 use Rattle.std.proofs.Common.{◌≡◌, ℕ, zero, suc, List, [], ◌∷◌, ◌++◌, inl, inr, Ok, refl, sym, ap}
 use Rattle.std.proofs.Common.{ap₂, ◌∙◌, eqb, eqb-true, subst, append_assoc}
 use Rattle.cbor4ii_items.specs.Head.{Width, head, break, IsBytes}
-use Rattle.cbor4ii_tree.specs.Tree.{Tree, Trees, no_trees, tree, Pairs, no_pairs, pair, count}
-use Rattle.cbor4ii_tree.specs.Tree.{pair_count, bytes, bytes_all, bytes_pairs}
-use Rattle.cbor4ii_tree.specs.Rejections.{Each, EachPair}
-use Rattle.cbor4ii_tree.specs.Parse.{Parser, ◌>>=◌, trees_at, pairs_at, indefinite_trees_at}
-use Rattle.cbor4ii_tree.specs.Parse.{indefinite_pairs_at}
-use Rattle.cbor4ii_tree.specs.Laws.Binds.{bind_ok, same_ok, chosen, no_ok}
+use Rattle.cbor4ii_tree.specs.{Laws.Binds.{bind_ok, same_ok, chosen, no_ok}, Parse.{Parser, ◌>>=◌}}
+use Rattle.cbor4ii_tree.specs.Parse.{trees_at, pairs_at, indefinite_trees_at, indefinite_pairs_at}
+use Rattle.cbor4ii_tree.specs.{Rejections.{Each, EachPair}, Tree.{Tree, Trees, no_trees, tree}}
+use Rattle.cbor4ii_tree.specs.Tree.{Pairs, no_pairs, pair, count, pair_count, bytes, bytes_all}
+use Rattle.cbor4ii_tree.specs.Tree.{bytes_pairs}
 
 pub record Took (Whole : Tree → Type 0) (bs : List ℕ) (p : Tree × List ℕ) : Type 0 where
   pub whole : Whole p.0
   pub is : bs ≡ bytes p.0 ++ p.1
   pub more : IsBytes p.1
+
+pub took : {Whole : Tree → Type 0} {bs : List ℕ} {p : Tree × List ℕ} → Whole p.0
+    → bs ≡ bytes p.0 ++ p.1 → IsBytes p.1 → Took Whole bs p
+took whole is more = record { whole = whole; is = is; more = more }
 
 pub record TookAll (Whole : Tree → Type 0) (n : ℕ) (bs : List ℕ) (p : Trees × List ℕ) : Type 0 where
   pub number : count p.0 ≡ n

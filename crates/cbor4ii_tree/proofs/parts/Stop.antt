@@ -4,20 +4,16 @@ use Rattle.std.proofs.Common.{length, Err, ap, ◌∙◌, arith, lt-ltb, ne_eqb,
 use Rattle.std.proofs.Common.{length-append}
 use Rattle.std.specs.Int.{bytes_high_first}
 use Rattle.cbor4ii_items.specs.Head.{Width, in_first, one, two, four, eight, byte_count, break}
-use Rattle.cbor4ii_tree.specs.Tree.{Tree, Trees, no_trees, tree, Pairs, no_pairs, pair, count}
-use Rattle.cbor4ii_tree.specs.Tree.{bytes, bytes_all, bytes_pairs}
-use Rattle.cbor4ii_tree.specs.InputError.{InputError}
-use Rattle.cbor4ii_tree.specs.Rejections.{Stopping, Missing, MissingAll, AtHead, Each, EachPair}
-use Rattle.cbor4ii_tree.specs.Rejections.{RejectsInCount, NoBreak, IndefiniteItems, AfterKey}
-use Rattle.cbor4ii_tree.specs.Rejections.{IndefinitePairs}
+use Rattle.cbor4ii_tree.specs.{Laws.HeadsAgain.argument_of, Laws.Initials.length-bytes-pos}
+use Rattle.cbor4ii_tree.specs.{InputError.InputError, Laws.Binds.{err, then_err}}
+use Rattle.cbor4ii_tree.specs.Laws.PartsAgain.{Again, StartNoBreak, shorter, pair_split}
+use Rattle.cbor4ii_tree.specs.Laws.PartsAgain.{indefinite_turn, indefinite_pair_turn}
 use Rattle.cbor4ii_tree.specs.Parse.{Parser, Answer, ◌>>=◌, prefix_at, number_at, argument_of_width}
 use Rattle.cbor4ii_tree.specs.Parse.{trees_at, pairs_at, indefinite_trees_at, indefinite_pairs_at}
-use Rattle.cbor4ii_tree.specs.Laws.Binds.{err, then_err}
-use Rattle.cbor4ii_tree.specs.Laws.Initials.{length-bytes-pos}
-use Rattle.cbor4ii_tree.specs.Laws.HeadsAgain.{argument_of}
-use Rattle.cbor4ii_tree.specs.Laws.PartsAgain.{Again, StartNoBreak, shorter, pair_split}
-use Rattle.cbor4ii_tree.specs.Laws.PartsAgain.{indefinite_turn}
-use Rattle.cbor4ii_tree.specs.Laws.PartsAgain.{indefinite_pair_turn}
+use Rattle.cbor4ii_tree.specs.Rejections.{Stopping, Missing, MissingAll, AtHead, Each, EachPair}
+use Rattle.cbor4ii_tree.specs.Rejections.{RejectsInCount, NoBreak, IndefiniteItems, AfterKey}
+use Rattle.cbor4ii_tree.specs.{Rejections.IndefinitePairs, Tree.{Tree, Trees, no_trees, tree}}
+use Rattle.cbor4ii_tree.specs.Tree.{Pairs, no_pairs, pair, count, bytes, bytes_all, bytes_pairs}
 
 -- ---- heads and contents
 
@@ -80,16 +76,14 @@ definite_trees item Whole rejects bound a g (tree t ts) (suc n) after e rest few
     let all : List ℕ = bytes_all ts ++ after in
     let lt2 : length (bytes t ++ all) < bound =
     subst (λ y. length y < bound) (append_assoc (bytes t) (bytes_all ts) after) lt in
-    rw (append_assoc (bytes t) (bytes_all ts) after, a t all l.0 lt2)
-    (then_err (trees_at item n all) _ (e, rest) (definite_trees item Whole rejects bound a g ts
-    n after
-    e rest (omega arith) l.1 (shorter (bytes t) all bound lt2) st))
+    rw (append_assoc (bytes t) (bytes_all ts) after, a t all l.0 lt2) (then_err
+    (trees_at item n all) _ (e, rest) (definite_trees item Whole rejects bound a g ts n after e rest
+    (omega arith) l.1 (shorter (bytes t) all bound lt2) st))
 
 pub trees_stop : (item : Parser Tree) (Whole : Tree → Type 0) (rejects : Stopping) (bound : ℕ)
-    → Again item Whole bound → Gives item rejects bound
-    → (n : ℕ) (bs : List ℕ) (e : InputError) (rest : List ℕ)
-    → length bs < bound → RejectsInCount Whole rejects n bs e rest → trees_at item n bs ≡ Err
-    (e, rest)
+    → Again item Whole bound → Gives item rejects bound → (n : ℕ) (bs : List ℕ) (e : InputError)
+    (rest : List ℕ) → length bs < bound → RejectsInCount Whole rejects n bs e rest
+    → trees_at item n bs ≡ Err (e, rest)
 trees_stop item Whole rejects bound a g n bs e rest lt st =
     ap (trees_at item n) st.is ∙ definite_trees item Whole rejects bound a g st.prefix n st.after e
     rest st.few st.whole (subst (λ y. length y < bound) st.is lt) st.stopped
@@ -115,26 +109,23 @@ definite_pairs item Whole rejects bound a g (tree k (tree v ts)) (suc n) after e
     let lt2 : length (bytes k ++ (bytes v ++ all)) < bound =
     subst (λ y. length y < bound) same lt in
     let lt3 : length (bytes v ++ all) < bound = shorter (bytes k) (bytes v ++ all) bound lt2 in
-    rw (same, a k (bytes v ++ all) l.0 lt2, a v all l.1.0 lt3)
-    (then_err (pairs_at item n all) _ (e, rest) (definite_pairs item Whole rejects bound a g ts
-    n after
-    e rest (omega arith) l.1.1 (shorter (bytes v) all bound lt3) st))
+    rw (same, a k (bytes v ++ all) l.0 lt2, a v all l.1.0 lt3) (then_err (pairs_at item n all) _
+    (e, rest) (definite_pairs item Whole rejects bound a g ts n after e rest (omega arith) l.1.1
+    (shorter (bytes v) all bound lt3) st))
 
 pub pairs_stop : (item : Parser Tree) (Whole : Tree → Type 0) (rejects : Stopping) (bound : ℕ)
-    → Again item Whole bound → Gives item rejects bound
-    → (n : ℕ) (bs : List ℕ) (e : InputError) (rest : List ℕ)
-    → length bs < bound → RejectsInCount Whole rejects (2 * n) bs e rest
+    → Again item Whole bound → Gives item rejects bound → (n : ℕ) (bs : List ℕ) (e : InputError)
+    (rest : List ℕ) → length bs < bound → RejectsInCount Whole rejects (2 * n) bs e rest
     → pairs_at item n bs ≡ Err (e, rest)
 pairs_stop item Whole rejects bound a g n bs e rest lt st =
     ap (pairs_at item n) st.is ∙ definite_pairs item Whole rejects bound a g st.prefix n st.after e
     rest st.few st.whole (subst (λ y. length y < bound) st.is lt) st.stopped
 
 -- the end of an indefinite-length sequence that is rejected
-indefinite_end_rejects : (item : Parser Tree) (rejects : Stopping) (bound : ℕ) → Gives item
-    rejects bound
-    → (n : ℕ) (after : List ℕ) (e : InputError) (rest : List ℕ) → length after < n
-    → length after < bound → NoBreak rejects after e rest → indefinite_trees_at item n after ≡ Err
-    (e, rest)
+indefinite_end_rejects : (item : Parser Tree) (rejects : Stopping) (bound : ℕ)
+    → Gives item rejects bound → (n : ℕ) (after : List ℕ) (e : InputError) (rest : List ℕ)
+    → length after < n → length after < bound → NoBreak rejects after e rest
+    → indefinite_trees_at item n after ≡ Err (e, rest)
 unfolding indefinite_trees_at
 indefinite_end_rejects item rejects bound g n [] e rest more lt st = err _ _ _ _ st
 indefinite_end_rejects item rejects bound g zero (b ∷ bs) e rest more lt st = absurd (omega arith)
@@ -156,27 +147,25 @@ indefinite_items item Whole rejects bound a s g (tree t ts) (suc n) after e rest
     let same = append_assoc (bytes t) (bytes_all ts) after in
     let lt2 : length (bytes t ++ all) < bound = subst (λ y. length y < bound) same lt in
     let more2 : length (bytes t ++ all) < suc n = subst (λ y. length y < suc n) same more in
-    ap (indefinite_trees_at item (suc n)) same
-    ∙ (indefinite_turn item n (bytes t) all (s t l.0) ∙ rw (a t all l.0 lt2)
-    (then_err (indefinite_trees_at item n all) _ (e, rest)
-    (indefinite_items item Whole rejects bound a s g ts n
-    after e rest l.1 (omega (arith, length-append (bytes t) all, length-bytes-pos t))
-    (shorter (bytes t) all bound lt2) st)))
+    ap (indefinite_trees_at item (suc n)) same ∙ (indefinite_turn item n (bytes t) all (s t l.0)
+    ∙ rw (a t all l.0 lt2) (then_err (indefinite_trees_at item n all) _ (e, rest) (indefinite_items
+    item Whole rejects bound a s g ts n after e rest l.1 (omega (
+      arith,
+      length-append (bytes t) all,
+      length-bytes-pos t,
+    )) (shorter (bytes t) all bound lt2) st)))
 
 pub indefinite_trees_stop : (item : Parser Tree) (Whole : Tree → Type 0) (rejects : Stopping)
-    (bound : ℕ)
-    → Again item Whole bound → StartNoBreak Whole → Gives item rejects bound
-    → (n : ℕ) (bs : List ℕ) (e : InputError) (rest : List ℕ)
-    → length bs < n → length bs < bound → IndefiniteItems Whole rejects bs e rest
-    → indefinite_trees_at item n bs ≡ Err (e, rest)
+    (bound : ℕ) → Again item Whole bound → StartNoBreak Whole → Gives item rejects bound → (n : ℕ)
+    (bs : List ℕ) (e : InputError) (rest : List ℕ) → length bs < n → length bs < bound
+    → IndefiniteItems Whole rejects bs e rest → indefinite_trees_at item n bs ≡ Err (e, rest)
 indefinite_trees_stop item Whole rejects bound a s g n bs e rest more lt st =
     ap (indefinite_trees_at item n) st.is
     ∙ indefinite_items item Whole rejects bound a s g st.prefix n st.after e rest st.whole
     (subst (λ y. length y < n) st.is more) (subst (λ y. length y < bound) st.is lt) st.stopped
 
 indefinite_pair_rejects : (item : Parser Tree) (Whole : Tree → Type 0) (rejects : Stopping)
-    (bound : ℕ)
-    → Again item Whole bound → StartNoBreak Whole → Gives item rejects bound → (n : ℕ)
+    (bound : ℕ) → Again item Whole bound → StartNoBreak Whole → Gives item rejects bound → (n : ℕ)
     (after : List ℕ) (e : InputError) (rest : List ℕ) → length after < n → length after < bound
     → NoBreak rejects after e rest ⊎ AfterKey Whole rejects after e rest
     → indefinite_pairs_at item n after ≡ Err (e, rest)
@@ -190,18 +179,16 @@ indefinite_pair_rejects item Whole rejects bound a s g zero after e rest more lt
     absurd (omega arith)
 indefinite_pair_rejects item Whole rejects bound a s g (suc n) after e rest more lt (inr st) =
     let lt2 : length (bytes st.key ++ st.after) < bound = subst (λ y. length y < bound) st.is lt in
-    ap (indefinite_pairs_at item (suc n)) st.is
-    ∙ (indefinite_pair_turn item n (bytes st.key) st.after (s st.key st.whole)
-    ∙ rw (a st.key st.after st.whole lt2) (then_err (item st.after) _ (e, rest)
-    (g st.after e rest (shorter (bytes st.key) st.after bound lt2) st.stopped)))
+    ap (indefinite_pairs_at item (suc n)) st.is ∙ (indefinite_pair_turn item n (bytes st.key)
+    st.after (s st.key st.whole) ∙ rw (a st.key st.after st.whole lt2) (then_err (item st.after) _
+    (e, rest) (g st.after e rest (shorter (bytes st.key) st.after bound lt2) st.stopped)))
 
 indefinite_pairs : (item : Parser Tree) (Whole : Tree → Type 0) (rejects : Stopping) (bound : ℕ)
-    → Again item Whole bound → StartNoBreak Whole → Gives item rejects bound
-    → (prefix : Pairs) (n : ℕ) (after : List ℕ) (e : InputError) (rest : List ℕ)
-    → EachPair Whole prefix → length (bytes_pairs prefix ++ after) < n
-    → length (bytes_pairs prefix ++ after) < bound
-    → NoBreak rejects after e rest ⊎ AfterKey Whole rejects after e rest
-    → indefinite_pairs_at item n (bytes_pairs prefix ++ after) ≡ Err (e, rest)
+    → Again item Whole bound → StartNoBreak Whole → Gives item rejects bound → (prefix : Pairs)
+    (n : ℕ) (after : List ℕ) (e : InputError) (rest : List ℕ) → EachPair Whole prefix
+    → length (bytes_pairs prefix ++ after) < n → length (bytes_pairs prefix ++ after) < bound
+    → NoBreak rejects after e rest ⊎ AfterKey Whole rejects after e rest → indefinite_pairs_at item
+    n (bytes_pairs prefix ++ after) ≡ Err (e, rest)
 indefinite_pairs item Whole rejects bound a s g no_pairs n after e rest l more lt st =
     indefinite_pair_rejects item Whole rejects bound a s g n after e rest more lt st
 indefinite_pairs item Whole rejects bound a s g (pair k v ps) zero after e rest l more lt st =
@@ -214,12 +201,10 @@ indefinite_pairs item Whole rejects bound a s g (pair k v ps) (suc n) after e re
     let lt3 : length (bytes v ++ all) < bound = shorter (bytes k) (bytes v ++ all) bound lt2 in
     let more2 : length (bytes k ++ (bytes v ++ all)) < suc n =
     subst (λ y. length y < suc n) same more in
-    ap (indefinite_pairs_at item (suc n)) same
-    ∙ (indefinite_pair_turn item n (bytes k) (bytes v ++ all) (s k l.0)
-    ∙ rw (a k (bytes v ++ all) l.0 lt2, a v all l.1 lt3)
-    (then_err (indefinite_pairs_at item n all) _ (e, rest)
-    (indefinite_pairs item Whole rejects bound a s g ps n after e rest l.2
-    (omega (
+    ap (indefinite_pairs_at item (suc n)) same ∙ (indefinite_pair_turn item n (bytes k)
+    (bytes v ++ all) (s k l.0) ∙ rw (a k (bytes v ++ all) l.0 lt2, a v all l.1 lt3) (then_err
+    (indefinite_pairs_at item n all) _ (e, rest) (indefinite_pairs item Whole rejects bound a s g ps
+    n after e rest l.2 (omega (
       arith,
       length-append (bytes k) (bytes v ++ all),
       length-append (bytes v) all,
@@ -227,11 +212,9 @@ indefinite_pairs item Whole rejects bound a s g (pair k v ps) (suc n) after e re
     )) (shorter (bytes v) all bound lt3) st)))
 
 pub indefinite_pairs_stop : (item : Parser Tree) (Whole : Tree → Type 0) (rejects : Stopping)
-    (bound : ℕ)
-    → Again item Whole bound → StartNoBreak Whole → Gives item rejects bound
-    → (n : ℕ) (bs : List ℕ) (e : InputError) (rest : List ℕ)
-    → length bs < n → length bs < bound → IndefinitePairs Whole rejects bs e rest
-    → indefinite_pairs_at item n bs ≡ Err (e, rest)
+    (bound : ℕ) → Again item Whole bound → StartNoBreak Whole → Gives item rejects bound → (n : ℕ)
+    (bs : List ℕ) (e : InputError) (rest : List ℕ) → length bs < n → length bs < bound
+    → IndefinitePairs Whole rejects bs e rest → indefinite_pairs_at item n bs ≡ Err (e, rest)
 indefinite_pairs_stop item Whole rejects bound a s g n bs e rest more lt st =
     ap (indefinite_pairs_at item n) st.is
     ∙ indefinite_pairs item Whole rejects bound a s g st.prefix n st.after e rest st.whole

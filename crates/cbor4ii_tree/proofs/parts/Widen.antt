@@ -2,16 +2,14 @@
 -- a larger budget, unless for want of a step.
 use Rattle.std.proofs.Common.{◌≡◌, ℕ, zero, suc, ◌⊎◌, inl, inr, List, [], ◌∷◌, ◌++◌, Some, None}
 use Rattle.std.proofs.Common.{refl, sym, ap, ◌∙◌, arith, subst, append_assoc, append-nil}
-use Rattle.cbor4ii_items.specs.Head.{Width, byte_count, head}
-use Rattle.cbor4ii_tree.specs.Tree.{Tree, Trees, no_trees, tree, Pairs, no_pairs, pair, bytes}
-use Rattle.cbor4ii_tree.specs.Tree.{bytes_all, bytes_pairs}
-use Rattle.cbor4ii_items.specs.Budget.{CostFits}
-use Rattle.cbor4ii_tree.specs.Cost.{Budget, step_in}
-use Rattle.cbor4ii_tree.specs.InputError.{InputError, eof, Len, IsEof, IsDepthOverflow}
-use Rattle.cbor4ii_tree.specs.Rejections.{Stopping, Is, Missing, MissingAll, AfterHead, AtHead}
-use Rattle.cbor4ii_tree.specs.Rejections.{RejectsAtStep, Each, EachPair, RejectsInCount, NoBreak}
-use Rattle.cbor4ii_tree.specs.Rejections.{IndefiniteItems}
-use Rattle.cbor4ii_tree.specs.Rejections.{AfterKey, IndefinitePairs}
+use Rattle.cbor4ii_items.specs.{Budget.CostFits, Head.{Width, byte_count, head}}
+use Rattle.cbor4ii_tree.proofs.parts.Rejecting.{headed_by, in_count, in_items, in_pairs}
+use Rattle.cbor4ii_tree.specs.{Cost.{Budget, step_in}, InputError.{InputError, eof, Len, IsEof}}
+use Rattle.cbor4ii_tree.specs.{InputError.IsDepthOverflow, Rejections.{Stopping, Is, Missing}}
+use Rattle.cbor4ii_tree.specs.Rejections.{MissingAll, AfterHead, AtHead, RejectsAtStep, Each}
+use Rattle.cbor4ii_tree.specs.Rejections.{EachPair, RejectsInCount, NoBreak, IndefiniteItems}
+use Rattle.cbor4ii_tree.specs.{Rejections.{AfterKey, IndefinitePairs}, Tree.{Tree, Trees, no_trees}}
+use Rattle.cbor4ii_tree.specs.Tree.{tree, Pairs, no_pairs, pair, bytes, bytes_all, bytes_pairs}
 
 -- of one error, before what comes later
 abbrev pub Goes : InputError → List ℕ → Stopping → Stopping → Type 0
@@ -95,14 +93,8 @@ pub after_head_goes : (major : ℕ) (w : Width) (b : ℕ) (e : InputError) (more
     (s t : ℕ → Stopping) → ((n : ℕ) → Goes e more (s n) (t n))
     → Goes e more (AfterHead major w b s) (AfterHead major w b t)
 after_head_goes major w b e more s t k bs rest x =
-    record {
-      argument = x.argument;
-      after = x.after ++ more;
-      fits = x.fits;
-      is = onward (b ∷ bs)
-          (head major x.argument w) x.after more x.is;
-      stopped = k x.argument x.after rest x.stopped;
-    }
+    headed_by x.argument (x.after ++ more) x.fits (onward (b ∷ bs) (head major x.argument w)
+    x.after more x.is) (k x.argument x.after rest x.stopped)
 
 pub at_head_goes : (name : List ℕ) (major : ℕ) (w : Width) (b : ℕ) (e : InputError) (more : List ℕ)
     (s t : ℕ → Stopping) → Calm e more → ((n : ℕ) → Goes e more (s n) (t n))
@@ -113,9 +105,8 @@ at_head_goes name major w b e more s t calm k bs rest (inr x) =
     inr (after_head_goes major w b e more s t k bs rest x)
 
 pub stepped_goes : (name : List ℕ) (b c : Budget) (e : InputError) (here rest more : List ℕ)
-    (s t : Budget → InputError → List ℕ → Type 0) → Widens e b c
-    → ((x y : Budget) → Widens e x y → s x e rest → t y e (rest ++ more))
-    → RejectsAtStep name (step_in b) here s e rest
+    (s t : Budget → InputError → List ℕ → Type 0) → Widens e b c → ((x y : Budget) → Widens e x y
+    → s x e rest → t y e (rest ++ more)) → RejectsAtStep name (step_in b) here s e rest
     → RejectsAtStep name (step_in c) (here ++ more) t e (rest ++ more)
 stepped_goes name None None e here rest more s t w k x = k None None tt x
 stepped_goes name None (Some m) e here rest more s t w k x = absurd w
@@ -130,14 +121,8 @@ stepped_goes name (Some (suc n)) (Some (suc m)) e here rest more s t w k x =
 pub definite_goes : (V W : Tree → Type 0) (e : InputError) (more : List ℕ) (s t : Stopping) (n : ℕ)
     → Covers V W → Goes e more s t → Goes e more (RejectsInCount V s n) (RejectsInCount W t n)
 definite_goes V W e more s t n c k bs rest x =
-    record {
-      prefix = x.prefix;
-      after = x.after ++ more;
-      few = x.few;
-      whole = each_covers V W c x.prefix x.whole;
-      is = onward bs (bytes_all x.prefix) x.after more x.is;
-      stopped = k x.after rest x.stopped;
-    }
+    in_count x.prefix (x.after ++ more) x.few (each_covers V W c x.prefix x.whole) (onward bs
+    (bytes_all x.prefix) x.after more x.is) (k x.after rest x.stopped)
 
 no_break_goes : (e : InputError) (more : List ℕ) (s t : Stopping) → Calm e more → Goes e more s t
     → Goes e more (NoBreak s) (NoBreak t)
@@ -149,29 +134,18 @@ pub items_goes : (V W : Tree → Type 0) (e : InputError) (more : List ℕ) (s t
     Calm e more
     → Covers V W → Goes e more s t → Goes e more (IndefiniteItems V s) (IndefiniteItems W t)
 items_goes V W e more s t calm c k bs rest x =
-    record {
-      prefix = x.prefix;
-      after = x.after ++ more;
-      whole = each_covers V W c x.prefix x.whole;
-      is = onward bs (bytes_all x.prefix) x.after more x.is;
-      stopped = no_break_goes e more s t calm k x.after rest x.stopped;
-    }
+    in_items x.prefix (x.after ++ more) (each_covers V W c x.prefix x.whole) (onward bs
+    (bytes_all x.prefix) x.after more x.is) (no_break_goes e more s t calm k x.after rest x.stopped)
 
 pub pairs_goes : (V W : Tree → Type 0) (e : InputError) (more : List ℕ) (s t : Stopping) →
     Calm e more
     → Covers V W → Goes e more s t → Goes e more (IndefinitePairs V s) (IndefinitePairs W t)
 pairs_goes V W e more s t calm c k bs rest x =
-    record {
-      prefix = x.prefix;
-      after = x.after ++ more;
-      whole = each_pair_covers V W c x.prefix x.whole;
-      is = onward bs (bytes_pairs x.prefix) x.after more x.is;
-      stopped = by_end x.after x.stopped;
-    }
+    in_pairs x.prefix (x.after ++ more) (each_pair_covers V W c x.prefix x.whole) (onward bs
+    (bytes_pairs x.prefix) x.after more x.is) (by_end x.after x.stopped)
   where
     by_end : (after : List ℕ) → NoBreak s after e rest ⊎ AfterKey V s after e rest
-        → NoBreak t (after ++ more) e (rest ++ more)
-        ⊎ AfterKey W t (after ++ more) e (rest ++ more)
+        → NoBreak t (after ++ more) e (rest ++ more) ⊎ AfterKey W t (after ++ more) e (rest ++ more)
     by_end after (inl y) = inl (no_break_goes e more s t calm k after rest y)
     by_end after (inr y) =
         inr (record {

@@ -1,47 +1,33 @@
 -- What a captured item says of the bytes.
-use Rattle.std.proofs.Common.{◌≡◌, ◌≢◌, ℕ, ◌+◌, ◌<◌, ◌^◌, ◌≤◌, inl, inr, List, [], ◌++◌}
-use Rattle.std.proofs.Common.{length, take, drop, Option, Some, None, Result, Ok, Err, Bool, true}
-use Rattle.std.proofs.Common.{false, IsTrue, refl, sym, ap, ◌∙◌, subst, arith, IfSome, IfOk, IfErr}
-use Rattle.std.proofs.Common.{OnOk, length-append, take-append-drop, append_assoc}
+use Rattle.std.proofs.Common.{◌≡◌, ◌≢◌, ℕ, ◌+◌, ◌<◌, ◌^◌, ◌≤◌, inl, inr, List, [], ◌++◌, length}
+use Rattle.std.proofs.Common.{take, drop, Option, Some, None, Result, Ok, Err, Bool, true, false}
+use Rattle.std.proofs.Common.{IsTrue, refl, sym, ap, ◌∙◌, subst, arith, IfSome, IfOk, IfErr, OnOk}
+use Rattle.std.proofs.Common.{length-append, take-append-drop, append_assoc}
+use Rattle.std.proofs.{Math.Seq.drop-append_seam, lemmas.List.{length-drop, take_all}}
+use Rattle.std.proofs.lemmas.List.{nil_from_length}
 use Rattle.std.specs.Prelude.{MatchBool, MatchOption, min}
 use denote.Ref.{Bor}
+use Rattle.cbor4ii_rw.specs.{Long.{FillsLong, BorrowsNone}, Reader.{Shows, ReaderFails, Advances}}
+use Rattle.cbor4ii_rw.specs.{Reader.{IsPrefix, KeepsAllButBudget, Keeps}, Reference.bytes_of}
+use Rattle.cbor4ii_rw.specs.{Reference.IsLong, View.{View, IfKnown}}
+use Rattle.cbor4ii_rw.specs.declared.error.DecodeError.{DecodeError}
 use Rattle.cbor4ii_rw.specs.declared.read.Reference.{Reference}
 use Rattle.cbor4ii_rw.specs.declared.read.Reference.TheVariants.{Short}
-use Rattle.cbor4ii_rw.specs.Reference.{bytes_of, IsLong}
-use Rattle.std.proofs.lemmas.List.{length-drop, take_all, nil_from_length}
-use Rattle.std.proofs.Math.Seq.{drop-append_seam}
-use Rattle.cbor4ii_rw.specs.View.{View, IfKnown}
-use Rattle.cbor4ii_rw.specs.Reader.{Shows, ReaderFails, Advances, IsPrefix, KeepsAllButBudget}
-use Rattle.cbor4ii_rw.specs.Reader.{Keeps}
-use Rattle.cbor4ii_rw.specs.Long.{FillsLong, BorrowsNone}
-use Rattle.cbor4ii_rw.specs.declared.error.DecodeError.{DecodeError}
-use Rattle.cbor4ii_items.specs.Moves.{Kept, ReaderFailed, Moves}
-use Rattle.cbor4ii_items.specs.Decoding.{IsExact, Sound, NoneRead, Complete, Rejects}
-use Rattle.cbor4ii_items.specs.Budget.{CostFits}
-use Rattle.cbor4ii_items.specs.Decoding.{Decodes}
-use Rattle.cbor4ii_items.specs.InputError.{input_error_of, is_read, is_out_of_memory}
-use Rattle.cbor4ii_items.specs.Laws.Contents.{lends_prefix}
-use Rattle.cbor4ii_items.specs.Laws.Running.{shows_kept}
-use Rattle.cbor4ii_tree.specs.Tree.{Tree, bytes}
-use Rattle.cbor4ii_tree.specs.Cost.{Budget, skip_cost}
-use Rattle.cbor4ii_tree.specs.InputError.{InputError, require_borrowed}
-use Rattle.cbor4ii_tree.specs.Encodings.{Skips}
-use Rattle.cbor4ii_tree.specs.SkippingRejects.{SkippingRejects}
-use Rattle.cbor4ii_tree.specs.Does.{Does}
-use Rattle.cbor4ii_tree.specs.Prefix.{lent_view}
+use Rattle.cbor4ii_items.specs.{InputError.is_out_of_memory, Laws.Contents.lends_prefix}
+use Rattle.cbor4ii_items.specs.{Budget.CostFits, Decoding.{IsExact, Sound, NoneRead, Complete}}
+use Rattle.cbor4ii_items.specs.{Decoding.{Rejects, Decodes}, InputError.{input_error_of, is_read}}
+use Rattle.cbor4ii_items.specs.{Laws.Running.shows_kept, Moves.{Kept, ReaderFailed, Moves}}
+use Rattle.cbor4ii_tree.specs.{Laws.Initials.length-bytes-pos, Prefix.lent_view, Raw.ReadsRaw}
+use Rattle.cbor4ii_tree.specs.{Cost.{Budget, skip_cost}, Does.Does, Encodings.Skips}
+use Rattle.cbor4ii_tree.specs.{Headline.{Answered, Rejected}, Ignored.ReadsTree}
+use Rattle.cbor4ii_tree.specs.{InputError.{InputError, require_borrowed}, Laws.Binds.same_err}
+use Rattle.cbor4ii_tree.specs.{Laws.Ignoring.{one_encoding, tree_prefix}, Raw.RejectsRaw}
+use Rattle.cbor4ii_tree.specs.Raw.{BeginsRaw, RejectedPrefix, Unmoved, LeftAsTheyWere, raw_value}
+use Rattle.cbor4ii_tree.specs.Raw.{most, SkipsPrefix, RejectsPrefix, Captured, NotCaptured, failed}
+use Rattle.cbor4ii_tree.specs.{Raw.{not_lent, stopped, Captures, raw_format}, Skip.skip}
 use Rattle.cbor4ii_tree.specs.Skipping.{SkipsOne, RejectsSkippingOne}
-use Rattle.cbor4ii_tree.specs.Ignored.{ReadsTree}
-use Rattle.cbor4ii_tree.specs.Laws.Ignoring.{one_encoding, tree_prefix}
-use Rattle.cbor4ii_tree.specs.Laws.Binds.{same_err}
-use Rattle.cbor4ii_tree.specs.Laws.Initials.{length-bytes-pos}
+use Rattle.cbor4ii_tree.specs.{SkippingRejects.SkippingRejects, Tree.{Tree, bytes}}
 use Rattle.cbor4ii_tree.proofs.skipping.Answer.{not_both, skip_from_Rejects}
-use Rattle.cbor4ii_tree.specs.Skip.{skip}
-use Rattle.cbor4ii_tree.specs.Headline.{Answered, Rejected}
-use Rattle.cbor4ii_tree.specs.Raw.{ReadsRaw, RejectsRaw, BeginsRaw, RejectedPrefix, Unmoved}
-use Rattle.cbor4ii_tree.specs.Raw.{LeftAsTheyWere, raw_value, most}
-use Rattle.cbor4ii_tree.specs.Raw.{SkipsPrefix, RejectsPrefix, Captured, NotCaptured, failed}
-use Rattle.cbor4ii_tree.specs.Raw.{not_lent}
-use Rattle.cbor4ii_tree.specs.Raw.{stopped, Captures, raw_format}
 
 -- ---- skipping in bytes that are lent
 
@@ -103,14 +89,16 @@ captured content {lent = lent} {n = n} {a = a} {m = m} l is item same budget adv
     }
 
 pub stopped_in : {E : Type 0} {lent shown : List ℕ} {a m k : View} {e : DecodeError E}
-    → FillsLong most lent a m → shown ≡ lent → RejectsPrefix shown m.budget e →
-    KeepsAllButBudget m k
-    → k.budget ≡ m.budget → NotCaptured a k e
+    → FillsLong most lent a m → shown ≡ lent → RejectsPrefix shown m.budget e
+    → KeepsAllButBudget m k → k.budget ≡ m.budget → NotCaptured a k e
 stopped_in {lent = lent} {m = m} {e = e} l is rejects same budget =
-    stopped lent
-    (record { shows = shows_on l.shows same budget; prefix = l.prefix; enough = l.enough })
-    (subst (λ o. RejectsPrefix lent o e) l.shows.budget
-    (subst (λ z. RejectsPrefix z m.budget e) is rejects))
+    stopped lent (record {
+      shows = shows_on l.shows same budget;
+      prefix = l.prefix;
+      enough =
+          l.enough;
+    }) (subst (λ o. RejectsPrefix lent o e) l.shows.budget (subst (λ z. RejectsPrefix z
+    m.budget e) is rejects))
 
 -- ---- the item at the front of all bytes
 
@@ -379,11 +367,12 @@ module _ {V E : Type 0} (content : V → List ℕ) (a b : View) where
       not_both xs a.budget p.of_tree (drop c.count xs) z left
       (skips_read xs c.count (skip_cost c.item.skipped) a.budget p c.item.skips.fits) s
   raw_exact (Err e) c exact = λ xs known z left s.
-      if_some (input_error_of e)
-      (λ f. (b.known ≡ Some xs) × ((left : List ℕ) × SkippingRejects xs a.budget f left))
-      (λ f. (f ≡ z) × (b.known ≡ Some xs))
-      (λ f h. (rejects_one xs a.budget f z h.1.0 left h.1.1 s, h.0))
-      (exact_stop e c exact xs known)
+      if_some (input_error_of e) (λ f. (b.known ≡ Some xs) × ((left : List ℕ) × SkippingRejects xs
+      a.budget f left)) (λ f. (f ≡ z) × (b.known ≡ Some xs)) (λ f h. (
+        rejects_one xs a.budget f z
+            h.1.0 left h.1.1 s,
+        h.0,
+      )) (exact_stop e c exact xs known)
 
 -- ---- an empty prefix
 
@@ -404,10 +393,9 @@ lends_nothing a b answer lent shown e f shows prefix long none =
     }
 
 -- a short prefix of some bytes
-pub lends_short : (a b : View) (answer : Option Reference) (lent : Reference)
-    (shown : Bor (List ℕ)) → answer ≡ Some lent → lent ≡ Short shown
-    → MatchOption answer (ReaderFails a b) (λ s. Shows (bytes_of s) a b)
-    → IfKnown a.known (IsPrefix most (bytes_of lent))
+pub lends_short : (a b : View) (answer : Option Reference) (lent : Reference) (shown : Bor (List ℕ))
+    → answer ≡ Some lent → lent ≡ Short shown → MatchOption answer (ReaderFails a b) (λ s. Shows
+    (bytes_of s) a b) → IfKnown a.known (IsPrefix most (bytes_of lent))
     → (IsTrue a.zero_copy → IsLong lent) → length shown.now ≢ 0 → BorrowsNone a b
 lends_short a b answer lent shown e f shows prefix long some =
     let same : bytes_of lent ≡ shown.now = ap bytes_of f in

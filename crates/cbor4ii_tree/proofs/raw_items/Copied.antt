@@ -1,25 +1,18 @@
 -- What a copied item says of the bytes.
-use Rattle.std.proofs.Common.{◌≡◌, ℕ, inl, inr, List, [], drop, Some, Result, Ok, Err}
-use Rattle.std.proofs.Common.{true, false, refl, sym, subst, IfErr}
-use Rattle.std.proofs.Common.{IsTrue}
-use Rattle.cbor4ii_rw.specs.View.{View, IfKnown}
-use Rattle.cbor4ii_rw.specs.declared.error.DecodeError.{DecodeError}
-use Rattle.cbor4ii_items.specs.Decoding.{IsExact, Decodes}
+use Rattle.std.proofs.Common.{◌≡◌, ℕ, inl, inr, List, [], drop, Some, Result, Ok, Err, true, false}
+use Rattle.std.proofs.Common.{refl, sym, subst, IfErr, IsTrue}
+use Rattle.cbor4ii_rw.specs.{View.{View, IfKnown}, declared.error.DecodeError.DecodeError}
+use Rattle.cbor4ii_items.specs.{Decoding.{IsExact, Decodes}, InputError.is_out_of_memory}
 use Rattle.cbor4ii_items.specs.Laws.Calls.{in_memory, out_of_memory}
-use Rattle.cbor4ii_items.specs.InputError.{is_out_of_memory}
-use Rattle.cbor4ii_tree.specs.declared.boxed_raw.BoxedRawValue.{BoxedRawValue}
-use Rattle.cbor4ii_tree.specs.Tree.{Tree, bytes}
-use Rattle.cbor4ii_tree.specs.Cost.{Budget, skip_cost}
-use Rattle.cbor4ii_tree.specs.InputError.{InputError}
-use Rattle.cbor4ii_tree.specs.Encodings.{Skips}
-use Rattle.cbor4ii_tree.specs.SkippingRejects.{SkippingRejects}
-use Rattle.cbor4ii_tree.specs.Headline.{Answered, Rejected}
-use Rattle.cbor4ii_tree.specs.Raw.{raw_format, RejectedPrefix, SkipsPrefix}
 use Rattle.cbor4ii_tree.specs.BoxedRaw.{boxed_content, CapturesCopy, UnmovedOrLacks, SkippedTo}
-use Rattle.cbor4ii_tree.specs.BoxedRaw.{CopiesItem, boxed_raw_format}
-use Rattle.cbor4ii_tree.proofs.raw_items.Unlent.{no_item}
+use Rattle.cbor4ii_tree.specs.{BoxedRaw.{CopiesItem, boxed_raw_format}, Cost.{Budget, skip_cost}}
+use Rattle.cbor4ii_tree.specs.{Encodings.Skips, Headline.{Answered, Rejected}}
+use Rattle.cbor4ii_tree.specs.{InputError.InputError, Raw.{raw_format, RejectedPrefix, SkipsPrefix}}
+use Rattle.cbor4ii_tree.specs.{SkippingRejects.SkippingRejects, Tree.{Tree, bytes}}
+use Rattle.cbor4ii_tree.specs.declared.boxed_raw.BoxedRawValue.{BoxedRawValue}
 use Rattle.cbor4ii_tree.proofs.raw_items.Captured.{item_at, skips_read, raw_decodes, raw_memory}
 use Rattle.cbor4ii_tree.proofs.raw_items.Captured.{raw_unmoved, raw_rejected, raw_whole, raw_exact}
+use Rattle.cbor4ii_tree.proofs.raw_items.Unlent.{no_item}
 
 -- ---- a copy of what was lent
 

@@ -1,33 +1,23 @@
 -- A method `decode(alloc, reader)` of an impl of `Decode` whose body is `known(alloc, reader)`, at
 -- a type T that names the impl's lifetime: what the callee ensures holds of it.
-use mathlib.Core.Path.{◌≡◌}
-use Prim.Native.Nat.{ℕ}
-use mathlib.Core.List.{List, [], ◌∷◌, ◌++◌}
-use seplogic.Ra.Ura.{Ura}
-use base.Fml.{Lft}
-use base.Logic.{SProp, ent, ex, via, sep, snd∗, mono_r, emp}
-use contract.BorrowLft.{◌⊑◌}
-use contract.Lifetimes.{Lfts, Shares, AllOutlive}
-use contract.Monad.{fact, fact_use}
-use contract.Running.{Running, tables, tables_of}
-use denote.Exit.{yes}
-use denote.Param.{bounded, param, arg, layout}
-use denote.Param.Glue as Glue
-use denote.Param.Laws.{Laws, param_laws, arg_laws}
-use denote.RattleType.{RattleType}
-use denote.Ref.{MutBor}
-use denote.Signature.{type_at}
-use denote.Triple.Entry.{on_entry, alive}
-use denote.Triple.Impl.{with_fact, pin_of}
-use denote.Triple.Spec.{triple_of, Back}
+use denote.{Exit.yes, Param.{bounded, param, arg, layout}, Param.Laws.{Laws, param_laws, arg_laws}}
+use denote.{RattleType.RattleType, Ref.MutBor, Signature.type_at, Triple.Entry.{on_entry, alive}}
+use denote.{Triple.Impl.{with_fact, pin_of}, Triple.Spec.{triple_of, Back}}
 use denote.Triple.Statement.{Contract}
-use mir.Raw.{raw as bare}
-use mir.Syntax.{Ty, Dict, Callee, Home, Kind, Lifetime, a_type, dcons, dnil, named}
-use mir.Val.{Val}
-use prog.Model.{Model}
-use prog.Wired.{Wired}
-use prog.Wp.{Tables, WpFn}
+use mathlib.{Core.List.{List, [], ◌∷◌, ◌++◌}, Core.Path.◌≡◌}
+use Prim.Native.Nat.{ℕ}
+use seplogic.Ra.Ura.{Ura}
+use base.{Fml.Lft, Logic.{SProp, ent, ex, via, sep, snd∗, mono_r, emp}}
+use contract.{BorrowLft.◌⊑◌, Lifetimes.{Lfts, Shares, AllOutlive}, Monad.{fact, fact_use}}
+use contract.Running.{Running, tables, tables_of}
+use mir.{Syntax.named, Val.Val, Raw.raw as bare, Syntax.{Ty, Dict, Callee, Home, Kind, Lifetime}}
+use mir.Syntax.{a_type, dcons, dnil}
+use prog.{Model.Model, Wired.Wired, Wp.{Tables, WpFn}}
 use types.Logic.{Logic}
+use Rattle.cbor4ii_items.specs.Laws.Forward.{lent, lent_fn, result_fit}
+use Rattle.cbor4ii_tree.proofs.{lend_raw.take_raw.Met.met, lend_raw.take_raw.Symbol.name as #g}
+use Rattle.cbor4ii_tree.proofs.lend_raw.take_raw.Symbol.{code as g_code}
+use denote.Param.Glue as Glue
 use Rattle.std.proofs.result.Result.TheLaws as ResultLaws
 use Rattle.std.specs.contracts.alloc.Global as Global
 use Rattle.std.specs.contracts.fmt.Debug.TheBound as DebugBound
@@ -38,17 +28,13 @@ use Rattle.cbor4ii_rw.specs.contracts.read.Source.TheBound as SourceBound
 use Rattle.cbor4ii_tree.specs.declared.lend_raw.LendRaw as Lend
 use Rattle.cbor4ii_rw.specs.declared.read.Source as Source
 use Rattle.cbor4ii_tree.specs.contracts.lend_raw.take_raw as g
-use Rattle.cbor4ii_items.specs.Laws.Forward.{lent, lent_fn, result_fit}
 use Rattle.cbor4ii_rw.proofs.error.DecodeError.TheLaws as ErrorLaws
-use Rattle.cbor4ii_tree.proofs.lend_raw.take_raw.Met.{met}
-use Rattle.cbor4ii_tree.proofs.lend_raw.take_raw.Symbol.{name as #g, code as g_code}
 
 module _ {M : Type 1} (𝓤 : Ura M) (𝓛 : Logic 𝓤) (𝓜 : Model 𝓤 𝓛.H) (𝓡 : Running 𝓤 𝓛.H 𝓜)
-    (wired : Wired 𝓡.env g_code)
-    (R E : RattleType) (LR : Laws R) (LE : Laws E) (gS : Source.Ghosts R.Denot E.Denot)
-    (dS : Dict) (gD : Debug.Ghosts E.Denot) (dD dd : Dict) (P : Lfts 4 → Type 0)
-    (b2 : SourceBound.Met 𝓛 𝓜 𝓡 𝓡.env R E gS dS gD dD) (b3 : DebugBound.Met 𝓛 𝓜 𝓡 𝓡.env E gD dD)
-    (b4 : Glue.Met 𝓛 𝓜 𝓡 𝓡.env E dd)
+    (wired : Wired 𝓡.env g_code) (R E : RattleType) (LR : Laws R) (LE : Laws E)
+    (gS : Source.Ghosts R.Denot E.Denot) (dS : Dict) (gD : Debug.Ghosts E.Denot) (dD dd : Dict)
+    (P : Lfts 4 → Type 0) (b2 : SourceBound.Met 𝓛 𝓜 𝓡 𝓡.env R E gS dS gD dD)
+    (b3 : DebugBound.Met 𝓛 𝓜 𝓡 𝓡.env E gD dD) (b4 : Glue.Met 𝓛 𝓜 𝓡 𝓡.env E dd)
     -- T, at each lifetime;  its MIR type as a call passes it;  its impl of `LendRaw`
     (T : Lft → RattleType) (LT : (κ : Lft) → Laws (T κ)) (within : (κ : Lft) → κ ⊑ (T κ).lives)
     (δ : Ty) (same : (κ : Lft) → bare δ ≡ bare (layout (T κ)))
@@ -114,12 +100,9 @@ module _ {M : Type 1} (𝓤 : Ura M) (𝓛 : Logic 𝓤) (𝓜 : Model 𝓤 𝓛
         }) b2 b3 b4 in
         let L = ResultLaws.the_row_laws (param 0 (At κ)) (DecodeError.the_row (param 2 E))
         (param_laws 0 (At κ) LA) (ErrorLaws.the_row_laws (param 2 E) (param_laws 2 E LE)) in
-        lent 𝓛 𝓣 key n os ks givens params τ₀ (λ v.
-        ex 𝓤 (λ (z : (Res κ).Denot). sep 𝓤 (Back 𝓛 S y.0 v z) ((s κs y.0.3).ensures tt z)))
-        (λ v. result_fit 𝓛 (Res κ) τ₀ L e A (λ z. (s κs y.0.3).ensures tt z) v) ℓ₂ ℓ₃ σ₂ σ₃ σ h₀
-        h₁ h₂ h₃ (named 0) κs.0 (param 1 R) x r us vs A q
-        (via 𝓤 (sep 𝓤 O (sep 𝓤 (fact 𝓤 FT) (sep 𝓤 FR (sep 𝓤 FE (emp 𝓤)))))
-        (mono_r 𝓤 O (via 𝓤 (sep 𝓤 FR (sep 𝓤 FE (emp 𝓤)))
-        (mono_r 𝓤 FR (mono_r 𝓤 FE (snd∗ 𝓤 (fact 𝓤 (P κs)) (emp 𝓤))))
-        (with_fact 𝓤 FT (sep 𝓤 FR (sep 𝓤 FE (emp 𝓤))) (within κ))))
-        (m y)))
+        lent 𝓛 𝓣 key n os ks givens params τ₀ (λ v. ex 𝓤 (λ (z : (Res κ).Denot). sep 𝓤
+        (Back 𝓛 S y.0 v z) ((s κs y.0.3).ensures tt z))) (λ v. result_fit 𝓛 (Res κ) τ₀ L e A (λ z.
+        (s κs y.0.3).ensures tt z) v) ℓ₂ ℓ₃ σ₂ σ₃ σ h₀ h₁ h₂ h₃ (named 0) κs.0 (param 1 R) x r us vs
+        A q (via 𝓤 (sep 𝓤 O (sep 𝓤 (fact 𝓤 FT) (sep 𝓤 FR (sep 𝓤 FE (emp 𝓤))))) (mono_r 𝓤 O (via 𝓤
+        (sep 𝓤 FR (sep 𝓤 FE (emp 𝓤))) (mono_r 𝓤 FR (mono_r 𝓤 FE (snd∗ 𝓤 (fact 𝓤 (P κs)) (emp 𝓤))))
+        (with_fact 𝓤 FT (sep 𝓤 FR (sep 𝓤 FE (emp 𝓤))) (within κ)))) (m y)))

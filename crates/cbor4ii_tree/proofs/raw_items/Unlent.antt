@@ -1,18 +1,12 @@
 -- What is said of an item that is to be kept, where the reader lends nothing.
-use Rattle.std.proofs.Common.{◌≡◌, ℕ, inr, List, [], length, drop, Some, false, refl, ap}
-use Rattle.std.proofs.Common.{◌∙◌, subst, arith, length-append}
-use Rattle.cbor4ii_rw.specs.View.{View}
-use Rattle.cbor4ii_rw.specs.Long.{FillsLong}
-use Rattle.cbor4ii_rw.specs.Reader.{KeepsAllButBudget}
+use Rattle.std.proofs.Common.{◌≡◌, ℕ, inr, List, [], length, drop, Some, false, refl, ap, ◌∙◌}
+use Rattle.std.proofs.Common.{subst, arith, length-append}
+use Rattle.cbor4ii_rw.specs.{Long.FillsLong, Reader.KeepsAllButBudget, View.View}
 use Rattle.cbor4ii_rw.specs.declared.error.DecodeError.{DecodeError}
-use Rattle.cbor4ii_items.specs.Decoding.{Rejects}
-use Rattle.cbor4ii_items.specs.InputError.{input_error_of, is_out_of_memory}
-use Rattle.cbor4ii_tree.specs.Tree.{bytes}
-use Rattle.cbor4ii_tree.specs.Cost.{Budget}
-use Rattle.cbor4ii_tree.specs.Laws.Initials.{length-bytes-pos}
-use Rattle.cbor4ii_tree.specs.SkippingRejects.{SkippingRejects}
-use Rattle.cbor4ii_tree.specs.Raw.{most, SkipsPrefix, RejectsPrefix}
-use Rattle.cbor4ii_tree.specs.BoxedRaw.{RejectsRawUnlent}
+use Rattle.cbor4ii_items.specs.{Decoding.Rejects, InputError.{input_error_of, is_out_of_memory}}
+use Rattle.cbor4ii_tree.specs.{BoxedRaw.RejectsRawUnlent, Cost.Budget, Raw.RejectsPrefix}
+use Rattle.cbor4ii_tree.specs.{SkippingRejects.SkippingRejects, Tree.bytes}
+use Rattle.cbor4ii_tree.specs.{Laws.Initials.length-bytes-pos, Raw.{most, SkipsPrefix}}
 use Rattle.cbor4ii_tree.proofs.raw_items.Captured.{if_some}
 
 -- no item stands in no bytes
@@ -29,9 +23,8 @@ no_item {budget = budget} {n = n} none is item =
 
 -- no byte is left
 pub none_rejects : {E : Type 0} {shown lent : List ℕ} {a m k : View} {e : DecodeError E} → lent ≡ []
-    → shown ≡ lent → FillsLong most lent a m → RejectsPrefix shown m.budget e →
-    KeepsAllButBudget m k
-    → (is_out_of_memory e ≡ false) × Rejects RejectsRawUnlent a k e
+    → shown ≡ lent → FillsLong most lent a m → RejectsPrefix shown m.budget e
+    → KeepsAllButBudget m k → (is_out_of_memory e ≡ false) × Rejects RejectsRawUnlent a k e
 none_rejects {a = a} {m = m} {k = k} {e = e} none is lent rejects same =
     let l = subst (λ z. FillsLong most z a m) none lent in
     let s = subst (λ z. RejectsPrefix z m.budget e) (is ∙ none) rejects in (

@@ -2,32 +2,27 @@
 use Rattle.std.proofs.Common.{◌≡◌, ℕ, zero, suc, ◌<◌, ◌≤◌, List, [], ◌∷◌, ◌++◌, length, Some, None}
 use Rattle.std.proofs.Common.{Ok, refl, ap, ◌∙◌, arith, append_assoc}
 use Rattle.std.specs.Int.{bytes_high_first}
-use Rattle.cbor4ii_items.specs.Head.{byte_count, break}
-use Rattle.cbor4ii_items.specs.Initial.{sign_major, Kind, precision_bytes, Initial, initial}
-use Rattle.cbor4ii_tree.specs.Tree.{Tree, int, string, chunked, array, array_indefinite, map_of}
-use Rattle.cbor4ii_tree.specs.Tree.{map_indefinite}
-use Rattle.cbor4ii_tree.specs.Tree.{tagged, simple, bits, Trees, no_trees, tree, count, pair_count}
-use Rattle.cbor4ii_tree.specs.Tree.{bytes, bytes_all, bytes_pairs, joined_chunks, Loose}
-use Rattle.cbor4ii_tree.specs.Tree.{SoundStrings, AreChunks}
-use Rattle.cbor4ii_items.specs.Budget.{CostFits}
+use Rattle.cbor4ii_items.specs.{Budget.CostFits, Head.{byte_count, break}, Initial.sign_major}
+use Rattle.cbor4ii_items.specs.Initial.{Kind, precision_bytes, Initial, initial}
 use Rattle.cbor4ii_items.specs.Laws.SequenceParts.{fits_less}
 use Rattle.cbor4ii_tree.specs.Cost.{Budget, cost, chunks_cost, greatest_cost, greatest_pair_cost}
 use Rattle.cbor4ii_tree.specs.InputError.{sign_name, precision_name, array_name, map_name, tag_name}
-use Rattle.cbor4ii_tree.specs.Rejections.{Each}
-use Rattle.cbor4ii_tree.specs.ReadingRejects.{Readable, ReadableChunk}
-use Rattle.cbor4ii_tree.specs.Parse.{Parser}
-use Rattle.cbor4ii_tree.specs.Read.{chunk_tree_at, read_by, read_from, read_within}
-use Rattle.cbor4ii_tree.specs.Laws.Binds.{left, step_left}
-use Rattle.cbor4ii_tree.specs.Laws.Budgets.{fits_left, fits_two}
+use Rattle.cbor4ii_tree.specs.{Laws.Binds.{left, step_left}, Laws.Budgets.{fits_left, fits_two}}
+use Rattle.cbor4ii_tree.specs.Laws.HeadsAgain.{argument_again, number_again}
 use Rattle.cbor4ii_tree.specs.Laws.Initials.{initial_int, initial_string, initial_array}
 use Rattle.cbor4ii_tree.specs.Laws.Initials.{initial_map, initial_tag, initial_chunks}
 use Rattle.cbor4ii_tree.specs.Laws.Initials.{initial_simple, initial_bits, initial_indefinite_array}
 use Rattle.cbor4ii_tree.specs.Laws.Initials.{initial_indefinite_map, begins}
-use Rattle.cbor4ii_tree.specs.Laws.HeadsAgain.{argument_again, number_again}
 use Rattle.cbor4ii_tree.specs.Laws.PartsAgain.{Again, StartNoBreak, trees_again, pairs_again}
 use Rattle.cbor4ii_tree.specs.Laws.PartsAgain.{indefinite_trees_again, indefinite_pairs_again}
-use Rattle.cbor4ii_tree.specs.Laws.Wholes.{each_readable, each_pair_readable, each_chunk}
 use Rattle.cbor4ii_tree.specs.Laws.SkippingAgain.{following_head, after_indefinite}
+use Rattle.cbor4ii_tree.specs.Laws.Wholes.{each_readable, each_pair_readable, each_chunk}
+use Rattle.cbor4ii_tree.specs.{Parse.Parser, Read.{chunk_tree_at, read_by, read_from, read_within}}
+use Rattle.cbor4ii_tree.specs.{ReadingRejects.{Readable, ReadableChunk}, Rejections.Each, Tree.Tree}
+use Rattle.cbor4ii_tree.specs.Tree.{int, string, chunked, array, array_indefinite, map_of}
+use Rattle.cbor4ii_tree.specs.Tree.{map_indefinite, tagged, simple, bits, Trees, no_trees, tree}
+use Rattle.cbor4ii_tree.specs.Tree.{count, pair_count, bytes, bytes_all, bytes_pairs, joined_chunks}
+use Rattle.cbor4ii_tree.specs.Tree.{Loose, SoundStrings, AreChunks}
 use Rattle.cbor4ii_tree.proofs.reading.Chunks.{chunks_start, tested_again, string_again}
 use Rattle.cbor4ii_tree.proofs.reading.Chunks.{chunk_again}
 
@@ -73,14 +68,12 @@ from_again item n b a (chunked k ts) x l s f lt =
     let all : List ℕ = bytes_all ts ++ break ∷ x in
     let each : Each (ReadableChunk k (left b)) ts =
     each_chunk k ts (left b) l s.0 (chunks_fit k ts b s.0 f) in
-    by_initial item (left b) _ _ _ (initial_chunks k)
-    ∙ rw (
+    by_initial item (left b) _ _ _ (initial_chunks k) ∙ rw (
       append_assoc (bytes_all ts) (break ∷ []) x,
       indefinite_trees_again (chunk_tree_at k (left b))
           (ReadableChunk k (left b)) n (chunk_again k (left b) n)
           (chunks_start k (left b)) ts (suc (length all)) x each (omega arith) lt2,
-    )
-    (tested_again k (joined_chunks ts) (chunked k ts) x s.1)
+    ) (tested_again k (joined_chunks ts) (chunked k ts) x s.1)
 from_again item n b a (array w ts) x l s f lt =
     let two = fits_two (greatest_cost ts) b f in
     let lt2 = following_head (bytes_high_first (byte_count w) (count ts)) (bytes_all ts) x n lt in
@@ -97,8 +90,7 @@ from_again item n b a (array_indefinite ts) x l s f lt =
     let two = fits_two (greatest_cost ts) b f in
     let lt2 = after_indefinite (bytes_all ts) x n lt in
     let all : List ℕ = bytes_all ts ++ break ∷ x in
-    by_initial item (left b) _ _ _ initial_indefinite_array
-    ∙ rw (
+    by_initial item (left b) _ _ _ initial_indefinite_array ∙ rw (
       step_left (left b) two.0,
       append_assoc (bytes_all ts) (break ∷ []) x,
       indefinite_trees_again (item (left (left b))) (Readable (left (left b))) n (a (left (left b)))
@@ -123,8 +115,7 @@ from_again item n b a (map_indefinite ps) x l s f lt =
     let two = fits_two (greatest_pair_cost ps) b f in
     let lt2 = after_indefinite (bytes_pairs ps) x n lt in
     let all : List ℕ = bytes_pairs ps ++ break ∷ x in
-    by_initial item (left b) _ _ _ initial_indefinite_map
-    ∙ rw (
+    by_initial item (left b) _ _ _ initial_indefinite_map ∙ rw (
       step_left (left b) two.0,
       append_assoc (bytes_pairs ps) (break ∷ []) x,
       indefinite_pairs_again (item (left (left b))) (Readable (left (left b))) n (a (left (left b)))
@@ -133,8 +124,7 @@ from_again item n b a (map_indefinite ps) x l s f lt =
     ) refl
 from_again item n b a (tagged m w t) x l s f lt =
     let lt2 = following_head (bytes_high_first (byte_count w) m) (bytes t) x n lt in
-    by_initial item (left b) _ _ _ (initial_tag m w l.0)
-    ∙ rw (
+    by_initial item (left b) _ _ _ (initial_tag m w l.0) ∙ rw (
       append_assoc (bytes_high_first (byte_count w) m) (bytes t) x,
       argument_again tag_name 6 m
           w (bytes t ++ x) l.0,

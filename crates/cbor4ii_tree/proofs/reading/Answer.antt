@@ -1,22 +1,15 @@
 -- Reading a value has one answer for each input and budget.
 use Rattle.std.proofs.Common.{◌≡◌, ℕ, suc, inl, inr, List, ◌++◌, length, Ok, Err, refl, sym, ap}
 use Rattle.std.proofs.Common.{◌∙◌, arith}
-use Rattle.cbor4ii_items.specs.Head.{IsBytes}
-use Rattle.cbor4ii_tree.specs.Tree.{Tree, bytes}
-use Rattle.cbor4ii_tree.specs.Item.{Item}
-use Rattle.cbor4ii_tree.specs.Meaning.{value}
-use Rattle.cbor4ii_items.specs.Budget.{CostFits}
-use Rattle.cbor4ii_tree.specs.Cost.{Budget, cost}
-use Rattle.cbor4ii_tree.specs.InputError.{InputError}
-use Rattle.cbor4ii_tree.specs.Encodings.{DecodesTo, SomeAnswer, AtMostOne}
-use Rattle.cbor4ii_tree.specs.ReadingRejects.{Readable, ReadingRejects}
-use Rattle.cbor4ii_tree.specs.Read.{read, read_tree}
+use Rattle.cbor4ii_items.specs.{Budget.CostFits, Head.IsBytes}
+use Rattle.cbor4ii_tree.specs.{Cost.{Budget, cost}, Encodings.{DecodesTo, SomeAnswer, AtMostOne}}
+use Rattle.cbor4ii_tree.specs.{InputError.InputError, Item.Item, Laws.Binds.{parts, apart, bind_ok}}
+use Rattle.cbor4ii_tree.specs.{Laws.Binds.{bind_err, then_err, no_err}, Meaning.value, Read.read}
+use Rattle.cbor4ii_tree.specs.{Read.read_tree, ReadingRejects.{Readable, ReadingRejects}, Tree.Tree}
+use Rattle.cbor4ii_tree.specs.Tree.{bytes}
+use Rattle.cbor4ii_tree.proofs.{reading.Again.read_again, reading.Rejections.read_rejects}
+use Rattle.cbor4ii_tree.proofs.{reading.Rejects.read_errs, reading.Sound.read_sound}
 use Rattle.cbor4ii_tree.proofs.answers.Answers.{some_answer_of, at_most_one_of}
-use Rattle.cbor4ii_tree.specs.Laws.Binds.{parts, apart, bind_ok, bind_err, then_err, no_err}
-use Rattle.cbor4ii_tree.proofs.reading.Again.{read_again}
-use Rattle.cbor4ii_tree.proofs.reading.Sound.{read_sound}
-use Rattle.cbor4ii_tree.proofs.reading.Rejects.{read_errs}
-use Rattle.cbor4ii_tree.proofs.reading.Rejections.{read_rejects}
 
 -- a plain tree that fits is read as its value
 pub read_plain : (t : Tree) (budget : Budget) (rest : List ℕ) → Readable budget t
@@ -33,25 +26,26 @@ read_from_Reads input budget v rest r =
     ap (read budget) same ∙ read_plain s.of_tree budget rest (s.plain, fits)
     ∙ ap (λ w. Ok (w, rest)) s.value_is
 
+-- what begins with the bytes of a plain tree that fits decodes to its value
+pub decodes_tree : (t : Tree) (budget : Budget) (input : List ℕ) (v : Item) (rest : List ℕ)
+    → Readable budget t → value t ≡ v → input ≡ bytes t ++ rest → DecodesTo input budget v rest
+decodes_tree t budget input v rest w same begins = record {
+  encoding = bytes t;
+  steps = cost t;
+  encodes =
+      record { of_tree = t; plain = w.0; bytes_are = refl; value_is = same; cost_is = refl };
+  fits = w.1;
+  begins = begins;
+}
+
 pub Reads_from_read : (input : List ℕ) (budget : Budget) (v : Item) (rest : List ℕ) → IsBytes input
     → read budget input ≡ Ok (v, rest) → DecodesTo input budget v rest
 Reads_from_read input budget v rest h e =
     let x = bind_ok (read_tree budget input) (λ p. Ok (value p.0, p.1)) (v, rest) e in
     let took = read_sound (suc (length input)) budget input x.0 h x.1 in
     let same = parts (Ok (value x.0.0, x.0.1)) (value x.0.0) v x.0.1 rest refl x.2 in
-    record {
-      encoding = bytes x.0.0;
-      steps = cost x.0.0;
-      encodes = record {
-        of_tree = x.0.0;
-        plain = took.whole.0;
-        bytes_are = refl;
-        value_is = same.0;
-        cost_is = refl;
-      };
-      fits = took.whole.1;
-      begins = took.is ∙ ap (λ y. bytes x.0.0 ++ y) same.1;
-    }
+    decodes_tree x.0.0 budget input v rest took.whole same.0
+    (took.is ∙ ap (λ y. bytes x.0.0 ++ y) same.1)
 
 pub read_from_Rejects : (input : List ℕ) (budget : Budget) (e : InputError) (rest : List ℕ)
     → ReadingRejects input budget e rest → read budget input ≡ Err (e, rest)
@@ -82,8 +76,7 @@ one_reading input budget =
 
 -- what is accepted does not fail, of any numbers
 pub not_both : (input : List ℕ) (budget : Budget) (v : Item) (x : List ℕ) (e : InputError)
-    (y : List ℕ)
-    → DecodesTo input budget v x → ReadingRejects input budget e y → ⊥
+    (y : List ℕ) → DecodesTo input budget v x → ReadingRejects input budget e y → ⊥
 not_both input budget v x e y s u =
     apart (read budget input) (v, x) (e, y) (read_from_Reads input budget v x s)
     (read_from_Rejects input budget e y u)

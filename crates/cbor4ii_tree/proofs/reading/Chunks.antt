@@ -1,33 +1,26 @@
 -- Strings and chunks: read back, sound, rejected, and failing.
 use Rattle.std.proofs.Common.{◌≡◌, ℕ, ◌+◌, ◌*◌, inl, inr, List, [], ◌∷◌, ◌++◌, length, Ok, Err}
-use Rattle.std.proofs.Common.{refl, sym, subst, append_assoc}
-use Rattle.std.proofs.lemmas.Str.{is_utf8-from_IsUtf8}
+use Rattle.std.proofs.{Common.{refl, sym, subst, append_assoc}, lemmas.Str.is_utf8-from_IsUtf8}
 use Rattle.std.specs.Int.{bytes_high_first}
-use Rattle.cbor4ii_items.specs.Head.{Width, HeadFits, additional, byte_count, head, IsBytes}
-use Rattle.cbor4ii_items.specs.Initial.{Kind, byte_string, text_string, kind_major, Initial}
-use Rattle.cbor4ii_items.specs.Initial.{starts_string, starts_chunks, initial}
-use Rattle.cbor4ii_tree.specs.Tree.{Tree, int, string, chunked, array, array_indefinite, map_of}
-use Rattle.cbor4ii_tree.specs.Tree.{map_indefinite}
-use Rattle.cbor4ii_tree.specs.Tree.{tagged, simple, bits, TextIsUtf8}
-use Rattle.cbor4ii_items.specs.Budget.{CostFits}
+use Rattle.cbor4ii_items.specs.{Budget.CostFits, Head.{Width, HeadFits, additional, byte_count}}
+use Rattle.cbor4ii_items.specs.{Head.{head, IsBytes}, Initial.{Kind, byte_string, text_string}}
+use Rattle.cbor4ii_items.specs.Initial.{kind_major, Initial, starts_string, starts_chunks, initial}
 use Rattle.cbor4ii_items.specs.Laws.Answering.{fits_zero}
-use Rattle.cbor4ii_tree.specs.Cost.{Budget, step_in}
-use Rattle.cbor4ii_tree.specs.InputError.{InputError, kind_name}
-use Rattle.cbor4ii_tree.specs.Rejections.{Missing}
-use Rattle.cbor4ii_tree.specs.ReadingRejects.{ReadableChunk, CutString, ChunkRejectsBy}
-use Rattle.cbor4ii_tree.specs.ReadingRejects.{ChunkRejects}
-use Rattle.cbor4ii_tree.specs.Parse.{◌>>=◌, prefix_at, argument_of_width}
-use Rattle.cbor4ii_tree.specs.Read.{tested, definite_string_at, chunk_tree_by, chunk_tree_at}
+use Rattle.cbor4ii_tree.specs.{Laws.Binds.stepped_rejects, Laws.HeadsAgain.prefix_again}
+use Rattle.cbor4ii_tree.specs.{Laws.HeadsAgain.argument_again, Laws.Initials.initial_string}
+use Rattle.cbor4ii_tree.specs.{Cost.{Budget, step_in}, InputError.{InputError, kind_name}}
 use Rattle.cbor4ii_tree.specs.Laws.Binds.{bind_ok, bind_err, same_ok, no_ok, no_err, is_err, err}
 use Rattle.cbor4ii_tree.specs.Laws.Binds.{then_err, step_left, step_up, stepped_ok, stepped_err}
-use Rattle.cbor4ii_tree.specs.Laws.Binds.{stepped_rejects}
-use Rattle.cbor4ii_tree.specs.Laws.Initials.{initial_string, begins}
-use Rattle.cbor4ii_tree.proofs.heads.Inverse.{prefix_inverse}
-use Rattle.cbor4ii_tree.proofs.heads.Means.{HeadByte, Means, means, argument_inverse}
-use Rattle.cbor4ii_tree.specs.Laws.HeadsAgain.{prefix_again, argument_again}
-use Rattle.cbor4ii_tree.specs.Laws.PartsAgain.{Again, StartNoBreak}
-use Rattle.cbor4ii_tree.proofs.parts.Sound.{Took, IsSound, counted}
-use Rattle.cbor4ii_tree.proofs.parts.Reject.{Complete, prefix_err, at_head}
+use Rattle.cbor4ii_tree.specs.{Laws.Initials.begins, Laws.PartsAgain.{Again, StartNoBreak}}
+use Rattle.cbor4ii_tree.specs.{Parse.{◌>>=◌, prefix_at, argument_of_width}, Read.tested}
+use Rattle.cbor4ii_tree.specs.Read.{definite_string_at, chunk_tree_by, chunk_tree_at}
+use Rattle.cbor4ii_tree.specs.ReadingRejects.{ReadableChunk, CutString, ChunkRejectsBy}
+use Rattle.cbor4ii_tree.specs.{ReadingRejects.ChunkRejects, Rejections.Missing, Tree.{Tree, int}}
+use Rattle.cbor4ii_tree.specs.Tree.{string, chunked, array, array_indefinite, map_of}
+use Rattle.cbor4ii_tree.specs.Tree.{map_indefinite, tagged, simple, bits, TextIsUtf8}
+use Rattle.cbor4ii_tree.proofs.{heads.Inverse.prefix_inverse, heads.Means.{HeadByte, Means, means}}
+use Rattle.cbor4ii_tree.proofs.{heads.Means.argument_inverse, parts.Reject.{Complete, prefix_err}}
+use Rattle.cbor4ii_tree.proofs.{parts.Reject.at_head, parts.Sound.{Took, IsSound, counted}}
 use Rattle.cbor4ii_tree.proofs.parts.Stop.{Gives, missing_prefix, head_rejects}
 
 pub chunks_start : (k : Kind) (b : Budget) → StartNoBreak (ReadableChunk k b)
@@ -86,10 +79,9 @@ string_rejects k w b bs e rest s =
 -- ---- chunks
 
 chunk_tree_by_again : (j k : Kind) (w : Width) (content x : List ℕ) → j ≡ k
-    → HeadFits w (length content)
-    → chunk_tree_by k (starts_string j w) (32 * kind_major j + additional w (length content))
-    (bytes_high_first (byte_count w) (length content) ++ (content ++ x)) ≡ Ok
-    (string j w content, x)
+    → HeadFits w (length content) → chunk_tree_by k (starts_string j w) (32 * kind_major j
+    + additional w (length content)) (bytes_high_first (byte_count w) (length content)
+    ++ (content ++ x)) ≡ Ok (string j w content, x)
 chunk_tree_by_again byte_string byte_string w content x e l =
     rw (string_again byte_string w content x l) refl
 chunk_tree_by_again text_string text_string w content x e l =
@@ -104,8 +96,7 @@ chunk_again k b bound (string j w content) x h lt =
       step_left b h.2,
       initial_string j (length content) w h.0,
       append_assoc (bytes_high_first (byte_count w) (length content)) content x,
-    )
-    (chunk_tree_by_again j k w content x h.1 h.0)
+    ) (chunk_tree_by_again j k w content x h.1 h.0)
 chunk_again k b bound (int s n w) x h lt = absurd h.1
 chunk_again k b bound (chunked j ts) x h lt = absurd h.1
 chunk_again k b bound (array w ts) x h lt = absurd h.1
@@ -157,9 +148,8 @@ chunk_sound k budget (b ∷ bs) p h e =
     (means b h.0) h.1 t.2
 
 same_chunk_err : (k : Kind) (w : Width) (b : ℕ) (bs : List ℕ) (e : InputError) (rest : List ℕ)
-    → HeadByte (kind_major k) w b → IsBytes bs
-    → (definite_string_at k w b bs >>= λ q. Ok (string k w q.0, q.1)) ≡ Err (e, rest)
-    → CutString k w b bs e rest
+    → HeadByte (kind_major k) w b → IsBytes bs → (definite_string_at k w b bs >>= λ q. Ok
+    (string k w q.0, q.1)) ≡ Err (e, rest) → CutString k w b bs e rest
 same_chunk_err k w b bs e rest m h x =
     elim (bind_err (definite_string_at k w b bs) (λ q. Ok (string k w q.0, q.1)) (e, rest) x)
     [ inl g ↦ string_errs k w b bs e rest m h g | inr g ↦ absurd (no_err _ _ g.2) ]
@@ -195,8 +185,7 @@ chunk_errs k budget bound (b ∷ bs) e rest h lt x =
     (λ inner is y. chunk_tree_by_err k (initial b) b bs e rest (means b h.0) h.1 y) x
 
 chunk_tree_by_rejects : (k : Kind) (i : Initial) (b : ℕ) (bs : List ℕ) (e : InputError)
-    (rest : List ℕ)
-    → ChunkRejectsBy k i b bs e rest → chunk_tree_by k i b bs ≡ Err (e, rest)
+    (rest : List ℕ) → ChunkRejectsBy k i b bs e rest → chunk_tree_by k i b bs ≡ Err (e, rest)
 chunk_tree_by_rejects byte_string (starts_string byte_string w) b bs e rest s =
     then_err (definite_string_at byte_string w b bs) _ (e, rest)
     (string_rejects byte_string w b bs e rest s)

@@ -2,27 +2,21 @@
 -- skipped, and reads back.
 use Rattle.std.proofs.Common.{◌≡◌, ℕ, ◌<◌, ◌≤◌, ◌^◌, inl, inr, List, [], ◌++◌, length, None, refl}
 use Rattle.std.proofs.Common.{sym, ap, ◌∙◌, subst, append_assoc, append-nil, arith}
-use Rattle.cbor4ii_items.specs.Head.{IsBytes}
-use Rattle.cbor4ii_tree.specs.Tree.{Tree, bytes, Loose, Joins}
-use Rattle.cbor4ii_tree.specs.Item.{Item, IsItem}
-use Rattle.cbor4ii_tree.specs.Meaning.{value}
-use Rattle.cbor4ii_items.specs.Budget.{CostFits}
-use Rattle.cbor4ii_items.specs.Laws.SequenceParts.{fits_less}
-use Rattle.cbor4ii_tree.specs.Cost.{Budget, skip_cost, cost}
-use Rattle.cbor4ii_tree.specs.Canonical.{canonical_encoding, canonical_cost, with_bignums}
-use Rattle.cbor4ii_tree.specs.InputError.{InputError, eof, mismatch, unsupported, require_length}
-use Rattle.cbor4ii_tree.specs.InputError.{require_utf8, depth_overflow, Len, IsEof, IsFinal}
-use Rattle.cbor4ii_tree.specs.Encodings.{Encodes, DecodesTo, Skips, IsProperPrefix}
-use Rattle.cbor4ii_tree.specs.ReadingRejects.{ReadingRejects}
+use Rattle.cbor4ii_items.specs.{Budget.CostFits, Head.IsBytes, Laws.SequenceParts.fits_less}
+use Rattle.cbor4ii_tree.proofs.{encodings.Sizes.IsItem-value, parts.Prefixes.whole_bytes}
+use Rattle.cbor4ii_tree.proofs.{reading.Prefixes.reading_prefix, reading.Widen.reading_persists}
 use Rattle.cbor4ii_tree.proofs.encodings.Canonical.{canonical_encodes, with_bignums-value}
 use Rattle.cbor4ii_tree.proofs.encodings.Costs.{skip_cost-le, cost-canonical_encoding}
-use Rattle.cbor4ii_tree.proofs.parts.Prefixes.{whole_bytes}
+use Rattle.cbor4ii_tree.proofs.{parts.Rejecting.skips_by, reading.Answer.{some_reading, not_both}}
+use Rattle.cbor4ii_tree.proofs.{reading.Widen.reading_unbounded, skipping.Laws.final_only}
 use Rattle.cbor4ii_tree.proofs.skipping.Laws.{none_left}
-use Rattle.cbor4ii_tree.proofs.reading.Answer.{some_reading, not_both}
-use Rattle.cbor4ii_tree.proofs.reading.Prefixes.{reading_prefix}
-use Rattle.cbor4ii_tree.proofs.reading.Widen.{reading_persists, reading_unbounded}
-use Rattle.cbor4ii_tree.proofs.encodings.Sizes.{IsItem-value}
-use Rattle.cbor4ii_tree.specs.Laws.Ignoring.{one_encoding}
+use Rattle.cbor4ii_tree.specs.{Item.IsItem, Laws.Ignoring.one_encoding, Meaning.value}
+use Rattle.cbor4ii_tree.specs.Canonical.{canonical_encoding, canonical_cost, with_bignums}
+use Rattle.cbor4ii_tree.specs.{Cost.{Budget, skip_cost, cost}, Encodings.{Encodes, DecodesTo}}
+use Rattle.cbor4ii_tree.specs.{Encodings.{Skips, IsProperPrefix}, InputError.{InputError, eof}}
+use Rattle.cbor4ii_tree.specs.InputError.{mismatch, unsupported, require_length, require_utf8}
+use Rattle.cbor4ii_tree.specs.{InputError.{depth_overflow, Len, IsEof, IsFinal}, Item.Item}
+use Rattle.cbor4ii_tree.specs.{ReadingRejects.ReadingRejects, Tree.{Tree, bytes, Loose, Joins}}
 
 abbrev RejectsAtEnd : List ℕ → Budget → Type 0
 RejectsAtEnd prefix budget =
@@ -49,9 +43,8 @@ by_error prefix back budget v e rest h s rejects =
 
 -- a proper prefix of an encoding that fits fails with Eof
 pub prefix_rejects : (encoding : List ℕ) (v : Item) (steps : ℕ) (prefix : List ℕ) (budget : Budget)
-    → Encodes encoding v steps → CostFits steps budget → IsProperPrefix prefix encoding →
-    IsBytes prefix
-    → RejectsAtEnd prefix budget
+    → Encodes encoding v steps → CostFits steps budget → IsProperPrefix prefix encoding
+    → IsBytes prefix → RejectsAtEnd prefix budget
 prefix_rejects encoding v steps prefix budget s f p h =
     let back : List ℕ = p.0 in
     let t : Tree = s.of_tree in
@@ -76,9 +69,8 @@ prefix_rejects encoding v steps prefix budget s f p h =
     ]
 
 pub eof_on_prefix : (input : List ℕ) (budget : Budget) (name : List ℕ) (expect : Len)
-    (rest : List ℕ)
-    → IsBytes input → ReadingRejects input budget (eof name expect) rest
-    → (t : Tree) × Loose t × Joins t × IsBytes (bytes t) × IsProperPrefix input (bytes t)
+    (rest : List ℕ) → IsBytes input → ReadingRejects input budget (eof name expect) rest →
+    (t : Tree) × Loose t × Joins t × IsBytes (bytes t) × IsProperPrefix input (bytes t)
 eof_on_prefix input budget name expect rest h s =
     let f = (reading_prefix input budget (eof name expect) rest h tt s).0 in (
       f.whole,
@@ -109,28 +101,14 @@ unbounded input budget v x s = record {
 pub final_stays : (input more : List ℕ) (budget other : Budget) (e : InputError) (rest : List ℕ)
     (v : Item) (x : List ℕ) → IsFinal e → ReadingRejects input budget e rest
     → DecodesTo (input ++ more) other v x → ⊥
-final_stays input more budget other (mismatch name b) rest v x h rejects s =
-    not_both (input ++ more) None v x (mismatch name b) (rest ++ more)
-    (unbounded (input ++ more) other v x s)
-    (reading_unbounded input budget (mismatch name b) rest (λ y. y) (λ y. y) more rejects)
-final_stays input more budget other (unsupported name b) rest v x h rejects s =
-    not_both (input ++ more) None v x (unsupported name b) (rest ++ more)
-    (unbounded (input ++ more) other v x s)
-    (reading_unbounded input budget (unsupported name b) rest (λ y. y) (λ y. y) more rejects)
-final_stays input more budget other (require_length name n) rest v x h rejects s =
-    not_both (input ++ more) None v x (require_length name n) (rest ++ more)
-    (unbounded (input ++ more) other v x s)
-    (reading_unbounded input budget (require_length name n) rest (λ y. y) (λ y. y) more rejects)
-final_stays input more budget other (require_utf8 name) rest v x h rejects s =
-    not_both (input ++ more) None v x (require_utf8 name) (rest ++ more)
-    (unbounded (input ++ more) other v x s)
-    (reading_unbounded input budget (require_utf8 name) rest (λ y. y) (λ y. y) more rejects)
-final_stays input more budget other _ rest v x h rejects s = absurd h
+final_stays input more budget other e rest v x h rejects s =
+    let only = final_only e h in
+    not_both (input ++ more) None v x e (rest ++ more) (unbounded (input ++ more) other v x s)
+    (reading_unbounded input budget e rest only.0 only.1 more rejects)
 
 -- one input has one encoding of one value at one cost
-pub one_encoded : (s t : List ℕ) (v w : Item) (c d : ℕ) (x y : List ℕ) → Encodes s v c →
-    Encodes t w d
-    → s ++ x ≡ t ++ y → (s ≡ t) × (v ≡ w) × (c ≡ d) × (x ≡ y)
+pub one_encoded : (s t : List ℕ) (v w : Item) (c d : ℕ) (x y : List ℕ) → Encodes s v c
+    → Encodes t w d → s ++ x ≡ t ++ y → (s ≡ t) × (v ≡ w) × (c ≡ d) × (x ≡ y)
 one_encoded s t v w c d x y p q e =
     let same = one_encoding p.of_tree q.of_tree x y p.plain.0 q.plain.0
     (ap (λ r. r ++ x) p.bytes_are ∙ e ∙ ap (λ r. r ++ y) (sym q.bytes_are)) in (
@@ -148,13 +126,8 @@ skips_what_reads input budget v rest r =
     let s = r.encodes in
     let fits : CostFits (cost s.of_tree) budget = rw s.cost_is r.fits in (
       s.of_tree,
-      record {
-        loose = s.plain.0;
-        fits =
-            fits_less (skip_cost s.of_tree)
-            (cost s.of_tree) budget (skip_cost-le s.of_tree s.plain.1) fits;
-        begins = r.begins ∙ ap (λ x. x ++ rest) (sym s.bytes_are);
-      },
+      (skips_by s.plain.0 (fits_less (skip_cost s.of_tree) (cost s.of_tree) budget (skip_cost-le
+          s.of_tree s.plain.1) fits) (r.begins ∙ ap (λ x. x ++ rest) (sym s.bytes_are))),
     )
 
 -- ---- the canonical encoding
@@ -167,9 +140,8 @@ encoded_has_bignums encoding v steps s =
 pub canonical_costs_least : (encoding : List ℕ) (v : Item) (steps : ℕ) → Encodes encoding v steps
     → canonical_cost v ≤ steps
 canonical_costs_least encoding v steps s =
-    subst (λ w. canonical_cost w ≤ steps) s.value_is
-    (subst (λ c. canonical_cost (value s.of_tree) ≤ c) s.cost_is
-    (cost-canonical_encoding s.of_tree s.plain.0))
+    subst (λ w. canonical_cost w ≤ steps) s.value_is (subst (λ c. canonical_cost (value s.of_tree)
+    ≤ c) s.cost_is (cost-canonical_encoding s.of_tree s.plain.0))
 
 pub reads_back : (encoding : List ℕ) (v : Item) (steps : ℕ) (budget : Budget) (more : List ℕ)
     → IsItem v → Encodes encoding v steps → CostFits steps budget
@@ -178,9 +150,8 @@ reads_back encoding v steps budget more h s f = record {
   encoding = canonical_encoding v;
   steps = canonical_cost v;
   encodes =
-      subst (λ w. Encodes (canonical_encoding v) w (canonical_cost v))
-      (encoded_has_bignums encoding v steps s)
-      (canonical_encodes v h);
+      subst (λ w. Encodes (canonical_encoding v) w (canonical_cost v)) (encoded_has_bignums encoding
+      v steps s) (canonical_encodes v h);
   fits = fits_less (canonical_cost v) steps budget (canonical_costs_least encoding v steps s) f;
   begins = refl;
 }

@@ -3,38 +3,32 @@ use Rattle.std.proofs.Common.{◌≡◌, ℕ, zero, suc, ◌*◌, ◌<◌, inl, 
 use Rattle.std.proofs.Common.{Ok, Err, sym, ap, ◌∙◌, arith, true, false, Bool, append_assoc}
 use Rattle.std.proofs.lemmas.Str.{is_utf8-from_IsUtf8}
 use Rattle.std.specs.Str.{is_utf8}
-use Rattle.cbor4ii_items.specs.Head.{Width, break, IsBytes}
-use Rattle.cbor4ii_items.specs.Initial.{Kind, byte_string, text_string, kind_major, precision_bytes}
-use Rattle.cbor4ii_items.specs.Initial.{Initial, starts_int, bad_int, starts_string, starts_chunks}
+use Rattle.cbor4ii_items.specs.{Head.{Width, break, IsBytes}, Initial.{Kind, byte_string}}
+use Rattle.cbor4ii_items.specs.Initial.{text_string, kind_major, precision_bytes, Initial}
+use Rattle.cbor4ii_items.specs.Initial.{starts_int, bad_int, starts_string, starts_chunks}
 use Rattle.cbor4ii_items.specs.Initial.{bad_string, starts_array, starts_indefinite_array}
-use Rattle.cbor4ii_items.specs.Initial.{bad_array}
-use Rattle.cbor4ii_items.specs.Initial.{starts_map, starts_indefinite_map, bad_map, starts_tag}
-use Rattle.cbor4ii_items.specs.Initial.{bad_tag}
-use Rattle.cbor4ii_items.specs.Initial.{starts_simple, starts_bits, other_simple, initial}
-use Rattle.cbor4ii_tree.specs.Tree.{Tree, int, string, chunked, array, array_indefinite, map_of}
-use Rattle.cbor4ii_tree.specs.Tree.{map_indefinite}
-use Rattle.cbor4ii_tree.specs.Tree.{tagged, bits, joined_chunks, bytes_all}
-use Rattle.cbor4ii_tree.specs.Cost.{Budget, step_in}
-use Rattle.cbor4ii_tree.specs.InputError.{InputError, require_utf8, sign_name, kind_name}
-use Rattle.cbor4ii_tree.specs.InputError.{precision_name}
-use Rattle.cbor4ii_tree.specs.InputError.{array_name, map_name, tag_name, value_name}
-use Rattle.cbor4ii_tree.specs.Rejections.{Stopping, Is, AtHead, AfterHead, RejectsInCount}
-use Rattle.cbor4ii_tree.specs.Rejections.{IndefiniteItems}
-use Rattle.cbor4ii_tree.specs.Rejections.{IndefinitePairs}
-use Rattle.cbor4ii_tree.specs.ReadingRejects.{Readable, ReadableChunk, IsNoUtf8, NoUtf8}
-use Rattle.cbor4ii_tree.specs.ReadingRejects.{ChunkRejects}
-use Rattle.cbor4ii_tree.specs.ReadingRejects.{ReadingRejectsBy, ReadingRejectsFrom}
-use Rattle.cbor4ii_tree.specs.ReadingRejects.{ReadingRejectsWithin}
+use Rattle.cbor4ii_items.specs.Initial.{bad_array, starts_map, starts_indefinite_map, bad_map}
+use Rattle.cbor4ii_items.specs.Initial.{starts_tag, bad_tag, starts_simple, starts_bits}
+use Rattle.cbor4ii_items.specs.Initial.{other_simple, initial}
+use Rattle.cbor4ii_tree.specs.{Cost.{Budget, step_in}, InputError.{InputError, require_utf8}}
+use Rattle.cbor4ii_tree.specs.InputError.{sign_name, kind_name, precision_name, array_name}
+use Rattle.cbor4ii_tree.specs.{InputError.{map_name, tag_name, value_name}, Laws.Binds.bind_ok}
+use Rattle.cbor4ii_tree.specs.Laws.Binds.{bind_err, no_err, is_err, chosen, stepped_err}
 use Rattle.cbor4ii_tree.specs.Parse.{Parser, ◌>>=◌, prefix_at, number_at, argument_of_width}
 use Rattle.cbor4ii_tree.specs.Parse.{trees_at, pairs_at, indefinite_trees_at, indefinite_pairs_at}
 use Rattle.cbor4ii_tree.specs.Read.{tested, definite_string_at, chunk_tree_at, read_by, read_from}
-use Rattle.cbor4ii_tree.specs.Read.{read_within}
-use Rattle.cbor4ii_tree.specs.Laws.Binds.{bind_ok, bind_err, no_err, is_err, chosen, stepped_err}
-use Rattle.cbor4ii_tree.proofs.heads.Inverse.{prefix_inverse}
-use Rattle.cbor4ii_tree.proofs.heads.Means.{HeadByte, Means, means, argument_inverse}
+use Rattle.cbor4ii_tree.specs.{Read.read_within, ReadingRejects.{Readable, ReadableChunk, IsNoUtf8}}
+use Rattle.cbor4ii_tree.specs.ReadingRejects.{NoUtf8, ChunkRejects, ReadingRejectsBy}
+use Rattle.cbor4ii_tree.specs.ReadingRejects.{ReadingRejectsFrom, ReadingRejectsWithin}
+use Rattle.cbor4ii_tree.specs.Rejections.{Stopping, Is, AtHead, AfterHead, RejectsInCount}
+use Rattle.cbor4ii_tree.specs.{Rejections.{IndefiniteItems, IndefinitePairs}, Tree.{Tree, int}}
+use Rattle.cbor4ii_tree.specs.Tree.{string, chunked, array, array_indefinite, map_of}
+use Rattle.cbor4ii_tree.specs.Tree.{map_indefinite, tagged, bits, joined_chunks, bytes_all}
+use Rattle.cbor4ii_tree.proofs.{heads.Inverse.prefix_inverse, heads.Means.{HeadByte, Means, means}}
+use Rattle.cbor4ii_tree.proofs.{heads.Means.argument_inverse, parts.Reject.{Complete, number_err}}
+use Rattle.cbor4ii_tree.proofs.parts.Reject.{argument_err, at_head, trees_err, pairs_err}
+use Rattle.cbor4ii_tree.proofs.parts.Reject.{indefinite_trees_err, indefinite_pairs_err}
 use Rattle.cbor4ii_tree.proofs.parts.Sound.{IsSound, indefinite_trees_sound}
-use Rattle.cbor4ii_tree.proofs.parts.Reject.{Complete, number_err, argument_err, at_head, trees_err}
-use Rattle.cbor4ii_tree.proofs.parts.Reject.{pairs_err, indefinite_trees_err, indefinite_pairs_err}
 use Rattle.cbor4ii_tree.proofs.reading.Chunks.{string_errs, chunk_sound, chunk_errs}
 use Rattle.cbor4ii_tree.proofs.reading.Sound.{read_sound}
 
@@ -81,10 +75,9 @@ no_utf8 k w b bs p e rest m h x y =
 
 by_err : (item : Budget → Parser Tree) (budget : Budget) (rejects : Budget → Stopping) (bound : ℕ)
     → ((c : Budget) → IsSound (item c) (Readable c))
-    → ((c : Budget) → Complete (item c) (rejects c) bound)
-    → (i : Initial) (b : ℕ) (bs : List ℕ) (e : InputError) (rest : List ℕ)
-    → Means b i → IsBytes bs → length bs < bound → read_by item budget i b bs ≡ Err (e, rest)
-    → ReadingRejectsBy rejects budget i b bs e rest
+    → ((c : Budget) → Complete (item c) (rejects c) bound) → (i : Initial) (b : ℕ) (bs : List ℕ)
+    (e : InputError) (rest : List ℕ) → Means b i → IsBytes bs → length bs < bound
+    → read_by item budget i b bs ≡ Err (e, rest) → ReadingRejectsBy rejects budget i b bs e rest
 by_err item budget rejects bound s r (starts_int sg w) b bs e rest m h lt x =
     elim (bind_err (argument_of_width (sign_name sg) w b bs) (λ n. Ok (int sg n.0 w, n.1))
     (e, rest) x) [
@@ -103,9 +96,8 @@ by_err item budget rejects bound s r (starts_chunks k) b bs e rest m h lt x =
     (λ q. tested k (joined_chunks q.0) (chunked k q.0) q.1) (e, rest) x) [
       | inl g ↦ inl
           (indefinite_trees_err (chunk_tree_at k budget) (ReadableChunk k budget)
-          (ChunkRejects k budget)
-          (suc (length bs)) (chunk_sound k budget) (chunk_errs k budget (suc (length bs)))
-          (suc (length bs)) bs e rest h (omega arith) (omega arith) g)
+          (ChunkRejects k budget) (suc (length bs)) (chunk_sound k budget) (chunk_errs k budget
+          (suc (length bs))) (suc (length bs)) bs e rest h (omega arith) (omega arith) g)
       | inr g ↦
           let all = indefinite_trees_sound (chunk_tree_at k budget) (ReadableChunk k budget)
           (chunk_sound k budget) (suc (length bs)) bs g.0 h g.1 in
@@ -123,13 +115,12 @@ by_err item budget rejects bound s r (starts_chunks k) b bs e rest m h lt x =
 by_err item budget rejects bound s r (bad_string k) b bs e rest m h lt x =
     is_err {A = Tree} _ _ _ _ x
 by_err item budget rejects bound s r (starts_array w) b bs e rest m h lt x =
-    stepped_err {A = Tree} array_name (step_in budget) (b ∷ bs)
-    (λ inner. argument_of_width array_name w b bs >>= λ n. trees_at (item inner) n.0 n.1
-    >>= λ q. Ok (array w q.0, q.1))
+    stepped_err {A = Tree} array_name (step_in budget) (b ∷ bs) (λ inner. argument_of_width
+    array_name w b bs >>= λ n. trees_at (item inner) n.0 n.1 >>= λ q. Ok (array w q.0, q.1))
     (λ inner. AtHead array_name 4 w b (RejectsInCount (Readable inner) (rejects inner)) bs) e rest
-    (λ inner is z. at_head {A = Tree} array_name 4 w b bs
-    (λ n. trees_at (item inner) n.0 n.1 >>= λ q. Ok (array w q.0, q.1))
-    (RejectsInCount (Readable inner) (rejects inner)) e rest h m (λ n more le y.
+    (λ inner is z. at_head {A = Tree} array_name 4 w b bs (λ n. trees_at (item inner) n.0 n.1
+    >>= λ q. Ok (array w q.0, q.1)) (RejectsInCount (Readable inner) (rejects inner)) e rest h m
+    (λ n more le y.
     elim (bind_err {B = Tree} (trees_at (item inner) n.0 n.1) (λ q. Ok (array w q.0, q.1))
     (e, rest) y) [
       | inl g ↦ trees_err (item inner) (Readable inner)
@@ -137,28 +128,25 @@ by_err item budget rejects bound s r (starts_array w) b bs e rest m h lt x =
       | inr g ↦ absurd (no_err _ _ g.2)
     ]) z) x
 by_err item budget rejects bound s r starts_indefinite_array b bs e rest m h lt x =
-    stepped_err {A = Tree} array_name (step_in budget) (b ∷ bs)
-    (λ inner. indefinite_trees_at (item inner) (suc (length bs)) bs >>= λ q. Ok
-    (array_indefinite q.0, q.1))
-    (λ inner. IndefiniteItems (Readable inner) (rejects inner) bs) e rest (λ inner is z.
+    stepped_err {A = Tree} array_name (step_in budget) (b ∷ bs) (λ inner. indefinite_trees_at
+    (item inner) (suc (length bs)) bs >>= λ q. Ok (array_indefinite q.0, q.1)) (λ inner.
+    IndefiniteItems (Readable inner) (rejects inner) bs) e rest (λ inner is z.
     elim (bind_err {B = Tree} (indefinite_trees_at (item inner) (suc (length bs)) bs)
     (λ q. Ok (array_indefinite q.0, q.1)) (e, rest) z) [
       | inl g ↦ indefinite_trees_err (item inner) (Readable inner) (rejects inner) bound (s inner)
-          (r inner)
-          (suc (length bs)) bs e rest h lt (omega arith) g
+          (r inner) (suc (length bs)) bs e rest h lt (omega arith) g
       | inr g ↦ absurd (no_err _ _ g.2)
     ]) x
 by_err item budget rejects bound s r bad_array b bs e rest m h lt x =
     stepped_err {A = Tree} array_name (step_in budget) (b ∷ bs) (λ inner. Err _)
     (λ inner. Is _ bs) e rest (λ inner is z. is_err {A = Tree} _ _ _ _ z) x
 by_err item budget rejects bound s r (starts_map w) b bs e rest m h lt x =
-    stepped_err {A = Tree} map_name (step_in budget) (b ∷ bs)
-    (λ inner. argument_of_width map_name w b bs >>= λ n. pairs_at (item inner) n.0 n.1
-    >>= λ q. Ok (map_of w q.0, q.1)) (λ inner. AtHead map_name 5 w b
-    (λ n. RejectsInCount (Readable inner) (rejects inner) (2 * n)) bs) e rest
-    (λ inner is z. at_head {A = Tree} map_name 5 w b bs
-    (λ n. pairs_at (item inner) n.0 n.1 >>= λ q. Ok (map_of w q.0, q.1))
-    (λ n. RejectsInCount (Readable inner) (rejects inner) (2 * n)) e rest h m (λ n more le y.
+    stepped_err {A = Tree} map_name (step_in budget) (b ∷ bs) (λ inner. argument_of_width map_name w
+    b bs >>= λ n. pairs_at (item inner) n.0 n.1 >>= λ q. Ok (map_of w q.0, q.1)) (λ inner. AtHead
+    map_name 5 w b (λ n. RejectsInCount (Readable inner) (rejects inner) (2 * n)) bs) e rest
+    (λ inner is z. at_head {A = Tree} map_name 5 w b bs (λ n. pairs_at (item inner) n.0 n.1 >>= λ q.
+    Ok (map_of w q.0, q.1)) (λ n. RejectsInCount (Readable inner) (rejects inner) (2 * n)) e rest h
+    m (λ n more le y.
     elim (bind_err {B = Tree} (pairs_at (item inner) n.0 n.1) (λ q. Ok (map_of w q.0, q.1))
     (e, rest) y) [
       | inl g ↦ pairs_err (item inner) (Readable inner)
@@ -166,15 +154,13 @@ by_err item budget rejects bound s r (starts_map w) b bs e rest m h lt x =
       | inr g ↦ absurd (no_err _ _ g.2)
     ]) z) x
 by_err item budget rejects bound s r starts_indefinite_map b bs e rest m h lt x =
-    stepped_err {A = Tree} map_name (step_in budget) (b ∷ bs)
-    (λ inner. indefinite_pairs_at (item inner) (suc (length bs)) bs >>= λ q. Ok
-    (map_indefinite q.0, q.1))
-    (λ inner. IndefinitePairs (Readable inner) (rejects inner) bs) e rest (λ inner is z.
+    stepped_err {A = Tree} map_name (step_in budget) (b ∷ bs) (λ inner. indefinite_pairs_at
+    (item inner) (suc (length bs)) bs >>= λ q. Ok (map_indefinite q.0, q.1)) (λ inner.
+    IndefinitePairs (Readable inner) (rejects inner) bs) e rest (λ inner is z.
     elim (bind_err {B = Tree} (indefinite_pairs_at (item inner) (suc (length bs)) bs)
     (λ q. Ok (map_indefinite q.0, q.1)) (e, rest) z) [
       | inl g ↦ indefinite_pairs_err (item inner) (Readable inner) (rejects inner) bound (s inner)
-          (r inner)
-          (suc (length bs)) bs e rest h lt (omega arith) g
+          (r inner) (suc (length bs)) bs e rest h lt (omega arith) g
       | inr g ↦ absurd (no_err _ _ g.2)
     ]) x
 by_err item budget rejects bound s r bad_map b bs e rest m h lt x =
@@ -198,9 +184,8 @@ by_err item budget rejects bound s r other_simple b bs e rest m h lt x = is_err 
 
 from_err : (item : Budget → Parser Tree) (budget : Budget) (rejects : Budget → Stopping) (bound : ℕ)
     → ((c : Budget) → IsSound (item c) (Readable c))
-    → ((c : Budget) → Complete (item c) (rejects c) bound)
-    → (bs : List ℕ) (e : InputError) (rest : List ℕ)
-    → IsBytes bs → length bs < suc bound → read_from item budget bs ≡ Err (e, rest)
+    → ((c : Budget) → Complete (item c) (rejects c) bound) → (bs : List ℕ) (e : InputError)
+    (rest : List ℕ) → IsBytes bs → length bs < suc bound → read_from item budget bs ≡ Err (e, rest)
     → ReadingRejectsFrom rejects budget bs e rest
 from_err item budget rejects bound s r [] e rest h lt x = is_err {A = Tree} _ _ _ _ x
 from_err item budget rejects bound s r (b ∷ bs) e rest h lt x =

@@ -3,37 +3,32 @@ use Rattle.std.proofs.Common.{◌≡◌, ℕ, zero, suc, ◌+◌, List, [], ◌�
 use Rattle.std.proofs.Common.{sym, ap, ap₂, subst, arith, inl, inr}
 use Rattle.std.proofs.lemmas.Str.{IsUtf8-from_is_utf8}
 use Rattle.std.specs.Str.{is_utf8}
-use Rattle.cbor4ii_items.specs.Head.{HeadFits, IsBytes}
-use Rattle.cbor4ii_items.specs.Initial.{sign_major, Kind, byte_string, text_string, precision_bytes}
-use Rattle.cbor4ii_items.specs.Initial.{Initial, starts_int, bad_int, starts_string, starts_chunks}
+use Rattle.cbor4ii_items.specs.{Budget.CostFits, Head.{HeadFits, IsBytes}, Initial.sign_major}
+use Rattle.cbor4ii_items.specs.Initial.{Kind, byte_string, text_string, precision_bytes, Initial}
+use Rattle.cbor4ii_items.specs.Initial.{starts_int, bad_int, starts_string, starts_chunks}
 use Rattle.cbor4ii_items.specs.Initial.{bad_string, starts_array, starts_indefinite_array}
-use Rattle.cbor4ii_items.specs.Initial.{bad_array}
-use Rattle.cbor4ii_items.specs.Initial.{starts_map, starts_indefinite_map, bad_map, starts_tag}
-use Rattle.cbor4ii_items.specs.Initial.{bad_tag}
-use Rattle.cbor4ii_items.specs.Initial.{starts_simple, starts_bits, other_simple, initial}
-use Rattle.cbor4ii_tree.specs.Tree.{Tree, int, string, chunked, array, array_indefinite, map_of}
-use Rattle.cbor4ii_tree.specs.Tree.{map_indefinite}
-use Rattle.cbor4ii_tree.specs.Tree.{tagged, simple, bits, Trees, no_trees, tree, count, pair_count}
-use Rattle.cbor4ii_tree.specs.Tree.{bytes, bytes_all, bytes_pairs, joined_chunks, TextIsUtf8}
-use Rattle.cbor4ii_items.specs.Budget.{CostFits}
-use Rattle.cbor4ii_items.specs.Laws.Answering.{fits_zero}
+use Rattle.cbor4ii_items.specs.Initial.{bad_array, starts_map, starts_indefinite_map, bad_map}
+use Rattle.cbor4ii_items.specs.Initial.{starts_tag, bad_tag, starts_simple, starts_bits}
+use Rattle.cbor4ii_items.specs.{Initial.{other_simple, initial}, Laws.Answering.fits_zero}
 use Rattle.cbor4ii_items.specs.Laws.SequenceParts.{fits_less}
-use Rattle.cbor4ii_tree.specs.Cost.{Budget, step_in, chunks_cost}
-use Rattle.cbor4ii_tree.specs.InputError.{sign_name, precision_name, array_name, map_name, tag_name}
-use Rattle.cbor4ii_tree.specs.InputError.{value_name}
-use Rattle.cbor4ii_tree.specs.Rejections.{Each}
-use Rattle.cbor4ii_tree.specs.ReadingRejects.{Readable, ReadableChunk}
-use Rattle.cbor4ii_tree.specs.Parse.{Parser, ◌>>=◌, number_at, argument_of_width, trees_at}
-use Rattle.cbor4ii_tree.specs.Parse.{pairs_at, indefinite_trees_at, indefinite_pairs_at}
-use Rattle.cbor4ii_tree.specs.Read.{tested, definite_string_at, chunk_tree_at, read_by, read_from}
-use Rattle.cbor4ii_tree.specs.Read.{read_within}
-use Rattle.cbor4ii_tree.specs.Laws.Binds.{bind_ok, same_ok, no_ok, chosen, stepped_ok, step_up}
-use Rattle.cbor4ii_tree.proofs.heads.Inverse.{number_inverse}
-use Rattle.cbor4ii_tree.proofs.heads.Means.{Means, means, argument_inverse}
-use Rattle.cbor4ii_tree.proofs.parts.Sound.{Took, IsSound, trees_sound, pairs_sound}
-use Rattle.cbor4ii_tree.proofs.parts.Sound.{indefinite_trees_sound, indefinite_pairs_sound, counted}
-use Rattle.cbor4ii_tree.specs.Laws.Wholes.{all_readable, all_pairs_readable, all_chunks}
+use Rattle.cbor4ii_tree.proofs.{heads.Inverse.number_inverse, heads.Means.{Means, means}}
+use Rattle.cbor4ii_tree.proofs.{heads.Means.argument_inverse, parts.Sound.{took, Took, IsSound}}
+use Rattle.cbor4ii_tree.proofs.parts.Sound.{trees_sound, pairs_sound, indefinite_trees_sound}
+use Rattle.cbor4ii_tree.proofs.parts.Sound.{indefinite_pairs_sound, counted}
 use Rattle.cbor4ii_tree.proofs.reading.Chunks.{string_sound, chunk_sound}
+use Rattle.cbor4ii_tree.specs.{Cost.{Budget, step_in, chunks_cost}, InputError.sign_name}
+use Rattle.cbor4ii_tree.specs.InputError.{precision_name, array_name, map_name, tag_name}
+use Rattle.cbor4ii_tree.specs.{InputError.value_name, Laws.Binds.{bind_ok, same_ok, no_ok, chosen}}
+use Rattle.cbor4ii_tree.specs.{Laws.Binds.{stepped_ok, step_up}, Laws.Wholes.all_readable}
+use Rattle.cbor4ii_tree.specs.{Laws.Wholes.{all_pairs_readable, all_chunks}, Parse.{Parser, ◌>>=◌}}
+use Rattle.cbor4ii_tree.specs.Parse.{number_at, argument_of_width, trees_at, pairs_at}
+use Rattle.cbor4ii_tree.specs.{Parse.{indefinite_trees_at, indefinite_pairs_at}, Read.tested}
+use Rattle.cbor4ii_tree.specs.Read.{definite_string_at, chunk_tree_at, read_by, read_from}
+use Rattle.cbor4ii_tree.specs.{Read.read_within, ReadingRejects.{Readable, ReadableChunk}}
+use Rattle.cbor4ii_tree.specs.{Rejections.Each, Tree.{Tree, int, string, chunked, array}}
+use Rattle.cbor4ii_tree.specs.Tree.{array_indefinite, map_of, map_indefinite, tagged, simple, bits}
+use Rattle.cbor4ii_tree.specs.Tree.{Trees, no_trees, tree, count, pair_count, bytes, bytes_all}
+use Rattle.cbor4ii_tree.specs.Tree.{bytes_pairs, joined_chunks, TextIsUtf8}
 
 -- a cost that fits two steps later
 up_two : (outer b inner : Budget) (c : ℕ) → ((d : ℕ) → CostFits d b → CostFits (1 + d) outer)
@@ -83,14 +78,11 @@ by_sound item b outer s up (starts_chunks k) a bs p m h e =
     (suc (length bs)) bs x.0 h x.1 in
     let test = tested_sound k (joined_chunks x.0.0) (chunked k x.0.0) x.0.1 p x.2 in
     let w = all_chunks k x.0.0 b all.whole in
-    subst (Took (Readable outer) (a ∷ bs)) test.1 (record {
-      whole = (
-        (w.0.0, (w.0.1, test.0)),
-        chunks_up k x.0.0 b outer up all.whole,
-      );
-      is = ap₂ ◌∷◌ m all.is;
-      more = all.more;
-    })
+    subst (Took (Readable outer) (a ∷ bs)) test.1 (took (
+      (w.0.0, (w.0.1, test.0)),
+      chunks_up k x.0.0
+          b outer up all.whole,
+    ) (ap₂ ◌∷◌ m all.is) all.more)
 by_sound item b outer s up (bad_string k) a bs p m h e = absurd (no_ok {A = Tree} _ p e)
 by_sound item b outer s up (starts_array w) a bs p m h e =
     let t = stepped_ok array_name (step_in b) (a ∷ bs) (λ inner. argument_of_width array_name w a bs
@@ -102,16 +94,12 @@ by_sound item b outer s up (starts_array w) a bs p m h e =
     let top = argument_inverse array_name 4 x.0.0 w a bs x.0.1 h m x.1 in
     let all = trees_sound (item inner) (Readable inner) (s inner) x.0.0 x.0.1 y.0 top.more y.1 in
     let each = all_readable y.0.0 inner all.whole in
-    subst (Took (Readable outer) (a ∷ bs)) (same_ok _ (array w y.0.0, y.0.1) p refl y.2) (record {
-      whole = (
-        ((subst (HeadFits w) (sym all.number) top.fits, each.0.0), each.0.1),
-        up_two outer b inner _ up t.1 each.1,
-      );
-      is =
-          counted 4 x.0.0 (count y.0.0) w a bs x.0.1 (bytes_all y.0.0) y.0.1 top.is all.number
-          all.is;
-      more = all.more;
-    })
+    subst (Took (Readable outer) (a ∷ bs)) (same_ok _ (array w y.0.0, y.0.1) p refl y.2) (took (
+      ((subst (HeadFits w) (sym all.number) top.fits, each.0.0), each.0.1),
+      up_two outer b inner _ up
+          t.1 each.1,
+    ) (counted 4 x.0.0 (count y.0.0) w a bs x.0.1 (bytes_all y.0.0) y.0.1 top.is
+    all.number all.is) all.more)
 by_sound item b outer s up starts_indefinite_array a bs p m h e =
     let t = stepped_ok array_name (step_in b) (a ∷ bs) (λ inner. indefinite_trees_at (item inner)
     (suc (length bs)) bs >>= λ q. Ok (array_indefinite q.0, q.1)) p e in
@@ -122,11 +110,7 @@ by_sound item b outer s up starts_indefinite_array a bs p m h e =
     indefinite_trees_sound (item inner) (Readable inner) (s inner) (suc (length bs)) bs y.0 h y.1 in
     let each = all_readable y.0.0 inner all.whole in
     subst (Took (Readable outer) (a ∷ bs)) (same_ok _ (array_indefinite y.0.0, y.0.1) p refl y.2)
-    (record {
-      whole = ((each.0.0, each.0.1), up_two outer b inner _ up t.1 each.1);
-      is = ap₂ ◌∷◌ m all.is;
-      more = all.more;
-    })
+    (took ((each.0.0, each.0.1), up_two outer b inner _ up t.1 each.1) (ap₂ ◌∷◌ m all.is) all.more)
 by_sound item b outer s up bad_array a bs p m h e =
     let t = stepped_ok {A = Tree} array_name (step_in b) (a ∷ bs) (λ inner. Err _) p e in
     absurd (no_ok {A = Tree} _ p t.2)
@@ -140,16 +124,12 @@ by_sound item b outer s up (starts_map w) a bs p m h e =
     let top = argument_inverse map_name 5 x.0.0 w a bs x.0.1 h m x.1 in
     let all = pairs_sound (item inner) (Readable inner) (s inner) x.0.0 x.0.1 y.0 top.more y.1 in
     let each = all_pairs_readable y.0.0 inner all.whole in
-    subst (Took (Readable outer) (a ∷ bs)) (same_ok _ (map_of w y.0.0, y.0.1) p refl y.2) (record {
-      whole = (
-        ((subst (HeadFits w) (sym all.number) top.fits, each.0.0), each.0.1),
-        up_two outer b inner _ up t.1 each.1,
-      );
-      is =
-          counted 5 x.0.0 (pair_count y.0.0) w a bs x.0.1 (bytes_pairs y.0.0) y.0.1 top.is
-          all.number all.is;
-      more = all.more;
-    })
+    subst (Took (Readable outer) (a ∷ bs)) (same_ok _ (map_of w y.0.0, y.0.1) p refl y.2) (took (
+      ((subst (HeadFits w) (sym all.number) top.fits, each.0.0), each.0.1),
+      up_two outer b inner _ up
+          t.1 each.1,
+    ) (counted 5 x.0.0 (pair_count y.0.0) w a bs x.0.1 (bytes_pairs y.0.0) y.0.1 top.is
+    all.number all.is) all.more)
 by_sound item b outer s up starts_indefinite_map a bs p m h e =
     let t = stepped_ok map_name (step_in b) (a ∷ bs) (λ inner. indefinite_pairs_at (item inner)
     (suc (length bs)) bs >>= λ q. Ok (map_indefinite q.0, q.1)) p e in
@@ -160,11 +140,7 @@ by_sound item b outer s up starts_indefinite_map a bs p m h e =
     indefinite_pairs_sound (item inner) (Readable inner) (s inner) (suc (length bs)) bs y.0 h y.1 in
     let each = all_pairs_readable y.0.0 inner all.whole in
     subst (Took (Readable outer) (a ∷ bs)) (same_ok _ (map_indefinite y.0.0, y.0.1) p refl y.2)
-    (record {
-      whole = ((each.0.0, each.0.1), up_two outer b inner _ up t.1 each.1);
-      is = ap₂ ◌∷◌ m all.is;
-      more = all.more;
-    })
+    (took ((each.0.0, each.0.1), up_two outer b inner _ up t.1 each.1) (ap₂ ◌∷◌ m all.is) all.more)
 by_sound item b outer s up bad_map a bs p m h e =
     let t = stepped_ok {A = Tree} map_name (step_in b) (a ∷ bs) (λ inner. Err _) p e in
     absurd (no_ok {A = Tree} _ p t.2)
@@ -175,11 +151,8 @@ by_sound item b outer s up (starts_tag w) a bs p m h e =
     let top = argument_inverse tag_name 6 x.0.0 w a bs x.0.1 h m x.1 in
     let part = s b x.0.1 y.0 top.more y.1 in
     subst (Took (Readable outer) (a ∷ bs)) (same_ok _ (tagged x.0.0 w y.0.0, y.0.1) p refl y.2)
-    (record {
-      whole = (((top.fits, part.whole.0.0), part.whole.0.1), up _ part.whole.1);
-      is = counted 6 x.0.0 x.0.0 w a bs x.0.1 (bytes y.0.0) y.0.1 top.is refl part.is;
-      more = part.more;
-    })
+    (took (((top.fits, part.whole.0.0), part.whole.0.1), up _ part.whole.1) (counted 6 x.0.0 x.0.0 w
+    a bs x.0.1 (bytes y.0.0) y.0.1 top.is refl part.is) part.more)
 by_sound item b outer s up bad_tag a bs p m h e = absurd (no_ok {A = Tree} _ p e)
 by_sound item b outer s up (starts_simple v) a bs p m h e =
     subst (Took (Readable outer) (a ∷ bs)) (same_ok _ (simple v, bs) p refl e)
@@ -189,11 +162,7 @@ by_sound item b outer s up (starts_bits q) a bs p m h e =
     (λ n. Ok (bits q n.0, n.1)) p e in
     let whole = number_inverse (precision_name q) (precision_bytes q) x.0.0 bs x.0.1 h x.1 in
     subst (Took (Readable outer) (a ∷ bs)) (same_ok _ (bits q x.0.0, x.0.1) p refl x.2)
-    (record {
-      whole = ((whole.below, tt), up 0 (fits_zero b));
-      is = ap₂ ◌∷◌ m whole.is;
-      more = whole.more;
-    })
+    (took ((whole.below, tt), up 0 (fits_zero b)) (ap₂ ◌∷◌ m whole.is) whole.more)
 by_sound item b outer s up other_simple a bs p m h e = absurd (no_ok {A = Tree} _ p e)
 
 from_sound : (item : Budget → Parser Tree) (b outer : Budget)

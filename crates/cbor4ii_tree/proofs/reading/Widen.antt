@@ -1,26 +1,21 @@
 -- Where reading a value is rejected, it stays rejected.
 use Rattle.std.proofs.Common.{ℕ, zero, suc, ◌*◌, ◌≤◌, inl, inr, List, [], ◌∷◌, ◌++◌, length, None}
 use Rattle.std.proofs.Common.{ap, ◌∙◌, arith, append_assoc, length-append}
-use Rattle.cbor4ii_items.specs.Head.{Width, byte_count, break}
-use Rattle.cbor4ii_items.specs.Initial.{Kind, byte_string, text_string, kind_major, precision_bytes}
-use Rattle.cbor4ii_items.specs.Initial.{Initial, starts_int, bad_int, starts_string, starts_chunks}
+use Rattle.cbor4ii_items.specs.{Head.{Width, byte_count, break}, Initial.{Kind, byte_string}}
+use Rattle.cbor4ii_items.specs.Initial.{text_string, kind_major, precision_bytes, Initial}
+use Rattle.cbor4ii_items.specs.Initial.{starts_int, bad_int, starts_string, starts_chunks}
 use Rattle.cbor4ii_items.specs.Initial.{bad_string, starts_array, starts_indefinite_array}
-use Rattle.cbor4ii_items.specs.Initial.{bad_array}
-use Rattle.cbor4ii_items.specs.Initial.{starts_map, starts_indefinite_map, bad_map, starts_tag}
-use Rattle.cbor4ii_items.specs.Initial.{bad_tag}
-use Rattle.cbor4ii_items.specs.Initial.{starts_simple, starts_bits, other_simple, initial}
-use Rattle.cbor4ii_tree.specs.Tree.{bytes_all}
-use Rattle.cbor4ii_tree.specs.Cost.{Budget, cost}
-use Rattle.cbor4ii_tree.specs.InputError.{InputError, IsEof, IsDepthOverflow, sign_name, kind_name}
-use Rattle.cbor4ii_tree.specs.InputError.{precision_name, array_name, map_name, tag_name}
-use Rattle.cbor4ii_tree.specs.InputError.{value_name}
+use Rattle.cbor4ii_items.specs.Initial.{bad_array, starts_map, starts_indefinite_map, bad_map}
+use Rattle.cbor4ii_items.specs.Initial.{starts_tag, bad_tag, starts_simple, starts_bits}
+use Rattle.cbor4ii_items.specs.Initial.{other_simple, initial}
+use Rattle.cbor4ii_tree.specs.{Cost.{Budget, cost}, InputError.{InputError, IsEof, IsDepthOverflow}}
+use Rattle.cbor4ii_tree.specs.InputError.{sign_name, kind_name, precision_name, array_name}
+use Rattle.cbor4ii_tree.specs.{InputError.{map_name, tag_name, value_name}, ReadingRejects.Readable}
+use Rattle.cbor4ii_tree.specs.ReadingRejects.{ReadableChunk, CutString, NoUtf8, ChunkRejectsBy}
+use Rattle.cbor4ii_tree.specs.ReadingRejects.{ChunkRejects, ReadingRejectsBy, ReadingRejectsFrom}
+use Rattle.cbor4ii_tree.specs.ReadingRejects.{ReadingRejectsWithin, ReadingRejects}
 use Rattle.cbor4ii_tree.specs.Rejections.{Stopping, Is, Missing, AtHead, RejectsInCount}
-use Rattle.cbor4ii_tree.specs.Rejections.{IndefiniteItems}
-use Rattle.cbor4ii_tree.specs.Rejections.{IndefinitePairs}
-use Rattle.cbor4ii_tree.specs.ReadingRejects.{Readable, ReadableChunk, CutString, NoUtf8}
-use Rattle.cbor4ii_tree.specs.ReadingRejects.{ChunkRejectsBy, ChunkRejects, ReadingRejectsBy}
-use Rattle.cbor4ii_tree.specs.ReadingRejects.{ReadingRejectsFrom, ReadingRejectsWithin}
-use Rattle.cbor4ii_tree.specs.ReadingRejects.{ReadingRejects}
+use Rattle.cbor4ii_tree.specs.{Rejections.{IndefiniteItems, IndefinitePairs}, Tree.bytes_all}
 use Rattle.cbor4ii_tree.proofs.parts.Widen.{Goes, Calm, Widens, widens_same, widens_none}
 use Rattle.cbor4ii_tree.proofs.parts.Widen.{widens_fits, Covers, each_covers, is_goes, missing_goes}
 use Rattle.cbor4ii_tree.proofs.parts.Widen.{missing_all_goes, no_byte_goes, after_head_goes}
@@ -93,8 +88,7 @@ by_goes b c e more s t calm w k (starts_string kd v) a bs rest (inr x) =
     (no_utf8_goes kd e more) bs rest x)
 by_goes b c e more s t calm w k (starts_chunks kd) a bs rest (inl x) =
     inl (items_goes (ReadableChunk kd b) (ReadableChunk kd c) e more (ChunkRejects kd b)
-    (ChunkRejects kd c) calm (chunk_covers kd e b c w)
-    (chunk_goes kd b c e more calm w) bs rest x)
+    (ChunkRejects kd c) calm (chunk_covers kd e b c w) (chunk_goes kd b c e more calm w) bs rest x)
 by_goes b c e more s t calm w k (starts_chunks kd) a bs rest (inr x) =
     inr (record {
       chunks = x.chunks;
@@ -107,38 +101,33 @@ by_goes b c e more s t calm w k (starts_chunks kd) a bs rest (inr x) =
     })
 by_goes b c e more s t calm w k (bad_string kd) a bs rest x = is_goes _ e _ rest more x
 by_goes b c e more s t calm w k (starts_array v) a bs rest x =
-    stepped_goes array_name b c e (a ∷ bs) rest more
-    (λ inner. AtHead array_name 4 v a (RejectsInCount (Readable inner) (s inner)) bs)
-    (λ inner. AtHead array_name 4 v a (RejectsInCount (Readable inner) (t inner)) (bs ++ more)) w
-    (λ inner outer u y.
-    at_head_goes array_name 4 v a e more (RejectsInCount (Readable inner) (s inner))
-    (RejectsInCount (Readable outer) (t outer)) calm
-    (λ n. definite_goes (Readable inner) (Readable outer) e more (s inner)
-    (t outer) n (readable_covers e inner outer u) (k inner outer u)) bs rest y) x
+    stepped_goes array_name b c e (a ∷ bs) rest more (λ inner. AtHead array_name 4 v a
+    (RejectsInCount (Readable inner) (s inner)) bs) (λ inner. AtHead array_name 4 v a
+    (RejectsInCount (Readable inner) (t inner)) (bs ++ more)) w (λ inner outer u y. at_head_goes
+    array_name 4 v a e more (RejectsInCount (Readable inner) (s inner)) (RejectsInCount
+    (Readable outer) (t outer)) calm (λ n. definite_goes (Readable inner) (Readable outer) e more
+    (s inner) (t outer) n (readable_covers e inner outer u) (k inner outer u)) bs rest y) x
 by_goes b c e more s t calm w k starts_indefinite_array a bs rest x =
-    stepped_goes array_name b c e (a ∷ bs) rest more
-    (λ inner. IndefiniteItems (Readable inner) (s inner) bs)
-    (λ inner. IndefiniteItems (Readable inner) (t inner) (bs ++ more)) w (λ inner outer u y.
-    items_goes (Readable inner) (Readable outer) e more (s inner)
-    (t outer) calm (readable_covers e inner outer u) (k inner outer u) bs rest y) x
+    stepped_goes array_name b c e (a ∷ bs) rest more (λ inner. IndefiniteItems (Readable inner)
+    (s inner) bs) (λ inner. IndefiniteItems (Readable inner) (t inner) (bs ++ more)) w
+    (λ inner outer u y. items_goes (Readable inner) (Readable outer) e more (s inner) (t outer) calm
+    (readable_covers e inner outer u) (k inner outer u) bs rest y) x
 by_goes b c e more s t calm w k bad_array a bs rest x =
     stepped_goes array_name b c e (a ∷ bs) rest more (λ inner. Is _ bs)
     (λ inner. Is _ (bs ++ more)) w (λ inner outer u y. is_goes _ e bs rest more y) x
 by_goes b c e more s t calm w k (starts_map v) a bs rest x =
-    stepped_goes map_name b c e (a ∷ bs) rest more
-    (λ inner. AtHead map_name 5 v a (λ n. RejectsInCount (Readable inner) (s inner) (2 * n)) bs)
-    (λ inner. AtHead map_name 5 v a (λ n. RejectsInCount (Readable inner) (t inner) (2 * n))
-    (bs ++ more)) w (λ inner outer u y.
+    stepped_goes map_name b c e (a ∷ bs) rest more (λ inner. AtHead map_name 5 v a (λ n.
+    RejectsInCount (Readable inner) (s inner) (2 * n)) bs) (λ inner. AtHead map_name 5 v a (λ n.
+    RejectsInCount (Readable inner) (t inner) (2 * n)) (bs ++ more)) w (λ inner outer u y.
     at_head_goes map_name 5 v a e more (λ n. RejectsInCount (Readable inner) (s inner) (2 * n))
-    (λ n. RejectsInCount (Readable outer) (t outer) (2 * n)) calm
-    (λ n. definite_goes (Readable inner) (Readable outer) e more (s inner) (t outer) (2 * n)
-    (readable_covers e inner outer u) (k inner outer u)) bs rest y) x
+    (λ n. RejectsInCount (Readable outer) (t outer) (2 * n)) calm (λ n. definite_goes
+    (Readable inner) (Readable outer) e more (s inner) (t outer) (2 * n) (readable_covers e inner
+    outer u) (k inner outer u)) bs rest y) x
 by_goes b c e more s t calm w k starts_indefinite_map a bs rest x =
-    stepped_goes map_name b c e (a ∷ bs) rest more
-    (λ inner. IndefinitePairs (Readable inner) (s inner) bs)
-    (λ inner. IndefinitePairs (Readable inner) (t inner) (bs ++ more)) w (λ inner outer u y.
-    pairs_goes (Readable inner) (Readable outer) e more (s inner)
-    (t outer) calm (readable_covers e inner outer u) (k inner outer u) bs rest y) x
+    stepped_goes map_name b c e (a ∷ bs) rest more (λ inner. IndefinitePairs (Readable inner)
+    (s inner) bs) (λ inner. IndefinitePairs (Readable inner) (t inner) (bs ++ more)) w
+    (λ inner outer u y. pairs_goes (Readable inner) (Readable outer) e more (s inner) (t outer) calm
+    (readable_covers e inner outer u) (k inner outer u) bs rest y) x
 by_goes b c e more s t calm w k bad_map a bs rest x =
     stepped_goes map_name b c e (a ∷ bs) rest more (λ inner. Is _ bs)
     (λ inner. Is _ (bs ++ more)) w (λ inner outer u y. is_goes _ e bs rest more y) x
@@ -163,12 +152,11 @@ within_goes : (n m : ℕ) (b c : Budget) (e : InputError) (more : List ℕ) → 
 within_goes zero m b c e more le calm w bs rest x = absurd x
 within_goes (suc n) zero b c e more le calm w bs rest x = absurd (omega arith)
 within_goes (suc n) (suc m) b c e more le calm w bs rest x =
-    stepped_goes value_name b c e bs rest more
-    (λ inner. ReadingRejectsFrom (ReadingRejectsWithin n) inner bs)
-    (λ inner. ReadingRejectsFrom (ReadingRejectsWithin m) inner (bs ++ more)) w
+    stepped_goes value_name b c e bs rest more (λ inner. ReadingRejectsFrom (ReadingRejectsWithin n)
+    inner bs) (λ inner. ReadingRejectsFrom (ReadingRejectsWithin m) inner (bs ++ more)) w
     (λ inner outer v y. from_goes inner outer e more (ReadingRejectsWithin n)
-    (ReadingRejectsWithin m)
-    calm v (λ p q u. within_goes n m p q e more (omega arith) calm u) bs rest y) x
+    (ReadingRejectsWithin m) calm v (λ p q u. within_goes n m p q e more (omega arith) calm u) bs
+    rest y) x
 
 -- further bytes mend no error but the end of the input
 pub reading_persists : (input more : List ℕ) (budget : Budget) (e : InputError) (rest : List ℕ)
@@ -184,6 +172,5 @@ pub reading_unbounded : (input : List ℕ) (budget : Budget) (e : InputError) (r
     → ¬ (IsEof e) → ¬ (IsDepthOverflow e) → (more : List ℕ) → ReadingRejects input budget e rest
     → ReadingRejects (input ++ more) None e (rest ++ more)
 reading_unbounded input budget e rest h d more s =
-    within_goes (suc (length input))
-    (suc (length (input ++ more))) budget None e more (omega (arith, length-append input more))
-    (λ y. absurd (h y)) (widens_none e budget d) input rest s
+    within_goes (suc (length input)) (suc (length (input ++ more))) budget None e more (omega
+    (arith, length-append input more)) (λ y. absurd (h y)) (widens_none e budget d) input rest s

@@ -1,34 +1,25 @@
 -- Bytes that are skipped, prefix by prefix, and the arguments of heads.
-use Rattle.std.proofs.Common.{◌≡◌, ℕ, ◌+◌, ◌-◌, ◌<◌, ◌≤◌, List, [], ◌++◌}
-use Rattle.std.proofs.Common.{length, take, drop, Option, Some, None, Ok, Err, true, false, refl}
-use Rattle.std.proofs.Common.{sym, ap, ◌∙◌, subst, arith, IfSome, append_assoc, length-append}
-use Rattle.std.proofs.Common.{take-append-drop, ltb, ltb-true, ltb-false, Bool}
-use Rattle.std.proofs.lemmas.List.{length-take-le}
+use Rattle.std.proofs.Common.{◌≡◌, ℕ, ◌+◌, ◌-◌, ◌<◌, ◌≤◌, List, [], ◌++◌, length, take, drop}
+use Rattle.std.proofs.Common.{Option, Some, None, Ok, Err, true, false, refl, sym, ap, ◌∙◌, subst}
+use Rattle.std.proofs.Common.{arith, IfSome, append_assoc, length-append, take-append-drop, ltb}
+use Rattle.std.proofs.{Common.{ltb-true, ltb-false, Bool}, lemmas.List.length-take-le}
 use denote.Ref.{Bor}
-use Rattle.cbor4ii_rw.specs.View.{View, IfKnown}
-use Rattle.cbor4ii_rw.specs.Reader.{Shows, Advances, IsPrefix}
-use Rattle.cbor4ii_rw.specs.declared.error.Len.{Len}
-use Rattle.cbor4ii_rw.specs.declared.error.Len.TheVariants.{Small, Big}
+use Rattle.cbor4ii_rw.specs.{declared.error.DecodeError.TheVariants.Eof, declared.error.Len.Len}
+use Rattle.cbor4ii_rw.specs.{Reader.{Shows, Advances, IsPrefix}, View.{View, IfKnown}}
 use Rattle.cbor4ii_rw.specs.declared.error.DecodeError.{DecodeError}
-use Rattle.cbor4ii_rw.specs.declared.error.DecodeError.TheVariants.{Eof}
-use Rattle.cbor4ii_items.specs.Head.{Width, in_first, one, two, four, eight, byte_count, IsBytes}
-use Rattle.cbor4ii_items.specs.Initial.{info_of, wide}
-use Rattle.cbor4ii_items.specs.ReadHead.{number_on}
-use Rattle.cbor4ii_items.specs.Reading.{Runs}
-use Rattle.cbor4ii_items.specs.InputError.{InputError, input_error_of, eof, len_of}
-use Rattle.cbor4ii_items.specs.Laws.Contents.{lends_prefix}
-use Rattle.cbor4ii_items.specs.Laws.Running.{shows_kept}
-use Rattle.cbor4ii_items.specs.Laws.Steps.{moves_err}
-use Rattle.cbor4ii_items.specs.Laws.ReadingHeads.{number_cut}
+use Rattle.cbor4ii_rw.specs.declared.error.Len.TheVariants.{Small, Big}
+use Rattle.cbor4ii_items.specs.{Laws.ReadingHeads.number_cut, Laws.Running.shows_kept}
+use Rattle.cbor4ii_items.specs.{Laws.Steps.moves_err, ReadHead.number_on, Reading.Runs, Head.Width}
+use Rattle.cbor4ii_items.specs.Head.{in_first, one, two, four, eight, byte_count, IsBytes}
+use Rattle.cbor4ii_items.specs.{Initial.{info_of, wide}, InputError.{InputError, input_error_of}}
+use Rattle.cbor4ii_items.specs.{InputError.{eof, len_of}, Laws.Contents.lends_prefix}
+use Rattle.cbor4ii_tree.proofs.{parts.Prefixes.IsBytes-append, skip_calls.Doing.does_ok}
 use Rattle.cbor4ii_tree.proofs.heads.Means.{WidthSays, InfoSays, info_says}
-use Rattle.cbor4ii_tree.specs.Skipping.{additional_of}
+use Rattle.cbor4ii_tree.proofs.skip_calls.Doing.{does_reject}
+use Rattle.cbor4ii_tree.specs.{Does.Does, HeadParts.{ArgumentAt, DropsBytes, DropsSome}}
+use Rattle.cbor4ii_tree.specs.{Rejections.{Missing, MissingAll}, Skipping.additional_of}
 use Rattle.cbor4ii_tree.specs.declared.skip.Additional.{Additional}
 use Rattle.cbor4ii_tree.specs.declared.skip.Additional.TheVariants.{Wide}
-use Rattle.cbor4ii_tree.specs.Rejections.{Missing, MissingAll}
-use Rattle.cbor4ii_tree.specs.Does.{Does}
-use Rattle.cbor4ii_tree.specs.HeadParts.{ArgumentAt, DropsBytes, DropsSome}
-use Rattle.cbor4ii_tree.proofs.skip_calls.Doing.{does_ok, does_reject}
-use Rattle.cbor4ii_tree.proofs.parts.Prefixes.{IsBytes-append}
 
 pub len_is : (n : ℕ) (l : Len) → (n < 65536 → l ≡ Small n) → (65536 ≤ n → l ≡ Big) → l ≡ len_of n
 len_is n l s b = by_size (ltb n 65536) refl
@@ -45,25 +36,22 @@ pub none_shown : {E : Type 0} {name : Bor (List ℕ)} (missing : ℕ) {l : Len} 
     → Does {V = ℕ} {E = E} (DropsSome missing) (Missing name.now missing) a b (Err (Eof name l))
 none_shown {name = name} missing {l = l} {a = a} {b = b} some s prefix none small big =
     let is : l ≡ len_of missing = len_is missing l small big in
-    does_reject (λ xs ys. (xs ≡ []) × (ys ≡ [])) (DropsSome missing) (Missing name.now missing)
-    (eof name.now l) refl refl refl
-    (λ xs ys e. let z : length xs ≡ 0 = ap length e.0 in
+    does_reject (λ xs ys. (xs ≡ []) × (ys ≡ [])) _ _
+    (eof name.now l) refl refl refl (λ xs ys e. let z : length xs ≡ 0 = ap length e.0 in
     let gap : missing - length xs ≡ missing = omega (arith, z) in
-    (omega (arith, z), (ap (eof name.now) (is ∙ ap len_of (sym gap)), e.1)))
-    (record {
+    (omega (arith, z), (ap (eof name.now) (is ∙ ap len_of (sym gap)), e.1))) (record {
       kept = shows_kept s;
       at = λ xs known. let e =
           (prefix xs known).ends (omega (arith, some)) none in (xs, s.known xs known, (e, e));
     })
 
 pub some_shown : {E : Type 0} {name : List ℕ} (missing : ℕ) {n : ℕ} {shown : List ℕ} {a m b : View}
-    → Shows shown a m → IfKnown a.known (IsPrefix missing shown) → 1 ≤ n → n ≤ missing →
-    n ≤ length shown
-    → IsBytes (take n shown) → Advances n m b
-    → Does {V = ℕ} {E = E} (DropsSome missing) (Missing name missing) a b (Ok n)
+    → Shows shown a m → IfKnown a.known (IsPrefix missing shown) → 1 ≤ n → n ≤ missing
+    → n ≤ length shown → IsBytes (take n shown) → Advances n m b → Does {V = ℕ} {E = E}
+    (DropsSome missing) (Missing name missing) a b (Ok n)
 some_shown {name = name} missing {n = n} {shown = shown} s prefix some most within bytes adv =
     let l = lends_prefix s prefix within bytes refl adv in
-    does_ok (DropsSome missing) (Missing name missing) (record {
+    does_ok _ _ (record {
       kept = l.kept;
       at = λ xs known.
           let t = l.at xs known in (

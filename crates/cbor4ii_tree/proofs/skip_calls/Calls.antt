@@ -1,19 +1,12 @@
 -- The calls of skipping, one after another.
 use Rattle.std.proofs.Common.{◌≡◌, ◌≢◌, ℕ, List, [], ◌∷◌, Result, Ok, Err, Bool, true, false, sym}
 use Rattle.std.proofs.Common.{subst}
-use Rattle.cbor4ii_rw.specs.View.{View}
-use Rattle.cbor4ii_rw.specs.declared.error.DecodeError.{DecodeError}
-use Rattle.cbor4ii_items.specs.Head.{break}
-use Rattle.cbor4ii_items.specs.Moves.{Moves}
-use Rattle.cbor4ii_items.specs.Decoding.{Sound, Rejects}
-use Rattle.cbor4ii_items.specs.Strings.{ReadsBreak, RejectsBreak}
-use Rattle.cbor4ii_items.specs.InputError.{InputError}
-use Rattle.cbor4ii_tree.specs.InputError.{eof, Small, break_name}
-use Rattle.cbor4ii_tree.specs.Cost.{Budget}
-use Rattle.cbor4ii_tree.specs.Rejections.{Stopping}
-use Rattle.cbor4ii_tree.specs.Does.{Accepting, Does}
-use Rattle.cbor4ii_tree.specs.Skipping.{SkipsOne, RejectsSkippingOne, SkipsUnder}
-use Rattle.cbor4ii_tree.specs.Skipping.{RejectsSkippingUnder}
+use Rattle.cbor4ii_rw.specs.{View.View, declared.error.DecodeError.DecodeError}
+use Rattle.cbor4ii_items.specs.{Decoding.{Sound, Rejects}, Head.break, InputError.InputError}
+use Rattle.cbor4ii_items.specs.{Moves.Moves, Strings.{ReadsBreak, RejectsBreak}}
+use Rattle.cbor4ii_tree.specs.{InputError.break_name, Rejections.Stopping, Skipping.SkipsOne}
+use Rattle.cbor4ii_tree.specs.{Cost.Budget, Does.{Accepting, Does}, InputError.{eof, Small}}
+use Rattle.cbor4ii_tree.specs.Skipping.{RejectsSkippingOne, SkipsUnder, RejectsSkippingUnder}
 use Rattle.cbor4ii_tree.specs.Skipping.{SkipsAfter, RejectsSkippingAfter, Leads}
 use Rattle.cbor4ii_tree.specs.declared.skip.After.{After}
 use Rattle.cbor4ii_tree.proofs.skip_calls.Doing.{Reached, reached_by, reached_then, does_after}
@@ -23,20 +16,17 @@ use Rattle.cbor4ii_tree.proofs.skip_calls.Parts.{SkippedPairs, IsOther, after_br
 -- ---- after a head
 
 pub went_on : {E : Type 0} (trailing : After) {v : After} {r : Result (Unit {0}) (DecodeError E)}
-    {a m b : View} → v ≡ trailing → Does {E = E} (Leads a.budget)
-    (RejectsSkippingUnder a.budget) a m (Ok v) → Does
-    (λ xs _ ys. SkipsAfter trailing m.budget xs ys)
-    (RejectsSkippingAfter trailing m.budget) m b r
-    → Does (λ xs _ ys. SkipsUnder a.budget xs ys) (RejectsSkippingUnder a.budget) a b r
+    {a m b : View} → v ≡ trailing → Does {E = E} (Leads a.budget) (RejectsSkippingUnder a.budget) a
+    m (Ok v) → Does (λ xs _ ys. SkipsAfter trailing m.budget xs ys) (RejectsSkippingAfter trailing
+    m.budget) m b r → Does (λ xs _ ys. SkipsUnder a.budget xs ys) (RejectsSkippingUnder a.budget) a
+    b r
 went_on trailing {v = v} {a = a} {m = m} is h d =
     let same : m.budget ≡ a.budget = h.moves.by.budget in
-    does_after (λ xs ys. Leads a.budget xs v ys) (λ xs _ ys. SkipsAfter trailing m.budget xs ys)
-    (λ xs _ ys. SkipsUnder a.budget xs ys) (RejectsSkippingAfter trailing m.budget)
-    (RejectsSkippingUnder a.budget)
-    (λ xs ys zs w l s. (subst (λ z. Leads a.budget xs z ys) is l).skips zs
-    (subst (λ o. SkipsAfter trailing o ys zs) same s))
-    (λ xs ys e rest l s. (subst (λ z. Leads a.budget xs z ys) is l).rejects e rest
-    (subst (λ o. RejectsSkippingAfter trailing o ys e rest) same s)) (reached_by h) d
+    does_after (λ xs ys. Leads a.budget xs v ys) (λ xs _ ys. SkipsAfter trailing m.budget xs ys) _
+    (RejectsSkippingAfter trailing m.budget) _ (λ xs ys zs w l s. (subst (λ z. Leads a.budget xs z
+    ys) is l).skips zs (subst (λ o. SkipsAfter trailing o ys zs) same s)) (λ xs ys e rest l s.
+    (subst (λ z. Leads a.budget xs z ys) is l).rejects e rest (subst (λ o. RejectsSkippingAfter
+    trailing o ys e rest) same s)) (reached_by h) d
 
 -- ---- one more item
 
@@ -54,15 +44,13 @@ module _ (P : Budget → List ℕ → List ℕ → Type 0) {a m : View} (p : Rea
       f xs ys zs h (subst (λ o. SkipsOne o ys zs) p.kept.budget s)) p (reached_by d)
 
   -- it failed
-  pub ends : {U E : Type 0} (B : Accepting U) (T : Stopping) {e : DecodeError E} {b : View}
-      → ((xs ys : List ℕ) (z : InputError) (rest : List ℕ) → P a.budget xs ys
-      → RejectsSkippingOne a.budget ys z rest → T xs z rest)
-      → Does {V = Unit {0}} (λ xs _ ys. SkipsOne m.budget xs ys)
+  pub ends : {U E : Type 0} (B : Accepting U) (T : Stopping) {e : DecodeError E} {b : View} → ((xs
+      ys : List ℕ) (z : InputError) (rest : List ℕ) → P a.budget xs ys → RejectsSkippingOne a.budget
+      ys z rest → T xs z rest) → Does {V = Unit {0}} (λ xs _ ys. SkipsOne m.budget xs ys)
       (RejectsSkippingOne m.budget) m b (Err e) → Does {V = U} B T a b (Err e)
   ends B T f d =
-      does_err (P a.budget)
-      (λ xs _ ys. SkipsOne m.budget xs ys) B (RejectsSkippingOne m.budget) T (λ xs ys z rest h s.
-      f xs ys z rest h (subst (λ o. RejectsSkippingOne o ys z rest) p.kept.budget s)) p d
+      does_err (P a.budget) _ B (RejectsSkippingOne m.budget) T (λ xs ys z rest h s. f xs ys z rest
+      h (subst (λ o. RejectsSkippingOne o ys z rest) p.kept.budget s)) p d
 
   -- a break
   pub broke : {E : Type 0} (Q : List ℕ → List ℕ → Type 0) {v : Bool} {b : View}
@@ -77,23 +65,20 @@ module _ (P : Budget → List ℕ → List ℕ → Type 0) {a m : View} (p : Rea
   pub other : {E : Type 0} {v : Bool} {b : View} → v ≡ false → Moves {E = E} m b (Ok v)
       → Sound ReadsBreak m b v → Reached (Before P a.budget) a b
   other is moves s =
-      reached_then (P a.budget) IsOther (Before P a.budget)
-      (λ xs ys zs h o. (
+      reached_then (P a.budget) IsOther _ (λ xs ys zs h o. (
         subst (P a.budget xs) (sym o.0) h,
         subst (λ ws. ws ≢ []) (sym o.0) o.1,
         subst (λ ws. (bs : List ℕ) → ws ≡ break ∷ bs → ⊥) (sym o.0) o.2,
-      )) p
-      (reached_sound ReadsBreak IsOther
-      (λ xs n c _ r. other_byte xs n c (subst (λ z. ReadsBreak xs z n c) is r)) moves s)
+      )) p (reached_sound ReadsBreak IsOther (λ xs n c _ r. other_byte xs n c (subst (λ z.
+      ReadsBreak xs z n c) is r)) moves s)
 
   -- neither
   pub at_end : {U E : Type 0} (B : Accepting U) (T : Stopping) {e : DecodeError E} {b : View}
       → ((xs ys : List ℕ) → P a.budget xs ys → ys ≡ [] → T xs (eof break_name (Small 1)) [])
       → Moves {V = Bool} m b (Err e) → Rejects RejectsBreak m b e → Does {V = U} B T a b (Err e)
   at_end B T f moves s =
-      does_err (P a.budget) (λ xs (_ : Bool) ys. Unit {0}) B (λ xs. RejectsBreak xs m.budget) T
-      (λ xs ys z rest h k. subst (λ y. T xs y rest) (sym k.1)
-      (subst (T xs (eof break_name (Small 1))) (sym k.2) (f xs ys h k.0))) p
+      does_err (P a.budget) _ B (λ xs. RejectsBreak xs m.budget) T (λ xs ys z rest h k. subst (λ y.
+      T xs y rest) (sym k.1) (subst (T xs (eof break_name (Small 1))) (sym k.2) (f xs ys h k.0))) p
       (does_rejects (λ xs (_ : Bool) ys. Unit {0}) RejectsBreak moves s)
 
 -- whole pairs, and a key

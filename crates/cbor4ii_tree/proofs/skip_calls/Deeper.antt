@@ -1,30 +1,25 @@
 -- Items in the last place of others: calls that go on with them under steps that are kept.
 use Rattle.std.proofs.Common.{◌≡◌, ℕ, zero, suc, ◌+◌, ◌-◌, ◌≤◌, ◌<◌, List, ◌++◌, Result, Ok, Err}
 use Rattle.std.proofs.Common.{Option, Some, None, true, IfSome, refl, sym, ap, ◌∙◌, subst, arith}
-use Rattle.cbor4ii_rw.specs.View.{View}
-use Rattle.cbor4ii_rw.specs.Reader.{KeepsAllButBudget, StepsIn, step_back}
+use Rattle.cbor4ii_rw.specs.{Reader.{KeepsAllButBudget, StepsIn, step_back}, View.View}
 use Rattle.cbor4ii_rw.specs.declared.error.DecodeError.{DecodeError}
 use Rattle.cbor4ii_items.specs.Laws.UnderStep.{step_again, step_unbound}
-use Rattle.cbor4ii_tree.specs.Tree.{bytes_all}
-use Rattle.cbor4ii_tree.specs.Cost.{Budget, step_in}
-use Rattle.cbor4ii_tree.specs.Deeper.{Deeper, GoesOn, budgeted}
-use Rattle.cbor4ii_tree.specs.Rejections.{Stopping}
-use Rattle.cbor4ii_tree.specs.SkippingRejects.{Skippable}
-use Rattle.cbor4ii_tree.specs.Does.{Accepting, Does, answered}
-use Rattle.cbor4ii_tree.specs.Skipping.{SkipsItems, RejectsSkippingOne, RejectsSkippingItems}
-use Rattle.cbor4ii_tree.specs.Ahead.{TakesHead, CountsAmong, SkipsSome, RejectsSome}
-use Rattle.cbor4ii_tree.specs.Ahead.{RejectsSomeUnder}
-use Rattle.cbor4ii_tree.specs.Ahead.{GoesUnder}
-use Rattle.cbor4ii_tree.specs.declared.skip.After.TheVariants as trailing
-use Rattle.cbor4ii_tree.specs.declared.skip.Went.{Went}
-use Rattle.cbor4ii_tree.specs.declared.skip.Went.TheVariants.{Into}
-use Rattle.cbor4ii_tree.specs.declared.ahead.Among.TheVariants as among
 use Rattle.cbor4ii_tree.proofs.parts.Joined.{join, count-join, each-join, bytes-join}
-use Rattle.cbor4ii_tree.proofs.skip_calls.Doing.{Reached, reached_by, reached_then, reached_as}
-use Rattle.cbor4ii_tree.proofs.skip_calls.Doing.{does_ok, does_err, does_around, steps_in}
-use Rattle.cbor4ii_tree.proofs.skip_calls.Prefixes.{keeps_alike, keeps_then}
+use Rattle.cbor4ii_tree.proofs.{parts.Rejecting.in_count, skip_calls.Doing.{Reached, reached_by}}
+use Rattle.cbor4ii_tree.proofs.skip_calls.Doing.{reached_then, reached_as, does_ok, does_err}
+use Rattle.cbor4ii_tree.proofs.skip_calls.Doing.{does_around, steps_in}
 use Rattle.cbor4ii_tree.proofs.skip_calls.Parts.{items_join, items_none, items_more, items_stop}
-use Rattle.cbor4ii_tree.proofs.skip_calls.Runs.{Same, same_start, some_items, into}
+use Rattle.cbor4ii_tree.proofs.{skip_calls.Prefixes.{keeps_alike, keeps_then}, skip_calls.Runs.Same}
+use Rattle.cbor4ii_tree.proofs.skip_calls.Runs.{same_start, some_items, into}
+use Rattle.cbor4ii_tree.specs.{Skipping.RejectsSkippingItems, SkippingRejects.Skippable}
+use Rattle.cbor4ii_tree.specs.{Tree.bytes_all, declared.skip.Went.Went, Ahead.TakesHead}
+use Rattle.cbor4ii_tree.specs.Ahead.{CountsAmong, SkipsSome, RejectsSome, RejectsSomeUnder}
+use Rattle.cbor4ii_tree.specs.{Ahead.GoesUnder, Cost.{Budget, step_in}, Deeper.{Deeper, GoesOn}}
+use Rattle.cbor4ii_tree.specs.{Deeper.budgeted, Does.{Accepting, Does, answered}}
+use Rattle.cbor4ii_tree.specs.{Rejections.Stopping, Skipping.{SkipsItems, RejectsSkippingOne}}
+use Rattle.cbor4ii_tree.specs.declared.skip.Went.TheVariants.{Into}
+use Rattle.cbor4ii_tree.specs.declared.skip.After.TheVariants as trailing
+use Rattle.cbor4ii_tree.specs.declared.ahead.Among.TheVariants as among
 
 -- ---- steps that are kept
 
@@ -48,30 +43,6 @@ all_back d start same gives h = gives start (subst (λ b. Deeper d start b) same
 
 -- ---- the same with another budget
 
-pub alike_within : (s : Budget) (v : View) → KeepsAllButBudget v (budgeted s v)
-alike_within s v = record {
-  known = refl;
-  bound = refl;
-  advanceable = refl;
-  failures = refl;
-  taken = refl;
-  zero_copy = refl;
-  remembers = refl;
-  ends_at = refl;
-}
-
-pub alike_without : (s : Budget) (v : View) → KeepsAllButBudget (budgeted s v) v
-alike_without s v = record {
-  known = refl;
-  bound = refl;
-  advanceable = refl;
-  failures = refl;
-  taken = refl;
-  zero_copy = refl;
-  remembers = refl;
-  ends_at = refl;
-}
-
 alike_both : (s u : Budget) (v : View) → KeepsAllButBudget (budgeted s v) (budgeted u v)
 alike_both s u v = record {
   known = refl;
@@ -83,6 +54,12 @@ alike_both s u v = record {
   remembers = refl;
   ends_at = refl;
 }
+
+pub alike_within : (s : Budget) (v : View) → KeepsAllButBudget v (budgeted s v)
+alike_within s v = alike_both v.budget s v
+
+pub alike_without : (s : Budget) (v : View) → KeepsAllButBudget (budgeted s v) v
+alike_without s v = alike_both s v.budget v
 
 -- what leads from one view to another leads so under any budget
 does_budgeted : {V E : Type 0} (s : Budget) (A : Accepting V) (S : Stopping)
@@ -118,14 +95,9 @@ goes_past total left some budget inner xs ys same sum h = record {
       (items_join some left budget xs ys rest h (subst (λ b. SkipsItems left b ys rest) same s));
   rejects = λ e rest s.
       let k = subst (λ b. RejectsSkippingItems left b ys e rest) same s in
-      record {
-        prefix = join h.0 k.prefix;
-        after = k.after;
-        few = omega (arith, count-join h.0 k.prefix, h.1, k.few, sum);
-        whole = each-join (Skippable budget) h.0 k.prefix h.2 k.whole;
-        is = h.3 ∙ ap (λ r. bytes_all h.0 ++ r) k.is ∙ sym (bytes-join h.0 k.prefix k.after);
-        stopped = k.stopped;
-      };
+      in_count (join h.0 k.prefix) k.after (omega (arith, count-join h.0 k.prefix, h.1, k.few, sum))
+      (each-join (Skippable budget) h.0 k.prefix h.2 k.whole) (h.3 ∙ ap (λ r. bytes_all h.0 ++ r)
+      k.is ∙ sym (bytes-join h.0 k.prefix k.after)) k.stopped;
 }
 
 -- the head of the last was taken
@@ -150,24 +122,18 @@ module _ (left : ℕ) {a b : View} {sa sb : Budget} (e : a.budget ≡ sa) (f : b
       subst (λ o. StepsIn o b.budget true) (sym e) (subst (λ o. StepsIn sa o true) (sym f) takes)
 
   -- the head of the last item was taken
-  pub gone_into : {E : Type 0} (n : ℕ) {went : Went} {c : View} → left ≡ 1 → went ≡ Into n
-      → Does {E = E} (GoesUnder (among.Items left) b.budget)
-      (RejectsSomeUnder (among.Items left) b.budget) b c (Ok went)
-      → Does {E = E} (GoesOn left a.budget c.budget)
-      (RejectsSkippingItems left a.budget) a (budgeted a.budget c) (Ok n)
+  pub gone_into : {E : Type 0} (n : ℕ) {went : Went} {c : View} → left ≡ 1 → went ≡ Into n → Does
+      {E = E} (GoesUnder (among.Items left) b.budget) (RejectsSomeUnder (among.Items left) b.budget)
+      b c (Ok went) → Does {E = E} (GoesOn left a.budget c.budget) (RejectsSkippingItems left
+      a.budget) a (budgeted a.budget c) (Ok n)
   gone_into n {went = went} {c = c} last is d =
       let same : c.budget ≡ b.budget = d.moves.by.budget in
-      does_around (λ xs k ys. (k ≡ n) × GoesOn left a.budget c.budget xs n ys)
-      (GoesOn left a.budget c.budget) (RejectsSkippingItems left a.budget)
-      (RejectsSkippingItems left a.budget)
+      does_around (λ xs k ys. (k ≡ n) × GoesOn left a.budget c.budget xs n ys) (GoesOn left a.budget
+      c.budget) (RejectsSkippingItems left a.budget) (RejectsSkippingItems left a.budget)
       (λ xs ys k h. subst (λ j. GoesOn left a.budget c.budget xs j ys) (sym h.0) h.1)
-      (λ xs e rest h. h) inward (alike_within a.budget c)
-      (λ none. step_unbound a.budget b.budget steps none) (λ _. refl)
-      (does_ok (λ xs k ys. (k ≡ n) × GoesOn left a.budget c.budget xs n ys)
-      (RejectsSkippingItems left a.budget)
-      (reached_as (λ xs ys. TakesHead b.budget xs (trailing.Items n) ys)
-      (λ xs ys. (n ≡ n) × GoesOn left a.budget c.budget xs n ys)
-      (λ xs ys h. (
+      (λ xs e rest h. h) inward (alike_within a.budget c) (λ none. step_unbound a.budget b.budget
+      steps none) (λ _. refl) (does_ok _ _ (reached_as (λ xs ys. TakesHead b.budget xs
+      (trailing.Items n) ys) _ (λ xs ys h. (
         refl,
         goes_into left n a.budget b.budget c.budget xs ys last same
             (steps_in a.budget b.budget steps) h,
@@ -175,22 +141,18 @@ module _ (left : ℕ) {a b : View} {sa sb : Budget} (e : a.budget ≡ sa) (f : b
 
 module _ (left : ℕ) {a d : View} where
   -- some were skipped
-  pub gone_past : {E : Type 0} (some : ℕ) → 1 ≤ some → some ≤ left → Does {E = E}
-      (SkipsSome (among.Items left) a.budget) (RejectsSome (among.Items left) a.budget) a d
-      (Ok some)
-      → Does {E = E} (GoesOn left a.budget d.budget)
-      (RejectsSkippingItems left a.budget) a (budgeted a.budget d) (Ok (left - some))
+  pub gone_past : {E : Type 0} (some : ℕ) → 1 ≤ some → some ≤ left → Does {E = E} (SkipsSome
+      (among.Items left) a.budget) (RejectsSome (among.Items left) a.budget) a d (Ok some) → Does
+      {E = E} (GoesOn left a.budget d.budget) (RejectsSkippingItems left a.budget) a
+      (budgeted a.budget d) (Ok (left - some))
   gone_past some any few k =
       let same : d.budget ≡ a.budget = k.moves.by.budget in
       does_around (GoesOn left a.budget d.budget) (GoesOn left a.budget d.budget)
       (RejectsSkippingItems left a.budget) (RejectsSkippingItems left a.budget) (λ xs ys v h. h)
-      (λ xs e rest h. h) (keeps_alike a a refl) (alike_within a.budget d) (λ none. none)
-      (λ _. refl)
-      (does_ok (GoesOn left a.budget d.budget) (RejectsSkippingItems left a.budget)
-      (reached_as (λ xs ys. SkipsSome (among.Items left) a.budget xs some ys)
-      (λ xs ys. GoesOn left a.budget d.budget xs (left - some) ys)
-      (λ xs ys h. goes_past left (left - some) some a.budget d.budget xs ys same
-      (omega (arith, few)) (some_items (among.Items left) a.budget xs some ys any h))
+      (λ xs e rest h. h) (keeps_alike a a refl) (alike_within a.budget d) (λ none. none) (λ _. refl)
+      (does_ok _ _ (reached_as
+      (λ xs ys. SkipsSome (among.Items left) a.budget xs some ys) _ (λ xs ys h. goes_past left (left - some) some a.budget d.budget
+      xs ys same (omega (arith, few)) (some_items (among.Items left) a.budget xs some ys any h))
       (reached_by k)))
 
   -- or it failed
@@ -199,24 +161,19 @@ module _ (left : ℕ) {a d : View} where
       → Does {V = ℕ} (GoesOn left a.budget inner)
       (RejectsSkippingItems left a.budget) a (budgeted a.budget d) (Err e)
   gone_nowhere {inner = inner} any k =
-      does_around (GoesOn left a.budget inner) (GoesOn left a.budget inner)
-      (RejectsSkippingItems left a.budget) (RejectsSkippingItems left a.budget) (λ xs ys v h. h)
-      (λ xs e rest h. h) (keeps_alike a a refl) (alike_within a.budget d) (λ none. none)
-      (λ _. refl)
-      (does_err Same (SkipsSome (among.Items left) a.budget) (GoesOn left a.budget inner)
-      (RejectsSkippingOne a.budget) (RejectsSkippingItems left a.budget)
-      (λ xs ys z rest e s. items_stop 0 left a.budget xs xs z rest (omega (arith, any))
-      (items_none a.budget xs) (subst (λ x. RejectsSkippingOne a.budget x z rest) e s))
-      (same_start a) k)
+      does_around (GoesOn left a.budget inner) (GoesOn left a.budget inner) (RejectsSkippingItems
+      left a.budget) (RejectsSkippingItems left a.budget) (λ xs ys v h. h) (λ xs e rest h. h)
+      (keeps_alike a a refl) (alike_within a.budget d) (λ none. none) (λ _. refl) (does_err Same _ _
+      (RejectsSkippingOne a.budget) _ (λ xs ys z rest e s. items_stop 0 left a.budget xs xs z rest
+      (omega (arith, any)) (items_none a.budget xs) (subst (λ x. RejectsSkippingOne a.budget x z
+      rest) e s)) (same_start a) k)
 
   -- no step was left
   pub gone_without : {E : Type 0} {inner : Budget} (failure : Option (DecodeError E)) (r : Option ℕ)
-      → 1 ≤ left → IfSome r (λ n. n ≡ 0) → IfSome r (λ n. CountsAmong (among.Items left) n)
-      → Does (SkipsSome (among.Items left) a.budget)
-      (RejectsSome (among.Items left) a.budget) a d (answered r failure)
-      → Does (GoesOn left a.budget inner) (RejectsSkippingItems left a.budget) a
-      (budgeted a.budget d)
-      (answered r failure)
+      → 1 ≤ left → IfSome r (λ n. n ≡ 0) → IfSome r (λ n. CountsAmong (among.Items left) n) → Does
+      (SkipsSome (among.Items left) a.budget) (RejectsSome (among.Items left) a.budget) a d
+      (answered r failure) → Does (GoesOn left a.budget inner) (RejectsSkippingItems left a.budget)
+      a (budgeted a.budget d) (answered r failure)
   gone_without failure (Some n) any none some k = absurd (omega (arith, none, some.0))
   gone_without failure None any none some k = gone_nowhere any k
 
@@ -229,11 +186,9 @@ module _ (total left : ℕ) {a m : View}
       → (a.budget ≡ None → m.budget ≡ None)
       → Reached (λ xs ys. GoesOn total a.budget n.budget xs now ys) a (budgeted a.budget n)
   gone_on now {n = n} d unbound =
-      reached_then (λ xs ys. GoesOn total a.budget m.budget xs left ys)
-      (λ xs ys. GoesOn left m.budget n.budget xs now ys)
-      (λ xs ys. GoesOn total a.budget n.budget xs now ys)
-      (λ xs ys zs g h. goes_then total left now a.budget m.budget n.budget xs ys zs g h) p
-      (reached_by (does_budgeted a.budget (GoesOn left m.budget n.budget)
+      reached_then (λ xs ys. GoesOn total a.budget m.budget xs left ys) (λ xs ys. GoesOn left
+      m.budget n.budget xs now ys) _ (λ xs ys zs g h. goes_then total left now a.budget m.budget
+      n.budget xs ys zs g h) p (reached_by (does_budgeted a.budget (GoesOn left m.budget n.budget)
       (RejectsSkippingItems left m.budget) n unbound d))
 
   pub gone_no_further : {E : Type 0} {e : DecodeError E} {n : View}
@@ -242,19 +197,12 @@ module _ (total left : ℕ) {a m : View}
       → Does {V = Unit {0}} (λ xs _ ys. SkipsItems total a.budget xs ys)
       (RejectsSkippingItems total a.budget) a (budgeted a.budget n) (Err e)
   gone_no_further {n = n} unbound d =
-      does_err (λ xs ys. GoesOn total a.budget m.budget xs left ys) (GoesOn left m.budget n.budget)
-      (λ xs (_ : Unit {0}) ys. SkipsItems total a.budget xs ys)
-      (RejectsSkippingItems left m.budget) (RejectsSkippingItems total a.budget)
-      (λ xs ys z rest g s. g.rejects z rest s) p (does_budgeted a.budget
-      (GoesOn left m.budget n.budget) (RejectsSkippingItems left m.budget) n unbound d)
+      does_err (λ xs ys. GoesOn total a.budget m.budget xs left ys) _ _ (RejectsSkippingItems left
+      m.budget) _ (λ xs ys z rest g s. g.rejects z rest s) p (does_budgeted a.budget (GoesOn left
+      m.budget n.budget) (RejectsSkippingItems left m.budget) n unbound d)
 
-  pub all_gone : {E : Type 0} → left ≡ 0
-      → Does {E = E} (λ xs (_ : Unit {0}) ys. SkipsItems total a.budget xs ys)
-      (RejectsSkippingItems total a.budget) a (budgeted a.budget m) (Ok tt)
+  pub all_gone : {E : Type 0} → left ≡ 0 → Does {E = E} (λ xs (_ : Unit {0}) ys. SkipsItems total
+      a.budget xs ys) (RejectsSkippingItems total a.budget) a (budgeted a.budget m) (Ok tt)
   all_gone none =
-      does_ok (λ xs (_ : Unit {0}) ys. SkipsItems total a.budget xs ys)
-      (RejectsSkippingItems total a.budget)
-      (reached_as (λ xs ys. GoesOn total a.budget m.budget xs left ys)
-      (SkipsItems total a.budget)
-      (λ xs ys g. g.skips ys
-      (subst (λ n. SkipsItems n m.budget ys ys) (sym none) (items_none m.budget ys))) p)
+      does_ok _ _ (reached_as (λ xs ys. GoesOn total a.budget m.budget xs left ys) _ (λ xs ys g. g.skips ys (subst (λ n. SkipsItems n m.budget ys ys) (sym none)
+      (items_none m.budget ys))) p)

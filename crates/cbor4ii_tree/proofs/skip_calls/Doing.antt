@@ -2,22 +2,17 @@
 use Rattle.std.proofs.Common.{◌≡◌, ℕ, zero, suc, ◌-◌, ◌<◌, List, ◌∷◌, drop, Option, Some, None}
 use Rattle.std.proofs.Common.{Result, Ok, Err, true, false, IsTrue, refl, sym, ap, ◌∙◌, subst}
 use Rattle.std.proofs.Common.{arith, IfSome, IfOk, IfErr}
-use Rattle.cbor4ii_rw.specs.View.{View, IfKnown}
-use Rattle.cbor4ii_rw.specs.Reader.{KeepsAllButBudget, StepsIn, step_back, Advances}
-use Rattle.cbor4ii_rw.specs.declared.error.DecodeError.{DecodeError}
+use Rattle.cbor4ii_rw.specs.{View.IfKnown, declared.error.DecodeError.DecodeError}
+use Rattle.cbor4ii_rw.specs.{Reader.{KeepsAllButBudget, StepsIn, step_back, Advances}, View.View}
 use Rattle.cbor4ii_rw.specs.declared.error.DecodeError.TheVariants.{OutOfMemory}
-use Rattle.cbor4ii_items.specs.InputError.{InputError, input_error_of, is_read, is_depth_overflow}
-use Rattle.cbor4ii_items.specs.InputError.{depth_overflow}
-use Rattle.cbor4ii_items.specs.Decoding.{Sound, Rejects}
-use Rattle.cbor4ii_items.specs.Budget.{CostFits}
-use Rattle.cbor4ii_items.specs.Moves.{Kept, Moves, is_failure}
-use Rattle.cbor4ii_items.specs.Reading.{Runs, peek_at}
-use Rattle.cbor4ii_items.specs.Laws.Steps.{moves_then, moves_err, kept_then, counted_none}
-use Rattle.cbor4ii_items.specs.Laws.Running.{kept_alike, unread, peeked, kept_taken}
+use Rattle.cbor4ii_items.specs.{Budget.CostFits, Decoding.{Sound, Rejects}, InputError.InputError}
+use Rattle.cbor4ii_items.specs.InputError.{input_error_of, is_read, is_depth_overflow}
+use Rattle.cbor4ii_items.specs.{InputError.depth_overflow, Laws.Running.{kept_alike, unread}}
+use Rattle.cbor4ii_items.specs.{Laws.Running.{peeked, kept_taken}, Laws.Steps.moves_then}
+use Rattle.cbor4ii_items.specs.Laws.Steps.{moves_err, kept_then, counted_none}
 use Rattle.cbor4ii_items.specs.Laws.UnderStep.{step_again, step_unbound, moves_around, no_step}
-use Rattle.cbor4ii_tree.specs.Cost.{step_in}
-use Rattle.cbor4ii_tree.specs.Rejections.{Stopping}
-use Rattle.cbor4ii_tree.specs.Does.{Accepting, Does}
+use Rattle.cbor4ii_items.specs.{Moves.{Kept, Moves, is_failure}, Reading.{Runs, peek_at}}
+use Rattle.cbor4ii_tree.specs.{Cost.step_in, Does.{Accepting, Does}, Rejections.Stopping}
 
 -- Some calls went well: what was taken is reported by P.
 pub record Reached (P : List ℕ → List ℕ → Type 0) (a m : View) : Type 0 where
@@ -53,11 +48,10 @@ pub does_ok : {V E : Type 0} (A : Accepting V) (S : Stopping) {a b : View} {v : 
 does_ok A S p = record { moves = record { by = p.kept; depth = λ e. refl }; ok = p.at; err = tt }
 
 ok_after : {V E : Type 0} (P : List ℕ → List ℕ → Type 0) (A B : Accepting V)
-    (r : Result V (DecodeError E)) (a m b : View)
-    → ((xs ys zs : List ℕ) (v : V) → P xs ys → A ys v zs → B xs v zs)
-    → Reached P a m
-    → IfOk r (λ v. IfKnown m.known (λ xs. (ys : List ℕ) × (b.known ≡ Some ys) × A xs v ys))
-    → IfOk r (λ v. IfKnown a.known (λ xs. (ys : List ℕ) × (b.known ≡ Some ys) × B xs v ys))
+    (r : Result V (DecodeError E)) (a m b : View) → ((xs ys zs : List ℕ) (v : V) → P xs ys → A ys v
+    zs → B xs v zs) → Reached P a m → IfOk r (λ v. IfKnown m.known (λ xs. (ys : List ℕ)
+    × (b.known ≡ Some ys) × A xs v ys)) → IfOk r (λ v. IfKnown a.known (λ xs. (ys : List ℕ)
+    × (b.known ≡ Some ys) × B xs v ys))
 ok_after P A B (Ok v) a m b f p h = λ xs known.
     let s = p.at xs known in
     let t = h s.0 s.1 in
@@ -72,12 +66,11 @@ error_after None S T xs ys new f h = tt
 error_after (Some z) S T xs ys new f h = (h.0, h.1, f z h.0 h.2)
 
 err_after : {V E : Type 0} (P : List ℕ → List ℕ → Type 0) (S T : Stopping)
-    (r : Result V (DecodeError E)) (a m b : View)
-    → ((xs ys : List ℕ) (e : InputError) (rest : List ℕ) → P xs ys → S ys e rest → T xs e rest)
-    → Reached P a m → IfErr r (λ e. IfKnown m.known
-    (λ xs. IfSome (input_error_of e) (λ z. (ys : List ℕ) × (b.known ≡ Some ys) × S xs z ys)))
-    → IfErr r (λ e. IfKnown a.known
-    (λ xs. IfSome (input_error_of e) (λ z. (ys : List ℕ) × (b.known ≡ Some ys) × T xs z ys)))
+    (r : Result V (DecodeError E)) (a m b : View) → ((xs ys : List ℕ) (e : InputError)
+    (rest : List ℕ) → P xs ys → S ys e rest → T xs e rest) → Reached P a m → IfErr r (λ e. IfKnown
+    m.known (λ xs. IfSome (input_error_of e) (λ z. (ys : List ℕ) × (b.known ≡ Some ys) × S xs z
+    ys))) → IfErr r (λ e. IfKnown a.known (λ xs. IfSome (input_error_of e) (λ z. (ys : List ℕ)
+    × (b.known ≡ Some ys) × T xs z ys)))
 err_after P S T (Ok v) a m b f p h = tt
 err_after P S T (Err e) a m b f p h = λ xs known.
     let s = p.at xs known in
@@ -85,10 +78,9 @@ err_after P S T (Err e) a m b f p h = λ xs known.
 
 -- what is left to do was done
 pub does_after : {V E : Type 0} (P : List ℕ → List ℕ → Type 0) (A B : Accepting V) (S T : Stopping)
-    {r : Result V (DecodeError E)} {a m b : View}
-    → ((xs ys zs : List ℕ) (v : V) → P xs ys → A ys v zs → B xs v zs)
-    → ((xs ys : List ℕ) (e : InputError) (rest : List ℕ) → P xs ys → S ys e rest → T xs e rest)
-    → Reached P a m → Does A S m b r → Does B T a b r
+    {r : Result V (DecodeError E)} {a m b : View} → ((xs ys zs : List ℕ) (v : V) → P xs ys → A ys v
+    zs → B xs v zs) → ((xs ys : List ℕ) (e : InputError) (rest : List ℕ) → P xs ys → S ys e rest → T
+    xs e rest) → Reached P a m → Does A S m b r → Does B T a b r
 does_after P A B S T {r = r} {a = a} {m = m} {b = b} f g p d =
     record {
       moves = moves_then p.kept d.moves;
@@ -110,26 +102,26 @@ does_err {V = V} P A B S T {e = e} {a = a} {m = m} {b = b} g p d =
 
 -- what was rejected, reported in other words
 pub still_rejected : {U V E : Type 0} (A : Accepting U) (B : Accepting V) (S T : Stopping)
-    {e : DecodeError E} {a b : View}
-    → ((xs : List ℕ) (z : InputError) (rest : List ℕ) → S xs z rest → T xs z rest)
-    → Does {V = U} A S a b (Err e) → Does {V = V} B T a b (Err e)
+    {e : DecodeError E} {a b : View} → ((xs : List ℕ) (z : InputError) (rest : List ℕ) → S xs z rest
+    → T xs z rest) → Does {V = U} A S a b (Err e) → Does {V = V} B T a b (Err e)
 still_rejected A B S T {a = a} f d =
-    does_err (λ xs ys. xs ≡ ys) A B S T
-    (λ xs ys z rest same h. subst (λ x. T x z rest) (sym same) (f ys z rest h))
-    (reached_start (λ xs ys. xs ≡ ys) a (λ xs. refl)) d
+    does_err (λ xs ys. xs ≡ ys) A B S T (λ xs ys z rest same h. subst (λ x. T x z rest) (sym same)
+    (f ys z rest h)) (reached_start (λ xs ys. xs ≡ ys) a (λ xs. refl)) d
+
+pub refused : {U V E : Type 0} {A : Accepting U} {B : Accepting V} {S : Stopping}
+    {e : DecodeError E} {a b : View} → Does {V = U} A S a b (Err e) → Does {V = V} B S a b (Err e)
+refused {A = A} {B = B} {S = S} d = still_rejected A B S S (λ xs z rest h. h) d
 
 rejected_as : (o : Option InputError) (z : InputError) (T : InputError → List ℕ → Type 0)
-    (new : Option (List ℕ)) → o ≡ Some z
-    → (ys : List ℕ) × (new ≡ Some ys) × T z ys
+    (new : Option (List ℕ)) → o ≡ Some z → (ys : List ℕ) × (new ≡ Some ys) × T z ys
     → IfSome o (λ z. (ys : List ℕ) × (new ≡ Some ys) × T z ys)
 rejected_as None z T new e h = cc
 rejected_as (Some y) z T new e h = let f : z ≡ y = cc in (h.0, h.1, subst (λ x. T x h.0) f h.2)
 
 -- an error that speaks of the bytes; without a budget no step is lacking
 pub does_reject_by : {V E : Type 0} (P : List ℕ → List ℕ → Type 0) (B : Accepting V) (T : Stopping)
-    (z : InputError) {e : DecodeError E} {a b : View} → input_error_of e ≡ Some z → is_read e
-    ≡ false
-    → (a.budget ≡ None → is_depth_overflow e ≡ false)
+    (z : InputError) {e : DecodeError E} {a b : View} → input_error_of e ≡ Some z
+    → is_read e ≡ false → (a.budget ≡ None → is_depth_overflow e ≡ false)
     → ((xs ys : List ℕ) → P xs ys → T xs z ys) → Reached P a b → Does {V = V} B T a b (Err e)
 does_reject_by P B T z {e = e} {a = a} {b = b} says read shallow f p = record {
   moves = record { by = unread (is_read e) a b read p.kept; depth = shallow };
@@ -139,19 +131,17 @@ does_reject_by P B T z {e = e} {a = a} {b = b} says read shallow f p = record {
 }
 
 pub does_reject : {V E : Type 0} (P : List ℕ → List ℕ → Type 0) (B : Accepting V) (T : Stopping)
-    (z : InputError) {e : DecodeError E} {a b : View} → input_error_of e ≡ Some z → is_read e
-    ≡ false
-    → is_depth_overflow e ≡ false
-    → ((xs ys : List ℕ) → P xs ys → T xs z ys) → Reached P a b → Does {V = V} B T a b (Err e)
+    (z : InputError) {e : DecodeError E} {a b : View} → input_error_of e ≡ Some z
+    → is_read e ≡ false → is_depth_overflow e ≡ false → ((xs ys : List ℕ) → P xs ys → T xs z ys)
+    → Reached P a b → Does {V = V} B T a b (Err e)
 does_reject P B T z says read shallow f p = does_reject_by P B T z says read (λ none. shallow) f p
 
 -- ---- calls of the crate below
 
 stopped_at : (o : Option InputError) (S : List ℕ → Option ℕ → InputError → List ℕ → Type 0)
-    (xs : List ℕ)
-    (budget : Option ℕ) (new : Option (List ℕ))
-    → IfSome o (λ z. (rest : List ℕ) × (new ≡ Some rest) × S xs budget z rest)
-    → IfSome o (λ z. (ys : List ℕ) × (new ≡ Some ys) × S xs budget z ys)
+    (xs : List ℕ) (budget : Option ℕ) (new : Option (List ℕ)) → IfSome o (λ z. (rest : List ℕ)
+    × (new ≡ Some rest) × S xs budget z rest) → IfSome o (λ z. (ys : List ℕ) × (new ≡ Some ys) × S
+    xs budget z ys)
 stopped_at None S xs budget new h = tt
 stopped_at (Some z) S xs budget new h = h
 
@@ -168,15 +158,12 @@ does_rejects A S {e = e} {a = a} {b = b} moves s = record {
 -- the same of another value, by what it is to fail there
 pub call_rejects : {U V E : Type 0} (B : Accepting V)
     (S : List ℕ → Option ℕ → InputError → List ℕ → Type 0) (T : Stopping) {e : DecodeError E}
-    {a c : View}
-    → ((xs : List ℕ) (z : InputError) (rest : List ℕ) → S xs a.budget z rest → T xs z rest)
-    → Moves {V = U} a c (Err e) → Rejects S a c e
-    → Does {V = V} B T a c (Err e)
+    {a c : View} → ((xs : List ℕ) (z : InputError) (rest : List ℕ) → S xs a.budget z rest → T xs z
+    rest) → Moves {V = U} a c (Err e) → Rejects S a c e → Does {V = V} B T a c (Err e)
 call_rejects {U = U} B S T {a = a} f moves s =
     does_err (λ xs ys. xs ≡ ys) (λ xs (v : U) ys. Unit {0}) B (λ xs. S xs a.budget) T
-    (λ xs ys z rest e h. subst (λ x. T x z rest) (sym e) (f ys z rest h))
-    (reached_start (λ xs ys. xs ≡ ys) a (λ xs. refl))
-    (does_rejects (λ xs (v : U) ys. Unit {0}) S moves s)
+    (λ xs ys z rest e h. subst (λ x. T x z rest) (sym e) (f ys z rest h)) (reached_start (λ xs ys.
+    xs ≡ ys) a (λ xs. refl)) (does_rejects (λ xs (v : U) ys. Unit {0}) S moves s)
 
 -- a decoding call that went well
 pub reached_sound : {V E : Type 0} (reads : List ℕ → V → ℕ → ℕ → Type 0)
@@ -220,9 +207,8 @@ steps_in (Some (suc left)) new h =
 
 ok_around : {V E : Type 0} (A B : Accepting V) (r : Result V (DecodeError E))
     (old new known left : Option (List ℕ)) → ((xs ys : List ℕ) (v : V) → A xs v ys → B xs v ys)
-    → known ≡ old → left ≡ new
-    → IfOk r (λ v. IfKnown known (λ xs. (ys : List ℕ) × (new ≡ Some ys) × A xs v ys))
-    → IfOk r (λ v. IfKnown old (λ xs. (ys : List ℕ) × (left ≡ Some ys) × B xs v ys))
+    → known ≡ old → left ≡ new → IfOk r (λ v. IfKnown known (λ xs. (ys : List ℕ) × (new ≡ Some ys)
+    × A xs v ys)) → IfOk r (λ v. IfKnown old (λ xs. (ys : List ℕ) × (left ≡ Some ys) × B xs v ys))
 ok_around A B (Ok v) old new known left f i o h =
     λ xs is. let t = h xs (i ∙ is) in (t.0, o ∙ t.1, f xs t.0 v t.2)
 ok_around A B (Err e) old new known left f i o h = tt
@@ -235,12 +221,10 @@ error_around None S T xs new left f o h = tt
 error_around (Some z) S T xs new left f o h = (h.0, o ∙ h.1, f xs z h.0 h.2)
 
 err_around : {V E : Type 0} (S T : Stopping) (r : Result V (DecodeError E))
-    (old new known left : Option (List ℕ))
-    → ((xs : List ℕ) (e : InputError) (rest : List ℕ) → S xs e rest → T xs e rest) → known ≡ old
-    → left ≡ new
-    → IfErr r (λ e. IfKnown known (λ xs. IfSome (input_error_of e)
-    (λ z. (ys : List ℕ) × (new ≡ Some ys) × S xs z ys))) → IfErr r (λ e. IfKnown old
-    (λ xs. IfSome (input_error_of e) (λ z. (ys : List ℕ) × (left ≡ Some ys) × T xs z ys)))
+    (old new known left : Option (List ℕ)) → ((xs : List ℕ) (e : InputError) (rest : List ℕ) → S xs
+    e rest → T xs e rest) → known ≡ old → left ≡ new → IfErr r (λ e. IfKnown known (λ xs. IfSome
+    (input_error_of e) (λ z. (ys : List ℕ) × (new ≡ Some ys) × S xs z ys))) → IfErr r (λ e. IfKnown
+    old (λ xs. IfSome (input_error_of e) (λ z. (ys : List ℕ) × (left ≡ Some ys) × T xs z ys)))
 err_around S T (Ok v) old new known left f i o h = tt
 err_around S T (Err e) old new known left f i o h =
     λ xs is. error_around (input_error_of e) S T xs new left f o (h xs (i ∙ is))
@@ -286,9 +270,8 @@ kept_budget a b k same = record {
 
 -- no step is left
 pub does_no_step : {V E : Type 0} (name : List ℕ) (A : Accepting V) (T : Stopping)
-    {e : DecodeError E} {a b : View} → input_error_of e ≡ Some (depth_overflow name) → is_read e
-    ≡ false
-    → (a.budget ≡ Some 0 → (xs : List ℕ) → T xs (depth_overflow name) xs)
+    {e : DecodeError E} {a b : View} → input_error_of e ≡ Some (depth_overflow name)
+    → is_read e ≡ false → (a.budget ≡ Some 0 → (xs : List ℕ) → T xs (depth_overflow name) xs)
     → StepsIn a.budget b.budget false → KeepsAllButBudget a b → Does {V = V} A T a b (Err e)
 does_no_step name A T {e = e} {a = a} {b = b} says read f takes k =
     let n = no_step a.budget b.budget takes in

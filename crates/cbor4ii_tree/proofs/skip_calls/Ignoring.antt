@@ -2,22 +2,15 @@
 use Rattle.std.proofs.Common.{◌≡◌, ℕ, List, ◌++◌, length, drop, Option, None, Some, Ok, Err, refl}
 use Rattle.std.proofs.Common.{◌+◌, ◌≤◌, false, sym, ap, ◌∙◌, subst, IfSome}
 use Rattle.std.proofs.Math.Seq.{drop-append_seam}
-use Rattle.cbor4ii_rw.specs.View.{View}
-use Rattle.cbor4ii_rw.specs.declared.error.DecodeError.{DecodeError}
-use Rattle.cbor4ii_items.specs.InputError.{InputError, input_error_of, is_out_of_memory}
-use Rattle.cbor4ii_items.specs.Decoding.{Sound, Complete, NoneRead, Decodes}
-use Rattle.cbor4ii_items.specs.Budget.{CostFits}
-use Rattle.cbor4ii_items.specs.Decoding.{leaf_format}
-use Rattle.cbor4ii_items.specs.Laws.Calls.{ok, no_memory}
+use Rattle.cbor4ii_rw.specs.{View.View, declared.error.DecodeError.DecodeError}
+use Rattle.cbor4ii_items.specs.{Budget.CostFits, Decoding.{Sound, Complete, NoneRead, Decodes}}
+use Rattle.cbor4ii_items.specs.{Decoding.leaf_format, InputError.{InputError, input_error_of}}
+use Rattle.cbor4ii_items.specs.{InputError.is_out_of_memory, Laws.Calls.{ok, no_memory}}
 use Rattle.cbor4ii_items.specs.Laws.Steps.{moves_err}
-use Rattle.cbor4ii_tree.specs.declared.ignored.IgnoredAny.{IgnoredAny}
-use Rattle.cbor4ii_tree.specs.Tree.{bytes}
-use Rattle.cbor4ii_tree.specs.Cost.{skip_cost}
-use Rattle.cbor4ii_tree.specs.Does.{Does}
-use Rattle.cbor4ii_tree.specs.Ignored.{ReadsIgnored, RejectsIgnored}
-use Rattle.cbor4ii_tree.specs.Skipping.{SkipsOne, RejectsSkippingOne}
-use Rattle.cbor4ii_tree.specs.SkippingRejects.{SkippingRejects}
-use Rattle.cbor4ii_tree.proofs.skipping.Answer.{not_both}
+use Rattle.cbor4ii_tree.proofs.{parts.Rejecting.skips_by, skipping.Answer.not_both}
+use Rattle.cbor4ii_tree.specs.{SkippingRejects.SkippingRejects, Tree.bytes, Cost.skip_cost}
+use Rattle.cbor4ii_tree.specs.{Does.Does, Ignored.{ReadsIgnored, RejectsIgnored}, Skipping.SkipsOne}
+use Rattle.cbor4ii_tree.specs.{Skipping.RejectsSkippingOne, declared.ignored.IgnoredAny.IgnoredAny}
 
 ignored_sound : {E : Type 0} (v : IgnoredAny) {u : Unit {0}} {a b : View}
     → Does {E = E} (λ xs _ ys. SkipsOne a.budget xs ys) (RejectsSkippingOne a.budget) a b (Ok u)
@@ -48,11 +41,8 @@ none_skipped : (o : Option InputError) (xs : List ℕ) (budget : Option ℕ) (ne
     → IfSome o (λ z. NoneRead ReadsIgnored xs budget)
 none_skipped None xs budget new h = tt
 none_skipped (Some z) xs budget new h =
-    λ v n c r fits. not_both xs budget r.of_tree (drop n xs) z h.0 (record {
-      loose = r.loose;
-      fits = subst (λ j. CostFits j budget) r.cost fits;
-      begins = r.begins;
-    }) h.2
+    λ v n c r fits. not_both xs budget r.of_tree (drop n xs) z h.0 (skips_by r.loose (subst (λ j.
+    CostFits j budget) r.cost fits) r.begins) h.2
 
 ignored_complete : {U E : Type 0} {e : DecodeError E} {a b : View}
     → Does {V = U} (λ xs _ ys. SkipsOne a.budget xs ys) (RejectsSkippingOne a.budget) a b (Err e)

@@ -1,50 +1,40 @@
 -- What a head says of the item that it begins, where the item is skipped.
 use Rattle.std.proofs.Common.{◌≡◌, ℕ, zero, suc, ◌+◌, ◌*◌, ◌%◌, ◌<◌, ◌⊎◌, inl, inr, List, [], ◌∷◌}
 use Rattle.std.proofs.Common.{◌++◌, length, refl, sym, ap, ap₂, ◌∙◌, subst, arith, append_assoc}
-use Rattle.std.proofs.Common.{append-nil, lt-ltb}
-use Rattle.std.proofs.lemmas.List.{nil_from_length}
-use Rattle.cbor4ii_items.specs.Head.{Width, in_first, one, two, four, eight, byte_count, HeadFits}
-use Rattle.cbor4ii_items.specs.Head.{head, indefinite_head, break}
+use Rattle.std.proofs.{Common.{append-nil, lt-ltb}, lemmas.List.nil_from_length}
+use Rattle.cbor4ii_items.specs.{Budget.CostFits, Head.{Width, in_first, one, two, four, eight}}
+use Rattle.cbor4ii_items.specs.Head.{byte_count, HeadFits, head, indefinite_head, break}
 use Rattle.cbor4ii_items.specs.Initial.{sign_major, kind_major, precision_bytes, info_of, wide}
 use Rattle.cbor4ii_items.specs.Initial.{Initial, starts_int, starts_string, starts_chunks}
 use Rattle.cbor4ii_items.specs.Initial.{bad_string, starts_array, starts_indefinite_array}
-use Rattle.cbor4ii_items.specs.Initial.{bad_array}
-use Rattle.cbor4ii_items.specs.Initial.{starts_map, starts_indefinite_map, bad_map, starts_tag}
-use Rattle.cbor4ii_items.specs.Initial.{bad_tag}
-use Rattle.cbor4ii_items.specs.Initial.{starts_simple, starts_bits, initial, Kind, Precision, Sign}
-use Rattle.cbor4ii_items.specs.Initial.{Simple}
-use Rattle.cbor4ii_items.specs.Budget.{CostFits}
+use Rattle.cbor4ii_items.specs.Initial.{bad_array, starts_map, starts_indefinite_map, bad_map}
+use Rattle.cbor4ii_items.specs.Initial.{starts_tag, bad_tag, starts_simple, starts_bits, initial}
+use Rattle.cbor4ii_items.specs.{Initial.{Kind, Precision, Sign, Simple}, Laws.Answering.fits_zero}
 use Rattle.cbor4ii_items.specs.Magnitude.{number_of}
-use Rattle.cbor4ii_items.specs.Laws.Answering.{fits_zero}
-use Rattle.cbor4ii_tree.specs.Tree.{Tree, Trees, no_trees, tree, Pairs, no_pairs, pair, int, string}
-use Rattle.cbor4ii_tree.specs.Tree.{chunked, array, array_indefinite, map_of, map_indefinite}
-use Rattle.cbor4ii_tree.specs.Tree.{tagged, simple}
-use Rattle.cbor4ii_tree.specs.Tree.{bits, count, pair_count, bytes, bytes_all, bytes_pairs, Loose}
-use Rattle.cbor4ii_tree.specs.Tree.{LooseAll, LoosePairs}
+use Rattle.cbor4ii_tree.proofs.{answers.Nesting.skipping_by_parts, heads.Inverse.number_of_bytes}
+use Rattle.cbor4ii_tree.proofs.{parts.Sound.counted, skip_calls.Bytes.says_width, heads.Means.Means}
+use Rattle.cbor4ii_tree.proofs.{heads.Means.{means, HeadByte, WidthSays}, parts.Rejecting.skips_by}
+use Rattle.cbor4ii_tree.proofs.parts.Rejecting.{headed_by}
 use Rattle.cbor4ii_tree.specs.Cost.{Budget, skip_cost, greatest_skip_cost, greatest_pair_skip_cost}
-use Rattle.cbor4ii_tree.specs.InputError.{InputError, mismatch, tag_name, ignored_any}
-use Rattle.cbor4ii_tree.specs.Rejections.{Missing, MissingAll, RejectsAtStep}
-use Rattle.cbor4ii_tree.specs.SkippingRejects.{SkippingRejectsBy, SkippingRejects}
-use Rattle.cbor4ii_tree.specs.HeadParts.{ArgumentAt, DropsBytes}
-use Rattle.cbor4ii_tree.specs.Runs.{TakesLeaf}
+use Rattle.cbor4ii_tree.specs.{HeadParts.{ArgumentAt, DropsBytes}, InputError.InputError}
+use Rattle.cbor4ii_tree.specs.{InputError.{mismatch, tag_name, ignored_any}, Laws.Binds.step_up}
+use Rattle.cbor4ii_tree.specs.{Laws.Wholes.{all_skippable, all_pairs_skippable}, Rejections.Missing}
+use Rattle.cbor4ii_tree.specs.{Rejections.{MissingAll, RejectsAtStep}, Runs.TakesLeaf}
 use Rattle.cbor4ii_tree.specs.Skipping.{start_of, SkipsItems, RejectsSkippingItems, SkipsUnder}
 use Rattle.cbor4ii_tree.specs.Skipping.{RejectsSkippingUnder, Leads}
+use Rattle.cbor4ii_tree.specs.{SkippingRejects.{SkippingRejectsBy, SkippingRejects}, Tree.Tree}
+use Rattle.cbor4ii_tree.specs.Tree.{Trees, no_trees, tree, Pairs, no_pairs, pair, int, string}
+use Rattle.cbor4ii_tree.specs.Tree.{chunked, array, array_indefinite, map_of, map_indefinite}
+use Rattle.cbor4ii_tree.specs.Tree.{tagged, simple, bits, count, pair_count, bytes, bytes_all}
+use Rattle.cbor4ii_tree.specs.Tree.{bytes_pairs, Loose, LooseAll, LoosePairs}
 use Rattle.cbor4ii_tree.specs.declared.skip.After.TheVariants.{Nothing, Bytes, Items, Members}
 use Rattle.cbor4ii_tree.specs.declared.skip.After.TheVariants.{Indefinite, IndefiniteMembers}
 use Rattle.cbor4ii_tree.specs.declared.skip.Start.TheVariants as start
-use Rattle.cbor4ii_tree.specs.Laws.Binds.{step_up}
-use Rattle.cbor4ii_tree.proofs.answers.Nesting.{skipping_by_parts}
-use Rattle.cbor4ii_tree.proofs.heads.Inverse.{number_of_bytes}
-use Rattle.cbor4ii_tree.proofs.heads.Means.{Means, means, HeadByte, WidthSays}
-use Rattle.cbor4ii_tree.proofs.skip_calls.Bytes.{says_width}
-use Rattle.cbor4ii_tree.proofs.parts.Sound.{counted}
-use Rattle.cbor4ii_tree.specs.Laws.Wholes.{all_skippable, all_pairs_skippable}
 
 -- ---- which row
 
-pub starts_bytes : (i : Initial) (k : ℕ) → start_of i ≡ start.Bytes k
-    → ((s : Sign) × (w : Width) × (i ≡ starts_int s w) × (byte_count w ≡ k))
-    ⊎ (((s : Simple) × (i ≡ starts_simple s) × (k ≡ 0))
+pub starts_bytes : (i : Initial) (k : ℕ) → start_of i ≡ start.Bytes k → ((s : Sign) × (w : Width)
+    × (i ≡ starts_int s w) × (byte_count w ≡ k)) ⊎ (((s : Simple) × (i ≡ starts_simple s) × (k ≡ 0))
     ⊎ ((p : Precision) × (i ≡ starts_bits p) × (precision_bytes p ≡ k)))
 starts_bytes (starts_int s w) k e = inl (s, w, refl, (cc))
 starts_bytes (starts_simple s) k e = inr (inl (s, refl, (cc)))
@@ -82,15 +72,13 @@ starts_indefinite_members _ e = cc
 -- ---- where it fails
 
 pub rejects_by : (inner : Budget) (i : Initial) (b : ℕ) (bs : List ℕ) (e : InputError)
-    (rest : List ℕ)
-    → initial b ≡ i → SkippingRejectsBy (λ part. SkippingRejects part inner) inner i b bs e rest
-    → RejectsSkippingUnder inner (b ∷ bs) e rest
+    (rest : List ℕ) → initial b ≡ i → SkippingRejectsBy (λ part. SkippingRejects part inner) inner i
+    b bs e rest → RejectsSkippingUnder inner (b ∷ bs) e rest
 rejects_by inner i b bs e rest is h budget step =
-    (skipping_by_parts (b ∷ bs) budget e rest).1
-    (subst (λ o. RejectsAtStep ignored_any o (b ∷ bs) (λ inner. SkippingRejectsBy
-    (λ part. SkippingRejects part inner) inner (initial b) b bs) e rest) (sym step)
-    (subst (λ j. SkippingRejectsBy (λ part. SkippingRejects part inner) inner j b bs e rest)
-    (sym is) h))
+    (skipping_by_parts (b ∷ bs) budget e rest).1 (subst (λ o. RejectsAtStep ignored_any o (b ∷ bs)
+    (λ inner. SkippingRejectsBy (λ part. SkippingRejects part inner) inner (initial b) b bs) e rest)
+    (sym step) (subst (λ j. SkippingRejectsBy (λ part. SkippingRejects part inner) inner j b bs e
+    rest) (sym is) h))
 
 pub is_taken : (inner : Budget) (b : ℕ) (bs : List ℕ) → start_of (initial b) ≡ start.Taken
     → RejectsSkippingUnder inner (b ∷ bs) (mismatch ignored_any b) bs
@@ -191,12 +179,8 @@ pub whole : (inner : Budget) (xs ys : List ℕ) → TakesLeaf xs ys → Leads in
 whole inner xs ys (t, l, is) = record {
   skips = λ rest e budget step. (
     t,
-    record {
-      loose = l.0;
-      fits = subst (λ c. CostFits c budget)
-          (sym l.1) (step_up budget inner 0 step (fits_zero inner));
-      begins = is ∙ ap (λ r. bytes t ++ r) (sym e);
-    },
+    (skips_by l.0 (subst (λ c. CostFits c budget) (sym l.1) (step_up budget inner 0 step
+        (fits_zero inner))) (is ∙ ap (λ r. bytes t ++ r) (sym e))),
   );
   rejects = λ e rest h. absurd h;
 }
@@ -284,13 +268,11 @@ empty_members b bs small s none =
 module _ (inner : Budget) (b : ℕ) (small : b < 256) where
   -- strings
   module _ (s : start_of (initial b) ≡ start.Content) where
-    pub content_info : (w : Width) × (info_of (b % 32) ≡ wide w)
-        × ((bs : List ℕ) (e : InputError) (rest : List ℕ) → MissingAll ignored_any
-        (byte_count w) bs e
-        rest → RejectsSkippingUnder inner (b ∷ bs) e rest)
-        × ((bs ys : List ℕ) (n : ℕ) → ArgumentAt w b bs n ys → Leads inner (b ∷ bs) (Bytes n) ys)
-        × ((bs ys zs : List ℕ) (n : ℕ) → ArgumentAt w b bs n ys → DropsBytes n ys zs
-        → TakesLeaf (b ∷ bs) zs)
+    pub content_info : (w : Width) × (info_of (b % 32) ≡ wide w) × ((bs : List ℕ) (e : InputError)
+        (rest : List ℕ) → MissingAll ignored_any (byte_count w) bs e rest → RejectsSkippingUnder
+        inner (b ∷ bs) e rest) × ((bs ys : List ℕ) (n : ℕ) → ArgumentAt w b bs n ys → Leads inner
+        (b ∷ bs) (Bytes n) ys) × ((bs ys zs : List ℕ) (n : ℕ) → ArgumentAt w b bs n ys → DropsBytes
+        n ys zs → TakesLeaf (b ∷ bs) zs)
     content_info =
         let x = starts_content (initial b) s in
         let m = row b (starts_string x.0 x.1) small x.2 in
@@ -307,43 +289,31 @@ module _ (inner : Budget) (b : ℕ) (small : b < 256) where
           λ bs ys n a. record {
             skips = λ rest d. (whole inner (b ∷ bs) rest (leaf bs ys rest n a d)).skips rest refl;
             rejects = λ e rest h. rejects_by inner (starts_string x.0 x.1) b bs e rest x.2
-                (inr (record {
-                  argument = n;
-                  after = ys;
-                  fits = a.fits;
-                  is = head_is (kind_major x.0) x.1 b n bs ys m a;
-                  stopped = h;
-                }));
+                (inr (headed_by n ys a.fits (head_is (kind_major x.0) x.1 b n bs ys m a) h));
           },
           leaf,
         )
 
   -- so many items after a head
   items_lead : (major n : ℕ) (w : Width) (bs ys : List ℕ) (make : Trees → Tree)
-      → b ∷ bs ≡ head major n w ++ ys
-      → ((ts : Trees) → count ts ≡ n → LooseAll ts
-      → Loose (make ts) × (skip_cost (make ts) ≡ 1 + greatest_skip_cost ts)
-      × (bytes (make ts) ≡ head major n w ++ bytes_all ts))
-      → (rest : List ℕ) → SkipsItems n inner ys rest → SkipsUnder inner (b ∷ bs) rest
+      → b ∷ bs ≡ head major n w ++ ys → ((ts : Trees) → count ts ≡ n → LooseAll ts → Loose (make ts)
+      × (skip_cost (make ts) ≡ 1 + greatest_skip_cost ts) × (bytes (make ts) ≡ head major n w
+      ++ bytes_all ts)) → (rest : List ℕ) → SkipsItems n inner ys rest
+      → SkipsUnder inner (b ∷ bs) rest
   items_lead major n w bs ys make is made rest h budget step =
       let all = all_skippable h.0 inner h.2 in
       let t = made h.0 h.1 all.0 in (
         make h.0,
-        record {
-          loose = t.0;
-          fits = subst (λ c. CostFits c budget) (sym t.1) (step_up budget inner _ step all.1);
-          begins =
-              is ∙ (ap (λ r. head major n w ++ r) h.3 ∙ (sym (append_assoc (head major n w)
-              (bytes_all h.0) rest) ∙ ap (λ r. r ++ rest) (sym t.2)));
-        },
+        (skips_by t.0 (subst (λ c. CostFits c budget) (sym t.1) (step_up budget inner _ step all.1))
+            (is ∙ (ap (λ r. head major n w ++ r) h.3 ∙ (sym (append_assoc (head major n w)
+            (bytes_all h.0) rest) ∙ ap (λ r. r ++ rest) (sym t.2))))),
       )
 
   module _ (s : start_of (initial b) ≡ start.Items) where
-    pub items_info : (w : Width) × (info_of (b % 32) ≡ wide w)
-        × ((bs : List ℕ) (e : InputError) (rest : List ℕ) → MissingAll ignored_any
-        (byte_count w) bs e
-        rest → RejectsSkippingUnder inner (b ∷ bs) e rest)
-        × ((bs ys : List ℕ) (n : ℕ) → ArgumentAt w b bs n ys → Leads inner (b ∷ bs) (Items n) ys)
+    pub items_info : (w : Width) × (info_of (b % 32) ≡ wide w) × ((bs : List ℕ) (e : InputError)
+        (rest : List ℕ) → MissingAll ignored_any (byte_count w) bs e rest → RejectsSkippingUnder
+        inner (b ∷ bs) e rest) × ((bs ys : List ℕ) (n : ℕ) → ArgumentAt w b bs n ys → Leads inner
+        (b ∷ bs) (Items n) ys)
     items_info =
         let x = starts_items (initial b) s in
         let m = row b (starts_array x.0) small x.1 in (
@@ -359,13 +329,8 @@ module _ (inner : Budget) (b : ℕ) (small : b < 256) where
                   ap (λ j. head 4 j x.0 ++ bytes_all ts) c,
                 ));
             rejects = λ e rest h.
-                rejects_by inner (starts_array x.0) b bs e rest x.1 (inr (record {
-                  argument = n;
-                  after = ys;
-                  fits = a.fits;
-                  is = head_is 4 x.0 b n bs ys m a;
-                  stopped = h;
-                }));
+                rejects_by inner (starts_array x.0) b bs e rest x.1 (inr (headed_by n ys a.fits
+                (head_is 4 x.0 b n bs ys m a) h));
           },
         )
 
@@ -397,31 +362,19 @@ module _ (inner : Budget) (b : ℕ) (small : b < 256) where
                 let all = all_skippable h.0 inner h.2 in
                 let t = one_tree x.0 n a.fits h.0 h.1 all.0 in (
                   t.0,
-                  record {
-                    loose = t.1;
-                    fits =
-                        subst (λ c. CostFits c budget) (sym t.2)
-                        (step_up budget inner _ step all.1);
-                    begins =
-                        head_is 6 x.0 b n bs ys m a ∙ (ap (λ r. head 6 n x.0 ++ r) h.3
-                        ∙ (sym (append_assoc (head 6 n x.0) (bytes_all h.0) rest)
-                        ∙ ap (λ r. r ++ rest) (sym t.3)));
-                  },
+                  (skips_by t.1 (subst (λ c. CostFits c budget) (sym t.2) (step_up budget inner _
+                      step all.1)) (head_is 6 x.0 b n bs ys m a ∙ (ap (λ r. head 6 n x.0 ++ r) h.3
+                      ∙ (sym (append_assoc (head 6 n x.0) (bytes_all h.0) rest) ∙ ap (λ r. r
+                      ++ rest)
+                      (sym t.3))))),
                 );
             rejects = λ e rest h. rejects_by inner (starts_tag x.0) b bs e rest x.1
-                (inr (record {
-                  argument = n;
-                  after = ys;
-                  fits = a.fits;
-                  is = head_is 6 x.0 b n bs ys m a;
-                  stopped = only ys e rest h;
-                }));
+                (inr (headed_by n ys a.fits (head_is 6 x.0 b n bs ys m a) (only ys e rest h)));
           },
         )
       where
-        only : (ys : List ℕ) (e : InputError) (rest : List ℕ) → RejectsSkippingItems 1 inner
-            ys e rest
-            → SkippingRejects ys inner e rest
+        only : (ys : List ℕ) (e : InputError) (rest : List ℕ)
+            → RejectsSkippingItems 1 inner ys e rest → SkippingRejects ys inner e rest
         only ys e rest h = at_front h.prefix h.few h.is
           where
             at_front : (ts : Trees) → count ts < 1 → ys ≡ bytes_all ts ++ h.after
@@ -447,11 +400,10 @@ module _ (inner : Budget) (b : ℕ) (small : b < 256) where
       )
 
   module _ (s : start_of (initial b) ≡ start.Members) where
-    pub members_info : (w : Width) × (info_of (b % 32) ≡ wide w)
-        × ((bs : List ℕ) (e : InputError) (rest : List ℕ) → MissingAll ignored_any
-        (byte_count w) bs e
-        rest → RejectsSkippingUnder inner (b ∷ bs) e rest)
-        × ((bs ys : List ℕ) (n : ℕ) → ArgumentAt w b bs n ys → Leads inner (b ∷ bs) (Members n) ys)
+    pub members_info : (w : Width) × (info_of (b % 32) ≡ wide w) × ((bs : List ℕ) (e : InputError)
+        (rest : List ℕ) → MissingAll ignored_any (byte_count w) bs e rest → RejectsSkippingUnder
+        inner (b ∷ bs) e rest) × ((bs ys : List ℕ) (n : ℕ) → ArgumentAt w b bs n ys → Leads inner
+        (b ∷ bs) (Members n) ys)
     members_info =
         let x = starts_members (initial b) s in
         let m = row b (starts_map x.0) small x.1 in (
@@ -463,24 +415,15 @@ module _ (inner : Budget) (b : ℕ) (small : b < 256) where
                 let all = all_skippable h.0 inner h.2 in
                 let t = paired n h.0 h.1 all.0 in (
                   map_of x.0 t.0,
-                  record {
-                    loose = (subst (HeadFits x.0) (sym t.1) a.fits, t.2);
-                    fits =
-                        subst (λ c. CostFits (1 + c) budget) (sym t.3)
-                        (step_up budget inner _ step all.1);
-                    begins =
-                        counted 5 n (pair_count t.0) x.0 b bs ys (bytes_pairs t.0) rest
-                        (head_is 5 x.0 b n bs ys m a) t.1 (h.3 ∙ ap (λ r. r ++ rest) (sym t.4));
-                  },
+                  (skips_by (subst (HeadFits x.0) (sym t.1) a.fits, t.2) (subst (λ c. CostFits
+                      (1 + c) budget) (sym t.3) (step_up budget inner _ step all.1)) (counted 5 n
+                      (pair_count t.0) x.0 b bs ys (bytes_pairs t.0) rest (head_is 5 x.0 b n bs ys m
+                      a)
+                      t.1 (h.3 ∙ ap (λ r. r ++ rest) (sym t.4)))),
                 );
             rejects = λ e rest h.
-                rejects_by inner (starts_map x.0) b bs e rest x.1 (inr (record {
-                  argument = n;
-                  after = ys;
-                  fits = a.fits;
-                  is = head_is 5 x.0 b n bs ys m a;
-                  stopped = h;
-                }));
+                rejects_by inner (starts_map x.0) b bs e rest x.1 (inr (headed_by n ys a.fits
+                (head_is 5 x.0 b n bs ys m a) h));
           },
         )
 
@@ -491,11 +434,8 @@ module _ (inner : Budget) (b : ℕ) (small : b < 256) where
     | inl x ↦ (let m : Means b (starts_chunks x.0) = row b (starts_chunks x.0) small x.1 in record {
       skips = λ rest h budget step. let all = all_skippable h.0 inner h.1 in (
         chunked x.0 h.0,
-        record {
-          loose = all.0;
-          fits = step_up budget inner _ step all.1;
-          begins = ended (indefinite_head (kind_major x.0)) (bytes_all h.0) ys rest m h.2;
-        },
+        (skips_by all.0 (step_up budget inner _ step all.1) (ended (indefinite_head
+            (kind_major x.0)) (bytes_all h.0) ys rest m h.2)),
       );
       rejects = λ e rest h. rejects_by inner (starts_chunks x.0) b ys e rest x.1 h;
     })
@@ -503,11 +443,8 @@ module _ (inner : Budget) (b : ℕ) (small : b < 256) where
         record {
           skips = λ rest h budget step. let all = all_skippable h.0 inner h.1 in (
             array_indefinite h.0,
-            record {
-              loose = all.0;
-              fits = step_up budget inner _ step all.1;
-              begins = ended (indefinite_head 4) (bytes_all h.0) ys rest m h.2;
-            },
+            (skips_by all.0 (step_up budget inner _ step all.1) (ended (indefinite_head 4)
+                (bytes_all h.0) ys rest m h.2)),
           );
           rejects = λ e rest h. rejects_by inner starts_indefinite_array b ys e rest x h;
         })
@@ -524,12 +461,8 @@ module _ (inner : Budget) (b : ℕ) (small : b < 256) where
       let m : Means b starts_indefinite_map = row b starts_indefinite_map small x in record {
         skips = λ rest h budget step. let all = all_pairs_skippable h.0 inner h.1 in (
           map_indefinite h.0,
-          record {
-            loose = all.0;
-            fits = step_up budget inner _ step all.1;
-            begins =
-                ap₂ ◌∷◌ m (h.2 ∙ sym (append_assoc (bytes_pairs h.0) (break ∷ []) rest));
-          },
+          (skips_by all.0 (step_up budget inner _ step all.1) (ap₂ ◌∷◌ m (h.2 ∙ sym (append_assoc
+              (bytes_pairs h.0) (break ∷ []) rest)))),
         );
         rejects = λ e rest h. rejects_by inner starts_indefinite_map b ys e rest x h;
       }

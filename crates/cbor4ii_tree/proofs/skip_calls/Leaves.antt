@@ -3,28 +3,21 @@ use Rattle.std.proofs.Common.{◌≡◌, ◌≢◌, ℕ, zero, suc, ◌+◌, ◌
 use Rattle.std.proofs.Common.{◌∷◌, ◌++◌, length, get_or, take, drop, None, refl, sym, ap, ap₂, ◌∙◌}
 use Rattle.std.proofs.Common.{subst, arith, true, false, Bool, cond, ltb, ltb-true, eqb, eqb-true}
 use Rattle.std.proofs.Common.{append-nil, inl, inr, nat_eq, drop-cons, length-drop}
-use Rattle.std.proofs.Math.Seq.{take-add, take-length}
+use Rattle.std.proofs.{Math.Seq.{take-add, take-length}, lemmas.Bool.cases_eq}
 use Rattle.std.proofs.lemmas.List.{length-take-le}
-use Rattle.std.proofs.lemmas.Bool.{cases_eq}
-use Rattle.cbor4ii_items.specs.Head.{IsBytes}
-use Rattle.cbor4ii_tree.proofs.heads.Inverse.{IsBytes-take, IsBytes-drop}
+use Rattle.cbor4ii_items.specs.{Budget.CostFits, Head.IsBytes, Initial.initial}
 use Rattle.cbor4ii_items.specs.Laws.Contents.{first_bytes}
-use Rattle.cbor4ii_items.specs.Initial.{initial}
-use Rattle.cbor4ii_items.specs.Budget.{CostFits}
-use Rattle.cbor4ii_tree.specs.Tree.{Trees, no_trees, tree, count, bytes, bytes_all}
-use Rattle.cbor4ii_tree.specs.Cost.{Budget}
-use Rattle.cbor4ii_tree.specs.Rejections.{Each}
-use Rattle.cbor4ii_tree.specs.SkippingRejects.{Skippable}
-use Rattle.cbor4ii_tree.specs.HeadParts.{DropsBytes}
-use Rattle.cbor4ii_tree.specs.Skipping.{start_of, SkipsItems}
-use Rattle.cbor4ii_tree.specs.Runs.{IsLeaf, TakesLeaf, IsLeafAt, IsPairAt, BeginsRun, TakesRun}
-use Rattle.cbor4ii_tree.specs.Ahead.{leaf_by, leaf_bytes}
-use Rattle.cbor4ii_tree.specs.declared.ahead.TheConstants.{LEAF_BYTES}
-use Rattle.cbor4ii_tree.specs.declared.skip.Start.{Start}
-use Rattle.cbor4ii_tree.specs.declared.skip.Start.TheVariants as start
+use Rattle.cbor4ii_tree.proofs.{heads.Inverse.{IsBytes-take, IsBytes-drop}, parts.Pushed.push}
+use Rattle.cbor4ii_tree.proofs.parts.Pushed.{count-push, each-push, bytes-push}
 use Rattle.cbor4ii_tree.proofs.skip_calls.Leading.{bytes_leaf, content_info, argument_low}
 use Rattle.cbor4ii_tree.proofs.skip_calls.Leading.{empty_items, empty_members}
-use Rattle.cbor4ii_tree.proofs.parts.Pushed.{push, count-push, each-push, bytes-push}
+use Rattle.cbor4ii_tree.specs.{Ahead.{leaf_by, leaf_bytes}, Cost.Budget, HeadParts.DropsBytes}
+use Rattle.cbor4ii_tree.specs.{Rejections.Each, Runs.{IsLeaf, TakesLeaf, IsLeafAt, IsPairAt}}
+use Rattle.cbor4ii_tree.specs.{Runs.{BeginsRun, TakesRun}, Skipping.{start_of, SkipsItems}}
+use Rattle.cbor4ii_tree.specs.{SkippingRejects.Skippable, Tree.{Trees, no_trees, tree, count}}
+use Rattle.cbor4ii_tree.specs.{Tree.{bytes, bytes_all}, declared.ahead.TheConstants.LEAF_BYTES}
+use Rattle.cbor4ii_tree.specs.declared.skip.Start.{Start}
+use Rattle.cbor4ii_tree.specs.declared.skip.Start.TheVariants as start
 
 -- ---- a first byte that says how long the item is
 

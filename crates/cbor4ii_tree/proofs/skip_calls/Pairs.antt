@@ -1,14 +1,10 @@
 -- Runs in maps: so many items are whole pairs, or whole pairs and a key.
 use Rattle.std.proofs.Common.{◌≡◌, ℕ, zero, suc, ◌+◌, ◌*◌, ◌/◌, ◌%◌, List, ◌++◌, refl, sym, ap, ◌∙◌}
 use Rattle.std.proofs.Common.{arith, append_assoc, append-nil}
-use Rattle.cbor4ii_tree.specs.Tree.{Tree, Trees, no_trees, tree, Pairs, no_pairs, pair, count}
-use Rattle.cbor4ii_tree.specs.Tree.{bytes, bytes_all, bytes_pairs}
-use Rattle.cbor4ii_tree.specs.Cost.{Budget}
-use Rattle.cbor4ii_tree.specs.Rejections.{Each, EachPair}
-use Rattle.cbor4ii_tree.specs.SkippingRejects.{Skippable}
-use Rattle.cbor4ii_tree.specs.Skipping.{SkipsItems}
-use Rattle.cbor4ii_tree.proofs.skip_calls.Parts.{SkippedPairs}
-use Rattle.cbor4ii_tree.proofs.skip_calls.Calls.{WithKey}
+use Rattle.cbor4ii_tree.specs.{Cost.Budget, Rejections.{Each, EachPair}, Skipping.SkipsItems}
+use Rattle.cbor4ii_tree.specs.{SkippingRejects.Skippable, Tree.{Tree, Trees, no_trees, tree, Pairs}}
+use Rattle.cbor4ii_tree.specs.Tree.{no_pairs, pair, count, bytes, bytes_all, bytes_pairs}
+use Rattle.cbor4ii_tree.proofs.{skip_calls.Calls.WithKey, skip_calls.Parts.SkippedPairs}
 use Rattle.cbor4ii_tree.proofs.parts.Joined.{join_pairs, each-join_pairs, bytes-join_pairs}
 
 even_pairs : (W : Tree → Type 0) (n : ℕ) (ts : Trees) → count ts ≡ 2 * n → Each W ts

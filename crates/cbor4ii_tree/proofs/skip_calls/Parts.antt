@@ -1,20 +1,17 @@
 -- Items that are skipped one after another.
 use Rattle.std.proofs.Common.{◌≡◌, ◌≢◌, ℕ, ◌+◌, ◌<◌, inl, inr, List, [], ◌∷◌, ◌++◌, true, false}
 use Rattle.std.proofs.Common.{refl, sym, ap, ap₂, ◌∙◌, take, drop, arith, subst, ◌≤◌}
-use Rattle.cbor4ii_items.specs.Head.{break}
-use Rattle.cbor4ii_items.specs.Strings.{ReadsBreak}
-use Rattle.cbor4ii_tree.specs.Tree.{Trees, no_trees, Pairs, no_pairs, bytes, bytes_all, bytes_pairs}
-use Rattle.cbor4ii_tree.specs.Cost.{Budget}
-use Rattle.cbor4ii_tree.specs.InputError.{InputError}
-use Rattle.cbor4ii_tree.specs.Rejections.{Each, EachPair, NoBreak}
-use Rattle.cbor4ii_tree.specs.SkippingRejects.{Skippable}
-use Rattle.cbor4ii_tree.specs.Skipping.{SkipsOne, RejectsSkippingOne, SkipsItems}
-use Rattle.cbor4ii_tree.specs.Skipping.{RejectsSkippingItems}
-use Rattle.cbor4ii_tree.specs.Skipping.{SkipsIndefinite, RejectsSkippingIndefinite, SkipsMembers}
-use Rattle.cbor4ii_tree.specs.Skipping.{RejectsSkippingMembers}
+use Rattle.cbor4ii_items.specs.{Head.break, Strings.ReadsBreak}
 use Rattle.cbor4ii_tree.proofs.parts.Joined.{join, count-join, each-join, bytes-join}
 use Rattle.cbor4ii_tree.proofs.parts.Pushed.{push, count-push, each-push, bytes-push, push_pair}
 use Rattle.cbor4ii_tree.proofs.parts.Pushed.{each-push_pair, bytes-push_pair}
+use Rattle.cbor4ii_tree.proofs.parts.Rejecting.{in_count}
+use Rattle.cbor4ii_tree.specs.{Skipping.RejectsSkippingMembers, SkippingRejects.Skippable}
+use Rattle.cbor4ii_tree.specs.{Cost.Budget, InputError.InputError, Rejections.{Each, EachPair}}
+use Rattle.cbor4ii_tree.specs.{Rejections.NoBreak, Skipping.{SkipsOne, RejectsSkippingOne}}
+use Rattle.cbor4ii_tree.specs.Skipping.{SkipsItems, RejectsSkippingItems, SkipsIndefinite}
+use Rattle.cbor4ii_tree.specs.{Skipping.{RejectsSkippingIndefinite, SkipsMembers}, Tree.Trees}
+use Rattle.cbor4ii_tree.specs.Tree.{no_trees, Pairs, no_pairs, bytes, bytes_all, bytes_pairs}
 
 -- whole items
 abbrev pub SkippedEach : Budget → List ℕ → List ℕ → Type 0
@@ -61,18 +58,10 @@ items_more n budget xs ys zs h k = (
 )
 
 pub items_stop : (i n : ℕ) (budget : Budget) (xs ys : List ℕ) (e : InputError) (rest : List ℕ)
-    → i < n
-    → SkipsItems i budget xs ys → RejectsSkippingOne budget ys e rest
+    → i < n → SkipsItems i budget xs ys → RejectsSkippingOne budget ys e rest
     → RejectsSkippingItems n budget xs e rest
 items_stop i n budget xs ys e rest lt h s =
-    record {
-      prefix = h.0;
-      after = ys;
-      few = omega (arith, h.1);
-      whole = h.2;
-      is = h.3;
-      stopped = s;
-    }
+    in_count h.0 ys (omega (arith, h.1)) h.2 h.3 s
 
 pub no_break : (budget : Budget) (ys : List ℕ) (e : InputError) (rest : List ℕ) → ys ≢ []
     → (take_break : (bs : List ℕ) → ys ≡ break ∷ bs → ⊥) → RejectsSkippingOne budget ys e rest
@@ -86,9 +75,8 @@ pub indefinite_stop : (budget : Budget) (xs ys : List ℕ) (e : InputError) (res
 indefinite_stop budget xs ys e rest h s =
     record { prefix = h.0; after = ys; whole = h.1; is = h.2; stopped = s }
 
-pub indefinite_done : (budget : Budget) (xs ys zs : List ℕ) → SkippedEach budget xs ys →
-    ys ≡ break ∷ zs
-    → SkipsIndefinite budget xs zs
+pub indefinite_done : (budget : Budget) (xs ys zs : List ℕ) → SkippedEach budget xs ys
+    → ys ≡ break ∷ zs → SkipsIndefinite budget xs zs
 indefinite_done budget xs ys zs h e = (h.0, h.1, h.2 ∙ ap (λ r. bytes_all h.0 ++ r) e)
 
 -- ---- some at once

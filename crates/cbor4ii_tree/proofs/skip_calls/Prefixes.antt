@@ -3,27 +3,19 @@ use Rattle.std.proofs.Common.{◌≡◌, ◌≢◌, ℕ, ◌<◌, ◌≤◌, Lis
 use Rattle.std.proofs.Common.{refl, sym, ap, ◌∙◌, subst, arith, take-append-drop}
 use Rattle.std.proofs.lemmas.List.{drop-append-le}
 use denote.Ref.{Bor}
-use Rattle.cbor4ii_rw.specs.View.{View}
-use Rattle.cbor4ii_rw.specs.Reader.{Advances, KeepsAllButBudget}
-use Rattle.cbor4ii_rw.specs.declared.error.Len.{Len}
+use Rattle.cbor4ii_rw.specs.{declared.error.DecodeError.TheVariants.Eof, declared.error.Len.Len}
+use Rattle.cbor4ii_rw.specs.{Reader.{Advances, KeepsAllButBudget}, View.View}
 use Rattle.cbor4ii_rw.specs.declared.error.Len.TheVariants.{Small, Big}
-use Rattle.cbor4ii_rw.specs.declared.error.DecodeError.TheVariants.{Eof}
+use Rattle.cbor4ii_items.specs.{Laws.Contents.lends_prefix, Laws.Running.{runs_end, runs_peek}}
 use Rattle.cbor4ii_items.specs.Reading.{Runs, peek_at}
-use Rattle.cbor4ii_items.specs.Laws.Running.{runs_end, runs_peek}
-use Rattle.cbor4ii_tree.specs.Prefix.{Offers, FirstByteIs, Ready}
-use Rattle.cbor4ii_items.specs.Laws.Contents.{lends_prefix}
-use Rattle.cbor4ii_tree.specs.Cost.{Budget}
-use Rattle.cbor4ii_tree.specs.HeadParts.{DropsSome}
-use Rattle.cbor4ii_tree.specs.Ahead.{Sees, TakesAhead, TakesHead, Passes, NeverRejects}
-use Rattle.cbor4ii_tree.specs.declared.skip.After.{After}
-use Rattle.cbor4ii_tree.specs.declared.ahead.Among.{Among}
-use Rattle.cbor4ii_tree.specs.declared.ahead.Ahead.{Ahead}
-use Rattle.cbor4ii_tree.specs.declared.ahead.Ahead.TheVariants.{Run, Head, Break}
-use Rattle.cbor4ii_tree.specs.Rejections.{Missing}
-use Rattle.cbor4ii_tree.specs.Does.{Does}
-use Rattle.cbor4ii_tree.proofs.skip_calls.Doing.{does_ok}
+use Rattle.cbor4ii_tree.specs.{Cost.Budget, Does.Does, HeadParts.DropsSome, Prefix.Offers}
+use Rattle.cbor4ii_tree.specs.{declared.ahead.Ahead.Ahead, declared.ahead.Ahead.TheVariants.Run}
+use Rattle.cbor4ii_tree.specs.{declared.ahead.Among.Among, declared.skip.After.After, Ahead.Sees}
+use Rattle.cbor4ii_tree.specs.Ahead.{TakesAhead, TakesHead, Passes, NeverRejects}
+use Rattle.cbor4ii_tree.specs.{Prefix.{FirstByteIs, Ready}, Rejections.Missing}
+use Rattle.cbor4ii_tree.specs.declared.ahead.Ahead.TheVariants.{Head, Break}
+use Rattle.cbor4ii_tree.proofs.{skip_calls.Bytes.{none_shown, some_shown}, skip_calls.Doing.does_ok}
 use Rattle.cbor4ii_tree.proofs.skip_calls.Glancing.{first_break}
-use Rattle.cbor4ii_tree.proofs.skip_calls.Bytes.{none_shown, some_shown}
 
 -- ---- the next byte
 
@@ -64,7 +56,7 @@ module _ (among : Among) (inner : Budget) {a m b : View} where
       let o = subst (λ s. Offers 256 (Sees among s) a m) is h in
       let l = lends_prefix o.shows o.prefix o.is.begins.within o.is.bytes refl adv in
       let run = o.is.begins.run in
-      does_ok (TakesAhead among inner) NeverRejects (record {
+      does_ok _ _ (record {
         kept = l.kept;
         at = λ xs known.
             let t = l.at xs known in (
@@ -86,7 +78,7 @@ module _ (among : Among) (inner : Budget) {a m b : View} where
   takes_head size trailing is h adv =
       let o = subst (λ s. Offers 256 (Sees among s) a m) is h in
       let l = lends_prefix o.shows o.prefix o.is.within o.is.bytes refl adv in
-      does_ok (TakesAhead among inner) NeverRejects (record {
+      does_ok _ _ (record {
         kept = l.kept;
         at = λ xs known.
             let rest = drop (length o.shown) xs in
@@ -109,7 +101,7 @@ module _ (among : Among) (inner : Budget) {a m b : View} where
       let o = subst (λ s. Offers 256 (Sees among s) a m) is h in
       let first = first_break o.shown o.is.1 in
       let l = lends_prefix o.shows o.prefix o.is.1.some first.1 refl adv in
-      does_ok (TakesAhead among inner) NeverRejects (record {
+      does_ok _ _ (record {
         kept = l.kept;
         at = λ xs known.
             let t = l.at xs known in (

@@ -2,19 +2,13 @@
 use Rattle.std.proofs.Common.{◌≡◌, ℕ, suc, List, [], ◌++◌, length, Ok, Err, sym, ◌∙◌, arith}
 use Rattle.std.proofs.Common.{append-nil}
 use Rattle.cbor4ii_items.specs.Head.{IsBytes}
-use Rattle.cbor4ii_tree.specs.Tree.{Tree, bytes, Loose}
-use Rattle.cbor4ii_tree.specs.Cost.{Budget}
-use Rattle.cbor4ii_tree.specs.InputError.{InputError}
+use Rattle.cbor4ii_tree.specs.{InputError.InputError, Laws.Binds.apart, Laws.Ignoring.one_encoding}
+use Rattle.cbor4ii_tree.specs.{Laws.SkippingAgain.skip_again, Skip.skip, Cost.Budget}
 use Rattle.cbor4ii_tree.specs.Encodings.{Skips, SomeAnswer, AtMostOne}
-use Rattle.cbor4ii_tree.specs.SkippingRejects.{SkippingRejects}
-use Rattle.cbor4ii_tree.specs.Skip.{skip}
+use Rattle.cbor4ii_tree.specs.{SkippingRejects.SkippingRejects, Tree.{Tree, bytes, Loose}}
+use Rattle.cbor4ii_tree.proofs.{skipping.Rejections.skip_rejects, skipping.Rejects.skip_errs}
 use Rattle.cbor4ii_tree.proofs.answers.Answers.{some_answer_of, at_most_one_of}
-use Rattle.cbor4ii_tree.specs.Laws.Binds.{apart}
-use Rattle.cbor4ii_tree.specs.Laws.SkippingAgain.{skip_again}
 use Rattle.cbor4ii_tree.proofs.skipping.Sound.{skip_sound}
-use Rattle.cbor4ii_tree.proofs.skipping.Rejects.{skip_errs}
-use Rattle.cbor4ii_tree.proofs.skipping.Rejections.{skip_rejects}
-use Rattle.cbor4ii_tree.specs.Laws.Ignoring.{one_encoding}
 
 pub skip_from_Skips : (input : List ℕ) (budget : Budget) (t : Tree) (rest : List ℕ)
     → Skips input budget t rest → skip budget input ≡ Ok (t, rest)
@@ -53,8 +47,7 @@ one_skipping input budget =
 
 -- what is accepted does not fail, of any numbers
 pub not_both : (input : List ℕ) (budget : Budget) (t : Tree) (x : List ℕ) (e : InputError)
-    (y : List ℕ)
-    → Skips input budget t x → SkippingRejects input budget e y → ⊥
+    (y : List ℕ) → Skips input budget t x → SkippingRejects input budget e y → ⊥
 not_both input budget t x e y s u =
     apart (skip budget input) (t, x) (e, y) (skip_from_Skips input budget t x s)
     (skip_from_Rejects input budget e y u)

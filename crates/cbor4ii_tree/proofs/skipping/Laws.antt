@@ -1,23 +1,25 @@
 -- What each error of skipping says of the bytes that may still come.
 use Rattle.std.proofs.Common.{◌≡◌, ℕ, inl, inr, List, [], ◌∷◌, ◌++◌, None, sym, ap, ◌∙◌, subst}
 use Rattle.std.proofs.Common.{append_assoc, append-nil}
-use Rattle.cbor4ii_items.specs.Head.{IsBytes}
-use Rattle.cbor4ii_tree.specs.Tree.{Tree, bytes, Loose}
-use Rattle.cbor4ii_items.specs.Budget.{CostFits}
-use Rattle.cbor4ii_tree.specs.Cost.{Budget, skip_cost}
+use Rattle.cbor4ii_items.specs.{Budget.CostFits, Head.IsBytes}
+use Rattle.cbor4ii_tree.specs.{Laws.Ignoring.one_encoding, SkippingRejects.SkippingRejects}
+use Rattle.cbor4ii_tree.specs.{Cost.{Budget, skip_cost}, Encodings.{Skips, IsProperPrefix}}
 use Rattle.cbor4ii_tree.specs.InputError.{InputError, eof, mismatch, unsupported, require_length}
 use Rattle.cbor4ii_tree.specs.InputError.{require_utf8, depth_overflow, Len, IsEof, IsFinal}
-use Rattle.cbor4ii_tree.specs.Encodings.{Skips, IsProperPrefix}
-use Rattle.cbor4ii_tree.specs.SkippingRejects.{SkippingRejects}
-use Rattle.cbor4ii_tree.proofs.parts.Prefixes.{whole_bytes}
-use Rattle.cbor4ii_tree.proofs.skipping.Answer.{some_skipping, not_both}
-use Rattle.cbor4ii_tree.proofs.skipping.Prefixes.{skipping_prefix}
+use Rattle.cbor4ii_tree.specs.{InputError.IsDepthOverflow, Tree.{Tree, bytes, Loose}}
+use Rattle.cbor4ii_tree.proofs.{parts.Prefixes.whole_bytes, skipping.Answer.some_skipping}
+use Rattle.cbor4ii_tree.proofs.{skipping.Answer.not_both, skipping.Prefixes.skipping_prefix}
 use Rattle.cbor4ii_tree.proofs.skipping.Widen.{skipping_persists, skipping_unbounded}
-use Rattle.cbor4ii_tree.specs.Laws.Ignoring.{one_encoding}
 
 pub none_left : (xs ys : List ℕ) → xs ++ ys ≡ [] → ys ≡ []
 none_left [] ys e = e
 none_left (x ∷ xs) ys e = cc
+
+-- an error that nothing mends is neither an end of the input nor a want of steps
+pub final_only : (e : InputError) → IsFinal e → (¬ (IsEof e)) × (¬ (IsDepthOverflow e))
+final_only (eof name n) h = absurd h
+final_only (depth_overflow name) h = absurd h
+final_only _ h = ((λ y. y), (λ y. y))
 
 abbrev RejectsAtEnd : List ℕ → Budget → Type 0
 RejectsAtEnd prefix budget =
@@ -61,9 +63,8 @@ prefix_rejects t prefix budget l f p h =
     ]
 
 pub eof_on_prefix : (input : List ℕ) (budget : Budget) (name : List ℕ) (expect : Len)
-    (rest : List ℕ)
-    → IsBytes input → SkippingRejects input budget (eof name expect) rest
-    → (t : Tree) × Loose t × IsBytes (bytes t) × IsProperPrefix input (bytes t)
+    (rest : List ℕ) → IsBytes input → SkippingRejects input budget (eof name expect) rest →
+    (t : Tree) × Loose t × IsBytes (bytes t) × IsProperPrefix input (bytes t)
 eof_on_prefix input budget name expect rest h s =
     let f = (skipping_prefix input budget (eof name expect) rest h tt s).0 in (
       f.whole,
@@ -87,20 +88,7 @@ unbounded input budget t x s = record { loose = s.loose; fits = tt; begins = s.b
 pub final_stays : (input more : List ℕ) (budget other : Budget) (e : InputError) (rest : List ℕ)
     (t : Tree) (x : List ℕ) → IsFinal e → SkippingRejects input budget e rest
     → Skips (input ++ more) other t x → ⊥
-final_stays input more budget other (mismatch name b) rest t x h rejects s =
-    not_both (input ++ more) None t x (mismatch name b) (rest ++ more)
-    (unbounded (input ++ more) other t x s)
-    (skipping_unbounded input budget (mismatch name b) rest (λ y. y) (λ y. y) more rejects)
-final_stays input more budget other (unsupported name b) rest t x h rejects s =
-    not_both (input ++ more) None t x (unsupported name b) (rest ++ more)
-    (unbounded (input ++ more) other t x s)
-    (skipping_unbounded input budget (unsupported name b) rest (λ y. y) (λ y. y) more rejects)
-final_stays input more budget other (require_length name n) rest t x h rejects s =
-    not_both (input ++ more) None t x (require_length name n) (rest ++ more)
-    (unbounded (input ++ more) other t x s)
-    (skipping_unbounded input budget (require_length name n) rest (λ y. y) (λ y. y) more rejects)
-final_stays input more budget other (require_utf8 name) rest t x h rejects s =
-    not_both (input ++ more) None t x (require_utf8 name) (rest ++ more)
-    (unbounded (input ++ more) other t x s)
-    (skipping_unbounded input budget (require_utf8 name) rest (λ y. y) (λ y. y) more rejects)
-final_stays input more budget other _ rest t x h rejects s = absurd h
+final_stays input more budget other e rest t x h rejects s =
+    let only = final_only e h in
+    not_both (input ++ more) None t x e (rest ++ more) (unbounded (input ++ more) other t x s)
+    (skipping_unbounded input budget e rest only.0 only.1 more rejects)

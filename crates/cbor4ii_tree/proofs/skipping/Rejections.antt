@@ -4,26 +4,21 @@ use Rattle.cbor4ii_items.specs.Head.{Width, in_first, one, two, four, eight, byt
 use Rattle.cbor4ii_items.specs.Initial.{kind_major, precision_bytes, Initial, starts_int, bad_int}
 use Rattle.cbor4ii_items.specs.Initial.{starts_string, starts_chunks, bad_string, starts_array}
 use Rattle.cbor4ii_items.specs.Initial.{starts_indefinite_array, bad_array, starts_map}
-use Rattle.cbor4ii_items.specs.Initial.{starts_indefinite_map}
-use Rattle.cbor4ii_items.specs.Initial.{bad_map, starts_tag, bad_tag, starts_simple, starts_bits}
-use Rattle.cbor4ii_items.specs.Initial.{other_simple, initial}
-use Rattle.cbor4ii_tree.specs.Tree.{Tree, string, array, map_of, tagged}
-use Rattle.cbor4ii_tree.specs.Cost.{Budget, step_in}
-use Rattle.cbor4ii_tree.specs.InputError.{InputError, ignored_any, tag_name}
-use Rattle.cbor4ii_tree.specs.Rejections.{Stopping, Missing, RejectsInCount}
-use Rattle.cbor4ii_tree.specs.SkippingRejects.{Skippable, SkippingRejectsBy, SkippingRejectsFrom}
-use Rattle.cbor4ii_tree.specs.SkippingRejects.{SkippingRejectsWithin}
-use Rattle.cbor4ii_tree.specs.Parse.{Parser, ◌>>=◌, prefix_at, trees_at, pairs_at}
-use Rattle.cbor4ii_tree.specs.Parse.{indefinite_trees_at}
-use Rattle.cbor4ii_tree.specs.Parse.{indefinite_pairs_at}
-use Rattle.cbor4ii_tree.specs.Skip.{whole_number_at, whole_argument_at, skip_by, skip_from}
-use Rattle.cbor4ii_tree.specs.Skip.{skip_within}
+use Rattle.cbor4ii_items.specs.Initial.{starts_indefinite_map, bad_map, starts_tag, bad_tag}
+use Rattle.cbor4ii_items.specs.Initial.{starts_simple, starts_bits, other_simple, initial}
+use Rattle.cbor4ii_tree.specs.{Laws.PartsAgain.Again, Laws.SkippingAgain.skip_again, Cost.Budget}
+use Rattle.cbor4ii_tree.specs.{Cost.step_in, InputError.{InputError, ignored_any, tag_name}}
 use Rattle.cbor4ii_tree.specs.Laws.Binds.{err, then_err, stepped_rejects}
-use Rattle.cbor4ii_tree.specs.Laws.PartsAgain.{Again}
+use Rattle.cbor4ii_tree.specs.{Laws.SkippingAgain.skippable_starts, Parse.{Parser, ◌>>=◌}}
+use Rattle.cbor4ii_tree.specs.Parse.{prefix_at, trees_at, pairs_at, indefinite_trees_at}
+use Rattle.cbor4ii_tree.specs.{Parse.indefinite_pairs_at, Rejections.{Stopping, Missing}}
+use Rattle.cbor4ii_tree.specs.{Rejections.RejectsInCount, Skip.{whole_number_at, whole_argument_at}}
+use Rattle.cbor4ii_tree.specs.{Skip.{skip_by, skip_from, skip_within}, SkippingRejects.Skippable}
+use Rattle.cbor4ii_tree.specs.SkippingRejects.{SkippingRejectsBy, SkippingRejectsFrom}
+use Rattle.cbor4ii_tree.specs.{SkippingRejects.SkippingRejectsWithin, Tree.{Tree, string, array}}
+use Rattle.cbor4ii_tree.specs.Tree.{map_of, tagged}
 use Rattle.cbor4ii_tree.proofs.parts.Stop.{Gives, missing_prefix, head_rejects, trees_stop}
-use Rattle.cbor4ii_tree.proofs.parts.Stop.{pairs_stop}
-use Rattle.cbor4ii_tree.proofs.parts.Stop.{indefinite_trees_stop, indefinite_pairs_stop}
-use Rattle.cbor4ii_tree.specs.Laws.SkippingAgain.{skip_again, skippable_starts}
+use Rattle.cbor4ii_tree.proofs.parts.Stop.{pairs_stop, indefinite_trees_stop, indefinite_pairs_stop}
 
 missing_whole_number : (name : List ℕ) (k : ℕ) (bs : List ℕ) (e : InputError) (rest : List ℕ)
     → Missing name k bs e rest → whole_number_at name k bs ≡ Err (e, rest)
@@ -69,11 +64,10 @@ by_rejects item budget rejects bound a g starts_indefinite_array b bs e rest lt 
     (suc (length bs)) bs e rest (omega arith) lt s)
 by_rejects item budget rejects bound a g bad_array b bs e rest lt s = err _ _ _ _ s
 by_rejects item budget rejects bound a g (starts_map w) b bs e rest lt s =
-    head_rejects {A = Tree} ignored_any 5 w b bs
-    (λ n. pairs_at item n.0 n.1 >>= λ q. Ok (map_of w q.0, q.1))
-    (λ n. RejectsInCount (Skippable budget) rejects (2 * n)) e rest (λ n after le st.
-    then_err {B = Tree} (pairs_at item n after) _ (e, rest)
-    (pairs_stop item (Skippable budget) rejects bound a g n after e rest (omega arith) st)) s
+    head_rejects {A = Tree} ignored_any 5 w b bs (λ n. pairs_at item n.0 n.1 >>= λ q. Ok
+    (map_of w q.0, q.1)) (λ n. RejectsInCount (Skippable budget) rejects (2 * n)) e rest
+    (λ n after le st. then_err {B = Tree} (pairs_at item n after) _ (e, rest) (pairs_stop item
+    (Skippable budget) rejects bound a g n after e rest (omega arith) st)) s
 by_rejects item budget rejects bound a g starts_indefinite_map b bs e rest lt s =
     then_err (indefinite_pairs_at item (suc (length bs)) bs) _ (e, rest)
     (indefinite_pairs_stop item (Skippable budget) rejects bound a (skippable_starts budget) g

@@ -5,28 +5,22 @@ use Rattle.cbor4ii_items.specs.Head.{Width, in_first, one, two, four, eight, byt
 use Rattle.cbor4ii_items.specs.Initial.{kind_major, precision_bytes, Initial, starts_int, bad_int}
 use Rattle.cbor4ii_items.specs.Initial.{starts_string, starts_chunks, bad_string, starts_array}
 use Rattle.cbor4ii_items.specs.Initial.{starts_indefinite_array, bad_array, starts_map}
-use Rattle.cbor4ii_items.specs.Initial.{starts_indefinite_map}
-use Rattle.cbor4ii_items.specs.Initial.{bad_map, starts_tag, bad_tag, starts_simple, starts_bits}
-use Rattle.cbor4ii_items.specs.Initial.{other_simple, initial}
+use Rattle.cbor4ii_items.specs.Initial.{starts_indefinite_map, bad_map, starts_tag, bad_tag}
+use Rattle.cbor4ii_items.specs.Initial.{starts_simple, starts_bits, other_simple, initial}
 use Rattle.cbor4ii_items.specs.Magnitude.{number_of}
-use Rattle.cbor4ii_tree.specs.Tree.{Tree, int, string, chunked, array, array_indefinite, map_of}
-use Rattle.cbor4ii_tree.specs.Tree.{map_indefinite}
-use Rattle.cbor4ii_tree.specs.Tree.{tagged, bits}
-use Rattle.cbor4ii_tree.specs.Cost.{Budget, step_in}
-use Rattle.cbor4ii_tree.specs.InputError.{InputError, ignored_any, tag_name}
-use Rattle.cbor4ii_tree.specs.Rejections.{Stopping, Missing, RejectsInCount}
+use Rattle.cbor4ii_tree.specs.{Cost.{Budget, step_in}, InputError.{InputError, ignored_any}}
+use Rattle.cbor4ii_tree.specs.{InputError.tag_name, Laws.Binds.{bind_err, no_err, is_err}}
+use Rattle.cbor4ii_tree.specs.{Laws.Binds.stepped_err, Parse.{Parser, ◌>>=◌, prefix_at, trees_at}}
+use Rattle.cbor4ii_tree.specs.Parse.{pairs_at, indefinite_trees_at, indefinite_pairs_at}
+use Rattle.cbor4ii_tree.specs.{Rejections.{Stopping, Missing, RejectsInCount}, Skip.whole_number_at}
+use Rattle.cbor4ii_tree.specs.Skip.{whole_argument_at, skip_by, skip_from, skip_within}
 use Rattle.cbor4ii_tree.specs.SkippingRejects.{Skippable, SkippingRejectsBy, SkippingRejectsFrom}
-use Rattle.cbor4ii_tree.specs.SkippingRejects.{SkippingRejectsWithin}
-use Rattle.cbor4ii_tree.specs.Parse.{Parser, ◌>>=◌, prefix_at, trees_at, pairs_at}
-use Rattle.cbor4ii_tree.specs.Parse.{indefinite_trees_at}
-use Rattle.cbor4ii_tree.specs.Parse.{indefinite_pairs_at}
-use Rattle.cbor4ii_tree.specs.Skip.{whole_number_at, whole_argument_at, skip_by, skip_from}
-use Rattle.cbor4ii_tree.specs.Skip.{skip_within}
-use Rattle.cbor4ii_tree.specs.Laws.Binds.{bind_err, no_err, is_err, stepped_err}
-use Rattle.cbor4ii_tree.proofs.heads.Means.{Means, means}
-use Rattle.cbor4ii_tree.proofs.parts.Sound.{IsSound}
-use Rattle.cbor4ii_tree.proofs.parts.Reject.{Complete, prefix_err, at_head, trees_err, pairs_err}
-use Rattle.cbor4ii_tree.proofs.parts.Reject.{indefinite_trees_err, indefinite_pairs_err}
+use Rattle.cbor4ii_tree.specs.{SkippingRejects.SkippingRejectsWithin, Tree.{Tree, int, string}}
+use Rattle.cbor4ii_tree.specs.Tree.{chunked, array, array_indefinite, map_of, map_indefinite}
+use Rattle.cbor4ii_tree.specs.Tree.{tagged, bits}
+use Rattle.cbor4ii_tree.proofs.{parts.Reject.indefinite_pairs_err, parts.Sound.IsSound}
+use Rattle.cbor4ii_tree.proofs.{heads.Means.{Means, means}, parts.Reject.{Complete, prefix_err}}
+use Rattle.cbor4ii_tree.proofs.parts.Reject.{at_head, trees_err, pairs_err, indefinite_trees_err}
 use Rattle.cbor4ii_tree.proofs.skipping.Sound.{skip_sound}
 
 whole_number_err : (name : List ℕ) (k : ℕ) (bs : List ℕ) (e : InputError) (rest : List ℕ)
@@ -65,27 +59,25 @@ by_err item budget rejects bound s r (starts_chunks k) b bs e rest m h lt x =
     elim (bind_err (indefinite_trees_at item (suc (length bs)) bs) (λ q. Ok (chunked k q.0, q.1))
     (e, rest) x) [
       | inl g ↦ indefinite_trees_err item (Skippable budget) rejects bound s r (suc (length bs)) bs
-          e rest h
-          lt (omega arith) g
+          e rest h lt (omega arith) g
       | inr g ↦ absurd (no_err _ _ g.2)
     ]
 by_err item budget rejects bound s r (bad_string k) b bs e rest m h lt x = is_err _ _ _ _ x
 by_err item budget rejects bound s r (starts_array w) b bs e rest m h lt x =
-    at_head {A = Tree} ignored_any 4 w b bs
-    (λ n. trees_at item n.0 n.1 >>= λ q. Ok (array w q.0, q.1))
-    (RejectsInCount (Skippable budget) rejects) e rest h m (λ n more le y.
+    at_head {A = Tree} ignored_any 4 w b bs (λ n. trees_at item n.0 n.1 >>= λ q. Ok
+    (array w q.0, q.1)) (RejectsInCount (Skippable budget) rejects) e rest h m (λ n more le y.
     elim (bind_err {B = Tree} (trees_at item n.0 n.1) (λ q. Ok (array w q.0, q.1)) (e, rest) y) [
       | inl g ↦
           trees_err item (Skippable budget) rejects bound s r n.0 n.1 e rest more (omega arith) g
       | inr g ↦ absurd (no_err _ _ g.2)
     ]) x
 by_err item budget rejects bound s r starts_indefinite_array b bs e rest m h lt x =
-    elim (bind_err (indefinite_trees_at item (suc (length bs)) bs)
-    (λ q. Ok (array_indefinite q.0, q.1))
-    (e, rest) x) [
+    elim (bind_err (indefinite_trees_at item (suc (length bs)) bs) (λ q. Ok (
+      array_indefinite q.0,
+      q.1,
+    )) (e, rest) x) [
       | inl g ↦ indefinite_trees_err item (Skippable budget) rejects bound s r (suc (length bs)) bs
-          e rest h
-          lt (omega arith) g
+          e rest h lt (omega arith) g
       | inr g ↦ absurd (no_err _ _ g.2)
     ]
 by_err item budget rejects bound s r bad_array b bs e rest m h lt x = is_err _ _ _ _ x
@@ -99,12 +91,10 @@ by_err item budget rejects bound s r (starts_map w) b bs e rest m h lt x =
       | inr g ↦ absurd (no_err _ _ g.2)
     ]) x
 by_err item budget rejects bound s r starts_indefinite_map b bs e rest m h lt x =
-    elim (bind_err (indefinite_pairs_at item (suc (length bs)) bs)
-    (λ q. Ok (map_indefinite q.0, q.1))
-    (e, rest) x) [
+    elim (bind_err (indefinite_pairs_at item (suc (length bs)) bs) (λ q. Ok
+    (map_indefinite q.0, q.1)) (e, rest) x) [
       | inl g ↦ indefinite_pairs_err item (Skippable budget) rejects bound s r (suc (length bs)) bs
-          e rest h
-          lt (omega arith) g
+          e rest h lt (omega arith) g
       | inr g ↦ absurd (no_err _ _ g.2)
     ]
 by_err item budget rejects bound s r bad_map b bs e rest m h lt x = is_err _ _ _ _ x

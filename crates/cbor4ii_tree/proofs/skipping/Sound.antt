@@ -1,34 +1,27 @@
 -- What is skipped is a loose tree whose skip cost fits.
 use Rattle.std.proofs.Common.{◌≡◌, ℕ, zero, suc, ◌+◌, List, [], ◌∷◌, length, Ok, refl, sym, ap, ap₂}
 use Rattle.std.proofs.Common.{subst}
-use Rattle.cbor4ii_items.specs.Head.{HeadFits, IsBytes}
-use Rattle.cbor4ii_items.specs.Initial.{sign_major, kind_major, precision_bytes, Initial}
-use Rattle.cbor4ii_items.specs.Initial.{starts_int, bad_int, starts_string, starts_chunks}
-use Rattle.cbor4ii_items.specs.Initial.{bad_string, starts_array, starts_indefinite_array}
-use Rattle.cbor4ii_items.specs.Initial.{bad_array}
-use Rattle.cbor4ii_items.specs.Initial.{starts_map, starts_indefinite_map, bad_map, starts_tag}
-use Rattle.cbor4ii_items.specs.Initial.{bad_tag}
+use Rattle.cbor4ii_items.specs.{Budget.CostFits, Head.{HeadFits, IsBytes}, Initial.sign_major}
+use Rattle.cbor4ii_items.specs.Initial.{kind_major, precision_bytes, Initial, starts_int, bad_int}
+use Rattle.cbor4ii_items.specs.Initial.{starts_string, starts_chunks, bad_string, starts_array}
+use Rattle.cbor4ii_items.specs.Initial.{starts_indefinite_array, bad_array, starts_map}
+use Rattle.cbor4ii_items.specs.Initial.{starts_indefinite_map, bad_map, starts_tag, bad_tag}
 use Rattle.cbor4ii_items.specs.Initial.{starts_simple, starts_bits, other_simple, initial}
-use Rattle.cbor4ii_tree.specs.Tree.{Tree, int, string, chunked, array, array_indefinite, map_of}
-use Rattle.cbor4ii_tree.specs.Tree.{map_indefinite}
-use Rattle.cbor4ii_tree.specs.Tree.{tagged, simple, bits, count, pair_count, bytes, bytes_all}
-use Rattle.cbor4ii_tree.specs.Tree.{bytes_pairs}
-use Rattle.cbor4ii_items.specs.Budget.{CostFits}
 use Rattle.cbor4ii_items.specs.Laws.Answering.{fits_zero}
-use Rattle.cbor4ii_tree.specs.Cost.{Budget, step_in}
-use Rattle.cbor4ii_tree.specs.InputError.{ignored_any, tag_name}
-use Rattle.cbor4ii_tree.specs.SkippingRejects.{Skippable}
-use Rattle.cbor4ii_tree.specs.Parse.{Parser, ◌>>=◌, prefix_at, argument_of_width, trees_at}
-use Rattle.cbor4ii_tree.specs.Parse.{pairs_at}
-use Rattle.cbor4ii_tree.specs.Parse.{indefinite_trees_at, indefinite_pairs_at}
-use Rattle.cbor4ii_tree.specs.Skip.{whole_number_at, whole_argument_at, skip_by, skip_from}
-use Rattle.cbor4ii_tree.specs.Skip.{skip_within}
-use Rattle.cbor4ii_tree.specs.Laws.Binds.{bind_ok, same_ok, no_ok, stepped_ok, step_up}
 use Rattle.cbor4ii_tree.proofs.heads.Inverse.{prefix_inverse, whole_number_inverse}
 use Rattle.cbor4ii_tree.proofs.heads.Means.{Means, means, argument_inverse, whole_argument_inverse}
-use Rattle.cbor4ii_tree.proofs.parts.Sound.{Took, IsSound, trees_sound, pairs_sound}
+use Rattle.cbor4ii_tree.proofs.parts.Sound.{took, Took, IsSound, trees_sound, pairs_sound}
 use Rattle.cbor4ii_tree.proofs.parts.Sound.{indefinite_trees_sound, indefinite_pairs_sound, counted}
-use Rattle.cbor4ii_tree.specs.Laws.Wholes.{all_skippable, all_pairs_skippable}
+use Rattle.cbor4ii_tree.specs.{Cost.{Budget, step_in}, InputError.{ignored_any, tag_name}}
+use Rattle.cbor4ii_tree.specs.Laws.Binds.{bind_ok, same_ok, no_ok, stepped_ok, step_up}
+use Rattle.cbor4ii_tree.specs.{Laws.Wholes.{all_skippable, all_pairs_skippable}, Parse.Parser}
+use Rattle.cbor4ii_tree.specs.Parse.{◌>>=◌, prefix_at, argument_of_width, trees_at, pairs_at}
+use Rattle.cbor4ii_tree.specs.Parse.{indefinite_trees_at, indefinite_pairs_at}
+use Rattle.cbor4ii_tree.specs.Skip.{whole_number_at, whole_argument_at, skip_by, skip_from}
+use Rattle.cbor4ii_tree.specs.{Skip.skip_within, SkippingRejects.Skippable, Tree.{Tree, int}}
+use Rattle.cbor4ii_tree.specs.Tree.{string, chunked, array, array_indefinite, map_of}
+use Rattle.cbor4ii_tree.specs.Tree.{map_indefinite, tagged, simple, bits, count, pair_count, bytes}
+use Rattle.cbor4ii_tree.specs.Tree.{bytes_all, bytes_pairs}
 
 abbrev Up : Budget → Budget → Type 0
 Up inner outer = (c : ℕ) → CostFits c inner → CostFits (1 + c) outer
@@ -49,12 +42,8 @@ by_sound item inner outer s up (starts_string k w) b bs p m h e =
     let top = argument_inverse ignored_any (kind_major k) x.0.0 w b bs x.0.1 h m x.1 in
     let part = prefix_inverse ignored_any x.0.0 x.0.1 y.0.0 y.0.1 top.more y.1 in
     subst (Took (Skippable outer) (b ∷ bs)) (same_ok _ (string k w y.0.0, y.0.1) p refl y.2)
-    (record {
-      whole = (subst (HeadFits w) (sym part.1) top.fits, up 0 (fits_zero inner));
-      is =
-          counted (kind_major k) x.0.0 (length y.0.0) w b bs x.0.1 y.0.0 y.0.1 top.is part.1 part.0;
-      more = part.3;
-    })
+    (took (subst (HeadFits w) (sym part.1) top.fits, up 0 (fits_zero inner)) (counted (kind_major k)
+    x.0.0 (length y.0.0) w b bs x.0.1 y.0.0 y.0.1 top.is part.1 part.0) part.3)
 by_sound item inner outer s up (starts_chunks k) b bs p m h e =
     let y = bind_ok (indefinite_trees_at item (suc (length bs)) bs)
     (λ q. Ok (chunked k q.0, q.1)) p e in
@@ -70,13 +59,9 @@ by_sound item inner outer s up (starts_array w) b bs p m h e =
     let top = argument_inverse ignored_any 4 x.0.0 w b bs x.0.1 h m x.1 in
     let all = trees_sound item (Skippable inner) s x.0.0 x.0.1 y.0 top.more y.1 in
     let each = all_skippable y.0.0 inner all.whole in
-    subst (Took (Skippable outer) (b ∷ bs)) (same_ok _ (array w y.0.0, y.0.1) p refl y.2) (record {
-      whole = ((subst (HeadFits w) (sym all.number) top.fits, each.0), up _ each.1);
-      is =
-          counted 4 x.0.0 (count y.0.0) w b bs x.0.1 (bytes_all y.0.0) y.0.1 top.is all.number
-          all.is;
-      more = all.more;
-    })
+    subst (Took (Skippable outer) (b ∷ bs)) (same_ok _ (array w y.0.0, y.0.1) p refl y.2) (took
+    ((subst (HeadFits w) (sym all.number) top.fits, each.0), up _ each.1) (counted 4 x.0.0
+    (count y.0.0) w b bs x.0.1 (bytes_all y.0.0) y.0.1 top.is all.number all.is) all.more)
 by_sound item inner outer s up starts_indefinite_array b bs p m h e =
     let y = bind_ok (indefinite_trees_at item (suc (length bs)) bs)
     (λ q. Ok (array_indefinite q.0, q.1)) p e in
@@ -92,13 +77,9 @@ by_sound item inner outer s up (starts_map w) b bs p m h e =
     let top = argument_inverse ignored_any 5 x.0.0 w b bs x.0.1 h m x.1 in
     let all = pairs_sound item (Skippable inner) s x.0.0 x.0.1 y.0 top.more y.1 in
     let each = all_pairs_skippable y.0.0 inner all.whole in
-    subst (Took (Skippable outer) (b ∷ bs)) (same_ok _ (map_of w y.0.0, y.0.1) p refl y.2) (record {
-      whole = ((subst (HeadFits w) (sym all.number) top.fits, each.0), up _ each.1);
-      is =
-          counted 5 x.0.0 (pair_count y.0.0) w b bs x.0.1 (bytes_pairs y.0.0) y.0.1 top.is
-          all.number all.is;
-      more = all.more;
-    })
+    subst (Took (Skippable outer) (b ∷ bs)) (same_ok _ (map_of w y.0.0, y.0.1) p refl y.2) (took
+    ((subst (HeadFits w) (sym all.number) top.fits, each.0), up _ each.1) (counted 5 x.0.0
+    (pair_count y.0.0) w b bs x.0.1 (bytes_pairs y.0.0) y.0.1 top.is all.number all.is) all.more)
 by_sound item inner outer s up starts_indefinite_map b bs p m h e =
     let y = bind_ok (indefinite_pairs_at item (suc (length bs)) bs)
     (λ q. Ok (map_indefinite q.0, q.1)) p e in
@@ -114,11 +95,8 @@ by_sound item inner outer s up (starts_tag w) b bs p m h e =
     let top = argument_inverse tag_name 6 x.0.0 w b bs x.0.1 h m x.1 in
     let part = s x.0.1 y.0 top.more y.1 in
     subst (Took (Skippable outer) (b ∷ bs)) (same_ok _ (tagged x.0.0 w y.0.0, y.0.1) p refl y.2)
-    (record {
-      whole = ((top.fits, part.whole.0), up _ part.whole.1);
-      is = counted 6 x.0.0 x.0.0 w b bs x.0.1 (bytes y.0.0) y.0.1 top.is refl part.is;
-      more = part.more;
-    })
+    (took ((top.fits, part.whole.0), up _ part.whole.1) (counted 6 x.0.0 x.0.0 w b bs x.0.1
+    (bytes y.0.0) y.0.1 top.is refl part.is) part.more)
 by_sound item inner outer s up bad_tag b bs p m h e = absurd (no_ok {A = Tree} _ p e)
 by_sound item inner outer s up (starts_simple sg) b bs p m h e =
     subst (Took (Skippable outer) (b ∷ bs)) (same_ok _ (simple sg, bs) p refl e)
@@ -128,11 +106,7 @@ by_sound item inner outer s up (starts_bits q) b bs p m h e =
     (λ n. Ok (bits q n.0, n.1)) p e in
     let whole = whole_number_inverse ignored_any (precision_bytes q) x.0.0 bs x.0.1 h x.1 in
     subst (Took (Skippable outer) (b ∷ bs)) (same_ok _ (bits q x.0.0, x.0.1) p refl x.2)
-    (record {
-      whole = (whole.below, up 0 (fits_zero inner));
-      is = ap₂ ◌∷◌ m whole.is;
-      more = whole.more;
-    })
+    (took (whole.below, up 0 (fits_zero inner)) (ap₂ ◌∷◌ m whole.is) whole.more)
 by_sound item inner outer s up other_simple b bs p m h e = absurd (no_ok {A = Tree} _ p e)
 
 from_sound : (item : Parser Tree) (inner outer : Budget) → IsSound item (Skippable inner)

@@ -1,15 +1,14 @@
 -- Where skipping fails, it stays rejected.
 use Rattle.std.proofs.Common.{ℕ, zero, suc, ◌*◌, ◌≤◌, List, [], ◌∷◌, ◌++◌, length, None, arith}
 use Rattle.std.proofs.Common.{length-append}
-use Rattle.cbor4ii_items.specs.Head.{byte_count}
-use Rattle.cbor4ii_items.specs.Initial.{kind_major, precision_bytes, Initial, starts_int, bad_int}
-use Rattle.cbor4ii_items.specs.Initial.{starts_string, starts_chunks, bad_string, starts_array}
-use Rattle.cbor4ii_items.specs.Initial.{starts_indefinite_array, bad_array, starts_map}
-use Rattle.cbor4ii_items.specs.Initial.{starts_indefinite_map}
-use Rattle.cbor4ii_items.specs.Initial.{bad_map, starts_tag, bad_tag, starts_simple, starts_bits}
+use Rattle.cbor4ii_items.specs.{Head.byte_count, Initial.{kind_major, precision_bytes, Initial}}
+use Rattle.cbor4ii_items.specs.Initial.{starts_int, bad_int, starts_string, starts_chunks}
+use Rattle.cbor4ii_items.specs.Initial.{bad_string, starts_array, starts_indefinite_array}
+use Rattle.cbor4ii_items.specs.Initial.{bad_array, starts_map, starts_indefinite_map, bad_map}
+use Rattle.cbor4ii_items.specs.Initial.{starts_tag, bad_tag, starts_simple, starts_bits}
 use Rattle.cbor4ii_items.specs.Initial.{other_simple, initial}
-use Rattle.cbor4ii_tree.specs.Cost.{Budget, skip_cost}
-use Rattle.cbor4ii_tree.specs.InputError.{InputError, IsEof, IsDepthOverflow, ignored_any, tag_name}
+use Rattle.cbor4ii_tree.specs.{Cost.{Budget, skip_cost}, InputError.{InputError, IsEof}}
+use Rattle.cbor4ii_tree.specs.InputError.{IsDepthOverflow, ignored_any, tag_name}
 use Rattle.cbor4ii_tree.specs.Rejections.{Stopping, Missing, RejectsInCount}
 use Rattle.cbor4ii_tree.specs.SkippingRejects.{Skippable, SkippingRejectsBy, SkippingRejectsFrom}
 use Rattle.cbor4ii_tree.specs.SkippingRejects.{SkippingRejectsWithin, SkippingRejects}
@@ -22,10 +21,9 @@ skippable_covers : (e : InputError) (b c : Budget) → Widens e b c → Covers (
     (Skippable c)
 skippable_covers e b c w t h = (h.0, widens_fits e b c (skip_cost t) w h.1)
 
-by_goes : (b c : Budget) (e : InputError) (more : List ℕ) (s t : Stopping) → Calm e more →
-    Widens e b c
-    → Goes e more s t → (i : Initial) (a : ℕ)
-    → Goes e more (SkippingRejectsBy s b i a) (SkippingRejectsBy t c i a)
+by_goes : (b c : Budget) (e : InputError) (more : List ℕ) (s t : Stopping) → Calm e more
+    → Widens e b c → Goes e more s t → (i : Initial) (a : ℕ) → Goes e more (SkippingRejectsBy s b i
+    a) (SkippingRejectsBy t c i a)
 by_goes b c e more s t calm w k (starts_int sg v) a bs rest x =
     missing_goes ignored_any (byte_count v) e more calm bs rest x
 by_goes b c e more s t calm w k (bad_int sg) a bs rest x = is_goes _ e _ rest more x
@@ -70,12 +68,11 @@ within_goes : (n m : ℕ) (b c : Budget) (e : InputError) (more : List ℕ) → 
 within_goes zero m b c e more le calm w bs rest x = absurd x
 within_goes (suc n) zero b c e more le calm w bs rest x = absurd (omega arith)
 within_goes (suc n) (suc m) b c e more le calm w bs rest x =
-    stepped_goes ignored_any b c e bs rest more
-    (λ inner. SkippingRejectsFrom (SkippingRejectsWithin n inner) inner bs)
-    (λ inner. SkippingRejectsFrom (SkippingRejectsWithin m inner) inner (bs ++ more)) w
-    (λ inner outer v y. from_goes inner outer e more (SkippingRejectsWithin n inner)
-    (SkippingRejectsWithin m outer) calm v
-    (within_goes n m inner outer e more (omega arith) calm v) bs rest y) x
+    stepped_goes ignored_any b c e bs rest more (λ inner. SkippingRejectsFrom (SkippingRejectsWithin
+    n inner) inner bs) (λ inner. SkippingRejectsFrom (SkippingRejectsWithin m inner) inner
+    (bs ++ more)) w (λ inner outer v y. from_goes inner outer e more (SkippingRejectsWithin n inner)
+    (SkippingRejectsWithin m outer) calm v (within_goes n m inner outer e more (omega arith) calm v)
+    bs rest y) x
 
 -- further bytes mend no error but the end of the input
 pub skipping_persists : (input more : List ℕ) (budget : Budget) (e : InputError) (rest : List ℕ)
@@ -91,6 +88,5 @@ pub skipping_unbounded : (input : List ℕ) (budget : Budget) (e : InputError) (
     → ¬ (IsEof e) → ¬ (IsDepthOverflow e) → (more : List ℕ) → SkippingRejects input budget e rest
     → SkippingRejects (input ++ more) None e (rest ++ more)
 skipping_unbounded input budget e rest h d more s =
-    within_goes (suc (length input))
-    (suc (length (input ++ more))) budget None e more (omega (arith, length-append input more))
-    (λ y. absurd (h y)) (widens_none e budget d) input rest s
+    within_goes (suc (length input)) (suc (length (input ++ more))) budget None e more (omega
+    (arith, length-append input more)) (λ y. absurd (h y)) (widens_none e budget d) input rest s

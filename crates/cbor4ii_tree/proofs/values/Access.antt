@@ -1,12 +1,9 @@
 -- The first pair of a map whose key is a text.
 use Rattle.std.proofs.Common.{◌≡◌, ◌≢◌, ℕ, ◌+◌, ◌<◌, List, ◌∷◌, length, drop, get_or, Bool, true}
-use Rattle.std.proofs.Common.{false, refl, sym, ap, ◌∙◌}
+use Rattle.std.proofs.{Common.{false, refl, sym, ap, ◌∙◌}, lemmas.List.drop_more}
 use Rattle.std.specs.Prelude.{Some}
-use Rattle.std.proofs.lemmas.List.{drop_more}
-use Rattle.cbor4ii_tree.specs.Item.{Item, text, Members, member}
-use Rattle.cbor4ii_tree.specs.ItemEquality.{item_eq, item_eq-Decides}
-use Rattle.cbor4ii_tree.specs.View.{view, members_view}
-use Rattle.cbor4ii_tree.specs.Access.{find_text}
+use Rattle.cbor4ii_tree.specs.{Access.find_text, Item.{Item, text, Members, member}}
+use Rattle.cbor4ii_tree.specs.{ItemEquality.{item_eq, item_eq-Decides}, View.{view, members_view}}
 use Rattle.cbor4ii_tree.specs.declared.value.Value.{Value}
 
 false_from_not : (b : Bool) → ¬ (b ≡ true) → b ≡ false
@@ -27,8 +24,7 @@ members_from : (ms : List (Value × Value)) (i : ℕ) (m : Value × Value) → i
     → m ≡ get_or ms i m
     → members_view (drop i ms) ≡ member (view m.0) (view m.1) (members_view (drop (i + 1) ms))
 members_from ms i m lt is =
-    ap members_view (drop_more ms i m lt)
-    ∙ ap (λ n. members_view (n ∷ drop (i + 1) ms)) (sym is)
+    ap members_view (drop_more ms i m lt) ∙ ap (λ n. members_view (n ∷ drop (i + 1) ms)) (sym is)
 
 pub find_text-here : (key : List ℕ) (ms : List (Value × Value)) (i : ℕ) (m : Value × Value)
     → i < length ms → m ≡ get_or ms i m → view m.0 ≡ text key

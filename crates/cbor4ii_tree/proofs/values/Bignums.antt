@@ -1,22 +1,18 @@
 -- Integers beyond 64 bits as the tags that they are written as.
 use Rattle.std.proofs.Common.{◌≡◌, ℕ, zero, suc, ◌+◌, ◌<◌, ◌≤◌, List, [], ◌∷◌, ◌++◌, length, take}
 use Rattle.std.proofs.Common.{get_or, set, ap, ap₂, ◌∙◌, rules, arith, Vec, Global, ◌^◌, pos}
-use Rattle.std.proofs.Common.{negsuc, ltb, ltb-true, refl}
-use Rattle.std.proofs.lemmas.List.{take_more, take_more_set}
-use Rattle.cbor4ii_items.specs.Head.{shortest}
-use Rattle.cbor4ii_items.specs.Initial.{Sign, unsigned, negative}
+use Rattle.std.proofs.{Common.{negsuc, ltb, ltb-true, refl}, lemmas.List.{take_more, take_more_set}}
+use Rattle.cbor4ii_items.specs.{Head.shortest, Initial.{Sign, unsigned, negative}}
 use Rattle.cbor4ii_items.specs.Laws.Heads.{if_cases, shortest_fits}
 use Rattle.cbor4ii_tree.specs.Canonical.{with_bignums, with_bignums_all, with_bignums_members}
-use Rattle.cbor4ii_tree.specs.Canonical.{magnitude, sign_tag, tagged_integer}
-use Rattle.cbor4ii_tree.specs.Item.{Item, null, boolean, integer, float, bytes_item, text, sequence}
-use Rattle.cbor4ii_tree.specs.Item.{mapping, tag, Items, no_items, item, Members, no_members}
-use Rattle.cbor4ii_tree.specs.Item.{member, size, size_all, size_members}
-use Rattle.cbor4ii_tree.specs.Meaning.{number}
-use Rattle.cbor4ii_tree.specs.Tree.{int}
-use Rattle.cbor4ii_tree.specs.View.{view, items_view, members_view}
-use Rattle.cbor4ii_tree.specs.declared.value.Value.{Value, Bytes, the_lemmas}
-use Rattle.cbor4ii_tree.proofs.encodings.Canonical.{with_bignums-value}
-use Rattle.cbor4ii_tree.proofs.values.Views.{item_injective, member_injective}
+use Rattle.cbor4ii_tree.specs.{Canonical.{magnitude, sign_tag, tagged_integer}, Item.{Item, null}}
+use Rattle.cbor4ii_tree.specs.Item.{boolean, integer, float, bytes_item, text, sequence, mapping}
+use Rattle.cbor4ii_tree.specs.Item.{tag, Items, no_items, item, Members, no_members, member, size}
+use Rattle.cbor4ii_tree.specs.{Item.{size_all, size_members}, Meaning.number, Tree.int, View.view}
+use Rattle.cbor4ii_tree.specs.{View.{items_view, members_view}, declared.value.Value.{Value, Bytes}}
+use Rattle.cbor4ii_tree.specs.declared.value.Value.{the_lemmas}
+use Rattle.cbor4ii_tree.proofs.{encodings.Canonical.with_bignums-value, values.Views.item_injective}
+use Rattle.cbor4ii_tree.proofs.values.Views.{member_injective}
 
 pub view-Bytes : (v : Vec ℕ Global) → view (Bytes v) ≡ bytes_item v.items
 view-Bytes v = search (rules, the_lemmas)
@@ -46,27 +42,23 @@ members-push (x ∷ ms) (y ∷ ns) m n h e f =
 
 -- one value more: y stands at the place of x
 pub items_tagged : (xs zs : List Value) (i : ℕ) (x y : Value) → i < length xs → i < length zs
-    → get_or xs i x ≡ get_or zs i x
-    → items_view (take i xs) ≡ with_bignums_all (items_view (take i zs))
-    → view y ≡ with_bignums (view (get_or xs i x))
-    → items_view (take (i + 1) (set xs i y)) ≡ with_bignums_all (items_view (take (i + 1) zs))
+    → get_or xs i x ≡ get_or zs i x → items_view (take i xs) ≡ with_bignums_all
+    (items_view (take i zs)) → view y ≡ with_bignums (view (get_or xs i x)) → items_view (take
+    (i + 1) (set xs i y)) ≡ with_bignums_all (items_view (take (i + 1) zs))
 items_tagged xs zs i x y in_xs in_zs same h e =
-    rw (take_more_set xs i y in_xs, take_more zs i x in_zs)
-    (items-push (take i xs) (take i zs) y (get_or zs i x) h
-    (e ∙ ap (λ v. with_bignums (view v)) same))
+    rw (take_more_set xs i y in_xs, take_more zs i x in_zs) (items-push (take i xs) (take i zs) y
+    (get_or zs i x) h (e ∙ ap (λ v. with_bignums (view v)) same))
 
 pub members_tagged : (xs zs : List (Value × Value)) (i : ℕ) (x y : Value × Value) → i < length xs
-    → i < length zs → get_or xs i x ≡ get_or zs i x
-    → members_view (take i xs) ≡ with_bignums_members (members_view (take i zs))
+    → i < length zs → get_or xs i x ≡ get_or zs i x → members_view (take i xs)
+    ≡ with_bignums_members (members_view (take i zs))
     → view y.0 ≡ with_bignums (view (get_or xs i x).0)
-    → view y.1 ≡ with_bignums (view (get_or xs i x).1)
-    → members_view (take (i + 1) (set xs i y)) ≡ with_bignums_members
-    (members_view (take (i + 1) zs))
+    → view y.1 ≡ with_bignums (view (get_or xs i x).1) → members_view (take (i + 1) (set xs i y))
+    ≡ with_bignums_members (members_view (take (i + 1) zs))
 members_tagged xs zs i x y in_xs in_zs same h e f =
-    rw (take_more_set xs i y in_xs, take_more zs i x in_zs)
-    (members-push (take i xs) (take i zs) y (get_or zs i x) h
-    (e ∙ ap (λ (m : Value × Value). with_bignums (view m.0)) same)
-    (f ∙ ap (λ (m : Value × Value). with_bignums (view m.1)) same))
+    rw (take_more_set xs i y in_xs, take_more zs i x in_zs) (members-push (take i xs) (take i zs) y
+    (get_or zs i x) h (e ∙ ap (λ (m : Value × Value). with_bignums (view m.0)) same) (f ∙ ap
+    (λ (m : Value × Value). with_bignums (view m.1)) same))
 
 -- ---- each part is smaller than the whole
 
@@ -85,14 +77,12 @@ sizes-at (m ∷ ms) (suc i) d lt = omega (arith, sizes-at ms i d (omega arith))
 
 -- ---- tags stay
 
-tagged_integer-again : (s : Sign) (n : ℕ)
-    → with_bignums (tagged_integer s n (integer (number s n)))
+tagged_integer-again : (s : Sign) (n : ℕ) → with_bignums (tagged_integer s n (integer (number s n)))
     ≡ tagged_integer s n (integer (number s n))
 tagged_integer-again s n =
-    if_cases (λ v. with_bignums v ≡ v) (ltb n (2 ^ 64)) (integer (number s n))
-    (tag (sign_tag s) (bytes_item (magnitude n)))
-    (λ e. with_bignums-value (int s n (shortest n)) (shortest_fits n (ltb-true n (2 ^ 64) e)))
-    (λ e. refl)
+    if_cases (λ v. with_bignums v ≡ v) (ltb n (2 ^ 64)) (integer (number s n)) (tag (sign_tag s)
+    (bytes_item (magnitude n))) (λ e. with_bignums-value (int s n (shortest n)) (shortest_fits n
+    (ltb-true n (2 ^ 64) e))) (λ e. refl)
 
 mutual
   pub with_bignums-again : (v : Item) → with_bignums (with_bignums v) ≡ with_bignums v

@@ -1,34 +1,19 @@
 -- Arrays, maps and tags by their heads, which a look has shown whole.
-use Rattle.std.proofs.Common.{Bool}
-use Rattle.std.proofs.Common.{◌≡◌, ℕ, zero, suc, ◌+◌, ◌/◌, ◌≤◌, List, [], ◌∷◌, ◌++◌, length}
+use Rattle.std.proofs.Common.{Bool, ◌≡◌, ℕ, zero, suc, ◌+◌, ◌/◌, ◌≤◌, List, [], ◌∷◌, ◌++◌, length}
 use Rattle.std.proofs.Common.{take, drop, take-append-drop, length-drop, true, Some, IfSome, IsTrue}
-use Rattle.std.proofs.Common.{Result, Ok}
-use Rattle.std.proofs.Common.{refl, sym, ap, ◌∙◌, subst, arith}
+use Rattle.std.proofs.Common.{Result, Ok, refl, sym, ap, ◌∙◌, subst, arith}
 use Rattle.cbor4ii_rw.specs.Reader.{Advances, IsPrefix, KeepsAllButBudget, Shows, StepsIn, counts}
-use Rattle.cbor4ii_rw.specs.View.{View, IfKnown}
-use Rattle.cbor4ii_rw.specs.declared.error.DecodeError.{DecodeError}
-use Rattle.cbor4ii_items.specs.Head.{IsBytes, head}
-use Rattle.cbor4ii_items.specs.Laws.Heads.{argument_below}
+use Rattle.cbor4ii_rw.specs.{View.{View, IfKnown}, declared.error.DecodeError.DecodeError}
+use Rattle.cbor4ii_items.specs.{Head.{IsBytes, head}, Laws.Heads.argument_below}
 use Rattle.cbor4ii_items.specs.Laws.Running.{kept_alike, peeked, shows_kept}
-use Rattle.cbor4ii_items.specs.Laws.Steps.{counts_more}
-use Rattle.cbor4ii_items.specs.Moves.{Kept}
-use Rattle.cbor4ii_items.specs.Reading.{Runs, peek_at}
-use Rattle.cbor4ii_tree.specs.Cost.{Budget}
-use Rattle.cbor4ii_tree.specs.Deeper.{budgeted}
-use Rattle.cbor4ii_tree.specs.Does.{Accepting, Does}
-use Rattle.cbor4ii_tree.specs.Prefix.{Offers}
-use Rattle.cbor4ii_tree.specs.Leaf.{HeadStands, SeesLeaf, SeesNext, ShowsHead}
-use Rattle.cbor4ii_tree.specs.Leaf.{ShowsNext}
-use Rattle.cbor4ii_tree.specs.InputError.{value_name}
-use Rattle.cbor4ii_tree.specs.Rejections.{Stopping}
-use Rattle.cbor4ii_tree.specs.CanonicalRejects.{ShortestAt}
-use Rattle.cbor4ii_tree.specs.declared.leaf.Leaf.{Leaf}
-use Rattle.cbor4ii_tree.specs.declared.leaf.Leaf.TheVariants.{Begins}
+use Rattle.cbor4ii_items.specs.{Laws.Steps.counts_more, Moves.Kept, Reading.{Runs, peek_at}}
+use Rattle.cbor4ii_tree.specs.{CanonicalRejects.ShortestAt, Cost.Budget, Deeper.budgeted}
+use Rattle.cbor4ii_tree.specs.{Rejections.Stopping, Valuing.HeadAt, declared.leaf.Head.Head}
+use Rattle.cbor4ii_tree.specs.{declared.leaf.Leaf.Leaf, declared.leaf.Leaf.TheVariants.Begins}
+use Rattle.cbor4ii_tree.specs.{Does.{Accepting, Does}, InputError.value_name, Leaf.HeadStands}
+use Rattle.cbor4ii_tree.specs.{Leaf.{SeesLeaf, SeesNext, ShowsHead, ShowsNext}, Prefix.Offers}
 use Rattle.cbor4ii_tree.specs.declared.leaf.Next.{Next}
-use Rattle.cbor4ii_tree.specs.declared.leaf.Head.{Head}
-use Rattle.cbor4ii_tree.proofs.skip_calls.Doing.{Reached, does_after, reached_as}
-use Rattle.cbor4ii_tree.proofs.skip_calls.Doing.{reached_peek}
-use Rattle.cbor4ii_tree.specs.Valuing.{HeadAt}
+use Rattle.cbor4ii_tree.proofs.skip_calls.Doing.{Reached, does_after, reached_as, reached_peek}
 use Rattle.cbor4ii_tree.proofs.values.Leaves.{shows_first, some_as}
 
 -- ---- what a look has shown
@@ -60,9 +45,8 @@ head_shown exact major n size {shown = shown} shows prefix s = record {
       );
 }
 
-pub next_shown : (E exact : Type 0) (n : Next) {shown : List ℕ} {a m : View}
-    → Shows shown a m → IfKnown a.known (IsPrefix 1 shown) → SeesNext exact n shown
-    → ShowsNext E exact n a m
+pub next_shown : (E exact : Type 0) (n : Next) {shown : List ℕ} {a m : View} → Shows shown a m
+    → IfKnown a.known (IsPrefix 1 shown) → SeesNext exact n shown → ShowsNext E exact n a m
 next_shown E exact n shows prefix s = record {
   first = shows_first n.first s.trailing shows prefix s.begins;
   head =
@@ -101,9 +85,8 @@ module _ (exact : Bool) {major n size : ℕ} {a m : View}
         let e : ys ≡ drop size xs = let t = adv.known xs b.0 in cc in
         let same : 0 + size ≡ k =
         omega (arith, gone, ap length e, length-drop size xs, b.1) in
-        adv.taken
-        ∙ ap (counts size) (s.kept.counted xs known xs b.0 0 (omega arith))
-        ∙ counts_more 0 size k a.taken same;
+        adv.taken ∙ ap (counts size) (s.kept.counted xs known xs b.0 0 (omega arith)) ∙ counts_more
+        0 size k a.taken same;
     bound = omega (arith, s.kept.bound, adv.bound);
     budget = adv.budget ∙ s.kept.budget;
     failures = adv.failures ∙ s.kept.failures;
@@ -125,8 +108,7 @@ module _ (exact : Bool) {major n size : ℕ} {a m : View}
 
 -- ---- under a step
 
-kept_stepped : {a m b : View} → Kept a m → KeepsAllButBudget m b
-    → Kept (budgeted b.budget a) b
+kept_stepped : {a m b : View} → Kept a m → KeepsAllButBudget m b → Kept (budgeted b.budget a) b
 kept_stepped {a = a} {m = m} {b = b} h k = record {
   rest = λ xs known.
       let t = h.rest xs known in
@@ -172,13 +154,11 @@ module _ (first : ℕ) {E : Type 0} {a m : View}
       {r : Result V (DecodeError E)} {b : View} → Does (A m.budget) (S m.budget) m b r
       → Does (A a.budget) (S a.budget) a b r
   after_peeked A S d =
-      does_after (λ xs ys. xs ≡ ys) (A m.budget) (A a.budget) (S m.budget) (S a.budget)
-      (λ xs ys zs v e h. subst (λ x. A a.budget x v zs) (sym e)
-      (subst (λ o. A o ys v zs) s.moves.by.budget h))
-      (λ xs ys z rest e h. subst (λ x. S a.budget x z rest) (sym e)
-      (subst (λ o. S o ys z rest) s.moves.by.budget h))
-      (reached_as (λ xs ys. (rest : List ℕ) × (xs ≡ first ∷ rest) × (ys ≡ xs)) (λ xs ys. xs ≡ ys)
-      (λ xs ys p. sym p.2) (reached_peek value_name 1 first s)) d
+      does_after (λ xs ys. xs ≡ ys) (A m.budget) _ (S m.budget) _ (λ xs ys zs v e h. subst (λ x. A
+      a.budget x v zs) (sym e) (subst (λ o. A o ys v zs) s.moves.by.budget h)) (λ xs ys z rest e h.
+      subst (λ x. S a.budget x z rest) (sym e) (subst (λ o. S o ys z rest) s.moves.by.budget h))
+      (reached_as (λ xs ys. (rest : List ℕ) × (xs ≡ first ∷ rest) × (ys ≡ xs)) _ (λ xs ys p. sym
+      p.2) (reached_peek value_name 1 first s)) d
 
   pub peek_stepped : {b : View} → KeepsAllButBudget m b
       → Runs {V = ℕ} {E = E} (peek_at value_name 1) (budgeted b.budget a) b (Ok first)
@@ -226,7 +206,5 @@ pub takes_head : (exact : Bool) {E : Type 0} (n : Next) {a m c : View} (major : 
     → ShowsNext E (exact ≡ true) n a m → n.head ≡ Some h → n.first / 32 ≡ major
     → Advances h.size m c → Reached (HeadAt exact major h.argument) a c
 takes_head exact n {a = a} {m = m} {c = c} major h s is e adv =
-    subst (λ j. Reached (HeadAt exact j h.argument) a c) e
-    (reached_head exact
-    (subst (λ o. IfSome o (λ h. ShowsHead (exact ≡ true) (n.first / 32) h.argument h.size a m)) is
-    s.head) adv)
+    subst (λ j. Reached (HeadAt exact j h.argument) a c) e (reached_head exact (subst (λ o. IfSome o
+    (λ h. ShowsHead (exact ≡ true) (n.first / 32) h.argument h.size a m)) is s.head) adv)

@@ -1,43 +1,30 @@
 -- The calls of reading a value, one after another.
-use Rattle.std.proofs.Common.{◌≡◌, ℕ, ◌/◌, ◌%◌, ◌<◌, List, [], ◌∷◌, ◌++◌, Some, Result}
-use Rattle.std.proofs.Common.{Bool, true, false, refl, sym, ap, ◌∙◌, subst, arith, inl, inr}
-use Rattle.cbor4ii_rw.specs.View.{View}
-use Rattle.cbor4ii_rw.specs.Reader.{KeepsAllButBudget, StepsIn, step_back}
-use Rattle.cbor4ii_rw.specs.declared.error.DecodeError.{DecodeError}
-use Rattle.cbor4ii_items.specs.InputError.{InputError}
-use Rattle.cbor4ii_items.specs.Head.{Width, in_first, one, two, four, eight, byte_count, additional}
-use Rattle.cbor4ii_items.specs.Head.{HeadFits, head, indefinite_head}
-use Rattle.cbor4ii_items.specs.Heads.{RejectsHead, Begins}
-use Rattle.std.specs.Prelude.{pos, ◌^◌}
+use Rattle.std.proofs.Common.{◌≡◌, ℕ, ◌/◌, ◌%◌, ◌<◌, List, [], ◌∷◌, ◌++◌, Some, Result, Bool, true}
+use Rattle.std.proofs.Common.{false, refl, sym, ap, ◌∙◌, subst, arith, inl, inr}
 use Rattle.std.proofs.lemmas.Int.{to_z-of_z}
-use mir.Val.{to_z}
-use mir.Syntax.{w128}
-use Rattle.cbor4ii_items.specs.Initial.{Info, wide, indefinite_ended, reserved, info_of, initial}
-use Rattle.cbor4ii_items.specs.Initial.{by_major, int_by_info, Sign, unsigned, negative, sign_major}
-use Rattle.cbor4ii_tree.specs.InputError.{sign_name}
-use Rattle.cbor4ii_tree.specs.Laws.Numbers.{additional-lt, info-additional}
-use Rattle.cbor4ii_tree.proofs.heads.Means.{WidthSays, InfoSays, info_says}
-use Rattle.cbor4ii_tree.proofs.skip_calls.Bytes.{says_width}
-use Rattle.cbor4ii_tree.specs.declared.value.Value.{Value}
-use Rattle.cbor4ii_tree.specs.Tree.{Tree, Trees, no_trees, tree, Plain}
-use Rattle.cbor4ii_tree.specs.CanonicalShape.{CanonicalShape}
-use Rattle.cbor4ii_items.specs.Budget.{CostFits}
+use Rattle.std.specs.Prelude.{pos, ◌^◌}
+use mir.{Syntax.w128, Val.to_z}
+use Rattle.cbor4ii_rw.specs.{Reader.{KeepsAllButBudget, StepsIn, step_back}, View.View}
+use Rattle.cbor4ii_rw.specs.declared.error.DecodeError.{DecodeError}
+use Rattle.cbor4ii_items.specs.{Budget.CostFits, Head.{Width, in_first, one, two, four, eight}}
+use Rattle.cbor4ii_items.specs.Head.{byte_count, additional, HeadFits, head, indefinite_head}
+use Rattle.cbor4ii_items.specs.{Heads.{RejectsHead, Begins}, Initial.{Info, wide, indefinite_ended}}
+use Rattle.cbor4ii_items.specs.Initial.{reserved, info_of, initial, by_major, int_by_info, Sign}
+use Rattle.cbor4ii_items.specs.{Initial.{unsigned, negative, sign_major}, InputError.InputError}
 use Rattle.cbor4ii_items.specs.InputError.{depth_overflow}
-use Rattle.cbor4ii_tree.specs.Item.{no_items, item}
-use Rattle.cbor4ii_tree.specs.Meaning.{value, values}
-use Rattle.cbor4ii_tree.specs.Cost.{Budget, step_in, cost}
-use Rattle.cbor4ii_tree.specs.InputError.{value_name}
-use Rattle.cbor4ii_tree.specs.InputError.{eof, mismatch, Small, len_of}
-use Rattle.cbor4ii_tree.specs.Rejections.{RejectsAtStep, Is, MissingAll}
-use Rattle.cbor4ii_tree.specs.ReadingRejects.{ReadingRejectsBy}
-use Rattle.cbor4ii_tree.specs.ReadingRejects.{ReadingRejects}
-use Rattle.cbor4ii_tree.specs.View.{view, items_view}
-use Rattle.cbor4ii_tree.specs.Does.{Does}
-use Rattle.cbor4ii_tree.specs.Valuing.{Whole, ReadsOneValue, RejectsOneValue, ReadsUnder}
-use Rattle.cbor4ii_tree.specs.Valuing.{RejectsUnder}
-use Rattle.cbor4ii_tree.proofs.skip_calls.Doing.{does_stepped, steps_in}
+use Rattle.cbor4ii_tree.specs.{View.items_view, declared.value.Value.Value}
+use Rattle.cbor4ii_tree.specs.{CanonicalShape.CanonicalShape, Cost.{Budget, step_in, cost}}
+use Rattle.cbor4ii_tree.specs.{Does.Does, InputError.{sign_name, value_name, eof, mismatch, Small}}
+use Rattle.cbor4ii_tree.specs.{InputError.len_of, Item.{no_items, item}, Laws.Numbers.additional-lt}
+use Rattle.cbor4ii_tree.specs.{Laws.Numbers.info-additional, Meaning.{value, values}}
+use Rattle.cbor4ii_tree.specs.ReadingRejects.{ReadingRejectsBy, ReadingRejects}
+use Rattle.cbor4ii_tree.specs.{Rejections.{RejectsAtStep, Is, MissingAll}, Tree.{Tree, Trees}}
+use Rattle.cbor4ii_tree.specs.{Tree.{no_trees, tree, Plain}, Valuing.{Whole, ReadsOneValue}}
+use Rattle.cbor4ii_tree.specs.{Valuing.{RejectsOneValue, ReadsUnder, RejectsUnder}, View.view}
+use Rattle.cbor4ii_tree.proofs.{skip_calls.Bytes.says_width, skip_calls.Doing.does_stepped}
 use Rattle.cbor4ii_tree.proofs.answers.Nesting.{reading_by_parts, strict_by_parts}
-use Rattle.cbor4ii_tree.proofs.parts.Pushed.{push}
+use Rattle.cbor4ii_tree.proofs.{heads.Means.{WidthSays, InfoSays, info_says}, parts.Pushed.push}
+use Rattle.cbor4ii_tree.proofs.skip_calls.Doing.{steps_in}
 
 -- ---- an encoding that is read whole
 
@@ -57,13 +44,11 @@ pub rejects_under : (exact : Bool) (inner budget : Budget) (xs : List ℕ) (e : 
     (rest : List ℕ) → step_in budget ≡ Some inner → RejectsUnder exact inner xs e rest
     → RejectsOneValue exact budget xs e rest
 rejects_under false inner budget xs e rest step h =
-    (reading_by_parts xs budget e rest).1
-    (subst (λ o. RejectsAtStep value_name o xs (λ inner. RejectsUnder false inner xs) e rest)
-    (sym step) h)
+    (reading_by_parts xs budget e rest).1 (subst (λ o. RejectsAtStep value_name o xs (λ inner.
+    RejectsUnder false inner xs) e rest) (sym step) h)
 rejects_under true inner budget xs e rest step h =
-    (strict_by_parts xs budget e rest).1
-    (subst (λ o. RejectsAtStep value_name o xs (λ inner. RejectsUnder true inner xs) e rest)
-    (sym step) h)
+    (strict_by_parts xs budget e rest).1 (subst (λ o. RejectsAtStep value_name o xs (λ inner.
+    RejectsUnder true inner xs) e rest) (sym step) h)
 
 -- no step is left
 pub value_no_step : (exact : Bool) (budget : Budget) → budget ≡ Some 0 → (xs : List ℕ)
@@ -78,16 +63,14 @@ value_no_byte false budget z rest is = is
 value_no_byte true budget z rest is = is
 
 pub stepped : (exact : Bool) {E : Type 0} {r : Result Value (DecodeError E)} {a b c d : View}
-    → StepsIn a.budget b.budget true → KeepsAllButBudget a b
-    → Does (ReadsUnder exact b.budget) (RejectsUnder exact b.budget) b c r
-    → d.budget ≡ step_back c.budget → KeepsAllButBudget c d
+    → StepsIn a.budget b.budget true → KeepsAllButBudget a b → Does (ReadsUnder exact b.budget)
+    (RejectsUnder exact b.budget) b c r → d.budget ≡ step_back c.budget → KeepsAllButBudget c d
     → Does (ReadsOneValue exact a.budget) (RejectsOneValue exact a.budget) a d r
 stepped exact {a = a} {b = b} takes inward w gives outward =
     let step = steps_in a.budget b.budget takes in
-    does_stepped (ReadsUnder exact b.budget) (ReadsOneValue exact a.budget)
-    (RejectsUnder exact b.budget) (RejectsOneValue exact a.budget) (λ xs ys v h. h a.budget step)
-    (λ xs e rest h. rejects_under exact b.budget a.budget xs e rest step h)
-    takes inward w gives outward
+    does_stepped (ReadsUnder exact b.budget) _ (RejectsUnder exact b.budget) _ (λ xs ys v h. h
+    a.budget step) (λ xs e rest h. rejects_under exact b.budget a.budget xs e rest step h) takes
+    inward w gives outward
 
 -- ---- items, one after another
 
@@ -144,9 +127,8 @@ same_width w v i p q = cc
 
 -- a head of this row is cut
 pub head_cut : (name : List ℕ) (major b : ℕ) (bs : List ℕ) (w : Width) (e : InputError)
-    (rest : List ℕ)
-    → b / 32 ≡ major → info_of (b % 32) ≡ wide w → RejectsHead name major 8 (b ∷ bs) e rest
-    → MissingAll name (byte_count w) bs e rest
+    (rest : List ℕ) → b / 32 ≡ major → info_of (b % 32) ≡ wide w
+    → RejectsHead name major 8 (b ∷ bs) e rest → MissingAll name (byte_count w) bs e rest
 head_cut name major b bs w e rest m is (inl h) = absurd (h.none w (width_begins major b w m is))
 head_cut name major b bs w e rest m is (inr h) =
     let same : h.wide ≡ w =
@@ -184,9 +166,8 @@ int_rejects inner s b bs e rest m h =
     row unsigned i = refl
     row negative i = refl
 
-    by_info : (i : Info) → info_of (b % 32) ≡ i
-        → ReadingRejectsBy (λ left part. ReadingRejects part left) inner (int_by_info s i) b
-        bs e rest
+    by_info : (i : Info) → info_of (b % 32) ≡ i → ReadingRejectsBy (λ left part. ReadingRejects part
+        left) inner (int_by_info s i) b bs e rest
     by_info (wide w) is = head_cut (sign_name s) (sign_major s) b bs w e rest m is h
     by_info indefinite_ended is = no_head (sign_name s) (sign_major s) b bs e rest (λ w f. cc) h
     by_info reserved is = no_head (sign_name s) (sign_major s) b bs e rest (λ w f. cc) h

@@ -1,27 +1,16 @@
 -- Reading a value, as a decoding call, and what its answer says of the bytes.
-use Rattle.std.proofs.Common.{false}
-use Rattle.std.proofs.Common.{◌≡◌, ℕ, List, length, take, drop, Option, None, Some, Result, Ok, Err}
-use Rattle.std.proofs.Common.{refl, sym, ap, ◌∙◌, IfSome, IfOk, IfErr, OnOk, ◌+◌, ◌≤◌, arith}
-use Rattle.std.proofs.Common.{length-append}
-use Rattle.std.proofs.Common.{take-append-drop}
-use Rattle.std.proofs.Math.Seq.{drop-append_seam, take-append_seam}
-use Rattle.cbor4ii_rw.specs.View.{View}
-use Rattle.cbor4ii_rw.specs.declared.error.DecodeError.{DecodeError}
-use Rattle.cbor4ii_items.specs.InputError.{InputError, input_error_of}
-use Rattle.cbor4ii_items.specs.Decoding.{Sound, Complete, Rejects, NoneRead}
-use Rattle.cbor4ii_items.specs.Budget.{CostFits}
-use Rattle.cbor4ii_items.specs.Decoding.{Decodes}
+use Rattle.std.proofs.Common.{false, ◌≡◌, ℕ, List, length, take, drop, Option, None, Some, Result}
+use Rattle.std.proofs.Common.{Ok, Err, refl, sym, ap, ◌∙◌, IfSome, IfOk, IfErr, OnOk, ◌+◌, ◌≤◌}
+use Rattle.std.proofs.{Common.{arith, length-append, take-append-drop}, Math.Seq.drop-append_seam}
+use Rattle.std.proofs.Math.Seq.{take-append_seam}
+use Rattle.cbor4ii_rw.specs.{View.View, declared.error.DecodeError.DecodeError}
+use Rattle.cbor4ii_items.specs.{Budget.CostFits, Decoding.{Sound, Complete, Rejects, NoneRead}}
+use Rattle.cbor4ii_items.specs.{Decoding.Decodes, InputError.{InputError, input_error_of}}
 use Rattle.cbor4ii_items.specs.Laws.Calls.{any_memory}
+use Rattle.cbor4ii_tree.specs.{Cost.{Budget, cost}, Does.Does, Encodings.DecodesTo, Item.Item}
+use Rattle.cbor4ii_tree.specs.{Promises.{ReadsValue, value_format}, ReadingRejects.ReadingRejects}
+use Rattle.cbor4ii_tree.specs.{Tree.bytes, Valuing.{ReadsOneValue, RejectsOneValue}, View.view}
 use Rattle.cbor4ii_tree.specs.declared.value.Value.{Value}
-use Rattle.cbor4ii_tree.specs.Tree.{bytes}
-use Rattle.cbor4ii_tree.specs.Item.{Item}
-use Rattle.cbor4ii_tree.specs.Cost.{Budget, cost}
-use Rattle.cbor4ii_tree.specs.Encodings.{DecodesTo}
-use Rattle.cbor4ii_tree.specs.View.{view}
-use Rattle.cbor4ii_tree.specs.Does.{Does}
-use Rattle.cbor4ii_tree.specs.Promises.{ReadsValue, value_format}
-use Rattle.cbor4ii_tree.specs.Valuing.{ReadsOneValue, RejectsOneValue}
-use Rattle.cbor4ii_tree.specs.ReadingRejects.{ReadingRejects}
 use Rattle.cbor4ii_tree.proofs.reading.Answer.{not_both}
 
 -- ---- in the words of the definitions
@@ -79,10 +68,9 @@ module _ {E : Type 0} {a b : View} where
   value_complete (Ok v) d = tt
   value_complete (Err e) d = record {
     at = λ xs known. by_error (input_error_of e)
-        (λ z. (ys : List ℕ) × (b.known ≡ Some ys) × ReadingRejects xs a.budget z ys)
-        (λ z. NoneRead (λ xs (v : Value). ReadsValue xs (view v)) xs a.budget)
-        (λ z h v n c r fits. not_both xs a.budget (view v)
-        (drop n xs) z h.0 (reads_prefix a.budget xs (view v) n c r fits) h.2)
+        (λ z. (ys : List ℕ) × (b.known ≡ Some ys) × ReadingRejects xs a.budget z ys) (λ z. NoneRead
+        (λ xs (v : Value). ReadsValue xs (view v)) xs a.budget) (λ z h v n c r fits. not_both xs
+        a.budget (view v) (drop n xs) z h.0 (reads_prefix a.budget xs (view v) n c r fits) h.2)
         (d.err xs known);
   }
 

@@ -3,35 +3,19 @@ use Rattle.std.proofs.Common.{◌≡◌, ℕ, ◌^◌, List, [], ◌∷◌, ◌+
 use Rattle.std.proofs.Common.{ltb, ℤ, pos, negsuc, refl, sym, ap, ◌∙◌, append_assoc, rules, Vec}
 use Rattle.std.proofs.Common.{Global, Box}
 use Rattle.std.specs.Prelude.{Result, Ok, Err, OnOk}
-use Rattle.cbor4ii_items.specs.Head.{shortest, head}
-use Rattle.cbor4ii_items.specs.Initial.{Sign, unsigned, negative, sign_major}
-use Rattle.cbor4ii_items.specs.Numbers.{shortest_head, bignum_bytes, signed_bytes}
-use Rattle.cbor4ii_items.specs.Simple.{bool_byte}
-use Rattle.cbor4ii_items.specs.SequenceBytes.{items_bytes}
-use Rattle.cbor4ii_tree.specs.Tree.{int, bytes, bytes_all, bytes_pairs, count, pair_count}
-use Rattle.cbor4ii_tree.specs.Item.{boolean, integer, sequence, mapping, tag, item_count}
-use Rattle.cbor4ii_tree.specs.Item.{member_count}
+use Rattle.cbor4ii_items.specs.{Numbers.signed_bytes, SequenceBytes.items_bytes, Simple.bool_byte}
+use Rattle.cbor4ii_items.specs.{Head.{shortest, head}, Initial.{Sign, unsigned, negative}}
+use Rattle.cbor4ii_items.specs.{Initial.sign_major, Numbers.{shortest_head, bignum_bytes}}
 use Rattle.cbor4ii_tree.specs.Canonical.{canonical_encoding, canonical_trees, canonical_pairs}
-use Rattle.cbor4ii_tree.specs.Canonical.{bignum, sign_tag}
-use Rattle.cbor4ii_tree.specs.View.{view, items_view, members_view}
-use Rattle.cbor4ii_tree.specs.Encoding.{value_bytes, member_bytes}
+use Rattle.cbor4ii_tree.specs.{Canonical.{bignum, sign_tag}, Encoding.{value_bytes, member_bytes}}
+use Rattle.cbor4ii_tree.specs.Item.{boolean, integer, sequence, mapping, tag, item_count}
+use Rattle.cbor4ii_tree.specs.{Item.member_count, Tree.{int, bytes, bytes_all, bytes_pairs, count}}
+use Rattle.cbor4ii_tree.specs.{Tree.pair_count, View.{view, items_view, members_view}}
 use Rattle.cbor4ii_tree.specs.declared.value.Value.{Value, Bool as VBool, Integer, Array, Map, Tag}
 use Rattle.cbor4ii_tree.specs.declared.value.Value.{the_lemmas}
 use Rattle.cbor4ii_tree.proofs.encodings.Canonical.{count-canonical_encoding, count-pairs}
 use Rattle.cbor4ii_tree.proofs.values.Views.{item_count-items_view, member_count-members_view}
 use Rattle.cbor4ii_tree.proofs.values.Views.{view-Map}
-
--- ---- integers
-
-by_size : (b : Bool) (s : Sign) (n : ℕ)
-    → bytes (cond b (int s n (shortest n)) (bignum s n)) ≡ cond b (shortest_head (sign_major s) n)
-    (bignum_bytes (sign_tag s) n)
-by_size true s n = refl
-by_size false s n = refl
-
-pub signed-canonical_encoding : (z : ℤ) → signed_bytes z ≡ canonical_encoding (integer z)
-signed-canonical_encoding (pos n) = sym (by_size (ltb n (2 ^ 64)) unsigned n)
-signed-canonical_encoding (negsuc n) = sym (by_size (ltb n (2 ^ 64)) negative n)
 
 -- ---- arrays and maps
 
@@ -88,17 +72,15 @@ pub Array-bytes : (value : Value) (v : Vec Value Global) (n : ℕ) (vs : List Va
     → vs ≡ v.items → n ≡ length vs
     → shortest_head 4 n ++ items_bytes value_bytes vs ≡ value_bytes value
 Array-bytes value v n vs e same len =
-    sequence-canonical_encoding n vs len ∙ ap
-    (λ l. canonical_encoding (sequence (items_view l))) same
-    ∙ sym (ap canonical_encoding (ap view e ∙ view-Array v))
+    sequence-canonical_encoding n vs len ∙ ap (λ l. canonical_encoding (sequence (items_view l)))
+    same ∙ sym (ap canonical_encoding (ap view e ∙ view-Array v))
 
 pub Map-bytes : (value : Value) (v : Vec (Value × Value) Global) (n : ℕ) (ms : List (Value × Value))
     → value ≡ Map v → ms ≡ v.items → n ≡ length ms
     → shortest_head 5 n ++ items_bytes member_bytes ms ≡ value_bytes value
 Map-bytes value v n ms e same len =
-    mapping-canonical_encoding n ms len ∙ ap
-    (λ l. canonical_encoding (mapping (members_view l))) same
-    ∙ sym (ap canonical_encoding (ap view e ∙ view-Map v))
+    mapping-canonical_encoding n ms len ∙ ap (λ l. canonical_encoding (mapping (members_view l)))
+    same ∙ sym (ap canonical_encoding (ap view e ∙ view-Map v))
 
 pub view-Integer : (z : ℤ) → view (Integer z) ≡ integer z
 view-Integer z = search (rules, the_lemmas)
@@ -111,13 +93,3 @@ pub Tag-bytes : (value inner : Value) (n : ℕ) (b : Box Value Global) → value
 Tag-bytes value inner n b e same =
     ap (λ w. shortest_head 6 n ++ value_bytes w) same
     ∙ sym (ap canonical_encoding (ap view e ∙ view-Tag n b))
-
--- ---- calls
-
-pub on_ok : {U E P Q : Type 0} (r : Result U E) → (P → Q) → OnOk r P → OnOk r Q
-on_ok (Ok u) f p = f p
-on_ok (Err e) f p = tt
-
-pub on_any : {U E : Type 0} (r : Result U E) → OnOk r (Unit {0})
-on_any (Ok u) = tt
-on_any (Err e) = tt

@@ -2,30 +2,16 @@
 use Rattle.std.proofs.Common.{◌≡◌, ℕ, ◌<◌, List, [], ◌∷◌, length, Option, Some, None, Err, IfSome}
 use Rattle.std.proofs.Common.{refl, sym, ap, ◌∙◌, subst}
 use denote.Ref.{Bor}
-use Rattle.cbor4ii_rw.specs.View.{View, IfKnown}
-use Rattle.cbor4ii_rw.specs.Reader.{Shows, IsPrefix}
+use Rattle.cbor4ii_rw.specs.{Reader.{Shows, IsPrefix}, View.{View, IfKnown}}
 use Rattle.cbor4ii_rw.specs.declared.error.DecodeError.TheVariants.{Eof}
-use Rattle.cbor4ii_items.specs.InputError.{InputError}
-use Rattle.cbor4ii_items.specs.Reading.{peek_at}
-use Rattle.cbor4ii_items.specs.Laws.Running.{shows_kept}
-use Rattle.cbor4ii_tree.specs.InputError.{value_name}
-use Rattle.cbor4ii_tree.specs.Laws.Binds.{is_err}
-use Rattle.cbor4ii_tree.specs.InputError.{eof, Small}
-use Rattle.cbor4ii_tree.specs.Rejections.{Stopping, Is}
-use Rattle.cbor4ii_tree.specs.Does.{Accepting, Does}
+use Rattle.cbor4ii_items.specs.{InputError.InputError, Laws.Running.shows_kept, Reading.peek_at}
+use Rattle.cbor4ii_tree.specs.{Does.{Accepting, Does}, InputError.{value_name, eof, Small}}
+use Rattle.cbor4ii_tree.specs.{Laws.Binds.is_err, Rejections.{Stopping, Is}}
 use Rattle.cbor4ii_tree.proofs.skip_calls.Doing.{does_reject}
 
 -- an end of the input there fails so
 abbrev pub Ending : Stopping → Type 0
 Ending T = (z : InputError) (rest : List ℕ) → Is (eof value_name (Small 1)) [] z rest → T [] z rest
-
-at_end : (T : Stopping) → Ending T → (o : Option InputError) (xs : List ℕ) (new : Option (List ℕ))
-    → IfSome o (λ z. (ys : List ℕ) × (new ≡ Some ys) × (peek_at value_name 1 xs ≡ Err (z, ys)))
-    → IfSome o (λ z. (ys : List ℕ) × (new ≡ Some ys) × T xs z ys)
-at_end T ends None xs new h = tt
-at_end T ends (Some z) [] new h =
-    (h.0, h.1, ends z h.0 (is_err {A = ℕ} (eof value_name (Small 1)) [] z h.0 h.2))
-at_end T ends (Some z) (x ∷ xs) new h = let g = h.2 in cc
 
 -- a look has shown no byte
 pub none_shown : {V E : Type 0} (A : Accepting V) (T : Stopping) → Ending T → (want : ℕ)
@@ -34,10 +20,8 @@ pub none_shown : {V E : Type 0} (A : Accepting V) (T : Stopping) → Ending T �
     → Does {V = V} {E = E} A T a b (Err (Eof name (Small 1)))
 none_shown A T ends want is some shows prefix none =
     let z = eof value_name (Small 1) in
-    does_reject (λ xs ys. (xs ≡ []) × (ys ≡ [])) A T z
-    (ap (λ n. Some (eof n (Small 1))) is) refl refl
-    (λ xs ys h. subst (λ x. T x z ys) (sym h.0) (ends z ys (refl, h.1)))
-    (record {
+    does_reject (λ xs ys. (xs ≡ []) × (ys ≡ [])) A T z (ap (λ n. Some (eof n (Small 1))) is) refl
+    refl (λ xs ys h. subst (λ x. T x z ys) (sym h.0) (ends z ys (refl, h.1))) (record {
       kept = shows_kept shows;
       at = λ xs known.
           let e : xs ≡ [] = (prefix xs known).ends some none in

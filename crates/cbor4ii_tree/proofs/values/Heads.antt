@@ -1,68 +1,46 @@
 -- The parts of a value that are heads alone, and tags.
-use Rattle.std.proofs.Common.{[]}
-use Rattle.std.proofs.Common.{◌⊎◌, ◌≡◌, ◌≢◌, ℕ, zero, suc, ◌+◌, ◌*◌, ◌/◌, ◌%◌, ◌<◌, ◌≤◌, ◌^◌, List}
-use Rattle.std.proofs.Common.{◌∷◌, ◌++◌, length, drop, take, Option, Some, None, Result, Ok, Err}
-use Rattle.std.proofs.Common.{IfOk, IfErr, Bool, true, false, ℤ}
-use Rattle.std.proofs.Common.{refl, sym, ap, ◌∙◌, subst, arith, append_assoc, inl, inr, rules, pos}
-use Rattle.std.proofs.Common.{negsuc, ◌-ℤ◌, ne_eqb}
-use Rattle.std.proofs.Math.Seq.{drop-append_seam}
+use Rattle.std.proofs.{Math.Seq.drop-append_seam, lemmas.Int.to_z-of_z, Common.{[], ◌⊎◌, ◌≡◌, ◌≢◌}}
+use Rattle.std.proofs.Common.{ℕ, zero, suc, ◌+◌, ◌*◌, ◌/◌, ◌%◌, ◌<◌, ◌≤◌, ◌^◌, List, ◌∷◌, ◌++◌}
+use Rattle.std.proofs.Common.{length, drop, take, Option, Some, None, Result, Ok, Err, IfOk, IfErr}
+use Rattle.std.proofs.Common.{Bool, true, false, ℤ, refl, sym, ap, ◌∙◌, subst, arith, append_assoc}
+use Rattle.std.proofs.Common.{inl, inr, rules, pos, negsuc, ◌-ℤ◌, ne_eqb}
 use Rattle.std.specs.Int.{bytes_high_first}
-use Rattle.std.proofs.lemmas.Int.{to_z-of_z}
-use mir.Val.{to_z, of_z}
-use mir.Syntax.{w128}
-use Rattle.cbor4ii_rw.specs.View.{View}
-use Rattle.cbor4ii_rw.specs.Reader.{Advances}
-use Rattle.cbor4ii_rw.specs.declared.error.DecodeError.{DecodeError}
-use Rattle.cbor4ii_items.specs.InputError.{InputError, input_error_of, is_read, is_depth_overflow}
-use Rattle.cbor4ii_items.specs.Head.{byte_count, additional, head, shortest}
-use Rattle.cbor4ii_items.specs.Heads.{RejectsHead, ReadsHead}
-use Rattle.cbor4ii_items.specs.Laws.Heads.{after_head, length-bytes_high_first}
-use Rattle.cbor4ii_items.specs.Laws.Heads.{argument_below}
-use Rattle.cbor4ii_items.specs.Shortest.{canonical_name}
-use Rattle.cbor4ii_items.specs.InputError.{not_canonical}
-use Rattle.cbor4ii_items.specs.Initial.{Sign, sign_major, unsigned}
-use Rattle.cbor4ii_items.specs.Numbers.{ReadsArgument, RejectsArgument}
-use Rattle.cbor4ii_items.specs.Floats.{ReadsFloat, RejectsFloat, float_bytes}
-use Rattle.cbor4ii_items.specs.Moves.{Moves}
-use Rattle.cbor4ii_items.specs.Decoding.{Sound, Rejects}
-use Rattle.cbor4ii_items.specs.Budget.{CostFits}
-use Rattle.cbor4ii_items.specs.Reading.{Runs, peek_at}
-use Rattle.cbor4ii_items.specs.Initial.{Initial, Info, wide, indefinite_ended, reserved, info_of}
-use Rattle.cbor4ii_items.specs.Initial.{initial}
+use mir.{Syntax.w128, Val.{to_z, of_z}}
+use Rattle.cbor4ii_rw.specs.{Reader.Advances, View.View, declared.error.DecodeError.DecodeError}
+use Rattle.cbor4ii_items.specs.{InputError.not_canonical, Laws.Answering.fits_zero, Reading.peek_at}
+use Rattle.cbor4ii_items.specs.{Shortest.canonical_name, Budget.CostFits, Decoding.{Sound, Rejects}}
+use Rattle.cbor4ii_items.specs.{Floats.{ReadsFloat, RejectsFloat, float_bytes}, Head.byte_count}
+use Rattle.cbor4ii_items.specs.{Head.{additional, head, shortest}, Heads.{RejectsHead, ReadsHead}}
+use Rattle.cbor4ii_items.specs.Initial.{Sign, sign_major, unsigned, Initial, Info, wide}
+use Rattle.cbor4ii_items.specs.Initial.{indefinite_ended, reserved, info_of, initial}
 use Rattle.cbor4ii_items.specs.Initial.{simple_by_info, tag_by_info, negative, Simple, simple_byte}
 use Rattle.cbor4ii_items.specs.Initial.{Precision, half, single, double, precision_byte}
 use Rattle.cbor4ii_items.specs.Initial.{precision_bytes, starts_tag, starts_bits, other_simple}
 use Rattle.cbor4ii_items.specs.Initial.{simple_false, simple_true, simple_null, simple_undefined}
-use Rattle.cbor4ii_items.specs.Laws.Answering.{fits_zero}
-use Rattle.cbor4ii_tree.specs.InputError.{eof, unsupported, Small, len_of, precision_name, tag_name}
-use Rattle.cbor4ii_tree.specs.InputError.{value_name}
+use Rattle.cbor4ii_items.specs.InputError.{InputError, input_error_of, is_read, is_depth_overflow}
+use Rattle.cbor4ii_items.specs.Laws.Heads.{after_head, length-bytes_high_first, argument_below}
+use Rattle.cbor4ii_items.specs.{Moves.Moves, Numbers.{ReadsArgument, RejectsArgument}, Reading.Runs}
+use Rattle.cbor4ii_tree.specs.CanonicalRejects.{ShortestAt, CanonicalRejectsBy}
+use Rattle.cbor4ii_tree.specs.{CanonicalRejects.CanonicalOtherRejects, Cost.{Budget, cost}}
+use Rattle.cbor4ii_tree.specs.{Does.{Accepting, Does, answered}, InputError.{eof, unsupported}}
+use Rattle.cbor4ii_tree.specs.InputError.{Small, len_of, precision_name, tag_name, value_name}
+use Rattle.cbor4ii_tree.specs.{Item.{integer, float, tag}, Laws.Binds.step_up}
 use Rattle.cbor4ii_tree.specs.Laws.Initials.{initial_tag, initial_bits, initial_simple}
-use Rattle.cbor4ii_tree.specs.declared.value.Value.{Value, Integer, Float, Tag, the_lemmas}
+use Rattle.cbor4ii_tree.specs.{Meaning.number, ReadingRejects.{ReadingRejectsBy, ReadingRejects}}
+use Rattle.cbor4ii_tree.specs.{Rejections.{Stopping, MissingAll}, Tree.{int, tagged, simple, bits}}
+use Rattle.cbor4ii_tree.specs.{Tree.bytes, Valuing.{HeadAt, ReadsOneValue, ReadsTagged}}
+use Rattle.cbor4ii_tree.specs.Valuing.{RejectsOneValue, ReadsUnder, RejectsUnder, TakesTag}
+use Rattle.cbor4ii_tree.specs.{Valuing.{RejectsFirst, RejectsOf, SimpleOf}, View.view}
 use Rattle.cbor4ii_tree.specs.declared.value.FloatBits.{FloatBits}
 use Rattle.cbor4ii_tree.specs.declared.value.FloatBits.TheVariants.{F16, F32, F64}
-use Rattle.cbor4ii_tree.specs.Tree.{int, tagged, simple, bits, bytes}
-use Rattle.cbor4ii_tree.specs.Item.{integer, float, tag}
-use Rattle.cbor4ii_tree.specs.Meaning.{number}
-use Rattle.cbor4ii_tree.specs.Cost.{Budget, cost}
-use Rattle.cbor4ii_tree.specs.Laws.Binds.{step_up}
-use Rattle.cbor4ii_tree.specs.Rejections.{Stopping, MissingAll}
-use Rattle.cbor4ii_tree.specs.ReadingRejects.{ReadingRejectsBy, ReadingRejects}
-use Rattle.cbor4ii_tree.specs.CanonicalRejects.{ShortestAt, CanonicalRejectsBy}
-use Rattle.cbor4ii_tree.specs.CanonicalRejects.{CanonicalOtherRejects}
-use Rattle.cbor4ii_tree.specs.View.{view}
-use Rattle.cbor4ii_tree.specs.Does.{Accepting, Does, answered}
-use Rattle.cbor4ii_tree.specs.Valuing.{HeadAt, ReadsOneValue, ReadsTagged, RejectsOneValue}
-use Rattle.cbor4ii_tree.specs.Valuing.{ReadsUnder, RejectsUnder, TakesTag}
-use Rattle.cbor4ii_tree.specs.Valuing.{RejectsFirst, RejectsOf, SimpleOf}
-use Rattle.cbor4ii_tree.proofs.skip_calls.Doing.{Reached, reached_start, reached_by}
-use Rattle.cbor4ii_tree.proofs.skip_calls.Doing.{reached_as, does_ok, does_err, does_after}
-use Rattle.cbor4ii_tree.proofs.skip_calls.Doing.{does_reject, does_rejects, call_rejects}
-use Rattle.cbor4ii_tree.proofs.skip_calls.Doing.{reached_peek}
-use Rattle.cbor4ii_tree.proofs.skip_calls.Doing.{reached_first, reached_sound}
-use Rattle.cbor4ii_tree.proofs.values.Calls.{Peeked, head_cut, no_head, initial_of, small_z}
-use Rattle.cbor4ii_tree.proofs.values.Calls.{fits_less, whole, whole_is}
-use Rattle.cbor4ii_tree.proofs.canonical.FitsCanonically.{precision_major}
-use Rattle.cbor4ii_tree.proofs.values.Encoding.{view-Integer}
+use Rattle.cbor4ii_tree.specs.declared.value.Value.{Value, Integer, Float, Tag, the_lemmas}
+use Rattle.cbor4ii_tree.proofs.{canonical.FitsCanonically.precision_major, skip_calls.Doing.Reached}
+use Rattle.cbor4ii_tree.proofs.{values.Calls.whole_is, values.Encoding.view-Integer}
+use Rattle.cbor4ii_tree.proofs.skip_calls.Doing.{reached_start, reached_by, reached_as, does_ok}
+use Rattle.cbor4ii_tree.proofs.skip_calls.Doing.{does_err, does_after, does_reject, does_rejects}
+use Rattle.cbor4ii_tree.proofs.skip_calls.Doing.{call_rejects, reached_peek, reached_first}
+use Rattle.cbor4ii_tree.proofs.{skip_calls.Doing.reached_sound, values.Calls.{Peeked, head_cut}}
+use Rattle.cbor4ii_tree.proofs.values.Calls.{no_head, initial_of, small_z, fits_less, whole}
 
 -- ---- after a byte that was looked at
 
@@ -87,22 +65,19 @@ module _ (exact : Bool) (b : ℕ) {E : Type 0} {a m : View}
       → RejectsUnder exact a.budget (b ∷ bs) z rest)
       → Does A S m c r → Does (ReadsUnder exact a.budget) (RejectsUnder exact a.budget) a c r
   arm_does A S f g d =
-      does_after (Peeked b) A (ReadsUnder exact a.budget) S (RejectsUnder exact a.budget)
-      (λ xs ys zs v p h. subst (λ x. ReadsUnder exact a.budget x v zs) (sym p.1)
-      (f p.0 zs v (subst (λ x. A x v zs) (p.2 ∙ p.1) h)))
-      (λ xs ys z rest p h. subst (λ x. RejectsUnder exact a.budget x z rest) (sym p.1)
-      (g p.0 z rest (subst (λ x. S x z rest) (p.2 ∙ p.1) h)))
-      (reached_peek value_name 1 b first) d
+      does_after (Peeked b) A _ S _ (λ xs ys zs v p h. subst (λ x. ReadsUnder exact a.budget x v zs)
+      (sym p.1) (f p.0 zs v (subst (λ x. A x v zs) (p.2 ∙ p.1) h))) (λ xs ys z rest p h. subst (λ x.
+      RejectsUnder exact a.budget x z rest) (sym p.1) (g p.0 z rest (subst (λ x. S x z rest)
+      (p.2 ∙ p.1) h))) (reached_peek value_name 1 b first) d
 
   -- what a first byte reports
   pub first_does : {r : Result Value (DecodeError E)} {c : View}
       → Does (ReadsUnder exact m.budget) (RejectsFirst exact b m.budget) m c r
       → Does (ReadsUnder exact a.budget) (RejectsUnder exact a.budget) a c r
   first_does d =
-      arm_does (ReadsUnder exact m.budget) (RejectsFirst exact b m.budget)
-      (λ bs ys v h. subst (λ o. ReadsUnder exact o (b ∷ bs) v ys) first.moves.by.budget h)
-      (λ bs z rest h. subst (λ o. RejectsUnder exact o (b ∷ bs) z rest) first.moves.by.budget
-      (h bs refl)) d
+      arm_does (ReadsUnder exact m.budget) (RejectsFirst exact b m.budget) (λ bs ys v h. subst (λ o.
+      ReadsUnder exact o (b ∷ bs) v ys) first.moves.by.budget h) (λ bs z rest h. subst (λ o.
+      RejectsUnder exact o (b ∷ bs) z rest) first.moves.by.budget (h bs refl)) d
 
 -- ---- heads
 
@@ -135,9 +110,8 @@ below_zero (suc v) = let e : 0 + v ≡ v = omega arith in ap (λ j. negsuc (suc 
 
 pub negative_z : (v : ℕ) → v < 2 ^ 127 → to_z w128 (of_z w128 (negsuc 0 -ℤ to_z w128 v)) ≡ negsuc v
 negative_z v h =
-    ap (λ z. to_z w128 (of_z w128 (negsuc 0 -ℤ z))) (small_z v h)
-    ∙ ap (λ z. to_z w128 (of_z w128 z)) (below_zero v)
-    ∙ to_z-of_z w128 (negsuc v) (record { sfits = h })
+    ap (λ z. to_z w128 (of_z w128 (negsuc 0 -ℤ z))) (small_z v h) ∙ ap (λ z. to_z w128
+    (of_z w128 z)) (below_zero v) ∙ to_z-of_z w128 (negsuc v) (record { sfits = h })
 
 int_reads : (exact : Bool) (s : Sign) (inner : Budget) (n : ℕ) (z : ℤ) (xs ys : List ℕ)
     → HeadAt exact (sign_major s) n xs ys → number s n ≡ z
@@ -167,36 +141,31 @@ pub simple_read : (exact : Bool) {E : Type 0} (b : ℕ) {a m c : View} {v : Valu
     → (exact ≡ true → b ≢ simple_byte simple_undefined) → SimpleOf b (Some v)
     → Does {E = E} (ReadsUnder exact a.budget) (RejectsUnder exact a.budget) a c (Ok v)
 simple_read exact b {a = a} {v = v} first small adv defined s =
-    does_ok (ReadsUnder exact a.budget) (RejectsUnder exact a.budget)
-    (reached_as (λ xs ys. xs ≡ b ∷ ys) (λ xs ys. ReadsUnder exact a.budget xs v ys)
-    (λ xs ys e budget step. (
+    does_ok _ _ (reached_as (λ xs ys. xs ≡ b ∷ ys) _ (λ xs ys e budget step. (
       simple s.0,
       whole exact budget (simple s.0) (tt, tt) (λ holds u. defined holds (s.1 ∙ ap simple_byte u))
           (step_up budget a.budget 0 step (fits_zero a.budget)),
       s.2,
       e ∙ ap (λ j. j ∷ ys) s.1,
-    ))
-    (reached_first value_name 1 b first small adv))
+    )) (reached_first value_name 1 b first small adv))
 
 -- undefined is not canonical
 pub undefined_rejected : (exact : Bool) {E : Type 0} (b : ℕ) {e : DecodeError E} {a m c : View}
-    → Runs {E = E} (peek_at value_name 1) a m (Ok b) → b < 256 → Advances 1 m c
-    → (exact ≡ true) × (b ≡ simple_byte simple_undefined)
-    → input_error_of e ≡ Some (not_canonical canonical_name) → is_read e ≡ false
-    → is_depth_overflow e ≡ false
-    → Does {V = Value} (ReadsUnder exact a.budget) (RejectsUnder exact a.budget) a c (Err e)
+    → Runs {E = E} (peek_at value_name 1) a m (Ok b) → b < 256 → Advances 1 m c → (exact ≡ true)
+    × (b ≡ simple_byte simple_undefined) → input_error_of e ≡ Some (not_canonical canonical_name)
+    → is_read e ≡ false → is_depth_overflow e ≡ false → Does {V = Value} (ReadsUnder exact a.budget)
+    (RejectsUnder exact a.budget) a c (Err e)
 undefined_rejected false b first small adv is says read shallow = absurd (false_true is.0)
   where
     false_true : false ≡ true → ⊥
     false_true e = cc
 undefined_rejected true b {a = a} first small adv is says read shallow =
-    does_reject (λ xs ys. xs ≡ b ∷ ys) (ReadsUnder true a.budget) (RejectsUnder true a.budget)
-    (not_canonical canonical_name) says read shallow
-    (λ xs ys e. subst (λ x. RejectsUnder true a.budget x (not_canonical canonical_name) ys) (sym e)
-    (at_major 7 a.budget b ys (not_canonical canonical_name) ys (omega (arith, is.1))
-    (subst (λ i. CanonicalOtherRejects i b ys (not_canonical canonical_name) ys)
-    (sym (ap initial is.1 ∙ initial_simple simple_undefined)) (refl, refl))))
-    (reached_first value_name 1 b first small adv)
+    does_reject (λ xs ys. xs ≡ b ∷ ys) _ _
+    (not_canonical canonical_name) says read shallow (λ xs ys e. subst (λ x. RejectsUnder true
+    a.budget x (not_canonical canonical_name) ys) (sym e) (at_major 7 a.budget b ys (not_canonical
+    canonical_name) ys (omega (arith, is.1)) (subst (λ i. CanonicalOtherRejects i b ys
+    (not_canonical canonical_name) ys) (sym (ap initial is.1 ∙ initial_simple simple_undefined))
+    (refl, refl)))) (reached_first value_name 1 b first small adv)
 
 -- ---- what a first byte reports
 
@@ -205,22 +174,18 @@ pub leaf_read : (exact : Bool) {V E : Type 0} (R : List ℕ → V → ℕ → �
     → ReadsUnder exact a.budget xs w (drop n xs)) → Moves {E = E} a c (Ok v) → Sound R a c v
     → Does {E = E} (ReadsUnder exact a.budget) S a c (Ok w)
 leaf_read exact R w {S = S} {a = a} f moves s =
-    does_ok (ReadsUnder exact a.budget) S
-    (reached_sound R (λ xs ys. ReadsUnder exact a.budget xs w ys) f moves s)
+    does_ok _ S (reached_sound R (λ xs ys. ReadsUnder exact a.budget xs w ys) f moves s)
 
 pub leaf_rejected : (exact : Bool) {V E : Type 0} (first : ℕ)
-    (S : List ℕ → Option ℕ → InputError → List ℕ → Type 0) {a c : View} {e : DecodeError E} →
-    ((bs : List ℕ) (z : InputError) (rest : List ℕ)
-    → S (first ∷ bs) a.budget z rest → RejectsUnder exact a.budget (first ∷ bs) z rest)
-    → Moves {V = V} a c (Err e) → Rejects S a c e
-    → Does {V = Value} (ReadsUnder exact a.budget) (RejectsFirst exact first a.budget) a c (Err e)
+    (S : List ℕ → Option ℕ → InputError → List ℕ → Type 0) {a c : View} {e : DecodeError E} → ((bs
+    : List ℕ) (z : InputError) (rest : List ℕ) → S (first ∷ bs) a.budget z rest → RejectsUnder exact
+    a.budget (first ∷ bs) z rest) → Moves {V = V} a c (Err e) → Rejects S a c e → Does {V = Value}
+    (ReadsUnder exact a.budget) (RejectsFirst exact first a.budget) a c (Err e)
 leaf_rejected exact {V = V} first S {a = a} f moves s =
-    does_err (λ xs ys. xs ≡ ys) (λ xs (v : V) ys. Unit {0}) (ReadsUnder exact a.budget)
-    (λ xs. S xs a.budget) (RejectsFirst exact first a.budget)
-    (λ xs ys z rest e h bs is. subst (λ x. RejectsUnder exact a.budget x z rest) (sym is)
-    (f bs z rest (subst (λ x. S x a.budget z rest) (sym e ∙ is) h)))
-    (reached_start (λ xs ys. xs ≡ ys) a (λ xs. refl))
-    (does_rejects (λ xs (v : V) ys. Unit {0}) S moves s)
+    does_err (λ xs ys. xs ≡ ys) _ _ (λ xs. S xs a.budget) _ (λ xs ys z rest e h bs is. subst (λ x.
+    RejectsUnder exact a.budget x z rest) (sym is) (f bs z rest (subst (λ x. S x a.budget z rest)
+    (sym e ∙ is) h))) (reached_start (λ xs ys. xs ≡ ys) a (λ xs. refl)) (does_rejects
+    (λ xs (v : V) ys. Unit {0}) S moves s)
 
 -- ---- floats
 
@@ -234,10 +199,9 @@ pub view-F64 : (n : ℕ) → float double n ≡ view (Float (F64 n))
 view-F64 n = search (rules, the_lemmas)
 
 pub float_read : (exact : Bool) {E : Type 0} (p : Precision) {V : Type 0} (content : V → ℕ) {v : V}
-    (f : FloatBits) {S : Stopping} {a c : View} → float p (content v) ≡ view (Float f) → Moves
-    {E = E} a c (Ok v)
-    → Sound (λ xs v. ReadsFloat (precision_byte p) (precision_bytes p) xs (content v)) a c v
-    → Does {E = E} (ReadsUnder exact a.budget) S a c (Ok (Float f))
+    (f : FloatBits) {S : Stopping} {a c : View} → float p (content v) ≡ view (Float f)
+    → Moves {E = E} a c (Ok v) → Sound (λ xs v. ReadsFloat (precision_byte p) (precision_bytes p) xs
+    (content v)) a c v → Does {E = E} (ReadsUnder exact a.budget) S a c (Ok (Float f))
 float_read exact p content {v = v} f {a = a} is moves s =
     leaf_read exact (λ xs v. ReadsFloat (precision_byte p) (precision_bytes p) xs (content v))
     (Float f) (λ xs n k _ r budget step.
@@ -285,10 +249,9 @@ pub float_rejected : (exact : Bool) {V E : Type 0} (p : Precision) (first : ℕ)
     → Rejects (RejectsFloat (precision_name p) (precision_byte p) (precision_bytes p)) a c e
     → Does {V = Value} (ReadsUnder exact a.budget) (RejectsFirst exact first a.budget) a c (Err e)
 float_rejected exact p first {a = a} is moves s =
-    leaf_rejected exact first
-    (RejectsFloat (precision_name p) (precision_byte p) (precision_bytes p))
-    (λ bs z rest h. float_row exact p a.budget first bs z rest is
-    (float_cut p first bs z rest a.budget is h)) moves s
+    leaf_rejected exact first (RejectsFloat (precision_name p) (precision_byte p)
+    (precision_bytes p)) (λ bs z rest h. float_row exact p a.budget first bs z rest is (float_cut p
+    first bs z rest a.budget is h)) moves s
 
 other_row : (i : ℕ) → i ≢ 20 → i ≢ 21 → i ≢ 22 → i ≢ 23 → i ≢ 25 → i ≢ 26 → i ≢ 27
     → simple_by_info i ≡ other_simple
@@ -317,25 +280,20 @@ other_rejected : (exact : Bool) (inner : Budget) (b : ℕ) (bs : List ℕ) → b
     → RejectsUnder exact inner (b ∷ bs) (unsupported value_name b) (b ∷ bs)
 other_rejected false inner b bs m is = at_row inner other_simple b bs _ _ is (refl, refl)
 other_rejected true inner b bs m is =
-    at_major 7 inner b bs _ _ m
-    (subst (λ i. CanonicalOtherRejects i b bs (unsupported value_name b) (b ∷ bs)) (sym is)
-    (refl, refl))
+    at_major 7 inner b bs _ _ m (subst (λ i. CanonicalOtherRejects i b bs (unsupported value_name b)
+    (b ∷ bs)) (sym is) (refl, refl))
 
-pub no_value : (exact : Bool) {E : Type 0} (first : ℕ) {e : DecodeError E} {a : View}
-    → 224 ≤ first → first < 256 → ((s : Simple) → first ≡ simple_byte s → ⊥) → first ≢ 249 → first ≢
-    250 → first ≢ 251
-    → input_error_of e ≡ Some (unsupported value_name first) → is_read e ≡ false
-    → is_depth_overflow e ≡ false
-    → Does {V = Value} (ReadsUnder exact a.budget) (RejectsFirst exact first a.budget) a a (Err e)
+pub no_value : (exact : Bool) {E : Type 0} (first : ℕ) {e : DecodeError E} {a : View} → 224 ≤ first
+    → first < 256 → ((s : Simple) → first ≡ simple_byte s → ⊥) → first ≢ 249 → first ≢ 250
+    → first ≢ 251 → input_error_of e ≡ Some (unsupported value_name first) → is_read e ≡ false
+    → is_depth_overflow e ≡ false → Does {V = Value} (ReadsUnder exact a.budget) (RejectsFirst exact
+    first a.budget) a a (Err e)
 no_value exact first {a = a} low high none f g h says read shallow =
-    does_reject (λ xs ys. xs ≡ ys) (ReadsUnder exact a.budget) (RejectsFirst exact first a.budget)
-    (unsupported value_name first) says read shallow
+    does_reject (λ xs ys. xs ≡ ys) _ _ (unsupported value_name first) says read shallow
     (λ xs ys e bs is. subst (λ x. RejectsUnder exact a.budget x (unsupported value_name first) ys)
-    (sym is)
-    (subst (λ y. RejectsUnder exact a.budget (first ∷ bs) (unsupported value_name first) y)
-    (sym is ∙ e) (other_rejected exact a.budget first bs (omega (arith, low, high))
-    (other_byte first low high none f g h))))
-    (reached_start (λ xs ys. xs ≡ ys) a (λ xs. refl))
+    (sym is) (subst (λ y. RejectsUnder exact a.budget (first ∷ bs) (unsupported value_name first) y)
+    (sym is ∙ e) (other_rejected exact a.budget first bs (omega (arith, low, high)) (other_byte
+    first low high none f g h)))) (reached_start (λ xs ys. xs ≡ ys) a (λ xs. refl))
 
 -- ---- tags
 
@@ -349,22 +307,19 @@ pub tagged_ok : (exact : Bool) {E : Type 0} (n : ℕ) {v : Value} {a c : View} (
     → Does {E = E} (ReadsOneValue exact a.budget) (RejectsOneValue exact a.budget) a c (Ok v)
     → Does {E = E} (ReadsTagged exact n a.budget) (RejectsOneValue exact a.budget) a c (Ok w)
 tagged_ok exact n {v = v} {a = a} w is d =
-    does_ok (ReadsTagged exact n a.budget) (RejectsOneValue exact a.budget)
-    (reached_as (λ xs ys. ReadsOneValue exact a.budget xs v ys)
-    (λ xs ys. ReadsTagged exact n a.budget xs w ys) (λ xs ys h. (v, is, h)) (reached_by d))
+    does_ok _ _ (reached_as (λ xs ys. ReadsOneValue exact a.budget xs v ys) _ (λ xs ys h.
+    (v, is, h)) (reached_by d))
 
 tag_row : (exact : Bool) (n : ℕ) (inner : Budget) (xs ys : List ℕ) (z : InputError) (rest : List ℕ)
     → HeadAt exact 6 n xs ys → RejectsOneValue exact inner ys z rest
     → RejectsOf exact 6 inner xs z rest
 tag_row false n inner xs ys z rest h s b bs is m =
-    subst (λ x. RejectsUnder false inner x z rest) (sym h.3)
-    (at_row inner (starts_tag h.0) (32 * 6 + additional h.0 n)
-    (bytes_high_first (byte_count h.0) n ++ ys) z rest (initial_tag n h.0 h.1)
+    subst (λ x. RejectsUnder false inner x z rest) (sym h.3) (at_row inner (starts_tag h.0) (32 * 6
+    + additional h.0 n) (bytes_high_first (byte_count h.0) n ++ ys) z rest (initial_tag n h.0 h.1)
     (inr (record { argument = n; after = ys; fits = h.1; is = refl; stopped = s })))
 tag_row true n inner xs ys z rest h s b bs is m =
-    subst (λ x. RejectsUnder true inner x z rest) (sym is)
-    (at_major 6 inner b bs z rest m
-    (inr (record {
+    subst (λ x. RejectsUnder true inner x z rest) (sym is) (at_major 6 inner b bs z rest m (inr
+    (record {
       argument = n;
       after = ys;
       is = subst (λ x. ShortestAt 6 n x ys) is (shortest_at 6 n xs ys h);
@@ -372,13 +327,11 @@ tag_row true n inner xs ys z rest h s b bs is m =
     })))
 
 pub tag_does : (exact : Bool) {E : Type 0} (n : ℕ) {r : Result Value (DecodeError E)} {a m c : View}
-    → Reached (HeadAt exact 6 n) a m
-    → Does (ReadsTagged exact n m.budget) (RejectsOneValue exact m.budget) m c r
-    → Does (ReadsUnder exact a.budget) (RejectsOf exact 6 a.budget) a c r
+    → Reached (HeadAt exact 6 n) a m → Does (ReadsTagged exact n m.budget) (RejectsOneValue exact
+    m.budget) m c r → Does (ReadsUnder exact a.budget) (RejectsOf exact 6 a.budget) a c r
 tag_does exact n {a = a} {m = m} p d =
-    does_after (HeadAt exact 6 n) (ReadsTagged exact n m.budget) (ReadsUnder exact a.budget)
-    (RejectsOneValue exact m.budget) (RejectsOf exact 6 a.budget)
-    (λ xs ys zs w h r budget step.
+    does_after (HeadAt exact 6 n) (ReadsTagged exact n m.budget) _ (RejectsOneValue exact m.budget)
+    _ (λ xs ys zs w h r budget step.
     let s = subst (λ o. ReadsOneValue exact o ys r.0 zs) p.kept.budget r.2 in
     let t = whole_is exact a.budget s.0 s.1 in (
       tagged n h.0 s.0,
@@ -387,9 +340,8 @@ tag_does exact n {a = a} {m = m} p d =
       ap (tag n) s.2 ∙ sym r.1,
       h.3 ∙ ap (λ z. head 6 n h.0 ++ z) s.3
           ∙ sym (append_assoc (head 6 n h.0) (bytes s.0) zs),
-    ))
-    (λ xs ys z rest h s. tag_row exact n a.budget xs ys z rest h
-    (subst (λ o. RejectsOneValue exact o ys z rest) p.kept.budget s)) p d
+    )) (λ xs ys z rest h s. tag_row exact n a.budget xs ys z rest h (subst (λ o. RejectsOneValue
+    exact o ys z rest) p.kept.budget s)) p d
 
 pub tag_rejects : (inner : Budget) (b : ℕ) (bs : List ℕ) (e : InputError) (rest : List ℕ) →
     b / 32 ≡ 6
@@ -406,17 +358,14 @@ tag_rejects inner b bs e rest m h =
 
 -- the number that the head of a tag has
 pub tag_taken : {E : Type 0} {a c : View} (r : Option ℕ) (failure : Option (DecodeError E))
-    → Moves a c (answered r failure)
-    → IfOk (answered r failure) (Sound (ReadsArgument 6 8) a c)
-    → IfErr (answered r failure) (Rejects (RejectsArgument tag_name 6 8) a c)
-    → Does (TakesTag false a.budget) (RejectsOf false 6 a.budget) a c (answered r failure)
+    → Moves a c (answered r failure) → IfOk (answered r failure) (Sound (ReadsArgument 6 8) a c)
+    → IfErr (answered r failure) (Rejects (RejectsArgument tag_name 6 8) a c) → Does
+    (TakesTag false a.budget) (RejectsOf false 6 a.budget) a c (answered r failure)
 tag_taken {a = a} (Some n) failure moves s h =
-    does_ok (TakesTag false a.budget) (RejectsOf false 6 a.budget)
-    (reached_sound (ReadsArgument 6 8) (HeadAt false 6 n)
-    (λ xs k c _ r. head_at false 6 n xs k r.0 (λ e. cc)) moves s)
+    does_ok _ _ (reached_sound (ReadsArgument 6 8) (HeadAt false 6 n) (λ xs k c _ r. head_at false 6
+    n xs k r.0 (λ e. cc)) moves s)
 tag_taken {a = a} None failure moves s h =
-    call_rejects (TakesTag false a.budget) (RejectsArgument tag_name 6 8)
-    (RejectsOf false 6 a.budget)
-    (λ xs z rest h b bs is m. subst (λ x. RejectsUnder false a.budget x z rest) (sym is)
+    call_rejects (TakesTag false a.budget) (RejectsArgument tag_name 6 8) (RejectsOf false 6
+    a.budget) (λ xs z rest h b bs is m. subst (λ x. RejectsUnder false a.budget x z rest) (sym is)
     (tag_rejects a.budget b bs z rest m (subst (λ x. RejectsHead tag_name 6 8 x z rest) is h)))
     moves h

@@ -1,16 +1,13 @@
 -- Values of the program are in range.
 use Rattle.std.proofs.Common.{◌≡◌, ℕ, ◌+◌, ◌<◌, ◌^◌, List, [], ◌∷◌, ◌++◌, length, take, get_or, sym}
-use Rattle.std.proofs.Common.{ap, ◌∙◌, arith, subst, Vec, Global, String}
-use Rattle.std.specs.Prelude.{string_bytes}
-use Rattle.std.proofs.lemmas.List.{take_more}
+use Rattle.std.proofs.{Common.{ap, ◌∙◌, arith, subst, Vec, Global, String}, lemmas.List.take_more}
 use Rattle.std.proofs.lemmas.Str.{IsUtf8-string_bytes}
-use Rattle.cbor4ii_tree.specs.Item.{IsItem, AreItems, AreMembers, text}
-use Rattle.cbor4ii_tree.specs.View.{view, items_view, members_view}
-use Rattle.cbor4ii_tree.specs.declared.value.Value.{Value, Text, Array, Map}
+use Rattle.std.specs.Prelude.{string_bytes}
+use Rattle.cbor4ii_tree.specs.{Item.{IsItem, AreItems, AreMembers, text}, View.{view, items_view}}
+use Rattle.cbor4ii_tree.specs.{View.members_view, declared.value.Value.{Value, Text, Array, Map}}
+use Rattle.cbor4ii_tree.proofs.{values.Encoding.view-Array, values.Strings.view-Text}
 use Rattle.cbor4ii_tree.proofs.values.Views.{item_count-items_view, member_count-members_view}
 use Rattle.cbor4ii_tree.proofs.values.Views.{view-Map}
-use Rattle.cbor4ii_tree.proofs.values.Encoding.{view-Array}
-use Rattle.cbor4ii_tree.proofs.values.Strings.{view-Text}
 
 pub AreItems-push : (vs : List Value) (v : Value) → AreItems (items_view vs) → IsItem (view v)
     → AreItems (items_view (vs ++ v ∷ []))

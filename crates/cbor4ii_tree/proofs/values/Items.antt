@@ -1,15 +1,13 @@
 -- What is read is a value of the program.
-use Rattle.std.proofs.Common.{◌≡◌, ◌^◌, ◌<◌, List, [], ◌∷◌, ◌++◌, length, sym, subst, arith, Vec}
-use Rattle.std.proofs.Common.{ℕ, Global, String}
-use Rattle.std.proofs.lemmas.Str.{IsUtf8-string_bytes}
-use Rattle.cbor4ii_tree.specs.declared.value.Value.{Value, Array, Map, Text, Bytes}
-use Rattle.cbor4ii_tree.specs.Item.{IsItem, AreItems, AreMembers}
-use Rattle.cbor4ii_tree.specs.View.{view, items_view, members_view}
+use Rattle.std.proofs.Common.{◌≡◌, ◌^◌, ◌<◌, List, [], ◌∷◌, ◌++◌, length, sym, subst, arith, Vec, ℕ}
+use Rattle.std.proofs.{Common.{Global, String}, lemmas.Str.IsUtf8-string_bytes}
+use Rattle.cbor4ii_tree.specs.{Item.{IsItem, AreItems, AreMembers}, View.{view, items_view}}
+use Rattle.cbor4ii_tree.specs.{View.members_view, declared.value.Value.{Value, Array, Map, Text}}
+use Rattle.cbor4ii_tree.specs.declared.value.Value.{Bytes}
+use Rattle.cbor4ii_tree.proofs.{values.Encoding.view-Array, values.InRange.AreItems-push}
+use Rattle.cbor4ii_tree.proofs.values.Strings.{view-Text, view-Bytes}
 use Rattle.cbor4ii_tree.proofs.values.Views.{item_count-items_view, member_count-members_view}
 use Rattle.cbor4ii_tree.proofs.values.Views.{view-Map}
-use Rattle.cbor4ii_tree.proofs.values.Strings.{view-Text, view-Bytes}
-use Rattle.cbor4ii_tree.proofs.values.InRange.{AreItems-push}
-use Rattle.cbor4ii_tree.proofs.values.Encoding.{view-Array}
 
 pub items_none : {vs : List Value} → vs ≡ [] → AreItems (items_view vs)
 items_none e = rw e tt

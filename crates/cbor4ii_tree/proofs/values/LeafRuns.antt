@@ -1,72 +1,47 @@
 -- Runs: values that hold no other, one after another in shown bytes.
-use Rattle.cbor4ii_tree.proofs.values.Calls.{whole}
-use Rattle.cbor4ii_tree.proofs.values.Calls.{value_no_step}
-use Rattle.cbor4ii_tree.specs.Valuing.{Whole}
-use Rattle.cbor4ii_tree.specs.Valuing.{RejectsItems}
-use Rattle.cbor4ii_tree.specs.Valuing.{ReadsItems}
-use Rattle.cbor4ii_tree.proofs.values.Calls.{value_no_byte}
-use Rattle.std.proofs.Common.{◌≡◌, ℕ, suc, ◌+◌, ◌-◌, ◌*◌, ◌/◌, ◌<◌, ◌≤◌, ◌⊎◌, List, [], ◌∷◌}
-use Rattle.std.proofs.Common.{◌++◌}
+use Rattle.std.proofs.Common.{◌≡◌, ℕ, suc, ◌+◌, ◌-◌, ◌*◌, ◌/◌, ◌<◌, ◌≤◌, ◌⊎◌, List, [], ◌∷◌, ◌++◌}
 use Rattle.std.proofs.Common.{length, take, drop, Option, Some, None, refl, sym, ap, ap₂, ◌∙◌}
 use Rattle.std.proofs.Common.{subst, arith, append_assoc, length-append, length-drop}
 use Rattle.std.proofs.Common.{take-append-drop, Vec, Global, nat_lt, Bool, true, false, not, OnSome}
-use Rattle.std.proofs.Common.{IfNone, Result}
-use Rattle.std.proofs.Common.{Ok, Err, inl, inr}
+use Rattle.std.proofs.{Common.{IfNone, Result, Ok, Err, inl, inr}, Math.Seq.take-add}
+use Rattle.std.proofs.{lemmas.Bool.{ltb-true, ltb-false}, lemmas.List.{append-nil, drop-take}}
 use Rattle.std.specs.Option.{is_some}
-use Rattle.std.proofs.Math.Seq.{take-add}
-use Rattle.std.proofs.lemmas.Bool.{ltb-true, ltb-false}
-use Rattle.std.proofs.lemmas.List.{append-nil, drop-take}
 use denote.Ref.{Bor}
 use Rattle.cbor4ii_rw.specs.Reader.{Advances, ReaderFails, IsPrefix, KeepsAllButBudget, Shows}
-use Rattle.cbor4ii_rw.specs.Reader.{StepsIn}
-use Rattle.cbor4ii_rw.specs.Reader.{step_back}
-use Rattle.cbor4ii_rw.specs.View.{View, IfKnown}
+use Rattle.cbor4ii_rw.specs.{Reader.{StepsIn, step_back}, View.{View, IfKnown}}
 use Rattle.cbor4ii_rw.specs.declared.error.DecodeError.{DecodeError}
 use Rattle.cbor4ii_rw.specs.declared.error.DecodeError.TheVariants.{OutOfMemory, Eof, Read}
-use Rattle.cbor4ii_items.specs.Budget.{CostFits}
-use Rattle.cbor4ii_items.specs.Head.{IsBytes}
-use Rattle.cbor4ii_items.specs.InputError.{input_error_of, is_read, depth_overflow}
-use Rattle.cbor4ii_items.specs.Laws.Answering.{fits_zero}
-use Rattle.cbor4ii_items.specs.Laws.Contents.{lends_prefix}
-use Rattle.cbor4ii_items.specs.Laws.Steps.{counted_none, kept_then}
-use Rattle.cbor4ii_items.specs.Moves.{ReaderFailed, Kept}
-use Rattle.cbor4ii_items.specs.Reading.{Runs, peek_at}
-use Rattle.cbor4ii_tree.specs.Cost.{Budget, step_in}
-use Rattle.cbor4ii_tree.specs.Does.{Accepting, Does, answered, error_left}
-use Rattle.cbor4ii_tree.specs.Prefix.{Offers}
-use Rattle.cbor4ii_tree.specs.Item.{AreItems, AreMembers, IsItem, item, no_items}
-use Rattle.cbor4ii_tree.specs.Laws.Binds.{step_up}
-use Rattle.cbor4ii_tree.specs.Leaf.{DoesAfterNext, HeadStands, SeesNext, ShowsHead, ShowsNext}
-use Rattle.cbor4ii_tree.specs.Leaf.{StandsAhead, WantsContent}
-use Rattle.cbor4ii_tree.specs.LeafRuns.{flat_pairs, flat_values, IsLeaf, StandInFront, PutsAfter}
-use Rattle.cbor4ii_tree.specs.LeafRuns.{PutsRun, RejectsMemory, PutsItems, RunsBefore}
-use Rattle.cbor4ii_tree.specs.Valuing.{ReadsEach}
-use Rattle.cbor4ii_tree.specs.LeafRuns.{PutsItemsUnder, KeepsItems, RejectsItemsUnder}
-use Rattle.cbor4ii_tree.specs.LeafRuns.{RejectsWhereNone, TakesBy}
-use Rattle.cbor4ii_tree.specs.InputError.{InputError, value_name}
-use Rattle.cbor4ii_tree.specs.InputError.{Small}
-use Rattle.cbor4ii_tree.specs.Rejections.{Each, EachPair, Stopping, RejectsInCount}
-use Rattle.cbor4ii_tree.specs.ReadingRejects.{Readable}
-use Rattle.cbor4ii_tree.specs.CanonicalRejects.{FitsCanonically}
-use Rattle.cbor4ii_tree.specs.Tree.{Tree, Trees, no_trees, tree, Pairs, no_pairs, pair, bytes}
-use Rattle.cbor4ii_tree.specs.Tree.{bytes_all, bytes_pairs, count, pair_count}
-use Rattle.cbor4ii_tree.specs.Meaning.{value, values, member_values}
-use Rattle.cbor4ii_tree.specs.Valuing.{ReadsUnder, RejectsOneValue, RejectsUnder}
-use Rattle.cbor4ii_tree.specs.View.{view, items_view, members_view}
-use Rattle.cbor4ii_tree.specs.declared.value.Value.{Value}
-use Rattle.cbor4ii_tree.specs.declared.leaf.Next.{Next}
-use Rattle.cbor4ii_tree.specs.declared.run.Ran.{Ran}
-use Rattle.cbor4ii_tree.specs.declared.run.Ran.TheVariants as run
-use Rattle.cbor4ii_tree.proofs.parts.Prefixes.{IsBytes-append}
+use Rattle.cbor4ii_items.specs.{InputError.depth_overflow, Laws.Answering.fits_zero}
+use Rattle.cbor4ii_items.specs.{Budget.CostFits, Head.IsBytes, InputError.{input_error_of, is_read}}
+use Rattle.cbor4ii_items.specs.{Laws.Contents.lends_prefix, Laws.Steps.{counted_none, kept_then}}
+use Rattle.cbor4ii_items.specs.{Moves.{ReaderFailed, Kept}, Reading.{Runs, peek_at}}
+use Rattle.cbor4ii_tree.proofs.{parts.Prefixes.IsBytes-append, skip_calls.Doing.does_ok}
+use Rattle.cbor4ii_tree.proofs.{skip_calls.Doing.does_no_step, values.ByHead.prefix_shown}
 use Rattle.cbor4ii_tree.proofs.parts.Joined.{join, count-join, each-join, bytes-join}
-use Rattle.cbor4ii_tree.proofs.skip_calls.Doing.{does_ok, does_no_memory, does_stepped, steps_in}
-use Rattle.cbor4ii_tree.proofs.skip_calls.Doing.{Reached, reached_start, reached_then, reached_by}
-use Rattle.cbor4ii_tree.proofs.skip_calls.Doing.{does_err, does_no_step}
-use Rattle.cbor4ii_tree.proofs.values.Calls.{rejects_under}
-use Rattle.cbor4ii_tree.proofs.values.Ends.{none_shown}
-use Rattle.cbor4ii_tree.proofs.values.Items.{items_are}
-use Rattle.cbor4ii_tree.proofs.values.ByHead.{prefix_shown, next_shown}
-use Rattle.cbor4ii_tree.proofs.values.Leaves.{MayTake, some_as, wants_may}
+use Rattle.cbor4ii_tree.proofs.{parts.Rejecting.in_count, skip_calls.Doing.does_no_memory}
+use Rattle.cbor4ii_tree.proofs.skip_calls.Doing.{does_stepped, steps_in, Reached, reached_start}
+use Rattle.cbor4ii_tree.proofs.skip_calls.Doing.{reached_then, reached_by, does_err}
+use Rattle.cbor4ii_tree.proofs.{values.ByHead.next_shown, values.Calls.{whole, value_no_step}}
+use Rattle.cbor4ii_tree.proofs.{values.Calls.{value_no_byte, rejects_under}, values.Ends.none_shown}
+use Rattle.cbor4ii_tree.proofs.{values.Items.items_are, values.Leaves.{MayTake, some_as, wants_may}}
+use Rattle.cbor4ii_tree.specs.{Meaning.member_values, Prefix.Offers, ReadingRejects.Readable}
+use Rattle.cbor4ii_tree.specs.{declared.leaf.Next.Next, declared.run.Ran.Ran}
+use Rattle.cbor4ii_tree.specs.{CanonicalRejects.FitsCanonically, Cost.{Budget, step_in}}
+use Rattle.cbor4ii_tree.specs.{Does.{Accepting, Does, answered, error_left}, InputError.InputError}
+use Rattle.cbor4ii_tree.specs.{InputError.{value_name, Small}, Item.{AreItems, AreMembers, IsItem}}
+use Rattle.cbor4ii_tree.specs.{Item.{item, no_items}, Laws.Binds.step_up, Leaf.DoesAfterNext}
+use Rattle.cbor4ii_tree.specs.Leaf.{HeadStands, SeesNext, ShowsHead, ShowsNext, StandsAhead}
+use Rattle.cbor4ii_tree.specs.{Leaf.WantsContent, LeafRuns.{flat_pairs, flat_values, IsLeaf}}
+use Rattle.cbor4ii_tree.specs.LeafRuns.{StandInFront, PutsAfter, PutsRun, RejectsMemory, PutsItems}
+use Rattle.cbor4ii_tree.specs.LeafRuns.{RunsBefore, PutsItemsUnder, KeepsItems, RejectsItemsUnder}
+use Rattle.cbor4ii_tree.specs.{LeafRuns.{RejectsWhereNone, TakesBy}, Meaning.{value, values}}
+use Rattle.cbor4ii_tree.specs.{Rejections.{Each, EachPair, Stopping, RejectsInCount}, Tree.Tree}
+use Rattle.cbor4ii_tree.specs.Tree.{Trees, no_trees, tree, Pairs, no_pairs, pair, bytes, bytes_all}
+use Rattle.cbor4ii_tree.specs.{Tree.{bytes_pairs, count, pair_count}, Valuing.{Whole, RejectsItems}}
+use Rattle.cbor4ii_tree.specs.Valuing.{ReadsItems, ReadsEach, ReadsUnder, RejectsOneValue}
+use Rattle.cbor4ii_tree.specs.{Valuing.RejectsUnder, View.{view, items_view, members_view}}
+use Rattle.cbor4ii_tree.specs.declared.value.Value.{Value}
+use Rattle.cbor4ii_tree.specs.declared.run.Ran.TheVariants as run
 
 -- ---- lists of values
 
@@ -120,10 +95,9 @@ pub pair_put : {A : Type 0} (ms ns : List (Value × Value)) (before after : Opti
     → OnSome r (ns ≡ ms ++ (k, v) ∷ [])
     → OnSome r (flat_pairs ns after ≡ flat_pairs ms before ++ v ∷ [])
 pair_put ms ns before after k v (Some u) e f g =
-    subst (λ b. flat_pairs ns after ≡ flat_pairs ms b ++ v ∷ []) (sym e)
-    (subst (λ b. flat_pairs ns b ≡ flat_pairs ms (Some k) ++ v ∷ []) (sym f)
-    (ap flat_values g ∙ flat-push ms k v
-    ∙ sym (append_assoc (flat_values ms) (k ∷ []) (v ∷ []))))
+    subst (λ b. flat_pairs ns after ≡ flat_pairs ms b ++ v ∷ []) (sym e) (subst (λ b. flat_pairs ns
+    b ≡ flat_pairs ms (Some k) ++ v ∷ []) (sym f) (ap flat_values g ∙ flat-push ms k v ∙ sym
+    (append_assoc (flat_values ms) (k ∷ []) (v ∷ []))))
 pair_put ms ns before after k v None e f g = tt
 
 pub many_members : (v : Vec (Value × Value) Global) → v.len ≡ length v.items
@@ -204,9 +178,8 @@ put_more exact before items after at n size shown p l e = record {
 
 -- one more value
 pub put_one : (exact : Type 0) (before items after : List Value) (v : Value) (at n : ℕ)
-    (shown : List ℕ) → PutsAfter exact at shown before items
-    → StandsAhead exact v n (drop at shown) → after ≡ items ++ v ∷ []
-    → PutsAfter exact (at + n) shown before after
+    (shown : List ℕ) → PutsAfter exact at shown before items → StandsAhead exact v n (drop at shown)
+    → after ≡ items ++ v ∷ [] → PutsAfter exact (at + n) shown before after
 put_one exact before items after v at n shown p l is =
     put_more exact before items after at n (at + n) shown p
     (record { new = v ∷ []; is = is; stand = stand_one exact v n (drop at shown) l }) refl
@@ -237,9 +210,8 @@ rejected_may exact size shown r = by_place r.at
     stands : MayTake r.taken shown
     stands = record { within = r.stand.within; fresh = r.stand.fresh }
 
-    by_place : ((1 ≤ length r.values) × (size ≡ r.taken))
-        ⊎ ((head : ℕ) × (size ≡ r.taken + head) × WantsContent head (drop r.taken shown))
-        → MayTake size shown
+    by_place : ((1 ≤ length r.values) × (size ≡ r.taken)) ⊎ ((head : ℕ) × (size ≡ r.taken + head)
+        × WantsContent head (drop r.taken shown)) → MayTake size shown
     by_place (inl h) = subst (λ j. MayTake j shown) (sym h.1) stands
     by_place (inr h) = may_more r.taken h.0 size shown stands (wants_may h.0 _ h.2) h.1
 
@@ -267,8 +239,7 @@ begins_with first trailing shown xs is e =
     by_first [] f = cc
     by_first (x ∷ xs) f = let g : x ≡ first = cc in ap (λ c. c ∷ xs) g
 
-begins_after : (size : ℕ) (shown xs : List ℕ) → size ≤ length shown
-    → take (length shown) xs ≡ shown
+begins_after : (size : ℕ) (shown xs : List ℕ) → size ≤ length shown → take (length shown) xs ≡ shown
     → take (length (drop size shown)) (drop size xs) ≡ drop size shown
 begins_after size shown xs within e =
     let many : size + length (drop size shown) ≡ length shown =
@@ -291,17 +262,7 @@ known_narrowed None new ys e = cc
 known_narrowed (Some xs) new ys e = (xs, refl, e)
 
 abbrev narrow : View → View → View
-narrow old new = record {
-  known = narrowed old.known new.known;
-  bound = new.bound;
-  advanceable = new.advanceable;
-  budget = new.budget;
-  failures = new.failures;
-  taken = new.taken;
-  zero_copy = new.zero_copy;
-  remembers = new.remembers;
-  ends_at = new.ends_at;
-}
+narrow old new = record new { known = narrowed old.known new.known }
 
 narrow_kept : {a b : View} → Kept a b → Kept a (narrow a b)
 narrow_kept {a = a} {b = b} k = record {
@@ -440,13 +401,12 @@ after_are exact before after p kept =
 module _ (exact : Bool) (full : ℕ) (before after : List Value) {E : Type 0} {a m b : View} where
   puts_taken : (want size : ℕ) {shown : List ℕ} → Shows shown a m
       → IfKnown a.known (IsPrefix want shown) → PutsAfter (exact ≡ true) size shown before after
-      → Advances size m b
-      → Does {V = Unit {0}} {E = E} (PutsItemsUnder exact before after a.budget)
+      → Advances size m b → Does {V = Unit {0}} {E = E} (PutsItemsUnder exact before after a.budget)
       RejectsWhereNone a b (Ok tt)
   puts_taken want size shows prefix p adv =
       let s = p.stand in
       let l = lends_prefix shows prefix s.within s.fresh refl adv in
-      does_ok (PutsItemsUnder exact before after a.budget) RejectsWhereNone (record {
+      does_ok _ _ (record {
         kept = l.kept;
         at = λ xs known.
             let t = l.at xs known in (
@@ -491,15 +451,14 @@ module _ (exact : Bool) (full : ℕ) (before after : List Value) {E : Type 0} {a
       }
 
   pub run_no_memory : (size : ℕ) {seen : Ran} → seen ≡ run.NoMemory size
-      → Offers 1 (PutsRun (exact ≡ true) full before after seen) a m
-      → Advances size m b
-      → Does {V = Unit {0}} {E = E} (PutsItemsUnder exact before after a.budget)
-      RejectsWhereNone a b (Err OutOfMemory)
+      → Offers 1 (PutsRun (exact ≡ true) full before after seen) a m → Advances size m b → Does
+      {V = Unit {0}} {E = E} (PutsItemsUnder exact before after a.budget) RejectsWhereNone a b
+      (Err OutOfMemory)
   run_no_memory size is h adv =
       let o = subst (λ s. Offers 1 (PutsRun (exact ≡ true) full before after s) a m) is h in
       let may = rejected_may (exact ≡ true) size o.shown o.is in
       let l = lends_prefix o.shows o.prefix may.within may.fresh refl adv in
-      does_no_memory (PutsItemsUnder exact before after a.budget) RejectsWhereNone refl l.kept
+      does_no_memory _ _ refl l.kept
 
 module _ (exact : Bool) (full : ℕ) (before after : List Value) {E : Type 0} {a m : View} where
   -- nothing was put
@@ -511,9 +470,8 @@ module _ (exact : Bool) (full : ℕ) (before after : List Value) {E : Type 0} {a
       record {
         mid = a;
         puts =
-            does_ok (PutsItemsUnder exact before after a.budget) RejectsWhereNone
-            (reached_start (λ xs ys. PutsItemsUnder exact before after a.budget xs tt ys) a
-            (λ xs budget step. (
+            does_ok _ _ (reached_start (λ xs ys. PutsItemsUnder exact before after a.budget xs tt
+            ys) a (λ xs budget step. (
               [],
               o.is.0 ∙ sym (append-nil before),
               (no_trees, refl, tt, refl, refl),
@@ -523,9 +481,8 @@ module _ (exact : Bool) (full : ℕ) (before after : List Value) {E : Type 0} {a
 
   pub run_ends : {seen : Ran} → seen ≡ run.End
       → Offers 1 (PutsRun (exact ≡ true) full before after seen) a m → {name : Bor (List ℕ)}
-      → name.now ≡ value_name
-      → Does {V = Unit {0}} {E = E} (PutsItemsUnder exact before after a.budget)
-      RejectsWhereNone a m (Err (Eof name (Small 1)))
+      → name.now ≡ value_name → Does {V = Unit {0}} {E = E} (PutsItemsUnder exact before after
+      a.budget) RejectsWhereNone a m (Err (Eof name (Small 1)))
   run_ends is h says =
       let o = subst (λ s. Offers 1 (PutsRun (exact ≡ true) full before after s) a m) is h in
       none_shown (PutsItemsUnder exact before after a.budget) RejectsWhereNone
@@ -585,9 +542,8 @@ breaks_broke b = record {
 
 -- the reader failed
 pub run_broke : (exact : Bool) (before after : List Value) {E : Type 0} {a b : View} (error : E)
-    → ReaderFails a b
-    → Does {V = Unit {0}} {E = E} (PutsItemsUnder exact before after a.budget) RejectsWhereNone a b
-    (Err (Read error))
+    → ReaderFails a b → Does {V = Unit {0}} {E = E} (PutsItemsUnder exact before after a.budget)
+    RejectsWhereNone a b (Err (Read error))
 run_broke exact before after error breaks = record {
   moves = record { by = breaks_broke breaks; depth = λ none. refl };
   ok = tt;
@@ -626,15 +582,10 @@ join_items W vs ws xs ys zs h k = (
 stopped_further : (W : Tree → Type 0) (stop : Stopping) (vs : List Value) (full : ℕ)
     (xs ys : List ℕ) (z : InputError) (rest : List ℕ) → ReadsEach W (length vs) xs vs ys
     → RejectsInCount W stop (full - length vs) ys z rest → RejectsInCount W stop full xs z rest
-stopped_further W stop vs full xs ys z rest h s = record {
-  prefix = join h.0 s.prefix;
-  after = s.after;
-  few = omega (arith, count-join h.0 s.prefix, h.1, s.few);
-  whole = each-join W h.0 s.prefix h.2 s.whole;
-  is =
-      h.4 ∙ ap (λ r. bytes_all h.0 ++ r) s.is ∙ sym (bytes-join h.0 s.prefix s.after);
-  stopped = s.stopped;
-}
+stopped_further W stop vs full xs ys z rest h s =
+    in_count (join h.0 s.prefix) s.after (omega (arith, count-join h.0 s.prefix, h.1, s.few))
+    (each-join W h.0 s.prefix h.2 s.whole) (h.4 ∙ ap (λ r. bytes_all h.0 ++ r) s.is ∙ sym
+    (bytes-join h.0 s.prefix s.after)) s.stopped
 
 -- ---- a turn: a run, and the value after it
 
@@ -661,94 +612,75 @@ none_under exact budget xs z rest s =
 pub stopped_after : (W : Tree → Type 0) (stop : Stopping) (vs : List Value) (room : ℕ)
     (xs ys : List ℕ) (z : InputError) (rest : List ℕ) → ReadsEach W (length vs) xs vs ys
     → length vs < room → stop ys z rest → RejectsInCount W stop room xs z rest
-stopped_after W stop vs room xs ys z rest h few s = record {
-  prefix = h.0;
-  after = ys;
-  few = omega (arith, h.1, few);
-  whole = h.2;
-  is = h.4;
-  stopped = s;
-}
+stopped_after W stop vs room xs ys z rest h few s =
+    in_count h.0 ys (omega (arith, h.1, few)) h.2 h.4 s
 
 module _ (exact : Bool) (full : ℕ) (before : List Value) {E : Type 0} {a : View} where
   -- no byte is left
-  pub turn_ends : (after : List Value) {e : DecodeError E} {b : View} → length before < full
-      → Does {V = Unit {0}} {E = E} (PutsItemsUnder exact before after a.budget)
-      RejectsWhereNone a b
-      (Err e)
-      → Does {V = Unit {0}} {E = E} (PutsItemsUnder exact before after a.budget)
+  pub turn_ends : (after : List Value) {e : DecodeError E} {b : View} → length before < full → Does
+      {V = Unit {0}} {E = E} (PutsItemsUnder exact before after a.budget) RejectsWhereNone a b
+      (Err e) → Does {V = Unit {0}} {E = E} (PutsItemsUnder exact before after a.budget)
       (RejectsItemsUnder exact (full - length before) a.budget) a b (Err e)
   turn_ends after lacks d =
-      does_err (λ xs ys. xs ≡ ys) (PutsItemsUnder exact before after a.budget)
-      (PutsItemsUnder exact before after a.budget) RejectsWhereNone
-      (RejectsItemsUnder exact (full - length before) a.budget)
-      (λ xs ys z rest is s budget step.
-      stopped_after (Whole exact budget) (RejectsOneValue exact budget) [] (full - length before) xs
-      xs z rest
-      (no_trees, refl, tt, refl, refl) (omega (arith, lacks))
-      (rejects_under exact a.budget budget xs z rest step
-      (subst (λ x. RejectsUnder exact a.budget x z rest) (sym is)
-      (none_under exact a.budget ys z rest s))))
-      (reached_start (λ xs ys. xs ≡ ys) a (λ xs. refl)) d
+      does_err (λ xs ys. xs ≡ ys) _ _ RejectsWhereNone _ (λ xs ys z rest is s budget step. stopped_after (Whole exact budget)
+      (RejectsOneValue exact budget) [] (full - length before) xs xs z rest (
+        no_trees,
+        refl,
+        tt,
+        refl,
+        refl,
+      ) (omega (arith, lacks)) (rejects_under exact a.budget budget xs z rest step (subst
+      (λ x. RejectsUnder exact a.budget x z rest) (sym is) (none_under exact a.budget ys z rest
+      s)))) (reached_start (λ xs ys. xs ≡ ys) a (λ xs. refl)) d
 
   module _ (mid : List Value) {m : View} (n : Next) (run : RunsBefore E exact n before mid a m)
     where
       -- the run, and a value after it
       pub turn_value : (after : List Value) {v : Value} {b : View} → after ≡ mid ++ v ∷ []
           → DoesAfterNext {E = E} (exact ≡ true) n (ReadsUnder exact) (RejectsUnder exact) m b
-          (Ok v)
-          → Does {V = Unit {0}} {E = E} (PutsItemsUnder exact before after a.budget)
+          (Ok v) → Does {V = Unit {0}} {E = E} (PutsItemsUnder exact before after a.budget)
           (RejectsItemsUnder exact (full - length before) a.budget) a b (Ok tt)
       turn_value after {v = v} is d =
-          does_ok (PutsItemsUnder exact before after a.budget)
-          (RejectsItemsUnder exact (full - length before) a.budget)
-          (reached_then (λ xs ys. PutsItemsUnder exact before mid a.budget xs tt ys)
-          (λ xs ys. ReadsUnder exact run.mid.budget xs v ys)
-          (λ xs ys. PutsItemsUnder exact before after a.budget xs tt ys)
-          (λ xs ys zs h s budget step.
+          does_ok _ _ (reached_then (λ xs ys. PutsItemsUnder exact before mid a.budget xs tt ys)
+          (λ xs ys. ReadsUnder exact run.mid.budget xs v ys) _ (λ xs ys zs h s budget step.
           let p = h budget step in
           let r = one_read exact budget a.budget step ys v zs
           (subst (λ o. ReadsUnder exact o ys v zs) run.puts.moves.by.budget s) in (
             p.0 ++ v ∷ [],
             is ∙ ap (λ r. r ++ v ∷ []) p.1 ∙ append_assoc before p.0 (v ∷ []),
             join_items (Whole exact budget) p.0 (v ∷ []) xs ys zs p.2 r,
-          ))
-          (reached_by run.puts) (reached_by (d run.mid run.shows)))
+          )) (reached_by run.puts) (reached_by (d run.mid run.shows)))
 
       -- the value is rejected
       pub turn_rejected : {V : Type 0} (B : Accepting V) {e : DecodeError E} {b : View}
-          → length mid < full
-          → DoesAfterNext {V = Value} {E = E} (exact ≡ true) n (ReadsUnder exact)
-          (RejectsUnder exact) m b (Err e)
-          → Does {V = V} B (RejectsItemsUnder exact (full - length before) a.budget) a b
-          (Err e)
+          → length mid < full → DoesAfterNext {V = Value} {E = E} (exact ≡ true) n
+          (ReadsUnder exact) (RejectsUnder exact) m b (Err e) → Does {V = V} B (RejectsItemsUnder
+          exact (full - length before) a.budget) a b (Err e)
       turn_rejected B lacks d =
-          does_err (λ xs ys. PutsItemsUnder exact before mid a.budget xs tt ys)
-          (ReadsUnder exact run.mid.budget) B (RejectsUnder exact run.mid.budget)
-          (RejectsItemsUnder exact (full - length before) a.budget)
-          (λ xs ys z rest h s budget step.
+          does_err (λ xs ys. PutsItemsUnder exact before mid a.budget xs tt ys) _ B (RejectsUnder
+          exact run.mid.budget) _ (λ xs ys z rest h s budget step.
           let p = h budget step in
           stopped_after (Whole exact budget) (RejectsOneValue exact budget) p.0
-          (full - length before) xs ys z rest p.2
-          (omega (arith, lacks, ap length p.1, length-append before p.0))
-          (rejects_under exact a.budget budget ys z rest step
-          (subst (λ o. RejectsUnder exact o ys z rest) run.puts.moves.by.budget s)))
-          (reached_by run.puts) (d run.mid run.shows)
+          (full - length before) xs ys z rest p.2 (omega (
+            arith,
+            lacks,
+            ap length p.1,
+            length-append
+                before p.0,
+          )) (rejects_under exact a.budget budget ys z rest step (subst (λ o. RejectsUnder exact o
+          ys z rest) run.puts.moves.by.budget s))) (reached_by run.puts) (d run.mid run.shows)
 
       -- the value is put after the run, or there is no memory for that
       pub turn_put : (after : List Value) {v : Value} {b : View} (r : Option (Unit {0}))
           (failure : Option (DecodeError E)) → OnSome r (after ≡ mid ++ v ∷ [])
           → IfNone r (failure ≡ None) → DoesAfterNext {E = E} (exact ≡ true) n (ReadsUnder exact)
-          (RejectsUnder exact)
-          m b (Ok
-          v)
-          → Does {V = Unit {0}} {E = E} (PutsItemsUnder exact before after a.budget)
-          (RejectsItemsUnder exact (full - length before) a.budget) a b (answered r failure)
+          (RejectsUnder exact) m b (Ok v) → Does {V = Unit {0}} {E = E} (PutsItemsUnder exact before
+          after a.budget) (RejectsItemsUnder exact (full - length before) a.budget) a b
+          (answered r failure)
       turn_put after (Some u) failure is none d = turn_value after is d
       turn_put after None failure is none d =
-          does_no_memory (PutsItemsUnder exact before after a.budget)
-          (RejectsItemsUnder exact (full - length before) a.budget) (ap error_left none)
-          (kept_then run.puts.moves.by (d run.mid run.shows).moves.by)
+          does_no_memory _ _ (ap error_left none) (kept_then run.puts.moves.by (d run.mid
+          run.shows).moves.by)
 
 -- ---- what a run answers
 
@@ -772,62 +704,48 @@ put_items before mid after v None is keeps ranged = tt
 -- under a step
 pub turn_stepped : (exact : Bool) (room : ℕ) (before after : List Value) {E : Type 0}
     {r : Result (Unit {0}) (DecodeError E)} {a b c d : View} → StepsIn a.budget b.budget true
-    → KeepsAllButBudget a b
-    → Does (PutsItemsUnder exact before after b.budget) (RejectsItemsUnder exact room b.budget) b c
-    r
-    → d.budget ≡ step_back c.budget → KeepsAllButBudget c d
-    → Does (PutsItems exact before after a.budget) (RejectsItems exact room a.budget) a d r
+    → KeepsAllButBudget a b → Does (PutsItemsUnder exact before after b.budget) (RejectsItemsUnder
+    exact room b.budget) b c r → d.budget ≡ step_back c.budget → KeepsAllButBudget c d → Does
+    (PutsItems exact before after a.budget) (RejectsItems exact room a.budget) a d r
 turn_stepped exact room before after {a = a} {b = b} takes inward w gives outward =
     let step = steps_in a.budget b.budget takes in
-    does_stepped (PutsItemsUnder exact before after b.budget)
-    (PutsItems exact before after a.budget) (RejectsItemsUnder exact room b.budget)
-    (RejectsItems exact room a.budget) (λ xs ys v h. h a.budget step)
-    (λ xs e rest h. h a.budget step) takes inward w gives outward
+    does_stepped (PutsItemsUnder exact before after b.budget) _ (RejectsItemsUnder exact room
+    b.budget) _ (λ xs ys v h. h a.budget step) (λ xs e rest h. h a.budget step) takes inward w gives
+    outward
 
 -- no step is left
 pub turn_unstepped : (exact : Bool) (full : ℕ) (before after : List Value) {E : Type 0}
     {e : DecodeError E} {a b : View} → length before < full
     → input_error_of e ≡ Some (depth_overflow value_name) → is_read e ≡ false
-    → StepsIn a.budget b.budget false → KeepsAllButBudget a b
-    → Does {V = Unit {0}} (PutsItems exact before after a.budget)
-    (RejectsItems exact (full - length before) a.budget) a b (Err e)
+    → StepsIn a.budget b.budget false → KeepsAllButBudget a b → Does {V = Unit {0}} (PutsItems exact
+    before after a.budget) (RejectsItems exact (full - length before) a.budget) a b (Err e)
 turn_unstepped exact full before after {a = a} lacks says read takes k =
-    does_no_step value_name (PutsItems exact before after a.budget)
-    (RejectsItems exact (full - length before) a.budget) says read
-    (λ none xs. stopped_after (Whole exact a.budget) (RejectsOneValue exact a.budget) []
-    (full - length before) xs xs (depth_overflow value_name) xs (no_trees, refl, tt, refl, refl)
-    (omega (arith, lacks)) (value_no_step exact a.budget none xs)) takes k
+    does_no_step value_name _ _ says read (λ none xs. stopped_after (Whole exact a.budget)
+    (RejectsOneValue exact a.budget) [] (full - length before) xs xs (depth_overflow value_name) xs
+    (no_trees, refl, tt, refl, refl) (omega (arith, lacks)) (value_no_step exact a.budget none xs))
+    takes k
 
 -- ---- turns, one after another
 
 module _ (exact : Bool) (full : ℕ) (items after : List Value) {a m : View}
     (p : Reached (λ xs ys. ReadsItems exact (length items) a.budget xs items ys) a m) where
-  pub ran : {E : Type 0} {u : Unit {0}} {b : View}
-      → Does {E = E} (PutsItems exact items after m.budget)
-      (RejectsItems exact (full - length items) m.budget) m b (Ok u)
-      → Reached (λ xs ys. ReadsItems exact (length after) a.budget xs after ys) a b
+  pub ran : {E : Type 0} {u : Unit {0}} {b : View} → Does {E = E} (PutsItems exact items after
+      m.budget) (RejectsItems exact (full - length items) m.budget) m b (Ok u) → Reached (λ xs ys.
+      ReadsItems exact (length after) a.budget xs after ys) a b
   ran {u = u} d =
-      reached_then (λ xs ys. ReadsItems exact (length items) a.budget xs items ys)
-      (λ xs ys. PutsItems exact items after m.budget xs u ys)
-      (λ xs ys. ReadsItems exact (length after) a.budget xs after ys)
-      (λ xs ys zs h s.
-      subst (λ us. ReadsItems exact (length us) a.budget xs us zs) (sym s.1)
-      (join_items (Whole exact a.budget) items s.0 xs ys zs h
-      (subst (λ o. ReadsItems exact (length s.0) o ys s.0 zs) p.kept.budget s.2)))
-      p (reached_by d)
+      reached_then (λ xs ys. ReadsItems exact (length items) a.budget xs items ys) (λ xs ys.
+      PutsItems exact items after m.budget xs u ys) _ (λ xs ys zs h s. subst (λ us. ReadsItems exact (length us) a.budget xs
+      us zs) (sym s.1) (join_items (Whole exact a.budget) items s.0 xs ys zs h (subst (λ o.
+      ReadsItems exact (length s.0) o ys s.0 zs) p.kept.budget s.2))) p (reached_by d)
 
   pub run_rejects : {V E : Type 0} (B : Accepting V) → {e : DecodeError E} {b : View}
       → Does {V = Unit {0}} (PutsItems exact items after m.budget)
       (RejectsItems exact (full - length items) m.budget) m b (Err e)
       → Does {V = V} B (RejectsItems exact full a.budget) a b (Err e)
   run_rejects B d =
-      does_err (λ xs ys. ReadsItems exact (length items) a.budget xs items ys)
-      (PutsItems exact items after m.budget) B (RejectsItems exact (full - length items) m.budget)
-      (RejectsItems exact full a.budget)
-      (λ xs ys z rest h s.
-      stopped_further (Whole exact a.budget) (RejectsOneValue exact a.budget) items full xs ys z
-      rest h (subst (λ o. RejectsItems exact (full - length items) o ys z rest) p.kept.budget s))
-      p d
+      does_err (λ xs ys. ReadsItems exact (length items) a.budget xs items ys) _ B (RejectsItems exact (full - length items) m.budget) _ (λ xs ys z rest h s. stopped_further (Whole exact a.budget)
+      (RejectsOneValue exact a.budget) items full xs ys z rest h (subst (λ o. RejectsItems exact
+      (full - length items) o ys z rest) p.kept.budget s)) p d
 
 -- ---- pairs
 
@@ -892,8 +810,7 @@ pub pairs_are : (ms : List (Value × Value)) (key : Option Value) (n : ℕ)
     → length (flat_pairs ms key) ≡ 2 * n → AreItems (items_view (flat_pairs ms key))
     → AreMembers (members_view ms)
 pairs_are ms key n e h =
-    members_of_flat ms
-    (subst (λ us. AreItems (items_view us)) (whole_pairs ms key n e).0 h)
+    members_of_flat ms (subst (λ us. AreItems (items_view us)) (whole_pairs ms key n e).0 h)
 
 -- all are there
 pub both_there : (ms : List (Value × Value)) (key : Option Value) (most : ℕ)

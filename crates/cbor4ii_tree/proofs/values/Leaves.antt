@@ -1,55 +1,40 @@
 -- Values that hold no other, where they stand whole in shown bytes.
-use Rattle.std.proofs.Common.{◌≡◌, ◌≢◌, ℕ, suc, ◌+◌, ◌-◌, ◌*◌, ◌/◌, ◌%◌, ◌^◌, ◌<◌, ◌≤◌, ℤ, List}
-use Rattle.std.proofs.Common.{[], ◌∷◌, ◌++◌, length, take, drop, take-append-drop, length-append}
+use Rattle.std.proofs.Common.{◌≡◌, ◌≢◌, ℕ, suc, ◌+◌, ◌-◌, ◌*◌, ◌/◌, ◌%◌, ◌^◌, ◌<◌, ◌≤◌, ℤ, List, []}
+use Rattle.std.proofs.Common.{◌∷◌, ◌++◌, length, take, drop, take-append-drop, length-append}
 use Rattle.std.proofs.Common.{length-drop, Result, Ok, Err, Option, Some, None, IfSome, refl, sym}
-use Rattle.std.proofs.Common.{ap, ◌∙◌}
-use Rattle.std.proofs.Common.{subst, arith, get_or, Bool, true}
-use Rattle.std.proofs.Math.Seq.{take-append_seam, take-add}
-use Rattle.std.proofs.lemmas.List.{length-take-le}
+use Rattle.std.proofs.Common.{ap, ◌∙◌, subst, arith, get_or, Bool, true}
+use Rattle.std.proofs.{Math.Seq.{take-append_seam, take-add}, lemmas.List.length-take-le}
 use Rattle.std.specs.Int.{bytes_high_first}
 use denote.Ref.{Bor}
-use Rattle.cbor4ii_items.specs.Head.{Width, byte_count, additional, HeadFits, ArgumentAfter}
-use Rattle.cbor4ii_items.specs.Head.{IsBytes, shortest}
-use Rattle.cbor4ii_items.specs.Initial.{Sign, sign_major, Precision, precision_byte}
-use Rattle.cbor4ii_items.specs.Initial.{precision_bytes, half, single, double, Simple}
-use Rattle.cbor4ii_items.specs.Initial.{simple_false, simple_true, simple_null, simple_undefined}
-use Rattle.cbor4ii_items.specs.Initial.{unsigned, negative, Kind, kind_major, simple_byte}
-use Rattle.cbor4ii_items.specs.Initial.{byte_string, text_string}
-use Rattle.cbor4ii_items.specs.Head.{in_first, one, two, four, eight, head}
-use Rattle.cbor4ii_items.specs.Laws.Heads.{length-bytes_high_first}
-use Rattle.cbor4ii_items.specs.Laws.Answering.{fits_zero}
-use Rattle.cbor4ii_items.specs.Laws.Contents.{lends_prefix}
-use Rattle.cbor4ii_rw.specs.Reader.{Advances, IsPrefix, Shows}
+use Rattle.cbor4ii_rw.specs.{Reader.{Advances, IsPrefix, Shows}, View.{View, IfKnown}}
 use Rattle.cbor4ii_rw.specs.declared.error.DecodeError.{DecodeError}
-use Rattle.cbor4ii_items.specs.Laws.Running.{runs_peek}
-use Rattle.cbor4ii_items.specs.Reading.{Runs, peek_at}
-use Rattle.cbor4ii_rw.specs.View.{View, IfKnown}
-use Rattle.cbor4ii_tree.specs.Does.{Does}
-use Rattle.cbor4ii_tree.specs.Prefix.{Offers}
-use Rattle.cbor4ii_tree.specs.Item.{integer, float, IsItem}
-use Rattle.cbor4ii_tree.specs.Laws.Binds.{step_up}
-use Rattle.cbor4ii_tree.specs.Leaf.{CanTake, DoesAfterNext, ExactHead, StandsAhead}
-use Rattle.cbor4ii_tree.specs.Leaf.{SeesLeaf, ShowsFirst, ShowsNext, TakesLeaf, WantsContent}
-use Rattle.cbor4ii_tree.specs.Meaning.{number, simple_item, content_item}
-use Rattle.cbor4ii_tree.specs.InputError.{value_name}
-use Rattle.cbor4ii_tree.specs.InputError.{Small}
-use Rattle.cbor4ii_tree.specs.Tree.{int, bits, simple, string, bytes, TextIsUtf8}
-use Rattle.cbor4ii_tree.specs.Valuing.{SimpleOf, ReadsUnder, RejectsUnder}
-use Rattle.cbor4ii_tree.specs.View.{view}
-use Rattle.cbor4ii_tree.specs.declared.value.Value.{Value, Integer, Float}
-use Rattle.cbor4ii_tree.specs.declared.value.FloatBits.{FloatBits}
-use Rattle.cbor4ii_tree.specs.declared.leaf.Leaf.{Leaf}
-use Rattle.cbor4ii_tree.specs.declared.leaf.Leaf.TheVariants.{Whole, NoMemory, End}
-use Rattle.cbor4ii_tree.specs.declared.leaf.Next.{Next}
-use Rattle.cbor4ii_tree.specs.declared.leaf.Looked.{Looked}
-use Rattle.cbor4ii_tree.specs.declared.leaf.Looked.TheVariants as looked
 use Rattle.cbor4ii_rw.specs.declared.error.DecodeError.TheVariants.{OutOfMemory, Eof}
-use Rattle.cbor4ii_items.specs.Budget.{CostFits}
-use Rattle.cbor4ii_tree.proofs.skip_calls.Doing.{does_ok, does_no_memory}
-use Rattle.cbor4ii_tree.proofs.heads.Inverse.{IsBytes-take}
-use Rattle.cbor4ii_tree.proofs.values.Calls.{fits_less, whole, value_no_byte}
+use Rattle.cbor4ii_items.specs.{Laws.Answering.fits_zero, Laws.Contents.lends_prefix}
+use Rattle.cbor4ii_items.specs.{Laws.Heads.length-bytes_high_first, Laws.Running.runs_peek}
+use Rattle.cbor4ii_items.specs.{Budget.CostFits, Head.{Width, byte_count, additional, HeadFits}}
+use Rattle.cbor4ii_items.specs.Head.{ArgumentAfter, IsBytes, shortest, in_first, one, two, four}
+use Rattle.cbor4ii_items.specs.{Head.{eight, head}, Initial.{Sign, sign_major, Precision}}
+use Rattle.cbor4ii_items.specs.Initial.{precision_byte, precision_bytes, half, single, double}
+use Rattle.cbor4ii_items.specs.Initial.{Simple, simple_false, simple_true, simple_null}
+use Rattle.cbor4ii_items.specs.Initial.{simple_undefined, unsigned, negative, Kind, kind_major}
+use Rattle.cbor4ii_items.specs.{Initial.{simple_byte, byte_string, text_string}, Reading.Runs}
+use Rattle.cbor4ii_items.specs.Reading.{peek_at}
+use Rattle.cbor4ii_tree.specs.{Valuing.RejectsUnder, View.view, declared.leaf.Leaf.Leaf}
+use Rattle.cbor4ii_tree.specs.{declared.leaf.Looked.Looked, declared.leaf.Next.Next}
+use Rattle.cbor4ii_tree.specs.{declared.value.FloatBits.FloatBits, declared.value.Value.Value}
+use Rattle.cbor4ii_tree.specs.{Does.Does, InputError.{value_name, Small}, Item.{integer, float}}
+use Rattle.cbor4ii_tree.specs.{Item.IsItem, Laws.Binds.step_up, Leaf.{CanTake, DoesAfterNext}}
+use Rattle.cbor4ii_tree.specs.Leaf.{ExactHead, StandsAhead, SeesLeaf, ShowsFirst, ShowsNext}
+use Rattle.cbor4ii_tree.specs.{Leaf.{TakesLeaf, WantsContent}, Meaning.{number, simple_item}}
+use Rattle.cbor4ii_tree.specs.{Meaning.content_item, Prefix.Offers, Tree.{int, bits, simple}}
+use Rattle.cbor4ii_tree.specs.{Tree.{string, bytes, TextIsUtf8}, Valuing.{SimpleOf, ReadsUnder}}
+use Rattle.cbor4ii_tree.specs.declared.leaf.Leaf.TheVariants.{Whole, NoMemory, End}
+use Rattle.cbor4ii_tree.specs.declared.value.Value.{Integer, Float}
+use Rattle.cbor4ii_tree.proofs.{heads.Inverse.IsBytes-take, skip_calls.Doing.does_ok}
+use Rattle.cbor4ii_tree.proofs.{values.Calls.value_no_byte, values.Encoding.view-Integer}
+use Rattle.cbor4ii_tree.proofs.{skip_calls.Doing.does_no_memory, values.Calls.{fits_less, whole}}
 use Rattle.cbor4ii_tree.proofs.values.Ends.{none_shown}
-use Rattle.cbor4ii_tree.proofs.values.Encoding.{view-Integer}
+use Rattle.cbor4ii_tree.specs.declared.leaf.Looked.TheVariants as looked
 
 in_range : (s : Sign) (n : ℕ) → n < 2 ^ 127 → IsItem (integer (number s n))
 in_range unsigned n h = h
@@ -110,10 +95,9 @@ module _ (b n k : ℕ) (bs : List ℕ) (small : b < 256) (fresh : IsBytes bs)
 
   argument : take k bs ≡ bytes_high_first (byte_count a.width) n
   argument =
-      ap (take k) a.is
-      ∙ ap (λ j. take j (bytes_high_first k n ++ drop k bs)) (sym (length-bytes_high_first k n))
-      ∙ take-append_seam (bytes_high_first k n) (drop k bs)
-      ∙ ap (λ j. bytes_high_first j n) a.size
+      ap (take k) a.is ∙ ap (λ j. take j (bytes_high_first k n ++ drop k bs)) (sym
+      (length-bytes_high_first k n)) ∙ take-append_seam (bytes_high_first k n) (drop k bs) ∙ ap
+      (λ j. bytes_high_first j n) a.size
 
   least : ExactHead b n k → b / 32 ≢ 7 → a.width ≡ shortest n
   least exact other = same_width a.width (shortest n) (sym a.size ∙ exact.least other)
@@ -157,9 +141,8 @@ module _ (b n k : ℕ) (bs : List ℕ) (small : b < 256) (fresh : IsBytes bs)
         means = means;
         ranged = subst IsItem means t.1;
         is =
-            ap (λ c. c ∷ take k bs) is
-            ∙ ap (λ r. precision_byte p ∷ r)
-            (argument ∙ ap (λ j. bytes_high_first j n) t.0);
+            ap (λ c. c ∷ take k bs) is ∙ ap (λ r. precision_byte p ∷ r) (argument ∙ ap (λ j.
+            bytes_high_first j n) t.0);
       })
 
   pub string_ahead : (kind : Kind) (v : Value) (size : ℕ) (content : List ℕ) → size ≡ suc (k + n)
@@ -182,13 +165,11 @@ module _ (b n k : ℕ) (bs : List ℕ) (small : b < 256) (fresh : IsBytes bs)
         means = means;
         ranged = ranged;
         is =
-            ap (λ r. b ∷ r) (take-add k n bs)
-            ∙ ap (λ c. c ∷ (take k bs ++ take n (drop k bs))) first
-            ∙ ap (λ r. (32 * kind_major kind + additional a.width n) ∷ (r ++ take n (drop k bs)))
-            argument
-            ∙ ap (λ r. (32 * kind_major kind + additional a.width n)
-            ∷ (bytes_high_first (byte_count a.width) n ++ r)) (sym is)
-            ∙ ap (λ j. head (kind_major kind) j a.width ++ content) (sym long);
+            ap (λ r. b ∷ r) (take-add k n bs) ∙ ap (λ c. c ∷ (take k bs ++ take n (drop k bs)))
+            first ∙ ap (λ r. (32 * kind_major kind + additional a.width n)
+            ∷ (r ++ take n (drop k bs))) argument ∙ ap (λ r. (32 * kind_major kind + additional
+            a.width n) ∷ (bytes_high_first (byte_count a.width) n ++ r)) (sym is) ∙ ap (λ j. head
+            (kind_major kind) j a.width ++ content) (sym long);
       })
 
 pub simple_ahead : (b n k : ℕ) (bs : List ℕ) (v : Value) → b < 256 → SimpleOf b (Some v)
@@ -226,8 +207,7 @@ pub shows_first : {E : Type 0} (first : ℕ) (trailing : List ℕ) {shown : List
     → ShowsFirst E first a m
 shows_first {E = E} first trailing {shown = shown} {a = a} {m = m} shows prefix is = record {
   runs =
-      subst (λ b. Runs {E = E} (peek_at value_name 1) a m (Ok b))
-      (ap (λ xs. get_or xs 0 0) is)
+      subst (λ b. Runs {E = E} (peek_at value_name 1) a m (Ok b)) (ap (λ xs. get_or xs 0 0) is)
       (runs_peek value_name 1 shows prefix (λ none. let e = ap length is in cc));
   can = omega (arith, shows.advanceable, ap length is);
 }
@@ -241,7 +221,7 @@ module _ (exact : Bool) {E : Type 0} {a m b : View} where
   takes_leaf v size is h adv =
       let o = subst (λ s. Offers 1 (SeesLeaf (exact ≡ true) s) a m) is h in
       let l = lends_prefix o.shows o.prefix o.is.within o.is.fresh refl adv in
-      does_ok (ReadsUnder exact a.budget) (RejectsUnder exact a.budget) (record {
+      does_ok _ _ (record {
         kept = l.kept;
         at = λ xs known.
             let t = l.at xs known in (
@@ -260,14 +240,13 @@ module _ (exact : Bool) {E : Type 0} {a m b : View} where
       })
 
   pub no_content : (size : ℕ) {seen : Leaf} → seen ≡ NoMemory size
-      → Offers 1 (SeesLeaf (exact ≡ true) seen) a m → Advances size m b
-      → Does {V = Value} {E = E} (ReadsUnder exact a.budget) (RejectsUnder exact a.budget) a b
-      (Err OutOfMemory)
+      → Offers 1 (SeesLeaf (exact ≡ true) seen) a m → Advances size m b → Does {V = Value} {E = E}
+      (ReadsUnder exact a.budget) (RejectsUnder exact a.budget) a b (Err OutOfMemory)
   no_content size is h adv =
       let o = subst (λ s. Offers 1 (SeesLeaf (exact ≡ true) s) a m) is h in
       let may = wants_may size o.shown o.is in
       let l = lends_prefix o.shows o.prefix may.within may.fresh refl adv in
-      does_no_memory (ReadsUnder exact a.budget) (RejectsUnder exact a.budget) refl l.kept
+      does_no_memory _ _ refl l.kept
 
 module _ (exact : Bool) {a m : View} where
   pub no_value : {E : Type 0} {seen : Leaf} → seen ≡ End
@@ -278,11 +257,6 @@ module _ (exact : Bool) {a m : View} where
       let o = subst (λ s. Offers 1 (SeesLeaf (exact ≡ true) s) a m) is h in
       none_shown (ReadsUnder exact a.budget) (RejectsUnder exact a.budget)
       (value_no_byte exact a.budget) 1 says (omega arith) o.shows o.prefix o.is
-
-  pub leaf_item : (v : Value) (size : ℕ) {seen : Leaf} → seen ≡ Whole v size
-      → Offers 1 (SeesLeaf (exact ≡ true) seen) a m → IsItem (view v)
-  leaf_item v size is h =
-      (subst (λ s. Offers 1 (SeesLeaf (exact ≡ true) s) a m) is h).is.ranged
 
 -- nothing was taken yet
 pub after_look : (exact : Bool) {E : Type 0} {r : Result Value (DecodeError E)} {a b : View}

@@ -1,22 +1,18 @@
 -- Values whose encodings begin with equal heads.
-use Rattle.std.proofs.Common.{◌≡◌, ℕ, ◌+◌, ◌<◌, List, ◌∷◌, ◌++◌, length, drop, get_or, sym, ap}
-use Rattle.std.proofs.Common.{◌∙◌, subst₂, Vec, Global}
-use Rattle.std.proofs.lemmas.List.{drop_more}
-use Rattle.std.specs.declared.cmp.Ordering.{Ordering}
-use Rattle.std.specs.declared.cmp.Ordering.TheVariants.{Equal}
+use Rattle.std.proofs.Common.{◌≡◌, ℕ, ◌+◌, ◌<◌, List, ◌∷◌, ◌++◌, length, drop, get_or, sym, ap, ◌∙◌}
+use Rattle.std.proofs.{Common.{subst₂, Vec, Global}, lemmas.List.drop_more}
+use Rattle.std.specs.{declared.cmp.Ordering.Ordering, declared.cmp.Ordering.TheVariants.Equal}
 use Rattle.cbor4ii_items.specs.SequenceBytes.{items_bytes}
-use Rattle.cbor4ii_tree.specs.Tree.{bytes_all, bytes_pairs}
-use Rattle.cbor4ii_tree.specs.Item.{sequence, mapping, item_count, member_count}
-use Rattle.cbor4ii_tree.specs.Canonical.{canonical_trees, canonical_pairs}
-use Rattle.cbor4ii_tree.specs.Encoding.{value_bytes, member_bytes}
-use Rattle.cbor4ii_tree.specs.Order.{Compares, head_of, after_head, major_of, elements_of, pairs_of}
-use Rattle.cbor4ii_tree.specs.View.{view, items_view, members_view}
-use Rattle.cbor4ii_tree.specs.declared.value.Value.{Value, Array, Map}
+use Rattle.cbor4ii_tree.specs.{Canonical.{canonical_trees, canonical_pairs}, Encoding.value_bytes}
+use Rattle.cbor4ii_tree.specs.{Encoding.member_bytes, Item.{sequence, mapping, item_count}}
+use Rattle.cbor4ii_tree.specs.{Item.member_count, Order.{Compares, head_of, after_head, major_of}}
+use Rattle.cbor4ii_tree.specs.{Order.{elements_of, pairs_of}, Tree.{bytes_all, bytes_pairs}}
+use Rattle.cbor4ii_tree.specs.{View.{view, items_view, members_view}, declared.value.Value.Value}
+use Rattle.cbor4ii_tree.specs.declared.value.Value.{Array, Map}
+use Rattle.cbor4ii_tree.proofs.{values.Encoding.members-canonical_encoding, values.Views.view-Map}
 use Rattle.cbor4ii_tree.proofs.encodings.Order.{compares_then, same_major, after_array, after_map}
 use Rattle.cbor4ii_tree.proofs.values.Encoding.{items-canonical_encoding, view-Array}
-use Rattle.cbor4ii_tree.proofs.values.Encoding.{members-canonical_encoding}
-use Rattle.cbor4ii_tree.proofs.values.Views.{view-Map, item_count-items_view}
-use Rattle.cbor4ii_tree.proofs.values.Views.{member_count-members_view}
+use Rattle.cbor4ii_tree.proofs.values.Views.{item_count-items_view, member_count-members_view}
 
 -- two lists of as many values, whose bytes follow the heads
 pub record Alike {A : Type 0} (bytes : A → List ℕ) (xs ys : List A) (s t : List ℕ) : Type 0 where

@@ -1,12 +1,9 @@
 -- Values that are read one after another.
 use Rattle.std.proofs.Common.{◌≡◌, ℕ, Bool, List, ◌++◌}
+use Rattle.cbor4ii_tree.specs.{Cost.Budget, Meaning.{values, member_values}, Rejections.Each}
+use Rattle.cbor4ii_tree.specs.{Rejections.EachPair, Tree.{Trees, Pairs, bytes_all, bytes_pairs}}
+use Rattle.cbor4ii_tree.specs.{Valuing.Whole, View.{items_view, members_view}}
 use Rattle.cbor4ii_tree.specs.declared.value.Value.{Value}
-use Rattle.cbor4ii_tree.specs.Tree.{Trees, Pairs, bytes_all, bytes_pairs}
-use Rattle.cbor4ii_tree.specs.Meaning.{values, member_values}
-use Rattle.cbor4ii_tree.specs.Cost.{Budget}
-use Rattle.cbor4ii_tree.specs.Rejections.{Each, EachPair}
-use Rattle.cbor4ii_tree.specs.Valuing.{Whole}
-use Rattle.cbor4ii_tree.specs.View.{items_view, members_view}
 
 abbrev pub ReadEach : Bool → List Value → Budget → List ℕ → List ℕ → Type 0
 ReadEach exact vs budget xs ys =

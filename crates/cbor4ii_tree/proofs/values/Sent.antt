@@ -1,23 +1,9 @@
 -- Calls that write, whose error is left elsewhere.
-use Rattle.std.proofs.Common.{List, ℕ, Option, Some, None, Result, Ok, Err, Bool, OnSome}
-use Rattle.std.proofs.Common.{sym, subst}
+use Rattle.std.proofs.Common.{List, ℕ, Option, Some, None, Result, Ok, Err, Bool, OnSome, sym}
+use Rattle.std.proofs.Common.{subst}
 use Rattle.cbor4ii_rw.specs.Writer.{Output}
 use Rattle.cbor4ii_items.specs.Writing.{Writes}
 use Rattle.cbor4ii_tree.specs.Sending.{sent, Sends}
-
--- another error says the same
-pub writes_other : {T U E F : Type 0} {whole : Bool} {xs : List ℕ} {a b : Output} {e : E} (f : F)
-    → Writes {T = T} whole xs a b (Err e) → Writes {T = U} whole xs a b (Err f)
-writes_other f p = record { appends = tt; counts = tt; failed = p.failed; prefix = p.prefix }
-
-pub writes_sent : {E : Type 0} {whole : Bool} {xs : List ℕ} {a b : Output}
-    (answer : Result (Unit {0}) E) (said : Option (Unit {0})) (left : Option E)
-    → Sends answer said left → Writes whole xs a b answer → Writes whole xs a b (sent said left)
-writes_sent {whole = whole} {xs = xs} {a = a} {b = b} (Ok u) said left h p =
-    subst (λ o. Writes whole xs a b (sent o left)) (sym h)
-    (record { appends = p.appends; counts = p.counts; failed = tt; prefix = p.prefix })
-writes_sent {whole = whole} {xs = xs} {a = a} {b = b} (Err e) said left h p =
-    subst (λ o. Writes whole xs a b (sent o left)) (sym h.0) (writes_other left p)
 
 pub on_some : {U P Q : Type 0} (r : Option U) → (P → Q) → OnSome r P → OnSome r Q
 on_some (Some u) f p = f p

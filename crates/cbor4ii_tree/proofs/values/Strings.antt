@@ -6,48 +6,39 @@ use Rattle.std.proofs.Common.{ap, ap₂, ◌∙◌, subst, arith, append_assoc, 
 use Rattle.std.proofs.Common.{take-append-drop, inl, inr, rules, cond, IsUtf8, eqb, eqb-true}
 use Rattle.std.proofs.Common.{eq-eqb, get_or, string_bytes, Vec, Global, String}
 use Rattle.std.specs.Int.{bytes_high_first}
-use Rattle.cbor4ii_items.specs.InputError.{InputError}
-use Rattle.cbor4ii_items.specs.Head.{Width, byte_count, additional, head, indefinite_head, break}
-use Rattle.cbor4ii_items.specs.Heads.{RejectsHead, Begins, CutHead}
-use Rattle.cbor4ii_items.specs.Laws.Heads.{after_head, length-bytes_high_first}
-use Rattle.cbor4ii_items.specs.Laws.Prefixes.{drop_more}
-use Rattle.cbor4ii_items.specs.Budget.{CostFits}
-use Rattle.cbor4ii_items.specs.Strings as strings
+use Rattle.cbor4ii_items.specs.{Laws.Answering.fits_zero, Laws.Heads.after_head}
+use Rattle.cbor4ii_items.specs.{Laws.Heads.length-bytes_high_first, Laws.Prefixes.drop_more}
+use Rattle.cbor4ii_items.specs.{Budget.CostFits, Head.{Width, byte_count, additional, head}}
+use Rattle.cbor4ii_items.specs.{Head.{indefinite_head, break}, Heads.{RejectsHead, Begins, CutHead}}
+use Rattle.cbor4ii_items.specs.Initial.{Initial, Info, wide, indefinite_ended, reserved, info_of}
+use Rattle.cbor4ii_items.specs.Initial.{initial, by_major, int_by_info, string_by_info}
+use Rattle.cbor4ii_items.specs.Initial.{array_by_info, map_by_info, tag_by_info, simple_by_info}
+use Rattle.cbor4ii_items.specs.Initial.{unsigned, negative, Sign, Kind, byte_string, text_string}
+use Rattle.cbor4ii_items.specs.Initial.{kind_major, Simple, Precision, starts_string, starts_chunks}
+use Rattle.cbor4ii_items.specs.Initial.{bad_string, starts_simple, starts_bits, other_simple}
+use Rattle.cbor4ii_items.specs.Initial.{simple_false, simple_true, simple_null, simple_undefined}
+use Rattle.cbor4ii_items.specs.{Initial.{half, single, double}, InputError.InputError}
 use Rattle.cbor4ii_items.specs.Strings.{ReadsDefiniteString, ReadsChunks, chunk_cost, ReadsString}
 use Rattle.cbor4ii_items.specs.Strings.{CutContent, RejectsChunk, no_chunk_byte, no_step}
-use Rattle.cbor4ii_items.specs.Strings.{chunk_indefinite}
-use Rattle.cbor4ii_items.specs.Strings.{chunk_rejected, chunk_cut, RejectsString}
-use Rattle.cbor4ii_items.specs.Strings.{string_head_rejected}
-use Rattle.cbor4ii_items.specs.Strings.{string_cut, string_indefinite, RejectsText, no_string}
-use Rattle.cbor4ii_items.specs.Strings.{no_utf8}
-use Rattle.cbor4ii_items.specs.Initial.{Initial, Info, wide, indefinite_ended, reserved, info_of}
-use Rattle.cbor4ii_items.specs.Initial.{initial}
-use Rattle.cbor4ii_items.specs.Initial.{by_major, int_by_info, string_by_info, array_by_info}
-use Rattle.cbor4ii_items.specs.Initial.{map_by_info, tag_by_info, simple_by_info, unsigned}
-use Rattle.cbor4ii_items.specs.Initial.{negative, Sign, Kind, byte_string, text_string, kind_major}
-use Rattle.cbor4ii_items.specs.Initial.{Simple, Precision, starts_string, starts_chunks, bad_string}
-use Rattle.cbor4ii_items.specs.Initial.{starts_simple, starts_bits, other_simple, simple_false}
-use Rattle.cbor4ii_items.specs.Initial.{simple_true, simple_null, simple_undefined, half, single}
-use Rattle.cbor4ii_items.specs.Initial.{double}
-use Rattle.cbor4ii_items.specs.Laws.Answering.{fits_zero}
-use Rattle.cbor4ii_tree.specs.InputError.{eof, mismatch, require_length, require_utf8, Indefinite}
-use Rattle.cbor4ii_tree.specs.InputError.{len_of, kind_name}
+use Rattle.cbor4ii_items.specs.Strings.{chunk_indefinite, chunk_rejected, chunk_cut, RejectsString}
+use Rattle.cbor4ii_items.specs.Strings.{string_head_rejected, string_cut, string_indefinite}
+use Rattle.cbor4ii_items.specs.Strings.{RejectsText, no_string, no_utf8}
+use Rattle.cbor4ii_tree.proofs.{parts.Rejecting.{headed_by, in_items}, values.Calls.head_cut}
+use Rattle.cbor4ii_tree.proofs.values.Calls.{no_head, initial_of, width_begins, small_count}
+use Rattle.cbor4ii_tree.proofs.{values.Calls.indefinite_byte, values.Heads.{at_row, first_is}}
+use Rattle.cbor4ii_tree.specs.{Cost.{Budget, step_in, chunks_cost}, InputError.{eof, mismatch}}
+use Rattle.cbor4ii_tree.specs.InputError.{require_length, require_utf8, Indefinite, len_of}
+use Rattle.cbor4ii_tree.specs.{InputError.kind_name, Item.{bytes_item, text}, Laws.Binds.step_up}
 use Rattle.cbor4ii_tree.specs.Laws.Initials.{initial_string, initial_chunks, head_below, kind_below}
-use Rattle.cbor4ii_tree.specs.declared.value.Value.{Bytes, Text, the_lemmas}
-use Rattle.cbor4ii_tree.specs.Tree.{Tree, Trees, no_trees, tree, string, chunked, bytes, bytes_all}
-use Rattle.cbor4ii_tree.specs.Tree.{LooseAll, AreChunks, joined_chunks, TextIsUtf8}
-use Rattle.cbor4ii_tree.specs.Item.{bytes_item, text}
-use Rattle.cbor4ii_tree.specs.Meaning.{value, content_item}
-use Rattle.cbor4ii_tree.specs.Cost.{Budget, step_in, chunks_cost}
-use Rattle.cbor4ii_tree.specs.Laws.Binds.{step_up}
-use Rattle.cbor4ii_tree.specs.Rejections.{Is, RejectsAtStep, Each, NoBreak}
-use Rattle.cbor4ii_tree.specs.ReadingRejects.{Readable, ReadableChunk, CutString, ChunkRejectsBy}
+use Rattle.cbor4ii_tree.specs.{Meaning.{value, content_item}, ReadingRejects.Readable}
+use Rattle.cbor4ii_tree.specs.ReadingRejects.{ReadableChunk, CutString, ChunkRejectsBy}
 use Rattle.cbor4ii_tree.specs.ReadingRejects.{ChunkRejects, ReadingRejectsBy, ReadingRejects}
-use Rattle.cbor4ii_tree.specs.View.{view}
-use Rattle.cbor4ii_tree.specs.Valuing.{ReadsUnder, RejectsUnder}
-use Rattle.cbor4ii_tree.proofs.values.Calls.{head_cut, no_head, initial_of, width_begins}
-use Rattle.cbor4ii_tree.proofs.values.Calls.{small_count, indefinite_byte}
-use Rattle.cbor4ii_tree.proofs.values.Heads.{at_row, first_is}
+use Rattle.cbor4ii_tree.specs.{Rejections.{Is, RejectsAtStep, Each, NoBreak}, Tree.{Tree, Trees}}
+use Rattle.cbor4ii_tree.specs.Tree.{no_trees, tree, string, chunked, bytes, bytes_all, LooseAll}
+use Rattle.cbor4ii_tree.specs.{Tree.{AreChunks, joined_chunks, TextIsUtf8}, Valuing.ReadsUnder}
+use Rattle.cbor4ii_tree.specs.{Valuing.RejectsUnder, View.view, declared.value.Value.{Bytes, Text}}
+use Rattle.cbor4ii_tree.specs.declared.value.Value.{the_lemmas}
+use Rattle.cbor4ii_items.specs.Strings as strings
 
 -- ---- strings of definite length
 
@@ -98,10 +89,9 @@ chunk_trees k (chunk ∷ chunks) xs n r =
       are = (refl, t.are);
       content = ap (λ z. chunk ++ z) t.content;
       is =
-          definite_is (kind_major k) xs chunk r.0 r.2
-          ∙ ap (λ z. bytes first ++ z) (t.is ∙ ap (λ z. bytes_all t.trees ++ z)
-          (drop_more r.1 r.0 xs ∙ ap (λ j. drop j xs) (sym r.4)))
-          ∙ sym (append_assoc (bytes first) (bytes_all t.trees) (drop n xs));
+          definite_is (kind_major k) xs chunk r.0 r.2 ∙ ap (λ z. bytes first ++ z) (t.is ∙ ap (λ z.
+          bytes_all t.trees ++ z) (drop_more r.1 r.0 xs ∙ ap (λ j. drop j xs) (sym r.4))) ∙ sym
+          (append_assoc (bytes first) (bytes_all t.trees) (drop n xs));
       costs = refl;
       fit = λ budget f. ((r.2.head.fits, refl, f), t.fit budget (less chunks budget f));
     }
@@ -147,9 +137,8 @@ indefinite_tree k xs content n c r =
 
 string_tree : (k : Kind) (budget inner : Budget) (xs content : List ℕ) (n c : ℕ)
     → step_in budget ≡ Some inner → CostFits c inner → TextIsUtf8 k content
-    → ReadsString (kind_major k) xs content n c
-    → (t : Tree) × Readable budget t × (value t ≡ content_item k content)
-    × (xs ≡ bytes t ++ drop n xs)
+    → ReadsString (kind_major k) xs content n c → (t : Tree) × Readable budget t
+    × (value t ≡ content_item k content) × (xs ≡ bytes t ++ drop n xs)
 string_tree k budget inner xs content n c step fits valid (inl r) = (
   string k r.0.head.wide content,
   ((r.0.head.fits, valid), step_up budget inner 0 step (fits_zero inner)),
@@ -201,16 +190,10 @@ cut_content k b bs e rest h =
       row = ap initial first ∙ initial_string k h.count w h.head.fits;
       below = omega (arith, first, head_below (kind_major k) h.count w (kind_below k) h.head.fits);
       cut =
-          inr (record {
-            argument = h.count;
-            after = h.head.rest;
-            fits = h.head.fits;
-            is = h.head.is;
-            stopped = (
-              omega (arith, h.short, size),
-              (h.answer ∙ ap (λ j. eof (kind_name k) (len_of j)) gap, h.left),
-            );
-          });
+          inr (headed_by h.count h.head.rest h.head.fits h.head.is (
+            omega (arith, h.short, size),
+            (h.answer ∙ ap (λ j. eof (kind_name k) (len_of j)) gap, h.left),
+          ));
     }
 
 cut_head : (k : Kind) (b : ℕ) (bs : List ℕ) (e : InputError) (rest : List ℕ)
@@ -423,15 +406,13 @@ head_rejects inner k b bs e rest m closed h =
         (λ left part. ReadingRejects part left) inner (string_by_info k i) b bs e rest
     by_info (wide w) is = inl (inl (head_cut (kind_name k) (kind_major k) b bs w e rest m is h))
     by_info indefinite_ended is =
-        absurd
-        (begins_with (indefinite_head (kind_major k)) b bs closed
-        (indefinite_byte (kind_major k) b m is))
+        absurd (begins_with (indefinite_head (kind_major k)) b bs closed (indefinite_byte
+        (kind_major k) b m is))
     by_info reserved is = no_head (kind_name k) (kind_major k) b bs e rest (λ w f. cc) h
 
 pub string_rejects : (inner : Budget) (k : Kind) (b : ℕ) (bs : List ℕ) (e : InputError)
-    (rest : List ℕ)
-    → b / 32 ≡ kind_major k → RejectsString (kind_name k) (kind_major k) (b ∷ bs) inner e rest
-    → RejectsUnder false inner (b ∷ bs) e rest
+    (rest : List ℕ) → b / 32 ≡ kind_major k → RejectsString (kind_name k) (kind_major k) (b ∷ bs)
+    inner e rest → RejectsUnder false inner (b ∷ bs) e rest
 string_rejects inner k b bs e rest m (string_head_rejected closed h) =
     head_rejects inner k b bs e rest m closed h
 string_rejects inner k b bs e rest m (string_cut h) =
@@ -441,13 +422,8 @@ string_rejects inner k b bs e rest m (string_indefinite begins o) =
     let first : b ≡ indefinite_head (kind_major k) = ap (λ z. get_or z 0 0) begins in
     let t = chunk_trees k o.chunks bs o.between o.read in
     at_row inner (starts_chunks k) b bs e rest (ap initial first ∙ initial_chunks k)
-    (inl (record {
-      prefix = t.trees;
-      after = drop o.between bs;
-      whole = t.fit inner o.fits;
-      is = t.is;
-      stopped = chunk_rejects k inner (drop o.between bs) e rest o.stop;
-    }))
+    (inl (in_items t.trees (drop o.between bs) (t.fit inner o.fits) t.is (chunk_rejects k inner
+    (drop o.between bs) e rest o.stop)))
 
 text_invalid : (inner : Budget) (b : ℕ) (bs content : List ℕ) (n c : ℕ) (e : InputError)
     (rest : List ℕ) → ReadsString 3 (b ∷ bs) content n c → CostFits c inner → (IsUtf8 content → ⊥)
@@ -476,9 +452,8 @@ text_invalid inner b bs content n c e rest (inl r) fits invalid answer left =
 text_invalid inner b bs content n c e rest (inr r) fits invalid answer left =
     let o = indefinite_tree text_string (b ∷ bs) content n c r in
     let first : b ≡ indefinite_head 3 = ap (λ z. get_or z 0 0) o.begins in
-    at_row inner (starts_chunks text_string) b bs e rest
-    (ap initial first ∙ initial_chunks text_string)
-    (inr (record {
+    at_row inner (starts_chunks text_string) b bs e rest (ap initial first ∙ initial_chunks
+    text_string) (inr (record {
       chunks = o.trees;
       whole = o.fit inner fits;
       is = o.trailing bs o.begins ∙ ap (λ z. bytes_all o.trees ++ break ∷ z) (sym left);
@@ -486,10 +461,9 @@ text_invalid inner b bs content n c e rest (inr r) fits invalid answer left =
       err = answer;
     }))
 
-pub text_rejects : (inner : Budget) (b : ℕ) (bs : List ℕ) (e : InputError) (rest : List ℕ) →
-    b / 32 ≡ 3
-    → RejectsText (kind_name text_string) (b ∷ bs) inner e rest → RejectsUnder false inner (b ∷ bs)
-    e rest
+pub text_rejects : (inner : Budget) (b : ℕ) (bs : List ℕ) (e : InputError) (rest : List ℕ)
+    → b / 32 ≡ 3 → RejectsText (kind_name text_string) (b ∷ bs) inner e rest
+    → RejectsUnder false inner (b ∷ bs) e rest
 text_rejects inner b bs e rest m (no_string h) = string_rejects inner text_string b bs e rest m h
 text_rejects inner b bs e rest m (no_utf8 content n c r fits invalid answer left) =
     text_invalid inner b bs content n c e rest r fits invalid answer left

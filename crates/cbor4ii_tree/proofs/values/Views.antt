@@ -1,14 +1,11 @@
 -- Lists of values beside what they stand for.
 use Rattle.std.proofs.Common.{◌≡◌, ℕ, zero, suc, ◌<◌, List, [], ◌∷◌, ◌++◌, length, take, get_or}
-use Rattle.std.proofs.Common.{◌+◌, refl, sym, ap, ap₂, ◌∙◌, arith, ◌↔◌}
-use Rattle.std.specs.Prelude.{Vec}
+use Rattle.std.proofs.Common.{◌+◌, refl, sym, ap, ap₂, ◌∙◌, arith, ◌↔◌, Global, rules}
 use Rattle.std.proofs.lemmas.List.{take_more, get_or_default}
-use Rattle.std.proofs.Common.{Global}
+use Rattle.std.specs.Prelude.{Vec}
 use Rattle.cbor4ii_tree.specs.Item.{Item, Items, item, no_items, item_count, member_count, mapping}
-use Rattle.cbor4ii_tree.specs.Item.{Members, member}
-use Rattle.cbor4ii_tree.specs.View.{view, items_view, members_view}
+use Rattle.cbor4ii_tree.specs.{Item.{Members, member}, View.{view, items_view, members_view}}
 use Rattle.cbor4ii_tree.specs.declared.value.Value.{Value, Map, the_lemmas}
-use Rattle.std.proofs.Common.{rules}
 
 pub item_count-items_view : (vs : List Value) → item_count (items_view vs) ≡ length vs
 item_count-items_view [] = refl
@@ -98,11 +95,9 @@ mapping_same a b v w x y p q r s =
 
 pub members_more : (a b : List (Value × Value)) (i : ℕ) (x y u v : Value × Value) → i < length a
     → i < length b → members_view (take i a) ≡ members_view (take i b)
-    → view (get_or a i x).0 ≡ view (get_or b i y).0
-    → view (get_or a i u).1 ≡ view (get_or b i v).1
+    → view (get_or a i x).0 ≡ view (get_or b i y).0 → view (get_or a i u).1 ≡ view (get_or b i v).1
     → members_view (take (i + 1) a) ≡ members_view (take (i + 1) b)
 members_more a b i x y u v in_a in_b h e f =
-    rw (take_more a i x in_a, take_more b i y in_b)
-    (members_view-push (take i a) (take i b) (get_or a i x)
-    (get_or b i y) h e (ap (λ (m : Value × Value). view m.1) (get_or_default a i x u in_a)
-    ∙ f ∙ ap (λ (m : Value × Value). view m.1) (get_or_default b i v y in_b)))
+    rw (take_more a i x in_a, take_more b i y in_b) (members_view-push (take i a) (take i b)
+    (get_or a i x) (get_or b i y) h e (ap (λ (m : Value × Value). view m.1) (get_or_default a i x u
+    in_a) ∙ f ∙ ap (λ (m : Value × Value). view m.1) (get_or_default b i v y in_b)))

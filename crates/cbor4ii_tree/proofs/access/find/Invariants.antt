@@ -1,6 +1,5 @@
 use Rattle.std.proofs.Common.{◌≡◌, drop}
-use Rattle.cbor4ii_tree.specs.View.{members_view}
-use Rattle.cbor4ii_tree.specs.Access.{find_text}
+use Rattle.cbor4ii_tree.specs.{Access.find_text, View.members_view}
 use Rattle.cbor4ii_tree.proofs.access.find.Given as goal
 
 abbrev pub invariant-loop-member : goal.invariant-loop-member

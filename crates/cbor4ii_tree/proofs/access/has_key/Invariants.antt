@@ -1,6 +1,5 @@
 use Rattle.std.proofs.Common.{◌↔◌, drop}
-use Rattle.cbor4ii_tree.specs.View.{view, members_view}
-use Rattle.cbor4ii_tree.specs.Access.{HasKey}
+use Rattle.cbor4ii_tree.specs.{Access.HasKey, View.{view, members_view}}
 use Rattle.cbor4ii_tree.proofs.access.has_key.Given as goal
 
 abbrev pub invariant-loop-member : goal.invariant-loop-member

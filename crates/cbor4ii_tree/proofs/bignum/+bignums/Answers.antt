@@ -1,7 +1,6 @@
 use Rattle.std.proofs.Common.{rules, arith}
 use Rattle.cbor4ii_tree.specs.declared.value.Value.{the_lemmas}
-use Rattle.cbor4ii_tree.proofs.values.Bignums.{items_tagged, members_tagged, size-at}
-use Rattle.cbor4ii_tree.proofs.values.Bignums.{sizes-at}
+use Rattle.cbor4ii_tree.proofs.values.Bignums.{items_tagged, members_tagged, size-at, sizes-at}
 use Rattle.cbor4ii_tree.proofs.bignum.+bignums.Goals as goal
 
 -- the variant is opened, since its second part is what was changed

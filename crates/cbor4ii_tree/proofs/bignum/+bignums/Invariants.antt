@@ -1,7 +1,6 @@
 use Rattle.std.proofs.Common.{◌≡◌, ◌+◌, ◌*◌, take}
-use Rattle.cbor4ii_tree.specs.Canonical.{with_bignums_all, with_bignums_members}
-use Rattle.cbor4ii_tree.specs.Item.{size, size_all, size_members}
-use Rattle.cbor4ii_tree.specs.View.{view, items_view, members_view}
+use Rattle.cbor4ii_tree.specs.{Canonical.{with_bignums_all, with_bignums_members}, Item.size}
+use Rattle.cbor4ii_tree.specs.{Item.{size_all, size_members}, View.{view, items_view, members_view}}
 use Rattle.cbor4ii_tree.proofs.bignum.+bignums.Given as goal
 
 abbrev pub invariant-tag_items-loop-i : goal.invariant-tag_items-loop-i
@@ -11,9 +10,8 @@ invariant-tag_items-loop-i l =
 
 abbrev pub invariant-tag_members-loop-i : goal.invariant-tag_members-loop-i
 invariant-tag_members-loop-i l =
-    goal.unvisited-tag_members-loop-i l
-    × (members_view (take l.i l.members)
-    ≡ with_bignums_members (members_view (take l.i l.initial.members)))
+    goal.unvisited-tag_members-loop-i l × (members_view (take l.i l.members) ≡ with_bignums_members
+    (members_view (take l.i l.initial.members)))
 
 -- the size of what is walked, with the caller above its helpers
 abbrev pub decreases-tag_bignums : goal.decreases-tag_bignums

@@ -1,9 +1,7 @@
 use Rattle.std.proofs.Common.{ap, ◌∙◌}
 use Rattle.cbor4ii_items.specs.Magnitude.{without_leading_zeros}
-use Rattle.cbor4ii_tree.specs.Item.{bytes_item, tag}
-use Rattle.cbor4ii_tree.specs.View.{view}
-use Rattle.cbor4ii_tree.proofs.values.Bignums.{view-Bytes}
-use Rattle.cbor4ii_tree.proofs.values.Heads.{view-Tag}
+use Rattle.cbor4ii_tree.specs.{Item.{bytes_item, tag}, View.view}
+use Rattle.cbor4ii_tree.proofs.{values.Bignums.view-Bytes, values.Heads.view-Tag}
 use Rattle.cbor4ii_tree.proofs.bignum.bignum.Goals as goal
 
 pub returns : goal.returns

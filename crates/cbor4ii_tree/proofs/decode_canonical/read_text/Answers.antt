@@ -1,13 +1,10 @@
 use Rattle.std.proofs.Common.{ℕ, ap, sym, refl, inl, subst, Vec, Global}
 use Rattle.std.proofs.lemmas.Result.{err_from_is_err_and}
-use Rattle.cbor4ii_items.specs.Initial.{text_string}
-use Rattle.cbor4ii_items.specs.Shortest.{RejectsShortestString}
-use Rattle.cbor4ii_tree.specs.InputError.{require_utf8, kind_name}
-use Rattle.cbor4ii_tree.specs.CanonicalRejects.{CanonicalTextRejects}
-use Rattle.cbor4ii_tree.specs.CanonicalCalls.{StringAt, TextAt}
-use Rattle.cbor4ii_tree.proofs.skip_calls.Doing.{does_ok, does_reject, reached_as}
-use Rattle.cbor4ii_tree.proofs.canonical.Calls.{reached_string, no_text}
-use Rattle.cbor4ii_tree.proofs.skip_calls.Doing.{call_rejects}
+use Rattle.cbor4ii_items.specs.{Initial.text_string, Shortest.RejectsShortestString}
+use Rattle.cbor4ii_tree.specs.{CanonicalRejects.CanonicalTextRejects, InputError.require_utf8}
+use Rattle.cbor4ii_tree.specs.{CanonicalCalls.{StringAt, TextAt}, InputError.kind_name}
+use Rattle.cbor4ii_tree.proofs.{canonical.Calls.{reached_string, no_text}, skip_calls.Doing.does_ok}
+use Rattle.cbor4ii_tree.proofs.skip_calls.Doing.{does_reject, reached_as, call_rejects}
 use Rattle.cbor4ii_tree.proofs.decode_canonical.read_text.Goals as goal
 
 pub returns-in_err-canonical_buf-clause-does : goal.returns-in_err-canonical_buf-clause-does
@@ -20,23 +17,15 @@ returns-in_err-canonical_buf-clause-does g c =
 
 pub returns-in-Ok-clause-does : goal.returns-in-Ok-clause-does
 returns-in-Ok-clause-does g c =
-    does_ok (TextAt (g.S.Source.view c.args.reader.now).budget)
-    (CanonicalTextRejects (g.S.Source.view c.args.reader.now).budget)
-    (reached_as (StringAt 3 c.in_ok-canonical_buf.field-0.items)
-    (λ xs ys. TextAt (g.S.Source.view c.args.reader.now).budget xs c.in-Ok.text ys)
-    (λ xs ys h. subst (λ content. StringAt 3 content xs ys)
-    (ap (λ (v : Vec ℕ Global). v.items) (sym c.in-Ok.ensures.ok)) h)
-    (reached_string 3 c.in_ok-canonical_buf.field-0 c.in_ok-canonical_buf.ensures.moves
-    c.in_ok-canonical_buf.ensures.sound))
+    does_ok _ _ (reached_as (StringAt 3 c.in_ok-canonical_buf.field-0.items) _ (λ xs ys h. subst
+    (λ content. StringAt 3 content xs ys) (ap (λ (v : Vec ℕ Global). v.items)
+    (sym c.in-Ok.ensures.ok)) h) (reached_string 3 c.in_ok-canonical_buf.field-0
+    c.in_ok-canonical_buf.ensures.moves c.in_ok-canonical_buf.ensures.sound))
 
 pub returns-clause-does : goal.returns-clause-does
 returns-clause-does g c =
-    does_reject (StringAt 3 c.in_ok-canonical_buf.field-0.items)
-    (TextAt (g.S.Source.view c.args.reader.now).budget)
-    (CanonicalTextRejects (g.S.Source.view c.args.reader.now).budget)
-    (require_utf8 (kind_name text_string)) refl refl refl
-    (λ xs ys h.
-    no_text (g.S.Source.view c.args.reader.now).budget c.in_ok-canonical_buf.field-0.items
-    xs ys (λ u. let f = c.in-Err.ensures.succeeds u in cc) h)
-    (reached_string 3 c.in_ok-canonical_buf.field-0 c.in_ok-canonical_buf.ensures.moves
-    c.in_ok-canonical_buf.ensures.sound)
+    does_reject (StringAt 3 c.in_ok-canonical_buf.field-0.items) _ _
+    (require_utf8 (kind_name text_string)) refl refl refl (λ xs ys h. no_text (g.S.Source.view
+    c.args.reader.now).budget c.in_ok-canonical_buf.field-0.items xs ys (λ u. let f =
+    c.in-Err.ensures.succeeds u in cc) h) (reached_string 3 c.in_ok-canonical_buf.field-0
+    c.in_ok-canonical_buf.ensures.moves c.in_ok-canonical_buf.ensures.sound)

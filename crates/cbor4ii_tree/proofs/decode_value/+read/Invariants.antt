@@ -1,10 +1,7 @@
 use Rattle.std.proofs.Common.{◌+◌, ◌*◌, ◌≤◌, length}
-use Rattle.cbor4ii_tree.specs.LeafRuns.{flat}
-use Rattle.cbor4ii_tree.specs.Valuing.{ReadsItems}
-use Rattle.cbor4ii_tree.specs.Item.{AreItems, AreMembers}
+use Rattle.cbor4ii_tree.specs.{Item.{AreItems, AreMembers}, LeafRuns.flat, Valuing.ReadsItems}
 use Rattle.cbor4ii_tree.specs.View.{items_view, members_view}
-use Rattle.cbor4ii_tree.proofs.skip_calls.Doing.{Reached}
-use Rattle.cbor4ii_tree.proofs.values.Parts.{ReadEach, ReadPairs}
+use Rattle.cbor4ii_tree.proofs.{skip_calls.Doing.Reached, values.Parts.{ReadEach, ReadPairs}}
 use Rattle.cbor4ii_tree.proofs.decode_value.+read.Given as goal
 
 abbrev pub decreases-read_value : goal.decreases-read_value
@@ -89,8 +86,7 @@ abbrev pub invariant-indefinite_items-loop-items : goal.invariant-indefinite_ite
 invariant-indefinite_items-loop-items g l =
     record {
       reached : Reached (ReadEach g.A.Encodings.exact l.items.items (g.S.Source.view
-          l.fn.reader).budget)
-          (g.S.Source.view l.fn.reader) (g.S.Source.view l.reader);
+          l.fn.reader).budget) (g.S.Source.view l.fn.reader) (g.S.Source.view l.reader);
       items : AreItems (items_view l.items.items);
     }
 
@@ -102,8 +98,7 @@ abbrev pub invariant-indefinite_members-loop-members :
 invariant-indefinite_members-loop-members g l =
     record {
       reached : Reached (ReadPairs g.A.Encodings.exact l.members.items (g.S.Source.view
-          l.fn.reader).budget)
-          (g.S.Source.view l.fn.reader) (g.S.Source.view l.reader);
+          l.fn.reader).budget) (g.S.Source.view l.fn.reader) (g.S.Source.view l.reader);
       items : AreMembers (members_view l.members.items);
     }
 

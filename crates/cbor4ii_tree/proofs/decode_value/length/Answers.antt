@@ -1,6 +1,5 @@
 use Rattle.std.proofs.Common.{◌≡◌, arith, false}
-use Rattle.cbor4ii_tree.specs.InputError.{array_name, map_name}
-use Rattle.cbor4ii_tree.specs.Valuing.{RejectsMajor}
+use Rattle.cbor4ii_tree.specs.{InputError.{array_name, map_name}, Valuing.RejectsMajor}
 use Rattle.cbor4ii_tree.proofs.values.Sequences.{array_length_rejects, length_does}
 use Rattle.cbor4ii_tree.proofs.values.Sequences.{map_length_rejects}
 use Rattle.cbor4ii_tree.proofs.decode_value.length.Goals as goal

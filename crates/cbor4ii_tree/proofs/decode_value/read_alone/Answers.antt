@@ -21,6 +21,5 @@ returns-in-Some-clause-does g c before shows =
 
 pub returns-in-None-clause-does : goal.returns-in-None-clause-does
 returns-in-None-clause-does g c before shows =
-    rw (sym c.part-in-None.ensures)
-    (first_does g.A.Encodings.exact c.args.first shows.runs
+    rw (sym c.part-in-None.ensures) (first_does g.A.Encodings.exact c.args.first shows.runs
     (c.read_float.ensures.does g.A.Encodings.exact))

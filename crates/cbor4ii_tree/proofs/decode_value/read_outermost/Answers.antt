@@ -1,8 +1,6 @@
 use Rattle.std.proofs.Common.{refl}
-use Rattle.cbor4ii_tree.specs.InputError.{value_name}
-use Rattle.cbor4ii_tree.specs.Valuing.{ReadsOneValue, RejectsOneValue}
-use Rattle.cbor4ii_tree.proofs.skip_calls.Doing.{does_no_step}
-use Rattle.cbor4ii_tree.proofs.values.Answered.{around}
+use Rattle.cbor4ii_tree.specs.{InputError.value_name, Valuing.{ReadsOneValue, RejectsOneValue}}
+use Rattle.cbor4ii_tree.proofs.{skip_calls.Doing.does_no_step}
 use Rattle.cbor4ii_tree.proofs.values.Calls.{stepped, value_no_step}
 use Rattle.cbor4ii_tree.proofs.decode_value.read_outermost.Goals as goal
 
@@ -11,28 +9,8 @@ returns-clause-does g c =
     stepped g.A.Encodings.exact c.if-not-step_in.ensures.budget c.step_in.ensures.others
     c.read_apart-outcome.ensures.does c.step_out.ensures.budget c.step_out.ensures.others
 
-pub returns-then-not-step_in-clause-item :
-    goal.returns-then-not-step_in-clause-item
-returns-then-not-step_in-clause-item g c = tt
-
-pub returns-then-not-step_in-clause-progress :
-    goal.returns-then-not-step_in-clause-progress
-returns-then-not-step_in-clause-progress g c = tt
-
-pub returns-clause-item : goal.returns-clause-item
-returns-clause-item g c = c.read_apart-outcome.ensures.item
-
-pub returns-clause-progress : goal.returns-clause-progress
-returns-clause-progress g c =
-    around _ _ _ _ _ c.step_in.ensures.others.bound c.step_out.ensures.others.bound
-    c.read_apart-outcome.ensures.progress
-
 pub returns-then-not-step_in-clause-does :
     goal.returns-then-not-step_in-clause-does
 returns-then-not-step_in-clause-does g c =
-    rw c.leave_deep.ensures (does_no_step value_name (ReadsOneValue g.A.Encodings.exact
-    (g.S.Source.view
-    c.args.reader.now).budget)
-    (RejectsOneValue g.A.Encodings.exact (g.S.Source.view c.args.reader.now).budget) refl refl
-    (λ none xs. value_no_step g.A.Encodings.exact _ none xs) c.if-not-step_in.ensures.budget
-    c.step_in.ensures.others)
+    rw c.leave_deep.ensures (does_no_step value_name _ _ refl refl (λ none xs. value_no_step
+    g.A.Encodings.exact _ none xs) c.if-not-step_in.ensures.budget c.step_in.ensures.others)

@@ -1,13 +1,11 @@
 use Rattle.cbor4ii_tree.specs.Valuing.{RejectsOf, TakesTag}
-use Rattle.cbor4ii_tree.proofs.skip_calls.Doing.{does_ok}
-use Rattle.cbor4ii_tree.proofs.values.ByHead.{after_next, takes_head}
+use Rattle.cbor4ii_tree.proofs.{skip_calls.Doing.does_ok, values.ByHead.{after_next, takes_head}}
 use Rattle.cbor4ii_tree.proofs.decode_value.take_tag.Goals as goal
 
 pub returns-in-Some-clause-does : goal.returns-in-Some-clause-does
 returns-in-Some-clause-does g c before shows =
     let exact = g.A.Encodings.exact in
-    does_ok (TakesTag exact before.budget) (RejectsOf exact 6 before.budget)
-    (takes_head exact c.args.next 6 c.in-Some.head shows c.in-Some.is c.requires.major
+    does_ok _ _ (takes_head exact c.args.next 6 c.in-Some.head shows c.in-Some.is c.requires.major
     c.advance.ensures)
 
 pub returns-in-None-clause-does : goal.returns-in-None-clause-does

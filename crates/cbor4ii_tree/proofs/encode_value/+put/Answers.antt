@@ -1,27 +1,22 @@
 use Rattle.std.specs.Prelude.{string_bytes}
 use Rattle.std.proofs.Common.{◌≡◌, ◌<◌, ◌^◌, length, refl, sym, ap, ◌∙◌, arith, rules}
-use Rattle.cbor4ii_items.specs.Laws.Written.{writes_then, writes_err, writes_as, appends_then}
-use Rattle.cbor4ii_items.specs.Laws.SequenceBytes.{items_then, items_err}
 use Rattle.std.proofs.lemmas.Int.{to_z-of_z}
-use mir.Val.{to_z, of_z}
-use mir.Syntax.{w128}
-use Rattle.cbor4ii_tree.specs.Item.{integer}
-use Rattle.cbor4ii_tree.specs.View.{view}
-use Rattle.cbor4ii_tree.specs.Canonical.{canonical_encoding}
+use mir.{Syntax.w128, Val.{to_z, of_z}}
+use Rattle.cbor4ii_items.specs.Laws.SequenceBytes.{items_then, items_err}
+use Rattle.cbor4ii_items.specs.Laws.Written.{writes_then, writes_err, writes_as, appends_then}
+use Rattle.cbor4ii_tree.specs.{Item.integer, View.view, Canonical.canonical_encoding}
 use Rattle.cbor4ii_tree.specs.Encoding.{value_bytes, member_bytes}
-use Rattle.cbor4ii_tree.proofs.values.InRange.{items_step, members_step, array_in_range}
-use Rattle.cbor4ii_tree.proofs.values.InRange.{map_in_range, text_in_range}
+use Rattle.cbor4ii_tree.proofs.{values.Encoding.Tag-bytes, values.InRange.items_step}
 use Rattle.cbor4ii_tree.proofs.values.Encoding.{Bool-bytes, view-Integer, Array-bytes, Map-bytes}
-use Rattle.cbor4ii_tree.proofs.values.Encoding.{Tag-bytes}
-use Rattle.cbor4ii_tree.proofs.values.Sent.{on_some, on_any_some}
+use Rattle.cbor4ii_tree.proofs.values.InRange.{members_step, array_in_range, map_in_range}
+use Rattle.cbor4ii_tree.proofs.{values.InRange.text_in_range, values.Sent.{on_some, on_any_some}}
 use Rattle.cbor4ii_tree.proofs.encode_value.+put.Goals as goal
 
 pub put_items-returns-in_err-put_value-clause-writes :
     goal.put_items-returns-in_err-put_value-clause-writes
 put_items-returns-in_err-put_value-clause-writes g t c =
     rw c.from_residual.ensures (items_err value_bytes c.args.items.now c.loop-item.item-index
-    c.item-item.result
-    c.loop-item-test.true c.item-item.is c.loop-item.invariant.appends
+    c.item-item.result c.loop-item-test.true c.item-item.is c.loop-item.invariant.appends
     c.loop-item.invariant.counts c.in_err-put_value.ensures.writes)
 
 pub put_items-loop-item-preserved : goal.put_items-loop-item-preserved
@@ -40,20 +35,18 @@ put_items-loop-item-preserved g t c = record {
 pub put_members-returns-in_err-put_value-clause-writes :
     goal.put_members-returns-in_err-put_value-clause-writes
 put_members-returns-in_err-put_value-clause-writes g t c =
-    rw c.from_residual.ensures
-    (items_err member_bytes c.args.members.now c.loop-member.member-index c.member-item.result
-    c.loop-member-test.true c.member-item.is c.loop-member.invariant.appends
-    c.loop-member.invariant.counts
-    (writes_err (value_bytes c.member-item.result.1) c.in_err-put_value.ensures.writes))
+    rw c.from_residual.ensures (items_err member_bytes c.args.members.now c.loop-member.member-index
+    c.member-item.result c.loop-member-test.true c.member-item.is c.loop-member.invariant.appends
+    c.loop-member.invariant.counts (writes_err (value_bytes c.member-item.result.1)
+    c.in_err-put_value.ensures.writes))
 
 pub put_members-returns-in_err-put_value-2-clause-writes :
     goal.put_members-returns-in_err-put_value-2-clause-writes
 put_members-returns-in_err-put_value-2-clause-writes g t c =
-    rw c.from_residual-in_err-put_value-2.ensures
-    (items_err member_bytes c.args.members.now c.loop-member.member-index c.member-item.result
-    c.loop-member-test.true c.member-item.is c.loop-member.invariant.appends
-    c.loop-member.invariant.counts
-    (writes_then _ c.in_ok-put_value.ensures.writes c.in_err-put_value-2.ensures.writes))
+    rw c.from_residual-in_err-put_value-2.ensures (items_err member_bytes c.args.members.now
+    c.loop-member.member-index c.member-item.result c.loop-member-test.true c.member-item.is
+    c.loop-member.invariant.appends c.loop-member.invariant.counts (writes_then _
+    c.in_ok-put_value.ensures.writes c.in_err-put_value-2.ensures.writes))
 
 pub put_members-loop-member-preserved : goal.put_members-loop-member-preserved
 put_members-loop-member-preserved g t c =
@@ -65,11 +58,9 @@ put_members-loop-member-preserved g t c =
       appends =
           items_then member_bytes c.args.members.now c.loop-member.member-index c.member-item.result
           old.written before.written after.written c.loop-member-test.true c.member-item.is
-          c.loop-member.invariant.appends
-          (appends_then (value_bytes c.member-item.result.0)
+          c.loop-member.invariant.appends (appends_then (value_bytes c.member-item.result.0)
           (value_bytes c.member-item.result.1) before.written between.written after.written
-          c.in_ok-put_value.ensures.writes.appends
-          c.in_ok-put_value-2.ensures.writes.appends);
+          c.in_ok-put_value.ensures.writes.appends c.in_ok-put_value-2.ensures.writes.appends);
       counts =
           c.in_ok-put_value-2.ensures.writes.counts ∙ c.in_ok-put_value.ensures.writes.counts
           ∙ c.loop-member.invariant.counts;
@@ -115,17 +106,15 @@ pub put_value-returns-in-Integer-clause-writes : goal.put_value-returns-in-Integ
 put_value-returns-in-Integer-clause-writes g t c =
     let n = c.in-Integer.n in
     let back : to_z w128 (of_z w128 n) ≡ n = to_z-of_z w128 n (search rules) in
-    writes_as _ (ap (λ z. canonical_encoding (integer z)) back ∙ sym
-    (ap canonical_encoding (ap view c.in-Integer.is
-    ∙ view-Integer n))) c.put_integer.ensures.writes
+    writes_as _ (ap (λ z. canonical_encoding (integer z)) back ∙ sym (ap canonical_encoding (ap view
+    c.in-Integer.is ∙ view-Integer n))) c.put_integer.ensures.writes
 
 pub put_value-returns-in-Text-clause-item : goal.put_value-returns-in-Text-clause-item
 put_value-returns-in-Text-clause-item g t c =
     let small : length (string_bytes c.in-Text.text) < 2 ^ 64 =
     omega (arith, c.in-Text.text.bytes.small, c.in-Text.text.bytes.ok) in
-    on_some {P = Unit {0}} c.put_string-in-Text.result
-    (λ _. text_in_range c.args.value.now c.in-Text.text c.in-Text.is small)
-    (on_any_some c.put_string-in-Text.result)
+    on_some {P = Unit {0}} c.put_string-in-Text.result (λ _. text_in_range c.args.value.now
+    c.in-Text.text c.in-Text.is small) (on_any_some c.put_string-in-Text.result)
 
 pub put_value-returns-in-Array-clause-item : goal.put_value-returns-in-Array-clause-item
 put_value-returns-in-Array-clause-item g t c =

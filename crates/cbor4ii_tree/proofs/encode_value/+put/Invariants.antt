@@ -1,9 +1,8 @@
 use Rattle.std.proofs.Common.{◌≡◌, take}
 use Rattle.cbor4ii_rw.specs.Writer.{Appends}
 use Rattle.cbor4ii_items.specs.SequenceBytes.{items_bytes}
-use Rattle.cbor4ii_tree.specs.Item.{AreItems, AreMembers}
+use Rattle.cbor4ii_tree.specs.{Encoding.{value_bytes, member_bytes}, Item.{AreItems, AreMembers}}
 use Rattle.cbor4ii_tree.specs.View.{items_view, members_view}
-use Rattle.cbor4ii_tree.specs.Encoding.{value_bytes, member_bytes}
 use Rattle.cbor4ii_tree.proofs.encode_value.+put.Given as goal
 
 -- so many were written, one after another

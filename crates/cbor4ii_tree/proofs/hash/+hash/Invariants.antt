@@ -1,6 +1,6 @@
 use Rattle.std.proofs.Common.{◌≡◌, fold, drop}
-use Rattle.cbor4ii_tree.specs.Hashing.{items_writes, members_writes}
-use Rattle.cbor4ii_tree.specs.View.{items_view, members_view}
+use Rattle.cbor4ii_tree.specs.{Hashing.{items_writes, members_writes}, View.items_view}
+use Rattle.cbor4ii_tree.specs.View.{members_view}
 use Rattle.cbor4ii_tree.proofs.hash.+hash.Given as goal
 
 -- what the rest still writes makes it all

@@ -1,6 +1,5 @@
 use Rattle.cbor4ii_tree.proofs.encodings.CanonicalShape.{strict_iff_canonical}
-use Rattle.cbor4ii_tree.proofs.encodings.CanonicalShape.{reads_canonically_iff}
-use Rattle.cbor4ii_tree.proofs.encodings.CanonicalShape.{equal_iff_bytes}
+use Rattle.cbor4ii_tree.proofs.encodings.CanonicalShape.{reads_canonically_iff, equal_iff_bytes}
 use Rattle.cbor4ii_tree.proofs.laws.canonical_trees_are_canonical_encodings.Goals as goal
 
 pub returns-clause-tree : goal.returns-clause-tree

@@ -1,7 +1,6 @@
-use Rattle.cbor4ii_tree.proofs.skipping.Answer.{prefix_free}
-use Rattle.cbor4ii_tree.proofs.reading.Laws.{one_encoded}
-use Rattle.cbor4ii_tree.proofs.laws.no_encoding_begins_another.Goals as goal
+use Rattle.cbor4ii_tree.proofs.{reading.Laws.one_encoded, skipping.Answer.prefix_free}
 use Rattle.cbor4ii_tree.specs.Laws.Ignoring.{one_encoding}
+use Rattle.cbor4ii_tree.proofs.laws.no_encoding_begins_another.Goals as goal
 
 pub returns-clause-no_prefix : goal.returns-clause-no_prefix
 returns-clause-no_prefix c = prefix_free

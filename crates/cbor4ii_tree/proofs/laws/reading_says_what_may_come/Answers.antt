@@ -1,6 +1,6 @@
-use Rattle.cbor4ii_tree.proofs.reading.Laws as lemmas
 use Rattle.cbor4ii_tree.proofs.answers.MayReject.{reading_may_stop, reading_leaves_nothing}
 use Rattle.cbor4ii_tree.specs.InputError.{eof}
+use Rattle.cbor4ii_tree.proofs.reading.Laws as lemmas
 use Rattle.cbor4ii_tree.proofs.laws.reading_says_what_may_come.Goals as goal
 
 pub returns-clause-prefix : goal.returns-clause-prefix

@@ -1,6 +1,6 @@
-use Rattle.cbor4ii_tree.proofs.skipping.Laws as lemmas
 use Rattle.cbor4ii_tree.proofs.answers.MayReject.{skipping_may_stop, skipping_leaves_nothing}
 use Rattle.cbor4ii_tree.specs.InputError.{eof}
+use Rattle.cbor4ii_tree.proofs.skipping.Laws as lemmas
 use Rattle.cbor4ii_tree.proofs.laws.skipping_says_what_may_come.Goals as goal
 
 pub returns-clause-prefix : goal.returns-clause-prefix

@@ -1,5 +1,4 @@
-use Rattle.cbor4ii_tree.proofs.encodings.Sizes.{size-of_tree}
-use Rattle.cbor4ii_tree.proofs.reading.Laws.{encoded_is_item}
+use Rattle.cbor4ii_tree.proofs.{encodings.Sizes.size-of_tree, reading.Laws.encoded_is_item}
 use Rattle.cbor4ii_tree.proofs.laws.value_is_no_larger_than_its_encoding.Goals as goal
 
 pub returns-clause-size : goal.returns-clause-size

@@ -1,10 +1,7 @@
-use Rattle.std.proofs.Common.{sym, arith, w8}
-use Rattle.std.proofs.Math.Facts.{Fits-lt-pow}
+use Rattle.std.proofs.{Common.{sym, arith, w8}, Math.Facts.Fits-lt-pow}
 use Rattle.cbor4ii_items.specs.Initial.{unsigned, negative}
-use Rattle.cbor4ii_tree.proofs.skip_calls.Leaves.{shown_bytes}
-use Rattle.cbor4ii_tree.proofs.values.Calls.{small_z, fits_less}
-use Rattle.cbor4ii_tree.proofs.values.Heads.{negative_z}
-use Rattle.cbor4ii_tree.proofs.values.Leaves.{int_ahead}
+use Rattle.cbor4ii_tree.proofs.{values.Heads.negative_z, values.Leaves.int_ahead}
+use Rattle.cbor4ii_tree.proofs.{skip_calls.Leaves.shown_bytes, values.Calls.{small_z, fits_less}}
 use Rattle.cbor4ii_tree.proofs.leaf.leaf_after.Goals as goal
 
 pub returns-in-0 : goal.returns-in-0

@@ -1,11 +1,9 @@
-use Rattle.std.proofs.Common.{refl, subst, arith, w8}
-use Rattle.std.proofs.Math.Facts.{Fits-lt-pow}
+use Rattle.std.proofs.{Common.{refl, subst, arith, w8}, Math.Facts.Fits-lt-pow}
 use Rattle.cbor4ii_items.specs.Initial.{half, single, double}
-use Rattle.cbor4ii_tree.specs.Valuing.{SimpleOf}
-use Rattle.cbor4ii_tree.specs.declared.value.FloatBits.TheVariants.{F16, F32, F64}
-use Rattle.cbor4ii_tree.proofs.skip_calls.Leaves.{shown_bytes}
-use Rattle.cbor4ii_tree.proofs.values.Heads.{view-F16, view-F32, view-F64}
-use Rattle.cbor4ii_tree.proofs.values.Leaves.{float_ahead, simple_ahead}
+use Rattle.cbor4ii_tree.specs.{Valuing.SimpleOf, declared.value.FloatBits.TheVariants.{F16, F32}}
+use Rattle.cbor4ii_tree.specs.declared.value.FloatBits.TheVariants.{F64}
+use Rattle.cbor4ii_tree.proofs.{skip_calls.Leaves.shown_bytes, values.Heads.{view-F16, view-F32}}
+use Rattle.cbor4ii_tree.proofs.{values.Heads.view-F64, values.Leaves.{float_ahead, simple_ahead}}
 use Rattle.cbor4ii_tree.proofs.leaf.simple_after.Goals as goal
 
 pub returns-in-249 : goal.returns-in-249
@@ -28,6 +26,5 @@ returns-in-251 c =
 
 pub returns-in-Some : goal.returns-in-Some
 returns-in-Some c =
-    simple_ahead c.args.first c.args.number c.args.size c.args.trailing.now
-    c.in-Some.value (omega arith)
-    (subst (SimpleOf c.args.first) c.in-Some.is c.simple_of.ensures)
+    simple_ahead c.args.first c.args.number c.args.size c.args.trailing.now c.in-Some.value
+    (omega arith) (subst (SimpleOf c.args.first) c.in-Some.is c.simple_of.ensures)

@@ -1,11 +1,8 @@
-use Rattle.std.proofs.Common.{◌∙◌, sym, ap, arith, w8, take, string_bytes}
-use Rattle.std.proofs.lemmas.List.{take_rest}
-use Rattle.std.proofs.lemmas.Str.{IsUtf8-string_bytes}
-use Rattle.std.proofs.Math.Facts.{Fits-lt-pow}
+use Rattle.std.proofs.{lemmas.List.take_rest, lemmas.Str.IsUtf8-string_bytes, Common.{◌∙◌, sym, ap}}
+use Rattle.std.proofs.{Common.{arith, w8, take, string_bytes}, Math.Facts.Fits-lt-pow}
 use Rattle.cbor4ii_items.specs.Initial.{byte_string, text_string}
-use Rattle.cbor4ii_tree.proofs.skip_calls.Leaves.{shown_bytes}
-use Rattle.cbor4ii_tree.proofs.values.Items.{bytes_item_is, text_encoding}
-use Rattle.cbor4ii_tree.proofs.values.Leaves.{string_ahead}
+use Rattle.cbor4ii_tree.proofs.{skip_calls.Leaves.shown_bytes, values.Items.bytes_item_is}
+use Rattle.cbor4ii_tree.proofs.{values.Items.text_encoding, values.Leaves.string_ahead}
 use Rattle.cbor4ii_tree.proofs.values.Strings.{view-Bytes, view-Text}
 use Rattle.cbor4ii_tree.proofs.leaf.string_after.Goals as goal
 
@@ -14,10 +11,8 @@ returns-in-Ok c =
     string_ahead c.args.first c.args.number c.args.size c.args.trailing.now (omega arith)
     (shown_bytes c.args.trailing.now (λ i. Fits-lt-pow {w = w8} (c.type_inv.trailing i)))
     c.requires.argument byte_string _ _ c.in-Ok.bytes.items (omega arith) (omega arith)
-    (omega arith)
-    (c.in-Ok.ensures.items ∙ ap (take c.args.number) (take_rest c.args.trailing.now c.args.size)) tt
-    (sym (view-Bytes c.in-Ok.bytes))
-    (bytes_item_is c.in-Ok.bytes)
+    (omega arith) (c.in-Ok.ensures.items ∙ ap (take c.args.number) (take_rest c.args.trailing.now
+    c.args.size)) tt (sym (view-Bytes c.in-Ok.bytes)) (bytes_item_is c.in-Ok.bytes)
 
 pub returns-in-Ok-from_str : goal.returns-in-Ok-from_str
 returns-in-Ok-from_str c =

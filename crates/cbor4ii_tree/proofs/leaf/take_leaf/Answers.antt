@@ -1,16 +1,12 @@
 use Rattle.std.proofs.Common.{refl}
-use Rattle.cbor4ii_tree.proofs.values.Leaves.{takes_leaf, leaf_item, no_content, no_value}
-use Rattle.cbor4ii_tree.proofs.values.ByHead.{undecided}
+use Rattle.cbor4ii_tree.proofs.{values.ByHead.undecided, values.Leaves.{takes_leaf}}
+use Rattle.cbor4ii_tree.proofs.values.Leaves.{no_content, no_value}
 use Rattle.cbor4ii_tree.proofs.leaf.take_leaf.Goals as goal
 
 pub returns-in-Ok-Whole-clause-takes : goal.returns-in-Ok-Whole-clause-takes
 returns-in-Ok-Whole-clause-takes g c =
     takes_leaf g.A.Encodings.exact _ _ c.in-Ok-Whole.field-0-is c.in-Ok-Whole.ensures.offers
     c.advance.ensures
-
-pub returns-in-Ok-Whole-clause-item : goal.returns-in-Ok-Whole-clause-item
-returns-in-Ok-Whole-clause-item g c =
-    leaf_item g.A.Encodings.exact _ _ c.in-Ok-Whole.field-0-is c.in-Ok-Whole.ensures.offers
 
 pub returns-in-Ok-NoMemory-clause-takes : goal.returns-in-Ok-NoMemory-clause-takes
 returns-in-Ok-NoMemory-clause-takes g c =

@@ -10,5 +10,4 @@ returns-in-Ok-skip_lent g c =
 pub returns-in-Err : goal.returns-in-Err
 returns-in-Err g c =
     stopped_in c.in-Ok.ensures.lent c.prefix.ensures c.in-Err.ensures.rejects
-    c.skip_lent.ensures.stays
-    c.skip_lent.ensures.budget
+    c.skip_lent.ensures.stays c.skip_lent.ensures.budget

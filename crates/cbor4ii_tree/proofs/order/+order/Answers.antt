@@ -1,28 +1,23 @@
 use Rattle.std.proofs.Common.{◌≡◌, length, sym, ap, ap₂, ◌∙◌, subst, subst₂, arith, rules}
 use Rattle.std.specs.declared.cmp.Ordering.TheVariants.{Equal}
 use Rattle.cbor4ii_items.specs.SequenceBytes.{items_bytes}
-use Rattle.cbor4ii_tree.specs.Encoding.{value_bytes, member_bytes}
-use Rattle.cbor4ii_tree.specs.Order.{Compares}
-use Rattle.cbor4ii_tree.specs.View.{view}
+use Rattle.cbor4ii_tree.specs.{Encoding.{value_bytes, member_bytes}, Order.Compares, View.view}
 use Rattle.cbor4ii_tree.specs.declared.value.Value.{the_lemmas}
-use Rattle.cbor4ii_tree.proofs.encodings.Order.{heads_cmp, same_heads, other_heads}
-use Rattle.cbor4ii_tree.proofs.encodings.Order.{compares_then}
+use Rattle.cbor4ii_tree.proofs.encodings.Order.{heads_cmp, same_heads, other_heads, compares_then}
 use Rattle.cbor4ii_tree.proofs.values.Ordered.{arrays, maps, compares_from}
 use Rattle.cbor4ii_tree.proofs.order.+order.Goals as goal
 
 pub cmp_values-returns-in-Equal : goal.cmp_values-returns-in-Equal
 cmp_values-returns-in-Equal t c =
     same_heads (view c.args.a.now) (view c.args.b.now) c.cmp_after_heads.result
-    c.head_of.ensures.short c.head_of-2.ensures.short
-    (sym (c.cmp.ensures ∙ ap₂ heads_cmp c.head_of.ensures.parts c.head_of-2.ensures.parts)
-    ∙ c.in-Equal.is) c.cmp_after_heads.ensures
+    c.head_of.ensures.short c.head_of-2.ensures.short (sym (c.cmp.ensures ∙ ap₂ heads_cmp
+    c.head_of.ensures.parts c.head_of-2.ensures.parts) ∙ c.in-Equal.is) c.cmp_after_heads.ensures
 
 pub cmp_values-returns-in_default : goal.cmp_values-returns-in_default
 cmp_values-returns-in_default t c =
-    other_heads (view c.args.a.now) (view c.args.b.now) c.cmp.result
-    c.head_of.ensures.short c.head_of-2.ensures.short
-    (c.cmp.ensures ∙ ap₂ heads_cmp c.head_of.ensures.parts c.head_of-2.ensures.parts)
-    c.in_default.not-Equal
+    other_heads (view c.args.a.now) (view c.args.b.now) c.cmp.result c.head_of.ensures.short
+    c.head_of-2.ensures.short (c.cmp.ensures ∙ ap₂ heads_cmp c.head_of.ensures.parts
+    c.head_of-2.ensures.parts) c.in_default.not-Equal
 
 pub cmp_after_heads-cmp_items-requires : goal.cmp_after_heads-cmp_items-requires
 cmp_after_heads-cmp_items-requires t c =
@@ -40,17 +35,15 @@ pub cmp_after_heads-returns-in-Array : goal.cmp_after_heads-returns-in-Array
 cmp_after_heads-returns-in-Array t c =
     let h = arrays c.args.a.now c.args.b.now c.in-Array.items c.elements_of.result.now c.in-Array.is
     c.elements_of.ensures c.requires in
-    subst₂ (Compares c.cmp_items.result)
-    (ap (items_bytes value_bytes) c.deref-in-Array.ensures.value ∙ h.first) h.second
-    c.cmp_items.ensures
+    subst₂ (Compares c.cmp_items.result) (ap (items_bytes value_bytes)
+    c.deref-in-Array.ensures.value ∙ h.first) h.second c.cmp_items.ensures
 
 pub cmp_after_heads-returns-in-Map : goal.cmp_after_heads-returns-in-Map
 cmp_after_heads-returns-in-Map t c =
     let h = maps c.args.a.now c.args.b.now c.in-Map.members c.pairs_of.result.now c.in-Map.is
     c.pairs_of.ensures c.requires in
-    subst₂ (Compares c.cmp_members.result)
-    (ap (items_bytes member_bytes) c.deref-in-Map.ensures.value ∙ h.first) h.second
-    c.cmp_members.ensures
+    subst₂ (Compares c.cmp_members.result) (ap (items_bytes member_bytes)
+    c.deref-in-Map.ensures.value ∙ h.first) h.second c.cmp_members.ensures
 
 pub cmp_members-loop-i-preserved : goal.cmp_members-loop-i-preserved
 cmp_members-loop-i-preserved t c = λ r rest.
@@ -58,9 +51,8 @@ cmp_members-loop-i-preserved t c = λ r rest.
     let y = c.index-b-i.result in
     let keys : c.cmp_values-keys.result ≡ Equal = search rules in
     let values : c.cmp_values-values.result ≡ Equal = search rules in
-    let here = compares_then
-    (subst (λ o. Compares o (value_bytes x.0) (value_bytes y.0)) keys c.cmp_values-keys.ensures)
-    (subst (λ o. Compares o (value_bytes x.1) (value_bytes y.1)) values
+    let here = compares_then (subst (λ o. Compares o (value_bytes x.0) (value_bytes y.0)) keys
+    c.cmp_values-keys.ensures) (subst (λ o. Compares o (value_bytes x.1) (value_bytes y.1)) values
     c.cmp_values-values.ensures) in
     c.loop-i.invariant r (compares_from member_bytes c.args.a.now c.args.b.now c.loop-i.i x y r
     c.loop-i-test.true (omega arith) c.index-a-i.is c.index-b-i.is here rest)

@@ -1,8 +1,7 @@
 use Rattle.std.proofs.Common.{drop}
 use Rattle.std.specs.declared.cmp.Ordering.{Ordering}
 use Rattle.cbor4ii_items.specs.SequenceBytes.{items_bytes}
-use Rattle.cbor4ii_tree.specs.Encoding.{value_bytes, member_bytes}
-use Rattle.cbor4ii_tree.specs.Order.{Compares}
+use Rattle.cbor4ii_tree.specs.{Encoding.{value_bytes, member_bytes}, Order.Compares}
 use Rattle.cbor4ii_tree.proofs.order.+order.Given as goal
 
 -- how the rest compares is how all compares

@@ -2,14 +2,11 @@ use Rattle.std.proofs.Common.{◌≡◌, ◌≤◌, sym, ap, ◌∙◌, subst, s
 use Rattle.std.proofs.lemmas.Int.{to_z-of_z}
 use Rattle.std.specs.declared.cmp.Ordering.TheVariants.{Equal}
 use mir.Syntax.{w128}
-use Rattle.cbor4ii_tree.specs.Encoding.{value_bytes}
-use Rattle.cbor4ii_tree.specs.Item.{integer}
-use Rattle.cbor4ii_tree.specs.Order.{Compares, after_head, major_of}
-use Rattle.cbor4ii_tree.specs.View.{view}
+use Rattle.cbor4ii_tree.specs.{Order.major_of, View.view, Encoding.value_bytes, Item.integer}
+use Rattle.cbor4ii_tree.specs.Order.{Compares, after_head}
 use Rattle.cbor4ii_tree.proofs.encodings.Order.{PartsOf, compares_nothing, compares_back}
 use Rattle.cbor4ii_tree.proofs.encodings.Order.{same_major, after_small, small_integer, big_integer}
-use Rattle.cbor4ii_tree.proofs.encodings.Order.{after_tag}
-use Rattle.cbor4ii_tree.proofs.values.Encoding.{view-Integer, view-Tag}
+use Rattle.cbor4ii_tree.proofs.{encodings.Order.after_tag, values.Encoding.{view-Integer, view-Tag}}
 use Rattle.cbor4ii_tree.proofs.order.cmp_integer.Goals as goal
 
 pub returns-then-size : goal.returns-then-size
@@ -32,11 +29,9 @@ returns-in-Tag c =
     subst (λ y. PartsOf y parts) (to_z-of_z w128 z c.ranges.number) c.bignum_parts-size.ensures in
     let big = big_integer z parts is (omega (arith, c.if-size.false)) in
     subst (λ r. Compares r (after_head (integer z)) (after_head (view c.args.b.now)))
-    (sym c.reverse.ensures)
-    (subst₂ (Compares _) (sym (after_tag z parts is big))
-    (ap value_bytes c.deref.ensures
-    ∙ sym (ap after_head (ap view c.in-Tag.is ∙ view-Tag c.in-Tag.field-0 c.in-Tag.other)))
-    (compares_back c.cmp_with_bignum.ensures))
+    (sym c.reverse.ensures) (subst₂ (Compares _) (sym (after_tag z parts is big)) (ap value_bytes
+    c.deref.ensures ∙ sym (ap after_head (ap view c.in-Tag.is ∙ view-Tag c.in-Tag.field-0
+    c.in-Tag.other))) (compares_back c.cmp_with_bignum.ensures))
 
 pub returns-in-Integer : goal.returns-in-Integer
 returns-in-Integer c =

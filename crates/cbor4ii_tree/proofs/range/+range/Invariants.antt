@@ -1,6 +1,5 @@
 use Rattle.std.proofs.Common.{take}
-use Rattle.cbor4ii_tree.specs.Item.{AreItems, AreMembers}
-use Rattle.cbor4ii_tree.specs.View.{items_view, members_view}
+use Rattle.cbor4ii_tree.specs.{Item.{AreItems, AreMembers}, View.{items_view, members_view}}
 use Rattle.cbor4ii_tree.proofs.range.+range.Given as goal
 
 abbrev pub invariant-items_in_range-loop-item : goal.invariant-items_in_range-loop-item

@@ -1,5 +1,4 @@
-use Rattle.std.proofs.Common.{◌≡◌, ◌∷◌, [], length, length-append, ap, subst, refl, true}
-use Rattle.std.proofs.Common.{arith}
+use Rattle.std.proofs.Common.{◌≡◌, ◌∷◌, [], length, length-append, ap, subst, refl, true, arith}
 use Rattle.std.proofs.lemmas.List.{take_rest}
 use Rattle.cbor4ii_tree.specs.Leaf.{StandsAhead}
 use Rattle.cbor4ii_tree.proofs.values.LeafRuns.{put_none, put_one, put_well, rejected_growth}
@@ -14,11 +13,10 @@ loop-alloc-init g c = record {
 
 pub returns-then-is_none : goal.returns-then-is_none
 returns-then-is_none g c =
-    rejected_growth (g.A.Encodings.exact ≡ true) (g.P.Parts.flat c.args.parts.now)
-    (g.P.Parts.flat c.loop-alloc.parts) c.in-Whole.value c.loop-alloc.size c.in-Whole.bytes
-    c.args.shown.now c.loop-alloc.invariant.puts
-    (subst (StandsAhead (g.A.Encodings.exact ≡ true) c.in-Whole.value c.in-Whole.bytes)
-    (take_rest c.args.shown.now c.loop-alloc.size) c.in-Whole.ensures)
+    rejected_growth (g.A.Encodings.exact ≡ true) (g.P.Parts.flat c.args.parts.now) (g.P.Parts.flat
+    c.loop-alloc.parts) c.in-Whole.value c.loop-alloc.size c.in-Whole.bytes c.args.shown.now
+    c.loop-alloc.invariant.puts (subst (StandsAhead (g.A.Encodings.exact ≡ true) c.in-Whole.value
+    c.in-Whole.bytes) (take_rest c.args.shown.now c.loop-alloc.size) c.in-Whole.ensures)
 
 pub loop-alloc-preserved : goal.loop-alloc-preserved
 loop-alloc-preserved g c =

@@ -1,9 +1,8 @@
 use Rattle.std.proofs.Common.{◌≡◌, true, refl, arith}
-use Rattle.cbor4ii_tree.proofs.values.LeafRuns.{takes_whole}
-use Rattle.cbor4ii_tree.proofs.values.LeafRuns.{takes_before, takes_none, run_no_memory, run_ends}
-use Rattle.cbor4ii_tree.proofs.values.LeafRuns.{run_broke, whole_items, before_items, whole_seen}
-use Rattle.cbor4ii_tree.proofs.values.LeafRuns.{before_seen, none_put, none_seen, still_are}
-use Rattle.cbor4ii_tree.proofs.values.LeafRuns.{none_lacks}
+use Rattle.cbor4ii_tree.proofs.values.LeafRuns.{takes_whole, takes_before, takes_none}
+use Rattle.cbor4ii_tree.proofs.values.LeafRuns.{run_no_memory, run_ends, run_broke, whole_items}
+use Rattle.cbor4ii_tree.proofs.values.LeafRuns.{before_items, whole_seen, before_seen, none_put}
+use Rattle.cbor4ii_tree.proofs.values.LeafRuns.{none_seen, still_are, none_lacks}
 use Rattle.cbor4ii_tree.proofs.values.Leaves.{shown_can}
 use Rattle.cbor4ii_tree.proofs.run.take_run.Goals as goal
 

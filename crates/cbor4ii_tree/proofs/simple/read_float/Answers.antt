@@ -1,10 +1,6 @@
-use Rattle.std.proofs.Common.{arith, refl, w8}
+use Rattle.std.proofs.{Common.{arith, refl, w8}, Math.Facts.Fits-lt-pow}
 use Rattle.std.proofs.lemmas.Result.{err_from_is_err_and}
-use Rattle.std.proofs.Math.Facts.{Fits-lt-pow}
-use Rattle.cbor4ii_items.specs.Initial.{half, single, double}
-use Rattle.cbor4ii_items.specs.declared.types.F16.{F16 as Half}
-use Rattle.cbor4ii_items.specs.declared.types.F32.{F32 as Single}
-use Rattle.cbor4ii_items.specs.declared.types.F64.{F64 as Double}
+use Rattle.cbor4ii_items.specs.{Initial.{half, single, double}}
 use Rattle.cbor4ii_tree.proofs.values.Heads.{float_read, float_rejected, no_value, view-F16}
 use Rattle.cbor4ii_tree.proofs.values.Heads.{view-F32, view-F64}
 use Rattle.cbor4ii_tree.specs.declared.value.FloatBits.TheVariants.{F16, F32, F64}
@@ -34,8 +30,7 @@ pub returns-in_err-decode-in-249-clause-does : goal.returns-in_err-decode-in-249
 returns-in_err-decode-in-249-clause-does g c exact =
     let p = err_from_is_err_and c.from_residual.result c.from_residual.ensures.1 in
     rw (p.1, p.2) (float_rejected exact half c.args.first c.in-249.is
-    c.in_err-decode-in-249.ensures.moves
-    c.in_err-decode-in-249.ensures.begins)
+    c.in_err-decode-in-249.ensures.moves c.in_err-decode-in-249.ensures.begins)
 
 pub returns-in_err-decode-in-250-clause-does : goal.returns-in_err-decode-in-250-clause-does
 returns-in_err-decode-in-250-clause-does g c exact =
@@ -56,50 +51,3 @@ returns-in_default-clause-does g c exact =
     no_value exact c.args.first c.requires.major (Fits-lt-pow {w = w8} c.ranges.first)
     c.requires.other
     (λ h. omega (arith, h)) (λ h. omega (arith, h)) (λ h. omega (arith, h)) refl refl refl
-
-pub returns-in_err-decode-in-249-clause-item : goal.returns-in_err-decode-in-249-clause-item
-returns-in_err-decode-in-249-clause-item g c =
-    let p = err_from_is_err_and c.from_residual.result c.from_residual.ensures.1 in rw p.1 tt
-
-pub returns-in_err-decode-in-249-clause-progress : goal.returns-in_err-decode-in-249-clause-progress
-returns-in_err-decode-in-249-clause-progress g c =
-    let p = err_from_is_err_and c.from_residual.result c.from_residual.ensures.1 in rw p.1 tt
-
-pub returns-in_err-decode-in-250-clause-item : goal.returns-in_err-decode-in-250-clause-item
-returns-in_err-decode-in-250-clause-item g c =
-    let p = err_from_is_err_and c.from_residual-in_err-decode-in-250.result
-    c.from_residual-in_err-decode-in-250.ensures.1 in
-    rw p.1 tt
-
-pub returns-in_err-decode-in-250-clause-progress : goal.returns-in_err-decode-in-250-clause-progress
-returns-in_err-decode-in-250-clause-progress g c =
-    let p = err_from_is_err_and c.from_residual-in_err-decode-in-250.result
-    c.from_residual-in_err-decode-in-250.ensures.1 in
-    rw p.1 tt
-
-pub returns-in_err-decode-in-251-clause-item : goal.returns-in_err-decode-in-251-clause-item
-returns-in_err-decode-in-251-clause-item g c =
-    let p = err_from_is_err_and c.from_residual-in_err-decode-in-251.result
-    c.from_residual-in_err-decode-in-251.ensures.1 in
-    rw p.1 tt
-
-pub returns-in_err-decode-in-251-clause-progress : goal.returns-in_err-decode-in-251-clause-progress
-returns-in_err-decode-in-251-clause-progress g c =
-    let p = err_from_is_err_and c.from_residual-in_err-decode-in-251.result
-    c.from_residual-in_err-decode-in-251.ensures.1 in
-    rw p.1 tt
-
-pub returns-in_ok-decode-in-249-clause-progress : goal.returns-in_ok-decode-in-249-clause-progress
-returns-in_ok-decode-in-249-clause-progress g c = c.in_ok-decode-in-249.ensures.progress refl
-
-pub returns-in_ok-decode-in-250-clause-progress : goal.returns-in_ok-decode-in-250-clause-progress
-returns-in_ok-decode-in-250-clause-progress g c = c.in_ok-decode-in-250.ensures.progress refl
-
-pub returns-in_ok-decode-in-251-clause-progress : goal.returns-in_ok-decode-in-251-clause-progress
-returns-in_ok-decode-in-251-clause-progress g c = c.in_ok-decode-in-251.ensures.progress refl
-
-pub returns-in_default-clause-item : goal.returns-in_default-clause-item
-returns-in_default-clause-item g c = tt
-
-pub returns-in_default-clause-progress : goal.returns-in_default-clause-progress
-returns-in_default-clause-progress g c = tt

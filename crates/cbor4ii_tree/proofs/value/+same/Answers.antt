@@ -1,5 +1,4 @@
-use Rattle.std.proofs.Common.{◌<◌, arith, length, sym, ap, ◌∙◌, refl}
-use Rattle.std.proofs.lemmas.List.{take_more}
+use Rattle.std.proofs.{Common.{◌<◌, arith, length, sym, ap, ◌∙◌, refl}, lemmas.List.take_more}
 use Rattle.cbor4ii_tree.specs.View.{view}
 use Rattle.cbor4ii_tree.proofs.values.Views.{length-items_view, length-members_view, view_at}
 use Rattle.cbor4ii_tree.proofs.values.Views.{items_view-push, views_at, members_more, mapping_same}
@@ -42,8 +41,7 @@ same_items-loop-i-preserved t c =
       take_more c.args.b.now c.loop-i.i y (omega arith),
       ← c.index-a-i.is,
       ← c.index-b-i.is,
-    )
-    (items_view-push _ _ x y c.loop-i.invariant (c.if-not-same_value.ensures.0 refl))
+    ) (items_view-push _ _ x y c.loop-i.invariant (c.if-not-same_value.ensures.0 refl))
 
 pub same_members-returns-then-not-same_value : goal.same_members-returns-then-not-same_value
 same_members-returns-then-not-same_value t c = (

@@ -1,6 +1,5 @@
 use Rattle.std.proofs.Common.{[], Some, ap, ◌∙◌, sym, subst}
-use Rattle.cbor4ii_tree.specs.Canonical.{canonical_cost, with_bignums}
-use Rattle.cbor4ii_tree.specs.Encodings.{Encodes}
+use Rattle.cbor4ii_tree.specs.{Canonical.{canonical_cost, with_bignums}, Encodings.Encodes}
 use Rattle.cbor4ii_tree.specs.View.{view}
 use Rattle.cbor4ii_tree.proofs.boxed_raw.BoxedRawValue.from_value.Goals as goal
 
@@ -13,6 +12,5 @@ returns-clause-content c =
 
 pub returns-clause-encodes : goal.returns-clause-encodes
 returns-clause-encodes c =
-    subst (λ bs. Encodes bs (with_bignums (view c.args.value.now))
-    (canonical_cost (view c.args.value.now)))
-    (sym (returns-clause-content c)) c.in_ok-encode.ensures.encodes
+    subst (λ bs. Encodes bs (with_bignums (view c.args.value.now)) (canonical_cost
+    (view c.args.value.now))) (sym (returns-clause-content c)) c.in_ok-encode.ensures.encodes

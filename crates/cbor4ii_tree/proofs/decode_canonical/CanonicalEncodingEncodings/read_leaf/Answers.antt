@@ -1,17 +1,14 @@
-use Rattle.std.proofs.Common.{true}
-use Rattle.std.proofs.Common.{◌/◌, ◌≡◌, arith, refl, sym, subst, drop}
-use Rattle.std.proofs.lemmas.Result.{err_from_is_err_and}
-use Rattle.std.proofs.lemmas.Str.{IsUtf8-string_bytes}
-use Rattle.cbor4ii_items.specs.Initial.{unsigned, negative, byte_string}
-use Rattle.cbor4ii_tree.specs.InputError.{sign_name, kind_name}
-use Rattle.cbor4ii_tree.specs.declared.value.Value.{Bytes, Text}
-use Rattle.cbor4ii_items.specs.Shortest.{ReadsShortest, ReadsShortestString, RejectsShortest}
+use Rattle.std.proofs.{lemmas.Result.err_from_is_err_and, lemmas.Str.IsUtf8-string_bytes}
+use Rattle.std.proofs.Common.{true, ◌/◌, ◌≡◌, arith, sym, subst, drop}
+use Rattle.cbor4ii_items.specs.{Initial.{unsigned, negative, byte_string}, Shortest.ReadsShortest}
+use Rattle.cbor4ii_items.specs.Shortest.{ReadsShortestString, RejectsShortest}
 use Rattle.cbor4ii_items.specs.Shortest.{RejectsShortestString}
-use Rattle.cbor4ii_tree.specs.CanonicalRejects.{CanonicalTextRejects}
-use Rattle.cbor4ii_tree.specs.CanonicalCalls.{TextAt}
-use Rattle.cbor4ii_tree.specs.Valuing.{ReadsUnder, RejectsFirst, RejectsUnder}
-use Rattle.cbor4ii_tree.proofs.skip_calls.Doing.{does_ok, reached_as, reached_by, still_rejected}
+use Rattle.cbor4ii_tree.specs.{CanonicalCalls.TextAt, CanonicalRejects.CanonicalTextRejects}
+use Rattle.cbor4ii_tree.specs.{InputError.{sign_name, kind_name}, Valuing.ReadsUnder}
+use Rattle.cbor4ii_tree.specs.{Valuing.{RejectsFirst, RejectsUnder}, declared.value.Value.Bytes}
+use Rattle.cbor4ii_tree.specs.declared.value.Value.{Text}
 use Rattle.cbor4ii_tree.proofs.canonical.Calls.{string_of, bytes_exact, text_exact}
+use Rattle.cbor4ii_tree.proofs.skip_calls.Doing.{does_ok, reached_as, reached_by, still_rejected}
 use Rattle.cbor4ii_tree.proofs.values.Heads.{at_major, head_at, leaf_read, leaf_rejected}
 use Rattle.cbor4ii_tree.proofs.values.Heads.{negative_reads, unsigned_reads}
 use Rattle.cbor4ii_tree.proofs.values.Items.{text_encoding}
@@ -39,8 +36,7 @@ pub returns-in_err-canonical_buf-in-2-clause-does :
 returns-in_err-canonical_buf-in-2-clause-does g c =
     let p = err_from_is_err_and c.from_residual-in_err-canonical_buf-in-2.result
     c.from_residual-in_err-canonical_buf-in-2.ensures.1 in
-    rw (p.1, p.2)
-    (leaf_rejected true c.args.first (RejectsShortestString (kind_name byte_string) 2)
+    rw (p.1, p.2) (leaf_rejected true c.args.first (RejectsShortestString (kind_name byte_string) 2)
     (λ bs z rest h. at_major 2 (g.S.Source.view c.args.reader.now).budget c.args.first bs z rest
     c.in-2.is h) c.in_err-canonical_buf-in-2.ensures.moves
     c.in_err-canonical_buf-in-2.ensures.begins)
@@ -52,12 +48,10 @@ returns-in_err-read_text-in_default-clause-does g c =
     c.from_residual-in_err-read_text-in_default.ensures.1 in
     let budget = (g.S.Source.view c.args.reader.now).budget in
     let major : c.args.first / 32 ≡ 3 = omega (arith, c.requires.major, c.in_default) in
-    rw (p.1, p.2) (still_rejected (TextAt budget) (ReadsUnder true budget)
-    (CanonicalTextRejects budget) (RejectsFirst true c.args.first budget)
-    (λ xs z rest h bs is. subst (λ x. RejectsUnder true budget x z rest) (sym is)
-    (at_major 3 budget c.args.first bs z rest major
-    (subst (λ x. CanonicalTextRejects budget x z rest) is h)))
-    c.in_err-read_text-in_default.ensures.does)
+    rw (p.1, p.2) (still_rejected _ _ (CanonicalTextRejects
+    budget) _ (λ xs z rest h bs is. subst (λ x. RejectsUnder
+    true budget x z rest) (sym is) (at_major 3 budget c.args.first bs z rest major (subst (λ x.
+    CanonicalTextRejects budget x z rest) is h))) c.in_err-read_text-in_default.ensures.does)
 
 pub returns-in_ok-canonical_head-in-0-clause-does :
     goal.returns-in_ok-canonical_head-in-0-clause-does
@@ -77,9 +71,8 @@ returns-in_ok-number-in-1-clause-does g c =
 pub returns-in_ok-canonical_buf-in-2-clause-does : goal.returns-in_ok-canonical_buf-in-2-clause-does
 returns-in_ok-canonical_buf-in-2-clause-does g c =
     let v = c.in_ok-canonical_buf-in-2.field-0 in
-    leaf_read true (ReadsShortestString 2) (Bytes v)
-    (λ xs n k _ r. bytes_exact (g.S.Source.view c.args.reader.now).budget v xs (drop n xs)
-    (string_of 2 v.items xs n k r))
+    leaf_read true (ReadsShortestString 2) (Bytes v) (λ xs n k _ r. bytes_exact (g.S.Source.view
+    c.args.reader.now).budget v xs (drop n xs) (string_of 2 v.items xs n k r))
     c.in_ok-canonical_buf-in-2.ensures.moves c.in_ok-canonical_buf-in-2.ensures.sound
 
 pub returns-in_ok-read_text-in_default-clause-does :
@@ -87,83 +80,10 @@ pub returns-in_ok-read_text-in_default-clause-does :
 returns-in_ok-read_text-in_default-clause-does g c =
     let budget = (g.S.Source.view c.args.reader.now).budget in
     let v = c.in_ok-read_text-in_default.field-0 in
-    does_ok (ReadsUnder true budget) (RejectsFirst true c.args.first budget)
-    (reached_as (λ xs ys. TextAt budget xs v ys) (λ xs ys. ReadsUnder true budget xs (Text v) ys)
-    (λ xs ys h. text_exact budget v xs ys (IsUtf8-string_bytes v) h)
-    (reached_by c.in_ok-read_text-in_default.ensures.does))
+    does_ok _ _ (reached_as (λ xs ys. TextAt budget xs v ys) _ (λ xs ys h. text_exact budget v xs ys
+    (IsUtf8-string_bytes v) h) (reached_by c.in_ok-read_text-in_default.ensures.does))
 
 pub returns-in_ok-read_text-in_default-clause-item :
     goal.returns-in_ok-read_text-in_default-clause-item
 returns-in_ok-read_text-in_default-clause-item g c =
     text_encoding c.in_ok-read_text-in_default.field-0
-
-pub returns-in_err-canonical_head-in-0-clause-item :
-    goal.returns-in_err-canonical_head-in-0-clause-item
-returns-in_err-canonical_head-in-0-clause-item g c =
-    let p = err_from_is_err_and c.from_residual.result
-    c.from_residual.ensures.1 in
-    rw p.1 tt
-
-pub returns-in_err-number-in-1-clause-item :
-    goal.returns-in_err-number-in-1-clause-item
-returns-in_err-number-in-1-clause-item g c =
-    let p = err_from_is_err_and c.from_residual-in_err-number-in-1.result
-    c.from_residual-in_err-number-in-1.ensures.1 in
-    rw p.1 tt
-
-pub returns-in_err-canonical_buf-in-2-clause-item :
-    goal.returns-in_err-canonical_buf-in-2-clause-item
-returns-in_err-canonical_buf-in-2-clause-item g c =
-    let p = err_from_is_err_and c.from_residual-in_err-canonical_buf-in-2.result
-    c.from_residual-in_err-canonical_buf-in-2.ensures.1 in
-    rw p.1 tt
-
-pub returns-in_err-read_text-in_default-clause-item :
-    goal.returns-in_err-read_text-in_default-clause-item
-returns-in_err-read_text-in_default-clause-item g c =
-    let p = err_from_is_err_and c.from_residual-in_err-read_text-in_default.result
-    c.from_residual-in_err-read_text-in_default.ensures.1 in
-    rw p.1 tt
-
-pub returns-in_err-canonical_head-in-0-clause-progress :
-    goal.returns-in_err-canonical_head-in-0-clause-progress
-returns-in_err-canonical_head-in-0-clause-progress g c =
-    let p = err_from_is_err_and c.from_residual.result c.from_residual.ensures.1 in rw p.1 tt
-
-pub returns-in_err-number-in-1-clause-progress : goal.returns-in_err-number-in-1-clause-progress
-returns-in_err-number-in-1-clause-progress g c =
-    let p = err_from_is_err_and c.from_residual-in_err-number-in-1.result
-    c.from_residual-in_err-number-in-1.ensures.1 in
-    rw p.1 tt
-
-pub returns-in_err-canonical_buf-in-2-clause-progress :
-    goal.returns-in_err-canonical_buf-in-2-clause-progress
-returns-in_err-canonical_buf-in-2-clause-progress g c =
-    let p = err_from_is_err_and c.from_residual-in_err-canonical_buf-in-2.result
-    c.from_residual-in_err-canonical_buf-in-2.ensures.1 in
-    rw p.1 tt
-
-pub returns-in_err-read_text-in_default-clause-progress :
-    goal.returns-in_err-read_text-in_default-clause-progress
-returns-in_err-read_text-in_default-clause-progress g c =
-    let p = err_from_is_err_and c.from_residual-in_err-read_text-in_default.result
-    c.from_residual-in_err-read_text-in_default.ensures.1 in
-    rw p.1 tt
-
-pub returns-in_ok-canonical_head-in-0-clause-progress :
-    goal.returns-in_ok-canonical_head-in-0-clause-progress
-returns-in_ok-canonical_head-in-0-clause-progress g c = c.in_ok-canonical_head-in-0.ensures.progress
-    refl
-
-pub returns-in_ok-number-in-1-clause-progress : goal.returns-in_ok-number-in-1-clause-progress
-returns-in_ok-number-in-1-clause-progress g c = c.in_ok-number-in-1.ensures.progress refl
-
-pub returns-in_ok-canonical_buf-in-2-clause-progress :
-    goal.returns-in_ok-canonical_buf-in-2-clause-progress
-returns-in_ok-canonical_buf-in-2-clause-progress g c = c.in_ok-canonical_buf-in-2.ensures.progress
-    refl
-
-pub returns-in_ok-read_text-in_default-clause-progress :
-    goal.returns-in_ok-read_text-in_default-clause-progress
-returns-in_ok-read_text-in_default-clause-progress g c =
-    c.in_ok-read_text-in_default.ensures.progress

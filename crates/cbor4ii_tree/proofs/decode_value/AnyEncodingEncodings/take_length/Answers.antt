@@ -1,7 +1,7 @@
 use Rattle.std.proofs.Common.{◌≡◌, ◌∷◌, false, refl, subst, arith}
 use Rattle.cbor4ii_items.specs.Head.{indefinite_head}
-use Rattle.cbor4ii_tree.specs.InputError.{value_name}
-use Rattle.cbor4ii_tree.specs.Valuing.{IndefiniteAt, RejectsMajor, TakesLength}
+use Rattle.cbor4ii_tree.specs.{InputError.value_name, Valuing.{IndefiniteAt, RejectsMajor}}
+use Rattle.cbor4ii_tree.specs.Valuing.{TakesLength}
 use Rattle.cbor4ii_tree.proofs.skip_calls.Doing.{does_ok, reached_as, reached_first}
 use Rattle.cbor4ii_tree.proofs.values.ByHead.{after_peeked}
 use Rattle.cbor4ii_tree.proofs.decode_value.AnyEncodingEncodings.take_length.Goals as goal
@@ -11,10 +11,11 @@ returns-then-first-major-clause-does g c before shows =
     let first = c.args.first in
     let major = c.args.major in
     let is : first ≡ indefinite_head major = omega (arith, c.if-first-major.true) in
-    does_ok (TakesLength false major before.budget) (RejectsMajor false major before.budget)
-    (reached_as (λ xs ys. xs ≡ first ∷ ys) (IndefiniteAt false major)
-    (λ xs ys h. (refl, subst (λ b. xs ≡ b ∷ ys) is h))
-    (reached_first value_name 1 first shows.runs (omega arith) c.advance.ensures))
+    does_ok _ _ (reached_as (λ xs ys. xs ≡ first ∷ ys) _ (λ xs ys h. (
+      refl,
+      subst (λ b. xs ≡ b ∷ ys)
+          is h,
+    )) (reached_first value_name 1 first shows.runs (omega arith) c.advance.ensures))
 
 pub returns-clause-does : goal.returns-clause-does
 returns-clause-does g c before shows =

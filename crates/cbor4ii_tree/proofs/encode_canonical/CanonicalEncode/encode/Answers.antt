@@ -1,7 +1,5 @@
-use Rattle.std.proofs.Common.{refl}
-use Rattle.std.proofs.lemmas.Result.{on_ok_weaker}
-use Rattle.cbor4ii_tree.specs.Canonical.{canonical_encoding, canonical_cost}
-use Rattle.cbor4ii_tree.specs.View.{view}
+use Rattle.std.proofs.{Common.refl, lemmas.Result.on_ok_weaker}
+use Rattle.cbor4ii_tree.specs.{Canonical.{canonical_encoding, canonical_cost}, View.view}
 use Rattle.cbor4ii_tree.proofs.encodings.CanonicalShape.{written_canonically}
 use Rattle.cbor4ii_tree.proofs.encode_canonical.CanonicalEncode.encode.Goals as goal
 
@@ -19,5 +17,4 @@ returns-clause-reads_back g c =
       encodes = written_canonically v is;
       fits = fits;
       begins = refl;
-    })
-    c.encode.ensures.item
+    }) c.encode.ensures.item

@@ -1,7 +1,7 @@
-use Rattle.cbor4ii_tree.proofs.skip_calls.Ignoring.{ignored_ok, ignored_err}
 use Rattle.std.proofs.Common.{Ok, Err}
 use Rattle.cbor4ii_tree.proofs.answers.Promises.{all_skips, prefix_skips, eof_skips, depth_skips}
 use Rattle.cbor4ii_tree.proofs.answers.Promises.{final_skips, others_skips, exact_skips}
+use Rattle.cbor4ii_tree.proofs.skip_calls.Ignoring.{ignored_ok, ignored_err}
 use Rattle.cbor4ii_tree.proofs.ignored.IgnoredAnyDecode.decode.Goals as goal
 
 pub returns-in-Ok-clause-decodes : goal.returns-in-Ok-clause-decodes
@@ -9,11 +9,6 @@ returns-in-Ok-clause-decodes g c = ignored_ok _ c.in-Ok.ensures.does c.in-Ok.ens
 
 pub returns-in-Err-clause-decodes : goal.returns-in-Err-clause-decodes
 returns-in-Err-clause-decodes g c = ignored_err c.in-Err.ensures.does c.in-Err.ensures.spares
-
-pub returns-in-Ok-clause-only : goal.returns-in-Ok-clause-only
-returns-in-Ok-clause-only g c xs known =
-    let s = c.in-Ok.ensures.does.ok xs known in
-    (s.2.0, s.0, s.1, s.2.1)
 
 pub returns-in-Ok-clause-all : goal.returns-in-Ok-clause-all
 returns-in-Ok-clause-all g c = all_skips (Ok c.in-Ok.field-0) c.in-Ok.ensures.does

@@ -1,8 +1,7 @@
 use Rattle.std.proofs.Common.{◌≡◌, Ok, refl, length, ap}
 use Rattle.cbor4ii_rw.specs.Slice.{slice_view}
 use Rattle.cbor4ii_items.specs.Laws.Wholes.{trails, to_the_end, none_whole, whole_of, rejected}
-use Rattle.cbor4ii_tree.specs.Raw.{raw_content, raw_format, ReadsRaw}
-use Rattle.cbor4ii_tree.specs.Laws.Capturing.{raw_lawful}
+use Rattle.cbor4ii_tree.specs.{Laws.Capturing.raw_lawful, Raw.{raw_content, raw_format, ReadsRaw}}
 use Rattle.cbor4ii_tree.proofs.raw_items.Captured.{raw_decodes}
 use Rattle.cbor4ii_tree.proofs.raw.RawValue.new.Goals as goal
 
@@ -16,12 +15,10 @@ returns-in_err-raw-clause-whole c =
 pub returns-then-left-gt0-clause-whole : goal.returns-then-left-gt0-clause-whole
 returns-then-left-gt0-clause-whole c =
     let some = trails (ReadsRaw raw_content) c.args.bytes.now (slice_view c.new-reader.result)
-    (slice_view c.capture.new.reader) c.new-reader.ensures.known
-    c.new-reader.ensures.budget c.in_ok-raw.raw _
-    (raw_decodes {E = Unit {0}} raw_content _ _ (Ok c.in_ok-raw.raw)
-    c.in_ok-raw.ensures).sound
-    (λ xs e. let same : c.remaining-left.result.now ≡ xs = cc in ap length same)
-    c.if-left-gt0.true in
+    (slice_view c.capture.new.reader) c.new-reader.ensures.known c.new-reader.ensures.budget
+    c.in_ok-raw.raw _ (raw_decodes {E = Unit {0}} raw_content _ _ (Ok c.in_ok-raw.raw)
+    c.in_ok-raw.ensures).sound (λ xs e. let same : c.remaining-left.result.now ≡ xs = cc in ap
+    length same) c.if-left-gt0.true in
     record {
       accepts = tt;
       trailing = (
@@ -34,13 +31,11 @@ returns-then-left-gt0-clause-whole c =
 pub returns-clause-whole : goal.returns-clause-whole
 returns-clause-whole c = record {
   accepts = whole_of (raw_format raw_content) (raw_lawful raw_content) c.args.bytes.now
-      c.in_ok-raw.raw
-      (to_the_end (ReadsRaw raw_content) c.args.bytes.now (slice_view c.new-reader.result)
-      (slice_view c.capture.new.reader) c.new-reader.ensures.known c.new-reader.ensures.budget
-      c.in_ok-raw.raw _
-      (raw_decodes {E = Unit {0}} raw_content _ _ (Ok c.in_ok-raw.raw) c.in_ok-raw.ensures).sound
-      (λ xs e. let same : c.remaining-left.result.now ≡ xs = cc in ap length same)
-      c.if-left-gt0.false);
+      c.in_ok-raw.raw (to_the_end (ReadsRaw raw_content) c.args.bytes.now (slice_view
+      c.new-reader.result) (slice_view c.capture.new.reader) c.new-reader.ensures.known
+      c.new-reader.ensures.budget c.in_ok-raw.raw _ (raw_decodes {E = Unit {0}} raw_content _ _
+      (Ok c.in_ok-raw.raw) c.in_ok-raw.ensures).sound (λ xs e. let same
+      : c.remaining-left.result.now ≡ xs = cc in ap length same) c.if-left-gt0.false);
   trailing = tt;
   rejects = tt;
 }
