@@ -160,11 +160,3 @@ sees_indefinite_members b bs small s =
     after_first 1 0 IndefiniteMembers b bs refl small (omega arith) tt
     (λ _ _ _ _ _. other_byte b start.IndefiniteMembers s (λ u. cc))
     (λ inner after. indefinite_members_leads inner b small s (bs ++ after))
-
--- ---- a break
-
-pub first_break : (shown : List ℕ) → BeginsWithBreak shown
-    → (take 1 shown ≡ break ∷ []) × IsBytes (take 1 shown)
-first_break [] h = absurd (omega (arith, h.some))
-first_break (b ∷ bs) h =
-    (ap (λ j. j ∷ []) h.is, (subst (λ j. j < 256) (sym h.is) (omega arith), tt))

@@ -1,11 +1,12 @@
 -- What a head says of the item that it begins, where the item is skipped.
 use Rattle.std.proofs.Common.{◌≡◌, ℕ, zero, suc, ◌+◌, ◌*◌, ◌%◌, ◌<◌, ◌⊎◌, inl, inr, List, [], ◌∷◌}
-use Rattle.std.proofs.Common.{◌++◌, length, refl, sym, ap, ap₂, ◌∙◌, subst, arith, append_assoc}
+use Rattle.std.proofs.Common.{◌++◌, length, ◌≢◌, Some, None, refl, sym, ap, ap₂, ◌∙◌, subst, arith, append_assoc}
 use Rattle.std.proofs.Common.{append-nil, lt-ltb}
 use Rattle.std.proofs.lemmas.List.{nil_from_length}
 use Rattle.cbor4ii_items.specs.Head.{Width, in_first, one, two, four, eight, byte_count, HeadFits}
 use Rattle.cbor4ii_items.specs.Head.{head, indefinite_head, break}
 use Rattle.cbor4ii_items.specs.Initial.{sign_major, kind_major, precision_bytes, info_of, wide}
+use Rattle.cbor4ii_items.specs.Initial.{Info, indefinite_ended, bad_int, other_simple}
 use Rattle.cbor4ii_items.specs.Initial.{Initial, starts_int, starts_string, starts_chunks}
 use Rattle.cbor4ii_items.specs.Initial.{bad_string, starts_array, starts_indefinite_array}
 use Rattle.cbor4ii_items.specs.Initial.{bad_array}
@@ -22,21 +23,27 @@ use Rattle.cbor4ii_tree.specs.Tree.{tagged, simple}
 use Rattle.cbor4ii_tree.specs.Tree.{bits, count, pair_count, bytes, bytes_all, bytes_pairs, Loose}
 use Rattle.cbor4ii_tree.specs.Tree.{LooseAll, LoosePairs}
 use Rattle.cbor4ii_tree.specs.Cost.{Budget, skip_cost, greatest_skip_cost, greatest_pair_skip_cost}
-use Rattle.cbor4ii_tree.specs.InputError.{InputError, mismatch, tag_name, ignored_any}
+use Rattle.cbor4ii_tree.specs.InputError.{InputError, tag_name, ignored_any}
 use Rattle.cbor4ii_tree.specs.Rejections.{Missing, MissingAll, RejectsAtStep}
 use Rattle.cbor4ii_tree.specs.SkippingRejects.{SkippingRejectsBy, SkippingRejects}
-use Rattle.cbor4ii_tree.specs.HeadParts.{ArgumentAt, DropsBytes}
+use Rattle.cbor4ii_tree.specs.SkippingRejects.{SkippingRejectsFrom}
+use Rattle.cbor4ii_tree.specs.HeadParts.{ArgumentAt, ArgumentBy, CutBy, DropsBytes, TakesNumber}
+use Rattle.cbor4ii_tree.specs.HeadParts.{NoByte}
 use Rattle.cbor4ii_tree.specs.Runs.{TakesLeaf}
 use Rattle.cbor4ii_tree.specs.Skipping.{start_of, SkipsItems, RejectsSkippingItems, SkipsUnder}
-use Rattle.cbor4ii_tree.specs.Skipping.{RejectsSkippingUnder, Leads}
+use Rattle.cbor4ii_tree.specs.Skipping.{RejectsSkippingUnder, Leads, TakesFirst, rejection_of}
+use Rattle.cbor4ii_tree.specs.Skipping.{additional_of, head_name, trailing_of}
+use Rattle.cbor4ii_tree.specs.declared.skip.Additional.TheVariants.{Wide}
+use Rattle.cbor4ii_tree.specs.declared.skip.After.{After}
 use Rattle.cbor4ii_tree.specs.declared.skip.After.TheVariants.{Nothing, Bytes, Items, Members}
 use Rattle.cbor4ii_tree.specs.declared.skip.After.TheVariants.{Indefinite, IndefiniteMembers}
+use Rattle.cbor4ii_tree.specs.declared.skip.Start.{Start}
 use Rattle.cbor4ii_tree.specs.declared.skip.Start.TheVariants as start
 use Rattle.cbor4ii_tree.specs.Laws.Binds.{step_up}
 use Rattle.cbor4ii_tree.proofs.answers.Nesting.{skipping_by_parts}
 use Rattle.cbor4ii_tree.proofs.heads.Inverse.{number_of_bytes}
 use Rattle.cbor4ii_tree.proofs.heads.Means.{Means, means, HeadByte, WidthSays}
-use Rattle.cbor4ii_tree.proofs.skip_calls.Bytes.{says_width}
+use Rattle.cbor4ii_tree.proofs.skip_calls.Bytes.{says_width, wide_is}
 use Rattle.cbor4ii_tree.proofs.parts.Sound.{counted}
 use Rattle.cbor4ii_tree.specs.Laws.Wholes.{all_skippable, all_pairs_skippable}
 
@@ -92,25 +99,32 @@ rejects_by inner i b bs e rest is h budget step =
     (subst (λ j. SkippingRejectsBy (λ part. SkippingRejects part inner) inner j b bs e rest)
     (sym is) h))
 
-pub is_taken : (inner : Budget) (b : ℕ) (bs : List ℕ) → start_of (initial b) ≡ start.Taken
-    → RejectsSkippingUnder inner (b ∷ bs) (mismatch ignored_any b) bs
-is_taken inner b bs e = by_row (initial b) refl e
+-- no item begins with the first byte, which is taken or stays
+pub begins_none : (inner : Budget) (b : ℕ) (z : InputError) (bs ys : List ℕ)
+    → rejection_of (start_of (initial b)) b ≡ Some z → (TakesFirst (start_of (initial b)) → ys ≡ bs)
+    → ((TakesFirst (start_of (initial b)) → ⊥) → ys ≡ b ∷ bs)
+    → RejectsSkippingUnder inner (b ∷ bs) z ys
+begins_none inner b z bs ys e t n = by_row (initial b) refl e t n
   where
-    by_row : (i : Initial) → initial b ≡ i → start_of i ≡ start.Taken
-        → RejectsSkippingUnder inner (b ∷ bs) (mismatch ignored_any b) bs
-    by_row (bad_string k) is e = rejects_by inner (bad_string k) b bs _ _ is (refl, refl)
-    by_row bad_array is e = rejects_by inner bad_array b bs _ _ is (refl, refl)
-    by_row bad_map is e = rejects_by inner bad_map b bs _ _ is (refl, refl)
-    by_row _ is e = cc
+    by_row : (i : Initial) → initial b ≡ i → rejection_of (start_of i) b ≡ Some z
+        → (TakesFirst (start_of i) → ys ≡ bs) → ((TakesFirst (start_of i) → ⊥) → ys ≡ b ∷ bs)
+        → RejectsSkippingUnder inner (b ∷ bs) z ys
+    by_row (bad_int s) is e t n = rejects_by inner (bad_int s) b bs _ _ is (cc, n (λ x. x))
+    by_row (bad_string k) is e t n = rejects_by inner (bad_string k) b bs _ _ is (cc, t tt)
+    by_row bad_array is e t n = rejects_by inner bad_array b bs _ _ is (cc, t tt)
+    by_row bad_map is e t n = rejects_by inner bad_map b bs _ _ is (cc, t tt)
+    by_row bad_tag is e t n = rejects_by inner bad_tag b bs _ _ is (cc, t tt)
+    by_row other_simple is e t n = rejects_by inner other_simple b bs _ _ is (cc, n (λ x. x))
+    by_row _ is e t n = cc
 
-pub no_tag : (inner : Budget) (b : ℕ) (bs : List ℕ) → start_of (initial b) ≡ start.NoTag
-    → RejectsSkippingUnder inner (b ∷ bs) (mismatch tag_name b) bs
-no_tag inner b bs e = by_row (initial b) refl e
-  where
-    by_row : (i : Initial) → initial b ≡ i → start_of i ≡ start.NoTag
-        → RejectsSkippingUnder inner (b ∷ bs) (mismatch tag_name b) bs
-    by_row bad_tag is e = rejects_by inner bad_tag b bs _ _ is (refl, refl)
-    by_row _ is e = cc
+-- no byte is left
+pub no_first : (inner : Budget) (xs : List ℕ) (e : InputError) (rest : List ℕ)
+    → NoByte ignored_any 1 xs e rest → RejectsSkippingUnder inner xs e rest
+no_first inner xs e rest h budget step =
+    subst (λ ys. SkippingRejects ys budget e rest) (sym h.0)
+    ((skipping_by_parts [] budget e rest).1
+    (subst (λ o. RejectsAtStep ignored_any o [] (λ inner. SkippingRejectsFrom
+    (λ part. SkippingRejects part inner) inner []) e rest) (sym step) h.1))
 
 -- ---- heads
 
@@ -251,6 +265,20 @@ argument_low one b bs is low = absurd (omega (arith, says_width (b % 32) one is,
 argument_low two b bs is low = absurd (omega (arith, says_width (b % 32) two is, low))
 argument_low four b bs is low = absurd (omega (arith, says_width (b % 32) four is, low))
 argument_low eight b bs is low = absurd (omega (arith, says_width (b % 32) eight is, low))
+
+pub first_argument : (i : Info) (b : ℕ) (bs : List ℕ) → info_of (b % 32) ≡ i
+    → Wide 0 ≡ additional_of i → ArgumentBy i b bs (b % 32) bs
+first_argument i b bs is says =
+    let w = wide_is i 0 says in
+    subst (λ j. ArgumentBy j b bs (b % 32) bs) (sym w.1) (argument_low w.0 b bs (is ∙ w.1)
+    (low w.0 w.2 (says_width (b % 32) w.0 (is ∙ w.1))))
+  where
+    low : (w : Width) → byte_count w ≡ 0 → WidthSays w (b % 32) → b % 32 < 24
+    low in_first e s = s
+    low one e s = absurd (omega (arith, e))
+    low two e s = absurd (omega (arith, e))
+    low four e s = absurd (omega (arith, e))
+    low eight e s = absurd (omega (arith, e))
 
 -- a head alone
 emptied : (major n : ℕ) (w : Width) (b : ℕ) (bs : List ℕ) → n ≡ 0 → b ∷ bs ≡ head major n w ++ bs
@@ -533,3 +561,58 @@ module _ (inner : Budget) (b : ℕ) (small : b < 256) where
         );
         rejects = λ e rest h. rejects_by inner starts_indefinite_map b ys e rest x h;
       }
+
+  -- ---- by what begins
+
+  -- what is read of an argument leads on, and where it is cut the item is rejected
+  abbrev Goes : List ℕ → (ℕ → After) → Type 0
+  Goes name lead =
+      ((bs : List ℕ) (e : InputError) (rest : List ℕ) → CutBy name (info_of (b % 32)) bs e rest
+      → RejectsSkippingUnder inner (b ∷ bs) e rest)
+      × ((bs ys : List ℕ) (n : ℕ) → ArgumentBy (info_of (b % 32)) b bs n ys
+      → Leads inner (b ∷ bs) (lead n) ys)
+
+  goes_wide : (name : List ℕ) (lead : ℕ → After) (w : Width) → info_of (b % 32) ≡ wide w
+      → ((bs : List ℕ) (e : InputError) (rest : List ℕ) → MissingAll name (byte_count w) bs e rest
+      → RejectsSkippingUnder inner (b ∷ bs) e rest)
+      → ((bs ys : List ℕ) (n : ℕ) → ArgumentAt w b bs n ys → Leads inner (b ∷ bs) (lead n) ys)
+      → Goes name lead
+  goes_wide name lead w is cut leads = (
+    λ bs e rest h. cut bs e rest (subst (λ i. CutBy name i bs e rest) is h),
+    λ bs ys n h. leads bs ys n (subst (λ i. ArgumentBy i b bs n ys) is h),
+  )
+
+  goes_alone : (name : List ℕ) (major : ℕ) (lead : After) → b ≡ indefinite_head major
+      → ((ys : List ℕ) → Leads inner (b ∷ ys) lead ys) → Goes name (λ n. lead)
+  goes_alone name major lead is leads =
+      let low : b % 32 ≡ 31 = low_byte major 31 b is (omega arith) in
+      let info : info_of (b % 32) ≡ indefinite_ended = rw low refl in (
+        λ bs e rest h. absurd (subst (λ i. CutBy name i bs e rest) info h),
+        λ bs ys n h. let same : ys ≡ bs = subst (λ i. ArgumentBy i b bs n ys) info h in
+            subst (λ zs. Leads inner (b ∷ zs) lead ys) same (leads ys),
+      )
+
+  pub goes : (s : Start) → start_of (initial b) ≡ s → rejection_of s b ≡ None
+      → ((k : ℕ) → s ≡ start.Bytes k → ⊥) → Goes (head_name s) (trailing_of s)
+  goes (start.Bytes k) is r none = absurd (none k refl)
+  goes start.Content is r none =
+      let i = content_info is in goes_wide ignored_any Bytes i.0 i.1 i.2 i.3
+  goes start.Items is r none = let i = items_info is in goes_wide ignored_any Items i.0 i.1 i.2 i.3
+  goes start.Members is r none =
+      let i = members_info is in goes_wide ignored_any Members i.0 i.1 i.2 i.3
+  goes start.Tag is r none =
+      let i = tag_info is in goes_wide tag_name (λ n. Items 1) i.0 i.1 i.2 i.3
+  goes start.Indefinite is r none = elim (starts_indefinite (initial b) is) [
+    | inl x ↦ (let m : Means b (starts_chunks x.0) = row b (starts_chunks x.0) small x.1 in
+        goes_alone ignored_any (kind_major x.0) Indefinite m (indefinite_leads is))
+    | inr x ↦ (let m : Means b starts_indefinite_array = row b starts_indefinite_array small x in
+        goes_alone ignored_any 4 Indefinite m (indefinite_leads is))
+  ]
+  goes start.IndefiniteMembers is r none =
+      let x = starts_indefinite_members (initial b) is in
+      let m : Means b starts_indefinite_map = row b starts_indefinite_map small x in
+      goes_alone ignored_any 5 IndefiniteMembers m (indefinite_members_leads is)
+  goes start.Stays is r none = cc
+  goes start.Taken is r none = cc
+  goes start.NoTag is r none = cc
+  goes start.Unsupported is r none = cc

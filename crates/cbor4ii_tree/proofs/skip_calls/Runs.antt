@@ -4,21 +4,20 @@ use Rattle.std.proofs.Common.{Result, Ok, Err, Option, Some, None, Bool, true, f
 use Rattle.std.proofs.Common.{IfErr, IfSome, refl, sym, ap, ◌∙◌, subst, arith}
 use denote.Ref.{Bor}
 use Rattle.cbor4ii_rw.specs.View.{View}
-use Rattle.cbor4ii_rw.specs.Reader.{KeepsAllButBudget, StepsIn, step_back}
+use Rattle.cbor4ii_rw.specs.Reader.{KeepsAllButBudget, StepsIn, step_back, Advances}
 use Rattle.cbor4ii_rw.specs.declared.error.DecodeError.{DecodeError}
 use Rattle.cbor4ii_rw.specs.declared.error.DecodeError.TheVariants.{DepthOverflow}
 use Rattle.cbor4ii_items.specs.Head.{break}
-use Rattle.cbor4ii_items.specs.Moves.{Moves}
-use Rattle.cbor4ii_items.specs.Decoding.{Sound, Rejects}
-use Rattle.cbor4ii_items.specs.Strings.{ReadsBreak, RejectsBreak}
 use Rattle.cbor4ii_items.specs.InputError.{InputError}
 use Rattle.cbor4ii_items.specs.Laws.Answering.{fits_zero}
 use Rattle.cbor4ii_items.specs.Laws.UnderStep.{no_step}
-use Rattle.cbor4ii_tree.specs.InputError.{depth_overflow, ignored_any}
+use Rattle.cbor4ii_tree.specs.InputError.{depth_overflow, ignored_any, break_name}
 use Rattle.cbor4ii_tree.specs.Tree.{no_trees, tree, bytes}
 use Rattle.cbor4ii_tree.specs.Cost.{Budget}
 use Rattle.cbor4ii_tree.specs.Rejections.{Stopping, NoBreak}
 use Rattle.cbor4ii_tree.specs.Does.{Accepting, Does}
+use Rattle.cbor4ii_tree.specs.HeadParts.{TakesByte, NoByte}
+use Rattle.cbor4ii_tree.specs.Prefix.{Offers, FirstByteIs}
 use Rattle.cbor4ii_tree.specs.Skipping.{SkipsOne, RejectsSkippingOne, SkipsItems}
 use Rattle.cbor4ii_tree.specs.Skipping.{RejectsSkippingItems}
 use Rattle.cbor4ii_tree.specs.Skipping.{SkipsUnder, RejectsSkippingUnder, SkipsAfter}
@@ -39,12 +38,13 @@ use Rattle.cbor4ii_tree.specs.declared.ahead.Ahead.{Ahead}
 use Rattle.cbor4ii_tree.specs.declared.ahead.Ahead.TheVariants.{Run, Head, Unseen}
 use Rattle.cbor4ii_tree.specs.Laws.Binds.{step_up}
 use Rattle.cbor4ii_tree.proofs.skip_calls.Doing.{Reached, reached_start, reached_by, reached_then}
-use Rattle.cbor4ii_tree.proofs.skip_calls.Doing.{reached_as, reached_sound, does_after, does_ok}
-use Rattle.cbor4ii_tree.proofs.skip_calls.Doing.{does_err, does_rejects, does_stepped}
+use Rattle.cbor4ii_tree.proofs.skip_calls.Doing.{reached_as, still_rejected, does_after, does_ok}
+use Rattle.cbor4ii_tree.proofs.skip_calls.Doing.{does_err, does_stepped}
 use Rattle.cbor4ii_tree.proofs.skip_calls.Doing.{does_reject_by}
 use Rattle.cbor4ii_tree.proofs.skip_calls.Doing.{steps_in, kept_budget}
 use Rattle.cbor4ii_tree.proofs.skip_calls.Leaves.{run_items}
-use Rattle.cbor4ii_tree.proofs.skip_calls.Parts.{IsOther, after_break, other_byte, no_break}
+use Rattle.cbor4ii_tree.proofs.skip_calls.Prefixes.{byte_stays, byte_taken}
+use Rattle.cbor4ii_tree.proofs.skip_calls.Parts.{no_break}
 use Rattle.cbor4ii_tree.proofs.skip_calls.Parts.{items_none, items_more, Left, left_some, left_none}
 use Rattle.cbor4ii_tree.proofs.skip_calls.Parts.{left_stop}
 
@@ -116,54 +116,35 @@ end_rejects IndefinitePairs budget xs e rest h =
 
 -- ---- a break where one may come
 
-module _ (among : Among) (here : IsIndefinite among) {a b : View} where
-  pub ends_here : {E : Type 0} (v : Bool) → Moves {E = E} a b (Ok v) → Sound ReadsBreak a b v
-      → Does {E = E} (EndsOrNot among) (RejectsAtEnd among) a b (Ok v)
-  ends_here true moves s =
-      does_ok (EndsOrNot among) (RejectsAtEnd among) (reached_as (λ xs ys. xs ≡ break ∷ ys)
-      (λ xs ys. EndsOrNot among xs true ys) (λ xs ys e. (here, e))
-      (reached_sound ReadsBreak (λ xs ys. xs ≡ break ∷ ys)
-      (λ xs n c _ r. after_break xs n c r) moves s))
-  ends_here false moves s =
+module _ (among : Among) {a m : View} where
+  -- another byte stays
+  pub ends_later : {E : Type 0} {b : ℕ} → b ≢ break → Offers 1 (FirstByteIs b) a m
+      → Does {E = E} (EndsOrNot among) (RejectsAtEnd among) a m (Ok false)
+  ends_later {b = b} other o =
       does_ok (EndsOrNot among) (RejectsAtEnd among)
-      (reached_as IsOther (λ xs ys. EndsOrNot among xs false ys)
-      (λ xs ys o. (
-        o.0,
-        λ _. (
-          subst (λ ws. ws ≢ []) (sym o.0) o.1,
-          subst (λ ws. (bs : List ℕ) → ws ≡ break ∷ bs → ⊥) (sym o.0) o.2,
-        ),
-      ))
-      (reached_sound ReadsBreak IsOther (λ xs n c _ r. other_byte xs n c r) moves s))
+      (reached_as (λ xs ys. (ys ≡ xs) × (rest : List ℕ) × (xs ≡ b ∷ rest))
+      (λ xs ys. EndsOrNot among xs false ys)
+      (λ xs ys h. let is : ys ≡ b ∷ h.1 = h.0 ∙ h.2 in
+      (h.0, λ _. (λ none. cc, λ bs e. other (by_first b break h.1 bs (sym is ∙ e)))))
+      (byte_stays o))
+    where
+      by_first : (x y : ℕ) (xs ys : List ℕ) → x ∷ xs ≡ y ∷ ys → x ≡ y
+      by_first x y xs ys e = cc
 
-  pub ends_cut : {E : Type 0} {e : DecodeError E} → Moves {V = Bool} a b (Err e)
-      → Rejects RejectsBreak a b e → Does {V = Bool} (EndsOrNot among) (RejectsAtEnd among) a b
-      (Err e)
-  ends_cut moves s =
-      does_err Same (λ xs (_ : Bool) ys. Unit {0}) (EndsOrNot among)
-      (λ xs. RejectsBreak xs a.budget)
-      (RejectsAtEnd among)
-      (λ xs ys z rest e k. (here, sym e ∙ k.0, (k.1, k.2))) (same_start a)
-      (does_rejects (λ xs (_ : Bool) ys. Unit {0}) RejectsBreak moves s)
+  module _ (here : IsIndefinite among) where
+    pub ends_here : {E : Type 0} {b : ℕ} {c : View} → b ≡ break → Offers 1 (FirstByteIs b) a m
+        → Advances 1 m c → Does {E = E} (EndsOrNot among) (RejectsAtEnd among) a c (Ok true)
+    ends_here {b = b} is o adv =
+        does_ok (EndsOrNot among) (RejectsAtEnd among) (reached_as (λ xs ys. xs ≡ b ∷ ys)
+        (λ xs ys. EndsOrNot among xs true ys) (λ xs ys e. (here, e ∙ ap (λ z. z ∷ ys) is))
+        (byte_taken o adv))
 
-pub ends_indefinite : {E : Type 0} (among : Among) (r : Result Bool (DecodeError E)) {a b : View}
-    → IsIndefinite among → Moves a b r → IfOk r (Sound ReadsBreak a b) → IfErr r
-    (Rejects RejectsBreak a b)
-    → Does (EndsOrNot among) (RejectsAtEnd among) a b r
-ends_indefinite among (Ok v) here moves sound rejects = ends_here among here v moves sound
-ends_indefinite among (Err e) here moves sound rejects = ends_cut among here moves rejects
-
-pub indefinite_where : {E : Type 0} (among : Among) (r : Result Bool (DecodeError E)) →
-    IsIndefinite among
-    → IfOk r (λ ended. IsTrue ended → IsIndefinite among)
-indefinite_where among (Ok v) here = λ _. here
-indefinite_where among (Err e) here = tt
-
-pub ends_not : {E : Type 0} (among : Among) {a : View} → (IsIndefinite among → ⊥)
-    → Does {E = E} (EndsOrNot among) (RejectsAtEnd among) a a (Ok false)
-ends_not among {a = a} closed =
-    does_ok (EndsOrNot among) (RejectsAtEnd among) (reached_start
-    (λ xs ys. EndsOrNot among xs false ys) a (λ xs. (refl, λ o. absurd (closed o))))
+    pub ends_cut : {E : Type 0} {e : DecodeError E}
+        → Does {V = ℕ} TakesByte (NoByte break_name 1) a m (Err e)
+        → Does {V = Bool} (EndsOrNot among) (RejectsAtEnd among) a m (Err e)
+    ends_cut d =
+        still_rejected TakesByte (EndsOrNot among) (NoByte break_name 1) (RejectsAtEnd among)
+        (λ xs z rest h. (here, h.0, h.1)) d
 
 module _ (among : Among) {a m : View} where
   pub ended_some : {E : Type 0} {v : Bool} → v ≡ true
