@@ -7,7 +7,7 @@ ghost use Rattle.cbor4ii_rw.specs.View.{View};
 ghost use Rattle.cbor4ii_rw.specs.Reader.{ReaderFails, Advances, KeepsAllButBudget};
 ghost use Rattle.cbor4ii_tree.specs.Prefix.{lent_view, Offers, Ready};
 ghost use Rattle.cbor4ii_tree.specs.Ahead.{Sees};
-ghost use Rattle.cbor4ii_tree.specs.Laws.Prefixes.{own_budget, own_moved, lent_budget, lent_moved};
+ghost use Rattle.std.proofs.Common.{refl, rules};
 
 use crate::ahead::{Ahead, Among, ahead_of};
 use cbor4ii_rw::ask::look;
@@ -88,9 +88,9 @@ impl<S: Source> Prefix<S> for Own {
         reader.advance(count);
     }
 
-    ghost same_budget = { λ own reader. own_budget (S.view reader) };
+    ghost same_budget = { λ own reader. refl };
 
-    ghost moved = { λ own old new. own_moved (S.view old) (S.view new) };
+    ghost moved = { λ own old new kept. kept };
 }
 
 /// Bytes that were lent.
@@ -118,9 +118,9 @@ impl<S: Source> Prefix<S> for Lent<'_> {
         self.rest = &self.rest[count..];
     }
 
-    ghost same_budget = { λ lent reader. lent_budget lent.rest.now (S.view reader) };
+    ghost same_budget = { λ lent reader. refl };
 
-    ghost moved = { λ lent old new. lent_moved lent.rest.now (S.view old) (S.view new) };
+    ghost moved = { λ lent old new kept. Prim.search rules };
 }
 
 /// How many of the shown bytes are taken, and the first of them.

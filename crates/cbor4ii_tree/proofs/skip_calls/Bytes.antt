@@ -6,7 +6,7 @@ use Rattle.std.proofs.lemmas.List.Sums.{fold-append}
 use Rattle.std.proofs.Math.Nat.{pow-le-pow_right}
 use Rattle.cbor4ii_rw.specs.declared.error.Len.{Len}
 use Rattle.cbor4ii_rw.specs.declared.error.Len.TheVariants.{Small, Big}
-use Rattle.cbor4ii_items.specs.Head.{Width, in_first, one, two, four, eight, byte_count}
+use Rattle.cbor4ii_items.specs.Head.{Width, byte_count}
 use Rattle.cbor4ii_items.specs.Initial.{Info, info_of, wide, indefinite_ended, reserved}
 use Rattle.cbor4ii_items.specs.InputError.{InputError, eof, len_of}
 use Rattle.cbor4ii_tree.proofs.heads.Means.{WidthSays, InfoSays, info_says}
@@ -14,7 +14,6 @@ use Rattle.cbor4ii_tree.specs.Skipping.{additional_of}
 use Rattle.cbor4ii_tree.specs.declared.skip.Additional.TheVariants.{Wide}
 use Rattle.cbor4ii_tree.specs.Rejections.{Missing, MissingAll}
 use Rattle.cbor4ii_tree.specs.HeadParts.{DropsBytes, DropsSome, TakesByte, NoByte, TakesNumber}
-use Rattle.cbor4ii_tree.specs.HeadParts.{CutBy}
 use Rattle.cbor4ii_tree.proofs.parts.Prefixes.{IsBytes-append}
 
 pub len_is : (n : ℕ) (l : Len) → (n < 65536 → l ≡ Small n) → (65536 ≤ n → l ≡ Big) → l ≡ len_of n

@@ -54,8 +54,8 @@ taken_first start.Stays b none = cc
 taken_first start.Unsupported b none = cc
 taken_first _ b none = tt
 
-pub says_not : {E : Type 0} (o : Option InputError) (answer : Option (DecodeError E)) → Says o answer
-    → ((e : DecodeError E) → answer ≡ Some e → ⊥) → o ≡ None
+pub says_not : {E : Type 0} (o : Option InputError) (answer : Option (DecodeError E))
+    → Says o answer → ((e : DecodeError E) → answer ≡ Some e → ⊥) → o ≡ None
 says_not None answer h not = refl
 says_not (Some z) None h not = absurd h
 says_not (Some z) (Some e) h not = absurd (not e refl)

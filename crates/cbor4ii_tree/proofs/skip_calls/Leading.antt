@@ -1,7 +1,7 @@
 -- What a head says of the item that it begins, where the item is skipped.
 use Rattle.std.proofs.Common.{◌≡◌, ℕ, zero, suc, ◌+◌, ◌*◌, ◌%◌, ◌<◌, ◌⊎◌, inl, inr, List, [], ◌∷◌}
-use Rattle.std.proofs.Common.{◌++◌, length, ◌≢◌, Some, None, refl, sym, ap, ap₂, ◌∙◌, subst, arith, append_assoc}
-use Rattle.std.proofs.Common.{append-nil, lt-ltb}
+use Rattle.std.proofs.Common.{◌++◌, length, Some, None, refl, sym, ap, ap₂, ◌∙◌, subst, arith}
+use Rattle.std.proofs.Common.{append_assoc, append-nil, lt-ltb}
 use Rattle.std.proofs.lemmas.List.{nil_from_length}
 use Rattle.cbor4ii_items.specs.Head.{Width, in_first, one, two, four, eight, byte_count, HeadFits}
 use Rattle.cbor4ii_items.specs.Head.{head, indefinite_head, break}
@@ -27,7 +27,7 @@ use Rattle.cbor4ii_tree.specs.InputError.{InputError, tag_name, ignored_any}
 use Rattle.cbor4ii_tree.specs.Rejections.{Missing, MissingAll, RejectsAtStep}
 use Rattle.cbor4ii_tree.specs.SkippingRejects.{SkippingRejectsBy, SkippingRejects}
 use Rattle.cbor4ii_tree.specs.SkippingRejects.{SkippingRejectsFrom}
-use Rattle.cbor4ii_tree.specs.HeadParts.{ArgumentAt, ArgumentBy, CutBy, DropsBytes, TakesNumber}
+use Rattle.cbor4ii_tree.specs.HeadParts.{ArgumentAt, ArgumentBy, CutBy, DropsBytes}
 use Rattle.cbor4ii_tree.specs.HeadParts.{NoByte}
 use Rattle.cbor4ii_tree.specs.Runs.{TakesLeaf}
 use Rattle.cbor4ii_tree.specs.Skipping.{start_of, SkipsItems, RejectsSkippingItems, SkipsUnder}

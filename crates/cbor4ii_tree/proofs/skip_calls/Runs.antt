@@ -1,7 +1,7 @@
 -- Calls of skipping that take some items, one after another.
 use Rattle.std.proofs.Common.{◌≡◌, ◌≢◌, ℕ, ◌+◌, ◌≤◌, inl, inr, List, [], ◌∷◌, ◌++◌, append-nil}
-use Rattle.std.proofs.Common.{Result, Ok, Err, Option, Some, None, Bool, true, false, IsTrue, IfOk}
-use Rattle.std.proofs.Common.{IfErr, IfSome, refl, sym, ap, ◌∙◌, subst, arith}
+use Rattle.std.proofs.Common.{Result, Ok, Err, Option, Some, None, Bool, true, false}
+use Rattle.std.proofs.Common.{IfSome, refl, sym, ap, ◌∙◌, subst, arith}
 use denote.Ref.{Bor}
 use Rattle.cbor4ii_rw.specs.View.{View}
 use Rattle.cbor4ii_rw.specs.Reader.{KeepsAllButBudget, StepsIn, step_back, Advances}
