@@ -13,4 +13,3 @@ pub mod SkippingAgain
 pub mod Values
 pub mod CanonicalReading
 pub mod Capturing
-pub mod Prefixes

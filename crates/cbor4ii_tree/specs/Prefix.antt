@@ -1,9 +1,13 @@
 -- Where skipped bytes come from: a reader, or bytes that were lent.
-use Rattle.std.specs.Prelude.{◌≡◌, ◌≢◌, ℕ, List, Option, Some, None, length, take, min, get_or}
-use Rattle.std.specs.Prelude.{true}
+use Rattle.std.specs.Prelude.{◌≡◌, ◌≢◌, ◌<◌, ℕ, List, Some, None, length, take, min, get_or}
+use Rattle.std.specs.Prelude.{true, Result, Ok, Err}
 use Rattle.cbor4ii_rw.specs.View.{View, IfKnown}
 use Rattle.cbor4ii_rw.specs.Reader.{Shows, IsPrefix}
+use Rattle.cbor4ii_rw.specs.declared.error.DecodeError.{DecodeError}
 use Rattle.cbor4ii_items.specs.Head.{IsBytes}
+use Rattle.cbor4ii_tree.specs.Does.{Does}
+use Rattle.cbor4ii_tree.specs.HeadParts.{TakesByte}
+use Rattle.cbor4ii_tree.specs.Rejections.{Stopping}
 
 -- lent bytes, read under the steps of a reader: all of them are reported, nothing fails, and the
 -- reader's own bytes count for nothing
@@ -28,11 +32,17 @@ pub record Offers (want : ℕ) (P : List ℕ → Type 0) (old new : View) : Type
   pub prefix : IfKnown old.known (IsPrefix want shown)
   pub is : P shown
 
--- the first byte, or none
-abbrev pub FirstByteIs : Option ℕ → List ℕ → Type 0
-FirstByteIs None shown = length shown ≡ 0
-FirstByteIs (Some b) shown = (length shown ≢ 0) × (b ≡ get_or shown 0 0)
+-- the first byte of some
+abbrev pub FirstByteIs : ℕ → List ℕ → Type 0
+FirstByteIs b shown = (length shown ≢ 0) × (b ≡ get_or shown 0 0) × (b < 256)
 
--- so many bytes may be taken, of so many that are wanted
-abbrev pub Ready : ℕ → ℕ → List ℕ → Type 0
-Ready want count shown = (count ≡ min want (length shown)) × IsBytes (take count shown)
+-- so many bytes may be taken, of so many that are wanted, and the first of them
+abbrev pub Ready : ℕ → ℕ × ℕ → List ℕ → Type 0
+Ready want found shown =
+    (found.0 ≡ min want (length shown)) × IsBytes (take found.0 shown)
+    × (found.0 ≢ 0 → FirstByteIs found.1 shown)
+
+-- a byte was shown, or there is none
+abbrev pub Peeks : {E : Type 0} → Stopping → View → View → Result ℕ (DecodeError E) → Type 0
+Peeks none old new (Ok b) = Offers 1 (FirstByteIs b) old new
+Peeks none old new (Err e) = Does {V = ℕ} TakesByte none old new (Err e)

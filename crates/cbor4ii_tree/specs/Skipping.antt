@@ -1,5 +1,6 @@
 -- What the parts of skipping accept, and where they fail.
-use Rattle.std.specs.Prelude.{◌≡◌, ℕ, ◌*◌, List, ◌∷◌, ◌++◌, Some}
+use Rattle.std.specs.Prelude.{◌≡◌, ℕ, ◌*◌, List, ◌∷◌, ◌++◌, Option, Some, None, false}
+use Rattle.cbor4ii_rw.specs.declared.error.DecodeError.{DecodeError}
 use Rattle.cbor4ii_items.specs.Head.{byte_count, break}
 use Rattle.cbor4ii_items.specs.Initial.{precision_bytes, Info, wide, indefinite_ended, reserved}
 use Rattle.cbor4ii_items.specs.Initial.{Initial}
@@ -12,7 +13,9 @@ use Rattle.cbor4ii_items.specs.Initial.{starts_simple, starts_bits, other_simple
 use Rattle.cbor4ii_tree.specs.Tree.{Tree, Trees, Pairs, count, bytes_all, bytes_pairs}
 use Rattle.cbor4ii_tree.specs.Cost.{Budget, step_in}
 use Rattle.cbor4ii_tree.specs.HeadParts.{DropsBytes}
-use Rattle.cbor4ii_tree.specs.InputError.{InputError, ignored_any}
+use Rattle.cbor4ii_items.specs.InputError.{input_error_of, is_read, is_depth_overflow}
+use Rattle.cbor4ii_items.specs.InputError.{is_out_of_memory}
+use Rattle.cbor4ii_tree.specs.InputError.{InputError, mismatch, unsupported, ignored_any, tag_name}
 use Rattle.cbor4ii_tree.specs.Encodings.{Skips}
 use Rattle.cbor4ii_tree.specs.Rejections.{Stopping, Missing, Each, EachPair, RejectsInCount}
 use Rattle.cbor4ii_tree.specs.Rejections.{IndefiniteItems}
@@ -56,6 +59,37 @@ abbrev pub TakesFirst : Start → Type 0
 TakesFirst start.Stays = ⊥
 TakesFirst start.Unsupported = ⊥
 TakesFirst _ = Unit {0}
+
+-- the error of a byte with which no item begins
+abbrev pub rejection_of : Start → ℕ → Option InputError
+rejection_of start.Stays b = Some (mismatch ignored_any b)
+rejection_of start.Taken b = Some (mismatch ignored_any b)
+rejection_of start.NoTag b = Some (mismatch tag_name b)
+rejection_of start.Unsupported b = Some (unsupported ignored_any b)
+rejection_of _ b = None
+
+-- an error that says this of the bytes, or none
+abbrev pub Says : {E : Type 0} → Option InputError → Option (DecodeError E) → Type 0
+Says None answer = answer ≡ None
+Says (Some z) None = ⊥
+Says (Some z) (Some e) =
+    (input_error_of e ≡ Some z) × (is_read e ≡ false) × (is_depth_overflow e ≡ false)
+    × (is_out_of_memory e ≡ false)
+
+-- what a head is read as
+abbrev pub head_name : Start → List ℕ
+head_name start.Tag = tag_name
+head_name _ = ignored_any
+
+-- what is left of an item after its head, by its argument
+abbrev pub trailing_of : Start → ℕ → After
+trailing_of start.Content n = Bytes n
+trailing_of start.Items n = Items n
+trailing_of start.Members n = Members n
+trailing_of start.Tag n = Items 1
+trailing_of start.Indefinite n = Indefinite
+trailing_of start.IndefiniteMembers n = IndefiniteMembers
+trailing_of _ n = Nothing
 
 -- ---- items
 

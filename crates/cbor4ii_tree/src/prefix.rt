@@ -2,14 +2,12 @@
 //!
 //! An item that is kept as its bytes is skipped inside the bytes that one `fill` lends, under the
 //! steps of the reader that lent them. So what skips is written over both.
-ghost use Rattle.std.specs.Prelude.{◌≡◌, ◌≤◌, ◌<◌, Bool, take, length, min, IsTrue, IfOk, IfSome};
-ghost use Rattle.std.specs.Prelude.{OnErr, true, false};
+ghost use Rattle.std.specs.Prelude.{◌≡◌, ◌≤◌, Bool, IsTrue, IfOk, OnErr, true, false};
 ghost use Rattle.cbor4ii_rw.specs.View.{View};
 ghost use Rattle.cbor4ii_rw.specs.Reader.{ReaderFails, Advances, KeepsAllButBudget};
-ghost use Rattle.cbor4ii_items.specs.Head.{IsBytes};
-ghost use Rattle.cbor4ii_tree.specs.Prefix.{lent_view, Offers, FirstByteIs, Ready};
+ghost use Rattle.cbor4ii_tree.specs.Prefix.{lent_view, Offers, Ready};
 ghost use Rattle.cbor4ii_tree.specs.Ahead.{Sees};
-ghost use Rattle.cbor4ii_tree.specs.Laws.Prefixes.{own_budget, own_moved, lent_budget, lent_moved};
+ghost use Rattle.std.proofs.Common.{refl, rules};
 
 use crate::ahead::{Ahead, Among, ahead_of};
 use cbor4ii_rw::ask::look;
@@ -26,18 +24,10 @@ pub(crate) trait Prefix<S: Source>: Sized {
     // The bytes are not the reader's own.
     ghost apart: { Bool };
 
-    /// The next byte, which stays; none at the end.
-    fn peek(&mut self, reader: &mut S) -> Result<Option<u8>, S::Error>
-        ensures offers { IfOk result (λ found. Offers 1 (FirstByteIs found)
-            (view self.old reader.old) (view self.new reader.new)) }
-        ensures byte { IfOk result (λ found. IfSome found (λ b. b < 256)) }
-        ensures breaks { OnErr result
-            (ReaderFails (view self.old reader.old) (view self.new reader.new)) }
-        ensures stays { IsTrue apart → S.view reader.new ≡ S.view reader.old };
-
-    /// How many bytes may be taken at once, at most so many; none at the end.
-    fn ready(&mut self, reader: &mut S, want: usize) -> Result<usize, S::Error>
-        ensures offers { IfOk result (λ count. Offers want (Ready want count)
+    /// How many bytes may be taken at once, at most so many, and the first of them; none at the
+    /// end.
+    fn ready(&mut self, reader: &mut S, want: usize) -> Result<(usize, u8), S::Error>
+        ensures offers { IfOk result (λ found. Offers want (Ready want found)
             (view self.old reader.old) (view self.new reader.new)) }
         ensures breaks { OnErr result
             (ReaderFails (view self.old reader.old) (view self.new reader.new)) }
@@ -76,18 +66,10 @@ impl<S: Source> Prefix<S> for Own {
 
     ghost apart = { false };
 
-    fn peek(&mut self, reader: &mut S) -> Result<Option<u8>, S::Error> {
-        let mut failure = None;
-        match look(reader, 1, &mut failure) {
-            Some(shown) => Ok(first_byte(shown)),
-            None => Err(failure.unwrap()),
-        }
-    }
-
-    fn ready(&mut self, reader: &mut S, want: usize) -> Result<usize, S::Error> {
+    fn ready(&mut self, reader: &mut S, want: usize) -> Result<(usize, u8), S::Error> {
         let mut failure = None;
         match look(reader, want, &mut failure) {
-            Some(shown) => Ok(prefix_size(shown, want)),
+            Some(shown) => Ok(shown_bytes(shown, want)),
             None => Err(failure.unwrap()),
         }
     }
@@ -106,9 +88,9 @@ impl<S: Source> Prefix<S> for Own {
         reader.advance(count);
     }
 
-    ghost same_budget = { λ own reader. own_budget (S.view reader) };
+    ghost same_budget = { λ own reader. refl };
 
-    ghost moved = { λ own old new. own_moved (S.view old) (S.view new) };
+    ghost moved = { λ own old new kept. kept };
 }
 
 /// Bytes that were lent.
@@ -122,12 +104,8 @@ impl<S: Source> Prefix<S> for Lent<'_> {
 
     ghost apart = { true };
 
-    fn peek(&mut self, reader: &mut S) -> Result<Option<u8>, S::Error> {
-        Ok(first_byte(self.rest))
-    }
-
-    fn ready(&mut self, reader: &mut S, want: usize) -> Result<usize, S::Error> {
-        Ok(prefix_size(self.rest, want))
+    fn ready(&mut self, reader: &mut S, want: usize) -> Result<(usize, u8), S::Error> {
+        Ok(shown_bytes(self.rest, want))
     }
 
     #[inline(always)]
@@ -140,26 +118,17 @@ impl<S: Source> Prefix<S> for Lent<'_> {
         self.rest = &self.rest[count..];
     }
 
-    ghost same_budget = { λ lent reader. lent_budget lent.rest.now (S.view reader) };
+    ghost same_budget = { λ lent reader. refl };
 
-    ghost moved = { λ lent old new. lent_moved lent.rest.now (S.view old) (S.view new) };
+    ghost moved = { λ lent old new kept. Prim.search rules };
 }
 
-/// The first of the shown bytes.
-fn first_byte(shown: &[u8]) -> Option<u8>
-    ensures begins { FirstByteIs result shown.now }
-    ensures byte { IfSome result (λ b. b < 256) }
+/// How many of the shown bytes are taken, and the first of them.
+fn shown_bytes(shown: &[u8], want: usize) -> (usize, u8)
+    ensures { Ready want result shown.now }
 {
-    if shown.len() == 0 {
-        return None;
+    match shown {
+        [first, ..] => (want.min(shown.len()), *first),
+        [] => (0, 0),
     }
-    Some(shown[0])
-}
-
-/// How many of the shown bytes are taken, and that these are bytes.
-fn prefix_size(shown: &[u8], want: usize) -> usize
-    ensures value { result ≡ min want (length shown.now) }
-    ensures bytes { IsBytes (take result shown.now) }
-{
-    want.min(shown.len())
 }

@@ -1,18 +1,15 @@
 //! Items skipped byte by byte, where no look decides them: their heads (RFC 8949 section 3), their
 //! bytes, and breaks.
-ghost use Rattle.std.specs.Prelude.{◌≡◌, ◌+◌, ◌^◌, ◌≤◌, ◌<◌, OnOk, IfOk, IfErr, IsTrue, codes, ◌%◌};
+ghost use Rattle.std.specs.Prelude.{◌≡◌, ◌+◌, ◌≤◌, ◌<◌, ◌%◌, OnOk, IfOk, IsTrue, codes};
 ghost use Rattle.cbor4ii_rw.specs.Reader.{Advances};
-ghost use Rattle.cbor4ii_items.specs.Decoding.{Sound, Rejects};
-ghost use Rattle.cbor4ii_items.specs.Head.{Width, byte_count};
-ghost use Rattle.cbor4ii_items.specs.Initial.{info_of, wide};
-ghost use Rattle.cbor4ii_items.specs.ReadHead.{number_on};
-ghost use Rattle.cbor4ii_items.specs.Reading.{Runs, peek_at, byte_at};
-ghost use Rattle.cbor4ii_items.specs.ReadStrings.{break_at};
-ghost use Rattle.cbor4ii_items.specs.Strings.{ReadsBreak, RejectsBreak};
+ghost use Rattle.cbor4ii_items.specs.Initial.{info_of};
 ghost use Rattle.cbor4ii_tree.specs.Does.{Does, Spares};
-ghost use Rattle.cbor4ii_tree.specs.Skipping.{RejectsSkippingUnder, Leads, TakesFirst};
+ghost use Rattle.cbor4ii_tree.specs.Skipping.{RejectsSkippingUnder, Leads, TakesFirst, Says};
+ghost use Rattle.cbor4ii_tree.specs.Skipping.{rejection_of, head_name, trailing_of};
 ghost use Rattle.cbor4ii_tree.specs.Ahead.{IsIndefinite, EndsOrNot, RejectsAtEnd};
-ghost use Rattle.cbor4ii_tree.specs.HeadParts.{ArgumentAt, DropsBytes, DropsSome};
+ghost use Rattle.cbor4ii_tree.specs.HeadParts.{ArgumentBy, CutBy, DropsBytes, DropsSome};
+ghost use Rattle.cbor4ii_tree.specs.HeadParts.{NoByte, TakesByte, TakesNumber};
+ghost use Rattle.cbor4ii_tree.specs.Prefix.{Peeks};
 ghost use Rattle.cbor4ii_tree.specs.Rejections.{Missing, MissingAll};
 
 use crate::ahead::Among;
@@ -34,10 +31,15 @@ pub(crate) fn ends<S: Source, F: Prefix<S>>(
     ensures open { IfOk result (λ ended. IsTrue ended → IsIndefinite among) }
     ensures stays { IsTrue F.apart → S.view reader.new ≡ S.view reader.old }
 {
-    if among.is_indefinite() {
-        return is_break(prefix, reader);
+    if !among.is_indefinite() {
+        return Ok(false);
     }
-    Ok(false)
+    let first = peek(prefix, reader, "break", 1)?;
+    if first != marker::BREAK {
+        return Ok(false);
+    }
+    prefix.advance(reader, 1);
+    Ok(true)
 }
 
 /// Takes the head of an item, with a number's bytes or a float's, byte by byte.
@@ -56,37 +58,15 @@ pub(crate) fn skip_head<S: Source, F: Prefix<S>>(
     let first = peek(prefix, reader, "ignored-any", 1)?;
     let start = start_of(first);
     take_first(prefix, reader, start);
-    match start {
-        Start::Bytes(count) => {
-            skip_bytes(prefix, reader, count as u64)?;
-            Ok(After::Nothing)
-        }
-        Start::Content => Ok(After::Bytes(argument(prefix, reader, "ignored-any", first)?)),
-        Start::Items => Ok(After::Items(argument(prefix, reader, "ignored-any", first)?)),
-        Start::Members => Ok(After::Members(argument(prefix, reader, "ignored-any", first)?)),
-        Start::Tag => {
-            argument(prefix, reader, "tag", first)?;
-            Ok(After::Items(1))
-        }
-        Start::Indefinite => Ok(After::Indefinite),
-        Start::IndefiniteMembers => Ok(After::IndefiniteMembers),
-        Start::Stays => Err(DecodeError::Mismatch {
-            name: "ignored-any",
-            found: first,
-        }),
-        Start::Taken => Err(DecodeError::Mismatch {
-            name: "ignored-any",
-            found: first,
-        }),
-        Start::NoTag => Err(DecodeError::Mismatch {
-            name: "tag",
-            found: first,
-        }),
-        Start::Unsupported => Err(DecodeError::Unsupported {
-            name: "ignored-any",
-            found: first,
-        }),
+    if let Some(error) = rejection(start, first) {
+        return Err(error);
     }
+    if let Start::Bytes(count) = start {
+        skip_bytes(prefix, reader, count as u64)?;
+        return Ok(After::Nothing);
+    }
+    let argument = argument(prefix, reader, head_name(start), first)?;
+    Ok(trailing(start, argument))
 }
 
 /// Takes the first byte, where it is taken with what begins so.
@@ -105,64 +85,95 @@ fn take_first<S: Source, F: Prefix<S>>(prefix: &mut F, reader: &mut S, start: St
     }
 }
 
-/// Takes a break and answers true, or takes nothing and answers false where another byte comes
-/// next.
-fn is_break<S: Source, F: Prefix<S>>(
-    prefix: &mut F,
-    reader: &mut S,
-) -> Result<bool, DecodeError<S::Error>>
-    ensures runs { Runs break_at
-        (F.view prefix.old reader.old) (F.view prefix.new reader.new) result }
-    ensures spares { Spares result }
-    ensures sound { IfOk result
-        (Sound ReadsBreak (F.view prefix.old reader.old) (F.view prefix.new reader.new)) }
-    ensures rejects { IfErr result
-        (Rejects RejectsBreak (F.view prefix.old reader.old) (F.view prefix.new reader.new)) }
-    ensures stays { IsTrue F.apart → S.view reader.new ≡ S.view reader.old }
+/// The error of a first byte with which no item begins.
+fn rejection<E>(start: Start, first: u8) -> Option<DecodeError<E>>
+    ensures { Says (rejection_of start first) result }
 {
-    take_break(prefix, reader)
-}
-
-/// As `is_break`, by what a program does.
-fn take_break<S: Source, F: Prefix<S>>(
-    prefix: &mut F,
-    reader: &mut S,
-) -> Result<bool, DecodeError<S::Error>>
-    ensures runs { Runs break_at
-        (F.view prefix.old reader.old) (F.view prefix.new reader.new) result }
-    ensures spares { Spares result }
-    ensures stays { IsTrue F.apart → S.view reader.new ≡ S.view reader.old }
-{
-    let byte = peek(prefix, reader, "break", 1)?;
-    if byte == marker::BREAK {
-        prefix.advance(reader, 1);
-        return Ok(true);
+    match start {
+        Start::Stays => Some(DecodeError::Mismatch {
+            name: "ignored-any",
+            found: first,
+        }),
+        Start::Taken => Some(DecodeError::Mismatch {
+            name: "ignored-any",
+            found: first,
+        }),
+        Start::NoTag => Some(DecodeError::Mismatch {
+            name: "tag",
+            found: first,
+        }),
+        Start::Unsupported => Some(DecodeError::Unsupported {
+            name: "ignored-any",
+            found: first,
+        }),
+        _ => None,
     }
-    Ok(false)
 }
 
-/// The next byte, which stays. Where there is none, `expect` bytes were expected.
-pub(crate) fn peek<S: Source, F: Prefix<S>>(
+/// What a head is read as, in an error.
+fn head_name(start: Start) -> StaticStr
+    ensures { result.now ≡ head_name start }
+{
+    match start {
+        Start::Tag => "tag",
+        _ => "ignored-any",
+    }
+}
+
+/// What is left of an item after its head, by its argument.
+fn trailing(start: Start, argument: u64) -> After
+    ensures { result ≡ trailing_of start argument }
+{
+    match start {
+        Start::Content => After::Bytes(argument),
+        Start::Items => After::Items(argument),
+        Start::Members => After::Members(argument),
+        Start::Tag => After::Items(1),
+        Start::Indefinite => After::Indefinite,
+        Start::IndefiniteMembers => After::IndefiniteMembers,
+        _ => After::Nothing,
+    }
+}
+
+/// The argument of a head whose first byte, which was taken, is `first`; 0 where it has none.
+fn argument<S: Source, F: Prefix<S>>(
     prefix: &mut F,
     reader: &mut S,
     name: StaticStr,
-    expect: u16,
-) -> Result<u8, DecodeError<S::Error>>
-    ensures runs { Runs (peek_at name.now expect)
+    first: u8,
+) -> Result<u64, DecodeError<S::Error>>
+    ensures does { Does (ArgumentBy (info_of (first % 32)) first)
+        (CutBy name.now (info_of (first % 32)))
         (F.view prefix.old reader.old) (F.view prefix.new reader.new) result }
     ensures spares { Spares result }
-    ensures byte { IfOk result (λ b. b < 256) }
-    ensures can { OnOk result (1 ≤ (F.view prefix.new reader.new).advanceable) }
     ensures stays { IsTrue F.apart → S.view reader.new ≡ S.view reader.old }
 {
-    match prefix.peek(reader) {
-        Ok(Some(byte)) => Ok(byte),
-        Ok(None) => Err(DecodeError::Eof {
-            name,
-            expect: Len::Small(expect),
-        }),
-        Err(error) => Err(DecodeError::Read(error)),
+    match parse_info(first % 32) {
+        Additional::Wide(0) => Ok((first % 32) as u64),
+        Additional::Wide(count) => number(prefix, reader, name, count),
+        _ => Ok(0),
     }
+}
+
+/// So many bytes, most significant first.
+fn number<S: Source, F: Prefix<S>>(
+    prefix: &mut F,
+    reader: &mut S,
+    name: StaticStr,
+    count: u8,
+) -> Result<u64, DecodeError<S::Error>>
+    requires { count ≤ 8 }
+    ensures does { Does (TakesNumber count) (MissingAll name.now count)
+        (F.view prefix.old reader.old) (F.view prefix.new reader.new) result }
+    ensures spares { Spares result }
+    ensures stays { IsTrue F.apart → S.view reader.new ≡ S.view reader.old }
+{
+    let mut value = 0;
+    for i in 0..count {
+        let byte = take_byte(prefix, reader, name, count as u16)?;
+        value = value * 256 + byte as u64;
+    }
+    Ok(value)
 }
 
 /// The next byte, taken. Where there is none, `expect` bytes were expected.
@@ -172,7 +183,7 @@ fn take_byte<S: Source, F: Prefix<S>>(
     name: StaticStr,
     expect: u16,
 ) -> Result<u8, DecodeError<S::Error>>
-    ensures runs { Runs (byte_at name.now expect)
+    ensures does { Does TakesByte (NoByte name.now expect)
         (F.view prefix.old reader.old) (F.view prefix.new reader.new) result }
     ensures spares { Spares result }
     ensures byte { IfOk result (λ b. b < 256) }
@@ -183,45 +194,26 @@ fn take_byte<S: Source, F: Prefix<S>>(
     Ok(byte)
 }
 
-/// So many bytes, most significant first.
-fn number<S: Source, F: Prefix<S>>(
+/// The next byte, which stays. Where there is none, `expect` bytes were expected.
+fn peek<S: Source, F: Prefix<S>>(
     prefix: &mut F,
     reader: &mut S,
     name: StaticStr,
-    bytes: u8,
-) -> Result<u128, DecodeError<S::Error>>
-    requires { bytes ≤ 16 }
-    ensures runs { Runs (number_on name.now bytes bytes 0)
+    expect: u16,
+) -> Result<u8, DecodeError<S::Error>>
+    ensures peeks { Peeks (NoByte name.now expect)
         (F.view prefix.old reader.old) (F.view prefix.new reader.new) result }
     ensures spares { Spares result }
-    ensures fits { IfOk result (λ v. v < 256 ^ bytes) }
+    ensures can { OnOk result (1 ≤ (F.view prefix.new reader.new).advanceable) }
     ensures stays { IsTrue F.apart → S.view reader.new ≡ S.view reader.old }
 {
-    let mut value = 0;
-    for i in 0..bytes {
-        let byte = take_byte(prefix, reader, name, bytes as u16)?;
-        value = value * 256 + byte as u128;
-    }
-    Ok(value)
-}
-
-/// The argument of a head whose first byte, which was taken, is `first`.
-fn argument<S: Source, F: Prefix<S>>(
-    prefix: &mut F,
-    reader: &mut S,
-    name: StaticStr,
-    first: u8,
-) -> Result<u64, DecodeError<S::Error>>
-    ensures does { (w : Width) → info_of (first % 32) ≡ wide w →
-        Does (ArgumentAt w first) (MissingAll name.now (byte_count w))
-        (F.view prefix.old reader.old) (F.view prefix.new reader.new) result }
-    ensures spares { Spares result }
-    ensures stays { IsTrue F.apart → S.view reader.new ≡ S.view reader.old }
-{
-    match parse_info(first % 32) {
-        Additional::Wide(0) => Ok((first % 32) as u64),
-        Additional::Wide(count) => Ok(number(prefix, reader, name, count)? as u64),
-        _ => Ok(0),
+    match prefix.ready(reader, 1) {
+        Ok((0, _)) => Err(DecodeError::Eof {
+            name,
+            expect: Len::Small(expect),
+        }),
+        Ok((_, first)) => Ok(first),
+        Err(error) => Err(DecodeError::Read(error)),
     }
 }
 
@@ -257,11 +249,11 @@ fn skip_shown<S: Source, F: Prefix<S>>(
     ensures stays { IsTrue F.apart → S.view reader.new ≡ S.view reader.old }
 {
     match prefix.ready(reader, missing) {
-        Ok(0) => Err(DecodeError::Eof {
+        Ok((0, _)) => Err(DecodeError::Eof {
             name: "ignored-any",
             expect: Len::new(missing),
         }),
-        Ok(count) => {
+        Ok((count, _)) => {
             prefix.advance(reader, count);
             Ok(count)
         }

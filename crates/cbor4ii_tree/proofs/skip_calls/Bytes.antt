@@ -1,25 +1,20 @@
 -- Bytes that are skipped, prefix by prefix, and the arguments of heads.
-use Rattle.std.proofs.Common.{◌≡◌, ℕ, ◌+◌, ◌-◌, ◌<◌, ◌≤◌, List, [], ◌++◌, length, take, drop}
-use Rattle.std.proofs.Common.{Option, Some, None, Ok, Err, true, false, refl, sym, ap, ◌∙◌, subst}
-use Rattle.std.proofs.Common.{arith, IfSome, append_assoc, length-append, take-append-drop, ltb}
-use Rattle.std.proofs.{Common.{ltb-true, ltb-false, Bool}, lemmas.List.length-take-le}
-use denote.Ref.{Bor}
-use Rattle.cbor4ii_rw.specs.{declared.error.DecodeError.TheVariants.Eof, declared.error.Len.Len}
-use Rattle.cbor4ii_rw.specs.{Reader.{Shows, Advances, IsPrefix}, View.{View, IfKnown}}
-use Rattle.cbor4ii_rw.specs.declared.error.DecodeError.{DecodeError}
+use Rattle.std.proofs.Common.{◌≡◌, ℕ, suc, ◌+◌, ◌-◌, ◌*◌, ◌^◌, ◌<◌, ◌≤◌, List, [], ◌∷◌, ◌++◌}
+use Rattle.std.proofs.Common.{length, true, false, refl, sym, ap, ◌∙◌, subst, arith, append_assoc}
+use Rattle.std.proofs.Common.{length-append, ltb, ltb-true, ltb-false, lt-ltb, pow-suc, Bool}
+use Rattle.std.proofs.lemmas.List.Sums.{fold-append}
+use Rattle.std.proofs.Math.Nat.{pow-le-pow_right}
+use Rattle.cbor4ii_rw.specs.declared.error.Len.{Len}
 use Rattle.cbor4ii_rw.specs.declared.error.Len.TheVariants.{Small, Big}
-use Rattle.cbor4ii_items.specs.{Laws.ReadingHeads.number_cut, Laws.Running.shows_kept}
-use Rattle.cbor4ii_items.specs.{Laws.Steps.moves_err, ReadHead.number_on, Reading.Runs, Head.Width}
-use Rattle.cbor4ii_items.specs.Head.{in_first, one, two, four, eight, byte_count, IsBytes}
-use Rattle.cbor4ii_items.specs.{Initial.{info_of, wide}, InputError.{InputError, input_error_of}}
-use Rattle.cbor4ii_items.specs.{InputError.{eof, len_of}, Laws.Contents.lends_prefix}
-use Rattle.cbor4ii_tree.proofs.{parts.Prefixes.IsBytes-append, skip_calls.Doing.does_ok}
+use Rattle.cbor4ii_items.specs.Head.{Width, byte_count}
+use Rattle.cbor4ii_items.specs.Initial.{Info, info_of, wide, indefinite_ended, reserved}
+use Rattle.cbor4ii_items.specs.InputError.{InputError, eof, len_of}
 use Rattle.cbor4ii_tree.proofs.heads.Means.{WidthSays, InfoSays, info_says}
-use Rattle.cbor4ii_tree.proofs.skip_calls.Doing.{does_reject}
-use Rattle.cbor4ii_tree.specs.{Does.Does, HeadParts.{ArgumentAt, DropsBytes, DropsSome}}
-use Rattle.cbor4ii_tree.specs.{Rejections.{Missing, MissingAll}, Skipping.additional_of}
-use Rattle.cbor4ii_tree.specs.declared.skip.Additional.{Additional}
+use Rattle.cbor4ii_tree.specs.Skipping.{additional_of}
 use Rattle.cbor4ii_tree.specs.declared.skip.Additional.TheVariants.{Wide}
+use Rattle.cbor4ii_tree.specs.Rejections.{Missing, MissingAll}
+use Rattle.cbor4ii_tree.specs.HeadParts.{DropsBytes, DropsSome, TakesByte, NoByte, TakesNumber}
+use Rattle.cbor4ii_tree.proofs.parts.Prefixes.{IsBytes-append}
 
 pub len_is : (n : ℕ) (l : Len) → (n < 65536 → l ≡ Small n) → (65536 ≤ n → l ≡ Big) → l ≡ len_of n
 len_is n l s b = by_size (ltb n 65536) refl
@@ -27,49 +22,6 @@ len_is n l s b = by_size (ltb n 65536) refl
     by_size : (t : Bool) → ltb n 65536 ≡ t → l ≡ len_of n
     by_size true e = rw e (s (ltb-true n 65536 e))
     by_size false e = rw e (b (ltb-false n 65536 e))
-
--- ---- what is shown
-
-pub none_shown : {E : Type 0} {name : Bor (List ℕ)} (missing : ℕ) {l : Len} {shown : List ℕ}
-    {a b : View} → 1 ≤ missing → Shows shown a b → IfKnown a.known (IsPrefix missing shown)
-    → length shown ≡ 0 → (missing < 65536 → l ≡ Small missing) → (65536 ≤ missing → l ≡ Big)
-    → Does {V = ℕ} {E = E} (DropsSome missing) (Missing name.now missing) a b (Err (Eof name l))
-none_shown {name = name} missing {l = l} {a = a} {b = b} some s prefix none small big =
-    let is : l ≡ len_of missing = len_is missing l small big in
-    does_reject (λ xs ys. (xs ≡ []) × (ys ≡ [])) _ _
-    (eof name.now l) refl refl refl (λ xs ys e. let z : length xs ≡ 0 = ap length e.0 in
-    let gap : missing - length xs ≡ missing = omega (arith, z) in
-    (omega (arith, z), (ap (eof name.now) (is ∙ ap len_of (sym gap)), e.1))) (record {
-      kept = shows_kept s;
-      at = λ xs known. let e =
-          (prefix xs known).ends (omega (arith, some)) none in (xs, s.known xs known, (e, e));
-    })
-
-pub some_shown : {E : Type 0} {name : List ℕ} (missing : ℕ) {n : ℕ} {shown : List ℕ} {a m b : View}
-    → Shows shown a m → IfKnown a.known (IsPrefix missing shown) → 1 ≤ n → n ≤ missing
-    → n ≤ length shown → IsBytes (take n shown) → Advances n m b → Does {V = ℕ} {E = E}
-    (DropsSome missing) (Missing name missing) a b (Ok n)
-some_shown {name = name} missing {n = n} {shown = shown} s prefix some most within bytes adv =
-    let l = lends_prefix s prefix within bytes refl adv in
-    does_ok _ _ (record {
-      kept = l.kept;
-      at = λ xs known.
-          let t = l.at xs known in (
-            drop n xs,
-            t.1,
-            (
-              some,
-              most,
-              record {
-                content = take n xs;
-                size = length-take-le n xs
-                    t.0;
-                bytes = subst IsBytes t.2 bytes;
-                is = sym (take-append-drop n xs);
-              },
-            ),
-          );
-    })
 
 -- ---- bytes one prefix after another
 
@@ -112,37 +64,50 @@ dropped_all count missing xs ys none d = record {
   is = d.2.is;
 }
 
+-- ---- numbers
+
+pub number_none : (xs : List ℕ) → TakesNumber 0 xs 0 xs
+number_none xs = (record { content = []; size = refl; bytes = tt; is = refl }, refl)
+
+pub number_more : (i value b : ℕ) (xs ys zs : List ℕ) → b < 256 → TakesNumber i xs value ys
+    → TakesByte ys b zs → TakesNumber (i + 1) xs (value * 256 + b) zs
+number_more i value b xs ys zs small t h = (
+  record {
+    content = t.0.content ++ b ∷ [];
+    size = omega (arith, length-append t.0.content (b ∷ []), t.0.size);
+    bytes = IsBytes-append t.0.content (b ∷ []) t.0.bytes (small, tt);
+    is = t.0.is ∙ ap (λ r. t.0.content ++ r) h ∙ sym (append_assoc t.0.content (b ∷ []) zs);
+  },
+  ap (λ n. n * 256 + b) t.1 ∙ sym (fold-append (λ high c. high * 256 + c) 0 t.0.content (b ∷ [])),
+)
+
+pub number_cut : (name : List ℕ) (k i value : ℕ) (xs ys : List ℕ) (e : InputError)
+    (rest : List ℕ) → i < k → k ≤ 8 → TakesNumber i xs value ys → NoByte name k ys e rest
+    → MissingAll name k xs e rest
+number_cut name k i value xs ys e rest less few t h =
+    let size : length xs ≡ i =
+    omega (arith, ap length t.0.is, length-append t.0.content ys, t.0.size, ap length h.0) in
+    let is : Small k ≡ len_of k = rw (lt-ltb k 65536 (omega (arith, few))) refl in
+    (omega (arith, size, less), (h.1.0 ∙ ap (eof name) is, h.1.1))
+
+pub one_more : (value b i : ℕ) → value < 256 ^ i → b < 256 → value * 256 + b < 256 ^ (i + 1)
+one_more value b i h k =
+    let e : 256 ^ suc i ≡ 256 ^ i * 256 = pow-suc 256 i in
+    let s : i + 1 ≡ suc i = omega arith in
+    rw s (omega (arith, e))
+
+pub small_number : (value i : ℕ) → value < 256 ^ i → i ≤ 8 → value < 2 ^ 64
+small_number value i h le =
+    omega (arith, pow-le-pow_right {n = 256} (omega arith) {i = i} {j = 8} le)
+
 -- ---- arguments
 
 pub says_width : (i : ℕ) (w : Width) → info_of i ≡ wide w → WidthSays w i
 says_width i w e = subst (InfoSays i) e (info_says i)
 
-pub width_is : (w : Width) (i k : ℕ) (a : Additional) → info_of i ≡ wide w
-    → a ≡ additional_of (info_of i) → a ≡ Wide k → byte_count w ≡ k
-width_is w i k a is by at =
-    let e : additional_of (info_of i) ≡ Wide (byte_count w) = ap additional_of is in cc
-
-cut_at : (o : Option InputError) (name : List ℕ) (k : ℕ) (w : Width) (xs : List ℕ)
-    (new : Option (List ℕ)) → byte_count w ≡ k
-    → IfSome o (λ z. (ys : List ℕ) × (new ≡ Some ys) × (number_on name k k 0 xs ≡ Err (z, ys)))
-    → IfSome o (λ z. (ys : List ℕ) × (new ≡ Some ys) × MissingAll name (byte_count w) xs z ys)
-cut_at None name k w xs new size h = tt
-cut_at (Some z) name k w xs new size h =
-    let c = number_cut name k k 0 xs z h.0 h.2 in
-    (h.0, h.1, (omega (arith, c.0, size), (c.1 ∙ ap (eof name) (small w k size), c.2)))
-  where
-    small : (w : Width) (k : ℕ) → byte_count w ≡ k → Small k ≡ len_of (byte_count w)
-    small in_first k e = ap Small (sym e)
-    small one k e = ap Small (sym e)
-    small two k e = ap Small (sym e)
-    small four k e = ap Small (sym e)
-    small eight k e = ap Small (sym e)
-
-pub argument_cut : {E : Type 0} (name : List ℕ) (w : Width) (first k : ℕ) {a b : View}
-    {e : DecodeError E} → byte_count w ≡ k → Runs {V = ℕ} (number_on name k k 0) a b (Err e)
-    → Does {V = ℕ} (ArgumentAt w first) (MissingAll name (byte_count w)) a b (Err e)
-argument_cut name w first k {b = b} {e = e} size p = record {
-  moves = moves_err p.moves;
-  ok = tt;
-  err = λ xs known. cut_at (input_error_of e) name k w xs b.known size (p.answers xs known);
-}
+-- the additional information says a width
+pub wide_is : (i : Info) (count : ℕ) → Wide count ≡ additional_of i
+    → (w : Width) × (i ≡ wide w) × (byte_count w ≡ count)
+wide_is (wide w) count e = (w, refl, cc)
+wide_is indefinite_ended count e = cc
+wide_is reserved count e = cc

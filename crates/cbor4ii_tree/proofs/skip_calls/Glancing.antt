@@ -1,25 +1,29 @@
 -- Heads that stand whole in what is shown.
-use Rattle.std.proofs.Common.{◌≡◌, ◌≢◌, ℕ, suc, ◌+◌, ◌-◌, ◌%◌, ◌<◌, ◌≤◌, List, [], ◌∷◌, ◌++◌}
+use Rattle.std.proofs.Common.{◌≡◌, ◌≢◌, ℕ, suc, ◌+◌, ◌-◌, ◌%◌, ◌<◌, ◌≤◌, List, ◌∷◌, ◌++◌}
 use Rattle.std.proofs.Common.{length, take, drop, refl, sym, ap, ◌∙◌, subst, arith, append_assoc}
 use Rattle.std.proofs.Common.{take-append-drop, length-append, length-drop}
 use Rattle.std.proofs.lemmas.List.{length-take-le}
 use Rattle.std.specs.Int.{bytes_high_first}
 use Rattle.cbor4ii_items.specs.Head.{Width, byte_count, HeadFits, additional, ArgumentAfter}
-use Rattle.cbor4ii_items.specs.{Head.{IsBytes, break}, Initial.{info_of, wide, initial}}
+use Rattle.cbor4ii_items.specs.Head.{IsBytes, break}
+use Rattle.cbor4ii_items.specs.Initial.{info_of, wide, initial}
 use Rattle.cbor4ii_items.specs.Laws.Heads.{info-additional, length-bytes_high_first, same_wide}
 use Rattle.cbor4ii_items.specs.Laws.Prefixes.{drop_more}
-use Rattle.cbor4ii_tree.specs.{HeadParts.ArgumentAt, InputError.InputError, Runs.IsLeafAt}
-use Rattle.cbor4ii_tree.specs.{declared.skip.After.After, declared.skip.After.TheVariants.Nothing}
-use Rattle.cbor4ii_tree.specs.{Ahead.{BeginsHead, BeginsWithBreak}, Cost.Budget, Skipping.start_of}
-use Rattle.cbor4ii_tree.specs.Skipping.{Leads, RejectsSkippingAfter}
-use Rattle.cbor4ii_tree.specs.declared.skip.After.TheVariants.{Bytes, Items, Members, Indefinite}
-use Rattle.cbor4ii_tree.specs.declared.skip.After.TheVariants.{IndefiniteMembers}
+use Rattle.cbor4ii_tree.specs.Cost.{Budget}
+use Rattle.cbor4ii_tree.specs.HeadParts.{ArgumentAt}
+use Rattle.cbor4ii_tree.specs.Runs.{IsLeafAt}
+use Rattle.cbor4ii_tree.specs.Skipping.{start_of, Leads, RejectsSkippingAfter}
+use Rattle.cbor4ii_tree.specs.InputError.{InputError}
 use Rattle.cbor4ii_tree.specs.declared.skip.Start.{Start}
+use Rattle.cbor4ii_tree.specs.Ahead.{BeginsHead}
+use Rattle.cbor4ii_tree.specs.declared.skip.After.{After}
+use Rattle.cbor4ii_tree.specs.declared.skip.After.TheVariants.{Nothing, Bytes, Items, Members}
+use Rattle.cbor4ii_tree.specs.declared.skip.After.TheVariants.{Indefinite, IndefiniteMembers}
+use Rattle.cbor4ii_tree.specs.declared.skip.Start.TheVariants as start
 use Rattle.cbor4ii_tree.proofs.heads.Inverse.{IsBytes-take, IsBytes-drop}
 use Rattle.cbor4ii_tree.proofs.skip_calls.Leading.{whole, content_info, items_info, members_info}
 use Rattle.cbor4ii_tree.proofs.skip_calls.Leading.{tag_info, indefinite_leads}
 use Rattle.cbor4ii_tree.proofs.skip_calls.Leading.{indefinite_members_leads}
-use Rattle.cbor4ii_tree.specs.declared.skip.Start.TheVariants as start
 
 -- ---- an item that holds no other
 
@@ -44,9 +48,11 @@ sees_leaf size shown some l fresh = record {
 
 -- so many bytes after the first
 after_first : (size k : ℕ) (trailing : After) (b : ℕ) (bs : List ℕ) → size ≡ suc k → b < 256
-    → k ≤ length bs → IsBytes (take k bs) → ((inner : Budget) (ys : List ℕ) (e : InputError)
-    (rest : List ℕ) → RejectsSkippingAfter trailing inner ys e rest → b ≢ break) → ((inner : Budget)
-    (after : List ℕ) → Leads inner (b ∷ (bs ++ after)) trailing (drop k bs ++ after))
+    → k ≤ length bs → IsBytes (take k bs)
+    → ((inner : Budget) (ys : List ℕ) (e : InputError) (rest : List ℕ)
+    → RejectsSkippingAfter trailing inner ys e rest → b ≢ break)
+    → ((inner : Budget) (after : List ℕ)
+    → Leads inner (b ∷ (bs ++ after)) trailing (drop k bs ++ after))
     → BeginsHead size trailing (b ∷ bs)
 after_first size k trailing b bs e small h fresh other f =
     subst (λ j. BeginsHead j trailing (b ∷ bs)) (sym e) (record {
@@ -147,17 +153,10 @@ sees_indefinite b bs small s =
     (λ _ _ _ _ _. other_byte b start.Indefinite s (λ u. cc))
     (λ inner after. indefinite_leads inner b small s (bs ++ after))
 
-pub sees_indefinite_members : (b : ℕ) (bs : List ℕ) → b < 256
-    → start_of (initial b) ≡ start.IndefiniteMembers → BeginsHead 1 IndefiniteMembers (b ∷ bs)
+pub sees_indefinite_members : (b : ℕ) (bs : List ℕ) → b < 256 → start_of (initial b) ≡
+    start.IndefiniteMembers
+    → BeginsHead 1 IndefiniteMembers (b ∷ bs)
 sees_indefinite_members b bs small s =
     after_first 1 0 IndefiniteMembers b bs refl small (omega arith) tt
     (λ _ _ _ _ _. other_byte b start.IndefiniteMembers s (λ u. cc))
     (λ inner after. indefinite_members_leads inner b small s (bs ++ after))
-
--- ---- a break
-
-pub first_break : (shown : List ℕ) → BeginsWithBreak shown
-    → (take 1 shown ≡ break ∷ []) × IsBytes (take 1 shown)
-first_break [] h = absurd (omega (arith, h.some))
-first_break (b ∷ bs) h =
-    (ap (λ j. j ∷ []) h.is, (subst (λ j. j < 256) (sym h.is) (omega arith), tt))

@@ -1,40 +1,57 @@
 -- What a head says of the item that it begins, where the item is skipped.
 use Rattle.std.proofs.Common.{◌≡◌, ℕ, zero, suc, ◌+◌, ◌*◌, ◌%◌, ◌<◌, ◌⊎◌, inl, inr, List, [], ◌∷◌}
-use Rattle.std.proofs.Common.{◌++◌, length, refl, sym, ap, ap₂, ◌∙◌, subst, arith, append_assoc}
-use Rattle.std.proofs.{Common.{append-nil, lt-ltb}, lemmas.List.nil_from_length}
-use Rattle.cbor4ii_items.specs.{Budget.CostFits, Head.{Width, in_first, one, two, four, eight}}
-use Rattle.cbor4ii_items.specs.Head.{byte_count, HeadFits, head, indefinite_head, break}
+use Rattle.std.proofs.Common.{◌++◌, length, Some, None, refl, sym, ap, ap₂, ◌∙◌, subst, arith}
+use Rattle.std.proofs.Common.{append_assoc, append-nil, lt-ltb}
+use Rattle.std.proofs.lemmas.List.{nil_from_length}
+use Rattle.cbor4ii_items.specs.Head.{Width, in_first, one, two, four, eight, byte_count, HeadFits}
+use Rattle.cbor4ii_items.specs.Head.{head, indefinite_head, break}
 use Rattle.cbor4ii_items.specs.Initial.{sign_major, kind_major, precision_bytes, info_of, wide}
+use Rattle.cbor4ii_items.specs.Initial.{Info, indefinite_ended, bad_int, other_simple}
 use Rattle.cbor4ii_items.specs.Initial.{Initial, starts_int, starts_string, starts_chunks}
 use Rattle.cbor4ii_items.specs.Initial.{bad_string, starts_array, starts_indefinite_array}
-use Rattle.cbor4ii_items.specs.Initial.{bad_array, starts_map, starts_indefinite_map, bad_map}
-use Rattle.cbor4ii_items.specs.Initial.{starts_tag, bad_tag, starts_simple, starts_bits, initial}
-use Rattle.cbor4ii_items.specs.{Initial.{Kind, Precision, Sign, Simple}, Laws.Answering.fits_zero}
+use Rattle.cbor4ii_items.specs.Initial.{bad_array}
+use Rattle.cbor4ii_items.specs.Initial.{starts_map, starts_indefinite_map, bad_map, starts_tag}
+use Rattle.cbor4ii_items.specs.Initial.{bad_tag}
+use Rattle.cbor4ii_items.specs.Initial.{starts_simple, starts_bits, initial, Kind, Precision, Sign}
+use Rattle.cbor4ii_items.specs.Initial.{Simple}
+use Rattle.cbor4ii_items.specs.Budget.{CostFits}
 use Rattle.cbor4ii_items.specs.Magnitude.{number_of}
-use Rattle.cbor4ii_tree.proofs.{answers.Nesting.skipping_by_parts, heads.Inverse.number_of_bytes}
-use Rattle.cbor4ii_tree.proofs.{parts.Sound.counted, skip_calls.Bytes.says_width, heads.Means.Means}
-use Rattle.cbor4ii_tree.proofs.{heads.Means.{means, HeadByte, WidthSays}, parts.Rejecting.skips_by}
-use Rattle.cbor4ii_tree.proofs.parts.Rejecting.{headed_by}
-use Rattle.cbor4ii_tree.specs.Cost.{Budget, skip_cost, greatest_skip_cost, greatest_pair_skip_cost}
-use Rattle.cbor4ii_tree.specs.{HeadParts.{ArgumentAt, DropsBytes}, InputError.InputError}
-use Rattle.cbor4ii_tree.specs.{InputError.{mismatch, tag_name, ignored_any}, Laws.Binds.step_up}
-use Rattle.cbor4ii_tree.specs.{Laws.Wholes.{all_skippable, all_pairs_skippable}, Rejections.Missing}
-use Rattle.cbor4ii_tree.specs.{Rejections.{MissingAll, RejectsAtStep}, Runs.TakesLeaf}
-use Rattle.cbor4ii_tree.specs.Skipping.{start_of, SkipsItems, RejectsSkippingItems, SkipsUnder}
-use Rattle.cbor4ii_tree.specs.Skipping.{RejectsSkippingUnder, Leads}
-use Rattle.cbor4ii_tree.specs.{SkippingRejects.{SkippingRejectsBy, SkippingRejects}, Tree.Tree}
-use Rattle.cbor4ii_tree.specs.Tree.{Trees, no_trees, tree, Pairs, no_pairs, pair, int, string}
+use Rattle.cbor4ii_items.specs.Laws.Answering.{fits_zero}
+use Rattle.cbor4ii_tree.specs.Tree.{Tree, Trees, no_trees, tree, Pairs, no_pairs, pair, int, string}
 use Rattle.cbor4ii_tree.specs.Tree.{chunked, array, array_indefinite, map_of, map_indefinite}
-use Rattle.cbor4ii_tree.specs.Tree.{tagged, simple, bits, count, pair_count, bytes, bytes_all}
-use Rattle.cbor4ii_tree.specs.Tree.{bytes_pairs, Loose, LooseAll, LoosePairs}
+use Rattle.cbor4ii_tree.specs.Tree.{tagged, simple}
+use Rattle.cbor4ii_tree.specs.Tree.{bits, count, pair_count, bytes, bytes_all, bytes_pairs, Loose}
+use Rattle.cbor4ii_tree.specs.Tree.{LooseAll, LoosePairs}
+use Rattle.cbor4ii_tree.specs.Cost.{Budget, skip_cost, greatest_skip_cost, greatest_pair_skip_cost}
+use Rattle.cbor4ii_tree.specs.InputError.{InputError, tag_name, ignored_any}
+use Rattle.cbor4ii_tree.specs.Rejections.{Missing, MissingAll, RejectsAtStep}
+use Rattle.cbor4ii_tree.specs.SkippingRejects.{SkippingRejectsBy, SkippingRejects}
+use Rattle.cbor4ii_tree.specs.SkippingRejects.{SkippingRejectsFrom}
+use Rattle.cbor4ii_tree.specs.HeadParts.{ArgumentAt, ArgumentBy, CutBy, DropsBytes}
+use Rattle.cbor4ii_tree.specs.HeadParts.{NoByte}
+use Rattle.cbor4ii_tree.specs.Runs.{TakesLeaf}
+use Rattle.cbor4ii_tree.specs.Skipping.{start_of, SkipsItems, RejectsSkippingItems, SkipsUnder}
+use Rattle.cbor4ii_tree.specs.Skipping.{RejectsSkippingUnder, Leads, TakesFirst, rejection_of}
+use Rattle.cbor4ii_tree.specs.Skipping.{additional_of, head_name, trailing_of}
+use Rattle.cbor4ii_tree.specs.declared.skip.Additional.TheVariants.{Wide}
+use Rattle.cbor4ii_tree.specs.declared.skip.After.{After}
 use Rattle.cbor4ii_tree.specs.declared.skip.After.TheVariants.{Nothing, Bytes, Items, Members}
 use Rattle.cbor4ii_tree.specs.declared.skip.After.TheVariants.{Indefinite, IndefiniteMembers}
+use Rattle.cbor4ii_tree.specs.declared.skip.Start.{Start}
 use Rattle.cbor4ii_tree.specs.declared.skip.Start.TheVariants as start
+use Rattle.cbor4ii_tree.specs.Laws.Binds.{step_up}
+use Rattle.cbor4ii_tree.proofs.answers.Nesting.{skipping_by_parts}
+use Rattle.cbor4ii_tree.proofs.heads.Inverse.{number_of_bytes}
+use Rattle.cbor4ii_tree.proofs.heads.Means.{Means, means, HeadByte, WidthSays}
+use Rattle.cbor4ii_tree.proofs.skip_calls.Bytes.{says_width, wide_is}
+use Rattle.cbor4ii_tree.proofs.parts.Sound.{counted}
+use Rattle.cbor4ii_tree.specs.Laws.Wholes.{all_skippable, all_pairs_skippable}
 
 -- ---- which row
 
-pub starts_bytes : (i : Initial) (k : ℕ) → start_of i ≡ start.Bytes k → ((s : Sign) × (w : Width)
-    × (i ≡ starts_int s w) × (byte_count w ≡ k)) ⊎ (((s : Simple) × (i ≡ starts_simple s) × (k ≡ 0))
+pub starts_bytes : (i : Initial) (k : ℕ) → start_of i ≡ start.Bytes k
+    → ((s : Sign) × (w : Width) × (i ≡ starts_int s w) × (byte_count w ≡ k))
+    ⊎ (((s : Simple) × (i ≡ starts_simple s) × (k ≡ 0))
     ⊎ ((p : Precision) × (i ≡ starts_bits p) × (precision_bytes p ≡ k)))
 starts_bytes (starts_int s w) k e = inl (s, w, refl, (cc))
 starts_bytes (starts_simple s) k e = inr (inl (s, refl, (cc)))
@@ -72,33 +89,42 @@ starts_indefinite_members _ e = cc
 -- ---- where it fails
 
 pub rejects_by : (inner : Budget) (i : Initial) (b : ℕ) (bs : List ℕ) (e : InputError)
-    (rest : List ℕ) → initial b ≡ i → SkippingRejectsBy (λ part. SkippingRejects part inner) inner i
-    b bs e rest → RejectsSkippingUnder inner (b ∷ bs) e rest
+    (rest : List ℕ)
+    → initial b ≡ i → SkippingRejectsBy (λ part. SkippingRejects part inner) inner i b bs e rest
+    → RejectsSkippingUnder inner (b ∷ bs) e rest
 rejects_by inner i b bs e rest is h budget step =
-    (skipping_by_parts (b ∷ bs) budget e rest).1 (subst (λ o. RejectsAtStep ignored_any o (b ∷ bs)
-    (λ inner. SkippingRejectsBy (λ part. SkippingRejects part inner) inner (initial b) b bs) e rest)
-    (sym step) (subst (λ j. SkippingRejectsBy (λ part. SkippingRejects part inner) inner j b bs e
-    rest) (sym is) h))
+    (skipping_by_parts (b ∷ bs) budget e rest).1
+    (subst (λ o. RejectsAtStep ignored_any o (b ∷ bs) (λ inner. SkippingRejectsBy
+    (λ part. SkippingRejects part inner) inner (initial b) b bs) e rest) (sym step)
+    (subst (λ j. SkippingRejectsBy (λ part. SkippingRejects part inner) inner j b bs e rest)
+    (sym is) h))
 
-pub is_taken : (inner : Budget) (b : ℕ) (bs : List ℕ) → start_of (initial b) ≡ start.Taken
-    → RejectsSkippingUnder inner (b ∷ bs) (mismatch ignored_any b) bs
-is_taken inner b bs e = by_row (initial b) refl e
+-- no item begins with the first byte, which is taken or stays
+pub begins_none : (inner : Budget) (b : ℕ) (z : InputError) (bs ys : List ℕ)
+    → rejection_of (start_of (initial b)) b ≡ Some z → (TakesFirst (start_of (initial b)) → ys ≡ bs)
+    → ((TakesFirst (start_of (initial b)) → ⊥) → ys ≡ b ∷ bs)
+    → RejectsSkippingUnder inner (b ∷ bs) z ys
+begins_none inner b z bs ys e t n = by_row (initial b) refl e t n
   where
-    by_row : (i : Initial) → initial b ≡ i → start_of i ≡ start.Taken
-        → RejectsSkippingUnder inner (b ∷ bs) (mismatch ignored_any b) bs
-    by_row (bad_string k) is e = rejects_by inner (bad_string k) b bs _ _ is (refl, refl)
-    by_row bad_array is e = rejects_by inner bad_array b bs _ _ is (refl, refl)
-    by_row bad_map is e = rejects_by inner bad_map b bs _ _ is (refl, refl)
-    by_row _ is e = cc
+    by_row : (i : Initial) → initial b ≡ i → rejection_of (start_of i) b ≡ Some z
+        → (TakesFirst (start_of i) → ys ≡ bs) → ((TakesFirst (start_of i) → ⊥) → ys ≡ b ∷ bs)
+        → RejectsSkippingUnder inner (b ∷ bs) z ys
+    by_row (bad_int s) is e t n = rejects_by inner (bad_int s) b bs _ _ is (cc, n (λ x. x))
+    by_row (bad_string k) is e t n = rejects_by inner (bad_string k) b bs _ _ is (cc, t tt)
+    by_row bad_array is e t n = rejects_by inner bad_array b bs _ _ is (cc, t tt)
+    by_row bad_map is e t n = rejects_by inner bad_map b bs _ _ is (cc, t tt)
+    by_row bad_tag is e t n = rejects_by inner bad_tag b bs _ _ is (cc, t tt)
+    by_row other_simple is e t n = rejects_by inner other_simple b bs _ _ is (cc, n (λ x. x))
+    by_row _ is e t n = cc
 
-pub no_tag : (inner : Budget) (b : ℕ) (bs : List ℕ) → start_of (initial b) ≡ start.NoTag
-    → RejectsSkippingUnder inner (b ∷ bs) (mismatch tag_name b) bs
-no_tag inner b bs e = by_row (initial b) refl e
-  where
-    by_row : (i : Initial) → initial b ≡ i → start_of i ≡ start.NoTag
-        → RejectsSkippingUnder inner (b ∷ bs) (mismatch tag_name b) bs
-    by_row bad_tag is e = rejects_by inner bad_tag b bs _ _ is (refl, refl)
-    by_row _ is e = cc
+-- no byte is left
+pub no_first : (inner : Budget) (xs : List ℕ) (e : InputError) (rest : List ℕ)
+    → NoByte ignored_any 1 xs e rest → RejectsSkippingUnder inner xs e rest
+no_first inner xs e rest h budget step =
+    subst (λ ys. SkippingRejects ys budget e rest) (sym h.0)
+    ((skipping_by_parts [] budget e rest).1
+    (subst (λ o. RejectsAtStep ignored_any o [] (λ inner. SkippingRejectsFrom
+    (λ part. SkippingRejects part inner) inner []) e rest) (sym step) h.1))
 
 -- ---- heads
 
@@ -179,8 +205,12 @@ pub whole : (inner : Budget) (xs ys : List ℕ) → TakesLeaf xs ys → Leads in
 whole inner xs ys (t, l, is) = record {
   skips = λ rest e budget step. (
     t,
-    (skips_by l.0 (subst (λ c. CostFits c budget) (sym l.1) (step_up budget inner 0 step
-        (fits_zero inner))) (is ∙ ap (λ r. bytes t ++ r) (sym e))),
+    record {
+      loose = l.0;
+      fits = subst (λ c. CostFits c budget)
+          (sym l.1) (step_up budget inner 0 step (fits_zero inner));
+      begins = is ∙ ap (λ r. bytes t ++ r) (sym e);
+    },
   );
   rejects = λ e rest h. absurd h;
 }
@@ -236,6 +266,20 @@ argument_low two b bs is low = absurd (omega (arith, says_width (b % 32) two is,
 argument_low four b bs is low = absurd (omega (arith, says_width (b % 32) four is, low))
 argument_low eight b bs is low = absurd (omega (arith, says_width (b % 32) eight is, low))
 
+pub first_argument : (i : Info) (b : ℕ) (bs : List ℕ) → info_of (b % 32) ≡ i
+    → Wide 0 ≡ additional_of i → ArgumentBy i b bs (b % 32) bs
+first_argument i b bs is says =
+    let w = wide_is i 0 says in
+    subst (λ j. ArgumentBy j b bs (b % 32) bs) (sym w.1) (argument_low w.0 b bs (is ∙ w.1)
+    (low w.0 w.2 (says_width (b % 32) w.0 (is ∙ w.1))))
+  where
+    low : (w : Width) → byte_count w ≡ 0 → WidthSays w (b % 32) → b % 32 < 24
+    low in_first e s = s
+    low one e s = absurd (omega (arith, e))
+    low two e s = absurd (omega (arith, e))
+    low four e s = absurd (omega (arith, e))
+    low eight e s = absurd (omega (arith, e))
+
 -- a head alone
 emptied : (major n : ℕ) (w : Width) (b : ℕ) (bs : List ℕ) → n ≡ 0 → b ∷ bs ≡ head major n w ++ bs
     → b ∷ bs ≡ (head major 0 w ++ []) ++ bs
@@ -268,11 +312,13 @@ empty_members b bs small s none =
 module _ (inner : Budget) (b : ℕ) (small : b < 256) where
   -- strings
   module _ (s : start_of (initial b) ≡ start.Content) where
-    pub content_info : (w : Width) × (info_of (b % 32) ≡ wide w) × ((bs : List ℕ) (e : InputError)
-        (rest : List ℕ) → MissingAll ignored_any (byte_count w) bs e rest → RejectsSkippingUnder
-        inner (b ∷ bs) e rest) × ((bs ys : List ℕ) (n : ℕ) → ArgumentAt w b bs n ys → Leads inner
-        (b ∷ bs) (Bytes n) ys) × ((bs ys zs : List ℕ) (n : ℕ) → ArgumentAt w b bs n ys → DropsBytes
-        n ys zs → TakesLeaf (b ∷ bs) zs)
+    pub content_info : (w : Width) × (info_of (b % 32) ≡ wide w)
+        × ((bs : List ℕ) (e : InputError) (rest : List ℕ) → MissingAll ignored_any
+        (byte_count w) bs e
+        rest → RejectsSkippingUnder inner (b ∷ bs) e rest)
+        × ((bs ys : List ℕ) (n : ℕ) → ArgumentAt w b bs n ys → Leads inner (b ∷ bs) (Bytes n) ys)
+        × ((bs ys zs : List ℕ) (n : ℕ) → ArgumentAt w b bs n ys → DropsBytes n ys zs
+        → TakesLeaf (b ∷ bs) zs)
     content_info =
         let x = starts_content (initial b) s in
         let m = row b (starts_string x.0 x.1) small x.2 in
@@ -289,31 +335,43 @@ module _ (inner : Budget) (b : ℕ) (small : b < 256) where
           λ bs ys n a. record {
             skips = λ rest d. (whole inner (b ∷ bs) rest (leaf bs ys rest n a d)).skips rest refl;
             rejects = λ e rest h. rejects_by inner (starts_string x.0 x.1) b bs e rest x.2
-                (inr (headed_by n ys a.fits (head_is (kind_major x.0) x.1 b n bs ys m a) h));
+                (inr (record {
+                  argument = n;
+                  after = ys;
+                  fits = a.fits;
+                  is = head_is (kind_major x.0) x.1 b n bs ys m a;
+                  stopped = h;
+                }));
           },
           leaf,
         )
 
   -- so many items after a head
   items_lead : (major n : ℕ) (w : Width) (bs ys : List ℕ) (make : Trees → Tree)
-      → b ∷ bs ≡ head major n w ++ ys → ((ts : Trees) → count ts ≡ n → LooseAll ts → Loose (make ts)
-      × (skip_cost (make ts) ≡ 1 + greatest_skip_cost ts) × (bytes (make ts) ≡ head major n w
-      ++ bytes_all ts)) → (rest : List ℕ) → SkipsItems n inner ys rest
-      → SkipsUnder inner (b ∷ bs) rest
+      → b ∷ bs ≡ head major n w ++ ys
+      → ((ts : Trees) → count ts ≡ n → LooseAll ts
+      → Loose (make ts) × (skip_cost (make ts) ≡ 1 + greatest_skip_cost ts)
+      × (bytes (make ts) ≡ head major n w ++ bytes_all ts))
+      → (rest : List ℕ) → SkipsItems n inner ys rest → SkipsUnder inner (b ∷ bs) rest
   items_lead major n w bs ys make is made rest h budget step =
       let all = all_skippable h.0 inner h.2 in
       let t = made h.0 h.1 all.0 in (
         make h.0,
-        (skips_by t.0 (subst (λ c. CostFits c budget) (sym t.1) (step_up budget inner _ step all.1))
-            (is ∙ (ap (λ r. head major n w ++ r) h.3 ∙ (sym (append_assoc (head major n w)
-            (bytes_all h.0) rest) ∙ ap (λ r. r ++ rest) (sym t.2))))),
+        record {
+          loose = t.0;
+          fits = subst (λ c. CostFits c budget) (sym t.1) (step_up budget inner _ step all.1);
+          begins =
+              is ∙ (ap (λ r. head major n w ++ r) h.3 ∙ (sym (append_assoc (head major n w)
+              (bytes_all h.0) rest) ∙ ap (λ r. r ++ rest) (sym t.2)));
+        },
       )
 
   module _ (s : start_of (initial b) ≡ start.Items) where
-    pub items_info : (w : Width) × (info_of (b % 32) ≡ wide w) × ((bs : List ℕ) (e : InputError)
-        (rest : List ℕ) → MissingAll ignored_any (byte_count w) bs e rest → RejectsSkippingUnder
-        inner (b ∷ bs) e rest) × ((bs ys : List ℕ) (n : ℕ) → ArgumentAt w b bs n ys → Leads inner
-        (b ∷ bs) (Items n) ys)
+    pub items_info : (w : Width) × (info_of (b % 32) ≡ wide w)
+        × ((bs : List ℕ) (e : InputError) (rest : List ℕ) → MissingAll ignored_any
+        (byte_count w) bs e
+        rest → RejectsSkippingUnder inner (b ∷ bs) e rest)
+        × ((bs ys : List ℕ) (n : ℕ) → ArgumentAt w b bs n ys → Leads inner (b ∷ bs) (Items n) ys)
     items_info =
         let x = starts_items (initial b) s in
         let m = row b (starts_array x.0) small x.1 in (
@@ -329,8 +387,13 @@ module _ (inner : Budget) (b : ℕ) (small : b < 256) where
                   ap (λ j. head 4 j x.0 ++ bytes_all ts) c,
                 ));
             rejects = λ e rest h.
-                rejects_by inner (starts_array x.0) b bs e rest x.1 (inr (headed_by n ys a.fits
-                (head_is 4 x.0 b n bs ys m a) h));
+                rejects_by inner (starts_array x.0) b bs e rest x.1 (inr (record {
+                  argument = n;
+                  after = ys;
+                  fits = a.fits;
+                  is = head_is 4 x.0 b n bs ys m a;
+                  stopped = h;
+                }));
           },
         )
 
@@ -362,19 +425,31 @@ module _ (inner : Budget) (b : ℕ) (small : b < 256) where
                 let all = all_skippable h.0 inner h.2 in
                 let t = one_tree x.0 n a.fits h.0 h.1 all.0 in (
                   t.0,
-                  (skips_by t.1 (subst (λ c. CostFits c budget) (sym t.2) (step_up budget inner _
-                      step all.1)) (head_is 6 x.0 b n bs ys m a ∙ (ap (λ r. head 6 n x.0 ++ r) h.3
-                      ∙ (sym (append_assoc (head 6 n x.0) (bytes_all h.0) rest) ∙ ap (λ r. r
-                      ++ rest)
-                      (sym t.3))))),
+                  record {
+                    loose = t.1;
+                    fits =
+                        subst (λ c. CostFits c budget) (sym t.2)
+                        (step_up budget inner _ step all.1);
+                    begins =
+                        head_is 6 x.0 b n bs ys m a ∙ (ap (λ r. head 6 n x.0 ++ r) h.3
+                        ∙ (sym (append_assoc (head 6 n x.0) (bytes_all h.0) rest)
+                        ∙ ap (λ r. r ++ rest) (sym t.3)));
+                  },
                 );
             rejects = λ e rest h. rejects_by inner (starts_tag x.0) b bs e rest x.1
-                (inr (headed_by n ys a.fits (head_is 6 x.0 b n bs ys m a) (only ys e rest h)));
+                (inr (record {
+                  argument = n;
+                  after = ys;
+                  fits = a.fits;
+                  is = head_is 6 x.0 b n bs ys m a;
+                  stopped = only ys e rest h;
+                }));
           },
         )
       where
-        only : (ys : List ℕ) (e : InputError) (rest : List ℕ)
-            → RejectsSkippingItems 1 inner ys e rest → SkippingRejects ys inner e rest
+        only : (ys : List ℕ) (e : InputError) (rest : List ℕ) → RejectsSkippingItems 1 inner
+            ys e rest
+            → SkippingRejects ys inner e rest
         only ys e rest h = at_front h.prefix h.few h.is
           where
             at_front : (ts : Trees) → count ts < 1 → ys ≡ bytes_all ts ++ h.after
@@ -400,10 +475,11 @@ module _ (inner : Budget) (b : ℕ) (small : b < 256) where
       )
 
   module _ (s : start_of (initial b) ≡ start.Members) where
-    pub members_info : (w : Width) × (info_of (b % 32) ≡ wide w) × ((bs : List ℕ) (e : InputError)
-        (rest : List ℕ) → MissingAll ignored_any (byte_count w) bs e rest → RejectsSkippingUnder
-        inner (b ∷ bs) e rest) × ((bs ys : List ℕ) (n : ℕ) → ArgumentAt w b bs n ys → Leads inner
-        (b ∷ bs) (Members n) ys)
+    pub members_info : (w : Width) × (info_of (b % 32) ≡ wide w)
+        × ((bs : List ℕ) (e : InputError) (rest : List ℕ) → MissingAll ignored_any
+        (byte_count w) bs e
+        rest → RejectsSkippingUnder inner (b ∷ bs) e rest)
+        × ((bs ys : List ℕ) (n : ℕ) → ArgumentAt w b bs n ys → Leads inner (b ∷ bs) (Members n) ys)
     members_info =
         let x = starts_members (initial b) s in
         let m = row b (starts_map x.0) small x.1 in (
@@ -415,15 +491,24 @@ module _ (inner : Budget) (b : ℕ) (small : b < 256) where
                 let all = all_skippable h.0 inner h.2 in
                 let t = paired n h.0 h.1 all.0 in (
                   map_of x.0 t.0,
-                  (skips_by (subst (HeadFits x.0) (sym t.1) a.fits, t.2) (subst (λ c. CostFits
-                      (1 + c) budget) (sym t.3) (step_up budget inner _ step all.1)) (counted 5 n
-                      (pair_count t.0) x.0 b bs ys (bytes_pairs t.0) rest (head_is 5 x.0 b n bs ys m
-                      a)
-                      t.1 (h.3 ∙ ap (λ r. r ++ rest) (sym t.4)))),
+                  record {
+                    loose = (subst (HeadFits x.0) (sym t.1) a.fits, t.2);
+                    fits =
+                        subst (λ c. CostFits (1 + c) budget) (sym t.3)
+                        (step_up budget inner _ step all.1);
+                    begins =
+                        counted 5 n (pair_count t.0) x.0 b bs ys (bytes_pairs t.0) rest
+                        (head_is 5 x.0 b n bs ys m a) t.1 (h.3 ∙ ap (λ r. r ++ rest) (sym t.4));
+                  },
                 );
             rejects = λ e rest h.
-                rejects_by inner (starts_map x.0) b bs e rest x.1 (inr (headed_by n ys a.fits
-                (head_is 5 x.0 b n bs ys m a) h));
+                rejects_by inner (starts_map x.0) b bs e rest x.1 (inr (record {
+                  argument = n;
+                  after = ys;
+                  fits = a.fits;
+                  is = head_is 5 x.0 b n bs ys m a;
+                  stopped = h;
+                }));
           },
         )
 
@@ -434,8 +519,11 @@ module _ (inner : Budget) (b : ℕ) (small : b < 256) where
     | inl x ↦ (let m : Means b (starts_chunks x.0) = row b (starts_chunks x.0) small x.1 in record {
       skips = λ rest h budget step. let all = all_skippable h.0 inner h.1 in (
         chunked x.0 h.0,
-        (skips_by all.0 (step_up budget inner _ step all.1) (ended (indefinite_head
-            (kind_major x.0)) (bytes_all h.0) ys rest m h.2)),
+        record {
+          loose = all.0;
+          fits = step_up budget inner _ step all.1;
+          begins = ended (indefinite_head (kind_major x.0)) (bytes_all h.0) ys rest m h.2;
+        },
       );
       rejects = λ e rest h. rejects_by inner (starts_chunks x.0) b ys e rest x.1 h;
     })
@@ -443,8 +531,11 @@ module _ (inner : Budget) (b : ℕ) (small : b < 256) where
         record {
           skips = λ rest h budget step. let all = all_skippable h.0 inner h.1 in (
             array_indefinite h.0,
-            (skips_by all.0 (step_up budget inner _ step all.1) (ended (indefinite_head 4)
-                (bytes_all h.0) ys rest m h.2)),
+            record {
+              loose = all.0;
+              fits = step_up budget inner _ step all.1;
+              begins = ended (indefinite_head 4) (bytes_all h.0) ys rest m h.2;
+            },
           );
           rejects = λ e rest h. rejects_by inner starts_indefinite_array b ys e rest x h;
         })
@@ -461,8 +552,67 @@ module _ (inner : Budget) (b : ℕ) (small : b < 256) where
       let m : Means b starts_indefinite_map = row b starts_indefinite_map small x in record {
         skips = λ rest h budget step. let all = all_pairs_skippable h.0 inner h.1 in (
           map_indefinite h.0,
-          (skips_by all.0 (step_up budget inner _ step all.1) (ap₂ ◌∷◌ m (h.2 ∙ sym (append_assoc
-              (bytes_pairs h.0) (break ∷ []) rest)))),
+          record {
+            loose = all.0;
+            fits = step_up budget inner _ step all.1;
+            begins =
+                ap₂ ◌∷◌ m (h.2 ∙ sym (append_assoc (bytes_pairs h.0) (break ∷ []) rest));
+          },
         );
         rejects = λ e rest h. rejects_by inner starts_indefinite_map b ys e rest x h;
       }
+
+  -- ---- by what begins
+
+  -- what is read of an argument leads on, and where it is cut the item is rejected
+  abbrev Goes : List ℕ → (ℕ → After) → Type 0
+  Goes name lead =
+      ((bs : List ℕ) (e : InputError) (rest : List ℕ) → CutBy name (info_of (b % 32)) bs e rest
+      → RejectsSkippingUnder inner (b ∷ bs) e rest)
+      × ((bs ys : List ℕ) (n : ℕ) → ArgumentBy (info_of (b % 32)) b bs n ys
+      → Leads inner (b ∷ bs) (lead n) ys)
+
+  goes_wide : (name : List ℕ) (lead : ℕ → After) (w : Width) → info_of (b % 32) ≡ wide w
+      → ((bs : List ℕ) (e : InputError) (rest : List ℕ) → MissingAll name (byte_count w) bs e rest
+      → RejectsSkippingUnder inner (b ∷ bs) e rest)
+      → ((bs ys : List ℕ) (n : ℕ) → ArgumentAt w b bs n ys → Leads inner (b ∷ bs) (lead n) ys)
+      → Goes name lead
+  goes_wide name lead w is cut leads = (
+    λ bs e rest h. cut bs e rest (subst (λ i. CutBy name i bs e rest) is h),
+    λ bs ys n h. leads bs ys n (subst (λ i. ArgumentBy i b bs n ys) is h),
+  )
+
+  goes_alone : (name : List ℕ) (major : ℕ) (lead : After) → b ≡ indefinite_head major
+      → ((ys : List ℕ) → Leads inner (b ∷ ys) lead ys) → Goes name (λ n. lead)
+  goes_alone name major lead is leads =
+      let low : b % 32 ≡ 31 = low_byte major 31 b is (omega arith) in
+      let info : info_of (b % 32) ≡ indefinite_ended = rw low refl in (
+        λ bs e rest h. absurd (subst (λ i. CutBy name i bs e rest) info h),
+        λ bs ys n h. let same : ys ≡ bs = subst (λ i. ArgumentBy i b bs n ys) info h in
+            subst (λ zs. Leads inner (b ∷ zs) lead ys) same (leads ys),
+      )
+
+  pub goes : (s : Start) → start_of (initial b) ≡ s → rejection_of s b ≡ None
+      → ((k : ℕ) → s ≡ start.Bytes k → ⊥) → Goes (head_name s) (trailing_of s)
+  goes (start.Bytes k) is r none = absurd (none k refl)
+  goes start.Content is r none =
+      let i = content_info is in goes_wide ignored_any Bytes i.0 i.1 i.2 i.3
+  goes start.Items is r none = let i = items_info is in goes_wide ignored_any Items i.0 i.1 i.2 i.3
+  goes start.Members is r none =
+      let i = members_info is in goes_wide ignored_any Members i.0 i.1 i.2 i.3
+  goes start.Tag is r none =
+      let i = tag_info is in goes_wide tag_name (λ n. Items 1) i.0 i.1 i.2 i.3
+  goes start.Indefinite is r none = elim (starts_indefinite (initial b) is) [
+    | inl x ↦ (let m : Means b (starts_chunks x.0) = row b (starts_chunks x.0) small x.1 in
+        goes_alone ignored_any (kind_major x.0) Indefinite m (indefinite_leads is))
+    | inr x ↦ (let m : Means b starts_indefinite_array = row b starts_indefinite_array small x in
+        goes_alone ignored_any 4 Indefinite m (indefinite_leads is))
+  ]
+  goes start.IndefiniteMembers is r none =
+      let x = starts_indefinite_members (initial b) is in
+      let m : Means b starts_indefinite_map = row b starts_indefinite_map small x in
+      goes_alone ignored_any 5 IndefiniteMembers m (indefinite_members_leads is)
+  goes start.Stays is r none = cc
+  goes start.Taken is r none = cc
+  goes start.NoTag is r none = cc
+  goes start.Unsupported is r none = cc

@@ -1,50 +1,114 @@
 -- Calls of prefixes.
-use Rattle.std.proofs.Common.{◌≡◌, ◌≢◌, ℕ, ◌<◌, ◌≤◌, List, ◌++◌, length, drop, Some, None, Ok, Err}
-use Rattle.std.proofs.Common.{refl, sym, ap, ◌∙◌, subst, arith, take-append-drop}
-use Rattle.std.proofs.lemmas.List.{drop-append-le}
+use Rattle.std.proofs.Common.{◌≡◌, ◌≢◌, ℕ, ◌-◌, ◌<◌, ◌≤◌, List, [], ◌∷◌, ◌++◌, length, take, drop}
+use Rattle.std.proofs.Common.{Some, Ok, Err, refl, sym, ap, ◌∙◌, subst, arith, take-append-drop}
+use Rattle.std.proofs.lemmas.List.{drop-append-le, length-take-le}
 use denote.Ref.{Bor}
-use Rattle.cbor4ii_rw.specs.{declared.error.DecodeError.TheVariants.Eof, declared.error.Len.Len}
-use Rattle.cbor4ii_rw.specs.{Reader.{Advances, KeepsAllButBudget}, View.View}
+use Rattle.cbor4ii_rw.specs.View.{View}
+use Rattle.cbor4ii_rw.specs.Reader.{Advances, KeepsAllButBudget}
+use Rattle.cbor4ii_rw.specs.declared.error.Len.{Len}
 use Rattle.cbor4ii_rw.specs.declared.error.Len.TheVariants.{Small, Big}
-use Rattle.cbor4ii_items.specs.{Laws.Contents.lends_prefix, Laws.Running.{runs_end, runs_peek}}
-use Rattle.cbor4ii_items.specs.Reading.{Runs, peek_at}
-use Rattle.cbor4ii_tree.specs.{Cost.Budget, Does.Does, HeadParts.DropsSome, Prefix.Offers}
-use Rattle.cbor4ii_tree.specs.{declared.ahead.Ahead.Ahead, declared.ahead.Ahead.TheVariants.Run}
-use Rattle.cbor4ii_tree.specs.{declared.ahead.Among.Among, declared.skip.After.After, Ahead.Sees}
-use Rattle.cbor4ii_tree.specs.Ahead.{TakesAhead, TakesHead, Passes, NeverRejects}
-use Rattle.cbor4ii_tree.specs.{Prefix.{FirstByteIs, Ready}, Rejections.Missing}
-use Rattle.cbor4ii_tree.specs.declared.ahead.Ahead.TheVariants.{Head, Break}
-use Rattle.cbor4ii_tree.proofs.{skip_calls.Bytes.{none_shown, some_shown}, skip_calls.Doing.does_ok}
-use Rattle.cbor4ii_tree.proofs.skip_calls.Glancing.{first_break}
+use Rattle.cbor4ii_rw.specs.declared.error.DecodeError.TheVariants.{Eof}
+use Rattle.cbor4ii_items.specs.Head.{IsBytes}
+use Rattle.cbor4ii_items.specs.InputError.{eof, len_of}
+use Rattle.cbor4ii_items.specs.Laws.Contents.{lends_prefix}
+use Rattle.cbor4ii_items.specs.Laws.Running.{shows_kept}
+use Rattle.cbor4ii_tree.specs.Prefix.{Offers, FirstByteIs, Ready}
+use Rattle.cbor4ii_tree.specs.Cost.{Budget}
+use Rattle.cbor4ii_tree.specs.HeadParts.{DropsSome, TakesByte, NoByte}
+use Rattle.cbor4ii_tree.specs.Ahead.{Sees, TakesAhead, TakesHead, Passes, NeverRejects}
+use Rattle.cbor4ii_tree.specs.declared.skip.After.{After}
+use Rattle.cbor4ii_tree.specs.declared.ahead.Among.{Among}
+use Rattle.cbor4ii_tree.specs.declared.ahead.Ahead.{Ahead}
+use Rattle.cbor4ii_tree.specs.declared.ahead.Ahead.TheVariants.{Run, Head, Break}
+use Rattle.cbor4ii_tree.specs.Rejections.{Missing}
+use Rattle.cbor4ii_tree.specs.Does.{Does}
+use Rattle.cbor4ii_tree.proofs.skip_calls.Doing.{Reached, does_ok, does_reject}
+use Rattle.cbor4ii_tree.proofs.skip_calls.Bytes.{len_is}
 
 -- ---- the next byte
 
-pub offers_end : {E : Type 0} {name : Bor (List ℕ)} {expect : ℕ} {a b : View}
-    → Offers 1 (FirstByteIs None) a b
-    → Runs {E = E} (peek_at name.now expect) a b (Err (Eof name (Small expect)))
-offers_end o = runs_end o.shows o.prefix o.is
+front : (b : ℕ) (shown xs : List ℕ) → FirstByteIs b shown → take (length shown) xs ≡ shown
+    → (rest : List ℕ) × (xs ≡ b ∷ rest)
+front b [] xs f h = absurd (f.0 refl)
+front b (s ∷ ss) [] f h = cc
+front b (s ∷ ss) (x ∷ xs) f h = let e : x ≡ s = cc in (xs, ap (λ z. z ∷ xs) (e ∙ sym f.1))
 
-pub offers_byte : {E : Type 0} (name : List ℕ) (expect : ℕ) {byte : ℕ} {a b : View}
-    → Offers 1 (FirstByteIs (Some byte)) a b → Runs {E = E} (peek_at name expect) a b (Ok byte)
-offers_byte {E = E} name expect {a = a} {b = b} o =
-    subst (λ (z : ℕ). Runs {E = E} (peek_at name expect) a b (Ok z)) (sym o.is.1)
-    (runs_peek name expect o.shows o.prefix o.is.0)
+one_byte : (b : ℕ) (shown : List ℕ) → FirstByteIs b shown → IsBytes (take 1 shown)
+one_byte b [] f = tt
+one_byte b (s ∷ ss) f = (subst (λ z. z < 256) f.1 f.2, tt)
+
+module _ {want b : ℕ} {a m : View} (o : Offers want (FirstByteIs b) a m) where
+  pub byte_stays : Reached (λ xs ys. (ys ≡ xs) × (rest : List ℕ) × (xs ≡ b ∷ rest)) a m
+  byte_stays = record {
+    kept = shows_kept o.shows;
+    at = λ xs known.
+        let f = front b o.shown xs o.is (o.prefix xs known).begins in
+        (xs, o.shows.known xs known, (refl, f.0, f.1));
+  }
+
+  pub byte_taken : {c : View} → Advances 1 m c → Reached (λ xs ys. TakesByte xs b ys) a c
+  byte_taken adv =
+      let some : 1 ≤ length o.shown = omega (arith, o.is.0) in
+      let l = lends_prefix o.shows o.prefix some (one_byte b o.shown o.is) refl adv in record {
+        kept = l.kept;
+        at = λ xs known.
+            let f = front b o.shown xs o.is (o.prefix xs known).begins in
+            (f.0, (l.at xs known).1 ∙ ap (λ (zs : List ℕ). Some (drop 1 zs)) f.1, f.1);
+      }
 
 -- ---- bytes
 
-pub offers_none : {E : Type 0} {name : Bor (List ℕ)} (missing : ℕ) {l : Len} {n : ℕ} {a b : View}
-    → 1 ≤ missing → n ≡ 0 → Offers missing (Ready missing n) a b
-    → (missing < 65536 → l ≡ Small missing) → (65536 ≤ missing → l ≡ Big)
-    → Does {V = ℕ} {E = E} (DropsSome missing) (Missing name.now missing) a b (Err (Eof name l))
-offers_none missing some none o small big =
-    none_shown missing some o.shows o.prefix (omega (arith, some, none, o.is.0)) small big
+module _ {want : ℕ} {found : ℕ × ℕ} {a m : View} (some : 1 ≤ want)
+    (o : Offers want (Ready want found) a m) where
+  -- nothing is left
+  ended : found.0 ≡ 0 → Reached (λ xs ys. (xs ≡ []) × (ys ≡ [])) a m
+  ended none = record {
+    kept = shows_kept o.shows;
+    at = λ xs known.
+        let e = (o.prefix xs known).ends some (omega (arith, some, none, o.is.0)) in
+        (xs, o.shows.known xs known, (e, e));
+  }
 
-pub offers_some : {E : Type 0} {name : List ℕ} (missing : ℕ) {n : ℕ} {a m b : View} → n ≢ 0
-    → Offers missing (Ready missing n) a m → Advances n m b
-    → Does {V = ℕ} {E = E} (DropsSome missing) (Missing name missing) a b (Ok n)
-offers_some missing some o adv =
-    some_shown missing o.shows o.prefix (omega (arith, some)) (omega (arith, o.is.0))
-    (omega (arith, o.is.0)) o.is.1 adv
+  pub no_byte : {E : Type 0} {name : Bor (List ℕ)} {expect : ℕ} → found.0 ≡ 0
+      → Does {V = ℕ} {E = E} TakesByte (NoByte name.now expect) a m (Err (Eof name (Small expect)))
+  no_byte {name = name} {expect = expect} none =
+      does_reject (λ xs ys. (xs ≡ []) × (ys ≡ [])) TakesByte (NoByte name.now expect)
+      (eof name.now (Small expect)) refl refl refl (λ xs ys e. (e.0, (refl, e.1))) (ended none)
+
+  pub none_ready : {E : Type 0} {name : Bor (List ℕ)} {l : Len} → found.0 ≡ 0
+      → (want < 65536 → l ≡ Small want) → (65536 ≤ want → l ≡ Big)
+      → Does {V = ℕ} {E = E} (DropsSome want) (Missing name.now want) a m (Err (Eof name l))
+  none_ready {name = name} {l = l} none small big =
+      let is : l ≡ len_of want = len_is want l small big in
+      does_reject (λ xs ys. (xs ≡ []) × (ys ≡ [])) (DropsSome want) (Missing name.now want)
+      (eof name.now l) refl refl refl
+      (λ xs ys e. let z : length xs ≡ 0 = ap length e.0 in
+      let gap : want - length xs ≡ want = omega (arith, z) in
+      (omega (arith, z, some), (ap (eof name.now) (is ∙ ap len_of (sym gap)), e.1))) (ended none)
+
+  pub some_ready : {E : Type 0} {name : List ℕ} {b : View} → found.0 ≢ 0 → Advances found.0 m b
+      → Does {V = ℕ} {E = E} (DropsSome want) (Missing name want) a b (Ok found.0)
+  some_ready {name = name} more adv =
+      let within : found.0 ≤ length o.shown = omega (arith, o.is.0) in
+      let l = lends_prefix o.shows o.prefix within o.is.1 refl adv in
+      does_ok (DropsSome want) (Missing name want) (record {
+        kept = l.kept;
+        at = λ xs known.
+            let t = l.at xs known in (
+              drop found.0 xs,
+              t.1,
+              (
+                omega (arith, more),
+                omega (arith, o.is.0),
+                record {
+                  content = take found.0 xs;
+                  size = length-take-le found.0 xs t.0;
+                  bytes = subst IsBytes t.2 o.is.1;
+                  is = sym (take-append-drop found.0 xs);
+                },
+              ),
+            );
+      })
 
 -- ---- what one look decides
 
@@ -56,7 +120,7 @@ module _ (among : Among) (inner : Budget) {a m b : View} where
       let o = subst (λ s. Offers 256 (Sees among s) a m) is h in
       let l = lends_prefix o.shows o.prefix o.is.begins.within o.is.bytes refl adv in
       let run = o.is.begins.run in
-      does_ok _ _ (record {
+      does_ok (TakesAhead among inner) NeverRejects (record {
         kept = l.kept;
         at = λ xs known.
             let t = l.at xs known in (
@@ -78,7 +142,7 @@ module _ (among : Among) (inner : Budget) {a m b : View} where
   takes_head size trailing is h adv =
       let o = subst (λ s. Offers 256 (Sees among s) a m) is h in
       let l = lends_prefix o.shows o.prefix o.is.within o.is.bytes refl adv in
-      does_ok _ _ (record {
+      does_ok (TakesAhead among inner) NeverRejects (record {
         kept = l.kept;
         at = λ xs known.
             let rest = drop (length o.shown) xs in
@@ -99,17 +163,12 @@ module _ (among : Among) (inner : Budget) {a m b : View} where
       (Ok Break)
   takes_break is h adv =
       let o = subst (λ s. Offers 256 (Sees among s) a m) is h in
-      let first = first_break o.shown o.is.1 in
-      let l = lends_prefix o.shows o.prefix o.is.1.some first.1 refl adv in
-      does_ok _ _ (record {
-        kept = l.kept;
-        at = λ xs known.
-            let t = l.at xs known in (
-              drop 1 xs,
-              t.1,
-              sym (take-append-drop 1 xs) ∙ ap (λ r. r ++ drop 1 xs) (sym t.2 ∙ first.0),
-            );
-      })
+      does_ok (TakesAhead among inner) NeverRejects (byte_taken (record {
+        shown = o.shown;
+        shows = o.shows;
+        prefix = o.prefix;
+        is = (λ none. absurd (omega (arith, none, o.is.1.some)), sym o.is.1.is, omega arith);
+      }) adv)
 
 module _ (among : Among) {a m b : View} where
   pub passes_run : (n size : ℕ) {seen : Ahead} → seen ≡ Run n size

@@ -1,10 +1,7 @@
-use Rattle.cbor4ii_tree.proofs.skip_calls.Prefixes.{offers_end, offers_byte}
+use Rattle.std.proofs.Common.{arith}
+use Rattle.cbor4ii_tree.proofs.skip_calls.Prefixes.{no_byte}
 use Rattle.cbor4ii_tree.proofs.unseen.peek.Goals as goal
 
-pub returns-in-Ok-None-clause-runs : goal.returns-in-Ok-None-clause-runs
-returns-in-Ok-None-clause-runs g c =
-    offers_end (rw c.in-Ok-None.field-0-is at c.in-Ok-None.ensures.offers)
-
-pub returns-in-Ok-Some-clause-runs : goal.returns-in-Ok-Some-clause-runs
-returns-in-Ok-Some-clause-runs g c =
-    offers_byte _ _ (rw c.in-Ok-Some.field-0-is at c.in-Ok-Some.ensures.offers)
+pub returns-in-Ok-eq0-default-clause-peeks : goal.returns-in-Ok-eq0-default-clause-peeks
+returns-in-Ok-eq0-default-clause-peeks g c =
+    no_byte (omega arith) c.in-Ok-eq0-default.ensures.offers c.in-Ok-eq0-default.field-0-0-test
