@@ -15,9 +15,9 @@ use Rattle.cbor4ii_tree.specs.Skipping.{SkipsItems, RejectsSkippingOne, RejectsS
 use Rattle.cbor4ii_tree.specs.Ahead.{TakesHead, CountsAmong, SkipsSome, RejectsSome}
 use Rattle.cbor4ii_tree.specs.Ahead.{RejectsSomeUnder}
 use Rattle.cbor4ii_tree.specs.Ahead.{GoesUnder}
-use Rattle.cbor4ii_tree.specs.declared.skip.After.TheVariants as trailing
-use Rattle.cbor4ii_tree.specs.declared.skip.Went.{Went}
-use Rattle.cbor4ii_tree.specs.declared.skip.Went.TheVariants.{Into}
+use Rattle.cbor4ii_tree.specs.declared.skip.initial.After.TheVariants as trailing
+use Rattle.cbor4ii_tree.specs.declared.skip.items.Went.{Went}
+use Rattle.cbor4ii_tree.specs.declared.skip.items.Went.TheVariants.{Into}
 use Rattle.cbor4ii_tree.specs.declared.ahead.Among.TheVariants as among
 use Rattle.cbor4ii_tree.proofs.parts.Joined.{join, count-join, each-join, bytes-join}
 use Rattle.cbor4ii_tree.proofs.skip_calls.Doing.{Reached, reached_by, reached_then, reached_as}

@@ -7,8 +7,8 @@ use Rattle.cbor4ii_tree.specs.Cost.{Budget}
 use Rattle.cbor4ii_tree.specs.Rejections.{Stopping}
 use Rattle.cbor4ii_tree.specs.Does.{Accepting, Does}
 use Rattle.cbor4ii_tree.specs.Skipping.{RejectsSkippingUnder, Leads, TakesFirst}
-use Rattle.cbor4ii_tree.specs.declared.skip.Start.{Start}
-use Rattle.cbor4ii_tree.specs.declared.skip.After.{After}
+use Rattle.cbor4ii_tree.specs.declared.skip.initial.Start.{Start}
+use Rattle.cbor4ii_tree.specs.declared.skip.initial.After.{After}
 use Rattle.cbor4ii_tree.proofs.skip_calls.Doing.{Reached, reached_by, reached_then, reached_as}
 use Rattle.cbor4ii_tree.proofs.skip_calls.Doing.{does_ok, does_err, does_reject}
 

@@ -20,8 +20,8 @@ use Rattle.cbor4ii_tree.specs.Skipping.{start_of, SkipsItems}
 use Rattle.cbor4ii_tree.specs.Runs.{IsLeaf, TakesLeaf, IsLeafAt, IsPairAt, BeginsRun, TakesRun}
 use Rattle.cbor4ii_tree.specs.Ahead.{leaf_by, leaf_bytes}
 use Rattle.cbor4ii_tree.specs.declared.ahead.TheConstants.{LEAF_BYTES}
-use Rattle.cbor4ii_tree.specs.declared.skip.Start.{Start}
-use Rattle.cbor4ii_tree.specs.declared.skip.Start.TheVariants as start
+use Rattle.cbor4ii_tree.specs.declared.skip.initial.Start.{Start}
+use Rattle.cbor4ii_tree.specs.declared.skip.initial.Start.TheVariants as start
 use Rattle.cbor4ii_tree.proofs.skip_calls.Leading.{bytes_leaf, content_info, argument_low}
 use Rattle.cbor4ii_tree.proofs.skip_calls.Leading.{empty_items, empty_members}
 use Rattle.cbor4ii_tree.proofs.parts.Pushed.{push, count-push, each-push, bytes-push}

@@ -5,8 +5,8 @@ use Rattle.cbor4ii_items.specs.InputError.{mismatch}
 use Rattle.cbor4ii_tree.specs.HeadParts.{ArgumentAt, DropsBytes}
 use Rattle.cbor4ii_tree.specs.Rejections.{Missing, MissingAll}
 use Rattle.cbor4ii_tree.specs.InputError.{ignored_any, tag_name}
-use Rattle.cbor4ii_tree.specs.declared.skip.After.TheVariants as trailing
-use Rattle.cbor4ii_tree.specs.declared.skip.Start.TheVariants as start
+use Rattle.cbor4ii_tree.specs.declared.skip.initial.After.TheVariants as trailing
+use Rattle.cbor4ii_tree.specs.declared.skip.initial.Start.TheVariants as start
 use Rattle.cbor4ii_tree.proofs.skip_calls.Doing.{reached_first}
 use Rattle.cbor4ii_tree.proofs.skip_calls.Leading.{leads_bytes, bytes_cut, content_info, items_info}
 use Rattle.cbor4ii_tree.proofs.skip_calls.Leading.{members_info, tag_info, indefinite_leads}
