@@ -19,8 +19,9 @@ use Rattle.cbor4ii_tree.specs.Rejections.{IndefiniteItems}
 use Rattle.cbor4ii_tree.specs.Rejections.{IndefinitePairs}
 use Rattle.cbor4ii_tree.specs.SkippingRejects.{Skippable, SkippingRejects}
 use Rattle.cbor4ii_tree.specs.declared.skip.initial.After.{After}
-use Rattle.cbor4ii_tree.specs.declared.skip.initial.After.TheVariants.{Nothing, Bytes, Items, Members}
-use Rattle.cbor4ii_tree.specs.declared.skip.initial.After.TheVariants.{Indefinite, IndefiniteMembers}
+use Rattle.cbor4ii_tree.specs.declared.skip.initial.After.TheVariants.{Nothing, Bytes, Items}
+use Rattle.cbor4ii_tree.specs.declared.skip.initial.After.TheVariants.{Members, Indefinite}
+use Rattle.cbor4ii_tree.specs.declared.skip.initial.After.TheVariants.{IndefiniteMembers}
 use Rattle.cbor4ii_tree.specs.declared.skip.initial.Start.{Start}
 use Rattle.cbor4ii_tree.specs.declared.skip.initial.Start.TheVariants as start
 use Rattle.cbor4ii_tree.specs.declared.skip.initial.Additional.{Additional}

@@ -29,8 +29,9 @@ use Rattle.cbor4ii_tree.specs.HeadParts.{ArgumentAt, DropsBytes}
 use Rattle.cbor4ii_tree.specs.Runs.{TakesLeaf}
 use Rattle.cbor4ii_tree.specs.Skipping.{start_of, SkipsItems, RejectsSkippingItems, SkipsUnder}
 use Rattle.cbor4ii_tree.specs.Skipping.{RejectsSkippingUnder, Leads}
-use Rattle.cbor4ii_tree.specs.declared.skip.initial.After.TheVariants.{Nothing, Bytes, Items, Members}
-use Rattle.cbor4ii_tree.specs.declared.skip.initial.After.TheVariants.{Indefinite, IndefiniteMembers}
+use Rattle.cbor4ii_tree.specs.declared.skip.initial.After.TheVariants.{Nothing, Bytes, Items}
+use Rattle.cbor4ii_tree.specs.declared.skip.initial.After.TheVariants.{Members, Indefinite}
+use Rattle.cbor4ii_tree.specs.declared.skip.initial.After.TheVariants.{IndefiniteMembers}
 use Rattle.cbor4ii_tree.specs.declared.skip.initial.Start.TheVariants as start
 use Rattle.cbor4ii_tree.specs.Laws.Binds.{step_up}
 use Rattle.cbor4ii_tree.proofs.answers.Nesting.{skipping_by_parts}
