@@ -10,12 +10,12 @@ use Rattle.cbor4ii_tree.specs.Runs.{BeginsRun, TakesRun}
 use Rattle.cbor4ii_tree.specs.Rejections.{Stopping, Is, NoBreak}
 use Rattle.cbor4ii_tree.specs.Skipping.{start_of, Leads, RejectsSkippingAfter, SkipsItems}
 use Rattle.cbor4ii_tree.specs.Skipping.{RejectsSkippingOne}
-use Rattle.cbor4ii_tree.specs.declared.skip.After.{After}
-use Rattle.cbor4ii_tree.specs.declared.skip.After.TheVariants as trailing
-use Rattle.cbor4ii_tree.specs.declared.skip.Went.{Went}
-use Rattle.cbor4ii_tree.specs.declared.skip.Went.TheVariants.{Past, Into}
-use Rattle.cbor4ii_tree.specs.declared.skip.Start.{Start}
-use Rattle.cbor4ii_tree.specs.declared.skip.Start.TheVariants as start
+use Rattle.cbor4ii_tree.specs.declared.skip.initial.After.{After}
+use Rattle.cbor4ii_tree.specs.declared.skip.initial.After.TheVariants as trailing
+use Rattle.cbor4ii_tree.specs.declared.skip.items.Went.{Went}
+use Rattle.cbor4ii_tree.specs.declared.skip.items.Went.TheVariants.{Past, Into}
+use Rattle.cbor4ii_tree.specs.declared.skip.initial.Start.{Start}
+use Rattle.cbor4ii_tree.specs.declared.skip.initial.Start.TheVariants as start
 use Rattle.cbor4ii_tree.specs.declared.ahead.Among.{Among}
 use Rattle.cbor4ii_tree.specs.declared.ahead.Among.TheVariants.{Items, Pairs, IndefiniteItems}
 use Rattle.cbor4ii_tree.specs.declared.ahead.Among.TheVariants.{IndefinitePairs}

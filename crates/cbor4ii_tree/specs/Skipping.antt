@@ -21,13 +21,14 @@ use Rattle.cbor4ii_tree.specs.Rejections.{Stopping, Missing, Each, EachPair, Rej
 use Rattle.cbor4ii_tree.specs.Rejections.{IndefiniteItems}
 use Rattle.cbor4ii_tree.specs.Rejections.{IndefinitePairs}
 use Rattle.cbor4ii_tree.specs.SkippingRejects.{Skippable, SkippingRejects}
-use Rattle.cbor4ii_tree.specs.declared.skip.After.{After}
-use Rattle.cbor4ii_tree.specs.declared.skip.After.TheVariants.{Nothing, Bytes, Items, Members}
-use Rattle.cbor4ii_tree.specs.declared.skip.After.TheVariants.{Indefinite, IndefiniteMembers}
-use Rattle.cbor4ii_tree.specs.declared.skip.Start.{Start}
-use Rattle.cbor4ii_tree.specs.declared.skip.Start.TheVariants as start
-use Rattle.cbor4ii_tree.specs.declared.skip.Additional.{Additional}
-use Rattle.cbor4ii_tree.specs.declared.skip.Additional.TheVariants as additional
+use Rattle.cbor4ii_tree.specs.declared.skip.initial.After.{After}
+use Rattle.cbor4ii_tree.specs.declared.skip.initial.After.TheVariants.{Nothing, Bytes, Items}
+use Rattle.cbor4ii_tree.specs.declared.skip.initial.After.TheVariants.{Members, Indefinite}
+use Rattle.cbor4ii_tree.specs.declared.skip.initial.After.TheVariants.{IndefiniteMembers}
+use Rattle.cbor4ii_tree.specs.declared.skip.initial.Start.{Start}
+use Rattle.cbor4ii_tree.specs.declared.skip.initial.Start.TheVariants as start
+use Rattle.cbor4ii_tree.specs.declared.skip.initial.Additional.{Additional}
+use Rattle.cbor4ii_tree.specs.declared.skip.initial.Additional.TheVariants as additional
 
 -- ---- the first byte
 

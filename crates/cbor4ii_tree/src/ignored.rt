@@ -7,7 +7,7 @@ ghost use Rattle.cbor4ii_tree.specs.Ignored.{ReadsIgnored, RejectsIgnored};
 ghost use Rattle.cbor4ii_tree.specs.Laws.Ignoring.{ignored_lawful};
 
 use crate::prefix::Own;
-use crate::skip::skip_item;
+use crate::skip::items::skip_item;
 use cbor4ii_items::decode::{Decodable, Decode};
 use cbor4ii_rw::error::DecodeError;
 use cbor4ii_rw::read::Source;

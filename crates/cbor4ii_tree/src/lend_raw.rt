@@ -9,7 +9,7 @@ ghost use Rattle.cbor4ii_tree.specs.Raw.{SkipsPrefix, RejectsPrefix, Captures};
 ghost use Rattle.cbor4ii_items.specs.Decoding.{IsExact, Decodes};
 
 use crate::prefix::Lent;
-use crate::skip::skip_item;
+use crate::skip::items::skip_item;
 use cbor4ii_rw::error::DecodeError;
 use cbor4ii_rw::read::Source;
 use std::alloc::Global;

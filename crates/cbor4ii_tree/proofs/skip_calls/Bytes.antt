@@ -11,7 +11,7 @@ use Rattle.cbor4ii_items.specs.Initial.{Info, info_of, wide, indefinite_ended, r
 use Rattle.cbor4ii_items.specs.InputError.{InputError, eof, len_of}
 use Rattle.cbor4ii_tree.proofs.heads.Means.{WidthSays, InfoSays, info_says}
 use Rattle.cbor4ii_tree.specs.Skipping.{additional_of}
-use Rattle.cbor4ii_tree.specs.declared.skip.Additional.TheVariants.{Wide}
+use Rattle.cbor4ii_tree.specs.declared.skip.initial.Additional.TheVariants.{Wide}
 use Rattle.cbor4ii_tree.specs.Rejections.{Missing, MissingAll}
 use Rattle.cbor4ii_tree.specs.HeadParts.{DropsBytes, DropsSome, TakesByte, NoByte, TakesNumber}
 use Rattle.cbor4ii_tree.proofs.parts.Prefixes.{IsBytes-append}

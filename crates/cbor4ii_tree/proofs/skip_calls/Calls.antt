@@ -8,7 +8,7 @@ use Rattle.cbor4ii_tree.specs.{InputError.break_name, Rejections.Stopping, Skipp
 use Rattle.cbor4ii_tree.specs.{Cost.Budget, Does.{Accepting, Does}, InputError.{eof, Small}}
 use Rattle.cbor4ii_tree.specs.Skipping.{RejectsSkippingOne, SkipsUnder, RejectsSkippingUnder}
 use Rattle.cbor4ii_tree.specs.Skipping.{SkipsAfter, RejectsSkippingAfter, Leads}
-use Rattle.cbor4ii_tree.specs.declared.skip.After.{After}
+use Rattle.cbor4ii_tree.specs.declared.skip.initial.After.{After}
 use Rattle.cbor4ii_tree.proofs.skip_calls.Doing.{Reached, reached_by, reached_then, does_after}
 use Rattle.cbor4ii_tree.proofs.skip_calls.Doing.{does_err, does_rejects, reached_sound}
 use Rattle.cbor4ii_tree.proofs.skip_calls.Parts.{SkippedPairs, IsOther, after_break, other_byte}

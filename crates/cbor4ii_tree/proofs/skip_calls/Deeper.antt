@@ -12,13 +12,13 @@ use Rattle.cbor4ii_tree.proofs.skip_calls.Parts.{items_join, items_none, items_m
 use Rattle.cbor4ii_tree.proofs.{skip_calls.Prefixes.{keeps_alike, keeps_then}, skip_calls.Runs.Same}
 use Rattle.cbor4ii_tree.proofs.skip_calls.Runs.{same_start, some_items, into}
 use Rattle.cbor4ii_tree.specs.{Skipping.RejectsSkippingItems, SkippingRejects.Skippable}
-use Rattle.cbor4ii_tree.specs.{Tree.bytes_all, declared.skip.Went.Went, Ahead.TakesHead}
+use Rattle.cbor4ii_tree.specs.{Tree.bytes_all, declared.skip.items.Went.Went, Ahead.TakesHead}
 use Rattle.cbor4ii_tree.specs.Ahead.{CountsAmong, SkipsSome, RejectsSome, RejectsSomeUnder}
 use Rattle.cbor4ii_tree.specs.{Ahead.GoesUnder, Cost.{Budget, step_in}, Deeper.{Deeper, GoesOn}}
 use Rattle.cbor4ii_tree.specs.{Deeper.budgeted, Does.{Accepting, Does, answered}}
 use Rattle.cbor4ii_tree.specs.{Rejections.Stopping, Skipping.{SkipsItems, RejectsSkippingOne}}
-use Rattle.cbor4ii_tree.specs.declared.skip.Went.TheVariants.{Into}
-use Rattle.cbor4ii_tree.specs.declared.skip.After.TheVariants as trailing
+use Rattle.cbor4ii_tree.specs.declared.skip.items.Went.TheVariants.{Into}
+use Rattle.cbor4ii_tree.specs.declared.skip.initial.After.TheVariants as trailing
 use Rattle.cbor4ii_tree.specs.declared.ahead.Among.TheVariants as among
 
 -- ---- steps that are kept

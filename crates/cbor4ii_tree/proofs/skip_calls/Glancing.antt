@@ -14,12 +14,12 @@ use Rattle.cbor4ii_tree.specs.HeadParts.{ArgumentAt}
 use Rattle.cbor4ii_tree.specs.Runs.{IsLeafAt}
 use Rattle.cbor4ii_tree.specs.Skipping.{start_of, Leads, RejectsSkippingAfter}
 use Rattle.cbor4ii_tree.specs.InputError.{InputError}
-use Rattle.cbor4ii_tree.specs.declared.skip.Start.{Start}
+use Rattle.cbor4ii_tree.specs.declared.skip.initial.Start.{Start}
 use Rattle.cbor4ii_tree.specs.Ahead.{BeginsHead}
-use Rattle.cbor4ii_tree.specs.declared.skip.After.{After}
-use Rattle.cbor4ii_tree.specs.declared.skip.After.TheVariants.{Nothing, Bytes, Items, Members}
-use Rattle.cbor4ii_tree.specs.declared.skip.After.TheVariants.{Indefinite, IndefiniteMembers}
-use Rattle.cbor4ii_tree.specs.declared.skip.Start.TheVariants as start
+use Rattle.cbor4ii_tree.specs.declared.skip.initial.After.{After}
+use Rattle.cbor4ii_tree.specs.declared.skip.initial.After.TheVariants.{Nothing, Bytes, Items, Members}
+use Rattle.cbor4ii_tree.specs.declared.skip.initial.After.TheVariants.{Indefinite, IndefiniteMembers}
+use Rattle.cbor4ii_tree.specs.declared.skip.initial.Start.TheVariants as start
 use Rattle.cbor4ii_tree.proofs.heads.Inverse.{IsBytes-take, IsBytes-drop}
 use Rattle.cbor4ii_tree.proofs.skip_calls.Leading.{whole, content_info, items_info, members_info}
 use Rattle.cbor4ii_tree.proofs.skip_calls.Leading.{tag_info, indefinite_leads}

@@ -12,9 +12,9 @@ use Rattle.cbor4ii_tree.specs.Does.{Accepting, Does}
 use Rattle.cbor4ii_tree.specs.Prefix.{Offers, FirstByteIs}
 use Rattle.cbor4ii_tree.specs.Skipping.{start_of, RejectsSkippingUnder, Leads, TakesFirst}
 use Rattle.cbor4ii_tree.specs.Skipping.{rejection_of, Says}
-use Rattle.cbor4ii_tree.specs.declared.skip.Start.{Start}
-use Rattle.cbor4ii_tree.specs.declared.skip.Start.TheVariants as start
-use Rattle.cbor4ii_tree.specs.declared.skip.After.{After}
+use Rattle.cbor4ii_tree.specs.declared.skip.initial.Start.{Start}
+use Rattle.cbor4ii_tree.specs.declared.skip.initial.Start.TheVariants as start
+use Rattle.cbor4ii_tree.specs.declared.skip.initial.After.{After}
 use Rattle.cbor4ii_tree.proofs.skip_calls.Doing.{Reached, reached_by, reached_then, reached_as}
 use Rattle.cbor4ii_tree.proofs.skip_calls.Doing.{does_ok, does_err, does_reject}
 use Rattle.cbor4ii_tree.proofs.skip_calls.Leading.{begins_none}

@@ -33,12 +33,12 @@ use Rattle.cbor4ii_tree.specs.Runs.{TakesLeaf}
 use Rattle.cbor4ii_tree.specs.Skipping.{start_of, SkipsItems, RejectsSkippingItems, SkipsUnder}
 use Rattle.cbor4ii_tree.specs.Skipping.{RejectsSkippingUnder, Leads, TakesFirst, rejection_of}
 use Rattle.cbor4ii_tree.specs.Skipping.{additional_of, head_name, trailing_of}
-use Rattle.cbor4ii_tree.specs.declared.skip.Additional.TheVariants.{Wide}
-use Rattle.cbor4ii_tree.specs.declared.skip.After.{After}
-use Rattle.cbor4ii_tree.specs.declared.skip.After.TheVariants.{Nothing, Bytes, Items, Members}
-use Rattle.cbor4ii_tree.specs.declared.skip.After.TheVariants.{Indefinite, IndefiniteMembers}
-use Rattle.cbor4ii_tree.specs.declared.skip.Start.{Start}
-use Rattle.cbor4ii_tree.specs.declared.skip.Start.TheVariants as start
+use Rattle.cbor4ii_tree.specs.declared.skip.initial.Additional.TheVariants.{Wide}
+use Rattle.cbor4ii_tree.specs.declared.skip.initial.After.{After}
+use Rattle.cbor4ii_tree.specs.declared.skip.initial.After.TheVariants.{Nothing, Bytes, Items, Members}
+use Rattle.cbor4ii_tree.specs.declared.skip.initial.After.TheVariants.{Indefinite, IndefiniteMembers}
+use Rattle.cbor4ii_tree.specs.declared.skip.initial.Start.{Start}
+use Rattle.cbor4ii_tree.specs.declared.skip.initial.Start.TheVariants as start
 use Rattle.cbor4ii_tree.specs.Laws.Binds.{step_up}
 use Rattle.cbor4ii_tree.proofs.answers.Nesting.{skipping_by_parts}
 use Rattle.cbor4ii_tree.proofs.heads.Inverse.{number_of_bytes}

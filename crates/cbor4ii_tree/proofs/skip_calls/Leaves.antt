@@ -16,8 +16,8 @@ use Rattle.cbor4ii_tree.specs.{Rejections.Each, Runs.{IsLeaf, TakesLeaf, IsLeafA
 use Rattle.cbor4ii_tree.specs.{Runs.{BeginsRun, TakesRun}, Skipping.{start_of, SkipsItems}}
 use Rattle.cbor4ii_tree.specs.{SkippingRejects.Skippable, Tree.{Trees, no_trees, tree, count}}
 use Rattle.cbor4ii_tree.specs.{Tree.{bytes, bytes_all}, declared.ahead.TheConstants.LEAF_BYTES}
-use Rattle.cbor4ii_tree.specs.declared.skip.Start.{Start}
-use Rattle.cbor4ii_tree.specs.declared.skip.Start.TheVariants as start
+use Rattle.cbor4ii_tree.specs.declared.skip.initial.Start.{Start}
+use Rattle.cbor4ii_tree.specs.declared.skip.initial.Start.TheVariants as start
 
 -- ---- a first byte that says how long the item is
 

@@ -16,7 +16,7 @@ use Rattle.cbor4ii_tree.specs.Prefix.{Offers, FirstByteIs, Ready}
 use Rattle.cbor4ii_tree.specs.Cost.{Budget}
 use Rattle.cbor4ii_tree.specs.HeadParts.{DropsSome, TakesByte, NoByte}
 use Rattle.cbor4ii_tree.specs.Ahead.{Sees, TakesAhead, TakesHead, Passes, NeverRejects}
-use Rattle.cbor4ii_tree.specs.declared.skip.After.{After}
+use Rattle.cbor4ii_tree.specs.declared.skip.initial.After.{After}
 use Rattle.cbor4ii_tree.specs.declared.ahead.Among.{Among}
 use Rattle.cbor4ii_tree.specs.declared.ahead.Ahead.{Ahead}
 use Rattle.cbor4ii_tree.specs.declared.ahead.Ahead.TheVariants.{Run, Head, Break}

@@ -26,11 +26,11 @@ use Rattle.cbor4ii_tree.specs.Ahead.{TakesAhead, TakesHead, Passes, Allows, Awai
 use Rattle.cbor4ii_tree.specs.Ahead.{IsIndefinite, SkipsSome, RejectsSome, SkipsSomeUnder}
 use Rattle.cbor4ii_tree.specs.Ahead.{RejectsSomeUnder}
 use Rattle.cbor4ii_tree.specs.Ahead.{GoesUnder, CountsWent, EndsOrNot, RejectsAtEnd, NeverRejects}
-use Rattle.cbor4ii_tree.specs.declared.skip.After.{After}
-use Rattle.cbor4ii_tree.specs.declared.skip.After.TheVariants.{Nothing}
-use Rattle.cbor4ii_tree.specs.declared.skip.After.TheVariants as left_after
-use Rattle.cbor4ii_tree.specs.declared.skip.Went.{Went}
-use Rattle.cbor4ii_tree.specs.declared.skip.Went.TheVariants.{Past, Into}
+use Rattle.cbor4ii_tree.specs.declared.skip.initial.After.{After}
+use Rattle.cbor4ii_tree.specs.declared.skip.initial.After.TheVariants.{Nothing}
+use Rattle.cbor4ii_tree.specs.declared.skip.initial.After.TheVariants as left_after
+use Rattle.cbor4ii_tree.specs.declared.skip.items.Went.{Went}
+use Rattle.cbor4ii_tree.specs.declared.skip.items.Went.TheVariants.{Past, Into}
 use Rattle.cbor4ii_tree.specs.declared.ahead.Among.{Among}
 use Rattle.cbor4ii_tree.specs.declared.ahead.Among.TheVariants.{Items, Pairs, IndefiniteItems}
 use Rattle.cbor4ii_tree.specs.declared.ahead.Among.TheVariants.{IndefinitePairs}

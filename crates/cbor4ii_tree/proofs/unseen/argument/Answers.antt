@@ -1,7 +1,7 @@
 use Rattle.std.proofs.Common.{◌%◌, refl, sym, ◌∙◌, ap}
 use Rattle.cbor4ii_items.specs.Initial.{info_of}
 use Rattle.cbor4ii_tree.specs.HeadParts.{ArgumentBy, CutBy}
-use Rattle.cbor4ii_tree.specs.declared.skip.Additional.TheVariants.{Wide}
+use Rattle.cbor4ii_tree.specs.declared.skip.initial.Additional.TheVariants.{Wide}
 use Rattle.cbor4ii_tree.proofs.skip_calls.Doing.{does_ok, reached_start}
 use Rattle.cbor4ii_tree.proofs.skip_calls.Leading.{first_argument}
 use Rattle.cbor4ii_tree.proofs.unseen.argument.Goals as goal

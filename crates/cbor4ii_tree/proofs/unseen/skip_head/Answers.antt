@@ -5,7 +5,7 @@ use Rattle.cbor4ii_tree.specs.InputError.{ignored_any}
 use Rattle.cbor4ii_tree.specs.HeadParts.{ArgumentBy, CutBy, DropsBytes, NoByte, TakesByte}
 use Rattle.cbor4ii_tree.specs.Rejections.{Missing}
 use Rattle.cbor4ii_tree.specs.Skipping.{Leads, RejectsSkippingUnder, trailing_of}
-use Rattle.cbor4ii_tree.specs.declared.skip.After.TheVariants.{Nothing}
+use Rattle.cbor4ii_tree.specs.declared.skip.initial.After.TheVariants.{Nothing}
 use Rattle.cbor4ii_tree.proofs.skip_calls.Doing.{still_rejected}
 use Rattle.cbor4ii_tree.proofs.skip_calls.Leading.{leads_bytes, bytes_cut, no_first, goes}
 use Rattle.cbor4ii_tree.proofs.skip_calls.Heads.{first_err, first_ok, first_taken, first_rejected}

@@ -5,9 +5,9 @@ use Rattle.cbor4ii_items.specs.Initial.{int_by_info}
 use Rattle.cbor4ii_items.specs.Initial.{string_by_info, Sign, unsigned, negative, Kind, byte_string}
 use Rattle.cbor4ii_items.specs.Initial.{text_string, simple_by_info, by_major, initial}
 use Rattle.cbor4ii_tree.specs.Skipping.{additional_of, start_of}
-use Rattle.cbor4ii_tree.specs.declared.skip.Start.TheVariants.{Bytes, Content}
-use Rattle.cbor4ii_tree.specs.declared.skip.Additional.TheVariants.{Wide}
-use Rattle.cbor4ii_tree.proofs.skip.start_of.Goals as goal
+use Rattle.cbor4ii_tree.specs.declared.skip.initial.Start.TheVariants.{Bytes, Content}
+use Rattle.cbor4ii_tree.specs.declared.skip.initial.Additional.TheVariants.{Wide}
+use Rattle.cbor4ii_tree.proofs.skip.initial.start_of.Goals as goal
 
 by_parts : (b : ℕ) → initial b ≡ by_major (b / 32) (b % 32)
 unfolding initial

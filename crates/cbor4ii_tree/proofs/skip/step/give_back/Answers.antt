@@ -1,7 +1,7 @@
 use Rattle.std.proofs.Common.{refl, arith}
 use Rattle.cbor4ii_tree.proofs.skip_calls.Prefixes.{keeps_alike, keeps_then}
 use Rattle.cbor4ii_tree.proofs.skip_calls.Deeper.{one_back}
-use Rattle.cbor4ii_tree.proofs.skip.give_back.Goals as goal
+use Rattle.cbor4ii_tree.proofs.skip.step.give_back.Goals as goal
 
 pub loop-left-init : goal.loop-left-init
 loop-left-init g c = record { deeper = λ outer kept. kept; others = keeps_alike _ _ refl }

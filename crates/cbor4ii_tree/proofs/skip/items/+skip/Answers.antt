@@ -3,7 +3,7 @@ use Rattle.cbor4ii_tree.specs.Skipping.{SkipsItems, RejectsSkippingItems, SkipsI
 use Rattle.cbor4ii_tree.specs.Skipping.{RejectsSkippingIndefinite, SkipsMembers}
 use Rattle.cbor4ii_tree.specs.Skipping.{RejectsSkippingMembers}
 use Rattle.cbor4ii_tree.specs.Ahead.{RejectsSomeUnder, GoesUnder}
-use Rattle.cbor4ii_tree.specs.declared.skip.After.TheVariants as trailing
+use Rattle.cbor4ii_tree.specs.declared.skip.initial.After.TheVariants as trailing
 use Rattle.cbor4ii_tree.specs.declared.ahead.Among.TheVariants as among
 use Rattle.cbor4ii_tree.proofs.skip_calls.Doing.{reached_start, does_ok}
 use Rattle.cbor4ii_tree.proofs.skip_calls.Prefixes.{keeps_alike, keeps_then}
@@ -25,7 +25,7 @@ use Rattle.cbor4ii_tree.proofs.skip_calls.Runs.{was_nowhere, into_one, into_stop
 use Rattle.cbor4ii_tree.proofs.skip_calls.Deeper.{deeper_none, all_back, does_back, gone_into}
 use Rattle.cbor4ii_tree.proofs.skip_calls.Deeper.{gone_past, gone_nowhere, gone_without, gone_on}
 use Rattle.cbor4ii_tree.proofs.skip_calls.Deeper.{gone_no_further, all_gone}
-use Rattle.cbor4ii_tree.proofs.skip.+skip.Goals as goal
+use Rattle.cbor4ii_tree.proofs.skip.items.+skip.Goals as goal
 
 pub skip_one-returns-in-None-clause-does : goal.skip_one-returns-in-None-clause-does
 skip_one-returns-in-None-clause-does g t c = none_done c.in-None.ensures.does

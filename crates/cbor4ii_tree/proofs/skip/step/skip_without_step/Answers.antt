@@ -1,6 +1,6 @@
 use Rattle.std.proofs.Common.{refl}
 use Rattle.cbor4ii_tree.proofs.skip_calls.Runs.{counts_none, ended_none, cut_none, stopped_none}
-use Rattle.cbor4ii_tree.proofs.skip.skip_without_step.Goals as goal
+use Rattle.cbor4ii_tree.proofs.skip.step.skip_without_step.Goals as goal
 
 pub returns-in-None-clause-does : goal.returns-in-None-clause-does
 returns-in-None-clause-does g c =

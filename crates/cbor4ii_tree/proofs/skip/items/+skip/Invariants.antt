@@ -3,7 +3,7 @@ use Rattle.cbor4ii_rw.specs.Reader.{KeepsAllButBudget}
 use Rattle.cbor4ii_tree.specs.Deeper.{Deeper, GoesOn, budgeted}
 use Rattle.cbor4ii_tree.proofs.skip_calls.Doing.{Reached}
 use Rattle.cbor4ii_tree.proofs.skip_calls.Parts.{SkippedEach, SkippedPairs, Left}
-use Rattle.cbor4ii_tree.proofs.skip.+skip.Given as goal
+use Rattle.cbor4ii_tree.proofs.skip.items.+skip.Given as goal
 
 abbrev pub decreases-skip_after : goal.decreases-skip_after
 decreases-skip_after g l = 9 * (g.F.Prefix.view l.prefix.now l.reader.now).bound + 7

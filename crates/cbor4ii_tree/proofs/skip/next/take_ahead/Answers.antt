@@ -1,6 +1,6 @@
 use Rattle.cbor4ii_tree.proofs.skip_calls.Prefixes.{takes_run, takes_head, takes_break, passes_run}
 use Rattle.cbor4ii_tree.proofs.skip_calls.Prefixes.{passes_head}
-use Rattle.cbor4ii_tree.proofs.skip.take_ahead.Goals as goal
+use Rattle.cbor4ii_tree.proofs.skip.next.take_ahead.Goals as goal
 
 pub returns-in-Ok-Run-clause-does : goal.returns-in-Ok-Run-clause-does
 returns-in-Ok-Run-clause-does g c =

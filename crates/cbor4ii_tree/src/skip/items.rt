@@ -1,0 +1,447 @@
+//! Items skipped, those that hold others with all that they hold: one cycle of calls.
+ghost use Rattle.std.specs.Prelude.{◌+◌, ◌*◌, ◌≤◌, OnOk, OnSome, IfSome, IsTrue};
+ghost use Rattle.cbor4ii_rw.specs.Reader.{KeepsAllButBudget};
+ghost use Rattle.cbor4ii_tree.specs.Cost.{Budget};
+ghost use Rattle.cbor4ii_tree.specs.Deeper.{Deeper, GoesOn, budgeted};
+ghost use Rattle.cbor4ii_tree.specs.Does.{Does, Spares, answered, done};
+ghost use Rattle.cbor4ii_tree.specs.Skipping.{SkipsOne, RejectsSkippingOne, SkipsItems};
+ghost use Rattle.cbor4ii_tree.specs.Skipping.{RejectsSkippingItems, SkipsIndefinite};
+ghost use Rattle.cbor4ii_tree.specs.Skipping.{RejectsSkippingIndefinite, SkipsMembers};
+ghost use Rattle.cbor4ii_tree.specs.Skipping.{RejectsSkippingMembers, SkipsUnder};
+ghost use Rattle.cbor4ii_tree.specs.Skipping.{RejectsSkippingUnder, SkipsAfter};
+ghost use Rattle.cbor4ii_tree.specs.Skipping.{RejectsSkippingAfter};
+ghost use Rattle.cbor4ii_tree.specs.Ahead.{Awaits, CountsAmong, SkipsSome, RejectsSome};
+ghost use Rattle.cbor4ii_tree.specs.Ahead.{SkipsSomeUnder, RejectsSomeUnder, GoesUnder, CountsWent};
+ghost use Rattle.cbor4ii_tree.specs.Ahead.{Gains};
+
+use crate::ahead::{Ahead, Among};
+use crate::prefix::Prefix;
+use crate::skip::initial::After;
+use crate::skip::next::{skip_content, take_ahead};
+use crate::skip::step::{give_back, skip_without_step};
+use crate::slot::part;
+use crate::unseen::{ends, skip_head};
+use cbor4ii_rw::error::DecodeError;
+use cbor4ii_rw::read::Source;
+
+/// How far one look led.
+#[derive(Clone, Copy)]
+pub(crate) enum Went {
+    /// So many items were skipped, or none where a break was taken.
+    Past(u64),
+    /// A head was taken, and so many items are left of its own.
+    Into(u64),
+}
+
+/// Skips one item.
+pub(crate) fn skip_item<S: Source, F: Prefix<S>>(
+    prefix: &mut F,
+    reader: &mut S,
+) -> Result<(), DecodeError<S::Error>>
+    ensures does { Does (λ xs _ ys. SkipsOne (F.view prefix.old reader.old).budget xs ys)
+        (RejectsSkippingOne (F.view prefix.old reader.old).budget)
+        (F.view prefix.old reader.old) (F.view prefix.new reader.new) result }
+    ensures spares { Spares result }
+    ensures progress { OnOk result
+        ((F.view prefix.new reader.new).bound + 1 ≤ (F.view prefix.old reader.old).bound) }
+    ensures stays { IsTrue F.apart → KeepsAllButBudget (S.view reader.old) (S.view reader.new) }
+{
+    let mut failure = None;
+    if skip_one(prefix, reader, &mut failure) {
+        return Ok(());
+    }
+    Err(failure.unwrap())
+}
+
+/// Skips one item. Where it does not, the error goes to `failure`: no large answer is handed up
+/// from level to level.
+#[cycle(skip)]
+fn skip_one<S: Source, F: Prefix<S>>(
+    prefix: &mut F,
+    reader: &mut S,
+    failure: &mut Option<DecodeError<S::Error>>,
+) -> bool
+    ensures does { Does (λ xs _ ys. SkipsOne (F.view prefix.old reader.old).budget xs ys)
+        (RejectsSkippingOne (F.view prefix.old reader.old).budget)
+        (F.view prefix.old reader.old) (F.view prefix.new reader.new) (done result failure.new) }
+    ensures spares { Spares (done result failure.new) }
+    ensures progress { IsTrue result →
+        (F.view prefix.new reader.new).bound + 1 ≤ (F.view prefix.old reader.old).bound }
+    ensures stays { IsTrue F.apart → KeepsAllButBudget (S.view reader.old) (S.view reader.new) }
+{
+    match skip_some(prefix, reader, Among::Items(1), failure) {
+        Some(_) => true,
+        None => false,
+    }
+}
+
+/// Skips an item, or a run of them, and answers how many; or takes a break, and answers 0.
+#[cycle(skip)]
+#[inline(always)]
+fn skip_some<S: Source, F: Prefix<S>>(
+    prefix: &mut F,
+    reader: &mut S,
+    among: Among,
+    failure: &mut Option<DecodeError<S::Error>>,
+) -> Option<u64>
+    requires { Awaits among }
+    ensures does { Does (SkipsSome among (F.view prefix.old reader.old).budget)
+        (RejectsSome among (F.view prefix.old reader.old).budget)
+        (F.view prefix.old reader.old) (F.view prefix.new reader.new)
+        (answered result failure.new) }
+    ensures spares { Spares (answered result failure.new) }
+    ensures counts { IfSome result (λ n. CountsAmong among n) }
+    ensures progress { IfSome result (λ n. 1 ≤ n →
+        (F.view prefix.new reader.new).bound + 1 ≤ (F.view prefix.old reader.old).bound) }
+    ensures stays { IsTrue F.apart → KeepsAllButBudget (S.view reader.old) (S.view reader.new) }
+{
+    if !reader.step_in() {
+        return skip_without_step(prefix, reader, among, failure);
+    }
+    let outcome = some_inside(prefix, reader, among, failure);
+    reader.step_out();
+    outcome
+}
+
+/// As `skip_some`, where the step was taken.
+#[cycle(skip)]
+#[inline(always)]
+fn some_inside<S: Source, F: Prefix<S>>(
+    prefix: &mut F,
+    reader: &mut S,
+    among: Among,
+    failure: &mut Option<DecodeError<S::Error>>,
+) -> Option<u64>
+    requires { Awaits among }
+    ensures does { Does (SkipsSomeUnder among (F.view prefix.old reader.old).budget)
+        (RejectsSomeUnder among (F.view prefix.old reader.old).budget)
+        (F.view prefix.old reader.old) (F.view prefix.new reader.new)
+        (answered result failure.new) }
+    ensures spares { Spares (answered result failure.new) }
+    ensures counts { IfSome result (λ n. CountsAmong among n) }
+    ensures progress { IfSome result (λ n. 1 ≤ n →
+        (F.view prefix.new reader.new).bound + 1 ≤ (F.view prefix.old reader.old).bound) }
+    ensures stays { IsTrue F.apart → KeepsAllButBudget (S.view reader.old) (S.view reader.new) }
+{
+    match go_some(prefix, reader, among, failure) {
+        Some(Went::Past(count)) => Some(count),
+        Some(Went::Into(count)) => {
+            if skip_items(prefix, reader, count, failure) {
+                Some(1)
+            } else {
+                None
+            }
+        }
+        None => None,
+    }
+}
+
+/// As `some_inside`, but of an item that holds a count of items, or of a tag, takes the head alone.
+#[cycle(skip)]
+#[inline(always)]
+fn go_some<S: Source, F: Prefix<S>>(
+    prefix: &mut F,
+    reader: &mut S,
+    among: Among,
+    failure: &mut Option<DecodeError<S::Error>>,
+) -> Option<Went>
+    requires { Awaits among }
+    ensures does { Does (GoesUnder among (F.view prefix.old reader.old).budget)
+        (RejectsSomeUnder among (F.view prefix.old reader.old).budget)
+        (F.view prefix.old reader.old) (F.view prefix.new reader.new)
+        (answered result failure.new) }
+    ensures spares { Spares (answered result failure.new) }
+    ensures counts { IfSome result (λ went. CountsWent among went) }
+    ensures progress { IfSome result (λ went. Gains went
+        (F.view prefix.old reader.old).bound (F.view prefix.new reader.new).bound) }
+    ensures stays { IsTrue F.apart → KeepsAllButBudget (S.view reader.old) (S.view reader.new) }
+{
+    match take_ahead(prefix, reader, among, failure) {
+        Some(Ahead::Run(count, _)) => Some(Went::Past(count)),
+        Some(Ahead::Head(_, After::Items(count))) => Some(Went::Into(count)),
+        Some(Ahead::Head(_, trailing)) => {
+            if skip_after(prefix, reader, trailing, failure) {
+                Some(Went::Past(1))
+            } else {
+                None
+            }
+        }
+        Some(Ahead::Break) => Some(Went::Past(0)),
+        Some(Ahead::Unseen) => match skip_unseen(prefix, reader, among, failure) {
+            Some(count) => Some(Went::Past(count)),
+            None => None,
+        },
+        None => None,
+    }
+}
+
+/// Skips what is left of an item after its head.
+#[cycle(skip)]
+#[inline(always)]
+fn skip_after<S: Source, F: Prefix<S>>(
+    prefix: &mut F,
+    reader: &mut S,
+    trailing: After,
+    failure: &mut Option<DecodeError<S::Error>>,
+) -> bool
+    ensures does { Does (λ xs _ ys. SkipsAfter trailing (F.view prefix.old reader.old).budget xs ys)
+        (RejectsSkippingAfter trailing (F.view prefix.old reader.old).budget)
+        (F.view prefix.old reader.old) (F.view prefix.new reader.new)
+        (done result failure.new) }
+    ensures spares { Spares (done result failure.new) }
+    ensures stays { IsTrue F.apart → KeepsAllButBudget (S.view reader.old) (S.view reader.new) }
+{
+    match trailing {
+        After::Nothing => true,
+        After::Bytes(count) => skip_content(prefix, reader, count, failure),
+        After::Items(count) => skip_items(prefix, reader, count, failure),
+        After::Members(count) => skip_members(prefix, reader, count, failure),
+        After::Indefinite => skip_indefinite(prefix, reader, failure),
+        After::IndefiniteMembers => skip_indefinite_members(prefix, reader, failure),
+    }
+}
+
+/// Skips so many items.
+#[cycle(skip)]
+fn skip_items<S: Source, F: Prefix<S>>(
+    prefix: &mut F,
+    reader: &mut S,
+    count: u64,
+    failure: &mut Option<DecodeError<S::Error>>,
+) -> bool
+    ensures does { Does (λ xs _ ys. SkipsItems count (F.view prefix.old reader.old).budget xs ys)
+        (RejectsSkippingItems count (F.view prefix.old reader.old).budget)
+        (F.view prefix.old reader.old) (F.view prefix.new reader.new)
+        (done result failure.new) }
+    ensures spares { Spares (done result failure.new) }
+    ensures stays { IsTrue F.apart → KeepsAllButBudget (S.view reader.old) (S.view reader.new) }
+{
+    let (done, depth) = skip_inward(prefix, reader, count, failure);
+    give_back(reader, depth);
+    done
+}
+
+/// Skips so many items. Where the last of them holds items in turn, it goes on with these in its
+/// place, and keeps the step; it answers how many steps it kept.
+#[cycle(skip)]
+#[inline(always)]
+fn skip_inward<S: Source, F: Prefix<S>>(
+    prefix: &mut F,
+    reader: &mut S,
+    count: u64,
+    failure: &mut Option<DecodeError<S::Error>>,
+) -> (bool, u64)
+    ensures does { Does (λ xs _ ys. SkipsItems count (F.view prefix.old reader.old).budget xs ys)
+        (RejectsSkippingItems count (F.view prefix.old reader.old).budget)
+        (F.view prefix.old reader.old)
+        (budgeted (F.view prefix.old reader.old).budget (F.view prefix.new reader.new))
+        (done result.0 failure.new) }
+    ensures spares { Spares (done result.0 failure.new) }
+    ensures deeper { Deeper result.1 (F.view prefix.old reader.old).budget
+        (F.view prefix.new reader.new).budget }
+    ensures stays { IsTrue F.apart → KeepsAllButBudget (S.view reader.old) (S.view reader.new) }
+{
+    let mut depth = 0;
+    let mut left = count;
+    while left > 0 {
+        match skip_next(prefix, reader, left, &mut depth, failure) {
+            Some(now) => left = now,
+            None => return (false, depth),
+        }
+    }
+    (true, depth)
+}
+
+/// Skips some of so many items, and answers how many are left then. Of the last, where it holds a
+/// count of items or is a tag, takes the head alone and answers that count; its step is kept, and
+/// counted in `depth`.
+#[cycle(skip)]
+#[inline(always)]
+fn skip_next<S: Source, F: Prefix<S>>(
+    prefix: &mut F,
+    reader: &mut S,
+    left: u64,
+    depth: &mut u64,
+    failure: &mut Option<DecodeError<S::Error>>,
+) -> Option<u64>
+    requires { 1 ≤ left }
+    ensures does { Does
+        (GoesOn left (F.view prefix.old reader.old).budget (F.view prefix.new reader.new).budget)
+        (RejectsSkippingItems left (F.view prefix.old reader.old).budget)
+        (F.view prefix.old reader.old)
+        (budgeted (F.view prefix.old reader.old).budget (F.view prefix.new reader.new))
+        (answered result failure.new) }
+    ensures spares { Spares (answered result failure.new) }
+    ensures progress { OnSome result
+        ((F.view prefix.new reader.new).bound + 1 ≤ (F.view prefix.old reader.old).bound) }
+    ensures deeper { (outer : Budget) →
+        Deeper depth.old outer (F.view prefix.old reader.old).budget →
+        Deeper depth.new outer (F.view prefix.new reader.new).budget }
+    ensures stays { IsTrue F.apart → KeepsAllButBudget (S.view reader.old) (S.view reader.new) }
+{
+    if !reader.step_in() {
+        return skip_without_step(prefix, reader, Among::Items(left), failure);
+    }
+    match go_some(prefix, reader, Among::Items(left), failure) {
+        Some(Went::Into(count)) => {
+            if left == 1 && *depth < u64::MAX {
+                *depth += 1;
+                return Some(count);
+            }
+            let done = skip_items(prefix, reader, count, failure);
+            reader.step_out();
+            if done { Some(left - 1) } else { None }
+        }
+        Some(Went::Past(some)) => {
+            reader.step_out();
+            Some(left - some)
+        }
+        None => {
+            reader.step_out();
+            None
+        }
+    }
+}
+
+/// Skips so many pairs.
+#[cycle(skip)]
+fn skip_members<S: Source, F: Prefix<S>>(
+    prefix: &mut F,
+    reader: &mut S,
+    count: u64,
+    failure: &mut Option<DecodeError<S::Error>>,
+) -> bool
+    ensures does { Does
+        (λ xs _ ys. SkipsItems (2 * count) (F.view prefix.old reader.old).budget xs ys)
+        (RejectsSkippingItems (2 * count) (F.view prefix.old reader.old).budget)
+        (F.view prefix.old reader.old) (F.view prefix.new reader.new)
+        (done result failure.new) }
+    ensures spares { Spares (done result failure.new) }
+    ensures stays { IsTrue F.apart → KeepsAllButBudget (S.view reader.old) (S.view reader.new) }
+{
+    let mut left = count;
+    while left > 0 {
+        let some = match skip_some(prefix, reader, Among::Pairs(left), failure) {
+            Some(some) => some,
+            None => return false,
+        };
+        left -= some / 2 + some % 2;
+        if some % 2 == 1 {
+            // A key: its value follows.
+            if !skip_one(prefix, reader, failure) {
+                return false;
+            }
+        }
+    }
+    true
+}
+
+/// Skips items up to a break.
+#[cycle(skip)]
+fn skip_indefinite<S: Source, F: Prefix<S>>(
+    prefix: &mut F,
+    reader: &mut S,
+    failure: &mut Option<DecodeError<S::Error>>,
+) -> bool
+    ensures does { Does (λ xs _ ys. SkipsIndefinite (F.view prefix.old reader.old).budget xs ys)
+        (RejectsSkippingIndefinite (F.view prefix.old reader.old).budget)
+        (F.view prefix.old reader.old) (F.view prefix.new reader.new)
+        (done result failure.new) }
+    ensures spares { Spares (done result failure.new) }
+    ensures stays { IsTrue F.apart → KeepsAllButBudget (S.view reader.old) (S.view reader.new) }
+{
+    loop {
+        match skip_some(prefix, reader, Among::IndefiniteItems, failure) {
+            Some(0) => return true,
+            Some(_) => {}
+            None => return false,
+        }
+    }
+}
+
+/// Skips pairs up to a break. No break may come after a key.
+#[cycle(skip)]
+fn skip_indefinite_members<S: Source, F: Prefix<S>>(
+    prefix: &mut F,
+    reader: &mut S,
+    failure: &mut Option<DecodeError<S::Error>>,
+) -> bool
+    ensures does { Does (λ xs _ ys. SkipsMembers (F.view prefix.old reader.old).budget xs ys)
+        (RejectsSkippingMembers (F.view prefix.old reader.old).budget)
+        (F.view prefix.old reader.old) (F.view prefix.new reader.new)
+        (done result failure.new) }
+    ensures spares { Spares (done result failure.new) }
+    ensures stays { IsTrue F.apart → KeepsAllButBudget (S.view reader.old) (S.view reader.new) }
+{
+    loop {
+        let some = match skip_some(prefix, reader, Among::IndefinitePairs, failure) {
+            Some(some) => some,
+            None => return false,
+        };
+        if some == 0 {
+            return true;
+        }
+        if some % 2 == 1 {
+            // A key: no break may come before its value.
+            if !skip_one(prefix, reader, failure) {
+                return false;
+            }
+        }
+    }
+}
+
+/// Skips one item byte by byte, or takes a break where one may come; the step was taken.
+#[cycle(skip)]
+#[cold]
+#[inline(never)]
+fn skip_unseen<S: Source, F: Prefix<S>>(
+    prefix: &mut F,
+    reader: &mut S,
+    among: Among,
+    failure: &mut Option<DecodeError<S::Error>>,
+) -> Option<u64>
+    requires { Awaits among }
+    ensures does { Does (SkipsSomeUnder among (F.view prefix.old reader.old).budget)
+        (RejectsSomeUnder among (F.view prefix.old reader.old).budget)
+        (F.view prefix.old reader.old) (F.view prefix.new reader.new)
+        (answered result failure.new) }
+    ensures spares { Spares (answered result failure.new) }
+    ensures counts { IfSome result (λ n. CountsAmong among n) }
+    ensures progress { IfSome result (λ n. 1 ≤ n →
+        (F.view prefix.new reader.new).bound + 1 ≤ (F.view prefix.old reader.old).bound) }
+    ensures stays { IsTrue F.apart → KeepsAllButBudget (S.view reader.old) (S.view reader.new) }
+{
+    let ended = match part(ends(prefix, reader, among), failure) {
+        Some(ended) => ended,
+        None => return None,
+    };
+    if ended {
+        return Some(0);
+    }
+    if skip_inside(prefix, reader, failure) {
+        return Some(1);
+    }
+    None
+}
+
+/// Skips one item byte by byte; the step was taken.
+#[cycle(skip)]
+fn skip_inside<S: Source, F: Prefix<S>>(
+    prefix: &mut F,
+    reader: &mut S,
+    failure: &mut Option<DecodeError<S::Error>>,
+) -> bool
+    ensures does { Does (λ xs _ ys. SkipsUnder (F.view prefix.old reader.old).budget xs ys)
+        (RejectsSkippingUnder (F.view prefix.old reader.old).budget)
+        (F.view prefix.old reader.old) (F.view prefix.new reader.new)
+        (done result failure.new) }
+    ensures spares { Spares (done result failure.new) }
+    ensures progress { IsTrue result →
+        ((F.view prefix.new reader.new).bound + 1 ≤ (F.view prefix.old reader.old).bound) }
+    ensures stays { IsTrue F.apart → KeepsAllButBudget (S.view reader.old) (S.view reader.new) }
+{
+    match part(skip_head(prefix, reader), failure) {
+        Some(trailing) => skip_after(prefix, reader, trailing, failure),
+        None => false,
+    }
+}
