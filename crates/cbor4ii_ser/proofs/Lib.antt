@@ -5,3 +5,4 @@ pub mod Determined
 pub mod Greedy
 pub mod PiecesBack
 pub mod TextItems
+pub mod Failing

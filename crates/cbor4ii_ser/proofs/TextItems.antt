@@ -1,6 +1,6 @@
 -- A text in pieces is one item.
 use Rattle.std.proofs.Common.{◌≡◌, ℕ, ◌<◌, ◌≤◌, ◌^◌, List, [], ◌∷◌, ◌++◌, length, Bool, true, false}
-use Rattle.std.proofs.Common.{refl, sym, ap, ap₂, ◌∙◌, subst, arith, append_assoc}
+use Rattle.std.proofs.Common.{refl, sym, ap, ◌∙◌, subst, arith}
 use Rattle.std.specs.Prelude.{All, IsUtf8}
 use Rattle.cbor4ii_items.specs.Head.{shortest}
 use Rattle.cbor4ii_items.specs.Initial.{text_string}
@@ -8,7 +8,6 @@ use Rattle.cbor4ii_items.specs.Laws.Heads.{shortest_fits}
 use Rattle.cbor4ii_items.specs.Strings.{joined, definite_string, opening, closing}
 use Rattle.cbor4ii_tree.specs.Tree.{string, chunked, Trees, no_trees, tree, bytes_all}
 use Rattle.cbor4ii_tree.specs.Tree.{joined_chunks, LooseAll, AreChunks}
-use Rattle.cbor4ii_ser.specs.Item.{encoded}
 use Rattle.cbor4ii_ser.specs.OneItem.{AllShortestHeads, Form, shortest_heads, OneItem, IsOneItem}
 use Rattle.cbor4ii_ser.specs.Pieces.{chunk_most, without_empty, Chunks, one, several}
 use Rattle.cbor4ii_ser.specs.Pieces.{definite_chunks, text_bytes}

@@ -1,5 +1,6 @@
 -- What a serializing call leaves in the writer.
-use Rattle.std.specs.Prelude.{◌≡◌, Bool, Result, Ok, OnOk, OnErr, IfErr, IsTrue}
+use Rattle.std.specs.Prelude.{◌≡◌, Bool, Option, Some, None, Result, Ok, OnOk, OnErr, IfErr}
+use Rattle.std.specs.Prelude.{IsTrue}
 use Rattle.cbor4ii_rw.specs.Reader.{Failed}
 use Rattle.cbor4ii_rw.specs.Writer.{Output, Appends}
 use Rattle.cbor4ii_items.specs.Writing.{AppendsPrefix}
@@ -42,3 +43,9 @@ pub record RejectsAtValue {E : Type 0} (atomic : Bool) (key value : Encoding) (o
   pub between : Output
   pub first : Serializes {T = Unit {0}} {E = E} atomic key old between (Ok tt)
   pub second : Serializes atomic value between new answer
+
+-- done, or an answer that was left
+abbrev pub answered : {E : Type 0} → Option (Unit {0}) → Result (Unit {0}) (EncodeError E)
+    → Result (Unit {0}) (EncodeError E)
+answered (Some u) left = Ok u
+answered None left = left

@@ -11,6 +11,7 @@ ghost use Rattle.cbor4ii_ser.specs.Serializing.{Serializes, output};
 use crate::error::EncodeError;
 use crate::serialize::Serialize;
 use crate::serializer::Serializer;
+use crate::slot::{has_large_error, push_text_apart};
 use cbor4ii_rw::write::Write;
 
 /// An array or a map of a known number of parts that is being written: a tuple, a struct, or a
@@ -227,6 +228,7 @@ impl<'a, W: Write> BoundedCollect<'a, W> {
     ///
     /// `Core` at the name, and those of the value's `serialize`. What stays then is described at
     /// `BoundedCollect`. The name stays where the value is rejected.
+    #[inline]
     pub fn serialize_field<T: Serialize>(
         &mut self,
         name: &str,
@@ -272,6 +274,13 @@ pub(crate) fn put_field<W: Write, T: Serialize>(
     ensures { Serializes W.atomic (field name.now (T.encoding value.now))
         (output W.view ser.old) (output W.view ser.new) result }
 {
+    if has_large_error::<W>() {
+        let mut answer = Ok(());
+        return match push_text_apart(&mut ser.writer, name, &mut answer) {
+            Some(()) => value.serialize(ser),
+            None => answer,
+        };
+    }
     ser.put(&name)?;
     value.serialize(ser)
 }

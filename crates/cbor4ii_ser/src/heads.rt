@@ -7,6 +7,8 @@ ghost use Rattle.cbor4ii_ser.specs.Serializing.{Serializes, output};
 
 use crate::error::EncodeError;
 use crate::serializer::Serializer;
+use crate::slot::has_large_error;
+use cbor4ii_items::major;
 use cbor4ii_items::types::{Array, Map};
 use cbor4ii_rw::write::Write;
 
@@ -16,6 +18,9 @@ impl<W: Write> Serializer<W> {
         ensures { Serializes W.atomic (encoded (shortest_head 4 len))
             (output W.view self.old) (output W.view self.new) result }
     {
+        if has_large_error::<W>() {
+            return self.put_head(major::ARRAY, len as u64);
+        }
         Ok(Array::<()>::bounded(len, &mut self.writer)?)
     }
 
@@ -24,11 +29,29 @@ impl<W: Write> Serializer<W> {
         ensures { Serializes W.atomic (encoded (shortest_head 5 len))
             (output W.view self.old) (output W.view self.new) result }
     {
+        if has_large_error::<W>() {
+            return self.put_head(major::MAP, len as u64);
+        }
         Ok(Map::<()>::bounded(len, &mut self.writer)?)
     }
 
     /// The head of an array, of an indefinite length where none is known.
     pub(crate) fn seq_head(&mut self, len: Option<usize>) -> Result<(), EncodeError<W::Error>>
+        ensures { Serializes W.atomic (encoded (container_head 4 len))
+            (output W.view self.old) (output W.view self.new) result }
+    {
+        if has_large_error::<W>() {
+            return self.seq_head_apart(len);
+        }
+        match len {
+            Some(len) => self.array_head(len),
+            None => Ok(Array::<()>::unbounded(&mut self.writer)?),
+        }
+    }
+
+    /// The same, out of line: to a writer with a large error the caller's frame stays small.
+    #[inline(never)]
+    fn seq_head_apart(&mut self, len: Option<usize>) -> Result<(), EncodeError<W::Error>>
         ensures { Serializes W.atomic (encoded (container_head 4 len))
             (output W.view self.old) (output W.view self.new) result }
     {
@@ -68,7 +91,7 @@ impl<W: Write> Serializer<W> {
             (output W.view self.old) (output W.view self.new) result }
     {
         self.map_head(1)?;
-        self.put(&name)
+        self.serialize_str(name)
     }
 
     /// What begins a variant whose content is an array.

@@ -20,6 +20,7 @@ mod raw;
 mod sequences;
 pub mod serialize;
 pub mod serializer;
+mod slot;
 pub mod text;
 mod tuples;
 mod value;

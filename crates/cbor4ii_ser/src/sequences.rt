@@ -5,6 +5,8 @@ ghost use Rattle.cbor4ii_ser.specs.Serializing.{Serializes, output};
 use crate::error::EncodeError;
 use crate::serialize::Serialize;
 use crate::serializer::Serializer;
+use crate::slot::{has_large_error, push_head_apart};
+use cbor4ii_items::major;
 use cbor4ii_rw::write::Write;
 
 /// An array of the items, in order.
@@ -25,6 +27,18 @@ fn put_array<W: Write, T: Serialize>(
     ensures { Serializes W.atomic (array_encoding T.encoding items.now)
         (output W.view ser.old) (output W.view ser.new) result }
 {
+    if has_large_error::<W>() {
+        let mut answer = Ok(());
+        return match push_head_apart(
+            &mut ser.writer,
+            major::ARRAY,
+            items.len() as u64,
+            &mut answer,
+        ) {
+            Some(()) => put_items(ser, items),
+            None => answer,
+        };
+    }
     ser.array_head(items.len())?;
     put_items(ser, items)
 }

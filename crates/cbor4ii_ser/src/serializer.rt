@@ -1,5 +1,5 @@
 //! A writer of typed values.
-ghost use Rattle.std.specs.Prelude.{◌≡◌, ◌∷◌, [], false};
+ghost use Rattle.std.specs.Prelude.{◌≡◌, ◌<◌, ◌∷◌, [], false};
 ghost use Rattle.std.specs.Char.{encode_utf8};
 ghost use Rattle.cbor4ii_items.specs.Floats.{float_bytes};
 ghost use Rattle.cbor4ii_items.specs.Numbers.{shortest_head, signed_head, signed_bytes};
@@ -11,7 +11,9 @@ ghost use Rattle.cbor4ii_ser.specs.Serializing.{Serializes, output};
 
 use crate::error::EncodeError;
 use crate::serialize::Serialize;
+use crate::slot::{has_large_error, push_head_apart, push_string_apart, put_variant};
 use cbor4ii_items::encode::Encode;
+use cbor4ii_items::major;
 use cbor4ii_items::types::{Bytes, F16, F32, F64, Null};
 use cbor4ii_rw::write::Write;
 
@@ -57,7 +59,61 @@ impl<W: Write> Serializer<W> {
         ensures { Serializes W.atomic (encoded (T.bytes value.now))
             (output W.view self.old) (output W.view self.new) result }
     {
+        if has_large_error::<W>() {
+            return self.put_apart(value);
+        }
         Ok(value.encode(&mut self.writer)?)
+    }
+
+    /// The same, out of line: to a writer with a large error the caller's frame stays small.
+    #[inline(never)]
+    fn put_apart<T: Encode>(&mut self, value: &T) -> Result<(), EncodeError<W::Error>>
+        ensures { Serializes W.atomic (encoded (T.bytes value.now))
+            (output W.view self.old) (output W.view self.new) result }
+    {
+        Ok(value.encode(&mut self.writer)?)
+    }
+
+    /// Writes the shortest head of this major type with this argument, to a writer with a large
+    /// error.
+    #[inline]
+    pub(crate) fn put_head(&mut self, major: u8, argument: u64) -> Result<(), EncodeError<W::Error>>
+        requires { major < 8 }
+        ensures { Serializes W.atomic (encoded (shortest_head major argument))
+            (output W.view self.old) (output W.view self.new) result }
+    {
+        let mut answer = Ok(());
+        if push_head_apart(&mut self.writer, major, argument, &mut answer).is_none() {
+            return answer;
+        }
+        Ok(())
+    }
+
+    /// Writes an integer as a head, to a writer with a large error.
+    #[inline]
+    fn put_signed(&mut self, value: i64) -> Result<(), EncodeError<W::Error>>
+        ensures { Serializes W.atomic (encoded (signed_head value))
+            (output W.view self.old) (output W.view self.new) result }
+    {
+        if value >= 0 {
+            self.put_head(major::UNSIGNED, value as u64)
+        } else {
+            self.put_head(major::NEGATIVE, (-1 - value) as u64)
+        }
+    }
+
+    /// Writes a string of this major type, to a writer with a large error.
+    #[inline]
+    fn put_string(&mut self, major: u8, content: &[u8]) -> Result<(), EncodeError<W::Error>>
+        requires { major < 8 }
+        ensures { Serializes W.atomic (encoded (definite_string major content.now))
+            (output W.view self.old) (output W.view self.new) result }
+    {
+        let mut answer = Ok(());
+        if push_string_apart(&mut self.writer, major, content, &mut answer).is_none() {
+            return answer;
+        }
+        Ok(())
     }
 
     /// False or true, in one byte.
@@ -70,6 +126,9 @@ impl<W: Write> Serializer<W> {
         ensures { Serializes W.atomic (encoded (bool_byte value ∷ []))
             (output W.view self.old) (output W.view self.new) result }
     {
+        if has_large_error::<W>() {
+            return self.put_head(major::SIMPLE, if value { 21 } else { 20 });
+        }
         self.put(&value)
     }
 
@@ -83,6 +142,9 @@ impl<W: Write> Serializer<W> {
         ensures { Serializes W.atomic (encoded (signed_head value))
             (output W.view self.old) (output W.view self.new) result }
     {
+        if has_large_error::<W>() {
+            return self.put_signed(value as i64);
+        }
         self.put(&value)
     }
 
@@ -96,6 +158,9 @@ impl<W: Write> Serializer<W> {
         ensures { Serializes W.atomic (encoded (signed_head value))
             (output W.view self.old) (output W.view self.new) result }
     {
+        if has_large_error::<W>() {
+            return self.put_signed(value as i64);
+        }
         self.put(&value)
     }
 
@@ -109,6 +174,9 @@ impl<W: Write> Serializer<W> {
         ensures { Serializes W.atomic (encoded (signed_head value))
             (output W.view self.old) (output W.view self.new) result }
     {
+        if has_large_error::<W>() {
+            return self.put_signed(value as i64);
+        }
         self.put(&value)
     }
 
@@ -122,6 +190,9 @@ impl<W: Write> Serializer<W> {
         ensures { Serializes W.atomic (encoded (signed_head value))
             (output W.view self.old) (output W.view self.new) result }
     {
+        if has_large_error::<W>() {
+            return self.put_signed(value);
+        }
         self.put(&value)
     }
 
@@ -147,6 +218,9 @@ impl<W: Write> Serializer<W> {
         ensures { Serializes W.atomic (encoded (shortest_head 0 value))
             (output W.view self.old) (output W.view self.new) result }
     {
+        if has_large_error::<W>() {
+            return self.put_head(major::UNSIGNED, value as u64);
+        }
         self.put(&value)
     }
 
@@ -160,6 +234,9 @@ impl<W: Write> Serializer<W> {
         ensures { Serializes W.atomic (encoded (shortest_head 0 value))
             (output W.view self.old) (output W.view self.new) result }
     {
+        if has_large_error::<W>() {
+            return self.put_head(major::UNSIGNED, value as u64);
+        }
         self.put(&value)
     }
 
@@ -173,6 +250,9 @@ impl<W: Write> Serializer<W> {
         ensures { Serializes W.atomic (encoded (shortest_head 0 value))
             (output W.view self.old) (output W.view self.new) result }
     {
+        if has_large_error::<W>() {
+            return self.put_head(major::UNSIGNED, value as u64);
+        }
         self.put(&value)
     }
 
@@ -186,6 +266,9 @@ impl<W: Write> Serializer<W> {
         ensures { Serializes W.atomic (encoded (shortest_head 0 value))
             (output W.view self.old) (output W.view self.new) result }
     {
+        if has_large_error::<W>() {
+            return self.put_head(major::UNSIGNED, value);
+        }
         self.put(&value)
     }
 
@@ -263,6 +346,9 @@ impl<W: Write> Serializer<W> {
         ensures { Serializes W.atomic (encoded (definite_string 3 value.now))
             (output W.view self.old) (output W.view self.new) result }
     {
+        if has_large_error::<W>() {
+            return self.put_string(major::STRING, value.as_bytes());
+        }
         self.put(&value)
     }
 
@@ -276,6 +362,9 @@ impl<W: Write> Serializer<W> {
         ensures { Serializes W.atomic (encoded (definite_string 2 value.now))
             (output W.view self.old) (output W.view self.new) result }
     {
+        if has_large_error::<W>() {
+            return self.put_string(major::BYTES, value);
+        }
         self.put(&Bytes(value))
     }
 
@@ -289,6 +378,9 @@ impl<W: Write> Serializer<W> {
         ensures { Serializes W.atomic (encoded (0xf6 ∷ []))
             (output W.view self.old) (output W.view self.new) result }
     {
+        if has_large_error::<W>() {
+            return self.put_head(major::SIMPLE, 22);
+        }
         self.put(&Null)
     }
 
@@ -381,6 +473,11 @@ impl<W: Write> Serializer<W> {
         ensures { Serializes W.atomic (variant_encoding variant.now (T.encoding value.now))
             (output W.view self.old) (output W.view self.new) result }
     {
+        if has_large_error::<W>() {
+            let mut answer = Ok(());
+            put_variant(self, variant, value, &mut answer);
+            return answer;
+        }
         self.variant_head(variant)?;
         value.serialize(self)
     }

@@ -7,6 +7,7 @@ ghost use Rattle.cbor4ii_ser.specs.Serializing.{Serializes, output};
 use crate::error::EncodeError;
 use crate::serialize::Serialize;
 use crate::serializer::Serializer;
+use crate::slot::{has_large_error, put_variant_of_two};
 use cbor4ii_rw::write::Write;
 
 impl<W: Write> Serializer<W> {
@@ -161,6 +162,11 @@ impl<W: Write> Serializer<W> {
             (A.encoding first.now ∷ B.encoding second.now ∷ []))
             (output W.view self.old) (output W.view self.new) result }
     {
+        if has_large_error::<W>() {
+            let mut answer = Ok(());
+            put_variant_of_two(self, variant, first, second, &mut answer);
+            return answer;
+        }
         self.tuple_variant_head(variant, 2)?;
         first.serialize(self)?;
         second.serialize(self)

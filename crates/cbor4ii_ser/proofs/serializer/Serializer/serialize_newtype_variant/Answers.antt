@@ -1,4 +1,5 @@
 use Rattle.cbor4ii_ser.specs.Laws.Joining.{serializes_then, serializes_out}
+use Rattle.cbor4ii_ser.proofs.Failing.{told}
 use Rattle.cbor4ii_ser.proofs.serializer.Serializer.serialize_newtype_variant.Goals as goal
 
 pub returns-in_err-variant_head : goal.returns-in_err-variant_head
@@ -8,3 +9,7 @@ returns-in_err-variant_head g c =
 pub returns : goal.returns
 returns g c =
     serializes_then _ _ c.serialize.result c.in_ok-variant_head.ensures c.serialize.ensures
+
+pub returns-then-has_large_error : goal.returns-then-has_large_error
+returns-then-has_large_error g c =
+    told _ _ c.put_variant.ensures.kept c.put_variant.ensures.writes

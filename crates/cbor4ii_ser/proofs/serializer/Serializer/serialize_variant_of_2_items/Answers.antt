@@ -1,4 +1,5 @@
 use Rattle.cbor4ii_ser.specs.Laws.Joining.{serializes_then, serializes_out, serializes_last}
+use Rattle.cbor4ii_ser.proofs.Failing.{told}
 use Rattle.cbor4ii_ser.proofs.serializer.Serializer.serialize_variant_of_2_items.Goals as goal
 
 pub returns-in_err-tuple_variant_head : goal.returns-in_err-tuple_variant_head
@@ -15,3 +16,7 @@ returns g c =
     serializes_then _ _ c.serialize-2.result c.in_ok-tuple_variant_head.ensures
     (serializes_then _ _ c.serialize-2.result c.in_ok-serialize.ensures
     (serializes_last c.serialize-2.result c.serialize-2.ensures))
+
+pub returns-then-has_large_error : goal.returns-then-has_large_error
+returns-then-has_large_error g c =
+    told _ _ c.put_variant_of_two.ensures.kept c.put_variant_of_two.ensures.writes

@@ -3,7 +3,7 @@ use Rattle.cbor4ii_ser.specs.Laws.Joining.{serializes_both, serializes_both_err}
 use Rattle.cbor4ii_ser.proofs.serializer.Serializer.variant_head.Goals as goal
 
 pub returns : goal.returns
-returns g c = serializes_both _ c.in_ok-map_head.ensures c.put.ensures
+returns g c = serializes_both _ c.in_ok-map_head.ensures c.serialize_str.ensures
 
 pub returns-in_err-map_head : goal.returns-in_err-map_head
 returns-in_err-map_head g c =

@@ -1,0 +1,51 @@
+-- What a call writes whose answer was left in a slot.
+use Rattle.std.proofs.Common.{◌≡◌, Option, Some, None, Result, Ok, Err, Bool, refl, sym, ◌∙◌}
+use Rattle.std.proofs.Common.{subst, rules, ℕ, List, ◌++◌}
+use Rattle.std.specs.Prelude.{IsErr, IfSome}
+use Rattle.cbor4ii_rw.specs.Writer.{Output}
+use Rattle.cbor4ii_ser.specs.declared.error.EncodeError.{EncodeError}
+use Rattle.cbor4ii_ser.specs.Item.{Encoding, encoded, followed}
+use Rattle.cbor4ii_ser.specs.Serializing.{Serializes, answered}
+use Rattle.cbor4ii_ser.specs.Laws.Joining.{serializes_err, serializes_both_err}
+
+-- the first part failed
+pub failed_then : {T E : Type 0} {atomic : Bool} {a : Encoding} (b : Encoding) {old new : Output}
+    (r : Result T (EncodeError E)) → IsErr r → Serializes atomic a old new r
+    → Serializes atomic (followed a b) old new r
+failed_then {a = a} b (Err e) is p = serializes_err a b p
+failed_then b (Ok t) is p = search rules
+
+-- the first part failed, and this was handed on
+pub failed_out : {E : Type 0} {atomic : Bool} {a : Encoding} (b : Encoding) {old new : Output}
+    (o : Option (Unit {0})) (left : Result (Unit {0}) (EncodeError E)) → o ≡ None → IsErr left
+    → Serializes atomic a old new left → Serializes atomic (followed a b) old new (answered o left)
+failed_out {atomic = atomic} {a = a} b {old = old} {new = new} o left e is p =
+    subst (λ x. Serializes atomic (followed a b) old new (answered x left)) (sym e)
+    (failed_then b left is p)
+
+both_err : {E : Type 0} {atomic : Bool} {xs : List ℕ} (ys : List ℕ) {old new : Output}
+    (left : Result (Unit {0}) (EncodeError E)) → IsErr left
+    → Serializes atomic (encoded xs) old new left → Serializes atomic (encoded (xs ++ ys)) old new left
+both_err ys (Err e) is p = serializes_both_err ys p
+both_err ys (Ok t) is p = search rules
+
+-- the same of bytes
+pub both_out : {E : Type 0} {atomic : Bool} {xs : List ℕ} (ys : List ℕ) {old new : Output}
+    (o : Option (Unit {0})) (left : Result (Unit {0}) (EncodeError E)) → o ≡ None → IsErr left
+    → Serializes atomic (encoded xs) old new left
+    → Serializes atomic (encoded (xs ++ ys)) old new (answered o left)
+both_out {atomic = atomic} {xs = xs} ys {old = old} {new = new} o left e is p =
+    subst (λ x. Serializes atomic (encoded (xs ++ ys)) old new (answered x left)) (sym e)
+    (both_err ys left is p)
+
+answered_is : {E : Type 0} (o : Option (Unit {0})) (left : Result (Unit {0}) (EncodeError E))
+    → IfSome o (λ _. left ≡ Ok tt) → answered o left ≡ left
+answered_is (Some u) left p = sym p
+answered_is None left p = refl
+
+-- the slot has the whole answer, where it said that all went well before
+pub told : {E : Type 0} {atomic : Bool} {a : Encoding} {old new : Output} (o : Option (Unit {0}))
+    (left : Result (Unit {0}) (EncodeError E)) → IfSome o (λ _. left ≡ Ok tt)
+    → Serializes atomic a old new (answered o left) → Serializes atomic a old new left
+told {atomic = atomic} {a = a} {old = old} {new = new} o left kept p =
+    subst (λ r. Serializes atomic a old new r) (answered_is o left kept) p

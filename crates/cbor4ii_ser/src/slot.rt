@@ -1,0 +1,304 @@
+//! Parts of items, written with a small answer.
+//!
+//! Where a writer has a large error, an answer that holds one is large too, and each call clears
+//! and fills the room that it takes. So these answer only whether they wrote. Where they did not,
+//! the whole answer goes through a reference. What pushes is out of line, since each push takes
+//! room in the frame that it stands in.
+ghost use Rattle.std.specs.Prelude.{◌≡◌, ◌<◌, ◌≤◌, ◌∷◌, [], ◌++◌, Err, IfNone, IfSome, IsErr};
+ghost use Rattle.cbor4ii_rw.specs.declared.error.EncodeError.TheVariants.{Write};
+ghost use Rattle.cbor4ii_items.specs.Numbers.{shortest_head};
+ghost use Rattle.cbor4ii_items.specs.Strings.{definite_string};
+ghost use Rattle.cbor4ii_ser.specs.Item.{encoded, followed, variant_head, variant_encoding};
+ghost use Rattle.cbor4ii_ser.specs.Item.{tuple_variant_encoding};
+ghost use Rattle.cbor4ii_ser.specs.Serializing.{Serializes, answered, output};
+ghost use Rattle.cbor4ii_ser.specs.declared.error.EncodeError.TheVariants.{Core};
+
+use crate::error::EncodeError;
+use crate::serialize::Serialize;
+use crate::serializer::Serializer;
+use cbor4ii_items::major;
+use cbor4ii_rw::write::Write;
+use std::mem::size_of_val;
+
+/// Four references: an error of more bytes is large.
+const LARGE: usize = 32;
+
+/// Whether an error of the writer takes much more room than a reference, as a stream's does.
+#[inline(always)]
+pub(crate) fn has_large_error<W: Write>() -> bool {
+    let none: Option<W::Error> = None;
+    size_of_val(&none) > LARGE
+}
+
+/// That the writer failed with this error goes to `answer`.
+#[cold]
+#[inline(never)]
+fn leave<E: Drop>(error: E, answer: &mut Result<(), EncodeError<E>>)
+    ensures { answer.new ≡ Err (Core (Write error)) }
+{
+    *answer = Err(EncodeError::write(error));
+}
+
+/// Writes these bytes, in one push.
+#[inline(always)]
+fn push<W: Write>(
+    writer: &mut W,
+    bytes: &[u8],
+    answer: &mut Result<(), EncodeError<W::Error>>,
+) -> Option<()>
+    ensures writes { Serializes W.atomic (encoded bytes.now)
+        (W.view writer.old) (W.view writer.new) (answered result answer.new) }
+    ensures failed { IfNone result (IsErr answer.new) }
+    ensures kept { IfSome result (λ _. answer.new ≡ answer.old) }
+{
+    match writer.push(bytes) {
+        Ok(()) => Some(()),
+        Err(error) => {
+            leave(error, answer);
+            None
+        }
+    }
+}
+
+/// Writes the shortest head of this major type with this argument, in one push.
+#[inline(never)]
+pub(crate) fn push_head_apart<W: Write>(
+    writer: &mut W,
+    major: u8,
+    argument: u64,
+    answer: &mut Result<(), EncodeError<W::Error>>,
+) -> Option<()>
+    requires { major < 8 }
+    ensures writes { Serializes W.atomic (encoded (shortest_head major argument))
+        (W.view writer.old) (W.view writer.new) (answered result answer.new) }
+    ensures failed { IfNone result (IsErr answer.new) }
+    ensures kept { IfSome result (λ _. answer.new ≡ answer.old) }
+{
+    push_head(writer, major, argument, answer)
+}
+
+/// The same, in line.
+#[inline(always)]
+fn push_head<W: Write>(
+    writer: &mut W,
+    major: u8,
+    argument: u64,
+    answer: &mut Result<(), EncodeError<W::Error>>,
+) -> Option<()>
+    requires { major < 8 }
+    ensures writes { Serializes W.atomic (encoded (shortest_head major argument))
+        (W.view writer.old) (W.view writer.new) (answered result answer.new) }
+    ensures failed { IfNone result (IsErr answer.new) }
+    ensures kept { IfSome result (λ _. answer.new ≡ answer.old) }
+{
+    if argument < 24 {
+        push(writer, &[32 * major + argument as u8], answer)
+    } else {
+        push_long_head(writer, major, argument, answer)
+    }
+}
+
+/// The same, of an argument that has bytes of its own.
+#[inline(never)]
+fn push_long_head<W: Write>(
+    writer: &mut W,
+    major: u8,
+    argument: u64,
+    answer: &mut Result<(), EncodeError<W::Error>>,
+) -> Option<()>
+    requires major { major < 8 }
+    requires long { 24 ≤ argument }
+    ensures writes { Serializes W.atomic (encoded (shortest_head major argument))
+        (W.view writer.old) (W.view writer.new) (answered result answer.new) }
+    ensures failed { IfNone result (IsErr answer.new) }
+    ensures kept { IfSome result (λ _. answer.new ≡ answer.old) }
+{
+    let first = 32 * major;
+    if argument < 0x100 {
+        push(writer, &[first + 24, argument as u8], answer)
+    } else if argument < 0x1_0000 {
+        let [a, b] = (argument as u16).to_be_bytes();
+        push(writer, &[first + 25, a, b], answer)
+    } else if argument < 0x1_0000_0000 {
+        let mut bytes = [first + 26, 0, 0, 0, 0];
+        bytes[1..].copy_from_slice(&(argument as u32).to_be_bytes());
+        push(writer, &bytes, answer)
+    } else {
+        let mut bytes = [first + 27, 0, 0, 0, 0, 0, 0, 0, 0];
+        bytes[1..].copy_from_slice(&argument.to_be_bytes());
+        push(writer, &bytes, answer)
+    }
+}
+
+/// Writes a string of this major type, its head in one push and its content in another.
+#[inline(never)]
+pub(crate) fn push_string_apart<W: Write>(
+    writer: &mut W,
+    major: u8,
+    content: &[u8],
+    answer: &mut Result<(), EncodeError<W::Error>>,
+) -> Option<()>
+    requires { major < 8 }
+    ensures writes { Serializes W.atomic (encoded (definite_string major content.now))
+        (W.view writer.old) (W.view writer.new) (answered result answer.new) }
+    ensures failed { IfNone result (IsErr answer.new) }
+    ensures kept { IfSome result (λ _. answer.new ≡ answer.old) }
+{
+    push_string(writer, major, content, answer)
+}
+
+/// The same, in line.
+#[inline(always)]
+fn push_string<W: Write>(
+    writer: &mut W,
+    major: u8,
+    content: &[u8],
+    answer: &mut Result<(), EncodeError<W::Error>>,
+) -> Option<()>
+    requires { major < 8 }
+    ensures writes { Serializes W.atomic (encoded (definite_string major content.now))
+        (W.view writer.old) (W.view writer.new) (answered result answer.new) }
+    ensures failed { IfNone result (IsErr answer.new) }
+    ensures kept { IfSome result (λ _. answer.new ≡ answer.old) }
+{
+    push_head(writer, major, content.len() as u64, answer)?;
+    push(writer, content, answer)
+}
+
+/// Writes a text.
+#[inline(always)]
+pub(crate) fn push_text_apart<W: Write>(
+    writer: &mut W,
+    text: &str,
+    answer: &mut Result<(), EncodeError<W::Error>>,
+) -> Option<()>
+    ensures writes { Serializes W.atomic (encoded (definite_string 3 text.now))
+        (W.view writer.old) (W.view writer.new) (answered result answer.new) }
+    ensures failed { IfNone result (IsErr answer.new) }
+    ensures kept { IfSome result (λ _. answer.new ≡ answer.old) }
+{
+    push_string_apart(writer, major::STRING, text.as_bytes(), answer)
+}
+
+/// The same, in line.
+#[inline(always)]
+fn push_text<W: Write>(
+    writer: &mut W,
+    text: &str,
+    answer: &mut Result<(), EncodeError<W::Error>>,
+) -> Option<()>
+    ensures writes { Serializes W.atomic (encoded (definite_string 3 text.now))
+        (W.view writer.old) (W.view writer.new) (answered result answer.new) }
+    ensures failed { IfNone result (IsErr answer.new) }
+    ensures kept { IfSome result (λ _. answer.new ≡ answer.old) }
+{
+    push_string(writer, major::STRING, text.as_bytes(), answer)
+}
+
+/// Writes the map of one entry that a variant is, up to the variant's name.
+#[inline(never)]
+pub(crate) fn push_variant_apart<W: Write>(
+    writer: &mut W,
+    name: &str,
+    answer: &mut Result<(), EncodeError<W::Error>>,
+) -> Option<()>
+    ensures writes { Serializes W.atomic (encoded (variant_head name.now))
+        (W.view writer.old) (W.view writer.new) (answered result answer.new) }
+    ensures failed { IfNone result (IsErr answer.new) }
+    ensures kept { IfSome result (λ _. answer.new ≡ answer.old) }
+{
+    push_head(writer, major::MAP, 1, answer)?;
+    push_text(writer, name, answer)
+}
+
+/// Writes what begins a variant whose content is an array of so many parts.
+#[inline(never)]
+fn push_tuple_variant_apart<W: Write>(
+    writer: &mut W,
+    name: &str,
+    len: u64,
+    answer: &mut Result<(), EncodeError<W::Error>>,
+) -> Option<()>
+    ensures writes { Serializes W.atomic (encoded (variant_head name.now ++ shortest_head 4 len))
+        (W.view writer.old) (W.view writer.new) (answered result answer.new) }
+    ensures failed { IfNone result (IsErr answer.new) }
+    ensures kept { IfSome result (λ _. answer.new ≡ answer.old) }
+{
+    push_variant_apart(writer, name, answer)?;
+    push_head(writer, major::ARRAY, len, answer)
+}
+
+/// Writes a value.
+#[inline(always)]
+fn put_part<W: Write, T: Serialize>(
+    ser: &mut Serializer<W>,
+    value: &T,
+    answer: &mut Result<(), EncodeError<W::Error>>,
+) -> Option<()>
+    ensures writes { Serializes W.atomic (T.encoding value.now)
+        (output W.view ser.old) (output W.view ser.new) (answered result answer.new) }
+    ensures failed { IfNone result (IsErr answer.new) }
+    ensures kept { IfSome result (λ _. answer.new ≡ answer.old) }
+{
+    match value.serialize(ser) {
+        Ok(()) => Some(()),
+        Err(error) => {
+            *answer = Err(error);
+            None
+        }
+    }
+}
+
+/// Writes a value, and another after it.
+#[inline(always)]
+pub(crate) fn put_both<W: Write, A: Serialize, B: Serialize>(
+    ser: &mut Serializer<W>,
+    first: &A,
+    second: &B,
+    answer: &mut Result<(), EncodeError<W::Error>>,
+) -> Option<()>
+    ensures writes { Serializes W.atomic (followed (A.encoding first.now) (B.encoding second.now))
+        (output W.view ser.old) (output W.view ser.new) (answered result answer.new) }
+    ensures failed { IfNone result (IsErr answer.new) }
+    ensures kept { IfSome result (λ _. answer.new ≡ answer.old) }
+{
+    put_part(ser, first, answer)?;
+    put_part(ser, second, answer)
+}
+
+/// Writes a variant that has this content.
+#[inline(always)]
+pub(crate) fn put_variant<W: Write, T: Serialize>(
+    ser: &mut Serializer<W>,
+    name: &str,
+    value: &T,
+    answer: &mut Result<(), EncodeError<W::Error>>,
+) -> Option<()>
+    ensures writes { Serializes W.atomic (variant_encoding name.now (T.encoding value.now))
+        (output W.view ser.old) (output W.view ser.new) (answered result answer.new) }
+    ensures failed { IfNone result (IsErr answer.new) }
+    ensures kept { IfSome result (λ _. answer.new ≡ answer.old) }
+{
+    push_variant_apart(&mut ser.writer, name, answer)?;
+    put_part(ser, value, answer)
+}
+
+/// Writes a variant whose content is an array of these two.
+#[inline(always)]
+pub(crate) fn put_variant_of_two<W: Write, A: Serialize, B: Serialize>(
+    ser: &mut Serializer<W>,
+    name: &str,
+    first: &A,
+    second: &B,
+    answer: &mut Result<(), EncodeError<W::Error>>,
+) -> Option<()>
+    ensures writes { Serializes W.atomic (tuple_variant_encoding name.now
+        (A.encoding first.now ∷ B.encoding second.now ∷ []))
+        (output W.view ser.old) (output W.view ser.new) (answered result answer.new) }
+    ensures failed { IfNone result (IsErr answer.new) }
+    ensures kept { IfSome result (λ _. answer.new ≡ answer.old) }
+{
+    push_tuple_variant_apart(&mut ser.writer, name, 2, answer)?;
+    put_part(ser, first, answer)?;
+    put_part(ser, second, answer)
+}
