@@ -133,8 +133,7 @@ fn seen_name(shown: &[u8], names: &[StaticStr]) -> Seen
 }
 
 /// The same of a name whose length stands in the byte after the first.
-#[cold]
-#[inline(never)]
+#[inline(always)]
 fn seen_long_name(shown: &[u8], names: &[StaticStr]) -> Seen
     ensures { IfWhole names.now shown.now result }
 {
