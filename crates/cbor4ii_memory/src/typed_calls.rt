@@ -219,6 +219,12 @@ enum Struct {
     Four,
     Five,
     Six,
+    Seven,
+    Eight,
+    Nine,
+    Ten,
+    Eleven,
+    Twelve,
 }
 
 /// What its fields hold.
@@ -246,6 +252,8 @@ enum Fields {
             Option<u8>,
         ),
     ),
+    /// The first and the last of more.
+    Ends(Option<String>, Option<u8>),
 }
 
 impl Calls for Struct {
@@ -277,6 +285,78 @@ fn read_struct<S: Source>(
         Struct::Six => {
             Ok(Fields::Six(de.deserialize_6_fields(alloc, "Six", "a", "b", "c", "d", "e", "f")?))
         }
+        _ => read_ends(count, alloc, de),
+    }
+}
+
+/// The first and the last field of seven or more.
+fn read_ends<S: Source>(
+    count: Struct,
+    alloc: Global,
+    de: &mut Deserializer<S>,
+) -> Result<Fields, serde::DecodeError<S::Error>> {
+    match count {
+        Struct::Seven => {
+            let (a, .., g) = de.deserialize_7_fields::<String, u8, u8, u8, u8, u8, u8>(
+                alloc, "Seven", "a", "b", "c", "d", "e", "f", "g",
+            )?;
+            Ok(Fields::Ends(a, g))
+        }
+        Struct::Eight => {
+            let (a, .., h) = de.deserialize_8_fields::<String, u8, u8, u8, u8, u8, u8, u8>(
+                alloc, "Eight", "a", "b", "c", "d", "e", "f", "g", "h",
+            )?;
+            Ok(Fields::Ends(a, h))
+        }
+        Struct::Nine => {
+            let (a, .., i) = de.deserialize_9_fields::<String, u8, u8, u8, u8, u8, u8, u8, u8>(
+                alloc, "Nine", "a", "b", "c", "d", "e", "f", "g", "h", "i",
+            )?;
+            Ok(Fields::Ends(a, i))
+        }
+        Struct::Ten => {
+            let (a, .., j) = de.deserialize_10_fields::<String, u8, u8, u8, u8, u8, u8, u8, u8, u8>(
+                alloc, "Ten", "a", "b", "c", "d", "e", "f", "g", "h", "i", "j",
+            )?;
+            Ok(Fields::Ends(a, j))
+        }
+        Struct::Eleven => {
+            let (a, .., k) = de.deserialize_11_fields::<
+                String,
+                u8,
+                u8,
+                u8,
+                u8,
+                u8,
+                u8,
+                u8,
+                u8,
+                u8,
+                u8,
+            >(
+                alloc, "Eleven", "a", "b", "c", "d", "e", "f", "g", "h", "i", "j", "k",
+            )?;
+            Ok(Fields::Ends(a, k))
+        }
+        _ => {
+            let (a, .., l) = de.deserialize_12_fields::<
+                String,
+                u8,
+                u8,
+                u8,
+                u8,
+                u8,
+                u8,
+                u8,
+                u8,
+                u8,
+                u8,
+                u8,
+            >(
+                alloc, "Twelve", "a", "b", "c", "d", "e", "f", "g", "h", "i", "j", "k", "l",
+            )?;
+            Ok(Fields::Ends(a, l))
+        }
     }
 }
 
@@ -287,6 +367,12 @@ const STRUCT_ROWS: &[CallRow<Struct>] = table! {
     ("deserialize_4_fields", Struct::Four, FOUR, "Four((Some(\"x\"), None, None, Some(4)))", b""),
     ("deserialize_5_fields", Struct::Five, FIVE, FIVE_FIELDS, b""),
     ("deserialize_6_fields", Struct::Six, SIX, SIX_FIELDS, b""),
+    ("deserialize_7_fields", Struct::Seven, SEVEN, "Ends(Some(\"x\"), Some(7))", b""),
+    ("deserialize_8_fields", Struct::Eight, EIGHT, "Ends(Some(\"x\"), Some(8))", b""),
+    ("deserialize_9_fields", Struct::Nine, NINE, "Ends(Some(\"x\"), Some(9))", b""),
+    ("deserialize_10_fields", Struct::Ten, TEN, "Ends(Some(\"x\"), Some(10))", b""),
+    ("deserialize_11_fields", Struct::Eleven, ELEVEN, "Ends(Some(\"x\"), Some(11))", b""),
+    ("deserialize_12_fields", Struct::Twelve, TWELVE, "Ends(Some(\"x\"), Some(12))", b""),
 };
 
 const FOUR: &[u8] = b"\xa2\x61a\x61x\x61d\x04";
@@ -298,6 +384,18 @@ const FIVE_FIELDS: &str = "Five((Some(\"x\"), None, None, None, Some(5)))";
 const SIX: &[u8] = b"\xbf\x61f\x06\x61a\x61x\xff";
 
 const SIX_FIELDS: &str = "Six((Some(\"x\"), None, None, None, None, Some(6)))";
+
+const SEVEN: &[u8] = b"\xa2\x61a\x61x\x61g\x07";
+
+const EIGHT: &[u8] = b"\xa2\x61a\x61x\x61h\x08";
+
+const NINE: &[u8] = b"\xa2\x61a\x61x\x61i\x09";
+
+const TEN: &[u8] = b"\xa2\x61a\x61x\x61j\x0a";
+
+const ELEVEN: &[u8] = b"\xa2\x61a\x61x\x61k\x0b";
+
+const TWELVE: &[u8] = b"\xa2\x61a\x61x\x61l\x0c";
 
 /// Typed values, each by its own call.
 pub fn types(tally: &mut Tally) -> Result<(), Broken> {

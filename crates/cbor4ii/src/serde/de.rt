@@ -7,6 +7,7 @@ mod borrowed;
 mod boxed;
 pub mod cases;
 mod character;
+mod counted_fields;
 mod cow;
 pub mod deserialize;
 pub mod deserializer;

@@ -2,12 +2,12 @@
 ghost use Rattle.std.specs.Prelude.{◌≡◌, ℕ, List, codes};
 ghost use Rattle.std.specs.Borrow.{Bor};
 ghost use Rattle.cbor4ii_items.specs.Sequences.{count_of, indefinite_of, inside_of, in_list};
-ghost use Rattle.cbor4ii.specs.Fields.{no_values, made, all_made, Alters};
+ghost use Rattle.cbor4ii.specs.Fields.{made, all_made, Alters};
 ghost use Rattle.cbor4ii.specs.Names.{StandsAt};
 ghost use Rattle.cbor4ii.specs.Made.{made_from};
 ghost use Rattle.cbor4ii.specs.Presence.{made_struct};
 ghost use Rattle.cbor4ii.specs.Structs.{Fields, no_more, field, fields_by, after_name, entry_of};
-ghost use Rattle.cbor4ii.specs.Structs.{entries_of, struct_of};
+ghost use Rattle.cbor4ii.specs.Structs.{entries_of};
 ghost use Rattle.cbor4ii.specs.Typed.{input, answer_of, Deserializes};
 
 use crate::serde::de::deserialize::Deserialize;
@@ -137,7 +137,7 @@ fn take_field<S: Source, V: Values<S>>(
 
 /// Reads the fields of these names off a map, in any order, and skips the others.
 #[inline(always)]
-fn take_fields<S: Source, V: Values<S>>(
+pub(crate) fn take_fields<S: Source, V: Values<S>>(
     alloc: Global,
     de: &mut Deserializer<S>,
     names: &[StaticStr],
@@ -275,218 +275,6 @@ impl<S: Source> Deserializer<S> {
     {
         match take_struct(alloc, self, names, missing, presences) {
             Ok(values) => Ok(T::from(values)),
-            Err(error) => Err(error),
-        }
-    }
-
-    /// A struct of one field. Of several entries of one name the last counts.
-    ///
-    /// # Errors
-    ///
-    /// Those of `deserialize_fields`, but for `Custom` of a missing field, which is none here.
-    pub fn deserialize_1_field<A: Deserialize<S> + Drop>(
-        &mut self,
-        alloc: Global,
-        name: StaticStr,
-        first: StaticStr,
-    ) -> Result<Option<A>, DecodeError<S::Error>>
-        ensures { Deserializes (struct_of (λ v. (v, no_values))
-            (field first.now A.promise no_more))
-            (input S.view self.old) (input S.view self.new) (answer_of result) }
-    {
-        let mut values = (None, ());
-        match take_fields(alloc, self, &[first], &mut values) {
-            Ok(()) => {
-                let (first, ()) = values;
-                Ok(first)
-            }
-            Err(error) => Err(error),
-        }
-    }
-
-    /// A struct of two fields. Of several entries of one name the last counts.
-    ///
-    /// # Errors
-    ///
-    /// Those of `deserialize_fields`, but for `Custom` of a missing field, which is none here.
-    pub fn deserialize_2_fields<A: Deserialize<S> + Drop, B: Deserialize<S> + Drop>(
-        &mut self,
-        alloc: Global,
-        name: StaticStr,
-        first: StaticStr,
-        second: StaticStr,
-    ) -> Result<(Option<A>, Option<B>), DecodeError<S::Error>>
-        ensures { Deserializes (struct_of (λ v. (v.0, (v.1, no_values)))
-            (field first.now A.promise (field second.now B.promise no_more)))
-            (input S.view self.old) (input S.view self.new) (answer_of result) }
-    {
-        let mut values = (None, (None, ()));
-        match take_fields(alloc, self, &[first, second], &mut values) {
-            Ok(()) => {
-                let (first, (second, ())) = values;
-                Ok((first, second))
-            }
-            Err(error) => Err(error),
-        }
-    }
-
-    /// A struct of three fields. Of several entries of one name the last counts.
-    ///
-    /// # Errors
-    ///
-    /// Those of `deserialize_fields`, but for `Custom` of a missing field, which is none here.
-    pub fn deserialize_3_fields<
-        A: Deserialize<S> + Drop,
-        B: Deserialize<S> + Drop,
-        C: Deserialize<S> + Drop,
-    >(
-        &mut self,
-        alloc: Global,
-        name: StaticStr,
-        first: StaticStr,
-        second: StaticStr,
-        third: StaticStr,
-    ) -> Result<(Option<A>, Option<B>, Option<C>), DecodeError<S::Error>>
-        ensures { Deserializes (struct_of (λ v. (v.0, (v.1, (v.2, no_values))))
-            (field first.now A.promise (field second.now B.promise (field third.now C.promise
-            no_more))))
-            (input S.view self.old) (input S.view self.new) (answer_of result) }
-    {
-        let mut values = (None, (None, (None, ())));
-        match take_fields(alloc, self, &[first, second, third], &mut values) {
-            Ok(()) => {
-                let (first, (second, (third, ()))) = values;
-                Ok((first, second, third))
-            }
-            Err(error) => Err(error),
-        }
-    }
-
-    /// A struct of four fields. Of several entries of one name the last counts.
-    ///
-    /// # Errors
-    ///
-    /// Those of `deserialize_fields`, but for `Custom` of a missing field, which is none here.
-    pub fn deserialize_4_fields<
-        A: Deserialize<S> + Drop,
-        B: Deserialize<S> + Drop,
-        C: Deserialize<S> + Drop,
-        D: Deserialize<S> + Drop,
-    >(
-        &mut self,
-        alloc: Global,
-        name: StaticStr,
-        first: StaticStr,
-        second: StaticStr,
-        third: StaticStr,
-        fourth: StaticStr,
-    ) -> Result<(Option<A>, Option<B>, Option<C>, Option<D>), DecodeError<S::Error>>
-        ensures { Deserializes (struct_of (λ v. (v.0, (v.1, (v.2, (v.3, no_values)))))
-            (field first.now A.promise (field second.now B.promise (field third.now C.promise
-            (field fourth.now D.promise no_more)))))
-            (input S.view self.old) (input S.view self.new) (answer_of result) }
-    {
-        let mut values = (None, (None, (None, (None, ()))));
-        match take_fields(alloc, self, &[first, second, third, fourth], &mut values) {
-            Ok(()) => {
-                let (first, (second, (third, (fourth, ())))) = values;
-                Ok((first, second, third, fourth))
-            }
-            Err(error) => Err(error),
-        }
-    }
-
-    /// A struct of five fields. Of several entries of one name the last counts.
-    ///
-    /// # Errors
-    ///
-    /// Those of `deserialize_fields`, but for `Custom` of a missing field, which is none here.
-    pub fn deserialize_5_fields<
-        A: Deserialize<S> + Drop,
-        B: Deserialize<S> + Drop,
-        C: Deserialize<S> + Drop,
-        D: Deserialize<S> + Drop,
-        E: Deserialize<S> + Drop,
-    >(
-        &mut self,
-        alloc: Global,
-        name: StaticStr,
-        first: StaticStr,
-        second: StaticStr,
-        third: StaticStr,
-        fourth: StaticStr,
-        fifth: StaticStr,
-    ) -> Result<(Option<A>, Option<B>, Option<C>, Option<D>, Option<E>), DecodeError<S::Error>>
-        ensures { Deserializes (struct_of (λ v. (v.0, (v.1, (v.2, (v.3, (v.4, no_values))))))
-            (field first.now A.promise (field second.now B.promise (field third.now C.promise
-            (field fourth.now D.promise (field fifth.now E.promise no_more))))))
-            (input S.view self.old) (input S.view self.new) (answer_of result) }
-    {
-        let mut values = (None, (None, (None, (None, (None, ())))));
-        match take_fields(
-            alloc,
-            self,
-            &[first, second, third, fourth, fifth],
-            &mut values,
-        ) {
-            Ok(()) => {
-                let (first, (second, (third, (fourth, (fifth, ()))))) = values;
-                Ok((first, second, third, fourth, fifth))
-            }
-            Err(error) => Err(error),
-        }
-    }
-
-    /// A struct of six fields. Of several entries of one name the last counts.
-    ///
-    /// # Errors
-    ///
-    /// Those of `deserialize_fields`, but for `Custom` of a missing field, which is none here.
-    pub fn deserialize_6_fields<
-        A: Deserialize<S> + Drop,
-        B: Deserialize<S> + Drop,
-        C: Deserialize<S> + Drop,
-        D: Deserialize<S> + Drop,
-        E: Deserialize<S> + Drop,
-        F: Deserialize<S> + Drop,
-    >(
-        &mut self,
-        alloc: Global,
-        name: StaticStr,
-        first: StaticStr,
-        second: StaticStr,
-        third: StaticStr,
-        fourth: StaticStr,
-        fifth: StaticStr,
-        sixth: StaticStr,
-    ) -> Result<
-        (
-            Option<A>,
-            Option<B>,
-            Option<C>,
-            Option<D>,
-            Option<E>,
-            Option<F>,
-        ),
-        DecodeError<S::Error>,
-    >
-        ensures { Deserializes (struct_of (λ v. (v.0, (v.1, (v.2, (v.3, (v.4, (v.5, no_values)))))))
-            (field first.now A.promise (field second.now B.promise (field third.now C.promise
-            (field fourth.now D.promise (field fifth.now E.promise (field sixth.now F.promise
-            no_more)))))))
-            (input S.view self.old) (input S.view self.new) (answer_of result) }
-    {
-        let mut values = (None, (None, (None, (None, (None, (None, ()))))));
-        match take_fields(
-            alloc,
-            self,
-            &[first, second, third, fourth, fifth, sixth],
-            &mut values,
-        ) {
-            Ok(()) => {
-                let (first, (second, (third, (fourth, (fifth, (sixth, ())))))) = values;
-                Ok((first, second, third, fourth, fifth, sixth))
-            }
             Err(error) => Err(error),
         }
     }
