@@ -16,7 +16,7 @@ use Rattle.cbor4ii_tree.proofs.skipping.Widen.{skipping_persists}
 use Rattle.cbor4ii_tree.specs.{Item.IsItem, Laws.Ignoring.one_encoding, Promises.Others}
 use Rattle.cbor4ii_tree.specs.{ReadingRejects.ReadingRejects, Rejections.Stopping}
 use Rattle.cbor4ii_tree.specs.{Valuing.ReadsOneValue, View.view, declared.value.Value.Value}
-use Rattle.cbor4ii_tree.specs.{Canonical.{canonical_encoding, canonical_cost}, Cost.{Budget, cost}}
+use Rattle.cbor4ii_tree.specs.{Canonical.{canonical_encoding, canonical_cost}, Cost.{Budget}}
 use Rattle.cbor4ii_tree.specs.{Does.Does, Encodings.{Encodes, DecodesTo, Skips, IsProperPrefix}}
 use Rattle.cbor4ii_tree.specs.Headline.{AllSkips, OnlyReads, AllReads, PrefixReads, EofReads}
 use Rattle.cbor4ii_tree.specs.{Headline.{SkipsReads, CanonicalReads}, InputError.{eof, IsEof}}

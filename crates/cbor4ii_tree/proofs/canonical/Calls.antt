@@ -1,5 +1,5 @@
 -- Heads and strings that are encoded in one way.
-use Rattle.std.proofs.Common.{◌≡◌, ℕ, ◌/◌, List, ◌∷◌, ◌++◌, length, drop, Option, Some, None, Ok}
+use Rattle.std.proofs.Common.{◌≡◌, ℕ, List, ◌++◌, length, drop, Option, Some, None, Ok}
 use Rattle.std.proofs.Common.{IfOk, IfErr, true, refl, sym, ap, ap₂, ◌∙◌, subst, append_assoc, inl}
 use Rattle.std.proofs.Common.{inr, take-append-drop, Vec, Global, String}
 use Rattle.std.specs.Prelude.{IsUtf8, string_bytes}
@@ -7,7 +7,7 @@ use Rattle.cbor4ii_rw.specs.{View.View, declared.error.DecodeError.DecodeError}
 use Rattle.cbor4ii_items.specs.{Laws.Answering.fits_zero, Laws.Heads.shortest_fits}
 use Rattle.cbor4ii_items.specs.{Laws.Prefixes.drop_more, Moves.Moves, Shortest.ReadsShortest}
 use Rattle.cbor4ii_items.specs.{Decoding.{Sound, Rejects}, Head.{head, shortest}}
-use Rattle.cbor4ii_items.specs.{Initial.{byte_string, text_string}, InputError.InputError}
+use Rattle.cbor4ii_items.specs.{Initial.{byte_string, text_string}}
 use Rattle.cbor4ii_items.specs.Shortest.{ReadsShortestString, RejectsShortest}
 use Rattle.cbor4ii_tree.specs.{CanonicalCalls.StringAt, CanonicalRejects.AtShortest}
 use Rattle.cbor4ii_tree.specs.{CanonicalRejects.CanonicalTextRejects, Cost.Budget, Does.Does}

@@ -1,12 +1,12 @@
 -- Reading a value from its canonical encoding, as a decoding call, and what its answer says.
-use Rattle.std.proofs.Common.{true, ◌≡◌, ℕ, List, [], ◌++◌, length, take, drop, None, Some, Ok, Err}
+use Rattle.std.proofs.Common.{true, ◌≡◌, ℕ, List, [], ◌++◌, length, take, drop, Some, Ok, Err}
 use Rattle.std.proofs.Common.{inl, ◌+◌, ◌≤◌, inr, refl, sym, ap, ◌∙◌, subst, arith, IfSome}
 use Rattle.std.proofs.Common.{append_assoc, append-nil, length-append, take-append-drop, suc}
 use Rattle.std.proofs.Math.Seq.{drop-append_seam, take-append_seam}
 use Rattle.std.specs.Prelude.{◌⊎◌}
 use Rattle.cbor4ii_rw.specs.{View.View, declared.error.DecodeError.DecodeError}
 use Rattle.cbor4ii_items.specs.{InputError.not_canonical, Laws.Calls.ok, Laws.Steps.moves_err}
-use Rattle.cbor4ii_items.specs.{Budget.CostFits, Decoding.{Sound, Complete, Rejects, NoneRead}}
+use Rattle.cbor4ii_items.specs.{Decoding.{Sound, Complete, Rejects, NoneRead}}
 use Rattle.cbor4ii_items.specs.{Decoding.Decodes, InputError.{InputError, input_error_of}}
 use Rattle.cbor4ii_tree.specs.{CanonicalRejects.CanonicalRejects, CanonicalShape.DecodesCanonically}
 use Rattle.cbor4ii_tree.specs.{Does.Does, Encodings.DecodesTo, Headline.EofReads, InputError.eof}
@@ -17,7 +17,7 @@ use Rattle.cbor4ii_tree.specs.Canonically.{OnlyCanonical, AllCanonical, TakesEnc
 use Rattle.cbor4ii_tree.specs.Canonically.{EveryEncoding, PrefixCanonical, DepthCanonical}
 use Rattle.cbor4ii_tree.specs.Canonically.{NeverCanonical, OthersCanonical, ValueCanonical}
 use Rattle.cbor4ii_tree.specs.{Canonically.{ExactCanonical, canonical_format}, Cost.{Budget, cost}}
-use Rattle.cbor4ii_tree.specs.InputError.{depth_overflow, IsEof, IsDepthOverflow, IsFinal}
+use Rattle.cbor4ii_tree.specs.InputError.{IsEof, IsDepthOverflow, IsFinal}
 use Rattle.cbor4ii_tree.specs.{Valuing.{ReadsOneValue, RejectsOneValue}, View.view}
 use Rattle.cbor4ii_tree.specs.declared.decode_canonical.Canonical.{Canonical}
 use Rattle.cbor4ii_tree.specs.declared.value.Value.{Value}

@@ -1,5 +1,5 @@
 -- Trees that are encoded in one way: what begins bytes, by the major type of the first.
-use Rattle.std.proofs.Common.{◌≡◌, ◌≢◌, ℕ, zero, suc, ◌+◌, ◌*◌, ◌/◌, ◌^◌, ◌<◌, List, [], ◌∷◌, ◌++◌}
+use Rattle.std.proofs.Common.{◌≡◌, ◌≢◌, ℕ, zero, suc, ◌+◌, ◌*◌, ◌/◌, ◌^◌, ◌<◌, List, ◌∷◌, ◌++◌}
 use Rattle.std.proofs.Common.{length, refl, sym, ap, ◌∙◌, subst, arith, append_assoc}
 use Rattle.std.proofs.lemmas.List.{append_cancel_left}
 use Rattle.std.specs.Int.{bytes_high_first}
@@ -8,7 +8,7 @@ use Rattle.cbor4ii_items.specs.{Head.{head, shortest}, Heads.ReadsHead, Initial.
 use Rattle.cbor4ii_items.specs.Initial.{negative, byte_string, text_string, Simple, simple_false}
 use Rattle.cbor4ii_items.specs.Initial.{simple_true, simple_null, simple_undefined, simple_byte}
 use Rattle.cbor4ii_items.specs.Initial.{Precision, half, single, double, initial, precision_byte}
-use Rattle.cbor4ii_items.specs.Initial.{precision_bytes, starts_simple, starts_bits, Initial}
+use Rattle.cbor4ii_items.specs.Initial.{precision_bytes, starts_simple, starts_bits}
 use Rattle.cbor4ii_items.specs.{Laws.Answering.fits_zero, Laws.Heads.{head_one, shortest_fits}}
 use Rattle.cbor4ii_items.specs.Laws.Heads.{argument_below, byte_count-le}
 use Rattle.cbor4ii_items.specs.Laws.SequenceParts.{fits_max}

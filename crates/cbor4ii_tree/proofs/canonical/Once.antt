@@ -2,7 +2,6 @@
 use Rattle.std.proofs.Common.{◌≡◌, ℕ, zero, suc, ◌+◌, ◌*◌, ◌/◌, ◌%◌, ◌<◌, inl, inr, List, [], ◌∷◌}
 use Rattle.std.proofs.Common.{◌++◌, length, drop, Option, Some, None, sym, ap, ◌∙◌, subst, arith}
 use Rattle.std.proofs.Common.{append_assoc, append-nil, length-append, refl}
-use Rattle.std.proofs.lemmas.List.{append_cancel_left}
 use Rattle.std.specs.Int.{bytes_high_first}
 use Rattle.cbor4ii_items.specs.{Laws.Heads.argument_below, Shortest.RejectsShortest, Head.Width}
 use Rattle.cbor4ii_items.specs.{Head.{byte_count, additional, head, shortest}, Heads.ReadsHead}
@@ -12,14 +11,13 @@ use Rattle.cbor4ii_items.specs.{Initial.{starts_bits, other_simple, initial}, La
 use Rattle.cbor4ii_items.specs.Laws.Heads.{additional-lt, length-bytes_high_first}
 use Rattle.cbor4ii_items.specs.Shortest.{shortest_rejected, shortest_indefinite, too_long}
 use Rattle.cbor4ii_items.specs.Shortest.{RejectsShortestString, length_rejected, content_cut}
-use Rattle.cbor4ii_items.specs.Strings.{CutContent}
 use Rattle.cbor4ii_tree.specs.{InputError.value_name, Laws.Ignoring.one_encoding, Meaning.value}
 use Rattle.cbor4ii_tree.specs.CanonicalRejects.{FitsCanonically, ShortestAt, AfterShortest}
 use Rattle.cbor4ii_tree.specs.CanonicalRejects.{AtShortest, CanonicalTextRejects}
 use Rattle.cbor4ii_tree.specs.CanonicalRejects.{CanonicalArrayRejects, CanonicalMapRejects}
 use Rattle.cbor4ii_tree.specs.CanonicalRejects.{CanonicalOtherRejects, CanonicalRejectsBy}
 use Rattle.cbor4ii_tree.specs.CanonicalRejects.{CanonicalRejectsFrom, CanonicalRejectsWithin}
-use Rattle.cbor4ii_tree.specs.{CanonicalRejects.CanonicalRejects, Cost.{Budget, step_in, cost}}
+use Rattle.cbor4ii_tree.specs.{CanonicalRejects.CanonicalRejects, Cost.{Budget, step_in}}
 use Rattle.cbor4ii_tree.specs.InputError.{InputError, kind_name, array_name, map_name, tag_name}
 use Rattle.cbor4ii_tree.specs.Rejections.{Stopping, RejectsAtStep, Each, RejectsInCount}
 use Rattle.cbor4ii_tree.specs.Tree.{Tree, Trees, no_trees, tree, bytes, bytes_all}

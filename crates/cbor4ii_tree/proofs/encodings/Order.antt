@@ -20,7 +20,7 @@ use Rattle.cbor4ii_tree.specs.{Canonical.{bignum, magnitude, sign_tag}, Item.{It
 use Rattle.cbor4ii_tree.specs.Item.{integer, float, bytes_item, text, sequence, mapping, tag}
 use Rattle.cbor4ii_tree.specs.{Item.{item_count, member_count}, Order.{Compares, shortest_parts}}
 use Rattle.cbor4ii_tree.specs.Order.{integer_parts, head_of, HasHead, after_head, integer_major}
-use Rattle.cbor4ii_tree.specs.{Order.{major_of, content_of, elements_of, pairs_of}, Tree.int}
+use Rattle.cbor4ii_tree.specs.{Order.{major_of, elements_of, pairs_of}, Tree.int}
 use Rattle.cbor4ii_tree.specs.Tree.{bytes, bytes_all, bytes_pairs}
 use Rattle.cbor4ii_tree.proofs.encodings.Canonical.{count-canonical_encoding, count-pairs}
 

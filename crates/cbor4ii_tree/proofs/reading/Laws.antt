@@ -14,7 +14,6 @@ use Rattle.cbor4ii_tree.specs.{Item.IsItem, Laws.Ignoring.one_encoding, Meaning.
 use Rattle.cbor4ii_tree.specs.Canonical.{canonical_encoding, canonical_cost, with_bignums}
 use Rattle.cbor4ii_tree.specs.{Cost.{Budget, skip_cost, cost}, Encodings.{Encodes, DecodesTo}}
 use Rattle.cbor4ii_tree.specs.{Encodings.{Skips, IsProperPrefix}, InputError.{InputError, eof}}
-use Rattle.cbor4ii_tree.specs.InputError.{mismatch, unsupported, require_length, require_utf8}
 use Rattle.cbor4ii_tree.specs.{InputError.{depth_overflow, Len, IsEof, IsFinal}, Item.Item}
 use Rattle.cbor4ii_tree.specs.{ReadingRejects.ReadingRejects, Tree.{Tree, bytes, Loose, Joins}}
 

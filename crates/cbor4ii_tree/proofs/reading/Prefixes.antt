@@ -1,35 +1,35 @@
 -- Where reading a value fails at the end of the input, the input is a proper prefix of a loose tree
 -- that joins chunks.
-use Rattle.std.proofs.Common.{◌≡◌, ℕ, zero, suc, ◌-◌, ◌*◌, inl, inr, List, [], ◌∷◌, ◌++◌, length}
-use Rattle.std.proofs.Common.{refl, sym, ap, ap₂, ◌∙◌, arith, subst, length-append, append_assoc}
-use Rattle.cbor4ii_items.specs.{Head.{Width, in_first, HeadFits, head, IsBytes}, Initial.sign_major}
-use Rattle.cbor4ii_items.specs.Initial.{Kind, byte_string, text_string, kind_major, precision_bytes}
+use Rattle.std.proofs.Common.{◌≡◌, ℕ, zero, suc, ◌*◌, inl, inr, List, [], ◌∷◌, length}
+use Rattle.std.proofs.Common.{refl, sym, ap₂, arith}
+use Rattle.cbor4ii_items.specs.{Head.{Width, in_first, HeadFits, IsBytes}}
+use Rattle.cbor4ii_items.specs.Initial.{Kind, byte_string, text_string}
 use Rattle.cbor4ii_items.specs.Initial.{Initial, starts_int, bad_int, starts_string, starts_chunks}
 use Rattle.cbor4ii_items.specs.Initial.{bad_string, starts_array, starts_indefinite_array}
 use Rattle.cbor4ii_items.specs.Initial.{bad_array, starts_map, starts_indefinite_map, bad_map}
 use Rattle.cbor4ii_items.specs.Initial.{starts_tag, bad_tag, starts_simple, starts_bits}
 use Rattle.cbor4ii_items.specs.Initial.{other_simple, initial}
-use Rattle.cbor4ii_tree.proofs.{parts.Prefixes.indefinite_pairs_prefix, parts.Widen.each_covers}
-use Rattle.cbor4ii_tree.proofs.{heads.Means.{HeadByte, Means, means}, parts.Cut.Shapes}
+use Rattle.cbor4ii_tree.proofs.{parts.Widen.each_covers}
+use Rattle.cbor4ii_tree.proofs.{heads.Means.{Means, means}, parts.Cut.Shapes}
 use Rattle.cbor4ii_tree.proofs.parts.Cut.{cut_string, cut_int, cut_float, cut_tag, cut_array}
 use Rattle.cbor4ii_tree.proofs.parts.Cut.{cut_open_array, cut_map, cut_open_map}
 use Rattle.cbor4ii_tree.proofs.parts.Prefixes.{Prefix, prefix_of, Prefixes, IsMore, cons_some}
-use Rattle.cbor4ii_tree.proofs.parts.Prefixes.{then_some, zeros, zeros_bytes, zeros_some}
-use Rattle.cbor4ii_tree.proofs.parts.Prefixes.{length-zeros, IsBytes-after, stepped_prefix, filled}
-use Rattle.cbor4ii_tree.proofs.parts.Prefixes.{filled_number, with_head, nought, nought_bytes}
-use Rattle.cbor4ii_tree.proofs.parts.Prefixes.{nought_some, noughts, noughts_bytes, count-noughts}
-use Rattle.cbor4ii_tree.proofs.parts.Prefixes.{each-noughts, filled_items, paired, eof_only}
-use Rattle.cbor4ii_tree.proofs.{parts.Prefixes.indefinite_prefix, parts.Widen.each_pair_covers}
+use Rattle.cbor4ii_tree.proofs.parts.Prefixes.{then_some}
+use Rattle.cbor4ii_tree.proofs.parts.Prefixes.{stepped_prefix}
+use Rattle.cbor4ii_tree.proofs.parts.Prefixes.{nought}
+use Rattle.cbor4ii_tree.proofs.parts.Prefixes.{nought_some}
+use Rattle.cbor4ii_tree.proofs.parts.Prefixes.{eof_only}
+use Rattle.cbor4ii_tree.proofs.{parts.Prefixes.indefinite_prefix}
 use Rattle.cbor4ii_tree.specs.{Cost.Budget, InputError.{kind_name, InputError, IsEof, array_name}}
 use Rattle.cbor4ii_tree.specs.{InputError.map_name, ReadingRejects.{Readable, ReadableChunk}}
-use Rattle.cbor4ii_tree.specs.ReadingRejects.{CutString, ChunkRejectsBy, ChunkRejects}
+use Rattle.cbor4ii_tree.specs.ReadingRejects.{ChunkRejectsBy, ChunkRejects}
 use Rattle.cbor4ii_tree.specs.ReadingRejects.{ReadingRejectsBy, ReadingRejectsFrom}
 use Rattle.cbor4ii_tree.specs.ReadingRejects.{ReadingRejectsWithin, ReadingRejects}
 use Rattle.cbor4ii_tree.specs.Rejections.{Stopping, AtHead, Each, EachPair, RejectsInCount}
 use Rattle.cbor4ii_tree.specs.{Rejections.{IndefiniteItems, IndefinitePairs}, Tree.{Tree, int}}
 use Rattle.cbor4ii_tree.specs.Tree.{string, chunked, array, array_indefinite, map_of}
 use Rattle.cbor4ii_tree.specs.Tree.{map_indefinite, tagged, simple, bits, Trees, no_trees, tree}
-use Rattle.cbor4ii_tree.specs.Tree.{Pairs, no_pairs, pair, bytes, bytes_all, bytes_pairs, Loose}
+use Rattle.cbor4ii_tree.specs.Tree.{Pairs, no_pairs, pair, bytes, Loose}
 use Rattle.cbor4ii_tree.specs.Tree.{LooseAll, LoosePairs, IsChunk, AreChunks, SoundStrings}
 use Rattle.cbor4ii_tree.specs.Tree.{SoundStringsAll, SoundStringsPairs, Joins, JoinsAll, JoinsPairs}
 

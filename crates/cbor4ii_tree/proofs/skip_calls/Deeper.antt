@@ -151,7 +151,8 @@ module _ (left : ℕ) {a d : View} where
       (RejectsSkippingItems left a.budget) (RejectsSkippingItems left a.budget) (λ xs ys v h. h)
       (λ xs e rest h. h) (keeps_alike a a refl) (alike_within a.budget d) (λ none. none) (λ _. refl)
       (does_ok _ _ (reached_as
-      (λ xs ys. SkipsSome (among.Items left) a.budget xs some ys) _ (λ xs ys h. goes_past left (left - some) some a.budget d.budget
+      (λ xs ys. SkipsSome (among.Items left) a.budget xs some ys) _ (λ xs ys h. goes_past left
+      (left - some) some a.budget d.budget
       xs ys same (omega (arith, few)) (some_items (among.Items left) a.budget xs some ys any h))
       (reached_by k)))
 
@@ -204,5 +205,6 @@ module _ (total left : ℕ) {a m : View}
   pub all_gone : {E : Type 0} → left ≡ 0 → Does {E = E} (λ xs (_ : Unit {0}) ys. SkipsItems total
       a.budget xs ys) (RejectsSkippingItems total a.budget) a (budgeted a.budget m) (Ok tt)
   all_gone none =
-      does_ok _ _ (reached_as (λ xs ys. GoesOn total a.budget m.budget xs left ys) _ (λ xs ys g. g.skips ys (subst (λ n. SkipsItems n m.budget ys ys) (sym none)
+      does_ok _ _ (reached_as (λ xs ys. GoesOn total a.budget m.budget xs left ys) _ (λ xs ys g.
+      g.skips ys (subst (λ n. SkipsItems n m.budget ys ys) (sym none)
       (items_none m.budget ys))) p)

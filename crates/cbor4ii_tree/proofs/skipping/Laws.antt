@@ -4,8 +4,8 @@ use Rattle.std.proofs.Common.{append_assoc, append-nil}
 use Rattle.cbor4ii_items.specs.{Budget.CostFits, Head.IsBytes}
 use Rattle.cbor4ii_tree.specs.{Laws.Ignoring.one_encoding, SkippingRejects.SkippingRejects}
 use Rattle.cbor4ii_tree.specs.{Cost.{Budget, skip_cost}, Encodings.{Skips, IsProperPrefix}}
-use Rattle.cbor4ii_tree.specs.InputError.{InputError, eof, mismatch, unsupported, require_length}
-use Rattle.cbor4ii_tree.specs.InputError.{require_utf8, depth_overflow, Len, IsEof, IsFinal}
+use Rattle.cbor4ii_tree.specs.InputError.{InputError, eof}
+use Rattle.cbor4ii_tree.specs.InputError.{depth_overflow, Len, IsEof, IsFinal}
 use Rattle.cbor4ii_tree.specs.{InputError.IsDepthOverflow, Tree.{Tree, bytes, Loose}}
 use Rattle.cbor4ii_tree.proofs.{parts.Prefixes.whole_bytes, skipping.Answer.some_skipping}
 use Rattle.cbor4ii_tree.proofs.{skipping.Answer.not_both, skipping.Prefixes.skipping_prefix}

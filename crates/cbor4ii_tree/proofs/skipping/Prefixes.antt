@@ -1,8 +1,8 @@
 -- Where skipping fails at the end of the input, the input is a proper prefix of a loose tree.
-use Rattle.std.proofs.Common.{◌≡◌, ℕ, zero, suc, ◌-◌, ◌*◌, inl, inr, List, [], ◌∷◌, ◌++◌, length}
-use Rattle.std.proofs.Common.{refl, sym, ap, ap₂, ◌∙◌, arith, subst, length-append, append_assoc}
-use Rattle.cbor4ii_items.specs.{Head.{HeadFits, head, IsBytes}, Initial.{sign_major, kind_major}}
-use Rattle.cbor4ii_items.specs.Initial.{precision_bytes, Initial, starts_int, bad_int}
+use Rattle.std.proofs.Common.{◌≡◌, ℕ, zero, suc, List, [], ◌∷◌, length}
+use Rattle.std.proofs.Common.{refl, sym, ap₂, arith}
+use Rattle.cbor4ii_items.specs.{Head.{IsBytes}}
+use Rattle.cbor4ii_items.specs.Initial.{Initial, starts_int, bad_int}
 use Rattle.cbor4ii_items.specs.Initial.{starts_string, starts_chunks, bad_string, starts_array}
 use Rattle.cbor4ii_items.specs.Initial.{starts_indefinite_array, bad_array, starts_map}
 use Rattle.cbor4ii_items.specs.Initial.{starts_indefinite_map, bad_map, starts_tag, bad_tag}
@@ -10,20 +10,20 @@ use Rattle.cbor4ii_items.specs.Initial.{starts_simple, starts_bits, other_simple
 use Rattle.cbor4ii_tree.proofs.{heads.Means.{Means, means}, parts.Cut.{Shapes, cut_string, cut_int}}
 use Rattle.cbor4ii_tree.proofs.parts.Cut.{cut_float, cut_tag, cut_array, cut_open_array, cut_map}
 use Rattle.cbor4ii_tree.proofs.{parts.Cut.cut_open_map, parts.Prefixes.{Prefix, prefix_of}}
-use Rattle.cbor4ii_tree.proofs.parts.Prefixes.{Prefixes, then_some, zeros, zeros_bytes, zeros_some}
-use Rattle.cbor4ii_tree.proofs.parts.Prefixes.{length-zeros, IsBytes-after, stepped_prefix, filled}
-use Rattle.cbor4ii_tree.proofs.parts.Prefixes.{filled_number, with_head, nought, nought_bytes}
-use Rattle.cbor4ii_tree.proofs.parts.Prefixes.{nought_some, noughts, noughts_bytes, count-noughts}
-use Rattle.cbor4ii_tree.proofs.parts.Prefixes.{each-noughts, filled_items, paired, eof_only}
-use Rattle.cbor4ii_tree.proofs.parts.Prefixes.{indefinite_prefix, indefinite_pairs_prefix}
-use Rattle.cbor4ii_tree.proofs.parts.Widen.{each_covers, each_pair_covers}
+use Rattle.cbor4ii_tree.proofs.parts.Prefixes.{Prefixes}
+use Rattle.cbor4ii_tree.proofs.parts.Prefixes.{stepped_prefix}
+use Rattle.cbor4ii_tree.proofs.parts.Prefixes.{nought}
+use Rattle.cbor4ii_tree.proofs.parts.Prefixes.{nought_some}
+use Rattle.cbor4ii_tree.proofs.parts.Prefixes.{eof_only}
+use Rattle.cbor4ii_tree.proofs.parts.Prefixes.{indefinite_prefix}
+use Rattle.cbor4ii_tree.proofs.parts.Widen.{each_covers}
 use Rattle.cbor4ii_tree.specs.{Cost.Budget, InputError.{ignored_any, InputError, IsEof}}
 use Rattle.cbor4ii_tree.specs.{Rejections.{Stopping, Each, EachPair}, SkippingRejects.Skippable}
 use Rattle.cbor4ii_tree.specs.SkippingRejects.{SkippingRejectsBy, SkippingRejectsFrom}
-use Rattle.cbor4ii_tree.specs.{SkippingRejects.{SkippingRejectsWithin, SkippingRejects}, Tree.int}
-use Rattle.cbor4ii_tree.specs.Tree.{string, chunked, array, array_indefinite, map_of}
-use Rattle.cbor4ii_tree.specs.Tree.{map_indefinite, tagged, bits, Trees, no_trees, tree, Pairs}
-use Rattle.cbor4ii_tree.specs.Tree.{no_pairs, pair, bytes, bytes_all, bytes_pairs, Loose, LooseAll}
+use Rattle.cbor4ii_tree.specs.{SkippingRejects.{SkippingRejectsWithin, SkippingRejects}}
+use Rattle.cbor4ii_tree.specs.Tree.{chunked}
+use Rattle.cbor4ii_tree.specs.Tree.{Trees, no_trees, tree, Pairs}
+use Rattle.cbor4ii_tree.specs.Tree.{no_pairs, pair, bytes, Loose, LooseAll}
 use Rattle.cbor4ii_tree.specs.Tree.{LoosePairs}
 
 nought_loose : Loose nought

@@ -1,8 +1,6 @@
 -- An answer of a value that is there, or of an error that was left.
-use Rattle.std.proofs.Common.{◌≡◌, ℕ, ◌+◌, ◌≤◌, Option, Some, None, OnOk, OnSome, IfOk, IfSome}
-use Rattle.std.proofs.Common.{arith}
-use Rattle.cbor4ii_rw.specs.{View.View, declared.error.DecodeError.DecodeError}
-use Rattle.cbor4ii_items.specs.Moves.{Moves}
+use Rattle.std.proofs.Common.{Option, Some, None, OnOk, OnSome, IfOk, IfSome}
+use Rattle.cbor4ii_rw.specs.{declared.error.DecodeError.DecodeError}
 use Rattle.cbor4ii_tree.specs.Does.{answered}
 
 pub known_if : {V E : Type 0} (r : Option V) (failure : Option (DecodeError E)) (P : V → Type 0)

@@ -4,10 +4,10 @@ use Rattle.std.proofs.Common.{take, drop, take-append-drop, length-drop, true, S
 use Rattle.std.proofs.Common.{Result, Ok, refl, sym, ap, ◌∙◌, subst, arith}
 use Rattle.cbor4ii_rw.specs.Reader.{Advances, IsPrefix, KeepsAllButBudget, Shows, StepsIn, counts}
 use Rattle.cbor4ii_rw.specs.{View.{View, IfKnown}, declared.error.DecodeError.DecodeError}
-use Rattle.cbor4ii_items.specs.{Head.{IsBytes, head}, Laws.Heads.argument_below}
+use Rattle.cbor4ii_items.specs.{Head.{IsBytes, head}}
 use Rattle.cbor4ii_items.specs.Laws.Running.{kept_alike, peeked, shows_kept}
 use Rattle.cbor4ii_items.specs.{Laws.Steps.counts_more, Moves.Kept, Reading.{Runs, peek_at}}
-use Rattle.cbor4ii_tree.specs.{CanonicalRejects.ShortestAt, Cost.Budget, Deeper.budgeted}
+use Rattle.cbor4ii_tree.specs.{Cost.Budget, Deeper.budgeted}
 use Rattle.cbor4ii_tree.specs.{Rejections.Stopping, Valuing.HeadAt, declared.leaf.Head.Head}
 use Rattle.cbor4ii_tree.specs.{declared.leaf.Leaf.Leaf, declared.leaf.Leaf.TheVariants.Begins}
 use Rattle.cbor4ii_tree.specs.{Does.{Accepting, Does}, InputError.value_name, Leaf.HeadStands}

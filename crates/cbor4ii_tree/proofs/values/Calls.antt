@@ -7,7 +7,7 @@ use mir.{Syntax.w128, Val.to_z}
 use Rattle.cbor4ii_rw.specs.{Reader.{KeepsAllButBudget, StepsIn, step_back}, View.View}
 use Rattle.cbor4ii_rw.specs.declared.error.DecodeError.{DecodeError}
 use Rattle.cbor4ii_items.specs.{Budget.CostFits, Head.{Width, in_first, one, two, four, eight}}
-use Rattle.cbor4ii_items.specs.Head.{byte_count, additional, HeadFits, head, indefinite_head}
+use Rattle.cbor4ii_items.specs.Head.{byte_count, additional, HeadFits, indefinite_head}
 use Rattle.cbor4ii_items.specs.{Heads.{RejectsHead, Begins}, Initial.{Info, wide, indefinite_ended}}
 use Rattle.cbor4ii_items.specs.Initial.{reserved, info_of, initial, by_major, int_by_info, Sign}
 use Rattle.cbor4ii_items.specs.{Initial.{unsigned, negative, sign_major}, InputError.InputError}

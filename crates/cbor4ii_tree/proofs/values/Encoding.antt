@@ -1,15 +1,14 @@
 -- What values are written as, in the words of the calls that write the parts.
-use Rattle.std.proofs.Common.{◌≡◌, ℕ, ◌^◌, List, [], ◌∷◌, ◌++◌, length, Bool, true, false, cond}
-use Rattle.std.proofs.Common.{ltb, ℤ, pos, negsuc, refl, sym, ap, ◌∙◌, append_assoc, rules, Vec}
+use Rattle.std.proofs.Common.{◌≡◌, ℕ, List, [], ◌∷◌, ◌++◌, length, Bool, true, false}
+use Rattle.std.proofs.Common.{ℤ, refl, sym, ap, ◌∙◌, append_assoc, rules, Vec}
 use Rattle.std.proofs.Common.{Global, Box}
-use Rattle.std.specs.Prelude.{Result, Ok, Err, OnOk}
-use Rattle.cbor4ii_items.specs.{Numbers.signed_bytes, SequenceBytes.items_bytes, Simple.bool_byte}
-use Rattle.cbor4ii_items.specs.{Head.{shortest, head}, Initial.{Sign, unsigned, negative}}
-use Rattle.cbor4ii_items.specs.{Initial.sign_major, Numbers.{shortest_head, bignum_bytes}}
+use Rattle.cbor4ii_items.specs.{SequenceBytes.items_bytes, Simple.bool_byte}
+use Rattle.cbor4ii_items.specs.{Head.{shortest, head}}
+use Rattle.cbor4ii_items.specs.{Numbers.{shortest_head}}
 use Rattle.cbor4ii_tree.specs.Canonical.{canonical_encoding, canonical_trees, canonical_pairs}
-use Rattle.cbor4ii_tree.specs.{Canonical.{bignum, sign_tag}, Encoding.{value_bytes, member_bytes}}
+use Rattle.cbor4ii_tree.specs.{Encoding.{value_bytes, member_bytes}}
 use Rattle.cbor4ii_tree.specs.Item.{boolean, integer, sequence, mapping, tag, item_count}
-use Rattle.cbor4ii_tree.specs.{Item.member_count, Tree.{int, bytes, bytes_all, bytes_pairs, count}}
+use Rattle.cbor4ii_tree.specs.{Item.member_count, Tree.{bytes_all, bytes_pairs, count}}
 use Rattle.cbor4ii_tree.specs.{Tree.pair_count, View.{view, items_view, members_view}}
 use Rattle.cbor4ii_tree.specs.declared.value.Value.{Value, Bool as VBool, Integer, Array, Map, Tag}
 use Rattle.cbor4ii_tree.specs.declared.value.Value.{the_lemmas}

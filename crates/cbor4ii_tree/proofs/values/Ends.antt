@@ -1,12 +1,12 @@
 -- No byte is left where a value is to begin.
-use Rattle.std.proofs.Common.{◌≡◌, ℕ, ◌<◌, List, [], ◌∷◌, length, Option, Some, None, Err, IfSome}
+use Rattle.std.proofs.Common.{◌≡◌, ℕ, ◌<◌, List, [], length, Some, Err}
 use Rattle.std.proofs.Common.{refl, sym, ap, ◌∙◌, subst}
 use denote.Ref.{Bor}
 use Rattle.cbor4ii_rw.specs.{Reader.{Shows, IsPrefix}, View.{View, IfKnown}}
 use Rattle.cbor4ii_rw.specs.declared.error.DecodeError.TheVariants.{Eof}
-use Rattle.cbor4ii_items.specs.{InputError.InputError, Laws.Running.shows_kept, Reading.peek_at}
+use Rattle.cbor4ii_items.specs.{InputError.InputError, Laws.Running.shows_kept}
 use Rattle.cbor4ii_tree.specs.{Does.{Accepting, Does}, InputError.{value_name, eof, Small}}
-use Rattle.cbor4ii_tree.specs.{Laws.Binds.is_err, Rejections.{Stopping, Is}}
+use Rattle.cbor4ii_tree.specs.{Rejections.{Stopping, Is}}
 use Rattle.cbor4ii_tree.proofs.skip_calls.Doing.{does_reject}
 
 -- an end of the input there fails so

@@ -24,9 +24,9 @@ use Rattle.cbor4ii_tree.proofs.skip_calls.Doing.{reached_then, reached_by, does_
 use Rattle.cbor4ii_tree.proofs.{values.ByHead.next_shown, values.Calls.{whole, value_no_step}}
 use Rattle.cbor4ii_tree.proofs.{values.Calls.{value_no_byte, rejects_under}, values.Ends.none_shown}
 use Rattle.cbor4ii_tree.proofs.{values.Items.items_are, values.Leaves.{MayTake, some_as, wants_may}}
-use Rattle.cbor4ii_tree.specs.{Meaning.member_values, Prefix.Offers, ReadingRejects.Readable}
+use Rattle.cbor4ii_tree.specs.{Meaning.member_values, Prefix.Offers}
 use Rattle.cbor4ii_tree.specs.{declared.leaf.Next.Next, declared.run.Ran.Ran}
-use Rattle.cbor4ii_tree.specs.{CanonicalRejects.FitsCanonically, Cost.{Budget, step_in}}
+use Rattle.cbor4ii_tree.specs.{Cost.{Budget, step_in}}
 use Rattle.cbor4ii_tree.specs.{Does.{Accepting, Does, answered, error_left}, InputError.InputError}
 use Rattle.cbor4ii_tree.specs.{InputError.{value_name, Small}, Item.{AreItems, AreMembers, IsItem}}
 use Rattle.cbor4ii_tree.specs.{Item.{item, no_items}, Laws.Binds.step_up, Leaf.DoesAfterNext}
@@ -622,7 +622,8 @@ module _ (exact : Bool) (full : ℕ) (before : List Value) {E : Type 0} {a : Vie
       (Err e) → Does {V = Unit {0}} {E = E} (PutsItemsUnder exact before after a.budget)
       (RejectsItemsUnder exact (full - length before) a.budget) a b (Err e)
   turn_ends after lacks d =
-      does_err (λ xs ys. xs ≡ ys) _ _ RejectsWhereNone _ (λ xs ys z rest is s budget step. stopped_after (Whole exact budget)
+      does_err (λ xs ys. xs ≡ ys) _ _ RejectsWhereNone _ (λ xs ys z rest is s budget step.
+      stopped_after (Whole exact budget)
       (RejectsOneValue exact budget) [] (full - length before) xs xs z rest (
         no_trees,
         refl,
@@ -734,7 +735,8 @@ module _ (exact : Bool) (full : ℕ) (items after : List Value) {a m : View}
       ReadsItems exact (length after) a.budget xs after ys) a b
   ran {u = u} d =
       reached_then (λ xs ys. ReadsItems exact (length items) a.budget xs items ys) (λ xs ys.
-      PutsItems exact items after m.budget xs u ys) _ (λ xs ys zs h s. subst (λ us. ReadsItems exact (length us) a.budget xs
+      PutsItems exact items after m.budget xs u ys) _ (λ xs ys zs h s. subst (λ us. ReadsItems exact
+      (length us) a.budget xs
       us zs) (sym s.1) (join_items (Whole exact a.budget) items s.0 xs ys zs h (subst (λ o.
       ReadsItems exact (length s.0) o ys s.0 zs) p.kept.budget s.2))) p (reached_by d)
 
@@ -743,7 +745,9 @@ module _ (exact : Bool) (full : ℕ) (items after : List Value) {a m : View}
       (RejectsItems exact (full - length items) m.budget) m b (Err e)
       → Does {V = V} B (RejectsItems exact full a.budget) a b (Err e)
   run_rejects B d =
-      does_err (λ xs ys. ReadsItems exact (length items) a.budget xs items ys) _ B (RejectsItems exact (full - length items) m.budget) _ (λ xs ys z rest h s. stopped_further (Whole exact a.budget)
+      does_err (λ xs ys. ReadsItems exact (length items) a.budget xs items ys) _ B (RejectsItems
+      exact (full - length items) m.budget) _ (λ xs ys z rest h s. stopped_further
+      (Whole exact a.budget)
       (RejectsOneValue exact a.budget) items full xs ys z rest h (subst (λ o. RejectsItems exact
       (full - length items) o ys z rest) p.kept.budget s)) p d
 

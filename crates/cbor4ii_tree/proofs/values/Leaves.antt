@@ -27,7 +27,7 @@ use Rattle.cbor4ii_tree.specs.{Item.IsItem, Laws.Binds.step_up, Leaf.{CanTake, D
 use Rattle.cbor4ii_tree.specs.Leaf.{ExactHead, StandsAhead, SeesLeaf, ShowsFirst, ShowsNext}
 use Rattle.cbor4ii_tree.specs.{Leaf.{TakesLeaf, WantsContent}, Meaning.{number, simple_item}}
 use Rattle.cbor4ii_tree.specs.{Meaning.content_item, Prefix.Offers, Tree.{int, bits, simple}}
-use Rattle.cbor4ii_tree.specs.{Tree.{string, bytes, TextIsUtf8}, Valuing.{SimpleOf, ReadsUnder}}
+use Rattle.cbor4ii_tree.specs.{Tree.{string, TextIsUtf8}, Valuing.{SimpleOf, ReadsUnder}}
 use Rattle.cbor4ii_tree.specs.declared.leaf.Leaf.TheVariants.{Whole, NoMemory, End}
 use Rattle.cbor4ii_tree.specs.declared.value.Value.{Integer, Float}
 use Rattle.cbor4ii_tree.proofs.{heads.Inverse.IsBytes-take, skip_calls.Doing.does_ok}

@@ -1,9 +1,5 @@
 -- Calls that write, whose error is left elsewhere.
-use Rattle.std.proofs.Common.{List, ℕ, Option, Some, None, Result, Ok, Err, Bool, OnSome, sym}
-use Rattle.std.proofs.Common.{subst}
-use Rattle.cbor4ii_rw.specs.Writer.{Output}
-use Rattle.cbor4ii_items.specs.Writing.{Writes}
-use Rattle.cbor4ii_tree.specs.Sending.{sent, Sends}
+use Rattle.std.proofs.Common.{Option, Some, None, OnSome}
 
 pub on_some : {U P Q : Type 0} (r : Option U) → (P → Q) → OnSome r P → OnSome r Q
 on_some (Some u) f p = f p

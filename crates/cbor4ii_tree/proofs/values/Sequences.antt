@@ -306,7 +306,8 @@ pub array_definite : (exact : Bool) {E : Type 0} (n : ℕ)
     b r → Does (λ xs v ys. ReadsArrayInside exact a.budget xs v.items ys) (RejectsMajor exact 4
     a.budget) a b r
 array_definite exact n {a = a} {m = m} p d =
-    does_after (HeadAt exact 4 n) (λ xs v ys. ReadsItems exact n m.budget xs v.items ys) _ (RejectsItems exact n m.budget) _ (λ xs ys zs v h s. inl (
+    does_after (HeadAt exact 4 n) (λ xs v ys. ReadsItems exact n m.budget xs v.items ys) _
+    (RejectsItems exact n m.budget) _ (λ xs ys zs v h s. inl (
       n,
       ys,
       h,

@@ -3,9 +3,9 @@ use Rattle.cbor4ii_items.specs.{Laws.Running.kept_alike, Laws.Steps.kept_then}
 use Rattle.cbor4ii_tree.specs.{Deeper.budgeted, Does.error_left, InputError.{array_name, map_name}}
 use Rattle.cbor4ii_tree.specs.{InputError.value_name, Item.tag, LeafRuns.{flat, flat_values}}
 use Rattle.cbor4ii_tree.specs.Valuing.{ReadsOneValue, RejectsOneValue, ReadsMember, RejectsMember}
-use Rattle.cbor4ii_tree.specs.Valuing.{MakesArray, MakesMap, TakesLength, TakesTag, ReadsTagged}
-use Rattle.cbor4ii_tree.specs.Valuing.{RejectsMembers, ReadsStepped, RejectsOf, ReadsItems}
-use Rattle.cbor4ii_tree.specs.Valuing.{ReadsArrayInside, ReadsMapInside, RejectsMajor, ReadsMembers}
+use Rattle.cbor4ii_tree.specs.Valuing.{MakesArray, MakesMap}
+use Rattle.cbor4ii_tree.specs.Valuing.{ReadsStepped, RejectsOf, ReadsItems}
+use Rattle.cbor4ii_tree.specs.Valuing.{ReadsArrayInside, ReadsMapInside, ReadsMembers}
 use Rattle.cbor4ii_tree.specs.Valuing.{ReadsIndefiniteItems, RejectsIndefiniteItems}
 use Rattle.cbor4ii_tree.specs.Valuing.{ReadsIndefiniteMembers, RejectsIndefiniteMembers, ReadsUnder}
 use Rattle.cbor4ii_tree.specs.{Valuing.{Whole, ReadsEach}, View.view}

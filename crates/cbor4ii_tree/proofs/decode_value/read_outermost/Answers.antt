@@ -1,5 +1,5 @@
 use Rattle.std.proofs.Common.{refl}
-use Rattle.cbor4ii_tree.specs.{InputError.value_name, Valuing.{ReadsOneValue, RejectsOneValue}}
+use Rattle.cbor4ii_tree.specs.{InputError.value_name}
 use Rattle.cbor4ii_tree.proofs.{skip_calls.Doing.does_no_step}
 use Rattle.cbor4ii_tree.proofs.values.Calls.{stepped, value_no_step}
 use Rattle.cbor4ii_tree.proofs.decode_value.read_outermost.Goals as goal

@@ -1,4 +1,3 @@
-use Rattle.cbor4ii_tree.specs.Valuing.{RejectsMajor, TakesLength}
 use Rattle.cbor4ii_tree.proofs.{skip_calls.Doing.does_ok, values.ByHead.takes_head}
 use Rattle.cbor4ii_tree.proofs.decode_value.take_length.Goals as goal
 

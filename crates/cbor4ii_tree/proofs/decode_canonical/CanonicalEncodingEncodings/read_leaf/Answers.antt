@@ -4,9 +4,8 @@ use Rattle.cbor4ii_items.specs.{Initial.{unsigned, negative, byte_string}, Short
 use Rattle.cbor4ii_items.specs.Shortest.{ReadsShortestString, RejectsShortest}
 use Rattle.cbor4ii_items.specs.Shortest.{RejectsShortestString}
 use Rattle.cbor4ii_tree.specs.{CanonicalCalls.TextAt, CanonicalRejects.CanonicalTextRejects}
-use Rattle.cbor4ii_tree.specs.{InputError.{sign_name, kind_name}, Valuing.ReadsUnder}
-use Rattle.cbor4ii_tree.specs.{Valuing.{RejectsFirst, RejectsUnder}, declared.value.Value.Bytes}
-use Rattle.cbor4ii_tree.specs.declared.value.Value.{Text}
+use Rattle.cbor4ii_tree.specs.{InputError.{sign_name, kind_name}}
+use Rattle.cbor4ii_tree.specs.{Valuing.{RejectsUnder}, declared.value.Value.Bytes}
 use Rattle.cbor4ii_tree.proofs.canonical.Calls.{string_of, bytes_exact, text_exact}
 use Rattle.cbor4ii_tree.proofs.skip_calls.Doing.{does_ok, reached_as, reached_by, still_rejected}
 use Rattle.cbor4ii_tree.proofs.values.Heads.{at_major, head_at, leaf_read, leaf_rejected}

@@ -11,7 +11,8 @@ pub returns-in_ok-count-clause-does : goal.returns-in_ok-count-clause-does
 returns-in_ok-count-clause-does g c before shows =
     let m = g.S.Source.view c.args.reader.now in
     after_peeked c.args.first shows.runs (TakesLength true c.args.major) (RejectsMajor true
-    c.args.major) (does_ok _ _ (reached_shortest c.args.major c.in_ok-count.count c.in_ok-count.ensures.moves
+    c.args.major) (does_ok _ _ (reached_shortest c.args.major c.in_ok-count.count
+    c.in_ok-count.ensures.moves
     c.in_ok-count.ensures.sound))
 
 pub returns-in_err-count-clause-does : goal.returns-in_err-count-clause-does
@@ -27,7 +28,8 @@ pub returns-in_ok-count-2-clause-does : goal.returns-in_ok-count-2-clause-does
 returns-in_ok-count-2-clause-does g c before shows =
     let m = g.S.Source.view c.args.reader.now in
     after_peeked c.args.first shows.runs (TakesLength true c.args.major) (RejectsMajor true
-    c.args.major) (does_ok _ _ (reached_shortest c.args.major c.in_ok-count-2.count c.in_ok-count-2.ensures.moves
+    c.args.major) (does_ok _ _ (reached_shortest c.args.major c.in_ok-count-2.count
+    c.in_ok-count-2.ensures.moves
     c.in_ok-count-2.ensures.sound))
 
 pub returns-in_err-count-2-clause-does : goal.returns-in_err-count-2-clause-does

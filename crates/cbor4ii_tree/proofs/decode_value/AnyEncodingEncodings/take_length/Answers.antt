@@ -1,6 +1,6 @@
 use Rattle.std.proofs.Common.{◌≡◌, ◌∷◌, false, refl, subst, arith}
 use Rattle.cbor4ii_items.specs.Head.{indefinite_head}
-use Rattle.cbor4ii_tree.specs.{InputError.value_name, Valuing.{IndefiniteAt, RejectsMajor}}
+use Rattle.cbor4ii_tree.specs.{InputError.value_name, Valuing.{RejectsMajor}}
 use Rattle.cbor4ii_tree.specs.Valuing.{TakesLength}
 use Rattle.cbor4ii_tree.proofs.skip_calls.Doing.{does_ok, reached_as, reached_first}
 use Rattle.cbor4ii_tree.proofs.values.ByHead.{after_peeked}
