@@ -1,5 +1,5 @@
--- What is rejected stays rejected: after further bytes, unless it is at the end of the input, and under
--- a larger budget, unless for want of a step.
+-- What is rejected stays rejected: after further bytes, unless it is at the end of the input, and
+-- under a larger budget, unless for want of a step.
 use Rattle.std.proofs.Common.{◌≡◌, ℕ, zero, suc, ◌⊎◌, inl, inr, List, [], ◌∷◌, ◌++◌, Some, None}
 use Rattle.std.proofs.Common.{refl, sym, ap, ◌∙◌, arith, subst, append_assoc, append-nil}
 use Rattle.cbor4ii_items.specs.{Budget.CostFits, Head.{Width, byte_count, head}}
