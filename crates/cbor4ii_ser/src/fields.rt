@@ -31,8 +31,10 @@ impl<W: Write> Serializer<W> {
             (field first_name.now (A.encoding first.now) ∷ []))
             (output W.view self.old) (output W.view self.new) result }
     {
-        self.map_head(1)?;
-        put_field(self, first_name, first)
+        match self.map_head(1) {
+            Ok(()) => put_field(self, first_name, first),
+            Err(error) => Err(error),
+        }
     }
 
     /// Writes a struct of two fields, each a name and a value: a map, in this order. The struct's
