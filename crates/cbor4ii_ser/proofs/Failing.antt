@@ -1,5 +1,5 @@
 -- What a call writes whose answer was left in a slot.
-use Rattle.std.proofs.Common.{◌≡◌, Option, Some, None, Result, Ok, Err, Bool, refl, sym, ◌∙◌}
+use Rattle.std.proofs.Common.{◌≡◌, Option, Some, None, Result, Ok, Err, Bool, refl, sym}
 use Rattle.std.proofs.Common.{subst, rules, ℕ, List, ◌++◌}
 use Rattle.std.specs.Prelude.{IsErr, IfSome}
 use Rattle.cbor4ii_rw.specs.Writer.{Output}

@@ -1,5 +1,6 @@
 pub mod heads
 pub mod parts
+pub mod profile
 pub mod skipping
 pub mod reading
 pub mod values

@@ -1,8 +1,7 @@
 -- An input that is kept as its bytes, where it is read as a value.
 use Rattle.std.proofs.Common.{◌≡◌, ℕ, List, take, Option, Some, Result, Ok, Err, refl, sym, subst}
 use Rattle.std.specs.Result.{IsErrAnd}
-use Rattle.cbor4ii_rw.specs.declared.error.DecodeError.{DecodeError}
-use Rattle.cbor4ii_rw.specs.declared.error.WholeError.{WholeError}
+use Rattle.cbor4ii_rw.specs.declared.error.{DecodeError.DecodeError, WholeError.WholeError}
 use Rattle.cbor4ii_rw.specs.declared.error.WholeError.TheVariants.{Decode, Trailing}
 use Rattle.cbor4ii_items.specs.{Decoding.NoneRead, InputError.input_error_of}
 use Rattle.cbor4ii_items.specs.{Laws.Answering.if_some, Whole.{DecodesWhole, NoneIsWhole, NotBegun}}
@@ -44,10 +43,9 @@ at_err bytes (Trailing left) d = record {
   rejects = tt;
 }
 
-pub rejected : {E : Type 0} (bytes : List ℕ) (w : WholeError (DecodeError E))
-    → DecodesWhole value_format bytes (Err w)
-    → (r : Result PlainRawValue (WholeError (DecodeError E))) → IsErrAnd r (λ x. x ≡ w)
-    → DecodesWhole plain_raw_format bytes r
+pub rejected : {E : Type 0} (bytes : List ℕ) (w : WholeError (DecodeError E)) → DecodesWhole
+    value_format bytes (Err w) → (r : Result PlainRawValue (WholeError (DecodeError E)))
+    → IsErrAnd r (λ x. x ≡ w) → DecodesWhole plain_raw_format bytes r
 rejected bytes w d (Ok p) is = absurd is
 rejected bytes w d (Err x) is =
     subst (λ z. DecodesWhole plain_raw_format bytes (Err z)) (sym is) (at_err bytes w d)

@@ -1,5 +1,5 @@
+pub mod Meets
 pub mod Sound
-pub mod Reject
 pub mod Stop
 pub mod Widen
 pub mod Prefixes

@@ -1,9 +1,2 @@
-pub mod Chunks
-pub mod Again
-pub mod Sound
-pub mod Rejects
-pub mod Rejections
 pub mod Answer
-pub mod Widen
-pub mod Prefixes
 pub mod Laws

@@ -1,5 +1,4 @@
 -- What is read as a value, and what is written for one.
-pub mod Parts
 pub mod Calls
 pub mod Heads
 pub mod Leaves

@@ -2,25 +2,19 @@
 use Rattle.std.specs.Prelude.{◌≡◌, ◌≢◌, ◌+◌, ◌*◌, ◌%◌, ◌==◌, ℕ, ◌≤◌, nat_lt, if◌then◌else◌, List}
 use Rattle.std.specs.Prelude.{[], ◌∷◌, ◌++◌, length, take, drop, get_or, Some, Bool, true, false}
 use Rattle.std.specs.Prelude.{◌⊎◌}
-use Rattle.cbor4ii_items.specs.Head.{IsBytes, break}
-use Rattle.cbor4ii_items.specs.Initial.{initial}
-use Rattle.cbor4ii_tree.specs.Cost.{Budget, step_in}
-use Rattle.cbor4ii_tree.specs.InputError.{InputError, eof, Small, break_name}
-use Rattle.cbor4ii_tree.specs.Runs.{BeginsRun, TakesRun}
-use Rattle.cbor4ii_tree.specs.Rejections.{Stopping, Is, NoBreak}
-use Rattle.cbor4ii_tree.specs.Skipping.{start_of, Leads, RejectsSkippingAfter, SkipsItems}
-use Rattle.cbor4ii_tree.specs.Skipping.{RejectsSkippingOne}
-use Rattle.cbor4ii_tree.specs.declared.skip.initial.After.{After}
-use Rattle.cbor4ii_tree.specs.declared.skip.initial.After.TheVariants as trailing
-use Rattle.cbor4ii_tree.specs.declared.skip.items.Went.{Went}
+use Rattle.cbor4ii_items.specs.{Head.{IsBytes, break}, Initial.initial}
+use Rattle.cbor4ii_tree.specs.{Cost.{Budget, step_in}, InputError.{InputError, eof, Small}}
+use Rattle.cbor4ii_tree.specs.{InputError.break_name, Runs.{BeginsRun, TakesRun}}
+use Rattle.cbor4ii_tree.specs.{Rejections.{Stopping, Is, NoBreak}, Skipping.{start_of, Leads}}
+use Rattle.cbor4ii_tree.specs.Skipping.{RejectsSkippingAfter, SkipsItems, RejectsSkippingOne}
+use Rattle.cbor4ii_tree.specs.declared.skip.{initial.After.After, items.Went.Went}
 use Rattle.cbor4ii_tree.specs.declared.skip.items.Went.TheVariants.{Past, Into}
-use Rattle.cbor4ii_tree.specs.declared.skip.initial.Start.{Start}
-use Rattle.cbor4ii_tree.specs.declared.skip.initial.Start.TheVariants as start
-use Rattle.cbor4ii_tree.specs.declared.ahead.Among.{Among}
+use Rattle.cbor4ii_tree.specs.declared.{skip.initial.Start.Start, ahead.Among.Among}
 use Rattle.cbor4ii_tree.specs.declared.ahead.Among.TheVariants.{Items, Pairs, IndefiniteItems}
-use Rattle.cbor4ii_tree.specs.declared.ahead.Among.TheVariants.{IndefinitePairs}
-use Rattle.cbor4ii_tree.specs.declared.ahead.Ahead.{Ahead}
+use Rattle.cbor4ii_tree.specs.declared.ahead.{Among.TheVariants.IndefinitePairs, Ahead.Ahead}
 use Rattle.cbor4ii_tree.specs.declared.ahead.Ahead.TheVariants.{Run, Head, Break, Unseen}
+use Rattle.cbor4ii_tree.specs.declared.skip.initial.After.TheVariants as trailing
+use Rattle.cbor4ii_tree.specs.declared.skip.initial.Start.TheVariants as start
 
 -- ---- among what an item stands
 
@@ -114,11 +108,11 @@ TakesAhead among inner xs Break ys = xs ≡ break ∷ ys
 TakesAhead among inner xs Unseen ys = ys ≡ xs
 
 -- how far that leads
-abbrev pub Passes : Among → Ahead → ℕ → ℕ → Type 0
-Passes among (Run n size) old new = (1 ≤ n) × Allows among n × (new + 1 ≤ old)
-Passes among (Head size trailing) old new = new + 1 ≤ old
-Passes among Break old new = IsIndefinite among
-Passes among Unseen old new = new ≤ old
+abbrev pub Passes : Among → ℕ → ℕ → Ahead → Type 0
+Passes among old new (Run n size) = (1 ≤ n) × Allows among n × (new + 1 ≤ old)
+Passes among old new (Head size trailing) = new + 1 ≤ old
+Passes among old new Break = IsIndefinite among
+Passes among old new Unseen = new ≤ old
 
 -- ---- what is skipped
 
@@ -147,14 +141,17 @@ abbrev pub GoesUnder : Among → Budget → List ℕ → Went → List ℕ → T
 GoesUnder among inner xs (Past n) ys = SkipsSomeUnder among inner xs n ys
 GoesUnder among inner xs (Into n) ys = TakesHead inner xs (trailing.Items n) ys
 
-abbrev pub CountsWent : Among → Went → Type 0
-CountsWent among (Past n) = CountsAmong among n
-CountsWent among (Into n) = Unit {0}
+-- so many were skipped; where it was no break, the bound falls
+abbrev pub CountsSome : Among → ℕ → ℕ → ℕ → Type 0
+CountsSome among old new n = CountsAmong among n × (1 ≤ n → new + 1 ≤ old)
 
--- how far that leads
-abbrev pub Gains : Went → ℕ → ℕ → Type 0
-Gains (Past n) old new = 1 ≤ n → new + 1 ≤ old
-Gains (Into n) old new = new + 1 ≤ old
+-- or none, where a break was taken
+abbrev pub CountsNone : Among → ℕ → ℕ → ℕ → Type 0
+CountsNone among old new n = CountsAmong among n × (n ≡ 0)
+
+abbrev pub CountsWent : Among → ℕ → ℕ → Went → Type 0
+CountsWent among old new (Past n) = CountsSome among old new n
+CountsWent among old new (Into n) = new + 1 ≤ old
 
 -- a break was taken where one may come; or nothing was taken, and where a break may come another
 -- byte stands

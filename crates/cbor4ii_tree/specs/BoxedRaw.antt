@@ -1,19 +1,15 @@
 -- Items that are kept as a copy of their bytes.
-use Rattle.std.specs.Prelude.{◌≡◌, ◌≢◌, ℕ, ◌⊎◌, List, [], Some, Result, Ok, Err}
-use Rattle.std.specs.Prelude.{false, IsTrue, IfErr}
-use Rattle.cbor4ii_rw.specs.View.{View, IfKnown}
-use Rattle.cbor4ii_rw.specs.declared.error.DecodeError.{DecodeError}
+use Rattle.std.specs.Prelude.{◌≡◌, ◌≢◌, ℕ, ◌⊎◌, List, [], Some, Result, Ok, Err, false, IsTrue}
+use Rattle.std.specs.Prelude.{IfErr}
+use Rattle.cbor4ii_rw.specs.{View.{View, IfKnown}, declared.error.DecodeError.DecodeError}
 use Rattle.cbor4ii_rw.specs.declared.error.DecodeError.TheVariants.{OutOfMemory}
 use Rattle.cbor4ii_items.specs.Decoding.{IsExact, Rejects, Format, Decodes, taking_memory}
 use Rattle.cbor4ii_items.specs.InputError.{is_out_of_memory}
-use Rattle.cbor4ii_tree.specs.declared.boxed_raw.BoxedRawValue.{BoxedRawValue}
-use Rattle.cbor4ii_tree.specs.Tree.{Tree}
-use Rattle.cbor4ii_tree.specs.Cost.{Budget}
-use Rattle.cbor4ii_tree.specs.InputError.{InputError, require_borrowed}
-use Rattle.cbor4ii_tree.specs.Encodings.{Skips}
-use Rattle.cbor4ii_tree.specs.SkippingRejects.{SkippingRejects}
-use Rattle.cbor4ii_tree.specs.Raw.{raw_format, Unmoved, RejectsOnPrefix, raw_value}
-use Rattle.cbor4ii_tree.specs.Raw.{TakesItem, RejectsAsSkipping, Captured, NotCaptured}
+use Rattle.cbor4ii_tree.specs.{declared.boxed_raw.BoxedRawValue.BoxedRawValue, Tree.Tree}
+use Rattle.cbor4ii_tree.specs.{Cost.Budget, InputError.{InputError, require_borrowed}}
+use Rattle.cbor4ii_tree.specs.{Encodings.Skips, SkippingRejects.SkippingRejects, Raw.raw_format}
+use Rattle.cbor4ii_tree.specs.Raw.{Unmoved, RejectsOnPrefix, raw_value, TakesItem}
+use Rattle.cbor4ii_tree.specs.Raw.{RejectsAsSkipping, Captured, NotCaptured}
 
 abbrev pub boxed_content : BoxedRawValue → List ℕ
 boxed_content v = v.0.items
@@ -27,8 +23,7 @@ pub record LacksRoom {E : Type 0} (old new : View) (e : DecodeError E) : Type 0 
   pub item : List ℕ
   pub captured : Captured (λ (bytes : List ℕ). bytes) old new item
 
-abbrev pub CapturesCopy : {E : Type 0} → View → View →
-    Result BoxedRawValue (DecodeError E) → Type 0
+abbrev pub CapturesCopy : {E : Type 0} → View → View → Result BoxedRawValue (DecodeError E) → Type 0
 CapturesCopy old new (Ok v) = Captured boxed_content old new v
 CapturesCopy old new (Err e) = NotCaptured old new e ⊎ LacksRoom old new e
 

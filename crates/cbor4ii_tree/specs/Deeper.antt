@@ -1,10 +1,8 @@
 -- Items in the last place of others, gone on with under steps that are kept.
 use Rattle.std.specs.Prelude.{◌≡◌, ℕ, zero, suc, List, true}
-use Rattle.cbor4ii_rw.specs.View.{View}
-use Rattle.cbor4ii_rw.specs.Reader.{StepsIn}
-use Rattle.cbor4ii_tree.specs.Cost.{Budget}
-use Rattle.cbor4ii_tree.specs.InputError.{InputError}
-use Rattle.cbor4ii_tree.specs.Skipping.{SkipsItems, RejectsSkippingItems}
+use Rattle.cbor4ii_rw.specs.{View.View, Reader.StepsIn}
+use Rattle.cbor4ii_tree.specs.{Cost.Budget, InputError.InputError, Skipping.SkipsItems}
+use Rattle.cbor4ii_tree.specs.Skipping.{RejectsSkippingItems}
 
 -- so many steps were taken, and these are left
 abbrev pub Deeper : ℕ → Budget → Budget → Type 0
@@ -18,7 +16,7 @@ budgeted budget view = record view { budget = budget }
 
 -- What follows `ys` is what follows `xs`: where so many items are skipped of the one under the
 -- inner budget, so many are of the other under the outer, and so with what is rejected.
-pub record GoesOn (total : ℕ) (outer inner : Budget) (xs : List ℕ) (left : ℕ)
+pub record GoesOn (total : ℕ) (inner outer : Budget) (xs : List ℕ) (left : ℕ)
     (ys : List ℕ) : Type 0 where
   pub skips : (rest : List ℕ) → SkipsItems left inner ys rest → SkipsItems total outer xs rest
   pub rejects : (e : InputError) (rest : List ℕ) → RejectsSkippingItems left inner ys e rest

@@ -1,14 +1,11 @@
 -- What a call of a decoder promises whose items nest: which prefix of the known bytes is accepted,
 -- and where an error is found.
 use Rattle.std.specs.Prelude.{◌≡◌, ℕ, List, Option, Some, None, Result, Ok, Err, IfOk, IfErr}
-use Rattle.std.specs.Prelude.{IfSome, Bool, true, false}
-use Rattle.cbor4ii_rw.specs.View.{View, IfKnown}
-use Rattle.cbor4ii_rw.specs.declared.error.DecodeError.{DecodeError}
-use Rattle.cbor4ii_rw.specs.declared.error.DecodeError.TheVariants.{OutOfMemory}
-use Rattle.cbor4ii_items.specs.InputError.{input_error_of, is_out_of_memory}
-use Rattle.cbor4ii_items.specs.Moves.{Moves}
-use Rattle.cbor4ii_tree.specs.Cost.{Budget}
-use Rattle.cbor4ii_tree.specs.Rejections.{Stopping}
+use Rattle.std.specs.Prelude.{IfSome, IsTrue, Bool, true, false, ◌+◌, ◌≤◌}
+use Rattle.cbor4ii_rw.specs.{Reader.KeepsAllButBudget, View.{View, IfKnown}}
+use Rattle.cbor4ii_rw.specs.declared.error.DecodeError.{DecodeError, TheVariants.OutOfMemory}
+use Rattle.cbor4ii_items.specs.{InputError.{input_error_of, is_out_of_memory}, Moves.Moves}
+use Rattle.cbor4ii_tree.specs.{Cost.Budget, Rejections.Stopping}
 
 -- the bytes before, the value, and the bytes after what was taken
 abbrev pub Accepting : Type 0 → Type 1
@@ -31,6 +28,27 @@ DoesUnder accepts rejects old new answer =
 -- no growth was refused
 abbrev pub Spares : {V E : Type 0} → Result V (DecodeError E) → Type 0
 Spares answer = IfErr answer (λ e. is_out_of_memory e ≡ false)
+
+-- Such a call over the reader's own bytes or over lent ones, which stand apart from the reader. No
+-- growth is refused, and a reader that is apart keeps all but its budget.
+pub record DoesApart {V E : Type 0} (accepts : Budget → Accepting V) (rejects : Budget → Stopping)
+    (leads : ℕ → ℕ → V → Type 0) (apart : Bool) (outer inner old new : View)
+    (answer : Result V (DecodeError E)) : Type 0 where
+  pub does : DoesUnder accepts rejects old new answer
+  pub spares : Spares answer
+  pub gains : IfOk answer (leads old.bound new.bound)
+  pub stays : IsTrue apart → KeepsAllButBudget outer inner
+
+-- the bound falls, or may stay
+abbrev pub Lowers : {V : Type 0} → ℕ → ℕ → V → Type 0
+Lowers old new v = new + 1 ≤ old
+
+abbrev pub MayStay : {V : Type 0} → ℕ → ℕ → V → Type 0
+MayStay old new v = Unit {0}
+
+-- bytes are taken without a value
+abbrev pub Taking : (Budget → List ℕ → List ℕ → Type 0) → Budget → Accepting (Unit {0})
+Taking takes budget xs _ ys = takes budget xs ys
 
 -- ---- answers whose error is left elsewhere
 

@@ -1,11 +1,8 @@
 -- The parts of heads as calls of the program take them.
-use Rattle.std.specs.Prelude.{◌≡◌, ℕ, ◌≤◌, ◌%◌, List, [], ◌∷◌, ◌++◌, length}
-use Rattle.std.specs.Int.{bytes_high_first}
+use Rattle.std.specs.{Prelude.{◌≡◌, ℕ, ◌≤◌, ◌%◌, List, [], ◌∷◌, ◌++◌, length}, Int.bytes_high_first}
 use Rattle.cbor4ii_items.specs.Head.{Width, byte_count, additional, HeadFits, IsBytes}
-use Rattle.cbor4ii_items.specs.Initial.{Info, wide}
-use Rattle.cbor4ii_items.specs.Magnitude.{number_of}
-use Rattle.cbor4ii_tree.specs.InputError.{eof, Small}
-use Rattle.cbor4ii_tree.specs.Rejections.{Stopping, Is, MissingAll}
+use Rattle.cbor4ii_items.specs.{Initial.{Info, wide}, Magnitude.number_of}
+use Rattle.cbor4ii_tree.specs.{InputError.{eof, Small}, Rejections.{Stopping, Is, MissingAll}}
 
 -- ---- bytes
 

@@ -1,9 +1,7 @@
 -- What it is to skip an item: these bytes are those of a loose tree.
 use Rattle.std.specs.Prelude.{◌≡◌, ℕ, List, ◌++◌, length, drop, Option}
-use Rattle.cbor4ii_tree.specs.declared.ignored.IgnoredAny.{IgnoredAny}
-use Rattle.cbor4ii_tree.specs.Tree.{Tree, bytes, Loose}
-use Rattle.cbor4ii_tree.specs.Cost.{skip_cost}
-use Rattle.cbor4ii_tree.specs.InputError.{InputError}
+use Rattle.cbor4ii_tree.specs.{declared.ignored.IgnoredAny.IgnoredAny, Tree.{Tree, bytes, Loose}}
+use Rattle.cbor4ii_tree.specs.{Cost.skip_cost, InputError.InputError}
 use Rattle.cbor4ii_tree.specs.SkippingRejects.{SkippingRejects}
 
 -- the first n bytes are those of a loose tree, whose skip cost is c

@@ -9,7 +9,8 @@ pub mod Numbers
 pub mod PartsAgain
 pub mod Wholes
 pub mod WholeInputs
-pub mod SkippingAgain
+pub mod Profiles
+pub mod ItemAgain
 pub mod Values
 pub mod CanonicalReading
 pub mod Capturing

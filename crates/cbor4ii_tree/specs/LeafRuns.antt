@@ -14,7 +14,7 @@ use Rattle.cbor4ii_tree.specs.InputError.{eof, Small}
 use Rattle.cbor4ii_tree.specs.Rejections.{Stopping, Is, Each}
 use Rattle.cbor4ii_tree.specs.CanonicalShape.{CanonicalShape}
 use Rattle.cbor4ii_tree.specs.Tree.{Tree, Trees, Plain, count, bytes_all}
-use Rattle.cbor4ii_tree.specs.Valuing.{ReadsItems, RejectsItems}
+use Rattle.cbor4ii_tree.specs.Valuing.{ReadsItems, RejectsItems, flat_values}
 use Rattle.cbor4ii_tree.specs.View.{items_view}
 use Rattle.cbor4ii_tree.specs.declared.value.Value.{Value}
 use Rattle.cbor4ii_tree.specs.declared.leaf.Next.{Next}
@@ -22,12 +22,7 @@ use Rattle.cbor4ii_tree.specs.declared.run.Pairs.{Pairs}
 use Rattle.cbor4ii_tree.specs.declared.run.Ran.{Ran}
 use Rattle.cbor4ii_tree.specs.declared.run.Ran.TheVariants as run
 
--- the values of pairs, each key before its value
-abbrev pub flat_values : List (Value × Value) → List Value
-flat_values [] = []
-flat_values (m ∷ ms) = m.0 ∷ (m.1 ∷ flat_values ms)
-
--- the same, and after them the key whose value is to come, if there is one
+-- the values of pairs, and after them the key whose value is to come, if there is one
 abbrev pub flat_pairs : List (Value × Value) → Option Value → List Value
 flat_pairs ms None = flat_values ms
 flat_pairs ms (Some key) = flat_values ms ++ key ∷ []

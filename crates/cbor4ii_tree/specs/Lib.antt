@@ -10,6 +10,7 @@ pub mod InputError
 pub mod Encodings
 pub mod CanonicalShape
 pub mod Rejections
+pub mod ItemRejects
 pub mod SkippingRejects
 pub mod ReadingRejects
 pub mod CanonicalRejects
@@ -26,6 +27,7 @@ pub mod BoxedRaw
 pub mod PlainRaw
 -- ---- programs on lists
 pub mod Parse
+pub mod ItemAt
 pub mod Skip
 pub mod Read
 -- ---- what the calls promise each other: the words of private contracts

@@ -3,12 +3,10 @@
 use Rattle.std.specs.Prelude.{ℕ, zero, suc, ◌-◌, ◌%◌, ◌==◌, List, [], ◌∷◌, length, take, drop}
 use Rattle.std.specs.Prelude.{Option, Some, None, Result, Ok, Err, nat_lt, if◌then◌else◌}
 use Rattle.cbor4ii_items.specs.Head.{Width, in_first, one, two, four, eight, break}
-use Rattle.cbor4ii_items.specs.Magnitude.{number_of}
-use Rattle.cbor4ii_items.specs.Reading.{Reading, go_on}
-use Rattle.cbor4ii_tree.specs.Tree.{Tree, Trees, no_trees, tree, Pairs, no_pairs, pair}
-use Rattle.cbor4ii_tree.specs.Cost.{Budget}
-use Rattle.cbor4ii_tree.specs.InputError.{InputError, eof, depth_overflow, len_of, Small}
-use Rattle.cbor4ii_tree.specs.InputError.{break_name}
+use Rattle.cbor4ii_items.specs.{Magnitude.number_of, Reading.{Reading, go_on}}
+use Rattle.cbor4ii_tree.specs.{Cost.Budget, InputError.{InputError, eof, depth_overflow, len_of}}
+use Rattle.cbor4ii_tree.specs.{InputError.{Small, break_name}, Tree.{Tree, Trees, no_trees, tree}}
+use Rattle.cbor4ii_tree.specs.Tree.{Pairs, no_pairs, pair}
 
 -- what was read and the bytes after it, or the error and the bytes that are left then
 abbrev pub Answer : Type 0 → Type 0
@@ -27,19 +25,23 @@ prefix_at name k bs =
     if nat_lt (length bs) k then Err (eof name (len_of (k - length bs)), []) else Ok
     (take k bs, drop k bs)
 
--- the number in k bytes; where some are missing, all are asked for
-abbrev pub number_at : List ℕ → ℕ → Parser ℕ
-number_at name k bs =
-    if nat_lt (length bs) k then Err (eof name (len_of k), []) else Ok
+-- the number in k bytes; where only some are there, this says how many are asked for
+abbrev pub number_at : (ℕ → ℕ → ℕ) → List ℕ → ℕ → Parser ℕ
+number_at asks name k bs =
+    if nat_lt (length bs) k then Err (eof name (len_of (asks k (length bs))), []) else Ok
     (number_of (take k bs), drop k bs)
 
 -- the argument of a head whose initial byte is b
-unfoldable pub argument_of_width : List ℕ → Width → ℕ → Parser ℕ
-argument_of_width name in_first b bs = Ok (b % 32, bs)
-argument_of_width name one b bs = number_at name 1 bs
-argument_of_width name two b bs = number_at name 2 bs
-argument_of_width name four b bs = number_at name 4 bs
-argument_of_width name eight b bs = number_at name 8 bs
+unfoldable pub argument_at : (ℕ → ℕ → ℕ) → List ℕ → Width → ℕ → Parser ℕ
+argument_at asks name in_first b bs = Ok (b % 32, bs)
+argument_at asks name one b bs = number_at asks name 1 bs
+argument_at asks name two b bs = number_at asks name 2 bs
+argument_at asks name four b bs = number_at asks name 4 bs
+argument_at asks name eight b bs = number_at asks name 8 bs
+
+-- the same; where some bytes are missing, all are asked for
+abbrev pub argument_of_width : List ℕ → Width → ℕ → Parser ℕ
+argument_of_width = argument_at (λ k n. k)
 
 -- under one step more; or none is left, and these bytes are
 abbrev pub stepped : {A : Type 0} → List ℕ → Option Budget → List ℕ → (Budget → Answer A) → Answer A

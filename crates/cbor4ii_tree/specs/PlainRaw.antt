@@ -1,10 +1,8 @@
 -- Items that are kept as their bytes, and that reading a value accepts.
 use Rattle.std.specs.Prelude.{◌≡◌, ℕ, List, take, true}
 use Rattle.cbor4ii_items.specs.Decoding.{Format}
-use Rattle.cbor4ii_tree.specs.declared.plain_raw.PlainRawValue.{PlainRawValue}
-use Rattle.cbor4ii_tree.specs.declared.value.Value.{Value}
-use Rattle.cbor4ii_tree.specs.Promises.{value_format}
-use Rattle.cbor4ii_tree.specs.Raw.{raw_content}
+use Rattle.cbor4ii_tree.specs.declared.{plain_raw.PlainRawValue.PlainRawValue, value.Value.Value}
+use Rattle.cbor4ii_tree.specs.{Promises.value_format, Raw.raw_content}
 use Rattle.cbor4ii_tree.specs.ReadingRejects.{ReadingRejects}
 
 abbrev pub plain_raw_content : PlainRawValue → List ℕ

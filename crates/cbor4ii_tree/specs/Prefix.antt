@@ -1,13 +1,10 @@
 -- Where skipped bytes come from: a reader, or bytes that were lent.
-use Rattle.std.specs.Prelude.{◌≡◌, ◌≢◌, ◌<◌, ℕ, List, Some, None, length, take, min, get_or}
-use Rattle.std.specs.Prelude.{true, Result, Ok, Err}
-use Rattle.cbor4ii_rw.specs.View.{View, IfKnown}
-use Rattle.cbor4ii_rw.specs.Reader.{Shows, IsPrefix}
+use Rattle.std.specs.Prelude.{◌≡◌, ◌≢◌, ◌<◌, ℕ, List, Some, None, length, take, min, get_or, true}
+use Rattle.std.specs.Prelude.{Result, Ok, Err}
+use Rattle.cbor4ii_rw.specs.{View.{View, IfKnown}, Reader.{Shows, IsPrefix}}
 use Rattle.cbor4ii_rw.specs.declared.error.DecodeError.{DecodeError}
 use Rattle.cbor4ii_items.specs.Head.{IsBytes}
-use Rattle.cbor4ii_tree.specs.Does.{Does}
-use Rattle.cbor4ii_tree.specs.HeadParts.{TakesByte}
-use Rattle.cbor4ii_tree.specs.Rejections.{Stopping}
+use Rattle.cbor4ii_tree.specs.{Does.Does, HeadParts.TakesByte, Rejections.Stopping}
 
 -- lent bytes, read under the steps of a reader: all of them are reported, nothing fails, and the
 -- reader's own bytes count for nothing

@@ -1,25 +1,17 @@
 -- Items that are kept as their bytes.
-use Rattle.std.specs.Prelude.{◌≡◌, ◌≢◌, ℕ, ◌+◌, ◌-◌, ◌^◌, ◌≤◌, ◌⊎◌, true, false, codes}
-use Rattle.std.specs.Prelude.{List, [], length, take, drop, Some, None, Result, Ok, Err}
-use Rattle.std.specs.Prelude.{IsTrue, IfSome, MatchBool}
-use Rattle.cbor4ii_rw.specs.View.{View, IfKnown}
-use Rattle.cbor4ii_rw.specs.Reader.{IsPrefix, ReaderFails, Keeps, KeepsOrForgets}
-use Rattle.cbor4ii_rw.specs.Long.{FillsLong, BorrowsNone}
+use Rattle.std.specs.Prelude.{◌≡◌, ◌≢◌, ℕ, ◌+◌, ◌-◌, ◌^◌, ◌≤◌, ◌⊎◌, true, false, codes, List, []}
+use Rattle.std.specs.Prelude.{length, take, drop, Some, None, Result, Ok, Err, IsTrue, IfSome}
+use Rattle.std.specs.Prelude.{MatchBool}
+use Rattle.cbor4ii_rw.specs.{View.{View, IfKnown}, Reader.{IsPrefix, ReaderFails, Keeps}}
+use Rattle.cbor4ii_rw.specs.{Reader.KeepsOrForgets, Long.{FillsLong, BorrowsNone}}
 use Rattle.cbor4ii_rw.specs.declared.error.DecodeError.{DecodeError}
-use Rattle.cbor4ii_items.specs.Head.{IsBytes}
-use Rattle.cbor4ii_items.specs.Decoding.{Format}
-use Rattle.cbor4ii_items.specs.Lent.{Lends}
+use Rattle.cbor4ii_items.specs.{Head.IsBytes, Decoding.Format, Lent.Lends}
 use Rattle.cbor4ii_items.specs.InputError.{input_error_of, is_read, is_out_of_memory}
 use Rattle.cbor4ii_items.specs.InputError.{is_depth_overflow}
-use Rattle.cbor4ii_tree.specs.declared.raw.RawValue.{RawValue}
-use Rattle.cbor4ii_tree.specs.declared.lend_raw.NoPrefix.{NoPrefix}
-use Rattle.cbor4ii_tree.specs.declared.lend_raw.NoPrefix.TheVariants.{Read, Short}
-use Rattle.cbor4ii_tree.specs.Tree.{Tree, bytes}
-use Rattle.cbor4ii_tree.specs.Cost.{Budget}
-use Rattle.cbor4ii_tree.specs.InputError.{InputError, require_borrowed}
-use Rattle.cbor4ii_tree.specs.Encodings.{Skips}
-use Rattle.cbor4ii_tree.specs.SkippingRejects.{SkippingRejects}
-use Rattle.cbor4ii_tree.specs.Ignored.{ReadsTree}
+use Rattle.cbor4ii_tree.specs.declared.{raw.RawValue.RawValue, lend_raw.NoPrefix.NoPrefix}
+use Rattle.cbor4ii_tree.specs.{declared.lend_raw.NoPrefix.TheVariants.{Read, Short}, Tree.Tree}
+use Rattle.cbor4ii_tree.specs.{Tree.bytes, Cost.Budget, InputError.{InputError, require_borrowed}}
+use Rattle.cbor4ii_tree.specs.{Encodings.Skips, SkippingRejects.SkippingRejects, Ignored.ReadsTree}
 use Rattle.cbor4ii_tree.specs.Headline.{Answered, Rejected}
 
 -- the name in errors
@@ -140,9 +132,8 @@ pub record Captured {V : Type 0} (content : V → List ℕ) (old new : View) (v 
 pub data NotCaptured {E : Type 0} (old new : View) (e : DecodeError E) : Type 0 where
   failed : ReaderFails old new → is_read e ≡ true → input_error_of e ≡ None →
       is_out_of_memory e ≡ false → is_depth_overflow e ≡ false → NotCaptured old new e
-  not_lent : BorrowsNone old new → is_read e ≡ false →
-      input_error_of e ≡ Some (require_borrowed raw_value) →
-      is_out_of_memory e ≡ false → is_depth_overflow e ≡ false → NotCaptured old new e
+  not_lent : BorrowsNone old new → is_read e ≡ false → input_error_of e ≡ Some (require_borrowed
+      raw_value) → is_out_of_memory e ≡ false → is_depth_overflow e ≡ false → NotCaptured old new e
   stopped : (shown : List ℕ) → FillsLong most shown old new → RejectsPrefix shown old.budget e →
       NotCaptured old new e
 

@@ -3,11 +3,9 @@
 use Rattle.std.specs.Prelude.{◌≡◌, ◌≢◌, ℕ, ◌-◌, ◌<◌, List, [], ◌∷◌, ◌++◌, length, ◌⊎◌, Option, Some}
 use Rattle.std.specs.Prelude.{None}
 use Rattle.cbor4ii_items.specs.Head.{Width, byte_count, HeadFits, head, break}
-use Rattle.cbor4ii_tree.specs.Tree.{Tree, Trees, no_trees, tree, Pairs, no_pairs, pair, count}
-use Rattle.cbor4ii_tree.specs.Tree.{bytes, bytes_all, bytes_pairs}
-use Rattle.cbor4ii_tree.specs.Cost.{Budget}
-use Rattle.cbor4ii_tree.specs.InputError.{InputError, eof, depth_overflow, len_of, Small}
-use Rattle.cbor4ii_tree.specs.InputError.{break_name}
+use Rattle.cbor4ii_tree.specs.{Cost.Budget, InputError.{InputError, eof, depth_overflow, len_of}}
+use Rattle.cbor4ii_tree.specs.{InputError.{Small, break_name}, Tree.{Tree, Trees, no_trees, tree}}
+use Rattle.cbor4ii_tree.specs.Tree.{Pairs, no_pairs, pair, count, bytes, bytes_all, bytes_pairs}
 
 abbrev pub Stopping : Type 1
 Stopping = List ℕ → InputError → List ℕ → Type 0
@@ -16,13 +14,18 @@ Stopping = List ℕ → InputError → List ℕ → Type 0
 abbrev pub Is : InputError → List ℕ → InputError → List ℕ → Type 0
 Is err left e rest = (e ≡ err) × (rest ≡ left)
 
--- fewer than k bytes are there, and as many as are missing are asked for
-abbrev pub Missing : List ℕ → ℕ → Stopping
-Missing name k bs e rest = (length bs < k) × Is (eof name (len_of (k - length bs))) [] e rest
+-- Fewer than k bytes are there. How many are asked for goes by k, and by how many are there.
+abbrev pub Lacks : (ℕ → ℕ → ℕ) → List ℕ → ℕ → Stopping
+Lacks asks name k bs e rest =
+    (length bs < k) × Is (eof name (len_of (asks k (length bs)))) [] e rest
 
--- fewer than k bytes are there, and all k are asked for
+-- as many as are missing are asked for
+abbrev pub Missing : List ℕ → ℕ → Stopping
+Missing = Lacks (λ k n. k - n)
+
+-- all k are asked for
 abbrev pub MissingAll : List ℕ → ℕ → Stopping
-MissingAll name k bs e rest = (length bs < k) × Is (eof name (len_of k)) [] e rest
+MissingAll = Lacks (λ k n. k)
 
 -- A whole head of the major type, whose initial byte is b, and after it the bytes are rejected as
 -- its argument says (section 3).

@@ -1,7 +1,6 @@
 -- Runs: items one after another, of which each takes one step.
 use Rattle.std.specs.Prelude.{◌≡◌, ◌+◌, ◌≤◌, ℕ, List, ◌++◌, length, take, drop}
-use Rattle.cbor4ii_tree.specs.Tree.{Tree, Trees, count, bytes, bytes_all, Loose}
-use Rattle.cbor4ii_tree.specs.Cost.{skip_cost}
+use Rattle.cbor4ii_tree.specs.{Tree.{Tree, Trees, count, bytes, bytes_all, Loose}, Cost.skip_cost}
 use Rattle.cbor4ii_tree.specs.Rejections.{Each}
 
 -- an item that takes one step

@@ -1,33 +1,25 @@
 -- What the parts of skipping accept, and where they fail.
 use Rattle.std.specs.Prelude.{◌≡◌, ℕ, ◌*◌, List, ◌∷◌, ◌++◌, Option, Some, None, false}
 use Rattle.cbor4ii_rw.specs.declared.error.DecodeError.{DecodeError}
-use Rattle.cbor4ii_items.specs.Head.{byte_count, break}
-use Rattle.cbor4ii_items.specs.Initial.{precision_bytes, Info, wide, indefinite_ended, reserved}
-use Rattle.cbor4ii_items.specs.Initial.{Initial}
-use Rattle.cbor4ii_items.specs.Initial.{starts_int, bad_int, starts_string, starts_chunks}
-use Rattle.cbor4ii_items.specs.Initial.{bad_string, starts_array, starts_indefinite_array}
-use Rattle.cbor4ii_items.specs.Initial.{bad_array}
-use Rattle.cbor4ii_items.specs.Initial.{starts_map, starts_indefinite_map, bad_map, starts_tag}
-use Rattle.cbor4ii_items.specs.Initial.{bad_tag}
+use Rattle.cbor4ii_items.specs.{Head.{byte_count, break}, Initial.{precision_bytes, Info, wide}}
+use Rattle.cbor4ii_items.specs.Initial.{indefinite_ended, reserved, Initial, starts_int, bad_int}
+use Rattle.cbor4ii_items.specs.Initial.{starts_string, starts_chunks, bad_string, starts_array}
+use Rattle.cbor4ii_items.specs.Initial.{starts_indefinite_array, bad_array, starts_map}
+use Rattle.cbor4ii_items.specs.Initial.{starts_indefinite_map, bad_map, starts_tag, bad_tag}
 use Rattle.cbor4ii_items.specs.Initial.{starts_simple, starts_bits, other_simple}
-use Rattle.cbor4ii_tree.specs.Tree.{Tree, Trees, Pairs, count, bytes_all, bytes_pairs}
-use Rattle.cbor4ii_tree.specs.Cost.{Budget, step_in}
-use Rattle.cbor4ii_tree.specs.HeadParts.{DropsBytes}
 use Rattle.cbor4ii_items.specs.InputError.{input_error_of, is_read, is_depth_overflow}
 use Rattle.cbor4ii_items.specs.InputError.{is_out_of_memory}
-use Rattle.cbor4ii_tree.specs.InputError.{InputError, mismatch, unsupported, ignored_any, tag_name}
-use Rattle.cbor4ii_tree.specs.Encodings.{Skips}
-use Rattle.cbor4ii_tree.specs.Rejections.{Stopping, Missing, Each, EachPair, RejectsInCount}
-use Rattle.cbor4ii_tree.specs.Rejections.{IndefiniteItems}
-use Rattle.cbor4ii_tree.specs.Rejections.{IndefinitePairs}
+use Rattle.cbor4ii_tree.specs.Tree.{Tree, Trees, Pairs, count, bytes_all, bytes_pairs}
+use Rattle.cbor4ii_tree.specs.{Cost.{Budget, step_in}, HeadParts.DropsBytes, InputError.InputError}
+use Rattle.cbor4ii_tree.specs.InputError.{mismatch, unsupported, ignored_any, tag_name}
+use Rattle.cbor4ii_tree.specs.{Encodings.Skips, Rejections.{Stopping, Missing, Each, EachPair}}
+use Rattle.cbor4ii_tree.specs.Rejections.{RejectsInCount, IndefiniteItems, IndefinitePairs}
 use Rattle.cbor4ii_tree.specs.SkippingRejects.{Skippable, SkippingRejects}
-use Rattle.cbor4ii_tree.specs.declared.skip.initial.After.{After}
-use Rattle.cbor4ii_tree.specs.declared.skip.initial.After.TheVariants.{Nothing, Bytes, Items}
-use Rattle.cbor4ii_tree.specs.declared.skip.initial.After.TheVariants.{Members, Indefinite}
+use Rattle.cbor4ii_tree.specs.declared.skip.initial.After.{After, TheVariants.{Nothing, Bytes}}
+use Rattle.cbor4ii_tree.specs.declared.skip.initial.After.TheVariants.{Items, Members, Indefinite}
 use Rattle.cbor4ii_tree.specs.declared.skip.initial.After.TheVariants.{IndefiniteMembers}
-use Rattle.cbor4ii_tree.specs.declared.skip.initial.Start.{Start}
+use Rattle.cbor4ii_tree.specs.declared.skip.initial.{Start.Start, Additional.Additional}
 use Rattle.cbor4ii_tree.specs.declared.skip.initial.Start.TheVariants as start
-use Rattle.cbor4ii_tree.specs.declared.skip.initial.Additional.{Additional}
 use Rattle.cbor4ii_tree.specs.declared.skip.initial.Additional.TheVariants as additional
 
 -- ---- the first byte

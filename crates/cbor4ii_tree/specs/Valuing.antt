@@ -1,24 +1,23 @@
 -- What the parts of reading a value accept, and where they fail. Where exact is set, a value is
 -- read from its canonical encoding alone.
-use Rattle.std.specs.Prelude.{◌≡◌, ℕ, ◌*◌, ◌/◌, List, ◌∷◌, ◌++◌, Option, Some, None, Bool, true}
-use Rattle.std.specs.Prelude.{false, ◌⊎◌}
+use Rattle.std.specs.Prelude.{◌≡◌, ℕ, ◌*◌, ◌/◌, List, [], ◌∷◌, ◌++◌, length, Option, Some, None}
+use Rattle.std.specs.Prelude.{Bool, true, false, ◌⊎◌}
 use Rattle.cbor4ii_items.specs.Head.{Width, HeadFits, head, shortest, indefinite_head, break}
 use Rattle.cbor4ii_items.specs.Initial.{Simple, simple_byte}
 use Rattle.std.specs.declared.vec.Vec.{Vec}
 use Rattle.std.specs.declared.alloc.Global.{Global}
 use Rattle.cbor4ii_tree.specs.Does.{Accepting}
-use Rattle.cbor4ii_tree.specs.declared.value.Value.{Value, Array, Map}
+use Rattle.cbor4ii_tree.specs.declared.value.Value.{Value}
 use Rattle.cbor4ii_tree.specs.Item.{tag}
-use Rattle.cbor4ii_tree.specs.Tree.{Tree, Trees, Pairs, count, pair_count}
-use Rattle.cbor4ii_tree.specs.Tree.{bytes, bytes_all, bytes_pairs}
-use Rattle.cbor4ii_tree.specs.Meaning.{value, values, member_values, simple_item}
+use Rattle.cbor4ii_tree.specs.Tree.{Tree, Trees, count, bytes, bytes_all}
+use Rattle.cbor4ii_tree.specs.Meaning.{value, values, simple_item}
 use Rattle.cbor4ii_tree.specs.Cost.{Budget, step_in}
-use Rattle.cbor4ii_tree.specs.Rejections.{Stopping, Each, EachPair, RejectsInCount, IndefiniteItems}
+use Rattle.cbor4ii_tree.specs.Rejections.{Stopping, Each, RejectsInCount, IndefiniteItems}
 use Rattle.cbor4ii_tree.specs.Rejections.{AfterKey, IndefinitePairs}
 use Rattle.cbor4ii_tree.specs.ReadingRejects.{Readable, ReadingRejectsFrom, ReadingRejects}
 use Rattle.cbor4ii_tree.specs.CanonicalRejects.{FitsCanonically, CanonicalRejectsFrom}
 use Rattle.cbor4ii_tree.specs.CanonicalRejects.{CanonicalRejects}
-use Rattle.cbor4ii_tree.specs.View.{view, items_view, members_view}
+use Rattle.cbor4ii_tree.specs.View.{view, items_view}
 
 -- an encoding that is read whole
 abbrev pub Whole : Bool → Budget → Tree → Type 0
@@ -44,6 +43,11 @@ RejectsUnder false inner xs e rest =
 RejectsUnder true inner xs e rest =
     CanonicalRejectsFrom (λ left part. CanonicalRejects part left) inner xs e rest
 
+-- an array or a map whose two steps were taken
+abbrev pub ReadsInside : Bool → Budget → List ℕ → Value → List ℕ → Type 0
+ReadsInside exact deep xs v ys =
+    (inner : Budget) → step_in inner ≡ Some deep → ReadsUnder exact inner xs v ys
+
 -- so many values, of which each encoding is such a tree
 abbrev pub ReadsEach : (Tree → Type 0) → ℕ → List ℕ → List Value → List ℕ → Type 0
 ReadsEach W n xs vs ys = (ts : Trees) × (count ts ≡ n) × Each W ts ×
@@ -58,8 +62,8 @@ RejectsItems exact n budget = RejectsInCount (Whole exact budget) (RejectsOneVal
 
 -- values up to a break, which is taken
 abbrev pub ReadsIndefiniteItems : Bool → Budget → List ℕ → List Value → List ℕ → Type 0
-ReadsIndefiniteItems exact budget xs vs ys = (ts : Trees) × Each (Whole exact budget) ts ×
-    (values ts ≡ items_view vs) × (xs ≡ bytes_all ts ++ (break ∷ ys))
+ReadsIndefiniteItems exact budget xs vs ys =
+    ReadsItems exact (length vs) budget xs vs (break ∷ ys)
 
 abbrev pub RejectsIndefiniteItems : Bool → Budget → Stopping
 RejectsIndefiniteItems exact budget =
@@ -67,27 +71,28 @@ RejectsIndefiniteItems exact budget =
 
 -- a key, and its value after it
 abbrev pub ReadsMember : Bool → Budget → List ℕ → Value × Value → List ℕ → Type 0
-ReadsMember exact budget xs m ys = (between : List ℕ) ×
-    ReadsOneValue exact budget xs m.0 between × ReadsOneValue exact budget between m.1 ys
+ReadsMember exact budget xs m ys = ReadsItems exact 2 budget xs (m.0 ∷ m.1 ∷ []) ys
 
 abbrev pub RejectsMember : Bool → Budget → Stopping
 RejectsMember exact budget xs e rest =
     RejectsOneValue exact budget xs e rest
     ⊎ AfterKey (Whole exact budget) (RejectsOneValue exact budget) xs e rest
 
--- so many pairs
+-- the values of pairs, each key before its value
+abbrev pub flat_values : List (Value × Value) → List Value
+flat_values [] = []
+flat_values (m ∷ ms) = m.0 ∷ (m.1 ∷ flat_values ms)
+
+-- so many pairs: twice as many keys and values
 abbrev pub ReadsMembers : Bool → ℕ → Budget → List ℕ → List (Value × Value) → List ℕ → Type 0
-ReadsMembers exact n budget xs ms ys = (ps : Pairs) × (pair_count ps ≡ n) ×
-    EachPair (Whole exact budget) ps × (member_values ps ≡ members_view ms) ×
-    (xs ≡ bytes_pairs ps ++ ys)
+ReadsMembers exact n budget xs ms ys = ReadsItems exact (2 * n) budget xs (flat_values ms) ys
 
-abbrev pub ReadsIndefiniteMembers : Bool → Budget → List ℕ → List (Value × Value) → List ℕ → Type 0
-ReadsIndefiniteMembers exact budget xs ms ys = (ps : Pairs) × EachPair (Whole exact budget) ps ×
-    (member_values ps ≡ members_view ms) × (xs ≡ bytes_pairs ps ++ (break ∷ ys))
-
--- twice as many keys and values
 abbrev pub RejectsMembers : Bool → ℕ → Budget → Stopping
 RejectsMembers exact n = RejectsItems exact (2 * n)
+
+abbrev pub ReadsIndefiniteMembers : Bool → Budget → List ℕ → List (Value × Value) → List ℕ → Type 0
+ReadsIndefiniteMembers exact budget xs ms ys =
+    ReadsIndefiniteItems exact budget xs (flat_values ms) ys
 
 abbrev pub RejectsIndefiniteMembers : Bool → Budget → Stopping
 RejectsIndefiniteMembers exact budget =
@@ -111,21 +116,6 @@ abbrev pub TakesLength : Bool → ℕ → Budget → Accepting (Option ℕ)
 TakesLength exact major budget xs (Some n) ys = HeadAt exact major n xs ys
 TakesLength exact major budget xs None ys = IndefiniteAt exact major xs ys
 
--- an array whose two steps were taken
-abbrev pub ReadsArrayInside : Bool → Budget → List ℕ → List Value → List ℕ → Type 0
-ReadsArrayInside exact budget xs vs ys =
-    ((n : ℕ) × (between : List ℕ) × HeadAt exact 4 n xs between ×
-    ReadsItems exact n budget between vs ys)
-    ⊎ ((between : List ℕ) × IndefiniteAt exact 4 xs between ×
-    ReadsIndefiniteItems exact budget between vs ys)
-
-abbrev pub ReadsMapInside : Bool → Budget → List ℕ → List (Value × Value) → List ℕ → Type 0
-ReadsMapInside exact budget xs ms ys =
-    ((n : ℕ) × (between : List ℕ) × HeadAt exact 5 n xs between ×
-    ReadsMembers exact n budget between ms ys)
-    ⊎ ((between : List ℕ) × IndefiniteAt exact 5 xs between ×
-    ReadsIndefiniteMembers exact budget between ms ys)
-
 -- What it is for an array, or a map, to fail is what it is for a value whose first byte is one of
 -- its major type.
 abbrev pub RejectsMajor : Bool → ℕ → Budget → Stopping
@@ -137,24 +127,10 @@ abbrev pub RejectsOf : Bool → ℕ → Budget → Stopping
 RejectsOf exact major budget xs e rest =
     (b : ℕ) (bs : List ℕ) → xs ≡ b ∷ bs → b / 32 ≡ major → RejectsUnder exact budget xs e rest
 
--- a step is taken first
-abbrev pub ReadsStepped : {V : Type 0} → (Budget → Accepting V) → Budget → Accepting V
-ReadsStepped reads budget xs v ys =
-    (inner : Budget) × (step_in budget ≡ Some inner) × reads inner xs v ys
-
 -- a vector of what is read
 abbrev pub ReadsVec : {T : Type 0} → (Budget → Accepting (List T)) →
     Budget → Accepting (Vec T Global)
 ReadsVec reads budget xs v ys = reads budget xs v.items ys
-
--- an array of such items, and a map of such pairs
-abbrev pub MakesArray : (Budget → Accepting (List Value)) → Budget → Accepting Value
-MakesArray reads budget xs v ys =
-    (items : Vec Value Global) × (v ≡ Array items) × reads budget xs items.items ys
-
-abbrev pub MakesMap : (Budget → Accepting (List (Value × Value))) → Budget → Accepting Value
-MakesMap reads budget xs v ys =
-    (pairs : Vec (Value × Value) Global) × (v ≡ Map pairs) × reads budget xs pairs.items ys
 
 -- a tagged value after the head of its tag
 abbrev pub ReadsTagged : Bool → ℕ → Budget → Accepting Value

@@ -3,30 +3,24 @@
 //! Each level of arrays, maps and tags takes one small frame of the stack: their loops and
 //! `read_tagged` stay out of line, and what leads from one of them to another is inline. What a
 //! loop answers is made a value where it comes back, so that each level has one place for it.
-ghost use Rattle.std.specs.Prelude.{◌≡◌, ◌+◌, ◌-◌, ◌*◌, ◌<◌, ◌≤◌, ◌/◌, ◌⊎◌, IfOk};
-ghost use Rattle.std.specs.Prelude.{true, false, length};
-ghost use Rattle.std.specs.Prelude.{OnSome, IfSome};
+ghost use Rattle.std.specs.Prelude.{◌≡◌, ◌+◌, ◌-◌, ◌*◌, ◌<◌, ◌≤◌, ◌/◌, ◌⊎◌, IfOk, true, false};
+ghost use Rattle.std.specs.Prelude.{length, OnSome, IfSome};
 ghost use Rattle.cbor4ii_tree.specs.Does.{DoesUnder, answered};
 ghost use Rattle.cbor4ii_tree.specs.Valuing.{ReadsOneValue, RejectsOneValue, ReadsUnder};
-ghost use Rattle.cbor4ii_tree.specs.Valuing.{RejectsUnder};
-ghost use Rattle.cbor4ii_tree.specs.Valuing.{ReadsStepped, RejectsOf, RejectsMajor};
-ghost use Rattle.cbor4ii_tree.specs.Valuing.{ReadsVec, ReadsArrayInside, ReadsItems, RejectsItems};
+ghost use Rattle.cbor4ii_tree.specs.Valuing.{RejectsUnder, ReadsInside, RejectsOf, RejectsMajor};
+ghost use Rattle.cbor4ii_tree.specs.Valuing.{ReadsVec, ReadsItems, RejectsItems};
 ghost use Rattle.cbor4ii_tree.specs.Valuing.{ReadsIndefiniteItems, RejectsIndefiniteItems};
-ghost use Rattle.cbor4ii_tree.specs.Valuing.{ReadsMapInside};
 ghost use Rattle.cbor4ii_tree.specs.Valuing.{ReadsMembers, RejectsMembers, ReadsIndefiniteMembers};
 ghost use Rattle.cbor4ii_tree.specs.Valuing.{RejectsIndefiniteMembers, ReadsMember, RejectsMember};
-ghost use Rattle.cbor4ii_tree.specs.Valuing.{ReadsTagged, TakesLength, TakesTag};
-ghost use Rattle.cbor4ii_tree.specs.Valuing.{MakesArray, MakesMap};
+ghost use Rattle.cbor4ii_tree.specs.Valuing.{ReadsTagged, TakesLength, TakesTag, flat_values};
 ghost use Rattle.cbor4ii_tree.specs.Leaf.{CanTake, DoesAfterFirst, DoesAfterNext};
 ghost use Rattle.cbor4ii_tree.specs.LeafRuns.{flat, KeepsItems, PutsItems, PutsItemsUnder};
 ghost use Rattle.cbor4ii_tree.specs.LeafRuns.{RejectsItemsUnder};
-ghost use Rattle.cbor4ii_tree.specs.Item.{IsItem, AreItems, AreMembers};
-ghost use Rattle.cbor4ii_tree.specs.View.{view, items_view, members_view};
-ghost use Rattle.cbor4ii_tree.specs.Promises.{value_format};
-ghost use Rattle.cbor4ii_tree.specs.Headline.{OnlyReads, AllReads, PrefixReads};
-ghost use Rattle.cbor4ii_tree.specs.Promises.{DepthReads, FinalReads, Others, SizeReads};
-ghost use Rattle.cbor4ii_tree.specs.Headline.{EofReads};
-ghost use Rattle.cbor4ii_tree.specs.Promises.{ExactReads};
+ghost use Rattle.cbor4ii_tree.specs.Item.{IsItem, AreItems};
+ghost use Rattle.cbor4ii_tree.specs.View.{view, items_view};
+ghost use Rattle.cbor4ii_tree.specs.Promises.{value_format, DepthReads, FinalReads, Others};
+ghost use Rattle.cbor4ii_tree.specs.Promises.{SizeReads, ExactReads};
+ghost use Rattle.cbor4ii_tree.specs.Headline.{OnlyReads, AllReads, PrefixReads, EofReads};
 ghost use Rattle.cbor4ii_tree.specs.Headline.{SkipsReads, CanonicalReads};
 ghost use Rattle.cbor4ii_items.specs.Decoding.{Decodes};
 ghost use Rattle.cbor4ii_tree.specs.Laws.Values.{value_lawful};
@@ -425,8 +419,7 @@ fn read_array<S: Source, A: Encodings>(
 ) -> Option<Value>
     requires can { CanTake next (S.view reader.old) }
     requires major { next.first / 32 ≡ 4 }
-    ensures does { DoesAfterNext (A.exact ≡ true) next
-        (ReadsStepped (MakesArray (ReadsArrayInside A.exact))) (RejectsOf A.exact 4)
+    ensures does { DoesAfterNext (A.exact ≡ true) next (ReadsUnder A.exact) (RejectsOf A.exact 4)
         (S.view reader.old) (S.view reader.new) (answered result failure.new) }
     ensures item { IfSome result (λ v. IsItem (view v)) }
     ensures progress { OnSome result ((S.view reader.new).bound + 1 ≤ (S.view reader.old).bound) }
@@ -451,7 +444,7 @@ fn array_inside<S: Source, A: Encodings>(
     requires can { CanTake next (S.view reader.old) }
     requires major { next.first / 32 ≡ 4 }
     ensures does { DoesAfterNext (A.exact ≡ true) next
-        (MakesArray (ReadsArrayInside A.exact)) (RejectsMajor A.exact 4)
+        (ReadsInside A.exact) (RejectsMajor A.exact 4)
         (S.view reader.old) (S.view reader.new) (answered result failure.new) }
     ensures item { IfSome result (λ v. IsItem (view v)) }
     ensures progress { OnSome result ((S.view reader.new).bound + 1 ≤ (S.view reader.old).bound) }
@@ -628,8 +621,7 @@ fn read_map<S: Source, A: Encodings>(
 ) -> Option<Value>
     requires can { CanTake next (S.view reader.old) }
     requires major { next.first / 32 ≡ 5 }
-    ensures does { DoesAfterNext (A.exact ≡ true) next
-        (ReadsStepped (MakesMap (ReadsMapInside A.exact))) (RejectsOf A.exact 5)
+    ensures does { DoesAfterNext (A.exact ≡ true) next (ReadsUnder A.exact) (RejectsOf A.exact 5)
         (S.view reader.old) (S.view reader.new) (answered result failure.new) }
     ensures item { IfSome result (λ v. IsItem (view v)) }
     ensures progress { OnSome result ((S.view reader.new).bound + 1 ≤ (S.view reader.old).bound) }
@@ -654,7 +646,7 @@ fn map_inside<S: Source, A: Encodings>(
     requires can { CanTake next (S.view reader.old) }
     requires major { next.first / 32 ≡ 5 }
     ensures does { DoesAfterNext (A.exact ≡ true) next
-        (MakesMap (ReadsMapInside A.exact)) (RejectsMajor A.exact 5)
+        (ReadsInside A.exact) (RejectsMajor A.exact 5)
         (S.view reader.old) (S.view reader.new) (answered result failure.new) }
     ensures item { IfSome result (λ v. IsItem (view v)) }
     ensures progress { OnSome result ((S.view reader.new).bound + 1 ≤ (S.view reader.old).bound) }
@@ -677,7 +669,7 @@ fn definite_members<S: Source, A: Encodings>(
 ) -> Option<Vec<(Value, Value)>>
     ensures does { DoesUnder (ReadsVec (ReadsMembers A.exact count)) (RejectsMembers A.exact count)
         (S.view reader.old) (S.view reader.new) (answered result failure.new) }
-    ensures items { IfSome result (λ v. AreMembers (members_view v.items)) }
+    ensures items { IfSome result (λ v. AreItems (items_view (flat_values v.items))) }
 {
     let mut pairs = Pairs {
         members: Vec::new(alloc),
@@ -703,7 +695,7 @@ fn indefinite_members<S: Source, A: Encodings>(
     ensures does { DoesUnder
         (ReadsVec (ReadsIndefiniteMembers A.exact)) (RejectsIndefiniteMembers A.exact)
         (S.view reader.old) (S.view reader.new) (answered result failure.new) }
-    ensures items { IfSome result (λ v. AreMembers (members_view v.items)) }
+    ensures items { IfSome result (λ v. AreItems (items_view (flat_values v.items))) }
 {
     let mut members = Vec::new(alloc);
     while !part(is_break(reader), failure)? {

@@ -1,7 +1,6 @@
 //! Values that hold no other, decided in one look where they stand whole in what is shown
 //! (RFC 8949 section 3). Of what does not, the look hands on the first byte.
-ghost use Rattle.std.specs.Prelude.{◌≡◌, ◌≤◌, ◌+◌, ◌∷◌, ◌/◌, ◌%◌, ◌⊎◌, IfOk, OnErr, IfSome};
-ghost use Rattle.std.specs.Prelude.{true};
+ghost use Rattle.std.specs.Prelude.{◌≡◌, ◌≤◌, ◌+◌, ◌∷◌, ◌/◌, ◌%◌, ◌⊎◌, IfOk, OnErr, IfSome, true};
 ghost use Rattle.cbor4ii_rw.specs.Reader.{ReaderFails};
 ghost use Rattle.cbor4ii_items.specs.Head.{ArgumentAfter, byte_count, shortest};
 ghost use Rattle.cbor4ii_tree.specs.Prefix.{Offers};

@@ -1,8 +1,7 @@
 //! Runs: values that hold no other, as many as one look shows, put after the items of an array or
 //! the keys and values of a map.
 ghost use Rattle.std.specs.Prelude.{◌≡◌, ◌<◌, ◌≤◌, ◌*◌, ◌++◌, ◌∷◌, [], ℕ, List, length, true};
-ghost use Rattle.std.specs.Prelude.{false};
-ghost use Rattle.std.specs.Prelude.{OnSome, IfNone, IfOk, OnErr, None};
+ghost use Rattle.std.specs.Prelude.{false, OnSome, IfNone, IfOk, OnErr, None};
 ghost use Rattle.cbor4ii_rw.specs.Reader.{ReaderFails};
 ghost use Rattle.cbor4ii_tree.specs.Prefix.{Offers};
 ghost use Rattle.cbor4ii_tree.specs.LeafRuns.{flat, PutsRun, TakesRun};

@@ -90,11 +90,7 @@ fn rejection<E>(start: Start, first: u8) -> Option<DecodeError<E>>
     ensures { Says (rejection_of start first) result }
 {
     match start {
-        Start::Stays => Some(DecodeError::Mismatch {
-            name: "ignored-any",
-            found: first,
-        }),
-        Start::Taken => Some(DecodeError::Mismatch {
+        Start::Stays | Start::Taken => Some(DecodeError::Mismatch {
             name: "ignored-any",
             found: first,
         }),

@@ -1,48 +1,36 @@
 -- What a decoding call promises of known bytes follows from what it accepts and where it fails.
-use Rattle.std.proofs.{Common.IfOk, lemmas.List.take-append-drop, Common.{false, ◌≡◌, ℕ, ◌⊎◌, inl}}
-use Rattle.std.proofs.Common.{inr, List, [], ◌++◌, length, take, drop, Option, Some, None, Result}
-use Rattle.std.proofs.Common.{Ok, Err, refl, sym, ap, ◌∙◌, subst, append_assoc, append-nil, arith}
-use Rattle.std.proofs.Common.{length-append, MatchBool, IfSome}
-use Rattle.cbor4ii_rw.specs.{View.View, declared.error.DecodeError.DecodeError}
+use Rattle.std.proofs.Common.{IfOk, false, ◌≡◌, ℕ, inl, List, [], ◌++◌, length, take, drop, Option}
+use Rattle.std.proofs.Common.{Some, None, Result, Ok, Err, refl, sym, ap, ◌∙◌, subst, append-nil}
+use Rattle.std.proofs.Common.{arith, length-append, MatchBool, IfSome}
+use Rattle.std.proofs.lemmas.List.{take-append-drop}
+use Rattle.cbor4ii_rw.specs.{declared.error.DecodeError.DecodeError, View.View}
 use Rattle.cbor4ii_items.specs.{Head.IsBytes, InputError.{InputError, input_error_of}}
 use Rattle.cbor4ii_items.specs.{Laws.Answering.not_read, Moves.{Moves, Kept, ReaderFailed}}
-use Rattle.cbor4ii_tree.proofs.{encodings.Canonical.canonical_encodes, encodings.Sizes.size-of_tree}
-use Rattle.cbor4ii_tree.proofs.{skipping.Answer.one_skipping, skipping.Laws.none_left}
-use Rattle.cbor4ii_tree.proofs.answers.MayReject.{skipping_may_stop, skipping_leaves_nothing}
-use Rattle.cbor4ii_tree.proofs.answers.MayReject.{reading_may_stop, reading_leaves_nothing}
-use Rattle.cbor4ii_tree.proofs.{parts.Rejecting.skips_by, reading.Answer.decodes_tree}
-use Rattle.cbor4ii_tree.proofs.{reading.Answer.one_reading, reading.Widen.reading_persists}
-use Rattle.cbor4ii_tree.proofs.skipping.Widen.{skipping_persists}
-use Rattle.cbor4ii_tree.specs.{Item.IsItem, Laws.Ignoring.one_encoding, Promises.Others}
-use Rattle.cbor4ii_tree.specs.{ReadingRejects.ReadingRejects, Rejections.Stopping}
-use Rattle.cbor4ii_tree.specs.{Valuing.ReadsOneValue, View.view, declared.value.Value.Value}
-use Rattle.cbor4ii_tree.specs.{Canonical.{canonical_encoding, canonical_cost}, Cost.{Budget}}
-use Rattle.cbor4ii_tree.specs.{Does.Does, Encodings.{Encodes, DecodesTo, Skips, IsProperPrefix}}
+use Rattle.cbor4ii_tree.specs.{Canonical.{canonical_encoding, canonical_cost}, Cost.Budget}
+use Rattle.cbor4ii_tree.specs.{declared.value.Value.Value, Does.{Accepting, Does}}
+use Rattle.cbor4ii_tree.specs.{Encodings.{Encodes, DecodesTo, IsProperPrefix}, Headline.Answered}
 use Rattle.cbor4ii_tree.specs.Headline.{AllSkips, OnlyReads, AllReads, PrefixReads, EofReads}
-use Rattle.cbor4ii_tree.specs.{Headline.{SkipsReads, CanonicalReads}, InputError.{eof, IsEof}}
-use Rattle.cbor4ii_tree.specs.{InputError.{IsDepthOverflow, IsFinal, MayReject}, Item.Item}
-use Rattle.cbor4ii_tree.specs.Promises.{PrefixSkips, EofSkips, DepthSkips, FinalSkips, ExactSkips}
-use Rattle.cbor4ii_tree.specs.Promises.{DepthReads, FinalReads, ExactReads, SizeReads}
-use Rattle.cbor4ii_tree.specs.Skipping.{SkipsOne, RejectsSkippingOne}
-use Rattle.cbor4ii_tree.specs.{SkippingRejects.SkippingRejects, Tree.{Tree, bytes, Loose, Joins}}
-use Rattle.cbor4ii_tree.proofs.skipping.Laws as skipping
-use Rattle.cbor4ii_tree.proofs.reading.Laws as reading
+use Rattle.cbor4ii_tree.specs.{Headline.{SkipsReads, CanonicalReads}, InputError.IsEof, Item.IsItem}
+use Rattle.cbor4ii_tree.specs.Promises.{Others, PrefixSkips, EofSkips, DepthSkips, FinalSkips}
+use Rattle.cbor4ii_tree.specs.Promises.{ExactSkips, DepthReads, FinalReads, ExactReads, SizeReads}
+use Rattle.cbor4ii_tree.specs.ReadingRejects.{ReadingRejects, Readable, reading}
+use Rattle.cbor4ii_tree.specs.{Rejections.Stopping, Skipping.{SkipsOne, RejectsSkippingOne}}
+use Rattle.cbor4ii_tree.specs.{SkippingRejects.skipping, Tree.{Tree, bytes, Loose, Joins}}
+use Rattle.cbor4ii_tree.specs.{Valuing.ReadsOneValue, View.view}
+use Rattle.cbor4ii_tree.proofs.answers.MayReject.{may_reject, leaves_nothing}
+use Rattle.cbor4ii_tree.proofs.{encodings.Canonical.canonical_encodes, encodings.Sizes.size-of_tree}
+use Rattle.cbor4ii_tree.proofs.profile.Answer.{skipping_laws, reading_laws, no_eof, stays}
+use Rattle.cbor4ii_tree.proofs.profile.Answer.{final_stays, no_prefix, eof_alone, eof_on_prefix}
+use Rattle.cbor4ii_tree.proofs.reading.Answer.{tree_of, decodes_tree, one_reading}
+use Rattle.cbor4ii_tree.proofs.skipping.Answer.{one_skipping}
+use Rattle.cbor4ii_tree.proofs.reading.Laws as readings
 
--- ---- what an error says
+-- ---- what an answer says
 
 pub if_some : (o : Option InputError) (P Q : InputError → Type 0)
     → ((z : InputError) → o ≡ Some z → P z → Q z) → IfSome o P → IfSome o Q
 if_some None P Q f p = tt
 if_some (Some z) P Q f p = f z refl p
-
--- the call failed there
-abbrev Stopped : Stopping → View → List ℕ → InputError → Type 0
-Stopped rejects b xs z = (ys : List ℕ) × (b.known ≡ Some ys) × rejects xs z ys
-
-pub no_eof : (z : InputError) → IsDepthOverflow z ⊎ IsFinal z → ¬ (IsEof z)
-no_eof (eof name expect) (inl d) q = absurd d
-no_eof (eof name expect) (inr f) q = absurd f
-no_eof _ d q = absurd q
 
 -- where nothing is left, all bytes were taken, so that they are bytes
 taken_bytes : (xs : List ℕ) (n : ℕ) (new : Option (List ℕ)) → new ≡ Some (drop n xs) → new ≡ Some []
@@ -62,98 +50,60 @@ all_bytes a b e z xs says moves known none =
     let took = kept.rest xs known in
     taken_bytes xs took.0 b.known took.1.left none took.1.bytes
 
+-- What an answer says follows from what is accepted, and from where it fails: then bytes of which
+-- nothing is left are bytes.
+pub says : {V E : Type 0} {S : Accepting V} {R : Stopping} {a b : View}
+    {G : V → Type 0} {P : InputError → Type 0} (answer : Result V (DecodeError E))
+    → Does S R a b answer → (xs : List ℕ) → a.known ≡ Some xs
+    → ((ys : List ℕ) (v : V) → b.known ≡ Some ys → S xs v ys → G v)
+    → ((ys : List ℕ) (z : InputError) → (b.known ≡ Some [] → IsBytes xs) → b.known ≡ Some ys
+    → R xs z ys → P z) → Answered G P answer
+says (Ok v) d xs known g f = let s = d.ok xs known in g s.0 v s.1 s.2
+says {V = V} {R = R} {a = a} {b = b} {P = P} (Err e) d xs known g f =
+    if_some (input_error_of e) (λ z. (ys : List ℕ) × (b.known ≡ Some ys) × R xs z ys) P
+    (λ z is h. f h.0 z (all_bytes {V = V} a b e z xs is d.moves known) h.1 h.2) (d.err xs known)
+
 -- ---- an item is skipped
 
--- a call that skips an item
-abbrev SkipsCall : {V E : Type 0} → View → View → Result V (DecodeError E) → Type 0
-SkipsCall a b answer =
-    Does (λ xs _ ys. SkipsOne a.budget xs ys) (RejectsSkippingOne a.budget) a b answer
+module _ {V E : Type 0} {a b : View} (answer : Result V (DecodeError E))
+    (d : Does (λ xs _ ys. SkipsOne a.budget xs ys) (RejectsSkippingOne a.budget) a b answer) where
+  pub all_skips : AllSkips a b answer
+  all_skips = λ xs known t rest r. let one = one_skipping xs a.budget in
+      says answer d xs known
+      (λ ys v left s. left ∙ ap Some (one.one_accepted s.0 t ys rest s.1 r).1)
+      (λ ys z ended left h. one.not_both t rest z ys r h)
 
-skipping_eof_alone : (xs back : List ℕ) (budget : Budget) (t : Tree) (z : InputError) (ys : List ℕ)
-    → Skips (xs ++ back) budget t [] → SkippingRejects xs budget z ys → IsEof z
-skipping_eof_alone xs back budget t z ys r s = elim (skipping_may_stop xs budget z ys s) [
-  | inl q ↦ q
-  | inr q ↦ absurd (skipping.rejected xs back budget t z ys (no_eof z q) r s)
-]
+  pub prefix_skips : PrefixSkips a answer
+  prefix_skips = λ xs known t loose fits prefix. says answer d xs known
+      (λ ys v left s. no_prefix xs s.0 t ys s.1.loose loose s.1.begins prefix)
+      (λ ys z ended left h. eof_alone skipping_laws xs prefix.0 a.budget t z ys h
+      ((loose, fits), sym prefix.2 ∙ sym (append-nil (bytes t))))
 
-skipping_eof_prefix : (xs : List ℕ) (budget : Budget) (z : InputError) (ys : List ℕ) → IsEof z
-    → IsBytes xs → SkippingRejects xs budget z ys → (t : Tree) × Loose t × IsProperPrefix xs
-    (bytes t)
-skipping_eof_prefix xs budget (eof name expect) ys h bs s =
-    let f = skipping.eof_on_prefix xs budget name expect ys bs s in (f.0, f.1, f.3)
-skipping_eof_prefix xs budget _ ys h bs s = absurd h
+  pub eof_skips : EofSkips a b answer
+  eof_skips = λ xs known. says answer d xs known (λ ys v left s. tt) (λ ys z ended left h i.
+      let none : b.known ≡ Some [] = left ∙ ap Some (leaves_nothing skipping xs a.budget z ys i h)
+      in let t = eof_on_prefix skipping_laws xs a.budget z ys (ended none) i h in
+      (none, (t.0, t.1, t.3)))
 
-pub all_skips : {V E : Type 0} {a b : View} (answer : Result V (DecodeError E))
-    → SkipsCall a b answer → AllSkips a b answer
-all_skips {a = a} (Ok v) d = λ xs known t rest r. let s = d.ok xs known in
-    s.1 ∙ ap Some ((one_skipping xs a.budget).one_accepted s.2.0 t s.0 rest s.2.1 r).1
-all_skips {a = a} {b = b} (Err e) d =
-    λ xs known t rest r. if_some (input_error_of e)
-    (Stopped (λ ys. SkippingRejects ys a.budget) b xs)
-    (λ _. ⊥) (λ z says h. (one_skipping xs a.budget).not_both t rest z h.0 r h.2) (d.err xs known)
+  pub depth_skips : DepthSkips a answer
+  depth_skips = λ xs known. says answer d xs known (λ ys v left s. tt)
+      (λ ys z ended left h deep more t after r. stays skipping_laws xs more a.budget t after z ys
+      (no_eof z (inl deep)) h ((r.loose, r.fits), r.begins))
 
-pub prefix_skips : {V E : Type 0} {a b : View} (answer : Result V (DecodeError E))
-    → SkipsCall a b answer → PrefixSkips a answer
-prefix_skips {a = a} (Ok v) d = λ xs known t loose fits prefix. let s = d.ok xs known in
-    let all : bytes s.2.0 ++ (s.0 ++ prefix.0) ≡ bytes t ++ [] =
-    sym (append_assoc (bytes s.2.0) s.0 prefix.0) ∙ ap (λ r. r ++ prefix.0) (sym s.2.1.begins)
-    ∙ sym prefix.2 ∙ sym (append-nil (bytes t)) in
-    prefix.1
-    (none_left s.0 prefix.0 (one_encoding s.2.0 t (s.0 ++ prefix.0) [] s.2.1.loose loose all).1)
-prefix_skips {a = a} {b = b} (Err e) d = λ xs known t loose fits prefix.
-    if_some (input_error_of e) (Stopped (λ ys. SkippingRejects ys a.budget) b xs) IsEof
-    (λ z says h. skipping_eof_alone xs prefix.0 a.budget t z h.0 (skips_by loose fits (sym prefix.2
-    ∙ sym (append-nil (bytes t)))) h.2) (d.err xs known)
+  pub final_skips : FinalSkips a answer
+  final_skips = λ xs known. says answer d xs known (λ ys v left s. tt)
+      (λ ys z ended left h final more other t after r. final_stays skipping_laws xs more a.budget
+      other z ys t after final h ((r.loose, r.fits), r.begins))
 
-pub eof_skips : {V E : Type 0} {a b : View} (answer : Result V (DecodeError E))
-    → SkipsCall a b answer → EofSkips a b answer
-eof_skips (Ok v) d = λ xs known. tt
-eof_skips {V = V} {a = a} {b = b} (Err e) d = λ xs known.
-    if_some (input_error_of e) (Stopped (λ ys. SkippingRejects ys a.budget) b xs)
-    (λ z. IsEof z → (b.known ≡ Some []) × ((t : Tree) × Loose t × IsProperPrefix xs (bytes t)))
-    (λ z says h ended.
-    let none : b.known ≡ Some [] =
-    h.1 ∙ ap Some (skipping_leaves_nothing xs a.budget z h.0 ended h.2) in (
-      none,
-      skipping_eof_prefix xs a.budget z h.0 ended
-          (all_bytes {V = V} a b e z xs says d.moves known none) h.2,
-    )) (d.err xs known)
+  pub others_skips : Others a answer
+  others_skips = λ xs known. says answer d xs known (λ ys v left s. tt)
+      (λ ys z ended left h. may_reject skipping xs a.budget z ys h)
 
-pub depth_skips : {V E : Type 0} {a b : View} (answer : Result V (DecodeError E))
-    → SkipsCall a b answer → DepthSkips a answer
-depth_skips (Ok v) d = λ xs known. tt
-depth_skips {a = a} {b = b} (Err e) d = λ xs known.
-    if_some (input_error_of e) (Stopped (λ ys. SkippingRejects ys a.budget) b xs) (λ z.
-    IsDepthOverflow z → (more : List ℕ) (t : Tree) (after : List ℕ) → ¬ (Skips (xs ++ more) a.budget
-    t after)) (λ z says h deep more t after r. (one_skipping (xs ++ more) a.budget).not_both t after
-    z (h.0 ++ more) r (skipping_persists xs more a.budget z h.0 (no_eof z (inl deep)) h.2))
-    (d.err xs known)
-
-pub final_skips : {V E : Type 0} {a b : View} (answer : Result V (DecodeError E))
-    → SkipsCall a b answer → FinalSkips a answer
-final_skips (Ok v) d = λ xs known. tt
-final_skips {a = a} {b = b} (Err e) d = λ xs known.
-    if_some (input_error_of e) (Stopped (λ ys. SkippingRejects ys a.budget) b xs) (λ z. IsFinal z
-    → (more : List ℕ) (other : Budget) (t : Tree) (after : List ℕ) → ¬ (Skips (xs ++ more) other t
-    after)) (λ z says h final more other t after r. skipping.final_stays xs more a.budget other z
-    h.0 t after final h.2 r) (d.err xs known)
-
-pub others_skips : {V E : Type 0} {a b : View} (answer : Result V (DecodeError E))
-    → SkipsCall a b answer → Others a answer
-others_skips (Ok v) d = λ xs known. tt
-others_skips {a = a} {b = b} (Err e) d =
-    λ xs known. if_some (input_error_of e) (Stopped (λ ys. SkippingRejects ys a.budget) b xs)
-    MayReject (λ z says h. skipping_may_stop xs a.budget z h.0 h.2) (d.err xs known)
-
-pub exact_skips : {V E : Type 0} {a b : View} (answer : Result V (DecodeError E))
-    → SkipsCall a b answer → ExactSkips a b answer
-exact_skips {a = a} (Ok v) d = λ xs known z rest rejects. let s = d.ok xs known in
-    (one_skipping xs a.budget).not_both s.2.0 s.0 z rest s.2.1 rejects
-exact_skips {a = a} {b = b} (Err e) d = λ xs known z rest rejects.
-    if_some (input_error_of e) (Stopped (λ ys. SkippingRejects ys a.budget) b xs)
-    (λ f. (f ≡ z) × (b.known ≡ Some rest))
-    (λ f says h. let same = (one_skipping xs a.budget).one_rejected f z h.0 rest h.2 rejects in
-    (same.0, h.1 ∙ ap Some same.1)) (d.err xs known)
+  pub exact_skips : ExactSkips a b answer
+  exact_skips = λ xs known z rest rejects. let one = one_skipping xs a.budget in
+      says answer d xs known (λ ys v left s. one.not_both s.0 ys z rest s.1 rejects)
+      (λ ys f ended left h. let same = one.one_rejected f z ys rest h rejects in
+      (same.0, left ∙ ap Some same.1))
 
 -- ---- a value is read
 
@@ -166,106 +116,60 @@ as_reads : (budget : Budget) (xs : List ℕ) (v : Value) (ys : List ℕ)
     → ReadsOneValue false budget xs v ys → DecodesTo xs budget (view v) ys
 as_reads budget xs v ys r = decodes_tree r.0 budget xs (view v) ys r.1 r.2 r.3
 
-pub reading_eof_alone : (xs back : List ℕ) (budget : Budget) (w : Item) (z : InputError)
-    (ys : List ℕ)
-    → DecodesTo (xs ++ back) budget w [] → ReadingRejects xs budget z ys → IsEof z
-reading_eof_alone xs back budget w z ys r s = elim (reading_may_stop xs budget z ys s) [
-  | inl q ↦ q
-  | inr q ↦ absurd (reading.rejected xs back budget w z ys (no_eof z q) r s)
-]
-
 pub reading_eof_prefix : (xs : List ℕ) (budget : Budget) (z : InputError) (ys : List ℕ) → IsEof z
     → IsBytes xs → ReadingRejects xs budget z ys
     → (t : Tree) × Loose t × Joins t × IsProperPrefix xs (bytes t)
-reading_eof_prefix xs budget (eof name expect) ys h bs s =
-    let f = reading.eof_on_prefix xs budget name expect ys bs s in (f.0, f.1, f.2, f.4)
-reading_eof_prefix xs budget _ ys h bs s = absurd h
+reading_eof_prefix xs budget z ys i h s =
+    let t = eof_on_prefix reading_laws xs budget z ys h i s in (t.0, t.1.0, t.1.1, t.3)
+
+module _ {E : Type 0} {a b : View} (answer : Result Value (DecodeError E))
+    (d : ReadsCall a b answer) where
+  pub all_reads : AllReads a b answer
+  all_reads = λ xs known w rest r. let one = one_reading xs a.budget in
+      says answer d xs known (λ ys v left s. let same = one.one_accepted (view v) w ys rest
+      (as_reads a.budget xs v ys s) r in (same.0, left ∙ ap Some same.1))
+      (λ ys z ended left h. one.not_both w rest z ys r h)
+
+  pub prefix_reads : PrefixReads a answer
+  prefix_reads = λ xs known encoding w steps encodes fits prefix.
+      let t : Tree = encodes.of_tree in
+      let whole : Readable a.budget t = (encodes.plain, rw encodes.cost_is fits) in
+      let prefix : IsProperPrefix xs (bytes t) = rw encodes.bytes_are prefix in
+      says answer d xs known
+      (λ ys v left s. no_prefix xs s.0 t ys s.1.0.0 encodes.plain.0 s.3 prefix)
+      (λ ys z ended left h. eof_alone reading_laws xs prefix.0 a.budget t z ys h
+      (whole, sym prefix.2 ∙ sym (append-nil (bytes t))))
+
+  pub eof_reads : EofReads a b answer
+  eof_reads = λ xs known. says answer d xs known (λ ys v left s. tt) (λ ys z ended left h i.
+      let none : b.known ≡ Some [] = left ∙ ap Some (leaves_nothing reading xs a.budget z ys i h)
+      in (none, reading_eof_prefix xs a.budget z ys i (ended none) h))
+
+  pub depth_reads : DepthReads a answer
+  depth_reads = λ xs known. says answer d xs known (λ ys v left s. tt)
+      (λ ys z ended left h deep more w after r. let t = tree_of r in stays reading_laws xs more
+      a.budget t.0 after z ys (no_eof z (inl deep)) h t.1)
+
+  pub final_reads : FinalReads a answer
+  final_reads = λ xs known. says answer d xs known (λ ys v left s. tt)
+      (λ ys z ended left h final more other w after r. readings.final_stays xs more a.budget other z
+      ys w after final h r)
+
+  pub others_reads : Others a answer
+  others_reads = λ xs known. says answer d xs known (λ ys v left s. tt)
+      (λ ys z ended left h. may_reject reading xs a.budget z ys h)
+
+  pub exact_reads : ExactReads a b answer
+  exact_reads = λ xs known z rest rejects. let one = one_reading xs a.budget in
+      says answer d xs known (λ ys v left s. one.not_both (view v) ys z rest
+      (as_reads a.budget xs v ys s) rejects) (λ ys f ended left h.
+      let same = one.one_rejected f z ys rest h rejects in (same.0, left ∙ ap Some same.1))
 
 pub only_reads : {E : Type 0} {a b : View} (answer : Result Value (DecodeError E))
     → ReadsCall a b answer → OnlyReads a b answer
 only_reads {a = a} (Ok v) d =
     λ xs known. let s = d.ok xs known in (s.0, s.1, as_reads a.budget xs v s.0 s.2)
 only_reads (Err e) d = λ xs known. tt
-
-pub all_reads : {E : Type 0} {a b : View} (answer : Result Value (DecodeError E))
-    → ReadsCall a b answer → AllReads a b answer
-all_reads {a = a} (Ok v) d = λ xs known w rest r. let s = d.ok xs known in let same =
-    (one_reading xs a.budget).one_accepted (view v) w s.0 rest (as_reads a.budget xs v s.0 s.2) r in
-    (same.0, s.1 ∙ ap Some same.1)
-all_reads {a = a} {b = b} (Err e) d =
-    λ xs known w rest r. if_some (input_error_of e)
-    (Stopped (λ ys. ReadingRejects ys a.budget) b xs)
-    (λ _. ⊥) (λ z says h. (one_reading xs a.budget).not_both w rest z h.0 r h.2) (d.err xs known)
-
-pub prefix_reads : {E : Type 0} {a b : View} (answer : Result Value (DecodeError E))
-    → ReadsCall a b answer → PrefixReads a answer
-prefix_reads {a = a} (Ok v) d =
-    λ xs known encoding w steps encodes fits prefix. let s = d.ok xs known in
-    let g = (as_reads a.budget xs v s.0 s.2) in
-    let all : g.encoding ++ (s.0 ++ prefix.0) ≡ encoding ++ [] =
-    sym (append_assoc g.encoding s.0 prefix.0) ∙ ap (λ r. r ++ prefix.0) (sym g.begins)
-    ∙ sym prefix.2 ∙ sym (append-nil encoding) in
-    prefix.1 (none_left s.0 prefix.0 (reading.one_encoded g.encoding encoding (view v) w g.steps
-    steps (s.0 ++ prefix.0) [] g.encodes encodes all).3)
-prefix_reads {a = a} {b = b} (Err e) d = λ xs known encoding w steps encodes fits prefix.
-    if_some (input_error_of e) (Stopped (λ ys. ReadingRejects ys a.budget) b xs) IsEof (λ z says h.
-    reading_eof_alone xs prefix.0 a.budget w z h.0 (record {
-      encoding = encoding;
-      steps = steps;
-      encodes = encodes;
-      fits = fits;
-      begins = sym prefix.2 ∙ sym (append-nil encoding);
-    }) h.2) (d.err xs known)
-
-pub eof_reads : {E : Type 0} {a b : View} (answer : Result Value (DecodeError E))
-    → ReadsCall a b answer → EofReads a b answer
-eof_reads (Ok v) d = λ xs known. tt
-eof_reads {E = E} {a = a} {b = b} (Err e) d = λ xs known.
-    if_some (input_error_of e) (Stopped (λ ys. ReadingRejects ys a.budget) b xs) (λ z. IsEof z
-    → (b.known ≡ Some []) × ((t : Tree) × Loose t × Joins t × IsProperPrefix xs (bytes t)))
-    (λ z says h ended.
-    let none : b.known ≡ Some [] =
-    h.1 ∙ ap Some (reading_leaves_nothing xs a.budget z h.0 ended h.2) in (
-      none,
-      reading_eof_prefix xs a.budget z h.0 ended
-          (all_bytes {V = Value} a b e z xs says d.moves known none) h.2,
-    )) (d.err xs known)
-
-pub depth_reads : {E : Type 0} {a b : View} (answer : Result Value (DecodeError E))
-    → ReadsCall a b answer → DepthReads a answer
-depth_reads (Ok v) d = λ xs known. tt
-depth_reads {a = a} {b = b} (Err e) d = λ xs known.
-    if_some (input_error_of e) (Stopped (λ ys. ReadingRejects ys a.budget) b xs) (λ z.
-    IsDepthOverflow z → (more : List ℕ) (w : Item) (after : List ℕ) → ¬ (DecodesTo (xs ++ more)
-    a.budget w after)) (λ z says h deep more w after r. (one_reading (xs ++ more) a.budget).not_both
-    w after z (h.0 ++ more) r (reading_persists xs more a.budget z h.0 (no_eof z (inl deep)) h.2))
-    (d.err xs known)
-
-pub final_reads : {E : Type 0} {a b : View} (answer : Result Value (DecodeError E))
-    → ReadsCall a b answer → FinalReads a answer
-final_reads (Ok v) d = λ xs known. tt
-final_reads {a = a} {b = b} (Err e) d = λ xs known.
-    if_some (input_error_of e) (Stopped (λ ys. ReadingRejects ys a.budget) b xs) (λ z. IsFinal z
-    → (more : List ℕ) (other : Budget) (w : Item) (after : List ℕ) → ¬ (DecodesTo (xs ++ more) other
-    w after)) (λ z says h final more other w after r. reading.final_stays xs more a.budget other z
-    h.0 w after final h.2 r) (d.err xs known)
-
-pub others_reads : {E : Type 0} {a b : View} (answer : Result Value (DecodeError E))
-    → ReadsCall a b answer → Others a answer
-others_reads (Ok v) d = λ xs known. tt
-others_reads {a = a} {b = b} (Err e) d =
-    λ xs known. if_some (input_error_of e) (Stopped (λ ys. ReadingRejects ys a.budget) b xs)
-    MayReject (λ z says h. reading_may_stop xs a.budget z h.0 h.2) (d.err xs known)
-
-pub exact_reads : {E : Type 0} {a b : View} (answer : Result Value (DecodeError E))
-    → ReadsCall a b answer → ExactReads a b answer
-exact_reads {a = a} (Ok v) d = λ xs known z rest rejects. let s = d.ok xs known in
-    (one_reading xs a.budget).not_both (view v) s.0 z rest (as_reads a.budget xs v s.0 s.2) rejects
-exact_reads {a = a} {b = b} (Err e) d = λ xs known z rest rejects.
-    if_some (input_error_of e) (Stopped (λ ys. ReadingRejects ys a.budget) b xs)
-    (λ f. (f ≡ z) × (b.known ≡ Some rest))
-    (λ f says h. let same = (one_reading xs a.budget).one_rejected f z h.0 rest h.2 rejects in
-    (same.0, h.1 ∙ ap Some same.1)) (d.err xs known)
 
 pub size_reads : {E : Type 0} {a b : View} (answer : Result Value (DecodeError E))
     → ReadsCall a b answer → SizeReads a b answer
@@ -287,7 +191,7 @@ pub skips_reads : {E : Type 0} {a b : View} (answer : Result Value (DecodeError 
     → ReadsCall a b answer → SkipsReads a b answer
 skips_reads {a = a} (Ok v) d = λ xs known.
     let s = d.ok xs known in
-    let k = reading.skips_what_reads xs a.budget (view v) s.0 (as_reads a.budget xs v s.0 s.2) in
+    let k = readings.skips_what_reads xs a.budget (view v) s.0 (as_reads a.budget xs v s.0 s.2) in
     (k.0, s.0, s.1, k.1)
 skips_reads (Err e) d = λ xs known. tt
 
@@ -296,16 +200,16 @@ pub canonical_reads : {E : Type 0} {a b : View} (answer : Result Value (DecodeEr
 canonical_reads {a = a} (Ok v) d item = λ xs known.
     let s = d.ok xs known in
     let g = as_reads a.budget xs v s.0 s.2 in
-    let same = reading.encoded_has_bignums g.encoding (view v) g.steps g.encodes in
+    let same = readings.encoded_has_bignums g.encoding (view v) g.steps g.encodes in
     record {
       same = same;
       encodes =
           subst (λ w. Encodes (canonical_encoding (view v)) w (canonical_cost (view v))) same
           (canonical_encodes (view v) item);
-      least = λ encoding steps encodes. reading.canonical_costs_least encoding (view v) steps
+      least = λ encoding steps encodes. readings.canonical_costs_least encoding (view v) steps
           encodes;
       reads =
-          λ more. reading.reads_back g.encoding (view v) g.steps a.budget more item g.encodes
+          λ more. readings.reads_back g.encoding (view v) g.steps a.budget more item g.encodes
           g.fits;
     }
 canonical_reads (Err e) d item = λ xs known. tt

@@ -1,34 +1,30 @@
 -- Where reading a canonical encoding is rejected by another error than that it is not canonical,
 -- reading a value fails so.
-use Rattle.std.proofs.Common.{false, ◌≡◌, ℕ, zero, suc, ◌*◌, ◌/◌, ◌⊎◌, inl, inr, List, [], ◌∷◌}
-use Rattle.std.proofs.Common.{length, Option, Some, None, refl, ap, ◌∙◌, take, arith}
+use Rattle.std.proofs.Common.{false, ◌≡◌, ℕ, zero, suc, ◌/◌, ◌⊎◌, inl, inr, List, [], ◌∷◌, length}
+use Rattle.std.proofs.Common.{Option, Some, None, refl, ap, ◌∙◌, take, arith, Bool, true}
 use Rattle.cbor4ii_items.specs.{InputError.not_canonical, Laws.Heads.shortest_fits}
 use Rattle.cbor4ii_items.specs.{Head.{indefinite_head, shortest}, Heads.RejectsHead}
 use Rattle.cbor4ii_items.specs.Initial.{unsigned, negative, Kind, byte_string, text_string}
-use Rattle.cbor4ii_items.specs.Initial.{kind_major, Initial, starts_string, starts_array}
-use Rattle.cbor4ii_items.specs.Initial.{starts_map, starts_tag, starts_simple, starts_bits}
-use Rattle.cbor4ii_items.specs.Initial.{other_simple, simple_undefined, initial}
+use Rattle.cbor4ii_items.specs.Initial.{kind_major, Initial, starts_string, starts_simple}
+use Rattle.cbor4ii_items.specs.Initial.{starts_bits, other_simple, simple_undefined, initial, wide}
 use Rattle.cbor4ii_items.specs.{Lengths.RejectsLength, Shortest.{canonical_name, OpensLength}}
 use Rattle.cbor4ii_items.specs.Shortest.{RejectsShortest, shortest_rejected, shortest_indefinite}
 use Rattle.cbor4ii_items.specs.Shortest.{too_long, RejectsShortestString, length_rejected}
 use Rattle.cbor4ii_items.specs.{Shortest.content_cut, Strings.{string_head_rejected, string_cut}}
-use Rattle.cbor4ii_tree.proofs.{answers.Nesting.reading_by_parts, canonical.NotCanonical.first_is}
-use Rattle.cbor4ii_tree.proofs.{parts.Widen.each_covers, values.Calls.int_rejects}
-use Rattle.cbor4ii_tree.proofs.{parts.Rejecting.in_count, values.Heads.{at_row, tag_rejects}}
-use Rattle.cbor4ii_tree.proofs.values.Sequences.{array_no_step, map_no_step, array_length_rejects}
-use Rattle.cbor4ii_tree.proofs.values.Sequences.{map_length_rejects, step_taken}
-use Rattle.cbor4ii_tree.proofs.values.Strings.{string_rejects}
-use Rattle.cbor4ii_tree.specs.CanonicalRejects.{FitsCanonically, AtShortest, CanonicalArrayRejects}
-use Rattle.cbor4ii_tree.specs.CanonicalRejects.{CanonicalMapRejects, CanonicalOtherRejects}
+use Rattle.cbor4ii_tree.specs.CanonicalRejects.{FitsCanonically, AtShortest, CanonicalOtherRejects}
 use Rattle.cbor4ii_tree.specs.CanonicalRejects.{CanonicalRejectsBy, CanonicalRejectsFrom}
 use Rattle.cbor4ii_tree.specs.CanonicalRejects.{CanonicalRejectsWithin, CanonicalRejects}
 use Rattle.cbor4ii_tree.specs.{Cost.{Budget, step_in}, InputError.{InputError, depth_overflow}}
-use Rattle.cbor4ii_tree.specs.InputError.{sign_name, kind_name, array_name, map_name, tag_name}
-use Rattle.cbor4ii_tree.specs.{InputError.value_name, Laws.Initials.{initial_string, initial_array}}
-use Rattle.cbor4ii_tree.specs.{Laws.Initials.{initial_map, initial_tag}, ReadingRejects.Readable}
+use Rattle.cbor4ii_tree.specs.InputError.{sign_name, kind_name, tag_name, value_name}
+use Rattle.cbor4ii_tree.specs.{Laws.Initials.{initial_string, initial_tag}, ReadingRejects.Readable}
 use Rattle.cbor4ii_tree.specs.{ReadingRejects.ReadingRejects, Rejections.{Stopping, RejectsAtStep}}
-use Rattle.cbor4ii_tree.specs.{Rejections.{AtHead, RejectsInCount}, Valuing.RejectsOneValue}
-use Rattle.cbor4ii_tree.specs.Valuing.{RejectsUnder}
+use Rattle.cbor4ii_tree.specs.{Rejections.RejectsInCount, Valuing.{RejectsOneValue, RejectsUnder}}
+use Rattle.cbor4ii_tree.proofs.{answers.Nesting.reading_by_parts, parts.Widen.each_covers}
+use Rattle.cbor4ii_tree.proofs.{values.Calls.int_rejects, parts.Rejecting.{in_count, headed_by}}
+use Rattle.cbor4ii_tree.proofs.{values.Heads.{at_row, tag_rejects}, values.Sequences.major_of}
+use Rattle.cbor4ii_tree.proofs.values.Sequences.{name_of, in_all, RejectsStrictly, inside}
+use Rattle.cbor4ii_tree.proofs.values.Sequences.{initial_wide, parts_no_step, length_rejects}
+use Rattle.cbor4ii_tree.proofs.{values.Strings.string_rejects, encodings.CanonicalShape.first_byte}
 
 abbrev OrValue : (InputError → List ℕ → Type 0) → InputError → List ℕ → Type 0
 OrValue rejects e rest = (e ≡ not_canonical canonical_name) ⊎ rejects e rest
@@ -84,87 +80,55 @@ string_value k b bs budget e rest m (content_cut c least) =
 
 -- ---- items that follow a head
 
+parts_open : (keyed : Bool) (b : ℕ) → b ≡ indefinite_head (major_of keyed)
+    → OpensLength (major_of keyed) b
+parts_open false b is = (omega arith, omega arith, is)
+parts_open true b is = (omega arith, omega arith, is)
+
 items_value : (budget : Budget) (rejects : Stopping) (n : ℕ) (xs : List ℕ) (e : InputError)
     (rest : List ℕ) → Parts budget rejects e rest → RejectsInCount (FitsCanonically budget) rejects
     n xs e rest
     → OrValue (RejectsInCount (Readable budget) (RejectsOneValue false budget) n xs) e rest
 items_value budget rejects n xs e rest f s =
-    or_value (RejectsOneValue false budget s.after)
-    (RejectsInCount (Readable budget) (RejectsOneValue false budget) n xs) e rest
-    (λ h. in_count s.prefix s.after s.few (each_covers (FitsCanonically budget) (Readable budget)
-    (λ t w. (w.0.0, w.1)) s.prefix s.whole) s.is h) (f s.after s.stopped)
+    or_value (RejectsOneValue false budget s.after) (RejectsInCount (Readable budget)
+    (RejectsOneValue false budget) n xs) _ _ (λ h. in_count _ _ s.few (each_covers (FitsCanonically
+    budget) (Readable budget) (λ t w. (w.0.0, w.1)) _ s.whole) s.is h) (f s.after s.stopped)
 
-array_value : (outer inner : Budget) (rejects : Stopping) (b : ℕ) (bs : List ℕ) (e : InputError)
-    (rest : List ℕ) → step_in outer ≡ Some inner → b / 32 ≡ 4 → Parts inner rejects e rest
-    → AtShortest array_name 4 inner (RejectsInCount (FitsCanonically inner) rejects) (b ∷ bs) e rest
+parts_value : (keyed : Bool) (outer inner : Budget) (rejects : Budget → Stopping) (b : ℕ)
+    (bs : List ℕ) (e : InputError) (rest : List ℕ) → step_in outer ≡ Some inner
+    → b / 32 ≡ major_of keyed → Parts inner (rejects inner) e rest
+    → RejectsStrictly keyed rejects inner (b ∷ bs) e rest
     → OrValue (RejectsUnder false outer (b ∷ bs)) e rest
-array_value outer inner rejects b bs e rest step m f (inl h) =
-    or_value (RejectsLength array_name 4 (b ∷ bs) inner) (RejectsUnder false outer (b ∷ bs)) e rest
-    (λ s. array_length_rejects inner (b ∷ bs) inner e rest s b bs refl m outer step)
-    (length_value array_name 4 b bs inner e rest (λ is. (omega arith, omega arith, is)) h)
-array_value outer inner rejects b bs e rest step m f (inr h) =
+parts_value keyed outer inner rejects b bs e rest step m f (inl h) =
+    or_value (RejectsLength (name_of keyed) (major_of keyed) (b ∷ bs) inner) (RejectsUnder false
+    outer (b ∷ bs)) e rest (λ s. length_rejects keyed inner (b ∷ bs) inner e rest s b bs refl m
+    outer step) (length_value (name_of keyed) (major_of keyed) b bs inner e rest (parts_open keyed
+    b) h)
+parts_value keyed outer inner rejects b bs e rest step m f (inr h) =
     let n = h.argument in
     let w = shortest n in
     let fits = shortest_fits n h.is.0 in
-    or_value (RejectsInCount (Readable inner) (RejectsOneValue false inner) n h.after) (RejectsUnder
-    false outer (b ∷ bs)) e rest (λ s. at_row outer (starts_array w) b bs e rest (ap initial
-    (first_is 4 n b bs h.after h.is) ∙ initial_array n w fits) (step_taken array_name (b ∷ bs)
-    (λ inner. AtHead array_name 4 w b (RejectsInCount (Readable inner) (RejectsOneValue false
-    inner)) bs) outer inner e rest step (inr (record {
-      argument = n;
-      after = h.after;
-      fits = fits;
-      is = h.is.1;
-      stopped = s;
-    })))) (items_value inner rejects n h.after e rest f h.stopped)
-
-map_value : (outer inner : Budget) (rejects : Stopping) (b : ℕ) (bs : List ℕ) (e : InputError)
-    (rest : List ℕ) → step_in outer ≡ Some inner → b / 32 ≡ 5 → Parts inner rejects e rest
-    → AtShortest map_name 5 inner (λ n. RejectsInCount (FitsCanonically inner) rejects (2 * n))
-    (b ∷ bs) e rest → OrValue (RejectsUnder false outer (b ∷ bs)) e rest
-map_value outer inner rejects b bs e rest step m f (inl h) =
-    or_value (RejectsLength map_name 5 (b ∷ bs) inner) (RejectsUnder false outer (b ∷ bs)) e rest
-    (λ s. map_length_rejects inner (b ∷ bs) inner e rest s b bs refl m outer step)
-    (length_value map_name 5 b bs inner e rest (λ is. (omega arith, omega arith, is)) h)
-map_value outer inner rejects b bs e rest step m f (inr h) =
-    let n = h.argument in
-    let w = shortest n in
-    let fits = shortest_fits n h.is.0 in
-    or_value (RejectsInCount (Readable inner) (RejectsOneValue false inner) (2 * n) h.after)
-    (RejectsUnder false outer (b ∷ bs)) e rest (λ s. at_row outer (starts_map w) b bs e rest (ap
-    initial (first_is 5 n b bs h.after h.is) ∙ initial_map n w fits) (step_taken map_name (b ∷ bs)
-    (λ inner. AtHead map_name 5 w b (λ n. RejectsInCount (Readable inner) (RejectsOneValue false
-    inner) (2 * n)) bs) outer inner e rest step (inr (record {
-      argument = n;
-      after = h.after;
-      fits =
-          fits;
-      is = h.is.1;
-      stopped = s;
-    })))) (items_value inner rejects (2 * n) h.after e rest f
-    h.stopped)
+    let total = in_all keyed n in
+    or_value (RejectsInCount (Readable inner) (RejectsOneValue false inner) total h.after)
+    (RejectsUnder false outer (b ∷ bs)) e rest (λ s. inside outer b bs e rest keyed (wide w) inner
+    (ap initial (first_byte (major_of keyed) n w b bs h.after h.is.1) ∙ initial_wide keyed n w fits)
+    step (inr (headed_by n h.after fits h.is.1 s))) (items_value inner (rejects inner) total h.after
+    e rest f h.stopped)
 
 tag_value : (budget : Budget) (rejects : Stopping) (b : ℕ) (bs : List ℕ) (e : InputError)
     (rest : List ℕ)
     → b / 32 ≡ 6 → Parts budget rejects e rest → AtShortest tag_name 6 budget (λ n. rejects)
     (b ∷ bs) e rest → OrValue (RejectsUnder false budget (b ∷ bs)) e rest
 tag_value budget rejects b bs e rest m f (inl h) =
-    or_value (λ z ys. (¬ (OpensLength 6 b)) × RejectsHead tag_name 6 8 (b ∷ bs) z ys)
-    (RejectsUnder false budget (b ∷ bs)) e rest (λ s. tag_rejects budget b bs e rest m s.1)
-    (head_value tag_name 6 b bs budget e rest h)
+    or_value (λ z ys. (¬ (OpensLength 6 b)) × RejectsHead tag_name 6 8 (b ∷ bs) z ys) (RejectsUnder
+    false budget (b ∷ bs)) _ _ (λ s. tag_rejects _ _ _ _ _ m s.1) (head_value _ 6 _ _ _ _ _ h)
 tag_value budget rejects b bs e rest m f (inr h) =
     let n = h.argument in
     let w = shortest n in
-    let fits = shortest_fits n h.is.0 in
-    or_value (RejectsOneValue false budget h.after) (RejectsUnder false budget (b ∷ bs)) e rest
-    (λ s. at_row budget (starts_tag w) b bs e rest (ap initial (first_is 6 n b bs h.after h.is)
-    ∙ initial_tag n w fits) (inr (record {
-      argument = n;
-      after = h.after;
-      fits = fits;
-      is = h.is.1;
-      stopped = s;
-    }))) (f h.after h.stopped)
+    let fits = shortest_fits _ h.is.0 in
+    or_value (RejectsOneValue false budget h.after) (RejectsUnder false budget (b ∷ bs)) _ _ (λ s.
+    at_row _ _ _ _ _ _ (ap initial (first_byte 6 n w b bs h.after h.is.1) ∙ initial_tag _ _ fits)
+    (inr (headed_by n h.after fits h.is.1 s))) (f h.after h.stopped)
 
 -- ---- by the first byte
 
@@ -185,6 +149,16 @@ stepped_value : (name : List ℕ) (outer : Budget) (xs : List ℕ)
 stepped_value name None xs S e rest none f h = f None refl h
 stepped_value name (Some zero) xs S e rest none f h = inr (rw (h.0, h.1) (none refl))
 stepped_value name (Some (suc n)) xs S e rest none f h = f (Some n) refl h
+
+stepped_parts : (keyed : Bool) (rejects : Budget → Stopping) (budget : Budget) (b : ℕ)
+    (bs : List ℕ) (e : InputError) (rest : List ℕ) → b / 32 ≡ major_of keyed
+    → ((o : Budget) → Parts o (rejects o) e rest) → RejectsAtStep (name_of keyed) (step_in budget)
+    (b ∷ bs) (λ inner. RejectsStrictly keyed rejects inner (b ∷ bs)) e rest
+    → OrValue (RejectsUnder false budget (b ∷ bs)) e rest
+stepped_parts keyed rejects budget b bs e rest m f h =
+    stepped_value (name_of keyed) budget (b ∷ bs) (λ inner. RejectsStrictly keyed rejects inner
+    (b ∷ bs)) e rest (λ none. parts_no_step keyed false budget none (b ∷ bs) b bs refl m)
+    (λ inner step. parts_value keyed budget inner rejects b bs e rest step m (f inner)) h
 
 by_value : (rejects : Budget → Stopping) (budget : Budget) (k b : ℕ) (bs : List ℕ) (e : InputError)
     (rest : List ℕ) → b / 32 ≡ k → ((o : Budget) → Parts o (rejects o) e rest)
@@ -207,16 +181,12 @@ by_value rejects budget (suc (suc (suc zero))) b bs e rest m f (inr h) =
     let w = shortest n in
     let fits = shortest_fits n h.is.0 in
     inr (at_row budget (starts_string text_string w) b bs e rest (ap initial
-    (first_is 3 n b bs h.after h.is) ∙ initial_string text_string n w fits) (inr (record
-    { argument = n; after = h.after; fits = fits; is = h.is.1; stopped = h.stopped })))
+    (first_byte 3 n w b bs h.after h.is.1) ∙ initial_string text_string n w fits) (inr (headed_by n
+    h.after fits h.is.1 h.stopped)))
 by_value rejects budget (suc (suc (suc (suc zero)))) b bs e rest m f h =
-    stepped_value array_name budget (b ∷ bs) (λ inner. CanonicalArrayRejects rejects inner (b ∷ bs))
-    e rest (λ none. array_no_step false budget none (b ∷ bs) b bs refl m) (λ inner step. array_value
-    budget inner (rejects inner) b bs e rest step m (f inner)) h
+    stepped_parts false rejects budget b bs e rest m f h
 by_value rejects budget (suc (suc (suc (suc (suc zero))))) b bs e rest m f h =
-    stepped_value map_name budget (b ∷ bs) (λ inner. CanonicalMapRejects rejects inner (b ∷ bs)) e
-    rest (λ none. map_no_step false budget none (b ∷ bs) b bs refl m) (λ inner step. map_value
-    budget inner (rejects inner) b bs e rest step m (f inner)) h
+    stepped_parts true rejects budget b bs e rest m f h
 by_value rejects budget (suc (suc (suc (suc (suc (suc zero)))))) b bs e rest m f h =
     tag_value budget (rejects budget) b bs e rest m (f budget) h
 by_value rejects budget (suc (suc (suc (suc (suc (suc (suc k))))))) b bs e rest m f h =

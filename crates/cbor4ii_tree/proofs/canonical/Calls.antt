@@ -1,14 +1,14 @@
 -- Heads and strings that are encoded in one way.
-use Rattle.std.proofs.Common.{◌≡◌, ℕ, List, ◌++◌, length, drop, Option, Some, None, Ok}
-use Rattle.std.proofs.Common.{IfOk, IfErr, true, refl, sym, ap, ap₂, ◌∙◌, subst, append_assoc, inl}
-use Rattle.std.proofs.Common.{inr, take-append-drop, Vec, Global, String}
+use Rattle.std.proofs.Common.{◌≡◌, ℕ, List, ◌++◌, length, drop, Option, Some, None, Ok, IfOk, IfErr}
+use Rattle.std.proofs.Common.{true, refl, sym, ap, ap₂, ◌∙◌, subst, append_assoc, inl, inr}
+use Rattle.std.proofs.Common.{take-append-drop, Vec, Global, String}
 use Rattle.std.specs.Prelude.{IsUtf8, string_bytes}
 use Rattle.cbor4ii_rw.specs.{View.View, declared.error.DecodeError.DecodeError}
 use Rattle.cbor4ii_items.specs.{Laws.Answering.fits_zero, Laws.Heads.shortest_fits}
 use Rattle.cbor4ii_items.specs.{Laws.Prefixes.drop_more, Moves.Moves, Shortest.ReadsShortest}
-use Rattle.cbor4ii_items.specs.{Decoding.{Sound, Rejects}, Head.{head, shortest}}
-use Rattle.cbor4ii_items.specs.{Initial.{byte_string, text_string}}
-use Rattle.cbor4ii_items.specs.Shortest.{ReadsShortestString, RejectsShortest}
+use Rattle.cbor4ii_items.specs.{Shortest.{ReadsShortestString, RejectsShortest}, Decoding.Sound}
+use Rattle.cbor4ii_items.specs.{Decoding.Rejects, Head.{head, shortest}, Initial.byte_string}
+use Rattle.cbor4ii_items.specs.Initial.{text_string}
 use Rattle.cbor4ii_tree.specs.{CanonicalCalls.StringAt, CanonicalRejects.AtShortest}
 use Rattle.cbor4ii_tree.specs.{CanonicalRejects.CanonicalTextRejects, Cost.Budget, Does.Does}
 use Rattle.cbor4ii_tree.specs.{Does.answered, InputError.{kind_name, require_utf8, tag_name}}
@@ -17,7 +17,7 @@ use Rattle.cbor4ii_tree.specs.Valuing.{RejectsOf, RejectsOneValue, RejectsUnder,
 use Rattle.cbor4ii_tree.specs.declared.value.Value.{Bytes, Text}
 use Rattle.cbor4ii_tree.proofs.skip_calls.Doing.{Reached, reached_sound, does_ok, call_rejects}
 use Rattle.cbor4ii_tree.proofs.{values.Calls.whole, values.Heads.{at_major, head_at, shortest_at}}
-use Rattle.cbor4ii_tree.proofs.values.Strings.{view-Bytes, view-Text}
+use Rattle.cbor4ii_tree.proofs.{values.Heads.after_shortest, values.Strings.{view-Bytes, view-Text}}
 
 -- ---- a shortest head
 
@@ -67,18 +67,13 @@ pub no_text : (budget : Budget) (content xs ys : List ℕ) → ¬ (IsUtf8 conten
     → StringAt 3 content xs ys → CanonicalTextRejects budget xs
     (require_utf8 (kind_name text_string)) ys
 no_text budget content xs ys invalid h =
-    inr (record {
-      argument = length content;
-      after = content ++ ys;
-      is = h;
-      stopped = record {
-        content = content;
-        long = refl;
-        invalid = invalid;
-        is = refl;
-        err = refl;
-      };
-    })
+    inr (after_shortest (length content) (content ++ ys) h (record {
+      content = content;
+      long = refl;
+      invalid = invalid;
+      is = refl;
+      err = refl;
+    }))
 
 -- ---- values that are strings
 

@@ -1,36 +1,34 @@
 -- Reading a value from its canonical encoding, as a decoding call, and what its answer says.
-use Rattle.std.proofs.Common.{true, ◌≡◌, ℕ, List, [], ◌++◌, length, take, drop, Some, Ok, Err}
-use Rattle.std.proofs.Common.{inl, ◌+◌, ◌≤◌, inr, refl, sym, ap, ◌∙◌, subst, arith, IfSome}
-use Rattle.std.proofs.Common.{append_assoc, append-nil, length-append, take-append-drop, suc}
+use Rattle.std.proofs.Common.{true, ◌≡◌, ℕ, List, [], ◌++◌, length, take, drop, Some, Ok, Err, inl}
+use Rattle.std.proofs.Common.{◌+◌, ◌≤◌, inr, refl, sym, ap, ◌∙◌, subst, arith, IfSome}
+use Rattle.std.proofs.Common.{append-nil, length-append, take-append-drop, suc}
 use Rattle.std.proofs.Math.Seq.{drop-append_seam, take-append_seam}
 use Rattle.std.specs.Prelude.{◌⊎◌}
 use Rattle.cbor4ii_rw.specs.{View.View, declared.error.DecodeError.DecodeError}
-use Rattle.cbor4ii_items.specs.{InputError.not_canonical, Laws.Calls.ok, Laws.Steps.moves_err}
-use Rattle.cbor4ii_items.specs.{Decoding.{Sound, Complete, Rejects, NoneRead}}
-use Rattle.cbor4ii_items.specs.{Decoding.Decodes, InputError.{InputError, input_error_of}}
+use Rattle.cbor4ii_items.specs.InputError.{not_canonical, InputError, input_error_of}
+use Rattle.cbor4ii_items.specs.{Laws.Calls.ok, Laws.Steps.moves_err, Decoding.{Sound, Complete}}
+use Rattle.cbor4ii_items.specs.Decoding.{Rejects, NoneRead, Decodes}
 use Rattle.cbor4ii_tree.specs.{CanonicalRejects.CanonicalRejects, CanonicalShape.DecodesCanonically}
 use Rattle.cbor4ii_tree.specs.{Does.Does, Encodings.DecodesTo, Headline.EofReads, InputError.eof}
-use Rattle.cbor4ii_tree.specs.{InputError.MayReject, Item.Item, Laws.Ignoring.one_encoding}
-use Rattle.cbor4ii_tree.specs.{Meaning.value, ReadingRejects.ReadingRejects, Tree.bytes}
+use Rattle.cbor4ii_tree.specs.{InputError.{MayReject, IsEof, IsDepthOverflow, IsFinal}, Item.Item}
+use Rattle.cbor4ii_tree.specs.{ReadingRejects.{ReadingRejects, reading}, Tree.bytes}
+use Rattle.cbor4ii_tree.specs.declared.{decode_canonical.Canonical.Canonical, value.Value.Value}
 use Rattle.cbor4ii_tree.specs.Canonically.{ReadsCanonical, RejectsCanonical, IsNotCanonical}
 use Rattle.cbor4ii_tree.specs.Canonically.{OnlyCanonical, AllCanonical, TakesEncoding}
 use Rattle.cbor4ii_tree.specs.Canonically.{EveryEncoding, PrefixCanonical, DepthCanonical}
 use Rattle.cbor4ii_tree.specs.Canonically.{NeverCanonical, OthersCanonical, ValueCanonical}
 use Rattle.cbor4ii_tree.specs.{Canonically.{ExactCanonical, canonical_format}, Cost.{Budget, cost}}
-use Rattle.cbor4ii_tree.specs.InputError.{IsEof, IsDepthOverflow, IsFinal}
 use Rattle.cbor4ii_tree.specs.{Valuing.{ReadsOneValue, RejectsOneValue}, View.view}
-use Rattle.cbor4ii_tree.specs.declared.decode_canonical.Canonical.{Canonical}
-use Rattle.cbor4ii_tree.specs.declared.value.Value.{Value}
-use Rattle.cbor4ii_tree.proofs.{reading.Answer.not_both, reading.Laws.final_stays}
-use Rattle.cbor4ii_tree.proofs.{reading.Widen.reading_persists, skipping.Laws.none_left}
-use Rattle.cbor4ii_tree.proofs.answers.MayReject.{reading_may_stop, reading_leaves_nothing}
-use Rattle.cbor4ii_tree.proofs.answers.Promises.{if_some, all_bytes, no_eof, reading_eof_prefix}
-use Rattle.cbor4ii_tree.proofs.answers.Promises.{reading_eof_alone}
+use Rattle.cbor4ii_tree.proofs.answers.MayReject.{may_reject, leaves_nothing}
+use Rattle.cbor4ii_tree.proofs.answers.Promises.{if_some, all_bytes, reading_eof_prefix}
 use Rattle.cbor4ii_tree.proofs.canonical.AsValue.{canonically_as_value}
 use Rattle.cbor4ii_tree.proofs.canonical.NotCanonical.{loose, within_never}
 use Rattle.cbor4ii_tree.proofs.canonical.Once.{canonically_once}
 use Rattle.cbor4ii_tree.proofs.encodings.CanonicalShape.{reads_canonically_iff}
 use Rattle.cbor4ii_tree.proofs.encodings.CanonicalShape.{canonical_canonically}
+use Rattle.cbor4ii_tree.proofs.profile.Answer.{no_prefix, no_eof, eof_alone, reading_laws}
+use Rattle.cbor4ii_tree.proofs.{profile.Widen.{persists, reading_widens}, reading.Answer.not_both}
+use Rattle.cbor4ii_tree.proofs.{reading.Answer.{one_reading, tree_of}, reading.Laws.final_stays}
 
 -- ---- in the words of the definitions
 
@@ -85,7 +83,9 @@ is_eof : (budget : Budget) (xs back : List ℕ) (e : InputError) (rest : List �
     → DecodesCanonically (xs ++ back) budget v [] → CanonicalRejects xs budget e rest → IsEof e
 is_eof budget xs back e rest v r h = elim (canonically_as_value xs budget e rest h) [
   | inl is ↦ absurd (never_loose budget budget xs back e rest v [] h is r)
-  | inr s ↦ reading_eof_alone xs back budget v e rest (as_read budget (xs ++ back) v [] r) s
+  | inr s ↦
+      let t = tree_of (as_read budget (xs ++ back) v [] r) in
+      eof_alone reading_laws xs back budget t.0 e rest s t.1
 ]
 
 deep : (budget : Budget) (xs : List ℕ) (e : InputError) (rest : List ℕ)
@@ -94,7 +94,7 @@ deep : (budget : Budget) (xs : List ℕ) (e : InputError) (rest : List ℕ)
 deep budget xs e rest h i more v ys r = elim (canonically_as_value xs budget e rest h) [
   | inl is ↦ never_loose budget budget xs more e rest v ys h is r
   | inr s ↦ not_both (xs ++ more) budget v ys e (rest ++ more) (as_read budget (xs ++ more) v ys r)
-      (reading_persists xs more budget e rest (no_eof e (inl i)) s)
+      (persists reading reading_widens xs more budget e rest (no_eof e (inl i)) s)
 ]
 
 never : (budget : Budget) (xs : List ℕ) (e : InputError) (rest : List ℕ)
@@ -102,7 +102,7 @@ never : (budget : Budget) (xs : List ℕ) (e : InputError) (rest : List ℕ)
     (other : Budget) (v : Item) (ys : List ℕ) → ¬ (DecodesCanonically (xs ++ more) other v ys)
 never budget xs e rest h i more other v ys r = elim (canonically_as_value xs budget e rest h) [
   | inl is ↦ never_loose budget other xs more e rest v ys h is r
-  | inr s ↦ final_stays xs more budget other e rest v ys (final e i (reading_may_stop xs budget e
+  | inr s ↦ final_stays xs more budget other e rest v ys (final e i (may_reject reading xs budget e
       rest s)) s (as_read other (xs ++ more) v ys r)
 ]
   where
@@ -129,7 +129,7 @@ may_stop : (budget : Budget) (xs : List ℕ) (e : InputError) (rest : List ℕ)
     → CanonicalRejects xs budget e rest → MayReject e ⊎ IsNotCanonical e
 may_stop budget xs e rest h = elim (canonically_as_value xs budget e rest h) [
   | inl is ↦ inr (subst IsNotCanonical (sym is) tt)
-  | inr s ↦ inl (reading_may_stop xs budget e rest s)
+  | inr s ↦ inl (may_reject reading xs budget e rest s)
 ]
 
 -- ---- a value was read
@@ -174,11 +174,9 @@ module _ {E : Type 0} {a b : View} {v : Value}
     pub canonical_all : AllCanonical {E = E} a b (Ok (record { 0 = v }))
     canonical_all = λ xs known w rest r.
         let s = d.ok xs known in
-        let t = s.2.0 in
-        let c = r.encodes in
-        let same = one_encoding t c.of_tree s.0 rest s.2.1.0.0.0 c.canonical.0.0
-        (sym s.2.3 ∙ r.begins ∙ ap (λ z. z ++ rest) (sym c.bytes_are)) in
-        (sym s.2.2 ∙ ap value same.0 ∙ c.value_is, s.1 ∙ ap Some same.1)
+        let same = (one_reading xs a.budget).one_accepted (view v) w s.0 rest (as_read a.budget xs
+        (view v) s.0 (as_canonically a.budget xs v s.0 s.2)) (as_read a.budget xs w rest r) in
+        (same.0, s.1 ∙ ap Some same.1)
 
     pub takes_encoding : TakesEncoding {E = E} a b (Ok (record { 0 = v }))
     takes_encoding = λ xs known.
@@ -189,19 +187,13 @@ module _ {E : Type 0} {a b : View} {v : Value}
 
     pub canonical_every : EveryEncoding {E = E} a b (Ok (record { 0 = v }))
     canonical_every = λ xs known w rest decoded fits is.
-        canonical_all xs known w rest ((reads_canonically_iff xs a.budget w rest).1
-        (decoded, fits, is))
+        canonical_all xs known w rest ((reads_canonically_iff _ _ _ _).1 (decoded, fits, is))
 
     pub canonical_prefix : PrefixCanonical {E = E} a (Ok (record { 0 = v }))
     canonical_prefix = λ xs known w decoded fits prefix.
         let s = d.ok xs known in
-        let t = s.2.0 in
         let c = canonical_canonically w decoded in
-        let all : bytes t ++ (s.0 ++ prefix.0) ≡ bytes c.of_tree ++ [] =
-        sym (append_assoc (bytes t) s.0 prefix.0) ∙ ap (λ z. z ++ prefix.0) (sym s.2.3)
-        ∙ sym prefix.2 ∙ sym c.bytes_are ∙ sym (append-nil (bytes c.of_tree)) in
-        prefix.1 (none_left s.0 prefix.0
-        (one_encoding t c.of_tree (s.0 ++ prefix.0) [] s.2.1.0.0.0 c.canonical.0.0 all).1)
+        no_prefix xs s.2.0 c.of_tree s.0 s.2.1.0.0.0 c.canonical.0.0 s.2.3 (rw c.bytes_are prefix)
 
     pub canonical_exact : ExactCanonical {E = E} a b (Ok (record { 0 = v }))
     canonical_exact = λ xs known z rest rejects. let s = d.ok xs known in
@@ -253,8 +245,7 @@ module _ {E : Type 0} {a b : View} {e : DecodeError E}
 
   pub rejected_every : EveryEncoding {E = E} a b (Err e)
   rejected_every = λ xs known w rest decoded fits is.
-      rejected_all xs known w rest ((reads_canonically_iff xs a.budget w rest).1
-      (decoded, fits, is))
+      rejected_all xs known w rest ((reads_canonically_iff _ _ _ _).1 (decoded, fits, is))
 
   pub rejected_prefix : PrefixCanonical {E = E} a (Err e)
   rejected_prefix = λ xs known w decoded fits prefix. stopped xs IsEof known (λ z ys is left h.
@@ -265,7 +256,7 @@ module _ {E : Type 0} {a b : View} {e : DecodeError E}
   rejected_eof = λ xs known. stopped xs _ known (λ z ys is left h ended.
       let s = of_value a.budget xs z ys h (eof_is_other z ended) in
       let none : b.known ≡ Some [] =
-      left ∙ ap Some (reading_leaves_nothing xs a.budget z ys ended s) in (
+      left ∙ ap Some (leaves_nothing reading xs a.budget z ys ended s) in (
         none,
         reading_eof_prefix xs a.budget z ys ended
             (all_bytes {V = Value} a b e z xs is d.moves known none) s,

@@ -1,57 +1,48 @@
 -- Trees that are encoded in one way: what begins bytes, by the major type of the first.
-use Rattle.std.proofs.Common.{◌≡◌, ◌≢◌, ℕ, zero, suc, ◌+◌, ◌*◌, ◌/◌, ◌^◌, ◌<◌, List, ◌∷◌, ◌++◌}
-use Rattle.std.proofs.Common.{length, refl, sym, ap, ◌∙◌, subst, arith, append_assoc}
+use Rattle.std.proofs.Common.{◌≡◌, ◌≢◌, ℕ, zero, suc, ◌*◌, ◌/◌, ◌^◌, ◌<◌, List, ◌∷◌, ◌++◌, length}
+use Rattle.std.proofs.Common.{refl, sym, ap, ◌∙◌, subst, arith, append_assoc}
 use Rattle.std.proofs.lemmas.List.{append_cancel_left}
 use Rattle.std.specs.Int.{bytes_high_first}
-use Rattle.cbor4ii_items.specs.{Budget.CostFits, Head.{Width, byte_count, HeadFits, additional}}
-use Rattle.cbor4ii_items.specs.{Head.{head, shortest}, Heads.ReadsHead, Initial.unsigned}
-use Rattle.cbor4ii_items.specs.Initial.{negative, byte_string, text_string, Simple, simple_false}
-use Rattle.cbor4ii_items.specs.Initial.{simple_true, simple_null, simple_undefined, simple_byte}
-use Rattle.cbor4ii_items.specs.Initial.{Precision, half, single, double, initial, precision_byte}
-use Rattle.cbor4ii_items.specs.Initial.{precision_bytes, starts_simple, starts_bits}
-use Rattle.cbor4ii_items.specs.{Laws.Answering.fits_zero, Laws.Heads.{head_one, shortest_fits}}
-use Rattle.cbor4ii_items.specs.Laws.Heads.{argument_below, byte_count-le}
+use Rattle.cbor4ii_items.specs.{Budget.CostFits, Head.{Width, byte_count, HeadFits, head, shortest}}
+use Rattle.cbor4ii_items.specs.{Heads.ReadsHead, Initial.{unsigned, negative, byte_string}}
+use Rattle.cbor4ii_items.specs.Initial.{text_string, Simple, simple_false, simple_true, simple_null}
+use Rattle.cbor4ii_items.specs.Initial.{simple_undefined, simple_byte, Precision, half, single}
+use Rattle.cbor4ii_items.specs.Initial.{double, initial, precision_byte, precision_bytes}
+use Rattle.cbor4ii_items.specs.{Initial.{starts_simple, starts_bits}, Laws.Answering.fits_zero}
+use Rattle.cbor4ii_items.specs.Laws.Heads.{head_one, shortest_fits, argument_below, byte_count-le}
 use Rattle.cbor4ii_items.specs.Laws.SequenceParts.{fits_max}
-use Rattle.cbor4ii_tree.specs.{Laws.Ignoring.one_encoding, Laws.Initials.initial_simple}
-use Rattle.cbor4ii_tree.specs.{Laws.Initials.initial_bits, Laws.Numbers.additional-lt}
 use Rattle.cbor4ii_tree.specs.CanonicalRejects.{FitsCanonically, ShortestAt}
 use Rattle.cbor4ii_tree.specs.CanonicalShape.{CanonicalShapeAll, CanonicalShapePairs, CanonicalTree}
 use Rattle.cbor4ii_tree.specs.Cost.{Budget, cost, greatest_cost, greatest_pair_cost}
+use Rattle.cbor4ii_tree.specs.{Laws.Ignoring.one_encoding, Laws.Initials.initial_simple}
+use Rattle.cbor4ii_tree.specs.{Laws.Initials.initial_bits, Laws.Numbers.additional-lt}
 use Rattle.cbor4ii_tree.specs.{Rejections.{Each, EachPair}, Tree.{Tree, int, string, chunked}}
 use Rattle.cbor4ii_tree.specs.Tree.{array, array_indefinite, map_of, map_indefinite, tagged, simple}
 use Rattle.cbor4ii_tree.specs.Tree.{bits, Trees, no_trees, tree, Pairs, no_pairs, pair, count}
 use Rattle.cbor4ii_tree.specs.Tree.{pair_count, bytes, bytes_all, bytes_pairs, LooseAll, LoosePairs}
 use Rattle.cbor4ii_tree.specs.Tree.{SoundStringsAll, SoundStringsPairs}
-use Rattle.cbor4ii_tree.proofs.{encodings.CanonicalShape.same_first, parts.Pushed.flat}
-use Rattle.cbor4ii_tree.proofs.parts.Pushed.{count-flat, each-flat, bytes-flat}
+use Rattle.cbor4ii_tree.proofs.encodings.CanonicalShape.{same_first, first_byte}
+use Rattle.cbor4ii_tree.proofs.parts.Pushed.{flat, count-flat, each-flat, bytes-flat}
 
 -- ---- heads
 
--- one shortest head begins the bytes
+pub head_here : (major n : ℕ) (xs ys : List ℕ) → ShortestAt major n xs ys
+    → ReadsHead major 8 xs n (suc (byte_count (shortest n)))
+head_here major n xs ys h = record {
+  wide = shortest n;
+  allowed = byte_count-le (shortest n);
+  fits = shortest_fits n h.0;
+  rest = ys;
+  is = h.1;
+  count = refl;
+}
+
 pub one_head : (major n m : ℕ) (x y : List ℕ) → major < 8 → n < 2 ^ 64 → m < 2 ^ 64
     → head major n (shortest n) ++ x ≡ head major m (shortest m) ++ y → (n ≡ m) × (x ≡ y)
 one_head major n m x y small h k e =
     let all : List ℕ = head major n (shortest n) ++ x in
-    let p : ReadsHead major 8 all n (suc (byte_count (shortest n))) =
-    record {
-      wide = shortest n;
-      allowed = byte_count-le (shortest n);
-      fits = shortest_fits n h;
-      rest = x;
-      is = refl;
-      count = refl;
-    } in
-    let q : ReadsHead major 8 all m (suc (byte_count (shortest m))) =
-    record {
-      wide = shortest m;
-      allowed = byte_count-le (shortest m);
-      fits = shortest_fits m k;
-      rest = y;
-      is = e;
-      count = refl;
-    } in
-    let same = (head_one major 8 all n m (suc (byte_count (shortest n)))
-    (suc (byte_count (shortest m))) small p q).1 in (
+    let same = (head_one major 8 all n m _ _ small (head_here major n all x (h, refl))
+    (head_here major m all y (k, e))).1 in (
       same,
       append_cancel_left (head major n (shortest n)) x y
           (e ∙ ap (λ j. head major j (shortest j) ++ y) (sym same)),
@@ -141,9 +132,7 @@ arm_head : (k n x : ℕ) (Then : ℕ → Beginning) (w : Width) (xs ys : List �
     → (BeginsHead k Then (x ∷ xs) → Arm k (x ∷ xs)) → HeadFits w n → w ≡ shortest n
     → x ∷ xs ≡ head k n w ++ ys → Then n ys → Arm (x / 32) (x ∷ xs)
 arm_head k n x Then w xs ys f h s e then =
-    let first = (same_first x (32 * k + additional w n) xs
-    (bytes_high_first (byte_count w) n ++ ys) e).0 in
-    let major : k ≡ x / 32 = omega (arith, first, additional-lt n w h) in
+    let major : k ≡ x / 32 = omega (arith, first_byte k n w x xs ys e, additional-lt n w h) in
     subst (λ j. Arm j (x ∷ xs)) major
     (f (n, ys, (argument_below w n h, e ∙ ap (λ u. head k n u ++ ys) s), then))
 

@@ -1,28 +1,25 @@
 -- Where bytes are rejected since their encoding is not the canonical one, no canonical tree begins
 -- them, whatever follows.
-use Rattle.std.proofs.Common.{◌≡◌, ◌≢◌, ℕ, zero, suc, ◌+◌, ◌*◌, ◌/◌, ◌<◌, inl, inr, List, []}
-use Rattle.std.proofs.Common.{◌∷◌, ◌++◌, Option, Some, None, refl, sym, ap, ◌∙◌, subst, arith}
+use Rattle.std.proofs.Common.{◌≡◌, ◌≢◌, ℕ, zero, suc, ◌+◌, ◌*◌, ◌/◌, ◌<◌, inl, inr, List, [], ◌∷◌}
+use Rattle.std.proofs.Common.{◌++◌, Option, Some, None, refl, sym, ap, ◌∙◌, subst, arith}
 use Rattle.std.proofs.Common.{append_assoc}
-use Rattle.std.specs.Int.{bytes_high_first}
-use Rattle.cbor4ii_items.specs.{Head.{byte_count, additional, head, shortest}, Heads.ReadsHead}
-use Rattle.cbor4ii_items.specs.{Heads.RejectsHead, Initial.{Initial, starts_simple, starts_bits}}
-use Rattle.cbor4ii_items.specs.Initial.{other_simple, initial, simple_undefined}
-use Rattle.cbor4ii_items.specs.{InputError.{InputError, not_canonical}, Laws.Heads.head_one}
-use Rattle.cbor4ii_items.specs.Laws.Heads.{additional-lt, shortest_fits, byte_count-le}
-use Rattle.cbor4ii_items.specs.Shortest.{RejectsShortest, shortest_rejected, shortest_indefinite}
-use Rattle.cbor4ii_items.specs.Shortest.{too_long, canonical_name, RejectsShortestString}
-use Rattle.cbor4ii_items.specs.Shortest.{length_rejected, content_cut}
+use Rattle.cbor4ii_items.specs.{Head.{byte_count, head, shortest}, Heads.{ReadsHead, RejectsHead}}
+use Rattle.cbor4ii_items.specs.Initial.{Initial, starts_simple, starts_bits, other_simple, initial}
+use Rattle.cbor4ii_items.specs.{Initial.simple_undefined, InputError.{InputError, not_canonical}}
+use Rattle.cbor4ii_items.specs.{Laws.Heads.{head_one, additional-lt}, Shortest.RejectsShortest}
+use Rattle.cbor4ii_items.specs.Shortest.{shortest_rejected, shortest_indefinite, too_long}
+use Rattle.cbor4ii_items.specs.Shortest.{canonical_name, RejectsShortestString, length_rejected}
+use Rattle.cbor4ii_items.specs.Shortest.{content_cut}
 use Rattle.cbor4ii_tree.specs.CanonicalRejects.{FitsCanonically, ShortestAt, AtShortest}
 use Rattle.cbor4ii_tree.specs.CanonicalRejects.{CanonicalArrayRejects, CanonicalMapRejects}
 use Rattle.cbor4ii_tree.specs.CanonicalRejects.{CanonicalOtherRejects, CanonicalRejectsBy}
 use Rattle.cbor4ii_tree.specs.CanonicalRejects.{CanonicalRejectsFrom, CanonicalRejectsWithin}
-use Rattle.cbor4ii_tree.specs.{Cost.{Budget, step_in}, InputError.{array_name, map_name, tag_name}}
-use Rattle.cbor4ii_tree.specs.{InputError.value_name, Rejections.{Stopping, RejectsAtStep}}
-use Rattle.cbor4ii_tree.specs.Rejections.{RejectsInCount}
+use Rattle.cbor4ii_tree.specs.{Cost.{Budget, step_in}, InputError.value_name, Rejections.Stopping}
+use Rattle.cbor4ii_tree.specs.Rejections.{RejectsAtStep, RejectsInCount}
 use Rattle.cbor4ii_tree.proofs.canonical.FitsCanonically.{Beginning, BeginsOne, BeginsItems, Arm}
 use Rattle.cbor4ii_tree.proofs.canonical.FitsCanonically.{BeginsHead, BeginsOther, Anything, arm_of}
-use Rattle.cbor4ii_tree.proofs.canonical.FitsCanonically.{following_head, one_after}
-use Rattle.cbor4ii_tree.proofs.encodings.CanonicalShape.{same_first, same_head}
+use Rattle.cbor4ii_tree.proofs.canonical.FitsCanonically.{following_head, one_after, head_here}
+use Rattle.cbor4ii_tree.proofs.encodings.CanonicalShape.{same_first, same_head, first_byte}
 
 -- the error of what is read as a value, and is no canonical encoding
 abbrev pub loose : InputError
@@ -35,35 +32,16 @@ Never rejects Begins =
 
 -- ---- heads
 
-pub head_here : (major n : ℕ) (xs ys : List ℕ) → ShortestAt major n xs ys
-    → ReadsHead major 8 xs n (suc (byte_count (shortest n)))
-head_here major n xs ys h = record {
-  wide = shortest n;
-  allowed = byte_count-le (shortest n);
-  fits = shortest_fits n h.0;
-  rest = ys;
-  is = h.1;
-  count = refl;
-}
-
--- the first byte of a shortest head
-pub first_is : (major n b : ℕ) (bs ys : List ℕ) → ShortestAt major n (b ∷ bs) ys
-    → b ≡ 32 * major + additional (shortest n) n
-first_is major n b bs ys h =
-    (same_first b (32 * major + additional (shortest n) n) bs
-    (bytes_high_first (byte_count (shortest n)) n ++ ys) h.1).0
-
 pub not_by_head : (name : List ℕ) (major : ℕ) (xs rest : List ℕ)
     → ¬ (RejectsHead name major 8 xs loose rest)
 not_by_head name major [] rest h = let is = h.0 in cc
 not_by_head name major (b ∷ bs) rest (inl h) = let is = h.answer in cc
 not_by_head name major (b ∷ bs) rest (inr h) = let is = h.answer in cc
 
-not_indefinite : (major n b : ℕ) (bs ys : List ℕ) → b ≡ 32 * major + 31
-    → ¬ (ShortestAt major n (b ∷ bs) ys)
-not_indefinite major n b bs ys is h =
-    let first = first_is major n b bs ys h in
-    omega (arith, first, is, additional-lt n (shortest n) (shortest_fits n h.0))
+pub no_indefinite : (major v n b : ℕ) (bs : List ℕ) → b ≡ 32 * major + 31 →
+    ¬ (ReadsHead major 8 (b ∷ bs) v n)
+no_indefinite major v n b bs is k =
+    omega (arith, is, first_byte major v k.wide b bs k.rest k.is, additional-lt v k.wide k.fits)
 
 -- a head that is longer than needed is no shortest one
 pub longer : (major v n : ℕ) (xs more : List ℕ) → major < 8 → (h : ReadsHead major 8 xs v n)
@@ -88,12 +66,12 @@ longer major v n xs more small h other m zs c =
 head_never : (name : List ℕ) (major : ℕ) (budget : Budget) (Then : ℕ → Beginning) → major < 8
     → Never (λ xs. RejectsShortest name major xs budget) (BeginsHead major Then)
 head_never name major budget Then small xs rest more (shortest_rejected closed h) c =
-    not_by_head name major xs rest h
+    not_by_head _ _ _ _ h
 head_never name major budget Then small xs rest more (shortest_indefinite b opens is says) c =
-    not_indefinite major c.0 b (rest ++ more) c.1 opens.2
-    (subst (λ x. ShortestAt major c.0 (x ++ more) c.1) is c.2)
+    no_indefinite major c.0 _ b (rest ++ more) opens.2 (head_here major c.0 _ c.1
+    (subst (λ x. ShortestAt major c.0 (x ++ more) c.1) is c.2))
 head_never name major budget Then small xs rest more (too_long v n h other says left) c =
-    longer major v n xs more small h other c.0 c.1 c.2
+    longer _ _ _ _ _ small h other _ _ c.2
 
 string_never : (name : List ℕ) (major : ℕ) (budget : Budget) → major < 8
     → Never (λ xs. RejectsShortestString name major xs budget) (BeginsHead major Anything)
@@ -143,30 +121,29 @@ by_never : (rejects : Budget → Stopping) → ((o : Budget) → Never (rejects 
     → (budget : Budget) (k b : ℕ) (bs rest more : List ℕ)
     → CanonicalRejectsBy rejects budget k b bs loose rest → ¬ (Arm k (b ∷ (bs ++ more)))
 by_never rejects f budget zero b bs rest more h =
-    head_never _ 0 budget Anything (omega arith) (b ∷ bs) rest more h
+    head_never _ 0 _ Anything (omega arith) (b ∷ bs) rest more h
 by_never rejects f budget (suc zero) b bs rest more h =
-    head_never _ 1 budget Anything (omega arith) (b ∷ bs) rest more h
+    head_never _ 1 _ Anything (omega arith) (b ∷ bs) rest more h
 by_never rejects f budget (suc (suc zero)) b bs rest more h =
-    string_never _ 2 budget (omega arith) (b ∷ bs) rest more h
+    string_never _ 2 _ (omega arith) (b ∷ bs) rest more h
 by_never rejects f budget (suc (suc (suc zero))) b bs rest more (inl h) =
-    string_never _ 3 budget (omega arith) (b ∷ bs) rest more h
+    string_never _ 3 _ (omega arith) (b ∷ bs) rest more h
 by_never rejects f budget (suc (suc (suc zero))) b bs rest more (inr h) =
     absurd (let says = h.stopped.err in cc)
 by_never rejects f budget (suc (suc (suc (suc zero)))) b bs rest more h =
-    stepped_never array_name (step_in budget) (b ∷ bs) rest (λ inner. CanonicalArrayRejects rejects
-    inner (b ∷ bs)) (Arm 4 (b ∷ (bs ++ more))) (λ inner. at_head_never array_name 4 inner
-    (RejectsInCount (FitsCanonically inner) (rejects inner)) BeginsItems (omega arith) (λ n.
-    items_never inner (rejects inner) n (f inner)) (b ∷ bs) rest more) h
+    stepped_never _ _ _ _ (λ inner. CanonicalArrayRejects rejects inner (b ∷ bs)) _ (λ inner.
+    at_head_never _ 4 _ (RejectsInCount (FitsCanonically inner) (rejects inner)) BeginsItems
+    (omega arith) (λ n. items_never _ (rejects inner) _ (f inner)) (b ∷ bs) rest more) h
 by_never rejects f budget (suc (suc (suc (suc (suc zero))))) b bs rest more h =
-    stepped_never map_name (step_in budget) (b ∷ bs) rest (λ inner. CanonicalMapRejects rejects
-    inner (b ∷ bs)) (Arm 5 (b ∷ (bs ++ more))) (λ inner. at_head_never map_name 5 inner (λ n.
-    RejectsInCount (FitsCanonically inner) (rejects inner) (2 * n)) (λ n. BeginsItems (2 * n))
-    (omega arith) (λ n. items_never inner (rejects inner) (2 * n) (f inner)) (b ∷ bs) rest more) h
+    stepped_never _ _ _ _ (λ inner. CanonicalMapRejects rejects inner (b ∷ bs)) _ (λ inner.
+    at_head_never _ 5 _ (λ n. RejectsInCount (FitsCanonically inner) (rejects inner) (2 * n)) (λ n.
+    BeginsItems (2 * n)) (omega arith) (λ n. items_never _ (rejects inner) _ (f inner)) (b ∷ bs)
+    rest more) h
 by_never rejects f budget (suc (suc (suc (suc (suc (suc zero)))))) b bs rest more h =
-    at_head_never tag_name 6 budget (λ n. rejects budget) (λ n. BeginsOne) (omega arith)
-    (λ n. f budget) (b ∷ bs) rest more h
+    at_head_never _ 6 _ (λ n. rejects budget) (λ n. BeginsOne) (omega arith) (λ n. f budget) (b ∷
+    bs) rest more h
 by_never rejects f budget (suc (suc (suc (suc (suc (suc (suc k))))))) b bs rest more h =
-    other_never b bs rest more (initial b) refl h
+    other_never _ _ _ _ _ refl h
 
 from_never : (rejects : Budget → Stopping) → ((o : Budget) → Never (rejects o) BeginsOne)
     → (budget : Budget) → Never (CanonicalRejectsFrom rejects budget) BeginsOne

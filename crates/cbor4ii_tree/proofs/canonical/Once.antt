@@ -1,31 +1,31 @@
 -- Reading a canonical encoding is rejected in one way: by one error that leaves one rest.
-use Rattle.std.proofs.Common.{◌≡◌, ℕ, zero, suc, ◌+◌, ◌*◌, ◌/◌, ◌%◌, ◌<◌, inl, inr, List, [], ◌∷◌}
-use Rattle.std.proofs.Common.{◌++◌, length, drop, Option, Some, None, sym, ap, ◌∙◌, subst, arith}
+use Rattle.std.proofs.Common.{◌≡◌, ℕ, zero, suc, ◌*◌, ◌/◌, ◌%◌, ◌<◌, inl, inr, List, [], ◌∷◌, ◌++◌}
+use Rattle.std.proofs.Common.{length, drop, Option, Some, None, sym, ap, ◌∙◌, subst, arith}
 use Rattle.std.proofs.Common.{append_assoc, append-nil, length-append, refl}
 use Rattle.std.specs.Int.{bytes_high_first}
-use Rattle.cbor4ii_items.specs.{Laws.Heads.argument_below, Shortest.RejectsShortest, Head.Width}
-use Rattle.cbor4ii_items.specs.{Head.{byte_count, additional, head, shortest}, Heads.ReadsHead}
-use Rattle.cbor4ii_items.specs.{Heads.{Begins, RejectsHead}, Initial.{byte_string, text_string}}
-use Rattle.cbor4ii_items.specs.Initial.{wide, info_of, simple_undefined, Initial, starts_simple}
-use Rattle.cbor4ii_items.specs.{Initial.{starts_bits, other_simple, initial}, Laws.Heads.head_one}
-use Rattle.cbor4ii_items.specs.Laws.Heads.{additional-lt, length-bytes_high_first}
-use Rattle.cbor4ii_items.specs.Shortest.{shortest_rejected, shortest_indefinite, too_long}
-use Rattle.cbor4ii_items.specs.Shortest.{RejectsShortestString, length_rejected, content_cut}
-use Rattle.cbor4ii_tree.specs.{InputError.value_name, Laws.Ignoring.one_encoding, Meaning.value}
-use Rattle.cbor4ii_tree.specs.CanonicalRejects.{FitsCanonically, ShortestAt, AfterShortest}
-use Rattle.cbor4ii_tree.specs.CanonicalRejects.{AtShortest, CanonicalTextRejects}
+use Rattle.cbor4ii_items.specs.Laws.Heads.{argument_below, head_one, length-bytes_high_first}
+use Rattle.cbor4ii_items.specs.Shortest.{RejectsShortest, shortest_rejected, shortest_indefinite}
+use Rattle.cbor4ii_items.specs.Shortest.{too_long, RejectsShortestString, length_rejected}
+use Rattle.cbor4ii_items.specs.{Shortest.content_cut, Head.{Width, byte_count, head, shortest}}
+use Rattle.cbor4ii_items.specs.{Heads.{ReadsHead, Begins, RejectsHead}, Initial.{wide, info_of}}
+use Rattle.cbor4ii_items.specs.Initial.{simple_undefined, Initial, starts_simple, starts_bits}
+use Rattle.cbor4ii_items.specs.Initial.{other_simple}
+use Rattle.cbor4ii_tree.specs.{InputError.{value_name, InputError}, Laws.Ignoring.one_encoding}
+use Rattle.cbor4ii_tree.specs.{Meaning.value, CanonicalRejects.{FitsCanonically, ShortestAt}}
+use Rattle.cbor4ii_tree.specs.CanonicalRejects.{AfterShortest, AtShortest, CanonicalTextRejects}
 use Rattle.cbor4ii_tree.specs.CanonicalRejects.{CanonicalArrayRejects, CanonicalMapRejects}
 use Rattle.cbor4ii_tree.specs.CanonicalRejects.{CanonicalOtherRejects, CanonicalRejectsBy}
 use Rattle.cbor4ii_tree.specs.CanonicalRejects.{CanonicalRejectsFrom, CanonicalRejectsWithin}
 use Rattle.cbor4ii_tree.specs.{CanonicalRejects.CanonicalRejects, Cost.{Budget, step_in}}
-use Rattle.cbor4ii_tree.specs.InputError.{InputError, kind_name, array_name, map_name, tag_name}
 use Rattle.cbor4ii_tree.specs.Rejections.{Stopping, RejectsAtStep, Each, RejectsInCount}
 use Rattle.cbor4ii_tree.specs.Tree.{Tree, Trees, no_trees, tree, bytes, bytes_all}
-use Rattle.cbor4ii_tree.proofs.{canonical.FitsCanonically.one_head, canonical.NotCanonical.loose}
-use Rattle.cbor4ii_tree.proofs.{encodings.CanonicalShape.same_first, reading.Answer.one_reading}
+use Rattle.cbor4ii_tree.proofs.canonical.FitsCanonically.{one_head, head_here}
+use Rattle.cbor4ii_tree.proofs.canonical.NotCanonical.{loose, longer, not_by_head, within_never}
+use Rattle.cbor4ii_tree.proofs.canonical.NotCanonical.{no_indefinite}
+use Rattle.cbor4ii_tree.proofs.encodings.CanonicalShape.{same_first, first_byte}
+use Rattle.cbor4ii_tree.proofs.reading.Answer.{one_reading, decodes_tree, not_both}
 use Rattle.cbor4ii_tree.proofs.canonical.AsValue.{within_value, canonically_as_value}
-use Rattle.cbor4ii_tree.proofs.canonical.NotCanonical.{head_here, longer, not_by_head, within_never}
-use Rattle.cbor4ii_tree.proofs.{reading.Answer.{decodes_tree, not_both}, values.Calls.begins_width}
+use Rattle.cbor4ii_tree.proofs.values.Calls.{begins_width}
 
 -- where the bytes are rejected as not canonical, they are rejected in no other way
 abbrev One : Stopping → Type 0
@@ -34,16 +34,14 @@ One rejects = (xs : List ℕ) (e : InputError) (x y : List ℕ) → rejects xs e
 
 -- ---- heads
 
-first_of : (major v n b : ℕ) (bs : List ℕ) → (h : ReadsHead major 8 (b ∷ bs) v n)
-    → b ≡ 32 * major + additional h.wide v
-first_of major v n b bs h =
-    (same_first b (32 * major + additional h.wide v) bs
-    (bytes_high_first (byte_count h.wide) v ++ h.rest) h.is).0
-
 begins_of : (major v n b : ℕ) (bs : List ℕ) → (h : ReadsHead major 8 (b ∷ bs) v n)
     → Begins major 8 b h.wide
-begins_of major v n b bs h =
-    record { argument = v; fits = h.fits; allowed = h.allowed; is = first_of major v n b bs h }
+begins_of major v n b bs h = record {
+  argument = v;
+  fits = h.fits;
+  allowed = h.allowed;
+  is = first_byte major v h.wide b bs h.rest h.is;
+}
 
 one_width : (major b : ℕ) (w u : Width) → Begins major 8 b w → Begins major 8 b u → w ≡ u
 one_width major b w u h k =
@@ -66,11 +64,6 @@ no_head name major v n (b ∷ bs) e x (inr h) k =
       length-append (bytes_high_first (byte_count k.wide) v) k.rest,
       length-bytes_high_first (byte_count k.wide) v,
     )
-
-no_indefinite : (major v n b : ℕ) (bs : List ℕ) → b ≡ 32 * major + 31 →
-    ¬ (ReadsHead major 8 (b ∷ bs) v n)
-no_indefinite major v n b bs is k =
-    omega (arith, is, first_of major v n b bs k, additional-lt v k.wide k.fits)
 
 shortest_once : (name : List ℕ) (major : ℕ) (budget : Budget) → major < 8
     → One (λ xs. RejectsShortest name major xs budget)
@@ -99,20 +92,18 @@ no_shortest : (name : List ℕ) (major n : ℕ) (xs ys : List ℕ) (budget : Bud
 no_shortest name major n xs ys budget e x small (shortest_rejected closed h) k =
     no_head name major n (suc (byte_count (shortest n))) xs e x h (head_here major n xs ys k)
 no_shortest name major n xs ys budget e x small (shortest_indefinite b o is says) k =
-    no_indefinite major n (suc (byte_count (shortest n))) b x o.2
-    (subst (λ z. ReadsHead major 8 z n (suc (byte_count (shortest n)))) is
-    (head_here major n xs ys k))
+    no_indefinite major n (suc (byte_count (shortest n))) b x o.2 (subst (λ z. ReadsHead major 8 z n
+    (suc (byte_count (shortest n)))) is (head_here major n xs ys k))
 no_shortest name major n xs ys budget e x small (too_long v m h other says left) k =
-    longer major v m xs [] small h other n ys
-    (subst (λ z. ShortestAt major n z ys) (sym (append-nil xs)) k)
+    longer major v m xs [] small h other n ys (subst (λ z. ShortestAt major n z ys) (sym (append-nil
+    xs)) k)
 
 after_once : (major : ℕ) (then : ℕ → Stopping) → major < 8 → ((n : ℕ) → One (then n))
     → One (AfterShortest major then)
 after_once major then small o xs e x y h k =
-    let at = one_head major h.argument k.argument h.after k.after small h.is.0 k.is.0
-    (sym h.is.1 ∙ k.is.1) in
-    o h.argument h.after e x y h.stopped (subst (λ n. then n h.after loose y) (sym at.0)
-    (subst (λ z. then k.argument z loose y) (sym at.1) k.stopped))
+    let at = one_head _ _ _ _ _ small h.is.0 k.is.0 (sym h.is.1 ∙ k.is.1) in
+    o h.argument h.after e x y h.stopped (subst (λ n. then n h.after loose y) (sym at.0) (subst
+    (λ z. then k.argument z loose y) (sym at.1) k.stopped))
 
 at_shortest_once : (name : List ℕ) (major : ℕ) (budget : Budget) (then : ℕ → Stopping) → major < 8
     → ((n : ℕ) → One (then n)) → One (AtShortest name major budget then)
@@ -141,10 +132,9 @@ string_once name major budget small xs e x y h (content_cut c least) =
 
 text_once : (budget : Budget) → One (CanonicalTextRejects budget)
 text_once budget xs e x y (inl h) (inl k) =
-    string_once (kind_name text_string) 3 budget (omega arith) xs e x y h k
+    string_once _ 3 _ (omega arith) xs e x y h k
 text_once budget xs e x y (inr h) (inl (length_rejected k)) =
-    absurd (no_shortest (kind_name text_string) 3 h.argument xs h.after budget loose y (omega arith)
-    k h.is)
+    absurd (no_shortest _ 3 _ _ _ _ _ _ (omega arith) k h.is)
 text_once budget xs e x y (inr h) (inl (content_cut c least)) =
     absurd (let says = c.answer in cc)
 text_once budget xs e x y h (inr k) = absurd (let says = k.stopped.err in cc)
@@ -199,28 +189,25 @@ by_once : (rejects : Budget → Stopping) (budget : Budget) (major b : ℕ)
     → ((o : Budget) → One (rejects o)) → ((o : Budget) → NoneThere o (rejects o))
     → One (CanonicalRejectsBy rejects budget major b)
 by_once rejects budget zero b o none bs e x y h k =
-    shortest_once _ 0 budget (omega arith) (b ∷ bs) e x y h k
+    shortest_once _ 0 _ (omega arith) (b ∷ bs) e x y h k
 by_once rejects budget (suc zero) b o none bs e x y h k =
-    shortest_once _ 1 budget (omega arith) (b ∷ bs) e x y h k
+    shortest_once _ 1 _ (omega arith) (b ∷ bs) e x y h k
 by_once rejects budget (suc (suc zero)) b o none bs e x y h k =
-    string_once (kind_name byte_string) 2 budget (omega arith) (b ∷ bs) e x y h k
+    string_once _ 2 _ (omega arith) (b ∷ bs) e x y h k
 by_once rejects budget (suc (suc (suc zero))) b o none bs e x y h k =
-    text_once budget (b ∷ bs) e x y h k
+    text_once _ (b ∷ bs) e x y h k
 by_once rejects budget (suc (suc (suc (suc zero)))) b o none bs e x y h k =
-    stepped_once array_name (step_in budget) (b ∷ bs) (λ inner. CanonicalArrayRejects rejects inner
-    (b ∷ bs)) e x y (λ inner. at_shortest_once array_name 4 inner (RejectsInCount
-    (FitsCanonically inner) (rejects inner)) (omega arith) (λ n. items_once inner (rejects inner) n
-    (o inner) (none inner)) (b ∷ bs) e x y) h k
+    stepped_once _ _ _ (λ inner. CanonicalArrayRejects rejects inner (b ∷ bs)) _ _ _ (λ inner.
+    at_shortest_once _ 4 _ (RejectsInCount (FitsCanonically inner) (rejects inner)) (omega arith)
+    (λ n. items_once _ (rejects inner) _ (o inner) (none inner)) (b ∷ bs) e x y) h k
 by_once rejects budget (suc (suc (suc (suc (suc zero))))) b o none bs e x y h k =
-    stepped_once map_name (step_in budget) (b ∷ bs) (λ inner. CanonicalMapRejects rejects inner
-    (b ∷ bs)) e x y (λ inner. at_shortest_once map_name 5 inner (λ n. RejectsInCount
-    (FitsCanonically inner) (rejects inner) (2 * n)) (omega arith) (λ n. items_once inner
-    (rejects inner) (2 * n) (o inner) (none inner)) (b ∷ bs) e x y) h k
+    stepped_once _ _ _ (λ inner. CanonicalMapRejects rejects inner (b ∷ bs)) _ _ _ (λ inner.
+    at_shortest_once _ 5 _ (λ n. RejectsInCount (FitsCanonically inner) (rejects inner) (2 * n))
+    (omega arith) (λ n. items_once _ (rejects inner) _ (o inner) (none inner)) (b ∷ bs) e x y) h k
 by_once rejects budget (suc (suc (suc (suc (suc (suc zero)))))) b o none bs e x y h k =
-    at_shortest_once tag_name 6 budget (λ n. rejects budget) (omega arith) (λ n. o budget)
-    (b ∷ bs) e x y h k
+    at_shortest_once _ 6 _ (λ n. rejects budget) (omega arith) (λ n. o budget) (b ∷ bs) e x y h k
 by_once rejects budget (suc (suc (suc (suc (suc (suc (suc major))))))) b o none bs e x y h k =
-    other_once b (initial b) bs e x y h k
+    other_once _ _ bs e x y h k
 
 from_once : (rejects : Budget → Stopping) (budget : Budget) → ((o : Budget) → One (rejects o))
     → ((o : Budget) → NoneThere o (rejects o)) → One (CanonicalRejectsFrom rejects budget)

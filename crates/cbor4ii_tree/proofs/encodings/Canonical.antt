@@ -3,16 +3,15 @@ use Rattle.std.proofs.Common.{◌≡◌, ℕ, suc, ◌^◌, ◌<◌, List, lengt
 use Rattle.std.proofs.Common.{ltb-true, lt-ltb, pos, negsuc, refl, sym, ap, ap₂, arith, subst}
 use Rattle.std.specs.Int.{bytes_high_first}
 use Rattle.cbor4ii_items.specs.{Head.{HeadFits, shortest}, Initial.{Sign, unsigned, negative, Kind}}
-use Rattle.cbor4ii_items.specs.Initial.{byte_string, text_string, simple_false, simple_true}
-use Rattle.cbor4ii_items.specs.Initial.{simple_null, simple_undefined}
+use Rattle.cbor4ii_items.specs.Initial.{byte_string, text_string, simple_false}
 use Rattle.cbor4ii_items.specs.Laws.Heads.{length-bytes_high_first, if_cases, shortest_fits}
 use Rattle.cbor4ii_items.specs.Laws.Heads.{argument_below}
 use Rattle.cbor4ii_items.specs.Laws.NumbersBack.{length-without_leading_zeros}
-use Rattle.cbor4ii_tree.specs.{Canonical.tagged_integer, Cost.cost, Encodings.Encodes, Item.Item}
-use Rattle.cbor4ii_tree.specs.Canonical.{canonical_encoding, canonical_tree, canonical_trees}
-use Rattle.cbor4ii_tree.specs.Canonical.{canonical_pairs, integer_tree, bignum, magnitude, sign_tag}
-use Rattle.cbor4ii_tree.specs.Canonical.{with_bignums, with_bignums_all, with_bignums_members}
-use Rattle.cbor4ii_tree.specs.Item.{null, boolean, integer, float, bytes_item, text, sequence}
+use Rattle.cbor4ii_tree.specs.Canonical.{tagged_integer, canonical_encoding, canonical_tree}
+use Rattle.cbor4ii_tree.specs.Canonical.{canonical_trees, canonical_pairs, integer_tree, bignum}
+use Rattle.cbor4ii_tree.specs.Canonical.{magnitude, sign_tag, with_bignums, with_bignums_all}
+use Rattle.cbor4ii_tree.specs.{Canonical.with_bignums_members, Cost.cost, Encodings.Encodes}
+use Rattle.cbor4ii_tree.specs.Item.{Item, null, boolean, integer, float, bytes_item, text, sequence}
 use Rattle.cbor4ii_tree.specs.Item.{mapping, tag, Items, no_items, item, Members, no_members}
 use Rattle.cbor4ii_tree.specs.Item.{member, item_count, member_count, IsItem, AreItems, AreMembers}
 use Rattle.cbor4ii_tree.specs.Meaning.{value, values, member_values, number, content_item}
@@ -27,13 +26,14 @@ length-magnitude n =
     omega
     (arith, length-without_leading_zeros (bytes_high_first 16 n), length-bytes_high_first 16 n)
 
+pub tag_fits : (s : Sign) → HeadFits (shortest (sign_tag s)) (sign_tag s)
+tag_fits unsigned = omega arith
+tag_fits negative = omega arith
+
 loose_integer : (s : Sign) (n : ℕ) → Loose (integer_tree s n)
-loose_integer unsigned n =
+loose_integer s n =
     if_cases Loose (ltb n (2 ^ 64)) _ _ (λ e. shortest_fits n (ltb-true n (2 ^ 64) e))
-    (λ e. (omega arith, shortest_fits (length (magnitude n)) (length-magnitude n)))
-loose_integer negative n =
-    if_cases Loose (ltb n (2 ^ 64)) _ _ (λ e. shortest_fits n (ltb-true n (2 ^ 64) e))
-    (λ e. (omega arith, shortest_fits (length (magnitude n)) (length-magnitude n)))
+    (λ e. (tag_fits s, shortest_fits (length (magnitude n)) (length-magnitude n)))
 
 sound_integer : (s : Sign) (n : ℕ) → SoundStrings (integer_tree s n)
 sound_integer s n = if_cases SoundStrings (ltb n (2 ^ 64)) _ _ (λ e. tt) (λ e. tt)
@@ -171,9 +171,7 @@ mutual
   with_bignums-value (map_indefinite ps) h = ap mapping (with_bignums-member_values ps h)
   with_bignums-value (tagged n w t) h = ap (tag n) (with_bignums-value t h.1)
   with_bignums-value (simple simple_false) h = refl
-  with_bignums-value (simple simple_true) h = refl
-  with_bignums-value (simple simple_null) h = refl
-  with_bignums-value (simple simple_undefined) h = refl
+  with_bignums-value (simple _) h = refl
   with_bignums-value (bits p n) h = refl
 
   with_bignums-values : (ts : Trees) → LooseAll ts → with_bignums_all (values ts) ≡ values ts

@@ -1,26 +1,26 @@
 -- A canonical tree is the one whose bytes are the canonical encoding of its value.
 use Rattle.std.proofs.Common.{◌≡◌, ℕ, ◌+◌, ◌*◌, ◌^◌, ◌<◌, List, [], ◌∷◌, ◌++◌, length, true, false}
 use Rattle.std.proofs.Common.{ltb, ltb-true, lt-ltb, pos, negsuc, refl, sym, ap, ap₂, ◌∙◌, subst}
-use Rattle.std.proofs.{Common.{arith, append_assoc}, lemmas.List.append_cancel_left}
-use Rattle.std.specs.{Int.bytes_high_first, Prelude.◌↔◌}
-use Rattle.cbor4ii_items.specs.{Budget.CostFits, Head.{Width, byte_count, HeadFits, additional}}
-use Rattle.cbor4ii_items.specs.{Head.{head, indefinite_head, shortest, break}, Initial.Sign}
-use Rattle.cbor4ii_items.specs.Initial.{unsigned, negative, sign_major, Kind, byte_string}
-use Rattle.cbor4ii_items.specs.Initial.{text_string, kind_major, simple_false, simple_true}
-use Rattle.cbor4ii_items.specs.Initial.{simple_null, simple_undefined, simple_byte, info_of}
+use Rattle.std.proofs.{Common.{arith, append_assoc, get_or}, lemmas.List.append_cancel_left}
+use Rattle.std.specs.Prelude.{◌↔◌}
+use Rattle.cbor4ii_items.specs.{Budget.CostFits, Head.{Width, HeadFits, additional, head}}
+use Rattle.cbor4ii_items.specs.{Head.{indefinite_head, shortest, break}, Initial.{Sign, unsigned}}
+use Rattle.cbor4ii_items.specs.Initial.{negative, sign_major, Kind, byte_string, text_string}
+use Rattle.cbor4ii_items.specs.Initial.{kind_major, simple_false, simple_true, simple_null}
+use Rattle.cbor4ii_items.specs.Initial.{simple_undefined, simple_byte, info_of}
 use Rattle.cbor4ii_items.specs.Laws.Heads.{if_cases, shortest_fits, argument_below, same_wide}
-use Rattle.cbor4ii_tree.specs.{Canonical.with_bignums, CanonicalShape.CanonicalShape}
-use Rattle.cbor4ii_tree.specs.{Item.AreMembers, Laws.Ignoring.one_encoding}
-use Rattle.cbor4ii_tree.specs.{Laws.Numbers.info-additional, Laws.PartsAgain.pair_split}
-use Rattle.cbor4ii_tree.specs.Canonical.{canonical_encoding, canonical_cost, canonical_tree}
-use Rattle.cbor4ii_tree.specs.Canonical.{canonical_trees, canonical_pairs, integer_tree}
+use Rattle.cbor4ii_tree.specs.Canonical.{with_bignums, canonical_encoding, canonical_cost}
+use Rattle.cbor4ii_tree.specs.Canonical.{canonical_tree, canonical_trees, canonical_pairs}
+use Rattle.cbor4ii_tree.specs.{Canonical.integer_tree, CanonicalShape.CanonicalShape}
 use Rattle.cbor4ii_tree.specs.CanonicalShape.{CanonicalShapeAll, CanonicalShapePairs, IsDecoded}
-use Rattle.cbor4ii_tree.specs.{CanonicalShape.{EncodesCanonically, DecodesCanonically}, Cost.cost}
-use Rattle.cbor4ii_tree.specs.{Cost.Budget, Item.{Item, null, boolean, integer, float, bytes_item}}
+use Rattle.cbor4ii_tree.specs.CanonicalShape.{EncodesCanonically, DecodesCanonically}
+use Rattle.cbor4ii_tree.specs.Item.{AreMembers, Item, null, boolean, integer, float, bytes_item}
 use Rattle.cbor4ii_tree.specs.Item.{text, sequence, mapping, tag, Items, no_items, item, Members}
 use Rattle.cbor4ii_tree.specs.Item.{no_members, member, item_count, member_count, IsItem, AreItems}
-use Rattle.cbor4ii_tree.specs.Meaning.{value, values, member_values, number, content_item}
-use Rattle.cbor4ii_tree.specs.Tree.{Tree, int, string, chunked, array, array_indefinite, map_of}
+use Rattle.cbor4ii_tree.specs.{Laws.Ignoring.one_encoding, Laws.Numbers.info-additional}
+use Rattle.cbor4ii_tree.specs.{Laws.PartsAgain.pair_split, Cost.{cost, Budget}, Meaning.value}
+use Rattle.cbor4ii_tree.specs.{Meaning.{values, member_values, number, content_item}, Tree.Tree}
+use Rattle.cbor4ii_tree.specs.Tree.{int, string, chunked, array, array_indefinite, map_of}
 use Rattle.cbor4ii_tree.specs.Tree.{map_indefinite, tagged, simple, bits, Trees, no_trees, tree}
 use Rattle.cbor4ii_tree.specs.Tree.{Pairs, no_pairs, pair, count, pair_count, joined_chunks, bytes}
 use Rattle.cbor4ii_tree.specs.Tree.{bytes_all, bytes_pairs, Loose, LooseAll, LoosePairs}
@@ -115,6 +115,11 @@ mutual
 pub same_first : (a b : ℕ) (x y : List ℕ) → a ∷ x ≡ b ∷ y → (a ≡ b) × (x ≡ y)
 same_first a b x y e = (cc, cc)
 
+-- the first byte of a head
+pub first_byte : (major n : ℕ) (w : Width) (b : ℕ) (bs ys : List ℕ) → b ∷ bs ≡ head major n w ++ ys
+    → b ≡ 32 * major + additional w n
+first_byte major n w b bs ys e = ap (λ z. get_or z 0 0) e
+
 -- of one argument and one first byte the head is one
 pub same_width : (major n : ℕ) (w u : Width) → HeadFits w n → HeadFits u n
     → 32 * major + additional w n ≡ 32 * major + additional u n → w ≡ u
@@ -126,28 +131,35 @@ pub same_head : (major n : ℕ) (w : Width) (x y : List ℕ) → HeadFits w n
     → head major n w ++ x ≡ head major n (shortest n) ++ y → (w ≡ shortest n) × (x ≡ y)
 same_head major n w x y h e =
     let k = shortest_fits n (argument_below w n h) in
-    let first = same_first (32 * major + additional w n) (32 * major + additional (shortest n) n)
-    (bytes_high_first (byte_count w) n ++ x)
-    (bytes_high_first (byte_count (shortest n)) n ++ y) e in
-    let s : w ≡ shortest n = same_width major n w (shortest n) h k first.0 in (
+    let s = same_width major n w (shortest n) h k (first_byte major n (shortest n) _ _ y e) in (
       s,
       append_cancel_left (head major n (shortest n)) x y
           (ap (λ u. head major n u ++ x) (sym s) ∙ e),
     )
 
-additional-shortest : (n : ℕ) → additional (shortest n) n < 28
+-- the same of what is encoded after a head, whose argument an encoder gives
+same_headed : (major n : ℕ) (w : Width) (xs ys x y : List ℕ) {m k : ℕ} → HeadFits w n → m ≡ n
+    → k ≡ n → (head major n w ++ xs) ++ x ≡ (head major m (shortest k) ++ ys) ++ y
+    → (w ≡ shortest n) × (xs ++ x ≡ ys ++ y)
+same_headed major n w xs ys x y {m = m} {k = k} h p q e =
+    same_head major n w (xs ++ x) (ys ++ y) h (sym (append_assoc (head major n w) xs x) ∙ e
+    ∙ append_assoc (head major m (shortest k)) ys y
+    ∙ ap₂ (λ i j. head major i (shortest j) ++ (ys ++ y)) p q)
+
+pub additional-shortest : (n : ℕ) → additional (shortest n) n < 28
 additional-shortest n =
     let P : Width → Type 0 = λ w. additional w n < 28 in
     if_cases P (ltb n 24) _ _ (λ e. let lt = ltb-true n 24 e in omega (arith, lt)) (λ _. if_cases P
     (ltb n 256) _ _ (λ _. omega arith) (λ _. if_cases P (ltb n (256 ^ 2)) _ _ (λ _. omega arith)
     (λ _. if_cases P (ltb n (256 ^ 4)) _ _ (λ _. omega arith) (λ _. omega arith))))
 
-not_indefinite : (major n : ℕ) (x y : List ℕ) → indefinite_head major ∷ x ≡ head major n
-    (shortest n) ++ y → ⊥
-not_indefinite major n x y e =
-    let first = same_first (indefinite_head major) (32 * major + additional (shortest n) n) x
-    (bytes_high_first (byte_count (shortest n)) n ++ y) e in
-    omega (arith, first.0, additional-shortest n)
+not_indefinite : (major n : ℕ) (x ys y : List ℕ) {m : ℕ} → m ≡ n
+    → indefinite_head major ∷ x ≡ (head major m (shortest n) ++ ys) ++ y → ⊥
+not_indefinite major n x ys y {m = m} p e =
+    let first = first_byte major n (shortest n) (indefinite_head major) x (ys ++ y) (e
+    ∙ append_assoc (head major m (shortest n)) ys y
+    ∙ ap (λ j. head major j (shortest n) ++ (ys ++ y)) p) in
+    omega (arith, first, additional-shortest n)
 
 mutual
   pub strict_of_canonical : (t : Tree) (x y : List ℕ) → Loose t
@@ -156,61 +168,37 @@ mutual
       same_head (sign_major s) n w x y l
       (e ∙ ap (λ u. bytes u ++ y) (canonical_encoding-integer s n (argument_below w n l)))
   strict_of_canonical (string k w content) x y l e =
-      let n = length content in
-      let same = e ∙ ap (λ u. bytes u ++ y) (canonical_encoding-content k content) in
-      let heads = same_head (kind_major k) n w (content ++ x)
-      (content ++ y) l (sym (append_assoc (head (kind_major k) n w) content x) ∙ same
-      ∙ append_assoc (head (kind_major k) n (shortest n)) content y) in
+      let heads = same_headed (kind_major k) (length content) w content content x y l refl refl
+      (e ∙ ap (λ u. bytes u ++ y) (canonical_encoding-content k content)) in
       (heads.0, append_cancel_left content x y heads.1)
   strict_of_canonical (chunked k ts) x y l e =
       let content = joined_chunks ts in
-      let n = length content in
-      let same = e ∙ ap (λ u. bytes u ++ y) (canonical_encoding-content k content)
-      ∙ append_assoc (head (kind_major k) n (shortest n)) content y in
-      absurd (not_indefinite (kind_major k) n ((bytes_all ts ++ break ∷ []) ++ x)
-      (content ++ y) same)
+      absurd (not_indefinite (kind_major k) (length content) ((bytes_all ts ++ break ∷ []) ++ x)
+      content y refl (e ∙ ap (λ u. bytes u ++ y) (canonical_encoding-content k content)))
   strict_of_canonical (array w ts) x y l e =
-      let n = count ts in
-      let c : item_count (values ts) ≡ n = item_count-values ts in
-      let trailing = bytes_all (canonical_trees (values ts)) in
-      let same : (head 4 n w ++ bytes_all ts) ++ x ≡ (head 4 n (shortest n) ++ trailing) ++ y =
-      e ∙ ap (λ m. (head 4 (count (canonical_trees (values ts))) (shortest m) ++ trailing) ++ y) c
-      ∙ ap (λ m. (head 4 m (shortest n) ++ trailing) ++ y)
-      (count-canonical_encoding (values ts) ∙ c) in
-      let heads = same_head 4 n w (bytes_all ts ++ x) (trailing ++ y) l.0 (sym (append_assoc
-      (head 4 n w) (bytes_all ts) x) ∙ same ∙ append_assoc (head 4 n (shortest n)) trailing y) in
+      let vs = values ts in
+      let c = item_count-values ts in
+      let heads = same_headed 4 (count ts) w (bytes_all ts) (bytes_all (canonical_trees vs)) x y l.0
+      (count-canonical_encoding vs ∙ c) c e in
       let rest = strict_of_canonical_all ts x y l.1 heads.1 in
       ((heads.0, rest.0), rest.1)
   strict_of_canonical (array_indefinite ts) x y l e =
       let vs = values ts in
-      let n = item_count vs in
-      let trailing = bytes_all (canonical_trees vs) in
-      absurd (not_indefinite 4 n ((bytes_all ts ++ break ∷ []) ++ x) (trailing ++ y)
-      (e ∙ ap (λ m. (head 4 m (shortest n) ++ trailing) ++ y) (count-canonical_encoding vs)
-      ∙ append_assoc (head 4 n (shortest n)) trailing y))
+      absurd (not_indefinite 4 (item_count vs) ((bytes_all ts ++ break ∷ []) ++ x)
+      (bytes_all (canonical_trees vs)) y (count-canonical_encoding vs) e)
   strict_of_canonical (map_of w ps) x y l e =
-      let n = pair_count ps in
-      let c : member_count (member_values ps) ≡ n = member_count-values ps in
-      let trailing = bytes_pairs (canonical_pairs (member_values ps)) in
-      let same : (head 5 n w ++ bytes_pairs ps) ++ x ≡ (head 5 n (shortest n) ++ trailing) ++ y =
-      e ∙ ap (λ m.
-      (head 5 (pair_count (canonical_pairs (member_values ps))) (shortest m) ++ trailing) ++ y) c
-      ∙ ap (λ m. (head 5 m (shortest n) ++ trailing) ++ y) (count-pairs (member_values ps) ∙ c) in
-      let heads = same_head 5 n w (bytes_pairs ps ++ x) (trailing ++ y) l.0 (sym (append_assoc
-      (head 5 n w) (bytes_pairs ps) x) ∙ same ∙ append_assoc (head 5 n (shortest n)) trailing y) in
+      let ms = member_values ps in
+      let c = member_count-values ps in
+      let heads = same_headed 5 (pair_count ps) w (bytes_pairs ps)
+      (bytes_pairs (canonical_pairs ms)) x y l.0 (count-pairs ms ∙ c) c e in
       let rest = strict_of_canonical_pairs ps x y l.1 heads.1 in
       ((heads.0, rest.0), rest.1)
   strict_of_canonical (map_indefinite ps) x y l e =
       let ms = member_values ps in
-      let n = member_count ms in
-      let trailing = bytes_pairs (canonical_pairs ms) in
-      absurd (not_indefinite 5 n ((bytes_pairs ps ++ break ∷ []) ++ x) (trailing ++ y)
-      (e ∙ ap (λ m. (head 5 m (shortest n) ++ trailing) ++ y) (count-pairs ms)
-      ∙ append_assoc (head 5 n (shortest n)) trailing y))
+      absurd (not_indefinite 5 (member_count ms) ((bytes_pairs ps ++ break ∷ []) ++ x)
+      (bytes_pairs (canonical_pairs ms)) y (count-pairs ms) e)
   strict_of_canonical (tagged n w t) x y l e =
-      let heads = same_head 6 n w (bytes t ++ x)
-      (canonical_encoding (value t) ++ y) l.0 (sym (append_assoc (head 6 n w) (bytes t) x) ∙ e
-      ∙ append_assoc (head 6 n (shortest n)) (canonical_encoding (value t)) y) in
+      let heads = same_headed 6 n w (bytes t) (canonical_encoding (value t)) x y l.0 refl refl e in
       let rest = strict_of_canonical t x y l.1 heads.1 in
       ((heads.0, rest.0), rest.1)
   strict_of_canonical (simple simple_false) x y l e = (λ u. cc, (same_first _ _ _ _ e).1)
@@ -240,10 +228,9 @@ mutual
   strict_of_canonical_pairs no_pairs x y l e = (tt, e)
   strict_of_canonical_pairs (pair k v ps) x y l e =
       let trailing = bytes_pairs (canonical_pairs (member_values ps)) in
-      let key = strict_of_canonical k (bytes v ++ (bytes_pairs ps ++ x))
-      (canonical_encoding (value v) ++ (trailing ++ y)) l.0 (sym (pair_split (bytes k) (bytes v)
-      (bytes_pairs ps) x) ∙ e ∙ pair_split (canonical_encoding (value k))
-      (canonical_encoding (value v)) trailing y) in
+      let key = strict_of_canonical k (bytes v ++ (bytes_pairs ps ++ x)) (canonical_encoding (value
+      v) ++ (trailing ++ y)) l.0 (sym (pair_split (bytes k) (bytes v) (bytes_pairs ps) x) ∙ e ∙
+      pair_split (canonical_encoding (value k)) (canonical_encoding (value v)) trailing y) in
       let val = strict_of_canonical v (bytes_pairs ps ++ x) (trailing ++ y) l.1 key.1 in
       let rest = strict_of_canonical_pairs ps x y l.2 val.1 in
       ((key.0, val.0, rest.0), rest.1)
@@ -277,9 +264,7 @@ mutual
   item_of_strict (map_indefinite ps) l u h = absurd h
   item_of_strict (tagged n w t) l u h = (argument_below w n l.0, item_of_strict t l.1 u h.1)
   item_of_strict (simple simple_false) l u h = tt
-  item_of_strict (simple simple_true) l u h = tt
-  item_of_strict (simple simple_null) l u h = tt
-  item_of_strict (simple simple_undefined) l u h = tt
+  item_of_strict (simple _) l u h = tt
   item_of_strict (bits p n) l u h = l
 
   items_of_strict : (ts : Trees) → LooseAll ts → SoundStringsAll ts → CanonicalShapeAll ts

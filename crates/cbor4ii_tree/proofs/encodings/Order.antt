@@ -6,23 +6,24 @@ use Rattle.std.proofs.Common.{negsuc, ℤ, mul-le-mul_right, pow-suc, mul_comm, 
 use Rattle.std.proofs.{Common.{le-ltb, ◌⊎◌, inl, inr}, Math.Arith.mod-mul}
 use Rattle.std.proofs.Math.Nat.{pow-le-pow_right}
 use Rattle.std.specs.{declared.cmp.Ordering.Ordering, declared.cmp.Ordering.TheVariants.Less}
-use Rattle.std.specs.{Cmp.{ranks, nat_cmp_is, then_flip}, Cmp.Lexicographic.slice_cmp}
-use Rattle.std.specs.{Cmp.Lexicographic.nat_list_cmp_total, Int.{byte_at, bytes_high_first}}
-use Rattle.std.specs.Ordering.{MatchOrdering, nat_cmp, ordering_then, ordering_reverse}
-use Rattle.std.specs.declared.cmp.Ordering.TheVariants.{Equal, Greater}
-use Rattle.cbor4ii_items.specs.{Laws.Heads.shortest_fits, Numbers.definite_string, Head.Width}
-use Rattle.cbor4ii_items.specs.Head.{in_first, one, two, four, eight, HeadFits, additional}
-use Rattle.cbor4ii_items.specs.{Head.{byte_count, head, shortest}, Initial.{Sign, unsigned}}
-use Rattle.cbor4ii_items.specs.Initial.{negative, sign_major, half, single, double, info_of}
-use Rattle.cbor4ii_items.specs.Laws.Heads.{additional-lt, info-additional, same_wide, if_cases}
+use Rattle.std.specs.{declared.cmp.Ordering.TheVariants.{Equal, Greater}, Cmp.{ranks, nat_cmp_is}}
+use Rattle.std.specs.{Cmp.then_flip, Cmp.Lexicographic.{slice_cmp, nat_list_cmp_total}, Int.byte_at}
+use Rattle.std.specs.{Int.bytes_high_first, Ordering.{MatchOrdering, nat_cmp, ordering_then}}
+use Rattle.std.specs.Ordering.{ordering_reverse}
+use Rattle.cbor4ii_items.specs.Laws.Heads.{shortest_fits, additional-lt, info-additional, same_wide}
+use Rattle.cbor4ii_items.specs.{Numbers.definite_string, Head.{Width, in_first, one, two, four}}
+use Rattle.cbor4ii_items.specs.Head.{eight, HeadFits, additional, byte_count, head, shortest}
+use Rattle.cbor4ii_items.specs.Initial.{Sign, unsigned, negative, sign_major, half, single, double}
+use Rattle.cbor4ii_items.specs.Initial.{info_of}
 use Rattle.cbor4ii_tree.specs.Canonical.{canonical_encoding, canonical_trees, canonical_pairs}
 use Rattle.cbor4ii_tree.specs.{Canonical.{bignum, magnitude, sign_tag}, Item.{Item, null, boolean}}
 use Rattle.cbor4ii_tree.specs.Item.{integer, float, bytes_item, text, sequence, mapping, tag}
 use Rattle.cbor4ii_tree.specs.{Item.{item_count, member_count}, Order.{Compares, shortest_parts}}
 use Rattle.cbor4ii_tree.specs.Order.{integer_parts, head_of, HasHead, after_head, integer_major}
-use Rattle.cbor4ii_tree.specs.{Order.{major_of, elements_of, pairs_of}, Tree.int}
-use Rattle.cbor4ii_tree.specs.Tree.{bytes, bytes_all, bytes_pairs}
-use Rattle.cbor4ii_tree.proofs.encodings.Canonical.{count-canonical_encoding, count-pairs}
+use Rattle.cbor4ii_tree.specs.{Order.{major_of, elements_of, pairs_of}, Tree.{int, bytes}}
+use Rattle.cbor4ii_tree.specs.Tree.{bytes_all, bytes_pairs}
+use Rattle.cbor4ii_tree.proofs.encodings.Canonical.{count-canonical_encoding, count-pairs, tag_fits}
+use Rattle.cbor4ii_tree.proofs.encodings.CanonicalShape.{additional-shortest}
 
 -- ---- one comparison, and then another
 
@@ -47,9 +48,8 @@ pub compares_then : {r o : Ordering} {s t u v : List ℕ} → Compares r s t →
     → Compares (ordering_then r o) (s ++ u) (t ++ v)
 compares_then {r} {o} {s} {t} {u} {v} a b = record {
   before = λ x y.
-      ap₂ (slice_cmp nat_cmp) (append_assoc s u x) (append_assoc t v y)
-      ∙ a.before (u ++ x) (v ++ y) ∙ ap (ordering_then r) (b.before x y)
-      ∙ sym (then_assoc r o (slice_cmp nat_cmp x y));
+      ap₂ (slice_cmp nat_cmp) (append_assoc s u x) (append_assoc t v y) ∙ a.before (u ++ x) (v ++ y)
+      ∙ ap (ordering_then r) (b.before x y) ∙ sym (then_assoc r o (slice_cmp nat_cmp x y));
 }
 
 decides : (r : Ordering) → r ≢ Equal → (o p : Ordering) → ordering_then r o ≡ ordering_then r p
@@ -202,31 +202,6 @@ record Headed (encoding : List ℕ) (parts : ℕ × ℕ) (after : List ℕ) : Ty
   parts_are : (initial_byte major argument wide, argument) ≡ parts
   is : head major argument wide ++ after ≡ encoding
 
-headed_integer : (s : Sign) (n : ℕ) (b : Bool) → ltb n (2 ^ 64) ≡ b
-    → Headed (bytes (cond b (int s n (shortest n)) (bignum s n)))
-    (cond b (shortest_parts (sign_major s) n) (shortest_parts 6 (sign_tag s)))
-    (cond b [] (definite_string 2 (magnitude n)))
-headed_integer s n true e = record {
-  major = sign_major s;
-  argument = n;
-  wide = shortest n;
-  fits = shortest_fits n (ltb-true n (2 ^ 64) e);
-  parts_are = refl;
-  is = append-nil _;
-}
-headed_integer s n false e = record {
-  major = 6;
-  argument = sign_tag s;
-  wide = shortest (sign_tag s);
-  fits = tag_fits s;
-  parts_are = refl;
-  is = refl;
-}
-  where
-    tag_fits : (s : Sign) → HeadFits (shortest (sign_tag s)) (sign_tag s)
-    tag_fits unsigned = omega arith
-    tag_fits negative = omega arith
-
 headed_by : (major n : ℕ) (w : Width) (after : List ℕ) → HeadFits w n
     → Headed (head major n w ++ after) (initial_byte major n w, n) after
 headed_by major n w after h = record {
@@ -241,6 +216,16 @@ headed_by major n w after h = record {
 headed_as : {s t after : List ℕ} {parts : ℕ × ℕ} → s ≡ t → Headed s parts after
     → Headed t parts after
 headed_as {after = after} {parts = parts} e h = subst (λ z. Headed z parts after) e h
+
+headed_integer : (s : Sign) (n : ℕ) (b : Bool) → ltb n (2 ^ 64) ≡ b
+    → Headed (bytes (cond b (int s n (shortest n)) (bignum s n)))
+    (cond b (shortest_parts (sign_major s) n) (shortest_parts 6 (sign_tag s)))
+    (cond b [] (definite_string 2 (magnitude n)))
+headed_integer s n true e =
+    headed_as (append-nil _) (headed_by (sign_major s) n (shortest n) []
+    (shortest_fits n (ltb-true n (2 ^ 64) e)))
+headed_integer s n false e =
+    headed_by 6 (sign_tag s) (shortest (sign_tag s)) (definite_string 2 (magnitude n)) (tag_fits s)
 
 headed : (v : Item) → HasHead v → Headed (canonical_encoding v) (head_of v) (after_head v)
 headed null h = headed_by 7 22 in_first [] (omega arith)
@@ -272,20 +257,18 @@ heads_cmp p q = ordering_then (nat_cmp p.0 q.0) (nat_cmp p.1 q.1)
 headed_heads : {s t x y : List ℕ} {p q : ℕ × ℕ} (a : Headed s p x) (b : Headed t q y)
     → Compares (heads_cmp p q) (head a.major a.argument a.wide) (head b.major b.argument b.wide)
 headed_heads a b =
-    subst₂ (λ p q. Compares (heads_cmp p q) (head a.major a.argument a.wide)
-    (head b.major b.argument b.wide)) a.parts_are b.parts_are
-    (compares_heads a.major a.argument a.wide b.major b.argument b.wide a.fits b.fits)
+    subst₂ (λ p q. Compares (heads_cmp p q) (head a.major a.argument a.wide) (head b.major
+    b.argument b.wide)) a.parts_are b.parts_are (compares_heads _ _ _ _ _ _ a.fits b.fits)
 
 -- where the heads differ
 pub other_heads : (v w : Item) (r : Ordering) → HasHead v → HasHead w
     → r ≡ heads_cmp (head_of v) (head_of w) → r ≢ Equal
     → Compares r (canonical_encoding v) (canonical_encoding w)
 other_heads v w r h l e n =
-    let a = headed v h in
-    let b = headed w l in
-    subst₂ (Compares r) a.is b.is (compares_first (after_head v) (after_head w) n
-    (subst (λ o. Compares o (head a.major a.argument a.wide) (head b.major b.argument b.wide))
-    (sym e) (headed_heads a b)))
+    let a = headed _ h in
+    let b = headed _ l in
+    subst₂ (Compares r) a.is b.is (compares_first _ _ n (subst (λ o. Compares o (head a.major
+    a.argument a.wide) (head b.major b.argument b.wide)) (sym e) (headed_heads a b)))
 
 -- where they are equal
 pub same_heads : (v w : Item) (r : Ordering) → HasHead v → HasHead w
@@ -299,15 +282,8 @@ same_heads v w r h l e c =
 
 -- ---- the major type of a head
 
-additional_below : (n : ℕ) → additional (shortest n) n < 32
-additional_below n =
-    let P : Width → Type 0 = λ w. additional w n < 32 in
-    if_cases P (ltb n 24) _ _ (λ e. let lt = ltb-true n 24 e in omega (arith, lt)) (λ _. if_cases P
-    (ltb n 256) _ _ (λ _. omega arith) (λ _. if_cases P (ltb n (256 ^ 2)) _ _ (λ _. omega arith)
-    (λ _. if_cases P (ltb n (256 ^ 4)) _ _ (λ _. omega arith) (λ _. omega arith))))
-
 major_is : (major n : ℕ) → (shortest_parts major n).0 / 32 ≡ major
-major_is major n = omega (arith, additional_below n)
+major_is major n = omega (arith, additional-shortest n)
 
 integer_major_is : (s : Sign) (n : ℕ) → (integer_parts s n).0 / 32 ≡ integer_major s n
 integer_major_is s n = by (ltb n (2 ^ 64))

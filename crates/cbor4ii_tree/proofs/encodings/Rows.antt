@@ -12,10 +12,10 @@ use Rattle.cbor4ii_tree.specs.{Cost.{cost, skip_cost}, InputError.{InputError, e
 use Rattle.cbor4ii_tree.specs.InputError.{unsupported, require_length, require_utf8, depth_overflow}
 use Rattle.cbor4ii_tree.specs.{InputError.{Small, Big, Indefinite}, Item.{Item, null, boolean}}
 use Rattle.cbor4ii_tree.specs.Item.{integer, float, bytes_item, text, sequence, mapping, tag, size}
-use Rattle.cbor4ii_tree.specs.Parse.{Answer, argument_of_width, trees_at, pairs_at}
+use Rattle.cbor4ii_tree.specs.Parse.{Answer, argument_at, trees_at, pairs_at}
 use Rattle.cbor4ii_tree.specs.{Parse.{indefinite_trees_at, indefinite_pairs_at}, Read.read}
-use Rattle.cbor4ii_tree.specs.{Read.{read_tree, read_within}, Skip.{skip, skip_within}}
-use Rattle.cbor4ii_tree.specs.{Skip.whole_argument_at, Tree.Tree, View.{items_of, members_of}}
+use Rattle.cbor4ii_tree.specs.{ItemAt.item_within, Read.read_tree, Skip.skip}
+use Rattle.cbor4ii_tree.specs.{Tree.Tree, View.{items_of, members_of}}
 
 -- ---- how rows are written
 
@@ -144,8 +144,8 @@ pub integers_rows : AllEqual
     ∷ writes (number 18446744073709551714) "c2 49 01 00 00 00 00 00 00 00 62"
     ∷ writes (integer (negsuc 170141183460469231731687303715884105727))
     "c3 50 7f ff ff ff ff ff ff ff ff ff ff ff ff ff ff ff" ∷ [])
-unfolding read_within skip_within trees_at pairs_at indefinite_trees_at indefinite_pairs_at
-    argument_of_width whole_argument_at initial is_utf8 chars lib.Utf8.encode
+unfolding item_within trees_at pairs_at indefinite_trees_at indefinite_pairs_at
+    argument_at initial is_utf8 chars lib.Utf8.encode
 integers_rows = (refl, refl)
 
 -- Heads longer than needed are read, and written short (section 4.1).
@@ -161,8 +161,8 @@ pub longer_rows : AllEqual
     ∷ reads "99 00 01 05" (items (number 5 ∷ [])) "81 05"
     ∷ reads "bb 00 00 00 00 00 00 00 01 01 02" (pairs ((number 1, number 2) ∷ [])) "a1 01 02"
     ∷ reads "59 00 01 61" (octets "61") "41 61" ∷ [])
-unfolding read_within skip_within trees_at pairs_at indefinite_trees_at indefinite_pairs_at
-    argument_of_width whole_argument_at initial is_utf8 chars lib.Utf8.encode
+unfolding item_within trees_at pairs_at indefinite_trees_at indefinite_pairs_at
+    argument_at initial is_utf8 chars lib.Utf8.encode
 longer_rows = refl
 
 -- Simple values and floats, whose bits are kept with their width (section 3.3). Undefined is null.
@@ -186,8 +186,8 @@ pub simples_rows : AllEqual
     "fb 7e 37 e4 3c 88 00 75 9c"
     ∷ reads "fb c0 10 66 66 66 66 66 66" (float double 0xc010666666666666)
     "fb c0 10 66 66 66 66 66 66" ∷ [])
-unfolding read_within skip_within trees_at pairs_at indefinite_trees_at indefinite_pairs_at
-    argument_of_width whole_argument_at initial is_utf8 chars lib.Utf8.encode
+unfolding item_within trees_at pairs_at indefinite_trees_at indefinite_pairs_at
+    argument_at initial is_utf8 chars lib.Utf8.encode
 simples_rows = refl
 
 -- Byte strings, texts and tags (appendix A).
@@ -212,8 +212,8 @@ pub strings_rows : AllEqual
     ∷ reads "d8 20 76 68 74 74 70 3a 2f 2f 77 77 77 2e 65 78 61 6d 70 6c 65 2e 63 6f 6d"
     (tag 32 (str "http://www.example.com"))
     "d8 20 76 68 74 74 70 3a 2f 2f 77 77 77 2e 65 78 61 6d 70 6c 65 2e 63 6f 6d" ∷ [])
-unfolding read_within skip_within trees_at pairs_at indefinite_trees_at indefinite_pairs_at
-    argument_of_width whole_argument_at initial is_utf8 chars lib.Utf8.encode
+unfolding item_within trees_at pairs_at indefinite_trees_at indefinite_pairs_at
+    argument_at initial is_utf8 chars lib.Utf8.encode
 strings_rows = refl
 
 -- Arrays and maps (appendix A). Pairs keep their order, and equal keys are kept.
@@ -238,8 +238,8 @@ pub sequences_rows : AllEqual
     "a2 03 04 01 02"
     ∷ reads "a2 01 02 01 03" (pairs ((number 1, number 2) ∷ (number 1, number 3) ∷ []))
     "a2 01 02 01 03" ∷ [])
-unfolding read_within skip_within trees_at pairs_at indefinite_trees_at indefinite_pairs_at
-    argument_of_width whole_argument_at initial is_utf8 chars lib.Utf8.encode
+unfolding item_within trees_at pairs_at indefinite_trees_at indefinite_pairs_at
+    argument_at initial is_utf8 chars lib.Utf8.encode
 sequences_rows = refl
 
 -- Items without a length are read, and written with one (section 3.2). The text of a string is what
@@ -276,8 +276,8 @@ pub opens_rows : AllEqual
     ∷ reads "a1 7f 61 6b ff 01" (pairs ((str "k", number 1) ∷ [])) "a1 61 6b 01"
     ∷ reads "9f 5f 41 01 ff 41 02 ff" (items (octets "01" ∷ octets "02" ∷ [])) "82 41 01 41 02"
     ∷ [])
-unfolding read_within skip_within trees_at pairs_at indefinite_trees_at indefinite_pairs_at
-    argument_of_width whole_argument_at initial is_utf8 chars lib.Utf8.encode
+unfolding item_within trees_at pairs_at indefinite_trees_at indefinite_pairs_at
+    argument_at initial is_utf8 chars lib.Utf8.encode
 opens_rows = refl
 
 -- The input ends: of a number, a float, a length or a tag the whole argument is asked for, of a
@@ -324,8 +324,8 @@ pub ends_rows : AllEqual
     ∷ rejects "bf 01 02 03" (eof (codes "value") (Small 1)) ""
     ∷ rejects "59 ff ff" (eof (codes "bytes") (Small 65535)) ""
     ∷ rejects "5a 00 01 00 00" (eof (codes "bytes") Big) "" ∷ [])
-unfolding read_within skip_within trees_at pairs_at indefinite_trees_at indefinite_pairs_at
-    argument_of_width whole_argument_at initial is_utf8 chars lib.Utf8.encode
+unfolding item_within trees_at pairs_at indefinite_trees_at indefinite_pairs_at
+    argument_at initial is_utf8 chars lib.Utf8.encode
 ends_rows = refl
 
 -- Bytes that no continuation mends, and what they leave.
@@ -370,8 +370,8 @@ pub faults_rows : AllEqual
     ∷ rejects "63 ed a0 80" (require_utf8 (codes "str")) ""
     ∷ rejects "64 f4 90 80 80" (require_utf8 (codes "str")) ""
     ∷ rejects "9f 62 ff ff 00 ff" (require_utf8 (codes "str")) "00 ff" ∷ [])
-unfolding read_within skip_within trees_at pairs_at indefinite_trees_at indefinite_pairs_at
-    argument_of_width whole_argument_at initial is_utf8 chars lib.Utf8.encode
+unfolding item_within trees_at pairs_at indefinite_trees_at indefinite_pairs_at
+    argument_at initial is_utf8 chars lib.Utf8.encode
 faults_rows = refl
 
 -- What a budget allows: one step a value, one more for an array or a map, one for a chunk.
@@ -403,8 +403,8 @@ pub budgets_rows : AllEqual
     ∷ rejects_under 1 "bf" (depth_overflow (codes "map")) "bf"
     ∷ rejects_under 2 "bf 00 00 ff" (depth_overflow (codes "value")) "00 00 ff"
     ∷ reads_at_any_depth "c1 c1 00" (tag 1 (tag 1 (number 0))) ∷ [])
-unfolding read_within skip_within trees_at pairs_at indefinite_trees_at indefinite_pairs_at
-    argument_of_width whole_argument_at initial is_utf8 chars lib.Utf8.encode
+unfolding item_within trees_at pairs_at indefinite_trees_at indefinite_pairs_at
+    argument_at initial is_utf8 chars lib.Utf8.encode
 budgets_rows = refl
 
 -- Skipping tests no text, and takes any items as chunks. What is missing is reported of a number, a
@@ -470,8 +470,8 @@ pub skipping_rows : AllEqual
     ∷ skip_rejects "bf 01 02 03 ff" (unsupported (codes "ignored-any") 0xff) "ff"
     ∷ skip_rejects "c1 ff" (unsupported (codes "ignored-any") 0xff) "ff"
     ∷ skips_at_any_depth "c1 c1 00" "" ∷ [])
-unfolding read_within skip_within trees_at pairs_at indefinite_trees_at indefinite_pairs_at
-    argument_of_width whole_argument_at initial is_utf8 chars lib.Utf8.encode
+unfolding item_within trees_at pairs_at indefinite_trees_at indefinite_pairs_at
+    argument_at initial is_utf8 chars lib.Utf8.encode
 skipping_rows = refl
 
 -- What values and trees measure. The size counts each value once and the bytes of texts and byte
@@ -515,8 +515,8 @@ pub measures_rows : AllEqual
       with_bignums (integer (negsuc 18446744073709551616)),
       tag 3 (octets "01 00 00 00 00 00 00 00 00"),
     ) ∷ [])
-unfolding read_within skip_within trees_at pairs_at indefinite_trees_at indefinite_pairs_at
-    argument_of_width whole_argument_at initial is_utf8 chars lib.Utf8.encode
+unfolding item_within trees_at pairs_at indefinite_trees_at indefinite_pairs_at
+    argument_at initial is_utf8 chars lib.Utf8.encode
 measures_rows = (refl, refl, refl)
 
 -- How deep a budget of 256 steps goes: two steps an array, one step a tag, one a level for
@@ -536,8 +536,8 @@ pub depths_of_reading : AllEqual
     ∷ (read_under_heads 254 0xc1 "7f 61 61 ff", Ok [])
     ∷ (read_under_heads 255 0xc1 "7f 61 61 ff", too_deep "str" "61 61 ff")
     ∷ (read_under_heads 255 0xc1 "80", too_deep "array" "80") ∷ [])
-unfolding read_within skip_within trees_at pairs_at indefinite_trees_at indefinite_pairs_at
-    argument_of_width whole_argument_at initial is_utf8 chars lib.Utf8.encode
+unfolding item_within trees_at pairs_at indefinite_trees_at indefinite_pairs_at
+    argument_at initial is_utf8 chars lib.Utf8.encode
 depths_of_reading = refl
 
 pub depths_of_skipping : AllEqual
@@ -545,6 +545,6 @@ pub depths_of_skipping : AllEqual
     ∷ (skipped_under_heads 256 0x81 "80", too_deep "ignored-any" "80")
     ∷ (skipped_under_heads 255 0xc1 "80", Ok [])
     ∷ (skipped_under_heads 255 0xc1 "7f 61 61 ff", too_deep "ignored-any" "61 61 ff") ∷ [])
-unfolding read_within skip_within trees_at pairs_at indefinite_trees_at indefinite_pairs_at
-    argument_of_width whole_argument_at initial is_utf8 chars lib.Utf8.encode
+unfolding item_within trees_at pairs_at indefinite_trees_at indefinite_pairs_at
+    argument_at initial is_utf8 chars lib.Utf8.encode
 depths_of_skipping = refl

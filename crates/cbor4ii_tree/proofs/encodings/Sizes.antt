@@ -3,8 +3,8 @@ use Rattle.std.proofs.Common.{◌≡◌, ℕ, suc, ◌+◌, ◌^◌, ◌<◌, �
 use Rattle.std.proofs.Common.{ap, subst, arith, length-append}
 use Rattle.std.specs.Int.{bytes_high_first}
 use Rattle.cbor4ii_items.specs.{Head.{byte_count, break}, Initial.{Sign, unsigned, negative, Kind}}
-use Rattle.cbor4ii_items.specs.Initial.{byte_string, text_string, simple_false, simple_true}
-use Rattle.cbor4ii_items.specs.{Initial.{simple_null, simple_undefined}, Laws.Heads.argument_below}
+use Rattle.cbor4ii_items.specs.Initial.{byte_string, text_string, simple_false}
+use Rattle.cbor4ii_items.specs.Laws.Heads.{argument_below}
 use Rattle.cbor4ii_tree.specs.{Encodings.Encodes, Item.{Item, integer, item_count, member_count}}
 use Rattle.cbor4ii_tree.specs.Item.{IsItem, AreItems, AreMembers, size, size_all, size_members}
 use Rattle.cbor4ii_tree.specs.{Laws.Initials.length-bytes-pos, Meaning.{value, values}}
@@ -66,9 +66,7 @@ mutual
   size-value (tagged n w t) =
       omega (arith, size-value t, length-append (bytes_high_first (byte_count w) n) (bytes t))
   size-value (simple simple_false) = omega arith
-  size-value (simple simple_true) = omega arith
-  size-value (simple simple_null) = omega arith
-  size-value (simple simple_undefined) = omega arith
+  size-value (simple _) = omega arith
   size-value (bits p n) = omega arith
 
   size-values : (ts : Trees) → size_all (values ts) ≤ length (bytes_all ts)
@@ -159,9 +157,7 @@ mutual
         (omega (arith, length-append (bytes_high_first (byte_count w) n) (bytes t))),
   )
   IsItem-value (simple simple_false) l s lt = tt
-  IsItem-value (simple simple_true) l s lt = tt
-  IsItem-value (simple simple_null) l s lt = tt
-  IsItem-value (simple simple_undefined) l s lt = tt
+  IsItem-value (simple _) l s lt = tt
   IsItem-value (bits p n) l s lt = l
 
   AreItems-values : (ts : Trees) → LooseAll ts → SoundStringsAll ts → length (bytes_all ts) < 2 ^ 64

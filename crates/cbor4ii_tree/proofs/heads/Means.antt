@@ -1,6 +1,6 @@
 -- What an initial byte says, read backwards.
-use Rattle.std.proofs.Common.{◌≡◌, ℕ, zero, suc, ◌+◌, ◌*◌, ◌/◌, ◌%◌, ◌<◌, List, ◌∷◌, ◌++◌, Ok, refl}
-use Rattle.std.proofs.Common.{ap, ap₂, ◌∙◌, arith, ltb, eqb, ltb-true, eqb-true, subst}
+use Rattle.std.proofs.Common.{◌≡◌, ℕ, zero, suc, ◌+◌, ◌*◌, ◌/◌, ◌%◌, ◌<◌, List, ◌∷◌, ◌++◌, sym, ap}
+use Rattle.std.proofs.Common.{ap₂, ◌∙◌, arith, ltb, eqb, ltb-true, eqb-true}
 use Rattle.cbor4ii_items.specs.Head.{Width, in_first, one, two, four, eight, HeadFits, additional}
 use Rattle.cbor4ii_items.specs.{Head.{byte_count, head, indefinite_head, IsBytes}, Initial.Sign}
 use Rattle.cbor4ii_items.specs.Initial.{unsigned, negative, sign_major, Kind, byte_string}
@@ -12,8 +12,9 @@ use Rattle.cbor4ii_items.specs.Initial.{starts_tag, starts_simple, starts_bits, 
 use Rattle.cbor4ii_items.specs.Initial.{int_by_info, string_by_info, array_by_info, map_by_info}
 use Rattle.cbor4ii_items.specs.Initial.{tag_by_info, simple_by_info, by_major}
 use Rattle.cbor4ii_items.specs.Laws.Heads.{if_cases}
-use Rattle.cbor4ii_tree.specs.{Laws.Binds.parts, Parse.argument_of_width, Skip.whole_argument_at}
-use Rattle.cbor4ii_tree.proofs.heads.Inverse.{Whole, number_inverse, whole_number_inverse}
+use Rattle.cbor4ii_tree.specs.{Parse.argument_at, Rejections.Lacks}
+use Rattle.cbor4ii_tree.proofs.{heads.Inverse.{Whole, number_meets}, parts.Meets.{Meets, ok_meets}}
+use Rattle.cbor4ii_tree.proofs.parts.Meets.{map_meets}
 
 abbrev pub WidthSays : Width → ℕ → Type 0
 WidthSays in_first i = i < 24
@@ -115,51 +116,28 @@ headed : (major n : ℕ) (w : Width) (b : ℕ) (bs after : List ℕ) → b ≡ 3
     → HeadFits w n → Whole (byte_count w) n bs after → Headed major n w b bs after
 headed major n w b bs after e fits h = record { is = ap₂ ◌∷◌ e h.is; fits = fits; more = h.more }
 
-first_headed : (major n b : ℕ) (bs after : List ℕ) → IsBytes bs → HeadByte major in_first b
-    → (b % 32 ≡ n) × (bs ≡ after) → Headed major n in_first b bs after
-first_headed major n b bs after more h e =
-    record {
-      is = ap₂ ◌∷◌ (omega (arith, h.1, h.2, e.0)) e.1;
-      fits = omega (arith, h.1, h.2, e.0);
-      more = subst IsBytes e.1 more;
-    }
-
-pub argument_inverse : (name : List ℕ) (major n : ℕ) (w : Width) (b : ℕ) (bs after : List ℕ)
-    → IsBytes bs → HeadByte major w b → argument_of_width name w b bs ≡ Ok (n, after)
-    → Headed major n w b bs after
-unfolding argument_of_width
-argument_inverse name major n in_first b bs after more h e =
-    first_headed major n b bs after more h (parts _ (b % 32) n bs after refl e)
-argument_inverse name major n one b bs after more h e =
-    let whole = number_inverse name 1 n bs after more e in
-    headed major n one b bs after (h.1 ∙ ap (λ j. 32 * major + j) h.2)
-    (omega (arith, whole.below)) whole
-argument_inverse name major n two b bs after more h e =
-    let whole = number_inverse name 2 n bs after more e in
-    headed major n two b bs after (h.1 ∙ ap (λ j. 32 * major + j) h.2) whole.below whole
-argument_inverse name major n four b bs after more h e =
-    let whole = number_inverse name 4 n bs after more e in
-    headed major n four b bs after (h.1 ∙ ap (λ j. 32 * major + j) h.2) whole.below whole
-argument_inverse name major n eight b bs after more h e =
-    let whole = number_inverse name 8 n bs after more e in
-    headed major n eight b bs after (h.1 ∙ ap (λ j. 32 * major + j) h.2) whole.below whole
-
-pub whole_argument_inverse : (name : List ℕ) (major n : ℕ) (w : Width) (b : ℕ) (bs after : List ℕ)
-    → IsBytes bs → HeadByte major w b → whole_argument_at name w b bs ≡ Ok (n, after)
-    → Headed major n w b bs after
-unfolding whole_argument_at
-whole_argument_inverse name major n in_first b bs after more h e =
-    first_headed major n b bs after more h (parts _ (b % 32) n bs after refl e)
-whole_argument_inverse name major n one b bs after more h e =
-    let whole = whole_number_inverse name 1 n bs after more e in
-    headed major n one b bs after (h.1 ∙ ap (λ j. 32 * major + j) h.2)
-    (omega (arith, whole.below)) whole
-whole_argument_inverse name major n two b bs after more h e =
-    let whole = whole_number_inverse name 2 n bs after more e in
-    headed major n two b bs after (h.1 ∙ ap (λ j. 32 * major + j) h.2) whole.below whole
-whole_argument_inverse name major n four b bs after more h e =
-    let whole = whole_number_inverse name 4 n bs after more e in
-    headed major n four b bs after (h.1 ∙ ap (λ j. 32 * major + j) h.2) whole.below whole
-whole_argument_inverse name major n eight b bs after more h e =
-    let whole = whole_number_inverse name 8 n bs after more e in
-    headed major n eight b bs after (h.1 ∙ ap (λ j. 32 * major + j) h.2) whole.below whole
+-- its argument, or what is missing of it
+pub argument_meets : (asks : ℕ → ℕ → ℕ) (name : List ℕ) (major : ℕ) (w : Width) (b : ℕ)
+    (bs : List ℕ) → IsBytes bs → HeadByte major w b
+    → Meets (λ p. Headed major p.0 w b bs p.1) (Lacks asks name (byte_count w) bs)
+    (argument_at asks name w b bs)
+unfolding argument_at
+argument_meets asks name major in_first b bs h m =
+    let low : b % 32 ≡ m.0 = omega (arith, m.1, m.2) in
+    ok_meets _ (record {
+      is = ap (λ c. c ∷ bs) (m.1 ∙ ap (λ i. 32 * major + i) (sym low));
+      fits = omega (arith, m.2);
+      more = h;
+    })
+argument_meets asks name major one b bs h m =
+    map_meets (number_meets asks name 1 bs h) (λ p whole. headed major p.0 one b bs p.1
+    (m.1 ∙ ap (λ j. 32 * major + j) m.2) (omega (arith, whole.below)) whole) (λ e rest f. f)
+argument_meets asks name major two b bs h m =
+    map_meets (number_meets asks name 2 bs h) (λ p whole. headed major p.0 two b bs p.1
+    (m.1 ∙ ap (λ j. 32 * major + j) m.2) whole.below whole) (λ e rest f. f)
+argument_meets asks name major four b bs h m =
+    map_meets (number_meets asks name 4 bs h) (λ p whole. headed major p.0 four b bs p.1
+    (m.1 ∙ ap (λ j. 32 * major + j) m.2) whole.below whole) (λ e rest f. f)
+argument_meets asks name major eight b bs h m =
+    map_meets (number_meets asks name 8 bs h) (λ p whole. headed major p.0 eight b bs p.1
+    (m.1 ∙ ap (λ j. 32 * major + j) m.2) whole.below whole) (λ e rest f. f)

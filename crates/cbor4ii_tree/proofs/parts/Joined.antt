@@ -17,13 +17,16 @@ unfolding join
 each-join W no_trees us h k = k
 each-join W (tree t ts) us h k = (h.0, each-join W ts us h.1 k)
 
+pub bytes_all-join : (ts us : Trees) → bytes_all (join ts us) ≡ bytes_all ts ++ bytes_all us
+unfolding join
+bytes_all-join no_trees us = refl
+bytes_all-join (tree t ts) us =
+    ap (λ r. bytes t ++ r) (bytes_all-join ts us)
+    ∙ sym (append_assoc (bytes t) (bytes_all ts) (bytes_all us))
+
 pub bytes-join : (ts us : Trees) (x : List ℕ)
     → bytes_all (join ts us) ++ x ≡ bytes_all ts ++ (bytes_all us ++ x)
-unfolding join
-bytes-join no_trees us x = refl
-bytes-join (tree t ts) us x =
-    append_assoc (bytes t) (bytes_all (join ts us)) x ∙ ap (λ r. bytes t ++ r) (bytes-join ts us x)
-    ∙ sym (append_assoc (bytes t) (bytes_all ts) (bytes_all us ++ x))
+bytes-join ts us x = rw (bytes_all-join ts us) (append_assoc (bytes_all ts) (bytes_all us) x)
 
 unfoldable pub join_pairs : Pairs → Pairs → Pairs
 join_pairs no_pairs qs = qs
@@ -35,9 +38,14 @@ unfolding join_pairs
 each-join_pairs W no_pairs qs h k = k
 each-join_pairs W (pair j u ps) qs h k = (h.0, h.1, each-join_pairs W ps qs h.2 k)
 
+pub bytes_pairs-join : (ps qs : Pairs)
+    → bytes_pairs (join_pairs ps qs) ≡ bytes_pairs ps ++ bytes_pairs qs
+unfolding join_pairs
+bytes_pairs-join no_pairs qs = refl
+bytes_pairs-join (pair j u ps) qs =
+    ap (λ r. bytes j ++ (bytes u ++ r)) (bytes_pairs-join ps qs) ∙ simp append_assoc
+
 pub bytes-join_pairs : (ps qs : Pairs) (x : List ℕ)
     → bytes_pairs (join_pairs ps qs) ++ x ≡ bytes_pairs ps ++ (bytes_pairs qs ++ x)
-unfolding join_pairs
-bytes-join_pairs no_pairs qs x = refl
-bytes-join_pairs (pair j u ps) qs x =
-    simp append_assoc (ap (λ r. bytes j ++ (bytes u ++ r)) (bytes-join_pairs ps qs x))
+bytes-join_pairs ps qs x =
+    rw (bytes_pairs-join ps qs) (append_assoc (bytes_pairs ps) (bytes_pairs qs) x)

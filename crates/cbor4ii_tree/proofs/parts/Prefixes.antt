@@ -1,21 +1,20 @@
 -- Bytes that end too early, filled up to a whole tree: heads and contents with zeros, sequences
 -- with the number 0.
 use Rattle.std.proofs.Common.{◌≡◌, ◌≢◌, ℕ, zero, suc, ◌+◌, ◌-◌, ◌*◌, ◌^◌, ◌<◌, ◌⊎◌, inl, inr, List}
-use Rattle.std.proofs.Common.{[], ◌∷◌, ◌++◌, length, replicate, Some, None, refl, sym, ap, ap₂, ◌∙◌}
-use Rattle.std.proofs.Common.{arith, subst, length-append, append_assoc, append-nil}
+use Rattle.std.proofs.Common.{[], ◌∷◌, ◌++◌, length, replicate, Option, Some, None, refl, sym, ap}
+use Rattle.std.proofs.Common.{ap₂, ◌∙◌, arith, subst, length-append, append_assoc, append-nil}
 use Rattle.std.proofs.lemmas.List.{length-replicate}
 use Rattle.std.specs.Int.{bytes_high_first}
 use Rattle.cbor4ii_items.specs.Head.{Width, in_first, one, two, four, eight, HeadFits, additional}
 use Rattle.cbor4ii_items.specs.{Head.{byte_count, head, break, IsBytes}, Initial.unsigned}
 use Rattle.cbor4ii_items.specs.Magnitude.{number_of}
-use Rattle.cbor4ii_tree.specs.{Cost.{Budget, step_in}, InputError.{InputError, IsEof}}
-use Rattle.cbor4ii_tree.specs.Rejections.{Stopping, RejectsAtStep, Each, EachPair, NoBreak}
-use Rattle.cbor4ii_tree.specs.{Rejections.AfterKey, Tree.{Tree, int, Trees, no_trees, tree, Pairs}}
-use Rattle.cbor4ii_tree.specs.Tree.{no_pairs, pair, count, pair_count, bytes, bytes_all}
-use Rattle.cbor4ii_tree.specs.Tree.{bytes_pairs}
+use Rattle.cbor4ii_tree.specs.{Cost.Budget, InputError.{InputError, IsEof}, Rejections.Stopping}
+use Rattle.cbor4ii_tree.specs.Rejections.{RejectsAtStep, Each, EachPair, NoBreak, AfterKey}
+use Rattle.cbor4ii_tree.specs.Tree.{Tree, int, Trees, no_trees, tree, Pairs, no_pairs, pair, count}
+use Rattle.cbor4ii_tree.specs.Tree.{pair_count, bytes, bytes_all, bytes_pairs}
 use Rattle.cbor4ii_tree.proofs.{heads.Inverse.number_of_bytes, heads.Means.{WidthSays, HeadByte}}
-use Rattle.cbor4ii_tree.proofs.parts.Joined.{join, count-join, each-join, join_pairs}
-use Rattle.cbor4ii_tree.proofs.parts.Joined.{each-join_pairs}
+use Rattle.cbor4ii_tree.proofs.parts.Joined.{join, count-join, each-join, bytes_all-join}
+use Rattle.cbor4ii_tree.proofs.parts.Joined.{bytes_pairs-join, join_pairs, each-join_pairs}
 
 -- bytes that are after others
 abbrev pub IsMore : List ℕ → Type 0
@@ -124,13 +123,6 @@ with_head top b bs after content more e f =
 
 -- ---- lists of trees
 
-bytes-join : (ts us : Trees) → bytes_all (join ts us) ≡ bytes_all ts ++ bytes_all us
-unfolding join
-bytes-join no_trees us = refl
-bytes-join (tree t ts) us =
-    ap (λ r. bytes t ++ r) (bytes-join ts us)
-    ∙ sym (append_assoc (bytes t) (bytes_all ts) (bytes_all us))
-
 unfoldable pub nought : Tree
 nought = int unsigned 0 in_first
 
@@ -175,7 +167,7 @@ filled_items Good g n prefix after lt l f =
       each-join Good prefix back l (f.good, each-noughts Good g (n - suc (count prefix))),
       f.more ++ bytes_all last,
       then_some f.more (bytes_all last) f.some (noughts_bytes (n - suc (count prefix))),
-      bytes-join prefix back ∙ ap (λ r. bytes_all prefix ++ (r ++ bytes_all last)) f.is
+      bytes_all-join prefix back ∙ ap (λ r. bytes_all prefix ++ (r ++ bytes_all last)) f.is
           ∙ regroup (bytes_all prefix) after f.more (bytes_all last),
     )
   where
@@ -195,11 +187,11 @@ paired Good (suc n) (tree k (tree v ts)) e l =
 
 -- ---- indefinite-length sequences
 
--- what fails at the end of the input leaves nothing, and goes on
+-- what fails at the end of the input goes on
 abbrev pub Prefixes : (Tree → Type 0) → Stopping → Type 0
 Prefixes Good rejects =
     (bs : List ℕ) (e : InputError) (rest : List ℕ) → IsBytes bs → IsEof e → rejects bs e rest
-    → Prefix Good bs × (rest ≡ [])
+    → Prefix Good bs
 
 pub eof_only : (e f : InputError) → IsEof e → e ≡ f → IsEof f
 eof_only e f h is = subst IsEof is h
@@ -207,45 +199,31 @@ eof_only e f h is = subst IsEof is h
 pub indefinite_prefix : (Good : Tree → Type 0) (rejects : Stopping) → Prefixes Good rejects
     → (bs : List ℕ) (prefix : Trees) (after : List ℕ) (e : InputError) (rest : List ℕ) → IsBytes bs
     → IsEof e → Each Good prefix → bs ≡ bytes_all prefix ++ after → NoBreak rejects after e rest
-    → ((ts : Trees) × Each Good ts × (more : List ℕ) × IsMore more
-    × (bytes_all ts ++ break ∷ [] ≡ bs ++ more)) × (rest ≡ [])
+    → (ts : Trees) × Each Good ts × (more : List ℕ) × IsMore more
+    × (bytes_all ts ++ break ∷ [] ≡ bs ++ more)
 indefinite_prefix Good rejects g bs prefix [] e rest h eo l is st = (
-  (
-    prefix,
-    l,
-    break ∷ [],
-    break_some,
-    ap (λ r. r ++ break ∷ []) (sym (append-nil (bytes_all prefix)) ∙ sym is),
-  ),
-  st.1,
+  prefix,
+  l,
+  break ∷ [],
+  break_some,
+  ap (λ r. r ++ break ∷ []) (sym (append-nil (bytes_all prefix)) ∙ sym is),
 )
 indefinite_prefix Good rejects g bs prefix (b ∷ after) e rest h eo l is st =
-    let f = g (b ∷ after) e rest (IsBytes-after (bytes_all prefix) (b ∷ after) (subst IsBytes is h))
-    eo st.1 in
-    let t = f.0 in (
-      (
-        join prefix (tree t.whole no_trees),
-        each-join Good prefix (tree t.whole no_trees) l (t.good, tt),
-        t.more ++ break ∷ [],
-        then_some t.more (break ∷ []) t.some break_some.1,
-        ap (λ r. r ++ break ∷ [])
-            (bytes-join prefix (tree t.whole no_trees) ∙ ap (λ r. bytes_all prefix ++ (r ++ []))
-            t.is) ∙ regroup (bytes_all prefix) (b ∷ after) t.more ∙ ap (λ r. r
-            ++ (t.more ++ break ∷ [])) (sym is),
-      ),
-      f.1,
+    let t = g (b ∷ after) e rest (IsBytes-after (bytes_all prefix) (b ∷ after) (subst IsBytes is h))
+    eo st.1 in (
+      join prefix (tree t.whole no_trees),
+      each-join Good prefix (tree t.whole no_trees) l (t.good, tt),
+      t.more ++ break ∷ [],
+      then_some t.more (break ∷ []) t.some break_some.1,
+      ap (λ r. r ++ break ∷ []) (bytes_all-join prefix (tree t.whole no_trees)
+          ∙ ap (λ r. bytes_all prefix ++ (r ++ [])) t.is)
+          ∙ regroup (bytes_all prefix) (b ∷ after) t.more
+          ∙ ap (λ r. r ++ (t.more ++ break ∷ [])) (sym is),
     )
   where
     regroup : (a c d : List ℕ)
         → (a ++ ((c ++ d) ++ [])) ++ break ∷ [] ≡ (a ++ c) ++ (d ++ break ∷ [])
     regroup a c d = simp (append_assoc, append-nil)
-
-bytes-join_pairs : (ps qs : Pairs)
-    → bytes_pairs (join_pairs ps qs) ≡ bytes_pairs ps ++ bytes_pairs qs
-unfolding join_pairs
-bytes-join_pairs no_pairs qs = refl
-bytes-join_pairs (pair k v ps) qs =
-    ap (λ r. bytes k ++ (bytes v ++ r)) (bytes-join_pairs ps qs) ∙ simp append_assoc
 
 -- one more pair, of which the first bytes are there
 indefinite_pair : (Good : Tree → Type 0) (bs : List ℕ) (prefix : Pairs) (after : List ℕ)
@@ -259,7 +237,7 @@ indefinite_pair Good bs prefix after k v more l lk lv is some e =
       each-join_pairs Good prefix last l (lk, lv, tt),
       more ++ break ∷ [],
       then_some more (break ∷ []) some break_some.1,
-      ap (λ r. r ++ break ∷ []) (bytes-join_pairs prefix last) ∙ regroup (bytes_pairs prefix)
+      ap (λ r. r ++ break ∷ []) (bytes_pairs-join prefix last) ∙ regroup (bytes_pairs prefix)
           (bytes k) (bytes v) ∙ ap (λ r. bytes_pairs prefix ++ (r ++ break ∷ [])) e
           ∙ regroup2 (bytes_pairs prefix) after more ∙ ap (λ r. r ++ (more ++ break ∷ [])) (sym is),
     )
@@ -275,42 +253,32 @@ pub indefinite_pairs_prefix : (Good Whole : Tree → Type 0) (rejects : Stopping
     → ((t : Tree) → Whole t → Good t) → Prefixes Good rejects → (bs : List ℕ) (prefix : Pairs)
     (after : List ℕ) (e : InputError) (rest : List ℕ) → IsBytes bs → IsEof e → EachPair Good prefix
     → bs ≡ bytes_pairs prefix ++ after → NoBreak rejects after e rest
-    ⊎ AfterKey Whole rejects after e rest → ((ps : Pairs) × EachPair Good ps × (more : List ℕ)
-    × IsMore more × (bytes_pairs ps ++ break ∷ [] ≡ bs ++ more)) × (rest ≡ [])
+    ⊎ AfterKey Whole rejects after e rest → (ps : Pairs) × EachPair Good ps × (more : List ℕ)
+    × IsMore more × (bytes_pairs ps ++ break ∷ [] ≡ bs ++ more)
 indefinite_pairs_prefix Good Whole rejects zero_good w g bs prefix [] e rest h eo l is (inl st) = (
-  (
-    prefix,
-    l,
-    break ∷ [],
-    break_some,
-    ap (λ r. r ++ break ∷ []) (sym (append-nil (bytes_pairs prefix)) ∙ sym is),
-  ),
-  st.1,
+  prefix,
+  l,
+  break ∷ [],
+  break_some,
+  ap (λ r. r ++ break ∷ []) (sym (append-nil (bytes_pairs prefix)) ∙ sym is),
 )
 indefinite_pairs_prefix Good Whole rejects zero_good w g bs prefix (b ∷ after) e rest h eo l is
     (inl st) =
-    let f = g (b ∷ after) e rest
+    let t = g (b ∷ after) e rest
     (IsBytes-after (bytes_pairs prefix) (b ∷ after) (subst IsBytes is h)) eo st.1 in
-    let t = f.0 in (
-      indefinite_pair Good bs prefix (b ∷ after) t.whole nought (t.more ++ bytes nought) l t.good
-          zero_good is (then_some t.more (bytes nought) t.some nought_bytes) (ap (λ r. r ++ bytes
-          nought) t.is ∙ append_assoc (b ∷ after) t.more (bytes nought)),
-      f.1,
-    )
+    indefinite_pair Good bs prefix (b ∷ after) t.whole nought (t.more ++ bytes nought) l t.good
+    zero_good is (then_some t.more (bytes nought) t.some nought_bytes)
+    (ap (λ r. r ++ bytes nought) t.is ∙ append_assoc (b ∷ after) t.more (bytes nought))
 indefinite_pairs_prefix Good Whole rejects zero_good w g bs prefix after e rest h eo l is (inr st) =
-    let f = g st.after e rest (IsBytes-after (bytes st.key) st.after (subst IsBytes st.is
+    let t = g st.after e rest (IsBytes-after (bytes st.key) st.after (subst IsBytes st.is
     (IsBytes-after (bytes_pairs prefix) after (subst IsBytes is h)))) eo st.stopped in
-    let t = f.0 in (
-      indefinite_pair Good bs prefix after st.key t.whole t.more l (w st.key st.whole) t.good
-          is t.some (ap (λ r. bytes st.key ++ r) t.is ∙ sym (append_assoc (bytes st.key) st.after
-          t.more) ∙ ap (λ r. r ++ t.more) (sym st.is)),
-      f.1,
-    )
+    indefinite_pair Good bs prefix after st.key t.whole t.more l (w st.key st.whole) t.good is
+    t.some (ap (λ r. bytes st.key ++ r) t.is ∙ sym (append_assoc (bytes st.key) st.after t.more)
+    ∙ ap (λ r. r ++ t.more) (sym st.is))
 
-pub stepped_prefix : (Good : Tree → Type 0) (name : List ℕ) (budget : Budget) (bs : List ℕ)
+pub stepped_prefix : (Good : Tree → Type 0) (name : List ℕ) (step : Option Budget) (bs : List ℕ)
     (rejects : Budget → InputError → List ℕ → Type 0) (e : InputError) (rest : List ℕ) → IsEof e
-    → ((inner : Budget) → rejects inner e rest → Prefix Good bs × (rest ≡ []))
-    → RejectsAtStep name (step_in budget) bs rejects e rest → Prefix Good bs × (rest ≡ [])
-stepped_prefix Good name None bs rejects e rest eo k st = k None st
-stepped_prefix Good name (Some zero) bs rejects e rest eo k st = absurd (eof_only e _ eo st.0)
-stepped_prefix Good name (Some (suc n)) bs rejects e rest eo k st = k (Some n) st
+    → ((inner : Budget) → rejects inner e rest → Prefix Good bs)
+    → RejectsAtStep name step bs rejects e rest → Prefix Good bs
+stepped_prefix Good name None bs rejects e rest eo k st = absurd (eof_only e _ eo st.0)
+stepped_prefix Good name (Some inner) bs rejects e rest eo k st = k inner st

@@ -1,10 +1,11 @@
 -- What is skipped and what is rejected, put together of its parts.
-use Rattle.std.proofs.Common.{◌≡◌, ℕ, ◌<◌, ◌⊎◌, List, ◌∷◌, ◌++◌}
+use Rattle.std.proofs.Common.{◌≡◌, ℕ, ◌<◌, ◌⊎◌, inl, inr, List, ◌∷◌, ◌++◌, Bool, true, false, refl}
 use Rattle.cbor4ii_items.specs.{Budget.CostFits, Head.{Width, HeadFits, head}}
 use Rattle.cbor4ii_tree.specs.{Cost.{Budget, skip_cost}, Encodings.Skips, InputError.InputError}
-use Rattle.cbor4ii_tree.specs.Rejections.{Stopping, AfterHead, AfterKey, Each, EachPair, NoBreak}
-use Rattle.cbor4ii_tree.specs.Rejections.{RejectsInCount, IndefiniteItems, IndefinitePairs}
-use Rattle.cbor4ii_tree.specs.Tree.{Tree, Trees, Pairs, Loose, count, bytes, bytes_all, bytes_pairs}
+use Rattle.cbor4ii_tree.specs.{ItemRejects.OrTested, Rejections.{Stopping, AfterHead, AfterKey}}
+use Rattle.cbor4ii_tree.specs.Rejections.{Each, EachPair, NoBreak, RejectsInCount, IndefiniteItems}
+use Rattle.cbor4ii_tree.specs.{Rejections.IndefinitePairs, Tree.{Tree, Trees, Pairs, Loose, count}}
+use Rattle.cbor4ii_tree.specs.Tree.{bytes, bytes_all, bytes_pairs}
 
 pub skips_by : {input : List ℕ} {budget : Budget} {t : Tree} {rest : List ℕ} → Loose t
     → CostFits (skip_cost t) budget → input ≡ bytes t ++ rest → Skips input budget t rest
@@ -16,6 +17,27 @@ pub headed_by : {major : ℕ} {w : Width} {b : ℕ} {then : ℕ → Stopping} {b
     → AfterHead major w b then bs e rest
 headed_by n after fits is stopped =
     record { argument = n; after = after; fits = fits; is = is; stopped = stopped }
+
+-- where only what is tested has two ways to be rejected
+pub cut_or : {A : Type 0} (B : Type 0) (tests : Bool) → A → OrTested tests A B
+cut_or B true a = inl a
+cut_or B false a = a
+
+pub tested_or : (A : Type 0) {B : Type 0} (tests : Bool) → tests ≡ true → B → OrTested tests A B
+tested_or A true is b = inr b
+tested_or A false is b = cc
+
+pub or_both : {A B C D : Type 0} (tests : Bool) → (A → C) → (B → D) → OrTested tests A B
+    → OrTested tests C D
+or_both true f g (inl x) = inl (f x)
+or_both true f g (inr x) = inr (g x)
+or_both false f g x = f x
+
+pub either : {A B C : Type 0} (tests : Bool) → (A → C) → (tests ≡ true → B → C)
+    → OrTested tests A B → C
+either true f g (inl x) = f x
+either true f g (inr x) = g refl x
+either false f g x = f x
 
 module _ {W : Tree → Type 0} {s : Stopping} {bs : List ℕ} {e : InputError} {rest : List ℕ} where
   pub in_count : {n : ℕ} (prefix : Trees) (after : List ℕ) → count prefix < n → Each W prefix

@@ -1,19 +1,22 @@
 -- What is rejected stays rejected: after further bytes, unless it is at the end of the input, and
 -- under a larger budget, unless for want of a step.
-use Rattle.std.proofs.Common.{◌≡◌, ℕ, zero, suc, ◌⊎◌, inl, inr, List, [], ◌∷◌, ◌++◌, Some, None}
-use Rattle.std.proofs.Common.{refl, sym, ap, ◌∙◌, arith, subst, append_assoc, append-nil}
+use Rattle.std.proofs.Common.{◌≡◌, ℕ, zero, suc, ◌<◌, ◌⊎◌, inl, inr, List, [], ◌∷◌, ◌++◌, length}
+use Rattle.std.proofs.Common.{Option, Some, None, refl, sym, ap, ◌∙◌, arith, subst, append_assoc}
+use Rattle.std.proofs.Common.{append-nil, length-append}
+use Rattle.std.specs.Int.{bytes_high_first}
 use Rattle.cbor4ii_items.specs.{Budget.CostFits, Head.{Width, byte_count, head}}
-use Rattle.cbor4ii_tree.proofs.parts.Rejecting.{headed_by, in_count, in_items, in_pairs}
 use Rattle.cbor4ii_tree.specs.{Cost.{Budget, step_in}, InputError.{InputError, eof, Len, IsEof}}
-use Rattle.cbor4ii_tree.specs.{InputError.IsDepthOverflow, Rejections.{Stopping, Is, Missing}}
-use Rattle.cbor4ii_tree.specs.Rejections.{MissingAll, AfterHead, AtHead, RejectsAtStep, Each}
-use Rattle.cbor4ii_tree.specs.Rejections.{EachPair, RejectsInCount, NoBreak, IndefiniteItems}
-use Rattle.cbor4ii_tree.specs.{Rejections.{AfterKey, IndefinitePairs}, Tree.{Tree, Trees, no_trees}}
-use Rattle.cbor4ii_tree.specs.Tree.{tree, Pairs, no_pairs, pair, bytes, bytes_all, bytes_pairs}
+use Rattle.cbor4ii_tree.specs.{InputError.IsDepthOverflow, Rejections.{Stopping, Is, Lacks}}
+use Rattle.cbor4ii_tree.specs.Rejections.{AfterHead, AtHead, RejectsAtStep, Each, EachPair}
+use Rattle.cbor4ii_tree.specs.Rejections.{RejectsInCount, NoBreak, IndefiniteItems, AfterKey}
+use Rattle.cbor4ii_tree.specs.{Rejections.IndefinitePairs, Tree.{Tree, Trees, no_trees, tree}}
+use Rattle.cbor4ii_tree.specs.Tree.{Pairs, no_pairs, pair, bytes, bytes_all, bytes_pairs}
+use Rattle.cbor4ii_tree.proofs.parts.Rejecting.{headed_by, in_count, in_items, in_pairs}
 
--- of one error, before what comes later
-abbrev pub Goes : InputError → List ℕ → Stopping → Stopping → Type 0
-Goes e more s t = (bs rest : List ℕ) → s bs e rest → t (bs ++ more) e (rest ++ more)
+-- of one error, before what comes later, where fewer than k bytes are there
+abbrev pub Goes : ℕ → InputError → List ℕ → Stopping → Stopping → Type 0
+Goes k e more s t =
+    (bs rest : List ℕ) → length bs < k → s bs e rest → t (bs ++ more) e (rest ++ more)
 
 -- the end of the input stays where it is
 abbrev pub Calm : InputError → List ℕ → Type 0
@@ -40,6 +43,22 @@ widens_fits e None None n w f = tt
 widens_fits e None (Some m) n w f = absurd w
 widens_fits e (Some k) None n w f = tt
 widens_fits e (Some k) (Some m) n w f = omega arith
+
+-- the same of the budgets that a step leaves, if it leaves any
+abbrev pub StepWidens : InputError → Option Budget → Option Budget → Type 0
+StepWidens e None other = ¬ (IsDepthOverflow e) ⊎ (other ≡ None)
+StepWidens e (Some b) other = (c : Budget) × (other ≡ Some c) × Widens e b c
+
+pub step_widens : (e : InputError) (b c : Budget) → Widens e b c
+    → StepWidens e (step_in b) (step_in c)
+step_widens e None None w = (None, refl, tt)
+step_widens e None (Some m) w = absurd w
+step_widens e (Some zero) None w = inl w
+step_widens e (Some zero) (Some zero) w = inr refl
+step_widens e (Some zero) (Some (suc m)) w = absurd (omega arith)
+step_widens e (Some (suc n)) None w = (None, refl, w)
+step_widens e (Some (suc n)) (Some zero) w = absurd (omega arith)
+step_widens e (Some (suc n)) (Some (suc m)) w = (Some m, refl, omega arith)
 
 abbrev pub Covers : (Tree → Type 0) → (Tree → Type 0) → Type 0
 Covers V W = (t : Tree) → V t → W t
@@ -70,89 +89,87 @@ pub is_goes : (f e : InputError) (left rest more : List ℕ) → Is f left e res
     → Is f (left ++ more) e (rest ++ more)
 is_goes f e left rest more h = (h.0, ap (λ r. r ++ more) h.1)
 
-pub missing_goes : (name : List ℕ) (k : ℕ) (e : InputError) (more : List ℕ) → Calm e more
-    → Goes e more (Missing name k) (Missing name k)
-missing_goes name k e more calm bs rest s =
-    at_end (Missing name k) e more bs rest (calm (eof_is _ e tt s.1.0)) s
-
-pub missing_all_goes : (name : List ℕ) (k : ℕ) (e : InputError) (more : List ℕ) → Calm e more
-    → Goes e more (MissingAll name k) (MissingAll name k)
-missing_all_goes name k e more calm bs rest s =
-    at_end (MissingAll name k) e more bs rest (calm (eof_is _ e tt s.1.0)) s
-
--- no byte where an item should begin
-pub no_byte_goes : (name : List ℕ) (n : Len) (S : Stopping) (e : InputError) (rest more : List ℕ)
-    → Calm e more → Is (eof name n) [] e rest → S [] e rest → S ([] ++ more) e (rest ++ more)
-no_byte_goes name n S e rest more calm is s = at_end S e more [] rest (calm (eof_is _ e tt is.0)) s
-
-onward : (bs prefix after more : List ℕ) → bs ≡ prefix ++ after
+pub onward : (bs prefix after more : List ℕ) → bs ≡ prefix ++ after
     → bs ++ more ≡ prefix ++ (after ++ more)
 onward bs prefix after more h = ap (λ r. r ++ more) h ∙ append_assoc prefix after more
 
-pub after_head_goes : (major : ℕ) (w : Width) (b : ℕ) (e : InputError) (more : List ℕ)
-    (s t : ℕ → Stopping) → ((n : ℕ) → Goes e more (s n) (t n))
-    → Goes e more (AfterHead major w b s) (AfterHead major w b t)
-after_head_goes major w b e more s t k bs rest x =
-    headed_by x.argument (x.after ++ more) x.fits (onward (b ∷ bs) (head major x.argument w)
-    x.after more x.is) (k x.argument x.after rest x.stopped)
+pub trailing : (k : ℕ) (bs prefix after : List ℕ) → length bs < k → bs ≡ prefix ++ after
+    → length after < k
+trailing k bs prefix after lt is = omega (arith, ap length is, length-append prefix after)
 
-pub at_head_goes : (name : List ℕ) (major : ℕ) (w : Width) (b : ℕ) (e : InputError) (more : List ℕ)
-    (s t : ℕ → Stopping) → Calm e more → ((n : ℕ) → Goes e more (s n) (t n))
-    → Goes e more (AtHead name major w b s) (AtHead name major w b t)
-at_head_goes name major w b e more s t calm k bs rest (inl x) =
-    inl (missing_all_goes name (byte_count w) e more calm bs rest x)
-at_head_goes name major w b e more s t calm k bs rest (inr x) =
-    inr (after_head_goes major w b e more s t k bs rest x)
+pub stepped_goes : (name : List ℕ) (o u : Option Budget) (e : InputError) (here rest more : List ℕ)
+    (s t : Budget → InputError → List ℕ → Type 0) → StepWidens e o u → ((x y : Budget)
+    → Widens e x y → s x e rest → t y e (rest ++ more)) → RejectsAtStep name o here s e rest
+    → RejectsAtStep name u (here ++ more) t e (rest ++ more)
+stepped_goes name None u e here rest more s t (inl w) k x = absurd (w (depth_is _ e tt x.0))
+stepped_goes name None u e here rest more s t (inr w) k x = rw w (is_goes _ e here rest more x)
+stepped_goes name (Some b) u e here rest more s t w k x = rw w.1 (k b w.0 w.2 x)
 
-pub stepped_goes : (name : List ℕ) (b c : Budget) (e : InputError) (here rest more : List ℕ)
-    (s t : Budget → InputError → List ℕ → Type 0) → Widens e b c → ((x y : Budget) → Widens e x y
-    → s x e rest → t y e (rest ++ more)) → RejectsAtStep name (step_in b) here s e rest
-    → RejectsAtStep name (step_in c) (here ++ more) t e (rest ++ more)
-stepped_goes name None None e here rest more s t w k x = k None None tt x
-stepped_goes name None (Some m) e here rest more s t w k x = absurd w
-stepped_goes name (Some zero) None e here rest more s t w k x = absurd (w (depth_is _ e tt x.0))
-stepped_goes name (Some (suc n)) None e here rest more s t w k x = k (Some n) None w x
-stepped_goes name (Some zero) (Some zero) e here rest more s t w k x = is_goes _ e here rest more x
-stepped_goes name (Some zero) (Some (suc m)) e here rest more s t w k x = absurd (omega arith)
-stepped_goes name (Some (suc n)) (Some zero) e here rest more s t w k x = absurd (omega arith)
-stepped_goes name (Some (suc n)) (Some (suc m)) e here rest more s t w k x =
-    k (Some n) (Some m) (omega arith) x
+module _ (k : ℕ) (e : InputError) (more : List ℕ) (calm : Calm e more) where
+  -- no byte where an item should begin
+  pub no_byte_goes : (name : List ℕ) (n : Len) (S : Stopping) (rest : List ℕ)
+      → Is (eof name n) [] e rest → S [] e rest → S ([] ++ more) e (rest ++ more)
+  no_byte_goes name n S rest is s = at_end S e more [] rest (calm (eof_is _ e tt is.0)) s
 
-pub definite_goes : (V W : Tree → Type 0) (e : InputError) (more : List ℕ) (s t : Stopping) (n : ℕ)
-    → Covers V W → Goes e more s t → Goes e more (RejectsInCount V s n) (RejectsInCount W t n)
-definite_goes V W e more s t n c k bs rest x =
-    in_count x.prefix (x.after ++ more) x.few (each_covers V W c x.prefix x.whole) (onward bs
-    (bytes_all x.prefix) x.after more x.is) (k x.after rest x.stopped)
+  pub lacks_goes : (asks : ℕ → ℕ → ℕ) (name : List ℕ) (n : ℕ)
+      → Goes k e more (Lacks asks name n) (Lacks asks name n)
+  lacks_goes asks name n bs rest lt s =
+      at_end (Lacks asks name n) e more bs rest (calm (eof_is _ e tt s.1.0)) s
 
-no_break_goes : (e : InputError) (more : List ℕ) (s t : Stopping) → Calm e more → Goes e more s t
-    → Goes e more (NoBreak s) (NoBreak t)
-no_break_goes e more s t calm k [] rest x =
-    at_end (NoBreak t) e more [] rest (calm (eof_is _ e tt x.0)) x
-no_break_goes e more s t calm k (b ∷ bs) rest x = (x.0, k (b ∷ bs) rest x.1)
+  pub after_head_goes : (major : ℕ) (w : Width) (b : ℕ) (s t : ℕ → Stopping)
+      → ((n : ℕ) → Goes k e more (s n) (t n))
+      → Goes k e more (AfterHead major w b s) (AfterHead major w b t)
+  after_head_goes major w b s t g bs rest lt x =
+      let same : suc (length bs) ≡ suc (length (bytes_high_first (byte_count w) x.argument
+      ++ x.after)) = ap length x.is in
+      headed_by x.argument (x.after ++ more) x.fits (onward (b ∷ bs) (head major x.argument w)
+      x.after more x.is) (g x.argument x.after rest (omega (
+        arith,
+        same,
+        length-append (bytes_high_first (byte_count w) x.argument) x.after,
+      )) x.stopped)
 
-pub items_goes : (V W : Tree → Type 0) (e : InputError) (more : List ℕ) (s t : Stopping) →
-    Calm e more
-    → Covers V W → Goes e more s t → Goes e more (IndefiniteItems V s) (IndefiniteItems W t)
-items_goes V W e more s t calm c k bs rest x =
-    in_items x.prefix (x.after ++ more) (each_covers V W c x.prefix x.whole) (onward bs
-    (bytes_all x.prefix) x.after more x.is) (no_break_goes e more s t calm k x.after rest x.stopped)
+  pub at_head_goes : (name : List ℕ) (major : ℕ) (w : Width) (b : ℕ) (s t : ℕ → Stopping)
+      → ((n : ℕ) → Goes k e more (s n) (t n))
+      → Goes k e more (AtHead name major w b s) (AtHead name major w b t)
+  at_head_goes name major w b s t g bs rest lt (inl x) =
+      inl (lacks_goes (λ n m. n) name (byte_count w) bs rest lt x)
+  at_head_goes name major w b s t g bs rest lt (inr x) =
+      inr (after_head_goes major w b s t g bs rest lt x)
 
-pub pairs_goes : (V W : Tree → Type 0) (e : InputError) (more : List ℕ) (s t : Stopping) →
-    Calm e more
-    → Covers V W → Goes e more s t → Goes e more (IndefinitePairs V s) (IndefinitePairs W t)
-pairs_goes V W e more s t calm c k bs rest x =
-    in_pairs x.prefix (x.after ++ more) (each_pair_covers V W c x.prefix x.whole) (onward bs
-    (bytes_pairs x.prefix) x.after more x.is) (by_end x.after x.stopped)
-  where
-    by_end : (after : List ℕ) → NoBreak s after e rest ⊎ AfterKey V s after e rest
-        → NoBreak t (after ++ more) e (rest ++ more) ⊎ AfterKey W t (after ++ more) e (rest ++ more)
-    by_end after (inl y) = inl (no_break_goes e more s t calm k after rest y)
-    by_end after (inr y) =
-        inr (record {
-          key = y.key;
-          after = y.after ++ more;
-          whole = c y.key y.whole;
-          is =
-              onward after (bytes y.key) y.after more y.is;
-          stopped = k y.after rest y.stopped;
-        })
+  module _ (V W : Tree → Type 0) (s t : Stopping) (c : Covers V W) (g : Goes k e more s t) where
+    pub definite_goes : (n : ℕ) → Goes k e more (RejectsInCount V s n) (RejectsInCount W t n)
+    definite_goes n bs rest lt x =
+        in_count x.prefix (x.after ++ more) x.few (each_covers V W c x.prefix x.whole)
+        (onward bs (bytes_all x.prefix) x.after more x.is)
+        (g x.after rest (trailing k bs (bytes_all x.prefix) x.after lt x.is) x.stopped)
+
+    no_break_goes : Goes k e more (NoBreak s) (NoBreak t)
+    no_break_goes [] rest lt x =
+        at_end (NoBreak t) e more [] rest (calm (eof_is _ e tt x.0)) x
+    no_break_goes (b ∷ bs) rest lt x = (x.0, g (b ∷ bs) rest lt x.1)
+
+    pub items_goes : Goes k e more (IndefiniteItems V s) (IndefiniteItems W t)
+    items_goes bs rest lt x =
+        in_items x.prefix (x.after ++ more) (each_covers V W c x.prefix x.whole) (onward bs
+        (bytes_all x.prefix) x.after more x.is) (no_break_goes x.after rest
+        (trailing k bs (bytes_all x.prefix) x.after lt x.is) x.stopped)
+
+    pub pairs_goes : Goes k e more (IndefinitePairs V s) (IndefinitePairs W t)
+    pairs_goes bs rest lt x =
+        in_pairs x.prefix (x.after ++ more) (each_pair_covers V W c x.prefix x.whole) (onward bs
+        (bytes_pairs x.prefix) x.after more x.is)
+        (by_end x.after (trailing k bs (bytes_pairs x.prefix) x.after lt x.is) x.stopped)
+      where
+        by_end : (after : List ℕ) → length after < k → NoBreak s after e rest
+            ⊎ AfterKey V s after e rest → NoBreak t (after ++ more) e (rest ++ more)
+            ⊎ AfterKey W t (after ++ more) e (rest ++ more)
+        by_end after less (inl y) = inl (no_break_goes after rest less y)
+        by_end after less (inr y) =
+            inr (record {
+              key = y.key;
+              after = y.after ++ more;
+              whole = c y.key y.whole;
+              is = onward after (bytes y.key) y.after more y.is;
+              stopped = g y.after rest (trailing k after (bytes y.key) y.after less y.is) y.stopped;
+            })

@@ -1,4 +1,5 @@
 -- What a captured item says of the bytes.
+use denote.Ref.{Bor}
 use Rattle.std.proofs.Common.{◌≡◌, ◌≢◌, ℕ, ◌+◌, ◌<◌, ◌^◌, ◌≤◌, inl, inr, List, [], ◌++◌, length}
 use Rattle.std.proofs.Common.{take, drop, Option, Some, None, Result, Ok, Err, Bool, true, false}
 use Rattle.std.proofs.Common.{IsTrue, refl, sym, ap, ◌∙◌, subst, arith, IfSome, IfOk, IfErr, OnOk}
@@ -6,28 +7,25 @@ use Rattle.std.proofs.Common.{length-append, take-append-drop, append_assoc}
 use Rattle.std.proofs.{Math.Seq.drop-append_seam, lemmas.List.{length-drop, take_all}}
 use Rattle.std.proofs.lemmas.List.{nil_from_length}
 use Rattle.std.specs.Prelude.{MatchBool, MatchOption, min}
-use denote.Ref.{Bor}
 use Rattle.cbor4ii_rw.specs.{Long.{FillsLong, BorrowsNone}, Reader.{Shows, ReaderFails, Advances}}
-use Rattle.cbor4ii_rw.specs.{Reader.{IsPrefix, KeepsAllButBudget, Keeps}, Reference.bytes_of}
-use Rattle.cbor4ii_rw.specs.{Reference.IsLong, View.{View, IfKnown}}
-use Rattle.cbor4ii_rw.specs.declared.error.DecodeError.{DecodeError}
-use Rattle.cbor4ii_rw.specs.declared.read.Reference.{Reference}
-use Rattle.cbor4ii_rw.specs.declared.read.Reference.TheVariants.{Short}
-use Rattle.cbor4ii_items.specs.{InputError.is_out_of_memory, Laws.Contents.lends_prefix}
-use Rattle.cbor4ii_items.specs.{Budget.CostFits, Decoding.{IsExact, Sound, NoneRead, Complete}}
-use Rattle.cbor4ii_items.specs.{Decoding.{Rejects, Decodes}, InputError.{input_error_of, is_read}}
+use Rattle.cbor4ii_rw.specs.{Reader.{IsPrefix, KeepsAllButBudget}, Reference.{bytes_of, IsLong}}
+use Rattle.cbor4ii_rw.specs.{View.{View, IfKnown}, declared.error.DecodeError.DecodeError}
+use Rattle.cbor4ii_rw.specs.declared.read.Reference.{Reference, TheVariants.Short}
+use Rattle.cbor4ii_items.specs.InputError.{is_out_of_memory, input_error_of, is_read}
+use Rattle.cbor4ii_items.specs.{Laws.Contents.lends_prefix, Budget.CostFits, Decoding.IsExact}
+use Rattle.cbor4ii_items.specs.Decoding.{Sound, NoneRead, Complete, Rejects, Decodes}
 use Rattle.cbor4ii_items.specs.{Laws.Running.shows_kept, Moves.{Kept, ReaderFailed, Moves}}
 use Rattle.cbor4ii_tree.specs.{Laws.Initials.length-bytes-pos, Prefix.lent_view, Raw.ReadsRaw}
-use Rattle.cbor4ii_tree.specs.{Cost.{Budget, skip_cost}, Does.Does, Encodings.Skips}
-use Rattle.cbor4ii_tree.specs.{Headline.{Answered, Rejected}, Ignored.ReadsTree}
-use Rattle.cbor4ii_tree.specs.{InputError.{InputError, require_borrowed}, Laws.Binds.same_err}
-use Rattle.cbor4ii_tree.specs.{Laws.Ignoring.{one_encoding, tree_prefix}, Raw.RejectsRaw}
-use Rattle.cbor4ii_tree.specs.Raw.{BeginsRaw, RejectedPrefix, Unmoved, LeftAsTheyWere, raw_value}
-use Rattle.cbor4ii_tree.specs.Raw.{most, SkipsPrefix, RejectsPrefix, Captured, NotCaptured, failed}
-use Rattle.cbor4ii_tree.specs.{Raw.{not_lent, stopped, Captures, raw_format}, Skip.skip}
-use Rattle.cbor4ii_tree.specs.Skipping.{SkipsOne, RejectsSkippingOne}
+use Rattle.cbor4ii_tree.specs.Raw.{RejectsRaw, BeginsRaw, RejectedPrefix, Unmoved, most}
+use Rattle.cbor4ii_tree.specs.Raw.{SkipsPrefix, RejectsPrefix, Captured, NotCaptured, failed}
+use Rattle.cbor4ii_tree.specs.{Raw.{not_lent, stopped, Captures, raw_format}, Cost.Budget}
+use Rattle.cbor4ii_tree.specs.{Cost.skip_cost, Does.Does, Encodings.Skips, Headline.Answered}
+use Rattle.cbor4ii_tree.specs.{Headline.Rejected, Ignored.ReadsTree, InputError.InputError}
+use Rattle.cbor4ii_tree.specs.Laws.{Binds.same_err, Ignoring.{one_encoding, tree_prefix}}
+use Rattle.cbor4ii_tree.specs.{Skip.skip, Skipping.{SkipsOne, RejectsSkippingOne}}
 use Rattle.cbor4ii_tree.specs.{SkippingRejects.SkippingRejects, Tree.{Tree, bytes}}
 use Rattle.cbor4ii_tree.proofs.skipping.Answer.{not_both, skip_from_Rejects}
+use Rattle.cbor4ii_tree.proofs.skip_calls.Doing.{says}
 
 -- ---- skipping in bytes that are lent
 
@@ -45,10 +43,9 @@ rejects_at : (o : Option InputError) (xs : List ℕ) (budget : Budget) (new : Op
 rejects_at None xs budget new h = tt
 rejects_at (Some z) xs budget new h = (h.0, h.2)
 
-pub lent_rejects : {E : Type 0} (shown rest : List ℕ) (a b : View) {e : DecodeError E}
-    → Does {V = Unit {0}} (λ xs _ ys. SkipsOne a.budget xs ys) (RejectsSkippingOne a.budget)
-    (lent_view shown a) (lent_view rest b) (Err e) → is_out_of_memory e ≡ false
-    → RejectsPrefix shown a.budget e
+pub lent_rejects : {E : Type 0} (shown rest : List ℕ) (a b : View) {e : DecodeError E} → Does {V
+    = Unit {0}} (λ xs _ ys. SkipsOne a.budget xs ys) (RejectsSkippingOne a.budget) (lent_view shown
+    a) (lent_view rest b) (Err e) → is_out_of_memory e ≡ false → RejectsPrefix shown a.budget e
 lent_rejects shown rest a b {e = e} d spares = record {
   read = never_failed (is_read e) (lent_view shown a) (lent_view rest b) refl refl d.moves.by;
   memory = spares;
@@ -145,13 +142,10 @@ if_some None P Q f h = tt
 if_some (Some z) P Q f h = f z h
 
 says_none : (o : Option InputError) (P : InputError → Type 0) → o ≡ None → IfSome o P
-says_none None P e = tt
-says_none (Some z) P e = cc
+says_none o P e = subst (λ o. IfSome o P) (sym e) tt
 
-says : (o : Option InputError) (z : InputError) (P : InputError → Type 0) → o ≡ Some z → P z →
-    IfSome o P
-says None z P e h = cc
-says (Some y) z P e h = let f : z ≡ y = cc in subst P f h
+by_read : (P Q : Type 0) {t u : Bool} → t ≡ u → MatchBool u P Q → MatchBool t P Q
+by_read P Q e p = subst (λ v. MatchBool v P Q) (sym e) p
 
 module _ (a b : View) where
   broken : ReaderFails a b → ReaderFailed a b
@@ -166,12 +160,6 @@ module _ (a b : View) where
     remembers = p.remembers;
     ends_at = p.ends_at;
   }
-
-  as_failed : (t : Bool) → t ≡ true → ReaderFailed a b → MatchBool t (ReaderFailed a b) (Kept a b)
-  as_failed t e p = subst (λ u. MatchBool u (ReaderFailed a b) (Kept a b)) (sym e) p
-
-  as_kept : (t : Bool) → t ≡ false → Kept a b → MatchBool t (ReaderFailed a b) (Kept a b)
-  as_kept t e p = subst (λ u. MatchBool u (ReaderFailed a b) (Kept a b)) (sym e) p
 
   all_lent : (shown xs : List ℕ) → FillsLong most shown a b → IsExact false a → a.known ≡ Some xs
       → shown ≡ xs
@@ -190,17 +178,28 @@ module _ {V : Type 0} (content : V → List ℕ) (a b : View) where
       → ReadsTree xs c.count (skip_cost c.item.skipped)
   item_at v c xs known = tree_at c.shown xs c.count a.budget (c.prefix xs known) c.item
 
+-- nothing is taken, and skipping fails in a prefix, or in all bytes
+abbrev Stops : View → View → List ℕ → InputError → Type 0
+Stops a b xs z = (b.known ≡ Some xs) × RejectedPrefix a xs z
+
+abbrev ExactStops : View → View → List ℕ → InputError → Type 0
+ExactStops a b xs z = (b.known ≡ Some xs) × ((left : List ℕ) × SkippingRejects xs a.budget z left)
+
+-- these bytes are left
+abbrev At : View → (InputError → List ℕ → Type 0) → InputError → Type 0
+At b S z = (rest : List ℕ) × (b.known ≡ Some rest) × S z rest
+
 module _ {V E : Type 0} (content : V → List ℕ) (a b : View) where
   -- ---- over every reader
 
   pub raw_moves : (r : Result V (DecodeError E)) → Captures content a b r → Moves a b r
   raw_moves (Ok v) c = record { by = c.lends.kept; depth = λ none. refl }
   raw_moves (Err e) (failed p read none memory depth) =
-      record { by = as_failed a b (is_read e) read (broken a b p); depth = λ none. depth }
-  raw_moves (Err e) (not_lent p read says memory depth) =
-      record { by = as_kept a b (is_read e) read (shows_kept p.stays); depth = λ none. depth }
+      record { by = by_read _ _ read (broken a b p); depth = λ none. depth }
+  raw_moves (Err e) (not_lent p read named memory depth) =
+      record { by = by_read _ _ read (shows_kept p.stays); depth = λ none. depth }
   raw_moves (Err e) (stopped shown l s) =
-      record { by = as_kept a b (is_read e) s.read (shows_kept l.shows); depth = s.depth }
+      record { by = by_read _ _ s.read (shows_kept l.shows); depth = s.depth }
 
   pub raw_progress : (r : Result V (DecodeError E)) → Captures content a b r
       → OnOk r (b.bound + 1 ≤ a.bound)
@@ -226,52 +225,41 @@ module _ {V E : Type 0} (content : V → List ℕ) (a b : View) where
 
   pub raw_unmoved : (r : Result V (DecodeError E)) → Captures content a b r → IfErr r (Unmoved a b)
   raw_unmoved (Ok v) c = tt
-  raw_unmoved (Err e) (failed p read none memory depth) = (
-    subst (λ u. MatchBool u (LeftAsTheyWere a b) (Keeps a.known b.known)) (sym read)
-        (p.known, p.kept),
-    p.taken,
-  )
-  raw_unmoved (Err e) (not_lent p read named memory depth) = (
-    subst (λ u. MatchBool u (LeftAsTheyWere a b) (Keeps a.known b.known)) (sym read) p.stays.known,
-    p.stays.taken,
-  )
-  raw_unmoved (Err e) (stopped shown l s) = (
-    subst (λ u. MatchBool u (LeftAsTheyWere a b) (Keeps a.known b.known))
-        (sym s.read) l.shows.known,
-    l.shows.taken,
-  )
+  raw_unmoved (Err e) (failed p read none memory depth) =
+      (by_read _ _ read (p.known, p.kept), p.taken)
+  raw_unmoved (Err e) (not_lent p read named memory depth) =
+      (by_read _ _ read p.stays.known, p.stays.taken)
+  raw_unmoved (Err e) (stopped shown l s) = (by_read _ _ s.read l.shows.known, l.shows.taken)
+
+  -- the error is of the bytes, and nothing is taken
+  stop : (e : DecodeError E) → NotCaptured a b e → (xs : List ℕ) → a.known ≡ Some xs
+      → IfSome (input_error_of e) (Stops a b xs)
+  stop e (failed p read none memory depth) xs known = says_none _ (Stops a b xs) none
+  stop e (not_lent p read named memory depth) xs known =
+      says (Stops a b xs) named (p.stays.known xs known, inl (refl, p.some xs known, p.short))
+  stop e (stopped shown l s) xs known =
+      if_some _ _ (Stops a b xs) (λ z h. (
+        l.shows.known xs known,
+        inr (shown, l.prefix xs known, h),
+      )) s.rejects
 
   pub raw_rejected : (r : Result V (DecodeError E)) → Captures content a b r
       → IfKnown a.known (λ xs. Rejected (RejectedPrefix a xs) r)
   raw_rejected (Ok v) c = λ xs known. tt
-  raw_rejected (Err e) (failed p read none memory depth) =
-      λ xs known. says_none (input_error_of e) (RejectedPrefix a xs) none
-  raw_rejected (Err e) (not_lent p read named memory depth) =
-      λ xs known. says (input_error_of e) (require_borrowed raw_value)
-      (RejectedPrefix a xs) named (inl (refl, p.some xs known, p.short))
-  raw_rejected (Err e) (stopped shown l s) = λ xs known.
-      if_some (input_error_of e) (λ z. (left : List ℕ) × SkippingRejects shown a.budget z left)
-      (RejectedPrefix a xs) (λ z h. inr (shown, l.prefix xs known, h)) s.rejects
+  raw_rejected (Err e) c = λ xs known. if_some _ (Stops a b xs) (RejectedPrefix a xs) (λ z h. h.1)
+      (stop e c xs known)
 
   pub raw_begins : (r : Result V (DecodeError E)) → Captures content a b r
       → IfErr r (Rejects BeginsRaw a b)
   raw_begins (Ok v) c = tt
-  raw_begins (Err e) (failed p read none memory depth) =
-      record {
-        at = λ xs known. says_none (input_error_of e)
-            (λ z. (rest : List ℕ) × (b.known ≡ Some rest) × BeginsRaw xs a.budget z rest) none;
-      }
-  raw_begins (Err e) (not_lent p read named memory depth) = record {
-    at = λ xs known. says (input_error_of e) (require_borrowed raw_value)
-        (λ z. (rest : List ℕ) × (b.known ≡ Some rest) × BeginsRaw xs a.budget z rest) named
-        (xs, p.stays.known xs known, (refl, inl (refl, p.some xs known)));
+  raw_begins (Err e) c = record {
+    at = λ xs known. if_some _ (Stops a b xs) (At b (BeginsRaw xs a.budget))
+        (λ z h. (xs, h.0, begins xs z h.1)) (stop e c xs known);
   }
-  raw_begins (Err e) (stopped shown l s) = record {
-    at = λ xs known. if_some (input_error_of e)
-        (λ z. (left : List ℕ) × SkippingRejects shown a.budget z left)
-        (λ z. (rest : List ℕ) × (b.known ≡ Some rest) × BeginsRaw xs a.budget z rest)
-        (λ z h. (xs, l.shows.known xs known, (refl, inr (shown, l.prefix xs known, h)))) s.rejects;
-  }
+    where
+      begins : (xs : List ℕ) (z : InputError) → RejectedPrefix a xs z → BeginsRaw xs a.budget z xs
+      begins xs z (inl h) = (refl, inl (h.0, h.1))
+      begins xs z (inr h) = (refl, inr h)
 
   pub raw_sound : (r : Result V (DecodeError E)) → Captures content a b r
       → IfOk r (Sound (ReadsRaw content) a b)
@@ -292,31 +280,23 @@ module _ {V E : Type 0} (content : V → List ℕ) (a b : View) where
 
   -- the error is skipping's, and nothing is taken
   exact_stop : (e : DecodeError E) → NotCaptured a b e → IsExact false a → (xs : List ℕ)
-      → a.known ≡ Some xs → IfSome (input_error_of e)
-      (λ z. (b.known ≡ Some xs) × ((left : List ℕ) × SkippingRejects xs a.budget z left))
+      → a.known ≡ Some xs → IfSome (input_error_of e) (ExactStops a b xs)
   exact_stop e (failed p read none memory depth) exact xs known =
-      says_none (input_error_of e)
-      (λ z. (b.known ≡ Some xs) × ((left : List ℕ) × SkippingRejects xs a.budget z left)) none
+      says_none _ (ExactStops a b xs) none
   exact_stop e (not_lent p read named memory depth) exact xs known = absurd (is_short a b p exact)
-  exact_stop e (stopped shown l s) exact xs known =
-      if_some (input_error_of e) (λ z. (left : List ℕ) × SkippingRejects shown a.budget z left)
-      (λ z. (b.known ≡ Some xs) × ((left : List ℕ) × SkippingRejects xs a.budget z left))
-      (λ z h. (
-        l.shows.known xs known,
-        (
-          h.0,
-          subst (λ ys. SkippingRejects ys a.budget z h.0)
-              (all_lent a b shown xs l exact known) h.1,
-        ),
-      )) s.rejects
+  exact_stop e (stopped shown l s) exact xs known = if_some _ _ (ExactStops a b xs) (λ z h. (
+    l.shows.known xs known,
+    (
+      h.0,
+      subst (λ ys. SkippingRejects ys a.budget z h.0) (all_lent a b shown xs l exact known) h.1,
+    ),
+  )) s.rejects
 
   pub raw_complete : (r : Result V (DecodeError E)) → Captures content a b r → IsExact false a
       → IfErr r (Complete (ReadsRaw content) a)
   raw_complete (Ok v) c exact = tt
   raw_complete (Err e) c exact = record {
-    at = λ xs known. if_some (input_error_of e)
-        (λ z. (b.known ≡ Some xs) × ((left : List ℕ) × SkippingRejects xs a.budget z left))
-        (λ z. NoneRead (ReadsRaw content) xs a.budget)
+    at = λ xs known. if_some _ (ExactStops a b xs) (λ z. NoneRead (ReadsRaw content) xs a.budget)
         (λ z h v n c r fits. not_both xs a.budget r.0.of_tree (drop n xs) z h.1.0
         (skips_read xs n c a.budget r.0 fits) h.1.1) (exact_stop e c exact xs known);
   }
@@ -325,9 +305,7 @@ module _ {V E : Type 0} (content : V → List ℕ) (a b : View) where
       → IfErr r (Rejects RejectsRaw a b)
   raw_rejects (Ok v) c exact = tt
   raw_rejects (Err e) c exact = record {
-    at = λ xs known. if_some (input_error_of e)
-        (λ z. (b.known ≡ Some xs) × ((left : List ℕ) × SkippingRejects xs a.budget z left))
-        (λ z. (rest : List ℕ) × (b.known ≡ Some rest) × RejectsRaw xs a.budget z rest)
+    at = λ xs known. if_some _ (ExactStops a b xs) (At b (RejectsRaw xs a.budget))
         (λ z h. (xs, h.0, (refl, h.1))) (exact_stop e c exact xs known);
   }
 
@@ -354,9 +332,7 @@ module _ {V E : Type 0} (content : V → List ℕ) (a b : View) where
         l.2 ∙ (tree_prefix xs c.count (skip_cost c.item.skipped) p ∙ ap bytes same.0),
         l.1 ∙ ap Some same.1,
       )
-  raw_whole (Err e) c exact = λ xs known t rest s.
-      if_some (input_error_of e)
-      (λ z. (b.known ≡ Some xs) × ((left : List ℕ) × SkippingRejects xs a.budget z left)) (λ z. ⊥)
+  raw_whole (Err e) c exact = λ xs known t rest s. if_some _ (ExactStops a b xs) (λ z. ⊥)
       (λ z h. not_both xs a.budget t rest z h.1.0 s h.1.1) (exact_stop e c exact xs known)
 
   pub raw_exact : (r : Result V (DecodeError E)) → Captures content a b r → IsExact false a
@@ -366,21 +342,16 @@ module _ {V E : Type 0} (content : V → List ℕ) (a b : View) where
       let p = item_at content a b v c xs known in
       not_both xs a.budget p.of_tree (drop c.count xs) z left
       (skips_read xs c.count (skip_cost c.item.skipped) a.budget p c.item.skips.fits) s
-  raw_exact (Err e) c exact = λ xs known z left s.
-      if_some (input_error_of e) (λ f. (b.known ≡ Some xs) × ((left : List ℕ) × SkippingRejects xs
-      a.budget f left)) (λ f. (f ≡ z) × (b.known ≡ Some xs)) (λ f h. (
-        rejects_one xs a.budget f z
-            h.1.0 left h.1.1 s,
-        h.0,
-      )) (exact_stop e c exact xs known)
+  raw_exact (Err e) c exact = λ xs known z left s. if_some _ (ExactStops a b xs)
+      (λ f. (f ≡ z) × (b.known ≡ Some xs))
+      (λ f h. (rejects_one xs a.budget f z h.1.0 left h.1.1 s, h.0)) (exact_stop e c exact xs known)
 
 -- ---- an empty prefix
 
 -- an empty short prefix is as an empty long one
-pub lends_nothing : (a b : View) (answer : Option Reference) (lent : Reference)
-    (shown : Bor (List ℕ)) → answer ≡ Some lent → lent ≡ Short shown
-    → MatchOption answer (ReaderFails a b) (λ s. Shows (bytes_of s) a b)
-    → IfKnown a.known (IsPrefix most (bytes_of lent))
+pub lends_nothing : (a b : View) (answer : Option Reference) (lent : Reference) (shown : Bor
+    (List ℕ)) → answer ≡ Some lent → lent ≡ Short shown → MatchOption answer (ReaderFails a b)
+    (λ s. Shows (bytes_of s) a b) → IfKnown a.known (IsPrefix most (bytes_of lent))
     → (IsTrue a.zero_copy → IsLong lent) → length shown.now ≡ 0 → FillsLong most [] a b
 lends_nothing a b answer lent shown e f shows prefix long none =
     let empty : bytes_of lent ≡ [] = ap bytes_of f ∙ nil_from_length shown.now none in

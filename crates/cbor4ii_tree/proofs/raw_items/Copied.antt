@@ -41,8 +41,7 @@ module _ {E : Type 0} (a b : View) where
   copy_whole (Err e) (inl n) exact = raw_whole boxed_content a b (Err e) n exact
   copy_whole (Err e) (inr l) exact =
       λ xs known t rest s. subst (λ (z : DecodeError E). Answered {V = BoxedRawValue}
-      (λ v. (boxed_content v ≡ bytes t) × (b.known ≡ Some rest)) (λ _. ⊥) (Err z))
-      (sym l.lacks) tt
+      (λ v. (boxed_content v ≡ bytes t) × (b.known ≡ Some rest)) (λ _. ⊥) (Err z)) (sym l.lacks) tt
 
   copy_exact : (r : Result BoxedRawValue (DecodeError E)) → CapturesCopy a b r → IsExact false a
       → IfKnown a.known (λ xs. (e : InputError) (left : List ℕ) → SkippingRejects xs a.budget e left
@@ -64,9 +63,8 @@ module _ {E : Type 0} (a b : View) where
       → IfKnown a.known (λ xs. Rejected (RejectedPrefix a xs) r)
   copy_rejected (Ok v) c = λ xs known. tt
   copy_rejected (Err e) (inl n) = raw_rejected boxed_content a b (Err e) n
-  copy_rejected (Err e) (inr l) = λ xs known.
-      subst (λ (z : DecodeError E). Rejected {V = BoxedRawValue} (RejectedPrefix a xs) (Err z))
-      (sym l.lacks) tt
+  copy_rejected (Err e) (inr l) = λ xs known. subst (λ (z : DecodeError E). Rejected
+      {V = BoxedRawValue} (RejectedPrefix a xs) (Err z)) (sym l.lacks) tt
 
   copy_after : (r : Result BoxedRawValue (DecodeError E)) → CapturesCopy a b r
       → IfErr r (λ e. IsTrue (is_out_of_memory e) → IfKnown a.known (SkippedTo a b))
@@ -78,8 +76,7 @@ module _ {E : Type 0} (a b : View) where
       let p = item_at (λ (z : List ℕ). z) a b l.item c xs known in (
         p.of_tree,
         drop c.count xs,
-        skips_read xs c.count (skip_cost c.item.skipped) a.budget p
-            c.item.skips.fits,
+        skips_read xs c.count (skip_cost c.item.skipped) a.budget p c.item.skips.fits,
         (c.lends.at xs known).1,
       )
 

@@ -15,8 +15,7 @@ use mir.Syntax.{a_type, dcons, dnil}
 use prog.{Model.Model, Wired.Wired, Wp.{Tables, WpFn}}
 use types.Logic.{Logic}
 use Rattle.cbor4ii_items.specs.Laws.Forward.{lent, lent_fn, result_fit}
-use Rattle.cbor4ii_tree.proofs.{lend_raw.take_raw.Met.met, lend_raw.take_raw.Symbol.name as #g}
-use Rattle.cbor4ii_tree.proofs.lend_raw.take_raw.Symbol.{code as g_code}
+use Rattle.cbor4ii_tree.proofs.lend_raw.take_raw.{Met.met, Symbol.{name as #g, code as g_code}}
 use denote.Param.Glue as Glue
 use Rattle.std.proofs.result.Result.TheLaws as ResultLaws
 use Rattle.std.specs.contracts.alloc.Global as Global
@@ -90,8 +89,7 @@ module _ {M : Type 1} (𝓤 : Ura M) (𝓛 : Logic 𝓤) (𝓜 : Model 𝓤 𝓛
         (via 𝓤 q (snd∗ 𝓤 O q) (pin_of 𝓤 2 κs.1.1 (R.lives, (E.lives, tt)) (P κs) (emp 𝓤))) (λ p.
         let b = bT κs p in
         let LA : Laws (At κ) = arg_laws δ yes (T κ) (LT κ) (same κ) in
-        let m = met 𝓤 𝓛 𝓜 𝓡 wired (At κ) R E LA LR LE (gT κ) dT gS dS gD dD dd
-        (record {
+        let m = met 𝓤 𝓛 𝓜 𝓡 wired (At κ) R E LA LR LE (gT κ) dT gS dS gD dD dd (record {
           S-Error-lives = b.S-Error-lives;
           lend_prefix = b.lend_prefix;
           prefix = b.prefix;

@@ -4,9 +4,9 @@ use Rattle.std.proofs.Common.{subst, arith, length-append}
 use Rattle.cbor4ii_rw.specs.{Long.FillsLong, Reader.KeepsAllButBudget, View.View}
 use Rattle.cbor4ii_rw.specs.declared.error.DecodeError.{DecodeError}
 use Rattle.cbor4ii_items.specs.{Decoding.Rejects, InputError.{input_error_of, is_out_of_memory}}
-use Rattle.cbor4ii_tree.specs.{BoxedRaw.RejectsRawUnlent, Cost.Budget, Raw.RejectsPrefix}
-use Rattle.cbor4ii_tree.specs.{SkippingRejects.SkippingRejects, Tree.bytes}
-use Rattle.cbor4ii_tree.specs.{Laws.Initials.length-bytes-pos, Raw.{most, SkipsPrefix}}
+use Rattle.cbor4ii_tree.specs.{BoxedRaw.RejectsRawUnlent, Cost.Budget, Raw.{RejectsPrefix, most}}
+use Rattle.cbor4ii_tree.specs.{Raw.SkipsPrefix, SkippingRejects.SkippingRejects, Tree.bytes}
+use Rattle.cbor4ii_tree.specs.Laws.Initials.{length-bytes-pos}
 use Rattle.cbor4ii_tree.proofs.raw_items.Captured.{if_some}
 
 -- no item stands in no bytes
@@ -30,10 +30,9 @@ none_rejects {a = a} {m = m} {k = k} {e = e} none is lent rejects same =
     let s = subst (λ z. RejectsPrefix z m.budget e) (is ∙ none) rejects in (
       s.memory,
       record {
-        at = λ xs known.
-            if_some (input_error_of e) (λ z. (left : List ℕ) × SkippingRejects [] m.budget z left)
-            (λ z. (rest : List ℕ) × (k.known ≡ Some rest) × RejectsRawUnlent xs a.budget z rest)
-            (λ z h. (
+        at = λ xs known. if_some (input_error_of e)
+            (λ z. (left : List ℕ) × SkippingRejects [] m.budget z left) (λ z.
+            (rest : List ℕ) × (k.known ≡ Some rest) × RejectsRawUnlent xs a.budget z rest) (λ z h. (
               xs,
               same.known ∙ l.shows.known xs known,
               (

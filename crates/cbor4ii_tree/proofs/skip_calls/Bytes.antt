@@ -2,19 +2,14 @@
 use Rattle.std.proofs.Common.{◌≡◌, ℕ, suc, ◌+◌, ◌-◌, ◌*◌, ◌^◌, ◌<◌, ◌≤◌, List, [], ◌∷◌, ◌++◌}
 use Rattle.std.proofs.Common.{length, true, false, refl, sym, ap, ◌∙◌, subst, arith, append_assoc}
 use Rattle.std.proofs.Common.{length-append, ltb, ltb-true, ltb-false, lt-ltb, pow-suc, Bool}
-use Rattle.std.proofs.lemmas.List.Sums.{fold-append}
-use Rattle.std.proofs.Math.Nat.{pow-le-pow_right}
-use Rattle.cbor4ii_rw.specs.declared.error.Len.{Len}
-use Rattle.cbor4ii_rw.specs.declared.error.Len.TheVariants.{Small, Big}
-use Rattle.cbor4ii_items.specs.Head.{Width, byte_count}
-use Rattle.cbor4ii_items.specs.Initial.{Info, info_of, wide, indefinite_ended, reserved}
-use Rattle.cbor4ii_items.specs.InputError.{InputError, eof, len_of}
+use Rattle.std.proofs.{lemmas.List.Sums.fold-append, Math.Nat.pow-le-pow_right}
+use Rattle.cbor4ii_rw.specs.declared.error.Len.{Len, TheVariants.{Small, Big}}
+use Rattle.cbor4ii_items.specs.{Head.Width, Initial.{info_of, wide}, InputError.{InputError, eof}}
+use Rattle.cbor4ii_items.specs.InputError.{len_of}
 use Rattle.cbor4ii_tree.proofs.heads.Means.{WidthSays, InfoSays, info_says}
-use Rattle.cbor4ii_tree.specs.Skipping.{additional_of}
-use Rattle.cbor4ii_tree.specs.declared.skip.initial.Additional.TheVariants.{Wide}
-use Rattle.cbor4ii_tree.specs.Rejections.{Missing, MissingAll}
-use Rattle.cbor4ii_tree.specs.HeadParts.{DropsBytes, DropsSome, TakesByte, NoByte, TakesNumber}
 use Rattle.cbor4ii_tree.proofs.parts.Prefixes.{IsBytes-append}
+use Rattle.cbor4ii_tree.specs.{Rejections.{Missing, MissingAll}, HeadParts.{DropsBytes, DropsSome}}
+use Rattle.cbor4ii_tree.specs.HeadParts.{TakesByte, NoByte, TakesNumber}
 
 pub len_is : (n : ℕ) (l : Len) → (n < 65536 → l ≡ Small n) → (65536 ≤ n → l ≡ Big) → l ≡ len_of n
 len_is n l s b = by_size (ltb n 65536) refl
@@ -46,9 +41,8 @@ dropped_more count missing n xs ys zs d s = (
   },
 )
 
-pub dropped_cut : (name : List ℕ) (count missing : ℕ) (xs ys : List ℕ) (e : InputError)
-    (rest : List ℕ)
-    → Dropped count missing xs ys → Missing name missing ys e rest → Missing name count xs e rest
+pub dropped_cut : (name : List ℕ) (count missing : ℕ) (xs ys : List ℕ) (e : InputError) (rest : List
+    ℕ) → Dropped count missing xs ys → Missing name missing ys e rest → Missing name count xs e rest
 dropped_cut name count missing xs ys e rest d m =
     let size : length xs ≡ d.0 + length ys =
     omega (arith, ap length d.2.is, length-append d.2.content ys, d.2.size) in
@@ -104,10 +98,3 @@ small_number value i h le =
 
 pub says_width : (i : ℕ) (w : Width) → info_of i ≡ wide w → WidthSays w i
 says_width i w e = subst (InfoSays i) e (info_says i)
-
--- the additional information says a width
-pub wide_is : (i : Info) (count : ℕ) → Wide count ≡ additional_of i
-    → (w : Width) × (i ≡ wide w) × (byte_count w ≡ count)
-wide_is (wide w) count e = (w, refl, cc)
-wide_is indefinite_ended count e = cc
-wide_is reserved count e = cc

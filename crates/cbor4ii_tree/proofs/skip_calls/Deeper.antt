@@ -1,22 +1,23 @@
 -- Items in the last place of others: calls that go on with them under steps that are kept.
 use Rattle.std.proofs.Common.{◌≡◌, ℕ, zero, suc, ◌+◌, ◌-◌, ◌≤◌, ◌<◌, List, ◌++◌, Result, Ok, Err}
-use Rattle.std.proofs.Common.{Option, Some, None, true, IfSome, refl, sym, ap, ◌∙◌, subst, arith}
+use Rattle.std.proofs.Common.{Some, None, true, refl, sym, ap, ◌∙◌, subst, Bool, arith}
 use Rattle.cbor4ii_rw.specs.{Reader.{KeepsAllButBudget, StepsIn, step_back}, View.View}
 use Rattle.cbor4ii_rw.specs.declared.error.DecodeError.{DecodeError}
 use Rattle.cbor4ii_items.specs.Laws.UnderStep.{step_again, step_unbound}
 use Rattle.cbor4ii_tree.proofs.parts.Joined.{join, count-join, each-join, bytes-join}
 use Rattle.cbor4ii_tree.proofs.{parts.Rejecting.in_count, skip_calls.Doing.{Reached, reached_by}}
 use Rattle.cbor4ii_tree.proofs.skip_calls.Doing.{reached_then, reached_as, does_ok, does_err}
-use Rattle.cbor4ii_tree.proofs.skip_calls.Doing.{does_around, steps_in}
-use Rattle.cbor4ii_tree.proofs.skip_calls.Parts.{items_join, items_none, items_more, items_stop}
-use Rattle.cbor4ii_tree.proofs.{skip_calls.Prefixes.{keeps_alike, keeps_then}, skip_calls.Runs.Same}
-use Rattle.cbor4ii_tree.proofs.skip_calls.Runs.{same_start, some_items, into}
-use Rattle.cbor4ii_tree.specs.{Skipping.RejectsSkippingItems, SkippingRejects.Skippable}
-use Rattle.cbor4ii_tree.specs.{Tree.bytes_all, declared.skip.items.Went.Went, Ahead.TakesHead}
-use Rattle.cbor4ii_tree.specs.Ahead.{CountsAmong, SkipsSome, RejectsSome, RejectsSomeUnder}
-use Rattle.cbor4ii_tree.specs.{Ahead.GoesUnder, Cost.{Budget, step_in}, Deeper.{Deeper, GoesOn}}
-use Rattle.cbor4ii_tree.specs.{Deeper.budgeted, Does.{Accepting, Does, answered}}
-use Rattle.cbor4ii_tree.specs.{Rejections.Stopping, Skipping.{SkipsItems, RejectsSkippingOne}}
+use Rattle.cbor4ii_tree.proofs.skip_calls.Doing.{does_around, does_between, steps_in}
+use Rattle.cbor4ii_tree.proofs.skip_calls.Doing.{still_rejected, with, keeps_alike, keeps_then}
+use Rattle.cbor4ii_tree.proofs.skip_calls.Doing.{stays_put, apart_with, apart_gains}
+use Rattle.cbor4ii_tree.proofs.skip_calls.Parts.{items_join, items_none, items_one, first_stop}
+use Rattle.cbor4ii_tree.proofs.skip_calls.Runs.{some_of, steps}
+use Rattle.cbor4ii_tree.specs.Skipping.{RejectsSkippingItems, SkipsItems}
+use Rattle.cbor4ii_tree.specs.{SkippingRejects.Skippable, Tree.bytes_all, Ahead.TakesHead}
+use Rattle.cbor4ii_tree.specs.Ahead.{SkipsSome, RejectsSome, RejectsSomeUnder, GoesUnder}
+use Rattle.cbor4ii_tree.specs.{Ahead.{CountsSome, CountsNone, CountsWent}, Cost.{Budget, step_in}}
+use Rattle.cbor4ii_tree.specs.{Deeper.{Deeper, GoesOn, budgeted}, Does.{Accepting, Does, DoesApart}}
+use Rattle.cbor4ii_tree.specs.{Does.{DoesUnder, Lowers, Taking}, Rejections.Stopping}
 use Rattle.cbor4ii_tree.specs.declared.skip.items.Went.TheVariants.{Into}
 use Rattle.cbor4ii_tree.specs.declared.skip.initial.After.TheVariants as trailing
 use Rattle.cbor4ii_tree.specs.declared.ahead.Among.TheVariants as among
@@ -66,30 +67,34 @@ does_budgeted : {V E : Type 0} (s : Budget) (A : Accepting V) (S : Stopping)
     {r : Result V (DecodeError E)} {m : View} (n : View) → (s ≡ None → m.budget ≡ None)
     → Does A S m (budgeted m.budget n) r → Does A S (budgeted s m) (budgeted s n) r
 does_budgeted s A S {m = m} n unbound d =
-    does_around A A S S (λ xs ys v h. h) (λ xs e rest h. h) (alike_without s m)
-    (alike_both m.budget s n) unbound (λ same. refl) d
+    does_between A S (alike_without s m) (alike_both m.budget s n) unbound (λ same. refl) d
 
--- its own budget is given back
+-- its own budget is given back, or left out
 pub does_back : {V E : Type 0} (A : Accepting V) (S : Stopping) {r : Result V (DecodeError E)}
     {a b c : View} → KeepsAllButBudget b c → c.budget ≡ a.budget
     → Does A S a (budgeted a.budget b) r → Does A S a c r
-does_back A S {a = a} {b = b} {c = c} outward restored d =
-    does_around A A S S (λ xs ys v h. h) (λ xs e rest h. h) (keeps_alike a a refl)
+does_back A S {a = a} {b = b} outward restored d =
+    does_between A S (keeps_alike a a refl)
     (keeps_then (alike_without a.budget b) outward) (λ none. none) (λ same. restored) d
+
+does_without : {V E : Type 0} (A : Accepting V) (S : Stopping) {r : Result V (DecodeError E)}
+    {a b : View} → Does A S a b r → Does A S a (budgeted a.budget b) r
+does_without A S {a = a} {b = b} d =
+    does_between A S (keeps_alike a a refl)
+    (alike_within a.budget b) (λ none. none) (λ same. refl) d
 
 -- ---- going on
 
-goes_then : (total left now : ℕ) (a m n : Budget) (xs ys zs : List ℕ) → GoesOn total a m xs left ys
-    → GoesOn left m n ys now zs → GoesOn total a n xs now zs
+goes_then : (total left now : ℕ) (a m n : Budget) (xs ys zs : List ℕ) → GoesOn total m a xs left ys
+    → GoesOn left n m ys now zs → GoesOn total n a xs now zs
 goes_then total left now a m n xs ys zs g h = record {
-  skips = λ rest s.
-      g.skips rest (h.skips rest s);
+  skips = λ rest s. g.skips rest (h.skips rest s);
   rejects = λ e rest s. g.rejects e rest (h.rejects e rest s);
 }
 
 -- some of them were skipped
 goes_past : (total left some : ℕ) (budget inner : Budget) (xs ys : List ℕ) → inner ≡ budget
-    → left + some ≡ total → SkipsItems some budget xs ys → GoesOn total budget inner xs left ys
+    → left + some ≡ total → SkipsItems some budget xs ys → GoesOn total inner budget xs left ys
 goes_past total left some budget inner xs ys same sum h = record {
   skips = λ rest s. subst (λ n. SkipsItems n budget xs rest) (omega (arith, sum))
       (items_join some left budget xs ys rest h (subst (λ b. SkipsItems left b ys rest) same s));
@@ -103,108 +108,85 @@ goes_past total left some budget inner xs ys same sum h = record {
 -- the head of the last was taken
 goes_into : (total n : ℕ) (budget between inner : Budget) (xs ys : List ℕ) → total ≡ 1
     → inner ≡ between → step_in budget ≡ Some between → TakesHead between xs (trailing.Items n) ys
-    → GoesOn total budget inner xs n ys
+    → GoesOn total inner budget xs n ys
 goes_into total n budget between inner xs ys last same step h = record {
-  skips = λ rest s. subst (λ k. SkipsItems k budget xs rest) (omega (arith, last))
-      (items_more 0 budget xs xs rest (items_none budget xs)
+  skips = λ rest s. subst (λ k. SkipsItems k budget xs rest) (sym last) (items_one budget xs rest
       (h.leads.skips rest (subst (λ b. SkipsItems n b ys rest) same s) budget step));
-  rejects = λ e rest s. items_stop 0 total budget xs xs e rest (omega (arith, last))
-      (items_none budget xs)
+  rejects = λ e rest s. first_stop total budget xs e rest (omega (arith, last))
       (h.leads.rejects e rest (subst (λ b. RejectsSkippingItems n b ys e rest) same s) budget step);
 }
 
 -- ---- one look further
 
-module _ (left : ℕ) {a b : View} {sa sb : Budget} (e : a.budget ≡ sa) (f : b.budget ≡ sb)
-    (takes : StepsIn sa sb true) (inward : KeepsAllButBudget a b) where
-  steps : StepsIn a.budget b.budget true
-  steps =
-      subst (λ o. StepsIn o b.budget true) (sym e) (subst (λ o. StepsIn sa o true) (sym f) takes)
-
+module _ {F S : Type 0} (view : F → S → View) (own : S → View)
+    (same : (f : F) (s : S) → (view f s).budget ≡ (own s).budget)
+    (moved : (f : F) (s t : S) → KeepsAllButBudget (own s) (own t)
+    → KeepsAllButBudget (view f s) (view f t)) where
   -- the head of the last item was taken
-  pub gone_into : {E : Type 0} (n : ℕ) {went : Went} {c : View} → left ≡ 1 → went ≡ Into n → Does
-      {E = E} (GoesUnder (among.Items left) b.budget) (RejectsSomeUnder (among.Items left) b.budget)
-      b c (Ok went) → Does {E = E} (GoesOn left a.budget c.budget) (RejectsSkippingItems left
-      a.budget) a (budgeted a.budget c) (Ok n)
-  gone_into n {went = went} {c = c} last is d =
-      let same : c.budget ≡ b.budget = d.moves.by.budget in
-      does_around (λ xs k ys. (k ≡ n) × GoesOn left a.budget c.budget xs n ys) (GoesOn left a.budget
-      c.budget) (RejectsSkippingItems left a.budget) (RejectsSkippingItems left a.budget)
-      (λ xs ys k h. subst (λ j. GoesOn left a.budget c.budget xs j ys) (sym h.0) h.1)
-      (λ xs e rest h. h) inward (alike_within a.budget c) (λ none. step_unbound a.budget b.budget
-      steps none) (λ _. refl) (does_ok _ _ (reached_as (λ xs ys. TakesHead b.budget xs
-      (trailing.Items n) ys) _ (λ xs ys h. (
+  pub gone_into : {E : Type 0} (left n : ℕ) {f : F} {s t : S} {apart : Bool} {i c : View}
+      → KeepsAllButBudget (own s) (own t) → StepsIn (own s).budget (own t).budget true → left ≡ 1
+      → DoesApart {E = E} (GoesUnder (among.Items left)) (RejectsSomeUnder (among.Items left))
+      (CountsWent (among.Items left)) apart (own t) i (view f t) c (Ok (Into n))
+      → DoesApart {E = E} (GoesOn left c.budget) (RejectsSkippingItems left) Lowers apart (own s) i
+      (view f s) (budgeted (view f s).budget c) (Ok n)
+  gone_into left n {f = f} {s = s} {t = t} {c = c} inward takes last d =
+      let step = steps view own same f s t takes in
+      let kept : c.budget ≡ (view f t).budget = d.does.moves.by.budget in
+      let into = moved f s t inward in
+      apart_with (λ _. n) (does_around (λ xs k ys. (k ≡ n) × GoesOn left c.budget (view f s).budget
+      xs n ys) _ (RejectsSkippingItems left (view f s).budget) _ (λ xs ys k h. subst
+      (λ j. GoesOn left c.budget (view f s).budget xs j ys) (sym h.0) h.1) (λ xs e rest h. h) into
+      (alike_within (view f s).budget c) (λ none. step_unbound (view f s).budget
+      (view f t).budget step none) (λ _. refl) (does_ok _ _ (reached_as _ _ (λ xs ys h. (
         refl,
-        goes_into left n a.budget b.budget c.budget xs ys last same
-            (steps_in a.budget b.budget steps) h,
-      )) (into (among.Items left) n is d)))
+        goes_into left n (view f s).budget (view f t).budget c.budget xs ys last kept
+            (steps_in (view f s).budget (view f t).budget step) h,
+      )) (reached_by d.does)))) (omega (arith, d.gains, into.bound)) (λ _. inward) d
 
-module _ (left : ℕ) {a d : View} where
+module _ {E : Type 0} (left : ℕ) {apart : Bool} {o i a d : View} (any : 1 ≤ left) where
   -- some were skipped
-  pub gone_past : {E : Type 0} (some : ℕ) → 1 ≤ some → some ≤ left → Does {E = E} (SkipsSome
-      (among.Items left) a.budget) (RejectsSome (among.Items left) a.budget) a d (Ok some) → Does
-      {E = E} (GoesOn left a.budget d.budget) (RejectsSkippingItems left a.budget) a
-      (budgeted a.budget d) (Ok (left - some))
-  gone_past some any few k =
-      let same : d.budget ≡ a.budget = k.moves.by.budget in
-      does_around (GoesOn left a.budget d.budget) (GoesOn left a.budget d.budget)
-      (RejectsSkippingItems left a.budget) (RejectsSkippingItems left a.budget) (λ xs ys v h. h)
-      (λ xs e rest h. h) (keeps_alike a a refl) (alike_within a.budget d) (λ none. none) (λ _. refl)
-      (does_ok _ _ (reached_as
-      (λ xs ys. SkipsSome (among.Items left) a.budget xs some ys) _ (λ xs ys h. goes_past left
-      (left - some) some a.budget d.budget
-      xs ys same (omega (arith, few)) (some_items (among.Items left) a.budget xs some ys any h))
-      (reached_by k)))
-
-  -- or it failed
-  pub gone_nowhere : {E : Type 0} {inner : Budget} {e : DecodeError E} → 1 ≤ left → Does {V = ℕ}
-      (SkipsSome (among.Items left) a.budget) (RejectsSome (among.Items left) a.budget) a d (Err e)
-      → Does {V = ℕ} (GoesOn left a.budget inner)
-      (RejectsSkippingItems left a.budget) a (budgeted a.budget d) (Err e)
-  gone_nowhere {inner = inner} any k =
-      does_around (GoesOn left a.budget inner) (GoesOn left a.budget inner) (RejectsSkippingItems
-      left a.budget) (RejectsSkippingItems left a.budget) (λ xs ys v h. h) (λ xs e rest h. h)
-      (keeps_alike a a refl) (alike_within a.budget d) (λ none. none) (λ _. refl) (does_err Same _ _
-      (RejectsSkippingOne a.budget) _ (λ xs ys z rest e s. items_stop 0 left a.budget xs xs z rest
-      (omega (arith, any)) (items_none a.budget xs) (subst (λ x. RejectsSkippingOne a.budget x z
-      rest) e s)) (same_start a) k)
+  pub gone : {r : Result ℕ (DecodeError E)} → DoesApart (SkipsSome (among.Items left))
+      (RejectsSome (among.Items left)) (CountsSome (among.Items left)) apart o i a d r
+      → DoesApart (GoesOn left d.budget) (RejectsSkippingItems left) Lowers apart o i a
+      (budgeted a.budget d) (with (λ n. left - n) r)
+  gone {r = Ok n} k =
+      let same : d.budget ≡ a.budget = k.does.moves.by.budget in
+      apart_with (λ n. left - n) (does_without _ _ (does_ok _ _ (reached_as _ _ (λ xs ys h.
+      goes_past left (left - n) n a.budget d.budget xs ys same (omega (arith, k.gains.0.1)) h)
+      (some_of (among.Items left) n k k.gains.0.0)))) (k.gains.1 k.gains.0.0) stays_put k
+  gone {r = Err e} k =
+      apart_with (λ n. left - n) (does_without _ _ (still_rejected _ _ _ _
+      (λ xs z rest s. first_stop left a.budget xs z rest any s) k.does)) tt stays_put k
 
   -- no step was left
-  pub gone_without : {E : Type 0} {inner : Budget} (failure : Option (DecodeError E)) (r : Option ℕ)
-      → 1 ≤ left → IfSome r (λ n. n ≡ 0) → IfSome r (λ n. CountsAmong (among.Items left) n) → Does
-      (SkipsSome (among.Items left) a.budget) (RejectsSome (among.Items left) a.budget) a d
-      (answered r failure) → Does (GoesOn left a.budget inner) (RejectsSkippingItems left a.budget)
-      a (budgeted a.budget d) (answered r failure)
-  gone_without failure (Some n) any none some k = absurd (omega (arith, none, some.0))
-  gone_without failure None any none some k = gone_nowhere any k
+  pub gone_without : {r : Result ℕ (DecodeError E)} → DoesApart (SkipsSome (among.Items left))
+      (RejectsSome (among.Items left)) (CountsNone (among.Items left)) apart o i a d r → DoesApart
+      (GoesOn left d.budget) (RejectsSkippingItems left) Lowers apart o i a (budgeted a.budget d) r
+  gone_without {r = Ok n} k = absurd (omega (arith, k.gains.0.0, k.gains.1))
+  gone_without {r = Err e} k = gone
+      (apart_gains (λ n h. (h.0, λ some. absurd (omega (arith, some, h.1)))) k)
 
 -- ---- all of them
 
-module _ (total left : ℕ) {a m : View}
-    (p : Reached (λ xs ys. GoesOn total a.budget m.budget xs left ys) a (budgeted a.budget m)) where
-  pub gone_on : {E : Type 0} (now : ℕ) {n : View} → Does {E = E} (GoesOn left m.budget n.budget)
-      (RejectsSkippingItems left m.budget) m (budgeted m.budget n) (Ok now)
-      → (a.budget ≡ None → m.budget ≡ None)
-      → Reached (λ xs ys. GoesOn total a.budget n.budget xs now ys) a (budgeted a.budget n)
+module _ {E : Type 0} (total left : ℕ) {a m : View}
+    (p : Reached (λ xs ys. GoesOn total m.budget a.budget xs left ys) a (budgeted a.budget m)) where
+  pub gone_on : (now : ℕ) {n : View} → DoesUnder {E = E} (GoesOn left n.budget)
+      (RejectsSkippingItems left) m (budgeted m.budget n) (Ok now) → (a.budget ≡ None → m.budget
+      ≡ None) → Reached (λ xs ys. GoesOn total n.budget a.budget xs now ys) a (budgeted a.budget n)
   gone_on now {n = n} d unbound =
-      reached_then (λ xs ys. GoesOn total a.budget m.budget xs left ys) (λ xs ys. GoesOn left
-      m.budget n.budget xs now ys) _ (λ xs ys zs g h. goes_then total left now a.budget m.budget
-      n.budget xs ys zs g h) p (reached_by (does_budgeted a.budget (GoesOn left m.budget n.budget)
-      (RejectsSkippingItems left m.budget) n unbound d))
+      reached_then _ _ _ (λ xs ys zs g h. goes_then total left now a.budget m.budget n.budget xs ys
+      zs g h) p (reached_by (does_budgeted a.budget _ _ n unbound d))
 
-  pub gone_no_further : {E : Type 0} {e : DecodeError E} {n : View}
-      → (a.budget ≡ None → m.budget ≡ None) → Does {V = ℕ} (GoesOn left m.budget n.budget)
-      (RejectsSkippingItems left m.budget) m (budgeted m.budget n) (Err e)
-      → Does {V = Unit {0}} (λ xs _ ys. SkipsItems total a.budget xs ys)
-      (RejectsSkippingItems total a.budget) a (budgeted a.budget n) (Err e)
-  gone_no_further {n = n} unbound d =
-      does_err (λ xs ys. GoesOn total a.budget m.budget xs left ys) _ _ (RejectsSkippingItems left
-      m.budget) _ (λ xs ys z rest g s. g.rejects z rest s) p (does_budgeted a.budget (GoesOn left
-      m.budget n.budget) (RejectsSkippingItems left m.budget) n unbound d)
+  pub gone_no_further : {e : DecodeError E} {n : View} → DoesUnder {V = ℕ} (GoesOn left n.budget)
+      (RejectsSkippingItems left) m (budgeted m.budget n) (Err e)
+      → (a.budget ≡ None → m.budget ≡ None) → DoesUnder (Taking (SkipsItems total))
+      (RejectsSkippingItems total) a (budgeted a.budget n) (Err e)
+  gone_no_further {n = n} d unbound =
+      does_err _ _ _ (RejectsSkippingItems left m.budget) _ (λ xs ys z rest g s. g.rejects z rest s)
+      p (does_budgeted a.budget _ _ n unbound d)
 
-  pub all_gone : {E : Type 0} → left ≡ 0 → Does {E = E} (λ xs (_ : Unit {0}) ys. SkipsItems total
-      a.budget xs ys) (RejectsSkippingItems total a.budget) a (budgeted a.budget m) (Ok tt)
+  pub all_gone : left ≡ 0 → DoesUnder {E = E} (Taking (SkipsItems total))
+      (RejectsSkippingItems total) a (budgeted a.budget m) (Ok tt)
   all_gone none =
-      does_ok _ _ (reached_as (λ xs ys. GoesOn total a.budget m.budget xs left ys) _ (λ xs ys g.
-      g.skips ys (subst (λ n. SkipsItems n m.budget ys ys) (sym none)
-      (items_none m.budget ys))) p)
+      does_ok _ _ (reached_as _ (SkipsItems total a.budget) (λ xs ys g.
+      g.skips ys (subst (λ n. SkipsItems n m.budget ys ys) (sym none) (items_none m.budget ys))) p)

@@ -1,18 +1,19 @@
 -- Calls of decoders whose items nest, one after another.
-use Rattle.std.proofs.Common.{◌≡◌, ℕ, zero, suc, ◌-◌, ◌<◌, List, ◌∷◌, drop, Option, Some, None}
-use Rattle.std.proofs.Common.{Result, Ok, Err, true, false, IsTrue, refl, sym, ap, ◌∙◌, subst}
-use Rattle.std.proofs.Common.{arith, IfSome, IfOk, IfErr}
-use Rattle.cbor4ii_rw.specs.{View.IfKnown, declared.error.DecodeError.DecodeError}
-use Rattle.cbor4ii_rw.specs.{Reader.{KeepsAllButBudget, StepsIn, step_back, Advances}, View.View}
+use Rattle.std.proofs.Common.{◌≡◌, ℕ, zero, suc, ◌+◌, ◌-◌, ◌<◌, ◌≤◌, List, ◌∷◌, drop, Option, Some}
+use Rattle.std.proofs.Common.{None, Result, Ok, Err, Bool, true, false, IsTrue, refl, sym, ap, ◌∙◌}
+use Rattle.std.proofs.Common.{subst, arith, IfSome, IfOk}
+use Rattle.cbor4ii_rw.specs.{View.{IfKnown, View}, declared.error.DecodeError.DecodeError}
+use Rattle.cbor4ii_rw.specs.Reader.{KeepsAllButBudget, StepsIn, step_back, Advances}
 use Rattle.cbor4ii_rw.specs.declared.error.DecodeError.TheVariants.{OutOfMemory}
 use Rattle.cbor4ii_items.specs.{Budget.CostFits, Decoding.{Sound, Rejects}, InputError.InputError}
 use Rattle.cbor4ii_items.specs.InputError.{input_error_of, is_read, is_depth_overflow}
 use Rattle.cbor4ii_items.specs.{InputError.depth_overflow, Laws.Running.{kept_alike, unread}}
-use Rattle.cbor4ii_items.specs.{Laws.Running.{peeked, kept_taken}, Laws.Steps.moves_then}
-use Rattle.cbor4ii_items.specs.Laws.Steps.{moves_err, kept_then, counted_none}
-use Rattle.cbor4ii_items.specs.Laws.UnderStep.{step_again, step_unbound, moves_around, no_step}
-use Rattle.cbor4ii_items.specs.{Moves.{Kept, Moves, is_failure}, Reading.{Runs, peek_at}}
-use Rattle.cbor4ii_tree.specs.{Cost.step_in, Does.{Accepting, Does}, Rejections.Stopping}
+use Rattle.cbor4ii_items.specs.Laws.{Running.{peeked, kept_taken}, Steps.{moves_then, moves_err}}
+use Rattle.cbor4ii_items.specs.Laws.{Steps.{kept_then, counted_none}, UnderStep.step_again}
+use Rattle.cbor4ii_items.specs.{Laws.UnderStep.{step_unbound, moves_around, no_step}, Moves.Kept}
+use Rattle.cbor4ii_items.specs.{Moves.{Moves, is_failure}, Reading.{Runs, peek_at}}
+use Rattle.cbor4ii_tree.specs.{Cost.{Budget, step_in}, Does.{Accepting, Does, DoesApart, DoesUnder}}
+use Rattle.cbor4ii_tree.specs.{Does.{Spares, Lowers}, Rejections.Stopping}
 
 -- Some calls went well: what was taken is reported by P.
 pub record Reached (P : List ℕ → List ℕ → Type 0) (a m : View) : Type 0 where
@@ -27,9 +28,8 @@ pub reached_by : {V E : Type 0} {A : Accepting V} {S : Stopping} {a m : View} {v
     → Does {E = E} A S a m (Ok v) → Reached (λ xs ys. A xs v ys) a m
 reached_by d = record { kept = d.moves.by; at = d.ok }
 
-pub reached_then : (P Q R : List ℕ → List ℕ → Type 0) {a m b : View}
-    → ((xs ys zs : List ℕ) → P xs ys → Q ys zs → R xs zs) → Reached P a m → Reached Q m b
-    → Reached R a b
+pub reached_then : (P Q R : List ℕ → List ℕ → Type 0) {a m b : View} → ((xs ys zs : List ℕ)
+    → P xs ys → Q ys zs → R xs zs) → Reached P a m → Reached Q m b → Reached R a b
 reached_then P Q R f p q = record {
   kept = kept_then p.kept q.kept;
   at = λ xs known.
@@ -47,87 +47,78 @@ pub does_ok : {V E : Type 0} (A : Accepting V) (S : Stopping) {a b : View} {v : 
     → Reached (λ xs ys. A xs v ys) a b → Does {E = E} A S a b (Ok v)
 does_ok A S p = record { moves = record { by = p.kept; depth = λ e. refl }; ok = p.at; err = tt }
 
-ok_after : {V E : Type 0} (P : List ℕ → List ℕ → Type 0) (A B : Accepting V)
-    (r : Result V (DecodeError E)) (a m b : View) → ((xs ys zs : List ℕ) (v : V) → P xs ys → A ys v
-    zs → B xs v zs) → Reached P a m → IfOk r (λ v. IfKnown m.known (λ xs. (ys : List ℕ)
-    × (b.known ≡ Some ys) × A xs v ys)) → IfOk r (λ v. IfKnown a.known (λ xs. (ys : List ℕ)
-    × (b.known ≡ Some ys) × B xs v ys))
-ok_after P A B (Ok v) a m b f p h = λ xs known.
-    let s = p.at xs known in
-    let t = h s.0 s.1 in
-    (t.0, t.1, f xs s.0 t.0 v s.2 t.2)
-ok_after P A B (Err e) a m b f p h = tt
-
-error_after : (o : Option InputError) (S T : List ℕ → InputError → List ℕ → Type 0) (xs ys : List ℕ)
-    (new : Option (List ℕ)) → ((e : InputError) (rest : List ℕ) → S ys e rest → T xs e rest)
-    → IfSome o (λ z. (zs : List ℕ) × (new ≡ Some zs) × S ys z zs)
-    → IfSome o (λ z. (zs : List ℕ) × (new ≡ Some zs) × T xs z zs)
-error_after None S T xs ys new f h = tt
-error_after (Some z) S T xs ys new f h = (h.0, h.1, f z h.0 h.2)
-
-err_after : {V E : Type 0} (P : List ℕ → List ℕ → Type 0) (S T : Stopping)
-    (r : Result V (DecodeError E)) (a m b : View) → ((xs ys : List ℕ) (e : InputError)
-    (rest : List ℕ) → P xs ys → S ys e rest → T xs e rest) → Reached P a m → IfErr r (λ e. IfKnown
-    m.known (λ xs. IfSome (input_error_of e) (λ z. (ys : List ℕ) × (b.known ≡ Some ys) × S xs z
-    ys))) → IfErr r (λ e. IfKnown a.known (λ xs. IfSome (input_error_of e) (λ z. (ys : List ℕ)
-    × (b.known ≡ Some ys) × T xs z ys)))
-err_after P S T (Ok v) a m b f p h = tt
-err_after P S T (Err e) a m b f p h = λ xs known.
-    let s = p.at xs known in
-    error_after (input_error_of e) S T xs s.0 b.known (λ z rest. f xs s.0 z rest s.2) (h s.0 s.1)
-
--- what is left to do was done
-pub does_after : {V E : Type 0} (P : List ℕ → List ℕ → Type 0) (A B : Accepting V) (S T : Stopping)
-    {r : Result V (DecodeError E)} {a m b : View} → ((xs ys zs : List ℕ) (v : V) → P xs ys → A ys v
-    zs → B xs v zs) → ((xs ys : List ℕ) (e : InputError) (rest : List ℕ) → P xs ys → S ys e rest → T
-    xs e rest) → Reached P a m → Does A S m b r → Does B T a b r
-does_after P A B S T {r = r} {a = a} {m = m} {b = b} f g p d =
-    record {
-      moves = moves_then p.kept d.moves;
-      ok = ok_after P A B r a m b f p d.ok;
-      err = err_after P S T r a m b g p d.err;
-    }
+-- an error that says something of the bytes, in other words
+error_as : (o : Option InputError) (P Q : InputError → List ℕ → Type 0) {new left : Option (List ℕ)}
+    → left ≡ new → ((z : InputError) (rest : List ℕ) → P z rest → Q z rest) → IfSome o (λ z. (ys :
+    List ℕ) × (new ≡ Some ys) × P z ys) → IfSome o (λ z. (ys : List ℕ) × (left ≡ Some ys) × Q z ys)
+error_as None P Q same f h = tt
+error_as (Some z) P Q same f h = (h.0, same ∙ h.1, f z h.0 h.2)
 
 -- what is left to do was rejected
 pub does_err : {U V E : Type 0} (P : List ℕ → List ℕ → Type 0) (A : Accepting U) (B : Accepting V)
     (S T : Stopping) {e : DecodeError E} {a m b : View}
     → ((xs ys : List ℕ) (z : InputError) (rest : List ℕ) → P xs ys → S ys z rest → T xs z rest)
     → Reached P a m → Does {V = U} A S m b (Err e) → Does {V = V} B T a b (Err e)
-does_err {V = V} P A B S T {e = e} {a = a} {m = m} {b = b} g p d =
-    record {
-      moves = moves_then p.kept (moves_err d.moves);
-      ok = tt;
-      err = err_after {V = V} P S T (Err e) a m b g p d.err;
-    }
+does_err P A B S T {e = e} g p d = record {
+  moves = moves_then p.kept (moves_err d.moves);
+  ok = tt;
+  err = λ xs known. let s = p.at xs known in
+      error_as (input_error_of e) (S s.0) (T xs) refl (λ z rest. g xs s.0 z rest s.2)
+      (d.err s.0 s.1);
+}
+
+-- the answer of a call, with another value
+abbrev pub with : {U V E : Type 0} → (U → V) → Result U (DecodeError E) → Result V (DecodeError E)
+with f (Ok u) = Ok (f u)
+with f (Err e) = Err e
+
+-- what is left to do was tried
+pub does_with : {U V E : Type 0} (f : U → V) (P : List ℕ → List ℕ → Type 0) (A : Accepting U)
+    (B : Accepting V) (S T : Stopping) {r : Result U (DecodeError E)} {a m b : View}
+    → ((xs ys zs : List ℕ) (u : U) → P xs ys → A ys u zs → B xs (f u) zs)
+    → ((xs ys : List ℕ) (e : InputError) (rest : List ℕ) → P xs ys → S ys e rest → T xs e rest)
+    → Reached P a m → Does A S m b r → Does B T a b (with f r)
+does_with f P A B S T {r = Ok u} g h p d =
+    does_ok B T (reached_then P (λ xs ys. A xs u ys) (λ xs ys. B xs (f u) ys)
+    (λ xs ys zs. g xs ys zs u) p (reached_by d))
+does_with f P A B S T {r = Err e} g h p d = does_err P A B S T h p d
+
+pub does_after : {V E : Type 0} (P : List ℕ → List ℕ → Type 0) (A B : Accepting V)
+    (S T : Stopping) {r : Result V (DecodeError E)} {a m b : View} → ((xs ys zs : List ℕ) (v : V)
+    → P xs ys → A ys v zs → B xs v zs) → ((xs ys : List ℕ) (e : InputError) (rest : List ℕ)
+    → P xs ys → S ys e rest → T xs e rest) → Reached P a m → Does A S m b r → Does B T a b r
+does_after P A B S T {r = Ok v} f g p d = does_with (λ v. v) P A B S T f g p d
+does_after P A B S T {r = Err e} f g p d = does_err P A B S T g p d
 
 -- what was rejected, reported in other words
 pub still_rejected : {U V E : Type 0} (A : Accepting U) (B : Accepting V) (S T : Stopping)
     {e : DecodeError E} {a b : View} → ((xs : List ℕ) (z : InputError) (rest : List ℕ) → S xs z rest
     → T xs z rest) → Does {V = U} A S a b (Err e) → Does {V = V} B T a b (Err e)
-still_rejected A B S T {a = a} f d =
-    does_err (λ xs ys. xs ≡ ys) A B S T (λ xs ys z rest same h. subst (λ x. T x z rest) (sym same)
-    (f ys z rest h)) (reached_start (λ xs ys. xs ≡ ys) a (λ xs. refl)) d
+still_rejected A B S T {e = e} f d = record {
+  moves = moves_err d.moves;
+  ok = tt;
+  err = λ xs known. error_as (input_error_of e) (S xs) (T xs) refl (f xs) (d.err xs known);
+}
 
 pub refused : {U V E : Type 0} {A : Accepting U} {B : Accepting V} {S : Stopping}
     {e : DecodeError E} {a b : View} → Does {V = U} A S a b (Err e) → Does {V = V} B S a b (Err e)
 refused {A = A} {B = B} {S = S} d = still_rejected A B S S (λ xs z rest h. h) d
 
-rejected_as : (o : Option InputError) (z : InputError) (T : InputError → List ℕ → Type 0)
-    (new : Option (List ℕ)) → o ≡ Some z → (ys : List ℕ) × (new ≡ Some ys) × T z ys
-    → IfSome o (λ z. (ys : List ℕ) × (new ≡ Some ys) × T z ys)
-rejected_as None z T new e h = cc
-rejected_as (Some y) z T new e h = let f : z ≡ y = cc in (h.0, h.1, subst (λ x. T x h.0) f h.2)
+-- an error says this of the bytes
+pub says : {o : Option InputError} {z : InputError} (P : InputError → Type 0) → o ≡ Some z → P z
+    → IfSome o P
+says P e h = subst (λ o. IfSome o P) (sym e) h
 
 -- an error that speaks of the bytes; without a budget no step is lacking
 pub does_reject_by : {V E : Type 0} (P : List ℕ → List ℕ → Type 0) (B : Accepting V) (T : Stopping)
     (z : InputError) {e : DecodeError E} {a b : View} → input_error_of e ≡ Some z
     → is_read e ≡ false → (a.budget ≡ None → is_depth_overflow e ≡ false)
     → ((xs ys : List ℕ) → P xs ys → T xs z ys) → Reached P a b → Does {V = V} B T a b (Err e)
-does_reject_by P B T z {e = e} {a = a} {b = b} says read shallow f p = record {
+does_reject_by P B T z {e = e} {a = a} {b = b} is read shallow f p = record {
   moves = record { by = unread (is_read e) a b read p.kept; depth = shallow };
   ok = tt;
   err = λ xs known. let s = p.at xs known in
-      rejected_as (input_error_of e) z (T xs) b.known says (s.0, s.1, f xs s.0 s.2);
+      says (λ z. (ys : List ℕ) × (b.known ≡ Some ys) × T xs z ys) is (s.0, s.1, f xs s.0 s.2);
 }
 
 pub does_reject : {V E : Type 0} (P : List ℕ → List ℕ → Type 0) (B : Accepting V) (T : Stopping)
@@ -138,38 +129,25 @@ does_reject P B T z says read shallow f p = does_reject_by P B T z says read (λ
 
 -- ---- calls of the crate below
 
-stopped_at : (o : Option InputError) (S : List ℕ → Option ℕ → InputError → List ℕ → Type 0)
-    (xs : List ℕ) (budget : Option ℕ) (new : Option (List ℕ)) → IfSome o (λ z. (rest : List ℕ)
-    × (new ≡ Some rest) × S xs budget z rest) → IfSome o (λ z. (ys : List ℕ) × (new ≡ Some ys) × S
-    xs budget z ys)
-stopped_at None S xs budget new h = tt
-stopped_at (Some z) S xs budget new h = h
-
 -- a decoding call that was rejected
 pub does_rejects : {V E : Type 0} (A : Accepting V)
     (S : List ℕ → Option ℕ → InputError → List ℕ → Type 0) {e : DecodeError E} {a b : View}
     → Moves {V = V} a b (Err e) → Rejects S a b e → Does {V = V} A (λ xs. S xs a.budget) a b (Err e)
-does_rejects A S {e = e} {a = a} {b = b} moves s = record {
-  moves = moves;
-  ok = tt;
-  err = λ xs known. stopped_at (input_error_of e) S xs a.budget b.known (s.at xs known);
-}
+does_rejects A S moves s = record { moves = moves; ok = tt; err = s.at }
 
 -- the same of another value, by what it is to fail there
-pub call_rejects : {U V E : Type 0} (B : Accepting V)
-    (S : List ℕ → Option ℕ → InputError → List ℕ → Type 0) (T : Stopping) {e : DecodeError E}
-    {a c : View} → ((xs : List ℕ) (z : InputError) (rest : List ℕ) → S xs a.budget z rest → T xs z
-    rest) → Moves {V = U} a c (Err e) → Rejects S a c e → Does {V = V} B T a c (Err e)
+pub call_rejects : {U V E : Type 0} (B : Accepting V) (S : List ℕ → Option ℕ → InputError → List ℕ
+    → Type 0) (T : Stopping) {e : DecodeError E} {a c : View}
+    → ((xs : List ℕ) (z : InputError) (rest : List ℕ) → S xs a.budget z rest → T xs z rest)
+    → Moves {V = U} a c (Err e) → Rejects S a c e → Does {V = V} B T a c (Err e)
 call_rejects {U = U} B S T {a = a} f moves s =
-    does_err (λ xs ys. xs ≡ ys) (λ xs (v : U) ys. Unit {0}) B (λ xs. S xs a.budget) T
-    (λ xs ys z rest e h. subst (λ x. T x z rest) (sym e) (f ys z rest h)) (reached_start (λ xs ys.
-    xs ≡ ys) a (λ xs. refl)) (does_rejects (λ xs (v : U) ys. Unit {0}) S moves s)
+    still_rejected (λ xs (v : U) ys. Unit {0}) B (λ xs. S xs a.budget) T f
+    (does_rejects _ S moves s)
 
 -- a decoding call that went well
-pub reached_sound : {V E : Type 0} (reads : List ℕ → V → ℕ → ℕ → Type 0)
-    (P : List ℕ → List ℕ → Type 0) {v : V} {a b : View}
-    → ((xs : List ℕ) (n c : ℕ) → CostFits c a.budget → reads xs v n c → P xs (drop n xs))
-    → Moves {E = E} a b (Ok v) → Sound reads a b v → Reached P a b
+pub reached_sound : {V E : Type 0} (reads : List ℕ → V → ℕ → ℕ → Type 0) (P : List ℕ → List ℕ
+    → Type 0) {v : V} {a b : View} → ((xs : List ℕ) (n c : ℕ) → CostFits c a.budget → reads xs v n c
+    → P xs (drop n xs)) → Moves {E = E} a b (Ok v) → Sound reads a b v → Reached P a b
 reached_sound reads P f moves s = record {
   kept = moves.by;
   at = λ xs known. let t = s.at xs known in
@@ -177,9 +155,8 @@ reached_sound reads P f moves s = record {
 }
 
 -- a byte that was looked at stays
-pub reached_peek : {E : Type 0} (name : List ℕ) (expect b : ℕ) {a m : View}
-    → Runs {E = E} (peek_at name expect) a m (Ok b)
-    → Reached (λ xs ys. (rest : List ℕ) × (xs ≡ b ∷ rest) × (ys ≡ xs)) a m
+pub reached_peek : {E : Type 0} (name : List ℕ) (expect b : ℕ) {a m : View} → Runs {E = E} (peek_at
+    name expect) a m (Ok b) → Reached (λ xs ys. (rest : List ℕ) × (xs ≡ b ∷ rest) × (ys ≡ xs)) a m
 reached_peek name expect b p = record {
   kept = p.moves.by;
   at = λ xs known. let h = p.answers xs known in (h.0, h.1, peeked name expect b xs h.0 h.2);
@@ -205,50 +182,81 @@ steps_in (Some zero) new h = absurd (omega (arith, h.0))
 steps_in (Some (suc left)) new h =
     let e : suc left - 1 ≡ left = omega arith in ap Some (sym (h.2 ∙ ap Some e))
 
-ok_around : {V E : Type 0} (A B : Accepting V) (r : Result V (DecodeError E))
-    (old new known left : Option (List ℕ)) → ((xs ys : List ℕ) (v : V) → A xs v ys → B xs v ys)
-    → known ≡ old → left ≡ new → IfOk r (λ v. IfKnown known (λ xs. (ys : List ℕ) × (new ≡ Some ys)
-    × A xs v ys)) → IfOk r (λ v. IfKnown old (λ xs. (ys : List ℕ) × (left ≡ Some ys) × B xs v ys))
-ok_around A B (Ok v) old new known left f i o h =
-    λ xs is. let t = h xs (i ∙ is) in (t.0, o ∙ t.1, f xs t.0 v t.2)
-ok_around A B (Err e) old new known left f i o h = tt
+-- ---- what moves the budget alone
 
-error_around : (r : Option InputError) (S T : Stopping) (xs : List ℕ) (new left : Option (List ℕ))
-    → ((xs : List ℕ) (e : InputError) (rest : List ℕ) → S xs e rest → T xs e rest) → left ≡ new
-    → IfSome r (λ z. (ys : List ℕ) × (new ≡ Some ys) × S xs z ys)
-    → IfSome r (λ z. (ys : List ℕ) × (left ≡ Some ys) × T xs z ys)
-error_around None S T xs new left f o h = tt
-error_around (Some z) S T xs new left f o h = (h.0, o ∙ h.1, f xs z h.0 h.2)
+pub keeps_alike : (a b : View) → b ≡ a → KeepsAllButBudget a b
+keeps_alike a b same = record {
+  known = ap (λ (v : View). v.known) same;
+  bound = ap (λ (v : View). v.bound) same;
+  advanceable = ap (λ (v : View). v.advanceable) same;
+  failures = ap (λ (v : View). v.failures) same;
+  taken = ap (λ (v : View). v.taken) same;
+  zero_copy = ap (λ (v : View). v.zero_copy) same;
+  remembers = ap (λ (v : View). v.remembers) same;
+  ends_at = ap (λ (v : View). v.ends_at) same;
+}
 
-err_around : {V E : Type 0} (S T : Stopping) (r : Result V (DecodeError E))
-    (old new known left : Option (List ℕ)) → ((xs : List ℕ) (e : InputError) (rest : List ℕ) → S xs
-    e rest → T xs e rest) → known ≡ old → left ≡ new → IfErr r (λ e. IfKnown known (λ xs. IfSome
-    (input_error_of e) (λ z. (ys : List ℕ) × (new ≡ Some ys) × S xs z ys))) → IfErr r (λ e. IfKnown
-    old (λ xs. IfSome (input_error_of e) (λ z. (ys : List ℕ) × (left ≡ Some ys) × T xs z ys)))
-err_around S T (Ok v) old new known left f i o h = tt
-err_around S T (Err e) old new known left f i o h =
-    λ xs is. error_around (input_error_of e) S T xs new left f o (h xs (i ∙ is))
+pub keeps_then : {a b c : View} → KeepsAllButBudget a b → KeepsAllButBudget b c
+    → KeepsAllButBudget a c
+keeps_then p q = record {
+  known = q.known ∙ p.known;
+  bound = q.bound ∙ p.bound;
+  advanceable = q.advanceable ∙ p.advanceable;
+  failures = q.failures ∙ p.failures;
+  taken = q.taken ∙ p.taken;
+  zero_copy = q.zero_copy ∙ p.zero_copy;
+  remembers = q.remembers ∙ p.remembers;
+  ends_at = q.ends_at ∙ p.ends_at;
+}
+
+-- the same where bytes stand apart from the reader
+module _ {t : Bool} {a b : View} where
+  pub alike : (IsTrue t → b ≡ a) → IsTrue t → KeepsAllButBudget a b
+  alike f apart = keeps_alike a b (f apart)
+
+  pub stays_then : {c : View} → (IsTrue t → KeepsAllButBudget a b)
+      → (IsTrue t → KeepsAllButBudget b c) → IsTrue t → KeepsAllButBudget a c
+  stays_then f g apart = keeps_then (f apart) (g apart)
+
+pub stays_put : {t : Bool} {a : View} → IsTrue t → KeepsAllButBudget a a
+stays_put {a = a} apart = keeps_alike a a refl
 
 -- a call between two moves of the budget alone
+moves_between : {V E : Type 0} {r : Result V (DecodeError E)} {a b c d : View}
+    → KeepsAllButBudget a b → KeepsAllButBudget c d → (a.budget ≡ None → b.budget ≡ None)
+    → (c.budget ≡ b.budget → d.budget ≡ a.budget) → Moves b c r → Moves a d r
+moves_between {r = r} inward outward unbound restored m = record {
+  by = moves_around inward outward (is_failure r) restored m.by;
+  depth = λ none. m.depth (unbound none);
+}
+
 pub does_around : {V E : Type 0} (A B : Accepting V) (S T : Stopping) {r : Result V (DecodeError E)}
     {a b c d : View} → ((xs ys : List ℕ) (v : V) → A xs v ys → B xs v ys)
     → ((xs : List ℕ) (e : InputError) (rest : List ℕ) → S xs e rest → T xs e rest)
     → KeepsAllButBudget a b → KeepsAllButBudget c d → (a.budget ≡ None → b.budget ≡ None)
     → (c.budget ≡ b.budget → d.budget ≡ a.budget) → Does A S b c r → Does B T a d r
-does_around A B S T {r = r} {a = a} {b = b} {c = c} {d = d} f g inward outward unbound restored w =
-    record {
-      moves = record {
-        by = moves_around inward outward (is_failure r) restored w.moves.by;
-        depth = λ none. w.moves.depth (unbound none);
-      };
-      ok = ok_around A B r a.known c.known b.known d.known f inward.known outward.known w.ok;
-      err = err_around S T r a.known c.known b.known d.known g inward.known outward.known w.err;
-    }
+does_around A B S T {r = Ok v} f g inward outward unbound restored w = record {
+  moves = moves_between inward outward unbound restored w.moves;
+  ok = λ xs known. let t = w.ok xs (inward.known ∙ known) in
+      (t.0, outward.known ∙ t.1, f xs t.0 v t.2);
+  err = tt;
+}
+does_around A B S T {r = Err e} f g inward outward unbound restored w = record {
+  moves = moves_between inward outward unbound restored w.moves;
+  ok = tt;
+  err = λ xs known. error_as (input_error_of e) (S xs) (T xs) outward.known (g xs)
+      (w.err xs (inward.known ∙ known));
+}
+
+-- the same is said of it
+pub does_between : {V E : Type 0} (A : Accepting V) (S : Stopping) {r : Result V (DecodeError E)}
+    {a b c d : View} → KeepsAllButBudget a b → KeepsAllButBudget c d → (a.budget ≡ None → b.budget
+    ≡ None) → (c.budget ≡ b.budget → d.budget ≡ a.budget) → Does A S b c r → Does A S a d r
+does_between A S = does_around A A S S (λ xs ys v h. h) (λ xs e rest h. h)
 
 -- a call under one step
-pub does_stepped : {V E : Type 0} (A B : Accepting V) (S T : Stopping)
-    {r : Result V (DecodeError E)} {a b c d : View}
-    → ((xs ys : List ℕ) (v : V) → A xs v ys → B xs v ys)
+pub does_stepped : {V E : Type 0} (A B : Accepting V) (S T : Stopping) {r : Result V
+    (DecodeError E)} {a b c d : View} → ((xs ys : List ℕ) (v : V) → A xs v ys → B xs v ys)
     → ((xs : List ℕ) (e : InputError) (rest : List ℕ) → S xs e rest → T xs e rest)
     → StepsIn a.budget b.budget true → KeepsAllButBudget a b → Does A S b c r
     → d.budget ≡ step_back c.budget → KeepsAllButBudget c d → Does B T a d r
@@ -273,20 +281,11 @@ pub does_no_step : {V E : Type 0} (name : List ℕ) (A : Accepting V) (T : Stopp
     {e : DecodeError E} {a b : View} → input_error_of e ≡ Some (depth_overflow name)
     → is_read e ≡ false → (a.budget ≡ Some 0 → (xs : List ℕ) → T xs (depth_overflow name) xs)
     → StepsIn a.budget b.budget false → KeepsAllButBudget a b → Does {V = V} A T a b (Err e)
-does_no_step name A T {e = e} {a = a} {b = b} says read f takes k =
+does_no_step name A T {a = a} {b = b} is read f takes k =
     let n = no_step a.budget b.budget takes in
-    record {
-      moves = record {
-        by = unread (is_read e) a b read (kept_budget a b k n.1);
-        depth = λ none. absurd (some_none a.budget none n.0);
-      };
-      ok = tt;
-      err = λ xs known. rejected_as (input_error_of e) (depth_overflow name)
-          (T xs) b.known says (xs, k.known ∙ known, f n.0 xs);
-    }
-  where
-    some_none : (o : Option ℕ) → o ≡ None → o ≡ Some 0 → ⊥
-    some_none o p q = cc
+    does_reject_by (λ xs ys. xs ≡ ys) A T (depth_overflow name) is read (λ none. let never : None
+    ≡ Some 0 = sym none ∙ n.0 in cc) (λ xs ys same. subst (T xs (depth_overflow name)) same (f n.0
+    xs)) (record { kept = kept_budget a b k n.1; at = λ xs known. (xs, k.known ∙ known, refl) })
 
 -- there was no memory
 pub does_no_memory : {V E : Type 0} (A : Accepting V) (S : Stopping) {e : DecodeError E}
@@ -294,3 +293,103 @@ pub does_no_memory : {V E : Type 0} (A : Accepting V) (S : Stopping) {e : Decode
 does_no_memory {V = V} {E = E} A S {a = a} {b = b} is p =
     subst (λ (z : DecodeError E). Does {V = V} A S a b (Err z)) (sym is)
     (record { moves = record { by = p; depth = λ none. refl }; ok = tt; err = λ xs known. tt })
+
+-- ---- what follows under the same budget
+
+module _ {P : List ℕ → List ℕ → Type 0} {a m b : View} (p : Reached P a m) where
+  -- it went well
+  pub reached_on : (Q : Budget → List ℕ → List ℕ → Type 0) {R : List ℕ → List ℕ → Type 0}
+      → ((xs ys zs : List ℕ) → P xs ys → Q a.budget ys zs → R xs zs) → Reached (Q m.budget) m b
+      → Reached R a b
+  reached_on Q {R = R} f q =
+      reached_then P (Q m.budget) R
+      (λ xs ys zs h s. f xs ys zs h (subst (λ o. Q o ys zs) p.kept.budget s)) p q
+
+  -- it was tried
+  pub does_on : {U V E : Type 0} (f : U → V) (A : Budget → Accepting U) {B : Accepting V}
+      (S : Budget → Stopping) {T : Stopping} {r : Result U (DecodeError E)}
+      → ((xs ys zs : List ℕ) (u : U) → P xs ys → A a.budget ys u zs → B xs (f u) zs)
+      → ((xs ys : List ℕ) (z : InputError) (rest : List ℕ) → P xs ys → S a.budget ys z rest
+      → T xs z rest) → DoesUnder A S m b r → Does B T a b (with f r)
+  does_on f A {B = B} S {T = T} g h d =
+      does_with f P (A m.budget) B (S m.budget) T
+      (λ xs ys zs u k s. g xs ys zs u k (subst (λ o. A o ys u zs) p.kept.budget s))
+      (λ xs ys z rest k s. h xs ys z rest k (subst (λ o. S o ys z rest) p.kept.budget s)) p d
+
+  -- it was rejected
+  pub stops_on : {U V E : Type 0} {A : Accepting U} {B : Accepting V} (S : Budget → Stopping)
+      {T : Stopping} {e : DecodeError E}
+      → ((xs ys : List ℕ) (z : InputError) (rest : List ℕ) → P xs ys → S a.budget ys z rest
+      → T xs z rest) → Does {V = U} A (S m.budget) m b (Err e) → Does {V = V} B T a b (Err e)
+  stops_on {A = A} {B = B} S {T = T} h d =
+      does_err P A B (S m.budget) T
+      (λ xs ys z rest k s. h xs ys z rest k (subst (λ o. S o ys z rest) p.kept.budget s)) p d
+
+-- the value is known
+pub does_value : {V E : Type 0} {A : Accepting V} {S : Stopping} {v w : V} {a b : View} → v ≡ w
+    → Does {E = E} A S a b (Ok v) → Does {E = E} A S a b (Ok w)
+does_value {E = E} {A = A} {S = S} {a = a} {b = b} is d =
+    subst (λ v. Does {E = E} A S a b (Ok v)) is d
+
+-- ---- over lent bytes, too
+
+module _ {V E : Type 0} {A : Budget → Accepting V} {S : Budget → Stopping} {G : ℕ → ℕ → V → Type 0}
+    {t : Bool} {o i a b : View} where
+  -- by a call that moves no reader apart
+  pub apart_leaf : {r : Result V (DecodeError E)} → DoesUnder A S a b r → Spares r
+      → IfOk r (G a.bound b.bound) → (IsTrue t → i ≡ o) → DoesApart A S G t o i a b r
+  apart_leaf d spares gains stays =
+      record { does = d; spares = spares; gains = gains; stays = alike stays }
+
+  -- the value is known
+  pub apart_value : {v w : V} → v ≡ w → DoesApart {E = E} A S G t o i a b (Ok v)
+      → DoesApart {E = E} A S G t o i a b (Ok w)
+  apart_value is d = subst (λ v. DoesApart {E = E} A S G t o i a b (Ok v)) is d
+
+-- what was tried ends a call
+pub apart_with : {U V E : Type 0} (f : U → V) {A : Budget → Accepting U} {B : Budget → Accepting V}
+    {S T : Budget → Stopping} {G : ℕ → ℕ → U → Type 0} {H : ℕ → ℕ → V → Type 0} {t : Bool}
+    {o p i a m b c : View} {r : Result U (DecodeError E)} → DoesUnder B T a c (with f r)
+    → IfOk (with f r) (H a.bound c.bound) → (IsTrue t → KeepsAllButBudget o p)
+    → DoesApart A S G t p i m b r → DoesApart B T H t o i a c (with f r)
+apart_with f {r = Ok u} does gains before d = record {
+  does = does;
+  spares = tt;
+  gains = gains;
+  stays = stays_then before d.stays;
+}
+apart_with f {r = Err e} does gains before d = record {
+  does = does;
+  spares = d.spares;
+  gains = tt;
+  stays = stays_then before d.stays;
+}
+
+-- a call that answers the same
+pub apart_on : {V E : Type 0} {A B : Budget → Accepting V} {S T : Budget → Stopping}
+    {G H : ℕ → ℕ → V → Type 0} {t : Bool} {o p i a m b : View} {r : Result V (DecodeError E)}
+    → DoesUnder B T a b r → IfOk r (H a.bound b.bound) → (IsTrue t → KeepsAllButBudget o p)
+    → DoesApart A S G t p i m b r → DoesApart B T H t o i a b r
+apart_on does gains before d = record {
+  does = does;
+  spares = d.spares;
+  gains = gains;
+  stays = stays_then before d.stays;
+}
+
+-- what is said of the bound, in other words
+pub apart_gains : {V E : Type 0} {A : Budget → Accepting V} {S : Budget → Stopping} {G H : ℕ → ℕ → V
+    → Type 0} {t : Bool} {o i a b : View} {r : Result V (DecodeError E)} → ((v : V) → G a.bound
+    b.bound v → H a.bound b.bound v) → DoesApart A S G t o i a b r → DoesApart A S H t o i a b r
+apart_gains {r = Ok v} f d = apart_on d.does (f v d.gains) stays_put d
+apart_gains {r = Err e} f d = apart_on d.does tt stays_put d
+
+pub may_stay : {V E : Type 0} (r : Result V (DecodeError E)) → IfOk r (λ v. Unit {0})
+may_stay (Ok v) = tt
+may_stay (Err e) = tt
+
+-- it fell before
+pub lowered : {V E : Type 0} (a : ℕ) {r : Result V (DecodeError E)} {m b : View} → m.bound + 1 ≤ a
+    → Moves m b r → IfOk r (Lowers a b.bound)
+lowered a {r = Ok v} fell moves = omega (arith, fell, moves.by.bound)
+lowered a {r = Err e} fell moves = tt

@@ -1,29 +1,20 @@
 -- Heads that stand whole in what is shown.
-use Rattle.std.proofs.Common.{◌≡◌, ◌≢◌, ℕ, suc, ◌+◌, ◌-◌, ◌%◌, ◌<◌, ◌≤◌, List, ◌∷◌, ◌++◌}
-use Rattle.std.proofs.Common.{length, take, drop, refl, sym, ap, ◌∙◌, subst, arith, append_assoc}
+use Rattle.std.proofs.Common.{◌≡◌, ◌≢◌, ℕ, suc, ◌+◌, ◌-◌, ◌%◌, ◌<◌, ◌≤◌, List, ◌∷◌, ◌++◌, length}
+use Rattle.std.proofs.Common.{None, take, drop, refl, sym, ap, ◌∙◌, subst, arith, append_assoc}
 use Rattle.std.proofs.Common.{take-append-drop, length-append, length-drop}
 use Rattle.std.proofs.lemmas.List.{length-take-le}
 use Rattle.std.specs.Int.{bytes_high_first}
-use Rattle.cbor4ii_items.specs.Head.{Width, byte_count, HeadFits, additional, ArgumentAfter}
-use Rattle.cbor4ii_items.specs.Head.{IsBytes, break}
-use Rattle.cbor4ii_items.specs.Initial.{info_of, wide, initial}
-use Rattle.cbor4ii_items.specs.Laws.Heads.{info-additional, length-bytes_high_first, same_wide}
-use Rattle.cbor4ii_items.specs.Laws.Prefixes.{drop_more}
-use Rattle.cbor4ii_tree.specs.Cost.{Budget}
-use Rattle.cbor4ii_tree.specs.HeadParts.{ArgumentAt}
-use Rattle.cbor4ii_tree.specs.Runs.{IsLeafAt}
-use Rattle.cbor4ii_tree.specs.Skipping.{start_of, Leads, RejectsSkippingAfter}
-use Rattle.cbor4ii_tree.specs.InputError.{InputError}
-use Rattle.cbor4ii_tree.specs.declared.skip.initial.Start.{Start}
-use Rattle.cbor4ii_tree.specs.Ahead.{BeginsHead}
-use Rattle.cbor4ii_tree.specs.declared.skip.initial.After.{After}
-use Rattle.cbor4ii_tree.specs.declared.skip.initial.After.TheVariants.{Nothing, Bytes, Items, Members}
-use Rattle.cbor4ii_tree.specs.declared.skip.initial.After.TheVariants.{Indefinite, IndefiniteMembers}
-use Rattle.cbor4ii_tree.specs.declared.skip.initial.Start.TheVariants as start
+use Rattle.cbor4ii_items.specs.{Head.{ArgumentAfter, IsBytes, break}, Initial.{info_of, wide}}
+use Rattle.cbor4ii_items.specs.{Initial.initial, Laws.Heads.info-additional}
+use Rattle.cbor4ii_items.specs.Laws.{Heads.length-bytes_high_first, Prefixes.drop_more}
+use Rattle.cbor4ii_tree.specs.{Cost.Budget, HeadParts.ArgumentBy, Runs.IsLeafAt, Skipping.start_of}
+use Rattle.cbor4ii_tree.specs.Skipping.{trailing_of, rejection_of, Leads, RejectsSkippingAfter}
+use Rattle.cbor4ii_tree.specs.{InputError.InputError, declared.skip.initial.Start.Start}
+use Rattle.cbor4ii_tree.specs.{declared.skip.initial.After.After, Ahead.BeginsHead}
+use Rattle.cbor4ii_tree.specs.declared.skip.initial.After.TheVariants.{Nothing}
 use Rattle.cbor4ii_tree.proofs.heads.Inverse.{IsBytes-take, IsBytes-drop}
-use Rattle.cbor4ii_tree.proofs.skip_calls.Leading.{whole, content_info, items_info, members_info}
-use Rattle.cbor4ii_tree.proofs.skip_calls.Leading.{tag_info, indefinite_leads}
-use Rattle.cbor4ii_tree.proofs.skip_calls.Leading.{indefinite_members_leads}
+use Rattle.cbor4ii_tree.proofs.skip_calls.Leading.{Opens, whole, content_leaf, goes, opens_by}
+use Rattle.cbor4ii_tree.specs.declared.skip.initial.Start.TheVariants as start
 
 -- ---- an item that holds no other
 
@@ -48,11 +39,9 @@ sees_leaf size shown some l fresh = record {
 
 -- so many bytes after the first
 after_first : (size k : ℕ) (trailing : After) (b : ℕ) (bs : List ℕ) → size ≡ suc k → b < 256
-    → k ≤ length bs → IsBytes (take k bs)
-    → ((inner : Budget) (ys : List ℕ) (e : InputError) (rest : List ℕ)
-    → RejectsSkippingAfter trailing inner ys e rest → b ≢ break)
-    → ((inner : Budget) (after : List ℕ)
-    → Leads inner (b ∷ (bs ++ after)) trailing (drop k bs ++ after))
+    → k ≤ length bs → IsBytes (take k bs) → ((inner : Budget) (ys : List ℕ) (e : InputError)
+    (rest : List ℕ) → RejectsSkippingAfter trailing inner ys e rest → b ≢ break) → ((inner : Budget)
+    (after : List ℕ) → Leads inner (b ∷ (bs ++ after)) trailing (drop k bs ++ after))
     → BeginsHead size trailing (b ∷ bs)
 after_first size k trailing b bs e small h fresh other f =
     subst (λ j. BeginsHead j trailing (b ∷ bs)) (sym e) (record {
@@ -68,10 +57,11 @@ after_first size k trailing b bs e small h fresh other f =
     })
 
 -- a byte that begins an item is no break
-other_byte : (b : ℕ) (s : Start) → start_of (initial b) ≡ s → (s ≡ start.Unsupported → ⊥)
-    → b ≢ break
+other_byte : (b : ℕ) (s : Start) → start_of (initial b) ≡ s → rejection_of s b ≡ None → b ≢ break
 unfolding initial
-other_byte b s is f e = f (sym is ∙ ap (λ j. start_of (initial j)) e)
+other_byte b s is none e =
+    let unsupported : start.Unsupported ≡ s = ap (λ j. start_of (initial j)) (sym e) ∙ is in
+    let some = subst (λ z. rejection_of z b ≡ None) (sym unsupported) none in cc
 
 module _ (b n k : ℕ) (bs : List ℕ) (small : b < 256) (fresh : IsBytes bs)
     (a : ArgumentAfter (b % 32) bs n k) where
@@ -85,37 +75,33 @@ module _ (b n k : ℕ) (bs : List ℕ) (small : b < 256) (fresh : IsBytes bs)
       )
 
   -- whatever follows
-  read : (w : Width) → info_of (b % 32) ≡ wide w → (after : List ℕ)
-      → ArgumentAt w b (bs ++ after) n (drop k bs ++ after)
-  read w is after =
-      let same : a.width ≡ w =
-      same_wide a.width w (sym (info-additional n a.width a.fits) ∙ (ap info_of a.says ∙ is)) in
-      record {
-        fits = subst (λ u. HeadFits u n) same a.fits;
-        says = subst (λ u. additional u n ≡ b % 32) same a.says;
+  read : (after : List ℕ) → ArgumentBy (info_of (b % 32)) b (bs ++ after) n (drop k bs ++ after)
+  read after =
+      let info : info_of (b % 32) ≡ wide a.width =
+      sym (ap info_of a.says) ∙ info-additional n a.width a.fits in
+      subst (λ j. ArgumentBy j b (bs ++ after) n (drop k bs ++ after)) (sym info) (record {
+        fits = a.fits;
+        says = a.says;
         is =
             ap (λ r. r ++ after) a.is ∙ (append_assoc (bytes_high_first k n) (drop k bs) after
-            ∙ ap (λ j. bytes_high_first j n ++ (drop k bs ++ after))
-            (a.size ∙ ap byte_count same));
-      }
+            ∙ ap (λ j. bytes_high_first j n ++ (drop k bs ++ after)) a.size);
+      })
 
-  pub sees_string : start_of (initial b) ≡ start.Content → BeginsHead (1 + k) (Bytes n) (b ∷ bs)
-  sees_string s =
-      after_first (1 + k) k (Bytes n) b bs (omega arith) small within (IsBytes-take k bs fresh)
-      (λ _ _ _ _ _. other_byte b start.Content s (λ u. cc))
-      (λ inner after. let i = content_info inner b small s in
-      i.3 (bs ++ after) (drop k bs ++ after) n (read i.0 i.1 after))
+  pub sees_head : (s : Start) → start_of (initial b) ≡ s → rejection_of s b ≡ None
+      → ((j : ℕ) → s ≡ start.Bytes j → ⊥) → BeginsHead (1 + k) (trailing_of s n) (b ∷ bs)
+  sees_head s is some none =
+      after_first (1 + k) k (trailing_of s n) b bs (omega arith) small within
+      (IsBytes-take k bs fresh) (λ _ _ _ _ _. other_byte b s is some) (λ inner after.
+      (goes inner b small s is some none).1 (bs ++ after) (drop k bs ++ after) n (read after))
 
   pub sees_content : start_of (initial b) ≡ start.Content → n ≤ length bs - k
       → BeginsHead (1 + k + n) Nothing (b ∷ bs)
   sees_content s le =
       let room : n ≤ length (drop k bs) = omega (arith, length-drop k bs, le) in
       after_first (1 + k + n) (k + n) Nothing b bs (omega arith) small (omega (arith, le, within))
-      (IsBytes-take (k + n) bs fresh) (λ _ _ _ _ h. absurd h)
-      (λ inner after.
-      let i = content_info inner b small s in
-      whole inner (b ∷ (bs ++ after)) (drop (k + n) bs ++ after) (i.4 (bs ++ after)
-      (drop k bs ++ after) (drop (k + n) bs ++ after) n (read i.0 i.1 after) (record {
+      (IsBytes-take (k + n) bs fresh) (λ _ _ _ _ h. absurd h) (λ inner after. whole inner
+      (b ∷ (bs ++ after)) (drop (k + n) bs ++ after) (content_leaf b small (bs ++ after)
+      (drop k bs ++ after) (drop (k + n) bs ++ after) n s (read after) (record {
         content = take n (drop k bs);
         size = length-take-le n (drop k bs) room;
         bytes = IsBytes-take n (drop k bs) (IsBytes-drop k bs fresh);
@@ -125,38 +111,9 @@ module _ (b n k : ℕ) (bs : List ℕ) (small : b < 256) (fresh : IsBytes bs)
             ∙ ap (λ r. take n (drop k bs) ++ (r ++ after)) (drop_more n k bs));
       })))
 
-  pub sees_items : start_of (initial b) ≡ start.Items → BeginsHead (1 + k) (Items n) (b ∷ bs)
-  sees_items s =
-      after_first (1 + k) k (Items n) b bs (omega arith) small within (IsBytes-take k bs fresh)
-      (λ _ _ _ _ _. other_byte b start.Items s (λ u. cc))
-      (λ inner after. let i = items_info inner b small s in
-      i.3 (bs ++ after) (drop k bs ++ after) n (read i.0 i.1 after))
-
-  pub sees_members : start_of (initial b) ≡ start.Members → BeginsHead (1 + k) (Members n) (b ∷ bs)
-  sees_members s =
-      after_first (1 + k) k (Members n) b bs (omega arith) small within (IsBytes-take k bs fresh)
-      (λ _ _ _ _ _. other_byte b start.Members s (λ u. cc))
-      (λ inner after. let i = members_info inner b small s in
-      i.3 (bs ++ after) (drop k bs ++ after) n (read i.0 i.1 after))
-
-  pub sees_tag : start_of (initial b) ≡ start.Tag → BeginsHead (1 + k) (Items 1) (b ∷ bs)
-  sees_tag s =
-      after_first (1 + k) k (Items 1) b bs (omega arith) small within (IsBytes-take k bs fresh)
-      (λ _ _ _ _ _. other_byte b start.Tag s (λ u. cc))
-      (λ inner after. let i = tag_info inner b small s in
-      i.3 (bs ++ after) (drop k bs ++ after) n (read i.0 i.1 after))
-
-pub sees_indefinite : (b : ℕ) (bs : List ℕ) → b < 256 → start_of (initial b) ≡ start.Indefinite
-    → BeginsHead 1 Indefinite (b ∷ bs)
-sees_indefinite b bs small s =
-    after_first 1 0 Indefinite b bs refl small (omega arith) tt
-    (λ _ _ _ _ _. other_byte b start.Indefinite s (λ u. cc))
-    (λ inner after. indefinite_leads inner b small s (bs ++ after))
-
-pub sees_indefinite_members : (b : ℕ) (bs : List ℕ) → b < 256 → start_of (initial b) ≡
-    start.IndefiniteMembers
-    → BeginsHead 1 IndefiniteMembers (b ∷ bs)
-sees_indefinite_members b bs small s =
-    after_first 1 0 IndefiniteMembers b bs refl small (omega arith) tt
-    (λ _ _ _ _ _. other_byte b start.IndefiniteMembers s (λ u. cc))
-    (λ inner after. indefinite_members_leads inner b small s (bs ++ after))
+-- a head without an argument
+pub sees_alone : (b : ℕ) (bs : List ℕ) → b < 256 → (s : Start) → start_of (initial b) ≡ s
+    → rejection_of s b ≡ None → Opens s → BeginsHead 1 (trailing_of s 0) (b ∷ bs)
+sees_alone b bs small s is some o =
+    after_first 1 0 (trailing_of s 0) b bs refl small (omega arith) tt (λ _ _ _ _ _. other_byte b s
+    is some) (λ inner after. opens_by inner b small s is o (bs ++ after))

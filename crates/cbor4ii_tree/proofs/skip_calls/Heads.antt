@@ -1,45 +1,37 @@
 -- Calls after a first byte, where items are skipped.
 use Rattle.std.proofs.Common.{◌≡◌, ℕ, ◌⊎◌, inl, inr, List, ◌∷◌, Ok, Err, Option, Some, None, false}
 use Rattle.std.proofs.Common.{refl, sym, ◌∙◌, subst}
-use Rattle.cbor4ii_rw.specs.View.{View}
-use Rattle.cbor4ii_rw.specs.Reader.{Advances}
-use Rattle.cbor4ii_rw.specs.declared.error.DecodeError.{DecodeError}
-use Rattle.cbor4ii_items.specs.Initial.{initial}
-use Rattle.cbor4ii_items.specs.InputError.{InputError, input_error_of, is_read, is_depth_overflow}
-use Rattle.cbor4ii_tree.specs.Cost.{Budget}
-use Rattle.cbor4ii_tree.specs.Rejections.{Stopping}
-use Rattle.cbor4ii_tree.specs.Does.{Accepting, Does}
-use Rattle.cbor4ii_tree.specs.Prefix.{Offers, FirstByteIs}
-use Rattle.cbor4ii_tree.specs.Skipping.{start_of, RejectsSkippingUnder, Leads, TakesFirst}
-use Rattle.cbor4ii_tree.specs.Skipping.{rejection_of, Says}
-use Rattle.cbor4ii_tree.specs.declared.skip.initial.Start.{Start}
-use Rattle.cbor4ii_tree.specs.declared.skip.initial.Start.TheVariants as start
-use Rattle.cbor4ii_tree.specs.declared.skip.initial.After.{After}
+use Rattle.cbor4ii_rw.specs.{View.View, Reader.Advances, declared.error.DecodeError.DecodeError}
+use Rattle.cbor4ii_items.specs.{Initial.initial, InputError.{InputError, input_error_of, is_read}}
+use Rattle.cbor4ii_items.specs.InputError.{is_depth_overflow}
+use Rattle.cbor4ii_tree.specs.{Cost.Budget, Rejections.Stopping, Does.{Accepting, Does}}
+use Rattle.cbor4ii_tree.specs.{Prefix.{Offers, FirstByteIs}, Skipping.start_of}
+use Rattle.cbor4ii_tree.specs.Skipping.{RejectsSkippingUnder, Leads, TakesFirst, rejection_of, Says}
+use Rattle.cbor4ii_tree.specs.declared.skip.initial.{Start.Start, After.After}
 use Rattle.cbor4ii_tree.proofs.skip_calls.Doing.{Reached, reached_by, reached_then, reached_as}
 use Rattle.cbor4ii_tree.proofs.skip_calls.Doing.{does_ok, does_err, does_reject}
-use Rattle.cbor4ii_tree.proofs.skip_calls.Leading.{begins_none}
-use Rattle.cbor4ii_tree.proofs.skip_calls.Prefixes.{byte_taken, byte_stays}
+use Rattle.cbor4ii_tree.proofs.skip_calls.{Leading.begins_none, Prefixes.{byte_taken, byte_stays}}
+use Rattle.cbor4ii_tree.specs.declared.skip.initial.Start.TheVariants as start
 
 abbrev pub First : ℕ → List ℕ → List ℕ → Type 0
 First b xs ys = xs ≡ b ∷ ys
 
-module _ (inner : Budget) {b : ℕ} {a c : View} (first : Reached (First b) a c) where
-  pub first_err : {U E : Type 0} (A : Accepting U) (S : Stopping) {e : DecodeError E} {d : View}
-      → ((bs : List ℕ) (z : InputError) (rest : List ℕ) → S bs z rest
-      → RejectsSkippingUnder inner (b ∷ bs) z rest) → Does {V = U} A S c d (Err e)
+-- after a first byte that was taken
+module _ {inner : Budget} {b : ℕ} {a c d : View} (first : Reached (First b) a c) {U E : Type 0}
+    {A : Accepting U} {S : Stopping} where
+  pub first_err : {e : DecodeError E} → ((bs : List ℕ) (z : InputError) (rest : List ℕ)
+      → S bs z rest → RejectsSkippingUnder inner (b ∷ bs) z rest) → Does {V = U} A S c d (Err e)
       → Does {V = After} (Leads inner) (RejectsSkippingUnder inner) a d (Err e)
-  first_err A S f d =
-      does_err (First b) A (Leads inner) S (RejectsSkippingUnder inner) (λ xs ys z rest e m.
-      subst (λ x. RejectsSkippingUnder inner x z rest) (sym e) (f ys z rest m)) first d
+  first_err f k =
+      does_err _ _ _ S _ (λ xs ys z rest e m.
+      subst (λ x. RejectsSkippingUnder inner x z rest) (sym e) (f ys z rest m)) first k
 
-  pub first_ok : {U E : Type 0} (A : Accepting U) (S : Stopping) (trailing : After) {u : U}
-      {d : View} → ((bs ys : List ℕ) → A bs u ys → Leads inner (b ∷ bs) trailing ys)
-      → Does {E = E} A S c d (Ok u)
+  pub first_ok : {trailing : After} {u : U} → ((bs ys : List ℕ) → A bs u ys
+      → Leads inner (b ∷ bs) trailing ys) → Does {E = E} A S c d (Ok u)
       → Does {E = E} (Leads inner) (RejectsSkippingUnder inner) a d (Ok trailing)
-  first_ok A S trailing {u = u} f d = does_ok (Leads inner) (RejectsSkippingUnder inner)
-      (reached_then (First b) (λ xs ys. A xs u ys) (λ xs ys. Leads inner xs trailing ys)
-      (λ xs ys zs e h. subst (λ x. Leads inner x trailing zs) (sym e) (f ys zs h)) first
-      (reached_by d))
+  first_ok {trailing = trailing} f k =
+      does_ok _ _ (reached_then _ _ (λ xs ys. Leads inner xs trailing ys) (λ xs ys zs e h. subst
+      (λ x. Leads inner x trailing zs) (sym e) (f ys zs h)) first (reached_by k))
 
 -- ---- a first byte with which no item begins
 
@@ -75,17 +67,15 @@ module _ {b : ℕ} {a m c : View} (o : Offers 1 (FirstByteIs b) a m) (s : Start)
   -- it is taken or stays
   abbrev Seen : List ℕ → List ℕ → Type 0
   Seen xs ys =
-      (bs : List ℕ) × (xs ≡ b ∷ bs) × (TakesFirst s → ys ≡ bs)
-      × ((TakesFirst s → ⊥) → ys ≡ b ∷ bs)
+      (bs : List ℕ) × (xs ≡ b ∷ bs) × (TakesFirst s → ys ≡ bs) × ((TakesFirst s → ⊥) → ys ≡ b ∷ bs)
 
   seen : ((TakesFirst s → ⊥) → c ≡ m) → Reached Seen a c
   seen left = elim (takes_or_not s) [
     | inl t ↦ reached_as (First b) Seen (λ xs ys e. (ys, e, λ t. refl, λ n. absurd (n t)))
         (byte_taken o (taken t))
     | inr n ↦ reached_as (λ xs ys. (ys ≡ xs) × (rest : List ℕ) × (xs ≡ b ∷ rest)) Seen
-        (λ xs ys h. (h.1, h.2, λ t. absurd (n t), λ n. h.0 ∙ h.2))
-        (subst (λ v. Reached (λ xs ys. (ys ≡ xs) × (rest : List ℕ) × (xs ≡ b ∷ rest)) a v)
-        (sym (left n)) (byte_stays o))
+        (λ xs ys h. (h.1, h.2, λ t. absurd (n t), λ n. h.0 ∙ h.2)) (subst (λ v. Reached
+        (λ xs ys. (ys ≡ xs) × (rest : List ℕ) × (xs ≡ b ∷ rest)) a v) (sym (left n)) (byte_stays o))
   ]
 
   pub first_rejected : (inner : Budget) {E : Type 0} {e : DecodeError E} → s ≡ start_of (initial b)
@@ -93,8 +83,7 @@ module _ {b : ℕ} {a m c : View} (o : Offers 1 (FirstByteIs b) a m) (s : Start)
       → Does {V = After} (Leads inner) (RejectsSkippingUnder inner) a c (Err e)
   first_rejected inner {e = e} is left says =
       let z = says_some (rejection_of s b) e says in
-      does_reject Seen (Leads inner) (RejectsSkippingUnder inner) z.0 z.2 z.3 z.4
-      (λ xs ys h. subst (λ x. RejectsSkippingUnder inner x z.0 ys) (sym h.1)
-      (begins_none inner b z.0 h.0 ys (subst (λ t. rejection_of t b ≡ Some z.0) is z.1)
-      (subst (λ t. TakesFirst t → ys ≡ h.0) is h.2)
+      does_reject Seen (Leads inner) (RejectsSkippingUnder inner) z.0 z.2 z.3 z.4 (λ xs ys h. subst
+      (λ x. RejectsSkippingUnder inner x z.0 ys) (sym h.1) (begins_none inner b z.0 h.0 ys (subst
+      (λ t. rejection_of t b ≡ Some z.0) is z.1) (subst (λ t. TakesFirst t → ys ≡ h.0) is h.2)
       (subst (λ t. (TakesFirst t → ⊥) → ys ≡ b ∷ h.0) is h.3))) (seen left)

@@ -12,9 +12,8 @@ use Rattle.cbor4ii_tree.specs.{SkippingRejects.SkippingRejects, Tree.bytes, Cost
 use Rattle.cbor4ii_tree.specs.{Does.Does, Ignored.{ReadsIgnored, RejectsIgnored}, Skipping.SkipsOne}
 use Rattle.cbor4ii_tree.specs.{Skipping.RejectsSkippingOne, declared.ignored.IgnoredAny.IgnoredAny}
 
-ignored_sound : {E : Type 0} (v : IgnoredAny) {u : Unit {0}} {a b : View}
-    → Does {E = E} (λ xs _ ys. SkipsOne a.budget xs ys) (RejectsSkippingOne a.budget) a b (Ok u)
-    → Sound ReadsIgnored a b v
+ignored_sound : {E : Type 0} (v : IgnoredAny) {u : Unit {0}} {a b : View} → Does {E = E} (λ xs _ ys.
+    SkipsOne a.budget xs ys) (RejectsSkippingOne a.budget) a b (Ok u) → Sound ReadsIgnored a b v
 ignored_sound v d = record {
   at = λ xs known.
       let s = d.ok xs known in
@@ -44,9 +43,8 @@ none_skipped (Some z) xs budget new h =
     λ v n c r fits. not_both xs budget r.of_tree (drop n xs) z h.0 (skips_by r.loose (subst (λ j.
     CostFits j budget) r.cost fits) r.begins) h.2
 
-ignored_complete : {U E : Type 0} {e : DecodeError E} {a b : View}
-    → Does {V = U} (λ xs _ ys. SkipsOne a.budget xs ys) (RejectsSkippingOne a.budget) a b (Err e)
-    → Complete ReadsIgnored a e
+ignored_complete : {U E : Type 0} {e : DecodeError E} {a b : View} → Does {V = U} (λ xs _ ys.
+    SkipsOne a.budget xs ys) (RejectsSkippingOne a.budget) a b (Err e) → Complete ReadsIgnored a e
 ignored_complete {e = e} {a = a} {b = b} d =
     record { at = λ xs known. none_skipped (input_error_of e) xs a.budget b.known (d.err xs known) }
 

@@ -1,7 +1,7 @@
 -- Items that hold no other, one after another.
 use Rattle.std.proofs.Common.{◌≡◌, ◌≢◌, ℕ, zero, suc, ◌+◌, ◌-◌, ◌*◌, ◌%◌, ◌<◌, ◌≤◌, ◌&&◌, List, []}
-use Rattle.std.proofs.Common.{◌∷◌, ◌++◌, length, get_or, take, drop, None, refl, sym, ap, ap₂, ◌∙◌}
-use Rattle.std.proofs.Common.{subst, arith, true, false, Bool, cond, ltb, ltb-true, eqb, eqb-true}
+use Rattle.std.proofs.Common.{◌∷◌, ◌++◌, length, get_or, take, drop, refl, sym, ap, ap₂, ◌∙◌, subst}
+use Rattle.std.proofs.Common.{arith, true, false, Bool, cond, ltb, ltb-true, eqb, eqb-true}
 use Rattle.std.proofs.Common.{append-nil, inl, inr, nat_eq, drop-cons, length-drop}
 use Rattle.std.proofs.{Math.Seq.{take-add, take-length}, lemmas.Bool.cases_eq}
 use Rattle.std.proofs.lemmas.List.{length-take-le}
@@ -9,8 +9,8 @@ use Rattle.cbor4ii_items.specs.{Budget.CostFits, Head.IsBytes, Initial.initial}
 use Rattle.cbor4ii_items.specs.Laws.Contents.{first_bytes}
 use Rattle.cbor4ii_tree.proofs.{heads.Inverse.{IsBytes-take, IsBytes-drop}, parts.Pushed.push}
 use Rattle.cbor4ii_tree.proofs.parts.Pushed.{count-push, each-push, bytes-push}
-use Rattle.cbor4ii_tree.proofs.skip_calls.Leading.{bytes_leaf, content_info, argument_low}
-use Rattle.cbor4ii_tree.proofs.skip_calls.Leading.{empty_items, empty_members}
+use Rattle.cbor4ii_tree.proofs.skip_calls.Leading.{bytes_leaf, content_leaf, short_argument}
+use Rattle.cbor4ii_tree.proofs.skip_calls.Leading.{empty_leaf}
 use Rattle.cbor4ii_tree.specs.{Ahead.{leaf_by, leaf_bytes}, Cost.Budget, HeadParts.DropsBytes}
 use Rattle.cbor4ii_tree.specs.{Rejections.Each, Runs.{IsLeaf, TakesLeaf, IsLeafAt, IsPairAt}}
 use Rattle.cbor4ii_tree.specs.{Runs.{BeginsRun, TakesRun}, Skipping.{start_of, SkipsItems}}
@@ -48,17 +48,17 @@ leaf_here b k bs small is size fresh = by_start (start_of (initial b)) refl is
 
     by_start : (s : Start) → start_of (initial b) ≡ s → leaf_by s (b % 32) ≡ suc k
         → TakesLeaf (b ∷ bs) []
-    by_start (start.Bytes j) e h = bytes_leaf b j bs [] small e (all j (omega (arith, h)))
+    by_start (start.Bytes j) e h = bytes_leaf b small j bs [] e (all j (omega (arith, h)))
     by_start start.Content e h =
         let l = low_is (ltb (b % 32) 24) (b % 32) k refl h in
-        let i = content_info None b small e in
-        i.4 bs bs [] (b % 32) (argument_low i.0 b bs i.1 l.1) (all (b % 32) l.0)
+        content_leaf b small bs bs [] (b % 32) e (short_argument b small bs e l.1)
+        (all (b % 32) l.0)
     by_start start.Items e h =
         let z = zero_is (eqb (b % 32) 0) (b % 32) k refl h in
-        nothing z.0 (empty_items b bs small e z.1)
+        nothing z.0 (empty_leaf b small start.Items bs (inl refl) e z.1)
     by_start start.Members e h =
         let z = zero_is (eqb (b % 32) 0) (b % 32) k refl h in
-        nothing z.0 (empty_members b bs small e z.1)
+        nothing z.0 (empty_leaf b small start.Members bs (inr refl) e z.1)
     by_start _ e h = absurd (omega (arith, h))
 
 pub shown_bytes : (shown : List ℕ) → ((i : ℕ) → get_or shown i 0 < 256) → IsBytes shown

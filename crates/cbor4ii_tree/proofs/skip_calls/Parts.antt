@@ -1,17 +1,17 @@
 -- Items that are skipped one after another.
 use Rattle.std.proofs.Common.{◌≡◌, ◌≢◌, ℕ, ◌+◌, ◌<◌, inl, inr, List, [], ◌∷◌, ◌++◌, true, false}
-use Rattle.std.proofs.Common.{refl, sym, ap, ap₂, ◌∙◌, take, drop, arith, subst, ◌≤◌}
+use Rattle.std.proofs.Common.{refl, sym, ap, ap₂, ◌∙◌, take, drop, arith, subst, ◌≤◌, append-nil}
 use Rattle.cbor4ii_items.specs.{Head.break, Strings.ReadsBreak}
-use Rattle.cbor4ii_tree.proofs.parts.Joined.{join, count-join, each-join, bytes-join}
-use Rattle.cbor4ii_tree.proofs.parts.Pushed.{push, count-push, each-push, bytes-push, push_pair}
-use Rattle.cbor4ii_tree.proofs.parts.Pushed.{each-push_pair, bytes-push_pair}
-use Rattle.cbor4ii_tree.proofs.parts.Rejecting.{in_count}
-use Rattle.cbor4ii_tree.specs.{Skipping.RejectsSkippingMembers, SkippingRejects.Skippable}
-use Rattle.cbor4ii_tree.specs.{Cost.Budget, InputError.InputError, Rejections.{Each, EachPair}}
-use Rattle.cbor4ii_tree.specs.{Rejections.NoBreak, Skipping.{SkipsOne, RejectsSkippingOne}}
+use Rattle.cbor4ii_tree.proofs.parts.{Joined.{join, count-join, each-join, bytes-join}, Pushed.push}
+use Rattle.cbor4ii_tree.proofs.parts.Pushed.{count-push, each-push, bytes-push, push_pair}
+use Rattle.cbor4ii_tree.proofs.parts.{Pushed.{each-push_pair, bytes-push_pair}, Rejecting.in_count}
+use Rattle.cbor4ii_tree.specs.Skipping.{RejectsSkippingMembers, SkipsOne, RejectsSkippingOne}
 use Rattle.cbor4ii_tree.specs.Skipping.{SkipsItems, RejectsSkippingItems, SkipsIndefinite}
-use Rattle.cbor4ii_tree.specs.{Skipping.{RejectsSkippingIndefinite, SkipsMembers}, Tree.Trees}
-use Rattle.cbor4ii_tree.specs.Tree.{no_trees, Pairs, no_pairs, bytes, bytes_all, bytes_pairs}
+use Rattle.cbor4ii_tree.specs.Skipping.{RejectsSkippingIndefinite, SkipsMembers}
+use Rattle.cbor4ii_tree.specs.{SkippingRejects.Skippable, Cost.Budget, InputError.InputError}
+use Rattle.cbor4ii_tree.specs.{Ahead.NotBreak, Rejections.{Stopping, Each, EachPair, NoBreak}}
+use Rattle.cbor4ii_tree.specs.Tree.{Trees, no_trees, tree, count, Pairs, no_pairs, bytes, bytes_all}
+use Rattle.cbor4ii_tree.specs.Tree.{bytes_pairs}
 
 -- whole items
 abbrev pub SkippedEach : Budget → List ℕ → List ℕ → Type 0
@@ -26,18 +26,14 @@ pub items_join : (n m : ℕ) (budget : Budget) (xs ys zs : List ℕ) → SkipsIt
 items_join n m budget xs ys zs h k = (
   join h.0 k.0,
   count-join h.0 k.0 ∙ ap₂ ◌+◌ h.1 k.1,
-  each-join (Skippable budget) h.0 k.0 h.2
-      k.2,
+  each-join (Skippable budget) h.0 k.0 h.2 k.2,
   h.3 ∙ ap (λ r. bytes_all h.0 ++ r) k.3 ∙ sym (bytes-join h.0 k.0 zs),
 )
 
 pub each_join : (m : ℕ) (budget : Budget) (xs ys zs : List ℕ) → SkippedEach budget xs ys
     → SkipsItems m budget ys zs → SkippedEach budget xs zs
-each_join m budget xs ys zs h k = (
-  join h.0 k.0,
-  each-join (Skippable budget) h.0 k.0 h.1 k.2,
-  h.2 ∙ ap (λ r. bytes_all h.0 ++ r) k.3 ∙ sym (bytes-join h.0 k.0 zs),
-)
+each_join m budget xs ys zs h k =
+    let r = items_join (count h.0) m budget xs ys zs (h.0, refl, h.1, h.2) k in (r.0, r.2, r.3)
 
 pub items_none : (budget : Budget) (xs : List ℕ) → SkipsItems 0 budget xs xs
 items_none budget xs = (no_trees, refl, tt, refl)
@@ -57,17 +53,47 @@ items_more n budget xs ys zs h k = (
   h.3 ∙ ap (λ r. bytes_all h.0 ++ r) k.1.begins ∙ sym (bytes-push h.0 k.0 zs),
 )
 
+pub items_one : (budget : Budget) (xs ys : List ℕ) → SkipsOne budget xs ys
+    → SkipsItems 1 budget xs ys
+items_one budget xs ys k = items_more 0 budget xs xs ys (items_none budget xs) k
+
 pub items_stop : (i n : ℕ) (budget : Budget) (xs ys : List ℕ) (e : InputError) (rest : List ℕ)
     → i < n → SkipsItems i budget xs ys → RejectsSkippingOne budget ys e rest
     → RejectsSkippingItems n budget xs e rest
-items_stop i n budget xs ys e rest lt h s =
-    in_count h.0 ys (omega (arith, h.1)) h.2 h.3 s
+items_stop i n budget xs ys e rest lt h s = in_count h.0 ys (omega (arith, h.1)) h.2 h.3 s
 
-pub no_break : (budget : Budget) (ys : List ℕ) (e : InputError) (rest : List ℕ) → ys ≢ []
-    → (take_break : (bs : List ℕ) → ys ≡ break ∷ bs → ⊥) → RejectsSkippingOne budget ys e rest
-    → NoBreak (RejectsSkippingOne budget) ys e rest
-no_break budget [] e rest some none s = absurd (some refl)
-no_break budget (b ∷ bs) e rest some none s = ((λ f. none bs (ap (λ c. c ∷ bs) f)), s)
+pub first_stop : (n : ℕ) (budget : Budget) (xs : List ℕ) (e : InputError) (rest : List ℕ) → 1 ≤ n
+    → RejectsSkippingOne budget xs e rest → RejectsSkippingItems n budget xs e rest
+first_stop n budget xs e rest some s =
+    items_stop 0 n budget xs xs e rest (omega (arith, some)) (items_none budget xs) s
+
+pub only_one : (budget : Budget) (xs ys : List ℕ) → SkipsItems 1 budget xs ys
+    → SkipsOne budget xs ys
+only_one budget xs ys (no_trees, c, w, is) = absurd (omega (arith, c))
+only_one budget xs ys (tree t no_trees, c, w, is) = (
+  t,
+  record {
+    loose = w.0.0;
+    fits = w.0.1;
+    begins = is ∙ ap (λ r. r ++ ys) (append-nil (bytes t));
+  },
+)
+only_one budget xs ys (tree t (tree u us), c, w, is) = absurd (omega (arith, c))
+
+-- the first of one is rejected
+pub first_of : (budget : Budget) (xs : List ℕ) (e : InputError) (rest : List ℕ)
+    → RejectsSkippingItems 1 budget xs e rest → RejectsSkippingOne budget xs e rest
+first_of budget xs e rest h = at_front h.prefix h.few h.is
+  where
+    at_front : (ts : Trees) → count ts < 1 → xs ≡ bytes_all ts ++ h.after
+        → RejectsSkippingOne budget xs e rest
+    at_front no_trees f is = subst (λ x. RejectsSkippingOne budget x e rest) (sym is) h.stopped
+    at_front (tree t ts) f is = absurd (omega (arith, f))
+
+pub no_break : (S : Stopping) (ys : List ℕ) (e : InputError) (rest : List ℕ) → NotBreak ys
+    → S ys e rest → NoBreak S ys e rest
+no_break S [] e rest other s = absurd (other.0 refl)
+no_break S (b ∷ bs) e rest other s = ((λ f. other.1 bs (ap (λ c. c ∷ bs) f)), s)
 
 pub indefinite_stop : (budget : Budget) (xs ys : List ℕ) (e : InputError) (rest : List ℕ)
     → SkippedEach budget xs ys → NoBreak (RejectsSkippingOne budget) ys e rest

@@ -1,28 +1,20 @@
 -- Calls of prefixes.
-use Rattle.std.proofs.Common.{◌≡◌, ◌≢◌, ℕ, ◌-◌, ◌<◌, ◌≤◌, List, [], ◌∷◌, ◌++◌, length, take, drop}
-use Rattle.std.proofs.Common.{Some, Ok, Err, refl, sym, ap, ◌∙◌, subst, arith, take-append-drop}
-use Rattle.std.proofs.lemmas.List.{drop-append-le, length-take-le}
 use denote.Ref.{Bor}
-use Rattle.cbor4ii_rw.specs.View.{View}
-use Rattle.cbor4ii_rw.specs.Reader.{Advances, KeepsAllButBudget}
-use Rattle.cbor4ii_rw.specs.declared.error.Len.{Len}
+use Rattle.std.proofs.Common.{◌≡◌, ◌≢◌, ℕ, ◌-◌, ◌<◌, ◌≤◌, List, [], ◌∷◌, ◌++◌, length, take, drop}
+use Rattle.std.proofs.Common.{Some, Ok, Err, Bool, IsTrue, refl, sym, ap, ◌∙◌, subst, arith}
+use Rattle.std.proofs.{Common.take-append-drop, lemmas.List.{drop-append-le, length-take-le}}
+use Rattle.cbor4ii_rw.specs.{View.View, Reader.Advances, declared.error.Len.Len}
 use Rattle.cbor4ii_rw.specs.declared.error.Len.TheVariants.{Small, Big}
 use Rattle.cbor4ii_rw.specs.declared.error.DecodeError.TheVariants.{Eof}
-use Rattle.cbor4ii_items.specs.Head.{IsBytes}
-use Rattle.cbor4ii_items.specs.InputError.{eof, len_of}
-use Rattle.cbor4ii_items.specs.Laws.Contents.{lends_prefix}
+use Rattle.cbor4ii_items.specs.{Head.IsBytes, InputError.{eof, len_of}, Laws.Contents.lends_prefix}
 use Rattle.cbor4ii_items.specs.Laws.Running.{shows_kept}
-use Rattle.cbor4ii_tree.specs.Prefix.{Offers, FirstByteIs, Ready}
-use Rattle.cbor4ii_tree.specs.Cost.{Budget}
-use Rattle.cbor4ii_tree.specs.HeadParts.{DropsSome, TakesByte, NoByte}
-use Rattle.cbor4ii_tree.specs.Ahead.{Sees, TakesAhead, TakesHead, Passes, NeverRejects}
-use Rattle.cbor4ii_tree.specs.declared.skip.initial.After.{After}
-use Rattle.cbor4ii_tree.specs.declared.ahead.Among.{Among}
-use Rattle.cbor4ii_tree.specs.declared.ahead.Ahead.{Ahead}
-use Rattle.cbor4ii_tree.specs.declared.ahead.Ahead.TheVariants.{Run, Head, Break}
-use Rattle.cbor4ii_tree.specs.Rejections.{Missing}
-use Rattle.cbor4ii_tree.specs.Does.{Does}
-use Rattle.cbor4ii_tree.proofs.skip_calls.Doing.{Reached, does_ok, does_reject}
+use Rattle.cbor4ii_tree.specs.{Prefix.{Offers, FirstByteIs, Ready}, HeadParts.DropsSome}
+use Rattle.cbor4ii_tree.specs.{HeadParts.{TakesByte, NoByte}, Ahead.{Sees, TakesAhead, TakesHead}}
+use Rattle.cbor4ii_tree.specs.{Ahead.{Passes, NeverRejects}, declared.skip.initial.After.After}
+use Rattle.cbor4ii_tree.specs.declared.ahead.{Among.Among, Ahead.{Ahead, TheVariants.{Run, Head}}}
+use Rattle.cbor4ii_tree.specs.{declared.ahead.Ahead.TheVariants.Break, Rejections.Missing}
+use Rattle.cbor4ii_tree.specs.Does.{Does, DoesApart}
+use Rattle.cbor4ii_tree.proofs.skip_calls.Doing.{Reached, does_ok, does_reject, apart_leaf}
 use Rattle.cbor4ii_tree.proofs.skip_calls.Bytes.{len_is}
 
 -- ---- the next byte
@@ -81,8 +73,7 @@ module _ {want : ℕ} {found : ℕ × ℕ} {a m : View} (some : 1 ≤ want)
   none_ready {name = name} {l = l} none small big =
       let is : l ≡ len_of want = len_is want l small big in
       does_reject (λ xs ys. (xs ≡ []) × (ys ≡ [])) (DropsSome want) (Missing name.now want)
-      (eof name.now l) refl refl refl
-      (λ xs ys e. let z : length xs ≡ 0 = ap length e.0 in
+      (eof name.now l) refl refl refl (λ xs ys e. let z : length xs ≡ 0 = ap length e.0 in
       let gap : want - length xs ≡ want = omega (arith, z) in
       (omega (arith, z, some), (ap (eof name.now) (is ∙ ap len_of (sym gap)), e.1))) (ended none)
 
@@ -112,15 +103,18 @@ module _ {want : ℕ} {found : ℕ × ℕ} {a m : View} (some : 1 ≤ want)
 
 -- ---- what one look decides
 
-module _ (among : Among) (inner : Budget) {a m b : View} where
-  pub takes_run : {E : Type 0} (n size : ℕ) {seen : Ahead} → seen ≡ Run n size
-      → Offers 256 (Sees among seen) a m → Advances size m b
-      → Does {V = Ahead} {E = E} (TakesAhead among inner) NeverRejects a b (Ok (Run n size))
+abbrev pub Took : Among → (E : Type 0) → Bool → View → View → View → View → Ahead → Type 0
+Took among E t p i a b seen =
+    DoesApart {E = E} (TakesAhead among) (λ _. NeverRejects) (Passes among) t p i a b (Ok seen)
+
+module _ (among : Among) (E : Type 0) {t : Bool} {p i a m b : View} (stays : IsTrue t → i ≡ p) where
+  pub takes_run : (n size : ℕ) {seen : Ahead} → seen ≡ Run n size
+      → Offers 256 (Sees among seen) a m → Advances size m b → Took among E t p i a b (Run n size)
   takes_run n size is h adv =
       let o = subst (λ s. Offers 256 (Sees among s) a m) is h in
       let l = lends_prefix o.shows o.prefix o.is.begins.within o.is.bytes refl adv in
       let run = o.is.begins.run in
-      does_ok (TakesAhead among inner) NeverRejects (record {
+      apart_leaf (does_ok _ _ (record {
         kept = l.kept;
         at = λ xs known.
             let t = l.at xs known in (
@@ -130,19 +124,21 @@ module _ (among : Among) (inner : Budget) {a m b : View} where
                 run.0,
                 run.1,
                 run.2,
-                sym (take-append-drop size xs)
-                    ∙ ap (λ r. r ++ drop size xs) (sym t.2 ∙ run.3),
+                sym (take-append-drop size xs) ∙ ap (λ r. r ++ drop size xs) (sym t.2 ∙ run.3),
               ),
             );
-      })
+      })) tt (
+        o.is.some,
+        o.is.allowed,
+        omega (arith, o.is.some, o.is.begins.few, adv.bound, o.shows.bound),
+      ) stays
 
-  pub takes_head : {E : Type 0} (size : ℕ) (trailing : After) {seen : Ahead}
-      → seen ≡ Head size trailing → Offers 256 (Sees among seen) a m → Advances size m b
-      → Does {V = Ahead} {E = E} (TakesAhead among inner) NeverRejects a b (Ok (Head size trailing))
+  pub takes_head : (size : ℕ) (trailing : After) {seen : Ahead} → seen ≡ Head size trailing → Offers
+      256 (Sees among seen) a m → Advances size m b → Took among E t p i a b (Head size trailing)
   takes_head size trailing is h adv =
       let o = subst (λ s. Offers 256 (Sees among s) a m) is h in
       let l = lends_prefix o.shows o.prefix o.is.within o.is.bytes refl adv in
-      does_ok (TakesAhead among inner) NeverRejects (record {
+      apart_leaf (does_ok _ _ (record {
         kept = l.kept;
         at = λ xs known.
             let rest = drop (length o.shown) xs in
@@ -152,63 +148,19 @@ module _ (among : Among) (inner : Budget) {a m b : View} where
             sym (drop-append-le size o.shown rest o.is.within) ∙ ap (drop size) (sym begins) in (
               drop size xs,
               (l.at xs known).1,
-              subst (λ (ys : List ℕ). TakesHead inner ys trailing (drop size xs)) (sym begins)
-                  (subst (λ (ys : List ℕ). TakesHead inner (o.shown ++ rest) trailing ys) left
-                  (record { leads = o.is.leads inner rest; item = o.is.item inner rest })),
+              subst (λ (ys : List ℕ). TakesHead a.budget ys trailing (drop size xs)) (sym begins)
+                  (subst (λ (ys : List ℕ). TakesHead a.budget (o.shown ++ rest) trailing ys) left
+                  (record { leads = o.is.leads a.budget rest; item = o.is.item a.budget rest })),
             );
-      })
+      })) tt (omega (arith, o.is.some, adv.bound, o.shows.bound)) stays
 
-  pub takes_break : {E : Type 0} {seen : Ahead} → seen ≡ Break → Offers 256 (Sees among seen) a m
-      → Advances 1 m b → Does {V = Ahead} {E = E} (TakesAhead among inner) NeverRejects a b
-      (Ok Break)
+  pub takes_break : {seen : Ahead} → seen ≡ Break → Offers 256 (Sees among seen) a m
+      → Advances 1 m b → Took among E t p i a b Break
   takes_break is h adv =
       let o = subst (λ s. Offers 256 (Sees among s) a m) is h in
-      does_ok (TakesAhead among inner) NeverRejects (byte_taken (record {
+      apart_leaf (does_ok _ _ (byte_taken (record {
         shown = o.shown;
         shows = o.shows;
         prefix = o.prefix;
         is = (λ none. absurd (omega (arith, none, o.is.1.some)), sym o.is.1.is, omega arith);
-      }) adv)
-
-module _ (among : Among) {a m b : View} where
-  pub passes_run : (n size : ℕ) {seen : Ahead} → seen ≡ Run n size
-      → Offers 256 (Sees among seen) a m → Advances size m b
-      → Passes among (Run n size) a.bound b.bound
-  passes_run n size is h adv =
-      let o = subst (λ s. Offers 256 (Sees among s) a m) is h in
-      (o.is.some, o.is.allowed, omega (arith, o.is.some, o.is.begins.few, adv.bound, o.shows.bound))
-
-  pub passes_head : (size : ℕ) (trailing : After) {seen : Ahead} → seen ≡ Head size trailing
-      → Offers 256 (Sees among seen) a m → Advances size m b
-      → Passes among (Head size trailing) a.bound b.bound
-  passes_head size trailing is h adv =
-      let o = subst (λ s. Offers 256 (Sees among s) a m) is h in
-      omega (arith, o.is.some, adv.bound, o.shows.bound)
-
--- ---- the reader behind a prefix
-
-pub keeps_alike : (a b : View) → b ≡ a → KeepsAllButBudget a b
-keeps_alike a b same = record {
-  known = ap (λ (v : View). v.known) same;
-  bound = ap (λ (v : View). v.bound) same;
-  advanceable = ap (λ (v : View). v.advanceable) same;
-  failures = ap (λ (v : View). v.failures) same;
-  taken = ap (λ (v : View). v.taken) same;
-  zero_copy = ap (λ (v : View). v.zero_copy) same;
-  remembers = ap (λ (v : View). v.remembers) same;
-  ends_at = ap (λ (v : View). v.ends_at) same;
-}
-
-pub keeps_then : {a b c : View} → KeepsAllButBudget a b → KeepsAllButBudget b c
-    → KeepsAllButBudget a c
-keeps_then p q = record {
-  known = q.known ∙ p.known;
-  bound = q.bound ∙ p.bound;
-  advanceable = q.advanceable ∙ p.advanceable;
-  failures = q.failures ∙ p.failures;
-  taken = q.taken
-      ∙ p.taken;
-  zero_copy = q.zero_copy ∙ p.zero_copy;
-  remembers = q.remembers ∙ p.remembers;
-  ends_at = q.ends_at ∙ p.ends_at;
-}
+      }) adv)) tt o.is.0 stays

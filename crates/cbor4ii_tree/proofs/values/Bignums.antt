@@ -1,7 +1,7 @@
 -- Integers beyond 64 bits as the tags that they are written as.
 use Rattle.std.proofs.Common.{◌≡◌, ℕ, zero, suc, ◌+◌, ◌<◌, ◌≤◌, List, [], ◌∷◌, ◌++◌, length, take}
-use Rattle.std.proofs.Common.{get_or, set, ap, ap₂, ◌∙◌, rules, arith, Vec, Global, ◌^◌, pos}
-use Rattle.std.proofs.{Common.{negsuc, ltb, ltb-true, refl}, lemmas.List.{take_more, take_more_set}}
+use Rattle.std.proofs.Common.{get_or, set, ap, ap₂, ◌∙◌, arith, ◌^◌, pos, negsuc, ltb, ltb-true}
+use Rattle.std.proofs.{Common.refl, lemmas.List.{take_more, take_more_set}}
 use Rattle.cbor4ii_items.specs.{Head.shortest, Initial.{Sign, unsigned, negative}}
 use Rattle.cbor4ii_items.specs.Laws.Heads.{if_cases, shortest_fits}
 use Rattle.cbor4ii_tree.specs.Canonical.{with_bignums, with_bignums_all, with_bignums_members}
@@ -9,13 +9,8 @@ use Rattle.cbor4ii_tree.specs.{Canonical.{magnitude, sign_tag, tagged_integer}, 
 use Rattle.cbor4ii_tree.specs.Item.{boolean, integer, float, bytes_item, text, sequence, mapping}
 use Rattle.cbor4ii_tree.specs.Item.{tag, Items, no_items, item, Members, no_members, member, size}
 use Rattle.cbor4ii_tree.specs.{Item.{size_all, size_members}, Meaning.number, Tree.int, View.view}
-use Rattle.cbor4ii_tree.specs.{View.{items_view, members_view}, declared.value.Value.{Value, Bytes}}
-use Rattle.cbor4ii_tree.specs.declared.value.Value.{the_lemmas}
-use Rattle.cbor4ii_tree.proofs.{encodings.Canonical.with_bignums-value, values.Views.item_injective}
-use Rattle.cbor4ii_tree.proofs.values.Views.{member_injective}
-
-pub view-Bytes : (v : Vec ℕ Global) → view (Bytes v) ≡ bytes_item v.items
-view-Bytes v = search (rules, the_lemmas)
+use Rattle.cbor4ii_tree.specs.{View.{items_view, members_view}, declared.value.Value.Value}
+use Rattle.cbor4ii_tree.proofs.encodings.Canonical.{with_bignums-value}
 
 items-push : (vs ws : List Value) (v w : Value)
     → items_view vs ≡ with_bignums_all (items_view ws) → view v ≡ with_bignums (view w)
@@ -23,10 +18,7 @@ items-push : (vs ws : List Value) (v w : Value)
 items-push [] [] v w h e = ap (λ x. item x no_items) e
 items-push [] (x ∷ ws) v w h e = cc
 items-push (x ∷ vs) [] v w h e = cc
-items-push (x ∷ vs) (y ∷ ws) v w h e =
-    let p = item_injective (view x) (with_bignums (view y)) (items_view vs)
-    (with_bignums_all (items_view ws)) h in
-    ap₂ item p.0 (items-push vs ws v w p.1 e)
+items-push (x ∷ vs) (y ∷ ws) v w h e = cc (items-push vs ws v w (cc) e)
 
 members-push : (ms ns : List (Value × Value)) (m n : Value × Value)
     → members_view ms ≡ with_bignums_members (members_view ns)
@@ -35,10 +27,7 @@ members-push : (ms ns : List (Value × Value)) (m n : Value × Value)
 members-push [] [] m n h e f = cc
 members-push [] (x ∷ ns) m n h e f = cc
 members-push (x ∷ ms) [] m n h e f = cc
-members-push (x ∷ ms) (y ∷ ns) m n h e f =
-    let p = member_injective (view x.0) (with_bignums (view y.0)) (view x.1)
-    (with_bignums (view y.1)) (members_view ms) (with_bignums_members (members_view ns)) h in
-    cc (p.0, p.1, members-push ms ns m n p.2 e f)
+members-push (x ∷ ms) (y ∷ ns) m n h e f = cc (members-push ms ns m n (cc) e f)
 
 -- one value more: y stands at the place of x
 pub items_tagged : (xs zs : List Value) (i : ℕ) (x y : Value) → i < length xs → i < length zs

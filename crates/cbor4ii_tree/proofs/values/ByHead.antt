@@ -1,33 +1,25 @@
 -- Arrays, maps and tags by their heads, which a look has shown whole.
-use Rattle.std.proofs.Common.{Bool, ◌≡◌, ℕ, zero, suc, ◌+◌, ◌/◌, ◌≤◌, List, [], ◌∷◌, ◌++◌, length}
-use Rattle.std.proofs.Common.{take, drop, take-append-drop, length-drop, true, Some, IfSome, IsTrue}
-use Rattle.std.proofs.Common.{Result, Ok, refl, sym, ap, ◌∙◌, subst, arith}
+use Rattle.std.proofs.Common.{Bool, ◌≡◌, ℕ, ◌+◌, ◌/◌, ◌≤◌, List, ◌∷◌, ◌++◌, length, take, drop}
+use Rattle.std.proofs.Common.{take-append-drop, length-drop, true, Some, IfSome, IsTrue, Result, Ok}
+use Rattle.std.proofs.{Common.{refl, sym, ap, ◌∙◌, subst, arith}, lemmas.List.take-append-le}
 use Rattle.cbor4ii_rw.specs.Reader.{Advances, IsPrefix, KeepsAllButBudget, Shows, StepsIn, counts}
 use Rattle.cbor4ii_rw.specs.{View.{View, IfKnown}, declared.error.DecodeError.DecodeError}
-use Rattle.cbor4ii_items.specs.{Head.{IsBytes, head}}
-use Rattle.cbor4ii_items.specs.Laws.Running.{kept_alike, peeked, shows_kept}
+use Rattle.cbor4ii_items.specs.{Head.{IsBytes, head}, Laws.Running.{kept_alike, peeked, shows_kept}}
 use Rattle.cbor4ii_items.specs.{Laws.Steps.counts_more, Moves.Kept, Reading.{Runs, peek_at}}
-use Rattle.cbor4ii_tree.specs.{Cost.Budget, Deeper.budgeted}
-use Rattle.cbor4ii_tree.specs.{Rejections.Stopping, Valuing.HeadAt, declared.leaf.Head.Head}
-use Rattle.cbor4ii_tree.specs.{declared.leaf.Leaf.Leaf, declared.leaf.Leaf.TheVariants.Begins}
-use Rattle.cbor4ii_tree.specs.{Does.{Accepting, Does}, InputError.value_name, Leaf.HeadStands}
-use Rattle.cbor4ii_tree.specs.{Leaf.{SeesLeaf, SeesNext, ShowsHead, ShowsNext}, Prefix.Offers}
-use Rattle.cbor4ii_tree.specs.declared.leaf.Next.{Next}
-use Rattle.cbor4ii_tree.proofs.skip_calls.Doing.{Reached, does_after, reached_as, reached_peek}
-use Rattle.cbor4ii_tree.proofs.values.Leaves.{shows_first, some_as}
+use Rattle.cbor4ii_tree.specs.{Cost.Budget, Deeper.budgeted, Rejections.Stopping, Valuing.HeadAt}
+use Rattle.cbor4ii_tree.specs.{declared.leaf.Head.Head, Does.{Accepting, Does}}
+use Rattle.cbor4ii_tree.specs.{InputError.value_name, Leaf.{HeadStands, SeesNext, ShowsHead}}
+use Rattle.cbor4ii_tree.specs.{Leaf.ShowsNext, declared.leaf.Next.Next}
+use Rattle.cbor4ii_tree.proofs.skip_calls.Doing.{Reached, reached_as, reached_peek}
+use Rattle.cbor4ii_tree.proofs.{values.Leaves.{shows_first, some_as}, values.Calls.does_under}
 
 -- ---- what a look has shown
-
-take_less : (n m : ℕ) (xs : List ℕ) → n ≤ m → take n (take m xs) ≡ take n xs
-take_less zero m xs h = refl
-take_less (suc n) zero xs h = absurd (omega (arith, h))
-take_less (suc n) (suc m) [] h = refl
-take_less (suc n) (suc m) (x ∷ xs) h = ap (λ zs. x ∷ zs) (take_less n m xs (omega (arith, h)))
 
 pub prefix_shown : (size : ℕ) (shown xs : List ℕ) → size ≤ length shown
     → take (length shown) xs ≡ shown → take size xs ≡ take size shown
 prefix_shown size shown xs within e =
-    sym (take_less size (length shown) xs within) ∙ ap (take size) e
+    ap (take size) (sym (take-append-drop (length shown) xs) ∙ ap (λ r. r ++ drop (length shown) xs)
+    e) ∙ take-append-le size shown (drop (length shown) xs) within
 
 head_shown : (exact : Type 0) (major n size : ℕ) {shown : List ℕ} {a m : View} → Shows shown a m
     → IfKnown a.known (IsPrefix 1 shown) → HeadStands exact major n size shown
@@ -52,13 +44,6 @@ next_shown E exact n shows prefix s = record {
   head =
       some_as n.head (λ h. head_shown exact (n.first / 32) h.argument h.size shows prefix) s.head;
 }
-
--- a look that decides nothing
-pub undecided : (E exact : Type 0) {a m : View} (n : Next) {seen : Leaf} → seen ≡ Begins n
-    → Offers 1 (SeesLeaf exact seen) a m → ShowsNext E exact n a m
-undecided E exact {a = a} {m = m} n is h =
-    let o = subst (λ s. Offers 1 (SeesLeaf exact s) a m) is h in
-    next_shown E exact n o.shows o.prefix o.is
 
 -- ---- a head that was shown
 
@@ -154,11 +139,10 @@ module _ (first : ℕ) {E : Type 0} {a m : View}
       {r : Result V (DecodeError E)} {b : View} → Does (A m.budget) (S m.budget) m b r
       → Does (A a.budget) (S a.budget) a b r
   after_peeked A S d =
-      does_after (λ xs ys. xs ≡ ys) (A m.budget) _ (S m.budget) _ (λ xs ys zs v e h. subst (λ x. A
-      a.budget x v zs) (sym e) (subst (λ o. A o ys v zs) s.moves.by.budget h)) (λ xs ys z rest e h.
-      subst (λ x. S a.budget x z rest) (sym e) (subst (λ o. S o ys z rest) s.moves.by.budget h))
-      (reached_as (λ xs ys. (rest : List ℕ) × (xs ≡ first ∷ rest) × (ys ≡ xs)) _ (λ xs ys p. sym
-      p.2) (reached_peek value_name 1 first s)) d
+      does_under (λ xs ys. xs ≡ ys) A _ S _ (λ xs ys zs v e h. subst (λ x. A a.budget x v zs) (sym
+      e) h) (λ xs ys z rest e h. subst (λ x. S a.budget x z rest) (sym e) h) (reached_as (λ xs ys.
+      (rest : List ℕ) × (xs ≡ first ∷ rest) × (ys ≡ xs)) _ (λ xs ys p. sym p.2) (reached_peek _ 1 _
+      s)) d
 
   pub peek_stepped : {b : View} → KeepsAllButBudget m b
       → Runs {V = ℕ} {E = E} (peek_at value_name 1) (budgeted b.budget a) b (Ok first)

@@ -1,30 +1,29 @@
 -- The calls of reading a value, one after another.
-use Rattle.std.proofs.Common.{◌≡◌, ℕ, ◌/◌, ◌%◌, ◌<◌, List, [], ◌∷◌, ◌++◌, Some, Result, Bool, true}
-use Rattle.std.proofs.Common.{false, refl, sym, ap, ◌∙◌, subst, arith, inl, inr}
+use Rattle.std.proofs.Common.{◌≡◌, ℕ, ◌/◌, ◌%◌, ◌<◌, List, [], ◌∷◌, Some, Result, Bool, true, false}
+use Rattle.std.proofs.Common.{refl, sym, ap, ◌∙◌, subst, arith, inl, inr, Err}
 use Rattle.std.proofs.lemmas.Int.{to_z-of_z}
 use Rattle.std.specs.Prelude.{pos, ◌^◌}
-use mir.{Syntax.w128, Val.to_z}
+use mir.Syntax.{w128}
+use mir.Val.{to_z}
 use Rattle.cbor4ii_rw.specs.{Reader.{KeepsAllButBudget, StepsIn, step_back}, View.View}
 use Rattle.cbor4ii_rw.specs.declared.error.DecodeError.{DecodeError}
-use Rattle.cbor4ii_items.specs.{Budget.CostFits, Head.{Width, in_first, one, two, four, eight}}
-use Rattle.cbor4ii_items.specs.Head.{byte_count, additional, HeadFits, indefinite_head}
-use Rattle.cbor4ii_items.specs.{Heads.{RejectsHead, Begins}, Initial.{Info, wide, indefinite_ended}}
-use Rattle.cbor4ii_items.specs.Initial.{reserved, info_of, initial, by_major, int_by_info, Sign}
-use Rattle.cbor4ii_items.specs.{Initial.{unsigned, negative, sign_major}, InputError.InputError}
-use Rattle.cbor4ii_items.specs.InputError.{depth_overflow}
-use Rattle.cbor4ii_tree.specs.{View.items_view, declared.value.Value.Value}
-use Rattle.cbor4ii_tree.specs.{CanonicalShape.CanonicalShape, Cost.{Budget, step_in, cost}}
-use Rattle.cbor4ii_tree.specs.{Does.Does, InputError.{sign_name, value_name, eof, mismatch, Small}}
-use Rattle.cbor4ii_tree.specs.{InputError.len_of, Item.{no_items, item}, Laws.Numbers.additional-lt}
-use Rattle.cbor4ii_tree.specs.{Laws.Numbers.info-additional, Meaning.{value, values}}
+use Rattle.cbor4ii_items.specs.{Budget.CostFits, Head.{Width, in_first, byte_count, additional}}
+use Rattle.cbor4ii_items.specs.{Head.{HeadFits, indefinite_head}, Heads.{RejectsHead, Begins}}
+use Rattle.cbor4ii_items.specs.Initial.{Info, wide, indefinite_ended, reserved, info_of, initial}
+use Rattle.cbor4ii_items.specs.Initial.{by_major, int_by_info, Sign, unsigned, negative, sign_major}
+use Rattle.cbor4ii_items.specs.InputError.{InputError, depth_overflow}
+use Rattle.cbor4ii_tree.specs.{declared.value.Value.Value, CanonicalShape.CanonicalShape}
+use Rattle.cbor4ii_tree.specs.{Cost.{Budget, step_in, cost}, Does.{Does, Accepting}}
+use Rattle.cbor4ii_tree.specs.InputError.{sign_name, value_name, eof, mismatch, Small, len_of}
+use Rattle.cbor4ii_tree.specs.Laws.Numbers.{additional-lt, info-additional}
 use Rattle.cbor4ii_tree.specs.ReadingRejects.{ReadingRejectsBy, ReadingRejects}
-use Rattle.cbor4ii_tree.specs.{Rejections.{RejectsAtStep, Is, MissingAll}, Tree.{Tree, Trees}}
-use Rattle.cbor4ii_tree.specs.{Tree.{no_trees, tree, Plain}, Valuing.{Whole, ReadsOneValue}}
-use Rattle.cbor4ii_tree.specs.{Valuing.{RejectsOneValue, ReadsUnder, RejectsUnder}, View.view}
+use Rattle.cbor4ii_tree.specs.{Rejections.{RejectsAtStep, Is, MissingAll, Stopping}, Tree.Tree}
+use Rattle.cbor4ii_tree.specs.{Tree.Plain, Valuing.{Whole, ReadsOneValue, RejectsOneValue}}
+use Rattle.cbor4ii_tree.specs.Valuing.{ReadsUnder, RejectsUnder}
 use Rattle.cbor4ii_tree.proofs.{skip_calls.Bytes.says_width, skip_calls.Doing.does_stepped}
+use Rattle.cbor4ii_tree.proofs.skip_calls.Doing.{steps_in, Reached, does_after, does_err}
 use Rattle.cbor4ii_tree.proofs.answers.Nesting.{reading_by_parts, strict_by_parts}
-use Rattle.cbor4ii_tree.proofs.{heads.Means.{WidthSays, InfoSays, info_says}, parts.Pushed.push}
-use Rattle.cbor4ii_tree.proofs.skip_calls.Doing.{steps_in}
+use Rattle.cbor4ii_tree.proofs.heads.Means.{WidthSays, InfoSays, info_says}
 
 -- ---- an encoding that is read whole
 
@@ -72,29 +71,34 @@ stepped exact {a = a} {b = b} takes inward w gives outward =
     a.budget step) (λ xs e rest h. rejects_under exact b.budget a.budget xs e rest step h) takes
     inward w gives outward
 
--- ---- items, one after another
+-- ---- a call after others
 
-pub values-push : (ts : Trees) (t : Tree) (vs : List Value) (v : Value) → values ts ≡ items_view vs
-    → value t ≡ view v → values (push ts t) ≡ items_view (vs ++ v ∷ [])
-unfolding push
-values-push no_trees t [] v e f = ap (λ i. item i no_items) f
-values-push no_trees t (w ∷ vs) v e f = cc
-values-push (tree u us) t [] v e f = cc
-values-push (tree u us) t (w ∷ vs) v e f =
-    let head : value u ≡ view w = cc in
-    let tail : values us ≡ items_view vs = cc in
-    let more = values-push us t vs v tail f in
-    ap (λ i. item i (values (push us t))) head ∙ ap (item (view w)) more
+-- what they read, and left the budget as it was
+pub does_under : {V E : Type 0} (P : List ℕ → List ℕ → Type 0) (A : Budget → Accepting V)
+    (B : Accepting V) (S : Budget → Stopping) (T : Stopping) {r : Result V (DecodeError E)}
+    {a m b : View} → ((xs ys zs : List ℕ) (v : V) → P xs ys → A a.budget ys v zs → B xs v zs)
+    → ((xs ys : List ℕ) (e : InputError) (rest : List ℕ) → P xs ys → S a.budget ys e rest
+    → T xs e rest) → Reached P a m → Does (A m.budget) (S m.budget) m b r → Does B T a b r
+does_under P A B S T {r = r} {a = a} {m = m} {b = b} f g p d =
+    does_after P (A a.budget) B (S a.budget) T f g p
+    (subst (λ o. Does (A o) (S o) m b r) p.kept.budget d)
+
+-- it is rejected
+pub stops_under : {U V E : Type 0} (P : List ℕ → List ℕ → Type 0) (A : Budget → Accepting U)
+    (S : Budget → Stopping) (B : Accepting V) (T : Stopping) {e : DecodeError E} {a m b : View}
+    → ((xs ys : List ℕ) (z : InputError) (rest : List ℕ) → P xs ys → S a.budget ys z rest
+    → T xs z rest) → Reached P a m → Does {V = U} (A m.budget) (S m.budget) m b (Err e)
+    → Does {V = V} B T a b (Err e)
+stops_under P A S B T {e = e} {a = a} {m = m} {b = b} f p d =
+    does_err P (A a.budget) B (S a.budget) T f p
+    (subst (λ o. Does (A o) (S o) m b (Err e)) p.kept.budget d)
 
 -- ---- heads that are rejected
 
 pub small_count : (name : List ℕ) (w : Width)
     → eof name (Small (byte_count w)) ≡ eof name (len_of (byte_count w))
 small_count name in_first = refl
-small_count name one = refl
-small_count name two = refl
-small_count name four = refl
-small_count name eight = refl
+small_count name _ = refl
 
 pub width_begins : (major b : ℕ) (w : Width) → b / 32 ≡ major → info_of (b % 32) ≡ wide w
     → Begins major 8 b w
@@ -107,13 +111,7 @@ width_begins major b w m is = by_width w (says_width (b % 32) w is)
       allowed = omega arith;
       is = omega (arith, m);
     }
-    by_width one h =
-        record { argument = 0; fits = omega arith; allowed = omega arith; is = omega (arith, m, h) }
-    by_width two h =
-        record { argument = 0; fits = omega arith; allowed = omega arith; is = omega (arith, m, h) }
-    by_width four h =
-        record { argument = 0; fits = omega arith; allowed = omega arith; is = omega (arith, m, h) }
-    by_width eight h =
+    by_width _ h =
         record { argument = 0; fits = omega arith; allowed = omega arith; is = omega (arith, m, h) }
 
 pub begins_width : (major b : ℕ) (w : Width) → Begins major 8 b w → info_of (b % 32) ≡ wide w
@@ -182,7 +180,4 @@ small_z v h = to_z-of_z w128 (pos v) (record { sfits = h })
 
 pub fits_less : (w : Width) (v : ℕ) → HeadFits w v → v < 2 ^ 127
 fits_less in_first v h = omega arith
-fits_less one v h = omega arith
-fits_less two v h = omega arith
-fits_less four v h = omega arith
-fits_less eight v h = omega arith
+fits_less _ v h = omega arith

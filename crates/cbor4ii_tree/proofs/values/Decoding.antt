@@ -5,8 +5,7 @@ use Rattle.std.proofs.{Common.{arith, length-append, take-append-drop}, Math.Seq
 use Rattle.std.proofs.Math.Seq.{take-append_seam}
 use Rattle.cbor4ii_rw.specs.{View.View, declared.error.DecodeError.DecodeError}
 use Rattle.cbor4ii_items.specs.{Budget.CostFits, Decoding.{Sound, Complete, Rejects, NoneRead}}
-use Rattle.cbor4ii_items.specs.{Decoding.Decodes, InputError.{InputError, input_error_of}}
-use Rattle.cbor4ii_items.specs.Laws.Calls.{any_memory}
+use Rattle.cbor4ii_items.specs.{Decoding.Decodes, InputError.InputError, Laws.Calls.any_memory}
 use Rattle.cbor4ii_tree.specs.{Cost.{Budget, cost}, Does.Does, Encodings.DecodesTo, Item.Item}
 use Rattle.cbor4ii_tree.specs.{Promises.{ReadsValue, value_format}, ReadingRejects.ReadingRejects}
 use Rattle.cbor4ii_tree.specs.{Tree.bytes, Valuing.{ReadsOneValue, RejectsOneValue}, View.view}
@@ -67,11 +66,10 @@ module _ {E : Type 0} {a b : View} where
       → IfErr r (Complete (λ xs (v : Value). ReadsValue xs (view v)) a)
   value_complete (Ok v) d = tt
   value_complete (Err e) d = record {
-    at = λ xs known. by_error (input_error_of e)
+    at = λ xs known. by_error _
         (λ z. (ys : List ℕ) × (b.known ≡ Some ys) × ReadingRejects xs a.budget z ys) (λ z. NoneRead
         (λ xs (v : Value). ReadsValue xs (view v)) xs a.budget) (λ z h v n c r fits. not_both xs
-        a.budget (view v) (drop n xs) z h.0 (reads_prefix a.budget xs (view v) n c r fits) h.2)
-        (d.err xs known);
+        a.budget (view v) (drop n xs) z h.0 (reads_prefix _ _ _ _ _ r fits) h.2) (d.err xs known);
   }
 
   value_rejects : (r : Result Value (DecodeError E)) → Does (ReadsOneValue false a.budget)

@@ -1,20 +1,17 @@
 -- What values are written as, in the words of the calls that write the parts.
-use Rattle.std.proofs.Common.{◌≡◌, ℕ, List, [], ◌∷◌, ◌++◌, length, Bool, true, false}
-use Rattle.std.proofs.Common.{ℤ, refl, sym, ap, ◌∙◌, append_assoc, rules, Vec}
-use Rattle.std.proofs.Common.{Global, Box}
-use Rattle.cbor4ii_items.specs.{SequenceBytes.items_bytes, Simple.bool_byte}
-use Rattle.cbor4ii_items.specs.{Head.{shortest, head}}
-use Rattle.cbor4ii_items.specs.{Numbers.{shortest_head}}
+use Rattle.std.proofs.Common.{◌≡◌, ℕ, List, [], ◌∷◌, ◌++◌, length, Bool, true, false, ℤ, refl, sym}
+use Rattle.std.proofs.Common.{ap, ◌∙◌, append_assoc, rules, Vec, Global, Box}
+use Rattle.cbor4ii_items.specs.{SequenceBytes.items_bytes, Simple.bool_byte, Head.{shortest, head}}
+use Rattle.cbor4ii_items.specs.Numbers.{shortest_head}
 use Rattle.cbor4ii_tree.specs.Canonical.{canonical_encoding, canonical_trees, canonical_pairs}
-use Rattle.cbor4ii_tree.specs.{Encoding.{value_bytes, member_bytes}}
-use Rattle.cbor4ii_tree.specs.Item.{boolean, integer, sequence, mapping, tag, item_count}
-use Rattle.cbor4ii_tree.specs.{Item.member_count, Tree.{bytes_all, bytes_pairs, count}}
-use Rattle.cbor4ii_tree.specs.{Tree.pair_count, View.{view, items_view, members_view}}
-use Rattle.cbor4ii_tree.specs.declared.value.Value.{Value, Bool as VBool, Integer, Array, Map, Tag}
+use Rattle.cbor4ii_tree.specs.{Encoding.{value_bytes, member_bytes}, Item.{boolean, integer}}
+use Rattle.cbor4ii_tree.specs.Item.{sequence, mapping, tag, item_count, member_count}
+use Rattle.cbor4ii_tree.specs.{Tree.{bytes_all, bytes_pairs}, View.{view, items_view, members_view}}
 use Rattle.cbor4ii_tree.specs.declared.value.Value.{the_lemmas}
 use Rattle.cbor4ii_tree.proofs.encodings.Canonical.{count-canonical_encoding, count-pairs}
 use Rattle.cbor4ii_tree.proofs.values.Views.{item_count-items_view, member_count-members_view}
 use Rattle.cbor4ii_tree.proofs.values.Views.{view-Map}
+use Rattle.cbor4ii_tree.specs.declared.value.Value.{Value, Bool as VBool, Integer, Array, Map, Tag}
 
 -- ---- arrays and maps
 
@@ -35,20 +32,16 @@ headed : (major n m k : ℕ) (xs ys : List ℕ) → n ≡ k → m ≡ k → xs �
     → shortest_head major n ++ xs ≡ head major m (shortest k) ++ ys
 headed major n m k xs ys e f g = rw (e, f, g) refl
 
-pub sequence-canonical_encoding : (n : ℕ) (vs : List Value) → n ≡ length vs
-    → shortest_head 4 n ++ items_bytes value_bytes vs ≡ canonical_encoding
-    (sequence (items_view vs))
-sequence-canonical_encoding n vs e =
-    headed 4 n (count (canonical_trees (items_view vs)))
-    (item_count (items_view vs)) _ _ (e ∙ sym (item_count-items_view vs))
+pub sequence-canonical_encoding : (vs : List Value) → shortest_head 4 (length vs) ++ items_bytes
+    value_bytes vs ≡ canonical_encoding (sequence (items_view vs))
+sequence-canonical_encoding vs =
+    headed 4 _ _ (item_count (items_view vs)) _ _ (sym (item_count-items_view vs))
     (count-canonical_encoding (items_view vs)) (items-canonical_encoding vs)
 
-pub mapping-canonical_encoding : (n : ℕ) (ms : List (Value × Value)) → n ≡ length ms
-    → shortest_head 5 n ++ items_bytes member_bytes ms ≡ canonical_encoding
-    (mapping (members_view ms))
-mapping-canonical_encoding n ms e =
-    headed 5 n (pair_count (canonical_pairs (members_view ms)))
-    (member_count (members_view ms)) _ _ (e ∙ sym (member_count-members_view ms))
+pub mapping-canonical_encoding : (ms : List (Value × Value)) → shortest_head 5 (length ms)
+    ++ items_bytes member_bytes ms ≡ canonical_encoding (mapping (members_view ms))
+mapping-canonical_encoding ms =
+    headed 5 _ _ (member_count (members_view ms)) _ _ (sym (member_count-members_view ms))
     (count-pairs (members_view ms)) (members-canonical_encoding ms)
 
 -- ---- values
@@ -67,19 +60,18 @@ pub Bool-bytes : (value : Value) (b : Bool) → value ≡ VBool b → bool_byte 
 Bool-bytes value b e = bool-canonical_encoding b ∙ sym
     (ap canonical_encoding (ap view e ∙ view-Bool b))
 
-pub Array-bytes : (value : Value) (v : Vec Value Global) (n : ℕ) (vs : List Value) → value ≡ Array v
-    → vs ≡ v.items → n ≡ length vs
-    → shortest_head 4 n ++ items_bytes value_bytes vs ≡ value_bytes value
-Array-bytes value v n vs e same len =
-    sequence-canonical_encoding n vs len ∙ ap (λ l. canonical_encoding (sequence (items_view l)))
-    same ∙ sym (ap canonical_encoding (ap view e ∙ view-Array v))
+pub Array-bytes : (value : Value) (v : Vec Value Global) (vs : List Value) → value ≡ Array v
+    → vs ≡ v.items → shortest_head 4 (length vs) ++ items_bytes value_bytes vs ≡ value_bytes value
+Array-bytes value v vs e same =
+    sequence-canonical_encoding vs ∙ ap (λ l. canonical_encoding (sequence (items_view l))) same
+    ∙ sym (ap canonical_encoding (ap view e ∙ view-Array v))
 
-pub Map-bytes : (value : Value) (v : Vec (Value × Value) Global) (n : ℕ) (ms : List (Value × Value))
-    → value ≡ Map v → ms ≡ v.items → n ≡ length ms
-    → shortest_head 5 n ++ items_bytes member_bytes ms ≡ value_bytes value
-Map-bytes value v n ms e same len =
-    mapping-canonical_encoding n ms len ∙ ap (λ l. canonical_encoding (mapping (members_view l)))
-    same ∙ sym (ap canonical_encoding (ap view e ∙ view-Map v))
+pub Map-bytes : (value : Value) (v : Vec (Value × Value) Global) (ms : List (Value × Value))
+    → value ≡ Map v → ms ≡ v.items
+    → shortest_head 5 (length ms) ++ items_bytes member_bytes ms ≡ value_bytes value
+Map-bytes value v ms e same =
+    mapping-canonical_encoding ms ∙ ap (λ l. canonical_encoding (mapping (members_view l))) same
+    ∙ sym (ap canonical_encoding (ap view e ∙ view-Map v))
 
 pub view-Integer : (z : ℤ) → view (Integer z) ≡ integer z
 view-Integer z = search (rules, the_lemmas)

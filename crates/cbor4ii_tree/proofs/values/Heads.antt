@@ -1,46 +1,48 @@
 -- The parts of a value that are heads alone, and tags.
-use Rattle.std.proofs.{Math.Seq.drop-append_seam, lemmas.Int.to_z-of_z, Common.{[], ◌⊎◌, ◌≡◌, ◌≢◌}}
-use Rattle.std.proofs.Common.{ℕ, zero, suc, ◌+◌, ◌*◌, ◌/◌, ◌%◌, ◌<◌, ◌≤◌, ◌^◌, List, ◌∷◌, ◌++◌}
-use Rattle.std.proofs.Common.{length, drop, take, Option, Some, None, Result, Ok, Err, IfOk, IfErr}
-use Rattle.std.proofs.Common.{Bool, true, false, ℤ, refl, sym, ap, ◌∙◌, subst, arith, append_assoc}
-use Rattle.std.proofs.Common.{inl, inr, rules, pos, negsuc, ◌-ℤ◌, ne_eqb}
-use Rattle.std.specs.Int.{bytes_high_first}
-use mir.{Syntax.w128, Val.{to_z, of_z}}
+use Rattle.std.proofs.{Math.Seq.drop-append_seam, lemmas.Int.to_z-of_z, Common.{[], ◌≡◌, ◌≢◌, ℕ}}
+use Rattle.std.proofs.Common.{zero, suc, ◌+◌, ◌/◌, ◌%◌, ◌<◌, ◌≤◌, ◌^◌, List, ◌∷◌, ◌++◌, length}
+use Rattle.std.proofs.Common.{drop, take, Option, Some, None, Result, Ok, Err, IfOk, IfErr, Bool}
+use Rattle.std.proofs.Common.{true, false, ℤ, refl, sym, ap, ◌∙◌, subst, arith, append_assoc, inl}
+use Rattle.std.proofs.Common.{inr, rules, pos, negsuc, ◌-ℤ◌, ne_eqb}
+use mir.Syntax.{w128}
+use mir.Val.{to_z, of_z}
 use Rattle.cbor4ii_rw.specs.{Reader.Advances, View.View, declared.error.DecodeError.DecodeError}
-use Rattle.cbor4ii_items.specs.{InputError.not_canonical, Laws.Answering.fits_zero, Reading.peek_at}
-use Rattle.cbor4ii_items.specs.{Shortest.canonical_name, Budget.CostFits, Decoding.{Sound, Rejects}}
-use Rattle.cbor4ii_items.specs.{Floats.{ReadsFloat, RejectsFloat, float_bytes}, Head.byte_count}
-use Rattle.cbor4ii_items.specs.{Head.{additional, head, shortest}, Heads.{RejectsHead, ReadsHead}}
-use Rattle.cbor4ii_items.specs.Initial.{Sign, sign_major, unsigned, Initial, Info, wide}
-use Rattle.cbor4ii_items.specs.Initial.{indefinite_ended, reserved, info_of, initial}
+use Rattle.cbor4ii_items.specs.InputError.{not_canonical, InputError, input_error_of, is_read}
+use Rattle.cbor4ii_items.specs.{InputError.is_depth_overflow, Laws.Answering.fits_zero}
+use Rattle.cbor4ii_items.specs.{Reading.{peek_at, Runs}, Shortest.canonical_name, Budget.CostFits}
+use Rattle.cbor4ii_items.specs.{Decoding.{Sound, Rejects}, Floats.{ReadsFloat, RejectsFloat}}
+use Rattle.cbor4ii_items.specs.{Floats.float_bytes, Head.{head, shortest}, Heads.RejectsHead}
+use Rattle.cbor4ii_items.specs.{Heads.ReadsHead, Initial.{Sign, sign_major, unsigned, Initial}}
+use Rattle.cbor4ii_items.specs.Initial.{Info, wide, indefinite_ended, reserved, info_of, initial}
 use Rattle.cbor4ii_items.specs.Initial.{simple_by_info, tag_by_info, negative, Simple, simple_byte}
 use Rattle.cbor4ii_items.specs.Initial.{Precision, half, single, double, precision_byte}
-use Rattle.cbor4ii_items.specs.Initial.{precision_bytes, starts_tag, starts_bits, other_simple}
-use Rattle.cbor4ii_items.specs.Initial.{simple_false, simple_true, simple_null, simple_undefined}
-use Rattle.cbor4ii_items.specs.InputError.{InputError, input_error_of, is_read, is_depth_overflow}
+use Rattle.cbor4ii_items.specs.Initial.{precision_bytes, starts_bits, other_simple, simple_false}
+use Rattle.cbor4ii_items.specs.Initial.{simple_true, simple_null, simple_undefined}
 use Rattle.cbor4ii_items.specs.Laws.Heads.{after_head, length-bytes_high_first, argument_below}
-use Rattle.cbor4ii_items.specs.{Moves.Moves, Numbers.{ReadsArgument, RejectsArgument}, Reading.Runs}
+use Rattle.cbor4ii_items.specs.{Moves.Moves, Numbers.{ReadsArgument, RejectsArgument}}
 use Rattle.cbor4ii_tree.specs.CanonicalRejects.{ShortestAt, CanonicalRejectsBy}
-use Rattle.cbor4ii_tree.specs.{CanonicalRejects.CanonicalOtherRejects, Cost.{Budget, cost}}
-use Rattle.cbor4ii_tree.specs.{Does.{Accepting, Does, answered}, InputError.{eof, unsupported}}
-use Rattle.cbor4ii_tree.specs.InputError.{Small, len_of, precision_name, tag_name, value_name}
-use Rattle.cbor4ii_tree.specs.{Item.{integer, float, tag}, Laws.Binds.step_up}
-use Rattle.cbor4ii_tree.specs.Laws.Initials.{initial_tag, initial_bits, initial_simple}
-use Rattle.cbor4ii_tree.specs.{Meaning.number, ReadingRejects.{ReadingRejectsBy, ReadingRejects}}
+use Rattle.cbor4ii_tree.specs.{CanonicalRejects.{CanonicalOtherRejects, AfterShortest}, Cost.Budget}
+use Rattle.cbor4ii_tree.specs.{Cost.cost, Does.{Accepting, Does, answered}, InputError.eof}
+use Rattle.cbor4ii_tree.specs.InputError.{unsupported, Small, len_of, precision_name, tag_name}
+use Rattle.cbor4ii_tree.specs.{InputError.value_name, Item.{integer, float, tag}}
+use Rattle.cbor4ii_tree.specs.{Laws.Binds.step_up, Laws.Initials.{initial_tag, initial_bits}}
+use Rattle.cbor4ii_tree.specs.{Laws.Initials.initial_simple, Meaning.number}
+use Rattle.cbor4ii_tree.specs.ReadingRejects.{ReadingRejectsBy, ReadingRejects}
 use Rattle.cbor4ii_tree.specs.{Rejections.{Stopping, MissingAll}, Tree.{int, tagged, simple, bits}}
 use Rattle.cbor4ii_tree.specs.{Tree.bytes, Valuing.{HeadAt, ReadsOneValue, ReadsTagged}}
 use Rattle.cbor4ii_tree.specs.Valuing.{RejectsOneValue, ReadsUnder, RejectsUnder, TakesTag}
 use Rattle.cbor4ii_tree.specs.{Valuing.{RejectsFirst, RejectsOf, SimpleOf}, View.view}
 use Rattle.cbor4ii_tree.specs.declared.value.FloatBits.{FloatBits}
 use Rattle.cbor4ii_tree.specs.declared.value.FloatBits.TheVariants.{F16, F32, F64}
-use Rattle.cbor4ii_tree.specs.declared.value.Value.{Value, Integer, Float, Tag, the_lemmas}
+use Rattle.cbor4ii_tree.specs.declared.value.Value.{Value, Integer, Float, the_lemmas}
 use Rattle.cbor4ii_tree.proofs.{canonical.FitsCanonically.precision_major, skip_calls.Doing.Reached}
-use Rattle.cbor4ii_tree.proofs.{values.Calls.whole_is, values.Encoding.view-Integer}
 use Rattle.cbor4ii_tree.proofs.skip_calls.Doing.{reached_start, reached_by, reached_as, does_ok}
 use Rattle.cbor4ii_tree.proofs.skip_calls.Doing.{does_err, does_after, does_reject, does_rejects}
 use Rattle.cbor4ii_tree.proofs.skip_calls.Doing.{call_rejects, reached_peek, reached_first}
-use Rattle.cbor4ii_tree.proofs.{skip_calls.Doing.reached_sound, values.Calls.{Peeked, head_cut}}
-use Rattle.cbor4ii_tree.proofs.values.Calls.{no_head, initial_of, small_z, fits_less, whole}
+use Rattle.cbor4ii_tree.proofs.{skip_calls.Doing.reached_sound, values.Calls.{whole_is, Peeked}}
+use Rattle.cbor4ii_tree.proofs.values.Calls.{head_cut, no_head, initial_of, small_z, fits_less}
+use Rattle.cbor4ii_tree.proofs.{values.Calls.{whole, does_under}, values.Encoding.view-Integer}
+use Rattle.cbor4ii_tree.proofs.parts.Rejecting.{headed_by}
 
 -- ---- after a byte that was looked at
 
@@ -69,6 +71,14 @@ module _ (exact : Bool) (b : ℕ) {E : Type 0} {a m : View}
       (sym p.1) (f p.0 zs v (subst (λ x. A x v zs) (p.2 ∙ p.1) h))) (λ xs ys z rest p h. subst (λ x.
       RejectsUnder exact a.budget x z rest) (sym p.1) (g p.0 z rest (subst (λ x. S x z rest)
       (p.2 ∙ p.1) h))) (reached_peek value_name 1 b first) d
+
+  -- what its major type reports
+  pub major_arm : (major : ℕ) → b / 32 ≡ major → {r : Result Value (DecodeError E)} {c : View}
+      → Does (ReadsUnder exact a.budget) (RejectsOf exact major a.budget) m c r
+      → Does (ReadsUnder exact a.budget) (RejectsUnder exact a.budget) a c r
+  major_arm major is d =
+      arm_does (ReadsUnder exact a.budget) (RejectsOf exact major a.budget) (λ bs ys v h. h)
+      (λ bs z rest h. h b bs refl is) d
 
   -- what a first byte reports
   pub first_does : {r : Result Value (DecodeError E)} {c : View}
@@ -101,6 +111,12 @@ shortest_at major n xs ys h = (
   argument_below h.0 n h.1,
   h.3 ∙ ap (λ w. head major n w ++ ys) (h.2 refl),
 )
+
+-- after it something is rejected
+pub after_shortest : {major : ℕ} {then : ℕ → Stopping} {xs : List ℕ} {e : InputError}
+    {rest : List ℕ} (n : ℕ) (ys : List ℕ) → ShortestAt major n xs ys → then n ys e rest
+    → AfterShortest major then xs e rest
+after_shortest n ys is stopped = record { argument = n; after = ys; is = is; stopped = stopped }
 
 -- ---- integers
 
@@ -160,12 +176,11 @@ undefined_rejected false b first small adv is says read shallow = absurd (false_
     false_true : false ≡ true → ⊥
     false_true e = cc
 undefined_rejected true b {a = a} first small adv is says read shallow =
-    does_reject (λ xs ys. xs ≡ b ∷ ys) _ _
-    (not_canonical canonical_name) says read shallow (λ xs ys e. subst (λ x. RejectsUnder true
-    a.budget x (not_canonical canonical_name) ys) (sym e) (at_major 7 a.budget b ys (not_canonical
-    canonical_name) ys (omega (arith, is.1)) (subst (λ i. CanonicalOtherRejects i b ys
-    (not_canonical canonical_name) ys) (sym (ap initial is.1 ∙ initial_simple simple_undefined))
-    (refl, refl)))) (reached_first value_name 1 b first small adv)
+    does_reject (λ xs ys. xs ≡ b ∷ ys) _ _ (not_canonical canonical_name) says read shallow (λ xs ys
+    e. subst (λ x. RejectsUnder true a.budget x (not_canonical canonical_name) ys) (sym e) (at_major
+    7 a.budget b ys (not_canonical canonical_name) ys (omega (arith, is.1)) (subst (λ i.
+    CanonicalOtherRejects i b ys (not_canonical canonical_name) ys) (sym (ap initial is.1 ∙
+    initial_simple simple_undefined)) (refl, refl)))) (reached_first value_name 1 b first small adv)
 
 -- ---- what a first byte reports
 
@@ -203,15 +218,14 @@ pub float_read : (exact : Bool) {E : Type 0} (p : Precision) {V : Type 0} (conte
     → Moves {E = E} a c (Ok v) → Sound (λ xs v. ReadsFloat (precision_byte p) (precision_bytes p) xs
     (content v)) a c v → Does {E = E} (ReadsUnder exact a.budget) S a c (Ok (Float f))
 float_read exact p content {v = v} f {a = a} is moves s =
-    leaf_read exact (λ xs v. ReadsFloat (precision_byte p) (precision_bytes p) xs (content v))
-    (Float f) (λ xs n k _ r budget step.
+    leaf_read _ (λ xs v. ReadsFloat (precision_byte p) (precision_bytes p) xs (content v)) _ (λ xs n
+    k _ r budget step.
     let prefix = float_bytes (precision_byte p) (precision_bytes p) (content v) in
-    let left : drop n xs ≡ r.rest = ap (drop n) r.is ∙ ap (λ j. drop j (prefix ++ r.rest))
-    (r.size ∙ sym (ap suc (length-bytes_high_first (precision_bytes p) (content v))))
-    ∙ drop-append_seam prefix r.rest in (
+    let left : drop n xs ≡ r.rest = ap (drop n) r.is ∙ ap (λ j. drop j (prefix ++ r.rest)) (r.size ∙
+    sym (ap suc (length-bytes_high_first _ _))) ∙ drop-append_seam prefix r.rest in (
       bits p (content v),
       whole exact budget (bits p (content v)) (r.fits, tt) (λ e. tt)
-          (step_up budget a.budget 0 step (fits_zero a.budget)),
+          (step_up _ _ 0 step (fits_zero _)),
       is,
       r.is ∙ ap (λ z. prefix ++ z) (sym left),
     )) moves s
@@ -219,8 +233,7 @@ float_read exact p content {v = v} f {a = a} is moves s =
 missing_bits : (p : Precision) (name : List ℕ)
     → eof name (Small (precision_bytes p)) ≡ eof name (len_of (precision_bytes p))
 missing_bits half name = refl
-missing_bits single name = refl
-missing_bits double name = refl
+missing_bits _ name = refl
 
 pub float_cut : (p : Precision) (b : ℕ) (bs : List ℕ) (e : InputError) (rest : List ℕ)
     (budget : Budget) → b ≡ precision_byte p
@@ -297,10 +310,6 @@ no_value exact first {a = a} low high none f g h says read shallow =
 
 -- ---- tags
 
-pub view-Tag : (n : ℕ) (v : Rattle.std.proofs.Common.Box Value Rattle.std.proofs.Common.Global)
-    → view (Tag n v) ≡ tag n (view v.value)
-view-Tag n v = search (rules, the_lemmas)
-
 -- after the head of a tag
 pub tagged_ok : (exact : Bool) {E : Type 0} (n : ℕ) {v : Value} {a c : View} (w : Value)
     → view w ≡ tag n (view v)
@@ -314,25 +323,18 @@ tag_row : (exact : Bool) (n : ℕ) (inner : Budget) (xs ys : List ℕ) (z : Inpu
     → HeadAt exact 6 n xs ys → RejectsOneValue exact inner ys z rest
     → RejectsOf exact 6 inner xs z rest
 tag_row false n inner xs ys z rest h s b bs is m =
-    subst (λ x. RejectsUnder false inner x z rest) (sym h.3) (at_row inner (starts_tag h.0) (32 * 6
-    + additional h.0 n) (bytes_high_first (byte_count h.0) n ++ ys) z rest (initial_tag n h.0 h.1)
-    (inr (record { argument = n; after = ys; fits = h.1; is = refl; stopped = s })))
+    rw h.3 (at_row _ _ _ _ _ _ (initial_tag _ _ h.1) (inr (headed_by n ys h.1 refl s)))
 tag_row true n inner xs ys z rest h s b bs is m =
-    subst (λ x. RejectsUnder true inner x z rest) (sym is) (at_major 6 inner b bs z rest m (inr
-    (record {
-      argument = n;
-      after = ys;
-      is = subst (λ x. ShortestAt 6 n x ys) is (shortest_at 6 n xs ys h);
-      stopped = s;
-    })))
+    rw is (at_major 6 _ _ _ _ _ m (inr (after_shortest n ys (subst (λ x. ShortestAt 6 n x ys) is
+    (shortest_at 6 _ _ _ h)) s)))
 
 pub tag_does : (exact : Bool) {E : Type 0} (n : ℕ) {r : Result Value (DecodeError E)} {a m c : View}
     → Reached (HeadAt exact 6 n) a m → Does (ReadsTagged exact n m.budget) (RejectsOneValue exact
     m.budget) m c r → Does (ReadsUnder exact a.budget) (RejectsOf exact 6 a.budget) a c r
-tag_does exact n {a = a} {m = m} p d =
-    does_after (HeadAt exact 6 n) (ReadsTagged exact n m.budget) _ (RejectsOneValue exact m.budget)
-    _ (λ xs ys zs w h r budget step.
-    let s = subst (λ o. ReadsOneValue exact o ys r.0 zs) p.kept.budget r.2 in
+tag_does exact n {a = a} p d =
+    does_under (HeadAt exact 6 n) (ReadsTagged exact n) _ (RejectsOneValue exact) _
+    (λ xs ys zs w h r budget step.
+    let s = r.2 in
     let t = whole_is exact a.budget s.0 s.1 in (
       tagged n h.0 s.0,
       whole exact budget (tagged n h.0 s.0) ((h.1, t.0.0), t.0.1) (λ e. (h.2 e, t.1 e))
@@ -340,19 +342,17 @@ tag_does exact n {a = a} {m = m} p d =
       ap (tag n) s.2 ∙ sym r.1,
       h.3 ∙ ap (λ z. head 6 n h.0 ++ z) s.3
           ∙ sym (append_assoc (head 6 n h.0) (bytes s.0) zs),
-    )) (λ xs ys z rest h s. tag_row exact n a.budget xs ys z rest h (subst (λ o. RejectsOneValue
-    exact o ys z rest) p.kept.budget s)) p d
+    )) (λ xs ys z rest. tag_row exact n a.budget xs ys z rest) p d
 
 pub tag_rejects : (inner : Budget) (b : ℕ) (bs : List ℕ) (e : InputError) (rest : List ℕ) →
     b / 32 ≡ 6
     → RejectsHead tag_name 6 8 (b ∷ bs) e rest → RejectsUnder false inner (b ∷ bs) e rest
 tag_rejects inner b bs e rest m h =
-    at_row inner (tag_by_info (info_of (b % 32))) b bs e rest (initial_of b 6 m)
-    (by_info (info_of (b % 32)) refl)
+    at_row _ _ _ _ _ _ (initial_of _ 6 m) (by_info _ refl)
   where
     by_info : (i : Info) → info_of (b % 32) ≡ i
         → ReadingRejectsBy (λ left part. ReadingRejects part left) inner (tag_by_info i) b bs e rest
-    by_info (wide w) is = inl (head_cut tag_name 6 b bs w e rest m is h)
+    by_info (wide w) is = inl (head_cut _ 6 _ _ _ _ _ m is h)
     by_info indefinite_ended is = no_head tag_name 6 b bs e rest (λ w f. cc) h
     by_info reserved is = no_head tag_name 6 b bs e rest (λ w f. cc) h
 
@@ -362,10 +362,9 @@ pub tag_taken : {E : Type 0} {a c : View} (r : Option ℕ) (failure : Option (De
     → IfErr (answered r failure) (Rejects (RejectsArgument tag_name 6 8) a c) → Does
     (TakesTag false a.budget) (RejectsOf false 6 a.budget) a c (answered r failure)
 tag_taken {a = a} (Some n) failure moves s h =
-    does_ok _ _ (reached_sound (ReadsArgument 6 8) (HeadAt false 6 n) (λ xs k c _ r. head_at false 6
-    n xs k r.0 (λ e. cc)) moves s)
+    does_ok _ _ (reached_sound (ReadsArgument 6 8) (HeadAt false 6 n) (λ xs k c _ r. head_at _ 6 _ _
+    _ r.0 (λ e. cc)) moves s)
 tag_taken {a = a} None failure moves s h =
     call_rejects (TakesTag false a.budget) (RejectsArgument tag_name 6 8) (RejectsOf false 6
     a.budget) (λ xs z rest h b bs is m. subst (λ x. RejectsUnder false a.budget x z rest) (sym is)
-    (tag_rejects a.budget b bs z rest m (subst (λ x. RejectsHead tag_name 6 8 x z rest) is h)))
-    moves h
+    (tag_rejects _ _ _ _ _ m (subst (λ x. RejectsHead tag_name 6 8 x z rest) is h))) moves h

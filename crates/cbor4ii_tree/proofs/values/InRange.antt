@@ -3,16 +3,16 @@ use Rattle.std.proofs.Common.{◌≡◌, ℕ, ◌+◌, ◌<◌, ◌^◌, List, [
 use Rattle.std.proofs.{Common.{ap, ◌∙◌, arith, subst, Vec, Global, String}, lemmas.List.take_more}
 use Rattle.std.proofs.lemmas.Str.{IsUtf8-string_bytes}
 use Rattle.std.specs.Prelude.{string_bytes}
-use Rattle.cbor4ii_tree.specs.{Item.{IsItem, AreItems, AreMembers, text}, View.{view, items_view}}
+use Rattle.cbor4ii_tree.specs.{Item.{IsItem, AreItems, AreMembers}, View.{view, items_view}}
 use Rattle.cbor4ii_tree.specs.{View.members_view, declared.value.Value.{Value, Text, Array, Map}}
 use Rattle.cbor4ii_tree.proofs.{values.Encoding.view-Array, values.Strings.view-Text}
 use Rattle.cbor4ii_tree.proofs.values.Views.{item_count-items_view, member_count-members_view}
 use Rattle.cbor4ii_tree.proofs.values.Views.{view-Map}
 
-pub AreItems-push : (vs : List Value) (v : Value) → AreItems (items_view vs) → IsItem (view v)
-    → AreItems (items_view (vs ++ v ∷ []))
-AreItems-push [] v h k = (k, tt)
-AreItems-push (w ∷ vs) v h k = (h.0, AreItems-push vs v h.1 k)
+pub AreItems-append : (vs ws : List Value) → AreItems (items_view vs) → AreItems (items_view ws)
+    → AreItems (items_view (vs ++ ws))
+AreItems-append [] ws h k = k
+AreItems-append (v ∷ vs) ws h k = (h.0, AreItems-append vs ws h.1 k)
 
 pub AreMembers-push : (ms : List (Value × Value)) (m : Value × Value) → AreMembers (members_view ms)
     → IsItem (view m.0) → IsItem (view m.1) → AreMembers (members_view (ms ++ m ∷ []))
@@ -21,7 +21,8 @@ AreMembers-push (n ∷ ms) m h k l = (h.0, h.1, AreMembers-push ms m h.2 k l)
 
 pub items_step : (xs : List Value) (i : ℕ) (x : Value) → i < length xs → x ≡ get_or xs i x
     → AreItems (items_view (take i xs)) → IsItem (view x) → AreItems (items_view (take (i + 1) xs))
-items_step xs i x lt is h k = rw (take_more xs i x lt, ← is) (AreItems-push (take i xs) x h k)
+items_step xs i x lt is h k = rw (take_more xs i x lt, ← is) (AreItems-append (take i xs)
+    (x ∷ []) h (k, tt))
 
 pub members_step : (xs : List (Value × Value)) (i : ℕ) (x : Value × Value) → i < length xs
     → x ≡ get_or xs i x → AreMembers (members_view (take i xs)) → IsItem (view x.0)

@@ -1,5 +1,5 @@
 -- Runs: values that hold no other, one after another in shown bytes.
-use Rattle.std.proofs.Common.{◌≡◌, ℕ, suc, ◌+◌, ◌-◌, ◌*◌, ◌/◌, ◌<◌, ◌≤◌, ◌⊎◌, List, [], ◌∷◌, ◌++◌}
+use Rattle.std.proofs.Common.{◌≡◌, ℕ, ◌+◌, ◌-◌, ◌*◌, ◌/◌, ◌<◌, ◌≤◌, ◌⊎◌, List, [], ◌∷◌, ◌++◌}
 use Rattle.std.proofs.Common.{length, take, drop, Option, Some, None, refl, sym, ap, ap₂, ◌∙◌}
 use Rattle.std.proofs.Common.{subst, arith, append_assoc, length-append, length-drop}
 use Rattle.std.proofs.Common.{take-append-drop, Vec, Global, nat_lt, Bool, true, false, not, OnSome}
@@ -11,36 +11,35 @@ use Rattle.cbor4ii_rw.specs.Reader.{Advances, ReaderFails, IsPrefix, KeepsAllBut
 use Rattle.cbor4ii_rw.specs.{Reader.{StepsIn, step_back}, View.{View, IfKnown}}
 use Rattle.cbor4ii_rw.specs.declared.error.DecodeError.{DecodeError}
 use Rattle.cbor4ii_rw.specs.declared.error.DecodeError.TheVariants.{OutOfMemory, Eof, Read}
-use Rattle.cbor4ii_items.specs.{InputError.depth_overflow, Laws.Answering.fits_zero}
-use Rattle.cbor4ii_items.specs.{Budget.CostFits, Head.IsBytes, InputError.{input_error_of, is_read}}
+use Rattle.cbor4ii_items.specs.InputError.{depth_overflow, input_error_of, is_read}
+use Rattle.cbor4ii_items.specs.{Laws.Answering.fits_zero, Budget.CostFits, Head.IsBytes}
 use Rattle.cbor4ii_items.specs.{Laws.Contents.lends_prefix, Laws.Steps.{counted_none, kept_then}}
 use Rattle.cbor4ii_items.specs.{Moves.{ReaderFailed, Kept}, Reading.{Runs, peek_at}}
-use Rattle.cbor4ii_tree.proofs.{parts.Prefixes.IsBytes-append, skip_calls.Doing.does_ok}
-use Rattle.cbor4ii_tree.proofs.{skip_calls.Doing.does_no_step, values.ByHead.prefix_shown}
-use Rattle.cbor4ii_tree.proofs.parts.Joined.{join, count-join, each-join, bytes-join}
-use Rattle.cbor4ii_tree.proofs.{parts.Rejecting.in_count, skip_calls.Doing.does_no_memory}
-use Rattle.cbor4ii_tree.proofs.skip_calls.Doing.{does_stepped, steps_in, Reached, reached_start}
-use Rattle.cbor4ii_tree.proofs.skip_calls.Doing.{reached_then, reached_by, does_err}
-use Rattle.cbor4ii_tree.proofs.{values.ByHead.next_shown, values.Calls.{whole, value_no_step}}
-use Rattle.cbor4ii_tree.proofs.{values.Calls.{value_no_byte, rejects_under}, values.Ends.none_shown}
-use Rattle.cbor4ii_tree.proofs.{values.Items.items_are, values.Leaves.{MayTake, some_as, wants_may}}
-use Rattle.cbor4ii_tree.specs.{Meaning.member_values, Prefix.Offers}
-use Rattle.cbor4ii_tree.specs.{declared.leaf.Next.Next, declared.run.Ran.Ran}
-use Rattle.cbor4ii_tree.specs.{Cost.{Budget, step_in}}
-use Rattle.cbor4ii_tree.specs.{Does.{Accepting, Does, answered, error_left}, InputError.InputError}
-use Rattle.cbor4ii_tree.specs.{InputError.{value_name, Small}, Item.{AreItems, AreMembers, IsItem}}
-use Rattle.cbor4ii_tree.specs.{Item.{item, no_items}, Laws.Binds.step_up, Leaf.DoesAfterNext}
-use Rattle.cbor4ii_tree.specs.Leaf.{HeadStands, SeesNext, ShowsHead, ShowsNext, StandsAhead}
-use Rattle.cbor4ii_tree.specs.{Leaf.WantsContent, LeafRuns.{flat_pairs, flat_values, IsLeaf}}
-use Rattle.cbor4ii_tree.specs.LeafRuns.{StandInFront, PutsAfter, PutsRun, RejectsMemory, PutsItems}
-use Rattle.cbor4ii_tree.specs.LeafRuns.{RunsBefore, PutsItemsUnder, KeepsItems, RejectsItemsUnder}
-use Rattle.cbor4ii_tree.specs.{LeafRuns.{RejectsWhereNone, TakesBy}, Meaning.{value, values}}
-use Rattle.cbor4ii_tree.specs.{Rejections.{Each, EachPair, Stopping, RejectsInCount}, Tree.Tree}
-use Rattle.cbor4ii_tree.specs.Tree.{Trees, no_trees, tree, Pairs, no_pairs, pair, bytes, bytes_all}
-use Rattle.cbor4ii_tree.specs.{Tree.{bytes_pairs, count, pair_count}, Valuing.{Whole, RejectsItems}}
-use Rattle.cbor4ii_tree.specs.Valuing.{ReadsItems, ReadsEach, ReadsUnder, RejectsOneValue}
-use Rattle.cbor4ii_tree.specs.{Valuing.RejectsUnder, View.{view, items_view, members_view}}
+use Rattle.cbor4ii_tree.specs.Valuing.{ReadsMembers, ReadsOneValue, flat_values, Whole}
+use Rattle.cbor4ii_tree.specs.Valuing.{RejectsItems, ReadsItems, ReadsEach, ReadsUnder}
+use Rattle.cbor4ii_tree.specs.{Valuing.{RejectsOneValue, RejectsUnder}, Prefix.Offers}
+use Rattle.cbor4ii_tree.specs.{declared.leaf.Next.Next, Cost.Budget, Does.{Accepting, Does}}
+use Rattle.cbor4ii_tree.specs.{Does.{answered, error_left}, InputError.{InputError, value_name}}
+use Rattle.cbor4ii_tree.specs.{InputError.Small, Item.{AreItems, IsItem, item, no_items}}
+use Rattle.cbor4ii_tree.specs.{Laws.Binds.step_up, Leaf.{DoesAfterNext, HeadStands, SeesNext}}
+use Rattle.cbor4ii_tree.specs.Leaf.{ShowsHead, ShowsNext, StandsAhead, WantsContent}
+use Rattle.cbor4ii_tree.specs.LeafRuns.{flat_pairs, IsLeaf, StandInFront, PutsAfter, PutsRun}
+use Rattle.cbor4ii_tree.specs.LeafRuns.{RejectsMemory, PutsItems, RunsBefore, PutsItemsUnder}
+use Rattle.cbor4ii_tree.specs.LeafRuns.{KeepsItems, RejectsItemsUnder, RejectsWhereNone, TakesBy}
+use Rattle.cbor4ii_tree.specs.{LeafRuns.TakesRun, Meaning.{values}, Rejections.Each}
+use Rattle.cbor4ii_tree.specs.{Rejections.{Stopping, RejectsInCount}, Tree.{Tree, Trees, no_trees}}
+use Rattle.cbor4ii_tree.specs.{Tree.{tree, bytes, bytes_all, count}, View.{view, items_view}}
 use Rattle.cbor4ii_tree.specs.declared.value.Value.{Value}
+use Rattle.cbor4ii_tree.proofs.{parts.Prefixes.IsBytes-append, skip_calls.Doing.does_ok}
+use Rattle.cbor4ii_tree.proofs.skip_calls.Doing.{does_no_step, does_no_memory, does_stepped}
+use Rattle.cbor4ii_tree.proofs.skip_calls.Doing.{steps_in, Reached, reached_start, reached_then}
+use Rattle.cbor4ii_tree.proofs.{skip_calls.Doing.{reached_by, does_err}, values.ByHead.prefix_shown}
+use Rattle.cbor4ii_tree.proofs.{values.ByHead.next_shown, parts.Joined.{join, count-join}}
+use Rattle.cbor4ii_tree.proofs.{parts.Joined.{each-join, bytes-join}, parts.Rejecting.in_count}
+use Rattle.cbor4ii_tree.proofs.values.Calls.{whole, value_no_step, value_no_byte, rejects_under}
+use Rattle.cbor4ii_tree.proofs.{values.Calls.stops_under, values.Ends.none_shown}
+use Rattle.cbor4ii_tree.proofs.{values.InRange.AreItems-append, values.Items.items_are}
+use Rattle.cbor4ii_tree.proofs.values.Leaves.{MayTake, some_as, wants_may}
 use Rattle.cbor4ii_tree.specs.declared.run.Ran.TheVariants as run
 
 -- ---- lists of values
@@ -51,21 +50,12 @@ unfolding join
 values-join no_trees us [] ws e f = f
 values-join no_trees us (v ∷ vs) ws e f = cc
 values-join (tree t ts) us [] ws e f = cc
-values-join (tree t ts) us (v ∷ vs) ws e f =
-    let head : value t ≡ view v = cc in
-    let tail : values ts ≡ items_view vs = cc in
-    let more = values-join ts us vs ws tail f in
-    ap (λ i. item i (values (join ts us))) head ∙ ap (item (view v)) more
+values-join (tree t ts) us (v ∷ vs) ws e f = cc (values-join ts us vs ws (cc) f)
 
-AreItems-append : (vs ws : List Value) → AreItems (items_view vs) → AreItems (items_view ws)
-    → AreItems (items_view (vs ++ ws))
-AreItems-append [] ws h k = k
-AreItems-append (v ∷ vs) ws h k = (h.0, AreItems-append vs ws h.1 k)
-
-pub flat-push : (ms : List (Value × Value)) (k v : Value)
-    → flat_values (ms ++ (k, v) ∷ []) ≡ flat_values ms ++ k ∷ v ∷ []
-flat-push [] k v = refl
-flat-push (m ∷ ms) k v = ap (λ r. m.0 ∷ (m.1 ∷ r)) (flat-push ms k v)
+pub flat-push : (ms : List (Value × Value)) (m : Value × Value)
+    → flat_values (ms ++ m ∷ []) ≡ flat_values ms ++ m.0 ∷ m.1 ∷ []
+flat-push [] m = refl
+flat-push (n ∷ ms) m = ap (λ r. n.0 ∷ (n.1 ∷ r)) (flat-push ms m)
 
 length-flat : (ms : List (Value × Value)) → length (flat_values ms) ≡ 2 * length ms
 length-flat [] = refl
@@ -96,7 +86,7 @@ pub pair_put : {A : Type 0} (ms ns : List (Value × Value)) (before after : Opti
     → OnSome r (flat_pairs ns after ≡ flat_pairs ms before ++ v ∷ [])
 pair_put ms ns before after k v (Some u) e f g =
     subst (λ b. flat_pairs ns after ≡ flat_pairs ms b ++ v ∷ []) (sym e) (subst (λ b. flat_pairs ns
-    b ≡ flat_pairs ms (Some k) ++ v ∷ []) (sym f) (ap flat_values g ∙ flat-push ms k v ∙ sym
+    b ≡ flat_pairs ms (Some k) ++ v ∷ []) (sym f) (ap flat_values g ∙ flat-push ms (k, v) ∙ sym
     (append_assoc (flat_values ms) (k ∷ []) (v ∷ []))))
 pair_put ms ns before after k v None e f g = tt
 
@@ -130,26 +120,6 @@ stand_one exact v n shown l = record {
   is = l.is ∙ sym (append-nil (bytes l.item));
 }
 
-stand_join : (exact : Type 0) (vs ws : List Value) (at n : ℕ) (shown : List ℕ)
-    → StandInFront exact vs at shown → StandInFront exact ws n (drop at shown)
-    → StandInFront exact (vs ++ ws) (at + n) shown
-stand_join exact vs ws at n shown h l = record {
-  within = omega (arith, h.within, l.within, length-drop at shown);
-  fresh =
-      subst IsBytes (sym (take-add at n shown))
-      (IsBytes-append (take at shown) (take n (drop at shown)) h.fresh l.fresh);
-  trees = join h.trees l.trees;
-  many =
-      count-join h.trees l.trees ∙ ap₂ ◌+◌ h.many l.many ∙ sym (length-append vs ws);
-  each = each-join (IsLeaf exact) h.trees l.trees h.each l.each;
-  means = values-join h.trees l.trees vs ws h.means l.means;
-  ranged = AreItems-append vs ws h.ranged l.ranged;
-  is =
-      take-add at n shown ∙ ap₂ ◌++◌ h.is l.is
-      ∙ ap (λ r. bytes_all h.trees ++ r) (sym (append-nil (bytes_all l.trees)))
-      ∙ sym (bytes-join h.trees l.trees []) ∙ append-nil (bytes_all (join h.trees l.trees));
-}
-
 may_more : (at n size : ℕ) (shown : List ℕ) → MayTake at shown → MayTake n (drop at shown)
     → size ≡ at + n → MayTake size shown
 may_more at n size shown h l e =
@@ -159,6 +129,29 @@ may_more at n size shown h l e =
           subst IsBytes (sym (take-add at n shown))
           (IsBytes-append (take at shown) (take n (drop at shown)) h.fresh l.fresh);
     })
+
+may_take : {exact : Type 0} {vs : List Value} {size : ℕ} {shown : List ℕ}
+    → StandInFront exact vs size shown → MayTake size shown
+may_take s = record { within = s.within; fresh = s.fresh }
+
+stand_join : (exact : Type 0) (vs ws : List Value) (at n : ℕ) (shown : List ℕ)
+    → StandInFront exact vs at shown → StandInFront exact ws n (drop at shown)
+    → StandInFront exact (vs ++ ws) (at + n) shown
+stand_join exact vs ws at n shown h l =
+    let may = may_more at n (at + n) shown (may_take h) (may_take l) refl in
+    record {
+      within = may.within;
+      fresh = may.fresh;
+      trees = join h.trees l.trees;
+      many = count-join h.trees l.trees ∙ ap₂ ◌+◌ h.many l.many ∙ sym (length-append vs ws);
+      each = each-join (IsLeaf exact) h.trees l.trees h.each l.each;
+      means = values-join h.trees l.trees vs ws h.means l.means;
+      ranged = AreItems-append vs ws h.ranged l.ranged;
+      is =
+          take-add at n shown ∙ ap₂ ◌++◌ h.is l.is
+          ∙ ap (λ r. bytes_all h.trees ++ r) (sym (append-nil (bytes_all l.trees)))
+          ∙ sym (bytes-join h.trees l.trees []) ∙ append-nil (bytes_all (join h.trees l.trees));
+    }
 
 pub put_none : (exact : Type 0) (items : List Value) (shown : List ℕ)
     → PutsAfter exact 0 shown items items
@@ -207,13 +200,10 @@ pub rejected_may : (exact : Type 0) (size : ℕ) (shown : List ℕ) → RejectsM
     → MayTake size shown
 rejected_may exact size shown r = by_place r.at
   where
-    stands : MayTake r.taken shown
-    stands = record { within = r.stand.within; fresh = r.stand.fresh }
-
     by_place : ((1 ≤ length r.values) × (size ≡ r.taken)) ⊎ ((head : ℕ) × (size ≡ r.taken + head)
         × WantsContent head (drop r.taken shown)) → MayTake size shown
-    by_place (inl h) = subst (λ j. MayTake j shown) (sym h.1) stands
-    by_place (inr h) = may_more r.taken h.0 size shown stands (wants_may h.0 _ h.2) h.1
+    by_place (inl h) = subst (λ j. MayTake j shown) (sym h.1) (may_take r.stand)
+    by_place (inr h) = may_more r.taken h.0 size shown (may_take r.stand) (wants_may h.0 _ h.2) h.1
 
 -- ---- taken
 
@@ -392,18 +382,16 @@ next_after E exact size n {shown = shown} {a = a} {b = b} shows prefix within ad
       (λ h. head_after exact size (n.first / 32) h.argument h.size shows prefix within adv) s.head;
 }
 
-after_are : (exact : Type 0) (before after : List Value) {size : ℕ} {shown : List ℕ}
+pub after_are : (exact : Type 0) (before after : List Value) {size : ℕ} {shown : List ℕ}
     → PutsAfter exact size shown before after → KeepsItems before after
 after_are exact before after p kept =
-    subst (λ x. AreItems (items_view x)) (sym p.is)
-    (AreItems-append before p.new kept p.stand.ranged)
+    subst (λ x. AreItems (items_view x)) (sym p.is) (AreItems-append _ _ kept p.stand.ranged)
 
-module _ (exact : Bool) (full : ℕ) (before after : List Value) {E : Type 0} {a m b : View} where
-  puts_taken : (want size : ℕ) {shown : List ℕ} → Shows shown a m
-      → IfKnown a.known (IsPrefix want shown) → PutsAfter (exact ≡ true) size shown before after
-      → Advances size m b → Does {V = Unit {0}} {E = E} (PutsItemsUnder exact before after a.budget)
-      RejectsWhereNone a b (Ok tt)
-  puts_taken want size shows prefix p adv =
+module _ (exact : Bool) (before after : List Value) {E : Type 0} {a m b : View} where
+  puts_taken : (size : ℕ) {shown : List ℕ} → Shows shown a m → IfKnown a.known (IsPrefix 1 shown)
+      → PutsAfter (exact ≡ true) size shown before after → Advances size m b → Does {V = Unit {0}}
+      {E = E} (PutsItemsUnder exact before after a.budget) RejectsWhereNone a b (Ok tt)
+  puts_taken size shows prefix p adv =
       let s = p.stand in
       let l = lends_prefix shows prefix s.within s.fresh refl adv in
       does_ok _ _ (record {
@@ -428,102 +416,54 @@ module _ (exact : Bool) (full : ℕ) (before after : List Value) {E : Type 0} {a
             );
       })
 
-  pub takes_whole : (size : ℕ) {seen : Ran} → seen ≡ run.Whole size
-      → Offers 1 (PutsRun (exact ≡ true) full before after seen) a m
+  pub takes_whole : (full size : ℕ)
+      → Offers 1 (PutsRun (exact ≡ true) full before after (run.Whole size)) a m
       → Advances size m b → Does {V = Unit {0}} {E = E}
       (PutsItemsUnder exact before after a.budget) RejectsWhereNone a b (Ok tt)
-  takes_whole size is h adv =
-      let o = subst (λ s. Offers 1 (PutsRun (exact ≡ true) full before after s) a m) is h in
-      puts_taken 1 size o.shows o.prefix o.is.puts adv
+  takes_whole full size o adv = puts_taken size o.shows o.prefix o.is.puts adv
 
-  pub takes_before : (size : ℕ) (n : Next) {seen : Ran} → seen ≡ run.Before n size
-      → Offers 1 (PutsRun (exact ≡ true) full before after seen) a m → Advances size m b
-      → RunsBefore E exact n before after a b
-  takes_before size n is h adv =
-      let o = subst (λ s. Offers 1 (PutsRun (exact ≡ true) full before after s) a m) is h in
-      let d = puts_taken 1 size o.shows o.prefix o.is.puts adv in
+  pub takes_before : (full size : ℕ) (n : Next)
+      → Offers 1 (PutsRun (exact ≡ true) full before after (run.Before n size)) a m
+      → Advances size m b → RunsBefore E exact n before after a b
+  takes_before full size n o adv =
+      let d = puts_taken size o.shows o.prefix o.is.puts adv in
       record {
         mid = narrow a b;
         puts = does_narrow d;
         shows =
-            next_after E (exact ≡ true) size n o.shows o.prefix o.is.puts.stand.within adv
-            d.moves.by o.is.next;
+            next_after _ _ _ _ o.shows o.prefix o.is.puts.stand.within adv d.moves.by o.is.next;
       }
 
-  pub run_no_memory : (size : ℕ) {seen : Ran} → seen ≡ run.NoMemory size
-      → Offers 1 (PutsRun (exact ≡ true) full before after seen) a m → Advances size m b → Does
-      {V = Unit {0}} {E = E} (PutsItemsUnder exact before after a.budget) RejectsWhereNone a b
-      (Err OutOfMemory)
-  run_no_memory size is h adv =
-      let o = subst (λ s. Offers 1 (PutsRun (exact ≡ true) full before after s) a m) is h in
+  pub run_no_memory : (size : ℕ) → Offers 1 (RejectsMemory (exact ≡ true) size) a m
+      → Advances size m b → Does {V = Unit {0}} {E = E}
+      (PutsItemsUnder exact before after a.budget) RejectsWhereNone a b (Err OutOfMemory)
+  run_no_memory size o adv =
       let may = rejected_may (exact ≡ true) size o.shown o.is in
-      let l = lends_prefix o.shows o.prefix may.within may.fresh refl adv in
-      does_no_memory _ _ refl l.kept
+      does_no_memory _ _ refl (lends_prefix o.shows o.prefix may.within may.fresh refl adv).kept
 
-module _ (exact : Bool) (full : ℕ) (before after : List Value) {E : Type 0} {a m : View} where
+module _ (exact : Bool) (before after : List Value) {E : Type 0} {a m : View} where
   -- nothing was put
-  pub takes_none : (n : Next) {seen : Ran} → seen ≡ run.Begins n
-      → Offers 1 (PutsRun (exact ≡ true) full before after seen) a m
+  pub takes_none : (n : Next)
+      → Offers 1 (λ shown. (after ≡ before) × SeesNext (exact ≡ true) n shown) a m
       → RunsBefore E exact n before after a m
-  takes_none n is h =
-      let o = subst (λ s. Offers 1 (PutsRun (exact ≡ true) full before after s) a m) is h in
-      record {
-        mid = a;
-        puts =
-            does_ok _ _ (reached_start (λ xs ys. PutsItemsUnder exact before after a.budget xs tt
-            ys) a (λ xs budget step. (
-              [],
-              o.is.0 ∙ sym (append-nil before),
-              (no_trees, refl, tt, refl, refl),
-            )));
-        shows = next_shown E (exact ≡ true) n o.shows o.prefix o.is.1;
-      }
+  takes_none n o = record {
+    mid = a;
+    puts =
+        does_ok _ _ (reached_start (λ xs ys. PutsItemsUnder exact before after a.budget xs tt ys) a
+        (λ xs budget step. (
+          [],
+          o.is.0 ∙ sym (append-nil before),
+          (no_trees, refl, tt, refl, refl),
+        )));
+    shows = next_shown E (exact ≡ true) n o.shows o.prefix o.is.1;
+  }
 
-  pub run_ends : {seen : Ran} → seen ≡ run.End
-      → Offers 1 (PutsRun (exact ≡ true) full before after seen) a m → {name : Bor (List ℕ)}
-      → name.now ≡ value_name → Does {V = Unit {0}} {E = E} (PutsItemsUnder exact before after
-      a.budget) RejectsWhereNone a m (Err (Eof name (Small 1)))
-  run_ends is h says =
-      let o = subst (λ s. Offers 1 (PutsRun (exact ≡ true) full before after s) a m) is h in
+  pub run_ends : Offers 1 (λ shown. length shown ≡ 0) a m → {name : Bor (List ℕ)}
+      → name.now ≡ value_name → Does {V = Unit {0}} {E = E}
+      (PutsItemsUnder exact before after a.budget) RejectsWhereNone a m (Err (Eof name (Small 1)))
+  run_ends o says =
       none_shown (PutsItemsUnder exact before after a.budget) RejectsWhereNone
       (λ z rest is. (refl, is)) 1 says (omega arith) o.shows o.prefix o.is
-
-module _ (exact : Type 0) (full : ℕ) (before after : List Value) {a m : View} where
-  pub whole_items : (size : ℕ) {seen : Ran} → seen ≡ run.Whole size
-      → Offers 1 (PutsRun exact full before after seen) a m → KeepsItems before after
-  whole_items size is h =
-      after_are exact before after
-      (subst (λ s. Offers 1 (PutsRun exact full before after s) a m) is h).is.puts
-
-  pub before_items : (size : ℕ) (n : Next) {seen : Ran} → seen ≡ run.Before n size
-      → Offers 1 (PutsRun exact full before after seen) a m → KeepsItems before after
-  before_items size n is h =
-      after_are exact before after
-      (subst (λ s. Offers 1 (PutsRun exact full before after s) a m) is h).is.puts
-
-  pub whole_seen : (size : ℕ) {seen : Ran} → seen ≡ run.Whole size
-      → Offers 1 (PutsRun exact full before after seen) a m
-      → (1 ≤ size) × (length after ≤ full) × (m.bound ≤ a.bound)
-  whole_seen size is h =
-      let o = subst (λ s. Offers 1 (PutsRun exact full before after s) a m) is h in
-      (o.is.some, o.is.few, o.shows.bound)
-
-  pub before_seen : (size : ℕ) (n : Next) {seen : Ran} → seen ≡ run.Before n size
-      → Offers 1 (PutsRun exact full before after seen) a m
-      → (length after < full) × (m.bound ≤ a.bound)
-  before_seen size n is h =
-      let o = subst (λ s. Offers 1 (PutsRun exact full before after s) a m) is h in
-      (o.is.lacks, o.shows.bound)
-
-  pub none_seen : (n : Next) {seen : Ran} → seen ≡ run.Begins n
-      → Offers 1 (PutsRun exact full before after seen) a m → m.bound ≤ a.bound
-  none_seen n is h =
-      (subst (λ s. Offers 1 (PutsRun exact full before after s) a m) is h).shows.bound
-
-  pub none_put : (n : Next) {seen : Ran} → seen ≡ run.Begins n
-      → Offers 1 (PutsRun exact full before after seen) a m → after ≡ before
-  none_put n is h =
-      (subst (λ s. Offers 1 (PutsRun exact full before after s) a m) is h).is.0
 
 breaks_broke : {a b : View} → ReaderFails a b → ReaderFailed a b
 breaks_broke b = record {
@@ -550,6 +490,20 @@ run_broke exact before after error breaks = record {
   err = λ xs known. tt;
 }
 
+-- where a run fails it promises no more
+pub run_fails : {exact : Bool} {full : ℕ} {before after : List Value} {E : Type 0} {a b : View}
+    {failure : Option (DecodeError E)} → TakesBy exact before after a b None failure
+    → TakesRun exact full before after a b None failure
+run_fails puts = record {
+  puts = puts;
+  items = tt;
+  few = tt;
+  lacks = tt;
+  progress = tt;
+  bound = tt;
+  can = tt;
+}
+
 pub still_are : {before after : List Value} → after ≡ before → KeepsItems before after
 still_are is are = subst (λ vs. AreItems (items_view vs)) (sym is) are
 
@@ -559,15 +513,20 @@ none_lacks full before after is lacks = subst (λ vs. length vs < full) (sym is)
 
 -- ---- after other items
 
-pub none_yet : (W : Tree → Type 0) (vs : List Value) → vs ≡ [] → (xs : List ℕ)
-    → ReadsEach W (length vs) xs vs xs
-none_yet W vs e xs =
-    subst (λ us. ReadsEach W (length us) xs us xs) (sym e) (no_trees, refl, tt, refl, refl)
+-- these values
+abbrev pub ReadEach : Bool → List Value → Budget → List ℕ → List ℕ → Type 0
+ReadEach exact vs budget xs ys = ReadsItems exact (length vs) budget xs vs ys
+
+pub none_read : (exact : Bool) (a : View) (vs : List Value) → vs ≡ []
+    → Reached (ReadEach exact vs a.budget) a a
+none_read exact a vs e =
+    reached_start (ReadEach exact vs a.budget) a (λ xs. subst (λ us. ReadEach exact us a.budget xs
+    xs) (sym e) (no_trees, refl, tt, refl, refl))
 
 pub none_too_many : {A : Type 0} (vs : List A) (count : ℕ) → vs ≡ [] → length vs ≤ count
 none_too_many vs count e = subst (λ us. length us ≤ count) (sym e) (omega arith)
 
-join_items : (W : Tree → Type 0) (vs ws : List Value) (xs ys zs : List ℕ)
+pub join_items : (W : Tree → Type 0) (vs ws : List Value) (xs ys zs : List ℕ)
     → ReadsEach W (length vs) xs vs ys → ReadsEach W (length ws) ys ws zs
     → ReadsEach W (length (vs ++ ws)) xs (vs ++ ws) zs
 join_items W vs ws xs ys zs h k = (
@@ -583,31 +542,27 @@ stopped_further : (W : Tree → Type 0) (stop : Stopping) (vs : List Value) (ful
     (xs ys : List ℕ) (z : InputError) (rest : List ℕ) → ReadsEach W (length vs) xs vs ys
     → RejectsInCount W stop (full - length vs) ys z rest → RejectsInCount W stop full xs z rest
 stopped_further W stop vs full xs ys z rest h s =
-    in_count (join h.0 s.prefix) s.after (omega (arith, count-join h.0 s.prefix, h.1, s.few))
-    (each-join W h.0 s.prefix h.2 s.whole) (h.4 ∙ ap (λ r. bytes_all h.0 ++ r) s.is ∙ sym
-    (bytes-join h.0 s.prefix s.after)) s.stopped
+    in_count _ _ (omega (arith, count-join h.0 s.prefix, h.1, s.few)) (each-join W _ _ h.2 s.whole)
+    (h.4 ∙ ap (λ r. bytes_all h.0 ++ r) s.is ∙ sym (bytes-join h.0 s.prefix s.after)) s.stopped
 
 -- ---- a turn: a run, and the value after it
 
--- a value whose step was taken
-one_read : (exact : Bool) (budget inner : Budget) → step_in budget ≡ Some inner → (xs : List ℕ)
-    (v : Value) (ys : List ℕ) → ReadsUnder exact inner xs v ys
-    → ReadsItems exact 1 budget xs (v ∷ []) ys
-one_read exact budget inner step xs v ys h =
-    let t = h budget step in (
-      tree t.0 no_trees,
-      refl,
-      (t.1, tt),
-      ap (λ i. item i no_items) t.2,
-      t.3 ∙ ap (λ r. r ++ ys) (sym (append-nil (bytes t.0))),
-    )
+-- one value
+pub one_item : (exact : Bool) (budget : Budget) (xs : List ℕ) (v : Value) (ys : List ℕ)
+    → ReadsOneValue exact budget xs v ys → ReadsItems exact 1 budget xs (v ∷ []) ys
+one_item exact budget xs v ys t = (
+  tree t.0 no_trees,
+  refl,
+  (t.1, tt),
+  ap (λ i. item i no_items) t.2,
+  t.3 ∙ ap (λ r. r ++ ys) (sym (append-nil (bytes t.0))),
+)
 
 -- no byte is left where a value is to begin
 none_under : (exact : Bool) (budget : Budget) (xs : List ℕ) (z : InputError) (rest : List ℕ)
     → RejectsWhereNone xs z rest → RejectsUnder exact budget xs z rest
 none_under exact budget xs z rest s =
-    subst (λ x. RejectsUnder exact budget x z rest) (sym s.0)
-    (value_no_byte exact budget z rest s.1)
+    subst (λ x. RejectsUnder exact budget x z rest) (sym s.0) (value_no_byte _ _ _ _ s.1)
 
 pub stopped_after : (W : Tree → Type 0) (stop : Stopping) (vs : List Value) (room : ℕ)
     (xs ys : List ℕ) (z : InputError) (rest : List ℕ) → ReadsEach W (length vs) xs vs ys
@@ -645,8 +600,8 @@ module _ (exact : Bool) (full : ℕ) (before : List Value) {E : Type 0} {a : Vie
           does_ok _ _ (reached_then (λ xs ys. PutsItemsUnder exact before mid a.budget xs tt ys)
           (λ xs ys. ReadsUnder exact run.mid.budget xs v ys) _ (λ xs ys zs h s budget step.
           let p = h budget step in
-          let r = one_read exact budget a.budget step ys v zs
-          (subst (λ o. ReadsUnder exact o ys v zs) run.puts.moves.by.budget s) in (
+          let r = one_item exact budget ys v zs
+          (subst (λ o. ReadsUnder exact o ys v zs) run.puts.moves.by.budget s budget step) in (
             p.0 ++ v ∷ [],
             is ∙ ap (λ r. r ++ v ∷ []) p.1 ∙ append_assoc before p.0 (v ∷ []),
             join_items (Whole exact budget) p.0 (v ∷ []) xs ys zs p.2 r,
@@ -661,8 +616,7 @@ module _ (exact : Bool) (full : ℕ) (before : List Value) {E : Type 0} {a : Vie
           does_err (λ xs ys. PutsItemsUnder exact before mid a.budget xs tt ys) _ B (RejectsUnder
           exact run.mid.budget) _ (λ xs ys z rest h s budget step.
           let p = h budget step in
-          stopped_after (Whole exact budget) (RejectsOneValue exact budget) p.0
-          (full - length before) xs ys z rest p.2 (omega (
+          stopped_after (Whole exact budget) (RejectsOneValue exact budget) _ _ _ _ _ _ p.2 (omega (
             arith,
             lacks,
             ap length p.1,
@@ -699,7 +653,7 @@ pub put_items : {A : Type 0} (before mid after : List Value) (v : Value) (r : Op
     → OnSome r (after ≡ mid ++ v ∷ []) → KeepsItems before mid → IsItem (view v)
     → OnSome r (KeepsItems before after)
 put_items before mid after v (Some u) is keeps ranged =
-    λ are. items_are after mid v is (keeps are) ranged
+    λ are. items_are after mid (v ∷ []) is (keeps are) (ranged, tt)
 put_items before mid after v None is keeps ranged = tt
 
 -- under a step
@@ -729,92 +683,46 @@ turn_unstepped exact full before after {a = a} lacks says read takes k =
 -- ---- turns, one after another
 
 module _ (exact : Bool) (full : ℕ) (items after : List Value) {a m : View}
-    (p : Reached (λ xs ys. ReadsItems exact (length items) a.budget xs items ys) a m) where
+    (p : Reached (ReadEach exact items a.budget) a m) where
   pub ran : {E : Type 0} {u : Unit {0}} {b : View} → Does {E = E} (PutsItems exact items after
-      m.budget) (RejectsItems exact (full - length items) m.budget) m b (Ok u) → Reached (λ xs ys.
-      ReadsItems exact (length after) a.budget xs after ys) a b
+      m.budget) (RejectsItems exact (full - length items) m.budget) m b (Ok u)
+      → Reached (ReadEach exact after a.budget) a b
   ran {u = u} d =
-      reached_then (λ xs ys. ReadsItems exact (length items) a.budget xs items ys) (λ xs ys.
-      PutsItems exact items after m.budget xs u ys) _ (λ xs ys zs h s. subst (λ us. ReadsItems exact
-      (length us) a.budget xs
-      us zs) (sym s.1) (join_items (Whole exact a.budget) items s.0 xs ys zs h (subst (λ o.
-      ReadsItems exact (length s.0) o ys s.0 zs) p.kept.budget s.2))) p (reached_by d)
+      reached_then (ReadEach exact items a.budget) (λ xs ys. PutsItems exact items after m.budget xs
+      u ys) _ (λ xs ys zs h s. subst (λ us. ReadEach exact us a.budget xs zs) (sym s.1) (join_items
+      (Whole exact a.budget) items s.0 xs ys zs h (subst (λ o. ReadEach exact s.0 o ys zs)
+      p.kept.budget s.2))) p (reached_by d)
 
   pub run_rejects : {V E : Type 0} (B : Accepting V) → {e : DecodeError E} {b : View}
       → Does {V = Unit {0}} (PutsItems exact items after m.budget)
       (RejectsItems exact (full - length items) m.budget) m b (Err e)
       → Does {V = V} B (RejectsItems exact full a.budget) a b (Err e)
   run_rejects B d =
-      does_err (λ xs ys. ReadsItems exact (length items) a.budget xs items ys) _ B (RejectsItems
-      exact (full - length items) m.budget) _ (λ xs ys z rest h s. stopped_further
-      (Whole exact a.budget)
-      (RejectsOneValue exact a.budget) items full xs ys z rest h (subst (λ o. RejectsItems exact
-      (full - length items) o ys z rest) p.kept.budget s)) p d
+      stops_under (ReadEach exact items a.budget) (PutsItems exact items after)
+      (RejectsItems exact (full - length items)) B _ (λ xs ys z rest h s. stopped_further
+      (Whole exact a.budget) (RejectsOneValue exact a.budget) items full xs ys z rest h s) p d
 
 -- ---- pairs
 
--- so many pairs, of which each encoding is such a tree
-abbrev pub ReadsPairs : (Tree → Type 0) → ℕ → List ℕ → List (Value × Value) → List ℕ → Type 0
-ReadsPairs W n xs ms ys =
-    (ps : Pairs) × (pair_count ps ≡ n) × EachPair W ps × (member_values ps ≡ members_view ms)
-    × (xs ≡ bytes_pairs ps ++ ys)
-
--- the trees of keys and values, in pairs again
-in_pairs : (W : Tree → Type 0) (ms : List (Value × Value)) (ts : Trees)
-    → count ts ≡ length (flat_values ms) → Each W ts → values ts ≡ items_view (flat_values ms)
-    → (ps : Pairs) × (pair_count ps ≡ length ms) × EachPair W ps
-    × (member_values ps ≡ members_view ms) × (bytes_all ts ≡ bytes_pairs ps)
-in_pairs W [] no_trees n h e = (no_pairs, refl, tt, refl, refl)
-in_pairs W [] (tree t ts) n h e = cc
-in_pairs W (m ∷ ms) no_trees n h e = cc
-in_pairs W (m ∷ ms) (tree k no_trees) n h e = cc
-in_pairs W (m ∷ ms) (tree k (tree v ts)) n h e =
-    let many : count ts ≡ length (flat_values ms) = cc in
-    let key : value k ≡ view m.0 = cc in
-    let trailing : value v ≡ view m.1 = cc in
-    let tail : values ts ≡ items_view (flat_values ms) = cc in
-    let r = in_pairs W ms ts many h.1.1 tail in (
-      pair k v r.0,
-      ap suc r.1,
-      (h.0, h.1.0, r.2),
-      cc (key, trailing, r.3),
-      ap (λ z. bytes k ++ (bytes v ++ z)) r.4,
-    )
-
-pairs_of : (W : Tree → Type 0) (ms : List (Value × Value)) (xs ys : List ℕ)
-    → ReadsEach W (length (flat_values ms)) xs (flat_values ms) ys
-    → ReadsPairs W (length ms) xs ms ys
-pairs_of W ms xs ys h =
-    let r = in_pairs W ms h.0 h.1 h.2 h.3 in
-    (r.0, r.1, r.2, r.3, h.4 ∙ ap (λ z. z ++ ys) r.4)
-
 -- of twice as many values no key is left without its value
 whole_pairs : (ms : List (Value × Value)) (key : Option Value) (n : ℕ)
-    → length (flat_pairs ms key) ≡ 2 * n → (flat_pairs ms key ≡ flat_values ms) × (length ms ≡ n)
-whole_pairs ms None n e = (refl, omega (arith, e, length-flat ms))
+    → length (flat_pairs ms key) ≡ 2 * n → flat_pairs ms key ≡ flat_values ms
+whole_pairs ms None n e = refl
 whole_pairs ms (Some k) n e =
     absurd (omega (arith, e, length-append (flat_values ms) (k ∷ []), length-flat ms))
 
-pub pairs_are_read : (W : Tree → Type 0) (ms : List (Value × Value)) (key : Option Value) (n : ℕ)
-    (xs ys : List ℕ) → length (flat_pairs ms key) ≡ 2 * n
-    → ReadsEach W (length (flat_pairs ms key)) xs (flat_pairs ms key) ys → ReadsPairs W n xs ms ys
-pairs_are_read W ms key n xs ys e h =
-    let w = whole_pairs ms key n e in
-    subst (λ j. ReadsPairs W j xs ms ys) w.1
-    (pairs_of W ms xs ys (subst (λ us. ReadsEach W (length us) xs us ys) w.0 h))
+pub pairs_are_read : (exact : Bool) (budget : Budget) (ms : List (Value × Value))
+    (key : Option Value) (n : ℕ) (xs ys : List ℕ) → length (flat_pairs ms key) ≡ 2 * n
+    → ReadEach exact (flat_pairs ms key) budget xs ys → ReadsMembers exact n budget xs ms ys
+pairs_are_read exact budget ms key n xs ys e h =
+    subst (λ us. ReadsItems exact (2 * n) budget xs us ys) (whole_pairs ms key n e)
+    (subst (λ j. ReadsItems exact j budget xs (flat_pairs ms key) ys) e h)
 
--- ---- pairs stay in range
-
-members_of_flat : (ms : List (Value × Value)) → AreItems (items_view (flat_values ms))
-    → AreMembers (members_view ms)
-members_of_flat [] h = tt
-members_of_flat (m ∷ ms) h = (h.0, h.1.0, members_of_flat ms h.1.1)
-
+-- they stay in range
 pub pairs_are : (ms : List (Value × Value)) (key : Option Value) (n : ℕ)
     → length (flat_pairs ms key) ≡ 2 * n → AreItems (items_view (flat_pairs ms key))
-    → AreMembers (members_view ms)
-pairs_are ms key n e h =
-    members_of_flat ms (subst (λ us. AreItems (items_view us)) (whole_pairs ms key n e).0 h)
+    → AreItems (items_view (flat_values ms))
+pairs_are ms key n e h = subst (λ us. AreItems (items_view us)) (whole_pairs ms key n e) h
 
 -- all are there
 pub both_there : (ms : List (Value × Value)) (key : Option Value) (most : ℕ)

@@ -2,8 +2,9 @@
 use Rattle.std.proofs.Common.{◌≡◌, ◌≢◌, ℕ, suc, ◌+◌, ◌-◌, ◌*◌, ◌/◌, ◌%◌, ◌^◌, ◌<◌, ◌≤◌, ℤ, List, []}
 use Rattle.std.proofs.Common.{◌∷◌, ◌++◌, length, take, drop, take-append-drop, length-append}
 use Rattle.std.proofs.Common.{length-drop, Result, Ok, Err, Option, Some, None, IfSome, refl, sym}
-use Rattle.std.proofs.Common.{ap, ◌∙◌, subst, arith, get_or, Bool, true}
+use Rattle.std.proofs.Common.{ap, ◌∙◌, subst, arith, get_or, Bool, true, w8, Fits}
 use Rattle.std.proofs.{Math.Seq.{take-append_seam, take-add}, lemmas.List.length-take-le}
+use Rattle.std.proofs.Math.Facts.{Fits-lt-pow}
 use Rattle.std.specs.Int.{bytes_high_first}
 use denote.Ref.{Bor}
 use Rattle.cbor4ii_rw.specs.{Reader.{Advances, IsPrefix, Shows}, View.{View, IfKnown}}
@@ -15,26 +16,28 @@ use Rattle.cbor4ii_items.specs.{Budget.CostFits, Head.{Width, byte_count, additi
 use Rattle.cbor4ii_items.specs.Head.{ArgumentAfter, IsBytes, shortest, in_first, one, two, four}
 use Rattle.cbor4ii_items.specs.{Head.{eight, head}, Initial.{Sign, sign_major, Precision}}
 use Rattle.cbor4ii_items.specs.Initial.{precision_byte, precision_bytes, half, single, double}
-use Rattle.cbor4ii_items.specs.Initial.{Simple, simple_false, simple_true, simple_null}
-use Rattle.cbor4ii_items.specs.Initial.{simple_undefined, unsigned, negative, Kind, kind_major}
+use Rattle.cbor4ii_items.specs.Initial.{Simple, simple_false, unsigned, negative, Kind, kind_major}
 use Rattle.cbor4ii_items.specs.{Initial.{simple_byte, byte_string, text_string}, Reading.Runs}
 use Rattle.cbor4ii_items.specs.Reading.{peek_at}
-use Rattle.cbor4ii_tree.specs.{Valuing.RejectsUnder, View.view, declared.leaf.Leaf.Leaf}
+use Rattle.cbor4ii_tree.specs.{Valuing.{RejectsUnder, SimpleOf, ReadsUnder}, View.view}
 use Rattle.cbor4ii_tree.specs.{declared.leaf.Looked.Looked, declared.leaf.Next.Next}
 use Rattle.cbor4ii_tree.specs.{declared.value.FloatBits.FloatBits, declared.value.Value.Value}
-use Rattle.cbor4ii_tree.specs.{Does.Does, InputError.{value_name, Small}, Item.{integer, float}}
-use Rattle.cbor4ii_tree.specs.{Item.IsItem, Laws.Binds.step_up, Leaf.{CanTake, DoesAfterNext}}
-use Rattle.cbor4ii_tree.specs.Leaf.{ExactHead, StandsAhead, SeesLeaf, ShowsFirst, ShowsNext}
-use Rattle.cbor4ii_tree.specs.{Leaf.{TakesLeaf, WantsContent}, Meaning.{number, simple_item}}
-use Rattle.cbor4ii_tree.specs.{Meaning.content_item, Prefix.Offers, Tree.{int, bits, simple}}
-use Rattle.cbor4ii_tree.specs.{Tree.{string, TextIsUtf8}, Valuing.{SimpleOf, ReadsUnder}}
+use Rattle.cbor4ii_tree.specs.{declared.value.Value.{Integer, Float}, Does.Does}
+use Rattle.cbor4ii_tree.specs.{InputError.{value_name, Small}, Item.{integer, float, IsItem}}
+use Rattle.cbor4ii_tree.specs.{Laws.Binds.step_up, Leaf.{CanTake, DoesAfterNext, ExactHead}}
+use Rattle.cbor4ii_tree.specs.Leaf.{StandsAhead, SeesLeaf, ShowsFirst, ShowsNext, TakesLeaf}
+use Rattle.cbor4ii_tree.specs.{Leaf.WantsContent, Meaning.{number, simple_item, content_item}}
+use Rattle.cbor4ii_tree.specs.{Prefix.Offers, Tree.{int, bits, simple, string, TextIsUtf8}}
 use Rattle.cbor4ii_tree.specs.declared.leaf.Leaf.TheVariants.{Whole, NoMemory, End}
-use Rattle.cbor4ii_tree.specs.declared.value.Value.{Integer, Float}
 use Rattle.cbor4ii_tree.proofs.{heads.Inverse.IsBytes-take, skip_calls.Doing.does_ok}
-use Rattle.cbor4ii_tree.proofs.{values.Calls.value_no_byte, values.Encoding.view-Integer}
-use Rattle.cbor4ii_tree.proofs.{skip_calls.Doing.does_no_memory, values.Calls.{fits_less, whole}}
-use Rattle.cbor4ii_tree.proofs.values.Ends.{none_shown}
+use Rattle.cbor4ii_tree.proofs.{skip_calls.Doing.does_no_memory, values.Calls.value_no_byte}
+use Rattle.cbor4ii_tree.proofs.{values.Calls.{fits_less, whole}, values.Encoding.view-Integer}
+use Rattle.cbor4ii_tree.proofs.{values.Ends.none_shown, skip_calls.Leaves.shown_bytes}
 use Rattle.cbor4ii_tree.specs.declared.leaf.Looked.TheVariants as looked
+
+-- what a slice of bytes shows
+pub fresh_shown : (shown : List ℕ) → ((i : ℕ) → Fits w8 (get_or shown i 0)) → IsBytes shown
+fresh_shown shown f = shown_bytes shown (λ i. Fits-lt-pow {w = w8} (f i))
 
 in_range : (s : Sign) (n : ℕ) → n < 2 ^ 127 → IsItem (integer (number s n))
 in_range unsigned n h = h
@@ -46,24 +49,11 @@ float_fits : (p : Precision) (w : Width) (n : ℕ) → HeadFits w n
 float_fits half two n h e = (refl, h)
 float_fits single four n h e = (refl, h)
 float_fits double eight n h e = (refl, h)
-float_fits half in_first n h e = absurd (omega (arith, h, e))
-float_fits half one n h e = absurd (omega (arith, e))
-float_fits half four n h e = absurd (omega (arith, e))
-float_fits half eight n h e = absurd (omega (arith, e))
-float_fits single in_first n h e = absurd (omega (arith, h, e))
-float_fits single one n h e = absurd (omega (arith, e))
-float_fits single two n h e = absurd (omega (arith, e))
-float_fits single eight n h e = absurd (omega (arith, e))
-float_fits double in_first n h e = absurd (omega (arith, h, e))
-float_fits double one n h e = absurd (omega (arith, e))
-float_fits double two n h e = absurd (omega (arith, e))
-float_fits double four n h e = absurd (omega (arith, e))
+float_fits _ _ n h e = absurd (omega (arith, h, e))
 
 simple_item_is : (s : Simple) → IsItem (simple_item s)
 simple_item_is simple_false = tt
-simple_item_is simple_true = tt
-simple_item_is simple_null = tt
-simple_item_is simple_undefined = tt
+simple_item_is _ = tt
 
 -- widths are told apart by how many bytes they have
 pub same_width : (w u : Width) → byte_count w ≡ byte_count u → w ≡ u
@@ -215,11 +205,10 @@ shows_first {E = E} first trailing {shown = shown} {a = a} {m = m} shows prefix 
 -- ---- what a look decides is taken
 
 module _ (exact : Bool) {E : Type 0} {a m b : View} where
-  pub takes_leaf : (v : Value) (size : ℕ) {seen : Leaf} → seen ≡ Whole v size
-      → Offers 1 (SeesLeaf (exact ≡ true) seen) a m → Advances size m b
+  pub takes_leaf : (v : Value) (size : ℕ)
+      → Offers 1 (SeesLeaf (exact ≡ true) (Whole v size)) a m → Advances size m b
       → Does {E = E} (ReadsUnder exact a.budget) (RejectsUnder exact a.budget) a b (Ok v)
-  takes_leaf v size is h adv =
-      let o = subst (λ s. Offers 1 (SeesLeaf (exact ≡ true) s) a m) is h in
+  takes_leaf v size o adv =
       let l = lends_prefix o.shows o.prefix o.is.within o.is.fresh refl adv in
       does_ok _ _ (record {
         kept = l.kept;
@@ -239,24 +228,20 @@ module _ (exact : Bool) {E : Type 0} {a m b : View} where
             );
       })
 
-  pub no_content : (size : ℕ) {seen : Leaf} → seen ≡ NoMemory size
-      → Offers 1 (SeesLeaf (exact ≡ true) seen) a m → Advances size m b → Does {V = Value} {E = E}
+  pub no_content : (size : ℕ) → Offers 1 (SeesLeaf (exact ≡ true) (NoMemory size)) a m
+      → Advances size m b → Does {V = Value} {E = E}
       (ReadsUnder exact a.budget) (RejectsUnder exact a.budget) a b (Err OutOfMemory)
-  no_content size is h adv =
-      let o = subst (λ s. Offers 1 (SeesLeaf (exact ≡ true) s) a m) is h in
+  no_content size o adv =
       let may = wants_may size o.shown o.is in
-      let l = lends_prefix o.shows o.prefix may.within may.fresh refl adv in
-      does_no_memory _ _ refl l.kept
+      does_no_memory _ _ refl (lends_prefix o.shows o.prefix may.within may.fresh refl adv).kept
 
-module _ (exact : Bool) {a m : View} where
-  pub no_value : {E : Type 0} {seen : Leaf} → seen ≡ End
-      → Offers 1 (SeesLeaf (exact ≡ true) seen) a m → {name : Bor (List ℕ)} → name.now ≡ value_name
-      → Does {V = Value} {E = E} (ReadsUnder exact a.budget) (RejectsUnder exact a.budget) a m
-      (Err (Eof name (Small 1)))
-  no_value is h says =
-      let o = subst (λ s. Offers 1 (SeesLeaf (exact ≡ true) s) a m) is h in
-      none_shown (ReadsUnder exact a.budget) (RejectsUnder exact a.budget)
-      (value_no_byte exact a.budget) 1 says (omega arith) o.shows o.prefix o.is
+pub no_value : (exact : Bool) {E : Type 0} {a m : View}
+    → Offers 1 (SeesLeaf (exact ≡ true) End) a m → {name : Bor (List ℕ)} → name.now ≡ value_name
+    → Does {V = Value} {E = E} (ReadsUnder exact a.budget) (RejectsUnder exact a.budget) a m
+    (Err (Eof name (Small 1)))
+no_value exact {a = a} o says =
+    none_shown (ReadsUnder exact a.budget) (RejectsUnder exact a.budget)
+    (value_no_byte exact a.budget) 1 says (omega arith) o.shows o.prefix o.is
 
 -- nothing was taken yet
 pub after_look : (exact : Bool) {E : Type 0} {r : Result Value (DecodeError E)} {a b : View}

@@ -9,10 +9,11 @@ use Rattle.cbor4ii_tree.specs.{Item.member_count, Order.{Compares, head_of, afte
 use Rattle.cbor4ii_tree.specs.{Order.{elements_of, pairs_of}, Tree.{bytes_all, bytes_pairs}}
 use Rattle.cbor4ii_tree.specs.{View.{view, items_view, members_view}, declared.value.Value.Value}
 use Rattle.cbor4ii_tree.specs.declared.value.Value.{Array, Map}
-use Rattle.cbor4ii_tree.proofs.{values.Encoding.members-canonical_encoding, values.Views.view-Map}
-use Rattle.cbor4ii_tree.proofs.encodings.Order.{compares_then, same_major, after_array, after_map}
+use Rattle.cbor4ii_tree.proofs.values.Encoding.{members-canonical_encoding}
 use Rattle.cbor4ii_tree.proofs.values.Encoding.{items-canonical_encoding, view-Array}
-use Rattle.cbor4ii_tree.proofs.values.Views.{item_count-items_view, member_count-members_view}
+use Rattle.cbor4ii_tree.proofs.values.Views.{view-Map, item_count-items_view}
+use Rattle.cbor4ii_tree.proofs.values.Views.{member_count-members_view}
+use Rattle.cbor4ii_tree.proofs.encodings.Order.{compares_then, same_major, after_array, after_map}
 
 -- two lists of as many values, whose bytes follow the heads
 pub record Alike {A : Type 0} (bytes : A → List ℕ) (xs ys : List A) (s t : List ℕ) : Type 0 where
@@ -46,13 +47,12 @@ maps a b v ns is seen e =
     let other = after_map (view b) major in
     record {
       long =
-          sym (member_count-members_view v.items) ∙ sym (ap (λ w. (head_of w).1) whole)
-          ∙ ap (λ h. h.1) e ∙ sym other.0 ∙ ap member_count (sym seen)
-          ∙ member_count-members_view ns;
+          sym (member_count-members_view v.items) ∙ sym (ap (λ w. (head_of w).1) whole) ∙ ap (λ h.
+          h.1) e ∙ sym other.0 ∙ ap member_count (sym seen) ∙ member_count-members_view ns;
       first = members-canonical_encoding v.items ∙ sym (ap after_head whole);
       second =
-          members-canonical_encoding ns ∙ ap (λ ms. bytes_pairs (canonical_pairs ms)) seen
-          ∙ sym other.1;
+          members-canonical_encoding ns ∙ ap (λ ms. bytes_pairs (canonical_pairs ms)) seen ∙ sym
+          other.1;
     }
 
 bytes_from : {A : Type 0} (bytes : A → List ℕ) (xs : List A) (i : ℕ) (x : A) → i < length xs

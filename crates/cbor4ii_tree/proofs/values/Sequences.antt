@@ -1,60 +1,264 @@
--- Arrays and maps of values.
+-- Arrays and maps of values. What is said of both is said of `keyed`, which is true of a map.
 use Rattle.std.proofs.Common.{◌≡◌, ◌≢◌, ℕ, ◌+◌, ◌*◌, ◌/◌, ◌%◌, List, [], ◌∷◌, ◌++◌, drop, take}
 use Rattle.std.proofs.Common.{Option, Some, None, Result, Ok, Err, Bool, true, false, refl, sym, ap}
-use Rattle.std.proofs.Common.{ap₂, ◌∙◌, subst, arith, append_assoc, inl, inr, Vec, Global, IfOk}
-use Rattle.std.proofs.Common.{IfErr}
-use Rattle.std.specs.Int.{bytes_high_first}
+use Rattle.std.proofs.Common.{◌∙◌, subst, arith, append_assoc, inl, inr, Vec, Global, IfOk, IfErr}
+use Rattle.std.proofs.Common.{◌⊎◌, length}
+use denote.Ref.{Bor}
 use Rattle.cbor4ii_rw.specs.{Reader.{KeepsAllButBudget, StepsIn, step_back}, View.View}
 use Rattle.cbor4ii_rw.specs.declared.error.DecodeError.{DecodeError}
+use Rattle.cbor4ii_rw.specs.declared.error.DecodeError.TheVariants.{DepthOverflow}
 use Rattle.cbor4ii_items.specs.{InputError.InputError, Laws.SequenceParts.fits_less}
-use Rattle.cbor4ii_items.specs.{Budget.CostFits, Decoding.{Sound, Rejects}, Head.byte_count}
-use Rattle.cbor4ii_items.specs.Head.{additional, HeadFits, head, indefinite_head, break, shortest}
+use Rattle.cbor4ii_items.specs.{Budget.CostFits, Decoding.{Sound, Rejects, Decodes}}
+use Rattle.cbor4ii_items.specs.Head.{additional, HeadFits, head, indefinite_head, break, Width}
 use Rattle.cbor4ii_items.specs.{Heads.RejectsHead, Initial.{Info, wide, indefinite_ended, reserved}}
 use Rattle.cbor4ii_items.specs.Initial.{info_of, array_by_info, map_by_info, starts_array}
 use Rattle.cbor4ii_items.specs.Initial.{starts_indefinite_array, starts_map, starts_indefinite_map}
-use Rattle.cbor4ii_items.specs.{Lengths.{ReadsLength, RejectsLength}, Moves.Moves}
-use Rattle.cbor4ii_items.specs.Shortest.{RejectsShortest}
-use Rattle.cbor4ii_tree.proofs.{parts.Pushed.bytes-push_pair, skip_calls.Doing.Reached}
-use Rattle.cbor4ii_tree.proofs.{values.Calls.indefinite_byte, values.Encoding.view-Array}
-use Rattle.cbor4ii_tree.proofs.canonical.FitsCanonically.{all_exactly, all_pairs_exactly}
-use Rattle.cbor4ii_tree.proofs.parts.Pushed.{push, each-push, bytes-push, push_pair, each-push_pair}
-use Rattle.cbor4ii_tree.proofs.parts.Rejecting.{in_items, in_pairs}
-use Rattle.cbor4ii_tree.proofs.skip_calls.Doing.{reached_start, reached_by, reached_then, does_err}
-use Rattle.cbor4ii_tree.proofs.skip_calls.Doing.{does_after, does_stepped, call_rejects, reached_as}
-use Rattle.cbor4ii_tree.proofs.skip_calls.Doing.{reached_sound, steps_in, does_ok}
-use Rattle.cbor4ii_tree.proofs.values.Calls.{head_cut, no_head, initial_of, values-push, whole}
-use Rattle.cbor4ii_tree.proofs.values.Heads.{at_row, at_major, first_is, head_at, shortest_at}
-use Rattle.cbor4ii_tree.proofs.{values.Parts.{ReadEach, ReadPairs}, values.Views.view-Map}
-use Rattle.cbor4ii_tree.specs.{Laws.Initials.initial_indefinite_map, Laws.Wholes.all_readable}
-use Rattle.cbor4ii_tree.specs.CanonicalRejects.{CanonicalArrayRejects, CanonicalMapRejects}
-use Rattle.cbor4ii_tree.specs.{CanonicalShape.{CanonicalShapeAll, CanonicalShapePairs}, Cost.Budget}
-use Rattle.cbor4ii_tree.specs.{Cost.{step_in, greatest_cost, greatest_pair_cost}, Does.Accepting}
-use Rattle.cbor4ii_tree.specs.{Does.{Does, answered}, InputError.{array_name, map_name, break_name}}
-use Rattle.cbor4ii_tree.specs.{InputError.{eof, mismatch, depth_overflow, Small}, Item.no_members}
-use Rattle.cbor4ii_tree.specs.{Item.{member, sequence, mapping}, Laws.Binds.step_up}
-use Rattle.cbor4ii_tree.specs.Laws.Initials.{initial_array, initial_map, initial_indefinite_array}
-use Rattle.cbor4ii_tree.specs.{Laws.Wholes.all_pairs_readable, Meaning.{value, member_values}}
-use Rattle.cbor4ii_tree.specs.ReadingRejects.{Readable, ReadingRejectsBy, ReadingRejects}
+use Rattle.cbor4ii_items.specs.{Initial.{bad_array, bad_map, Initial, initial}, Lengths.ReadsLength}
+use Rattle.cbor4ii_items.specs.{Lengths.RejectsLength, Moves.Moves, Shortest.RejectsShortest}
+use Rattle.cbor4ii_items.specs.Strings.{break_format}
+use Rattle.cbor4ii_tree.specs.Laws.Initials.{initial_indefinite_map, initial_array, initial_map}
+use Rattle.cbor4ii_tree.specs.{Laws.Initials.initial_indefinite_array, Laws.Wholes.all_readable}
+use Rattle.cbor4ii_tree.specs.{Laws.Wholes.all_pairs_readable, CanonicalShape.CanonicalShapeAll}
+use Rattle.cbor4ii_tree.specs.{CanonicalShape.CanonicalShapePairs, Cost.{Budget, step_in}}
+use Rattle.cbor4ii_tree.specs.{Cost.{greatest_cost, greatest_pair_cost}, Does.{Accepting, Does}}
+use Rattle.cbor4ii_tree.specs.{Does.answered, InputError.{array_name, map_name, mismatch}}
+use Rattle.cbor4ii_tree.specs.{InputError.{depth_overflow, eof, break_name, Small}, Item.sequence}
+use Rattle.cbor4ii_tree.specs.{Item.mapping, Laws.Binds.step_up, Meaning.{member_values, values}}
 use Rattle.cbor4ii_tree.specs.Rejections.{Stopping, Is, AtHead, RejectsAtStep, RejectsInCount, Each}
-use Rattle.cbor4ii_tree.specs.Rejections.{EachPair, IndefiniteItems, IndefinitePairs, NoBreak}
-use Rattle.cbor4ii_tree.specs.Tree.{Tree, Trees, no_trees, Pairs, no_pairs, pair, array}
-use Rattle.cbor4ii_tree.specs.Tree.{array_indefinite, map_of, map_indefinite, bytes, bytes_all}
-use Rattle.cbor4ii_tree.specs.Tree.{bytes_pairs, LooseAll, LoosePairs, SoundStringsAll}
-use Rattle.cbor4ii_tree.specs.{Tree.SoundStringsPairs, Valuing.{Whole, HeadAt, IndefiniteAt}}
-use Rattle.cbor4ii_tree.specs.Valuing.{ReadsOneValue, RejectsOneValue, ReadsUnder, MakesArray}
-use Rattle.cbor4ii_tree.specs.Valuing.{MakesMap, RejectsUnder, TakesLength, ReadsItems}
+use Rattle.cbor4ii_tree.specs.{Rejections.{EachPair, NoBreak}, Tree.{Tree, Trees, no_trees, Pairs}}
+use Rattle.cbor4ii_tree.specs.Tree.{no_pairs, pair, array, array_indefinite, map_of, map_indefinite}
+use Rattle.cbor4ii_tree.specs.Tree.{bytes, bytes_all, bytes_pairs, LooseAll, LoosePairs}
+use Rattle.cbor4ii_tree.specs.Tree.{SoundStringsAll, SoundStringsPairs, count, pair_count, tree}
+use Rattle.cbor4ii_tree.specs.Valuing.{Whole, HeadAt, IndefiniteAt, ReadsOneValue, RejectsOneValue}
+use Rattle.cbor4ii_tree.specs.Valuing.{ReadsUnder, RejectsUnder, TakesLength, ReadsItems}
 use Rattle.cbor4ii_tree.specs.Valuing.{RejectsItems, ReadsIndefiniteItems, RejectsIndefiniteItems}
-use Rattle.cbor4ii_tree.specs.Valuing.{ReadsMembers, ReadsIndefiniteMembers}
 use Rattle.cbor4ii_tree.specs.Valuing.{RejectsIndefiniteMembers, ReadsMember, RejectsMember}
-use Rattle.cbor4ii_tree.specs.Valuing.{RejectsMembers, ReadsArrayInside, ReadsMapInside}
-use Rattle.cbor4ii_tree.specs.{Valuing.{RejectsMajor, RejectsOf, ReadsStepped}, View.view}
+use Rattle.cbor4ii_tree.specs.Valuing.{RejectsMajor, RejectsOf, flat_values, ReadsInside}
 use Rattle.cbor4ii_tree.specs.{View.{items_view, members_view}, declared.value.Value.{Value, Array}}
-use Rattle.cbor4ii_tree.specs.declared.value.Value.{Map}
+use Rattle.cbor4ii_tree.specs.{declared.value.Value.Map, CanonicalRejects.AtShortest}
+use Rattle.cbor4ii_tree.specs.CanonicalRejects.{FitsCanonically}
+use Rattle.cbor4ii_tree.proofs.skip_calls.Doing.{Reached, reached_by, reached_then, does_stepped}
+use Rattle.cbor4ii_tree.proofs.skip_calls.Doing.{call_rejects, reached_as, reached_sound, steps_in}
+use Rattle.cbor4ii_tree.proofs.skip_calls.Doing.{does_ok, refused, does_no_step}
+use Rattle.cbor4ii_tree.proofs.values.Calls.{indefinite_byte, head_cut, no_head, initial_of, whole}
+use Rattle.cbor4ii_tree.proofs.{values.Calls.{does_under, stops_under}, values.Encoding.view-Array}
+use Rattle.cbor4ii_tree.proofs.canonical.FitsCanonically.{all_exactly, all_pairs_exactly}
+use Rattle.cbor4ii_tree.proofs.parts.Rejecting.{in_items, in_pairs, headed_by}
+use Rattle.cbor4ii_tree.proofs.values.Heads.{at_row, at_major, first_is, head_at, shortest_at}
+use Rattle.cbor4ii_tree.proofs.{values.Views.view-Map, values.LeafRuns.{ReadEach, none_read}}
+use Rattle.cbor4ii_tree.proofs.{values.LeafRuns.{join_items, one_item}, skip_calls.Calls.Before}
+use Rattle.cbor4ii_tree.proofs.skip_calls.Calls.{broke, other, at_end}
 
--- ---- encodings that are read whole, one after another
+-- ---- what they differ in
 
-not_both : true ≡ false → ⊥
-not_both e = cc
+abbrev pub major_of : Bool → ℕ
+major_of false = 4
+major_of true = 5
+
+abbrev pub name_of : Bool → List ℕ
+name_of false = array_name
+name_of true = map_name
+
+abbrev Element : Bool → Type 0
+Element false = Value
+Element true = Value × Value
+
+-- how many values so many elements have, and which
+abbrev pub in_all : Bool → ℕ → ℕ
+in_all false n = n
+in_all true n = 2 * n
+
+abbrev values_of : (keyed : Bool) → List (Element keyed) → List Value
+values_of false vs = vs
+values_of true ms = flat_values ms
+
+abbrev made_of : (keyed : Bool) → Vec (Element keyed) Global → Value
+made_of false v = Array v
+made_of true v = Map v
+
+abbrev by_info : Bool → Info → Initial
+by_info false = array_by_info
+by_info true = map_by_info
+
+-- what is rejected after the step, by what the first byte adds
+abbrev RejectsOpen : Bool → Bool → Budget → Stopping
+RejectsOpen false = RejectsIndefiniteItems
+RejectsOpen true = RejectsIndefiniteMembers
+
+abbrev pub RejectsInside : Bool → Info → Budget → ℕ → Stopping
+RejectsInside keyed (wide w) inner b bs =
+    AtHead (name_of keyed) (major_of keyed) w b (λ n. RejectsItems false (in_all keyed n) inner) bs
+RejectsInside keyed indefinite_ended inner b bs = RejectsOpen keyed false inner bs
+RejectsInside keyed reserved inner b bs = Is (mismatch (name_of keyed) b) bs
+
+-- the same of a canonical one
+abbrev pub RejectsStrictly : Bool → (Budget → Stopping) → Budget → Stopping
+RejectsStrictly keyed rejects inner xs e rest =
+    AtShortest (name_of keyed) (major_of keyed) inner (λ n. RejectsInCount (FitsCanonically inner)
+    (rejects inner) (in_all keyed n)) xs e rest
+
+-- ---- a step, and what is rejected after it
+
+step_taken : (name here : List ℕ) (S : Budget → InputError → List ℕ → Type 0)
+    (outer inner : Budget) (e : InputError) (rest : List ℕ) → step_in outer ≡ Some inner
+    → S inner e rest → RejectsAtStep name (step_in outer) here S e rest
+step_taken name here S outer inner e rest step x =
+    subst (λ o. RejectsAtStep name o here S e rest) (sym step) x
+
+no_step_left : (name here : List ℕ) (S : Budget → InputError → List ℕ → Type 0) (outer : Budget)
+    → outer ≡ Some 0 → RejectsAtStep name (step_in outer) here S (depth_overflow name) here
+no_step_left name here S outer none =
+    subst (λ o. RejectsAtStep name (step_in o) here S (depth_overflow name) here) (sym none)
+    (refl, refl)
+
+module _ (outer : Budget) (b : ℕ) (bs : List ℕ) (e : InputError) (rest : List ℕ) where
+  at_info : (keyed : Bool) (i : Info) → initial b ≡ by_info keyed i → RejectsAtStep (name_of keyed)
+      (step_in outer) (b ∷ bs) (λ inner. RejectsInside keyed i inner b bs) e rest
+      → RejectsUnder false outer (b ∷ bs) e rest
+  at_info false (wide w) is h = at_row outer (starts_array w) b bs e rest is h
+  at_info false indefinite_ended is h = at_row outer starts_indefinite_array b bs e rest is h
+  at_info false reserved is h = at_row outer bad_array b bs e rest is h
+  at_info true (wide w) is h = at_row outer (starts_map w) b bs e rest is h
+  at_info true indefinite_ended is h = at_row outer starts_indefinite_map b bs e rest is h
+  at_info true reserved is h = at_row outer bad_map b bs e rest is h
+
+  at_strict : (keyed : Bool) → b / 32 ≡ major_of keyed → RejectsAtStep (name_of keyed)
+      (step_in outer) (b ∷ bs) (λ inner. RejectsStrictly keyed (RejectsOneValue true) inner
+      (b ∷ bs)) e rest → RejectsUnder true outer (b ∷ bs) e rest
+  at_strict false m h = at_major 4 outer b bs e rest m h
+  at_strict true m h = at_major 5 outer b bs e rest m h
+
+  -- a step was taken
+  pub inside : (keyed : Bool) (i : Info) (inner : Budget) → initial b ≡ by_info keyed i
+      → step_in outer ≡ Some inner → RejectsInside keyed i inner b bs e rest
+      → RejectsUnder false outer (b ∷ bs) e rest
+  inside keyed i inner is step h =
+      at_info _ _ is (step_taken _ _ (λ inner. RejectsInside keyed i inner b bs) _ _ _ _ step h)
+
+initial_by : (keyed : Bool) (b : ℕ) → b / 32 ≡ major_of keyed
+    → initial b ≡ by_info keyed (info_of (b % 32))
+initial_by false b m = initial_of b 4 m
+initial_by true b m = initial_of b 5 m
+
+pub initial_wide : (keyed : Bool) (n : ℕ) (w : Width) → HeadFits w n
+    → initial (32 * major_of keyed + additional w n) ≡ by_info keyed (wide w)
+initial_wide false n w fits = initial_array n w fits
+initial_wide true n w fits = initial_map n w fits
+
+initial_open : (keyed : Bool) → initial (indefinite_head (major_of keyed))
+    ≡ by_info keyed indefinite_ended
+initial_open false = initial_indefinite_array
+initial_open true = initial_indefinite_map
+
+-- no step is left
+pub parts_no_step : (keyed exact : Bool) (budget : Budget) → budget ≡ Some 0 → (xs : List ℕ)
+    → RejectsOf exact (major_of keyed) budget xs (depth_overflow (name_of keyed)) xs
+parts_no_step keyed false budget none xs b bs is m =
+    let i = info_of (b % 32) in
+    rw is (at_info budget b bs _ _ keyed i (initial_by keyed b m) (no_step_left (name_of keyed)
+    (b ∷ bs) (λ inner. RejectsInside keyed i inner b bs) budget none))
+parts_no_step keyed true budget none xs b bs is m =
+    rw is (at_strict budget b bs _ _ keyed m (no_step_left (name_of keyed) (b ∷ bs) (λ inner.
+    RejectsStrictly keyed (RejectsOneValue true) inner (b ∷ bs)) budget none))
+
+pub parts_deep : (keyed exact : Bool) {V E : Type 0} {name : Bor (List ℕ)} {A : Accepting V}
+    {a b : View} → name.now ≡ name_of keyed → StepsIn a.budget b.budget false
+    → KeepsAllButBudget a b
+    → Does {E = E} A (RejectsOf exact (major_of keyed) a.budget) a b (Err (DepthOverflow name))
+parts_deep keyed exact {a = a} is takes k =
+    does_no_step _ _ _ (ap (λ n. Some (depth_overflow n)) is) refl (parts_no_step _ _ _) takes k
+
+-- ---- heads
+
+head_rejects : (keyed : Bool) (i : Info) (inner : Budget) (b : ℕ) (bs : List ℕ) (e : InputError)
+    (rest : List ℕ) → info_of (b % 32) ≡ i → b / 32 ≡ major_of keyed
+    → (take 1 (b ∷ bs) ≡ indefinite_head (major_of keyed) ∷ [] → ⊥)
+    → RejectsHead (name_of keyed) (major_of keyed) 8 (b ∷ bs) e rest
+    → RejectsInside keyed i inner b bs e rest
+head_rejects keyed (wide w) inner b bs e rest is m closed h =
+    inl (head_cut (name_of keyed) (major_of keyed) b bs w e rest m is h)
+head_rejects keyed indefinite_ended inner b bs e rest is m closed h =
+    absurd (closed (ap (λ c. c ∷ []) (indefinite_byte (major_of keyed) b m is)))
+head_rejects keyed reserved inner b bs e rest is m closed h =
+    no_head (name_of keyed) (major_of keyed) b bs e rest (λ w f. cc) h
+
+pub length_rejects : (keyed : Bool) (inner : Budget) (xs : List ℕ) (budget : Budget)
+    (e : InputError) (rest : List ℕ)
+    → RejectsLength (name_of keyed) (major_of keyed) xs budget e rest
+    → RejectsMajor false (major_of keyed) inner xs e rest
+length_rejects keyed inner xs budget e rest h b bs is m outer step =
+    let k = subst (λ x. RejectsLength (name_of keyed) (major_of keyed) x budget e rest) is h in
+    rw is (inside outer b bs e rest keyed (info_of (b % 32)) inner (initial_by keyed b m) step
+    (head_rejects keyed _ inner b bs e rest refl m k.0 k.1))
+
+-- after the step a canonical array or map fails by its head, or by what follows it
+strict : (keyed : Bool) (inner : Budget) (xs : List ℕ) (e : InputError) (rest : List ℕ)
+    → RejectsStrictly keyed (RejectsOneValue true) inner xs e rest
+    → RejectsMajor true (major_of keyed) inner xs e rest
+strict keyed inner xs e rest h b bs is m outer step =
+    let S = λ (inner : Budget). RejectsStrictly keyed (RejectsOneValue true) inner (b ∷ bs) in
+    rw is (at_strict outer b bs e rest keyed m (step_taken (name_of keyed) (b ∷ bs) S outer inner e
+    rest step (subst (λ x. RejectsStrictly keyed (RejectsOneValue true) inner x e rest) is h)))
+
+-- its head is rejected
+pub shortest_rejected : (keyed : Bool) {major : ℕ} → major ≡ major_of keyed → {E : Type 0}
+    {e : DecodeError E} {a c : View} → Moves {V = ℕ} a c (Err e)
+    → Rejects (RejectsShortest (name_of keyed) major) a c e → Does {V = Option ℕ}
+    (TakesLength true major a.budget) (RejectsMajor true major a.budget) a c (Err e)
+shortest_rejected keyed {major = major} is {a = a} moves s =
+    call_rejects {U = ℕ} (TakesLength true major a.budget) (RejectsShortest (name_of keyed) major)
+    (RejectsMajor true major a.budget) (λ xs z rest h. subst (λ j. RejectsMajor true j a.budget xs z
+    rest) (sym is) (strict keyed a.budget xs z rest (inl (subst (λ j. RejectsShortest
+    (name_of keyed) j xs a.budget z rest) is h)))) moves s
+
+-- the length that a head says
+pub length_does : (keyed : Bool) {E : Type 0} {a c : View} (r : Option (Option ℕ))
+    (failure : Option (DecodeError E)) → Moves a c (answered r failure)
+    → IfOk (answered r failure) (Sound (ReadsLength (major_of keyed)) a c)
+    → IfErr (answered r failure) (Rejects (RejectsLength (name_of keyed) (major_of keyed)) a c)
+    → Does (TakesLength false (major_of keyed) a.budget)
+    (RejectsMajor false (major_of keyed) a.budget) a c (answered r failure)
+length_does keyed (Some (Some n)) failure moves s h =
+    does_ok _ _ (reached_sound (ReadsLength (major_of keyed)) (HeadAt false (major_of keyed) n)
+    (λ xs k c _ r. head_at false (major_of keyed) n xs k r.0 (λ e. cc)) moves s)
+length_does keyed (Some None) failure moves s h =
+    let b = indefinite_head (major_of keyed) in
+    does_ok _ _ (reached_sound (ReadsLength (major_of keyed)) (IndefiniteAt false (major_of keyed))
+    (λ xs k c _ r. (refl, first_is b xs r.0 ∙ ap (λ j. b ∷ drop j xs) (sym r.1))) moves s)
+length_does keyed {a = a} None failure moves s h =
+    call_rejects {U = Option ℕ} (TakesLength false (major_of keyed) a.budget)
+    (RejectsLength (name_of keyed) (major_of keyed)) (RejectsMajor false (major_of keyed) a.budget)
+    (λ xs z rest. length_rejects keyed a.budget xs a.budget z rest) moves h
+
+-- ---- what is rejected after a head
+
+row : (keyed exact : Bool) (n : ℕ) (inner : Budget) (xs ys : List ℕ) (e : InputError)
+    (rest : List ℕ) → HeadAt exact (major_of keyed) n xs ys
+    → RejectsItems exact (in_all keyed n) inner ys e rest
+    → RejectsMajor exact (major_of keyed) inner xs e rest
+row keyed false n inner xs ys e rest h s b bs is m outer step =
+    rw h.3 (inside _ _ _ _ _ _ _ _ (initial_wide _ _ _ h.1) step (inr (headed_by n ys h.1 refl s)))
+row keyed true n inner xs ys e rest h s b bs is m outer step =
+    strict _ _ _ _ _ (inr (record {
+      argument = n;
+      after = ys;
+      is = shortest_at (major_of keyed) n xs ys h;
+      stopped = s;
+    })) b bs is m outer step
+
+open_row : (keyed exact : Bool) (inner : Budget) (xs ys : List ℕ) (e : InputError)
+    (rest : List ℕ) → IndefiniteAt exact (major_of keyed) xs ys → RejectsOpen keyed exact inner ys e
+    rest → RejectsMajor exact (major_of keyed) inner xs e rest
+open_row keyed false inner xs ys e rest h s b bs is m outer step =
+    rw h.1 (inside outer _ ys e rest keyed indefinite_ended inner (initial_open keyed) step s)
+open_row keyed true inner xs ys e rest h s b bs is m outer step = cc
+
+-- ---- what is read
+
+two_steps : (c : ℕ) (budget inner deep : Budget) → step_in budget ≡ Some inner
+    → step_in inner ≡ Some deep → CostFits c deep → CostFits (2 + c) budget
+two_steps c budget inner deep s t f =
+    fits_less (2 + c) (1 + (1 + c)) budget (omega arith) (step_up _ _ _ s (step_up _ _ _ t f))
 
 all_whole : (exact : Bool) (ts : Trees) (b : Budget) → Each (Whole exact b) ts
     → (LooseAll ts × SoundStringsAll ts) × (exact ≡ true → CanonicalShapeAll ts)
@@ -68,338 +272,134 @@ all_pairs_whole : (exact : Bool) (ps : Pairs) (b : Budget) → EachPair (Whole e
 all_pairs_whole false ps b w = let r = all_pairs_readable ps b w in (r.0, (λ e. cc), r.1)
 all_pairs_whole true ps b w = let r = all_pairs_exactly ps b w in (r.0, (λ e. r.1), r.2)
 
--- ---- steps
+-- the trees of keys and values, in pairs
+paired : (W : Tree → Type 0) (ms : List (Value × Value)) (ts : Trees) → Each W ts
+    → values ts ≡ items_view (flat_values ms)
+    → (ps : Pairs) × (count ts ≡ 2 * pair_count ps) × EachPair W ps
+    × (member_values ps ≡ members_view ms) × (bytes_all ts ≡ bytes_pairs ps)
+paired W [] no_trees h e = (no_pairs, refl, tt, refl, refl)
+paired W [] (tree t ts) h e = cc
+paired W (m ∷ ms) no_trees h e = cc
+paired W (m ∷ ms) (tree k no_trees) h e = cc
+paired W (m ∷ ms) (tree k (tree v ts)) h e =
+    let r = paired W ms ts h.1.1 (cc) in (
+      pair k v r.0,
+      omega (arith, r.1),
+      (h.0, h.1.0, r.2),
+      cc r.3,
+      ap (λ z. bytes k ++ (bytes v ++ z)) r.4,
+    )
 
-pub step_taken : (name here : List ℕ) (S : Budget → InputError → List ℕ → Type 0)
-    (outer inner : Budget) (e : InputError) (rest : List ℕ) → step_in outer ≡ Some inner
-    → S inner e rest → RejectsAtStep name (step_in outer) here S e rest
-step_taken name here S outer inner e rest step x =
-    subst (λ o. RejectsAtStep name o here S e rest) (sym step) x
+reads : (keyed exact : Bool) (deep : Budget) (n : ℕ) (v : Vec (Element keyed) Global)
+    (xs ys zs : List ℕ) → HeadAt exact (major_of keyed) n xs ys
+    → ReadsItems exact (in_all keyed n) deep ys (values_of keyed v.items) zs
+    → ReadsInside exact deep xs (made_of keyed v) zs
+reads false exact deep n v xs ys zs h r inner t budget s =
+    let k = subst (λ j. HeadAt exact 4 j xs ys) (sym r.1) h in
+    let all = all_whole exact r.0 deep r.2 in (
+      array k.0 r.0,
+      whole exact budget (array k.0 r.0) ((k.1, all.0.0), all.0.1) (λ e. (k.2 e, all.1 e))
+          (two_steps (greatest_cost r.0) budget inner deep s t all.2),
+      ap sequence r.3 ∙ sym (view-Array v),
+      k.3 ∙ ap (λ z. head 4 (count r.0) k.0 ++ z) r.4
+          ∙ sym (append_assoc (head 4 (count r.0) k.0) (bytes_all r.0) zs),
+    )
+reads true exact deep n v xs ys zs h r inner t budget s =
+    let p = paired (Whole exact deep) v.items r.0 r.2 r.3 in
+    let many : n ≡ pair_count p.0 = omega (arith, r.1, p.1) in
+    let k = subst (λ j. HeadAt exact 5 j xs ys) many h in
+    let all = all_pairs_whole exact p.0 deep p.2 in (
+      map_of k.0 p.0,
+      whole exact budget (map_of k.0 p.0) ((k.1, all.0.0), all.0.1) (λ e. (k.2 e, all.1 e))
+          (two_steps (greatest_pair_cost p.0) budget inner deep s t all.2),
+      ap mapping p.3 ∙ sym (view-Map v),
+      k.3 ∙ ap (λ z. head 5 (pair_count p.0) k.0 ++ z) (r.4 ∙ ap (λ z. z ++ zs) p.4)
+          ∙ sym (append_assoc (head 5 (pair_count p.0) k.0) (bytes_pairs p.0) zs),
+    )
 
-no_step_left : (name here : List ℕ) (S : Budget → InputError → List ℕ → Type 0) (outer : Budget)
-    → outer ≡ Some 0 → RejectsAtStep name (step_in outer) here S (depth_overflow name) here
-no_step_left name here S outer none =
-    subst (λ o. RejectsAtStep name (step_in o) here S (depth_overflow name) here) (sym none)
-    (refl, refl)
+open_reads : (keyed exact : Bool) (deep : Budget) (v : Vec (Element keyed) Global)
+    (xs ys zs : List ℕ) → IndefiniteAt exact (major_of keyed) xs ys
+    → ReadsIndefiniteItems exact deep ys (values_of keyed v.items) zs
+    → ReadsInside exact deep xs (made_of keyed v) zs
+open_reads false exact deep v xs ys zs h r inner t budget s =
+    let all = all_whole exact r.0 deep r.2 in (
+      array_indefinite r.0,
+      whole exact budget (array_indefinite r.0) all.0 (λ e. cc)
+          (two_steps (greatest_cost r.0) budget inner deep s t all.2),
+      ap sequence r.3 ∙ sym (view-Array v),
+      h.1 ∙ ap (λ z. indefinite_head 4 ∷ z)
+          (r.4 ∙ sym (append_assoc (bytes_all r.0) (break ∷ []) zs)),
+    )
+open_reads true exact deep v xs ys zs h r inner t budget s =
+    let p = paired (Whole exact deep) v.items r.0 r.2 r.3 in
+    let all = all_pairs_whole exact p.0 deep p.2 in (
+      map_indefinite p.0,
+      whole exact budget (map_indefinite p.0) all.0 (λ e. cc)
+          (two_steps (greatest_pair_cost p.0) budget inner deep s t all.2),
+      ap mapping p.3 ∙ sym (view-Map v),
+      h.1 ∙ ap (λ z. indefinite_head 5 ∷ z) (r.4 ∙ ap (λ z. z ++ (break ∷ zs)) p.4
+          ∙ sym (append_assoc (bytes_pairs p.0) (break ∷ []) zs)),
+    )
 
-pub major_stepped : (exact : Bool) {V : Type 0} (reads : Budget → Accepting V) (major : ℕ)
-    {E : Type 0} {r : Result V (DecodeError E)} {a b c d : View} → StepsIn a.budget b.budget true
-    → KeepsAllButBudget a b → Does (reads b.budget) (RejectsMajor exact major b.budget) b c r
-    → d.budget ≡ step_back c.budget → KeepsAllButBudget c d
-    → Does (ReadsStepped reads a.budget) (RejectsOf exact major a.budget) a d r
-major_stepped exact reads major {a = a} {b = b} takes inward w gives outward =
-    let step = steps_in a.budget b.budget takes in
-    does_stepped (reads b.budget) _ (RejectsMajor exact major b.budget)
-    _ (λ xs ys v h. (b.budget, step, h))
-    (λ xs e rest h first bs is m. h first bs is m a.budget step) takes inward w gives outward
+-- ---- calls
 
-array_deep : (outer : Budget) (b : ℕ) (bs : List ℕ) → outer ≡ Some 0 → b / 32 ≡ 4
-    → RejectsUnder false outer (b ∷ bs) (depth_overflow array_name) (b ∷ bs)
-array_deep outer b bs none m =
-    at_row outer (array_by_info (info_of (b % 32))) b bs _ _ (initial_of b 4 m)
-    (by_info (info_of (b % 32)))
-  where
-    by_info : (i : Info) → ReadingRejectsBy (λ left part. ReadingRejects part left) outer
-        (array_by_info i) b bs (depth_overflow array_name) (b ∷ bs)
-    by_info (wide w) =
-        no_step_left array_name (b ∷ bs) (λ inner. AtHead array_name 4 w b
-        (RejectsInCount (Readable inner) (λ part. ReadingRejects part inner)) bs) outer none
-    by_info indefinite_ended =
-        no_step_left array_name (b ∷ bs) (λ inner. IndefiniteItems (Readable inner) (λ part.
-        ReadingRejects part inner) bs) outer none
-    by_info reserved =
-        no_step_left array_name (b ∷ bs) (λ inner. Is (mismatch array_name b) bs) outer none
+-- what a call answers, made a value
+abbrev pub answer_as : {U V E : Type 0} → (U → V) → Result U E → Result V E
+answer_as f (Ok u) = Ok (f u)
+answer_as f (Err e) = Err e
 
-map_deep : (outer : Budget) (b : ℕ) (bs : List ℕ) → outer ≡ Some 0 → b / 32 ≡ 5
-    → RejectsUnder false outer (b ∷ bs) (depth_overflow map_name) (b ∷ bs)
-map_deep outer b bs none m =
-    at_row outer (map_by_info (info_of (b % 32))) b bs _ _ (initial_of b 5 m)
-    (by_info (info_of (b % 32)))
-  where
-    by_info : (i : Info) → ReadingRejectsBy (λ left part. ReadingRejects part left) outer
-        (map_by_info i) b bs (depth_overflow map_name) (b ∷ bs)
-    by_info (wide w) =
-        no_step_left map_name (b ∷ bs) (λ inner. AtHead map_name 5 w b (λ n. RejectsInCount
-        (Readable inner) (λ part. ReadingRejects part inner) (2 * n)) bs) outer none
-    by_info indefinite_ended =
-        no_step_left map_name (b ∷ bs) (λ inner. IndefinitePairs (Readable inner) (λ part.
-        ReadingRejects part inner) bs) outer none
-    by_info reserved =
-        no_step_left map_name (b ∷ bs) (λ inner. Is (mismatch map_name b) bs) outer none
+does_as : {U V E : Type 0} (f : U → V) (B : Accepting V) {S : Stopping}
+    (r : Result U (DecodeError E)) {a b : View} → Does (λ xs u ys. B xs (f u) ys) S a b r
+    → Does B S a b (answer_as f r)
+does_as f B (Ok u) d = does_ok _ _ (reached_by d)
+does_as f B (Err e) d = refused d
 
-pub array_no_step : (exact : Bool) (budget : Budget) → budget ≡ Some 0 → (xs : List ℕ)
-    → RejectsOf exact 4 budget xs (depth_overflow array_name) xs
-array_no_step false budget none xs b bs is m =
-    subst (λ x. RejectsUnder false budget x (depth_overflow array_name) x) (sym is)
-    (array_deep budget b bs none m)
-array_no_step true budget none xs b bs is m =
-    subst (λ x. RejectsUnder true budget x (depth_overflow array_name) x) (sym is) (at_major 4
-    budget b bs _ _ m (no_step_left array_name (b ∷ bs) (λ inner. CanonicalArrayRejects
-    (RejectsOneValue true) inner (b ∷ bs)) budget none))
-
-pub map_no_step : (exact : Bool) (budget : Budget) → budget ≡ Some 0 → (xs : List ℕ)
-    → RejectsOf exact 5 budget xs (depth_overflow map_name) xs
-map_no_step false budget none xs b bs is m =
-    subst (λ x. RejectsUnder false budget x (depth_overflow map_name) x) (sym is)
-    (map_deep budget b bs none m)
-map_no_step true budget none xs b bs is m =
-    subst (λ x. RejectsUnder true budget x (depth_overflow map_name) x) (sym is) (at_major 5 budget
-    b bs _ _ m (no_step_left map_name (b ∷ bs) (λ inner. CanonicalMapRejects (RejectsOneValue true)
-    inner (b ∷ bs)) budget none))
-
--- ---- heads
-
-array_head_rejects : (inner outer : Budget) (b : ℕ) (bs : List ℕ) (e : InputError) (rest : List ℕ)
-    → step_in outer ≡ Some inner → b / 32 ≡ 4 → (take 1 (b ∷ bs) ≡ indefinite_head 4 ∷ [] → ⊥)
-    → RejectsHead array_name 4 8 (b ∷ bs) e rest → RejectsUnder false outer (b ∷ bs) e rest
-array_head_rejects inner outer b bs e rest step m closed h =
-    at_row outer (array_by_info (info_of (b % 32))) b bs e rest (initial_of b 4 m)
-    (by_info (info_of (b % 32)) refl)
-  where
-    by_info : (i : Info) → info_of (b % 32) ≡ i → ReadingRejectsBy (λ left part. ReadingRejects part
-        left) outer (array_by_info i) b bs e rest
-    by_info (wide w) is =
-        step_taken array_name (b ∷ bs) (λ inner. AtHead array_name 4 w b
-        (RejectsInCount (Readable inner) (λ part. ReadingRejects part inner)) bs) outer inner e
-        rest step (inl (head_cut array_name 4 b bs w e rest m is h))
-    by_info indefinite_ended is = absurd (closed (ap (λ c. c ∷ []) (indefinite_byte 4 b m is)))
-    by_info reserved is =
-        step_taken array_name (b ∷ bs) (λ inner. Is (mismatch array_name b) bs) outer inner e rest
-        step (no_head array_name 4 b bs e rest (λ w f. cc) h)
-
-map_head_rejects : (inner outer : Budget) (b : ℕ) (bs : List ℕ) (e : InputError) (rest : List ℕ)
-    → step_in outer ≡ Some inner → b / 32 ≡ 5 → (take 1 (b ∷ bs) ≡ indefinite_head 5 ∷ [] → ⊥)
-    → RejectsHead map_name 5 8 (b ∷ bs) e rest → RejectsUnder false outer (b ∷ bs) e rest
-map_head_rejects inner outer b bs e rest step m closed h =
-    at_row outer (map_by_info (info_of (b % 32))) b bs e rest (initial_of b 5 m)
-    (by_info (info_of (b % 32)) refl)
-  where
-    by_info : (i : Info) → info_of (b % 32) ≡ i
-        → ReadingRejectsBy (λ left part. ReadingRejects part left) outer (map_by_info i) b bs e rest
-    by_info (wide w) is =
-        step_taken map_name (b ∷ bs) (λ inner. AtHead map_name 5 w b
-        (λ n. RejectsInCount (Readable inner) (λ part. ReadingRejects part inner) (2 * n)) bs)
-        outer inner e rest step (inl (head_cut map_name 5 b bs w e rest m is h))
-    by_info indefinite_ended is = absurd (closed (ap (λ c. c ∷ []) (indefinite_byte 5 b m is)))
-    by_info reserved is =
-        step_taken map_name (b ∷ bs) (λ inner. Is (mismatch map_name b) bs) outer inner e rest step
-        (no_head map_name 5 b bs e rest (λ w f. cc) h)
-
-pub array_length_rejects : (inner : Budget) (xs : List ℕ) (budget : Budget) (e : InputError)
-    (rest : List ℕ) → RejectsLength array_name 4 xs budget e rest → RejectsMajor false 4 inner xs e
-    rest
-array_length_rejects inner xs budget e rest h b bs is m outer step =
-    let k = subst (λ x. RejectsLength array_name 4 x budget e rest) is h in
-    subst (λ x. RejectsUnder false outer x e rest) (sym is)
-    (array_head_rejects inner outer b bs e rest step m k.0 k.1)
-
-pub map_length_rejects : (inner : Budget) (xs : List ℕ) (budget : Budget) (e : InputError)
-    (rest : List ℕ) → RejectsLength map_name 5 xs budget e rest → RejectsMajor false 5 inner xs e
-    rest
-map_length_rejects inner xs budget e rest h b bs is m outer step =
-    let k = subst (λ x. RejectsLength map_name 5 x budget e rest) is h in
-    subst (λ x. RejectsUnder false outer x e rest) (sym is)
-    (map_head_rejects inner outer b bs e rest step m k.0 k.1)
-
--- after the step a canonical array or map fails by its head, or by what follows it
-array_strict : (inner : Budget) (xs : List ℕ) (e : InputError) (rest : List ℕ)
-    → CanonicalArrayRejects (RejectsOneValue true) inner xs e rest
-    → RejectsMajor true 4 inner xs e rest
-array_strict inner xs e rest h b bs is m outer step =
-    subst (λ x. RejectsUnder true outer x e rest) (sym is) (at_major 4 outer b bs e rest m
-    (step_taken array_name (b ∷ bs) (λ inner. CanonicalArrayRejects (RejectsOneValue true) inner
-    (b ∷ bs)) outer inner e rest step (subst (λ x. CanonicalArrayRejects (RejectsOneValue true)
-    inner x e rest) is h)))
-
-map_strict : (inner : Budget) (xs : List ℕ) (e : InputError) (rest : List ℕ)
-    → CanonicalMapRejects (RejectsOneValue true) inner xs e rest
-    → RejectsMajor true 5 inner xs e rest
-map_strict inner xs e rest h b bs is m outer step =
-    subst (λ x. RejectsUnder true outer x e rest) (sym is) (at_major 5 outer b bs e rest m
-    (step_taken map_name (b ∷ bs) (λ inner. CanonicalMapRejects (RejectsOneValue true) inner
-    (b ∷ bs)) outer inner e rest step (subst (λ x. CanonicalMapRejects (RejectsOneValue true) inner
-    x e rest) is h)))
-
--- their heads are rejected
-pub array_shortest_rejects : (major : ℕ) → major ≡ 4 → (inner : Budget) (xs : List ℕ)
-    (e : InputError) (rest : List ℕ) → RejectsShortest array_name major xs inner e rest
-    → RejectsMajor true major inner xs e rest
-array_shortest_rejects major is inner xs e rest h =
-    subst (λ j. RejectsMajor true j inner xs e rest) (sym is) (array_strict inner xs e rest (inl
-    (subst (λ j. RejectsShortest array_name j xs inner e rest) is h)))
-
-pub map_shortest_rejects : (major : ℕ) → major ≡ 5 → (inner : Budget) (xs : List ℕ)
-    (e : InputError) (rest : List ℕ) → RejectsShortest map_name major xs inner e rest
-    → RejectsMajor true major inner xs e rest
-map_shortest_rejects major is inner xs e rest h =
-    subst (λ j. RejectsMajor true j inner xs e rest) (sym is) (map_strict inner xs e rest (inl
-    (subst (λ j. RejectsShortest map_name j xs inner e rest) is h)))
-
--- the length that a head says
-pub length_does : {E : Type 0} (name : List ℕ) (major : ℕ) (T : Budget → Stopping) {a c : View}
-    (r : Option (Option ℕ)) (failure : Option (DecodeError E)) → ((xs : List ℕ) (z : InputError)
-    (rest : List ℕ) → RejectsLength name major xs a.budget z rest → T a.budget xs z rest)
-    → Moves a c (answered r failure) → IfOk (answered r failure) (Sound (ReadsLength major) a c)
-    → IfErr (answered r failure) (Rejects (RejectsLength name major) a c) → Does (TakesLength false
-    major a.budget) (T a.budget) a c (answered r failure)
-length_does name major T {a = a} (Some (Some n)) failure f moves s h =
-    does_ok _ _ (reached_sound (ReadsLength major)
-    (HeadAt false major n) (λ xs k c _ r. head_at false major n xs k r.0 (λ e. cc)) moves s)
-length_does name major T {a = a} (Some None) failure f moves s h =
-    does_ok _ _ (reached_sound (ReadsLength major) (IndefiniteAt false major) (λ xs k c _ r. (
-      refl,
-      first_is (indefinite_head major) xs r.0
-          ∙ ap (λ j. indefinite_head major ∷ drop j xs) (sym r.1),
-    )) moves s)
-length_does name major T {a = a} None failure f moves s h =
-    call_rejects {U = Option ℕ} (TakesLength false major a.budget) (RejectsLength name major)
-    (T a.budget) f moves h
-
-pub some_follow : (exact : Bool) {E : Type 0} (major n : ℕ) {o : Option ℕ} {S : Stopping}
-    {a m : View} → o ≡ Some n → Does {E = E} (TakesLength exact major a.budget) S a m (Ok o)
-    → Reached (HeadAt exact major n) a m
-some_follow exact major n {o = o} {a = a} is d =
+-- the length that was taken
+follow : (exact : Bool) {E : Type 0} (major : ℕ) (o p : Option ℕ) {S : Stopping} {a m : View}
+    → o ≡ p → Does {E = E} (TakesLength exact major a.budget) S a m (Ok o)
+    → Reached (λ xs ys. TakesLength exact major a.budget xs p ys) a m
+follow exact major o p {a = a} is d =
     reached_as (λ xs ys. TakesLength exact major a.budget xs o ys) _
     (λ xs ys h. subst (λ z. TakesLength exact major a.budget xs z ys) is h) (reached_by d)
 
-pub none_follow : (exact : Bool) {E : Type 0} (major : ℕ) {o : Option ℕ} {S : Stopping} {a m : View}
-    → o ≡ None → Does {E = E} (TakesLength exact major a.budget) S a m (Ok o)
-    → Reached (IndefiniteAt exact major) a m
-none_follow exact major {o = o} {a = a} is d =
-    reached_as (λ xs ys. TakesLength exact major a.budget xs o ys) _
-    (λ xs ys h. subst (λ z. TakesLength exact major a.budget xs z ys) is h) (reached_by d)
+module _ (keyed exact : Bool) {E : Type 0} {o : Option ℕ} {S : Stopping}
+    {r : Result (Vec (Element keyed) Global) (DecodeError E)} {a m b : View} where
+  -- so many elements
+  pub counted : (n : ℕ) → o ≡ Some n
+      → Does {E = E} (TakesLength exact (major_of keyed) a.budget) S a m (Ok o)
+      → Does (λ xs v ys. ReadsItems exact (in_all keyed n) m.budget xs (values_of keyed v.items) ys)
+      (RejectsItems exact (in_all keyed n) m.budget) m b r → Does (ReadsInside exact a.budget)
+      (RejectsMajor exact (major_of keyed) a.budget) a b (answer_as (made_of keyed) r)
+  counted n is length d =
+      does_as (made_of _) (ReadsInside exact a.budget) _ (does_under (HeadAt exact (major_of keyed)
+      n) (λ l xs v ys. ReadsItems exact (in_all keyed n) l xs (values_of _ v.items) ys) _
+      (RejectsItems exact (in_all keyed n)) _ (λ xs ys zs v. reads _ _ _ _ _ _ _ _) (λ xs ys e rest.
+      row _ _ _ _ _ _ _ _) (follow _ _ _ _ is length) d)
 
--- ---- arrays
+  -- none: values up to a break
+  pub opened : o ≡ None → Does {E = E} (TakesLength exact (major_of keyed) a.budget) S a m (Ok o)
+      → Does (λ xs v ys. ReadsIndefiniteItems exact m.budget xs (values_of keyed v.items) ys)
+      (RejectsOpen keyed exact m.budget) m b r → Does (ReadsInside exact a.budget)
+      (RejectsMajor exact (major_of keyed) a.budget) a b (answer_as (made_of keyed) r)
+  opened is length d =
+      does_as (made_of _) (ReadsInside exact a.budget) _ (does_under (IndefiniteAt exact (major_of
+      keyed)) (λ l xs v ys. ReadsIndefiniteItems exact l xs (values_of _ v.items) ys) _ (RejectsOpen
+      keyed exact) _ (λ xs ys zs v. open_reads _ _ _ _ _ _ _) (λ xs ys e rest. open_row _ _ _ _ _ _
+      _) (follow _ _ _ _ is length) d)
 
-array_row : (exact : Bool) (n : ℕ) (inner : Budget) (xs ys : List ℕ) (e : InputError)
-    (rest : List ℕ) → HeadAt exact 4 n xs ys → RejectsItems exact n inner ys e rest
-    → RejectsMajor exact 4 inner xs e rest
-array_row false n inner xs ys e rest h s b bs is m outer step =
-    subst (λ x. RejectsUnder false outer x e rest) (sym h.3) (at_row outer (starts_array h.0) (32
-    * 4 + additional h.0 n) (bytes_high_first (byte_count h.0) n ++ ys) e rest
-    (initial_array n h.0 h.1) (step_taken array_name (head 4 n h.0 ++ ys) (λ inner. AtHead
-    array_name 4 h.0 (32 * 4 + additional h.0 n) (RejectsInCount (Readable inner) (RejectsOneValue
-    false inner)) (bytes_high_first (byte_count h.0) n ++ ys)) outer inner e rest step (inr (record
-    { argument = n; after = ys; fits = h.1; is = refl; stopped = s }))))
-array_row true n inner xs ys e rest h s b bs is m outer step =
-    array_strict inner xs e rest (inr (record {
-      argument = n;
-      after = ys;
-      is = shortest_at 4 n xs ys
-          h;
-      stopped = s;
-    })) b bs is m outer step
-
-array_indefinite_row : (exact : Bool) (inner : Budget) (xs ys : List ℕ) (e : InputError)
-    (rest : List ℕ) → IndefiniteAt exact 4 xs ys → RejectsIndefiniteItems exact inner ys e rest
-    → RejectsMajor exact 4 inner xs e rest
-array_indefinite_row false inner xs ys e rest h s b bs is m outer step =
-    subst (λ x. RejectsUnder false outer x e rest) (sym h.1) (at_row outer starts_indefinite_array
-    (indefinite_head 4) ys e rest initial_indefinite_array (step_taken array_name
-    (indefinite_head 4 ∷ ys) (λ inner. IndefiniteItems (Readable inner) (RejectsOneValue false
-    inner) ys) outer inner e rest step s))
-array_indefinite_row true inner xs ys e rest h s b bs is m outer step = absurd (not_both h.0)
-
-pub array_definite : (exact : Bool) {E : Type 0} (n : ℕ)
-    {r : Result (Vec Value Global) (DecodeError E)} {a m b : View} → Reached (HeadAt exact 4 n) a m
-    → Does (λ xs v ys. ReadsItems exact n m.budget xs v.items ys) (RejectsItems exact n m.budget) m
-    b r → Does (λ xs v ys. ReadsArrayInside exact a.budget xs v.items ys) (RejectsMajor exact 4
-    a.budget) a b r
-array_definite exact n {a = a} {m = m} p d =
-    does_after (HeadAt exact 4 n) (λ xs v ys. ReadsItems exact n m.budget xs v.items ys) _
-    (RejectsItems exact n m.budget) _ (λ xs ys zs v h s. inl (
-      n,
-      ys,
-      h,
-      subst (λ o. ReadsItems exact n o ys v.items
-          zs) p.kept.budget s,
-    )) (λ xs ys e rest h s. array_row exact n a.budget xs ys e rest h (subst
-    (λ o. RejectsItems exact n o ys e rest) p.kept.budget s)) p d
-
--- none of them
-pub array_of_none : (exact : Bool) {E : Type 0} (v : Vec Value Global) {m : View} → v.items ≡ []
-    → Does {E = E} (λ xs (u : Vec Value Global) ys. ReadsItems exact 0 m.budget xs u.items ys)
+-- no element
+pub none_follow : (exact : Bool) {E T : Type 0} (f : T → List Value) (v : T) {m : View} → f v ≡ []
+    → Does {E = E} (λ xs u ys. ReadsItems exact 0 m.budget xs (f u) ys)
     (RejectsItems exact 0 m.budget) m m (Ok v)
-array_of_none exact v {m = m} e =
-    does_ok _ _ (reached_start (λ xs ys. ReadsItems exact 0 m.budget xs v.items ys) m (λ xs. subst
-    (λ us. ReadsItems exact 0 m.budget xs us xs) (sym e) (
-      no_trees,
-      refl,
-      tt,
-      refl,
-      refl,
-    )))
+none_follow exact f v {m = m} e =
+    does_ok _ _ (reached_as (ReadEach exact (f v) m.budget) _ (λ xs ys h. subst (λ us. ReadsItems
+    exact (length us) m.budget xs (f v) ys) e h) (none_read exact m (f v) e))
 
-pub array_opened : (exact : Bool) {E : Type 0} {r : Result (Vec Value Global) (DecodeError E)}
-    {a m b : View} → Reached (IndefiniteAt exact 4) a m → Does (λ xs v ys. ReadsIndefiniteItems
-    exact m.budget xs v.items ys) (RejectsIndefiniteItems exact m.budget) m b r → Does (λ xs v ys.
-    ReadsArrayInside exact a.budget xs v.items ys) (RejectsMajor exact 4 a.budget) a b r
-array_opened exact {a = a} {m = m} p d =
-    does_after (IndefiniteAt exact 4) (λ xs v ys. ReadsIndefiniteItems exact m.budget xs v.items ys)
-    _ (RejectsIndefiniteItems exact m.budget) _ (λ xs ys zs v h s. inr (
-      ys,
-      h,
-      subst (λ o.
-          ReadsIndefiniteItems exact o ys v.items zs) p.kept.budget s,
-    )) (λ xs ys e rest h s. array_indefinite_row exact a.budget xs ys e rest h (subst (λ o.
-    RejectsIndefiniteItems exact o ys e rest) p.kept.budget s)) p d
-
-two_steps : (c : ℕ) (budget inner deep : Budget) → step_in budget ≡ Some inner
-    → step_in inner ≡ Some deep → CostFits c deep → CostFits (2 + c) budget
-two_steps c budget inner deep s t f =
-    fits_less (2 + c) (1 + (1 + c)) budget (omega arith)
-    (step_up budget inner (1 + c) s (step_up inner deep c t f))
-
-array_tree : (exact : Bool) (budget inner deep : Budget) (vs : List Value) (xs ys : List ℕ)
-    → step_in budget ≡ Some inner → step_in inner ≡ Some deep → ReadsArrayInside exact deep xs vs ys
-    → (t : Tree) × Whole exact budget t × (value t ≡ sequence (items_view vs))
-    × (xs ≡ bytes t ++ ys)
-array_tree exact budget inner deep vs xs ys s t (inl q) =
-    let h = q.2 in
-    let i = q.3 in
-    let all = all_whole exact i.0 deep i.2 in (
-      array h.0 i.0,
-      whole exact budget (array h.0 i.0) ((subst (HeadFits h.0) (sym i.1) h.1, all.0.0), all.0.1)
-          (λ e. (h.2 e ∙ ap shortest (sym i.1), all.1 e))
-          (two_steps (greatest_cost i.0) budget inner deep s t all.2),
-      ap sequence i.3,
-      h.3 ∙ ap (λ r. head 4 q.0 h.0 ++ r) i.4
-          ∙ sym (append_assoc (head 4 q.0 h.0) (bytes_all i.0) ys)
-          ∙ ap (λ j. (head 4 j h.0 ++ bytes_all i.0) ++ ys) (sym i.1),
-    )
-array_tree exact budget inner deep vs xs ys s t (inr q) =
-    let h = q.1 in
-    let i = q.2 in
-    let all = all_whole exact i.0 deep i.1 in (
-      array_indefinite i.0,
-      whole exact budget (array_indefinite i.0) (all.0.0, all.0.1)
-          (λ e. not_both (sym e ∙ h.0)) (two_steps (greatest_cost i.0) budget inner deep s t all.2),
-      ap sequence i.2,
-      h.1 ∙ ap (λ r. indefinite_head 4 ∷ r)
-          (i.3 ∙ sym (append_assoc (bytes_all i.0) (break ∷ []) ys)),
-    )
+-- it is a map where it is no array
+pub is_map : {major : ℕ} → (major ≡ 4) ⊎ (major ≡ 5) → major ≢ 4 → major ≡ 5
+is_map h other = omega (arith, h, other)
 
 -- ---- values one after another, up to a break
-
-pub each_none : (exact : Bool) (budget : Budget) (vs : List Value) (xs : List ℕ) → vs ≡ []
-    → ReadEach exact vs budget xs xs
-each_none exact budget vs xs e = (no_trees, tt, sym (ap items_view e), refl)
-
-pub each_more : (exact : Bool) (budget : Budget) (vs ws : List Value) (v : Value)
-    (xs ys zs : List ℕ) → ws ≡ vs ++ v ∷ [] → ReadEach exact vs budget xs ys
-    → ReadsOneValue exact budget ys v zs → ReadEach exact ws budget xs zs
-each_more exact budget vs ws v xs ys zs is h k = (
-  push h.0 k.0,
-  each-push (Whole exact budget) h.0 k.0 h.1 k.1,
-  values-push h.0 k.0 vs v h.2 k.2 ∙ sym (ap items_view is),
-  h.3 ∙ ap (λ r. bytes_all h.0 ++ r) k.3 ∙ sym (bytes-push h.0 k.0 zs),
-)
-
-pub indefinite_end : (exact : Bool) (budget : Budget) (vs : List Value) (xs ys : List ℕ) → ReadEach
-    exact vs budget xs ys
-    → ys ≡ [] → RejectsIndefiniteItems exact budget xs (eof break_name (Small 1)) []
-indefinite_end exact budget vs xs ys h e =
-    in_items h.0 [] h.1 (h.3 ∙ ap (λ r. bytes_all h.0 ++ r) e) (refl, refl)
 
 no_break : (exact : Bool) (budget : Budget) (ys : List ℕ) (e : InputError) (rest : List ℕ) → ys ≢ []
     → ((bs : List ℕ) → ys ≡ break ∷ bs → ⊥) → RejectsOneValue exact budget ys e rest
@@ -407,233 +407,116 @@ no_break : (exact : Bool) (budget : Budget) (ys : List ℕ) (e : InputError) (re
 no_break exact budget [] e rest some none s = absurd (some refl)
 no_break exact budget (b ∷ bs) e rest some none s = ((λ f. none bs (ap (λ c. c ∷ bs) f)), s)
 
-pub indefinite_stop : (exact : Bool) (budget : Budget) (vs : List Value) (xs ys : List ℕ)
-    (e : InputError) (rest : List ℕ) → ys ≢ [] → ((bs : List ℕ) → ys ≡ break ∷ bs → ⊥)
-    → ReadEach exact vs budget xs ys → RejectsOneValue exact budget ys e rest
-    → RejectsIndefiniteItems exact budget xs e rest
-indefinite_stop exact budget vs xs ys e rest some none h s =
-    in_items h.0 ys h.1 h.3 (no_break exact budget ys e rest some none s)
+open_stop : (keyed exact : Bool) (budget : Budget) (vs : List (Element keyed)) (xs ys : List ℕ)
+    (e : InputError) (rest : List ℕ) → ReadEach exact (values_of keyed vs) budget xs ys
+    → NoBreak (RejectsOneValue exact budget) ys e rest → RejectsOpen keyed exact budget xs e rest
+open_stop false exact budget vs xs ys e rest h s = in_items h.0 ys h.2 h.4 s
+open_stop true exact budget ms xs ys e rest h s =
+    let r = paired (Whole exact budget) ms h.0 h.2 h.3 in
+    in_pairs r.0 ys r.2 (h.4 ∙ ap (λ z. z ++ ys) r.4) (inl s)
 
-pub indefinite_done : (exact : Bool) (budget : Budget) (vs : List Value) (xs ys zs : List ℕ)
-    → ReadEach exact vs budget xs ys → ys ≡ break ∷ zs → ReadsIndefiniteItems exact budget xs vs zs
-indefinite_done exact budget vs xs ys zs h e = (h.0, h.1, h.2, h.3 ∙ ap (λ r. bytes_all h.0 ++ r) e)
+pair_stop : (exact : Bool) (budget : Budget) (ms : List (Value × Value)) (xs ys : List ℕ)
+    (e : InputError) (rest : List ℕ) → Before (ReadEach exact (flat_values ms)) budget xs ys
+    → RejectsMember exact budget ys e rest → RejectsIndefiniteMembers exact budget xs e rest
+pair_stop exact budget ms xs ys e rest h (inl s) =
+    open_stop true exact budget ms xs ys e rest h.0 (no_break exact budget ys e rest h.1 h.2 s)
+pair_stop exact budget ms xs ys e rest h (inr k) =
+    let r = paired (Whole exact budget) ms h.0.0 h.0.2 h.0.3 in
+    in_pairs r.0 ys r.2 (h.0.4 ∙ ap (λ z. z ++ ys) r.4) (inr k)
 
--- ---- pairs
+-- after a look for a break
+module _ (exact : Bool) (vs : List Value) {E : Type 0} {a m b : View}
+    {r : Result Bool (DecodeError E)} (p : Reached (ReadEach exact vs a.budget) a m)
+    (d : Decodes break_format m b r) where
+  -- there is one
+  pub break_taken : {v : Bool} → r ≡ Ok v → v ≡ true
+      → Reached (λ xs ys. ReadsIndefiniteItems exact a.budget xs vs ys) a b
+  break_taken is v =
+      broke (ReadEach exact vs) p _ (λ xs ys zs h e. subst (ReadEach exact vs a.budget xs) e h) v
+      (rw is at d.moves) (rw is at d.sound)
 
-pub values-push_pair : (ps : Pairs) (k v : Tree) (ms : List (Value × Value)) (x y : Value)
-    → member_values ps ≡ members_view ms → value k ≡ view x → value v ≡ view y
-    → member_values (push_pair ps k v) ≡ members_view (ms ++ (x, y) ∷ [])
-unfolding push_pair
-values-push_pair no_pairs k v [] x y e f g = ap₂ (λ a b. member a b no_members) f g
-values-push_pair no_pairs k v (m ∷ ms) x y e f g = cc
-values-push_pair (pair j u ps) k v [] x y e f g = cc
-values-push_pair (pair j u ps) k v (m ∷ ms) x y e f g =
-    let first : value j ≡ view m.0 = cc in
-    let second : value u ≡ view m.1 = cc in
-    let tail : member_values ps ≡ members_view ms = cc in
-    let more = values-push_pair ps k v ms x y tail f g in
-    cc more
+  -- another byte comes next
+  pub no_break_yet : {v : Bool} → r ≡ Ok v → v ≡ false
+      → Reached (Before (ReadEach exact vs) a.budget) a b
+  no_break_yet is v =
+      other (ReadEach exact vs) p v (rw is at d.moves) (rw is at d.sound)
 
-pub pairs_none : (exact : Bool) (budget : Budget) (ms : List (Value × Value)) (xs : List ℕ)
-    → ms ≡ [] → ReadPairs exact ms budget xs xs
-pairs_none exact budget ms xs e = (no_pairs, tt, sym (ap members_view e), refl)
+-- there is no byte
+pub no_byte_left : (keyed exact : Bool) (vs : List (Element keyed)) {V E : Type 0}
+    (B : Accepting V) {a m b : View} {r : Result Bool (DecodeError E)} {e : DecodeError E}
+    → Reached (ReadEach exact (values_of keyed vs) a.budget) a m → Decodes break_format m b r
+    → r ≡ Err e → Does {V = V} B (RejectsOpen keyed exact a.budget) a b (Err e)
+no_byte_left keyed exact vs B {a = a} p d is =
+    let z = eof break_name (Small 1) in
+    at_end (ReadEach exact (values_of keyed vs)) p B _ (λ xs ys h e. open_stop keyed exact a.budget
+    vs xs ys z [] h (subst (λ zs. NoBreak (RejectsOneValue exact a.budget) zs z []) (sym e)
+    (refl, refl))) (rw is at d.moves) (rw is at d.begins)
 
-pub pairs_more : (exact : Bool) (budget : Budget) (ms ns : List (Value × Value)) (m : Value × Value)
-    (xs ys zs : List ℕ) → ns ≡ ms ++ m ∷ [] → ReadPairs exact ms budget xs ys
-    → ReadsMember exact budget ys m zs → ReadPairs exact ns budget xs zs
-pairs_more exact budget ms ns m xs ys zs is h w =
-    let k = w.1 in
-    let v = w.2 in (
-      push_pair h.0 k.0 v.0,
-      each-push_pair (Whole exact budget) h.0 k.0 v.0 h.1 k.1 v.1,
-      values-push_pair h.0 k.0 v.0 ms m.0 m.1 h.2 k.2 v.2 ∙ sym (ap members_view is),
-      h.3 ∙ ap (λ r. bytes_pairs h.0 ++ r) (k.3 ∙ ap (λ r. bytes k.0 ++ r) v.3)
-          ∙ sym (bytes-push_pair h.0 k.0 v.0 zs),
-    )
+-- ---- one more
 
-pub members_end : (exact : Bool) (budget : Budget) (ms : List (Value × Value)) (xs ys : List ℕ)
-    → ReadPairs exact ms budget xs ys → ys ≡ [] → RejectsIndefiniteMembers exact budget xs
-    (eof break_name (Small 1)) []
-members_end exact budget ms xs ys h e =
-    in_pairs h.0 [] h.1 (h.3 ∙ ap (λ r. bytes_pairs h.0 ++ r) e) (inl (refl, refl))
+-- values after those that were read
+pub put_read : (exact : Bool) (vs part : List Value) {ws : List Value} {a m b : View}
+    → ws ≡ vs ++ part → Reached (Before (ReadEach exact vs) a.budget) a m
+    → Reached (λ xs ys. ReadEach exact part m.budget xs ys) m b
+    → Reached (ReadEach exact ws a.budget) a b
+put_read exact vs part {a = a} is p q =
+    reached_then (Before (ReadEach exact vs) a.budget) _ _ (λ xs ys zs h s. subst (λ us. ReadEach
+    exact us a.budget xs zs) (sym is) (join_items (Whole exact a.budget) vs part xs ys zs h.0 (subst
+    (λ o. ReadEach exact part o ys zs) p.kept.budget s))) p q
 
-pub pair_stop : (exact : Bool) (budget : Budget) (ms : List (Value × Value)) (xs ys : List ℕ)
-    (e : InputError) (rest : List ℕ) → ys ≢ [] → ((bs : List ℕ) → ys ≡ break ∷ bs → ⊥)
-    → ReadPairs exact ms budget xs ys → RejectsMember exact budget ys e rest
-    → RejectsIndefiniteMembers exact budget xs e rest
-pair_stop exact budget ms xs ys e rest some none h (inl s) =
-    in_pairs h.0 ys h.1 h.3 (inl (no_break exact budget ys e rest some none s))
-pair_stop exact budget ms xs ys e rest some none h (inr k) =
-    record { prefix = h.0; after = ys; whole = h.1; is = h.3; stopped = inr k }
+-- a value, or a pair, that is rejected after them
+module _ (exact : Bool) {V E : Type 0} (B : Accepting V) {e : DecodeError E} {a m b : View} where
+  pub value_stops : (vs : List Value) → Reached (Before (ReadEach exact vs) a.budget) a m
+      → Does {V = Value} (ReadsOneValue exact m.budget) (RejectsOneValue exact m.budget) m b (Err e)
+      → Does {V = V} B (RejectsIndefiniteItems exact a.budget) a b (Err e)
+  value_stops vs p d =
+      stops_under (Before (ReadEach exact vs) a.budget) (ReadsOneValue exact) (RejectsOneValue
+      exact) B _ (λ xs ys z rest h s. open_stop
+      false exact a.budget vs xs ys z rest h.0 (no_break exact a.budget ys z rest h.1 h.2 s)) p d
 
-pub members_done : (exact : Bool) (budget : Budget) (ms : List (Value × Value)) (xs ys zs : List ℕ)
-    → ReadPairs exact ms budget xs ys → ys ≡ break ∷ zs → ReadsIndefiniteMembers exact budget xs ms
-    zs
-members_done exact budget ms xs ys zs h e = (h.0, h.1, h.2, h.3 ∙ ap (λ r. bytes_pairs h.0 ++ r) e)
-
--- ---- maps
-
-map_row : (exact : Bool) (n : ℕ) (inner : Budget) (xs ys : List ℕ) (e : InputError)
-    (rest : List ℕ) → HeadAt exact 5 n xs ys → RejectsMembers exact n inner ys e rest
-    → RejectsMajor exact 5 inner xs e rest
-map_row false n inner xs ys e rest h s b bs is m outer step =
-    subst (λ x. RejectsUnder false outer x e rest) (sym h.3) (at_row outer (starts_map h.0) (32 * 5
-    + additional h.0 n) (bytes_high_first (byte_count h.0) n ++ ys) e rest (initial_map n h.0 h.1)
-    (step_taken map_name (head 5 n h.0 ++ ys) (λ inner. AtHead map_name 5 h.0 (32 * 5 + additional
-    h.0 n) (λ n. RejectsInCount (Readable inner) (RejectsOneValue false inner) (2 * n))
-    (bytes_high_first (byte_count h.0) n ++ ys)) outer inner e rest step (inr (record {
-      argument =
-          n;
-      after = ys;
-      fits = h.1;
-      is = refl;
-      stopped = s;
-    }))))
-map_row true n inner xs ys e rest h s b bs is m outer step =
-    map_strict inner xs e rest (inr (record {
-      argument = n;
-      after = ys;
-      is = shortest_at 5 n xs ys
-          h;
-      stopped = s;
-    })) b bs is m outer step
-
-map_indefinite_row : (exact : Bool) (inner : Budget) (xs ys : List ℕ) (e : InputError)
-    (rest : List ℕ) → IndefiniteAt exact 5 xs ys → RejectsIndefiniteMembers exact inner ys e rest
-    → RejectsMajor exact 5 inner xs e rest
-map_indefinite_row false inner xs ys e rest h s b bs is m outer step =
-    subst (λ x. RejectsUnder false outer x e rest) (sym h.1) (at_row outer starts_indefinite_map
-    (indefinite_head 5) ys e rest initial_indefinite_map (step_taken map_name
-    (indefinite_head 5 ∷ ys) (λ inner. IndefinitePairs (Readable inner) (RejectsOneValue false
-    inner) ys) outer inner e rest step s))
-map_indefinite_row true inner xs ys e rest h s b bs is m outer step = absurd (not_both h.0)
-
-pub map_definite : (exact : Bool) {E : Type 0} (n : ℕ)
-    {r : Result (Vec (Value × Value) Global) (DecodeError E)} {a m b : View}
-    → Reached (HeadAt exact 5 n) a m → Does (λ xs v ys. ReadsMembers exact n m.budget xs v.items ys)
-    (RejectsMembers exact n m.budget) m b r → Does (λ xs v ys. ReadsMapInside exact a.budget xs
-    v.items ys) (RejectsMajor exact 5 a.budget) a b r
-map_definite exact n {a = a} {m = m} p d =
-    does_after (HeadAt exact 5 n) (λ xs v ys. ReadsMembers exact n m.budget xs v.items ys) _
-    (RejectsMembers exact n m.budget) _ (λ xs ys zs v h s. inl (
-      n,
-      ys,
-      h,
-      subst (λ o. ReadsMembers exact
-          n o ys v.items zs) p.kept.budget s,
-    )) (λ xs ys e rest h s. map_row exact n a.budget xs ys e rest
-    h (subst (λ o. RejectsMembers exact n o ys e rest) p.kept.budget s)) p d
-
--- none of them
-pub map_of_none : (exact : Bool) {E : Type 0} (v : Vec (Value × Value) Global) {m : View}
-    → v.items ≡ [] → Does {E = E} (λ xs (u : Vec (Value × Value) Global) ys. ReadsMembers exact 0
-    m.budget xs u.items ys) (RejectsMembers exact 0 m.budget) m m (Ok v)
-map_of_none exact v {m = m} e =
-    does_ok _ _ (reached_start (λ xs ys. ReadsMembers exact 0 m.budget xs v.items ys) m (λ xs. subst
-    (λ us. ReadsMembers exact 0 m.budget xs us xs) (sym e) (
-      no_pairs,
-      refl,
-      tt,
-      refl,
-      refl,
-    )))
-
-pub map_opened : (exact : Bool) {E : Type 0}
-    {r : Result (Vec (Value × Value) Global) (DecodeError E)} {a m b : View}
-    → Reached (IndefiniteAt exact 5) a m → Does (λ xs v ys. ReadsIndefiniteMembers exact m.budget xs
-    v.items ys) (RejectsIndefiniteMembers exact m.budget) m b r → Does (λ xs v ys. ReadsMapInside
-    exact a.budget xs v.items ys) (RejectsMajor exact 5 a.budget) a b r
-map_opened exact {a = a} {m = m} p d =
-    does_after (IndefiniteAt exact 5) (λ xs v ys. ReadsIndefiniteMembers exact m.budget xs v.items
-    ys) _ (RejectsIndefiniteMembers exact m.budget) _ (λ xs ys zs v h s. inr (
-      ys,
-      h,
-      subst (λ o.
-          ReadsIndefiniteMembers exact o ys v.items zs) p.kept.budget s,
-    )) (λ xs ys e rest h s. map_indefinite_row exact a.budget xs ys e rest h (subst (λ o.
-    RejectsIndefiniteMembers exact o ys e rest) p.kept.budget s)) p d
-
-map_tree : (exact : Bool) (budget inner deep : Budget) (ms : List (Value × Value)) (xs ys : List ℕ)
-    → step_in budget ≡ Some inner → step_in inner ≡ Some deep → ReadsMapInside exact deep xs ms ys →
-    (t : Tree) × Whole exact budget t × (value t ≡ mapping (members_view ms)) × (xs ≡ bytes t ++ ys)
-map_tree exact budget inner deep ms xs ys s t (inl q) =
-    let h = q.2 in
-    let i = q.3 in
-    let all = all_pairs_whole exact i.0 deep i.2 in (
-      map_of h.0 i.0,
-      whole exact budget (map_of h.0 i.0) ((subst (HeadFits h.0) (sym i.1) h.1, all.0.0), all.0.1)
-          (λ e. (h.2 e ∙ ap shortest (sym i.1), all.1 e))
-          (two_steps (greatest_pair_cost i.0) budget inner deep s t all.2),
-      ap mapping i.3,
-      h.3 ∙ ap (λ r. head 5 q.0 h.0 ++ r) i.4
-          ∙ sym (append_assoc (head 5 q.0 h.0) (bytes_pairs i.0) ys)
-          ∙ ap (λ j. (head 5 j h.0 ++ bytes_pairs i.0) ++ ys) (sym i.1),
-    )
-map_tree exact budget inner deep ms xs ys s t (inr q) =
-    let h = q.1 in
-    let i = q.2 in
-    let all = all_pairs_whole exact i.0 deep i.1 in (
-      map_indefinite i.0,
-      whole exact budget (map_indefinite i.0) (all.0.0, all.0.1)
-          (λ e. not_both (sym e ∙ h.0))
-          (two_steps (greatest_pair_cost i.0) budget inner deep s t all.2),
-      ap mapping i.2,
-      h.1 ∙ ap (λ r. indefinite_head 5 ∷ r)
-          (i.3 ∙ sym (append_assoc (bytes_pairs i.0) (break ∷ []) ys)),
-    )
+  pub member_stops : (ms : List (Value × Value))
+      → Reached (Before (ReadEach exact (flat_values ms)) a.budget) a m
+      → Does {V = Value × Value} (ReadsMember exact m.budget) (RejectsMember exact m.budget) m b
+      (Err e) → Does {V = V} B (RejectsIndefiniteMembers exact a.budget) a b (Err e)
+  member_stops ms p d =
+      stops_under (Before (ReadEach exact (flat_values ms)) a.budget) (ReadsMember exact)
+      (RejectsMember exact) B _ (λ xs ys. pair_stop exact a.budget ms xs ys) p d
 
 -- ---- a pair
 
-pub value_stop : (exact : Bool) (budget : Budget) (key : Value) (xs ys : List ℕ) (e : InputError)
-    (rest : List ℕ) → ReadsOneValue exact budget xs key ys → RejectsOneValue exact budget ys e rest
-    → RejectsMember exact budget xs e rest
-value_stop exact budget key xs ys e rest k s =
-    inr (record { key = k.0; after = ys; whole = k.1; is = k.3; stopped = s })
+module _ (exact : Bool) {k : Value} {E : Type 0} {S : Stopping} {a m : View}
+    (key : Does {E = E} (ReadsOneValue exact a.budget) S a m (Ok k)) where
+  pub pair_read : {v : Value} {b : View} {T : Stopping}
+      → Does {E = E} (ReadsOneValue exact m.budget) T m b (Ok v)
+      → Reached (λ xs ys. ReadsMember exact a.budget xs (k, v) ys) a b
+  pair_read {v = v} d =
+      reached_then _ (λ xs ys. ReadsOneValue exact m.budget xs v ys) _ (λ xs ys zs h s. join_items
+      (Whole exact a.budget) (k ∷ []) (v ∷ []) xs ys zs (one_item exact a.budget xs k ys h)
+      (one_item exact a.budget ys v zs (subst (λ o. ReadsOneValue exact o ys v zs)
+      key.moves.by.budget s))) (reached_by key) (reached_by d)
 
--- ---- calls
+  pub value_rejected : {V : Type 0} (B : Accepting V) {e : DecodeError E} {b : View}
+      → Does {V = Value} (ReadsOneValue exact m.budget) (RejectsOneValue exact m.budget) m b (Err e)
+      → Does {V = V} B (RejectsMember exact a.budget) a b (Err e)
+  value_rejected B d =
+      stops_under (λ xs ys. ReadsOneValue exact a.budget xs k ys) (ReadsOneValue exact)
+      (RejectsOneValue exact) B _ (λ xs ys z rest h s. inr (record {
+        key = h.0;
+        after = ys;
+        whole = h.1;
+        is = h.3;
+        stopped = s;
+      })) (reached_by key) d
 
--- one more of what is read so
-module _ {V : Type 0} (reads : Budget → Accepting V) (rejects : Budget → Stopping)
-    (P : List ℕ → List ℕ → Type 0) {a m : View} (p : Reached P a m) where
-  pub more : {E : Type 0} (Q : List ℕ → List ℕ → Type 0) {v : V} {b : View}
-      → ((xs ys zs : List ℕ) → P xs ys → reads a.budget ys v zs → Q xs zs)
-      → Does {E = E} (reads m.budget) (rejects m.budget) m b (Ok v) → Reached Q a b
-  more Q {v = v} f d =
-      reached_then P (λ xs ys. reads m.budget xs v ys) Q (λ xs ys zs h s.
-      f xs ys zs h (subst (λ o. reads o ys v zs) p.kept.budget s)) p (reached_by d)
+-- ---- under a step
 
-  pub ends : {U E : Type 0} (B : Accepting U) (T : Stopping) {e : DecodeError E} {b : View}
-      → ((xs ys : List ℕ) (z : InputError) (rest : List ℕ) → P xs ys → rejects a.budget ys z rest
-      → T xs z rest) → Does {V = V} (reads m.budget) (rejects m.budget) m b (Err e)
-      → Does {V = U} B T a b (Err e)
-  ends B T f d =
-      does_err P _ B (rejects m.budget) T (λ xs ys z rest h s.
-      f xs ys z rest h (subst (λ o. rejects o ys z rest) p.kept.budget s)) p d
-
--- ---- as a value
-
-pub made_array : (exact : Bool) {E : Type 0} (v : Vec Value Global) {S : Stopping} {a b : View}
-    → Does {E = E} (λ xs u ys. ReadsArrayInside exact a.budget xs u.items ys) S a b (Ok v)
-    → Does {E = E} (MakesArray (ReadsArrayInside exact) a.budget) S a b (Ok (Array v))
-made_array exact v {S = S} {a = a} d =
-    does_ok _ S (reached_as (λ xs ys. ReadsArrayInside
-    exact a.budget xs v.items ys) _ (λ xs ys h. (v, refl, h)) (reached_by d))
-
-pub made_map : (exact : Bool) {E : Type 0} (v : Vec (Value × Value) Global) {S : Stopping}
-    {a b : View} → Does {E = E} (λ xs u ys. ReadsMapInside exact a.budget xs u.items ys) S a b
-    (Ok v) → Does {E = E} (MakesMap (ReadsMapInside exact) a.budget) S a b (Ok (Map v))
-made_map exact v {S = S} {a = a} d =
-    does_ok _ S (reached_as (λ xs ys. ReadsMapInside exact a.budget xs v.items ys) _ (λ xs ys h.
-    (v, refl, h)) (reached_by d))
-
-pub array_makes : (exact : Bool) (inner : Budget) (w : Value) (xs ys : List ℕ) → ReadsStepped
-    (MakesArray (ReadsArrayInside exact)) inner xs w ys → ReadsUnder exact inner xs w ys
-array_makes exact inner w xs ys h budget step =
-    let t = array_tree exact budget inner h.0 h.2.0.items xs ys step h.1 h.2.2 in
-    (t.0, t.1, t.2 ∙ sym (ap view h.2.1 ∙ view-Array h.2.0), t.3)
-
-pub map_makes : (exact : Bool) (inner : Budget) (w : Value) (xs ys : List ℕ)
-    → ReadsStepped (MakesMap (ReadsMapInside exact)) inner xs w ys → ReadsUnder exact inner xs w ys
-map_makes exact inner w xs ys h budget step =
-    let t = map_tree exact budget inner h.0 h.2.0.items xs ys step h.1 h.2.2 in
-    (t.0, t.1, t.2 ∙ sym (ap view h.2.1 ∙ view-Map h.2.0), t.3)
+pub inside_stepped : (exact : Bool) (major : ℕ) {E : Type 0} {r : Result Value (DecodeError E)}
+    {a b c d : View} → StepsIn a.budget b.budget true → KeepsAllButBudget a b
+    → Does (ReadsInside exact b.budget) (RejectsMajor exact major b.budget) b c r
+    → d.budget ≡ step_back c.budget → KeepsAllButBudget c d
+    → Does (ReadsUnder exact a.budget) (RejectsOf exact major a.budget) a d r
+inside_stepped exact major {a = a} {b = b} takes inward w gives outward =
+    let step = steps_in a.budget b.budget takes in
+    does_stepped (ReadsInside exact b.budget) _ (RejectsMajor exact major b.budget) _ (λ xs ys v h.
+    h a.budget step) (λ xs e rest h first bs is m. h first bs is m a.budget step) takes inward w
+    gives outward

@@ -1,31 +1,28 @@
 -- Strings of values: what is read as a string is a tree, and where a string is rejected a value
 -- does.
-use Rattle.std.proofs.Common.{◌≡◌, ◌≢◌, ℕ, zero, suc, ◌+◌, ◌-◌, ◌*◌, ◌/◌, ◌%◌, ◌<◌, List, [], ◌∷◌}
-use Rattle.std.proofs.Common.{◌++◌, length, drop, take, Some, None, Bool, true, false, refl, sym}
-use Rattle.std.proofs.Common.{ap, ap₂, ◌∙◌, subst, arith, append_assoc, length-append}
-use Rattle.std.proofs.Common.{take-append-drop, inl, inr, rules, cond, IsUtf8, eqb, eqb-true}
-use Rattle.std.proofs.Common.{eq-eqb, get_or, string_bytes, Vec, Global, String}
+use Rattle.std.proofs.Common.{◌≡◌, ◌≢◌, ℕ, zero, suc, ◌+◌, ◌-◌, ◌/◌, ◌%◌, ◌<◌, List, [], ◌∷◌, ◌++◌}
+use Rattle.std.proofs.Common.{length, drop, take, Some, None, Bool, true, false, refl, sym, ap, ap₂}
+use Rattle.std.proofs.Common.{◌∙◌, subst, arith, append_assoc, length-append, take-append-drop, inl}
+use Rattle.std.proofs.Common.{inr, rules, cond, IsUtf8, eqb, eqb-true, eq-eqb, get_or, string_bytes}
+use Rattle.std.proofs.Common.{Vec, Global, String}
 use Rattle.std.specs.Int.{bytes_high_first}
 use Rattle.cbor4ii_items.specs.{Laws.Answering.fits_zero, Laws.Heads.after_head}
 use Rattle.cbor4ii_items.specs.{Laws.Heads.length-bytes_high_first, Laws.Prefixes.drop_more}
-use Rattle.cbor4ii_items.specs.{Budget.CostFits, Head.{Width, byte_count, additional, head}}
-use Rattle.cbor4ii_items.specs.{Head.{indefinite_head, break}, Heads.{RejectsHead, Begins, CutHead}}
-use Rattle.cbor4ii_items.specs.Initial.{Initial, Info, wide, indefinite_ended, reserved, info_of}
-use Rattle.cbor4ii_items.specs.Initial.{initial, by_major, int_by_info, string_by_info}
-use Rattle.cbor4ii_items.specs.Initial.{array_by_info, map_by_info, tag_by_info, simple_by_info}
-use Rattle.cbor4ii_items.specs.Initial.{unsigned, negative, Sign, Kind, byte_string, text_string}
-use Rattle.cbor4ii_items.specs.Initial.{kind_major, Simple, Precision, starts_string, starts_chunks}
-use Rattle.cbor4ii_items.specs.Initial.{bad_string, starts_simple, starts_bits, other_simple}
-use Rattle.cbor4ii_items.specs.Initial.{simple_false, simple_true, simple_null, simple_undefined}
-use Rattle.cbor4ii_items.specs.{Initial.{half, single, double}, InputError.InputError}
-use Rattle.cbor4ii_items.specs.Strings.{ReadsDefiniteString, ReadsChunks, chunk_cost, ReadsString}
-use Rattle.cbor4ii_items.specs.Strings.{CutContent, RejectsChunk, no_chunk_byte, no_step}
-use Rattle.cbor4ii_items.specs.Strings.{chunk_indefinite, chunk_rejected, chunk_cut, RejectsString}
+use Rattle.cbor4ii_items.specs.{Budget.CostFits, Head.{Width, byte_count, head, indefinite_head}}
+use Rattle.cbor4ii_items.specs.{Head.break, Heads.{RejectsHead, Begins, CutHead}, Initial.Initial}
+use Rattle.cbor4ii_items.specs.Initial.{Info, wide, indefinite_ended, reserved, info_of, initial}
+use Rattle.cbor4ii_items.specs.Initial.{by_major, int_by_info, string_by_info, array_by_info}
+use Rattle.cbor4ii_items.specs.Initial.{map_by_info, tag_by_info, simple_by_info, unsigned}
+use Rattle.cbor4ii_items.specs.Initial.{negative, Sign, Kind, byte_string, text_string, kind_major}
+use Rattle.cbor4ii_items.specs.Initial.{Simple, Precision, starts_string, starts_chunks, bad_string}
+use Rattle.cbor4ii_items.specs.Initial.{starts_simple, starts_bits, other_simple, simple_false}
+use Rattle.cbor4ii_items.specs.Initial.{simple_true, simple_null, simple_undefined, half, single}
+use Rattle.cbor4ii_items.specs.{Initial.double, InputError.InputError, Strings.ReadsDefiniteString}
+use Rattle.cbor4ii_items.specs.Strings.{ReadsChunks, chunk_cost, ReadsString, CutContent}
+use Rattle.cbor4ii_items.specs.Strings.{RejectsChunk, no_chunk_byte, no_step, chunk_indefinite}
+use Rattle.cbor4ii_items.specs.Strings.{chunk_rejected, chunk_cut, RejectsString}
 use Rattle.cbor4ii_items.specs.Strings.{string_head_rejected, string_cut, string_indefinite}
 use Rattle.cbor4ii_items.specs.Strings.{RejectsText, no_string, no_utf8}
-use Rattle.cbor4ii_tree.proofs.{parts.Rejecting.{headed_by, in_items}, values.Calls.head_cut}
-use Rattle.cbor4ii_tree.proofs.values.Calls.{no_head, initial_of, width_begins, small_count}
-use Rattle.cbor4ii_tree.proofs.{values.Calls.indefinite_byte, values.Heads.{at_row, first_is}}
 use Rattle.cbor4ii_tree.specs.{Cost.{Budget, step_in, chunks_cost}, InputError.{eof, mismatch}}
 use Rattle.cbor4ii_tree.specs.InputError.{require_length, require_utf8, Indefinite, len_of}
 use Rattle.cbor4ii_tree.specs.{InputError.kind_name, Item.{bytes_item, text}, Laws.Binds.step_up}
@@ -38,6 +35,10 @@ use Rattle.cbor4ii_tree.specs.Tree.{no_trees, tree, string, chunked, bytes, byte
 use Rattle.cbor4ii_tree.specs.{Tree.{AreChunks, joined_chunks, TextIsUtf8}, Valuing.ReadsUnder}
 use Rattle.cbor4ii_tree.specs.{Valuing.RejectsUnder, View.view, declared.value.Value.{Bytes, Text}}
 use Rattle.cbor4ii_tree.specs.declared.value.Value.{the_lemmas}
+use Rattle.cbor4ii_tree.proofs.{parts.Rejecting.{headed_by, in_items}, values.Calls.head_cut}
+use Rattle.cbor4ii_tree.proofs.values.Calls.{no_head, initial_of, width_begins, small_count}
+use Rattle.cbor4ii_tree.proofs.{values.Calls.indefinite_byte, values.Heads.{at_row, first_is}}
+use Rattle.cbor4ii_tree.proofs.encodings.CanonicalShape.{first_byte}
 use Rattle.cbor4ii_items.specs.Strings as strings
 
 -- ---- strings of definite length
@@ -165,15 +166,11 @@ record CutRow (k : Kind) (b : ℕ) (bs : List ℕ) (e : InputError) (rest : List
   below : b < 255
   cut : CutString k width b bs e rest
 
-first_of : (major n : ℕ) (w : Width) (b : ℕ) (bs ys : List ℕ) → b ∷ bs ≡ head major n w ++ ys
-    → b ≡ 32 * major + additional w n
-first_of major n w b bs ys e = ap (λ z. get_or z 0 0) e
-
 cut_content : (k : Kind) (b : ℕ) (bs : List ℕ) (e : InputError) (rest : List ℕ)
     → CutContent (kind_name k) (kind_major k) (b ∷ bs) e rest → CutRow k b bs e rest
 cut_content k b bs e rest h =
     let w = h.head.wide in
-    let first = first_of (kind_major k) h.count w b bs h.head.rest h.head.is in
+    let first = first_byte (kind_major k) h.count w b bs h.head.rest h.head.is in
     let size : length (b ∷ bs) ≡ h.before + length h.head.rest =
     omega (
       arith,
@@ -224,59 +221,44 @@ if_any P false x y p q = q
 simple_row : (P : Initial → Type 0) → ((s : Simple) → P (starts_simple s))
     → ((p : Precision) → P (starts_bits p)) → P other_simple → (i : ℕ) → P (simple_by_info i)
 simple_row P f g h i =
-    if_any P (eqb i 20) _ _ (f simple_false) (if_any P (eqb i 21) _ _ (f simple_true)
-    (if_any P (eqb i 22) _ _ (f simple_null) (if_any P (eqb i 23) _ _ (f simple_undefined)
-    (if_any P (eqb i 25) _ _ (g half)
-    (if_any P (eqb i 26) _ _ (g single) (if_any P (eqb i 27) _ _ (g double) h))))))
+    if_any P _ _ _ (f simple_false) (if_any P _ _ _ (f simple_true) (if_any P _ _ _ (f simple_null)
+    (if_any P _ _ _ (f simple_undefined) (if_any P _ _ _ (g half) (if_any P _ _ _ (g single) (if_any
+    P _ _ _ (g double) h))))))
 
 module _ (c : ℕ) (cs : List ℕ) (e : InputError) (rest : List ℕ) where
   int_row : (k : Kind) (s : Sign) (x : Info) → Is (mismatch (kind_name k) c) cs e rest
       → ChunkRejectsBy k (int_by_info s x) c cs e rest
   int_row byte_string s (wide w) h = h
-  int_row byte_string s indefinite_ended h = h
-  int_row byte_string s reserved h = h
   int_row text_string s (wide w) h = h
-  int_row text_string s indefinite_ended h = h
-  int_row text_string s reserved h = h
+  int_row _ s _ h = h
 
   text_row : (x : Info) → Is (mismatch (kind_name byte_string) c) cs e rest
       → ChunkRejectsBy byte_string (string_by_info text_string x) c cs e rest
   text_row (wide w) h = h
-  text_row indefinite_ended h = h
-  text_row reserved h = h
+  text_row _ h = h
 
   bytes_row : (x : Info) → Is (mismatch (kind_name text_string) c) cs e rest
       → ChunkRejectsBy text_string (string_by_info byte_string x) c cs e rest
   bytes_row (wide w) h = h
-  bytes_row indefinite_ended h = h
-  bytes_row reserved h = h
+  bytes_row _ h = h
 
   array_row : (k : Kind) (x : Info) → Is (mismatch (kind_name k) c) cs e rest
       → ChunkRejectsBy k (array_by_info x) c cs e rest
   array_row byte_string (wide w) h = h
-  array_row byte_string indefinite_ended h = h
-  array_row byte_string reserved h = h
   array_row text_string (wide w) h = h
-  array_row text_string indefinite_ended h = h
-  array_row text_string reserved h = h
+  array_row _ _ h = h
 
   map_row : (k : Kind) (x : Info) → Is (mismatch (kind_name k) c) cs e rest
       → ChunkRejectsBy k (map_by_info x) c cs e rest
   map_row byte_string (wide w) h = h
-  map_row byte_string indefinite_ended h = h
-  map_row byte_string reserved h = h
   map_row text_string (wide w) h = h
-  map_row text_string indefinite_ended h = h
-  map_row text_string reserved h = h
+  map_row _ _ h = h
 
   tag_row : (k : Kind) (x : Info) → Is (mismatch (kind_name k) c) cs e rest
       → ChunkRejectsBy k (tag_by_info x) c cs e rest
   tag_row byte_string (wide w) h = h
-  tag_row byte_string indefinite_ended h = h
-  tag_row byte_string reserved h = h
   tag_row text_string (wide w) h = h
-  tag_row text_string indefinite_ended h = h
-  tag_row text_string reserved h = h
+  tag_row _ _ h = h
 
   other_row : (k : Kind) (i : ℕ) → Is (mismatch (kind_name k) c) cs e rest
       → ChunkRejectsBy k (simple_by_info i) c cs e rest
@@ -378,19 +360,18 @@ chunk_rejects k budget [] e rest (chunk_indefinite step is answer) = cc
 chunk_rejects k budget (c ∷ cs) e rest (chunk_indefinite step is answer) =
     let first : c ≡ indefinite_head (kind_major k) = ap (λ z. get_or z 0 0) is in
     let left : rest ≡ cs = sym (ap (drop 1) is) in
-    with_step k budget c cs e rest step (λ f. indefinite_apart k (sym first ∙ f))
-    (subst (λ i. ChunkRejectsBy k i c cs e rest) (sym (ap initial first ∙ initial_chunks k))
-    (indefinite_row c cs e rest k (answer, left)))
+    with_step k budget c cs e rest step (λ f. indefinite_apart k (sym first ∙ f)) (subst (λ i.
+    ChunkRejectsBy k i c cs e rest) (sym (ap initial first ∙ initial_chunks k)) (indefinite_row c cs
+    e rest k (answer, left)))
 chunk_rejects k budget [] e rest (chunk_rejected step other closed some h) = absurd (some refl)
 chunk_rejects k budget (c ∷ cs) e rest (chunk_rejected step other closed some h) =
-    with_step k budget c cs e rest step (begins_with break c cs other)
-    (by_head c cs e rest k (begins_with (indefinite_head (kind_major k)) c cs closed) h)
+    with_step k budget c cs e rest step (begins_with break c cs other) (by_head c cs e rest k
+    (begins_with (indefinite_head (kind_major k)) c cs closed) h)
 chunk_rejects k budget [] e rest (chunk_cut step h) = absurd (omega (arith, ap length h.head.is))
 chunk_rejects k budget (c ∷ cs) e rest (chunk_cut step h) =
     let r = cut_content k c cs e rest h in
-    with_step k budget c cs e rest step (λ f. omega (arith, f, r.below))
-    (subst (λ i. ChunkRejectsBy k i c cs e rest) (sym r.row)
-    (cut_row c cs e rest k r.width r.cut))
+    with_step k budget c cs e rest step (λ f. omega (arith, f, r.below)) (subst (λ i. ChunkRejectsBy
+    k i c cs e rest) (sym r.row) (cut_row c cs e rest k r.width r.cut))
 
 -- ---- strings
 
@@ -431,24 +412,16 @@ text_invalid : (inner : Budget) (b : ℕ) (bs content : List ℕ) (n c : ℕ) (e
     → RejectsUnder false inner (b ∷ bs) e rest
 text_invalid inner b bs content n c e rest (inl r) fits invalid answer left =
     let h = r.0.head in
-    let first = first_of 3 (length content) h.wide b bs h.rest h.is in
-    at_row inner (starts_string text_string h.wide) b bs e rest
-    (ap initial first ∙ initial_string text_string (length content) h.wide h.fits)
-    (inr (record {
-      argument = length content;
-      after = h.rest;
-      fits = h.fits;
-      is = h.is;
-      stopped =
-          record {
-            content = content;
-            long = refl;
-            invalid = invalid;
-            is = content_after 3
-                (b ∷ bs) content n r.0 ∙ ap (λ z. content ++ z) (sym left);
-            err = answer;
-          };
-    }))
+    let first = first_byte 3 (length content) h.wide b bs h.rest h.is in
+    at_row inner (starts_string text_string h.wide) b bs e rest (ap initial first ∙ initial_string
+    text_string (length content) h.wide h.fits) (inr (headed_by (length content) h.rest h.fits h.is
+    (record {
+      content = content;
+      long = refl;
+      invalid = invalid;
+      is = content_after 3 (b ∷ bs) content n r.0 ∙ ap (λ z. content ++ z) (sym left);
+      err = answer;
+    })))
 text_invalid inner b bs content n c e rest (inr r) fits invalid answer left =
     let o = indefinite_tree text_string (b ∷ bs) content n c r in
     let first : b ≡ indefinite_head 3 = ap (λ z. get_or z 0 0) o.begins in

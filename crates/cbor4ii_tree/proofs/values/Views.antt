@@ -1,11 +1,11 @@
 -- Lists of values beside what they stand for.
 use Rattle.std.proofs.Common.{◌≡◌, ℕ, zero, suc, ◌<◌, List, [], ◌∷◌, ◌++◌, length, take, get_or}
-use Rattle.std.proofs.Common.{◌+◌, refl, sym, ap, ap₂, ◌∙◌, arith, ◌↔◌, Global, rules}
+use Rattle.std.proofs.Common.{◌+◌, refl, sym, ap, ◌∙◌, arith, ◌↔◌, Global, rules}
 use Rattle.std.proofs.lemmas.List.{take_more, get_or_default}
 use Rattle.std.specs.Prelude.{Vec}
-use Rattle.cbor4ii_tree.specs.Item.{Item, Items, item, no_items, item_count, member_count, mapping}
-use Rattle.cbor4ii_tree.specs.{Item.{Members, member}, View.{view, items_view, members_view}}
-use Rattle.cbor4ii_tree.specs.declared.value.Value.{Value, Map, the_lemmas}
+use Rattle.cbor4ii_tree.specs.Item.{item_count, member_count, mapping, Members, no_items, item}
+use Rattle.cbor4ii_tree.specs.{View.{view, items_view, members_view}, declared.value.Value.Value}
+use Rattle.cbor4ii_tree.specs.declared.value.Value.{Map, the_lemmas}
 
 pub item_count-items_view : (vs : List Value) → item_count (items_view vs) ≡ length vs
 item_count-items_view [] = refl
@@ -28,32 +28,20 @@ length-members_view ms ns e =
 pub view-Map : (v : Vec (Value × Value) Global) → view (Map v) ≡ mapping (members_view v.items)
 view-Map v = search (rules, the_lemmas)
 
-pub item_injective : (v w : Item) (vs ws : Items) → item v vs ≡ item w ws → (v ≡ w) × (vs ≡ ws)
-item_injective v w vs ws e = (cc, cc)
-
 -- equal views at a place
 pub view_at : (vs ws : List Value) (i : ℕ) (d e : Value) → items_view vs ≡ items_view ws
     → i < length vs → view (get_or vs i d) ≡ view (get_or ws i e)
 view_at [] ws i d e h lt = absurd (omega arith)
 view_at (v ∷ vs) [] i d e h lt = cc
-view_at (v ∷ vs) (w ∷ ws) zero d e h lt =
-    (item_injective (view v) (view w) (items_view vs) (items_view ws) h).0
-view_at (v ∷ vs) (w ∷ ws) (suc i) d e h lt =
-    view_at vs ws i d e (item_injective (view v) (view w) (items_view vs) (items_view ws) h).1
-    (omega arith)
+view_at (v ∷ vs) (w ∷ ws) zero d e h lt = cc
+view_at (v ∷ vs) (w ∷ ws) (suc i) d e h lt = view_at vs ws i d e (cc) (omega arith)
 
 pub items_view-push : (vs ws : List Value) (v w : Value) → items_view vs ≡ items_view ws
     → view v ≡ view w → items_view (vs ++ v ∷ []) ≡ items_view (ws ++ w ∷ [])
 items_view-push [] [] v w h e = ap (λ x. item x no_items) e
 items_view-push [] (x ∷ ws) v w h e = cc
 items_view-push (x ∷ vs) [] v w h e = cc
-items_view-push (x ∷ vs) (y ∷ ws) v w h e =
-    let p = item_injective (view x) (view y) (items_view vs) (items_view ws) h in
-    ap₂ item p.0 (items_view-push vs ws v w p.1 e)
-
-pub member_injective : (k l v w : Item) (ms ns : Members) → member k v ms ≡ member l w ns
-    → (k ≡ l) × (v ≡ w) × (ms ≡ ns)
-member_injective k l v w ms ns e = (cc, cc, cc)
+items_view-push (x ∷ vs) (y ∷ ws) v w h e = cc (items_view-push vs ws v w (cc) e)
 
 pub views_at : (ms ns : List (Value × Value)) (i : ℕ) (d e : Value × Value)
     → members_view ms ≡ members_view ns → i < length ms
@@ -61,13 +49,8 @@ pub views_at : (ms ns : List (Value × Value)) (i : ℕ) (d e : Value × Value)
     × (view (get_or ms i d).1 ≡ view (get_or ns i e).1)
 views_at [] ns i d e h lt = absurd (omega arith)
 views_at (m ∷ ms) [] i d e h lt = cc
-views_at (m ∷ ms) (n ∷ ns) zero d e h lt =
-    let p = member_injective (view m.0) (view n.0) (view m.1) (view n.1) (members_view ms)
-    (members_view ns) h in
-    (p.0, p.1)
-views_at (m ∷ ms) (n ∷ ns) (suc i) d e h lt =
-    views_at ms ns i d e (member_injective (view m.0) (view n.0) (view m.1) (view n.1)
-    (members_view ms) (members_view ns) h).2 (omega arith)
+views_at (m ∷ ms) (n ∷ ns) zero d e h lt = (cc, cc)
+views_at (m ∷ ms) (n ∷ ns) (suc i) d e h lt = views_at ms ns i d e (cc) (omega arith)
 
 pub members_view-push : (ms ns : List (Value × Value)) (m n : Value × Value)
     → members_view ms ≡ members_view ns → view m.0 ≡ view n.0 → view m.1 ≡ view n.1
@@ -75,10 +58,7 @@ pub members_view-push : (ms ns : List (Value × Value)) (m n : Value × Value)
 members_view-push [] [] m n h e f = cc
 members_view-push [] (x ∷ ns) m n h e f = cc
 members_view-push (x ∷ ms) [] m n h e f = cc
-members_view-push (x ∷ ms) (y ∷ ns) m n h e f =
-    let p = member_injective (view x.0) (view y.0) (view x.1) (view y.1) (members_view ms)
-    (members_view ns) h in
-    cc (p.0, p.1, members_view-push ms ns m n p.2 e f)
+members_view-push (x ∷ ms) (y ∷ ns) m n h e f = cc (members_view-push ms ns m n (cc) e f)
 
 pub mapping_same : (a b : List (Value × Value)) (v w : Vec (Value × Value) Global) (x y : Value)
     → x ≡ Map v → y ≡ Map w → a ≡ v.items → b ≡ w.items

@@ -3,11 +3,9 @@ use Rattle.std.proofs.Common.{◌≡◌, ℕ, ◌+◌, ◌*◌, ◌%◌, ◌^◌
 use Rattle.std.proofs.Common.{refl, arith, le-ltb, length-append, take_at, drop_at, mod-eq_of_lt}
 use Rattle.std.specs.Int.{bytes_high_first}
 use Rattle.cbor4ii_items.specs.Head.{Width, in_first, one, two, four, eight, HeadFits, additional}
-use Rattle.cbor4ii_items.specs.Head.{byte_count, head}
-use Rattle.cbor4ii_items.specs.Laws.Heads.{length-bytes_high_first}
-use Rattle.cbor4ii_tree.specs.Parse.{prefix_at, number_at, argument_of_width}
-use Rattle.cbor4ii_tree.specs.Skip.{whole_number_at, whole_argument_at}
-use Rattle.cbor4ii_tree.specs.Laws.Numbers.{low_bytes}
+use Rattle.cbor4ii_items.specs.{Head.{byte_count, head}, Laws.Heads.length-bytes_high_first}
+use Rattle.cbor4ii_tree.specs.{Laws.Numbers.low_bytes, Parse.{prefix_at, number_at, argument_at}}
+use Rattle.cbor4ii_tree.specs.Parse.{argument_of_width}
 
 pub prefix_again : (name : List ℕ) (k : ℕ) (xs x : List ℕ) → length xs ≡ k
     → prefix_at name k (xs ++ x) ≡ Ok (xs, x)
@@ -15,9 +13,9 @@ prefix_again name k xs x e =
     let room : k ≤ length (xs ++ x) = omega (arith, length-append xs x) in
     rw (le-ltb (length (xs ++ x)) k room, take_at xs x k e, drop_at xs x k e) refl
 
-pub number_again : (name : List ℕ) (k n : ℕ) (x : List ℕ) → n < 256 ^ k
-    → number_at name k (bytes_high_first k n ++ x) ≡ Ok (n, x)
-number_again name k n x h =
+pub number_again : (asks : ℕ → ℕ → ℕ) (name : List ℕ) (k n : ℕ) (x : List ℕ) → n < 256 ^ k
+    → number_at asks name k (bytes_high_first k n ++ x) ≡ Ok (n, x)
+number_again asks name k n x h =
     let e = length-bytes_high_first k n in
     let room : k ≤ length (bytes_high_first k n ++ x) =
     omega (arith, length-append (bytes_high_first k n) x) in
@@ -30,37 +28,16 @@ number_again name k n x h =
       same,
     ) refl
 
-pub whole_number_again : (name : List ℕ) (k n : ℕ) (x : List ℕ) → n < 256 ^ k
-    → whole_number_at name k (bytes_high_first k n ++ x) ≡ Ok (n, x)
-whole_number_again name k n x h =
-    let same : n % 256 ^ k ≡ n = mod-eq_of_lt h in
-    rw (
-      prefix_again name k (bytes_high_first k n) x (length-bytes_high_first k n),
-      low_bytes k n,
-      same,
-    ) refl
-
-pub argument_again : (name : List ℕ) (major n : ℕ) (w : Width) (x : List ℕ) → HeadFits w n
-    → argument_of_width name w (32 * major + additional w n)
+pub argument_again : (asks : ℕ → ℕ → ℕ) (name : List ℕ) (major n : ℕ) (w : Width) (x : List ℕ)
+    → HeadFits w n → argument_at asks name w (32 * major + additional w n)
     (bytes_high_first (byte_count w) n ++ x) ≡ Ok (n, x)
-unfolding argument_of_width
-argument_again name major n in_first x h =
+unfolding argument_at
+argument_again asks name major n in_first x h =
     let low : (32 * major + n) % 32 ≡ n = omega arith in rw low refl
-argument_again name major n one x h = number_again name 1 n x (omega arith)
-argument_again name major n two x h = number_again name 2 n x h
-argument_again name major n four x h = number_again name 4 n x h
-argument_again name major n eight x h = number_again name 8 n x h
-
-pub whole_argument_again : (name : List ℕ) (major n : ℕ) (w : Width) (x : List ℕ) → HeadFits w n
-    → whole_argument_at name w (32 * major + additional w n)
-    (bytes_high_first (byte_count w) n ++ x) ≡ Ok (n, x)
-unfolding whole_argument_at
-whole_argument_again name major n in_first x h =
-    let low : (32 * major + n) % 32 ≡ n = omega arith in rw low refl
-whole_argument_again name major n one x h = whole_number_again name 1 n x (omega arith)
-whole_argument_again name major n two x h = whole_number_again name 2 n x h
-whole_argument_again name major n four x h = whole_number_again name 4 n x h
-whole_argument_again name major n eight x h = whole_number_again name 8 n x h
+argument_again asks name major n one x h = number_again asks name 1 n x (omega arith)
+argument_again asks name major n two x h = number_again asks name 2 n x h
+argument_again asks name major n four x h = number_again asks name 4 n x h
+argument_again asks name major n eight x h = number_again asks name 8 n x h
 
 -- the same, where the bytes are known to be a head's and what follows it
 pub argument_of : (name : List ℕ) (major n : ℕ) (w : Width) (b : ℕ) (bs after : List ℕ)
@@ -69,4 +46,4 @@ pub argument_of : (name : List ℕ) (major n : ℕ) (w : Width) (b : ℕ) (bs af
 argument_of name major n w b bs after h e =
     let first : b ≡ 32 * major + additional w n = cc in
     let next : bs ≡ bytes_high_first (byte_count w) n ++ after = cc in
-    rw (first, next) (argument_again name major n w after h)
+    rw (first, next) (argument_again _ name major n w after h)

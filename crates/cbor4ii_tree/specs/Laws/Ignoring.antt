@@ -2,18 +2,16 @@
 use Rattle.std.proofs.Common.{◌≡◌, ℕ, suc, None, Ok, subst, ◌≤◌, List, ◌++◌, length, take, drop}
 use Rattle.std.proofs.Common.{IsTrue, true, refl, sym, ap, ◌∙◌, arith, length-append}
 use Rattle.std.proofs.Math.Seq.{take-append_seam, drop-append_seam}
-use Rattle.cbor4ii_tree.specs.declared.ignored.IgnoredAny.{IgnoredAny}
-use Rattle.cbor4ii_tree.specs.Tree.{Tree, bytes, Loose}
-use Rattle.cbor4ii_tree.specs.Cost.{skip_cost}
-use Rattle.cbor4ii_tree.specs.Ignored.{ReadsTree, ReadsIgnored, RejectsIgnored}
 use Rattle.cbor4ii_items.specs.Decoding.{IsLawful, leaf_format}
-use Rattle.cbor4ii_tree.specs.Laws.SkippingAgain.{skip_again}
-use Rattle.cbor4ii_tree.specs.Skip.{skip}
-use Rattle.cbor4ii_tree.specs.Laws.Binds.{parts}
-use Rattle.cbor4ii_tree.specs.Laws.Initials.{length-bytes-pos}
+use Rattle.cbor4ii_tree.specs.{Cost.skip_cost, declared.ignored.IgnoredAny.IgnoredAny}
+use Rattle.cbor4ii_tree.specs.{Ignored.{ReadsTree, ReadsIgnored, RejectsIgnored}, Laws.Binds.parts}
+use Rattle.cbor4ii_tree.specs.{Laws.Initials.length-bytes-pos, Laws.ItemAgain.item_again}
+use Rattle.cbor4ii_tree.specs.{Laws.Profiles.skipping_lawful, Skip.skip, SkippingRejects.skipping}
+use Rattle.cbor4ii_tree.specs.Tree.{Tree, bytes, Loose}
 
 encoding_again : (t : Tree) (x : List ℕ) → Loose t → skip None (bytes t ++ x) ≡ Ok (t, x)
-encoding_again t x l = skip_again (suc (length (bytes t ++ x))) None t x (l, tt) (omega arith)
+encoding_again t x l =
+    item_again skipping skipping_lawful (suc (length (bytes t ++ x))) None t x (l, tt) (omega arith)
 
 pub one_encoding : (t u : Tree) (x y : List ℕ) → Loose t → Loose u → bytes t ++ x ≡ bytes u ++ y
     → (t ≡ u) × (x ≡ y)

@@ -2,12 +2,11 @@
 use Rattle.std.proofs.Common.{◌≡◌, ℕ, zero, suc, ◌<◌, ◌≤◌, List, ◌∷◌, ◌++◌, length, Ok, refl, ap}
 use Rattle.std.proofs.Common.{◌∙◌, arith, subst, ne_eqb, append_assoc, length-append}
 use Rattle.cbor4ii_items.specs.Head.{break}
-use Rattle.cbor4ii_tree.specs.Tree.{Tree, Trees, no_trees, tree, Pairs, no_pairs, pair, count}
-use Rattle.cbor4ii_tree.specs.Tree.{pair_count, bytes, bytes_all, bytes_pairs}
-use Rattle.cbor4ii_tree.specs.Rejections.{Each, EachPair}
-use Rattle.cbor4ii_tree.specs.Parse.{Parser, ◌>>=◌, trees_at, pairs_at, indefinite_trees_at}
-use Rattle.cbor4ii_tree.specs.Parse.{indefinite_pairs_at}
-use Rattle.cbor4ii_tree.specs.Laws.Initials.{BeginsNoBreak, length-bytes-pos}
+use Rattle.cbor4ii_tree.specs.{Laws.Initials.{BeginsNoBreak, length-bytes-pos}, Parse.Parser}
+use Rattle.cbor4ii_tree.specs.Parse.{◌>>=◌, trees_at, pairs_at, indefinite_trees_at}
+use Rattle.cbor4ii_tree.specs.{Parse.indefinite_pairs_at, Rejections.{Each, EachPair}, Tree.Tree}
+use Rattle.cbor4ii_tree.specs.Tree.{Trees, no_trees, tree, Pairs, no_pairs, pair, count, pair_count}
+use Rattle.cbor4ii_tree.specs.Tree.{bytes, bytes_all, bytes_pairs}
 
 -- below so many bytes, whole items are read back
 abbrev pub Again : Parser Tree → (Tree → Type 0) → ℕ → Type 0
@@ -38,39 +37,6 @@ pub indefinite_pair_turn : (item : Parser Tree) (n : ℕ) (bs x : List ℕ) → 
 unfolding indefinite_pairs_at
 indefinite_pair_turn item n bs x h = rw (h.2, ne_eqb h.0 255 (omega arith)) refl
 
-pub trees_again : (item : Parser Tree) (Whole : Tree → Type 0) (bound : ℕ) → Again item Whole bound
-    → (ts : Trees) (x : List ℕ) → Each Whole ts → length (bytes_all ts ++ x) < bound
-    → trees_at item (count ts) (bytes_all ts ++ x) ≡ Ok (ts, x)
-unfolding trees_at
-trees_again item Whole bound a no_trees x w lt = refl
-trees_again item Whole bound a (tree t ts) x w lt =
-    let lt2 : length (bytes t ++ (bytes_all ts ++ x)) < bound =
-    subst (λ y. length y < bound) (append_assoc (bytes t) (bytes_all ts) x) lt in
-    rw (
-      append_assoc (bytes t) (bytes_all ts) x,
-      a t (bytes_all ts ++ x) w.0 lt2,
-      trees_again item
-          Whole bound a ts x w.1 (shorter (bytes t) (bytes_all ts ++ x) bound lt2),
-    ) refl
-
-pub pairs_again : (item : Parser Tree) (Whole : Tree → Type 0) (bound : ℕ) → Again item Whole bound
-    → (ps : Pairs) (x : List ℕ) → EachPair Whole ps → length (bytes_pairs ps ++ x) < bound
-    → pairs_at item (pair_count ps) (bytes_pairs ps ++ x) ≡ Ok (ps, x)
-unfolding pairs_at
-pairs_again item Whole bound a no_pairs x w lt = refl
-pairs_again item Whole bound a (pair k v ps) x w lt =
-    let rest : List ℕ = bytes_pairs ps ++ x in
-    let same = pair_split (bytes k) (bytes v) (bytes_pairs ps) x in
-    let lt2 : length (bytes k ++ (bytes v ++ rest)) < bound =
-    subst (λ y. length y < bound) same lt in
-    let lt3 : length (bytes v ++ rest) < bound = shorter (bytes k) (bytes v ++ rest) bound lt2 in
-    rw (
-      same,
-      a k (bytes v ++ rest) w.0 lt2,
-      a v rest w.1 lt3,
-      pairs_again item Whole bound a ps x w.2 (shorter (bytes v) rest bound lt3),
-    ) refl
-
 indefinite_end : (item : Parser Tree) (n : ℕ) (x : List ℕ)
     → indefinite_trees_at item (suc n) (break ∷ x) ≡ Ok (no_trees, x)
 unfolding indefinite_trees_at
@@ -81,60 +47,90 @@ indefinite_pairs_end : (item : Parser Tree) (n : ℕ) (x : List ℕ)
 unfolding indefinite_pairs_at
 indefinite_pairs_end item n x = refl
 
--- where the bytes are no more than the turns, these are enough
-pub indefinite_trees_again : (item : Parser Tree) (Whole : Tree → Type 0) (bound : ℕ)
-    → Again item Whole bound → StartNoBreak Whole → (ts : Trees) (n : ℕ) (x : List ℕ)
-    → Each Whole ts → length (bytes_all ts ++ break ∷ x) ≤ n
-    → length (bytes_all ts ++ break ∷ x) < bound
-    → indefinite_trees_at item n (bytes_all ts ++ break ∷ x) ≡ Ok (ts, x)
-indefinite_trees_again item Whole bound a s no_trees zero x w more lt = absurd (omega arith)
-indefinite_trees_again item Whole bound a s no_trees (suc n) x w more lt = indefinite_end item n x
-indefinite_trees_again item Whole bound a s (tree t ts) zero x w more lt =
-    absurd (omega (arith, length-append (bytes t ++ bytes_all ts) (break ∷ x)))
-indefinite_trees_again item Whole bound a s (tree t ts) (suc n) x w more lt =
-    let rest : List ℕ = bytes_all ts ++ break ∷ x in
-    let same : (bytes t ++ bytes_all ts) ++ break ∷ x ≡ bytes t ++ rest =
-    append_assoc (bytes t) (bytes_all ts) (break ∷ x) in
-    let lt2 : length (bytes t ++ rest) < bound = subst (λ y. length y < bound) same lt in
-    let fewer : length rest ≤ n =
-    omega (arith, ap length same, length-append (bytes t) rest, length-bytes-pos t) in
-    ap (indefinite_trees_at item (suc n)) same
-    ∙ (indefinite_turn item n (bytes t) rest (s t w.0) ∙ rw (
-      a t rest w.0 lt2,
-      indefinite_trees_again item Whole
-          bound a s ts n x w.1 fewer (shorter (bytes t) rest bound lt2),
-    ) refl)
+module _ (item : Parser Tree) (Whole : Tree → Type 0) (bound : ℕ) (a : Again item Whole bound) where
+  pub trees_again : (ts : Trees) (x : List ℕ) → Each Whole ts → length (bytes_all ts ++ x) < bound
+      → trees_at item (count ts) (bytes_all ts ++ x) ≡ Ok (ts, x)
+  unfolding trees_at
+  trees_again no_trees x w lt = refl
+  trees_again (tree t ts) x w lt =
+      let lt2 : length (bytes t ++ (bytes_all ts ++ x)) < bound =
+      subst (λ y. length y < bound) (append_assoc (bytes t) (bytes_all ts) x) lt in
+      rw (
+        append_assoc (bytes t) (bytes_all ts) x,
+        a t (bytes_all ts ++ x) w.0 lt2,
+        trees_again ts x w.1 (shorter (bytes t) (bytes_all ts ++ x) bound lt2),
+      ) refl
 
-pub indefinite_pairs_again : (item : Parser Tree) (Whole : Tree → Type 0) (bound : ℕ)
-    → Again item Whole bound → StartNoBreak Whole → (ps : Pairs) (n : ℕ) (x : List ℕ)
-    → EachPair Whole ps → length (bytes_pairs ps ++ break ∷ x) ≤ n
-    → length (bytes_pairs ps ++ break ∷ x) < bound
-    → indefinite_pairs_at item n (bytes_pairs ps ++ break ∷ x) ≡ Ok (ps, x)
-indefinite_pairs_again item Whole bound a s no_pairs zero x w more lt = absurd (omega arith)
-indefinite_pairs_again item Whole bound a s no_pairs (suc n) x w more lt =
-    indefinite_pairs_end item n x
-indefinite_pairs_again item Whole bound a s (pair k v ps) zero x w more lt =
-    absurd (omega (arith, length-append (bytes k ++ (bytes v ++ bytes_pairs ps)) (break ∷ x)))
-indefinite_pairs_again item Whole bound a s (pair k v ps) (suc n) x w more lt =
-    let rest : List ℕ = bytes_pairs ps ++ break ∷ x in
-    let same : (bytes k ++ (bytes v ++ bytes_pairs ps)) ++ break ∷ x ≡ bytes k
-    ++ (bytes v ++ rest) = pair_split (bytes k) (bytes v) (bytes_pairs ps) (break ∷ x) in
-    let lt2 : length (bytes k ++ (bytes v ++ rest)) < bound =
-    subst (λ y. length y < bound) same lt in
-    let lt3 : length (bytes v ++ rest) < bound = shorter (bytes k) (bytes v ++ rest) bound lt2 in
-    let fewer : length rest ≤ n = omega (
-      arith,
-      ap length same,
-      length-append (bytes k)
-          (bytes v ++ rest),
-      length-append (bytes v) rest,
-      length-bytes-pos k,
-    ) in
-    ap (indefinite_pairs_at item (suc n)) same
-    ∙ (indefinite_pair_turn item n (bytes k) (bytes v ++ rest) (s k w.0)
-    ∙ rw (
-      a k (bytes v ++ rest) w.0 lt2,
-      a v rest w.1 lt3,
-      indefinite_pairs_again item Whole bound
-          a s ps n x w.2 fewer (shorter (bytes v) rest bound lt3),
-    ) refl)
+  pub pairs_again : (ps : Pairs) (x : List ℕ) → EachPair Whole ps
+      → length (bytes_pairs ps ++ x) < bound
+      → pairs_at item (pair_count ps) (bytes_pairs ps ++ x) ≡ Ok (ps, x)
+  unfolding pairs_at
+  pairs_again no_pairs x w lt = refl
+  pairs_again (pair k v ps) x w lt =
+      let rest : List ℕ = bytes_pairs ps ++ x in
+      let same = pair_split (bytes k) (bytes v) (bytes_pairs ps) x in
+      let lt2 : length (bytes k ++ (bytes v ++ rest)) < bound =
+      subst (λ y. length y < bound) same lt in
+      let lt3 : length (bytes v ++ rest) < bound = shorter (bytes k) (bytes v ++ rest) bound lt2 in
+      rw (
+        same,
+        a k (bytes v ++ rest) w.0 lt2,
+        a v rest w.1 lt3,
+        pairs_again ps x w.2 (shorter (bytes v) rest bound lt3),
+      ) refl
+
+  module _ (s : StartNoBreak Whole) where
+    -- where the bytes are no more than the turns, these are enough
+    pub indefinite_trees_again : (ts : Trees) (n : ℕ) (x : List ℕ)
+        → Each Whole ts → length (bytes_all ts ++ break ∷ x) ≤ n
+        → length (bytes_all ts ++ break ∷ x) < bound
+        → indefinite_trees_at item n (bytes_all ts ++ break ∷ x) ≡ Ok (ts, x)
+    indefinite_trees_again no_trees zero x w more lt = absurd (omega arith)
+    indefinite_trees_again no_trees (suc n) x w more lt = indefinite_end item n x
+    indefinite_trees_again (tree t ts) zero x w more lt =
+        absurd (omega (arith, length-append (bytes t ++ bytes_all ts) (break ∷ x)))
+    indefinite_trees_again (tree t ts) (suc n) x w more lt =
+        let rest : List ℕ = bytes_all ts ++ break ∷ x in
+        let same : (bytes t ++ bytes_all ts) ++ break ∷ x ≡ bytes t ++ rest =
+        append_assoc (bytes t) (bytes_all ts) (break ∷ x) in
+        let lt2 : length (bytes t ++ rest) < bound = subst (λ y. length y < bound) same lt in
+        let fewer : length rest ≤ n =
+        omega (arith, ap length same, length-append (bytes t) rest, length-bytes-pos t) in
+        ap (indefinite_trees_at item (suc n)) same
+        ∙ (indefinite_turn item n (bytes t) rest (s t w.0) ∙ rw (
+          a t rest w.0 lt2,
+          indefinite_trees_again ts n x w.1 fewer (shorter (bytes t) rest bound lt2),
+        ) refl)
+
+    pub indefinite_pairs_again : (ps : Pairs) (n : ℕ) (x : List ℕ)
+        → EachPair Whole ps → length (bytes_pairs ps ++ break ∷ x) ≤ n
+        → length (bytes_pairs ps ++ break ∷ x) < bound
+        → indefinite_pairs_at item n (bytes_pairs ps ++ break ∷ x) ≡ Ok (ps, x)
+    indefinite_pairs_again no_pairs zero x w more lt = absurd (omega arith)
+    indefinite_pairs_again no_pairs (suc n) x w more lt =
+        indefinite_pairs_end item n x
+    indefinite_pairs_again (pair k v ps) zero x w more lt =
+        absurd (omega (arith, length-append (bytes k ++ (bytes v ++ bytes_pairs ps)) (break ∷ x)))
+    indefinite_pairs_again (pair k v ps) (suc n) x w more lt =
+        let rest : List ℕ = bytes_pairs ps ++ break ∷ x in
+        let same : (bytes k ++ (bytes v ++ bytes_pairs ps)) ++ break ∷ x ≡ bytes k
+        ++ (bytes v ++ rest) = pair_split (bytes k) (bytes v) (bytes_pairs ps) (break ∷ x) in
+        let lt2 : length (bytes k ++ (bytes v ++ rest)) < bound =
+        subst (λ y. length y < bound) same lt in
+        let lt3 : length (bytes v ++ rest) < bound =
+        shorter (bytes k) (bytes v ++ rest) bound lt2 in
+        let fewer : length rest ≤ n = omega (
+          arith,
+          ap length same,
+          length-append (bytes k)
+              (bytes v ++ rest),
+          length-append (bytes v) rest,
+          length-bytes-pos k,
+        ) in
+        ap (indefinite_pairs_at item (suc n)) same
+        ∙ (indefinite_pair_turn item n (bytes k) (bytes v ++ rest) (s k w.0)
+        ∙ rw (
+          a k (bytes v ++ rest) w.0 lt2,
+          a v rest w.1 lt3,
+          indefinite_pairs_again ps n x w.2 fewer (shorter (bytes v) rest bound lt3),
+        ) refl)

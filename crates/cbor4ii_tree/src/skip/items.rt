@@ -1,18 +1,18 @@
 //! Items skipped, those that hold others with all that they hold: one cycle of calls.
-ghost use Rattle.std.specs.Prelude.{◌+◌, ◌*◌, ◌≤◌, OnOk, OnSome, IfSome, IsTrue};
+ghost use Rattle.std.specs.Prelude.{◌+◌, ◌*◌, ◌≤◌, OnOk, IsTrue};
 ghost use Rattle.cbor4ii_rw.specs.Reader.{KeepsAllButBudget};
+ghost use Rattle.cbor4ii_tree.specs.Ahead.{Awaits, SkipsSome, RejectsSome, SkipsSomeUnder};
+ghost use Rattle.cbor4ii_tree.specs.Ahead.{RejectsSomeUnder, GoesUnder, CountsSome, CountsWent};
 ghost use Rattle.cbor4ii_tree.specs.Cost.{Budget};
 ghost use Rattle.cbor4ii_tree.specs.Deeper.{Deeper, GoesOn, budgeted};
-ghost use Rattle.cbor4ii_tree.specs.Does.{Does, Spares, answered, done};
+ghost use Rattle.cbor4ii_tree.specs.Does.{Does, DoesApart, Lowers, MayStay, Spares, Taking};
+ghost use Rattle.cbor4ii_tree.specs.Does.{answered, done};
 ghost use Rattle.cbor4ii_tree.specs.Skipping.{SkipsOne, RejectsSkippingOne, SkipsItems};
 ghost use Rattle.cbor4ii_tree.specs.Skipping.{RejectsSkippingItems, SkipsIndefinite};
 ghost use Rattle.cbor4ii_tree.specs.Skipping.{RejectsSkippingIndefinite, SkipsMembers};
 ghost use Rattle.cbor4ii_tree.specs.Skipping.{RejectsSkippingMembers, SkipsUnder};
 ghost use Rattle.cbor4ii_tree.specs.Skipping.{RejectsSkippingUnder, SkipsAfter};
 ghost use Rattle.cbor4ii_tree.specs.Skipping.{RejectsSkippingAfter};
-ghost use Rattle.cbor4ii_tree.specs.Ahead.{Awaits, CountsAmong, SkipsSome, RejectsSome};
-ghost use Rattle.cbor4ii_tree.specs.Ahead.{SkipsSomeUnder, RejectsSomeUnder, GoesUnder, CountsWent};
-ghost use Rattle.cbor4ii_tree.specs.Ahead.{Gains};
 
 use crate::ahead::{Ahead, Among};
 use crate::prefix::Prefix;
@@ -61,13 +61,9 @@ fn skip_one<S: Source, F: Prefix<S>>(
     reader: &mut S,
     failure: &mut Option<DecodeError<S::Error>>,
 ) -> bool
-    ensures does { Does (λ xs _ ys. SkipsOne (F.view prefix.old reader.old).budget xs ys)
-        (RejectsSkippingOne (F.view prefix.old reader.old).budget)
-        (F.view prefix.old reader.old) (F.view prefix.new reader.new) (done result failure.new) }
-    ensures spares { Spares (done result failure.new) }
-    ensures progress { IsTrue result →
-        (F.view prefix.new reader.new).bound + 1 ≤ (F.view prefix.old reader.old).bound }
-    ensures stays { IsTrue F.apart → KeepsAllButBudget (S.view reader.old) (S.view reader.new) }
+    ensures { DoesApart (Taking SkipsOne) RejectsSkippingOne Lowers
+        F.apart (S.view reader.old) (S.view reader.new) (F.view prefix.old reader.old)
+        (F.view prefix.new reader.new) (done result failure.new) }
 {
     match skip_some(prefix, reader, Among::Items(1), failure) {
         Some(_) => true,
@@ -85,15 +81,9 @@ fn skip_some<S: Source, F: Prefix<S>>(
     failure: &mut Option<DecodeError<S::Error>>,
 ) -> Option<u64>
     requires { Awaits among }
-    ensures does { Does (SkipsSome among (F.view prefix.old reader.old).budget)
-        (RejectsSome among (F.view prefix.old reader.old).budget)
-        (F.view prefix.old reader.old) (F.view prefix.new reader.new)
-        (answered result failure.new) }
-    ensures spares { Spares (answered result failure.new) }
-    ensures counts { IfSome result (λ n. CountsAmong among n) }
-    ensures progress { IfSome result (λ n. 1 ≤ n →
-        (F.view prefix.new reader.new).bound + 1 ≤ (F.view prefix.old reader.old).bound) }
-    ensures stays { IsTrue F.apart → KeepsAllButBudget (S.view reader.old) (S.view reader.new) }
+    ensures { DoesApart (SkipsSome among) (RejectsSome among) (CountsSome among)
+        F.apart (S.view reader.old) (S.view reader.new) (F.view prefix.old reader.old)
+        (F.view prefix.new reader.new) (answered result failure.new) }
 {
     if !reader.step_in() {
         return skip_without_step(prefix, reader, among, failure);
@@ -113,15 +103,9 @@ fn some_inside<S: Source, F: Prefix<S>>(
     failure: &mut Option<DecodeError<S::Error>>,
 ) -> Option<u64>
     requires { Awaits among }
-    ensures does { Does (SkipsSomeUnder among (F.view prefix.old reader.old).budget)
-        (RejectsSomeUnder among (F.view prefix.old reader.old).budget)
-        (F.view prefix.old reader.old) (F.view prefix.new reader.new)
-        (answered result failure.new) }
-    ensures spares { Spares (answered result failure.new) }
-    ensures counts { IfSome result (λ n. CountsAmong among n) }
-    ensures progress { IfSome result (λ n. 1 ≤ n →
-        (F.view prefix.new reader.new).bound + 1 ≤ (F.view prefix.old reader.old).bound) }
-    ensures stays { IsTrue F.apart → KeepsAllButBudget (S.view reader.old) (S.view reader.new) }
+    ensures { DoesApart (SkipsSomeUnder among) (RejectsSomeUnder among) (CountsSome among)
+        F.apart (S.view reader.old) (S.view reader.new) (F.view prefix.old reader.old)
+        (F.view prefix.new reader.new) (answered result failure.new) }
 {
     match go_some(prefix, reader, among, failure) {
         Some(Went::Past(count)) => Some(count),
@@ -146,15 +130,9 @@ fn go_some<S: Source, F: Prefix<S>>(
     failure: &mut Option<DecodeError<S::Error>>,
 ) -> Option<Went>
     requires { Awaits among }
-    ensures does { Does (GoesUnder among (F.view prefix.old reader.old).budget)
-        (RejectsSomeUnder among (F.view prefix.old reader.old).budget)
-        (F.view prefix.old reader.old) (F.view prefix.new reader.new)
-        (answered result failure.new) }
-    ensures spares { Spares (answered result failure.new) }
-    ensures counts { IfSome result (λ went. CountsWent among went) }
-    ensures progress { IfSome result (λ went. Gains went
-        (F.view prefix.old reader.old).bound (F.view prefix.new reader.new).bound) }
-    ensures stays { IsTrue F.apart → KeepsAllButBudget (S.view reader.old) (S.view reader.new) }
+    ensures { DoesApart (GoesUnder among) (RejectsSomeUnder among) (CountsWent among)
+        F.apart (S.view reader.old) (S.view reader.new) (F.view prefix.old reader.old)
+        (F.view prefix.new reader.new) (answered result failure.new) }
 {
     match take_ahead(prefix, reader, among, failure) {
         Some(Ahead::Run(count, _)) => Some(Went::Past(count)),
@@ -184,12 +162,9 @@ fn skip_after<S: Source, F: Prefix<S>>(
     trailing: After,
     failure: &mut Option<DecodeError<S::Error>>,
 ) -> bool
-    ensures does { Does (λ xs _ ys. SkipsAfter trailing (F.view prefix.old reader.old).budget xs ys)
-        (RejectsSkippingAfter trailing (F.view prefix.old reader.old).budget)
-        (F.view prefix.old reader.old) (F.view prefix.new reader.new)
-        (done result failure.new) }
-    ensures spares { Spares (done result failure.new) }
-    ensures stays { IsTrue F.apart → KeepsAllButBudget (S.view reader.old) (S.view reader.new) }
+    ensures { DoesApart (Taking (SkipsAfter trailing)) (RejectsSkippingAfter trailing) MayStay
+        F.apart (S.view reader.old) (S.view reader.new) (F.view prefix.old reader.old)
+        (F.view prefix.new reader.new) (done result failure.new) }
 {
     match trailing {
         After::Nothing => true,
@@ -209,12 +184,9 @@ fn skip_items<S: Source, F: Prefix<S>>(
     count: u64,
     failure: &mut Option<DecodeError<S::Error>>,
 ) -> bool
-    ensures does { Does (λ xs _ ys. SkipsItems count (F.view prefix.old reader.old).budget xs ys)
-        (RejectsSkippingItems count (F.view prefix.old reader.old).budget)
-        (F.view prefix.old reader.old) (F.view prefix.new reader.new)
-        (done result failure.new) }
-    ensures spares { Spares (done result failure.new) }
-    ensures stays { IsTrue F.apart → KeepsAllButBudget (S.view reader.old) (S.view reader.new) }
+    ensures { DoesApart (Taking (SkipsItems count)) (RejectsSkippingItems count) MayStay
+        F.apart (S.view reader.old) (S.view reader.new) (F.view prefix.old reader.old)
+        (F.view prefix.new reader.new) (done result failure.new) }
 {
     let (done, depth) = skip_inward(prefix, reader, count, failure);
     give_back(reader, depth);
@@ -231,15 +203,12 @@ fn skip_inward<S: Source, F: Prefix<S>>(
     count: u64,
     failure: &mut Option<DecodeError<S::Error>>,
 ) -> (bool, u64)
-    ensures does { Does (λ xs _ ys. SkipsItems count (F.view prefix.old reader.old).budget xs ys)
-        (RejectsSkippingItems count (F.view prefix.old reader.old).budget)
-        (F.view prefix.old reader.old)
+    ensures skips { DoesApart (Taking (SkipsItems count)) (RejectsSkippingItems count) MayStay
+        F.apart (S.view reader.old) (S.view reader.new) (F.view prefix.old reader.old)
         (budgeted (F.view prefix.old reader.old).budget (F.view prefix.new reader.new))
         (done result.0 failure.new) }
-    ensures spares { Spares (done result.0 failure.new) }
     ensures deeper { Deeper result.1 (F.view prefix.old reader.old).budget
         (F.view prefix.new reader.new).budget }
-    ensures stays { IsTrue F.apart → KeepsAllButBudget (S.view reader.old) (S.view reader.new) }
 {
     let mut depth = 0;
     let mut left = count;
@@ -265,19 +234,14 @@ fn skip_next<S: Source, F: Prefix<S>>(
     failure: &mut Option<DecodeError<S::Error>>,
 ) -> Option<u64>
     requires { 1 ≤ left }
-    ensures does { Does
-        (GoesOn left (F.view prefix.old reader.old).budget (F.view prefix.new reader.new).budget)
-        (RejectsSkippingItems left (F.view prefix.old reader.old).budget)
-        (F.view prefix.old reader.old)
+    ensures skips { DoesApart (GoesOn left (F.view prefix.new reader.new).budget)
+        (RejectsSkippingItems left) Lowers
+        F.apart (S.view reader.old) (S.view reader.new) (F.view prefix.old reader.old)
         (budgeted (F.view prefix.old reader.old).budget (F.view prefix.new reader.new))
         (answered result failure.new) }
-    ensures spares { Spares (answered result failure.new) }
-    ensures progress { OnSome result
-        ((F.view prefix.new reader.new).bound + 1 ≤ (F.view prefix.old reader.old).bound) }
     ensures deeper { (outer : Budget) →
         Deeper depth.old outer (F.view prefix.old reader.old).budget →
         Deeper depth.new outer (F.view prefix.new reader.new).budget }
-    ensures stays { IsTrue F.apart → KeepsAllButBudget (S.view reader.old) (S.view reader.new) }
 {
     if !reader.step_in() {
         return skip_without_step(prefix, reader, Among::Items(left), failure);
@@ -311,13 +275,9 @@ fn skip_members<S: Source, F: Prefix<S>>(
     count: u64,
     failure: &mut Option<DecodeError<S::Error>>,
 ) -> bool
-    ensures does { Does
-        (λ xs _ ys. SkipsItems (2 * count) (F.view prefix.old reader.old).budget xs ys)
-        (RejectsSkippingItems (2 * count) (F.view prefix.old reader.old).budget)
-        (F.view prefix.old reader.old) (F.view prefix.new reader.new)
-        (done result failure.new) }
-    ensures spares { Spares (done result failure.new) }
-    ensures stays { IsTrue F.apart → KeepsAllButBudget (S.view reader.old) (S.view reader.new) }
+    ensures { DoesApart (Taking (SkipsItems (2 * count))) (RejectsSkippingItems (2 * count)) MayStay
+        F.apart (S.view reader.old) (S.view reader.new) (F.view prefix.old reader.old)
+        (F.view prefix.new reader.new) (done result failure.new) }
 {
     let mut left = count;
     while left > 0 {
@@ -343,12 +303,9 @@ fn skip_indefinite<S: Source, F: Prefix<S>>(
     reader: &mut S,
     failure: &mut Option<DecodeError<S::Error>>,
 ) -> bool
-    ensures does { Does (λ xs _ ys. SkipsIndefinite (F.view prefix.old reader.old).budget xs ys)
-        (RejectsSkippingIndefinite (F.view prefix.old reader.old).budget)
-        (F.view prefix.old reader.old) (F.view prefix.new reader.new)
-        (done result failure.new) }
-    ensures spares { Spares (done result failure.new) }
-    ensures stays { IsTrue F.apart → KeepsAllButBudget (S.view reader.old) (S.view reader.new) }
+    ensures { DoesApart (Taking SkipsIndefinite) RejectsSkippingIndefinite MayStay
+        F.apart (S.view reader.old) (S.view reader.new) (F.view prefix.old reader.old)
+        (F.view prefix.new reader.new) (done result failure.new) }
 {
     loop {
         match skip_some(prefix, reader, Among::IndefiniteItems, failure) {
@@ -366,12 +323,9 @@ fn skip_indefinite_members<S: Source, F: Prefix<S>>(
     reader: &mut S,
     failure: &mut Option<DecodeError<S::Error>>,
 ) -> bool
-    ensures does { Does (λ xs _ ys. SkipsMembers (F.view prefix.old reader.old).budget xs ys)
-        (RejectsSkippingMembers (F.view prefix.old reader.old).budget)
-        (F.view prefix.old reader.old) (F.view prefix.new reader.new)
-        (done result failure.new) }
-    ensures spares { Spares (done result failure.new) }
-    ensures stays { IsTrue F.apart → KeepsAllButBudget (S.view reader.old) (S.view reader.new) }
+    ensures { DoesApart (Taking SkipsMembers) RejectsSkippingMembers MayStay
+        F.apart (S.view reader.old) (S.view reader.new) (F.view prefix.old reader.old)
+        (F.view prefix.new reader.new) (done result failure.new) }
 {
     loop {
         let some = match skip_some(prefix, reader, Among::IndefinitePairs, failure) {
@@ -401,15 +355,9 @@ fn skip_unseen<S: Source, F: Prefix<S>>(
     failure: &mut Option<DecodeError<S::Error>>,
 ) -> Option<u64>
     requires { Awaits among }
-    ensures does { Does (SkipsSomeUnder among (F.view prefix.old reader.old).budget)
-        (RejectsSomeUnder among (F.view prefix.old reader.old).budget)
-        (F.view prefix.old reader.old) (F.view prefix.new reader.new)
-        (answered result failure.new) }
-    ensures spares { Spares (answered result failure.new) }
-    ensures counts { IfSome result (λ n. CountsAmong among n) }
-    ensures progress { IfSome result (λ n. 1 ≤ n →
-        (F.view prefix.new reader.new).bound + 1 ≤ (F.view prefix.old reader.old).bound) }
-    ensures stays { IsTrue F.apart → KeepsAllButBudget (S.view reader.old) (S.view reader.new) }
+    ensures { DoesApart (SkipsSomeUnder among) (RejectsSomeUnder among) (CountsSome among)
+        F.apart (S.view reader.old) (S.view reader.new) (F.view prefix.old reader.old)
+        (F.view prefix.new reader.new) (answered result failure.new) }
 {
     let ended = match part(ends(prefix, reader, among), failure) {
         Some(ended) => ended,
@@ -431,14 +379,9 @@ fn skip_inside<S: Source, F: Prefix<S>>(
     reader: &mut S,
     failure: &mut Option<DecodeError<S::Error>>,
 ) -> bool
-    ensures does { Does (λ xs _ ys. SkipsUnder (F.view prefix.old reader.old).budget xs ys)
-        (RejectsSkippingUnder (F.view prefix.old reader.old).budget)
-        (F.view prefix.old reader.old) (F.view prefix.new reader.new)
-        (done result failure.new) }
-    ensures spares { Spares (done result failure.new) }
-    ensures progress { IsTrue result →
-        ((F.view prefix.new reader.new).bound + 1 ≤ (F.view prefix.old reader.old).bound) }
-    ensures stays { IsTrue F.apart → KeepsAllButBudget (S.view reader.old) (S.view reader.new) }
+    ensures { DoesApart (Taking SkipsUnder) RejectsSkippingUnder Lowers
+        F.apart (S.view reader.old) (S.view reader.new) (F.view prefix.old reader.old)
+        (F.view prefix.new reader.new) (done result failure.new) }
 {
     match part(skip_head(prefix, reader), failure) {
         Some(trailing) => skip_after(prefix, reader, trailing, failure),

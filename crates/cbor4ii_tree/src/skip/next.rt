@@ -1,6 +1,6 @@
 //! What comes next, taken.
-ghost use Rattle.std.specs.Prelude.{◌≡◌, IfSome, IsTrue, codes};
-ghost use Rattle.cbor4ii_tree.specs.Does.{Does, Spares, answered, done};
+ghost use Rattle.std.specs.Prelude.{◌≡◌, IsTrue, codes};
+ghost use Rattle.cbor4ii_tree.specs.Does.{Does, DoesApart, Spares, answered, done};
 ghost use Rattle.cbor4ii_tree.specs.Ahead.{TakesAhead, Passes, NeverRejects};
 ghost use Rattle.cbor4ii_tree.specs.HeadParts.{DropsBytes};
 ghost use Rattle.cbor4ii_tree.specs.Rejections.{Missing};
@@ -20,13 +20,9 @@ pub(crate) fn take_ahead<S: Source, F: Prefix<S>>(
     among: Among,
     failure: &mut Option<DecodeError<S::Error>>,
 ) -> Option<Ahead>
-    ensures does { Does (TakesAhead among (F.view prefix.old reader.old).budget) NeverRejects
-        (F.view prefix.old reader.old) (F.view prefix.new reader.new)
-        (answered result failure.new) }
-    ensures spares { Spares (answered result failure.new) }
-    ensures passes { IfSome result (λ seen. Passes among seen (F.view prefix.old reader.old).bound
-        (F.view prefix.new reader.new).bound) }
-    ensures stays { IsTrue F.apart → S.view reader.new ≡ S.view reader.old }
+    ensures { DoesApart (TakesAhead among) (λ _. NeverRejects) (Passes among)
+        F.apart (S.view reader.old) (S.view reader.new) (F.view prefix.old reader.old)
+        (F.view prefix.new reader.new) (answered result failure.new) }
 {
     match prefix.ahead(reader, among) {
         Ok(Ahead::Run(count, size)) => {

@@ -1,10 +1,10 @@
 //! Steps: an item where none is left, and many that are given back.
-ghost use Rattle.std.specs.Prelude.{◌≡◌, Some, IfSome, IsTrue};
+ghost use Rattle.std.specs.Prelude.{◌≡◌, Some};
 ghost use Rattle.cbor4ii_rw.specs.Reader.{KeepsAllButBudget};
 ghost use Rattle.cbor4ii_tree.specs.Cost.{Budget};
 ghost use Rattle.cbor4ii_tree.specs.Deeper.{Deeper};
-ghost use Rattle.cbor4ii_tree.specs.Does.{Does, Spares, answered};
-ghost use Rattle.cbor4ii_tree.specs.Ahead.{Awaits, CountsAmong, SkipsSome, RejectsSome};
+ghost use Rattle.cbor4ii_tree.specs.Does.{DoesApart, answered};
+ghost use Rattle.cbor4ii_tree.specs.Ahead.{Awaits, CountsNone, SkipsSome, RejectsSome};
 
 use crate::ahead::Among;
 use crate::prefix::Prefix;
@@ -24,13 +24,10 @@ pub(crate) fn skip_without_step<S: Source, F: Prefix<S>>(
 ) -> Option<u64>
     requires awaits { Awaits among }
     requires no_step { (F.view prefix.old reader.old).budget ≡ Some 0 }
-    ensures does { Does (SkipsSome among (Some 0)) (RejectsSome among (Some 0))
+    ensures { DoesApart (λ _. SkipsSome among (Some 0)) (λ _. RejectsSome among (Some 0))
+        (CountsNone among) F.apart (S.view reader.old) (S.view reader.new)
         (F.view prefix.old reader.old) (F.view prefix.new reader.new)
         (answered result failure.new) }
-    ensures spares { Spares (answered result failure.new) }
-    ensures counts { IfSome result (λ n. CountsAmong among n) }
-    ensures none { IfSome result (λ n. n ≡ 0) }
-    ensures stays { IsTrue F.apart → S.view reader.new ≡ S.view reader.old }
 {
     let ended = match part(ends(prefix, reader, among), failure) {
         Some(ended) => ended,

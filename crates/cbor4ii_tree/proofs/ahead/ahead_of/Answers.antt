@@ -1,5 +1,4 @@
-use Rattle.std.proofs.Common.{arith, w8}
-use Rattle.std.proofs.Math.Facts.{Fits-lt-pow}
+use Rattle.std.proofs.{Common.{arith, w8}, Math.Facts.Fits-lt-pow}
 use Rattle.cbor4ii_items.specs.Laws.Contents.{first_bytes}
 use Rattle.cbor4ii_tree.proofs.ahead.ahead_of.Goals as goal
 

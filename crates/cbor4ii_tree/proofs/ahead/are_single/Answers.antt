@@ -1,5 +1,4 @@
-use Rattle.std.proofs.Common.{◌≡◌, ◌+◌, ◌*◌, ◌∙◌, arith, w8}
-use Rattle.std.proofs.Math.Facts.{Fits-lt-pow}
+use Rattle.std.proofs.{Common.{◌≡◌, ◌+◌, ◌*◌, ◌∙◌, arith, w8}, Math.Facts.Fits-lt-pow}
 use Rattle.std.proofs.lemmas.Bool.{eqb-true}
 use Rattle.cbor4ii_tree.proofs.skip_calls.Leaves.{leaf_at}
 use Rattle.cbor4ii_tree.proofs.ahead.are_single.Goals as goal

@@ -1,13 +1,12 @@
-use Rattle.std.proofs.Common.{arith, sym, ◌∙◌}
-use Rattle.cbor4ii_tree.proofs.skip_calls.Glancing.{sees_indefinite, sees_indefinite_members}
+use Rattle.std.proofs.Common.{arith, refl, sym, ◌∙◌}
+use Rattle.cbor4ii_tree.proofs.skip_calls.Glancing.{sees_alone}
+use Rattle.cbor4ii_tree.specs.declared.skip.initial.Start.TheVariants as start
 use Rattle.cbor4ii_tree.proofs.ahead.indefinite_head_of.Goals as goal
 
 pub returns-in-Indefinite : goal.returns-in-Indefinite
-returns-in-Indefinite c =
-    λ among rest. sees_indefinite c.args.first rest (omega arith)
-    (sym c.start_of.ensures ∙ c.in-Indefinite.is)
+returns-in-Indefinite c = λ among rest. sees_alone c.args.first rest (omega arith) start.Indefinite
+    (sym c.start_of.ensures ∙ c.in-Indefinite.is) refl tt
 
 pub returns-in-IndefiniteMembers : goal.returns-in-IndefiniteMembers
-returns-in-IndefiniteMembers c =
-    λ among rest. sees_indefinite_members c.args.first rest (omega arith)
-    (sym c.start_of.ensures ∙ c.in-IndefiniteMembers.is)
+returns-in-IndefiniteMembers c = λ among rest. sees_alone c.args.first rest (omega arith)
+    start.IndefiniteMembers (sym c.start_of.ensures ∙ c.in-IndefiniteMembers.is) refl tt

@@ -1,36 +1,29 @@
-use Rattle.std.proofs.Common.{arith, sym, ◌∙◌, w8}
-use Rattle.std.proofs.Math.Facts.{Fits-lt-pow}
-use Rattle.cbor4ii_tree.proofs.skip_calls.Leaves.{shown_bytes}
-use Rattle.cbor4ii_tree.proofs.skip_calls.Glancing.{sees_string, sees_content, sees_items}
-use Rattle.cbor4ii_tree.proofs.skip_calls.Glancing.{sees_members, sees_tag}
+use Rattle.std.proofs.{Common.{arith, refl, sym, ◌∙◌, w8}, Math.Facts.Fits-lt-pow}
+use Rattle.cbor4ii_tree.proofs.skip_calls.{Leaves.shown_bytes, Glancing.{sees_head, sees_content}}
+use Rattle.cbor4ii_tree.specs.declared.skip.initial.Start.TheVariants as start
 use Rattle.cbor4ii_tree.proofs.ahead.wide_head_of.Goals as goal
 
 pub returns-then-argument-rest : goal.returns-then-argument-rest
-returns-then-argument-rest c = λ among.
-    sees_string c.args.first c.in-Some.argument c.in-Some.size c.args.rest.now (omega arith)
-    (shown_bytes c.args.rest.now (λ i. Fits-lt-pow {w = w8} (c.type_inv.rest i)))
-    c.in-Some.ensures.some (sym c.start_of.ensures ∙ c.in-Content.is)
+returns-then-argument-rest c = λ among. sees_head _ _ _ _ (omega arith)
+    (shown_bytes _ (λ i. Fits-lt-pow {w = w8} (c.type_inv.rest i))) c.in-Some.ensures.some
+    start.Content (sym c.start_of.ensures ∙ c.in-Content.is) refl (λ j e. cc)
 
 pub returns-else-argument-rest : goal.returns-else-argument-rest
-returns-else-argument-rest c = λ among.
-    sees_content c.args.first c.in-Some.argument c.in-Some.size c.args.rest.now (omega arith)
-    (shown_bytes c.args.rest.now (λ i. Fits-lt-pow {w = w8} (c.type_inv.rest i)))
-    c.in-Some.ensures.some (sym c.start_of.ensures ∙ c.in-Content.is) (omega arith)
+returns-else-argument-rest c = λ among. sees_content _ _ _ _ (omega arith)
+    (shown_bytes _ (λ i. Fits-lt-pow {w = w8} (c.type_inv.rest i))) c.in-Some.ensures.some
+    (sym c.start_of.ensures ∙ c.in-Content.is) (omega arith)
 
 pub returns-in-Items : goal.returns-in-Items
-returns-in-Items c =
-    λ among. sees_items c.args.first c.in-Some.argument c.in-Some.size c.args.rest.now (omega arith)
-    (shown_bytes c.args.rest.now (λ i. Fits-lt-pow {w = w8} (c.type_inv.rest i)))
-    c.in-Some.ensures.some (sym c.start_of.ensures ∙ c.in-Items.is)
+returns-in-Items c = λ among. sees_head _ _ _ _ (omega arith)
+    (shown_bytes _ (λ i. Fits-lt-pow {w = w8} (c.type_inv.rest i))) c.in-Some.ensures.some
+    start.Items (sym c.start_of.ensures ∙ c.in-Items.is) refl (λ j e. cc)
 
 pub returns-in-Members : goal.returns-in-Members
-returns-in-Members c = λ among.
-    sees_members c.args.first c.in-Some.argument c.in-Some.size c.args.rest.now (omega arith)
-    (shown_bytes c.args.rest.now (λ i. Fits-lt-pow {w = w8} (c.type_inv.rest i)))
-    c.in-Some.ensures.some (sym c.start_of.ensures ∙ c.in-Members.is)
+returns-in-Members c = λ among. sees_head _ _ _ _ (omega arith)
+    (shown_bytes _ (λ i. Fits-lt-pow {w = w8} (c.type_inv.rest i))) c.in-Some.ensures.some
+    start.Members (sym c.start_of.ensures ∙ c.in-Members.is) refl (λ j e. cc)
 
 pub returns-in-Tag : goal.returns-in-Tag
-returns-in-Tag c =
-    λ among. sees_tag c.args.first c.in-Some.argument c.in-Some.size c.args.rest.now (omega arith)
-    (shown_bytes c.args.rest.now (λ i. Fits-lt-pow {w = w8} (c.type_inv.rest i)))
-    c.in-Some.ensures.some (sym c.start_of.ensures ∙ c.in-Tag.is)
+returns-in-Tag c = λ among. sees_head _ _ _ _ (omega arith)
+    (shown_bytes _ (λ i. Fits-lt-pow {w = w8} (c.type_inv.rest i))) c.in-Some.ensures.some
+    start.Tag (sym c.start_of.ensures ∙ c.in-Tag.is) refl (λ j e. cc)

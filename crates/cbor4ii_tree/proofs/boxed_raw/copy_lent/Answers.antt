@@ -1,7 +1,7 @@
 use Rattle.std.proofs.Common.{inl, inr, refl, ap, ◌∙◌, take, List, ℕ}
 use Rattle.cbor4ii_tree.specs.BoxedRaw.{boxed_content}
-use Rattle.cbor4ii_tree.proofs.{raw_items.Copied.none_read, raw_items.Unlent.none_rejects}
-use Rattle.cbor4ii_tree.proofs.raw_items.Captured.{captured, stopped_in}
+use Rattle.cbor4ii_tree.proofs.raw_items.{Copied.none_read, Unlent.none_rejects, Captured.captured}
+use Rattle.cbor4ii_tree.proofs.raw_items.Captured.{stopped_in}
 use Rattle.cbor4ii_tree.proofs.boxed_raw.copy_lent.Goals as goal
 
 pub returns-in-Ok-from_slice-clause-copies : goal.returns-in-Ok-from_slice-clause-copies
@@ -23,8 +23,7 @@ returns-in-Ok-clause-copies g c =
       item = take c.in-Ok.size (g.S.Long.AsSlice.items c.in-Ok-Some.long);
       captured = captured (λ (bytes : List ℕ). bytes)
           (rw c.in-Ok-Some.field-0-is at c.in-Ok-Some.ensures.fills) c.as_slice.ensures
-          c.in-Ok.ensures.skips c.in-Ok.ensures.stays c.in-Ok.ensures.budget c.advance.ensures
-          refl;
+          c.in-Ok.ensures.skips c.in-Ok.ensures.stays c.in-Ok.ensures.budget c.advance.ensures refl;
     })
 
 pub returns-in-Ok-clause-unlent : goal.returns-in-Ok-clause-unlent

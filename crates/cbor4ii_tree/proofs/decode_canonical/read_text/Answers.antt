@@ -1,16 +1,16 @@
 use Rattle.std.proofs.Common.{ℕ, ap, sym, refl, inl, subst, Vec, Global}
-use Rattle.std.proofs.lemmas.Result.{err_from_is_err_and}
 use Rattle.cbor4ii_items.specs.{Initial.text_string, Shortest.RejectsShortestString}
 use Rattle.cbor4ii_tree.specs.{CanonicalRejects.CanonicalTextRejects, InputError.require_utf8}
-use Rattle.cbor4ii_tree.specs.{CanonicalCalls.{StringAt, TextAt}, InputError.kind_name}
+use Rattle.cbor4ii_tree.specs.{InputError.kind_name, CanonicalCalls.{StringAt, TextAt}}
 use Rattle.cbor4ii_tree.proofs.{canonical.Calls.{reached_string, no_text}, skip_calls.Doing.does_ok}
 use Rattle.cbor4ii_tree.proofs.skip_calls.Doing.{does_reject, reached_as, call_rejects}
+use Rattle.cbor4ii_tree.proofs.values.Answered.{passed}
 use Rattle.cbor4ii_tree.proofs.decode_canonical.read_text.Goals as goal
 
 pub returns-in_err-canonical_buf-clause-does : goal.returns-in_err-canonical_buf-clause-does
 returns-in_err-canonical_buf-clause-does g c =
-    let p = err_from_is_err_and c.from_residual.result c.from_residual.ensures.1 in
-    rw (p.1, p.2) (call_rejects (TextAt (g.S.Source.view c.args.reader.now).budget)
+    passed _ c.from_residual.ensures.1 (call_rejects (TextAt (g.S.Source.view
+    c.args.reader.now).budget)
     (RejectsShortestString (kind_name text_string) 3)
     (CanonicalTextRejects (g.S.Source.view c.args.reader.now).budget) (λ xs z rest h. inl h)
     c.in_err-canonical_buf.ensures.moves c.in_err-canonical_buf.ensures.begins)

@@ -1,7 +1,6 @@
 use Rattle.std.proofs.Common.{◌+◌, ◌*◌, ◌≤◌, length}
-use Rattle.cbor4ii_tree.specs.{Item.{AreItems, AreMembers}, LeafRuns.flat, Valuing.ReadsItems}
-use Rattle.cbor4ii_tree.specs.View.{items_view, members_view}
-use Rattle.cbor4ii_tree.proofs.{skip_calls.Doing.Reached, values.Parts.{ReadEach, ReadPairs}}
+use Rattle.cbor4ii_tree.specs.{Item.AreItems, LeafRuns.flat, Valuing.flat_values, View.items_view}
+use Rattle.cbor4ii_tree.proofs.{skip_calls.Doing.Reached, values.LeafRuns.ReadEach}
 use Rattle.cbor4ii_tree.proofs.decode_value.+read.Given as goal
 
 abbrev pub decreases-read_value : goal.decreases-read_value
@@ -60,9 +59,8 @@ decreases-members_inside g l = 8 * (g.S.Source.view l.reader.now).bound + 4
 
 abbrev pub invariant-definite_items-loop-alloc : goal.invariant-definite_items-loop-alloc
 invariant-definite_items-loop-alloc g l = record {
-  reached : Reached (λ xs ys. ReadsItems g.A.Encodings.exact (length l.items.items)
-      (g.S.Source.view l.fn.reader).budget xs l.items.items ys) (g.S.Source.view l.fn.reader)
-      (g.S.Source.view l.reader);
+  reached : Reached (ReadEach g.A.Encodings.exact l.items.items (g.S.Source.view
+      l.fn.reader).budget) (g.S.Source.view l.fn.reader) (g.S.Source.view l.reader);
   items : AreItems (items_view l.items.items);
   few : length l.items.items ≤ 1 * l.count;
 }
@@ -72,9 +70,8 @@ decreases-definite_items-loop-alloc g l = (g.S.Source.view l.reader).bound
 
 abbrev pub invariant-definite_members-loop-alloc : goal.invariant-definite_members-loop-alloc
 invariant-definite_members-loop-alloc g l = record {
-  reached : Reached (λ xs ys. ReadsItems g.A.Encodings.exact (length (flat l.pairs))
-      (g.S.Source.view l.fn.reader).budget xs (flat l.pairs) ys) (g.S.Source.view l.fn.reader)
-      (g.S.Source.view l.reader);
+  reached : Reached (ReadEach g.A.Encodings.exact (flat l.pairs) (g.S.Source.view
+      l.fn.reader).budget) (g.S.Source.view l.fn.reader) (g.S.Source.view l.reader);
   items : AreItems (items_view (flat l.pairs));
   few : length (flat l.pairs) ≤ 2 * l.count;
 }
@@ -97,9 +94,10 @@ abbrev pub invariant-indefinite_members-loop-members :
     goal.invariant-indefinite_members-loop-members
 invariant-indefinite_members-loop-members g l =
     record {
-      reached : Reached (ReadPairs g.A.Encodings.exact l.members.items (g.S.Source.view
-          l.fn.reader).budget) (g.S.Source.view l.fn.reader) (g.S.Source.view l.reader);
-      items : AreMembers (members_view l.members.items);
+      reached : Reached (ReadEach g.A.Encodings.exact (flat_values l.members.items)
+          (g.S.Source.view l.fn.reader).budget) (g.S.Source.view l.fn.reader)
+          (g.S.Source.view l.reader);
+      items : AreItems (items_view (flat_values l.members.items));
     }
 
 abbrev pub decreases-indefinite_members-loop-members :

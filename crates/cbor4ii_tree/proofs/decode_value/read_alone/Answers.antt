@@ -5,8 +5,7 @@ use Rattle.cbor4ii_tree.proofs.decode_value.read_alone.Goals as goal
 
 pub returns-then-first-ne-SIMPLE-clause-does : goal.returns-then-first-ne-SIMPLE-clause-does
 returns-then-first-ne-SIMPLE-clause-does g c before shows =
-    rw (sym c.part.ensures)
-    (first_does g.A.Encodings.exact c.args.first shows.runs c.read_leaf.ensures.does)
+    rw (sym c.part.ensures) (first_does _ _ shows.runs c.read_leaf.ensures.does)
 
 pub returns-then-not-accepts_simple-clause-does : goal.returns-then-not-accepts_simple-clause-does
 returns-then-not-accepts_simple-clause-does g c before shows =

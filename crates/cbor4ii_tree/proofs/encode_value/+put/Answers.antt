@@ -1,13 +1,14 @@
-use Rattle.std.specs.Prelude.{string_bytes}
-use Rattle.std.proofs.Common.{◌≡◌, ◌<◌, ◌^◌, length, refl, sym, ap, ◌∙◌, arith, rules}
+use Rattle.std.proofs.Common.{◌≡◌, ◌<◌, ◌^◌, length, sym, ap, ◌∙◌, arith, rules}
 use Rattle.std.proofs.lemmas.Int.{to_z-of_z}
-use mir.{Syntax.w128, Val.{to_z, of_z}}
+use Rattle.std.specs.Prelude.{string_bytes}
+use mir.Syntax.{w128}
+use mir.Val.{to_z, of_z}
 use Rattle.cbor4ii_items.specs.Laws.SequenceBytes.{items_then, items_err}
 use Rattle.cbor4ii_items.specs.Laws.Written.{writes_then, writes_err, writes_as, appends_then}
 use Rattle.cbor4ii_tree.specs.{Item.integer, View.view, Canonical.canonical_encoding}
 use Rattle.cbor4ii_tree.specs.Encoding.{value_bytes, member_bytes}
-use Rattle.cbor4ii_tree.proofs.{values.Encoding.Tag-bytes, values.InRange.items_step}
-use Rattle.cbor4ii_tree.proofs.values.Encoding.{Bool-bytes, view-Integer, Array-bytes, Map-bytes}
+use Rattle.cbor4ii_tree.proofs.values.Encoding.{Tag-bytes, Bool-bytes, view-Integer, Array-bytes}
+use Rattle.cbor4ii_tree.proofs.{values.Encoding.Map-bytes, values.InRange.items_step}
 use Rattle.cbor4ii_tree.proofs.values.InRange.{members_step, array_in_range, map_in_range}
 use Rattle.cbor4ii_tree.proofs.{values.InRange.text_in_range, values.Sent.{on_some, on_any_some}}
 use Rattle.cbor4ii_tree.proofs.encode_value.+put.Goals as goal
@@ -15,29 +16,25 @@ use Rattle.cbor4ii_tree.proofs.encode_value.+put.Goals as goal
 pub put_items-returns-in_err-put_value-clause-writes :
     goal.put_items-returns-in_err-put_value-clause-writes
 put_items-returns-in_err-put_value-clause-writes g t c =
-    rw c.from_residual.ensures (items_err value_bytes c.args.items.now c.loop-item.item-index
-    c.item-item.result c.loop-item-test.true c.item-item.is c.loop-item.invariant.appends
-    c.loop-item.invariant.counts c.in_err-put_value.ensures.writes)
+    rw c.from_residual.ensures (items_err value_bytes _ _ _ c.loop-item-test.true c.item-item.is
+    c.loop-item.invariant.appends c.loop-item.invariant.counts c.in_err-put_value.ensures.writes)
 
 pub put_items-loop-item-preserved : goal.put_items-loop-item-preserved
 put_items-loop-item-preserved g t c = record {
   appends =
-      items_then value_bytes c.args.items.now c.loop-item.item-index c.item-item.result
-      (g.W.Write.view c.args.writer.now).written (g.W.Write.view c.loop-item.writer).written
-      (g.W.Write.view c.put_value.new.writer).written c.loop-item-test.true c.item-item.is
+      items_then value_bytes _ _ _ _ _ _ c.loop-item-test.true c.item-item.is
       c.loop-item.invariant.appends c.in_ok-put_value.ensures.writes.appends;
   counts = c.in_ok-put_value.ensures.writes.counts ∙ c.loop-item.invariant.counts;
   items =
-      items_step c.args.items.now c.loop-item.item-index c.item-item.result c.loop-item-test.true
-      c.item-item.is c.loop-item.invariant.items c.in_ok-put_value.ensures.item;
+      items_step _ _ _ c.loop-item-test.true c.item-item.is c.loop-item.invariant.items
+      c.in_ok-put_value.ensures.item;
 }
 
 pub put_members-returns-in_err-put_value-clause-writes :
     goal.put_members-returns-in_err-put_value-clause-writes
 put_members-returns-in_err-put_value-clause-writes g t c =
-    rw c.from_residual.ensures (items_err member_bytes c.args.members.now c.loop-member.member-index
-    c.member-item.result c.loop-member-test.true c.member-item.is c.loop-member.invariant.appends
-    c.loop-member.invariant.counts (writes_err (value_bytes c.member-item.result.1)
+    rw c.from_residual.ensures (items_err member_bytes _ _ _ c.loop-member-test.true
+    c.member-item.is c.loop-member.invariant.appends c.loop-member.invariant.counts (writes_err _
     c.in_err-put_value.ensures.writes))
 
 pub put_members-returns-in_err-put_value-2-clause-writes :
@@ -50,24 +47,18 @@ put_members-returns-in_err-put_value-2-clause-writes g t c =
 
 pub put_members-loop-member-preserved : goal.put_members-loop-member-preserved
 put_members-loop-member-preserved g t c =
-    let old = g.W.Write.view c.args.writer.now in
-    let before = g.W.Write.view c.loop-member.writer in
-    let between = g.W.Write.view c.put_value.new.writer in
-    let after = g.W.Write.view c.put_value-in-loop-member.new.writer in
     record {
       appends =
-          items_then member_bytes c.args.members.now c.loop-member.member-index c.member-item.result
-          old.written before.written after.written c.loop-member-test.true c.member-item.is
-          c.loop-member.invariant.appends (appends_then (value_bytes c.member-item.result.0)
-          (value_bytes c.member-item.result.1) before.written between.written after.written
+          items_then member_bytes _ _ _ _ _ _ c.loop-member-test.true c.member-item.is
+          c.loop-member.invariant.appends (appends_then _ _ _ _ _
           c.in_ok-put_value.ensures.writes.appends c.in_ok-put_value-2.ensures.writes.appends);
       counts =
-          c.in_ok-put_value-2.ensures.writes.counts ∙ c.in_ok-put_value.ensures.writes.counts
-          ∙ c.loop-member.invariant.counts;
+          c.in_ok-put_value-2.ensures.writes.counts ∙ c.in_ok-put_value.ensures.writes.counts ∙
+          c.loop-member.invariant.counts;
       members =
-          members_step c.args.members.now c.loop-member.member-index c.member-item.result
-          c.loop-member-test.true c.member-item.is c.loop-member.invariant.members
-          c.in_ok-put_value.ensures.item c.in_ok-put_value-2.ensures.item;
+          members_step _ _ _ c.loop-member-test.true c.member-item.is
+          c.loop-member.invariant.members c.in_ok-put_value.ensures.item
+          c.in_ok-put_value-2.ensures.item;
     }
 
 pub put_array-returns-in_err-put_head-clause-writes :
@@ -99,8 +90,7 @@ put_tag-returns-clause-writes g t c =
 
 pub put_value-returns-in-Bool-clause-writes : goal.put_value-returns-in-Bool-clause-writes
 put_value-returns-in-Bool-clause-writes g t c =
-    writes_as _ (Bool-bytes c.args.value.now c.in-Bool.flag c.in-Bool.is)
-    c.put-in-Bool.ensures.writes
+    writes_as _ (Bool-bytes _ _ c.in-Bool.is) c.put-in-Bool.ensures.writes
 
 pub put_value-returns-in-Integer-clause-writes : goal.put_value-returns-in-Integer-clause-writes
 put_value-returns-in-Integer-clause-writes g t c =
@@ -113,8 +103,7 @@ pub put_value-returns-in-Text-clause-item : goal.put_value-returns-in-Text-claus
 put_value-returns-in-Text-clause-item g t c =
     let small : length (string_bytes c.in-Text.text) < 2 ^ 64 =
     omega (arith, c.in-Text.text.bytes.small, c.in-Text.text.bytes.ok) in
-    on_some {P = Unit {0}} c.put_string-in-Text.result (λ _. text_in_range c.args.value.now
-    c.in-Text.text c.in-Text.is small) (on_any_some c.put_string-in-Text.result)
+    on_some {P = Unit {0}} _ (λ _. text_in_range _ _ c.in-Text.is small) (on_any_some _)
 
 pub put_value-returns-in-Array-clause-item : goal.put_value-returns-in-Array-clause-item
 put_value-returns-in-Array-clause-item g t c =
@@ -130,15 +119,12 @@ put_value-returns-in-Map-clause-item g t c =
 
 pub put_value-returns-in-Array-clause-writes : goal.put_value-returns-in-Array-clause-writes
 put_value-returns-in-Array-clause-writes g t c =
-    writes_as _ (Array-bytes c.args.value.now c.in-Array.items (length c.deref-in-Array.result.now)
-    c.deref-in-Array.result.now c.in-Array.is c.deref-in-Array.ensures.value refl)
+    writes_as _ (Array-bytes _ _ _ c.in-Array.is c.deref-in-Array.ensures.value)
     c.put_array.ensures.writes
 
 pub put_value-returns-in-Map-clause-writes : goal.put_value-returns-in-Map-clause-writes
 put_value-returns-in-Map-clause-writes g t c =
-    writes_as _ (Map-bytes c.args.value.now c.in-Map.members (length c.deref-in-Map.result.now)
-    c.deref-in-Map.result.now c.in-Map.is c.deref-in-Map.ensures.value refl)
-    c.put_map.ensures.writes
+    writes_as _ (Map-bytes _ _ _ c.in-Map.is c.deref-in-Map.ensures.value) c.put_map.ensures.writes
 
 pub put_value-returns-in-Tag-clause-writes : goal.put_value-returns-in-Tag-clause-writes
 put_value-returns-in-Tag-clause-writes g t c =

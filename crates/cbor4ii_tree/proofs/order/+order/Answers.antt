@@ -33,15 +33,13 @@ cmp_after_heads-cmp_members-requires t c =
 
 pub cmp_after_heads-returns-in-Array : goal.cmp_after_heads-returns-in-Array
 cmp_after_heads-returns-in-Array t c =
-    let h = arrays c.args.a.now c.args.b.now c.in-Array.items c.elements_of.result.now c.in-Array.is
-    c.elements_of.ensures c.requires in
+    let h = arrays _ _ _ _ c.in-Array.is c.elements_of.ensures c.requires in
     subst₂ (Compares c.cmp_items.result) (ap (items_bytes value_bytes)
     c.deref-in-Array.ensures.value ∙ h.first) h.second c.cmp_items.ensures
 
 pub cmp_after_heads-returns-in-Map : goal.cmp_after_heads-returns-in-Map
 cmp_after_heads-returns-in-Map t c =
-    let h = maps c.args.a.now c.args.b.now c.in-Map.members c.pairs_of.result.now c.in-Map.is
-    c.pairs_of.ensures c.requires in
+    let h = maps _ _ _ _ c.in-Map.is c.pairs_of.ensures c.requires in
     subst₂ (Compares c.cmp_members.result) (ap (items_bytes member_bytes)
     c.deref-in-Map.ensures.value ∙ h.first) h.second c.cmp_members.ensures
 

@@ -2,8 +2,8 @@ use Rattle.std.proofs.Common.{◌≡◌, ◌≤◌, sym, ap, ◌∙◌, subst, s
 use Rattle.std.proofs.lemmas.Int.{to_z-of_z}
 use Rattle.std.specs.declared.cmp.Ordering.TheVariants.{Equal}
 use mir.Syntax.{w128}
-use Rattle.cbor4ii_tree.specs.{Order.major_of, View.view, Encoding.value_bytes, Item.integer}
-use Rattle.cbor4ii_tree.specs.Order.{Compares, after_head}
+use Rattle.cbor4ii_tree.specs.{Order.{major_of, Compares, after_head}, View.view}
+use Rattle.cbor4ii_tree.specs.{Encoding.value_bytes, Item.integer}
 use Rattle.cbor4ii_tree.proofs.encodings.Order.{PartsOf, compares_nothing, compares_back}
 use Rattle.cbor4ii_tree.proofs.encodings.Order.{same_major, after_small, small_integer, big_integer}
 use Rattle.cbor4ii_tree.proofs.{encodings.Order.after_tag, values.Encoding.{view-Integer, view-Tag}}
@@ -47,6 +47,5 @@ returns-in-Integer c =
     let seen : view c.args.b.now ≡ integer y = ap view c.in-Integer.is ∙ view-Integer y in
     let same = same_major (integer z) (view c.args.b.now) c.requires in
     let big_other : major_of (integer y) ≡ 6 = sym (same ∙ ap major_of seen) ∙ big in
-    subst₂ (Compares c.cmp_bignums.result) (sym (after_tag z parts is big))
-    (sym (after_tag y others other big_other) ∙ sym (ap after_head seen))
-    c.cmp_bignums.ensures
+    subst₂ (Compares c.cmp_bignums.result) (sym (after_tag z parts is big)) (sym (after_tag y others
+    other big_other) ∙ sym (ap after_head seen)) c.cmp_bignums.ensures

@@ -1,5 +1,4 @@
-use Rattle.std.proofs.Common.{w8, refl, arith}
-use Rattle.std.proofs.Math.Facts.{Fits-lt-pow}
+use Rattle.std.proofs.{Common.{w8, refl, arith}, Math.Facts.Fits-lt-pow}
 use Rattle.cbor4ii_items.specs.Laws.Contents.{first_bytes}
 use Rattle.cbor4ii_tree.proofs.prefix.shown_bytes.Goals as goal
 

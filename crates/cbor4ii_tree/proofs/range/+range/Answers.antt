@@ -14,11 +14,9 @@ in_range-returns-in-Map t c =
 
 pub items_in_range-loop-item-preserved : goal.items_in_range-loop-item-preserved
 items_in_range-loop-item-preserved t c =
-    items_step c.args.items.now c.loop-item.item-index c.item-item.result c.loop-item-test.true
-    c.item-item.is c.loop-item.invariant c.in_range.ensures
+    items_step _ _ _ c.loop-item-test.true c.item-item.is c.loop-item.invariant c.in_range.ensures
 
 pub members_in_range-loop-member-preserved : goal.members_in_range-loop-member-preserved
 members_in_range-loop-member-preserved t c =
-    members_step c.args.members.now c.loop-member.member-index c.member-item.result
-    c.loop-member-test.true c.member-item.is c.loop-member.invariant c.in_range.ensures
-    c.in_range-in-loop-member.ensures
+    members_step _ _ _ c.loop-member-test.true c.member-item.is c.loop-member.invariant
+    c.in_range.ensures c.in_range-in-loop-member.ensures

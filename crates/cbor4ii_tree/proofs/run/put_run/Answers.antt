@@ -13,21 +13,18 @@ loop-alloc-init g c = record {
 
 pub returns-then-is_none : goal.returns-then-is_none
 returns-then-is_none g c =
-    rejected_growth (g.A.Encodings.exact ≡ true) (g.P.Parts.flat c.args.parts.now) (g.P.Parts.flat
-    c.loop-alloc.parts) c.in-Whole.value c.loop-alloc.size c.in-Whole.bytes c.args.shown.now
-    c.loop-alloc.invariant.puts (subst (StandsAhead (g.A.Encodings.exact ≡ true) c.in-Whole.value
-    c.in-Whole.bytes) (take_rest c.args.shown.now c.loop-alloc.size) c.in-Whole.ensures)
+    rejected_growth _ _ _ _ _ _ _ c.loop-alloc.invariant.puts (subst (StandsAhead
+    (g.A.Encodings.exact ≡ true) c.in-Whole.value c.in-Whole.bytes) (take_rest c.args.shown.now
+    c.loop-alloc.size) c.in-Whole.ensures)
 
 pub loop-alloc-preserved : goal.loop-alloc-preserved
 loop-alloc-preserved g c =
-    let is = put_well c.put.result c.is_none.ensures c.if-is_none.false c.put.ensures in
+    let is = put_well _ c.is_none.ensures c.if-is_none.false c.put.ensures in
     let l = subst (StandsAhead (g.A.Encodings.exact ≡ true) c.in-Whole.value c.in-Whole.bytes)
     (take_rest c.args.shown.now c.loop-alloc.size) c.in-Whole.ensures in
     record {
       puts =
-          put_one (g.A.Encodings.exact ≡ true) (g.P.Parts.flat c.args.parts.now)
-          (g.P.Parts.flat c.loop-alloc.parts) (g.P.Parts.flat c.put.new.self) c.in-Whole.value
-          c.loop-alloc.size c.in-Whole.bytes c.args.shown.now c.loop-alloc.invariant.puts l is;
+          put_one _ _ _ _ _ _ _ _ c.loop-alloc.invariant.puts l is;
       few =
           omega (
             arith,

@@ -1,49 +1,41 @@
 use Rattle.std.proofs.{Common.{arith, refl, w8}, Math.Facts.Fits-lt-pow}
-use Rattle.std.proofs.lemmas.Result.{err_from_is_err_and}
-use Rattle.cbor4ii_items.specs.{Initial.{half, single, double}}
+use Rattle.cbor4ii_items.specs.Initial.{half, single, double}
 use Rattle.cbor4ii_tree.proofs.values.Heads.{float_read, float_rejected, no_value, view-F16}
-use Rattle.cbor4ii_tree.proofs.values.Heads.{view-F32, view-F64}
-use Rattle.cbor4ii_tree.specs.declared.value.FloatBits.TheVariants.{F16, F32, F64}
+use Rattle.cbor4ii_tree.proofs.{values.Heads.{view-F32, view-F64}, values.Answered.passed}
 use Rattle.cbor4ii_tree.proofs.simple.read_float.Goals as goal
 
 -- where encodings are free
 
 pub returns-in_ok-decode-in-249-clause-does : goal.returns-in_ok-decode-in-249-clause-does
 returns-in_ok-decode-in-249-clause-does g c exact =
-    float_read exact half (λ v. v.0) (F16 c.in_ok-decode-in-249.field-0.0)
-    (view-F16 c.in_ok-decode-in-249.field-0.0) c.in_ok-decode-in-249.ensures.moves
+    float_read _ _ (λ v. v.0) _ (view-F16 _) c.in_ok-decode-in-249.ensures.moves
     c.in_ok-decode-in-249.ensures.sound
 
 pub returns-in_ok-decode-in-250-clause-does : goal.returns-in_ok-decode-in-250-clause-does
 returns-in_ok-decode-in-250-clause-does g c exact =
-    float_read exact single (λ v. v.0) (F32 c.in_ok-decode-in-250.field-0.0)
-    (view-F32 c.in_ok-decode-in-250.field-0.0) c.in_ok-decode-in-250.ensures.moves
+    float_read _ _ (λ v. v.0) _ (view-F32 _) c.in_ok-decode-in-250.ensures.moves
     c.in_ok-decode-in-250.ensures.sound
 
 pub returns-in_ok-decode-in-251-clause-does : goal.returns-in_ok-decode-in-251-clause-does
 returns-in_ok-decode-in-251-clause-does g c exact =
-    float_read exact double (λ v. v.0) (F64 c.in_ok-decode-in-251.field-0.0)
-    (view-F64 c.in_ok-decode-in-251.field-0.0) c.in_ok-decode-in-251.ensures.moves
+    float_read _ _ (λ v. v.0) _ (view-F64 _) c.in_ok-decode-in-251.ensures.moves
     c.in_ok-decode-in-251.ensures.sound
 
 pub returns-in_err-decode-in-249-clause-does : goal.returns-in_err-decode-in-249-clause-does
 returns-in_err-decode-in-249-clause-does g c exact =
-    let p = err_from_is_err_and c.from_residual.result c.from_residual.ensures.1 in
-    rw (p.1, p.2) (float_rejected exact half c.args.first c.in-249.is
+    passed _ c.from_residual.ensures.1 (float_rejected exact half c.args.first c.in-249.is
     c.in_err-decode-in-249.ensures.moves c.in_err-decode-in-249.ensures.begins)
 
 pub returns-in_err-decode-in-250-clause-does : goal.returns-in_err-decode-in-250-clause-does
 returns-in_err-decode-in-250-clause-does g c exact =
-    let p = err_from_is_err_and c.from_residual-in_err-decode-in-250.result
-    c.from_residual-in_err-decode-in-250.ensures.1 in
-    rw (p.1, p.2) (float_rejected exact single c.args.first c.in-250.is
+    passed _ c.from_residual-in_err-decode-in-250.ensures.1 (float_rejected exact single
+    c.args.first c.in-250.is
     c.in_err-decode-in-250.ensures.moves c.in_err-decode-in-250.ensures.begins)
 
 pub returns-in_err-decode-in-251-clause-does : goal.returns-in_err-decode-in-251-clause-does
 returns-in_err-decode-in-251-clause-does g c exact =
-    let p = err_from_is_err_and c.from_residual-in_err-decode-in-251.result
-    c.from_residual-in_err-decode-in-251.ensures.1 in
-    rw (p.1, p.2) (float_rejected exact double c.args.first c.in-251.is
+    passed _ c.from_residual-in_err-decode-in-251.ensures.1 (float_rejected exact double
+    c.args.first c.in-251.is
     c.in_err-decode-in-251.ensures.moves c.in_err-decode-in-251.ensures.begins)
 
 pub returns-in_default-clause-does : goal.returns-in_default-clause-does

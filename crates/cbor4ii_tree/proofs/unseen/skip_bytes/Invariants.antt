@@ -1,6 +1,5 @@
 use Rattle.std.proofs.Common.{◌≡◌, IsTrue}
-use Rattle.cbor4ii_tree.proofs.skip_calls.Doing.{Reached}
-use Rattle.cbor4ii_tree.proofs.skip_calls.Bytes.{Dropped}
+use Rattle.cbor4ii_tree.proofs.skip_calls.{Doing.Reached, Bytes.Dropped}
 use Rattle.cbor4ii_tree.proofs.unseen.skip_bytes.Given as goal
 
 abbrev pub invariant-loop-missing : goal.invariant-loop-missing

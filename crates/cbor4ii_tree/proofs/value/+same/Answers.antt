@@ -6,8 +6,7 @@ use Rattle.cbor4ii_tree.proofs.value.+same.Goals as goal
 
 pub same_value-returns-in-Map-Map : goal.same_value-returns-in-Map-Map
 same_value-returns-in-Map-Map t c =
-    let m = mapping_same c.deref-in-Map-Map.result.now c.deref-in-Map-Map-2.result.now
-    c.in-Map-Map.x c.in-Map-Map.y c.args.a.now c.args.b.now c.in-Map-Map.is-0 c.in-Map-Map.is-1
+    let m = mapping_same _ _ _ _ _ _ c.in-Map-Map.is-0 c.in-Map-Map.is-1
     c.deref-in-Map-Map.ensures.value c.deref-in-Map-Map-2.ensures.value in
     (λ h. m.0 (c.same_members.ensures.0 h), λ e. c.same_members.ensures.1 (m.1 e))
 
@@ -64,6 +63,5 @@ same_members-loop-i-preserved t c =
     let i = c.loop-i.i in
     let in_a : i < length a = c.loop-i-test.true in
     let in_b : i < length b = omega arith in
-    members_more a b i c.index-a-i.result c.index-b-i.result c.index-a-i-in-loop-i.result
-    c.index-b-i-in-loop-i.result in_a in_b c.loop-i.invariant
-    (c.if-not-same_value.ensures.0 refl) (c.if-not-same_value-2.ensures.0 refl)
+    members_more _ _ _ _ _ _ _ in_a in_b c.loop-i.invariant (c.if-not-same_value.ensures.0 refl)
+    (c.if-not-same_value-2.ensures.0 refl)

@@ -1,41 +1,37 @@
-use Rattle.std.proofs.{lemmas.Result.err_from_is_err_and, lemmas.Str.IsUtf8-string_bytes}
-use Rattle.std.proofs.Common.{true, ◌/◌, ◌≡◌, arith, sym, subst, drop}
+use Rattle.std.proofs.{lemmas.Str.IsUtf8-string_bytes, Common.{true, ◌/◌, ◌≡◌, arith, sym, subst}}
+use Rattle.std.proofs.Common.{drop}
 use Rattle.cbor4ii_items.specs.{Initial.{unsigned, negative, byte_string}, Shortest.ReadsShortest}
 use Rattle.cbor4ii_items.specs.Shortest.{ReadsShortestString, RejectsShortest}
 use Rattle.cbor4ii_items.specs.Shortest.{RejectsShortestString}
 use Rattle.cbor4ii_tree.specs.{CanonicalCalls.TextAt, CanonicalRejects.CanonicalTextRejects}
-use Rattle.cbor4ii_tree.specs.{InputError.{sign_name, kind_name}}
-use Rattle.cbor4ii_tree.specs.{Valuing.{RejectsUnder}, declared.value.Value.Bytes}
+use Rattle.cbor4ii_tree.specs.{InputError.{sign_name, kind_name}, Valuing.RejectsUnder}
+use Rattle.cbor4ii_tree.specs.declared.value.Value.{Bytes}
 use Rattle.cbor4ii_tree.proofs.canonical.Calls.{string_of, bytes_exact, text_exact}
 use Rattle.cbor4ii_tree.proofs.skip_calls.Doing.{does_ok, reached_as, reached_by, still_rejected}
 use Rattle.cbor4ii_tree.proofs.values.Heads.{at_major, head_at, leaf_read, leaf_rejected}
 use Rattle.cbor4ii_tree.proofs.values.Heads.{negative_reads, unsigned_reads}
-use Rattle.cbor4ii_tree.proofs.values.Items.{text_encoding}
+use Rattle.cbor4ii_tree.proofs.{values.Items.text_encoding, values.Answered.passed}
 use Rattle.cbor4ii_tree.proofs.decode_canonical.CanonicalEncodingEncodings.read_leaf.Goals as goal
 
 pub returns-in_err-canonical_head-in-0-clause-does :
     goal.returns-in_err-canonical_head-in-0-clause-does
 returns-in_err-canonical_head-in-0-clause-does g c =
-    let p = err_from_is_err_and c.from_residual.result c.from_residual.ensures.1 in
-    rw (p.1, p.2) (leaf_rejected true c.args.first (RejectsShortest (sign_name unsigned) 0)
-    (λ bs z rest h. at_major 0 (g.S.Source.view c.args.reader.now).budget c.args.first bs z rest
-    c.in-0.is h) c.in_err-canonical_head-in-0.ensures.moves
-    c.in_err-canonical_head-in-0.ensures.begins)
+    passed _ c.from_residual.ensures.1 (leaf_rejected true c.args.first (RejectsShortest (sign_name
+    unsigned) 0) (λ bs z rest h. at_major _ _ _ _ _ _ c.in-0.is h)
+    c.in_err-canonical_head-in-0.ensures.moves c.in_err-canonical_head-in-0.ensures.begins)
 
 pub returns-in_err-number-in-1-clause-does : goal.returns-in_err-number-in-1-clause-does
 returns-in_err-number-in-1-clause-does g c =
-    let p = err_from_is_err_and c.from_residual-in_err-number-in-1.result
-    c.from_residual-in_err-number-in-1.ensures.1 in
-    rw (p.1, p.2) (leaf_rejected true c.args.first (RejectsShortest (sign_name negative) 1)
+    passed _ c.from_residual-in_err-number-in-1.ensures.1 (leaf_rejected true c.args.first
+    (RejectsShortest (sign_name negative) 1)
     (λ bs z rest h. at_major 1 (g.S.Source.view c.args.reader.now).budget c.args.first bs z rest
     c.in-1.is h) c.in_err-number-in-1.ensures.moves c.in_err-number-in-1.ensures.begins)
 
 pub returns-in_err-canonical_buf-in-2-clause-does :
     goal.returns-in_err-canonical_buf-in-2-clause-does
 returns-in_err-canonical_buf-in-2-clause-does g c =
-    let p = err_from_is_err_and c.from_residual-in_err-canonical_buf-in-2.result
-    c.from_residual-in_err-canonical_buf-in-2.ensures.1 in
-    rw (p.1, p.2) (leaf_rejected true c.args.first (RejectsShortestString (kind_name byte_string) 2)
+    passed _ c.from_residual-in_err-canonical_buf-in-2.ensures.1 (leaf_rejected true c.args.first
+    (RejectsShortestString (kind_name byte_string) 2)
     (λ bs z rest h. at_major 2 (g.S.Source.view c.args.reader.now).budget c.args.first bs z rest
     c.in-2.is h) c.in_err-canonical_buf-in-2.ensures.moves
     c.in_err-canonical_buf-in-2.ensures.begins)
@@ -43,14 +39,12 @@ returns-in_err-canonical_buf-in-2-clause-does g c =
 pub returns-in_err-read_text-in_default-clause-does :
     goal.returns-in_err-read_text-in_default-clause-does
 returns-in_err-read_text-in_default-clause-does g c =
-    let p = err_from_is_err_and c.from_residual-in_err-read_text-in_default.result
-    c.from_residual-in_err-read_text-in_default.ensures.1 in
     let budget = (g.S.Source.view c.args.reader.now).budget in
     let major : c.args.first / 32 ≡ 3 = omega (arith, c.requires.major, c.in_default) in
-    rw (p.1, p.2) (still_rejected _ _ (CanonicalTextRejects
-    budget) _ (λ xs z rest h bs is. subst (λ x. RejectsUnder
-    true budget x z rest) (sym is) (at_major 3 budget c.args.first bs z rest major (subst (λ x.
-    CanonicalTextRejects budget x z rest) is h))) c.in_err-read_text-in_default.ensures.does)
+    passed _ c.from_residual-in_err-read_text-in_default.ensures.1 (still_rejected _ _
+    (CanonicalTextRejects budget) _ (λ xs z rest h bs is. subst (λ x. RejectsUnder true budget x z
+    rest) (sym is) (at_major 3 _ _ _ _ _ major (subst (λ x. CanonicalTextRejects budget x z rest) is
+    h))) c.in_err-read_text-in_default.ensures.does)
 
 pub returns-in_ok-canonical_head-in-0-clause-does :
     goal.returns-in_ok-canonical_head-in-0-clause-does

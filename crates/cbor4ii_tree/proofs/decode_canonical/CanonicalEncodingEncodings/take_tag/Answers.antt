@@ -3,5 +3,4 @@ use Rattle.cbor4ii_tree.proofs.decode_canonical.CanonicalEncodingEncodings.take_
 
 pub returns-clause-does : goal.returns-clause-does
 returns-clause-does g c =
-    tag_shortest c.head_of.result _ c.head_of.ensures.moves c.head_of.ensures.sound
-    c.head_of.ensures.begins
+    tag_shortest _ _ c.head_of.ensures.moves c.head_of.ensures.sound c.head_of.ensures.begins

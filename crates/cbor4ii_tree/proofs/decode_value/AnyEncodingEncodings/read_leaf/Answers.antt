@@ -1,5 +1,4 @@
 use Rattle.std.proofs.Common.{false, ◌/◌, ◌≡◌, arith, drop}
-use Rattle.std.proofs.lemmas.Result.{err_from_is_err_and}
 use Rattle.cbor4ii_items.specs.Initial.{unsigned, negative, byte_string, text_string}
 use Rattle.cbor4ii_items.specs.Numbers.{ReadsUnsigned, RejectsUnsigned, ReadsNegative}
 use Rattle.cbor4ii_items.specs.{Numbers.RejectsNegative, Strings.{ReadsAs, ReadsTextAs}}
@@ -7,41 +6,38 @@ use Rattle.cbor4ii_items.specs.Strings.{RejectsString, RejectsText, bytes_conten
 use Rattle.cbor4ii_tree.specs.{InputError.{sign_name, kind_name}, declared.value.Value.Bytes}
 use Rattle.cbor4ii_tree.specs.declared.value.Value.{Text}
 use Rattle.cbor4ii_tree.proofs.{values.Items.text_encoding, values.Strings.string_rejects}
+use Rattle.cbor4ii_tree.proofs.values.Strings.{text_rejects, bytes_reads, text_reads}
 use Rattle.cbor4ii_tree.proofs.{values.Calls.int_rejects, values.Heads.{leaf_read, leaf_rejected}}
 use Rattle.cbor4ii_tree.proofs.values.Heads.{negative_reads, unsigned_reads, head_at}
-use Rattle.cbor4ii_tree.proofs.values.Strings.{text_rejects, bytes_reads, text_reads}
+use Rattle.cbor4ii_tree.proofs.values.Answered.{passed}
 use Rattle.cbor4ii_tree.proofs.decode_value.AnyEncodingEncodings.read_leaf.Goals as goal
 
 pub returns-in_err-decode-in-0-clause-does : goal.returns-in_err-decode-in-0-clause-does
 returns-in_err-decode-in-0-clause-does g c =
-    let p = err_from_is_err_and c.from_residual.result c.from_residual.ensures.1 in
-    rw (p.1, p.2) (leaf_rejected false c.args.first (RejectsUnsigned (sign_name unsigned) 8)
+    passed _ c.from_residual.ensures.1 (leaf_rejected false c.args.first (RejectsUnsigned (sign_name
+    unsigned) 8)
     (λ bs z rest h. int_rejects (g.S.Source.view c.args.reader.now).budget unsigned c.args.first bs
     z rest c.in-0.is h) c.in_err-decode-in-0.ensures.moves c.in_err-decode-in-0.ensures.begins)
 
 pub returns-in_err-number-in-1-clause-does : goal.returns-in_err-number-in-1-clause-does
 returns-in_err-number-in-1-clause-does g c =
-    let p = err_from_is_err_and c.from_residual-in_err-number-in-1.result
-    c.from_residual-in_err-number-in-1.ensures.1 in
-    rw (p.1, p.2) (leaf_rejected false c.args.first (RejectsNegative (sign_name negative) 8)
+    passed _ c.from_residual-in_err-number-in-1.ensures.1 (leaf_rejected false c.args.first
+    (RejectsNegative (sign_name negative) 8)
     (λ bs z rest h. int_rejects (g.S.Source.view c.args.reader.now).budget negative c.args.first bs
     z rest c.in-1.is h) c.in_err-number-in-1.ensures.moves c.in_err-number-in-1.ensures.begins)
 
 pub returns-in_err-decode-in-2-clause-does : goal.returns-in_err-decode-in-2-clause-does
 returns-in_err-decode-in-2-clause-does g c =
-    let p = err_from_is_err_and c.from_residual-in_err-decode-in-2.result
-    c.from_residual-in_err-decode-in-2.ensures.1 in
-    rw (p.1, p.2) (leaf_rejected false c.args.first (RejectsString (kind_name byte_string) 2)
-    (λ bs z rest h. string_rejects (g.S.Source.view c.args.reader.now).budget byte_string
-    c.args.first bs z rest c.in-2.is h) c.in_err-decode-in-2.ensures.moves
-    c.in_err-decode-in-2.ensures.begins)
+    passed _ c.from_residual-in_err-decode-in-2.ensures.1 (leaf_rejected false c.args.first
+    (RejectsString (kind_name byte_string) 2) (λ bs
+    z rest h. string_rejects (g.S.Source.view c.args.reader.now).budget byte_string c.args.first bs
+    z rest c.in-2.is h) c.in_err-decode-in-2.ensures.moves c.in_err-decode-in-2.ensures.begins)
 
 pub returns-in_err-decode-in_default-clause-does : goal.returns-in_err-decode-in_default-clause-does
 returns-in_err-decode-in_default-clause-does g c =
-    let p = err_from_is_err_and c.from_residual-in_err-decode-in_default.result
-    c.from_residual-in_err-decode-in_default.ensures.1 in
     let major : c.args.first / 32 ≡ 3 = omega (arith, c.requires.major, c.in_default) in
-    rw (p.1, p.2) (leaf_rejected false c.args.first (RejectsText (kind_name text_string))
+    passed _ c.from_residual-in_err-decode-in_default.ensures.1 (leaf_rejected false c.args.first
+    (RejectsText (kind_name text_string))
     (λ bs z rest h. text_rejects (g.S.Source.view c.args.reader.now).budget c.args.first bs z rest
     major h) c.in_err-decode-in_default.ensures.moves c.in_err-decode-in_default.ensures.begins)
 
@@ -61,10 +57,9 @@ returns-in_ok-number-in-1-clause-does g c =
 
 pub returns-in_ok-decode-in-2-clause-does : goal.returns-in_ok-decode-in-2-clause-does
 returns-in_ok-decode-in-2-clause-does g c =
-    leaf_read false (ReadsAs 2 bytes_content) (Bytes c.in_ok-decode-in-2.field-0.0)
-    (λ xs n k fits r.
-    bytes_reads (g.S.Source.view c.args.reader.now).budget c.in_ok-decode-in-2.field-0.0 xs
-    n k fits r) c.in_ok-decode-in-2.ensures.moves c.in_ok-decode-in-2.ensures.sound
+    leaf_read false (ReadsAs 2 bytes_content) (Bytes c.in_ok-decode-in-2.field-0.0) (λ xs n k fits
+    r. bytes_reads (g.S.Source.view c.args.reader.now).budget c.in_ok-decode-in-2.field-0.0 xs n k
+    fits r) c.in_ok-decode-in-2.ensures.moves c.in_ok-decode-in-2.ensures.sound
 
 pub returns-in_ok-decode-in_default-clause-does : goal.returns-in_ok-decode-in_default-clause-does
 returns-in_ok-decode-in_default-clause-does g c =

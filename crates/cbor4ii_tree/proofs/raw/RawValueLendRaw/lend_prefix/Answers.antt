@@ -9,6 +9,5 @@ returns-then-prefix-eq0-clause-lent g c =
 
 pub returns-in-Some-Short-clause-lacks : goal.returns-in-Some-Short-clause-lacks
 returns-in-Some-Short-clause-lacks g c =
-    lends_short _ _ _ _ _ c.in-Some-Short.is c.in-Some-Short.field-0-is
-    c.lend.follows.holds-at-none c.in-Some-Short.ensures.prefix c.in-Some-Short.ensures.long
-    c.if-prefix-eq0.false
+    lends_short _ _ _ _ _ c.in-Some-Short.is c.in-Some-Short.field-0-is c.lend.follows.holds-at-none
+    c.in-Some-Short.ensures.prefix c.in-Some-Short.ensures.long c.if-prefix-eq0.false

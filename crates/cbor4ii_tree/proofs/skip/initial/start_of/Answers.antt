@@ -1,9 +1,8 @@
-use Rattle.std.proofs.Common.{◌≡◌, ℕ, zero, suc, ◌+◌, ◌-◌, ◌<◌, ◌≤◌, ◌/◌, ◌%◌, refl, sym, ap, ◌∙◌}
-use Rattle.std.proofs.Common.{subst, arith}
+use Rattle.std.proofs.Common.{◌≡◌, ℕ, zero, suc, ◌+◌, ◌-◌, ◌<◌, ◌/◌, ◌%◌, refl, sym, ap, ◌∙◌, subst}
+use Rattle.std.proofs.Common.{arith}
 use Rattle.cbor4ii_items.specs.Initial.{Info, wide, indefinite_ended, reserved, info_of}
-use Rattle.cbor4ii_items.specs.Initial.{int_by_info}
-use Rattle.cbor4ii_items.specs.Initial.{string_by_info, Sign, unsigned, negative, Kind, byte_string}
-use Rattle.cbor4ii_items.specs.Initial.{text_string, simple_by_info, by_major, initial}
+use Rattle.cbor4ii_items.specs.Initial.{int_by_info, string_by_info, Sign, unsigned, negative, Kind}
+use Rattle.cbor4ii_items.specs.Initial.{byte_string, text_string, simple_by_info, by_major, initial}
 use Rattle.cbor4ii_tree.specs.Skipping.{additional_of, start_of}
 use Rattle.cbor4ii_tree.specs.declared.skip.initial.Start.TheVariants.{Bytes, Content}
 use Rattle.cbor4ii_tree.specs.declared.skip.initial.Additional.TheVariants.{Wide}
@@ -31,23 +30,11 @@ low_starts zero i count lt e = int_starts unsigned (info_of i) count e
 low_starts (suc zero) i count lt e = int_starts negative (info_of i) count e
 low_starts (suc (suc major)) i count lt e = absurd (omega arith)
 
-middle_starts : (major i count : ℕ) → 2 ≤ major → major < 4 → Wide count ≡ additional_of (info_of i)
-    → Content ≡ start_of (by_major major i)
-middle_starts zero i count le lt e = absurd (omega arith)
-middle_starts (suc zero) i count le lt e = absurd (omega arith)
-middle_starts (suc (suc zero)) i count le lt e = string_starts byte_string (info_of i) count e
-middle_starts (suc (suc (suc zero))) i count le lt e = string_starts text_string (info_of i) count e
-middle_starts (suc (suc (suc (suc major)))) i count le lt e = absurd (omega arith)
-
-top_starts : (major i : ℕ) → 7 ≤ major → by_major major i ≡ simple_by_info i
-top_starts zero i le = absurd (omega arith)
-top_starts (suc zero) i le = absurd (omega arith)
-top_starts (suc (suc zero)) i le = absurd (omega arith)
-top_starts (suc (suc (suc zero))) i le = absurd (omega arith)
-top_starts (suc (suc (suc (suc zero)))) i le = absurd (omega arith)
-top_starts (suc (suc (suc (suc (suc zero))))) i le = absurd (omega arith)
-top_starts (suc (suc (suc (suc (suc (suc zero)))))) i le = absurd (omega arith)
-top_starts (suc (suc (suc (suc (suc (suc (suc major))))))) i le = refl
+middle_starts : (k i count : ℕ) → k < 2 → Wide count ≡ additional_of (info_of i)
+    → Content ≡ start_of (by_major (2 + k) i)
+middle_starts zero i count lt e = string_starts byte_string (info_of i) count e
+middle_starts (suc zero) i count lt e = string_starts text_string (info_of i) count e
+middle_starts (suc (suc k)) i count lt e = absurd (omega arith)
 
 simple_starts : (k : ℕ) → k < 4 → Bytes 0 ≡ start_of (simple_by_info (20 + k))
 simple_starts zero lt = refl
@@ -56,24 +43,22 @@ simple_starts (suc (suc zero)) lt = refl
 simple_starts (suc (suc (suc zero))) lt = refl
 simple_starts (suc (suc (suc (suc k)))) lt = absurd (omega arith)
 
-high_starts : (major i : ℕ) → 7 ≤ major → 20 ≤ i → i < 24 → Bytes 0 ≡ start_of (by_major major i)
-high_starts major i top low lt =
-    let j : 20 + (i - 20) ≡ i = omega arith in
-    subst (λ n. Bytes 0 ≡ start_of (simple_by_info n)) j (simple_starts (i - 20) (omega arith))
-    ∙ ap start_of (sym (top_starts major i top))
-
 pub returns-in-Wide-info-3 : goal.returns-in-Wide-info-3
 returns-in-Wide-info-3 c =
-    low_starts (c.args.first / 32)
-    (c.args.first % 32) c.in-Wide-info-3.count (omega arith) c.in-Wide-info-3.ensures
-    ∙ ap start_of (sym (by_parts c.args.first))
+    low_starts (c.args.first / 32) (c.args.first % 32) c.in-Wide-info-3.count
+    (omega arith) c.in-Wide-info-3.ensures ∙ ap start_of (sym (by_parts c.args.first))
 
 pub returns-in-Wide-info-4 : goal.returns-in-Wide-info-4
 returns-in-Wide-info-4 c =
-    middle_starts (c.args.first / 32) (c.args.first % 32) c.in-Wide-info-4.field-0 (omega arith)
-    (omega arith) c.in-Wide-info-4.ensures ∙ ap start_of (sym (by_parts c.args.first))
+    let major : 2 + (c.args.first / 32 - 2) ≡ c.args.first / 32 = omega arith in
+    subst (λ m. Content ≡ start_of (by_major m (c.args.first % 32))) major
+    (middle_starts (c.args.first / 32 - 2) _ c.in-Wide-info-4.field-0 (omega arith)
+    c.in-Wide-info-4.ensures) ∙ ap start_of (sym (by_parts c.args.first))
 
 pub returns-in-20 : goal.returns-in-20
 returns-in-20 c =
-    high_starts (c.args.first / 32) (c.args.first % 32) (omega arith) (omega arith) (omega arith)
+    let major : 7 ≡ c.args.first / 32 = omega arith in
+    let info : 20 + (c.args.first % 32 - 20) ≡ c.args.first % 32 = omega arith in
+    subst (λ i. Bytes 0 ≡ start_of (by_major 7 i)) info (simple_starts (c.args.first % 32 - 20)
+    (omega arith)) ∙ ap (λ m. start_of (by_major m (c.args.first % 32))) major
     ∙ ap start_of (sym (by_parts c.args.first))

@@ -1,8 +1,7 @@
 use Rattle.std.proofs.Common.{IsTrue, ◌+◌, ◌*◌}
 use Rattle.cbor4ii_rw.specs.Reader.{KeepsAllButBudget}
 use Rattle.cbor4ii_tree.specs.Deeper.{Deeper, GoesOn, budgeted}
-use Rattle.cbor4ii_tree.proofs.skip_calls.Doing.{Reached}
-use Rattle.cbor4ii_tree.proofs.skip_calls.Parts.{SkippedEach, SkippedPairs, Left}
+use Rattle.cbor4ii_tree.proofs.skip_calls.{Doing.Reached, Parts.{SkippedEach, SkippedPairs, Left}}
 use Rattle.cbor4ii_tree.proofs.skip.items.+skip.Given as goal
 
 abbrev pub decreases-skip_after : goal.decreases-skip_after
@@ -37,11 +36,10 @@ decreases-skip_inside g l = 9 * (g.F.Prefix.view l.prefix.now l.reader.now).boun
 
 abbrev pub invariant-skip_inward-loop-left : goal.invariant-skip_inward-loop-left
 invariant-skip_inward-loop-left g l = record {
-  reached : Reached (λ xs ys. GoesOn l.count (g.F.Prefix.view l.fn.prefix l.fn.reader).budget
-      (g.F.Prefix.view l.prefix l.reader).budget xs l.left ys)
-      (g.F.Prefix.view l.fn.prefix l.fn.reader)
-      (budgeted (g.F.Prefix.view l.fn.prefix l.fn.reader).budget
-      (g.F.Prefix.view l.prefix l.reader));
+  reached : Reached (λ xs ys. GoesOn l.count (g.F.Prefix.view l.prefix l.reader).budget
+      (g.F.Prefix.view l.fn.prefix l.fn.reader).budget xs l.left ys)
+      (g.F.Prefix.view l.fn.prefix l.fn.reader) (budgeted
+      (g.F.Prefix.view l.fn.prefix l.fn.reader).budget (g.F.Prefix.view l.prefix l.reader));
   deeper : Deeper l.depth (g.F.Prefix.view l.fn.prefix l.fn.reader).budget
       (g.F.Prefix.view l.prefix l.reader).budget;
   stays : IsTrue g.F.Prefix.apart

@@ -1,6 +1,5 @@
 use Rattle.std.proofs.Common.{refl, arith}
-use Rattle.cbor4ii_tree.proofs.skip_calls.Prefixes.{keeps_alike, keeps_then}
-use Rattle.cbor4ii_tree.proofs.skip_calls.Deeper.{one_back}
+use Rattle.cbor4ii_tree.proofs.skip_calls.{Doing.{keeps_alike, keeps_then}, Deeper.one_back}
 use Rattle.cbor4ii_tree.proofs.skip.step.give_back.Goals as goal
 
 pub loop-left-init : goal.loop-left-init

@@ -1,0 +1,191 @@
+-- What the program on lists takes is a tree that is whole; where it fails, it is rejected so.
+use Rattle.std.proofs.Common.{◌≡◌, ℕ, zero, suc, ◌<◌, ◌≤◌, inl, inr, List, [], ◌∷◌, ◌++◌, length}
+use Rattle.std.proofs.Common.{Some, Bool, true, false, refl, sym, ap, ap₂, ◌∙◌, subst, arith}
+use Rattle.std.proofs.Common.{append_assoc, length-append, Ok}
+use Rattle.std.proofs.lemmas.Str.{IsUtf8-from_is_utf8, is_utf8-from_IsUtf8}
+use Rattle.std.specs.{Int.bytes_high_first, Str.is_utf8}
+use Rattle.cbor4ii_items.specs.{Budget.CostFits, Head.{Width, HeadFits, head, byte_count, break}}
+use Rattle.cbor4ii_items.specs.{Head.IsBytes, Initial.{sign_major, Kind, byte_string, text_string}}
+use Rattle.cbor4ii_items.specs.Initial.{kind_major, precision_bytes, Initial, starts_int, bad_int}
+use Rattle.cbor4ii_items.specs.Initial.{starts_string, starts_chunks, bad_string, starts_array}
+use Rattle.cbor4ii_items.specs.Initial.{starts_indefinite_array, bad_array, starts_map}
+use Rattle.cbor4ii_items.specs.Initial.{starts_indefinite_map, bad_map, starts_tag, bad_tag}
+use Rattle.cbor4ii_items.specs.Initial.{starts_simple, starts_bits, other_simple, initial}
+use Rattle.cbor4ii_items.specs.{Laws.Answering.fits_zero, Laws.Heads.if_cases, Reading.Reading}
+use Rattle.cbor4ii_items.specs.Reading.{go_on}
+use Rattle.cbor4ii_tree.specs.{Cost.{Budget, step_in}, InputError.{kind_name, require_utf8}}
+use Rattle.cbor4ii_tree.specs.{InputError.tag_name, ItemAt.{tested, string_at, chunk_tree_by}}
+use Rattle.cbor4ii_tree.specs.ItemAt.{chunk_at, item_by, item_from, item_within}
+use Rattle.cbor4ii_tree.specs.ItemRejects.{Profile, ReadableChunk, IsNoUtf8, ChunkRejectsBy}
+use Rattle.cbor4ii_tree.specs.ItemRejects.{ChunkOf, RejectsChunk, RejectsBy, RejectsFrom}
+use Rattle.cbor4ii_tree.specs.{ItemRejects.RejectsWithin, Laws.Binds.step_up, Laws.Profiles.Tested}
+use Rattle.cbor4ii_tree.specs.{Laws.Profiles.{Lawful, Parts}, Parse.{Parser, argument_of_width}}
+use Rattle.cbor4ii_tree.specs.{Rejections.{Stopping, Missing, AtHead}, Tree.{Tree, int, string}}
+use Rattle.cbor4ii_tree.specs.Tree.{chunked, array, array_indefinite, map_of, map_indefinite}
+use Rattle.cbor4ii_tree.specs.Tree.{tagged, simple, bits, count, pair_count, bytes, bytes_all}
+use Rattle.cbor4ii_tree.specs.Tree.{bytes_pairs, joined_chunks}
+use Rattle.cbor4ii_tree.proofs.{heads.Inverse.{prefix_meets, number_meets}, heads.Means.HeadByte}
+use Rattle.cbor4ii_tree.proofs.heads.Means.{Means, means, Headed, argument_meets}
+use Rattle.cbor4ii_tree.proofs.parts.Meets.{and_meets, Failing, Meets, ok_meets, err_meets}
+use Rattle.cbor4ii_tree.proofs.parts.Meets.{then_meets, map_meets, step_meets}
+use Rattle.cbor4ii_tree.proofs.{parts.Rejecting.{headed_by, cut_or, tested_or}, parts.Sound.Took}
+use Rattle.cbor4ii_tree.proofs.parts.Sound.{took, Decides, trees_meet, pairs_meet, counted}
+use Rattle.cbor4ii_tree.proofs.parts.Sound.{indefinite_trees_meet, indefinite_pairs_meet}
+
+-- ---- heads and strings
+
+-- a head is rejected, or what follows it is
+head_meets : {A : Type 0} {Good : A × List ℕ → Type 0} {next : ℕ → Reading A} (name : List ℕ)
+    (major : ℕ) (w : Width) (b : ℕ) (bs : List ℕ) (then : ℕ → Stopping) → IsBytes bs
+    → HeadByte major w b → ((n : ℕ) (x : List ℕ) → Headed major n w b bs x → length x ≤ length bs
+    → Meets Good (then n x) (next n x))
+    → Meets Good (AtHead name major w b then bs) (go_on (argument_of_width name w b bs) next)
+head_meets name major w b bs then h m k =
+    then_meets (argument_meets _ name major w b bs h m) (λ n x top.
+    let same : suc (length bs) ≡ suc (length (bytes_high_first (byte_count w) n ++ x)) =
+    ap length top.is in
+    map_meets (k n x top (omega (arith, same, length-append (bytes_high_first (byte_count w) n) x)))
+    (λ p g. g) (λ e rest f. inr (headed_by n x top.fits top.is f))) (λ e rest f. inl f)
+
+record TookString (k : Kind) (w : Width) (b : ℕ) (bs : List ℕ) (p : List ℕ × List ℕ) : Type 0 where
+  pub fits : HeadFits w (length p.0)
+  pub is : b ∷ bs ≡ (head (kind_major k) (length p.0) w ++ p.0) ++ p.1
+  pub more : IsBytes p.1
+
+string_meets : (name : List ℕ) (k : Kind) (w : Width) (b : ℕ) (bs : List ℕ) → IsBytes bs
+    → HeadByte (kind_major k) w b → Meets (TookString k w b bs)
+    (AtHead name (kind_major k) w b (Missing name) bs) (string_at name w b bs)
+string_meets name k w b bs h m =
+    head_meets name (kind_major k) w b bs (Missing name) h m (λ n x top le.
+    map_meets (prefix_meets name n x top.more) (λ q c. record {
+      fits = subst (HeadFits w) (sym c.long) top.fits;
+      is = counted (kind_major k) n (length q.0) w b bs x q.0 q.1 top.is c.long c.is;
+      more = c.more;
+    }) (λ e rest f. f))
+
+tested_meets : {Good : Tree × List ℕ → Type 0} {Bad : Failing} (tests : Bool) (k : Kind)
+    (content : List ℕ) (t : Tree) (x : List ℕ) → (Tested tests k content → Good (t, x))
+    → (tests ≡ true → IsNoUtf8 k content → Bad (require_utf8 (kind_name k)) x)
+    → Meets Good Bad (tested tests k content t x)
+tested_meets {Good = Good} {Bad = Bad} true text_string content t x g f =
+    if_cases (Meets Good Bad) (is_utf8 content) _ _
+    (λ e. ok_meets _ (g (IsUtf8-from_is_utf8 content e)))
+    (λ e. err_meets _ (f refl (λ u. let yes = is_utf8-from_IsUtf8 content u in cc)))
+tested_meets true byte_string content t x g f = ok_meets _ (g tt)
+tested_meets false k content t x g f = ok_meets _ (g tt)
+
+chunk_by_meets : (k : Kind) (budget : Budget) (i : Initial) (b : ℕ) (bs : List ℕ)
+    → CostFits 1 budget → Means b i → IsBytes bs → Meets (Took (ReadableChunk k budget) (b ∷ bs))
+    (ChunkRejectsBy k i b bs) (chunk_tree_by k i b bs)
+chunk_by_meets byte_string budget (starts_string byte_string w) b bs f m h =
+    and_meets (string_meets _ byte_string w b bs h m)
+    (λ content x t. ok_meets _ (took (t.fits, refl, f) t.is t.more))
+chunk_by_meets text_string budget (starts_string text_string w) b bs f m h =
+    and_meets (string_meets _ text_string w b bs h m)
+    (λ content x t. ok_meets _ (took (t.fits, refl, f) t.is t.more))
+chunk_by_meets k budget i b bs f m h = err_meets _ (refl, refl)
+
+chunk_meets : (tests : Bool) (k : Kind) (budget : Budget) (item : Parser Tree)
+    (Whole : Tree → Type 0) (rejects : Stopping) (bound : ℕ) → Decides item Whole rejects bound
+    → Decides (chunk_at tests k budget item) (ChunkOf tests k budget Whole)
+    (RejectsChunk tests k budget rejects) bound
+chunk_meets false k budget item Whole rejects bound d bs h lt = d bs h lt
+chunk_meets true k budget item Whole rejects bound d [] h lt = err_meets _ (refl, refl)
+chunk_meets true k budget item Whole rejects bound d (b ∷ bs) h lt =
+    step_meets (kind_name k) (step_in budget) (b ∷ bs) _
+    (λ inner. ChunkRejectsBy k (initial b) b bs) (λ inner is.
+    chunk_by_meets k budget (initial b) b bs (step_up budget inner 0 is (fits_zero inner))
+    (means b h.0) h.1)
+
+-- ---- items
+
+module _ (p : Profile) (l : Lawful p) where
+  module _ (item : Budget → Parser Tree) (rejects : Budget → Stopping) (bound : ℕ)
+      (d : (c : Budget) → Decides (item c) (p.Whole c) (rejects c) bound) (outer budget : Budget)
+      (is : step_in outer ≡ Some budget) where
+    gives : {Bad : Failing} {b : ℕ} {bs x : List ℕ} (t : Tree) → Parts p budget t
+        → b ∷ bs ≡ bytes t ++ x → IsBytes x
+        → Meets (Took (p.Whole outer) (b ∷ bs)) Bad (Ok (t, x))
+    gives t parts same more = ok_meets _ (took (l.closes outer budget t is parts) same more)
+
+    by_meets : (i : Initial) (b : ℕ) (bs : List ℕ) → Means b i → IsBytes bs → length bs < bound
+        → Meets (Took (p.Whole outer) (b ∷ bs)) (RejectsBy p rejects budget i b bs)
+        (item_by p item budget i b bs)
+    by_meets (starts_int s w) b bs m h lt =
+        and_meets (argument_meets p.asks (p.of_int s) (sign_major s) w b bs h m)
+        (λ n x top. gives (int s n w) top.fits top.is top.more)
+    by_meets (bad_int s) b bs m h lt = err_meets _ (refl, refl)
+    by_meets (starts_string k w) b bs m h lt =
+        then_meets (string_meets (p.of_string k) k w b bs h m) (λ content x t.
+        tested_meets p.tests k content (string k w content) x
+        (λ good. took (l.closes outer budget (string k w content) is (t.fits, good)) t.is t.more)
+        (λ tests bad. tested_or _ p.tests tests (headed_by (length content) (content ++ x) t.fits
+        (t.is ∙ append_assoc (head (kind_major k) (length content) w) content x) (record
+        { content = content; long = refl; invalid = bad; is = refl; err = refl }))))
+        (λ e rest f. cut_or _ p.tests f)
+    by_meets (starts_chunks k) b bs m h lt =
+        then_meets (indefinite_trees_meet _ _ _ bound (chunk_meets p.tests k budget
+        (item budget) (p.Whole budget) (rejects budget) bound (d budget)) (suc (length bs)) bs h lt
+        (omega arith)) (λ ts x all. tested_meets p.tests k (joined_chunks ts) (chunked k ts) x
+        (λ good. took (l.closes outer budget (chunked k ts) is (all.whole, good))
+        (ap₂ ◌∷◌ m all.is) all.more) (λ tests bad. tested_or _ p.tests tests (record {
+          chunks = ts;
+          whole = all.whole;
+          is = all.is ∙ append_assoc (bytes_all ts) (break ∷ []) x;
+          invalid = bad;
+          err = refl;
+        }))) (λ e rest f. cut_or _ p.tests f)
+    by_meets (bad_string k) b bs m h lt = err_meets _ (refl, refl)
+    by_meets (starts_array w) b bs m h lt =
+        step_meets p.of_array (p.inside budget) (b ∷ bs) _ _ (λ c go. head_meets p.of_array 4 w b bs
+        _ h m (λ n x top le. and_meets (trees_meet _ _ _ bound (d c) n x top.more (omega arith))
+        (λ ts y all. gives (array w ts) (
+          subst (HeadFits w) (sym all.number) top.fits,
+          (c, go, all.whole),
+        ) (counted 4 n (count ts) w b bs x (bytes_all ts) y top.is all.number
+        all.is) all.more)))
+    by_meets starts_indefinite_array b bs m h lt =
+        step_meets p.of_array (p.inside budget) (b ∷ bs) _ _ (λ c go. and_meets
+        (indefinite_trees_meet _ _ _ bound (d c) (suc (length bs)) bs h lt (omega arith))
+        (λ ts y all. gives (array_indefinite ts) (c, go, all.whole) (ap₂ ◌∷◌ m all.is) all.more))
+    by_meets bad_array b bs m h lt =
+        step_meets p.of_array (p.inside budget) (b ∷ bs) _ _ (λ c go. err_meets _ (refl, refl))
+    by_meets (starts_map w) b bs m h lt =
+        step_meets p.of_map (p.inside budget) (b ∷ bs) _ _ (λ c go. head_meets p.of_map 5 w b bs _ h
+        m (λ n x top le. and_meets (pairs_meet _ _ _ bound (d c) n x top.more (omega arith))
+        (λ ps y all. gives (map_of w ps) (
+          subst (HeadFits w) (sym all.number) top.fits,
+          (c, go, all.whole),
+        ) (counted 5 n (pair_count ps) w b bs x (bytes_pairs ps) y top.is
+        all.number all.is) all.more)))
+    by_meets starts_indefinite_map b bs m h lt =
+        step_meets p.of_map (p.inside budget) (b ∷ bs) _ _ (λ c go. and_meets
+        (indefinite_pairs_meet _ _ _ bound (d c) (suc (length bs)) bs h lt (omega arith))
+        (λ ps y all. gives (map_indefinite ps) (c, go, all.whole) (ap₂ ◌∷◌ m all.is) all.more))
+    by_meets bad_map b bs m h lt =
+        step_meets p.of_map (p.inside budget) (b ∷ bs) _ _ (λ c go. err_meets _ (refl, refl))
+    by_meets (starts_tag w) b bs m h lt =
+        head_meets tag_name 6 w b bs _ h m (λ n x top le. and_meets (d budget x top.more (omega
+        arith)) (λ t y part. gives (tagged n w t) (top.fits, part.whole) (counted 6 n n w b bs x
+        (bytes t) y top.is refl part.is) part.more))
+    by_meets bad_tag b bs m h lt = err_meets _ (refl, refl)
+    by_meets (starts_simple s) b bs m h lt = gives (simple s) tt (ap (λ c. c ∷ bs) m) h
+    by_meets (starts_bits q) b bs m h lt =
+        and_meets (number_meets p.asks (p.of_float q) (precision_bytes q) bs h)
+        (λ n x whole. gives (bits q n) whole.below (ap₂ ◌∷◌ m whole.is) whole.more)
+    by_meets other_simple b bs m h lt = err_meets _ (refl, refl)
+
+    from_meets : (bs : List ℕ) → IsBytes bs → length bs < suc bound
+        → Meets (Took (p.Whole outer) bs) (RejectsFrom p rejects budget bs)
+        (item_from p item budget bs)
+    from_meets [] h lt = err_meets _ (refl, refl)
+    from_meets (b ∷ bs) h lt = by_meets (initial b) b bs (means b h.0) h.1 (omega arith)
+
+  pub item_meets : (n : ℕ) (budget : Budget)
+      → Decides (item_within p n budget) (p.Whole budget) (RejectsWithin p n budget) n
+  unfolding item_within
+  item_meets zero budget bs h lt = absurd (omega arith)
+  item_meets (suc n) budget bs h lt =
+      step_meets p.of_item (step_in budget) bs _ (λ c. RejectsFrom p (RejectsWithin p n) c bs)
+      (λ c is. from_meets (item_within p n) (RejectsWithin p n) n (item_meets n) budget c is bs h
+      lt)
