@@ -1,7 +1,7 @@
 -- What shown bytes begin with, where items are skipped.
-use Rattle.std.specs.Prelude.{◌≡◌, ◌≢◌, ◌+◌, ◌*◌, ◌%◌, ◌==◌, ℕ, ◌≤◌, nat_lt, if◌then◌else◌, List}
-use Rattle.std.specs.Prelude.{[], ◌∷◌, ◌++◌, length, take, drop, get_or, Some, Bool, true, false}
-use Rattle.std.specs.Prelude.{◌⊎◌}
+use Rattle.std.specs.Prelude.{◌≡◌, ◌≢◌, ◌+◌, ◌-◌, ◌^◌, ◌%◌, ◌==◌, ℕ, ◌≤◌, nat_lt, if◌then◌else◌}
+use Rattle.std.specs.Prelude.{List, [], ◌∷◌, ◌++◌, length, take, drop, get_or, Some, Bool, true}
+use Rattle.std.specs.Prelude.{false, ◌⊎◌}
 use Rattle.cbor4ii_items.specs.{Head.{IsBytes, break}, Initial.initial}
 use Rattle.cbor4ii_tree.specs.{Cost.{Budget, step_in}, InputError.{InputError, eof, Small}}
 use Rattle.cbor4ii_tree.specs.{InputError.break_name, Runs.{BeginsRun, TakesRun}}
@@ -10,41 +10,37 @@ use Rattle.cbor4ii_tree.specs.Skipping.{RejectsSkippingAfter, SkipsItems, Reject
 use Rattle.cbor4ii_tree.specs.declared.skip.{initial.After.After, items.Went.Went}
 use Rattle.cbor4ii_tree.specs.declared.skip.items.Went.TheVariants.{Past, Into}
 use Rattle.cbor4ii_tree.specs.declared.{skip.initial.Start.Start, ahead.Among.Among}
-use Rattle.cbor4ii_tree.specs.declared.ahead.Among.TheVariants.{Items, Pairs, IndefiniteItems}
-use Rattle.cbor4ii_tree.specs.declared.ahead.{Among.TheVariants.IndefinitePairs, Ahead.Ahead}
-use Rattle.cbor4ii_tree.specs.declared.ahead.Ahead.TheVariants.{Run, Head, Break, Unseen}
+use Rattle.cbor4ii_tree.specs.declared.ahead.Among.TheVariants.{Items, Indefinite}
+use Rattle.cbor4ii_tree.specs.declared.ahead.Ahead.{Ahead, TheVariants.{Run, Head, Break, Unseen}}
 use Rattle.cbor4ii_tree.specs.declared.skip.initial.After.TheVariants as trailing
 use Rattle.cbor4ii_tree.specs.declared.skip.initial.Start.TheVariants as start
 
 -- ---- among what an item stands
 
--- so many of them may be taken at once: no more than are left, and in maps whole pairs
+-- the next item of a map of indefinite length: after a key comes its value, and no break
+abbrev pub in_map : Bool → Among
+in_map true = Items (2 ^ 64 - 1)
+in_map false = Indefinite
+
+-- so many of them may be taken at once: no more than are left
 abbrev pub Allows : Among → ℕ → Type 0
 Allows (Items most) n = n ≤ most
-Allows (Pairs most) n = (n ≤ 2 * most) × (n % 2 ≡ 0)
-Allows IndefiniteItems n = Unit {0}
-Allows IndefinitePairs n = n % 2 ≡ 0
+Allows Indefinite n = Unit {0}
 
 -- there is one
 abbrev pub Awaits : Among → Type 0
 Awaits (Items most) = 1 ≤ most
-Awaits (Pairs most) = 1 ≤ most
-Awaits IndefiniteItems = Unit {0}
-Awaits IndefinitePairs = Unit {0}
+Awaits Indefinite = Unit {0}
 
 -- so many of them were skipped
 abbrev pub CountsAmong : Among → ℕ → Type 0
 CountsAmong (Items most) n = (1 ≤ n) × (n ≤ most)
-CountsAmong (Pairs most) n = (1 ≤ n) × (n ≤ 2 * most)
-CountsAmong IndefiniteItems n = Unit {0}
-CountsAmong IndefinitePairs n = Unit {0}
+CountsAmong Indefinite n = Unit {0}
 
 -- a break may come in its place
 abbrev pub IsIndefinite : Among → Type 0
 IsIndefinite (Items most) = ⊥
-IsIndefinite (Pairs most) = ⊥
-IsIndefinite IndefiniteItems = Unit {0}
-IsIndefinite IndefinitePairs = Unit {0}
+IsIndefinite Indefinite = Unit {0}
 
 -- ---- what is shown
 
@@ -123,9 +119,7 @@ SkipsSome among budget xs n ys =
 
 abbrev pub RejectsSome : Among → Budget → Stopping
 RejectsSome (Items most) budget = RejectsSkippingOne budget
-RejectsSome (Pairs most) budget = RejectsSkippingOne budget
-RejectsSome IndefiniteItems budget = NoBreak (RejectsSkippingOne budget)
-RejectsSome IndefinitePairs budget = NoBreak (RejectsSkippingOne budget)
+RejectsSome Indefinite budget = NoBreak (RejectsSkippingOne budget)
 
 -- the same under a step that leaves this budget
 abbrev pub SkipsSomeUnder : Among → Budget → List ℕ → ℕ → List ℕ → Type 0

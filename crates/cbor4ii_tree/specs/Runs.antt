@@ -20,16 +20,6 @@ pub record IsLeafAt (at size : ℕ) (shown : List ℕ) : Type 0 where
   pub within : at + size ≤ length shown
   pub leaf : (t : Tree) × IsLeaf t × (take size (drop at shown) ≡ bytes t)
 
--- two stand at this place
-pub record IsPairAt (at size : ℕ) (shown : List ℕ) : Type 0 where
-  pub key : ℕ
-  pub value : ℕ
-  pub sizes : size ≡ key + value
-  pub some : 1 ≤ key
-  pub more : 1 ≤ value
-  pub first : IsLeafAt at key shown
-  pub second : IsLeafAt (at + key) value shown
-
 -- so many stand at the front, in so many bytes
 pub record BeginsRun (n size : ℕ) (shown : List ℕ) : Type 0 where
   pub within : size ≤ length shown

@@ -1,5 +1,6 @@
 -- What the parts of skipping accept, and where they fail.
-use Rattle.std.specs.Prelude.{◌≡◌, ℕ, ◌*◌, List, ◌∷◌, ◌++◌, Option, Some, None, false}
+use Rattle.std.specs.Prelude.{◌≡◌, ℕ, ◌*◌, ◌^◌, nat_lt, if◌then◌else◌, List, ◌∷◌, ◌++◌, Option}
+use Rattle.std.specs.Prelude.{Some, None, false}
 use Rattle.cbor4ii_rw.specs.declared.error.DecodeError.{DecodeError}
 use Rattle.cbor4ii_items.specs.{Head.{byte_count, break}, Initial.{precision_bytes, Info, wide}}
 use Rattle.cbor4ii_items.specs.Initial.{indefinite_ended, reserved, Initial, starts_int, bad_int}
@@ -16,7 +17,7 @@ use Rattle.cbor4ii_tree.specs.{Encodings.Skips, Rejections.{Stopping, Missing, E
 use Rattle.cbor4ii_tree.specs.Rejections.{RejectsInCount, IndefiniteItems, IndefinitePairs}
 use Rattle.cbor4ii_tree.specs.SkippingRejects.{Skippable, SkippingRejects}
 use Rattle.cbor4ii_tree.specs.declared.skip.initial.After.{After, TheVariants.{Nothing, Bytes}}
-use Rattle.cbor4ii_tree.specs.declared.skip.initial.After.TheVariants.{Items, Members, Indefinite}
+use Rattle.cbor4ii_tree.specs.declared.skip.initial.After.TheVariants.{Items, Twice, Indefinite}
 use Rattle.cbor4ii_tree.specs.declared.skip.initial.After.TheVariants.{IndefiniteMembers}
 use Rattle.cbor4ii_tree.specs.declared.skip.initial.{Start.Start, Additional.Additional}
 use Rattle.cbor4ii_tree.specs.declared.skip.initial.Start.TheVariants as start
@@ -74,11 +75,15 @@ abbrev pub head_name : Start → List ℕ
 head_name start.Tag = tag_name
 head_name _ = ignored_any
 
+-- what is left of a map of so many pairs: twice as many items
+abbrev pub members_of : ℕ → After
+members_of n = if nat_lt n (2 ^ 63) then Items (2 * n) else Twice n
+
 -- what is left of an item after its head, by its argument
 abbrev pub trailing_of : Start → ℕ → After
 trailing_of start.Content n = Bytes n
 trailing_of start.Items n = Items n
-trailing_of start.Members n = Members n
+trailing_of start.Members n = members_of n
 trailing_of start.Tag n = Items 1
 trailing_of start.Indefinite n = Indefinite
 trailing_of start.IndefiniteMembers n = IndefiniteMembers
@@ -122,7 +127,7 @@ abbrev pub SkipsAfter : After → Budget → List ℕ → List ℕ → Type 0
 SkipsAfter Nothing budget xs ys = ys ≡ xs
 SkipsAfter (Bytes n) budget xs ys = DropsBytes n xs ys
 SkipsAfter (Items n) budget xs ys = SkipsItems n budget xs ys
-SkipsAfter (Members n) budget xs ys = SkipsItems (2 * n) budget xs ys
+SkipsAfter (Twice n) budget xs ys = SkipsItems (2 * n) budget xs ys
 SkipsAfter Indefinite budget xs ys = SkipsIndefinite budget xs ys
 SkipsAfter IndefiniteMembers budget xs ys = SkipsMembers budget xs ys
 
@@ -130,7 +135,7 @@ abbrev pub RejectsSkippingAfter : After → Budget → Stopping
 RejectsSkippingAfter Nothing budget xs e rest = ⊥
 RejectsSkippingAfter (Bytes n) budget xs e rest = Missing ignored_any n xs e rest
 RejectsSkippingAfter (Items n) budget xs e rest = RejectsSkippingItems n budget xs e rest
-RejectsSkippingAfter (Members n) budget xs e rest = RejectsSkippingItems (2 * n) budget xs e rest
+RejectsSkippingAfter (Twice n) budget xs e rest = RejectsSkippingItems (2 * n) budget xs e rest
 RejectsSkippingAfter Indefinite budget xs e rest = RejectsSkippingIndefinite budget xs e rest
 RejectsSkippingAfter IndefiniteMembers budget xs e rest = RejectsSkippingMembers budget xs e rest
 

@@ -1,11 +1,12 @@
 //! What shown bytes begin with, decided in one look: a run of items that hold no other, a head, or
 //! a break (RFC 8949 section 3). What does not stand whole in them is left undecided.
-ghost use Rattle.std.specs.Prelude.{◌≡◌, ◌≢◌, ◌≤◌, ◌<◌, ◌+◌, length, ◌*◌, ◌%◌, ◌∷◌, ◌↔◌, IsTrue, ℕ};
+ghost use Rattle.std.specs.Prelude.{◌≡◌, ◌≢◌, ◌≤◌, ◌<◌, ◌+◌, length, ◌∷◌, ◌↔◌, IsTrue, ℕ};
 ghost use Rattle.std.specs.Prelude.{List};
-ghost use Rattle.cbor4ii_tree.specs.Ahead.{leaf_bytes, Allows, IsIndefinite, BeginsWithBreak, Sees};
-ghost use Rattle.cbor4ii_tree.specs.Runs.{IsLeafAt, IsPairAt, BeginsRun};
+ghost use Rattle.cbor4ii_tree.specs.Ahead.{leaf_bytes, in_map, Allows, IsIndefinite};
+ghost use Rattle.cbor4ii_tree.specs.Ahead.{BeginsWithBreak, Sees};
+ghost use Rattle.cbor4ii_tree.specs.Runs.{IsLeafAt, BeginsRun};
 
-use crate::skip::{After, Start, start_of};
+use crate::skip::{After, Start, members_of, start_of};
 use cbor4ii_items::initial::argument;
 use cbor4ii_items::marker;
 
@@ -14,12 +15,8 @@ use cbor4ii_items::marker;
 pub(crate) enum Among {
     /// So many items are left.
     Items(u64),
-    /// So many pairs are left, and a key comes next.
-    Pairs(u64),
     /// Items up to a break.
-    IndefiniteItems,
-    /// Pairs up to a break, and a key comes next.
-    IndefinitePairs,
+    Indefinite,
 }
 
 impl Among {
@@ -29,18 +26,21 @@ impl Among {
         ensures { IsTrue result ↔ IsIndefinite self }
     {
         match self {
-            Among::Items(_) | Among::Pairs(_) => false,
-            Among::IndefiniteItems | Among::IndefinitePairs => true,
+            Among::Items(_) => false,
+            Among::Indefinite => true,
         }
     }
 
-    /// Whether it is a key that comes next.
+    /// Among what the next item of a map of indefinite length stands: after a key comes its value,
+    /// and no break.
     #[inline(always)]
-    fn is_paired(self) -> bool {
-        match self {
-            Among::Items(_) | Among::IndefiniteItems => false,
-            Among::Pairs(_) | Among::IndefinitePairs => true,
+    pub(crate) fn in_map(keyed: bool) -> Among
+        ensures { result ≡ in_map keyed }
+    {
+        if keyed {
+            return Among::Items(u64::MAX);
         }
+        Among::Indefinite
     }
 }
 
@@ -71,7 +71,7 @@ static LEAF_BYTES: [u8; 256] = [
     1, 1, 1, 0, 3, 5, 9, 0, 0, 0, 0,
 ];
 
-/// What the shown bytes begin with. In maps a run is of whole pairs alone.
+/// What the shown bytes begin with.
 #[inline(always)]
 pub(crate) fn ahead_of(shown: &[u8], among: Among) -> Ahead
     ensures { Sees among result shown.now }
@@ -83,7 +83,7 @@ pub(crate) fn ahead_of(shown: &[u8], among: Among) -> Ahead
     if among.is_indefinite() && begins_with_break(shown) {
         return Ahead::Break;
     }
-    head_of(shown, among)
+    head_of(shown)
 }
 
 /// Whether a break comes first.
@@ -105,9 +105,7 @@ fn run_of(shown: &[u8], among: Among) -> (u64, usize)
 {
     match among {
         Among::Items(most) => run_of_items(shown, most),
-        Among::Pairs(most) => run_of_pairs(shown, most),
-        Among::IndefiniteItems => run_of_items(shown, u64::MAX),
-        Among::IndefinitePairs => run_of_pairs(shown, u64::MAX),
+        Among::Indefinite => run_of_items(shown, u64::MAX),
     }
 }
 
@@ -152,42 +150,6 @@ fn are_single(shown: &[u8], at: usize, leaf: usize) -> bool
     256 * leaf + leaf_bytes(shown[at + 1]) as usize == 257
 }
 
-/// A run of at most so many whole pairs.
-#[inline(always)]
-fn run_of_pairs(shown: &[u8], most: u64) -> (u64, usize)
-    ensures few { result.0 ≤ 2 * most }
-    ensures whole { result.0 % 2 ≡ 0 }
-    ensures run { BeginsRun result.0 result.1 shown.now }
-{
-    let mut pairs = 0;
-    let mut size = 0;
-    while pairs < most {
-        let pair = pair_size(shown, size);
-        if pair == 0 {
-            return (2 * pairs, size);
-        }
-        pairs += 1;
-        size += pair;
-    }
-    (2 * pairs, size)
-}
-
-/// How many bytes the pair at this place takes, where both hold no other and stand whole; else 0.
-#[inline(always)]
-fn pair_size(shown: &[u8], at: usize) -> usize
-    ensures { result ≢ 0 → IsPairAt at result shown.now }
-{
-    let key = leaf_size(shown, at);
-    if key == 0 {
-        return 0;
-    }
-    let value = leaf_size(shown, at + key);
-    match value {
-        0 => 0,
-        _ => key + value,
-    }
-}
-
 /// How many bytes the item at this place takes, where it holds no other and stands whole; else 0.
 #[inline(always)]
 fn leaf_size(shown: &[u8], at: usize) -> usize
@@ -213,18 +175,11 @@ fn leaf_bytes(first: u8) -> u8
     LEAF_BYTES[first as usize]
 }
 
-/// The head that the shown bytes begin with, and what is left of its item. Where no run was found,
-/// only a key may be whole with its head.
+/// The head that the shown bytes begin with, and what is left of its item.
 #[inline(always)]
-fn head_of(shown: &[u8], among: Among) -> Ahead
+fn head_of(shown: &[u8]) -> Ahead
     ensures { (among : Among) → Sees among result shown.now }
 {
-    if among.is_paired() {
-        let leaf = leaf_size(shown, 0);
-        if leaf > 0 {
-            return Ahead::Head(leaf, After::Nothing);
-        }
-    }
     let [first, rest @ ..] = shown else {
         return Ahead::Unseen;
     };
@@ -247,7 +202,7 @@ fn wide_head_of(first: u8, rest: &[u8]) -> Ahead
             Ahead::Head(1 + size + argument as usize, After::Nothing)
         }
         Start::Items => Ahead::Head(1 + size, After::Items(argument)),
-        Start::Members => Ahead::Head(1 + size, After::Members(argument)),
+        Start::Members => Ahead::Head(1 + size, members_of(argument)),
         Start::Tag => Ahead::Head(1 + size, After::Items(1)),
         _ => Ahead::Unseen,
     }

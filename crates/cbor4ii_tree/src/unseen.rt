@@ -14,7 +14,7 @@ ghost use Rattle.cbor4ii_tree.specs.Rejections.{Missing, MissingAll};
 
 use crate::ahead::Among;
 use crate::prefix::Prefix;
-use crate::skip::{Additional, After, Start, parse_info, start_of};
+use crate::skip::{Additional, After, Start, members_of, parse_info, start_of};
 use cbor4ii_items::marker;
 use cbor4ii_rw::error::{DecodeError, Len, StaticStr};
 use cbor4ii_rw::read::Source;
@@ -123,7 +123,7 @@ fn trailing(start: Start, argument: u64) -> After
     match start {
         Start::Content => After::Bytes(argument),
         Start::Items => After::Items(argument),
-        Start::Members => After::Members(argument),
+        Start::Members => members_of(argument),
         Start::Tag => After::Items(1),
         Start::Indefinite => After::Indefinite,
         Start::IndefiniteMembers => After::IndefiniteMembers,

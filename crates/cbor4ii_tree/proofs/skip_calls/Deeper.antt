@@ -1,19 +1,18 @@
 -- Items in the last place of others: calls that go on with them under steps that are kept.
-use Rattle.std.proofs.Common.{◌≡◌, ℕ, zero, suc, ◌+◌, ◌-◌, ◌≤◌, ◌<◌, List, ◌++◌, Result, Ok, Err}
-use Rattle.std.proofs.Common.{Some, None, true, refl, sym, ap, ◌∙◌, subst, Bool, arith}
+use Rattle.std.proofs.Common.{◌≡◌, ℕ, zero, suc, ◌+◌, ◌-◌, ◌≤◌, ◌<◌, List, Result, Ok, Err}
+use Rattle.std.proofs.Common.{Some, None, true, refl, sym, ◌∙◌, subst, Bool, arith}
 use Rattle.cbor4ii_rw.specs.{Reader.{KeepsAllButBudget, StepsIn, step_back}, View.View}
 use Rattle.cbor4ii_rw.specs.declared.error.DecodeError.{DecodeError}
 use Rattle.cbor4ii_items.specs.Laws.UnderStep.{step_again, step_unbound}
-use Rattle.cbor4ii_tree.proofs.parts.Joined.{join, count-join, each-join, bytes-join}
-use Rattle.cbor4ii_tree.proofs.{parts.Rejecting.in_count, skip_calls.Doing.{Reached, reached_by}}
+use Rattle.cbor4ii_tree.proofs.{skip_calls.Doing.{Reached, reached_by}}
 use Rattle.cbor4ii_tree.proofs.skip_calls.Doing.{reached_then, reached_as, does_ok, does_err}
 use Rattle.cbor4ii_tree.proofs.skip_calls.Doing.{does_around, does_between, steps_in}
 use Rattle.cbor4ii_tree.proofs.skip_calls.Doing.{still_rejected, with, keeps_alike, keeps_then}
 use Rattle.cbor4ii_tree.proofs.skip_calls.Doing.{stays_put, apart_with, apart_gains}
-use Rattle.cbor4ii_tree.proofs.skip_calls.Parts.{items_join, items_none, items_one, first_stop}
-use Rattle.cbor4ii_tree.proofs.skip_calls.Runs.{some_of, steps}
+use Rattle.cbor4ii_tree.proofs.skip_calls.Parts.{items_later, items_join, items_none, items_one}
+use Rattle.cbor4ii_tree.proofs.skip_calls.{Parts.first_stop, Runs.{some_of, steps}}
 use Rattle.cbor4ii_tree.specs.Skipping.{RejectsSkippingItems, SkipsItems}
-use Rattle.cbor4ii_tree.specs.{SkippingRejects.Skippable, Tree.bytes_all, Ahead.TakesHead}
+use Rattle.cbor4ii_tree.specs.{Ahead.TakesHead}
 use Rattle.cbor4ii_tree.specs.Ahead.{SkipsSome, RejectsSome, RejectsSomeUnder, GoesUnder}
 use Rattle.cbor4ii_tree.specs.{Ahead.{CountsSome, CountsNone, CountsWent}, Cost.{Budget, step_in}}
 use Rattle.cbor4ii_tree.specs.{Deeper.{Deeper, GoesOn, budgeted}, Does.{Accepting, Does, DoesApart}}
@@ -98,11 +97,8 @@ goes_past : (total left some : ℕ) (budget inner : Budget) (xs ys : List ℕ) �
 goes_past total left some budget inner xs ys same sum h = record {
   skips = λ rest s. subst (λ n. SkipsItems n budget xs rest) (omega (arith, sum))
       (items_join some left budget xs ys rest h (subst (λ b. SkipsItems left b ys rest) same s));
-  rejects = λ e rest s.
-      let k = subst (λ b. RejectsSkippingItems left b ys e rest) same s in
-      in_count (join h.0 k.prefix) k.after (omega (arith, count-join h.0 k.prefix, h.1, k.few, sum))
-      (each-join (Skippable budget) h.0 k.prefix h.2 k.whole) (h.3 ∙ ap (λ r. bytes_all h.0 ++ r)
-      k.is ∙ sym (bytes-join h.0 k.prefix k.after)) k.stopped;
+  rejects = λ e rest s. items_later some left total budget xs ys e rest (omega (arith, sum)) h
+      (subst (λ b. RejectsSkippingItems left b ys e rest) same s);
 }
 
 -- the head of the last was taken

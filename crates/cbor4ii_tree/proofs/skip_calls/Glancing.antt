@@ -7,7 +7,7 @@ use Rattle.std.specs.Int.{bytes_high_first}
 use Rattle.cbor4ii_items.specs.{Head.{ArgumentAfter, IsBytes, break}, Initial.{info_of, wide}}
 use Rattle.cbor4ii_items.specs.{Initial.initial, Laws.Heads.info-additional}
 use Rattle.cbor4ii_items.specs.Laws.{Heads.length-bytes_high_first, Prefixes.drop_more}
-use Rattle.cbor4ii_tree.specs.{Cost.Budget, HeadParts.ArgumentBy, Runs.IsLeafAt, Skipping.start_of}
+use Rattle.cbor4ii_tree.specs.{Cost.Budget, HeadParts.ArgumentBy, Skipping.start_of}
 use Rattle.cbor4ii_tree.specs.Skipping.{trailing_of, rejection_of, Leads, RejectsSkippingAfter}
 use Rattle.cbor4ii_tree.specs.{InputError.InputError, declared.skip.initial.Start.Start}
 use Rattle.cbor4ii_tree.specs.{declared.skip.initial.After.After, Ahead.BeginsHead}
@@ -15,27 +15,6 @@ use Rattle.cbor4ii_tree.specs.declared.skip.initial.After.TheVariants.{Nothing}
 use Rattle.cbor4ii_tree.proofs.heads.Inverse.{IsBytes-take, IsBytes-drop}
 use Rattle.cbor4ii_tree.proofs.skip_calls.Leading.{Opens, whole, content_leaf, goes, opens_by}
 use Rattle.cbor4ii_tree.specs.declared.skip.initial.Start.TheVariants as start
-
--- ---- an item that holds no other
-
-pub sees_leaf : (size : ℕ) (shown : List ℕ) → size ≢ 0 → IsLeafAt 0 size shown
-    → IsBytes (take size shown) → BeginsHead size Nothing shown
-sees_leaf size shown some l fresh = record {
-  some = omega (arith, some);
-  within = omega (arith, l.within);
-  bytes = fresh;
-  leads = λ inner after.
-      let rest = drop size shown in
-      whole inner (shown ++ after) (rest ++ after) (
-        l.leaf.0,
-        l.leaf.1,
-        ap (λ r. r ++ after) (sym (take-append-drop size shown))
-            ∙ (append_assoc (take size shown) rest after ∙ ap (λ r. r ++ (rest ++ after)) l.leaf.2),
-      );
-  item = λ inner after e rest h. absurd h;
-}
-
--- ---- heads
 
 -- so many bytes after the first
 after_first : (size k : ℕ) (trailing : After) (b : ℕ) (bs : List ℕ) → size ≡ suc k → b < 256

@@ -1,6 +1,7 @@
 -- What a head says of the item that it begins, where the item is skipped.
 use Rattle.std.proofs.Common.{◌≡◌, ℕ, ◌+◌, ◌*◌, ◌%◌, ◌<◌, ◌^◌, ◌⊎◌, inl, inr, List, [], ◌∷◌, ◌++◌}
-use Rattle.std.proofs.Common.{length, Some, None, refl, sym, ap, ap₂, ◌∙◌, subst, arith}
+use Rattle.std.proofs.Common.{length, Some, None, Bool, true, false, cond, ltb, refl, sym, ap, ap₂}
+use Rattle.std.proofs.Common.{◌∙◌, subst, arith}
 use Rattle.std.proofs.{Common.{append_assoc, append-nil, lt-ltb}, lemmas.List.nil_from_length}
 use Rattle.cbor4ii_items.specs.Head.{Width, in_first, one, two, four, eight, byte_count, HeadFits}
 use Rattle.cbor4ii_items.specs.{Head.{head, indefinite_head, break, additional}, Initial.sign_major}
@@ -22,12 +23,12 @@ use Rattle.cbor4ii_tree.specs.SkippingRejects.{Skippable, SkippingRejectsBy, Ski
 use Rattle.cbor4ii_tree.specs.{SkippingRejects.SkippingRejectsFrom, HeadParts.ArgumentAt}
 use Rattle.cbor4ii_tree.specs.{HeadParts.{ArgumentBy, CutBy, DropsBytes, NoByte}, Runs.TakesLeaf}
 use Rattle.cbor4ii_tree.specs.Skipping.{start_of, RejectsSkippingOne, RejectsSkippingItems}
-use Rattle.cbor4ii_tree.specs.Skipping.{SkipsUnder, SkipsAfter, RejectsSkippingAfter}
+use Rattle.cbor4ii_tree.specs.Skipping.{SkipsItems, SkipsUnder, SkipsAfter, RejectsSkippingAfter}
 use Rattle.cbor4ii_tree.specs.Skipping.{RejectsSkippingUnder, Leads, TakesFirst, rejection_of}
-use Rattle.cbor4ii_tree.specs.Skipping.{additional_of, head_name, trailing_of}
+use Rattle.cbor4ii_tree.specs.Skipping.{additional_of, head_name, members_of, trailing_of}
 use Rattle.cbor4ii_tree.specs.declared.skip.initial.{Additional.TheVariants.Wide, After.After}
 use Rattle.cbor4ii_tree.specs.declared.skip.initial.After.TheVariants.{Nothing, Bytes, Items}
-use Rattle.cbor4ii_tree.specs.declared.skip.initial.After.TheVariants.{Members, Indefinite}
+use Rattle.cbor4ii_tree.specs.declared.skip.initial.After.TheVariants.{Twice, Indefinite}
 use Rattle.cbor4ii_tree.specs.declared.skip.initial.After.TheVariants.{IndefiniteMembers}
 use Rattle.cbor4ii_tree.specs.{declared.skip.initial.Start.Start, Laws.Binds.step_up}
 use Rattle.cbor4ii_tree.specs.Laws.Wholes.{all_skippable, all_pairs_skippable}
@@ -298,6 +299,26 @@ module _ (inner : Budget) (b : ℕ) (small : b < 256) where
     },
   )
 
+  -- twice so many items, whether a number counts these or not
+  members_skipped : (n : ℕ) (ys rest : List ℕ) → SkipsAfter (members_of n) inner ys rest
+      → SkipsItems (2 * n) inner ys rest
+  members_skipped n ys rest = by_size (ltb n (2 ^ 63))
+    where
+      by_size : (t : Bool) → SkipsAfter (cond t (Items (2 * n)) (Twice n)) inner ys rest
+          → SkipsItems (2 * n) inner ys rest
+      by_size true h = h
+      by_size false h = h
+
+  members_stop : (n : ℕ) (ys : List ℕ) (e : InputError) (rest : List ℕ)
+      → RejectsSkippingAfter (members_of n) inner ys e rest
+      → RejectsSkippingItems (2 * n) inner ys e rest
+  members_stop n ys e rest = by_size (ltb n (2 ^ 63))
+    where
+      by_size : (t : Bool) → RejectsSkippingAfter (cond t (Items (2 * n)) (Twice n)) inner ys e rest
+          → RejectsSkippingItems (2 * n) inner ys e rest
+      by_size true h = h
+      by_size false h = h
+
   -- what is read of an argument leads on, and where it is cut the item is rejected
   abbrev Goes : List ℕ → (ℕ → After) → Type 0
   Goes name lead =
@@ -384,13 +405,15 @@ module _ (inner : Budget) (b : ℕ) (small : b < 256) where
       (subst (HeadFits w) (sym h.1) fits, all.0) refl all.1
       (counted 4 n (count h.0) w b bs ys (bytes_all h.0) rest here h.1 h.3))
   by_row (starts_map w) is r none =
-      headed (starts_map w) ignored_any 5 w Members (λ n. RejectsSkippingItems (2 * n) inner) is
-      (row b (starts_map w) small is) (λ bs e rest h. h) (λ n ys e rest h. h)
-      (λ bs ys n fits here rest h. let p = paired (Skippable inner) n h.0 h.1 h.2 in
+      headed (starts_map w) ignored_any 5 w members_of (λ n. RejectsSkippingItems (2 * n) inner) is
+      (row b (starts_map w) small is) (λ bs e rest h. h) (λ n ys e rest h. members_stop n ys e rest
+      h)
+      (λ bs ys n fits here rest h. let k = members_skipped n ys rest h in
+      let p = paired (Skippable inner) n k.0 k.1 k.2 in
       let all = all_pairs_skippable p.0 inner p.2 in
       led (b ∷ bs) rest (map_of w p.0) (greatest_pair_skip_cost p.0)
       (subst (HeadFits w) (sym p.1) fits, all.0) refl all.1 (counted 5 n (pair_count p.0) w b bs ys
-      (bytes_pairs p.0) rest here p.1 (h.3 ∙ ap (λ r. r ++ rest) (sym p.3))))
+      (bytes_pairs p.0) rest here p.1 (k.3 ∙ ap (λ r. r ++ rest) (sym p.3))))
   by_row (starts_tag w) is r none =
       headed (starts_tag w) tag_name 6 w (λ n. Items 1) (λ n. RejectsSkippingOne inner) is (row b
       (starts_tag w) small is) (λ bs e rest h. h) (λ n ys e rest h. first_of inner ys e rest h)

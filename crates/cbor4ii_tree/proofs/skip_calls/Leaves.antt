@@ -1,5 +1,5 @@
 -- Items that hold no other, one after another.
-use Rattle.std.proofs.Common.{◌≡◌, ◌≢◌, ℕ, zero, suc, ◌+◌, ◌-◌, ◌*◌, ◌%◌, ◌<◌, ◌≤◌, ◌&&◌, List, []}
+use Rattle.std.proofs.Common.{◌≡◌, ◌≢◌, ℕ, zero, suc, ◌+◌, ◌-◌, ◌%◌, ◌<◌, ◌≤◌, ◌&&◌, List, []}
 use Rattle.std.proofs.Common.{◌∷◌, ◌++◌, length, get_or, take, drop, refl, sym, ap, ap₂, ◌∙◌, subst}
 use Rattle.std.proofs.Common.{arith, true, false, Bool, cond, ltb, ltb-true, eqb, eqb-true}
 use Rattle.std.proofs.Common.{append-nil, inl, inr, nat_eq, drop-cons, length-drop}
@@ -12,7 +12,7 @@ use Rattle.cbor4ii_tree.proofs.parts.Pushed.{count-push, each-push, bytes-push}
 use Rattle.cbor4ii_tree.proofs.skip_calls.Leading.{bytes_leaf, content_leaf, short_argument}
 use Rattle.cbor4ii_tree.proofs.skip_calls.Leading.{empty_leaf}
 use Rattle.cbor4ii_tree.specs.{Ahead.{leaf_by, leaf_bytes}, Cost.Budget, HeadParts.DropsBytes}
-use Rattle.cbor4ii_tree.specs.{Rejections.Each, Runs.{IsLeaf, TakesLeaf, IsLeafAt, IsPairAt}}
+use Rattle.cbor4ii_tree.specs.{Rejections.Each, Runs.{IsLeaf, TakesLeaf, IsLeafAt}}
 use Rattle.cbor4ii_tree.specs.{Runs.{BeginsRun, TakesRun}, Skipping.{start_of, SkipsItems}}
 use Rattle.cbor4ii_tree.specs.{SkippingRejects.Skippable, Tree.{Trees, no_trees, tree, count}}
 use Rattle.cbor4ii_tree.specs.{Tree.{bytes, bytes_all}, declared.ahead.TheConstants.LEAF_BYTES}
@@ -115,28 +115,6 @@ run_two n at size shown one h l m =
     let end : at + 1 + 1 ≡ at + 2 = omega arith in
     subst (λ j. BeginsRun j (at + 2) shown) count
     (subst (λ j. BeginsRun (n + 1 + 1) j shown) end both)
-
-pub pair_at : (at key value : ℕ) (shown : List ℕ) → key ≢ 0 → value ≢ 0 → IsLeafAt at key shown
-    → IsLeafAt (at + key) value shown → IsPairAt at (key + value) shown
-pair_at at key value shown some more h k = record {
-  key = key;
-  value = value;
-  sizes = refl;
-  some = omega (arith, some);
-  more = omega (arith, more);
-  first = h;
-  second = k;
-}
-
-pub run_pair : (n at size : ℕ) (shown : List ℕ) → BeginsRun (2 * n) at shown
-    → IsPairAt at size shown → BeginsRun (2 * (n + 1)) (at + size) shown
-run_pair n at size shown h p =
-    let both = run_more (2 * n + 1) (at + p.key) p.value shown (omega (arith, p.more))
-    (run_more (2 * n) at p.key shown (omega (arith, p.some)) h p.first) p.second in
-    let count : 2 * n + 1 + 1 ≡ 2 * (n + 1) = omega arith in
-    let end : at + p.key + p.value ≡ at + size = omega (arith, p.sizes) in
-    subst (λ j. BeginsRun j (at + size) shown) count
-    (subst (λ j. BeginsRun (2 * n + 1 + 1) j shown) end both)
 
 leaves_fit : (budget : Budget) (ts : Trees) → CostFits 1 budget → Each IsLeaf ts
     → Each (Skippable budget) ts

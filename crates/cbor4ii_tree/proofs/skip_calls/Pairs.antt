@@ -1,12 +1,14 @@
--- Runs in maps: so many items are whole pairs, or whole pairs and a key.
-use Rattle.std.proofs.Common.{◌≡◌, ℕ, zero, suc, ◌+◌, ◌*◌, ◌/◌, ◌%◌, List, ◌++◌, refl, sym, ap, ◌∙◌}
-use Rattle.std.proofs.Common.{arith, append_assoc, append-nil}
-use Rattle.cbor4ii_tree.specs.{Cost.Budget, Rejections.{Each, EachPair}, Skipping.SkipsItems}
-use Rattle.cbor4ii_tree.specs.{Skipping.SkipsOne, SkippingRejects.Skippable, Tree.{Tree, Trees}}
-use Rattle.cbor4ii_tree.specs.Tree.{no_trees, tree, Pairs, no_pairs, pair, count, bytes, bytes_all}
-use Rattle.cbor4ii_tree.specs.Tree.{bytes_pairs}
-use Rattle.cbor4ii_tree.proofs.{skip_calls.Parts.SkippedPairs, parts.Joined.join_pairs}
-use Rattle.cbor4ii_tree.proofs.parts.{Joined.{each-join_pairs, bytes-join_pairs}, Prefixes.paired}
+-- Maps: so many items are whole pairs, or whole pairs and a key.
+use Rattle.std.proofs.Common.{◌≡◌, ℕ, zero, suc, ◌+◌, ◌*◌, ◌/◌, ◌%◌, List, ◌∷◌, ◌++◌, Bool, true}
+use Rattle.std.proofs.Common.{false, cond, not, inl, inr, refl, sym, ap, ap₂, ◌∙◌, arith}
+use Rattle.std.proofs.Common.{append_assoc, append-nil}
+use Rattle.cbor4ii_items.specs.Head.{break}
+use Rattle.cbor4ii_tree.specs.{Cost.Budget, InputError.InputError, Rejections.{Each, EachPair}}
+use Rattle.cbor4ii_tree.specs.Skipping.{SkipsItems, SkipsMembers, RejectsSkippingMembers}
+use Rattle.cbor4ii_tree.specs.Ahead.{in_map, IsIndefinite, RejectsSome}
+use Rattle.cbor4ii_tree.specs.{SkippingRejects.Skippable, Tree.{Tree, Trees, no_trees, tree, Pairs}}
+use Rattle.cbor4ii_tree.specs.Tree.{no_pairs, pair, count, bytes, bytes_all, bytes_pairs}
+use Rattle.cbor4ii_tree.proofs.{skip_calls.Parts.{items_none, items_join}, parts.Prefixes.paired}
 
 odd_pairs : (W : Tree → Type 0) (n : ℕ) (ts : Trees) → count ts ≡ 2 * n + 1 → Each W ts
     → (ps : Pairs) × (k : Tree) × EachPair W ps × W k × (bytes_all ts ≡ bytes_pairs ps ++ bytes k)
@@ -24,33 +26,52 @@ odd_pairs W (suc n) (tree k (tree v ts)) c w =
           (bytes v ++ bytes_pairs r.0) (bytes r.1)) ∙ ap (λ x. x ++ bytes r.1) refl,
     )
 
--- whole pairs, and a key
-abbrev pub WithKey : Budget → List ℕ → List ℕ → Type 0
-WithKey budget xs ys = (before : List ℕ) × SkippedPairs budget xs before × SkipsOne budget before ys
+-- ---- in a map of indefinite length
 
--- an even count of items is whole pairs
-pub pairs_join : (n : ℕ) (budget : Budget) (xs ys zs : List ℕ) → n % 2 ≡ 0
-    → SkippedPairs budget xs ys → SkipsItems n budget ys zs → SkippedPairs budget xs zs
-pairs_join n budget xs ys zs even h k =
-    let r = paired (Skippable budget) (n / 2) k.0 (omega (arith, k.1, even)) k.2 in (
-      join_pairs h.0 r.0,
-      each-join_pairs (Skippable budget) h.0 r.0 h.1 r.2,
-      h.2 ∙ ap (λ x. bytes_pairs h.0 ++ x) (k.3 ∙ ap (λ x. x ++ zs) (sym r.3))
-          ∙ sym (bytes-join_pairs h.0 r.0 zs),
-    )
+-- so many items that a key is left without its value, or none is
+abbrev pub Keyed : Bool → Budget → List ℕ → List ℕ → Type 0
+Keyed keyed budget xs ys = (n : ℕ) × (n % 2 ≡ cond keyed 1 0) × SkipsItems n budget xs ys
 
--- an odd count is whole pairs and a key
-pub pairs_key : (n : ℕ) (budget : Budget) (xs ys zs : List ℕ) → n % 2 ≡ 1
-    → SkippedPairs budget xs ys → SkipsItems n budget ys zs → WithKey budget xs zs
-pairs_key n budget xs ys zs odd h k =
-    let r = odd_pairs (Skippable budget) (n / 2) k.0 (omega (arith, k.1, odd)) k.2 in
-    let before = bytes r.1 ++ zs in (
-      before,
-      (
-        join_pairs h.0 r.0,
-        each-join_pairs (Skippable budget) h.0 r.0 h.1 r.2,
-        h.2 ∙ ap (λ x. bytes_pairs h.0 ++ x) (k.3 ∙ ap (λ x. x ++ zs) r.4 ∙ append_assoc
-            (bytes_pairs r.0) (bytes r.1) zs) ∙ sym (bytes-join_pairs h.0 r.0 before),
-      ),
-      (r.1, record { loose = r.3.0; fits = r.3.1; begins = refl }),
-    )
+pub keyed_none : (budget : Budget) (xs : List ℕ) → Keyed false budget xs xs
+keyed_none budget xs = (0, refl, items_none budget xs)
+
+-- as many more that it is the other way
+pub keyed_turned : (keyed : Bool) (m : ℕ) (budget : Budget) (xs ys zs : List ℕ) → m % 2 ≡ 1
+    → Keyed keyed budget xs ys → SkipsItems m budget ys zs → Keyed (not keyed) budget xs zs
+keyed_turned true m budget xs ys zs odd h k =
+    (h.0 + m, omega (arith, h.1, odd), items_join h.0 m budget xs ys zs h.2 k)
+keyed_turned false m budget xs ys zs odd h k =
+    (h.0 + m, omega (arith, h.1, odd), items_join h.0 m budget xs ys zs h.2 k)
+
+-- or as it was
+pub keyed_kept : (keyed : Bool) (m : ℕ) (budget : Budget) (xs ys zs : List ℕ) → (m % 2 ≡ 1 → ⊥)
+    → Keyed keyed budget xs ys → SkipsItems m budget ys zs → Keyed keyed budget xs zs
+keyed_kept keyed m budget xs ys zs even h k =
+    (h.0 + m, omega (arith, h.1, even), items_join h.0 m budget xs ys zs h.2 k)
+
+pub keyed_done : (keyed : Bool) (budget : Budget) (xs ys zs : List ℕ) → Keyed keyed budget xs ys
+    → IsIndefinite (in_map keyed) × (ys ≡ break ∷ zs) → SkipsMembers budget xs zs
+keyed_done true budget xs ys zs h e = absurd e.0
+keyed_done false budget xs ys zs (n, even, k) e =
+    let r = paired (Skippable budget) (n / 2) k.0 (omega (arith, k.1, even)) k.2 in
+    (r.0, r.2, k.3 ∙ ap₂ ◌++◌ (sym r.3) e.1)
+
+pub keyed_stop : (keyed : Bool) (budget : Budget) (xs ys : List ℕ) (e : InputError)
+    (rest : List ℕ) → Keyed keyed budget xs ys → RejectsSome (in_map keyed) budget ys e rest
+    → RejectsSkippingMembers budget xs e rest
+keyed_stop false budget xs ys e rest (n, even, k) s =
+    let r = paired (Skippable budget) (n / 2) k.0 (omega (arith, k.1, even)) k.2 in record {
+      prefix = r.0;
+      after = ys;
+      whole = r.2;
+      is = k.3 ∙ ap (λ x. x ++ ys) (sym r.3);
+      stopped = inl s;
+    }
+keyed_stop true budget xs ys e rest (n, odd, k) s =
+    let r = odd_pairs (Skippable budget) (n / 2) k.0 (omega (arith, k.1, odd)) k.2 in record {
+      prefix = r.0;
+      after = bytes r.1 ++ ys;
+      whole = r.2;
+      is = k.3 ∙ ap (λ x. x ++ ys) r.4 ∙ append_assoc (bytes_pairs r.0) (bytes r.1) ys;
+      stopped = inr (record { key = r.1; after = ys; whole = r.3; is = refl; stopped = s });
+    }

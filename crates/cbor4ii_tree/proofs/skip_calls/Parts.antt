@@ -1,25 +1,20 @@
 -- Items that are skipped one after another.
-use Rattle.std.proofs.Common.{◌≡◌, ◌≢◌, ℕ, ◌+◌, ◌<◌, inl, inr, List, [], ◌∷◌, ◌++◌, true, false}
+use Rattle.std.proofs.Common.{◌≡◌, ◌≢◌, ℕ, ◌+◌, ◌<◌, List, [], ◌∷◌, ◌++◌, true, false}
 use Rattle.std.proofs.Common.{refl, sym, ap, ap₂, ◌∙◌, take, drop, arith, subst, ◌≤◌, append-nil}
 use Rattle.cbor4ii_items.specs.{Head.break, Strings.ReadsBreak}
 use Rattle.cbor4ii_tree.proofs.parts.{Joined.{join, count-join, each-join, bytes-join}, Pushed.push}
-use Rattle.cbor4ii_tree.proofs.parts.Pushed.{count-push, each-push, bytes-push, push_pair}
-use Rattle.cbor4ii_tree.proofs.parts.{Pushed.{each-push_pair, bytes-push_pair}, Rejecting.in_count}
-use Rattle.cbor4ii_tree.specs.Skipping.{RejectsSkippingMembers, SkipsOne, RejectsSkippingOne}
+use Rattle.cbor4ii_tree.proofs.parts.Pushed.{count-push, each-push, bytes-push}
+use Rattle.cbor4ii_tree.proofs.parts.{Rejecting.in_count}
+use Rattle.cbor4ii_tree.specs.Skipping.{SkipsOne, RejectsSkippingOne}
 use Rattle.cbor4ii_tree.specs.Skipping.{SkipsItems, RejectsSkippingItems, SkipsIndefinite}
-use Rattle.cbor4ii_tree.specs.Skipping.{RejectsSkippingIndefinite, SkipsMembers}
+use Rattle.cbor4ii_tree.specs.Skipping.{RejectsSkippingIndefinite}
 use Rattle.cbor4ii_tree.specs.{SkippingRejects.Skippable, Cost.Budget, InputError.InputError}
-use Rattle.cbor4ii_tree.specs.{Ahead.NotBreak, Rejections.{Stopping, Each, EachPair, NoBreak}}
-use Rattle.cbor4ii_tree.specs.Tree.{Trees, no_trees, tree, count, Pairs, no_pairs, bytes, bytes_all}
-use Rattle.cbor4ii_tree.specs.Tree.{bytes_pairs}
+use Rattle.cbor4ii_tree.specs.{Ahead.NotBreak, Rejections.{Stopping, Each, NoBreak}}
+use Rattle.cbor4ii_tree.specs.Tree.{Trees, no_trees, tree, count, bytes, bytes_all}
 
 -- whole items
 abbrev pub SkippedEach : Budget → List ℕ → List ℕ → Type 0
 SkippedEach budget xs ys = (ts : Trees) × Each (Skippable budget) ts × (xs ≡ bytes_all ts ++ ys)
-
-abbrev pub SkippedPairs : Budget → List ℕ → List ℕ → Type 0
-SkippedPairs budget xs ys =
-    (ps : Pairs) × EachPair (Skippable budget) ps × (xs ≡ bytes_pairs ps ++ ys)
 
 pub items_join : (n m : ℕ) (budget : Budget) (xs ys zs : List ℕ) → SkipsItems n budget xs ys
     → SkipsItems m budget ys zs → SkipsItems (n + m) budget xs zs
@@ -41,9 +36,6 @@ items_none budget xs = (no_trees, refl, tt, refl)
 pub each_none : (budget : Budget) (xs : List ℕ) → SkippedEach budget xs xs
 each_none budget xs = (no_trees, tt, refl)
 
-pub pairs_none : (budget : Budget) (xs : List ℕ) → SkippedPairs budget xs xs
-pairs_none budget xs = (no_pairs, tt, refl)
-
 pub items_more : (n : ℕ) (budget : Budget) (xs ys zs : List ℕ) → SkipsItems n budget xs ys
     → SkipsOne budget ys zs → SkipsItems (n + 1) budget xs zs
 items_more n budget xs ys zs h k = (
@@ -61,6 +53,15 @@ pub items_stop : (i n : ℕ) (budget : Budget) (xs ys : List ℕ) (e : InputErro
     → i < n → SkipsItems i budget xs ys → RejectsSkippingOne budget ys e rest
     → RejectsSkippingItems n budget xs e rest
 items_stop i n budget xs ys e rest lt h s = in_count h.0 ys (omega (arith, h.1)) h.2 h.3 s
+
+-- so many, and one of as many more that is rejected
+pub items_later : (n m total : ℕ) (budget : Budget) (xs ys : List ℕ) (e : InputError)
+    (rest : List ℕ) → n + m ≡ total → SkipsItems n budget xs ys
+    → RejectsSkippingItems m budget ys e rest → RejectsSkippingItems total budget xs e rest
+items_later n m total budget xs ys e rest sum h k =
+    in_count (join h.0 k.prefix) k.after (omega (arith, count-join h.0 k.prefix, h.1, k.few, sum))
+    (each-join (Skippable budget) h.0 k.prefix h.2 k.whole) (h.3 ∙ ap (λ r. bytes_all h.0 ++ r) k.is
+    ∙ sym (bytes-join h.0 k.prefix k.after)) k.stopped
 
 pub first_stop : (n : ℕ) (budget : Budget) (xs : List ℕ) (e : InputError) (rest : List ℕ) → 1 ≤ n
     → RejectsSkippingOne budget xs e rest → RejectsSkippingItems n budget xs e rest
@@ -104,70 +105,6 @@ indefinite_stop budget xs ys e rest h s =
 pub indefinite_done : (budget : Budget) (xs ys zs : List ℕ) → SkippedEach budget xs ys
     → ys ≡ break ∷ zs → SkipsIndefinite budget xs zs
 indefinite_done budget xs ys zs h e = (h.0, h.1, h.2 ∙ ap (λ r. bytes_all h.0 ++ r) e)
-
--- ---- some at once
-
--- so many are left of the count
-abbrev pub Left : ℕ → ℕ → Budget → List ℕ → List ℕ → Type 0
-Left total left budget xs ys = (n : ℕ) × (n + left ≡ total) × SkipsItems n budget xs ys
-
-pub left_all : (total : ℕ) (budget : Budget) (xs : List ℕ) → Left total total budget xs xs
-left_all total budget xs = (0, omega arith, items_none budget xs)
-
-pub left_some : (total left less m : ℕ) (budget : Budget) (xs ys zs : List ℕ) → less + m ≡ left
-    → Left total left budget xs ys → SkipsItems m budget ys zs → Left total less budget xs zs
-left_some total left less m budget xs ys zs e h k =
-    (h.0 + m, omega (arith, h.1, e), items_join h.0 m budget xs ys zs h.2 k)
-
-pub left_none : (total left : ℕ) (budget : Budget) (xs ys : List ℕ) → left ≡ 0
-    → Left total left budget xs ys → SkipsItems total budget xs ys
-left_none total left budget xs ys none h =
-    subst (λ n. SkipsItems n budget xs ys) (omega (arith, h.1, none)) h.2
-
-pub left_stop : (total left : ℕ) (budget : Budget) (xs ys : List ℕ) (e : InputError) (rest : List ℕ)
-    → 1 ≤ left → Left total left budget xs ys → RejectsSkippingOne budget ys e rest
-    → RejectsSkippingItems total budget xs e rest
-left_stop total left budget xs ys e rest some h s =
-    items_stop h.0 total budget xs ys e rest (omega (arith, h.1, some)) h.2 s
-
--- ---- pairs
-
-pub pairs_more : (budget : Budget) (xs ys ws zs : List ℕ) → SkippedPairs budget xs ys
-    → SkipsOne budget ys ws → SkipsOne budget ws zs → SkippedPairs budget xs zs
-pairs_more budget xs ys ws zs h k v = (
-  push_pair h.0 k.0 v.0,
-  each-push_pair (Skippable budget) h.0 k.0 v.0 h.1 (k.1.loose, k.1.fits) (v.1.loose, v.1.fits),
-  h.2 ∙ ap (λ r. bytes_pairs h.0 ++ r) (k.1.begins ∙ ap (λ r. bytes k.0 ++ r) v.1.begins)
-      ∙ sym (bytes-push_pair h.0 k.0 v.0 zs),
-)
-
-pub key_stop : (budget : Budget) (xs ys : List ℕ) (e : InputError) (rest : List ℕ)
-    → SkippedPairs budget xs ys → NoBreak (RejectsSkippingOne budget) ys e rest
-    → RejectsSkippingMembers budget xs e rest
-key_stop budget xs ys e rest h s =
-    record { prefix = h.0; after = ys; whole = h.1; is = h.2; stopped = inl s }
-
-pub value_stop : (budget : Budget) (xs ys ws : List ℕ) (e : InputError) (rest : List ℕ)
-    → SkippedPairs budget xs ys → SkipsOne budget ys ws → RejectsSkippingOne budget ws e rest
-    → RejectsSkippingMembers budget xs e rest
-value_stop budget xs ys ws e rest h k s =
-    record {
-      prefix = h.0;
-      after = ys;
-      whole = h.1;
-      is = h.2;
-      stopped = inr (record {
-        key = k.0;
-        after = ws;
-        whole = (k.1.loose, k.1.fits);
-        is = k.1.begins;
-        stopped = s;
-      });
-    }
-
-pub members_done : (budget : Budget) (xs ys zs : List ℕ) → SkippedPairs budget xs ys
-    → ys ≡ break ∷ zs → SkipsMembers budget xs zs
-members_done budget xs ys zs h e = (h.0, h.1, h.2 ∙ ap (λ r. bytes_pairs h.0 ++ r) e)
 
 -- ---- breaks
 

@@ -1,6 +1,8 @@
 -- Calls of skipping that take some items, one after another.
 use denote.Ref.{Bor}
-use Rattle.std.proofs.Common.{◌%◌, ◌*◌, ◌≡◌, ◌≢◌, ℕ, ◌+◌, ◌≤◌, inl, inr, List, ◌∷◌, Result, Ok, Err}
+use Rattle.cbor4ii_tree.proofs.parts.Rejecting.{in_count}
+use Rattle.cbor4ii_tree.proofs.skip_calls.Parts.{items_join, items_later}
+use Rattle.std.proofs.Common.{◌*◌, ◌≡◌, ◌≢◌, ℕ, ◌+◌, ◌≤◌, inl, inr, List, ◌∷◌, Result, Ok, Err}
 use Rattle.std.proofs.Common.{Some, None, Bool, true, false, refl, sym, ap, ◌∙◌, subst, arith, IfOk}
 use Rattle.std.proofs.Common.{IsTrue}
 use Rattle.cbor4ii_rw.specs.{View.View, Reader.{KeepsAllButBudget, StepsIn, step_back, Advances}}
@@ -20,40 +22,33 @@ use Rattle.cbor4ii_tree.specs.Ahead.{CountsSome, CountsWent, EndsOrNot, CountsNo
 use Rattle.cbor4ii_tree.specs.{Ahead.NeverRejects, declared.skip.initial.After.After}
 use Rattle.cbor4ii_tree.specs.declared.skip.{initial.After.TheVariants.Nothing, items.Went.Went}
 use Rattle.cbor4ii_tree.specs.declared.{skip.items.Went.TheVariants.{Past, Into}, ahead.Among.Among}
-use Rattle.cbor4ii_tree.specs.declared.ahead.Among.TheVariants.{Items, Pairs, IndefiniteItems}
-use Rattle.cbor4ii_tree.specs.declared.ahead.{Among.TheVariants.IndefinitePairs, Ahead.Ahead}
+use Rattle.cbor4ii_tree.specs.declared.ahead.{Among.TheVariants.{Items, Indefinite}, Ahead.Ahead}
 use Rattle.cbor4ii_tree.specs.declared.ahead.Ahead.TheVariants.{Run, Head, Break, Unseen}
 use Rattle.cbor4ii_tree.specs.Laws.Binds.{step_up}
 use Rattle.cbor4ii_tree.proofs.skip_calls.Doing.{lowered, Reached, reached_by, reached_as}
 use Rattle.cbor4ii_tree.proofs.skip_calls.Doing.{still_rejected, refused, does_ok, does_after}
 use Rattle.cbor4ii_tree.proofs.skip_calls.Doing.{does_on, does_reject_by, does_around, does_stepped}
 use Rattle.cbor4ii_tree.proofs.skip_calls.Doing.{steps_in, with, keeps_alike, keeps_then, stays_put}
-use Rattle.cbor4ii_tree.proofs.skip_calls.Doing.{apart_with, apart_on, apart_value, reached_on}
-use Rattle.cbor4ii_tree.proofs.skip_calls.{Pairs.{WithKey, pairs_key}, Leaves.run_items}
-use Rattle.cbor4ii_tree.proofs.skip_calls.{Prefixes.{byte_stays, byte_taken}, Parts.SkippedPairs}
-use Rattle.cbor4ii_tree.proofs.skip_calls.Parts.{only_one, no_break, items_one, Left, left_some}
+use Rattle.cbor4ii_tree.proofs.skip_calls.Doing.{apart_with, apart_on, apart_value}
+use Rattle.cbor4ii_tree.proofs.skip_calls.{Leaves.run_items}
+use Rattle.cbor4ii_tree.proofs.skip_calls.{Prefixes.{byte_stays, byte_taken}}
+use Rattle.cbor4ii_tree.proofs.skip_calls.Parts.{only_one, no_break, items_one}
 use Rattle.cbor4ii_tree.specs.declared.skip.initial.After.TheVariants as left_after
 
 -- ---- counts
 
 pub counts_one : (among : Among) → Awaits among → CountsAmong among 1
 counts_one (Items most) h = (omega arith, h)
-counts_one (Pairs most) h = (omega arith, omega (arith, h))
-counts_one IndefiniteItems h = tt
-counts_one IndefinitePairs h = tt
+counts_one Indefinite h = tt
 
 pub counts_none : (among : Among) → IsIndefinite among → CountsAmong among 0
 counts_none (Items most) h = absurd h
-counts_none (Pairs most) h = absurd h
-counts_none IndefiniteItems h = tt
-counts_none IndefinitePairs h = tt
+counts_none Indefinite h = tt
 
 -- as many as may be taken at once
 pub counts_run : (among : Among) (n : ℕ) → 1 ≤ n → Allows among n → CountsAmong among n
 counts_run (Items most) n some h = (some, h)
-counts_run (Pairs most) n some h = (some, h.0)
-counts_run IndefiniteItems n some h = tt
-counts_run IndefinitePairs n some h = tt
+counts_run Indefinite n some h = tt
 
 module _ {E : Type 0} (among : Among) where
   -- under a step
@@ -74,19 +69,13 @@ rejects_among : (among : Among) (budget : Budget) (xs : List ℕ) (e : InputErro
     → (IsIndefinite among → NotBreak xs)
     → RejectsSkippingOne budget xs e rest → RejectsSome among budget xs e rest
 rejects_among (Items most) budget xs e rest h s = s
-rejects_among (Pairs most) budget xs e rest h s = s
-rejects_among IndefiniteItems budget xs e rest h s =
-    no_break (RejectsSkippingOne budget) xs e rest (h tt) s
-rejects_among IndefinitePairs budget xs e rest h s =
+rejects_among Indefinite budget xs e rest h s =
     no_break (RejectsSkippingOne budget) xs e rest (h tt) s
 
 end_rejects : (among : Among) (budget : Budget) (xs : List ℕ) (e : InputError) (rest : List ℕ)
     → RejectsAtEnd among xs e rest → RejectsSome among budget xs e rest
 end_rejects (Items most) budget xs e rest h = absurd h.0
-end_rejects (Pairs most) budget xs e rest h = absurd h.0
-end_rejects IndefiniteItems budget xs e rest h =
-    subst (λ ys. NoBreak (RejectsSkippingOne budget) ys e rest) (sym h.1) h.2
-end_rejects IndefinitePairs budget xs e rest h =
+end_rejects Indefinite budget xs e rest h =
     subst (λ ys. NoBreak (RejectsSkippingOne budget) ys e rest) (sym h.1) h.2
 
 module _ {E : Type 0} (among : Among) where
@@ -317,32 +306,34 @@ module _ {E : Type 0} (among : Among) (n : ℕ) {t : Bool} {o i a b : View}
       items (inr h) = h.1
 
   -- a break, and no items
-  pub break_of : n ≡ 0 → Reached (λ xs ys. xs ≡ break ∷ ys) a b
+  pub break_of : n ≡ 0 → Reached (λ xs ys. IsIndefinite among × (xs ≡ break ∷ ys)) a b
   break_of none = reached_as _ _ (λ xs ys h. alone h) (reached_by d.does)
     where
-      alone : {xs ys : List ℕ} → SkipsSome among a.budget xs n ys → xs ≡ break ∷ ys
-      alone (inl h) = h.2
+      alone : {xs ys : List ℕ} → SkipsSome among a.budget xs n ys
+          → IsIndefinite among × (xs ≡ break ∷ ys)
+      alone (inl h) = (h.0, h.2)
       alone (inr h) = absurd (omega (arith, none, h.0))
 
-pub one_of : {E : Type 0} {u : Unit {0}} {a b : View} → DoesUnder {E = E}
-    (Taking SkipsOne) RejectsSkippingOne a b (Ok u) → Reached (SkipsItems 1 a.budget) a b
-one_of {a = a} d = reached_as _ _ (λ xs ys h. items_one a.budget xs ys h) (reached_by d)
+-- ---- so many items, and as many again
 
-module _ {E : Type 0} (n : ℕ) {t : Bool} {o i a m b : View} where
-  -- whole pairs, and a key
-  pub keyed : Reached (SkippedPairs a.budget) a m → n % 2 ≡ 1
-      → Outside {E = E} IndefinitePairs t o i m b (Ok n) → Reached (WithKey a.budget) a b
-  keyed p odd d =
-      reached_on p (SkipsItems n) (λ xs ys zs. pairs_key n a.budget xs ys zs odd)
-      (some_of IndefinitePairs n d (omega (arith, odd)))
+pub twice : {E : Type 0} (n : ℕ) {u : Unit {0}} {r : Result (Unit {0}) (DecodeError E)}
+    {a m b : View} → DoesUnder {E = E} (Taking (SkipsItems n)) (RejectsSkippingItems n) a m (Ok u)
+    → DoesUnder (Taking (SkipsItems n)) (RejectsSkippingItems n) m b r
+    → DoesUnder (Taking (SkipsItems (2 * n))) (RejectsSkippingItems (2 * n)) a b r
+twice n {a = a} {m = m} h d =
+    let same : m.budget ≡ a.budget = h.moves.by.budget in
+    does_after _ _ (Taking (SkipsItems (2 * n)) a.budget) _ (RejectsSkippingItems (2 * n) a.budget)
+    (λ xs ys zs v k s. subst (λ j. SkipsItems j a.budget xs zs) (omega arith) (items_join n n
+    a.budget xs ys zs k (subst (λ o. SkipsItems n o ys zs) same s)))
+    (λ xs ys z rest k s. items_later n n (2 * n) a.budget xs ys z rest (omega arith) k
+    (subst (λ o. RejectsSkippingItems n o ys z rest) same s)) (reached_by h) d
 
-  -- as many less are left
-  pub left_less : (total left less : ℕ) → Reached (Left total (2 * left) a.budget) a m
-      → less + n ≡ 2 * left → Outside {E = E} (Pairs left) t o i m b (Ok n)
-      → Reached (Left total less a.budget) a b
-  left_less total left less p e d =
-      reached_on p (SkipsItems n) (λ xs ys zs h s. left_some total
-      (2 * left) less n a.budget xs ys zs e h s) (some_of (Pairs left) n d d.gains.0.0)
+pub once : {E : Type 0} (n : ℕ) {e : DecodeError E} {a b : View}
+    → DoesUnder (Taking (SkipsItems n)) (RejectsSkippingItems n) a b (Err e)
+    → DoesUnder (Taking (SkipsItems (2 * n))) (RejectsSkippingItems (2 * n)) a b (Err e)
+once n d =
+    still_rejected _ _ (RejectsSkippingItems n _) _ (λ xs z rest k. in_count k.prefix k.after
+    (omega (arith, k.few)) k.whole k.is k.stopped) d
 
 -- ---- one item
 

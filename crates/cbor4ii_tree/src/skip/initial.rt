@@ -2,7 +2,7 @@
 //! its head.
 ghost use Rattle.std.specs.Prelude.{◌≡◌};
 ghost use Rattle.cbor4ii_items.specs.Initial.{initial, info_of};
-ghost use Rattle.cbor4ii_tree.specs.Skipping.{additional_of, start_of};
+ghost use Rattle.cbor4ii_tree.specs.Skipping.{additional_of, start_of, members_of};
 
 use cbor4ii_items::{major, marker};
 
@@ -52,8 +52,8 @@ pub(crate) enum After {
     Bytes(u64),
     /// So many items.
     Items(u64),
-    /// So many pairs.
-    Members(u64),
+    /// Twice as many items, and no number counts these.
+    Twice(u64),
     /// Items up to a break.
     Indefinite,
     /// Pairs up to a break.
@@ -102,6 +102,17 @@ pub(crate) fn start_of(first: u8) -> Start
             }
         },
     }
+}
+
+/// What is left of a map of so many pairs: their keys and values in turn.
+#[inline(always)]
+pub(crate) fn members_of(count: u64) -> After
+    ensures { result ≡ members_of count }
+{
+    if count < 1 << 63 {
+        return After::Items(2 * count);
+    }
+    After::Twice(count)
 }
 
 /// What an additional information says.

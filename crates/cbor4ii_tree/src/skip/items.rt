@@ -47,31 +47,14 @@ pub(crate) fn skip_item<S: Source, F: Prefix<S>>(
     ensures stays { IsTrue F.apart → KeepsAllButBudget (S.view reader.old) (S.view reader.new) }
 {
     let mut failure = None;
-    if skip_one(prefix, reader, &mut failure) {
-        return Ok(());
-    }
-    Err(failure.unwrap())
-}
-
-/// Skips one item. Where it does not, the error goes to `failure`: no large answer is handed up
-/// from level to level.
-#[cycle(skip)]
-fn skip_one<S: Source, F: Prefix<S>>(
-    prefix: &mut F,
-    reader: &mut S,
-    failure: &mut Option<DecodeError<S::Error>>,
-) -> bool
-    ensures { DoesApart (Taking SkipsOne) RejectsSkippingOne Lowers
-        F.apart (S.view reader.old) (S.view reader.new) (F.view prefix.old reader.old)
-        (F.view prefix.new reader.new) (done result failure.new) }
-{
-    match skip_some(prefix, reader, Among::Items(1), failure) {
-        Some(_) => true,
-        None => false,
+    match skip_some(prefix, reader, Among::Items(1), &mut failure) {
+        Some(_) => Ok(()),
+        None => Err(failure.unwrap()),
     }
 }
 
-/// Skips an item, or a run of them, and answers how many; or takes a break, and answers 0.
+/// Skips an item, or a run of them, and answers how many; or takes a break, and answers 0. Where it
+/// does neither, the error goes to `failure`: no large answer is handed up from level to level.
 #[cycle(skip)]
 #[inline(always)]
 fn skip_some<S: Source, F: Prefix<S>>(
@@ -170,7 +153,7 @@ fn skip_after<S: Source, F: Prefix<S>>(
         After::Nothing => true,
         After::Bytes(count) => skip_content(prefix, reader, count, failure),
         After::Items(count) => skip_items(prefix, reader, count, failure),
-        After::Members(count) => skip_members(prefix, reader, count, failure),
+        After::Twice(count) => skip_twice(prefix, reader, count, failure),
         After::Indefinite => skip_indefinite(prefix, reader, failure),
         After::IndefiniteMembers => skip_indefinite_members(prefix, reader, failure),
     }
@@ -267,9 +250,11 @@ fn skip_next<S: Source, F: Prefix<S>>(
     }
 }
 
-/// Skips so many pairs.
+/// Skips twice so many items.
 #[cycle(skip)]
-fn skip_members<S: Source, F: Prefix<S>>(
+#[cold]
+#[inline(never)]
+fn skip_twice<S: Source, F: Prefix<S>>(
     prefix: &mut F,
     reader: &mut S,
     count: u64,
@@ -279,21 +264,10 @@ fn skip_members<S: Source, F: Prefix<S>>(
         F.apart (S.view reader.old) (S.view reader.new) (F.view prefix.old reader.old)
         (F.view prefix.new reader.new) (done result failure.new) }
 {
-    let mut left = count;
-    while left > 0 {
-        let some = match skip_some(prefix, reader, Among::Pairs(left), failure) {
-            Some(some) => some,
-            None => return false,
-        };
-        left -= some / 2 + some % 2;
-        if some % 2 == 1 {
-            // A key: its value follows.
-            if !skip_one(prefix, reader, failure) {
-                return false;
-            }
-        }
+    if !skip_items(prefix, reader, count, failure) {
+        return false;
     }
-    true
+    skip_items(prefix, reader, count, failure)
 }
 
 /// Skips items up to a break.
@@ -308,7 +282,7 @@ fn skip_indefinite<S: Source, F: Prefix<S>>(
         (F.view prefix.new reader.new) (done result failure.new) }
 {
     loop {
-        match skip_some(prefix, reader, Among::IndefiniteItems, failure) {
+        match skip_some(prefix, reader, Among::Indefinite, failure) {
             Some(0) => return true,
             Some(_) => {}
             None => return false,
@@ -327,8 +301,9 @@ fn skip_indefinite_members<S: Source, F: Prefix<S>>(
         F.apart (S.view reader.old) (S.view reader.new) (F.view prefix.old reader.old)
         (F.view prefix.new reader.new) (done result failure.new) }
 {
+    let mut keyed = false;
     loop {
-        let some = match skip_some(prefix, reader, Among::IndefinitePairs, failure) {
+        let some = match skip_some(prefix, reader, Among::in_map(keyed), failure) {
             Some(some) => some,
             None => return false,
         };
@@ -336,10 +311,8 @@ fn skip_indefinite_members<S: Source, F: Prefix<S>>(
             return true;
         }
         if some % 2 == 1 {
-            // A key: no break may come before its value.
-            if !skip_one(prefix, reader, failure) {
-                return false;
-            }
+            // A key waits for its value now, or waits no longer.
+            keyed = !keyed;
         }
     }
 }

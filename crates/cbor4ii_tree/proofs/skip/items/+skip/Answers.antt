@@ -1,32 +1,27 @@
-use Rattle.std.proofs.Common.{refl, ◌-◌, ◌*◌, ◌∙◌, arith, rules}
-use Rattle.cbor4ii_tree.specs.{Ahead.{NeverRejects, RejectsSome}, Skipping.RejectsSkippingOne}
-use Rattle.cbor4ii_tree.specs.Skipping.{SkipsOne, SkipsItems, SkipsIndefinite, SkipsMembers}
+use Rattle.cbor4ii_tree.specs.Ahead.{in_map}
+use Rattle.cbor4ii_tree.proofs.skip_calls.Pairs.{keyed_none, keyed_turned, keyed_kept, keyed_done}
+use Rattle.cbor4ii_tree.proofs.skip_calls.{Pairs.keyed_stop, Runs.{twice, once}}
+use Rattle.std.proofs.Common.{refl, ◌∙◌, arith, rules}
+use Rattle.cbor4ii_tree.specs.{Ahead.{NeverRejects, RejectsSome}}
+use Rattle.cbor4ii_tree.specs.Skipping.{SkipsItems, SkipsIndefinite, SkipsMembers}
 use Rattle.cbor4ii_tree.specs.declared.skip.items.Went.TheVariants.{Past}
-use Rattle.cbor4ii_tree.proofs.skip_calls.Doing.{reached_start, reached_by, reached_on}
-use Rattle.cbor4ii_tree.proofs.skip_calls.Doing.{reached_then, reached_as, does_ok, does_value}
+use Rattle.cbor4ii_tree.proofs.skip_calls.Doing.{reached_start, reached_on}
+use Rattle.cbor4ii_tree.proofs.skip_calls.Doing.{reached_then, does_ok, does_value}
 use Rattle.cbor4ii_tree.proofs.skip_calls.Doing.{stops_on, refused, still_rejected, alike}
 use Rattle.cbor4ii_tree.proofs.skip_calls.Doing.{stays_then, stays_put, apart_leaf, apart_value}
 use Rattle.cbor4ii_tree.proofs.skip_calls.Doing.{apart_with, apart_on, apart_gains, may_stay}
-use Rattle.cbor4ii_tree.proofs.skip_calls.{Doing.lowered, Parts.{left_all, left_some, left_none}}
-use Rattle.cbor4ii_tree.proofs.skip_calls.Parts.{left_stop, each_none, each_join, indefinite_stop}
-use Rattle.cbor4ii_tree.proofs.skip_calls.Parts.{indefinite_done, pairs_none, pairs_more, key_stop}
-use Rattle.cbor4ii_tree.proofs.skip_calls.{Parts.{value_stop, members_done}, Pairs.pairs_join}
+use Rattle.cbor4ii_tree.proofs.skip_calls.{Doing.lowered, Parts.each_none}
+use Rattle.cbor4ii_tree.proofs.skip_calls.Parts.{each_join, indefinite_stop}
+use Rattle.cbor4ii_tree.proofs.skip_calls.Parts.{indefinite_done}
 use Rattle.cbor4ii_tree.proofs.skip_calls.Runs.{counts_none, broke, went_on, ended, cut, unseen}
 use Rattle.cbor4ii_tree.proofs.skip_calls.Runs.{ran, past, into, none_left, without_step, stepped}
-use Rattle.cbor4ii_tree.proofs.skip_calls.Runs.{some_of, break_of, one_of, one_done, goes_on}
-use Rattle.cbor4ii_tree.proofs.skip_calls.Runs.{was_past, left_less, went_into, headed}
-use Rattle.cbor4ii_tree.proofs.skip_calls.{Runs.{after_nothing, keyed}, Deeper.deeper_none}
+use Rattle.cbor4ii_tree.proofs.skip_calls.Runs.{some_of, break_of, goes_on}
+use Rattle.cbor4ii_tree.proofs.skip_calls.Runs.{was_past, went_into, headed}
+use Rattle.cbor4ii_tree.proofs.skip_calls.{Runs.{after_nothing}, Deeper.deeper_none}
 use Rattle.cbor4ii_tree.proofs.skip_calls.Deeper.{all_back, does_back, gone_into, gone}
 use Rattle.cbor4ii_tree.proofs.skip_calls.Deeper.{gone_without, gone_on, gone_no_further, all_gone}
 use Rattle.cbor4ii_tree.specs.declared.ahead.Among.TheVariants as among
 use Rattle.cbor4ii_tree.proofs.skip.items.+skip.Goals as goal
-
-pub skip_one-returns-in-None : goal.skip_one-returns-in-None
-skip_one-returns-in-None g t c =
-    apart_with (λ _. tt) (refused c.in-None.ensures.does) tt stays_put c.in-None.ensures
-
-pub skip_one-returns-in-Some : goal.skip_one-returns-in-Some
-skip_one-returns-in-Some g t c = one_done _ c.in-Some.ensures
 
 pub skip_some-skip_without_step-requires-clause-no_step :
     goal.skip_some-skip_without_step-requires-clause-no_step
@@ -116,8 +111,8 @@ skip_after-returns-in-Bytes g t c =
 pub skip_after-returns-in-Items : goal.skip_after-returns-in-Items
 skip_after-returns-in-Items g t c = goes_on c.in-Items.is c.skip_items.ensures
 
-pub skip_after-returns-in-Members : goal.skip_after-returns-in-Members
-skip_after-returns-in-Members g t c = goes_on c.in-Members.is c.skip_members.ensures
+pub skip_after-returns-in-Twice : goal.skip_after-returns-in-Twice
+skip_after-returns-in-Twice g t c = goes_on c.in-Twice.is c.skip_twice.ensures
 
 pub skip_after-returns-in-Indefinite : goal.skip_after-returns-in-Indefinite
 skip_after-returns-in-Indefinite g t c = goes_on c.in-Indefinite.is c.skip_indefinite.ensures
@@ -219,59 +214,6 @@ skip_next-returns-in-None-clause-skips g t c =
     (apart_with (λ _. 0) (refused c.in-None.ensures.does) tt stays_put c.in-None.ensures)
     c.step_out-in-None.ensures.budget c.step_out-in-None.ensures.others)
 
-pub skip_members-loop-left-init : goal.skip_members-loop-left-init
-skip_members-loop-left-init g t c = record {
-  reached = reached_start _ _ (left_all _ _);
-  stays = stays_put;
-}
-
-pub skip_members-returns-in-None : goal.skip_members-returns-in-None
-skip_members-returns-in-None g t c =
-    apart_with (λ _. tt)
-    (stops_on c.loop-left.invariant.reached (RejectsSome (among.Pairs c.loop-left.left))
-    (λ xs ys z rest. left_stop _ _ _ xs ys z rest (omega (arith, c.loop-left-test.true)))
-    c.in-None.ensures.does) tt c.loop-left.invariant.stays c.in-None.ensures
-
-pub skip_members-returns-then-not-skip_one : goal.skip_members-returns-then-not-skip_one
-skip_members-returns-then-not-skip_one g t c =
-    let less = left_less _ (2 * c.args.count) c.loop-left.left
-    (2 * c.loop-left.left - c.in-Some.some) c.loop-left.invariant.reached
-    (omega (arith, c.in-Some.ensures.gains.0.1)) c.in-Some.ensures in
-    apart_with (λ _. tt) (stops_on less RejectsSkippingOne (λ xs ys z rest. left_stop _ _ _ xs ys z
-    rest (omega (arith, c.if-some-eq1.true, c.in-Some.ensures.gains.0.1)))
-    c.if-not-skip_one.ensures.does) tt
-    (stays_then c.loop-left.invariant.stays c.in-Some.ensures.stays) c.if-not-skip_one.ensures
-
-pub skip_members-loop-left-preserved-else-not-skip_one :
-    goal.skip_members-loop-left-preserved-else-not-skip_one
-skip_members-loop-left-preserved-else-not-skip_one g t c =
-    let less = left_less _ (2 * c.args.count) c.loop-left.left
-    (2 * c.loop-left.left - c.in-Some.some) c.loop-left.invariant.reached
-    (omega (arith, c.in-Some.ensures.gains.0.1)) c.in-Some.ensures in
-    record {
-      reached = reached_on less (SkipsItems 1) (λ xs ys zs. left_some _ _ _ _ _ xs ys zs (omega
-          (arith, c.if-some-eq1.true, c.in-Some.ensures.gains.0.1)))
-          (one_of c.if-not-skip_one.ensures.does);
-      stays = stays_then (stays_then c.loop-left.invariant.stays c.in-Some.ensures.stays)
-          c.if-not-skip_one.ensures.stays;
-    }
-
-pub skip_members-loop-left-preserved : goal.skip_members-loop-left-preserved
-skip_members-loop-left-preserved g t c = record {
-  reached = left_less _ (2 * c.args.count) c.loop-left.left _ c.loop-left.invariant.reached
-      (omega (arith, c.if-some-eq1.false, c.in-Some.ensures.gains.0.1)) c.in-Some.ensures;
-  stays = stays_then c.loop-left.invariant.stays c.in-Some.ensures.stays;
-}
-
-pub skip_members-returns : goal.skip_members-returns
-skip_members-returns g t c = record {
-  does = does_ok _ _ (reached_as _ (SkipsItems (2 * c.args.count) _) (λ xs ys. left_none _ _ _ xs ys
-      (omega (arith, c.loop-left-test.false))) c.loop-left.invariant.reached);
-  spares = tt;
-  gains = tt;
-  stays = c.loop-left.invariant.stays;
-}
-
 pub skip_indefinite-loop-init : goal.skip_indefinite-loop-init
 skip_indefinite-loop-init g t c = record {
   reached = reached_start _ _ (each_none _);
@@ -280,67 +222,69 @@ skip_indefinite-loop-init g t c = record {
 
 pub skip_indefinite-returns-in-None : goal.skip_indefinite-returns-in-None
 skip_indefinite-returns-in-None g t c =
-    apart_with (λ _. tt) (stops_on c.loop.invariant.reached (RejectsSome among.IndefiniteItems)
+    apart_with (λ _. tt) (stops_on c.loop.invariant.reached (RejectsSome among.Indefinite)
     (indefinite_stop _) c.in-None.ensures.does) tt c.loop.invariant.stays c.in-None.ensures
 
 pub skip_indefinite-returns-in-Some-eq0 : goal.skip_indefinite-returns-in-Some-eq0
 skip_indefinite-returns-in-Some-eq0 g t c =
-    apart_with (λ _. tt) (does_ok _ _ (reached_then _ _ (SkipsIndefinite _) (indefinite_done _)
-    c.loop.invariant.reached (break_of among.IndefiniteItems _ c.in-Some-eq0.ensures
+    apart_with (λ _. tt) (does_ok _ _ (reached_then _ _ (SkipsIndefinite _) (λ xs ys zs h e.
+    indefinite_done _ xs ys zs h e.1)
+    c.loop.invariant.reached (break_of among.Indefinite _ c.in-Some-eq0.ensures
     c.in-Some-eq0.field-0-test))) tt c.loop.invariant.stays c.in-Some-eq0.ensures
 
 pub skip_indefinite-loop-preserved : goal.skip_indefinite-loop-preserved
 skip_indefinite-loop-preserved g t c = record {
   reached = reached_on c.loop.invariant.reached (SkipsItems _) (each_join _ _)
-      (some_of among.IndefiniteItems _ c.in-Some.ensures (omega (arith, c.in-Some.field-0-test)));
+      (some_of among.Indefinite _ c.in-Some.ensures (omega (arith, c.in-Some.field-0-test)));
   stays = stays_then c.loop.invariant.stays c.in-Some.ensures.stays;
 }
 
 pub skip_indefinite_members-loop-some-init : goal.skip_indefinite_members-loop-some-init
-skip_indefinite_members-loop-some-init g t c = record {
-  reached = reached_start _ _ (pairs_none _);
-  stays = stays_put;
-}
+skip_indefinite_members-loop-some-init g t c =
+    record { reached = reached_start _ _ (keyed_none _); stays = stays_put }
 
 pub skip_indefinite_members-returns-in-None : goal.skip_indefinite_members-returns-in-None
 skip_indefinite_members-returns-in-None g t c =
-    apart_with (λ _. tt) (stops_on c.loop-some.invariant.reached (RejectsSome among.IndefinitePairs)
-    (key_stop _) c.in-None.ensures.does) tt c.loop-some.invariant.stays c.in-None.ensures
+    let h = rw c.in_map.ensures at c.in-None.ensures in
+    apart_with (λ _. tt) (stops_on c.loop-some.invariant.reached
+    (RejectsSome (in_map c.loop-some.keyed)) (keyed_stop c.loop-some.keyed _) h.does) tt
+    c.loop-some.invariant.stays h
 
 pub skip_indefinite_members-returns-then-some-eq0 :
     goal.skip_indefinite_members-returns-then-some-eq0
 skip_indefinite_members-returns-then-some-eq0 g t c =
-    apart_with (λ _. tt) (does_ok _ _ (reached_then _ _ (SkipsMembers _)
-    (members_done _) c.loop-some.invariant.reached (break_of among.IndefinitePairs _
-    c.in-Some.ensures c.if-some-eq0.true))) tt c.loop-some.invariant.stays c.in-Some.ensures
+    let h = rw c.in_map.ensures at c.in-Some.ensures in
+    apart_with (λ _. tt) (does_ok _ _ (reached_then _ _ (SkipsMembers _) (keyed_done
+    c.loop-some.keyed _) c.loop-some.invariant.reached (break_of (in_map c.loop-some.keyed) _
+    h c.if-some-eq0.true))) tt c.loop-some.invariant.stays h
 
-pub skip_indefinite_members-returns-then-not-skip_one :
-    goal.skip_indefinite_members-returns-then-not-skip_one
-skip_indefinite_members-returns-then-not-skip_one g t c =
-    let key = keyed _ c.loop-some.invariant.reached
-    (omega (arith, c.if-some-eq1.true)) c.in-Some.ensures in
-    apart_with (λ _. tt) (stops_on key RejectsSkippingOne
-    (λ xs ys z rest h. value_stop _ xs h.0 ys z rest h.1 h.2) c.if-not-skip_one.ensures.does) tt
-    (stays_then c.loop-some.invariant.stays c.in-Some.ensures.stays) c.if-not-skip_one.ensures
-
-pub skip_indefinite_members-loop-some-preserved-else-not-skip_one :
-    goal.skip_indefinite_members-loop-some-preserved-else-not-skip_one
-skip_indefinite_members-loop-some-preserved-else-not-skip_one g t c =
-    let key = keyed _ c.loop-some.invariant.reached
-    (omega (arith, c.if-some-eq1.true)) c.in-Some.ensures in record {
-      reached = reached_on key SkipsOne (λ xs ys zs h. pairs_more _ xs h.0 ys zs h.1 h.2)
-          (reached_by c.if-not-skip_one.ensures.does);
-      stays = stays_then (stays_then c.loop-some.invariant.stays c.in-Some.ensures.stays)
-          c.if-not-skip_one.ensures.stays;
-    }
+pub skip_indefinite_members-loop-some-preserved-then-some-eq1 :
+    goal.skip_indefinite_members-loop-some-preserved-then-some-eq1
+skip_indefinite_members-loop-some-preserved-then-some-eq1 g t c = record {
+  reached = reached_on c.loop-some.invariant.reached (SkipsItems _) (λ xs ys zs. keyed_turned
+      c.loop-some.keyed _ _ xs ys zs (omega (arith, c.if-some-eq1.true))) (some_of
+      (in_map c.loop-some.keyed) _ (rw c.in_map.ensures at c.in-Some.ensures)
+      (omega (arith, c.if-some-eq0.false)));
+  stays = stays_then c.loop-some.invariant.stays c.in-Some.ensures.stays;
+}
 
 pub skip_indefinite_members-loop-some-preserved : goal.skip_indefinite_members-loop-some-preserved
 skip_indefinite_members-loop-some-preserved g t c = record {
-  reached = reached_on c.loop-some.invariant.reached (SkipsItems _)
-      (λ xs ys zs. pairs_join _ _ xs ys zs (omega (arith, c.if-some-eq1.false)))
-      (some_of among.IndefinitePairs _ c.in-Some.ensures (omega (arith, c.if-some-eq0.false)));
+  reached = reached_on c.loop-some.invariant.reached (SkipsItems _) (λ xs ys zs. keyed_kept
+      c.loop-some.keyed _ _ xs ys zs c.if-some-eq1.false) (some_of (in_map c.loop-some.keyed) _
+      (rw c.in_map.ensures at c.in-Some.ensures) (omega (arith, c.if-some-eq0.false)));
   stays = stays_then c.loop-some.invariant.stays c.in-Some.ensures.stays;
 }
+
+pub skip_twice-returns-then-not-skip_items : goal.skip_twice-returns-then-not-skip_items
+skip_twice-returns-then-not-skip_items g t c =
+    apart_on (once c.args.count c.if-not-skip_items.ensures.does) tt stays_put
+    c.if-not-skip_items.ensures
+
+pub skip_twice-returns : goal.skip_twice-returns
+skip_twice-returns g t c =
+    apart_on (twice c.args.count c.if-not-skip_items.ensures.does c.skip_items-2.ensures.does)
+    (may_stay _) c.if-not-skip_items.ensures.stays c.skip_items-2.ensures
 
 pub skip_unseen-returns-in-None : goal.skip_unseen-returns-in-None
 skip_unseen-returns-in-None g t c =

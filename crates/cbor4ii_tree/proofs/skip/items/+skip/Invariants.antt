@@ -1,26 +1,23 @@
 use Rattle.std.proofs.Common.{IsTrue, ◌+◌, ◌*◌}
 use Rattle.cbor4ii_rw.specs.Reader.{KeepsAllButBudget}
 use Rattle.cbor4ii_tree.specs.Deeper.{Deeper, GoesOn, budgeted}
-use Rattle.cbor4ii_tree.proofs.skip_calls.{Doing.Reached, Parts.{SkippedEach, SkippedPairs, Left}}
+use Rattle.cbor4ii_tree.proofs.skip_calls.{Doing.Reached, Parts.SkippedEach, Pairs.Keyed}
 use Rattle.cbor4ii_tree.proofs.skip.items.+skip.Given as goal
 
 abbrev pub decreases-skip_after : goal.decreases-skip_after
-decreases-skip_after g l = 9 * (g.F.Prefix.view l.prefix.now l.reader.now).bound + 7
+decreases-skip_after g l = 9 * (g.F.Prefix.view l.prefix.now l.reader.now).bound + 8
+
+abbrev pub decreases-skip_twice : goal.decreases-skip_twice
+decreases-skip_twice g l = 9 * (g.F.Prefix.view l.prefix.now l.reader.now).bound + 7
 
 abbrev pub decreases-skip_items : goal.decreases-skip_items
 decreases-skip_items g l = 9 * (g.F.Prefix.view l.prefix.now l.reader.now).bound + 6
-
-abbrev pub decreases-skip_members : goal.decreases-skip_members
-decreases-skip_members g l = 9 * (g.F.Prefix.view l.prefix.now l.reader.now).bound + 6
 
 abbrev pub decreases-skip_indefinite : goal.decreases-skip_indefinite
 decreases-skip_indefinite g l = 9 * (g.F.Prefix.view l.prefix.now l.reader.now).bound + 6
 
 abbrev pub decreases-skip_indefinite_members : goal.decreases-skip_indefinite_members
 decreases-skip_indefinite_members g l = 9 * (g.F.Prefix.view l.prefix.now l.reader.now).bound + 6
-
-abbrev pub decreases-skip_one : goal.decreases-skip_one
-decreases-skip_one g l = 9 * (g.F.Prefix.view l.prefix.now l.reader.now).bound + 5
 
 abbrev pub decreases-skip_some : goal.decreases-skip_some
 decreases-skip_some g l = 9 * (g.F.Prefix.view l.prefix.now l.reader.now).bound + 4
@@ -49,18 +46,6 @@ invariant-skip_inward-loop-left g l = record {
 abbrev pub decreases-skip_inward-loop-left : goal.decreases-skip_inward-loop-left
 decreases-skip_inward-loop-left g l = (g.F.Prefix.view l.prefix l.reader).bound
 
-abbrev pub invariant-skip_members-loop-left : goal.invariant-skip_members-loop-left
-invariant-skip_members-loop-left g l = record {
-  reached : Reached (Left (2 * l.count) (2 * l.left)
-      (g.F.Prefix.view l.fn.prefix l.fn.reader).budget)
-      (g.F.Prefix.view l.fn.prefix l.fn.reader) (g.F.Prefix.view l.prefix l.reader);
-  stays : IsTrue g.F.Prefix.apart
-      → KeepsAllButBudget (g.S.Source.view l.fn.reader) (g.S.Source.view l.reader);
-}
-
-abbrev pub decreases-skip_members-loop-left : goal.decreases-skip_members-loop-left
-decreases-skip_members-loop-left g l = l.left
-
 abbrev pub invariant-skip_indefinite-loop : goal.invariant-skip_indefinite-loop
 invariant-skip_indefinite-loop g l = record {
   reached : Reached (SkippedEach (g.F.Prefix.view l.fn.prefix l.fn.reader).budget)
@@ -75,7 +60,7 @@ decreases-skip_indefinite-loop g l = (g.F.Prefix.view l.prefix l.reader).bound
 abbrev pub invariant-skip_indefinite_members-loop-some :
     goal.invariant-skip_indefinite_members-loop-some
 invariant-skip_indefinite_members-loop-some g l = record {
-  reached : Reached (SkippedPairs (g.F.Prefix.view l.fn.prefix l.fn.reader).budget)
+  reached : Reached (Keyed l.keyed (g.F.Prefix.view l.fn.prefix l.fn.reader).budget)
       (g.F.Prefix.view l.fn.prefix l.fn.reader) (g.F.Prefix.view l.prefix l.reader);
   stays : IsTrue g.F.Prefix.apart
       → KeepsAllButBudget (g.S.Source.view l.fn.reader) (g.S.Source.view l.reader);
