@@ -1,5 +1,6 @@
 -- What is read as a value, and what is written for one.
 pub mod Calls
+pub mod Gives
 pub mod Heads
 pub mod Leaves
 pub mod ByHead

@@ -46,6 +46,17 @@ Lowers old new v = new + 1 ≤ old
 abbrev pub MayStay : {V : Type 0} → ℕ → ℕ → V → Type 0
 MayStay old new v = Unit {0}
 
+-- what a call of reading promises, by itself or together with the look before it
+pub record Gives {V E : Type 0} (is : V → Type 0)
+    (call : View → View → Result V (DecodeError E) → Type 0) (old new : View)
+    (answer : Result V (DecodeError E)) : Type 0 where
+  -- which prefix it accepts, and where an error is found
+  pub does : call old new answer
+  -- what it gives is in range, over any reader
+  pub ranged : IfOk answer is
+  -- the bound falls
+  pub gains : IfOk answer (Lowers old.bound new.bound)
+
 -- bytes are taken without a value
 abbrev pub Taking : (Budget → List ℕ → List ℕ → Type 0) → Budget → Accepting (Unit {0})
 Taking takes budget xs _ ys = takes budget xs ys

@@ -1,22 +1,19 @@
 -- Values that hold no other, where they stand whole in shown bytes.
-use Rattle.std.specs.Prelude.{◌≡◌, ◌≢◌, ℕ, suc, ◌+◌, ◌≤◌, ◌/◌, ◌%◌, ◌⊎◌, List, ◌∷◌, length}
-use Rattle.std.specs.Prelude.{take, Option, Some, None, Result, Ok, Err, IfSome, Bool, true}
-use Rattle.cbor4ii_rw.specs.View.{View, IfKnown}
+use Rattle.std.specs.Prelude.{◌≡◌, ◌≢◌, ℕ, suc, ◌+◌, ◌≤◌, ◌/◌, ◌%◌, ◌⊎◌, List, ◌∷◌}
+use Rattle.std.specs.Prelude.{length, take, Option, Some, None, Result, Ok, Err, IfSome, Bool, true}
+use Rattle.cbor4ii_rw.specs.View.{View}
 use Rattle.cbor4ii_rw.specs.declared.error.DecodeError.{DecodeError}
 use Rattle.cbor4ii_items.specs.Head.{ArgumentAfter, HeadFits, IsBytes, Width, byte_count, head}
 use Rattle.cbor4ii_items.specs.Head.{shortest}
 use Rattle.cbor4ii_items.specs.Initial.{simple_byte, simple_undefined}
-use Rattle.cbor4ii_items.specs.Moves.{Kept}
-use Rattle.cbor4ii_items.specs.Reading.{Runs, peek_at}
 use Rattle.cbor4ii_tree.specs.Cost.{Budget, cost}
-use Rattle.cbor4ii_tree.specs.Does.{Accepting, DoesUnder, error_left}
+use Rattle.cbor4ii_tree.specs.Does.{Accepting, DoesUnder, Gives, error_left}
 use Rattle.cbor4ii_tree.specs.Item.{IsItem}
 use Rattle.cbor4ii_tree.specs.Meaning.{value}
-use Rattle.cbor4ii_tree.specs.InputError.{value_name}
-use Rattle.cbor4ii_tree.specs.Rejections.{Stopping}
+use Rattle.cbor4ii_tree.specs.{Prefix.Offers, Rejections.Stopping}
 use Rattle.cbor4ii_tree.specs.CanonicalShape.{CanonicalShape}
 use Rattle.cbor4ii_tree.specs.Tree.{Tree, bytes, Plain}
-use Rattle.cbor4ii_tree.specs.Valuing.{ReadsUnder, RejectsUnder}
+use Rattle.cbor4ii_tree.specs.Valuing.{InRange, ReadsUnder, RejectsUnder}
 use Rattle.cbor4ii_tree.specs.View.{view}
 use Rattle.cbor4ii_tree.specs.declared.value.Value.{Value}
 use Rattle.cbor4ii_tree.specs.declared.leaf.Leaf.{Leaf}
@@ -85,25 +82,13 @@ SeesLeaf exact (NoMemory size) shown = WantsContent size shown
 SeesLeaf exact End shown = length shown ≡ 0
 SeesLeaf exact (Begins n) shown = SeesNext exact n shown
 
--- a look at the next byte, which stays, has shown this one, and it may be taken
-pub record ShowsFirst (E : Type 0) (first : ℕ) (old new : View) : Type 0 where
-  pub runs : Runs {V = ℕ} {E = E} (peek_at value_name 1) old new (Ok first)
-  pub can : 1 ≤ new.advanceable
+-- a look has shown this first byte
+abbrev pub ShowsFirst : ℕ → View → View → Type 0
+ShowsFirst first = Offers 1 (λ shown. (trailing : List ℕ) × (shown ≡ first ∷ trailing))
 
--- a look at the head of an array, a map or a tag, which stays, has shown it whole, and it may be
--- taken
-pub record ShowsHead (exact : Type 0) (major n size : ℕ) (old new : View) : Type 0 where
-  pub kept : Kept old new
-  pub can : size ≤ new.advanceable
-  pub shown : List ℕ
-  pub stands : HeadStands exact major n size shown
-  pub begins : IfKnown old.known (λ xs.
-      (new.known ≡ Some xs) × (size ≤ length xs) × (take size xs ≡ take size shown))
-
--- a look has shown the value that comes next, and it may be taken
-pub record ShowsNext (E exact : Type 0) (n : Next) (old new : View) : Type 0 where
-  pub first : ShowsFirst E n.first old new
-  pub head : IfSome n.head (λ h. ShowsHead exact (n.first / 32) h.argument h.size old new)
+-- a look has shown the value that comes next
+abbrev pub ShowsNext : Type 0 → Next → View → View → Type 0
+ShowsNext exact n = Offers 1 (SeesNext exact n)
 
 -- what a look has shown may be taken
 pub record CanTake (n : Next) (view : View) : Type 0 where
@@ -113,32 +98,22 @@ pub record CanTake (n : Next) (view : View) : Type 0 where
 -- as DoesUnder, of a call together with the look before it, which has shown this byte
 abbrev pub DoesAfterFirst : {V E : Type 0} → ℕ → (Budget → Accepting V) → (Budget → Stopping)
     → View → View → Result V (DecodeError E) → Type 0
-DoesAfterFirst {E = E} first accepts rejects old new answer =
-    (before : View) → ShowsFirst E first before old → DoesUnder accepts rejects before new answer
+DoesAfterFirst first accepts rejects old new answer =
+    (before : View) → ShowsFirst first before old → DoesUnder accepts rejects before new answer
 
 -- as DoesUnder, of a call together with the look before it, which has shown the value that comes
 -- next
-abbrev pub DoesAfterNext : {V E : Type 0} → Type 0 → Next → (Budget → Accepting V)
+abbrev pub DoesAfterNext : {V E : Type 0} → Bool → Next → (Budget → Accepting V)
     → (Budget → Stopping) → View → View → Result V (DecodeError E) → Type 0
-DoesAfterNext {E = E} exact n accepts rejects old new answer =
-    (before : View) → ShowsNext E exact n before old → DoesUnder accepts rejects before new answer
-
--- where a value was taken
-abbrev pub OnTaken : Looked → Type 0 → Type 0
-OnTaken (Taken v) P = P
-OnTaken (looked.Begins n) P = Unit {0}
-
--- what was taken is in range
-abbrev pub ItemTaken : Looked → Type 0
-ItemTaken (Taken v) = IsItem (view v)
-ItemTaken (looked.Begins n) = Unit {0}
+DoesAfterNext exact n accepts rejects old new answer = (before : View)
+    → ShowsNext (exact ≡ true) n before old → DoesUnder accepts rejects before new answer
 
 -- a value was taken, or none and a look has shown it; or there is an error
 abbrev pub TakesLeaf : {E : Type 0} → Bool → View → View → Option Looked → Option (DecodeError E)
     → Type 0
-TakesLeaf exact old new None failure =
-    DoesUnder (ReadsUnder exact) (RejectsUnder exact) old new (Err (error_left failure))
-TakesLeaf {E = E} exact old new (Some (looked.Begins n)) failure =
-    ShowsNext E (exact ≡ true) n old new
+TakesLeaf exact old new (Some (looked.Begins n)) failure = ShowsNext (exact ≡ true) n old new
 TakesLeaf {E = E} exact old new (Some (Taken v)) failure =
-    DoesUnder {E = E} (ReadsUnder exact) (RejectsUnder exact) old new (Ok v)
+    Gives {E = E} InRange (DoesUnder (ReadsUnder exact) (RejectsUnder exact)) old new (Ok v)
+TakesLeaf exact old new None failure =
+    Gives InRange (DoesUnder (ReadsUnder exact) (RejectsUnder exact)) old new
+    (Err (error_left failure))

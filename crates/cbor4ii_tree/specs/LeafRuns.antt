@@ -1,11 +1,12 @@
 -- Runs of values that hold no other, where they stand whole in shown bytes.
 use Rattle.std.specs.Prelude.{◌≡◌, ℕ, ◌+◌, ◌<◌, ◌≤◌, ◌⊎◌, List, [], ◌∷◌, ◌++◌, length, take, drop}
-use Rattle.std.specs.Prelude.{Option, Some, None, OnSome, IfSome, IfNone, Bool, true, Ok, Err}
+use Rattle.std.specs.Prelude.{◌-◌, Option, Some, None, OnSome, IfSome, IfNone, Bool, true, Result}
+use Rattle.std.specs.Prelude.{Ok, Err}
 use Rattle.cbor4ii_rw.specs.View.{View}
 use Rattle.cbor4ii_rw.specs.declared.error.DecodeError.{DecodeError}
 use Rattle.cbor4ii_items.specs.Head.{IsBytes}
 use Rattle.cbor4ii_tree.specs.Cost.{Budget, cost, step_in}
-use Rattle.cbor4ii_tree.specs.Does.{Does, error_left}
+use Rattle.cbor4ii_tree.specs.Does.{Accepting, Does, DoesUnder, Gives, error_left}
 use Rattle.cbor4ii_tree.specs.Item.{AreItems}
 use Rattle.cbor4ii_tree.specs.Leaf.{CanTake, SeesNext, ShowsNext, WantsContent}
 use Rattle.cbor4ii_tree.specs.Meaning.{values}
@@ -107,6 +108,14 @@ PutsItemsUnder exact before after inner xs u ys = (budget : Budget) → step_in 
 abbrev pub KeepsItems : List Value → List Value → Type 0
 KeepsItems before after = AreItems (items_view before) → AreItems (items_view after)
 
+-- values are put after others, up to so many in all
+abbrev pub GivesItems : {E : Type 0} → (List Value → List Value → Budget → Accepting (Unit {0}))
+    → (ℕ → Budget → Stopping) → ℕ → List Value → List Value → View → View
+    → Result (Unit {0}) (DecodeError E) → Type 0
+GivesItems puts rejects full before after =
+    Gives (λ _. KeepsItems before after × (length after ≤ full))
+    (DoesUnder (puts before after) (rejects (full - length before)))
+
 -- no byte is left where a value is to begin
 abbrev pub RejectsWhereNone : Stopping
 RejectsWhereNone xs e rest = (xs ≡ []) × Is (eof value_name (Small 1)) [] e rest
@@ -122,7 +131,7 @@ pub record RunsBefore (E : Type 0) (exact : Bool) (n : Next) (before after : Lis
   pub mid : View
   pub puts : Does {V = Unit {0}} {E = E} (PutsItemsUnder exact before after old.budget)
       RejectsWhereNone old mid (Ok tt)
-  pub shows : ShowsNext E (exact ≡ true) n mid new
+  pub shows : ShowsNext (exact ≡ true) n mid new
 
 -- values were taken by a run, or it was rejected
 abbrev pub TakesBy : {E : Type 0} → Bool → List Value → List Value → View → View

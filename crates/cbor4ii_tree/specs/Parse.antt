@@ -3,7 +3,7 @@
 use Rattle.std.specs.Prelude.{ℕ, zero, suc, ◌-◌, ◌%◌, ◌==◌, List, [], ◌∷◌, length, take, drop}
 use Rattle.std.specs.Prelude.{Option, Some, None, Result, Ok, Err, nat_lt, if◌then◌else◌}
 use Rattle.cbor4ii_items.specs.Head.{Width, in_first, one, two, four, eight, break}
-use Rattle.cbor4ii_items.specs.{Magnitude.number_of, Reading.{Reading, go_on}}
+use Rattle.cbor4ii_items.specs.{Magnitude.number_of, Reading.go_on}
 use Rattle.cbor4ii_tree.specs.{Cost.Budget, InputError.{InputError, eof, depth_overflow, len_of}}
 use Rattle.cbor4ii_tree.specs.{InputError.{Small, break_name}, Tree.{Tree, Trees, no_trees, tree}}
 use Rattle.cbor4ii_tree.specs.Tree.{Pairs, no_pairs, pair}
@@ -13,7 +13,7 @@ abbrev pub Answer : Type 0 → Type 0
 Answer A = Result (A × List ℕ) (InputError × List ℕ)
 
 abbrev pub Parser : Type 0 → Type 0
-Parser A = Reading A
+Parser A = List ℕ → Answer A
 
 infixl 10 ◌>>=◌
 abbrev pub ◌>>=◌ : {A B : Type 0} → Answer A → (A × List ℕ → Answer B) → Answer B

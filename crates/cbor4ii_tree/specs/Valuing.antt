@@ -8,7 +8,7 @@ use Rattle.std.specs.declared.vec.Vec.{Vec}
 use Rattle.std.specs.declared.alloc.Global.{Global}
 use Rattle.cbor4ii_tree.specs.Does.{Accepting}
 use Rattle.cbor4ii_tree.specs.declared.value.Value.{Value}
-use Rattle.cbor4ii_tree.specs.Item.{tag}
+use Rattle.cbor4ii_tree.specs.Item.{IsItem, tag}
 use Rattle.cbor4ii_tree.specs.Tree.{Tree, Trees, count, bytes, bytes_all}
 use Rattle.cbor4ii_tree.specs.Meaning.{value, values, simple_item}
 use Rattle.cbor4ii_tree.specs.Cost.{Budget, step_in}
@@ -18,6 +18,10 @@ use Rattle.cbor4ii_tree.specs.ReadingRejects.{Readable, ReadingRejectsFrom, Read
 use Rattle.cbor4ii_tree.specs.CanonicalRejects.{FitsCanonically, CanonicalRejectsFrom}
 use Rattle.cbor4ii_tree.specs.CanonicalRejects.{CanonicalRejects}
 use Rattle.cbor4ii_tree.specs.View.{view, items_view}
+
+-- what is read is a value of the program
+abbrev pub InRange : Value → Type 0
+InRange v = IsItem (view v)
 
 -- an encoding that is read whole
 abbrev pub Whole : Bool → Budget → Tree → Type 0

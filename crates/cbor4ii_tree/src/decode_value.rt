@@ -3,18 +3,20 @@
 //! Each level of arrays, maps and tags takes one small frame of the stack: their loops and
 //! `read_tagged` stay out of line, and what leads from one of them to another is inline. What a
 //! loop answers is made a value where it comes back, so that each level has one place for it.
-ghost use Rattle.std.specs.Prelude.{◌≡◌, ◌+◌, ◌-◌, ◌*◌, ◌<◌, ◌≤◌, ◌/◌, ◌⊎◌, IfOk, true, false};
-ghost use Rattle.std.specs.Prelude.{length, OnSome, IfSome};
-ghost use Rattle.cbor4ii_tree.specs.Does.{DoesUnder, answered};
+ghost use Rattle.std.specs.Prelude.{◌≡◌, ◌+◌, ◌-◌, ◌*◌, ◌<◌, ◌≤◌, ◌/◌, ◌⊎◌, IfOk};
+ghost use Rattle.std.specs.Prelude.{true, false, length};
+ghost use Rattle.std.specs.Prelude.{OnSome, IfSome};
+ghost use Rattle.cbor4ii_tree.specs.Does.{DoesUnder, Gives, answered};
 ghost use Rattle.cbor4ii_tree.specs.Valuing.{ReadsOneValue, RejectsOneValue, ReadsUnder};
-ghost use Rattle.cbor4ii_tree.specs.Valuing.{RejectsUnder, ReadsInside, RejectsOf, RejectsMajor};
+ghost use Rattle.cbor4ii_tree.specs.Valuing.{InRange, RejectsUnder};
+ghost use Rattle.cbor4ii_tree.specs.Valuing.{ReadsInside, RejectsOf, RejectsMajor};
 ghost use Rattle.cbor4ii_tree.specs.Valuing.{ReadsVec, ReadsItems, RejectsItems};
 ghost use Rattle.cbor4ii_tree.specs.Valuing.{ReadsIndefiniteItems, RejectsIndefiniteItems};
 ghost use Rattle.cbor4ii_tree.specs.Valuing.{ReadsMembers, RejectsMembers, ReadsIndefiniteMembers};
 ghost use Rattle.cbor4ii_tree.specs.Valuing.{RejectsIndefiniteMembers, ReadsMember, RejectsMember};
 ghost use Rattle.cbor4ii_tree.specs.Valuing.{ReadsTagged, TakesLength, TakesTag, flat_values};
 ghost use Rattle.cbor4ii_tree.specs.Leaf.{CanTake, DoesAfterFirst, DoesAfterNext};
-ghost use Rattle.cbor4ii_tree.specs.LeafRuns.{flat, KeepsItems, PutsItems, PutsItemsUnder};
+ghost use Rattle.cbor4ii_tree.specs.LeafRuns.{flat, GivesItems, PutsItems, PutsItemsUnder};
 ghost use Rattle.cbor4ii_tree.specs.LeafRuns.{RejectsItemsUnder};
 ghost use Rattle.cbor4ii_tree.specs.Item.{IsItem, AreItems};
 ghost use Rattle.cbor4ii_tree.specs.View.{view, items_view};
@@ -190,10 +192,8 @@ pub(crate) fn read_outermost<S: Source, A: Encodings>(
     reader: &mut S,
     failure: &mut Option<DecodeError<S::Error>>,
 ) -> Option<Value>
-    ensures does { DoesUnder (ReadsOneValue A.exact) (RejectsOneValue A.exact)
+    ensures { Gives InRange (DoesUnder (ReadsOneValue A.exact) (RejectsOneValue A.exact))
         (S.view reader.old) (S.view reader.new) (answered result failure.new) }
-    ensures item { IfSome result (λ v. IsItem (view v)) }
-    ensures progress { OnSome result ((S.view reader.new).bound + 1 ≤ (S.view reader.old).bound) }
 {
     if !reader.step_in() {
         leave_deep("value", failure);
@@ -210,10 +210,8 @@ fn read_apart<S: Source, A: Encodings>(
     reader: &mut S,
     failure: &mut Option<DecodeError<S::Error>>,
 ) -> Option<Value>
-    ensures does { DoesUnder (ReadsUnder A.exact) (RejectsUnder A.exact)
+    ensures { Gives InRange (DoesUnder (ReadsUnder A.exact) (RejectsUnder A.exact))
         (S.view reader.old) (S.view reader.new) (answered result failure.new) }
-    ensures item { IfSome result (λ v. IsItem (view v)) }
-    ensures progress { OnSome result ((S.view reader.new).bound + 1 ≤ (S.view reader.old).bound) }
 {
     read_inside::<S, A>(alloc, reader, failure)
 }
@@ -227,10 +225,8 @@ fn read_value<S: Source, A: Encodings>(
     reader: &mut S,
     failure: &mut Option<DecodeError<S::Error>>,
 ) -> Option<Value>
-    ensures does { DoesUnder (ReadsOneValue A.exact) (RejectsOneValue A.exact)
+    ensures { Gives InRange (DoesUnder (ReadsOneValue A.exact) (RejectsOneValue A.exact))
         (S.view reader.old) (S.view reader.new) (answered result failure.new) }
-    ensures item { IfSome result (λ v. IsItem (view v)) }
-    ensures progress { OnSome result ((S.view reader.new).bound + 1 ≤ (S.view reader.old).bound) }
 {
     if !reader.step_in() {
         leave_deep("value", failure);
@@ -249,10 +245,8 @@ fn read_inside<S: Source, A: Encodings>(
     reader: &mut S,
     failure: &mut Option<DecodeError<S::Error>>,
 ) -> Option<Value>
-    ensures does { DoesUnder (ReadsUnder A.exact) (RejectsUnder A.exact)
+    ensures { Gives InRange (DoesUnder (ReadsUnder A.exact) (RejectsUnder A.exact))
         (S.view reader.old) (S.view reader.new) (answered result failure.new) }
-    ensures item { IfSome result (λ v. IsItem (view v)) }
-    ensures progress { OnSome result ((S.view reader.new).bound + 1 ≤ (S.view reader.old).bound) }
 {
     match take_leaf::<S, A>(alloc, reader, failure)? {
         Looked::Taken(value) => Some(value),
@@ -270,10 +264,8 @@ fn read_next<S: Source, A: Encodings>(
     failure: &mut Option<DecodeError<S::Error>>,
 ) -> Option<Value>
     requires { CanTake next (S.view reader.old) }
-    ensures does { DoesAfterNext (A.exact ≡ true) next (ReadsUnder A.exact) (RejectsUnder A.exact)
+    ensures { Gives InRange (DoesAfterNext A.exact next (ReadsUnder A.exact) (RejectsUnder A.exact))
         (S.view reader.old) (S.view reader.new) (answered result failure.new) }
-    ensures item { IfSome result (λ v. IsItem (view v)) }
-    ensures progress { OnSome result ((S.view reader.new).bound + 1 ≤ (S.view reader.old).bound) }
 {
     match next.first / 32 {
         major::ARRAY => read_array::<S, A>(alloc, reader, next, failure),
@@ -294,10 +286,8 @@ fn read_tag<S: Source, A: Encodings>(
 ) -> Option<Value>
     requires can { CanTake next (S.view reader.old) }
     requires major { next.first / 32 ≡ 6 }
-    ensures does { DoesAfterNext (A.exact ≡ true) next (ReadsUnder A.exact) (RejectsOf A.exact 6)
+    ensures { Gives InRange (DoesAfterNext A.exact next (ReadsUnder A.exact) (RejectsOf A.exact 6))
         (S.view reader.old) (S.view reader.new) (answered result failure.new) }
-    ensures item { IfSome result (λ v. IsItem (view v)) }
-    ensures progress { OnSome result ((S.view reader.new).bound + 1 ≤ (S.view reader.old).bound) }
 {
     let number = take_tag::<S, A>(reader, next, failure)?;
     read_tagged::<S, A>(alloc, reader, number, failure)
@@ -312,10 +302,8 @@ fn read_tagged<S: Source, A: Encodings>(
     number: u64,
     failure: &mut Option<DecodeError<S::Error>>,
 ) -> Option<Value>
-    ensures does { DoesUnder (ReadsTagged A.exact number) (RejectsOneValue A.exact)
+    ensures { Gives InRange (DoesUnder (ReadsTagged A.exact number) (RejectsOneValue A.exact))
         (S.view reader.old) (S.view reader.new) (answered result failure.new) }
-    ensures item { IfSome result (λ v. IsItem (view v)) }
-    ensures progress { OnSome result ((S.view reader.new).bound + 1 ≤ (S.view reader.old).bound) }
 {
     let inner = read_value::<S, A>(alloc, reader, failure)?;
     match Box::new(alloc, inner) {
@@ -336,7 +324,7 @@ fn take_tag<S: Source, A: Encodings>(
 ) -> Option<u64>
     requires can { CanTake next (S.view reader.old) }
     requires major { next.first / 32 ≡ 6 }
-    ensures does { DoesAfterNext (A.exact ≡ true) next (TakesTag A.exact) (RejectsOf A.exact 6)
+    ensures does { DoesAfterNext A.exact next (TakesTag A.exact) (RejectsOf A.exact 6)
         (S.view reader.old) (S.view reader.new) (answered result failure.new) }
     ensures progress { OnSome result ((S.view reader.new).bound + 1 ≤ (S.view reader.old).bound) }
 {
@@ -361,7 +349,7 @@ fn take_length<S: Source, A: Encodings>(
     requires can { CanTake next (S.view reader.old) }
     requires major { next.first / 32 ≡ major }
     requires nests { (major ≡ 4) ⊎ (major ≡ 5) }
-    ensures does { DoesAfterNext (A.exact ≡ true) next
+    ensures does { DoesAfterNext A.exact next
         (TakesLength A.exact major) (RejectsMajor A.exact major)
         (S.view reader.old) (S.view reader.new) (answered result failure.new) }
     ensures progress { OnSome result ((S.view reader.new).bound + 1 ≤ (S.view reader.old).bound) }
@@ -386,10 +374,8 @@ fn read_alone<S: Source, A: Encodings>(
 ) -> Option<Value>
     requires shown { 1 ≤ (S.view reader.old).advanceable }
     requires major { (first / 32 ≤ 3) ⊎ (first / 32 ≡ 7) }
-    ensures does { DoesAfterFirst first (ReadsUnder A.exact) (RejectsUnder A.exact)
+    ensures { Gives InRange (DoesAfterFirst first (ReadsUnder A.exact) (RejectsUnder A.exact))
         (S.view reader.old) (S.view reader.new) (answered result failure.new) }
-    ensures item { IfSome result (λ v. IsItem (view v)) }
-    ensures progress { OnSome result ((S.view reader.new).bound + 1 ≤ (S.view reader.old).bound) }
 {
     if first / 32 != major::SIMPLE {
         return part(A::read_leaf(alloc, reader, first), failure);
@@ -419,10 +405,8 @@ fn read_array<S: Source, A: Encodings>(
 ) -> Option<Value>
     requires can { CanTake next (S.view reader.old) }
     requires major { next.first / 32 ≡ 4 }
-    ensures does { DoesAfterNext (A.exact ≡ true) next (ReadsUnder A.exact) (RejectsOf A.exact 4)
+    ensures { Gives InRange (DoesAfterNext A.exact next (ReadsUnder A.exact) (RejectsOf A.exact 4))
         (S.view reader.old) (S.view reader.new) (answered result failure.new) }
-    ensures item { IfSome result (λ v. IsItem (view v)) }
-    ensures progress { OnSome result ((S.view reader.new).bound + 1 ≤ (S.view reader.old).bound) }
 {
     if !reader.step_in() {
         leave_deep("array", failure);
@@ -443,11 +427,9 @@ fn array_inside<S: Source, A: Encodings>(
 ) -> Option<Value>
     requires can { CanTake next (S.view reader.old) }
     requires major { next.first / 32 ≡ 4 }
-    ensures does { DoesAfterNext (A.exact ≡ true) next
-        (ReadsInside A.exact) (RejectsMajor A.exact 4)
+    ensures { Gives InRange (DoesAfterNext A.exact next
+        (ReadsInside A.exact) (RejectsMajor A.exact 4))
         (S.view reader.old) (S.view reader.new) (answered result failure.new) }
-    ensures item { IfSome result (λ v. IsItem (view v)) }
-    ensures progress { OnSome result ((S.view reader.new).bound + 1 ≤ (S.view reader.old).bound) }
 {
     match take_length::<S, A>(reader, major::ARRAY, next, failure)? {
         Some(0) => Some(Value::Array(Vec::new(alloc))),
@@ -492,12 +474,9 @@ fn more_items<S: Source, A: Encodings>(
     failure: &mut Option<DecodeError<S::Error>>,
 ) -> Option<()>
     requires { length items.old.items < 1 * count }
-    ensures does { DoesUnder (PutsItems A.exact items.old.items items.new.items)
-        (RejectsItems A.exact (1 * count - length items.old.items))
+    ensures { GivesItems (PutsItems A.exact) (RejectsItems A.exact) (1 * count)
+        items.old.items items.new.items
         (S.view reader.old) (S.view reader.new) (answered result failure.new) }
-    ensures items { OnSome result (KeepsItems items.old.items items.new.items) }
-    ensures few { OnSome result (length items.new.items ≤ 1 * count) }
-    ensures progress { OnSome result ((S.view reader.new).bound + 1 ≤ (S.view reader.old).bound) }
 {
     if !reader.step_in() {
         leave_deep("value", failure);
@@ -519,12 +498,9 @@ fn items_inside<S: Source, A: Encodings>(
     failure: &mut Option<DecodeError<S::Error>>,
 ) -> Option<()>
     requires { length items.old.items < 1 * count }
-    ensures does { DoesUnder (PutsItemsUnder A.exact items.old.items items.new.items)
-        (RejectsItemsUnder A.exact (1 * count - length items.old.items))
+    ensures { GivesItems (PutsItemsUnder A.exact) (RejectsItemsUnder A.exact) (1 * count)
+        items.old.items items.new.items
         (S.view reader.old) (S.view reader.new) (answered result failure.new) }
-    ensures items { OnSome result (KeepsItems items.old.items items.new.items) }
-    ensures few { OnSome result (length items.new.items ≤ 1 * count) }
-    ensures progress { OnSome result ((S.view reader.new).bound + 1 ≤ (S.view reader.old).bound) }
 {
     match take_run::<S, A, Vec<Value>>(alloc, reader, count, items, failure)? {
         Some(next) => {
@@ -547,12 +523,9 @@ fn more_members<S: Source, A: Encodings>(
     failure: &mut Option<DecodeError<S::Error>>,
 ) -> Option<()>
     requires { length (flat pairs.old) < 2 * count }
-    ensures does { DoesUnder (PutsItems A.exact (flat pairs.old) (flat pairs.new))
-        (RejectsItems A.exact (2 * count - length (flat pairs.old)))
+    ensures { GivesItems (PutsItems A.exact) (RejectsItems A.exact) (2 * count)
+        (flat pairs.old) (flat pairs.new)
         (S.view reader.old) (S.view reader.new) (answered result failure.new) }
-    ensures items { OnSome result (KeepsItems (flat pairs.old) (flat pairs.new)) }
-    ensures few { OnSome result (length (flat pairs.new) ≤ 2 * count) }
-    ensures progress { OnSome result ((S.view reader.new).bound + 1 ≤ (S.view reader.old).bound) }
 {
     if !reader.step_in() {
         leave_deep("value", failure);
@@ -574,12 +547,9 @@ fn members_inside<S: Source, A: Encodings>(
     failure: &mut Option<DecodeError<S::Error>>,
 ) -> Option<()>
     requires { length (flat pairs.old) < 2 * count }
-    ensures does { DoesUnder (PutsItemsUnder A.exact (flat pairs.old) (flat pairs.new))
-        (RejectsItemsUnder A.exact (2 * count - length (flat pairs.old)))
+    ensures { GivesItems (PutsItemsUnder A.exact) (RejectsItemsUnder A.exact) (2 * count)
+        (flat pairs.old) (flat pairs.new)
         (S.view reader.old) (S.view reader.new) (answered result failure.new) }
-    ensures items { OnSome result (KeepsItems (flat pairs.old) (flat pairs.new)) }
-    ensures few { OnSome result (length (flat pairs.new) ≤ 2 * count) }
-    ensures progress { OnSome result ((S.view reader.new).bound + 1 ≤ (S.view reader.old).bound) }
 {
     match take_run::<S, A, Pairs>(alloc, reader, count, pairs, failure)? {
         Some(next) => {
@@ -621,10 +591,8 @@ fn read_map<S: Source, A: Encodings>(
 ) -> Option<Value>
     requires can { CanTake next (S.view reader.old) }
     requires major { next.first / 32 ≡ 5 }
-    ensures does { DoesAfterNext (A.exact ≡ true) next (ReadsUnder A.exact) (RejectsOf A.exact 5)
+    ensures { Gives InRange (DoesAfterNext A.exact next (ReadsUnder A.exact) (RejectsOf A.exact 5))
         (S.view reader.old) (S.view reader.new) (answered result failure.new) }
-    ensures item { IfSome result (λ v. IsItem (view v)) }
-    ensures progress { OnSome result ((S.view reader.new).bound + 1 ≤ (S.view reader.old).bound) }
 {
     if !reader.step_in() {
         leave_deep("map", failure);
@@ -645,11 +613,9 @@ fn map_inside<S: Source, A: Encodings>(
 ) -> Option<Value>
     requires can { CanTake next (S.view reader.old) }
     requires major { next.first / 32 ≡ 5 }
-    ensures does { DoesAfterNext (A.exact ≡ true) next
-        (ReadsInside A.exact) (RejectsMajor A.exact 5)
+    ensures { Gives InRange (DoesAfterNext A.exact next
+        (ReadsInside A.exact) (RejectsMajor A.exact 5))
         (S.view reader.old) (S.view reader.new) (answered result failure.new) }
-    ensures item { IfSome result (λ v. IsItem (view v)) }
-    ensures progress { OnSome result ((S.view reader.new).bound + 1 ≤ (S.view reader.old).bound) }
 {
     match take_length::<S, A>(reader, major::MAP, next, failure)? {
         Some(0) => Some(Value::Map(Vec::new(alloc))),
@@ -713,11 +679,9 @@ fn read_member<S: Source, A: Encodings>(
     reader: &mut S,
     failure: &mut Option<DecodeError<S::Error>>,
 ) -> Option<(Value, Value)>
-    ensures does { DoesUnder (ReadsMember A.exact) (RejectsMember A.exact)
+    ensures { Gives (λ m. InRange m.0 × InRange m.1)
+        (DoesUnder (ReadsMember A.exact) (RejectsMember A.exact))
         (S.view reader.old) (S.view reader.new) (answered result failure.new) }
-    ensures key { IfSome result (λ member. IsItem (view member.0)) }
-    ensures value { IfSome result (λ member. IsItem (view member.1)) }
-    ensures progress { OnSome result ((S.view reader.new).bound + 1 ≤ (S.view reader.old).bound) }
 {
     let key = read_value::<S, A>(alloc, reader, failure)?;
     let value = read_value::<S, A>(alloc, reader, failure)?;

@@ -1,11 +1,10 @@
 //! Values that hold no other, decided in one look where they stand whole in what is shown
 //! (RFC 8949 section 3). Of what does not, the look hands on the first byte.
-ghost use Rattle.std.specs.Prelude.{◌≡◌, ◌≤◌, ◌+◌, ◌∷◌, ◌/◌, ◌%◌, ◌⊎◌, IfOk, OnErr, IfSome, true};
+ghost use Rattle.std.specs.Prelude.{◌≡◌, ◌∷◌, ◌/◌, ◌%◌, ◌⊎◌, IfOk, OnErr, IfSome, true};
 ghost use Rattle.cbor4ii_rw.specs.Reader.{ReaderFails};
 ghost use Rattle.cbor4ii_items.specs.Head.{ArgumentAfter, byte_count, shortest};
 ghost use Rattle.cbor4ii_tree.specs.Prefix.{Offers};
-ghost use Rattle.cbor4ii_tree.specs.Leaf.{ExactHead, SeesLeaf, SeesNext, TakesLeaf, ItemTaken};
-ghost use Rattle.cbor4ii_tree.specs.Leaf.{OnTaken};
+ghost use Rattle.cbor4ii_tree.specs.Leaf.{ExactHead, SeesLeaf, SeesNext, TakesLeaf};
 
 use crate::accepted::Encodings;
 use crate::simple::simple_of;
@@ -65,11 +64,7 @@ pub(crate) fn take_leaf<S: Source, A: Encodings>(
     reader: &mut S,
     failure: &mut Option<DecodeError<S::Error>>,
 ) -> Option<Looked>
-    ensures takes { TakesLeaf A.exact
-        (S.view reader.old) (S.view reader.new) result failure.new }
-    ensures item { IfSome result ItemTaken }
-    ensures progress { IfSome result (λ looked. OnTaken looked
-        ((S.view reader.new).bound + 1 ≤ (S.view reader.old).bound)) }
+    ensures { TakesLeaf A.exact (S.view reader.old) (S.view reader.new) result failure.new }
 {
     match glance::<S, A>(alloc, reader) {
         Ok(Leaf::Whole(value, size)) => {

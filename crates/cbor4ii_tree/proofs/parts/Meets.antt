@@ -1,7 +1,7 @@
 -- What a plain program answers: something that is good, or one of these errors with a rest.
 use Rattle.std.proofs.Common.{◌≡◌, ℕ, List, Option, Some, None, Ok, Err, refl, subst}
-use Rattle.cbor4ii_items.specs.Reading.{Reading, go_on}
-use Rattle.cbor4ii_tree.specs.{Cost.Budget, InputError.InputError, Parse.{Answer, stepped}}
+use Rattle.cbor4ii_items.specs.Reading.{go_on}
+use Rattle.cbor4ii_tree.specs.{Cost.Budget, InputError.InputError, Parse.{Answer, Parser, stepped}}
 use Rattle.cbor4ii_tree.specs.Rejections.{RejectsAtStep}
 
 abbrev pub Failing : Type 1
@@ -25,7 +25,7 @@ err_meets z h = record { holds = h }
 
 -- the answer in which another one goes on
 pub then_meets : {A B : Type 0} {Good : A × List ℕ → Type 0} {Bad : Failing}
-    {Better : B × List ℕ → Type 0} {Worse : Failing} {r : Answer A} {next : A → Reading B}
+    {Better : B × List ℕ → Type 0} {Worse : Failing} {r : Answer A} {next : A → Parser B}
     → Meets Good Bad r → ((a : A) (x : List ℕ) → Good (a, x) → Meets Better Worse (next a x))
     → ((e : InputError) (rest : List ℕ) → Bad e rest → Worse e rest)
     → Meets Better Worse (go_on r next)
@@ -34,7 +34,7 @@ then_meets {r = Err z} m k c = record { holds = c z.0 z.1 m.holds }
 
 -- the same with the same errors
 pub and_meets : {A B : Type 0} {Good : A × List ℕ → Type 0} {Bad : Failing}
-    {Better : B × List ℕ → Type 0} {r : Answer A} {next : A → Reading B} → Meets Good Bad r
+    {Better : B × List ℕ → Type 0} {r : Answer A} {next : A → Parser B} → Meets Good Bad r
     → ((a : A) (x : List ℕ) → Good (a, x) → Meets Better Bad (next a x))
     → Meets Better Bad (go_on r next)
 and_meets m k = then_meets m k (λ e rest f. f)

@@ -1,17 +1,17 @@
 -- Calls of decoders whose items nest, one after another.
-use Rattle.std.proofs.Common.{◌≡◌, ℕ, zero, suc, ◌+◌, ◌-◌, ◌<◌, ◌≤◌, List, ◌∷◌, drop, Option, Some}
+use Rattle.std.proofs.Common.{◌≡◌, ℕ, zero, suc, ◌+◌, ◌-◌, ◌≤◌, List, drop, Option, Some}
 use Rattle.std.proofs.Common.{None, Result, Ok, Err, Bool, true, false, IsTrue, refl, sym, ap, ◌∙◌}
 use Rattle.std.proofs.Common.{subst, arith, IfSome, IfOk}
 use Rattle.cbor4ii_rw.specs.{View.{IfKnown, View}, declared.error.DecodeError.DecodeError}
-use Rattle.cbor4ii_rw.specs.Reader.{KeepsAllButBudget, StepsIn, step_back, Advances}
+use Rattle.cbor4ii_rw.specs.Reader.{KeepsAllButBudget, StepsIn, step_back}
 use Rattle.cbor4ii_rw.specs.declared.error.DecodeError.TheVariants.{OutOfMemory}
 use Rattle.cbor4ii_items.specs.{Budget.CostFits, Decoding.{Sound, Rejects}, InputError.InputError}
 use Rattle.cbor4ii_items.specs.InputError.{input_error_of, is_read, is_depth_overflow}
 use Rattle.cbor4ii_items.specs.{InputError.depth_overflow, Laws.Running.{kept_alike, unread}}
-use Rattle.cbor4ii_items.specs.Laws.{Running.{peeked, kept_taken}, Steps.{moves_then, moves_err}}
+use Rattle.cbor4ii_items.specs.Laws.Steps.{moves_then, moves_err}
 use Rattle.cbor4ii_items.specs.Laws.{Steps.{kept_then, counted_none}, UnderStep.step_again}
 use Rattle.cbor4ii_items.specs.{Laws.UnderStep.{step_unbound, moves_around, no_step}, Moves.Kept}
-use Rattle.cbor4ii_items.specs.{Moves.{Moves, is_failure}, Reading.{Runs, peek_at}}
+use Rattle.cbor4ii_items.specs.Moves.{Moves, is_failure}
 use Rattle.cbor4ii_tree.specs.{Cost.{Budget, step_in}, Does.{Accepting, Does, DoesApart, DoesUnder}}
 use Rattle.cbor4ii_tree.specs.{Does.{Spares, Lowers}, Rejections.Stopping}
 
@@ -152,26 +152,6 @@ reached_sound reads P f moves s = record {
   kept = moves.by;
   at = λ xs known. let t = s.at xs known in
       (drop t.count xs, t.left, f xs t.count t.cost t.fits t.read);
-}
-
--- a byte that was looked at stays
-pub reached_peek : {E : Type 0} (name : List ℕ) (expect b : ℕ) {a m : View} → Runs {E = E} (peek_at
-    name expect) a m (Ok b) → Reached (λ xs ys. (rest : List ℕ) × (xs ≡ b ∷ rest) × (ys ≡ xs)) a m
-reached_peek name expect b p = record {
-  kept = p.moves.by;
-  at = λ xs known. let h = p.answers xs known in (h.0, h.1, peeked name expect b xs h.0 h.2);
-}
-
--- and is taken
-pub reached_first : {E : Type 0} (name : List ℕ) (expect b : ℕ) {a m c : View} → Runs {E = E}
-    (peek_at name expect) a m (Ok b) → b < 256 → Advances 1 m c → Reached (λ xs ys. xs ≡ b ∷ ys) a c
-reached_first name expect b {c = c} p small adv = record {
-  kept = kept_taken p small adv;
-  at = λ xs known.
-      let h = p.answers xs known in
-      let q = peeked name expect b xs h.0 h.2 in
-      let e : h.0 ≡ b ∷ q.0 = q.2 ∙ q.1 in
-      (q.0, adv.known h.0 h.1 ∙ ap (λ (zs : List ℕ). Some (drop 1 zs)) e, q.1);
 }
 
 -- ---- steps

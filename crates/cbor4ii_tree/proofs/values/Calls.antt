@@ -5,23 +5,23 @@ use Rattle.std.proofs.lemmas.Int.{to_z-of_z}
 use Rattle.std.specs.Prelude.{pos, ◌^◌}
 use mir.Syntax.{w128}
 use mir.Val.{to_z}
-use Rattle.cbor4ii_rw.specs.{Reader.{KeepsAllButBudget, StepsIn, step_back}, View.View}
+use Rattle.cbor4ii_rw.specs.{View.View}
 use Rattle.cbor4ii_rw.specs.declared.error.DecodeError.{DecodeError}
 use Rattle.cbor4ii_items.specs.{Budget.CostFits, Head.{Width, in_first, byte_count, additional}}
 use Rattle.cbor4ii_items.specs.{Head.{HeadFits, indefinite_head}, Heads.{RejectsHead, Begins}}
 use Rattle.cbor4ii_items.specs.Initial.{Info, wide, indefinite_ended, reserved, info_of, initial}
 use Rattle.cbor4ii_items.specs.Initial.{by_major, int_by_info, Sign, unsigned, negative, sign_major}
 use Rattle.cbor4ii_items.specs.InputError.{InputError, depth_overflow}
-use Rattle.cbor4ii_tree.specs.{declared.value.Value.Value, CanonicalShape.CanonicalShape}
+use Rattle.cbor4ii_tree.specs.{CanonicalShape.CanonicalShape}
 use Rattle.cbor4ii_tree.specs.{Cost.{Budget, step_in, cost}, Does.{Does, Accepting}}
 use Rattle.cbor4ii_tree.specs.InputError.{sign_name, value_name, eof, mismatch, Small, len_of}
 use Rattle.cbor4ii_tree.specs.Laws.Numbers.{additional-lt, info-additional}
 use Rattle.cbor4ii_tree.specs.ReadingRejects.{ReadingRejectsBy, ReadingRejects}
 use Rattle.cbor4ii_tree.specs.{Rejections.{RejectsAtStep, Is, MissingAll, Stopping}, Tree.Tree}
-use Rattle.cbor4ii_tree.specs.{Tree.Plain, Valuing.{Whole, ReadsOneValue, RejectsOneValue}}
-use Rattle.cbor4ii_tree.specs.Valuing.{ReadsUnder, RejectsUnder}
-use Rattle.cbor4ii_tree.proofs.{skip_calls.Bytes.says_width, skip_calls.Doing.does_stepped}
-use Rattle.cbor4ii_tree.proofs.skip_calls.Doing.{steps_in, Reached, does_after, does_err}
+use Rattle.cbor4ii_tree.specs.{Tree.Plain, Valuing.{Whole, RejectsOneValue}}
+use Rattle.cbor4ii_tree.specs.Valuing.{RejectsUnder}
+use Rattle.cbor4ii_tree.proofs.{skip_calls.Bytes.says_width}
+use Rattle.cbor4ii_tree.proofs.skip_calls.Doing.{Reached, does_after, does_err}
 use Rattle.cbor4ii_tree.proofs.answers.Nesting.{reading_by_parts, strict_by_parts}
 use Rattle.cbor4ii_tree.proofs.heads.Means.{WidthSays, InfoSays, info_says}
 
@@ -60,16 +60,6 @@ pub value_no_byte : (exact : Bool) (budget : Budget) (z : InputError) (rest : Li
     → Is (eof value_name (Small 1)) [] z rest → RejectsUnder exact budget [] z rest
 value_no_byte false budget z rest is = is
 value_no_byte true budget z rest is = is
-
-pub stepped : (exact : Bool) {E : Type 0} {r : Result Value (DecodeError E)} {a b c d : View}
-    → StepsIn a.budget b.budget true → KeepsAllButBudget a b → Does (ReadsUnder exact b.budget)
-    (RejectsUnder exact b.budget) b c r → d.budget ≡ step_back c.budget → KeepsAllButBudget c d
-    → Does (ReadsOneValue exact a.budget) (RejectsOneValue exact a.budget) a d r
-stepped exact {a = a} {b = b} takes inward w gives outward =
-    let step = steps_in a.budget b.budget takes in
-    does_stepped (ReadsUnder exact b.budget) _ (RejectsUnder exact b.budget) _ (λ xs ys v h. h
-    a.budget step) (λ xs e rest h. rejects_under exact b.budget a.budget xs e rest step h) takes
-    inward w gives outward
 
 -- ---- a call after others
 

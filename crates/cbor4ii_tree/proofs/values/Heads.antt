@@ -9,7 +9,7 @@ use mir.Val.{to_z, of_z}
 use Rattle.cbor4ii_rw.specs.{Reader.Advances, View.View, declared.error.DecodeError.DecodeError}
 use Rattle.cbor4ii_items.specs.InputError.{not_canonical, InputError, input_error_of, is_read}
 use Rattle.cbor4ii_items.specs.{InputError.is_depth_overflow, Laws.Answering.fits_zero}
-use Rattle.cbor4ii_items.specs.{Reading.{peek_at, Runs}, Shortest.canonical_name, Budget.CostFits}
+use Rattle.cbor4ii_items.specs.{Shortest.canonical_name, Budget.CostFits}
 use Rattle.cbor4ii_items.specs.{Decoding.{Sound, Rejects}, Floats.{ReadsFloat, RejectsFloat}}
 use Rattle.cbor4ii_items.specs.{Floats.float_bytes, Head.{head, shortest}, Heads.RejectsHead}
 use Rattle.cbor4ii_items.specs.{Heads.ReadsHead, Initial.{Sign, sign_major, unsigned, Initial}}
@@ -38,8 +38,9 @@ use Rattle.cbor4ii_tree.specs.declared.value.Value.{Value, Integer, Float, the_l
 use Rattle.cbor4ii_tree.proofs.{canonical.FitsCanonically.precision_major, skip_calls.Doing.Reached}
 use Rattle.cbor4ii_tree.proofs.skip_calls.Doing.{reached_start, reached_by, reached_as, does_ok}
 use Rattle.cbor4ii_tree.proofs.skip_calls.Doing.{does_err, does_after, does_reject, does_rejects}
-use Rattle.cbor4ii_tree.proofs.skip_calls.Doing.{call_rejects, reached_peek, reached_first}
-use Rattle.cbor4ii_tree.proofs.{skip_calls.Doing.reached_sound, values.Calls.{whole_is, Peeked}}
+use Rattle.cbor4ii_tree.specs.Leaf.{ShowsFirst}
+use Rattle.cbor4ii_tree.proofs.skip_calls.Doing.{call_rejects, reached_sound}
+use Rattle.cbor4ii_tree.proofs.values.{ByHead.taken_first, Calls.{whole_is, Peeked}}
 use Rattle.cbor4ii_tree.proofs.values.Calls.{head_cut, no_head, initial_of, small_z, fits_less}
 use Rattle.cbor4ii_tree.proofs.{values.Calls.{whole, does_under}, values.Encoding.view-Integer}
 use Rattle.cbor4ii_tree.proofs.parts.Rejecting.{headed_by}
@@ -60,7 +61,7 @@ at_major k budget b bs e rest is h =
     subst (λ j. CanonicalRejectsBy (RejectsOneValue true) budget j b bs e rest) (sym is) h
 
 module _ (exact : Bool) (b : ℕ) {E : Type 0} {a m : View}
-    (first : Runs {E = E} (peek_at value_name 1) a m (Ok b)) where
+    (first : Reached (Peeked b) a m) where
   pub arm_does : (A : Accepting Value) (S : Stopping) {r : Result Value (DecodeError E)} {c : View}
       → ((bs ys : List ℕ) (v : Value) → A (b ∷ bs) v ys → ReadsUnder exact a.budget (b ∷ bs) v ys)
       → ((bs : List ℕ) (z : InputError) (rest : List ℕ) → S (b ∷ bs) z rest
@@ -70,7 +71,7 @@ module _ (exact : Bool) (b : ℕ) {E : Type 0} {a m : View}
       does_after (Peeked b) A _ S _ (λ xs ys zs v p h. subst (λ x. ReadsUnder exact a.budget x v zs)
       (sym p.1) (f p.0 zs v (subst (λ x. A x v zs) (p.2 ∙ p.1) h))) (λ xs ys z rest p h. subst (λ x.
       RejectsUnder exact a.budget x z rest) (sym p.1) (g p.0 z rest (subst (λ x. S x z rest)
-      (p.2 ∙ p.1) h))) (reached_peek value_name 1 b first) d
+      (p.2 ∙ p.1) h))) first d
 
   -- what its major type reports
   pub major_arm : (major : ℕ) → b / 32 ≡ major → {r : Result Value (DecodeError E)} {c : View}
@@ -86,8 +87,8 @@ module _ (exact : Bool) (b : ℕ) {E : Type 0} {a m : View}
       → Does (ReadsUnder exact a.budget) (RejectsUnder exact a.budget) a c r
   first_does d =
       arm_does (ReadsUnder exact m.budget) (RejectsFirst exact b m.budget) (λ bs ys v h. subst (λ o.
-      ReadsUnder exact o (b ∷ bs) v ys) first.moves.by.budget h) (λ bs z rest h. subst (λ o.
-      RejectsUnder exact o (b ∷ bs) z rest) first.moves.by.budget (h bs refl)) d
+      ReadsUnder exact o (b ∷ bs) v ys) first.kept.budget h) (λ bs z rest h. subst (λ o.
+      RejectsUnder exact o (b ∷ bs) z rest) first.kept.budget (h bs refl)) d
 
 -- ---- heads
 
@@ -153,9 +154,9 @@ negative_reads exact inner n xs ys h =
 -- ---- simple values
 
 pub simple_read : (exact : Bool) {E : Type 0} (b : ℕ) {a m c : View} {v : Value}
-    → Runs {E = E} (peek_at value_name 1) a m (Ok b) → b < 256 → Advances 1 m c
-    → (exact ≡ true → b ≢ simple_byte simple_undefined) → SimpleOf b (Some v)
-    → Does {E = E} (ReadsUnder exact a.budget) (RejectsUnder exact a.budget) a c (Ok v)
+    → ShowsFirst b a m → b < 256 → Advances 1 m c
+    → (exact ≡ true → b ≢ simple_byte simple_undefined) → SimpleOf b (Some v) → Does {E = E}
+    (ReadsUnder exact a.budget) (RejectsUnder exact a.budget) a c (Ok v)
 simple_read exact b {a = a} {v = v} first small adv defined s =
     does_ok _ _ (reached_as (λ xs ys. xs ≡ b ∷ ys) _ (λ xs ys e budget step. (
       simple s.0,
@@ -163,13 +164,14 @@ simple_read exact b {a = a} {v = v} first small adv defined s =
           (step_up budget a.budget 0 step (fits_zero a.budget)),
       s.2,
       e ∙ ap (λ j. j ∷ ys) s.1,
-    )) (reached_first value_name 1 b first small adv))
+    )) (taken_first b first small adv))
 
 -- undefined is not canonical
 pub undefined_rejected : (exact : Bool) {E : Type 0} (b : ℕ) {e : DecodeError E} {a m c : View}
-    → Runs {E = E} (peek_at value_name 1) a m (Ok b) → b < 256 → Advances 1 m c → (exact ≡ true)
-    × (b ≡ simple_byte simple_undefined) → input_error_of e ≡ Some (not_canonical canonical_name)
-    → is_read e ≡ false → is_depth_overflow e ≡ false → Does {V = Value} (ReadsUnder exact a.budget)
+    → ShowsFirst b a m → b < 256 → Advances 1 m c
+    → (exact ≡ true) × (b ≡ simple_byte simple_undefined)
+    → input_error_of e ≡ Some (not_canonical canonical_name) → is_read e ≡ false
+    → is_depth_overflow e ≡ false → Does {V = Value} (ReadsUnder exact a.budget)
     (RejectsUnder exact a.budget) a c (Err e)
 undefined_rejected false b first small adv is says read shallow = absurd (false_true is.0)
   where
@@ -180,7 +182,7 @@ undefined_rejected true b {a = a} first small adv is says read shallow =
     e. subst (λ x. RejectsUnder true a.budget x (not_canonical canonical_name) ys) (sym e) (at_major
     7 a.budget b ys (not_canonical canonical_name) ys (omega (arith, is.1)) (subst (λ i.
     CanonicalOtherRejects i b ys (not_canonical canonical_name) ys) (sym (ap initial is.1 ∙
-    initial_simple simple_undefined)) (refl, refl)))) (reached_first value_name 1 b first small adv)
+    initial_simple simple_undefined)) (refl, refl)))) (taken_first b first small adv)
 
 -- ---- what a first byte reports
 

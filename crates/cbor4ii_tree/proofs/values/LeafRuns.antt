@@ -1,45 +1,45 @@
 -- Runs: values that hold no other, one after another in shown bytes.
-use Rattle.std.proofs.Common.{◌≡◌, ℕ, ◌+◌, ◌-◌, ◌*◌, ◌/◌, ◌<◌, ◌≤◌, ◌⊎◌, List, [], ◌∷◌, ◌++◌}
+use Rattle.std.proofs.Common.{◌≡◌, ℕ, ◌+◌, ◌-◌, ◌*◌, ◌<◌, ◌≤◌, ◌⊎◌, List, [], ◌∷◌, ◌++◌}
 use Rattle.std.proofs.Common.{length, take, drop, Option, Some, None, refl, sym, ap, ap₂, ◌∙◌}
 use Rattle.std.proofs.Common.{subst, arith, append_assoc, length-append, length-drop}
 use Rattle.std.proofs.Common.{take-append-drop, Vec, Global, nat_lt, Bool, true, false, not, OnSome}
-use Rattle.std.proofs.{Common.{IfNone, Result, Ok, Err, inl, inr}, Math.Seq.take-add}
+use Rattle.std.proofs.{Common.{Ok, Err, inl, inr}, Math.Seq.take-add}
 use Rattle.std.proofs.{lemmas.Bool.{ltb-true, ltb-false}, lemmas.List.{append-nil, drop-take}}
 use Rattle.std.specs.Option.{is_some}
 use denote.Ref.{Bor}
 use Rattle.cbor4ii_rw.specs.Reader.{Advances, ReaderFails, IsPrefix, KeepsAllButBudget, Shows}
-use Rattle.cbor4ii_rw.specs.{Reader.{StepsIn, step_back}, View.{View, IfKnown}}
+use Rattle.cbor4ii_rw.specs.{Reader.{StepsIn}, View.{View, IfKnown}}
 use Rattle.cbor4ii_rw.specs.declared.error.DecodeError.{DecodeError}
 use Rattle.cbor4ii_rw.specs.declared.error.DecodeError.TheVariants.{OutOfMemory, Eof, Read}
 use Rattle.cbor4ii_items.specs.InputError.{depth_overflow, input_error_of, is_read}
 use Rattle.cbor4ii_items.specs.{Laws.Answering.fits_zero, Budget.CostFits, Head.IsBytes}
-use Rattle.cbor4ii_items.specs.{Laws.Contents.lends_prefix, Laws.Steps.{counted_none, kept_then}}
-use Rattle.cbor4ii_items.specs.{Moves.{ReaderFailed, Kept}, Reading.{Runs, peek_at}}
+use Rattle.cbor4ii_items.specs.{Laws.Contents.lends_prefix}
+use Rattle.cbor4ii_items.specs.Moves.{ReaderFailed, Kept}
 use Rattle.cbor4ii_tree.specs.Valuing.{ReadsMembers, ReadsOneValue, flat_values, Whole}
 use Rattle.cbor4ii_tree.specs.Valuing.{RejectsItems, ReadsItems, ReadsEach, ReadsUnder}
 use Rattle.cbor4ii_tree.specs.{Valuing.{RejectsOneValue, RejectsUnder}, Prefix.Offers}
 use Rattle.cbor4ii_tree.specs.{declared.leaf.Next.Next, Cost.Budget, Does.{Accepting, Does}}
-use Rattle.cbor4ii_tree.specs.{Does.{answered, error_left}, InputError.{InputError, value_name}}
-use Rattle.cbor4ii_tree.specs.{InputError.Small, Item.{AreItems, IsItem, item, no_items}}
-use Rattle.cbor4ii_tree.specs.{Laws.Binds.step_up, Leaf.{DoesAfterNext, HeadStands, SeesNext}}
-use Rattle.cbor4ii_tree.specs.Leaf.{ShowsHead, ShowsNext, StandsAhead, WantsContent}
+use Rattle.cbor4ii_tree.specs.{InputError.{InputError, value_name}}
+use Rattle.cbor4ii_tree.specs.{InputError.Small, Item.{AreItems, item, no_items}}
+use Rattle.cbor4ii_tree.specs.{Laws.Binds.step_up, Leaf.{DoesAfterNext, SeesNext}}
+use Rattle.cbor4ii_tree.specs.Leaf.{ShowsNext, StandsAhead, WantsContent}
 use Rattle.cbor4ii_tree.specs.LeafRuns.{flat_pairs, IsLeaf, StandInFront, PutsAfter, PutsRun}
 use Rattle.cbor4ii_tree.specs.LeafRuns.{RejectsMemory, PutsItems, RunsBefore, PutsItemsUnder}
 use Rattle.cbor4ii_tree.specs.LeafRuns.{KeepsItems, RejectsItemsUnder, RejectsWhereNone, TakesBy}
 use Rattle.cbor4ii_tree.specs.{LeafRuns.TakesRun, Meaning.{values}, Rejections.Each}
 use Rattle.cbor4ii_tree.specs.{Rejections.{Stopping, RejectsInCount}, Tree.{Tree, Trees, no_trees}}
-use Rattle.cbor4ii_tree.specs.{Tree.{tree, bytes, bytes_all, count}, View.{view, items_view}}
+use Rattle.cbor4ii_tree.specs.{Tree.{tree, bytes, bytes_all, count}, View.{items_view}}
 use Rattle.cbor4ii_tree.specs.declared.value.Value.{Value}
 use Rattle.cbor4ii_tree.proofs.{parts.Prefixes.IsBytes-append, skip_calls.Doing.does_ok}
-use Rattle.cbor4ii_tree.proofs.skip_calls.Doing.{does_no_step, does_no_memory, does_stepped}
-use Rattle.cbor4ii_tree.proofs.skip_calls.Doing.{steps_in, Reached, reached_start, reached_then}
-use Rattle.cbor4ii_tree.proofs.{skip_calls.Doing.{reached_by, does_err}, values.ByHead.prefix_shown}
-use Rattle.cbor4ii_tree.proofs.{values.ByHead.next_shown, parts.Joined.{join, count-join}}
+use Rattle.cbor4ii_tree.proofs.skip_calls.Doing.{does_no_step, does_no_memory}
+use Rattle.cbor4ii_tree.proofs.skip_calls.Doing.{Reached, reached_start, reached_then}
+use Rattle.cbor4ii_tree.proofs.skip_calls.Doing.{reached_by, does_err}
+use Rattle.cbor4ii_tree.proofs.parts.Joined.{join, count-join}
 use Rattle.cbor4ii_tree.proofs.{parts.Joined.{each-join, bytes-join}, parts.Rejecting.in_count}
 use Rattle.cbor4ii_tree.proofs.values.Calls.{whole, value_no_step, value_no_byte, rejects_under}
 use Rattle.cbor4ii_tree.proofs.{values.Calls.stops_under, values.Ends.none_shown}
-use Rattle.cbor4ii_tree.proofs.{values.InRange.AreItems-append, values.Items.items_are}
-use Rattle.cbor4ii_tree.proofs.values.Leaves.{MayTake, some_as, wants_may}
+use Rattle.cbor4ii_tree.proofs.{values.InRange.AreItems-append}
+use Rattle.cbor4ii_tree.proofs.values.Leaves.{MayTake, wants_may}
 use Rattle.cbor4ii_tree.specs.declared.run.Ran.TheVariants as run
 
 -- ---- lists of values
@@ -219,16 +219,6 @@ each_fits exact budget no_trees fits h = tt
 each_fits exact budget (tree t ts) fits h =
     (leaf_whole exact budget t fits h.0, each_fits exact budget ts fits h.1)
 
-begins_with : (first : ℕ) (trailing shown xs : List ℕ) → shown ≡ first ∷ trailing
-    → take (length shown) xs ≡ shown → xs ≡ first ∷ drop 1 xs
-begins_with first trailing shown xs is e =
-    by_first xs (subst (λ s. take (length s) xs ≡ s) is e)
-  where
-    by_first : (xs : List ℕ) → take (length (first ∷ trailing)) xs ≡ first ∷ trailing
-        → xs ≡ first ∷ drop 1 xs
-    by_first [] f = cc
-    by_first (x ∷ xs) f = let g : x ≡ first = cc in ap (λ c. c ∷ xs) g
-
 begins_after : (size : ℕ) (shown xs : List ℕ) → size ≤ length shown → take (length shown) xs ≡ shown
     → take (length (drop size shown)) (drop size xs) ≡ drop size shown
 begins_after size shown xs within e =
@@ -284,102 +274,47 @@ does_narrow {a = a} {b = b} d = record {
   err = tt;
 }
 
-narrow_begun : (a b : View) → Kept (narrow a b) b
-narrow_begun a b = record {
-  rest = λ ys known. (
-    0,
-    record {
-      left = (known_narrowed a.known b.known ys known).2;
-      within = omega arith;
-      bytes = tt;
-    },
-  );
-  counted = counted_none (narrow a b) b
-      (λ ys known. (known_narrowed a.known b.known ys known).2) refl;
-  bound = omega arith;
-  budget = refl;
-  failures = refl;
-  zero_copy = λ h. h;
-  remembers = λ h. h;
-  ends_at = refl;
-}
-
--- what is left was shown, from where its bytes are known only as before
-narrow_shows : {E : Type 0} (first : ℕ) {a b : View} → Kept a b
-    → IfKnown a.known (λ xs. (trailing : List ℕ) × (b.known ≡ Some (first ∷ trailing)))
-    → Runs {V = ℕ} {E = E} (peek_at value_name 1) (narrow a b) b (Ok first)
-narrow_shows first {a = a} {b = b} k next = record {
-  moves = record { by = narrow_begun a b; depth = λ e. refl };
-  answers = λ ys known.
-      let t = known_narrowed a.known b.known ys known in
-      let n = next t.0 t.1 in
-      let e : ys ≡ first ∷ n.0 = let f = t.2 in let g = n.1 in cc in
-      (ys, t.2, ap (peek_at value_name 1) e ∙ ap (λ zs. Ok (first, zs)) (sym e));
-}
-
 -- what follows what was taken was shown, from where its bytes are known only as before
-head_after : (exact : Type 0) (size major n k : ℕ) {shown : List ℕ} {a m b : View}
+next_after : (exact : Type 0) (size : ℕ) (n : Next) {shown : List ℕ} {a m b : View}
     → Shows shown a m → IfKnown a.known (IsPrefix 1 shown) → size ≤ length shown → Advances size m b
-    → HeadStands exact major n k (drop size shown) → ShowsHead exact major n k (narrow a b) b
-head_after exact size major n k {shown = shown} {a = a} {b = b} shows prefix within adv s = record {
-  kept = narrow_begun a b;
-  can =
-      omega (
-        arith,
-        shows.advanceable,
-        adv.advanceable,
-        s.within,
-        length-drop size shown,
-        within,
-      );
+    → SeesNext exact n (drop size shown) → ShowsNext exact n (narrow a b) b
+next_after exact size n {shown = shown} {a = a} {b = b} shows prefix within adv s = record {
   shown = drop size shown;
-  stands = s;
-  begins = λ ys known.
+  shows = record {
+    known = λ ys known. (known_narrowed a.known b.known ys known).2;
+    bound = omega arith;
+    advanceable =
+        omega (arith, shows.advanceable, adv.advanceable, length-drop size shown, within);
+    budget = refl;
+    failures = refl;
+    taken = refl;
+    zero_copy = λ h. h;
+    remembers = λ h. h;
+    ends_at = refl;
+  };
+  prefix = λ ys known.
       let t = known_narrowed a.known b.known ys known in
+      let p = prefix t.0 t.1 in
       let e : ys ≡ drop size t.0 =
       let f = t.2 in
       let g = adv.known t.0 (shows.known t.0 t.1) in
       cc in
-      let begins = begins_after size shown t.0 within (prefix t.0 t.1).begins in (
-        t.2,
-        omega (
-          arith,
-          ap length e,
-          length-drop size t.0,
-          length-drop size shown,
-          (prefix t.0 t.1).within,
-          s.within,
-          within,
-        ),
-        subst (λ x. take k x ≡ take k (drop size shown)) (sym e)
-            (prefix_shown k (drop size shown) (drop size t.0) s.within begins),
-      );
-}
-
-next_after : (E exact : Type 0) (size : ℕ) (n : Next) {shown : List ℕ} {a m b : View}
-    → Shows shown a m → IfKnown a.known (IsPrefix 1 shown) → size ≤ length shown → Advances size m b
-    → Kept a b → SeesNext exact n (drop size shown) → ShowsNext E exact n (narrow a b) b
-next_after E exact size n {shown = shown} {a = a} {b = b} shows prefix within adv kept s = record {
-  first = record {
-    runs = narrow_shows n.first kept (λ xs known. (
-      drop 1 (drop size xs),
-      adv.known xs (shows.known xs known)
-          ∙ ap Some (begins_with n.first s.trailing (drop size shown) (drop size xs) s.begins
-          (begins_after size shown xs within (prefix xs known).begins)),
-    ));
-    can =
-        omega (
-          arith,
-          shows.advanceable,
-          adv.advanceable,
-          ap length s.begins,
-          length-drop size shown,
-          within,
-        );
-  };
-  head =
-      some_as n.head
-      (λ h. head_after exact size (n.first / 32) h.argument h.size shows prefix within adv) s.head;
+      record {
+        begins =
+            subst (λ x. take (length (drop size shown)) x ≡ drop size shown) (sym e)
+            (begins_after size shown t.0 within p.begins);
+        within =
+            omega (
+              arith,
+              ap length e,
+              length-drop size t.0,
+              length-drop size shown,
+              p.within,
+              within,
+            );
+        ends = λ some none. absurd (omega (arith, none, ap length s.begins));
+      };
+  is = s;
 }
 
 pub after_are : (exact : Type 0) (before after : List Value) {size : ℕ} {shown : List ℕ}
@@ -431,7 +366,7 @@ module _ (exact : Bool) (before after : List Value) {E : Type 0} {a m b : View} 
         mid = narrow a b;
         puts = does_narrow d;
         shows =
-            next_after _ _ _ _ o.shows o.prefix o.is.puts.stand.within adv d.moves.by o.is.next;
+            next_after _ _ _ o.shows o.prefix o.is.puts.stand.within adv o.is.next;
       }
 
   pub run_no_memory : (size : ℕ) → Offers 1 (RejectsMemory (exact ≡ true) size) a m
@@ -455,7 +390,8 @@ module _ (exact : Bool) (before after : List Value) {E : Type 0} {a m : View} wh
           o.is.0 ∙ sym (append-nil before),
           (no_trees, refl, tt, refl, refl),
         )));
-    shows = next_shown E (exact ≡ true) n o.shows o.prefix o.is.1;
+    shows =
+        record { shown = o.shown; shows = o.shows; prefix = o.prefix; is = o.is.1 };
   }
 
   pub run_ends : Offers 1 (λ shown. length shown ≡ 0) a m → {name : Bor (List ℕ)}
@@ -593,7 +529,7 @@ module _ (exact : Bool) (full : ℕ) (before : List Value) {E : Type 0} {a : Vie
     where
       -- the run, and a value after it
       pub turn_value : (after : List Value) {v : Value} {b : View} → after ≡ mid ++ v ∷ []
-          → DoesAfterNext {E = E} (exact ≡ true) n (ReadsUnder exact) (RejectsUnder exact) m b
+          → DoesAfterNext {E = E} exact n (ReadsUnder exact) (RejectsUnder exact) m b
           (Ok v) → Does {V = Unit {0}} {E = E} (PutsItemsUnder exact before after a.budget)
           (RejectsItemsUnder exact (full - length before) a.budget) a b (Ok tt)
       turn_value after {v = v} is d =
@@ -609,7 +545,7 @@ module _ (exact : Bool) (full : ℕ) (before : List Value) {E : Type 0} {a : Vie
 
       -- the value is rejected
       pub turn_rejected : {V : Type 0} (B : Accepting V) {e : DecodeError E} {b : View}
-          → length mid < full → DoesAfterNext {V = Value} {E = E} (exact ≡ true) n
+          → length mid < full → DoesAfterNext {V = Value} {E = E} exact n
           (ReadsUnder exact) (RejectsUnder exact) m b (Err e) → Does {V = V} B (RejectsItemsUnder
           exact (full - length before) a.budget) a b (Err e)
       turn_rejected B lacks d =
@@ -625,18 +561,6 @@ module _ (exact : Bool) (full : ℕ) (before : List Value) {E : Type 0} {a : Vie
           )) (rejects_under exact a.budget budget ys z rest step (subst (λ o. RejectsUnder exact o
           ys z rest) run.puts.moves.by.budget s))) (reached_by run.puts) (d run.mid run.shows)
 
-      -- the value is put after the run, or there is no memory for that
-      pub turn_put : (after : List Value) {v : Value} {b : View} (r : Option (Unit {0}))
-          (failure : Option (DecodeError E)) → OnSome r (after ≡ mid ++ v ∷ [])
-          → IfNone r (failure ≡ None) → DoesAfterNext {E = E} (exact ≡ true) n (ReadsUnder exact)
-          (RejectsUnder exact) m b (Ok v) → Does {V = Unit {0}} {E = E} (PutsItemsUnder exact before
-          after a.budget) (RejectsItemsUnder exact (full - length before) a.budget) a b
-          (answered r failure)
-      turn_put after (Some u) failure is none d = turn_value after is d
-      turn_put after None failure is none d =
-          does_no_memory _ _ (ap error_left none) (kept_then run.puts.moves.by (d run.mid
-          run.shows).moves.by)
-
 -- ---- what a run answers
 
 pub run_before : (exact : Bool) {E : Type 0} (before after : List Value) {a b : View}
@@ -648,25 +572,6 @@ run_before exact before after {a = a} {b = b} n failure is t =
 pub on_found : {A : Type 0} {P : Type 0} {found : Option A} (v : A) → found ≡ Some v
     → OnSome found P → P
 on_found {P = P} v is h = subst (λ o. OnSome o P) is h
-
-pub put_items : {A : Type 0} (before mid after : List Value) (v : Value) (r : Option A)
-    → OnSome r (after ≡ mid ++ v ∷ []) → KeepsItems before mid → IsItem (view v)
-    → OnSome r (KeepsItems before after)
-put_items before mid after v (Some u) is keeps ranged =
-    λ are. items_are after mid (v ∷ []) is (keeps are) (ranged, tt)
-put_items before mid after v None is keeps ranged = tt
-
--- under a step
-pub turn_stepped : (exact : Bool) (room : ℕ) (before after : List Value) {E : Type 0}
-    {r : Result (Unit {0}) (DecodeError E)} {a b c d : View} → StepsIn a.budget b.budget true
-    → KeepsAllButBudget a b → Does (PutsItemsUnder exact before after b.budget) (RejectsItemsUnder
-    exact room b.budget) b c r → d.budget ≡ step_back c.budget → KeepsAllButBudget c d → Does
-    (PutsItems exact before after a.budget) (RejectsItems exact room a.budget) a d r
-turn_stepped exact room before after {a = a} {b = b} takes inward w gives outward =
-    let step = steps_in a.budget b.budget takes in
-    does_stepped (PutsItemsUnder exact before after b.budget) _ (RejectsItemsUnder exact room
-    b.budget) _ (λ xs ys v h. h a.budget step) (λ xs e rest h. h a.budget step) takes inward w gives
-    outward
 
 -- no step is left
 pub turn_unstepped : (exact : Bool) (full : ℕ) (before after : List Value) {E : Type 0}

@@ -1,31 +1,29 @@
 -- Values that hold no other, where they stand whole in shown bytes.
 use Rattle.std.proofs.Common.{◌≡◌, ◌≢◌, ℕ, suc, ◌+◌, ◌-◌, ◌*◌, ◌/◌, ◌%◌, ◌^◌, ◌<◌, ◌≤◌, ℤ, List, []}
 use Rattle.std.proofs.Common.{◌∷◌, ◌++◌, length, take, drop, take-append-drop, length-append}
-use Rattle.std.proofs.Common.{length-drop, Result, Ok, Err, Option, Some, None, IfSome, refl, sym}
+use Rattle.std.proofs.Common.{length-drop, Ok, Err, Option, Some, None, IfSome, refl, sym}
 use Rattle.std.proofs.Common.{ap, ◌∙◌, subst, arith, get_or, Bool, true, w8, Fits}
 use Rattle.std.proofs.{Math.Seq.{take-append_seam, take-add}, lemmas.List.length-take-le}
 use Rattle.std.proofs.Math.Facts.{Fits-lt-pow}
 use Rattle.std.specs.Int.{bytes_high_first}
 use denote.Ref.{Bor}
-use Rattle.cbor4ii_rw.specs.{Reader.{Advances, IsPrefix, Shows}, View.{View, IfKnown}}
-use Rattle.cbor4ii_rw.specs.declared.error.DecodeError.{DecodeError}
+use Rattle.cbor4ii_rw.specs.{Reader.{Advances}, View.{View}}
 use Rattle.cbor4ii_rw.specs.declared.error.DecodeError.TheVariants.{OutOfMemory, Eof}
 use Rattle.cbor4ii_items.specs.{Laws.Answering.fits_zero, Laws.Contents.lends_prefix}
-use Rattle.cbor4ii_items.specs.{Laws.Heads.length-bytes_high_first, Laws.Running.runs_peek}
+use Rattle.cbor4ii_items.specs.Laws.Heads.{length-bytes_high_first}
 use Rattle.cbor4ii_items.specs.{Budget.CostFits, Head.{Width, byte_count, additional, HeadFits}}
 use Rattle.cbor4ii_items.specs.Head.{ArgumentAfter, IsBytes, shortest, in_first, one, two, four}
 use Rattle.cbor4ii_items.specs.{Head.{eight, head}, Initial.{Sign, sign_major, Precision}}
 use Rattle.cbor4ii_items.specs.Initial.{precision_byte, precision_bytes, half, single, double}
 use Rattle.cbor4ii_items.specs.Initial.{Simple, simple_false, unsigned, negative, Kind, kind_major}
-use Rattle.cbor4ii_items.specs.{Initial.{simple_byte, byte_string, text_string}, Reading.Runs}
-use Rattle.cbor4ii_items.specs.Reading.{peek_at}
+use Rattle.cbor4ii_items.specs.Initial.{simple_byte, byte_string, text_string}
 use Rattle.cbor4ii_tree.specs.{Valuing.{RejectsUnder, SimpleOf, ReadsUnder}, View.view}
-use Rattle.cbor4ii_tree.specs.{declared.leaf.Looked.Looked, declared.leaf.Next.Next}
+use Rattle.cbor4ii_tree.specs.{declared.leaf.Next.Next}
 use Rattle.cbor4ii_tree.specs.{declared.value.FloatBits.FloatBits, declared.value.Value.Value}
 use Rattle.cbor4ii_tree.specs.{declared.value.Value.{Integer, Float}, Does.Does}
 use Rattle.cbor4ii_tree.specs.{InputError.{value_name, Small}, Item.{integer, float, IsItem}}
-use Rattle.cbor4ii_tree.specs.{Laws.Binds.step_up, Leaf.{CanTake, DoesAfterNext, ExactHead}}
-use Rattle.cbor4ii_tree.specs.Leaf.{StandsAhead, SeesLeaf, ShowsFirst, ShowsNext, TakesLeaf}
+use Rattle.cbor4ii_tree.specs.{Laws.Binds.step_up, Leaf.{CanTake, ExactHead}}
+use Rattle.cbor4ii_tree.specs.Leaf.{StandsAhead, SeesLeaf, ShowsNext}
 use Rattle.cbor4ii_tree.specs.{Leaf.WantsContent, Meaning.{number, simple_item, content_item}}
 use Rattle.cbor4ii_tree.specs.{Prefix.Offers, Tree.{int, bits, simple, string, TextIsUtf8}}
 use Rattle.cbor4ii_tree.specs.declared.leaf.Leaf.TheVariants.{Whole, NoMemory, End}
@@ -33,7 +31,6 @@ use Rattle.cbor4ii_tree.proofs.{heads.Inverse.IsBytes-take, skip_calls.Doing.doe
 use Rattle.cbor4ii_tree.proofs.{skip_calls.Doing.does_no_memory, values.Calls.value_no_byte}
 use Rattle.cbor4ii_tree.proofs.{values.Calls.{fits_less, whole}, values.Encoding.view-Integer}
 use Rattle.cbor4ii_tree.proofs.{values.Ends.none_shown, skip_calls.Leaves.shown_bytes}
-use Rattle.cbor4ii_tree.specs.declared.leaf.Looked.TheVariants as looked
 
 -- what a slice of bytes shows
 pub fresh_shown : (shown : List ℕ) → ((i : ℕ) → Fits w8 (get_or shown i 0)) → IsBytes shown
@@ -51,7 +48,7 @@ float_fits single four n h e = (refl, h)
 float_fits double eight n h e = (refl, h)
 float_fits _ _ n h e = absurd (omega (arith, h, e))
 
-simple_item_is : (s : Simple) → IsItem (simple_item s)
+pub simple_item_is : (s : Simple) → IsItem (simple_item s)
 simple_item_is simple_false = tt
 simple_item_is _ = tt
 
@@ -190,18 +187,6 @@ wants_may n shown w = record {
   fresh = w.fresh;
 }
 
--- ---- the byte that was shown first
-
-pub shows_first : {E : Type 0} (first : ℕ) (trailing : List ℕ) {shown : List ℕ} {a m : View}
-    → Shows shown a m → IfKnown a.known (IsPrefix 1 shown) → shown ≡ first ∷ trailing
-    → ShowsFirst E first a m
-shows_first {E = E} first trailing {shown = shown} {a = a} {m = m} shows prefix is = record {
-  runs =
-      subst (λ b. Runs {E = E} (peek_at value_name 1) a m (Ok b)) (ap (λ xs. get_or xs 0 0) is)
-      (runs_peek value_name 1 shows prefix (λ none. let e = ap length is in cc));
-  can = omega (arith, shows.advanceable, ap length is);
-}
-
 -- ---- what a look decides is taken
 
 module _ (exact : Bool) {E : Type 0} {a m b : View} where
@@ -243,23 +228,15 @@ no_value exact {a = a} o says =
     none_shown (ReadsUnder exact a.budget) (RejectsUnder exact a.budget)
     (value_no_byte exact a.budget) 1 says (omega arith) o.shows o.prefix o.is
 
--- nothing was taken yet
-pub after_look : (exact : Bool) {E : Type 0} {r : Result Value (DecodeError E)} {a b : View}
-    (m : View) {seen : Looked} (n : Next) (failure : Option (DecodeError E))
-    → seen ≡ looked.Begins n → TakesLeaf exact a m (Some seen) failure
-    → DoesAfterNext (exact ≡ true) n (ReadsUnder exact) (RejectsUnder exact) m b r
-    → Does (ReadsUnder exact a.budget) (RejectsUnder exact a.budget) a b r
-after_look exact {a = a} m n failure is t d =
-    d a (subst (λ o. TakesLeaf exact a m (Some o) failure) is t)
-
 -- what follows of what is there
-pub some_as : {A : Type 0} {P Q : A → Type 0} (o : Option A) → ((x : A) → P x → Q x) → IfSome o P
+some_as : {A : Type 0} {P Q : A → Type 0} (o : Option A) → ((x : A) → P x → Q x) → IfSome o P
     → IfSome o Q
 some_as None f h = tt
 some_as (Some x) f h = f x h
 
-pub shown_can : (E exact : Type 0) (n : Next) (a m : View) → ShowsNext E exact n a m → CanTake n m
-shown_can E exact n a m s = record {
-  first = s.first.can;
-  head = some_as n.head (λ h shown. (shown.stands.some, shown.can)) s.head;
+pub shown_can : (exact : Type 0) (n : Next) (a m : View) → ShowsNext exact n a m → CanTake n m
+shown_can exact n a m s = record {
+  first = omega (arith, s.shows.advanceable, ap length s.is.begins);
+  head =
+      some_as n.head (λ h t. (t.some, omega (arith, t.within, s.shows.advanceable))) s.is.head;
 }

@@ -4,7 +4,7 @@ use Rattle.std.proofs.Common.{Option, Some, None, Result, Ok, Err, Bool, true, f
 use Rattle.std.proofs.Common.{◌∙◌, subst, arith, append_assoc, inl, inr, Vec, Global, IfOk, IfErr}
 use Rattle.std.proofs.Common.{◌⊎◌, length}
 use denote.Ref.{Bor}
-use Rattle.cbor4ii_rw.specs.{Reader.{KeepsAllButBudget, StepsIn, step_back}, View.View}
+use Rattle.cbor4ii_rw.specs.{Reader.{KeepsAllButBudget, StepsIn}, View.View}
 use Rattle.cbor4ii_rw.specs.declared.error.DecodeError.{DecodeError}
 use Rattle.cbor4ii_rw.specs.declared.error.DecodeError.TheVariants.{DepthOverflow}
 use Rattle.cbor4ii_items.specs.{InputError.InputError, Laws.SequenceParts.fits_less}
@@ -30,18 +30,18 @@ use Rattle.cbor4ii_tree.specs.Tree.{no_pairs, pair, array, array_indefinite, map
 use Rattle.cbor4ii_tree.specs.Tree.{bytes, bytes_all, bytes_pairs, LooseAll, LoosePairs}
 use Rattle.cbor4ii_tree.specs.Tree.{SoundStringsAll, SoundStringsPairs, count, pair_count, tree}
 use Rattle.cbor4ii_tree.specs.Valuing.{Whole, HeadAt, IndefiniteAt, ReadsOneValue, RejectsOneValue}
-use Rattle.cbor4ii_tree.specs.Valuing.{ReadsUnder, RejectsUnder, TakesLength, ReadsItems}
+use Rattle.cbor4ii_tree.specs.Valuing.{RejectsUnder, TakesLength, ReadsItems}
 use Rattle.cbor4ii_tree.specs.Valuing.{RejectsItems, ReadsIndefiniteItems, RejectsIndefiniteItems}
 use Rattle.cbor4ii_tree.specs.Valuing.{RejectsIndefiniteMembers, ReadsMember, RejectsMember}
 use Rattle.cbor4ii_tree.specs.Valuing.{RejectsMajor, RejectsOf, flat_values, ReadsInside}
 use Rattle.cbor4ii_tree.specs.{View.{items_view, members_view}, declared.value.Value.{Value, Array}}
 use Rattle.cbor4ii_tree.specs.{declared.value.Value.Map, CanonicalRejects.AtShortest}
 use Rattle.cbor4ii_tree.specs.CanonicalRejects.{FitsCanonically}
-use Rattle.cbor4ii_tree.proofs.skip_calls.Doing.{Reached, reached_by, reached_then, does_stepped}
-use Rattle.cbor4ii_tree.proofs.skip_calls.Doing.{call_rejects, reached_as, reached_sound, steps_in}
-use Rattle.cbor4ii_tree.proofs.skip_calls.Doing.{does_ok, refused, does_no_step}
+use Rattle.cbor4ii_tree.proofs.skip_calls.Doing.{Reached, reached_by, reached_then}
+use Rattle.cbor4ii_tree.proofs.skip_calls.Doing.{call_rejects, reached_as, reached_sound}
+use Rattle.cbor4ii_tree.proofs.skip_calls.Doing.{does_ok, does_no_step}
 use Rattle.cbor4ii_tree.proofs.values.Calls.{indefinite_byte, head_cut, no_head, initial_of, whole}
-use Rattle.cbor4ii_tree.proofs.{values.Calls.{does_under, stops_under}, values.Encoding.view-Array}
+use Rattle.cbor4ii_tree.proofs.{values.Calls.{stops_under}, values.Encoding.view-Array}
 use Rattle.cbor4ii_tree.proofs.canonical.FitsCanonically.{all_exactly, all_pairs_exactly}
 use Rattle.cbor4ii_tree.proofs.parts.Rejecting.{in_items, in_pairs, headed_by}
 use Rattle.cbor4ii_tree.proofs.values.Heads.{at_row, at_major, first_is, head_at, shortest_at}
@@ -59,7 +59,7 @@ abbrev pub name_of : Bool → List ℕ
 name_of false = array_name
 name_of true = map_name
 
-abbrev Element : Bool → Type 0
+abbrev pub Element : Bool → Type 0
 Element false = Value
 Element true = Value × Value
 
@@ -68,11 +68,11 @@ abbrev pub in_all : Bool → ℕ → ℕ
 in_all false n = n
 in_all true n = 2 * n
 
-abbrev values_of : (keyed : Bool) → List (Element keyed) → List Value
+abbrev pub values_of : (keyed : Bool) → List (Element keyed) → List Value
 values_of false vs = vs
 values_of true ms = flat_values ms
 
-abbrev made_of : (keyed : Bool) → Vec (Element keyed) Global → Value
+abbrev pub made_of : (keyed : Bool) → Vec (Element keyed) Global → Value
 made_of false v = Array v
 made_of true v = Map v
 
@@ -81,7 +81,7 @@ by_info false = array_by_info
 by_info true = map_by_info
 
 -- what is rejected after the step, by what the first byte adds
-abbrev RejectsOpen : Bool → Bool → Budget → Stopping
+abbrev pub RejectsOpen : Bool → Bool → Budget → Stopping
 RejectsOpen false = RejectsIndefiniteItems
 RejectsOpen true = RejectsIndefiniteMembers
 
@@ -232,7 +232,7 @@ length_does keyed {a = a} None failure moves s h =
 
 -- ---- what is rejected after a head
 
-row : (keyed exact : Bool) (n : ℕ) (inner : Budget) (xs ys : List ℕ) (e : InputError)
+pub row : (keyed exact : Bool) (n : ℕ) (inner : Budget) (xs ys : List ℕ) (e : InputError)
     (rest : List ℕ) → HeadAt exact (major_of keyed) n xs ys
     → RejectsItems exact (in_all keyed n) inner ys e rest
     → RejectsMajor exact (major_of keyed) inner xs e rest
@@ -246,7 +246,7 @@ row keyed true n inner xs ys e rest h s b bs is m outer step =
       stopped = s;
     })) b bs is m outer step
 
-open_row : (keyed exact : Bool) (inner : Budget) (xs ys : List ℕ) (e : InputError)
+pub open_row : (keyed exact : Bool) (inner : Budget) (xs ys : List ℕ) (e : InputError)
     (rest : List ℕ) → IndefiniteAt exact (major_of keyed) xs ys → RejectsOpen keyed exact inner ys e
     rest → RejectsMajor exact (major_of keyed) inner xs e rest
 open_row keyed false inner xs ys e rest h s b bs is m outer step =
@@ -290,7 +290,7 @@ paired W (m ∷ ms) (tree k (tree v ts)) h e =
       ap (λ z. bytes k ++ (bytes v ++ z)) r.4,
     )
 
-reads : (keyed exact : Bool) (deep : Budget) (n : ℕ) (v : Vec (Element keyed) Global)
+pub reads : (keyed exact : Bool) (deep : Budget) (n : ℕ) (v : Vec (Element keyed) Global)
     (xs ys zs : List ℕ) → HeadAt exact (major_of keyed) n xs ys
     → ReadsItems exact (in_all keyed n) deep ys (values_of keyed v.items) zs
     → ReadsInside exact deep xs (made_of keyed v) zs
@@ -317,7 +317,7 @@ reads true exact deep n v xs ys zs h r inner t budget s =
           ∙ sym (append_assoc (head 5 (pair_count p.0) k.0) (bytes_pairs p.0) zs),
     )
 
-open_reads : (keyed exact : Bool) (deep : Budget) (v : Vec (Element keyed) Global)
+pub open_reads : (keyed exact : Bool) (deep : Budget) (v : Vec (Element keyed) Global)
     (xs ys zs : List ℕ) → IndefiniteAt exact (major_of keyed) xs ys
     → ReadsIndefiniteItems exact deep ys (values_of keyed v.items) zs
     → ReadsInside exact deep xs (made_of keyed v) zs
@@ -348,44 +348,13 @@ abbrev pub answer_as : {U V E : Type 0} → (U → V) → Result U E → Result 
 answer_as f (Ok u) = Ok (f u)
 answer_as f (Err e) = Err e
 
-does_as : {U V E : Type 0} (f : U → V) (B : Accepting V) {S : Stopping}
-    (r : Result U (DecodeError E)) {a b : View} → Does (λ xs u ys. B xs (f u) ys) S a b r
-    → Does B S a b (answer_as f r)
-does_as f B (Ok u) d = does_ok _ _ (reached_by d)
-does_as f B (Err e) d = refused d
-
 -- the length that was taken
-follow : (exact : Bool) {E : Type 0} (major : ℕ) (o p : Option ℕ) {S : Stopping} {a m : View}
+pub follow : (exact : Bool) {E : Type 0} (major : ℕ) (o p : Option ℕ) {S : Stopping} {a m : View}
     → o ≡ p → Does {E = E} (TakesLength exact major a.budget) S a m (Ok o)
     → Reached (λ xs ys. TakesLength exact major a.budget xs p ys) a m
 follow exact major o p {a = a} is d =
     reached_as (λ xs ys. TakesLength exact major a.budget xs o ys) _
     (λ xs ys h. subst (λ z. TakesLength exact major a.budget xs z ys) is h) (reached_by d)
-
-module _ (keyed exact : Bool) {E : Type 0} {o : Option ℕ} {S : Stopping}
-    {r : Result (Vec (Element keyed) Global) (DecodeError E)} {a m b : View} where
-  -- so many elements
-  pub counted : (n : ℕ) → o ≡ Some n
-      → Does {E = E} (TakesLength exact (major_of keyed) a.budget) S a m (Ok o)
-      → Does (λ xs v ys. ReadsItems exact (in_all keyed n) m.budget xs (values_of keyed v.items) ys)
-      (RejectsItems exact (in_all keyed n) m.budget) m b r → Does (ReadsInside exact a.budget)
-      (RejectsMajor exact (major_of keyed) a.budget) a b (answer_as (made_of keyed) r)
-  counted n is length d =
-      does_as (made_of _) (ReadsInside exact a.budget) _ (does_under (HeadAt exact (major_of keyed)
-      n) (λ l xs v ys. ReadsItems exact (in_all keyed n) l xs (values_of _ v.items) ys) _
-      (RejectsItems exact (in_all keyed n)) _ (λ xs ys zs v. reads _ _ _ _ _ _ _ _) (λ xs ys e rest.
-      row _ _ _ _ _ _ _ _) (follow _ _ _ _ is length) d)
-
-  -- none: values up to a break
-  pub opened : o ≡ None → Does {E = E} (TakesLength exact (major_of keyed) a.budget) S a m (Ok o)
-      → Does (λ xs v ys. ReadsIndefiniteItems exact m.budget xs (values_of keyed v.items) ys)
-      (RejectsOpen keyed exact m.budget) m b r → Does (ReadsInside exact a.budget)
-      (RejectsMajor exact (major_of keyed) a.budget) a b (answer_as (made_of keyed) r)
-  opened is length d =
-      does_as (made_of _) (ReadsInside exact a.budget) _ (does_under (IndefiniteAt exact (major_of
-      keyed)) (λ l xs v ys. ReadsIndefiniteItems exact l xs (values_of _ v.items) ys) _ (RejectsOpen
-      keyed exact) _ (λ xs ys zs v. open_reads _ _ _ _ _ _ _) (λ xs ys e rest. open_row _ _ _ _ _ _
-      _) (follow _ _ _ _ is length) d)
 
 -- no element
 pub none_follow : (exact : Bool) {E T : Type 0} (f : T → List Value) (v : T) {m : View} → f v ≡ []
@@ -507,16 +476,3 @@ module _ (exact : Bool) {k : Value} {E : Type 0} {S : Stopping} {a m : View}
         is = h.3;
         stopped = s;
       })) (reached_by key) d
-
--- ---- under a step
-
-pub inside_stepped : (exact : Bool) (major : ℕ) {E : Type 0} {r : Result Value (DecodeError E)}
-    {a b c d : View} → StepsIn a.budget b.budget true → KeepsAllButBudget a b
-    → Does (ReadsInside exact b.budget) (RejectsMajor exact major b.budget) b c r
-    → d.budget ≡ step_back c.budget → KeepsAllButBudget c d
-    → Does (ReadsUnder exact a.budget) (RejectsOf exact major a.budget) a d r
-inside_stepped exact major {a = a} {b = b} takes inward w gives outward =
-    let step = steps_in a.budget b.budget takes in
-    does_stepped (ReadsInside exact b.budget) _ (RejectsMajor exact major b.budget) _ (λ xs ys v h.
-    h a.budget step) (λ xs e rest h first bs is m. h first bs is m a.budget step) takes inward w
-    gives outward

@@ -2,11 +2,11 @@
 use Rattle.std.proofs.Common.{◌≡◌, ℕ, zero, suc, ◌+◌, ◌-◌, ◌⊎◌, inl, inr, List, Option, Some, None}
 use Rattle.std.proofs.Common.{Ok, Err, Result, refl, sym, ap, arith, cond, true, false, Bool}
 use Rattle.cbor4ii_items.specs.Budget.{CostFits}
-use Rattle.cbor4ii_items.specs.Reading.{Reading, go_on}
+use Rattle.cbor4ii_items.specs.Reading.{go_on}
 use Rattle.cbor4ii_tree.specs.Cost.{Budget, step_in}
 use Rattle.cbor4ii_tree.specs.InputError.{InputError}
 use Rattle.cbor4ii_tree.specs.Rejections.{Is, RejectsAtStep}
-use Rattle.cbor4ii_tree.specs.Parse.{Answer, ◌>>=◌, stepped}
+use Rattle.cbor4ii_tree.specs.Parse.{Answer, Parser, ◌>>=◌, stepped}
 
 pub same_ok : {A E : Type 0} (r : Result A E) (x y : A) → r ≡ Ok x → r ≡ Ok y → x ≡ y
 same_ok r x y p q = cc
@@ -36,7 +36,7 @@ pub bind_err : {A B : Type 0} (r : Answer A) (f : A × List ℕ → Answer B) (z
 bind_err (Ok x) f z e = inr (x, refl, e)
 bind_err {B = B} (Err y) f z e = inl (ap Err (same_err {A = B × List ℕ} (Err y) y z refl e))
 
-pub then_err : {A B : Type 0} (r : Answer A) (next : A → Reading B) (z : InputError × List ℕ)
+pub then_err : {A B : Type 0} (r : Answer A) (next : A → Parser B) (z : InputError × List ℕ)
     → r ≡ Err z → go_on r next ≡ Err z
 then_err r next z e = rw e refl
 

@@ -1,171 +1,158 @@
-use Rattle.std.proofs.Common.{inl, refl, ap, arith, ◌∙◌, ◌∷◌, [], false, true, Vec, Global, Some}
+use Rattle.std.proofs.Common.{inl, refl, sym, ap, subst, arith, ◌∙◌, ◌∷◌, [], false, true, Vec}
+use Rattle.std.proofs.Common.{Global, Some}
 use Rattle.cbor4ii_items.specs.{Laws.Running.kept_alike, Laws.Steps.kept_then}
-use Rattle.cbor4ii_tree.specs.{Deeper.budgeted, Does.error_left, InputError.value_name, Item.tag}
+use Rattle.cbor4ii_tree.specs.{Does.error_left, InputError.value_name, Item.{IsItem, tag}}
 use Rattle.cbor4ii_tree.specs.{LeafRuns.flat, Valuing.{flat_values, ReadsUnder, RejectsOf}}
 use Rattle.cbor4ii_tree.specs.{View.view, declared.value.Value.{Tag, Value}}
-use Rattle.cbor4ii_tree.proofs.{skip_calls.Deeper.alike_within, values.LeafRuns.put_items}
-use Rattle.cbor4ii_tree.proofs.values.LeafRuns.{none_read, ReadEach, one_item, flat-push}
-use Rattle.cbor4ii_tree.proofs.values.LeafRuns.{none_too_many, ran, run_rejects, stop_alone}
-use Rattle.cbor4ii_tree.proofs.values.LeafRuns.{both_there, pairs_are_read, pairs_are, turn_stepped}
-use Rattle.cbor4ii_tree.proofs.values.LeafRuns.{turn_unstepped, turn_put, turn_rejected, turn_ends}
-use Rattle.cbor4ii_tree.proofs.{values.LeafRuns.{run_before, on_found}, values.Leaves.after_look}
 use Rattle.cbor4ii_tree.proofs.skip_calls.Doing.{reached_by, does_ok, does_no_memory, does_no_step}
 use Rattle.cbor4ii_tree.proofs.skip_calls.Doing.{refused, reached_as, still_rejected}
-use Rattle.cbor4ii_tree.proofs.values.ByHead.{next_step, next_stepped, peeks_next, after_next}
-use Rattle.cbor4ii_tree.proofs.{values.Calls.{stepped, value_no_step}, values.Heads.major_arm}
-use Rattle.cbor4ii_tree.proofs.{values.Heads.{tag_does, tagged_ok}, values.Items.items_none}
-use Rattle.cbor4ii_tree.proofs.values.Items.{items_are, array_encoding, map_encoding}
+use Rattle.cbor4ii_tree.proofs.values.ByHead.{peeks_next, after_next, next_first}
+use Rattle.cbor4ii_tree.proofs.values.{Calls.value_no_step, Encoding.view-Tag}
+use Rattle.cbor4ii_tree.proofs.values.Heads.{major_arm, tag_does, tagged_ok}
+use Rattle.cbor4ii_tree.proofs.values.{Items.{items_are, items_none}, LeafRuns.{flat-push, ran}}
+use Rattle.cbor4ii_tree.proofs.values.LeafRuns.{none_read, ReadEach, one_item, none_too_many}
+use Rattle.cbor4ii_tree.proofs.values.LeafRuns.{run_rejects, stop_alone, both_there, pairs_are}
+use Rattle.cbor4ii_tree.proofs.values.LeafRuns.{pairs_are_read, turn_unstepped, turn_rejected}
+use Rattle.cbor4ii_tree.proofs.values.LeafRuns.{turn_ends, run_before, on_found}
 use Rattle.cbor4ii_tree.proofs.values.Sequences.{break_taken, no_break_yet, no_byte_left, put_read}
 use Rattle.cbor4ii_tree.proofs.values.Sequences.{value_stops, member_stops, pair_read}
-use Rattle.cbor4ii_tree.proofs.values.Sequences.{value_rejected, inside_stepped, counted, opened}
-use Rattle.cbor4ii_tree.proofs.values.Sequences.{none_follow, parts_deep}
-use Rattle.cbor4ii_tree.proofs.values.Encoding.{view-Tag}
+use Rattle.cbor4ii_tree.proofs.values.Sequences.{value_rejected, none_follow, parts_deep}
+use Rattle.cbor4ii_tree.proofs.values.Gives.{gives_err, gives_on, gives_as, value_stepped}
+use Rattle.cbor4ii_tree.proofs.values.Gives.{second_stepped, items_stepped, item_put}
+use Rattle.cbor4ii_tree.proofs.values.Gives.{counted_gives, opened_gives, look_gives}
 use Rattle.cbor4ii_tree.proofs.decode_value.+read.Goals as goal
 
 -- ---- an array or a map
 
-pub read_array-returns-clause-does : goal.read_array-returns-clause-does
-read_array-returns-clause-does g t c before shows =
-    inside_stepped _ _ (next_step _ shows (g.S.Source.view c.step_in.new.self)
-    c.if-not-step_in.ensures.budget) (alike_within _ before) (c.array_inside-outcome.ensures.does
-    (budgeted _ before) (next_stepped _ shows c.step_in.ensures.others)) c.step_out.ensures.budget
-    c.step_out.ensures.others
+pub read_array-returns : goal.read_array-returns
+read_array-returns g t c =
+    second_stepped _ c.if-not-step_in.ensures.budget c.step_in.ensures.others
+    c.step_out.ensures.budget c.step_out.ensures.others _ _ c.array_inside-outcome.ensures
 
-pub read_array-returns-then-not-step_in-clause-does :
-    goal.read_array-returns-then-not-step_in-clause-does
-read_array-returns-then-not-step_in-clause-does g t c before shows =
-    rw c.leave_deep.ensures (after_next _ shows (ReadsUnder g.A.Encodings.exact) (RejectsOf
-    g.A.Encodings.exact _) (parts_deep false _ refl c.if-not-step_in.ensures.budget
-    c.step_in.ensures.others))
+pub read_array-returns-then-not-step_in : goal.read_array-returns-then-not-step_in
+read_array-returns-then-not-step_in g t c =
+    rw c.leave_deep.ensures (gives_err (λ before shows. after_next _ shows
+    (ReadsUnder g.A.Encodings.exact) (RejectsOf g.A.Encodings.exact _) (parts_deep false _ refl
+    c.if-not-step_in.ensures.budget c.step_in.ensures.others)))
 
-pub array_inside-returns-in-Some-eq0-clause-does : goal.array_inside-returns-in-Some-eq0-clause-does
-array_inside-returns-in-Some-eq0-clause-does g t c before shows =
-    counted false _ 0 (c.in-Some-eq0.is ∙ ap Some c.in-Some-eq0.field-0-test)
-    (c.in_ok-take_length.ensures.does before shows) (none_follow _ (λ (v : Vec Value Global).
-    v.items) _ c.new.ensures.items)
+pub array_inside-returns-in-Some-eq0 : goal.array_inside-returns-in-Some-eq0
+array_inside-returns-in-Some-eq0 g t c =
+    counted_gives false _ c.in_ok-take_length.ensures.does c.in_ok-take_length.ensures.progress
+    (items_none c.new.ensures.items) 0 (c.in-Some-eq0.is ∙ ap Some c.in-Some-eq0.field-0-test)
+    (none_follow _ (λ (v : Vec Value Global). v.items) _ c.new.ensures.items)
 
-pub array_inside-returns-in_ok-definite_items-in-Some-clause-does :
-    goal.array_inside-returns-in_ok-definite_items-in-Some-clause-does
-array_inside-returns-in_ok-definite_items-in-Some-clause-does g t c before shows =
-    counted false _ _ c.in-Some.is (c.in_ok-take_length.ensures.does before shows)
+pub array_inside-returns-in_ok-definite_items-in-Some :
+    goal.array_inside-returns-in_ok-definite_items-in-Some
+array_inside-returns-in_ok-definite_items-in-Some g t c =
+    counted_gives false _ c.in_ok-take_length.ensures.does c.in_ok-take_length.ensures.progress
+    c.in_ok-definite_items-in-Some.ensures.items _ c.in-Some.is
     c.in_ok-definite_items-in-Some.ensures.does
 
-pub array_inside-returns-in_ok-definite_items-in-Some-clause-item :
-    goal.array_inside-returns-in_ok-definite_items-in-Some-clause-item
-array_inside-returns-in_ok-definite_items-in-Some-clause-item g t c =
-    array_encoding _ c.in_ok-definite_items-in-Some.ensures.items
+pub array_inside-returns-in_err-definite_items-in-Some :
+    goal.array_inside-returns-in_err-definite_items-in-Some
+array_inside-returns-in_err-definite_items-in-Some g t c =
+    rw c.from_residual-in_err-definite_items-in-Some.ensures (counted_gives false _
+    c.in_ok-take_length.ensures.does c.in_ok-take_length.ensures.progress tt _ c.in-Some.is
+    c.in_err-definite_items-in-Some.ensures.does)
 
-pub array_inside-returns-in_err-definite_items-in-Some-clause-does :
-    goal.array_inside-returns-in_err-definite_items-in-Some-clause-does
-array_inside-returns-in_err-definite_items-in-Some-clause-does g t c before shows =
-    rw c.from_residual-in_err-definite_items-in-Some.ensures (counted false _ _ c.in-Some.is
-    (c.in_ok-take_length.ensures.does before shows) c.in_err-definite_items-in-Some.ensures.does)
-
-pub array_inside-returns-in_ok-indefinite_items-in-None-clause-does :
-    goal.array_inside-returns-in_ok-indefinite_items-in-None-clause-does
-array_inside-returns-in_ok-indefinite_items-in-None-clause-does g t c before shows =
-    opened false _ c.in-None.is (c.in_ok-take_length.ensures.does before shows)
+pub array_inside-returns-in_ok-indefinite_items-in-None :
+    goal.array_inside-returns-in_ok-indefinite_items-in-None
+array_inside-returns-in_ok-indefinite_items-in-None g t c =
+    opened_gives false _ c.in_ok-take_length.ensures.does c.in_ok-take_length.ensures.progress
+    c.in_ok-indefinite_items-in-None.ensures.items c.in-None.is
     c.in_ok-indefinite_items-in-None.ensures.does
 
-pub array_inside-returns-in_ok-indefinite_items-in-None-clause-item :
-    goal.array_inside-returns-in_ok-indefinite_items-in-None-clause-item
-array_inside-returns-in_ok-indefinite_items-in-None-clause-item g t c =
-    array_encoding _ c.in_ok-indefinite_items-in-None.ensures.items
+pub array_inside-returns-in_err-indefinite_items-in-None :
+    goal.array_inside-returns-in_err-indefinite_items-in-None
+array_inside-returns-in_err-indefinite_items-in-None g t c =
+    rw c.from_residual-in_err-indefinite_items-in-None.ensures (opened_gives false _
+    c.in_ok-take_length.ensures.does c.in_ok-take_length.ensures.progress tt c.in-None.is
+    c.in_err-indefinite_items-in-None.ensures.does)
 
-pub array_inside-returns-in_err-indefinite_items-in-None-clause-does :
-    goal.array_inside-returns-in_err-indefinite_items-in-None-clause-does
-array_inside-returns-in_err-indefinite_items-in-None-clause-does g t c before shows =
-    rw c.from_residual-in_err-indefinite_items-in-None.ensures (opened false _ c.in-None.is
-    (c.in_ok-take_length.ensures.does before shows) c.in_err-indefinite_items-in-None.ensures.does)
+pub array_inside-returns-in_err-take_length : goal.array_inside-returns-in_err-take_length
+array_inside-returns-in_err-take_length g t c =
+    rw c.from_residual.ensures (gives_err (λ before shows. refused
+    (c.in_err-take_length.ensures.does before shows)))
 
-pub array_inside-returns-in_err-take_length-clause-does :
-    goal.array_inside-returns-in_err-take_length-clause-does
-array_inside-returns-in_err-take_length-clause-does g t c before shows =
-    rw c.from_residual.ensures (refused (c.in_err-take_length.ensures.does before shows))
+pub read_map-returns : goal.read_map-returns
+read_map-returns g t c =
+    second_stepped _ c.if-not-step_in.ensures.budget c.step_in.ensures.others
+    c.step_out.ensures.budget c.step_out.ensures.others _ _ c.map_inside-outcome.ensures
 
-pub read_map-returns-clause-does : goal.read_map-returns-clause-does
-read_map-returns-clause-does g t c before shows =
-    inside_stepped _ _ (next_step _ shows (g.S.Source.view c.step_in.new.self)
-    c.if-not-step_in.ensures.budget) (alike_within _ before) (c.map_inside-outcome.ensures.does
-    (budgeted _ before) (next_stepped _ shows c.step_in.ensures.others)) c.step_out.ensures.budget
-    c.step_out.ensures.others
+pub read_map-returns-then-not-step_in : goal.read_map-returns-then-not-step_in
+read_map-returns-then-not-step_in g t c =
+    rw c.leave_deep.ensures (gives_err (λ before shows. after_next _ shows
+    (ReadsUnder g.A.Encodings.exact) (RejectsOf g.A.Encodings.exact _) (parts_deep true _ refl
+    c.if-not-step_in.ensures.budget c.step_in.ensures.others)))
 
-pub read_map-returns-then-not-step_in-clause-does :
-    goal.read_map-returns-then-not-step_in-clause-does
-read_map-returns-then-not-step_in-clause-does g t c before shows =
-    rw c.leave_deep.ensures (after_next _ shows (ReadsUnder g.A.Encodings.exact) (RejectsOf
-    g.A.Encodings.exact _) (parts_deep true _ refl c.if-not-step_in.ensures.budget
-    c.step_in.ensures.others))
+pub map_inside-returns-in-Some-eq0 : goal.map_inside-returns-in-Some-eq0
+map_inside-returns-in-Some-eq0 g t c =
+    counted_gives true _ c.in_ok-take_length.ensures.does c.in_ok-take_length.ensures.progress
+    (items_none (ap flat_values c.new.ensures.items)) 0
+    (c.in-Some-eq0.is ∙ ap Some c.in-Some-eq0.field-0-test) (none_follow _ (λ (v : Vec
+    (Value × Value) Global). flat_values v.items) _ (ap flat_values c.new.ensures.items))
 
-pub map_inside-returns-in-Some-eq0-clause-does : goal.map_inside-returns-in-Some-eq0-clause-does
-map_inside-returns-in-Some-eq0-clause-does g t c before shows =
-    counted true _ 0 (c.in-Some-eq0.is ∙ ap Some c.in-Some-eq0.field-0-test)
-    (c.in_ok-take_length.ensures.does before shows) (none_follow _ (λ (v : Vec (Value × Value)
-    Global). flat_values v.items) _ (ap flat_values c.new.ensures.items))
-
-pub map_inside-returns-in_ok-definite_members-in-Some-clause-does :
-    goal.map_inside-returns-in_ok-definite_members-in-Some-clause-does
-map_inside-returns-in_ok-definite_members-in-Some-clause-does g t c before shows =
-    counted true _ _ c.in-Some.is (c.in_ok-take_length.ensures.does before shows)
+pub map_inside-returns-in_ok-definite_members-in-Some :
+    goal.map_inside-returns-in_ok-definite_members-in-Some
+map_inside-returns-in_ok-definite_members-in-Some g t c =
+    counted_gives true _ c.in_ok-take_length.ensures.does c.in_ok-take_length.ensures.progress
+    c.in_ok-definite_members-in-Some.ensures.items _ c.in-Some.is
     c.in_ok-definite_members-in-Some.ensures.does
 
-pub map_inside-returns-in_ok-definite_members-in-Some-clause-item :
-    goal.map_inside-returns-in_ok-definite_members-in-Some-clause-item
-map_inside-returns-in_ok-definite_members-in-Some-clause-item g t c =
-    map_encoding _ c.in_ok-definite_members-in-Some.ensures.items
+pub map_inside-returns-in_err-definite_members-in-Some :
+    goal.map_inside-returns-in_err-definite_members-in-Some
+map_inside-returns-in_err-definite_members-in-Some g t c =
+    rw c.from_residual-in_err-definite_members-in-Some.ensures (counted_gives true _
+    c.in_ok-take_length.ensures.does c.in_ok-take_length.ensures.progress tt _ c.in-Some.is
+    c.in_err-definite_members-in-Some.ensures.does)
 
-pub map_inside-returns-in_err-definite_members-in-Some-clause-does :
-    goal.map_inside-returns-in_err-definite_members-in-Some-clause-does
-map_inside-returns-in_err-definite_members-in-Some-clause-does g t c before shows =
-    rw c.from_residual-in_err-definite_members-in-Some.ensures (counted true _ _ c.in-Some.is
-    (c.in_ok-take_length.ensures.does before shows) c.in_err-definite_members-in-Some.ensures.does)
-
-pub map_inside-returns-in_ok-indefinite_members-in-None-clause-does :
-    goal.map_inside-returns-in_ok-indefinite_members-in-None-clause-does
-map_inside-returns-in_ok-indefinite_members-in-None-clause-does g t c before shows =
-    opened true _ c.in-None.is (c.in_ok-take_length.ensures.does before shows)
+pub map_inside-returns-in_ok-indefinite_members-in-None :
+    goal.map_inside-returns-in_ok-indefinite_members-in-None
+map_inside-returns-in_ok-indefinite_members-in-None g t c =
+    opened_gives true _ c.in_ok-take_length.ensures.does c.in_ok-take_length.ensures.progress
+    c.in_ok-indefinite_members-in-None.ensures.items c.in-None.is
     c.in_ok-indefinite_members-in-None.ensures.does
 
-pub map_inside-returns-in_ok-indefinite_members-in-None-clause-item :
-    goal.map_inside-returns-in_ok-indefinite_members-in-None-clause-item
-map_inside-returns-in_ok-indefinite_members-in-None-clause-item g t c =
-    map_encoding _ c.in_ok-indefinite_members-in-None.ensures.items
-
-pub map_inside-returns-in_err-indefinite_members-in-None-clause-does :
-    goal.map_inside-returns-in_err-indefinite_members-in-None-clause-does
-map_inside-returns-in_err-indefinite_members-in-None-clause-does g t c before shows =
-    rw c.from_residual-in_err-indefinite_members-in-None.ensures (opened true _ c.in-None.is
-    (c.in_ok-take_length.ensures.does before shows)
+pub map_inside-returns-in_err-indefinite_members-in-None :
+    goal.map_inside-returns-in_err-indefinite_members-in-None
+map_inside-returns-in_err-indefinite_members-in-None g t c =
+    rw c.from_residual-in_err-indefinite_members-in-None.ensures (opened_gives true _
+    c.in_ok-take_length.ensures.does c.in_ok-take_length.ensures.progress tt c.in-None.is
     c.in_err-indefinite_members-in-None.ensures.does)
 
-pub map_inside-returns-in_err-take_length-clause-does :
-    goal.map_inside-returns-in_err-take_length-clause-does
-map_inside-returns-in_err-take_length-clause-does g t c before shows =
-    rw c.from_residual.ensures (refused (c.in_err-take_length.ensures.does before shows))
+pub map_inside-returns-in_err-take_length : goal.map_inside-returns-in_err-take_length
+map_inside-returns-in_err-take_length g t c =
+    rw c.from_residual.ensures (gives_err (λ before shows. refused
+    (c.in_err-take_length.ensures.does before shows)))
 
-pub read_next-returns-in-4-clause-does : goal.read_next-returns-in-4-clause-does
-read_next-returns-in-4-clause-does g t c before shows =
-    major_arm _ _ (peeks_next _ shows) _ c.in-4.is (c.read_array.ensures.does before shows)
+pub read_next-returns-in-4 : goal.read_next-returns-in-4
+read_next-returns-in-4 g t c =
+    gives_as (λ d before shows. major_arm _ _ (peeks_next _ shows) _ c.in-4.is (d before shows))
+    c.read_array.ensures
 
-pub read_next-returns-in-5-clause-does : goal.read_next-returns-in-5-clause-does
-read_next-returns-in-5-clause-does g t c before shows =
-    major_arm _ _ (peeks_next _ shows) _ c.in-5.is (c.read_map.ensures.does before shows)
+pub read_next-returns-in-5 : goal.read_next-returns-in-5
+read_next-returns-in-5 g t c =
+    gives_as (λ d before shows. major_arm _ _ (peeks_next _ shows) _ c.in-5.is (d before shows))
+    c.read_map.ensures
 
-pub read_next-returns-in-6-clause-does : goal.read_next-returns-in-6-clause-does
-read_next-returns-in-6-clause-does g t c before shows =
-    major_arm _ _ (peeks_next _ shows) _ c.in-6.is (c.read_tag.ensures.does before shows)
+pub read_next-returns-in-6 : goal.read_next-returns-in-6
+read_next-returns-in-6 g t c =
+    gives_as (λ d before shows. major_arm _ _ (peeks_next _ shows) _ c.in-6.is (d before shows))
+    c.read_tag.ensures
 
-pub read_tag-returns-in_err-number-clause-does : goal.read_tag-returns-in_err-number-clause-does
-read_tag-returns-in_err-number-clause-does g t c before shows =
-    rw c.from_residual.ensures (refused (c.in_err-number.ensures.does before shows))
+pub read_tag-returns-in_err-number : goal.read_tag-returns-in_err-number
+read_tag-returns-in_err-number g t c =
+    rw c.from_residual.ensures (gives_err (λ before shows. refused
+    (c.in_err-number.ensures.does before shows)))
 
-pub read_tag-returns-clause-does : goal.read_tag-returns-clause-does
-read_tag-returns-clause-does g t c before shows =
-    tag_does _ _ (reached_by (c.in_ok-number.ensures.does before shows)) c.read_tagged.ensures.does
+pub read_tag-returns : goal.read_tag-returns
+read_tag-returns g t c =
+    gives_on (λ d before shows. tag_does _ _ (reached_by (c.in_ok-number.ensures.does before
+    shows)) d) (omega (arith, c.in_ok-number.ensures.progress)) (omega arith) c.read_tagged.ensures
 
-pub read_inside-returns-in-Begins-clause-does : goal.read_inside-returns-in-Begins-clause-does
-read_inside-returns-in-Begins-clause-does g t c =
-    after_look _ _ _ _ c.in-Begins.is c.in_ok-value.ensures.takes c.read_next.ensures.does
+pub read_inside-returns-in-Begins : goal.read_inside-returns-in-Begins
+read_inside-returns-in-Begins g t c =
+    look_gives _ _ _ c.in-Begins.is c.in_ok-value.ensures c.read_next.ensures
 
 pub indefinite_items-loop-items-init : goal.indefinite_items-loop-items-init
 indefinite_items-loop-items-init g t c = record {
@@ -182,7 +169,7 @@ indefinite_items-loop-items-preserved g t c = record {
       c.in_ok-value.ensures.does));
   items =
       items_are _ _ (c.in_ok-value.value ∷ []) c.in_ok-keep.ensures.kept
-      c.loop-items.invariant.items (c.in_ok-value.ensures.item, tt);
+      c.loop-items.invariant.items (c.in_ok-value.ensures.ranged, tt);
 }
 
 pub indefinite_items-returns-clause-does : goal.indefinite_items-returns-clause-does
@@ -229,7 +216,7 @@ indefinite_members-loop-members-preserved g t c =
           c.if-not-branch.true) (reached_by c.in_ok-member.ensures.does);
       items =
           items_are _ _ (member.0 ∷ member.1 ∷ []) kept c.loop-members.invariant.items
-          (c.in_ok-member.ensures.key, (c.in_ok-member.ensures.value, tt));
+          (c.in_ok-member.ensures.ranged.0, (c.in_ok-member.ensures.ranged.1, tt));
     }
 
 pub indefinite_members-returns-clause-does : goal.indefinite_members-returns-clause-does
@@ -258,42 +245,46 @@ indefinite_members-returns-in_err-keep-clause-does g t c =
     c.is_break.ensures.decodes c.in_ok-part.ensures c.if-not-branch.true).kept
     c.in_ok-member.ensures.does.moves.by))
 
-pub read_member-returns-clause-does : goal.read_member-returns-clause-does
-read_member-returns-clause-does g t c =
-    does_ok _ _ (pair_read _ c.in_ok-key.ensures.does c.in_ok-value.ensures.does)
+pub read_member-returns : goal.read_member-returns
+read_member-returns g t c =
+    record {
+      does = does_ok _ _ (pair_read _ c.in_ok-key.ensures.does c.in_ok-value.ensures.does);
+      ranged = (c.in_ok-key.ensures.ranged, c.in_ok-value.ensures.ranged);
+      gains = omega (arith, c.in_ok-key.ensures.gains, c.in_ok-value.ensures.gains);
+    }
 
-pub read_member-returns-in_err-key-clause-does : goal.read_member-returns-in_err-key-clause-does
-read_member-returns-in_err-key-clause-does g t c =
-    rw c.from_residual.ensures (still_rejected _ _ _ _ (λ xs z rest s. inl s)
-    c.in_err-key.ensures.does)
+pub read_member-returns-in_err-key : goal.read_member-returns-in_err-key
+read_member-returns-in_err-key g t c =
+    rw c.from_residual.ensures (gives_err (still_rejected _ _ _ _ (λ xs z rest s. inl s)
+    c.in_err-key.ensures.does))
 
-pub read_member-returns-in_err-value-clause-does : goal.read_member-returns-in_err-value-clause-does
-read_member-returns-in_err-value-clause-does g t c =
-    rw c.from_residual-in_err-value.ensures (value_rejected _ c.in_ok-key.ensures.does _
-    c.in_err-value.ensures.does)
+pub read_member-returns-in_err-value : goal.read_member-returns-in_err-value
+read_member-returns-in_err-value g t c =
+    rw c.from_residual-in_err-value.ensures (gives_err (value_rejected _ c.in_ok-key.ensures.does _
+    c.in_err-value.ensures.does))
 
-pub read_value-returns-clause-does : goal.read_value-returns-clause-does
-read_value-returns-clause-does g t c =
-    stepped _ c.if-not-step_in.ensures.budget c.step_in.ensures.others
-    c.read_inside-outcome.ensures.does c.step_out.ensures.budget c.step_out.ensures.others
+pub read_value-returns : goal.read_value-returns
+read_value-returns g t c =
+    value_stepped _ c.if-not-step_in.ensures.budget c.step_in.ensures.others
+    c.step_out.ensures.budget c.step_out.ensures.others
+    c.read_inside-outcome.ensures
 
 pub definite_members-returns-then-is_err-clause-does :
     goal.definite_members-returns-then-is_err-clause-does
 definite_members-returns-then-is_err-clause-does g t c =
     does_no_memory _ _ refl (kept_alike _)
 
-pub read_value-returns-then-not-step_in-clause-does :
-    goal.read_value-returns-then-not-step_in-clause-does
-read_value-returns-then-not-step_in-clause-does g t c =
-    rw c.leave_deep.ensures (does_no_step value_name _ _ refl refl (λ none xs. value_no_step _ _
-    none xs) c.if-not-step_in.ensures.budget c.step_in.ensures.others)
+pub read_value-returns-then-not-step_in : goal.read_value-returns-then-not-step_in
+read_value-returns-then-not-step_in g t c =
+    rw c.leave_deep.ensures (gives_err (does_no_step value_name _ _ refl refl (λ none xs.
+    value_no_step _ _ none xs) c.if-not-step_in.ensures.budget c.step_in.ensures.others))
 
 pub indefinite_items-loop-items-smaller : goal.indefinite_items-loop-items-smaller
 indefinite_items-loop-items-smaller g t c =
     omega (
       arith,
       (rw c.in_ok-part.ensures at c.is_break.ensures.decodes.moves).by.bound,
-      c.in_ok-value.ensures.progress,
+      c.in_ok-value.ensures.gains,
     )
 
 pub indefinite_members-loop-members-smaller : goal.indefinite_members-loop-members-smaller
@@ -301,94 +292,80 @@ indefinite_members-loop-members-smaller g t c =
     omega (
       arith,
       (rw c.in_ok-part.ensures at c.is_break.ensures.decodes.moves).by.bound,
-      c.in_ok-member.ensures.progress,
+      c.in_ok-member.ensures.gains,
     )
 
-pub read_tagged-returns-in_err-inner-clause-does :
-    goal.read_tagged-returns-in_err-inner-clause-does
-read_tagged-returns-in_err-inner-clause-does g t c =
-    rw c.from_residual.ensures (refused c.in_err-inner.ensures.does)
+pub read_tagged-returns-in_err-inner : goal.read_tagged-returns-in_err-inner
+read_tagged-returns-in_err-inner g t c =
+    rw c.from_residual.ensures (gives_err (refused c.in_err-inner.ensures.does))
 
-pub read_tagged-returns-in-Ok-clause-does : goal.read_tagged-returns-in-Ok-clause-does
-read_tagged-returns-in-Ok-clause-does g t c =
-    tagged_ok _ _ (Tag c.args.number c.in-Ok.boxed) (view-Tag c.args.number c.in-Ok.boxed ∙ ap (λ x.
-    tag c.args.number (view x)) c.in-Ok.ensures.ok) c.in_ok-inner.ensures.does
+pub read_tagged-returns-in-Ok : goal.read_tagged-returns-in-Ok
+read_tagged-returns-in-Ok g t c =
+    let is = view-Tag c.args.number c.in-Ok.boxed
+    ∙ ap (λ x. tag c.args.number (view x)) c.in-Ok.ensures.ok in
+    record {
+      does = tagged_ok _ _ (Tag c.args.number c.in-Ok.boxed) is c.in_ok-inner.ensures.does;
+      ranged = subst IsItem (sym is) (omega arith, c.in_ok-inner.ensures.ranged);
+      gains = c.in_ok-inner.ensures.gains;
+    }
 
-pub read_tagged-returns-clause-does : goal.read_tagged-returns-clause-does
-read_tagged-returns-clause-does g t c =
-    does_no_memory _ _ refl c.in_ok-inner.ensures.does.moves.by
+pub read_tagged-returns : goal.read_tagged-returns
+read_tagged-returns g t c =
+    gives_err (does_no_memory _ _ refl c.in_ok-inner.ensures.does.moves.by)
 
 -- ---- as many values as one look decides, and the one after them
 
-pub more_items-returns-clause-does : goal.more_items-returns-clause-does
-more_items-returns-clause-does g t c =
-    turn_stepped _ _ _ _ c.if-not-step_in.ensures.budget c.step_in.ensures.others
-    c.items_inside-outcome.ensures.does c.step_out.ensures.budget c.step_out.ensures.others
+pub more_items-returns : goal.more_items-returns
+more_items-returns g t c =
+    items_stepped _ c.if-not-step_in.ensures.budget c.step_in.ensures.others
+    c.step_out.ensures.budget c.step_out.ensures.others _ _ _
+    c.items_inside-outcome.ensures
 
-pub more_items-returns-then-not-step_in-clause-does :
-    goal.more_items-returns-then-not-step_in-clause-does
-more_items-returns-then-not-step_in-clause-does g t c =
-    rw c.leave_deep.ensures (turn_unstepped _ _ _ _ c.requires refl refl
-    c.if-not-step_in.ensures.budget c.step_in.ensures.others)
+pub more_items-returns-then-not-step_in : goal.more_items-returns-then-not-step_in
+more_items-returns-then-not-step_in g t c =
+    rw c.leave_deep.ensures (gives_err (turn_unstepped _ _ _ _ c.requires refl refl
+    c.if-not-step_in.ensures.budget c.step_in.ensures.others))
 
-pub items_inside-returns-in_ok-value-in-Some-clause-does :
-    goal.items_inside-returns-in_ok-value-in-Some-clause-does
-items_inside-returns-in_ok-value-in-Some-clause-does g t c =
-    turn_put _ _ _ _ _ (run_before _ _ _ _ _ c.in-Some.is c.in_ok-next.ensures.puts) _ _ _
-    c.put_value.ensures.kept c.put_value.ensures.memory c.in_ok-value-in-Some.ensures.does
+pub items_inside-returns-in_ok-value-in-Some : goal.items_inside-returns-in_ok-value-in-Some
+items_inside-returns-in_ok-value-in-Some g t c =
+    item_put _ _ _ _ _ _ _ _ _ c.in-Some.is c.in_ok-next.ensures c.put_value.ensures.kept
+    c.put_value.ensures.memory c.in_ok-value-in-Some.ensures
 
-pub items_inside-returns-in_err-value-in-Some-clause-does :
-    goal.items_inside-returns-in_err-value-in-Some-clause-does
-items_inside-returns-in_err-value-in-Some-clause-does g t c =
-    rw c.from_residual-in_err-value-in-Some.ensures (turn_rejected _ _ _ _ _ (run_before _ _ _ _ _
-    c.in-Some.is c.in_ok-next.ensures.puts) _ (on_found _ c.in-Some.is c.in_ok-next.ensures.lacks)
-    c.in_err-value-in-Some.ensures.does)
+pub items_inside-returns-in_err-value-in-Some : goal.items_inside-returns-in_err-value-in-Some
+items_inside-returns-in_err-value-in-Some g t c =
+    rw c.from_residual-in_err-value-in-Some.ensures (gives_err (turn_rejected _ _ _ _ _
+    (run_before _ _ _ _ _ c.in-Some.is c.in_ok-next.ensures.puts) _ (on_found _ c.in-Some.is
+    c.in_ok-next.ensures.lacks) c.in_err-value-in-Some.ensures.does))
 
-pub items_inside-returns-in_err-next-clause-does :
-    goal.items_inside-returns-in_err-next-clause-does
-items_inside-returns-in_err-next-clause-does g t c =
-    rw c.from_residual.ensures (turn_ends _ _ _ _ c.requires c.in_err-next.ensures.puts)
+pub items_inside-returns-in_err-next : goal.items_inside-returns-in_err-next
+items_inside-returns-in_err-next g t c =
+    rw c.from_residual.ensures (gives_err (turn_ends _ _ _ _ c.requires c.in_err-next.ensures.puts))
 
-pub items_inside-returns-in_ok-value-in-Some-clause-items :
-    goal.items_inside-returns-in_ok-value-in-Some-clause-items
-items_inside-returns-in_ok-value-in-Some-clause-items g t c =
-    put_items _ _ _ _ _ c.put_value.ensures.kept c.in_ok-next.ensures.items
-    c.in_ok-value-in-Some.ensures.item
+pub more_members-returns : goal.more_members-returns
+more_members-returns g t c =
+    items_stepped _ c.if-not-step_in.ensures.budget c.step_in.ensures.others
+    c.step_out.ensures.budget c.step_out.ensures.others _ _ _
+    c.members_inside-outcome.ensures
 
-pub more_members-returns-clause-does : goal.more_members-returns-clause-does
-more_members-returns-clause-does g t c =
-    turn_stepped _ _ _ _ c.if-not-step_in.ensures.budget c.step_in.ensures.others
-    c.members_inside-outcome.ensures.does c.step_out.ensures.budget c.step_out.ensures.others
+pub more_members-returns-then-not-step_in : goal.more_members-returns-then-not-step_in
+more_members-returns-then-not-step_in g t c =
+    rw c.leave_deep.ensures (gives_err (turn_unstepped _ _ _ _ c.requires refl refl
+    c.if-not-step_in.ensures.budget c.step_in.ensures.others))
 
-pub more_members-returns-then-not-step_in-clause-does :
-    goal.more_members-returns-then-not-step_in-clause-does
-more_members-returns-then-not-step_in-clause-does g t c =
-    rw c.leave_deep.ensures (turn_unstepped _ _ _ _ c.requires refl refl
-    c.if-not-step_in.ensures.budget c.step_in.ensures.others)
+pub members_inside-returns-in_ok-value-in-Some : goal.members_inside-returns-in_ok-value-in-Some
+members_inside-returns-in_ok-value-in-Some g t c =
+    item_put _ _ _ _ _ _ _ _ _ c.in-Some.is c.in_ok-next.ensures c.put_value.ensures.kept
+    c.put_value.ensures.memory c.in_ok-value-in-Some.ensures
 
-pub members_inside-returns-in_ok-value-in-Some-clause-does :
-    goal.members_inside-returns-in_ok-value-in-Some-clause-does
-members_inside-returns-in_ok-value-in-Some-clause-does g t c =
-    turn_put _ _ _ _ _ (run_before _ _ _ _ _ c.in-Some.is c.in_ok-next.ensures.puts) _ _ _
-    c.put_value.ensures.kept c.put_value.ensures.memory c.in_ok-value-in-Some.ensures.does
+pub members_inside-returns-in_err-value-in-Some : goal.members_inside-returns-in_err-value-in-Some
+members_inside-returns-in_err-value-in-Some g t c =
+    rw c.from_residual-in_err-value-in-Some.ensures (gives_err (turn_rejected _ _ _ _ _
+    (run_before _ _ _ _ _ c.in-Some.is c.in_ok-next.ensures.puts) _ (on_found _ c.in-Some.is
+    c.in_ok-next.ensures.lacks) c.in_err-value-in-Some.ensures.does))
 
-pub members_inside-returns-in_err-value-in-Some-clause-does :
-    goal.members_inside-returns-in_err-value-in-Some-clause-does
-members_inside-returns-in_err-value-in-Some-clause-does g t c =
-    rw c.from_residual-in_err-value-in-Some.ensures (turn_rejected _ _ _ _ _ (run_before _ _ _ _ _
-    c.in-Some.is c.in_ok-next.ensures.puts) _ (on_found _ c.in-Some.is c.in_ok-next.ensures.lacks)
-    c.in_err-value-in-Some.ensures.does)
-
-pub members_inside-returns-in_err-next-clause-does :
-    goal.members_inside-returns-in_err-next-clause-does
-members_inside-returns-in_err-next-clause-does g t c =
-    rw c.from_residual.ensures (turn_ends _ _ _ _ c.requires c.in_err-next.ensures.puts)
-
-pub members_inside-returns-in_ok-value-in-Some-clause-items :
-    goal.members_inside-returns-in_ok-value-in-Some-clause-items
-members_inside-returns-in_ok-value-in-Some-clause-items g t c =
-    put_items _ _ _ _ _ c.put_value.ensures.kept c.in_ok-next.ensures.items
-    c.in_ok-value-in-Some.ensures.item
+pub members_inside-returns-in_err-next : goal.members_inside-returns-in_err-next
+members_inside-returns-in_err-next g t c =
+    rw c.from_residual.ensures (gives_err (turn_ends _ _ _ _ c.requires c.in_err-next.ensures.puts))
 
 -- ---- an array whose items are counted
 
@@ -403,8 +380,8 @@ pub definite_items-loop-alloc-preserved : goal.definite_items-loop-alloc-preserv
 definite_items-loop-alloc-preserved g t c = record {
   reached =
       ran _ _ _ _ c.loop-alloc.invariant.reached c.in_ok-more_items.ensures.does;
-  items = c.in_ok-more_items.ensures.items c.loop-alloc.invariant.items;
-  few = c.in_ok-more_items.ensures.few;
+  items = c.in_ok-more_items.ensures.ranged.0 c.loop-alloc.invariant.items;
+  few = c.in_ok-more_items.ensures.ranged.1;
 }
 
 pub definite_items-returns-in_err-more_items-clause-does :
@@ -426,8 +403,8 @@ pub definite_members-loop-alloc-preserved : goal.definite_members-loop-alloc-pre
 definite_members-loop-alloc-preserved g t c = record {
   reached =
       ran _ _ _ _ c.loop-alloc.invariant.reached c.in_ok-more_members.ensures.does;
-  items = c.in_ok-more_members.ensures.items c.loop-alloc.invariant.items;
-  few = c.in_ok-more_members.ensures.few;
+  items = c.in_ok-more_members.ensures.ranged.0 c.loop-alloc.invariant.items;
+  few = c.in_ok-more_members.ensures.ranged.1;
 }
 
 pub definite_members-returns-in_err-more_members-clause-does :
@@ -452,6 +429,6 @@ definite_members-returns-clause-items g t c =
     c.args.count c.loop-alloc.invariant.few (c.lacks.ensures.full c.loop-alloc-test.false))
     c.loop-alloc.invariant.items
 
-pub read_next-returns-in_default-clause-does : goal.read_next-returns-in_default-clause-does
-read_next-returns-in_default-clause-does g t c before shows =
-    c.read_alone.ensures.does before shows.first
+pub read_next-returns-in_default : goal.read_next-returns-in_default
+read_next-returns-in_default g t c =
+    gives_as (λ d before shows. d before (next_first _ shows)) c.read_alone.ensures

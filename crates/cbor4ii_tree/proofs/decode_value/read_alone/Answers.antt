@@ -1,24 +1,35 @@
 use Rattle.std.proofs.Common.{arith, refl, subst, sym}
-use Rattle.cbor4ii_tree.specs.Valuing.{SimpleOf}
+use Rattle.cbor4ii_tree.specs.{Item.IsItem, Valuing.SimpleOf}
+use Rattle.cbor4ii_tree.proofs.values.{ByHead.peeked_first, Gives.{gives_err, gives_of}}
 use Rattle.cbor4ii_tree.proofs.values.Heads.{first_does, simple_read, undefined_rejected}
+use Rattle.cbor4ii_tree.proofs.values.Leaves.{simple_item_is}
 use Rattle.cbor4ii_tree.proofs.decode_value.read_alone.Goals as goal
 
-pub returns-then-first-ne-SIMPLE-clause-does : goal.returns-then-first-ne-SIMPLE-clause-does
-returns-then-first-ne-SIMPLE-clause-does g c before shows =
-    rw (sym c.part.ensures) (first_does _ _ shows.runs c.read_leaf.ensures.does)
+pub returns-then-first-ne-SIMPLE : goal.returns-then-first-ne-SIMPLE
+returns-then-first-ne-SIMPLE g c =
+    let leaf = c.read_leaf.ensures in
+    rw (sym c.part.ensures) (gives_of (λ before shows. first_does _ _ (peeked_first _ shows)
+    leaf.does) leaf.item leaf.progress)
 
-pub returns-then-not-accepts_simple-clause-does : goal.returns-then-not-accepts_simple-clause-does
-returns-then-not-accepts_simple-clause-does g c before shows =
-    rw c.leave_not_canonical.ensures (undefined_rejected g.A.Encodings.exact c.args.first shows.runs
-    (omega arith) c.advance.ensures (c.if-not-accepts_simple.ensures.rejected refl) refl refl refl)
+pub returns-then-not-accepts_simple : goal.returns-then-not-accepts_simple
+returns-then-not-accepts_simple g c =
+    rw c.leave_not_canonical.ensures (gives_err (λ before shows. undefined_rejected
+    g.A.Encodings.exact c.args.first shows (omega arith) c.advance.ensures
+    (c.if-not-accepts_simple.ensures.rejected refl) refl refl refl))
 
-pub returns-in-Some-clause-does : goal.returns-in-Some-clause-does
-returns-in-Some-clause-does g c before shows =
-    simple_read g.A.Encodings.exact c.args.first shows.runs (omega arith)
-    c.advance-in-Some.ensures (c.if-not-accepts_simple.ensures.accepted refl)
-    (subst (SimpleOf c.args.first) c.in-Some.is c.simple_of.ensures)
+pub returns-in-Some : goal.returns-in-Some
+returns-in-Some g c =
+    let simple = subst (SimpleOf c.args.first) c.in-Some.is c.simple_of.ensures in
+    record {
+      does = λ before shows.
+          simple_read g.A.Encodings.exact c.args.first shows (omega arith)
+          c.advance-in-Some.ensures (c.if-not-accepts_simple.ensures.accepted refl) simple;
+      ranged = subst IsItem simple.2 (simple_item_is simple.0);
+      gains = omega (arith, c.advance-in-Some.ensures.bound);
+    }
 
-pub returns-in-None-clause-does : goal.returns-in-None-clause-does
-returns-in-None-clause-does g c before shows =
-    rw (sym c.part-in-None.ensures) (first_does g.A.Encodings.exact c.args.first shows.runs
-    (c.read_float.ensures.does g.A.Encodings.exact))
+pub returns-in-None : goal.returns-in-None
+returns-in-None g c =
+    let float = c.read_float.ensures in
+    rw (sym c.part-in-None.ensures) (gives_of (λ before shows. first_does g.A.Encodings.exact
+    c.args.first (peeked_first _ shows) (float.does g.A.Encodings.exact)) float.item float.progress)

@@ -1,4 +1,4 @@
-use Rattle.cbor4ii_tree.proofs.{skip_calls.Doing.does_ok, values.ByHead.takes_head}
+use Rattle.cbor4ii_tree.proofs.{skip_calls.Doing.does_ok, values.ByHead.{next_first, takes_head}}
 use Rattle.cbor4ii_tree.proofs.decode_value.take_length.Goals as goal
 
 pub returns-in-Some-clause-does : goal.returns-in-Some-clause-does
@@ -8,4 +8,5 @@ returns-in-Some-clause-does g c before shows =
     c.requires.major c.advance.ensures)
 
 pub returns-in-None-clause-does : goal.returns-in-None-clause-does
-returns-in-None-clause-does g c before shows = c.take_length.ensures.does before shows.first
+returns-in-None-clause-does g c before shows =
+    c.take_length.ensures.does before (next_first _ shows)

@@ -30,7 +30,7 @@ returns-in-Ok-Before g c =
       lacks = offers.is.lacks;
       progress = tt;
       bound = omega (arith, offers.shows.bound, advance.bound);
-      can = shown_can _ _ _ _ _ puts.shows;
+      can = shown_can _ _ _ _ puts.shows;
     }
 
 pub returns-in-Ok-Begins : goal.returns-in-Ok-Begins
@@ -45,7 +45,7 @@ returns-in-Ok-Begins g c =
       lacks = lacks;
       progress = tt;
       bound = offers.shows.bound;
-      can = shown_can _ _ _ _ _ puts.shows;
+      can = shown_can _ _ _ _ puts.shows;
     }
 
 pub returns-in-Ok-NoMemory : goal.returns-in-Ok-NoMemory

@@ -1,26 +1,19 @@
-use Rattle.std.proofs.Common.{◌≡◌, Option, Ok, OnOk, OnSome, sym, subst}
+use Rattle.std.proofs.Common.{sym}
 use Rattle.std.proofs.lemmas.Result.{err_from_is_err_and}
-use Rattle.cbor4ii_rw.specs.declared.error.DecodeError.{DecodeError}
-use Rattle.cbor4ii_tree.specs.Does.{answered}
 use Rattle.cbor4ii_tree.proofs.canonical.Decoding.{canonical_ok, canonical_err, canonical_only}
 use Rattle.cbor4ii_tree.proofs.canonical.Decoding.{canonical_all, takes_encoding, canonical_every}
 use Rattle.cbor4ii_tree.proofs.canonical.Decoding.{canonical_prefix, canonical_exact, rejected_all}
 use Rattle.cbor4ii_tree.proofs.canonical.Decoding.{rejected_every, rejected_prefix, rejected_eof}
 use Rattle.cbor4ii_tree.proofs.canonical.Decoding.{rejected_depth, rejected_never, rejected_others}
 use Rattle.cbor4ii_tree.proofs.canonical.Decoding.{rejected_value, rejected_exact}
-use Rattle.cbor4ii_tree.proofs.values.Answered.{known_on}
 use Rattle.cbor4ii_tree.proofs.decode_canonical.CanonicalDecode.decode.Goals as goal
-
-was_there : {V E : Type 0} (r : Option V) (failure : Option (DecodeError E)) {v : V} (P : Type 0)
-    → Ok v ≡ answered r failure → OnSome r P → P
-was_there r failure P e h = subst (λ z. OnOk z P) (sym e) (known_on r failure P h)
 
 pub returns : goal.returns
 returns g c =
-    let does = rw (sym c.in_ok-whole.ensures) at c.read_outermost-value.ensures.does in
+    let given = rw (sym c.in_ok-whole.ensures) at c.read_outermost-value.ensures in
+    let does = given.does in
     record {
-      decodes = canonical_ok does (was_there c.read_outermost-value.result _ _ c.in_ok-whole.ensures
-          c.read_outermost-value.ensures.progress);
+      decodes = canonical_ok does given.gains;
       only = canonical_only does;
       all = canonical_all does;
       encoding = takes_encoding does;

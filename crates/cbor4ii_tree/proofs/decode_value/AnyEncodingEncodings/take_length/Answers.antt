@@ -1,9 +1,9 @@
 use Rattle.std.proofs.Common.{◌≡◌, ◌∷◌, false, refl, subst, arith}
 use Rattle.cbor4ii_items.specs.Head.{indefinite_head}
-use Rattle.cbor4ii_tree.specs.{InputError.value_name, Valuing.{RejectsMajor}}
+use Rattle.cbor4ii_tree.specs.Valuing.{RejectsMajor}
 use Rattle.cbor4ii_tree.specs.Valuing.{TakesLength}
-use Rattle.cbor4ii_tree.proofs.skip_calls.Doing.{does_ok, reached_as, reached_first}
-use Rattle.cbor4ii_tree.proofs.values.ByHead.{after_peeked}
+use Rattle.cbor4ii_tree.proofs.skip_calls.Doing.{does_ok, reached_as}
+use Rattle.cbor4ii_tree.proofs.values.ByHead.{after_first, taken_first}
 use Rattle.cbor4ii_tree.proofs.decode_value.AnyEncodingEncodings.take_length.Goals as goal
 
 pub returns-then-first-major-clause-does : goal.returns-then-first-major-clause-does
@@ -15,9 +15,9 @@ returns-then-first-major-clause-does g c before shows =
       refl,
       subst (λ b. xs ≡ b ∷ ys)
           is h,
-    )) (reached_first value_name 1 first shows.runs (omega arith) c.advance.ensures))
+    )) (taken_first first shows (omega arith) c.advance.ensures))
 
 pub returns-clause-does : goal.returns-clause-does
 returns-clause-does g c before shows =
-    after_peeked c.args.first shows.runs (TakesLength false c.args.major)
+    after_first c.args.first shows (TakesLength false c.args.major)
     (RejectsMajor false c.args.major) c.length.ensures.does

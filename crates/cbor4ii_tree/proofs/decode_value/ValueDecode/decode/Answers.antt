@@ -1,16 +1,15 @@
 use Rattle.cbor4ii_tree.proofs.answers.Promises.{only_reads, all_reads, prefix_reads, eof_reads}
 use Rattle.cbor4ii_tree.proofs.answers.Promises.{depth_reads, final_reads, others_reads, size_reads}
 use Rattle.cbor4ii_tree.proofs.answers.Promises.{exact_reads, skips_reads, canonical_reads}
-use Rattle.cbor4ii_tree.proofs.{values.Answered.{known_if, known_on}, values.Decoding.value_decodes}
+use Rattle.cbor4ii_tree.proofs.{values.Gives.gives_fall, values.Decoding.value_decodes}
 use Rattle.cbor4ii_tree.proofs.decode_value.ValueDecode.decode.Goals as goal
 
 pub returns : goal.returns
 returns g c =
-    let answer = c.read_outermost-value.result in
-    let does = c.read_outermost-value.ensures.does in
-    let item = known_if answer _ _ c.read_outermost-value.ensures.item in
+    let given = c.read_outermost-value.ensures in
+    let does = given.does in
     rw c.whole.ensures (record {
-      decodes = value_decodes _ does (known_on answer _ _ c.read_outermost-value.ensures.progress);
+      decodes = value_decodes _ does (gives_fall given);
       only = only_reads _ does;
       all = all_reads _ does;
       prefix = prefix_reads _ does;
@@ -21,6 +20,6 @@ returns g c =
       size = size_reads _ does;
       exact = exact_reads _ does;
       skips = skips_reads _ does;
-      item = item;
-      canonical = canonical_reads _ does item;
+      item = given.ranged;
+      canonical = canonical_reads _ does given.ranged;
     })

@@ -1,0 +1,196 @@
+-- What a call of reading gives, by what the calls in it gave.
+use Rattle.std.proofs.Common.{ℕ, ◌≡◌, ◌+◌, ◌≤◌, List, [], ◌∷◌, ◌++◌, length, Option, Some, None, ap}
+use Rattle.std.proofs.Common.{OnSome, OnOk, IfOk, IfNone, Result, Ok, Err, Bool, true, false, arith}
+use Rattle.std.proofs.Common.{length-append, subst, Vec, Global}
+use Rattle.cbor4ii_rw.specs.Reader.{KeepsAllButBudget, StepsIn, step_back}
+use Rattle.cbor4ii_rw.specs.{View.View, declared.error.DecodeError.DecodeError}
+use Rattle.cbor4ii_items.specs.{Laws.Steps.kept_then, Moves.Moves}
+use Rattle.cbor4ii_tree.specs.{Deeper.budgeted, Does.{Does, DoesUnder}}
+use Rattle.cbor4ii_tree.specs.{Does.{Gives, answered, error_left}, Item.AreItems}
+use Rattle.cbor4ii_tree.specs.{Leaf.{DoesAfterNext, ShowsNext, TakesLeaf}, LeafRuns.{GivesItems}}
+use Rattle.cbor4ii_tree.specs.LeafRuns.{PutsItems, PutsItemsUnder, RejectsItemsUnder, TakesRun}
+use Rattle.cbor4ii_tree.specs.{Valuing.{HeadAt, IndefiniteAt, InRange}}
+use Rattle.cbor4ii_tree.specs.Valuing.{ReadsIndefiniteItems, ReadsInside, ReadsItems, ReadsOneValue}
+use Rattle.cbor4ii_tree.specs.Valuing.{ReadsUnder, RejectsItems, RejectsMajor, RejectsOf}
+use Rattle.cbor4ii_tree.specs.Valuing.{RejectsOneValue, RejectsUnder, TakesLength}
+use Rattle.cbor4ii_tree.specs.View.{items_view}
+use Rattle.cbor4ii_tree.specs.declared.{value.Value.Value, leaf.{Next.Next, Looked.Looked}}
+use Rattle.cbor4ii_tree.specs.declared.leaf.Looked.TheVariants as looked
+use Rattle.cbor4ii_tree.proofs.skip_calls.Doing.{does_no_memory, does_ok, does_stepped, reached_by}
+use Rattle.cbor4ii_tree.proofs.skip_calls.{Doing.{refused, steps_in}, Deeper.alike_within}
+use Rattle.cbor4ii_tree.proofs.values.{ByHead.{next_step, next_stepped}, Calls.does_under}
+use Rattle.cbor4ii_tree.proofs.values.{Calls.rejects_under, Items.{array_encoding, items_are}}
+use Rattle.cbor4ii_tree.proofs.values.{Items.map_encoding, LeafRuns.{on_found, run_before}}
+use Rattle.cbor4ii_tree.proofs.values.{LeafRuns.turn_value, Sequences.{Element, RejectsOpen}}
+use Rattle.cbor4ii_tree.proofs.values.Sequences.{answer_as, follow, in_all, made_of, major_of}
+use Rattle.cbor4ii_tree.proofs.values.Sequences.{open_reads, open_row, reads, row, values_of}
+
+module _ {V E : Type 0} {is : V → Type 0} {C : View → View → Result V (DecodeError E) → Type 0}
+    {a b : View} where
+  -- an error alone
+  pub gives_err : {e : DecodeError E} → C a b (Err e) → Gives is C a b (Err e)
+  gives_err d = record { does = d; ranged = tt; gains = tt }
+
+  -- by three clauses
+  pub gives_of : {r : Result V (DecodeError E)} → C a b r → IfOk r is
+      → OnOk r (b.bound + 1 ≤ a.bound) → Gives is C a b r
+  gives_of {r = Ok v} d ranged fell = record { does = d; ranged = ranged; gains = fell }
+  gives_of {r = Err e} d ranged fell = gives_err d
+
+  pub gives_fall : {r : Result V (DecodeError E)} → Gives is C a b r
+      → OnOk r (b.bound + 1 ≤ a.bound)
+  gives_fall {r = Ok v} g = g.gains
+  gives_fall {r = Err e} g = tt
+
+module _ {V E : Type 0} {is : V → Type 0} {C D : View → View → Result V (DecodeError E) → Type 0}
+    {r : Result V (DecodeError E)} where
+  -- reported in other words
+  pub gives_as : {a b : View} → (C a b r → D a b r) → Gives is C a b r → Gives is D a b r
+  gives_as f g = record { does = f g.does; ranged = g.ranged; gains = g.gains }
+
+  -- from before, to after
+  pub gives_on : {a b c d : View} → (C b c r → D a d r) → b.bound ≤ a.bound → d.bound ≤ c.bound
+      → Gives is C b c r → Gives is D a d r
+  gives_on {a = a} {b = b} {c = c} {d = d} f before after g =
+      gives_of (f g.does) g.ranged (less r (gives_fall g))
+    where
+      less : (r : Result V (DecodeError E)) → OnOk r (c.bound + 1 ≤ b.bound)
+          → OnOk r (d.bound + 1 ≤ a.bound)
+      less (Ok v) fell = omega (arith, before, after, fell)
+      less (Err e) fell = tt
+
+-- ---- under a step
+
+module _ (exact : Bool) {E : Type 0} {a b c d : View} (takes : StepsIn a.budget b.budget true)
+    (inward : KeepsAllButBudget a b) (gives : d.budget ≡ step_back c.budget)
+    (outward : KeepsAllButBudget c d) where
+  around : {V : Type 0} {is : V → Type 0}
+      {C D : View → View → Result V (DecodeError E) → Type 0} {r : Result V (DecodeError E)}
+      → (C b c r → D a d r) → Gives is C b c r → Gives is D a d r
+  around f = gives_on f (omega (arith, inward.bound)) (omega (arith, outward.bound))
+
+  pub value_stepped : {r : Result Value (DecodeError E)}
+      → Gives InRange (DoesUnder (ReadsUnder exact) (RejectsUnder exact)) b c r
+      → Gives InRange (DoesUnder (ReadsOneValue exact) (RejectsOneValue exact)) a d r
+  value_stepped =
+      let step = steps_in a.budget b.budget takes in
+      around (λ w. does_stepped (ReadsUnder exact b.budget) _ (RejectsUnder exact b.budget) _
+      (λ xs ys v h. h a.budget step)
+      (λ xs e rest h. rejects_under exact b.budget a.budget xs e rest step h) takes inward w gives
+      outward)
+
+  pub items_stepped : (full : ℕ) (before after : List Value) {r : Result (Unit {0}) (DecodeError E)}
+      → GivesItems (PutsItemsUnder exact) (RejectsItemsUnder exact) full before after b c r
+      → GivesItems (PutsItems exact) (RejectsItems exact) full before after a d r
+  items_stepped full before after =
+      let step = steps_in a.budget b.budget takes in
+      around (λ w. does_stepped (PutsItemsUnder exact before after b.budget) _ (RejectsItemsUnder
+      exact _ b.budget) _ (λ xs ys v h. h a.budget step) (λ xs e rest h. h a.budget step) takes
+      inward w gives outward)
+
+  -- the second step of an array or a map
+  pub second_stepped : (major : ℕ) (n : Next) {r : Result Value (DecodeError E)} → Gives InRange
+      (DoesAfterNext exact n (ReadsInside exact) (RejectsMajor exact major)) b c r → Gives InRange
+      (DoesAfterNext exact n (ReadsUnder exact) (RejectsOf exact major)) a d r
+  second_stepped major n =
+      around (λ w before shows.
+      let stepped = next_step n shows b takes in
+      let step = steps_in before.budget b.budget stepped in
+      does_stepped (ReadsInside exact b.budget) _ (RejectsMajor exact major b.budget) _
+      (λ xs ys v h. h before.budget step)
+      (λ xs e rest h first bs is m. h first bs is m before.budget step) stepped
+      (alike_within b.budget before) (w (budgeted b.budget before) (next_stepped n shows inward))
+      gives outward)
+
+-- ---- a value after a look, or after a run
+
+-- nothing was taken yet
+pub look_gives : (exact : Bool) {E : Type 0} {r : Result Value (DecodeError E)} {a m b : View}
+    {seen : Looked} (n : Next) (failure : Option (DecodeError E)) → seen ≡ looked.Begins n
+    → TakesLeaf exact a m (Some seen) failure
+    → Gives InRange (DoesAfterNext exact n (ReadsUnder exact) (RejectsUnder exact)) m b r
+    → Gives InRange (DoesUnder (ReadsUnder exact) (RejectsUnder exact)) a b r
+look_gives exact {a = a} {m = m} n failure is t =
+    let shows = subst (λ o. TakesLeaf exact a m (Some o) failure) is t in
+    gives_on (λ d. d a shows) shows.shows.bound (omega arith)
+
+-- it is put after the run, or there is no memory for that
+pub item_put : (exact : Bool) {E : Type 0} (full : ℕ) (before mid after : List Value)
+    {found : Option Next} (n : Next) {v : Value} {a m b : View} (r : Option (Unit {0}))
+    (left failure : Option (DecodeError E)) → found ≡ Some n
+    → TakesRun exact full before mid a m (Some found) left → OnSome r (after ≡ mid ++ v ∷ [])
+    → IfNone r (failure ≡ None) → Gives {E = E} InRange
+    (DoesAfterNext exact n (ReadsUnder exact) (RejectsUnder exact)) m b (Ok v)
+    → GivesItems (PutsItemsUnder exact) (RejectsItemsUnder exact) full before after a b
+    (answered r failure)
+item_put exact full before mid after n {v = v} (Some u) left failure is t put none g = record {
+  does =
+      turn_value exact full before mid n (run_before exact before mid n left is t.puts) after put
+      g.does;
+  ranged = (
+    λ are. items_are after mid (v ∷ []) put (t.items are) (g.ranged, tt),
+    omega (arith, ap length put, length-append mid (v ∷ []), on_found n is t.lacks),
+  );
+  gains = omega (arith, t.bound, g.gains);
+}
+item_put exact full before mid after n None left failure is t put none g =
+    let run = run_before exact before mid n left is t.puts in
+    gives_err (does_no_memory _ _ (ap error_left none) (kept_then run.puts.moves.by (g.does run.mid
+    run.shows).moves.by))
+
+-- ---- an array or a map, by its length and its elements
+
+made_is : (keyed : Bool) (v : Vec (Element keyed) Global)
+    → AreItems (items_view (values_of keyed v.items)) → InRange (made_of keyed v)
+made_is false v h = array_encoding v h
+made_is true v h = map_encoding v h
+
+made : (keyed exact : Bool) {E : Type 0} (n : Next)
+    {r : Result (Vec (Element keyed) Global) (DecodeError E)} {a m b : View}
+    → m.bound + 1 ≤ a.bound → Moves m b r
+    → IfOk r (λ v. AreItems (items_view (values_of keyed v.items)))
+    → ((before : View) → ShowsNext (exact ≡ true) n before a → Does (λ xs v ys. ReadsInside exact
+    before.budget xs (made_of keyed v) ys) (RejectsMajor exact (major_of keyed) before.budget)
+    before b r) → Gives InRange
+    (DoesAfterNext exact n (ReadsInside exact) (RejectsMajor exact (major_of keyed))) a b
+    (answer_as (made_of keyed) r)
+made keyed exact n {r = Ok v} fell moves are d = record {
+  does = λ before shows. does_ok _ _ (reached_by (d before shows));
+  ranged = made_is keyed v are;
+  gains = omega (arith, fell, moves.by.bound);
+}
+made keyed exact n {r = Err e} fell moves are d =
+    gives_err (λ before shows. refused (d before shows))
+
+module _ (keyed exact : Bool) {E : Type 0} {o : Option ℕ} {n : Next}
+    {r : Result (Vec (Element keyed) Global) (DecodeError E)} {a m b : View} (length : DoesAfterNext
+    {E = E} exact n (TakesLength exact (major_of keyed)) (RejectsMajor exact (major_of keyed)) a m
+    (Ok o)) (fell : m.bound + 1 ≤ a.bound)
+    (are : IfOk r (λ v. AreItems (items_view (values_of keyed v.items)))) where
+  -- so many elements
+  pub counted_gives : (k : ℕ) → o ≡ Some k
+      → Does (λ xs v ys. ReadsItems exact (in_all keyed k) m.budget xs (values_of keyed v.items) ys)
+      (RejectsItems exact (in_all keyed k) m.budget) m b r → Gives InRange
+      (DoesAfterNext exact n (ReadsInside exact) (RejectsMajor exact (major_of keyed))) a b
+      (answer_as (made_of keyed) r)
+  counted_gives k is d =
+      made keyed exact n fell d.moves are (λ before shows. does_under
+      (HeadAt exact (major_of keyed) k) (λ l xs v ys. ReadsItems exact (in_all keyed k) l xs
+      (values_of keyed v.items) ys) _ (RejectsItems exact (in_all keyed k)) _
+      (λ xs ys zs v. reads keyed exact before.budget k v xs ys zs)
+      (λ xs ys e rest. row keyed exact k before.budget xs ys e rest)
+      (follow exact _ o (Some k) is (length before shows)) d)
+
+  -- up to a break
+  pub opened_gives : o ≡ None
+      → Does (λ xs v ys. ReadsIndefiniteItems exact m.budget xs (values_of keyed v.items) ys)
+      (RejectsOpen keyed exact m.budget) m b r → Gives InRange
+      (DoesAfterNext exact n (ReadsInside exact) (RejectsMajor exact (major_of keyed))) a b
+      (answer_as (made_of keyed) r)
+  opened_gives is d =
+      made keyed exact n fell d.moves are (λ before shows. does_under
+      (IndefiniteAt exact (major_of keyed)) (λ l xs v ys. ReadsIndefiniteItems exact l xs
+      (values_of keyed v.items) ys) _ (RejectsOpen keyed exact) _
+      (λ xs ys zs v. open_reads keyed exact before.budget v xs ys zs)
+      (λ xs ys e rest. open_row keyed exact before.budget xs ys e rest)
+      (follow exact _ o None is (length before shows)) d)
