@@ -1,7 +1,9 @@
 /*
- * Stands before the C library's malloc and realloc, and refuses one call of them: the one whose
- * number, from 1 on, the variable REFUSE has. At the end three numbers go to descriptor 3: how many
- * calls there were, the most bytes that one asked for, and how many were refused.
+ * Stands before the C library's malloc, realloc and free, and refuses one call of the first two:
+ * the one whose number, from 1 on, the variable REFUSE has. At the end two lines go to descriptor
+ * 3. The first has four numbers: how many calls of the two there were, the most bytes that one
+ * asked for, how many were refused, and how many blocks were given and not freed. The second has
+ * the bytes that each of the first 16 calls asked for.
  *
  * It names no header, so that the clang of the kit compiles it alone.
  */
@@ -9,12 +11,19 @@ typedef unsigned long size;
 
 extern void *__libc_malloc(size bytes);
 extern void *__libc_realloc(void *block, size bytes);
+extern void __libc_free(void *block);
 extern char *getenv(const char *name);
 extern long write(int descriptor, const void *bytes, size count);
+
+/* Of so many calls the second line has the bytes. */
+enum { SHOWN = 16 };
 
 static size calls;
 static size most;
 static size refused;
+static size given;
+static size freed;
+static size asked[SHOWN];
 
 static size refused_call(void) {
     const char *digits = getenv("REFUSE");
@@ -26,6 +35,9 @@ static size refused_call(void) {
 }
 
 static int is_refused(size bytes) {
+    if (calls < SHOWN) {
+        asked[calls] = bytes;
+    }
     calls++;
     if (bytes > most) {
         most = bytes;
@@ -38,11 +50,20 @@ static int is_refused(size bytes) {
 }
 
 void *malloc(size bytes) {
-    return is_refused(bytes) ? 0 : __libc_malloc(bytes);
+    void *block = is_refused(bytes) ? 0 : __libc_malloc(bytes);
+    given += block != 0;
+    return block;
 }
 
 void *realloc(void *block, size bytes) {
-    return is_refused(bytes) ? 0 : __libc_realloc(block, bytes);
+    void *moved = is_refused(bytes) ? 0 : __libc_realloc(block, bytes);
+    given += !block && moved;
+    return moved;
+}
+
+void free(void *block) {
+    freed += block != 0;
+    __libc_free(block);
 }
 
 static void tell(size number, char behind) {
@@ -59,5 +80,10 @@ static void tell(size number, char behind) {
 __attribute__((destructor)) static void tell_all(void) {
     tell(calls, ' ');
     tell(most, ' ');
-    tell(refused, '\n');
+    tell(refused, ' ');
+    tell(given - freed, '\n');
+    for (size call = 0; call < calls && call < SHOWN; call++) {
+        tell(asked[call], ' ');
+    }
+    write(3, "\n", 1);
 }

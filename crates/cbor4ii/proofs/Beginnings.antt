@@ -53,18 +53,25 @@ some_at rejects b [] budget z ys e p q h = cc
 some_at rejects b (x ∷ xs) budget z ys e p q h = (not_null (x ∷ xs) b e p q, h)
 
 -- after the byte that was seen
-pub option_rejects : {E : Type 0} (rejects : RejectsAt) {e : DecodeError E} {a m b :
+pub option_rejects_if : {E : Type 0} (rejects : RejectsAt) {e : DecodeError E} {a m b :
     View} {first : ℕ}
-    → Saw a m first → first ≢ 0xf6 → first ≢ 0xf7 → Rejects rejects m b e
+    → Saw a m first → first ≢ 0xf6 → first ≢ 0xf7
+    → ((xs : List ℕ) → a.known ≡ Some xs → Rejects rejects m b e)
     → Rejects (RejectsOption rejects) a b e
-option_rejects rejects {e = e} {a = a} {m = m} {b = b} {first = first} seen p q s = record {
+option_rejects_if rejects {e = e} {a = a} {m = m} {b = b} {first = first} seen p q s = record {
   at = λ xs known.
       let f = seen.first xs known in
       rejects_as (input_error_of e) b.known (rejects xs m.budget)
       (RejectsOption rejects xs a.budget) (λ z ys h.
       some_at rejects first xs a.budget z ys f.1 p q (subst (λ k. rejects xs k z ys) seen.budget h))
-      (s.at xs f.0);
+      ((s xs known).at xs f.0);
 }
+
+pub option_rejects : {E : Type 0} (rejects : RejectsAt) {e : DecodeError E} {a m b :
+    View} {first : ℕ}
+    → Saw a m first → first ≢ 0xf6 → first ≢ 0xf7 → Rejects rejects m b e
+    → Rejects (RejectsOption rejects) a b e
+option_rejects rejects seen p q s = option_rejects_if rejects seen p q (λ xs known. s)
 
 none_at : (rejects : RejectsAt) (xs : List ℕ) (budget : Option ℕ) (z : InputError) (ys : List ℕ)
     → RejectsNext (codes "option") xs budget z ys → RejectsOption rejects xs budget z ys

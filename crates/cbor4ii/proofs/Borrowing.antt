@@ -202,6 +202,7 @@ module _ {E : Type 0} {a b : View} where
       (lent_sound _ _ _ _ _ _ _ _ text_definite text_apart r q a b h d.sound k)
       (λ is sure. lent_complete _ _ _ _ _ _ _ _ text_definite three_small text_apart text_lent
       text_encoded r q a h (d.complete (inl refl)) k sure)
+      (λ is sure. lent_rejects _ _ _ _ _ _ _ r q a b h d.sound d.begins)
       (λ is. lent_rejects _ _ _ _ _ _ _ r q a b h d.sound d.begins)
 
   pub bytes_answer : (r : Result (Bytes (CowSlice ℕ Global)) (CoreError E))
@@ -216,6 +217,7 @@ module _ {E : Type 0} {a b : View} where
       (lent_sound _ _ _ _ _ _ _ _ bytes_definite bytes_apart r q a b h d.sound k)
       (λ is sure. lent_complete _ _ _ _ _ _ _ _ bytes_definite two_small bytes_apart bytes_lent
       bytes_encoded r q a h (d.complete (inl refl)) k sure)
+      (λ is sure. lent_rejects _ _ _ _ _ _ _ r q a b h d.sound d.begins)
       (λ is. lent_rejects _ _ _ _ _ _ _ r q a b h d.sound d.begins)
 
 -- bytes that are handed on stand where they stood

@@ -130,6 +130,13 @@ pub content_err : {V E : Type 0} (reads : Reads V) {content : Bool} (r : Result 
     → IfErr r (λ e. Complete (ReadsContent content reads) a (as_core e))
 content_err reads r a is s = rw is s
 
+pub content_rejected : {V E : Type 0} (rejects : RejectsAt) {content : Bool} (first : ℕ)
+    (r : Result V (Typed E)) (a b d : View) → content ≡ true → KeepsAllButBudget b d
+    → IfErr r (λ e. Rejects rejects a b (as_core e))
+    → IfErr r (λ e. Rejects (RejectsContent (content, first) rejects) a d (as_core e))
+content_rejected rejects first (Ok v) a b d is k s = tt
+content_rejected rejects first (Err e) a b d is k s = content_rejects rejects first is k s
+
 pub content_said : {V E : Type 0} (exact : Bool) (rejects : RejectsAt) {content : Bool} (first : ℕ)
     (r : Result V (Typed E)) (a b d : View) → content ≡ true → KeepsAllButBudget b d
     → Moves a b (answer_of r) → (IsTrue exact → IfErr r (λ e. Rejects rejects a b (as_core e)))

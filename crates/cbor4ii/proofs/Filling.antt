@@ -39,9 +39,10 @@ use Rattle.cbor4ii.proofs.Steps.{under_if}
 -- no field has it
 module _ {V : Type 0} (f : Fields V) (name : List ℕ) (values : V) {a b : View} where
   pub skips : {E : Type 0} (exact : Bool) (r : Result (Unit {0}) (DecodeError E))
-      → f.named ≡ no_field → f.rejects ≡ no_field_rejects → Decodes skipped_format a b r
+      → f.named ≡ no_field → f.rejects ≡ no_field_rejects → f.begins ≡ no_field_rejects
+      → Decodes skipped_format a b r
       → Alters made exact (after_name f name) values values a b r
-  skips exact (Ok u) none rejects d = record {
+  skips exact (Ok u) none rejects begins d = record {
     what = λ v. v;
     read = decoded_ok (after_name f name) d.moves.by (λ some. cc) (record {
       at = λ xs known. let p = d.sound.at xs known in record {
@@ -54,7 +55,7 @@ module _ {V : Type 0} (f : Fields V) (name : List ℕ) (values : V) {a b : View}
     });
     is = refl;
   }
-  skips exact (Err e) none rejects d =
+  skips exact (Err e) none rejects begins d =
       err_after skipped_format (after_name f name) (kept_alike a) (λ xs known. (
         xs,
         known,
@@ -62,7 +63,7 @@ module _ {V : Type 0} (f : Fields V) (name : List ℕ) (values : V) {a b : View}
           none = λ is skipped g n c q fits.
               skipped tt n c (subst (λ named. named name xs g n c) none q).0 fits;
           rejects = λ z ys h. subst (λ at. at name xs a.budget z ys) (sym rejects) h;
-          begins = λ z ys h. subst (λ at. at name xs a.budget z ys) (sym rejects) h;
+          begins = λ z ys h. subst (λ at. at name xs a.budget z ys) (sym begins) h;
         },
       )) (λ owned. refl) (λ takes. refl) (of_exact d)
 
@@ -174,12 +175,12 @@ module _ {V E : Type 0} (f : Fields V) {a m : View} {name : String Global}
       → Alters made f.exact (entry_of f) first last a b r
   entry_alters (Ok u) b first last h = record {
     what = h.what;
-    read = accepted (entry_then f.named f.rejects (SameChange f.same) f.owned d (Ok h.what)
-        (of_exact {exact = f.exact} h.read));
+    read = accepted (entry_then f.named f.rejects f.begins (SameChange f.same) f.owned d
+        (Ok h.what) (of_exact {exact = f.exact} h.read));
     is = h.is;
   }
   entry_alters (Err e) b first last h =
-      entry_then f.named f.rejects (SameChange f.same) f.owned d (Err e) h
+      entry_then f.named f.rejects f.begins (SameChange f.same) f.owned d (Err e) h
 
 -- ---- entries, one after another
 

@@ -1,4 +1,4 @@
--- The value at the front of an input.
+-- The value at the beginning of an input.
 use Rattle.std.proofs.Common.{◌≡◌, ℕ, ◌≤◌, inl, List, length, Option, Some}
 use Rattle.std.proofs.Common.{None, Result, Ok, Err, true, refl, sym, subst}
 use Rattle.std.specs.Prelude.{IfOk, IfErr, IfSome, IsTrue}
@@ -64,6 +64,8 @@ module _ {V E : Type 0} (p : Promise V) (r : Result V (DecodeError E)) where
           memory = if_err _ r d.memory;
           is_complete = λ is sure. complete_at p.format.reads r a at
               (if_err _ r (d.complete is sure));
+          rejects = λ is sure. stopped_at p.format.reads p.format.rejects r a b at
+              (if_err _ r (d.rejects is sure));
           stopped = λ is. stopped_at p.format.reads p.format.begins r a b at
               (if_err _ r (d.begins is));
         };
@@ -77,6 +79,7 @@ module _ {V E : Type 0} (p : Promise V) (r : Result V (DecodeError E)) where
         accepts = f.accepts;
         memory = f.memory;
         is_complete = λ is wanted. f.is_complete is (means wanted);
+        rejects = λ is wanted. f.rejects is (means wanted);
         stopped = f.stopped;
       })
 

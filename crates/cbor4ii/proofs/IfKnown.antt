@@ -33,22 +33,26 @@ pub known : {V E : Type 0} (p : Promise V) {a b : View} (r : Result V (DecodeErr
     → IfOk r (Sound p.format.reads a b)
     → (IsTrue p.exact → IsExact p.format.owned a
     → IfErr r (λ e. Complete p.format.reads a (as_core e)))
+    → (IsTrue p.exact → IsExact p.format.owned a
+    → IfErr r (λ e. Rejects p.format.rejects a b (as_core e)))
     → (IsTrue p.known → IfErr r (λ e. Rejects p.format.begins a b (as_core e)))
     → Deserializes p a b (answer_of r)
-known p (Ok v) moves progress memory sound complete begins = record {
+known p (Ok v) moves progress memory sound complete rejects begins = record {
   moves = moves;
   progress = progress;
   memory = memory;
   sound = sound;
   complete = complete;
+  rejects = rejects;
   begins = begins;
 }
-known p (Err e) moves progress memory sound complete begins = record {
+known p (Err e) moves progress memory sound complete rejects begins = record {
   moves = moves;
   progress = progress;
   memory = memory;
   sound = sound;
   complete = complete;
+  rejects = rejects;
   begins = begins;
 }
 

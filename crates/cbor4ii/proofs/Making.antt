@@ -4,13 +4,14 @@ use denote.Ref.{Bor}
 use Rattle.cbor4ii_rw.specs.View.{View}
 use Rattle.cbor4ii_rw.specs.declared.error.DecodeError.{DecodeError}
 use Rattle.cbor4ii_rw.specs.declared.error.DecodeError.TheVariants.{Custom}
-use Rattle.cbor4ii_items.specs.InputError.{input_error_of}
+use Rattle.cbor4ii_items.specs.Decoding.{RejectsAt, Rejects}
 use Rattle.cbor4ii_items.specs.Laws.Answering.{complete_as}
-use Rattle.cbor4ii_items.specs.Laws.Calls.{rejects_as}
 use Rattle.cbor4ii_items.specs.Laws.Steps.{moves_ok, moves_err}
-use Rattle.cbor4ii.specs.Made.{RejectsMade, made_from, made_or_rejected}
+use Rattle.cbor4ii.specs.Made.{RejectsMade, made_from, made_or_rejected, made_rejects}
+use Rattle.cbor4ii.specs.Made.{made_begins}
 use Rattle.cbor4ii.specs.Presence.{SameFate}
 use Rattle.cbor4ii.specs.Typed.{Promise, Deserializes, no_number, not_exact}
+use Rattle.cbor4ii.proofs.Stopped.{stopped_as}
 
 module _ {V W E : Type 0} (p : Promise V) {a b : View} where
   -- it was made
@@ -30,6 +31,7 @@ module _ {V W E : Type 0} (p : Promise V) {a b : View} where
       };
     };
     complete = λ is sure. tt;
+    rejects = λ is sure. tt;
     begins = λ reports. tt;
   }
 
@@ -42,6 +44,7 @@ module _ {V W E : Type 0} (p : Promise V) {a b : View} where
     sound = tt;
     complete = λ is sure. complete_as p.format.reads _
         (λ xs budget none w n c q. none q.part n c q.read) (d.complete is sure);
+    rejects = d.rejects;
     begins = d.begins;
   }
 
@@ -63,26 +66,51 @@ module _ {V W E : Type 0} (p : Promise V) {a b : View} where
       };
     };
     complete = λ is sure. tt;
+    rejects = λ is sure. tt;
     begins = λ reports. tt;
   }
 
   pub made_err : {e : DecodeError E} (value : V → Result W (List ℕ)) → Deserializes p a b (Err e)
       → Deserializes (made_or_rejected value p) a b (Err e)
-  made_err {e = e} value d = record {
+  made_err value d = record {
     moves = moves_err d.moves;
     progress = tt;
     memory = d.memory;
     sound = tt;
     complete = λ is sure. complete_as p.format.reads _
         (λ xs budget none w n c q. none q.part n c q.read) (d.complete is sure);
-    begins = λ reports. record {
-      at = λ xs known. rejects_as (input_error_of e) b.known (p.format.begins xs a.budget)
-          (RejectsMade p.format value xs a.budget) (λ z ys h. inl h)
-          ((d.begins reports).at xs known);
-    };
+    rejects = λ is sure.
+        stopped_as p.format.rejects (made_rejects p.format value) (λ xs budget z ys. inl)
+        (d.rejects is sure);
+    begins = λ reports.
+        stopped_as p.format.begins (made_begins p.format value) (λ xs budget z ys. inl)
+        (d.begins reports);
   }
 
-  -- it was rejected: a value is whole, and nothing is made of it
+  -- a value is whole, and nothing is made of it
+  whole_unmade : (rejects : RejectsAt) {v : V} {words : Bor (List ℕ)}
+      (value : V → Result W (List ℕ)) → value v ≡ Err words.now
+      → Deserializes {E = E} p a b (Ok v)
+      → Rejects {E = E} (RejectsMade rejects p.format.reads value) a b (Custom words no_number)
+  whole_unmade rejects {v = v} {words = words} value none d = record {
+    at = λ xs known. let q = d.sound.at xs known in (
+      drop q.count xs,
+      q.left,
+      inr (record {
+        part = v;
+        count = q.count;
+        cost = q.cost;
+        read = q.read;
+        fits = q.fits;
+        words = words.now;
+        unmade = none;
+        is = refl;
+        left = refl;
+      }),
+    );
+  }
+
+  -- it was rejected then
   pub unmade : {v : V} {words : Bor (List ℕ)} (value : V → Result W (List ℕ))
       → ((v w : V) → p.format.same v w → SameFate (value v) (value w))
       → value v ≡ Err words.now → Deserializes {E = E} p a b (Ok v)
@@ -99,21 +127,6 @@ module _ {V W E : Type 0} (p : Promise V) {a b : View} where
           subst (λ (o : Result W (List ℕ)). SameFate o (Ok w)) none
           (subst (λ (o : Result W (List ℕ)). SameFate (value v) o) r.made (fate v r.part e.2));
     };
-    begins = λ reports. record {
-      at = λ xs known. let q = d.sound.at xs known in (
-        drop q.count xs,
-        q.left,
-        inr (record {
-          part = v;
-          count = q.count;
-          cost = q.cost;
-          read = q.read;
-          fits = q.fits;
-          words = words.now;
-          unmade = none;
-          is = refl;
-          left = refl;
-        }),
-      );
-    };
+    rejects = λ is sure. whole_unmade p.format.rejects value none d;
+    begins = λ reports. whole_unmade p.format.begins value none d;
   }

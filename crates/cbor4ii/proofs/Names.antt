@@ -1,8 +1,7 @@
 -- Names of fields, found among some names and taken.
 use Rattle.std.proofs.Common.{◌-◌, ◌≡◌, ◌≢◌, inl, ℕ, zero, suc, ◌+◌, ◌<◌, ◌≤◌, ◌/◌, ◌%◌, List, []}
 use Rattle.std.proofs.Common.{◌∷◌, length, take, drop, get_or, slice_index_or, Result, Ok, Err}
-use Rattle.std.proofs.Common.{Bool, true, false, ltb, ltb-true, ltb-false, refl, sym, ap, ap₂, ◌∙◌}
-use Rattle.std.proofs.Common.{subst, arith, ◌++◌, ◌^◌}
+use Rattle.std.proofs.Common.{refl, sym, ap, ap₂, ◌∙◌, subst, arith, ◌++◌, ◌^◌}
 use Rattle.std.proofs.Math.Seq.{take-length}
 use Rattle.std.proofs.Math.Seq.{take-append_seam}
 use Rattle.std.proofs.lemmas.List.{length-take-le, take-append-drop, append_assoc}
@@ -44,19 +43,6 @@ same_item : (names : List (Bor (List ℕ))) (i : ℕ) (d e : Bor (List ℕ)) →
 same_item [] i d e less = absurd (omega (arith, less))
 same_item (own ∷ names) zero d e less = refl
 same_item (own ∷ names) (suc i) d e less = same_item names i d e (omega (arith, less))
-
-more_by : (name : List ℕ) (names : List (Bor (List ℕ))) (i j : ℕ) (d e : Bor (List ℕ))
-    → i < length names → name ≢ (get_or names i d).now → j ≡ i → name ≢ (get_or names j e).now
-more_by name names i j d e less other is =
-    subst (λ k. name ≢ (get_or names k e).now) (sym is)
-    (subst (λ (s : Bor (List ℕ)). name ≢ s.now) (same_item names i d e less) other)
-
-before_or_at : (name : List ℕ) (names : List (Bor (List ℕ))) (i : ℕ) (d : Bor (List ℕ))
-    → Others name names i → i < length names → name ≢ (get_or names i d).now → (j : ℕ)
-    (e : Bor (List ℕ)) (t : Bool) → ltb j i ≡ t → j < i + 1 → name ≢ (get_or names j e).now
-before_or_at name names i d others less other j e true is h = others j e (ltb-true j i is)
-before_or_at name names i d others less other j e false is h =
-    more_by name names i j d e less other (omega (arith, h, ltb-false j i is))
 
 stands_by : (name : List ℕ) (names : List (Bor (List ℕ))) (at : ℕ) → Others name names at
     → at ≤ length names

@@ -1,17 +1,13 @@
 -- Two values, one after the other, of which either may not be exact.
-use Rattle.std.proofs.Common.{Ok, Err, Bool, IsTrue, inl, inr}
+use Rattle.std.proofs.Common.{Ok, Err, Bool, IsTrue}
 use Rattle.std.specs.Prelude.{◌&&◌}
 use Rattle.cbor4ii_rw.specs.View.{View}
 use Rattle.cbor4ii_rw.specs.declared.error.DecodeError.{DecodeError}
-use Rattle.cbor4ii_items.specs.Decoding.{IsExact, Format, IsLawful, DecodesIf}
+use Rattle.cbor4ii_items.specs.Decoding.{Format, IsLawful, DecodesIf}
 use Rattle.cbor4ii_items.specs.Laws.Calls.{of_exact, exact_less, accepted}
 use Rattle.cbor4ii_items.specs.Laws.Containers.{both}
 use Rattle.cbor4ii_items.specs.Laws.Pairs.{pair_ok, key_err, value_err}
 use Rattle.cbor4ii_items.specs.Sequences.{pair_format}
-
-pub exact_both : (x y : Bool) (v : View) → IsExact (x && y) v → IsExact x v × IsExact y v
-exact_both x y v (inl e) = let h = both x y e in (inl h.0, inl h.1)
-exact_both x y v (inr e) = (inr e, inr e)
 
 module _ {A B E : Type 0} {x : Bool} (first : Format A) (second : Format B) {a m : View} where
   pub two_ok : {y : Bool} {b : View} {v : A} {w : B} → DecodesIf {E = E} x first a m (Ok v)

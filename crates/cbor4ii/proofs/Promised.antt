@@ -19,6 +19,7 @@ promised p d = record {
   memory = d.memory;
   sound = d.sound;
   complete = d.complete;
+  rejects = d.rejects;
   begins = λ is. d.begins;
 }
 
@@ -60,6 +61,6 @@ tell p (Err e) d =
       memory = d.memory;
       sound = tt;
       complete = d.complete;
-      rejects = λ is sure. begins;
+      rejects = d.rejects;
       begins = begins;
     }

@@ -48,5 +48,6 @@ module _ {V W E : Type 0} (name : List ℕ) (reads : Reads V) (rejects : Rejects
     memory = λ out. refl;
     sound = tt;
     complete = λ is. never_exact a none;
+    rejects = λ is sure. copy_rejects r e a b h sound begins;
     begins = λ is. copy_rejects r e a b h sound begins;
   }

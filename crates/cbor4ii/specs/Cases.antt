@@ -16,7 +16,7 @@ use Rattle.cbor4ii.specs.Fields.{named_entry}
 use Rattle.cbor4ii.specs.Presence.{made_struct}
 use Rattle.cbor4ii.specs.Stepped.{stepped_format, stepped_lawful}
 use Rattle.cbor4ii.specs.Structs.{Fields}
-use Rattle.cbor4ii.specs.Typed.{Promise, Lawful, typed_format, lawful_as, typed_laws, said_by}
+use Rattle.cbor4ii.specs.Typed.{Promise, Lawful, format_of, lawful_as, typed_laws, said_by}
 use Rattle.cbor4ii.specs.Typed.{any_two, in_words, not_exact}
 use Rattle.cbor4ii.specs.TypedParts.{container}
 use Rattle.cbor4ii.specs.Variants.{ReadsForm, RejectsForm, RejectsContent}
@@ -29,8 +29,10 @@ pub record Holding (V : Type 0) : Type 1 where
   pub unit : V → Type 0
   -- the content that stands for it
   pub content : Reads V
-  -- how it is rejected after its name, by the form of the variant
+  -- how it is rejected after its name, by the form of the variant: where acceptance is exact, and
+  -- over any reader
   pub rejects : Bool × ℕ → RejectsAt
+  pub begins : Bool × ℕ → RejectsAt
   pub same : V → V → Type 0
   pub owned : Bool
   pub exact : Bool
@@ -46,7 +48,7 @@ reads_by form unit content xs v n c = elim form.0 [
 
 abbrev pub holding_format : {V : Type 0} → Holding V → Bool × ℕ → Format V
 holding_format h form = named_part (λ name. reads_by form h.unit h.content)
-    (λ name. h.rejects form) h.same h.owned []
+    (λ name. h.rejects form) (λ name. h.begins form) h.same h.owned []
 
 -- a content that no variant has
 abbrev pub no_content : {V : Type 0} → Reads V
@@ -71,6 +73,7 @@ unit_case = record {
   unit = λ v. Unit {0};
   content = no_content;
   rejects = RejectsUnitCase;
+  begins = RejectsUnitCase;
   same = any_two;
   owned = true;
   exact = true;
@@ -87,7 +90,8 @@ abbrev pub held_case : {V : Type 0} → Promise V → Holding V
 held_case p = record {
   unit = λ v. ⊥;
   content = p.format.reads;
-  rejects = λ form. RejectsContent form (said_by p);
+  rejects = λ form. RejectsContent form p.format.rejects;
+  begins = λ form. RejectsContent form (said_by p);
   same = p.format.same;
   owned = p.format.owned;
   exact = p.exact;
@@ -106,6 +110,7 @@ pub record Cases (V : Type 0) : Type 1 where
   pub units : List ℕ → V → Type 0
   pub contents : List ℕ → Reads V
   pub rejects : List ℕ → Bool × ℕ → RejectsAt
+  pub begins : List ℕ → Bool × ℕ → RejectsAt
   pub same : V → V → Type 0
   pub owned : Bool
   pub exact : Bool
@@ -119,16 +124,24 @@ reads_named cases form name = reads_by form (cases.units name) (cases.contents n
 abbrev pub rejects_named : {V : Type 0} → Cases V → Bool × ℕ → RejectsNamed
 rejects_named cases form name = cases.rejects name form
 
+abbrev pub begins_named : {V : Type 0} → Cases V → Bool × ℕ → RejectsNamed
+begins_named cases form name = cases.begins name form
+
 abbrev pub case_format : {V : Type 0} → Cases V → Bool × ℕ → List ℕ → Format V
 case_format cases form =
-    named_part (reads_named cases form) (rejects_named cases form) cases.same cases.owned
+    named_part (reads_named cases form) (rejects_named cases form) (begins_named cases form)
+    cases.same cases.owned
 
 -- every name is rejected in these words, and what follows it stays
+abbrev pub other_rejects : List ℕ → RejectsAt
+other_rejects words xs budget err rest = (err ≡ in_words words) × (rest ≡ xs)
+
 abbrev pub otherwise : {V : Type 0} → List ℕ → Cases V
 otherwise words = record {
   units = λ name v. ⊥;
   contents = λ name. no_content;
-  rejects = λ name form xs budget err rest. (err ≡ in_words words) × (rest ≡ xs);
+  rejects = λ name form. other_rejects words;
+  begins = λ name form. other_rejects words;
   same = any_two;
   owned = true;
   exact = true;
@@ -228,6 +241,8 @@ module _ {A B : Type 0} (own : List ℕ) (h : Holding A) (others : Cases B) wher
         (OtherAnd (λ b. others.contents name xs b n c) v);
     rejects = λ name form xs budget err rest. ByName own name
         (h.rejects form xs budget err rest) (others.rejects name form xs budget err rest);
+    begins = λ name form xs budget err rest. ByName own name
+        (h.begins form xs budget err rest) (others.begins name form xs budget err rest);
     same = SameChoice h.same others.same;
     owned = h.owned && others.owned;
     exact = h.exact && others.exact;
@@ -256,6 +271,7 @@ module _ {A B : Type 0} (h : Holding A) (others : Cases B) where
     units = λ name. OtherAnd (others.units name);
     contents = λ name xs v n c. OtherAnd (λ b. others.contents name xs b n c) v;
     rejects = others.rejects;
+    begins = others.begins;
     same = SameChoice h.same others.same;
     owned = h.owned && others.owned;
     exact = h.exact && others.exact;
@@ -282,7 +298,8 @@ cases_by h others (own ∷ names) = case own.now h (others names)
 -- a name, and what follows it, by the form
 abbrev pub named_format : {V : Type 0} → Cases V → Bool × ℕ → Format V
 named_format cases form =
-    named_entry (reads_named cases form) (rejects_named cases form) cases.same cases.owned
+    named_entry (reads_named cases form) (rejects_named cases form) (begins_named cases form)
+    cases.same cases.owned
 
 -- its form is seen, and then its name and what follows that are read
 pub record ReadsCase {V : Type 0} (cases : Cases V) (xs : List ℕ) (v : V) (n c : ℕ) : Type 0 where
@@ -294,21 +311,22 @@ pub record ReadsCase {V : Type 0} (cases : Cases V) (xs : List ℕ) (v : V) (n c
   pub whole : n ≡ size + between
 
 -- its form is seen, and its name, or what follows that, is rejected
-pub record RejectsAfterForm {V : Type 0} (cases : Cases V) (xs : List ℕ) (budget : Option ℕ)
-    (err : InputError) (rest : List ℕ) : Type 0 where
+pub record RejectsAfterForm (rejects : Bool × ℕ → RejectsNamed) (xs : List ℕ)
+    (budget : Option ℕ) (err : InputError) (rest : List ℕ) : Type 0 where
   pub form : Bool × ℕ
   pub size : ℕ
   pub seen : ReadsForm xs form size 0
-  pub stop : RejectsEntry (rejects_named cases form) (drop size xs) budget err rest
+  pub stop : RejectsEntry (rejects form) (drop size xs) budget err rest
 
 -- it has neither form, or what comes after its form is rejected
-abbrev pub RejectsCase : {V : Type 0} → Cases V → RejectsAt
-RejectsCase cases xs budget err rest =
-    RejectsForm xs budget err rest ⊎ RejectsAfterForm cases xs budget err rest
+abbrev pub RejectsCase : (Bool × ℕ → RejectsNamed) → RejectsAt
+RejectsCase rejects xs budget err rest =
+    RejectsForm xs budget err rest ⊎ RejectsAfterForm rejects xs budget err rest
 
 abbrev pub inside_format : {V : Type 0} → Cases V → Format V
 inside_format cases =
-    typed_format (ReadsCase cases) cases.same (RejectsCase cases) cases.owned true
+    format_of (ReadsCase cases) cases.same (RejectsCase (rejects_named cases))
+    (RejectsCase (begins_named cases)) cases.owned true
 
 -- one form is seen in one way
 pub form_one : (xs : List ℕ) (f g : Bool × ℕ) (n m : ℕ) → ReadsForm xs f n 0 → ReadsForm xs g m 0

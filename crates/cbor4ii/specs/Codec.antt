@@ -38,6 +38,36 @@ use Rattle.cbor4ii.specs.Typed.{Promise}
 use Rattle.cbor4ii.specs.TypedParts.{typed_option, typed_vector, typed_box, typed_pair}
 use Rattle.cbor4ii.specs.TypedParts.{typed_triple, typed_map}
 
+-- ---- what a codec stands on
+
+-- facts of the type parameters in a codec; there are none where it has no type parameter
+pub data Facts : Type 1 where
+  no_facts : Facts
+  fact_before : Type 0 → Facts → Facts
+
+abbrev pub both_facts : Facts → Facts → Facts
+both_facts no_facts others = others
+both_facts (fact_before fact facts) others = fact_before fact (both_facts facts others)
+
+-- each of them holds
+abbrev pub Hold : Facts → Type 0
+Hold no_facts = Unit {0}
+Hold (fact_before fact facts) = fact × Hold facts
+
+pub first_hold : (facts others : Facts) → Hold (both_facts facts others) → Hold facts
+first_hold no_facts others h = tt
+first_hold (fact_before fact facts) others h = (h.0, first_hold facts others h.1)
+
+pub others_hold : (facts others : Facts) → Hold (both_facts facts others) → Hold others
+others_hold no_facts others h = h
+others_hold (fact_before fact facts) others h = others_hold facts others h.1
+
+pub both_hold : (facts others : Facts) → Hold facts → Hold others → Hold (both_facts facts others)
+both_hold no_facts others h k = k
+both_hold (fact_before fact facts) others h k = (h.0, both_hold facts others h.1 k)
+
+-- ---- a codec
+
 -- how a type is written and read
 pub record Codec (T : Type 0) : Type 1 where
   pub promise : Promise T
@@ -46,11 +76,13 @@ pub record Codec (T : Type 0) : Type 1 where
   pub stands : T → Type 0
   -- the steps that reading its item takes
   pub cost : T → ℕ
+  -- what it stands on
+  pub facts : Facts
   -- its item is read back
-  pub back : (alloc : Global) (v : T) → stands v
+  pub back : Hold facts → (alloc : Global) (v : T) → stands v
       → IsReadBack promise.format.reads (encoding v) v (cost v)
   -- its item is one, and canonical
-  pub one : (v : T) → stands v → IsOneItem canonical (encoding v)
+  pub one : Hold facts → (v : T) → stands v → IsOneItem canonical (encoding v)
 
 -- ---- what holds no other value
 
@@ -68,8 +100,9 @@ leaf_codec promise encoding stands back one = record {
   encoding = encoding;
   stands = stands;
   cost = λ v. 0;
-  back = λ alloc. back;
-  one = one;
+  facts = no_facts;
+  back = λ hold alloc. back;
+  one = λ hold. one;
 }
 
 pub unsigned_is_one : (limit : ℕ) → limit ≤ 2 ^ 64 → (v : ℕ) → v < limit
@@ -124,17 +157,18 @@ abbrev pub some_cost : {T : Type 0} → Codec T → Option T → ℕ
 some_cost c None = 0
 some_cost c (Some v) = 1 + c.cost v
 
-pub option_is_back : {T : Type 0} (c : Codec T) (alloc : Global) (o : Option T) → StandsSome c o
+pub option_is_back : {T : Type 0} (c : Codec T) → Hold c.facts → (alloc : Global) (o : Option T)
+    → StandsSome c o
     → IsReadBack (typed_option c.promise).format.reads (option_encoding c.encoding o) o
     (some_cost c o)
-option_is_back c alloc None h = λ rest. (inl refl, refl, refl)
-option_is_back c alloc (Some v) h =
-    some_read_back c.promise.format.reads (c.encoding v) v (c.cost v) (c.back alloc v h.0) h.1
+option_is_back c hold alloc None h = λ rest. (inl refl, refl, refl)
+option_is_back c hold alloc (Some v) h =
+    some_read_back c.promise.format.reads (c.encoding v) v (c.cost v) (c.back hold alloc v h.0) h.1
 
-pub option_is_one : {T : Type 0} (c : Codec T) (o : Option T) → StandsSome c o
+pub option_is_one : {T : Type 0} (c : Codec T) → Hold c.facts → (o : Option T) → StandsSome c o
     → IsOneItem canonical (option_encoding c.encoding o)
-option_is_one c None h = option_is_item canonical c.encoding None (λ u e. cc)
-option_is_one c (Some v) h = c.one v h.0
+option_is_one c hold None h = option_is_item canonical c.encoding None (λ u e. cc)
+option_is_one c hold (Some v) h = c.one hold v h.0
 
 -- a value whose item is null stands for none, so it is not one that is read back
 abbrev pub option_codec : {T : Type 0} → Codec T → Codec (Option T)
@@ -143,6 +177,7 @@ option_codec c = record {
   encoding = option_encoding c.encoding;
   stands = StandsSome c;
   cost = some_cost c;
+  facts = c.facts;
   back = option_is_back c;
   one = option_is_one c;
 }
@@ -153,21 +188,24 @@ all_as P Q to [] all = All-nil Q
 all_as P Q to (v ∷ vs) all =
     All-cons Q v vs (to v (All-head P v vs all)) (all_as P Q to vs (All-tail P v vs all))
 
-pub vector_is_back : {T : Type 0} (c : Codec T) (alloc : Global) (v : Vec T Global)
+pub vector_is_back : {T : Type 0} (c : Codec T) → Hold c.facts → (alloc : Global)
+    (v : Vec T Global)
     → All c.stands v.items
     → IsReadBack (typed_vector c.promise).format.reads (array_encoding c.encoding v.items) v
     (1 + greatest_cost c.cost v.items)
-vector_is_back c alloc v all =
+vector_is_back c hold alloc v all =
     sequence_read_back c.promise.format.reads c.encoding c.cost 4 true v.items
     (omega (arith, v.ok.0, v.ok.1, v.small)) (all_as c.stands
-    (λ v. IsReadBack c.promise.format.reads (c.encoding v) v (c.cost v)) (c.back alloc) v.items all)
+    (λ v. IsReadBack c.promise.format.reads (c.encoding v) v (c.cost v)) (c.back hold alloc)
+    v.items all)
 
-pub vector_is_one : {T : Type 0} (c : Codec T) (v : Vec T Global) → All c.stands v.items
+pub vector_is_one : {T : Type 0} (c : Codec T) → Hold c.facts → (v : Vec T Global)
+    → All c.stands v.items
     → IsOneItem canonical (array_encoding c.encoding v.items)
-vector_is_one {T = T} c v all =
+vector_is_one {T = T} c hold v all =
     let One : T → Type 0 = λ v. IsOneItem canonical (c.encoding v) in
     array_is_item canonical c.encoding v.items (omega (arith, v.ok.0, v.ok.1, v.small))
-    (by_recursion One v.items (all_as c.stands One c.one v.items all))
+    (by_recursion One v.items (all_as c.stands One (c.one hold) v.items all))
 
 -- an array of values
 abbrev pub vector_codec : {T : Type 0} → Codec T → Codec (Vec T Global)
@@ -176,6 +214,7 @@ vector_codec c = record {
   encoding = λ v. array_encoding c.encoding v.items;
   stands = λ v. All c.stands v.items;
   cost = λ v. 1 + greatest_cost c.cost v.items;
+  facts = c.facts;
   back = vector_is_back c;
   one = vector_is_one c;
 }
@@ -186,8 +225,9 @@ box_codec c = record {
   encoding = λ b. c.encoding b.value;
   stands = λ b. c.stands b.value;
   cost = λ b. c.cost b.value;
-  back = λ alloc b. c.back alloc b.value;
-  one = λ b. c.one b.value;
+  facts = c.facts;
+  back = λ hold alloc b. c.back hold alloc b.value;
+  one = λ hold b. c.one hold b.value;
 }
 
 abbrev pub pair_codec : {A B : Type 0} → Codec A → Codec B → Codec (A × B)
@@ -196,12 +236,22 @@ pair_codec a b = record {
   encoding = λ p. tuple_encoding (a.encoding p.0 ∷ b.encoding p.1 ∷ []);
   stands = λ p. a.stands p.0 × b.stands p.1;
   cost = λ p. 1 + max (a.cost p.0) (b.cost p.1);
-  back = λ alloc p h. pair_read_back a.promise.format.reads b.promise.format.reads
-      (a.encoding p.0) (b.encoding p.1) p (a.cost p.0) (b.cost p.1) (a.back alloc p.0 h.0)
-      (b.back alloc p.1 h.1);
-  one = λ p h. tuple_is_item canonical (a.encoding p.0 ∷ b.encoding p.1 ∷ []) (omega arith)
-      (a.one p.0 h.0, (b.one p.1 h.1, tt));
+  facts = both_facts a.facts b.facts;
+  back = λ hold alloc p h. pair_read_back a.promise.format.reads b.promise.format.reads
+      (a.encoding p.0) (b.encoding p.1) p (a.cost p.0) (b.cost p.1)
+      (a.back (first_hold a.facts b.facts hold) alloc p.0 h.0)
+      (b.back (others_hold a.facts b.facts hold) alloc p.1 h.1);
+  one = λ hold p h. tuple_is_item canonical (a.encoding p.0 ∷ b.encoding p.1 ∷ []) (omega arith) (
+    a.one (first_hold a.facts b.facts hold) p.0 h.0,
+    (b.one (others_hold a.facts b.facts hold) p.1 h.1, tt),
+  );
 }
+
+pub second_of_three : (a b c : Facts) → Hold (both_facts a (both_facts b c)) → Hold b
+second_of_three a b c hold = first_hold b c (others_hold a (both_facts b c) hold)
+
+pub third_of_three : (a b c : Facts) → Hold (both_facts a (both_facts b c)) → Hold c
+third_of_three a b c hold = others_hold b c (others_hold a (both_facts b c) hold)
 
 abbrev pub triple_codec : {A B C : Type 0} → Codec A → Codec B → Codec C → Codec (A × B × C)
 triple_codec a b c = record {
@@ -209,13 +259,22 @@ triple_codec a b c = record {
   encoding = λ p. tuple_encoding (a.encoding p.0 ∷ b.encoding p.1 ∷ c.encoding p.2 ∷ []);
   stands = λ p. a.stands p.0 × b.stands p.1 × c.stands p.2;
   cost = λ p. 1 + max (a.cost p.0) (max (b.cost p.1) (c.cost p.2));
-  back = λ alloc p h. triple_read_back a.promise.format.reads b.promise.format.reads
+  facts = both_facts a.facts (both_facts b.facts c.facts);
+  back = λ hold alloc p h. triple_read_back a.promise.format.reads b.promise.format.reads
       c.promise.format.reads (a.encoding p.0) (b.encoding p.1) (c.encoding p.2) p (a.cost p.0)
       (b.cost p.1)
-      (c.cost p.2) (a.back alloc p.0 h.0) (b.back alloc p.1 h.1) (c.back alloc p.2 h.2);
-  one = λ p h. tuple_is_item canonical (a.encoding p.0 ∷ b.encoding p.1 ∷ c.encoding p.2 ∷ [])
-      (omega arith)
-      (a.one p.0 h.0, (b.one p.1 h.1, (c.one p.2 h.2, tt)));
+      (c.cost p.2)
+      (a.back (first_hold a.facts (both_facts b.facts c.facts) hold) alloc p.0 h.0)
+      (b.back (second_of_three a.facts b.facts c.facts hold) alloc p.1 h.1)
+      (c.back (third_of_three a.facts b.facts c.facts hold) alloc p.2 h.2);
+  one = λ hold p h. tuple_is_item canonical (a.encoding p.0 ∷ b.encoding p.1 ∷ c.encoding p.2 ∷ [])
+      (omega arith) (
+        a.one (first_hold a.facts (both_facts b.facts c.facts) hold) p.0 h.0,
+        (
+          b.one (second_of_three a.facts b.facts c.facts hold) p.1 h.1,
+          (c.one (third_of_three a.facts b.facts c.facts hold) p.2 h.2, tt),
+        ),
+      );
 }
 
 -- a map of the program: the order of its keys is total, they stand in it, and are fewer than 2^64
@@ -228,18 +287,21 @@ pub record StandsMap {K V : Type 0} (k : Codec K) (v : Codec V) (cmp : K → K �
 
 module _ {K V M : Type 0} (entries : M → List (K × V)) (cmp : K → K → Ordering) (k : Codec K)
     (v : Codec V) where
-  pub map_is_back : (alloc : Global) (m : M) → StandsMap k v cmp (entries m)
+  pub map_is_back : Hold (both_facts k.facts v.facts) → (alloc : Global) (m : M)
+      → StandsMap k v cmp (entries m)
       → IsReadBack (typed_map entries cmp k.promise v.promise).format.reads
       (map_encoding k.encoding v.encoding (entries m)) m
       (1 + greatest_cost (pair_cost k.cost v.cost) (entries m))
-  map_is_back alloc m h =
+  map_is_back hold alloc m h =
       let es = entries m in
+      let key_hold = first_hold k.facts v.facts hold in
+      let value_hold = others_hold k.facts v.facts hold in
       let Both : K × V → Type 0 = λ e. k.stands e.0 × v.stands e.1 in
       let keys = all_as Both (λ (e : K × V). IsReadBack k.promise.format.reads (k.encoding e.0) e.0
-      (k.cost e.0)) (λ e s. k.back alloc e.0 s.0) es h.each in
+      (k.cost e.0)) (λ e s. k.back key_hold alloc e.0 s.0) es h.each in
       let values = all_as Both (λ (e : K × V). IsReadBack v.promise.format.reads
       (v.encoding e.1) e.1
-      (v.cost e.1)) (λ e s. v.back alloc e.1 s.1) es h.each in
+      (v.cost e.1)) (λ e s. v.back value_hold alloc e.1 s.1) es h.each in
       let pairs = ReadsPair k.promise.format.reads v.promise.format.reads in
       let each = entries_back k.promise.format.reads v.promise.format.reads k.encoding
       v.encoding k.cost
@@ -251,15 +313,17 @@ module _ {K V M : Type 0} (entries : M → List (K × V)) (cmp : K → K → Ord
       (map_encoding k.encoding v.encoding es) m
       (1 + greatest_cost (pair_cost k.cost v.cost) es) (built_again cmp h.total es h.sorted) read
 
-  pub map_is_one : (m : M) → StandsMap k v cmp (entries m)
+  pub map_is_one : Hold (both_facts k.facts v.facts) → (m : M) → StandsMap k v cmp (entries m)
       → IsOneItem canonical (map_encoding k.encoding v.encoding (entries m))
-  map_is_one m h =
+  map_is_one hold m h =
       let es = entries m in
+      let key_hold = first_hold k.facts v.facts hold in
+      let value_hold = others_hold k.facts v.facts hold in
       let One : K × V → Type 0 =
       λ e. IsOneItem canonical (k.encoding e.0) × IsOneItem canonical (v.encoding e.1) in
       map_is_item canonical k.encoding v.encoding es h.few (by_recursion One es
       (all_as (λ (e : K × V). k.stands e.0 × v.stands e.1) One
-      (λ e s. (k.one e.0 s.0, v.one e.1 s.1)) es h.each))
+      (λ e s. (k.one key_hold e.0 s.0, v.one value_hold e.1 s.1)) es h.each))
 
   -- a map of keys to values
   abbrev pub map_codec : Codec M
@@ -268,6 +332,7 @@ module _ {K V M : Type 0} (entries : M → List (K × V)) (cmp : K → K → Ord
     encoding = λ m. map_encoding k.encoding v.encoding (entries m);
     stands = λ m. StandsMap k v cmp (entries m);
     cost = λ m. 1 + greatest_cost (pair_cost k.cost v.cost) (entries m);
+    facts = both_facts k.facts v.facts;
     back = map_is_back;
     one = map_is_one;
   }
@@ -289,8 +354,9 @@ codec_of of c = record {
   encoding = λ w. c.encoding (of w);
   stands = λ w. c.stands (of w);
   cost = λ w. c.cost (of w);
-  back = λ alloc w h. made_back c.promise.format.reads (λ v w. v ≡ of w) (c.encoding (of w))
+  facts = c.facts;
+  back = λ hold alloc w h. made_back c.promise.format.reads (λ v w. v ≡ of w) (c.encoding (of w))
       (of w) w
-      (c.cost (of w)) refl (c.back alloc (of w) h);
-  one = λ w. c.one (of w);
+      (c.cost (of w)) refl (c.back hold alloc (of w) h);
+  one = λ hold w. c.one hold (of w);
 }

@@ -19,7 +19,8 @@ use Rattle.cbor4ii.specs.declared.serde.de.cases.Choice.{Choice}
 use Rattle.cbor4ii.specs.declared.serde.de.cases.Choice.TheVariants.{First, Other}
 use Rattle.cbor4ii.specs.Cases.{Cases, Holding, case, unit_case, held_case, otherwise, ReadsCase}
 use Rattle.cbor4ii.specs.Cases.{reads_named, enum_of}
-use Rattle.cbor4ii.specs.Codec.{Codec, any_value, made_back}
+use Rattle.cbor4ii.specs.Codec.{Codec, Facts, no_facts, both_facts, Hold, first_hold, others_hold}
+use Rattle.cbor4ii.specs.Codec.{any_value, made_back}
 use Rattle.cbor4ii.specs.CodecFields.{is_apart, is_new, is_name, is_other, are_ascii}
 use Rattle.cbor4ii.specs.CodecFields.{FieldCodecs, values_codec}
 use Rattle.cbor4ii.specs.Fields.{ReadsName}
@@ -53,8 +54,11 @@ pub record CaseCodecs (V : Type 0) : Type 1 where
   pub encoding : V → Encoding
   pub stands : V → Type 0
   pub cost : V → ℕ
-  pub back : (alloc : Global) (v : V) → stands v → VariantBack cases names (encoding v) v (cost v)
-  pub one : (v : V) → stands v → IsOneItem canonical (encoding v)
+  -- what they stand on
+  pub facts : Facts
+  pub back : Hold facts → (alloc : Global) (v : V) → stands v
+      → VariantBack cases names (encoding v) v (cost v)
+  pub one : Hold facts → (v : V) → stands v → IsOneItem canonical (encoding v)
 
 -- no other variant
 abbrev pub no_case : {V : Type 0} → List ℕ → CaseCodecs V
@@ -64,8 +68,9 @@ no_case words = record {
   encoding = λ v. encoded [];
   stands = λ v. ⊥;
   cost = λ v. 0;
-  back = λ alloc v h. absurd h;
-  one = λ v h. absurd h;
+  facts = no_facts;
+  back = λ hold alloc v h. absurd h;
+  one = λ hold v h. absurd h;
 }
 
 -- of the first variant, or of another
@@ -120,30 +125,34 @@ held_content own c cases (encoded bytes) v cost back = λ rest. inl (refl, back 
 
 module _ {T B : Type 0} (own : List ℕ) (c : Codec T) (others : CaseCodecs B)
     (new : IsTrue (is_new own others.names)) where
-  pub held_is_back : (alloc : Global) (v : Choice T B) → by_choice c.stands others.stands v
+  pub held_is_back : Hold (both_facts c.facts others.facts) → (alloc : Global) (v : Choice T B)
+      → by_choice c.stands others.stands v
       → VariantBack (case own (held_case c.promise) others.cases) (own ∷ others.names)
       (by_choice (λ w. variant_encoding own (c.encoding w)) others.encoding v) v
       (by_choice c.cost others.cost v)
-  held_is_back alloc (First v) h = record {
+  held_is_back hold alloc (First v) h = record {
     name = own;
     is = own_is_name own (held_case c.promise) others new;
     among = inl refl;
     back = inr (
       c.encoding v,
       refl,
-      held_content own c others.cases (c.encoding v) v (c.cost v) (c.back alloc v h),
+      held_content own c others.cases (c.encoding v) v (c.cost v)
+          (c.back (first_hold c.facts others.facts hold) alloc v h),
     );
   }
-  held_is_back alloc (Other v) h =
+  held_is_back hold alloc (Other v) h =
       other_is_back own (held_case c.promise) others new (others.encoding v) v (others.cost v)
-      (others.back alloc v h)
+      (others.back (others_hold c.facts others.facts hold) alloc v h)
 
-  pub held_is_one : (v : Choice T B) → by_choice c.stands others.stands v
+  pub held_is_one : Hold (both_facts c.facts others.facts) → (v : Choice T B)
+      → by_choice c.stands others.stands v
       → IsOneItem canonical (by_choice (λ w. variant_encoding own (c.encoding w)) others.encoding v)
-  held_is_one (First v) h =
+  held_is_one hold (First v) h =
       let is = own_is_name own (held_case c.promise) others new in
-      variant_is_item canonical own (c.encoding v) (omega (arith, is.1)) is.0 (c.one v h)
-  held_is_one (Other v) h = others.one v h
+      variant_is_item canonical own (c.encoding v) (omega (arith, is.1)) is.0
+      (c.one (first_hold c.facts others.facts hold) v h)
+  held_is_one hold (Other v) h = others.one (others_hold c.facts others.facts hold) v h
 
   -- a variant that holds a value, and others after it
   abbrev pub variant : CaseCodecs (Choice T B)
@@ -153,6 +162,7 @@ module _ {T B : Type 0} (own : List ℕ) (c : Codec T) (others : CaseCodecs B)
     encoding = by_choice (λ v. variant_encoding own (c.encoding v)) others.encoding;
     stands = by_choice c.stands others.stands;
     cost = by_choice c.cost others.cost;
+    facts = both_facts c.facts others.facts;
     back = held_is_back;
     one = held_is_one;
   }
@@ -165,27 +175,28 @@ variant_of_fields own p few = variant own (values_codec p (ltb-true (length p.na
 
 module _ {B : Type 0} (own : List ℕ) (others : CaseCodecs B)
     (new : IsTrue (is_new own others.names)) where
-  pub unit_is_back : (alloc : Global) (v : Choice (Unit {0}) B)
+  pub unit_is_back : Hold others.facts → (alloc : Global) (v : Choice (Unit {0}) B)
       → by_choice any_value others.stands v
       → VariantBack (case own unit_case others.cases) (own ∷ others.names)
       (by_choice (λ w. encoded (definite_string 3 own)) others.encoding v) v
       (by_choice (λ w. 0) others.cost v)
-  unit_is_back alloc (First v) h = record {
+  unit_is_back hold alloc (First v) h = record {
     name = own;
     is = own_is_name own unit_case others new;
     among = inl refl;
     back = inl (refl, inl (refl, tt), refl);
   }
-  unit_is_back alloc (Other v) h =
+  unit_is_back hold alloc (Other v) h =
       other_is_back own unit_case others new (others.encoding v) v (others.cost v)
-      (others.back alloc v h)
+      (others.back hold alloc v h)
 
-  pub unit_is_one : (v : Choice (Unit {0}) B) → by_choice any_value others.stands v
+  pub unit_is_one : Hold others.facts → (v : Choice (Unit {0}) B)
+      → by_choice any_value others.stands v
       → IsOneItem canonical (by_choice (λ w. encoded (definite_string 3 own)) others.encoding v)
-  unit_is_one (First v) h =
+  unit_is_one hold (First v) h =
       let is = own_is_name own unit_case others new in
       text_is_item canonical own (omega (arith, is.1)) is.0
-  unit_is_one (Other v) h = others.one v h
+  unit_is_one hold (Other v) h = others.one hold v h
 
   -- a variant that is its name alone, and others after it
   abbrev pub unit_variant : CaseCodecs (Choice (Unit {0}) B)
@@ -195,6 +206,7 @@ module _ {B : Type 0} (own : List ℕ) (others : CaseCodecs B)
     encoding = by_choice (λ v. encoded (definite_string 3 own)) others.encoding;
     stands = by_choice any_value others.stands;
     cost = by_choice (λ v. 0) others.cost;
+    facts = others.facts;
     back = unit_is_back;
     one = unit_is_one;
   }
@@ -273,9 +285,10 @@ enum_codec choice vs = record {
   encoding = λ r. vs.encoding (choice r);
   stands = λ r. vs.stands (choice r);
   cost = λ r. 1 + vs.cost (choice r);
-  back = λ alloc r h. made_back (Stepped (ReadsCase vs.cases)) (λ v r. v ≡ choice r)
+  facts = vs.facts;
+  back = λ hold alloc r h. made_back (Stepped (ReadsCase vs.cases)) (λ v r. v ≡ choice r)
       (vs.encoding (choice r)) (choice r) r (1 + vs.cost (choice r)) refl
       (case_is_back alloc vs.cases vs.names (vs.encoding (choice r)) (choice r) (vs.cost (choice r))
-      (vs.back alloc (choice r) h));
-  one = λ r. vs.one (choice r);
+      (vs.back hold alloc (choice r) h));
+  one = λ hold r. vs.one hold (choice r);
 }

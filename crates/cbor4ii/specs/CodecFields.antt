@@ -13,7 +13,8 @@ use Rattle.cbor4ii_items.specs.Laws.Containers.{both}
 use Rattle.cbor4ii_ser.specs.Item.{Encoding, struct_encoding}
 use Rattle.cbor4ii_ser.specs.OneItem.{IsOneItem, IsOneEntry, canonical}
 use Rattle.cbor4ii_ser.specs.Laws.OneItem.{struct_is_item, field_is_entry}
-use Rattle.cbor4ii.specs.Codec.{Codec, made_back}
+use Rattle.cbor4ii.specs.Codec.{Codec, Facts, no_facts, both_facts, Hold, first_hold, others_hold}
+use Rattle.cbor4ii.specs.Codec.{made_back}
 use Rattle.cbor4ii.specs.Fields.{ReadsFields, named_field}
 use Rattle.cbor4ii.specs.Laws.FieldsBack.{none_back, field_back, no_field_back}
 use Rattle.cbor4ii.specs.Laws.StructsBack.{struct_back, fields_count, no_dearer}
@@ -69,9 +70,11 @@ pub record FieldCodecs (V W : Type 0) : Type 1 where
   pub stands : W → Type 0
   pub cost : W → ℕ
   pub made : (w : W) → shape.value (held w) ≡ Ok w
-  pub back : (alloc : Global) (w : W) → stands w
+  -- what they stand on
+  pub facts : Facts
+  pub back : Hold facts → (alloc : Global) (w : W) → stands w
       → FieldsBack shape.fields.named shape.fields.first (held w) (items w) (cost w)
-  pub entries : (w : W) → stands w
+  pub entries : Hold facts → (w : W) → stands w
       → AllByRecursion (IsOneEntry canonical) (fields_of (items w))
 
 abbrev pub no_fields : FieldCodecs (Unit {0}) (Unit {0})
@@ -85,32 +88,37 @@ no_fields = record {
   stands = λ w. Unit {0};
   cost = λ w. 0;
   made = λ w. refl;
-  back = λ alloc w h. none_back w;
-  entries = λ w h. tt;
+  facts = no_facts;
+  back = λ hold alloc w h. none_back w;
+  entries = λ hold w h. tt;
 }
 
 module _ {T P V W : Type 0} (place : Place T P) (name : List ℕ) (c : Codec T)
     (others : FieldCodecs V W) (new : IsTrue (is_new name others.names)) where
-  pub part_back : (alloc : Global) (w : T × W) → c.stands w.0 × others.stands w.1
+  pub part_back : Hold (both_facts c.facts others.facts) → (alloc : Global) (w : T × W)
+      → c.stands w.0 × others.stands w.1
       → FieldsBack (named_field place.put name c.promise.format.reads others.shape.fields.named)
       (place.none, others.shape.fields.first) (place.put w.0 place.none, others.held w.1)
       ((name, c.encoding w.0) ∷ others.items w.1) (max (c.cost w.0) (others.cost w.1))
-  part_back alloc w h =
+  part_back hold alloc w h =
       let e = both (are_ascii name && ltb (length name) 256) (is_apart name others.names) new in
       field_back place name c.promise.format.reads others.shape.fields.named
       others.shape.fields.first (others.held w.1) (others.items w.1) (others.cost w.1)
       (c.encoding w.0)
-      w.0 (c.cost w.0) (others.back alloc w.1 h.1) (is_name name e.0) (others.others name e.1 w.1)
-      (c.back alloc w.0 h.0)
+      w.0 (c.cost w.0) (others.back (others_hold c.facts others.facts hold) alloc w.1 h.1)
+      (is_name name e.0) (others.others name e.1 w.1)
+      (c.back (first_hold c.facts others.facts hold) alloc w.0 h.0)
 
-  pub part_entries : (w : T × W) → c.stands w.0 × others.stands w.1
+  pub part_entries : Hold (both_facts c.facts others.facts) → (w : T × W)
+      → c.stands w.0 × others.stands w.1
       → AllByRecursion (IsOneEntry canonical)
       (fields_of ((name, c.encoding w.0) ∷ others.items w.1))
-  part_entries w h =
+  part_entries hold w h =
       let e = both (are_ascii name && ltb (length name) 256) (is_apart name others.names) new in
       let is = is_name name e.0 in (
-        field_is_entry canonical name (c.encoding w.0) (omega (arith, is.1)) is.0 (c.one w.0 h.0),
-        others.entries w.1 h.1,
+        field_is_entry canonical name (c.encoding w.0) (omega (arith, is.1)) is.0
+            (c.one (first_hold c.facts others.facts hold) w.0 h.0),
+        others.entries (others_hold c.facts others.facts hold) w.1 h.1,
       )
 
   -- a field of this name and of which this becomes, where a value that is there becomes itself
@@ -129,6 +137,7 @@ module _ {T P V W : Type 0} (place : Place T P) (name : List ℕ) (c : Codec T)
     cost = λ w. max (c.cost w.0) (others.cost w.1);
     made = λ w. subst (λ (r : Result T (List ℕ)). paired r (others.shape.value (others.held w.1))
         ≡ Ok (w.0, w.1)) (sym (made w.0)) (ap (paired (Ok w.0)) (others.made w.1));
+    facts = both_facts c.facts others.facts;
     back = part_back;
     entries = part_entries;
   }
@@ -186,12 +195,13 @@ module _ {T V W : Type 0} (name : List ℕ) (c : Codec T) (others : FieldCodecs 
       let e = both (not (bytes_eq name other)) (is_apart other others.names) h in
       (is_other name other e.0, others.others other e.1 w)
 
-  pub optional_back : (alloc : Global) (w : Option T × W)
+  pub optional_back : Hold (both_facts c.facts others.facts) → (alloc : Global)
+      (w : Option T × W)
       → StandsHeld c w.0 × others.stands w.1
       → FieldsBack (named_field put_last name c.promise.format.reads others.shape.fields.named)
       (None, others.shape.fields.first) (w.0, others.held w.1)
       (before name c.encoding w.0 (others.items w.1)) (max (held_cost c w.0) (others.cost w.1))
-  optional_back alloc (None, w) h =
+  optional_back hold alloc (None, w) h =
       let e = both (are_ascii name && ltb (length name) 256) (is_apart name others.names) new in
       subst (λ cost. FieldsBack
       (named_field put_last name c.promise.format.reads others.shape.fields.named)
@@ -199,14 +209,18 @@ module _ {T V W : Type 0} (name : List ℕ) (c : Codec T) (others : FieldCodecs 
       (sym (no_dearer (others.cost w)))
       (no_field_back last_place name c.promise.format.reads others.shape.fields.named
       others.shape.fields.first (others.held w) (others.items w) (others.cost w)
-      (others.back alloc w h.1) (others.others name e.1 w))
-  optional_back alloc (Some v, w) h = part_back last_place name c others new alloc (v, w) h
+      (others.back (others_hold c.facts others.facts hold) alloc w h.1)
+      (others.others name e.1 w))
+  optional_back hold alloc (Some v, w) h =
+      part_back last_place name c others new hold alloc (v, w) h
 
-  pub optional_entries : (w : Option T × W) → StandsHeld c w.0 × others.stands w.1
+  pub optional_entries : Hold (both_facts c.facts others.facts) → (w : Option T × W)
+      → StandsHeld c w.0 × others.stands w.1
       → AllByRecursion (IsOneEntry canonical)
       (fields_of (before name c.encoding w.0 (others.items w.1)))
-  optional_entries (None, w) h = others.entries w h.1
-  optional_entries (Some v, w) h = part_entries last_place name c others new (v, w) h
+  optional_entries hold (None, w) h =
+      others.entries (others_hold c.facts others.facts hold) w h.1
+  optional_entries hold (Some v, w) h = part_entries last_place name c others new hold (v, w) h
 
   -- a field that is left out where it is none, and is none where it is missing
   abbrev pub with_optional_field : FieldCodecs (Option T × V) (Option T × W)
@@ -220,6 +234,7 @@ module _ {T V W : Type 0} (name : List ℕ) (c : Codec T) (others : FieldCodecs 
     stands = λ w. StandsHeld c w.0 × others.stands w.1;
     cost = λ w. max (held_cost c w.0) (others.cost w.1);
     made = λ w. ap (paired (Ok w.0)) (others.made w.1);
+    facts = both_facts c.facts others.facts;
     back = optional_back;
     entries = optional_entries;
   }
@@ -228,25 +243,25 @@ module _ {T V W : Type 0} (name : List ℕ) (c : Codec T) (others : FieldCodecs 
 
 -- the fields of a struct, fewer than 256
 module _ {V W : Type 0} (p : FieldCodecs V W) (few : length p.names < 256) where
-  pub fields_are_back : (alloc : Global) (w : W) → p.stands w
+  pub fields_are_back : Hold p.facts → (alloc : Global) (w : W) → p.stands w
       → IsReadBack (ReadsFields p.shape.fields.first p.shape.fields.named)
       (struct_encoding (fields_of (p.items w))) (p.held w) (1 + p.cost w)
-  fields_are_back alloc w h =
+  fields_are_back hold alloc w h =
       struct_back p.shape.fields.named alloc p.shape.fields.first (p.held w) (p.items w) (p.cost w)
-      (omega (arith, p.few w, few)) (p.back alloc w h)
+      (omega (arith, p.few w, few)) (p.back hold alloc w h)
 
-  pub fields_are_one : (w : W) → p.stands w
+  pub fields_are_one : Hold p.facts → (w : W) → p.stands w
       → IsOneItem canonical (struct_encoding (fields_of (p.items w)))
-  fields_are_one w h = struct_is_item canonical (fields_of (p.items w))
-      (omega (arith, fields_count (p.items w), p.few w, few)) (p.entries w h)
+  fields_are_one hold w h = struct_is_item canonical (fields_of (p.items w))
+      (omega (arith, fields_count (p.items w), p.few w, few)) (p.entries hold w h)
 
-  pub values_are_back : (alloc : Global) (w : W) → p.stands w
+  pub values_are_back : Hold p.facts → (alloc : Global) (w : W) → p.stands w
       → IsReadBack (struct_from p.shape).format.reads (struct_encoding (fields_of (p.items w))) w
       (1 + p.cost w)
-  values_are_back alloc w h =
+  values_are_back hold alloc w h =
       made_back (ReadsFields p.shape.fields.first p.shape.fields.named) (gives_ok p.shape.value)
       (struct_encoding (fields_of (p.items w))) (p.held w) w (1 + p.cost w) (p.made w)
-      (fields_are_back alloc w h)
+      (fields_are_back hold alloc w h)
 
   -- the values of the fields, as nested pairs
   abbrev pub values_codec : Codec W
@@ -255,19 +270,20 @@ module _ {V W : Type 0} (p : FieldCodecs V W) (few : length p.names < 256) where
     encoding = λ w. struct_encoding (fields_of (p.items w));
     stands = p.stands;
     cost = λ w. 1 + p.cost w;
+    facts = p.facts;
     back = values_are_back;
     one = fields_are_one;
   }
 
 pub struct_is_back : {R V W : Type 0} (values : R → W) (p : FieldCodecs V W) → length p.names < 256
-    → (alloc : Global) (r : R) → p.stands (values r)
+    → Hold p.facts → (alloc : Global) (r : R) → p.stands (values r)
     → IsReadBack (made_from (λ (w : W) (r : R). w ≡ values r) (struct_from p.shape)).format.reads
     (struct_encoding (fields_of (p.items (values r)))) r (1 + p.cost (values r))
-struct_is_back {R = R} {W = W} values p few alloc r h =
+struct_is_back {R = R} {W = W} values p few hold alloc r h =
     let w = values r in
     made_back (struct_from p.shape).format.reads (λ (w : W) (r : R). w ≡ values r)
     (struct_encoding (fields_of (p.items w))) w r (1 + p.cost w) refl
-    (values_are_back p few alloc w h)
+    (values_are_back p few hold alloc w h)
 
 -- a struct that has these values of its fields, fewer than 256
 abbrev pub struct_codec : {R V W : Type 0} (values : R → W) (p : FieldCodecs V W)
@@ -277,8 +293,9 @@ struct_codec values p few = record {
   encoding = λ r. struct_encoding (fields_of (p.items (values r)));
   stands = λ r. p.stands (values r);
   cost = λ r. 1 + p.cost (values r);
+  facts = p.facts;
   back = struct_is_back values p (ltb-true (length p.names) 256 few);
-  one = λ r. fields_are_one p (ltb-true (length p.names) 256 few) (values r);
+  one = λ hold r. fields_are_one p (ltb-true (length p.names) 256 few) hold (values r);
 }
 
 -- a struct whose call answers the values of its fields as they are held, each of them there
@@ -289,6 +306,8 @@ fields_codec values p few = record {
   encoding = λ r. struct_encoding (fields_of (p.items (values r)));
   stands = λ r. p.stands (values r);
   cost = λ r. 1 + p.cost (values r);
-  back = λ alloc r. fields_are_back p (ltb-true (length p.names) 256 few) alloc (values r);
-  one = λ r. fields_are_one p (ltb-true (length p.names) 256 few) (values r);
+  facts = p.facts;
+  back = λ hold alloc r.
+      fields_are_back p (ltb-true (length p.names) 256 few) hold alloc (values r);
+  one = λ hold r. fields_are_one p (ltb-true (length p.names) 256 few) hold (values r);
 }

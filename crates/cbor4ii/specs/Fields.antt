@@ -19,7 +19,7 @@ use Rattle.cbor4ii_tree.specs.Laws.Ignoring.{tree_one, tree_within}
 use Rattle.cbor4ii.specs.Places.{Place}
 use Rattle.cbor4ii.specs.Sequence.{five_small}
 use Rattle.cbor4ii.specs.Tuples.{pair_laws}
-use Rattle.cbor4ii.specs.Typed.{Lawful, not_exact, typed_format}
+use Rattle.cbor4ii.specs.Typed.{Lawful, not_exact, format_of, typed_format}
 
 -- what follows a name, read as what becomes of a struct's values
 abbrev pub ReadsNamed : Type 0 → Type 1
@@ -203,13 +203,13 @@ abbrev pub name_format : Format (String Global)
 name_format = typed_format ReadsName SameName (RejectsText (codes "str")) true true
 
 -- what follows a name, and may take no byte
-abbrev pub named_part : {W : Type 0} → (List ℕ → Reads W) → RejectsNamed → (W → W → Type 0)
-    → (owned : Bool) → List ℕ → Format W
-named_part named rejects same owned name = record {
+abbrev pub named_part : {W : Type 0} → (List ℕ → Reads W) → (rejects begins : RejectsNamed)
+    → (W → W → Type 0) → (owned : Bool) → List ℕ → Format W
+named_part named rejects begins same owned name = record {
   reads = named name;
   same = same;
   rejects = rejects name;
-  begins = rejects name;
+  begins = begins name;
   never_empty = false;
   owned = owned;
   takes_memory = true;
@@ -217,10 +217,10 @@ named_part named rejects same owned name = record {
 }
 
 -- a name, and what follows it
-abbrev pub named_entry : {W : Type 0} → (List ℕ → Reads W) → RejectsNamed → (W → W → Type 0)
-    → (owned : Bool) → Format W
-named_entry named rejects same owned =
-    typed_format (ReadsEntry named) same (RejectsEntry rejects) owned true
+abbrev pub named_entry : {W : Type 0} → (List ℕ → Reads W) → (rejects begins : RejectsNamed)
+    → (W → W → Type 0) → (owned : Bool) → Format W
+named_entry named rejects begins same owned =
+    format_of (ReadsEntry named) same (RejectsEntry rejects) (RejectsEntry begins) owned true
 
 pub entry_laws : {W : Type 0} (same : W → W → Type 0) (named : List ℕ → Reads W)
     → ((name : List ℕ) → Lawful (named name) same false) → Lawful (ReadsEntry named) same true

@@ -1,4 +1,4 @@
--- The value at the front of an input.
+-- The value at the beginning of an input.
 use Rattle.std.specs.Prelude.{ℕ, ◌≤◌, List, Option, Some, Result, Err, IfOk, IfErr}
 use Rattle.std.specs.Prelude.{IfSome, IsTrue}
 use Rattle.cbor4ii_rw.specs.Input.{limit}
@@ -11,10 +11,10 @@ use Rattle.cbor4ii_items.specs.InputError.{input_error_of, is_out_of_memory}
 use Rattle.cbor4ii.specs.declared.serde.de.error.DecodeError.{DecodeError}
 use Rattle.cbor4ii.specs.Typed.{Promise, as_core}
 
--- An accepted value is read at the front of the bytes, at a cost of at most 256. Memory is refused
--- only to a type that takes some. Of an exact type, where it is sure to be accepted, an error that
--- speaks of the bytes comes only where none is. Of a type that reports its errors it is one that
--- the type gives there.
+-- An accepted value is read at the beginning of the bytes, at a cost of at most 256. Memory is
+-- refused only to a type that takes some. Of an exact type, where it is sure to be accepted, an
+-- error that speaks of the bytes comes only where none is, and is the one that the type gives for
+-- all of them. Of a type that reports its errors it is one that the type gives there.
 pub record First {V E : Type 0} (promise : Promise V) (sure : Type 0) (known : Option (List ℕ))
     (answer : Result V (DecodeError E)) : Type 0 where
   pub accepts : IfOk answer (λ v. IfKnown known
@@ -24,6 +24,9 @@ pub record First {V E : Type 0} (promise : Promise V) (sure : Type 0) (known : O
   pub is_complete : IsTrue promise.exact → sure → IfErr answer (λ error. IfKnown known
       (λ xs. IfSome (input_error_of (as_core error))
       (λ _. NoneRead promise.format.reads xs (Some limit))))
+  pub rejects : IsTrue promise.exact → sure
+      → IfErr answer (λ error. IfKnown known (λ xs. IfSome (input_error_of (as_core error))
+      (λ err. (rest : List ℕ) × promise.format.rejects xs (Some limit) err rest)))
   pub stopped : IsTrue promise.known
       → IfErr answer (λ error. IfKnown known (λ xs. IfSome (input_error_of (as_core error))
       (λ err. (rest : List ℕ) × promise.format.begins xs (Some limit) err rest)))

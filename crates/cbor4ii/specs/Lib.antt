@@ -2,6 +2,7 @@
 
 -- ---- the words of contracts, in the order of docs/DEFINITIONS.md
 pub mod Typed
+pub mod Raw
 pub mod ItemRead
 pub mod First
 pub mod Stepped
@@ -30,5 +31,6 @@ pub mod Names
 pub mod Codec
 pub mod CodecFields
 pub mod CodecCases
+pub mod CodecAgrees
 -- ---- laws
 pub mod Laws

@@ -3,7 +3,7 @@ use Rattle.std.proofs.Common.{◌≡◌, ◌⊎◌, ℕ, List, drop, Option, Res
 use Rattle.cbor4ii_items.specs.Decoding.{Reads, RejectsAt, Format, IsLawful}
 use Rattle.cbor4ii_items.specs.Budget.{CostFits}
 use Rattle.cbor4ii_items.specs.InputError.{InputError}
-use Rattle.cbor4ii.specs.Typed.{Promise, typed_format, in_words, not_exact}
+use Rattle.cbor4ii.specs.Typed.{Promise, format_of, in_words, not_exact}
 
 -- a value is read, and this is made of it; `gives` says what may be
 pub record ReadsMade {V W : Type 0} (reads : Reads V) (gives : V → W → Type 0) (xs : List ℕ) (w : W)
@@ -22,13 +22,15 @@ pub record SameMade {V W : Type 0} (same : V → V → Type 0) (gives : V → W 
   pub second_made : gives second_part second
 
 -- what is made of values of this format
-abbrev pub made_format : {V W : Type 0} → Format V → (V → W → Type 0) → RejectsAt → Format W
-made_format s gives rejects = typed_format (ReadsMade s.reads gives) (SameMade s.same gives) rejects
-    s.owned s.takes_memory
+abbrev pub made_format : {V W : Type 0} → Format V → (V → W → Type 0)
+    → (rejects begins : RejectsAt) → Format W
+made_format s gives rejects begins = format_of (ReadsMade s.reads gives) (SameMade s.same gives)
+    rejects begins s.owned s.takes_memory
 
-pub made_lawful : {V W : Type 0} (p : Promise V) (gives : V → W → Type 0) (rejects : RejectsAt)
-    → IsLawful p.format → IsLawful (made_format p.format gives rejects)
-made_lawful p gives rejects h = record {
+pub made_lawful : {V W : Type 0} (p : Promise V) (gives : V → W → Type 0)
+    (rejects begins : RejectsAt) → IsLawful p.format
+    → IsLawful (made_format p.format gives rejects begins)
+made_lawful p gives rejects begins h = record {
   one = λ xs v w n m c d q r. (
       let e = h.one xs q.part r.part n m c d q.read r.read in (
         e.0,
@@ -49,12 +51,12 @@ made_lawful p gives rejects h = record {
 -- a type whose values are made of those of another, and rejected as they are
 abbrev pub made_from : {V W : Type 0} → (V → W → Type 0) → Promise V → Promise W
 made_from gives p = record {
-  format = made_format p.format gives p.format.begins;
+  format = made_format p.format gives p.format.rejects p.format.begins;
   exact = p.exact;
   known = p.known;
   reports = p.reports;
   some = refl;
-  lawful = λ is. made_lawful p gives p.format.begins (p.lawful is);
+  lawful = λ is. made_lawful p gives p.format.rejects p.format.begins (p.lawful is);
 }
 
 -- ---- or rejected in words
@@ -77,18 +79,28 @@ pub record RejectsUnmade {V W : Type 0} (reads : Reads V) (value : V → Result 
   pub left : rest ≡ drop count xs
 
 -- the part's error, or that of a whole part
-abbrev pub RejectsMade : {V W : Type 0} → Format V → (V → Result W (List ℕ)) → RejectsAt
-RejectsMade s value xs budget err rest =
-    s.begins xs budget err rest ⊎ RejectsUnmade s.reads value xs budget err rest
+abbrev pub RejectsMade : {V W : Type 0} → RejectsAt → Reads V → (V → Result W (List ℕ))
+    → RejectsAt
+RejectsMade rejects reads value xs budget err rest =
+    rejects xs budget err rest ⊎ RejectsUnmade reads value xs budget err rest
+
+-- where acceptance is exact, and over any reader
+abbrev pub made_rejects : {V W : Type 0} → Format V → (V → Result W (List ℕ)) → RejectsAt
+made_rejects s = RejectsMade s.rejects s.reads
+
+abbrev pub made_begins : {V W : Type 0} → Format V → (V → Result W (List ℕ)) → RejectsAt
+made_begins s = RejectsMade s.begins s.reads
 
 -- a type whose values are made of those of another, or rejected in words
 abbrev pub made_or_rejected : {V W : Type 0} → (V → Result W (List ℕ)) → Promise V → Promise W
 made_or_rejected value p = record {
-  format = made_format p.format (gives_ok value) (RejectsMade p.format value);
+  format = made_format p.format (gives_ok value) (made_rejects p.format value)
+      (made_begins p.format value);
   exact = p.exact;
   known = p.known;
   reports = p.reports;
   some = refl;
   lawful = λ is.
-      made_lawful p (gives_ok value) (RejectsMade p.format value) (p.lawful is);
+      made_lawful p (gives_ok value) (made_rejects p.format value) (made_begins p.format value)
+      (p.lawful is);
 }

@@ -1,12 +1,13 @@
 -- Names of fields, found among some names.
 use Rattle.std.specs.Prelude.{◌≡◌, ◌≢◌, ℕ, zero, suc, ◌+◌, ◌≤◌, ◌++◌, List, [], ◌∷◌, length, take}
-use Rattle.std.specs.Prelude.{drop, IsUtf8}
+use Rattle.std.specs.Prelude.{drop, IsUtf8, false}
 use Rattle.std.specs.Prelude.{Option, Some, None, Result, Ok, Err}
 use denote.Ref.{Bor}
 use Rattle.cbor4ii_rw.specs.View.{View}
 use Rattle.cbor4ii_rw.specs.declared.error.DecodeError.{DecodeError}
 use Rattle.cbor4ii_items.specs.Decoding.{Sound, Decodes}
 use Rattle.cbor4ii_items.specs.Head.{IsBytes, Width, HeadFits, head, byte_count}
+use Rattle.cbor4ii_items.specs.InputError.{is_out_of_memory}
 use Rattle.cbor4ii_items.specs.Lent.{Stays}
 use Rattle.cbor4ii_items.specs.Moves.{Kept}
 use Rattle.cbor4ii_items.specs.Strings.{ReadsText}
@@ -88,10 +89,11 @@ abbrev pub TakesName : {E : Type 0} → List (Bor (List ℕ)) → View → View
 TakesName names old new (Ok at) = NameAt names at old new
 TakesName names old new (Err e) = Decodes name_format old new (Err e)
 
--- the same of a name that is seen whole; of another nothing is taken
+-- The same of a name that is seen whole; of another nothing is taken. A look asks for no memory.
 abbrev pub TakesShown : {E : Type 0} → List (Bor (List ℕ)) → View → View
     → Result Seen (DecodeError E) → Type 0
 TakesShown names old new (Ok (Whole at n)) = NameAt names at old new
 TakesShown names old new (Ok (Cut n)) = Stays old new
 TakesShown names old new (Ok Other) = Stays old new
-TakesShown names old new (Err e) = Decodes name_format old new (Err e)
+TakesShown names old new (Err e) =
+    Decodes name_format old new (Err e) × (is_out_of_memory e ≡ false)

@@ -88,7 +88,7 @@ same_came_only alike Repeated Absent h = absurd h
 same_came_only alike Repeated (Present w) h = absurd h
 same_came_only alike Repeated Repeated h = refl
 
--- several values are reported from one
+-- it says whether one value came, or several
 abbrev pub only_place : {T : Type 0} → Place T (Single T)
 only_place = record {
   none = Absent;

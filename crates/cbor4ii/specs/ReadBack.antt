@@ -47,10 +47,6 @@ text_of alloc text utf8 few = record {
 abbrev pub NamedItems : Type 0
 NamedItems = List (List ℕ × Encoding)
 
-abbrev pub names_of : NamedItems → List (List ℕ)
-names_of [] = []
-names_of (part ∷ parts) = part.0 ∷ names_of parts
-
 -- the fields of these names and items, in order
 abbrev pub fields_of : NamedItems → List Encoding
 fields_of [] = []

@@ -12,13 +12,14 @@ use Rattle.cbor4ii.specs.Fields.{no_field_laws}
 use Rattle.cbor4ii.specs.Fields.{field_laws, fields_laws}
 use Rattle.cbor4ii.specs.Places.{Place, last_place}
 use Rattle.cbor4ii.specs.Sequence.{sequence_of}
-use Rattle.cbor4ii.specs.Typed.{Promise, typed_format, typed_laws, lawful_as, said_by, any_two}
+use Rattle.cbor4ii.specs.Typed.{Promise, format_of, typed_laws, lawful_as, said_by, any_two}
 
 -- the named fields of a struct, one after another
 pub record Fields (V : Type 0) : Type 1 where
-  -- what follows a name, and how it is rejected
+  -- what follows a name, and how it is rejected: where acceptance is exact, and over any reader
   pub named : ReadsNamed V
   pub rejects : RejectsNamed
+  pub begins : RejectsNamed
   pub same : V → V → Type 0
   -- the values of no entry
   pub first : V
@@ -31,6 +32,7 @@ abbrev pub no_more : Fields (Unit {0})
 no_more = record {
   named = no_field;
   rejects = no_field_rejects;
+  begins = no_field_rejects;
   same = any_two;
   first = no_values;
   owned = true;
@@ -43,7 +45,8 @@ no_more = record {
 abbrev pub placed : {T P V : Type 0} → Place T P → List ℕ → Promise T → Fields V → Fields (P × V)
 placed place name p others = record {
   named = named_field place.put name p.format.reads others.named;
-  rejects = field_rejects name (said_by p) others.rejects;
+  rejects = field_rejects name p.format.rejects others.rejects;
+  begins = field_rejects name (said_by p) others.begins;
   same = SamePair (place.same p.format.same) others.same;
   first = (place.none, others.first);
   owned = p.format.owned && others.owned;
@@ -62,6 +65,7 @@ abbrev pub unnamed : {T P V : Type 0} → Place T P → Promise T → Fields V �
 unnamed place p others = record {
   named = no_field;
   rejects = no_field_rejects;
+  begins = no_field_rejects;
   same = SamePair (place.same p.format.same) others.same;
   first = (place.none, others.first);
   owned = p.format.owned && others.owned;
@@ -80,11 +84,13 @@ fields_by place p others (own ∷ trailing) = placed place own.now p (others tra
 
 -- what follows a name, as what becomes of the values
 abbrev pub after_name : {V : Type 0} → Fields V → List ℕ → Format (V → V)
-after_name fields = named_part fields.named fields.rejects (SameChange fields.same) fields.owned
+after_name fields =
+    named_part fields.named fields.rejects fields.begins (SameChange fields.same) fields.owned
 
 -- a name, and what follows it
 abbrev pub entry_of : {V : Type 0} → Fields V → Format (V → V)
-entry_of fields = named_entry fields.named fields.rejects (SameChange fields.same) fields.owned
+entry_of fields =
+    named_entry fields.named fields.rejects fields.begins (SameChange fields.same) fields.owned
 
 pub entry_lawful : {V : Type 0} (fields : Fields V) → IsTrue fields.exact
     → IsLawful (entry_of fields)
@@ -97,8 +103,9 @@ entries_of fields = sequence_of in_list (codes "map") (codes "map") 5 (entry_of 
 
 abbrev pub fields_format : {V : Type 0} → Fields V → Format V
 fields_format fields =
-    typed_format (ReadsFields fields.first fields.named) fields.same
-    (RejectsFields fields.named fields.rejects) fields.owned true
+    format_of (ReadsFields fields.first fields.named) fields.same
+    (RejectsFields fields.named fields.rejects) (RejectsFields fields.named fields.begins)
+    fields.owned true
 
 -- a struct that has these values of its fields
 abbrev pub struct_of : {V W : Type 0} → (W → V) → Fields V → Promise W

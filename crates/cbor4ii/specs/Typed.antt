@@ -44,19 +44,25 @@ parts_answer (Err error) = Err (as_core error)
 
 -- ---- what a type promises
 
--- a format that is rejected alike over every reader, and reads a byte
-abbrev pub typed_format : {V : Type 0} → Reads V → (V → V → Type 0) → RejectsAt → (owned : Bool)
-    → (takes_memory : Bool) → Format V
-typed_format reads same rejects owned takes_memory = record {
+-- A format that reads a byte. It is rejected by the first relation where acceptance is exact, and
+-- by the second over every reader.
+abbrev pub format_of : {V : Type 0} → Reads V → (V → V → Type 0) → (rejects begins : RejectsAt)
+    → (owned : Bool) → (takes_memory : Bool) → Format V
+format_of reads same rejects begins owned takes_memory = record {
   reads = reads;
   same = same;
   rejects = rejects;
-  begins = rejects;
+  begins = begins;
   never_empty = true;
   owned = owned;
   takes_memory = takes_memory;
   closed = false;
 }
+
+-- one that is rejected alike over every reader
+abbrev pub typed_format : {V : Type 0} → Reads V → (V → V → Type 0) → RejectsAt → (owned : Bool)
+    → (takes_memory : Bool) → Format V
+typed_format reads same rejects = format_of reads same rejects rejects
 
 -- What a type promises of the bytes. How they are rejected is what `begins` of its format says.
 pub record Promise (V : Type 0) : Type 1 where
@@ -134,6 +140,10 @@ pub record Deserializes {V E : Type 0} (promise : Promise V) (old new : View)
   -- no value whose steps fit the budget begins them.
   pub complete : IsTrue promise.exact → IsExact promise.format.owned old
       → IfErr answer (Complete promise.format.reads old)
+  -- Of an exact type, where acceptance is exact, such an error is the one that the type gives for
+  -- all of the bytes, and leaves what the type leaves then.
+  pub rejects : IsTrue promise.exact → IsExact promise.format.owned old
+      → IfErr answer (Rejects promise.format.rejects old new)
   -- Of a type that reports its errors, an error that speaks of the bytes is the one that the type
   -- gives there, and leaves what the type leaves then.
   pub begins : IsTrue promise.known → IfErr answer (Rejects promise.format.begins old new)
@@ -180,9 +190,9 @@ typed_laws promise is =
     }
 
 -- a type that has these laws
-pub lawful_as : {V : Type 0} {reads : Reads V} {same : V → V → Type 0} {rejects : RejectsAt}
-    {owned takes_memory : Bool} → Lawful reads same true
-    → IsLawful (typed_format reads same rejects owned takes_memory)
+pub lawful_as : {V : Type 0} {reads : Reads V} {same : V → V → Type 0}
+    {rejects begins : RejectsAt} {owned takes_memory : Bool} → Lawful reads same true
+    → IsLawful (format_of reads same rejects begins owned takes_memory)
 lawful_as h = record {
   one = h.one;
   within = h.within;

@@ -13,13 +13,13 @@ use Rattle.cbor4ii.specs.Built.{map_of, map_of_lawful}
 use Rattle.cbor4ii.specs.Sequence.{four_small, five_small, sequence_of, sequence_of_lawful}
 use Rattle.cbor4ii.specs.Stepped.{stepped_format, stepped_lawful}
 use Rattle.cbor4ii.specs.Tuples.{after_format, after_lawful, triple_format, triple_lawful}
-use Rattle.cbor4ii.specs.Typed.{Promise, typed_format, typed_laws, lawful_as, said_by}
+use Rattle.cbor4ii.specs.Typed.{Promise, format_of, typed_laws, lawful_as, said_by}
 
 -- ---- a part
 
 -- a part as containers read it: where it does not report its errors, nothing is said of them
 abbrev pub part_of : {V : Type 0} → Promise V → Format V
-part_of p = typed_format p.format.reads p.format.same (said_by p) p.format.owned
+part_of p = format_of p.format.reads p.format.same p.format.rejects (said_by p) p.format.owned
     p.format.takes_memory
 
 pub part_lawful : {V : Type 0} (p : Promise V) → IsTrue p.exact → IsLawful (part_of p)

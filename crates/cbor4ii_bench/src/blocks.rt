@@ -53,7 +53,7 @@ fn put_block(writer: &mut BufWriter, noise: &mut Noise) -> Result<(), Fault> {
     Ok(())
 }
 
-// Reads a block strictly and writes it again. One that is rejected is read as any value.
+// Reads a canonical block and writes it again. One that is rejected is read as any value.
 fn read_block(
     alloc: Global,
     block: &[u8],

@@ -1,3 +1,9 @@
 -- One decoding call after another, and what a station is made of.
 pub mod After
 pub mod Stations
+-- What is sealed, and that it is opened.
+pub mod Sealing
+pub mod Sealed
+-- Where the reading of settings stops, and what a store rejects.
+pub mod Rejection
+pub mod Stored

@@ -6,3 +6,8 @@ pub mod Nest
 pub mod Tree
 -- An enum, by its variants.
 pub mod Event
+-- A signed payload, sealed and opened.
+pub mod Envelope
+-- At which byte settings are rejected, and when a store rejects bytes.
+pub mod Settings
+pub mod Store

@@ -1,11 +1,9 @@
 //! Maps of two members, one written and one read by hand, with no contract.
-use cbor4ii_items::decode::Decode;
-use cbor4ii_items::encode::Encode;
-use cbor4ii_items::indefinite::is_break;
-use cbor4ii_items::types::{Bytes, Map, Tag};
-use cbor4ii_rw::buf_writer::BufWriter;
-use cbor4ii_rw::error::{DecodeError, EncodeError, TryReserveError};
-use cbor4ii_rw::read::Source;
+use cbor4ii::dec::{Decode, Source, is_break};
+use cbor4ii::enc::Encode;
+use cbor4ii::error::{DecodeError, EncodeError};
+use cbor4ii::types::{Bytes, Map, Tag};
+use cbor4ii::utils::{BufWriter, TryReserveError};
 use std::alloc::Global;
 
 /// Writes a map of two members, by hand.

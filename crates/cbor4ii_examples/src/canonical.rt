@@ -4,15 +4,14 @@ ghost use Rattle.cbor4ii_tree.specs.Canonical.{canonical_encoding};
 ghost use Rattle.cbor4ii_tree.specs.Item.{Item};
 ghost use Rattle.cbor4ii_tree.specs.Encodings.{DecodesTo};
 
-use cbor4ii_items::decode::Decode;
-use cbor4ii_items::encode::Encode;
-use cbor4ii_rw::buf_writer::BufWriter;
-use cbor4ii_rw::error::{DecodeError, Never};
-use cbor4ii_rw::slice_reader::SliceReader;
-use cbor4ii_tree::Value;
+use cbor4ii::Value;
+use cbor4ii::dec::Decode;
+use cbor4ii::enc::Encode;
+use cbor4ii::error::{DecodeError, Never};
+use cbor4ii::utils::{BufWriter, SliceReader};
 use std::alloc::Global;
 
-/// The canonical encoding of the item at the front of `input`, and what follows that item.
+/// The canonical encoding of the item at the beginning of `input`, and what follows that item.
 pub fn canonical(alloc: Global, input: &[u8]) -> Result<(Vec<u8>, &[u8]), DecodeError<Never>>
     ensures { IfOk result (λ parts. (v : Item) ×
         DecodesTo input.now (Some 256) v parts.1.now × (parts.0.items ≡ canonical_encoding v)) }

@@ -6,9 +6,9 @@ ghost use Rattle.cbor4ii_ser.specs.Item.{variant_encoding};
 ghost use Rattle.cbor4ii_examples.specs.declared.enumeration.Enum.TheVariants.{Unit, NewType};
 ghost use Rattle.cbor4ii_examples.specs.declared.enumeration.Enum.TheVariants.{Tuple, Struct};
 
+use cbor4ii::dec::Source;
+use cbor4ii::enc::Write;
 use cbor4ii::serde::{DecodeError, Deserializer, EncodeError, EnumAccessor, Serialize, Serializer};
-use cbor4ii_rw::read::Source;
-use cbor4ii_rw::write::Write;
 use std::alloc::Global;
 
 /// An enum with variants of each kind.

@@ -1,20 +1,21 @@
 //! An enum that is written and read inside other types, as in a vector or a map.
 ghost use Rattle.std.specs.Prelude.{◌≡◌, codes};
 ghost use Rattle.std.proofs.Common.{refl};
+ghost use Rattle.cbor4ii.specs.CodecAgrees.{as_described};
 ghost use Rattle.cbor4ii.specs.CodecCases.{enum_codec, unit_variant, variant, variant_of_fields};
 ghost use Rattle.cbor4ii.specs.CodecCases.{no_case};
 ghost use Rattle.cbor4ii.specs.CodecFields.{with_field, no_fields};
 ghost use Rattle.cbor4ii_examples.specs.Event.{choice_of};
 
 use crate::sample::Sample;
+use cbor4ii::dec::Source;
+use cbor4ii::enc::Write;
+use cbor4ii::error::{Never, StaticStr};
 use cbor4ii::serde::Choice::{First, Other};
 use cbor4ii::serde::{
-    Choice, DecodeError, Described, Deserialize, Deserializer, EncodeError, FieldWords, Holds,
-    HoldsFields, Otherwise, Required, Serialize, Serializer, Typed, Unit,
+    AsDescribed, Choice, DecodeError, Described, Deserialize, Deserializer, EncodeError,
+    FieldWords, Holds, HoldsFields, Otherwise, Required, Serialize, Serializer, Typed, Unit,
 };
-use cbor4ii_rw::error::{Never, StaticStr};
-use cbor4ii_rw::read::Source;
-use cbor4ii_rw::write::Write;
 use std::alloc::Global;
 use std::marker::PhantomData;
 
@@ -92,6 +93,10 @@ impl Described for Event {
         (with_field (codes "name") (codes "a name has no text") ⟦<String as Described>⟧.codec
         no_fields refl) refl) refl
         (no_case (codes "no such event")) refl) refl) refl) refl) };
+}
+
+impl AsDescribed for Event {
+    ghost agrees = { as_described tt };
 }
 
 #[cfg(test)]

@@ -4,8 +4,8 @@ ghost use Rattle.cbor4ii_ser.specs.TextState.{text_encoding};
 
 use crate::enumeration::Enum;
 use crate::point::Point;
+use cbor4ii::enc::Write;
 use cbor4ii::serde::{EncodeError, Serialize, Serializer};
-use cbor4ii_rw::write::Write;
 use cbor4ii_vectors::rows::writes_in;
 use cbor4ii_vectors::table;
 use cbor4ii_vectors_de::typed::Answer::Is;

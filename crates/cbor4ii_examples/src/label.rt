@@ -1,16 +1,17 @@
 //! A struct that borrows from the input.
 ghost use Rattle.std.specs.Prelude.{◌≡◌, codes};
 ghost use Rattle.std.proofs.Common.{refl};
+ghost use Rattle.cbor4ii.specs.CodecAgrees.{as_described};
 ghost use Rattle.cbor4ii.specs.CodecFields.{struct_codec, with_field, no_fields};
 ghost use Rattle.cbor4ii.specs.Fields.{no_values};
 
+use cbor4ii::enc::Write;
+use cbor4ii::error::Never;
 use cbor4ii::serde::{
-    DecodeError, Described, Deserialize, Deserializer, EncodeError, Required, Serialize,
-    Serializer, Typed,
+    AsDescribed, DecodeError, Described, Deserialize, Deserializer, EncodeError, Required,
+    Serialize, Serializer, Typed,
 };
-use cbor4ii_rw::error::Never;
-use cbor4ii_rw::slice_reader::SliceReader;
-use cbor4ii_rw::write::Write;
+use cbor4ii::utils::SliceReader;
 use std::alloc::Global;
 
 /// A number and a text, which is borrowed.
@@ -61,6 +62,10 @@ impl<'a> Described for Label<'a> {
         (with_field (codes "text") (codes "a label has no text") ⟦<&'a str as Described>⟧.codec
         no_fields
         refl) refl) refl };
+}
+
+impl<'a> AsDescribed for Label<'a> {
+    ghost agrees = { as_described tt };
 }
 
 #[cfg(test)]

@@ -6,6 +6,7 @@
 //! | `texts` | a text, borrowed from the input or joined out of a stream |
 //! | `raw_items` | items that are kept as their bytes, and one that is skipped |
 //! | `by_hand` | a map of two members, written and read by hand, with no contract |
+//! | `page` | a struct over a type parameter, and its law |
 //! | `point` | a struct with an optional field, written and read in one call each, and its laws |
 //! | `sample` | a struct that is written part by part |
 //! | `label` | a struct that borrows from the input |
@@ -36,6 +37,7 @@ pub mod label;
 pub mod log;
 pub mod meters;
 pub mod nest;
+pub mod page;
 pub mod point;
 pub mod raw_items;
 #[cfg(test)]

@@ -2,16 +2,15 @@
 ghost use Rattle.std.specs.Prelude.{◌≤◌, length, IfOk};
 
 use crate::event::Event;
+use cbor4ii::dec::Source;
+use cbor4ii::dec::ask::look;
+use cbor4ii::error::{DecodeError as CoreError, Never};
 use cbor4ii::serde::{DecodeError, Deserialize, Deserializer};
-use cbor4ii_rw::ask::look;
-use cbor4ii_rw::error::{DecodeError as CoreError, Never};
-use cbor4ii_rw::io_reader::IoReader;
-use cbor4ii_rw::read::Source;
-use cbor4ii_rw::slice_reader::SliceReader;
+use cbor4ii::utils::{IoReader, SliceReader};
 use std::alloc::Global;
 use std::io::{self, BufRead};
 
-/// The whole events at the front of a part of a log.
+/// The whole events at the beginning of a part of a log.
 #[derive(Debug, PartialEq, Drop)]
 pub struct Batch {
     /// The events, in their order.

@@ -1,12 +1,14 @@
 //! A newtype, which is read and written as what it holds.
 ghost use Rattle.std.specs.Prelude.{◌≡◌};
 ghost use Rattle.cbor4ii.specs.Codec.{codec_of};
+ghost use Rattle.cbor4ii.specs.CodecAgrees.{as_described};
 
+use cbor4ii::dec::Source;
+use cbor4ii::enc::Write;
 use cbor4ii::serde::{
-    DecodeError, Described, Deserialize, Deserializer, EncodeError, Serialize, Serializer, Typed,
+    AsDescribed, DecodeError, Described, Deserialize, Deserializer, EncodeError, Serialize,
+    Serializer, Typed,
 };
-use cbor4ii_rw::read::Source;
-use cbor4ii_rw::write::Write;
 use std::alloc::Global;
 
 /// A length in meters.
@@ -44,6 +46,10 @@ impl Typed for Meters {
 
 impl Described for Meters {
     ghost codec = { codec_of (λ m. m.0) ⟦<u32 as Described>⟧.codec };
+}
+
+impl AsDescribed for Meters {
+    ghost agrees = { as_described tt };
 }
 
 #[cfg(test)]

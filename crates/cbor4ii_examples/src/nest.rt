@@ -4,12 +4,12 @@ ghost use Rattle.cbor4ii_items.specs.Moves.{Moves};
 ghost use Rattle.cbor4ii.specs.Typed.{input, answer_of};
 ghost use Rattle.cbor4ii_examples.specs.Nest.{nest_item};
 
+use cbor4ii::dec::Source;
+use cbor4ii::enc::Write;
+use cbor4ii::error as core_error;
 use cbor4ii::serde::{
     DecodeError, Deserialize, Deserializer, EncodeError, Serialize, Serializer, Typed,
 };
-use cbor4ii_rw::error as core_error;
-use cbor4ii_rw::read::Source;
-use cbor4ii_rw::write::Write;
 use std::alloc::Global;
 
 /// Lists in a list: a type that holds values of its own kind.

@@ -3,17 +3,18 @@ ghost use Rattle.std.specs.Prelude.{◌≡◌, ◌<◌, ◌≤◌, ◌^◌, ℤ,
 ghost use Rattle.std.proofs.Common.{refl};
 ghost use Rattle.cbor4ii_items.specs.Numbers.{IsWithin};
 ghost use Rattle.cbor4ii_ser.specs.OneItem.{IsOneItem, canonical};
+ghost use Rattle.cbor4ii.specs.CodecAgrees.{as_described};
 ghost use Rattle.cbor4ii.specs.CodecFields.{struct_codec, with_field, with_field_or, no_fields};
 ghost use Rattle.cbor4ii.specs.Fields.{no_values};
 ghost use Rattle.cbor4ii.specs.ReadBack.{IsReadBack};
 
+use cbor4ii::dec::Source;
+use cbor4ii::enc::Write;
+use cbor4ii::error::StaticStr;
 use cbor4ii::serde::{
-    DecodeError, Described, Deserialize, Deserializer, EncodeError, Or, Required, Serialize,
-    Serializer, Typed, described_values_are_read_back,
+    AsDescribed, DecodeError, Described, Deserialize, Deserializer, EncodeError, Or, Required,
+    Serialize, Serializer, Typed, described_values_are_read_back,
 };
-use cbor4ii_rw::error::StaticStr;
-use cbor4ii_rw::read::Source;
-use cbor4ii_rw::write::Write;
 use std::alloc::Global;
 
 /// A struct with an optional field.
@@ -66,6 +67,10 @@ impl Described for Point {
         (with_field_or (codes "y") None ⟦<Option<i32> as Described>⟧.codec no_fields refl)
         refl) refl)
         refl };
+}
+
+impl AsDescribed for Point {
+    ghost agrees = { as_described tt };
 }
 
 /// What a `Point` writes is one canonical item, and is read back as that `Point`, whatever follows

@@ -1,5 +1,5 @@
 //! How a test compares what a recipe's function rejects.
-use cbor4ii_rw::error::{DecodeError, Never};
+use cbor4ii::error::{DecodeError, Never};
 use std::fmt::{Debug, InlineText};
 use std::test::Fail;
 

@@ -1,17 +1,18 @@
 //! A struct of which a field is left out where it is none.
 ghost use Rattle.std.specs.Prelude.{◌≡◌, codes};
 ghost use Rattle.std.proofs.Common.{refl};
+ghost use Rattle.cbor4ii.specs.CodecAgrees.{as_described};
 ghost use Rattle.cbor4ii.specs.CodecFields.{struct_codec, with_field, with_optional_field};
 ghost use Rattle.cbor4ii.specs.CodecFields.{no_fields};
 ghost use Rattle.cbor4ii.specs.Fields.{no_values};
 
+use cbor4ii::dec::Source;
+use cbor4ii::enc::Write;
+use cbor4ii::error::StaticStr;
 use cbor4ii::serde::{
-    DecodeError, Described, Deserialize, Deserializer, EncodeError, Optional, Required, Serialize,
-    Serializer, Typed,
+    AsDescribed, DecodeError, Described, Deserialize, Deserializer, EncodeError, Optional,
+    Required, Serialize, Serializer, Typed,
 };
-use cbor4ii_rw::error::StaticStr;
-use cbor4ii_rw::read::Source;
-use cbor4ii_rw::write::Write;
 use std::alloc::Global;
 
 /// What a server answers.
@@ -70,6 +71,10 @@ impl Described for Reply {
         (with_field (codes "status") (codes "a reply has no status") ⟦<u16 as Described>⟧.codec
         (with_optional_field (codes "reason") ⟦<String as Described>⟧.codec
         no_fields refl) refl) refl };
+}
+
+impl AsDescribed for Reply {
+    ghost agrees = { as_described tt };
 }
 
 #[cfg(test)]

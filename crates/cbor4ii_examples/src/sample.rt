@@ -1,16 +1,17 @@
 //! A struct that is written part by part, and read in one call.
 ghost use Rattle.std.specs.Prelude.{◌≡◌, None, codes};
 ghost use Rattle.std.proofs.Common.{refl};
+ghost use Rattle.cbor4ii.specs.CodecAgrees.{as_described};
 ghost use Rattle.cbor4ii.specs.CodecFields.{struct_codec, with_field, with_field_or, no_fields};
 ghost use Rattle.cbor4ii.specs.Fields.{no_values};
 
+use cbor4ii::dec::Source;
+use cbor4ii::enc::Write;
+use cbor4ii::error::StaticStr;
 use cbor4ii::serde::{
-    DecodeError, Described, Deserialize, Deserializer, EncodeError, Or, Required, Serialize,
-    Serializer, Typed,
+    AsDescribed, DecodeError, Described, Deserialize, Deserializer, EncodeError, Or, Required,
+    Serialize, Serializer, Typed,
 };
-use cbor4ii_rw::error::StaticStr;
-use cbor4ii_rw::read::Source;
-use cbor4ii_rw::write::Write;
 use std::alloc::Global;
 
 /// What a sensor measured, and a note where there is one.
@@ -76,6 +77,10 @@ impl Described for Sample {
         (with_field_or (codes "note") None ⟦<Option<String> as Described>⟧.codec no_fields
         refl) refl)
         refl) refl };
+}
+
+impl AsDescribed for Sample {
+    ghost agrees = { as_described tt };
 }
 
 #[cfg(test)]

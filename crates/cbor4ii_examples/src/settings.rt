@@ -1,18 +1,21 @@
 //! A struct of eight fields with defaults, and at which byte its reading fails.
-ghost use Rattle.std.specs.Prelude.{◌≡◌, None, false, codes};
+ghost use Rattle.std.specs.Prelude.{◌≡◌, None, false, codes, IfErr};
 ghost use Rattle.std.proofs.Common.{refl};
+ghost use Rattle.cbor4ii.specs.CodecAgrees.{as_described};
 ghost use Rattle.cbor4ii.specs.CodecFields.{struct_codec, with_field_once, with_field_or};
 ghost use Rattle.cbor4ii.specs.CodecFields.{no_fields};
 ghost use Rattle.cbor4ii.specs.Fields.{no_values};
+ghost use Rattle.cbor4ii.specs.First.{FirstWhole};
+ghost use Rattle.cbor4ii_examples.specs.Settings.{without_byte, StopsAt};
 
+use cbor4ii::dec::Source;
+use cbor4ii::enc::Write;
+use cbor4ii::error::{Never, StaticStr};
 use cbor4ii::serde::{
-    DecodeError, Described, Deserialize, Deserializer, EncodeError, Once, Or, Required, Serialize,
-    Serializer, Typed,
+    AsDescribed, DecodeError, Described, Deserialize, Deserializer, EncodeError, Once, Or,
+    Required, Serialize, Serializer, Typed, WholeError,
 };
-use cbor4ii_rw::error::{Never, StaticStr};
-use cbor4ii_rw::read::Source;
-use cbor4ii_rw::slice_reader::SliceReader;
-use cbor4ii_rw::write::Write;
+use cbor4ii::utils::SliceReader;
 use std::alloc::Global;
 use std::error::Error;
 use std::fmt;
@@ -154,43 +157,58 @@ impl Described for Settings {
         refl) refl) refl) refl) refl) refl) refl };
 }
 
+impl AsDescribed for Settings {
+    ghost agrees = { as_described tt };
+}
+
 /// Settings that were rejected.
 #[derive(Debug, PartialEq, Drop)]
 pub struct Fault {
-    /// How many bytes were taken, from the first one.
+    /// How many bytes were taken, from the first one: what is left begins at this byte.
     pub at: usize,
     /// Why.
-    pub error: DecodeError<Never>,
+    pub error: WholeError<DecodeError<Never>>,
 }
 
 /// A line for a person: the byte, and why.
 impl fmt::Display for Fault {
     fn fmt<W: fmt::Write>(&self, f: &mut fmt::Formatter<W>) -> fmt::Result {
+        let at = self.at;
         match &self.error {
-            DecodeError::Core(error) => write!(f, "byte {}: {error}", self.at),
-            DecodeError::Custom(words) => write!(f, "byte {}: {words}", self.at),
+            WholeError::Decode(DecodeError::Core(error)) => write!(f, "byte {at}: {error}"),
+            WholeError::Decode(DecodeError::Custom(words)) => write!(f, "byte {at}: {words}"),
+            WholeError::Trailing(left) => write!(f, "byte {at}: bytes after the settings: {left}"),
         }
     }
 }
 
 impl Error for Fault {}
 
-/// The settings that the bytes begin with.
+/// The settings that `input` is: one value and nothing else, read with 256 steps.
 ///
 /// # Errors
 ///
-/// Those of `deserialize_fields`, with the byte at which reading stopped.
-pub fn read_settings(alloc: Global, input: &[u8]) -> Result<Settings, Fault> {
+/// - `Decode` of an error of `deserialize_fields`: the input begins with no settings. What the
+///   error leaves begins at the byte
+/// - `Trailing`: the input begins with settings. They end before the byte, and so many bytes follow
+pub fn read_settings(alloc: Global, input: &[u8]) -> Result<Settings, Fault>
+    ensures whole { FirstWhole ⟦<Settings as Typed>⟧.promise input.now (without_byte result) }
+    ensures byte { IfErr result (StopsAt ⟦<Settings as Typed>⟧.promise input.now) }
+{
     let mut de = Deserializer::new(SliceReader::new(input));
-    match Settings::deserialize(alloc, &mut de) {
-        Ok(settings) => Ok(settings),
-        Err(error) => {
-            let left = de.into_inner().remaining().len();
-            Err(Fault {
-                at: input.len().saturating_sub(left),
-                error,
-            })
-        }
+    let answer = Settings::deserialize(alloc, &mut de);
+    let left = de.into_inner().remaining().len();
+    let at = input.len() - left;
+    match answer {
+        Ok(settings) if left == 0 => Ok(settings),
+        Ok(_) => Err(Fault {
+            at,
+            error: WholeError::Trailing(left),
+        }),
+        Err(error) => Err(Fault {
+            at,
+            error: WholeError::Decode(error),
+        }),
     }
 }
 

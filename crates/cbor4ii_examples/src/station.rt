@@ -4,13 +4,10 @@ ghost use Rattle.cbor4ii_examples.specs.Station.{station_bytes, opening_format, 
 ghost use Rattle.cbor4ii_examples.specs.Station.{station_format};
 ghost use Rattle.cbor4ii_examples.specs.StationLaws.{station_lawful};
 
-use cbor4ii_items::decode::{Decodable, Decode};
-use cbor4ii_items::encode::Encode;
-use cbor4ii_items::indefinite::is_break;
-use cbor4ii_items::types::Array;
-use cbor4ii_rw::error::{DecodeError, EncodeError, Len};
-use cbor4ii_rw::read::Source;
-use cbor4ii_rw::write::Write;
+use cbor4ii::dec::{Decodable, Decode, Source, is_break};
+use cbor4ii::enc::{Encode, Write};
+use cbor4ii::error::{DecodeError, EncodeError, Len};
+use cbor4ii::types::Array;
 use std::alloc::Global;
 
 /// A weather station, which is an array of its number and its name.

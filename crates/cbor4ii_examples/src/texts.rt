@@ -1,8 +1,7 @@
 //! A text, borrowed from the input or joined out of a stream.
-use cbor4ii_items::decode::Decode;
-use cbor4ii_rw::error::{DecodeError, Never};
-use cbor4ii_rw::io_reader::IoReader;
-use cbor4ii_rw::slice_reader::SliceReader;
+use cbor4ii::dec::Decode;
+use cbor4ii::error::{DecodeError, Never};
+use cbor4ii::utils::{IoReader, SliceReader};
 use std::alloc::Global;
 use std::io::{self, BufRead};
 

@@ -1,13 +1,12 @@
 //! A struct that holds values of its own kind, written in one call and read as a value of the tree.
 ghost use Rattle.cbor4ii_examples.specs.Tree.{tree_item};
 
+use cbor4ii::dec::Source;
+use cbor4ii::enc::Write;
 use cbor4ii::serde::{
     DecodeError, Deserialize, Deserializer, EncodeError, Serialize, Serializer, Typed,
 };
-use cbor4ii_rw::error as core_error;
-use cbor4ii_rw::read::Source;
-use cbor4ii_rw::write::Write;
-use cbor4ii_tree::Value;
+use cbor4ii::{Value, error as core_error};
 use std::alloc::Global;
 use std::collections::TryReserveError;
 

@@ -5,7 +5,7 @@ use Rattle.cbor4ii_items.specs.Laws.Heads.{read_head}
 use Rattle.cbor4ii_items.specs.Numbers.{ReadsArgument, RejectsArgument}
 use Rattle.cbor4ii_items.specs.Laws.Arguments.{argument_again}
 use Rattle.cbor4ii_items.proofs.Leaves.{IsLeaf}
-use Rattle.cbor4ii_items.proofs.Stopping.{head_rejects}
+use Rattle.cbor4ii_items.proofs.Rejecting.{head_rejects}
 
 pub argument_leaf : (name : List ℕ) (major width : ℕ) → major < 8
     → IsLeaf (head_at name major width) (ReadsArgument major width)

@@ -32,7 +32,7 @@ use Rattle.cbor4ii_items.specs.Laws.Outcome.{same_value, same_input_error}
 use Rattle.cbor4ii_items.specs.Laws.Prefixes.{drop_more}
 use Rattle.cbor4ii_items.specs.Laws.Bignums.{u128_again, i128_again}
 use Rattle.cbor4ii_items.proofs.Leaves.{IsLeaf}
-use Rattle.cbor4ii_items.proofs.Stopping.{head_rejects}
+use Rattle.cbor4ii_items.proofs.Rejecting.{head_rejects}
 use Rattle.cbor4ii_items.specs.Laws.ReadingHeads.{number_cut}
 use Rattle.cbor4ii_items.proofs.SignedLeaf.{sign_given, sign_rejected}
 use Rattle.cbor4ii_items.specs.Laws.ProgramEnds.{ok_parts, ErrParts, err_parts, Passed, LeavesEnd}

@@ -13,7 +13,7 @@ use Rattle.cbor4ii_items.specs.Laws.Heads.{number_is, number_inverse, onto-lt, b
 use Rattle.cbor4ii_items.specs.Magnitude.{number_of}
 use Rattle.cbor4ii_items.specs.Reading.{Runs}
 use Rattle.cbor4ii_items.specs.Marked.{marked_at}
-use Rattle.cbor4ii_items.specs.Floats.{float_bytes, IsInFront, ReadsFloat, CutFloat, RejectsFloat}
+use Rattle.cbor4ii_items.specs.Floats.{float_bytes, StandsWhole, ReadsFloat, CutFloat, RejectsFloat}
 use Rattle.cbor4ii_items.specs.Floats.{float_at, float_again}
 use Rattle.cbor4ii_items.specs.Laws.ProgramEnds.{ok_parts, err_parts, ErrParts}
 use Rattle.cbor4ii_items.specs.Laws.Contents.{lends_prefix}
@@ -83,7 +83,7 @@ module _ (name : List ℕ) (marker count : ℕ) where
 -- a marker and a number's bytes after it
 pub prefix_is_float : (marker count : ℕ) (prefix content : List ℕ)
     → content ≡ take count (drop 1 prefix) → suc count ≤ length prefix → get_or prefix 0 0 ≡ marker
-    → marker < 256 → IsBytes content → IsInFront marker count prefix (number_of content)
+    → marker < 256 → IsBytes content → StandsWhole marker count prefix (number_of content)
 prefix_is_float marker count [] content trailing long first small bytes = absurd (omega arith)
 prefix_is_float marker count (b ∷ bs) content trailing long first small bytes =
     let size : length content ≡ count =
@@ -98,7 +98,7 @@ prefix_is_float marker count (b ∷ bs) content trailing long first small bytes 
     }
 
 float_shown : {marker count bits : ℕ} (n : ℕ) {prefix xs : List ℕ} → n ≡ suc count
-    → IsInFront marker count prefix bits → take n prefix ≡ take n xs
+    → StandsWhole marker count prefix bits → take n prefix ≡ take n xs
     → ReadsFloat marker count xs bits n 0
 float_shown {marker = marker} {count = count} {bits = bits} n {prefix = prefix} {xs = xs} e f same =
     let whole : take n xs ≡ float_bytes marker count bits =
@@ -113,7 +113,7 @@ float_shown {marker = marker} {count = count} {bits = bits} n {prefix = prefix} 
 
 pub runs_float : {E : Type 0} (name : List ℕ) {marker count bits n : ℕ} {prefix : List ℕ}
     {a m b : View} → n ≡ suc count → Shows prefix a m → IfKnown a.known (IsPrefix n prefix)
-    → IsInFront marker count prefix bits → Advances n m b
+    → StandsWhole marker count prefix bits → Advances n m b
     → Runs {E = E} (float_at name marker count) a b (Ok bits)
 runs_float name {marker = marker} {count = count} {bits = bits} {n = n}
     {prefix = prefix} e shows known_prefix f adv =

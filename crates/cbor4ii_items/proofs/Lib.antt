@@ -1,6 +1,6 @@
 pub mod WholeHeads
 pub mod Leaves
-pub mod Stopping
+pub mod Rejecting
 pub mod Arguments
 pub mod BelowLimit
 pub mod SignedLeaf

@@ -28,7 +28,7 @@ use Rattle.cbor4ii_items.specs.Contents.{listed}
 use Rattle.cbor4ii_items.specs.ReadStrings.{content_on}
 use Rattle.cbor4ii_items.specs.ReadShortest.{is_indefinite_head, shortest_by, shortest_at}
 use Rattle.cbor4ii_items.specs.ReadShortest.{shortest_string_at}
-use Rattle.cbor4ii_items.specs.Shortest.{canonical_name, OpensLength, ReadsShortest}
+use Rattle.cbor4ii_items.specs.Shortest.{canonical_name, LacksLength, ReadsShortest}
 use Rattle.cbor4ii_items.specs.Shortest.{RejectsShortest}
 use Rattle.cbor4ii_items.specs.Shortest.{shortest_rejected, shortest_indefinite, too_long}
 use Rattle.cbor4ii_items.specs.Shortest.{ReadsShortestString, RejectsShortestString}
@@ -44,7 +44,7 @@ use Rattle.cbor4ii_items.specs.Laws.Arguments.{ReadBy}
 use Rattle.cbor4ii_items.specs.Laws.Running.{as_of, peeked, runs_as, runs_then, runs_err, runs_give}
 use Rattle.cbor4ii_items.specs.Laws.Running.{runs_reject, runs_byte}
 use Rattle.cbor4ii_items.proofs.Leaves.{IsLeaf}
-use Rattle.cbor4ii_items.proofs.Stopping.{head_rejects}
+use Rattle.cbor4ii_items.proofs.Rejecting.{head_rejects}
 use Rattle.cbor4ii_items.proofs.StringsRead.{content_rejected}
 
 -- ---- the width that a first byte says
@@ -71,35 +71,35 @@ least_width major v n xs h first =
 
 -- ---- the first byte of an indefinite length
 
-opens_by : (s t : Bool) (major b : ℕ) → leb 2 major ≡ s → leb major 5 ≡ t
-    → cond s (cond t (eqb b (indefinite_head major)) false) false ≡ true → OpensLength major b
-opens_by true true major b p q e =
+indefinite_by : (s t : Bool) (major b : ℕ) → leb 2 major ≡ s → leb major 5 ≡ t
+    → cond s (cond t (eqb b (indefinite_head major)) false) false ≡ true → LacksLength major b
+indefinite_by true true major b p q e =
     (leb-true 2 major p, leb-true major 5 q, eqb-true b (indefinite_head major) e)
-opens_by true false major b p q e = cc
-opens_by false t major b p q e = cc
+indefinite_by true false major b p q e = cc
+indefinite_by false t major b p q e = cc
 
-opens : (major b : ℕ) → is_indefinite_head major b ≡ true → OpensLength major b
-opens major b e = opens_by (leb 2 major) (leb major 5) major b refl refl e
+indefinite : (major b : ℕ) → is_indefinite_head major b ≡ true → LacksLength major b
+indefinite major b e = indefinite_by (leb 2 major) (leb major 5) major b refl refl e
 
-opened : (major b : ℕ) → OpensLength major b → is_indefinite_head major b ≡ true
-opened major b h =
+is_indefinite : (major b : ℕ) → LacksLength major b → is_indefinite_head major b ≡ true
+is_indefinite major b h =
     let s : leb 2 major ≡ true = le-leb 2 major h.0 in
     let t : leb major 5 ≡ true = le-leb major 5 h.1 in
     let e : eqb b (indefinite_head major) ≡ true = eq-eqb b (indefinite_head major) h.2 in
     rw (s, t) e
 
-no_opening : (major b : ℕ) → is_indefinite_head major b ≡ false → ¬ (OpensLength major b)
-no_opening major b e h = let f = opened major b h in cc
+not_indefinite : (major b : ℕ) → is_indefinite_head major b ≡ false → ¬ (LacksLength major b)
+not_indefinite major b e h = let f = is_indefinite major b h in cc
 
-not_opened_by : (t : Bool) (major b : ℕ) → is_indefinite_head major b ≡ t → ¬ (OpensLength major b)
+not_begun_by : (t : Bool) (major b : ℕ) → is_indefinite_head major b ≡ t → ¬ (LacksLength major b)
     → t ≡ false
-not_opened_by true major b e none = absurd (none (opens major b e))
-not_opened_by false major b e none = refl
+not_begun_by true major b e none = absurd (none (indefinite major b e))
+not_begun_by false major b e none = refl
 
 -- no head begins so
-head_opens_none : (major v : ℕ) (w : Width) → HeadFits w v
-    → ¬ (OpensLength major (32 * major + additional w v))
-head_opens_none major v w h o = omega (arith, o.2, additional-lt v w h)
+head_begins_none : (major v : ℕ) (w : Width) → HeadFits w v
+    → ¬ (LacksLength major (32 * major + additional w v))
+head_begins_none major v w h o = omega (arith, o.2, additional-lt v w h)
 
 -- ---- heads that are read
 
@@ -161,7 +161,7 @@ back_at name major v w rest ys h s e =
     let low : b % 32 ≡ additional (shortest v) v = says major v w h ∙ ap (λ u. additional u v) s in
     back_from (is_indefinite_head major b) name major b v
     (bytes_high_first (byte_count w) v ++ rest) ys
-    (not_opened_by (is_indefinite_head major b) major b refl (head_opens_none major v w h)) e
+    (not_begun_by (is_indefinite_head major b) major b refl (head_begins_none major v w h)) e
     (eq-eqb (b % 32) (additional (shortest v) v) low)
 
 pub shortest_again : (name : List ℕ) (major : ℕ) (xs : List ℕ) (v n c : ℕ)
@@ -195,11 +195,11 @@ rejects_from : (t : Bool) (name : List ℕ) (major b : ℕ) (bs : List ℕ) (bud
 rejects_from true name major b bs budget z ys opening seen e =
     let o : Result (ℕ × List ℕ) (InputError × List ℕ) = Err (Longer, bs) in
     let p = same_input_error o refl e in
-    shortest_indefinite b (opens major b opening) (ap (λ us. b ∷ us) p.1) (sym p.0)
+    shortest_indefinite b (indefinite major b opening) (ap (λ us. b ∷ us) p.1) (sym p.0)
 rejects_from false name major b bs budget z ys opening seen e =
     elim (err_parts (head_at name major 8 (b ∷ bs)) (shortest_by b) z ys e) [
       | inl f ↦ shortest_rejected (λ c cs is. (let same : c ≡ b = cc in
-          subst (λ j. ¬ (OpensLength major j)) (sym same) (no_opening major b opening)))
+          subst (λ j. ¬ (LacksLength major j)) (sym same) (not_indefinite major b opening)))
           (head_rejects name major 8 (b ∷ bs) z ys f)
       | inr g ↦
           let r = rejected_by (eqb (b % 32) (additional (shortest g.value) g.value)) g.value

@@ -18,7 +18,7 @@ use Rattle.cbor4ii_items.specs.Numbers.{positive_rejected, negative_rejected}
 use Rattle.cbor4ii_items.specs.Laws.Outcome.{same_value, same_input_error}
 use Rattle.cbor4ii_items.specs.Laws.Signed.{signed_again}
 use Rattle.cbor4ii_items.proofs.Leaves.{IsLeaf}
-use Rattle.cbor4ii_items.proofs.Stopping.{head_rejects}
+use Rattle.cbor4ii_items.proofs.Rejecting.{head_rejects}
 use Rattle.cbor4ii_items.specs.Laws.ProgramEnds.{ok_parts, err_parts, ErrParts}
 use Rattle.cbor4ii_items.proofs.BelowLimit.{below_ok, below_err}
 

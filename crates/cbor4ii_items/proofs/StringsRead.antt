@@ -31,7 +31,7 @@ use Rattle.cbor4ii_items.specs.Strings.{string_indefinite}
 use Rattle.cbor4ii_items.specs.Laws.Strings.{BeginsWith, HasStep}
 use Rattle.cbor4ii_items.specs.Laws.Answering.{Seen, Found, fits_zero}
 use Rattle.cbor4ii_items.specs.Laws.Contents.{IsBytes-append}
-use Rattle.cbor4ii_items.proofs.Stopping.{head_rejects}
+use Rattle.cbor4ii_items.proofs.Rejecting.{head_rejects}
 
 -- ---- the bytes that were passed
 

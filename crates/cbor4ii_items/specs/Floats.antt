@@ -27,8 +27,8 @@ pub record ReadsFloat (marker count : ℕ) (xs : List ℕ) (bits n c : ℕ) : Ty
   pub size : n ≡ suc count
   pub cost : c ≡ 0
 
--- the whole float stands in the front
-pub record IsInFront (marker count : ℕ) (prefix : List ℕ) (bits : ℕ) : Type 0 where
+-- the whole float stands in the prefix
+pub record StandsWhole (marker count : ℕ) (prefix : List ℕ) (bits : ℕ) : Type 0 where
   pub long : suc count ≤ length prefix
   pub bytes : IsBytes (take (suc count) prefix)
   pub fits : bits < 256 ^ count

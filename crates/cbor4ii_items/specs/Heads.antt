@@ -1,5 +1,5 @@
--- Heads at the front of bytes: which one is read there, and how one is rejected (RFC 8949 section
--- 3).
+-- Heads at the beginning of bytes: which one is read there, and how one is rejected (RFC 8949
+-- section 3).
 use Rattle.std.specs.Prelude.{◌≡◌, ℕ, suc, ◌+◌, ◌*◌, ◌<◌, ◌≤◌, ◌⊎◌, List, [], ◌∷◌, ◌++◌, length}
 use Rattle.cbor4ii_rw.specs.declared.error.Len.TheVariants.{Small}
 use Rattle.cbor4ii_items.specs.Head.{Width, byte_count, HeadFits, additional, head}

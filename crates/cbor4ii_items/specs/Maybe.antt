@@ -56,7 +56,7 @@ pub data RejectsMaybe (rejects : RejectsAt) (xs : List ℕ) (budget : Option ℕ
 abbrev pub few_format : Format Bool
 few_format = leaf_format ReadsFew RejectsFew
 
--- ---- the head, read off the front of bytes
+-- ---- the head, read from the beginning of bytes
 
 abbrev pub few_by : Option ℕ → Reading Bool
 few_by None = reject (require_length (codes "maybe") Indefinite)

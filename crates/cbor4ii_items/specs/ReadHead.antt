@@ -1,4 +1,4 @@
--- Heads, read off the front of bytes one byte at a time.
+-- Heads, read from the beginning of bytes one byte at a time.
 use Rattle.std.specs.Prelude.{ℕ, zero, suc, ◌+◌, ◌*◌, ◌/◌, ◌%◌, ◌==◌, List, Bool, false, Option}
 use Rattle.std.specs.Prelude.{Some, None, nat_lt, nat_le, if◌then◌else◌}
 use Rattle.cbor4ii_items.specs.Head.{indefinite_head}

@@ -1,4 +1,4 @@
--- Numbers, read off the front of bytes.
+-- Numbers, read from the beginning of bytes.
 use Rattle.std.specs.Prelude.{ℕ, ◌/◌, ◌^◌, ◌==◌, List, Option, Some, None, nat_lt, if◌then◌else◌, ℤ}
 use Rattle.std.specs.Prelude.{pos, negsuc, codes}
 use Rattle.cbor4ii_rw.specs.declared.error.Len.TheVariants.{Indefinite}

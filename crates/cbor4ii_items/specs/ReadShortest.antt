@@ -1,4 +1,4 @@
--- Shortest heads, and strings after them, read off the front of bytes: what the decoders do,
+-- Shortest heads, and strings after them, read from the beginning of bytes: what the decoders do,
 -- without the reader.
 use Rattle.std.specs.Prelude.{ℕ, ◌%◌, ◌==◌, List, [], ◌∷◌, Bool, false, Err, nat_le, if◌then◌else◌}
 use Rattle.cbor4ii_rw.specs.declared.error.Len.TheVariants.{Small}

@@ -1,4 +1,4 @@
--- Strings, read off the front of bytes: what the decoders do, without the reader.
+-- Strings, read from the beginning of bytes: what the decoders do, without the reader.
 use Rattle.std.specs.Prelude.{ℕ, zero, suc, ◌-◌, ◌==◌, List, [], ◌++◌, Bool, true, false, length}
 use Rattle.std.specs.Prelude.{take, drop, Option, Some, None, Ok, Err, nat_lt, if◌then◌else◌, codes}
 use Rattle.cbor4ii_rw.specs.declared.error.Len.TheVariants.{Indefinite}

@@ -1,4 +1,4 @@
--- Programs that read off the front of a list: what the decoders do, without the reader.
+-- Programs that read from the beginning of a list: what the decoders do, without the reader.
 use Rattle.std.specs.Prelude.{◌≡◌, ℕ, List, [], ◌∷◌, Some, Option, Result, Ok, Err, IfSome}
 use Rattle.cbor4ii_rw.specs.View.{View, IfKnown}
 use Rattle.cbor4ii_rw.specs.declared.error.DecodeError.{DecodeError}

@@ -11,8 +11,8 @@ abbrev pub canonical_name : List ℕ
 canonical_name = codes "canonical"
 
 -- the byte begins a string, an array or a map of indefinite length (section 3.2)
-abbrev pub OpensLength : ℕ → ℕ → Type 0
-OpensLength major b = (2 ≤ major) × (major ≤ 5) × (b ≡ indefinite_head major)
+abbrev pub LacksLength : ℕ → ℕ → Type 0
+LacksLength major b = (2 ≤ major) × (major ≤ 5) × (b ≡ indefinite_head major)
 
 -- a head of this major type of the least width that its argument has; over 7 no byte begins one
 abbrev pub ReadsShortest : ℕ → Reads ℕ
@@ -22,9 +22,9 @@ ReadsShortest major xs v n c = (h : ReadsHead major 8 xs v n) × (h.wide ≡ sho
 -- that is longer than needed. What follows the byte, or the head, is left.
 pub data RejectsShortest (name : List ℕ) (major : ℕ) (xs : List ℕ) (budget : Option ℕ)
     (err : InputError) (rest : List ℕ) : Type 0 where
-  shortest_rejected : ((b : ℕ) (bs : List ℕ) → xs ≡ b ∷ bs → ¬ (OpensLength major b))
+  shortest_rejected : ((b : ℕ) (bs : List ℕ) → xs ≡ b ∷ bs → ¬ (LacksLength major b))
       → RejectsHead name major 8 xs err rest → RejectsShortest name major xs budget err rest
-  shortest_indefinite : (b : ℕ) → OpensLength major b → xs ≡ b ∷ rest
+  shortest_indefinite : (b : ℕ) → LacksLength major b → xs ≡ b ∷ rest
       → err ≡ not_canonical canonical_name → RejectsShortest name major xs budget err rest
   too_long : (v n : ℕ) (h : ReadsHead major 8 xs v n) → h.wide ≢ shortest v
       → err ≡ not_canonical canonical_name → rest ≡ drop n xs

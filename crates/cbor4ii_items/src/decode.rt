@@ -27,7 +27,7 @@ pub trait Decodable: Sized {
 
 /// A type whose values are read from a reader.
 pub trait Decode<S: Source>: Decodable {
-    /// Reads one item off the front of what `reader` has left. `alloc` gives what memory the
+    /// Reads one item from the beginning of what `reader` has left. `alloc` gives what memory the
     /// value needs.
     ///
     /// Over any lawful reader, also one that does not report its bytes, and whatever the answer is:

@@ -6,7 +6,7 @@ ghost use Rattle.cbor4ii_items.specs.Magnitude.{number_of};
 ghost use Rattle.cbor4ii_items.specs.Decoding.{Decodes, format_by};
 ghost use Rattle.cbor4ii_items.specs.Reading.{Runs};
 ghost use Rattle.cbor4ii_items.specs.InputError.{is_out_of_memory};
-ghost use Rattle.cbor4ii_items.specs.Floats.{float_bytes, IsInFront, float_at, float_format};
+ghost use Rattle.cbor4ii_items.specs.Floats.{float_bytes, StandsWhole, float_at, float_format};
 ghost use Rattle.cbor4ii_items.specs.Floats.{float_lawful};
 ghost use Rattle.cbor4ii_items.specs.Laws.Formats.{lawful_by};
 ghost use Rattle.cbor4ii_items.specs.Writing.{WritesAtomically};
@@ -57,7 +57,7 @@ fn take_float<S: Source>(
     let size = 1 + bytes as usize;
     let mut failure = None;
     match look(reader, size, &mut failure) {
-        Some(shown) => match in_front(shown, marker, bytes) {
+        Some(shown) => match float_in(shown, marker, bytes) {
             Some(value) => {
                 reader.advance(size);
                 Ok(value)
@@ -68,11 +68,11 @@ fn take_float<S: Source>(
     }
 }
 
-/// The bits of a float that stands whole in front.
+/// The bits of a float that stands whole at the beginning.
 #[inline(always)]
-fn in_front(prefix: &[u8], marker: u8, bytes: u8) -> Option<u64>
+fn float_in(prefix: &[u8], marker: u8, bytes: u8) -> Option<u64>
     requires { bytes ≤ 8 }
-    ensures { IfSome result (IsInFront marker bytes prefix.now) }
+    ensures { IfSome result (StandsWhole marker bytes prefix.now) }
 {
     if prefix.len() <= bytes as usize || prefix[0] != marker {
         return None;

@@ -3,8 +3,9 @@ ghost use Rattle.std.specs.Prelude.{◌≡◌, ◌≢◌, ◌<◌, ◌≤◌, �
 ghost use Rattle.std.specs.Prelude.{IfSome, None};
 ghost use Rattle.cbor4ii_items.specs.Numbers.{shortest_head, integer_bytes, signed_bytes};
 
+use crate::bignum::{NEGATIVE_BIGNUM, POSITIVE_BIGNUM};
 use crate::major;
-use crate::push::{NEGATIVE_BIGNUM, POSITIVE_BIGNUM, beyond, nonnegative};
+use crate::push::{beyond, nonnegative};
 
 /// The major type and the argument of an integer's head. None where it has no head, and is written
 /// as a bignum (section 3.4.3).

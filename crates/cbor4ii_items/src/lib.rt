@@ -2,6 +2,7 @@
 #![tactic(auto)]
 
 mod additional;
+pub mod bignum;
 mod boxed;
 pub mod canonical;
 pub mod decode;
@@ -22,6 +23,7 @@ mod prefix;
 mod push;
 pub mod reserve;
 mod sequences;
+mod shortest_head;
 mod simple;
 mod strings;
 mod tag;

@@ -40,8 +40,8 @@ pub(crate) fn take_head<S: Source>(
     }
 }
 
-/// The argument of the head of this major type that stands whole at the front of `shown`, and the
-/// head's length.
+/// The argument of the head of this major type that stands whole at the beginning of `shown`, and
+/// the head's length.
 #[inline(always)]
 fn whole_head(shown: &[u8], major: u8, width: u8) -> Option<(u64, usize)>
     ensures { IfSome result (λ head. IsWhole major width shown.now head.0 head.1) }

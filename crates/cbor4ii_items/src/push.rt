@@ -1,20 +1,16 @@
 //! Heads and numbers, written.
 ghost use Rattle.std.specs.Prelude.{◌≡◌, ◌<◌, ◌<ℤ◌, ◌≤ℤ◌, ◌++◌, pos, negsuc};
 ghost use Rattle.cbor4ii_items.specs.Writing.{Writes, WritesAtomically};
-ghost use Rattle.cbor4ii_items.specs.Magnitude.{without_leading_zeros};
 ghost use Rattle.cbor4ii_items.specs.Strings.{closing, definite_string, opening};
 ghost use Rattle.cbor4ii_items.specs.Numbers.{shortest_head, signed_head, bignum_bytes};
 ghost use Rattle.cbor4ii_items.specs.Numbers.{integer_bytes, unsigned_bytes, signed_bytes};
 
+use crate::bignum::{NEGATIVE_BIGNUM, POSITIVE_BIGNUM, without_leading_zeros};
 use crate::encode::Encode;
+use crate::shortest_head::push_shortest_head;
 use crate::{major, marker};
 use cbor4ii_rw::error::EncodeError;
 use cbor4ii_rw::write::Write;
-
-/// The tag of a bignum from 0 on (RFC 8949 section 3.4.3).
-pub(crate) const POSITIVE_BIGNUM: u8 = 2;
-/// The tag of a negative bignum: -1 - n for the number n of its bytes.
-pub(crate) const NEGATIVE_BIGNUM: u8 = 3;
 
 /// Writes these bytes in one push.
 #[inline(always)]
@@ -41,24 +37,9 @@ pub(crate) fn push_head<W: Write>(
     ensures { WritesAtomically W.atomic (shortest_head major argument)
         (W.view writer.old) (W.view writer.new) result }
 {
-    let first = 32 * major;
-    // An argument of four or eight bytes is copied as one: byte for byte it is stored in as many
-    // steps.
-    if argument < 24 {
-        push_bytes(writer, &[first + argument as u8])
-    } else if argument < 0x100 {
-        push_bytes(writer, &[first + 24, argument as u8])
-    } else if argument < 0x1_0000 {
-        let [a, b] = (argument as u16).to_be_bytes();
-        push_bytes(writer, &[first + 25, a, b])
-    } else if argument < 0x1_0000_0000 {
-        let mut bytes = [first + 26, 0, 0, 0, 0];
-        bytes[1..].copy_from_slice(&(argument as u32).to_be_bytes());
-        push_bytes(writer, &bytes)
-    } else {
-        let mut bytes = [first + 27, 0, 0, 0, 0, 0, 0, 0, 0];
-        bytes[1..].copy_from_slice(&argument.to_be_bytes());
-        push_bytes(writer, &bytes)
+    match push_shortest_head(writer, major, argument) {
+        Ok(()) => Ok(()),
+        Err(error) => Err(EncodeError::Write(error)),
     }
 }
 
@@ -199,14 +180,4 @@ pub(crate) fn push_headed_item<W: Write, T: Encode>(
 {
     push_head(writer, major, argument)?;
     item.encode(writer)
-}
-
-fn without_leading_zeros(bytes: &[u8]) -> &[u8]
-    ensures { result.now ≡ without_leading_zeros bytes.now }
-{
-    let mut rest = bytes;
-    while let [0, tail @ ..] = rest {
-        rest = tail;
-    }
-    rest
 }

@@ -1,13 +1,17 @@
-//! One item that is read, with what is left of it. `.ci/memory` counts its requests for memory, and
-//! rejects each of them.
-use crate::typed::{Numbers, Typed};
+//! One item that is read, with what is left of it. `.ci/memory` counts its requests for memory and
+//! their bytes, and rejects each of them.
+use crate::made::{Copied, Kept, MadeCanonical, Written};
+use crate::named::{Fields, Variant};
+use crate::typed::{Typed, as_core};
 use crate::values::Item;
-use cbor4ii_rw::error::DecodeError;
+use cbor4ii::serde::Deserializer;
+use cbor4ii_rw::error::{DecodeError, WholeError};
 use cbor4ii_rw::io_reader::IoReader;
 use cbor4ii_rw::slice_reader::SliceReader;
-use cbor4ii_tree::{Canonical, Value};
+use cbor4ii_tree::{Canonical, PlainRawValue, Value};
 use cbor4ii_vectors::rows::ReadFrom;
 use cbor4ii_vectors::streams::FailingStream;
+use cbor4ii_vectors::table;
 use std::alloc::Global;
 use std::fmt::{Debug, InlineText};
 
@@ -19,28 +23,83 @@ pub struct Alone {
     pub left: usize,
 }
 
+/// What an item is read as, or what is made of it.
+#[derive(Clone, Copy)]
+enum Way {
+    Value,
+    Canonical,
+    MadeCanonical,
+    Copied,
+    Kept,
+    Written,
+    Str,
+    Fields,
+    Variant,
+}
+
+const WAYS: &[(&[u8], Way)] = table! {
+    (b"value of a ", Way::Value),
+    (b"canonical of a ", Way::Canonical),
+    (b"made canonical of a ", Way::MadeCanonical),
+    (b"copied of a ", Way::Copied),
+    (b"kept of a ", Way::Kept),
+    (b"written of a ", Way::Written),
+    (b"str of a ", Way::Str),
+    (b"fields of a ", Way::Fields),
+    (b"variant of a ", Way::Variant),
+};
+
 /// Reads the item that follows these words, if it is to be read alone: out of a slice, or of
 /// a stream that shows one byte at a time.
 pub fn read_alone(alloc: Global, input: &[u8]) -> Option<Alone> {
-    if let Some(item) = input.strip_prefix(b"value of a slice:".as_slice()) {
-        return Some(of_slice::<Item<Value>>(alloc, item));
+    if let Some(item) = input.strip_prefix(b"plain of a slice:".as_slice()) {
+        return Some(plain(alloc, item));
     }
-    if let Some(item) = input.strip_prefix(b"canonical of a slice:".as_slice()) {
-        return Some(of_slice::<Item<Canonical>>(alloc, item));
-    }
-    if let Some(item) = input.strip_prefix(b"value of a stream:".as_slice()) {
-        return Some(of_stream::<Item<Value>>(alloc, item));
-    }
-    if let Some(item) = input.strip_prefix(b"canonical of a stream:".as_slice()) {
-        return Some(of_stream::<Item<Canonical>>(alloc, item));
-    }
-    if let Some(item) = input.strip_prefix(b"fields of a slice:".as_slice()) {
-        return Some(of_slice::<Typed<Numbers>>(alloc, item));
-    }
-    if let Some(item) = input.strip_prefix(b"fields of a stream:".as_slice()) {
-        return Some(of_stream::<Typed<Numbers>>(alloc, item));
+    for &(words, way) in WAYS {
+        if let Some(reader) = input.strip_prefix(words) {
+            return read_so(alloc, way, reader);
+        }
     }
     None
+}
+
+// The same of the word for a reader, and what follows it.
+fn read_so(alloc: Global, way: Way, input: &[u8]) -> Option<Alone> {
+    if let Some(item) = input.strip_prefix(b"slice:".as_slice()) {
+        return Some(way_of_slice(alloc, way, item));
+    }
+    if let Some(item) = input.strip_prefix(b"stream:".as_slice()) {
+        return Some(way_of_stream(alloc, way, item));
+    }
+    None
+}
+
+fn way_of_slice(alloc: Global, way: Way, item: &[u8]) -> Alone {
+    match way {
+        Way::Value => of_slice::<Item<Value>>(alloc, item),
+        Way::Canonical => of_slice::<Item<Canonical>>(alloc, item),
+        Way::MadeCanonical => of_slice::<MadeCanonical>(alloc, item),
+        Way::Copied => of_slice::<Copied>(alloc, item),
+        Way::Kept => of_slice::<Kept>(alloc, item),
+        Way::Written => of_slice::<Written>(alloc, item),
+        Way::Str => str_of_slice(alloc, item),
+        Way::Fields => of_slice::<Typed<Fields>>(alloc, item),
+        Way::Variant => of_slice::<Typed<Variant>>(alloc, item),
+    }
+}
+
+fn way_of_stream(alloc: Global, way: Way, item: &[u8]) -> Alone {
+    match way {
+        Way::Value => of_stream::<Item<Value>>(alloc, item),
+        Way::Canonical => of_stream::<Item<Canonical>>(alloc, item),
+        Way::MadeCanonical => of_stream::<MadeCanonical>(alloc, item),
+        Way::Copied => of_stream::<Copied>(alloc, item),
+        Way::Kept => of_stream::<Kept>(alloc, item),
+        Way::Written => of_stream::<Written>(alloc, item),
+        Way::Str => str_of_stream(alloc, item),
+        Way::Fields => of_stream::<Typed<Fields>>(alloc, item),
+        Way::Variant => of_stream::<Typed<Variant>>(alloc, item),
+    }
 }
 
 fn of_slice<T: ReadFrom + Drop>(alloc: Global, item: &[u8]) -> Alone {
@@ -52,7 +111,39 @@ fn of_slice<T: ReadFrom + Drop>(alloc: Global, item: &[u8]) -> Alone {
 fn of_stream<T: ReadFrom + Drop>(alloc: Global, item: &[u8]) -> Alone {
     let mut reader = IoReader::new(FailingStream::new(item, 1, usize::MAX));
     let got = T::read_from(alloc, &mut reader);
-    reported(&got, item.len().saturating_sub(reader.taken() as usize))
+    reported(&got, left_of_stream(&reader, item))
+}
+
+// The call that borrows a text where the reader lends it.
+fn str_of_slice(alloc: Global, item: &[u8]) -> Alone {
+    let mut de = Deserializer::new(SliceReader::new(item));
+    let got = as_core(de.deserialize_str(alloc));
+    reported(&got, de.into_inner().remaining().len())
+}
+
+fn str_of_stream(alloc: Global, item: &[u8]) -> Alone {
+    let mut de = Deserializer::new(IoReader::new(FailingStream::new(item, 1, usize::MAX)));
+    let got = as_core(de.deserialize_str(alloc));
+    reported(&got, left_of_stream(&de.into_inner(), item))
+}
+
+fn left_of_stream(reader: &IoReader<FailingStream<'_>>, item: &[u8]) -> usize {
+    item.len().saturating_sub(reader.taken() as usize)
+}
+
+// All of the bytes are to be one item, so that none are left where it is accepted.
+fn plain(alloc: Global, item: &[u8]) -> Alone {
+    match PlainRawValue::new(alloc, item) {
+        Ok(_) => Alone {
+            refusal: None,
+            left: 0,
+        },
+        Err(WholeError::Decode(error)) => reported(&Err::<(), _>(error), 0),
+        Err(WholeError::Trailing(left)) => Alone {
+            refusal: None,
+            left,
+        },
+    }
 }
 
 fn reported<T, E: Debug>(got: &Result<T, DecodeError<E>>, left: usize) -> Alone {

@@ -14,30 +14,35 @@ use cbor4ii_vectors::streams::FailingStream;
 use cbor4ii_vectors::table;
 use std::collections::BTreeMap;
 
-// 2^63 and 2^64 - 1 items or pairs, of which none or one key comes.
+// 2^16, 2^63 and 2^64 - 1 items or pairs, of which none or one key comes.
 const ARRAYS: &[&[u8]] = table! {
+    b"\x9a\x00\x01\x00\x00",
     b"\x9b\x80\x00\x00\x00\x00\x00\x00\x00",
     b"\x9b\xff\xff\xff\xff\xff\xff\xff\xff",
 };
 
 const MAPS: &[&[u8]] = table! {
+    b"\xba\x00\x01\x00\x00",
     b"\xbb\x80\x00\x00\x00\x00\x00\x00\x00",
     b"\xbb\xff\xff\xff\xff\xff\xff\xff\xff\x00",
 };
 
 const MAPS_OF_TEXTS: &[&[u8]] = table! {
+    b"\xba\x00\x01\x00\x00",
     b"\xbb\x80\x00\x00\x00\x00\x00\x00\x00",
     b"\xbb\xff\xff\xff\xff\xff\xff\xff\xff\x61a",
 };
 
-// Texts of 2^60 and of 2^63 - 1 bytes, of which none or one comes.
+// Texts of 2^16, of 2^60 and of 2^63 - 1 bytes, of which none or one comes.
 const TEXTS: &[&[u8]] = table! {
+    b"\x7a\x00\x01\x00\x00",
     b"\x7b\x10\x00\x00\x00\x00\x00\x00\x00",
     b"\x7b\x7f\xff\xff\xff\xff\xff\xff\xff\x61",
 };
 
-// 2^60 bytes.
+// 2^16 and 2^60 bytes.
 const BYTES: &[&[u8]] = table! {
+    b"\x5a\x00\x01\x00\x00",
     b"\x5b\x10\x00\x00\x00\x00\x00\x00\x00",
 };
 

@@ -1,10 +1,13 @@
 //! Rows of items that are borrowed from the input, or copied where a reader does not lend them.
 use crate::read::{Left, Meant, reads_over};
 use crate::tally::{Broken, Tally};
+use crate::typed::{Typed, answer};
 use crate::values::value;
+use cbor4ii::serde::{Deserialize, Deserializer};
 use cbor4ii_items::types::{Bytes, Map, UncheckedStr};
-use cbor4ii_rw::error::EncodeError;
+use cbor4ii_rw::error::{DecodeError, EncodeError};
 use cbor4ii_rw::io_reader::IoReader;
+use cbor4ii_rw::long::FillLong;
 use cbor4ii_rw::segment_reader::SegmentReader;
 use cbor4ii_rw::slice_reader::SliceReader;
 use cbor4ii_tree::{BoxedRawValue, NoMemory, RawValue, Value};
@@ -146,6 +149,17 @@ const KEPT: &[LentRow] = table! {
 
 const PAIR: &[u8] = b"\x82\x01\x02\x03";
 
+impl<S: FillLong> ReadBy<S> for Typed<BoxedRawValue> {
+    fn read_by(alloc: Global, reader: &mut S) -> Result<Self, DecodeError<S::Error>> {
+        answer(BoxedRawValue::deserialize(alloc, &mut Deserializer::new(reader)))
+    }
+}
+
+// The same as a typed value.
+const TYPED: &[LentRow] = table! {
+    (PAIR, &[b"\x82\x01\x02", b"\x03"], "Typed(BoxedRawValue([130, 1, 2]))", b"\x03"),
+};
+
 // Two of them in an array.
 const BOTH_KEPT: &[LentRow] = table! {
     (BOTH, &[BOTH], "Lent([BoxedRawValue([24, 5]), BoxedRawValue([128])])", b"\x03"),
@@ -165,9 +179,10 @@ const MEMBERS: &[u8] = b"\xa1\x63bar\xa1\x65value\x18\x99";
 const MEMBERS_SHOWN: &str =
     "Lent(Map([(\"bar\", BoxedRawValue([161, 101, 118, 97, 108, 117, 101, 24, 153]))]))";
 
-/// Items that are kept as a copy of their bytes: the item was taken where memory is rejected.
+/// Items that are kept as a copy of their bytes: the item was taken where memory is refused.
 pub fn kept(tally: &mut Tally) -> Result<(), Broken> {
     lends::<Lent<BoxedRawValue>>(tally, "BoxedRawValue", Left::TheRest, KEPT)?;
+    lends::<Typed<BoxedRawValue>>(tally, "typed BoxedRawValue", Left::TheRest, TYPED)?;
     lends::<Lent<Vec<BoxedRawValue>>>(tally, "Vec of BoxedRawValue", Left::AnEnd, BOTH_KEPT)?;
     lends::<KeptMembers>(tally, "Map of BoxedRawValue", Left::AnEnd, KEPT_MEMBERS)?;
     if let Some(value) = value(tally, b"\x9f\x18\x05\xff")? {

@@ -1,7 +1,7 @@
 //! Reads and writes rows of each kind of value that takes memory, and says whether they hold.
 //!
 //! It is run in ordinary memory, and once for each of its allocations, with that one refused. The
-//! word on standard input says which it is: `plain`, where no row may want memory, or `rejected`,
+//! word on standard input says which it is: `plain`, where no row may want memory, or `refused`,
 //! where it is refused once. `lengths` tries the rows of false lengths alone, in ordinary memory,
 //! and `levels` those of many levels, for which .ci/memory gives the stack. `value of a slice:` and
 //! its like, with an item after it, reads that item alone.
@@ -20,6 +20,8 @@ mod lendable;
 mod lengths;
 mod lent;
 mod levels;
+mod made;
+mod named;
 mod read;
 mod room;
 mod tally;
@@ -105,6 +107,7 @@ fn value_rows(tally: &mut Tally) -> Result<(), Broken> {
     values::refused(tally)?;
     values::copies(tally)?;
     values::bignums(tally)?;
+    values::equal_keys(tally)?;
     lent::kept(tally)?;
     lent::strings(tally)
 }

@@ -24,12 +24,12 @@ pub type RefusedRow = (&'static [u8], &'static str, &'static [u8]);
 /// A row of calls: its name, the call, and then as `Row`.
 pub type CallRow<C> = (&'static str, C, &'static [u8], &'static str, &'static [u8]);
 
-/// Calls that are told apart by a value, so that they are tried by one function over each reader.
+/// Calls that differ by a value, so that they are tried by one function over each reader.
 pub trait Calls: Copy {
     /// What they answer.
     type Answer: Debug + Drop;
 
-    /// Makes the call at the front of what `reader` has left.
+    /// Makes the call at the beginning of what `reader` has left.
     fn call<S: Source>(
         self,
         alloc: Global,
@@ -81,7 +81,7 @@ pub fn reads_rows<T: ReadFrom + Debug + Drop>(
     Ok(())
 }
 
-/// As `reads_rows`, of a type that takes no memory: it is rejected none.
+/// As `reads_rows`, of a type that takes no memory: none is refused to it.
 pub fn reads_in_place<T: ReadFrom + Debug + Drop>(
     tally: &mut Tally,
     row: &'static str,

@@ -17,7 +17,7 @@ impl Broken {
     }
 }
 
-/// Gives the rows their memory, and counts how often it was rejected to them.
+/// Gives the rows their memory, and counts how often it was refused to them.
 #[derive(Drop)]
 pub struct Tally {
     alloc: Global,
@@ -45,7 +45,7 @@ impl Tally {
         self.refusals
     }
 
-    /// The parts after one another, each so many times. None where memory is rejected for them,
+    /// The parts after one another, each so many times. None where memory is refused for them,
     /// which is counted.
     pub fn joined(&mut self, parts: &[(&[u8], usize)]) -> Option<Vec<u8>> {
         let mut bytes = Vec::new(self.alloc);

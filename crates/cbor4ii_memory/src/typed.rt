@@ -27,7 +27,8 @@ pub fn as_core<T, E>(got: Result<T, serde::DecodeError<E>>) -> Result<T, DecodeE
     }
 }
 
-fn answer<T, E>(got: Result<T, serde::DecodeError<E>>) -> Result<Typed<T>, DecodeError<E>> {
+/// The answer of calls, as what they read.
+pub fn answer<T, E>(got: Result<T, serde::DecodeError<E>>) -> Result<Typed<T>, DecodeError<E>> {
     match as_core(got) {
         Ok(value) => Ok(Typed(value)),
         Err(error) => Err(error),
@@ -135,7 +136,7 @@ impl ReadFrom for Typed<Fields> {
 pub type Numbers = (Option<u8>, Option<u8>);
 
 /// The longest name that the first look shows with its head: of 23 bytes.
-const LONGEST: &str = "abcdefghijklmnopqrstuvw";
+pub const LONGEST: &str = "abcdefghijklmnopqrstuvw";
 
 impl ReadFrom for Typed<Numbers> {
     fn read_from<S: Source>(alloc: Global, reader: &mut S) -> Result<Self, DecodeError<S::Error>> {

@@ -1,4 +1,4 @@
-//! Rows of whole items, of their copies, and of bignums that become tags.
+//! Rows of whole items, of their copies, of bignums that become tags, and of equal keys.
 use crate::debug_text::has_debug_text;
 use crate::read::{RefusedRow, Row, reads_in_place, reads_rows, refuses_rows};
 use crate::tally::{Broken, Tally};
@@ -124,7 +124,7 @@ pub fn values(tally: &mut Tally) -> Result<(), Broken> {
     reads_in_place::<Item<IgnoredAny>>(tally, "IgnoredAny", SKIPPED)
 }
 
-/// The value of these bytes. None where memory is rejected for it, which is counted.
+/// The value of these bytes. None where memory is refused for it, which is counted.
 pub fn value(tally: &mut Tally, bytes: &[u8]) -> Result<Option<Value>, Broken> {
     match Value::decode(tally.alloc(), &mut SliceReader::new(bytes)) {
         Ok(value) => Ok(Some(value)),
@@ -142,7 +142,7 @@ const COPIED: &[(&[u8], &str)] = table! {
     (b"\xa1\x61a\x81\x20", "Map([(Text(\"a\"), Array([Integer(-1)]))])"),
 };
 
-/// A copy is the same value, and what is copied stays as it was, also where memory is rejected.
+/// A copy is the same value, and what is copied stays as it was, also where memory is refused.
 pub fn copies(tally: &mut Tally) -> Result<(), Broken> {
     for (bytes, text) in COPIED {
         if let Some(value) = value(tally, bytes)? {
@@ -169,8 +169,16 @@ fn is_copied(tally: &mut Tally, value: &Value, text: &str) -> Result<(), Broken>
 // An array of 2^64, which becomes a tag on its bytes.
 const TAGGED: &str = "Canonical(Array([Tag(2, Bytes([1, 0, 0, 0, 0, 0, 0, 0, 0]))]))";
 
-/// Integers beyond 64 bits become tags, or memory is rejected for them.
+// {1: "a", [-2]: h'01', 1("b"): 2.0}: no integer is beyond 64 bits.
+const UNTAGGED: &[u8] = b"\xa3\x01\x61a\x81\x21\x41\x01\xc1\x61b\xf9\x40\x00";
+
+/// Integers beyond 64 bits become tags, or memory is refused for them. A value without takes none.
 pub fn bignums(tally: &mut Tally) -> Result<(), Broken> {
+    if let Some(value) = value(tally, UNTAGGED)? {
+        if Canonical::try_from_value(tally.alloc(), value).is_err() {
+            return Err(Broken::new("Canonical::try_from_value", "it takes memory for no tag"));
+        }
+    }
     let mut items = Vec::new(tally.alloc());
     if items.push(Value::Integer(18446744073709551616)).is_err() {
         tally.refuse();
@@ -179,6 +187,49 @@ pub fn bignums(tally: &mut Tally) -> Result<(), Broken> {
     match Canonical::try_from_value(tally.alloc(), Value::Array(items)) {
         Ok(canonical) if has_debug_text(&canonical, &[(TAGGED, 1)]) => {}
         Ok(_) => return Err(Broken::new("Canonical::try_from_value", "it is another value")),
+        Err(NoMemory) => tally.refuse(),
+    }
+    Ok(())
+}
+
+// Maps by one level and by each: whether two of their keys are equal, in the map and within it.
+const KEYS: &[(&[u8], bool, bool)] = table! {
+    (b"\xa2\x01\xf6\x01\xf6", true, true),
+    (b"\xa2\x01\xf6\x02\xf6", false, false),
+    (b"\xa2\x01\x81\xa2\x61a\xf6\x61a\xf6\x02\xf6", false, true),
+};
+
+/// Equal keys are found, or memory is refused for the references to them.
+pub fn equal_keys(tally: &mut Tally) -> Result<(), Broken> {
+    for (bytes, one, any) in KEYS {
+        if let Some(value) = value(tally, bytes)? {
+            is_found(
+                tally,
+                "try_has_equal_keys",
+                value.try_has_equal_keys(),
+                *one,
+            )?;
+            let found = value.try_has_equal_keys_at_any_level();
+            is_found(tally, "try_has_equal_keys_at_any_level", found, *any)?;
+        }
+    }
+    if let Some(value) = value(tally, b"\xa1\x01\x81\xa1\x01\xf6")? {
+        if value.try_has_equal_keys_at_any_level().is_err() {
+            return Err(Broken::new("maps of one pair", "memory is taken for one key"));
+        }
+    }
+    Ok(())
+}
+
+fn is_found(
+    tally: &mut Tally,
+    row: &'static str,
+    found: Result<bool, NoMemory>,
+    want: bool,
+) -> Result<(), Broken> {
+    match found {
+        Ok(found) if found == want => {}
+        Ok(_) => return Err(Broken::new(row, "it is the other answer")),
         Err(NoMemory) => tally.refuse(),
     }
     Ok(())

@@ -1,4 +1,4 @@
-//! How a value is written into a buffer, which keeps what it held where memory is rejected, and
+//! How a value is written into a buffer, which keeps what it held where memory is refused, and
 //! into memory that is there.
 use crate::tally::{Broken, Tally};
 use cbor4ii_rw::buf_writer::BufWriter;
@@ -20,8 +20,8 @@ pub fn writes_rows<T: WriteTo>(tally: &mut Tally, rows: &[WriteRow<T>]) -> Resul
     Ok(())
 }
 
-/// Writes the value into memory that is there, where nothing is rejected, and then after a byte
-/// that stands in a buffer which has no room for more. Where memory is rejected, that byte and a
+/// Writes the value into memory that is there, where nothing is refused, and then after a byte
+/// that stands in a buffer which has no room for more. Where memory is refused, that byte and a
 /// prefix of the value's bytes stand there; after them is room for what is written again.
 pub fn writes<T: WriteTo>(
     tally: &mut Tally,
@@ -51,7 +51,7 @@ pub fn writes<T: WriteTo>(
     }
 }
 
-// Writes the value into an empty buffer that rejected a push before.
+// Writes the value into an empty buffer that refused a push before.
 fn writes_again<T: WriteTo>(
     row: &'static str,
     value: &T,

@@ -280,7 +280,7 @@ pub fn long_texts(tally: &mut Tally) -> Result<(), Broken> {
     }
 }
 
-/// A typed value after what a vector holds: the vector is lost where memory is rejected.
+/// A typed value after what a vector holds: the vector is lost where memory is refused.
 pub fn whole(tally: &mut Tally) -> Result<(), Broken> {
     let Ok(held) = Vec::from_slice(tally.alloc(), b"\xff") else {
         tally.refuse();

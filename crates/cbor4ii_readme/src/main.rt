@@ -3,14 +3,15 @@
 
 ghost use Rattle.std.specs.Prelude.{◌≡◌, codes};
 ghost use Rattle.std.proofs.Common.{refl};
+ghost use Rattle.cbor4ii.specs.CodecAgrees.{as_described};
 ghost use Rattle.cbor4ii.specs.CodecFields.{struct_codec, with_field, no_fields};
 ghost use Rattle.cbor4ii.specs.Fields.{no_values};
 
 use cbor4ii::dec::Source;
 use cbor4ii::enc::Write;
 use cbor4ii::serde::{
-    DecodeError, Described, Deserialize, Deserializer, EncodeError, Required, Serialize,
-    Serializer, Typed, from_slice, to_vec,
+    AsDescribed, DecodeError, Described, Deserialize, Deserializer, EncodeError, Required,
+    Serialize, Serializer, Typed, from_slice, to_vec,
 };
 use std::alloc::Global;
 use std::process::ExitCode;
@@ -55,6 +56,10 @@ impl Described for City {
         (with_field (codes "people") (codes "a city has people") ⟦<u32 as Described>⟧.codec
         (with_field (codes "name") (codes "a city has a name") ⟦<String as Described>⟧.codec
         no_fields refl) refl) refl };
+}
+
+impl AsDescribed for City {
+    ghost agrees = { as_described tt };
 }
 
 fn there_and_back(alloc: Global) -> Option<(Vec<u8>, City)> {

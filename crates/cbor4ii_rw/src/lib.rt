@@ -1,6 +1,6 @@
 //! Readers, writers and errors of a CBOR codec (RFC 8949).
 //!
-//! A reader is a `read::Source`: it shows a prefix of what is left, takes bytes when told to, and
+//! A reader is a `read::Source`: it shows a prefix of what is left, takes bytes when asked to, and
 //! counts steps. One that may lend slices of its input is a `read::Read` too. A writer is a
 //! `write::Write`. What makes them lawful stands in their clauses, in the words of specs/.
 #![tactic(auto)]

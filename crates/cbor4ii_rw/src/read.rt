@@ -1,6 +1,6 @@
 //! What a reader is.
 //!
-//! A reader shows a prefix of what is left, and takes bytes only when it is told to advance. It
+//! A reader shows a prefix of what is left, and takes bytes only when it is asked to advance. It
 //! also counts the steps that nested items take (RFC 8949 section 10 leaves the limit to the
 //! decoder), so that hostile input cannot drive a recursion as deep as it likes.
 ghost use Rattle.std.specs.Prelude.{◌≡◌, ◌≤◌, ◌↔◌, length, take, IsTrue, IfOk, MatchResult};
@@ -78,9 +78,10 @@ pub trait Source {
             (λ shown. Shows shown.now (view self.old) (view new))
             (λ _. ReaderFails (view self.old) (view new)))) };
 
-    /// How many bytes a look may ask for where fewer would do, one at least. Only a reader that
-    /// waits for no byte because more are wanted, and rejects none, answers more than 1; one that
-    /// shows what it has, whatever is wanted, answers the greatest number.
+    /// How many bytes a look for a value of the tree, or for several, may ask for where fewer would
+    /// do, one at least. Only a reader that waits for no byte because more are wanted, and rejects
+    /// none, answers more than 1. One that shows what it has, whatever is wanted, answers the
+    /// greatest number. Heads, names of fields and skipping ask for a constant number in its place.
     fn window(&self) -> usize
         ensures { 1 ≤ result }
     {

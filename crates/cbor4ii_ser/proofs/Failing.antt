@@ -44,8 +44,9 @@ answered_is (Some u) left p = sym p
 answered_is None left p = refl
 
 -- the slot has the whole answer, where it said that all went well before
-pub told : {E : Type 0} {atomic : Bool} {a : Encoding} {old new : Output} (o : Option (Unit {0}))
+pub from_slot : {E : Type 0} {atomic : Bool} {a : Encoding} {old new : Output} (o : Option
+    (Unit {0}))
     (left : Result (Unit {0}) (EncodeError E)) → IfSome o (λ _. left ≡ Ok tt)
     → Serializes atomic a old new (answered o left) → Serializes atomic a old new left
-told {atomic = atomic} {a = a} {old = old} {new = new} o left kept p =
+from_slot {atomic = atomic} {a = a} {old = old} {new = new} o left kept p =
     subst (λ r. Serializes atomic a old new r) (answered_is o left kept) p

@@ -1,7 +1,7 @@
 -- What a serializing call leaves in the writer.
 use Rattle.std.specs.Prelude.{◌≡◌, Bool, Option, Some, None, Result, Ok, OnOk, OnErr, IfErr}
 use Rattle.std.specs.Prelude.{IsTrue}
-use Rattle.cbor4ii_rw.specs.Reader.{Failed}
+use Rattle.cbor4ii_rw.specs.Reader.{Failed, Keeps}
 use Rattle.cbor4ii_rw.specs.Writer.{Output, Appends}
 use Rattle.cbor4ii_items.specs.Writing.{AppendsPrefix}
 use Rattle.cbor4ii_ser.specs.Item.{Encoding, bytes_written, IsEncodedAnd, IsRejectedAnd}
@@ -31,6 +31,10 @@ pub record Serializes {T E : Type 0} (atomic : Bool) (item : Encoding) (old new 
   pub failed : IfErr answer (Blames item old new)
   pub prefix : IsTrue atomic
       → OnErr answer (AppendsPrefix (bytes_written item) old.written new.written)
+
+-- in one push: where the call failed, known bytes of an atomic writer are as they were
+abbrev pub AllOrNothing : {T E : Type 0} → Bool → Output → Output → Result T E → Type 0
+AllOrNothing atomic old new answer = IsTrue atomic → OnErr answer (Keeps old.written new.written)
 
 -- where the answer is a text, the value is rejected in these words
 abbrev pub SaysWhy : {E : Type 0} → Encoding → EncodeError E → Type 0

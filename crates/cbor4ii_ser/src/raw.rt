@@ -1,5 +1,6 @@
 //! Items that are kept as their bytes.
 ghost use Rattle.cbor4ii_tree.specs.BoxedRaw.{boxed_content};
+ghost use Rattle.cbor4ii_tree.specs.PlainRaw.{plain_raw_content};
 ghost use Rattle.cbor4ii_tree.specs.Raw.{raw_content};
 ghost use Rattle.cbor4ii_ser.specs.Item.{encoded};
 
@@ -7,11 +8,20 @@ use crate::error::EncodeError;
 use crate::serialize::Serialize;
 use crate::serializer::Serializer;
 use cbor4ii_rw::write::Write;
-use cbor4ii_tree::{BoxedRawValue, RawValue};
+use cbor4ii_tree::{BoxedRawValue, PlainRawValue, RawValue};
 
 /// The item as it stands, in one push.
 impl<'a> Serialize for RawValue<'a> {
     ghost encoding = { λ v. encoded (raw_content v) };
+
+    fn serialize<W: Write>(&self, ser: &mut Serializer<W>) -> Result<(), EncodeError<W::Error>> {
+        ser.put(self)
+    }
+}
+
+/// The item as it stands, in one push.
+impl<'a> Serialize for PlainRawValue<'a> {
+    ghost encoding = { λ v. encoded (plain_raw_content v) };
 
     fn serialize<W: Write>(&self, ser: &mut Serializer<W>) -> Result<(), EncodeError<W::Error>> {
         ser.put(self)

@@ -3,14 +3,15 @@
 //! Where a writer has a large error, an answer that holds one is large too, and each call clears
 //! and fills the room that it takes. So these answer only whether they wrote. Where they did not,
 //! the whole answer goes through a reference. What pushes is out of line, since each push takes
-//! room in the frame that it stands in.
+//! room in the frame that it stands in. For the same reason heads are not written by
+//! `cbor4ii_items`, whose answer holds the writer's error.
 ghost use Rattle.std.specs.Prelude.{◌≡◌, ◌<◌, ◌≤◌, ◌∷◌, [], ◌++◌, Err, IfNone, IfSome, IsErr};
 ghost use Rattle.cbor4ii_rw.specs.declared.error.EncodeError.TheVariants.{Write};
 ghost use Rattle.cbor4ii_items.specs.Numbers.{shortest_head};
 ghost use Rattle.cbor4ii_items.specs.Strings.{definite_string};
 ghost use Rattle.cbor4ii_ser.specs.Item.{encoded, followed, variant_head, variant_encoding};
 ghost use Rattle.cbor4ii_ser.specs.Item.{tuple_variant_encoding};
-ghost use Rattle.cbor4ii_ser.specs.Serializing.{Serializes, answered, output};
+ghost use Rattle.cbor4ii_ser.specs.Serializing.{Serializes, AllOrNothing, answered, output};
 ghost use Rattle.cbor4ii_ser.specs.declared.error.EncodeError.TheVariants.{Core};
 
 use crate::error::EncodeError;
@@ -48,6 +49,8 @@ fn push<W: Write>(
 ) -> Option<()>
     ensures writes { Serializes W.atomic (encoded bytes.now)
         (W.view writer.old) (W.view writer.new) (answered result answer.new) }
+    ensures whole { AllOrNothing W.atomic (W.view writer.old) (W.view writer.new)
+        (answered result answer.new) }
     ensures failed { IfNone result (IsErr answer.new) }
     ensures kept { IfSome result (λ _. answer.new ≡ answer.old) }
 {
@@ -71,6 +74,8 @@ pub(crate) fn push_head_apart<W: Write>(
     requires { major < 8 }
     ensures writes { Serializes W.atomic (encoded (shortest_head major argument))
         (W.view writer.old) (W.view writer.new) (answered result answer.new) }
+    ensures whole { AllOrNothing W.atomic (W.view writer.old) (W.view writer.new)
+        (answered result answer.new) }
     ensures failed { IfNone result (IsErr answer.new) }
     ensures kept { IfSome result (λ _. answer.new ≡ answer.old) }
 {
@@ -88,6 +93,8 @@ fn push_head<W: Write>(
     requires { major < 8 }
     ensures writes { Serializes W.atomic (encoded (shortest_head major argument))
         (W.view writer.old) (W.view writer.new) (answered result answer.new) }
+    ensures whole { AllOrNothing W.atomic (W.view writer.old) (W.view writer.new)
+        (answered result answer.new) }
     ensures failed { IfNone result (IsErr answer.new) }
     ensures kept { IfSome result (λ _. answer.new ≡ answer.old) }
 {
@@ -110,6 +117,8 @@ fn push_long_head<W: Write>(
     requires long { 24 ≤ argument }
     ensures writes { Serializes W.atomic (encoded (shortest_head major argument))
         (W.view writer.old) (W.view writer.new) (answered result answer.new) }
+    ensures whole { AllOrNothing W.atomic (W.view writer.old) (W.view writer.new)
+        (answered result answer.new) }
     ensures failed { IfNone result (IsErr answer.new) }
     ensures kept { IfSome result (λ _. answer.new ≡ answer.old) }
 {

@@ -1,4 +1,4 @@
--- Integers at the front of bytes.
+-- Integers at the beginning of bytes.
 use Rattle.std.proofs.Common.{◌≡◌, ℕ, suc, ◌+◌, ◌*◌, List, [], ◌∷◌, ◌++◌, drop, refl, sym, ap}
 use Rattle.std.proofs.Common.{◌∙◌, subst, arith, append_assoc, append-nil}
 use Rattle.cbor4ii_items.specs.Head.{byte_count, additional}
@@ -32,7 +32,7 @@ as_head p P xs rest e =
       count = refl;
     }
 
--- two integers at the front of the same bytes say the same, and neither is longer
+-- two integers at the beginning of the same bytes say the same, and neither is longer
 pub one_head : (p q : IntegerHead) → IsIntegerHead p → IsIntegerHead q → (xs ys : List ℕ)
     → encoding p ++ xs ≡ encoding q ++ ys → (p.major ≡ q.major) × (p.argument ≡ q.argument)
     × (xs ≡ ys)

@@ -10,7 +10,7 @@ use Rattle.cbor4ii_rw.specs.Reader.{Shows, Failed, counts}
 use Rattle.cbor4ii_rw.specs.Writer.{Output, Appends}
 use Rattle.cbor4ii_tool.specs.Item.{Converts, BeginsItem, ItemIsTaken, RejectsAs, IsRow, together}
 use Rattle.cbor4ii_tool.specs.Run.{StandsAt, FaultAt, RunsOver, FailedOrCounted}
-use Rattle.cbor4ii_tool.specs.Steps.{Leaves, StandUpTo, Saw, Done, Fails, MovesFailures, Ran}
+use Rattle.cbor4ii_tool.specs.Steps.{Leaves, StandUpTo, Saw, Done, Fails, Ran}
 use Rattle.cbor4ii_tool.proofs.Items.{same_bytes}
 use Rattle.cbor4ii_tool.specs.declared.command.Command.{Command}
 use Rattle.cbor4ii_tool.specs.declared.fault.Kind.{Kind}
@@ -226,30 +226,6 @@ stopped command at kind start a b c held h i ran taken shows some fails input kn
 
 pub failed_from : (a b c : ℕ) → b ≡ a → Failed b c → Failed a c
 failed_from a b c same failed = subst (λ n. Failed n c) same failed
-
-pub stopped_moves : (command : Command) (at : ℕ) (kind : Kind) (start a b c : View)
-    (held h i : Output) → Ran command start a held h → Shows [] a b → Fails command kind b c h i
-    → MovesFailures (Err (record { at = at; kind = kind })) start c held i
-stopped_moves command at Read start a b c held h i ran shows fails = (
-  failed_from start.failures b.failures c.failures (shows.failures ∙ ran.failures) fails.0,
-  ap
-      (λ (o : Output). o.failures) fails.1 ∙ ran.unfailing,
-)
-stopped_moves command at Write start a b c held h i ran shows fails = (
-  fails.1 ∙ (shows.failures ∙ ran.failures),
-  failed_from held.failures h.failures i.failures
-      ran.unfailing fails.0,
-)
-stopped_moves command at OutOfMemory start a b c held h i ran shows fails = (
-  fails.1 ∙ (shows.failures ∙ ran.failures),
-  ap (λ (o : Output). o.failures) fails.2
-      ∙ ran.unfailing,
-)
-stopped_moves command at _ start a b c held h i ran shows fails = (
-  fails.0 ∙ (shows.failures ∙ ran.failures),
-  ap (λ (o : Output). o.failures) fails.1
-      ∙ ran.unfailing,
-)
 
 -- ---- what is left
 

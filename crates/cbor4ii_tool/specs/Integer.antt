@@ -21,7 +21,7 @@ encoding item = head item.major item.argument item.width
 abbrev pub shortest_encoding : IntegerHead → List ℕ
 shortest_encoding item = head item.major item.argument (shortest item.argument)
 
--- an integer stands at the front of these bytes
+-- an integer stands at the beginning of these bytes
 pub record BeginsInteger (bytes : List ℕ) : Type 0 where
   pub item : IntegerHead
   pub integer : IsIntegerHead item

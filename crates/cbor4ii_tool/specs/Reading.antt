@@ -37,7 +37,7 @@ abbrev pub BeginsNegative : List ℕ → Type 0
 BeginsNegative [] = ⊥
 BeginsNegative (b ∷ bs) = b / 32 ≡ 1
 
--- the integer stands at the front of the bytes xs in some width, and what follows it is left
+-- the integer stands at the beginning of the bytes xs in some width, and what follows it is left
 pub record TakesInteger (integer : Integer) (xs : List ℕ) (new : Option (List ℕ)) : Type 0 where
   pub width : Width
   pub valid : IsIntegerHead (in_width width integer)

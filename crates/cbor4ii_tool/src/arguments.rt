@@ -15,7 +15,7 @@ pub fn words(rt: &(impl Env + AllocGlobal)) -> io::Result<Vec<String>> {
 /// The command that the arguments `words` name; none where they are not one of its words alone.
 pub fn command(words: &[String]) -> Option<Command>
     ensures ints { (result ≡ Some Command.Ints) ↔ Names words.now Command.Ints }
-    ensures canonical_encoding { (result ≡ Some Command.Canon) ↔ Names words.now Command.Canon }
+    ensures canon { (result ≡ Some Command.Canon) ↔ Names words.now Command.Canon }
     ensures lens { (result ≡ Some Command.Lens) ↔ Names words.now Command.Lens }
     ensures strict { (result ≡ Some Command.Strict) ↔ Names words.now Command.Strict }
 {

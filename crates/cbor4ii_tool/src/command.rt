@@ -9,6 +9,7 @@ pub enum Command {
     Canon,
     /// Of each item its length in bytes is written, in decimal and with a newline.
     Lens,
-    /// Values in their canonical encoding, and no other, are written again.
+    /// Values in their canonical encoding, and no other, are written again. A tag's bytes stay, so
+    /// `c2 41 05` is one, beside `05`.
     Strict,
 }

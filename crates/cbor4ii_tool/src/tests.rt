@@ -1,5 +1,5 @@
 //! What no contract says: whole runs over rows of bytes, streams that fail at each read, write and
-//! flush, the texts on standard error, and the exit status. Where memory is rejected, a test ends
+//! flush, the texts on standard error, and the exit status. Where memory is refused, a test ends
 //! with that error, once what was written before is seen to be right.
 mod begun;
 mod items;

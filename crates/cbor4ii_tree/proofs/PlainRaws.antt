@@ -1,9 +1,10 @@
 -- An input that is kept as its bytes, where it is read as a value.
 use Rattle.std.proofs.Common.{◌≡◌, ℕ, List, take, Option, Some, Result, Ok, Err, refl, sym, subst}
 use Rattle.std.specs.Result.{IsErrAnd}
+use Rattle.cbor4ii_rw.specs.View.{View}
 use Rattle.cbor4ii_rw.specs.declared.error.{DecodeError.DecodeError, WholeError.WholeError}
 use Rattle.cbor4ii_rw.specs.declared.error.WholeError.TheVariants.{Decode, Trailing}
-use Rattle.cbor4ii_items.specs.{Decoding.NoneRead, InputError.input_error_of}
+use Rattle.cbor4ii_items.specs.{Decoding.{NoneRead, Decodes}, InputError.input_error_of}
 use Rattle.cbor4ii_items.specs.{Laws.Answering.if_some, Whole.{DecodesWhole, NoneIsWhole, NotBegun}}
 use Rattle.cbor4ii_items.specs.Whole.{Trails}
 use Rattle.cbor4ii_tree.specs.{PlainRaw.{plain_raw_format, ReadsPlainRaw}, Promises.value_format}
@@ -49,3 +50,27 @@ pub rejected : {E : Type 0} (bytes : List ℕ) (w : WholeError (DecodeError E)) 
 rejected bytes w d (Ok p) is = absurd is
 rejected bytes w d (Err x) is =
     subst (λ z. DecodesWhole plain_raw_format bytes (Err z)) (sym is) (at_err bytes w d)
+
+-- ---- at the beginning of a reader
+
+not_read : {E : Type 0} (old new : View) (e : DecodeError E) → Decodes value_format old new (Err e)
+    → Decodes plain_raw_format old new (Err e)
+not_read old new e d = record {
+  moves = record { by = d.moves.by; depth = d.moves.depth };
+  progress = λ some. tt;
+  memory = d.memory;
+  sound = tt;
+  complete = λ exact. record {
+    at = λ xs known.
+        if_some (input_error_of e) (none xs old.budget) ((d.complete exact).at xs known);
+  };
+  rejects = d.rejects;
+  begins = d.begins;
+}
+
+pub not_decoded : {E : Type 0} (old new : View) (e : DecodeError E)
+    → Decodes value_format old new (Err e) → (r : Result PlainRawValue (DecodeError E))
+    → IsErrAnd r (λ x. x ≡ e) → Decodes plain_raw_format old new r
+not_decoded old new e d (Ok p) is = absurd is
+not_decoded old new e d (Err x) is =
+    subst (λ z. Decodes plain_raw_format old new (Err z)) (sym is) (not_read old new e d)

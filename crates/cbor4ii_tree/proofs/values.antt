@@ -1,5 +1,6 @@
 -- What is read as a value, and what is written for one.
 pub mod Calls
+pub mod Asking
 pub mod Gives
 pub mod Heads
 pub mod Leaves
@@ -18,3 +19,5 @@ pub mod Bignums
 pub mod Answered
 pub mod Ends
 pub mod Ordered
+pub mod Exact
+pub mod Keys

@@ -1,7 +1,9 @@
 -- What a value is looked into for: what it holds, and the pairs of a map by their keys.
-use Rattle.std.specs.Prelude.{◌≡◌, ℕ, ℤ, List, Bool, Option, Some, None, if◌then◌else◌, ◌⊎◌}
+use Rattle.std.specs.Prelude.{◌≡◌, ◌≤◌, ℕ, ℤ, List, Bool, Option, Some, None, if◌then◌else◌}
+use Rattle.std.specs.Prelude.{◌⊎◌}
 use Rattle.cbor4ii_tree.specs.Item.{Item, boolean, integer, float, bytes_item, text, sequence}
-use Rattle.cbor4ii_tree.specs.Item.{mapping, tag, Items, Members, no_members, member}
+use Rattle.cbor4ii_tree.specs.Item.{mapping, tag, Items, no_items, item, Members, no_members}
+use Rattle.cbor4ii_tree.specs.Item.{member, member_count}
 use Rattle.cbor4ii_tree.specs.ItemEquality.{item_eq}
 
 -- the truth value, of that kind alone
@@ -63,3 +65,31 @@ HasEqualKeys (member k v ms) = HasKey k ms ⊎ HasEqualKeys ms
 abbrev pub MapHasEqualKeys : Item → Type 0
 MapHasEqualKeys (mapping ms) = HasEqualKeys ms
 MapHasEqualKeys _ = ⊥
+
+-- ---- maps inside
+
+-- two pairs or more
+abbrev pub HasTwoPairs : Members → Type 0
+HasTwoPairs ms = 2 ≤ member_count ms
+
+-- a map of which P holds
+abbrev pub IsMapWith : (Members → Type 0) → Item → Type 0
+IsMapWith P (mapping ms) = P ms
+IsMapWith P _ = ⊥
+
+-- P holds of the value, where it is a map, or of one inside it, at any level: in an array, on a
+-- tag, in a key or in a value
+abbrev mutual
+  pub HasMapWith : (Members → Type 0) → Item → Type 0
+  HasMapWith P (sequence vs) = SomeHasMapWith P vs
+  HasMapWith P (mapping ms) = P ms ⊎ PairHasMapWith P ms
+  HasMapWith P (tag n v) = HasMapWith P v
+  HasMapWith P _ = ⊥
+
+  pub SomeHasMapWith : (Members → Type 0) → Items → Type 0
+  SomeHasMapWith P no_items = ⊥
+  SomeHasMapWith P (item v vs) = HasMapWith P v ⊎ SomeHasMapWith P vs
+
+  pub PairHasMapWith : (Members → Type 0) → Members → Type 0
+  PairHasMapWith P no_members = ⊥
+  PairHasMapWith P (member k v ms) = HasMapWith P k ⊎ (HasMapWith P v ⊎ PairHasMapWith P ms)

@@ -5,14 +5,14 @@ use Rattle.std.specs.Prelude.{false, ◌⊎◌}
 use Rattle.cbor4ii_items.specs.{Head.{IsBytes, break}, Initial.initial}
 use Rattle.cbor4ii_tree.specs.{Cost.{Budget, step_in}, InputError.{InputError, eof, Small}}
 use Rattle.cbor4ii_tree.specs.{InputError.break_name, Runs.{BeginsRun, TakesRun}}
-use Rattle.cbor4ii_tree.specs.{Rejections.{Stopping, Is, NoBreak}, Skipping.{start_of, Leads}}
+use Rattle.cbor4ii_tree.specs.{Rejections.{Rejection, Is, NoBreak}, Skipping.{start_of, Leads}}
 use Rattle.cbor4ii_tree.specs.Skipping.{RejectsSkippingAfter, SkipsItems, RejectsSkippingOne}
 use Rattle.cbor4ii_tree.specs.declared.skip.{initial.After.After, items.Went.Went}
 use Rattle.cbor4ii_tree.specs.declared.skip.items.Went.TheVariants.{Past, Into}
 use Rattle.cbor4ii_tree.specs.declared.{skip.initial.Start.Start, ahead.Among.Among}
 use Rattle.cbor4ii_tree.specs.declared.ahead.Among.TheVariants.{Items, Indefinite}
 use Rattle.cbor4ii_tree.specs.declared.ahead.Ahead.{Ahead, TheVariants.{Run, Head, Break, Unseen}}
-use Rattle.cbor4ii_tree.specs.declared.skip.initial.After.TheVariants as trailing
+use Rattle.cbor4ii_tree.specs.declared.skip.initial.After.TheVariants as after
 use Rattle.cbor4ii_tree.specs.declared.skip.initial.Start.TheVariants as start
 
 -- ---- among what an item stands
@@ -117,7 +117,7 @@ abbrev pub SkipsSome : Among → Budget → List ℕ → ℕ → List ℕ → Ty
 SkipsSome among budget xs n ys =
     (IsIndefinite among × (n ≡ 0) × (xs ≡ break ∷ ys)) ⊎ ((1 ≤ n) × SkipsItems n budget xs ys)
 
-abbrev pub RejectsSome : Among → Budget → Stopping
+abbrev pub RejectsSome : Among → Budget → Rejection
 RejectsSome (Items most) budget = RejectsSkippingOne budget
 RejectsSome Indefinite budget = NoBreak (RejectsSkippingOne budget)
 
@@ -126,14 +126,14 @@ abbrev pub SkipsSomeUnder : Among → Budget → List ℕ → ℕ → List ℕ �
 SkipsSomeUnder among inner xs n ys =
     (budget : Budget) → step_in budget ≡ Some inner → SkipsSome among budget xs n ys
 
-abbrev pub RejectsSomeUnder : Among → Budget → Stopping
+abbrev pub RejectsSomeUnder : Among → Budget → Rejection
 RejectsSomeUnder among inner xs e rest =
     (budget : Budget) → step_in budget ≡ Some inner → RejectsSome among budget xs e rest
 
 -- some were skipped, or the head of one was taken that holds so many
 abbrev pub GoesUnder : Among → Budget → List ℕ → Went → List ℕ → Type 0
 GoesUnder among inner xs (Past n) ys = SkipsSomeUnder among inner xs n ys
-GoesUnder among inner xs (Into n) ys = TakesHead inner xs (trailing.Items n) ys
+GoesUnder among inner xs (Into n) ys = TakesHead inner xs (after.Items n) ys
 
 -- so many were skipped; where it was no break, the bound falls
 abbrev pub CountsSome : Among → ℕ → ℕ → ℕ → Type 0
@@ -153,9 +153,9 @@ abbrev pub EndsOrNot : Among → List ℕ → Bool → List ℕ → Type 0
 EndsOrNot among xs true ys = IsIndefinite among × (xs ≡ break ∷ ys)
 EndsOrNot among xs false ys = (ys ≡ xs) × (IsIndefinite among → NotBreak ys)
 
-abbrev pub RejectsAtEnd : Among → Stopping
+abbrev pub RejectsAtEnd : Among → Rejection
 RejectsAtEnd among xs e rest =
     IsIndefinite among × (xs ≡ []) × Is (eof break_name (Small 1)) [] e rest
 
-abbrev pub NeverRejects : Stopping
+abbrev pub NeverRejects : Rejection
 NeverRejects xs e rest = ⊥

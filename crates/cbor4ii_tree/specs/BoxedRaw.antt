@@ -56,7 +56,7 @@ pub record CopiesItem {E : Type 0} (old new : View)
   pub unmoved : IfErr answer (UnmovedOrLacks old new)
   pub errs : RejectsOnPrefix old answer
   -- want of memory comes after the item
-  pub trailing : IfErr answer (λ error. IsTrue (is_out_of_memory error) →
+  pub after_item : IfErr answer (λ error. IsTrue (is_out_of_memory error) →
       IfKnown old.known (SkippedTo old new))
   -- over a zero-copy reader: exactly as skipping takes an item, or fails
   pub whole : IsExact false old → TakesItem boxed_content old new answer

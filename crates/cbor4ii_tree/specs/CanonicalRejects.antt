@@ -14,7 +14,7 @@ use Rattle.cbor4ii_tree.specs.Cost.{Budget, step_in, cost}
 use Rattle.cbor4ii_tree.specs.InputError.{InputError, eof, unsupported, Small, sign_name, kind_name}
 use Rattle.cbor4ii_tree.specs.InputError.{precision_name, array_name, map_name, tag_name}
 use Rattle.cbor4ii_tree.specs.InputError.{value_name}
-use Rattle.cbor4ii_tree.specs.Rejections.{Stopping, Is, MissingAll, RejectsAtStep, RejectsInCount}
+use Rattle.cbor4ii_tree.specs.Rejections.{Rejection, Is, MissingAll, RejectsAtStep, RejectsInCount}
 use Rattle.cbor4ii_tree.specs.ReadingRejects.{NoUtf8}
 use Rattle.cbor4ii_tree.specs.CanonicalShape.{CanonicalTree}
 
@@ -27,31 +27,31 @@ abbrev pub ShortestAt : ℕ → ℕ → List ℕ → List ℕ → Type 0
 ShortestAt major n xs ys = (n < 2 ^ 64) × (xs ≡ head major n (shortest n) ++ ys)
 
 -- a shortest head, and after it the bytes are rejected as its argument says
-pub record AfterShortest (major : ℕ) (then : ℕ → Stopping) (xs : List ℕ) (e : InputError)
+pub record AfterShortest (major : ℕ) (then : ℕ → Rejection) (xs : List ℕ) (e : InputError)
     (rest : List ℕ) : Type 0 where
   pub argument : ℕ
   pub after : List ℕ
   pub is : ShortestAt major argument xs after
-  pub stopped : then argument after e rest
+  pub rejected : then argument after e rest
 
 -- a head that is rejected, or a shortest one and what is rejected after it
-abbrev pub AtShortest : List ℕ → ℕ → Budget → (ℕ → Stopping) → Stopping
+abbrev pub AtShortest : List ℕ → ℕ → Budget → (ℕ → Rejection) → Rejection
 AtShortest name major budget then xs e rest =
     RejectsShortest name major xs budget e rest ⊎ AfterShortest major then xs e rest
 
 -- a text whose head is rejected, that is cut, or that is no UTF-8, and is consumed
-abbrev pub CanonicalTextRejects : Budget → Stopping
+abbrev pub CanonicalTextRejects : Budget → Rejection
 CanonicalTextRejects budget xs e rest =
     RejectsShortestString (kind_name text_string) 3 xs budget e rest
     ⊎ AfterShortest 3 (NoUtf8 text_string) xs e rest
 
 -- an array, or a map, whose step was taken
-abbrev pub CanonicalArrayRejects : (Budget → Stopping) → Budget → Stopping
+abbrev pub CanonicalArrayRejects : (Budget → Rejection) → Budget → Rejection
 CanonicalArrayRejects rejects budget xs e rest =
     AtShortest array_name 4 budget (RejectsInCount (FitsCanonically budget) (rejects budget))
     xs e rest
 
-abbrev pub CanonicalMapRejects : (Budget → Stopping) → Budget → Stopping
+abbrev pub CanonicalMapRejects : (Budget → Rejection) → Budget → Rejection
 CanonicalMapRejects rejects budget xs e rest =
     AtShortest map_name 5 budget (λ n. RejectsInCount (FitsCanonically budget) (rejects budget)
     (2 * n)) xs e
@@ -59,7 +59,7 @@ CanonicalMapRejects rejects budget xs e rest =
 
 -- Of major type 7, after the byte b, which says so (section 3.3): undefined is not canonical, and
 -- the other simple values never fail.
-abbrev pub CanonicalOtherRejects : Initial → ℕ → Stopping
+abbrev pub CanonicalOtherRejects : Initial → ℕ → Rejection
 CanonicalOtherRejects (starts_simple simple_undefined) b bs e rest =
     Is (not_canonical canonical_name) bs e rest
 CanonicalOtherRejects (starts_bits p) b bs e rest =
@@ -69,7 +69,7 @@ CanonicalOtherRejects _ b bs e rest = ⊥
 
 -- An item of this major type, whose first byte is b. An array or a map asks for one more step
 -- before its head.
-abbrev pub CanonicalRejectsBy : (Budget → Stopping) → Budget → ℕ → ℕ → Stopping
+abbrev pub CanonicalRejectsBy : (Budget → Rejection) → Budget → ℕ → ℕ → Rejection
 CanonicalRejectsBy rejects budget zero b bs e rest =
     RejectsShortest (sign_name unsigned) 0 (b ∷ bs) budget e rest
 CanonicalRejectsBy rejects budget (suc zero) b bs e rest =
@@ -88,19 +88,19 @@ CanonicalRejectsBy rejects budget (suc (suc (suc (suc (suc (suc zero)))))) b bs 
     AtShortest tag_name 6 budget (λ n. rejects budget) (b ∷ bs) e rest
 CanonicalRejectsBy rejects budget _ b bs e rest = CanonicalOtherRejects (initial b) b bs e rest
 
-abbrev pub CanonicalRejectsFrom : (Budget → Stopping) → Budget → Stopping
+abbrev pub CanonicalRejectsFrom : (Budget → Rejection) → Budget → Rejection
 CanonicalRejectsFrom rejects budget [] e rest = Is (eof value_name (Small 1)) [] e rest
 CanonicalRejectsFrom rejects budget (b ∷ bs) e rest =
     CanonicalRejectsBy rejects budget (b / 32) b bs e rest
 
 -- The number bounds how deep items nest, as it does in `ReadingRejects`.
-abbrev pub CanonicalRejectsWithin : ℕ → Budget → Stopping
+abbrev pub CanonicalRejectsWithin : ℕ → Budget → Rejection
 CanonicalRejectsWithin zero budget bs e rest = ⊥
 CanonicalRejectsWithin (suc n) budget bs e rest =
     RejectsAtStep value_name (step_in budget) bs
     (λ inner. CanonicalRejectsFrom (CanonicalRejectsWithin n) inner bs) e rest
 
--- Reading a value from its canonical encoding at the front of the input under the budget fails
+-- Reading a value from its canonical encoding at the beginning of the input under the budget fails
 -- with the error, and leaves the rest.
 abbrev pub CanonicalRejects : List ℕ → Budget → InputError → List ℕ → Type 0
 CanonicalRejects input budget e rest =

@@ -5,13 +5,13 @@ use Rattle.std.specs.Prelude.{IfSome, IsTrue, Bool, true, false, ◌+◌, ◌≤
 use Rattle.cbor4ii_rw.specs.{Reader.KeepsAllButBudget, View.{View, IfKnown}}
 use Rattle.cbor4ii_rw.specs.declared.error.DecodeError.{DecodeError, TheVariants.OutOfMemory}
 use Rattle.cbor4ii_items.specs.{InputError.{input_error_of, is_out_of_memory}, Moves.Moves}
-use Rattle.cbor4ii_tree.specs.{Cost.Budget, Rejections.Stopping}
+use Rattle.cbor4ii_tree.specs.{Cost.Budget, Rejections.Rejection}
 
 -- the bytes before, the value, and the bytes after what was taken
 abbrev pub Accepting : Type 0 → Type 1
 Accepting V = List ℕ → V → List ℕ → Type 0
 
-pub record Does {V E : Type 0} (accepts : Accepting V) (rejects : Stopping)
+pub record Does {V E : Type 0} (accepts : Accepting V) (rejects : Rejection)
     (old new : View) (answer : Result V (DecodeError E)) : Type 0 where
   pub moves : Moves old new answer
   pub ok : IfOk answer (λ v. IfKnown old.known (λ xs.
@@ -20,7 +20,7 @@ pub record Does {V E : Type 0} (accepts : Accepting V) (rejects : Stopping)
       (ys : List ℕ) × (new.known ≡ Some ys) × rejects xs z ys)))
 
 -- the same of what is accepted and fails under a budget, here the reader's own
-abbrev pub DoesUnder : {V E : Type 0} → (Budget → Accepting V) → (Budget → Stopping) →
+abbrev pub DoesUnder : {V E : Type 0} → (Budget → Accepting V) → (Budget → Rejection) →
     View → View → Result V (DecodeError E) → Type 0
 DoesUnder accepts rejects old new answer =
     Does (accepts old.budget) (rejects old.budget) old new answer
@@ -31,13 +31,13 @@ Spares answer = IfErr answer (λ e. is_out_of_memory e ≡ false)
 
 -- Such a call over the reader's own bytes or over lent ones, which stand apart from the reader. No
 -- growth is refused, and a reader that is apart keeps all but its budget.
-pub record DoesApart {V E : Type 0} (accepts : Budget → Accepting V) (rejects : Budget → Stopping)
-    (leads : ℕ → ℕ → V → Type 0) (apart : Bool) (outer inner old new : View)
+pub record DoesApart {V E : Type 0} (accepts : Budget → Accepting V) (rejects : Budget → Rejection)
+    (leads : ℕ → ℕ → V → Type 0) (apart : Bool) (reader_old reader_new old new : View)
     (answer : Result V (DecodeError E)) : Type 0 where
   pub does : DoesUnder accepts rejects old new answer
   pub spares : Spares answer
   pub gains : IfOk answer (leads old.bound new.bound)
-  pub stays : IsTrue apart → KeepsAllButBudget outer inner
+  pub stays : IsTrue apart → KeepsAllButBudget reader_old reader_new
 
 -- the bound falls, or may stay
 abbrev pub Lowers : {V : Type 0} → ℕ → ℕ → V → Type 0
@@ -46,16 +46,34 @@ Lowers old new v = new + 1 ≤ old
 abbrev pub MayStay : {V : Type 0} → ℕ → ℕ → V → Type 0
 MayStay old new v = Unit {0}
 
--- what a call of reading promises, by itself or together with the look before it
-pub record Gives {V E : Type 0} (is : V → Type 0)
+-- where a call asks for memory: the views before it, and where a growth is refused
+abbrev pub Asking : Type 1
+Asking = View → View → Type 0
+
+-- it asks for none
+abbrev pub Never : Asking
+Never old new = ⊥
+
+-- no growth is refused but where the call asks for memory
+abbrev pub WantsOnly : {V E : Type 0} → Asking → View → View → Result V (DecodeError E) → Type 0
+WantsOnly asks old new answer = IfErr answer (λ e. IsTrue (is_out_of_memory e) → asks old new)
+
+-- What a call of reading promises, by itself or together with the look before it.
+pub record Gives {V E : Type 0} (asks : Asking) (is : V → Type 0)
     (call : View → View → Result V (DecodeError E) → Type 0) (old new : View)
     (answer : Result V (DecodeError E)) : Type 0 where
   -- which prefix it accepts, and where an error is found
   pub does : call old new answer
+  -- where memory may be refused
+  pub memory : WantsOnly asks old new answer
   -- what it gives is in range, over any reader
   pub ranged : IfOk answer is
   -- the bound falls
   pub gains : IfOk answer (Lowers old.bound new.bound)
+
+-- any value
+abbrev pub Anything : {V : Type 0} → V → Type 0
+Anything v = Unit {0}
 
 -- bytes are taken without a value
 abbrev pub Taking : (Budget → List ℕ → List ℕ → Type 0) → Budget → Accepting (Unit {0})

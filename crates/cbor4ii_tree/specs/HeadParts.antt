@@ -2,7 +2,7 @@
 use Rattle.std.specs.{Prelude.{◌≡◌, ℕ, ◌≤◌, ◌%◌, List, [], ◌∷◌, ◌++◌, length}, Int.bytes_high_first}
 use Rattle.cbor4ii_items.specs.Head.{Width, byte_count, additional, HeadFits, IsBytes}
 use Rattle.cbor4ii_items.specs.{Initial.{Info, wide}, Magnitude.number_of}
-use Rattle.cbor4ii_tree.specs.{InputError.{eof, Small}, Rejections.{Stopping, Is, MissingAll}}
+use Rattle.cbor4ii_tree.specs.{InputError.{eof, Small}, Rejections.{Rejection, Is, MissingAll}}
 
 -- ---- bytes
 
@@ -11,7 +11,7 @@ abbrev pub TakesByte : List ℕ → ℕ → List ℕ → Type 0
 TakesByte bs b after = bs ≡ b ∷ after
 
 -- there is none, and so many are asked for
-abbrev pub NoByte : List ℕ → ℕ → Stopping
+abbrev pub NoByte : List ℕ → ℕ → Rejection
 NoByte name expect bs e rest = (bs ≡ []) × Is (eof name (Small expect)) [] e rest
 
 -- so many bytes were taken
@@ -43,6 +43,6 @@ ArgumentBy (wide w) first bs n after = ArgumentAt w first bs n after
 ArgumentBy _ first bs n after = after ≡ bs
 
 -- the argument is cut
-abbrev pub CutBy : List ℕ → Info → Stopping
+abbrev pub CutBy : List ℕ → Info → Rejection
 CutBy name (wide w) = MissingAll name (byte_count w)
 CutBy name _ = λ bs e rest. ⊥

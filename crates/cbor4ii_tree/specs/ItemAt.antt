@@ -88,6 +88,6 @@ item_within p zero budget bs = Err (eof p.of_item (Small 1), [])
 item_within p (suc n) budget bs =
     stepped p.of_item (step_in budget) bs (λ inner. item_from p (item_within p n) inner bs)
 
--- the tree at the front of the input, and the rest
+-- the tree at the beginning of the input, and the rest
 abbrev pub item_at : Profile → Budget → Parser Tree
 item_at p budget bs = item_within p (suc (length bs)) budget bs

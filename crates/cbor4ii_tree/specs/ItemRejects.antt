@@ -12,7 +12,7 @@ use Rattle.cbor4ii_items.specs.Initial.{starts_simple, starts_bits, other_simple
 use Rattle.cbor4ii_tree.specs.{Cost.{Budget, step_in, cost}, InputError.{InputError, eof, mismatch}}
 use Rattle.cbor4ii_tree.specs.InputError.{unsupported, require_length, require_utf8, Indefinite}
 use Rattle.cbor4ii_tree.specs.InputError.{Small, kind_name, tag_name, break_name}
-use Rattle.cbor4ii_tree.specs.Rejections.{Stopping, Is, Lacks, Missing, AfterHead, AtHead}
+use Rattle.cbor4ii_tree.specs.Rejections.{Rejection, Is, Lacks, Missing, AfterHead, AtHead}
 use Rattle.cbor4ii_tree.specs.Rejections.{RejectsAtStep, Each, RejectsInCount, IndefiniteItems}
 use Rattle.cbor4ii_tree.specs.{Rejections.IndefinitePairs, Tree.{Tree, Trees, bytes_all, Loose}}
 use Rattle.cbor4ii_tree.specs.Tree.{IsChunk, joined_chunks}
@@ -49,7 +49,7 @@ IsNoUtf8 byte_string content = ⊥
 IsNoUtf8 text_string content = ¬ (IsUtf8 content)
 
 -- a string whose content is cut
-abbrev pub CutString : Kind → Width → ℕ → Stopping
+abbrev pub CutString : Kind → Width → ℕ → Rejection
 CutString k w b bs e rest =
     AtHead (kind_name k) (kind_major k) w b (Missing (kind_name k)) bs e rest
 
@@ -76,14 +76,14 @@ no_chunk true k b = require_length (kind_name k) Indefinite
 no_chunk false k b = mismatch (kind_name k) b
 
 -- a chunk that is cut, or none (section 3.2.3)
-abbrev pub ChunkRejectsBy : Kind → Initial → ℕ → Stopping
+abbrev pub ChunkRejectsBy : Kind → Initial → ℕ → Rejection
 ChunkRejectsBy k (starts_string j w) b bs e rest =
     IfSame (same_kind j k) (CutString k w b bs e rest) (Is (mismatch (kind_name k) b) bs e rest)
 ChunkRejectsBy k (starts_chunks j) b bs e rest = Is (no_chunk (same_kind j k) k b) bs e rest
 ChunkRejectsBy k _ b bs e rest = Is (mismatch (kind_name k) b) bs e rest
 
 -- no byte, or no step for the chunk, or a chunk that is rejected
-abbrev pub ChunkRejects : Kind → Budget → Stopping
+abbrev pub ChunkRejects : Kind → Budget → Rejection
 ChunkRejects k budget [] e rest = Is (eof break_name (Small 1)) [] e rest
 ChunkRejects k budget (b ∷ bs) e rest =
     RejectsAtStep (kind_name k) (step_in budget) (b ∷ bs)
@@ -104,7 +104,7 @@ abbrev pub ChunkOf : Bool → Kind → Budget → (Tree → Type 0) → Tree →
 ChunkOf true k budget Whole = ReadableChunk k budget
 ChunkOf false k budget Whole = Whole
 
-abbrev pub RejectsChunk : Bool → Kind → Budget → Stopping → Stopping
+abbrev pub RejectsChunk : Bool → Kind → Budget → Rejection → Rejection
 RejectsChunk true k budget rejects = ChunkRejects k budget
 RejectsChunk false k budget rejects = rejects
 
@@ -115,7 +115,7 @@ OrTested false cut invalid = cut
 -- ---- items
 
 -- After the initial byte b, which says so, under the budget that is left.
-abbrev pub RejectsBy : Profile → (Budget → Stopping) → Budget → Initial → ℕ → Stopping
+abbrev pub RejectsBy : Profile → (Budget → Rejection) → Budget → Initial → ℕ → Rejection
 RejectsBy p rejects budget (starts_int s w) b bs e rest =
     Lacks p.asks (p.of_int s) (byte_count w) bs e rest
 RejectsBy p rejects budget (bad_int s) b bs e rest =
@@ -157,19 +157,19 @@ RejectsBy p rejects budget (starts_bits q) b bs e rest =
 RejectsBy p rejects budget other_simple b bs e rest =
     Is (unsupported p.of_item b) (b ∷ bs) e rest
 
-abbrev pub RejectsFrom : Profile → (Budget → Stopping) → Budget → Stopping
+abbrev pub RejectsFrom : Profile → (Budget → Rejection) → Budget → Rejection
 RejectsFrom p rejects budget [] e rest = Is (eof p.of_item (Small 1)) [] e rest
 RejectsFrom p rejects budget (b ∷ bs) e rest = RejectsBy p rejects budget (initial b) b bs e rest
 
 -- The number bounds how deep items nest. More than the count of the bytes is enough, since each
 -- part stands at least one byte further on.
-abbrev pub RejectsWithin : Profile → ℕ → Budget → Stopping
+abbrev pub RejectsWithin : Profile → ℕ → Budget → Rejection
 RejectsWithin p zero budget bs e rest = ⊥
 RejectsWithin p (suc n) budget bs e rest =
     RejectsAtStep p.of_item (step_in budget) bs
     (λ inner. RejectsFrom p (RejectsWithin p n) inner bs) e rest
 
--- The item at the front of the input is rejected under the budget with the error, and leaves the
--- rest.
+-- The item at the beginning of the input is rejected under the budget with the error, and leaves
+-- the rest.
 abbrev pub Rejects : Profile → List ℕ → Budget → InputError → List ℕ → Type 0
 Rejects p input budget e rest = RejectsWithin p (suc (length input)) budget input e rest

@@ -6,11 +6,12 @@ use Rattle.cbor4ii_rw.specs.declared.error.DecodeError.{DecodeError}
 use Rattle.cbor4ii_items.specs.Head.{ArgumentAfter, HeadFits, IsBytes, Width, byte_count, head}
 use Rattle.cbor4ii_items.specs.Head.{shortest}
 use Rattle.cbor4ii_items.specs.Initial.{simple_byte, simple_undefined}
+use Rattle.cbor4ii_tree.specs.Asking.{Asks, InValue}
 use Rattle.cbor4ii_tree.specs.Cost.{Budget, cost}
-use Rattle.cbor4ii_tree.specs.Does.{Accepting, DoesUnder, Gives, error_left}
+use Rattle.cbor4ii_tree.specs.Does.{Accepting, Asking, DoesUnder, Gives, error_left}
 use Rattle.cbor4ii_tree.specs.Item.{IsItem}
 use Rattle.cbor4ii_tree.specs.Meaning.{value}
-use Rattle.cbor4ii_tree.specs.{Prefix.Offers, Rejections.Stopping}
+use Rattle.cbor4ii_tree.specs.{Prefix.Offers, Rejections.Rejection}
 use Rattle.cbor4ii_tree.specs.CanonicalShape.{CanonicalShape}
 use Rattle.cbor4ii_tree.specs.Tree.{Tree, bytes, Plain}
 use Rattle.cbor4ii_tree.specs.Valuing.{InRange, ReadsUnder, RejectsUnder}
@@ -29,21 +30,21 @@ pub record ExactHead (first number size : ℕ) : Type 0 where
   pub defined : first ≢ simple_byte simple_undefined
   pub least : first / 32 ≢ 7 → size ≡ byte_count (shortest number)
 
--- the encoding of a value, which takes one step, has so many bytes at the front; where exact holds
--- it is the canonical one
+-- the encoding of a value, which takes one step, has so many bytes at the beginning; where exact
+-- holds it is the canonical one
 pub record StandsAhead (exact : Type 0) (v : Value) (size : ℕ) (shown : List ℕ) : Type 0 where
   pub some : 1 ≤ size
   pub within : size ≤ length shown
   pub fresh : IsBytes (take size shown)
   pub item : Tree
   pub plain : Plain item
-  pub strict : exact → CanonicalShape item
+  pub shape : exact → CanonicalShape item
   pub step : cost item ≡ 1
   pub means : value item ≡ view v
   pub ranged : IsItem (view v)
   pub is : take size shown ≡ bytes item
 
--- A string stands whole at the front whose head, of major type 2 or 3, has so many bytes.
+-- A string stands whole at the beginning whose head, of major type 2 or 3, has so many bytes.
 pub record WantsContent (size : ℕ) (shown : List ℕ) : Type 0 where
   pub first : ℕ
   pub trailing : List ℕ
@@ -57,8 +58,7 @@ pub record WantsContent (size : ℕ) (shown : List ℕ) : Type 0 where
   pub fresh : IsBytes (take size shown)
 
 -- A whole head of this major type, of an array, a map or a tag, with this argument stands in so
--- many
--- bytes at the front. Where exact holds it is the shortest.
+-- many bytes at the beginning. Where exact holds it is the shortest.
 pub record HeadStands (exact : Type 0) (major n size : ℕ) (shown : List ℕ) : Type 0 where
   pub nests : (4 ≤ major) × (major ≤ 6)
   pub within : size ≤ length shown
@@ -96,7 +96,7 @@ pub record CanTake (n : Next) (view : View) : Type 0 where
   pub head : IfSome n.head (λ h. (1 ≤ h.size) × (h.size ≤ view.advanceable))
 
 -- as DoesUnder, of a call together with the look before it, which has shown this byte
-abbrev pub DoesAfterFirst : {V E : Type 0} → ℕ → (Budget → Accepting V) → (Budget → Stopping)
+abbrev pub DoesAfterFirst : {V E : Type 0} → ℕ → (Budget → Accepting V) → (Budget → Rejection)
     → View → View → Result V (DecodeError E) → Type 0
 DoesAfterFirst first accepts rejects old new answer =
     (before : View) → ShowsFirst first before old → DoesUnder accepts rejects before new answer
@@ -104,16 +104,22 @@ DoesAfterFirst first accepts rejects old new answer =
 -- as DoesUnder, of a call together with the look before it, which has shown the value that comes
 -- next
 abbrev pub DoesAfterNext : {V E : Type 0} → Bool → Next → (Budget → Accepting V)
-    → (Budget → Stopping) → View → View → Result V (DecodeError E) → Type 0
+    → (Budget → Rejection) → View → View → Result V (DecodeError E) → Type 0
 DoesAfterNext exact n accepts rejects old new answer = (before : View)
     → ShowsNext (exact ≡ true) n before old → DoesUnder accepts rejects before new answer
+
+-- as Asks, of a call together with the look before it
+abbrev pub AsksAfterNext : Bool → Next → (List ℕ → List ℕ → Type 0) → Asking
+AsksAfterNext exact n at old new =
+    (before : View) → ShowsNext (exact ≡ true) n before old → Asks at before new
 
 -- a value was taken, or none and a look has shown it; or there is an error
 abbrev pub TakesLeaf : {E : Type 0} → Bool → View → View → Option Looked → Option (DecodeError E)
     → Type 0
 TakesLeaf exact old new (Some (looked.Begins n)) failure = ShowsNext (exact ≡ true) n old new
 TakesLeaf {E = E} exact old new (Some (Taken v)) failure =
-    Gives {E = E} InRange (DoesUnder (ReadsUnder exact) (RejectsUnder exact)) old new (Ok v)
+    Gives {E = E} (Asks (InValue exact)) InRange (DoesUnder (ReadsUnder exact) (RejectsUnder exact))
+    old new (Ok v)
 TakesLeaf exact old new None failure =
-    Gives InRange (DoesUnder (ReadsUnder exact) (RejectsUnder exact)) old new
+    Gives (Asks (InValue exact)) InRange (DoesUnder (ReadsUnder exact) (RejectsUnder exact)) old new
     (Err (error_left failure))

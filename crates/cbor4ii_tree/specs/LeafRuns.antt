@@ -1,10 +1,13 @@
 -- Runs of values that hold no other, where they stand whole in shown bytes.
 use Rattle.std.specs.Prelude.{◌≡◌, ℕ, ◌+◌, ◌<◌, ◌≤◌, ◌⊎◌, List, [], ◌∷◌, ◌++◌, length, take, drop}
-use Rattle.std.specs.Prelude.{◌-◌, Option, Some, None, OnSome, IfSome, IfNone, Bool, true, Result}
+use Rattle.std.specs.Prelude.{◌-◌, Option, Some, None, OnSome, IfSome, IfNone, IsTrue, Bool, true}
+use Rattle.std.specs.Prelude.{Result}
 use Rattle.std.specs.Prelude.{Ok, Err}
 use Rattle.cbor4ii_rw.specs.View.{View}
 use Rattle.cbor4ii_rw.specs.declared.error.DecodeError.{DecodeError}
 use Rattle.cbor4ii_items.specs.Head.{IsBytes}
+use Rattle.cbor4ii_items.specs.InputError.{is_out_of_memory}
+use Rattle.cbor4ii_tree.specs.Asking.{Asks, InParts}
 use Rattle.cbor4ii_tree.specs.Cost.{Budget, cost, step_in}
 use Rattle.cbor4ii_tree.specs.Does.{Accepting, Does, DoesUnder, Gives, error_left}
 use Rattle.cbor4ii_tree.specs.Item.{AreItems}
@@ -12,7 +15,7 @@ use Rattle.cbor4ii_tree.specs.Leaf.{CanTake, SeesNext, ShowsNext, WantsContent}
 use Rattle.cbor4ii_tree.specs.Meaning.{values}
 use Rattle.cbor4ii_tree.specs.InputError.{value_name}
 use Rattle.cbor4ii_tree.specs.InputError.{eof, Small}
-use Rattle.cbor4ii_tree.specs.Rejections.{Stopping, Is, Each}
+use Rattle.cbor4ii_tree.specs.Rejections.{Rejection, Is, Each}
 use Rattle.cbor4ii_tree.specs.CanonicalShape.{CanonicalShape}
 use Rattle.cbor4ii_tree.specs.Tree.{Tree, Trees, Plain, count, bytes_all}
 use Rattle.cbor4ii_tree.specs.Valuing.{ReadsItems, RejectsItems, flat_values}
@@ -36,8 +39,8 @@ flat pairs = flat_pairs pairs.members.items pairs.key
 abbrev pub IsLeaf : Type 0 → Tree → Type 0
 IsLeaf exact t = Plain t × (cost t ≡ 1) × (exact → CanonicalShape t)
 
--- the encodings of these values have so many bytes at the front
-pub record StandInFront (exact : Type 0) (vs : List Value) (size : ℕ) (shown : List ℕ) : Type 0
+-- the encodings of these values have so many bytes at the beginning
+pub record StandFirst (exact : Type 0) (vs : List Value) (size : ℕ) (shown : List ℕ) : Type 0
   where
     pub within : size ≤ length shown
     pub fresh : IsBytes (take size shown)
@@ -48,12 +51,12 @@ pub record StandInFront (exact : Type 0) (vs : List Value) (size : ℕ) (shown :
     pub ranged : AreItems (items_view vs)
     pub is : take size shown ≡ bytes_all trees
 
--- these values stand in front, and were put after the others
+-- these values stand first, and were put after the others
 pub record PutsAfter (exact : Type 0) (size : ℕ) (shown : List ℕ) (before after : List Value)
     : Type 0 where
   pub new : List Value
   pub is : after ≡ before ++ new
-  pub stand : StandInFront exact new size shown
+  pub stand : StandFirst exact new size shown
 
 -- so many values may be there at most, and these were put after the others
 pub record PutsWhole (exact : Type 0) (full size : ℕ) (shown : List ℕ) (before after : List Value)
@@ -72,22 +75,22 @@ pub record PutsBefore (exact : Type 0) (full size : ℕ) (n : Next) (shown : Lis
 
 -- After some values memory was refused, for the content of a string, whose head is taken, or where
 -- the last of the values was put, which is taken too.
-pub record RejectsMemory (exact : Type 0) (size : ℕ) (shown : List ℕ) : Type 0 where
+pub record RefusedMemory (exact : Type 0) (size : ℕ) (shown : List ℕ) : Type 0 where
   pub values : List Value
   pub taken : ℕ
-  pub stand : StandInFront exact values taken shown
+  pub stand : StandFirst exact values taken shown
   pub at : ((1 ≤ length values) × (size ≡ taken))
       ⊎ ((head : ℕ) × (size ≡ taken + head) × WantsContent head (drop taken shown))
 
--- the values in so many bytes at the front were put after the others, up to so many in all; or the
--- first is left undecided, or memory was refused, or there is no byte
+-- the values in so many bytes at the beginning were put after the others, up to so many in all; or
+-- the first is left undecided, or memory was refused, or there is no byte
 abbrev pub PutsRun : Type 0 → ℕ → List Value → List Value → Ran → List ℕ → Type 0
 PutsRun exact full before after (run.Whole size) shown =
     PutsWhole exact full size shown before after
 PutsRun exact full before after (run.Before n size) shown =
     PutsBefore exact full size n shown before after
 PutsRun exact full before after (run.Begins n) shown = (after ≡ before) × SeesNext exact n shown
-PutsRun exact full before after (run.NoMemory size) shown = RejectsMemory exact size shown
+PutsRun exact full before after (run.NoMemory size) shown = RefusedMemory exact size shown
 PutsRun exact full before after run.End shown = length shown ≡ 0
 
 -- ---- taken
@@ -109,19 +112,19 @@ abbrev pub KeepsItems : List Value → List Value → Type 0
 KeepsItems before after = AreItems (items_view before) → AreItems (items_view after)
 
 -- values are put after others, up to so many in all
-abbrev pub GivesItems : {E : Type 0} → (List Value → List Value → Budget → Accepting (Unit {0}))
-    → (ℕ → Budget → Stopping) → ℕ → List Value → List Value → View → View
-    → Result (Unit {0}) (DecodeError E) → Type 0
-GivesItems puts rejects full before after =
-    Gives (λ _. KeepsItems before after × (length after ≤ full))
+abbrev pub GivesItems : {E : Type 0} → Bool
+    → (List Value → List Value → Budget → Accepting (Unit {0})) → (ℕ → Budget → Rejection) → ℕ
+    → List Value → List Value → View → View → Result (Unit {0}) (DecodeError E) → Type 0
+GivesItems exact puts rejects full before after =
+    Gives (Asks (InParts exact 1)) (λ _. KeepsItems before after × (length after ≤ full))
     (DoesUnder (puts before after) (rejects (full - length before)))
 
 -- no byte is left where a value is to begin
-abbrev pub RejectsWhereNone : Stopping
+abbrev pub RejectsWhereNone : Rejection
 RejectsWhereNone xs e rest = (xs ≡ []) × Is (eof value_name (Small 1)) [] e rest
 
 -- after fewer than so many values one is rejected, where the step that leaves this budget was taken
-abbrev pub RejectsItemsUnder : Bool → ℕ → Budget → Stopping
+abbrev pub RejectsItemsUnder : Bool → ℕ → Budget → Rejection
 RejectsItemsUnder exact room inner xs e rest =
     (budget : Budget) → step_in budget ≡ Some inner → RejectsItems exact room budget xs e rest
 
@@ -150,6 +153,8 @@ pub record TakesRun {E : Type 0} (exact : Bool) (full : ℕ) (before after : Lis
     (old new : View) (result : Option (Option Next)) (failure : Option (DecodeError E)) : Type 0
   where
     pub puts : TakesBy exact before after old new result failure
+    pub memory : IfNone result (IsTrue (is_out_of_memory (error_left failure))
+        → Asks (InParts exact 1) old new)
     pub items : OnSome result (KeepsItems before after)
     pub few : OnSome result (length after ≤ full)
     pub lacks : IfSome result (λ found. OnSome found (length after < full))

@@ -20,6 +20,7 @@ pub mod ItemEquality
 pub mod Access
 pub mod Encoding
 pub mod Order
+pub mod ExactOrder
 pub mod Hashing
 pub mod Ignored
 pub mod Raw
@@ -40,6 +41,7 @@ pub mod CanonicalCalls
 pub mod Canonically
 pub mod Promises
 pub mod Prefix
+pub mod Asking
 pub mod Leaf
 pub mod LeafRuns
 pub mod Runs

@@ -4,7 +4,7 @@ use Rattle.std.specs.Prelude.{Result, Ok, Err}
 use Rattle.cbor4ii_rw.specs.{View.{View, IfKnown}, Reader.{Shows, IsPrefix}}
 use Rattle.cbor4ii_rw.specs.declared.error.DecodeError.{DecodeError}
 use Rattle.cbor4ii_items.specs.Head.{IsBytes}
-use Rattle.cbor4ii_tree.specs.{Does.Does, HeadParts.TakesByte, Rejections.Stopping}
+use Rattle.cbor4ii_tree.specs.{Does.Does, HeadParts.TakesByte, Rejections.Rejection}
 
 -- lent bytes, read under the steps of a reader: all of them are reported, nothing fails, and the
 -- reader's own bytes count for nothing
@@ -40,6 +40,6 @@ Ready want found shown =
     × (found.0 ≢ 0 → FirstByteIs found.1 shown)
 
 -- a byte was shown, or there is none
-abbrev pub Peeks : {E : Type 0} → Stopping → View → View → Result ℕ (DecodeError E) → Type 0
+abbrev pub Peeks : {E : Type 0} → Rejection → View → View → Result ℕ (DecodeError E) → Type 0
 Peeks none old new (Ok b) = Offers 1 (FirstByteIs b) old new
 Peeks none old new (Err e) = Does {V = ℕ} TakesByte none old new (Err e)

@@ -120,7 +120,7 @@ pub record RejectsPrefix {E : Type 0} (shown : List ℕ) (budget : Budget)
 
 -- ---- an item captured
 
--- the item at the front was taken, and is the value's content
+-- the item at the beginning was taken, and is the value's content
 pub record Captured {V : Type 0} (content : V → List ℕ) (old new : View) (v : V) : Type 0 where
   pub shown : List ℕ
   pub prefix : IfKnown old.known (IsPrefix most shown)
@@ -134,7 +134,7 @@ pub data NotCaptured {E : Type 0} (old new : View) (e : DecodeError E) : Type 0 
       is_out_of_memory e ≡ false → is_depth_overflow e ≡ false → NotCaptured old new e
   not_lent : BorrowsNone old new → is_read e ≡ false → input_error_of e ≡ Some (require_borrowed
       raw_value) → is_out_of_memory e ≡ false → is_depth_overflow e ≡ false → NotCaptured old new e
-  stopped : (shown : List ℕ) → FillsLong most shown old new → RejectsPrefix shown old.budget e →
+  rejected : (shown : List ℕ) → FillsLong most shown old new → RejectsPrefix shown old.budget e →
       NotCaptured old new e
 
 abbrev pub Captures : {V E : Type 0} → (V → List ℕ) → View → View →

@@ -4,7 +4,8 @@ use Rattle.cbor4ii_items.specs.{Budget.CostFits, Initial.Initial}
 use Rattle.cbor4ii_tree.specs.{Cost.{Budget, step_in, cost}, InputError.{InputError, sign_name}}
 use Rattle.cbor4ii_tree.specs.InputError.{kind_name, precision_name, array_name, map_name}
 use Rattle.cbor4ii_tree.specs.{InputError.value_name, ItemRejects.{Profile, RejectsBy, RejectsFrom}}
-use Rattle.cbor4ii_tree.specs.{ItemRejects.Rejects, Rejections.{Stopping, RejectsAtStep}, Tree.Tree}
+use Rattle.cbor4ii_tree.specs.{ItemRejects.Rejects, Rejections.{Rejection, RejectsAtStep}}
+use Rattle.cbor4ii_tree.specs.{Tree.Tree}
 use Rattle.cbor4ii_tree.specs.Tree.{Plain}
 pub use Rattle.cbor4ii_tree.specs.ItemRejects.{ReadableChunk, CutString, NoUtf8, ChunkRejectsBy}
 pub use Rattle.cbor4ii_tree.specs.ItemRejects.{ChunkRejects}
@@ -30,13 +31,13 @@ reading = record {
   Whole = Readable;
 }
 
-abbrev pub ReadingRejectsBy : (Budget → Stopping) → Budget → Initial → ℕ → Stopping
+abbrev pub ReadingRejectsBy : (Budget → Rejection) → Budget → Initial → ℕ → Rejection
 ReadingRejectsBy = RejectsBy reading
 
-abbrev pub ReadingRejectsFrom : (Budget → Stopping) → Budget → Stopping
+abbrev pub ReadingRejectsFrom : (Budget → Rejection) → Budget → Rejection
 ReadingRejectsFrom = RejectsFrom reading
 
--- Reading a value from the front of the input under the budget fails with the error, and
+-- Reading a value from the beginning of the input under the budget fails with the error, and
 -- leaves the rest.
 abbrev pub ReadingRejects : List ℕ → Budget → InputError → List ℕ → Type 0
 ReadingRejects = Rejects reading

@@ -7,38 +7,38 @@ use Rattle.cbor4ii_tree.specs.{Cost.Budget, InputError.{InputError, eof, depth_o
 use Rattle.cbor4ii_tree.specs.{InputError.{Small, break_name}, Tree.{Tree, Trees, no_trees, tree}}
 use Rattle.cbor4ii_tree.specs.Tree.{Pairs, no_pairs, pair, count, bytes, bytes_all, bytes_pairs}
 
-abbrev pub Stopping : Type 1
-Stopping = List ℕ → InputError → List ℕ → Type 0
+abbrev pub Rejection : Type 1
+Rejection = List ℕ → InputError → List ℕ → Type 0
 
 -- the error is this one, and these bytes are left
 abbrev pub Is : InputError → List ℕ → InputError → List ℕ → Type 0
 Is err left e rest = (e ≡ err) × (rest ≡ left)
 
 -- Fewer than k bytes are there. How many are asked for goes by k, and by how many are there.
-abbrev pub Lacks : (ℕ → ℕ → ℕ) → List ℕ → ℕ → Stopping
+abbrev pub Lacks : (ℕ → ℕ → ℕ) → List ℕ → ℕ → Rejection
 Lacks asks name k bs e rest =
     (length bs < k) × Is (eof name (len_of (asks k (length bs)))) [] e rest
 
 -- as many as are missing are asked for
-abbrev pub Missing : List ℕ → ℕ → Stopping
+abbrev pub Missing : List ℕ → ℕ → Rejection
 Missing = Lacks (λ k n. k - n)
 
 -- all k are asked for
-abbrev pub MissingAll : List ℕ → ℕ → Stopping
+abbrev pub MissingAll : List ℕ → ℕ → Rejection
 MissingAll = Lacks (λ k n. k)
 
 -- A whole head of the major type, whose initial byte is b, and after it the bytes are rejected as
 -- its argument says (section 3).
-pub record AfterHead (major : ℕ) (w : Width) (b : ℕ) (then : ℕ → Stopping) (bs : List ℕ)
+pub record AfterHead (major : ℕ) (w : Width) (b : ℕ) (then : ℕ → Rejection) (bs : List ℕ)
     (e : InputError) (rest : List ℕ) : Type 0 where
   pub argument : ℕ
   pub after : List ℕ
   pub fits : HeadFits w argument
   pub is : b ∷ bs ≡ head major argument w ++ after
-  pub stopped : then argument after e rest
+  pub rejected : then argument after e rest
 
 -- a head whose argument is cut, or a whole one and what is rejected after it
-abbrev pub AtHead : List ℕ → ℕ → Width → ℕ → (ℕ → Stopping) → Stopping
+abbrev pub AtHead : List ℕ → ℕ → Width → ℕ → (ℕ → Rejection) → Rejection
 AtHead name major w b then bs e rest =
     MissingAll name (byte_count w) bs e rest ⊎ AfterHead major w b then bs e rest
 
@@ -59,47 +59,47 @@ EachPair Whole (pair k v ps) = Whole k × Whole v × EachPair Whole ps
 
 -- Whole items, fewer than n, and then one that is rejected. The items of a map are its keys and
 -- values in turn (section 3.1).
-pub record RejectsInCount (Whole : Tree → Type 0) (rejects : Stopping) (n : ℕ) (bs : List ℕ)
+pub record RejectsInCount (Whole : Tree → Type 0) (rejects : Rejection) (n : ℕ) (bs : List ℕ)
     (e : InputError) (rest : List ℕ) : Type 0 where
   pub prefix : Trees
   pub after : List ℕ
   pub few : count prefix < n
   pub whole : Each Whole prefix
   pub is : bs ≡ bytes_all prefix ++ after
-  pub stopped : rejects after e rest
+  pub rejected : rejects after e rest
 
 -- Where an item or the break should come: the end of the input, or no break and an item that is
 -- rejected (section 3.2).
-abbrev pub NoBreak : Stopping → Stopping
+abbrev pub NoBreak : Rejection → Rejection
 NoBreak rejects [] e rest = Is (eof break_name (Small 1)) [] e rest
 NoBreak rejects (b ∷ bs) e rest = (b ≢ break) × rejects (b ∷ bs) e rest
 
 -- whole items, and then no break (section 3.2.2)
-pub record IndefiniteItems (Whole : Tree → Type 0) (rejects : Stopping) (bs : List ℕ)
+pub record IndefiniteItems (Whole : Tree → Type 0) (rejects : Rejection) (bs : List ℕ)
     (e : InputError)
     (rest : List ℕ) : Type 0 where
   pub prefix : Trees
   pub after : List ℕ
   pub whole : Each Whole prefix
   pub is : bs ≡ bytes_all prefix ++ after
-  pub stopped : NoBreak rejects after e rest
+  pub rejected : NoBreak rejects after e rest
 
 -- A whole key, and a value that is rejected. No break is looked for between the two (section
 -- 3.2.2).
-pub record AfterKey (Whole : Tree → Type 0) (rejects : Stopping) (bs : List ℕ) (e : InputError)
+pub record AfterKey (Whole : Tree → Type 0) (rejects : Rejection) (bs : List ℕ) (e : InputError)
     (rest : List ℕ) : Type 0 where
   pub key : Tree
   pub after : List ℕ
   pub whole : Whole key
   pub is : bs ≡ bytes key ++ after
-  pub stopped : rejects after e rest
+  pub rejected : rejects after e rest
 
 -- whole pairs, and then no break and a key that is rejected, or a value that is
-pub record IndefinitePairs (Whole : Tree → Type 0) (rejects : Stopping) (bs : List ℕ)
+pub record IndefinitePairs (Whole : Tree → Type 0) (rejects : Rejection) (bs : List ℕ)
     (e : InputError)
     (rest : List ℕ) : Type 0 where
   pub prefix : Pairs
   pub after : List ℕ
   pub whole : EachPair Whole prefix
   pub is : bs ≡ bytes_pairs prefix ++ after
-  pub stopped : NoBreak rejects after e rest ⊎ AfterKey Whole rejects after e rest
+  pub rejected : NoBreak rejects after e rest ⊎ AfterKey Whole rejects after e rest

@@ -20,7 +20,7 @@ pub record IsLeafAt (at size : ℕ) (shown : List ℕ) : Type 0 where
   pub within : at + size ≤ length shown
   pub leaf : (t : Tree) × IsLeaf t × (take size (drop at shown) ≡ bytes t)
 
--- so many stand at the front, in so many bytes
+-- so many stand at the beginning, in so many bytes
 pub record BeginsRun (n size : ℕ) (shown : List ℕ) : Type 0 where
   pub within : size ≤ length shown
   pub few : n ≤ size

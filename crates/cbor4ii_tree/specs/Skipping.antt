@@ -13,7 +13,7 @@ use Rattle.cbor4ii_items.specs.InputError.{is_out_of_memory}
 use Rattle.cbor4ii_tree.specs.Tree.{Tree, Trees, Pairs, count, bytes_all, bytes_pairs}
 use Rattle.cbor4ii_tree.specs.{Cost.{Budget, step_in}, HeadParts.DropsBytes, InputError.InputError}
 use Rattle.cbor4ii_tree.specs.InputError.{mismatch, unsupported, ignored_any, tag_name}
-use Rattle.cbor4ii_tree.specs.{Encodings.Skips, Rejections.{Stopping, Missing, Each, EachPair}}
+use Rattle.cbor4ii_tree.specs.{Encodings.Skips, Rejections.{Rejection, Missing, Each, EachPair}}
 use Rattle.cbor4ii_tree.specs.Rejections.{RejectsInCount, IndefiniteItems, IndefinitePairs}
 use Rattle.cbor4ii_tree.specs.SkippingRejects.{Skippable, SkippingRejects}
 use Rattle.cbor4ii_tree.specs.declared.skip.initial.After.{After, TheVariants.{Nothing, Bytes}}
@@ -94,7 +94,7 @@ trailing_of _ n = Nothing
 abbrev pub SkipsOne : Budget → List ℕ → List ℕ → Type 0
 SkipsOne budget xs ys = (t : Tree) × Skips xs budget t ys
 
-abbrev pub RejectsSkippingOne : Budget → Stopping
+abbrev pub RejectsSkippingOne : Budget → Rejection
 RejectsSkippingOne budget xs = SkippingRejects xs budget
 
 -- so many items
@@ -102,7 +102,7 @@ abbrev pub SkipsItems : ℕ → Budget → List ℕ → List ℕ → Type 0
 SkipsItems n budget xs ys =
     (ts : Trees) × (count ts ≡ n) × Each (Skippable budget) ts × (xs ≡ bytes_all ts ++ ys)
 
-abbrev pub RejectsSkippingItems : ℕ → Budget → Stopping
+abbrev pub RejectsSkippingItems : ℕ → Budget → Rejection
 RejectsSkippingItems n budget = RejectsInCount (Skippable budget) (RejectsSkippingOne budget) n
 
 -- items up to a break, which is taken
@@ -110,14 +110,14 @@ abbrev pub SkipsIndefinite : Budget → List ℕ → List ℕ → Type 0
 SkipsIndefinite budget xs ys =
     (ts : Trees) × Each (Skippable budget) ts × (xs ≡ bytes_all ts ++ (break ∷ ys))
 
-abbrev pub RejectsSkippingIndefinite : Budget → Stopping
+abbrev pub RejectsSkippingIndefinite : Budget → Rejection
 RejectsSkippingIndefinite budget = IndefiniteItems (Skippable budget) (RejectsSkippingOne budget)
 
 abbrev pub SkipsMembers : Budget → List ℕ → List ℕ → Type 0
 SkipsMembers budget xs ys =
     (ps : Pairs) × EachPair (Skippable budget) ps × (xs ≡ bytes_pairs ps ++ (break ∷ ys))
 
-abbrev pub RejectsSkippingMembers : Budget → Stopping
+abbrev pub RejectsSkippingMembers : Budget → Rejection
 RejectsSkippingMembers budget = IndefinitePairs (Skippable budget) (RejectsSkippingOne budget)
 
 -- ---- after a head
@@ -131,7 +131,7 @@ SkipsAfter (Twice n) budget xs ys = SkipsItems (2 * n) budget xs ys
 SkipsAfter Indefinite budget xs ys = SkipsIndefinite budget xs ys
 SkipsAfter IndefiniteMembers budget xs ys = SkipsMembers budget xs ys
 
-abbrev pub RejectsSkippingAfter : After → Budget → Stopping
+abbrev pub RejectsSkippingAfter : After → Budget → Rejection
 RejectsSkippingAfter Nothing budget xs e rest = ⊥
 RejectsSkippingAfter (Bytes n) budget xs e rest = Missing ignored_any n xs e rest
 RejectsSkippingAfter (Items n) budget xs e rest = RejectsSkippingItems n budget xs e rest
@@ -143,7 +143,7 @@ RejectsSkippingAfter IndefiniteMembers budget xs e rest = RejectsSkippingMembers
 abbrev pub SkipsUnder : Budget → List ℕ → List ℕ → Type 0
 SkipsUnder inner xs ys = (budget : Budget) → step_in budget ≡ Some inner → SkipsOne budget xs ys
 
-abbrev pub RejectsSkippingUnder : Budget → Stopping
+abbrev pub RejectsSkippingUnder : Budget → Rejection
 RejectsSkippingUnder inner xs e rest =
     (budget : Budget) → step_in budget ≡ Some inner → RejectsSkippingOne budget xs e rest
 

@@ -3,7 +3,7 @@ use Rattle.std.specs.Prelude.{ℕ, ◌-◌, List, ◌∷◌, Some, false}
 use Rattle.cbor4ii_items.specs.{Budget.CostFits, Initial.Initial}
 use Rattle.cbor4ii_tree.specs.{Cost.{Budget, step_in, skip_cost}, InputError.InputError}
 use Rattle.cbor4ii_tree.specs.{InputError.ignored_any, ItemRejects.{Profile, RejectsBy}}
-use Rattle.cbor4ii_tree.specs.{ItemRejects.{RejectsFrom, Rejects}, Rejections.Stopping}
+use Rattle.cbor4ii_tree.specs.{ItemRejects.{RejectsFrom, Rejects}, Rejections.Rejection}
 use Rattle.cbor4ii_tree.specs.{Rejections.RejectsAtStep, Tree.{Tree, Loose}}
 
 -- an item that is skipped whole
@@ -26,13 +26,13 @@ skipping = record {
   Whole = Skippable;
 }
 
-abbrev pub SkippingRejectsBy : Stopping → Budget → Initial → ℕ → Stopping
+abbrev pub SkippingRejectsBy : Rejection → Budget → Initial → ℕ → Rejection
 SkippingRejectsBy rejects = RejectsBy skipping (λ left. rejects)
 
-abbrev pub SkippingRejectsFrom : Stopping → Budget → Stopping
+abbrev pub SkippingRejectsFrom : Rejection → Budget → Rejection
 SkippingRejectsFrom rejects = RejectsFrom skipping (λ left. rejects)
 
--- Skipping the item at the front of the input under the budget fails with the error, and
+-- Skipping the item at the beginning of the input under the budget fails with the error, and
 -- leaves the rest.
 abbrev pub SkippingRejects : List ℕ → Budget → InputError → List ℕ → Type 0
 SkippingRejects = Rejects skipping

@@ -12,7 +12,7 @@ use Rattle.cbor4ii_tree.specs.Item.{IsItem, tag}
 use Rattle.cbor4ii_tree.specs.Tree.{Tree, Trees, count, bytes, bytes_all}
 use Rattle.cbor4ii_tree.specs.Meaning.{value, values, simple_item}
 use Rattle.cbor4ii_tree.specs.Cost.{Budget, step_in}
-use Rattle.cbor4ii_tree.specs.Rejections.{Stopping, Each, RejectsInCount, IndefiniteItems}
+use Rattle.cbor4ii_tree.specs.Rejections.{Rejection, Each, RejectsInCount, IndefiniteItems}
 use Rattle.cbor4ii_tree.specs.Rejections.{AfterKey, IndefinitePairs}
 use Rattle.cbor4ii_tree.specs.ReadingRejects.{Readable, ReadingRejectsFrom, ReadingRejects}
 use Rattle.cbor4ii_tree.specs.CanonicalRejects.{FitsCanonically, CanonicalRejectsFrom}
@@ -32,7 +32,7 @@ abbrev pub ReadsOneValue : Bool → Budget → List ℕ → Value → List ℕ �
 ReadsOneValue exact budget xs v ys =
     (t : Tree) × Whole exact budget t × (value t ≡ view v) × (xs ≡ bytes t ++ ys)
 
-abbrev pub RejectsOneValue : Bool → Budget → Stopping
+abbrev pub RejectsOneValue : Bool → Budget → Rejection
 RejectsOneValue false budget xs = ReadingRejects xs budget
 RejectsOneValue true budget xs = CanonicalRejects xs budget
 
@@ -41,7 +41,7 @@ abbrev pub ReadsUnder : Bool → Budget → List ℕ → Value → List ℕ → 
 ReadsUnder exact inner xs v ys =
     (budget : Budget) → step_in budget ≡ Some inner → ReadsOneValue exact budget xs v ys
 
-abbrev pub RejectsUnder : Bool → Budget → Stopping
+abbrev pub RejectsUnder : Bool → Budget → Rejection
 RejectsUnder false inner xs e rest =
     ReadingRejectsFrom (λ left part. ReadingRejects part left) inner xs e rest
 RejectsUnder true inner xs e rest =
@@ -61,7 +61,7 @@ ReadsEach W n xs vs ys = (ts : Trees) × (count ts ≡ n) × Each W ts ×
 abbrev pub ReadsItems : Bool → ℕ → Budget → List ℕ → List Value → List ℕ → Type 0
 ReadsItems exact n budget xs vs ys = ReadsEach (Whole exact budget) n xs vs ys
 
-abbrev pub RejectsItems : Bool → ℕ → Budget → Stopping
+abbrev pub RejectsItems : Bool → ℕ → Budget → Rejection
 RejectsItems exact n budget = RejectsInCount (Whole exact budget) (RejectsOneValue exact budget) n
 
 -- values up to a break, which is taken
@@ -69,7 +69,7 @@ abbrev pub ReadsIndefiniteItems : Bool → Budget → List ℕ → List Value �
 ReadsIndefiniteItems exact budget xs vs ys =
     ReadsItems exact (length vs) budget xs vs (break ∷ ys)
 
-abbrev pub RejectsIndefiniteItems : Bool → Budget → Stopping
+abbrev pub RejectsIndefiniteItems : Bool → Budget → Rejection
 RejectsIndefiniteItems exact budget =
     IndefiniteItems (Whole exact budget) (RejectsOneValue exact budget)
 
@@ -77,7 +77,7 @@ RejectsIndefiniteItems exact budget =
 abbrev pub ReadsMember : Bool → Budget → List ℕ → Value × Value → List ℕ → Type 0
 ReadsMember exact budget xs m ys = ReadsItems exact 2 budget xs (m.0 ∷ m.1 ∷ []) ys
 
-abbrev pub RejectsMember : Bool → Budget → Stopping
+abbrev pub RejectsMember : Bool → Budget → Rejection
 RejectsMember exact budget xs e rest =
     RejectsOneValue exact budget xs e rest
     ⊎ AfterKey (Whole exact budget) (RejectsOneValue exact budget) xs e rest
@@ -91,14 +91,14 @@ flat_values (m ∷ ms) = m.0 ∷ (m.1 ∷ flat_values ms)
 abbrev pub ReadsMembers : Bool → ℕ → Budget → List ℕ → List (Value × Value) → List ℕ → Type 0
 ReadsMembers exact n budget xs ms ys = ReadsItems exact (2 * n) budget xs (flat_values ms) ys
 
-abbrev pub RejectsMembers : Bool → ℕ → Budget → Stopping
+abbrev pub RejectsMembers : Bool → ℕ → Budget → Rejection
 RejectsMembers exact n = RejectsItems exact (2 * n)
 
 abbrev pub ReadsIndefiniteMembers : Bool → Budget → List ℕ → List (Value × Value) → List ℕ → Type 0
 ReadsIndefiniteMembers exact budget xs ms ys =
     ReadsIndefiniteItems exact budget xs (flat_values ms) ys
 
-abbrev pub RejectsIndefiniteMembers : Bool → Budget → Stopping
+abbrev pub RejectsIndefiniteMembers : Bool → Budget → Rejection
 RejectsIndefiniteMembers exact budget =
     IndefinitePairs (Whole exact budget) (RejectsOneValue exact budget)
 
@@ -122,12 +122,12 @@ TakesLength exact major budget xs None ys = IndefiniteAt exact major xs ys
 
 -- What it is for an array, or a map, to fail is what it is for a value whose first byte is one of
 -- its major type.
-abbrev pub RejectsMajor : Bool → ℕ → Budget → Stopping
+abbrev pub RejectsMajor : Bool → ℕ → Budget → Rejection
 RejectsMajor exact major inner xs e rest = (b : ℕ) (bs : List ℕ) → xs ≡ b ∷ bs → b / 32 ≡ major →
     (outer : Budget) → step_in outer ≡ Some inner → RejectsUnder exact outer xs e rest
 
 -- after a first byte of this major type, before the step is taken
-abbrev pub RejectsOf : Bool → ℕ → Budget → Stopping
+abbrev pub RejectsOf : Bool → ℕ → Budget → Rejection
 RejectsOf exact major budget xs e rest =
     (b : ℕ) (bs : List ℕ) → xs ≡ b ∷ bs → b / 32 ≡ major → RejectsUnder exact budget xs e rest
 
@@ -146,7 +146,7 @@ abbrev pub IsNoSimple : ℕ → Type 0
 IsNoSimple first = (s : Simple) → first ≡ simple_byte s → ⊥
 
 -- what is rejected after this first byte
-abbrev pub RejectsFirst : Bool → ℕ → Budget → Stopping
+abbrev pub RejectsFirst : Bool → ℕ → Budget → Rejection
 RejectsFirst exact first budget xs e rest =
     (bs : List ℕ) → xs ≡ first ∷ bs → RejectsUnder exact budget xs e rest
 

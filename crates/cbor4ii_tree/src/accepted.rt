@@ -6,7 +6,8 @@ ghost use Rattle.std.specs.Prelude.{◌≡◌, ◌≢◌, ◌+◌, ◌≤◌, �
 ghost use Rattle.std.specs.Prelude.{true, false};
 ghost use Rattle.cbor4ii_items.specs.Head.{byte_count, shortest};
 ghost use Rattle.cbor4ii_items.specs.Initial.{simple_byte, simple_undefined};
-ghost use Rattle.cbor4ii_tree.specs.Does.{DoesUnder, answered};
+ghost use Rattle.cbor4ii_tree.specs.Does.{Anything, DoesUnder, Gives, Never, WantsOnly, answered};
+ghost use Rattle.cbor4ii_tree.specs.Asking.{BeginsString};
 ghost use Rattle.cbor4ii_tree.specs.Item.{IsItem};
 ghost use Rattle.cbor4ii_tree.specs.Leaf.{DoesAfterFirst};
 ghost use Rattle.cbor4ii_tree.specs.Valuing.{ReadsUnder, RejectsFirst, RejectsMajor, RejectsOf};
@@ -45,20 +46,17 @@ pub(crate) trait Encodings {
         requires shown { 1 ≤ (S.view reader.old).advanceable }
         requires major { first / 32 ≡ major }
         requires nests { (major ≡ 4) ⊎ (major ≡ 5) }
-        ensures does { DoesAfterFirst first (TakesLength exact major) (RejectsMajor exact major)
-            (S.view reader.old) (S.view reader.new) (answered result failure.new) }
-        ensures progress { OnSome result
-            ((S.view reader.new).bound + 1 ≤ (S.view reader.old).bound) };
+        ensures { Gives Never Anything
+            (DoesAfterFirst first (TakesLength exact major) (RejectsMajor exact major))
+            (S.view reader.old) (S.view reader.new) (answered result failure.new) };
 
     /// Takes the head of a tag, which no look has shown whole, and answers its number.
     fn take_tag<S: Source>(
         reader: &mut S,
         failure: &mut Option<DecodeError<S::Error>>,
     ) -> Option<u64>
-        ensures does { DoesUnder (TakesTag exact) (RejectsOf exact 6)
-            (S.view reader.old) (S.view reader.new) (answered result failure.new) }
-        ensures progress { OnSome result
-            ((S.view reader.new).bound + 1 ≤ (S.view reader.old).bound) };
+        ensures { Gives Never Anything (DoesUnder (TakesTag exact) (RejectsOf exact 6))
+            (S.view reader.old) (S.view reader.new) (answered result failure.new) };
 
     /// Reads an integer or a string, whose first byte is shown.
     fn read_leaf<S: Source>(
@@ -68,6 +66,8 @@ pub(crate) trait Encodings {
     ) -> Result<Value, DecodeError<S::Error>>
         requires major { first / 32 ≤ 3 }
         ensures does { DoesUnder (ReadsUnder exact) (RejectsFirst exact first)
+            (S.view reader.old) (S.view reader.new) result }
+        ensures memory { WantsOnly (λ _ _. BeginsString first)
             (S.view reader.old) (S.view reader.new) result }
         ensures item { IfOk result (λ v. IsItem (view v)) }
         ensures progress { OnOk result

@@ -113,8 +113,8 @@ impl Value {
     /// Whether two pairs of the map have equal keys, which RFC 8949 section 5.6 does not allow.
     /// False of any other kind of value. Maps inside are not looked at.
     ///
-    /// Each key is compared with all that follow it: of n pairs these are n(n-1)/2 comparisons at
-    /// most.
+    /// Each key is compared with all that follow it, and no memory is taken. Of n pairs these are
+    /// n(n-1)/2 comparisons at most, which is slow of many: `try_has_equal_keys` sorts the keys.
     pub fn has_equal_keys(&self) -> bool
         ensures { IsTrue result ↔ MapHasEqualKeys (view self.now) }
     {

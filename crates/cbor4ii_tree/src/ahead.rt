@@ -134,7 +134,7 @@ fn run_of_items(shown: &[u8], most: u64) -> (u64, usize)
 }
 
 /// Whether the item at this place, which takes so many bytes, and the next take one byte each. One
-/// comparison reports both: where sizes change from item to item, one for each would be hard to
+/// comparison answers both: where sizes change from item to item, one for each would be hard to
 /// foresee.
 #[inline(always)]
 fn are_single(shown: &[u8], at: usize, leaf: usize) -> bool

@@ -1,24 +1,21 @@
 //! Integers beyond 64 bits as the tags that they are written as (RFC 8949 section 3.4.3).
-ghost use Rattle.std.specs.Prelude.{◌≡◌, ◌⊎◌, OnOk, IfOk, pos, negsuc};
-ghost use Rattle.cbor4ii_items.specs.Magnitude.{without_leading_zeros, magnitude};
+ghost use Rattle.std.specs.Prelude.{◌≡◌, ◌≢◌, ◌⊎◌, OnOk, OnErr, IfOk, pos, negsuc};
+ghost use Rattle.cbor4ii_items.specs.Magnitude.{magnitude};
 ghost use Rattle.cbor4ii_tree.specs.Canonical.{with_bignums, with_bignums_all};
 ghost use Rattle.cbor4ii_tree.specs.Canonical.{with_bignums_members};
 ghost use Rattle.cbor4ii_tree.specs.Item.{bytes_item, integer, tag};
 ghost use Rattle.cbor4ii_tree.specs.View.{view, items_view, members_view};
 
 use crate::value::Value;
+use cbor4ii_items::bignum::{NEGATIVE_BIGNUM, POSITIVE_BIGNUM, without_leading_zeros};
 use std::alloc::{AllocError, Global};
-
-/// The tag of a bignum from 0 on.
-const POSITIVE_BIGNUM: u64 = 2;
-/// The tag of a negative bignum: -1 - n for the number n of its bytes.
-const NEGATIVE_BIGNUM: u64 = 3;
 
 /// Turns each integer that has no head into the tag that it is written as, at any depth. Only these
 /// take memory.
 #[cycle(bignums)]
 pub(crate) fn tag_bignums(alloc: Global, value: &mut Value) -> Result<(), AllocError>
-    ensures { OnOk result (view value.new ≡ with_bignums (view value.old)) }
+    ensures tagged { OnOk result (view value.new ≡ with_bignums (view value.old)) }
+    ensures memory { OnErr result (with_bignums (view value.old) ≢ view value.old) }
 {
     match value {
         Value::Integer(number) => {
@@ -35,7 +32,10 @@ pub(crate) fn tag_bignums(alloc: Global, value: &mut Value) -> Result<(), AllocE
 
 #[cycle(bignums)]
 fn tag_items(alloc: Global, items: &mut [Value]) -> Result<(), AllocError>
-    ensures { OnOk result (items_view items.new ≡ with_bignums_all (items_view items.old)) }
+    ensures tagged { OnOk result (items_view items.new
+        ≡ with_bignums_all (items_view items.old)) }
+    ensures memory { OnErr result (with_bignums_all (items_view items.old)
+        ≢ items_view items.old) }
 {
     for i in 0..items.len() {
         tag_bignums(alloc, &mut items[i])?;
@@ -45,8 +45,10 @@ fn tag_items(alloc: Global, items: &mut [Value]) -> Result<(), AllocError>
 
 #[cycle(bignums)]
 fn tag_members(alloc: Global, members: &mut [(Value, Value)]) -> Result<(), AllocError>
-    ensures { OnOk result (members_view members.new
+    ensures tagged { OnOk result (members_view members.new
         ≡ with_bignums_members (members_view members.old)) }
+    ensures memory { OnErr result (with_bignums_members (members_view members.old)
+        ≢ members_view members.old) }
 {
     for i in 0..members.len() {
         tag_member(alloc, &mut members[i])?;
@@ -58,6 +60,8 @@ fn tag_members(alloc: Global, members: &mut [(Value, Value)]) -> Result<(), Allo
 fn tag_member(alloc: Global, member: &mut (Value, Value)) -> Result<(), AllocError>
     ensures key { OnOk result (view member.new.0 ≡ with_bignums (view member.old.0)) }
     ensures value { OnOk result (view member.new.1 ≡ with_bignums (view member.old.1)) }
+    ensures memory { OnErr result ((with_bignums (view member.old.0) ≢ view member.old.0)
+        ⊎ (with_bignums (view member.old.1) ≢ view member.old.1)) }
 {
     tag_bignums(alloc, &mut member.0)?;
     tag_bignums(alloc, &mut member.1)
@@ -65,7 +69,8 @@ fn tag_member(alloc: Global, member: &mut (Value, Value)) -> Result<(), AllocErr
 
 /// An integer, or the tag that it is written as where it has no head.
 fn tagged_integer(alloc: Global, number: i128) -> Result<Value, AllocError>
-    ensures { IfOk result (λ value. view value ≡ with_bignums (integer number)) }
+    ensures tagged { IfOk result (λ value. view value ≡ with_bignums (integer number)) }
+    ensures memory { OnErr result (with_bignums (integer number) ≢ integer number) }
 {
     let (tag, magnitude) = bignum_parts(number);
     if magnitude <= u64::MAX as u128 {
@@ -80,9 +85,9 @@ pub(crate) fn bignum_parts(number: i128) -> (u64, u128)
         ⊎ ((number ≡ negsuc result.1) × (result.0 ≡ 3)) }
 {
     if number >= 0 {
-        (POSITIVE_BIGNUM, number as u128)
+        (POSITIVE_BIGNUM as u64, number as u128)
     } else {
-        (NEGATIVE_BIGNUM, (-1 - number) as u128)
+        (NEGATIVE_BIGNUM as u64, (-1 - number) as u128)
     }
 }
 
@@ -93,15 +98,4 @@ fn bignum(alloc: Global, number: u64, size: u128) -> Result<Value, AllocError>
     let bytes = size.to_be_bytes();
     let content = Vec::from_slice(alloc, without_leading_zeros(&bytes))?;
     Ok(Value::Tag(number, Box::new(alloc, Value::Bytes(content))?))
-}
-
-/// The bytes from the first that is not zero on.
-pub(crate) fn without_leading_zeros(bytes: &[u8]) -> &[u8]
-    ensures { result.now ≡ without_leading_zeros bytes.now }
-{
-    let mut rest = bytes;
-    while let [0, tail @ ..] = rest {
-        rest = tail;
-    }
-    rest
 }

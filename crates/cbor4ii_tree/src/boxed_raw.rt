@@ -89,7 +89,7 @@ impl Decodable for BoxedRawValue {
 }
 
 /// One fill asks for all that is left. Where its bytes live as long as the input, the item at
-/// their front is skipped in place, under the reader's steps, then taken at once and copied.
+/// their beginning is skipped in place, under the reader's steps, then taken at once and copied.
 ///
 /// Over a reader that lends nothing, as a stream's, nothing is accepted.
 ///

@@ -27,6 +27,9 @@ use std::alloc::Global;
 /// A value that is read from its canonical encoding alone, the one that encoders write (RFC 8949
 /// section 4.1). Two that were read are equal exactly where their bytes are. What is written of one
 /// that was read, or made by `try_from_value`, is read back as it was.
+///
+/// Each `Value` has one such encoding, and an integer may be several values: a tag's bytes stay as
+/// they are. So `05`, `c2 41 05` and `c2 42 00 05` are all accepted, and each is another value.
 #[derive(Debug, PartialEq, Eq, Hash, Drop)]
 pub struct Canonical(pub Value);
 

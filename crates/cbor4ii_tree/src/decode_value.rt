@@ -6,7 +6,7 @@
 ghost use Rattle.std.specs.Prelude.{◌≡◌, ◌+◌, ◌-◌, ◌*◌, ◌<◌, ◌≤◌, ◌/◌, ◌⊎◌, IfOk};
 ghost use Rattle.std.specs.Prelude.{true, false, length};
 ghost use Rattle.std.specs.Prelude.{OnSome, IfSome};
-ghost use Rattle.cbor4ii_tree.specs.Does.{DoesUnder, Gives, answered};
+ghost use Rattle.cbor4ii_tree.specs.Does.{Anything, DoesUnder, Gives, Never, WantsOnly, answered};
 ghost use Rattle.cbor4ii_tree.specs.Valuing.{ReadsOneValue, RejectsOneValue, ReadsUnder};
 ghost use Rattle.cbor4ii_tree.specs.Valuing.{InRange, RejectsUnder};
 ghost use Rattle.cbor4ii_tree.specs.Valuing.{ReadsInside, RejectsOf, RejectsMajor};
@@ -15,7 +15,8 @@ ghost use Rattle.cbor4ii_tree.specs.Valuing.{ReadsIndefiniteItems, RejectsIndefi
 ghost use Rattle.cbor4ii_tree.specs.Valuing.{ReadsMembers, RejectsMembers, ReadsIndefiniteMembers};
 ghost use Rattle.cbor4ii_tree.specs.Valuing.{RejectsIndefiniteMembers, ReadsMember, RejectsMember};
 ghost use Rattle.cbor4ii_tree.specs.Valuing.{ReadsTagged, TakesLength, TakesTag, flat_values};
-ghost use Rattle.cbor4ii_tree.specs.Leaf.{CanTake, DoesAfterFirst, DoesAfterNext};
+ghost use Rattle.cbor4ii_tree.specs.Asking.{Asks, BeginsString, InParts, InTagged, InValue};
+ghost use Rattle.cbor4ii_tree.specs.Leaf.{AsksAfterNext, CanTake, DoesAfterFirst, DoesAfterNext};
 ghost use Rattle.cbor4ii_tree.specs.LeafRuns.{flat, GivesItems, PutsItems, PutsItemsUnder};
 ghost use Rattle.cbor4ii_tree.specs.LeafRuns.{RejectsItemsUnder};
 ghost use Rattle.cbor4ii_tree.specs.Item.{IsItem, AreItems};
@@ -174,9 +175,8 @@ fn length<S: Source>(
     failure: &mut Option<DecodeError<S::Error>>,
 ) -> Option<Option<usize>>
     requires { (major ≡ 4) ⊎ (major ≡ 5) }
-    ensures does { DoesUnder (TakesLength false major) (RejectsMajor false major)
+    ensures { Gives Never Anything (DoesUnder (TakesLength false major) (RejectsMajor false major))
         (S.view reader.old) (S.view reader.new) (answered result failure.new) }
-    ensures progress { OnSome result ((S.view reader.new).bound + 1 ≤ (S.view reader.old).bound) }
 {
     if major == major::ARRAY {
         return part(Array::len(reader), failure);
@@ -192,7 +192,8 @@ pub(crate) fn read_outermost<S: Source, A: Encodings>(
     reader: &mut S,
     failure: &mut Option<DecodeError<S::Error>>,
 ) -> Option<Value>
-    ensures { Gives InRange (DoesUnder (ReadsOneValue A.exact) (RejectsOneValue A.exact))
+    ensures { Gives (Asks (InValue A.exact)) InRange
+        (DoesUnder (ReadsOneValue A.exact) (RejectsOneValue A.exact))
         (S.view reader.old) (S.view reader.new) (answered result failure.new) }
 {
     if !reader.step_in() {
@@ -210,7 +211,8 @@ fn read_apart<S: Source, A: Encodings>(
     reader: &mut S,
     failure: &mut Option<DecodeError<S::Error>>,
 ) -> Option<Value>
-    ensures { Gives InRange (DoesUnder (ReadsUnder A.exact) (RejectsUnder A.exact))
+    ensures { Gives (Asks (InValue A.exact)) InRange
+        (DoesUnder (ReadsUnder A.exact) (RejectsUnder A.exact))
         (S.view reader.old) (S.view reader.new) (answered result failure.new) }
 {
     read_inside::<S, A>(alloc, reader, failure)
@@ -225,7 +227,8 @@ fn read_value<S: Source, A: Encodings>(
     reader: &mut S,
     failure: &mut Option<DecodeError<S::Error>>,
 ) -> Option<Value>
-    ensures { Gives InRange (DoesUnder (ReadsOneValue A.exact) (RejectsOneValue A.exact))
+    ensures { Gives (Asks (InValue A.exact)) InRange
+        (DoesUnder (ReadsOneValue A.exact) (RejectsOneValue A.exact))
         (S.view reader.old) (S.view reader.new) (answered result failure.new) }
 {
     if !reader.step_in() {
@@ -245,7 +248,8 @@ fn read_inside<S: Source, A: Encodings>(
     reader: &mut S,
     failure: &mut Option<DecodeError<S::Error>>,
 ) -> Option<Value>
-    ensures { Gives InRange (DoesUnder (ReadsUnder A.exact) (RejectsUnder A.exact))
+    ensures { Gives (Asks (InValue A.exact)) InRange
+        (DoesUnder (ReadsUnder A.exact) (RejectsUnder A.exact))
         (S.view reader.old) (S.view reader.new) (answered result failure.new) }
 {
     match take_leaf::<S, A>(alloc, reader, failure)? {
@@ -264,7 +268,8 @@ fn read_next<S: Source, A: Encodings>(
     failure: &mut Option<DecodeError<S::Error>>,
 ) -> Option<Value>
     requires { CanTake next (S.view reader.old) }
-    ensures { Gives InRange (DoesAfterNext A.exact next (ReadsUnder A.exact) (RejectsUnder A.exact))
+    ensures { Gives (AsksAfterNext A.exact next (InValue A.exact)) InRange
+        (DoesAfterNext A.exact next (ReadsUnder A.exact) (RejectsUnder A.exact))
         (S.view reader.old) (S.view reader.new) (answered result failure.new) }
 {
     match next.first / 32 {
@@ -286,7 +291,8 @@ fn read_tag<S: Source, A: Encodings>(
 ) -> Option<Value>
     requires can { CanTake next (S.view reader.old) }
     requires major { next.first / 32 ≡ 6 }
-    ensures { Gives InRange (DoesAfterNext A.exact next (ReadsUnder A.exact) (RejectsOf A.exact 6))
+    ensures { Gives (AsksAfterNext A.exact next (InValue A.exact)) InRange
+        (DoesAfterNext A.exact next (ReadsUnder A.exact) (RejectsOf A.exact 6))
         (S.view reader.old) (S.view reader.new) (answered result failure.new) }
 {
     let number = take_tag::<S, A>(reader, next, failure)?;
@@ -302,7 +308,8 @@ fn read_tagged<S: Source, A: Encodings>(
     number: u64,
     failure: &mut Option<DecodeError<S::Error>>,
 ) -> Option<Value>
-    ensures { Gives InRange (DoesUnder (ReadsTagged A.exact number) (RejectsOneValue A.exact))
+    ensures { Gives (Asks (InTagged A.exact)) InRange
+        (DoesUnder (ReadsTagged A.exact number) (RejectsOneValue A.exact))
         (S.view reader.old) (S.view reader.new) (answered result failure.new) }
 {
     let inner = read_value::<S, A>(alloc, reader, failure)?;
@@ -324,9 +331,9 @@ fn take_tag<S: Source, A: Encodings>(
 ) -> Option<u64>
     requires can { CanTake next (S.view reader.old) }
     requires major { next.first / 32 ≡ 6 }
-    ensures does { DoesAfterNext A.exact next (TakesTag A.exact) (RejectsOf A.exact 6)
+    ensures { Gives Never Anything
+        (DoesAfterNext A.exact next (TakesTag A.exact) (RejectsOf A.exact 6))
         (S.view reader.old) (S.view reader.new) (answered result failure.new) }
-    ensures progress { OnSome result ((S.view reader.new).bound + 1 ≤ (S.view reader.old).bound) }
 {
     match next.head {
         Some(head) => {
@@ -349,10 +356,9 @@ fn take_length<S: Source, A: Encodings>(
     requires can { CanTake next (S.view reader.old) }
     requires major { next.first / 32 ≡ major }
     requires nests { (major ≡ 4) ⊎ (major ≡ 5) }
-    ensures does { DoesAfterNext A.exact next
-        (TakesLength A.exact major) (RejectsMajor A.exact major)
+    ensures { Gives Never Anything (DoesAfterNext A.exact next
+        (TakesLength A.exact major) (RejectsMajor A.exact major))
         (S.view reader.old) (S.view reader.new) (answered result failure.new) }
-    ensures progress { OnSome result ((S.view reader.new).bound + 1 ≤ (S.view reader.old).bound) }
 {
     match next.head {
         Some(head) => {
@@ -374,7 +380,8 @@ fn read_alone<S: Source, A: Encodings>(
 ) -> Option<Value>
     requires shown { 1 ≤ (S.view reader.old).advanceable }
     requires major { (first / 32 ≤ 3) ⊎ (first / 32 ≡ 7) }
-    ensures { Gives InRange (DoesAfterFirst first (ReadsUnder A.exact) (RejectsUnder A.exact))
+    ensures { Gives (λ _ _. BeginsString first) InRange
+        (DoesAfterFirst first (ReadsUnder A.exact) (RejectsUnder A.exact))
         (S.view reader.old) (S.view reader.new) (answered result failure.new) }
 {
     if first / 32 != major::SIMPLE {
@@ -405,7 +412,8 @@ fn read_array<S: Source, A: Encodings>(
 ) -> Option<Value>
     requires can { CanTake next (S.view reader.old) }
     requires major { next.first / 32 ≡ 4 }
-    ensures { Gives InRange (DoesAfterNext A.exact next (ReadsUnder A.exact) (RejectsOf A.exact 4))
+    ensures { Gives (AsksAfterNext A.exact next (InValue A.exact)) InRange
+        (DoesAfterNext A.exact next (ReadsUnder A.exact) (RejectsOf A.exact 4))
         (S.view reader.old) (S.view reader.new) (answered result failure.new) }
 {
     if !reader.step_in() {
@@ -427,7 +435,8 @@ fn array_inside<S: Source, A: Encodings>(
 ) -> Option<Value>
     requires can { CanTake next (S.view reader.old) }
     requires major { next.first / 32 ≡ 4 }
-    ensures { Gives InRange (DoesAfterNext A.exact next
+    ensures { Gives (AsksAfterNext A.exact next (InValue A.exact)) InRange
+        (DoesAfterNext A.exact next
         (ReadsInside A.exact) (RejectsMajor A.exact 4))
         (S.view reader.old) (S.view reader.new) (answered result failure.new) }
 {
@@ -448,6 +457,8 @@ fn definite_items<S: Source, A: Encodings>(
     failure: &mut Option<DecodeError<S::Error>>,
 ) -> Option<Vec<Value>>
     ensures does { DoesUnder (ReadsVec (ReadsItems A.exact count)) (RejectsItems A.exact count)
+        (S.view reader.old) (S.view reader.new) (answered result failure.new) }
+    ensures memory { WantsOnly (Asks (InParts A.exact 0))
         (S.view reader.old) (S.view reader.new) (answered result failure.new) }
     ensures items { IfSome result (λ v. AreItems (items_view v.items)) }
 {
@@ -474,7 +485,7 @@ fn more_items<S: Source, A: Encodings>(
     failure: &mut Option<DecodeError<S::Error>>,
 ) -> Option<()>
     requires { length items.old.items < 1 * count }
-    ensures { GivesItems (PutsItems A.exact) (RejectsItems A.exact) (1 * count)
+    ensures { GivesItems A.exact (PutsItems A.exact) (RejectsItems A.exact) (1 * count)
         items.old.items items.new.items
         (S.view reader.old) (S.view reader.new) (answered result failure.new) }
 {
@@ -498,7 +509,7 @@ fn items_inside<S: Source, A: Encodings>(
     failure: &mut Option<DecodeError<S::Error>>,
 ) -> Option<()>
     requires { length items.old.items < 1 * count }
-    ensures { GivesItems (PutsItemsUnder A.exact) (RejectsItemsUnder A.exact) (1 * count)
+    ensures { GivesItems A.exact (PutsItemsUnder A.exact) (RejectsItemsUnder A.exact) (1 * count)
         items.old.items items.new.items
         (S.view reader.old) (S.view reader.new) (answered result failure.new) }
 {
@@ -523,7 +534,7 @@ fn more_members<S: Source, A: Encodings>(
     failure: &mut Option<DecodeError<S::Error>>,
 ) -> Option<()>
     requires { length (flat pairs.old) < 2 * count }
-    ensures { GivesItems (PutsItems A.exact) (RejectsItems A.exact) (2 * count)
+    ensures { GivesItems A.exact (PutsItems A.exact) (RejectsItems A.exact) (2 * count)
         (flat pairs.old) (flat pairs.new)
         (S.view reader.old) (S.view reader.new) (answered result failure.new) }
 {
@@ -547,7 +558,7 @@ fn members_inside<S: Source, A: Encodings>(
     failure: &mut Option<DecodeError<S::Error>>,
 ) -> Option<()>
     requires { length (flat pairs.old) < 2 * count }
-    ensures { GivesItems (PutsItemsUnder A.exact) (RejectsItemsUnder A.exact) (2 * count)
+    ensures { GivesItems A.exact (PutsItemsUnder A.exact) (RejectsItemsUnder A.exact) (2 * count)
         (flat pairs.old) (flat pairs.new)
         (S.view reader.old) (S.view reader.new) (answered result failure.new) }
 {
@@ -570,6 +581,8 @@ fn indefinite_items<S: Source, A: Encodings>(
     ensures does { DoesUnder
         (ReadsVec (ReadsIndefiniteItems A.exact)) (RejectsIndefiniteItems A.exact)
         (S.view reader.old) (S.view reader.new) (answered result failure.new) }
+    ensures memory { WantsOnly (Asks (InParts A.exact 1))
+        (S.view reader.old) (S.view reader.new) (answered result failure.new) }
     ensures items { IfSome result (λ v. AreItems (items_view v.items)) }
 {
     let mut items = Vec::new(alloc);
@@ -591,7 +604,8 @@ fn read_map<S: Source, A: Encodings>(
 ) -> Option<Value>
     requires can { CanTake next (S.view reader.old) }
     requires major { next.first / 32 ≡ 5 }
-    ensures { Gives InRange (DoesAfterNext A.exact next (ReadsUnder A.exact) (RejectsOf A.exact 5))
+    ensures { Gives (AsksAfterNext A.exact next (InValue A.exact)) InRange
+        (DoesAfterNext A.exact next (ReadsUnder A.exact) (RejectsOf A.exact 5))
         (S.view reader.old) (S.view reader.new) (answered result failure.new) }
 {
     if !reader.step_in() {
@@ -613,7 +627,8 @@ fn map_inside<S: Source, A: Encodings>(
 ) -> Option<Value>
     requires can { CanTake next (S.view reader.old) }
     requires major { next.first / 32 ≡ 5 }
-    ensures { Gives InRange (DoesAfterNext A.exact next
+    ensures { Gives (AsksAfterNext A.exact next (InValue A.exact)) InRange
+        (DoesAfterNext A.exact next
         (ReadsInside A.exact) (RejectsMajor A.exact 5))
         (S.view reader.old) (S.view reader.new) (answered result failure.new) }
 {
@@ -634,6 +649,8 @@ fn definite_members<S: Source, A: Encodings>(
     failure: &mut Option<DecodeError<S::Error>>,
 ) -> Option<Vec<(Value, Value)>>
     ensures does { DoesUnder (ReadsVec (ReadsMembers A.exact count)) (RejectsMembers A.exact count)
+        (S.view reader.old) (S.view reader.new) (answered result failure.new) }
+    ensures memory { WantsOnly (Asks (InParts A.exact 0))
         (S.view reader.old) (S.view reader.new) (answered result failure.new) }
     ensures items { IfSome result (λ v. AreItems (items_view (flat_values v.items))) }
 {
@@ -661,6 +678,8 @@ fn indefinite_members<S: Source, A: Encodings>(
     ensures does { DoesUnder
         (ReadsVec (ReadsIndefiniteMembers A.exact)) (RejectsIndefiniteMembers A.exact)
         (S.view reader.old) (S.view reader.new) (answered result failure.new) }
+    ensures memory { WantsOnly (Asks (InParts A.exact 1))
+        (S.view reader.old) (S.view reader.new) (answered result failure.new) }
     ensures items { IfSome result (λ v. AreItems (items_view (flat_values v.items))) }
 {
     let mut members = Vec::new(alloc);
@@ -679,7 +698,8 @@ fn read_member<S: Source, A: Encodings>(
     reader: &mut S,
     failure: &mut Option<DecodeError<S::Error>>,
 ) -> Option<(Value, Value)>
-    ensures { Gives (λ m. InRange m.0 × InRange m.1)
+    ensures { Gives (Asks (InParts A.exact 1))
+        (λ m. InRange m.0 × InRange m.1)
         (DoesUnder (ReadsMember A.exact) (RejectsMember A.exact))
         (S.view reader.old) (S.view reader.new) (answered result failure.new) }
 {

@@ -1,5 +1,5 @@
 //! Values that are encoded in one way, made and written.
-ghost use Rattle.std.specs.Prelude.{◌≡◌, ◌++◌, ℕ, List, OnOk, IfOk};
+ghost use Rattle.std.specs.Prelude.{◌≡◌, ◌≢◌, ◌++◌, ℕ, List, OnOk, OnErr, IfOk};
 ghost use Rattle.cbor4ii_items.specs.Budget.{CostFits};
 ghost use Rattle.cbor4ii_items.specs.Writing.{Writes};
 ghost use Rattle.cbor4ii_tree.specs.Canonical.{canonical_encoding, canonical_cost, with_bignums};
@@ -21,13 +21,19 @@ impl Canonical {
     /// tag 2 or 3 that it is written as (RFC 8949 section 3.4.3). What is written of the answer is
     /// read as the very same value.
     ///
+    /// Tags that stand in the value stay as they are: bignums with leading zeros, or within 64
+    /// bits, too. Where each integer shall have one encoding, make them `Value::Integer` before.
+    /// `deserialize_any` of `cbor4ii` reads them so.
+    ///
     /// # Errors
     ///
-    /// `NoMemory`: there was no memory for such a tag. A value without such integers takes none.
+    /// `NoMemory`: there was no memory for such a tag. A value without such integers takes none,
+    /// and has no error.
     pub fn try_from_value(alloc: Global, value: Value) -> Result<Canonical, NoMemory>
         ensures value { IfOk result (λ canonical. view canonical.0 ≡ with_bignums (view value)) }
         ensures tagged { IfOk result (λ canonical.
             with_bignums (view canonical.0) ≡ view canonical.0) }
+        ensures memory { OnErr result (with_bignums (view value) ≢ view value) }
     {
         let mut value = value;
         tag_bignums(alloc, &mut value)?;

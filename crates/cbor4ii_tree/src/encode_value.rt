@@ -99,6 +99,8 @@ fn put<W: Write, T: Encode>(
 
 /// Writes the shortest head of this major type with this argument, in one push of a constant
 /// length: into memory that takes the fewest steps.
+// A head by `cbor4ii_items` answers with the writer's error, and one of two bytes is a call then:
+// arrays of small values, read and written to a stream, take 117 instructions for 100.
 #[inline(always)]
 fn put_head<W: Write>(
     writer: &mut W,

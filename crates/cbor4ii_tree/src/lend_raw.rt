@@ -23,8 +23,8 @@ pub(crate) enum NoPrefix<E> {
     Short,
 }
 
-/// Bytes that a reader lends, of which an item at their front is kept. `RawValue<'de>` is lent by
-/// every `Read<'de>`.
+/// Bytes that a reader lends, of which an item at their beginning is kept. `RawValue<'de>` is lent
+/// by every `Read<'de>`.
 ///
 /// A function whose signature holds a `'static` name, as each error's, cannot fill a reader that
 /// names a lifetime. So what fills is a trait of what is lent, and a prefix that is not lent is
@@ -92,7 +92,7 @@ pub(crate) fn capture<T: LendRaw<S>, S: Source>(reader: &mut S) -> Result<T, Dec
     }
 }
 
-/// How many of the shown bytes the item at their front has, skipped under the reader's steps.
+/// How many of the shown bytes the item at their beginning has, skipped under the reader's steps.
 pub(crate) fn skip_lent<S: Source>(
     shown: &[u8],
     reader: &mut S,

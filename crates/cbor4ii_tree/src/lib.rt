@@ -11,6 +11,8 @@ pub mod decode_canonical;
 mod decode_value;
 mod encode_canonical;
 mod encode_value;
+mod equal_keys;
+mod exact_order;
 mod from;
 mod hash;
 pub mod ignored;

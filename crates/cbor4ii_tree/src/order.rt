@@ -14,8 +14,9 @@ ghost use Rattle.cbor4ii_tree.specs.Order.{Compares, shortest_parts, head_of, Ha
 ghost use Rattle.cbor4ii_tree.specs.Order.{after_head, major_of, content_of, elements_of, pairs_of};
 ghost use Rattle.cbor4ii_tree.specs.View.{view, items_view, members_view, float_view};
 
-use crate::bignum::{bignum_parts, without_leading_zeros};
+use crate::bignum::bignum_parts;
 use crate::value::{FloatBits, Value};
+use cbor4ii_items::bignum::without_leading_zeros;
 use cbor4ii_items::{major, marker};
 use std::cmp::Ordering;
 
@@ -69,7 +70,7 @@ fn cmp_after_heads(a: &Value, b: &Value) -> Ordering
 }
 
 /// How two contents of one length compare.
-fn cmp_bytes(a: &[u8], b: &[u8]) -> Ordering
+pub(crate) fn cmp_bytes(a: &[u8], b: &[u8]) -> Ordering
     requires { length a.now ≡ length b.now }
     ensures { Compares result a.now b.now }
 {
@@ -250,7 +251,7 @@ fn additional(argument: u64) -> u8
 }
 
 /// The bytes of a string; none of any other kind of value.
-fn content_of(value: &Value) -> &[u8]
+pub(crate) fn content_of(value: &Value) -> &[u8]
     ensures { result.now ≡ content_of (view value.now) }
 {
     match value {
@@ -261,7 +262,7 @@ fn content_of(value: &Value) -> &[u8]
 }
 
 /// The elements of an array; none of any other kind of value.
-fn elements_of(value: &Value) -> &[Value]
+pub(crate) fn elements_of(value: &Value) -> &[Value]
     ensures { items_view result.now ≡ elements_of (view value.now) }
 {
     match value {
@@ -271,7 +272,7 @@ fn elements_of(value: &Value) -> &[Value]
 }
 
 /// The pairs of a map; none of any other kind of value.
-fn pairs_of(value: &Value) -> &[(Value, Value)]
+pub(crate) fn pairs_of(value: &Value) -> &[(Value, Value)]
     ensures { members_view result.now ≡ pairs_of (view value.now) }
 {
     match value {

@@ -1,13 +1,19 @@
 //! Items that are kept as their bytes, and are read as values.
-ghost use Rattle.std.specs.Prelude.{◌≡◌};
+ghost use Rattle.std.specs.Prelude.{◌≡◌, true};
 ghost use Rattle.cbor4ii_items.specs.Whole.{DecodesWhole};
+ghost use Rattle.cbor4ii_items.specs.Writing.{WritesAtomically};
+ghost use Rattle.cbor4ii_tree.specs.Laws.Capturing.{plain_raw_lawful};
 ghost use Rattle.cbor4ii_tree.specs.PlainRaw.{plain_raw_content, plain_raw_format};
 ghost use Rattle.cbor4ii_tree.specs.Raw.{raw_content};
 
 use crate::raw::RawValue;
 use crate::value::Value;
+use cbor4ii_items::decode::{Decodable, Decode};
+use cbor4ii_items::encode::Encode;
 use cbor4ii_items::whole::decode_whole;
-use cbor4ii_rw::error::{DecodeError, Never, WholeError};
+use cbor4ii_rw::error::{DecodeError, EncodeError, Never, WholeError};
+use cbor4ii_rw::slice_reader::SliceReader;
+use cbor4ii_rw::write::Write;
 use std::alloc::Global;
 
 /// One item that `Value` accepts: well-formed, and each text is UTF-8. Equal keys of a map are not
@@ -45,5 +51,52 @@ impl<'de> PlainRawValue<'de> {
         ensures { result.now ≡ plain_raw_content self.now }
     {
         self.0.as_bytes()
+    }
+}
+
+/// One item, read as a value under a step for each level.
+impl<'de> Decodable for PlainRawValue<'de> {
+    ghost format = { plain_raw_format };
+
+    fn is_never_empty() -> bool
+        ensures { result ≡ true }
+    {
+        true
+    }
+
+    ghost lawful = { plain_raw_lawful };
+}
+
+/// Over a slice. The value at its front is read and dropped, and its bytes are kept as they stand.
+/// They are not copied. What is accepted is exactly what `Value` accepts.
+///
+/// # Errors
+///
+/// Those of `Value`, with what they leave. `OutOfMemory`: a growth was refused.
+impl<'de> Decode<SliceReader<'de>> for PlainRawValue<'de> {
+    fn decode(
+        alloc: Global,
+        reader: &mut SliceReader<'de>,
+    ) -> Result<PlainRawValue<'de>, DecodeError<Never>> {
+        let bytes = reader.remaining();
+        let _value = Value::decode(alloc, reader)?;
+        let size = bytes.len() - reader.remaining().len();
+        Ok(PlainRawValue(RawValue::of(&bytes[..size])))
+    }
+}
+
+/// Written as it stands, in one push.
+///
+/// # Errors
+///
+/// `Write`: the writer failed. An atomic writer then holds what it held before.
+impl Encode for PlainRawValue<'_> {
+    ghost bytes = { plain_raw_content };
+
+    fn encode<W: Write>(&self, writer: &mut W) -> Result<(), EncodeError<W::Error>>
+        ensures { WritesAtomically W.atomic (plain_raw_content self.now)
+            (W.view writer.old) (W.view writer.new) result }
+    {
+        self.0.encode(writer)
     }
 }

@@ -33,7 +33,7 @@ pub(crate) trait Prefix<S: Source>: Sized {
             (ReaderFails (view self.old reader.old) (view self.new reader.new)) }
         ensures stays { IsTrue apart → S.view reader.new ≡ S.view reader.old };
 
-    /// What comes next, decided by one look at the front.
+    /// What comes next, decided by one look at the beginning.
     fn ahead(&mut self, reader: &mut S, among: Among) -> Result<Ahead, S::Error>
         ensures offers { IfOk result (λ seen. Offers 256 (Sees among seen)
             (view self.old reader.old) (view self.new reader.new)) }

@@ -121,8 +121,8 @@ impl<'de, R: Read<'de>> LendRaw<R> for RawValue<'de> {
 }
 
 /// One fill asks for all that is left. Where its bytes live as long as the input, the item at
-/// their front is skipped in place, under the reader's steps, and then taken at once. Nothing is
-/// copied, and no memory is taken.
+/// their beginning is skipped in place, under the reader's steps, and then taken at once. Nothing
+/// is copied, and no memory is taken.
 ///
 /// # Errors
 ///

@@ -43,7 +43,7 @@ pub(crate) trait Parts {
         ensures less { result ≡ true → length (flat self.now) < width * most }
         ensures full { result ≡ false → width * most ≤ length (flat self.now) };
 
-    /// Puts a value after those that there are. None where memory is rejected.
+    /// Puts a value after those that there are. None where memory is refused.
     fn put(&mut self, value: Value) -> Option<()>
         ensures { OnSome result (flat self.new ≡ flat self.old ++ value ∷ []) };
 }
@@ -95,7 +95,7 @@ impl Parts for Pairs {
     }
 }
 
-/// Puts a part after those that there are. None where memory is rejected.
+/// Puts a part after those that there are. None where memory is refused.
 #[inline(always)]
 fn push<T: Drop>(parts: &mut Vec<T>, part: T) -> Option<()>
     ensures { OnSome result (parts.new.items ≡ parts.old.items ++ part ∷ []) }
@@ -103,7 +103,7 @@ fn push<T: Drop>(parts: &mut Vec<T>, part: T) -> Option<()>
     parts.push(part).ok()
 }
 
-/// Puts a value after those that there are. Where memory is rejected, `failure` is left empty.
+/// Puts a value after those that there are. Where memory is refused, `failure` is left empty.
 #[inline(always)]
 pub(crate) fn put_value<P: Parts, E: Drop>(
     parts: &mut P,
@@ -188,7 +188,7 @@ fn glance_run<S: Source, A: Encodings, P: Parts>(
     }
 }
 
-/// Puts the values at the front of the shown bytes after `parts`.
+/// Puts the values at the beginning of the shown bytes after `parts`.
 #[inline(always)]
 fn run_of<A: Encodings, P: Parts>(alloc: Global, shown: &[u8], most: usize, parts: &mut P) -> Ran
     requires { length (P.flat parts.old) < P.width * most }

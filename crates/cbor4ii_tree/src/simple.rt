@@ -1,6 +1,6 @@
 //! Simple values and floats, which `Value` and `Canonical` read alike (RFC 8949 section 3.3).
 ghost use Rattle.std.specs.Prelude.{◌+◌, ◌≤◌, Bool, OnOk, IfOk};
-ghost use Rattle.cbor4ii_tree.specs.Does.{DoesUnder};
+ghost use Rattle.cbor4ii_tree.specs.Does.{DoesUnder, Never, WantsOnly};
 ghost use Rattle.cbor4ii_tree.specs.Item.{IsItem};
 ghost use Rattle.cbor4ii_tree.specs.Valuing.{ReadsUnder, RejectsFirst, SimpleOf, IsNoSimple};
 ghost use Rattle.cbor4ii_tree.specs.View.{view};
@@ -38,6 +38,7 @@ pub(crate) fn read_float<S: Source>(
     requires other { IsNoSimple first }
     ensures does { (exact : Bool) → DoesUnder (ReadsUnder exact) (RejectsFirst exact first)
         (S.view reader.old) (S.view reader.new) result }
+    ensures memory { WantsOnly Never (S.view reader.old) (S.view reader.new) result }
     ensures item { IfOk result (λ v. IsItem (view v)) }
     ensures progress { OnOk result ((S.view reader.new).bound + 1 ≤ (S.view reader.old).bound) }
 {

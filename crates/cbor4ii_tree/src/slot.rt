@@ -66,7 +66,7 @@ pub(crate) fn leave_not_canonical<E: Drop>(name: StaticStr, failure: &mut Option
     *failure = Some(DecodeError::NotCanonical { name });
 }
 
-/// The value, or the error that was left. An empty slot stands for rejected memory.
+/// The value, or the error that was left. An empty slot stands for refused memory.
 #[inline(always)]
 pub(crate) fn whole<T: Drop, E: Drop>(
     value: Option<T>,
@@ -92,7 +92,7 @@ fn err<E: Drop>(failure: &mut Option<DecodeError<E>>) -> DecodeError<E>
     }
 }
 
-/// Puts an item after those that are there. Where memory is rejected, `failure` is left empty.
+/// Puts an item after those that are there. Where memory is refused, `failure` is left empty.
 #[inline(always)]
 pub(crate) fn keep<T: Drop, E: Drop>(
     items: &mut Vec<T>,

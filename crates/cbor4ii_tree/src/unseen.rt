@@ -28,7 +28,7 @@ pub(crate) fn ends<S: Source, F: Prefix<S>>(
     ensures does { Does (EndsOrNot among) (RejectsAtEnd among)
         (F.view prefix.old reader.old) (F.view prefix.new reader.new) result }
     ensures spares { Spares result }
-    ensures open { IfOk result (λ ended. IsTrue ended → IsIndefinite among) }
+    ensures ended { IfOk result (λ ended. IsTrue ended → IsIndefinite among) }
     ensures stays { IsTrue F.apart → S.view reader.new ≡ S.view reader.old }
 {
     if !among.is_indefinite() {

@@ -1,2 +1,3 @@
--- What the readers and writers for tests tell.
-pub mod Tells
+-- What the readers and writers for tests report.
+pub mod Reports
+pub mod Connection

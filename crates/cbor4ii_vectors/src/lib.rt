@@ -2,9 +2,12 @@
 //! compared.
 #![tactic(auto)]
 
+pub mod asked;
+pub mod connection;
 mod errors;
 pub mod items;
 pub mod readers;
+pub mod repeated;
 pub mod rows;
 pub mod streams;
 pub mod writers;

@@ -3,13 +3,13 @@ ghost use Rattle.std.specs.Prelude.{◌≡◌, None, Some, IsTrue, take, false};
 ghost use Rattle.std.proofs.Common.{rules};
 ghost use Rattle.cbor4ii_rw.specs.Reader.{ReaderFails, StepsIn, step_back};
 ghost use Rattle.cbor4ii_rw.specs.View.{IfKnown};
-ghost use Rattle.cbor4ii_vectors.specs.Tells.{test_view, counting_view, asked_view};
+ghost use Rattle.cbor4ii_vectors.specs.Reports.{test_view, counting_view, asked_view};
 
 use cbor4ii_rw::error::Never;
 use cbor4ii_rw::long::FillLong;
 use cbor4ii_rw::read::{Read, Reference, Source};
 
-/// That a test reader or a test writer failed, as it was told to.
+/// That a test reader or a test writer failed, as it had to.
 #[derive(Clone, Copy, Debug, PartialEq, Eq)]
 pub struct Failure;
 
@@ -307,7 +307,7 @@ impl<'de> FillLong for TestReader<'de> {
 }
 
 /// Shows at most what is wanted, which outlives the fill, and counts its shows and fills, and how
-/// often it is told to advance.
+/// often it is asked to advance.
 #[derive(Drop)]
 pub struct Counting<'a> {
     bytes: &'a [u8],
@@ -332,7 +332,7 @@ impl<'a> Counting<'a> {
         self.shows
     }
 
-    /// How often it was told to take bytes.
+    /// How often it was asked to take bytes.
     pub fn advances(&self) -> usize {
         self.advances
     }
@@ -447,7 +447,7 @@ impl<'a> Asked<'a> {
     }
 
     /// The same reader, which fails where more than so many bytes are wanted.
-    pub fn rejecting_above(self, most: usize) -> Asked<'a> {
+    pub fn refusing_above(self, most: usize) -> Asked<'a> {
         Asked { most, ..self }
     }
 

@@ -1,7 +1,7 @@
 //! How a row is tried: read over each reader, written, and with a fault at each place.
 //!
 //! What a row finds wrong is the failure of the test that tries it, and says of which bytes. Where
-//! memory is rejected, the row says nothing, and that error is the test's failure.
+//! memory is refused, the row says nothing, and that error is the test's failure.
 use crate::readers::{Failure, TestReader};
 use crate::streams::{FailingSink, FailingStream};
 use crate::writers::{FailingWriter, PushLengths};
@@ -44,13 +44,13 @@ const ABOUT_A_LOOK: [usize; 3] = [4_095, 4_096, 4_097];
 ///
 /// That it is read is proved once, over any reader, and a test of its rows asks no more of it.
 pub trait ReadFrom: Sized {
-    /// Reads it off the front of what `reader` has left.
+    /// Reads it from the beginning of what `reader` has left.
     fn read_from<S: Source>(alloc: Global, reader: &mut S) -> Result<Self, DecodeError<S::Error>>;
 }
 
 /// What is read off one reader, as what is borrowed from its input.
 pub trait ReadBy<S: Source>: Sized {
-    /// Reads it off the front of what `reader` has left.
+    /// Reads it from the beginning of what `reader` has left.
     fn read_by(alloc: Global, reader: &mut S) -> Result<Self, DecodeError<S::Error>>;
 }
 
@@ -458,7 +458,7 @@ where
 }
 
 /// Reads all the bytes over this reader as one value, with the steps as before. Where memory is
-/// rejected, an end of the bytes is left.
+/// refused, an end of the bytes is left.
 pub fn reads_all<T, S>(alloc: Global, reader: &mut S, bytes: &[u8]) -> Result<T, Fail>
 where
     T: ReadBy<S> + Drop,
@@ -511,7 +511,7 @@ fn leaves_an_end<S: Source>(alloc: Global, reader: &mut S, bytes: &[u8]) -> Resu
     Err(Fail::new(format_args!("{left:?} is left of {bytes:?}")))
 }
 
-/// Each proper front of the item is the end of the input, over each reader that does not fail:
+/// Each proper prefix of the item is the end of the input, over each reader that does not fail:
 /// nothing is left, and the steps are as before.
 pub fn ends_at_each_prefix<T>(alloc: Global, item: &'static [u8], limit: usize) -> Result<(), Fail>
 where
@@ -759,7 +759,7 @@ where
     Ok(())
 }
 
-// As `asks_nothing_behind`, over the reader that shows all that is left.
+// As `asks_nothing_after`, over the reader that shows all that is left.
 fn asks_whole_nothing_after<T>(
     alloc: Global,
     item: &'static [u8],
@@ -807,7 +807,7 @@ pub fn writes<T: WriteTo>(alloc: Global, value: &T, bytes: &[u8]) -> Result<usiz
 }
 
 // What a writer holds after a byte that stood there is what is wanted, or a prefix of it where
-// memory is rejected, which is the failure of the test.
+// memory is refused, which is the failure of the test.
 fn is_appended<E: Debug + Drop>(
     got: Result<(), EncodeError<E>>,
     held: Option<&[u8]>,

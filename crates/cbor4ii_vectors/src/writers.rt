@@ -1,6 +1,6 @@
 //! Writers for tests.
 ghost use Rattle.std.specs.Prelude.{◌≡◌, Some, true, false};
-ghost use Rattle.cbor4ii_vectors.specs.Tells.{failing_output, pushed_output};
+ghost use Rattle.cbor4ii_vectors.specs.Reports.{failing_output, pushed_output};
 
 use crate::readers::Failure;
 use cbor4ii_rw::write::Write;

@@ -4,7 +4,8 @@ use crate::typed::{Take, reads_all};
 use cbor4ii::serde::{DecodeError, Deserializer};
 use cbor4ii::types::F64;
 use cbor4ii_rw::read::Source;
-use cbor4ii_vectors::rows::Row;
+use cbor4ii_vectors::repeated::repeated;
+use cbor4ii_vectors::rows::{Row, reads_by_each};
 use cbor4ii_vectors::{eof, require_utf8, table, unsupported};
 use std::alloc::Global;
 use std::test::Fail;
@@ -186,4 +187,16 @@ fn so_many_fields_are_read_by_name(rt: HostRuntime) -> Result<(), Fail> {
     reads_all(alloc, FOURS, &[])?;
     reads_all(alloc, FIVES, &[])?;
     reads_all(alloc, SIXES, &[])
+}
+
+// 6,000 entries in a row, of a field that is known and of one that is not: 0x1770. Of the known one
+// the last counts.
+#[test]
+fn so_many_entries_are_read(rt: HostRuntime) -> Result<(), Fail> {
+    let alloc = rt.alloc();
+    let want = Ok(Is(One(Some(5))));
+    let known = repeated(alloc, b"\xb9\x17\x70", b"\x61y\x05", 6_000, b"")?;
+    reads_by_each(alloc, known, 256, &want, b"")?;
+    let unknown = repeated(alloc, b"\xbf\x61y\x05", b"\x61x\x80", 6_000, b"\xff")?;
+    reads_by_each(alloc, unknown, 256, &want, b"")
 }

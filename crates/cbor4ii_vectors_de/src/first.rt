@@ -1,5 +1,5 @@
-//! The value at the front of a slice, and of a stream.
-use crate::typed::{BothShown, come_back, comes_back_lent, is_at_front, is_rejected};
+//! The value at the beginning of a slice, and of a stream.
+use crate::typed::{BothShown, come_back, comes_back_lent, is_at_beginning, is_rejected};
 use cbor4ii::Value;
 use cbor4ii::serde::{
     DecodeError, Deserialize, WholeError, from_reader, from_slice, from_slice_whole,
@@ -15,8 +15,8 @@ use std::fmt::{Debug, InlineText};
 use std::io::{self, BufRead, ErrorKind};
 use std::test::Fail;
 
-/// A text at the front of the bytes, which is lent.
-fn text_is_at_front(alloc: Global, bytes: &[u8], want: &str) -> Result<(), Fail> {
+/// A text at the beginning of the bytes, which is lent.
+fn text_is_at_beginning(alloc: Global, bytes: &[u8], want: &str) -> Result<(), Fail> {
     let text: &str = from_slice(alloc, bytes)?;
     if text == want {
         return Ok(());
@@ -25,11 +25,11 @@ fn text_is_at_front(alloc: Global, bytes: &[u8], want: &str) -> Result<(), Fail>
 }
 
 #[test]
-fn the_value_at_the_front(rt: HostRuntime) -> Result<(), Fail> {
+fn the_value_at_the_beginning(rt: HostRuntime) -> Result<(), Fail> {
     let alloc = rt.alloc();
-    is_at_front::<u8>(alloc, b"\x05\xff", "5")?;
-    is_at_front::<BTreeMap<u8, u8>>(alloc, b"\xa2\x01\x02\x01\x03", "{1: 3}")?;
-    text_is_at_front(alloc, b"\x61a", "a")
+    is_at_beginning::<u8>(alloc, b"\x05\xff", "5")?;
+    is_at_beginning::<BTreeMap<u8, u8>>(alloc, b"\xa2\x01\x02\x01\x03", "{1: 3}")?;
+    text_is_at_beginning(alloc, b"\x61a", "a")
 }
 
 // The bytes live no longer than the test.
@@ -37,7 +37,7 @@ fn the_value_at_the_front(rt: HostRuntime) -> Result<(), Fail> {
 fn the_value_at_the_front_of_bytes_of_the_test(rt: HostRuntime) -> Result<(), Fail> {
     let alloc = rt.alloc();
     let bytes = Vec::from_slice(alloc, b"\x61a")?;
-    text_is_at_front(alloc, &bytes, "a")?;
+    text_is_at_beginning(alloc, &bytes, "a")?;
     comes_back_lent::<&[u8], String>(alloc, &bytes, &bytes, "\"a\"")
 }
 
@@ -121,8 +121,8 @@ fn bytes_after_the_value_are_counted(rt: HostRuntime) {
     assert_eq!(rt; none, Some(WholeError::Decode(DecodeError::Core(cut))));
 }
 
-/// The number at the front of a stream that is lent.
-fn number_at_front<R: BufRead>(alloc: Global, stream: &mut R) -> Result<u8, Fail> {
+/// The number at the beginning of a stream that is lent.
+fn number_at_beginning<R: BufRead>(alloc: Global, stream: &mut R) -> Result<u8, Fail> {
     let number: u8 = from_reader(alloc, stream)?;
     Ok(number)
 }
@@ -130,7 +130,7 @@ fn number_at_front<R: BufRead>(alloc: Global, stream: &mut R) -> Result<u8, Fail
 #[test]
 fn a_stream_stands_after_the_value_that_was_read(rt: HostRuntime) -> Result<(), Fail> {
     let mut stream: &[u8] = b"\x05\x06";
-    assert_eq!(rt; number_at_front(rt.alloc(), &mut stream)?, 5);
+    assert_eq!(rt; number_at_beginning(rt.alloc(), &mut stream)?, 5);
     assert_eq!(rt; stream, b"\x06".as_slice());
     Ok(())
 }
@@ -140,13 +140,13 @@ fn a_stream_stands_after_the_value_that_was_read(rt: HostRuntime) -> Result<(), 
 #[test]
 fn a_stream_of_single_bytes_stands_after_the_value(rt: HostRuntime) -> Result<(), Fail> {
     let mut stream = FailingStream::new(b"\x18\x05\x06", 1, usize::MAX);
-    assert_eq!(rt; number_at_front(rt.alloc(), &mut stream)?, 5);
+    assert_eq!(rt; number_at_beginning(rt.alloc(), &mut stream)?, 5);
     assert_eq!(rt; stream.remaining(), b"\x06".as_slice());
     Ok(())
 }
 
 #[test]
-fn a_fault_before_the_value_at_the_front(rt: HostRuntime) -> Result<(), Fail> {
+fn a_fault_before_the_value_at_the_beginning(rt: HostRuntime) -> Result<(), Fail> {
     let stream = FailingStream::new(b"\x19\x00\x05", 1, 1).failing_with(ErrorKind::ConnectionReset);
     let fault: Result<u16, DecodeError<io::Error>> = from_reader(rt.alloc(), stream);
     assert!(rt;
@@ -161,20 +161,20 @@ fn a_fault_before_the_value_at_the_front(rt: HostRuntime) -> Result<(), Fail> {
 
 const NEGATIVE: &str = mismatch!("u8", 0x20);
 
-/// No number from 0 on stands at the front of a stream that is lent.
-fn is_negative_at_front<R: BufRead>(alloc: Global, stream: &mut R) -> Result<(), Fail> {
+/// No number from 0 on stands at the beginning of a stream that is lent.
+fn is_negative_at_beginning<R: BufRead>(alloc: Global, stream: &mut R) -> Result<(), Fail> {
     let got: Result<u8, DecodeError<io::Error>> = from_reader(alloc, stream);
     is_rejected(got, NEGATIVE)
 }
 
 // The first byte is taken, and no other.
 #[test]
-fn a_value_that_is_refused_at_the_front(rt: HostRuntime) -> Result<(), Fail> {
+fn a_value_that_is_rejected_at_the_beginning(rt: HostRuntime) -> Result<(), Fail> {
     let alloc = rt.alloc();
     let got = from_slice::<&[u8], u8>(alloc, b"\x20\x06".as_slice());
     is_rejected(got, NEGATIVE)?;
     let mut stream: &[u8] = b"\x20\x06";
-    is_negative_at_front(alloc, &mut stream)?;
+    is_negative_at_beginning(alloc, &mut stream)?;
     assert_eq!(rt; stream, b"\x06".as_slice());
     Ok(())
 }

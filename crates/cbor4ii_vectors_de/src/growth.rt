@@ -6,8 +6,8 @@ use std::alloc::Global;
 use std::fmt::Debug;
 use std::test::Fail;
 
-/// How many parts an array or a map has: 0x012c. At most 256 are reserved.
-pub const PARTS: u16 = 300;
+/// How many parts an array or a map has: 0x1770. At most 256 are reserved.
+pub const PARTS: u16 = 6_000;
 
 /// How many letters a text has: 0x4e20. At most 16384 bytes are reserved.
 pub const LETTERS: usize = 20_000;
@@ -15,19 +15,19 @@ pub const LETTERS: usize = 20_000;
 /// What stands before the parts, before or after each of them, and after the last one.
 pub type Shape = (&'static [u8], &'static [u8], &'static [u8]);
 
-/// Arrays of 300 numbers, of a known and of an indefinite length.
+/// Arrays of 6,000 numbers, of a known and of an indefinite length.
 pub const ARRAYS: &[Shape] = table! {
-    (b"\x99\x01\x2c", b"", b""),
+    (b"\x99\x17\x70", b"", b""),
     (b"\x9f", b"", b"\xff"),
 };
 
-/// Maps of 300 numbers, each with a 5 after it.
+/// Maps of 6,000 numbers, each with a 5 after it.
 pub const MAPS: &[Shape] = table! {
-    (b"\xb9\x01\x2c", b"\x05", b""),
+    (b"\xb9\x17\x70", b"\x05", b""),
     (b"\xbf", b"\x05", b"\xff"),
 };
 
-// The bytes of 300 parts of this shape: the numbers from 0 on, each in two bytes after its head.
+// The bytes of 6,000 parts of this shape: the numbers from 0 on, each in two bytes after its head.
 fn numbered(alloc: Global, shape: &Shape) -> Result<&'static [u8], Fail> {
     let (prefix, at_each, end) = *shape;
     let mut bytes = Vec::new(alloc);

@@ -3,16 +3,25 @@ ghost use Rattle.std.specs.Prelude.{◌≡◌, [], codes};
 ghost use Rattle.std.proofs.Common.{◌∙◌, sym, refl};
 ghost use Rattle.cbor4ii_items.specs.Laws.Arguments.{argument_one, argument_within, zero_small};
 ghost use Rattle.cbor4ii_items.specs.Numbers.{ReadsUnsigned};
-ghost use Rattle.cbor4ii.specs.CodecFields.{fields_codec, with_field, no_fields};
+ghost use Rattle.cbor4ii.specs.CodecAgrees.{as_described};
+ghost use Rattle.cbor4ii.specs.CodecFields.{struct_codec, with_field, no_fields};
 ghost use Rattle.cbor4ii.specs.Fields.{no_values};
 ghost use Rattle.cbor4ii.specs.Typed.{not_exact};
 
+use crate::typed::comes_back;
 use cbor4ii::serde::laws::{self, EnumValues};
-use cbor4ii::serde::{Described, described_values_are_read_back};
+use cbor4ii::serde::{
+    AsDescribed, DecodeError, Described, Deserialize, Deserializer, EncodeError, Required,
+    Serialize, Serializer, Typed, described_values_are_read_back,
+};
 use cbor4ii_items::types::Bytes;
 use cbor4ii_rw::error::Never;
-use cbor4ii_tree::Value;
+use cbor4ii_rw::read::Source;
+use cbor4ii_rw::write::Write;
+use cbor4ii_tree::{RawValue, Value};
+use std::alloc::Global;
 use std::collections::BTreeMap;
+use std::test::Fail;
 
 #[test]
 fn laws_of_values_are_called(rt: HostRuntime) {
@@ -23,13 +32,68 @@ fn laws_of_values_are_called(rt: HostRuntime) {
     laws::rejected_options_are_not_read::<u8>();
 }
 
-/// A struct of two fields, which its call answers as they are held.
-struct Two(u8, bool);
+// A raw value is not described, and its item may be any.
+#[test]
+fn laws_of_containers_are_called(rt: HostRuntime) {
+    laws::wrapped_values_are_read_back::<RawValue<'static>>();
+    laws::tuples_are_read_back::<u8, RawValue<'static>, RawValue<'static>>();
+    laws::vectors_are_read_back::<RawValue<'static>>();
+    laws::maps_are_read_back::<String, RawValue<'static>>();
+}
+
+/// A struct of two fields.
+#[derive(Debug, PartialEq, Drop)]
+struct Two {
+    b: u8,
+    f: bool,
+}
+
+impl Serialize for Two {
+    ghost encoding = { ⟦<Two as Described>⟧.codec.encoding };
+
+    fn serialize<W: Write>(&self, ser: &mut Serializer<W>) -> Result<(), EncodeError<W::Error>> {
+        ser.serialize_2_fields("Two", "b", &self.b, "f", &self.f)
+    }
+}
+
+impl<S: Source> Deserialize<S> for Two {
+    fn deserialize(alloc: Global, de: &mut Deserializer<S>) -> Result<Two, DecodeError<S::Error>> {
+        let presences = (Required, (Required, ()));
+        de.deserialize_fields(alloc, "Two", &["b", "f"], &["no b", "no f"], presences)
+    }
+}
+
+impl From<(u8, (bool, ()))> for Two {
+    ghost from_gives = { λ values t. values ≡ (t.b, (t.f, no_values)) };
+
+    fn from(values: (u8, (bool, ()))) -> Two {
+        let (b, (f, ())) = values;
+        Two { b, f }
+    }
+}
+
+impl Typed for Two {
+    ghost promise = { ⟦<Two as Described>⟧.codec.promise };
+}
 
 impl Described for Two {
-    ghost codec = { fields_codec (λ t. (t.0, (t.1, no_values)))
-        (with_field (codes "b") [] ⟦<u8 as Described>⟧.codec
-        (with_field (codes "f") [] ⟦<bool as Described>⟧.codec no_fields refl) refl) refl };
+    ghost codec = { struct_codec (λ t. (t.b, (t.f, no_values)))
+        (with_field (codes "b") (codes "no b") ⟦<u8 as Described>⟧.codec
+        (with_field (codes "f") (codes "no f") ⟦<bool as Described>⟧.codec no_fields refl) refl)
+        refl };
+}
+
+impl AsDescribed for Two {
+    ghost agrees = { as_described tt };
+}
+
+#[test]
+fn a_described_struct_comes_back(rt: HostRuntime) -> Result<(), Fail> {
+    comes_back::<Two>(
+        rt.alloc(),
+        b"\xa2\x61b\x05\x61f\xf5",
+        "Two { b: 5, f: true }",
+    )
 }
 
 #[test]

@@ -1,6 +1,8 @@
-//! Rows of typed values that are read, as tests: a file for each below `serde/de/` of `cbor4ii`,
-//! `laws` for its laws, and `paths` for the Rust crate's paths.
-//! What several of them share stands in `growth`, `lent_strings`, `nested`, `typed` and `values`.
+//! Rows of typed values that are read, as tests, in files named as those below `serde/de/` of
+//! `cbor4ii`. Rows of places and counted fields stand in `fields`, those of cases in
+//! `variant_fields`. `laws` has the laws, and `paths` the Rust crate's paths.
+//! What several of them share stands in `asked`, `growth`, `lent_strings`, `nested`, `typed` and
+//! `values`.
 //!
 //! The rows' values come from RFC 8949 (its Appendix A above all) and from worked examples, never
 //! from this codec's own answers.
@@ -12,6 +14,8 @@ mod accessor;
 mod any;
 #[cfg(test)]
 mod any_leaf;
+#[cfg(test)]
+mod asked;
 #[cfg(test)]
 mod borrowed;
 #[cfg(test)]
@@ -45,6 +49,8 @@ mod maps;
 #[cfg(test)]
 mod methods;
 #[cfg(test)]
+mod names;
+#[cfg(test)]
 mod nested;
 #[cfg(test)]
 mod option;
@@ -54,6 +60,10 @@ mod owned;
 mod parts;
 #[cfg(test)]
 mod paths;
+#[cfg(test)]
+mod presence;
+#[cfg(test)]
+mod raw;
 #[cfg(test)]
 mod simple;
 #[cfg(test)]

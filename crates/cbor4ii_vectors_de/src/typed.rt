@@ -33,7 +33,7 @@ pub enum Answer<T> {
 ///
 /// That it is read is proved once, over any reader, and a test of its rows asks no more of it.
 pub trait Take: Sized {
-    /// Reads it off the front of what `de` has left.
+    /// Reads it from the beginning of what `de` has left.
     fn take<S: Source>(
         alloc: Global,
         de: &mut Deserializer<S>,
@@ -183,7 +183,7 @@ pub fn is_rejected<T: Drop, E: Debug + Drop>(
             return Err(Fail::from(core_error::DecodeError::<Never>::OutOfMemory));
         }
         Err(DecodeError::Core(error)) => InlineText::<128>::of(error),
-        Err(DecodeError::Custom(_)) | Ok(_) => InlineText::of("no refusal of the codec"),
+        Err(DecodeError::Custom(_)) | Ok(_) => InlineText::of("no error of the codec"),
     };
     if text.as_str() == want {
         return Ok(());
@@ -191,9 +191,9 @@ pub fn is_rejected<T: Drop, E: Debug + Drop>(
     Err(Fail::new(format_args!("{} in the place of {want}", text.as_str())))
 }
 
-/// The value at the front of the bytes, from a slice and out of a stream, by the calls for one
+/// The value at the beginning of the bytes, from a slice and out of a stream, by the calls for one
 /// value: it has this text.
-pub fn is_at_front<T>(alloc: Global, bytes: &'static [u8], text: &str) -> Result<T, Fail>
+pub fn is_at_beginning<T>(alloc: Global, bytes: &'static [u8], text: &str) -> Result<T, Fail>
 where
     T: Deserialize<SliceReader<'static>>
         + Deserialize<IoReader<&'static [u8]>>
@@ -209,8 +209,8 @@ where
     Err(Fail::new(format_args!("{value:?}, {streamed:?} in the place of {text}")))
 }
 
-/// As `is_at_front`, of bytes that are all of the value: it is written as them, by the call for one
-/// value.
+/// As `is_at_beginning`, of bytes that are all of the value: it is written as them, by the call for
+/// one value.
 pub fn comes_back<T>(alloc: Global, bytes: &'static [u8], text: &str) -> Result<(), Fail>
 where
     T: Deserialize<SliceReader<'static>>
@@ -220,7 +220,7 @@ where
         + Debug
         + Drop,
 {
-    let value: T = is_at_front(alloc, bytes, text)?;
+    let value: T = is_at_beginning(alloc, bytes, text)?;
     is_written_as(alloc, &value, bytes)
 }
 

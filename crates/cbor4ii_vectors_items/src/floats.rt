@@ -72,7 +72,7 @@ fn rejected_floats(rt: HostRuntime) -> Result<(), Fail> {
     reads_rows(alloc, REJECTED_FLOATS_DOUBLES)
 }
 
-// A float that stands whole in front takes one look.
+// A float that stands whole at the beginning takes one look.
 #[test]
 fn looks_of_a_float(rt: HostRuntime) -> Result<(), Fail> {
     let mut reader = Counting::new(b"\xfb\x3f\xf1\x99\x99\x99\x99\x99\x9a");

@@ -1,9 +1,9 @@
-//! A head that stands whole in front is read by one look.
+//! A head that stands whole at the beginning is read by one look.
 use cbor4ii_items::decode::Decode;
 use cbor4ii_vectors::readers::Counting;
 use std::test::Fail;
 
-// A number that stands whole in front takes one look.
+// A number that stands whole at the beginning takes one look.
 #[test]
 fn looks_of_a_number(rt: HostRuntime) -> Result<(), Fail> {
     let mut reader = Counting::new(b"\x1b\x01\x02\x03\x04\x05\x06\x07\x08");

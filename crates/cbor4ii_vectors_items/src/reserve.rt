@@ -58,8 +58,8 @@ fn arrays_of_300_items(rt: HostRuntime) -> Result<(), Fail> {
     let alloc = rt.alloc();
     let items = numbers(alloc, 300)?;
     let counted = between(alloc, b"\x99\x01\x2c", &items, b"")?;
-    let open = between(alloc, b"\x9f", &items, b"\xff")?;
-    for bytes in [counted, open] {
+    let indefinite = between(alloc, b"\x9f", &items, b"\xff")?;
+    for bytes in [counted, indefinite] {
         reads_by_each(alloc, bytes, 256, &Ok(numbers(alloc, 300)?), b"")?;
     }
     Ok(())
@@ -70,8 +70,8 @@ fn maps_of_300_pairs(rt: HostRuntime) -> Result<(), Fail> {
     let alloc = rt.alloc();
     let items = numbers(alloc, 600)?;
     let counted = between(alloc, b"\xb9\x01\x2c", &items, b"")?;
-    let open = between(alloc, b"\xbf", &items, b"\xff")?;
-    for bytes in [counted, open] {
+    let indefinite = between(alloc, b"\xbf", &items, b"\xff")?;
+    for bytes in [counted, indefinite] {
         let mut pairs = Vec::with_capacity(alloc, 300)?;
         for pair in items.chunks_exact(2) {
             pairs.push((pair[0], pair[1]))?;
@@ -98,9 +98,9 @@ fn byte_strings_of_20000_bytes(rt: HostRuntime) -> Result<(), Fail> {
     let counted = between(alloc, b"\x59\x4e\x20", &content, b"")?;
     // 0x54 is the head of a chunk of 20 bytes.
     let chunks = in_chunks(alloc, &content, 0x54)?;
-    let open = between(alloc, b"\x5f", &chunks, b"\xff")?;
+    let indefinite = between(alloc, b"\x5f", &chunks, b"\xff")?;
     let one_chunk = between(alloc, b"\x5f\x59\x4e\x20", &content, b"\xff")?;
-    for bytes in [counted, open, one_chunk] {
+    for bytes in [counted, indefinite, one_chunk] {
         reads_by_each(alloc, bytes, 256, &Ok(Bytes(numbers(alloc, 20_000)?)), b"")?;
     }
     Ok(())
@@ -113,8 +113,8 @@ fn texts_of_20000_bytes(rt: HostRuntime) -> Result<(), Fail> {
     let counted = between(alloc, b"\x79\x4e\x20", &content, b"")?;
     // 0x74 is the head of a chunk of 20 bytes.
     let chunks = in_chunks(alloc, &content, 0x74)?;
-    let open = between(alloc, b"\x7f", &chunks, b"\xff")?;
-    for bytes in [counted, open] {
+    let indefinite = between(alloc, b"\x7f", &chunks, b"\xff")?;
+    for bytes in [counted, indefinite] {
         reads_by_each(
             alloc,
             bytes,

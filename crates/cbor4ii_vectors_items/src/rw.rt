@@ -3,6 +3,7 @@
 mod ask;
 mod buf_writer;
 mod by_ref;
+mod connection;
 mod error;
 mod explain;
 mod io_reader;

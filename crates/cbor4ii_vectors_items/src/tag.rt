@@ -25,7 +25,17 @@ impl ReadFrom for TagNumber {
     }
 }
 
+// The last of each width of the shortest head, the first of the next, and longer heads.
 const NUMBERS_OF_TAGS: &[Row<TagNumber>] = table! {
+    (b"\xd7", Ok(TagNumber(23)), b""),
+    (b"\xd8\x18", Ok(TagNumber(24)), b""),
+    (b"\xd8\xff", Ok(TagNumber(255)), b""),
+    (b"\xd9\x01\x00", Ok(TagNumber(256)), b""),
+    (b"\xd9\xff\xff", Ok(TagNumber(65535)), b""),
+    (b"\xda\x00\x01\x00\x00", Ok(TagNumber(65536)), b""),
+    (b"\xda\xff\xff\xff\xff", Ok(TagNumber(4294967295)), b""),
+    (b"\xdb\x00\x00\x00\x01\x00\x00\x00\x00", Ok(TagNumber(4294967296)), b""),
+    (b"\xdb\xff\xff\xff\xff\xff\xff\xff\xff", Ok(TagNumber(18446744073709551615)), b""),
     (b"\xd8\x2a", Ok(TagNumber(42)), b""),
     (b"\xd9\x00\x2a", Ok(TagNumber(42)), b""),
     (b"\xda\x00\x00\x00\x2a", Ok(TagNumber(42)), b""),
@@ -67,6 +77,9 @@ fn tagged_items(rt: HostRuntime) -> Result<(), Fail> {
 
 const TAGGED_NUMBERS: &[Row<Tag<u8>>] = table! {
     (b"\xc1\x18\x05", Ok(Tag(1, 5)), b""),
+    (b"\xda\xff\xff\xff\xff\x05", Ok(Tag(4294967295, 5)), b""),
+    (b"\xdb\x00\x00\x00\x01\x00\x00\x00\x00\x05", Ok(Tag(4294967296, 5)), b""),
+    (b"\xdb\xff\xff\xff\xff\xff\xff\xff\xff\x05", Ok(Tag(18446744073709551615, 5)), b""),
     (b"", Err(eof!("tag", 1)), b""),
     (b"\xd9\x01", Err(eof!("tag", 2)), b""),
     (b"\x05", Err(mismatch!("tag", 0x05)), b""),

@@ -1,5 +1,6 @@
-//! Rows of typed values that are only written, as tests: a file for each of `cbor4ii_ser`. What
-//! several of them share stands in `by_pieces`, `pieces`, `tagged` and `typed`.
+//! Rows of typed values that are only written, as tests, in files named as those of `cbor4ii_ser`.
+//! Rows of variants stand in `fields` and `serializer`. What several of them share stands in
+//! `by_pieces`, `pieces`, `tagged` and `typed`.
 //!
 //! The rows' values come from RFC 8949 and from worked examples, never from this codec's own
 //! answers.
@@ -28,6 +29,8 @@ pub mod pieces;
 mod sequences;
 #[cfg(test)]
 mod serializer;
+#[cfg(test)]
+mod slot;
 #[cfg(test)]
 mod tagged;
 #[cfg(test)]

@@ -16,6 +16,27 @@ fn into_memory(rt: HostRuntime) -> Result<(), Fail> {
     Ok(())
 }
 
+// Room that is there is used, and no more is asked for, behind 10,000 bytes too.
+#[test]
+fn into_room_that_is_there(rt: HostRuntime) -> Result<(), Fail> {
+    let mut held = Vec::with_capacity(rt.alloc(), 10_003)?;
+    held.resize(10_000, 0xff)?;
+    let bytes = to_vec(held, &("", 1u8))?;
+    assert_eq!(rt; (bytes.len(), bytes.capacity()), (10_003, 10_003));
+    assert!(rt; bytes.ends_with(b"\xff\x82\x60\x01".as_slice()));
+    Ok(())
+}
+
+// A buffer of 10,000 bytes without room grows to twice that, and no further.
+#[test]
+fn behind_a_full_buffer(rt: HostRuntime) -> Result<(), Fail> {
+    let mut held = Vec::with_capacity(rt.alloc(), 10_000)?;
+    held.resize(10_000, 0xff)?;
+    let bytes = to_vec(held, &("", 1u8))?;
+    assert_eq!(rt; (bytes.len(), bytes.capacity()), (10_003, 20_000));
+    Ok(())
+}
+
 #[test]
 fn into_a_stream(rt: HostRuntime) -> Result<(), Fail> {
     let mut room = [0xffu8; 4];

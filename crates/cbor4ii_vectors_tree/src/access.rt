@@ -1,4 +1,5 @@
 //! Values looked into.
+use crate::encode_value::{BELOW_64, TWO_TO_64};
 use crate::literal::Literal::{self, Array, Bool, Bytes, Float, Integer, Map, Null, Tag, Text};
 use cbor4ii_tree::FloatBits::{F16, F32, F64};
 use cbor4ii_tree::{FloatBits, Value};
@@ -337,7 +338,8 @@ fn values_are_found_by_their_keys(rt: HostRuntime) -> Result<(), Fail> {
     are_found(rt.alloc(), FOUND)
 }
 
-const EQUAL_KEYS: &[(Literal, bool)] = table! {
+/// Values, and whether two of their keys are equal.
+pub const EQUAL_KEYS: &[(Literal, bool)] = table! {
     (Map(&[]), false),
     (Map(&[(Integer(1), Null)]), false),
     (Map(&[(Integer(1), Null), (Integer(2), Null)]), false),
@@ -352,6 +354,32 @@ const EQUAL_KEYS: &[(Literal, bool)] = table! {
     (Map(&[(Float(F16(0x7e00)), Null), (Float(F16(0x7e00)), Null)]), true),
     (Map(&[(Array(&[Integer(1)]), Null), (Array(&[Integer(1)]), Null)]), true),
     (Map(&[(Array(&[Integer(1)]), Null), (Array(&[Integer(2)]), Null)]), false),
+    (Map(&[(Null, Null), (Null, Integer(1))]), true),
+    (Map(&[(Null, Null), (Bool(false), Null), (Bool(true), Null), (Integer(0), Null)]), false),
+    (Map(&[(Bool(true), Null), (Bool(false), Null), (Bool(true), Null)]), true),
+    (Map(&[(Integer(0), Null), (Integer(-1), Null), (Integer(1), Null)]), false),
+    (Map(&[(Integer(-1), Null), (Integer(0), Null), (Integer(-1), Null)]), true),
+    (Map(&[(Integer(i128::MIN), Null), (Integer(i128::MAX), Null)]), false),
+    (Map(&[(Integer(18446744073709551616), Null), (TWO_TO_64, Null)]), false),
+    (Map(&[(Integer(-18446744073709551617), Null), (BELOW_64, Null)]), false),
+    (Map(&[(TWO_TO_64, Null), (Integer(18446744073709551616), Null), (TWO_TO_64, Null)]), true),
+    (Map(&[(Array(&[Integer(18446744073709551616), TWO_TO_64]), Null),
+        (Array(&[TWO_TO_64, Integer(18446744073709551616)]), Null)]), false),
+    (Map(&[(Float(F32(0)), Null), (Float(F64(0)), Null), (Float(F64(1)), Null)]), false),
+    (Map(&[(Float(F32(0)), Null), (Float(F32(0x8000_0000)), Null)]), false),
+    (Map(&[(Float(F16(0x7e00)), Null), (Float(F16(0x7e01)), Null)]), false),
+    (Map(&[(Text("a"), Null), (Text("ab"), Null), (Text("b"), Null), (Text(""), Null)]), false),
+    (Map(&[(Text("ab"), Null), (Text("ba"), Null), (Text("ab"), Null)]), true),
+    (Map(&[(Bytes(b""), Null), (Text(""), Null), (Array(&[]), Null), (Map(&[]), Null)]), false),
+    (Map(&[(Bytes(b"ab"), Null), (Bytes(b"aa"), Null), (Bytes(b"ab"), Null)]), true),
+    (Map(&[(Array(&[Array(&[]), Null]), Null), (Array(&[Null, Array(&[])]), Null)]), false),
+    (Map(&[(Map(&[(Null, Integer(1))]), Null), (Map(&[(Null, Integer(2))]), Null)]), false),
+    (Map(&[(Map(&[(Null, Integer(1))]), Null), (Map(&[(Null, Integer(1))]), Null)]), true),
+    (Map(&[(Map(&[(Null, Bool(true)), (Integer(1), Null)]), Null),
+        (Map(&[(Integer(1), Null), (Null, Bool(true))]), Null)]), false),
+    (Map(&[(Tag(1, &Null), Null), (Tag(2, &Null), Null), (Null, Null)]), false),
+    (Map(&[(Tag(1, &Integer(1)), Null), (Tag(1, &Integer(2)), Null)]), false),
+    (Map(&[(Tag(1, &Text("a")), Null), (Integer(1), Null), (Tag(1, &Text("a")), Null)]), true),
     (Map(&[(Null, Map(&[(Integer(1), Null), (Integer(1), Null)]))]), false),
     (Array(&[Map(&[(Integer(1), Null), (Integer(1), Null)])]), false),
     (Array(&[Integer(1), Integer(1)]), false),

@@ -124,21 +124,21 @@ fn one_look(rt: HostRuntime) -> Result<(), Fail> {
 // Items of 302 and of 303 bytes: an array of 300 items, counted and of indefinite length.
 fn long_items(alloc: Global) -> Result<[Vec<u8>; 2], AllocError> {
     let mut counted = b"\x99\x01\x2c".to_vec(alloc)?;
-    let mut open = b"\x9f".to_vec(alloc)?;
+    let mut indefinite = b"\x9f".to_vec(alloc)?;
     for _ in 0..300 {
         counted.push(0x17)?;
-        open.push(0x17)?;
+        indefinite.push(0x17)?;
     }
-    open.push(0xff)?;
-    Ok([counted, open])
+    indefinite.push(0xff)?;
+    Ok([counted, indefinite])
 }
 
 #[test]
 fn copies_of_long_items(rt: HostRuntime) -> Result<(), Fail> {
     let alloc = rt.alloc();
-    let [counted, open] = long_items(alloc)?;
+    let [counted, indefinite] = long_items(alloc)?;
     copies_long(alloc, &counted)?;
-    copies_long(alloc, &open)
+    copies_long(alloc, &indefinite)
 }
 
 fn copies_long(alloc: Global, item: &[u8]) -> Result<(), Fail> {

@@ -4,11 +4,11 @@
 use crate::encode_value::{AND_98, BELOW_64, BIGNUMS, GREATEST, LEAST, TWO_TO_64};
 use crate::item::Item;
 use crate::literal::Literal::{self, Array, Bool, Bytes, Float, Integer, Map, Null, Tag, Text};
-use cbor4ii_tree::Canonical;
 use cbor4ii_tree::FloatBits::F16;
+use cbor4ii_tree::{Canonical, Value};
 use cbor4ii_vectors::rows::{reads, writes};
 use cbor4ii_vectors::table;
-use std::alloc::Global;
+use std::alloc::{AllocError, Global};
 use std::test::Fail;
 
 // A value, what it is with its bignums as tags, and how both are written.
@@ -84,5 +84,30 @@ fn bignums_are_written(rt: HostRuntime) -> Result<(), Fail> {
         &canonical,
         b"\xc2\x49\x01\x00\x00\x00\x00\x00\x00\x00\x00",
     )?;
+    Ok(())
+}
+
+// A map of so many pairs that its memory was taken several times. Its last value is 2^64.
+fn many_pairs(alloc: Global) -> Result<Value, AllocError> {
+    let mut members = Vec::new(alloc);
+    for i in 0..1000_u64 {
+        members.push((Value::from(i), Value::Null))?;
+    }
+    members.push((Value::from(1000_u64), Value::Integer(18446744073709551616)))?;
+    Ok(Value::Map(members))
+}
+
+fn last_is_tagged(alloc: Global) -> Result<bool, Fail> {
+    let value = Canonical::try_from_value(alloc, many_pairs(alloc)?)?.into_inner();
+    let members = value.as_map().unwrap_or(&[]);
+    let Some((key, last)) = members.last() else {
+        return Ok(false);
+    };
+    Ok(members.len() == 1001 && *key == Value::Integer(1000) && *last == TWO_TO_64.to_value(alloc)?)
+}
+
+#[test]
+fn bignum_is_tagged_behind_many_pairs(rt: HostRuntime) -> Result<(), Fail> {
+    assert!(rt; last_is_tagged(rt.alloc())?);
     Ok(())
 }

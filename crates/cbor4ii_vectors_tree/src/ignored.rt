@@ -2,7 +2,7 @@
 //!
 //! `decode_value.rt` skips each item that it reads. What skipping rejects stands beside what a
 //! value rejects, in `decode_value/errors.rt` and `decode_value/depth.rt`.
-use crate::item_rows::{rejects_to_skip, skips, skips_item};
+use crate::item_rows::{rejects_in_skipping, skips, skips_item};
 use cbor4ii_items::decode::Decode;
 use cbor4ii_tree::IgnoredAny;
 use cbor4ii_vectors::readers::Counting;
@@ -146,7 +146,7 @@ fn skips_zeros(alloc: Global, rows: &[Zeros]) -> Result<(), Fail> {
         let bytes = zeros(alloc, head, count, end)?.leak();
         match want {
             Ok(any) => skips(alloc, bytes, Ok(any), rest)?,
-            Err(error) => rejects_to_skip(alloc, bytes, error, rest)?,
+            Err(error) => rejects_in_skipping(alloc, bytes, error, rest)?,
         }
     }
     Ok(())

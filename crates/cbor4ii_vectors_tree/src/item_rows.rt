@@ -78,7 +78,7 @@ pub fn skips_item(alloc: Global, item: &'static [u8], limit: usize) -> Result<()
     ends_at_each_prefix::<Item<IgnoredAny>>(alloc, item, limit)
 }
 
-/// The front of the bytes is skipped, with 256 steps and with no limit, or that is rejected.
+/// What begins the bytes is skipped, with 256 steps and with no limit, or that is rejected.
 pub fn skips(
     alloc: Global,
     bytes: &'static [u8],
@@ -100,7 +100,7 @@ pub fn skips_within(
 }
 
 /// Skipping is rejected, and with it an item that is kept, of which nothing is taken.
-pub fn rejects_to_skip(
+pub fn rejects_in_skipping(
     alloc: Global,
     bytes: &'static [u8],
     error: &'static str,
@@ -110,8 +110,8 @@ pub fn rejects_to_skip(
     keeps_none(alloc, bytes, 256, error)
 }
 
-/// As `refuses_to_skip`, with so many steps.
-pub fn rejects_to_skip_within(
+/// As `rejects_in_skipping`, with so many steps.
+pub fn rejects_in_skipping_within(
     alloc: Global,
     bytes: &'static [u8],
     limit: usize,

@@ -5,7 +5,7 @@
 //! - `leaf.rt`, `run.rt`, `simple.rt` and `slot.rt` are called by `Value` and `Canonical`
 //! - `skip.rt`, `unseen.rt`, `ahead.rt` and `prefix.rt` are called by `IgnoredAny`
 //! - `lend_raw.rt` is called by `RawValue` and `BoxedRawValue`, and `range.rt` by a law
-//! - `bignum.rt` is called by `Canonical`
+//! - `bignum.rt` is called by `Canonical`, and `exact_order.rt` by what looks for equal keys
 //!
 //! The rows' values come from RFC 8949 (its Appendix A above all) and from worked examples, never
 //! from this codec's own answers.
@@ -23,6 +23,8 @@ mod decode_value;
 mod encode_canonical;
 #[cfg(test)]
 mod encode_value;
+#[cfg(test)]
+mod equal_keys;
 #[cfg(test)]
 mod from;
 #[cfg(test)]

@@ -1,6 +1,9 @@
 //! Items that are kept as their bytes, and are read as values.
-use cbor4ii_rw::error::{DecodeError, WholeError};
+use cbor4ii_items::decode::Decode;
+use cbor4ii_rw::error::{DecodeError, Len, Never, WholeError};
+use cbor4ii_rw::slice_reader::SliceReader;
 use cbor4ii_tree::PlainRawValue;
+use cbor4ii_vectors::repeated::repeated;
 use cbor4ii_vectors::table;
 use std::test::Fail;
 
@@ -23,6 +26,23 @@ fn a_plain_item_is_kept(rt: HostRuntime) -> Result<(), Fail> {
     Ok(())
 }
 
+// 6,000 integers, and a text of as many letters: 0x1770.
+const LONG: &[(&[u8], &[u8])] = table! {
+    (b"\x99\x17\x70", b"\x05"),
+    (b"\x79\x17\x70", b"a"),
+};
+
+#[test]
+fn long_items_are_kept(rt: HostRuntime) -> Result<(), Fail> {
+    let alloc = rt.alloc();
+    for &(head, part) in LONG {
+        let item = repeated(alloc, head, part, 6_000, b"")?;
+        let plain = PlainRawValue::new(alloc, item)?;
+        assert_eq!(rt; plain.as_bytes(), item);
+    }
+    Ok(())
+}
+
 // A text that is no UTF-8, and an array as a chunk (RFC 8949, section 3.2.3).
 #[test]
 fn other_items_are_rejected(rt: HostRuntime) {
@@ -39,4 +59,47 @@ fn other_items_are_rejected(rt: HostRuntime) {
     );
     let more = PlainRawValue::new(alloc, b"\xf6\xff").err();
     assert_eq!(rt; more, Some(WholeError::Trailing(1)));
+}
+
+// The bytes, the item at their beginning, and what follows it.
+type Front = (&'static [u8], &'static [u8], &'static [u8]);
+
+const FRONTS: &[Front] = table! {
+    (b"\x18\x64", b"\x18\x64", b""),
+    (b"\xf9\x3c\x00\xff", b"\xf9\x3c\x00", b"\xff"),
+    (b"\x82\x18\x05\x9f\xff\x01\x02", b"\x82\x18\x05\x9f\xff", b"\x01\x02"),
+};
+
+#[test]
+fn the_item_at_the_front_is_kept(rt: HostRuntime) -> Result<(), Fail> {
+    for (bytes, item, rest) in FRONTS {
+        let mut reader = SliceReader::new(bytes);
+        let plain = PlainRawValue::decode(rt.alloc(), &mut reader)?;
+        assert_eq!(rt; plain.as_bytes(), *item);
+        assert_eq!(rt; reader.remaining(), *rest);
+    }
+    Ok(())
+}
+
+// The bytes, the error, and what is left then.
+type Refusal = (&'static [u8], DecodeError<Never>, &'static [u8]);
+
+const NO_FRONTS: &[Refusal] = table! {
+    (b"", DecodeError::Eof { name: "value", expect: Len::Small(1) }, b""),
+    (b"\x82\x01", DecodeError::Eof { name: "value", expect: Len::Small(1) }, b""),
+    (b"\x5f\x80\xff", DecodeError::Mismatch { name: "bytes", found: 0x80 }, b"\xff"),
+    (b"\x61\xff\x00", DecodeError::RequireUtf8 { name: "str" }, b"\x00"),
+    (b"\xff", DecodeError::Unsupported { name: "value", found: 0xff }, b"\xff"),
+};
+
+#[test]
+fn other_fronts_are_rejected(rt: HostRuntime) -> Result<(), Fail> {
+    for (bytes, error, rest) in NO_FRONTS {
+        let mut reader = SliceReader::new(bytes);
+        match PlainRawValue::decode(rt.alloc(), &mut reader) {
+            Err(found) if found == *error => assert_eq!(rt; reader.remaining(), *rest),
+            answer => return Err(Fail::new(format_args!("{answer:?} of {bytes:?}"))),
+        }
+    }
+    Ok(())
 }

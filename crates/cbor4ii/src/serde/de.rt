@@ -25,6 +25,7 @@ mod option;
 mod owned;
 mod parts;
 pub mod place;
+mod plain_raw;
 pub mod presence;
 mod raw;
 mod simple;

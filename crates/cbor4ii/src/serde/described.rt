@@ -24,6 +24,9 @@ ghost use Rattle.cbor4ii.specs.Codec.{Codec, leaf_codec, any_value, string_is_ba
 ghost use Rattle.cbor4ii.specs.Codec.{bytes_are_one, character_is_back, unsigned_is_one};
 ghost use Rattle.cbor4ii.specs.Codec.{signed_is_one, unit_is_back, IsText, AreFew, option_codec};
 ghost use Rattle.cbor4ii.specs.Codec.{box_codec, vector_codec, map_codec, pair_codec, triple_codec};
+ghost use Rattle.cbor4ii.specs.Codec.{no_facts};
+ghost use Rattle.cbor4ii.specs.CodecAgrees.{AgreesWith, as_described, option_agrees, box_agrees};
+ghost use Rattle.cbor4ii.specs.CodecAgrees.{vector_agrees, pair_agrees, triple_agrees, map_agrees};
 ghost use Rattle.cbor4ii.specs.Laws.ValuesBack.{value_back};
 ghost use Rattle.cbor4ii.specs.ReadBack.{IsReadBack};
 ghost use Rattle.cbor4ii.specs.Typed.{not_exact};
@@ -37,19 +40,30 @@ use std::borrow::CowStr;
 use std::collections::BTreeMap;
 
 /// A type that is described in one word: how it is written and read. No code runs for it. The
-/// promise of `Typed` and the item of `Serialize` may be taken from there.
+/// promise of `Typed` and the item of `Serialize` may be taken from there. That they are as it says
+/// is what `AsDescribed` holds.
 pub trait Described: Sized {
     // How it is written and read, that its item is one, and that it is read back.
     ghost codec: { Codec Self };
 }
 
+/// A type that is written and read as it is described. No code runs for it. Of a type whose ghosts
+/// are its codec's the law is `as_described tt`.
+pub trait AsDescribed: Described + Serialize + Typed {
+    // What it writes is the codec's item, what it reads is what the codec reads, and it is exact
+    // where the codec is.
+    ghost agrees: { AgreesWith Self.promise Self.encoding Self.codec };
+}
+
 /// What is written of a value of such a type is one canonical item, which is read back as the
 /// value, whatever follows it, at the cost that the type names, where the value is one of the
-/// program's. A name is read into memory of some `alloc`.
-pub fn described_values_are_read_back<T: Described>()
+/// program's. A name is read into memory of some `alloc`. What the type writes, reads and calls
+/// exact is what its codec says.
+pub fn described_values_are_read_back<T: AsDescribed>()
     ensures back { (alloc : Global) (v : T) → T.codec.stands v →
-        IsReadBack T.codec.promise.format.reads (T.codec.encoding v) v (T.codec.cost v) }
-    ensures one { (v : T) → T.codec.stands v → IsOneItem canonical (T.codec.encoding v) }
+        IsReadBack T.promise.format.reads (T.encoding v) v (T.codec.cost v) }
+    ensures one { (v : T) → T.codec.stands v → IsOneItem canonical (T.encoding v) }
+    ensures agrees { AgreesWith T.promise T.encoding T.codec }
 {}
 
 impl Described for u8 {
@@ -58,10 +72,18 @@ impl Described for u8 {
         (unsigned_is_one (2 ^ 8) (lit≤ tt)) };
 }
 
+impl AsDescribed for u8 {
+    ghost agrees = { as_described tt };
+}
+
 impl Described for u16 {
     ghost codec = { leaf_codec ⟦<u16 as Typed>⟧.promise ⟦<u16 as Serialize>⟧.encoding
         (λ v. v < 2 ^ 16) (argument_back 0 two)
         (unsigned_is_one (2 ^ 16) (lit≤ tt)) };
+}
+
+impl AsDescribed for u16 {
+    ghost agrees = { as_described tt };
 }
 
 impl Described for u32 {
@@ -70,10 +92,18 @@ impl Described for u32 {
         (unsigned_is_one (2 ^ 32) (lit≤ tt)) };
 }
 
+impl AsDescribed for u32 {
+    ghost agrees = { as_described tt };
+}
+
 impl Described for u64 {
     ghost codec = { leaf_codec ⟦<u64 as Typed>⟧.promise ⟦<u64 as Serialize>⟧.encoding
         (λ v. v < 2 ^ 64) (argument_back 0 eight)
         (unsigned_is_one (2 ^ 64) (lit≤ tt)) };
+}
+
+impl AsDescribed for u64 {
+    ghost agrees = { as_described tt };
 }
 
 impl Described for u128 {
@@ -82,10 +112,18 @@ impl Described for u128 {
         (λ v h. unsigned_bytes_are_item canonical v) };
 }
 
+impl AsDescribed for u128 {
+    ghost agrees = { as_described tt };
+}
+
 impl Described for i8 {
     ghost codec = { leaf_codec ⟦<i8 as Typed>⟧.promise ⟦<i8 as Serialize>⟧.encoding
         (IsWithin (2 ^ 7)) (λ v. signed_back one (2 ^ 7) v (lit≤ tt))
         (signed_is_one (2 ^ 7) (lit≤ tt)) };
+}
+
+impl AsDescribed for i8 {
+    ghost agrees = { as_described tt };
 }
 
 impl Described for i16 {
@@ -94,10 +132,18 @@ impl Described for i16 {
         (signed_is_one (2 ^ 15) (lit≤ tt)) };
 }
 
+impl AsDescribed for i16 {
+    ghost agrees = { as_described tt };
+}
+
 impl Described for i32 {
     ghost codec = { leaf_codec ⟦<i32 as Typed>⟧.promise ⟦<i32 as Serialize>⟧.encoding
         (IsWithin (2 ^ 31)) (λ v. signed_back four (2 ^ 31) v (lit≤ tt))
         (signed_is_one (2 ^ 31) (lit≤ tt)) };
+}
+
+impl AsDescribed for i32 {
+    ghost agrees = { as_described tt };
 }
 
 impl Described for i64 {
@@ -106,10 +152,18 @@ impl Described for i64 {
         (signed_is_one (2 ^ 63) (lit≤ tt)) };
 }
 
+impl AsDescribed for i64 {
+    ghost agrees = { as_described tt };
+}
+
 impl Described for i128 {
     ghost codec = { leaf_codec ⟦<i128 as Typed>⟧.promise ⟦<i128 as Serialize>⟧.encoding
         (IsWithin (2 ^ 127)) i128_back
         (λ v h. signed_bytes_are_item canonical v) };
+}
+
+impl AsDescribed for i128 {
+    ghost agrees = { as_described tt };
 }
 
 impl Described for F16 {
@@ -118,10 +172,18 @@ impl Described for F16 {
         (λ v. float_is_item canonical half v.0) };
 }
 
+impl AsDescribed for F16 {
+    ghost agrees = { as_described tt };
+}
+
 impl Described for F32 {
     ghost codec = { leaf_codec ⟦<F32 as Typed>⟧.promise ⟦<F32 as Serialize>⟧.encoding
         (λ v. v.0 < 2 ^ 32) (λ v. float_back 0xfa 4 v.0)
         (λ v. float_is_item canonical single v.0) };
+}
+
+impl AsDescribed for F32 {
+    ghost agrees = { as_described tt };
 }
 
 impl Described for F64 {
@@ -130,10 +192,18 @@ impl Described for F64 {
         (λ v. float_is_item canonical double v.0) };
 }
 
+impl AsDescribed for F64 {
+    ghost agrees = { as_described tt };
+}
+
 impl Described for bool {
     ghost codec = { leaf_codec ⟦<bool as Typed>⟧.promise ⟦<bool as Serialize>⟧.encoding
         any_value (λ v any. bool_back v)
         (λ v any. bool_is_item canonical v) };
+}
+
+impl AsDescribed for bool {
+    ghost agrees = { as_described tt };
 }
 
 impl Described for char {
@@ -142,16 +212,28 @@ impl Described for char {
         (character_is_item canonical) };
 }
 
+impl AsDescribed for char {
+    ghost agrees = { as_described tt };
+}
+
 impl<'de> Described for &'de str {
     ghost codec = { leaf_codec ⟦<&'de str as Typed>⟧.promise ⟦<&'de str as Serialize>⟧.encoding
         (λ v. IsText v.now) (λ v h. lent_back lent_str v h.0 3 true (λ is. h.1))
         (λ v h. text_is_item canonical v.now h.0 h.1) };
 }
 
+impl<'de> AsDescribed for &'de str {
+    ghost agrees = { as_described tt };
+}
+
 impl Described for String {
     ghost codec = { leaf_codec ⟦<String as Typed>⟧.promise ⟦<String as Serialize>⟧.encoding
         any_value string_is_back
         (λ v any. owned_text_is_item canonical v) };
+}
+
+impl AsDescribed for String {
+    ghost agrees = { as_described tt };
 }
 
 impl<'de> Described for CowStr<'de, Global> {
@@ -161,11 +243,19 @@ impl<'de> Described for CowStr<'de, Global> {
         (λ v h. text_is_item canonical (cow_text v) h.0 h.1) };
 }
 
+impl<'de> AsDescribed for CowStr<'de, Global> {
+    ghost agrees = { as_described tt };
+}
+
 impl<'de> Described for Bytes<&'de [u8]> {
     ghost codec = { leaf_codec ⟦<Bytes<&'de [u8]> as Typed>⟧.promise
         ⟦<Bytes<&'de [u8]> as Serialize>⟧.encoding
         (λ v. AreFew v.0.now) (λ v h. lent_back lent_bytes v h 2 false not_exact)
         (λ v. bytes_are_item canonical v.0.now) };
+}
+
+impl<'de> AsDescribed for Bytes<&'de [u8]> {
+    ghost agrees = { as_described tt };
 }
 
 impl Described for Bytes<Vec<u8>> {
@@ -174,34 +264,66 @@ impl Described for Bytes<Vec<u8>> {
         any_value bytes_are_back bytes_are_one };
 }
 
+impl AsDescribed for Bytes<Vec<u8>> {
+    ghost agrees = { as_described tt };
+}
+
 impl Described for () {
     ghost codec = { leaf_codec ⟦<() as Typed>⟧.promise ⟦<() as Serialize>⟧.encoding
         any_value unit_is_back
         (λ v any. unit_is_item canonical) };
 }
 
+impl AsDescribed for () {
+    ghost agrees = { as_described tt };
+}
+
 impl<T: Described> Described for Option<T> {
     ghost codec = { option_codec T.codec };
+}
+
+impl<T: AsDescribed> AsDescribed for Option<T> {
+    ghost agrees = { option_agrees T.agrees };
 }
 
 impl<T: Described> Described for Box<T> {
     ghost codec = { box_codec T.codec };
 }
 
+impl<T: AsDescribed> AsDescribed for Box<T> {
+    ghost agrees = { box_agrees T.agrees };
+}
+
 impl<T: Described> Described for Vec<T> {
     ghost codec = { vector_codec T.codec };
+}
+
+impl<T: AsDescribed> AsDescribed for Vec<T> {
+    ghost agrees = { vector_agrees T.agrees };
 }
 
 impl<A: Described, B: Described> Described for (A, B) {
     ghost codec = { pair_codec A.codec B.codec };
 }
 
+impl<A: AsDescribed, B: AsDescribed> AsDescribed for (A, B) {
+    ghost agrees = { pair_agrees A.agrees B.agrees };
+}
+
 impl<A: Described, B: Described, C: Described> Described for (A, B, C) {
     ghost codec = { triple_codec A.codec B.codec C.codec };
 }
 
+impl<A: AsDescribed, B: AsDescribed, C: AsDescribed> AsDescribed for (A, B, C) {
+    ghost agrees = { triple_agrees A.agrees B.agrees C.agrees };
+}
+
 impl<K: Described + Ord, V: Described> Described for BTreeMap<K, V> {
     ghost codec = { map_codec (λ m. m.entries) K.cmp K.codec V.codec };
+}
+
+impl<K: AsDescribed + Ord, V: AsDescribed> AsDescribed for BTreeMap<K, V> {
+    ghost agrees = { map_agrees K.agrees V.agrees (λ m. m.entries) K.cmp };
 }
 
 /// A value of the tree in which no tag stands. It is read back as itself, integers beyond 64 bits
@@ -212,7 +334,12 @@ impl Described for Value {
       encoding = ⟦<Value as Serialize>⟧.encoding;
       stands = λ v. IsItem (view v);
       cost = λ v. any_cost (view v);
-      back = λ alloc. value_back;
-      one = λ v. value_is_item canonical (view v);
+      facts = no_facts;
+      back = λ hold alloc. value_back;
+      one = λ hold v. value_is_item canonical (view v);
     } };
+}
+
+impl AsDescribed for Value {
+    ghost agrees = { as_described tt };
 }

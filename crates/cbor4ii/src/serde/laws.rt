@@ -1,8 +1,12 @@
 //! Laws of what is written and read, each the contract of a function that does nothing. An item is
 //! the one that `Serialize` writes, where it writes one.
 ghost use Rattle.std.specs.Prelude.{ℕ, ◌≡◌, ◌+◌, ◌<◌, ◌≤◌, ◌++◌, List, Bool, true, Some, None};
-ghost use Rattle.std.specs.Prelude.{false, IsTrue};
+ghost use Rattle.std.specs.Prelude.{◌^◌, false, IsTrue, All, length, max};
+ghost use Rattle.std.specs.BTreeMap.{IsOrdered};
 ghost use Rattle.std.specs.Cmp.{IsTotalOrder};
+ghost use Rattle.std.specs.declared.alloc.Global.{Global};
+ghost use Rattle.std.specs.declared.boxed.Box.{Box};
+ghost use Rattle.std.specs.declared.vec.Vec.{Vec};
 ghost use Rattle.cbor4ii_rw.specs.Input.{limit};
 ghost use Rattle.cbor4ii_rw.specs.Reader.{KeepsAllButBudget};
 ghost use Rattle.cbor4ii_rw.specs.View.{View};
@@ -10,6 +14,7 @@ ghost use Rattle.cbor4ii_rw.specs.declared.error.DecodeError.{DecodeError};
 ghost use Rattle.cbor4ii_items.specs.Decoding.{Reads, Sound, Complete};
 ghost use Rattle.cbor4ii_items.specs.Budget.{CostFits};
 ghost use Rattle.cbor4ii_items.specs.NeverBoth.{NeverBoth};
+ghost use Rattle.cbor4ii_items.specs.ReadBack.{greatest_cost, pair_cost};
 ghost use Rattle.cbor4ii_items.specs.Whole.{IsWhole};
 ghost use Rattle.cbor4ii_items.specs.InputError.{input_error_of};
 ghost use Rattle.cbor4ii_items.specs.Moves.{Kept};
@@ -20,12 +25,68 @@ ghost use Rattle.cbor4ii_ser.specs.Item.{Encoding, encoded, variant_encoding};
 ghost use Rattle.cbor4ii_ser.specs.OneItem.{canonical};
 ghost use Rattle.cbor4ii.specs.AnyCost.{any_cost};
 ghost use Rattle.cbor4ii.specs.Optional.{ReadsPresence, RejectsPresence};
-ghost use Rattle.cbor4ii.specs.ReadBack.{IsReadBack, IsNullItem, IsName};
+ghost use Rattle.cbor4ii.specs.ReadBack.{IsReadBack, BeginsOther, IsNullItem, IsName};
 ghost use Rattle.cbor4ii.specs.Typed.{Lawful};
 ghost use Rattle.cbor4ii.specs.Variants.{OpensEnum, ReadsContent, ReadsVariant};
 
 use crate::serde::de::deserialize::Typed;
 use cbor4ii_ser::serialize::Serialize;
+use std::collections::BTreeMap;
+
+/// A value in a box, and one that may be absent, are read back wherever the value is: in a box at
+/// the value's cost, and else at one step more. The value's type need not be described, and its
+/// item need not be canonical. So it is of the next three laws.
+pub fn wrapped_values_are_read_back<T: Typed + Serialize>()
+    ensures boxed { (v : Box T Global) (cost : ℕ) →
+        IsReadBack T.promise.format.reads (T.encoding v.value) v.value cost →
+        IsReadBack ⟦<Box<T> as Typed>⟧.promise.format.reads
+        (⟦<Box<T> as Serialize>⟧.encoding v) v cost }
+    ensures none { IsReadBack ⟦<Option<T> as Typed>⟧.promise.format.reads
+        (⟦<Option<T> as Serialize>⟧.encoding None) None 0 }
+    ensures some { (v : T) (cost : ℕ) →
+        IsReadBack T.promise.format.reads (T.encoding v) v cost → BeginsOther (T.encoding v) →
+        IsReadBack ⟦<Option<T> as Typed>⟧.promise.format.reads
+        (⟦<Option<T> as Serialize>⟧.encoding (Some v)) (Some v) (1 + cost) }
+{}
+
+/// A pair and a triple are read back wherever each part is: at one step and the greatest cost of a
+/// part.
+pub fn tuples_are_read_back<A: Typed + Serialize, B: Typed + Serialize, C: Typed + Serialize>()
+    ensures pair { (p : A × B) (first second : ℕ) →
+        IsReadBack A.promise.format.reads (A.encoding p.0) p.0 first →
+        IsReadBack B.promise.format.reads (B.encoding p.1) p.1 second →
+        IsReadBack ⟦<(A, B) as Typed>⟧.promise.format.reads (⟦<(A, B) as Serialize>⟧.encoding p) p
+        (1 + max first second) }
+    ensures triple { (p : A × B × C) (first second third : ℕ) →
+        IsReadBack A.promise.format.reads (A.encoding p.0) p.0 first →
+        IsReadBack B.promise.format.reads (B.encoding p.1) p.1 second →
+        IsReadBack C.promise.format.reads (C.encoding p.2) p.2 third →
+        IsReadBack ⟦<(A, B, C) as Typed>⟧.promise.format.reads
+        (⟦<(A, B, C) as Serialize>⟧.encoding p) p (1 + max first (max second third)) }
+{}
+
+/// A vector is read back wherever each of its values is: at one step and the greatest cost of a
+/// value.
+pub fn vectors_are_read_back<T: Typed + Serialize>()
+    ensures { (v : Vec T Global) (cost : T → ℕ) →
+        All (λ part. IsReadBack T.promise.format.reads (T.encoding part) part (cost part))
+        v.items →
+        IsReadBack ⟦<Vec<T> as Typed>⟧.promise.format.reads (⟦<Vec<T> as Serialize>⟧.encoding v) v
+        (1 + greatest_cost cost v.items) }
+{}
+
+/// A map whose keys stand in their order, as those of every map of the program do, is read back
+/// wherever each key and value is: at one step and the greatest cost of a key or a value.
+pub fn maps_are_read_back<K: Typed + Serialize + Ord, V: Typed + Serialize>()
+    ensures { (m : BTreeMap K V Global) (key_cost : K → ℕ) (value_cost : V → ℕ) →
+        IsOrdered K.cmp m → length m.entries < 2 ^ 64 →
+        All (λ p. IsReadBack K.promise.format.reads (K.encoding p.0) p.0 (key_cost p.0)) m.entries →
+        All (λ p. IsReadBack V.promise.format.reads (V.encoding p.1) p.1 (value_cost p.1))
+        m.entries →
+        IsReadBack ⟦<BTreeMap<K, V> as Typed>⟧.promise.format.reads
+        (⟦<BTreeMap<K, V> as Serialize>⟧.encoding m) m
+        (1 + greatest_cost (pair_cost key_cost value_cost) m.entries) }
+{}
 
 /// A value that may be absent and whose item is null or undefined is read as none.
 pub fn null_is_read_as_none<T: Typed + Serialize>()

@@ -1,8 +1,8 @@
 //! Rows of the maps that are written and read by hand.
 use crate::by_hand::{Record, decode_record, write_record};
 use crate::rejected::is_rejected;
-use cbor4ii_rw::error::{DecodeError, Never};
-use cbor4ii_rw::slice_reader::SliceReader;
+use cbor4ii::error::{DecodeError, Never};
+use cbor4ii::utils::SliceReader;
 use cbor4ii_vectors::{eof, mismatch};
 use std::alloc::Global;
 use std::test::Fail;

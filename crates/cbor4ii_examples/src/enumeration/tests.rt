@@ -4,14 +4,14 @@ ghost use Rattle.cbor4ii_ser.specs.Item.{variant_encoding};
 ghost use Rattle.cbor4ii_examples.specs.declared.enumeration.tests.Letters.TheVariants.{A};
 
 use crate::enumeration::{Enum, read_enum};
+use cbor4ii::dec::Source;
+use cbor4ii::enc::Write;
+use cbor4ii::error::{Never, StaticStr};
 use cbor4ii::serde::Choice::{First, Other};
 use cbor4ii::serde::{
     Choice, DecodeError, Deserialize, Deserializer, EncodeError, Holds, Otherwise, Serialize,
     Serializer, Typed, Unit, to_writer,
 };
-use cbor4ii_rw::error::{Never, StaticStr};
-use cbor4ii_rw::read::Source;
-use cbor4ii_rw::write::Write;
 use cbor4ii_vectors::{mismatch, no_step, table};
 use cbor4ii_vectors_de::typed::{
     Answer, BothShown, RowShown, RowShownWithin, Take, come_back, tells,

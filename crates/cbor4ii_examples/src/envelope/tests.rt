@@ -1,17 +1,18 @@
 //! Rows of envelopes, over a check that reports which bytes it was handed.
-ghost use Rattle.std.specs.Prelude.{[]};
+ghost use Rattle.std.specs.Prelude.{◌≡◌, ◌∷◌, []};
 ghost use Rattle.cbor4ii_ser.specs.Item.{encoded};
 
 use crate::envelope::OpenError::{Envelope, NotSigned, Payload};
 use crate::envelope::{self, OpenError, SealError, Sign, Verify, open, seal};
 use crate::reply::Reply;
+use cbor4ii::enc::Write;
+use cbor4ii::error::DecodeError::{Eof, Mismatch, RequireBorrowed, RequireUtf8};
+use cbor4ii::error::Len::Small;
+use cbor4ii::error::WholeError::{Decode, Trailing};
+use cbor4ii::error::{DecodeError as CoreError, Never};
 use cbor4ii::serde::DecodeError::{Core, Custom};
 use cbor4ii::serde::{EncodeError, Serialize, Serializer};
-use cbor4ii_rw::error::DecodeError::{Eof, Mismatch, RequireBorrowed};
-use cbor4ii_rw::error::Len::Small;
-use cbor4ii_rw::error::{DecodeError as CoreError, Never, WholeError};
-use cbor4ii_rw::write::Write;
-use cbor4ii_tree::Value;
+use cbor4ii::{RawValue, Value};
 use cbor4ii_vectors::table;
 use cbor4ii_vectors_de::typed::comes_back_lent;
 use std::alloc::{AllocError, Global};
@@ -22,6 +23,11 @@ use std::test::Fail;
 struct Expected(&'static [u8]);
 
 impl Sign for Expected {
+    ghost number = { λ expected. 7 };
+
+    ghost signed = { λ expected key signature message.
+        message ≡ expected.0.now → signature ≡ 0xab ∷ 0xcd ∷ [] };
+
     fn key(&self) -> u32 {
         7
     }
@@ -35,7 +41,8 @@ impl Sign for Expected {
 }
 
 impl Verify for Expected {
-    ghost signed = { λ expected key signature message. Unit {0} };
+    ghost signed = { λ expected key signature message.
+        (key ≡ 7) × (signature ≡ 0xab ∷ 0xcd ∷ []) × (message ≡ expected.0.now) };
 
     fn verify(&self, key: u32, signature: &[u8], message: &[u8]) -> bool {
         key == 7 && signature == b"\xab\xcd".as_slice() && message == self.0
@@ -72,9 +79,9 @@ impl Serialize for Silent {
     }
 }
 
-// A tag has no item as a typed value.
+// A tag has no item as a typed value, and a chunk may be no array (RFC 8949, section 3.2.3).
 #[test]
-fn a_payload_without_an_item_is_not_sealed(rt: HostRuntime) -> Result<(), Fail> {
+fn a_payload_that_is_no_item_is_not_sealed(rt: HostRuntime) -> Result<(), Fail> {
     let alloc = rt.alloc();
     let tag = Value::Tag(1, Box::new(alloc, Value::Null)?);
     let rejection = seal(alloc, &Expected(b""), &tag).err();
@@ -85,19 +92,19 @@ fn a_payload_without_an_item_is_not_sealed(rt: HostRuntime) -> Result<(), Fail> 
     );
     let rejection = seal(alloc, &Expected(b""), &Silent).err();
     let missing = Eof {
-        name: "ignored-any",
+        name: "value",
         expect: Small(1),
     };
-    assert_eq!(rt;
-        rejection,
-        Some(SealError::Payload(WholeError::Decode(missing)))
-    );
+    assert_eq!(rt; rejection, Some(SealError::Payload(Decode(missing))));
+    let raw = RawValue::new(b"\x5f\x80\xff")?;
+    let rejection = seal(alloc, &Expected(b""), &raw).err();
+    assert_eq!(rt; rejection, Some(SealError::Payload(Decode(NO_CHUNK))));
     Ok(())
 }
 
 const SEALED_SHOWN: &str =
-    "Envelope { key: 7, signature: Bytes([171, 205]), payload: RawValue([161, 102, 115, 116, \
-97, 116, 117, 115, 24, 200]) }";
+    "Envelope { key: 7, signature: Bytes([171, 205]), payload: PlainRawValue(RawValue([161, \
+102, 115, 116, 97, 116, 117, 115, 24, 200])) }";
 
 #[test]
 fn an_envelope_comes_back(rt: HostRuntime) -> Result<(), Fail> {
@@ -125,15 +132,8 @@ const LONG_SEALED: &[u8] =
 const MORE_SEALED: &[u8] =
     b"\xa3\x63key\x07\x69signature\x42\xab\xcd\x67payload\xa2\x61x\x80\x66status\x05";
 
-// What follows an envelope is left alone.
-const FOLLOWED: &[u8] =
-    b"\xa3\x63key\x07\x69signature\x42\xab\xcd\x67payload\xa1\x66status\x05\x00";
-
-const FIVE: &[u8] = b"\xa1\x66status\x05";
-
 const OPENED: &[Opened] = table! {
     (SEALED, REPLY, 200),
-    (FOLLOWED, FIVE, 5),
     (OPEN_SEALED, OPEN, 5),
     (LONG_SEALED, LONG, 5),
     (MORE_SEALED, MORE, 5),
@@ -162,15 +162,49 @@ const NOT_SIGNED: &[Refusal] = table! {
 };
 
 const NO_ENVELOPE: &[Refusal] = table! {
-    (b"", b"", Envelope(Core(Eof { name: "map", expect: Small(1) }))),
-    (b"\x80", b"", Envelope(Core(Mismatch { name: "map", found: 0x80 }))),
-    (b"\xa1\x67payload\x05", b"", Envelope(Custom("an envelope has no key"))),
-    (b"\xa2\x63key\x07\x67payload\x05", b"", Envelope(Custom("an envelope has no signature"))),
-    (b"\xa2\x63key\x07\x69signature\x40", b"", Envelope(Custom("an envelope has no payload"))),
-    (b"\xa1\x69signature\x5f\x41\xab\xff", b"", Envelope(Core(IN_CHUNKS))),
+    (b"", b"", Envelope(Decode(Core(Eof { name: "map", expect: Small(1) })))),
+    (b"\x80", b"", Envelope(Decode(Core(Mismatch { name: "map", found: 0x80 })))),
+    (b"\xa1\x67payload\x05", b"", Envelope(Decode(Custom(KEY)))),
+    (b"\xa2\x63key\x07\x67payload\x05", b"", Envelope(Decode(Custom(SIGNATURE)))),
+    (b"\xa2\x63key\x07\x69signature\x40", b"", Envelope(Decode(Custom(PAYLOAD)))),
+    (b"\xa1\x69signature\x5f\x41\xab\xff", b"", Envelope(Decode(Core(IN_CHUNKS)))),
 };
 
+const KEY: &str = "an envelope has one key";
+
+const SIGNATURE: &str = "an envelope has one signature";
+
+const PAYLOAD: &str = "an envelope has one payload";
+
 const IN_CHUNKS: CoreError<Never> = RequireBorrowed { name: "bytes" };
+
+const FIVE: &[u8] = b"\xa1\x66status\x05";
+
+// What follows an envelope, and a second field of a name, whichever payload was signed.
+const MORE_THAN_ONE: &[Refusal] = table! {
+    (FOLLOWED, FIVE, Envelope(Trailing(1))),
+    (TWO_PAYLOADS, FIVE, Envelope(Decode(Custom(PAYLOAD)))),
+    (TWO_PAYLOADS, b"\x06", Envelope(Decode(Custom(PAYLOAD)))),
+    (b"\xa2\x63key\x07\x63key\x07", b"", Envelope(Decode(Custom(KEY)))),
+};
+
+const FOLLOWED: &[u8] =
+    b"\xa3\x63key\x07\x69signature\x42\xab\xcd\x67payload\xa1\x66status\x05\x00";
+
+const TWO_PAYLOADS: &[u8] =
+    b"\xa4\x63key\x07\x69signature\x42\xab\xcd\x67payload\x06\x67payload\xa1\x66status\x05";
+
+// An array as a chunk, alone and before another payload, and a text that is no UTF-8.
+const NO_CBOR: &[Refusal] = table! {
+    (b"\xa1\x67payload\x5f\x80\xff", b"\x5f\x80\xff", Envelope(Decode(Core(NO_CHUNK)))),
+    (b"\xa2\x67payload\x5f\x80\xff\x67payload\x05", b"\x05", Envelope(Decode(Core(NO_CHUNK)))),
+    (b"\xa1\x67payload\x61\xff", b"\x61\xff", Envelope(Decode(Core(RequireUtf8 { name: "str" })))),
+};
+
+const NO_CHUNK: CoreError<Never> = Mismatch {
+    name: "bytes",
+    found: 0x80,
+};
 
 // A payload that was signed, and is no reply.
 const NO_PAYLOAD: &[Refusal] = table! {
@@ -178,12 +212,12 @@ const NO_PAYLOAD: &[Refusal] = table! {
     (b"\xa3\x63key\x07\x69signature\x42\xab\xcd\x67payload\xa0", b"\xa0", NO_STATUS),
 };
 
-const NO_MAP: OpenError = Payload(Core(Mismatch {
+const NO_MAP: OpenError = Payload(Decode(Core(Mismatch {
     name: "map",
     found: 5,
-}));
+})));
 
-const NO_STATUS: OpenError = Payload(Custom("a reply has no status"));
+const NO_STATUS: OpenError = Payload(Decode(Custom("a reply has no status")));
 
 fn rejects(alloc: Global, rows: &[Refusal]) -> Result<(), Fail> {
     for (bytes, message, want) in rows {
@@ -201,6 +235,8 @@ fn other_envelopes_are_rejected(rt: HostRuntime) -> Result<(), Fail> {
     let alloc = rt.alloc();
     rejects(alloc, NOT_SIGNED)?;
     rejects(alloc, NO_ENVELOPE)?;
+    rejects(alloc, MORE_THAN_ONE)?;
+    rejects(alloc, NO_CBOR)?;
     rejects(alloc, NO_PAYLOAD)
 }
 
@@ -209,7 +245,7 @@ fn an_envelope_that_is_cut_is_rejected(rt: HostRuntime) -> Result<(), Fail> {
     for end in 0..SEALED.len() {
         let opened: Result<Reply, OpenError> = open(rt.alloc(), &Expected(REPLY), &SEALED[..end]);
         match opened {
-            Err(Envelope(Core(Eof { .. }))) => {}
+            Err(Envelope(Decode(Core(Eof { .. })))) => {}
             answer => return Err(Fail::new(format_args!("{answer:?} of {end} bytes"))),
         }
     }

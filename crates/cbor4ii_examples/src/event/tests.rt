@@ -1,8 +1,8 @@
 //! Rows of an enum, alone and inside other types.
 use crate::event::Event;
+use cbor4ii::dec::Source;
+use cbor4ii::enc::Write;
 use cbor4ii::serde::{DecodeError, Deserialize, Deserializer, EncodeError, Serialize, Serializer};
-use cbor4ii_rw::read::Source;
-use cbor4ii_rw::write::Write;
 use cbor4ii_vectors::{eof, mismatch, no_step, require_length, table};
 use cbor4ii_vectors_de::typed::{
     Answer, BothShown, Rejected, RowShown, RowShownWithin, Take, comes_back, rejects, tells,

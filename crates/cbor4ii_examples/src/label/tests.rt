@@ -4,13 +4,13 @@ ghost use Rattle.cbor4ii_ser.specs.Item.{field, struct_encoding};
 
 use crate::enumeration::Enum;
 use crate::label::Label;
+use cbor4ii::enc::Write;
+use cbor4ii::error::{DecodeError as CoreError, Never};
 use cbor4ii::serde::{
     DecodeError, Deserialize, Deserializer, EncodeError, Serialize, Serializer, Typed, from_slice,
 };
 use cbor4ii::types::Bytes;
-use cbor4ii_rw::error::{DecodeError as CoreError, Never};
-use cbor4ii_rw::slice_reader::SliceReader;
-use cbor4ii_rw::write::Write;
+use cbor4ii::utils::SliceReader;
 use cbor4ii_vectors_de::typed::comes_back_lent;
 use std::alloc::Global;
 use std::collections::BTreeMap;
@@ -26,7 +26,7 @@ fn a_struct_that_borrows_comes_back(rt: HostRuntime) -> Result<(), Fail> {
     comes_back_lent::<&[u8], Label<'_>>(alloc, &bytes, &bytes, "Label { id: 5, text: \"a\" }")
 }
 
-/// The text of the struct at the front of the bytes.
+/// The text of the struct at the beginning of the bytes.
 fn text_of(alloc: Global, bytes: &[u8]) -> Result<&str, DecodeError<Never>> {
     let label: Label<'_> = from_slice(alloc, bytes)?;
     Ok(label.text)

@@ -1,10 +1,10 @@
 //! Rows of a log that is cut at each place, of one that goes on with other bytes, and of streams.
 use crate::event::Event;
 use crate::log::{Fault, replay, whole_events};
+use cbor4ii::error::DecodeError::{Mismatch, Read};
+use cbor4ii::error::Never;
 use cbor4ii::serde::DecodeError;
 use cbor4ii::serde::DecodeError::{Core, Custom};
-use cbor4ii_rw::error::DecodeError::{Mismatch, Read};
-use cbor4ii_rw::error::Never;
 use cbor4ii_vectors::streams::FailingStream;
 use cbor4ii_vectors::table;
 use std::alloc::Global;

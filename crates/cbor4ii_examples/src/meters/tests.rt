@@ -1,7 +1,7 @@
 //! Rows of a newtype.
 use crate::meters::Meters;
+use cbor4ii::dec::Source;
 use cbor4ii::serde::{DecodeError, Deserialize, Deserializer};
-use cbor4ii_rw::read::Source;
 use cbor4ii_vectors::{mismatch, table};
 use cbor4ii_vectors_de::typed::{Answer, BothShown, Rejected, Take, comes_back, rejects, tells};
 use std::alloc::Global;

@@ -1,7 +1,7 @@
 //! Rows of a type that holds values of its own kind.
 use crate::nest::Nest;
+use cbor4ii::dec::Source;
 use cbor4ii::serde::{DecodeError, Deserialize, Deserializer};
-use cbor4ii_rw::read::Source;
 use cbor4ii_vectors::{eof, mismatch, no_step, table};
 use cbor4ii_vectors_de::typed::{
     Answer, BothShown, RowShown, RowShownWithin, Take, come_back, tells,

@@ -4,10 +4,10 @@ ghost use Rattle.std.specs.Prelude.{◌∷◌, [], codes};
 ghost use Rattle.cbor4ii_ser.specs.Item.{field, struct_encoding};
 
 use crate::point::{Point, point_is_read_back};
+use cbor4ii::dec::Source;
+use cbor4ii::enc::Write;
+use cbor4ii::error::Never;
 use cbor4ii::serde::{DecodeError, Deserialize, Deserializer, EncodeError, Serialize, Serializer};
-use cbor4ii_rw::error::Never;
-use cbor4ii_rw::read::Source;
-use cbor4ii_rw::write::Write;
 use cbor4ii_vectors::{eof, mismatch, no_step, table};
 use cbor4ii_vectors_de::typed::{
     Answer, BothShown, Rejected, RowShown, RowShownWithin, Take, comes_back, rejects, tells,

@@ -1,7 +1,7 @@
 //! Rows of a struct of which a field is left out where it is none.
 use crate::reply::Reply;
+use cbor4ii::dec::Source;
 use cbor4ii::serde::{DecodeError, Deserialize, Deserializer};
-use cbor4ii_rw::read::Source;
 use cbor4ii_vectors::{mismatch, table};
 use cbor4ii_vectors_de::typed::{Answer, BothShown, RowShown, Take, tells};
 use std::alloc::Global;

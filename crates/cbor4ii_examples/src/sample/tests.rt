@@ -1,7 +1,7 @@
 //! Rows of a struct that is written part by part.
 use crate::sample::Sample;
+use cbor4ii::dec::Source;
 use cbor4ii::serde::{DecodeError, Deserialize, Deserializer};
-use cbor4ii_rw::read::Source;
 use cbor4ii_vectors::{mismatch, no_step, table};
 use cbor4ii_vectors_de::typed::{Answer, RowShown, RowShownWithin, Take, tells_all};
 use std::alloc::Global;

@@ -1,10 +1,11 @@
 //! Rows of settings, and of the bytes at which their reading fails.
 use crate::settings::{Settings, read_settings};
+use cbor4ii::dec::Source;
+use cbor4ii::error::DecodeError::{Eof, Mismatch};
+use cbor4ii::error::WholeError::{Decode, Trailing};
+use cbor4ii::error::{Len, Never, WholeError};
 use cbor4ii::serde::DecodeError::{Core, Custom};
 use cbor4ii::serde::{DecodeError, Deserialize, Deserializer};
-use cbor4ii_rw::error::DecodeError::{Eof, Mismatch};
-use cbor4ii_rw::error::{Len, Never};
-use cbor4ii_rw::read::Source;
 use cbor4ii_vectors::table;
 use cbor4ii_vectors_de::typed::{Answer, RowShown, Take, comes_back, tells_all};
 use std::alloc::Global;
@@ -47,15 +48,20 @@ fn what_is_not_set_has_a_default(rt: HostRuntime) -> Result<(), Fail> {
     tells_all::<Answer<Settings>>(rt.alloc(), SETTINGS, &[])
 }
 
-type Row = (&'static [u8], usize, DecodeError<Never>);
+type Row = (&'static [u8], usize, WholeError<DecodeError<Never>>);
 
-// A port of four bytes, a number in the place of a text, a map that ends too early, and one that
-// lacks the host.
+const NO_HOST: WholeError<DecodeError<Never>> = Decode(Custom("settings have one host"));
+
+// A port of four bytes, a number in the place of a text, a map that ends too early, one that lacks
+// the host, one that has two, and bytes behind one.
 const FAULTS: &[Row] = table! {
-    (b"\xa1\x64port\x1a\x00\x01\x00\x00", 7, Core(Mismatch { name: "u16", found: 0x1a })),
-    (b"\xa1\x64host\x05", 7, Core(Mismatch { name: "str", found: 5 })),
-    (b"\xa1\x64host", 6, Core(Eof { name: "str", expect: Len::Small(1) })),
-    (b"\xa0", 1, Custom("settings have one host")),
+    (b"\xa1\x64port\x1a\x00\x01\x00\x00", 7, Decode(Core(Mismatch { name: "u16", found: 0x1a }))),
+    (b"\xa1\x64host\x05", 7, Decode(Core(Mismatch { name: "str", found: 5 }))),
+    (b"\xa1\x64host", 6, Decode(Core(Eof { name: "str", expect: Len::Small(1) }))),
+    (b"\xa0", 1, NO_HOST),
+    (b"\xa0\x00", 1, NO_HOST),
+    (b"\xa2\x64host\x61a\x64host\x61b", 15, NO_HOST),
+    (b"\xa1\x64host\x61a\x00\xff", 8, Trailing(2)),
 };
 
 #[test]
@@ -75,6 +81,7 @@ fn a_fault_tells_its_byte(rt: HostRuntime) -> Result<(), Fail> {
 const LINES: &[(&[u8], &str)] = table! {
     (b"\xa1\x64host\x05", "byte 7: Mismatch { name: \"str\", found: 5 }"),
     (b"\xa1\x64port\x01", "byte 7: settings have one host"),
+    (b"\xa1\x64host\x61a\x00\xff", "byte 8: bytes after the settings: 2"),
 };
 
 #[test]

@@ -1,8 +1,7 @@
 //! Rows of the record that is read and written by hand.
 use crate::station::Station;
-use cbor4ii_items::decode::Decode;
-use cbor4ii_rw::error::DecodeError;
-use cbor4ii_rw::read::Source;
+use cbor4ii::dec::{Decode, Source};
+use cbor4ii::error::DecodeError;
 use cbor4ii_vectors::rows::{
     ReadFrom, Row, RowWithin, reads_texts, reads_texts_within, texts_go_both_ways,
 };

@@ -1,9 +1,9 @@
 //! Rows of what a store takes, and of what it rejects.
 use crate::store::{StoreError, canonical_bytes, stored_value};
-use cbor4ii_rw::error::DecodeError::{Eof, Mismatch, NotCanonical, RequireUtf8};
-use cbor4ii_rw::error::Len::Small;
-use cbor4ii_rw::error::WholeError::{Decode, Trailing};
-use cbor4ii_tree::Value;
+use cbor4ii::Value;
+use cbor4ii::error::DecodeError::{Eof, Mismatch, NotCanonical, RequireUtf8};
+use cbor4ii::error::Len::Small;
+use cbor4ii::error::WholeError::{Decode, Trailing};
 use cbor4ii_vectors::table;
 use std::test::Fail;
 
@@ -21,6 +21,11 @@ const ENCODINGS: &[Encoding] = table! {
     (b"\xc1\x1b\x00\x00\x00\x00\x51\x4b\x67\xb0", b"\xc1\x1a\x51\x4b\x67\xb0"),
     (b"\xf9\x3c\x00", b"\xf9\x3c\x00"),
     (b"\xf7", b"\xf6"),
+    // A bignum is a tag, whose bytes stay as they are.
+    (b"\x05", b"\x05"),
+    (b"\xc2\x41\x05", b"\xc2\x41\x05"),
+    (b"\xc2\x42\x00\x05", b"\xc2\x42\x00\x05"),
+    (b"\xc2\x58\x02\x00\x05", b"\xc2\x42\x00\x05"),
 };
 
 #[test]

@@ -1,7 +1,7 @@
 //! Rows of a struct that holds values of its own kind.
 use crate::tree::Tree;
+use cbor4ii::dec::Source;
 use cbor4ii::serde::{DecodeError, Deserialize, Deserializer};
-use cbor4ii_rw::read::Source;
 use cbor4ii_vectors::rows::writes;
 use cbor4ii_vectors::table;
 use cbor4ii_vectors_de::typed::{Answer, RowShown, Take, come_back, tells_all};

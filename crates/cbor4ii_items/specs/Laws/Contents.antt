@@ -206,7 +206,7 @@ lends_prefix {want = want} {n = n} {shown = shown} {a = a} {m = m}
       );
     }
 
--- the front of what was lent is the input's own, as all of that is
+-- the beginning of what was lent is the input's own, as all of that is
 pub prefix_is_of_input : {want n : ℕ} {shown content : Bor (List ℕ)} {a m b : View}
     → Shows shown.now a m → IfKnown a.known (IsPrefix want shown.now) → n ≤ length shown.now
     → IsSubslice (Long shown) a → place_of content ≡ place_of shown → content.now ≡ take n shown.now

@@ -1,4 +1,4 @@
--- Heads are read off the front of bytes exactly as they are encoded there.
+-- Heads are read from the beginning of bytes exactly as they are encoded there.
 use Rattle.std.proofs.Common.{◌≡◌, ◌≢◌, ℕ, zero, suc, ◌+◌, ◌-◌, ◌*◌, ◌/◌, ◌%◌, ◌^◌, ◌<◌, ◌≤◌, List}
 use Rattle.std.proofs.Common.{[], ◌∷◌, ◌++◌, length, drop, take, Ok, Bool, true, false, refl, sym}
 use Rattle.std.proofs.Common.{ap, ap₂, ◌∙◌, subst, arith, pow-suc, mul_comm, mod-eq_of_lt, lt-ltb}

@@ -13,13 +13,14 @@ ghost use Rattle.cbor4ii_items.specs.Laws.Bignums.{u128_alone, i128_one, i128_wi
 ghost use Rattle.cbor4ii_items.specs.Laws.Bignums.{i128_positive, i128_alone};
 ghost use Rattle.cbor4ii_items.specs.Decoding.{leaf_format};
 
+use crate::bignum::{NEGATIVE_BIGNUM, POSITIVE_BIGNUM};
 use crate::decode::{Decodable, Decode};
 use crate::encode::Encode;
 use crate::head::{head, length, number, peek};
 use crate::initial::if_major;
 use crate::major;
 use crate::prefix::take_head;
-use crate::push::{NEGATIVE_BIGNUM, POSITIVE_BIGNUM, push_signed_integer, push_unsigned_integer};
+use crate::push::{push_signed_integer, push_unsigned_integer};
 use cbor4ii_rw::error::{DecodeError, EncodeError, Len, StaticStr};
 use cbor4ii_rw::read::Source;
 use cbor4ii_rw::write::Write;

@@ -135,26 +135,26 @@ if_headed Q R xs b f q = if_followed (λ zs. zs ≡ xs) Q R (encoded xs) b (λ z
 -- ---- canonical items have shortest heads
 
 mutual
-  shortest_in_strict : (t : Tree) → CanonicalShape t → ShortestHeads t
-  shortest_in_strict (int s n w) h = h
-  shortest_in_strict (string k w content) h = h
-  shortest_in_strict (chunked k ts) h = absurd h
-  shortest_in_strict (array w ts) h = (h.0, all_in_strict ts h.1)
-  shortest_in_strict (array_indefinite ts) h = absurd h
-  shortest_in_strict (map_of w ps) h = (h.0, pairs_in_strict ps h.1)
-  shortest_in_strict (map_indefinite ps) h = absurd h
-  shortest_in_strict (tagged n w t) h = (h.0, shortest_in_strict t h.1)
-  shortest_in_strict (simple s) h = tt
-  shortest_in_strict (bits p n) h = tt
+  shortest_in_shape : (t : Tree) → CanonicalShape t → ShortestHeads t
+  shortest_in_shape (int s n w) h = h
+  shortest_in_shape (string k w content) h = h
+  shortest_in_shape (chunked k ts) h = absurd h
+  shortest_in_shape (array w ts) h = (h.0, all_in_shape ts h.1)
+  shortest_in_shape (array_indefinite ts) h = absurd h
+  shortest_in_shape (map_of w ps) h = (h.0, pairs_in_shape ps h.1)
+  shortest_in_shape (map_indefinite ps) h = absurd h
+  shortest_in_shape (tagged n w t) h = (h.0, shortest_in_shape t h.1)
+  shortest_in_shape (simple s) h = tt
+  shortest_in_shape (bits p n) h = tt
 
-  all_in_strict : (ts : Trees) → CanonicalShapeAll ts → AllShortestHeads ts
-  all_in_strict no_trees h = tt
-  all_in_strict (tree t ts) h = (shortest_in_strict t h.0, all_in_strict ts h.1)
+  all_in_shape : (ts : Trees) → CanonicalShapeAll ts → AllShortestHeads ts
+  all_in_shape no_trees h = tt
+  all_in_shape (tree t ts) h = (shortest_in_shape t h.0, all_in_shape ts h.1)
 
-  pairs_in_strict : (ps : Pairs) → CanonicalShapePairs ps → PairsShortestHeads ps
-  pairs_in_strict no_pairs h = tt
-  pairs_in_strict (pair k v ps) h =
-      (shortest_in_strict k h.0, shortest_in_strict v h.1, pairs_in_strict ps h.2)
+  pairs_in_shape : (ps : Pairs) → CanonicalShapePairs ps → PairsShortestHeads ps
+  pairs_in_shape no_pairs h = tt
+  pairs_in_shape (pair k v ps) h =
+      (shortest_in_shape k h.0, shortest_in_shape v h.1, pairs_in_shape ps h.2)
 
 pub canonical_is_item : (form : Form) (item : Encoding) → IsOneItem canonical item
     → IsOneItem form item
@@ -162,7 +162,7 @@ canonical_is_item form (rejected xs words) p = tt
 canonical_is_item canonical (encoded xs) p = p
 canonical_is_item shortest_heads (encoded xs) p = record {
   of_tree = p.of_tree;
-  formed = (p.formed.0, shortest_in_strict p.of_tree p.formed.1);
+  formed = (p.formed.0, shortest_in_shape p.of_tree p.formed.1);
   bytes_are = p.bytes_are;
 }
 

@@ -1,4 +1,4 @@
-//! Streams that fail once, where they are told to.
+//! Streams that fail once, at a place that is given.
 use std::alloc::Global;
 use std::io::{self, ErrorKind, Read, Write};
 

@@ -12,7 +12,7 @@ use Rattle.cbor4ii_tree.specs.{Cost.{Budget, step_in}, InputError.{InputError, L
 use Rattle.cbor4ii_tree.specs.InputError.{IsEof, IsFinal, IsDepthOverflow, depth_overflow, tag_name}
 use Rattle.cbor4ii_tree.specs.ItemRejects.{Profile, NoUtf8Joined, ChunkRejectsBy, ChunkOf}
 use Rattle.cbor4ii_tree.specs.ItemRejects.{RejectsChunk, RejectsBy, RejectsFrom, RejectsWithin}
-use Rattle.cbor4ii_tree.specs.{ItemRejects.Rejects, Rejections.{Stopping, Missing, AtHead}}
+use Rattle.cbor4ii_tree.specs.{ItemRejects.Rejects, Rejections.{Rejection, Missing, AtHead}}
 use Rattle.cbor4ii_tree.specs.Rejections.{RejectsInCount, RejectsAtStep, NoBreak, IndefiniteItems}
 use Rattle.cbor4ii_tree.specs.{Rejections.IndefinitePairs, Tree.Tree}
 use Rattle.cbor4ii_tree.proofs.parts.Rejecting.{either}
@@ -21,7 +21,7 @@ use Rattle.cbor4ii_tree.proofs.parts.Rejecting.{either}
 abbrev Says : InputError → List ℕ → Type 0
 Says e rest = MayReject e × (IsEof e → rest ≡ [])
 
-abbrev Known : Stopping → Type 0
+abbrev Known : Rejection → Type 0
 Known rejects = (bs : List ℕ) (e : InputError) (rest : List ℕ) → rejects bs e rest → Says e rest
 
 ended : (name : List ℕ) (expect : Len) (e : InputError) (rest : List ℕ) → e ≡ eof name expect
@@ -40,10 +40,10 @@ final f e rest is h = (
   λ q. absurd ((final_only f h).0 (subst IsEof is q)),
 )
 
-at_head_known : (name : List ℕ) (major : ℕ) (w : Width) (b : ℕ) (then : ℕ → Stopping)
+at_head_known : (name : List ℕ) (major : ℕ) (w : Width) (b : ℕ) (then : ℕ → Rejection)
     → ((n : ℕ) → Known (then n)) → Known (AtHead name major w b then)
 at_head_known name major w b then k bs e rest (inl x) = ended _ _ e rest x.1.0 x.1.1
-at_head_known name major w b then k bs e rest (inr x) = k x.argument x.after e rest x.stopped
+at_head_known name major w b then k bs e rest (inr x) = k x.argument x.after e rest x.rejected
 
 cut_known : (name : List ℕ) (k : Kind) (w : Width) (b : ℕ)
     → Known (AtHead name (kind_major k) w b (Missing name))
@@ -59,17 +59,17 @@ stepped_known name None here s e rest k x =
     (subst MayReject (sym x.0) (inr (inl tt)), λ q. absurd (subst IsEof x.0 q))
 stepped_known name (Some inner) here s e rest k x = k inner x
 
-no_break_known : (s : Stopping) → Known s → Known (NoBreak s)
+no_break_known : (s : Rejection) → Known s → Known (NoBreak s)
 no_break_known s k [] e rest x = ended _ _ e rest x.0 x.1
 no_break_known s k (b ∷ bs) e rest x = k (b ∷ bs) e rest x.1
 
-items_known : (W : Tree → Type 0) (s : Stopping) → Known s → Known (IndefiniteItems W s)
-items_known W s k bs e rest x = no_break_known s k x.after e rest x.stopped
+items_known : (W : Tree → Type 0) (s : Rejection) → Known s → Known (IndefiniteItems W s)
+items_known W s k bs e rest x = no_break_known s k x.after e rest x.rejected
 
-pairs_known : (W : Tree → Type 0) (s : Stopping) → Known s → Known (IndefinitePairs W s)
-pairs_known W s k bs e rest x = elim x.stopped [
+pairs_known : (W : Tree → Type 0) (s : Rejection) → Known s → Known (IndefinitePairs W s)
+pairs_known W s k bs e rest x = elim x.rejected [
   | inl y ↦ no_break_known s k x.after e rest y
-  | inr y ↦ k y.after e rest y.stopped
+  | inr y ↦ k y.after e rest y.rejected
 ]
 
 chunk_by_known : (k : Kind) (i : Initial) (a : ℕ) → Known (ChunkRejectsBy k i a)
@@ -83,7 +83,7 @@ chunk_by_known byte_string (starts_chunks text_string) a bs e rest x = final _ e
 chunk_by_known text_string (starts_chunks byte_string) a bs e rest x = final _ e rest x.0 tt
 chunk_by_known k i a bs e rest x = final _ e rest x.0 tt
 
-chunk_known : (tests : Bool) (k : Kind) (b : Budget) (s : Stopping) → Known s
+chunk_known : (tests : Bool) (k : Kind) (b : Budget) (s : Rejection) → Known s
     → Known (RejectsChunk tests k b s)
 chunk_known false k b s g bs e rest x = g bs e rest x
 chunk_known true k b s g [] e rest x = ended _ _ e rest x.0 x.1
@@ -92,12 +92,12 @@ chunk_known true k b s g (a ∷ bs) e rest x =
     (λ inner y. chunk_by_known k (initial a) a bs e rest y) x
 
 module _ (p : Profile) where
-  module _ (b : Budget) (s : Budget → Stopping) (k : (c : Budget) → Known (s c)) where
+  module _ (b : Budget) (s : Budget → Rejection) (k : (c : Budget) → Known (s c)) where
     by_known : (i : Initial) (a : ℕ) → Known (RejectsBy p s b i a)
     by_known (starts_int sg v) a bs e rest x = ended _ _ e rest x.1.0 x.1.1
     by_known (bad_int sg) a bs e rest x = final _ e rest x.0 tt
     by_known (starts_string kd v) a bs e rest x =
-        either p.tests (cut_known _ kd v a bs e rest) (λ t y. final _ e rest y.stopped.err tt) x
+        either p.tests (cut_known _ kd v a bs e rest) (λ t y. final _ e rest y.rejected.err tt) x
     by_known (starts_chunks kd) a bs e rest x =
         either {B = NoUtf8Joined kd (ChunkOf p.tests kd b (p.Whole b)) bs e rest} p.tests
         (items_known _ _ (chunk_known p.tests kd b (s b) (k b)) bs e rest)
@@ -105,8 +105,8 @@ module _ (p : Profile) where
     by_known (bad_string kd) a bs e rest x = final _ e rest x.0 tt
     by_known (starts_array v) a bs e rest x =
         stepped_known _ (p.inside b) (a ∷ bs) _ e rest (λ c z. at_head_known p.of_array 4 v a
-        (RejectsInCount (p.Whole c) (s c)) (λ n bs' e' rest' y. k c y.after e' rest' y.stopped) bs e
-        rest z) x
+        (RejectsInCount (p.Whole c) (s c)) (λ n bs' e' rest' y. k c y.after e' rest' y.rejected) bs
+        e rest z) x
     by_known starts_indefinite_array a bs e rest x =
         stepped_known _ (p.inside b) (a ∷ bs) _ e rest
         (λ c z. items_known (p.Whole c) (s c) (k c) bs e rest z) x
@@ -115,7 +115,7 @@ module _ (p : Profile) where
     by_known (starts_map v) a bs e rest x =
         stepped_known _ (p.inside b) (a ∷ bs) _ e rest (λ c z. at_head_known p.of_map 5 v a
         (λ n. RejectsInCount (p.Whole c) (s c) (2 * n))
-        (λ n bs' e' rest' y. k c y.after e' rest' y.stopped) bs e rest z) x
+        (λ n bs' e' rest' y. k c y.after e' rest' y.rejected) bs e rest z) x
     by_known starts_indefinite_map a bs e rest x =
         stepped_known _ (p.inside b) (a ∷ bs) _ e rest
         (λ c z. pairs_known (p.Whole c) (s c) (k c) bs e rest z) x

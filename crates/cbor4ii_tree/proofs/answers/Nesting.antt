@@ -9,7 +9,7 @@ use Rattle.cbor4ii_tree.specs.CanonicalRejects.{CanonicalRejects, CanonicalRejec
 use Rattle.cbor4ii_tree.specs.{Cost.{Budget, step_in}, InputError.{InputError, tag_name}}
 use Rattle.cbor4ii_tree.specs.{InputError.{array_name, map_name, value_name}, ItemRejects.RejectsBy}
 use Rattle.cbor4ii_tree.specs.ReadingRejects.{ReadingRejects, ReadingRejectsByParts, reading}
-use Rattle.cbor4ii_tree.specs.Rejections.{Stopping, RejectsInCount}
+use Rattle.cbor4ii_tree.specs.Rejections.{Rejection, RejectsInCount}
 use Rattle.cbor4ii_tree.specs.SkippingRejects.{SkippingRejects, SkippingRejectsByParts, skipping}
 use Rattle.cbor4ii_tree.specs.Tree.{Tree, bytes_all}
 use Rattle.cbor4ii_tree.proofs.{parts.Rejecting.in_count, parts.Widen.trailing}
@@ -21,7 +21,7 @@ reading_by_parts = by_parts reading reading_widens
 
 -- ---- skipping, whose parts stand under one budget
 
-module _ (r : Budget → Stopping) (c : Budget) (e : InputError) (rest : List ℕ) where
+module _ (r : Budget → Rejection) (c : Budget) (e : InputError) (rest : List ℕ) where
   to_one : (i : Initial) (b : ℕ) (bs : List ℕ) → RejectsBy skipping r c i b bs e rest
       → RejectsBy skipping (λ left. r c) c i b bs e rest
   to_one (starts_tag w) b bs x = x
@@ -32,7 +32,7 @@ module _ (r : Budget → Stopping) (c : Budget) (e : InputError) (rest : List �
   from_one (starts_tag w) b bs x = x
   from_one _ b bs x = x
 
-free : Budget → Stopping
+free : Budget → Rejection
 free b part = SkippingRejects part b
 
 pub skipping_by_parts : (input : List ℕ) (budget : Budget) (e : InputError) (rest : List ℕ)
@@ -50,17 +50,17 @@ skipping_by_parts (b ∷ bs) budget e rest =
 -- ---- reading a canonical encoding
 
 -- of inputs below so many bytes
-abbrev Below : ℕ → Stopping → Stopping → Type 0
+abbrev Below : ℕ → Rejection → Rejection → Type 0
 Below k s t =
     (bs : List ℕ) (e : InputError) (rest : List ℕ) → length bs < k → s bs e rest → t bs e rest
 
-definite_below : (k : ℕ) (W : Tree → Type 0) (s t : Stopping) (n : ℕ) → Below k s t
+definite_below : (k : ℕ) (W : Tree → Type 0) (s t : Rejection) (n : ℕ) → Below k s t
     → Below k (RejectsInCount W s n) (RejectsInCount W t n)
 definite_below k W s t n f bs e rest lt x =
     in_count x.prefix x.after x.few x.whole x.is (f x.after e rest (trailing k bs
-    (bytes_all x.prefix) x.after lt x.is) x.stopped)
+    (bytes_all x.prefix) x.after lt x.is) x.rejected)
 
-at_shortest_below : (k : ℕ) (name : List ℕ) (major : ℕ) (b : Budget) (s t : ℕ → Stopping)
+at_shortest_below : (k : ℕ) (name : List ℕ) (major : ℕ) (b : Budget) (s t : ℕ → Rejection)
     → ((n : ℕ) → Below k (s n) (t n))
     → Below (suc k) (AtShortest name major b s) (AtShortest name major b t)
 at_shortest_below k name major b s t f bs e rest lt (inl x) = inl x
@@ -69,30 +69,30 @@ at_shortest_below k name major b s t f bs e rest lt (inr x) =
     let less : length x.after < k =
     omega (arith, ap length x.is.1, length-append (head major n (shortest n)) x.after) in
     inr (record
-    { argument = n; after = x.after; is = x.is; stopped = f n x.after e rest less x.stopped })
+    { argument = n; after = x.after; is = x.is; rejected = f n x.after e rest less x.rejected })
 
-strict_by_below : (k : ℕ) (b : Budget) (s t : Budget → Stopping)
+canonical_by_below : (k : ℕ) (b : Budget) (s t : Budget → Rejection)
     → ((c : Budget) → Below k (s c) (t c)) → (major : ℕ) (a : ℕ)
     → Below k (CanonicalRejectsBy s b major a) (CanonicalRejectsBy t b major a)
-strict_by_below k b s t f (suc (suc (suc (suc zero)))) a bs e rest lt x =
+canonical_by_below k b s t f (suc (suc (suc (suc zero)))) a bs e rest lt x =
     step_same array_name (step_in b) (a ∷ bs) _ _ e rest (λ c. at_shortest_below k array_name 4 c _
     _ (λ n. definite_below k (FitsCanonically c) (s c) (t c) n (f c)) (a ∷ bs) e rest (omega arith))
     x
-strict_by_below k b s t f (suc (suc (suc (suc (suc zero))))) a bs e rest lt x =
+canonical_by_below k b s t f (suc (suc (suc (suc (suc zero))))) a bs e rest lt x =
     step_same map_name (step_in b) (a ∷ bs) _ _ e rest (λ c. at_shortest_below k map_name 5 c _ _
     (λ n. definite_below k (FitsCanonically c) (s c) (t c) (2 * n) (f c)) (a ∷ bs) e rest
     (omega arith)) x
-strict_by_below k b s t f (suc (suc (suc (suc (suc (suc zero)))))) a bs e rest lt x =
+canonical_by_below k b s t f (suc (suc (suc (suc (suc (suc zero)))))) a bs e rest lt x =
     at_shortest_below k tag_name 6 b (λ n. s b) (λ n. t b) (λ n. f b)
     (a ∷ bs) e rest (omega arith) x
-strict_by_below k b s t f _ a bs e rest lt x = x
+canonical_by_below k b s t f _ a bs e rest lt x = x
 
-strict_from_below : (k : ℕ) (b : Budget) (s t : Budget → Stopping)
+canonical_from_below : (k : ℕ) (b : Budget) (s t : Budget → Rejection)
     → ((c : Budget) → Below k (s c) (t c))
     → Below (suc k) (CanonicalRejectsFrom s b) (CanonicalRejectsFrom t b)
-strict_from_below k b s t f [] e rest lt x = x
-strict_from_below k b s t f (a ∷ bs) e rest lt x =
-    strict_by_below k b s t f (a / 32) a bs e rest (omega arith) x
+canonical_from_below k b s t f [] e rest lt x = x
+canonical_from_below k b s t f (a ∷ bs) e rest lt x =
+    canonical_by_below k b s t f (a / 32) a bs e rest (omega arith) x
 
 within : (k n m : ℕ) (b : Budget) → k ≤ n → k ≤ m
     → Below k (CanonicalRejectsWithin n b) (CanonicalRejectsWithin m b)
@@ -100,23 +100,23 @@ within zero n m b p q bs e rest lt x = absurd (omega arith)
 within (suc k) zero m b p q bs e rest lt x = absurd x
 within (suc k) (suc n) zero b p q bs e rest lt x = absurd (omega arith)
 within (suc k) (suc n) (suc m) b p q bs e rest lt x =
-    step_same value_name (step_in b) bs _ _ e rest (λ c. strict_from_below k c
+    step_same value_name (step_in b) bs _ _ e rest (λ c. canonical_from_below k c
     (CanonicalRejectsWithin n) (CanonicalRejectsWithin m)
     (λ d. within k n m d (omega arith) (omega arith)) bs e rest lt) x
 
-whole : Budget → Stopping
+whole : Budget → Rejection
 whole b part = CanonicalRejects part b
 
-pub strict_by_parts : (input : List ℕ) (budget : Budget) (e : InputError) (rest : List ℕ)
+pub canonical_by_parts : (input : List ℕ) (budget : Budget) (e : InputError) (rest : List ℕ)
     → CanonicalRejects input budget e rest ↔ CanonicalRejectsByParts input budget e rest
 unfolding whole
-strict_by_parts input budget e rest =
+canonical_by_parts input budget e rest =
     let n : ℕ = length input in (
-      step_same value_name (step_in budget) input _ _ e rest (λ c. strict_from_below n c
+      step_same value_name (step_in budget) input _ _ e rest (λ c. canonical_from_below n c
           (CanonicalRejectsWithin n) whole (λ d bs e' rest' lt. within (suc (length bs)) n
           (suc (length bs)) d (omega arith) (omega arith) bs e' rest' (omega arith)) input e rest
           (omega arith)),
-      step_same value_name (step_in budget) input _ _ e rest (λ c. strict_from_below n c whole
+      step_same value_name (step_in budget) input _ _ e rest (λ c. canonical_from_below n c whole
           (CanonicalRejectsWithin n) (λ d bs e' rest' lt. within (suc (length bs))
           (suc (length bs)) n d (omega arith) (omega arith) bs e' rest' (omega arith)) input e rest
           (omega arith)),

@@ -14,7 +14,7 @@ use Rattle.cbor4ii_tree.specs.{Headline.{SkipsReads, CanonicalReads}, InputError
 use Rattle.cbor4ii_tree.specs.Promises.{Others, PrefixSkips, EofSkips, DepthSkips, FinalSkips}
 use Rattle.cbor4ii_tree.specs.Promises.{ExactSkips, DepthReads, FinalReads, ExactReads, SizeReads}
 use Rattle.cbor4ii_tree.specs.ReadingRejects.{ReadingRejects, Readable, reading}
-use Rattle.cbor4ii_tree.specs.{Rejections.Stopping, Skipping.{SkipsOne, RejectsSkippingOne}}
+use Rattle.cbor4ii_tree.specs.{Rejections.Rejection, Skipping.{SkipsOne, RejectsSkippingOne}}
 use Rattle.cbor4ii_tree.specs.{SkippingRejects.skipping, Tree.{Tree, bytes, Loose, Joins}}
 use Rattle.cbor4ii_tree.specs.{Valuing.ReadsOneValue, View.view}
 use Rattle.cbor4ii_tree.proofs.answers.MayReject.{may_reject, leaves_nothing}
@@ -52,7 +52,7 @@ all_bytes a b e z xs says moves known none =
 
 -- What an answer says follows from what is accepted, and from where it fails: then bytes of which
 -- nothing is left are bytes.
-pub says : {V E : Type 0} {S : Accepting V} {R : Stopping} {a b : View}
+pub says : {V E : Type 0} {S : Accepting V} {R : Rejection} {a b : View}
     {G : V → Type 0} {P : InputError → Type 0} (answer : Result V (DecodeError E))
     → Does S R a b answer → (xs : List ℕ) → a.known ≡ Some xs
     → ((ys : List ℕ) (v : V) → b.known ≡ Some ys → S xs v ys → G v)

@@ -204,17 +204,17 @@ module _ {E : Type 0} {a b : View} {v : Value}
 module _ {E : Type 0} {a b : View} {e : DecodeError E}
     (d : Does {V = Value} (ReadsOneValue true a.budget) (RejectsOneValue true a.budget) a b
     (Err e)) where
-  stopped : (xs : List ℕ) (Q : InputError → Type 0) → a.known ≡ Some xs → ((z : InputError)
+  rejected : (xs : List ℕ) (Q : InputError → Type 0) → a.known ≡ Some xs → ((z : InputError)
       (ys : List ℕ) → input_error_of e ≡ Some z → b.known ≡ Some ys → CanonicalRejects xs a.budget z
       ys → Q z) → IfSome (input_error_of e) Q
-  stopped xs Q known f =
+  rejected xs Q known f =
       if_some (input_error_of e) (λ z. (ys : List ℕ) × (b.known ≡ Some ys)
       × CanonicalRejects xs a.budget z ys) Q (λ z is h. f z h.0 is h.1 h.2) (d.err xs known)
 
   canonical_complete : Complete ReadsCanonical a e
   canonical_complete = record {
     at = λ xs known.
-        stopped xs (λ z. NoneRead ReadsCanonical xs a.budget) known
+        rejected xs (λ z. NoneRead ReadsCanonical xs a.budget) known
         (λ z ys is left h v n c r fits. let s = r.encodes in
         canonical_or a.budget xs z ys (view v.0) (drop n xs) h (record {
           encoding = take n xs;
@@ -240,7 +240,7 @@ module _ {E : Type 0} {a b : View} {e : DecodeError E}
   }
 
   pub rejected_all : AllCanonical {E = E} a b (Err e)
-  rejected_all = λ xs known w rest r. stopped xs (λ _. ⊥) known
+  rejected_all = λ xs known w rest r. rejected xs (λ _. ⊥) known
       (λ z ys is left h. canonical_or a.budget xs z ys w rest h r)
 
   pub rejected_every : EveryEncoding {E = E} a b (Err e)
@@ -248,12 +248,12 @@ module _ {E : Type 0} {a b : View} {e : DecodeError E}
       rejected_all xs known w rest ((reads_canonically_iff _ _ _ _).1 (decoded, fits, is))
 
   pub rejected_prefix : PrefixCanonical {E = E} a (Err e)
-  rejected_prefix = λ xs known w decoded fits prefix. stopped xs IsEof known (λ z ys is left h.
+  rejected_prefix = λ xs known w decoded fits prefix. rejected xs IsEof known (λ z ys is left h.
       is_eof a.budget xs prefix.0 z ys w ((reads_canonically_iff (xs ++ prefix.0) a.budget w []).1
       (decoded, fits, sym prefix.2 ∙ sym (append-nil _))) h)
 
   pub rejected_eof : EofReads {V = Canonical} {E = E} a b (Err e)
-  rejected_eof = λ xs known. stopped xs _ known (λ z ys is left h ended.
+  rejected_eof = λ xs known. rejected xs _ known (λ z ys is left h ended.
       let s = of_value a.budget xs z ys h (eof_is_other z ended) in
       let none : b.known ≡ Some [] =
       left ∙ ap Some (leaves_nothing reading xs a.budget z ys ended s) in (
@@ -264,19 +264,19 @@ module _ {E : Type 0} {a b : View} {e : DecodeError E}
 
   pub rejected_depth : DepthCanonical {E = E} a (Err e)
   rejected_depth = λ xs known.
-      stopped xs _ known (λ z ys is left h i more w after. deep a.budget xs z ys h i more w after)
+      rejected xs _ known (λ z ys is left h i more w after. deep a.budget xs z ys h i more w after)
 
   pub rejected_never : NeverCanonical {E = E} a (Err e)
-  rejected_never = λ xs known. stopped xs _ known (λ z ys is left h i more other w after.
+  rejected_never = λ xs known. rejected xs _ known (λ z ys is left h i more other w after.
       never a.budget xs z ys h i more other w after)
 
   pub rejected_others : OthersCanonical {E = E} a (Err e)
-  rejected_others = λ xs known. stopped xs _ known (λ z ys is left h. may_stop a.budget xs z ys h)
+  rejected_others = λ xs known. rejected xs _ known (λ z ys is left h. may_stop a.budget xs z ys h)
 
   pub rejected_value : ValueCanonical {E = E} a b (Err e)
   rejected_value = λ xs known.
-      stopped xs _ known (λ z ys is left h other. (ys, left, of_value a.budget xs z ys h other))
+      rejected xs _ known (λ z ys is left h other. (ys, left, of_value a.budget xs z ys h other))
 
   pub rejected_exact : ExactCanonical {E = E} a b (Err e)
-  rejected_exact = λ xs known z rest rejects. stopped xs _ known (λ f ys is left h. let same =
+  rejected_exact = λ xs known z rest rejects. rejected xs _ known (λ f ys is left h. let same =
       canonically_once a.budget xs f z ys rest h rejects in (same.0, left ∙ ap Some same.1))

@@ -14,7 +14,7 @@ use Rattle.cbor4ii_tree.specs.CanonicalRejects.{FitsCanonically, ShortestAt, AtS
 use Rattle.cbor4ii_tree.specs.CanonicalRejects.{CanonicalArrayRejects, CanonicalMapRejects}
 use Rattle.cbor4ii_tree.specs.CanonicalRejects.{CanonicalOtherRejects, CanonicalRejectsBy}
 use Rattle.cbor4ii_tree.specs.CanonicalRejects.{CanonicalRejectsFrom, CanonicalRejectsWithin}
-use Rattle.cbor4ii_tree.specs.{Cost.{Budget, step_in}, InputError.value_name, Rejections.Stopping}
+use Rattle.cbor4ii_tree.specs.{Cost.{Budget, step_in}, InputError.value_name, Rejections.Rejection}
 use Rattle.cbor4ii_tree.specs.Rejections.{RejectsAtStep, RejectsInCount}
 use Rattle.cbor4ii_tree.proofs.canonical.FitsCanonically.{Beginning, BeginsOne, BeginsItems, Arm}
 use Rattle.cbor4ii_tree.proofs.canonical.FitsCanonically.{BeginsHead, BeginsOther, Anything, arm_of}
@@ -26,7 +26,7 @@ abbrev pub loose : InputError
 loose = not_canonical canonical_name
 
 -- where it comes, nothing of this sort begins the bytes
-abbrev pub Never : Stopping → Beginning → Type 0
+abbrev pub Never : Rejection → Beginning → Type 0
 Never rejects Begins =
     (xs rest more : List ℕ) → rejects xs loose rest → ¬ (Begins (xs ++ more))
 
@@ -81,22 +81,22 @@ string_never name major budget small xs rest more (content_cut cut least) =
     absurd (let is = cut.answer in cc)
 
 -- a head, and what follows it
-at_head_never : (name : List ℕ) (major : ℕ) (budget : Budget) (then : ℕ → Stopping)
+at_head_never : (name : List ℕ) (major : ℕ) (budget : Budget) (then : ℕ → Rejection)
     (Then : ℕ → Beginning) → major < 8 → ((n : ℕ) → Never (then n) (Then n))
     → Never (AtShortest name major budget then) (BeginsHead major Then)
 at_head_never name major budget then Then small f xs rest more (inl h) =
     head_never name major budget Then small xs rest more h
 at_head_never name major budget then Then small f xs rest more (inr h) = λ c.
     let k = following_head major h.argument xs h.after more c.0 c.1 small h.is c.2 in
-    f h.argument h.after rest more h.stopped (subst (λ n. Then n (h.after ++ more)) (sym k.0)
+    f h.argument h.after rest more h.rejected (subst (λ n. Then n (h.after ++ more)) (sym k.0)
     (subst (Then c.0) (sym k.1) c.3))
 
-items_never : (budget : Budget) (rejects : Stopping) (n : ℕ) → Never rejects BeginsOne
+items_never : (budget : Budget) (rejects : Rejection) (n : ℕ) → Never rejects BeginsOne
     → Never (RejectsInCount (FitsCanonically budget) rejects n) (BeginsItems n)
 items_never budget rejects n f xs rest more s c =
     let few = s.few in
     let counted = c.2 in
-    f s.after rest more s.stopped (one_after budget s.prefix c.0 c.1 (s.after ++ more) s.whole c.3
+    f s.after rest more s.rejected (one_after budget s.prefix c.0 c.1 (s.after ++ more) s.whole c.3
     (sym c.4 ∙ ap (λ z. z ++ more) s.is ∙ append_assoc _ s.after more)
     (omega (arith, few, counted)))
 
@@ -117,7 +117,7 @@ stepped_never : (name : List ℕ) (step : Option Budget) (here rest : List ℕ)
 stepped_never name None here rest S Q f h c = let says = h.0 in cc
 stepped_never name (Some inner) here rest S Q f h c = f inner h c
 
-by_never : (rejects : Budget → Stopping) → ((o : Budget) → Never (rejects o) BeginsOne)
+by_never : (rejects : Budget → Rejection) → ((o : Budget) → Never (rejects o) BeginsOne)
     → (budget : Budget) (k b : ℕ) (bs rest more : List ℕ)
     → CanonicalRejectsBy rejects budget k b bs loose rest → ¬ (Arm k (b ∷ (bs ++ more)))
 by_never rejects f budget zero b bs rest more h =
@@ -129,7 +129,7 @@ by_never rejects f budget (suc (suc zero)) b bs rest more h =
 by_never rejects f budget (suc (suc (suc zero))) b bs rest more (inl h) =
     string_never _ 3 _ (omega arith) (b ∷ bs) rest more h
 by_never rejects f budget (suc (suc (suc zero))) b bs rest more (inr h) =
-    absurd (let says = h.stopped.err in cc)
+    absurd (let says = h.rejected.err in cc)
 by_never rejects f budget (suc (suc (suc (suc zero)))) b bs rest more h =
     stepped_never _ _ _ _ (λ inner. CanonicalArrayRejects rejects inner (b ∷ bs)) _ (λ inner.
     at_head_never _ 4 _ (RejectsInCount (FitsCanonically inner) (rejects inner)) BeginsItems
@@ -145,7 +145,7 @@ by_never rejects f budget (suc (suc (suc (suc (suc (suc zero)))))) b bs rest mor
 by_never rejects f budget (suc (suc (suc (suc (suc (suc (suc k))))))) b bs rest more h =
     other_never _ _ _ _ _ refl h
 
-from_never : (rejects : Budget → Stopping) → ((o : Budget) → Never (rejects o) BeginsOne)
+from_never : (rejects : Budget → Rejection) → ((o : Budget) → Never (rejects o) BeginsOne)
     → (budget : Budget) → Never (CanonicalRejectsFrom rejects budget) BeginsOne
 from_never rejects f budget [] rest more h = absurd (let says = h.0 in cc)
 from_never rejects f budget (b ∷ bs) rest more h = λ c.

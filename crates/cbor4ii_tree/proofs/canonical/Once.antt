@@ -17,7 +17,7 @@ use Rattle.cbor4ii_tree.specs.CanonicalRejects.{CanonicalArrayRejects, Canonical
 use Rattle.cbor4ii_tree.specs.CanonicalRejects.{CanonicalOtherRejects, CanonicalRejectsBy}
 use Rattle.cbor4ii_tree.specs.CanonicalRejects.{CanonicalRejectsFrom, CanonicalRejectsWithin}
 use Rattle.cbor4ii_tree.specs.{CanonicalRejects.CanonicalRejects, Cost.{Budget, step_in}}
-use Rattle.cbor4ii_tree.specs.Rejections.{Stopping, RejectsAtStep, Each, RejectsInCount}
+use Rattle.cbor4ii_tree.specs.Rejections.{Rejection, RejectsAtStep, Each, RejectsInCount}
 use Rattle.cbor4ii_tree.specs.Tree.{Tree, Trees, no_trees, tree, bytes, bytes_all}
 use Rattle.cbor4ii_tree.proofs.canonical.FitsCanonically.{one_head, head_here}
 use Rattle.cbor4ii_tree.proofs.canonical.NotCanonical.{loose, longer, not_by_head, within_never}
@@ -28,7 +28,7 @@ use Rattle.cbor4ii_tree.proofs.canonical.AsValue.{within_value, canonically_as_v
 use Rattle.cbor4ii_tree.proofs.values.Calls.{begins_width}
 
 -- where the bytes are rejected as not canonical, they are rejected in no other way
-abbrev One : Stopping → Type 0
+abbrev One : Rejection → Type 0
 One rejects = (xs : List ℕ) (e : InputError) (x y : List ℕ) → rejects xs e x → rejects xs loose y
     → (e ≡ loose) × (x ≡ y)
 
@@ -98,14 +98,14 @@ no_shortest name major n xs ys budget e x small (too_long v m h other says left)
     longer major v m xs [] small h other n ys (subst (λ z. ShortestAt major n z ys) (sym (append-nil
     xs)) k)
 
-after_once : (major : ℕ) (then : ℕ → Stopping) → major < 8 → ((n : ℕ) → One (then n))
+after_once : (major : ℕ) (then : ℕ → Rejection) → major < 8 → ((n : ℕ) → One (then n))
     → One (AfterShortest major then)
 after_once major then small o xs e x y h k =
     let at = one_head _ _ _ _ _ small h.is.0 k.is.0 (sym h.is.1 ∙ k.is.1) in
-    o h.argument h.after e x y h.stopped (subst (λ n. then n h.after loose y) (sym at.0) (subst
-    (λ z. then k.argument z loose y) (sym at.1) k.stopped))
+    o h.argument h.after e x y h.rejected (subst (λ n. then n h.after loose y) (sym at.0) (subst
+    (λ z. then k.argument z loose y) (sym at.1) k.rejected))
 
-at_shortest_once : (name : List ℕ) (major : ℕ) (budget : Budget) (then : ℕ → Stopping) → major < 8
+at_shortest_once : (name : List ℕ) (major : ℕ) (budget : Budget) (then : ℕ → Rejection) → major < 8
     → ((n : ℕ) → One (then n)) → One (AtShortest name major budget then)
 at_shortest_once name major budget then small o xs e x y (inl h) (inl k) =
     shortest_once name major budget small xs e x y h k
@@ -137,16 +137,16 @@ text_once budget xs e x y (inr h) (inl (length_rejected k)) =
     absurd (no_shortest _ 3 _ _ _ _ _ _ (omega arith) k h.is)
 text_once budget xs e x y (inr h) (inl (content_cut c least)) =
     absurd (let says = c.answer in cc)
-text_once budget xs e x y h (inr k) = absurd (let says = k.stopped.err in cc)
+text_once budget xs e x y h (inr k) = absurd (let says = k.rejected.err in cc)
 
 -- ---- items that follow a head
 
 -- no canonical tree that fits stands where one is rejected
-abbrev NoneThere : Budget → Stopping → Type 0
+abbrev NoneThere : Budget → Rejection → Type 0
 NoneThere budget rejects = (xs : List ℕ) (e : InputError) (x : List ℕ) → rejects xs e x
     → (t : Tree) (ys : List ℕ) → FitsCanonically budget t → ¬ (xs ≡ bytes t ++ ys)
 
-items_after : (budget : Budget) (rejects : Stopping) → One rejects → NoneThere budget rejects
+items_after : (budget : Budget) (rejects : Rejection) → One rejects → NoneThere budget rejects
     → (ts us : Trees) (a b : List ℕ) (e : InputError) (x y : List ℕ)
     → Each (FitsCanonically budget) ts → Each (FitsCanonically budget) us
     → bytes_all ts ++ a ≡ bytes_all us ++ b → rejects a e x → rejects b loose y
@@ -163,11 +163,12 @@ items_after budget rejects o none (tree t ts) (tree u us) a b e x y h k is s r =
     (bytes_all us ++ b) h.0.0.0.0 k.0.0.0.0 (sym (append_assoc (bytes t) (bytes_all ts) a) ∙ is
     ∙ append_assoc (bytes u) (bytes_all us) b)).1 s r
 
-items_once : (budget : Budget) (rejects : Stopping) (n : ℕ) → One rejects → NoneThere budget rejects
+items_once : (budget : Budget) (rejects : Rejection) (n : ℕ) → One rejects
+    → NoneThere budget rejects
     → One (RejectsInCount (FitsCanonically budget) rejects n)
 items_once budget rejects n o none xs e x y h k =
     items_after budget rejects o none h.prefix k.prefix h.after k.after e x y h.whole k.whole
-    (sym h.is ∙ k.is) h.stopped k.stopped
+    (sym h.is ∙ k.is) h.rejected k.rejected
 
 -- ---- by the first byte
 
@@ -185,7 +186,7 @@ other_once b (starts_bits p) bs e x y h k = absurd (let says = k.1.0 in cc)
 other_once b other_simple bs e x y h k = absurd (let says = k.0 in cc)
 other_once b _ bs e x y h k = absurd h
 
-by_once : (rejects : Budget → Stopping) (budget : Budget) (major b : ℕ)
+by_once : (rejects : Budget → Rejection) (budget : Budget) (major b : ℕ)
     → ((o : Budget) → One (rejects o)) → ((o : Budget) → NoneThere o (rejects o))
     → One (CanonicalRejectsBy rejects budget major b)
 by_once rejects budget zero b o none bs e x y h k =
@@ -209,7 +210,7 @@ by_once rejects budget (suc (suc (suc (suc (suc (suc zero)))))) b o none bs e x 
 by_once rejects budget (suc (suc (suc (suc (suc (suc (suc major))))))) b o none bs e x y h k =
     other_once _ _ bs e x y h k
 
-from_once : (rejects : Budget → Stopping) (budget : Budget) → ((o : Budget) → One (rejects o))
+from_once : (rejects : Budget → Rejection) (budget : Budget) → ((o : Budget) → One (rejects o))
     → ((o : Budget) → NoneThere o (rejects o)) → One (CanonicalRejectsFrom rejects budget)
 from_once rejects budget o none [] e x y h k = absurd (let says = k.0 in cc)
 from_once rejects budget o none (b ∷ bs) e x y h k =

@@ -33,32 +33,32 @@ use Rattle.cbor4ii_tree.proofs.encodings.Sizes.{member_count-values}
 
 -- ---- what encoders write has the shape
 
-strict_integer : (s : Sign) (n : ℕ) → CanonicalShape (integer_tree s n)
-strict_integer s n = if_cases CanonicalShape (ltb n (2 ^ 64)) _ _ (λ e. refl) (λ e. (refl, refl))
+shape_integer : (s : Sign) (n : ℕ) → CanonicalShape (integer_tree s n)
+shape_integer s n = if_cases CanonicalShape (ltb n (2 ^ 64)) _ _ (λ e. refl) (λ e. (refl, refl))
 
 mutual
-  pub strict_canonical : (v : Item) → CanonicalShape (canonical_tree v)
-  strict_canonical null = λ e. cc
-  strict_canonical (boolean false) = λ e. cc
-  strict_canonical (boolean true) = λ e. cc
-  strict_canonical (integer (pos n)) = strict_integer unsigned n
-  strict_canonical (integer (negsuc n)) = strict_integer negative n
-  strict_canonical (float p n) = tt
-  strict_canonical (bytes_item bs) = refl
-  strict_canonical (text bs) = refl
-  strict_canonical (sequence vs) =
-      (ap shortest (sym (count-canonical_encoding vs)), strict_canonical_all vs)
-  strict_canonical (mapping ms) = (ap shortest (sym (count-pairs ms)), strict_canonical_pairs ms)
-  strict_canonical (tag n v) = (refl, strict_canonical v)
+  pub shape_canonical : (v : Item) → CanonicalShape (canonical_tree v)
+  shape_canonical null = λ e. cc
+  shape_canonical (boolean false) = λ e. cc
+  shape_canonical (boolean true) = λ e. cc
+  shape_canonical (integer (pos n)) = shape_integer unsigned n
+  shape_canonical (integer (negsuc n)) = shape_integer negative n
+  shape_canonical (float p n) = tt
+  shape_canonical (bytes_item bs) = refl
+  shape_canonical (text bs) = refl
+  shape_canonical (sequence vs) =
+      (ap shortest (sym (count-canonical_encoding vs)), shape_canonical_all vs)
+  shape_canonical (mapping ms) = (ap shortest (sym (count-pairs ms)), shape_canonical_pairs ms)
+  shape_canonical (tag n v) = (refl, shape_canonical v)
 
-  strict_canonical_all : (vs : Items) → CanonicalShapeAll (canonical_trees vs)
-  strict_canonical_all no_items = tt
-  strict_canonical_all (item v vs) = (strict_canonical v, strict_canonical_all vs)
+  shape_canonical_all : (vs : Items) → CanonicalShapeAll (canonical_trees vs)
+  shape_canonical_all no_items = tt
+  shape_canonical_all (item v vs) = (shape_canonical v, shape_canonical_all vs)
 
-  strict_canonical_pairs : (ms : Members) → CanonicalShapePairs (canonical_pairs ms)
-  strict_canonical_pairs no_members = tt
-  strict_canonical_pairs (member k v ms) =
-      (strict_canonical k, strict_canonical v, strict_canonical_pairs ms)
+  shape_canonical_pairs : (ms : Members) → CanonicalShapePairs (canonical_pairs ms)
+  shape_canonical_pairs no_members = tt
+  shape_canonical_pairs (member k v ms) =
+      (shape_canonical k, shape_canonical v, shape_canonical_pairs ms)
 
 -- ---- a tree of this shape is what encoders write
 
@@ -73,40 +73,40 @@ canonical_encoding-content byte_string content = refl
 canonical_encoding-content text_string content = refl
 
 mutual
-  pub canonical_of_strict : (t : Tree) → Loose t → CanonicalShape t → canonical_tree (value t) ≡ t
-  canonical_of_strict (int s n w) l h =
+  pub canonical_of_shape : (t : Tree) → Loose t → CanonicalShape t → canonical_tree (value t) ≡ t
+  canonical_of_shape (int s n w) l h =
       canonical_encoding-integer s n (argument_below w n l) ∙ ap (int s n) (sym h)
-  canonical_of_strict (string k w content) l h =
+  canonical_of_shape (string k w content) l h =
       canonical_encoding-content k content ∙ ap (λ u. string k u content) (sym h)
-  canonical_of_strict (chunked k ts) l h = absurd h
-  canonical_of_strict (array w ts) l h =
-      ap₂ array (ap shortest (item_count-values ts) ∙ sym h.0) (canonical_of_strict_all ts l.1 h.1)
-  canonical_of_strict (array_indefinite ts) l h = absurd h
-  canonical_of_strict (map_of w ps) l h =
+  canonical_of_shape (chunked k ts) l h = absurd h
+  canonical_of_shape (array w ts) l h =
+      ap₂ array (ap shortest (item_count-values ts) ∙ sym h.0) (canonical_of_shape_all ts l.1 h.1)
+  canonical_of_shape (array_indefinite ts) l h = absurd h
+  canonical_of_shape (map_of w ps) l h =
       ap₂ map_of (ap shortest (member_count-values ps) ∙ sym h.0)
-      (canonical_of_strict_pairs ps l.1 h.1)
-  canonical_of_strict (map_indefinite ps) l h = absurd h
-  canonical_of_strict (tagged n w t) l h = ap₂ (tagged n) (sym h.0) (canonical_of_strict t l.1 h.1)
-  canonical_of_strict (simple simple_false) l h = refl
-  canonical_of_strict (simple simple_true) l h = refl
-  canonical_of_strict (simple simple_null) l h = refl
-  canonical_of_strict (simple simple_undefined) l h = absurd (h refl)
-  canonical_of_strict (bits p n) l h = refl
+      (canonical_of_shape_pairs ps l.1 h.1)
+  canonical_of_shape (map_indefinite ps) l h = absurd h
+  canonical_of_shape (tagged n w t) l h = ap₂ (tagged n) (sym h.0) (canonical_of_shape t l.1 h.1)
+  canonical_of_shape (simple simple_false) l h = refl
+  canonical_of_shape (simple simple_true) l h = refl
+  canonical_of_shape (simple simple_null) l h = refl
+  canonical_of_shape (simple simple_undefined) l h = absurd (h refl)
+  canonical_of_shape (bits p n) l h = refl
 
-  canonical_of_strict_all : (ts : Trees) → LooseAll ts → CanonicalShapeAll ts → canonical_trees
+  canonical_of_shape_all : (ts : Trees) → LooseAll ts → CanonicalShapeAll ts → canonical_trees
       (values ts) ≡ ts
-  canonical_of_strict_all no_trees l h = refl
-  canonical_of_strict_all (tree t ts) l h =
-      ap₂ tree (canonical_of_strict t l.0 h.0) (canonical_of_strict_all ts l.1 h.1)
+  canonical_of_shape_all no_trees l h = refl
+  canonical_of_shape_all (tree t ts) l h =
+      ap₂ tree (canonical_of_shape t l.0 h.0) (canonical_of_shape_all ts l.1 h.1)
 
-  canonical_of_strict_pairs : (ps : Pairs) → LoosePairs ps → CanonicalShapePairs ps
+  canonical_of_shape_pairs : (ps : Pairs) → LoosePairs ps → CanonicalShapePairs ps
       → canonical_pairs (member_values ps) ≡ ps
-  canonical_of_strict_pairs no_pairs l h = refl
-  canonical_of_strict_pairs (pair k v ps) l h =
+  canonical_of_shape_pairs no_pairs l h = refl
+  canonical_of_shape_pairs (pair k v ps) l h =
       cc (
-        canonical_of_strict k l.0 h.0,
-        canonical_of_strict v l.1 h.1,
-        canonical_of_strict_pairs ps
+        canonical_of_shape k l.0 h.0,
+        canonical_of_shape v l.1 h.1,
+        canonical_of_shape_pairs ps
             l.2 h.2,
       )
 
@@ -162,127 +162,127 @@ not_indefinite major n x ys y {m = m} p e =
     omega (arith, first, additional-shortest n)
 
 mutual
-  pub strict_of_canonical : (t : Tree) (x y : List ℕ) → Loose t
+  pub shape_of_canonical : (t : Tree) (x y : List ℕ) → Loose t
       → bytes t ++ x ≡ canonical_encoding (value t) ++ y → CanonicalShape t × (x ≡ y)
-  strict_of_canonical (int s n w) x y l e =
+  shape_of_canonical (int s n w) x y l e =
       same_head (sign_major s) n w x y l
       (e ∙ ap (λ u. bytes u ++ y) (canonical_encoding-integer s n (argument_below w n l)))
-  strict_of_canonical (string k w content) x y l e =
+  shape_of_canonical (string k w content) x y l e =
       let heads = same_headed (kind_major k) (length content) w content content x y l refl refl
       (e ∙ ap (λ u. bytes u ++ y) (canonical_encoding-content k content)) in
       (heads.0, append_cancel_left content x y heads.1)
-  strict_of_canonical (chunked k ts) x y l e =
+  shape_of_canonical (chunked k ts) x y l e =
       let content = joined_chunks ts in
       absurd (not_indefinite (kind_major k) (length content) ((bytes_all ts ++ break ∷ []) ++ x)
       content y refl (e ∙ ap (λ u. bytes u ++ y) (canonical_encoding-content k content)))
-  strict_of_canonical (array w ts) x y l e =
+  shape_of_canonical (array w ts) x y l e =
       let vs = values ts in
       let c = item_count-values ts in
       let heads = same_headed 4 (count ts) w (bytes_all ts) (bytes_all (canonical_trees vs)) x y l.0
       (count-canonical_encoding vs ∙ c) c e in
-      let rest = strict_of_canonical_all ts x y l.1 heads.1 in
+      let rest = shape_of_canonical_all ts x y l.1 heads.1 in
       ((heads.0, rest.0), rest.1)
-  strict_of_canonical (array_indefinite ts) x y l e =
+  shape_of_canonical (array_indefinite ts) x y l e =
       let vs = values ts in
       absurd (not_indefinite 4 (item_count vs) ((bytes_all ts ++ break ∷ []) ++ x)
       (bytes_all (canonical_trees vs)) y (count-canonical_encoding vs) e)
-  strict_of_canonical (map_of w ps) x y l e =
+  shape_of_canonical (map_of w ps) x y l e =
       let ms = member_values ps in
       let c = member_count-values ps in
       let heads = same_headed 5 (pair_count ps) w (bytes_pairs ps)
       (bytes_pairs (canonical_pairs ms)) x y l.0 (count-pairs ms ∙ c) c e in
-      let rest = strict_of_canonical_pairs ps x y l.1 heads.1 in
+      let rest = shape_of_canonical_pairs ps x y l.1 heads.1 in
       ((heads.0, rest.0), rest.1)
-  strict_of_canonical (map_indefinite ps) x y l e =
+  shape_of_canonical (map_indefinite ps) x y l e =
       let ms = member_values ps in
       absurd (not_indefinite 5 (member_count ms) ((bytes_pairs ps ++ break ∷ []) ++ x)
       (bytes_pairs (canonical_pairs ms)) y (count-pairs ms) e)
-  strict_of_canonical (tagged n w t) x y l e =
+  shape_of_canonical (tagged n w t) x y l e =
       let heads = same_headed 6 n w (bytes t) (canonical_encoding (value t)) x y l.0 refl refl e in
-      let rest = strict_of_canonical t x y l.1 heads.1 in
+      let rest = shape_of_canonical t x y l.1 heads.1 in
       ((heads.0, rest.0), rest.1)
-  strict_of_canonical (simple simple_false) x y l e = (λ u. cc, (same_first _ _ _ _ e).1)
-  strict_of_canonical (simple simple_true) x y l e = (λ u. cc, (same_first _ _ _ _ e).1)
-  strict_of_canonical (simple simple_null) x y l e = (λ u. cc, (same_first _ _ _ _ e).1)
-  strict_of_canonical (simple simple_undefined) x y l e =
+  shape_of_canonical (simple simple_false) x y l e = (λ u. cc, (same_first _ _ _ _ e).1)
+  shape_of_canonical (simple simple_true) x y l e = (λ u. cc, (same_first _ _ _ _ e).1)
+  shape_of_canonical (simple simple_null) x y l e = (λ u. cc, (same_first _ _ _ _ e).1)
+  shape_of_canonical (simple simple_undefined) x y l e =
       absurd (omega (
         arith,
         (same_first (simple_byte simple_undefined) (simple_byte simple_null) x y e).0,
       ))
-  strict_of_canonical (bits p n) x y l e = (tt, append_cancel_left (bytes (bits p n)) x y e)
+  shape_of_canonical (bits p n) x y l e = (tt, append_cancel_left (bytes (bits p n)) x y e)
 
-  strict_of_canonical_all : (ts : Trees) (x y : List ℕ) → LooseAll ts
+  shape_of_canonical_all : (ts : Trees) (x y : List ℕ) → LooseAll ts
       → bytes_all ts ++ x ≡ bytes_all (canonical_trees (values ts)) ++ y → CanonicalShapeAll ts ×
       (x ≡ y)
-  strict_of_canonical_all no_trees x y l e = (tt, e)
-  strict_of_canonical_all (tree t ts) x y l e =
+  shape_of_canonical_all no_trees x y l e = (tt, e)
+  shape_of_canonical_all (tree t ts) x y l e =
       let trailing = bytes_all (canonical_trees (values ts)) in
-      let first = strict_of_canonical t (bytes_all ts ++ x) (trailing ++ y) l.0 (sym (append_assoc
+      let first = shape_of_canonical t (bytes_all ts ++ x) (trailing ++ y) l.0 (sym (append_assoc
       (bytes t) (bytes_all ts) x) ∙ e ∙ append_assoc (canonical_encoding (value t)) trailing y) in
-      let rest = strict_of_canonical_all ts x y l.1 first.1 in
+      let rest = shape_of_canonical_all ts x y l.1 first.1 in
       ((first.0, rest.0), rest.1)
 
-  strict_of_canonical_pairs : (ps : Pairs) (x y : List ℕ) → LoosePairs ps
+  shape_of_canonical_pairs : (ps : Pairs) (x y : List ℕ) → LoosePairs ps
       → bytes_pairs ps ++ x ≡ bytes_pairs (canonical_pairs (member_values ps)) ++ y
       → CanonicalShapePairs ps × (x ≡ y)
-  strict_of_canonical_pairs no_pairs x y l e = (tt, e)
-  strict_of_canonical_pairs (pair k v ps) x y l e =
+  shape_of_canonical_pairs no_pairs x y l e = (tt, e)
+  shape_of_canonical_pairs (pair k v ps) x y l e =
       let trailing = bytes_pairs (canonical_pairs (member_values ps)) in
-      let key = strict_of_canonical k (bytes v ++ (bytes_pairs ps ++ x)) (canonical_encoding (value
+      let key = shape_of_canonical k (bytes v ++ (bytes_pairs ps ++ x)) (canonical_encoding (value
       v) ++ (trailing ++ y)) l.0 (sym (pair_split (bytes k) (bytes v) (bytes_pairs ps) x) ∙ e ∙
       pair_split (canonical_encoding (value k)) (canonical_encoding (value v)) trailing y) in
-      let val = strict_of_canonical v (bytes_pairs ps ++ x) (trailing ++ y) l.1 key.1 in
-      let rest = strict_of_canonical_pairs ps x y l.2 val.1 in
+      let val = shape_of_canonical v (bytes_pairs ps ++ x) (trailing ++ y) l.1 key.1 in
+      let rest = shape_of_canonical_pairs ps x y l.2 val.1 in
       ((key.0, val.0, rest.0), rest.1)
 
 -- a plain tree has the shape exactly where its bytes are the canonical encoding of its value
-pub strict_iff_canonical : (t : Tree) → Plain t →
+pub shape_iff_canonical : (t : Tree) → Plain t →
     (CanonicalShape t ↔ (bytes t ≡ canonical_encoding (value t)))
-strict_iff_canonical t p = (
-  λ h. ap bytes (sym (canonical_of_strict t p.0 h)),
-  λ e. (strict_of_canonical t [] [] p.0 (ap (λ r. r ++ []) e)).0,
+shape_iff_canonical t p = (
+  λ h. ap bytes (sym (canonical_of_shape t p.0 h)),
+  λ e. (shape_of_canonical t [] [] p.0 (ap (λ r. r ++ []) e)).0,
 )
 
 -- ---- what is read canonically
 
 mutual
-  pub item_of_strict : (t : Tree) → Loose t → SoundStrings t → CanonicalShape t → IsItem (value t)
-  item_of_strict (int s n w) l u h = integer-value s n (argument_below w n l)
-  item_of_strict (string k w content) l u h =
+  pub item_of_shape : (t : Tree) → Loose t → SoundStrings t → CanonicalShape t → IsItem (value t)
+  item_of_shape (int s n w) l u h = integer-value s n (argument_below w n l)
+  item_of_shape (string k w content) l u h =
       content-value k content u (argument_below w (length content) l)
-  item_of_strict (chunked k ts) l u h = absurd h
-  item_of_strict (array w ts) l u h = (
+  item_of_shape (chunked k ts) l u h = absurd h
+  item_of_shape (array w ts) l u h = (
     subst (λ n. n < 2 ^ 64) (sym (item_count-values ts)) (argument_below w (count ts) l.0),
-    items_of_strict ts l.1 u h.1,
+    items_of_shape ts l.1 u h.1,
   )
-  item_of_strict (array_indefinite ts) l u h = absurd h
-  item_of_strict (map_of w ps) l u h = (
+  item_of_shape (array_indefinite ts) l u h = absurd h
+  item_of_shape (map_of w ps) l u h = (
     subst (λ n. n < 2 ^ 64) (sym (member_count-values ps))
         (argument_below w (pair_count ps) l.0),
-    members_of_strict ps l.1 u h.1,
+    members_of_shape ps l.1 u h.1,
   )
-  item_of_strict (map_indefinite ps) l u h = absurd h
-  item_of_strict (tagged n w t) l u h = (argument_below w n l.0, item_of_strict t l.1 u h.1)
-  item_of_strict (simple simple_false) l u h = tt
-  item_of_strict (simple _) l u h = tt
-  item_of_strict (bits p n) l u h = l
+  item_of_shape (map_indefinite ps) l u h = absurd h
+  item_of_shape (tagged n w t) l u h = (argument_below w n l.0, item_of_shape t l.1 u h.1)
+  item_of_shape (simple simple_false) l u h = tt
+  item_of_shape (simple _) l u h = tt
+  item_of_shape (bits p n) l u h = l
 
-  items_of_strict : (ts : Trees) → LooseAll ts → SoundStringsAll ts → CanonicalShapeAll ts
+  items_of_shape : (ts : Trees) → LooseAll ts → SoundStringsAll ts → CanonicalShapeAll ts
       → AreItems (values ts)
-  items_of_strict no_trees l u h = tt
-  items_of_strict (tree t ts) l u h = (item_of_strict t l.0 u.0 h.0, items_of_strict ts l.1 u.1 h.1)
+  items_of_shape no_trees l u h = tt
+  items_of_shape (tree t ts) l u h = (item_of_shape t l.0 u.0 h.0, items_of_shape ts l.1 u.1 h.1)
 
-  members_of_strict : (ps : Pairs) → LoosePairs ps → SoundStringsPairs ps → CanonicalShapePairs ps
+  members_of_shape : (ps : Pairs) → LoosePairs ps → SoundStringsPairs ps → CanonicalShapePairs ps
       → AreMembers (member_values ps)
-  members_of_strict no_pairs l u h = tt
-  members_of_strict (pair k v ps) l u h =
-      (item_of_strict k l.0 u.0 h.0, item_of_strict v l.1 u.1 h.1, members_of_strict ps l.2 u.2 h.2)
+  members_of_shape no_pairs l u h = tt
+  members_of_shape (pair k v ps) l u h =
+      (item_of_shape k l.0 u.0 h.0, item_of_shape v l.1 u.1 h.1, members_of_shape ps l.2 u.2 h.2)
 
 -- the tree of a value is the one that encoders write
 pub canonically_canonical : (encoding : List ℕ) (v : Item) (steps : ℕ)
     → (s : EncodesCanonically encoding v steps) → canonical_tree v ≡ s.of_tree
 canonically_canonical encoding v steps s =
-    ap canonical_tree (sym s.value_is) ∙ canonical_of_strict s.of_tree s.canonical.0.0 s.canonical.1
+    ap canonical_tree (sym s.value_is) ∙ canonical_of_shape s.of_tree s.canonical.0.0 s.canonical.1
 
 -- what is encoded so is the canonical encoding of a value that reading gives, at its cost
 pub canonically_encoded : (encoding : List ℕ) (v : Item) (steps : ℕ) → EncodesCanonically encoding
@@ -292,7 +292,7 @@ canonically_encoded encoding v steps s =
     let same = canonically_canonical encoding v steps s in
     let p = s.canonical.0 in (
       (
-        subst IsItem s.value_is (item_of_strict s.of_tree p.0 p.1 s.canonical.1),
+        subst IsItem s.value_is (item_of_shape s.of_tree p.0 p.1 s.canonical.1),
         subst (λ w. with_bignums w ≡ w) s.value_is (with_bignums-value s.of_tree p.0),
       ),
       sym s.bytes_are ∙ ap bytes (sym same),
@@ -304,7 +304,7 @@ pub written_canonically : (v : Item) → IsItem v → EncodesCanonically (canoni
     (with_bignums v) (canonical_cost v)
 written_canonically v h = record {
   of_tree = canonical_tree v;
-  canonical = ((loose_canonical v h, sound_canonical v h), strict_canonical v);
+  canonical = ((loose_canonical v h, sound_canonical v h), shape_canonical v);
   bytes_are = refl;
   value_is = value-canonical_encoding v;
   cost_is = refl;

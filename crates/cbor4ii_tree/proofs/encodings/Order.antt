@@ -27,7 +27,7 @@ use Rattle.cbor4ii_tree.proofs.encodings.CanonicalShape.{additional-shortest}
 
 -- ---- one comparison, and then another
 
-then-Equal : (r : Ordering) → ordering_then r Equal ≡ r
+pub then-Equal : (r : Ordering) → ordering_then r Equal ≡ r
 then-Equal Less = refl
 then-Equal Equal = refl
 then-Equal Greater = refl
@@ -91,7 +91,7 @@ nat_cmp-Equal b c e = subst (λ o. MatchOrdering o (b < c) (b ≡ c) (c < b)) e 
 nat_cmp-same : (n m : ℕ) → n ≡ m → nat_cmp n m ≡ Equal
 nat_cmp-same n m e = sym (nat_cmp_is n m Equal e)
 
-compares_cons : (b c : ℕ) {r : Ordering} {s t : List ℕ} → (b ≡ c → Compares r s t)
+pub compares_cons : (b c : ℕ) {r : Ordering} {s t : List ℕ} → (b ≡ c → Compares r s t)
     → Compares (ordering_then (nat_cmp b c) r) (b ∷ s) (c ∷ t)
 compares_cons b c {r} {s} {t} h = record {
   before = λ x y.

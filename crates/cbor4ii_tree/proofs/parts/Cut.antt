@@ -4,7 +4,7 @@ use Rattle.std.proofs.Common.{sym, ap, ap₂, ◌∙◌, arith, subst, length-ap
 use Rattle.cbor4ii_items.specs.{Head.{Width, HeadFits, head, byte_count, IsBytes}, Initial.Sign}
 use Rattle.cbor4ii_items.specs.Initial.{sign_major, Kind, kind_major, Precision, precision_bytes}
 use Rattle.cbor4ii_items.specs.Initial.{starts_bits, starts_indefinite_array, starts_indefinite_map}
-use Rattle.cbor4ii_tree.specs.{InputError.{InputError, IsEof, tag_name}, Rejections.Stopping}
+use Rattle.cbor4ii_tree.specs.{InputError.{InputError, IsEof, tag_name}, Rejections.Rejection}
 use Rattle.cbor4ii_tree.specs.Rejections.{AtHead, AfterHead, Each, EachPair, RejectsInCount}
 use Rattle.cbor4ii_tree.specs.{Rejections.{Missing, IndefiniteItems, IndefinitePairs}, Tree.Tree}
 use Rattle.cbor4ii_tree.specs.Tree.{int, string, array, array_indefinite, map_of, map_indefinite}
@@ -47,11 +47,11 @@ cut_string Good name k w b bs e rest good m h (inr st) =
       arith,
       length-append st.after fill,
       length-zeros (st.argument - length st.after),
-      st.stopped.0,
+      st.rejected.0,
     ) in
     prefix_of Good (b ∷ bs) (string k w content) fill
     (good content (subst (HeadFits w) (sym len) st.fits))
-    (zeros_some (st.argument - length st.after) (omega (arith, st.stopped.0)))
+    (zeros_some (st.argument - length st.after) (omega (arith, st.rejected.0)))
     (ap (λ j. head (kind_major k) j w ++ content) len
     ∙ with_head (head (kind_major k) st.argument w) b bs st.after content fill st.is refl)
 
@@ -83,7 +83,7 @@ module _ (Good : Tree → Type 0) (shapes : Shapes Good) (b : ℕ) (bs : List �
       prefix_of Good (b ∷ bs) (bits p f.0) (zeros (precision_bytes p - length bs))
       (shapes.float p f.0 f.1) f.3 (ap₂ ◌∷◌ (sym m) f.2)
 
-  module _ (rejects : Stopping) (g : Prefixes Good rejects) (eo : IsEof e) where
+  module _ (rejects : Rejection) (g : Prefixes Good rejects) (eo : IsEof e) where
     pub cut_tag : (w : Width) → HeadByte 6 w b → AtHead tag_name 6 w b (λ n. rejects) bs e rest
         → Prefix Good (b ∷ bs)
     cut_tag w m (inl st) =
@@ -92,7 +92,7 @@ module _ (Good : Tree → Type 0) (shapes : Shapes Good) (b : ℕ) (bs : List �
         h.1 m st.0
     cut_tag w m (inr st) =
         let f = g st.after e rest
-        (IsBytes-after (head 6 st.argument w) st.after (subst IsBytes st.is h)) eo st.stopped in
+        (IsBytes-after (head 6 st.argument w) st.after (subst IsBytes st.is h)) eo st.rejected in
         prefix_of Good (b ∷ bs) (tagged st.argument w f.whole) f.more
         (shapes.under_tag st.argument w f.whole st.fits f.good) f.some
         (with_head (head 6 st.argument w) b bs st.after (bytes f.whole) f.more st.is f.is)
@@ -104,11 +104,11 @@ module _ (Good : Tree → Type 0) (shapes : Shapes Good) (b : ℕ) (bs : List �
           → (ts : Trees) × (count ts ≡ count_of st.argument) × Each Good ts × (more : List ℕ)
           × IsMore more × (bytes_all ts ≡ st.after ++ more)
       counted major w count_of st =
-          let c = st.stopped in
+          let c = st.rejected in
           let after : IsBytes st.after =
           IsBytes-after (head major st.argument w) st.after (subst IsBytes st.is h) in
           let f = g c.after e rest (IsBytes-after (bytes_all c.prefix) c.after
-          (subst IsBytes c.is after)) eo c.stopped in
+          (subst IsBytes c.is after)) eo c.rejected in
           let all = filled_items Good shapes.nothing (count_of st.argument) c.prefix c.after c.few
           (each_covers W Good covers c.prefix c.whole) f in
           (all.0, all.1, all.2, all.3, all.4, all.5 ∙ ap (λ r. r ++ all.3) (sym c.is))
@@ -132,7 +132,7 @@ module _ (Good : Tree → Type 0) (shapes : Shapes Good) (b : ℕ) (bs : List �
           → Prefix Good (b ∷ bs)
       cut_open_array m st =
           let f = indefinite_prefix Good rejects g bs st.prefix st.after e rest h.1 eo
-          (each_covers W Good covers st.prefix st.whole) st.is st.stopped in
+          (each_covers W Good covers st.prefix st.whole) st.is st.rejected in
           prefix_of Good (b ∷ bs) (array_indefinite f.0) f.2 (shapes.open_items f.0 f.1) f.3
           (ap₂ ◌∷◌ (sym m) f.4)
 
@@ -159,6 +159,6 @@ module _ (Good : Tree → Type 0) (shapes : Shapes Good) (b : ℕ) (bs : List �
       cut_open_map m st =
           let f = indefinite_pairs_prefix Good W rejects shapes.nothing covers g bs st.prefix
           st.after e rest h.1 eo (each_pair_covers W Good covers st.prefix st.whole) st.is
-          st.stopped in
+          st.rejected in
           prefix_of Good (b ∷ bs) (map_indefinite f.0) f.2 (shapes.open_pairs f.0 f.1) f.3
           (ap₂ ◌∷◌ (sym m) f.4)

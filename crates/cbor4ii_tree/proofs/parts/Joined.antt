@@ -44,8 +44,3 @@ unfolding join_pairs
 bytes_pairs-join no_pairs qs = refl
 bytes_pairs-join (pair j u ps) qs =
     ap (λ r. bytes j ++ (bytes u ++ r)) (bytes_pairs-join ps qs) ∙ simp append_assoc
-
-pub bytes-join_pairs : (ps qs : Pairs) (x : List ℕ)
-    → bytes_pairs (join_pairs ps qs) ++ x ≡ bytes_pairs ps ++ (bytes_pairs qs ++ x)
-bytes-join_pairs ps qs x =
-    rw (bytes_pairs-join ps qs) (append_assoc (bytes_pairs ps) (bytes_pairs qs) x)

@@ -8,7 +8,7 @@ use Rattle.std.specs.Int.{bytes_high_first}
 use Rattle.cbor4ii_items.specs.Head.{Width, in_first, one, two, four, eight, HeadFits, additional}
 use Rattle.cbor4ii_items.specs.{Head.{byte_count, head, break, IsBytes}, Initial.unsigned}
 use Rattle.cbor4ii_items.specs.Magnitude.{number_of}
-use Rattle.cbor4ii_tree.specs.{Cost.Budget, InputError.{InputError, IsEof}, Rejections.Stopping}
+use Rattle.cbor4ii_tree.specs.{Cost.Budget, InputError.{InputError, IsEof}, Rejections.Rejection}
 use Rattle.cbor4ii_tree.specs.Rejections.{RejectsAtStep, Each, EachPair, NoBreak, AfterKey}
 use Rattle.cbor4ii_tree.specs.Tree.{Tree, int, Trees, no_trees, tree, Pairs, no_pairs, pair, count}
 use Rattle.cbor4ii_tree.specs.Tree.{pair_count, bytes, bytes_all, bytes_pairs}
@@ -188,7 +188,7 @@ paired Good (suc n) (tree k (tree v ts)) e l =
 -- ---- indefinite-length sequences
 
 -- what fails at the end of the input goes on
-abbrev pub Prefixes : (Tree → Type 0) → Stopping → Type 0
+abbrev pub Prefixes : (Tree → Type 0) → Rejection → Type 0
 Prefixes Good rejects =
     (bs : List ℕ) (e : InputError) (rest : List ℕ) → IsBytes bs → IsEof e → rejects bs e rest
     → Prefix Good bs
@@ -196,7 +196,7 @@ Prefixes Good rejects =
 pub eof_only : (e f : InputError) → IsEof e → e ≡ f → IsEof f
 eof_only e f h is = subst IsEof is h
 
-pub indefinite_prefix : (Good : Tree → Type 0) (rejects : Stopping) → Prefixes Good rejects
+pub indefinite_prefix : (Good : Tree → Type 0) (rejects : Rejection) → Prefixes Good rejects
     → (bs : List ℕ) (prefix : Trees) (after : List ℕ) (e : InputError) (rest : List ℕ) → IsBytes bs
     → IsEof e → Each Good prefix → bs ≡ bytes_all prefix ++ after → NoBreak rejects after e rest
     → (ts : Trees) × Each Good ts × (more : List ℕ) × IsMore more
@@ -249,7 +249,7 @@ indefinite_pair Good bs prefix after k v more l lk lv is some e =
     regroup2 : (a b c : List ℕ) → a ++ ((b ++ c) ++ break ∷ []) ≡ (a ++ b) ++ (c ++ break ∷ [])
     regroup2 a b c = simp append_assoc
 
-pub indefinite_pairs_prefix : (Good Whole : Tree → Type 0) (rejects : Stopping) → Good nought
+pub indefinite_pairs_prefix : (Good Whole : Tree → Type 0) (rejects : Rejection) → Good nought
     → ((t : Tree) → Whole t → Good t) → Prefixes Good rejects → (bs : List ℕ) (prefix : Pairs)
     (after : List ℕ) (e : InputError) (rest : List ℕ) → IsBytes bs → IsEof e → EachPair Good prefix
     → bs ≡ bytes_pairs prefix ++ after → NoBreak rejects after e rest
@@ -271,7 +271,7 @@ indefinite_pairs_prefix Good Whole rejects zero_good w g bs prefix (b ∷ after)
     (ap (λ r. r ++ bytes nought) t.is ∙ append_assoc (b ∷ after) t.more (bytes nought))
 indefinite_pairs_prefix Good Whole rejects zero_good w g bs prefix after e rest h eo l is (inr st) =
     let t = g st.after e rest (IsBytes-after (bytes st.key) st.after (subst IsBytes st.is
-    (IsBytes-after (bytes_pairs prefix) after (subst IsBytes is h)))) eo st.stopped in
+    (IsBytes-after (bytes_pairs prefix) after (subst IsBytes is h)))) eo st.rejected in
     indefinite_pair Good bs prefix after st.key t.whole t.more l (w st.key st.whole) t.good is
     t.some (ap (λ r. bytes st.key ++ r) t.is ∙ sym (append_assoc (bytes st.key) st.after t.more)
     ∙ ap (λ r. r ++ t.more) (sym st.is))

@@ -1,6 +1,6 @@
 -- One more item after others, and one more pair.
 use Rattle.std.proofs.Common.{◌≡◌, ℕ, ◌+◌, ◌*◌, List, [], ◌++◌, refl, sym, ap, ◌∙◌, arith}
-use Rattle.std.proofs.Common.{append_assoc, append-nil}
+use Rattle.std.proofs.Common.{append_assoc}
 use Rattle.cbor4ii_tree.specs.{Rejections.{Each, EachPair}, Tree.{Tree, Trees, no_trees, tree}}
 use Rattle.cbor4ii_tree.specs.Tree.{Pairs, no_pairs, pair, count, pair_count, bytes, bytes_all}
 use Rattle.cbor4ii_tree.specs.Tree.{bytes_pairs}
@@ -26,23 +26,6 @@ bytes-push no_trees t x = append_assoc (bytes t) [] x
 bytes-push (tree u us) t x =
     append_assoc (bytes u) (bytes_all (push us t)) x ∙ ap (λ r. bytes u ++ r) (bytes-push us t x)
     ∙ sym (append_assoc (bytes u) (bytes_all us) (bytes t ++ x))
-
-unfoldable pub push_pair : Pairs → Tree → Tree → Pairs
-push_pair no_pairs k v = pair k v no_pairs
-push_pair (pair j u ps) k v = pair j u (push_pair ps k v)
-
-pub each-push_pair : (W : Tree → Type 0) (ps : Pairs) (k v : Tree) → EachPair W ps → W k → W v
-    → EachPair W (push_pair ps k v)
-unfolding push_pair
-each-push_pair W no_pairs k v h a b = (a, b, tt)
-each-push_pair W (pair j u ps) k v h a b = (h.0, h.1, each-push_pair W ps k v h.2 a b)
-
-pub bytes-push_pair : (ps : Pairs) (k v : Tree) (x : List ℕ)
-    → bytes_pairs (push_pair ps k v) ++ x ≡ bytes_pairs ps ++ (bytes k ++ (bytes v ++ x))
-unfolding push_pair
-bytes-push_pair no_pairs k v x = simp (append_assoc, append-nil)
-bytes-push_pair (pair j u ps) k v x =
-    simp append_assoc (ap (λ r. bytes j ++ (bytes u ++ r)) (bytes-push_pair ps k v x))
 
 -- the keys and the values, in turn
 unfoldable pub flat : Pairs → Trees

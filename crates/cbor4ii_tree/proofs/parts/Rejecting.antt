@@ -2,7 +2,7 @@
 use Rattle.std.proofs.Common.{◌≡◌, ℕ, ◌<◌, ◌⊎◌, inl, inr, List, ◌∷◌, ◌++◌, Bool, true, false, refl}
 use Rattle.cbor4ii_items.specs.{Budget.CostFits, Head.{Width, HeadFits, head}}
 use Rattle.cbor4ii_tree.specs.{Cost.{Budget, skip_cost}, Encodings.Skips, InputError.InputError}
-use Rattle.cbor4ii_tree.specs.{ItemRejects.OrTested, Rejections.{Stopping, AfterHead, AfterKey}}
+use Rattle.cbor4ii_tree.specs.{ItemRejects.OrTested, Rejections.{Rejection, AfterHead, AfterKey}}
 use Rattle.cbor4ii_tree.specs.Rejections.{Each, EachPair, NoBreak, RejectsInCount, IndefiniteItems}
 use Rattle.cbor4ii_tree.specs.{Rejections.IndefinitePairs, Tree.{Tree, Trees, Pairs, Loose, count}}
 use Rattle.cbor4ii_tree.specs.Tree.{bytes, bytes_all, bytes_pairs}
@@ -11,12 +11,12 @@ pub skips_by : {input : List ℕ} {budget : Budget} {t : Tree} {rest : List ℕ}
     → CostFits (skip_cost t) budget → input ≡ bytes t ++ rest → Skips input budget t rest
 skips_by loose fits begins = record { loose = loose; fits = fits; begins = begins }
 
-pub headed_by : {major : ℕ} {w : Width} {b : ℕ} {then : ℕ → Stopping} {bs : List ℕ}
+pub headed_by : {major : ℕ} {w : Width} {b : ℕ} {then : ℕ → Rejection} {bs : List ℕ}
     {e : InputError} {rest : List ℕ} (argument : ℕ) (after : List ℕ) → HeadFits w argument
     → b ∷ bs ≡ head major argument w ++ after → then argument after e rest
     → AfterHead major w b then bs e rest
-headed_by n after fits is stopped =
-    record { argument = n; after = after; fits = fits; is = is; stopped = stopped }
+headed_by n after fits is rejected =
+    record { argument = n; after = after; fits = fits; is = is; rejected = rejected }
 
 -- where only what is tested has two ways to be rejected
 pub cut_or : {A : Type 0} (B : Type 0) (tests : Bool) → A → OrTested tests A B
@@ -39,25 +39,25 @@ either true f g (inl x) = f x
 either true f g (inr x) = g refl x
 either false f g x = f x
 
-module _ {W : Tree → Type 0} {s : Stopping} {bs : List ℕ} {e : InputError} {rest : List ℕ} where
+module _ {W : Tree → Type 0} {s : Rejection} {bs : List ℕ} {e : InputError} {rest : List ℕ} where
   pub in_count : {n : ℕ} (prefix : Trees) (after : List ℕ) → count prefix < n → Each W prefix
       → bs ≡ bytes_all prefix ++ after → s after e rest → RejectsInCount W s n bs e rest
-  in_count ts after few whole is stopped = record {
+  in_count ts after few whole is rejected = record {
     prefix = ts;
     after = after;
     few = few;
     whole = whole;
     is = is;
-    stopped = stopped;
+    rejected = rejected;
   }
 
   pub in_items : (prefix : Trees) (after : List ℕ) → Each W prefix
       → bs ≡ bytes_all prefix ++ after → NoBreak s after e rest → IndefiniteItems W s bs e rest
-  in_items ts after whole is stopped =
-      record { prefix = ts; after = after; whole = whole; is = is; stopped = stopped }
+  in_items ts after whole is rejected =
+      record { prefix = ts; after = after; whole = whole; is = is; rejected = rejected }
 
   pub in_pairs : (prefix : Pairs) (after : List ℕ) → EachPair W prefix
       → bs ≡ bytes_pairs prefix ++ after → NoBreak s after e rest ⊎ AfterKey W s after e rest
       → IndefinitePairs W s bs e rest
-  in_pairs ps after whole is stopped =
-      record { prefix = ps; after = after; whole = whole; is = is; stopped = stopped }
+  in_pairs ps after whole is rejected =
+      record { prefix = ps; after = after; whole = whole; is = is; rejected = rejected }

@@ -7,7 +7,8 @@ use Rattle.std.proofs.lemmas.Bool.{eqb-false}
 use Rattle.cbor4ii_items.specs.{Head.{Width, head, break, IsBytes}, Laws.Heads.if_cases}
 use Rattle.cbor4ii_tree.specs.{Laws.Initials.length-bytes-pos, Parse.{Parser, trees_at, pairs_at}}
 use Rattle.cbor4ii_tree.specs.Parse.{indefinite_trees_at, indefinite_pairs_at}
-use Rattle.cbor4ii_tree.specs.Rejections.{Stopping, Each, EachPair, RejectsInCount, IndefiniteItems}
+use Rattle.cbor4ii_tree.specs.Rejections.{Rejection, Each, EachPair, RejectsInCount}
+use Rattle.cbor4ii_tree.specs.Rejections.{IndefiniteItems}
 use Rattle.cbor4ii_tree.specs.{Rejections.IndefinitePairs, Tree.{Tree, Trees, no_trees, tree}}
 use Rattle.cbor4ii_tree.specs.Tree.{Pairs, no_pairs, pair, count, pair_count, bytes, bytes_all}
 use Rattle.cbor4ii_tree.specs.Tree.{bytes_pairs}
@@ -49,7 +50,7 @@ pub record TookIndefinitePairs (Whole : Tree → Type 0) (bs : List ℕ) (p : Pa
   pub more : IsBytes p.1
 
 -- below so many bytes, an item is whole or rejected
-abbrev pub Decides : Parser Tree → (Tree → Type 0) → Stopping → ℕ → Type 0
+abbrev pub Decides : Parser Tree → (Tree → Type 0) → Rejection → ℕ → Type 0
 Decides item Whole rejects bound =
     (bs : List ℕ) → IsBytes bs → length bs < bound → Meets (Took Whole bs) (rejects bs) (item bs)
 
@@ -68,7 +69,7 @@ regroup_pairs : (a b c x : List ℕ)
     → a ++ (b ++ ((c ++ break ∷ []) ++ x)) ≡ ((a ++ (b ++ c)) ++ break ∷ []) ++ x
 regroup_pairs a b c x = simp append_assoc
 
-module _ (item : Parser Tree) (Whole : Tree → Type 0) (rejects : Stopping) (bound : ℕ)
+module _ (item : Parser Tree) (Whole : Tree → Type 0) (rejects : Rejection) (bound : ℕ)
     (d : Decides item Whole rejects bound) where
   pub trees_meet : (n : ℕ) (bs : List ℕ) → IsBytes bs → length bs < bound
       → Meets (TookAll Whole n bs) (RejectsInCount Whole rejects n bs) (trees_at item n bs)
@@ -84,7 +85,7 @@ module _ (item : Parser Tree) (Whole : Tree → Type 0) (rejects : Stopping) (bo
         more = all.more;
       })) (λ e rest all. in_count (tree t all.prefix) all.after (omega (arith, all.few))
       (one.whole, all.whole) (one.is ∙ ap (λ r. bytes t ++ r) all.is
-      ∙ sym (append_assoc (bytes t) (bytes_all all.prefix) all.after)) all.stopped))
+      ∙ sym (append_assoc (bytes t) (bytes_all all.prefix) all.after)) all.rejected))
       (λ e rest f. in_count no_trees bs (omega arith) tt refl f)
 
   pub pairs_meet : (n : ℕ) (bs : List ℕ) → IsBytes bs → length bs < bound
@@ -105,7 +106,7 @@ module _ (item : Parser Tree) (Whole : Tree → Type 0) (rejects : Stopping) (bo
       })) (λ e rest all. in_count (tree k (tree v all.prefix)) all.after (omega (arith, all.few))
       (key.whole, (val.whole, all.whole)) (key.is ∙ ap (λ r. bytes k ++ r)
       (val.is ∙ ap (λ r. bytes v ++ r) all.is)
-      ∙ regroup (bytes k) (bytes v) (bytes_all all.prefix) all.after) all.stopped))
+      ∙ regroup (bytes k) (bytes v) (bytes_all all.prefix) all.after) all.rejected))
       (λ e rest f. in_count (tree k no_trees) x (omega arith) (key.whole, tt)
       (key.is ∙ sym (append_assoc (bytes k) [] x)) f))
       (λ e rest f. in_count no_trees bs (omega arith) tt refl f)
@@ -128,7 +129,7 @@ module _ (item : Parser Tree) (Whole : Tree → Type 0) (rejects : Stopping) (bo
         more = all.more;
       })) (λ e rest all. in_items (tree t all.prefix) all.after (one.whole, all.whole)
       (one.is ∙ ap (λ r. bytes t ++ r) all.is
-      ∙ sym (append_assoc (bytes t) (bytes_all all.prefix) all.after)) all.stopped))
+      ∙ sym (append_assoc (bytes t) (bytes_all all.prefix) all.after)) all.rejected))
       (λ e rest f. in_items no_trees (b ∷ bs) tt refl (eqb-false b break no, f)))
 
   pub indefinite_pairs_meet : (n : ℕ) (bs : List ℕ) → IsBytes bs → length bs < bound
@@ -153,9 +154,9 @@ module _ (item : Parser Tree) (Whole : Tree → Type 0) (rejects : Stopping) (bo
         more = all.more;
       })) (λ e rest all. in_pairs (pair k v all.prefix) all.after (key.whole, val.whole, all.whole)
       (key.is ∙ ap (λ r. bytes k ++ r) (val.is ∙ ap (λ r. bytes v ++ r) all.is)
-      ∙ regroup (bytes k) (bytes v) (bytes_pairs all.prefix) all.after) all.stopped))
+      ∙ regroup (bytes k) (bytes v) (bytes_pairs all.prefix) all.after) all.rejected))
       (λ e rest f. in_pairs no_pairs (b ∷ bs) tt refl (inr (record
-      { key = k; after = x; whole = key.whole; is = key.is; stopped = f }))))
+      { key = k; after = x; whole = key.whole; is = key.is; rejected = f }))))
       (λ e rest f. in_pairs no_pairs (b ∷ bs) tt refl (inl (eqb-false b break no, f))))
 
 -- after a head whose argument counts what follows

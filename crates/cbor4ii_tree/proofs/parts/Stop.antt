@@ -11,7 +11,7 @@ use Rattle.cbor4ii_tree.specs.Laws.PartsAgain.{Again, StartNoBreak, shorter, pai
 use Rattle.cbor4ii_tree.specs.Laws.PartsAgain.{indefinite_turn, indefinite_pair_turn}
 use Rattle.cbor4ii_tree.specs.Parse.{Parser, prefix_at, number_at, argument_at, argument_of_width}
 use Rattle.cbor4ii_tree.specs.Parse.{trees_at, pairs_at, indefinite_trees_at, indefinite_pairs_at}
-use Rattle.cbor4ii_tree.specs.Rejections.{Stopping, Lacks, Missing, AtHead, Each, EachPair}
+use Rattle.cbor4ii_tree.specs.Rejections.{Rejection, Lacks, Missing, AtHead, Each, EachPair}
 use Rattle.cbor4ii_tree.specs.Rejections.{RejectsInCount, NoBreak, IndefiniteItems, AfterKey}
 use Rattle.cbor4ii_tree.specs.{Rejections.IndefinitePairs, Tree.{Tree, Trees, no_trees, tree}}
 use Rattle.cbor4ii_tree.specs.Tree.{Pairs, no_pairs, pair, count, bytes, bytes_all, bytes_pairs}
@@ -38,7 +38,7 @@ lacks_argument asks name eight b bs e rest h = lacks_number asks name 8 bs e res
 
 -- after a head, whose bytes after it are no more than those before
 pub head_rejects : {A : Type 0} (name : List ℕ) (major : ℕ) (w : Width) (b : ℕ) (bs : List ℕ)
-    (next : ℕ → Reading A) (then : ℕ → Stopping) (e : InputError) (rest : List ℕ)
+    (next : ℕ → Reading A) (then : ℕ → Rejection) (e : InputError) (rest : List ℕ)
     → ((n : ℕ) (after : List ℕ) → length after ≤ length bs → then n after e rest
     → next n after ≡ Err (e, rest)) → AtHead name major w b then bs e rest
     → go_on (argument_of_width name w b bs) next ≡ Err (e, rest)
@@ -53,17 +53,17 @@ head_rejects name major w b bs next then e rest k (inr s) =
       arith,
       same,
       length-append (bytes_high_first (byte_count w) s.argument) s.after,
-    )) s.stopped)
+    )) s.rejected)
 
 -- ---- sequences
 
 -- what is rejected is rejected, below so many bytes
-abbrev pub Gives : Parser Tree → Stopping → ℕ → Type 0
+abbrev pub Gives : Parser Tree → Rejection → ℕ → Type 0
 Gives item rejects bound =
     (bs : List ℕ) (e : InputError) (rest : List ℕ) → length bs < bound → rejects bs e rest
     → item bs ≡ Err (e, rest)
 
-module _ (item : Parser Tree) (Whole : Tree → Type 0) (rejects : Stopping) (bound : ℕ)
+module _ (item : Parser Tree) (Whole : Tree → Type 0) (rejects : Rejection) (bound : ℕ)
     (a : Again item Whole bound) (g : Gives item rejects bound) where
   definite_trees : (prefix : Trees) (n : ℕ) (after : List ℕ) (e : InputError) (rest : List ℕ)
       → count prefix < n → Each Whole prefix → length (bytes_all prefix ++ after) < bound
@@ -86,7 +86,7 @@ module _ (item : Parser Tree) (Whole : Tree → Type 0) (rejects : Stopping) (bo
       → trees_at item n bs ≡ Err (e, rest)
   trees_stop n bs e rest lt st =
       ap (trees_at item n) st.is ∙ definite_trees st.prefix n st.after e
-      rest st.few st.whole (subst (λ y. length y < bound) st.is lt) st.stopped
+      rest st.few st.whole (subst (λ y. length y < bound) st.is lt) st.rejected
 
   definite_pairs : (prefix : Trees) (n : ℕ) (after : List ℕ) (e : InputError) (rest : List ℕ)
       → count prefix < 2 * n → Each Whole prefix → length (bytes_all prefix ++ after) < bound
@@ -116,7 +116,7 @@ module _ (item : Parser Tree) (Whole : Tree → Type 0) (rejects : Stopping) (bo
       → pairs_at item n bs ≡ Err (e, rest)
   pairs_stop n bs e rest lt st =
       ap (pairs_at item n) st.is ∙ definite_pairs st.prefix n st.after e
-      rest st.few st.whole (subst (λ y. length y < bound) st.is lt) st.stopped
+      rest st.few st.whole (subst (λ y. length y < bound) st.is lt) st.rejected
 
   -- the end of an indefinite-length sequence that is rejected
   indefinite_end_rejects : (n : ℕ) (after : List ℕ) (e : InputError) (rest : List ℕ)
@@ -155,7 +155,7 @@ module _ (item : Parser Tree) (Whole : Tree → Type 0) (rejects : Stopping) (bo
     indefinite_trees_stop n bs e rest more lt st =
         ap (indefinite_trees_at item n) st.is
         ∙ indefinite_items st.prefix n st.after e rest st.whole
-        (subst (λ y. length y < n) st.is more) (subst (λ y. length y < bound) st.is lt) st.stopped
+        (subst (λ y. length y < n) st.is more) (subst (λ y. length y < bound) st.is lt) st.rejected
 
     indefinite_pair_rejects : (n : ℕ) (after : List ℕ) (e : InputError) (rest : List ℕ)
         → length after < n → length after < bound
@@ -173,7 +173,7 @@ module _ (item : Parser Tree) (Whole : Tree → Type 0) (rejects : Stopping) (bo
         ap (indefinite_pairs_at item (suc n)) st.is
         ∙ (indefinite_pair_turn item n key st.after (s st.key st.whole)
         ∙ rw (a st.key st.after st.whole lt2) (then_err (item st.after) _ (e, rest)
-        (g st.after e rest (shorter key st.after bound lt2) st.stopped)))
+        (g st.after e rest (shorter key st.after bound lt2) st.rejected)))
 
     indefinite_pairs : (prefix : Pairs) (n : ℕ) (after : List ℕ) (e : InputError) (rest : List ℕ)
         → EachPair Whole prefix → length (bytes_pairs prefix ++ after) < n
@@ -209,4 +209,4 @@ module _ (item : Parser Tree) (Whole : Tree → Type 0) (rejects : Stopping) (bo
     indefinite_pairs_stop n bs e rest more lt st =
         ap (indefinite_pairs_at item n) st.is
         ∙ indefinite_pairs st.prefix n st.after e rest st.whole
-        (subst (λ y. length y < n) st.is more) (subst (λ y. length y < bound) st.is lt) st.stopped
+        (subst (λ y. length y < n) st.is more) (subst (λ y. length y < bound) st.is lt) st.rejected

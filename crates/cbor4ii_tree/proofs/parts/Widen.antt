@@ -6,7 +6,7 @@ use Rattle.std.proofs.Common.{append-nil, length-append}
 use Rattle.std.specs.Int.{bytes_high_first}
 use Rattle.cbor4ii_items.specs.{Budget.CostFits, Head.{Width, byte_count, head}}
 use Rattle.cbor4ii_tree.specs.{Cost.{Budget, step_in}, InputError.{InputError, eof, Len, IsEof}}
-use Rattle.cbor4ii_tree.specs.{InputError.IsDepthOverflow, Rejections.{Stopping, Is, Lacks}}
+use Rattle.cbor4ii_tree.specs.{InputError.IsDepthOverflow, Rejections.{Rejection, Is, Lacks}}
 use Rattle.cbor4ii_tree.specs.Rejections.{AfterHead, AtHead, RejectsAtStep, Each, EachPair}
 use Rattle.cbor4ii_tree.specs.Rejections.{RejectsInCount, NoBreak, IndefiniteItems, AfterKey}
 use Rattle.cbor4ii_tree.specs.{Rejections.IndefinitePairs, Tree.{Tree, Trees, no_trees, tree}}
@@ -14,7 +14,7 @@ use Rattle.cbor4ii_tree.specs.Tree.{Pairs, no_pairs, pair, bytes, bytes_all, byt
 use Rattle.cbor4ii_tree.proofs.parts.Rejecting.{headed_by, in_count, in_items, in_pairs}
 
 -- of one error, before what comes later, where fewer than k bytes are there
-abbrev pub Goes : ℕ → InputError → List ℕ → Stopping → Stopping → Type 0
+abbrev pub Goes : ℕ → InputError → List ℕ → Rejection → Rejection → Type 0
 Goes k e more s t =
     (bs rest : List ℕ) → length bs < k → s bs e rest → t (bs ++ more) e (rest ++ more)
 
@@ -73,7 +73,7 @@ each_pair_covers V W c no_pairs h = tt
 each_pair_covers V W c (pair k v ps) h = (c k h.0, c v h.1, each_pair_covers V W c ps h.2)
 
 -- at the end of the input nothing follows it
-pub at_end : (S : Stopping) (e : InputError) (more bs rest : List ℕ) → more ≡ [] → S bs e rest
+pub at_end : (S : Rejection) (e : InputError) (more bs rest : List ℕ) → more ≡ [] → S bs e rest
     → S (bs ++ more) e (rest ++ more)
 at_end S e more bs rest is s =
     let nothing : (xs : List ℕ) → xs ++ more ≡ xs = λ xs. ap (λ m. xs ++ m) is ∙ append-nil xs in
@@ -107,7 +107,7 @@ stepped_goes name (Some b) u e here rest more s t w k x = rw w.1 (k b w.0 w.2 x)
 
 module _ (k : ℕ) (e : InputError) (more : List ℕ) (calm : Calm e more) where
   -- no byte where an item should begin
-  pub no_byte_goes : (name : List ℕ) (n : Len) (S : Stopping) (rest : List ℕ)
+  pub no_byte_goes : (name : List ℕ) (n : Len) (S : Rejection) (rest : List ℕ)
       → Is (eof name n) [] e rest → S [] e rest → S ([] ++ more) e (rest ++ more)
   no_byte_goes name n S rest is s = at_end S e more [] rest (calm (eof_is _ e tt is.0)) s
 
@@ -116,7 +116,7 @@ module _ (k : ℕ) (e : InputError) (more : List ℕ) (calm : Calm e more) where
   lacks_goes asks name n bs rest lt s =
       at_end (Lacks asks name n) e more bs rest (calm (eof_is _ e tt s.1.0)) s
 
-  pub after_head_goes : (major : ℕ) (w : Width) (b : ℕ) (s t : ℕ → Stopping)
+  pub after_head_goes : (major : ℕ) (w : Width) (b : ℕ) (s t : ℕ → Rejection)
       → ((n : ℕ) → Goes k e more (s n) (t n))
       → Goes k e more (AfterHead major w b s) (AfterHead major w b t)
   after_head_goes major w b s t g bs rest lt x =
@@ -127,9 +127,9 @@ module _ (k : ℕ) (e : InputError) (more : List ℕ) (calm : Calm e more) where
         arith,
         same,
         length-append (bytes_high_first (byte_count w) x.argument) x.after,
-      )) x.stopped)
+      )) x.rejected)
 
-  pub at_head_goes : (name : List ℕ) (major : ℕ) (w : Width) (b : ℕ) (s t : ℕ → Stopping)
+  pub at_head_goes : (name : List ℕ) (major : ℕ) (w : Width) (b : ℕ) (s t : ℕ → Rejection)
       → ((n : ℕ) → Goes k e more (s n) (t n))
       → Goes k e more (AtHead name major w b s) (AtHead name major w b t)
   at_head_goes name major w b s t g bs rest lt (inl x) =
@@ -137,12 +137,12 @@ module _ (k : ℕ) (e : InputError) (more : List ℕ) (calm : Calm e more) where
   at_head_goes name major w b s t g bs rest lt (inr x) =
       inr (after_head_goes major w b s t g bs rest lt x)
 
-  module _ (V W : Tree → Type 0) (s t : Stopping) (c : Covers V W) (g : Goes k e more s t) where
+  module _ (V W : Tree → Type 0) (s t : Rejection) (c : Covers V W) (g : Goes k e more s t) where
     pub definite_goes : (n : ℕ) → Goes k e more (RejectsInCount V s n) (RejectsInCount W t n)
     definite_goes n bs rest lt x =
         in_count x.prefix (x.after ++ more) x.few (each_covers V W c x.prefix x.whole)
         (onward bs (bytes_all x.prefix) x.after more x.is)
-        (g x.after rest (trailing k bs (bytes_all x.prefix) x.after lt x.is) x.stopped)
+        (g x.after rest (trailing k bs (bytes_all x.prefix) x.after lt x.is) x.rejected)
 
     no_break_goes : Goes k e more (NoBreak s) (NoBreak t)
     no_break_goes [] rest lt x =
@@ -153,13 +153,13 @@ module _ (k : ℕ) (e : InputError) (more : List ℕ) (calm : Calm e more) where
     items_goes bs rest lt x =
         in_items x.prefix (x.after ++ more) (each_covers V W c x.prefix x.whole) (onward bs
         (bytes_all x.prefix) x.after more x.is) (no_break_goes x.after rest
-        (trailing k bs (bytes_all x.prefix) x.after lt x.is) x.stopped)
+        (trailing k bs (bytes_all x.prefix) x.after lt x.is) x.rejected)
 
     pub pairs_goes : Goes k e more (IndefinitePairs V s) (IndefinitePairs W t)
     pairs_goes bs rest lt x =
         in_pairs x.prefix (x.after ++ more) (each_pair_covers V W c x.prefix x.whole) (onward bs
         (bytes_pairs x.prefix) x.after more x.is)
-        (by_end x.after (trailing k bs (bytes_pairs x.prefix) x.after lt x.is) x.stopped)
+        (by_end x.after (trailing k bs (bytes_pairs x.prefix) x.after lt x.is) x.rejected)
       where
         by_end : (after : List ℕ) → length after < k → NoBreak s after e rest
             ⊎ AfterKey V s after e rest → NoBreak t (after ++ more) e (rest ++ more)
@@ -171,5 +171,6 @@ module _ (k : ℕ) (e : InputError) (more : List ℕ) (calm : Calm e more) where
               after = y.after ++ more;
               whole = c y.key y.whole;
               is = onward after (bytes y.key) y.after more y.is;
-              stopped = g y.after rest (trailing k after (bytes y.key) y.after less y.is) y.stopped;
+              rejected = g y.after rest (trailing k after (bytes y.key) y.after less y.is)
+                  y.rejected;
             })

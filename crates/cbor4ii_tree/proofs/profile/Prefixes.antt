@@ -11,7 +11,7 @@ use Rattle.cbor4ii_items.specs.Initial.{starts_simple, starts_bits, other_simple
 use Rattle.cbor4ii_tree.specs.{Cost.{Budget, step_in}, InputError.{InputError, IsEof}}
 use Rattle.cbor4ii_tree.specs.ItemRejects.{Profile, NoUtf8Joined, ChunkRejectsBy, ChunkOf}
 use Rattle.cbor4ii_tree.specs.ItemRejects.{RejectsChunk, RejectsBy, RejectsFrom, RejectsWithin}
-use Rattle.cbor4ii_tree.specs.{ItemRejects.Rejects, ReadingRejects.Readable, Rejections.Stopping}
+use Rattle.cbor4ii_tree.specs.{ItemRejects.Rejects, ReadingRejects.Readable, Rejections.Rejection}
 use Rattle.cbor4ii_tree.specs.{Rejections.{Each, EachPair}, Tree.{Tree, int, string, chunked}}
 use Rattle.cbor4ii_tree.specs.Tree.{array, array_indefinite, map_of, map_indefinite, tagged, simple}
 use Rattle.cbor4ii_tree.specs.Tree.{bits, Trees, no_trees, tree, Pairs, no_pairs, pair, bytes}
@@ -138,7 +138,7 @@ empty_chunk k =
     prefix_of (Chunk true k) [] (string k in_first []) (bytes (string k in_first []))
     (chunk_string k in_first [] (omega arith)) (empty_some k) refl
 
-chunk_prefix : (tests : Bool) (k : Kind) (budget : Budget) (rejects : Stopping)
+chunk_prefix : (tests : Bool) (k : Kind) (budget : Budget) (rejects : Rejection)
     → Prefixes (Outline tests) rejects
     → Prefixes (Chunk tests k) (RejectsChunk tests k budget rejects)
 unfolding Chunk
@@ -175,7 +175,7 @@ module _ (p : Profile) (outlined : Outlined p) where
   abbrev Good : Tree → Type 0
   Good = Outline p.tests
 
-  module _ (budget : Budget) (rejects : Budget → Stopping)
+  module _ (budget : Budget) (rejects : Budget → Rejection)
       (g : (c : Budget) → Prefixes Good (rejects c)) where
     by_prefix : (i : Initial) (b : ℕ) (bs : List ℕ) (e : InputError) (rest : List ℕ) → Means b i
         → IsBytes (b ∷ bs) → IsEof e → RejectsBy p rejects budget i b bs e rest
@@ -185,14 +185,14 @@ module _ (p : Profile) (outlined : Outlined p) where
     by_prefix (bad_int s) b bs e rest m h eo st = absurd (eof_only e _ eo st.0)
     by_prefix (starts_string k w) b bs e rest m h eo st =
         either p.tests (cut_string Good (p.of_string k) k w b bs e rest
-        (string_outline p.tests k w) m h) (λ y x. absurd (eof_only e _ eo x.stopped.err)) st
+        (string_outline p.tests k w) m h) (λ y x. absurd (eof_only e _ eo x.rejected.err)) st
     by_prefix (starts_chunks k) b bs e rest m h eo st =
         let W : Tree → Type 0 = ChunkOf p.tests k budget (p.Whole budget) in
         either {B = NoUtf8Joined k W bs e rest} p.tests (λ x.
         let f = indefinite_prefix (Chunk p.tests k) _
         (chunk_prefix p.tests k budget (rejects budget) (g budget)) bs x.prefix x.after e rest h.1
         eo (each_covers W (Chunk p.tests k) (λ t. whole_chunk p.tests k budget (p.Whole budget) t
-        (outlined budget t)) x.prefix x.whole) x.is x.stopped in prefix_of Good (b ∷ bs)
+        (outlined budget t)) x.prefix x.whole) x.is x.rejected in prefix_of Good (b ∷ bs)
         (chunked k f.0) f.2 (chunks_outline p.tests k f.0 f.1) f.3 (ap₂ ◌∷◌ (sym m) f.4))
         (λ y x. absurd (eof_only e _ eo x.err)) st
     by_prefix (bad_string k) b bs e rest m h eo st = absurd (eof_only e _ eo st.0)

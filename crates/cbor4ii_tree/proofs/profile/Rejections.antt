@@ -20,7 +20,7 @@ use Rattle.cbor4ii_tree.specs.Laws.ItemAgain.{chunk_again, chunks_start, starts,
 use Rattle.cbor4ii_tree.specs.Laws.PartsAgain.{StartNoBreak, Again, indefinite_trees_again}
 use Rattle.cbor4ii_tree.specs.{Laws.Profiles.Lawful, Parse.{Parser, prefix_at, number_at}}
 use Rattle.cbor4ii_tree.specs.Parse.{argument_at, trees_at, pairs_at, indefinite_trees_at}
-use Rattle.cbor4ii_tree.specs.{Parse.indefinite_pairs_at, Rejections.{Stopping, Missing, AtHead}}
+use Rattle.cbor4ii_tree.specs.{Parse.indefinite_pairs_at, Rejections.{Rejection, Missing, AtHead}}
 use Rattle.cbor4ii_tree.specs.{Rejections.RejectsInCount, Tree.{Tree, string, chunked}}
 use Rattle.cbor4ii_tree.specs.Tree.{joined_chunks, bytes_all}
 use Rattle.cbor4ii_tree.proofs.{parts.Rejecting.either, parts.Stop.{Gives, missing_prefix}}
@@ -43,7 +43,7 @@ chunk_by_rejects text_string (starts_string text_string w) b bs e rest s =
 chunk_by_rejects k i b bs e rest s = err _ _ _ _ s
 
 chunk_rejects : (tests : Bool) (k : Kind) (budget : Budget) (item : Parser Tree)
-    (rejects : Stopping) (bound : ℕ) → Gives item rejects bound
+    (rejects : Rejection) (bound : ℕ) → Gives item rejects bound
     → Gives (chunk_at tests k budget item) (RejectsChunk tests k budget rejects) bound
 chunk_rejects false k budget item rejects bound g bs e rest lt s = g bs e rest lt s
 chunk_rejects true k budget item rejects bound g [] e rest lt s = err _ _ _ _ s
@@ -66,7 +66,8 @@ tested_rejects true text_string content t rest is n = by_test (is_utf8 content) 
     by_test false e = rw e refl
 
 module _ (p : Profile) (l : Lawful p) where
-  module _ (item : Budget → Parser Tree) (budget : Budget) (rejects : Budget → Stopping) (bound : ℕ)
+  module _ (item : Budget → Parser Tree) (budget : Budget) (rejects : Budget
+      → Rejection) (bound : ℕ)
       (a : (c : Budget) → Again (item c) (p.Whole c) bound)
       (g : (c : Budget) → Gives (item c) (rejects c) bound) where
     by_rejects : (i : Initial) (b : ℕ) (bs : List ℕ) (e : InputError) (rest : List ℕ)
@@ -79,13 +80,13 @@ module _ (p : Profile) (l : Lawful p) where
     by_rejects (starts_string k w) b bs e rest lt s =
         either p.tests (λ x. then_err (string_at (p.of_string k) w b bs) _ (e, rest)
         (string_rejects (p.of_string k) k w b bs e rest x)) (λ tests x.
-        let content : List ℕ = x.stopped.content in
+        let content : List ℕ = x.rejected.content in
         let prefix : prefix_at (p.of_string k) x.argument x.after ≡ Ok (content, rest) =
-        ap (prefix_at (p.of_string k) x.argument) x.stopped.is
-        ∙ prefix_again (p.of_string k) x.argument content rest x.stopped.long in
+        ap (prefix_at (p.of_string k) x.argument) x.rejected.is
+        ∙ prefix_again (p.of_string k) x.argument content rest x.rejected.long in
         let top = argument_of (p.of_string k) (kind_major k) x.argument w b bs x.after x.fits x.is
         in rw (top, prefix) (tested_rejects p.tests k content (string k w content) rest tests
-        x.stopped.invalid ∙ ap (λ f. Err (f, rest)) (sym x.stopped.err))) s
+        x.rejected.invalid ∙ ap (λ f. Err (f, rest)) (sym x.rejected.err))) s
     by_rejects (starts_chunks k) b bs e rest lt s =
         let item_at : Parser Tree = chunk_at p.tests k budget (item budget) in
         let W : Tree → Type 0 = ChunkOf p.tests k budget (p.Whole budget) in

@@ -20,7 +20,7 @@ use Rattle.cbor4ii_tree.specs.ItemRejects.{Profile, ReadableChunk, IsNoUtf8, Chu
 use Rattle.cbor4ii_tree.specs.ItemRejects.{ChunkOf, RejectsChunk, RejectsBy, RejectsFrom}
 use Rattle.cbor4ii_tree.specs.{ItemRejects.RejectsWithin, Laws.Binds.step_up, Laws.Profiles.Tested}
 use Rattle.cbor4ii_tree.specs.{Laws.Profiles.{Lawful, Parts}, Parse.{Parser, argument_of_width}}
-use Rattle.cbor4ii_tree.specs.{Rejections.{Stopping, Missing, AtHead}, Tree.{Tree, int, string}}
+use Rattle.cbor4ii_tree.specs.{Rejections.{Rejection, Missing, AtHead}, Tree.{Tree, int, string}}
 use Rattle.cbor4ii_tree.specs.Tree.{chunked, array, array_indefinite, map_of, map_indefinite}
 use Rattle.cbor4ii_tree.specs.Tree.{tagged, simple, bits, count, pair_count, bytes, bytes_all}
 use Rattle.cbor4ii_tree.specs.Tree.{bytes_pairs, joined_chunks}
@@ -36,7 +36,7 @@ use Rattle.cbor4ii_tree.proofs.parts.Sound.{indefinite_trees_meet, indefinite_pa
 
 -- a head is rejected, or what follows it is
 head_meets : {A : Type 0} {Good : A × List ℕ → Type 0} {next : ℕ → Reading A} (name : List ℕ)
-    (major : ℕ) (w : Width) (b : ℕ) (bs : List ℕ) (then : ℕ → Stopping) → IsBytes bs
+    (major : ℕ) (w : Width) (b : ℕ) (bs : List ℕ) (then : ℕ → Rejection) → IsBytes bs
     → HeadByte major w b → ((n : ℕ) (x : List ℕ) → Headed major n w b bs x → length x ≤ length bs
     → Meets Good (then n x) (next n x))
     → Meets Good (AtHead name major w b then bs) (go_on (argument_of_width name w b bs) next)
@@ -86,7 +86,7 @@ chunk_by_meets text_string budget (starts_string text_string w) b bs f m h =
 chunk_by_meets k budget i b bs f m h = err_meets _ (refl, refl)
 
 chunk_meets : (tests : Bool) (k : Kind) (budget : Budget) (item : Parser Tree)
-    (Whole : Tree → Type 0) (rejects : Stopping) (bound : ℕ) → Decides item Whole rejects bound
+    (Whole : Tree → Type 0) (rejects : Rejection) (bound : ℕ) → Decides item Whole rejects bound
     → Decides (chunk_at tests k budget item) (ChunkOf tests k budget Whole)
     (RejectsChunk tests k budget rejects) bound
 chunk_meets false k budget item Whole rejects bound d bs h lt = d bs h lt
@@ -100,7 +100,7 @@ chunk_meets true k budget item Whole rejects bound d (b ∷ bs) h lt =
 -- ---- items
 
 module _ (p : Profile) (l : Lawful p) where
-  module _ (item : Budget → Parser Tree) (rejects : Budget → Stopping) (bound : ℕ)
+  module _ (item : Budget → Parser Tree) (rejects : Budget → Rejection) (bound : ℕ)
       (d : (c : Budget) → Decides (item c) (p.Whole c) (rejects c) bound) (outer budget : Budget)
       (is : step_in outer ≡ Some budget) where
     gives : {Bad : Failing} {b : ℕ} {bs x : List ℕ} (t : Tree) → Parts p budget t

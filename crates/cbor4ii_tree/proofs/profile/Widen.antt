@@ -14,7 +14,7 @@ use Rattle.cbor4ii_tree.specs.{Cost.{Budget, step_in, cost, skip_cost}, InputErr
 use Rattle.cbor4ii_tree.specs.InputError.{IsEof, IsDepthOverflow, kind_name, tag_name}
 use Rattle.cbor4ii_tree.specs.ItemRejects.{Profile, NoUtf8, NoUtf8Joined, ChunkRejectsBy, ChunkOf}
 use Rattle.cbor4ii_tree.specs.ItemRejects.{RejectsChunk, RejectsBy, RejectsFrom, RejectsWithin}
-use Rattle.cbor4ii_tree.specs.{ItemRejects.Rejects, ReadingRejects.reading, Rejections.Stopping}
+use Rattle.cbor4ii_tree.specs.{ItemRejects.Rejects, ReadingRejects.reading, Rejections.Rejection}
 use Rattle.cbor4ii_tree.specs.Rejections.{Is, Missing, AtHead, RejectsInCount, RejectsAtStep}
 use Rattle.cbor4ii_tree.specs.Rejections.{IndefiniteItems, IndefinitePairs}
 use Rattle.cbor4ii_tree.specs.{SkippingRejects.skipping, Tree.{Tree, bytes_all}}
@@ -81,7 +81,7 @@ module _ (k : ℕ) (e : InputError) (more : List ℕ) (calm : Calm e more) where
     chunk_covers true d b c w t h = (h.0, h.1, widens_fits e b c (cost t) w h.2)
     chunk_covers false d b c w t h = l.covers e b c w t h
 
-    chunk_goes : (tests : Bool) (d : Kind) (b c : Budget) (s t : Stopping) → Widens e b c
+    chunk_goes : (tests : Bool) (d : Kind) (b c : Budget) (s t : Rejection) → Widens e b c
         → Goes k e more s t → Goes k e more (RejectsChunk tests d b s) (RejectsChunk tests d c t)
     chunk_goes false d b c s t w g bs rest lt x = g bs rest lt x
     chunk_goes true d b c s t w g [] rest lt x =
@@ -92,7 +92,7 @@ module _ (k : ℕ) (e : InputError) (more : List ℕ) (calm : Calm e more) where
         (λ inner. ChunkRejectsBy d (initial a) a (bs ++ more)) (step_widens e b c w)
         (λ inner outer v y. chunk_by_goes d (initial a) a bs rest (omega arith) y) x
 
-    module _ (b c : Budget) (w : Widens e b c) (s t : Budget → Stopping)
+    module _ (b c : Budget) (w : Widens e b c) (s t : Budget → Rejection)
         (g : (x y : Budget) → Widens e x y → Goes k e more (s x) (t y)) where
       by_goes : (i : Initial) (a : ℕ) → Goes k e more (RejectsBy p s b i a) (RejectsBy p t c i a)
       by_goes (starts_int sg v) a bs rest lt x =
@@ -191,17 +191,17 @@ module _ (p : Profile) (l : Widening p) where
       None e more (omega arith) (omega (arith, length-append input more)) (λ y. absurd (h y))
       (widens_none e budget d) input rest (omega arith)
 
-  as_is : (S : Stopping) (bs : List ℕ) (e : InputError) (rest : List ℕ)
+  as_is : (S : Rejection) (bs : List ℕ) (e : InputError) (rest : List ℕ)
       → S (bs ++ []) e (rest ++ []) → S bs e rest
   as_is S bs e rest s =
       subst (λ r. S bs e r) (append-nil rest)
       (subst (λ b. S b e (rest ++ [])) (append-nil bs) s)
 
-  free : Budget → Stopping
+  free : Budget → Rejection
   free b part = Rejects p part b
 
   -- from one bound on how deep the parts nest to another that bounds nothing
-  from_same : (n : ℕ) (s t : Budget → Stopping) (c : Budget) (input : List ℕ) (e : InputError)
+  from_same : (n : ℕ) (s t : Budget → Rejection) (c : Budget) (input : List ℕ) (e : InputError)
       (rest : List ℕ) → length input ≤ n
       → ((b d : Budget) → Widens e b d → Goes n e [] (s b) (t d))
       → RejectsFrom p s c input e rest → RejectsFrom p t c input e rest

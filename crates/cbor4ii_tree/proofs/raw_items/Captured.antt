@@ -18,7 +18,7 @@ use Rattle.cbor4ii_items.specs.{Laws.Running.shows_kept, Moves.{Kept, ReaderFail
 use Rattle.cbor4ii_tree.specs.{Laws.Initials.length-bytes-pos, Prefix.lent_view, Raw.ReadsRaw}
 use Rattle.cbor4ii_tree.specs.Raw.{RejectsRaw, BeginsRaw, RejectedPrefix, Unmoved, most}
 use Rattle.cbor4ii_tree.specs.Raw.{SkipsPrefix, RejectsPrefix, Captured, NotCaptured, failed}
-use Rattle.cbor4ii_tree.specs.{Raw.{not_lent, stopped, Captures, raw_format}, Cost.Budget}
+use Rattle.cbor4ii_tree.specs.{Raw.{not_lent, rejected, Captures, raw_format}, Cost.Budget}
 use Rattle.cbor4ii_tree.specs.{Cost.skip_cost, Does.Does, Encodings.Skips, Headline.Answered}
 use Rattle.cbor4ii_tree.specs.{Headline.Rejected, Ignored.ReadsTree, InputError.InputError}
 use Rattle.cbor4ii_tree.specs.Laws.{Binds.same_err, Ignoring.{one_encoding, tree_prefix}}
@@ -85,11 +85,11 @@ captured content {lent = lent} {n = n} {a = a} {m = m} l is item same budget adv
       less = omega (arith, s.bound, adv.bound);
     }
 
-pub stopped_in : {E : Type 0} {lent shown : List ℕ} {a m k : View} {e : DecodeError E}
+pub rejected_in : {E : Type 0} {lent shown : List ℕ} {a m k : View} {e : DecodeError E}
     → FillsLong most lent a m → shown ≡ lent → RejectsPrefix shown m.budget e
     → KeepsAllButBudget m k → k.budget ≡ m.budget → NotCaptured a k e
-stopped_in {lent = lent} {m = m} {e = e} l is rejects same budget =
-    stopped lent (record {
+rejected_in {lent = lent} {m = m} {e = e} l is rejects same budget =
+    rejected lent (record {
       shows = shows_on l.shows same budget;
       prefix = l.prefix;
       enough =
@@ -97,7 +97,7 @@ stopped_in {lent = lent} {m = m} {e = e} l is rejects same budget =
     }) (subst (λ o. RejectsPrefix lent o e) l.shows.budget (subst (λ z. RejectsPrefix z
     m.budget e) is rejects))
 
--- ---- the item at the front of all bytes
+-- ---- the item at the beginning of all bytes
 
 tree_at : (shown xs : List ℕ) (n : ℕ) (budget : Budget) → IsPrefix most shown xs
     → (i : SkipsPrefix shown budget n) → ReadsTree xs n (skip_cost i.skipped)
@@ -198,7 +198,7 @@ module _ {V E : Type 0} (content : V → List ℕ) (a b : View) where
       record { by = by_read _ _ read (broken a b p); depth = λ none. depth }
   raw_moves (Err e) (not_lent p read named memory depth) =
       record { by = by_read _ _ read (shows_kept p.stays); depth = λ none. depth }
-  raw_moves (Err e) (stopped shown l s) =
+  raw_moves (Err e) (rejected shown l s) =
       record { by = by_read _ _ s.read (shows_kept l.shows); depth = s.depth }
 
   pub raw_progress : (r : Result V (DecodeError E)) → Captures content a b r
@@ -221,7 +221,7 @@ module _ {V E : Type 0} (content : V → List ℕ) (a b : View) where
   raw_memory (Ok v) c = tt
   raw_memory (Err e) (failed p read none memory depth) = λ t. subst IsTrue memory t
   raw_memory (Err e) (not_lent p read says memory depth) = λ t. subst IsTrue memory t
-  raw_memory (Err e) (stopped shown l s) = λ t. subst IsTrue s.memory t
+  raw_memory (Err e) (rejected shown l s) = λ t. subst IsTrue s.memory t
 
   pub raw_unmoved : (r : Result V (DecodeError E)) → Captures content a b r → IfErr r (Unmoved a b)
   raw_unmoved (Ok v) c = tt
@@ -229,7 +229,7 @@ module _ {V E : Type 0} (content : V → List ℕ) (a b : View) where
       (by_read _ _ read (p.known, p.kept), p.taken)
   raw_unmoved (Err e) (not_lent p read named memory depth) =
       (by_read _ _ read p.stays.known, p.stays.taken)
-  raw_unmoved (Err e) (stopped shown l s) = (by_read _ _ s.read l.shows.known, l.shows.taken)
+  raw_unmoved (Err e) (rejected shown l s) = (by_read _ _ s.read l.shows.known, l.shows.taken)
 
   -- the error is of the bytes, and nothing is taken
   stop : (e : DecodeError E) → NotCaptured a b e → (xs : List ℕ) → a.known ≡ Some xs
@@ -237,7 +237,7 @@ module _ {V E : Type 0} (content : V → List ℕ) (a b : View) where
   stop e (failed p read none memory depth) xs known = says_none _ (Stops a b xs) none
   stop e (not_lent p read named memory depth) xs known =
       says (Stops a b xs) named (p.stays.known xs known, inl (refl, p.some xs known, p.short))
-  stop e (stopped shown l s) xs known =
+  stop e (rejected shown l s) xs known =
       if_some _ _ (Stops a b xs) (λ z h. (
         l.shows.known xs known,
         inr (shown, l.prefix xs known, h),
@@ -284,7 +284,7 @@ module _ {V E : Type 0} (content : V → List ℕ) (a b : View) where
   exact_stop e (failed p read none memory depth) exact xs known =
       says_none _ (ExactStops a b xs) none
   exact_stop e (not_lent p read named memory depth) exact xs known = absurd (is_short a b p exact)
-  exact_stop e (stopped shown l s) exact xs known = if_some _ _ (ExactStops a b xs) (λ z h. (
+  exact_stop e (rejected shown l s) exact xs known = if_some _ _ (ExactStops a b xs) (λ z h. (
     l.shows.known xs known,
     (
       h.0,

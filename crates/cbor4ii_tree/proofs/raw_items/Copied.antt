@@ -86,7 +86,7 @@ module _ {E : Type 0} (a b : View) where
     decodes = copy_decodes r c;
     unmoved = copy_unmoved r c;
     errs = copy_rejected r c;
-    trailing = copy_after r c;
+    after_item = copy_after r c;
     whole = copy_whole r c;
     exact = copy_exact r c;
   }

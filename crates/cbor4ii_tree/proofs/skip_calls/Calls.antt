@@ -3,7 +3,7 @@ use Rattle.std.proofs.Common.{◌≡◌, ◌≢◌, ℕ, List, [], ◌∷◌, Ok
 use Rattle.cbor4ii_rw.specs.{View.View, declared.error.DecodeError.DecodeError}
 use Rattle.cbor4ii_items.specs.{Decoding.{Sound, Rejects}, Head.break, Moves.Moves}
 use Rattle.cbor4ii_items.specs.Strings.{ReadsBreak, RejectsBreak}
-use Rattle.cbor4ii_tree.specs.{InputError.{break_name, eof, Small}, Rejections.Stopping}
+use Rattle.cbor4ii_tree.specs.{InputError.{break_name, eof, Small}, Rejections.Rejection}
 use Rattle.cbor4ii_tree.specs.{Cost.Budget, Does.{Accepting, Does}}
 use Rattle.cbor4ii_tree.proofs.skip_calls.Doing.{Reached, reached_then, does_err, does_rejects}
 use Rattle.cbor4ii_tree.proofs.skip_calls.{Doing.reached_sound, Parts.{IsOther, after_break}}
@@ -35,7 +35,7 @@ module _ (P : Budget → List ℕ → List ℕ → Type 0) {a m : View} (p : Rea
       ReadsBreak xs z n c) is r)) moves s)
 
   -- neither
-  pub at_end : {U E : Type 0} (B : Accepting U) (T : Stopping) {e : DecodeError E} {b : View}
+  pub at_end : {U E : Type 0} (B : Accepting U) (T : Rejection) {e : DecodeError E} {b : View}
       → ((xs ys : List ℕ) → P a.budget xs ys → ys ≡ [] → T xs (eof break_name (Small 1)) [])
       → Moves {V = Bool} m b (Err e) → Rejects RejectsBreak m b e → Does {V = U} B T a b (Err e)
   at_end B T f moves s =

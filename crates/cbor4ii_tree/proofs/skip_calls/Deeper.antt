@@ -16,9 +16,9 @@ use Rattle.cbor4ii_tree.specs.{Ahead.TakesHead}
 use Rattle.cbor4ii_tree.specs.Ahead.{SkipsSome, RejectsSome, RejectsSomeUnder, GoesUnder}
 use Rattle.cbor4ii_tree.specs.{Ahead.{CountsSome, CountsNone, CountsWent}, Cost.{Budget, step_in}}
 use Rattle.cbor4ii_tree.specs.{Deeper.{Deeper, GoesOn, budgeted}, Does.{Accepting, Does, DoesApart}}
-use Rattle.cbor4ii_tree.specs.{Does.{DoesUnder, Lowers, Taking}, Rejections.Stopping}
+use Rattle.cbor4ii_tree.specs.{Does.{DoesUnder, Lowers, Taking}, Rejections.Rejection}
 use Rattle.cbor4ii_tree.specs.declared.skip.items.Went.TheVariants.{Into}
-use Rattle.cbor4ii_tree.specs.declared.skip.initial.After.TheVariants as trailing
+use Rattle.cbor4ii_tree.specs.declared.skip.initial.After.TheVariants as after
 use Rattle.cbor4ii_tree.specs.declared.ahead.Among.TheVariants as among
 
 -- ---- steps that are kept
@@ -62,21 +62,21 @@ pub alike_without : (s : Budget) (v : View) → KeepsAllButBudget (budgeted s v)
 alike_without s v = alike_both s v.budget v
 
 -- what leads from one view to another leads so under any budget
-does_budgeted : {V E : Type 0} (s : Budget) (A : Accepting V) (S : Stopping)
+does_budgeted : {V E : Type 0} (s : Budget) (A : Accepting V) (S : Rejection)
     {r : Result V (DecodeError E)} {m : View} (n : View) → (s ≡ None → m.budget ≡ None)
     → Does A S m (budgeted m.budget n) r → Does A S (budgeted s m) (budgeted s n) r
 does_budgeted s A S {m = m} n unbound d =
     does_between A S (alike_without s m) (alike_both m.budget s n) unbound (λ same. refl) d
 
 -- its own budget is given back, or left out
-pub does_back : {V E : Type 0} (A : Accepting V) (S : Stopping) {r : Result V (DecodeError E)}
+pub does_back : {V E : Type 0} (A : Accepting V) (S : Rejection) {r : Result V (DecodeError E)}
     {a b c : View} → KeepsAllButBudget b c → c.budget ≡ a.budget
     → Does A S a (budgeted a.budget b) r → Does A S a c r
 does_back A S {a = a} {b = b} outward restored d =
     does_between A S (keeps_alike a a refl)
     (keeps_then (alike_without a.budget b) outward) (λ none. none) (λ same. restored) d
 
-does_without : {V E : Type 0} (A : Accepting V) (S : Stopping) {r : Result V (DecodeError E)}
+does_without : {V E : Type 0} (A : Accepting V) (S : Rejection) {r : Result V (DecodeError E)}
     {a b : View} → Does A S a b r → Does A S a (budgeted a.budget b) r
 does_without A S {a = a} {b = b} d =
     does_between A S (keeps_alike a a refl)
@@ -103,7 +103,7 @@ goes_past total left some budget inner xs ys same sum h = record {
 
 -- the head of the last was taken
 goes_into : (total n : ℕ) (budget between inner : Budget) (xs ys : List ℕ) → total ≡ 1
-    → inner ≡ between → step_in budget ≡ Some between → TakesHead between xs (trailing.Items n) ys
+    → inner ≡ between → step_in budget ≡ Some between → TakesHead between xs (after.Items n) ys
     → GoesOn total inner budget xs n ys
 goes_into total n budget between inner xs ys last same step h = record {
   skips = λ rest s. subst (λ k. SkipsItems k budget xs rest) (sym last) (items_one budget xs rest

@@ -13,7 +13,7 @@ use Rattle.cbor4ii_items.specs.Laws.{Steps.{kept_then, counted_none}, UnderStep.
 use Rattle.cbor4ii_items.specs.{Laws.UnderStep.{step_unbound, moves_around, no_step}, Moves.Kept}
 use Rattle.cbor4ii_items.specs.Moves.{Moves, is_failure}
 use Rattle.cbor4ii_tree.specs.{Cost.{Budget, step_in}, Does.{Accepting, Does, DoesApart, DoesUnder}}
-use Rattle.cbor4ii_tree.specs.{Does.{Spares, Lowers}, Rejections.Stopping}
+use Rattle.cbor4ii_tree.specs.{Does.{Spares, Lowers}, Rejections.Rejection}
 
 -- Some calls went well: what was taken is reported by P.
 pub record Reached (P : List ℕ → List ℕ → Type 0) (a m : View) : Type 0 where
@@ -24,7 +24,7 @@ pub reached_start : (P : List ℕ → List ℕ → Type 0) (a : View) → ((xs :
     → Reached P a a
 reached_start P a p = record { kept = kept_alike a; at = λ xs known. (xs, known, p xs) }
 
-pub reached_by : {V E : Type 0} {A : Accepting V} {S : Stopping} {a m : View} {v : V}
+pub reached_by : {V E : Type 0} {A : Accepting V} {S : Rejection} {a m : View} {v : V}
     → Does {E = E} A S a m (Ok v) → Reached (λ xs ys. A xs v ys) a m
 reached_by d = record { kept = d.moves.by; at = d.ok }
 
@@ -43,7 +43,7 @@ pub reached_as : (P Q : List ℕ → List ℕ → Type 0) {a m : View}
 reached_as P Q f p =
     record { kept = p.kept; at = λ xs known. let s = p.at xs known in (s.0, s.1, f xs s.0 s.2) }
 
-pub does_ok : {V E : Type 0} (A : Accepting V) (S : Stopping) {a b : View} {v : V}
+pub does_ok : {V E : Type 0} (A : Accepting V) (S : Rejection) {a b : View} {v : V}
     → Reached (λ xs ys. A xs v ys) a b → Does {E = E} A S a b (Ok v)
 does_ok A S p = record { moves = record { by = p.kept; depth = λ e. refl }; ok = p.at; err = tt }
 
@@ -56,7 +56,7 @@ error_as (Some z) P Q same f h = (h.0, same ∙ h.1, f z h.0 h.2)
 
 -- what is left to do was rejected
 pub does_err : {U V E : Type 0} (P : List ℕ → List ℕ → Type 0) (A : Accepting U) (B : Accepting V)
-    (S T : Stopping) {e : DecodeError E} {a m b : View}
+    (S T : Rejection) {e : DecodeError E} {a m b : View}
     → ((xs ys : List ℕ) (z : InputError) (rest : List ℕ) → P xs ys → S ys z rest → T xs z rest)
     → Reached P a m → Does {V = U} A S m b (Err e) → Does {V = V} B T a b (Err e)
 does_err P A B S T {e = e} g p d = record {
@@ -74,7 +74,7 @@ with f (Err e) = Err e
 
 -- what is left to do was tried
 pub does_with : {U V E : Type 0} (f : U → V) (P : List ℕ → List ℕ → Type 0) (A : Accepting U)
-    (B : Accepting V) (S T : Stopping) {r : Result U (DecodeError E)} {a m b : View}
+    (B : Accepting V) (S T : Rejection) {r : Result U (DecodeError E)} {a m b : View}
     → ((xs ys zs : List ℕ) (u : U) → P xs ys → A ys u zs → B xs (f u) zs)
     → ((xs ys : List ℕ) (e : InputError) (rest : List ℕ) → P xs ys → S ys e rest → T xs e rest)
     → Reached P a m → Does A S m b r → Does B T a b (with f r)
@@ -84,14 +84,14 @@ does_with f P A B S T {r = Ok u} g h p d =
 does_with f P A B S T {r = Err e} g h p d = does_err P A B S T h p d
 
 pub does_after : {V E : Type 0} (P : List ℕ → List ℕ → Type 0) (A B : Accepting V)
-    (S T : Stopping) {r : Result V (DecodeError E)} {a m b : View} → ((xs ys zs : List ℕ) (v : V)
+    (S T : Rejection) {r : Result V (DecodeError E)} {a m b : View} → ((xs ys zs : List ℕ) (v : V)
     → P xs ys → A ys v zs → B xs v zs) → ((xs ys : List ℕ) (e : InputError) (rest : List ℕ)
     → P xs ys → S ys e rest → T xs e rest) → Reached P a m → Does A S m b r → Does B T a b r
 does_after P A B S T {r = Ok v} f g p d = does_with (λ v. v) P A B S T f g p d
 does_after P A B S T {r = Err e} f g p d = does_err P A B S T g p d
 
 -- what was rejected, reported in other words
-pub still_rejected : {U V E : Type 0} (A : Accepting U) (B : Accepting V) (S T : Stopping)
+pub still_rejected : {U V E : Type 0} (A : Accepting U) (B : Accepting V) (S T : Rejection)
     {e : DecodeError E} {a b : View} → ((xs : List ℕ) (z : InputError) (rest : List ℕ) → S xs z rest
     → T xs z rest) → Does {V = U} A S a b (Err e) → Does {V = V} B T a b (Err e)
 still_rejected A B S T {e = e} f d = record {
@@ -100,7 +100,7 @@ still_rejected A B S T {e = e} f d = record {
   err = λ xs known. error_as (input_error_of e) (S xs) (T xs) refl (f xs) (d.err xs known);
 }
 
-pub refused : {U V E : Type 0} {A : Accepting U} {B : Accepting V} {S : Stopping}
+pub refused : {U V E : Type 0} {A : Accepting U} {B : Accepting V} {S : Rejection}
     {e : DecodeError E} {a b : View} → Does {V = U} A S a b (Err e) → Does {V = V} B S a b (Err e)
 refused {A = A} {B = B} {S = S} d = still_rejected A B S S (λ xs z rest h. h) d
 
@@ -110,7 +110,7 @@ pub says : {o : Option InputError} {z : InputError} (P : InputError → Type 0) 
 says P e h = subst (λ o. IfSome o P) (sym e) h
 
 -- an error that speaks of the bytes; without a budget no step is lacking
-pub does_reject_by : {V E : Type 0} (P : List ℕ → List ℕ → Type 0) (B : Accepting V) (T : Stopping)
+pub does_reject_by : {V E : Type 0} (P : List ℕ → List ℕ → Type 0) (B : Accepting V) (T : Rejection)
     (z : InputError) {e : DecodeError E} {a b : View} → input_error_of e ≡ Some z
     → is_read e ≡ false → (a.budget ≡ None → is_depth_overflow e ≡ false)
     → ((xs ys : List ℕ) → P xs ys → T xs z ys) → Reached P a b → Does {V = V} B T a b (Err e)
@@ -121,7 +121,7 @@ does_reject_by P B T z {e = e} {a = a} {b = b} is read shallow f p = record {
       says (λ z. (ys : List ℕ) × (b.known ≡ Some ys) × T xs z ys) is (s.0, s.1, f xs s.0 s.2);
 }
 
-pub does_reject : {V E : Type 0} (P : List ℕ → List ℕ → Type 0) (B : Accepting V) (T : Stopping)
+pub does_reject : {V E : Type 0} (P : List ℕ → List ℕ → Type 0) (B : Accepting V) (T : Rejection)
     (z : InputError) {e : DecodeError E} {a b : View} → input_error_of e ≡ Some z
     → is_read e ≡ false → is_depth_overflow e ≡ false → ((xs ys : List ℕ) → P xs ys → T xs z ys)
     → Reached P a b → Does {V = V} B T a b (Err e)
@@ -137,7 +137,7 @@ does_rejects A S moves s = record { moves = moves; ok = tt; err = s.at }
 
 -- the same of another value, by what it is to fail there
 pub call_rejects : {U V E : Type 0} (B : Accepting V) (S : List ℕ → Option ℕ → InputError → List ℕ
-    → Type 0) (T : Stopping) {e : DecodeError E} {a c : View}
+    → Type 0) (T : Rejection) {e : DecodeError E} {a c : View}
     → ((xs : List ℕ) (z : InputError) (rest : List ℕ) → S xs a.budget z rest → T xs z rest)
     → Moves {V = U} a c (Err e) → Rejects S a c e → Does {V = V} B T a c (Err e)
 call_rejects {U = U} B S T {a = a} f moves s =
@@ -210,7 +210,8 @@ moves_between {r = r} inward outward unbound restored m = record {
   depth = λ none. m.depth (unbound none);
 }
 
-pub does_around : {V E : Type 0} (A B : Accepting V) (S T : Stopping) {r : Result V (DecodeError E)}
+pub does_around : {V E : Type 0} (A B : Accepting V) (S T : Rejection) {r : Result V
+    (DecodeError E)}
     {a b c d : View} → ((xs ys : List ℕ) (v : V) → A xs v ys → B xs v ys)
     → ((xs : List ℕ) (e : InputError) (rest : List ℕ) → S xs e rest → T xs e rest)
     → KeepsAllButBudget a b → KeepsAllButBudget c d → (a.budget ≡ None → b.budget ≡ None)
@@ -229,13 +230,13 @@ does_around A B S T {r = Err e} f g inward outward unbound restored w = record {
 }
 
 -- the same is said of it
-pub does_between : {V E : Type 0} (A : Accepting V) (S : Stopping) {r : Result V (DecodeError E)}
+pub does_between : {V E : Type 0} (A : Accepting V) (S : Rejection) {r : Result V (DecodeError E)}
     {a b c d : View} → KeepsAllButBudget a b → KeepsAllButBudget c d → (a.budget ≡ None → b.budget
     ≡ None) → (c.budget ≡ b.budget → d.budget ≡ a.budget) → Does A S b c r → Does A S a d r
 does_between A S = does_around A A S S (λ xs ys v h. h) (λ xs e rest h. h)
 
 -- a call under one step
-pub does_stepped : {V E : Type 0} (A B : Accepting V) (S T : Stopping) {r : Result V
+pub does_stepped : {V E : Type 0} (A B : Accepting V) (S T : Rejection) {r : Result V
     (DecodeError E)} {a b c d : View} → ((xs ys : List ℕ) (v : V) → A xs v ys → B xs v ys)
     → ((xs : List ℕ) (e : InputError) (rest : List ℕ) → S xs e rest → T xs e rest)
     → StepsIn a.budget b.budget true → KeepsAllButBudget a b → Does A S b c r
@@ -257,7 +258,7 @@ kept_budget a b k same = record {
 }
 
 -- no step is left
-pub does_no_step : {V E : Type 0} (name : List ℕ) (A : Accepting V) (T : Stopping)
+pub does_no_step : {V E : Type 0} (name : List ℕ) (A : Accepting V) (T : Rejection)
     {e : DecodeError E} {a b : View} → input_error_of e ≡ Some (depth_overflow name)
     → is_read e ≡ false → (a.budget ≡ Some 0 → (xs : List ℕ) → T xs (depth_overflow name) xs)
     → StepsIn a.budget b.budget false → KeepsAllButBudget a b → Does {V = V} A T a b (Err e)
@@ -268,7 +269,7 @@ does_no_step name A T {a = a} {b = b} is read f takes k =
     xs)) (record { kept = kept_budget a b k n.1; at = λ xs known. (xs, k.known ∙ known, refl) })
 
 -- there was no memory
-pub does_no_memory : {V E : Type 0} (A : Accepting V) (S : Stopping) {e : DecodeError E}
+pub does_no_memory : {V E : Type 0} (A : Accepting V) (S : Rejection) {e : DecodeError E}
     {a b : View} → e ≡ OutOfMemory → Kept a b → Does {V = V} A S a b (Err e)
 does_no_memory {V = V} {E = E} A S {a = a} {b = b} is p =
     subst (λ (z : DecodeError E). Does {V = V} A S a b (Err z)) (sym is)
@@ -287,7 +288,7 @@ module _ {P : List ℕ → List ℕ → Type 0} {a m b : View} (p : Reached P a 
 
   -- it was tried
   pub does_on : {U V E : Type 0} (f : U → V) (A : Budget → Accepting U) {B : Accepting V}
-      (S : Budget → Stopping) {T : Stopping} {r : Result U (DecodeError E)}
+      (S : Budget → Rejection) {T : Rejection} {r : Result U (DecodeError E)}
       → ((xs ys zs : List ℕ) (u : U) → P xs ys → A a.budget ys u zs → B xs (f u) zs)
       → ((xs ys : List ℕ) (z : InputError) (rest : List ℕ) → P xs ys → S a.budget ys z rest
       → T xs z rest) → DoesUnder A S m b r → Does B T a b (with f r)
@@ -297,8 +298,8 @@ module _ {P : List ℕ → List ℕ → Type 0} {a m b : View} (p : Reached P a 
       (λ xs ys z rest k s. h xs ys z rest k (subst (λ o. S o ys z rest) p.kept.budget s)) p d
 
   -- it was rejected
-  pub stops_on : {U V E : Type 0} {A : Accepting U} {B : Accepting V} (S : Budget → Stopping)
-      {T : Stopping} {e : DecodeError E}
+  pub stops_on : {U V E : Type 0} {A : Accepting U} {B : Accepting V} (S : Budget → Rejection)
+      {T : Rejection} {e : DecodeError E}
       → ((xs ys : List ℕ) (z : InputError) (rest : List ℕ) → P xs ys → S a.budget ys z rest
       → T xs z rest) → Does {V = U} A (S m.budget) m b (Err e) → Does {V = V} B T a b (Err e)
   stops_on {A = A} {B = B} S {T = T} h d =
@@ -306,14 +307,14 @@ module _ {P : List ℕ → List ℕ → Type 0} {a m b : View} (p : Reached P a 
       (λ xs ys z rest k s. h xs ys z rest k (subst (λ o. S o ys z rest) p.kept.budget s)) p d
 
 -- the value is known
-pub does_value : {V E : Type 0} {A : Accepting V} {S : Stopping} {v w : V} {a b : View} → v ≡ w
+pub does_value : {V E : Type 0} {A : Accepting V} {S : Rejection} {v w : V} {a b : View} → v ≡ w
     → Does {E = E} A S a b (Ok v) → Does {E = E} A S a b (Ok w)
 does_value {E = E} {A = A} {S = S} {a = a} {b = b} is d =
     subst (λ v. Does {E = E} A S a b (Ok v)) is d
 
 -- ---- over lent bytes, too
 
-module _ {V E : Type 0} {A : Budget → Accepting V} {S : Budget → Stopping} {G : ℕ → ℕ → V → Type 0}
+module _ {V E : Type 0} {A : Budget → Accepting V} {S : Budget → Rejection} {G : ℕ → ℕ → V → Type 0}
     {t : Bool} {o i a b : View} where
   -- by a call that moves no reader apart
   pub apart_leaf : {r : Result V (DecodeError E)} → DoesUnder A S a b r → Spares r
@@ -328,7 +329,7 @@ module _ {V E : Type 0} {A : Budget → Accepting V} {S : Budget → Stopping} {
 
 -- what was tried ends a call
 pub apart_with : {U V E : Type 0} (f : U → V) {A : Budget → Accepting U} {B : Budget → Accepting V}
-    {S T : Budget → Stopping} {G : ℕ → ℕ → U → Type 0} {H : ℕ → ℕ → V → Type 0} {t : Bool}
+    {S T : Budget → Rejection} {G : ℕ → ℕ → U → Type 0} {H : ℕ → ℕ → V → Type 0} {t : Bool}
     {o p i a m b c : View} {r : Result U (DecodeError E)} → DoesUnder B T a c (with f r)
     → IfOk (with f r) (H a.bound c.bound) → (IsTrue t → KeepsAllButBudget o p)
     → DoesApart A S G t p i m b r → DoesApart B T H t o i a c (with f r)
@@ -346,7 +347,7 @@ apart_with f {r = Err e} does gains before d = record {
 }
 
 -- a call that answers the same
-pub apart_on : {V E : Type 0} {A B : Budget → Accepting V} {S T : Budget → Stopping}
+pub apart_on : {V E : Type 0} {A B : Budget → Accepting V} {S T : Budget → Rejection}
     {G H : ℕ → ℕ → V → Type 0} {t : Bool} {o p i a m b : View} {r : Result V (DecodeError E)}
     → DoesUnder B T a b r → IfOk r (H a.bound b.bound) → (IsTrue t → KeepsAllButBudget o p)
     → DoesApart A S G t p i m b r → DoesApart B T H t o i a b r
@@ -358,7 +359,8 @@ apart_on does gains before d = record {
 }
 
 -- what is said of the bound, in other words
-pub apart_gains : {V E : Type 0} {A : Budget → Accepting V} {S : Budget → Stopping} {G H : ℕ → ℕ → V
+pub apart_gains : {V E : Type 0} {A : Budget → Accepting V} {S : Budget → Rejection} {G H : ℕ → ℕ
+    → V
     → Type 0} {t : Bool} {o i a b : View} {r : Result V (DecodeError E)} → ((v : V) → G a.bound
     b.bound v → H a.bound b.bound v) → DoesApart A S G t o i a b r → DoesApart A S H t o i a b r
 apart_gains {r = Ok v} f d = apart_on d.does (f v d.gains) stays_put d

@@ -4,7 +4,7 @@ use Rattle.std.proofs.Common.{refl, sym, ◌∙◌, subst}
 use Rattle.cbor4ii_rw.specs.{View.View, Reader.Advances, declared.error.DecodeError.DecodeError}
 use Rattle.cbor4ii_items.specs.{Initial.initial, InputError.{InputError, input_error_of, is_read}}
 use Rattle.cbor4ii_items.specs.InputError.{is_depth_overflow}
-use Rattle.cbor4ii_tree.specs.{Cost.Budget, Rejections.Stopping, Does.{Accepting, Does}}
+use Rattle.cbor4ii_tree.specs.{Cost.Budget, Rejections.Rejection, Does.{Accepting, Does}}
 use Rattle.cbor4ii_tree.specs.{Prefix.{Offers, FirstByteIs}, Skipping.start_of}
 use Rattle.cbor4ii_tree.specs.Skipping.{RejectsSkippingUnder, Leads, TakesFirst, rejection_of, Says}
 use Rattle.cbor4ii_tree.specs.declared.skip.initial.{Start.Start, After.After}
@@ -18,7 +18,7 @@ First b xs ys = xs ≡ b ∷ ys
 
 -- after a first byte that was taken
 module _ {inner : Budget} {b : ℕ} {a c d : View} (first : Reached (First b) a c) {U E : Type 0}
-    {A : Accepting U} {S : Stopping} where
+    {A : Accepting U} {S : Rejection} where
   pub first_err : {e : DecodeError E} → ((bs : List ℕ) (z : InputError) (rest : List ℕ)
       → S bs z rest → RejectsSkippingUnder inner (b ∷ bs) z rest) → Does {V = U} A S c d (Err e)
       → Does {V = After} (Leads inner) (RejectsSkippingUnder inner) a d (Err e)

@@ -18,7 +18,7 @@ use Rattle.cbor4ii_tree.specs.Tree.{array_indefinite, map_of, map_indefinite, ta
 use Rattle.cbor4ii_tree.specs.Tree.{count, pair_count, bytes, bytes_all, bytes_pairs, Loose}
 use Rattle.cbor4ii_tree.specs.Cost.{Budget, skip_cost, greatest_skip_cost, greatest_pair_skip_cost}
 use Rattle.cbor4ii_tree.specs.{InputError.{InputError, tag_name, ignored_any}, Rejections.Missing}
-use Rattle.cbor4ii_tree.specs.Rejections.{Stopping, AtHead, RejectsAtStep}
+use Rattle.cbor4ii_tree.specs.Rejections.{Rejection, AtHead, RejectsAtStep}
 use Rattle.cbor4ii_tree.specs.SkippingRejects.{Skippable, SkippingRejectsBy, SkippingRejects}
 use Rattle.cbor4ii_tree.specs.{SkippingRejects.SkippingRejectsFrom, HeadParts.ArgumentAt}
 use Rattle.cbor4ii_tree.specs.{HeadParts.{ArgumentBy, CutBy, DropsBytes, NoByte}, Runs.TakesLeaf}
@@ -328,7 +328,7 @@ module _ (inner : Budget) (b : ℕ) (small : b < 256) where
 
   -- by a head with an argument
   headed : (i : Initial) (name : List ℕ) (major : ℕ) (w : Width) (lead : ℕ → After) (S : ℕ
-      → Stopping) → initial b ≡ i → HeadByte major w b → ((bs : List ℕ) (e : InputError)
+      → Rejection) → initial b ≡ i → HeadByte major w b → ((bs : List ℕ) (e : InputError)
       (rest : List ℕ) → AtHead name major w b S bs e rest → SkippingRejectsBy (λ part.
       SkippingRejects part inner) inner i b bs e rest) → ((n : ℕ) (ys : List ℕ) (e : InputError)
       (rest : List ℕ) → RejectsSkippingAfter (lead n) inner ys e rest → S n ys e rest)
@@ -347,7 +347,7 @@ module _ (inner : Budget) (b : ℕ) (small : b < 256) where
                 after = ys;
                 fits = a.fits;
                 is = here;
-                stopped = f n ys e rest s;
+                rejected = f n ys e rest s;
               })));
             },
       )

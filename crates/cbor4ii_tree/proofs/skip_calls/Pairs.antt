@@ -65,7 +65,7 @@ keyed_stop false budget xs ys e rest (n, even, k) s =
       after = ys;
       whole = r.2;
       is = k.3 ∙ ap (λ x. x ++ ys) (sym r.3);
-      stopped = inl s;
+      rejected = inl s;
     }
 keyed_stop true budget xs ys e rest (n, odd, k) s =
     let r = odd_pairs (Skippable budget) (n / 2) k.0 (omega (arith, k.1, odd)) k.2 in record {
@@ -73,5 +73,5 @@ keyed_stop true budget xs ys e rest (n, odd, k) s =
       after = bytes r.1 ++ ys;
       whole = r.2;
       is = k.3 ∙ ap (λ x. x ++ ys) r.4 ∙ append_assoc (bytes_pairs r.0) (bytes r.1) ys;
-      stopped = inr (record { key = r.1; after = ys; whole = r.3; is = refl; stopped = s });
+      rejected = inr (record { key = r.1; after = ys; whole = r.3; is = refl; rejected = s });
     }

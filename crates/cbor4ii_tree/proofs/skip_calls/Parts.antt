@@ -9,7 +9,7 @@ use Rattle.cbor4ii_tree.specs.Skipping.{SkipsOne, RejectsSkippingOne}
 use Rattle.cbor4ii_tree.specs.Skipping.{SkipsItems, RejectsSkippingItems, SkipsIndefinite}
 use Rattle.cbor4ii_tree.specs.Skipping.{RejectsSkippingIndefinite}
 use Rattle.cbor4ii_tree.specs.{SkippingRejects.Skippable, Cost.Budget, InputError.InputError}
-use Rattle.cbor4ii_tree.specs.{Ahead.NotBreak, Rejections.{Stopping, Each, NoBreak}}
+use Rattle.cbor4ii_tree.specs.{Ahead.NotBreak, Rejections.{Rejection, Each, NoBreak}}
 use Rattle.cbor4ii_tree.specs.Tree.{Trees, no_trees, tree, count, bytes, bytes_all}
 
 -- whole items
@@ -61,7 +61,7 @@ pub items_later : (n m total : ℕ) (budget : Budget) (xs ys : List ℕ) (e : In
 items_later n m total budget xs ys e rest sum h k =
     in_count (join h.0 k.prefix) k.after (omega (arith, count-join h.0 k.prefix, h.1, k.few, sum))
     (each-join (Skippable budget) h.0 k.prefix h.2 k.whole) (h.3 ∙ ap (λ r. bytes_all h.0 ++ r) k.is
-    ∙ sym (bytes-join h.0 k.prefix k.after)) k.stopped
+    ∙ sym (bytes-join h.0 k.prefix k.after)) k.rejected
 
 pub first_stop : (n : ℕ) (budget : Budget) (xs : List ℕ) (e : InputError) (rest : List ℕ) → 1 ≤ n
     → RejectsSkippingOne budget xs e rest → RejectsSkippingItems n budget xs e rest
@@ -84,14 +84,14 @@ only_one budget xs ys (tree t (tree u us), c, w, is) = absurd (omega (arith, c))
 -- the first of one is rejected
 pub first_of : (budget : Budget) (xs : List ℕ) (e : InputError) (rest : List ℕ)
     → RejectsSkippingItems 1 budget xs e rest → RejectsSkippingOne budget xs e rest
-first_of budget xs e rest h = at_front h.prefix h.few h.is
+first_of budget xs e rest h = at_first h.prefix h.few h.is
   where
-    at_front : (ts : Trees) → count ts < 1 → xs ≡ bytes_all ts ++ h.after
+    at_first : (ts : Trees) → count ts < 1 → xs ≡ bytes_all ts ++ h.after
         → RejectsSkippingOne budget xs e rest
-    at_front no_trees f is = subst (λ x. RejectsSkippingOne budget x e rest) (sym is) h.stopped
-    at_front (tree t ts) f is = absurd (omega (arith, f))
+    at_first no_trees f is = subst (λ x. RejectsSkippingOne budget x e rest) (sym is) h.rejected
+    at_first (tree t ts) f is = absurd (omega (arith, f))
 
-pub no_break : (S : Stopping) (ys : List ℕ) (e : InputError) (rest : List ℕ) → NotBreak ys
+pub no_break : (S : Rejection) (ys : List ℕ) (e : InputError) (rest : List ℕ) → NotBreak ys
     → S ys e rest → NoBreak S ys e rest
 no_break S [] e rest other s = absurd (other.0 refl)
 no_break S (b ∷ bs) e rest other s = ((λ f. other.1 bs (ap (λ c. c ∷ bs) f)), s)
@@ -100,7 +100,7 @@ pub indefinite_stop : (budget : Budget) (xs ys : List ℕ) (e : InputError) (res
     → SkippedEach budget xs ys → NoBreak (RejectsSkippingOne budget) ys e rest
     → RejectsSkippingIndefinite budget xs e rest
 indefinite_stop budget xs ys e rest h s =
-    record { prefix = h.0; after = ys; whole = h.1; is = h.2; stopped = s }
+    record { prefix = h.0; after = ys; whole = h.1; is = h.2; rejected = s }
 
 pub indefinite_done : (budget : Budget) (xs ys zs : List ℕ) → SkippedEach budget xs ys
     → ys ≡ break ∷ zs → SkipsIndefinite budget xs zs

@@ -19,11 +19,11 @@ use Rattle.cbor4ii_tree.proofs.skip_calls.Bytes.{len_is}
 
 -- ---- the next byte
 
-front : (b : ℕ) (shown xs : List ℕ) → FirstByteIs b shown → take (length shown) xs ≡ shown
+begins_so : (b : ℕ) (shown xs : List ℕ) → FirstByteIs b shown → take (length shown) xs ≡ shown
     → (rest : List ℕ) × (xs ≡ b ∷ rest)
-front b [] xs f h = absurd (f.0 refl)
-front b (s ∷ ss) [] f h = cc
-front b (s ∷ ss) (x ∷ xs) f h = let e : x ≡ s = cc in (xs, ap (λ z. z ∷ xs) (e ∙ sym f.1))
+begins_so b [] xs f h = absurd (f.0 refl)
+begins_so b (s ∷ ss) [] f h = cc
+begins_so b (s ∷ ss) (x ∷ xs) f h = let e : x ≡ s = cc in (xs, ap (λ z. z ∷ xs) (e ∙ sym f.1))
 
 one_byte : (b : ℕ) (shown : List ℕ) → FirstByteIs b shown → IsBytes (take 1 shown)
 one_byte b [] f = tt
@@ -34,7 +34,7 @@ module _ {want b : ℕ} {a m : View} (o : Offers want (FirstByteIs b) a m) where
   byte_stays = record {
     kept = shows_kept o.shows;
     at = λ xs known.
-        let f = front b o.shown xs o.is (o.prefix xs known).begins in
+        let f = begins_so b o.shown xs o.is (o.prefix xs known).begins in
         (xs, o.shows.known xs known, (refl, f.0, f.1));
   }
 
@@ -44,7 +44,7 @@ module _ {want b : ℕ} {a m : View} (o : Offers want (FirstByteIs b) a m) where
       let l = lends_prefix o.shows o.prefix some (one_byte b o.shown o.is) refl adv in record {
         kept = l.kept;
         at = λ xs known.
-            let f = front b o.shown xs o.is (o.prefix xs known).begins in
+            let f = begins_so b o.shown xs o.is (o.prefix xs known).begins in
             (f.0, (l.at xs known).1 ∙ ap (λ (zs : List ℕ). Some (drop 1 zs)) f.1, f.1);
       }
 

@@ -10,7 +10,7 @@ use Rattle.cbor4ii_rw.specs.declared.error.DecodeError.{DecodeError, TheVariants
 use Rattle.cbor4ii_items.specs.{Head.break, InputError.InputError, Laws.Answering.fits_zero}
 use Rattle.cbor4ii_items.specs.Laws.UnderStep.{no_step}
 use Rattle.cbor4ii_tree.specs.{InputError.{depth_overflow, ignored_any, break_name}, Cost.Budget}
-use Rattle.cbor4ii_tree.specs.{Rejections.{Stopping, NoBreak}, Does.{Accepting, Does, DoesUnder}}
+use Rattle.cbor4ii_tree.specs.{Rejections.{Rejection, NoBreak}, Does.{Accepting, Does, DoesUnder}}
 use Rattle.cbor4ii_tree.specs.{Does.{DoesApart, Lowers, MayStay, Taking}, HeadParts.TakesByte}
 use Rattle.cbor4ii_tree.specs.{HeadParts.NoByte, Prefix.{Offers, FirstByteIs}, Skipping.SkipsOne}
 use Rattle.cbor4ii_tree.specs.Skipping.{RejectsSkippingOne, SkipsItems, RejectsSkippingItems}
@@ -125,12 +125,12 @@ module _ {E : Type 0} (among : Among) where
 
     -- it was taken, and no item, under whatever budget
     pub ended : (A : Accepting ℕ) → ((xs ys : List ℕ) → ((budget : Budget) → SkipsSome among budget
-        xs 0 ys) → A xs 0 ys) → (S : Stopping) → Ends a m (Ok true) → Does {E = E} A S a m (Ok 0)
+        xs 0 ys) → A xs 0 ys) → (S : Rejection) → Ends a m (Ok true) → Does {E = E} A S a m (Ok 0)
     ended A f S d =
         does_ok A S (reached_as _ (λ xs ys. A xs 0 ys)
         (λ xs ys k. f xs ys (λ budget. inl (k.0, refl, k.1))) (reached_by d))
 
-    pub cut : (A : Accepting ℕ) (S : Stopping) → ((xs : List ℕ) (z : InputError) (rest : List ℕ)
+    pub cut : (A : Accepting ℕ) (S : Rejection) → ((xs : List ℕ) (z : InputError) (rest : List ℕ)
         → ((budget : Budget) → RejectsSome among budget xs z rest) → S xs z rest)
         → {e : DecodeError E} → Ends a m (Err e) → Does {V = ℕ} A S a m (Err e)
     cut A S f d =
@@ -151,10 +151,10 @@ module _ {E : Type 0} (among : Among) where
         (counts_led among r _ _ _ awaits k.gains d.moves.by.bound) before k
 
     -- no step is left
-    pub stopped_none : {name : Bor (List ℕ)} → a.budget ≡ Some 0 → name.now ≡ ignored_any
+    pub rejected_none : {name : Bor (List ℕ)} → a.budget ≡ Some 0 → name.now ≡ ignored_any
         → Ends a m (Ok false) → Does {V = ℕ} {E = E} (SkipsSome among (Some 0))
         (RejectsSome among (Some 0)) a m (Err (DepthOverflow name))
-    stopped_none {name = name} left named d =
+    rejected_none {name = name} left named d =
         does_reject_by (λ xs ys. EndsOrNot among xs false ys) (SkipsSome among (Some 0))
         (RejectsSome among (Some 0)) (depth_overflow name.now) refl refl (λ none. let
         never : None ≡ Some 0 = sym none ∙ left in cc) (λ xs ys o. subst (λ x. RejectsSome among
@@ -333,7 +333,7 @@ pub once : {E : Type 0} (n : ℕ) {e : DecodeError E} {a b : View}
     → DoesUnder (Taking (SkipsItems (2 * n))) (RejectsSkippingItems (2 * n)) a b (Err e)
 once n d =
     still_rejected _ _ (RejectsSkippingItems n _) _ (λ xs z rest k. in_count k.prefix k.after
-    (omega (arith, k.few)) k.whole k.is k.stopped) d
+    (omega (arith, k.few)) k.whole k.is k.rejected) d
 
 -- ---- one item
 

@@ -1,6 +1,7 @@
 -- Integers beyond 64 bits as the tags that they are written as.
 use Rattle.std.proofs.Common.{◌≡◌, ℕ, zero, suc, ◌+◌, ◌<◌, ◌≤◌, List, [], ◌∷◌, ◌++◌, length, take}
 use Rattle.std.proofs.Common.{get_or, set, ap, ap₂, ◌∙◌, arith, ◌^◌, pos, negsuc, ltb, ltb-true}
+use Rattle.std.proofs.Common.{◌≢◌, ◌⊎◌, inl, inr}
 use Rattle.std.proofs.{Common.refl, lemmas.List.{take_more, take_more_set}}
 use Rattle.cbor4ii_items.specs.{Head.shortest, Initial.{Sign, unsigned, negative}}
 use Rattle.cbor4ii_items.specs.Laws.Heads.{if_cases, shortest_fits}
@@ -48,6 +49,25 @@ members_tagged xs zs i x y in_xs in_zs same h e f =
     rw (take_more_set xs i y in_xs, take_more zs i x in_zs) (members-push (take i xs) (take i zs) y
     (get_or zs i x) h (e ∙ ap (λ (m : Value × Value). with_bignums (view m.0)) same) (f ∙ ap
     (λ (m : Value × Value). with_bignums (view m.1)) same))
+
+-- ---- integers beyond 64 bits
+
+-- what changes one value changes all
+pub items_change : (vs : List Value) (i : ℕ) (d : Value) → i < length vs
+    → with_bignums (view (get_or vs i d)) ≢ view (get_or vs i d)
+    → with_bignums_all (items_view vs) ≢ items_view vs
+items_change [] i d lt n e = absurd (omega arith)
+items_change (v ∷ vs) zero d lt n e = n (cc)
+items_change (v ∷ vs) (suc i) d lt n e = items_change vs i d (omega arith) n (cc)
+
+pub members_change : (ms : List (Value × Value)) (i : ℕ) (d : Value × Value) → i < length ms
+    → (with_bignums (view (get_or ms i d).0) ≢ view (get_or ms i d).0)
+    ⊎ (with_bignums (view (get_or ms i d).1) ≢ view (get_or ms i d).1)
+    → with_bignums_members (members_view ms) ≢ members_view ms
+members_change [] i d lt n e = absurd (omega arith)
+members_change (m ∷ ms) zero d lt (inl n) e = n (cc)
+members_change (m ∷ ms) zero d lt (inr n) e = n (cc)
+members_change (m ∷ ms) (suc i) d lt n e = members_change ms i d (omega arith) n (cc)
 
 -- ---- each part is smaller than the whole
 

@@ -1,22 +1,22 @@
 -- What a look has shown of the value that comes next: its first byte, and the heads of arrays, maps
 -- and tags.
-use Rattle.std.proofs.Common.{Bool, ◌≡◌, ℕ, ◌/◌, ◌<◌, List, [], ◌∷◌, ◌++◌, length, take, drop}
-use Rattle.std.proofs.Common.{take-append-drop, true, Some, IfSome, IsTrue, Result, refl, sym, ap}
-use Rattle.std.proofs.Common.{◌∙◌, subst, arith}
+use Rattle.std.proofs.Common.{Bool, ◌≡◌, ℕ, ◌+◌, ◌/◌, ◌<◌, ◌≤◌, List, [], ◌∷◌, ◌++◌, length, take}
+use Rattle.std.proofs.Common.{drop, take-append-drop, true, Some, IfSome, IsTrue, Result, refl, sym}
+use Rattle.std.proofs.Common.{ap, ◌∙◌, subst, arith}
 use Rattle.cbor4ii_rw.specs.Reader.{Advances, KeepsAllButBudget, StepsIn}
 use Rattle.cbor4ii_rw.specs.{View.View, declared.error.DecodeError.DecodeError}
 use Rattle.cbor4ii_items.specs.{Head.{IsBytes, head}, Laws.Contents.lends_prefix}
 use Rattle.cbor4ii_items.specs.Laws.Running.{kept_alike, shows_kept}
-use Rattle.cbor4ii_tree.specs.{Cost.Budget, Deeper.budgeted, Rejections.Stopping, Valuing.HeadAt}
+use Rattle.cbor4ii_tree.specs.{Cost.Budget, Deeper.budgeted, Rejections.Rejection, Valuing.HeadAt}
 use Rattle.cbor4ii_tree.specs.{declared.leaf.Head.Head, Does.{Accepting, Does}}
-use Rattle.cbor4ii_tree.specs.Leaf.{HeadStands, ShowsFirst, ShowsNext}
+use Rattle.cbor4ii_tree.specs.Leaf.{CanTake, HeadStands, ShowsFirst, ShowsNext}
 use Rattle.cbor4ii_tree.specs.declared.leaf.Next.{Next}
 use Rattle.cbor4ii_tree.proofs.skip_calls.Doing.{Reached, reached_as}
 use Rattle.cbor4ii_tree.proofs.values.Calls.{Peeked, does_under}
 
 -- ---- a first byte that was shown
 
-begins_with : (first : ℕ) (trailing shown xs : List ℕ) → shown ≡ first ∷ trailing
+pub begins_with : (first : ℕ) (trailing shown xs : List ℕ) → shown ≡ first ∷ trailing
     → take (length shown) xs ≡ shown → xs ≡ first ∷ drop 1 xs
 begins_with first trailing shown xs is e =
     by_first xs (subst (λ s. take (length s) xs ≡ s) is e)
@@ -54,7 +54,7 @@ module _ (first : ℕ) {a m : View} (s : ShowsFirst first a m) where
       }
 
   -- what a call does after it
-  pub after_first : {V E : Type 0} (A : Budget → Accepting V) (S : Budget → Stopping)
+  pub after_first : {V E : Type 0} (A : Budget → Accepting V) (S : Budget → Rejection)
       {r : Result V (DecodeError E)} {b : View} → Does (A m.budget) (S m.budget) m b r
       → Does (A a.budget) (S a.budget) a b r
   after_first A S d =
@@ -83,7 +83,7 @@ module _ {exact : Type 0} (n : Next) {a m : View} (s : ShowsNext exact n a m) wh
   }
 
   -- what a call does after it
-  pub after_next : {V E : Type 0} (A : Budget → Accepting V) (S : Budget → Stopping)
+  pub after_next : {V E : Type 0} (A : Budget → Accepting V) (S : Budget → Rejection)
       {r : Result V (DecodeError E)} {b : View} → Does (A m.budget) (S m.budget) m b r
       → Does (A a.budget) (S a.budget) a b r
   after_next A S d = after_first n.first next_first A S d
@@ -111,6 +111,13 @@ module _ {exact : Type 0} (n : Next) {a m : View} (s : ShowsNext exact n a m) wh
   pub next_step : (b : View) → StepsIn m.budget b.budget true
       → StepsIn a.budget (budgeted b.budget a).budget true
   next_step b h = subst (λ o. StepsIn o b.budget true) s.shows.budget h
+
+-- the bound falls by the bytes of its head
+pub head_gains : (n : Next) {m c : View} (h : Head) → CanTake n m → n.head ≡ Some h
+    → Advances h.size m c → c.bound + 1 ≤ m.bound
+head_gains n {m = m} h can is adv =
+    let t = subst (λ o. IfSome o (λ h. (1 ≤ h.size) × (h.size ≤ m.advanceable))) is can.head in
+    omega (arith, t.0, t.1, adv.bound)
 
 -- its head was taken
 pub takes_head : (exact : Bool) (n : Next) {a m c : View} (major : ℕ) (h : Head)

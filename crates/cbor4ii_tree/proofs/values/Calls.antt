@@ -17,12 +17,12 @@ use Rattle.cbor4ii_tree.specs.{Cost.{Budget, step_in, cost}, Does.{Does, Accepti
 use Rattle.cbor4ii_tree.specs.InputError.{sign_name, value_name, eof, mismatch, Small, len_of}
 use Rattle.cbor4ii_tree.specs.Laws.Numbers.{additional-lt, info-additional}
 use Rattle.cbor4ii_tree.specs.ReadingRejects.{ReadingRejectsBy, ReadingRejects}
-use Rattle.cbor4ii_tree.specs.{Rejections.{RejectsAtStep, Is, MissingAll, Stopping}, Tree.Tree}
+use Rattle.cbor4ii_tree.specs.{Rejections.{RejectsAtStep, Is, MissingAll, Rejection}, Tree.Tree}
 use Rattle.cbor4ii_tree.specs.{Tree.Plain, Valuing.{Whole, RejectsOneValue}}
 use Rattle.cbor4ii_tree.specs.Valuing.{RejectsUnder}
 use Rattle.cbor4ii_tree.proofs.{skip_calls.Bytes.says_width}
 use Rattle.cbor4ii_tree.proofs.skip_calls.Doing.{Reached, does_after, does_err}
-use Rattle.cbor4ii_tree.proofs.answers.Nesting.{reading_by_parts, strict_by_parts}
+use Rattle.cbor4ii_tree.proofs.answers.Nesting.{reading_by_parts, canonical_by_parts}
 use Rattle.cbor4ii_tree.proofs.heads.Means.{WidthSays, InfoSays, info_says}
 
 -- ---- an encoding that is read whole
@@ -46,7 +46,7 @@ rejects_under false inner budget xs e rest step h =
     (reading_by_parts xs budget e rest).1 (subst (λ o. RejectsAtStep value_name o xs (λ inner.
     RejectsUnder false inner xs) e rest) (sym step) h)
 rejects_under true inner budget xs e rest step h =
-    (strict_by_parts xs budget e rest).1 (subst (λ o. RejectsAtStep value_name o xs (λ inner.
+    (canonical_by_parts xs budget e rest).1 (subst (λ o. RejectsAtStep value_name o xs (λ inner.
     RejectsUnder true inner xs) e rest) (sym step) h)
 
 -- no step is left
@@ -65,7 +65,7 @@ value_no_byte true budget z rest is = is
 
 -- what they read, and left the budget as it was
 pub does_under : {V E : Type 0} (P : List ℕ → List ℕ → Type 0) (A : Budget → Accepting V)
-    (B : Accepting V) (S : Budget → Stopping) (T : Stopping) {r : Result V (DecodeError E)}
+    (B : Accepting V) (S : Budget → Rejection) (T : Rejection) {r : Result V (DecodeError E)}
     {a m b : View} → ((xs ys zs : List ℕ) (v : V) → P xs ys → A a.budget ys v zs → B xs v zs)
     → ((xs ys : List ℕ) (e : InputError) (rest : List ℕ) → P xs ys → S a.budget ys e rest
     → T xs e rest) → Reached P a m → Does (A m.budget) (S m.budget) m b r → Does B T a b r
@@ -75,7 +75,7 @@ does_under P A B S T {r = r} {a = a} {m = m} {b = b} f g p d =
 
 -- it is rejected
 pub stops_under : {U V E : Type 0} (P : List ℕ → List ℕ → Type 0) (A : Budget → Accepting U)
-    (S : Budget → Stopping) (B : Accepting V) (T : Stopping) {e : DecodeError E} {a m b : View}
+    (S : Budget → Rejection) (B : Accepting V) (T : Rejection) {e : DecodeError E} {a m b : View}
     → ((xs ys : List ℕ) (z : InputError) (rest : List ℕ) → P xs ys → S a.budget ys z rest
     → T xs z rest) → Reached P a m → Does {V = U} (A m.budget) (S m.budget) m b (Err e)
     → Does {V = V} B T a b (Err e)

@@ -6,15 +6,15 @@ use Rattle.cbor4ii_rw.specs.{Reader.{Shows, IsPrefix}, View.{View, IfKnown}}
 use Rattle.cbor4ii_rw.specs.declared.error.DecodeError.TheVariants.{Eof}
 use Rattle.cbor4ii_items.specs.{InputError.InputError, Laws.Running.shows_kept}
 use Rattle.cbor4ii_tree.specs.{Does.{Accepting, Does}, InputError.{value_name, eof, Small}}
-use Rattle.cbor4ii_tree.specs.{Rejections.{Stopping, Is}}
+use Rattle.cbor4ii_tree.specs.{Rejections.{Rejection, Is}}
 use Rattle.cbor4ii_tree.proofs.skip_calls.Doing.{does_reject}
 
 -- an end of the input there fails so
-abbrev pub Ending : Stopping → Type 0
+abbrev pub Ending : Rejection → Type 0
 Ending T = (z : InputError) (rest : List ℕ) → Is (eof value_name (Small 1)) [] z rest → T [] z rest
 
 -- a look has shown no byte
-pub none_shown : {V E : Type 0} (A : Accepting V) (T : Stopping) → Ending T → (want : ℕ)
+pub none_shown : {V E : Type 0} (A : Accepting V) (T : Rejection) → Ending T → (want : ℕ)
     {shown : List ℕ} {a b : View} {name : Bor (List ℕ)} → name.now ≡ value_name → 0 < want
     → Shows shown a b → IfKnown a.known (IsPrefix want shown) → length shown ≡ 0
     → Does {V = V} {E = E} A T a b (Err (Eof name (Small 1)))

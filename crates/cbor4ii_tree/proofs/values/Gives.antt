@@ -1,12 +1,17 @@
 -- What a call of reading gives, by what the calls in it gave.
 use Rattle.std.proofs.Common.{ℕ, ◌≡◌, ◌+◌, ◌≤◌, List, [], ◌∷◌, ◌++◌, length, Option, Some, None, ap}
-use Rattle.std.proofs.Common.{OnSome, OnOk, IfOk, IfNone, Result, Ok, Err, Bool, true, false, arith}
-use Rattle.std.proofs.Common.{length-append, subst, Vec, Global}
+use Rattle.std.proofs.Common.{OnSome, OnOk, IfOk, IfErr, IfNone, IsTrue, Result, Ok, Err, Bool}
+use Rattle.std.proofs.Common.{true, false, arith, length-append, subst, Vec, Global, ◌⊎◌, inl, inr}
+use Rattle.std.proofs.Common.{refl}
 use Rattle.cbor4ii_rw.specs.Reader.{KeepsAllButBudget, StepsIn, step_back}
 use Rattle.cbor4ii_rw.specs.{View.View, declared.error.DecodeError.DecodeError}
 use Rattle.cbor4ii_items.specs.{Laws.Steps.kept_then, Moves.Moves}
 use Rattle.cbor4ii_tree.specs.{Deeper.budgeted, Does.{Does, DoesUnder}}
-use Rattle.cbor4ii_tree.specs.{Does.{Gives, answered, error_left}, Item.AreItems}
+use Rattle.cbor4ii_items.specs.InputError.{is_out_of_memory}
+use Rattle.cbor4ii_tree.specs.Does.{Anything, Asking, Gives, Never, WantsOnly, answered}
+use Rattle.cbor4ii_tree.specs.{Asking.{Asks, InParts, InValue}, Leaf.AsksAfterNext}
+use Rattle.cbor4ii_tree.proofs.values.Asking.{asks_after, asks_around, in_parts, turn_grows}
+use Rattle.cbor4ii_tree.specs.{Does.error_left, Item.AreItems}
 use Rattle.cbor4ii_tree.specs.{Leaf.{DoesAfterNext, ShowsNext, TakesLeaf}, LeafRuns.{GivesItems}}
 use Rattle.cbor4ii_tree.specs.LeafRuns.{PutsItems, PutsItemsUnder, RejectsItemsUnder, TakesRun}
 use Rattle.cbor4ii_tree.specs.{Valuing.{HeadAt, IndefiniteAt, InRange}}
@@ -25,34 +30,64 @@ use Rattle.cbor4ii_tree.proofs.values.{LeafRuns.turn_value, Sequences.{Element, 
 use Rattle.cbor4ii_tree.proofs.values.Sequences.{answer_as, follow, in_all, made_of, major_of}
 use Rattle.cbor4ii_tree.proofs.values.Sequences.{open_reads, open_row, reads, row, values_of}
 
-module _ {V E : Type 0} {is : V → Type 0} {C : View → View → Result V (DecodeError E) → Type 0}
-    {a b : View} where
+-- ---- memory
+
+-- what asks for none answers no want of it
+pub no_want : {x : Bool} → (IsTrue x → IsTrue false) → IsTrue x → ⊥
+no_want f want = let never : false ≡ true = f want in cc
+
+pub wants_as : {V E P Q : Type 0} (r : Result V (DecodeError E)) → (P → Q)
+    → IfErr r (λ e. IsTrue (is_out_of_memory e) → P)
+    → IfErr r (λ e. IsTrue (is_out_of_memory e) → Q)
+wants_as (Ok v) f w = tt
+wants_as (Err e) f w = λ want. f (w want)
+
+-- ---- one clause of some
+
+module _ {V E : Type 0} {K : Asking} {is : V → Type 0}
+    {C : View → View → Result V (DecodeError E) → Type 0} {a b : View} where
   -- an error alone
-  pub gives_err : {e : DecodeError E} → C a b (Err e) → Gives is C a b (Err e)
-  gives_err d = record { does = d; ranged = tt; gains = tt }
+  pub gives_err : {e : DecodeError E} → (IsTrue (is_out_of_memory e) → K a b) → C a b (Err e)
+      → Gives K is C a b (Err e)
+  gives_err wants d = record { does = d; memory = wants; ranged = tt; gains = tt }
 
-  -- by three clauses
-  pub gives_of : {r : Result V (DecodeError E)} → C a b r → IfOk r is
-      → OnOk r (b.bound + 1 ≤ a.bound) → Gives is C a b r
-  gives_of {r = Ok v} d ranged fell = record { does = d; ranged = ranged; gains = fell }
-  gives_of {r = Err e} d ranged fell = gives_err d
+  -- by four clauses
+  pub gives_of : {r : Result V (DecodeError E)} → C a b r → WantsOnly K a b r → IfOk r is
+      → OnOk r (b.bound + 1 ≤ a.bound) → Gives K is C a b r
+  gives_of {r = Ok v} d wants ranged fell =
+      record { does = d; memory = wants; ranged = ranged; gains = fell }
+  gives_of {r = Err e} d wants ranged fell = gives_err wants d
 
-  pub gives_fall : {r : Result V (DecodeError E)} → Gives is C a b r
+  pub gives_fall : {r : Result V (DecodeError E)} → Gives K is C a b r
       → OnOk r (b.bound + 1 ≤ a.bound)
   gives_fall {r = Ok v} g = g.gains
   gives_fall {r = Err e} g = tt
 
-module _ {V E : Type 0} {is : V → Type 0} {C D : View → View → Result V (DecodeError E) → Type 0}
-    {r : Result V (DecodeError E)} where
+-- by a decoding call that takes no memory
+pub gives_none : {V E : Type 0} {C : View → View → Result V (DecodeError E) → Type 0} {a b : View}
+    {r : Result V (DecodeError E)} → C a b r
+    → IfErr r (λ e. IsTrue (is_out_of_memory e) → IsTrue false) → OnOk r (b.bound + 1 ≤ a.bound)
+    → Gives Never Anything C a b r
+gives_none {r = Ok v} d wants fell = record { does = d; memory = tt; ranged = tt; gains = fell }
+gives_none {r = Err e} d wants fell = gives_err (no_want wants) d
+
+module _ {V E : Type 0} {K L : Asking} {is : V → Type 0}
+    {C D : View → View → Result V (DecodeError E) → Type 0} {r : Result V (DecodeError E)} where
   -- reported in other words
-  pub gives_as : {a b : View} → (C a b r → D a b r) → Gives is C a b r → Gives is D a b r
-  gives_as f g = record { does = f g.does; ranged = g.ranged; gains = g.gains }
+  pub gives_as : {a b : View} → (K a b → L a b) → (C a b r → D a b r) → Gives K is C a b r
+      → Gives L is D a b r
+  gives_as k f g = record {
+    does = f g.does;
+    memory = wants_as r k g.memory;
+    ranged = g.ranged;
+    gains = g.gains;
+  }
 
   -- from before, to after
-  pub gives_on : {a b c d : View} → (C b c r → D a d r) → b.bound ≤ a.bound → d.bound ≤ c.bound
-      → Gives is C b c r → Gives is D a d r
-  gives_on {a = a} {b = b} {c = c} {d = d} f before after g =
-      gives_of (f g.does) g.ranged (less r (gives_fall g))
+  pub gives_on : {a b c d : View} → (K b c → L a d) → (C b c r → D a d r) → b.bound ≤ a.bound
+      → d.bound ≤ c.bound → Gives K is C b c r → Gives L is D a d r
+  gives_on {a = a} {b = b} {c = c} {d = d} k f before after g =
+      gives_of (f g.does) (wants_as r k g.memory) g.ranged (less r (gives_fall g))
     where
       less : (r : Result V (DecodeError E)) → OnOk r (c.bound + 1 ≤ b.bound)
           → OnOk r (d.bound + 1 ≤ a.bound)
@@ -65,35 +100,39 @@ module _ (exact : Bool) {E : Type 0} {a b c d : View} (takes : StepsIn a.budget 
     (inward : KeepsAllButBudget a b) (gives : d.budget ≡ step_back c.budget)
     (outward : KeepsAllButBudget c d) where
   around : {V : Type 0} {is : V → Type 0}
-      {C D : View → View → Result V (DecodeError E) → Type 0} {r : Result V (DecodeError E)}
-      → (C b c r → D a d r) → Gives is C b c r → Gives is D a d r
-  around f = gives_on f (omega (arith, inward.bound)) (omega (arith, outward.bound))
+      {C D : View → View → Result V (DecodeError E) → Type 0} {K L : Asking}
+      {r : Result V (DecodeError E)} → (K b c → L a d) → (C b c r → D a d r) → Gives K is C b c r
+      → Gives L is D a d r
+  around k f = gives_on k f (omega (arith, inward.bound)) (omega (arith, outward.bound))
 
-  pub value_stepped : {r : Result Value (DecodeError E)}
-      → Gives InRange (DoesUnder (ReadsUnder exact) (RejectsUnder exact)) b c r
-      → Gives InRange (DoesUnder (ReadsOneValue exact) (RejectsOneValue exact)) a d r
+  pub value_stepped : {r : Result Value (DecodeError E)} → Gives (Asks (InValue exact)) InRange
+      (DoesUnder (ReadsUnder exact) (RejectsUnder exact)) b c r → Gives (Asks (InValue exact))
+      InRange (DoesUnder (ReadsOneValue exact) (RejectsOneValue exact)) a d r
   value_stepped =
       let step = steps_in a.budget b.budget takes in
-      around (λ w. does_stepped (ReadsUnder exact b.budget) _ (RejectsUnder exact b.budget) _
-      (λ xs ys v h. h a.budget step)
+      around (asks_around inward outward) (λ w. does_stepped (ReadsUnder exact b.budget) _
+      (RejectsUnder exact b.budget) _ (λ xs ys v h. h a.budget step)
       (λ xs e rest h. rejects_under exact b.budget a.budget xs e rest step h) takes inward w gives
       outward)
 
   pub items_stepped : (full : ℕ) (before after : List Value) {r : Result (Unit {0}) (DecodeError E)}
-      → GivesItems (PutsItemsUnder exact) (RejectsItemsUnder exact) full before after b c r
-      → GivesItems (PutsItems exact) (RejectsItems exact) full before after a d r
+      → GivesItems exact (PutsItemsUnder exact) (RejectsItemsUnder exact) full before after b c r
+      → GivesItems exact (PutsItems exact) (RejectsItems exact) full before after a d r
   items_stepped full before after =
       let step = steps_in a.budget b.budget takes in
-      around (λ w. does_stepped (PutsItemsUnder exact before after b.budget) _ (RejectsItemsUnder
-      exact _ b.budget) _ (λ xs ys v h. h a.budget step) (λ xs e rest h. h a.budget step) takes
-      inward w gives outward)
+      around (asks_around inward outward) (λ w. does_stepped (PutsItemsUnder exact before after
+      b.budget) _ (RejectsItemsUnder exact _ b.budget) _ (λ xs ys v h. h a.budget step) (λ xs e rest
+      h. h a.budget step) takes inward w gives outward)
 
   -- the second step of an array or a map
-  pub second_stepped : (major : ℕ) (n : Next) {r : Result Value (DecodeError E)} → Gives InRange
-      (DoesAfterNext exact n (ReadsInside exact) (RejectsMajor exact major)) b c r → Gives InRange
+  pub second_stepped : (major : ℕ) (n : Next) {r : Result Value (DecodeError E)}
+      → Gives (AsksAfterNext exact n (InValue exact)) InRange
+      (DoesAfterNext exact n (ReadsInside exact) (RejectsMajor exact major)) b c r
+      → Gives (AsksAfterNext exact n (InValue exact)) InRange
       (DoesAfterNext exact n (ReadsUnder exact) (RejectsOf exact major)) a d r
   second_stepped major n =
-      around (λ w before shows.
+      around (λ h before shows. asks_around (alike_within b.budget before) outward
+      (h (budgeted b.budget before) (next_stepped n shows inward))) (λ w before shows.
       let stepped = next_step n shows b takes in
       let step = steps_in before.budget b.budget stepped in
       does_stepped (ReadsInside exact b.budget) _ (RejectsMajor exact major b.budget) _
@@ -108,25 +147,28 @@ module _ (exact : Bool) {E : Type 0} {a b c d : View} (takes : StepsIn a.budget 
 pub look_gives : (exact : Bool) {E : Type 0} {r : Result Value (DecodeError E)} {a m b : View}
     {seen : Looked} (n : Next) (failure : Option (DecodeError E)) → seen ≡ looked.Begins n
     → TakesLeaf exact a m (Some seen) failure
-    → Gives InRange (DoesAfterNext exact n (ReadsUnder exact) (RejectsUnder exact)) m b r
-    → Gives InRange (DoesUnder (ReadsUnder exact) (RejectsUnder exact)) a b r
+    → Gives (AsksAfterNext exact n (InValue exact)) InRange
+    (DoesAfterNext exact n (ReadsUnder exact) (RejectsUnder exact)) m b r
+    → Gives (Asks (InValue exact)) InRange
+    (DoesUnder (ReadsUnder exact) (RejectsUnder exact)) a b r
 look_gives exact {a = a} {m = m} n failure is t =
     let shows = subst (λ o. TakesLeaf exact a m (Some o) failure) is t in
-    gives_on (λ d. d a shows) shows.shows.bound (omega arith)
+    gives_on (λ h. h a shows) (λ d. d a shows) shows.shows.bound (omega arith)
 
 -- it is put after the run, or there is no memory for that
 pub item_put : (exact : Bool) {E : Type 0} (full : ℕ) (before mid after : List Value)
     {found : Option Next} (n : Next) {v : Value} {a m b : View} (r : Option (Unit {0}))
     (left failure : Option (DecodeError E)) → found ≡ Some n
     → TakesRun exact full before mid a m (Some found) left → OnSome r (after ≡ mid ++ v ∷ [])
-    → IfNone r (failure ≡ None) → Gives {E = E} InRange
+    → IfNone r (failure ≡ None) → Gives {E = E} (AsksAfterNext exact n (InValue exact)) InRange
     (DoesAfterNext exact n (ReadsUnder exact) (RejectsUnder exact)) m b (Ok v)
-    → GivesItems (PutsItemsUnder exact) (RejectsItemsUnder exact) full before after a b
+    → GivesItems exact (PutsItemsUnder exact) (RejectsItemsUnder exact) full before after a b
     (answered r failure)
 item_put exact full before mid after n {v = v} (Some u) left failure is t put none g = record {
   does =
       turn_value exact full before mid n (run_before exact before mid n left is t.puts) after put
       g.does;
+  memory = tt;
   ranged = (
     λ are. items_are after mid (v ∷ []) put (t.items are) (g.ranged, tt),
     omega (arith, ap length put, length-append mid (v ∷ []), on_found n is t.lacks),
@@ -135,8 +177,8 @@ item_put exact full before mid after n {v = v} (Some u) left failure is t put no
 }
 item_put exact full before mid after n None left failure is t put none g =
     let run = run_before exact before mid n left is t.puts in
-    gives_err (does_no_memory _ _ (ap error_left none) (kept_then run.puts.moves.by (g.does run.mid
-    run.shows).moves.by))
+    gives_err (λ want. turn_grows exact run g.does) (does_no_memory _ _ (ap error_left none)
+    (kept_then run.puts.moves.by (g.does run.mid run.shows).moves.by))
 
 -- ---- an array or a map, by its length and its elements
 
@@ -149,32 +191,57 @@ made : (keyed exact : Bool) {E : Type 0} (n : Next)
     {r : Result (Vec (Element keyed) Global) (DecodeError E)} {a m b : View}
     → m.bound + 1 ≤ a.bound → Moves m b r
     → IfOk r (λ v. AreItems (items_view (values_of keyed v.items)))
+    → IfErr r (λ e. IsTrue (is_out_of_memory e) → AsksAfterNext exact n (InValue exact) a b)
     → ((before : View) → ShowsNext (exact ≡ true) n before a → Does (λ xs v ys. ReadsInside exact
     before.budget xs (made_of keyed v) ys) (RejectsMajor exact (major_of keyed) before.budget)
-    before b r) → Gives InRange
+    before b r) → Gives (AsksAfterNext exact n (InValue exact)) InRange
     (DoesAfterNext exact n (ReadsInside exact) (RejectsMajor exact (major_of keyed))) a b
     (answer_as (made_of keyed) r)
-made keyed exact n {r = Ok v} fell moves are d = record {
+made keyed exact n {r = Ok v} fell moves are wants d = record {
   does = λ before shows. does_ok _ _ (reached_by (d before shows));
+  memory = tt;
   ranged = made_is keyed v are;
   gains = omega (arith, fell, moves.by.bound);
 }
-made keyed exact n {r = Err e} fell moves are d =
-    gives_err (λ before shows. refused (d before shows))
+made keyed exact n {r = Err e} fell moves are wants d =
+    gives_err wants (λ before shows. refused (d before shows))
+
+nests : (keyed : Bool) → (major_of keyed ≡ 4) ⊎ (major_of keyed ≡ 5)
+nests false = inl refl
+nests true = inr refl
+
+-- for the places of elements, or in one of them
+module _ (keyed exact : Bool) {E : Type 0} {o : Option ℕ} {n : Next} {a m b : View}
+    (length : DoesAfterNext {E = E} exact n (TakesLength exact (major_of keyed))
+    (RejectsMajor exact (major_of keyed)) a m (Ok o)) where
+  pub counted_asks : (k : ℕ) → o ≡ Some k → 1 ≤ k → Asks (InParts exact 0) m b
+      → AsksAfterNext exact n (InValue exact) a b
+  counted_asks k is some h before shows =
+      asks_after (λ xs us ys t s. in_parts exact (Some k) (λ j least. some) xs us ys
+      (major_of keyed, nests keyed, t) s) (follow exact _ o (Some k) is (length before shows)) h
+
+  pub opened_asks : o ≡ None → Asks (InParts exact 1) m b
+      → AsksAfterNext exact n (InValue exact) a b
+  opened_asks is h before shows =
+      asks_after (λ xs us ys t s. in_parts exact None (λ j least. least) xs us ys
+      (major_of keyed, nests keyed, t) s) (follow exact _ o None is (length before shows)) h
 
 module _ (keyed exact : Bool) {E : Type 0} {o : Option ℕ} {n : Next}
     {r : Result (Vec (Element keyed) Global) (DecodeError E)} {a m b : View} (length : DoesAfterNext
     {E = E} exact n (TakesLength exact (major_of keyed)) (RejectsMajor exact (major_of keyed)) a m
     (Ok o)) (fell : m.bound + 1 ≤ a.bound)
-    (are : IfOk r (λ v. AreItems (items_view (values_of keyed v.items)))) where
+    (are : IfOk r (λ v. AreItems (items_view (values_of keyed v.items))))
+    (wants : IfErr r (λ e. IsTrue (is_out_of_memory e)
+    → AsksAfterNext exact n (InValue exact) a b)) where
   -- so many elements
   pub counted_gives : (k : ℕ) → o ≡ Some k
       → Does (λ xs v ys. ReadsItems exact (in_all keyed k) m.budget xs (values_of keyed v.items) ys)
-      (RejectsItems exact (in_all keyed k) m.budget) m b r → Gives InRange
+      (RejectsItems exact (in_all keyed k) m.budget) m b r
+      → Gives (AsksAfterNext exact n (InValue exact)) InRange
       (DoesAfterNext exact n (ReadsInside exact) (RejectsMajor exact (major_of keyed))) a b
       (answer_as (made_of keyed) r)
   counted_gives k is d =
-      made keyed exact n fell d.moves are (λ before shows. does_under
+      made keyed exact n fell d.moves are wants (λ before shows. does_under
       (HeadAt exact (major_of keyed) k) (λ l xs v ys. ReadsItems exact (in_all keyed k) l xs
       (values_of keyed v.items) ys) _ (RejectsItems exact (in_all keyed k)) _
       (λ xs ys zs v. reads keyed exact before.budget k v xs ys zs)
@@ -184,11 +251,12 @@ module _ (keyed exact : Bool) {E : Type 0} {o : Option ℕ} {n : Next}
   -- up to a break
   pub opened_gives : o ≡ None
       → Does (λ xs v ys. ReadsIndefiniteItems exact m.budget xs (values_of keyed v.items) ys)
-      (RejectsOpen keyed exact m.budget) m b r → Gives InRange
+      (RejectsOpen keyed exact m.budget) m b r
+      → Gives (AsksAfterNext exact n (InValue exact)) InRange
       (DoesAfterNext exact n (ReadsInside exact) (RejectsMajor exact (major_of keyed))) a b
       (answer_as (made_of keyed) r)
   opened_gives is d =
-      made keyed exact n fell d.moves are (λ before shows. does_under
+      made keyed exact n fell d.moves are wants (λ before shows. does_under
       (IndefiniteAt exact (major_of keyed)) (λ l xs v ys. ReadsIndefiniteItems exact l xs
       (values_of keyed v.items) ys) _ (RejectsOpen keyed exact) _
       (λ xs ys zs v. open_reads keyed exact before.budget v xs ys zs)

@@ -28,7 +28,7 @@ use Rattle.cbor4ii_tree.specs.{InputError.value_name, Item.{integer, float, tag}
 use Rattle.cbor4ii_tree.specs.{Laws.Binds.step_up, Laws.Initials.{initial_tag, initial_bits}}
 use Rattle.cbor4ii_tree.specs.{Laws.Initials.initial_simple, Meaning.number}
 use Rattle.cbor4ii_tree.specs.ReadingRejects.{ReadingRejectsBy, ReadingRejects}
-use Rattle.cbor4ii_tree.specs.{Rejections.{Stopping, MissingAll}, Tree.{int, tagged, simple, bits}}
+use Rattle.cbor4ii_tree.specs.{Rejections.{Rejection, MissingAll}, Tree.{int, tagged, simple, bits}}
 use Rattle.cbor4ii_tree.specs.{Tree.bytes, Valuing.{HeadAt, ReadsOneValue, ReadsTagged}}
 use Rattle.cbor4ii_tree.specs.Valuing.{RejectsOneValue, ReadsUnder, RejectsUnder, TakesTag}
 use Rattle.cbor4ii_tree.specs.{Valuing.{RejectsFirst, RejectsOf, SimpleOf}, View.view}
@@ -62,7 +62,7 @@ at_major k budget b bs e rest is h =
 
 module _ (exact : Bool) (b : ℕ) {E : Type 0} {a m : View}
     (first : Reached (Peeked b) a m) where
-  pub arm_does : (A : Accepting Value) (S : Stopping) {r : Result Value (DecodeError E)} {c : View}
+  pub arm_does : (A : Accepting Value) (S : Rejection) {r : Result Value (DecodeError E)} {c : View}
       → ((bs ys : List ℕ) (v : Value) → A (b ∷ bs) v ys → ReadsUnder exact a.budget (b ∷ bs) v ys)
       → ((bs : List ℕ) (z : InputError) (rest : List ℕ) → S (b ∷ bs) z rest
       → RejectsUnder exact a.budget (b ∷ bs) z rest)
@@ -114,10 +114,10 @@ shortest_at major n xs ys h = (
 )
 
 -- after it something is rejected
-pub after_shortest : {major : ℕ} {then : ℕ → Stopping} {xs : List ℕ} {e : InputError}
+pub after_shortest : {major : ℕ} {then : ℕ → Rejection} {xs : List ℕ} {e : InputError}
     {rest : List ℕ} (n : ℕ) (ys : List ℕ) → ShortestAt major n xs ys → then n ys e rest
     → AfterShortest major then xs e rest
-after_shortest n ys is stopped = record { argument = n; after = ys; is = is; stopped = stopped }
+after_shortest n ys is rejected = record { argument = n; after = ys; is = is; rejected = rejected }
 
 -- ---- integers
 
@@ -187,7 +187,7 @@ undefined_rejected true b {a = a} first small adv is says read shallow =
 -- ---- what a first byte reports
 
 pub leaf_read : (exact : Bool) {V E : Type 0} (R : List ℕ → V → ℕ → ℕ → Type 0) {v : V} (w : Value)
-    {S : Stopping} {a c : View} → ((xs : List ℕ) (n k : ℕ) → CostFits k a.budget → R xs v n k
+    {S : Rejection} {a c : View} → ((xs : List ℕ) (n k : ℕ) → CostFits k a.budget → R xs v n k
     → ReadsUnder exact a.budget xs w (drop n xs)) → Moves {E = E} a c (Ok v) → Sound R a c v
     → Does {E = E} (ReadsUnder exact a.budget) S a c (Ok w)
 leaf_read exact R w {S = S} {a = a} f moves s =
@@ -216,7 +216,7 @@ pub view-F64 : (n : ℕ) → float double n ≡ view (Float (F64 n))
 view-F64 n = search (rules, the_lemmas)
 
 pub float_read : (exact : Bool) {E : Type 0} (p : Precision) {V : Type 0} (content : V → ℕ) {v : V}
-    (f : FloatBits) {S : Stopping} {a c : View} → float p (content v) ≡ view (Float f)
+    (f : FloatBits) {S : Rejection} {a c : View} → float p (content v) ≡ view (Float f)
     → Moves {E = E} a c (Ok v) → Sound (λ xs v. ReadsFloat (precision_byte p) (precision_bytes p) xs
     (content v)) a c v → Does {E = E} (ReadsUnder exact a.budget) S a c (Ok (Float f))
 float_read exact p content {v = v} f {a = a} is moves s =

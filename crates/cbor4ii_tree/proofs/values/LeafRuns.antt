@@ -3,6 +3,7 @@ use Rattle.std.proofs.Common.{◌≡◌, ℕ, ◌+◌, ◌-◌, ◌*◌, ◌<◌
 use Rattle.std.proofs.Common.{length, take, drop, Option, Some, None, refl, sym, ap, ap₂, ◌∙◌}
 use Rattle.std.proofs.Common.{subst, arith, append_assoc, length-append, length-drop}
 use Rattle.std.proofs.Common.{take-append-drop, Vec, Global, nat_lt, Bool, true, false, not, OnSome}
+use Rattle.std.proofs.Common.{IsTrue}
 use Rattle.std.proofs.{Common.{Ok, Err, inl, inr}, Math.Seq.take-add}
 use Rattle.std.proofs.{lemmas.Bool.{ltb-true, ltb-false}, lemmas.List.{append-nil, drop-take}}
 use Rattle.std.specs.Option.{is_some}
@@ -11,7 +12,8 @@ use Rattle.cbor4ii_rw.specs.Reader.{Advances, ReaderFails, IsPrefix, KeepsAllBut
 use Rattle.cbor4ii_rw.specs.{Reader.{StepsIn}, View.{View, IfKnown}}
 use Rattle.cbor4ii_rw.specs.declared.error.DecodeError.{DecodeError}
 use Rattle.cbor4ii_rw.specs.declared.error.DecodeError.TheVariants.{OutOfMemory, Eof, Read}
-use Rattle.cbor4ii_items.specs.InputError.{depth_overflow, input_error_of, is_read}
+use Rattle.cbor4ii_items.specs.InputError.{depth_overflow, input_error_of, is_out_of_memory}
+use Rattle.cbor4ii_items.specs.InputError.{is_read}
 use Rattle.cbor4ii_items.specs.{Laws.Answering.fits_zero, Budget.CostFits, Head.IsBytes}
 use Rattle.cbor4ii_items.specs.{Laws.Contents.lends_prefix}
 use Rattle.cbor4ii_items.specs.Moves.{ReaderFailed, Kept}
@@ -19,15 +21,16 @@ use Rattle.cbor4ii_tree.specs.Valuing.{ReadsMembers, ReadsOneValue, flat_values,
 use Rattle.cbor4ii_tree.specs.Valuing.{RejectsItems, ReadsItems, ReadsEach, ReadsUnder}
 use Rattle.cbor4ii_tree.specs.{Valuing.{RejectsOneValue, RejectsUnder}, Prefix.Offers}
 use Rattle.cbor4ii_tree.specs.{declared.leaf.Next.Next, Cost.Budget, Does.{Accepting, Does}}
+use Rattle.cbor4ii_tree.specs.{Asking.{Asks, InParts}, Does.error_left}
 use Rattle.cbor4ii_tree.specs.{InputError.{InputError, value_name}}
 use Rattle.cbor4ii_tree.specs.{InputError.Small, Item.{AreItems, item, no_items}}
 use Rattle.cbor4ii_tree.specs.{Laws.Binds.step_up, Leaf.{DoesAfterNext, SeesNext}}
 use Rattle.cbor4ii_tree.specs.Leaf.{ShowsNext, StandsAhead, WantsContent}
-use Rattle.cbor4ii_tree.specs.LeafRuns.{flat_pairs, IsLeaf, StandInFront, PutsAfter, PutsRun}
-use Rattle.cbor4ii_tree.specs.LeafRuns.{RejectsMemory, PutsItems, RunsBefore, PutsItemsUnder}
+use Rattle.cbor4ii_tree.specs.LeafRuns.{flat_pairs, IsLeaf, StandFirst, PutsAfter, PutsRun}
+use Rattle.cbor4ii_tree.specs.LeafRuns.{RefusedMemory, PutsItems, RunsBefore, PutsItemsUnder}
 use Rattle.cbor4ii_tree.specs.LeafRuns.{KeepsItems, RejectsItemsUnder, RejectsWhereNone, TakesBy}
 use Rattle.cbor4ii_tree.specs.{LeafRuns.TakesRun, Meaning.{values}, Rejections.Each}
-use Rattle.cbor4ii_tree.specs.{Rejections.{Stopping, RejectsInCount}, Tree.{Tree, Trees, no_trees}}
+use Rattle.cbor4ii_tree.specs.{Rejections.{Rejection, RejectsInCount}, Tree.{Tree, Trees, no_trees}}
 use Rattle.cbor4ii_tree.specs.{Tree.{tree, bytes, bytes_all, count}, View.{items_view}}
 use Rattle.cbor4ii_tree.specs.declared.value.Value.{Value}
 use Rattle.cbor4ii_tree.proofs.{parts.Prefixes.IsBytes-append, skip_calls.Doing.does_ok}
@@ -95,7 +98,7 @@ many_members v = omega (arith, v.ok.0, v.ok.1)
 
 -- ---- in shown bytes
 
-stand_none : (exact : Type 0) (shown : List ℕ) → StandInFront exact [] 0 shown
+stand_none : (exact : Type 0) (shown : List ℕ) → StandFirst exact [] 0 shown
 stand_none exact shown = record {
   within = omega arith;
   fresh = tt;
@@ -108,13 +111,13 @@ stand_none exact shown = record {
 }
 
 stand_one : (exact : Type 0) (v : Value) (n : ℕ) (shown : List ℕ) → StandsAhead exact v n shown
-    → StandInFront exact (v ∷ []) n shown
+    → StandFirst exact (v ∷ []) n shown
 stand_one exact v n shown l = record {
   within = l.within;
   fresh = l.fresh;
   trees = tree l.item no_trees;
   many = refl;
-  each = ((l.plain, l.step, l.strict), tt);
+  each = ((l.plain, l.step, l.shape), tt);
   means = ap (λ i. item i no_items) l.means;
   ranged = (l.ranged, tt);
   is = l.is ∙ sym (append-nil (bytes l.item));
@@ -131,12 +134,12 @@ may_more at n size shown h l e =
     })
 
 may_take : {exact : Type 0} {vs : List Value} {size : ℕ} {shown : List ℕ}
-    → StandInFront exact vs size shown → MayTake size shown
+    → StandFirst exact vs size shown → MayTake size shown
 may_take s = record { within = s.within; fresh = s.fresh }
 
 stand_join : (exact : Type 0) (vs ws : List Value) (at n : ℕ) (shown : List ℕ)
-    → StandInFront exact vs at shown → StandInFront exact ws n (drop at shown)
-    → StandInFront exact (vs ++ ws) (at + n) shown
+    → StandFirst exact vs at shown → StandFirst exact ws n (drop at shown)
+    → StandFirst exact (vs ++ ws) (at + n) shown
 stand_join exact vs ws at n shown h l =
     let may = may_more at n (at + n) shown (may_take h) (may_take l) refl in
     record {
@@ -165,7 +168,7 @@ put_more exact before items after at n size shown p l e = record {
   new = p.new ++ l.new;
   is = l.is ∙ (ap (λ r. r ++ l.new) p.is ∙ append_assoc before p.new l.new);
   stand =
-      subst (λ j. StandInFront exact (p.new ++ l.new) j shown) (sym e)
+      subst (λ j. StandFirst exact (p.new ++ l.new) j shown) (sym e)
       (stand_join exact p.new l.new at n shown p.stand l.stand);
 }
 
@@ -184,10 +187,10 @@ put_well (Some v) e f p = p
 put_well None e f p = cc
 
 -- memory was refused where the last of some values was put
-pub rejected_growth : (exact : Type 0) (before items : List Value) (v : Value) (at n : ℕ)
+pub refused_growth : (exact : Type 0) (before items : List Value) (v : Value) (at n : ℕ)
     (shown : List ℕ) → PutsAfter exact at shown before items
-    → StandsAhead exact v n (drop at shown) → RejectsMemory exact (at + n) shown
-rejected_growth exact before items v at n shown p l = record {
+    → StandsAhead exact v n (drop at shown) → RefusedMemory exact (at + n) shown
+refused_growth exact before items v at n shown p l = record {
   values = p.new ++ v ∷ [];
   taken = at + n;
   stand =
@@ -196,9 +199,9 @@ rejected_growth exact before items v at n shown p l = record {
 }
 
 -- so many bytes may be taken then
-pub rejected_may : (exact : Type 0) (size : ℕ) (shown : List ℕ) → RejectsMemory exact size shown
+pub refused_may : (exact : Type 0) (size : ℕ) (shown : List ℕ) → RefusedMemory exact size shown
     → MayTake size shown
-rejected_may exact size shown r = by_place r.at
+refused_may exact size shown r = by_place r.at
   where
     by_place : ((1 ≤ length r.values) × (size ≡ r.taken)) ⊎ ((head : ℕ) × (size ≡ r.taken + head)
         × WantsContent head (drop r.taken shown)) → MayTake size shown
@@ -219,7 +222,8 @@ each_fits exact budget no_trees fits h = tt
 each_fits exact budget (tree t ts) fits h =
     (leaf_whole exact budget t fits h.0, each_fits exact budget ts fits h.1)
 
-begins_after : (size : ℕ) (shown xs : List ℕ) → size ≤ length shown → take (length shown) xs ≡ shown
+pub begins_after : (size : ℕ) (shown xs : List ℕ) → size ≤ length shown → take (length shown) xs ≡
+    shown
     → take (length (drop size shown)) (drop size xs) ≡ drop size shown
 begins_after size shown xs within e =
     let many : size + length (drop size shown) ≡ length shown =
@@ -265,7 +269,7 @@ narrow_kept {a = a} {b = b} k = record {
   ends_at = k.ends_at;
 }
 
-does_narrow : {V E : Type 0} {A : Accepting V} {S : Stopping} {v : V} {a b : View}
+does_narrow : {V E : Type 0} {A : Accepting V} {S : Rejection} {v : V} {a b : View}
     → Does {E = E} A S a b (Ok v) → Does {E = E} A S a (narrow a b) (Ok v)
 does_narrow {a = a} {b = b} d = record {
   moves = record { by = narrow_kept d.moves.by; depth = λ e. refl };
@@ -369,11 +373,11 @@ module _ (exact : Bool) (before after : List Value) {E : Type 0} {a m b : View} 
             next_after _ _ _ o.shows o.prefix o.is.puts.stand.within adv o.is.next;
       }
 
-  pub run_no_memory : (size : ℕ) → Offers 1 (RejectsMemory (exact ≡ true) size) a m
+  pub run_no_memory : (size : ℕ) → Offers 1 (RefusedMemory (exact ≡ true) size) a m
       → Advances size m b → Does {V = Unit {0}} {E = E}
       (PutsItemsUnder exact before after a.budget) RejectsWhereNone a b (Err OutOfMemory)
   run_no_memory size o adv =
-      let may = rejected_may (exact ≡ true) size o.shown o.is in
+      let may = refused_may (exact ≡ true) size o.shown o.is in
       does_no_memory _ _ refl (lends_prefix o.shows o.prefix may.within may.fresh refl adv).kept
 
 module _ (exact : Bool) (before after : List Value) {E : Type 0} {a m : View} where
@@ -428,10 +432,12 @@ run_broke exact before after error breaks = record {
 
 -- where a run fails it promises no more
 pub run_fails : {exact : Bool} {full : ℕ} {before after : List Value} {E : Type 0} {a b : View}
-    {failure : Option (DecodeError E)} → TakesBy exact before after a b None failure
+    {failure : Option (DecodeError E)} → (IsTrue (is_out_of_memory (error_left failure))
+    → Asks (InParts exact 1) a b) → TakesBy exact before after a b None failure
     → TakesRun exact full before after a b None failure
-run_fails puts = record {
+run_fails wants puts = record {
   puts = puts;
+  memory = wants;
   items = tt;
   few = tt;
   lacks = tt;
@@ -474,12 +480,12 @@ join_items W vs ws xs ys zs h k = (
 )
 
 -- after more values before them
-stopped_further : (W : Tree → Type 0) (stop : Stopping) (vs : List Value) (full : ℕ)
+rejected_further : (W : Tree → Type 0) (stop : Rejection) (vs : List Value) (full : ℕ)
     (xs ys : List ℕ) (z : InputError) (rest : List ℕ) → ReadsEach W (length vs) xs vs ys
     → RejectsInCount W stop (full - length vs) ys z rest → RejectsInCount W stop full xs z rest
-stopped_further W stop vs full xs ys z rest h s =
+rejected_further W stop vs full xs ys z rest h s =
     in_count _ _ (omega (arith, count-join h.0 s.prefix, h.1, s.few)) (each-join W _ _ h.2 s.whole)
-    (h.4 ∙ ap (λ r. bytes_all h.0 ++ r) s.is ∙ sym (bytes-join h.0 s.prefix s.after)) s.stopped
+    (h.4 ∙ ap (λ r. bytes_all h.0 ++ r) s.is ∙ sym (bytes-join h.0 s.prefix s.after)) s.rejected
 
 -- ---- a turn: a run, and the value after it
 
@@ -500,10 +506,10 @@ none_under : (exact : Bool) (budget : Budget) (xs : List ℕ) (z : InputError) (
 none_under exact budget xs z rest s =
     subst (λ x. RejectsUnder exact budget x z rest) (sym s.0) (value_no_byte _ _ _ _ s.1)
 
-pub stopped_after : (W : Tree → Type 0) (stop : Stopping) (vs : List Value) (room : ℕ)
+pub rejected_after : (W : Tree → Type 0) (stop : Rejection) (vs : List Value) (room : ℕ)
     (xs ys : List ℕ) (z : InputError) (rest : List ℕ) → ReadsEach W (length vs) xs vs ys
     → length vs < room → stop ys z rest → RejectsInCount W stop room xs z rest
-stopped_after W stop vs room xs ys z rest h few s =
+rejected_after W stop vs room xs ys z rest h few s =
     in_count h.0 ys (omega (arith, h.1, few)) h.2 h.4 s
 
 module _ (exact : Bool) (full : ℕ) (before : List Value) {E : Type 0} {a : View} where
@@ -514,7 +520,7 @@ module _ (exact : Bool) (full : ℕ) (before : List Value) {E : Type 0} {a : Vie
       (RejectsItemsUnder exact (full - length before) a.budget) a b (Err e)
   turn_ends after lacks d =
       does_err (λ xs ys. xs ≡ ys) _ _ RejectsWhereNone _ (λ xs ys z rest is s budget step.
-      stopped_after (Whole exact budget)
+      rejected_after (Whole exact budget)
       (RejectsOneValue exact budget) [] (full - length before) xs xs z rest (
         no_trees,
         refl,
@@ -552,7 +558,8 @@ module _ (exact : Bool) (full : ℕ) (before : List Value) {E : Type 0} {a : Vie
           does_err (λ xs ys. PutsItemsUnder exact before mid a.budget xs tt ys) _ B (RejectsUnder
           exact run.mid.budget) _ (λ xs ys z rest h s budget step.
           let p = h budget step in
-          stopped_after (Whole exact budget) (RejectsOneValue exact budget) _ _ _ _ _ _ p.2 (omega (
+          rejected_after (Whole exact budget) (RejectsOneValue exact budget)
+          _ _ _ _ _ _ p.2 (omega (
             arith,
             lacks,
             ap length p.1,
@@ -580,7 +587,7 @@ pub turn_unstepped : (exact : Bool) (full : ℕ) (before after : List Value) {E 
     → StepsIn a.budget b.budget false → KeepsAllButBudget a b → Does {V = Unit {0}} (PutsItems exact
     before after a.budget) (RejectsItems exact (full - length before) a.budget) a b (Err e)
 turn_unstepped exact full before after {a = a} lacks says read takes k =
-    does_no_step value_name _ _ says read (λ none xs. stopped_after (Whole exact a.budget)
+    does_no_step value_name _ _ says read (λ none xs. rejected_after (Whole exact a.budget)
     (RejectsOneValue exact a.budget) [] (full - length before) xs xs (depth_overflow value_name) xs
     (no_trees, refl, tt, refl, refl) (omega (arith, lacks)) (value_no_step exact a.budget none xs))
     takes k
@@ -604,7 +611,7 @@ module _ (exact : Bool) (full : ℕ) (items after : List Value) {a m : View}
       → Does {V = V} B (RejectsItems exact full a.budget) a b (Err e)
   run_rejects B d =
       stops_under (ReadEach exact items a.budget) (PutsItems exact items after)
-      (RejectsItems exact (full - length items)) B _ (λ xs ys z rest h s. stopped_further
+      (RejectsItems exact (full - length items)) B _ (λ xs ys z rest h s. rejected_further
       (Whole exact a.budget) (RejectsOneValue exact a.budget) items full xs ys z rest h s) p d
 
 -- ---- pairs

@@ -52,7 +52,7 @@ pub simple_item_is : (s : Simple) → IsItem (simple_item s)
 simple_item_is simple_false = tt
 simple_item_is _ = tt
 
--- widths are told apart by how many bytes they have
+-- widths differ by how many bytes they have
 pub same_width : (w u : Width) → byte_count w ≡ byte_count u → w ≡ u
 same_width in_first in_first e = refl
 same_width one one e = refl
@@ -98,7 +98,7 @@ module _ (b n k : ℕ) (bs : List ℕ) (small : b < 256) (fresh : IsBytes bs)
         fresh = (small, IsBytes-take k bs fresh);
         item = int s n a.width;
         plain = (a.fits, tt);
-        strict = λ exact. least exact (λ e7. no_sign s (sym m ∙ e7));
+        shape = λ exact. least exact (λ e7. no_sign s (sym m ∙ e7));
         step = refl;
         means = ap integer is ∙ sym (view-Integer z);
         ranged =
@@ -123,7 +123,7 @@ module _ (b n k : ℕ) (bs : List ℕ) (small : b < 256) (fresh : IsBytes bs)
         fresh = (small, IsBytes-take k bs fresh);
         item = bits p n;
         plain = (t.1, tt);
-        strict = λ exact. tt;
+        shape = λ exact. tt;
         step = refl;
         means = means;
         ranged = subst IsItem means t.1;
@@ -146,7 +146,7 @@ module _ (b n k : ℕ) (bs : List ℕ) (small : b < 256) (fresh : IsBytes bs)
         fresh = (small, IsBytes-take (k + n) bs fresh);
         item = string kind a.width content;
         plain = (subst (HeadFits a.width) (sym long) a.fits, valid);
-        strict = λ exact.
+        shape = λ exact.
             least exact (λ e7. no_kind kind (sym m ∙ e7)) ∙ ap shortest (sym long);
         step = refl;
         means = means;
@@ -167,7 +167,7 @@ simple_ahead b n k bs v small s = record {
   fresh = (small, tt);
   item = simple s.0;
   plain = (tt, tt);
-  strict = λ exact none. exact.defined (s.1 ∙ ap simple_byte none);
+  shape = λ exact none. exact.defined (s.1 ∙ ap simple_byte none);
   step = refl;
   means = s.2;
   ranged = subst IsItem s.2 (simple_item_is s.0);
@@ -203,7 +203,7 @@ module _ (exact : Bool) {E : Type 0} {a m b : View} where
               t.1,
               λ budget step. (
                 o.is.item,
-                whole exact budget o.is.item o.is.plain o.is.strict
+                whole exact budget o.is.item o.is.plain o.is.shape
                     (subst (λ j. CostFits j budget) (sym o.is.step)
                     (step_up budget a.budget 0 step (fits_zero a.budget))),
                 o.is.means,

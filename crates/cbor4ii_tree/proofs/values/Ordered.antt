@@ -1,6 +1,6 @@
 -- Values whose encodings begin with equal heads.
-use Rattle.std.proofs.Common.{◌≡◌, ℕ, ◌+◌, ◌<◌, List, ◌∷◌, ◌++◌, length, drop, get_or, sym, ap, ◌∙◌}
-use Rattle.std.proofs.{Common.{subst₂, Vec, Global}, lemmas.List.drop_more}
+use Rattle.std.proofs.Common.{◌≡◌, ◌≢◌, ℕ, ◌+◌, ◌<◌, List, ◌∷◌, ◌++◌, length, drop, get_or, sym}
+use Rattle.std.proofs.{Common.{ap, ◌∙◌, subst₂, Vec, Global}, lemmas.List.drop_more}
 use Rattle.std.specs.{declared.cmp.Ordering.Ordering, declared.cmp.Ordering.TheVariants.Equal}
 use Rattle.cbor4ii_items.specs.SequenceBytes.{items_bytes}
 use Rattle.cbor4ii_tree.specs.{Canonical.{canonical_trees, canonical_pairs}, Encoding.value_bytes}
@@ -13,7 +13,8 @@ use Rattle.cbor4ii_tree.proofs.values.Encoding.{members-canonical_encoding}
 use Rattle.cbor4ii_tree.proofs.values.Encoding.{items-canonical_encoding, view-Array}
 use Rattle.cbor4ii_tree.proofs.values.Views.{view-Map, item_count-items_view}
 use Rattle.cbor4ii_tree.proofs.values.Views.{member_count-members_view}
-use Rattle.cbor4ii_tree.proofs.encodings.Order.{compares_then, same_major, after_array, after_map}
+use Rattle.cbor4ii_tree.proofs.encodings.Order.{compares_first, compares_then, same_major}
+use Rattle.cbor4ii_tree.proofs.encodings.Order.{after_array, after_map}
 
 -- two lists of as many values, whose bytes follow the heads
 pub record Alike {A : Type 0} (bytes : A → List ℕ) (xs ys : List A) (s t : List ℕ) : Type 0 where
@@ -61,6 +62,15 @@ bytes_from : {A : Type 0} (bytes : A → List ℕ) (xs : List A) (i : ℕ) (x : 
 bytes_from bytes xs i x lt is =
     ap (items_bytes bytes) (drop_more xs i x lt)
     ∙ ap (λ y. items_bytes bytes (y ∷ drop (i + 1) xs)) (sym is)
+
+-- at two that differ
+pub compares_here : {A : Type 0} (bytes : A → List ℕ) (xs ys : List A) (i : ℕ) (x y : A)
+    (r : Ordering) → i < length xs → i < length ys → x ≡ get_or xs i x → y ≡ get_or ys i y
+    → r ≢ Equal → Compares r (bytes x) (bytes y)
+    → Compares r (items_bytes bytes (drop i xs)) (items_bytes bytes (drop i ys))
+compares_here bytes xs ys i x y r in_xs in_ys is are n here =
+    subst₂ (Compares r) (sym (bytes_from bytes xs i x in_xs is))
+    (sym (bytes_from bytes ys i y in_ys are)) (compares_first _ _ n here)
 
 -- past two that are equal
 pub compares_from : {A : Type 0} (bytes : A → List ℕ) (xs ys : List A) (i : ℕ) (x y : A)

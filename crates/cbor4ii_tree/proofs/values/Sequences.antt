@@ -24,7 +24,8 @@ use Rattle.cbor4ii_tree.specs.{Cost.{greatest_cost, greatest_pair_cost}, Does.{A
 use Rattle.cbor4ii_tree.specs.{Does.answered, InputError.{array_name, map_name, mismatch}}
 use Rattle.cbor4ii_tree.specs.{InputError.{depth_overflow, eof, break_name, Small}, Item.sequence}
 use Rattle.cbor4ii_tree.specs.{Item.mapping, Laws.Binds.step_up, Meaning.{member_values, values}}
-use Rattle.cbor4ii_tree.specs.Rejections.{Stopping, Is, AtHead, RejectsAtStep, RejectsInCount, Each}
+use Rattle.cbor4ii_tree.specs.Rejections.{Rejection, Is, AtHead, RejectsAtStep, RejectsInCount}
+use Rattle.cbor4ii_tree.specs.Rejections.{Each}
 use Rattle.cbor4ii_tree.specs.{Rejections.{EachPair, NoBreak}, Tree.{Tree, Trees, no_trees, Pairs}}
 use Rattle.cbor4ii_tree.specs.Tree.{no_pairs, pair, array, array_indefinite, map_of, map_indefinite}
 use Rattle.cbor4ii_tree.specs.Tree.{bytes, bytes_all, bytes_pairs, LooseAll, LoosePairs}
@@ -81,19 +82,19 @@ by_info false = array_by_info
 by_info true = map_by_info
 
 -- what is rejected after the step, by what the first byte adds
-abbrev pub RejectsOpen : Bool → Bool → Budget → Stopping
+abbrev pub RejectsOpen : Bool → Bool → Budget → Rejection
 RejectsOpen false = RejectsIndefiniteItems
 RejectsOpen true = RejectsIndefiniteMembers
 
-abbrev pub RejectsInside : Bool → Info → Budget → ℕ → Stopping
+abbrev pub RejectsInside : Bool → Info → Budget → ℕ → Rejection
 RejectsInside keyed (wide w) inner b bs =
     AtHead (name_of keyed) (major_of keyed) w b (λ n. RejectsItems false (in_all keyed n) inner) bs
 RejectsInside keyed indefinite_ended inner b bs = RejectsOpen keyed false inner bs
 RejectsInside keyed reserved inner b bs = Is (mismatch (name_of keyed) b) bs
 
 -- the same of a canonical one
-abbrev pub RejectsStrictly : Bool → (Budget → Stopping) → Budget → Stopping
-RejectsStrictly keyed rejects inner xs e rest =
+abbrev pub RejectsCanonically : Bool → (Budget → Rejection) → Budget → Rejection
+RejectsCanonically keyed rejects inner xs e rest =
     AtShortest (name_of keyed) (major_of keyed) inner (λ n. RejectsInCount (FitsCanonically inner)
     (rejects inner) (in_all keyed n)) xs e rest
 
@@ -122,11 +123,11 @@ module _ (outer : Budget) (b : ℕ) (bs : List ℕ) (e : InputError) (rest : Lis
   at_info true indefinite_ended is h = at_row outer starts_indefinite_map b bs e rest is h
   at_info true reserved is h = at_row outer bad_map b bs e rest is h
 
-  at_strict : (keyed : Bool) → b / 32 ≡ major_of keyed → RejectsAtStep (name_of keyed)
-      (step_in outer) (b ∷ bs) (λ inner. RejectsStrictly keyed (RejectsOneValue true) inner
+  at_canonical : (keyed : Bool) → b / 32 ≡ major_of keyed → RejectsAtStep (name_of keyed)
+      (step_in outer) (b ∷ bs) (λ inner. RejectsCanonically keyed (RejectsOneValue true) inner
       (b ∷ bs)) e rest → RejectsUnder true outer (b ∷ bs) e rest
-  at_strict false m h = at_major 4 outer b bs e rest m h
-  at_strict true m h = at_major 5 outer b bs e rest m h
+  at_canonical false m h = at_major 4 outer b bs e rest m h
+  at_canonical true m h = at_major 5 outer b bs e rest m h
 
   -- a step was taken
   pub inside : (keyed : Bool) (i : Info) (inner : Budget) → initial b ≡ by_info keyed i
@@ -158,8 +159,8 @@ parts_no_step keyed false budget none xs b bs is m =
     rw is (at_info budget b bs _ _ keyed i (initial_by keyed b m) (no_step_left (name_of keyed)
     (b ∷ bs) (λ inner. RejectsInside keyed i inner b bs) budget none))
 parts_no_step keyed true budget none xs b bs is m =
-    rw is (at_strict budget b bs _ _ keyed m (no_step_left (name_of keyed) (b ∷ bs) (λ inner.
-    RejectsStrictly keyed (RejectsOneValue true) inner (b ∷ bs)) budget none))
+    rw is (at_canonical budget b bs _ _ keyed m (no_step_left (name_of keyed) (b ∷ bs) (λ inner.
+    RejectsCanonically keyed (RejectsOneValue true) inner (b ∷ bs)) budget none))
 
 pub parts_deep : (keyed exact : Bool) {V E : Type 0} {name : Bor (List ℕ)} {A : Accepting V}
     {a b : View} → name.now ≡ name_of keyed → StepsIn a.budget b.budget false
@@ -192,13 +193,14 @@ length_rejects keyed inner xs budget e rest h b bs is m outer step =
     (head_rejects keyed _ inner b bs e rest refl m k.0 k.1))
 
 -- after the step a canonical array or map fails by its head, or by what follows it
-strict : (keyed : Bool) (inner : Budget) (xs : List ℕ) (e : InputError) (rest : List ℕ)
-    → RejectsStrictly keyed (RejectsOneValue true) inner xs e rest
+canonical_rejects : (keyed : Bool) (inner : Budget) (xs : List ℕ) (e : InputError) (rest : List ℕ)
+    → RejectsCanonically keyed (RejectsOneValue true) inner xs e rest
     → RejectsMajor true (major_of keyed) inner xs e rest
-strict keyed inner xs e rest h b bs is m outer step =
-    let S = λ (inner : Budget). RejectsStrictly keyed (RejectsOneValue true) inner (b ∷ bs) in
-    rw is (at_strict outer b bs e rest keyed m (step_taken (name_of keyed) (b ∷ bs) S outer inner e
-    rest step (subst (λ x. RejectsStrictly keyed (RejectsOneValue true) inner x e rest) is h)))
+canonical_rejects keyed inner xs e rest h b bs is m outer step =
+    let S = λ (inner : Budget). RejectsCanonically keyed (RejectsOneValue true) inner (b ∷ bs) in
+    rw is (at_canonical outer b bs e rest keyed m (step_taken (name_of keyed)
+    (b ∷ bs) S outer inner e
+    rest step (subst (λ x. RejectsCanonically keyed (RejectsOneValue true) inner x e rest) is h)))
 
 -- its head is rejected
 pub shortest_rejected : (keyed : Bool) {major : ℕ} → major ≡ major_of keyed → {E : Type 0}
@@ -208,7 +210,7 @@ pub shortest_rejected : (keyed : Bool) {major : ℕ} → major ≡ major_of keye
 shortest_rejected keyed {major = major} is {a = a} moves s =
     call_rejects {U = ℕ} (TakesLength true major a.budget) (RejectsShortest (name_of keyed) major)
     (RejectsMajor true major a.budget) (λ xs z rest h. subst (λ j. RejectsMajor true j a.budget xs z
-    rest) (sym is) (strict keyed a.budget xs z rest (inl (subst (λ j. RejectsShortest
+    rest) (sym is) (canonical_rejects keyed a.budget xs z rest (inl (subst (λ j. RejectsShortest
     (name_of keyed) j xs a.budget z rest) is h)))) moves s
 
 -- the length that a head says
@@ -239,11 +241,11 @@ pub row : (keyed exact : Bool) (n : ℕ) (inner : Budget) (xs ys : List ℕ) (e 
 row keyed false n inner xs ys e rest h s b bs is m outer step =
     rw h.3 (inside _ _ _ _ _ _ _ _ (initial_wide _ _ _ h.1) step (inr (headed_by n ys h.1 refl s)))
 row keyed true n inner xs ys e rest h s b bs is m outer step =
-    strict _ _ _ _ _ (inr (record {
+    canonical_rejects _ _ _ _ _ (inr (record {
       argument = n;
       after = ys;
       is = shortest_at (major_of keyed) n xs ys h;
-      stopped = s;
+      rejected = s;
     })) b bs is m outer step
 
 pub open_row : (keyed exact : Bool) (inner : Budget) (xs ys : List ℕ) (e : InputError)
@@ -349,7 +351,7 @@ answer_as f (Ok u) = Ok (f u)
 answer_as f (Err e) = Err e
 
 -- the length that was taken
-pub follow : (exact : Bool) {E : Type 0} (major : ℕ) (o p : Option ℕ) {S : Stopping} {a m : View}
+pub follow : (exact : Bool) {E : Type 0} (major : ℕ) (o p : Option ℕ) {S : Rejection} {a m : View}
     → o ≡ p → Does {E = E} (TakesLength exact major a.budget) S a m (Ok o)
     → Reached (λ xs ys. TakesLength exact major a.budget xs p ys) a m
 follow exact major o p {a = a} is d =
@@ -453,9 +455,9 @@ module _ (exact : Bool) {V E : Type 0} (B : Accepting V) {e : DecodeError E} {a 
 
 -- ---- a pair
 
-module _ (exact : Bool) {k : Value} {E : Type 0} {S : Stopping} {a m : View}
+module _ (exact : Bool) {k : Value} {E : Type 0} {S : Rejection} {a m : View}
     (key : Does {E = E} (ReadsOneValue exact a.budget) S a m (Ok k)) where
-  pub pair_read : {v : Value} {b : View} {T : Stopping}
+  pub pair_read : {v : Value} {b : View} {T : Rejection}
       → Does {E = E} (ReadsOneValue exact m.budget) T m b (Ok v)
       → Reached (λ xs ys. ReadsMember exact a.budget xs (k, v) ys) a b
   pair_read {v = v} d =
@@ -474,5 +476,5 @@ module _ (exact : Bool) {k : Value} {E : Type 0} {S : Stopping} {a m : View}
         after = ys;
         whole = h.1;
         is = h.3;
-        stopped = s;
+        rejected = s;
       })) (reached_by key) d

@@ -1,6 +1,6 @@
 -- Answers of the plain programs, taken apart and put together.
 use Rattle.std.proofs.Common.{◌≡◌, ℕ, zero, suc, ◌+◌, ◌-◌, ◌⊎◌, inl, inr, List, Option, Some, None}
-use Rattle.std.proofs.Common.{Ok, Err, Result, refl, sym, ap, arith, cond, true, false, Bool}
+use Rattle.std.proofs.Common.{Ok, Err, Result, refl, ap, arith}
 use Rattle.cbor4ii_items.specs.Budget.{CostFits}
 use Rattle.cbor4ii_items.specs.Reading.{go_on}
 use Rattle.cbor4ii_tree.specs.Cost.{Budget, step_in}
@@ -40,27 +40,9 @@ pub then_err : {A B : Type 0} (r : Answer A) (next : A → Parser B) (z : InputE
     → r ≡ Err z → go_on r next ≡ Err z
 then_err r next z e = rw e refl
 
-pub guard_ok : {A : Type 0} (b : Bool) (z : InputError × List ℕ) (x y : A × List ℕ)
-    → ◌≡◌ {A = Answer A} (cond b (Err z) (Ok x)) (Ok y) → (b ≡ false) × (x ≡ y)
-guard_ok {A} true z x y e = absurd (no_ok {A = A} z y e)
-guard_ok {A} false z x y e = (refl, same_ok {E = InputError × List ℕ} (Ok x) x y refl e)
-
-pub is_err : {A : Type 0} (f : InputError) (left : List ℕ) (e : InputError) (rest : List ℕ)
-    → ◌≡◌ {A = Answer A} (Err (f, left)) (Err (e, rest)) → Is f left e rest
-is_err {A} f left e rest h =
-    let s = same_err {A = A × List ℕ} (Err (f, left)) (f, left) (e, rest) refl h in
-    (sym (ap (λ (p : InputError × List ℕ). p.0) s), sym (ap (λ (p : InputError × List ℕ). p.1) s))
-
 pub err : {A : Type 0} (f : InputError) (left : List ℕ) (e : InputError) (rest : List ℕ)
     → Is f left e rest → ◌≡◌ {A = Answer A} (Err (f, left)) (Err (e, rest))
 err f left e rest h = cc
-
-pub guard_err : {A : Type 0} (b : Bool) (f : InputError) (left : List ℕ) (x : A × List ℕ)
-    (e : InputError)
-    (rest : List ℕ) → ◌≡◌ {A = Answer A} (cond b (Err (f, left)) (Ok x)) (Err (e, rest))
-    → (b ≡ true) × Is f left e rest
-guard_err {A} true f left x e rest h = (refl, is_err {A = A} f left e rest h)
-guard_err {A} false f left x e rest h = absurd (no_err {A = A} x (e, rest) h)
 
 -- the answer's two parts
 pub parts : {A : Type 0} (r : Answer A) (a c : A) (b d : List ℕ) → r ≡ Ok (a, b) → r ≡ Ok (c, d)
@@ -68,11 +50,6 @@ pub parts : {A : Type 0} (r : Answer A) (a c : A) (b d : List ℕ) → r ≡ Ok 
 parts {A} r a c b d p q =
     let e = same_ok r (a, b) (c, d) p q in
     (ap (λ (x : A × List ℕ). x.0) e, ap (λ (x : A × List ℕ). x.1) e)
-
-pub chosen : {A : Type 0} (c : Bool) (x y z : A) → cond c x y ≡ z
-    → ((c ≡ true) × (x ≡ z)) ⊎ ((c ≡ false) × (y ≡ z))
-chosen true x y z e = inl (refl, e)
-chosen false x y z e = inr (refl, e)
 
 -- ---- steps
 
@@ -93,20 +70,6 @@ step_up None inner c e f = tt
 step_up (Some zero) inner c e f = cc
 step_up (Some (suc n)) None c e f = cc
 step_up (Some (suc n)) (Some m) c e f = let s : n ≡ m = cc in omega arith
-
-pub stepped_ok : {A : Type 0} (name : List ℕ) (step : Option Budget) (here : List ℕ)
-    (next : Budget → Answer A) (x : A × List ℕ) → stepped name step here next ≡ Ok x
-    → (inner : Budget) × (step ≡ Some inner) × (next inner ≡ Ok x)
-stepped_ok {A} name None here next x e = absurd (no_ok {A = A} _ x e)
-stepped_ok name (Some inner) here next x e = (inner, refl, e)
-
-pub stepped_err : {A : Type 0} (name : List ℕ) (step : Option Budget) (here : List ℕ)
-    (next : Budget → Answer A) (rejects : Budget → InputError → List ℕ → Type 0) (e : InputError)
-    (rest : List ℕ)
-    → ((inner : Budget) → step ≡ Some inner → next inner ≡ Err (e, rest) → rejects inner e rest)
-    → stepped name step here next ≡ Err (e, rest) → RejectsAtStep name step here rejects e rest
-stepped_err {A} name None here next rejects e rest k x = is_err {A = A} _ _ _ _ x
-stepped_err name (Some inner) here next rejects e rest k x = k inner refl x
 
 pub stepped_rejects : {A : Type 0} (name : List ℕ) (step : Option Budget) (here : List ℕ)
     (next : Budget → Answer A) (rejects : Budget → InputError → List ℕ → Type 0) (e : InputError)

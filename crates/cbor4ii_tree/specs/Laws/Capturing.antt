@@ -1,5 +1,5 @@
 -- One input is captured in one way.
-use Rattle.std.proofs.Common.{◌≡◌, ℕ, ◌≤◌, List, ◌++◌, length, take, sym, ap, ◌∙◌}
+use Rattle.std.proofs.Common.{◌≡◌, ℕ, ◌≤◌, List, ◌++◌, length, take, refl, sym, ap, ◌∙◌}
 use Rattle.std.proofs.lemmas.List.{length-take-le}
 use Rattle.std.proofs.Math.Seq.{take-append_seam}
 use Rattle.cbor4ii_tree.specs.Laws.Ignoring.{tree_one, tree_within, tree_positive, tree_alone}
@@ -7,6 +7,9 @@ use Rattle.cbor4ii_tree.specs.Raw.{ReadsRaw, raw_format}
 use Rattle.cbor4ii_items.specs.Laws.Formats.{lawful_in_memory}
 use Rattle.cbor4ii_tree.specs.BoxedRaw.{boxed_content, boxed_raw_format}
 use Rattle.cbor4ii_items.specs.Decoding.{IsLawful}
+use Rattle.cbor4ii_tree.specs.declared.plain_raw.PlainRawValue.{PlainRawValue}
+use Rattle.cbor4ii_tree.specs.PlainRaw.{ReadsPlainRaw, plain_raw_content, plain_raw_format}
+use Rattle.cbor4ii_tree.specs.Laws.Values.{value_one, value_alone, value_positive}
 
 pub raw_one : {V : Type 0} (content : V → List ℕ) (xs : List ℕ) (v w : V) (n m c d : ℕ)
     → ReadsRaw content xs v n c → ReadsRaw content xs w m d
@@ -42,3 +45,32 @@ raw_lawful content = record {
 
 pub boxed_raw_lawful : IsLawful boxed_raw_format
 boxed_raw_lawful = lawful_in_memory (raw_format boxed_content) (raw_lawful boxed_content)
+
+-- ---- read as a value
+
+pub plain_raw_one : (xs : List ℕ) (p q : PlainRawValue) (n m c d : ℕ)
+    → ReadsPlainRaw xs p n c → ReadsPlainRaw xs q m d
+    → (n ≡ m) × (c ≡ d) × (plain_raw_content p ≡ plain_raw_content q)
+plain_raw_one xs p q n m c d r s =
+    let e = value_one xs r.0 s.0 n m c d r.1.0 s.1.0 in
+    (e.0, e.1, r.1.1 ∙ (ap (λ j. take j xs) e.0 ∙ sym s.1.1))
+
+pub plain_raw_alone : (xs ys : List ℕ) (p : PlainRawValue) (n c : ℕ)
+    → ReadsPlainRaw xs p n c → ReadsPlainRaw (take n xs ++ ys) p n c
+plain_raw_alone xs ys p n c r =
+    let t = take n xs in
+    let size : length t ≡ n = length-take-le n xs r.1.0.within in (
+      r.0,
+      (
+        value_alone refl xs ys r.0 n c r.1.0,
+        r.1.1 ∙ (sym (take-append_seam t ys) ∙ ap (λ j. take j (t ++ ys)) size),
+      ),
+    )
+
+pub plain_raw_lawful : IsLawful plain_raw_format
+plain_raw_lawful = record {
+  one = plain_raw_one;
+  within = λ xs p n c r. r.1.0.within;
+  positive = λ some xs p n c r. value_positive refl xs r.0 n c r.1.0;
+  alone = λ closed. plain_raw_alone;
+}

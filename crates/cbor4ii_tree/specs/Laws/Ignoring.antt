@@ -19,7 +19,7 @@ one_encoding t u x y l m e =
     parts (skip None (bytes t ++ x)) t u x y (encoding_again t x l)
     (subst (λ (z : List ℕ). skip None z ≡ Ok (u, y)) (sym e) (encoding_again u y m))
 
--- ---- a tree at the front
+-- ---- a tree at the beginning
 
 pub tree_one : (xs : List ℕ) (n m c d : ℕ) → ReadsTree xs n c → ReadsTree xs m d → (n ≡ m) × (c ≡ d)
 tree_one xs n m c d p q =

@@ -6,6 +6,7 @@ use cbor4ii_rw::error::DecodeError;
 use cbor4ii_rw::io_reader::IoReader;
 use cbor4ii_rw::segment_reader::SegmentReader;
 use cbor4ii_rw::slice_reader::SliceReader;
+use cbor4ii_vectors::readers::{Asked, Asks};
 use cbor4ii_vectors::streams::FailingStream;
 use std::io::{self, ErrorKind};
 
@@ -20,6 +21,22 @@ fn bytes_are_taken_one_by_one(rt: HostRuntime) {
         assert!(rt; takes(&mut segments, want));
         assert!(rt; takes(&mut stream, want));
     }
+}
+
+// One look for each byte, and one at the end. None wants a byte more.
+#[test]
+fn a_byte_is_wanted_alone(rt: HostRuntime) {
+    let mut reader = Asked::new(b"ab");
+    for want in [Some(b'a'), Some(b'b'), None] {
+        assert!(rt; takes(&mut reader, want));
+    }
+    let asks = Asks {
+        looks: 3,
+        ends: 1,
+        largest: 1,
+        come: 3,
+    };
+    assert_eq!(rt; reader.asks(), asks);
 }
 
 // A stream that fails at its first look, with another error than test streams have by themselves.

@@ -1,4 +1,4 @@
-//! A buffer appends what is pushed, or nothing where memory is rejected.
+//! A buffer appends what is pushed, or nothing where memory is refused.
 use cbor4ii_rw::buf_writer::BufWriter;
 use cbor4ii_rw::write::Write;
 use std::test::Fail;
@@ -33,7 +33,8 @@ fn a_refused_growth_appends_nothing(rt: HostRuntime) {
     }
 }
 
-// 40 pushes of 10 bytes, for which the buffer grows again and again.
+// 40 pushes of 10 bytes, for which the buffer grows again and again. Its memory is for what it has
+// to hold, or for twice what it held, if that is more: 10 bytes, 20, 40, 80, 160, 320 and 640.
 #[test]
 fn a_buffer_grows(rt: HostRuntime) -> Result<(), Fail> {
     let mut writer = BufWriter::new(Vec::new(rt.alloc()));
@@ -44,5 +45,6 @@ fn a_buffer_grows(rt: HostRuntime) -> Result<(), Fail> {
     for (i, byte) in writer.buffer().iter().enumerate() {
         assert_eq!(rt; usize::from(*byte), 48 + i % 10);
     }
+    assert_eq!(rt; writer.into_inner().capacity(), 640);
     Ok(())
 }

@@ -67,7 +67,7 @@ fn a_push_of_70000_bytes_is_one_write(rt: HostRuntime) -> Result<(), Fail> {
     Ok(())
 }
 
-// Of a push that a stream rejects, the stream may hold a part.
+// Of a push that a stream refuses, the stream may hold a part.
 #[test]
 fn a_write_that_fails_is_reported(rt: HostRuntime) -> Result<(), Fail> {
     let mut writer = IoWriter::new(FailingSink::new(Vec::with_capacity(rt.alloc(), 3)?, 2));

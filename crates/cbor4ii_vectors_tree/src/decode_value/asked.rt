@@ -9,13 +9,14 @@
 //! That is the most. Where the reader lets a look ask for 4,096 bytes, such a look stands in the
 //! place of the first, and decides at once what it shows whole. A whole head of an array, a map or
 //! a tag takes no look more.
-use crate::decode_value::growth::repeated;
 use crate::item::Item;
-use cbor4ii_rw::error::{DecodeError, Never};
+use cbor4ii_rw::error::DecodeError;
 use cbor4ii_rw::read::Source;
 use cbor4ii_tree::{Canonical, Value};
-use cbor4ii_vectors::readers::{Asked, Asks, Failure};
-use cbor4ii_vectors::rows::{ReadFrom, leaves};
+use cbor4ii_vectors::asked::{asks, looks_at_most};
+use cbor4ii_vectors::readers::{Asked, Asks};
+use cbor4ii_vectors::repeated::repeated;
+use cbor4ii_vectors::rows::ReadFrom;
 use cbor4ii_vectors::table;
 use std::alloc::Global;
 use std::test::Fail;
@@ -90,35 +91,6 @@ const MANY: &[Row] = table! {
     (b"\xb8\x64", b"\x61a\x81\x00", 100, (9, 410), (702, 704, 201), (1003, 1005, 201)),
 };
 
-// How the reader is asked: whether the bytes are read, and what it was asked for. It fails nowhere.
-fn asks<T: ReadFrom + Drop>(
-    alloc: Global,
-    mut reader: Asked<'_>,
-    bytes: &[u8],
-) -> Result<(bool, Asks), Fail> {
-    let got = T::read_from(alloc, &mut reader);
-    let asks = reader.asks();
-    match got {
-        Ok(_) => {
-            leaves(&mut reader, bytes, b"")?;
-            Ok((true, asks))
-        }
-        Err(DecodeError::OutOfMemory) => Err(Fail::from(DecodeError::<Never>::OutOfMemory)),
-        Err(DecodeError::Read(Failure)) => {
-            Err(Fail::new(format_args!("{asks:?}, where {bytes:?} is to be read")))
-        }
-        Err(_) => Ok((false, asks)),
-    }
-}
-
-// Asks no more than so many looks, and that so many bytes have come.
-fn is_at_most(asks: Asks, looks: usize, come: usize, bytes: &[u8]) -> Result<(), Fail> {
-    if asks.looks <= looks && asks.come <= come {
-        return Ok(());
-    }
-    Err(Fail::new(format_args!("{asks:?}, where {looks} looks read {bytes:?}")))
-}
-
 // Over a reader that fails where more than `most.0` bytes are wanted, and has to have had `most.1`
 // of them at the most; and over one that lets a look ask for 4,096, and fails where more than that
 // and `most.0` are wanted. What is read is read by each.
@@ -129,37 +101,22 @@ fn asks_at_most<T: ReadFrom + Drop>(
     most: (usize, usize),
     looks: Looks,
 ) -> Result<(), Fail> {
-    let narrow = Asked::new(bytes).rejecting_above(most.0);
+    let narrow = Asked::new(bytes).refusing_above(most.0);
     looks_at_most::<T>(alloc, narrow, bytes, is_read, looks.0, most.1)?;
-    let narrow = Asked::new(bytes).rejecting_above(most.0).showing(1);
+    let narrow = Asked::new(bytes).refusing_above(most.0).showing(1);
     looks_at_most::<T>(alloc, narrow, bytes, is_read, looks.1, most.1)?;
     let largest = most.0.max(4_096);
-    let wide = Asked::new(bytes).wide().rejecting_above(largest);
+    let wide = Asked::new(bytes).wide().refusing_above(largest);
     looks_at_most::<T>(alloc, wide, bytes, is_read, looks.2, usize::MAX)?;
-    let wide = Asked::new(bytes).wide().rejecting_above(largest).showing(1);
+    let wide = Asked::new(bytes).wide().refusing_above(largest).showing(1);
     looks_at_most::<T>(alloc, wide, bytes, is_read, looks.1, usize::MAX)
 }
 
-fn looks_at_most<T: ReadFrom + Drop>(
-    alloc: Global,
-    reader: Asked<'_>,
-    bytes: &[u8],
-    is_read: bool,
-    looks: usize,
-    come: usize,
-) -> Result<(), Fail> {
-    let (was_read, asks) = asks::<T>(alloc, reader, bytes)?;
-    if was_read != is_read {
-        return Err(Fail::new(format_args!("{bytes:?} is read or refused otherwise")));
-    }
-    is_at_most(asks, looks, come, bytes)
-}
-
 fn asks_rows(alloc: Global, rows: &[Row]) -> Result<(), Fail> {
-    for &(head, part, count, most, looks, strict) in rows {
+    for &(head, part, count, most, looks, canonical) in rows {
         let bytes = repeated(alloc, head, part, count, b"")?;
         asks_at_most::<Item<Value>>(alloc, bytes, true, most, looks)?;
-        asks_at_most::<Item<Canonical>>(alloc, bytes, true, most, strict)?;
+        asks_at_most::<Item<Canonical>>(alloc, bytes, true, most, canonical)?;
     }
     Ok(())
 }
@@ -194,10 +151,10 @@ const OTHERS: &[OtherRow] = table! {
 
 // Where the first byte of an indefinite length is rejected, no look wants more than that byte.
 fn asks_other_rows(alloc: Global, rows: &[OtherRow]) -> Result<(), Fail> {
-    for &(bytes, is_read, most, looks, strict) in rows {
+    for &(bytes, is_read, most, looks, canonical) in rows {
         asks_at_most::<Item<Value>>(alloc, bytes, is_read, most, looks)?;
         let most = if is_read { (1, 1) } else { most };
-        asks_at_most::<Item<Canonical>>(alloc, bytes, false, most, strict)?;
+        asks_at_most::<Item<Canonical>>(alloc, bytes, false, most, canonical)?;
     }
     Ok(())
 }
@@ -294,12 +251,12 @@ const AROUND: &[(&[u8], &[u8], usize, usize, usize)] = table! {
 };
 
 fn looks_around(alloc: Global, rows: &[(&[u8], &[u8], usize, usize, usize)]) -> Result<(), Fail> {
-    for &(head, part, count, looks, strict) in rows {
+    for &(head, part, count, looks, canonical) in rows {
         let bytes = repeated(alloc, head, part, count, b"")?;
-        let wide = Asked::new(bytes).wide().rejecting_above(4_096);
+        let wide = Asked::new(bytes).wide().refusing_above(4_096);
         looks_at_most::<Item<Value>>(alloc, wide, bytes, true, looks, usize::MAX)?;
-        let wide = Asked::new(bytes).wide().rejecting_above(4_096);
-        looks_at_most::<Item<Canonical>>(alloc, wide, bytes, true, strict, usize::MAX)?;
+        let wide = Asked::new(bytes).wide().refusing_above(4_096);
+        looks_at_most::<Item<Canonical>>(alloc, wide, bytes, true, canonical, usize::MAX)?;
     }
     Ok(())
 }
@@ -328,10 +285,10 @@ fn looks_shown(
     alloc: Global,
     rows: &[(&[u8], &[u8], usize, usize, usize, usize)],
 ) -> Result<(), Fail> {
-    for &(head, part, count, prefix, looks, strict) in rows {
+    for &(head, part, count, prefix, looks, canonical) in rows {
         let bytes = repeated(alloc, head, part, count, b"")?;
         looks_in_prefixes::<Item<Value>>(alloc, bytes, prefix, looks)?;
-        looks_in_prefixes::<Item<Canonical>>(alloc, bytes, prefix, strict)?;
+        looks_in_prefixes::<Item<Canonical>>(alloc, bytes, prefix, canonical)?;
     }
     Ok(())
 }

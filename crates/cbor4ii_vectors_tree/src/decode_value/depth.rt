@@ -1,7 +1,7 @@
 //! Rows of items that are nested deep: each level takes steps of the reader, and has to give them
 //! back.
 use crate::item::Item;
-use crate::item_rows::{reads_value, rejects_to_skip_within, skips_item};
+use crate::item_rows::{reads_value, rejects_in_skipping_within, skips_item};
 use cbor4ii_tree::{IgnoredAny, Value};
 use cbor4ii_vectors::readers::TestReader;
 use cbor4ii_vectors::rows::{Pair, ends_at_each_prefix, reads_over, reads_within};
@@ -70,7 +70,13 @@ fn rejects_rows(alloc: Global, rows: &[Rejected]) -> Result<(), Fail> {
         rejects(alloc, bytes, read, end(bytes, left)?)?;
         match skipped {
             None => skips_item(alloc, bytes, 256)?,
-            Some(left) => rejects_to_skip_within(alloc, bytes, 256, NO_STEP, end(bytes, left)?)?,
+            Some(left) => rejects_in_skipping_within(
+                alloc,
+                bytes,
+                256,
+                NO_STEP,
+                end(bytes, left)?,
+            )?,
         }
     }
     Ok(())

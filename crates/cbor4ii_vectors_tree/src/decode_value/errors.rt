@@ -4,7 +4,7 @@
 //! Where skipping rejects, an item that is kept as its bytes is rejected alike, lent or copied.
 //! Nothing of it is taken then, also where the reader fails.
 use crate::item::Item;
-use crate::item_rows::{rejects_to_skip, rejects_to_skip_within, skips, skips_within};
+use crate::item_rows::{rejects_in_skipping, rejects_in_skipping_within, skips, skips_within};
 use cbor4ii_tree::{IgnoredAny, Value};
 use cbor4ii_vectors::rows::{reads, reads_within};
 use cbor4ii_vectors::{eof, mismatch, no_step, require_length, require_utf8, table, unsupported};
@@ -331,7 +331,7 @@ fn rejects_value_within(
 fn cuts_off(alloc: Global, rows: &[CutOff]) -> Result<(), Fail> {
     for &(bytes, read, skipped) in rows {
         rejects_value(alloc, bytes, read, b"")?;
-        rejects_to_skip(alloc, bytes, skipped, b"")?;
+        rejects_in_skipping(alloc, bytes, skipped, b"")?;
     }
     Ok(())
 }
@@ -351,7 +351,7 @@ fn cut_off_containers(rt: HostRuntime) -> Result<(), Fail> {
 fn rejects_rows(alloc: Global, rows: &[Rejected]) -> Result<(), Fail> {
     for &(bytes, read, left, skipped, skipped_left) in rows {
         rejects_value(alloc, bytes, read, left)?;
-        rejects_to_skip(alloc, bytes, skipped, skipped_left)?;
+        rejects_in_skipping(alloc, bytes, skipped, skipped_left)?;
     }
     Ok(())
 }
@@ -387,7 +387,7 @@ fn rejected_and_skipped(rt: HostRuntime) -> Result<(), Fail> {
 fn rejects_rows_within(alloc: Global, rows: &[RejectedWithin]) -> Result<(), Fail> {
     for &(bytes, limit, read, left, skipped, skipped_left) in rows {
         rejects_value_within(alloc, bytes, limit, read, left)?;
-        rejects_to_skip_within(alloc, bytes, limit, skipped, skipped_left)?;
+        rejects_in_skipping_within(alloc, bytes, limit, skipped, skipped_left)?;
     }
     Ok(())
 }

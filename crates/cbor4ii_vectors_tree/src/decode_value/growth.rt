@@ -2,25 +2,10 @@
 //! copied and written.
 use crate::item::Item;
 use cbor4ii_tree::{Canonical, Value};
+use cbor4ii_vectors::repeated::repeated;
 use cbor4ii_vectors::rows::{reads_by_each, writes};
 use std::alloc::{AllocError, Global};
 use std::test::Fail;
-
-/// A part so many times, between a head and an end. The bytes stay for good.
-pub fn repeated(
-    alloc: Global,
-    head: &[u8],
-    part: &[u8],
-    count: usize,
-    end: &[u8],
-) -> Result<&'static [u8], AllocError> {
-    let mut bytes = head.to_vec(alloc)?;
-    for _ in 0..count {
-        bytes.extend_from_slice(part)?;
-    }
-    bytes.extend_from_slice(end)?;
-    Ok(bytes.leak())
-}
 
 /// So many numbers 5.
 pub fn array(alloc: Global, count: usize) -> Result<Value, AllocError> {
@@ -56,8 +41,8 @@ fn arrays_of_300_items(rt: HostRuntime) -> Result<(), Fail> {
     let alloc = rt.alloc();
     let counted = repeated(alloc, b"\x99\x01\x2c", b"\x05", 300, b"")?;
     reads_and_writes(alloc, counted, array(alloc, 300)?)?;
-    let open = repeated(alloc, b"\x9f", b"\x05", 300, b"\xff")?;
-    reads(alloc, open, array(alloc, 300)?)
+    let indefinite = repeated(alloc, b"\x9f", b"\x05", 300, b"\xff")?;
+    reads(alloc, indefinite, array(alloc, 300)?)
 }
 
 #[test]
@@ -69,8 +54,30 @@ fn maps_of_300_pairs(rt: HostRuntime) -> Result<(), Fail> {
 fn reads_maps(alloc: Global, pair: &[u8], value: i128) -> Result<(), Fail> {
     let counted = repeated(alloc, b"\xb9\x01\x2c", pair, 300, b"")?;
     reads_and_writes(alloc, counted, map(alloc, value, 300)?)?;
-    let open = repeated(alloc, b"\xbf", pair, 300, b"\xff")?;
-    reads(alloc, open, map(alloc, value, 300)?)
+    let indefinite = repeated(alloc, b"\xbf", pair, 300, b"\xff")?;
+    reads(alloc, indefinite, map(alloc, value, 300)?)
+}
+
+// So many numbers from 0 on, each with a 5.
+fn numbered(alloc: Global, count: u16) -> Result<Vec<(Value, Value)>, AllocError> {
+    let mut pairs = Vec::new(alloc);
+    for number in 0..count {
+        pairs.push((Value::Integer(i128::from(number)), Value::Integer(5)))?;
+    }
+    Ok(pairs)
+}
+
+// They take no memory, so there is no want of it.
+#[test]
+fn parts_are_made_canonical(rt: HostRuntime) -> Result<(), Fail> {
+    let alloc = rt.alloc();
+    let pairs = Value::Map(numbered(alloc, 6_000)?);
+    let canonical = Canonical::try_from_value(alloc, pairs.try_clone()?)?;
+    assert!(rt; canonical.into_inner() == pairs);
+    let items = array(alloc, 6_000)?;
+    let canonical = Canonical::try_from_value(alloc, items.try_clone()?)?;
+    assert!(rt; canonical.into_inner() == items);
+    Ok(())
 }
 
 /// So many of this byte.
@@ -83,8 +90,8 @@ fn byte_strings_of_300_bytes(rt: HostRuntime) -> Result<(), Fail> {
     let alloc = rt.alloc();
     let counted = repeated(alloc, b"\x59\x01\x2c", b"\x07", 300, b"")?;
     reads_and_writes(alloc, counted, byte_string(alloc, 0x07, 300)?)?;
-    let open = repeated(alloc, b"\x5f", b"\x41\x07", 300, b"\xff")?;
-    reads(alloc, open, byte_string(alloc, 0x07, 300)?)
+    let indefinite = repeated(alloc, b"\x5f", b"\x41\x07", 300, b"\xff")?;
+    reads(alloc, indefinite, byte_string(alloc, 0x07, 300)?)
 }
 
 /// So many letters a.
@@ -97,8 +104,8 @@ fn texts_of_300_letters(rt: HostRuntime) -> Result<(), Fail> {
     let alloc = rt.alloc();
     let counted = repeated(alloc, b"\x79\x01\x2c", b"a", 300, b"")?;
     reads_and_writes(alloc, counted, text(alloc, 300)?)?;
-    let open = repeated(alloc, b"\x7f", b"\x61a", 300, b"\xff")?;
-    reads(alloc, open, text(alloc, 300)?)
+    let indefinite = repeated(alloc, b"\x7f", b"\x61a", 300, b"\xff")?;
+    reads(alloc, indefinite, text(alloc, 300)?)
 }
 
 // 20,000 bytes, more than are reserved before any came: 59 4e 20 and 79 4e 20 are their heads.

@@ -1,9 +1,10 @@
 //! Values on both sides of the 4,096 bytes that one look may ask for: of more parts than it shows,
 //! and strings that end there. They are read over a slice, over two segments that are cut there,
 //! and over streams that show as many bytes at a time.
-use crate::decode_value::growth::{array, byte_string, map, repeated, text};
+use crate::decode_value::growth::{array, byte_string, map, text};
 use crate::item::Item;
 use cbor4ii_tree::{Canonical, Value};
+use cbor4ii_vectors::repeated::repeated;
 use cbor4ii_vectors::rows::reads_around_a_look;
 use cbor4ii_vectors::table;
 use std::alloc::{AllocError, Global};
@@ -24,8 +25,8 @@ fn arrays_of_5000_items(rt: HostRuntime) -> Result<(), Fail> {
     let alloc = rt.alloc();
     let counted = repeated(alloc, b"\x99\x13\x88", b"\x05", 5_000, b"")?;
     reads_canonically(alloc, counted, array(alloc, 5_000)?)?;
-    let open = repeated(alloc, b"\x9f", b"\x05", 5_000, b"\xff")?;
-    reads(alloc, open, array(alloc, 5_000)?)
+    let indefinite = repeated(alloc, b"\x9f", b"\x05", 5_000, b"\xff")?;
+    reads(alloc, indefinite, array(alloc, 5_000)?)
 }
 
 #[test]
@@ -33,8 +34,8 @@ fn maps_of_2500_pairs(rt: HostRuntime) -> Result<(), Fail> {
     let alloc = rt.alloc();
     let counted = repeated(alloc, b"\xb9\x09\xc4", b"\x05\x06", 2_500, b"")?;
     reads_canonically(alloc, counted, map(alloc, 6, 2_500)?)?;
-    let open = repeated(alloc, b"\xbf", b"\x05\x06", 2_500, b"\xff")?;
-    reads(alloc, open, map(alloc, 6, 2_500)?)
+    let indefinite = repeated(alloc, b"\xbf", b"\x05\x06", 2_500, b"\xff")?;
+    reads(alloc, indefinite, map(alloc, 6, 2_500)?)
 }
 
 // So many empty arrays.

@@ -2,6 +2,7 @@
 ghost use Rattle.std.specs.Prelude.{ℕ, List};
 ghost use Rattle.std.specs.Borrow.{Bor};
 ghost use Rattle.cbor4ii_items.specs.Decoding.{DecodesIf};
+ghost use Rattle.cbor4ii_items.specs.Moves.{Moves};
 ghost use Rattle.cbor4ii.specs.Cases.{Cases as Variants, Holding, holding_format, case_format};
 ghost use Rattle.cbor4ii.specs.Cases.{unit_case, held_case, otherwise, cases_by, enum_of};
 ghost use Rattle.cbor4ii.specs.Cases.{inside_format, named_format};
@@ -110,6 +111,9 @@ pub trait Cases<S: Source, R>: Sized + Drop {
 
     /// Reads what the variant holds whose name stands at this place among the names.
     ///
+    /// Whatever the place is, the budget is as before, and the bytes that are left are an end of
+    /// those that were there.
+    ///
     /// # Errors
     ///
     /// Those that `cases` reports for the name, with what they leave. Of a pair they are those of
@@ -123,7 +127,8 @@ pub trait Cases<S: Source, R>: Sized + Drop {
         form: (bool, u8),
         de: &mut Deserializer<S>,
     ) -> Result<R, DecodeError<S::Error>>
-        ensures { (name : List ℕ) → StandsAt name names.now at →
+        ensures moves { Moves (input S.view de.old) (input S.view de.new) (answer_of result) }
+        ensures decodes { (name : List ℕ) → StandsAt name names.now at →
             DecodesIf (cases self names.now).exact (case_format (cases self names.now) form name)
             (input S.view de.old) (input S.view de.new) (answer_of result) };
 }

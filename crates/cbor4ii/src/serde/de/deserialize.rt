@@ -16,8 +16,8 @@ pub trait Typed: Sized {
 
 /// A type whose values are read from a reader.
 pub trait Deserialize<S: Source>: Typed {
-    /// Reads one value off the front of what `de` has left. `alloc` gives what memory the value
-    /// needs.
+    /// Reads one value from the beginning of what `de` has left. `alloc` gives what memory the
+    /// value needs.
     ///
     /// Over any lawful reader, also one that does not report its bytes, and whatever the answer is:
     /// the budget is as before, the bytes that are left are an end of those that were there, no
@@ -35,9 +35,10 @@ pub trait Deserialize<S: Source>: Typed {
     ///   reader has a budget
     ///
     /// Of an exact type that needs no borrowed slice, these come only where no value whose
-    /// steps fit the budget begins the bytes. The same holds of another exact type where the reader
-    /// is zero-copy and has fewer than 2^64 bytes left. Of a type that reports its errors, `begins`
-    /// of its format says which error it is, with which fields, and which bytes are left.
+    /// steps fit the budget begins the bytes, and `rejects` of its format says by all of the bytes
+    /// which error it is, with which fields, and which bytes are left. The same holds of another
+    /// exact type where the reader is zero-copy and has fewer than 2^64 bytes left. Of a type that
+    /// reports its errors, `begins` of its format says so over any reader.
     fn deserialize(alloc: Global, de: &mut Deserializer<S>) -> Result<Self, DecodeError<S::Error>>
         ensures { Deserializes Self.promise
             (input S.view de.old) (input S.view de.new) (answer_of result) };

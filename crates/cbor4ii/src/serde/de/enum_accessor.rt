@@ -319,6 +319,10 @@ impl<'a, S: Source> EnumAccessor<'a, S> {
             IfErr result (λ error. Complete (ReadsContent (form_of self.entry).0
             T.promise.format.reads)
             (inside_enum S.view self.entry) (as_core error)) }
+        ensures exact { IsTrue T.promise.exact → IsExact T.promise.format.owned
+            (inside_enum S.view self.entry) → IfErr result (λ error. Rejects
+            (RejectsContent (form_of self.entry) T.promise.format.rejects)
+            (inside_enum S.view self.entry) (input S.view self.exit.0.now) (as_core error)) }
         ensures rejects { IfErr result (λ error. Rejects
             (RejectsContent (form_of self.entry) (said_by T.promise))
             (inside_enum S.view self.entry) (input S.view self.exit.0.now) (as_core error)) }

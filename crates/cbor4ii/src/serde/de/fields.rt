@@ -1,6 +1,7 @@
 //! Structs that are read from their named fields in one call.
-ghost use Rattle.std.specs.Prelude.{◌≡◌, ℕ, List, codes};
+ghost use Rattle.std.specs.Prelude.{◌≡◌, ◌+◌, ◌≤◌, ℕ, List, OnOk, codes};
 ghost use Rattle.std.specs.Borrow.{Bor};
+ghost use Rattle.cbor4ii_items.specs.Moves.{Moves};
 ghost use Rattle.cbor4ii_items.specs.Sequences.{count_of, indefinite_of, inside_of, in_list};
 ghost use Rattle.cbor4ii.specs.Fields.{made, all_made, Alters};
 ghost use Rattle.cbor4ii.specs.Names.{StandsAt};
@@ -55,6 +56,9 @@ impl<P: Place, V: Places> Places for (P, V) {
 pub trait Values<S: Source>: Places {
     /// Reads the value of the field whose name stands at this place, and skips one of another name.
     ///
+    /// Whatever the place is, the budget is as before, and the bytes that are left are an end of
+    /// those that were there. At success a byte was taken.
+    ///
     /// # Errors
     ///
     /// Those of the field's value, and of `deserialize_ignored_any` for an entry of another name,
@@ -67,7 +71,10 @@ pub trait Values<S: Source>: Places {
         at: usize,
         de: &mut Deserializer<S>,
     ) -> Result<(), DecodeError<S::Error>>
-        ensures { (name : List ℕ) → StandsAt name names.now at →
+        ensures moves { Moves (input S.view de.old) (input S.view de.new) (answer_of result) }
+        ensures progress { OnOk result
+            ((input S.view de.new).bound + 1 ≤ (input S.view de.old).bound) }
+        ensures alters { (name : List ℕ) → StandsAt name names.now at →
             Alters made (Self.fields names.now).exact (after_name (Self.fields names.now) name)
             self.old self.new (input S.view de.old) (input S.view de.new) (answer_of result) };
 }

@@ -1,4 +1,4 @@
-//! The value at the front of an input.
+//! The value at the beginning of an input.
 ghost use Rattle.std.specs.Prelude.{◌≡◌, Some, IsTrue};
 ghost use Rattle.cbor4ii_rw.specs.Input.{limit};
 ghost use Rattle.cbor4ii_rw.specs.Stream.{most_bytes, cut_known};
@@ -16,7 +16,7 @@ use std::alloc::Global;
 use std::io;
 use std::io::BufRead;
 
-/// Reads the value at the front of `input`, a slice, with 256 steps. What follows it is left
+/// Reads the value at the beginning of `input`, a slice, with 256 steps. What follows it is left
 /// alone.
 ///
 /// # Errors
@@ -24,8 +24,8 @@ use std::io::BufRead;
 /// - `Core` of `OutOfMemory`: a growth was refused, of a type that takes memory
 /// - `Core` of `Read`: only over an input of a user's own whose reader may fail
 /// - any other error comes, of an exact type, only where no value whose steps are at most 256
-///   begins the slice. Of a type that reports its errors it is the one that `begins` of its
-///   format says
+///   begins the slice, and is the one that `rejects` of its format says. Of a type that reports
+///   its errors it is one that `begins` of its format says
 pub fn from_slice<I: Input, T: Deserialize<I::Reader>>(
     alloc: Global,
     input: I,
@@ -58,8 +58,8 @@ pub fn from_slice_whole<I: Input, T: Deserialize<I::Reader> + Drop>(
     Ok(value)
 }
 
-/// Reads the value at the front of a stream, with 256 steps. Of a stream, at most 2^64-1 bytes are
-/// read. What was taken of `reader` before an error is lost; after a value `reader` follows
+/// Reads the value at the beginning of a stream, with 256 steps. Of a stream, at most 2^64-1 bytes
+/// are read. What was taken of `reader` before an error is lost; after a value `reader` follows
 /// it, which is tested and not proved, since `reader` is gone then.
 ///
 /// # Errors
@@ -68,7 +68,7 @@ pub fn from_slice_whole<I: Input, T: Deserialize<I::Reader> + Drop>(
 /// - `Core` of `OutOfMemory`: a growth was refused, of a type that takes memory
 /// - any other error is, of a type that reports its errors, the one that `begins` of its format
 ///   says. Of an exact type that needs no borrowed slice, it comes only where no value whose steps
-///   are at most 256 begins these bytes
+///   are at most 256 begins these bytes, and is the one that `rejects` of its format says
 pub fn from_reader<R: BufRead + Drop, T: Deserialize<IoReader<R>>>(
     alloc: Global,
     reader: R,
@@ -79,7 +79,7 @@ pub fn from_reader<R: BufRead + Drop, T: Deserialize<IoReader<R>>>(
     read_first(alloc, IoReader::new(reader))
 }
 
-/// Reads the value at the front of what `reader` has left.
+/// Reads the value at the beginning of what `reader` has left.
 fn read_first<S: Source + Drop, T: Deserialize<S>>(
     alloc: Global,
     reader: S,

@@ -12,7 +12,7 @@ use cbor4ii_rw::error::StaticStr;
 use cbor4ii_rw::read::Source;
 use std::alloc::Global;
 
-/// Each of these reads the item at the front of what is left, and leaves what follows it. It
+/// Each of these reads the item at the beginning of what is left, and leaves what follows it. It
 /// moves the reader as `Deserialize::deserialize` does, and needs no step unless it says so.
 ///
 /// # Errors

@@ -49,7 +49,7 @@ pub enum Single<T> {
     Repeated,
 }
 
-/// Several values are reported from one.
+/// It says whether one value came, or several.
 impl<T: Typed + Drop> Place for Single<T> {
     type Value = T;
 

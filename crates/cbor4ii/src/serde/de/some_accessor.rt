@@ -143,6 +143,10 @@ impl<'a, S: Source> SomeAccessor<'a, S> {
         ensures rejects { IsTrue T.promise.known → IfErr result
             (λ error. Rejects T.promise.format.begins
             (inside_some S.view self.entry) (input S.view self.exit.0.now) (as_core error)) }
+        ensures exact { IsTrue T.promise.exact → IsExact T.promise.format.owned
+            (inside_some S.view self.entry) →
+            IfErr result (λ error. Rejects T.promise.format.rejects
+            (inside_some S.view self.entry) (input S.view self.exit.0.now) (as_core error)) }
     {
         if !self.some {
             return Ok(None);

@@ -1,5 +1,5 @@
 use Rattle.cbor4ii_ser.specs.Laws.Joining.{serializes_then, serializes_out}
-use Rattle.cbor4ii_ser.proofs.Failing.{told}
+use Rattle.cbor4ii_ser.proofs.Failing.{from_slot}
 use Rattle.cbor4ii_ser.proofs.maps.put_map.Goals as goal
 
 pub returns-in_err-map_head : goal.returns-in_err-map_head
@@ -13,4 +13,4 @@ returns g c =
 
 pub returns-then-has_large_error : goal.returns-then-has_large_error
 returns-then-has_large_error g c =
-    told _ _ c.put_map_in_turn.ensures.kept c.put_map_in_turn.ensures.writes
+    from_slot _ _ c.put_map_in_turn.ensures.kept c.put_map_in_turn.ensures.writes

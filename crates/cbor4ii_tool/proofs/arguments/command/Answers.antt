@@ -19,8 +19,8 @@ returns-in-len1-clause-ints c = (
   λ _. refl,
 )
 
-pub returns-in-len1-2-clause-canonical_encoding : goal.returns-in-len1-2-clause-canonical_encoding
-returns-in-len1-2-clause-canonical_encoding c = (
+pub returns-in-len1-2-clause-canon : goal.returns-in-len1-2-clause-canon
+returns-in-len1-2-clause-canon c = (
   λ _. one_text _ _ _ c.in-len1.len_at_least c.in-len1.len_below c.word-item-then-words-lt2.is
       (sym c.as_str-then-words-lt2.ensures.value
       ∙ (bytes_eq-Decides _ _).0 (sym c.eq-then-words-lt2.ensures ∙ c.if-eq-2.true)),

@@ -1,6 +1,8 @@
-use Rattle.std.proofs.Common.{rules, arith}
-use Rattle.cbor4ii_tree.specs.declared.value.Value.{the_lemmas}
-use Rattle.cbor4ii_tree.proofs.values.Bignums.{items_tagged, members_tagged, size-at, sizes-at}
+use Rattle.std.proofs.Common.{◌≢◌, ◌⊎◌, subst, rules, arith}
+use Rattle.cbor4ii_tree.specs.{Canonical.with_bignums, View.view}
+use Rattle.cbor4ii_tree.specs.declared.value.Value.{Value, the_lemmas}
+use Rattle.cbor4ii_tree.proofs.values.Bignums.{items_change, items_tagged, members_change}
+use Rattle.cbor4ii_tree.proofs.values.Bignums.{members_tagged, size-at, sizes-at}
 use Rattle.cbor4ii_tree.proofs.bignum.+bignums.Goals as goal
 
 -- the variant is opened, since its second part is what was changed
@@ -15,7 +17,7 @@ tag_items-loop-i-preserved t c =
       search rules,
       items_tagged c.loop-i.items c.args.items.now i x c.tag_bignums.new.value (omega arith)
           c.loop-i-test.true (c.loop-i.invariant.0.1 i x (omega arith)) c.loop-i.invariant.1
-          c.in_ok-tag_bignums.ensures,
+          c.in_ok-tag_bignums.ensures.tagged,
     )
 
 pub tag_members-loop-i-preserved : goal.tag_members-loop-i-preserved
@@ -41,3 +43,24 @@ tag_members-tag_member-requires t c =
     let x = c.index-members-i.result in
     let small = sizes-at c.args.members.now i x c.loop-i-test.true in
     rw (c.loop-i.invariant.0.1 i x (omega arith)) (omega (arith, small, c.decreases), tt)
+
+pub tag_items-returns-in_err-tag_bignums-clause-memory :
+    goal.tag_items-returns-in_err-tag_bignums-clause-memory
+tag_items-returns-in_err-tag_bignums-clause-memory t c =
+    let i = c.loop-i.i in
+    let x = c.index-items-i.result in
+    let here = subst (λ (v : Value). with_bignums (view v) ≢ view v)
+    (c.loop-i.invariant.0.1 i x (omega arith)) c.in_err-tag_bignums.ensures.memory in
+    let all = items_change c.args.items.now i x (omega arith) here in
+    search (rules, all)
+
+pub tag_members-returns-in_err-tag_member-clause-memory :
+    goal.tag_members-returns-in_err-tag_member-clause-memory
+tag_members-returns-in_err-tag_member-clause-memory t c =
+    let i = c.loop-i.i in
+    let x = c.index-members-i.result in
+    let here = subst (λ (m : Value × Value). (with_bignums (view m.0) ≢ view m.0)
+    ⊎ (with_bignums (view m.1) ≢ view m.1)) (c.loop-i.invariant.0.1 i x (omega arith))
+    c.in_err-tag_member.ensures.memory in
+    let all = members_change c.args.members.now i x (omega arith) here in
+    search (rules, all)

@@ -1,7 +1,7 @@
 use Rattle.std.proofs.Common.{inl, inr, refl, ap, ◌∙◌, take, List, ℕ}
 use Rattle.cbor4ii_tree.specs.BoxedRaw.{boxed_content}
 use Rattle.cbor4ii_tree.proofs.raw_items.{Copied.none_read, Unlent.none_rejects, Captured.captured}
-use Rattle.cbor4ii_tree.proofs.raw_items.Captured.{stopped_in}
+use Rattle.cbor4ii_tree.proofs.raw_items.Captured.{rejected_in}
 use Rattle.cbor4ii_tree.proofs.boxed_raw.copy_lent.Goals as goal
 
 pub returns-in-Ok-from_slice-clause-copies : goal.returns-in-Ok-from_slice-clause-copies
@@ -33,7 +33,7 @@ returns-in-Ok-clause-unlent g c never =
 
 pub returns-in-Ok-Some-clause-copies : goal.returns-in-Ok-Some-clause-copies
 returns-in-Ok-Some-clause-copies g c =
-    inl (stopped_in (rw c.in-Ok-Some.field-0-is at c.in-Ok-Some.ensures.fills) c.as_slice.ensures
+    inl (rejected_in (rw c.in-Ok-Some.field-0-is at c.in-Ok-Some.ensures.fills) c.as_slice.ensures
     c.in-Err-skip_lent.ensures.rejects c.in-Err-skip_lent.ensures.stays
     c.in-Err-skip_lent.ensures.budget)
 

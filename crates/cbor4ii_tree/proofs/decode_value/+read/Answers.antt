@@ -1,4 +1,4 @@
-use Rattle.std.proofs.Common.{inl, refl, sym, ap, subst, arith, ◌∙◌, ◌∷◌, [], false, true, Vec}
+use Rattle.std.proofs.Common.{inl, inr, refl, sym, ap, subst, arith, ◌∙◌, ◌∷◌, [], false, true, Vec}
 use Rattle.std.proofs.Common.{Global, Some}
 use Rattle.cbor4ii_items.specs.{Laws.Running.kept_alike, Laws.Steps.kept_then}
 use Rattle.cbor4ii_tree.specs.{Does.error_left, InputError.value_name, Item.{IsItem, tag}}
@@ -19,7 +19,12 @@ use Rattle.cbor4ii_tree.proofs.values.Sequences.{value_stops, member_stops, pair
 use Rattle.cbor4ii_tree.proofs.values.Sequences.{value_rejected, none_follow, parts_deep}
 use Rattle.cbor4ii_tree.proofs.values.Gives.{gives_err, gives_on, gives_as, value_stepped}
 use Rattle.cbor4ii_tree.proofs.values.Gives.{second_stepped, items_stepped, item_put}
-use Rattle.cbor4ii_tree.proofs.values.Gives.{counted_gives, opened_gives, look_gives}
+use Rattle.cbor4ii_tree.proofs.values.Gives.{counted_gives, opened_gives, look_gives, no_want}
+use Rattle.cbor4ii_tree.proofs.values.Gives.{counted_asks, opened_asks}
+use Rattle.cbor4ii_tree.proofs.values.Asking.{asks_after, asks_as, asks_here, in_any, in_first}
+use Rattle.cbor4ii_tree.proofs.values.Asking.{in_further, in_next, in_string, in_tagged}
+use Rattle.cbor4ii_tree.proofs.values.Asking.{not_wanted, put_grows, turn_asks, value_is}
+use Rattle.cbor4ii_tree.proofs.values.Asking.{values_are}
 use Rattle.cbor4ii_tree.proofs.decode_value.+read.Goals as goal
 
 -- ---- an array or a map
@@ -31,48 +36,52 @@ read_array-returns g t c =
 
 pub read_array-returns-then-not-step_in : goal.read_array-returns-then-not-step_in
 read_array-returns-then-not-step_in g t c =
-    rw c.leave_deep.ensures (gives_err (λ before shows. after_next _ shows
+    rw c.leave_deep.ensures (gives_err not_wanted (λ before shows. after_next _ shows
     (ReadsUnder g.A.Encodings.exact) (RejectsOf g.A.Encodings.exact _) (parts_deep false _ refl
     c.if-not-step_in.ensures.budget c.step_in.ensures.others)))
 
 pub array_inside-returns-in-Some-eq0 : goal.array_inside-returns-in-Some-eq0
 array_inside-returns-in-Some-eq0 g t c =
-    counted_gives false _ c.in_ok-take_length.ensures.does c.in_ok-take_length.ensures.progress
-    (items_none c.new.ensures.items) 0 (c.in-Some-eq0.is ∙ ap Some c.in-Some-eq0.field-0-test)
+    counted_gives false _ c.in_ok-take_length.ensures.does c.in_ok-take_length.ensures.gains
+    (items_none c.new.ensures.items) tt 0 (c.in-Some-eq0.is ∙ ap Some c.in-Some-eq0.field-0-test)
     (none_follow _ (λ (v : Vec Value Global). v.items) _ c.new.ensures.items)
 
 pub array_inside-returns-in_ok-definite_items-in-Some :
     goal.array_inside-returns-in_ok-definite_items-in-Some
 array_inside-returns-in_ok-definite_items-in-Some g t c =
-    counted_gives false _ c.in_ok-take_length.ensures.does c.in_ok-take_length.ensures.progress
-    c.in_ok-definite_items-in-Some.ensures.items _ c.in-Some.is
+    counted_gives false _ c.in_ok-take_length.ensures.does c.in_ok-take_length.ensures.gains
+    c.in_ok-definite_items-in-Some.ensures.items tt _ c.in-Some.is
     c.in_ok-definite_items-in-Some.ensures.does
 
 pub array_inside-returns-in_err-definite_items-in-Some :
     goal.array_inside-returns-in_err-definite_items-in-Some
 array_inside-returns-in_err-definite_items-in-Some g t c =
     rw c.from_residual-in_err-definite_items-in-Some.ensures (counted_gives false _
-    c.in_ok-take_length.ensures.does c.in_ok-take_length.ensures.progress tt _ c.in-Some.is
+    c.in_ok-take_length.ensures.does c.in_ok-take_length.ensures.gains tt (λ want. counted_asks
+    false _ c.in_ok-take_length.ensures.does _ c.in-Some.is (omega arith)
+    (c.in_err-definite_items-in-Some.ensures.memory want)) _ c.in-Some.is
     c.in_err-definite_items-in-Some.ensures.does)
 
 pub array_inside-returns-in_ok-indefinite_items-in-None :
     goal.array_inside-returns-in_ok-indefinite_items-in-None
 array_inside-returns-in_ok-indefinite_items-in-None g t c =
-    opened_gives false _ c.in_ok-take_length.ensures.does c.in_ok-take_length.ensures.progress
-    c.in_ok-indefinite_items-in-None.ensures.items c.in-None.is
+    opened_gives false _ c.in_ok-take_length.ensures.does c.in_ok-take_length.ensures.gains
+    c.in_ok-indefinite_items-in-None.ensures.items tt c.in-None.is
     c.in_ok-indefinite_items-in-None.ensures.does
 
 pub array_inside-returns-in_err-indefinite_items-in-None :
     goal.array_inside-returns-in_err-indefinite_items-in-None
 array_inside-returns-in_err-indefinite_items-in-None g t c =
     rw c.from_residual-in_err-indefinite_items-in-None.ensures (opened_gives false _
-    c.in_ok-take_length.ensures.does c.in_ok-take_length.ensures.progress tt c.in-None.is
+    c.in_ok-take_length.ensures.does c.in_ok-take_length.ensures.gains tt (λ want. opened_asks
+    false _ c.in_ok-take_length.ensures.does c.in-None.is
+    (c.in_err-indefinite_items-in-None.ensures.memory want)) c.in-None.is
     c.in_err-indefinite_items-in-None.ensures.does)
 
 pub array_inside-returns-in_err-take_length : goal.array_inside-returns-in_err-take_length
 array_inside-returns-in_err-take_length g t c =
-    rw c.from_residual.ensures (gives_err (λ before shows. refused
-    (c.in_err-take_length.ensures.does before shows)))
+    rw c.from_residual.ensures (gives_err (λ want. absurd (c.in_err-take_length.ensures.memory
+    want)) (λ before shows. refused (c.in_err-take_length.ensures.does before shows)))
 
 pub read_map-returns : goal.read_map-returns
 read_map-returns g t c =
@@ -81,74 +90,80 @@ read_map-returns g t c =
 
 pub read_map-returns-then-not-step_in : goal.read_map-returns-then-not-step_in
 read_map-returns-then-not-step_in g t c =
-    rw c.leave_deep.ensures (gives_err (λ before shows. after_next _ shows
+    rw c.leave_deep.ensures (gives_err not_wanted (λ before shows. after_next _ shows
     (ReadsUnder g.A.Encodings.exact) (RejectsOf g.A.Encodings.exact _) (parts_deep true _ refl
     c.if-not-step_in.ensures.budget c.step_in.ensures.others)))
 
 pub map_inside-returns-in-Some-eq0 : goal.map_inside-returns-in-Some-eq0
 map_inside-returns-in-Some-eq0 g t c =
-    counted_gives true _ c.in_ok-take_length.ensures.does c.in_ok-take_length.ensures.progress
-    (items_none (ap flat_values c.new.ensures.items)) 0
+    counted_gives true _ c.in_ok-take_length.ensures.does c.in_ok-take_length.ensures.gains
+    (items_none (ap flat_values c.new.ensures.items)) tt 0
     (c.in-Some-eq0.is ∙ ap Some c.in-Some-eq0.field-0-test) (none_follow _ (λ (v : Vec
     (Value × Value) Global). flat_values v.items) _ (ap flat_values c.new.ensures.items))
 
 pub map_inside-returns-in_ok-definite_members-in-Some :
     goal.map_inside-returns-in_ok-definite_members-in-Some
 map_inside-returns-in_ok-definite_members-in-Some g t c =
-    counted_gives true _ c.in_ok-take_length.ensures.does c.in_ok-take_length.ensures.progress
-    c.in_ok-definite_members-in-Some.ensures.items _ c.in-Some.is
+    counted_gives true _ c.in_ok-take_length.ensures.does c.in_ok-take_length.ensures.gains
+    c.in_ok-definite_members-in-Some.ensures.items tt _ c.in-Some.is
     c.in_ok-definite_members-in-Some.ensures.does
 
 pub map_inside-returns-in_err-definite_members-in-Some :
     goal.map_inside-returns-in_err-definite_members-in-Some
 map_inside-returns-in_err-definite_members-in-Some g t c =
     rw c.from_residual-in_err-definite_members-in-Some.ensures (counted_gives true _
-    c.in_ok-take_length.ensures.does c.in_ok-take_length.ensures.progress tt _ c.in-Some.is
+    c.in_ok-take_length.ensures.does c.in_ok-take_length.ensures.gains tt (λ want. counted_asks
+    true _ c.in_ok-take_length.ensures.does _ c.in-Some.is (omega arith)
+    (c.in_err-definite_members-in-Some.ensures.memory want)) _ c.in-Some.is
     c.in_err-definite_members-in-Some.ensures.does)
 
 pub map_inside-returns-in_ok-indefinite_members-in-None :
     goal.map_inside-returns-in_ok-indefinite_members-in-None
 map_inside-returns-in_ok-indefinite_members-in-None g t c =
-    opened_gives true _ c.in_ok-take_length.ensures.does c.in_ok-take_length.ensures.progress
-    c.in_ok-indefinite_members-in-None.ensures.items c.in-None.is
+    opened_gives true _ c.in_ok-take_length.ensures.does c.in_ok-take_length.ensures.gains
+    c.in_ok-indefinite_members-in-None.ensures.items tt c.in-None.is
     c.in_ok-indefinite_members-in-None.ensures.does
 
 pub map_inside-returns-in_err-indefinite_members-in-None :
     goal.map_inside-returns-in_err-indefinite_members-in-None
 map_inside-returns-in_err-indefinite_members-in-None g t c =
     rw c.from_residual-in_err-indefinite_members-in-None.ensures (opened_gives true _
-    c.in_ok-take_length.ensures.does c.in_ok-take_length.ensures.progress tt c.in-None.is
+    c.in_ok-take_length.ensures.does c.in_ok-take_length.ensures.gains tt (λ want. opened_asks
+    true _ c.in_ok-take_length.ensures.does c.in-None.is
+    (c.in_err-indefinite_members-in-None.ensures.memory want)) c.in-None.is
     c.in_err-indefinite_members-in-None.ensures.does)
 
 pub map_inside-returns-in_err-take_length : goal.map_inside-returns-in_err-take_length
 map_inside-returns-in_err-take_length g t c =
-    rw c.from_residual.ensures (gives_err (λ before shows. refused
-    (c.in_err-take_length.ensures.does before shows)))
+    rw c.from_residual.ensures (gives_err (λ want. absurd (c.in_err-take_length.ensures.memory
+    want)) (λ before shows. refused (c.in_err-take_length.ensures.does before shows)))
 
 pub read_next-returns-in-4 : goal.read_next-returns-in-4
 read_next-returns-in-4 g t c =
-    gives_as (λ d before shows. major_arm _ _ (peeks_next _ shows) _ c.in-4.is (d before shows))
-    c.read_array.ensures
+    gives_as (λ h. h) (λ d before shows. major_arm _ _ (peeks_next _ shows) _ c.in-4.is (d before
+    shows)) c.read_array.ensures
 
 pub read_next-returns-in-5 : goal.read_next-returns-in-5
 read_next-returns-in-5 g t c =
-    gives_as (λ d before shows. major_arm _ _ (peeks_next _ shows) _ c.in-5.is (d before shows))
-    c.read_map.ensures
+    gives_as (λ h. h) (λ d before shows. major_arm _ _ (peeks_next _ shows) _ c.in-5.is (d before
+    shows)) c.read_map.ensures
 
 pub read_next-returns-in-6 : goal.read_next-returns-in-6
 read_next-returns-in-6 g t c =
-    gives_as (λ d before shows. major_arm _ _ (peeks_next _ shows) _ c.in-6.is (d before shows))
-    c.read_tag.ensures
+    gives_as (λ h. h) (λ d before shows. major_arm _ _ (peeks_next _ shows) _ c.in-6.is (d before
+    shows)) c.read_tag.ensures
 
 pub read_tag-returns-in_err-number : goal.read_tag-returns-in_err-number
 read_tag-returns-in_err-number g t c =
-    rw c.from_residual.ensures (gives_err (λ before shows. refused
-    (c.in_err-number.ensures.does before shows)))
+    rw c.from_residual.ensures (gives_err (λ want. absurd (c.in_err-number.ensures.memory want))
+    (λ before shows. refused (c.in_err-number.ensures.does before shows)))
 
 pub read_tag-returns : goal.read_tag-returns
 read_tag-returns g t c =
-    gives_on (λ d before shows. tag_does _ _ (reached_by (c.in_ok-number.ensures.does before
-    shows)) d) (omega (arith, c.in_ok-number.ensures.progress)) (omega arith) c.read_tagged.ensures
+    gives_on (λ h before shows. asks_after (λ xs us ys. in_tagged _ xs us ys) (reached_by
+    (c.in_ok-number.ensures.does before shows)) h) (λ d before shows. tag_does _ _ (reached_by
+    (c.in_ok-number.ensures.does before shows)) d) (omega (arith, c.in_ok-number.ensures.gains))
+    (omega arith) c.read_tagged.ensures
 
 pub read_inside-returns-in-Begins : goal.read_inside-returns-in-Begins
 read_inside-returns-in-Begins g t c =
@@ -249,19 +264,23 @@ pub read_member-returns : goal.read_member-returns
 read_member-returns g t c =
     record {
       does = does_ok _ _ (pair_read _ c.in_ok-key.ensures.does c.in_ok-value.ensures.does);
+      memory = tt;
       ranged = (c.in_ok-key.ensures.ranged, c.in_ok-value.ensures.ranged);
       gains = omega (arith, c.in_ok-key.ensures.gains, c.in_ok-value.ensures.gains);
     }
 
 pub read_member-returns-in_err-key : goal.read_member-returns-in_err-key
 read_member-returns-in_err-key g t c =
-    rw c.from_residual.ensures (gives_err (still_rejected _ _ _ _ (λ xs z rest s. inl s)
+    rw c.from_residual.ensures (gives_err (λ want. asks_as (in_first _)
+    (c.in_err-key.ensures.memory want)) (still_rejected _ _ _ _ (λ xs z rest s. inl s)
     c.in_err-key.ensures.does))
 
 pub read_member-returns-in_err-value : goal.read_member-returns-in_err-value
 read_member-returns-in_err-value g t c =
-    rw c.from_residual-in_err-value.ensures (gives_err (value_rejected _ c.in_ok-key.ensures.does _
-    c.in_err-value.ensures.does))
+    rw c.from_residual-in_err-value.ensures (gives_err (λ want. asks_after
+    (λ xs us ys h s. in_next _ 1 xs us ys (value_is _ _ _ xs us h) s) (reached_by
+    c.in_ok-key.ensures.does) (c.in_err-value.ensures.memory want)) (value_rejected _
+    c.in_ok-key.ensures.does _ c.in_err-value.ensures.does))
 
 pub read_value-returns : goal.read_value-returns
 read_value-returns g t c =
@@ -276,7 +295,7 @@ definite_members-returns-then-is_err-clause-does g t c =
 
 pub read_value-returns-then-not-step_in : goal.read_value-returns-then-not-step_in
 read_value-returns-then-not-step_in g t c =
-    rw c.leave_deep.ensures (gives_err (does_no_step value_name _ _ refl refl (λ none xs.
+    rw c.leave_deep.ensures (gives_err not_wanted (does_no_step value_name _ _ refl refl (λ none xs.
     value_no_step _ _ none xs) c.if-not-step_in.ensures.budget c.step_in.ensures.others))
 
 pub indefinite_items-loop-items-smaller : goal.indefinite_items-loop-items-smaller
@@ -297,7 +316,8 @@ indefinite_members-loop-members-smaller g t c =
 
 pub read_tagged-returns-in_err-inner : goal.read_tagged-returns-in_err-inner
 read_tagged-returns-in_err-inner g t c =
-    rw c.from_residual.ensures (gives_err (refused c.in_err-inner.ensures.does))
+    rw c.from_residual.ensures (gives_err (λ want. asks_as (λ xs ys. inr)
+    (c.in_err-inner.ensures.memory want)) (refused c.in_err-inner.ensures.does))
 
 pub read_tagged-returns-in-Ok : goal.read_tagged-returns-in-Ok
 read_tagged-returns-in-Ok g t c =
@@ -305,13 +325,15 @@ read_tagged-returns-in-Ok g t c =
     ∙ ap (λ x. tag c.args.number (view x)) c.in-Ok.ensures.ok in
     record {
       does = tagged_ok _ _ (Tag c.args.number c.in-Ok.boxed) is c.in_ok-inner.ensures.does;
+      memory = tt;
       ranged = subst IsItem (sym is) (omega arith, c.in_ok-inner.ensures.ranged);
       gains = c.in_ok-inner.ensures.gains;
     }
 
 pub read_tagged-returns : goal.read_tagged-returns
 read_tagged-returns g t c =
-    gives_err (does_no_memory _ _ refl c.in_ok-inner.ensures.does.moves.by)
+    gives_err (λ want. asks_here _ (λ xs ys h. inl (value_is _ _ _ xs ys h)) (reached_by
+    c.in_ok-inner.ensures.does)) (does_no_memory _ _ refl c.in_ok-inner.ensures.does.moves.by)
 
 -- ---- as many values as one look decides, and the one after them
 
@@ -323,7 +345,7 @@ more_items-returns g t c =
 
 pub more_items-returns-then-not-step_in : goal.more_items-returns-then-not-step_in
 more_items-returns-then-not-step_in g t c =
-    rw c.leave_deep.ensures (gives_err (turn_unstepped _ _ _ _ c.requires refl refl
+    rw c.leave_deep.ensures (gives_err not_wanted (turn_unstepped _ _ _ _ c.requires refl refl
     c.if-not-step_in.ensures.budget c.step_in.ensures.others))
 
 pub items_inside-returns-in_ok-value-in-Some : goal.items_inside-returns-in_ok-value-in-Some
@@ -333,13 +355,16 @@ items_inside-returns-in_ok-value-in-Some g t c =
 
 pub items_inside-returns-in_err-value-in-Some : goal.items_inside-returns-in_err-value-in-Some
 items_inside-returns-in_err-value-in-Some g t c =
-    rw c.from_residual-in_err-value-in-Some.ensures (gives_err (turn_rejected _ _ _ _ _
+    rw c.from_residual-in_err-value-in-Some.ensures (gives_err (λ want. turn_asks _
+    (run_before _ _ _ _ _ c.in-Some.is c.in_ok-next.ensures.puts)
+    (c.in_err-value-in-Some.ensures.memory want)) (turn_rejected _ _ _ _ _
     (run_before _ _ _ _ _ c.in-Some.is c.in_ok-next.ensures.puts) _ (on_found _ c.in-Some.is
     c.in_ok-next.ensures.lacks) c.in_err-value-in-Some.ensures.does))
 
 pub items_inside-returns-in_err-next : goal.items_inside-returns-in_err-next
 items_inside-returns-in_err-next g t c =
-    rw c.from_residual.ensures (gives_err (turn_ends _ _ _ _ c.requires c.in_err-next.ensures.puts))
+    rw c.from_residual.ensures (gives_err c.in_err-next.ensures.memory (turn_ends _ _ _ _ c.requires
+    c.in_err-next.ensures.puts))
 
 pub more_members-returns : goal.more_members-returns
 more_members-returns g t c =
@@ -349,7 +374,7 @@ more_members-returns g t c =
 
 pub more_members-returns-then-not-step_in : goal.more_members-returns-then-not-step_in
 more_members-returns-then-not-step_in g t c =
-    rw c.leave_deep.ensures (gives_err (turn_unstepped _ _ _ _ c.requires refl refl
+    rw c.leave_deep.ensures (gives_err not_wanted (turn_unstepped _ _ _ _ c.requires refl refl
     c.if-not-step_in.ensures.budget c.step_in.ensures.others))
 
 pub members_inside-returns-in_ok-value-in-Some : goal.members_inside-returns-in_ok-value-in-Some
@@ -359,13 +384,16 @@ members_inside-returns-in_ok-value-in-Some g t c =
 
 pub members_inside-returns-in_err-value-in-Some : goal.members_inside-returns-in_err-value-in-Some
 members_inside-returns-in_err-value-in-Some g t c =
-    rw c.from_residual-in_err-value-in-Some.ensures (gives_err (turn_rejected _ _ _ _ _
+    rw c.from_residual-in_err-value-in-Some.ensures (gives_err (λ want. turn_asks _
+    (run_before _ _ _ _ _ c.in-Some.is c.in_ok-next.ensures.puts)
+    (c.in_err-value-in-Some.ensures.memory want)) (turn_rejected _ _ _ _ _
     (run_before _ _ _ _ _ c.in-Some.is c.in_ok-next.ensures.puts) _ (on_found _ c.in-Some.is
     c.in_ok-next.ensures.lacks) c.in_err-value-in-Some.ensures.does))
 
 pub members_inside-returns-in_err-next : goal.members_inside-returns-in_err-next
 members_inside-returns-in_err-next g t c =
-    rw c.from_residual.ensures (gives_err (turn_ends _ _ _ _ c.requires c.in_err-next.ensures.puts))
+    rw c.from_residual.ensures (gives_err c.in_err-next.ensures.memory (turn_ends _ _ _ _ c.requires
+    c.in_err-next.ensures.puts))
 
 -- ---- an array whose items are counted
 
@@ -431,4 +459,74 @@ definite_members-returns-clause-items g t c =
 
 pub read_next-returns-in_default : goal.read_next-returns-in_default
 read_next-returns-in_default g t c =
-    gives_as (λ d before shows. d before (next_first _ shows)) c.read_alone.ensures
+    gives_as (λ string before shows. in_string _ _ (next_first _ shows) string)
+    (λ d before shows. d before (next_first _ shows)) c.read_alone.ensures
+
+pub indefinite_items-returns-in_err-part-clause-memory :
+    goal.indefinite_items-returns-in_err-part-clause-memory
+indefinite_items-returns-in_err-part-clause-memory g t c =
+    rw c.from_residual.ensures (λ want. absurd (no_want (rw c.in_err-part.ensures at
+    c.is_break.ensures.decodes.memory) want))
+
+pub indefinite_items-returns-in_err-value-clause-memory :
+    goal.indefinite_items-returns-in_err-value-clause-memory
+indefinite_items-returns-in_err-value-clause-memory g t c =
+    rw c.from_residual-in_err-value.ensures (λ want. asks_after (λ xs us ys h s. in_next _ 1 xs us
+    ys (values_are _ _ _ xs us h.0) s) (no_break_yet _ _ c.loop-items.invariant.reached
+    c.is_break.ensures.decodes c.in_ok-part.ensures c.if-not-branch.true)
+    (c.in_err-value.ensures.memory want))
+
+pub indefinite_items-returns-in_err-keep-clause-memory :
+    goal.indefinite_items-returns-in_err-keep-clause-memory
+indefinite_items-returns-in_err-keep-clause-memory g t c =
+    rw c.from_residual-in_err-keep.ensures (λ want. put_grows _ _ (c.in_ok-value.value ∷ []) (omega
+    arith) (no_break_yet _ _ c.loop-items.invariant.reached c.is_break.ensures.decodes
+    c.in_ok-part.ensures c.if-not-branch.true) (reached_as _ _ (λ xs ys h. one_item _ _ xs _ ys h)
+    (reached_by c.in_ok-value.ensures.does)))
+
+pub indefinite_members-returns-in_err-part-clause-memory :
+    goal.indefinite_members-returns-in_err-part-clause-memory
+indefinite_members-returns-in_err-part-clause-memory g t c =
+    rw c.from_residual.ensures (λ want. absurd (no_want (rw c.in_err-part.ensures at
+    c.is_break.ensures.decodes.memory) want))
+
+pub indefinite_members-returns-in_err-member-clause-memory :
+    goal.indefinite_members-returns-in_err-member-clause-memory
+indefinite_members-returns-in_err-member-clause-memory g t c =
+    rw c.from_residual-in_err-member.ensures (λ want. asks_after (λ xs us ys h s. in_further _ xs us
+    ys (values_are _ _ _ xs us h.0) s)
+    (no_break_yet _ _ c.loop-members.invariant.reached c.is_break.ensures.decodes
+    c.in_ok-part.ensures c.if-not-branch.true) (c.in_err-member.ensures.memory want))
+
+pub indefinite_members-returns-in_err-keep-clause-memory :
+    goal.indefinite_members-returns-in_err-keep-clause-memory
+indefinite_members-returns-in_err-keep-clause-memory g t c =
+    rw c.from_residual-in_err-keep.ensures (λ want. put_grows _ _ (c.in_ok-member.member.0
+    ∷ c.in_ok-member.member.1 ∷ []) (omega arith)
+    (no_break_yet _ _ c.loop-members.invariant.reached c.is_break.ensures.decodes
+    c.in_ok-part.ensures c.if-not-branch.true) (reached_by
+    c.in_ok-member.ensures.does))
+
+pub definite_items-returns-then-is_err-clause-memory :
+    goal.definite_items-returns-then-is_err-clause-memory
+definite_items-returns-then-is_err-clause-memory g t c want =
+    asks_here _ (λ xs ys h. inl (0, omega arith, values_are _ _ [] xs ys h)) (none_read _ _ [] refl)
+
+pub definite_items-returns-in_err-more_items-clause-memory :
+    goal.definite_items-returns-in_err-more_items-clause-memory
+definite_items-returns-in_err-more_items-clause-memory g t c =
+    rw c.from_residual.ensures (λ want. asks_after (λ xs us ys h s. in_any _ xs ys (in_further _ xs
+    us ys (values_are _ _ _ xs us h) s)) c.loop-alloc.invariant.reached
+    (c.in_err-more_items.ensures.memory want))
+
+pub definite_members-returns-then-is_err-clause-memory :
+    goal.definite_members-returns-then-is_err-clause-memory
+definite_members-returns-then-is_err-clause-memory g t c want =
+    asks_here _ (λ xs ys h. inl (0, omega arith, values_are _ _ [] xs ys h)) (none_read _ _ [] refl)
+
+pub definite_members-returns-in_err-more_members-clause-memory :
+    goal.definite_members-returns-in_err-more_members-clause-memory
+definite_members-returns-in_err-more_members-clause-memory g t c =
+    rw c.from_residual.ensures (λ want. asks_after (λ xs us ys h s. in_any _ xs ys (in_further _ xs
+    us ys (values_are _ _ _ xs us h) s)) c.loop-alloc.invariant.reached
+    (c.in_err-more_members.ensures.memory want))

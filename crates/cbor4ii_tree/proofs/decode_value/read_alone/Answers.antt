@@ -1,6 +1,7 @@
 use Rattle.std.proofs.Common.{arith, refl, subst, sym}
 use Rattle.cbor4ii_tree.specs.{Item.IsItem, Valuing.SimpleOf}
-use Rattle.cbor4ii_tree.proofs.values.{ByHead.peeked_first, Gives.{gives_err, gives_of}}
+use Rattle.cbor4ii_tree.proofs.values.{Asking.not_wanted, ByHead.peeked_first}
+use Rattle.cbor4ii_tree.proofs.values.Gives.{gives_err, gives_of, wants_as}
 use Rattle.cbor4ii_tree.proofs.values.Heads.{first_does, simple_read, undefined_rejected}
 use Rattle.cbor4ii_tree.proofs.values.Leaves.{simple_item_is}
 use Rattle.cbor4ii_tree.proofs.decode_value.read_alone.Goals as goal
@@ -9,11 +10,11 @@ pub returns-then-first-ne-SIMPLE : goal.returns-then-first-ne-SIMPLE
 returns-then-first-ne-SIMPLE g c =
     let leaf = c.read_leaf.ensures in
     rw (sym c.part.ensures) (gives_of (λ before shows. first_does _ _ (peeked_first _ shows)
-    leaf.does) leaf.item leaf.progress)
+    leaf.does) leaf.memory leaf.item leaf.progress)
 
 pub returns-then-not-accepts_simple : goal.returns-then-not-accepts_simple
 returns-then-not-accepts_simple g c =
-    rw c.leave_not_canonical.ensures (gives_err (λ before shows. undefined_rejected
+    rw c.leave_not_canonical.ensures (gives_err not_wanted (λ before shows. undefined_rejected
     g.A.Encodings.exact c.args.first shows (omega arith) c.advance.ensures
     (c.if-not-accepts_simple.ensures.rejected refl) refl refl refl))
 
@@ -24,6 +25,7 @@ returns-in-Some g c =
       does = λ before shows.
           simple_read g.A.Encodings.exact c.args.first shows (omega arith)
           c.advance-in-Some.ensures (c.if-not-accepts_simple.ensures.accepted refl) simple;
+      memory = tt;
       ranged = subst IsItem simple.2 (simple_item_is simple.0);
       gains = omega (arith, c.advance-in-Some.ensures.bound);
     }
@@ -32,4 +34,5 @@ pub returns-in-None : goal.returns-in-None
 returns-in-None g c =
     let float = c.read_float.ensures in
     rw (sym c.part-in-None.ensures) (gives_of (λ before shows. first_does g.A.Encodings.exact
-    c.args.first (peeked_first _ shows) (float.does g.A.Encodings.exact)) float.item float.progress)
+    c.args.first (peeked_first _ shows) (float.does g.A.Encodings.exact)) (wants_as _
+    (λ never. absurd never) float.memory) float.item float.progress)

@@ -1,12 +1,19 @@
 use Rattle.cbor4ii_tree.proofs.{skip_calls.Doing.does_ok, values.ByHead.{next_first, takes_head}}
+use Rattle.cbor4ii_tree.proofs.values.{ByHead.head_gains, Gives.gives_as}
 use Rattle.cbor4ii_tree.proofs.decode_value.take_length.Goals as goal
 
-pub returns-in-Some-clause-does : goal.returns-in-Some-clause-does
-returns-in-Some-clause-does g c before shows =
+pub returns-in-Some : goal.returns-in-Some
+returns-in-Some g c =
     let exact = g.A.Encodings.exact in
-    does_ok _ _ (takes_head exact c.args.next c.args.major c.in-Some.head shows c.in-Some.is
-    c.requires.major c.advance.ensures)
+    record {
+      does = λ before shows. does_ok _ _ (takes_head exact c.args.next c.args.major c.in-Some.head
+          shows c.in-Some.is c.requires.major c.advance.ensures);
+      memory = tt;
+      ranged = tt;
+      gains = head_gains c.args.next c.in-Some.head c.requires.can c.in-Some.is c.advance.ensures;
+    }
 
-pub returns-in-None-clause-does : goal.returns-in-None-clause-does
-returns-in-None-clause-does g c before shows =
-    c.take_length.ensures.does before (next_first _ shows)
+pub returns-in-None : goal.returns-in-None
+returns-in-None g c =
+    gives_as (λ never. never) (λ d before shows. d before (next_first _ shows))
+    c.take_length.ensures

@@ -1,5 +1,5 @@
 use Rattle.cbor4ii_tree.proofs.answers.Nesting.{skipping_by_parts, reading_by_parts}
-use Rattle.cbor4ii_tree.proofs.answers.Nesting.{strict_by_parts}
+use Rattle.cbor4ii_tree.proofs.answers.Nesting.{canonical_by_parts}
 use Rattle.cbor4ii_tree.proofs.laws.errors_go_by_parts.Goals as goal
 
 pub returns-clause-skipping : goal.returns-clause-skipping
@@ -9,4 +9,4 @@ pub returns-clause-reading : goal.returns-clause-reading
 returns-clause-reading c = reading_by_parts
 
 pub returns-clause-canonical : goal.returns-clause-canonical
-returns-clause-canonical c = strict_by_parts
+returns-clause-canonical c = canonical_by_parts

@@ -1,4 +1,4 @@
-use Rattle.cbor4ii_tree.proofs.raw_items.Captured.{captured, stopped_in}
+use Rattle.cbor4ii_tree.proofs.raw_items.Captured.{captured, rejected_in}
 use Rattle.cbor4ii_tree.proofs.lend_raw.capture.Goals as goal
 
 pub returns-in-Ok-skip_lent : goal.returns-in-Ok-skip_lent
@@ -9,5 +9,5 @@ returns-in-Ok-skip_lent g c =
 
 pub returns-in-Err : goal.returns-in-Err
 returns-in-Err g c =
-    stopped_in c.in-Ok.ensures.lent c.prefix.ensures c.in-Err.ensures.rejects
+    rejected_in c.in-Ok.ensures.lent c.prefix.ensures c.in-Err.ensures.rejects
     c.skip_lent.ensures.stays c.skip_lent.ensures.budget

@@ -1,7 +1,7 @@
 use Rattle.std.proofs.Common.{◌≡◌, ◌∷◌, [], length, length-append, ap, subst, refl, true, arith}
 use Rattle.std.proofs.lemmas.List.{take_rest}
 use Rattle.cbor4ii_tree.specs.Leaf.{StandsAhead}
-use Rattle.cbor4ii_tree.proofs.values.LeafRuns.{put_none, put_one, put_well, rejected_growth}
+use Rattle.cbor4ii_tree.proofs.values.LeafRuns.{put_none, put_one, put_well, refused_growth}
 use Rattle.cbor4ii_tree.proofs.run.put_run.Goals as goal
 
 pub loop-alloc-init : goal.loop-alloc-init
@@ -13,7 +13,7 @@ loop-alloc-init g c = record {
 
 pub returns-then-is_none : goal.returns-then-is_none
 returns-then-is_none g c =
-    rejected_growth _ _ _ _ _ _ _ c.loop-alloc.invariant.puts (subst (StandsAhead
+    refused_growth _ _ _ _ _ _ _ c.loop-alloc.invariant.puts (subst (StandsAhead
     (g.A.Encodings.exact ≡ true) c.in-Whole.value c.in-Whole.bytes) (take_rest c.args.shown.now
     c.loop-alloc.size) c.in-Whole.ensures)
 

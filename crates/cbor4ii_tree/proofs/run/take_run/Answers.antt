@@ -2,7 +2,7 @@ use Rattle.std.proofs.Common.{refl, arith}
 use Rattle.cbor4ii_tree.proofs.values.LeafRuns.{takes_whole, takes_before, takes_none}
 use Rattle.cbor4ii_tree.proofs.values.LeafRuns.{run_no_memory, run_ends, run_broke, run_fails}
 use Rattle.cbor4ii_tree.proofs.values.LeafRuns.{after_are, still_are, none_lacks}
-use Rattle.cbor4ii_tree.proofs.values.Leaves.{shown_can}
+use Rattle.cbor4ii_tree.proofs.values.{Asking.{not_wanted, run_asks}, Leaves.shown_can}
 use Rattle.cbor4ii_tree.proofs.run.take_run.Goals as goal
 
 pub returns-in-Ok-Whole : goal.returns-in-Ok-Whole
@@ -10,6 +10,7 @@ returns-in-Ok-Whole g c =
     let offers = rw c.in-Ok-Whole.field-0-is at c.in-Ok-Whole.ensures.offers in
     record {
       puts = takes_whole _ _ _ _ _ offers c.advance.ensures;
+      memory = tt;
       items = after_are _ _ _ offers.is.puts;
       few = offers.is.few;
       lacks = tt;
@@ -25,6 +26,7 @@ returns-in-Ok-Before g c =
     let puts = takes_before _ _ _ _ _ _ offers advance in
     record {
       puts = puts;
+      memory = tt;
       items = after_are _ _ _ offers.is.puts;
       few = omega (arith, offers.is.lacks);
       lacks = offers.is.lacks;
@@ -40,6 +42,7 @@ returns-in-Ok-Begins g c =
     let lacks = none_lacks _ _ _ offers.is.0 c.requires in
     record {
       puts = puts;
+      memory = tt;
       items = still_are offers.is.0;
       few = omega (arith, lacks);
       lacks = lacks;
@@ -51,13 +54,14 @@ returns-in-Ok-Begins g c =
 pub returns-in-Ok-NoMemory : goal.returns-in-Ok-NoMemory
 returns-in-Ok-NoMemory g c =
     let offers = rw c.in-Ok-NoMemory.field-0-is at c.in-Ok-NoMemory.ensures.offers in
-    run_fails (run_no_memory _ _ _ _ offers c.advance-in-Ok-NoMemory.ensures)
+    run_fails (λ want. run_asks _ offers c.advance-in-Ok-NoMemory.ensures) (run_no_memory _ _ _ _
+    offers c.advance-in-Ok-NoMemory.ensures)
 
 pub returns-in-Ok-End : goal.returns-in-Ok-End
 returns-in-Ok-End g c =
     let offers = rw c.in-Ok-End.field-0-is at c.in-Ok-End.ensures.offers in
-    run_fails (rw c.leave_end.ensures (run_ends _ _ _ offers refl))
+    rw c.leave_end.ensures (run_fails not_wanted (run_ends _ _ _ offers refl))
 
 pub returns-in-Err : goal.returns-in-Err
 returns-in-Err g c =
-    run_fails (rw c.leave.ensures (run_broke _ _ _ _ c.in-Err.ensures.breaks))
+    rw c.leave.ensures (run_fails not_wanted (run_broke _ _ _ _ c.in-Err.ensures.breaks))

@@ -2,6 +2,7 @@ use Rattle.std.proofs.{Common.{arith, refl, w8}, Math.Facts.Fits-lt-pow}
 use Rattle.cbor4ii_items.specs.Initial.{half, single, double}
 use Rattle.cbor4ii_tree.proofs.values.Heads.{float_read, float_rejected, no_value, view-F16}
 use Rattle.cbor4ii_tree.proofs.{values.Heads.{view-F32, view-F64}, values.Answered.passed}
+use Rattle.cbor4ii_tree.proofs.values.{Asking.{not_wanted, passed_memory}, Gives.no_want}
 use Rattle.cbor4ii_tree.proofs.simple.read_float.Goals as goal
 
 -- where encodings are free
@@ -43,3 +44,20 @@ returns-in_default-clause-does g c exact =
     no_value exact c.args.first c.requires.major (Fits-lt-pow {w = w8} c.ranges.first)
     c.requires.other
     (λ h. omega (arith, h)) (λ h. omega (arith, h)) (λ h. omega (arith, h)) refl refl refl
+
+pub returns-in_err-decode-in-249-clause-memory : goal.returns-in_err-decode-in-249-clause-memory
+returns-in_err-decode-in-249-clause-memory g c =
+    passed_memory _ _ c.from_residual.ensures.1 (no_want c.in_err-decode-in-249.ensures.memory)
+
+pub returns-in_err-decode-in-250-clause-memory : goal.returns-in_err-decode-in-250-clause-memory
+returns-in_err-decode-in-250-clause-memory g c =
+    passed_memory _ _ c.from_residual-in_err-decode-in-250.ensures.1 (no_want
+    c.in_err-decode-in-250.ensures.memory)
+
+pub returns-in_err-decode-in-251-clause-memory : goal.returns-in_err-decode-in-251-clause-memory
+returns-in_err-decode-in-251-clause-memory g c =
+    passed_memory _ _ c.from_residual-in_err-decode-in-251.ensures.1 (no_want
+    c.in_err-decode-in-251.ensures.memory)
+
+pub returns-in_default-clause-memory : goal.returns-in_default-clause-memory
+returns-in_default-clause-memory g c = not_wanted

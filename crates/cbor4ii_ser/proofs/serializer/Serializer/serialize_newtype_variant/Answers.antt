@@ -1,5 +1,5 @@
 use Rattle.cbor4ii_ser.specs.Laws.Joining.{serializes_then, serializes_out}
-use Rattle.cbor4ii_ser.proofs.Failing.{told}
+use Rattle.cbor4ii_ser.proofs.Failing.{from_slot}
 use Rattle.cbor4ii_ser.proofs.serializer.Serializer.serialize_newtype_variant.Goals as goal
 
 pub returns-in_err-variant_head : goal.returns-in_err-variant_head
@@ -12,4 +12,4 @@ returns g c =
 
 pub returns-then-has_large_error : goal.returns-then-has_large_error
 returns-then-has_large_error g c =
-    told _ _ c.put_variant.ensures.kept c.put_variant.ensures.writes
+    from_slot _ _ c.put_variant.ensures.kept c.put_variant.ensures.writes

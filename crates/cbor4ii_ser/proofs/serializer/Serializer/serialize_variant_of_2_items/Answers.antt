@@ -1,5 +1,5 @@
 use Rattle.cbor4ii_ser.specs.Laws.Joining.{serializes_then, serializes_out, serializes_last}
-use Rattle.cbor4ii_ser.proofs.Failing.{told}
+use Rattle.cbor4ii_ser.proofs.Failing.{from_slot}
 use Rattle.cbor4ii_ser.proofs.serializer.Serializer.serialize_variant_of_2_items.Goals as goal
 
 pub returns-in_err-tuple_variant_head : goal.returns-in_err-tuple_variant_head
@@ -19,4 +19,4 @@ returns g c =
 
 pub returns-then-has_large_error : goal.returns-then-has_large_error
 returns-then-has_large_error g c =
-    told _ _ c.put_variant_of_two.ensures.kept c.put_variant_of_two.ensures.writes
+    from_slot _ _ c.put_variant_of_two.ensures.kept c.put_variant_of_two.ensures.writes

@@ -5,5 +5,5 @@ use Rattle.cbor4ii_tree.proofs.decode_canonical.Canonical.try_from_value.Goals a
 
 pub returns-clause-tagged : goal.returns-clause-tagged
 returns-clause-tagged c =
-    let is = c.in_ok-tag_bignums.ensures in
+    let is = c.in_ok-tag_bignums.ensures.tagged in
     ap with_bignums is ∙ with_bignums-again (view c.args.value) ∙ sym is

@@ -1,4 +1,5 @@
-use Rattle.std.proofs.{lemmas.Str.IsUtf8-string_bytes, Common.{true, ◌/◌, ◌≡◌, arith, sym, subst}}
+use Rattle.std.proofs.lemmas.Str.{IsUtf8-string_bytes}
+use Rattle.std.proofs.Common.{true, inl, inr, ◌/◌, ◌≡◌, arith, sym, subst}
 use Rattle.std.proofs.Common.{drop}
 use Rattle.cbor4ii_items.specs.{Initial.{unsigned, negative, byte_string}, Shortest.ReadsShortest}
 use Rattle.cbor4ii_items.specs.Shortest.{ReadsShortestString, RejectsShortest}
@@ -10,7 +11,8 @@ use Rattle.cbor4ii_tree.proofs.canonical.Calls.{string_of, bytes_exact, text_exa
 use Rattle.cbor4ii_tree.proofs.skip_calls.Doing.{does_ok, reached_as, reached_by, still_rejected}
 use Rattle.cbor4ii_tree.proofs.values.Heads.{at_major, head_at, leaf_read, leaf_rejected}
 use Rattle.cbor4ii_tree.proofs.values.Heads.{negative_reads, unsigned_reads}
-use Rattle.cbor4ii_tree.proofs.{values.Items.text_encoding, values.Answered.passed}
+use Rattle.cbor4ii_tree.proofs.values.{Answered.passed, Asking.passed_memory, Gives.no_want}
+use Rattle.cbor4ii_tree.proofs.values.Items.{text_encoding}
 use Rattle.cbor4ii_tree.proofs.decode_canonical.CanonicalEncodingEncodings.read_leaf.Goals as goal
 
 pub returns-in_err-canonical_head-in-0-clause-does :
@@ -80,3 +82,26 @@ pub returns-in_ok-read_text-in_default-clause-item :
     goal.returns-in_ok-read_text-in_default-clause-item
 returns-in_ok-read_text-in_default-clause-item g c =
     text_encoding c.in_ok-read_text-in_default.field-0
+
+pub returns-in_err-canonical_head-in-0-clause-memory :
+    goal.returns-in_err-canonical_head-in-0-clause-memory
+returns-in_err-canonical_head-in-0-clause-memory g c =
+    passed_memory _ _ c.from_residual.ensures.1 (λ want. absurd (no_want
+    c.in_err-canonical_head-in-0.ensures.memory want))
+
+pub returns-in_err-number-in-1-clause-memory :
+    goal.returns-in_err-number-in-1-clause-memory
+returns-in_err-number-in-1-clause-memory g c =
+    passed_memory _ _ c.from_residual-in_err-number-in-1.ensures.1 (λ want. absurd (no_want
+    c.in_err-number-in-1.ensures.memory want))
+
+pub returns-in_err-canonical_buf-in-2-clause-memory :
+    goal.returns-in_err-canonical_buf-in-2-clause-memory
+returns-in_err-canonical_buf-in-2-clause-memory g c =
+    passed_memory _ _ c.from_residual-in_err-canonical_buf-in-2.ensures.1 (λ want. inl c.in-2.is)
+
+pub returns-in_err-read_text-in_default-clause-memory :
+    goal.returns-in_err-read_text-in_default-clause-memory
+returns-in_err-read_text-in_default-clause-memory g c =
+    passed_memory _ _ c.from_residual-in_err-read_text-in_default.ensures.1 (λ want. inr (omega
+    (arith, c.requires.major, c.in_default)))

@@ -1,4 +1,4 @@
-use Rattle.std.proofs.Common.{false, ◌/◌, ◌≡◌, arith, drop}
+use Rattle.std.proofs.Common.{false, inl, inr, ◌/◌, ◌≡◌, arith, drop}
 use Rattle.cbor4ii_items.specs.Initial.{unsigned, negative, byte_string, text_string}
 use Rattle.cbor4ii_items.specs.Numbers.{ReadsUnsigned, RejectsUnsigned, ReadsNegative}
 use Rattle.cbor4ii_items.specs.{Numbers.RejectsNegative, Strings.{ReadsAs, ReadsTextAs}}
@@ -9,7 +9,7 @@ use Rattle.cbor4ii_tree.proofs.{values.Items.text_encoding, values.Strings.strin
 use Rattle.cbor4ii_tree.proofs.values.Strings.{text_rejects, bytes_reads, text_reads}
 use Rattle.cbor4ii_tree.proofs.{values.Calls.int_rejects, values.Heads.{leaf_read, leaf_rejected}}
 use Rattle.cbor4ii_tree.proofs.values.Heads.{negative_reads, unsigned_reads, head_at}
-use Rattle.cbor4ii_tree.proofs.values.Answered.{passed}
+use Rattle.cbor4ii_tree.proofs.values.{Answered.passed, Asking.passed_memory, Gives.no_want}
 use Rattle.cbor4ii_tree.proofs.decode_value.AnyEncodingEncodings.read_leaf.Goals as goal
 
 pub returns-in_err-decode-in-0-clause-does : goal.returns-in_err-decode-in-0-clause-does
@@ -70,3 +70,29 @@ returns-in_ok-decode-in_default-clause-does g c =
 
 pub returns-in_ok-decode-in_default-clause-item : goal.returns-in_ok-decode-in_default-clause-item
 returns-in_ok-decode-in_default-clause-item g c = text_encoding c.in_ok-decode-in_default.field-0
+
+pub returns-in_err-decode-in-0-clause-memory :
+    goal.returns-in_err-decode-in-0-clause-memory
+returns-in_err-decode-in-0-clause-memory g c =
+    passed_memory _ _ c.from_residual.ensures.1 (λ want. absurd (no_want
+    c.in_err-decode-in-0.ensures.memory want))
+
+pub returns-in_err-number-in-1-clause-memory :
+    goal.returns-in_err-number-in-1-clause-memory
+returns-in_err-number-in-1-clause-memory g c =
+    passed_memory _ _ c.from_residual-in_err-number-in-1.ensures.1 (λ want. absurd (no_want
+    c.in_err-number-in-1.ensures.memory want))
+
+pub returns-in_err-decode-in-2-clause-memory :
+    goal.returns-in_err-decode-in-2-clause-memory
+returns-in_err-decode-in-2-clause-memory g c =
+    passed_memory _ _ c.from_residual-in_err-decode-in-2.ensures.1 (λ want. inl c.in-2.is)
+
+pub returns-in_err-decode-in_default-clause-memory :
+    goal.returns-in_err-decode-in_default-clause-memory
+returns-in_err-decode-in_default-clause-memory g c =
+    passed_memory _ _ c.from_residual-in_err-decode-in_default.ensures.1 (λ want. inr (omega (
+      arith,
+      c.requires.major,
+      c.in_default,
+    )))

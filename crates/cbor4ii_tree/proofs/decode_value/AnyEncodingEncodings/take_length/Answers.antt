@@ -3,21 +3,24 @@ use Rattle.cbor4ii_items.specs.Head.{indefinite_head}
 use Rattle.cbor4ii_tree.specs.Valuing.{RejectsMajor}
 use Rattle.cbor4ii_tree.specs.Valuing.{TakesLength}
 use Rattle.cbor4ii_tree.proofs.skip_calls.Doing.{does_ok, reached_as}
-use Rattle.cbor4ii_tree.proofs.values.ByHead.{after_first, taken_first}
+use Rattle.cbor4ii_tree.proofs.values.{ByHead.{after_first, taken_first}, Gives.gives_as}
 use Rattle.cbor4ii_tree.proofs.decode_value.AnyEncodingEncodings.take_length.Goals as goal
 
-pub returns-then-first-major-clause-does : goal.returns-then-first-major-clause-does
-returns-then-first-major-clause-does g c before shows =
+pub returns-then-first-major : goal.returns-then-first-major
+returns-then-first-major g c =
     let first = c.args.first in
     let major = c.args.major in
     let is : first ≡ indefinite_head major = omega (arith, c.if-first-major.true) in
-    does_ok _ _ (reached_as (λ xs ys. xs ≡ first ∷ ys) _ (λ xs ys h. (
-      refl,
-      subst (λ b. xs ≡ b ∷ ys)
-          is h,
-    )) (taken_first first shows (omega arith) c.advance.ensures))
+    record {
+      does = λ before shows. does_ok _ _ (reached_as (λ xs ys. xs ≡ first ∷ ys) _
+          (λ xs ys h. (refl, subst (λ b. xs ≡ b ∷ ys) is h))
+          (taken_first first shows (omega arith) c.advance.ensures));
+      memory = tt;
+      ranged = tt;
+      gains = omega (arith, c.advance.ensures.bound);
+    }
 
-pub returns-clause-does : goal.returns-clause-does
-returns-clause-does g c before shows =
-    after_first c.args.first shows (TakesLength false c.args.major)
-    (RejectsMajor false c.args.major) c.length.ensures.does
+pub returns : goal.returns
+returns g c =
+    gives_as (λ never. never) (λ d before shows. after_first c.args.first shows
+    (TakesLength false c.args.major) (RejectsMajor false c.args.major) d) c.length.ensures

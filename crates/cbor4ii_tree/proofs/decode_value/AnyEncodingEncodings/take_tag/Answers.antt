@@ -1,7 +1,9 @@
-use Rattle.cbor4ii_tree.proofs.values.Heads.{tag_taken}
+use Rattle.std.proofs.Common.{refl}
+use Rattle.cbor4ii_tree.proofs.values.{Gives.gives_none, Heads.tag_taken}
 use Rattle.cbor4ii_tree.proofs.decode_value.AnyEncodingEncodings.take_tag.Goals as goal
 
-pub returns-clause-does : goal.returns-clause-does
-returns-clause-does g c =
-    tag_taken c.part.result _ (rw c.part.ensures at c.tag.ensures.moves)
-    (rw c.part.ensures at c.tag.ensures.sound) (rw c.part.ensures at c.tag.ensures.begins)
+pub returns : goal.returns
+returns g c =
+    gives_none (tag_taken c.part.result _ (rw c.part.ensures at c.tag.ensures.moves)
+    (rw c.part.ensures at c.tag.ensures.sound) (rw c.part.ensures at c.tag.ensures.begins))
+    (rw c.part.ensures at c.tag.ensures.memory) ((rw c.part.ensures at c.tag.ensures.progress) refl)

@@ -295,7 +295,7 @@ pub skip_unseen-returns-then-ended : goal.skip_unseen-returns-then-ended
 skip_unseen-returns-then-ended g t c =
     apart_leaf (ended c.args.among _ (λ xs ys h budget step. h budget) _
     (does_value c.if-ended.true (rw c.in-Some.ensures at c.ends.ensures.does))) tt (
-      counts_none c.args.among ((rw c.in-Some.ensures at c.ends.ensures.open) c.if-ended.true),
+      counts_none c.args.among ((rw c.in-Some.ensures at c.ends.ensures.ended) c.if-ended.true),
       λ some. omega arith,
     ) c.ends.ensures.stays
 

@@ -1,6 +1,6 @@
 use Rattle.std.proofs.Common.{Some, refl}
 use Rattle.cbor4ii_tree.proofs.skip_calls.{Doing.{apart_leaf, does_value}, Runs.counts_none}
-use Rattle.cbor4ii_tree.proofs.skip_calls.Runs.{ended, cut, stopped_none}
+use Rattle.cbor4ii_tree.proofs.skip_calls.Runs.{ended, cut, rejected_none}
 use Rattle.cbor4ii_tree.proofs.skip.step.skip_without_step.Goals as goal
 
 pub returns-in-None : goal.returns-in-None
@@ -11,11 +11,12 @@ returns-in-None g c =
 pub returns-then-ended : goal.returns-then-ended
 returns-then-ended g c =
     apart_leaf (ended c.args.among _ (λ xs ys h. h (Some 0)) _
-    (does_value c.if-ended.true (rw c.in-Some.ensures at c.ends.ensures.does))) tt
-    (counts_none c.args.among ((rw c.in-Some.ensures at c.ends.ensures.open) c.if-ended.true), refl)
-    c.ends.ensures.stays
+    (does_value c.if-ended.true (rw c.in-Some.ensures at c.ends.ensures.does))) tt (
+      counts_none c.args.among ((rw c.in-Some.ensures at c.ends.ensures.ended) c.if-ended.true),
+      refl,
+    ) c.ends.ensures.stays
 
 pub returns : goal.returns
 returns g c =
-    rw c.leave.ensures (apart_leaf (stopped_none c.args.among c.requires.no_step refl (does_value
+    rw c.leave.ensures (apart_leaf (rejected_none c.args.among c.requires.no_step refl (does_value
     c.if-ended.false (rw c.in-Some.ensures at c.ends.ensures.does))) refl tt c.ends.ensures.stays)

@@ -1,4 +1,4 @@
-use Rattle.cbor4ii.specs.Cases.{reads_named, rejects_named}
+use Rattle.cbor4ii.specs.Cases.{reads_named, rejects_named, begins_named}
 use Rattle.cbor4ii.specs.Typed.{answer_of}
 use Rattle.cbor4ii.proofs.Named.{name_err, entry_then}
 use Rattle.cbor4ii.proofs.Names.{text_taken}
@@ -8,13 +8,12 @@ pub returns-in-Ok : goal.returns-in-Ok
 returns-in-Ok g c =
     let h = c.in-Ok.ensures in
     let cases = g.C.Cases.cases c.args.cases c.args.variants.now in
-    entry_then (reads_named cases c.args.form) (rejects_named cases c.args.form) cases.same
-    cases.owned (text_taken c.args.alloc h) (answer_of c.take.result)
-    (c.take.ensures h.name h.which)
+    entry_then (reads_named cases c.args.form) (rejects_named cases c.args.form)
+    (begins_named cases c.args.form) cases.same cases.owned (text_taken c.args.alloc h) (answer_of c.take.result)
+    (c.take.ensures.decodes h.name h.which)
 
 pub returns-in-Err : goal.returns-in-Err
 returns-in-Err g c =
     let cases = g.C.Cases.cases c.args.cases c.args.variants.now in
-    name_err (reads_named cases c.args.form) (rejects_named cases c.args.form) cases.same
-    cases.owned
-    c.in-Err.ensures
+    name_err (reads_named cases c.args.form) (rejects_named cases c.args.form)
+    (begins_named cases c.args.form) cases.same cases.owned c.in-Err.ensures

@@ -9,9 +9,9 @@ pub returns-in-Ok : goal.returns-in-Ok
 returns-in-Ok g c =
     let h = c.in-Ok.ensures in
     entry_alters (g.V.Places.fields c.args.names.now) (text_taken c.args.alloc h)
-    (answer_of c.take.result) _ _ _ (c.take.ensures h.name h.which)
+    (answer_of c.take.result) _ _ _ (c.take.ensures.alters h.name h.which)
 
 pub returns-in-Err : goal.returns-in-Err
 returns-in-Err g c =
     let f = g.V.Places.fields c.args.names.now in
-    name_err f.named f.rejects (SameChange f.same) f.owned c.in-Err.ensures
+    name_err f.named f.rejects f.begins (SameChange f.same) f.owned c.in-Err.ensures

@@ -14,6 +14,7 @@ returns-in-Err-clause-promised g c = record {
   sound = tt;
   complete = λ is sure. complete_as g.T.Typed.promise.format.reads _
       (λ xs budget none b. none b.value) (c.in-Err.ensures.complete is sure);
+  rejects = c.in-Err.ensures.rejects;
   begins = c.in-Err.ensures.begins;
 }
 

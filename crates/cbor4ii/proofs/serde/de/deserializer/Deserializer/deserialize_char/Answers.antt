@@ -12,6 +12,7 @@ returns-in-Some g c = record {
   memory = tt;
   sound = char_sound (sym c.as_str.ensures.value ∙ c.in-Some.ensures.one) c.in-Ok.ensures.sound;
   complete = λ is sure. tt;
+  rejects = λ is sure. tt;
   begins = λ is. tt;
 }
 
@@ -27,6 +28,10 @@ returns-in-Ok g c = record {
       λ is sure. other_complete _ (subst NoCharacter c.as_str.ensures.value
       (c.in-None.ensures.other refl))
       c.in-Ok.ensures.sound;
+  rejects =
+      λ is sure. other_rejects _ (subst NoCharacter c.as_str.ensures.value
+      (c.in-None.ensures.other refl))
+      refl c.in-Ok.ensures.sound;
   begins =
       λ is. other_rejects _ (subst NoCharacter c.as_str.ensures.value
       (c.in-None.ensures.other refl))
@@ -40,5 +45,6 @@ returns g c = record {
   memory = λ some. refl;
   sound = tt;
   complete = λ is sure. char_complete c.args.alloc (c.in-Err.ensures.complete (inl refl));
+  rejects = λ is sure. char_rejects c.in-Err.ensures.begins;
   begins = λ is. char_rejects c.in-Err.ensures.begins;
 }

@@ -18,6 +18,7 @@ returns-then-first g c = record {
       unit_sound (saw c.in-Ok.ensures.decodes.moves c.in-Ok.ensures.decodes.sound) c.if-first.true
       c.advance.ensures;
   complete = λ is sure. tt;
+  rejects = λ is sure. tt;
   begins = λ is. tt;
 }
 
@@ -33,6 +34,10 @@ returns-else-first g c = record {
   sound = tt;
   complete = λ is sure. unit_other (saw c.in-Ok.ensures.decodes.moves c.in-Ok.ensures.decodes.sound)
       c.if-first.false;
+  rejects = λ is sure. unit_mismatch (saw c.in-Ok.ensures.decodes.moves
+      c.in-Ok.ensures.decodes.sound)
+      c.if-first.false
+      c.advance.ensures refl;
   begins = λ is. unit_mismatch (saw c.in-Ok.ensures.decodes.moves c.in-Ok.ensures.decodes.sound)
       c.if-first.false
       c.advance.ensures refl;
@@ -45,5 +50,6 @@ returns-in-Err g c = record {
   memory = λ no. let never = c.in-Err.ensures.decodes.memory no in cc;
   sound = tt;
   complete = λ is sure. unit_missing (c.in-Err.ensures.decodes.complete (inl refl));
+  rejects = λ is sure. unit_ended c.in-Err.ensures.decodes.begins;
   begins = λ is. unit_ended c.in-Err.ensures.decodes.begins;
 }

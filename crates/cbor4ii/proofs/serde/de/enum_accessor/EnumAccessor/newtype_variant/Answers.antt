@@ -1,5 +1,5 @@
 use Rattle.cbor4ii.proofs.IfKnown.{on_ok, if_ok, if_err}
-use Rattle.cbor4ii.proofs.Contents.{content_ok, content_err, content_said}
+use Rattle.cbor4ii.proofs.Contents.{content_ok, content_err, content_said, content_rejected}
 use Rattle.cbor4ii.proofs.serde.de.enum_accessor.EnumAccessor.newtype_variant.Goals as goal
 
 pub returns-clause-sound : goal.returns-clause-sound
@@ -17,6 +17,11 @@ returns-clause-rejects g c =
     content_said _ _ _ c.deserialize.result _ _ _ c.if-not-self.false c.drop-self-2.ensures.others
     c.deserialize.ensures.moves (λ is. if_err _ c.deserialize.result
     (c.deserialize.ensures.begins is))
+
+pub returns-clause-exact : goal.returns-clause-exact
+returns-clause-exact g c said exact =
+    content_rejected _ _ c.deserialize.result _ _ _ c.if-not-self.false c.drop-self-2.ensures.others
+    (if_err _ c.deserialize.result (c.deserialize.ensures.rejects said exact))
 
 pub returns-clause-finishes : goal.returns-clause-finishes
 returns-clause-finishes g c =

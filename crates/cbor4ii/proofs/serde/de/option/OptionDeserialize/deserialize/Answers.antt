@@ -6,7 +6,7 @@ use Rattle.cbor4ii.proofs.Looking.{kept_next, saw, some_sound, some_complete, op
 use Rattle.cbor4ii.proofs.Looking.{null_sound}
 use Rattle.std.specs.Prelude.{codes}
 use Rattle.cbor4ii.specs.Stepped.{RejectsStepped}
-use Rattle.cbor4ii.proofs.Beginnings.{option_rejects, option_ended}
+use Rattle.cbor4ii.proofs.Beginnings.{option_rejects, option_rejects_if, option_ended}
 use Rattle.cbor4ii.proofs.serde.de.option.OptionDeserialize.deserialize.Goals.{then-first-via-then-first, then-first-via-else-first+then-first-2}
 use Rattle.cbor4ii.proofs.serde.de.option.OptionDeserialize.deserialize.Goals as goal
 
@@ -30,6 +30,7 @@ returns-then-first g c = record {
             null_sound _ seen (inr w.if-first-2.true) c.advance.ensures
       ];
   complete = λ is exact. tt;
+  rejects = λ is exact. tt;
   begins = λ _. tt;
 }
 
@@ -46,6 +47,7 @@ returns-in-Ok-under_step g c = record {
       c.if-first.false
       c.if-first-2.false c.in-Ok-under_step.ensures.sound;
   complete = λ is exact. tt;
+  rejects = λ is exact. tt;
   begins = λ _. tt;
 }
 
@@ -60,6 +62,11 @@ returns-in-Err-under_step g c = record {
       c.if-first.false
       c.if-first-2.false (λ xs known. c.in-Err-under_step.ensures.complete is
       (exact_kept _ _ _ xs known c.in-Ok.ensures.decodes.moves.by exact));
+  rejects = λ is exact. option_rejects_if _ (saw c.in-Ok.ensures.decodes.moves
+      c.in-Ok.ensures.decodes.sound)
+      c.if-first.false
+      c.if-first-2.false (λ xs known. c.in-Err-under_step.ensures.rejects is
+      (exact_kept _ _ _ xs known c.in-Ok.ensures.decodes.moves.by exact));
   begins = λ _. option_rejects _ (saw c.in-Ok.ensures.decodes.moves c.in-Ok.ensures.decodes.sound)
       c.if-first.false
       c.if-first-2.false c.in-Err-under_step.ensures.begins;
@@ -72,6 +79,8 @@ returns-in-Err g c = record {
   memory = λ is. let no = c.in-Err.ensures.decodes.memory is in cc;
   sound = tt;
   complete = λ is exact. option_complete _ (c.in-Err.ensures.decodes.complete (inl refl));
+  rejects = λ is exact. option_ended (RejectsStepped (codes "option")
+      g.T.Typed.promise.format.rejects) c.in-Err.ensures.decodes.begins;
   begins = λ _. option_ended (RejectsStepped (codes "option") (said_by g.T.Typed.promise))
       c.in-Err.ensures.decodes.begins;
 }

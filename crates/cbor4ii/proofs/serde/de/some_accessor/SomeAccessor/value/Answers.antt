@@ -15,6 +15,10 @@ pub returns-clause-rejects : goal.returns-clause-rejects
 returns-clause-rejects g c said =
     stopped_after _ c.drop-self-2.ensures.others (c.in-Err.ensures.begins said)
 
+pub returns-clause-exact : goal.returns-clause-exact
+returns-clause-exact g c said exact =
+    stopped_after _ c.drop-self-2.ensures.others (c.in-Err.ensures.rejects said exact)
+
 pub returns-in-Ok-clause-memory : goal.returns-in-Ok-clause-memory
 returns-in-Ok-clause-memory g c = tt
 
@@ -27,6 +31,9 @@ returns-in-Ok-clause-complete g c said exact = tt
 
 pub returns-in-Ok-clause-rejects : goal.returns-in-Ok-clause-rejects
 returns-in-Ok-clause-rejects g c said = tt
+
+pub returns-in-Ok-clause-exact : goal.returns-in-Ok-clause-exact
+returns-in-Ok-clause-exact g c said exact = tt
 
 pub returns-clause-memory : goal.returns-clause-memory
 returns-clause-memory g c = c.in-Err.ensures.memory
@@ -48,6 +55,9 @@ returns-then-not-self-clause-complete g c said exact = tt
 
 pub returns-then-not-self-clause-rejects : goal.returns-then-not-self-clause-rejects
 returns-then-not-self-clause-rejects g c said = tt
+
+pub returns-then-not-self-clause-exact : goal.returns-then-not-self-clause-exact
+returns-then-not-self-clause-exact g c said exact = tt
 
 pub returns-then-not-self-clause-absent : goal.returns-then-not-self-clause-absent
 returns-then-not-self-clause-absent g c none = (refl, unmoved none c.drop-self.ensures)

@@ -1,0 +1,67 @@
+use Rattle.std.proofs.Common.{◌≡◌, ◌≢◌, length, sym, ap, ap₂, ◌∙◌, subst, subst₂, arith, rules}
+use Rattle.std.specs.declared.cmp.Ordering.TheVariants.{Equal}
+use Rattle.cbor4ii_items.specs.SequenceBytes.{items_bytes}
+use Rattle.cbor4ii_tree.specs.{ExactOrder.{value_numbers, member_numbers}, Order.Compares}
+use Rattle.cbor4ii_tree.specs.{View.view, declared.value.Value.the_lemmas}
+use Rattle.cbor4ii_tree.proofs.encodings.Order.{heads_cmp, compares_then}
+use Rattle.cbor4ii_tree.proofs.values.Exact.{exact_arrays, exact_maps, other_parts, same_parts}
+use Rattle.cbor4ii_tree.proofs.values.Ordered.{compares_from, compares_here}
+use Rattle.cbor4ii_tree.proofs.exact_order.+exact.Goals as goal
+
+pub cmp_exactly-returns-in-Equal : goal.cmp_exactly-returns-in-Equal
+cmp_exactly-returns-in-Equal t c =
+    same_parts (view c.args.a.now) (view c.args.b.now) c.cmp_inside.result (sym (c.cmp.ensures
+    ∙ ap₂ heads_cmp c.parts_of.ensures c.parts_of-2.ensures) ∙ c.in-Equal.is) c.cmp_inside.ensures
+
+pub cmp_exactly-returns-in_default : goal.cmp_exactly-returns-in_default
+cmp_exactly-returns-in_default t c =
+    other_parts (view c.args.a.now) (view c.args.b.now) c.cmp.result (c.cmp.ensures
+    ∙ ap₂ heads_cmp c.parts_of.ensures c.parts_of-2.ensures) c.in_default.not-Equal
+
+pub cmp_inside-cmp_items-requires : goal.cmp_inside-cmp_items-requires
+cmp_inside-cmp_items-requires t c =
+    let h = exact_arrays c.args.a.now c.args.b.now c.in-Array.items c.elements_of.result.now
+    c.in-Array.is c.elements_of.ensures c.requires in
+    (search (rules, the_lemmas), ap length c.deref-in-Array.ensures.value ∙ h.long)
+
+pub cmp_inside-cmp_members-requires : goal.cmp_inside-cmp_members-requires
+cmp_inside-cmp_members-requires t c =
+    let h = exact_maps c.args.a.now c.args.b.now c.in-Map.members c.pairs_of.result.now
+    c.in-Map.is c.pairs_of.ensures c.requires in
+    (search (rules, the_lemmas), ap length c.deref-in-Map.ensures.value ∙ h.long)
+
+pub cmp_inside-returns-in-Array : goal.cmp_inside-returns-in-Array
+cmp_inside-returns-in-Array t c =
+    let h = exact_arrays _ _ _ _ c.in-Array.is c.elements_of.ensures c.requires in
+    subst₂ (Compares c.cmp_items.result) (ap (items_bytes value_numbers)
+    c.deref-in-Array.ensures.value ∙ h.first) h.second c.cmp_items.ensures
+
+pub cmp_inside-returns-in-Map : goal.cmp_inside-returns-in-Map
+cmp_inside-returns-in-Map t c =
+    let h = exact_maps _ _ _ _ c.in-Map.is c.pairs_of.ensures c.requires in
+    subst₂ (Compares c.cmp_members.result) (ap (items_bytes member_numbers)
+    c.deref-in-Map.ensures.value ∙ h.first) h.second c.cmp_members.ensures
+
+pub cmp_members-loop-i-preserved : goal.cmp_members-loop-i-preserved
+cmp_members-loop-i-preserved t c = λ r rest.
+    let x = c.index-a-i.result in
+    let y = c.index-b-i.result in
+    let keys : c.cmp_exactly-keys.result ≡ Equal = search rules in
+    let values : c.cmp_exactly-values.result ≡ Equal = search rules in
+    let here = compares_then (subst (λ o. Compares o (value_numbers x.0) (value_numbers y.0)) keys
+    c.cmp_exactly-keys.ensures) (subst (λ o. Compares o (value_numbers x.1) (value_numbers y.1))
+    values c.cmp_exactly-values.ensures) in
+    c.loop-i.invariant r (compares_from member_numbers c.args.a.now c.args.b.now c.loop-i.i x y r
+    c.loop-i-test.true (omega arith) c.index-a-i.is c.index-b-i.is here rest)
+
+pub cmp_members-returns-then-ne-2 : goal.cmp_members-returns-then-ne-2
+cmp_members-returns-then-ne-2 t c =
+    let x = c.index-a-i.result in
+    let y = c.index-b-i.result in
+    let keys : c.cmp_exactly-keys.result ≡ Equal = search rules in
+    let differ : c.cmp_exactly-values.result ≢ Equal = search rules in
+    let here = compares_then (subst (λ o. Compares o (value_numbers x.0) (value_numbers y.0)) keys
+    c.cmp_exactly-keys.ensures) c.cmp_exactly-values.ensures in
+    c.loop-i.invariant c.cmp_exactly-values.result (compares_here member_numbers c.args.a.now
+    c.args.b.now c.loop-i.i x y c.cmp_exactly-values.result c.loop-i-test.true (omega arith)
+    c.index-a-i.is c.index-b-i.is differ here)

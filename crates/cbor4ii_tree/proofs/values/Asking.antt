@@ -1,0 +1,275 @@
+-- Where reading a value asks for memory, by where the calls in it ask.
+use Rattle.std.proofs.Common.{Bool, true, false, ◌≡◌, ◌≤◌, ◌+◌, ◌++◌, ◌∷◌, ◌⊎◌, inl, inr, ℕ, List}
+use Rattle.std.proofs.Common.{[], Option, Some, None, suc, Result, Ok, IfErr, IsTrue, refl, ap, ap₂}
+use Rattle.std.proofs.Common.{◌∙◌, sym, subst, arith, length, length-append, length-drop, take}
+use Rattle.std.proofs.Common.{drop, take-append-drop}
+use Rattle.std.proofs.Math.Seq.{take-add}
+use Rattle.std.proofs.lemmas.Result.{err_from_is_err_and}
+use Rattle.std.specs.Result.{IsErrAnd}
+use Rattle.cbor4ii_rw.specs.Reader.{Advances, IsPrefix, KeepsAllButBudget}
+use Rattle.cbor4ii_rw.specs.{View.View, declared.error.DecodeError.DecodeError}
+use Rattle.cbor4ii_items.specs.{InputError.is_out_of_memory, Laws.Prefixes.the_prefix}
+use Rattle.cbor4ii_tree.specs.Asking.{Asks, BeginsString, Grows, InParts, InTagged, InValue}
+use Rattle.cbor4ii_tree.specs.Asking.{IsRead, Values, OpensParts, boxed, content, grown, in_tag}
+use Rattle.cbor4ii_tree.specs.Asking.{inside}
+use Rattle.cbor4ii_tree.specs.Cost.{Budget, step_in}
+use Rattle.cbor4ii_tree.specs.Leaf.{AsksAfterNext, DoesAfterNext, ShowsFirst, WantsContent}
+use Rattle.cbor4ii_tree.specs.LeafRuns.{IsLeaf, PutsItemsUnder, RefusedMemory, RunsBefore}
+use Rattle.cbor4ii_tree.specs.{LeafRuns.StandFirst, Prefix.Offers}
+use Rattle.cbor4ii_tree.specs.Tree.{Tree, bytes_all, no_trees}
+use Rattle.cbor4ii_tree.specs.Valuing.{HeadAt, ReadsItems, ReadsOneValue, ReadsUnder, RejectsUnder}
+use Rattle.cbor4ii_tree.specs.Valuing.{Whole}
+use Rattle.cbor4ii_tree.specs.declared.{leaf.Next.Next, value.Value.Value}
+use Rattle.cbor4ii_tree.proofs.parts.Joined.{bytes-join, count-join, each-join, join}
+use Rattle.cbor4ii_tree.proofs.parts.Widen.{each_covers}
+use Rattle.cbor4ii_tree.proofs.skip_calls.Doing.{Reached, reached_by, reached_then}
+use Rattle.cbor4ii_tree.proofs.values.{ByHead.{begins_with, peeked_first}, Calls.whole_is}
+use Rattle.cbor4ii_tree.proofs.values.LeafRuns.{ReadEach, begins_after, one_item}
+use Rattle.cbor4ii_tree.proofs.{skip_calls.Calls.Before, values.Sequences.put_read}
+
+-- ---- errors
+
+-- the error is another one
+pub not_wanted : {P : Type 0} → IsTrue false → P
+not_wanted want = let never : false ≡ true = want in cc
+
+pub passed_memory : {V E P : Type 0} (e : DecodeError E) (r : Result V (DecodeError E))
+    → IsErrAnd r (λ y. y ≡ e) → (IsTrue (is_out_of_memory e) → P)
+    → IfErr r (λ e. IsTrue (is_out_of_memory e) → P)
+passed_memory e r is f = let p = err_from_is_err_and r is in rw (p.1, p.2) f
+
+-- ---- after others, and around them
+
+module _ {at to : List ℕ → List ℕ → Type 0} {a b : View} where
+  pub asks_as : ((xs ys : List ℕ) → at xs ys → to xs ys) → Asks at a b → Asks to a b
+  asks_as f h = record { at = λ xs known ys left. f xs ys (h.at xs known ys left) }
+
+  pub asks_after : {P : List ℕ → List ℕ → Type 0} {m : View}
+      → ((xs us ys : List ℕ) → P xs us → at us ys → to xs ys) → Reached P a m → Asks at m b
+      → Asks to a b
+  asks_after f p h = record {
+    at = λ xs known ys left. let s = p.at xs known in f xs s.0 ys s.2 (h.at s.0 s.1 ys left);
+  }
+
+-- behind what was taken
+pub asks_here : {P : List ℕ → List ℕ → Type 0} (to : List ℕ → List ℕ → Type 0) {a b : View}
+    → ((xs ys : List ℕ) → P xs ys → to xs ys) → Reached P a b → Asks to a b
+asks_here {P = P} to f p = record {
+  at = λ xs known ys left.
+      let s = p.at xs known in
+      let e = sym s.1 ∙ left in
+      let same : s.0 ≡ ys = cc in
+      f xs ys (subst (P xs) same s.2);
+}
+
+pub asks_around : {at : List ℕ → List ℕ → Type 0} {a b c d : View} → KeepsAllButBudget a b
+    → KeepsAllButBudget c d → Asks at b c → Asks at a d
+asks_around inward outward h = record {
+  at = λ xs known ys left. h.at xs (inward.known ∙ known) ys (sym outward.known ∙ left);
+}
+
+-- ---- values
+
+read_is : (exact : Bool) (budget : Budget) (t : Tree) → Whole exact budget t → IsRead exact t
+read_is exact budget t h = let w = whole_is exact budget t h in (w.0, w.1)
+
+pub values_are : (exact : Bool) {n : ℕ} (budget : Budget) (vs : List Value) (xs ys : List ℕ)
+    → ReadsItems exact n budget xs vs ys → Values exact n xs ys
+values_are exact budget vs xs ys h = (
+  h.0,
+  h.1,
+  each_covers (Whole exact budget) (IsRead exact) (read_is exact budget) h.0 h.2,
+  h.4,
+)
+
+pub value_is : (exact : Bool) (budget : Budget) (v : Value) (xs ys : List ℕ)
+    → ReadsOneValue exact budget xs v ys → Values exact 1 xs ys
+value_is exact budget v xs ys h =
+    values_are exact budget (v ∷ []) xs ys (one_item exact budget xs v ys h)
+
+pub values_join : (exact : Bool) {j k : ℕ} (xs us ys : List ℕ) → Values exact j xs us
+    → Values exact k us ys → Values exact (j + k) xs ys
+values_join exact xs us ys h s = (
+  join h.0 s.0,
+  count-join h.0 s.0 ∙ ap₂ ◌+◌ h.1 s.1,
+  each-join (IsRead exact) h.0 s.0 h.2 s.2,
+  h.3 ∙ ap (λ r. bytes_all h.0 ++ r) s.3 ∙ sym (bytes-join h.0 s.0 ys),
+)
+
+-- a step was taken before
+outer_of : (inner : Budget) → (budget : Budget) × (step_in budget ≡ Some inner)
+outer_of None = (None, refl)
+outer_of (Some n) = (Some (suc n), refl)
+
+value_under : (exact : Bool) (inner : Budget) (v : Value) (xs ys : List ℕ)
+    → ReadsUnder exact inner xs v ys → Values exact 1 xs ys
+value_under exact inner v xs ys h =
+    let o = outer_of inner in value_is exact o.0 v xs ys (h o.0 o.1)
+
+values_under : (exact : Bool) (before after : List Value) (inner : Budget) (xs ys : List ℕ)
+    → PutsItemsUnder exact before after inner xs tt ys → (k : ℕ) × Values exact k xs ys
+values_under exact before after inner xs ys h =
+    let o = outer_of inner in
+    let p = h o.0 o.1 in (length p.0, values_are exact o.0 p.0 xs ys p.2)
+
+-- ---- parts
+
+-- in the value after so many
+pub in_next : (exact : Bool) (least : ℕ) {k : ℕ} (xs us ys : List ℕ) → Values exact k xs us
+    → InValue exact us ys → InParts exact least xs ys
+in_next exact least xs us ys h s = inr (_, us, h, s)
+
+-- after more values before them
+pub in_further : (exact : Bool) {least : ℕ} {j : ℕ} (xs us ys : List ℕ) → Values exact j xs us
+    → InParts exact least us ys → InParts exact least xs ys
+in_further exact xs us ys h (inl s) =
+    inl (_, omega (arith, s.1), values_join exact xs us ys h s.2)
+in_further exact xs us ys h (inr s) = inr (_, s.1, values_join exact xs us s.1 h s.2, s.3)
+
+-- any number of them
+pub in_any : (exact : Bool) {least : ℕ} (xs ys : List ℕ) → InParts exact least xs ys
+    → InParts exact 0 xs ys
+in_any exact xs ys (inl s) = inl (s.0, omega arith, s.2)
+in_any exact xs ys (inr s) = inr s
+
+-- after the head of an array or a map
+pub in_parts : (exact : Bool) {least : ℕ} (o : Option ℕ)
+    → ((k : ℕ) → least ≤ k → Grows o k) → (xs us ys : List ℕ) → OpensParts exact o xs us
+    → InParts exact least us ys → InValue exact xs ys
+in_parts exact o grows xs us ys h (inl s) = (grown s.0, (o, us, h, grows s.0 s.1, s.2))
+in_parts exact o grows xs us ys h (inr s) = (inside s.0 s.3.0, (o, us, s.1, h, s.2, s.3.1))
+
+-- after the head of a tag
+pub in_tagged : (exact : Bool) {n : ℕ} (xs us ys : List ℕ) → HeadAt exact 6 n xs us
+    → InTagged exact us ys → InValue exact xs ys
+in_tagged exact xs us ys h (inl s) = (boxed, (_, us, h, s))
+in_tagged exact xs us ys h (inr s) = (in_tag s.0, (_, us, h, s.1))
+
+-- in the first value
+pub in_first : (exact : Bool) {least : ℕ} (xs ys : List ℕ) → InValue exact xs ys
+    → InParts exact least xs ys
+in_first exact xs ys s = inr (0, xs, (no_trees, refl, tt, refl), s)
+
+-- ---- a turn: a run, and the value after it
+
+module _ (exact : Bool) {E : Type 0} {before mid : List Value} {n : Next} {a m b : View}
+    (run : RunsBefore E exact n before mid a m) where
+  -- in the value
+  pub turn_asks : AsksAfterNext exact n (InValue exact) m b → Asks (InParts exact 1) a b
+  turn_asks h =
+      asks_after (λ xs us ys p s. let v = values_under exact before mid a.budget xs us p in
+      in_next exact 1 xs us ys v.1 s) (reached_by run.puts) (h run.mid run.shows)
+
+  -- for the place of the value
+  pub turn_grows : {v : Value} → DoesAfterNext {E = E} exact n (ReadsUnder exact)
+      (RejectsUnder exact) m b (Ok v) → Asks (InParts exact 1) a b
+  turn_grows {v = v} d =
+      asks_here (InParts exact 1) (λ xs ys h. h) (reached_then
+      (λ xs ys. PutsItemsUnder exact before mid a.budget xs tt ys)
+      (λ xs ys. ReadsUnder exact run.mid.budget xs v ys) (InParts exact 1) (λ xs us ys p s.
+      let k = values_under exact before mid a.budget xs us p in
+      let one = value_under exact run.mid.budget v us ys s in
+      inl (k.0 + 1, omega arith, values_join exact xs us ys k.1 one))
+      (reached_by run.puts) (reached_by (d run.mid run.shows)))
+
+-- ---- values up to a break
+
+-- for the place of what was read after others
+pub put_grows : (exact : Bool) (vs part : List Value) {a m b : View} → 1 ≤ length part
+    → Reached (Before (ReadEach exact vs) a.budget) a m
+    → Reached (λ xs ys. ReadEach exact part m.budget xs ys) m b → Asks (InParts exact 1) a b
+put_grows exact vs part {a = a} some p q =
+    asks_here (InParts exact 1) (λ xs ys h. inl (
+      _,
+      omega (arith, some, length-append vs part),
+      values_are exact a.budget (vs ++ part) xs ys h,
+    )) (put_read exact vs part refl p q)
+
+-- ---- a run
+
+front_is : (n : ℕ) (shown xs : List ℕ) → n ≤ length shown → length shown ≤ length xs
+    → take (length shown) xs ≡ shown → take n xs ≡ take n shown
+front_is n shown xs within long e =
+    let more = length (drop n shown) in
+    let many : n + more ≡ length shown = omega (arith, within, length-drop n shown) in
+    let all : take n xs ++ take more (drop n xs) ≡ shown = sym (take-add n more xs)
+    ∙ ap (λ j. take j xs) many ∙ e in
+    sym (the_prefix n xs (take more (drop n xs)) (omega (arith, within, long))) ∙ ap (take n) all
+
+stand_in : (exact : Bool) {vs : List Value} (taken : ℕ) (shown xs : List ℕ)
+    → StandFirst (exact ≡ true) vs taken shown → take taken xs ≡ take taken shown
+    → Values exact (length vs) xs (drop taken xs)
+stand_in exact taken shown xs s same = (
+  s.trees,
+  s.many,
+  each_covers (IsLeaf (exact ≡ true)) (IsRead exact) (λ t h. (h.0, h.2)) s.trees s.each,
+  sym (take-append-drop taken xs) ∙ ap (λ r. r ++ drop taken xs) (same ∙ s.is),
+)
+
+in_run : (exact : Bool) (size : ℕ) (shown xs ys : List ℕ) → IsPrefix 1 shown xs
+    → ys ≡ drop size xs → RefusedMemory (exact ≡ true) size shown → InParts exact 1 xs ys
+in_run exact size shown xs ys p after r =
+    by_place (stand_in exact r.taken shown xs r.stand (front_is r.taken shown xs r.stand.within
+    p.within p.begins)) r.at
+  where
+    by_place : Values exact (length r.values) xs (drop r.taken xs)
+        → ((1 ≤ length r.values) × (size ≡ r.taken)) ⊎ ((head : ℕ) × (size ≡ r.taken + head)
+        × WantsContent head (drop r.taken shown)) → InParts exact 1 xs ys
+    by_place here (inl h) =
+        inl (
+          length r.values,
+          h.0,
+          subst (λ zs. Values exact (length r.values) xs zs)
+              (sym (after ∙ ap (λ j. drop j xs) h.1)) here,
+        )
+    by_place here (inr h) =
+        let w = h.2 in
+        let begins = begins_with w.first w.trailing (drop r.taken shown) (drop r.taken xs) w.begins
+        (begins_after r.taken shown xs r.stand.within p.begins) in
+        inr (
+          length r.values,
+          drop r.taken xs,
+          here,
+          (
+            content,
+            (
+              w.first,
+              drop 1 (drop r.taken xs),
+              begins,
+              w.major,
+            ),
+          ),
+        )
+
+-- no memory was found in a run
+pub run_asks : (exact : Bool) {size : ℕ} {a m b : View}
+    → Offers 1 (RefusedMemory (exact ≡ true) size) a m → Advances size m b
+    → Asks (InParts exact 1) a b
+run_asks exact {size = size} {m = m} {b = b} o adv = record {
+  at = λ xs known ys left.
+      let gone = sym left ∙ adv.known xs (o.shows.known xs known) in
+      let after : ys ≡ drop size xs = cc in
+      in_run exact size o.shown xs ys (o.prefix xs known) after o.is;
+}
+
+-- ---- strings
+
+pub in_string : (exact : Bool) (first : ℕ) {a m b : View} → ShowsFirst first a m
+    → BeginsString first → Asks (InValue exact) a b
+in_string exact first shows string = record {
+  at = λ xs known ys left.
+      let s = (peeked_first first shows).at xs known in
+      (content, (first, s.2.0, s.2.1, string));
+}
+
+-- a look has shown it whole
+pub in_content : (exact : Bool) {size : ℕ} {a m b : View} → Offers 1 (WantsContent size) a m
+    → Asks (InValue exact) a b
+in_content exact {a = a} {m = m} o =
+    let shows : ShowsFirst o.is.first a m = record {
+      shown = o.shown;
+      shows = o.shows;
+      prefix = o.prefix;
+      is = (o.is.trailing, o.is.begins);
+    } in
+    in_string exact o.is.first shows o.is.major

@@ -1,0 +1,86 @@
+-- An order of values in which equal ones alone tie: that of the lists of numbers that stand for
+-- them. A value's list is the number of its kind, one number more, and what stands in it.
+use Rattle.std.specs.Prelude.{◌≡◌, ◌⊎◌, ℕ, List, [], ◌∷◌, ◌++◌, Bool, true, false, length, pos}
+use Rattle.std.specs.Prelude.{negsuc}
+use Rattle.std.specs.Ordering.{is_lt, nat_cmp}
+use Rattle.std.specs.Cmp.Lexicographic.{slice_cmp}
+use denote.Ref.{Bor}
+use Rattle.cbor4ii_items.specs.Initial.{half, single, double}
+use Rattle.cbor4ii_items.specs.SequenceBytes.{pair_bytes}
+use Rattle.cbor4ii_tree.specs.Item.{Item, null, boolean, integer, float, bytes_item, text, sequence}
+use Rattle.cbor4ii_tree.specs.Item.{mapping, tag, Items, no_items, item, item_count, Members}
+use Rattle.cbor4ii_tree.specs.Item.{no_members, member, member_count}
+use Rattle.cbor4ii_tree.specs.View.{view}
+use Rattle.cbor4ii_tree.specs.declared.value.Value.{Value}
+
+-- the number of the kind, with the sign of an integer and the width of a float; and the number that
+-- the value is, its length, its count or its tag
+abbrev pub parts_of : Item → ℕ × ℕ
+parts_of null = (0, 0)
+parts_of (boolean false) = (1, 0)
+parts_of (boolean true) = (1, 1)
+parts_of (integer (pos n)) = (2, n)
+parts_of (integer (negsuc n)) = (3, n)
+parts_of (float half n) = (4, n)
+parts_of (float single n) = (5, n)
+parts_of (float double n) = (6, n)
+parts_of (bytes_item bs) = (7, length bs)
+parts_of (text bs) = (8, length bs)
+parts_of (sequence vs) = (9, item_count vs)
+parts_of (mapping ms) = (10, member_count ms)
+parts_of (tag n v) = (11, n)
+
+abbrev pub first_numbers : Item → List ℕ
+first_numbers v = (parts_of v).0 ∷ (parts_of v).1 ∷ []
+
+abbrev mutual
+  pub inner_numbers : Item → List ℕ
+  inner_numbers (bytes_item bs) = bs
+  inner_numbers (text bs) = bs
+  inner_numbers (sequence vs) = items_numbers vs
+  inner_numbers (mapping ms) = members_numbers ms
+  inner_numbers (tag n v) = first_numbers v ++ inner_numbers v
+  inner_numbers _ = []
+
+  pub items_numbers : Items → List ℕ
+  items_numbers no_items = []
+  items_numbers (item v vs) = (first_numbers v ++ inner_numbers v) ++ items_numbers vs
+
+  pub members_numbers : Members → List ℕ
+  members_numbers no_members = []
+  members_numbers (member k v ms) =
+      ((first_numbers k ++ inner_numbers k) ++ (first_numbers v ++ inner_numbers v))
+      ++ members_numbers ms
+
+abbrev pub numbers : Item → List ℕ
+numbers v = first_numbers v ++ inner_numbers v
+
+-- the same of values of the program
+abbrev pub value_numbers : Value → List ℕ
+value_numbers v = numbers (view v)
+
+abbrev pub member_numbers : Value × Value → List ℕ
+member_numbers = pair_bytes value_numbers value_numbers
+
+-- ---- references to keys
+
+-- what the value behind a reference stands for
+abbrev pub seen : Bor Value → Item
+seen key = view key.now
+
+abbrev pub key_of : Value × Value → Item
+key_of m = view m.0
+
+-- one key is before another
+abbrev pub is_before : Bor Value → Bor Value → Bool
+is_before a b = is_lt (slice_cmp nat_cmp (numbers (seen a)) (numbers (seen b)))
+
+-- one of the list is this
+abbrev pub IsOneOf : Item → List Item → Type 0
+IsOneOf v [] = ⊥
+IsOneOf v (w ∷ ws) = (w ≡ v) ⊎ IsOneOf v ws
+
+-- two of the list are equal
+abbrev pub Repeats : List Item → Type 0
+Repeats [] = ⊥
+Repeats (v ∷ vs) = IsOneOf v vs ⊎ Repeats vs

@@ -1,0 +1,132 @@
+//! Equal keys of maps, found by a sort: at one level, and at every level.
+ghost use Rattle.std.specs.Prelude.{◌≡◌, ◌↔◌, IsTrue, IfOk, OnErr, map};
+ghost use Rattle.std.specs.List.Sorted.{IsSortedBy};
+ghost use Rattle.cbor4ii_tree.specs.Access.{HasEqualKeys, HasMapWith, HasTwoPairs, IsMapWith};
+ghost use Rattle.cbor4ii_tree.specs.Access.{MapHasEqualKeys, PairHasMapWith, SomeHasMapWith};
+ghost use Rattle.cbor4ii_tree.specs.ExactOrder.{Repeats, is_before, key_of, seen};
+ghost use Rattle.cbor4ii_tree.specs.View.{view, items_view, members_view};
+
+use crate::exact_order::cmp_exactly;
+use crate::value::{NoMemory, Value};
+use std::alloc::AllocError;
+
+impl Value {
+    /// Whether two pairs of the map have equal keys, as `has_equal_keys` answers it, for maps of
+    /// many pairs: the keys are sorted, so that of n pairs these are about n log n comparisons,
+    /// whatever the keys are. False of any other kind of value. Maps inside are not looked at.
+    ///
+    /// It takes memory for one reference to each key, and gives it back.
+    ///
+    /// # Errors
+    ///
+    /// `NoMemory`: that memory was refused. A map of fewer than two pairs takes none, and no other
+    /// kind of value does.
+    pub fn try_has_equal_keys(&self) -> Result<bool, NoMemory>
+        ensures answer { IfOk result (λ found. IsTrue found ↔ MapHasEqualKeys (view self.now)) }
+        ensures memory { OnErr result (IsMapWith HasTwoPairs (view self.now)) }
+    {
+        match self {
+            Value::Map(members) => Ok(repeats_a_key(members)?),
+            _ => Ok(false),
+        }
+    }
+
+    /// Whether two pairs of one map have equal keys, in this value or in any inside it, at every
+    /// level: in arrays, on tags, in the keys and in the values of maps.
+    ///
+    /// Each map is sorted as `try_has_equal_keys` does, and its memory is given back before the
+    /// next map's is taken.
+    ///
+    /// # Errors
+    ///
+    /// `NoMemory`: the memory for the keys of one of the maps was refused. Where each map has fewer
+    /// than two pairs none is taken.
+    pub fn try_has_equal_keys_at_any_level(&self) -> Result<bool, NoMemory>
+        ensures answer { IfOk result (λ found.
+            IsTrue found ↔ HasMapWith HasEqualKeys (view self.now)) }
+        ensures memory { OnErr result (HasMapWith HasTwoPairs (view self.now)) }
+    {
+        Ok(repeats_within(self)?)
+    }
+}
+
+/// Whether a map in the value has equal keys.
+#[cycle(within)]
+fn repeats_within(value: &Value) -> Result<bool, AllocError>
+    ensures answer { IfOk result (λ found.
+        IsTrue found ↔ HasMapWith HasEqualKeys (view value.now)) }
+    ensures memory { OnErr result (HasMapWith HasTwoPairs (view value.now)) }
+{
+    match value {
+        Value::Array(items) => repeats_in_items(items),
+        Value::Map(members) => Ok(repeats_a_key(members)? || repeats_in_members(members)?),
+        Value::Tag(_, inner) => repeats_within(inner),
+        _ => Ok(false),
+    }
+}
+
+#[cycle(within)]
+fn repeats_in_items(items: &[Value]) -> Result<bool, AllocError>
+    ensures answer { IfOk result (λ found.
+        IsTrue found ↔ SomeHasMapWith HasEqualKeys (items_view items.now)) }
+    ensures memory { OnErr result (SomeHasMapWith HasTwoPairs (items_view items.now)) }
+{
+    for item in items {
+        if repeats_within(item)? {
+            return Ok(true);
+        }
+    }
+    Ok(false)
+}
+
+#[cycle(within)]
+fn repeats_in_members(members: &[(Value, Value)]) -> Result<bool, AllocError>
+    ensures answer { IfOk result (λ found.
+        IsTrue found ↔ PairHasMapWith HasEqualKeys (members_view members.now)) }
+    ensures memory { OnErr result (PairHasMapWith HasTwoPairs (members_view members.now)) }
+{
+    for member in members {
+        if repeats_within(&member.0)? || repeats_within(&member.1)? {
+            return Ok(true);
+        }
+    }
+    Ok(false)
+}
+
+/// Whether two of the pairs have equal keys.
+fn repeats_a_key(members: &Vec<(Value, Value)>) -> Result<bool, AllocError>
+    ensures answer { IfOk result (λ found.
+        IsTrue found ↔ HasEqualKeys (members_view members.now.items)) }
+    ensures memory { OnErr result (HasTwoPairs (members_view members.now.items)) }
+{
+    if members.len() < 2 {
+        return Ok(false);
+    }
+    let mut keys = keys_of(members)?;
+    keys.sort_unstable_by(|a, b| cmp_exactly(a, b));
+    Ok(has_equal_neighbours(&keys))
+}
+
+/// The keys of the pairs, in their order.
+fn keys_of(members: &Vec<(Value, Value)>) -> Result<Vec<&Value>, AllocError>
+    ensures { IfOk result (λ keys. map seen keys.items ≡ map key_of members.now.items) }
+{
+    let mut keys = Vec::with_capacity(*members.allocator(), members.len())?;
+    for member in members {
+        keys.push(&member.0)?;
+    }
+    Ok(keys)
+}
+
+/// Whether two keys in order that stand beside each other are equal.
+fn has_equal_neighbours(keys: &[&Value]) -> bool
+    requires { IsSortedBy is_before keys.now }
+    ensures { IsTrue result ↔ Repeats (map seen keys.now) }
+{
+    for i in 1..keys.len() {
+        if *keys[i - 1] == *keys[i] {
+            return true;
+        }
+    }
+    false
+}

@@ -1,0 +1,326 @@
+//! A head is one push, and a string's content another, whether the writer's error is small or
+//! large: calls of a serializer, and how many bytes each push has.
+ghost use Rattle.std.specs.Prelude.{false};
+ghost use Rattle.cbor4ii_vectors.specs.Reports.{pushed_output};
+
+use crate::by_pieces::ByPieces;
+use crate::pieces::letters;
+use crate::typed::Put;
+use cbor4ii_items::types::{Bytes, F16, F32, F64};
+use cbor4ii_rw::write::Write;
+use cbor4ii_ser::error::EncodeError;
+use cbor4ii_ser::serializer::Serializer;
+use cbor4ii_tree::Value;
+use cbor4ii_vectors::writers::PushLengths;
+use std::alloc::Global;
+use std::collections::BTreeMap;
+use std::test::Fail;
+
+/// An error with the room of sixteen references: heads go another way to such a writer.
+#[derive(Clone, Copy, Debug, PartialEq, Eq)]
+struct LargeFailure([u64; 16]);
+
+/// As `PushLengths`, with a large error.
+#[derive(Drop)]
+struct LargePushes(PushLengths);
+
+impl Write for LargePushes {
+    type Error = LargeFailure;
+
+    ghost atomic = { false };
+
+    ghost view = { λ writer. pushed_output writer.0 };
+
+    fn push(&mut self, input: &[u8]) -> Result<(), LargeFailure> {
+        match self.0.push(input) {
+            Ok(()) => Ok(()),
+            Err(_) => Err(LargeFailure([0; 16])),
+        }
+    }
+}
+
+// Compares how many bytes the pushes have.
+fn are_lengths(found: &[usize], wanted: &[usize]) -> Result<(), Fail> {
+    if found == wanted {
+        return Ok(());
+    }
+    Err(Fail::new(format_args!("pushes of {found:?} bytes in the place of {wanted:?}")))
+}
+
+// The calls push so many bytes each time, to a writer of either kind.
+fn pushes<T: Put>(alloc: Global, calls: &T, lengths: &[usize]) -> Result<(), Fail> {
+    let mut small = Serializer::new(PushLengths::new(alloc));
+    calls.put(&mut small)?;
+    are_lengths(small.into_inner().lengths(), lengths)?;
+    let mut large = Serializer::new(LargePushes(PushLengths::new(alloc)));
+    calls.put(&mut large)?;
+    are_lengths(large.into_inner().0.lengths(), lengths)
+}
+
+#[test]
+fn unsigned_integers(rt: HostRuntime) -> Result<(), Fail> {
+    let alloc = rt.alloc();
+    pushes(alloc, &23u8, &[1])?;
+    pushes(alloc, &24u8, &[2])?;
+    pushes(alloc, &255u16, &[2])?;
+    pushes(alloc, &256u16, &[3])?;
+    pushes(alloc, &65535u32, &[3])?;
+    pushes(alloc, &65536u32, &[5])?;
+    pushes(alloc, &0xffff_ffffu64, &[5])?;
+    pushes(alloc, &0x1_0000_0000u64, &[9])?;
+    pushes(alloc, &u64::MAX, &[9])
+}
+
+#[test]
+fn negative_integers(rt: HostRuntime) -> Result<(), Fail> {
+    let alloc = rt.alloc();
+    pushes(alloc, &-24i8, &[1])?;
+    pushes(alloc, &-25i8, &[2])?;
+    pushes(alloc, &-256i16, &[2])?;
+    pushes(alloc, &-257i16, &[3])?;
+    pushes(alloc, &-65536i32, &[3])?;
+    pushes(alloc, &-65537i32, &[5])?;
+    pushes(alloc, &-0x1_0000_0000i64, &[5])?;
+    pushes(alloc, &-0x1_0000_0001i64, &[9])?;
+    pushes(alloc, &i64::MIN, &[9])
+}
+
+// A bignum is a tag's head and a byte string.
+#[test]
+fn great_integers(rt: HostRuntime) -> Result<(), Fail> {
+    let alloc = rt.alloc();
+    pushes(alloc, &23u128, &[1])?;
+    pushes(alloc, &-25i128, &[2])?;
+    pushes(alloc, &0xffff_ffff_ffff_ffffu128, &[9])?;
+    pushes(alloc, &0x1_0000_0000_0000_0000u128, &[1, 1, 9])?;
+    pushes(alloc, &i128::MIN, &[1, 1, 16])
+}
+
+#[test]
+fn simple_values_and_floats(rt: HostRuntime) -> Result<(), Fail> {
+    let alloc = rt.alloc();
+    pushes(alloc, &true, &[1])?;
+    pushes(alloc, &None::<u8>, &[1])?;
+    pushes(alloc, &(), &[1])?;
+    pushes(alloc, &F16(0), &[3])?;
+    pushes(alloc, &F32(0), &[5])?;
+    pushes(alloc, &F64(0), &[9])
+}
+
+// A text and a byte string of so many letters, with a head of so many bytes.
+fn strings(alloc: Global, count: usize, head: usize) -> Result<(), Fail> {
+    let text = letters(alloc, count)?;
+    pushes(alloc, &text.as_str(), &[head, count])?;
+    pushes(alloc, &Bytes(text.as_str().as_bytes()), &[head, count])
+}
+
+#[test]
+fn texts_and_byte_strings(rt: HostRuntime) -> Result<(), Fail> {
+    let alloc = rt.alloc();
+    pushes(alloc, &'c', &[1, 1])?;
+    strings(alloc, 0, 1)?;
+    strings(alloc, 23, 1)?;
+    strings(alloc, 24, 2)?;
+    strings(alloc, 255, 2)?;
+    strings(alloc, 256, 3)?;
+    strings(alloc, 65535, 3)?;
+    strings(alloc, 65536, 5)
+}
+
+// A text in pieces of so many letters each.
+fn pieces(alloc: Global, first: usize, second: usize, lengths: &[usize]) -> Result<(), Fail> {
+    let text = (letters(alloc, first)?, letters(alloc, second)?);
+    pushes(alloc, &ByPieces(text), lengths)
+}
+
+#[test]
+fn texts_in_pieces(rt: HostRuntime) -> Result<(), Fail> {
+    let alloc = rt.alloc();
+    pieces(alloc, 0, 0, &[1, 0])?;
+    pieces(alloc, 11, 12, &[1, 23])?;
+    pieces(alloc, 12, 12, &[2, 24])?;
+    pieces(alloc, 200, 56, &[1, 2, 200, 2, 56, 1])?;
+    pieces(alloc, 0, 256, &[1, 3, 256, 1])?;
+    pieces(alloc, 1, 65536, &[1, 1, 1, 5, 65536, 1])
+}
+
+/// The head of an array of so many items.
+#[derive(Drop)]
+struct ArrayHead(Option<usize>);
+
+impl Put for ArrayHead {
+    fn put<W: Write>(&self, ser: &mut Serializer<W>) -> Result<(), EncodeError<W::Error>> {
+        let _items = ser.serialize_seq(self.0)?;
+        Ok(())
+    }
+}
+
+/// The head of a map of so many entries.
+#[derive(Drop)]
+struct MapHead(Option<usize>);
+
+impl Put for MapHead {
+    fn put<W: Write>(&self, ser: &mut Serializer<W>) -> Result<(), EncodeError<W::Error>> {
+        let _entries = ser.serialize_map(self.0)?;
+        Ok(())
+    }
+}
+
+/// The head of a tuple of so many items.
+#[derive(Drop)]
+struct TupleHead(usize);
+
+impl Put for TupleHead {
+    fn put<W: Write>(&self, ser: &mut Serializer<W>) -> Result<(), EncodeError<W::Error>> {
+        let _items = ser.serialize_tuple(self.0)?;
+        Ok(())
+    }
+}
+
+/// The head of a struct of so many fields.
+#[derive(Drop)]
+struct StructHead(usize);
+
+impl Put for StructHead {
+    fn put<W: Write>(&self, ser: &mut Serializer<W>) -> Result<(), EncodeError<W::Error>> {
+        let _fields = ser.serialize_struct("Struct", self.0)?;
+        Ok(())
+    }
+}
+
+/// What stands before the items of a variant of so many.
+#[derive(Drop)]
+struct TupleVariantHead(usize);
+
+impl Put for TupleVariantHead {
+    fn put<W: Write>(&self, ser: &mut Serializer<W>) -> Result<(), EncodeError<W::Error>> {
+        let _items = ser.serialize_tuple_variant("Enum", 0, "Tuple", self.0)?;
+        Ok(())
+    }
+}
+
+/// What stands before the fields of a variant of so many.
+#[derive(Drop)]
+struct StructVariantHead(usize);
+
+impl Put for StructVariantHead {
+    fn put<W: Write>(&self, ser: &mut Serializer<W>) -> Result<(), EncodeError<W::Error>> {
+        let _fields = ser.serialize_struct_variant("Enum", 0, "Struct", self.0)?;
+        Ok(())
+    }
+}
+
+// What begins an array and a map of so many parts, by each accessor, with a head of so many bytes.
+fn accessors(alloc: Global, count: usize, head: usize) -> Result<(), Fail> {
+    pushes(alloc, &ArrayHead(Some(count)), &[head])?;
+    pushes(alloc, &MapHead(Some(count)), &[head])?;
+    pushes(alloc, &TupleHead(count), &[head])?;
+    pushes(alloc, &StructHead(count), &[head])?;
+    pushes(alloc, &TupleVariantHead(count), &[1, 1, 5, head])?;
+    pushes(alloc, &StructVariantHead(count), &[1, 1, 6, head])
+}
+
+#[test]
+fn heads_of_accessors(rt: HostRuntime) -> Result<(), Fail> {
+    let alloc = rt.alloc();
+    accessors(alloc, 23, 1)?;
+    accessors(alloc, 24, 2)?;
+    accessors(alloc, 256, 3)?;
+    accessors(alloc, 65536, 5)?;
+    accessors(alloc, 0x1_0000_0000, 9)?;
+    pushes(alloc, &ArrayHead(None), &[1])?;
+    pushes(alloc, &MapHead(None), &[1])
+}
+
+/// A map of any number of entries, with one, to its end.
+#[derive(Drop)]
+struct OpenMap;
+
+impl Put for OpenMap {
+    fn put<W: Write>(&self, ser: &mut Serializer<W>) -> Result<(), EncodeError<W::Error>> {
+        let mut entries = ser.serialize_map(None)?;
+        entries.serialize_entry(&"a", &24u8)?;
+        entries.end()
+    }
+}
+
+// An array of so many empty arrays, after a head of these pushes.
+fn parts(alloc: Global, count: usize, head: &[usize]) -> Result<(), Fail> {
+    let mut items = Vec::new(alloc);
+    let mut lengths = Vec::from_slice(alloc, head)?;
+    for _ in 0..count {
+        items.push(())?;
+        lengths.push(1)?;
+    }
+    pushes(alloc, &items, &lengths)
+}
+
+#[test]
+fn arrays_and_maps(rt: HostRuntime) -> Result<(), Fail> {
+    let alloc = rt.alloc();
+    pushes(alloc, &(1u8, 24u8), &[1, 1, 2])?;
+    pushes(alloc, &(1u8, "ab", 256u16), &[1, 1, 1, 2, 3])?;
+    pushes(alloc, &OpenMap, &[1, 1, 1, 2, 1])?;
+    parts(alloc, 23, &[1])?;
+    parts(alloc, 24, &[2])?;
+    parts(alloc, 256, &[3])?;
+    let mut map = BTreeMap::new(alloc);
+    map.insert("key", 24u8)?;
+    pushes(alloc, &map, &[1, 1, 3, 2])
+}
+
+/// A variant of this name, of one value.
+#[derive(Drop)]
+struct Newtype<'a>(&'a str);
+
+impl Put for Newtype<'_> {
+    fn put<W: Write>(&self, ser: &mut Serializer<W>) -> Result<(), EncodeError<W::Error>> {
+        ser.serialize_newtype_variant("Enum", 0, self.0, &24u8)
+    }
+}
+
+/// Variants without a value, of two items, and of two fields.
+#[derive(Drop)]
+struct Variants;
+
+impl Put for Variants {
+    fn put<W: Write>(&self, ser: &mut Serializer<W>) -> Result<(), EncodeError<W::Error>> {
+        ser.serialize_unit_variant("Enum", 0, "Unit")?;
+        ser.serialize_variant_of_2_items("Enum", 1, "Two", &1u8, &256u16)?;
+        ser.serialize_variant_of_2_fields("Enum", 2, "Named", "a", &1u8, "bc", &24u8)
+    }
+}
+
+const VARIANTS: &[usize] = &[1, 4, 1, 1, 3, 1, 1, 3, 1, 1, 5, 1, 1, 1, 1, 1, 2, 2];
+
+#[test]
+fn variants_by_name(rt: HostRuntime) -> Result<(), Fail> {
+    let alloc = rt.alloc();
+    pushes(alloc, &Newtype("New"), &[1, 1, 3, 2])?;
+    pushes(alloc, &Newtype("aaaaaaaaaaaaaaaaaaaaaaaa"), &[1, 2, 24, 2])?;
+    pushes(alloc, &Variants, VARIANTS)
+}
+
+/// A struct of two fields.
+#[derive(Drop)]
+struct Fields;
+
+impl Put for Fields {
+    fn put<W: Write>(&self, ser: &mut Serializer<W>) -> Result<(), EncodeError<W::Error>> {
+        ser.serialize_2_fields("Struct", "a", &256u16, "aaaaaaaaaaaaaaaaaaaaaaaa", &"b")
+    }
+}
+
+#[test]
+fn structs(rt: HostRuntime) -> Result<(), Fail> {
+    pushes(rt.alloc(), &Fields, &[1, 1, 1, 3, 2, 24, 1, 1])
+}
+
+#[test]
+fn whole_items(rt: HostRuntime) -> Result<(), Fail> {
+    let alloc = rt.alloc();
+    pushes(alloc, &Value::Integer(24), &[2])?;
+    pushes(alloc, &Value::Integer(256), &[3])?;
+    pushes(alloc, &Value::Integer(-65537), &[5])?;
+    pushes(alloc, &Value::Text(letters(alloc, 24)?), &[2, 24])
+}
