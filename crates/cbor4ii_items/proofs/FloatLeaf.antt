@@ -15,6 +15,7 @@ use Rattle.cbor4ii_items.specs.Reading.{Runs}
 use Rattle.cbor4ii_items.specs.Marked.{marked_at}
 use Rattle.cbor4ii_items.specs.Floats.{float_bytes, StandsWhole, ReadsFloat, CutFloat, RejectsFloat}
 use Rattle.cbor4ii_items.specs.Floats.{float_at, float_again}
+use Rattle.cbor4ii_items.specs.Prefix.{TookSeen}
 use Rattle.cbor4ii_items.specs.Laws.ProgramEnds.{ok_parts, err_parts, ErrParts}
 use Rattle.cbor4ii_items.specs.Laws.Contents.{lends_prefix}
 use Rattle.cbor4ii_items.proofs.Leaves.{IsLeaf}
@@ -111,8 +112,8 @@ float_shown {marker = marker} {count = count} {bits = bits} n {prefix = prefix} 
       cost = refl;
     }
 
-pub runs_float : {E : Type 0} (name : List ℕ) {marker count bits n : ℕ} {prefix : List ℕ}
-    {a m b : View} → n ≡ suc count → Shows prefix a m → IfKnown a.known (IsPrefix n prefix)
+runs_float : {E : Type 0} (name : List ℕ) {marker count bits n want : ℕ} {prefix : List ℕ}
+    {a m b : View} → n ≡ suc count → Shows prefix a m → IfKnown a.known (IsPrefix want prefix)
     → StandsWhole marker count prefix bits → Advances n m b
     → Runs {E = E} (float_at name marker count) a b (Ok bits)
 runs_float name {marker = marker} {count = count} {bits = bits} {n = n}
@@ -128,3 +129,13 @@ runs_float name {marker = marker} {count = count} {bits = bits} {n = n}
             (float_again name marker count xs bits n 0 (float_shown n e f h.2)).answer,
           );
     }
+
+pub took_float : {E : Type 0} {marker count bits n want : ℕ} {prefix : List ℕ} {a m b : View}
+    → Shows prefix a m → IfKnown a.known (IsPrefix want prefix)
+    → (n ≡ suc count) × StandsWhole marker count prefix bits → Advances n m b
+    → TookSeen E (λ name. float_at name marker count) (λ v. v < 256 ^ count) bits a b
+took_float shows prefix h adv = record {
+  runs = λ name. runs_float name h.0 shows prefix h.1 adv;
+  fits = h.1.fits;
+  progress = omega (arith, h.0, adv.bound, shows.bound);
+}

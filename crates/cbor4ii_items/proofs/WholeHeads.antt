@@ -1,7 +1,7 @@
 -- A head that stands whole in a prefix that was shown.
-use Rattle.std.proofs.Common.{◌≡◌, ◌≢◌, ℕ, suc, ◌+◌, ◌-◌, ◌<◌, ◌≤◌, ◌/◌, ◌%◌, List, [], ◌∷◌, ◌++◌}
+use Rattle.std.proofs.Common.{◌≡◌, ◌≢◌, ℕ, suc, ◌+◌, ◌-◌, ◌^◌, ◌<◌, ◌≤◌, ◌/◌, ◌%◌, List, [], ◌∷◌, ◌++◌}
 use Rattle.std.proofs.Common.{length, take, drop, Option, Some, None, Result, Ok, Err, true, false}
-use Rattle.std.proofs.Common.{refl, sym, ap, ◌∙◌, OnOk, subst, arith, eqb, eq-eqb, ltb, lt-ltb}
+use Rattle.std.proofs.Common.{refl, sym, ap, ◌∙◌, OnOk, IfOk, OnSome, subst, arith, eqb, eq-eqb, ltb, lt-ltb}
 use Rattle.std.proofs.Common.{le-ltb, slice_index_or}
 use Rattle.std.proofs.lemmas.List.{take-append-drop, drop-append-le}
 use Rattle.std.proofs.Math.Seq.{take-length}
@@ -16,9 +16,9 @@ use Rattle.cbor4ii_items.specs.Lent.{Stays}
 use Rattle.cbor4ii_items.specs.InputError.{mismatch}
 use Rattle.cbor4ii_items.specs.Reading.{Reading, go_on, give, Runs}
 use Rattle.cbor4ii_items.specs.ReadHead.{number_on, following, allowed, head_by, head_at, length_at}
-use Rattle.cbor4ii_items.specs.Prefix.{IsWhole, IsArgument, RunsOrStays}
+use Rattle.cbor4ii_items.specs.Prefix.{IsWhole, IsArgument, RunsOrStays, TookSeen}
 use Rattle.cbor4ii_items.specs.Laws.Contents.{lends_prefix}
-use Rattle.cbor4ii_items.specs.Laws.Steps.{moves_then, moves_ok}
+use Rattle.cbor4ii_items.specs.Laws.Steps.{moves_then, moves_ok, kept_then, broke_then}
 use Rattle.cbor4ii_items.specs.Laws.ReadingHeads.{small_argument, allowed_le, wider}
 
 -- ---- a head in a list
@@ -105,6 +105,21 @@ runs_whole name {major = major} {width = width} {want = want} {argument = argume
       );
     }
 
+pub took_whole : {E : Type 0} {major width want argument n : ℕ} {shown : List ℕ} {a m b : View}
+    → Shows shown a m → IfKnown a.known (IsPrefix want shown)
+    → IsWhole major width shown argument n → Advances n m b
+    → TookSeen E (λ name. head_at name major width) (λ v. 1 ≤ width → v < 256 ^ width) argument a b
+took_whole s prefix h adv = record {
+  runs = λ name. runs_whole name s prefix h adv;
+  fits = h.fits;
+  progress = omega (arith, h.some, adv.bound, s.bound);
+}
+
+pub runs_seen : {E : Type 0} {program : List ℕ → Reading ℕ} {small : ℕ → Type 0} {v : ℕ}
+    {a b : View} → TookSeen E program small v a b
+    → (name : List ℕ) → Runs {E = E} (program name) a b (Ok v)
+runs_seen h = h.runs
+
 -- a call after one that took nothing
 pub runs_stayed : {V E : Type 0} {f : Reading V} {a m b : View} {r : Result V (DecodeError E)}
     → Stays a m → Runs f m b r → Runs f a b r
@@ -129,6 +144,26 @@ pub found_none : {V : Type 0} (E : Type 0) (p : Reading V) {a b : View} (o : Opt
     → RunsOrStays {E = E} p a b (Ok o) → Stays a b
 found_none E p None e h = h
 found_none E p (Some u) e h = cc
+
+-- a look that took nothing, and another one
+pub stays_then : {a b c : View} → Stays a b → Stays b c → Stays a c
+stays_then p q = record {
+  kept = kept_then p.kept q.kept;
+  known = λ xs known. q.known xs (p.known xs known);
+}
+
+pub then_runs_or_stays : {V E : Type 0} (f : Reading V) {a m : View} (b : View)
+    (r : Result (Option V) E) → Stays a m → RunsOrStays f m b r → RunsOrStays f a b r
+then_runs_or_stays f b (Ok (Some v)) s h = runs_stayed s h
+then_runs_or_stays f b (Ok None) s h = stays_then s h
+then_runs_or_stays f b (Err e) s h = broke_then s.kept h
+
+pub then_progress : {V E : Type 0} {a m : View} (bound : ℕ) (r : Result (Option V) E) → Stays a m
+    → IfOk r (λ found. OnSome found (bound + 1 ≤ m.bound))
+    → IfOk r (λ found. OnSome found (bound + 1 ≤ a.bound))
+then_progress bound (Ok (Some v)) s h = omega (arith, h, s.kept.bound)
+then_progress bound (Ok None) s h = tt
+then_progress bound (Err e) s h = tt
 
 pub runs_broke : {V E : Type 0} {f : Reading V} {a b : View} {e : E} → ReaderFailed a b
     → Runs f a b (Err (Read e))

@@ -6,6 +6,8 @@ use Rattle.std.specs.Prelude.{◌&&◌, nat_le}
 use Rattle.std.specs.Int.{bytes_high_first}
 use Rattle.std.proofs.Math.Seq.{drop-append_seam, take-append_seam}
 use Rattle.cbor4ii_rw.specs.declared.error.Len.TheVariants.{Small}
+use Rattle.cbor4ii_items.specs.declared.prefix.Shown.{Shown}
+use Rattle.cbor4ii_items.specs.declared.prefix.Shown.TheVariants.{Whole, Cut, Other}
 use Rattle.cbor4ii_items.specs.Head.{IsBytes}
 use Rattle.cbor4ii_items.specs.InputError.{InputError, eof}
 use Rattle.cbor4ii_items.specs.Reading.{Reading, ◌>=>◌}
@@ -33,6 +35,13 @@ pub record StandsWhole (marker count : ℕ) (prefix : List ℕ) (bits : ℕ) : T
   pub bytes : IsBytes (take (suc count) prefix)
   pub fits : bits < 256 ^ count
   pub is : take (suc count) prefix ≡ float_bytes marker count bits
+
+-- where a float is seen whole, it stands at the beginning
+abbrev pub SeesFloat : ℕ → ℕ → List ℕ → Shown → Type 0
+SeesFloat marker count prefix (Whole bits n) =
+    (n ≡ suc count) × StandsWhole marker count prefix bits
+SeesFloat marker count prefix (Cut n) = Unit {0}
+SeesFloat marker count prefix Other = Unit {0}
 
 -- fewer bytes follow the first than the bits have, and nothing is left
 pub record CutFloat (name : List ℕ) (marker count : ℕ) (xs : List ℕ) (err : InputError)

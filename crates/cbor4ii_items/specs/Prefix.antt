@@ -1,5 +1,5 @@
 -- Heads that stand whole in a prefix of the bytes.
-use Rattle.std.specs.Prelude.{◌≡◌, ℕ, ◌<◌, ◌≤◌, ◌^◌, ◌++◌, List, length, take, drop, Option, Some}
+use Rattle.std.specs.Prelude.{◌≡◌, ℕ, ◌+◌, ◌<◌, ◌≤◌, ◌^◌, ◌++◌, List, length, take, drop, Option, Some}
 use Rattle.std.specs.Prelude.{None, Result, Ok, Err}
 use Rattle.cbor4ii_rw.specs.View.{View}
 use Rattle.cbor4ii_items.specs.Moves.{ReaderFailed}
@@ -7,6 +7,8 @@ use Rattle.cbor4ii_items.specs.Head.{IsBytes}
 use Rattle.cbor4ii_items.specs.Reading.{Reading, Runs}
 use Rattle.cbor4ii_items.specs.ReadHead.{number_on, following, head_at}
 use Rattle.cbor4ii_items.specs.Lent.{Stays}
+use Rattle.cbor4ii_items.specs.declared.prefix.Shown.{Shown}
+use Rattle.cbor4ii_items.specs.declared.prefix.Shown.TheVariants.{Whole, Cut, Other}
 
 -- the bytes of an argument, by the additional information, with others after them
 pub record IsArgument (info : ℕ) (shown : List ℕ) (argument : ℕ) : Type 0 where
@@ -25,8 +27,29 @@ pub record IsWhole (major width : ℕ) (shown : List ℕ) (argument n : ℕ) : T
   pub head : (name rest : List ℕ)
       → head_at name major width (shown ++ rest) ≡ Ok (argument, drop n shown ++ rest)
 
+-- where a head is seen whole, it stands at the beginning
+abbrev pub SeesHead : ℕ → ℕ → List ℕ → Shown → Type 0
+SeesHead major width shown (Whole argument n) = IsWhole major width shown argument n
+SeesHead major width shown (Cut n) = Unit {0}
+SeesHead major width shown Other = Unit {0}
+
 -- what the program reads was taken, or nothing was; or the reader failed
 abbrev pub RunsOrStays : {V E : Type 0} → Reading V → View → View → Result (Option V) E → Type 0
 RunsOrStays {V} {E} program old new (Ok (Some v)) = Runs {E = E} program old new (Ok v)
 RunsOrStays {V} {E} program old new (Ok None) = Stays old new
 RunsOrStays {V} {E} program old new (Err e) = ReaderFailed old new
+
+-- a value that the program reads was taken, by whichever name, and it is small
+pub record TookSeen (E : Type 0) (program : List ℕ → Reading ℕ) (small : ℕ → Type 0) (v : ℕ)
+    (old new : View) : Type 0 where
+  pub runs : (name : List ℕ) → Runs {E = E} (program name) old new (Ok v)
+  pub fits : small v
+  pub progress : new.bound + 1 ≤ old.bound
+
+-- What was seen whole was taken, and of another nothing; or the reader failed.
+abbrev pub TakesSeen : {E : Type 0} → (List ℕ → Reading ℕ) → (ℕ → Type 0) → View → View
+    → Result Shown E → Type 0
+TakesSeen {E} program small old new (Ok (Whole v n)) = TookSeen E program small v old new
+TakesSeen {E} program small old new (Ok (Cut n)) = Stays old new
+TakesSeen {E} program small old new (Ok Other) = Stays old new
+TakesSeen {E} program small old new (Err e) = ReaderFailed old new

@@ -6,7 +6,8 @@ ghost use Rattle.cbor4ii_items.specs.Magnitude.{number_of};
 ghost use Rattle.cbor4ii_items.specs.Decoding.{Decodes, format_by};
 ghost use Rattle.cbor4ii_items.specs.Reading.{Runs};
 ghost use Rattle.cbor4ii_items.specs.InputError.{is_out_of_memory};
-ghost use Rattle.cbor4ii_items.specs.Floats.{float_bytes, StandsWhole, float_at, float_format};
+ghost use Rattle.cbor4ii_items.specs.Floats.{float_bytes, SeesFloat, float_at, float_format};
+ghost use Rattle.cbor4ii_items.specs.Prefix.{TakesSeen};
 ghost use Rattle.cbor4ii_items.specs.Floats.{float_lawful};
 ghost use Rattle.cbor4ii_items.specs.Laws.Formats.{lawful_by};
 ghost use Rattle.cbor4ii_items.specs.Writing.{WritesAtomically};
@@ -15,9 +16,10 @@ use crate::decode::{Decodable, Decode};
 use crate::encode::Encode;
 use crate::head::{marked, number};
 use crate::marker;
+use crate::prefix::Shown;
 use crate::push::push_bytes;
 use crate::types::{F16, F32, F64};
-use cbor4ii_rw::ask::look;
+use cbor4ii_rw::ask::{at_most, look};
 use cbor4ii_rw::error::{DecodeError, EncodeError, StaticStr};
 use cbor4ii_rw::read::Source;
 use cbor4ii_rw::write::Write;
@@ -39,7 +41,7 @@ fn lone_float<S: Source>(
     take_float(reader, name, marker, bytes)
 }
 
-/// Where the reader shows the whole float, with one look and one advance.
+/// A float that stands whole in what the reader shows, with one advance.
 #[inline(always)]
 fn take_float<S: Source>(
     reader: &mut S,
@@ -54,31 +56,83 @@ fn take_float<S: Source>(
     ensures fits { IfOk result (λ v. v < 256 ^ bytes) }
     ensures progress { OnOk result ((S.view reader.new).bound + 1 ≤ (S.view reader.old).bound) }
 {
-    let size = 1 + bytes as usize;
-    let mut failure = None;
-    match look(reader, size, &mut failure) {
-        Some(shown) => match float_in(shown, marker, bytes) {
-            Some(value) => {
-                reader.advance(size);
-                Ok(value)
-            }
-            None => float_by_bytes(reader, name, marker, bytes),
-        },
-        None => Err(DecodeError::Read(failure.unwrap())),
+    let want = at_most(reader, 1 + bytes as usize);
+    match take_shown_float(reader, marker, bytes, want) {
+        Ok(Shown::Whole(value, _)) => Ok(value),
+        Ok(Shown::Cut(size)) if want < size => { take_longer_float(reader, name, marker, bytes) }
+        Ok(Shown::Cut(_)) => float_by_bytes(reader, name, marker, bytes),
+        Ok(Shown::Other) => float_by_bytes(reader, name, marker, bytes),
+        Err(error) => Err(DecodeError::Read(error)),
     }
 }
 
-/// The bits of a float that stands whole at the beginning.
-#[inline(always)]
-fn float_in(prefix: &[u8], marker: u8, bytes: u8) -> Option<u64>
+/// As `take_float`, of a float whose first byte was seen: it is looked at whole.
+#[cold]
+#[inline(never)]
+fn take_longer_float<S: Source>(
+    reader: &mut S,
+    name: StaticStr,
+    marker: u8,
+    bytes: u8,
+) -> Result<u64, DecodeError<S::Error>>
     requires { bytes ≤ 8 }
-    ensures { IfSome result (StandsWhole marker bytes prefix.now) }
+    ensures runs { Runs (float_at name.now marker bytes)
+        (S.view reader.old) (S.view reader.new) result }
+    ensures memory { IfErr result (λ error. is_out_of_memory error ≡ false) }
+    ensures fits { IfOk result (λ v. v < 256 ^ bytes) }
+    ensures progress { OnOk result ((S.view reader.new).bound + 1 ≤ (S.view reader.old).bound) }
 {
-    if prefix.len() <= bytes as usize || prefix[0] != marker {
-        return None;
+    match take_shown_float(reader, marker, bytes, 1 + bytes as usize) {
+        Ok(Shown::Whole(value, _)) => Ok(value),
+        Ok(Shown::Cut(_)) => float_by_bytes(reader, name, marker, bytes),
+        Ok(Shown::Other) => float_by_bytes(reader, name, marker, bytes),
+        Err(error) => Err(DecodeError::Read(error)),
+    }
+}
+
+/// Looks at `want` bytes, and takes a float that stands whole in what is shown. Nothing is taken
+/// of any other. An error is the reader's.
+#[inline(always)]
+fn take_shown_float<S: Source>(
+    reader: &mut S,
+    marker: u8,
+    bytes: u8,
+    want: usize,
+) -> Result<Shown, S::Error>
+    requires { bytes ≤ 8 }
+    ensures { TakesSeen (λ name. float_at name marker bytes) (λ v. v < 256 ^ bytes)
+        (S.view reader.old) (S.view reader.new) result }
+{
+    let mut failure = None;
+    let float = match look(reader, want, &mut failure) {
+        Some(shown) => float_in(shown, marker, bytes),
+        None => return Err(failure.unwrap()),
+    };
+    match float {
+        Shown::Whole(value, size) => {
+            reader.advance(size);
+            Ok(Shown::Whole(value, size))
+        }
+        Shown::Cut(size) => Ok(Shown::Cut(size)),
+        Shown::Other => Ok(Shown::Other),
+    }
+}
+
+/// What a prefix has of a float at the beginning.
+#[inline(always)]
+fn float_in(prefix: &[u8], marker: u8, bytes: u8) -> Shown
+    requires { bytes ≤ 8 }
+    ensures { SeesFloat marker bytes prefix.now result }
+{
+    if prefix.len() == 0 || prefix[0] != marker {
+        return Shown::Other;
+    }
+    let size = 1 + bytes as usize;
+    if prefix.len() < size {
+        return Shown::Cut(size);
     }
     let trailing = &prefix[1..];
-    Some(number_of(&trailing[..bytes as usize]))
+    Shown::Whole(number_of(&trailing[..bytes as usize]), size)
 }
 
 /// The number that the bytes are, most significant first.

@@ -1,15 +1,27 @@
-//! Heads that stand whole in the prefix that a reader shows: one look, and one advance.
+//! Heads that stand whole in the prefix that a reader shows: one look, and one advance. Where the
+//! reader lets a look ask for fewer bytes than a head may have, a longer one takes a second look.
 ghost use Rattle.std.specs.Prelude.{◌≡◌, ◌+◌, ◌≤◌, ◌<◌, ◌^◌, ℕ, List, length, IfOk, IfSome, OnSome};
 ghost use Rattle.std.specs.Prelude.{None};
-ghost use Rattle.cbor4ii_items.specs.Prefix.{IsWhole, IsArgument, RunsOrStays};
+ghost use Rattle.cbor4ii_items.specs.Prefix.{SeesHead, IsArgument, RunsOrStays, TakesSeen};
 ghost use Rattle.cbor4ii_items.specs.ReadHead.{head_at, following};
 
-use crate::additional::allowed;
-use cbor4ii_rw::ask::look;
+use crate::additional::{allowed, following};
+use cbor4ii_rw::ask::{at_most, look};
 use cbor4ii_rw::read::Source;
 
 /// A head has at most so many bytes.
 const LONGEST: usize = 9;
+
+/// What a reader shows of a head, or of a float.
+#[derive(Clone, Copy)]
+pub(crate) enum Shown {
+    /// All of it: its argument or its bits, and how many bytes it has.
+    Whole(u64, usize),
+    /// Fewer than these bytes, which it has.
+    Cut(usize),
+    /// None that is read so.
+    Other,
+}
 
 /// Takes a head of this major type, with an argument of at most so many bytes, that stands whole
 /// in the prefix that is shown. Where there is none, none, and nothing is taken. An error is the
@@ -26,42 +38,87 @@ pub(crate) fn take_head<S: Source>(
     ensures progress { IfOk result (λ found.
         OnSome found ((S.view reader.new).bound + 1 ≤ (S.view reader.old).bound)) }
 {
+    let want = at_most(reader, LONGEST);
+    match take_shown_head(reader, major, width, want) {
+        Ok(Shown::Whole(argument, _)) => Ok(Some(argument)),
+        Ok(Shown::Cut(size)) if want < size => take_longer_head(reader, major, width, size),
+        Ok(Shown::Cut(_)) => Ok(None),
+        Ok(Shown::Other) => Ok(None),
+        Err(error) => Err(error),
+    }
+}
+
+/// As `take_head`, of a head that has `size` bytes, which are looked at.
+#[cold]
+#[inline(never)]
+fn take_longer_head<S: Source>(
+    reader: &mut S,
+    major: u8,
+    width: u8,
+    size: usize,
+) -> Result<Option<u64>, S::Error>
+    ensures runs { (name : List ℕ) → RunsOrStays (head_at name major width)
+        (S.view reader.old) (S.view reader.new) result }
+    ensures fits { 1 ≤ width → IfOk result (λ found. IfSome found (λ v. v < 256 ^ width)) }
+    ensures progress { IfOk result (λ found.
+        OnSome found ((S.view reader.new).bound + 1 ≤ (S.view reader.old).bound)) }
+{
+    match take_shown_head(reader, major, width, size) {
+        Ok(Shown::Whole(argument, _)) => Ok(Some(argument)),
+        Ok(Shown::Cut(_)) => Ok(None),
+        Ok(Shown::Other) => Ok(None),
+        Err(error) => Err(error),
+    }
+}
+
+/// Looks at `want` bytes, and takes a head that stands whole in what is shown. Nothing is taken of
+/// any other. An error is the reader's.
+#[inline(always)]
+fn take_shown_head<S: Source>(
+    reader: &mut S,
+    major: u8,
+    width: u8,
+    want: usize,
+) -> Result<Shown, S::Error>
+    ensures { TakesSeen (λ name. head_at name major width) (λ v. 1 ≤ width → v < 256 ^ width)
+        (S.view reader.old) (S.view reader.new) result }
+{
     let mut failure = None;
-    let head = match look(reader, LONGEST, &mut failure) {
+    let head = match look(reader, want, &mut failure) {
         Some(shown) => whole_head(shown, major, width),
         None => return Err(failure.unwrap()),
     };
     match head {
-        Some((argument, length)) => {
-            reader.advance(length);
-            Ok(Some(argument))
+        Shown::Whole(argument, size) => {
+            reader.advance(size);
+            Ok(Shown::Whole(argument, size))
         }
-        None => Ok(None),
+        Shown::Cut(size) => Ok(Shown::Cut(size)),
+        Shown::Other => Ok(Shown::Other),
     }
 }
 
-/// The argument of the head of this major type that stands whole at the beginning of `shown`, and
-/// the head's length.
+/// What `shown` has of a head of this major type, with an argument of at most so many bytes.
 #[inline(always)]
-fn whole_head(shown: &[u8], major: u8, width: u8) -> Option<(u64, usize)>
-    ensures { IfSome result (λ head. IsWhole major width shown.now head.0 head.1) }
+fn whole_head(shown: &[u8], major: u8, width: u8) -> Shown
+    ensures { SeesHead major width shown.now result }
 {
     let [first, rest @ ..] = shown else {
-        return None;
+        return Shown::Other;
     };
     if *first / 32 != major {
-        return None;
+        return Shown::Other;
     }
     let info = *first % 32;
     if info < 24 {
-        return Some((info as u64, 1));
+        return Shown::Whole(info as u64, 1);
     }
     if !allowed(width, info) {
-        return None;
+        return Shown::Other;
     }
     match shown_argument(info, rest) {
-        Some((argument, size)) => Some((argument, 1 + size)),
-        None => None,
+        Some((argument, size)) => Shown::Whole(argument, 1 + size),
+        None => Shown::Cut(1 + following(info) as usize),
     }
 }
 

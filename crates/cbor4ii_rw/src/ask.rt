@@ -15,6 +15,16 @@ ghost use Rattle.cbor4ii_rw.specs.Parted.{Parts};
 
 use crate::read::{Read, Reference, Source};
 
+/// How many bytes a look asks for where one is sure to be needed and `most` may be of use: so many
+/// as `Source::window` allows, and at most `most`.
+#[inline(always)]
+pub fn at_most<S: Source>(reader: &S, most: usize) -> usize
+    ensures most { result ≤ most }
+    ensures some { 1 ≤ most → 1 ≤ result }
+{
+    most.min(reader.window())
+}
+
 /// A prefix of what `reader` has left, as `Source::show` shows it. Where the reader fails, none,
 /// and the error goes to `failure`, which is left alone otherwise.
 #[inline(always)]

@@ -78,10 +78,16 @@ pub trait Source {
             (λ shown. Shows shown.now (view self.old) (view new))
             (λ _. ReaderFails (view self.old) (view new)))) };
 
-    /// How many bytes a look for a value of the tree, or for several, may ask for where fewer would
-    /// do, one at least. Only a reader that waits for no byte because more are wanted, and rejects
-    /// none, answers more than 1. One that shows what it has, whatever is wanted, answers the
-    /// greatest number. Heads, names of fields and skipping ask for a constant number in its place.
+    /// How many bytes a look may ask for where the item in work is sure to need fewer: one at
+    /// least, and one where nothing else is said.
+    ///
+    /// Where it is 1, no call asks for more bytes than the item is sure to need by what was seen
+    /// of it, and for none after it. It asks for one at first, then for what the head lacks, and
+    /// then for what the content lacks. Where it is greater, a look may ask for so many, and for no
+    /// more than the greater of the two. A `RawValue` and its like alone ask for all that is left.
+    ///
+    /// Only a reader that waits for no byte because more are wanted, and rejects none, answers
+    /// more than 1. One that shows what it has, whatever is wanted, answers the greatest number.
     fn window(&self) -> usize
         ensures { 1 ≤ result }
     {

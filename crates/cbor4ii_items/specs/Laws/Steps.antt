@@ -88,7 +88,7 @@ kept_then {a = a} {b = b} {c = c} p q = record {
   ends_at = q.ends_at ∙ p.ends_at;
 }
 
-broke_then : {a b c : View} → Kept a b → ReaderFailed b c → ReaderFailed a c
+pub broke_then : {a b c : View} → Kept a b → ReaderFailed b c → ReaderFailed a c
 broke_then {a = a} {b = b} {c = c} p q = record {
   rest = ends_or_then a.known b.known c.known p.rest q.rest;
   left = λ is. ends_then a.known b.known c.known p.rest (q.left (p.remembers is));

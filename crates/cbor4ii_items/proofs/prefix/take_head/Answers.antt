@@ -1,18 +1,17 @@
-use Rattle.std.proofs.Common.{arith}
-use Rattle.cbor4ii_items.specs.Laws.Running.{looked}
-use Rattle.cbor4ii_items.proofs.WholeHeads.{runs_whole}
+use Rattle.cbor4ii_items.specs.ReadHead.{head_at}
+use Rattle.cbor4ii_items.proofs.WholeHeads.{runs_seen, then_runs_or_stays, then_progress}
 use Rattle.cbor4ii_items.proofs.prefix.take_head.Goals as goal
 
-pub returns-in-Some-head-clause-runs : goal.returns-in-Some-head-clause-runs
-returns-in-Some-head-clause-runs g c name =
-    runs_whole name (looked _ _ _ _ c.in-Some.is c.look.follows.holds-at-none)
-    c.in-Some.ensures.prefix c.in-Some-head.ensures c.advance.ensures
+pub returns-in-Ok-Whole-clause-runs : goal.returns-in-Ok-Whole-clause-runs
+returns-in-Ok-Whole-clause-runs g c =
+    runs_seen (rw c.in-Ok-Whole.field-0-is at c.in-Ok-Whole.ensures)
 
-pub returns-in-Some-head-clause-fits : goal.returns-in-Some-head-clause-fits
-returns-in-Some-head-clause-fits g c w = let h = c.in-Some-head.ensures in h.fits w
+pub returns-in-Ok-Cut-clause-runs : goal.returns-in-Ok-Cut-clause-runs
+returns-in-Ok-Cut-clause-runs g c name =
+    then_runs_or_stays (head_at name c.args.major c.args.width) _ c.take_longer_head.result
+    (rw c.in-Ok-Cut.field-0-is at c.in-Ok-Cut.ensures) (c.take_longer_head.ensures.runs name)
 
-pub returns-in-Some-head-clause-progress : goal.returns-in-Some-head-clause-progress
-returns-in-Some-head-clause-progress g c =
-    let h = c.in-Some-head.ensures in
-    let shows = looked _ _ _ _ c.in-Some.is c.look.follows.holds-at-none in
-    omega (arith, h.some, c.advance.ensures.bound, shows.bound)
+pub returns-in-Ok-Cut-clause-progress : goal.returns-in-Ok-Cut-clause-progress
+returns-in-Ok-Cut-clause-progress g c =
+    then_progress _ c.take_longer_head.result (rw c.in-Ok-Cut.field-0-is at c.in-Ok-Cut.ensures)
+    c.take_longer_head.ensures.progress
