@@ -10,4 +10,5 @@ pub use cbor4ii_rw::error::DecodeError as Error;
 pub use cbor4ii_rw::input::Input;
 pub use cbor4ii_rw::long::FillLong;
 pub use cbor4ii_rw::read::{Read, Reference, Source};
+pub use cbor4ii_rw::steps;
 pub use cbor4ii_tree::IgnoredAny;

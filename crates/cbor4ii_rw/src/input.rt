@@ -14,7 +14,7 @@ pub trait Input {
     // Its bytes, all of which its reader reports.
     ghost bytes: { Self → List ℕ };
 
-    /// A reader over it, with 256 steps.
+    /// A reader over it, with `NESTING_LIMIT` steps.
     fn reader(self) -> Self::Reader
         ensures known { (Self.Reader.Source.view result).known ≡ Some (bytes self) }
         ensures budget { (Self.Reader.Source.view result).budget ≡ Some limit }

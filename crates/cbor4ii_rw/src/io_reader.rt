@@ -15,7 +15,7 @@ ghost use Rattle.cbor4ii_rw.specs.Stream.{stream_view, TallyMoves};
 use crate::ask::look;
 use crate::long::FillLong;
 use crate::read::{Read, Reference, Source};
-use crate::steps;
+use crate::steps::{self, NESTING_LIMIT};
 use std::io::{self, BufRead};
 
 /// What a reader over a stream counts.
@@ -53,7 +53,7 @@ impl<R: BufRead + Drop> Drop for IoReader<R> {
 }
 
 impl<R: BufRead> IoReader<R> {
-    /// A reader over `inner`, with 256 steps, of which nothing was taken yet.
+    /// A reader over `inner`, with `NESTING_LIMIT` steps, of which nothing was taken yet.
     pub fn new(inner: R) -> IoReader<R>
         ensures known { (stream_view R.Read.remaining R.consumable_len result).known
             ≡ cut_known most_bytes (R.Read.remaining inner) }
@@ -61,9 +61,9 @@ impl<R: BufRead> IoReader<R> {
             ≡ R.Read.remaining inner }
         ensures taken { (stream_view R.Read.remaining R.consumable_len result).taken ≡ Some 0 }
         ensures failures { (stream_view R.Read.remaining R.consumable_len result).failures ≡ 0 }
-        ensures budget { (stream_view R.Read.remaining R.consumable_len result).budget ≡ Some 256 }
+        ensures budget { (stream_view R.Read.remaining R.consumable_len result).budget ≡ Some NESTING_LIMIT }
     {
-        IoReader::with_limit(inner, 256)
+        IoReader::with_limit(inner, NESTING_LIMIT)
     }
 
     /// A reader over `inner`, with `limit` steps, of which nothing was taken yet.

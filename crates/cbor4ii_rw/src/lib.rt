@@ -17,5 +17,5 @@ pub mod long;
 pub mod read;
 pub mod segment_reader;
 pub mod slice_reader;
-mod steps;
+pub mod steps;
 pub mod write;

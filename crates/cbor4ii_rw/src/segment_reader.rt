@@ -16,7 +16,7 @@ ghost use Rattle.cbor4ii_rw.specs.Segments.{shown_segment, segment_view};
 use crate::error::Never;
 use crate::long::FillLong;
 use crate::read::{Read, Reference, Source};
-use crate::steps;
+use crate::steps::{self, NESTING_LIMIT};
 
 /// A reader over borrowed segments, one after another, empty ones among them. It never fails, and
 /// shows what is wanted of the first segment that has bytes, or all of it, always `Long`. With at
@@ -30,13 +30,13 @@ pub struct SegmentReader<'de> {
 }
 
 impl<'de> SegmentReader<'de> {
-    /// A reader over `segments`, with 256 steps.
+    /// A reader over `segments`, with `NESTING_LIMIT` steps.
     pub fn new(segments: &'de [&'de [u8]]) -> SegmentReader<'de>
         ensures known { (segment_view result).known ≡ Some (joined_segments segments.now) }
         ensures whole { (segment_view result).zero_copy ≡ nat_lt (full_count segments.now) 2 }
-        ensures budget { (segment_view result).budget ≡ Some 256 }
+        ensures budget { (segment_view result).budget ≡ Some NESTING_LIMIT }
     {
-        SegmentReader::with_limit(segments, 256)
+        SegmentReader::with_limit(segments, NESTING_LIMIT)
     }
 
     /// A reader over `segments`, with `limit` steps.

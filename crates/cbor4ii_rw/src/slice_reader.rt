@@ -15,7 +15,7 @@ ghost use Rattle.std.proofs.Common.{rules};
 use crate::error::Never;
 use crate::long::FillLong;
 use crate::read::{Read, Reference, Source};
-use crate::steps;
+use crate::steps::{self, NESTING_LIMIT};
 
 /// A reader over one slice. It never fails, shows at most what is wanted, and is zero-copy.
 #[derive(Clone, Debug, Drop)]
@@ -25,13 +25,13 @@ pub struct SliceReader<'a> {
 }
 
 impl<'a> SliceReader<'a> {
-    /// A reader over `bytes`, with 256 steps.
+    /// A reader over `bytes`, with `NESTING_LIMIT` steps.
     pub fn new(bytes: &'a [u8]) -> SliceReader<'a>
         ensures known { (slice_view result).known ≡ Some bytes.now }
-        ensures budget { (slice_view result).budget ≡ Some 256 }
+        ensures budget { (slice_view result).budget ≡ Some NESTING_LIMIT }
         ensures place { (slice_view result).ends_at ≡ Some (place_after bytes.entry) }
     {
-        SliceReader::with_limit(bytes, 256)
+        SliceReader::with_limit(bytes, NESTING_LIMIT)
     }
 
     /// A reader over `bytes`, with `limit` steps.

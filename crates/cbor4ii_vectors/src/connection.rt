@@ -8,6 +8,7 @@ ghost use Rattle.cbor4ii_rw.specs.Reader.{Shows, ReaderFails};
 ghost use Rattle.cbor4ii_vectors.specs.Connection.{connected_view, ready_bytes};
 
 use cbor4ii_rw::read::Source;
+use cbor4ii_rw::steps::{self, NESTING_LIMIT};
 use std::alloc::Global;
 use std::fmt::Debug;
 
@@ -25,7 +26,7 @@ pub trait Connection {
 #[derive(Clone, Copy, Debug, PartialEq, Eq)]
 pub struct Lost;
 
-/// A reader with 256 steps over a connection, of which it takes 2^63 bytes at most. What is left of
+/// A reader with `NESTING_LIMIT` steps over a connection, of which it takes 2^63 bytes at most. What is left of
 /// a part that was received is shown, whatever is wanted, and the next part once all is taken.
 #[derive(Drop)]
 pub struct Connected<C: Connection + Drop> {
@@ -43,7 +44,7 @@ pub struct Connected<C: Connection + Drop> {
 impl<C: Connection + Drop> Connected<C> {
     /// A reader over `connection`, of which nothing was received.
     pub fn new(alloc: Global, connection: C) -> Connected<C>
-        ensures budget { (connected_view result).budget ≡ Some 256 }
+        ensures budget { (connected_view result).budget ≡ Some NESTING_LIMIT }
         ensures failures { (connected_view result).failures ≡ 0 }
     {
         Connected {
@@ -51,7 +52,7 @@ impl<C: Connection + Drop> Connected<C> {
             ready: Vec::new(alloc),
             start: 0,
             left: 1 << 63,
-            steps: 256,
+            steps: NESTING_LIMIT,
             failures: 0,
             error: None,
         }
@@ -115,15 +116,11 @@ impl<C: Connection + Drop> Source for Connected<C> {
     }
 
     fn step_in(&mut self) -> bool {
-        if self.steps == 0 {
-            return false;
-        }
-        self.steps -= 1;
-        true
+        steps::step_in(&mut self.steps)
     }
 
     fn step_out(&mut self) {
-        self.steps = self.steps.saturating_add(1);
+        steps::step_out(&mut self.steps);
     }
 
     ghost known_within_bound = { λ reader xs is. Prim.search rules };

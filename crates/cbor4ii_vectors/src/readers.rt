@@ -8,6 +8,7 @@ ghost use Rattle.cbor4ii_vectors.specs.Reports.{test_view, counting_view, asked_
 use cbor4ii_rw::error::Never;
 use cbor4ii_rw::long::FillLong;
 use cbor4ii_rw::read::{Read, Reference, Source};
+use cbor4ii_rw::steps::{step_in, step_out};
 
 /// That a test reader or a test writer failed, as it had to.
 #[derive(Clone, Copy, Debug, PartialEq, Eq)]
@@ -227,13 +228,9 @@ impl<'a> TestReader<'a> {
 fn take_step(steps: &mut Option<usize>) -> bool
     ensures { StepsIn steps.old steps.new result }
 {
-    match *steps {
+    match steps {
         None => true,
-        Some(0) => false,
-        Some(left) => {
-            *steps = Some(left - 1);
-            true
-        }
+        Some(left) => step_in(left),
     }
 }
 
@@ -241,8 +238,8 @@ fn take_step(steps: &mut Option<usize>) -> bool
 fn give_step(steps: &mut Option<usize>)
     ensures { steps.new ≡ step_back steps.old }
 {
-    if let Some(left) = *steps {
-        *steps = Some(left.saturating_add(1));
+    if let Some(left) = steps {
+        step_out(left);
     }
 }
 
