@@ -10,7 +10,7 @@ use Rattle.cbor4ii_rw.specs.Reader.{Advances, IsPrefix, KeepsAllButBudget}
 use Rattle.cbor4ii_rw.specs.{View.View, declared.error.DecodeError.DecodeError}
 use Rattle.cbor4ii_items.specs.{InputError.is_out_of_memory, Laws.Prefixes.the_prefix}
 use Rattle.cbor4ii_tree.specs.Asking.{Asks, BeginsString, Grows, InParts, InTagged, InValue}
-use Rattle.cbor4ii_tree.specs.Asking.{IsRead, Values, OpensParts, boxed, content, grown, in_tag}
+use Rattle.cbor4ii_tree.specs.Asking.{IsRead, Values, BeginsParts, boxed, content, grown, in_tag}
 use Rattle.cbor4ii_tree.specs.Asking.{inside}
 use Rattle.cbor4ii_tree.specs.Cost.{Budget, step_in}
 use Rattle.cbor4ii_tree.specs.Leaf.{AsksAfterNext, DoesAfterNext, ShowsFirst, WantsContent}
@@ -134,7 +134,7 @@ in_any exact xs ys (inr s) = inr s
 
 -- after the head of an array or a map
 pub in_parts : (exact : Bool) {least : ℕ} (o : Option ℕ)
-    → ((k : ℕ) → least ≤ k → Grows o k) → (xs us ys : List ℕ) → OpensParts exact o xs us
+    → ((k : ℕ) → least ≤ k → Grows o k) → (xs us ys : List ℕ) → BeginsParts exact o xs us
     → InParts exact least us ys → InValue exact xs ys
 in_parts exact o grows xs us ys h (inl s) = (grown s.0, (o, us, h, grows s.0 s.1, s.2))
 in_parts exact o grows xs us ys h (inr s) = (inside s.0 s.3.0, (o, us, s.1, h, s.2, s.3.1))
