@@ -187,9 +187,9 @@ put_grows exact vs part {a = a} some p q =
 
 -- ---- a run
 
-front_is : (n : ℕ) (shown xs : List ℕ) → n ≤ length shown → length shown ≤ length xs
+prefix_of_shown : (n : ℕ) (shown xs : List ℕ) → n ≤ length shown → length shown ≤ length xs
     → take (length shown) xs ≡ shown → take n xs ≡ take n shown
-front_is n shown xs within long e =
+prefix_of_shown n shown xs within long e =
     let more = length (drop n shown) in
     let many : n + more ≡ length shown = omega (arith, within, length-drop n shown) in
     let all : take n xs ++ take more (drop n xs) ≡ shown = sym (take-add n more xs)
@@ -209,8 +209,8 @@ stand_in exact taken shown xs s same = (
 in_run : (exact : Bool) (size : ℕ) (shown xs ys : List ℕ) → IsPrefix 1 shown xs
     → ys ≡ drop size xs → RefusedMemory (exact ≡ true) size shown → InParts exact 1 xs ys
 in_run exact size shown xs ys p after r =
-    by_place (stand_in exact r.taken shown xs r.stand (front_is r.taken shown xs r.stand.within
-    p.within p.begins)) r.at
+    by_place (stand_in exact r.taken shown xs r.stand (prefix_of_shown r.taken shown xs
+    r.stand.within p.within p.begins)) r.at
   where
     by_place : Values exact (length r.values) xs (drop r.taken xs)
         → ((1 ≤ length r.values) × (size ≡ r.taken)) ⊎ ((head : ℕ) × (size ≡ r.taken + head)
