@@ -66,7 +66,7 @@ void free(void *block) {
     __libc_free(block);
 }
 
-static void tell(size number, char behind) {
+static void print_number(size number, char behind) {
     char text[24];
     size at = sizeof text;
     text[--at] = behind;
@@ -77,13 +77,13 @@ static void tell(size number, char behind) {
     write(3, text + at, sizeof text - at);
 }
 
-__attribute__((destructor)) static void tell_all(void) {
-    tell(calls, ' ');
-    tell(most, ' ');
-    tell(refused, ' ');
-    tell(given - freed, '\n');
+__attribute__((destructor)) static void print_counts(void) {
+    print_number(calls, ' ');
+    print_number(most, ' ');
+    print_number(refused, ' ');
+    print_number(given - freed, '\n');
     for (size call = 0; call < calls && call < SHOWN; call++) {
-        tell(asked[call], ' ');
+        print_number(asked[call], ' ');
     }
     write(3, "\n", 1);
 }

@@ -66,7 +66,7 @@ module _ {V E : Type 0} (p : Promise V) (r : Result V (DecodeError E)) where
               (if_err _ r (d.complete is sure));
           rejects = λ is sure. stopped_at p.format.reads p.format.rejects r a b at
               (if_err _ r (d.rejects is sure));
-          stopped = λ is. stopped_at p.format.reads p.format.begins r a b at
+          begins = λ is. stopped_at p.format.reads p.format.begins r a b at
               (if_err _ r (d.begins is));
         };
       })
@@ -80,7 +80,7 @@ module _ {V E : Type 0} (p : Promise V) (r : Result V (DecodeError E)) where
         memory = f.memory;
         is_complete = λ is wanted. f.is_complete is (means wanted);
         rejects = λ is wanted. f.rejects is (means wanted);
-        stopped = f.stopped;
+        begins = f.begins;
       })
 
   -- that of a slice, and of a stream

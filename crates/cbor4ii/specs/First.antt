@@ -27,7 +27,7 @@ pub record First {V E : Type 0} (promise : Promise V) (sure : Type 0) (known : O
   pub rejects : IsTrue promise.exact → sure
       → IfErr answer (λ error. IfKnown known (λ xs. IfSome (input_error_of (as_core error))
       (λ err. (rest : List ℕ) × promise.format.rejects xs (Some limit) err rest)))
-  pub stopped : IsTrue promise.known
+  pub begins : IsTrue promise.known
       → IfErr answer (λ error. IfKnown known (λ xs. IfSome (input_error_of (as_core error))
       (λ err. (rest : List ℕ) × promise.format.begins xs (Some limit) err rest)))
 

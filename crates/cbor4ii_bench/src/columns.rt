@@ -17,7 +17,7 @@ const VALUES: usize = 2000;
 /// The ordered map has at most so many keys.
 const KEYS: usize = 500;
 
-const REFUSED: Fault = Fault("a column is refused");
+const REJECTED: Fault = Fault("a column is rejected");
 
 /// One table.
 pub fn round(alloc: Global, noise: &mut Noise, digest: &mut Digest) -> Result<(), Fault> {
@@ -26,20 +26,20 @@ pub fn round(alloc: Global, noise: &mut Noise, digest: &mut Digest) -> Result<()
     for _ in 0..VALUES {
         noise.below(24).encode(&mut column)?;
     }
-    again::<Vec<u64>>(alloc, column.buffer(), digest).ok_or(REFUSED)?;
+    again::<Vec<u64>>(alloc, column.buffer(), digest).ok_or(REJECTED)?;
     column.clear();
     Array::bounded(VALUES, &mut column)?;
     for _ in 0..VALUES {
         let number = (noise.uneven() >> 1) as i64;
         (number - (1 << 40)).encode(&mut column)?;
     }
-    again::<Vec<i64>>(alloc, column.buffer(), digest).ok_or(REFUSED)?;
+    again::<Vec<i64>>(alloc, column.buffer(), digest).ok_or(REJECTED)?;
     column.clear();
     Array::bounded(VALUES, &mut column)?;
     for _ in 0..VALUES {
         F64(noise.any()).encode(&mut column)?;
     }
-    again::<Vec<F64>>(alloc, column.buffer(), digest).ok_or(REFUSED)?;
+    again::<Vec<F64>>(alloc, column.buffer(), digest).ok_or(REJECTED)?;
     column.clear();
     Array::bounded(KEYS, &mut column)?;
     for _ in 0..KEYS {
@@ -47,14 +47,14 @@ pub fn round(alloc: Global, noise: &mut Noise, digest: &mut Digest) -> Result<()
         noise.uneven().encode(&mut column)?;
         shapes::text(&mut column, noise, 4, 40)?;
     }
-    again::<Vec<(u64, String)>>(alloc, column.buffer(), digest).ok_or(REFUSED)?;
+    again::<Vec<(u64, String)>>(alloc, column.buffer(), digest).ok_or(REJECTED)?;
     column.clear();
     Map::bounded(KEYS, &mut column)?;
     for _ in 0..KEYS {
         shapes::text(&mut column, noise, 4, 24)?;
         noise.uneven().encode(&mut column)?;
     }
-    again::<BTreeMap<String, u64>>(alloc, column.buffer(), digest).ok_or(REFUSED)
+    again::<BTreeMap<String, u64>>(alloc, column.buffer(), digest).ok_or(REJECTED)
 }
 
 // Reads the column as this type, and writes it again. None where either is rejected.

@@ -11,7 +11,7 @@ pub struct Fault(pub &'static str);
 
 impl<E: Debug + Drop> From<DecodeError<E>> for Fault {
     fn from(_error: DecodeError<E>) -> Fault {
-        Fault("an item is refused")
+        Fault("an item is rejected")
     }
 }
 
@@ -23,7 +23,7 @@ impl<E: Debug + Drop> From<EncodeError<E>> for Fault {
 
 impl<E: Debug + Drop> From<serde::DecodeError<E>> for Fault {
     fn from(_error: serde::DecodeError<E>) -> Fault {
-        Fault("a typed value is refused")
+        Fault("a typed value is rejected")
     }
 }
 

@@ -22,7 +22,7 @@ pub fn round(alloc: Global, noise: &mut Noise, digest: &mut Digest) -> Result<()
     let mut writer = BufWriter::new(Vec::new(alloc));
     for _ in 0..ITEMS {
         match noise.below(5) {
-            0 => open_map(&mut writer, noise)?,
+            0 => indefinite_map(&mut writer, noise)?,
             1 => chunks(&mut writer, noise)?,
             2 => long_heads(&mut writer, noise)?,
             3 => deep_arrays(&mut writer, noise)?,
@@ -35,7 +35,7 @@ pub fn round(alloc: Global, noise: &mut Noise, digest: &mut Digest) -> Result<()
 }
 
 // A map of indefinite length, of records and arrays of indefinite length.
-fn open_map(writer: &mut BufWriter, noise: &mut Noise) -> Result<(), Fault> {
+fn indefinite_map(writer: &mut BufWriter, noise: &mut Noise) -> Result<(), Fault> {
     Map::unbounded(writer)?;
     for i in 0..noise.below(6) {
         i.encode(writer)?;

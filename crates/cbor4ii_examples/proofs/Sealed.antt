@@ -29,7 +29,7 @@ use Rattle.cbor4ii.specs.CodecFields.{struct_codec, with_field_once, no_fields}
 use Rattle.cbor4ii.specs.Fields.{no_values}
 use Rattle.cbor4ii.specs.ReadBack.{IsReadBack}
 use Rattle.cbor4ii.specs.Typed.{Promise, exactly, not_exact}
-use Rattle.cbor4ii_examples.specs.Envelope.{Signatures, Sealed, Opened, envelope_encoding}
+use Rattle.cbor4ii_examples.specs.Envelope.{Signatures, Sealed, IsOpened, envelope_encoding}
 use Rattle.cbor4ii_examples.specs.declared.envelope.Envelope.{Envelope}
 use Rattle.cbor4ii_examples.specs.declared.reply.Reply.{Reply}
 
@@ -112,7 +112,7 @@ module _ (payload : List ℕ) (plain : PlainRawValue) (cost : ℕ)
       → key < 2 ^ 32 → AreFew signature → cost < limit
       → envelope_encoding key signature payload ≡ encoded bytes → verified key signature payload
       → item ≡ encoded payload → IsReadBack replies.format.reads item reply steps → steps ≤ limit
-      → Opened envelope_codec.promise replies verified bytes reply
+      → IsOpened envelope_codec.promise replies verified bytes reply
   sealed_is_opened replies alloc verified key signature bytes item reply steps small few room is
       right of back fits = record {
         envelope = envelope_of key signature;

@@ -64,7 +64,7 @@ abbrev pub IsSigned : Signatures → Envelope → Type 0
 IsSigned signed e = signed e.key e.signature.0.now (plain_raw_content e.payload)
 
 -- The input is an envelope that is signed, and its payload, as a whole, is this reply.
-pub record Opened (envelopes : Promise Envelope) (replies : Promise Reply) (signed : Signatures)
+pub record IsOpened (envelopes : Promise Envelope) (replies : Promise Reply) (signed : Signatures)
     (input : List ℕ) (reply : Reply) : Type 0 where
   pub envelope : Envelope
   pub read : IsEnvelope envelopes input envelope

@@ -9,7 +9,7 @@ ghost use Rattle.cbor4ii.specs.Fields.{no_values};
 ghost use Rattle.cbor4ii.specs.Made.{made_from};
 ghost use Rattle.cbor4ii.specs.Presence.{struct_from, single, or_words, no_others};
 ghost use Rattle.cbor4ii.specs.ReadBack.{IsReadBack};
-ghost use Rattle.cbor4ii_examples.specs.Envelope.{Sealed, NotSealed, Opened, NotOpened};
+ghost use Rattle.cbor4ii_examples.specs.Envelope.{Sealed, NotSealed, IsOpened, NotOpened};
 ghost use Rattle.cbor4ii_examples.specs.declared.reply.Reply.{Reply};
 
 use crate::reply::Reply;
@@ -200,7 +200,7 @@ pub fn seal<S: Sign, T: Serialize>(
 /// - `Payload` of an error of `from_slice_whole`: the signature is right, and the payload is no
 ///   reply
 pub fn open<V: Verify>(alloc: Global, verifier: &V, input: &[u8]) -> Result<Reply, OpenError>
-    ensures opened { IfOk result (Opened ⟦<Envelope<'static> as Typed>⟧.promise
+    ensures opened { IfOk result (IsOpened ⟦<Envelope<'static> as Typed>⟧.promise
         ⟦<Reply as Typed>⟧.promise (V.signed verifier.now) input.now) }
     ensures rejects { IfErr result (NotOpened ⟦<Envelope<'static> as Typed>⟧.promise
         ⟦<Reply as Typed>⟧.promise (V.signed verifier.now) input.now) }
@@ -226,7 +226,7 @@ pub fn what_is_sealed_is_opened<S: Sign, V: Verify>()
         (⟦<Reply as Serialize>⟧.encoding reply) reply steps → steps ≤ limit →
         (sealed : Sealed (S.signed signer) key (⟦<Reply as Serialize>⟧.encoding reply) bytes) →
         sealed.accepted.0 < limit →
-        Opened ⟦<Envelope<'static> as Typed>⟧.promise ⟦<Reply as Typed>⟧.promise
+        IsOpened ⟦<Envelope<'static> as Typed>⟧.promise ⟦<Reply as Typed>⟧.promise
         (V.signed verifier) bytes reply }
 {}
 

@@ -14,7 +14,7 @@ pub enum Answer {
     Unit,
 }
 
-/// Told as what it holds.
+/// Shown as what it holds.
 impl Debug for Answer {
     fn fmt<W: Write>(&self, f: &mut Formatter<W>) -> fmt::Result {
         match self {

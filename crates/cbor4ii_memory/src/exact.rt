@@ -1,14 +1,15 @@
 //! One item that is read, with what is left of it. `.ci/memory` counts its requests for memory and
-//! their bytes, and rejects each of them.
-use crate::made::{Copied, Kept, MadeCanonical, Written};
+//! their bytes, and refuses each of them.
+use crate::made::{Copied, EqualKeys, EqualKeysAtAnyLevel, Kept, MadeCanonical, Written};
 use crate::named::{Fields, Variant};
-use crate::typed::{Typed, as_core};
+use crate::of_slice::read_of_slice;
+use crate::typed::{AsItem, Typed, as_core};
 use crate::values::Item;
 use cbor4ii::serde::Deserializer;
-use cbor4ii_rw::error::{DecodeError, WholeError};
+use cbor4ii_rw::error::DecodeError;
 use cbor4ii_rw::io_reader::IoReader;
 use cbor4ii_rw::slice_reader::SliceReader;
-use cbor4ii_tree::{Canonical, PlainRawValue, Value};
+use cbor4ii_tree::{Canonical, Value};
 use cbor4ii_vectors::rows::ReadFrom;
 use cbor4ii_vectors::streams::FailingStream;
 use cbor4ii_vectors::table;
@@ -17,8 +18,8 @@ use std::fmt::{Debug, InlineText};
 
 /// How an item is read.
 pub struct Alone {
-    /// Why it is rejected, if it is.
-    pub refusal: Option<InlineText<128>>,
+    /// The error, where it is not read.
+    pub error: Option<InlineText<128>>,
     /// How many bytes are left.
     pub left: usize,
 }
@@ -27,11 +28,14 @@ pub struct Alone {
 #[derive(Clone, Copy)]
 enum Way {
     Value,
+    AsItem,
     Canonical,
     MadeCanonical,
     Copied,
     Kept,
     Written,
+    EqualKeys,
+    EqualKeysAtAnyLevel,
     Str,
     Fields,
     Variant,
@@ -39,11 +43,14 @@ enum Way {
 
 const WAYS: &[(&[u8], Way)] = table! {
     (b"value of a ", Way::Value),
+    (b"item of a ", Way::AsItem),
     (b"canonical of a ", Way::Canonical),
     (b"made canonical of a ", Way::MadeCanonical),
     (b"copied of a ", Way::Copied),
     (b"kept of a ", Way::Kept),
     (b"written of a ", Way::Written),
+    (b"equal keys of a ", Way::EqualKeys),
+    (b"equal keys at any level of a ", Way::EqualKeysAtAnyLevel),
     (b"str of a ", Way::Str),
     (b"fields of a ", Way::Fields),
     (b"variant of a ", Way::Variant),
@@ -52,15 +59,12 @@ const WAYS: &[(&[u8], Way)] = table! {
 /// Reads the item that follows these words, if it is to be read alone: out of a slice, or of
 /// a stream that shows one byte at a time.
 pub fn read_alone(alloc: Global, input: &[u8]) -> Option<Alone> {
-    if let Some(item) = input.strip_prefix(b"plain of a slice:".as_slice()) {
-        return Some(plain(alloc, item));
-    }
     for &(words, way) in WAYS {
         if let Some(reader) = input.strip_prefix(words) {
             return read_so(alloc, way, reader);
         }
     }
-    None
+    read_of_slice(alloc, input)
 }
 
 // The same of the word for a reader, and what follows it.
@@ -77,11 +81,14 @@ fn read_so(alloc: Global, way: Way, input: &[u8]) -> Option<Alone> {
 fn way_of_slice(alloc: Global, way: Way, item: &[u8]) -> Alone {
     match way {
         Way::Value => of_slice::<Item<Value>>(alloc, item),
+        Way::AsItem => of_slice::<AsItem<Value>>(alloc, item),
         Way::Canonical => of_slice::<Item<Canonical>>(alloc, item),
         Way::MadeCanonical => of_slice::<MadeCanonical>(alloc, item),
         Way::Copied => of_slice::<Copied>(alloc, item),
         Way::Kept => of_slice::<Kept>(alloc, item),
         Way::Written => of_slice::<Written>(alloc, item),
+        Way::EqualKeys => of_slice::<EqualKeys>(alloc, item),
+        Way::EqualKeysAtAnyLevel => of_slice::<EqualKeysAtAnyLevel>(alloc, item),
         Way::Str => str_of_slice(alloc, item),
         Way::Fields => of_slice::<Typed<Fields>>(alloc, item),
         Way::Variant => of_slice::<Typed<Variant>>(alloc, item),
@@ -91,11 +98,14 @@ fn way_of_slice(alloc: Global, way: Way, item: &[u8]) -> Alone {
 fn way_of_stream(alloc: Global, way: Way, item: &[u8]) -> Alone {
     match way {
         Way::Value => of_stream::<Item<Value>>(alloc, item),
+        Way::AsItem => of_stream::<AsItem<Value>>(alloc, item),
         Way::Canonical => of_stream::<Item<Canonical>>(alloc, item),
         Way::MadeCanonical => of_stream::<MadeCanonical>(alloc, item),
         Way::Copied => of_stream::<Copied>(alloc, item),
         Way::Kept => of_stream::<Kept>(alloc, item),
         Way::Written => of_stream::<Written>(alloc, item),
+        Way::EqualKeys => of_stream::<EqualKeys>(alloc, item),
+        Way::EqualKeysAtAnyLevel => of_stream::<EqualKeysAtAnyLevel>(alloc, item),
         Way::Str => str_of_stream(alloc, item),
         Way::Fields => of_stream::<Typed<Fields>>(alloc, item),
         Way::Variant => of_stream::<Typed<Variant>>(alloc, item),
@@ -131,25 +141,11 @@ fn left_of_stream(reader: &IoReader<FailingStream<'_>>, item: &[u8]) -> usize {
     item.len().saturating_sub(reader.taken() as usize)
 }
 
-// All of the bytes are to be one item, so that none are left where it is accepted.
-fn plain(alloc: Global, item: &[u8]) -> Alone {
-    match PlainRawValue::new(alloc, item) {
-        Ok(_) => Alone {
-            refusal: None,
-            left: 0,
-        },
-        Err(WholeError::Decode(error)) => reported(&Err::<(), _>(error), 0),
-        Err(WholeError::Trailing(left)) => Alone {
-            refusal: None,
-            left,
-        },
-    }
-}
-
-fn reported<T, E: Debug>(got: &Result<T, DecodeError<E>>, left: usize) -> Alone {
-    let refusal = match got {
+/// The answer of a call, and how many bytes it leaves.
+pub fn reported<T, E: Debug>(got: &Result<T, DecodeError<E>>, left: usize) -> Alone {
+    let error = match got {
         Ok(_) => None,
         Err(error) => Some(InlineText::of(error)),
     };
-    Alone { refusal, left }
+    Alone { error, left }
 }

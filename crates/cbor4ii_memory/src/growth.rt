@@ -61,20 +61,20 @@ pub fn strings(tally: &mut Tally) -> Result<(), Broken> {
 // 300 items and 300 pairs: 012c. At most 256 have their place reserved.
 const DEFINITE: Parts = &[(b"\x99\x01\x2c", 1), (b"\x05", 300)];
 
-const OPEN: Parts = &[(b"\x9f", 1), (b"\x05", 300), (b"\xff", 1)];
+const INDEFINITE: Parts = &[(b"\x9f", 1), (b"\x05", 300), (b"\xff", 1)];
 
 const DEFINITE_PAIRS: Parts = &[(b"\xb9\x01\x2c", 1), (b"\x05\x06", 300)];
 
-const OPEN_PAIRS: Parts = &[(b"\xbf", 1), (b"\x05\x06", 300), (b"\xff", 1)];
+const INDEFINITE_PAIRS: Parts = &[(b"\xbf", 1), (b"\x05\x06", 300), (b"\xff", 1)];
 
 /// Arrays and maps.
 pub fn containers(tally: &mut Tally) -> Result<(), Broken> {
     let items: Pieces<'static> = &[("[5", 1), (", 5", 299), ("]", 1)];
     grows::<Vec<u8>>(tally, "a long Vec", DEFINITE, items)?;
-    grows::<Vec<u8>>(tally, "a long open Vec", OPEN, items)?;
+    grows::<Vec<u8>>(tally, "a long indefinite Vec", INDEFINITE, items)?;
     let pairs: Pieces<'static> = &[("Map([(5, 6)", 1), (", (5, 6)", 299), ("])", 1)];
     grows::<Map<Vec<(u8, u8)>>>(tally, "a long Map", DEFINITE_PAIRS, pairs)?;
-    grows::<Map<Vec<(u8, u8)>>>(tally, "a long open Map", OPEN_PAIRS, pairs)
+    grows::<Map<Vec<(u8, u8)>>>(tally, "a long indefinite Map", INDEFINITE_PAIRS, pairs)
 }
 
 const ITEMS: Pieces<'static> = table! {
@@ -98,9 +98,9 @@ const CANONICAL: Pieces<'static> = table! {
 /// Whole items.
 pub fn values(tally: &mut Tally) -> Result<(), Broken> {
     grows::<Item<Value>>(tally, "a long array", DEFINITE, ITEMS)?;
-    grows::<Item<Value>>(tally, "a long open array", OPEN, ITEMS)?;
+    grows::<Item<Value>>(tally, "a long indefinite array", INDEFINITE, ITEMS)?;
     grows::<Item<Value>>(tally, "a long map", DEFINITE_PAIRS, MEMBERS)?;
-    grows::<Item<Value>>(tally, "a long open map", OPEN_PAIRS, MEMBERS)?;
+    grows::<Item<Value>>(tally, "a long indefinite map", INDEFINITE_PAIRS, MEMBERS)?;
     grows::<Item<Canonical>>(tally, "a long canonical array", DEFINITE, CANONICAL)
 }
 
@@ -121,7 +121,7 @@ const FIVES: Pieces<'static> = table! {
 pub fn typed(tally: &mut Tally) -> Result<(), Broken> {
     let items: Pieces<'static> = &[("Typed([5", 1), (", 5", 299), ("])", 1)];
     grows::<Typed<Vec<u8>>>(tally, "a long typed Vec", DEFINITE, items)?;
-    grows::<Typed<Vec<u8>>>(tally, "a long open typed Vec", OPEN, items)?;
+    grows::<Typed<Vec<u8>>>(tally, "a long indefinite typed Vec", INDEFINITE, items)?;
     grows::<Typed<BTreeMap<u8, u8>>>(tally, "a long typed map", KEYS, FIVES)
 }
 

@@ -1,5 +1,5 @@
 //! What is made of a whole item once it is read: one that is encoded in one way, a copy of its
-//! bytes, and a vector that holds what is written.
+//! bytes, and a vector that holds what is written. Or whether keys of its maps are equal.
 use cbor4ii::serde::to_vec;
 use cbor4ii_items::decode::Decode;
 use cbor4ii_rw::error::DecodeError;
@@ -63,6 +63,34 @@ impl ReadFrom for Written {
         match to_vec(Vec::new(alloc), &value) {
             Ok(bytes) => Ok(Written(bytes)),
             Err(_) => Err(DecodeError::OutOfMemory),
+        }
+    }
+}
+
+/// Whether two keys of a value, a map, are equal.
+#[derive(Drop)]
+pub struct EqualKeys(bool);
+
+impl ReadFrom for EqualKeys {
+    fn read_from<S: Source>(alloc: Global, reader: &mut S) -> Result<Self, DecodeError<S::Error>> {
+        let value = Value::decode(alloc, reader)?;
+        match value.try_has_equal_keys() {
+            Ok(found) => Ok(EqualKeys(found)),
+            Err(NoMemory) => Err(DecodeError::OutOfMemory),
+        }
+    }
+}
+
+/// Whether two keys of a map in a value are equal.
+#[derive(Drop)]
+pub struct EqualKeysAtAnyLevel(bool);
+
+impl ReadFrom for EqualKeysAtAnyLevel {
+    fn read_from<S: Source>(alloc: Global, reader: &mut S) -> Result<Self, DecodeError<S::Error>> {
+        let value = Value::decode(alloc, reader)?;
+        match value.try_has_equal_keys_at_any_level() {
+            Ok(found) => Ok(EqualKeysAtAnyLevel(found)),
+            Err(NoMemory) => Err(DecodeError::OutOfMemory),
         }
     }
 }

@@ -22,6 +22,7 @@ mod lent;
 mod levels;
 mod made;
 mod named;
+mod of_slice;
 mod read;
 mod room;
 mod tally;
@@ -48,9 +49,9 @@ fn main(rt: HostRuntime) -> ExitCode {
     let mut input = [0; MOST_BYTES];
     let taken = rt.reader().read(&mut input).unwrap_or(0);
     let input = input.get(..taken).unwrap_or(b"");
-    if let Some(Alone { refusal, left }) = read_alone(rt.alloc(), input) {
-        let refusal = refusal.as_ref().map_or("read", |text| text.as_str());
-        let _ = println!(rt; "{refusal}, {left} left");
+    if let Some(Alone { error, left }) = read_alone(rt.alloc(), input) {
+        let answer = error.as_ref().map_or("read", |text| text.as_str());
+        let _ = println!(rt; "{answer}, {left} left");
         return ExitCode::from(0);
     }
     match outcome(rt.alloc(), input) {
@@ -104,7 +105,7 @@ fn item_rows(tally: &mut Tally) -> Result<(), Broken> {
 
 fn value_rows(tally: &mut Tally) -> Result<(), Broken> {
     values::values(tally)?;
-    values::refused(tally)?;
+    values::rejected(tally)?;
     values::copies(tally)?;
     values::bignums(tally)?;
     values::equal_keys(tally)?;

@@ -19,7 +19,7 @@ const MOST_BYTES: usize = 20_480;
 pub type Row = (&'static [u8], &'static str, &'static [u8]);
 
 /// A row that is rejected: bytes, the text of the error, and what is left of them.
-pub type RefusedRow = (&'static [u8], &'static str, &'static [u8]);
+pub type RejectedRow = (&'static [u8], &'static str, &'static [u8]);
 
 /// A row of calls: its name, the call, and then as `Row`.
 pub type CallRow<C> = (&'static str, C, &'static [u8], &'static str, &'static [u8]);
@@ -101,45 +101,45 @@ pub fn reads_in_place<T: ReadFrom + Debug + Drop>(
 }
 
 /// Reads the bytes of each row over each reader: they take memory, and are rejected.
-pub fn refuses_rows<T: ReadFrom + Drop>(
+pub fn rejects_rows<T: ReadFrom + Drop>(
     tally: &mut Tally,
     row: &'static str,
-    rows: &[RefusedRow],
+    rows: &[RejectedRow],
 ) -> Result<(), Broken> {
-    for refused in rows {
-        let bytes = refused.0;
-        refuses_over::<T, _>(tally, row, &mut SliceReader::new(bytes), refused)?;
+    for rejected in rows {
+        let bytes = rejected.0;
+        rejects_over::<T, _>(tally, row, &mut SliceReader::new(bytes), rejected)?;
         let (first, second) = bytes.split_at(bytes.len() / 2);
         let segments = [first, second];
-        refuses_over::<T, _>(tally, row, &mut SegmentReader::new(&segments), refused)?;
+        rejects_over::<T, _>(tally, row, &mut SegmentReader::new(&segments), rejected)?;
         let stream = FailingStream::new(bytes, 3, usize::MAX);
-        refuses_over::<T, _>(tally, row, &mut IoReader::new(stream), refused)?;
+        rejects_over::<T, _>(tally, row, &mut IoReader::new(stream), rejected)?;
     }
     Ok(())
 }
 
 // The error is the row's, with its rest, or want of memory, which leaves an end of the bytes. The
 // steps are as before.
-fn refuses_over<T: ReadFrom + Drop, S: Source>(
+fn rejects_over<T: ReadFrom + Drop, S: Source>(
     tally: &mut Tally,
     row: &'static str,
     reader: &mut S,
-    refused: &RefusedRow,
+    rejected: &RejectedRow,
 ) -> Result<(), Broken> {
-    let (bytes, text, rest) = *refused;
+    let (bytes, text, rest) = *rejected;
     let budget = steps(reader);
     let got = T::read_from(tally.alloc(), reader);
     if steps(reader) != budget {
         return Err(Broken::new(row, "the steps are not as before"));
     }
     let is_left = match &got {
-        Ok(_) => return Err(Broken::new(row, "it is not refused")),
+        Ok(_) => return Err(Broken::new(row, "it is not rejected")),
         Err(DecodeError::OutOfMemory) => {
             tally.refuse();
             leaves_an_end(reader, bytes)
         }
         Err(error) if InlineText::<128>::of(error).as_str() == text => leaves(reader, rest),
-        Err(_) => return Err(Broken::new(row, "another refusal comes")),
+        Err(_) => return Err(Broken::new(row, "another error comes")),
     };
     if is_left {
         return Ok(());
@@ -228,7 +228,7 @@ pub fn is_answer<T: Debug, S: Source>(
     match got {
         Ok(value) => is_meant(reader, value, meant),
         Err(DecodeError::OutOfMemory) => lacks_memory(tally, reader, meant),
-        Err(_) => Err(Broken::new(meant.row, "it is refused")),
+        Err(_) => Err(Broken::new(meant.row, "it is rejected")),
     }
 }
 

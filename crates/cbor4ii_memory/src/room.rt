@@ -66,7 +66,7 @@ fn doubles<T: ReadFrom + Room + Drop>(
         Ok(value) if value.room() == 512 => {}
         Ok(_) => return Err(Broken::new(row, "not 256 places are reserved")),
         Err(DecodeError::OutOfMemory) => tally.refuse(),
-        Err(_) => return Err(Broken::new(row, "it is refused")),
+        Err(_) => return Err(Broken::new(row, "it is rejected")),
     }
     Ok(())
 }

@@ -71,6 +71,17 @@ impl ReadFrom for Typed<BTreeMap<String, Vec<String>>> {
     }
 }
 
+/// What a deserializer reads as an item of the codec.
+#[derive(Drop)]
+pub struct AsItem<T>(T);
+
+impl ReadFrom for AsItem<Value> {
+    fn read_from<S: Source>(alloc: Global, reader: &mut S) -> Result<Self, DecodeError<S::Error>> {
+        let value = as_core(Deserializer::new(reader).deserialize_item(alloc))?;
+        Ok(AsItem(value))
+    }
+}
+
 impl ReadFrom for Typed<Value> {
     fn read_from<S: Source>(alloc: Global, reader: &mut S) -> Result<Self, DecodeError<S::Error>> {
         answer(Deserializer::new(reader).deserialize_any(alloc))
@@ -232,7 +243,7 @@ fn answers<T: Debug + Drop, E: Drop>(
         Ok(value) if has_debug_text(value, &[("[\"a\", \"bc\"]", 1)]) => {}
         Ok(_) => return Err(Broken::new(row, "another value is read")),
         Err(serde::DecodeError::Core(DecodeError::OutOfMemory)) => tally.refuse(),
-        Err(_) => return Err(Broken::new(row, "it is refused")),
+        Err(_) => return Err(Broken::new(row, "it is rejected")),
     }
     Ok(())
 }

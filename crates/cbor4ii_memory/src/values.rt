@@ -1,6 +1,6 @@
 //! Rows of whole items, of their copies, of bignums that become tags, and of equal keys.
 use crate::debug_text::has_debug_text;
-use crate::read::{RefusedRow, Row, reads_in_place, reads_rows, refuses_rows};
+use crate::read::{RejectedRow, Row, reads_in_place, reads_rows, rejects_rows};
 use crate::tally::{Broken, Tally};
 use cbor4ii_items::decode::Decode;
 use cbor4ii_rw::error::DecodeError;
@@ -96,7 +96,7 @@ const SKIPPED: &[Row] = table! {
     (b"\xbf\x61a\x9f\x5f\x41\x05\xff\xff\xff\x00", "Item(IgnoredAny)", b"\x00"),
 };
 
-const REFUSED: &[RefusedRow] = table! {
+const REJECTED: &[RejectedRow] = table! {
     (b"\x82\x01\x62\x61", eof!("str", 1), b""),
     (b"\x9f\x62\xff\xff\x00\xff", require_utf8!("str"), b"\x00\xff"),
     (b"\xbf\x01\xff", unsupported!("value", 0xff), b"\xff"),
@@ -105,16 +105,16 @@ const REFUSED: &[RefusedRow] = table! {
     (b"\xa1\x61\x61\xe0", unsupported!("value", 0xe0), b"\xe0"),
 };
 
-const REFUSED_CANONICALLY: &[RefusedRow] = table! {
+const REJECTED_CANONICALLY: &[RejectedRow] = table! {
     (b"\x81\x61\xff\x00", require_utf8!("str"), b"\x00"),
     (b"\xa1\x61\x61\x61\xff\x00", require_utf8!("str"), b"\x00"),
     (b"\xa1\x61\x61\x18\x05\x00", not_canonical!("canonical"), b"\x00"),
 };
 
 /// Whole items that are rejected.
-pub fn refused(tally: &mut Tally) -> Result<(), Broken> {
-    refuses_rows::<Item<Value>>(tally, "a refused Value", REFUSED)?;
-    refuses_rows::<Item<Canonical>>(tally, "a refused Canonical", REFUSED_CANONICALLY)
+pub fn rejected(tally: &mut Tally) -> Result<(), Broken> {
+    rejects_rows::<Item<Value>>(tally, "a rejected Value", REJECTED)?;
+    rejects_rows::<Item<Canonical>>(tally, "a rejected Canonical", REJECTED_CANONICALLY)
 }
 
 /// Whole items.
@@ -132,7 +132,7 @@ pub fn value(tally: &mut Tally, bytes: &[u8]) -> Result<Option<Value>, Broken> {
             tally.refuse();
             Ok(None)
         }
-        Err(_) => Err(Broken::new("Value", "it is refused")),
+        Err(_) => Err(Broken::new("Value", "it is rejected")),
     }
 }
 

@@ -227,7 +227,7 @@ where
             tally.refuse();
             Ok(())
         }
-        Err(_) => Err(Broken::new(row, "it is refused")),
+        Err(_) => Err(Broken::new(row, "it is rejected")),
     }
 }
 
@@ -261,6 +261,6 @@ fn maybe_texts(tally: &mut Tally) -> Result<(), Broken> {
             tally.refuse();
             Ok(())
         }
-        Err(_) => Err(Broken::new("Maybe of texts", "it is refused")),
+        Err(_) => Err(Broken::new("Maybe of texts", "it is rejected")),
     }
 }

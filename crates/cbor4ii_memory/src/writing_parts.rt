@@ -107,7 +107,7 @@ const FOUR_FIELDS: &[u8] = b"\xa1\x61V\xa4\x61a\x01\x61b\x02\x61c\x03\x61d\x04";
 #[derive(Clone, Copy)]
 enum InParts {
     SeqAndMap,
-    OpenMap,
+    IndefiniteMap,
     Tuple,
     TupleStruct,
     TupleVariant,
@@ -119,7 +119,7 @@ impl Put for InParts {
     fn put<W: Write>(&self, ser: &mut Serializer<W>) -> Result<(), EncodeError<W::Error>> {
         match self {
             InParts::SeqAndMap => seq_and_map(ser),
-            InParts::OpenMap => open_map(ser),
+            InParts::IndefiniteMap => indefinite_map(ser),
             InParts::Tuple => tuple(ser),
             InParts::TupleStruct => tuple_struct(ser),
             InParts::TupleVariant => tuple_variant(ser),
@@ -138,7 +138,7 @@ fn seq_and_map<W: Write>(ser: &mut Serializer<W>) -> Result<(), EncodeError<W::E
     entries.end()
 }
 
-fn open_map<W: Write>(ser: &mut Serializer<W>) -> Result<(), EncodeError<W::Error>> {
+fn indefinite_map<W: Write>(ser: &mut Serializer<W>) -> Result<(), EncodeError<W::Error>> {
     let mut entries = ser.serialize_map(None)?;
     entries.serialize_key(&3u8)?;
     entries.serialize_value(&4u8)?;
@@ -177,7 +177,7 @@ fn struct_variant<W: Write>(ser: &mut Serializer<W>) -> Result<(), EncodeError<W
 
 const PART_ROWS: &[WriteRow<Typed<InParts>>] = table! {
     ("serialize_seq and serialize_map", Typed(InParts::SeqAndMap), b"\x9f\x61a\xff\xa1\x61b\x05"),
-    ("serialize_key and serialize_value", Typed(InParts::OpenMap), b"\xbf\x03\x04\xff"),
+    ("serialize_key and serialize_value", Typed(InParts::IndefiniteMap), b"\xbf\x03\x04\xff"),
     ("serialize_tuple", Typed(InParts::Tuple), b"\x81\x07"),
     ("serialize_tuple_struct", Typed(InParts::TupleStruct), b"\x81\x08"),
     ("serialize_tuple_variant", Typed(InParts::TupleVariant), b"\xa1\x61T\x81\x63123"),

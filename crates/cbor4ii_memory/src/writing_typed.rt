@@ -245,7 +245,7 @@ where
             tally.refuse();
             Ok(())
         }
-        Err(_) => Err(Broken::new(row, "it is refused")),
+        Err(_) => Err(Broken::new(row, "it is rejected")),
     }
 }
 

@@ -9,17 +9,17 @@ use Rattle.cbor4ii_tree.specs.Tree.{Tree, Trees, Plain, count, bytes_all}
 use Rattle.cbor4ii_tree.specs.Valuing.{HeadAt, TakesLength}
 
 -- where in a value, and for what
-pub data Place : Type 0 where
+pub data AskPlace : Type 0 where
   -- for the content of a string
-  content : Place
+  content : AskPlace
   -- for the place of a tag's value, which was read
-  boxed : Place
+  boxed : AskPlace
   -- in a tag's value
-  in_tag : Place → Place
+  in_tag : AskPlace → AskPlace
   -- for places, after so many values of an array or a map
-  grown : ℕ → Place
+  grown : ℕ → AskPlace
   -- in the value after so many
-  inside : ℕ → Place → Place
+  inside : ℕ → AskPlace → AskPlace
 
 -- an encoding that is read
 abbrev pub IsRead : Bool → Tree → Type 0
@@ -41,25 +41,25 @@ Grows (Some n) k = 1 ≤ n
 Grows None k = 1 ≤ k
 
 -- the head of an array or a map, of this length
-abbrev pub OpensParts : Bool → Option ℕ → List ℕ → List ℕ → Type 0
-OpensParts exact o xs ys =
+abbrev pub BeginsParts : Bool → Option ℕ → List ℕ → List ℕ → Type 0
+BeginsParts exact o xs ys =
     (major : ℕ) × ((major ≡ 4) ⊎ (major ≡ 5)) × TakesLength exact major None xs o ys
 
 -- by the bytes before, and those that are left
-abbrev pub AsksAt : Bool → Place → List ℕ → List ℕ → Type 0
+abbrev pub AsksAt : Bool → AskPlace → List ℕ → List ℕ → Type 0
 AsksAt exact content xs ys = (b : ℕ) × (bs : List ℕ) × (xs ≡ b ∷ bs) × BeginsString b
 AsksAt exact boxed xs ys =
     (n : ℕ) × (zs : List ℕ) × HeadAt exact 6 n xs zs × Values exact 1 zs ys
 AsksAt exact (in_tag p) xs ys =
     (n : ℕ) × (zs : List ℕ) × HeadAt exact 6 n xs zs × AsksAt exact p zs ys
 AsksAt exact (grown k) xs ys =
-    (o : Option ℕ) × (zs : List ℕ) × OpensParts exact o xs zs × Grows o k × Values exact k zs ys
+    (o : Option ℕ) × (zs : List ℕ) × BeginsParts exact o xs zs × Grows o k × Values exact k zs ys
 AsksAt exact (inside k p) xs ys = (o : Option ℕ) × (zs : List ℕ) × (us : List ℕ)
-    × OpensParts exact o xs zs × Values exact k zs us × AsksAt exact p us ys
+    × BeginsParts exact o xs zs × Values exact k zs us × AsksAt exact p us ys
 
 -- in a value
 abbrev pub InValue : Bool → List ℕ → List ℕ → Type 0
-InValue exact xs ys = (p : Place) × AsksAt exact p xs ys
+InValue exact xs ys = (p : AskPlace) × AsksAt exact p xs ys
 
 -- in a tag's value, or for its place
 abbrev pub InTagged : Bool → List ℕ → List ℕ → Type 0

@@ -67,8 +67,8 @@ impl<'de> Decodable for PlainRawValue<'de> {
     ghost lawful = { plain_raw_lawful };
 }
 
-/// Over a slice. The value at its front is read and dropped, and its bytes are kept as they stand.
-/// They are not copied. What is accepted is exactly what `Value` accepts.
+/// Over a slice. The value at its beginning is read and dropped, and its bytes are kept as they
+/// stand. They are not copied. What is accepted is exactly what `Value` accepts.
 ///
 /// # Errors
 ///

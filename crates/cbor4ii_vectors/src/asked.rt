@@ -40,7 +40,7 @@ pub fn looks_at_most<T: ReadFrom + Drop>(
 ) -> Result<(), Fail> {
     let (was_read, asks) = asks::<T>(alloc, reader, bytes)?;
     if was_read != is_read {
-        return Err(Fail::new(format_args!("{bytes:?} is read or refused otherwise")));
+        return Err(Fail::new(format_args!("{bytes:?} is read or rejected otherwise")));
     }
     if asks.looks <= looks && asks.come <= come {
         return Ok(());

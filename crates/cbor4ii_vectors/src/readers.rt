@@ -166,8 +166,8 @@ impl<'a> TestReader<'a> {
         ensures kept { result ≡ false → test_view self.new ≡ test_view self.old }
         ensures broken { IsTrue result → ReaderFails (test_view self.old) (test_view self.new) }
     {
-        let has_debug_text = self.shows == 0 || (self.fails_at_end && self.bytes.is_empty());
-        if has_debug_text && self.failures == 0 {
+        let is_due = self.shows == 0 || (self.fails_at_end && self.bytes.is_empty());
+        if is_due && self.failures == 0 {
             self.failures = 1;
             if self.forgets {
                 self.bytes = &[];

@@ -842,9 +842,8 @@ fn fails_at_each_push<T: WriteTo>(
     for (push, length) in lengths.iter().enumerate() {
         let mut writer = FailingWriter::new(Vec::with_capacity(alloc, bytes.len())?, push);
         let got = value.write_to(&mut writer);
-        let has_debug_text = matches!(got, Err(EncodeError::Write(Failure)))
-            && writer.failures() == 1;
-        if !has_debug_text || bytes.get(..held) != Some(writer.buffer()) {
+        let is_reported = matches!(got, Err(EncodeError::Write(Failure))) && writer.failures() == 1;
+        if !is_reported || bytes.get(..held) != Some(writer.buffer()) {
             return Err(Fail::new(format_args!("{got:?} where push {push} fails, of {bytes:?}")));
         }
         held = held.saturating_add(*length);
@@ -858,9 +857,9 @@ fn fails_at_each_byte<T: WriteTo>(alloc: Global, value: &T, bytes: &[u8]) -> Res
         let sink = FailingSink::new(Vec::with_capacity(alloc, bytes.len())?, room);
         let mut writer = IoWriter::new(sink);
         let got = value.write_to(&mut writer);
-        let has_debug_text =
+        let is_reported =
             matches!(&got, Err(EncodeError::Write(error)) if error.kind() == ErrorKind::Other);
-        if !has_debug_text || bytes.get(..room) != Some(writer.into_inner().buffer()) {
+        if !is_reported || bytes.get(..room) != Some(writer.into_inner().buffer()) {
             return Err(Fail::new(format_args!("{got:?} where byte {room} fails, of {bytes:?}")));
         }
     }

@@ -59,8 +59,8 @@ impl Read for FailingStream<'_> {
 
 impl BufRead for FailingStream<'_> {
     fn fill_buf(&mut self) -> io::Result<&[u8]> {
-        let has_debug_text = self.looks == 0 || (self.fails_at_end && self.bytes.is_empty());
-        if has_debug_text && !self.has_failed {
+        let is_due = self.looks == 0 || (self.fails_at_end && self.bytes.is_empty());
+        if is_due && !self.has_failed {
             self.has_failed = true;
             return Err(io::Error::from(self.kind));
         }

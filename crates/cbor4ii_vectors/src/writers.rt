@@ -52,8 +52,8 @@ impl Write for FailingWriter {
     ghost view = { failing_output };
 
     fn push(&mut self, input: &[u8]) -> Result<(), Failure> {
-        let has_debug_text = self.pushes == 0 && self.failures == 0;
-        if has_debug_text || self.bytes.extend_from_slice(input).is_err() {
+        let is_due = self.pushes == 0 && self.failures == 0;
+        if is_due || self.bytes.extend_from_slice(input).is_err() {
             self.failures = self.failures.saturating_add(1);
             return Err(Failure);
         }

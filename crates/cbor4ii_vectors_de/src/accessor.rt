@@ -213,12 +213,12 @@ impl Take for Entries {
 }
 
 // Of a map of an indefinite and of definite length.
-const OPEN: Answer<Entries> = Is(Entries(Some((1, 2)), Some(3), 4, None, None));
+const INDEFINITE: Answer<Entries> = Is(Entries(Some((1, 2)), Some(3), 4, None, None));
 
 const DEFINITE: Answer<Entries> = Is(Entries(Some((1, 2)), Some(3), 4, None, Some(0)));
 
 const ENTRIES: &[Row<Answer<Entries>>] = table! {
-    (b"\xbf\x01\x02\x03\x04\xff", Ok(OPEN), b""),
+    (b"\xbf\x01\x02\x03\x04\xff", Ok(INDEFINITE), b""),
     (b"\xa2\x01\x02\x03\x04\xff", Ok(DEFINITE), b"\xff"),
     (b"\x80", Err(mismatch!("map", 0x80)), b""),
 };

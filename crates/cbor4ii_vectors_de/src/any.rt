@@ -3,7 +3,7 @@ use crate::growth::{ARRAYS, MAPS, PARTS, grows};
 use crate::nested::{nested, nested_value};
 use crate::typed::Answer::{self, Is};
 use crate::typed::{
-    BothShown, Rejected, RowShown, RowShownWithin, Take, rejects, tells, tells_all,
+    BothShown, Rejected, RowShown, RowShownWithin, Take, reads_all_shown, rejects, tries_shown,
 };
 use cbor4ii::Value;
 use cbor4ii::serde::{DecodeError, Deserializer};
@@ -39,7 +39,7 @@ const REJECTED_WITHIN: &[RowShownWithin] = table! {
 fn what_is_rejected(rt: HostRuntime) -> Result<(), Fail> {
     let alloc = rt.alloc();
     rejects::<Answer<Value>>(alloc, REJECTED)?;
-    tells_all::<Answer<Value>>(alloc, &[], REJECTED_WITHIN)
+    reads_all_shown::<Answer<Value>>(alloc, &[], REJECTED_WITHIN)
 }
 
 const CONTAINERS: &[BothShown] = table! {
@@ -61,7 +61,7 @@ const CONTAINERS_WITHIN: &[RowShownWithin] = table! {
 
 #[test]
 fn arrays_and_maps(rt: HostRuntime) -> Result<(), Fail> {
-    tells::<Answer<Value>>(rt.alloc(), CONTAINERS, CONTAINERS_READ, CONTAINERS_WITHIN)
+    tries_shown::<Answer<Value>>(rt.alloc(), CONTAINERS, CONTAINERS_READ, CONTAINERS_WITHIN)
 }
 
 fn array(alloc: Global) -> Result<Value, AllocError> {
@@ -141,7 +141,7 @@ const BY_CALL_WITHIN: &[RowShownWithin] = table! {
 
 #[test]
 fn the_call_for_any_item(rt: HostRuntime) -> Result<(), Fail> {
-    tells_all::<Answer<ByCall>>(rt.alloc(), BY_CALL, BY_CALL_WITHIN)
+    reads_all_shown::<Answer<ByCall>>(rt.alloc(), BY_CALL, BY_CALL_WITHIN)
 }
 
 const TOO_DEEP_BY_CALL: Want<Answer<ByCall>> = Err(no_step!("any"));

@@ -1,7 +1,7 @@
 //! Rows of items that hold no other, read as values.
 use crate::growth::{LETTERS, grows_by_letters, text_of};
 use crate::typed::Answer::{self, Is};
-use crate::typed::{BothShown, Rejected, RowShown, RowShownWithin, rejects, tells};
+use crate::typed::{BothShown, Rejected, RowShown, RowShownWithin, rejects, tries_shown};
 use cbor4ii::Value;
 use cbor4ii_vectors::{cast_overflow, eof, mismatch, require_length, require_utf8, table};
 use std::test::Fail;
@@ -45,7 +45,7 @@ const INTEGERS_WITHIN: &[RowShownWithin] = table! {
 
 #[test]
 fn integers(rt: HostRuntime) -> Result<(), Fail> {
-    tells::<Answer<Value>>(rt.alloc(), INTEGERS, INTEGERS_READ, INTEGERS_WITHIN)
+    tries_shown::<Answer<Value>>(rt.alloc(), INTEGERS, INTEGERS_READ, INTEGERS_WITHIN)
 }
 
 const LEAVES: &[BothShown] = table! {
@@ -74,7 +74,7 @@ const LEAVES_WITHIN: &[RowShownWithin] = table! {
 
 #[test]
 fn strings_simple_values_and_floats(rt: HostRuntime) -> Result<(), Fail> {
-    tells::<Answer<Value>>(rt.alloc(), LEAVES, LEAVES_READ, LEAVES_WITHIN)
+    tries_shown::<Answer<Value>>(rt.alloc(), LEAVES, LEAVES_READ, LEAVES_WITHIN)
 }
 
 const REJECTED: &[Rejected] = table! {

@@ -1,5 +1,5 @@
 //! Rows of values in a box.
-use crate::typed::{Answer, BothShown, RowShown, RowShownWithin, tells};
+use crate::typed::{Answer, BothShown, RowShown, RowShownWithin, tries_shown};
 use cbor4ii_vectors::{mismatch, table};
 use std::test::Fail;
 
@@ -17,5 +17,5 @@ const BOXES_WITHIN: &[RowShownWithin] = table! {
 
 #[test]
 fn boxes(rt: HostRuntime) -> Result<(), Fail> {
-    tells::<Answer<Box<u32>>>(rt.alloc(), BOXES, BOXES_READ, BOXES_WITHIN)
+    tries_shown::<Answer<Box<u32>>>(rt.alloc(), BOXES, BOXES_READ, BOXES_WITHIN)
 }

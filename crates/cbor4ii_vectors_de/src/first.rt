@@ -34,7 +34,7 @@ fn the_value_at_the_beginning(rt: HostRuntime) -> Result<(), Fail> {
 
 // The bytes live no longer than the test.
 #[test]
-fn the_value_at_the_front_of_bytes_of_the_test(rt: HostRuntime) -> Result<(), Fail> {
+fn the_value_at_the_beginning_of_bytes_of_the_test(rt: HostRuntime) -> Result<(), Fail> {
     let alloc = rt.alloc();
     let bytes = Vec::from_slice(alloc, b"\x61a")?;
     text_is_at_beginning(alloc, &bytes, "a")?;

@@ -1,5 +1,5 @@
 //! Rows of ordered maps.
-use crate::typed::{Answer, BothShown, RowShown, RowShownWithin, tells};
+use crate::typed::{Answer, BothShown, RowShown, RowShownWithin, tries_shown};
 use cbor4ii_items::types::Bytes;
 use cbor4ii_vectors::{eof, mismatch, no_step, table};
 use std::collections::BTreeMap;
@@ -27,7 +27,7 @@ const MAPS_WITHIN: &[RowShownWithin] = table! {
 
 #[test]
 fn maps(rt: HostRuntime) -> Result<(), Fail> {
-    tells::<Answer<BTreeMap<u8, u8>>>(rt.alloc(), MAPS, MAPS_READ, MAPS_WITHIN)
+    tries_shown::<Answer<BTreeMap<u8, u8>>>(rt.alloc(), MAPS, MAPS_READ, MAPS_WITHIN)
 }
 
 const OF_TEXTS_TO_ARRAYS: &str = "Is({\"obj\": [], \"obj2\": [\"obj3\", \"obj4\", \"\"]})";
@@ -38,7 +38,12 @@ const MAPS_OF_TEXTS_TO_ARRAYS: &[BothShown] = table! {
 
 #[test]
 fn maps_of_texts_to_arrays(rt: HostRuntime) -> Result<(), Fail> {
-    tells::<Answer<BTreeMap<String, Vec<String>>>>(rt.alloc(), MAPS_OF_TEXTS_TO_ARRAYS, &[], &[])
+    tries_shown::<Answer<BTreeMap<String, Vec<String>>>>(
+        rt.alloc(),
+        MAPS_OF_TEXTS_TO_ARRAYS,
+        &[],
+        &[],
+    )
 }
 
 const OF_BYTES: &str = "Is({Bytes([1]): 2, Bytes([1, 0]): 3, Bytes([2]): 1})";
@@ -54,7 +59,7 @@ const MAPS_OF_BYTES: &[RowShown] = table! {
 
 #[test]
 fn maps_of_bytes(rt: HostRuntime) -> Result<(), Fail> {
-    tells::<Answer<BTreeMap<Bytes<Vec<u8>>, u8>>>(
+    tries_shown::<Answer<BTreeMap<Bytes<Vec<u8>>, u8>>>(
         rt.alloc(),
         MAPS_OF_BYTES_BOTH,
         MAPS_OF_BYTES,

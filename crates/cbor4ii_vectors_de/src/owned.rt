@@ -1,7 +1,9 @@
 //! Rows of texts and byte strings that are owned.
 use crate::growth::{LETTERS, grows_by_letters, text_of};
 use crate::typed::Answer::{self, Is};
-use crate::typed::{BothShown, Rejected, RowShown, RowShownWithin, rejects, tells, tells_all};
+use crate::typed::{
+    BothShown, Rejected, RowShown, RowShownWithin, reads_all_shown, rejects, tries_shown,
+};
 use cbor4ii::types::Bytes;
 use cbor4ii_vectors::rows::writes;
 use cbor4ii_vectors::{eof, mismatch, no_step, require_length, require_utf8, table};
@@ -42,7 +44,7 @@ const TEXTS_REJECTED: &[Rejected] = table! {
 #[test]
 fn owned_texts(rt: HostRuntime) -> Result<(), Fail> {
     let alloc = rt.alloc();
-    tells::<Answer<String>>(alloc, TEXTS, TEXTS_READ, TEXTS_WITHIN)?;
+    tries_shown::<Answer<String>>(alloc, TEXTS, TEXTS_READ, TEXTS_WITHIN)?;
     rejects::<Answer<String>>(alloc, TEXTS_REJECTED)
 }
 
@@ -69,7 +71,7 @@ fn writes_slice(alloc: Global, content: &[u8], bytes: &[u8]) -> Result<(), Fail>
 #[test]
 fn owned_byte_strings(rt: HostRuntime) -> Result<(), Fail> {
     let alloc = rt.alloc();
-    tells_all::<Answer<Bytes<Vec<u8>>>>(alloc, BYTE_STRINGS, BYTE_STRINGS_WITHIN)?;
+    reads_all_shown::<Answer<Bytes<Vec<u8>>>>(alloc, BYTE_STRINGS, BYTE_STRINGS_WITHIN)?;
     writes_slice(alloc, b"\x01\x02\x03\x04", b"\x44\x01\x02\x03\x04")?;
     writes_slice(alloc, b"123", b"\x43123")
 }

@@ -1,6 +1,6 @@
 //! Rows of strings that are read by the name of a call.
 use crate::lent_strings::{Kind, reads_byte_strings, reads_texts};
-use crate::typed::{Answer, RowShown, RowShownWithin, Take, tells_all};
+use crate::typed::{Answer, RowShown, RowShownWithin, Take, reads_all_shown};
 use cbor4ii::serde::{DecodeError, Deserializer};
 use cbor4ii_rw::read::Source;
 use cbor4ii_vectors::{mismatch, no_step, table};
@@ -42,5 +42,5 @@ const OWNED_WITHIN: &[RowShownWithin] = table! {
 
 #[test]
 fn owned_strings(rt: HostRuntime) -> Result<(), Fail> {
-    tells_all::<Answer<Owned>>(rt.alloc(), OWNED, OWNED_WITHIN)
+    reads_all_shown::<Answer<Owned>>(rt.alloc(), OWNED, OWNED_WITHIN)
 }

@@ -137,7 +137,7 @@ pub type RowShown = Row<&'static str>;
 pub type RowShownWithin = RowWithin<&'static str>;
 
 /// As `go_both_ways`, where each row holds the text of the answer: what is read is written.
-fn tell_both_ways<A>(alloc: Global, rows: &[BothShown]) -> Result<(), Fail>
+fn go_shown_both_ways<A>(alloc: Global, rows: &[BothShown]) -> Result<(), Fail>
 where
     A: WriteTo + ReadFrom + Debug + Drop,
 {
@@ -151,7 +151,11 @@ where
 }
 
 /// As `reads_all`, where each row holds the text of the answer.
-pub fn tells_all<A>(alloc: Global, rows: &[RowShown], within: &[RowShownWithin]) -> Result<(), Fail>
+pub fn reads_all_shown<A>(
+    alloc: Global,
+    rows: &[RowShown],
+    within: &[RowShownWithin],
+) -> Result<(), Fail>
 where
     A: ReadFrom + Debug + Drop,
 {
@@ -160,7 +164,7 @@ where
 }
 
 /// As `tries`, where each row holds the text of the answer.
-pub fn tells<A>(
+pub fn tries_shown<A>(
     alloc: Global,
     both: &[BothShown],
     rows: &[RowShown],
@@ -169,8 +173,8 @@ pub fn tells<A>(
 where
     A: WriteTo + ReadFrom + Debug + Drop,
 {
-    tell_both_ways::<A>(alloc, both)?;
-    tells_all::<A>(alloc, rows, within)
+    go_shown_both_ways::<A>(alloc, both)?;
+    reads_all_shown::<A>(alloc, rows, within)
 }
 
 /// The codec rejects the value with this text. Where memory was refused the row says nothing.

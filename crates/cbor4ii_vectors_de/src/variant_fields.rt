@@ -59,7 +59,7 @@ const ROUND: &[u8] = b"\xa1\x65Round\xa2\x61x\x01\x64size\x02";
 
 const TURNED: &[u8] = b"\xa1\x65Round\xa2\x64size\x02\x61x\x01";
 
-const OPEN: &[u8] = b"\xa1\x65Round\xbf\x61x\x01\x64size\x02\xff";
+const INDEFINITE: &[u8] = b"\xa1\x65Round\xbf\x61x\x01\x64size\x02\xff";
 
 // A field of the other variant is skipped, whatever its value.
 const NOTED: &[u8] = b"\xa1\x65Round\xa3\x61x\x01\x64note\x82\x61a\xf6\x64size\x02";
@@ -73,7 +73,7 @@ const SHAPES_READ: &[Row<Answer<Shape>>] = table! {
     (b"\xa1\x64Line\x09\x00", Ok(Is(Shape::Line(9))), b"\x00"),
     (ROUND, Ok(Is(Shape::Round { x: 1, size: 2 })), b""),
     (TURNED, Ok(Is(Shape::Round { x: 1, size: 2 })), b""),
-    (OPEN, Ok(Is(Shape::Round { x: 1, size: 2 })), b""),
+    (INDEFINITE, Ok(Is(Shape::Round { x: 1, size: 2 })), b""),
     (NOTED, Ok(Is(Shape::Round { x: 1, size: 2 })), b""),
     // Of several entries of one name the last counts.
     (AGAIN, Ok(Is(Shape::Round { x: 3, size: 2 })), b""),

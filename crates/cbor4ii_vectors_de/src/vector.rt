@@ -1,5 +1,5 @@
 //! Rows of vectors.
-use crate::typed::{Answer, BothShown, RowShown, RowShownWithin, tells};
+use crate::typed::{Answer, BothShown, RowShown, RowShownWithin, tries_shown};
 use cbor4ii_vectors::{eof, mismatch, no_step, table};
 use std::test::Fail;
 
@@ -24,7 +24,7 @@ const VECTORS_WITHIN: &[RowShownWithin] = table! {
 
 #[test]
 fn vectors(rt: HostRuntime) -> Result<(), Fail> {
-    tells::<Answer<Vec<u8>>>(rt.alloc(), VECTORS, VECTORS_READ, VECTORS_WITHIN)
+    tries_shown::<Answer<Vec<u8>>>(rt.alloc(), VECTORS, VECTORS_READ, VECTORS_WITHIN)
 }
 
 const VECTORS_OF_OPTIONS: &[BothShown] = table! {
@@ -42,6 +42,11 @@ const OPTIONAL_VECTORS_OF_PAIRS: &[BothShown] = table! {
 #[test]
 fn vectors_of_other_values(rt: HostRuntime) -> Result<(), Fail> {
     let alloc = rt.alloc();
-    tells::<Answer<Vec<Option<u32>>>>(alloc, VECTORS_OF_OPTIONS, &[], VECTORS_OF_OPTIONS_WITHIN)?;
-    tells::<Answer<Option<Vec<(u128, i128)>>>>(alloc, OPTIONAL_VECTORS_OF_PAIRS, &[], &[])
+    tries_shown::<Answer<Vec<Option<u32>>>>(
+        alloc,
+        VECTORS_OF_OPTIONS,
+        &[],
+        VECTORS_OF_OPTIONS_WITHIN,
+    )?;
+    tries_shown::<Answer<Option<Vec<(u128, i128)>>>>(alloc, OPTIONAL_VECTORS_OF_PAIRS, &[], &[])
 }

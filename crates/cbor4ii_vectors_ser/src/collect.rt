@@ -27,9 +27,9 @@ impl Put for Arrays {
 
 /// A map whose length is indefinite.
 #[derive(Drop)]
-struct OpenMap;
+struct IndefiniteMap;
 
-impl Put for OpenMap {
+impl Put for IndefiniteMap {
     fn put<W: Write>(&self, ser: &mut Serializer<W>) -> Result<(), EncodeError<W::Error>> {
         let mut entries = ser.serialize_map(None)?;
         entries.serialize_key(&3u8)?;
@@ -42,7 +42,11 @@ impl Put for OpenMap {
 #[test]
 fn arrays_and_maps_part_by_part(rt: HostRuntime) -> Result<(), Fail> {
     writes(rt.alloc(), &Typed(Arrays), b"\x9f\x01\xff\x81\x02")?;
-    writes(rt.alloc(), &Typed(OpenMap), b"\xbf\x03\x04\x05\x06\xff")?;
+    writes(
+        rt.alloc(),
+        &Typed(IndefiniteMap),
+        b"\xbf\x03\x04\x05\x06\xff",
+    )?;
     Ok(())
 }
 

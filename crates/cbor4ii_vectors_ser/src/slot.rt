@@ -234,9 +234,9 @@ fn heads_of_accessors(rt: HostRuntime) -> Result<(), Fail> {
 
 /// A map of any number of entries, with one, to its end.
 #[derive(Drop)]
-struct OpenMap;
+struct IndefiniteMap;
 
-impl Put for OpenMap {
+impl Put for IndefiniteMap {
     fn put<W: Write>(&self, ser: &mut Serializer<W>) -> Result<(), EncodeError<W::Error>> {
         let mut entries = ser.serialize_map(None)?;
         entries.serialize_entry(&"a", &24u8)?;
@@ -260,7 +260,7 @@ fn arrays_and_maps(rt: HostRuntime) -> Result<(), Fail> {
     let alloc = rt.alloc();
     pushes(alloc, &(1u8, 24u8), &[1, 1, 2])?;
     pushes(alloc, &(1u8, "ab", 256u16), &[1, 1, 1, 2, 3])?;
-    pushes(alloc, &OpenMap, &[1, 1, 1, 2, 1])?;
+    pushes(alloc, &IndefiniteMap, &[1, 1, 1, 2, 1])?;
     parts(alloc, 23, &[1])?;
     parts(alloc, 24, &[2])?;
     parts(alloc, 256, &[3])?;

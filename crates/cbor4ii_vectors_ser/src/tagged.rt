@@ -22,7 +22,7 @@ pub fn is_rejected<T: Drop>(answer: Result<T, EncodeError<TryReserveError>>) -> 
     match answer {
         Err(EncodeError::Custom(words)) if words == TAG => Ok(()),
         Err(EncodeError::Core(error)) => Err(Fail::from(error)),
-        _ => Err(Fail::new("not refused by its tag")),
+        _ => Err(Fail::new("not rejected by its tag")),
     }
 }
 

@@ -203,15 +203,15 @@ const TWO_CHUNKS: &[u8] = b"\x5f\x42\x01\x02\x43\x03\x04\x05\xff";
 
 const LONG_HEADS: &[u8] = b"\x5f\x59\x00\x00\x58\x01\x05\xff";
 
-const NESTED_TWICE_OPEN: &[u8] = b"\x9f\x01\x82\x02\x03\x9f\x04\x05\xff\xff";
+const NESTED_TWICE_INDEFINITE: &[u8] = b"\x9f\x01\x82\x02\x03\x9f\x04\x05\xff\xff";
 
-const NESTED_OPEN: &[u8] = b"\x9f\x01\x82\x02\x03\x82\x04\x05\xff";
+const NESTED_INDEFINITE: &[u8] = b"\x9f\x01\x82\x02\x03\x82\x04\x05\xff";
 
-const LETTERS_OPEN: &[u8] = b"\xbf\x61a\x01\x61b\x9f\x02\x03\xff\xff";
+const LETTERS_INDEFINITE: &[u8] = b"\xbf\x61a\x01\x61b\x9f\x02\x03\xff\xff";
 
-const FUN_OPEN: &[u8] = b"\xbf\x63Fun\xf5\x63Amt\x21\xff";
+const FUN_INDEFINITE: &[u8] = b"\xbf\x63Fun\xf5\x63Amt\x21\xff";
 
-const STRINGS_OPEN: &[u8] = b"\x9f\x5f\x41\x01\xff\x41\x02\xff";
+const STRINGS_INDEFINITE: &[u8] = b"\x9f\x5f\x41\x01\xff\x41\x02\xff";
 
 // Items that are encoded otherwise than they are written: what is read, what it is, what is
 // written, and what the error of another encoding leaves: all after the first head that is one.
@@ -249,18 +249,18 @@ const ENCODINGS: &[Encoding] = table! {
     (b"\x7f\x61\xc3\x61\xa9\xff", Text("\u{e9}"), b"\x62\xc3\xa9", b"\x61\xc3\x61\xa9\xff"),
     (b"\x7f\x61\xc3\x60\x61\xa9\xff", Text("\u{e9}"), b"\x62\xc3\xa9", b"\x61\xc3\x60\x61\xa9\xff"),
     (b"\x9f\xff", Array(&[]), b"\x80", b"\xff"),
-    (NESTED_TWICE_OPEN, NESTED, NESTED_BYTES, b"\x01\x82\x02\x03\x9f\x04\x05\xff\xff"),
-    (NESTED_OPEN, NESTED, NESTED_BYTES, b"\x01\x82\x02\x03\x82\x04\x05\xff"),
+    (NESTED_TWICE_INDEFINITE, NESTED, NESTED_BYTES, b"\x01\x82\x02\x03\x9f\x04\x05\xff\xff"),
+    (NESTED_INDEFINITE, NESTED, NESTED_BYTES, b"\x01\x82\x02\x03\x82\x04\x05\xff"),
     (b"\x83\x01\x82\x02\x03\x9f\x04\x05\xff", NESTED, NESTED_BYTES, b"\x04\x05\xff"),
     (b"\x83\x01\x9f\x02\x03\xff\x82\x04\x05", NESTED, NESTED_BYTES, b"\x02\x03\xff\x82\x04\x05"),
     (b"\xbf\xff", Map(&[]), b"\xa0", b"\xff"),
-    (LETTERS_OPEN, LETTERS, LETTERS_BYTES, b"\x61a\x01\x61b\x9f\x02\x03\xff\xff"),
+    (LETTERS_INDEFINITE, LETTERS, LETTERS_BYTES, b"\x61a\x01\x61b\x9f\x02\x03\xff\xff"),
     (b"\x82\x61a\xbf\x61b\x61c\xff", MAP_IN_ARRAY, b"\x82\x61a\xa1\x61b\x61c", b"\x61b\x61c\xff"),
-    (FUN_OPEN, FUN, FUN_BYTES, b"\x63Fun\xf5\x63Amt\x21\xff"),
+    (FUN_INDEFINITE, FUN, FUN_BYTES, b"\x63Fun\xf5\x63Amt\x21\xff"),
     (b"\x9f\x7f\xff\x61a\xff", TWO_TEXTS, b"\x82\x60\x61a", b"\x7f\xff\x61a\xff"),
     (b"\x82\x7f\xff\x61a", TWO_TEXTS, b"\x82\x60\x61a", b"\xff\x61a"),
     (b"\xa1\x7f\x61k\xff\x01", Map(&[(Text("k"), Integer(1))]), b"\xa1\x61k\x01", b"\x61k\xff\x01"),
-    (STRINGS_OPEN, TWO_STRINGS, b"\x82\x41\x01\x41\x02", b"\x5f\x41\x01\xff\x41\x02\xff"),
+    (STRINGS_INDEFINITE, TWO_STRINGS, b"\x82\x41\x01\x41\x02", b"\x5f\x41\x01\xff\x41\x02\xff"),
 };
 
 fn reads_encodings(alloc: Global, rows: &[Encoding]) -> Result<(), Fail> {
@@ -292,7 +292,7 @@ const ONE_TO_25: Literal = Array(table! {
 const DEFINITE: &[u8] = b"\x98\x19\x01\x02\x03\x04\x05\x06\x07\x08\x09\x0a\x0b\x0c\x0d\
     \x0e\x0f\x10\x11\x12\x13\x14\x15\x16\x17\x18\x18\x18\x19";
 
-const OPEN: &[u8] = b"\x9f\x01\x02\x03\x04\x05\x06\x07\x08\x09\x0a\x0b\x0c\x0d\
+const INDEFINITE: &[u8] = b"\x9f\x01\x02\x03\x04\x05\x06\x07\x08\x09\x0a\x0b\x0c\x0d\
     \x0e\x0f\x10\x11\x12\x13\x14\x15\x16\x17\x18\x18\x18\x19\xff";
 
 #[test]
@@ -300,8 +300,8 @@ fn an_array_of_25(rt: HostRuntime) -> Result<(), Fail> {
     let alloc = rt.alloc();
     reads_and_writes(alloc, DEFINITE, &ONE_TO_25, DEFINITE)?;
     reads_canonical(alloc, DEFINITE, &ONE_TO_25)?;
-    reads_and_writes(alloc, OPEN, &ONE_TO_25, DEFINITE)?;
-    is_not_canonical(alloc, OPEN, &OPEN[1..])
+    reads_and_writes(alloc, INDEFINITE, &ONE_TO_25, DEFINITE)?;
+    is_not_canonical(alloc, INDEFINITE, &INDEFINITE[1..])
 }
 
 // Each kind of value that takes memory: {_ "abc": [_ (_ 0102, 030405), 1(null)], 24("x"): {0: []}}

@@ -62,17 +62,17 @@ fn other_items_are_rejected(rt: HostRuntime) {
 }
 
 // The bytes, the item at their beginning, and what follows it.
-type Front = (&'static [u8], &'static [u8], &'static [u8]);
+type Beginning = (&'static [u8], &'static [u8], &'static [u8]);
 
-const FRONTS: &[Front] = table! {
+const BEGINNINGS: &[Beginning] = table! {
     (b"\x18\x64", b"\x18\x64", b""),
     (b"\xf9\x3c\x00\xff", b"\xf9\x3c\x00", b"\xff"),
     (b"\x82\x18\x05\x9f\xff\x01\x02", b"\x82\x18\x05\x9f\xff", b"\x01\x02"),
 };
 
 #[test]
-fn the_item_at_the_front_is_kept(rt: HostRuntime) -> Result<(), Fail> {
-    for (bytes, item, rest) in FRONTS {
+fn the_item_at_the_beginning_is_kept(rt: HostRuntime) -> Result<(), Fail> {
+    for (bytes, item, rest) in BEGINNINGS {
         let mut reader = SliceReader::new(bytes);
         let plain = PlainRawValue::decode(rt.alloc(), &mut reader)?;
         assert_eq!(rt; plain.as_bytes(), *item);
@@ -82,9 +82,9 @@ fn the_item_at_the_front_is_kept(rt: HostRuntime) -> Result<(), Fail> {
 }
 
 // The bytes, the error, and what is left then.
-type Refusal = (&'static [u8], DecodeError<Never>, &'static [u8]);
+type Rejection = (&'static [u8], DecodeError<Never>, &'static [u8]);
 
-const NO_FRONTS: &[Refusal] = table! {
+const NO_BEGINNINGS: &[Rejection] = table! {
     (b"", DecodeError::Eof { name: "value", expect: Len::Small(1) }, b""),
     (b"\x82\x01", DecodeError::Eof { name: "value", expect: Len::Small(1) }, b""),
     (b"\x5f\x80\xff", DecodeError::Mismatch { name: "bytes", found: 0x80 }, b"\xff"),
@@ -93,8 +93,8 @@ const NO_FRONTS: &[Refusal] = table! {
 };
 
 #[test]
-fn other_fronts_are_rejected(rt: HostRuntime) -> Result<(), Fail> {
-    for (bytes, error, rest) in NO_FRONTS {
+fn other_beginnings_are_rejected(rt: HostRuntime) -> Result<(), Fail> {
+    for (bytes, error, rest) in NO_BEGINNINGS {
         let mut reader = SliceReader::new(bytes);
         match PlainRawValue::decode(rt.alloc(), &mut reader) {
             Err(found) if found == *error => assert_eq!(rt; reader.remaining(), *rest),

@@ -14,7 +14,7 @@ use cbor4ii::serde::{
 };
 use cbor4ii_vectors::{mismatch, no_step, table};
 use cbor4ii_vectors_de::typed::{
-    Answer, BothShown, RowShown, RowShownWithin, Take, come_back, tells,
+    Answer, BothShown, RowShown, RowShownWithin, Take, come_back, tries_shown,
 };
 use std::alloc::Global;
 use std::test::Fail;
@@ -50,7 +50,7 @@ const VARIANTS_WITHIN: &[RowShownWithin] = table! {
 
 #[test]
 fn variants_are_written_and_read(rt: HostRuntime) -> Result<(), Fail> {
-    tells::<Answer<Enum>>(rt.alloc(), VARIANTS, VARIANTS_READ, VARIANTS_WITHIN)
+    tries_shown::<Answer<Enum>>(rt.alloc(), VARIANTS, VARIANTS_READ, VARIANTS_WITHIN)
 }
 
 impl Typed for Enum {}
@@ -183,5 +183,5 @@ fn an_empty_text_in_a_variant_comes_back(rt: HostRuntime) -> Result<(), Fail> {
     let alloc = rt.alloc();
     assert!(rt; is_written_into_room(alloc)?);
     come_back::<Letters>(alloc, EMPTY_TEXT)?;
-    tells::<Answer<Letters>>(alloc, EMPTY_TEXT_ANSWERED, &[], &[])
+    tries_shown::<Answer<Letters>>(alloc, EMPTY_TEXT_ANSWERED, &[], &[])
 }

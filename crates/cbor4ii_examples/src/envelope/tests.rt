@@ -117,13 +117,13 @@ type Opened = (&'static [u8], &'static [u8], u16);
 
 // Payloads that are handed to the check as they stand: of indefinite length, with longer heads, and
 // with a field that the type does not know.
-const OPEN: &[u8] = b"\xbf\x66status\x05\xff";
+const INDEFINITE: &[u8] = b"\xbf\x66status\x05\xff";
 
 const LONG: &[u8] = b"\xb8\x01\x66status\x19\x00\x05";
 
 const MORE: &[u8] = b"\xa2\x61x\x80\x66status\x05";
 
-const OPEN_SEALED: &[u8] =
+const INDEFINITE_SEALED: &[u8] =
     b"\xa3\x67payload\xbf\x66status\x05\xff\x63key\x07\x69signature\x42\xab\xcd";
 
 const LONG_SEALED: &[u8] =
@@ -134,7 +134,7 @@ const MORE_SEALED: &[u8] =
 
 const OPENED: &[Opened] = table! {
     (SEALED, REPLY, 200),
-    (OPEN_SEALED, OPEN, 5),
+    (INDEFINITE_SEALED, INDEFINITE, 5),
     (LONG_SEALED, LONG, 5),
     (MORE_SEALED, MORE, 5),
 };
@@ -151,17 +151,17 @@ fn a_payload_is_checked_and_read(rt: HostRuntime) -> Result<(), Fail> {
     Ok(())
 }
 
-type Refusal = (&'static [u8], &'static [u8], OpenError);
+type Rejection = (&'static [u8], &'static [u8], OpenError);
 
 // Another key, another signature, and another payload.
-const NOT_SIGNED: &[Refusal] = table! {
+const NOT_SIGNED: &[Rejection] = table! {
     (b"\xa3\x63key\x08\x69signature\x42\xab\xcd\x67payload\x05", b"\x05", NotSigned),
     (b"\xa3\x63key\x07\x69signature\x42\xab\xce\x67payload\x05", b"\x05", NotSigned),
     (b"\xa3\x63key\x07\x69signature\x42\xab\xcd\x67payload\x06", b"\x05", NotSigned),
     (b"\xa3\x63key\x07\x69signature\x42\xab\xcd\x67payload\x18\x05", b"\x05", NotSigned),
 };
 
-const NO_ENVELOPE: &[Refusal] = table! {
+const NO_ENVELOPE: &[Rejection] = table! {
     (b"", b"", Envelope(Decode(Core(Eof { name: "map", expect: Small(1) })))),
     (b"\x80", b"", Envelope(Decode(Core(Mismatch { name: "map", found: 0x80 })))),
     (b"\xa1\x67payload\x05", b"", Envelope(Decode(Custom(KEY)))),
@@ -181,7 +181,7 @@ const IN_CHUNKS: CoreError<Never> = RequireBorrowed { name: "bytes" };
 const FIVE: &[u8] = b"\xa1\x66status\x05";
 
 // What follows an envelope, and a second field of a name, whichever payload was signed.
-const MORE_THAN_ONE: &[Refusal] = table! {
+const MORE_THAN_ONE: &[Rejection] = table! {
     (FOLLOWED, FIVE, Envelope(Trailing(1))),
     (TWO_PAYLOADS, FIVE, Envelope(Decode(Custom(PAYLOAD)))),
     (TWO_PAYLOADS, b"\x06", Envelope(Decode(Custom(PAYLOAD)))),
@@ -195,7 +195,7 @@ const TWO_PAYLOADS: &[u8] =
     b"\xa4\x63key\x07\x69signature\x42\xab\xcd\x67payload\x06\x67payload\xa1\x66status\x05";
 
 // An array as a chunk, alone and before another payload, and a text that is no UTF-8.
-const NO_CBOR: &[Refusal] = table! {
+const NO_CBOR: &[Rejection] = table! {
     (b"\xa1\x67payload\x5f\x80\xff", b"\x5f\x80\xff", Envelope(Decode(Core(NO_CHUNK)))),
     (b"\xa2\x67payload\x5f\x80\xff\x67payload\x05", b"\x05", Envelope(Decode(Core(NO_CHUNK)))),
     (b"\xa1\x67payload\x61\xff", b"\x61\xff", Envelope(Decode(Core(RequireUtf8 { name: "str" })))),
@@ -207,7 +207,7 @@ const NO_CHUNK: CoreError<Never> = Mismatch {
 };
 
 // A payload that was signed, and is no reply.
-const NO_PAYLOAD: &[Refusal] = table! {
+const NO_PAYLOAD: &[Rejection] = table! {
     (b"\xa3\x63key\x07\x69signature\x42\xab\xcd\x67payload\x05", b"\x05", NO_MAP),
     (b"\xa3\x63key\x07\x69signature\x42\xab\xcd\x67payload\xa0", b"\xa0", NO_STATUS),
 };
@@ -219,7 +219,7 @@ const NO_MAP: OpenError = Payload(Decode(Core(Mismatch {
 
 const NO_STATUS: OpenError = Payload(Decode(Custom("a reply has no status")));
 
-fn rejects(alloc: Global, rows: &[Refusal]) -> Result<(), Fail> {
+fn rejects(alloc: Global, rows: &[Rejection]) -> Result<(), Fail> {
     for (bytes, message, want) in rows {
         let opened: Result<Reply, OpenError> = open(alloc, &Expected(message), bytes);
         match opened {

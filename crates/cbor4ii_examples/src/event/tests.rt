@@ -5,7 +5,7 @@ use cbor4ii::enc::Write;
 use cbor4ii::serde::{DecodeError, Deserialize, Deserializer, EncodeError, Serialize, Serializer};
 use cbor4ii_vectors::{eof, mismatch, no_step, require_length, table};
 use cbor4ii_vectors_de::typed::{
-    Answer, BothShown, Rejected, RowShown, RowShownWithin, Take, comes_back, rejects, tells,
+    Answer, BothShown, Rejected, RowShown, RowShownWithin, Take, comes_back, rejects, tries_shown,
 };
 use std::alloc::Global;
 use std::collections::BTreeMap;
@@ -62,7 +62,7 @@ const EVENTS_WITHIN: &[RowShownWithin] = table! {
 #[test]
 fn events_are_written_and_read(rt: HostRuntime) -> Result<(), Fail> {
     let alloc = rt.alloc();
-    tells::<Answer<Event>>(alloc, EVENTS, EVENTS_READ, EVENTS_WITHIN)?;
+    tries_shown::<Answer<Event>>(alloc, EVENTS, EVENTS_READ, EVENTS_WITHIN)?;
     rejects::<Answer<Event>>(alloc, EVENTS_REJECTED)
 }
 
@@ -115,5 +115,5 @@ const MAPS_OF_EVENTS: &[BothShown] = table! {
 
 #[test]
 fn a_map_of_events_is_written_and_read(rt: HostRuntime) -> Result<(), Fail> {
-    tells::<Answer<Log>>(rt.alloc(), MAPS_OF_EVENTS, &[], &[])
+    tries_shown::<Answer<Log>>(rt.alloc(), MAPS_OF_EVENTS, &[], &[])
 }

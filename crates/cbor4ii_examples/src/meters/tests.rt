@@ -3,7 +3,9 @@ use crate::meters::Meters;
 use cbor4ii::dec::Source;
 use cbor4ii::serde::{DecodeError, Deserialize, Deserializer};
 use cbor4ii_vectors::{mismatch, table};
-use cbor4ii_vectors_de::typed::{Answer, BothShown, Rejected, Take, comes_back, rejects, tells};
+use cbor4ii_vectors_de::typed::{
+    Answer, BothShown, Rejected, Take, comes_back, rejects, tries_shown,
+};
 use std::alloc::Global;
 use std::test::Fail;
 
@@ -27,7 +29,7 @@ const LENGTHS_REJECTED: &[Rejected] = table! {
 
 #[test]
 fn lengths_are_written_and_read(rt: HostRuntime) -> Result<(), Fail> {
-    tells::<Answer<Meters>>(rt.alloc(), LENGTHS, &[], &[])?;
+    tries_shown::<Answer<Meters>>(rt.alloc(), LENGTHS, &[], &[])?;
     rejects::<Answer<Meters>>(rt.alloc(), LENGTHS_REJECTED)
 }
 

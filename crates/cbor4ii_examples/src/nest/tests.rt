@@ -4,7 +4,7 @@ use cbor4ii::dec::Source;
 use cbor4ii::serde::{DecodeError, Deserialize, Deserializer};
 use cbor4ii_vectors::{eof, mismatch, no_step, table};
 use cbor4ii_vectors_de::typed::{
-    Answer, BothShown, RowShown, RowShownWithin, Take, come_back, tells,
+    Answer, BothShown, RowShown, RowShownWithin, Take, come_back, tries_shown,
 };
 use std::alloc::Global;
 use std::test::Fail;
@@ -38,7 +38,7 @@ const NESTS_WITHIN: &[RowShownWithin] = table! {
 
 #[test]
 fn lists_in_lists_are_written_and_read(rt: HostRuntime) -> Result<(), Fail> {
-    tells::<Answer<Nest>>(rt.alloc(), NESTS_BOTH, NESTS, NESTS_WITHIN)
+    tries_shown::<Answer<Nest>>(rt.alloc(), NESTS_BOTH, NESTS, NESTS_WITHIN)
 }
 
 const INSIDE: &[BothShown] = table! {

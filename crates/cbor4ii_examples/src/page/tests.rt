@@ -5,7 +5,7 @@ use cbor4ii::dec::Source;
 use cbor4ii::serde::{DecodeError, Deserialize, Deserializer};
 use cbor4ii_vectors::{mismatch, no_step, table};
 use cbor4ii_vectors_de::typed::{
-    Answer, BothShown, RowShown, RowShownWithin, Take, comes_back, tells,
+    Answer, BothShown, RowShown, RowShownWithin, Take, comes_back, tries_shown,
 };
 use std::alloc::Global;
 use std::test::Fail;
@@ -50,7 +50,7 @@ const PAGES_WITHIN: &[RowShownWithin] = table! {
 
 #[test]
 fn pages_are_written_and_read(rt: HostRuntime) -> Result<(), Fail> {
-    tells::<Answer<Page<Meters>>>(rt.alloc(), PAGES_BOTH, PAGES, PAGES_WITHIN)
+    tries_shown::<Answer<Page<Meters>>>(rt.alloc(), PAGES_BOTH, PAGES, PAGES_WITHIN)
 }
 
 const PAGE_OF_PAGES: &[u8] = b"\xa3\x65total\x01\x67entries\x81\

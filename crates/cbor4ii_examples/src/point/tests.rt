@@ -10,8 +10,8 @@ use cbor4ii::error::Never;
 use cbor4ii::serde::{DecodeError, Deserialize, Deserializer, EncodeError, Serialize, Serializer};
 use cbor4ii_vectors::{eof, mismatch, no_step, table};
 use cbor4ii_vectors_de::typed::{
-    Answer, BothShown, Rejected, RowShown, RowShownWithin, Take, comes_back, rejects, tells,
-    tells_all,
+    Answer, BothShown, Rejected, RowShown, RowShownWithin, Take, comes_back, reads_all_shown,
+    rejects, tries_shown,
 };
 use std::alloc::Global;
 use std::test::Fail;
@@ -82,7 +82,7 @@ const POINTS_WITHIN: &[RowShownWithin] = table! {
 #[test]
 fn points_are_written_and_read(rt: HostRuntime) -> Result<(), Fail> {
     let alloc = rt.alloc();
-    tells::<Answer<Point>>(alloc, POINTS, POINTS_READ, POINTS_WITHIN)?;
+    tries_shown::<Answer<Point>>(alloc, POINTS, POINTS_READ, POINTS_WITHIN)?;
     rejects::<Answer<Point>>(alloc, POINTS_REJECTED)
 }
 
@@ -178,7 +178,7 @@ const WITHOUT_D: &[RowShown] = table! {
 #[test]
 fn fields_that_a_type_does_not_know_are_skipped(rt: HostRuntime) -> Result<(), Fail> {
     let alloc = rt.alloc();
-    tells::<Answer<Whole>>(alloc, WHOLES, WHOLES_READ, &[])?;
-    tells_all::<Answer<WithoutC>>(alloc, WITHOUT_C, &[])?;
-    tells_all::<Answer<WithoutD>>(alloc, WITHOUT_D, &[])
+    tries_shown::<Answer<Whole>>(alloc, WHOLES, WHOLES_READ, &[])?;
+    reads_all_shown::<Answer<WithoutC>>(alloc, WITHOUT_C, &[])?;
+    reads_all_shown::<Answer<WithoutD>>(alloc, WITHOUT_D, &[])
 }

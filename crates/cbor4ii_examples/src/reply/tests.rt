@@ -3,7 +3,7 @@ use crate::reply::Reply;
 use cbor4ii::dec::Source;
 use cbor4ii::serde::{DecodeError, Deserialize, Deserializer};
 use cbor4ii_vectors::{mismatch, table};
-use cbor4ii_vectors_de::typed::{Answer, BothShown, RowShown, Take, tells};
+use cbor4ii_vectors_de::typed::{Answer, BothShown, RowShown, Take, tries_shown};
 use std::alloc::Global;
 use std::test::Fail;
 
@@ -30,5 +30,5 @@ const REPLIES: &[RowShown] = table! {
 
 #[test]
 fn a_reason_is_left_out_where_it_is_none(rt: HostRuntime) -> Result<(), Fail> {
-    tells::<Answer<Reply>>(rt.alloc(), REPLIES_BOTH, REPLIES, &[])
+    tries_shown::<Answer<Reply>>(rt.alloc(), REPLIES_BOTH, REPLIES, &[])
 }

@@ -3,7 +3,7 @@ use crate::sample::Sample;
 use cbor4ii::dec::Source;
 use cbor4ii::serde::{DecodeError, Deserialize, Deserializer};
 use cbor4ii_vectors::{mismatch, no_step, table};
-use cbor4ii_vectors_de::typed::{Answer, RowShown, RowShownWithin, Take, tells_all};
+use cbor4ii_vectors_de::typed::{Answer, RowShown, RowShownWithin, Take, reads_all_shown};
 use std::alloc::Global;
 use std::test::Fail;
 
@@ -37,5 +37,5 @@ const SAMPLES_WITHIN: &[RowShownWithin] = table! {
 
 #[test]
 fn fields_may_come_in_any_order(rt: HostRuntime) -> Result<(), Fail> {
-    tells_all::<Answer<Sample>>(rt.alloc(), SAMPLES, SAMPLES_WITHIN)
+    reads_all_shown::<Answer<Sample>>(rt.alloc(), SAMPLES, SAMPLES_WITHIN)
 }

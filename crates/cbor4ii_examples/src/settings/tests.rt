@@ -7,7 +7,7 @@ use cbor4ii::error::{Len, Never, WholeError};
 use cbor4ii::serde::DecodeError::{Core, Custom};
 use cbor4ii::serde::{DecodeError, Deserialize, Deserializer};
 use cbor4ii_vectors::table;
-use cbor4ii_vectors_de::typed::{Answer, RowShown, Take, comes_back, tells_all};
+use cbor4ii_vectors_de::typed::{Answer, RowShown, Take, comes_back, reads_all_shown};
 use std::alloc::Global;
 use std::test::Fail;
 
@@ -45,7 +45,7 @@ const SETTINGS: &[RowShown] = table! {
 
 #[test]
 fn what_is_not_set_has_a_default(rt: HostRuntime) -> Result<(), Fail> {
-    tells_all::<Answer<Settings>>(rt.alloc(), SETTINGS, &[])
+    reads_all_shown::<Answer<Settings>>(rt.alloc(), SETTINGS, &[])
 }
 
 type Row = (&'static [u8], usize, WholeError<DecodeError<Never>>);

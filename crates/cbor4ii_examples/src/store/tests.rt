@@ -47,18 +47,18 @@ fn a_stored_value_is_the_item(rt: HostRuntime) -> Result<(), Fail> {
     Ok(())
 }
 
-type Refusal = (&'static [u8], StoreError);
+type Rejection = (&'static [u8], StoreError);
 
 const NOT_CANONICAL: StoreError = Decode(NotCanonical { name: "canonical" });
 
-const NOT_STORED: &[Refusal] = table! {
+const NOT_STORED: &[Rejection] = table! {
     (b"\x18\x05", NOT_CANONICAL),
     (b"\x9f\x01\xff", NOT_CANONICAL),
     (b"\xa1\x61a\x7f\x61b\xff", NOT_CANONICAL),
     (b"\xf7", NOT_CANONICAL),
 };
 
-const NO_ITEM: &[Refusal] = table! {
+const NO_ITEM: &[Rejection] = table! {
     (b"", Decode(Eof { name: "value", expect: Small(1) })),
     (b"\x82\x01", Decode(Eof { name: "value", expect: Small(1) })),
     (b"\x63ab", Decode(Eof { name: "str", expect: Small(1) })),
@@ -70,7 +70,7 @@ const NO_ITEM: &[Refusal] = table! {
 };
 
 // The row's bytes are rejected as it says.
-fn is_rejected<T: Drop>(answer: Result<T, StoreError>, row: &Refusal) -> Result<(), Fail> {
+fn is_rejected<T: Drop>(answer: Result<T, StoreError>, row: &Rejection) -> Result<(), Fail> {
     let (bytes, want) = row;
     match answer.err() {
         Some(error) if error == *want => Ok(()),

@@ -4,7 +4,7 @@ use cbor4ii::dec::Source;
 use cbor4ii::serde::{DecodeError, Deserialize, Deserializer};
 use cbor4ii_vectors::rows::writes;
 use cbor4ii_vectors::table;
-use cbor4ii_vectors_de::typed::{Answer, RowShown, Take, come_back, tells_all};
+use cbor4ii_vectors_de::typed::{Answer, RowShown, Take, come_back, reads_all_shown};
 use cbor4ii_vectors_ser::typed::Typed;
 use std::alloc::Global;
 use std::collections::TryReserveError;
@@ -63,5 +63,5 @@ const TREES: &[RowShown] = table! {
 
 #[test]
 fn other_values_are_no_tree(rt: HostRuntime) -> Result<(), Fail> {
-    tells_all::<Answer<Tree>>(rt.alloc(), TREES, &[])
+    reads_all_shown::<Answer<Tree>>(rt.alloc(), TREES, &[])
 }

@@ -10,7 +10,7 @@ use Rattle.cbor4ii_rw.specs.Reader.{Advances, IsPrefix, KeepsAllButBudget}
 use Rattle.cbor4ii_rw.specs.{View.View, declared.error.DecodeError.DecodeError}
 use Rattle.cbor4ii_items.specs.{InputError.is_out_of_memory, Laws.Prefixes.the_prefix}
 use Rattle.cbor4ii_tree.specs.Asking.{Asks, BeginsString, Grows, InParts, InTagged, InValue}
-use Rattle.cbor4ii_tree.specs.Asking.{IsRead, Values, OpensParts, boxed, content, grown, in_tag}
+use Rattle.cbor4ii_tree.specs.Asking.{IsRead, Values, BeginsParts, boxed, content, grown, in_tag}
 use Rattle.cbor4ii_tree.specs.Asking.{inside}
 use Rattle.cbor4ii_tree.specs.Cost.{Budget, step_in}
 use Rattle.cbor4ii_tree.specs.Leaf.{AsksAfterNext, DoesAfterNext, ShowsFirst, WantsContent}
@@ -134,7 +134,7 @@ in_any exact xs ys (inr s) = inr s
 
 -- after the head of an array or a map
 pub in_parts : (exact : Bool) {least : ℕ} (o : Option ℕ)
-    → ((k : ℕ) → least ≤ k → Grows o k) → (xs us ys : List ℕ) → OpensParts exact o xs us
+    → ((k : ℕ) → least ≤ k → Grows o k) → (xs us ys : List ℕ) → BeginsParts exact o xs us
     → InParts exact least us ys → InValue exact xs ys
 in_parts exact o grows xs us ys h (inl s) = (grown s.0, (o, us, h, grows s.0 s.1, s.2))
 in_parts exact o grows xs us ys h (inr s) = (inside s.0 s.3.0, (o, us, s.1, h, s.2, s.3.1))
@@ -187,9 +187,9 @@ put_grows exact vs part {a = a} some p q =
 
 -- ---- a run
 
-front_is : (n : ℕ) (shown xs : List ℕ) → n ≤ length shown → length shown ≤ length xs
+prefix_of_shown : (n : ℕ) (shown xs : List ℕ) → n ≤ length shown → length shown ≤ length xs
     → take (length shown) xs ≡ shown → take n xs ≡ take n shown
-front_is n shown xs within long e =
+prefix_of_shown n shown xs within long e =
     let more = length (drop n shown) in
     let many : n + more ≡ length shown = omega (arith, within, length-drop n shown) in
     let all : take n xs ++ take more (drop n xs) ≡ shown = sym (take-add n more xs)
@@ -209,8 +209,8 @@ stand_in exact taken shown xs s same = (
 in_run : (exact : Bool) (size : ℕ) (shown xs ys : List ℕ) → IsPrefix 1 shown xs
     → ys ≡ drop size xs → RefusedMemory (exact ≡ true) size shown → InParts exact 1 xs ys
 in_run exact size shown xs ys p after r =
-    by_place (stand_in exact r.taken shown xs r.stand (front_is r.taken shown xs r.stand.within
-    p.within p.begins)) r.at
+    by_place (stand_in exact r.taken shown xs r.stand (prefix_of_shown r.taken shown xs
+    r.stand.within p.within p.begins)) r.at
   where
     by_place : Values exact (length r.values) xs (drop r.taken xs)
         → ((1 ≤ length r.values) × (size ≡ r.taken)) ⊎ ((head : ℕ) × (size ≡ r.taken + head)

@@ -17,7 +17,7 @@ const DEFINITE: &[u8] = &[
 ];
 
 /// The same, up to a break.
-pub const OPEN: &[u8] = &[
+pub const INDEFINITE: &[u8] = &[
     0x9f, 1, 2, 3, 4, 5, 6, 7, 8, 9, 10, 11, 12, 13, 14, 15, 16, 17, 18, 19, 20, 21, 22, 23, 0x18,
     24, 0x18, 25, 0xff,
 ];
@@ -42,7 +42,7 @@ const ARRAYS: &[Row<&str>] = table! {
     (b"\x9f", Err(eof!("break", 1)), b""),
     (b"\x9f\x01", Err(eof!("break", 1)), b""),
     (b"\x9f\x01\x61\xff", Err(mismatch!("u8", 0x61)), b"\xff"),
-    (OPEN, Ok(ONE_TO_25), b""),
+    (INDEFINITE, Ok(ONE_TO_25), b""),
 };
 
 #[test]
@@ -180,7 +180,7 @@ fn arrays_of_300_numbers(rt: HostRuntime) -> Result<(), Fail> {
 
 // The same up to a break, with no more steps than are needed.
 #[test]
-fn open_arrays_of_300_numbers(rt: HostRuntime) -> Result<(), Fail> {
+fn indefinite_arrays_of_300_numbers(rt: HostRuntime) -> Result<(), Fail> {
     let mut bytes = [0x05; 302];
     bytes[0] = 0x9f;
     bytes[301] = 0xff;
@@ -193,7 +193,7 @@ fn open_arrays_of_300_numbers(rt: HostRuntime) -> Result<(), Fail> {
 // An indefinite-length array of 20 texts of one letter: 0x61 is the head of such a text, and the
 // letter a.
 #[test]
-fn open_arrays_of_20_texts(rt: HostRuntime) -> Result<(), Fail> {
+fn indefinite_arrays_of_20_texts(rt: HostRuntime) -> Result<(), Fail> {
     let mut bytes = [0x61; 42];
     bytes[0] = 0x9f;
     bytes[41] = 0xff;

@@ -1,9 +1,9 @@
 //! Rows of the heads and ends of arrays and maps: lengths that are read, and items in their parts.
 use crate::in_parts::Part::{
-    Array, ArrayEnd, Bytes, Flag, Map, MapEnd, Number, OpenArray, OpenMap, Text,
+    Array, ArrayEnd, Bytes, Flag, IndefiniteArray, IndefiniteMap, Map, MapEnd, Number, Text,
 };
 use crate::in_parts::{Part, Parts, writes_rows_in_pushes};
-use crate::sequences::array::OPEN;
+use crate::sequences::array::INDEFINITE;
 use cbor4ii_items::decode::Decode;
 use cbor4ii_items::indefinite::is_break;
 use cbor4ii_items::types;
@@ -87,16 +87,16 @@ impl ReadFrom for ArrayOfSix {
 
 // The length of a map of six numbers, these, and whether a break follows them.
 #[derive(Debug, PartialEq, Drop)]
-struct OpenMapOfSix(Option<usize>, [u64; 6], bool);
+struct IndefiniteMapOfSix(Option<usize>, [u64; 6], bool);
 
-impl ReadFrom for OpenMapOfSix {
+impl ReadFrom for IndefiniteMapOfSix {
     fn read_from<S: Source>(
         alloc: Global,
         reader: &mut S,
-    ) -> Result<OpenMapOfSix, DecodeError<S::Error>> {
+    ) -> Result<IndefiniteMapOfSix, DecodeError<S::Error>> {
         let length = types::Map::len(reader)?;
         let numbers = six(alloc, reader)?;
-        Ok(OpenMapOfSix(length, numbers, is_break(reader)?))
+        Ok(IndefiniteMapOfSix(length, numbers, is_break(reader)?))
     }
 }
 
@@ -112,15 +112,16 @@ const ARRAYS_OF_SIX: &[Row<ArrayOfSix>] = table! {
     (b"\x86\x00\x01\x02\x03\x04\x05", Ok(ArrayOfSix(Some(6), [0, 1, 2, 3, 4, 5])), b""),
 };
 
-const OPEN_MAPS_OF_SIX: &[Row<OpenMapOfSix>] = table! {
-    (b"\xbf\x00\x01\x02\x03\x04\x05\xff", Ok(OpenMapOfSix(None, [0, 1, 2, 3, 4, 5], true)), b""),
+const INDEFINITE_MAPS_OF_SIX: &[Row<IndefiniteMapOfSix>] = table! {
+    (b"\xbf\x00\x01\x02\x03\x04\x05\xff",
+        Ok(IndefiniteMapOfSix(None, [0, 1, 2, 3, 4, 5], true)), b""),
 };
 
 #[test]
 fn lengths_and_items(rt: HostRuntime) -> Result<(), Fail> {
     let alloc = rt.alloc();
     reads_rows(alloc, ARRAYS_OF_SIX)?;
-    reads_rows(alloc, OPEN_MAPS_OF_SIX)
+    reads_rows(alloc, INDEFINITE_MAPS_OF_SIX)
 }
 
 const HEADS_AND_ENDS: &[(Part, &[u8], usize)] = table! {
@@ -128,11 +129,11 @@ const HEADS_AND_ENDS: &[(Part, &[u8], usize)] = table! {
     (Array(23), b"\x97", 1),
     (Array(24), b"\x98\x18", 1),
     (Array(1000), b"\x99\x03\xe8", 1),
-    (OpenArray, b"\x9f", 1),
+    (IndefiniteArray, b"\x9f", 1),
     (ArrayEnd, b"\xff", 1),
     (Map(23), b"\xb7", 1),
     (Map(1000), b"\xb9\x03\xe8", 1),
-    (OpenMap, b"\xbf", 1),
+    (IndefiniteMap, b"\xbf", 1),
     (MapEnd, b"\xff", 1),
 };
 
@@ -145,7 +146,7 @@ fn heads_and_ends(rt: HostRuntime) -> Result<(), Fail> {
 // What each push has of an item in parts: a head, a string's content, or an end.
 const PUSHES: &[(Parts, &[&[u8]])] = table! {
     (Parts(&[Array(1000), Bytes(b"\x01\x02")]), &[b"\x99\x03\xe8", b"\x42", b"\x01\x02"]),
-    (Parts(&[OpenMap, Number(-100), Flag(true), MapEnd]),
+    (Parts(&[IndefiniteMap, Number(-100), Flag(true), MapEnd]),
         &[b"\xbf", b"\x38\x63", b"\xf5", b"\xff"]),
 };
 
@@ -155,8 +156,8 @@ fn pushes_of_parts(rt: HostRuntime) -> Result<(), Fail> {
 }
 
 // 1 to 25 up to a break.
-const OPEN_1_TO_25: &[Part] = table! {
-    OpenArray, Number(1), Number(2), Number(3), Number(4), Number(5), Number(6), Number(7),
+const INDEFINITE_1_TO_25: &[Part] = table! {
+    IndefiniteArray, Number(1), Number(2), Number(3), Number(4), Number(5), Number(6), Number(7),
     Number(8), Number(9), Number(10), Number(11), Number(12), Number(13), Number(14),
     Number(15), Number(16), Number(17), Number(18), Number(19), Number(20), Number(21),
     Number(22), Number(23), Number(24), Number(25), ArrayEnd,
@@ -169,35 +170,35 @@ const IN_PARTS: &[(Parts, &[u8], usize)] = table! {
     // {"a": 1, "b": [2, 3]}
     (Parts(&[Map(2), Text("a"), Number(1), Text("b"), Array(2), Number(2), Number(3)]),
         b"\xa2\x61a\x01\x61b\x82\x02\x03", 9),
-    (Parts(&[OpenArray, ArrayEnd]), b"\x9f\xff", 2),
-    (Parts(&[OpenArray, Flag(true), Flag(false), ArrayEnd]), b"\x9f\xf5\xf4\xff", 4),
+    (Parts(&[IndefiniteArray, ArrayEnd]), b"\x9f\xff", 2),
+    (Parts(&[IndefiniteArray, Flag(true), Flag(false), ArrayEnd]), b"\x9f\xf5\xf4\xff", 4),
     // {_ "a": 1, "b": [_ 2, 3]}
-    (Parts(&[OpenMap, Text("a"), Number(1), Text("b"), OpenArray, Number(2), Number(3), ArrayEnd,
-        MapEnd]), b"\xbf\x61a\x01\x61b\x9f\x02\x03\xff\xff", 11),
+    (Parts(&[IndefiniteMap, Text("a"), Number(1), Text("b"), IndefiniteArray, Number(2), Number(3),
+        ArrayEnd, MapEnd]), b"\xbf\x61a\x01\x61b\x9f\x02\x03\xff\xff", 11),
     // ["a", {_ "b": "c"}]
-    (Parts(&[Array(2), Text("a"), OpenMap, Text("b"), Text("c"), MapEnd]),
+    (Parts(&[Array(2), Text("a"), IndefiniteMap, Text("b"), Text("c"), MapEnd]),
         b"\x82\x61a\xbf\x61b\x61c\xff", 9),
     // {_ "Fun": true, "Amt": -2}
-    (Parts(&[OpenMap, Text("Fun"), Flag(true), Text("Amt"), Number(-2), MapEnd]),
+    (Parts(&[IndefiniteMap, Text("Fun"), Flag(true), Text("Amt"), Number(-2), MapEnd]),
         b"\xbf\x63Fun\xf5\x63Amt\x21\xff", 8),
-    (Parts(OPEN_1_TO_25), OPEN, 27),
+    (Parts(INDEFINITE_1_TO_25), INDEFINITE, 27),
 };
 
 // [1, [2, 3], [4, 5]], with one or two of the arrays of indefinite length.
-const NESTED_OPEN_ARRAYS: &[(Parts, &[u8], usize)] = table! {
-    (Parts(&[OpenArray, Number(1), Array(2), Number(2), Number(3), OpenArray, Number(4), Number(5),
-        ArrayEnd, ArrayEnd]), b"\x9f\x01\x82\x02\x03\x9f\x04\x05\xff\xff", 10),
-    (Parts(&[OpenArray, Number(1), Array(2), Number(2), Number(3), Array(2), Number(4), Number(5),
-        ArrayEnd]), b"\x9f\x01\x82\x02\x03\x82\x04\x05\xff", 9),
-    (Parts(&[Array(3), Number(1), Array(2), Number(2), Number(3), OpenArray, Number(4), Number(5),
-        ArrayEnd]), b"\x83\x01\x82\x02\x03\x9f\x04\x05\xff", 9),
-    (Parts(&[Array(3), Number(1), OpenArray, Number(2), Number(3), ArrayEnd, Array(2), Number(4),
-        Number(5)]), b"\x83\x01\x9f\x02\x03\xff\x82\x04\x05", 9),
+const NESTED_INDEFINITE_ARRAYS: &[(Parts, &[u8], usize)] = table! {
+    (Parts(&[IndefiniteArray, Number(1), Array(2), Number(2), Number(3), IndefiniteArray, Number(4),
+        Number(5), ArrayEnd, ArrayEnd]), b"\x9f\x01\x82\x02\x03\x9f\x04\x05\xff\xff", 10),
+    (Parts(&[IndefiniteArray, Number(1), Array(2), Number(2), Number(3), Array(2), Number(4),
+        Number(5), ArrayEnd]), b"\x9f\x01\x82\x02\x03\x82\x04\x05\xff", 9),
+    (Parts(&[Array(3), Number(1), Array(2), Number(2), Number(3), IndefiniteArray, Number(4),
+        Number(5), ArrayEnd]), b"\x83\x01\x82\x02\x03\x9f\x04\x05\xff", 9),
+    (Parts(&[Array(3), Number(1), IndefiniteArray, Number(2), Number(3), ArrayEnd, Array(2),
+        Number(4), Number(5)]), b"\x83\x01\x9f\x02\x03\xff\x82\x04\x05", 9),
 };
 
 #[test]
 fn items_in_parts(rt: HostRuntime) -> Result<(), Fail> {
     let alloc = rt.alloc();
     writes_rows(alloc, IN_PARTS)?;
-    writes_rows(alloc, NESTED_OPEN_ARRAYS)
+    writes_rows(alloc, NESTED_INDEFINITE_ARRAYS)
 }

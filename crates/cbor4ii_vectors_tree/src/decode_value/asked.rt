@@ -194,7 +194,7 @@ const ENDS: &[&[u8]] = table! {
 };
 
 // The same, of what has no canonical encoding.
-const OPEN_ENDS: &[&[u8]] = table! {
+const INDEFINITE_ENDS: &[&[u8]] = table! {
     b"\x9f",
     b"\x9f\x00",
     b"\xbf",
@@ -225,7 +225,7 @@ fn ends<T: ReadFrom + Drop>(alloc: Global, reader: Asked<'_>, bytes: &[u8]) -> R
 fn the_end_is_looked_at_once(rt: HostRuntime) -> Result<(), Fail> {
     let alloc = rt.alloc();
     ends_once::<Item<Value>>(alloc, ENDS)?;
-    ends_once::<Item<Value>>(alloc, OPEN_ENDS)?;
+    ends_once::<Item<Value>>(alloc, INDEFINITE_ENDS)?;
     ends_once::<Item<Canonical>>(alloc, ENDS)
 }
 

@@ -208,7 +208,7 @@ type RejectedWithin = (
 );
 
 // An indefinite-length byte string in another.
-const OPEN_IN_OPEN: &[u8] = b"\x5f\x5f\x00\xff\xff";
+const INDEFINITE_IN_INDEFINITE: &[u8] = b"\x5f\x5f\x00\xff\xff";
 
 // The head of an array of one item, in nine bytes.
 const LONG_HEAD: &[u8] = b"\x9b\x00\x00\x00\x00\x00\x00\x00\x01";
@@ -227,7 +227,8 @@ const LEAVES_WITHIN: &[RejectedWithin] = table! {
     (b"\x5f\x41\x01\xff", 1, no_step!("bytes"), b"\x41\x01\xff", NO_STEP, b"\x41\x01\xff"),
     (b"\x5f\x5c", 2, mismatch!("bytes", 0x5c), b"", mismatch!("ignored-any", 0x5c), b""),
     (b"\x5f\x5f\xff", 1, no_step!("bytes"), b"\x5f\xff", NO_STEP, b"\x5f\xff"),
-    (OPEN_IN_OPEN, 2, require_length!("bytes"), b"\x00\xff\xff", NO_STEP, b"\x00\xff\xff"),
+    (INDEFINITE_IN_INDEFINITE, 2, require_length!("bytes"), b"\x00\xff\xff", NO_STEP,
+        b"\x00\xff\xff"),
     (b"\x5f\x78", 2, mismatch!("bytes", 0x78), b"", eof!("ignored-any", 1), b""),
     (b"\x5f\xff", 0, no_step!("value"), b"\x5f\xff", NO_STEP, b"\x5f\xff"),
     (b"\x7f\x61\x61\xff", 1, no_step!("str"), b"\x61\x61\xff", NO_STEP, b"\x61\x61\xff"),

@@ -1,0 +1,101 @@
+//! One item of a slice, read in the ways that are for a slice alone: as the whole input, and as
+//! bytes that are kept where they stand.
+use crate::exact::{Alone, reported};
+use crate::typed::as_core;
+use cbor4ii::serde::{Deserialize, Deserializer, from_slice_whole};
+use cbor4ii_items::decode::Decode;
+use cbor4ii_items::whole::decode_whole;
+use cbor4ii_rw::error::{DecodeError, Never, WholeError};
+use cbor4ii_rw::slice_reader::SliceReader;
+use cbor4ii_tree::{PlainRawValue, RawValue, Value};
+use cbor4ii_vectors::table;
+use std::alloc::Global;
+
+/// What an item of a slice is read as.
+#[derive(Clone, Copy)]
+enum Way {
+    Whole,
+    TypedWhole,
+    Plain,
+    PlainDecoded,
+    PlainTyped,
+    RawToValue,
+}
+
+const WAYS: &[(&[u8], Way)] = table! {
+    (b"whole of a slice:", Way::Whole),
+    (b"typed whole of a slice:", Way::TypedWhole),
+    (b"plain of a slice:", Way::Plain),
+    (b"plain decoded of a slice:", Way::PlainDecoded),
+    (b"plain typed of a slice:", Way::PlainTyped),
+    (b"raw to value of a slice:", Way::RawToValue),
+};
+
+/// Reads the item that follows these words, if it is to be read in one of these ways.
+pub fn read_of_slice(alloc: Global, input: &[u8]) -> Option<Alone> {
+    for &(words, way) in WAYS {
+        if let Some(item) = input.strip_prefix(words) {
+            return Some(read(alloc, way, item));
+        }
+    }
+    None
+}
+
+fn read(alloc: Global, way: Way, item: &[u8]) -> Alone {
+    match way {
+        Way::Whole => whole(decode_whole::<&[u8], Value>(alloc, item)),
+        Way::TypedWhole => typed_whole(alloc, item),
+        Way::Plain => whole(PlainRawValue::new(alloc, item)),
+        Way::PlainDecoded => plain_decoded(alloc, item),
+        Way::PlainTyped => plain_typed(alloc, item),
+        Way::RawToValue => raw_to_value(alloc, item),
+    }
+}
+
+// All of the bytes are to be one item, so that none are left where it is accepted.
+fn whole<T: Drop>(got: Result<T, WholeError<DecodeError<Never>>>) -> Alone {
+    match got {
+        Ok(_) => reported(&Ok::<(), DecodeError<Never>>(()), 0),
+        Err(WholeError::Decode(error)) => reported(&Err::<(), _>(error), 0),
+        Err(WholeError::Trailing(left)) => reported(&Ok::<(), DecodeError<Never>>(()), left),
+    }
+}
+
+fn typed_whole(alloc: Global, item: &[u8]) -> Alone {
+    match from_slice_whole::<&[u8], Vec<String>>(alloc, item) {
+        Ok(texts) => whole(Ok(texts)),
+        Err(WholeError::Decode(error)) => reported(&as_core(Err::<(), _>(error)), 0),
+        Err(WholeError::Trailing(left)) => whole(Err::<(), _>(WholeError::Trailing(left))),
+    }
+}
+
+fn plain_decoded(alloc: Global, item: &[u8]) -> Alone {
+    let mut reader = SliceReader::new(item);
+    let got = PlainRawValue::decode(alloc, &mut reader);
+    reported(&got, reader.remaining().len())
+}
+
+fn plain_typed(alloc: Global, item: &[u8]) -> Alone {
+    let mut de = Deserializer::new(SliceReader::new(item));
+    let got = as_core(PlainRawValue::deserialize(alloc, &mut de));
+    reported(&got, de.into_inner().remaining().len())
+}
+
+// The item is taken as it stands, and is then read as a value.
+fn raw_to_value(alloc: Global, item: &[u8]) -> Alone {
+    let mut reader = SliceReader::new(item);
+    let got = value_of_raw(alloc, &mut reader);
+    reported(&got, reader.remaining().len())
+}
+
+fn value_of_raw(alloc: Global, reader: &mut SliceReader<'_>) -> Result<Value, DecodeError<Never>> {
+    let raw = RawValue::decode(alloc, reader)?;
+    match raw.to_value(alloc) {
+        Ok(value) => Ok(value),
+        Err(WholeError::Decode(error)) => Err(error),
+        Err(WholeError::Trailing(_)) => Err(DecodeError::Custom {
+            name: "bytes follow the item",
+            num: 0,
+        }),
+    }
+}
