@@ -61,7 +61,8 @@ impl<R: BufRead> IoReader<R> {
             ≡ R.Read.remaining inner }
         ensures taken { (stream_view R.Read.remaining R.consumable_len result).taken ≡ Some 0 }
         ensures failures { (stream_view R.Read.remaining R.consumable_len result).failures ≡ 0 }
-        ensures budget { (stream_view R.Read.remaining R.consumable_len result).budget ≡ Some NESTING_LIMIT }
+        ensures budget { (stream_view R.Read.remaining R.consumable_len result).budget
+            ≡ Some NESTING_LIMIT }
     {
         IoReader::with_limit(inner, NESTING_LIMIT)
     }
