@@ -6,7 +6,7 @@ ghost use Rattle.cbor4ii_tree.specs.Ahead.{leaf_bytes, in_map, Allows, IsIndefin
 ghost use Rattle.cbor4ii_tree.specs.Ahead.{BeginsWithBreak, Sees};
 ghost use Rattle.cbor4ii_tree.specs.Runs.{IsLeafAt, BeginsRun};
 
-use crate::skip::{After, Start, members_of, start_of};
+use crate::skip::{Additional, After, Start, members_of, parse_info, start_of};
 use cbor4ii_items::initial::argument;
 use cbor4ii_items::marker;
 
@@ -217,5 +217,31 @@ fn indefinite_head_of(first: u8) -> Ahead
         Start::Indefinite => Ahead::Head(1, After::Indefinite),
         Start::IndefiniteMembers => Ahead::Head(1, After::IndefiniteMembers),
         _ => Ahead::Unseen,
+    }
+}
+
+/// How many bytes a head has that is skipped and comes first, with a number's or a float's; 1 where
+/// there is none.
+#[inline(always)]
+pub(crate) fn head_size(shown: &[u8]) -> usize
+    ensures { 1 ≤ result }
+{
+    let [first, ..] = shown else {
+        return 1;
+    };
+    match start_of(*first) {
+        Start::Bytes(count) => 1 + count as usize,
+        Start::Content | Start::Items | Start::Members | Start::Tag => 1 + argument_size(*first),
+        _ => 1,
+    }
+}
+
+/// In how many bytes the argument follows a first byte, where one follows.
+fn argument_size(first: u8) -> usize
+    ensures { result ≤ 8 }
+{
+    match parse_info(first % 32) {
+        Additional::Wide(count) => count as usize,
+        _ => 0,
     }
 }

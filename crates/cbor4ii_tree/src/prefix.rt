@@ -9,11 +9,11 @@ ghost use Rattle.cbor4ii_tree.specs.Prefix.{lent_view, Offers, Ready};
 ghost use Rattle.cbor4ii_tree.specs.Ahead.{Sees};
 ghost use Rattle.std.proofs.Common.{refl, rules};
 
-use crate::ahead::{Ahead, Among, ahead_of};
-use cbor4ii_rw::ask::look;
+use crate::ahead::{Ahead, Among, ahead_of, head_size};
+use cbor4ii_rw::ask::{at_most, look};
 use cbor4ii_rw::read::Source;
 
-/// So many bytes are asked for in a look that decides what comes next.
+/// So many bytes at most are asked for in a look that decides what comes next.
 const WINDOW: usize = 256;
 
 /// Bytes that are looked at before they are taken, under the steps of a reader.
@@ -35,7 +35,7 @@ pub(crate) trait Prefix<S: Source>: Sized {
 
     /// What comes next, decided by one look at the beginning.
     fn ahead(&mut self, reader: &mut S, among: Among) -> Result<Ahead, S::Error>
-        ensures offers { IfOk result (λ seen. Offers 256 (Sees among seen)
+        ensures offers { IfOk result (λ seen. Offers 1 (Sees among seen)
             (view self.old reader.old) (view self.new reader.new)) }
         ensures breaks { OnErr result
             (ReaderFails (view self.old reader.old) (view self.new reader.new)) }
@@ -76,10 +76,11 @@ impl<S: Source> Prefix<S> for Own {
 
     #[inline(always)]
     fn ahead(&mut self, reader: &mut S, among: Among) -> Result<Ahead, S::Error> {
-        let mut failure = None;
-        match look(reader, WINDOW, &mut failure) {
-            Some(shown) => Ok(ahead_of(shown, among)),
-            None => Err(failure.unwrap()),
+        let want = at_most(reader, WINDOW);
+        match see(reader, among, want) {
+            Ok((Ahead::Unseen, size)) if want < size => see_longer(reader, among, size),
+            Ok((seen, _)) => Ok(seen),
+            Err(error) => Err(error),
         }
     }
 
@@ -91,6 +92,37 @@ impl<S: Source> Prefix<S> for Own {
     ghost same_budget = { λ own reader. refl };
 
     ghost moved = { λ own old new kept. kept };
+}
+
+/// What `want` bytes of the reader begin with, and how many the head has that comes first.
+#[inline(always)]
+fn see<S: Source>(reader: &mut S, among: Among, want: usize) -> Result<(Ahead, usize), S::Error>
+    requires { 1 ≤ want }
+    ensures offers { IfOk result (λ seen. Offers 1 (Sees among seen.0)
+        (S.view reader.old) (S.view reader.new)) }
+    ensures breaks { OnErr result (ReaderFails (S.view reader.old) (S.view reader.new)) }
+    ensures some { IfOk result (λ seen. 1 ≤ seen.1) }
+{
+    let mut failure = None;
+    match look(reader, want, &mut failure) {
+        Some(shown) => Ok((ahead_of(shown, among), head_size(shown))),
+        None => Err(failure.unwrap()),
+    }
+}
+
+/// The same of so many bytes, where fewer were asked for.
+#[cold]
+#[inline(never)]
+fn see_longer<S: Source>(reader: &mut S, among: Among, want: usize) -> Result<Ahead, S::Error>
+    requires { 1 ≤ want }
+    ensures offers { IfOk result (λ seen. Offers 1 (Sees among seen)
+        (S.view reader.old) (S.view reader.new)) }
+    ensures breaks { OnErr result (ReaderFails (S.view reader.old) (S.view reader.new)) }
+{
+    match see(reader, among, want) {
+        Ok((seen, _)) => Ok(seen),
+        Err(error) => Err(error),
+    }
 }
 
 /// Bytes that were lent.

@@ -109,9 +109,9 @@ Took among E t p i a b seen =
 
 module _ (among : Among) (E : Type 0) {t : Bool} {p i a m b : View} (stays : IsTrue t → i ≡ p) where
   pub takes_run : (n size : ℕ) {seen : Ahead} → seen ≡ Run n size
-      → Offers 256 (Sees among seen) a m → Advances size m b → Took among E t p i a b (Run n size)
+      → Offers 1 (Sees among seen) a m → Advances size m b → Took among E t p i a b (Run n size)
   takes_run n size is h adv =
-      let o = subst (λ s. Offers 256 (Sees among s) a m) is h in
+      let o = subst (λ s. Offers 1 (Sees among s) a m) is h in
       let l = lends_prefix o.shows o.prefix o.is.begins.within o.is.bytes refl adv in
       let run = o.is.begins.run in
       apart_leaf (does_ok _ _ (record {
@@ -134,9 +134,9 @@ module _ (among : Among) (E : Type 0) {t : Bool} {p i a m b : View} (stays : IsT
       ) stays
 
   pub takes_head : (size : ℕ) (trailing : After) {seen : Ahead} → seen ≡ Head size trailing → Offers
-      256 (Sees among seen) a m → Advances size m b → Took among E t p i a b (Head size trailing)
+      1 (Sees among seen) a m → Advances size m b → Took among E t p i a b (Head size trailing)
   takes_head size trailing is h adv =
-      let o = subst (λ s. Offers 256 (Sees among s) a m) is h in
+      let o = subst (λ s. Offers 1 (Sees among s) a m) is h in
       let l = lends_prefix o.shows o.prefix o.is.within o.is.bytes refl adv in
       apart_leaf (does_ok _ _ (record {
         kept = l.kept;
@@ -154,10 +154,10 @@ module _ (among : Among) (E : Type 0) {t : Bool} {p i a m b : View} (stays : IsT
             );
       })) tt (omega (arith, o.is.some, adv.bound, o.shows.bound)) stays
 
-  pub takes_break : {seen : Ahead} → seen ≡ Break → Offers 256 (Sees among seen) a m
+  pub takes_break : {seen : Ahead} → seen ≡ Break → Offers 1 (Sees among seen) a m
       → Advances 1 m b → Took among E t p i a b Break
   takes_break is h adv =
-      let o = subst (λ s. Offers 256 (Sees among s) a m) is h in
+      let o = subst (λ s. Offers 1 (Sees among s) a m) is h in
       apart_leaf (does_ok _ _ (byte_taken (record {
         shown = o.shown;
         shows = o.shows;
