@@ -253,11 +253,15 @@ pub(crate) fn take_struct<S: Source, V: Values<S> + Drop, P: Presences<V>>(
 /// They are described at `deserialize_fields`, which alone answers one for a field that is missing.
 /// What was read before is let go then, and what follows it is left.
 impl<S: Source> Deserializer<S> {
-    /// A struct of any number of fields, which have these names. `presences` says of each whether
-    /// it has to be there, what stands in its place else, and whether it may come once alone.
-    /// `missing` has the words of each, in the order of the names, with which a struct is rejected
-    /// that lacks it, or in which it comes again. The struct is made of the values, nested pairs in
-    /// the order of the names.
+    /// A struct of fields that have these names. `presences` says of each whether it has to be
+    /// there, what stands in its place else, and whether it may come once alone. `missing` has the
+    /// words of each, in the order of the names, with which a struct is rejected that lacks it, or
+    /// in which it comes again. The struct is made of the values, nested pairs in the order of the
+    /// names.
+    ///
+    /// How many fields compile goes by their types: up to 21 of `Option<u8>`, and up to 14 of
+    /// `Vec<(u8, Option<String>)>`. Of more the compiler says `overflowing-bound`, and the struct
+    /// is read part by part.
     ///
     /// # Errors
     ///
