@@ -220,18 +220,13 @@ fn indefinite_head_of(first: u8) -> Ahead
     }
 }
 
-/// How many bytes a head has that is skipped and comes first, with a number's or a float's; 1 where
-/// there is none.
-#[inline(always)]
-pub(crate) fn head_size(shown: &[u8]) -> usize
+/// How many bytes a head has that begins with this byte, with a number's or a float's.
+pub(crate) fn head_size(first: u8) -> usize
     ensures { 1 ≤ result }
 {
-    let [first, ..] = shown else {
-        return 1;
-    };
-    match start_of(*first) {
+    match start_of(first) {
         Start::Bytes(count) => 1 + count as usize,
-        Start::Content | Start::Items | Start::Members | Start::Tag => 1 + argument_size(*first),
+        Start::Content | Start::Items | Start::Members | Start::Tag => 1 + argument_size(first),
         _ => 1,
     }
 }

@@ -78,7 +78,9 @@ impl<S: Source> Prefix<S> for Own {
     fn ahead(&mut self, reader: &mut S, among: Among) -> Result<Ahead, S::Error> {
         let want = at_most(reader, WINDOW);
         match see(reader, among, want) {
-            Ok((Ahead::Unseen, size)) if want < size => see_longer(reader, among, size),
+            Ok((Ahead::Unseen, first)) if want < WINDOW && want < head_size(first) => {
+                see_longer(reader, among, first)
+            }
             Ok((seen, _)) => Ok(seen),
             Err(error) => Err(error),
         }
@@ -94,32 +96,30 @@ impl<S: Source> Prefix<S> for Own {
     ghost moved = { λ own old new kept. kept };
 }
 
-/// What `want` bytes of the reader begin with, and how many the head has that comes first.
+/// What `want` bytes of the reader begin with, and the first of them.
 #[inline(always)]
-fn see<S: Source>(reader: &mut S, among: Among, want: usize) -> Result<(Ahead, usize), S::Error>
+fn see<S: Source>(reader: &mut S, among: Among, want: usize) -> Result<(Ahead, u8), S::Error>
     requires { 1 ≤ want }
     ensures offers { IfOk result (λ seen. Offers 1 (Sees among seen.0)
         (S.view reader.old) (S.view reader.new)) }
     ensures breaks { OnErr result (ReaderFails (S.view reader.old) (S.view reader.new)) }
-    ensures some { IfOk result (λ seen. 1 ≤ seen.1) }
 {
     let mut failure = None;
     match look(reader, want, &mut failure) {
-        Some(shown) => Ok((ahead_of(shown, among), head_size(shown))),
+        Some(shown) => Ok((ahead_of(shown, among), shown_bytes(shown, 1).1)),
         None => Err(failure.unwrap()),
     }
 }
 
-/// The same of so many bytes, where fewer were asked for.
+/// The same where fewer bytes were asked for than the head has that begins with this byte.
 #[cold]
 #[inline(never)]
-fn see_longer<S: Source>(reader: &mut S, among: Among, want: usize) -> Result<Ahead, S::Error>
-    requires { 1 ≤ want }
+fn see_longer<S: Source>(reader: &mut S, among: Among, first: u8) -> Result<Ahead, S::Error>
     ensures offers { IfOk result (λ seen. Offers 1 (Sees among seen)
         (S.view reader.old) (S.view reader.new)) }
     ensures breaks { OnErr result (ReaderFails (S.view reader.old) (S.view reader.new)) }
 {
-    match see(reader, among, want) {
+    match see(reader, among, head_size(first)) {
         Ok((seen, _)) => Ok(seen),
         Err(error) => Err(error),
     }
