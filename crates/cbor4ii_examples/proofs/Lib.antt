@@ -7,3 +7,5 @@ pub mod Sealed
 -- Where the reading of settings stops, and what a store rejects.
 pub mod Rejection
 pub mod Stored
+-- What a reader over a line shows.
+pub mod LineShown

@@ -11,3 +11,5 @@ pub mod Envelope
 -- At which byte settings are rejected, and when a store rejects bytes.
 pub mod Settings
 pub mod Store
+-- What a reader over a line reports.
+pub mod Line

@@ -15,6 +15,7 @@
 //! | `reply` | a struct of which a field is left out where it is none |
 //! | `settings` | a struct of eight fields with defaults, and at which byte its reading fails |
 //! | `log` | a log of events, out of parts that are cut anywhere or out of a stream |
+//! | `line` | requests and answers over a line, whose reader waits for no byte too many |
 //! | `meters` | a newtype, read and written as what it holds |
 //! | `nest` | a type that holds values of its own kind |
 //! | `tree` | a struct that holds values of its own kind, written in one call and read as a value |
@@ -34,6 +35,7 @@ pub mod event;
 #[cfg(test)]
 mod failures;
 pub mod label;
+pub mod line;
 pub mod log;
 pub mod meters;
 pub mod nest;

@@ -1,0 +1,74 @@
+-- What `show` of a reader over a line answers, after it waited and lent what has come.
+use Rattle.std.proofs.Common.{◌≡◌, ℕ, ◌≤◌, List, sym, subst, rules, arith, length-take}
+use Rattle.std.specs.Prelude.{Option, Some, None, Result, Ok, Err, IfOk, length, IsTrue}
+use Rattle.std.specs.Prelude.{MatchOption, MatchResult}
+use Rattle.std.specs.Borrow.{Bor}
+use Rattle.cbor4ii_rw.specs.View.{IfKnown}
+use Rattle.cbor4ii_rw.specs.Reader.{IsPrefix, IsEnough, Shows, ReaderFails}
+use Rattle.cbor4ii_examples.specs.Line.{line_view, ready_bytes}
+use Rattle.cbor4ii_examples.specs.declared.line.Waiting.{Waiting}
+
+module _ {L E : Type 0} (want : ℕ) (before : Waiting L) where
+  abbrev pub Prefix : Result (Bor (List ℕ)) E → Type 0
+  Prefix r = IfOk r (λ shown. IfKnown (line_view before).known (IsPrefix want shown.now))
+
+  abbrev pub Bounded : Result (Bor (List ℕ)) E → Type 0
+  Bounded r = IfOk r (λ shown. length shown.now ≤ (line_view before).bound)
+
+  abbrev pub Whole : Result (Bor (List ℕ)) E → Type 0
+  Whole r = IsTrue (line_view before).zero_copy
+      → IfOk r (λ shown. IfKnown (line_view before).known (IsEnough want shown.now))
+
+  abbrev pub Left : Waiting L → Result (Bor (List ℕ)) E → Type 0
+  Left after r = MatchResult r (λ shown. Shows shown.now (line_view before) (line_view after))
+      (λ _. ReaderFails (line_view before) (line_view after))
+
+  -- what waiting for bytes leaves
+  abbrev pub Waits : Waiting L → Option E → Type 0
+  Waits waited failure = MatchOption failure
+      (Shows (ready_bytes waited.ready) (line_view before) (line_view waited))
+      (λ _. ReaderFails (line_view before) (line_view waited))
+
+-- a failure, or else the bytes
+abbrev pub HandsOn : {E : Type 0} → Option E → Bor (List ℕ) → Result (Bor (List ℕ)) E → Type 0
+HandsOn failure bytes r = MatchOption failure (r ≡ Ok bytes) (λ error. r ≡ Err error)
+
+pub record Answers {L E : Type 0} (want : ℕ) (before after : Waiting L)
+    (r : Result (Bor (List ℕ)) E) : Type 0 where
+  pub prefix : Prefix want before r
+  pub bounded : Bounded want before r
+  pub whole : Whole want before r
+  pub left : Left want before after r
+
+-- no byte is reported
+known_of_none : {xs : List ℕ} {P : Type 0} → None ≡ Some xs → P
+known_of_none is = absurd (search (is, rules))
+
+-- no more bytes are shown than can still come
+fit : {L : Type 0} (want : ℕ) (before waited : Waiting L) (bytes : Bor (List ℕ))
+    → Shows (ready_bytes waited.ready) (line_view before) (line_view waited)
+    → bytes.now ≡ ready_bytes waited.ready → length bytes.now ≤ (line_view before).bound
+fit want before waited bytes shows ready =
+    let same : waited.ready.taken ≡ before.ready.taken = search (shows.taken, rules) in
+    let short : length bytes.now ≤ waited.ready.count =
+    rw ready (omega (arith, length-take waited.ready.count waited.ready.room.items)) in
+    omega (arith, same, short, waited.ready.fits)
+
+pub answered : {L E : Type 0} (want : ℕ) (before waited after : Waiting L) (failure : Option E)
+    (bytes : Bor (List ℕ)) (r : Result (Bor (List ℕ)) E) → Waits want before waited failure
+    → bytes.now ≡ ready_bytes waited.ready → line_view after ≡ line_view waited
+    → HandsOn failure bytes r → Answers want before after r
+answered want before waited after None bytes r waits ready kept told =
+    subst (Answers want before after) (sym told) (record {
+      prefix = λ xs is. known_of_none is;
+      bounded = fit want before waited bytes waits ready;
+      whole = λ zero_copy xs is. known_of_none is;
+      left = rw (ready, kept) waits;
+    })
+answered want before waited after (Some error) bytes r waits ready kept told =
+    subst (Answers want before after) (sym told) (record {
+      prefix = tt;
+      bounded = tt;
+      whole = λ zero_copy. tt;
+      left = rw kept waits;
+    })
