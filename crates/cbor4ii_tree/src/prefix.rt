@@ -77,13 +77,10 @@ impl<S: Source> Prefix<S> for Own {
     #[inline(always)]
     fn ahead(&mut self, reader: &mut S, among: Among) -> Result<Ahead, S::Error> {
         let want = at_most(reader, WINDOW);
-        match see(reader, among, want) {
-            Ok((Ahead::Unseen, first)) if want < WINDOW && want < head_size(first) => {
-                see_longer(reader, among, first)
-            }
-            Ok((seen, _)) => Ok(seen),
-            Err(error) => Err(error),
+        if want < WINDOW {
+            return see_narrowly(reader, among, want);
         }
+        see(reader, among, WINDOW)
     }
 
     #[inline(always)]
@@ -96,32 +93,53 @@ impl<S: Source> Prefix<S> for Own {
     ghost moved = { λ own old new kept. kept };
 }
 
-/// What `want` bytes of the reader begin with, and the first of them.
+/// What `want` bytes of the reader begin with.
 #[inline(always)]
-fn see<S: Source>(reader: &mut S, among: Among, want: usize) -> Result<(Ahead, u8), S::Error>
+fn see<S: Source>(reader: &mut S, among: Among, want: usize) -> Result<Ahead, S::Error>
     requires { 1 ≤ want }
-    ensures offers { IfOk result (λ seen. Offers 1 (Sees among seen.0)
+    ensures offers { IfOk result (λ seen. Offers 1 (Sees among seen)
         (S.view reader.old) (S.view reader.new)) }
     ensures breaks { OnErr result (ReaderFails (S.view reader.old) (S.view reader.new)) }
 {
     let mut failure = None;
     match look(reader, want, &mut failure) {
-        Some(shown) => Ok((ahead_of(shown, among), shown_bytes(shown, 1).1)),
+        Some(shown) => Ok(ahead_of(shown, among)),
         None => Err(failure.unwrap()),
     }
 }
 
-/// The same where fewer bytes were asked for than the head has that begins with this byte.
+/// The same where a look may ask for no more than `want` bytes, or for all that a head has.
 #[cold]
 #[inline(never)]
-fn see_longer<S: Source>(reader: &mut S, among: Among, first: u8) -> Result<Ahead, S::Error>
+fn see_narrowly<S: Source>(reader: &mut S, among: Among, want: usize) -> Result<Ahead, S::Error>
+    requires { 1 ≤ want }
     ensures offers { IfOk result (λ seen. Offers 1 (Sees among seen)
         (S.view reader.old) (S.view reader.new)) }
     ensures breaks { OnErr result (ReaderFails (S.view reader.old) (S.view reader.new)) }
 {
-    match see(reader, among, head_size(first)) {
+    match see_with_size(reader, among, want) {
+        Ok((Ahead::Unseen, size)) if want < size => see(reader, among, size),
         Ok((seen, _)) => Ok(seen),
         Err(error) => Err(error),
+    }
+}
+
+/// What `want` bytes of the reader begin with, and how many the head has that comes first.
+fn see_with_size<S: Source>(
+    reader: &mut S,
+    among: Among,
+    want: usize,
+) -> Result<(Ahead, usize), S::Error>
+    requires { 1 ≤ want }
+    ensures offers { IfOk result (λ seen. Offers 1 (Sees among seen.0)
+        (S.view reader.old) (S.view reader.new)) }
+    ensures breaks { OnErr result (ReaderFails (S.view reader.old) (S.view reader.new)) }
+    ensures some { IfOk result (λ seen. 1 ≤ seen.1) }
+{
+    let mut failure = None;
+    match look(reader, want, &mut failure) {
+        Some(shown) => Ok((ahead_of(shown, among), head_size(shown_bytes(shown, 1).1))),
+        None => Err(failure.unwrap()),
     }
 }
 

@@ -1,8 +1,7 @@
 -- Calls of prefixes.
 use denote.Ref.{Bor}
 use Rattle.std.proofs.Common.{◌≡◌, ◌≢◌, ℕ, ◌-◌, ◌<◌, ◌≤◌, List, [], ◌∷◌, ◌++◌, length, take, drop}
-use Rattle.std.proofs.Common.{Some, Ok, Err, Result, IfOk, Bool, IsTrue, refl, sym, ap, ◌∙◌, subst}
-use Rattle.std.proofs.Common.{arith}
+use Rattle.std.proofs.Common.{Some, Ok, Err, Bool, IsTrue, refl, sym, ap, ◌∙◌, subst, arith}
 use Rattle.std.proofs.{Common.take-append-drop, lemmas.List.{drop-append-le, length-take-le}}
 use Rattle.cbor4ii_rw.specs.{View.View, Reader.Advances, declared.error.Len.Len}
 use Rattle.cbor4ii_rw.specs.declared.error.Len.TheVariants.{Small, Big}
@@ -48,30 +47,6 @@ module _ {want b : ℕ} {a m : View} (o : Offers want (FirstByteIs b) a m) where
             let f = begins_so b o.shown xs o.is (o.prefix xs known).begins in
             (f.0, (l.at xs known).1 ∙ ap (λ (zs : List ℕ). Some (drop 1 zs)) f.1, f.1);
       }
-
--- ---- two looks, one after the other
-
--- what the second shows is shown from where the first began
-pub offers_again : {V E : Type 0} (P : V → List ℕ → Type 0) {Q : List ℕ → Type 0} {a m : View}
-    (b : View) → Offers 1 Q a m → (r : Result V E) → IfOk r (λ v. Offers 1 (P v) m b)
-    → IfOk r (λ v. Offers 1 (P v) a b)
-offers_again P b o (Err e) h = tt
-offers_again P b o (Ok v) h = record {
-  shown = h.shown;
-  shows = record {
-    known = λ xs k. h.shows.known xs (o.shows.known xs k);
-    bound = omega (arith, o.shows.bound, h.shows.bound);
-    advanceable = h.shows.advanceable;
-    budget = h.shows.budget ∙ o.shows.budget;
-    failures = h.shows.failures ∙ o.shows.failures;
-    taken = h.shows.taken ∙ o.shows.taken;
-    zero_copy = λ is. h.shows.zero_copy (o.shows.zero_copy is);
-    remembers = λ is. h.shows.remembers (o.shows.remembers is);
-    ends_at = h.shows.ends_at ∙ o.shows.ends_at;
-  };
-  prefix = λ xs k. h.prefix xs (o.shows.known xs k);
-  is = h.is;
-}
 
 -- ---- bytes
 
