@@ -299,7 +299,7 @@ text_taken alloc h = ok name_format h.kept (λ some. h.progress) (record {
 
 -- ---- after a look that took nothing
 
-stays_takes : {names : List (Bor (List ℕ))} {at : ℕ} {a m b : View} → Stays a m
+pub stays_takes : {names : List (Bor (List ℕ))} {at : ℕ} {a m b : View} → Stays a m
     → NameAt names at m b → NameAt names at a b
 stays_takes s h = record {
   name = h.name;
@@ -327,3 +327,9 @@ then_takes names b (Err e) s h =
       s.known xs known,
       record { none = λ is none. none; rejects = λ z ys stop. stop; begins = λ z ys stop. stop },
     )) (λ owned. owned) (λ takes. takes) (of_exact h))
+
+pub stays_stays : {a b c : View} → Stays a b → Stays b c → Stays a c
+stays_stays p q = record {
+  kept = kept_then p.kept q.kept;
+  known = λ xs known. q.known xs (p.known xs known);
+}

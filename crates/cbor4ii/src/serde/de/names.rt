@@ -8,14 +8,17 @@ use crate::serde::de::deserialize::Deserialize;
 use crate::serde::de::deserializer::Deserializer;
 use crate::serde::de::error::DecodeError;
 use cbor4ii_items::major;
-use cbor4ii_rw::ask::look;
+use cbor4ii_rw::ask::{at_most, look};
 use cbor4ii_rw::error::StaticStr;
 use cbor4ii_rw::read::Source;
 use std::alloc::Global;
 use std::str;
 
-/// So many bytes are looked at first. They hold a name of up to 23 bytes with its head.
-const LOOK: usize = 24;
+/// So many bytes at most are looked at first. They hold a name of up to 255 bytes with its head.
+const LOOK: usize = 257;
+
+/// A later look asks for so many at most.
+const AGAIN: usize = 256;
 
 /// The first byte of a text whose length stands in the next byte (RFC 8949 section 3).
 const LONG_NAME: u8 = 0x78;
@@ -25,7 +28,7 @@ const LONG_NAME: u8 = 0x78;
 pub(crate) enum Seen {
     /// All of it: its place among the names, and the number of bytes with its head.
     Whole { at: usize, size: usize },
-    /// Less than these bytes, which it has with its head.
+    /// Less than these bytes, which it has with its head, or which its head has.
     Cut(usize),
     /// No text of at most 255 bytes in one piece.
     Other,
@@ -42,15 +45,18 @@ pub(crate) fn take_name<S: Source>(
     ensures { TakesName names.now (input S.view de.old) (input S.view de.new)
         (answer_of result) }
 {
-    match take_shown_name(de, names, LOOK) {
+    let want = at_most(&de.reader, LOOK);
+    match take_shown_name(de, names, want) {
         Ok(Seen::Whole { at, .. }) => Ok(at),
-        Ok(Seen::Cut(size)) => take_longer_name(alloc, de, names, size),
+        Ok(Seen::Cut(size)) if want < size => take_longer_name(alloc, de, names, size),
+        Ok(Seen::Cut(_)) => take_any_name(alloc, de, names),
         Ok(Seen::Other) => take_any_name(alloc, de, names),
         Err(error) => Err(error),
     }
 }
 
-/// As `take_name`, of a name that stands whole in `size` bytes, which are looked at.
+/// As `take_name`, of a name that has `size` bytes with its head, or more: they are looked at, and
+/// then all that it has.
 #[cold]
 #[inline(never)]
 fn take_longer_name<S: Source>(
@@ -62,12 +68,17 @@ fn take_longer_name<S: Source>(
     ensures { TakesName names.now (input S.view de.old) (input S.view de.new)
         (answer_of result) }
 {
-    match take_shown_name(de, names, size) {
-        Ok(Seen::Whole { at, .. }) => Ok(at),
-        Ok(Seen::Cut(_)) => take_any_name(alloc, de, names),
-        Ok(Seen::Other) => take_any_name(alloc, de, names),
-        Err(error) => Err(error),
+    let mut want = size;
+    while want <= AGAIN {
+        match take_shown_name(de, names, want) {
+            Ok(Seen::Whole { at, .. }) => return Ok(at),
+            Ok(Seen::Cut(size)) if want < size => want = size,
+            Ok(Seen::Cut(_)) => return take_any_name(alloc, de, names),
+            Ok(Seen::Other) => return take_any_name(alloc, de, names),
+            Err(error) => return Err(error),
+        }
     }
+    take_any_name(alloc, de, names)
 }
 
 /// As `take_name`, of a name that is kept for it.
@@ -137,8 +148,11 @@ fn seen_name(shown: &[u8], names: &[StaticStr]) -> Seen
 fn seen_long_name(shown: &[u8], names: &[StaticStr]) -> Seen
     ensures { IfWhole names.now shown.now result }
 {
-    if shown.len() < 2 || shown[0] != LONG_NAME {
+    if shown.len() == 0 || shown[0] != LONG_NAME {
         return Seen::Other;
+    }
+    if shown.len() < 2 {
+        return Seen::Cut(2);
     }
     name_after(shown, 2, shown[1], names)
 }

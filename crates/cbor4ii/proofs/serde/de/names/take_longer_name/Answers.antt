@@ -1,16 +1,33 @@
+use Rattle.std.proofs.Common.{Err}
 use Rattle.cbor4ii.specs.Typed.{answer_of}
-use Rattle.cbor4ii.proofs.Names.{then_takes}
+use Rattle.cbor4ii.proofs.Names.{then_takes, stays_takes, stays_stays}
 use Rattle.cbor4ii.proofs.serde.de.names.take_longer_name.Goals as goal
 
-pub returns-in-Ok-Cut : goal.returns-in-Ok-Cut
-returns-in-Ok-Cut g c =
+pub returns-in-Ok-Whole : goal.returns-in-Ok-Whole
+returns-in-Ok-Whole g c =
+    stays_takes c.loop-want.invariant (rw c.in-Ok-Whole.field-0-is at c.in-Ok-Whole.ensures)
+
+pub returns-in-Ok-Cut-2 : goal.returns-in-Ok-Cut-2
+returns-in-Ok-Cut-2 g c =
     then_takes c.args.names.now _ (answer_of c.take_any_name.result)
-    (rw c.in-Ok-Cut.field-0-is at c.in-Ok-Cut.ensures) c.take_any_name.ensures
+    (stays_stays c.loop-want.invariant (rw c.in-Ok-Cut.field-0-is at c.in-Ok-Cut.ensures))
+    c.take_any_name.ensures
 
 pub returns-in-Ok-Other : goal.returns-in-Ok-Other
 returns-in-Ok-Other g c =
     then_takes c.args.names.now _ (answer_of c.take_any_name-in-Ok-Other.result)
-    (rw c.in-Ok-Other.field-0-is at c.in-Ok-Other.ensures) c.take_any_name-in-Ok-Other.ensures
+    (stays_stays c.loop-want.invariant (rw c.in-Ok-Other.field-0-is at c.in-Ok-Other.ensures))
+    c.take_any_name-in-Ok-Other.ensures
 
 pub returns-in-Err : goal.returns-in-Err
-returns-in-Err g c = c.in-Err.ensures.0
+returns-in-Err g c =
+    then_takes c.args.names.now _ (Err _) c.loop-want.invariant c.in-Err.ensures.0
+
+pub loop-want-preserved : goal.loop-want-preserved
+loop-want-preserved g c =
+    stays_stays c.loop-want.invariant (rw c.in-Ok-Cut.field-0-is at c.in-Ok-Cut.ensures)
+
+pub returns : goal.returns
+returns g c =
+    then_takes c.args.names.now _ (answer_of c.take_any_name-2.result) c.loop-want.invariant
+    c.take_any_name-2.ensures

@@ -8,11 +8,17 @@ returns-in-Ok-Cut g c =
     (rw c.in-Ok-Cut.field-0-is at c.in-Ok-Cut.ensures)
     c.take_longer_name.ensures
 
+pub returns-in-Ok-Cut-2 : goal.returns-in-Ok-Cut-2
+returns-in-Ok-Cut-2 g c =
+    then_takes c.args.names.now _ (answer_of c.take_any_name.result)
+    (rw c.in-Ok-Cut.field-0-is at c.in-Ok-Cut.ensures)
+    c.take_any_name.ensures
+
 pub returns-in-Ok-Other : goal.returns-in-Ok-Other
 returns-in-Ok-Other g c =
-    then_takes c.args.names.now _ (answer_of c.take_any_name.result)
+    then_takes c.args.names.now _ (answer_of c.take_any_name-in-Ok-Other.result)
     (rw c.in-Ok-Other.field-0-is at c.in-Ok-Other.ensures)
-    c.take_any_name.ensures
+    c.take_any_name-in-Ok-Other.ensures
 
 pub returns-in-Err : goal.returns-in-Err
 returns-in-Err g c = c.in-Err.ensures.0
