@@ -9,6 +9,10 @@ use Rattle.cbor4ii_examples.specs.declared.line.Waiting.{Waiting}
 abbrev pub ready_bytes : Ready → List ℕ
 ready_bytes ready = take ready.count ready.room.items
 
+-- the line behind the reader
+abbrev pub line_of : {L : Type 0} → Waiting L → L
+line_of reader = reader.line
+
 -- how many bytes were taken in all
 abbrev pub taken_of : {L : Type 0} → Waiting L → ℕ
 taken_of reader = reader.ready.taken

@@ -4,8 +4,8 @@
 //! All of it is generic over the line, its error, the requests and the answers. Copy this file,
 //! `specs/Line.antt`, `proofs/LineShown.antt` and `proofs/line`, put your crate's name in the place
 //! of this one's, and write an `impl Line`: it is proved for each.
-ghost use Rattle.std.specs.Prelude.{◌≡◌, ◌≤◌, ◌<◌, ◌+◌, None, Some, IfOk, IfErr, IfSome, IfNone};
-ghost use Rattle.std.specs.Prelude.{MatchOption, vec_len};
+ghost use Rattle.std.specs.Prelude.{◌≡◌, ◌↔◌, ◌≤◌, ◌<◌, ◌+◌, ◌-◌, min, None, Some, IsTrue, IfOk};
+ghost use Rattle.std.specs.Prelude.{IfErr, IfSome, IfNone, MatchOption, vec_len};
 ghost use Rattle.std.specs.Borrow.{sem};
 ghost use Rattle.std.specs.Io.BufRead.{Rests};
 ghost use Rattle.std.proofs.Common.{rules};
@@ -59,6 +59,9 @@ impl Ready {
     /// How many bytes are lacking, so that `want` are ready: none where there is no room, or where
     /// as many as can be were taken.
     fn lacking(&self, want: usize) -> usize
+        ensures exact { result ≡ min (min (want - self.now.count)
+            (vec_len self.now.room - self.now.count))
+            (most_bytes - self.now.taken - self.now.count) }
         ensures within { self.now.count + result ≤ vec_len self.now.room }
         ensures fits { self.now.taken + self.now.count + result ≤ most_bytes }
     {
@@ -105,11 +108,12 @@ pub struct Waiting<L> {
 
 impl<L: Line + Drop> Waiting<L> {
     ghost use Rattle.cbor4ii_rw.specs.Reader.{Shows, ReaderFails};
-    ghost use Rattle.cbor4ii_examples.specs.Line.{line_view, ready_bytes, taken_of};
+    ghost use Rattle.cbor4ii_examples.specs.Line.{line_of, line_view, ready_bytes, taken_of};
     ghost use Rattle.cbor4ii_examples.specs.contracts.line.Waiting.{the_row};
 
     /// A reader over `line`, of which nothing was received.
     pub fn new(alloc: Global, line: L) -> Result<Waiting<L>, AllocError>
+        ensures line { IfOk result (λ reader. line_of reader ≡ line) }
         ensures taken { IfOk result (λ reader. taken_of reader ≡ 0) }
         ensures failures { IfOk result (λ reader. (line_view reader).failures ≡ 0) }
         ensures budget { IfOk result (λ reader. (line_view reader).budget ≡ Some NESTING_LIMIT) }
@@ -152,6 +156,8 @@ impl<L: Line + Drop> Waiting<L> {
     ///
     /// The line's own error, which is counted.
     pub fn is_closed(&mut self) -> Result<bool, L::Error>
+        ensures closed { IfOk result
+            (λ closed. IsTrue closed ↔ ((line_view self.new).advanceable ≡ 0)) }
         ensures taken { taken_of self.new ≡ taken_of self.old }
         ensures budget { (line_view self.new).budget ≡ (line_view self.old).budget }
     {
@@ -162,7 +168,9 @@ impl<L: Line + Drop> Waiting<L> {
     }
 
     /// The line.
-    pub fn into_line(self) -> L {
+    pub fn into_line(self) -> L
+        ensures { result ≡ line_of self }
+    {
         let Waiting { line, .. } = self;
         line
     }
