@@ -220,23 +220,12 @@ fn indefinite_head_of(first: u8) -> Ahead
     }
 }
 
-/// How many bytes a head has that begins with this byte, with a number's or a float's.
+/// How many bytes a head has that begins with this byte.
 pub(crate) fn head_size(first: u8) -> usize
     ensures { 1 ≤ result }
 {
-    match start_of(first) {
-        Start::Bytes(count) => 1 + count as usize,
-        Start::Content | Start::Items | Start::Members | Start::Tag => 1 + argument_size(first),
-        _ => 1,
-    }
-}
-
-/// In how many bytes the argument follows a first byte, where one follows.
-fn argument_size(first: u8) -> usize
-    ensures { result ≤ 8 }
-{
     match parse_info(first % 32) {
-        Additional::Wide(count) => count as usize,
-        _ => 0,
+        Additional::Wide(count) => 1 + count as usize,
+        _ => 1,
     }
 }

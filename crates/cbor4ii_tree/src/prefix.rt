@@ -10,7 +10,7 @@ ghost use Rattle.cbor4ii_tree.specs.Ahead.{Sees};
 ghost use Rattle.std.proofs.Common.{refl, rules};
 
 use crate::ahead::{Ahead, Among, ahead_of, head_size};
-use cbor4ii_rw::ask::{at_most, look};
+use cbor4ii_rw::ask::look;
 use cbor4ii_rw::read::Source;
 
 /// So many bytes at most are asked for in a look that decides what comes next.
@@ -76,11 +76,14 @@ impl<S: Source> Prefix<S> for Own {
 
     #[inline(always)]
     fn ahead(&mut self, reader: &mut S, among: Among) -> Result<Ahead, S::Error> {
-        let want = at_most(reader, WINDOW);
-        if want < WINDOW {
-            return see_narrowly(reader, among, want);
+        if reader.window() < WINDOW {
+            return see_narrowly(reader, among);
         }
-        see(reader, among, WINDOW)
+        let mut failure = None;
+        match look(reader, WINDOW, &mut failure) {
+            Some(shown) => Ok(ahead_of(shown, among)),
+            None => Err(failure.unwrap()),
+        }
     }
 
     #[inline(always)]
@@ -93,32 +96,30 @@ impl<S: Source> Prefix<S> for Own {
     ghost moved = { λ own old new kept. kept };
 }
 
+/// What comes next, where a look may ask for fewer bytes: for all that a head has, at least.
+#[cold]
+#[inline(never)]
+fn see_narrowly<S: Source>(reader: &mut S, among: Among) -> Result<Ahead, S::Error>
+    ensures offers { IfOk result (λ seen. Offers 1 (Sees among seen)
+        (S.view reader.old) (S.view reader.new)) }
+    ensures breaks { OnErr result (ReaderFails (S.view reader.old) (S.view reader.new)) }
+{
+    let want = reader.window();
+    match see_with_size(reader, among, want) {
+        Ok((Ahead::Unseen, size)) if want < size => see(reader, among, size),
+        Ok((seen, _)) => Ok(seen),
+        Err(error) => Err(error),
+    }
+}
+
 /// What `want` bytes of the reader begin with.
-#[inline(always)]
 fn see<S: Source>(reader: &mut S, among: Among, want: usize) -> Result<Ahead, S::Error>
     requires { 1 ≤ want }
     ensures offers { IfOk result (λ seen. Offers 1 (Sees among seen)
         (S.view reader.old) (S.view reader.new)) }
     ensures breaks { OnErr result (ReaderFails (S.view reader.old) (S.view reader.new)) }
 {
-    let mut failure = None;
-    match look(reader, want, &mut failure) {
-        Some(shown) => Ok(ahead_of(shown, among)),
-        None => Err(failure.unwrap()),
-    }
-}
-
-/// The same where a look may ask for no more than `want` bytes, or for all that a head has.
-#[cold]
-#[inline(never)]
-fn see_narrowly<S: Source>(reader: &mut S, among: Among, want: usize) -> Result<Ahead, S::Error>
-    requires { 1 ≤ want }
-    ensures offers { IfOk result (λ seen. Offers 1 (Sees among seen)
-        (S.view reader.old) (S.view reader.new)) }
-    ensures breaks { OnErr result (ReaderFails (S.view reader.old) (S.view reader.new)) }
-{
     match see_with_size(reader, among, want) {
-        Ok((Ahead::Unseen, size)) if want < size => see(reader, among, size),
         Ok((seen, _)) => Ok(seen),
         Err(error) => Err(error),
     }

@@ -14,10 +14,11 @@ use cbor4ii_rw::steps::{step_in, step_out};
 #[derive(Clone, Copy, Debug, PartialEq, Eq)]
 pub struct Failure;
 
-/// Shows one byte at a time or all that is left, which outlives the fill or does not, or the one
-/// and the other in turn. It counts steps or lets items nest without a limit, and may fail at one
-/// show, or where nothing is left. It goes on after that, so that a decoder which passes over a
-/// failure is found out, or it has lost what was left.
+/// Shows one byte at a time, what is wanted or all that is left, which outlives the fill or does
+/// not, or a byte and all in turn. It counts steps or lets items nest without a limit, and may fail
+/// at one show, where nothing is left, or where fewer bytes are left than are wanted. It goes on
+/// after that, so that a decoder which passes over a failure is found out, or it has lost what was
+/// left.
 #[derive(Drop)]
 pub struct TestReader<'a> {
     bytes: &'a [u8],
@@ -27,9 +28,13 @@ pub struct TestReader<'a> {
     is_whole: bool,
     is_long: bool,
     takes_turns: bool,
+    // Whether a show that is not of all is of what is wanted, and not of one byte.
+    shows_wanted: bool,
     // How often it shows before it fails.
     shows: usize,
     fails_at_end: bool,
+    // Whether it waits for all that is wanted. Where that never comes it fails.
+    waits: bool,
     failures: u64,
     // Whether a failure loses what is left, and whether one did.
     forgets: bool,
@@ -90,6 +95,19 @@ impl<'a> TestReader<'a> {
         }
     }
 
+    /// A reader with `limit` steps that shows as many bytes as are wanted, which live as long as
+    /// the input.
+    pub fn wanted(bytes: &'a [u8], limit: usize) -> TestReader<'a>
+        ensures known { (test_view result).known ≡ Some bytes.now }
+        ensures budget { (test_view result).budget ≡ Some limit }
+        ensures failures { (test_view result).failures ≡ 0 }
+    {
+        TestReader {
+            shows_wanted: true,
+            ..TestReader::new(bytes, Some(limit), false, true)
+        }
+    }
+
     /// A reader that fails at no show which comes.
     fn new(bytes: &'a [u8], steps: Option<usize>, is_whole: bool, is_long: bool) -> TestReader<'a>
         ensures known { (test_view result).known ≡ Some bytes.now }
@@ -103,8 +121,10 @@ impl<'a> TestReader<'a> {
             is_whole,
             is_long,
             takes_turns: false,
+            shows_wanted: false,
             shows: usize::MAX,
             fails_at_end: false,
+            waits: false,
             failures: 0,
             forgets: false,
             has_forgotten: false,
@@ -124,6 +144,18 @@ impl<'a> TestReader<'a> {
     {
         TestReader {
             fails_at_end: true,
+            ..self
+        }
+    }
+
+    /// The same reader, which waits for all that is wanted before it shows some, and fails where
+    /// fewer bytes are left, since these never come. Where usize's greatest number is wanted, that
+    /// is all that is left.
+    pub fn waiting(self) -> TestReader<'a>
+        ensures { test_view result ≡ test_view self.entry }
+    {
+        TestReader {
+            waits: true,
             ..self
         }
     }
@@ -161,12 +193,18 @@ impl<'a> TestReader<'a> {
         self.steps
     }
 
-    /// Whether this is the show that fails, which is counted then.
-    fn fails(&mut self) -> bool
+    /// Whether it waits for bytes that never come.
+    fn waits_for_ever(&self, want: usize) -> bool {
+        self.waits && want != usize::MAX && want > self.bytes.len()
+    }
+
+    /// Whether this show, of which so many bytes are wanted, fails. It is counted then.
+    fn fails(&mut self, want: usize) -> bool
         ensures kept { result ≡ false → test_view self.new ≡ test_view self.old }
         ensures broken { IsTrue result → ReaderFails (test_view self.old) (test_view self.new) }
     {
-        let is_due = self.shows == 0 || (self.fails_at_end && self.bytes.is_empty());
+        let is_at_end = self.fails_at_end && self.bytes.is_empty();
+        let is_due = self.shows == 0 || is_at_end || self.waits_for_ever(want);
         if is_due && self.failures == 0 {
             self.failures = 1;
             if self.forgets {
@@ -212,15 +250,22 @@ impl<'a> TestReader<'a> {
         is_long
     }
 
-    /// What it shows: all that is left, or one byte of it.
-    fn prefix(&self, is_whole: bool) -> &'a [u8]
+    /// How many bytes it shows where it does not show all: what is wanted, or one.
+    fn part(&self, want: usize) -> usize
+        ensures { 1 ≤ want → 1 ≤ result }
+    {
+        if self.shows_wanted { want } else { 1 }
+    }
+
+    /// What it shows: all that is left, or so many bytes of it.
+    fn prefix(&self, is_whole: bool, part: usize) -> &'a [u8]
         ensures whole { IsTrue is_whole → result.now ≡ self.now.bytes.now }
-        ensures byte { is_whole ≡ false → result.now ≡ take 1 self.now.bytes.now }
+        ensures part { is_whole ≡ false → result.now ≡ take part self.now.bytes.now }
     {
         if is_whole {
             return self.bytes;
         }
-        &self.bytes[..self.bytes.len().min(1)]
+        &self.bytes[..self.bytes.len().min(part)]
     }
 }
 
@@ -248,12 +293,12 @@ impl Source for TestReader<'_> {
 
     ghost view = { test_view };
 
-    fn show(&mut self, _want: usize) -> Result<&[u8], Failure> {
-        if self.fails() {
+    fn show(&mut self, want: usize) -> Result<&[u8], Failure> {
+        if self.fails(want) {
             return Err(Failure);
         }
         let is_whole = self.shows_whole();
-        Ok(self.prefix(is_whole))
+        Ok(self.prefix(is_whole, self.part(want)))
     }
 
     fn advance(&mut self, n: usize) {
@@ -272,15 +317,16 @@ impl Source for TestReader<'_> {
 }
 
 impl<'de> Read<'de> for TestReader<'de> {
-    fn fill<'short>(&'short mut self, _want: usize) -> Result<Reference<'de, 'short>, Failure> {
-        if self.fails() {
+    fn fill<'short>(&'short mut self, want: usize) -> Result<Reference<'de, 'short>, Failure> {
+        if self.fails(want) {
             return Err(Failure);
         }
         let is_whole = self.fills_whole();
+        let part = self.part(want);
         if self.fills_long() {
-            return Ok(Reference::Long(self.prefix(is_whole)));
+            return Ok(Reference::Long(self.prefix(is_whole, part)));
         }
-        Ok(Reference::Short(self.prefix(is_whole)))
+        Ok(Reference::Short(self.prefix(is_whole, part)))
     }
 }
 
@@ -290,12 +336,12 @@ impl<'de> FillLong for TestReader<'de> {
 
     ghost never_borrows = { false };
 
-    fn fill_long(&mut self, _want: usize) -> Result<Option<&'de [u8]>, Failure> {
-        if self.fails() {
+    fn fill_long(&mut self, want: usize) -> Result<Option<&'de [u8]>, Failure> {
+        if self.fails(want) {
             return Err(Failure);
         }
         let is_whole = self.fills_whole();
-        let prefix = self.prefix(is_whole);
+        let prefix = self.prefix(is_whole, self.part(want));
         if self.fills_long() || prefix.is_empty() {
             return Ok(Some(prefix));
         }

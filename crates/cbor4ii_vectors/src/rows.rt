@@ -751,6 +751,8 @@ where
     asks_whole_nothing_after(alloc, item, limit, want)?;
     let mut short = TestReader::short(item, limit).failing_at_end();
     is_same(T::read_by(alloc, &mut short), item, want)?;
+    let mut short = TestReader::short(item, limit).waiting();
+    is_same(T::read_by(alloc, &mut short), item, want)?;
     for most in [1, usize::MAX] {
         let stream = FailingStream::new(item, most, usize::MAX).failing_at_end();
         let mut reader = IoReader::with_limit(stream, limit);
@@ -759,7 +761,7 @@ where
     Ok(())
 }
 
-// As `asks_nothing_after`, over the reader that shows all that is left.
+// As `asks_nothing_after`, over readers that show all that is left, or what is wanted.
 fn asks_whole_nothing_after<T>(
     alloc: Global,
     item: &'static [u8],
@@ -773,7 +775,25 @@ where
         return Ok(());
     }
     let mut whole = TestReader::whole(item, limit).failing_at_end();
-    is_same(T::read_by(alloc, &mut whole), item, want)
+    is_same(T::read_by(alloc, &mut whole), item, want)?;
+    waits_for_nothing_after(alloc, item, limit, want)
+}
+
+// As `asks_nothing_after`, over readers that wait for all that is wanted: no look asks for a byte
+// that the item does not need, and each complete item is read.
+fn waits_for_nothing_after<T>(
+    alloc: Global,
+    item: &'static [u8],
+    limit: usize,
+    want: &Want<T>,
+) -> Result<(), Fail>
+where
+    T: ReadBy<TestReader<'static>> + PartialEq + Debug + Drop,
+{
+    let mut whole = TestReader::whole(item, limit).waiting();
+    is_same(T::read_by(alloc, &mut whole), item, want)?;
+    let mut wanted = TestReader::wanted(item, limit).waiting();
+    is_same(T::read_by(alloc, &mut wanted), item, want)
 }
 
 // What a row takes of its bytes, of which `rest` is left.

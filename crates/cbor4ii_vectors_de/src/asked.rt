@@ -1,15 +1,18 @@
-//! What typed reading asks of a reader: how often it looks, how many bytes a look wants, and how
-//! many have to have come where the reader waits for all that is wanted.
+//! What typed reading asks of a reader: how often it looks, and how many bytes a look wants.
 //!
-//! A value takes a look of nine bytes for its head, and one for the content of a string. A float
-//! takes one of as many bytes as it has. Where the length is indefinite, such a look finds no head,
-//! and one of a byte follows it. Before an option, an enum, an item of any kind, and each
-//! part of what has no known length stands a look of one byte. A head that does not stand whole in
-//! what is shown takes one more for each of its bytes, and content one for each part.
+//! Where the reader lets a look ask for no byte but those that are needed, a head takes a look for
+//! its first byte, and one for all of it where it is longer; a float does, too. Content takes one.
+//! Where the length is indefinite, such a look finds no head, and one of a byte follows it. Before
+//! an option, an enum, an item of any kind, and each part of what has no known length stands a look
+//! of one byte. A head that does not stand whole in what is shown takes one more for each of its
+//! bytes, and content one for each part.
 //!
-//! A name takes a look of 24 bytes. One that does not stand whole in it takes a second look, of as
-//! many bytes as it has with its head. After a head of three bytes and more, and where it is still
-//! cut, it is read as a text, with the looks of one.
+//! A name takes a look for its first byte, one for a head of two bytes, and one for all of it up to
+//! 256 bytes. After a head of three bytes and more, where it is longer, and where it is still cut,
+//! it is read as a text, with the looks of one.
+//!
+//! Where the reader lets a look ask for more, a head takes one look, as does a name of up to 255
+//! bytes after a head of one or two bytes.
 use crate::typed::Answer;
 use cbor4ii::Value;
 use cbor4ii::types::F64;
@@ -22,44 +25,58 @@ use std::alloc::Global;
 use std::collections::BTreeMap;
 use std::test::Fail;
 
-/// A head, a part that follows it so many times, and an end; the most bytes that a look wants, and
-/// that have to have come; the most looks over a reader that shows what is wanted, and over one
-/// that shows one byte at a time.
+/// A head, a part that follows it so many times, and an end; the most bytes that a look wants; the
+/// most looks over a reader that shows what is wanted, and over one that shows one byte at a time.
+/// Then those over readers that let a look ask for 4,096 bytes, and show the one or the other.
 pub type Row = (
     &'static [u8],
     &'static [u8],
     usize,
     &'static [u8],
+    usize,
     (usize, usize),
     (usize, usize),
 );
 
-/// Reads each row over a reader that fails where more bytes are wanted, and shows what is wanted,
-/// and over one that shows one byte at a time.
+/// Reads each row over readers that fail where more bytes are wanted than the row says, or than
+/// 4,096. The first two have to have had no byte that is not the item's.
 pub fn asks_rows<A: ReadFrom + Drop>(alloc: Global, rows: &[Row]) -> Result<(), Fail> {
-    for &(head, part, count, end, (most, come), (looks, by_byte)) in rows {
+    for &(head, part, count, end, most, (looks, by_byte), wide) in rows {
         let bytes = repeated(alloc, head, part, count, end)?;
         let reader = Asked::new(bytes).refusing_above(most);
-        looks_at_most::<A>(alloc, reader, bytes, true, looks, come)?;
+        looks_at_most::<A>(alloc, reader, bytes, true, looks, bytes.len())?;
         let reader = Asked::new(bytes).refusing_above(most).showing(1);
-        looks_at_most::<A>(alloc, reader, bytes, true, by_byte, come)?;
+        looks_at_most::<A>(alloc, reader, bytes, true, by_byte, bytes.len())?;
+        asks_wide::<A>(alloc, bytes, wide)?;
     }
     Ok(())
 }
 
+fn asks_wide<A: ReadFrom + Drop>(
+    alloc: Global,
+    bytes: &[u8],
+    (looks, by_byte): (usize, usize),
+) -> Result<(), Fail> {
+    let reader = Asked::new(bytes).wide().refusing_above(4_096);
+    looks_at_most::<A>(alloc, reader, bytes, true, looks, usize::MAX)?;
+    let reader = Asked::new(bytes).wide().refusing_above(4_096).showing(1);
+    looks_at_most::<A>(alloc, reader, bytes, true, by_byte, usize::MAX)
+}
+
 const NUMBERS: &[Row] = table! {
-    (b"\x05", b"", 0, b"", (9, 9), (1, 1)),
-    (b"\x18\xff", b"", 0, b"", (9, 9), (1, 3)),
+    (b"\x05", b"", 0, b"", 1, (1, 1), (1, 1)),
+    (b"\x18\xff", b"", 0, b"", 2, (2, 4), (1, 3)),
 };
 
 const FLOATS: &[Row] = table! {
-    (b"\xfb\x7f\xf0\x00\x00\x00\x00\x00\x00", b"", 0, b"", (9, 9), (1, 10)),
+    (b"\xfb\x7f\xf0\x00\x00\x00\x00\x00\x00", b"", 0, b"", 9, (2, 11), (1, 10)),
 };
 
 const TEXTS: &[Row] = table! {
-    (b"\x64IETF", b"", 0, b"", (9, 9), (2, 5)),
-    (b"\x70", b"a", 16, b"", (16, 17), (2, 17)),
-    (b"\x7f", b"\x61a", 3, b"\xff", (9, 14), (12, 12)),
+    (b"\x64IETF", b"", 0, b"", 4, (2, 5), (2, 5)),
+    (b"\x70", b"a", 16, b"", 16, (2, 17), (2, 17)),
+    (b"\x78\x18", b"a", 24, b"", 24, (3, 28), (2, 27)),
+    (b"\x7f", b"\x61a", 3, b"\xff", 1, (12, 12), (12, 12)),
 };
 
 #[test]
@@ -71,26 +88,28 @@ fn leaves_are_asked_for(rt: HostRuntime) -> Result<(), Fail> {
 }
 
 const OPTIONS: &[Row] = table! {
-    (b"\xf6", b"", 0, b"", (1, 1), (1, 1)),
-    (b"\x05", b"", 0, b"", (9, 9), (2, 2)),
+    (b"\xf6", b"", 0, b"", 1, (1, 1), (1, 1)),
+    (b"\x05", b"", 0, b"", 1, (2, 2), (2, 2)),
 };
 
 const VECTORS: &[Row] = table! {
-    (b"\x83", b"\x05", 3, b"", (9, 12), (4, 4)),
-    (b"\x99\x17\x70", b"\x05", 6_000, b"", (9, 6_011), (6_001, 6_004)),
-    (b"\x9f", b"\x05", 2, b"\xff", (9, 11), (7, 7)),
+    (b"\x83", b"\x05", 3, b"", 1, (4, 4), (4, 4)),
+    (b"\x99\x17\x70", b"\x05", 6_000, b"", 3, (6_002, 6_005), (6_001, 6_004)),
+    (b"\x9f", b"\x05", 2, b"\xff", 1, (7, 7), (7, 7)),
 };
 
 const MAPS: &[Row] = table! {
-    (b"\xa1", b"\x05\x06", 1, b"", (9, 11), (3, 3)),
-    (b"\xbf", b"\x05\x06", 1, b"\xff", (9, 11), (6, 6)),
+    (b"\xa1", b"\x05\x06", 1, b"", 1, (3, 3), (3, 3)),
+    (b"\xbf", b"\x05\x06", 1, b"\xff", 1, (6, 6), (6, 6)),
 };
 
 const ANY: &[Row] = table! {
-    (b"\xf6", b"", 0, b"", (9, 9), (2, 2)),
-    (b"\x64IETF", b"", 0, b"", (9, 9), (3, 6)),
-    (b"\x83", b"\x05", 3, b"", (9, 12), (8, 8)),
-    (b"\xa1", b"\x05\x06", 1, b"", (9, 11), (6, 6)),
+    (b"\xf6", b"", 0, b"", 1, (2, 2), (2, 2)),
+    // Shown by bytes it is looked for as an integer of each sign, and read by its sign then.
+    (b"\x19\x01\x00", b"", 0, b"", 3, (3, 10), (2, 8)),
+    (b"\x64IETF", b"", 0, b"", 4, (3, 6), (3, 6)),
+    (b"\x83", b"\x05", 3, b"", 1, (8, 8), (8, 8)),
+    (b"\xa1", b"\x05\x06", 1, b"", 1, (6, 6), (6, 6)),
 };
 
 #[test]

@@ -48,13 +48,20 @@ impl Take for Five {
     }
 }
 
-// The head of the map, the name, and a number.
+// The head of the map, the name, and a number. Names of no, of 254 and of 300 letters are those of
+// no field: one look skips the number after them.
 const FIELDS: &[Row] = table! {
-    (b"\xa1\x61", b"n", 1, b"\x05", (24, 25), (3, 6)),
-    (b"\xa1\x77", b"n", 23, b"\x05", (24, 34), (3, 28)),
-    (b"\xa1\x78\x18", b"n", 24, b"\x05", (26, 36), (4, 30)),
-    (b"\xa1\x78\xff", b"n", 255, b"\x05", (257, 267), (4, 261)),
-    (b"\xa1\x79\x01\x00", b"n", 256, b"\x05", (256, 269), (5, 263)),
+    (b"\xa1\x60", b"", 0, b"\x05", 1, (3, 3), (3, 3)),
+    (b"\xa1\x61", b"n", 1, b"\x05", 2, (4, 6), (3, 5)),
+    (b"\xa1\x77", b"n", 23, b"\x05", 24, (4, 28), (3, 27)),
+    (b"\xa1\x78\x18", b"n", 24, b"\x05", 26, (5, 32), (3, 30)),
+    (b"\xa1\x78\xfe", b"n", 254, b"\x05", 256, (5, 262), (3, 260)),
+    (b"\xa1\x78\xff", b"n", 255, b"\x05", 255, (7, 263), (3, 261)),
+    (b"\xa1\x79\x01\x00", b"n", 256, b"\x05", 256, (6, 264), (5, 263)),
+    (b"\xa1\x79\x01\x2c", b"n", 300, b"\x05", 300, (6, 308), (5, 307)),
+    // The length in more bytes than need be, and in chunks.
+    (b"\xa1\x78\x01", b"n", 1, b"\x05", 3, (5, 9), (3, 7)),
+    (b"\xa1\x7f", b"\x61n", 24, b"\xff\x05", 1, (78, 78), (78, 78)),
 };
 
 #[test]
@@ -89,11 +96,11 @@ impl Take for Variant {
 
 // A look of one byte shows whether something stands after the name.
 const VARIANTS: &[Row] = table! {
-    (b"\xa1\x61", b"n", 1, b"\x05", (24, 25), (3, 6)),
-    (b"\x77", b"n", 23, b"", (24, 24), (2, 27)),
-    (b"\x78\x18", b"n", 24, b"", (26, 26), (3, 29)),
-    (b"\x78\xff", b"n", 255, b"", (257, 257), (3, 260)),
-    (b"\x79\x01\x00", b"n", 256, b"", (256, 259), (4, 262)),
+    (b"\xa1\x61", b"n", 1, b"\x05", 2, (4, 6), (3, 5)),
+    (b"\x77", b"n", 23, b"", 24, (3, 27), (2, 26)),
+    (b"\x78\x18", b"n", 24, b"", 26, (4, 31), (2, 29)),
+    (b"\x78\xff", b"n", 255, b"", 255, (6, 262), (2, 260)),
+    (b"\x79\x01\x00", b"n", 256, b"", 256, (5, 263), (4, 262)),
 };
 
 #[test]

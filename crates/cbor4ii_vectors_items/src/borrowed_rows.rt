@@ -96,10 +96,31 @@ pub fn lends_rows(alloc: Global, rows: &[BorrowedRow]) -> Result<(), Fail> {
         lends(*kind, alloc, bytes, STEPS, want, rest)?;
         let mut unlimited = TestReader::unlimited(bytes);
         answers(*kind, alloc, &mut unlimited, bytes, want, rest)?;
+        waits_for_nothing_after(*kind, alloc, bytes, want, rest)?;
         fails_at_each_show(*kind, alloc, bytes)?;
         fails_at_each_look(*kind, alloc, bytes)?;
     }
     Ok(())
+}
+
+// Over a reader that waits for all that is wanted, where there is no byte after what is read: an
+// error's text ends with its fields.
+fn waits_for_nothing_after(
+    kind: Kind,
+    alloc: Global,
+    bytes: &[u8],
+    want: &str,
+    rest: &[u8],
+) -> Result<(), Fail> {
+    if want.ends_with('}') {
+        return Ok(());
+    }
+    let item = &bytes[..bytes.len().saturating_sub(rest.len())];
+    let got = answer(kind, alloc, &mut TestReader::wanted(item, STEPS).waiting());
+    if got.as_str() == want {
+        return Ok(());
+    }
+    Err(Fail::new(format_args!("{} in the place of {want} of {bytes:?}", got.as_str())))
 }
 
 fn lends(

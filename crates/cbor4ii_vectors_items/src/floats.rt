@@ -1,7 +1,5 @@
 //! Rows of floats, as their bits.
-use cbor4ii_items::decode::Decode;
 use cbor4ii_items::types::{F16, F32, F64};
-use cbor4ii_vectors::readers::Counting;
 use cbor4ii_vectors::rows::{Row, reads_rows, rows_go_both_ways};
 use cbor4ii_vectors::{eof, mismatch, table};
 use std::test::Fail;
@@ -70,14 +68,4 @@ fn rejected_floats(rt: HostRuntime) -> Result<(), Fail> {
     reads_rows(alloc, REJECTED_FLOATS_HALVES)?;
     reads_rows(alloc, REJECTED_FLOATS_SINGLES)?;
     reads_rows(alloc, REJECTED_FLOATS_DOUBLES)
-}
-
-// A float that stands whole at the beginning takes one look.
-#[test]
-fn looks_of_a_float(rt: HostRuntime) -> Result<(), Fail> {
-    let mut reader = Counting::new(b"\xfb\x3f\xf1\x99\x99\x99\x99\x99\x9a");
-    let float = F64::decode(rt.alloc(), &mut reader)?;
-    assert_eq!(rt; float, F64(0x3ff1_9999_9999_999a));
-    assert_eq!(rt; reader.shows(), 1);
-    Ok(())
 }

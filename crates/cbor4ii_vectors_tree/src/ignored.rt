@@ -2,11 +2,12 @@
 //!
 //! `decode_value.rt` skips each item that it reads. What skipping rejects stands beside what a
 //! value rejects, in `decode_value/errors.rt` and `decode_value/depth.rt`.
+use crate::item::Item;
 use crate::item_rows::{rejects_in_skipping, skips, skips_item};
-use cbor4ii_items::decode::Decode;
 use cbor4ii_tree::IgnoredAny;
-use cbor4ii_vectors::readers::Counting;
-use cbor4ii_vectors::rows::{Want, leaves};
+use cbor4ii_vectors::asked::{asks, looks_at_most};
+use cbor4ii_vectors::readers::Asked;
+use cbor4ii_vectors::rows::Want;
 use cbor4ii_vectors::{eof, table, unsupported};
 use std::alloc::{AllocError, Global};
 use std::test::Fail;
@@ -172,8 +173,8 @@ fn repeated(alloc: Global, head: &[u8], count: usize, item: &[u8]) -> Result<Vec
     Ok(bytes)
 }
 
-// How often an item is looked at that holds so many of one kind, by a reader that shows no more
-// than is wanted. A run of those that say their size in the first byte takes a look for some 256
+// How often an item is looked at that holds so many of one kind, by a reader that lets a look ask
+// for 4,096 bytes, and shows no more than is wanted. A run of those that say their size in the first byte takes a look for some 256
 // bytes, another item one for its head, and a break one.
 const LOOKS: &[(&[u8], usize, &[u8], usize)] = table! {
     (b"\x98\xc8", 200, b"\x00", 8),
@@ -200,9 +201,40 @@ fn looks_few_times(alloc: Global, rows: &[(&[u8], usize, &[u8], usize)]) -> Resu
 }
 
 fn looks(alloc: Global, bytes: &[u8]) -> Result<usize, Fail> {
-    let mut reader = Counting::new(bytes);
-    IgnoredAny::decode(alloc, &mut reader)?;
-    let shows = reader.shows();
-    leaves(&mut reader, bytes, b"")?;
-    Ok(shows)
+    let (_, asks) = asks::<Item<IgnoredAny>>(alloc, Asked::new(bytes).wide(), bytes)?;
+    Ok(asks.looks)
+}
+
+// What is skipped, the most bytes that a look wants, and the most looks over a reader that shows
+// what is wanted, and over one that shows one byte at a time. Neither has to have had a byte that
+// is not the item's.
+const ASKED: &[(&[u8], usize, usize, usize)] = table! {
+    (b"\x00", 1, 1, 1),
+    (b"\xf5", 1, 1, 1),
+    (b"\x18\x18", 2, 2, 4),
+    (b"\x19\x01\x00", 3, 2, 5),
+    (b"\xfb\x7f\xf0\x00\x00\x00\x00\x00\x00", 9, 2, 11),
+    (b"\x62ab", 2, 2, 3),
+    (b"\x78\x02ab", 2, 3, 6),
+    (b"\x82\x01\x62ab", 2, 4, 5),
+    (b"\x98\x01\x00", 2, 3, 5),
+    (b"\xa1\x00\x41a", 1, 4, 4),
+    (b"\xd8\x18\x00", 2, 3, 5),
+    (b"\x9f\x00\xff", 1, 3, 3),
+    (b"\x5f\x41a\xff", 1, 4, 4),
+};
+
+#[test]
+fn what_skipping_asks_for(rt: HostRuntime) -> Result<(), Fail> {
+    asks_rows(rt.alloc(), ASKED)
+}
+
+fn asks_rows(alloc: Global, rows: &[(&[u8], usize, usize, usize)]) -> Result<(), Fail> {
+    for &(bytes, most, looks, by_byte) in rows {
+        let reader = Asked::new(bytes).refusing_above(most);
+        looks_at_most::<Item<IgnoredAny>>(alloc, reader, bytes, true, looks, bytes.len())?;
+        let reader = Asked::new(bytes).refusing_above(most).showing(1);
+        looks_at_most::<Item<IgnoredAny>>(alloc, reader, bytes, true, by_byte, bytes.len())?;
+    }
+    Ok(())
 }

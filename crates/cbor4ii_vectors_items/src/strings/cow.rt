@@ -155,6 +155,8 @@ fn borrowed_or_owned(rt: HostRuntime) -> Result<(), Fail> {
     for &(kind, bytes, content, lent) in READ {
         let whole = Ok((content, lent != Lender::Never));
         decodes_whole(kind, alloc, bytes, whole, b"")?;
+        let mut wanted = TestReader::wanted(bytes, 1).waiting();
+        decodes(kind, alloc, &mut wanted, bytes, whole, b"")?;
         let by_byte = Ok((content, lent == Lender::ByByte));
         let mut long = TestReader::long(bytes, 1);
         decodes(kind, alloc, &mut long, bytes, by_byte, b"")?;

@@ -1,14 +1,13 @@
-//! What reading a value asks of a reader: how often it looks, how many bytes a look wants, and how
-//! many have to have come where the reader waits for all that is wanted.
+//! What reading a value asks of a reader: how often it looks, and how many bytes a look wants.
 //!
-//! A value takes a look for its first byte, one of nine bytes for its head, and one for the content
-//! of a string. A float takes one of as many bytes as it has, in the place of its head. An encoding
+//! A value takes a look for its first byte, one for the first byte of its head, one for all of a
+//! longer head, and one for the content of a string. A float takes the looks of a head. An encoding
 //! that has to be the canonical one takes a look more for each head. A head that does not stand
 //! whole in what is shown takes one more for each of its bytes, and content one for each part.
 //!
 //! That is the most. Where the reader lets a look ask for 4,096 bytes, such a look stands in the
-//! place of the first, and decides at once what it shows whole. A whole head of an array, a map or
-//! a tag takes no look more.
+//! place of the first, and decides at once what it shows whole. A longer head takes no second one,
+//! and a whole head of an array, a map or a tag takes no look more.
 use crate::item::Item;
 use cbor4ii_rw::error::DecodeError;
 use cbor4ii_rw::read::Source;
@@ -21,95 +20,87 @@ use cbor4ii_vectors::table;
 use std::alloc::Global;
 use std::test::Fail;
 
-// The most looks over a reader that shows what is wanted, over one that shows one byte at a time,
-// and over one that lets a look ask for 4,096 bytes and shows what is wanted.
-type Looks = (usize, usize, usize);
+// The most looks over a reader that shows what is wanted, and over one that shows one byte at a
+// time; then those over readers that let a look ask for 4,096 bytes, and show the one or the other.
+type Looks = (usize, usize, usize, usize);
 
-// A head, a part that follows it so many times, the most bytes that a look wants, and that
-// have to have come; the looks of a value, and of one in its canonical encoding.
-type Row = (
-    &'static [u8],
-    &'static [u8],
-    usize,
-    (usize, usize),
-    Looks,
-    Looks,
-);
+// A head, a part that follows it so many times, the most bytes that a look wants; the looks of a
+// value, and of one in its canonical encoding.
+type Row = (&'static [u8], &'static [u8], usize, usize, Looks, Looks);
 
 const LEAVES: &[Row] = table! {
-    (b"\xf6", b"", 0, (1, 1), (1, 1, 1), (1, 1, 1)),
-    (b"\xf5", b"", 0, (1, 1), (1, 1, 1), (1, 1, 1)),
-    (b"\x00", b"", 0, (9, 9), (2, 2, 1), (3, 3, 1)),
-    (b"\x20", b"", 0, (9, 9), (2, 2, 1), (3, 3, 1)),
-    (b"\x18\x18", b"", 0, (9, 9), (2, 4, 1), (3, 5, 1)),
-    (b"\x19\x01\x00", b"", 0, (9, 9), (2, 5, 1), (3, 6, 1)),
-    (b"\x1a\x00\x01\x00\x00", b"", 0, (9, 9), (2, 7, 1), (3, 8, 1)),
-    (b"\x3b\x00\x00\x00\x01\x00\x00\x00\x00", b"", 0, (9, 9), (2, 11, 1), (3, 12, 1)),
-    (b"\xf9\x3c\x00", b"", 0, (3, 3), (2, 5, 1), (2, 5, 1)),
-    (b"\xfa\x7f\x80\x00\x00", b"", 0, (5, 5), (2, 7, 1), (2, 7, 1)),
-    (b"\xfb\x7f\xf0\x00\x00\x00\x00\x00\x00", b"", 0, (9, 9), (2, 11, 1), (2, 11, 1)),
-    (b"\x40", b"", 0, (9, 9), (2, 2, 1), (3, 3, 1)),
-    (b"\x60", b"", 0, (9, 9), (2, 2, 1), (3, 3, 1)),
-    (b"\x64IETF", b"", 0, (9, 9), (3, 6, 1), (4, 7, 1)),
-    (b"\x70", b"a", 16, (16, 17), (3, 18, 1), (4, 19, 1)),
-    (b"\x78\x1e", b"a", 30, (30, 32), (3, 34, 1), (4, 35, 1)),
-    (b"\x59\x01\x2c", b"a", 300, (300, 303), (3, 305, 1), (4, 306, 1)),
+    (b"\xf6", b"", 0, 1, (1, 1, 1, 1), (1, 1, 1, 1)),
+    (b"\xf5", b"", 0, 1, (1, 1, 1, 1), (1, 1, 1, 1)),
+    (b"\x00", b"", 0, 1, (2, 2, 1, 2), (3, 3, 1, 3)),
+    (b"\x20", b"", 0, 1, (2, 2, 1, 2), (3, 3, 1, 3)),
+    (b"\x18\x18", b"", 0, 2, (3, 5, 1, 4), (4, 6, 1, 5)),
+    (b"\x19\x01\x00", b"", 0, 3, (3, 6, 1, 5), (4, 7, 1, 6)),
+    (b"\x1a\x00\x01\x00\x00", b"", 0, 5, (3, 8, 1, 7), (4, 9, 1, 8)),
+    (b"\x3b\x00\x00\x00\x01\x00\x00\x00\x00", b"", 0, 9, (3, 12, 1, 11), (4, 13, 1, 12)),
+    (b"\xf9\x3c\x00", b"", 0, 3, (3, 6, 1, 5), (3, 6, 1, 5)),
+    (b"\xfa\x7f\x80\x00\x00", b"", 0, 5, (3, 8, 1, 7), (3, 8, 1, 7)),
+    (b"\xfb\x7f\xf0\x00\x00\x00\x00\x00\x00", b"", 0, 9, (3, 12, 1, 11), (3, 12, 1, 11)),
+    (b"\x40", b"", 0, 1, (2, 2, 1, 2), (3, 3, 1, 3)),
+    (b"\x60", b"", 0, 1, (2, 2, 1, 2), (3, 3, 1, 3)),
+    (b"\x64IETF", b"", 0, 4, (3, 6, 1, 6), (4, 7, 1, 7)),
+    (b"\x70", b"a", 16, 16, (3, 18, 1, 18), (4, 19, 1, 19)),
+    (b"\x78\x1e", b"a", 30, 30, (4, 35, 1, 34), (5, 36, 1, 35)),
+    (b"\x59\x01\x2c", b"a", 300, 300, (4, 306, 1, 305), (5, 307, 1, 306)),
 };
 
 const CONTAINERS: &[Row] = table! {
-    (b"\x80", b"", 0, (9, 9), (2, 2, 1), (3, 3, 1)),
-    (b"\xa0", b"", 0, (9, 9), (2, 2, 1), (3, 3, 1)),
-    (b"\x81\x80", b"", 0, (9, 10), (4, 4, 2), (6, 6, 2)),
-    (b"\x81\xf6", b"", 0, (9, 9), (3, 3, 2), (4, 4, 2)),
-    (b"\x83\x01\x02\x03", b"", 0, (9, 12), (8, 8, 2), (12, 12, 2)),
-    (b"\x82\x01\x62ab", b"", 0, (9, 11), (7, 8, 2), (10, 11, 2)),
-    (b"\x82\x05\xfb\x7f\xf0\x00\x00\x00\x00\x00\x00", b"", 0, (9, 11), (6, 15, 2), (8, 17, 2)),
-    (b"\xa1\x01\xf6", b"", 0, (9, 10), (5, 5, 2), (7, 7, 2)),
-    (b"\xa1\x62idp", b"a", 16, (16, 21), (8, 24, 2), (11, 27, 2)),
-    (b"\xa1\x80\xf6", b"", 0, (9, 10), (5, 5, 3), (7, 7, 3)),
-    (b"\xa1\x61a\x81\x00", b"", 0, (9, 13), (9, 9, 3), (13, 13, 3)),
-    (b"\xc1\xf6", b"", 0, (9, 9), (3, 3, 2), (4, 4, 2)),
-    (b"\xc1\x00", b"", 0, (9, 10), (4, 4, 2), (6, 6, 2)),
-    (b"\xd8\x18\x64IETF", b"", 0, (9, 11), (5, 10, 2), (7, 12, 2)),
-    (b"\xda\x00\x01\x00\x00\x80", b"", 0, (9, 14), (4, 9, 2), (6, 11, 2)),
+    (b"\x80", b"", 0, 1, (2, 2, 1, 2), (3, 3, 1, 3)),
+    (b"\xa0", b"", 0, 1, (2, 2, 1, 2), (3, 3, 1, 3)),
+    (b"\x81\x80", b"", 0, 1, (4, 4, 2, 4), (6, 6, 2, 6)),
+    (b"\x81\xf6", b"", 0, 1, (3, 3, 2, 3), (4, 4, 2, 4)),
+    (b"\x83\x01\x02\x03", b"", 0, 1, (8, 8, 2, 8), (12, 12, 2, 12)),
+    (b"\x82\x01\x62ab", b"", 0, 2, (7, 8, 2, 8), (10, 11, 2, 11)),
+    (b"\x82\x05\xfb\x7f\xf0\x00\x00\x00\x00\x00\x00", b"", 0, 9, (7, 16, 2, 15), (9, 18, 2, 17)),
+    (b"\xa1\x01\xf6", b"", 0, 1, (5, 5, 2, 5), (7, 7, 2, 7)),
+    (b"\xa1\x62idp", b"a", 16, 16, (8, 24, 2, 24), (11, 27, 2, 27)),
+    (b"\xa1\x80\xf6", b"", 0, 1, (5, 5, 3, 5), (7, 7, 3, 7)),
+    (b"\xa1\x61a\x81\x00", b"", 0, 1, (9, 9, 3, 9), (13, 13, 3, 13)),
+    (b"\xc1\xf6", b"", 0, 1, (3, 3, 2, 3), (4, 4, 2, 4)),
+    (b"\xc1\x00", b"", 0, 1, (4, 4, 2, 4), (6, 6, 2, 6)),
+    (b"\xd8\x18\x64IETF", b"", 0, 4, (6, 11, 2, 10), (8, 13, 2, 12)),
+    (b"\xda\x00\x01\x00\x00\x80", b"", 0, 5, (5, 10, 2, 9), (7, 12, 2, 11)),
 };
 
 const MANY: &[Row] = table! {
-    (b"\x98\xc8", b"\x00", 200, (9, 210), (402, 404, 2), (603, 605, 2)),
-    (b"\x98\xc8", b"\xf6", 200, (9, 202), (202, 204, 2), (203, 205, 2)),
-    (b"\x98\xc8", b"\x18\x18", 200, (9, 409), (402, 804, 2), (603, 1005, 2)),
-    (b"\x98\xc8", b"\xf9\x3c\x00", 200, (9, 602), (402, 1004, 2), (403, 1005, 2)),
-    (b"\x98\xc8", b"\x63abc", 200, (9, 807), (602, 1004, 2), (803, 1205, 2)),
-    (b"\x98\xc8", b"\x80", 200, (9, 210), (402, 404, 201), (603, 605, 201)),
-    (b"\x98\xc8", b"\x81\xf6", 200, (9, 409), (602, 604, 401), (803, 805, 401)),
-    (b"\x98\xc8", b"\x81\x00", 200, (9, 410), (802, 804, 401), (1203, 1205, 401)),
-    (b"\x98\xc8", b"\xc1\x00", 200, (9, 410), (802, 804, 401), (1203, 1205, 401)),
-    (b"\xb8\x64", b"\x61a\x01", 100, (9, 310), (502, 504, 2), (703, 705, 2)),
-    (b"\xb8\x64", b"\x80\xf6", 100, (9, 209), (302, 304, 102), (403, 405, 102)),
-    (b"\xb8\x64", b"\x80\x00", 100, (9, 210), (402, 404, 102), (603, 605, 102)),
-    (b"\xb8\x64", b"\x00\x80", 100, (9, 210), (402, 404, 101), (603, 605, 101)),
-    (b"\xb8\x64", b"\x61a\x81\x00", 100, (9, 410), (702, 704, 201), (1003, 1005, 201)),
+    (b"\x98\xc8", b"\x00", 200, 2, (403, 405, 2, 404), (604, 606, 2, 605)),
+    (b"\x98\xc8", b"\xf6", 200, 2, (203, 205, 2, 204), (204, 206, 2, 205)),
+    (b"\x98\xc8", b"\x18\x18", 200, 2, (603, 1005, 2, 804), (804, 1206, 2, 1005)),
+    (b"\x98\xc8", b"\xf9\x3c\x00", 200, 3, (603, 1205, 2, 1004), (604, 1206, 2, 1005)),
+    (b"\x98\xc8", b"\x63abc", 200, 3, (603, 1005, 2, 1004), (804, 1206, 2, 1205)),
+    (b"\x98\xc8", b"\x80", 200, 2, (403, 405, 201, 404), (604, 606, 201, 605)),
+    (b"\x98\xc8", b"\x81\xf6", 200, 2, (603, 605, 401, 604), (804, 806, 401, 805)),
+    (b"\x98\xc8", b"\x81\x00", 200, 2, (803, 805, 401, 804), (1204, 1206, 401, 1205)),
+    (b"\x98\xc8", b"\xc1\x00", 200, 2, (803, 805, 401, 804), (1204, 1206, 401, 1205)),
+    (b"\xb8\x64", b"\x61a\x01", 100, 2, (503, 505, 2, 504), (704, 706, 2, 705)),
+    (b"\xb8\x64", b"\x80\xf6", 100, 2, (303, 305, 102, 304), (404, 406, 102, 405)),
+    (b"\xb8\x64", b"\x80\x00", 100, 2, (403, 405, 102, 404), (604, 606, 102, 605)),
+    (b"\xb8\x64", b"\x00\x80", 100, 2, (403, 405, 101, 404), (604, 606, 101, 605)),
+    (b"\xb8\x64", b"\x61a\x81\x00", 100, 2, (703, 705, 201, 704), (1004, 1006, 201, 1005)),
 };
 
-// Over a reader that fails where more than `most.0` bytes are wanted, and has to have had `most.1`
-// of them at the most; and over one that lets a look ask for 4,096, and fails where more than that
-// and `most.0` are wanted. What is read is read by each.
+// Over a reader that fails where more than `most` bytes are wanted, and has to have had no byte but
+// these; and over one that lets a look ask for 4,096, and fails where more than that are wanted.
+// What is read is read by each.
 fn asks_at_most<T: ReadFrom + Drop>(
     alloc: Global,
     bytes: &[u8],
     is_read: bool,
-    most: (usize, usize),
+    most: usize,
     looks: Looks,
 ) -> Result<(), Fail> {
-    let narrow = Asked::new(bytes).refusing_above(most.0);
-    looks_at_most::<T>(alloc, narrow, bytes, is_read, looks.0, most.1)?;
-    let narrow = Asked::new(bytes).refusing_above(most.0).showing(1);
-    looks_at_most::<T>(alloc, narrow, bytes, is_read, looks.1, most.1)?;
-    let largest = most.0.max(4_096);
-    let wide = Asked::new(bytes).wide().refusing_above(largest);
+    let narrow = Asked::new(bytes).refusing_above(most);
+    looks_at_most::<T>(alloc, narrow, bytes, is_read, looks.0, bytes.len())?;
+    let narrow = Asked::new(bytes).refusing_above(most).showing(1);
+    looks_at_most::<T>(alloc, narrow, bytes, is_read, looks.1, bytes.len())?;
+    let wide = Asked::new(bytes).wide().refusing_above(4_096);
     looks_at_most::<T>(alloc, wide, bytes, is_read, looks.2, usize::MAX)?;
-    let wide = Asked::new(bytes).wide().refusing_above(largest).showing(1);
-    looks_at_most::<T>(alloc, wide, bytes, is_read, looks.1, usize::MAX)
+    let wide = Asked::new(bytes).wide().refusing_above(4_096).showing(1);
+    looks_at_most::<T>(alloc, wide, bytes, is_read, looks.3, usize::MAX)
 }
 
 fn asks_rows(alloc: Global, rows: &[Row]) -> Result<(), Fail> {
@@ -138,23 +129,22 @@ fn many_items_are_asked_for(rt: HostRuntime) -> Result<(), Fail> {
 
 // Items of indefinite length, and what is no canonical encoding or no value: whether a value is
 // read, and then as `Row`. None of them is read from its canonical encoding.
-type OtherRow = (&'static [u8], bool, (usize, usize), Looks, Looks);
+type OtherRow = (&'static [u8], bool, usize, Looks, Looks);
 
 const OTHERS: &[OtherRow] = table! {
-    (b"\xf7", true, (1, 1), (1, 1, 1), (1, 1, 1)),
-    (b"\x9f\x01\xf6\xff", true, (9, 10), (9, 9, 8), (2, 2, 2)),
-    (b"\xbf\x01\xf6\xff", true, (9, 10), (8, 8, 7), (2, 2, 2)),
-    (b"\x5f\x42\x01\x02\x41\x03\xff", true, (9, 13), (10, 11, 10), (2, 2, 2)),
-    (b"\xff", false, (1, 1), (1, 1, 1), (1, 1, 1)),
-    (b"\x81\xff", false, (9, 9), (3, 3, 3), (4, 4, 4)),
+    (b"\xf7", true, 1, (1, 1, 1, 1), (1, 1, 1, 1)),
+    (b"\x9f\x01\xf6\xff", true, 1, (9, 9, 8, 9), (2, 2, 2, 2)),
+    (b"\xbf\x01\xf6\xff", true, 1, (8, 8, 7, 8), (2, 2, 2, 2)),
+    (b"\x5f\x42\x01\x02\x41\x03\xff", true, 2, (10, 11, 10, 11), (2, 2, 2, 2)),
+    (b"\xff", false, 1, (1, 1, 1, 1), (1, 1, 1, 1)),
+    (b"\x81\xff", false, 1, (3, 3, 3, 3), (4, 4, 4, 4)),
 };
 
 // Where the first byte of an indefinite length is rejected, no look wants more than that byte.
 fn asks_other_rows(alloc: Global, rows: &[OtherRow]) -> Result<(), Fail> {
     for &(bytes, is_read, most, looks, canonical) in rows {
         asks_at_most::<Item<Value>>(alloc, bytes, is_read, most, looks)?;
-        let most = if is_read { (1, 1) } else { most };
-        asks_at_most::<Item<Canonical>>(alloc, bytes, false, most, canonical)?;
+        asks_at_most::<Item<Canonical>>(alloc, bytes, false, 1, canonical)?;
     }
     Ok(())
 }
@@ -266,29 +256,36 @@ fn a_look_for_4096_bytes(rt: HostRuntime) -> Result<(), Fail> {
     looks_around(rt.alloc(), AROUND)
 }
 
-// Parts of which the reader shows no more than so many bytes at a time, and the most looks, whether
-// it lets one ask for 4,096 bytes or not.
-const SHOWN: &[(&[u8], &[u8], usize, usize, usize, usize)] = table! {
-    (b"\x98\xc8", b"\x70aaaaaaaaaaaaaaaa", 200, 16, 602, 803),
-    (b"\x98\xc8", b"\x63abc", 200, 3, 602, 803),
-    (b"\x98\xc8", b"\x63abc", 200, 2, 802, 1003),
-    (b"\x98\xc8", b"\x18\x18", 200, 3, 402, 603),
-    (b"\x98\xc8", b"\x1b\x00\x00\x00\x01\x00\x00\x00\x00", 200, 7, 2202, 2403),
-    (b"\x98\xc8", b"\xa0", 200, 2, 402, 603),
-    (b"\x98\x64", b"\xd8\x18\x18\x18", 100, 2, 402, 603),
-    (b"\xb8\x64", b"\x63abc\x81\x00", 100, 3, 702, 1003),
-    (b"\xb8\x64", b"\x61a\x01", 100, 2, 502, 703),
-    (b"\x79\x13\x88", b"a", 5_000, 4_096, 4, 5),
+// Parts of which the reader shows no more than so many bytes at a time, and the most looks where it
+// lets one ask for 4,096 bytes. Where it does not, each of so many longer heads takes one more.
+type ShownRow = (
+    &'static [u8],
+    &'static [u8],
+    usize,
+    usize,
+    usize,
+    usize,
+    usize,
+);
+
+const SHOWN: &[ShownRow] = table! {
+    (b"\x98\xc8", b"\x70aaaaaaaaaaaaaaaa", 200, 16, 602, 803, 1),
+    (b"\x98\xc8", b"\x63abc", 200, 3, 602, 803, 1),
+    (b"\x98\xc8", b"\x63abc", 200, 2, 802, 1003, 1),
+    (b"\x98\xc8", b"\x18\x18", 200, 3, 402, 603, 201),
+    (b"\x98\xc8", b"\x1b\x00\x00\x00\x01\x00\x00\x00\x00", 200, 7, 2202, 2403, 201),
+    (b"\x98\xc8", b"\xa0", 200, 2, 402, 603, 1),
+    (b"\x98\x64", b"\xd8\x18\x18\x18", 100, 2, 402, 603, 201),
+    (b"\xb8\x64", b"\x63abc\x81\x00", 100, 3, 702, 1003, 1),
+    (b"\xb8\x64", b"\x61a\x01", 100, 2, 502, 703, 1),
+    (b"\x79\x13\x88", b"a", 5_000, 4_096, 4, 5, 1),
 };
 
-fn looks_shown(
-    alloc: Global,
-    rows: &[(&[u8], &[u8], usize, usize, usize, usize)],
-) -> Result<(), Fail> {
-    for &(head, part, count, prefix, looks, canonical) in rows {
+fn looks_shown(alloc: Global, rows: &[ShownRow]) -> Result<(), Fail> {
+    for &(head, part, count, prefix, looks, canonical, more) in rows {
         let bytes = repeated(alloc, head, part, count, b"")?;
-        looks_in_prefixes::<Item<Value>>(alloc, bytes, prefix, looks)?;
-        looks_in_prefixes::<Item<Canonical>>(alloc, bytes, prefix, canonical)?;
+        looks_in_prefixes::<Item<Value>>(alloc, bytes, prefix, looks, more)?;
+        looks_in_prefixes::<Item<Canonical>>(alloc, bytes, prefix, canonical, more)?;
     }
     Ok(())
 }
@@ -298,9 +295,11 @@ fn looks_in_prefixes<T: ReadFrom + Drop>(
     bytes: &[u8],
     prefix: usize,
     looks: usize,
+    more: usize,
 ) -> Result<(), Fail> {
     let narrow = Asked::new(bytes).showing(prefix);
-    looks_at_most::<T>(alloc, narrow, bytes, true, looks, usize::MAX)?;
+    let most = looks.saturating_add(more);
+    looks_at_most::<T>(alloc, narrow, bytes, true, most, bytes.len())?;
     let wide = Asked::new(bytes).wide().showing(prefix);
     looks_at_most::<T>(alloc, wide, bytes, true, looks, usize::MAX)
 }
