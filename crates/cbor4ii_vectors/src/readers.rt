@@ -1,5 +1,5 @@
 //! Readers for tests: a decoder has to answer alike however its input is shown.
-ghost use Rattle.std.specs.Prelude.{◌≡◌, None, Some, IsTrue, take, false};
+ghost use Rattle.std.specs.Prelude.{◌≡◌, ◌≤◌, None, Some, IsTrue, take, false};
 ghost use Rattle.std.proofs.Common.{rules};
 ghost use Rattle.cbor4ii_rw.specs.Reader.{ReaderFails, StepsIn, step_back};
 ghost use Rattle.cbor4ii_rw.specs.View.{IfKnown};
