@@ -327,9 +327,3 @@ then_takes names b (Err e) s h =
       s.known xs known,
       record { none = λ is none. none; rejects = λ z ys stop. stop; begins = λ z ys stop. stop },
     )) (λ owned. owned) (λ takes. takes) (of_exact h))
-
-pub stays_stays : {a b c : View} → Stays a b → Stays b c → Stays a c
-stays_stays p q = record {
-  kept = kept_then p.kept q.kept;
-  known = λ xs known. q.known xs (p.known xs known);
-}

@@ -17,8 +17,8 @@ use Rattle.cbor4ii_items.specs.InputError.{mismatch}
 use Rattle.cbor4ii_items.specs.Reading.{Reading, go_on, give, Runs}
 use Rattle.cbor4ii_items.specs.ReadHead.{number_on, following, allowed, head_by, head_at, length_at}
 use Rattle.cbor4ii_items.specs.Prefix.{IsWhole, IsArgument, RunsOrStays, TookSeen}
-use Rattle.cbor4ii_items.specs.Laws.Contents.{lends_prefix}
-use Rattle.cbor4ii_items.specs.Laws.Steps.{moves_then, moves_ok, kept_then, broke_then}
+use Rattle.cbor4ii_items.specs.Laws.Contents.{lends_prefix, stays_then}
+use Rattle.cbor4ii_items.specs.Laws.Steps.{moves_then, moves_ok, broke_then}
 use Rattle.cbor4ii_items.specs.Laws.ReadingHeads.{small_argument, allowed_le, wider}
 
 -- ---- a head in a list
@@ -144,13 +144,6 @@ pub found_none : {V : Type 0} (E : Type 0) (p : Reading V) {a b : View} (o : Opt
     → RunsOrStays {E = E} p a b (Ok o) → Stays a b
 found_none E p None e h = h
 found_none E p (Some u) e h = cc
-
--- a look that took nothing, and another one
-pub stays_then : {a b c : View} → Stays a b → Stays b c → Stays a c
-stays_then p q = record {
-  kept = kept_then p.kept q.kept;
-  known = λ xs known. q.known xs (p.known xs known);
-}
 
 pub then_runs_or_stays : {V E : Type 0} (f : Reading V) {a m : View} (b : View)
     (r : Result (Option V) E) → Stays a m → RunsOrStays f m b r → RunsOrStays f a b r

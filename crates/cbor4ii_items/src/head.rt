@@ -150,7 +150,7 @@ pub(crate) fn head<S: Source>(
 /// rejected.
 #[cold]
 #[inline(never)]
-fn head_by_bytes<S: Source>(
+pub(crate) fn head_by_bytes<S: Source>(
     reader: &mut S,
     name: StaticStr,
     major: u8,

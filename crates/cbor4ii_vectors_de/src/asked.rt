@@ -106,7 +106,7 @@ const MAPS: &[Row] = table! {
 const ANY: &[Row] = table! {
     (b"\xf6", b"", 0, b"", 1, (2, 2), (2, 2)),
     // Shown by bytes it is looked for as an integer of each sign, and read by its sign then.
-    (b"\x19\x01\x00", b"", 0, b"", 3, (3, 10), (2, 8)),
+    (b"\x19\x01\x00", b"", 0, b"", 3, (3, 8), (2, 7)),
     (b"\x64IETF", b"", 0, b"", 4, (3, 6), (3, 6)),
     (b"\x83", b"\x05", 3, b"", 1, (8, 8), (8, 8)),
     (b"\xa1", b"\x05\x06", 1, b"", 1, (6, 6), (6, 6)),

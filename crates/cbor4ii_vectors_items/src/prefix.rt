@@ -6,24 +6,41 @@ use cbor4ii_vectors::rows::ReadFrom;
 use std::alloc::Global;
 use std::test::Fail;
 
-// One look, where the reader lets it ask for 4,096 bytes. Else so many, which want no byte that is
-// not the item's.
-fn asks<T: ReadFrom + Drop>(alloc: Global, bytes: &[u8], looks: usize) -> Result<(), Fail> {
-    looks_at_most::<T>(alloc, Asked::new(bytes).wide(), bytes, true, 1, 9)?;
-    looks_at_most::<T>(alloc, Asked::new(bytes), bytes, true, looks, bytes.len())
+// The most looks over a reader that shows what is wanted, over one that shows one byte at a time,
+// and where a look may ask for 4,096 bytes. The first two want no byte that is not the item's.
+type Looks = (usize, usize, usize);
+
+fn asks<T: ReadFrom + Drop>(alloc: Global, bytes: &[u8], looks: Looks) -> Result<(), Fail> {
+    let (shown, by_byte, wide) = looks;
+    looks_at_most::<T>(alloc, Asked::new(bytes), bytes, true, shown, bytes.len())?;
+    looks_at_most::<T>(alloc, Asked::new(bytes).showing(1), bytes, true, by_byte, bytes.len())?;
+    looks_at_most::<T>(alloc, Asked::new(bytes).wide(), bytes, true, wide, 9)
 }
 
 #[test]
 fn looks_of_a_number(rt: HostRuntime) -> Result<(), Fail> {
     let alloc = rt.alloc();
-    asks::<u64>(alloc, b"\x17", 1)?;
-    asks::<u64>(alloc, b"\x18\x18", 2)?;
-    asks::<u64>(alloc, b"\x19\x01\x02", 2)?;
-    asks::<u64>(alloc, b"\x1a\x01\x02\x03\x04", 2)?;
-    asks::<u64>(alloc, b"\x1b\x01\x02\x03\x04\x05\x06\x07\x08", 2)
+    asks::<u64>(alloc, b"\x17", (1, 1, 1))?;
+    asks::<u64>(alloc, b"\x18\x18", (2, 4, 1))?;
+    asks::<u64>(alloc, b"\x19\x01\x02", (2, 5, 1))?;
+    asks::<u64>(alloc, b"\x1a\x01\x02\x03\x04", (2, 7, 1))?;
+    asks::<u64>(alloc, b"\x1b\x01\x02\x03\x04\x05\x06\x07\x08", (2, 11, 1))
+}
+
+// One from 0 on is looked for first, then one below. By bytes the first stays for one look more.
+#[test]
+fn looks_of_a_signed_number(rt: HostRuntime) -> Result<(), Fail> {
+    let alloc = rt.alloc();
+    asks::<i64>(alloc, b"\x17", (1, 1, 1))?;
+    asks::<i64>(alloc, b"\x19\x01\x02", (2, 7, 1))?;
+    asks::<i64>(alloc, b"\x37", (2, 2, 2))?;
+    asks::<i64>(alloc, b"\x39\x01\x02", (3, 7, 2))?;
+    asks::<i128>(alloc, b"\x19\x01\x02", (2, 7, 1))?;
+    asks::<i128>(alloc, b"\x39\x01\x02", (3, 7, 2))?;
+    asks::<u128>(alloc, b"\x19\x01\x02", (2, 6, 1))
 }
 
 #[test]
 fn looks_of_a_float(rt: HostRuntime) -> Result<(), Fail> {
-    asks::<F64>(rt.alloc(), b"\xfb\x3f\xf1\x99\x99\x99\x99\x99\x9a", 2)
+    asks::<F64>(rt.alloc(), b"\xfb\x3f\xf1\x99\x99\x99\x99\x99\x9a", (2, 11, 1))
 }

@@ -174,8 +174,8 @@ fn repeated(alloc: Global, head: &[u8], count: usize, item: &[u8]) -> Result<Vec
 }
 
 // How often an item is looked at that holds so many of one kind, by a reader that lets a look ask
-// for 4,096 bytes, and shows no more than is wanted. A run of those that say their size in the first byte takes a look for some 256
-// bytes, another item one for its head, and a break one.
+// for 4,096 bytes, and shows no more than is wanted. A run of those that say their size in the
+// first byte takes a look for some 256 bytes, another item one for its head, and a break one.
 const LOOKS: &[(&[u8], usize, &[u8], usize)] = table! {
     (b"\x98\xc8", 200, b"\x00", 8),
     (b"\xb8\x64", 200, b"\x00", 8),

@@ -6,7 +6,7 @@ use Rattle.std.proofs.Common.{append_assoc}
 use Rattle.std.proofs.lemmas.List.{length-drop, length-take-le, append-nil}
 use Rattle.std.proofs.Math.Seq.{take-add}
 use Rattle.cbor4ii_rw.specs.View.{View}
-use Rattle.cbor4ii_items.specs.Lent.{Lends, IsOfInput}
+use Rattle.cbor4ii_items.specs.Lent.{Lends, IsOfInput, Stays}
 use denote.Ref.{Bor}
 use Rattle.std.specs.Prelude.{MatchOption}
 use Rattle.cbor4ii_rw.specs.Reference.{bytes_of, IsSubslice}
@@ -23,6 +23,13 @@ use Rattle.cbor4ii_items.specs.ReadStrings.{content_on}
 use Rattle.cbor4ii_items.specs.Laws.DefiniteContent.{content_short, content_whole}
 use Rattle.cbor4ii_items.specs.Laws.Prefixes.{drop_more}
 use Rattle.cbor4ii_items.specs.Laws.Steps.{kept_then}
+
+-- nothing was taken by one call, nor by the next
+pub stays_then : {a b c : View} → Stays a b → Stays b c → Stays a c
+stays_then p q = record {
+  kept = kept_then p.kept q.kept;
+  known = λ xs known. q.known xs (p.known xs known);
+}
 
 two_parts : (i count : ℕ) (before xs : List ℕ) → i ≤ count
     → (before ++ take i xs) ++ take (count - i) (drop i xs) ≡ before ++ take count xs

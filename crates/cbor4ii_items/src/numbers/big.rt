@@ -16,7 +16,7 @@ ghost use Rattle.cbor4ii_items.specs.Decoding.{leaf_format};
 use crate::bignum::{NEGATIVE_BIGNUM, POSITIVE_BIGNUM};
 use crate::decode::{Decodable, Decode};
 use crate::encode::Encode;
-use crate::head::{head, length, number, peek};
+use crate::head::{head, head_by_bytes, length, number, peek};
 use crate::initial::if_major;
 use crate::major;
 use crate::prefix::take_head;
@@ -100,7 +100,7 @@ fn u128_by_bytes<S: Source>(reader: &mut S) -> Result<u128, DecodeError<S::Error
     ensures progress { OnOk result ((S.view reader.new).bound + 1 ≤ (S.view reader.old).bound) }
 {
     if if_major(peek(reader, "u128", 1)?) == major::UNSIGNED {
-        let argument = head(reader, "u64", major::UNSIGNED, 8)?;
+        let argument = head_by_bytes(reader, "u64", major::UNSIGNED, 8)?;
         return Ok(argument as u128);
     }
     let tag = head(reader, "u128", major::TAG, 1)?;
@@ -161,11 +161,11 @@ fn i128_by_bytes<S: Source>(reader: &mut S) -> Result<i128, DecodeError<S::Error
 {
     let major = if_major(peek(reader, "i128", 1)?);
     if major == major::UNSIGNED {
-        let argument = head(reader, "u64", major::UNSIGNED, 8)?;
+        let argument = head_by_bytes(reader, "u64", major::UNSIGNED, 8)?;
         return Ok(positive(argument as u128));
     }
     if major == major::NEGATIVE {
-        let argument = head(reader, "i128", major::NEGATIVE, 8)?;
+        let argument = head_by_bytes(reader, "i128", major::NEGATIVE, 8)?;
         return Ok(negative(argument as u128));
     }
     let tag = head(reader, "i128", major::TAG, 1)?;

@@ -11,7 +11,7 @@ ghost use Rattle.cbor4ii_items.specs.Laws.Signed.{signed_lawful};
 
 use crate::decode::{Decodable, Decode};
 use crate::encode::Encode;
-use crate::head::{head, peek};
+use crate::head::{head_by_bytes, peek};
 use crate::initial::if_major;
 use crate::major;
 use crate::prefix::take_head;
@@ -21,8 +21,7 @@ use cbor4ii_rw::read::Source;
 use cbor4ii_rw::write::Write;
 use std::alloc::Global;
 
-/// A head with an argument below `limit`.
-#[inline(always)]
+/// A head with an argument below `limit`, one byte at a time.
 fn head_below<S: Source>(
     reader: &mut S,
     name: StaticStr,
@@ -36,7 +35,7 @@ fn head_below<S: Source>(
     ensures below { IfOk result (λ v. v < limit) }
     ensures progress { OnOk result ((S.view reader.new).bound + 1 ≤ (S.view reader.old).bound) }
 {
-    let argument = head(reader, name, major, width)?;
+    let argument = head_by_bytes(reader, name, major, width)?;
     if argument >= limit {
         return Err(DecodeError::CastOverflow { name });
     }

@@ -8,16 +8,17 @@ use crate::serde::de::deserialize::Deserialize;
 use crate::serde::de::deserializer::Deserializer;
 use crate::serde::de::error::DecodeError;
 use cbor4ii_items::major;
-use cbor4ii_rw::ask::{at_most, look};
+use cbor4ii_rw::ask::look;
 use cbor4ii_rw::error::StaticStr;
 use cbor4ii_rw::read::Source;
 use std::alloc::Global;
 use std::str;
 
-/// So many bytes at most are looked at first. They hold a name of up to 255 bytes with its head.
+/// So many bytes are looked at, where a look may ask for them. They hold a name of up to 255 bytes
+/// with its head.
 const LOOK: usize = 257;
 
-/// A later look asks for so many at most.
+/// Where fewer bytes than `LOOK` may be asked for, a look asks for so many at most.
 const AGAIN: usize = 256;
 
 /// The first byte of a text whose length stands in the next byte (RFC 8949 section 3).
@@ -45,30 +46,30 @@ pub(crate) fn take_name<S: Source>(
     ensures { TakesName names.now (input S.view de.old) (input S.view de.new)
         (answer_of result) }
 {
-    let want = at_most(&de.reader, LOOK);
-    match take_shown_name(de, names, want) {
+    if de.reader.window() < LOOK {
+        return take_name_narrowly(alloc, de, names);
+    }
+    match take_shown_name(de, names, LOOK) {
         Ok(Seen::Whole { at, .. }) => Ok(at),
-        Ok(Seen::Cut(size)) if want < size => take_longer_name(alloc, de, names, size),
         Ok(Seen::Cut(_)) => take_any_name(alloc, de, names),
         Ok(Seen::Other) => take_any_name(alloc, de, names),
         Err(error) => Err(error),
     }
 }
 
-/// As `take_name`, of a name that has `size` bytes with its head, or more: they are looked at, and
-/// then all that it has.
+/// As `take_name`, where fewer bytes may be asked for than `LOOK`: so many at first, and then those
+/// that the name is seen to have.
 #[cold]
 #[inline(never)]
-fn take_longer_name<S: Source>(
+fn take_name_narrowly<S: Source>(
     alloc: Global,
     de: &mut Deserializer<S>,
     names: &[StaticStr],
-    size: usize,
 ) -> Result<usize, DecodeError<S::Error>>
     ensures { TakesName names.now (input S.view de.old) (input S.view de.new)
         (answer_of result) }
 {
-    let mut want = size;
+    let mut want = de.reader.window();
     while want <= AGAIN {
         match take_shown_name(de, names, want) {
             Ok(Seen::Whole { at, .. }) => return Ok(at),

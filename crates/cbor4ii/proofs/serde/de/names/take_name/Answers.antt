@@ -4,12 +4,6 @@ use Rattle.cbor4ii.proofs.serde.de.names.take_name.Goals as goal
 
 pub returns-in-Ok-Cut : goal.returns-in-Ok-Cut
 returns-in-Ok-Cut g c =
-    then_takes c.args.names.now _ (answer_of c.take_longer_name.result)
-    (rw c.in-Ok-Cut.field-0-is at c.in-Ok-Cut.ensures)
-    c.take_longer_name.ensures
-
-pub returns-in-Ok-Cut-2 : goal.returns-in-Ok-Cut-2
-returns-in-Ok-Cut-2 g c =
     then_takes c.args.names.now _ (answer_of c.take_any_name.result)
     (rw c.in-Ok-Cut.field-0-is at c.in-Ok-Cut.ensures)
     c.take_any_name.ensures

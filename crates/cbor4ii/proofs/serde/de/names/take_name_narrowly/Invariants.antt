@@ -1,7 +1,7 @@
 use Rattle.std.proofs.Common.{◌-◌}
 use Rattle.cbor4ii_items.specs.Lent.{Stays}
 use Rattle.cbor4ii.specs.Typed.{input}
-use Rattle.cbor4ii.proofs.serde.de.names.take_longer_name.Given as goal
+use Rattle.cbor4ii.proofs.serde.de.names.take_name_narrowly.Given as goal
 
 -- nothing was taken yet
 abbrev pub invariant-loop-want : goal.invariant-loop-want
