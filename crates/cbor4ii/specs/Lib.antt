@@ -22,6 +22,7 @@ pub mod AnyRejects
 pub mod AnyFormat
 pub mod Beginning
 pub mod TypedParts
+pub mod Elements
 pub mod Structs
 pub mod Made
 pub mod Presence
@@ -30,6 +31,7 @@ pub mod ReadBack
 pub mod Names
 pub mod Codec
 pub mod CodecFields
+pub mod CodecElements
 pub mod CodecCases
 pub mod CodecAgrees
 -- ---- laws

@@ -9,6 +9,7 @@
 //! | `page` | a struct over a type parameter, and its law |
 //! | `point` | a struct with an optional field, written and read in one call each, and its laws |
 //! | `sample` | a struct that is written part by part |
+//! | `reading` | a struct that is written as an array, with no names |
 //! | `label` | a struct that borrows from the input |
 //! | `enumeration` | an enum with variants of each kind, which a function reads |
 //! | `event` | an enum that is read inside other types, as in a vector or a map |
@@ -42,6 +43,7 @@ pub mod nest;
 pub mod page;
 pub mod point;
 pub mod raw_items;
+pub mod reading;
 #[cfg(test)]
 mod rejected;
 pub mod reply;

@@ -9,6 +9,7 @@
 
 pub mod bounded;
 pub mod collect;
+pub mod elements;
 pub mod error;
 mod fields;
 mod heads;

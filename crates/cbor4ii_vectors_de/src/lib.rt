@@ -27,6 +27,8 @@ mod cow;
 #[cfg(test)]
 mod deserializer;
 #[cfg(test)]
+mod elements;
+#[cfg(test)]
 mod enum_accessor;
 #[cfg(test)]
 mod error;

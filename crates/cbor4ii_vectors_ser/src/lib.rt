@@ -13,6 +13,8 @@ mod by_pieces;
 #[cfg(test)]
 mod collect;
 #[cfg(test)]
+mod elements;
+#[cfg(test)]
 mod error;
 #[cfg(test)]
 mod fields;

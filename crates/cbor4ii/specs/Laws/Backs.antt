@@ -73,6 +73,15 @@ after_back count reads bytes v cost h back rest =
       refl,
     )
 
+-- a head that counts so many, and what is read back after it
+pub counted_back : {V : Type 0} (count : ℕ) (reads : Reads V) (o : Encoding) (v : V) (cost : ℕ)
+    → count < 2 ^ 64 → IsReadBack reads o v cost
+    → IsReadBack (Stepped (ReadsAfter count reads)) (followed (encoded (shortest_head 4 count)) o) v
+    (1 + cost)
+unfolding followed
+counted_back count reads (rejected bytes words) v cost few h = tt
+counted_back count reads (encoded bytes) v cost few h = after_back count reads bytes v cost few h
+
 pub two_back : {A B : Type 0} (first : Reads A) (second : Reads B) (xs ys : List ℕ) (p : A × B)
     (c d : ℕ) → ReadsBack first xs p.0 c → ReadsBack second ys p.1 d
     → ReadsBack (ReadsPair first second) (xs ++ ys) p (max c d)

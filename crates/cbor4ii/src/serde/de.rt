@@ -11,6 +11,7 @@ mod counted_fields;
 mod cow;
 pub mod deserialize;
 pub mod deserializer;
+pub mod elements;
 pub mod enum_accessor;
 pub mod error;
 pub mod fields;

@@ -1,0 +1,63 @@
+-- Arrays of so many elements that are read in one call, each of a type of its own.
+use Rattle.std.proofs.Common.{◌≡◌, ℕ, ◌+◌, List, Bool, true, IsTrue, refl, sym, ◌∙◌, arith}
+use Rattle.std.specs.Prelude.{◌&&◌}
+use Rattle.cbor4ii_items.specs.Decoding.{Reads, RejectsAt, Format, IsLawful, looking_format}
+use Rattle.cbor4ii_items.specs.Laws.Containers.{both}
+use Rattle.cbor4ii_items.specs.Laws.Sequences.{pair_lawful}
+use Rattle.cbor4ii_items.specs.Sequences.{pair_format}
+use Rattle.cbor4ii.specs.Typed.{Promise, not_exact}
+use Rattle.cbor4ii.specs.TypedParts.{part_of, part_lawful, container, tuple_of, tuple_lawful}
+
+-- What elements promise together: how many they are, and how they are read one after another, with
+-- no head before them.
+pub record Elements (V : Type 0) : Type 1 where
+  pub count : ℕ
+  pub format : Format V
+  -- each of them is exact
+  pub exact : Bool
+  pub lawful : IsTrue exact → IsLawful format
+
+-- ---- none
+
+-- of any bytes none is taken
+abbrev pub ReadsNone : Reads (Unit {0})
+ReadsNone xs v n c = (n ≡ 0) × (c ≡ 0)
+
+-- no bytes are rejected
+abbrev pub RejectsNone : RejectsAt
+RejectsNone xs budget err rest = ⊥
+
+pub none_lawful : IsLawful (looking_format ReadsNone RejectsNone)
+none_lawful = record {
+  one = λ xs v w n m c d p q. (p.0 ∙ sym q.0, p.1 ∙ sym q.1, refl);
+  within = λ xs v n c p. omega (arith, p.0);
+  positive = not_exact;
+  alone = not_exact;
+}
+
+abbrev pub no_element : Elements (Unit {0})
+no_element = record {
+  count = 0;
+  format = looking_format ReadsNone RejectsNone;
+  exact = true;
+  lawful = λ is. none_lawful;
+}
+
+-- ---- one and more
+
+-- an element, and those after it
+abbrev pub element_before : {T V : Type 0} → Promise T → Elements V → Elements (T × V)
+element_before p others = record {
+  count = 1 + others.count;
+  format = pair_format (part_of p) others.format;
+  exact = p.exact && others.exact;
+  lawful = λ is.
+      (let h = both p.exact others.exact is in
+      pair_lawful (part_of p) others.format (part_lawful p h.0) (others.lawful h.1));
+}
+
+-- an array of a definite length that counts them, under a step, as a pair and a triple are
+abbrev pub typed_elements : {V : Type 0} → Elements V → Promise V
+typed_elements e =
+    container e.exact (tuple_of e.count e.format) refl
+    (λ is. tuple_lawful e.count e.format (e.lawful is))
