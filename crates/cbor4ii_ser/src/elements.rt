@@ -88,7 +88,9 @@ impl<E> Answer<E> for Result<(), EncodeError<E>> {
     ghost outcome = { λ answer. answer };
 
     #[inline(always)]
-    fn of(answer: Result<(), EncodeError<E>>) -> Result<(), EncodeError<E>> {
+    fn of(answer: Result<(), EncodeError<E>>) -> Result<(), EncodeError<E>>
+        ensures { result ≡ answer }
+    {
         answer
     }
 }

@@ -1,0 +1,22 @@
+use Rattle.std.proofs.Common.{rules}
+use Rattle.cbor4ii_items.specs.Laws.Calls.{of_exact}
+use Rattle.cbor4ii.specs.Elements.{typed_elements}
+use Rattle.cbor4ii.specs.Tuples.{after_format}
+use Rattle.cbor4ii.specs.Typed.{answer_of}
+use Rattle.cbor4ii.proofs.Promised.{promised}
+use Rattle.cbor4ii.proofs.Steps.{under_if, no_step_left}
+use Rattle.cbor4ii.proofs.serde.de.elements.take_elements.Goals as goal
+
+pub returns-then-not-step_in : goal.returns-then-not-step_in
+returns-then-not-step_in g c =
+    let e = g.V.TypedElements.elements in
+    promised (typed_elements e) (of_exact (no_step_left (after_format e.count e.format) _
+    (search rules) c.if-not-step_in.ensures.budget c.step_in.ensures.others))
+
+pub returns : goal.returns
+returns g c =
+    let e = g.V.TypedElements.elements in
+    promised (typed_elements e) (under_if (after_format e.count e.format) _
+    c.if-not-step_in.ensures.budget c.step_in.ensures.others c.step_out.ensures.others
+    (answer_of c.elements_after-outcome.result) c.step_out.ensures.budget
+    c.elements_after-outcome.ensures)
