@@ -1,7 +1,8 @@
 -- Arrays of so many elements that are read in one call, each of a type of its own.
-use Rattle.std.proofs.Common.{◌≡◌, ℕ, ◌+◌, List, Bool, true, IsTrue, refl, sym, ◌∙◌, arith}
+use Rattle.std.proofs.Common.{◌≡◌, ℕ, ◌+◌, List, Bool, true, IsTrue, Option, sym, ◌∙◌, arith, refl}
 use Rattle.std.specs.Prelude.{◌&&◌}
 use Rattle.cbor4ii_items.specs.Decoding.{Reads, RejectsAt, Format, IsLawful, looking_format}
+use Rattle.cbor4ii_items.specs.InputError.{InputError}
 use Rattle.cbor4ii_items.specs.Laws.Containers.{both}
 use Rattle.cbor4ii_items.specs.Laws.Sequences.{pair_lawful}
 use Rattle.cbor4ii_items.specs.Sequences.{pair_format}
@@ -61,3 +62,34 @@ abbrev pub typed_elements : {V : Type 0} → Elements V → Promise V
 typed_elements e =
     container e.exact (tuple_of e.count e.format) refl
     (λ is. tuple_lawful e.count e.format (e.lawful is))
+
+-- ---- the same, by another type
+
+-- what the first rejects, the second rejects so too
+abbrev pub AlsoRejects : RejectsAt → RejectsAt → Type 0
+AlsoRejects first second =
+    (xs : List ℕ) (budget : Option ℕ) (err : InputError) (rest : List ℕ)
+    → first xs budget err rest → second xs budget err rest
+
+-- The two formats read the same bytes at the same cost, one as a value and the other as what `to`
+-- makes of it, and reject all others alike.
+pub record ReadsAlike {V W : Type 0} (to : V → W) (first : Format V) (second : Format W)
+    : Type 0 where
+  -- each value of the second is made of one of the first
+  pub onto : (w : W) → (v : V) × (to v ≡ w)
+  pub read : (xs : List ℕ) (v : V) (n c : ℕ) → first.reads xs v n c → second.reads xs (to v) n c
+  pub reads : (xs : List ℕ) (v : V) (n c : ℕ) → second.reads xs (to v) n c → first.reads xs v n c
+  pub rejected : AlsoRejects first.rejects second.rejects
+  pub rejects : AlsoRejects second.rejects first.rejects
+  -- the same over any reader
+  pub begun : AlsoRejects first.begins second.begins
+  pub begins : AlsoRejects second.begins first.begins
+  pub owned : first.owned ≡ second.owned
+  pub takes_memory : first.takes_memory ≡ second.takes_memory
+
+-- Two types promise the same, one of a value and the other of what `to` makes of it.
+pub record PromisesAlike {V W : Type 0} (to : V → W) (first : Promise V) (second : Promise W)
+    : Type 0 where
+  pub format : ReadsAlike to first.format second.format
+  pub exact : first.exact ≡ second.exact
+  pub known : first.known ≡ second.known

@@ -3,6 +3,7 @@
 pub mod Accessors
 pub mod Any
 pub mod Backs
+pub mod ElementsAlike
 pub mod FieldsBack
 pub mod StructsBack
 pub mod ValuesBack

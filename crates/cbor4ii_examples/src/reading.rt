@@ -33,9 +33,10 @@ impl Serialize for Reading {
     ghost encoding = { ⟦<Reading as Described>⟧.codec.encoding };
 
     fn serialize<W: Write>(&self, ser: &mut Serializer<W>) -> Result<(), EncodeError<W::Error>> {
-        ser.serialize_elements(
-            &(&self.sensor, (&self.time, (&self.mean, (&self.note, (&self.samples, ()))))),
-        )
+        ser.serialize_elements(&(
+            &self.sensor,
+            (&self.time, (&self.mean, (&self.note, (&self.samples, ())))),
+        ))
     }
 }
 

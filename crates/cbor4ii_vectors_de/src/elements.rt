@@ -2,8 +2,9 @@
 ghost use Rattle.std.specs.Prelude.{◌∷◌, []};
 ghost use Rattle.cbor4ii_ser.specs.Item.{tuple_encoding};
 
-use crate::typed::{Answer, BothShown, Rejected, RowShown, RowShownWithin, Take};
-use crate::typed::{rejects, tries_shown};
+use crate::typed::{
+    Answer, BothShown, Rejected, RowShown, RowShownWithin, Take, rejects, tries_shown,
+};
 use cbor4ii::serde::{DecodeError, Deserializer, EncodeError, Serialize, Serializer};
 use cbor4ii_rw::read::Source;
 use cbor4ii_rw::write::Write;

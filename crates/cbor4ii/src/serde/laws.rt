@@ -24,6 +24,9 @@ ghost use Rattle.cbor4ii_tree.specs.Item.{Item};
 ghost use Rattle.cbor4ii_ser.specs.Item.{Encoding, encoded, variant_encoding};
 ghost use Rattle.cbor4ii_ser.specs.OneItem.{canonical};
 ghost use Rattle.cbor4ii.specs.AnyCost.{any_cost};
+ghost use Rattle.cbor4ii.specs.Elements.{element_before, no_element, typed_elements};
+ghost use Rattle.cbor4ii.specs.Elements.{PromisesAlike};
+ghost use Rattle.cbor4ii.specs.Laws.ElementsAlike.{as_pair, as_triple};
 ghost use Rattle.cbor4ii.specs.Optional.{ReadsPresence, RejectsPresence};
 ghost use Rattle.cbor4ii.specs.ReadBack.{IsReadBack, BeginsOther, IsNullItem, IsName};
 ghost use Rattle.cbor4ii.specs.Typed.{Lawful};
@@ -63,6 +66,18 @@ pub fn tuples_are_read_back<A: Typed + Serialize, B: Typed + Serialize, C: Typed
         IsReadBack C.promise.format.reads (C.encoding p.2) p.2 third →
         IsReadBack ⟦<(A, B, C) as Typed>⟧.promise.format.reads
         (⟦<(A, B, C) as Serialize>⟧.encoding p) p (1 + max first (max second third)) }
+{}
+
+/// An array of two elements is read as a pair is, and one of three as a triple: the same bytes, as
+/// the same values, at the same cost. All other bytes are rejected alike.
+pub fn elements_are_read_as_tuples<A: Typed, B: Typed, C: Typed>()
+    ensures pair { PromisesAlike as_pair
+        (typed_elements (element_before A.promise (element_before B.promise no_element)))
+        ⟦<(A, B) as Typed>⟧.promise }
+    ensures triple { PromisesAlike as_triple
+        (typed_elements (element_before A.promise (element_before B.promise
+        (element_before C.promise no_element))))
+        ⟦<(A, B, C) as Typed>⟧.promise }
 {}
 
 /// A vector is read back wherever each of its values is: at one step and the greatest cost of a

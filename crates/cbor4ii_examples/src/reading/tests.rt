@@ -18,7 +18,8 @@ impl Take for Reading {
     }
 }
 
-const NOTED: &str = "Is(Reading { sensor: 7, time: 256, mean: -1, note: Some(\"a\"), samples: [] })";
+const NOTED: &str =
+    "Is(Reading { sensor: 7, time: 256, mean: -1, note: Some(\"a\"), samples: [] })";
 
 const PLAIN: &str = "Is(Reading { sensor: 0, time: 24, mean: 5, note: None, samples: [4, 500] })";
 

@@ -101,10 +101,11 @@ impl<S: Source> Deserializer<S> {
     ///   indefinite. Its head was taken
     /// - those of each element, with what they leave. What was read before is let go then, and what
     ///   follows it is left
-    pub fn deserialize_elements<A: Deserialize<S> + Drop, B: DeserializeElements<S>, T: From<(A, B)>>(
-        &mut self,
-        alloc: Global,
-    ) -> Result<T, DecodeError<S::Error>>
+    pub fn deserialize_elements<
+        A: Deserialize<S> + Drop,
+        B: DeserializeElements<S>,
+        T: From<(A, B)>,
+    >(&mut self, alloc: Global) -> Result<T, DecodeError<S::Error>>
         ensures { Deserializes
             (made_from T.from_gives (typed_elements (element_before A.promise B.elements)))
             (input S.view self.old) (input S.view self.new) (answer_of result) }
