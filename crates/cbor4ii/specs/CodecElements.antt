@@ -88,7 +88,8 @@ module _ {V : Type 0} (p : ElementCodecs V) (few : p.elements.count < 2 ^ 64) wh
 
 pub elements_are_back : {R V : Type 0} (values : R → V) (p : ElementCodecs V)
     → p.elements.count < 2 ^ 64 → Hold p.facts → (alloc : Global) (r : R) → p.stands (values r)
-    → IsReadBack (made_from (λ (v : V) (r : R). v ≡ values r) (typed_elements p.elements)).format.reads
+    → IsReadBack
+    (made_from (λ (v : V) (r : R). v ≡ values r) (typed_elements p.elements)).format.reads
     (tuple_encoding (p.items (values r))) r (1 + p.cost (values r))
 elements_are_back {R = R} {V = V} values p few hold alloc r h =
     let v = values r in

@@ -1,6 +1,6 @@
 -- Two and three elements are read as a pair and a triple are.
-use Rattle.std.proofs.Common.{◌≡◌, ℕ, ◌+◌, List, drop, max, Bool, true, false, inl, inr, refl, sym}
-use Rattle.std.proofs.Common.{ap, subst, arith}
+use Rattle.std.proofs.Common.{◌≡◌, ℕ, List, drop, Bool, true, false, inl, inr, refl, sym, ap}
+use Rattle.std.proofs.Common.{subst, arith}
 use Rattle.std.specs.Prelude.{◌&&◌, ◌||◌, codes}
 use Rattle.cbor4ii_items.specs.Decoding.{Reads, RejectsAt, Format, format_by}
 use Rattle.cbor4ii_items.specs.Sequences.{ReadsPair, RejectsPair, pair_format, after_step}

@@ -1,4 +1,4 @@
-use Rattle.std.proofs.Common.{ap, length}
+use Rattle.std.proofs.Common.{ap}
 use Rattle.cbor4ii_items.specs.Numbers.{shortest_head}
 use Rattle.cbor4ii_ser.specs.Item.{encoded, followed, parts}
 use Rattle.cbor4ii_ser.specs.Laws.Joining.{serializes_as, serializes_err, serializes_then}
