@@ -3,8 +3,8 @@
 //! A type that is `serialize::Serialize` says which item stands for each of its values, and writes
 //! it by the calls of a `serializer::Serializer`: one for each kind of value, `collect::Collect`
 //! and `bounded::BoundedCollect` for arrays and maps that are written part by part, one call for a
-//! struct or a variant of so many fields, and one for an array of so many elements. A text that comes in pieces is a `text::Text`.
-//! `write_all` has the calls that write one value whole.
+//! struct or a variant of so many fields, and one for an array of so many elements. A text
+//! that comes in pieces is a `text::Text`. `write_all` has the calls that write one value whole.
 #![tactic(auto)]
 
 pub mod bounded;
