@@ -30,3 +30,4 @@ pub mod Raws
 pub mod Names
 pub mod Casing
 pub mod Apart
+pub mod Tags

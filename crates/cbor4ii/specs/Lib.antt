@@ -23,6 +23,7 @@ pub mod AnyFormat
 pub mod Beginning
 pub mod TypedParts
 pub mod Elements
+pub mod Tagged
 pub mod Structs
 pub mod Made
 pub mod Presence
@@ -34,5 +35,6 @@ pub mod CodecFields
 pub mod CodecElements
 pub mod CodecCases
 pub mod CodecAgrees
+pub mod CodecItems
 -- ---- laws
 pub mod Laws

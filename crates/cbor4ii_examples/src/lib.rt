@@ -18,6 +18,7 @@
 //! | `log` | a log of events, out of parts that are cut anywhere or out of a stream |
 //! | `line` | requests and answers over a line, whose reader waits for no byte too many |
 //! | `meters` | a newtype, read and written as what it holds |
+//! | `moment` | a newtype with a tag before it, and a struct that holds it |
 //! | `nest` | a type that holds values of its own kind |
 //! | `tree` | a struct that holds values of its own kind, written in one call and read as a value |
 //! | `station` | a type that is read and written by hand, each error proved |
@@ -39,6 +40,7 @@ pub mod label;
 pub mod line;
 pub mod log;
 pub mod meters;
+pub mod moment;
 pub mod nest;
 pub mod page;
 pub mod point;

@@ -8,4 +8,5 @@ pub mod Pieces
 pub mod HeldRun
 pub mod TextState
 pub mod Values
+pub mod Tagged
 pub mod Laws

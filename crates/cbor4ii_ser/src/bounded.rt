@@ -281,6 +281,6 @@ pub(crate) fn put_field<W: Write, T: Serialize>(
             None => answer,
         };
     }
-    ser.put(&name)?;
+    ser.serialize_item(&name)?;
     value.serialize(ser)
 }

@@ -32,6 +32,7 @@ ghost use Rattle.cbor4ii_ser.specs.Item.{tuple_variant_encoding, struct_variant_
 ghost use Rattle.cbor4ii_ser.specs.OneItem.{Form, shortest_heads, canonical, IsOneItem, IsOneEntry};
 ghost use Rattle.cbor4ii_ser.specs.OneItem.{collected_encoding, IsReadWhole, IsReadCanonically};
 ghost use Rattle.cbor4ii_ser.specs.Pieces.{Chunks, text_bytes, chunk_most};
+ghost use Rattle.cbor4ii_ser.specs.Tagged.{tagged_encoding};
 ghost use Rattle.cbor4ii_ser.specs.TextState.{text_encoding};
 
 use crate::serialize::Serialize;
@@ -127,6 +128,13 @@ pub fn wrapped_values_are_items<'a, T: Serialize + 'a>()
     ensures option { (form : Form) (v : Option T) →
         ((u : T) → v ≡ Some u → IsOneItem form (T.encoding u)) →
         IsOneItem form (⟦<Option<T> as Serialize>⟧.encoding v) }
+{}
+
+/// A tag before a value is one item wherever the value is, canonical where that is.
+pub fn tagged_values_are_items<T: Serialize>()
+    ensures { (form : Form) (number : ℕ) (v : T) → number < 2 ^ 64 →
+        IsOneItem form (T.encoding v) →
+        IsOneItem form (tagged_encoding number (T.encoding v)) }
 {}
 
 /// The unit is written as one canonical item. A pair and a triple are written as one item wherever

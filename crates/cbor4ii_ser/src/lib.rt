@@ -22,6 +22,7 @@ mod sequences;
 pub mod serialize;
 pub mod serializer;
 mod slot;
+mod tagged;
 pub mod text;
 mod tuples;
 mod value;

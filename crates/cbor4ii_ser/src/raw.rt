@@ -15,7 +15,7 @@ impl<'a> Serialize for RawValue<'a> {
     ghost encoding = { λ v. encoded (raw_content v) };
 
     fn serialize<W: Write>(&self, ser: &mut Serializer<W>) -> Result<(), EncodeError<W::Error>> {
-        ser.put(self)
+        ser.serialize_item(self)
     }
 }
 
@@ -24,7 +24,7 @@ impl<'a> Serialize for PlainRawValue<'a> {
     ghost encoding = { λ v. encoded (plain_raw_content v) };
 
     fn serialize<W: Write>(&self, ser: &mut Serializer<W>) -> Result<(), EncodeError<W::Error>> {
-        ser.put(self)
+        ser.serialize_item(self)
     }
 }
 
@@ -33,6 +33,6 @@ impl Serialize for BoxedRawValue {
     ghost encoding = { λ v. encoded (boxed_content v) };
 
     fn serialize<W: Write>(&self, ser: &mut Serializer<W>) -> Result<(), EncodeError<W::Error>> {
-        ser.put(self)
+        ser.serialize_item(self)
     }
 }

@@ -53,21 +53,28 @@ impl<W: Write> Serializer<W> {
         false
     }
 
-    /// Writes an item that is never missing.
+    /// One item of the codec, of any type that is encoded, in the pushes in which its `encode`
+    /// writes it: `Simple`, `Tag`, `CowStr`, `RawValue` or a user's own.
+    /// `Deserializer::deserialize_item` of `cbor4ii` reads it. That its bytes are one item is not
+    /// asked of a type.
+    ///
+    /// # Errors
+    ///
+    /// `Core`, which is described at `Serializer`.
     #[inline]
-    pub(crate) fn put<T: Encode>(&mut self, value: &T) -> Result<(), EncodeError<W::Error>>
+    pub fn serialize_item<T: Encode>(&mut self, value: &T) -> Result<(), EncodeError<W::Error>>
         ensures { Serializes W.atomic (encoded (T.bytes value.now))
             (output W.view self.old) (output W.view self.new) result }
     {
         if has_large_error::<W>() {
-            return self.put_apart(value);
+            return self.item_apart(value);
         }
         Ok(value.encode(&mut self.writer)?)
     }
 
     /// The same, out of line: to a writer with a large error the caller's frame stays small.
     #[inline(never)]
-    fn put_apart<T: Encode>(&mut self, value: &T) -> Result<(), EncodeError<W::Error>>
+    fn item_apart<T: Encode>(&mut self, value: &T) -> Result<(), EncodeError<W::Error>>
         ensures { Serializes W.atomic (encoded (T.bytes value.now))
             (output W.view self.old) (output W.view self.new) result }
     {
@@ -129,7 +136,7 @@ impl<W: Write> Serializer<W> {
         if has_large_error::<W>() {
             return self.put_head(major::SIMPLE, if value { 21 } else { 20 });
         }
-        self.put(&value)
+        self.serialize_item(&value)
     }
 
     /// An integer, as a head.
@@ -145,7 +152,7 @@ impl<W: Write> Serializer<W> {
         if has_large_error::<W>() {
             return self.put_signed(value as i64);
         }
-        self.put(&value)
+        self.serialize_item(&value)
     }
 
     /// An integer, as a head.
@@ -161,7 +168,7 @@ impl<W: Write> Serializer<W> {
         if has_large_error::<W>() {
             return self.put_signed(value as i64);
         }
-        self.put(&value)
+        self.serialize_item(&value)
     }
 
     /// An integer, as a head.
@@ -177,7 +184,7 @@ impl<W: Write> Serializer<W> {
         if has_large_error::<W>() {
             return self.put_signed(value as i64);
         }
-        self.put(&value)
+        self.serialize_item(&value)
     }
 
     /// An integer, as a head.
@@ -193,7 +200,7 @@ impl<W: Write> Serializer<W> {
         if has_large_error::<W>() {
             return self.put_signed(value);
         }
-        self.put(&value)
+        self.serialize_item(&value)
     }
 
     /// An integer, as a head; below -2^64 and from 2^64 on as a bignum (RFC 8949 section 3.4.3).
@@ -205,7 +212,7 @@ impl<W: Write> Serializer<W> {
         ensures { Serializes W.atomic (encoded (signed_bytes value))
             (output W.view self.old) (output W.view self.new) result }
     {
-        self.put(&value)
+        self.serialize_item(&value)
     }
 
     /// An integer from 0 on, as a head.
@@ -221,7 +228,7 @@ impl<W: Write> Serializer<W> {
         if has_large_error::<W>() {
             return self.put_head(major::UNSIGNED, value as u64);
         }
-        self.put(&value)
+        self.serialize_item(&value)
     }
 
     /// An integer from 0 on, as a head.
@@ -237,7 +244,7 @@ impl<W: Write> Serializer<W> {
         if has_large_error::<W>() {
             return self.put_head(major::UNSIGNED, value as u64);
         }
-        self.put(&value)
+        self.serialize_item(&value)
     }
 
     /// An integer from 0 on, as a head.
@@ -253,7 +260,7 @@ impl<W: Write> Serializer<W> {
         if has_large_error::<W>() {
             return self.put_head(major::UNSIGNED, value as u64);
         }
-        self.put(&value)
+        self.serialize_item(&value)
     }
 
     /// An integer from 0 on, as a head.
@@ -269,7 +276,7 @@ impl<W: Write> Serializer<W> {
         if has_large_error::<W>() {
             return self.put_head(major::UNSIGNED, value);
         }
-        self.put(&value)
+        self.serialize_item(&value)
     }
 
     /// An integer from 0 on, as a head; from 2^64 on as a bignum (RFC 8949 section 3.4.3).
@@ -281,7 +288,7 @@ impl<W: Write> Serializer<W> {
         ensures { Serializes W.atomic (encoded (unsigned_bytes value))
             (output W.view self.old) (output W.view self.new) result }
     {
-        self.put(&value)
+        self.serialize_item(&value)
     }
 
     /// A float of two bytes, as its bits.
@@ -294,7 +301,7 @@ impl<W: Write> Serializer<W> {
         ensures { Serializes W.atomic (encoded (float_bytes 0xf9 2 bits))
             (output W.view self.old) (output W.view self.new) result }
     {
-        self.put(&F16(bits))
+        self.serialize_item(&F16(bits))
     }
 
     /// A float of four bytes, as its bits.
@@ -307,7 +314,7 @@ impl<W: Write> Serializer<W> {
         ensures { Serializes W.atomic (encoded (float_bytes 0xfa 4 bits))
             (output W.view self.old) (output W.view self.new) result }
     {
-        self.put(&F32(bits))
+        self.serialize_item(&F32(bits))
     }
 
     /// A float of eight bytes, as its bits.
@@ -320,7 +327,7 @@ impl<W: Write> Serializer<W> {
         ensures { Serializes W.atomic (encoded (float_bytes 0xfb 8 bits))
             (output W.view self.old) (output W.view self.new) result }
     {
-        self.put(&F64(bits))
+        self.serialize_item(&F64(bits))
     }
 
     /// A text of one character.
@@ -349,7 +356,7 @@ impl<W: Write> Serializer<W> {
         if has_large_error::<W>() {
             return self.put_string(major::STRING, value.as_bytes());
         }
-        self.put(&value)
+        self.serialize_item(&value)
     }
 
     /// A byte string of definite length.
@@ -365,7 +372,7 @@ impl<W: Write> Serializer<W> {
         if has_large_error::<W>() {
             return self.put_string(major::BYTES, value);
         }
-        self.put(&Bytes(value))
+        self.serialize_item(&Bytes(value))
     }
 
     /// Null, which is none.
@@ -381,7 +388,7 @@ impl<W: Write> Serializer<W> {
         if has_large_error::<W>() {
             return self.put_head(major::SIMPLE, 22);
         }
-        self.put(&Null)
+        self.serialize_item(&Null)
     }
 
     /// The value itself.

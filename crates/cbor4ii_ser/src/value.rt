@@ -30,7 +30,7 @@ impl Serialize for Value {
         if holds_tag(self) {
             return Err(EncodeError::Custom("serialization Tag via serde is not supported"));
         }
-        ser.put(self)
+        ser.serialize_item(self)
     }
 }
 

@@ -73,6 +73,8 @@ mod some_accessor;
 #[cfg(test)]
 mod strings;
 #[cfg(test)]
+mod tagged;
+#[cfg(test)]
 mod tuples;
 pub mod typed;
 #[cfg(test)]

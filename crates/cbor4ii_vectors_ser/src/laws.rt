@@ -14,6 +14,7 @@ fn laws_of_items_are_called(rt: HostRuntime) {
     laws::numbers_are_items();
     laws::strings_are_items();
     laws::wrapped_values_are_items::<u8>();
+    laws::tagged_values_are_items::<u8>();
     laws::tuples_are_items::<u8, String, bool>();
     laws::vectors_are_items::<u8>();
     laws::maps_are_items::<u8, String>();

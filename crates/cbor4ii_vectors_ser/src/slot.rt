@@ -47,8 +47,8 @@ fn are_lengths(found: &[usize], wanted: &[usize]) -> Result<(), Fail> {
     Err(Fail::new(format_args!("pushes of {found:?} bytes in the place of {wanted:?}")))
 }
 
-// The calls push so many bytes each time, to a writer of either kind.
-fn pushes<T: Put>(alloc: Global, calls: &T, lengths: &[usize]) -> Result<(), Fail> {
+/// The calls push so many bytes each time, to a writer of either kind.
+pub fn pushes<T: Put>(alloc: Global, calls: &T, lengths: &[usize]) -> Result<(), Fail> {
     let mut small = Serializer::new(PushLengths::new(alloc));
     calls.put(&mut small)?;
     are_lengths(small.into_inner().lengths(), lengths)?;

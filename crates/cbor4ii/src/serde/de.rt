@@ -33,6 +33,7 @@ mod simple;
 pub mod some_accessor;
 mod stepped;
 mod strings;
+mod tagged;
 mod tuples;
 mod unit;
 pub mod variant_fields;

@@ -15,7 +15,7 @@ returns-then-holds_tag-clause-written g c =
     })
 
 pub returns-clause-written : goal.returns-clause-written
-returns-clause-written g c = rw (sym c.if-holds_tag.ensures) c.put.ensures
+returns-clause-written g c = rw (sym c.if-holds_tag.ensures) c.serialize_item.ensures
 
 pub returns-clause-untouched : goal.returns-clause-untouched
 returns-clause-untouched g c = λ h. absurd (let k : false ≡ true = c.if-holds_tag.ensures ∙ h in cc)
