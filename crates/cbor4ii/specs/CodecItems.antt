@@ -1,7 +1,6 @@
 -- Codecs of tagged values, and of types that are written and read as items of the codec.
-use Rattle.std.proofs.Common.{◌≡◌, ℕ, ◌<◌, ◌^◌, ◌++◌, List, length, IsTrue, ltb, ltb-true, refl}
-use Rattle.std.proofs.Common.{max}
-use Rattle.std.specs.declared.alloc.Global.{Global}
+use Rattle.std.proofs.Common.{ℕ, ◌<◌, ◌^◌, ◌++◌, List, IsTrue, ltb, ltb-true, refl}
+use Rattle.std.proofs.Common.{subst}
 use Rattle.cbor4ii_items.specs.Decoding.{Format, IsLawful, Reads}
 use Rattle.cbor4ii_items.specs.Head.{eight}
 use Rattle.cbor4ii_items.specs.Numbers.{shortest_head}
@@ -9,10 +8,11 @@ use Rattle.cbor4ii_items.specs.ReadBack.{ReadsBack}
 use Rattle.cbor4ii_items.specs.Sequences.{ReadsPair}
 use Rattle.cbor4ii_items.specs.Laws.NumbersBack.{head_back}
 use Rattle.cbor4ii_ser.specs.Item.{Encoding, encoded, rejected, followed}
-use Rattle.cbor4ii_ser.specs.OneItem.{OneItem, IsOneItem, canonical}
+use Rattle.cbor4ii_ser.specs.OneItem.{OneItem, canonical}
 use Rattle.cbor4ii_ser.specs.Tagged.{tagged_encoding, tagged_is_item}
-use Rattle.cbor4ii.specs.Codec.{Codec, Hold, no_facts, leaf_codec}
+use Rattle.cbor4ii.specs.Codec.{Codec, no_facts}
 use Rattle.cbor4ii.specs.Laws.Backs.{two_back}
+use Rattle.cbor4ii.specs.Laws.StructsBack.{no_dearer}
 use Rattle.cbor4ii.specs.ReadBack.{IsReadBack}
 use Rattle.cbor4ii.specs.Tagged.{ReadsTagHead, after_tag, typed_tagged}
 use Rattle.cbor4ii.specs.Typed.{exactly}
@@ -30,8 +30,10 @@ pub tagged_back : {V : Type 0} (reads : Reads V) (number : ℕ) (item : Encoding
 unfolding followed
 tagged_back reads number (rejected bytes words) v cost small back = tt
 tagged_back reads number (encoded bytes) v cost small back =
-    two_back (ReadsTagHead number) reads (shortest_head 6 number) bytes (after_tag v) 0 cost
-    (tag_head_back number small) back
+    subst (ReadsBack (ReadsPair (ReadsTagHead number) reads) (shortest_head 6 number ++ bytes)
+    (after_tag v)) (no_dearer cost)
+    (two_back (ReadsTagHead number) reads (shortest_head 6 number) bytes (after_tag v) 0 cost
+    (tag_head_back number small) back)
 
 -- a tag of this number, below 2^64, before a value that a codec describes
 abbrev pub tagged_codec : {T : Type 0} (number : ℕ) (c : Codec T) → IsTrue (ltb number (2 ^ 64))

@@ -1,6 +1,6 @@
 -- Tagged values: a tag of one number, and the value that it tags (RFC 8949 section 3.4).
 use Rattle.std.proofs.Common.{◌≡◌, ◌⊎◌, ℕ, List, drop, refl, arith}
-use Rattle.std.specs.Prelude.{codes, IsTrue}
+use Rattle.std.specs.Prelude.{codes}
 use Rattle.cbor4ii_items.specs.Decoding.{Reads, RejectsAt, Format, IsLawful, leaf_format}
 use Rattle.cbor4ii_items.specs.Decoding.{format_by}
 use Rattle.cbor4ii_items.specs.Heads.{ReadsHead, RejectsHead}

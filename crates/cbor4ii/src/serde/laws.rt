@@ -23,12 +23,14 @@ ghost use Rattle.cbor4ii_tree.specs.Canonical.{canonical_cost};
 ghost use Rattle.cbor4ii_tree.specs.Item.{Item};
 ghost use Rattle.cbor4ii_ser.specs.Item.{Encoding, encoded, variant_encoding};
 ghost use Rattle.cbor4ii_ser.specs.OneItem.{canonical};
+ghost use Rattle.cbor4ii_ser.specs.Tagged.{tagged_encoding};
 ghost use Rattle.cbor4ii.specs.AnyCost.{any_cost};
 ghost use Rattle.cbor4ii.specs.Elements.{element_before, no_element, typed_elements};
 ghost use Rattle.cbor4ii.specs.Elements.{PromisesAlike};
 ghost use Rattle.cbor4ii.specs.Laws.ElementsAlike.{as_pair, as_triple};
 ghost use Rattle.cbor4ii.specs.Optional.{ReadsPresence, RejectsPresence};
 ghost use Rattle.cbor4ii.specs.ReadBack.{IsReadBack, BeginsOther, IsNullItem, IsName};
+ghost use Rattle.cbor4ii.specs.Tagged.{typed_tagged};
 ghost use Rattle.cbor4ii.specs.Typed.{Lawful};
 ghost use Rattle.cbor4ii.specs.Variants.{OpensEnum, ReadsContent, ReadsVariant};
 
@@ -38,7 +40,7 @@ use std::collections::BTreeMap;
 
 /// A value in a box, and one that may be absent, are read back wherever the value is: in a box at
 /// the value's cost, and else at one step more. The value's type need not be described, and its
-/// item need not be canonical. So it is of the next three laws.
+/// item need not be canonical. So it is of the next four laws.
 pub fn wrapped_values_are_read_back<T: Typed + Serialize>()
     ensures boxed { (v : Box T Global) (cost : ℕ) →
         IsReadBack T.promise.format.reads (T.encoding v.value) v.value cost →
@@ -78,6 +80,12 @@ pub fn elements_are_read_as_tuples<A: Typed, B: Typed, C: Typed>()
         (typed_elements (element_before A.promise (element_before B.promise
         (element_before C.promise no_element))))
         ⟦<(A, B, C) as Typed>⟧.promise }
+/// A tag before a value is read back wherever the value is, at its cost.
+pub fn tagged_values_are_read_back<T: Typed + Serialize>()
+    ensures { (number : ℕ) (v : T) (cost : ℕ) → number < 2 ^ 64 →
+        IsReadBack T.promise.format.reads (T.encoding v) v cost →
+        IsReadBack (typed_tagged number T.promise).format.reads
+        (tagged_encoding number (T.encoding v)) v cost }
 {}
 
 /// A vector is read back wherever each of its values is: at one step and the greatest cost of a

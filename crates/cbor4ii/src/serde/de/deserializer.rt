@@ -52,7 +52,7 @@ impl<S: Source> Deserializer<S> {
     }
 
     /// One item of the codec, of any type that is decoded: `Simple`, `Tag`, `CowStr` or `RawValue`,
-    /// over every reader that it is decoded over.
+    /// over every reader that it is decoded over. `Serializer::serialize_item` writes it.
     ///
     /// # Errors
     ///

@@ -16,7 +16,8 @@ pub enum DecodeError<E> {
     Core(core_error::DecodeError<E>),
     /// A type rejects what it reads, and the text says why. Of this crate's own types it comes
     /// after a whole item that stands for no value of the type: "expected one character" and
-    /// "integer out of range". A user's own type says when it comes, and what is left then.
+    /// "integer out of range". After the head of a tag it is "expected another tag", by
+    /// `deserialize_tagged`. A user's own type says when it comes, and what is left then.
     Custom(StaticStr),
 }
 
