@@ -11,6 +11,7 @@ use Rattle.std.proofs.lemmas.Str.{IsUtf8-from_ascii}
 use Rattle.std.proofs.lemmas.Str.Ascii.{IsAscii-nil}
 use Rattle.cbor4ii_items.specs.Laws.Containers.{both}
 use Rattle.cbor4ii_ser.specs.Item.{Encoding, struct_encoding}
+use Rattle.cbor4ii_ser.specs.Listed.{before}
 use Rattle.cbor4ii_ser.specs.OneItem.{IsOneItem, IsOneEntry, canonical}
 use Rattle.cbor4ii_ser.specs.Laws.OneItem.{struct_is_item, field_is_entry}
 use Rattle.cbor4ii.specs.Codec.{Codec, Facts, no_facts, both_facts, Hold, first_hold, others_hold}
@@ -172,11 +173,6 @@ StandsHeld c (Some v) = c.stands v
 abbrev pub held_cost : {T : Type 0} → Codec T → Option T → ℕ
 held_cost c None = 0
 held_cost c (Some v) = c.cost v
-
--- the item of a value that is there, before others
-abbrev pub before : {T : Type 0} → List ℕ → (T → Encoding) → Option T → NamedItems → NamedItems
-before name encoding None trailing = trailing
-before name encoding (Some v) trailing = (name, encoding v) ∷ trailing
 
 module _ {T V W : Type 0} (name : List ℕ) (c : Codec T) (others : FieldCodecs V W)
     (new : IsTrue (is_new name others.names)) where

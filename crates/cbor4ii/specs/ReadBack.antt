@@ -6,7 +6,8 @@ use Rattle.std.specs.declared.string.String.{String}
 use denote.RawPtr.{null_ptr}
 use Rattle.cbor4ii_items.specs.Decoding.{Reads}
 use Rattle.cbor4ii_items.specs.ReadBack.{ReadsBack}
-use Rattle.cbor4ii_ser.specs.Item.{Encoding, encoded, IfEncoded, field}
+use Rattle.cbor4ii_ser.specs.Item.{Encoding, encoded, IfEncoded}
+pub use Rattle.cbor4ii_ser.specs.Listed.{NamedItems, fields_of}
 use Rattle.cbor4ii.specs.Fields.{ReadsNamed, changed}
 
 -- the item, where there is one, is read as the value at this cost, whatever follows it
@@ -42,15 +43,6 @@ text_of alloc text utf8 few = record {
   };
   ok = ∣ utf8 ∣₁;
 }
-
--- names, each with the item of its value
-abbrev pub NamedItems : Type 0
-NamedItems = List (List ℕ × Encoding)
-
--- the fields of these names and items, in order
-abbrev pub fields_of : NamedItems → List Encoding
-fields_of [] = []
-fields_of (part ∷ parts) = field part.0 part.1 ∷ fields_of parts
 
 -- each item is read back after its name as its change, at the greatest cost of one
 abbrev pub ChangesBack : {V : Type 0} → ReadsNamed V → NamedItems → List (V → V) → ℕ → Type 0

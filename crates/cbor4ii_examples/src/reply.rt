@@ -1,4 +1,4 @@
-//! A struct of which a field is left out where it is none.
+//! A struct of which fields are left out where they are none.
 ghost use Rattle.std.specs.Prelude.{◌≡◌, codes};
 ghost use Rattle.std.proofs.Common.{refl};
 ghost use Rattle.cbor4ii.specs.CodecAgrees.{as_described};
@@ -10,8 +10,8 @@ use cbor4ii::dec::Source;
 use cbor4ii::enc::Write;
 use cbor4ii::error::StaticStr;
 use cbor4ii::serde::{
-    AsDescribed, DecodeError, Described, Deserialize, Deserializer, EncodeError, Optional,
-    Required, Serialize, Serializer, Typed,
+    AsDescribed, DecodeError, Described, Deserialize, Deserializer, EncodeError, FieldValues,
+    IfSome, Optional, Required, Serialize, Serializer, Typed,
 };
 use std::alloc::Global;
 
@@ -22,43 +22,45 @@ pub struct Reply {
     pub status: u16,
     /// Why, where it is reported.
     pub reason: Option<String>,
+    /// After how many seconds to ask again, where it is reported.
+    pub retry: Option<u32>,
 }
 
-/// A map of two fields, or of the status alone.
+/// A map of the fields that are some.
 impl Serialize for Reply {
     ghost encoding = { ⟦<Reply as Described>⟧.codec.encoding };
 
     fn serialize<W: Write>(&self, ser: &mut Serializer<W>) -> Result<(), EncodeError<W::Error>> {
-        match &self.reason {
-            Some(reason) => {
-                ser.serialize_2_fields("Reply", "status", &self.status, "reason", reason)
-            }
-            None => ser.serialize_1_field("Reply", "status", &self.status),
-        }
+        let fields = (&self.status, IfSome(&self.reason), IfSome(&self.retry));
+        fields.serialize_fields("Reply", &FIELDS, ser)
     }
 }
 
-const FIELDS: [StaticStr; 2] = ["status", "reason"];
+const FIELDS: [StaticStr; 3] = ["status", "reason", "retry"];
 
 const MISSING: [StaticStr; 1] = ["a reply has no status"];
 
-/// A reason that is missing is none.
+/// A field that is missing is none.
 impl<S: Source> Deserialize<S> for Reply {
     fn deserialize(
         alloc: Global,
         de: &mut Deserializer<S>,
     ) -> Result<Reply, DecodeError<S::Error>> {
-        let presences = (Required, (Optional, ()));
+        let presences = (Required, (Optional, (Optional, ())));
         de.deserialize_fields(alloc, "Reply", &FIELDS, &MISSING, presences)
     }
 }
 
-impl From<(u16, (Option<String>, ()))> for Reply {
-    ghost from_gives = { λ values r. values ≡ (r.status, (r.reason, no_values)) };
+impl From<(u16, (Option<String>, (Option<u32>, ())))> for Reply {
+    ghost from_gives = { λ values r. values ≡ (r.status, (r.reason, (r.retry, no_values))) };
 
-    fn from(values: (u16, (Option<String>, ()))) -> Reply {
-        let (status, (reason, ())) = values;
-        Reply { status, reason }
+    fn from(values: (u16, (Option<String>, (Option<u32>, ())))) -> Reply {
+        let (status, (reason, (retry, ()))) = values;
+        Reply {
+            status,
+            reason,
+            retry,
+        }
     }
 }
 
@@ -67,10 +69,11 @@ impl Typed for Reply {
 }
 
 impl Described for Reply {
-    ghost codec = { struct_codec (λ r. (r.status, (r.reason, no_values)))
+    ghost codec = { struct_codec (λ r. (r.status, (r.reason, (r.retry, no_values))))
         (with_field (codes "status") (codes "a reply has no status") ⟦<u16 as Described>⟧.codec
         (with_optional_field (codes "reason") ⟦<String as Described>⟧.codec
-        no_fields refl) refl) refl };
+        (with_optional_field (codes "retry") ⟦<u32 as Described>⟧.codec
+        no_fields refl) refl) refl) refl };
 }
 
 impl AsDescribed for Reply {

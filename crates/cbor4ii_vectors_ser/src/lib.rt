@@ -25,6 +25,8 @@ mod laws;
 #[cfg(test)]
 mod leaves;
 #[cfg(test)]
+mod listed;
+#[cfg(test)]
 mod maps;
 pub mod pieces;
 #[cfg(test)]

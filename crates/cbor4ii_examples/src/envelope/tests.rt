@@ -59,6 +59,7 @@ fn a_payload_is_sealed(rt: HostRuntime) -> Result<(), Fail> {
     let reply = Reply {
         status: 200,
         reason: None,
+        retry: None,
     };
     match seal(alloc, &Expected(REPLY), &reply) {
         Ok(bytes) => assert_eq!(rt; bytes.as_slice(), SEALED),

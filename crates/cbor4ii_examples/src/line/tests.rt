@@ -108,6 +108,7 @@ fn served(
         |point: Point| Reply {
             status: (point.x % 1000) as u16,
             reason: None,
+            retry: None,
         },
     );
     let taken = reader.taken();

@@ -17,18 +17,24 @@ impl Take for Reply {
 }
 
 const REPLIES_BOTH: &[BothShown] = table! {
-    (b"\xa1\x66status\x18\xc8", "Is(Reply { status: 200, reason: None })"),
-    (b"\xa2\x66status\x05\x66reason\x61a", "Is(Reply { status: 5, reason: Some(\"a\") })"),
+    (b"\xa1\x66status\x18\xc8", "Is(Reply { status: 200, reason: None, retry: None })"),
+    (b"\xa2\x66status\x05\x66reason\x61a",
+        "Is(Reply { status: 5, reason: Some(\"a\"), retry: None })"),
+    (b"\xa2\x66status\x05\x65retry\x18\x1e",
+        "Is(Reply { status: 5, reason: None, retry: Some(30) })"),
+    (b"\xa3\x66status\x05\x66reason\x60\x65retry\x00",
+        "Is(Reply { status: 5, reason: Some(\"\"), retry: Some(0) })"),
 };
 
 // A reason may come first, and is no null.
 const REPLIES: &[RowShown] = table! {
-    (b"\xa2\x66reason\x60\x66status\x05", Ok("Is(Reply { status: 5, reason: Some(\"\") })"), b""),
+    (b"\xa2\x66reason\x60\x66status\x05",
+        Ok("Is(Reply { status: 5, reason: Some(\"\"), retry: None })"), b""),
     (b"\xa2\x66reason\xf6\x66status\x05", Err(mismatch!("str", 0xf6)), b"\x66status\x05"),
     (b"\xa0\x01", Ok("Custom(\"a reply has no status\")"), b"\x01"),
 };
 
 #[test]
-fn a_reason_is_left_out_where_it_is_none(rt: HostRuntime) -> Result<(), Fail> {
+fn a_field_is_left_out_where_it_is_none(rt: HostRuntime) -> Result<(), Fail> {
     tries_shown::<Answer<Reply>>(rt.alloc(), REPLIES_BOTH, REPLIES, &[])
 }
