@@ -1,5 +1,7 @@
 -- The entries of a struct that is written from a list of its fields, some of them left out.
-use Rattle.std.specs.Prelude.{◌≡◌, ◌++◌, ℕ, List, [], ◌∷◌, Option, None, Some, refl}
+use Rattle.std.specs.Prelude.{◌≡◌, ◌++◌, ℕ, ℤ, pos, negsuc, List, [], ◌∷◌, Option, None, Some}
+use Rattle.std.specs.Prelude.{refl}
+use Rattle.cbor4ii_items.specs.Numbers.{shortest_head, signed_head}
 use Rattle.cbor4ii_items.specs.Strings.{definite_string}
 use Rattle.cbor4ii_ser.specs.Item.{Encoding, encoded, followed, struct_encoding}
 
@@ -15,6 +17,21 @@ keyed_entries key (part ∷ parts) = followed (encoded (key part.0)) part.1 ∷ 
 -- the item of a name: a text
 abbrev pub name_item : List ℕ → List ℕ
 name_item = definite_string 3
+
+-- the label of an integer: its major type and its argument (RFC 8949 section 3.1)
+abbrev pub integer_label : ℤ → List ℕ
+integer_label (pos n) = 0 ∷ n ∷ []
+integer_label (negsuc n) = 1 ∷ n ∷ []
+
+-- the item of an integer: its shortest head
+abbrev pub integer_item : List ℕ → List ℕ
+integer_item [] = []
+integer_item (major ∷ []) = []
+integer_item (major ∷ argument ∷ others) = shortest_head major argument
+
+pub integer_item_of : (v : ℤ) → integer_item (integer_label v) ≡ signed_head v
+integer_item_of (pos n) = refl
+integer_item_of (negsuc n) = refl
 
 -- the fields of these names and items, in order
 abbrev pub fields_of : NamedItems → List Encoding

@@ -1,11 +1,11 @@
 //! Keys of a struct's fields: texts or integers.
 ghost use Rattle.std.specs.Prelude.{List, ℕ};
-ghost use Rattle.cbor4ii_items.specs.Numbers.{signed_head};
 ghost use Rattle.cbor4ii_ser.specs.Item.{encoded};
-ghost use Rattle.cbor4ii_ser.specs.Listed.{name_item};
+ghost use Rattle.cbor4ii_ser.specs.Listed.{name_item, integer_label, integer_item};
 ghost use Rattle.cbor4ii_ser.specs.Serializing.{Serializes, output};
 
 use crate::error::EncodeError;
+use crate::serialize::Serialize;
 use crate::serializer::Serializer;
 use cbor4ii_rw::error::StaticStr;
 use cbor4ii_rw::write::Write;
@@ -13,7 +13,7 @@ use cbor4ii_rw::write::Write;
 /// What the keys of a struct's fields are: texts, as names of fields are, or integers, as the
 /// labels of COSE are (RFC 9052 section 1.5).
 pub trait Key {
-    // What keys are told apart by: a text's bytes, or those of an integer's item.
+    // What keys are told apart by: a text's bytes, or an integer's major type and argument.
     ghost label: { Self → List ℕ };
 
     // The item of the key that has this label.
@@ -46,15 +46,15 @@ impl Key for StaticStr {
 
 /// An integer (RFC 8949 section 3.1, major types 0 and 1).
 impl Key for i64 {
-    ghost label = { signed_head };
+    ghost label = { integer_label };
 
-    ghost item = { λ label. label };
+    ghost item = { integer_item };
 
     #[inline]
     fn serialize_key<W: Write>(
         &self,
         ser: &mut Serializer<W>,
     ) -> Result<(), EncodeError<W::Error>> {
-        ser.serialize_i64(*self)
+        self.serialize(ser)
     }
 }
