@@ -80,6 +80,8 @@ pub fn elements_are_read_as_tuples<A: Typed, B: Typed, C: Typed>()
         (typed_elements (element_before A.promise (element_before B.promise
         (element_before C.promise no_element))))
         ⟦<(A, B, C) as Typed>⟧.promise }
+{}
+
 /// A tag before a value is read back wherever the value is, at its cost.
 pub fn tagged_values_are_read_back<T: Typed + Serialize>()
     ensures { (number : ℕ) (v : T) (cost : ℕ) → number < 2 ^ 64 →
