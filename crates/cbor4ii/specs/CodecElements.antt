@@ -1,7 +1,7 @@
 -- Arrays of so many elements in one word: how their elements are written and read, and that they
 -- are read back.
 use Rattle.std.proofs.Common.{◌≡◌, ◌<◌, ◌^◌, ◌+◌, ℕ, List, [], ◌∷◌, length, max, IsTrue, refl, sym}
-use Rattle.std.proofs.Common.{ap, subst, ltb, ltb-true, arith}
+use Rattle.std.proofs.Common.{subst, ltb, ltb-true, arith}
 use Rattle.std.specs.List.{AllByRecursion}
 use Rattle.std.specs.declared.alloc.Global.{Global}
 use Rattle.cbor4ii_items.specs.Numbers.{shortest_head}
@@ -57,7 +57,7 @@ module _ {T V : Type 0} (c : Codec T) (others : ElementCodecs V) where
   with_element = record {
     elements = element_before c.promise others.elements;
     items = λ v. c.encoding v.0 ∷ others.items v.1;
-    counts = λ v. ap (λ n. 1 + n) (others.counts v.1);
+    counts = λ v. omega (arith, others.counts v.1);
     stands = λ v. c.stands v.0 × others.stands v.1;
     cost = λ v. max (c.cost v.0) (others.cost v.1);
     facts = both_facts c.facts others.facts;
