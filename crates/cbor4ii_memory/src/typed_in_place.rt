@@ -125,12 +125,13 @@ const NAMED_ROWS: &[CallRow<Named>] = table! {
     ("deserialize_f64", Named(Kind::F64), DOUBLE, "4607632778762754458", b"\x00"),
 };
 
-/// The unit, what is skipped, and what is opened and not read.
+/// The unit, a tagged number, what is skipped, and what is opened and not read.
 #[derive(Clone, Copy)]
 enum Opened {
     TypedUnit,
     Unit,
     UnitStruct,
+    Tagged,
     TypedIgnored,
     Ignored,
     Option,
@@ -162,6 +163,7 @@ fn open<S: Source>(
         Opened::TypedUnit => unit(<()>::deserialize(alloc, de)),
         Opened::Unit => unit(de.deserialize_unit()),
         Opened::UnitStruct => unit(de.deserialize_unit_struct("Unit")),
+        Opened::Tagged => number(de.deserialize_tagged::<u16, u16>(alloc, 1)),
         Opened::TypedIgnored => unit(IgnoredAny::deserialize(alloc, de)),
         Opened::Ignored => unit(de.deserialize_ignored_any(alloc)),
         Opened::Option => Ok(Answer::Flag(de.deserialize_option()?.is_some())),
@@ -179,6 +181,7 @@ const OPENED_ROWS: &[CallRow<Opened>] = table! {
     ("typed unit", Opened::TypedUnit, b"\x80\x00", "()", b"\x00"),
     ("deserialize_unit", Opened::Unit, b"\x80\x00", "()", b"\x00"),
     ("deserialize_unit_struct", Opened::UnitStruct, b"\x80\x00", "()", b"\x00"),
+    ("deserialize_tagged", Opened::Tagged, b"\xc1\x19\x01\xf4\x00", "500", b"\x00"),
     ("typed IgnoredAny", Opened::TypedIgnored, b"\x9f\x7f\x61a\xff\xff\x00", "()", b"\x00"),
     ("deserialize_ignored_any", Opened::Ignored, b"\x9f\x7f\x61a\xff\xff\x00", "()", b"\x00"),
     ("deserialize_option", Opened::Option, b"\xf6\x05", "false", b"\x05"),

@@ -3,7 +3,7 @@ use crate::tally::{Broken, Tally};
 use crate::writing::{WriteRow, writes, writes_rows};
 use cbor4ii::Value;
 use cbor4ii::serde::{self, Deserialize, EncodeError, Serialize, Serializer, from_slice};
-use cbor4ii::types::{Bytes, F16, F32, F64};
+use cbor4ii::types::{Bytes, F16, F32, F64, Tag};
 use cbor4ii_rw::error as core_error;
 use cbor4ii_rw::slice_reader::SliceReader;
 use cbor4ii_rw::write::Write;
@@ -188,6 +188,8 @@ enum Call {
     UnitVariant,
     NewtypeStruct,
     NewtypeVariant,
+    Tagged,
+    Item,
 }
 
 impl Put for Call {
@@ -203,6 +205,8 @@ impl Put for Call {
             Call::UnitVariant => ser.serialize_unit_variant("Enum", 0, "Unit"),
             Call::NewtypeStruct => ser.serialize_newtype_struct("Wrapped", &6u8),
             Call::NewtypeVariant => ser.serialize_newtype_variant("Enum", 0, "Text", &"text"),
+            Call::Tagged => ser.serialize_tagged(24, &"text"),
+            Call::Item => ser.serialize_item(&Tag(1, 500u16)),
         }
     }
 }
@@ -218,6 +222,8 @@ const CALL_ROWS: &[WriteRow<Typed<Call>>] = table! {
     ("serialize_unit_variant", Typed(Call::UnitVariant), b"\x64Unit"),
     ("serialize_newtype_struct", Typed(Call::NewtypeStruct), b"\x06"),
     ("serialize_newtype_variant", Typed(Call::NewtypeVariant), b"\xa1\x64Text\x64text"),
+    ("serialize_tagged", Typed(Call::Tagged), b"\xd8\x18\x64text"),
+    ("serialize_item", Typed(Call::Item), b"\xc1\x19\x01\xf4"),
 };
 
 /// Typed values that take no memory, and calls with no parts.

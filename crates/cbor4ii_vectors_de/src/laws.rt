@@ -37,6 +37,7 @@ fn laws_of_values_are_called(rt: HostRuntime) {
 fn laws_of_containers_are_called(rt: HostRuntime) {
     laws::wrapped_values_are_read_back::<RawValue<'static>>();
     laws::tuples_are_read_back::<u8, RawValue<'static>, RawValue<'static>>();
+    laws::tagged_values_are_read_back::<RawValue<'static>>();
     laws::vectors_are_read_back::<RawValue<'static>>();
     laws::maps_are_read_back::<String, RawValue<'static>>();
 }

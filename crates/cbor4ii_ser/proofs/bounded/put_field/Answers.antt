@@ -10,7 +10,9 @@ pub returns-in-None : goal.returns-in-None
 returns-in-None g c = failed_then _ _ c.in-None.ensures.failed c.in-None.ensures.writes
 
 pub returns-in_err-serialize_item : goal.returns-in_err-serialize_item
-returns-in_err-serialize_item g c = serializes_out _ c.from_residual.ensures.1 c.in_err-serialize_item.ensures
+returns-in_err-serialize_item g c =
+    serializes_out _ c.from_residual.ensures.1 c.in_err-serialize_item.ensures
 
 pub returns : goal.returns
-returns g c = serializes_then _ _ c.serialize-2.result c.in_ok-serialize_item.ensures c.serialize-2.ensures
+returns g c =
+    serializes_then _ _ c.serialize-2.result c.in_ok-serialize_item.ensures c.serialize-2.ensures
