@@ -31,3 +31,5 @@ pub mod Names
 pub mod Casing
 pub mod Apart
 pub mod Tags
+pub mod Keying
+pub mod KeyedFilling

@@ -241,7 +241,7 @@ entry_laws same named laws =
     }
 
 -- the same changes of the same values make the same values
-changed_same : {V : Type 0} (same : V → V → Type 0) (v w : V) (gs hs : List (V → V)) → same v w
+pub changed_same : {V : Type 0} (same : V → V → Type 0) (v w : V) (gs hs : List (V → V)) → same v w
     → SameElements (SameChange same) gs hs → same (changed v gs) (changed w hs)
 changed_same same v w [] [] s p = s
 changed_same same v w [] (h ∷ hs) s p = absurd p

@@ -30,11 +30,13 @@ pub mod Presence
 pub mod Cases
 pub mod ReadBack
 pub mod Names
+pub mod Keys
 pub mod Codec
 pub mod CodecFields
 pub mod CodecElements
 pub mod CodecCases
 pub mod CodecAgrees
 pub mod CodecItems
+pub mod CodecKeyed
 -- ---- laws
 pub mod Laws

@@ -44,19 +44,28 @@ text_of alloc text utf8 few = record {
   ok = ∣ utf8 ∣₁;
 }
 
--- each item is read back after its name as its change, at the greatest cost of one
-abbrev pub ChangesBack : {V : Type 0} → ReadsNamed V → NamedItems → List (V → V) → ℕ → Type 0
-ChangesBack named [] [] cost = cost ≡ 0
-ChangesBack named [] (change ∷ changes) cost = ⊥
-ChangesBack named (part ∷ parts) [] cost = ⊥
-ChangesBack named (part ∷ parts) (change ∷ changes) cost =
-    (own : ℕ) × (others : ℕ) × IsName part.0 × IsReadBack (named part.0) part.1 change own
-    × ChangesBack named parts changes others × (cost ≡ max own others)
+-- each item is read back after its name or another such label as its change, at the greatest cost
+-- of one
+abbrev pub ChangesBackBy : {V : Type 0} → (List ℕ → Type 0) → ReadsNamed V → NamedItems
+    → List (V → V) → ℕ → Type 0
+ChangesBackBy IsLabel named [] [] cost = cost ≡ 0
+ChangesBackBy IsLabel named [] (change ∷ changes) cost = ⊥
+ChangesBackBy IsLabel named (part ∷ parts) [] cost = ⊥
+ChangesBackBy IsLabel named (part ∷ parts) (change ∷ changes) cost =
+    (own : ℕ) × (others : ℕ) × IsLabel part.0 × IsReadBack (named part.0) part.1 change own
+    × ChangesBackBy IsLabel named parts changes others × (cost ≡ max own others)
 
--- the items are read back after their names, one after another, and make these values of the
--- first ones
-pub record FieldsBack {V : Type 0} (named : ReadsNamed V) (first values : V) (parts : NamedItems)
-    (cost : ℕ) : Type 0 where
+abbrev pub ChangesBack : {V : Type 0} → ReadsNamed V → NamedItems → List (V → V) → ℕ → Type 0
+ChangesBack = ChangesBackBy IsName
+
+-- the items are read back after such labels, one after another, and make these values of the first
+-- ones
+pub record FieldsBackBy {V : Type 0} (IsLabel : List ℕ → Type 0) (named : ReadsNamed V)
+    (first values : V) (parts : NamedItems) (cost : ℕ) : Type 0 where
   pub changes : List (V → V)
-  pub each : ChangesBack named parts changes cost
+  pub each : ChangesBackBy IsLabel named parts changes cost
   pub made : values ≡ changed first changes
+
+-- the same after names
+abbrev pub FieldsBack : {V : Type 0} → ReadsNamed V → (first values : V) → NamedItems → ℕ → Type 0
+FieldsBack = FieldsBackBy IsName

@@ -25,6 +25,7 @@ pub use de::enum_accessor::EnumAccessor;
 pub use de::error::DecodeError;
 pub use de::fields::{Places, Values};
 pub use de::first::{from_reader, from_slice, from_slice_whole};
+pub use de::keyed_fields::KeyedValues;
 pub use de::place::{Place, Single};
 pub use de::presence::{Once, Optional, Or, Presence, Presences, Required};
 pub use de::some_accessor::SomeAccessor;

@@ -13,7 +13,8 @@
 //! | `label` | a struct that borrows from the input |
 //! | `enumeration` | an enum with variants of each kind, which a function reads |
 //! | `event` | an enum that is read inside other types, as in a vector or a map |
-//! | `reply` | a struct of which a field is left out where it is none |
+//! | `reply` | a struct of which fields are left out where they are none |
+//! | `cose_key` | a struct whose keys are integers |
 //! | `settings` | a struct of eight fields with defaults, and at which byte its reading fails |
 //! | `log` | a log of events, out of parts that are cut anywhere or out of a stream |
 //! | `line` | requests and answers over a line, whose reader waits for no byte too many |
@@ -31,6 +32,7 @@
 
 pub mod by_hand;
 pub mod canonical;
+pub mod cose_key;
 pub mod enumeration;
 pub mod envelope;
 pub mod event;

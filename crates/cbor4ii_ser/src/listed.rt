@@ -184,7 +184,8 @@ fn put_fields<V: NestedFields, K: Key, W: Write>(
     keys: &[K],
     ser: &mut Serializer<W>,
 ) -> Result<(), EncodeError<W::Error>>
-    ensures { Serializes W.atomic (keyed_encoding K.item (V.items fields (labels_of K.label keys.now)))
+    ensures { Serializes W.atomic
+        (keyed_encoding K.item (V.items fields (labels_of K.label keys.now)))
         (output W.view ser.old) (output W.view ser.new) result }
 {
     match ser.map_head(fields.entries(keys)) {
@@ -216,7 +217,8 @@ pub trait FieldValues: Sized {
         keys: &[K],
         ser: &mut Serializer<W>,
     ) -> Result<(), EncodeError<W::Error>>
-        ensures { Serializes W.atomic (keyed_encoding K.item (items self (labels_of K.label keys.now)))
+        ensures { Serializes W.atomic
+            (keyed_encoding K.item (items self (labels_of K.label keys.now)))
             (output W.view ser.old) (output W.view ser.new) result };
 }
 
@@ -254,7 +256,8 @@ impl<A: FieldValue, B: FieldValue> FieldValues for (A, B) {
 
 /// Three fields.
 impl<A: FieldValue, B: FieldValue, C: FieldValue> FieldValues for (A, B, C) {
-    ghost items = { λ v. (A.before ▹ B.before ▹ C.before ▹ no_items) (v.0, (v.1, (v.2, no_others))) };
+    ghost items = { λ v. (A.before ▹ B.before ▹ C.before ▹ no_items)
+        (v.0, (v.1, (v.2, no_others))) };
 
     #[inline]
     fn serialize_fields<K: Key, W: Write>(
@@ -494,8 +497,40 @@ impl<
     M: FieldValue,
 > FieldValues for (A, B, C, D, E, F, G, H, I, J, L, M) {
     ghost items = { λ v. (A.before ▹ B.before ▹ C.before ▹ D.before ▹ E.before ▹ F.before ▹
-        G.before ▹ H.before ▹ I.before ▹ J.before ▹ L.before ▹ M.before ▹ no_items)
-        (v.0, (v.1, (v.2, (v.3, (v.4, (v.5, (v.6, (v.7, (v.8, (v.9, (v.10, (v.11, no_others)))))))))))) };
+        G.before ▹ H.before ▹ I.before ▹ J.before ▹ L.before ▹ M.before ▹ no_items) (
+          v.0,
+          (
+            v.1,
+            (
+              v.2,
+              (
+                v.3,
+                (
+                  v.4,
+                  (
+                    v.5,
+                    (
+                      v.6,
+                      (
+                        v.7,
+                        (
+                          v.8,
+                          (
+                            v.9,
+                            (
+                              v.10,
+                              (v.11, no_others),
+                            ),
+                          ),
+                        ),
+                      ),
+                    ),
+                  ),
+                ),
+              ),
+            ),
+          ),
+        ) };
 
     #[inline]
     fn serialize_fields<K: Key, W: Write>(

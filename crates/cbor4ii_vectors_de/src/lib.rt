@@ -43,6 +43,8 @@ mod ignored;
 #[cfg(test)]
 mod integers;
 #[cfg(test)]
+mod keyed_fields;
+#[cfg(test)]
 mod laws;
 #[cfg(test)]
 mod lent_strings;

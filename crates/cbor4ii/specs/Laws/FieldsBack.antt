@@ -5,7 +5,7 @@ use Rattle.cbor4ii_items.specs.Decoding.{Reads}
 use Rattle.cbor4ii_ser.specs.Item.{Encoding, encoded, rejected}
 use Rattle.cbor4ii.specs.Fields.{ReadsNamed, named_field, no_field, no_values, changed}
 use Rattle.cbor4ii.specs.Places.{Place}
-use Rattle.cbor4ii.specs.ReadBack.{IsReadBack, IsName, NamedItems, ChangesBack, FieldsBack}
+use Rattle.cbor4ii.specs.ReadBack.{IsReadBack, NamedItems, ChangesBackBy, FieldsBackBy}
 
 -- ---- a field before others
 
@@ -23,19 +23,20 @@ module _ {T P V : Type 0} (place : Place T P) (own : List ℕ) (reads : Reads T)
   other_back name (encoded bytes) change cost other back =
       λ rest. inr (other, change, back rest, refl)
 
-  others_back : (parts : NamedItems) (changes : List (V → V)) (cost : ℕ)
+  others_back : (IsLabel : List ℕ → Type 0) (parts : NamedItems) (changes : List (V → V))
+      (cost : ℕ)
       → AllByRecursion (λ (part : List ℕ × Encoding). part.0 ≢ own) parts
-      → ChangesBack named parts changes cost
-      → ChangesBack (named_field place.put own reads named) parts (map below changes) cost
-  others_back [] [] cost other back = back
-  others_back [] (change ∷ changes) cost other back = absurd back
-  others_back (part ∷ parts) [] cost other back = absurd back
-  others_back (part ∷ parts) (change ∷ changes) cost other back = (
+      → ChangesBackBy IsLabel named parts changes cost
+      → ChangesBackBy IsLabel (named_field place.put own reads named) parts (map below changes) cost
+  others_back IsLabel [] [] cost other back = back
+  others_back IsLabel [] (change ∷ changes) cost other back = absurd back
+  others_back IsLabel (part ∷ parts) [] cost other back = absurd back
+  others_back IsLabel (part ∷ parts) (change ∷ changes) cost other back = (
     back.0,
     back.1,
     back.2,
     other_back part.0 part.1 change back.0 other.0 back.3,
-    others_back parts changes back.1 other.1 back.4,
+    others_back IsLabel parts changes back.1 other.1 back.4,
     back.5,
   )
 
@@ -52,21 +53,22 @@ module _ {T P V : Type 0} (place : Place T P) (own : List ℕ) (reads : Reads T)
   own_back (rejected bytes words) v cost back = tt
   own_back (encoded bytes) v cost back = λ rest. inl (refl, v, back rest, refl)
 
-  pub field_back : (first values : V) (parts : NamedItems) (cost : ℕ) (item : Encoding) (v : T)
-      (own_cost : ℕ) → FieldsBack named first values parts cost → IsName own
+  pub field_back : {IsLabel : List ℕ → Type 0} (first values : V) (parts : NamedItems)
+      (cost : ℕ) (item : Encoding) (v : T)
+      (own_cost : ℕ) → FieldsBackBy IsLabel named first values parts cost → IsLabel own
       → AllByRecursion (λ (part : List ℕ × Encoding). part.0 ≢ own) parts
       → IsReadBack reads item v own_cost
-      → FieldsBack (named_field place.put own reads named) (place.none, first)
+      → FieldsBackBy IsLabel (named_field place.put own reads named) (place.none, first)
       (place.put v place.none, values)
       ((own, item) ∷ parts) (max own_cost cost)
-  field_back first values parts cost item v own_cost others name apart back = record {
+  field_back {IsLabel = L} first values parts cost item v own_cost others name apart back = record {
     changes = (λ (values : P × V). (place.put v values.0, values.1)) ∷ map below others.changes;
     each = (
       own_cost,
       cost,
       name,
       own_back item v own_cost back,
-      others_back parts others.changes cost apart others.each,
+      others_back L parts others.changes cost apart others.each,
       refl,
     );
     made =
@@ -75,14 +77,15 @@ module _ {T P V : Type 0} (place : Place T P) (own : List ℕ) (reads : Reads T)
   }
 
   -- where no item has its name, the field stays as it was
-  pub no_field_back : (first values : V) (parts : NamedItems) (cost : ℕ)
-      → FieldsBack named first values parts cost
+  pub no_field_back : {IsLabel : List ℕ → Type 0} (first values : V) (parts : NamedItems)
+      (cost : ℕ)
+      → FieldsBackBy IsLabel named first values parts cost
       → AllByRecursion (λ (part : List ℕ × Encoding). part.0 ≢ own) parts
-      → FieldsBack (named_field place.put own reads named) (place.none, first)
+      → FieldsBackBy IsLabel (named_field place.put own reads named) (place.none, first)
       (place.none, values) parts cost
-  no_field_back first values parts cost others apart = record {
+  no_field_back {IsLabel = IsLabel} first values parts cost others apart = record {
     changes = map below others.changes;
-    each = others_back parts others.changes cost apart others.each;
+    each = others_back IsLabel parts others.changes cost apart others.each;
     made =
         ap (λ (trailing : V). (place.none, trailing)) others.made
         ∙ sym (changed_below place.none first others.changes);
@@ -90,5 +93,6 @@ module _ {T P V : Type 0} (place : Place T P) (own : List ℕ) (reads : Reads T)
 
 -- ---- no field
 
-pub none_back : (values : Unit {0}) → FieldsBack no_field no_values values [] 0
+pub none_back : {IsLabel : List ℕ → Type 0} (values : Unit {0})
+    → FieldsBackBy IsLabel no_field no_values values [] 0
 none_back values = record { changes = []; each = refl; made = refl }

@@ -19,6 +19,8 @@ pub mod first;
 mod heads;
 mod ignored;
 mod integers;
+pub mod keyed_fields;
+mod keys;
 mod maps;
 mod methods;
 mod names;

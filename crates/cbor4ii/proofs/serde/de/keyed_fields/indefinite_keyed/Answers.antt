@@ -1,0 +1,67 @@
+use Rattle.std.proofs.Common.{arith, refl, inl, []}
+use Rattle.std.specs.Prelude.{codes}
+use Rattle.std.proofs.lemmas.Result.{err_from_is_err_and}
+use Rattle.cbor4ii_items.specs.Laws.Answering.{fits_zero}
+use Rattle.cbor4ii_items.specs.Laws.Running.{kept_alike}
+use Rattle.cbor4ii_items.specs.Laws.SequenceParts.{stands, indefinite_err, place_end, place_part}
+use Rattle.cbor4ii_items.specs.Sequences.{in_list}
+use Rattle.cbor4ii.specs.Keys.{key_labels, keyed_of, keyed_lawful}
+use Rattle.cbor4ii.proofs.KeyedFilling.{unended_more, unended_done}
+use Rattle.cbor4ii.proofs.serde.de.keyed_fields.indefinite_keyed.Goals as goal
+
+pub loop-alloc-init : goal.loop-alloc-init
+loop-alloc-init g c =
+    let here = g.S.Source.view c.args.de.now.reader in
+    record {
+      changes = [];
+      opened = record {
+        allowed = inl refl;
+        parts = record {
+          at = λ xs known. record {
+            count = 0;
+            cost = 0;
+            read = (refl, refl);
+            fits = fits_zero here.budget;
+            left = known;
+          };
+        };
+        kept = kept_alike here;
+      };
+      is = refl;
+    }
+
+pub returns-in_err-takes_break : goal.returns-in_err-takes_break
+returns-in_err-takes_break g c =
+    let p = err_from_is_err_and c.from_residual.result c.from_residual.ensures.1 in
+    let fields = g.V.Places.fields (key_labels c.args.keys.now) in
+    rw (p.1, p.2) (indefinite_err in_list (codes "map") (keyed_of fields) (keyed_lawful fields)
+    c.loop-alloc.invariant.opened (place_end (keyed_of fields) (codes "map") (keyed_lawful fields)
+    c.in_err-takes_break.ensures.runs c.in_err-takes_break.ensures.memory))
+
+pub returns-in_err-take_keyed_field : goal.returns-in_err-take_keyed_field
+returns-in_err-take_keyed_field g c =
+    let p = err_from_is_err_and c.from_residual-in_err-take_keyed_field.result
+    c.from_residual-in_err-take_keyed_field.ensures.1 in
+    let fields = g.V.Places.fields (key_labels c.args.keys.now) in
+    rw (p.1, p.2) (indefinite_err in_list (codes "map") (keyed_of fields) (keyed_lawful fields)
+    c.loop-alloc.invariant.opened (place_part (keyed_of fields) (codes "map") refl
+    (stands c.if-not-branch.true c.in_ok-takes_break.ensures.runs)
+    c.in_err-take_keyed_field.ensures))
+
+pub loop-alloc-preserved : goal.loop-alloc-preserved
+loop-alloc-preserved g c =
+    unended_more (g.V.Places.fields (key_labels c.args.keys.now)) c.loop-alloc.invariant
+    (stands c.if-not-branch.true c.in_ok-takes_break.ensures.runs) c.in_ok-take_keyed_field.ensures
+
+pub returns : goal.returns
+returns g c =
+    unended_done (g.V.Places.fields (key_labels c.args.keys.now)) (codes "map")
+    c.if-not-branch.false c.loop-alloc.invariant c.in_ok-takes_break.ensures.runs
+
+pub loop-alloc-smaller : goal.loop-alloc-smaller
+loop-alloc-smaller g c =
+    omega (
+      arith,
+      c.in_ok-take_keyed_field.ensures.read.progress refl,
+      c.in_ok-takes_break.ensures.runs.moves.by.bound,
+    )

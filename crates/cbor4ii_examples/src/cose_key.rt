@@ -1,0 +1,84 @@
+//! A struct whose keys are integers: a COSE_Key of one coordinate (RFC 9052 section 7).
+ghost use Rattle.std.specs.Prelude.{◌≡◌, codes, pos};
+ghost use Rattle.std.proofs.Common.{refl};
+ghost use Rattle.cbor4ii.specs.CodecAgrees.{as_described};
+ghost use Rattle.cbor4ii.specs.CodecKeyed.{keyed_codec, with_key, with_optional_key, no_keys};
+ghost use Rattle.cbor4ii.specs.CodecKeyed.{minus};
+ghost use Rattle.cbor4ii.specs.Fields.{no_values};
+
+use cbor4ii::dec::Source;
+use cbor4ii::enc::Write;
+use cbor4ii::error::StaticStr;
+use cbor4ii::serde::{
+    AsDescribed, DecodeError, Described, Deserialize, Deserializer, EncodeError, FieldValues,
+    IfSome, Optional, Required, Serialize, Serializer, Typed,
+};
+use cbor4ii::types::Bytes;
+use std::alloc::Global;
+
+/// A public key on a curve, such as an octet key pair (RFC 9053 section 7.2).
+#[derive(Debug, PartialEq, Drop)]
+pub struct CoseKey {
+    /// The key type, under 1: 1 is an octet key pair.
+    pub kty: i64,
+    /// The algorithm that the key is for, under 3, where it is restricted to one.
+    pub alg: Option<i64>,
+    /// The curve, under -1: 6 is Ed25519.
+    pub crv: i64,
+    /// The x coordinate, under -2.
+    pub x: Bytes<Vec<u8>>,
+}
+
+const KEYS: [i64; 4] = [1, 3, -1, -2];
+
+/// A map of four fields, or of three where there is no algorithm.
+impl Serialize for CoseKey {
+    ghost encoding = { ⟦<CoseKey as Described>⟧.codec.encoding };
+
+    fn serialize<W: Write>(&self, ser: &mut Serializer<W>) -> Result<(), EncodeError<W::Error>> {
+        let fields = (&self.kty, IfSome(&self.alg), &self.crv, &self.x);
+        fields.serialize_fields("COSE_Key", &KEYS, ser)
+    }
+}
+
+const MISSING: [StaticStr; 4] = ["a key has no kty", "", "a key has no crv", "a key has no x"];
+
+/// Other keys are skipped, be they integers or texts.
+impl<S: Source> Deserialize<S> for CoseKey {
+    fn deserialize(
+        alloc: Global,
+        de: &mut Deserializer<S>,
+    ) -> Result<CoseKey, DecodeError<S::Error>> {
+        let presences = (Required, (Optional, (Required, (Required, ()))));
+        de.deserialize_keyed_fields(alloc, "COSE_Key", &KEYS, &MISSING, presences)
+    }
+}
+
+impl From<(i64, (Option<i64>, (i64, (Bytes<Vec<u8>>, ()))))> for CoseKey {
+    ghost from_gives = { λ values k. values ≡ (k.kty, (k.alg, (k.crv, (k.x, no_values)))) };
+
+    fn from(values: (i64, (Option<i64>, (i64, (Bytes<Vec<u8>>, ()))))) -> CoseKey {
+        let (kty, (alg, (crv, (x, ())))) = values;
+        CoseKey { kty, alg, crv, x }
+    }
+}
+
+impl Typed for CoseKey {
+    ghost promise = { ⟦<CoseKey as Described>⟧.codec.promise };
+}
+
+impl Described for CoseKey {
+    ghost codec = { keyed_codec (λ k. (k.kty, (k.alg, (k.crv, (k.x, no_values)))))
+        (with_key (pos 1) (codes "a key has no kty") ⟦<i64 as Described>⟧.codec
+        (with_optional_key (pos 3) ⟦<i64 as Described>⟧.codec
+        (with_key (minus 1) (codes "a key has no crv") ⟦<i64 as Described>⟧.codec
+        (with_key (minus 2) (codes "a key has no x") ⟦<Bytes<Vec<u8>> as Described>⟧.codec
+        no_keys refl) refl) refl) refl) refl };
+}
+
+impl AsDescribed for CoseKey {
+    ghost agrees = { as_described tt };
+}
+
+#[cfg(test)]
+mod tests;

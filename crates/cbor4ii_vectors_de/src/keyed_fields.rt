@@ -1,0 +1,121 @@
+//! Rows of structs whose keys are integers, and what their keys ask of a reader.
+ghost use Rattle.std.specs.Prelude.{◌≡◌};
+ghost use Rattle.cbor4ii.specs.Fields.{no_values};
+
+use crate::asked::{Row as AskedRow, asks_rows};
+use crate::typed::Answer::{self, Custom, Is};
+use crate::typed::{Take, reads_all};
+use cbor4ii::serde::{DecodeError, Deserializer, Once, Optional, Required};
+use cbor4ii_rw::read::Source;
+use cbor4ii_vectors::rows::Row;
+use cbor4ii_vectors::{eof, mismatch, require_utf8, table, unsupported};
+use std::alloc::Global;
+use std::test::Fail;
+
+/// A struct of the keys 1, -2 and 1000, of which the first has to be there and the second may come
+/// once.
+#[derive(Debug, PartialEq, Drop)]
+struct Keyed(u8, Option<u8>, Option<u8>);
+
+impl From<(u8, (Option<u8>, (Option<u8>, ())))> for Keyed {
+    ghost from_gives = { λ values k. values ≡ (k.0, (k.1, (k.2, no_values))) };
+
+    fn from(values: (u8, (Option<u8>, (Option<u8>, ())))) -> Keyed {
+        let (first, (second, (third, ()))) = values;
+        Keyed(first, second, third)
+    }
+}
+
+impl Take for Keyed {
+    fn take<S: Source>(
+        alloc: Global,
+        de: &mut Deserializer<S>,
+    ) -> Result<Keyed, DecodeError<S::Error>> {
+        let presences = (Required, (Once(Optional), (Optional, ())));
+        de.deserialize_keyed_fields(
+            alloc,
+            "Keyed",
+            &[1, -2, 1000],
+            &["no 1", "two -2"],
+            presences,
+        )
+    }
+}
+
+const KEYED: &[Row<Answer<Keyed>>] = table! {
+    (b"\xa1\x01\x07", Ok(Is(Keyed(7, None, None))), b""),
+    (b"\xa3\x01\x07\x21\x08\x19\x03\xe8\x09", Ok(Is(Keyed(7, Some(8), Some(9)))), b""),
+    // In any order, and of any length.
+    (b"\xbf\x19\x03\xe8\x09\x21\x08\x01\x07\xff\x00", Ok(Is(Keyed(7, Some(8), Some(9)))), b"\x00"),
+    // Of several entries of one key the last counts, or the struct is rejected.
+    (b"\xa2\x01\x07\x01\x08", Ok(Is(Keyed(8, None, None))), b""),
+    (b"\xa3\x01\x07\x21\x08\x21\x08\x00", Ok(Custom("two -2")), b"\x00"),
+    (b"\xa0\x00", Ok(Custom("no 1")), b"\x00"),
+    (b"\xa1\x21\x07\x00", Ok(Custom("no 1")), b"\x00"),
+};
+
+// Longer heads of a key, and bignums, are the same integer (RFC 8949 sections 3.1 and 3.4.3).
+const LONG_HEADS: &[Row<Answer<Keyed>>] = table! {
+    (b"\xa2\x18\x01\x07\x38\x01\x08", Ok(Is(Keyed(7, Some(8), None))), b""),
+    (b"\xa2\x19\x00\x01\x07\x39\x00\x01\x08", Ok(Is(Keyed(7, Some(8), None))), b""),
+    (b"\xa2\x01\x07\x1a\x00\x00\x03\xe8\x09", Ok(Is(Keyed(7, None, Some(9)))), b""),
+    (b"\xa1\x1b\x00\x00\x00\x00\x00\x00\x00\x01\x07", Ok(Is(Keyed(7, None, None))), b""),
+    (b"\xa2\xc2\x41\x01\x07\xc3\x41\x01\x08", Ok(Is(Keyed(7, Some(8), None))), b""),
+};
+
+// Entries of other keys are skipped, whatever their values are.
+const OTHERS: &[Row<Answer<Keyed>>] = table! {
+    (b"\xa3\x02\x81\xf6\x01\x07\x20\xc1\x00", Ok(Is(Keyed(7, None, None))), b""),
+    (b"\xa2\x1b\xff\xff\xff\xff\xff\xff\xff\xff\x61a\x01\x07", Ok(Is(Keyed(7, None, None))), b""),
+    (b"\xa2\x3b\xff\xff\xff\xff\xff\xff\xff\xff\xa0\x01\x07", Ok(Is(Keyed(7, None, None))), b""),
+    (b"\xa2\xc2\x49\x01\x00\x00\x00\x00\x00\x00\x00\x00\x00\x01\x07",
+        Ok(Is(Keyed(7, None, None))), b""),
+    // Texts, also in chunks, and one that is an integer's encoding.
+    (b"\xa3\x60\x05\x01\x07\x63kty\x80", Ok(Is(Keyed(7, None, None))), b""),
+    (b"\xa2\x7f\x61k\x61y\xff\x05\x01\x07", Ok(Is(Keyed(7, None, None))), b""),
+    (b"\xa2\x61\x01\x05\x01\x07", Ok(Is(Keyed(7, None, None))), b""),
+};
+
+// What is left where a key or a value is rejected, or cut.
+const REJECTED: &[Row<Answer<Keyed>>] = table! {
+    (b"\xa1\x41\x01\x07", Err(mismatch!("i128", 0x41)), b"\x01\x07"),
+    (b"\xa1\x80\x07", Err(mismatch!("i128", 0x80)), b"\x07"),
+    (b"\xa1\xf6\x07", Err(mismatch!("i128", 0xf6)), b"\x07"),
+    (b"\xa1\xc1\x01\x07", Err(mismatch!("i128::tag", 1)), b"\x01\x07"),
+    (b"\xa1\x61\xff\x07", Err(require_utf8!("str")), b"\x07"),
+    (b"\xa1", Err(eof!("i128", 1)), b""),
+    (b"\xa1\x19\x03", Err(eof!("u64", 2)), b""),
+    (b"\xa1\x63kt", Err(eof!("str", 1)), b""),
+    (b"\xbf", Err(eof!("break", 1)), b""),
+    (b"\xa1\x01\xf6\x00", Err(mismatch!("u8", 0xf6)), b"\x00"),
+    (b"\xa1\x02\xf8\x14", Err(unsupported!("ignored-any", 248)), b"\xf8\x14"),
+    (b"\x81\x01", Err(mismatch!("map", 0x81)), b"\x01"),
+};
+
+#[test]
+fn keys_are_integers(rt: HostRuntime) -> Result<(), Fail> {
+    reads_all(rt.alloc(), KEYED, &[])?;
+    reads_all(rt.alloc(), LONG_HEADS, &[])
+}
+
+#[test]
+fn other_keys_are_skipped(rt: HostRuntime) -> Result<(), Fail> {
+    reads_all(rt.alloc(), OTHERS, &[])
+}
+
+#[test]
+fn other_items_are_no_keys(rt: HostRuntime) -> Result<(), Fail> {
+    reads_all(rt.alloc(), REJECTED, &[])
+}
+
+// The head of the map, the key, and a number.
+const ASKED: &[AskedRow] = table! {
+    (b"\xa1", b"\x01", 1, b"\x07", 1, (5, 5), (5, 5)),
+    (b"\xa2\x01\x07\x19\x03\xe8", b"", 0, b"\x09", 3, (9, 14), (9, 14)),
+    (b"\xa2\x01\x07\x63", b"kty", 1, b"\x09", 4, (10, 16), (10, 16)),
+};
+
+#[test]
+fn looks_for_keys(rt: HostRuntime) -> Result<(), Fail> {
+    asks_rows::<Answer<Keyed>>(rt.alloc(), ASKED)
+}
