@@ -1,20 +1,20 @@
 -- Structs whose keys are integers in one word: how they are written and read, and that they are
 -- read back.
-use Rattle.std.proofs.Common.{◌≡◌, ◌≢◌, ◌<◌, ◌≤◌, ◌+◌, ◌^◌, ◌/◌, ◌++◌, ◌∙◌, ℕ, ℤ, pos, negsuc, zero}
-use Rattle.std.proofs.Common.{suc, List, [], ◌∷◌, length, max, map, Option, None, Some, Result, Ok}
-use Rattle.std.proofs.Common.{Bool, true, false, IsTrue, inl, inr, refl, sym, ap, subst, ltb}
+use Rattle.std.proofs.Common.{◌≡◌, ◌≢◌, ◌<◌, ◌≤◌, ◌+◌, ◌^◌, ◌/◌, ◌++◌, ℕ, ℤ, pos, negsuc, zero}
+use Rattle.std.proofs.Common.{suc, List, [], ◌∷◌, length, max, Option, None, Some, Result, Ok}
+use Rattle.std.proofs.Common.{Bool, true, false, IsTrue, inl, refl, sym, ap, subst, ltb}
 use Rattle.std.proofs.Common.{ltb-true, arith}
 use Rattle.std.specs.Prelude.{◌&&◌, not, bytes_eq, nat_eq}
 use Rattle.std.specs.List.{AllByRecursion}
 use Rattle.std.specs.declared.alloc.Global.{Global}
 use Rattle.cbor4ii_items.specs.Head.{eight}
-use Rattle.cbor4ii_items.specs.Numbers.{IsWithin, ReadsI128, shortest_head, signed_head}
+use Rattle.cbor4ii_items.specs.Numbers.{IsWithin, shortest_head, signed_head}
 use Rattle.cbor4ii_items.specs.ReadBack.{ReadsBack}
 use Rattle.cbor4ii_items.specs.Sequences.{ReadsElements, ReadsSequence, ReadsPair}
 use Rattle.cbor4ii_items.specs.Laws.Containers.{both}
 use Rattle.cbor4ii_items.specs.Laws.NumbersBack.{head_back}
 use Rattle.cbor4ii_items.specs.Laws.Signed.{starts}
-use Rattle.cbor4ii_ser.specs.Item.{Encoding, encoded, rejected, followed, parts, struct_encoding}
+use Rattle.cbor4ii_ser.specs.Item.{Encoding, encoded, rejected, followed, parts}
 use Rattle.cbor4ii_ser.specs.Listed.{NamedItems, keyed_entries, keyed_encoding, before}
 use Rattle.cbor4ii_ser.specs.Listed.{integer_label, integer_item, integer_item_of}
 use Rattle.cbor4ii_ser.specs.OneItem.{IsOneItem, IsOneEntry, canonical}
@@ -33,7 +33,7 @@ use Rattle.cbor4ii.specs.Places.{Place, last_place, only_place, put_last}
 use Rattle.cbor4ii.specs.Presence.{Shape, no_others, shaped, or_words, or_value, once, optional}
 use Rattle.cbor4ii.specs.Presence.{paired}
 use Rattle.cbor4ii.specs.declared.serde.de.place.Single.{Single}
-use Rattle.cbor4ii.specs.ReadBack.{IsReadBack, ChangesBack, FieldsBackBy, ChangesBackBy}
+use Rattle.cbor4ii.specs.ReadBack.{IsReadBack, FieldsBackBy, ChangesBackBy}
 
 -- ---- keys of fields
 
