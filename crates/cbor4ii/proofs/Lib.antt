@@ -26,6 +26,7 @@ pub mod AnyAnswers
 pub mod Named
 pub mod Filling
 pub mod Making
+pub mod Checking
 pub mod Raws
 pub mod Names
 pub mod Casing

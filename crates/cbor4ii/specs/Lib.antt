@@ -32,6 +32,7 @@ pub mod ReadBack
 pub mod Names
 pub mod Keys
 pub mod Codec
+pub mod Checked
 pub mod CodecFields
 pub mod CodecElements
 pub mod CodecCases

@@ -18,6 +18,7 @@ pub use cbor4ii_ser::text::{Text, TextFault, TextWriter};
 pub use cbor4ii_ser::write_all::{to_vec, to_writer};
 pub use de::accessor::Accessor;
 pub use de::cases::{Case, Cases, Choice, Holds, Otherwise, Unit};
+pub use de::checked::{CheckedFrom, Unmade};
 pub use de::deserialize::{Deserialize, Typed};
 pub use de::deserializer::Deserializer;
 pub use de::elements::{DeserializeElements, TypedElements};

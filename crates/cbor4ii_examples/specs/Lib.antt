@@ -4,6 +4,8 @@ pub mod Station
 pub mod StationLaws
 pub mod Nest
 pub mod Tree
+-- A number with a limit.
+pub mod Percent
 -- An enum, by its variants.
 pub mod Event
 -- A signed payload, sealed and opened.

@@ -20,6 +20,7 @@
 //! | `line` | requests and answers over a line, whose reader waits for no byte too many |
 //! | `meters` | a newtype, read and written as what it holds |
 //! | `moment` | a newtype with a tag before it, and a struct that holds it |
+//! | `percent` | a newtype with a test, which rejects what is read in words of its own |
 //! | `nest` | a type that holds values of its own kind |
 //! | `tree` | a struct that holds values of its own kind, written in one call and read as a value |
 //! | `station` | a type that is read and written by hand, each error proved |
@@ -45,6 +46,7 @@ pub mod meters;
 pub mod moment;
 pub mod nest;
 pub mod page;
+pub mod percent;
 pub mod point;
 pub mod raw_items;
 pub mod reading;

@@ -7,6 +7,7 @@ mod borrowed;
 mod boxed;
 pub mod cases;
 mod character;
+pub mod checked;
 mod counted_fields;
 mod cow;
 pub mod deserialize;
