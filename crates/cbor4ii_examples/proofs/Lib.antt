@@ -9,3 +9,5 @@ pub mod Rejection
 pub mod Stored
 -- What a reader over a line shows.
 pub mod LineShown
+-- Lists that are no shape.
+pub mod Shapes

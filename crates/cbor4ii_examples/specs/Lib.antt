@@ -8,6 +8,8 @@ pub mod Tree
 pub mod Percent
 -- An enum, by its variants.
 pub mod Event
+-- An enum that holds values of its own kind.
+pub mod Shape
 -- A signed payload, sealed and opened.
 pub mod Envelope
 -- At which byte settings are rejected, and when a store rejects bytes.

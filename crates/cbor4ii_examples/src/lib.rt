@@ -23,6 +23,7 @@
 //! | `percent` | a newtype with a test, which rejects what is read in words of its own |
 //! | `nest` | a type that holds values of its own kind |
 //! | `tree` | a struct that holds values of its own kind, written in one call and read as a value |
+//! | `shape` | an enum that holds values of its own kind, exact both ways |
 //! | `station` | a type that is read and written by hand, each error proved |
 //! | `store` | what a content-addressed store checks: one item, in its canonical encoding |
 //! | `envelope` | a signed payload, checked as its bytes stand and then read |
@@ -55,6 +56,7 @@ mod rejected;
 pub mod reply;
 pub mod sample;
 pub mod settings;
+pub mod shape;
 pub mod station;
 pub mod store;
 pub mod texts;

@@ -1,0 +1,125 @@
+-- Which items are shapes, and how shapes are written.
+use Rattle.std.specs.Prelude.{ℕ, ◌∷◌, [], ◌^◌, pos, List, Bool, false, Option, None, Some, codes}
+use Rattle.std.specs.Prelude.{bytes_eq, nat_lt, if◌then◌else◌, option_map}
+use Rattle.cbor4ii_items.specs.Numbers.{shortest_head}
+use Rattle.cbor4ii_tree.specs.Item.{Item, Items, Members, integer, text, sequence, mapping, item}
+use Rattle.cbor4ii_tree.specs.Item.{no_items, member, no_members}
+use Rattle.cbor4ii_ser.specs.Item.{Encoding, encoded, field, variant_encoding}
+use Rattle.cbor4ii_ser.specs.Item.{tuple_variant_encoding, struct_variant_encoding}
+use Rattle.cbor4ii_examples.specs.declared.shape.Shape.{Shape, fold-Shape}
+use Rattle.cbor4ii_examples.specs.declared.shape.Shape.TheOpen.{Shape-F}
+
+-- ---- shapes
+
+-- a shape, wherever it lies in memory
+pub data Figure : Type 0 where
+  circle : ℕ → Figure
+  pair : Figure → Figure → Figure
+  framed : ℕ → Figure → Figure
+
+abbrev pub figure_step : Shape-F Figure → Figure
+figure_step (Shape-F.Circle radius) = circle radius
+figure_step (Shape-F.Pair first second) = pair first.value second.value
+figure_step (Shape-F.Framed width inner) = framed width inner.value
+
+abbrev pub figure : Shape → Figure
+figure = fold-Shape Figure figure_step
+
+-- ---- written
+
+-- one shape, with what is written for each shape inside in its place
+abbrev pub shape_step : Shape-F Encoding → Encoding
+shape_step (Shape-F.Circle radius) =
+    variant_encoding (codes "Circle") (encoded (shortest_head 0 radius))
+shape_step (Shape-F.Pair first second) =
+    tuple_variant_encoding (codes "Pair") (first.value ∷ second.value ∷ [])
+shape_step (Shape-F.Framed width inner) = struct_variant_encoding (codes "Framed")
+    (field (codes "width") (encoded (shortest_head 0 width))
+    ∷ field (codes "inner") inner.value ∷ [])
+
+abbrev pub shape_item : Shape → Encoding
+shape_item = fold-Shape Encoding shape_step
+
+-- ---- read
+
+-- a number below 2^32
+abbrev pub number_at : Item → Option ℕ
+number_at (integer (pos n)) = if nat_lt n 4294967296 then Some n else None
+number_at _ = None
+
+abbrev pub circle_at : Item → Option Figure
+circle_at v = option_map circle (number_at v)
+
+abbrev pub pair_made : (first second : Option Figure) → Option Figure
+pair_made None second = None
+pair_made (Some a) None = None
+pair_made (Some a) (Some b) = Some (pair a b)
+
+abbrev pub framed_made : (inner : Option Figure) → (width : Option ℕ) → Option Figure
+framed_made None width = None
+framed_made (Some b) None = None
+framed_made (Some b) (Some n) = Some (framed n b)
+
+-- this, where no other stands beside it
+abbrev pub alone : Members → Option Figure → Option Figure
+alone no_members o = o
+alone (member k v ms) o = None
+
+abbrev pub last : Items → Option Figure → Option Figure
+last no_items o = o
+last (item v vs) o = None
+
+-- the item is this text
+abbrev pub text_eq : Item → List ℕ → Bool
+text_eq (text bs) name = bytes_eq bs name
+text_eq _ name = false
+
+-- this, where the key is this name
+abbrev pub under : {A : Type 0} → List ℕ → Item → Option A → Option A
+under name key o = if text_eq key name then o else None
+
+-- the variant of this name, where each stands for the content that is its own
+abbrev pub named : Item → (circle pair framed : Option Figure) → Option Figure
+named name c p f = if text_eq name (codes "Circle") then c
+    else (if text_eq name (codes "Pair") then p
+    else under (codes "Framed") name f)
+
+-- The figure that an item stands for: a map of one member, the variant's name and its content. A
+-- pair is an array of two, and a frame a map of its width and what is inside, in this order.
+abbrev mutual
+  pub figure_at : Item → Option Figure
+  figure_at (mapping ms) = figure_in ms
+  figure_at _ = None
+
+  pub figure_in : Members → Option Figure
+  figure_in no_members = None
+  figure_in (member k v ms) = alone ms (named k (circle_at v) (pair_at v) (framed_at v))
+
+  pub pair_at : Item → Option Figure
+  pair_at (sequence vs) = pair_in vs
+  pair_at _ = None
+
+  pub pair_in : Items → Option Figure
+  pair_in no_items = None
+  pair_in (item v vs) = pair_made (figure_at v) (second_in vs)
+
+  pub second_in : Items → Option Figure
+  second_in no_items = None
+  second_in (item v vs) = last vs (figure_at v)
+
+  pub framed_at : Item → Option Figure
+  framed_at (mapping ms) = framed_in ms
+  framed_at _ = None
+
+  pub framed_in : Members → Option Figure
+  framed_in no_members = None
+  framed_in (member k v ms) =
+      framed_made (inner_in ms) (under (codes "width") k (number_at v))
+
+  pub inner_in : Members → Option Figure
+  inner_in no_members = None
+  inner_in (member k v ms) = alone ms (under (codes "inner") k (figure_at v))
+
+-- the variant of this name and content
+abbrev pub variant_at : Item → Item → Option Figure
+variant_at k v = named k (circle_at v) (pair_at v) (framed_at v)
