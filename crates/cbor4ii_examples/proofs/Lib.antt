@@ -11,3 +11,5 @@ pub mod Stored
 pub mod LineShown
 -- Lists that are no shape.
 pub mod Shapes
+-- Trees one after another.
+pub mod Trees

@@ -1,10 +1,46 @@
--- Nodes below a node, as maps in a map.
-use Rattle.std.specs.Prelude.{[], ◌∷◌, codes, string_bytes}
+-- Nodes below a node, as maps in a map: how they are written, and which items are read as such.
+use Rattle.std.specs.Prelude.{ℕ, ℤ, pos, negsuc, List, [], ◌∷◌, Option, None, Some, codes}
+use Rattle.std.specs.Prelude.{nat_lt, if◌then◌else◌, option_map, option_and_then, string_bytes, map}
+use Rattle.std.specs.declared.alloc.Global.{Global}
+use Rattle.std.specs.declared.vec.Vec.{Vec}
 use Rattle.cbor4ii_items.specs.Numbers.{shortest_head}
 use Rattle.cbor4ii_items.specs.Strings.{definite_string}
+use Rattle.cbor4ii_tree.specs.Item.{Item, Items, Members, integer, text, sequence, mapping, item}
+use Rattle.cbor4ii_tree.specs.Item.{no_items, member, no_members}
 use Rattle.cbor4ii_ser.specs.Item.{Encoding, encoded, field, struct_encoding, array_encoding}
+use Rattle.cbor4ii_examples.specs.Shape.{text_eq}
+use Rattle.cbor4ii_examples.specs.declared.tree.Found.{Found}
 use Rattle.cbor4ii_examples.specs.declared.tree.Tree.{Tree, fold-Tree}
 use Rattle.cbor4ii_examples.specs.declared.tree.Tree.TheOpen.{Tree-F}
+
+-- ---- trees
+
+-- a tree, wherever it lies in memory
+mutual
+  pub data Node : Type 0 where
+    node : ℕ → List ℕ → Nodes → Node
+
+  pub data Nodes : Type 0 where
+    no_nodes : Nodes
+    more : Node → Nodes → Nodes
+
+abbrev pub nodes_of : List Node → Nodes
+nodes_of [] = no_nodes
+nodes_of (n ∷ ns) = more n (nodes_of ns)
+
+abbrev pub node_step : Tree-F Node → Node
+node_step t = node t.id (string_bytes t.name) (nodes_of t.children.items)
+
+abbrev pub tree_node : Tree → Node
+tree_node = fold-Tree Node node_step
+
+abbrev pub tree_nodes : List Tree → List Node
+tree_nodes trees = map tree_node trees
+
+abbrev pub vector_nodes : Vec Tree Global → List Node
+vector_nodes trees = tree_nodes trees.items
+
+-- ---- written
 
 -- one node, with what is written for each node below it in its place
 abbrev pub tree_step : Tree-F Encoding → Encoding
@@ -14,3 +50,80 @@ tree_step tree = struct_encoding (field (codes "id") (encoded (shortest_head 0 t
 
 abbrev pub tree_item : Tree → Encoding
 tree_item = fold-Tree Encoding tree_step
+
+-- ---- read
+
+-- the fields so far
+pub record Seen : Type 0 where
+  pub id : Option ℕ
+  pub name : Option (List ℕ)
+  pub children : List Node
+
+abbrev pub seen : Found → Seen
+seen f = record {
+  id = f.id;
+  name = option_map string_bytes f.name;
+  children = vector_nodes f.children;
+}
+
+abbrev pub nothing_seen : Seen
+nothing_seen = record { id = None; name = None; children = [] }
+
+-- a number below 2^64
+abbrev pub id_at : ℤ → Option ℕ
+id_at (pos n) = if nat_lt n 18446744073709551616 then Some n else None
+id_at (negsuc n) = None
+
+abbrev pub with_id : Seen → Item → Seen
+with_id s (integer z) = record s { id = id_at z }
+with_id s _ = s
+
+abbrev pub with_name : Seen → Item → Seen
+with_name s (text bs) = record s { name = Some bs }
+with_name s _ = s
+
+abbrev pub with_nodes : Seen → Option (List Node) → Option Seen
+with_nodes s None = None
+with_nodes s (Some ns) = Some (record s { children = ns })
+
+abbrev pub with_children : Seen → Item → Option (List Node) → Option Seen
+with_children s (sequence vs) below = with_nodes s below
+with_children s _ below = Some s
+
+-- a member more, of which the nodes that its value may stand for are given
+abbrev pub with_member : Seen → Item → Item → Option (List Node) → Option Seen
+with_member s k v below = if text_eq k (codes "id") then Some (with_id s v)
+    else (if text_eq k (codes "name") then Some (with_name s v)
+    else (if text_eq k (codes "children") then with_children s v below else Some s))
+
+abbrev pub made_from : Option ℕ → Option (List ℕ) → List Node → Option Node
+made_from None name children = None
+made_from (Some id) None children = None
+made_from (Some id) (Some name) children = Some (node id name (nodes_of children))
+
+abbrev pub node_made : Option Seen → Option Node
+node_made None = None
+node_made (Some s) = made_from s.id s.name s.children
+
+abbrev pub more_made : Option Node → Option (List Node) → Option (List Node)
+more_made None ns = None
+more_made (Some n) None = None
+more_made (Some n) (Some ns) = Some (n ∷ ns)
+
+abbrev mutual
+  pub node_at : Item → Option Node
+  node_at (mapping ms) = node_made (members_at ms nothing_seen)
+  node_at _ = None
+
+  pub members_at : Members → Seen → Option Seen
+  members_at no_members s = Some s
+  members_at (member k v ms) s =
+      option_and_then (members_at ms) (with_member s k v (children_at v))
+
+  pub children_at : Item → Option (List Node)
+  children_at (sequence vs) = nodes_at vs
+  children_at _ = None
+
+  pub nodes_at : Items → Option (List Node)
+  nodes_at no_items = Some []
+  nodes_at (item v vs) = more_made (node_at v) (nodes_at vs)

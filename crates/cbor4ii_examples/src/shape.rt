@@ -1,5 +1,5 @@
 //! An enum that holds values of its own kind in boxes, exact both ways.
-ghost use Rattle.std.specs.Prelude.{◌≡◌, codes};
+ghost use Rattle.std.specs.Prelude.{◌≡◌, Some, codes};
 ghost use Rattle.std.proofs.Common.{ap};
 ghost use Rattle.cbor4ii_tree.specs.View.{view, items_view, members_view};
 ghost use Rattle.cbor4ii.specs.Checked.{MakesShown, shown_from, words_unless};
@@ -208,7 +208,8 @@ fn number_of(value: &Value) -> Result<u32, Unmade>
     }
 }
 
-fn is_text(value: &Value, name: &str) -> bool
+/// Whether a value is this text.
+pub(crate) fn is_text(value: &Value, name: &str) -> bool
     ensures { result ≡ text_eq (view value.now) name.now }
 {
     match value {

@@ -1,14 +1,23 @@
-//! A struct that holds values of its own kind, written in one call and read as a value of the tree.
-ghost use Rattle.cbor4ii_examples.specs.Tree.{tree_item};
+//! A struct that holds values of its own kind, exact both ways: written in one call, and read as a
+//! value of the tree.
+ghost use Rattle.std.specs.Prelude.{◌≡◌, Some, codes};
+ghost use Rattle.std.proofs.Common.{ap};
+ghost use Rattle.cbor4ii_tree.specs.View.{view, items_view, members_view};
+ghost use Rattle.cbor4ii.specs.Checked.{MakesShown, shown_from, words_unless};
+ghost use Rattle.cbor4ii_examples.specs.Tree.{tree_item, tree_node, vector_nodes, node_at, nodes_at};
+ghost use Rattle.cbor4ii_examples.specs.Tree.{seen, nothing_seen, with_id, with_name};
+ghost use Rattle.cbor4ii_examples.specs.Tree.{with_children, with_member, made_from};
+ghost use Rattle.cbor4ii_examples.specs.Tree.{members_at, children_at};
 
+use crate::shape::is_text;
+use cbor4ii::Value;
 use cbor4ii::dec::Source;
 use cbor4ii::enc::Write;
 use cbor4ii::serde::{
-    DecodeError, Deserialize, Deserializer, EncodeError, Serialize, Serializer, Typed,
+    CheckedFrom, DecodeError, Deserialize, Deserializer, EncodeError, Serialize, Serializer, Typed,
+    Unmade,
 };
-use cbor4ii::{Value, error as core_error};
 use std::alloc::Global;
-use std::collections::TryReserveError;
 
 /// A node, and the nodes below it.
 #[derive(Debug, PartialEq, Drop)]
@@ -39,72 +48,149 @@ impl Serialize for Tree {
     }
 }
 
-/// Nothing is promised of the bytes.
-impl Typed for Tree {}
+/// A value that `node_at` accepts, and nothing else. Members of other names are left out, and of
+/// several of one name the last counts that has a value of the field's kind.
+impl Typed for Tree {
+    ghost promise = { shown_from (codes "no tree") (λ v. node_at (view v)) tree_node
+        ⟦<Value as Typed>⟧.promise };
+}
 
-/// Any item is read, and the tree is made of it. Members of other names are left out, and of
-/// several of one name the last counts.
+/// Any item is read, and the tree is made of it.
 impl<S: Source> Deserialize<S> for Tree {
     fn deserialize(alloc: Global, de: &mut Deserializer<S>) -> Result<Tree, DecodeError<S::Error>> {
-        match tree_of(alloc, &Value::deserialize(alloc, de)?) {
-            Ok(tree) => Ok(tree),
-            Err(Unlike::Memory) => Err(DecodeError::Core(core_error::DecodeError::OutOfMemory)),
-            Err(Unlike::Value) => Err(DecodeError::Custom("no tree")),
-        }
+        de.deserialize_checked::<Value, Tree>(alloc)
     }
 }
 
-/// Why a value is no tree.
+impl CheckedFrom<Value> for Tree {
+    ghost words = { λ v. words_unless (codes "no tree") (node_at (view v)) };
+
+    ghost makes = { λ v t. node_at (view v) ≡ Some (tree_node t) };
+
+    #[tactic(auto, using(cbor4ii::specs::Laws::Shown::shown_checks,))]
+    fn checked_from(alloc: Global, value: Value) -> Result<Tree, Unmade> {
+        tree_of(alloc, &value)
+    }
+
+    ghost fate = { λ v w same. ap (λ i. words_unless (codes "no tree") (node_at i)) same };
+}
+
+/// The fields of a node that its map has so far.
 #[derive(Debug, Drop)]
-enum Unlike {
-    /// It is another value.
-    Value,
-    /// There was no memory for the tree.
-    Memory,
+struct Found {
+    id: Option<u64>,
+    name: Option<String>,
+    children: Vec<Tree>,
 }
 
-impl From<TryReserveError> for Unlike {
-    fn from(error: TryReserveError) -> Unlike {
-        Unlike::Memory
-    }
-}
-
+/// The tree that a value stands for. It calls itself once for each level, as reading the value did.
+///
+/// # Errors
+///
+/// - `Rejected` of "no tree": it stands for none
+/// - `OutOfMemory`: there was no memory for the tree
 #[cycle(trees)]
-fn tree_of(alloc: Global, value: &Value) -> Result<Tree, Unlike> {
-    let mut id = None;
-    let mut name = None;
-    let mut children = Vec::new(alloc);
-    if let Value::Map(members) = value {
-        for member in members {
-            match (&member.0, &member.1) {
-                (Value::Text(key), Value::Integer(number)) if key.as_str() == "id" => {
-                    id = u64::try_from(*number).ok();
-                }
-                (Value::Text(key), Value::Text(text)) if key.as_str() == "name" => {
-                    name = Some(String::from_str(alloc, text.as_str())?);
-                }
-                (Value::Text(key), Value::Array(items)) if key.as_str() == "children" => {
-                    children = trees_of(alloc, items)?;
-                }
-                _ => {}
-            }
+#[tactic(auto, using(cbor4ii::specs::Laws::Shown::values_seen,))]
+pub fn tree_of(alloc: Global, value: &Value) -> Result<Tree, Unmade>
+    ensures { MakesShown (codes "no tree") tree_node (node_at (view value.now)) result }
+{
+    match value {
+        Value::Map(members) => {
+            let found = found_in(alloc, members)?;
+            made(found)
         }
-    }
-    match (id, name) {
-        (Some(id), Some(name)) => Ok(Tree { id, name, children }),
-        _ => Err(Unlike::Value),
+        _ => Err(Unmade::Rejected("no tree")),
     }
 }
 
 #[cycle(trees)]
-fn trees_of(alloc: Global, values: &[Value]) -> Result<Vec<Tree>, Unlike> {
+fn found_in(alloc: Global, members: &[(Value, Value)]) -> Result<Found, Unmade>
+    ensures { MakesShown (codes "no tree") seen
+        (members_at (members_view members.now) nothing_seen) result }
+{
+    let mut found = Found { id: None, name: None, children: Vec::new(alloc) };
+    for member in members {
+        found = with_member(alloc, &member.1, &member.0, found)?;
+    }
+    Ok(found)
+}
+
+#[cycle(trees)]
+fn with_member(alloc: Global, value: &Value, key: &Value, found: Found) -> Result<Found, Unmade>
+    ensures { MakesShown (codes "no tree") seen (with_member (seen found)
+        (view key.now) (view value.now) (children_at (view value.now))) result }
+{
+    if is_text(key, "id") {
+        return Ok(with_id(found, value));
+    }
+    if is_text(key, "name") {
+        return with_name(alloc, found, value);
+    }
+    if is_text(key, "children") {
+        return with_children(alloc, value, found);
+    }
+    Ok(found)
+}
+
+fn with_id(found: Found, value: &Value) -> Found
+    ensures { seen result ≡ with_id (seen found) (view value.now) }
+{
+    match value {
+        Value::Integer(number) => Found { id: u64::try_from(*number).ok(), ..found },
+        _ => found,
+    }
+}
+
+fn with_name(alloc: Global, found: Found, value: &Value) -> Result<Found, Unmade>
+    ensures { MakesShown (codes "no tree") seen
+        (Some (with_name (seen found) (view value.now))) result }
+{
+    match value {
+        Value::Text(text) => {
+            let name = String::from_str(alloc, text.as_str())?;
+            Ok(Found { name: Some(name), ..found })
+        }
+        _ => Ok(found),
+    }
+}
+
+#[cycle(trees)]
+#[tactic(auto, using(cbor4ii::specs::Laws::Shown::values_seen,))]
+fn with_children(alloc: Global, value: &Value, found: Found) -> Result<Found, Unmade>
+    ensures { MakesShown (codes "no tree") seen (with_children (seen found)
+        (view value.now) (children_at (view value.now))) result }
+{
+    match value {
+        Value::Array(items) => {
+            let children = trees_of(alloc, items)?;
+            Ok(Found { children, ..found })
+        }
+        _ => Ok(found),
+    }
+}
+
+#[cycle(trees)]
+fn trees_of(alloc: Global, values: &[Value]) -> Result<Vec<Tree>, Unmade>
+    ensures { MakesShown (codes "no tree") vector_nodes
+        (nodes_at (items_view values.now)) result }
+{
     let mut trees = Vec::new(alloc);
     for value in values {
-        if trees.push(tree_of(alloc, value)?).is_err() {
-            return Err(Unlike::Memory);
-        }
+        let tree = tree_of(alloc, value)?;
+        trees.push(tree)?;
     }
     Ok(trees)
+}
+
+#[tactic(auto, using(crate::specs::declared::tree::Tree::the_lemmas,))]
+fn made(found: Found) -> Result<Tree, Unmade>
+    ensures { MakesShown (codes "no tree") tree_node
+        (made_from (seen found).id (seen found).name (seen found).children) result }
+{
+    match (found.id, found.name) {
+        (Some(id), Some(name)) => Ok(Tree { id, name, children: found.children }),
+        _ => Err(Unmade::Rejected("no tree")),
+    }
 }
 
 #[cfg(test)]

@@ -48,9 +48,11 @@ const OTHERS: &[RowShown] = table! {
     (b"\xa1\x66Framed\xa1\x65width\x03", Ok(NO_SHAPE), b""),
 };
 
-// A shape takes two steps for itself, and a pair two more for its array.
+// A map takes two steps, and what is inside one more.
 const WITHIN: &[RowShownWithin] = table! {
     (b"\xa1\x66Circle\x05\x01", 3, Ok("Is(Circle(5))"), b"\x01"),
+    (b"\xa1\x66Circle\x05\x01", 2, Err(no_step!("any")), b"\x66Circle\x05\x01"),
+    (b"\xa1\x66Circle\x05\x01", 1, Err(no_step!("map")), b"\xa1\x66Circle\x05\x01"),
 };
 
 const REJECTED: &[Rejected] = table! {
