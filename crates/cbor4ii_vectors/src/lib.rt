@@ -3,6 +3,7 @@
 #![tactic(auto)]
 
 pub mod asked;
+pub mod compared;
 pub mod connection;
 mod errors;
 pub mod items;

@@ -9,6 +9,7 @@ use cbor4ii_rw::io_reader::IoReader;
 use cbor4ii_rw::read::Read;
 use cbor4ii_rw::segment_reader::SegmentReader;
 use cbor4ii_rw::slice_reader::SliceReader;
+use cbor4ii_vectors::compared::same;
 use cbor4ii_vectors::readers::TestReader;
 use cbor4ii_vectors::rows::{leaves, steps};
 use cbor4ii_vectors::streams::FailingStream;
@@ -81,13 +82,20 @@ pub fn answers<'de, R: Read<'de>>(
 ) -> Result<(), Fail> {
     let budget = steps(reader);
     let got = answer(kind, alloc, reader);
-    if got.as_str() == "OutOfMemory" {
+    is_same(got.as_str(), want, bytes)?;
+    same(steps(reader), budget)?;
+    leaves(reader, bytes, rest)
+}
+
+// Compares the text of an answer.
+fn is_same(got: &str, want: &str, bytes: &[u8]) -> Result<(), Fail> {
+    if got == "OutOfMemory" {
         return Err(Fail::from(DecodeError::<Never>::OutOfMemory));
     }
-    if got.as_str() == want && steps(reader) == budget {
-        return leaves(reader, bytes, rest);
+    if got == want {
+        return Ok(());
     }
-    Err(Fail::new(format_args!("{} in the place of {want} of {bytes:?}", got.as_str())))
+    Err(Fail::new(format_args!("{got} in the place of {want} of {bytes:?}")))
 }
 
 /// Reads the rows over each reader that lends all that is left.
@@ -117,10 +125,7 @@ fn waits_for_nothing_after(
     }
     let item = &bytes[..bytes.len().saturating_sub(rest.len())];
     let got = answer(kind, alloc, &mut TestReader::wanted(item, STEPS).waiting());
-    if got.as_str() == want {
-        return Ok(());
-    }
-    Err(Fail::new(format_args!("{} in the place of {want} of {bytes:?}", got.as_str())))
+    is_same(got.as_str(), want, bytes)
 }
 
 fn lends(
@@ -211,6 +216,18 @@ pub fn answers_alike(
     let mut long = TestReader::long(bytes, limit);
     answers(kind, alloc, &mut long, bytes, want, rest)?;
     answers_short(kind, alloc, bytes, limit, want, rest)?;
+    answers_in_segments(kind, alloc, bytes, limit, want, rest)
+}
+
+// Over two segments, for each place where the bytes can be cut.
+fn answers_in_segments(
+    kind: Kind,
+    alloc: Global,
+    bytes: &[u8],
+    limit: usize,
+    want: &str,
+    rest: &[u8],
+) -> Result<(), Fail> {
     for place in 1..bytes.len() {
         let segments = [&bytes[..place], &bytes[place..]];
         let mut reader = SegmentReader::with_limit(&segments, limit);
@@ -234,21 +251,34 @@ fn lends_in_segments(
     head: usize,
     errors: &[&str],
 ) -> Result<(), Fail> {
-    let (kind, bytes, want, rest) = *row;
+    let (_, bytes, ..) = *row;
     let content = bytes.get(head..).ok_or("no content")?;
     for place in 1..bytes.len() {
-        let segments = [&bytes[..place], &bytes[place..]];
-        let mut reader = SegmentReader::new(&segments);
         let rejection = match place.checked_sub(head) {
             Some(shown) if shown > 0 => errors.get(shown - 1),
             _ => None,
         };
-        match rejection {
-            Some(rejection) => answers(kind, alloc, &mut reader, bytes, rejection, content)?,
-            None => answers(kind, alloc, &mut reader, bytes, want, rest)?,
-        }
+        lends_cut(alloc, row, place, rejection, content)?;
     }
     Ok(())
+}
+
+// Over two segments, cut at this place: the row's answer, or the error with the content left.
+fn lends_cut(
+    alloc: Global,
+    row: &BorrowedRow,
+    place: usize,
+    rejection: Option<&&str>,
+    content: &[u8],
+) -> Result<(), Fail> {
+    let (kind, bytes, want, rest) = *row;
+    let (first, second) = bytes.split_at(place.min(bytes.len()));
+    let segments = [first, second];
+    let mut reader = SegmentReader::new(&segments);
+    match rejection {
+        Some(rejection) => answers(kind, alloc, &mut reader, bytes, rejection, content),
+        None => answers(kind, alloc, &mut reader, bytes, want, rest),
+    }
 }
 
 // Readers that fail at the first show, at the second, and so on until none is left to fail.

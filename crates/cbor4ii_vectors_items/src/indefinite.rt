@@ -1,12 +1,14 @@
 //! Rows of breaks, and of whether another part of an array or a map follows.
 use cbor4ii_items::indefinite::{follows, is_break};
 use cbor4ii_rw::ask;
-use cbor4ii_rw::error::{DecodeError, Len};
+use cbor4ii_rw::error::DecodeError;
 use cbor4ii_rw::read::Source;
 use cbor4ii_rw::slice_reader::SliceReader;
+use cbor4ii_vectors::compared::same;
 use cbor4ii_vectors::rows::{ReadFrom, Row, reads_rows};
 use cbor4ii_vectors::{eof, table};
 use std::alloc::Global;
+use std::fmt::InlineText;
 use std::test::Fail;
 
 // Whether a break was taken.
@@ -33,47 +35,47 @@ fn breaks(rt: HostRuntime) -> Result<(), Fail> {
     reads_rows(rt.alloc(), BREAKS)
 }
 
-// A part follows, or none does.
-fn says<S: Source>(reader: &mut S, len: &mut Option<usize>, more: bool) -> bool {
-    matches!(follows(reader, len), Ok(found) if found == more)
+// Whether a part follows, or the error, has this text.
+fn says<S: Source>(reader: &mut S, len: &mut Option<usize>, text: &str) -> Result<(), Fail> {
+    let got = follows(reader, len);
+    same(InlineText::<64>::of(format_args!("{got:?}")).as_str(), text)
 }
 
 #[test]
-fn parts_are_counted_down(rt: HostRuntime) {
+fn parts_are_counted_down() -> Result<(), Fail> {
     let mut reader = SliceReader::new(b"\xff");
     let mut len = Some(2);
-    for more in [true, true, false, false] {
-        assert!(rt; says(&mut reader, &mut len, more));
+    for more in ["Ok(true)", "Ok(true)", "Ok(false)", "Ok(false)"] {
+        says(&mut reader, &mut len, more)?;
     }
-    assert_eq!(rt; reader.remaining(), b"\xff".as_slice());
+    same(reader.remaining(), b"\xff")
+}
+
+// A part follows, and the length is still indefinite; once it is taken there is a break, and then
+// no part is left, whatever follows.
+fn ends_by_a_break<S: Source>(reader: &mut S) -> Result<(), Fail> {
+    let mut len = None;
+    says(reader, &mut len, "Ok(true)")?;
+    same(len, None)?;
+    same(ask::next_byte(reader).or(Err("a look fails"))?, Some(1))?;
+    says(reader, &mut len, "Ok(false)")?;
+    same(len, Some(0))?;
+    says(reader, &mut len, "Ok(false)")
 }
 
 #[test]
-fn a_break_ends_the_parts(rt: HostRuntime) {
+fn a_break_ends_the_parts() -> Result<(), Fail> {
     let mut reader = SliceReader::new(b"\x01\xff\xff");
-    let mut len = None;
-    assert!(rt; says(&mut reader, &mut len, true));
-    assert_eq!(rt; len, None);
-    assert!(rt; matches!(ask::next_byte(&mut reader), Ok(Some(1))));
-    assert!(rt; says(&mut reader, &mut len, false));
-    assert_eq!(rt; len, Some(0));
-    assert!(rt; says(&mut reader, &mut len, false));
-    assert_eq!(rt; reader.remaining(), b"\xff".as_slice());
+    ends_by_a_break(&mut reader)?;
+    same(reader.remaining(), b"\xff")
 }
+
+const END: &str = "Err(Eof { name: \"break\", expect: Small(1) })";
 
 // Where no byte is left a break or a part is missing, and the length stays indefinite.
 #[test]
-fn no_byte_where_a_part_may_follow(rt: HostRuntime) {
+fn no_byte_where_a_part_may_follow() -> Result<(), Fail> {
     let mut len = None;
-    let end = follows(&mut SliceReader::new(b""), &mut len);
-    assert!(rt;
-        matches!(
-            end,
-            Err(DecodeError::Eof {
-                name: "break",
-                expect: Len::Small(1),
-            })
-        )
-    );
-    assert_eq!(rt; len, None);
+    says(&mut SliceReader::new(b""), &mut len, END)?;
+    same(len, None)
 }

@@ -3,6 +3,7 @@ use cbor4ii_items::decode::Decode;
 use cbor4ii_items::whole::decode_whole;
 use cbor4ii_rw::error::{DecodeError, Never, WholeError};
 use cbor4ii_rw::slice_reader::SliceReader;
+use cbor4ii_vectors::compared::same;
 use cbor4ii_vectors::{eof, mismatch, require_length, table};
 use std::alloc::Global;
 use std::fmt::{Debug, InlineText};
@@ -39,15 +40,23 @@ where
     T: Decode<SliceReader<'static>> + Debug + Drop,
 {
     for (input, want) in rows {
-        let got = decode_whole::<&'static [u8], T>(alloc, input);
-        if matches!(got, Err(WholeError::Decode(DecodeError::OutOfMemory))) {
-            return Err(Fail::from(DecodeError::<Never>::OutOfMemory));
-        }
-        if !is_row(&got, want) {
-            return Err(Fail::new(format_args!("{got:?} of {input:?}")));
-        }
+        reads_row::<T>(alloc, input, want)?;
     }
     Ok(())
+}
+
+fn reads_row<T>(alloc: Global, input: &'static [u8], want: &Result<&str, Why>) -> Result<(), Fail>
+where
+    T: Decode<SliceReader<'static>> + Debug + Drop,
+{
+    let got = decode_whole::<&'static [u8], T>(alloc, input);
+    if is_row(&got, want) {
+        return Ok(());
+    }
+    if matches!(got, Err(WholeError::Decode(DecodeError::OutOfMemory))) {
+        return Err(Fail::from(DecodeError::<Never>::OutOfMemory));
+    }
+    Err(Fail::new(format_args!("{got:?} of {input:?}")))
 }
 
 const NUMBERS: &[Row] = table! {
@@ -85,14 +94,12 @@ fn one_item_is_the_whole_input(rt: HostRuntime) -> Result<(), Fail> {
     reads_whole::<Vec<u8>>(alloc, ARRAYS)
 }
 
+fn is_line(error: WholeError<DecodeError<Never>>, line: &str) -> Result<(), Fail> {
+    same(InlineText::<64>::of(format_args!("{error}")).as_str(), line)
+}
+
 #[test]
-fn errors_are_lines(rt: HostRuntime) {
-    let cut: WholeError<DecodeError<Never>> = WholeError::from(DecodeError::OutOfMemory);
-    assert_eq!(rt;
-        InlineText::<64>::of(format_args!("{cut}")).as_str(),
-        "OutOfMemory"
-    );
-    let more: WholeError<DecodeError<Never>> = WholeError::Trailing(2);
-    let line = InlineText::<64>::of(format_args!("{more}"));
-    assert_eq!(rt; line.as_str(), "bytes after the item: 2");
+fn errors_are_lines() -> Result<(), Fail> {
+    is_line(WholeError::from(DecodeError::OutOfMemory), "OutOfMemory")?;
+    is_line(WholeError::Trailing(2), "bytes after the item: 2")
 }

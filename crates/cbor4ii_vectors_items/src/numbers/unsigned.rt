@@ -1,33 +1,42 @@
 //! Rows of unsigned integers: RFC 8949 Appendix A, the edges of each type, and errors.
-use cbor4ii_items::decode::Decode;
 use cbor4ii_items::encode::Encode;
-use cbor4ii_rw::buf_writer::BufWriter;
-use cbor4ii_rw::slice_reader::SliceReader;
+use cbor4ii_rw::error::EncodeError;
+use cbor4ii_rw::write::Write;
 use cbor4ii_vectors::rows::{
-    Row, RowWithin, reads_rows, reads_rows_within, texts_go_both_ways, writes_in,
+    Pair, Row, RowWithin, WriteTo, reads_rows, reads_rows_within, texts_go_both_ways, writes_in,
 };
 use cbor4ii_vectors::{eof, mismatch, table};
 use std::test::Fail;
 
 const ONE_AFTER_ANOTHER: &[u8] = b"\x1a\x00\x0f\x42\x40\x20";
 
+const READ_ONE_AFTER_ANOTHER: &[Row<Pair<u64, i128>>] = table! {
+    (ONE_AFTER_ANOTHER, Ok(Pair(1_000_000, -1)), b""),
+};
+
 // Two numbers of different types, read and then written.
 #[test]
 fn numbers_one_after_another(rt: HostRuntime) -> Result<(), Fail> {
-    let alloc = rt.alloc();
-    let mut reader = SliceReader::new(ONE_AFTER_ANOTHER);
-    assert_eq!(rt; u64::decode(alloc, &mut reader)?, 1_000_000);
-    assert_eq!(rt; i128::decode(alloc, &mut reader)?, -1);
-    Ok(())
+    reads_rows(rt.alloc(), READ_ONE_AFTER_ANOTHER)
+}
+
+struct OneAfterAnother(u64, i128);
+
+impl WriteTo for OneAfterAnother {
+    fn write_to<W: Write>(&self, writer: &mut W) -> Result<(), EncodeError<W::Error>> {
+        self.0.encode(writer)?;
+        self.1.encode(writer)
+    }
 }
 
 #[test]
 fn numbers_written_one_after_another(rt: HostRuntime) -> Result<(), Fail> {
-    let mut writer = BufWriter::new(Vec::new(rt.alloc()));
-    1_000_000u64.encode(&mut writer)?;
-    (-1i128).encode(&mut writer)?;
-    assert_eq!(rt; writer.buffer(), ONE_AFTER_ANOTHER);
-    Ok(())
+    writes_in(
+        rt.alloc(),
+        &OneAfterAnother(1_000_000, -1),
+        ONE_AFTER_ANOTHER,
+        2,
+    )
 }
 
 /// What `u64`, `u128` and `i128` read and write alike.

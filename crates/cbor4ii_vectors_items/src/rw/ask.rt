@@ -6,37 +6,36 @@ use cbor4ii_rw::error::DecodeError;
 use cbor4ii_rw::io_reader::IoReader;
 use cbor4ii_rw::segment_reader::SegmentReader;
 use cbor4ii_rw::slice_reader::SliceReader;
+use cbor4ii_vectors::compared::same;
 use cbor4ii_vectors::readers::{Asked, Asks};
 use cbor4ii_vectors::streams::FailingStream;
 use std::io::{self, ErrorKind};
+use std::test::Fail;
+
+const A_AND_B: &[Option<u8>] = &[Some(b'a'), Some(b'b'), None, None];
+
+const PARTS: &[&[u8]] = &[b"a", b"b"];
 
 #[test]
-fn bytes_are_taken_one_by_one(rt: HostRuntime) {
-    let parts: [&[u8]; 2] = [b"a", b"b"];
-    let mut slice = SliceReader::new(b"ab");
-    let mut segments = SegmentReader::new(&parts);
-    let mut stream = IoReader::new(b"ab".as_slice());
-    for want in [Some(b'a'), Some(b'b'), None, None] {
-        assert!(rt; takes(&mut slice, want));
-        assert!(rt; takes(&mut segments, want));
-        assert!(rt; takes(&mut stream, want));
-    }
+fn bytes_are_taken_one_by_one() -> Result<(), Fail> {
+    takes(&mut SliceReader::new(b"ab"), A_AND_B)?;
+    takes(&mut SegmentReader::new(PARTS), A_AND_B)?;
+    takes(&mut IoReader::new(b"ab".as_slice()), A_AND_B)
 }
+
+const ASKS: Asks = Asks {
+    looks: 3,
+    ends: 1,
+    largest: 1,
+    come: 3,
+};
 
 // One look for each byte, and one at the end. None wants a byte more.
 #[test]
-fn a_byte_is_wanted_alone(rt: HostRuntime) {
+fn a_byte_is_wanted_alone() -> Result<(), Fail> {
     let mut reader = Asked::new(b"ab");
-    for want in [Some(b'a'), Some(b'b'), None] {
-        assert!(rt; takes(&mut reader, want));
-    }
-    let asks = Asks {
-        looks: 3,
-        ends: 1,
-        largest: 1,
-        come: 3,
-    };
-    assert_eq!(rt; reader.asks(), asks);
+    takes(&mut reader, &[Some(b'a'), Some(b'b'), None])?;
+    same(reader.asks(), ASKS)
 }
 
 // A stream that fails at its first look, with another error than test streams have by themselves.

@@ -1,42 +1,44 @@
 //! Readers and writers after references.
-use crate::rw::shown::{gives, shows};
+use crate::rw::shown::{gives, shows_each};
+use crate::rw::slice_reader::WANTED_OF_ABC;
 use cbor4ii_items::decode::Decode;
 use cbor4ii_items::encode::Encode;
 use cbor4ii_rw::ask::lend;
 use cbor4ii_rw::buf_writer::BufWriter;
 use cbor4ii_rw::io_reader::IoReader;
-use cbor4ii_rw::read::Source;
+use cbor4ii_rw::read::{Read, Source};
 use cbor4ii_rw::segment_reader::SegmentReader;
 use cbor4ii_rw::slice_reader::SliceReader;
+use cbor4ii_rw::write::Write;
+use cbor4ii_vectors::compared::same;
 use cbor4ii_vectors::readers::Counting;
 use cbor4ii_vectors::streams::FailingStream;
 use std::alloc::Global;
-use std::io::ErrorKind;
+use std::fmt::InlineText;
 use std::test::Fail;
 
 #[test]
 fn a_reader_after_a_reference_gives_its_bytes(rt: HostRuntime) -> Result<(), Fail> {
     let mut after = SliceReader::new(b"abcde");
-    assert!(rt; gives(&rt, rt.alloc(), &mut &mut after, 3)?);
-    assert!(rt; after.remaining().is_empty());
-    Ok(())
+    let is_lent = gives(rt.alloc(), &mut &mut after, 3)?;
+    same((is_lent, after.remaining()), (true, b"".as_slice()))
 }
 
 #[test]
-fn as_much_is_shown_as_is_wanted_of_what_is_after(rt: HostRuntime) {
-    let mut slice = SliceReader::new(b"abc");
-    assert!(rt; shows(&mut &mut slice, 0, b"", 0));
-    assert!(rt; shows(&mut &mut slice, 1, b"a", 0));
-    assert!(rt; shows(&mut &mut slice, 9, b"abc", 0));
+fn as_much_is_shown_as_is_wanted_of_what_is_after() -> Result<(), Fail> {
+    shows_each(&mut &mut SliceReader::new(b"abc"), WANTED_OF_ABC)
 }
 
 // How many bytes a look may ask for, which each of the three readers says, and another does not.
 #[test]
-fn a_look_may_ask_for_as_many_bytes_after_a_reference(rt: HostRuntime) {
-    assert_eq!(rt; window(&&mut SliceReader::new(b"")), usize::MAX);
-    assert_eq!(rt; window(&&mut SegmentReader::new(&[])), usize::MAX);
-    assert_eq!(rt; window(&&mut IoReader::new(b"".as_slice())), usize::MAX);
-    assert_eq!(rt; window(&&mut Counting::new(b"")), 1);
+fn a_look_may_ask_for_as_many_bytes_after_a_reference() -> Result<(), Fail> {
+    let windows = [
+        window(&&mut SliceReader::new(b"")),
+        window(&&mut SegmentReader::new(&[])),
+        window(&&mut IoReader::new(b"".as_slice())),
+        window(&&mut Counting::new(b"")),
+    ];
+    same(windows, [usize::MAX, usize::MAX, usize::MAX, 1])
 }
 
 fn window<S: Source>(reader: &S) -> usize {
@@ -45,12 +47,19 @@ fn window<S: Source>(reader: &S) -> usize {
 
 // A reader behind a reference fails as the reader does.
 #[test]
-fn a_failure_after_a_reference(rt: HostRuntime) {
+fn a_failure_after_a_reference() -> Result<(), Fail> {
     let mut reader = IoReader::new(FailingStream::new(b"abc", 2, 0));
+    fill_fails_once(&mut &mut reader, "Some(Kind(Other))")
+}
+
+// The next fill fails with an error of this text, and the one after it does not.
+fn fill_fails_once<'de, R: Read<'de>>(reader: &mut R, error: &str) -> Result<(), Fail> {
     let mut failure = None;
-    assert!(rt; lend(&mut &mut reader, 1, &mut failure).is_none());
-    assert!(rt; matches!(&failure, Some(error) if error.kind() == ErrorKind::Other));
-    assert!(rt; lend(&mut &mut reader, 1, &mut failure).is_some());
+    let has_failed = lend(reader, 1, &mut failure).is_none();
+    let text = InlineText::<64>::of(format_args!("{failure:?}"));
+    same(text.as_str(), error)?;
+    let goes_on = lend(reader, 1, &mut failure).is_some();
+    same([has_failed, goes_on], [true; 2])
 }
 
 // Reads by the bounds alone.
@@ -63,19 +72,22 @@ fn references_to_readers(rt: HostRuntime) -> Result<(), Fail> {
     let alloc = rt.alloc();
     let mut reader = SliceReader::new(b"\x63123\x61a");
     let borrowed: &str = read(alloc, &mut &mut reader)?;
-    assert_eq!(rt; borrowed, "123");
-    assert_eq!(rt; reader.remaining(), b"\x61a".as_slice());
+    let left = reader.remaining();
     let owned: String = read(alloc, &mut &mut reader)?;
-    assert_eq!(rt; owned.as_str(), "a");
-    assert!(rt; reader.remaining().is_empty());
-    Ok(())
+    same(borrowed, "123")?;
+    same(owned.as_str(), "a")?;
+    same([left, reader.remaining()], [b"\x61a".as_slice(), b""])
+}
+
+// Writes by the bound alone.
+fn write<W: Write>(text: &str, writer: &mut W) -> Result<(), Fail> {
+    Ok(text.encode(writer)?)
 }
 
 #[test]
 fn references_to_writers(rt: HostRuntime) -> Result<(), Fail> {
     let mut writer = BufWriter::new(Vec::new(rt.alloc()));
-    "123".encode(&mut &mut writer)?;
-    "a".encode(&mut &mut writer)?;
-    assert_eq!(rt; writer.buffer(), b"\x63123\x61a".as_slice());
-    Ok(())
+    write("123", &mut &mut writer)?;
+    write("a", &mut &mut writer)?;
+    same(writer.buffer(), b"\x63123\x61a")
 }

@@ -1,7 +1,10 @@
 //! What is read over a connection that receives some parts, and then ends or fails.
-use cbor4ii_items::decode::Decode;
-use cbor4ii_rw::error::{DecodeError, Len, StaticStr};
-use cbor4ii_vectors::connection::{Connected, Connection, Lost};
+use cbor4ii_rw::error::StaticStr;
+use cbor4ii_vectors::compared::same;
+use cbor4ii_vectors::connection::{Connected, Connection};
+use cbor4ii_vectors::rows::ReadFrom;
+use std::alloc::Global;
+use std::fmt::{Debug, InlineText};
 use std::test::Fail;
 
 /// Receives these parts one after another. After them it fails in these words, or ends.
@@ -32,44 +35,50 @@ impl Connection for Line {
     }
 }
 
-const END: DecodeError<Lost> = DecodeError::Eof {
-    name: "u8",
-    expect: Len::Small(1),
-};
-
-#[test]
-fn items_stand_in_several_parts(rt: HostRuntime) -> Result<(), Fail> {
-    let alloc = rt.alloc();
-    let parts: &[&[u8]] = &[b"\x05\x62a", b"b\x19", b"\x01", b"\x02"];
-    let mut reader = Connected::new(
+fn over(
+    alloc: Global,
+    parts: &'static [&'static [u8]],
+    failure: Option<StaticStr>,
+) -> Connected<Line> {
+    Connected::new(
         alloc,
         Line {
             parts,
             at: 0,
-            failure: None,
+            failure,
         },
-    );
-    assert_eq!(rt; u8::decode(alloc, &mut reader)?, 5);
-    assert_eq!(rt; String::decode(alloc, &mut reader)?.as_str(), "ab");
-    assert_eq!(rt; u16::decode(alloc, &mut reader)?, 258);
-    assert_eq!(rt; u8::decode(alloc, &mut reader), Err(END));
-    assert_eq!(rt; reader.into_error(), None);
-    Ok(())
+    )
+}
+
+// What is read next, or the error, has this text.
+fn reads<T: ReadFrom + Debug + Drop>(
+    alloc: Global,
+    reader: &mut Connected<Line>,
+    text: &str,
+) -> Result<(), Fail> {
+    let got = T::read_from(alloc, reader);
+    same(InlineText::<64>::of(format_args!("{got:?}")).as_str(), text)
+}
+
+const PARTS: &[&[u8]] = &[b"\x05\x62a", b"b\x19", b"\x01", b"\x02"];
+
+const END: &str = "Err(Eof { name: \"u8\", expect: Small(1) })";
+
+#[test]
+fn items_stand_in_several_parts(rt: HostRuntime) -> Result<(), Fail> {
+    let alloc = rt.alloc();
+    let mut reader = over(alloc, PARTS, None);
+    reads::<u8>(alloc, &mut reader, "Ok(5)")?;
+    reads::<String>(alloc, &mut reader, "Ok(\"ab\")")?;
+    reads::<u16>(alloc, &mut reader, "Ok(258)")?;
+    reads::<u8>(alloc, &mut reader, END)?;
+    same(reader.into_error(), None)
 }
 
 #[test]
 fn a_connection_fails_within_an_item(rt: HostRuntime) -> Result<(), Fail> {
     let alloc = rt.alloc();
-    let line = Line {
-        parts: &[b"\x19", b"\x01"],
-        at: 0,
-        failure: Some("the line is cut"),
-    };
-    let mut reader = Connected::new(alloc, line);
-    assert_eq!(rt;
-        u16::decode(alloc, &mut reader),
-        Err(DecodeError::Read(Lost))
-    );
-    assert_eq!(rt; reader.into_error(), Some("the line is cut"));
-    Ok(())
+    let mut reader = over(alloc, &[b"\x19", b"\x01"], Some("the line is cut"));
+    reads::<u16>(alloc, &mut reader, "Err(Read(Lost))")?;
+    same(reader.into_error(), Some("the line is cut"))
 }

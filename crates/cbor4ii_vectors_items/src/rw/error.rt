@@ -1,6 +1,7 @@
 //! The texts of errors, and how errors are compared.
 use cbor4ii_rw::error::ArithmeticOverflow::{Overflow, Underflow};
 use cbor4ii_rw::error::{DecodeError, EncodeError, Len, StaticStr};
+use cbor4ii_vectors::compared::same;
 use cbor4ii_vectors::{
     cast_overflow, eof, length_overflow, mismatch, no_step, not_canonical, require_borrowed,
     require_length, require_utf8, table, unsupported,
@@ -33,19 +34,20 @@ const TEXTS: &[(DecodeError<u8>, &str)] = table! {
 };
 
 // Of an error both texts are the same.
-fn has_text<T: Debug + Display>(error: &T, text: &str) -> bool {
+fn has_text<T: Debug + Display>(error: &T, text: &str) -> Result<(), Fail> {
     let shown = InlineText::<64>::of(error);
     let reported = InlineText::<64>::of(format_args!("{error:?}"));
-    shown.as_str() == text && reported.as_str() == text
+    same(shown.as_str(), text)?;
+    same(reported.as_str(), text)
 }
 
 #[test]
-fn errors_have_the_texts_of_debug(rt: HostRuntime) {
+fn errors_have_the_texts_of_debug() -> Result<(), Fail> {
     for (error, text) in TEXTS {
-        assert!(rt; has_text(error, text));
+        has_text(error, text)?;
     }
-    assert!(rt; has_text(&DecodeError::from(3u8), "Read(3)"));
-    assert!(rt; has_text(&EncodeError::from(3u8), "Write(3)"));
+    has_text(&DecodeError::from(3u8), "Read(3)")?;
+    has_text(&EncodeError::from(3u8), "Write(3)")
 }
 
 // What an error says: whether it is an end of the input, its name, and the byte that was found.
@@ -69,36 +71,47 @@ const SAID: &[Said] = table! {
 };
 
 #[test]
-fn errors_say_what_was_read(rt: HostRuntime) {
+fn errors_say_what_was_read() -> Result<(), Fail> {
     for (error, ends, name, found) in SAID {
-        assert_eq!(rt; error.is_eof(), *ends);
-        assert_eq!(rt; error.name(), *name);
-        assert_eq!(rt; error.found(), *found);
+        same(
+            (error.is_eof(), error.name(), error.found()),
+            (*ends, *name, *found),
+        )?;
+    }
+    Ok(())
+}
+
+#[test]
+fn lengths_beyond_two_bytes_are_big() -> Result<(), Fail> {
+    same(
+        [Len::new(65535), Len::new(65536)],
+        [Len::Small(65535), Len::Big],
+    )
+}
+
+fn eof(missing: usize) -> DecodeError<u8> {
+    DecodeError::Eof {
+        name: "u8",
+        expect: Len::new(missing),
     }
 }
 
 #[test]
-fn lengths_beyond_two_bytes_are_big(rt: HostRuntime) {
-    assert_eq!(rt; Len::new(65535), Len::Small(65535));
-    assert_eq!(rt; Len::new(65536), Len::Big);
+fn errors_of_reading_are_compared() -> Result<(), Fail> {
+    let compared = [
+        eof(1) == eof(1).clone()?,
+        eof(1) != eof(2),
+        eof(1) != DecodeError::Read(1),
+        DecodeError::Read(1u8) != DecodeError::Read(2),
+    ];
+    same(compared, [true; 4])
 }
 
 #[test]
-fn errors_are_compared(rt: HostRuntime) -> Result<(), Fail> {
-    let eof: DecodeError<u8> = DecodeError::Eof {
-        name: "u8",
-        expect: Len::new(1),
-    };
-    let longer: DecodeError<u8> = DecodeError::Eof {
-        name: "u8",
-        expect: Len::new(2),
-    };
-    assert!(rt; eof == eof.clone()?);
-    assert!(rt; eof != longer);
-    assert!(rt; eof != DecodeError::Read(1));
-    assert!(rt; DecodeError::Read(1u8) != DecodeError::Read(2));
+fn errors_of_writing_are_compared() -> Result<(), Fail> {
     let write = EncodeError::Write(1u8);
-    assert!(rt; write == write.clone()?);
-    assert!(rt; write != EncodeError::Write(2));
-    Ok(())
+    same(
+        [write == write.clone()?, write != EncodeError::Write(2)],
+        [true; 2],
+    )
 }

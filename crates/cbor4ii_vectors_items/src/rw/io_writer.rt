@@ -1,8 +1,10 @@
 //! A stream is appended to, and what fails there is reported.
 use cbor4ii_rw::io_writer::IoWriter;
 use cbor4ii_rw::write::Write;
+use cbor4ii_vectors::compared::same;
 use cbor4ii_vectors::streams::FailingSink;
 use std::alloc::Global;
+use std::fmt::InlineText;
 use std::io::{self, ErrorKind};
 use std::test::Fail;
 
@@ -34,25 +36,28 @@ fn counting(alloc: Global) -> IoWriter<CountingSink> {
     })
 }
 
+// Each of these is pushed.
+fn pushes<W: Write>(writer: &mut W, inputs: &[&[u8]]) -> Result<(), Fail> {
+    for input in inputs {
+        writer.push(input)?;
+    }
+    Ok(())
+}
+
 #[test]
 fn a_stream_is_appended_to(rt: HostRuntime) -> Result<(), Fail> {
     let mut writer = IoWriter::new(Vec::new(rt.alloc()));
-    writer.push(b"ab")?;
-    writer.push(b"c")?;
-    assert_eq!(rt; writer.into_inner().as_slice(), b"abc".as_slice());
-    Ok(())
+    pushes(&mut writer, &[b"ab", b"c"])?;
+    same(writer.into_inner().as_slice(), b"abc")
 }
 
 // In how many writes a push reaches the stream, no clause says.
 #[test]
 fn a_push_is_one_write(rt: HostRuntime) -> Result<(), Fail> {
     let mut writer = counting(rt.alloc());
-    writer.push(b"abc")?;
-    writer.push(b"d")?;
+    pushes(&mut writer, &[b"abc", b"d"])?;
     let sink = writer.into_inner();
-    assert_eq!(rt; sink.bytes.as_slice(), b"abcd".as_slice());
-    assert_eq!(rt; sink.writes, 2);
-    Ok(())
+    same((sink.bytes.as_slice(), sink.writes), (b"abcd", 2))
 }
 
 // That a push succeeds where the stream does not fail, no clause says.
@@ -60,47 +65,60 @@ fn a_push_is_one_write(rt: HostRuntime) -> Result<(), Fail> {
 fn a_push_of_70000_bytes_is_one_write(rt: HostRuntime) -> Result<(), Fail> {
     let input = vec![in rt.alloc(); b'a'; 70_000]?;
     let mut writer = counting(rt.alloc());
-    writer.push(&input)?;
+    pushes(&mut writer, &[&input])?;
     let sink = writer.into_inner();
-    assert!(rt; sink.bytes == input);
-    assert_eq!(rt; sink.writes, 1);
-    Ok(())
+    same((sink.bytes == input, sink.writes), (true, 1))
+}
+
+// This push fails, with an error of this text.
+fn push_fails<W: Write>(writer: &mut W, input: &[u8], error: &str) -> Result<(), Fail> {
+    let failed = writer.push(input);
+    same(
+        InlineText::<64>::of(format_args!("{failed:?}")).as_str(),
+        error,
+    )
 }
 
 // Of a push that a stream refuses, the stream may hold a part.
 #[test]
 fn a_write_that_fails_is_reported(rt: HostRuntime) -> Result<(), Fail> {
     let mut writer = IoWriter::new(FailingSink::new(Vec::with_capacity(rt.alloc(), 3)?, 2));
-    writer.push(b"a")?;
-    let failed = writer.push(b"bc");
-    assert!(rt; matches!(failed, Err(error) if error.kind() == ErrorKind::Other));
-    writer.push(b"d")?;
-    assert_eq!(rt; writer.into_inner().buffer(), b"abd".as_slice());
-    Ok(())
+    pushes(&mut writer, &[b"a"])?;
+    push_fails(&mut writer, b"bc", "Err(Kind(Other))")?;
+    pushes(&mut writer, &[b"d"])?;
+    same(writer.into_inner().buffer(), b"abd")
+}
+
+fn is_timed_out(flushed: &io::Result<()>) -> bool {
+    matches!(flushed, Err(error) if error.kind() == ErrorKind::TimedOut)
 }
 
 // Which error a flush hands on, no clause says.
 #[test]
-fn a_flush_that_fails_is_reported(rt: HostRuntime) {
+fn a_flush_that_fails_is_reported(rt: HostRuntime) -> Result<(), Fail> {
     let sink = FailingSink::new(Vec::new(rt.alloc()), 0).failing_at_flush(ErrorKind::TimedOut);
     let mut writer = IoWriter::new(sink);
-    let failed = writer.flush();
-    assert!(rt; matches!(failed, Err(error) if error.kind() == ErrorKind::TimedOut));
-    assert!(rt; !writer.is_flushed());
-    assert_eq!(rt; writer.into_inner().flushes(), 1);
+    let is_reported = is_timed_out(&writer.flush());
+    let is_flushed = writer.is_flushed();
+    same(
+        (is_reported, is_flushed, writer.into_inner().flushes()),
+        (true, false, 1),
+    )
+}
+
+// What was not flushed is flushed now.
+fn flushes(writer: &mut IoWriter<FailingSink>) -> Result<(), Fail> {
+    let was_flushed = writer.is_flushed();
+    writer.flush()?;
+    same([was_flushed, writer.is_flushed()], [false, true])
 }
 
 // No clause says that a flush reaches the stream.
 #[test]
 fn a_flush_reaches_the_stream(rt: HostRuntime) -> Result<(), Fail> {
     let mut writer = IoWriter::new(FailingSink::new(Vec::with_capacity(rt.alloc(), 1)?, 9));
-    assert!(rt; !writer.is_flushed());
-    writer.flush()?;
-    assert!(rt; writer.is_flushed());
-    writer.push(b"a")?;
-    assert!(rt; !writer.is_flushed());
-    writer.flush()?;
-    assert!(rt; writer.is_flushed());
-    assert_eq!(rt; writer.into_inner().flushes(), 2);
-    Ok(())
+    flushes(&mut writer)?;
+    pushes(&mut writer, &[b"a"])?;
+    flushes(&mut writer)?;
+    same(writer.into_inner().flushes(), 2)
 }

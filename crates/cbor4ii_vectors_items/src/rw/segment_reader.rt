@@ -1,8 +1,9 @@
 //! Slices that stand one after another: what is shown and lent of them, and rows over them.
 use crate::cow_rows::{Kind, decodes};
-use crate::rw::shown::{gives, shows};
+use crate::rw::shown::{gives, shows, shows_each};
 use cbor4ii_rw::read::Source;
 use cbor4ii_rw::segment_reader::SegmentReader;
+use cbor4ii_vectors::compared::same;
 use cbor4ii_vectors::items::Lent;
 use cbor4ii_vectors::rows::{ReadBy, Want, by_text, reads_over};
 use cbor4ii_vectors::{eof, require_length, table};
@@ -10,38 +11,38 @@ use std::alloc::Global;
 use std::fmt::Debug;
 use std::test::Fail;
 
+const ABCDE: &[&[u8]] = &[b"", b"ab", b"", b"cde", b""];
+
 #[test]
 fn segments_give_their_bytes(rt: HostRuntime) -> Result<(), Fail> {
-    let parts: [&[u8]; 5] = [b"", b"ab", b"", b"cde", b""];
-    let mut segments = SegmentReader::new(&parts);
-    assert!(rt; gives(&rt, rt.alloc(), &mut segments, 2)?);
-    Ok(())
+    let is_lent = gives(rt.alloc(), &mut SegmentReader::new(ABCDE), 2)?;
+    same(is_lent, true)
 }
 
 #[test]
-fn what_is_left_is_counted(rt: HostRuntime) {
-    assert_eq!(rt; SegmentReader::new(&[]).remaining(), 0);
-    let parts: [&[u8]; 5] = [b"", b"ab", b"", b"cde", b""];
-    let mut segments = SegmentReader::new(&parts);
-    assert_eq!(rt; segments.remaining(), 5);
-    assert!(rt; shows(&mut segments, 1, b"a", 1));
-    assert_eq!(rt; segments.remaining(), 4);
-    assert!(rt; shows(&mut segments, 9, b"b", 1));
-    assert_eq!(rt; segments.remaining(), 3);
+fn what_is_left_is_counted() -> Result<(), Fail> {
+    let mut segments = SegmentReader::new(ABCDE);
+    let whole = segments.remaining();
+    shows(&mut segments, 1, b"a", 1)?;
+    let after_a = segments.remaining();
+    shows(&mut segments, 9, b"b", 1)?;
+    let none = SegmentReader::new(&[]).remaining();
+    same([none, whole, after_a, segments.remaining()], [0, 5, 4, 3])
+}
+
+const AB_AND_C: &[&[u8]] = &[b"", b"ab", b"c"];
+
+#[test]
+fn no_more_is_shown_than_a_segment_has() -> Result<(), Fail> {
+    shows_each(
+        &mut SegmentReader::new(AB_AND_C),
+        &[(0, b""), (1, b"a"), (9, b"ab")],
+    )
 }
 
 #[test]
-fn no_more_is_shown_than_a_segment_has(rt: HostRuntime) {
-    let parts: [&[u8]; 3] = [b"", b"ab", b"c"];
-    let mut segments = SegmentReader::new(&parts);
-    assert!(rt; shows(&mut segments, 0, b"", 0));
-    assert!(rt; shows(&mut segments, 1, b"a", 0));
-    assert!(rt; shows(&mut segments, 9, b"ab", 0));
-}
-
-#[test]
-fn a_look_may_ask_segments_for_all_bytes(rt: HostRuntime) {
-    assert_eq!(rt; SegmentReader::new(&[]).window(), usize::MAX);
+fn a_look_may_ask_segments_for_all_bytes() -> Result<(), Fail> {
+    same(SegmentReader::new(&[]).window(), usize::MAX)
 }
 
 // A row: the segments, their bytes, the text of what is read, and what is left of the bytes.
@@ -52,13 +53,21 @@ type Row = (
     &'static [u8],
 );
 
+fn reads_row<T>(alloc: Global, row: &Row) -> Result<(), Fail>
+where
+    T: ReadBy<SegmentReader<'static>> + Debug + Drop,
+{
+    let (segments, bytes, want, rest) = row;
+    let mut reader = SegmentReader::new(segments);
+    reads_over(alloc, &mut reader, bytes, &by_text::<T>(alloc, want)?, rest)
+}
+
 fn reads_segments<T>(alloc: Global, rows: &[Row]) -> Result<(), Fail>
 where
     T: ReadBy<SegmentReader<'static>> + Debug + Drop,
 {
-    for (segments, bytes, want, rest) in rows {
-        let mut reader = SegmentReader::new(segments);
-        reads_over(alloc, &mut reader, bytes, &by_text::<T>(alloc, want)?, rest)?;
+    for row in rows {
+        reads_row::<T>(alloc, row)?;
     }
     Ok(())
 }

@@ -3,6 +3,7 @@ use crate::borrowed_rows::Kind::{ArraysOfTexts, ByteStrings, Texts};
 use crate::borrowed_rows::{BorrowedRow, answers_alike, lends_rows, rows_alike};
 use cbor4ii_items::types::Nothing;
 use cbor4ii_rw::slice_reader::SliceReader;
+use cbor4ii_vectors::compared::same;
 use cbor4ii_vectors::readers::TestReader;
 use cbor4ii_vectors::rows::{
     Row, RowWithin, reads_all, reads_texts, reads_texts_within, texts_go_both_ways,
@@ -174,8 +175,7 @@ fn arrays_of_300_numbers(rt: HostRuntime) -> Result<(), Fail> {
     let mut bytes = [0x05; 303];
     bytes[..3].copy_from_slice(b"\x99\x01\x2c");
     let numbers: Vec<u8> = reads_all(rt.alloc(), &mut SliceReader::new(&bytes), &bytes)?;
-    assert!(rt; numbers.as_slice() == [0x05; 300].as_slice());
-    Ok(())
+    same(numbers.as_slice(), &[0x05; 300])
 }
 
 // The same up to a break, with no more steps than are needed.
@@ -186,8 +186,7 @@ fn indefinite_arrays_of_300_numbers(rt: HostRuntime) -> Result<(), Fail> {
     bytes[301] = 0xff;
     let mut short = TestReader::short(&bytes, 1);
     let numbers: Vec<u8> = reads_all(rt.alloc(), &mut short, &bytes)?;
-    assert!(rt; numbers.as_slice() == [0x05; 300].as_slice());
-    Ok(())
+    same(numbers.as_slice(), &[0x05; 300])
 }
 
 // An indefinite-length array of 20 texts of one letter: 0x61 is the head of such a text, and the
@@ -199,8 +198,14 @@ fn indefinite_arrays_of_20_texts(rt: HostRuntime) -> Result<(), Fail> {
     bytes[41] = 0xff;
     let mut short = TestReader::short(&bytes, 256);
     let texts: Vec<String> = reads_all(rt.alloc(), &mut short, &bytes)?;
-    assert_eq!(rt; texts.len(), 20);
-    assert!(rt; texts.iter().all(|text| text.as_str() == "a"));
+    are_20_letters(&texts)
+}
+
+fn are_20_letters(texts: &[String]) -> Result<(), Fail> {
+    same(texts.len(), 20)?;
+    for text in texts {
+        same(text.as_str(), "a")?;
+    }
     Ok(())
 }
 
@@ -208,6 +213,5 @@ fn indefinite_arrays_of_20_texts(rt: HostRuntime) -> Result<(), Fail> {
 fn arrays_of_300_times_nothing(rt: HostRuntime) -> Result<(), Fail> {
     let bytes = b"\x99\x01\x2c";
     let none: Vec<Nothing> = reads_all(rt.alloc(), &mut SliceReader::new(bytes), bytes)?;
-    assert_eq!(rt; none.len(), 300);
-    Ok(())
+    same(none.len(), 300)
 }

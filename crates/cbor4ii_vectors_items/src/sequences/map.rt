@@ -3,6 +3,7 @@ use crate::borrowed_rows::Kind::{NumbersToTexts, TextsToNumbers};
 use crate::borrowed_rows::{BorrowedRow, answers_alike, lends_rows, rows_alike};
 use cbor4ii_items::types::{Map, Nothing};
 use cbor4ii_rw::slice_reader::SliceReader;
+use cbor4ii_vectors::compared::same;
 use cbor4ii_vectors::rows::{Row, RowWithin, reads_all, reads_texts, reads_texts_within};
 use cbor4ii_vectors::{eof, mismatch, no_step, require_length, table};
 use std::test::Fail;
@@ -104,7 +105,5 @@ fn maps_of_300_pairs(rt: HostRuntime) -> Result<(), Fail> {
     bytes[..3].copy_from_slice(b"\xb9\x01\x2c");
     let mut slice = SliceReader::new(&bytes);
     let pairs: Map<Vec<(u8, u8)>> = reads_all(rt.alloc(), &mut slice, &bytes)?;
-    assert_eq!(rt; pairs.0.len(), 300);
-    assert!(rt; pairs.0.iter().all(|pair| *pair == (5, 5)));
-    Ok(())
+    same(pairs.0.as_slice(), &[(5, 5); 300])
 }

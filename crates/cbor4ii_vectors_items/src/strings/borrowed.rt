@@ -11,6 +11,7 @@ use crate::borrowed_rows::{
 };
 use cbor4ii_items::decode::Decode;
 use cbor4ii_rw::slice_reader::SliceReader;
+use cbor4ii_vectors::compared::same;
 use cbor4ii_vectors::{eof, mismatch, require_borrowed, require_length, require_utf8, table};
 use std::test::Fail;
 
@@ -18,9 +19,8 @@ use std::test::Fail;
 #[test]
 fn a_borrowed_text(rt: HostRuntime) -> Result<(), Fail> {
     let mut reader = SliceReader::new(b"\x64IETF\x01");
-    assert_eq!(rt; <&str>::decode(rt.alloc(), &mut reader)?, "IETF");
-    assert_eq!(rt; reader.remaining(), b"\x01".as_slice());
-    Ok(())
+    let text = <&str>::decode(rt.alloc(), &mut reader)?;
+    same((text, reader.remaining()), ("IETF", b"\x01".as_slice()))
 }
 
 const STRINGS: &[BorrowedRow] = table! {

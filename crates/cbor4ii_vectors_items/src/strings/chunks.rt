@@ -1,6 +1,7 @@
 //! Rows of strings of indefinite length: their chunks, and the step of each.
 use cbor4ii_items::types::{Bytes, UncheckedStr};
 use cbor4ii_rw::slice_reader::SliceReader;
+use cbor4ii_vectors::compared::same;
 use cbor4ii_vectors::readers::TestReader;
 use cbor4ii_vectors::rows::{Row, RowWithin, reads_all, reads_texts, reads_texts_within};
 use cbor4ii_vectors::{eof, no_step, require_length, table};
@@ -61,37 +62,34 @@ fn a_step_for_each_chunk(rt: HostRuntime) -> Result<(), Fail> {
 // In the tests below a decoder is the first that takes memory, so that each of its growths can be
 // refused in turn.
 //
-// An indefinite-length text of 1024 chunks of 16 bytes: 0x70 is the head of such a chunk, and the
-// letter p.
+// An indefinite-length string of 1024 chunks of 16 bytes: this byte, 0x70 or 0x50, is the head of
+// such a chunk and each byte of its content.
+pub fn in_chunks(head: u8, chunk: u8) -> [u8; 17410] {
+    let mut bytes = [chunk; 17410];
+    bytes[0] = head;
+    bytes[17409] = 0xff;
+    bytes
+}
+
 #[test]
 fn texts_in_chunks(rt: HostRuntime) -> Result<(), Fail> {
-    let mut bytes = [0x70; 17410];
-    bytes[0] = 0x7f;
-    bytes[17409] = 0xff;
+    let bytes = in_chunks(0x7f, 0x70);
     let text: String = reads_all(rt.alloc(), &mut SliceReader::new(&bytes), &bytes)?;
-    assert!(rt; text.as_bytes() == [0x70; 16384].as_slice());
-    Ok(())
+    same(text.as_bytes(), &[0x70; 16384])
 }
 
 #[test]
 fn unchecked_texts_in_chunks(rt: HostRuntime) -> Result<(), Fail> {
-    let mut bytes = [0x70; 17410];
-    bytes[0] = 0x7f;
-    bytes[17409] = 0xff;
+    let bytes = in_chunks(0x7f, 0x70);
     let mut short = TestReader::short(&bytes, 256);
     let text: UncheckedStr<Vec<u8>> = reads_all(rt.alloc(), &mut short, &bytes)?;
-    assert!(rt; text.0.as_slice() == [0x70; 16384].as_slice());
-    Ok(())
+    same(text.0.as_slice(), &[0x70; 16384])
 }
 
-// The same of a byte string: 0x50 is the head of a chunk of 16 bytes.
 #[test]
 fn byte_strings_in_chunks(rt: HostRuntime) -> Result<(), Fail> {
-    let mut bytes = [0x50; 17410];
-    bytes[0] = 0x5f;
-    bytes[17409] = 0xff;
+    let bytes = in_chunks(0x5f, 0x50);
     let mut short = TestReader::short(&bytes, 256);
     let found: Bytes<Vec<u8>> = reads_all(rt.alloc(), &mut short, &bytes)?;
-    assert!(rt; found.0.as_slice() == [0x50; 16384].as_slice());
-    Ok(())
+    same(found.0.as_slice(), &[0x50; 16384])
 }

@@ -1,8 +1,10 @@
 //! Rows of strings that are borrowed from the input where a reader lends them, and owned otherwise.
 use crate::cow_rows::{Kind, decode, decodes};
+use crate::strings::chunks::in_chunks;
 use cbor4ii_rw::error::{DecodeError, Never};
 use cbor4ii_rw::io_reader::IoReader;
 use cbor4ii_rw::slice_reader::SliceReader;
+use cbor4ii_vectors::compared::same;
 use cbor4ii_vectors::items::Lent;
 use cbor4ii_vectors::readers::TestReader;
 use cbor4ii_vectors::rows::{Want, reads_alike, reads_all, steps};
@@ -149,18 +151,45 @@ const READ: &[(Kind, &[u8], &[u8], Lender)] = table! {
     (Kind::Bytes, b"\x5f\x41\x01\xff", b"\x01", Lender::Never),
 };
 
+// The content is borrowed where the reader lends it.
+fn decodes_lent(
+    kind: Kind,
+    alloc: Global,
+    bytes: &[u8],
+    content: &[u8],
+    lent: Lender,
+) -> Result<(), Fail> {
+    let whole = Ok((content, lent != Lender::Never));
+    decodes_whole(kind, alloc, bytes, whole, b"")?;
+    let mut wanted = TestReader::wanted(bytes, 1).waiting();
+    decodes(kind, alloc, &mut wanted, bytes, whole, b"")?;
+    decodes_by_byte(
+        kind,
+        alloc,
+        bytes,
+        Ok((content, lent == Lender::ByByte)),
+        b"",
+    )?;
+    decodes_short(kind, alloc, bytes, Ok((content, false)), b"")
+}
+
+// Over a reader that lends one byte at a time.
+fn decodes_by_byte(
+    kind: Kind,
+    alloc: Global,
+    bytes: &[u8],
+    want: Result<(&[u8], bool), &str>,
+    rest: &[u8],
+) -> Result<(), Fail> {
+    let mut long = TestReader::long(bytes, 1);
+    decodes(kind, alloc, &mut long, bytes, want, rest)
+}
+
 #[test]
 fn borrowed_or_owned(rt: HostRuntime) -> Result<(), Fail> {
     let alloc = rt.alloc();
     for &(kind, bytes, content, lent) in READ {
-        let whole = Ok((content, lent != Lender::Never));
-        decodes_whole(kind, alloc, bytes, whole, b"")?;
-        let mut wanted = TestReader::wanted(bytes, 1).waiting();
-        decodes(kind, alloc, &mut wanted, bytes, whole, b"")?;
-        let by_byte = Ok((content, lent == Lender::ByByte));
-        let mut long = TestReader::long(bytes, 1);
-        decodes(kind, alloc, &mut long, bytes, by_byte, b"")?;
-        decodes_short(kind, alloc, bytes, Ok((content, false)), b"")?;
+        decodes_lent(kind, alloc, bytes, content, lent)?;
         fails_at_each_show(kind, alloc, bytes)?;
         fails_at_each_look(kind, alloc, bytes)?;
     }
@@ -206,8 +235,7 @@ fn rejected(rt: HostRuntime) -> Result<(), Fail> {
     let alloc = rt.alloc();
     for &(kind, bytes, rejection, rest) in REJECTED {
         decodes_whole(kind, alloc, bytes, Err(rejection), rest)?;
-        let mut long = TestReader::long(bytes, 1);
-        decodes(kind, alloc, &mut long, bytes, Err(rejection), rest)?;
+        decodes_by_byte(kind, alloc, bytes, Err(rejection), rest)?;
         decodes_short(kind, alloc, bytes, Err(rejection), rest)?;
     }
     Ok(())
@@ -220,7 +248,7 @@ fn borrowed_and_owned_in_turn(rt: HostRuntime) -> Result<(), Fail> {
     let bytes = b"\x62aa\x41\x01".as_slice();
     let mut reader = TestReader::in_turn(bytes, 1);
     let first = decode(Kind::Text, alloc, &mut reader);
-    assert!(rt; matches!(first, Ok(CowSlice::Borrowed(b"aa"))));
+    same(matches!(first, Ok(CowSlice::Borrowed(b"aa"))), true)?;
     let second = Ok((b"\x01".as_slice(), false));
     decodes(Kind::Bytes, alloc, &mut reader, bytes, second, b"")
 }
@@ -240,11 +268,8 @@ fn texts_over_each_reader(rt: HostRuntime) -> Result<(), Fail> {
 // An indefinite-length text of 1024 chunks of 16 bytes, which might be borrowed if it were counted.
 #[test]
 fn texts_that_might_be_borrowed(rt: HostRuntime) -> Result<(), Fail> {
-    let mut bytes = [0x70; 17410];
-    bytes[0] = 0x7f;
-    bytes[17409] = 0xff;
+    let bytes = in_chunks(0x7f, 0x70);
     let mut slice = SliceReader::new(&bytes);
     let text: Lent<CowStr<'_, Global>> = reads_all(rt.alloc(), &mut slice, &bytes)?;
-    assert!(rt; text.0.as_bytes() == [0x70; 16384].as_slice());
-    Ok(())
+    same(text.0.as_bytes(), &[0x70; 16384])
 }

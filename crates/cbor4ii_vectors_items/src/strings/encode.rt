@@ -4,6 +4,7 @@
 use cbor4ii_items::encode::Encode;
 use cbor4ii_items::types::{Bytes, UncheckedStr};
 use cbor4ii_rw::error::EncodeError;
+use cbor4ii_vectors::compared::same;
 use cbor4ii_vectors::readers::Failure;
 use cbor4ii_vectors::rows::writes_rows;
 use cbor4ii_vectors::table;
@@ -50,7 +51,8 @@ fn a_head_without_its_content(rt: HostRuntime) -> Result<(), Fail> {
     let alloc = rt.alloc();
     let mut writer = FailingWriter::new(Vec::with_capacity(alloc, 3)?, 1);
     let got = "ab".encode(&mut writer);
-    assert!(rt; matches!(got, Err(EncodeError::Write(Failure))));
-    assert_eq!(rt; writer.buffer(), b"\x62".as_slice());
-    Ok(())
+    same(
+        (got, writer.buffer()),
+        (Err(EncodeError::Write(Failure)), b"\x62".as_slice()),
+    )
 }

@@ -2,9 +2,12 @@
 use cbor4ii_items::decode::Decode;
 use cbor4ii_items::types::{Bytes, UncheckedStr};
 use cbor4ii_rw::io_reader::IoReader;
+use cbor4ii_rw::read::Source;
 use cbor4ii_rw::slice_reader::SliceReader;
+use cbor4ii_vectors::compared::same;
 use cbor4ii_vectors::rows::{Row, reads, reads_all, reads_texts, texts_go_both_ways};
 use cbor4ii_vectors::{eof, mismatch, require_length, require_utf8, table};
+use std::alloc::Global;
 use std::test::Fail;
 
 // A text that is joined from the chunks of a stream.
@@ -12,9 +15,7 @@ use std::test::Fail;
 fn a_text_of_a_stream(rt: HostRuntime) -> Result<(), Fail> {
     let mut stream = IoReader::new(b"\x7f\x65strea\x64ming\xff".as_slice());
     let text = String::decode(rt.alloc(), &mut stream)?;
-    assert_eq!(rt; text.as_str(), "streaming");
-    assert_eq!(rt; stream.taken(), 13);
-    Ok(())
+    same((text.as_str(), stream.taken()), ("streaming", 13))
 }
 
 // A string is written in two pushes, one for its head and one for its content, also an empty one.
@@ -109,21 +110,25 @@ fn a_text_before_many_bytes(rt: HostRuntime) -> Result<(), Fail> {
 // refused in turn.
 //
 // A text of 20000 bytes, more than are reserved before any came.
-#[test]
-fn long_texts(rt: HostRuntime) -> Result<(), Fail> {
+fn long_text() -> [u8; 20003] {
     let mut bytes = [b'a'; 20003];
     bytes[..3].copy_from_slice(b"\x79\x4e\x20");
-    let text: String = reads_all(rt.alloc(), &mut SliceReader::new(&bytes), &bytes)?;
-    assert!(rt; text.as_bytes() == [b'a'; 20000].as_slice());
-    Ok(())
+    bytes
+}
+
+fn reads_long_text<S: Source>(alloc: Global, reader: &mut S, bytes: &[u8]) -> Result<(), Fail> {
+    let text: String = reads_all(alloc, reader, bytes)?;
+    same(text.as_bytes(), &[b'a'; 20000])
+}
+
+#[test]
+fn long_texts(rt: HostRuntime) -> Result<(), Fail> {
+    let bytes = long_text();
+    reads_long_text(rt.alloc(), &mut SliceReader::new(&bytes), &bytes)
 }
 
 #[test]
 fn long_texts_of_a_stream(rt: HostRuntime) -> Result<(), Fail> {
-    let mut bytes = [b'a'; 20003];
-    bytes[..3].copy_from_slice(b"\x79\x4e\x20");
-    let mut stream = IoReader::new(bytes.as_slice());
-    let text: String = reads_all(rt.alloc(), &mut stream, &bytes)?;
-    assert!(rt; text.as_bytes() == [b'a'; 20000].as_slice());
-    Ok(())
+    let bytes = long_text();
+    reads_long_text(rt.alloc(), &mut IoReader::new(bytes.as_slice()), &bytes)
 }
