@@ -1,0 +1,28 @@
+//! The whole work, over a text.
+use crate::fault::Fault;
+use crate::input::Input;
+use crate::parse::items;
+use crate::print::described::put_described;
+use crate::print::uses::put_uses;
+use crate::tokens::cut;
+use std::alloc::Global;
+
+/// The types of `text` as described types: their imports, and for each the type and its impls.
+///
+/// # Errors
+///
+/// - `Refused` of a line and why, where the text holds a form that is not written
+/// - `Memory` where no memory is found
+pub fn describe(alloc: Global, text: &str) -> Result<String, Fault> {
+    let mut input = Input::new(alloc, cut(alloc, text)?)?;
+    let types = items(alloc, &mut input)?;
+    let mut out = String::new(alloc);
+    put_uses(alloc, &mut out, &types)?;
+    for (i, described) in types.iter().enumerate() {
+        if i != 0 {
+            out.push('\n')?;
+        }
+        put_described(alloc, &mut out, described)?;
+    }
+    Ok(out)
+}

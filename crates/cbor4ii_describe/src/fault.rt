@@ -1,0 +1,115 @@
+//! Why a type is not written.
+ghost use Rattle.std.specs.Prelude.{◌≡◌};
+ghost use Rattle.cbor4ii_describe.specs.declared.fault.Fault.TheVariants.{Memory};
+
+use std::alloc::{AllocError, AllocFailed};
+use std::error::Error;
+use std::fmt;
+
+/// What is wrong with a type.
+#[derive(Clone, Copy, Debug, PartialEq, Eq)]
+pub enum Why {
+    /// The input holds no type.
+    NoType,
+    /// Neither a struct nor an enum begins here.
+    NotType,
+    /// A name should stand here.
+    NoName,
+    /// Another sign should stand here.
+    Unexpected,
+    /// A text or a bracket is not closed.
+    NotClosed,
+    /// The type has more than one parameter, or one with a bound.
+    Parameters,
+    /// The struct has no field, or it has more than twelve.
+    FieldCount,
+    /// The tuple struct or tuple variant has more than one field.
+    TupleFields,
+    /// The enum has no variant.
+    NoVariant,
+    /// An attribute of serde that has no form here.
+    Attribute,
+    /// The text of an attribute is not plain ASCII.
+    PlainText,
+    /// The default has no form here.
+    DefaultValue,
+    /// A field that is left out has to be an `Option`.
+    LeftOut,
+    /// The type parameter stands in another place than `T`, `Vec<T>` or `Option<T>`.
+    ParameterPlace,
+    /// More than one field is left out.
+    ManyLeftOut,
+}
+
+impl fmt::Display for Why {
+    fn fmt<W: fmt::Write>(&self, f: &mut fmt::Formatter<W>) -> fmt::Result {
+        match self {
+            Why::NoType => write!(f, "no struct and no enum stands in the input"),
+            Why::NotType => write!(f, "neither a struct nor an enum begins here"),
+            Why::NoName => write!(f, "a name should stand here"),
+            Why::Unexpected => write!(f, "another sign should stand here"),
+            Why::NotClosed => write!(f, "a text or a bracket is not closed"),
+            Why::Parameters => write!(
+                f,
+                "only one type parameter or one lifetime has a form, bare"
+            ),
+            Why::FieldCount => write!(f, "a struct has one to twelve fields"),
+            Why::TupleFields => write!(f, "only one field may have no name"),
+            Why::NoVariant => write!(f, "an enum has a variant"),
+            Why::Attribute => write!(f, "this attribute has no form here"),
+            Why::PlainText => write!(f, "this text should be plain ASCII with no backslash"),
+            Why::DefaultValue => write!(f, "this default has no form: a number, a bool or None"),
+            Why::LeftOut => write!(f, "only an Option may be left out"),
+            Why::ParameterPlace => write!(f, "the parameter may stand alone, in Vec or in Option"),
+            Why::ManyLeftOut => write!(f, "only one field may be left out"),
+        }
+    }
+}
+
+/// Why nothing is written.
+#[derive(Clone, Copy, Debug, PartialEq, Eq)]
+pub enum Fault {
+    /// No memory was found.
+    Memory,
+    /// The input has a form that is not written.
+    Refused {
+        /// The line, counted from 1.
+        line: u32,
+        /// Why.
+        why: Why,
+    },
+}
+
+impl fmt::Display for Fault {
+    fn fmt<W: fmt::Write>(&self, f: &mut fmt::Formatter<W>) -> fmt::Result {
+        match self {
+            Fault::Memory => write!(f, "no memory was found"),
+            Fault::Refused { line, why } => write!(f, "line {line}: {why}"),
+        }
+    }
+}
+
+impl Error for Fault {}
+
+impl From<AllocError> for Fault {
+    ghost from_gives = { λ _ fault. fault ≡ Memory };
+
+    fn from(_error: AllocError) -> Fault {
+        Fault::Memory
+    }
+}
+
+impl<T: Drop> From<AllocFailed<T>> for Fault {
+    ghost from_gives = { λ _ fault. fault ≡ Memory };
+
+    fn from(_error: AllocFailed<T>) -> Fault {
+        Fault::Memory
+    }
+}
+
+/// The fault of this line.
+pub fn refused<T>(line: u32, why: Why) -> Result<T, Fault>
+    ensures { result ≡ Err (Fault.Refused line why) }
+{
+    Err(Fault::Refused { line, why })
+}

@@ -1,0 +1,112 @@
+//! The tokens that are left to read.
+use crate::fault::{Fault, Why, refused};
+use crate::tokens::{Kind, Token};
+use std::alloc::Global;
+
+/// What is left of the input, without white space and plain comments: the next token stands last.
+#[derive(Drop)]
+pub struct Input {
+    left: Vec<Token>,
+    line: u32,
+}
+
+// Whether a token counts: comments do where they document what follows.
+fn counts(token: &Token) -> bool {
+    match token.kind {
+        Kind::Space => false,
+        Kind::Comment => token.text.as_str().starts_with("///"),
+        _ => true,
+    }
+}
+
+impl Input {
+    /// The input of these tokens.
+    pub fn new(alloc: Global, tokens: Vec<Token>) -> Result<Input, Fault> {
+        let mut left = Vec::new(alloc);
+        for token in tokens.into_iter().rev() {
+            if counts(&token) {
+                left.push(token)?;
+            }
+        }
+        Ok(Input { left, line: 1 })
+    }
+
+    /// The line of the token that was taken last.
+    pub fn line(&self) -> u32 {
+        self.line
+    }
+
+    /// The next token, which stays.
+    pub fn peek(&self) -> Option<&Token> {
+        self.left.last()
+    }
+
+    /// Takes the next token.
+    pub fn take(&mut self) -> Option<Token> {
+        let token = self.left.pop()?;
+        self.line = token.line;
+        Some(token)
+    }
+
+    /// Whether the next token is this one.
+    pub fn is_next(&self, text: &str) -> bool {
+        match self.peek() {
+            Some(token) => token.text.as_str() == text,
+            None => false,
+        }
+    }
+
+    /// Takes the next token where it is this one, and says whether it was.
+    pub fn took(&mut self, text: &str) -> bool {
+        self.is_next(text) && self.take().is_some()
+    }
+
+    /// Takes this token.
+    pub fn want(&mut self, text: &str) -> Result<(), Fault> {
+        match self.took(text) {
+            true => Ok(()),
+            false => Err(self.fault(Why::Unexpected)),
+        }
+    }
+
+    /// Takes a token of this kind.
+    pub fn want_kind(&mut self, kind: Kind, why: Why) -> Result<String, Fault> {
+        match self.take() {
+            Some(token) if token.kind == kind => Ok(token.text),
+            _ => refused(self.line, why),
+        }
+    }
+
+    /// Takes a name.
+    pub fn name(&mut self) -> Result<String, Fault> {
+        self.want_kind(Kind::Word, Why::NoName)
+    }
+
+    /// Takes a text in quotes: what stands between them. It is plain ASCII with no backslash.
+    pub fn text(&mut self, alloc: Global) -> Result<String, Fault> {
+        let quoted = self.want_kind(Kind::Text, Why::Unexpected)?;
+        match plain(quoted.as_str()) {
+            Some(text) => Ok(String::from_str(alloc, text)?),
+            None => refused(self.line, Why::PlainText),
+        }
+    }
+
+    /// The fault at the next token, or at the last one where none is left.
+    pub fn fault(&self, why: Why) -> Fault {
+        let line = match self.peek() {
+            Some(token) => token.line,
+            None => self.line,
+        };
+        Fault::Refused { line, why }
+    }
+}
+
+// What stands between the quotes, where that is plain ASCII with no backslash.
+fn plain(quoted: &str) -> Option<&str> {
+    let text = quoted.strip_prefix("\"")?.strip_suffix("\"")?;
+    if text.bytes().all(|b| b' ' <= b && b <= b'~' && b != b'\\') {
+        Some(text)
+    } else {
+        None
+    }
+}

@@ -1,0 +1,211 @@
+//! What attributes of a type say.
+use crate::fault::{Fault, Why, refused};
+use crate::input::Input;
+use crate::shape::Head;
+use crate::types::{push_token, rest_of_attribute};
+use std::alloc::Global;
+
+/// What the attributes above an item say.
+#[derive(Drop)]
+pub struct Options {
+    /// The name that is written: `rename`.
+    pub rename: Option<String>,
+    /// The default in code, which is empty where only the type tells it: `default`.
+    pub default: Option<String>,
+    /// Whether none is not written: `skip_serializing_if`.
+    pub left_out: bool,
+    /// Whether the field may come once: `once`.
+    pub once: bool,
+    /// What is said of a missing field, or of an unknown variant: `missing` and `otherwise`.
+    pub words: Option<String>,
+    /// Whether a derive stands among them.
+    pub derives: bool,
+}
+
+/// What no attribute says.
+pub fn no_options() -> Options {
+    Options {
+        rename: None,
+        default: None,
+        left_out: false,
+        once: false,
+        words: None,
+        derives: false,
+    }
+}
+
+impl Options {
+    /// Whether they say nothing of a field alone.
+    pub fn are_no_field(&self) -> bool {
+        self.default.is_none() && !self.left_out && !self.once
+    }
+}
+
+/// Takes what stands above an item, and its visibility.
+pub fn head(alloc: Global, input: &mut Input, options: &mut Options) -> Result<Head, Fault> {
+    let mut lines = Vec::new(alloc);
+    while is_above(input) {
+        let line = line_above(alloc, input, options)?;
+        if !line.is_empty() {
+            lines.push(line)?;
+        }
+    }
+    let visibility = visibility(alloc, input)?;
+    Ok(Head { lines, visibility })
+}
+
+// Whether a comment or an attribute is next.
+fn is_above(input: &Input) -> bool {
+    match input.peek() {
+        Some(token) => token.text.as_str() == "#" || token.text.as_str().starts_with("///"),
+        None => false,
+    }
+}
+
+// Takes a comment or an attribute: what is kept of it.
+fn line_above(alloc: Global, input: &mut Input, options: &mut Options) -> Result<String, Fault> {
+    if input.took("#") {
+        attribute(alloc, input, options)
+    } else {
+        match input.take() {
+            Some(token) => Ok(String::from_str(alloc, token.text.as_str().trim_end())?),
+            None => refused(input.line(), Why::Unexpected),
+        }
+    }
+}
+
+// Takes an attribute behind its sign: what is kept of it.
+fn attribute(alloc: Global, input: &mut Input, options: &mut Options) -> Result<String, Fault> {
+    input.want("[")?;
+    let name = input.name()?;
+    match name.as_str() {
+        "serde" => serde_options(alloc, input, options),
+        "describe" => own_options(alloc, input, options),
+        "derive" => {
+            options.derives = true;
+            derive(alloc, input)
+        }
+        _ => rest_of_attribute(alloc, input, name.as_str()),
+    }
+}
+
+// Takes the list of an attribute of serde.
+fn serde_options(alloc: Global, input: &mut Input, options: &mut Options) -> Result<String, Fault> {
+    input.want("(")?;
+    while !input.took(")") {
+        serde_option(alloc, input, options)?;
+        end_part(input)?;
+    }
+    input.want("]")?;
+    Ok(String::new(alloc))
+}
+
+// Takes the comma behind a part, which the last one need not have.
+fn end_part(input: &mut Input) -> Result<(), Fault> {
+    if input.is_next(")") {
+        Ok(())
+    } else {
+        input.want(",")
+    }
+}
+
+// Takes one word of serde, and its text.
+fn serde_option(alloc: Global, input: &mut Input, options: &mut Options) -> Result<(), Fault> {
+    let name = input.name()?;
+    match name.as_str() {
+        "rename" => options.rename = Some(value(alloc, input)?),
+        "default" if input.is_next("=") => options.default = Some(value(alloc, input)?),
+        "default" => options.default = Some(String::new(alloc)),
+        "skip_serializing_if" => {
+            options.left_out = true;
+            if value(alloc, input)?.as_str() != "Option::is_none" {
+                return refused(input.line(), Why::Attribute);
+            }
+        }
+        _ => return refused(input.line(), Why::Attribute),
+    }
+    Ok(())
+}
+
+// Takes the list of an attribute of this program.
+fn own_options(alloc: Global, input: &mut Input, options: &mut Options) -> Result<String, Fault> {
+    input.want("(")?;
+    while !input.took(")") {
+        own_option(alloc, input, options)?;
+        end_part(input)?;
+    }
+    input.want("]")?;
+    Ok(String::new(alloc))
+}
+
+// Takes one word of this program, and its text.
+fn own_option(alloc: Global, input: &mut Input, options: &mut Options) -> Result<(), Fault> {
+    let name = input.name()?;
+    match name.as_str() {
+        "once" => options.once = true,
+        "missing" | "otherwise" => options.words = Some(value(alloc, input)?),
+        _ => return refused(input.line(), Why::Attribute),
+    }
+    Ok(())
+}
+
+// Takes a sign and a text behind a word.
+fn value(alloc: Global, input: &mut Input) -> Result<String, Fault> {
+    input.want("=")?;
+    input.text(alloc)
+}
+
+// Takes the list of a derive: the attribute with `Drop`, where it has no `Copy`, and without what
+// serde derives.
+fn derive(alloc: Global, input: &mut Input) -> Result<String, Fault> {
+    let mut line = String::from_str(alloc, "#[derive(")?;
+    let mut drops = true;
+    input.want("(")?;
+    while !input.took(")") {
+        let path = path(alloc, input)?;
+        drops = drops && path.as_str() != "Drop" && path.as_str() != "Copy";
+        if !is_of_serde(path.as_str()) {
+            line.push_str(path.as_str())?;
+            line.push_str(", ")?;
+        }
+        end_part(input)?;
+    }
+    input.want("]")?;
+    if drops {
+        line.push_str("Drop")?;
+    }
+    Ok(format!(in alloc; "{})]", line.as_str().trim_end_matches(", "))?)
+}
+
+// Whether a derive of this path is one of serde's.
+fn is_of_serde(path: &str) -> bool {
+    matches!(
+        path,
+        "Serialize" | "Deserialize" | "serde::Serialize" | "serde::Deserialize"
+    )
+}
+
+// Takes a path: names with colons between them.
+fn path(alloc: Global, input: &mut Input) -> Result<String, Fault> {
+    let mut path = input.name()?;
+    while input.is_next(":") {
+        input.want(":")?;
+        input.want(":")?;
+        path.push_str("::")?;
+        push_token(&mut path, input.name()?.as_str())?;
+    }
+    Ok(path)
+}
+
+// Takes what says who sees an item: `pub` or the like with a space, or nothing.
+fn visibility(alloc: Global, input: &mut Input) -> Result<String, Fault> {
+    if !input.took("pub") {
+        return Ok(String::new(alloc));
+    }
+    if !input.took("(") {
+        return Ok(String::from_str(alloc, "pub ")?);
+    }
+    let name = input.name()?;
+    input.want(")")?;
+    Ok(format!(in alloc; "pub({name}) ")?)
+}

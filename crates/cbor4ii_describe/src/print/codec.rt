@@ -1,0 +1,92 @@
+//! The ghost `codec`.
+use crate::fault::{Fault, Why, refused};
+use crate::print::layout::{COLUMNS, width};
+use crate::shape::{Field, Parameter, Presence};
+use crate::types::{in_option, mentions};
+use std::alloc::{AllocError, Global};
+
+/// The codec of a type that stands on this line, and how often it names the parameter.
+pub fn codec(
+    alloc: Global,
+    line: u32,
+    its_type: &str,
+    parameter: &Parameter,
+) -> Result<String, Fault> {
+    match parameter {
+        Parameter::Type(name) if mentions(its_type, name.as_str()) => {
+            of_parameter(alloc, line, its_type, name.as_str())
+        }
+        _ => Ok(format!(in alloc; "⟦<{its_type} as Described>⟧.codec")?),
+    }
+}
+
+// The codec of the parameter, or of vectors or options of it.
+fn of_parameter(alloc: Global, line: u32, its_type: &str, name: &str) -> Result<String, Fault> {
+    if its_type == name {
+        return Ok(format!(in alloc; "(its_codec {name}.promise {name}.encoding {name}.codec)")?);
+    }
+    let (word, inner) = match (in_option(its_type), in_vector(its_type)) {
+        (Some(inner), _) => ("option_codec", inner),
+        (None, Some(inner)) => ("vector_codec", inner),
+        (None, None) => return refused(line, Why::ParameterPlace),
+    };
+    let inner = of_parameter(alloc, line, inner, name)?;
+    Ok(format!(in alloc; "({word} {inner})")?)
+}
+
+// What a vector of this type holds; none for another type.
+fn in_vector(its_type: &str) -> Option<&str> {
+    its_type.strip_prefix("Vec<")?.strip_suffix(">")
+}
+
+/// Appends the codec of the fields of a struct, a line for each, and what closes them.
+pub fn put_fields(
+    alloc: Global,
+    out: &mut String,
+    fields: &[Field],
+    parameter: &Parameter,
+) -> Result<(), Fault> {
+    for field in fields {
+        let begin = begin(alloc, field)?;
+        let codec = codec(alloc, field.line, held_type(field), parameter)?;
+        let wide = width(begin.as_str()).saturating_add(width(codec.as_str()));
+        if wide.saturating_add(9) <= COLUMNS {
+            write!(out, "        {begin} {codec}\n")?;
+        } else {
+            write!(out, "        {begin}\n        {codec}\n")?;
+        }
+    }
+    out.push_str("        no_fields")?;
+    for _ in fields {
+        out.push_str(" refl)")?;
+    }
+    Ok(())
+}
+
+/// The type of what a field holds, where it is there.
+pub fn held_type(field: &Field) -> &str {
+    let its_type = field.its_type.as_str();
+    match (&field.presence, in_option(its_type)) {
+        (Presence::LeftOut, Some(inner)) => inner,
+        _ => its_type,
+    }
+}
+
+// What stands before the codec of a field.
+fn begin(alloc: Global, field: &Field) -> Result<String, AllocError> {
+    let (key, words) = (field.key.as_str(), field.words.as_str());
+    match &field.presence {
+        Presence::Required => {
+            let word = if field.once {
+                "with_field_once"
+            } else {
+                "with_field"
+            };
+            format!(in alloc; "({word} (codes \"{key}\") (codes \"{words}\")")
+        }
+        Presence::LeftOut => format!(in alloc; "(with_optional_field (codes \"{key}\")"),
+        Presence::Or { ghost_text, .. } => {
+            format!(in alloc; "(with_field_or (codes \"{key}\") {ghost_text}")
+        }
+    }
+}

@@ -1,0 +1,122 @@
+//! `impl Deserialize`.
+use crate::print::layout::{COLUMNS, Frame, LIST, is_on_one_line, put_list, put_pairs, width};
+use crate::print::lists::{keys, missing, presences};
+use crate::print::types::self_type;
+use crate::shape::{Described, Field, Parameter, Shape};
+use std::alloc::{AllocError, Global};
+
+/// Appends how a type is read.
+pub fn put_deserialize(
+    alloc: Global,
+    out: &mut String,
+    described: &Described,
+) -> Result<(), AllocError> {
+    let this = self_type(alloc, described)?;
+    put_header(alloc, out, &described.parameter, this.as_str())?;
+    let (reader, error) = match &described.parameter {
+        Parameter::Lifetime(p) => (
+            format!(in alloc; "SliceReader<{p}>")?,
+            String::from_str(alloc, "Never")?,
+        ),
+        _ => (
+            String::from_str(alloc, "S")?,
+            String::from_str(alloc, "S::Error")?,
+        ),
+    };
+    put_signature(alloc, out, reader.as_str(), this.as_str(), error.as_str())?;
+    match &described.shape {
+        Shape::Newtype { its_type, .. } => {
+            write!(
+                out,
+                "        de.deserialize_from::<{its_type}, {this}>(alloc)\n"
+            )?;
+        }
+        Shape::Fields(fields) => put_struct(alloc, out, described.name.as_str(), fields)?,
+        Shape::Enum { .. } => {}
+    }
+    out.push_str("    }\n}\n\n")
+}
+
+// Appends the first line.
+fn put_header(
+    alloc: Global,
+    out: &mut String,
+    parameter: &Parameter,
+    this: &str,
+) -> Result<(), AllocError> {
+    let line = match parameter {
+        Parameter::Nothing => format!(in alloc; "impl<S: Source> Deserialize<S> for {this} {{\n")?,
+        Parameter::Lifetime(p) => {
+            format!(in alloc; "impl<{p}> Deserialize<SliceReader<{p}>> for {this} {{\n")?
+        }
+        Parameter::Type(p) => format!(in alloc;
+            "impl<S: Source, {p}: AsDescribed + Deserialize<S> + Drop> Deserialize<S> for {this} {{\n"
+        )?,
+    };
+    out.push_str(line.as_str())
+}
+
+// Appends the signature, on one line or on four.
+fn put_signature(
+    alloc: Global,
+    out: &mut String,
+    reader: &str,
+    this: &str,
+    error: &str,
+) -> Result<(), AllocError> {
+    let line = format!(in alloc;
+        "    fn deserialize(alloc: Global, de: &mut Deserializer<{reader}>) -> Result<{this}, \
+         DecodeError<{error}>> {{"
+    )?;
+    if width(line.as_str()) <= COLUMNS {
+        return write!(out, "{line}\n");
+    }
+    write!(
+        out,
+        "    fn deserialize(\n        alloc: Global,\n        de: &mut Deserializer<{reader}>,\n    \
+         ) -> Result<{this}, DecodeError<{error}>> {{\n"
+    )
+}
+
+// Appends the call that reads a struct.
+fn put_struct(
+    alloc: Global,
+    out: &mut String,
+    name: &str,
+    fields: &[Field],
+) -> Result<(), AllocError> {
+    put_list(out, 8, "let missing = [", &missing(alloc, fields)?, "];")?;
+    let frame = Frame {
+        columns: 8,
+        before: "let presences = ",
+        after: ";",
+        step: 4,
+        most: LIST,
+    };
+    put_pairs(out, &presences(alloc, fields)?, "()", frame)?;
+    put_call(alloc, out, name, &keys(alloc, fields)?)
+}
+
+// Appends the call itself.
+fn put_call(
+    alloc: Global,
+    out: &mut String,
+    name: &str,
+    keys: &[String],
+) -> Result<(), AllocError> {
+    let mut before = format!(in alloc; "alloc, \"{name}\", &[")?;
+    crate::print::layout::put_items(&mut before, keys)?;
+    before.push_str("], &missing, presences")?;
+    let open = "de.deserialize_fields(";
+    let mut whole = Vec::new(alloc);
+    whole.push(before)?;
+    if is_on_one_line(8, open, &whole, ")") {
+        return put_list(out, 8, open, &whole, ")");
+    }
+    write!(
+        out,
+        "        {open}\n            alloc,\n            \"{name}\",\n"
+    )?;
+    put_list(out, 12, "&[", keys, "],")?;
+    out.push_str("            &missing,\n            presences,\n        )\n")
+}

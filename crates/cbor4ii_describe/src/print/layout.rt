@@ -1,0 +1,193 @@
+//! How lines are laid out: as `rt fmt` does.
+use std::alloc::AllocError;
+
+/// How many columns a line has at most.
+pub const COLUMNS: usize = 100;
+
+/// How wide a list on one line is at most, between its brackets.
+pub const LIST: usize = 60;
+
+/// How wide an item is at most, of which several stand on a line of a list of several lines.
+pub const SHORT: usize = 10;
+
+/// How many columns a text takes.
+pub fn width(text: &str) -> usize {
+    text.chars().count()
+}
+
+/// Appends so many spaces.
+pub fn indent(out: &mut String, columns: usize) -> Result<(), AllocError> {
+    for _ in 0..columns {
+        out.push(' ')?;
+    }
+    Ok(())
+}
+
+// How many columns the items of a list take on one line.
+fn list_width(items: &[String]) -> usize {
+    let mut sum: usize = 0;
+    for item in items {
+        sum = sum.saturating_add(width(item.as_str())).saturating_add(2);
+    }
+    sum.saturating_sub(2)
+}
+
+/// Whether a list takes one line.
+pub fn is_on_one_line(columns: usize, open: &str, items: &[String], close: &str) -> bool {
+    let inner = list_width(items);
+    let brackets = width(open).saturating_add(width(close));
+    inner <= LIST && columns.saturating_add(inner).saturating_add(brackets) <= COLUMNS
+}
+
+/// Appends the items of a list with commas between them.
+pub fn put_items(out: &mut String, items: &[String]) -> Result<(), AllocError> {
+    for (i, item) in items.iter().enumerate() {
+        if i != 0 {
+            out.push_str(", ")?;
+        }
+        out.push_str(item.as_str())?;
+    }
+    Ok(())
+}
+
+/// Appends a list: on a line of its own that begins behind so many columns, or on several.
+pub fn put_list(
+    out: &mut String,
+    columns: usize,
+    open: &str,
+    items: &[String],
+    close: &str,
+) -> Result<(), AllocError> {
+    indent(out, columns)?;
+    out.push_str(open)?;
+    if is_on_one_line(columns, open, items, close) {
+        put_items(out, items)?;
+    } else {
+        out.push('\n')?;
+        if items.iter().all(|item| width(item.as_str()) <= SHORT) {
+            put_packed(out, columns.saturating_add(4), items)?;
+        } else {
+            put_lines(out, columns.saturating_add(4), items)?;
+        }
+        indent(out, columns)?;
+    }
+    out.push_str(close)?;
+    out.push('\n')
+}
+
+/// Appends each item on a line of its own.
+pub fn put_lines(out: &mut String, columns: usize, items: &[String]) -> Result<(), AllocError> {
+    for item in items {
+        indent(out, columns)?;
+        out.push_str(item.as_str())?;
+        out.push_str(",\n")?;
+    }
+    Ok(())
+}
+
+/// Appends as many items on each line as it has room for.
+pub fn put_packed(out: &mut String, columns: usize, items: &[String]) -> Result<(), AllocError> {
+    let mut at = 0;
+    for item in items {
+        let more = width(item.as_str()).saturating_add(2);
+        if at == 0 {
+            indent(out, columns)?;
+            at = columns;
+        } else if at.saturating_add(more) > COLUMNS + 1 {
+            out.push('\n')?;
+            indent(out, columns)?;
+            at = columns;
+        } else {
+            out.push(' ')?;
+        }
+        out.push_str(item.as_str())?;
+        out.push(',')?;
+        at = at.saturating_add(more);
+    }
+    out.push('\n')
+}
+
+/// What stands round a tuple of pairs, and how it is laid out.
+#[derive(Clone, Copy)]
+pub struct Frame<'a> {
+    /// How many columns its line begins behind.
+    pub columns: usize,
+    /// What stands before it on its line.
+    pub before: &'a str,
+    /// What stands behind it on its line.
+    pub after: &'a str,
+    /// How many columns an inner line begins further on.
+    pub step: usize,
+    /// How wide it is at most on one line, between its brackets.
+    pub most: usize,
+}
+
+// How many columns the pairs take on one line, with their brackets.
+pub fn pairs_width(items: &[String], last: &str) -> usize {
+    let mut sum = width(last);
+    for item in items {
+        sum = sum.saturating_add(width(item.as_str())).saturating_add(4);
+    }
+    sum
+}
+
+// How many of the pairs are broken, from the first one on.
+fn broken(items: &[String], last: &str, frame: Frame) -> usize {
+    let mut columns = frame.columns.saturating_add(width(frame.before));
+    let mut behind = width(frame.after);
+    let mut begin = frame.columns;
+    for (i, _) in items.iter().enumerate() {
+        let wide = pairs_width(&items[i..], last);
+        let room = columns.saturating_add(behind);
+        if wide.saturating_sub(2) <= frame.most && wide.saturating_add(room) <= COLUMNS {
+            return i;
+        }
+        begin = begin.saturating_add(frame.step);
+        columns = begin;
+        behind = 1;
+    }
+    items.len()
+}
+
+// Appends pairs on one line.
+pub fn put_flat_pairs(out: &mut String, items: &[String], last: &str) -> Result<(), AllocError> {
+    for item in items {
+        write!(out, "({item}, ")?;
+    }
+    out.push_str(last)?;
+    for _ in items {
+        out.push(')')?;
+    }
+    Ok(())
+}
+
+/// Appends items as pairs, each of an item and what follows it, with `last` behind them. It stands
+/// on a line of its own, or on several.
+pub fn put_pairs(
+    out: &mut String,
+    items: &[String],
+    last: &str,
+    frame: Frame,
+) -> Result<(), AllocError> {
+    let broken = broken(items, last, frame);
+    indent(out, frame.columns)?;
+    out.push_str(frame.before)?;
+    let mut columns = frame.columns;
+    for item in items.iter().take(broken) {
+        columns = columns.saturating_add(frame.step);
+        out.push_str("(\n")?;
+        indent(out, columns)?;
+        out.push_str(item.as_str())?;
+        out.push_str(",\n")?;
+        indent(out, columns)?;
+    }
+    put_flat_pairs(out, items.get(broken..).unwrap_or(&[]), last)?;
+    for _ in 0..broken {
+        columns = columns.saturating_sub(frame.step);
+        out.push_str(",\n")?;
+        indent(out, columns)?;
+        out.push(')')?;
+    }
+    out.push_str(frame.after)?;
+    out.push('\n')
+}
