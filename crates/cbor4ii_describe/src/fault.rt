@@ -11,7 +11,9 @@ use std::fmt;
 pub enum Why {
     /// The input holds no type.
     NoType,
-    /// Neither a struct nor an enum begins here.
+    /// An enum begins here.
+    Enum,
+    /// No struct begins here.
     NotType,
     /// A name should stand here.
     NoName,
@@ -19,17 +21,15 @@ pub enum Why {
     Unexpected,
     /// A text or a bracket is not closed.
     NotClosed,
-    /// The type has more than one parameter, or one with a bound.
+    /// The type has more than one parameter, or one with a bound, or one named S or W.
     Parameters,
     /// The struct has no field, or it has more than twelve.
     FieldCount,
-    /// The tuple struct or tuple variant has more than one field.
+    /// The tuple struct has another number of fields than one.
     TupleFields,
-    /// The enum has no variant.
-    NoVariant,
     /// An attribute of serde that has no form here.
     Attribute,
-    /// The text of an attribute is not plain ASCII.
+    /// The text of an attribute is not plain ASCII, or has a backslash or more than 255 bytes.
     PlainText,
     /// The default has no form here.
     DefaultValue,
@@ -37,31 +37,34 @@ pub enum Why {
     LeftOut,
     /// The type parameter stands in another place than `T`, `Vec<T>` or `Option<T>`.
     ParameterPlace,
-    /// More than one field is left out.
+    /// Two fields are written under one name.
+    SameName,
+    /// More than one field may be left out, or each one.
     ManyLeftOut,
 }
 
 impl fmt::Display for Why {
     fn fmt<W: fmt::Write>(&self, f: &mut fmt::Formatter<W>) -> fmt::Result {
         match self {
-            Why::NoType => write!(f, "no struct and no enum stands in the input"),
-            Why::NotType => write!(f, "neither a struct nor an enum begins here"),
+            Why::NoType => write!(f, "no struct stands in the input"),
+            Why::Enum => write!(f, "an enum has no form here"),
+            Why::NotType => write!(f, "no struct begins here"),
             Why::NoName => write!(f, "a name should stand here"),
             Why::Unexpected => write!(f, "another sign should stand here"),
             Why::NotClosed => write!(f, "a text or a bracket is not closed"),
             Why::Parameters => write!(
                 f,
-                "only one type parameter or one lifetime has a form, bare"
+                "only one parameter has a form, with no bound and not named S or W"
             ),
             Why::FieldCount => write!(f, "a struct has one to twelve fields"),
-            Why::TupleFields => write!(f, "only one field may have no name"),
-            Why::NoVariant => write!(f, "an enum has a variant"),
+            Why::TupleFields => write!(f, "a tuple struct has one field"),
             Why::Attribute => write!(f, "this attribute has no form here"),
-            Why::PlainText => write!(f, "this text should be plain ASCII with no backslash"),
+            Why::PlainText => write!(f, "this text is not short plain ASCII with no backslash"),
             Why::DefaultValue => write!(f, "this default has no form: a number, a bool or None"),
             Why::LeftOut => write!(f, "only an Option may be left out"),
             Why::ParameterPlace => write!(f, "the parameter may stand alone, in Vec or in Option"),
-            Why::ManyLeftOut => write!(f, "only one field may be left out"),
+            Why::SameName => write!(f, "two fields are written under one name"),
+            Why::ManyLeftOut => write!(f, "only one field may be left out, beside others"),
         }
     }
 }

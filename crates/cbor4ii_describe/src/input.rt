@@ -1,4 +1,7 @@
 //! The tokens that are left to read.
+ghost use Rattle.std.specs.Prelude.{◌≡◌, ◌+◌, ◌<◌, ◌↔◌, OnOk, OnSome, IfNone, IsSome, IsTrue};
+ghost use Rattle.cbor4ii_describe.specs.Input.{left_count, Shorter, NoLonger};
+
 use crate::fault::{Fault, Why, refused};
 use crate::tokens::{Kind, Token};
 use std::alloc::Global;
@@ -37,12 +40,17 @@ impl Input {
     }
 
     /// The next token, which stays.
-    pub fn peek(&self) -> Option<&Token> {
+    pub fn peek(&self) -> Option<&Token>
+        ensures { IsSome result ↔ (0 < left_count self.now) }
+    {
         self.left.last()
     }
 
     /// Takes the next token.
-    pub fn take(&mut self) -> Option<Token> {
+    pub fn take(&mut self) -> Option<Token>
+        ensures takes { OnSome result (left_count self.new + 1 ≡ left_count self.old) }
+        ensures none { IfNone result (left_count self.new ≡ left_count self.old) }
+    {
         let token = self.left.pop()?;
         self.line = token.line;
         Some(token)
@@ -57,12 +65,17 @@ impl Input {
     }
 
     /// Takes the next token where it is this one, and says whether it was.
-    pub fn took(&mut self, text: &str) -> bool {
+    pub fn took(&mut self, text: &str) -> bool
+        ensures takes { IsTrue result → Shorter self.old self.new }
+        ensures others { NoLonger self.old self.new }
+    {
         self.is_next(text) && self.take().is_some()
     }
 
     /// Takes this token.
-    pub fn want(&mut self, text: &str) -> Result<(), Fault> {
+    pub fn want(&mut self, text: &str) -> Result<(), Fault>
+        ensures { OnOk result (Shorter self.old self.new) }
+    {
         match self.took(text) {
             true => Ok(()),
             false => Err(self.fault(Why::Unexpected)),
@@ -70,20 +83,38 @@ impl Input {
     }
 
     /// Takes a token of this kind.
-    pub fn want_kind(&mut self, kind: Kind, why: Why) -> Result<String, Fault> {
+    pub fn want_kind(&mut self, kind: Kind, why: Why) -> Result<String, Fault>
+        ensures { OnOk result (Shorter self.old self.new) }
+    {
         match self.take() {
             Some(token) if token.kind == kind => Ok(token.text),
             _ => refused(self.line, why),
         }
     }
 
-    /// Takes a name.
-    pub fn name(&mut self) -> Result<String, Fault> {
+    /// Takes a word.
+    pub fn word(&mut self) -> Result<String, Fault>
+        ensures { OnOk result (Shorter self.old self.new) }
+    {
         self.want_kind(Kind::Word, Why::NoName)
     }
 
-    /// Takes a text in quotes: what stands between them. It is plain ASCII with no backslash.
-    pub fn text(&mut self, alloc: Global) -> Result<String, Fault> {
+    /// Takes a word that is a name: it begins with a letter or `_`.
+    pub fn name(&mut self) -> Result<String, Fault>
+        ensures { OnOk result (Shorter self.old self.new) }
+    {
+        let name = self.word()?;
+        match name.as_bytes().first() {
+            Some(first) if *first == b'_' || first.is_ascii_alphabetic() => Ok(name),
+            _ => refused(self.line, Why::NoName),
+        }
+    }
+
+    /// Takes a text in quotes: what stands between them. It is plain ASCII with no backslash, of
+    /// at most 255 bytes.
+    pub fn text(&mut self, alloc: Global) -> Result<String, Fault>
+        ensures { OnOk result (Shorter self.old self.new) }
+    {
         let quoted = self.want_kind(Kind::Text, Why::Unexpected)?;
         match plain(quoted.as_str()) {
             Some(text) => Ok(String::from_str(alloc, text)?),
@@ -101,10 +132,11 @@ impl Input {
     }
 }
 
-// What stands between the quotes, where that is plain ASCII with no backslash.
+// What stands between the quotes, where that is plain ASCII with no backslash, and at most 255
+// bytes.
 fn plain(quoted: &str) -> Option<&str> {
     let text = quoted.strip_prefix("\"")?.strip_suffix("\"")?;
-    if text.bytes().all(|b| b' ' <= b && b <= b'~' && b != b'\\') {
+    if text.len() < 256 && text.bytes().all(|b| b' ' <= b && b <= b'~' && b != b'\\') {
         Some(text)
     } else {
         None

@@ -1,4 +1,4 @@
-//! Reads structs and enums of Rust from standard input, and prints the impls that make them
+//! Reads structs of Rust from standard input, and prints the impls that make them
 //! described types.
 //!
 //! The exit status is 0, or 1 where a type has no form here: nothing is printed then, and a line on
@@ -13,6 +13,8 @@ mod parse;
 mod presence;
 mod print;
 mod shape;
+#[cfg(test)]
+mod tests;
 mod tokens;
 mod types;
 

@@ -1,8 +1,11 @@
 //! What attributes of a type say.
+ghost use Rattle.std.specs.Prelude.{OnOk};
+ghost use Rattle.cbor4ii_describe.specs.Input.{Shorter, NoLonger};
+
 use crate::fault::{Fault, Why, refused};
 use crate::input::Input;
 use crate::shape::Head;
-use crate::types::{push_token, rest_of_attribute};
+use crate::types::rest_of_attribute;
 use std::alloc::Global;
 
 /// What the attributes above an item say.
@@ -16,7 +19,7 @@ pub struct Options {
     pub left_out: bool,
     /// Whether the field may come once: `once`.
     pub once: bool,
-    /// What is said of a missing field, or of an unknown variant: `missing` and `otherwise`.
+    /// What is said where the field is missing: `missing`.
     pub words: Option<String>,
     /// Whether a derive stands among them.
     pub derives: bool,
@@ -35,14 +38,20 @@ pub fn no_options() -> Options {
 }
 
 impl Options {
-    /// Whether they say nothing of a field alone.
-    pub fn are_no_field(&self) -> bool {
-        self.default.is_none() && !self.left_out && !self.once
+    /// Whether they say nothing of a field.
+    pub fn are_none(&self) -> bool {
+        self.rename.is_none()
+            && self.default.is_none()
+            && self.words.is_none()
+            && !self.left_out
+            && !self.once
     }
 }
 
 /// Takes what stands above an item, and its visibility.
-pub fn head(alloc: Global, input: &mut Input, options: &mut Options) -> Result<Head, Fault> {
+pub fn head(alloc: Global, input: &mut Input, options: &mut Options) -> Result<Head, Fault>
+    ensures { OnOk result (NoLonger input.old input.new) }
+{
     let mut lines = Vec::new(alloc);
     while is_above(input) {
         let line = line_above(alloc, input, options)?;
@@ -63,7 +72,9 @@ fn is_above(input: &Input) -> bool {
 }
 
 // Takes a comment or an attribute: what is kept of it.
-fn line_above(alloc: Global, input: &mut Input, options: &mut Options) -> Result<String, Fault> {
+fn line_above(alloc: Global, input: &mut Input, options: &mut Options) -> Result<String, Fault>
+    ensures { OnOk result (Shorter input.old input.new) }
+{
     if input.took("#") {
         attribute(alloc, input, options)
     } else {
@@ -75,7 +86,9 @@ fn line_above(alloc: Global, input: &mut Input, options: &mut Options) -> Result
 }
 
 // Takes an attribute behind its sign: what is kept of it.
-fn attribute(alloc: Global, input: &mut Input, options: &mut Options) -> Result<String, Fault> {
+fn attribute(alloc: Global, input: &mut Input, options: &mut Options) -> Result<String, Fault>
+    ensures { OnOk result (Shorter input.old input.new) }
+{
     input.want("[")?;
     let name = input.name()?;
     match name.as_str() {
@@ -90,7 +103,9 @@ fn attribute(alloc: Global, input: &mut Input, options: &mut Options) -> Result<
 }
 
 // Takes the list of an attribute of serde.
-fn serde_options(alloc: Global, input: &mut Input, options: &mut Options) -> Result<String, Fault> {
+fn serde_options(alloc: Global, input: &mut Input, options: &mut Options) -> Result<String, Fault>
+    ensures { OnOk result (Shorter input.old input.new) }
+{
     input.want("(")?;
     while !input.took(")") {
         serde_option(alloc, input, options)?;
@@ -101,7 +116,9 @@ fn serde_options(alloc: Global, input: &mut Input, options: &mut Options) -> Res
 }
 
 // Takes the comma behind a part, which the last one need not have.
-fn end_part(input: &mut Input) -> Result<(), Fault> {
+fn end_part(input: &mut Input) -> Result<(), Fault>
+    ensures { OnOk result (NoLonger input.old input.new) }
+{
     if input.is_next(")") {
         Ok(())
     } else {
@@ -110,7 +127,9 @@ fn end_part(input: &mut Input) -> Result<(), Fault> {
 }
 
 // Takes one word of serde, and its text.
-fn serde_option(alloc: Global, input: &mut Input, options: &mut Options) -> Result<(), Fault> {
+fn serde_option(alloc: Global, input: &mut Input, options: &mut Options) -> Result<(), Fault>
+    ensures { OnOk result (Shorter input.old input.new) }
+{
     let name = input.name()?;
     match name.as_str() {
         "rename" => options.rename = Some(value(alloc, input)?),
@@ -128,7 +147,9 @@ fn serde_option(alloc: Global, input: &mut Input, options: &mut Options) -> Resu
 }
 
 // Takes the list of an attribute of this program.
-fn own_options(alloc: Global, input: &mut Input, options: &mut Options) -> Result<String, Fault> {
+fn own_options(alloc: Global, input: &mut Input, options: &mut Options) -> Result<String, Fault>
+    ensures { OnOk result (Shorter input.old input.new) }
+{
     input.want("(")?;
     while !input.took(")") {
         own_option(alloc, input, options)?;
@@ -139,25 +160,31 @@ fn own_options(alloc: Global, input: &mut Input, options: &mut Options) -> Resul
 }
 
 // Takes one word of this program, and its text.
-fn own_option(alloc: Global, input: &mut Input, options: &mut Options) -> Result<(), Fault> {
+fn own_option(alloc: Global, input: &mut Input, options: &mut Options) -> Result<(), Fault>
+    ensures { OnOk result (Shorter input.old input.new) }
+{
     let name = input.name()?;
     match name.as_str() {
         "once" => options.once = true,
-        "missing" | "otherwise" => options.words = Some(value(alloc, input)?),
+        "missing" => options.words = Some(value(alloc, input)?),
         _ => return refused(input.line(), Why::Attribute),
     }
     Ok(())
 }
 
 // Takes a sign and a text behind a word.
-fn value(alloc: Global, input: &mut Input) -> Result<String, Fault> {
+fn value(alloc: Global, input: &mut Input) -> Result<String, Fault>
+    ensures { OnOk result (Shorter input.old input.new) }
+{
     input.want("=")?;
     input.text(alloc)
 }
 
 // Takes the list of a derive: the attribute with `Drop`, where it has no `Copy`, and without what
 // serde derives.
-fn derive(alloc: Global, input: &mut Input) -> Result<String, Fault> {
+fn derive(alloc: Global, input: &mut Input) -> Result<String, Fault>
+    ensures { OnOk result (Shorter input.old input.new) }
+{
     let mut line = String::from_str(alloc, "#[derive(")?;
     let mut drops = true;
     input.want("(")?;
@@ -186,19 +213,23 @@ fn is_of_serde(path: &str) -> bool {
 }
 
 // Takes a path: names with colons between them.
-fn path(alloc: Global, input: &mut Input) -> Result<String, Fault> {
+fn path(alloc: Global, input: &mut Input) -> Result<String, Fault>
+    ensures { OnOk result (Shorter input.old input.new) }
+{
     let mut path = input.name()?;
     while input.is_next(":") {
         input.want(":")?;
         input.want(":")?;
         path.push_str("::")?;
-        push_token(&mut path, input.name()?.as_str())?;
+        path.push_str(input.name()?.as_str())?;
     }
     Ok(path)
 }
 
 // Takes what says who sees an item: `pub` or the like with a space, or nothing.
-fn visibility(alloc: Global, input: &mut Input) -> Result<String, Fault> {
+fn visibility(alloc: Global, input: &mut Input) -> Result<String, Fault>
+    ensures { OnOk result (NoLonger input.old input.new) }
+{
     if !input.took("pub") {
         return Ok(String::new(alloc));
     }

@@ -1,17 +1,22 @@
-//! Structs and enums, read from their tokens.
+//! Structs, read from their tokens.
+ghost use Rattle.std.specs.Prelude.{◌≡◌, OnOk};
+ghost use Rattle.cbor4ii_describe.specs.Input.{left_count, Shorter, NoLonger};
+
 use crate::fault::{Fault, Why, refused};
 use crate::input::Input;
 use crate::options::{Options, head, no_options};
 use crate::presence::presence;
-use crate::shape::{Content, Described, Field, Head, Parameter, Presence, Shape, Variant};
+use crate::shape::{Described, Field, Head, Parameter, Presence, Shape};
 use crate::types::its_type;
 use std::alloc::Global;
 
 /// How many fields a struct may have.
 pub const MOST_FIELDS: usize = 12;
 
-/// Takes all that is left: one struct or enum after another.
-pub fn items(alloc: Global, input: &mut Input) -> Result<Vec<Described>, Fault> {
+/// Takes all that is left: one struct after another.
+pub fn items(alloc: Global, input: &mut Input) -> Result<Vec<Described>, Fault>
+    ensures { OnOk result (left_count input.new ≡ 0) }
+{
     let mut items = Vec::new(alloc);
     while input.peek().is_some() {
         items.push(item(alloc, input)?)?;
@@ -22,11 +27,13 @@ pub fn items(alloc: Global, input: &mut Input) -> Result<Vec<Described>, Fault> 
     Ok(items)
 }
 
-// Takes a struct or an enum.
-fn item(alloc: Global, input: &mut Input) -> Result<Described, Fault> {
+// Takes a struct.
+fn item(alloc: Global, input: &mut Input) -> Result<Described, Fault>
+    ensures { OnOk result (Shorter input.old input.new) }
+{
     let mut options = no_options();
     let mut head = head(alloc, input, &mut options)?;
-    let is_enum = is_enum(input)?;
+    begin(input)?;
     let name = input.name()?;
     let line = input.line();
     let parameter = parameter(input)?;
@@ -34,16 +41,10 @@ fn item(alloc: Global, input: &mut Input) -> Result<Described, Fault> {
         head.lines
             .push(String::from_str(alloc, "#[derive(Drop)]")?)?;
     }
-    if !options.are_no_field() || options.rename.is_some() {
-        return refused(input.line(), Why::Attribute);
+    if !options.are_none() {
+        return refused(line, Why::Attribute);
     }
-    let shape = if is_enum {
-        enum_shape(alloc, input, name.as_str(), options)?
-    } else if options.words.is_some() {
-        return refused(input.line(), Why::Attribute);
-    } else {
-        struct_shape(alloc, input, name.as_str())?
-    };
+    let shape = struct_shape(alloc, input, name.as_str())?;
     Ok(Described {
         head,
         name,
@@ -53,35 +54,41 @@ fn item(alloc: Global, input: &mut Input) -> Result<Described, Fault> {
     })
 }
 
-// Takes the word that begins a type: whether it is an enum.
-fn is_enum(input: &mut Input) -> Result<bool, Fault> {
-    if input.took("enum") {
-        Ok(true)
-    } else if input.took("struct") {
-        Ok(false)
+// Takes the word that begins a struct.
+fn begin(input: &mut Input) -> Result<(), Fault>
+    ensures { OnOk result (Shorter input.old input.new) }
+{
+    if input.took("struct") {
+        Ok(())
+    } else if input.is_next("enum") {
+        Err(input.fault(Why::Enum))
     } else {
         Err(input.fault(Why::NotType))
     }
 }
 
-// Takes the parameter, where there is one.
-fn parameter(input: &mut Input) -> Result<Parameter, Fault> {
+// Takes the parameter, where there is one. Types named S and W stand in the impls already.
+fn parameter(input: &mut Input) -> Result<Parameter, Fault>
+    ensures { OnOk result (NoLonger input.old input.new) }
+{
     if !input.took("<") {
         return Ok(Parameter::Nothing);
     }
-    let name = input.name()?;
+    let name = input.word()?;
     if !input.took(">") {
         return Err(input.fault(Why::Parameters));
     }
-    if name.as_str().starts_with("'") {
-        Ok(Parameter::Lifetime(name))
-    } else {
-        Ok(Parameter::Type(name))
+    match name.as_str() {
+        "S" | "W" => refused(input.line(), Why::Parameters),
+        text if text.starts_with("'") => Ok(Parameter::Lifetime(name)),
+        _ => Ok(Parameter::Generic(name)),
     }
 }
 
 // Takes what a struct holds.
-fn struct_shape(alloc: Global, input: &mut Input, name: &str) -> Result<Shape, Fault> {
+fn struct_shape(alloc: Global, input: &mut Input, name: &str) -> Result<Shape, Fault>
+    ensures { OnOk result (Shorter input.old input.new) }
+{
     if input.took("{") {
         return Ok(Shape::Fields(fields(alloc, input, name)?));
     }
@@ -95,10 +102,12 @@ fn struct_shape(alloc: Global, input: &mut Input, name: &str) -> Result<Shape, F
 }
 
 // Takes the one field that has no name.
-fn unnamed(alloc: Global, input: &mut Input) -> Result<(Head, String), Fault> {
+fn unnamed(alloc: Global, input: &mut Input) -> Result<(Head, String), Fault>
+    ensures { OnOk result (Shorter input.old input.new) }
+{
     let mut options = no_options();
     let head = head(alloc, input, &mut options)?;
-    if !options.are_no_field() || options.rename.is_some() || options.words.is_some() {
+    if !options.are_none() {
         return refused(input.line(), Why::Attribute);
     }
     let held = its_type(alloc, input)?;
@@ -110,20 +119,57 @@ fn unnamed(alloc: Global, input: &mut Input) -> Result<(Head, String), Fault> {
 }
 
 // Takes the fields up to the bracket that closes them, of a struct or a variant of this name.
-fn fields(alloc: Global, input: &mut Input, owner: &str) -> Result<Vec<Field>, Fault> {
+fn fields(alloc: Global, input: &mut Input, owner: &str) -> Result<Vec<Field>, Fault>
+    ensures { OnOk result (Shorter input.old input.new) }
+{
     let mut fields = Vec::new(alloc);
     while !input.took("}") {
         fields.push(field(alloc, input, owner)?)?;
         end_part(input)?;
     }
-    if fields.is_empty() || fields.len() > MOST_FIELDS {
-        return refused(input.line(), Why::FieldCount);
+    match wrong(&fields) {
+        Some(why) => refused(input.line(), why),
+        None => Ok(fields),
     }
-    Ok(fields)
+}
+
+// What is wrong with these fields together, if anything is.
+fn wrong(fields: &[Field]) -> Option<Why> {
+    let left_out = fields
+        .iter()
+        .filter(|field| matches!(field.presence, Presence::LeftOut))
+        .count();
+    if fields.is_empty() || fields.len() > MOST_FIELDS {
+        Some(Why::FieldCount)
+    } else if left_out > 1 || left_out == fields.len() {
+        Some(Why::ManyLeftOut)
+    } else if is_twice(fields) {
+        Some(Why::SameName)
+    } else {
+        None
+    }
+}
+
+// Whether two fields are written under one name.
+fn is_twice(fields: &[Field]) -> bool {
+    for (i, field) in fields.iter().enumerate() {
+        let key = field.key.as_str();
+        if fields
+            .iter()
+            .skip(i)
+            .skip(1)
+            .any(|other| other.key.as_str() == key)
+        {
+            return true;
+        }
+    }
+    false
 }
 
 // Takes the comma behind a part, which the last one need not have.
-fn end_part(input: &mut Input) -> Result<(), Fault> {
+fn end_part(input: &mut Input) -> Result<(), Fault>
+    ensures { OnOk result (NoLonger input.old input.new) }
+{
     if input.is_next("}") {
         Ok(())
     } else {
@@ -132,7 +178,9 @@ fn end_part(input: &mut Input) -> Result<(), Fault> {
 }
 
 // Takes a field.
-fn field(alloc: Global, input: &mut Input, owner: &str) -> Result<Field, Fault> {
+fn field(alloc: Global, input: &mut Input, owner: &str) -> Result<Field, Fault>
+    ensures { OnOk result (Shorter input.old input.new) }
+{
     let mut options = no_options();
     let head = head(alloc, input, &mut options)?;
     let name = input.name()?;
@@ -191,52 +239,4 @@ fn in_words(alloc: Global, name: &str) -> Result<String, Fault> {
         words.push(c.to_ascii_lowercase())?;
     }
     Ok(words)
-}
-
-// Takes the variants of an enum.
-fn enum_shape(
-    alloc: Global,
-    input: &mut Input,
-    name: &str,
-    options: Options,
-) -> Result<Shape, Fault> {
-    input.want("{")?;
-    let mut variants = Vec::new(alloc);
-    while !input.took("}") {
-        variants.push(variant(alloc, input)?)?;
-        end_part(input)?;
-    }
-    if variants.is_empty() {
-        return refused(input.line(), Why::NoVariant);
-    }
-    let words = match options.words {
-        Some(words) => words,
-        None => format!(in alloc; "no such {}", in_words(alloc, name)?)?,
-    };
-    Ok(Shape::Enum { variants, words })
-}
-
-// Takes a variant.
-fn variant(alloc: Global, input: &mut Input) -> Result<Variant, Fault> {
-    let mut options = no_options();
-    let head = head(alloc, input, &mut options)?;
-    let name = input.name()?;
-    if !options.are_no_field() || options.words.is_some() {
-        return refused(input.line(), Why::Attribute);
-    }
-    let key = or_name(alloc, options.rename, name.as_str())?;
-    let content = if input.took("(") {
-        let (_head, held) = unnamed(alloc, input)?;
-        Content::Newtype(held)
-    } else if input.took("{") {
-        Content::Fields(fields(alloc, input, name.as_str())?)
-    } else {
-        Content::Unit
-    };
-    Ok(Variant {
-        head,
-        name,
-        key,
-        content,
-    })
 }

@@ -8,7 +8,7 @@ pub enum Parameter {
     /// A lifetime, with its quote.
     Lifetime(String),
     /// A type parameter.
-    Type(String),
+    Generic(String),
 }
 
 /// What a field is that is missing.
@@ -52,30 +52,6 @@ pub struct Head {
     pub visibility: String,
 }
 
-/// What a variant holds.
-#[derive(Drop)]
-pub enum Content {
-    /// Nothing.
-    Unit,
-    /// A value of this type.
-    Newtype(String),
-    /// Fields.
-    Fields(Vec<Field>),
-}
-
-/// A variant of an enum.
-#[derive(Drop)]
-pub struct Variant {
-    /// What stands above it.
-    pub head: Head,
-    /// Its name.
-    pub name: String,
-    /// The name that is written.
-    pub key: String,
-    /// What it holds.
-    pub content: Content,
-}
-
 /// What a type holds.
 #[derive(Drop)]
 pub enum Shape {
@@ -86,14 +62,9 @@ pub enum Shape {
         visibility: String,
         its_type: String,
     },
-    /// One of these variants; and what is said of another.
-    Enum {
-        variants: Vec<Variant>,
-        words: String,
-    },
 }
 
-/// A struct or an enum.
+/// A struct.
 #[derive(Drop)]
 pub struct Described {
     /// What stands above it, and before its name.

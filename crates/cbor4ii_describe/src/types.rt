@@ -1,31 +1,43 @@
 //! Types, as text.
+ghost use Rattle.std.specs.Prelude.{◌≡◌, ◌++◌, OnOk, IfSome, codes};
+ghost use Rattle.cbor4ii_describe.specs.Input.{Shorter};
+ghost use Rattle.cbor4ii_describe.specs.Text.{AppendsToken};
+
 use crate::fault::{Fault, Why};
 use crate::input::Input;
 use std::alloc::{AllocError, Global};
 
-/// Takes a type: its text, on one line.
-pub fn its_type(alloc: Global, input: &mut Input) -> Result<String, Fault> {
-    let mut text = String::new(alloc);
-    let mut depth = 0;
+/// Takes a type, up to the sign behind it: its text, on one line.
+pub fn its_type(alloc: Global, input: &mut Input) -> Result<String, Fault>
+    ensures { OnOk result (Shorter input.old input.new) }
+{
+    if ends(input, 0) {
+        return Err(input.fault(Why::Unexpected));
+    }
+    let mut last = take_or(input)?;
+    let mut text = String::from_str(alloc, last.as_str())?;
+    let mut depth = depth_behind(0, last.as_str());
     while !ends(input, depth) {
         let token = take_or(input)?;
         depth = depth_behind(depth, token.as_str());
-        push_token(&mut text, token.as_str())?;
-    }
-    if text.is_empty() {
-        return Err(input.fault(Why::Unexpected));
+        push_token(&mut text, last.as_str(), token.as_str())?;
+        last = token;
     }
     Ok(text)
 }
 
 /// Takes the rest of an attribute of this name: the attribute, on one line.
-pub fn rest_of_attribute(alloc: Global, input: &mut Input, name: &str) -> Result<String, Fault> {
+pub fn rest_of_attribute(alloc: Global, input: &mut Input, name: &str) -> Result<String, Fault>
+    ensures { OnOk result (Shorter input.old input.new) }
+{
     let mut text = format!(in alloc; "#[{name}")?;
+    let mut last = String::from_str(alloc, name)?;
     let mut depth = 0;
     while depth != 0 || !input.is_next("]") {
         let token = take_or(input)?;
         depth = depth_behind(depth, token.as_str());
-        push_token(&mut text, token.as_str())?;
+        push_token(&mut text, last.as_str(), token.as_str())?;
+        last = token;
     }
     input.want("]")?;
     text.push_str("]")?;
@@ -33,7 +45,9 @@ pub fn rest_of_attribute(alloc: Global, input: &mut Input, name: &str) -> Result
 }
 
 // Takes a token, where one is left.
-fn take_or(input: &mut Input) -> Result<String, Fault> {
+fn take_or(input: &mut Input) -> Result<String, Fault>
+    ensures { OnOk result (Shorter input.old input.new) }
+{
     match input.take() {
         Some(token) => Ok(token.text),
         None => Err(input.fault(Why::NotClosed)),
@@ -57,21 +71,26 @@ fn depth_behind(depth: u32, token: &str) -> u32 {
     }
 }
 
-/// Appends a token, behind a space where one belongs there.
-pub fn push_token(text: &mut String, token: &str) -> Result<(), AllocError> {
-    if is_apart(text.as_str(), token) {
-        text.push(' ')?;
+// Appends a token behind this one, and behind a space where one belongs there.
+fn push_token(text: &mut String, last: &str, token: &str) -> Result<(), AllocError>
+    ensures { OnOk result (AppendsToken text.old text.new token.now) }
+{
+    if is_apart(last, token) {
+        text.push_str(" ")?;
     }
     text.push_str(token)
 }
 
-// Whether a space belongs between the text and the token.
-fn is_apart(text: &str, token: &str) -> bool {
-    match (text.as_bytes().last(), token.as_bytes().first()) {
-        (Some(b',' | b';' | b'+' | b'='), _) => true,
-        (Some(_), Some(b'+' | b'=')) => true,
-        (Some(last), Some(first)) => is_in_word(*last) && is_in_word(*first),
-        _ => false,
+// Whether a space belongs between two tokens.
+fn is_apart(last: &str, token: &str) -> bool {
+    let (Some(end), Some(begin)) = (last.as_bytes().last(), token.as_bytes().first()) else {
+        return false;
+    };
+    match (*end, *begin) {
+        (_, b',' | b'>' | b';') => false,
+        (b',' | b';' | b'+' | b'=', _) | (_, b'+' | b'=') => true,
+        (_, b'[' | b'(' | b'&') => last.as_bytes().first() == Some(&b'\''),
+        (end, begin) => is_in_word(end) && is_in_word(begin),
     }
 }
 
@@ -81,7 +100,9 @@ fn is_in_word(byte: u8) -> bool {
 }
 
 /// What an `Option` of this type may hold; none for another type.
-pub fn in_option(its_type: &str) -> Option<&str> {
+pub fn in_option(its_type: &str) -> Option<&str>
+    ensures { IfSome result (λ inner. its_type.now ≡ codes "Option<" ++ inner.now ++ codes ">") }
+{
     its_type.strip_prefix("Option<")?.strip_suffix(">")
 }
 

@@ -60,8 +60,7 @@ impl<'a> Described for Label<'a> {
     ghost codec = { struct_codec (λ l. (l.id, (l.text, no_values)))
         (with_field (codes "id") (codes "a label has no id") ⟦<u8 as Described>⟧.codec
         (with_field (codes "text") (codes "a label has no text") ⟦<&'a str as Described>⟧.codec
-        no_fields
-        refl) refl) refl };
+        no_fields refl) refl) refl };
 }
 
 impl<'a> AsDescribed for Label<'a> {

@@ -23,20 +23,20 @@ impl Serialize for Meters {
     }
 }
 
-impl From<u32> for Meters {
-    ghost from_gives = { λ n m. n ≡ m.0 };
-
-    fn from(meters: u32) -> Meters {
-        Meters(meters)
-    }
-}
-
 impl<S: Source> Deserialize<S> for Meters {
     fn deserialize(
         alloc: Global,
         de: &mut Deserializer<S>,
     ) -> Result<Meters, DecodeError<S::Error>> {
         de.deserialize_from::<u32, Meters>(alloc)
+    }
+}
+
+impl From<u32> for Meters {
+    ghost from_gives = { λ value m. value ≡ m.0 };
+
+    fn from(value: u32) -> Meters {
+        Meters(value)
     }
 }
 

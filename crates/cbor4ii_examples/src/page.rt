@@ -11,7 +11,6 @@ ghost use Rattle.cbor4ii.specs.ReadBack.{IsReadBack};
 
 use cbor4ii::dec::Source;
 use cbor4ii::enc::Write;
-use cbor4ii::error::StaticStr;
 use cbor4ii::serde::{
     AsDescribed, DecodeError, Described, Deserialize, Deserializer, EncodeError, Or, Required,
     Serialize, Serializer, Typed, described_values_are_read_back,
@@ -45,17 +44,20 @@ impl<T: AsDescribed> Serialize for Page<T> {
     }
 }
 
-const FIELDS: [StaticStr; 3] = ["total", "entries", "next"];
-
-const MISSING: [StaticStr; 2] = ["a page has no total", "a page has no entries"];
-
 impl<S: Source, T: AsDescribed + Deserialize<S> + Drop> Deserialize<S> for Page<T> {
     fn deserialize(
         alloc: Global,
         de: &mut Deserializer<S>,
     ) -> Result<Page<T>, DecodeError<S::Error>> {
+        let missing = ["a page has no total", "a page has no entries"];
         let presences = (Required, (Required, (Or(None), ())));
-        de.deserialize_fields(alloc, "Page", &FIELDS, &MISSING, presences)
+        de.deserialize_fields(
+            alloc,
+            "Page",
+            &["total", "entries", "next"],
+            &missing,
+            presences,
+        )
     }
 }
 
@@ -82,9 +84,7 @@ impl<T: AsDescribed> Described for Page<T> {
         (with_field (codes "entries") (codes "a page has no entries")
         (vector_codec (its_codec T.promise T.encoding T.codec))
         (with_field_or (codes "next") None (option_codec (its_codec T.promise T.encoding T.codec))
-        no_fields refl)
-        refl) refl)
-        refl };
+        no_fields refl) refl) refl) refl };
 }
 
 impl<T: AsDescribed> AsDescribed for Page<T> {

@@ -10,7 +10,6 @@ ghost use Rattle.cbor4ii.specs.ReadBack.{IsReadBack};
 
 use cbor4ii::dec::Source;
 use cbor4ii::enc::Write;
-use cbor4ii::error::StaticStr;
 use cbor4ii::serde::{
     AsDescribed, DecodeError, Described, Deserialize, Deserializer, EncodeError, Or, Required,
     Serialize, Serializer, Typed, described_values_are_read_back,
@@ -33,17 +32,14 @@ impl Serialize for Point {
     }
 }
 
-const FIELDS: [StaticStr; 3] = ["x", "name", "y"];
-
-const MISSING: [StaticStr; 3] = ["a point has no x", "a point has no name", ""];
-
 impl<S: Source> Deserialize<S> for Point {
     fn deserialize(
         alloc: Global,
         de: &mut Deserializer<S>,
     ) -> Result<Point, DecodeError<S::Error>> {
+        let missing = ["a point has no x", "a point has no name"];
         let presences = (Required, (Required, (Or(None), ())));
-        de.deserialize_fields(alloc, "Point", &FIELDS, &MISSING, presences)
+        de.deserialize_fields(alloc, "Point", &["x", "name", "y"], &missing, presences)
     }
 }
 
@@ -64,9 +60,8 @@ impl Described for Point {
     ghost codec = { struct_codec (λ p. (p.x, (p.name, (p.y, no_values))))
         (with_field (codes "x") (codes "a point has no x") ⟦<u32 as Described>⟧.codec
         (with_field (codes "name") (codes "a point has no name") ⟦<String as Described>⟧.codec
-        (with_field_or (codes "y") None ⟦<Option<i32> as Described>⟧.codec no_fields refl)
-        refl) refl)
-        refl };
+        (with_field_or (codes "y") None ⟦<Option<i32> as Described>⟧.codec
+        no_fields refl) refl) refl) refl };
 }
 
 impl AsDescribed for Point {

@@ -10,7 +10,7 @@ ghost use Rattle.cbor4ii_examples.specs.Settings.{without_byte, StopsAt};
 
 use cbor4ii::dec::Source;
 use cbor4ii::enc::Write;
-use cbor4ii::error::{Never, StaticStr};
+use cbor4ii::error::Never;
 use cbor4ii::serde::{
     AsDescribed, DecodeError, Described, Deserialize, Deserializer, EncodeError, Once, Or,
     Required, Serialize, Serializer, Typed, WholeError,
@@ -67,35 +67,53 @@ impl Serialize for Settings {
     }
 }
 
-const FIELDS: [StaticStr; 8] = [
-    "host", "port", "verbose", "workers", "cache", "proxy", "plugins", "greeting",
-];
-
-const MISSING: [StaticStr; 1] = ["settings have one host"];
-
 /// Only the host has to be there. Each field may come at any place, and others are skipped.
 impl<S: Source> Deserialize<S> for Settings {
     fn deserialize(
         alloc: Global,
         de: &mut Deserializer<S>,
     ) -> Result<Settings, DecodeError<S::Error>> {
-        let texts = (Or(None), (Or(None), (Or(None), ())));
-        let numbers = (Or(8080), (Or(false), (Or(4), (Or(0), texts))));
+        let missing = ["settings have one host"];
+        let presences = (
+            Once(Required),
+            (
+                Or(8080),
+                (
+                    Or(false),
+                    (Or(4), (Or(0), (Or(None), (Or(None), (Or(None), ()))))),
+                ),
+            ),
+        );
         de.deserialize_fields(
             alloc,
             "Settings",
-            &FIELDS,
-            &MISSING,
-            (Once(Required), numbers),
+            &[
+                "host", "port", "verbose", "workers", "cache", "proxy", "plugins", "greeting",
+            ],
+            &missing,
+            presences,
         )
     }
 }
 
-type Texts = (Option<String>, (Option<Vec<String>>, (Option<String>, ())));
+type SettingsValues = (
+    String,
+    (
+        u16,
+        (
+            bool,
+            (
+                u8,
+                (
+                    u64,
+                    (Option<String>, (Option<Vec<String>>, (Option<String>, ()))),
+                ),
+            ),
+        ),
+    ),
+);
 
-type Values = (String, (u16, (bool, (u8, (u64, Texts)))));
-
-impl From<Values> for Settings {
+impl From<SettingsValues> for Settings {
     ghost from_gives = { λ values s. values ≡ (
       s.host,
       (
@@ -110,7 +128,7 @@ impl From<Values> for Settings {
       ),
     ) };
 
-    fn from(values: Values) -> Settings {
+    fn from(values: SettingsValues) -> Settings {
         let (host, (port, (verbose, (workers, (cache, (proxy, (plugins, (greeting, ())))))))) =
             values;
         Settings {
@@ -152,9 +170,8 @@ impl Described for Settings {
         (with_field_or (codes "cache") 0 ⟦<u64 as Described>⟧.codec
         (with_field_or (codes "proxy") None ⟦<Option<String> as Described>⟧.codec
         (with_field_or (codes "plugins") None ⟦<Option<Vec<String>> as Described>⟧.codec
-        (with_field_or (codes "greeting") None ⟦<Option<String> as Described>⟧.codec no_fields
-        refl) refl)
-        refl) refl) refl) refl) refl) refl) refl };
+        (with_field_or (codes "greeting") None ⟦<Option<String> as Described>⟧.codec
+        no_fields refl) refl) refl) refl) refl) refl) refl) refl) refl };
 }
 
 impl AsDescribed for Settings {

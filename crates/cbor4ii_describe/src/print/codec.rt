@@ -1,4 +1,7 @@
 //! The ghost `codec`.
+ghost use Rattle.std.specs.Prelude.{◌≡◌, ◌++◌, IfOk, IfSome, codes, string_bytes};
+ghost use Rattle.cbor4ii_describe.specs.Text.{field_word};
+
 use crate::fault::{Fault, Why, refused};
 use crate::print::layout::{COLUMNS, width};
 use crate::shape::{Field, Parameter, Presence};
@@ -13,7 +16,7 @@ pub fn codec(
     parameter: &Parameter,
 ) -> Result<String, Fault> {
     match parameter {
-        Parameter::Type(name) if mentions(its_type, name.as_str()) => {
+        Parameter::Generic(name) if mentions(its_type, name.as_str()) => {
             of_parameter(alloc, line, its_type, name.as_str())
         }
         _ => Ok(format!(in alloc; "⟦<{its_type} as Described>⟧.codec")?),
@@ -22,20 +25,38 @@ pub fn codec(
 
 // The codec of the parameter, or of vectors or options of it.
 fn of_parameter(alloc: Global, line: u32, its_type: &str, name: &str) -> Result<String, Fault> {
-    if its_type == name {
-        return Ok(format!(in alloc; "(its_codec {name}.promise {name}.encoding {name}.codec)")?);
+    let mut text = String::new(alloc);
+    let mut left = its_type;
+    for depth in 0..its_type.len() {
+        if left == name {
+            write!(
+                text,
+                "(its_codec {name}.promise {name}.encoding {name}.codec)"
+            )?;
+            for _ in 0..depth {
+                text.push(')')?;
+            }
+            return Ok(text);
+        }
+        left = match (in_option(left), in_vector(left)) {
+            (Some(inner), _) => {
+                text.push_str("(option_codec ")?;
+                inner
+            }
+            (None, Some(inner)) => {
+                text.push_str("(vector_codec ")?;
+                inner
+            }
+            (None, None) => return refused(line, Why::ParameterPlace),
+        };
     }
-    let (word, inner) = match (in_option(its_type), in_vector(its_type)) {
-        (Some(inner), _) => ("option_codec", inner),
-        (None, Some(inner)) => ("vector_codec", inner),
-        (None, None) => return refused(line, Why::ParameterPlace),
-    };
-    let inner = of_parameter(alloc, line, inner, name)?;
-    Ok(format!(in alloc; "({word} {inner})")?)
+    refused(line, Why::ParameterPlace)
 }
 
 // What a vector of this type holds; none for another type.
-fn in_vector(its_type: &str) -> Option<&str> {
+fn in_vector(its_type: &str) -> Option<&str>
+    ensures { IfSome result (λ inner. its_type.now ≡ codes "Vec<" ++ inner.now ++ codes ">") }
+{
     its_type.strip_prefix("Vec<")?.strip_suffix(">")
 }
 
@@ -73,7 +94,9 @@ pub fn held_type(field: &Field) -> &str {
 }
 
 // What stands before the codec of a field.
-fn begin(alloc: Global, field: &Field) -> Result<String, AllocError> {
+fn begin(alloc: Global, field: &Field) -> Result<String, AllocError>
+    ensures { IfOk result (λ text. string_bytes text ≡ field_word field.now) }
+{
     let (key, words) = (field.key.as_str(), field.words.as_str());
     match &field.presence {
         Presence::Required => {

@@ -1,4 +1,7 @@
 //! A described type: the type itself, and its impls.
+ghost use Rattle.std.specs.Prelude.{◌≡◌, ◌++◌, OnOk, string_bytes};
+ghost use Rattle.cbor4ii_describe.specs.Text.{impl_typed};
+
 use crate::fault::Fault;
 use crate::print::codec::{codec, put_fields};
 use crate::print::deserialize::put_deserialize;
@@ -7,7 +10,7 @@ use crate::print::layout::{Frame, LIST, indent, put_pairs};
 use crate::print::lists::places;
 use crate::print::serialize::put_serialize;
 use crate::print::types::{generics, letter, self_type};
-use crate::shape::{Described, Field, Head, Shape};
+use crate::shape::{Described, Field, Head, Parameter, Shape};
 use crate::types::mentions;
 use std::alloc::{AllocError, Global};
 
@@ -39,7 +42,6 @@ fn put_type(alloc: Global, out: &mut String, described: &Described) -> Result<()
             }
             out.push_str("}\n\n")
         }
-        Shape::Enum { .. } => Ok(()),
     }
 }
 
@@ -61,7 +63,9 @@ fn put_field(out: &mut String, field: &Field) -> Result<(), AllocError> {
 }
 
 // Appends what is promised where the type is read.
-fn put_typed(alloc: Global, out: &mut String, described: &Described) -> Result<(), AllocError> {
+fn put_typed(alloc: Global, out: &mut String, described: &Described) -> Result<(), AllocError>
+    ensures { OnOk result (string_bytes out.new ≡ string_bytes out.old ++ impl_typed described.now) }
+{
     let this = self_type(alloc, described)?;
     let generics = generics(alloc, &described.parameter, ": AsDescribed")?;
     write!(
@@ -95,7 +99,6 @@ fn put_codec(alloc: Global, out: &mut String, described: &Described) -> Result<(
             put_fields(alloc, out, fields, &described.parameter)?;
             out.push_str(" refl")?;
         }
-        Shape::Enum { .. } => {}
     }
     out.push_str(" };\n}\n\n")?;
     Ok(())
@@ -134,7 +137,7 @@ fn put_agrees(alloc: Global, out: &mut String, described: &Described) -> Result<
 fn laws(alloc: Global, described: &Described) -> Result<String, AllocError> {
     let mut laws = String::new(alloc);
     let mut places: usize = 0;
-    if let crate::shape::Parameter::Type(name) = &described.parameter {
+    if let Parameter::Generic(name) = &described.parameter {
         places = places_of(&described.shape, name.as_str());
         for _ in 0..places {
             write!(laws, "({name}.agrees, ")?;
@@ -155,6 +158,5 @@ fn places_of(shape: &Shape, parameter: &str) -> usize {
             .iter()
             .filter(|field| mentions(field.its_type.as_str(), parameter))
             .count(),
-        Shape::Enum { .. } => 0,
     }
 }

@@ -1,5 +1,7 @@
 //! `impl Deserialize`.
-use crate::print::layout::{COLUMNS, Frame, LIST, is_on_one_line, put_list, put_pairs, width};
+use crate::print::layout::{
+    COLUMNS, Frame, LIST, is_on_one_line, put_items, put_list, put_pairs, width,
+};
 use crate::print::lists::{keys, missing, presences};
 use crate::print::types::self_type;
 use crate::shape::{Described, Field, Parameter, Shape};
@@ -32,7 +34,6 @@ pub fn put_deserialize(
             )?;
         }
         Shape::Fields(fields) => put_struct(alloc, out, described.name.as_str(), fields)?,
-        Shape::Enum { .. } => {}
     }
     out.push_str("    }\n}\n\n")
 }
@@ -49,7 +50,7 @@ fn put_header(
         Parameter::Lifetime(p) => {
             format!(in alloc; "impl<{p}> Deserialize<SliceReader<{p}>> for {this} {{\n")?
         }
-        Parameter::Type(p) => format!(in alloc;
+        Parameter::Generic(p) => format!(in alloc;
             "impl<S: Source, {p}: AsDescribed + Deserialize<S> + Drop> Deserialize<S> for {this} {{\n"
         )?,
     };
@@ -105,7 +106,7 @@ fn put_call(
     keys: &[String],
 ) -> Result<(), AllocError> {
     let mut before = format!(in alloc; "alloc, \"{name}\", &[")?;
-    crate::print::layout::put_items(&mut before, keys)?;
+    put_items(&mut before, keys)?;
     before.push_str("], &missing, presences")?;
     let open = "de.deserialize_fields(";
     let mut whole = Vec::new(alloc);

@@ -1,5 +1,7 @@
 //! `impl From`.
-use crate::print::layout::{COLUMNS, Frame, LIST, put_list, put_pairs, width};
+use crate::print::layout::{
+    COLUMNS, Frame, LIST, pairs_width, put_flat_pairs, put_items, put_lines, put_pairs, width,
+};
 use crate::print::lists::{names, places, types};
 use crate::print::types::{generics, letter, self_type};
 use crate::shape::{Described, Field, Shape};
@@ -22,7 +24,6 @@ pub fn put_from(alloc: Global, out: &mut String, described: &Described) -> Resul
              {name}(value)\n    }}\n}}\n\n"
         ),
         Shape::Fields(fields) => put_struct(alloc, out, described, fields),
-        Shape::Enum { .. } => Ok(()),
     }
 }
 
@@ -64,7 +65,7 @@ fn put_values(
 ) -> Result<String, AllocError> {
     let types = types(alloc, fields)?;
     let mut values = String::new(alloc);
-    crate::print::layout::put_flat_pairs(&mut values, &types, "()")?;
+    put_flat_pairs(&mut values, &types, "()")?;
     let this = self_type(alloc, described)?;
     let generics = generics(alloc, &described.parameter, "")?;
     let header = format!(in alloc; "impl{generics} From<{values}> for {this} {{")?;
@@ -89,16 +90,18 @@ fn put_values(
 
 // Appends the pattern that takes the values apart.
 fn put_let(out: &mut String, names: &[String]) -> Result<(), AllocError> {
-    let mut frame = Frame {
+    let frame = Frame {
         columns: 8,
         before: "let ",
         after: " = values;",
         step: 4,
         most: COLUMNS,
     };
-    let wide = crate::print::layout::pairs_width(names, "()");
-    if wide.saturating_add(22) > COLUMNS && wide.saturating_add(14) <= COLUMNS {
-        frame.after = " =\n            values;";
+    let wide = pairs_width(names, "()");
+    if wide <= COLUMNS - 14 && wide > COLUMNS - 22 {
+        out.push_str("        let ")?;
+        put_flat_pairs(out, names, "()")?;
+        return out.push_str(" =\n            values;\n");
     }
     put_pairs(out, names, "()", frame)
 }
@@ -112,11 +115,11 @@ fn put_made(
 ) -> Result<(), AllocError> {
     let open = format!(in alloc; "{name} {{")?;
     let mut inner = String::new(alloc);
-    crate::print::layout::put_items(&mut inner, names)?;
+    put_items(&mut inner, names)?;
     if width(inner.as_str()) <= STRUCT {
         return write!(out, "        {open} {inner} }}\n");
     }
     write!(out, "        {open}\n")?;
-    crate::print::layout::put_lines(out, 12, names)?;
+    put_lines(out, 12, names)?;
     out.push_str("        }\n")
 }

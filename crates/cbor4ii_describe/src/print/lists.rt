@@ -1,4 +1,7 @@
 //! The lists that are made of the fields of a struct.
+ghost use Rattle.std.specs.Prelude.{◌≡◌, IfOk, string_bytes};
+ghost use Rattle.cbor4ii_describe.specs.Text.{presence_code};
+
 use crate::shape::{Field, Presence};
 use std::alloc::{AllocError, Global};
 
@@ -50,7 +53,9 @@ pub fn presences(alloc: Global, fields: &[Field]) -> Result<Vec<String>, AllocEr
 }
 
 // What a field is where it is missing, as code.
-fn presence(alloc: Global, field: &Field) -> Result<String, AllocError> {
+fn presence(alloc: Global, field: &Field) -> Result<String, AllocError>
+    ensures { IfOk result (λ text. string_bytes text ≡ presence_code field.now) }
+{
     match &field.presence {
         Presence::Required if field.once => String::from_str(alloc, "Once(Required)"),
         Presence::Required => String::from_str(alloc, "Required"),
@@ -63,16 +68,23 @@ fn presence(alloc: Global, field: &Field) -> Result<String, AllocError> {
 /// there.
 pub fn missing(alloc: Global, fields: &[Field]) -> Result<Vec<String>, AllocError> {
     let mut missing = Vec::new(alloc);
-    let mut places: usize = 0;
-    for field in fields {
-        places = places.saturating_add(1);
-        if matches!(field.presence, Presence::Required) {
-            while missing.len() < places - 1 {
-                missing.push(String::from_str(alloc, "\"\"")?)?;
-            }
-            let words = field.words.as_str();
-            missing.push(format!(in alloc; "\"{words}\"")?)?;
-        }
+    for field in fields.iter().take(last_required(fields)) {
+        let words = match field.presence {
+            Presence::Required => field.words.as_str(),
+            _ => "",
+        };
+        missing.push(format!(in alloc; "\"{words}\"")?)?;
     }
     Ok(missing)
+}
+
+// How many fields there are up to the last one that has to be there.
+fn last_required(fields: &[Field]) -> usize {
+    let mut last = 0;
+    for (i, field) in fields.iter().enumerate() {
+        if matches!(field.presence, Presence::Required) {
+            last = i + 1;
+        }
+    }
+    last
 }

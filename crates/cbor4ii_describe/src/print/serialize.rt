@@ -21,7 +21,6 @@ pub fn put_serialize(
     match &described.shape {
         Shape::Newtype { .. } => out.push_str("        self.0.serialize(ser)\n")?,
         Shape::Fields(fields) => put_struct(alloc, out, described.name.as_str(), fields)?,
-        Shape::Enum { .. } => {}
     }
     out.push_str("    }\n}\n\n")
 }

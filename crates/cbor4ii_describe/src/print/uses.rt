@@ -153,13 +153,12 @@ fn wants(described: &Described, why: For) -> bool {
         (_, Shape::Fields(fields)) => fields
             .iter()
             .any(|field| field_wants(field, parameter, why)),
-        _ => false,
     }
 }
 
 // Whether a type in a type names the parameter in this way.
 fn names(its_type: &str, parameter: &Parameter, why: For) -> bool {
-    let Parameter::Type(name) = parameter else {
+    let Parameter::Generic(name) = parameter else {
         return false;
     };
     let is_so = match why {

@@ -1,0 +1,61 @@
+-- What is written of the parts of a type.
+use Rattle.std.specs.Prelude.{◌≡◌, ℕ, List, ◌++◌, codes, string_bytes, Bool, true, false}
+use Rattle.std.specs.declared.string.String.{String}
+use Rattle.std.specs.declared.alloc.Global.{Global}
+use Rattle.cbor4ii_describe.specs.declared.shape.Described.{Described}
+use Rattle.cbor4ii_describe.specs.declared.shape.Field.{Field}
+use Rattle.cbor4ii_describe.specs.declared.shape.Parameter.{Parameter}
+use Rattle.cbor4ii_describe.specs.declared.shape.Parameter.TheVariants.{Nothing, Lifetime, Generic}
+use Rattle.cbor4ii_describe.specs.declared.shape.Presence.{Presence}
+use Rattle.cbor4ii_describe.specs.declared.shape.Presence.TheVariants.{Required, Or, LeftOut}
+
+-- a token was appended, behind other text or none
+abbrev pub AppendsToken : String Global → String Global → List ℕ → Type 0
+AppendsToken old new token =
+    (between : List ℕ) × (string_bytes new ≡ string_bytes old ++ between ++ token)
+
+-- a parameter in its brackets, with a bound where it is a type
+abbrev pub generics : Parameter → List ℕ → List ℕ
+generics Nothing bound = codes ""
+generics (Lifetime p) bound = codes "<" ++ (string_bytes p ++ codes ">")
+generics (Generic p) bound = codes "<" ++ (string_bytes p ++ (bound ++ codes ">"))
+
+-- a name with a parameter behind it
+abbrev pub with_parameter : List ℕ → Parameter → List ℕ
+with_parameter name Nothing = name
+with_parameter name (Lifetime p) = name ++ (codes "<" ++ (string_bytes p ++ codes ">"))
+with_parameter name (Generic p) = name ++ (codes "<" ++ (string_bytes p ++ codes ">"))
+
+-- a type with its parameter
+abbrev pub self_type : Described → List ℕ
+self_type d = with_parameter (string_bytes d.name) d.parameter
+
+-- what a field is where it is missing, as code
+abbrev pub presence_text : Presence → Bool → List ℕ
+presence_text Required true = codes "Once(Required)"
+presence_text Required false = codes "Required"
+presence_text LeftOut once = codes "Optional"
+presence_text (Or code ghost_text) once = codes "Or(" ++ (string_bytes code ++ codes ")")
+
+abbrev pub presence_code : Field → List ℕ
+presence_code field = presence_text field.presence field.once
+
+-- what stands before the codec of a field
+abbrev pub word_text : Presence → Bool → List ℕ → List ℕ → List ℕ
+word_text Required true key words =
+    codes "(with_field_once (codes \"" ++ (key ++ (codes "\") (codes \"" ++ (words ++ codes "\")")))
+word_text Required false key words =
+    codes "(with_field (codes \"" ++ (key ++ (codes "\") (codes \"" ++ (words ++ codes "\")")))
+word_text LeftOut once key words = codes "(with_optional_field (codes \"" ++ (key ++ codes "\")")
+word_text (Or code ghost_text) once key words =
+    codes "(with_field_or (codes \"" ++ (key ++ (codes "\") " ++ string_bytes ghost_text))
+
+abbrev pub field_word : Field → List ℕ
+field_word field =
+    word_text field.presence field.once (string_bytes field.key) (string_bytes field.words)
+
+-- what is promised where a type is read
+abbrev pub impl_typed : Described → List ℕ
+impl_typed d = codes "impl" ++ (generics d.parameter (codes ": AsDescribed") ++ (codes " Typed for "
+    ++ (self_type d ++ (codes " {\n    ghost promise = { ⟦<" ++ (self_type d
+    ++ codes " as Described>⟧.codec.promise };\n}\n\n")))))
