@@ -1,5 +1,5 @@
 -- What is written of the parts of a type.
-use Rattle.std.specs.Prelude.{◌≡◌, ℕ, List, ◌++◌, codes, string_bytes, Bool, true, false}
+use Rattle.std.specs.Prelude.{◌≡◌, ℕ, List, [], ◌∷◌, ◌++◌, codes, string_bytes, Bool, true, false}
 use Rattle.std.specs.declared.string.String.{String}
 use Rattle.std.specs.declared.alloc.Global.{Global}
 use Rattle.cbor4ii_describe.specs.declared.shape.Described.{Described}
@@ -54,8 +54,15 @@ abbrev pub field_word : Field → List ℕ
 field_word field =
     word_text field.presence field.once (string_bytes field.key) (string_bytes field.words)
 
+-- the brackets of a type in a ghost, in UTF-8
+abbrev pub open_bracket : List ℕ
+open_bracket = 226 ∷ 159 ∷ 166 ∷ []
+
+abbrev pub close_bracket : List ℕ
+close_bracket = 226 ∷ 159 ∷ 167 ∷ []
+
 -- what is promised where a type is read
-abbrev pub impl_typed : Described → List ℕ
-impl_typed d = codes "impl" ++ (generics d.parameter (codes ": AsDescribed") ++ (codes " Typed for "
-    ++ (self_type d ++ (codes " {\n    ghost promise = { ⟦<" ++ (self_type d
-    ++ codes " as Described>⟧.codec.promise };\n}\n\n")))))
+abbrev pub typed_text : List ℕ → List ℕ → List ℕ
+typed_text generics this = codes "impl" ++ (generics ++ (codes " Typed for " ++ (this
+    ++ (codes " {\n    ghost promise = { " ++ (open_bracket ++ (codes "<" ++ (this
+    ++ (codes " as Described>" ++ (close_bracket ++ codes ".codec.promise };\n}\n\n")))))))))

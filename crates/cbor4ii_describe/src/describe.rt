@@ -1,4 +1,6 @@
-//! The whole work, over a text.
+//! The whole work, over the input's bytes.
+ghost use Rattle.std.specs.Prelude.{◌≡◌, IsOk, IsUtf8};
+
 use crate::fault::Fault;
 use crate::input::Input;
 use crate::parse::items;
@@ -6,6 +8,23 @@ use crate::print::described::put_described;
 use crate::print::uses::put_uses;
 use crate::tokens::cut;
 use std::alloc::Global;
+use std::str;
+
+/// What `describe` answers of these bytes.
+///
+/// # Errors
+///
+/// - `NotText` where the bytes are not UTF-8
+/// - each other one of `describe`
+pub fn describe_bytes(alloc: Global, bytes: &[u8]) -> Result<String, Fault>
+    ensures text { IsOk result → IsUtf8 bytes.now }
+    ensures not_text { ¬ IsUtf8 bytes.now → result ≡ Err Fault.NotText }
+{
+    match str::from_utf8(bytes) {
+        Ok(text) => describe(alloc, text),
+        Err(_) => Err(Fault::NotText),
+    }
+}
 
 /// The types of `text` as described types: their imports, and for each the type and its impls.
 ///

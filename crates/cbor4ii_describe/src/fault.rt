@@ -74,6 +74,10 @@ impl fmt::Display for Why {
 pub enum Fault {
     /// No memory was found.
     Memory,
+    /// The input cannot be read.
+    Read,
+    /// The input is not UTF-8.
+    NotText,
     /// The input has a form that is not written.
     Refused {
         /// The line, counted from 1.
@@ -87,6 +91,8 @@ impl fmt::Display for Fault {
     fn fmt<W: fmt::Write>(&self, f: &mut fmt::Formatter<W>) -> fmt::Result {
         match self {
             Fault::Memory => write!(f, "no memory was found"),
+            Fault::Read => write!(f, "the input cannot be read"),
+            Fault::NotText => write!(f, "the input is not UTF-8"),
             Fault::Refused { line, why } => write!(f, "line {line}: {why}"),
         }
     }

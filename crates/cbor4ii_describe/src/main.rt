@@ -18,21 +18,19 @@ mod tests;
 mod tokens;
 mod types;
 
-use std::io::{Read, Write};
+use crate::fault::Fault;
+use std::io::{ErrorKind, Read};
 use std::process::ExitCode;
 
 fn main(rt: HostRuntime) -> ExitCode {
     let alloc = rt.alloc();
-    let mut text = Vec::new(alloc);
-    if rt.reader().read_to_end(&mut text).is_err() {
-        let _ = rt.eprintln("the input cannot be read");
-        return ExitCode::FAILURE;
-    }
-    let Ok(text) = String::from_utf8(text) else {
-        let _ = rt.eprintln("the input is not UTF-8");
-        return ExitCode::FAILURE;
+    let mut bytes = Vec::new(alloc);
+    let outcome = match rt.reader().read_to_end(&mut bytes) {
+        Ok(_) => describe::describe_bytes(alloc, &bytes),
+        Err(error) if error.kind() == ErrorKind::OutOfMemory => Err(Fault::Memory),
+        Err(_) => Err(Fault::Read),
     };
-    match describe::describe(alloc, text.as_str()) {
+    match outcome {
         Ok(out) if rt.print(out.as_str()).is_ok() => ExitCode::SUCCESS,
         Ok(_) => ExitCode::FAILURE,
         Err(fault) => {

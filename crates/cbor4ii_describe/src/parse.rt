@@ -1,5 +1,5 @@
 //! Structs, read from their tokens.
-ghost use Rattle.std.specs.Prelude.{◌≡◌, OnOk};
+ghost use Rattle.std.specs.Prelude.{◌≡◌, ◌<◌, ◌≤◌, OnOk, IfOk, IfNone, length, vec_len};
 ghost use Rattle.cbor4ii_describe.specs.Input.{left_count, Shorter, NoLonger};
 
 use crate::fault::{Fault, Why, refused};
@@ -120,7 +120,8 @@ fn unnamed(alloc: Global, input: &mut Input) -> Result<(Head, String), Fault>
 
 // Takes the fields up to the bracket that closes them, of a struct or a variant of this name.
 fn fields(alloc: Global, input: &mut Input, owner: &str) -> Result<Vec<Field>, Fault>
-    ensures { OnOk result (Shorter input.old input.new) }
+    ensures takes { OnOk result (Shorter input.old input.new) }
+    ensures count { IfOk result (λ fields. (0 < vec_len fields) × (vec_len fields ≤ 12)) }
 {
     let mut fields = Vec::new(alloc);
     while !input.took("}") {
@@ -134,7 +135,9 @@ fn fields(alloc: Global, input: &mut Input, owner: &str) -> Result<Vec<Field>, F
 }
 
 // What is wrong with these fields together, if anything is.
-fn wrong(fields: &[Field]) -> Option<Why> {
+fn wrong(fields: &[Field]) -> Option<Why>
+    ensures { IfNone result ((0 < length fields.now) × (length fields.now ≤ 12)) }
+{
     let left_out = fields
         .iter()
         .filter(|field| matches!(field.presence, Presence::LeftOut))

@@ -1,4 +1,7 @@
 //! A text of Rust, cut into tokens.
+ghost use Rattle.std.specs.Prelude.{◌≡◌, ◌++◌, OnOk, IfOk, encode_utf8};
+ghost use Rattle.cbor4ii_describe.specs.Tokens.{text_of, joined};
+
 use crate::fault::Fault;
 use std::alloc::{AllocError, Global};
 use std::mem;
@@ -70,7 +73,9 @@ struct Cutting {
 }
 
 // Takes one more character.
-fn take(alloc: Global, cut: &mut Cutting, c: char) -> Result<(), Fault> {
+fn take(alloc: Global, cut: &mut Cutting, c: char) -> Result<(), Fault>
+    ensures { OnOk result (text_of cut.new ≡ text_of cut.old ++ encode_utf8 c) }
+{
     match joined(cut.now.kind, c) {
         Some(kind) => {
             cut.now.text.push(c)?;
@@ -94,8 +99,11 @@ fn take(alloc: Global, cut: &mut Cutting, c: char) -> Result<(), Fault> {
     Ok(())
 }
 
-/// The tokens of a text, white space and comments among them, behind an empty one.
-pub fn cut(alloc: Global, text: &str) -> Result<Vec<Token>, Fault> {
+/// The tokens of a text, white space and comments among them, behind an empty one. Their texts
+/// behind one another are the text.
+pub fn cut(alloc: Global, text: &str) -> Result<Vec<Token>, Fault>
+    ensures { IfOk result (λ tokens. joined tokens.items ≡ text.now) }
+{
     let mut cut = Cutting {
         done: Vec::new(alloc),
         now: Token {

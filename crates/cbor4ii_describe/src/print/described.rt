@@ -1,6 +1,6 @@
 //! A described type: the type itself, and its impls.
 ghost use Rattle.std.specs.Prelude.{◌≡◌, ◌++◌, OnOk, string_bytes};
-ghost use Rattle.cbor4ii_describe.specs.Text.{impl_typed};
+ghost use Rattle.cbor4ii_describe.specs.Text.{typed_text};
 
 use crate::fault::Fault;
 use crate::print::codec::{codec, put_fields};
@@ -63,11 +63,17 @@ fn put_field(out: &mut String, field: &Field) -> Result<(), AllocError> {
 }
 
 // Appends what is promised where the type is read.
-fn put_typed(alloc: Global, out: &mut String, described: &Described) -> Result<(), AllocError>
-    ensures { OnOk result (string_bytes out.new ≡ string_bytes out.old ++ impl_typed described.now) }
-{
+fn put_typed(alloc: Global, out: &mut String, described: &Described) -> Result<(), AllocError> {
     let this = self_type(alloc, described)?;
     let generics = generics(alloc, &described.parameter, ": AsDescribed")?;
+    put_promise(out, generics.as_str(), this.as_str())
+}
+
+// Appends the same for a type of this text, behind these generics.
+fn put_promise(out: &mut String, generics: &str, this: &str) -> Result<(), AllocError>
+    ensures { OnOk result (string_bytes out.new
+        ≡ string_bytes out.old ++ typed_text generics.now this.now) }
+{
     write!(
         out,
         "impl{generics} Typed for {this} {{\n    ghost promise = {{ ⟦<{this} as \

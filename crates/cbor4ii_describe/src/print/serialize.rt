@@ -1,4 +1,6 @@
 //! `impl Serialize`.
+ghost use Rattle.std.specs.Prelude.{◌≡◌, ◌≢◌, ◌++◌, IfOk, codes, decimal, string_bytes};
+
 use crate::print::layout::{is_on_one_line, put_list};
 use crate::print::types::{generics, self_type};
 use crate::shape::{Described, Field, Presence, Shape};
@@ -65,7 +67,12 @@ fn put_struct(
 }
 
 // The call that writes so many fields, up to its bracket.
-fn call(alloc: Global, count: usize) -> Result<String, AllocError> {
+fn call(alloc: Global, count: usize) -> Result<String, AllocError>
+    ensures one { count ≡ 1 →
+        IfOk result (λ text. string_bytes text ≡ codes "ser.serialize_1_field(") }
+    ensures more { count ≢ 1 → IfOk result (λ text. string_bytes text
+        ≡ codes "ser.serialize_" ++ (decimal count ++ codes "_fields(")) }
+{
     match count {
         1 => String::from_str(alloc, "ser.serialize_1_field("),
         _ => format!(in alloc; "ser.serialize_{count}_fields("),
