@@ -48,29 +48,25 @@ impl<A: Serialize, B: Serialize, C: Serialize> Put for Three<A, B, C> {
     }
 }
 
-/// This element 24 times, whose count has a byte of its own.
+/// This element twelve times.
 #[derive(Drop)]
-struct TwentyFour(u8);
+struct Twelve(u8);
 
-impl Put for TwentyFour {
+impl Put for Twelve {
     fn put<W: Write>(&self, ser: &mut Serializer<W>) -> Result<(), EncodeError<W::Error>> {
         let a = &self.0;
-        let six = (a, (a, (a, (a, (a, (a, ()))))));
-        let twelve = (a, (a, (a, (a, (a, (a, six))))));
-        let eighteen = (a, (a, (a, (a, (a, (a, twelve))))));
-        ser.serialize_elements(&(a, (a, (a, (a, (a, (a, eighteen)))))))
+        ser.serialize_elements(&(a, (a, (a, (a, (a, (a, (a, (a, (a, (a, (a, (a, ())))))))))))))
     }
 }
 
-const TWENTY_FOUR: &[u8] = b"\x98\x18\x07\x07\x07\x07\x07\x07\x07\x07\x07\x07\x07\x07\
-\x07\x07\x07\x07\x07\x07\x07\x07\x07\x07\x07\x07";
+const TWELVE: &[u8] = b"\x8c\x07\x07\x07\x07\x07\x07\x07\x07\x07\x07\x07\x07";
 
 #[test]
 fn any_number_of_elements(rt: HostRuntime) -> Result<(), Fail> {
     let alloc = rt.alloc();
     writes(alloc, &Typed(NoElement), b"\x80")?;
     writes(alloc, &Typed(One(500u16)), b"\x81\x19\x01\xf4")?;
-    writes(alloc, &Typed(TwentyFour(7)), TWENTY_FOUR)?;
+    writes(alloc, &Typed(Twelve(7)), TWELVE)?;
     Ok(())
 }
 
