@@ -5,7 +5,7 @@ use Rattle.cbor4ii_items.specs.Numbers.{shortest_head}
 use Rattle.cbor4ii_tree.specs.Item.{Item, Items, Members, integer, text, sequence, mapping, item}
 use Rattle.cbor4ii_tree.specs.Item.{no_items, member, no_members}
 use Rattle.cbor4ii_ser.specs.Item.{Encoding, encoded, field, variant_encoding}
-use Rattle.cbor4ii_ser.specs.Item.{tuple_variant_encoding, struct_variant_encoding}
+use Rattle.cbor4ii_ser.specs.Item.{tuple_variant_encoding, struct_encoding}
 use Rattle.cbor4ii_examples.specs.declared.shape.Shape.{Shape, fold-Shape}
 use Rattle.cbor4ii_examples.specs.declared.shape.Shape.TheOpen.{Shape-F}
 
@@ -33,9 +33,9 @@ shape_step (Shape-F.Circle radius) =
     variant_encoding (codes "Circle") (encoded (shortest_head 0 radius))
 shape_step (Shape-F.Pair first second) =
     tuple_variant_encoding (codes "Pair") (first.value ∷ second.value ∷ [])
-shape_step (Shape-F.Framed width inner) = struct_variant_encoding (codes "Framed")
+shape_step (Shape-F.Framed width inner) = variant_encoding (codes "Framed") (struct_encoding
     (field (codes "width") (encoded (shortest_head 0 width))
-    ∷ field (codes "inner") inner.value ∷ [])
+    ∷ field (codes "inner") inner.value ∷ []))
 
 abbrev pub shape_item : Shape → Encoding
 shape_item = fold-Shape Encoding shape_step
