@@ -108,7 +108,11 @@ fn found_in(alloc: Global, members: &[(Value, Value)]) -> Result<Found, Unmade>
     ensures { MakesShown (codes "no tree") seen
         (members_at (members_view members.now) nothing_seen) result }
 {
-    let mut found = Found { id: None, name: None, children: Vec::new(alloc) };
+    let mut found = Found {
+        id: None,
+        name: None,
+        children: Vec::new(alloc),
+    };
     for member in members {
         found = with_member(alloc, &member.1, &member.0, found)?;
     }
@@ -136,7 +140,10 @@ fn with_id(found: Found, value: &Value) -> Found
     ensures { seen result ≡ with_id (seen found) (view value.now) }
 {
     match value {
-        Value::Integer(number) => Found { id: u64::try_from(*number).ok(), ..found },
+        Value::Integer(number) => Found {
+            id: u64::try_from(*number).ok(),
+            ..found
+        },
         _ => found,
     }
 }
@@ -148,7 +155,10 @@ fn with_name(alloc: Global, found: Found, value: &Value) -> Result<Found, Unmade
     match value {
         Value::Text(text) => {
             let name = String::from_str(alloc, text.as_str())?;
-            Ok(Found { name: Some(name), ..found })
+            Ok(Found {
+                name: Some(name),
+                ..found
+            })
         }
         _ => Ok(found),
     }
@@ -188,7 +198,11 @@ fn made(found: Found) -> Result<Tree, Unmade>
         (made_from (seen found).id (seen found).name (seen found).children) result }
 {
     match (found.id, found.name) {
-        (Some(id), Some(name)) => Ok(Tree { id, name, children: found.children }),
+        (Some(id), Some(name)) => Ok(Tree {
+            id,
+            name,
+            children: found.children,
+        }),
         _ => Err(Unmade::Rejected("no tree")),
     }
 }

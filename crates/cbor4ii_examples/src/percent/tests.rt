@@ -1,7 +1,7 @@
 //! Rows of a newtype with a test.
 use crate::percent::Percent;
 use cbor4ii::dec::Source;
-use cbor4ii::serde::{DecodeError, Deserialize, Deserializer};
+use cbor4ii::serde::{DecodeError, Deserialize, Deserializer, described_values_are_read_back};
 use cbor4ii_vectors::{eof, mismatch, table};
 use cbor4ii_vectors_de::typed::{
     Answer, BothShown, Rejected, RowShown, Take, comes_back, rejects, tries_shown,
@@ -50,4 +50,11 @@ fn percents_are_written_and_read(rt: HostRuntime) -> Result<(), Fail> {
 fn a_vector_of_percents_comes_back(rt: HostRuntime) -> Result<(), Fail> {
     let text = "[Percent { value: 0 }, Percent { value: 100 }]";
     comes_back::<Vec<Percent>>(rt.alloc(), b"\x82\x00\x18\x64", text)
+}
+
+#[test]
+fn the_law_is_called(rt: HostRuntime) -> Result<(), Fail> {
+    described_values_are_read_back::<Percent>();
+    described_values_are_read_back::<Vec<Percent>>();
+    Ok(())
 }
