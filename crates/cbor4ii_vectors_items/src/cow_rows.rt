@@ -36,29 +36,18 @@ fn content(text: CowStr<'_, Global>) -> CowSlice<'_, u8, Global> {
     }
 }
 
-/// Content that is borrowed or owned, or the text of the error.
-pub type Found<'de> = Result<CowSlice<'de, u8, Global>, InlineText<128>>;
-
-fn text<'de, R: Read<'de>>(alloc: Global, reader: &mut R) -> Found<'de> {
-    Ok(content(reported(CowStr::decode(alloc, reader))?))
-}
-
-fn unchecked<'de, R: Read<'de>>(alloc: Global, reader: &mut R) -> Found<'de> {
-    let UncheckedStr(content) = reported(Decode::decode(alloc, reader))?;
-    Ok(content)
-}
-
-fn bytes<'de, R: Read<'de>>(alloc: Global, reader: &mut R) -> Found<'de> {
-    let Bytes(content) = reported(Decode::decode(alloc, reader))?;
-    Ok(content)
-}
-
 /// What is read, or the text of the error.
-pub fn decode<'de, R: Read<'de>>(kind: Kind, alloc: Global, reader: &mut R) -> Found<'de> {
+pub fn decode<'de, R: Read<'de>>(
+    kind: Kind,
+    alloc: Global,
+    reader: &mut R,
+) -> Result<CowSlice<'de, u8, Global>, InlineText<128>> {
     match kind {
-        Kind::Text => text(alloc, reader),
-        Kind::Unchecked => unchecked(alloc, reader),
-        Kind::Bytes => bytes(alloc, reader),
+        Kind::Text => Ok(content(reported(CowStr::decode(alloc, reader))?)),
+        Kind::Unchecked => {
+            Ok(reported(UncheckedStr::<CowSlice<'de, u8, Global>>::decode(alloc, reader))?.0)
+        }
+        Kind::Bytes => Ok(reported(Bytes::<CowSlice<'de, u8, Global>>::decode(alloc, reader))?.0),
     }
 }
 

@@ -1,6 +1,6 @@
 //! Rows of breaks, and of whether another part of an array or a map follows.
+use crate::rw::shown::takes;
 use cbor4ii_items::indefinite::{follows, is_break};
-use cbor4ii_rw::ask;
 use cbor4ii_rw::error::DecodeError;
 use cbor4ii_rw::read::Source;
 use cbor4ii_rw::slice_reader::SliceReader;
@@ -51,22 +51,26 @@ fn parts_are_counted_down() -> Result<(), Fail> {
     same(reader.remaining(), b"\xff")
 }
 
-// A part follows, and the length is still indefinite; once it is taken there is a break, and then
-// no part is left, whatever follows.
-fn ends_by_a_break<S: Source>(reader: &mut S) -> Result<(), Fail> {
-    let mut len = None;
-    says(reader, &mut len, "Ok(true)")?;
-    same(len, None)?;
-    same(ask::next_byte(reader).or(Err("a look fails"))?, Some(1))?;
-    says(reader, &mut len, "Ok(false)")?;
-    same(len, Some(0))?;
-    says(reader, &mut len, "Ok(false)")
+// Whether a part follows has this text, and this is the length then.
+fn leaves<S: Source>(
+    reader: &mut S,
+    len: &mut Option<usize>,
+    text: &str,
+    left: Option<usize>,
+) -> Result<(), Fail> {
+    says(reader, len, text)?;
+    same(*len, left)
 }
 
+// After the break no part follows, whatever stands there.
 #[test]
 fn a_break_ends_the_parts() -> Result<(), Fail> {
     let mut reader = SliceReader::new(b"\x01\xff\xff");
-    ends_by_a_break(&mut reader)?;
+    let mut len = None;
+    leaves(&mut reader, &mut len, "Ok(true)", None)?;
+    takes(&mut reader, &[Some(1)])?;
+    leaves(&mut reader, &mut len, "Ok(false)", Some(0))?;
+    leaves(&mut reader, &mut len, "Ok(false)", Some(0))?;
     same(reader.remaining(), b"\xff")
 }
 

@@ -53,32 +53,39 @@ fn between(
     Ok(bytes.leak())
 }
 
+// 300 items between a head and an end.
+fn reads_items(alloc: Global, head: &[u8], end: &[u8]) -> Result<(), Fail> {
+    let bytes = between(alloc, head, &numbers(alloc, 300)?, end)?;
+    reads_by_each(alloc, bytes, 256, &Ok(numbers(alloc, 300)?), b"")
+}
+
 #[test]
 fn arrays_of_300_items(rt: HostRuntime) -> Result<(), Fail> {
     let alloc = rt.alloc();
-    let items = numbers(alloc, 300)?;
-    let counted = between(alloc, b"\x99\x01\x2c", &items, b"")?;
-    let indefinite = between(alloc, b"\x9f", &items, b"\xff")?;
-    for bytes in [counted, indefinite] {
-        reads_by_each(alloc, bytes, 256, &Ok(numbers(alloc, 300)?), b"")?;
+    reads_items(alloc, b"\x99\x01\x2c", b"")?;
+    reads_items(alloc, b"\x9f", b"\xff")
+}
+
+fn pairs(alloc: Global, items: &[u8]) -> Result<Vec<(u8, u8)>, AllocError> {
+    let mut pairs = Vec::with_capacity(alloc, 300)?;
+    for pair in items.chunks_exact(2) {
+        pairs.push((pair[0], pair[1]))?;
     }
-    Ok(())
+    Ok(pairs)
+}
+
+// 300 pairs between a head and an end.
+fn reads_pairs(alloc: Global, head: &[u8], end: &[u8]) -> Result<(), Fail> {
+    let items = numbers(alloc, 600)?;
+    let bytes = between(alloc, head, &items, end)?;
+    reads_by_each(alloc, bytes, 256, &Ok(Map(pairs(alloc, &items)?)), b"")
 }
 
 #[test]
 fn maps_of_300_pairs(rt: HostRuntime) -> Result<(), Fail> {
     let alloc = rt.alloc();
-    let items = numbers(alloc, 600)?;
-    let counted = between(alloc, b"\xb9\x01\x2c", &items, b"")?;
-    let indefinite = between(alloc, b"\xbf", &items, b"\xff")?;
-    for bytes in [counted, indefinite] {
-        let mut pairs = Vec::with_capacity(alloc, 300)?;
-        for pair in items.chunks_exact(2) {
-            pairs.push((pair[0], pair[1]))?;
-        }
-        reads_by_each(alloc, bytes, 256, &Ok(Map(pairs)), b"")?;
-    }
-    Ok(())
+    reads_pairs(alloc, b"\xb9\x01\x2c", b"")?;
+    reads_pairs(alloc, b"\xbf", b"\xff")
 }
 
 // Chunks of 20 bytes, each after this head.
@@ -91,44 +98,38 @@ fn in_chunks(alloc: Global, content: &[u8], head: u8) -> Result<Vec<u8>, AllocEr
     Ok(bytes)
 }
 
+// 20,000 bytes, as they stand between a head and an end: a byte string.
+fn reads_bytes(alloc: Global, head: &[u8], inner: &[u8], end: &[u8]) -> Result<(), Fail> {
+    let bytes = between(alloc, head, inner, end)?;
+    reads_by_each(alloc, bytes, 256, &Ok(Bytes(numbers(alloc, 20_000)?)), b"")
+}
+
 #[test]
 fn byte_strings_of_20000_bytes(rt: HostRuntime) -> Result<(), Fail> {
     let alloc = rt.alloc();
     let content = numbers(alloc, 20_000)?;
-    let counted = between(alloc, b"\x59\x4e\x20", &content, b"")?;
     // 0x54 is the head of a chunk of 20 bytes.
     let chunks = in_chunks(alloc, &content, 0x54)?;
-    let indefinite = between(alloc, b"\x5f", &chunks, b"\xff")?;
-    let one_chunk = between(alloc, b"\x5f\x59\x4e\x20", &content, b"\xff")?;
-    for bytes in [counted, indefinite, one_chunk] {
-        reads_by_each(alloc, bytes, 256, &Ok(Bytes(numbers(alloc, 20_000)?)), b"")?;
-    }
-    Ok(())
+    reads_bytes(alloc, b"\x59\x4e\x20", &content, b"")?;
+    reads_bytes(alloc, b"\x5f", &chunks, b"\xff")?;
+    reads_bytes(alloc, b"\x5f\x59\x4e\x20", &content, b"\xff")
+}
+
+// The same of a text, unchecked and checked.
+fn reads_text(alloc: Global, head: &[u8], inner: &[u8], end: &[u8]) -> Result<(), Fail> {
+    let bytes = between(alloc, head, inner, end)?;
+    let unchecked = UncheckedStr(numbers(alloc, 20_000)?);
+    reads_by_each(alloc, bytes, 256, &Ok(unchecked), b"")?;
+    let text = String::from_utf8(numbers(alloc, 20_000)?)?;
+    reads_by_each(alloc, bytes, 256, &Ok(text), b"")
 }
 
 #[test]
 fn texts_of_20000_bytes(rt: HostRuntime) -> Result<(), Fail> {
     let alloc = rt.alloc();
     let content = numbers(alloc, 20_000)?;
-    let counted = between(alloc, b"\x79\x4e\x20", &content, b"")?;
     // 0x74 is the head of a chunk of 20 bytes.
     let chunks = in_chunks(alloc, &content, 0x74)?;
-    let indefinite = between(alloc, b"\x7f", &chunks, b"\xff")?;
-    for bytes in [counted, indefinite] {
-        reads_by_each(
-            alloc,
-            bytes,
-            256,
-            &Ok(UncheckedStr(numbers(alloc, 20_000)?)),
-            b"",
-        )?;
-        reads_by_each(
-            alloc,
-            bytes,
-            256,
-            &Ok(String::from_utf8(numbers(alloc, 20_000)?)?),
-            b"",
-        )?;
-    }
-    Ok(())
+    reads_text(alloc, b"\x79\x4e\x20", &content, b"")?;
+    reads_text(alloc, b"\x7f", &chunks, b"\xff")
 }

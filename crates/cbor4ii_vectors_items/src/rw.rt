@@ -10,6 +10,6 @@ mod io_reader;
 mod io_writer;
 mod read;
 mod segment_reader;
-mod shown;
+pub mod shown;
 mod slice_reader;
 mod steps;

@@ -67,15 +67,24 @@ fn read<T: Decode<S>, S: Source>(alloc: Global, reader: &mut S) -> Result<T, Fai
     Ok(T::decode(alloc, reader)?)
 }
 
+// The next text is this one, which is lent, or owned.
+fn lends<'de, R: Read<'de>>(alloc: Global, reader: &mut R, want: &str) -> Result<(), Fail> {
+    let text: &str = read(alloc, reader)?;
+    same(text, want)
+}
+
+fn owns<S: Source>(alloc: Global, reader: &mut S, want: &str) -> Result<(), Fail> {
+    let text: String = read(alloc, reader)?;
+    same(text.as_str(), want)
+}
+
 #[test]
 fn references_to_readers(rt: HostRuntime) -> Result<(), Fail> {
     let alloc = rt.alloc();
     let mut reader = SliceReader::new(b"\x63123\x61a");
-    let borrowed: &str = read(alloc, &mut &mut reader)?;
+    lends(alloc, &mut &mut reader, "123")?;
     let left = reader.remaining();
-    let owned: String = read(alloc, &mut &mut reader)?;
-    same(borrowed, "123")?;
-    same(owned.as_str(), "a")?;
+    owns(alloc, &mut &mut reader, "a")?;
     same([left, reader.remaining()], [b"\x61a".as_slice(), b""])
 }
 
