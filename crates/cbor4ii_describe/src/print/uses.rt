@@ -26,40 +26,50 @@ enum For {
     OrSigned,
 }
 
+// A file of ghost words.
+#[derive(Clone, Copy, PartialEq, Eq)]
+enum File {
+    Prelude,
+    Common,
+    Codec,
+    CodecAgrees,
+    CodecFields,
+    Fields,
+}
+
+// The path of a file of ghost words.
+fn path(file: File) -> &'static str {
+    match file {
+        File::Prelude => "std.specs.Prelude",
+        File::Common => "std.proofs.Common",
+        File::Codec => "cbor4ii.specs.Codec",
+        File::CodecAgrees => "cbor4ii.specs.CodecAgrees",
+        File::CodecFields => "cbor4ii.specs.CodecFields",
+        File::Fields => "cbor4ii.specs.Fields",
+    }
+}
+
 // The ghost words: where each is defined, and what it is imported for.
-const WORDS: [(&str, &str, For); 20] = [
-    ("std.specs.Prelude", "◌≡◌", For::Each),
-    ("std.specs.Prelude", "None", For::OrNone),
-    ("std.specs.Prelude", "true", For::OrTrue),
-    ("std.specs.Prelude", "false", For::OrFalse),
-    ("std.specs.Prelude", "pos", For::OrSigned),
-    ("std.specs.Prelude", "codes", For::Struct),
-    ("std.proofs.Common", "refl", For::Struct),
-    ("cbor4ii.specs.Codec", "codec_of", For::Newtype),
-    (
-        "cbor4ii.specs.Codec",
-        "option_codec",
-        For::OptionOfParameter,
-    ),
-    (
-        "cbor4ii.specs.Codec",
-        "vector_codec",
-        For::VectorOfParameter,
-    ),
-    ("cbor4ii.specs.CodecAgrees", "as_described", For::Each),
-    ("cbor4ii.specs.CodecAgrees", "its_codec", For::Parameter),
-    ("cbor4ii.specs.CodecFields", "struct_codec", For::Struct),
-    ("cbor4ii.specs.CodecFields", "with_field", For::Required),
-    ("cbor4ii.specs.CodecFields", "with_field_once", For::Once),
-    ("cbor4ii.specs.CodecFields", "with_field_or", For::Or),
-    (
-        "cbor4ii.specs.CodecFields",
-        "with_optional_field",
-        For::LeftOut,
-    ),
-    ("cbor4ii.specs.CodecFields", "no_fields", For::Struct),
-    ("cbor4ii.specs.Fields", "no_values", For::Struct),
-    ("", "", For::Each),
+const WORDS: [(File, &str, For); 19] = [
+    (File::Prelude, "◌≡◌", For::Each),
+    (File::Prelude, "None", For::OrNone),
+    (File::Prelude, "true", For::OrTrue),
+    (File::Prelude, "false", For::OrFalse),
+    (File::Prelude, "pos", For::OrSigned),
+    (File::Prelude, "codes", For::Struct),
+    (File::Common, "refl", For::Struct),
+    (File::Codec, "codec_of", For::Newtype),
+    (File::Codec, "option_codec", For::OptionOfParameter),
+    (File::Codec, "vector_codec", For::VectorOfParameter),
+    (File::CodecAgrees, "as_described", For::Each),
+    (File::CodecAgrees, "its_codec", For::Parameter),
+    (File::CodecFields, "struct_codec", For::Struct),
+    (File::CodecFields, "with_field", For::Required),
+    (File::CodecFields, "with_field_once", For::Once),
+    (File::CodecFields, "with_field_or", For::Or),
+    (File::CodecFields, "with_optional_field", For::LeftOut),
+    (File::CodecFields, "no_fields", For::Struct),
+    (File::Fields, "no_values", For::Struct),
 ];
 
 // The names of `cbor4ii::serde`, in order.
@@ -101,26 +111,39 @@ pub fn put_uses(alloc: Global, out: &mut String, types: &[Described]) -> Result<
 
 // Appends the lines of the ghost words: as many words of one file on a line as it has room for.
 fn put_words(out: &mut String, types: &[Described]) -> Result<(), AllocError> {
-    let mut file = "";
+    let mut open = None;
     let mut at: usize = 0;
-    for (next, word, why) in WORDS {
-        let more = width(word).saturating_add(2);
-        if file != "" && (file != next || at.saturating_add(more) > COLUMNS) {
-            out.push_str("};\n")?;
-            file = "";
-        }
-        if next != "" && is_wanted(types, why) {
-            if file == "" {
-                write!(out, "ghost use Rattle.{next}.{{{word}")?;
-                at = width(next).saturating_add(width(word)).saturating_add(21);
-            } else {
+    for (file, word, why) in WORDS {
+        if is_wanted(types, why) {
+            let more = width(word).saturating_add(2);
+            if open == Some(file) && at.saturating_add(more) <= COLUMNS {
                 write!(out, ", {word}")?;
                 at = at.saturating_add(more);
+            } else {
+                end_line(out, open.is_some())?;
+                begin_line(out, path(file), word)?;
+                at = width(path(file))
+                    .saturating_add(width(word))
+                    .saturating_add(21);
             }
-            file = next;
+            open = Some(file);
         }
     }
-    Ok(())
+    end_line(out, open.is_some())
+}
+
+// Appends what begins a line of ghost words.
+fn begin_line(out: &mut String, file: &str, word: &str) -> Result<(), AllocError> {
+    write!(out, "ghost use Rattle.{file}.{{{word}")
+}
+
+// Appends what ends a line of ghost words, where one is open.
+fn end_line(out: &mut String, is_open: bool) -> Result<(), AllocError> {
+    if is_open {
+        out.push_str("};\n")
+    } else {
+        Ok(())
+    }
 }
 
 // The names of `cbor4ii::serde` that these types name.
