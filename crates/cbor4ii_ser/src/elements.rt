@@ -11,7 +11,8 @@ use crate::slot::has_large_error;
 use cbor4ii_rw::write::Write;
 
 /// Elements of an array that is written in one call: nested pairs of references, in order, as
-/// `(&first, (&second, ()))`. There may be any number of them.
+/// `(&first, (&second, ()))`. A call with sixteen is proved, and one with twenty ends in the
+/// prover's `step-limit`.
 pub trait SerializeElements {
     // What is written for each, in order.
     ghost elements: { Self → List Encoding };
