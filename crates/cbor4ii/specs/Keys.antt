@@ -18,7 +18,8 @@ use Rattle.cbor4ii_items.specs.Sequences.{ReadsSequence, ReadsPair, SamePair, in
 use Rattle.cbor4ii_items.specs.Strings.{RejectsText, text_content}
 use Rattle.cbor4ii_ser.specs.Listed.{integer_label}
 use Rattle.cbor4ii.specs.Beginning.{RejectsParts}
-use Rattle.cbor4ii.specs.Fields.{ReadsNamed, RejectsNamed, NamedLaws, SameChange, ReadsName, changed}
+use Rattle.cbor4ii.specs.Fields.{ReadsNamed, RejectsNamed, NamedLaws, SameChange, ReadsName}
+use Rattle.cbor4ii.specs.Fields.{changed}
 use Rattle.cbor4ii.specs.Fields.{changed_same}
 use Rattle.cbor4ii.specs.Made.{made_or_rejected}
 use Rattle.cbor4ii.specs.Presence.{Shape}

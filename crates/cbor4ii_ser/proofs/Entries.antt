@@ -1,9 +1,11 @@
 -- Fields that are written from a list.
-use Rattle.std.proofs.Common.{◌≡◌, ◌≤◌, ◌-◌, ℕ, suc, List, [], ◌∷◌, ◌++◌, length, take, drop, get_or}
+use Rattle.std.proofs.Common.{◌≡◌, ◌≤◌, ◌-◌, ℕ, suc, List, [], ◌∷◌, ◌++◌, length, take, drop}
+use Rattle.std.proofs.Common.{get_or}
 use Rattle.std.proofs.Common.{refl, sym, ap, ◌∙◌, arith}
 use Rattle.std.proofs.Math.Seq.{take-length}
 use Rattle.cbor4ii_ser.specs.Item.{Encoding, encoded, followed, parts}
-use Rattle.cbor4ii_ser.specs.Listed.{NamedItems, Joins, keyed_entries, keyed_encoding, labels_of, ◌▹◌}
+use Rattle.cbor4ii_ser.specs.Listed.{NamedItems, Joins, keyed_entries, keyed_encoding, labels_of}
+use Rattle.cbor4ii_ser.specs.Listed.{◌▹◌}
 use Rattle.cbor4ii_ser.specs.Laws.Joining.{items_append}
 use Rattle.cbor4ii_items.specs.Numbers.{shortest_head}
 
