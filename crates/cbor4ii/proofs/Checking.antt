@@ -1,5 +1,5 @@
 -- What a call answers that makes a value of another one by a test.
-use Rattle.std.proofs.Common.{◌≡◌, inl, inr, ℕ, List, drop, Option, None, Some, Ok, Err, Bool}
+use Rattle.std.proofs.Common.{◌≡◌, inl, inr, ℕ, List, drop, Option, Some, Ok, Err, Bool}
 use Rattle.std.proofs.Common.{IsTrue, true, false, refl}
 use Rattle.std.specs.Prelude.{◌||◌}
 use denote.Ref.{Bor}

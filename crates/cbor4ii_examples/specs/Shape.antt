@@ -1,5 +1,5 @@
 -- Which items are shapes, and how shapes are written.
-use Rattle.std.specs.Prelude.{ℕ, ◌∷◌, [], ◌^◌, pos, List, Bool, false, Option, None, Some, codes}
+use Rattle.std.specs.Prelude.{ℕ, ◌∷◌, [], pos, List, Bool, false, Option, None, Some, codes}
 use Rattle.std.specs.Prelude.{bytes_eq, nat_lt, if◌then◌else◌, option_map}
 use Rattle.cbor4ii_items.specs.Numbers.{shortest_head}
 use Rattle.cbor4ii_tree.specs.Item.{Item, Items, Members, integer, text, sequence, mapping, item}

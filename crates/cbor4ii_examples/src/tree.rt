@@ -4,10 +4,10 @@ ghost use Rattle.std.specs.Prelude.{◌≡◌, Some, codes};
 ghost use Rattle.std.proofs.Common.{ap};
 ghost use Rattle.cbor4ii_tree.specs.View.{view, items_view, members_view};
 ghost use Rattle.cbor4ii.specs.Checked.{MakesShown, shown_from, words_unless};
-ghost use Rattle.cbor4ii_examples.specs.Tree.{tree_item, tree_node, vector_nodes, node_at, nodes_at};
+ghost use Rattle.cbor4ii_examples.specs.Tree.{tree_item, tree_node, vector_nodes, node_at};
 ghost use Rattle.cbor4ii_examples.specs.Tree.{seen, nothing_seen, with_id, with_name};
 ghost use Rattle.cbor4ii_examples.specs.Tree.{with_children, with_member, made_from};
-ghost use Rattle.cbor4ii_examples.specs.Tree.{members_at, children_at};
+ghost use Rattle.cbor4ii_examples.specs.Tree.{members_at, children_at, nodes_at};
 
 use crate::shape::is_text;
 use cbor4ii::Value;

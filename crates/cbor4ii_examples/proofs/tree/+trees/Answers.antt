@@ -13,7 +13,8 @@ found_in-loop-member-preserved t c =
 pub found_in-returns-in_err-found : goal.found_in-returns-in_err-found
 found_in-returns-in_err-found t c =
     let p = err_from_is_err_and c.from_residual.result c.from_residual.ensures.1 in
-    rw (p.1, p.2) (unmade_as _ seen seen _ _ _ c.in_err-found.ensures (λ none. c.loop-member.invariant
+    rw (p.1, p.2) (unmade_as _ seen seen _ _ _ c.in_err-found.ensures
+    (λ none. c.loop-member.invariant
     ∙ members-next _ _ _ _ None c.loop-member-test.true c.member-item.is none))
 
 pub trees_of-loop-value-preserved : goal.trees_of-loop-value-preserved
