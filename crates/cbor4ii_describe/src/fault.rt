@@ -39,8 +39,8 @@ pub enum Why {
     ParameterPlace,
     /// Two fields are written under one name.
     SameName,
-    /// More than one field may be left out, or each one.
-    ManyLeftOut,
+    /// A struct that borrows has a field that may be left out.
+    BorrowedLeftOut,
 }
 
 impl fmt::Display for Why {
@@ -64,7 +64,7 @@ impl fmt::Display for Why {
             Why::LeftOut => write!(f, "only an Option may be left out"),
             Why::ParameterPlace => write!(f, "the parameter may stand alone, in Vec or in Option"),
             Why::SameName => write!(f, "two fields are written under one name"),
-            Why::ManyLeftOut => write!(f, "only one field may be left out, beside others"),
+            Why::BorrowedLeftOut => write!(f, "a struct that borrows leaves no field out"),
         }
     }
 }

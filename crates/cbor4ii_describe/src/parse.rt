@@ -6,7 +6,7 @@ use crate::fault::{Fault, Why, refused};
 use crate::input::Input;
 use crate::options::{Options, head, no_options};
 use crate::presence::presence;
-use crate::shape::{Described, Field, Head, Parameter, Presence, Shape};
+use crate::shape::{Described, Field, Head, Parameter, Shape, leaves_out};
 use crate::types::its_type;
 use std::alloc::Global;
 
@@ -45,6 +45,9 @@ fn item(alloc: Global, input: &mut Input) -> Result<Described, Fault>
         return refused(line, Why::Attribute);
     }
     let shape = struct_shape(alloc, input, name.as_str())?;
+    if borrows_and_leaves_out(&parameter, &shape) {
+        return refused(line, Why::BorrowedLeftOut);
+    }
     Ok(Described {
         head,
         name,
@@ -52,6 +55,14 @@ fn item(alloc: Global, input: &mut Input) -> Result<Described, Fault>
         shape,
         line,
     })
+}
+
+// Whether a struct that borrows has fields that may be left out.
+fn borrows_and_leaves_out(parameter: &Parameter, shape: &Shape) -> bool {
+    match (parameter, shape) {
+        (Parameter::Lifetime(_), Shape::Fields(fields)) => leaves_out(fields),
+        _ => false,
+    }
 }
 
 // Takes the word that begins a struct.
@@ -138,14 +149,8 @@ fn fields(alloc: Global, input: &mut Input, owner: &str) -> Result<Vec<Field>, F
 fn wrong(fields: &[Field]) -> Option<Why>
     ensures { IfNone result ((0 < length fields.now) × (length fields.now ≤ 12)) }
 {
-    let left_out = fields
-        .iter()
-        .filter(|field| matches!(field.presence, Presence::LeftOut))
-        .count();
     if fields.is_empty() || fields.len() > MOST_FIELDS {
         Some(Why::FieldCount)
-    } else if left_out > 1 || left_out == fields.len() {
-        Some(Why::ManyLeftOut)
     } else if is_twice(fields) {
         Some(Why::SameName)
     } else {

@@ -22,6 +22,13 @@ pub enum Presence {
     LeftOut,
 }
 
+/// Whether one of the fields is left out where it is none.
+pub fn leaves_out(fields: &[Field]) -> bool {
+    fields
+        .iter()
+        .any(|field| matches!(field.presence, Presence::LeftOut))
+}
+
 /// A field with a name.
 #[derive(Drop)]
 pub struct Field {

@@ -46,9 +46,9 @@ const REFUSED: [(&str, u32, Why); 24] = [
         Why::LeftOut,
     ),
     (
-        "struct A { #[serde(skip_serializing_if = \"Option::is_none\")] a: Option<u8> }",
+        "struct A<'a> { #[serde(skip_serializing_if = \"Option::is_none\")] a: Option<&'a str> }",
         1,
-        Why::ManyLeftOut,
+        Why::BorrowedLeftOut,
     ),
     (
         "struct A { a: u8, #[serde(rename = \"a\")] b: u8 }",
@@ -69,7 +69,7 @@ fn forms_are_refused(rt: HostRuntime) {
 }
 
 // A type, and a part of what is written of it.
-const WRITTEN: [(&str, &str); 12] = [
+const WRITTEN: [(&str, &str); 13] = [
     (
         "struct A { #[serde(rename = \"b\")] a: u8 }",
         "serialize_1_field(\"A\", \"b\", &self.a)",
@@ -84,6 +84,10 @@ const WRITTEN: [(&str, &str); 12] = [
         "(with_field_or (codes \"a\") (pos 7) ",
     ),
     ("struct A { a: Option<u8> }", "(Or(None), ())"),
+    (
+        "struct A { #[serde(skip_serializing_if = \"Option::is_none\")] a: Option<u8> }",
+        "let fields = (IfSome(&self.a),);\n        fields.serialize_fields(\"A\", &[\"a\"], ser)\n",
+    ),
     (
         "struct A { #[describe(once)] a: u8 }",
         "(Once(Required), ())",

@@ -8,7 +8,6 @@ ghost use Rattle.cbor4ii.specs.Fields.{no_values};
 
 use cbor4ii::dec::Source;
 use cbor4ii::enc::Write;
-use cbor4ii::error::StaticStr;
 use cbor4ii::serde::{
     AsDescribed, DecodeError, Described, Deserialize, Deserializer, EncodeError, FieldValues,
     IfSome, Optional, Required, Serialize, Serializer, Typed,
@@ -32,13 +31,9 @@ impl Serialize for Reply {
 
     fn serialize<W: Write>(&self, ser: &mut Serializer<W>) -> Result<(), EncodeError<W::Error>> {
         let fields = (&self.status, IfSome(&self.reason), IfSome(&self.retry));
-        fields.serialize_fields("Reply", &FIELDS, ser)
+        fields.serialize_fields("Reply", &["status", "reason", "retry"], ser)
     }
 }
-
-const FIELDS: [StaticStr; 3] = ["status", "reason", "retry"];
-
-const MISSING: [StaticStr; 1] = ["a reply has no status"];
 
 /// A field that is missing is none.
 impl<S: Source> Deserialize<S> for Reply {
@@ -46,8 +41,15 @@ impl<S: Source> Deserialize<S> for Reply {
         alloc: Global,
         de: &mut Deserializer<S>,
     ) -> Result<Reply, DecodeError<S::Error>> {
+        let missing = ["a reply has no status"];
         let presences = (Required, (Optional, (Optional, ())));
-        de.deserialize_fields(alloc, "Reply", &FIELDS, &MISSING, presences)
+        de.deserialize_fields(
+            alloc,
+            "Reply",
+            &["status", "reason", "retry"],
+            &missing,
+            presences,
+        )
     }
 }
 

@@ -1,7 +1,5 @@
 //! `impl Deserialize`.
-use crate::print::layout::{
-    COLUMNS, Frame, LIST, is_on_one_line, put_items, put_list, put_pairs, width,
-};
+use crate::print::layout::{COLUMNS, Frame, LIST, put_call, put_list, put_pairs, width};
 use crate::print::lists::{keys, missing, presences};
 use crate::print::types::self_type;
 use crate::shape::{Described, Field, Parameter, Shape};
@@ -95,29 +93,12 @@ fn put_struct(
         most: LIST,
     };
     put_pairs(out, &presences(alloc, fields)?, "()", frame)?;
-    put_call(alloc, out, name, &keys(alloc, fields)?)
-}
-
-// Appends the call itself.
-fn put_call(
-    alloc: Global,
-    out: &mut String,
-    name: &str,
-    keys: &[String],
-) -> Result<(), AllocError> {
-    let mut before = format!(in alloc; "alloc, \"{name}\", &[")?;
-    put_items(&mut before, keys)?;
-    before.push_str("], &missing, presences")?;
-    let open = "de.deserialize_fields(";
-    let mut whole = Vec::new(alloc);
-    whole.push(before)?;
-    if is_on_one_line(8, open, &whole, ")") {
-        return put_list(out, 8, open, &whole, ")");
-    }
-    write!(
-        out,
-        "        {open}\n            alloc,\n            \"{name}\",\n"
-    )?;
-    put_list(out, 12, "&[", keys, "],")?;
-    out.push_str("            &missing,\n            presences,\n        )\n")
+    let mut before = Vec::new(alloc);
+    before.push(String::from_str(alloc, "alloc")?)?;
+    before.push(format!(in alloc; "\"{name}\"")?)?;
+    let mut after = Vec::new(alloc);
+    after.push(String::from_str(alloc, "&missing")?)?;
+    after.push(String::from_str(alloc, "presences")?)?;
+    let keys = keys(alloc, fields)?;
+    put_call(alloc, out, "de.deserialize_fields(", &before, &keys, &after)
 }

@@ -1,5 +1,5 @@
 //! How lines are laid out: as `rt fmt` does.
-use std::alloc::AllocError;
+use std::alloc::{AllocError, Global};
 
 /// How many columns a line has at most.
 pub const COLUMNS: usize = 100;
@@ -73,6 +73,34 @@ pub fn put_list(
     }
     out.push_str(close)?;
     out.push('\n')
+}
+
+/// Appends a call, as the last line of a method, with a list between its other arguments: on one
+/// line, or on several.
+pub fn put_call(
+    alloc: Global,
+    out: &mut String,
+    open: &str,
+    before: &[String],
+    list: &[String],
+    after: &[String],
+) -> Result<(), AllocError> {
+    let mut line = String::new(alloc);
+    put_items(&mut line, before)?;
+    line.push_str(", &[")?;
+    put_items(&mut line, list)?;
+    line.push_str("], ")?;
+    put_items(&mut line, after)?;
+    let mut whole = Vec::new(alloc);
+    whole.push(line)?;
+    if is_on_one_line(8, open, &whole, ")") {
+        return put_list(out, 8, open, &whole, ")");
+    }
+    write!(out, "        {open}\n")?;
+    put_lines(out, 12, before)?;
+    put_list(out, 12, "&[", list, "],")?;
+    put_lines(out, 12, after)?;
+    out.push_str("        )\n")
 }
 
 /// Appends each item on a line of its own.

@@ -1,9 +1,10 @@
 //! `impl Serialize`.
 ghost use Rattle.std.specs.Prelude.{◌≡◌, ◌≢◌, ◌++◌, IfOk, codes, decimal, string_bytes};
 
-use crate::print::layout::{is_on_one_line, put_list};
+use crate::print::layout::{put_call, put_list};
+use crate::print::lists::keys;
 use crate::print::types::{generics, self_type};
-use crate::shape::{Described, Field, Presence, Shape};
+use crate::shape::{Described, Field, Presence, Shape, leaves_out};
 use std::alloc::{AllocError, Global};
 
 /// Appends how a type is written.
@@ -27,43 +28,43 @@ pub fn put_serialize(
     out.push_str("    }\n}\n\n")
 }
 
-// Appends the call that writes a struct, or the two of one with a field that may be left out.
+// Appends the call that writes a struct.
 fn put_struct(
     alloc: Global,
     out: &mut String,
     name: &str,
     fields: &[Field],
 ) -> Result<(), AllocError> {
-    match fields
-        .iter()
-        .find(|field| matches!(field.presence, Presence::LeftOut))
-    {
-        None => {
-            let call = call(alloc, fields.len())?;
-            put_list(
-                out,
-                8,
-                call.as_str(),
-                &arguments(alloc, name, fields, true)?,
-                ")",
-            )
-        }
-        Some(field) => {
-            let left = field.name.as_str();
-            write!(out, "        match &self.{left} {{\n")?;
-            let all = arguments(alloc, name, fields, true)?;
-            put_arm(
-                alloc,
-                out,
-                format!(in alloc; "Some({left})")?.as_str(),
-                fields.len(),
-                &all,
-            )?;
-            let others = arguments(alloc, name, fields, false)?;
-            put_arm(alloc, out, "None", fields.len().saturating_sub(1), &others)?;
-            out.push_str("        }\n")
-        }
+    if leaves_out(fields) {
+        return put_listed(alloc, out, name, fields);
     }
+    let call = call(alloc, fields.len())?;
+    let arguments = arguments(alloc, name, fields)?;
+    put_list(out, 8, call.as_str(), &arguments, ")")
+}
+
+// Appends the call that writes a struct of which fields may be left out.
+fn put_listed(
+    alloc: Global,
+    out: &mut String,
+    name: &str,
+    fields: &[Field],
+) -> Result<(), AllocError> {
+    let close = if fields.len() == 1 { ",);" } else { ");" };
+    put_list(out, 8, "let fields = (", &values(alloc, fields)?, close)?;
+    let mut before = Vec::new(alloc);
+    before.push(format!(in alloc; "\"{name}\"")?)?;
+    let mut after = Vec::new(alloc);
+    after.push(String::from_str(alloc, "ser")?)?;
+    let keys = keys(alloc, fields)?;
+    put_call(
+        alloc,
+        out,
+        "fields.serialize_fields(",
+        &before,
+        &keys,
+        &after,
+    )
 }
 
 // The call that writes so many fields, up to its bracket.
@@ -79,46 +80,27 @@ fn call(alloc: Global, count: usize) -> Result<String, AllocError>
     }
 }
 
-// Appends an arm that writes so many fields.
-fn put_arm(
-    alloc: Global,
-    out: &mut String,
-    pattern: &str,
-    count: usize,
-    arguments: &[String],
-) -> Result<(), AllocError> {
-    let call = call(alloc, count)?;
-    let open = format!(in alloc; "{pattern} => {call}")?;
-    if is_on_one_line(12, open.as_str(), arguments, "),") {
-        put_list(out, 12, open.as_str(), arguments, "),")
-    } else {
-        write!(out, "            {pattern} => {{\n")?;
-        put_list(out, 16, call.as_str(), arguments, ")")?;
-        out.push_str("            }\n")
-    }
-}
-
-// The arguments of the call: the type's name, and each field's name and value. A field that may be
-// left out is there where `all` says so, as the value of its own name.
-fn arguments(
-    alloc: Global,
-    name: &str,
-    fields: &[Field],
-    all: bool,
-) -> Result<Vec<String>, AllocError> {
+// The arguments of the call: the type's name, and each field's name and value.
+fn arguments(alloc: Global, name: &str, fields: &[Field]) -> Result<Vec<String>, AllocError> {
     let mut arguments = Vec::new(alloc);
     arguments.push(format!(in alloc; "\"{name}\"")?)?;
     for field in fields {
         let (key, place) = (field.key.as_str(), field.name.as_str());
-        let left_out = matches!(field.presence, Presence::LeftOut);
-        if all || !left_out {
-            arguments.push(format!(in alloc; "\"{key}\"")?)?;
-            let value = match left_out {
-                true => String::from_str(alloc, place)?,
-                false => format!(in alloc; "&self.{place}")?,
-            };
-            arguments.push(value)?;
-        }
+        arguments.push(format!(in alloc; "\"{key}\"")?)?;
+        arguments.push(format!(in alloc; "&self.{place}")?)?;
     }
     Ok(arguments)
+}
+
+// Each field's value, as it is listed.
+fn values(alloc: Global, fields: &[Field]) -> Result<Vec<String>, AllocError> {
+    let mut values = Vec::new(alloc);
+    for field in fields {
+        let place = field.name.as_str();
+        values.push(match field.presence {
+            Presence::LeftOut => format!(in alloc; "IfSome(&self.{place})")?,
+            _ => format!(in alloc; "&self.{place}")?,
+        })?;
+    }
+    Ok(values)
 }

@@ -73,13 +73,15 @@ const WORDS: [(File, &str, For); 19] = [
 ];
 
 // The names of `cbor4ii::serde`, in order.
-const NAMES: [(&str, For); 13] = [
+const NAMES: [(&str, For); 15] = [
     ("AsDescribed", For::Each),
     ("DecodeError", For::Each),
     ("Described", For::Each),
     ("Deserialize", For::Each),
     ("Deserializer", For::Each),
     ("EncodeError", For::Each),
+    ("FieldValues", For::LeftOut),
+    ("IfSome", For::LeftOut),
     ("Once", For::Once),
     ("Optional", For::LeftOut),
     ("Or", For::Or),
