@@ -6,7 +6,8 @@ use Rattle.std.proofs.lemmas.List.{append_assoc, map-append}
 use Rattle.cbor4ii_tree.specs.View.{view, items_view, members_view}
 use Rattle.cbor4ii_tree.specs.declared.value.Value.{Value}
 use Rattle.cbor4ii.specs.Laws.Shown.{items_from, members_from}
-use Rattle.cbor4ii_examples.specs.Tree.{Node, Seen, members_at, children_at, with_member, node_at, nodes_at}
+use Rattle.cbor4ii_examples.specs.Tree.{Node, Seen, members_at, children_at, with_member, node_at}
+use Rattle.cbor4ii_examples.specs.Tree.{nodes_at}
 use Rattle.cbor4ii_examples.specs.Tree.{more_made, tree_node, tree_nodes}
 use Rattle.cbor4ii_examples.specs.declared.tree.Tree.{Tree}
 

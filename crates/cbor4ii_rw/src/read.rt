@@ -60,8 +60,8 @@ pub trait Source {
     /// Shows a prefix of what is left, perhaps shorter or longer than `want`, and takes nothing.
     /// It is empty only at the end, or where `want` is 0. What is shown may be advanced.
     ///
-    /// `want` is a wish: one byte is enough. A reader whose `window` is 1 may also wait for all that
-    /// is wanted, since the item needs it. Any other may wait for ever then.
+    /// `want` is a wish: one byte is enough. A reader whose `window` is 1 may also wait for all
+    /// that is wanted, since the item needs it. Any other may wait for ever then.
     ///
     /// # Errors
     ///

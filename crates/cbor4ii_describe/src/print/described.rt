@@ -135,7 +135,8 @@ fn put_agrees(alloc: Global, out: &mut String, described: &Described) -> Result<
     let laws = laws(alloc, described)?;
     write!(
         out,
-        "impl{generics} AsDescribed for {this} {{\n    ghost agrees = {{ as_described {laws} }};\n}}\n"
+        "impl{generics} AsDescribed for {this} {{\n    \
+         ghost agrees = {{ as_described {laws} }};\n}}\n"
     )
 }
 

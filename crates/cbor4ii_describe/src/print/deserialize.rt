@@ -49,7 +49,8 @@ fn put_header(
             format!(in alloc; "impl<{p}> Deserialize<SliceReader<{p}>> for {this} {{\n")?
         }
         Parameter::Generic(p) => format!(in alloc;
-            "impl<S: Source, {p}: AsDescribed + Deserialize<S> + Drop> Deserialize<S> for {this} {{\n"
+            "impl<S: Source, {p}: AsDescribed + Deserialize<S> + Drop> \
+             Deserialize<S> for {this} {{\n"
         )?,
     };
     out.push_str(line.as_str())
@@ -72,7 +73,8 @@ fn put_signature(
     }
     write!(
         out,
-        "    fn deserialize(\n        alloc: Global,\n        de: &mut Deserializer<{reader}>,\n    \
+        "    fn deserialize(\n        alloc: Global,\n        \
+         de: &mut Deserializer<{reader}>,\n    \
          ) -> Result<{this}, DecodeError<{error}>> {{\n"
     )
 }

@@ -20,7 +20,8 @@ pub fn put_from(alloc: Global, out: &mut String, described: &Described) -> Resul
         Shape::Newtype { its_type, .. } => write!(
             out,
             "impl{generics} From<{its_type}> for {this} {{\n    ghost from_gives = {{ λ value \
-             {letter}. value ≡ {letter}.0 }};\n\n    fn from(value: {its_type}) -> {this} {{\n        \
+             {letter}. value ≡ {letter}.0 }};\n\n    \
+             fn from(value: {its_type}) -> {this} {{\n        \
              {name}(value)\n    }}\n}}\n\n"
         ),
         Shape::Fields(fields) => put_struct(alloc, out, described, fields),
