@@ -26,9 +26,9 @@ pub trait Connection {
 #[derive(Clone, Copy, Debug, PartialEq, Eq)]
 pub struct Lost;
 
-/// A reader with `NESTING_LIMIT` steps over a connection, of which it takes 2^63 bytes at most. What
-/// is left of a part that was received is shown, whatever is wanted, and the next part once all is
-/// taken.
+/// A reader with `NESTING_LIMIT` steps over a connection, of which it takes 2^63 bytes at most.
+/// What is left of a part that was received is shown, whatever is wanted, and the next part once
+/// all is taken.
 #[derive(Drop)]
 pub struct Connected<C: Connection + Drop> {
     connection: C,
