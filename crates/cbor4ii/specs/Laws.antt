@@ -5,6 +5,7 @@ pub mod Any
 pub mod Backs
 pub mod ElementsAlike
 pub mod FieldsBack
+pub mod Held
 pub mod Shown
 pub mod StructsBack
 pub mod ValuesBack

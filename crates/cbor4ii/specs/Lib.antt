@@ -39,5 +39,7 @@ pub mod CodecCases
 pub mod CodecAgrees
 pub mod CodecItems
 pub mod CodecKeyed
+pub mod Held
+pub mod CodecShown
 -- ---- laws
 pub mod Laws

@@ -5,9 +5,8 @@ ghost use Rattle.cbor4ii_items.specs.Sequences.{count_format, indefinite_format}
 ghost use Rattle.cbor4ii.specs.AnyFormat.{any_format, any_inside, values_inside};
 ghost use Rattle.cbor4ii.specs.AnyFormat.{values_format, any_pair, pairs_inside};
 ghost use Rattle.cbor4ii.specs.AnyFormat.{pairs_format, AddsOne};
-ghost use Rattle.cbor4ii.specs.AnyRejects.{RejectsAny};
-ghost use Rattle.cbor4ii.specs.Laws.Any.{any_laws};
-ghost use Rattle.cbor4ii.specs.Typed.{input, answer_of, Deserializes, typed_by};
+ghost use Rattle.cbor4ii.specs.CodecShown.{typed_any};
+ghost use Rattle.cbor4ii.specs.Typed.{input, answer_of, Deserializes};
 
 use crate::serde::de::any_leaf::{AnyKind, kind_of, take_leaf};
 use crate::serde::de::deserialize::{Deserialize, Typed};
@@ -56,7 +55,7 @@ impl<S: Source> Deserializer<S> {
 }
 
 impl Typed for Value {
-    ghost promise = { typed_by RejectsAny true true any_laws };
+    ghost promise = { typed_any };
 }
 
 /// Any item but a tag, read by `Deserializer::deserialize_any`.
