@@ -3,13 +3,15 @@ pub mod Then
 pub mod Station
 pub mod StationLaws
 pub mod Nest
+-- A struct and an enum that hold values of their own kind, and that they are read back.
 pub mod Tree
+pub mod TreeLaws
+pub mod Shape
+pub mod ShapeLaws
 -- A number with a limit.
 pub mod Percent
 -- An enum, by its variants.
 pub mod Event
--- An enum that holds values of its own kind.
-pub mod Shape
 -- A signed payload, sealed and opened.
 pub mod Envelope
 -- At which byte settings are rejected, and when a store rejects bytes.

@@ -1,6 +1,6 @@
 -- Which items are shapes, and how shapes are written.
-use Rattle.std.specs.Prelude.{ℕ, ◌∷◌, [], pos, List, Bool, false, Option, None, Some, codes}
-use Rattle.std.specs.Prelude.{bytes_eq, nat_lt, if◌then◌else◌, option_map}
+use Rattle.std.specs.Prelude.{ℕ, ◌^◌, ◌<◌, ◌∷◌, [], pos, List, Bool, false, Option, None, Some}
+use Rattle.std.specs.Prelude.{codes, bytes_eq, nat_lt, if◌then◌else◌, option_map}
 use Rattle.cbor4ii_items.specs.Numbers.{shortest_head}
 use Rattle.cbor4ii_tree.specs.Item.{Item, Items, Members, integer, text, sequence, mapping, item}
 use Rattle.cbor4ii_tree.specs.Item.{no_items, member, no_members}
@@ -123,3 +123,23 @@ abbrev mutual
 -- the variant of this name and content
 abbrev pub variant_at : Item → Item → Option Figure
 variant_at k v = named k (circle_at v) (pair_at v) (framed_at v)
+
+-- ---- read back
+
+-- the item of a figure: what stands for it, and is written for it
+abbrev pub variant_item : List ℕ → Item → Item
+variant_item name content = mapping (member (text name) content no_members)
+
+abbrev pub figure_item : Figure → Item
+figure_item (circle radius) = variant_item (codes "Circle") (integer (pos radius))
+figure_item (pair first second) = variant_item (codes "Pair")
+    (sequence (item (figure_item first) (item (figure_item second) no_items)))
+figure_item (framed width inner) = variant_item (codes "Framed")
+    (mapping (member (text (codes "width")) (integer (pos width))
+    (member (text (codes "inner")) (figure_item inner) no_members)))
+
+-- each number is one of the program's
+abbrev pub IsFigure : Figure → Type 0
+IsFigure (circle radius) = radius < 2 ^ 32
+IsFigure (pair first second) = IsFigure first × IsFigure second
+IsFigure (framed width inner) = (width < 2 ^ 32) × IsFigure inner

@@ -1,6 +1,7 @@
 -- Nodes below a node, as maps in a map: how they are written, and which items are read as such.
-use Rattle.std.specs.Prelude.{ℕ, ℤ, pos, negsuc, List, [], ◌∷◌, Option, None, Some, codes}
-use Rattle.std.specs.Prelude.{nat_lt, if◌then◌else◌, option_map, option_and_then, string_bytes, map}
+use Rattle.std.specs.Prelude.{ℕ, ◌^◌, ◌<◌, ℤ, pos, negsuc, List, [], ◌∷◌, Option, None, Some}
+use Rattle.std.specs.Prelude.{codes, nat_lt, if◌then◌else◌, option_map, option_and_then}
+use Rattle.std.specs.Prelude.{string_bytes, map}
 use Rattle.std.specs.declared.alloc.Global.{Global}
 use Rattle.std.specs.declared.vec.Vec.{Vec}
 use Rattle.cbor4ii_items.specs.Numbers.{shortest_head}
@@ -127,3 +128,26 @@ abbrev mutual
   pub nodes_at : Items → Option (List Node)
   nodes_at no_items = Some []
   nodes_at (item v vs) = more_made (node_at v) (nodes_at vs)
+
+-- ---- read back
+
+-- the item of a node: what stands for it, and is written for it
+abbrev mutual
+  pub node_item : Node → Item
+  node_item (node id name children) =
+      mapping (member (text (codes "id")) (integer (pos id))
+      (member (text (codes "name")) (text name)
+      (member (text (codes "children")) (sequence (nodes_items children)) no_members)))
+
+  pub nodes_items : Nodes → Items
+  nodes_items no_nodes = no_items
+  nodes_items (more n ns) = item (node_item n) (nodes_items ns)
+
+-- each number is one of the program's
+abbrev mutual
+  pub IsNode : Node → Type 0
+  IsNode (node id name children) = (id < 2 ^ 64) × AreNodes children
+
+  pub AreNodes : Nodes → Type 0
+  AreNodes no_nodes = Unit {0}
+  AreNodes (more n ns) = IsNode n × AreNodes ns

@@ -24,6 +24,7 @@
 //! | `nest` | a type that holds values of its own kind |
 //! | `tree` | a struct that holds values of its own kind, written in one call and read as a value |
 //! | `shape` | an enum that holds values of its own kind, exact both ways |
+//! | `forest` | a struct that holds trees and a shape, with no line of proof |
 //! | `station` | a type that is read and written by hand, each error proved |
 //! | `store` | what a content-addressed store checks: one item, in its canonical encoding |
 //! | `envelope` | a signed payload, checked as its bytes stand and then read |
@@ -40,6 +41,7 @@ pub mod envelope;
 pub mod event;
 #[cfg(test)]
 mod failures;
+pub mod forest;
 pub mod label;
 pub mod line;
 pub mod log;

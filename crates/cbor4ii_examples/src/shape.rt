@@ -2,17 +2,21 @@
 ghost use Rattle.std.specs.Prelude.{◌≡◌, Some, codes};
 ghost use Rattle.std.proofs.Common.{ap};
 ghost use Rattle.cbor4ii_tree.specs.View.{view, items_view, members_view};
-ghost use Rattle.cbor4ii.specs.Checked.{MakesShown, shown_from, words_unless};
+ghost use Rattle.cbor4ii.specs.Checked.{MakesShown, words_unless};
+ghost use Rattle.cbor4ii.specs.CodecAgrees.{as_described};
+ghost use Rattle.cbor4ii.specs.CodecShown.{shown_codec};
 ghost use Rattle.cbor4ii_examples.specs.Shape.{Figure, figure, shape_item, number_at, circle_at};
+ghost use Rattle.cbor4ii_examples.specs.Shape.{figure_item, IsFigure};
 ghost use Rattle.cbor4ii_examples.specs.Shape.{text_eq, under, figure_at, figure_in, variant_at};
 ghost use Rattle.cbor4ii_examples.specs.Shape.{pair_at, pair_in, framed_at, framed_in};
+ghost use Rattle.cbor4ii_examples.specs.ShapeLaws.{shape_back};
 
 use cbor4ii::Value;
 use cbor4ii::dec::Source;
 use cbor4ii::enc::Write;
 use cbor4ii::serde::{
-    CheckedFrom, DecodeError, Deserialize, Deserializer, EncodeError, Serialize, Serializer, Typed,
-    Unmade,
+    AsDescribed, CheckedFrom, DecodeError, Described, Deserialize, Deserializer, EncodeError,
+    Serialize, Serializer, Typed, Unmade,
 };
 use std::alloc::Global;
 
@@ -29,7 +33,7 @@ pub enum Shape {
 
 /// A map of one member: the variant's name, and its content.
 impl Serialize for Shape {
-    ghost encoding = { shape_item };
+    ghost encoding = { ⟦<Shape as Described>⟧.codec.encoding };
 
     #[tactic(auto, using(crate::specs::declared::shape::Shape::the_lemmas, cbor4ii_ser::specs::Laws::Inside::values_inside,))]
     fn serialize<W: Write>(&self, ser: &mut Serializer<W>) -> Result<(), EncodeError<W::Error>> {
@@ -47,8 +51,16 @@ impl Serialize for Shape {
 
 /// A value that `figure_at` accepts, and nothing else.
 impl Typed for Shape {
-    ghost promise = { shown_from (codes "no shape") (λ v. figure_at (view v)) figure
-        ⟦<Value as Typed>⟧.promise };
+    ghost promise = { ⟦<Shape as Described>⟧.codec.promise };
+}
+
+impl Described for Shape {
+    ghost codec = { shown_codec (codes "no shape") figure_at figure shape_item figure_item IsFigure
+        shape_back };
+}
+
+impl AsDescribed for Shape {
+    ghost agrees = { as_described tt };
 }
 
 impl<S: Source> Deserialize<S> for Shape {

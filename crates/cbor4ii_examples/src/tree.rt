@@ -3,19 +3,23 @@
 ghost use Rattle.std.specs.Prelude.{◌≡◌, Some, codes};
 ghost use Rattle.std.proofs.Common.{ap};
 ghost use Rattle.cbor4ii_tree.specs.View.{view, items_view, members_view};
-ghost use Rattle.cbor4ii.specs.Checked.{MakesShown, shown_from, words_unless};
+ghost use Rattle.cbor4ii.specs.Checked.{MakesShown, words_unless};
+ghost use Rattle.cbor4ii.specs.CodecAgrees.{as_described};
+ghost use Rattle.cbor4ii.specs.CodecShown.{shown_codec};
 ghost use Rattle.cbor4ii_examples.specs.Tree.{tree_item, tree_node, vector_nodes, node_at};
+ghost use Rattle.cbor4ii_examples.specs.Tree.{node_item, IsNode};
 ghost use Rattle.cbor4ii_examples.specs.Tree.{seen, nothing_seen, with_id, with_name};
 ghost use Rattle.cbor4ii_examples.specs.Tree.{with_children, with_member, made_from};
 ghost use Rattle.cbor4ii_examples.specs.Tree.{members_at, children_at, nodes_at};
+ghost use Rattle.cbor4ii_examples.specs.TreeLaws.{tree_back};
 
 use crate::shape::is_text;
 use cbor4ii::Value;
 use cbor4ii::dec::Source;
 use cbor4ii::enc::Write;
 use cbor4ii::serde::{
-    CheckedFrom, DecodeError, Deserialize, Deserializer, EncodeError, Serialize, Serializer, Typed,
-    Unmade,
+    AsDescribed, CheckedFrom, DecodeError, Described, Deserialize, Deserializer, EncodeError,
+    Serialize, Serializer, Typed, Unmade,
 };
 use std::alloc::Global;
 
@@ -32,7 +36,7 @@ pub struct Tree {
 
 /// A map of three fields, in this order.
 impl Serialize for Tree {
-    ghost encoding = { tree_item };
+    ghost encoding = { ⟦<Tree as Described>⟧.codec.encoding };
 
     #[tactic(auto, using(crate::specs::declared::tree::Tree::the_lemmas, cbor4ii_ser::specs::Laws::Inside::values_inside,))]
     fn serialize<W: Write>(&self, ser: &mut Serializer<W>) -> Result<(), EncodeError<W::Error>> {
@@ -51,8 +55,16 @@ impl Serialize for Tree {
 /// A value that `node_at` accepts, and nothing else. Members of other names are left out, and of
 /// several of one name the last counts that has a value of the field's kind.
 impl Typed for Tree {
-    ghost promise = { shown_from (codes "no tree") (λ v. node_at (view v)) tree_node
-        ⟦<Value as Typed>⟧.promise };
+    ghost promise = { ⟦<Tree as Described>⟧.codec.promise };
+}
+
+impl Described for Tree {
+    ghost codec = { shown_codec (codes "no tree") node_at tree_node tree_item node_item IsNode
+        tree_back };
+}
+
+impl AsDescribed for Tree {
+    ghost agrees = { as_described tt };
 }
 
 /// Any item is read, and the tree is made of it.

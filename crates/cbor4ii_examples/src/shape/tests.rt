@@ -1,12 +1,17 @@
 //! Rows of an enum that holds values of its own kind.
 use crate::shape::Shape;
 use cbor4ii::dec::Source;
-use cbor4ii::serde::{DecodeError, Deserialize, Deserializer};
+use cbor4ii::serde::{
+    DecodeError, Deserialize, Deserializer, described_values_are_read_back, from_slice, to_vec,
+};
+use cbor4ii_vectors::compared::same;
 use cbor4ii_vectors::{eof, no_step, table, unsupported};
 use cbor4ii_vectors_de::typed::{
-    Answer, BothShown, Rejected, RowShown, RowShownWithin, Take, comes_back, rejects, tries_shown,
+    Answer, BothShown, Rejected, RowShown, RowShownWithin, Take, comes_back, is_rejected, rejects,
+    tries_shown,
 };
-use std::alloc::Global;
+use std::alloc::{AllocError, Global};
+use std::collections::TryReserveError;
 use std::test::Fail;
 
 impl Take for Shape {
@@ -69,4 +74,47 @@ fn shapes_are_written_and_read(rt: HostRuntime) -> Result<(), Fail> {
 #[test]
 fn a_vector_of_shapes_comes_back(rt: HostRuntime) -> Result<(), Fail> {
     comes_back::<Vec<Shape>>(rt.alloc(), b"\x81\xa1\x66Circle\x05", "[Circle(5)]")
+}
+
+const FRAME: &[u8] = b"\xa1\x66Framed\xa2\x65width\x03\x65inner";
+
+const CIRCLE: &[u8] = b"\xa1\x66Circle\x05";
+
+// A circle in so many frames, one in another. The bytes stay for good.
+fn nested(alloc: Global, count: usize) -> Result<&'static [u8], TryReserveError> {
+    let mut bytes = Vec::new(alloc);
+    for _ in 0..count {
+        bytes.extend_from_slice(FRAME)?;
+    }
+    bytes.extend_from_slice(CIRCLE)?;
+    Ok(bytes.leak())
+}
+
+fn nested_shape(alloc: Global, count: usize) -> Result<Shape, AllocError> {
+    let mut shape = Shape::Circle(5);
+    for _ in 0..count {
+        let inner = Box::new(alloc, shape)?;
+        shape = Shape::Framed { width: 3, inner };
+    }
+    Ok(shape)
+}
+
+// A frame takes two steps for each of its maps, and a circle three.
+#[test]
+fn as_deep_as_256_steps_allow(rt: HostRuntime) -> Result<(), Fail> {
+    let alloc = rt.alloc();
+    let bytes = nested(alloc, 63)?;
+    let shape: Shape = from_slice(alloc, bytes)?;
+    same(to_vec(Vec::new(alloc), &shape)?.as_slice(), bytes)?;
+    same(shape, nested_shape(alloc, 63)?)?;
+    is_rejected(
+        from_slice::<&[u8], Shape>(alloc, nested(alloc, 64)?),
+        no_step!("any"),
+    )
+}
+
+#[test]
+fn shapes_are_read_back(rt: HostRuntime) {
+    described_values_are_read_back::<Shape>();
+    described_values_are_read_back::<(u8, Box<Shape>)>();
 }

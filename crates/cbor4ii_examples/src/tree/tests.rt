@@ -1,10 +1,13 @@
 //! Rows of a struct that holds values of its own kind.
 use crate::tree::Tree;
 use cbor4ii::dec::Source;
-use cbor4ii::serde::{DecodeError, Deserialize, Deserializer};
+use cbor4ii::serde::{
+    DecodeError, Deserialize, Deserializer, described_values_are_read_back, from_slice, to_vec,
+};
+use cbor4ii_vectors::compared::same;
 use cbor4ii_vectors::rows::writes;
-use cbor4ii_vectors::table;
-use cbor4ii_vectors_de::typed::{Answer, RowShown, Take, come_back, reads_all_shown};
+use cbor4ii_vectors::{no_step, table};
+use cbor4ii_vectors_de::typed::{Answer, RowShown, Take, come_back, is_rejected, reads_all_shown};
 use cbor4ii_vectors_ser::typed::Typed;
 use std::alloc::Global;
 use std::collections::TryReserveError;
@@ -64,4 +67,46 @@ const TREES: &[RowShown] = table! {
 #[test]
 fn other_values_are_no_tree(rt: HostRuntime) -> Result<(), Fail> {
     reads_all_shown::<Answer<Tree>>(rt.alloc(), TREES, &[])
+}
+
+const NODE: &[u8] = b"\xa3\x62id\x01\x64name\x60\x68children\x81";
+
+const LAST_NODE: &[u8] = b"\xa3\x62id\x02\x64name\x60\x68children\x80";
+
+// The last node below so many, one below another. The bytes stay for good.
+fn nested(alloc: Global, count: usize) -> Result<&'static [u8], TryReserveError> {
+    let mut bytes = Vec::new(alloc);
+    for _ in 0..count {
+        bytes.extend_from_slice(NODE)?;
+    }
+    bytes.extend_from_slice(LAST_NODE)?;
+    Ok(bytes.leak())
+}
+
+fn nested_tree(alloc: Global, count: usize) -> Result<Tree, TryReserveError> {
+    let mut tree = node(alloc, 2, "", Vec::new(alloc))?;
+    for _ in 0..count {
+        tree = node(alloc, 1, "", vec![in alloc; tree]?)?;
+    }
+    Ok(tree)
+}
+
+// A node takes two steps for its map, and two more for the array of those below it.
+#[test]
+fn as_deep_as_256_steps_allow(rt: HostRuntime) -> Result<(), Fail> {
+    let alloc = rt.alloc();
+    let bytes = nested(alloc, 63)?;
+    let tree: Tree = from_slice(alloc, bytes)?;
+    same(to_vec(Vec::new(alloc), &tree)?.as_slice(), bytes)?;
+    same(tree, nested_tree(alloc, 63)?)?;
+    is_rejected(
+        from_slice::<&[u8], Tree>(alloc, nested(alloc, 64)?),
+        no_step!("any"),
+    )
+}
+
+#[test]
+fn trees_are_read_back(rt: HostRuntime) {
+    described_values_are_read_back::<Tree>();
+    described_values_are_read_back::<Vec<Box<Tree>>>();
 }

@@ -1,0 +1,64 @@
+-- That what is written for a shape is read back.
+use Rattle.std.proofs.Common.{◌≡◌, ◌^◌, Some, None, refl, sym, ap, ap₂, subst, arith}
+use Rattle.std.proofs.lemmas.Bool.{lt-ltb}
+use Rattle.std.specs.Prelude.{if◌then◌else◌, codes, option_map}
+use Rattle.cbor4ii_ser.specs.Item.{Encoding}
+use Rattle.cbor4ii.specs.CodecShown.{IsShownBack}
+use Rattle.cbor4ii.specs.Held.{IsWrittenAs}
+use Rattle.cbor4ii.specs.Laws.Held.{unsigned_as, no_parts, part_before, no_entries, field_before}
+use Rattle.cbor4ii.specs.Laws.Held.{struct_as, variant_as, tuple_variant_as}
+use Rattle.cbor4ii_examples.specs.Shape.{Figure, circle, pair, framed, figure_step, figure}
+use Rattle.cbor4ii_examples.specs.Shape.{shape_step, shape_item, figure_at, pair_made, framed_made}
+use Rattle.cbor4ii_examples.specs.Shape.{figure_item, IsFigure}
+use Rattle.cbor4ii_examples.specs.declared.shape.Shape.{Shape, roll-Shape, map-Shape}
+use Rattle.cbor4ii_examples.specs.declared.shape.Shape.TheFolds.{ind-Shape, fold-roll-Shape}
+use Rattle.cbor4ii_examples.specs.declared.shape.Shape.TheOpen.{Shape-F}
+
+-- ---- the item of a figure stands for it
+
+figure_read : (f : Figure) → IsFigure f → figure_at (figure_item f) ≡ Some f
+figure_read (circle radius) h =
+    ap (λ t. option_map circle (if t then Some radius else None)) (lt-ltb radius (2 ^ 32) h)
+figure_read (pair first second) h =
+    ap₂ pair_made (figure_read first h.0) (figure_read second h.1)
+figure_read (framed width inner) h =
+    ap₂ (λ o t. framed_made o (if t then Some width else None)) (figure_read inner h.1)
+    (lt-ltb width (2 ^ 32) h.0)
+
+-- ---- a shape is written as the item of its figure
+
+abbrev FigureIsWritten : Encoding → Figure → Type 0
+FigureIsWritten encoding f = IsFigure f → IsWrittenAs encoding (figure_item f)
+
+abbrev IsWritten : Shape → Type 0
+IsWritten s = FigureIsWritten (shape_item s) (figure s)
+
+module _ {E : Type 0} (f : E → Shape) (written : (e : E) → IsWritten (f e)) where
+  one_written : (y : Shape-F E) → FigureIsWritten
+      (shape_step (map-Shape Shape Encoding shape_item (map-Shape E Shape f y)))
+      (figure_step (map-Shape Shape Figure figure (map-Shape E Shape f y)))
+  one_written (Shape-F.Circle radius) h =
+      variant_as (codes "Circle") refl (unsigned_as radius (omega (arith, h)))
+  one_written (Shape-F.Pair first second) h =
+      tuple_variant_as (codes "Pair") refl (part_before (written first.value h.0)
+      (part_before (written second.value h.1) no_parts)) (omega arith)
+  one_written (Shape-F.Framed width inner) h =
+      variant_as (codes "Framed") refl (struct_as
+      (field_before (codes "width") refl (unsigned_as width (omega (arith, h.0)))
+      (field_before (codes "inner") refl (written inner.value h.1) no_entries)) (omega arith))
+
+  rolled_written : (y : Shape-F E) → IsWritten (roll-Shape (map-Shape E Shape f y))
+  rolled_written y =
+      let x = map-Shape E Shape f y in
+      subst (λ (e : Encoding). FigureIsWritten e (figure (roll-Shape x)))
+      (sym (fold-roll-Shape Encoding shape_step x))
+      (subst (λ g. FigureIsWritten (shape_step (map-Shape Shape Encoding shape_item x)) g)
+      (sym (fold-roll-Shape Figure figure_step x)) (one_written y))
+
+shape_written : (s : Shape) → IsWritten s
+shape_written = ind-Shape IsWritten (λ x y is.
+    subst (λ z. IsWritten (roll-Shape z)) is (rolled_written (λ e. e.0) (λ e. e.1) y))
+
+-- a shape is read back
+pub shape_back : IsShownBack figure_at figure shape_item figure_item IsFigure
+shape_back = record { written = shape_written; read = figure_read }
