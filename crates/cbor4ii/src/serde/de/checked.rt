@@ -1,7 +1,9 @@
 //! Values that are made of other values by a test, or rejected in words.
-ghost use Rattle.std.specs.Prelude.{◌≡◌, ℕ, List, Option, Bool, true};
+ghost use Rattle.std.specs.Prelude.{◌≡◌, ℕ, List, Option, Bool, true, false, IfErr, IsTrue};
+ghost use Rattle.cbor4ii_items.specs.Decoding.{Sound};
+ghost use Rattle.cbor4ii_items.specs.InputError.{is_out_of_memory};
 ghost use Rattle.cbor4ii.specs.Checked.{Checks, checked_from};
-ghost use Rattle.cbor4ii.specs.Typed.{input, answer_of, Deserializes};
+ghost use Rattle.cbor4ii.specs.Typed.{input, answer_of, as_core, Deserializes};
 ghost use Rattle.cbor4ii.specs.declared.serde.de.checked.Unmade.TheVariants.{OutOfMemory};
 
 use crate::serde::de::deserialize::{Deserialize, Typed};
@@ -77,8 +79,12 @@ impl<S: Source> Deserializer<S> {
         &mut self,
         alloc: Global,
     ) -> Result<T, DecodeError<S::Error>>
-        ensures { Deserializes (checked_from T.words T.makes T.takes_memory V.promise)
+        ensures promised { Deserializes (checked_from T.words T.makes T.takes_memory V.promise)
             (input S.view self.old) (input S.view self.new) (answer_of result) }
+        ensures after_value { V.promise.format.takes_memory ≡ false →
+            IfErr result (λ error. IsTrue (is_out_of_memory (as_core error)) →
+            (v : V) × Sound V.promise.format.reads
+            (input S.view self.old) (input S.view self.new) v) }
     {
         match V::deserialize(alloc, self) {
             Ok(value) => match T::checked_from(alloc, value) {
