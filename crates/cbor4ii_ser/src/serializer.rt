@@ -11,7 +11,10 @@ ghost use Rattle.cbor4ii_ser.specs.Serializing.{Serializes, output};
 
 use crate::error::EncodeError;
 use crate::serialize::Serialize;
-use crate::slot::{has_large_error, push_head_apart, push_string_apart, put_variant};
+use crate::slot::{
+    has_large_error, push_f16_apart, push_f32_apart, push_f64_apart, push_head_apart,
+    push_string_apart, put_variant,
+};
 use cbor4ii_items::encode::Encode;
 use cbor4ii_items::major;
 use cbor4ii_items::types::{Bytes, F16, F32, F64, Null};
@@ -301,6 +304,13 @@ impl<W: Write> Serializer<W> {
         ensures { Serializes W.atomic (encoded (float_bytes 0xf9 2 bits))
             (output W.view self.old) (output W.view self.new) result }
     {
+        if has_large_error::<W>() {
+            let mut answer = Ok(());
+            return match push_f16_apart(&mut self.writer, bits, &mut answer) {
+                Some(()) => Ok(()),
+                None => answer,
+            };
+        }
         self.serialize_item(&F16(bits))
     }
 
@@ -314,6 +324,13 @@ impl<W: Write> Serializer<W> {
         ensures { Serializes W.atomic (encoded (float_bytes 0xfa 4 bits))
             (output W.view self.old) (output W.view self.new) result }
     {
+        if has_large_error::<W>() {
+            let mut answer = Ok(());
+            return match push_f32_apart(&mut self.writer, bits, &mut answer) {
+                Some(()) => Ok(()),
+                None => answer,
+            };
+        }
         self.serialize_item(&F32(bits))
     }
 
@@ -327,6 +344,13 @@ impl<W: Write> Serializer<W> {
         ensures { Serializes W.atomic (encoded (float_bytes 0xfb 8 bits))
             (output W.view self.old) (output W.view self.new) result }
     {
+        if has_large_error::<W>() {
+            let mut answer = Ok(());
+            return match push_f64_apart(&mut self.writer, bits, &mut answer) {
+                Some(()) => Ok(()),
+                None => answer,
+            };
+        }
         self.serialize_item(&F64(bits))
     }
 

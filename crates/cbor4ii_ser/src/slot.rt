@@ -7,6 +7,7 @@
 //! `cbor4ii_items`, whose answer holds the writer's error.
 ghost use Rattle.std.specs.Prelude.{◌≡◌, ◌<◌, ◌≤◌, ◌∷◌, [], ◌++◌, Err, IfNone, IfSome, IsErr};
 ghost use Rattle.cbor4ii_rw.specs.declared.error.EncodeError.TheVariants.{Write};
+ghost use Rattle.cbor4ii_items.specs.Floats.{float_bytes};
 ghost use Rattle.cbor4ii_items.specs.Numbers.{shortest_head};
 ghost use Rattle.cbor4ii_items.specs.Strings.{definite_string};
 ghost use Rattle.cbor4ii_ser.specs.Item.{encoded, followed, variant_head, variant_encoding};
@@ -17,7 +18,7 @@ ghost use Rattle.cbor4ii_ser.specs.declared.error.EncodeError.TheVariants.{Core}
 use crate::error::EncodeError;
 use crate::serialize::Serialize;
 use crate::serializer::Serializer;
-use cbor4ii_items::major;
+use cbor4ii_items::{major, marker};
 use cbor4ii_rw::write::Write;
 use std::mem::size_of_val;
 
@@ -137,6 +138,62 @@ fn push_long_head<W: Write>(
         bytes[1..].copy_from_slice(&argument.to_be_bytes());
         push(writer, &bytes, answer)
     }
+}
+
+/// Writes a float of two bytes, its first byte and its bits, in one push.
+#[inline(never)]
+pub(crate) fn push_f16_apart<W: Write>(
+    writer: &mut W,
+    bits: u16,
+    answer: &mut Result<(), EncodeError<W::Error>>,
+) -> Option<()>
+    ensures writes { Serializes W.atomic (encoded (float_bytes 0xf9 2 bits))
+        (W.view writer.old) (W.view writer.new) (answered result answer.new) }
+    ensures whole { AllOrNothing W.atomic (W.view writer.old) (W.view writer.new)
+        (answered result answer.new) }
+    ensures failed { IfNone result (IsErr answer.new) }
+    ensures kept { IfSome result (λ _. answer.new ≡ answer.old) }
+{
+    let [a, b] = bits.to_be_bytes();
+    push(writer, &[marker::F16, a, b], answer)
+}
+
+/// Writes a float of four bytes, its first byte and its bits, in one push.
+#[inline(never)]
+pub(crate) fn push_f32_apart<W: Write>(
+    writer: &mut W,
+    bits: u32,
+    answer: &mut Result<(), EncodeError<W::Error>>,
+) -> Option<()>
+    ensures writes { Serializes W.atomic (encoded (float_bytes 0xfa 4 bits))
+        (W.view writer.old) (W.view writer.new) (answered result answer.new) }
+    ensures whole { AllOrNothing W.atomic (W.view writer.old) (W.view writer.new)
+        (answered result answer.new) }
+    ensures failed { IfNone result (IsErr answer.new) }
+    ensures kept { IfSome result (λ _. answer.new ≡ answer.old) }
+{
+    let mut bytes = [marker::F32, 0, 0, 0, 0];
+    bytes[1..].copy_from_slice(&bits.to_be_bytes());
+    push(writer, &bytes, answer)
+}
+
+/// Writes a float of eight bytes, its first byte and its bits, in one push.
+#[inline(never)]
+pub(crate) fn push_f64_apart<W: Write>(
+    writer: &mut W,
+    bits: u64,
+    answer: &mut Result<(), EncodeError<W::Error>>,
+) -> Option<()>
+    ensures writes { Serializes W.atomic (encoded (float_bytes 0xfb 8 bits))
+        (W.view writer.old) (W.view writer.new) (answered result answer.new) }
+    ensures whole { AllOrNothing W.atomic (W.view writer.old) (W.view writer.new)
+        (answered result answer.new) }
+    ensures failed { IfNone result (IsErr answer.new) }
+    ensures kept { IfSome result (λ _. answer.new ≡ answer.old) }
+{
+    let mut bytes = [marker::F64, 0, 0, 0, 0, 0, 0, 0, 0];
+    bytes[1..].copy_from_slice(&bits.to_be_bytes());
+    push(writer, &bytes, answer)
 }
 
 /// Writes a string of this major type, its head in one push and its content in another.
