@@ -1,9 +1,12 @@
 -- What is written of the parts of a type.
 use Rattle.std.specs.Prelude.{◌≡◌, ℕ, List, [], ◌∷◌, ◌++◌, codes, string_bytes, Bool, true, false}
+use Rattle.std.specs.Prelude.{Option, None, Some, decimal}
 use Rattle.std.specs.declared.string.String.{String}
 use Rattle.std.specs.declared.alloc.Global.{Global}
 use Rattle.cbor4ii_describe.specs.declared.shape.Described.{Described}
 use Rattle.cbor4ii_describe.specs.declared.shape.Field.{Field}
+use Rattle.cbor4ii_describe.specs.declared.shape.Key.{Key}
+use Rattle.cbor4ii_describe.specs.declared.shape.Key.TheVariants.{Name, Positive, Negative}
 use Rattle.cbor4ii_describe.specs.declared.shape.Parameter.{Parameter}
 use Rattle.cbor4ii_describe.specs.declared.shape.Parameter.TheVariants.{Nothing, Lifetime, Generic}
 use Rattle.cbor4ii_describe.specs.declared.shape.Presence.{Presence}
@@ -40,19 +43,42 @@ presence_text (Or code ghost_text) once = codes "Or(" ++ (string_bytes code ++ c
 abbrev pub presence_code : Field → List ℕ
 presence_code field = presence_text field.presence field.once
 
+-- what a field is written under, as code
+abbrev pub key_code : Key → List ℕ
+key_code (Name name) = codes "\"" ++ (string_bytes name ++ codes "\"")
+key_code (Positive size) = decimal size
+key_code (Negative size) = codes "-" ++ decimal size
+
+-- the same in a ghost
+abbrev pub ghost_key : Key → List ℕ
+ghost_key (Name name) = codes "(codes \"" ++ (string_bytes name ++ codes "\")")
+ghost_key (Positive size) = codes "(pos " ++ (decimal size ++ codes ")")
+ghost_key (Negative size) = codes "(minus " ++ (decimal size ++ codes ")")
+
+-- what a word of the codec calls a field under a key
+abbrev pub sort_text : Key → List ℕ
+sort_text (Name name) = codes "field"
+sort_text (Positive size) = codes "key"
+sort_text (Negative size) = codes "key"
+
 -- what stands before the codec of a field
-abbrev pub word_text : Presence → Bool → List ℕ → List ℕ → List ℕ
-word_text Required true key words =
-    codes "(with_field_once (codes \"" ++ (key ++ (codes "\") (codes \"" ++ (words ++ codes "\")")))
-word_text Required false key words =
-    codes "(with_field (codes \"" ++ (key ++ (codes "\") (codes \"" ++ (words ++ codes "\")")))
-word_text LeftOut once key words = codes "(with_optional_field (codes \"" ++ (key ++ codes "\")")
-word_text (Or code ghost_text) once key words =
-    codes "(with_field_or (codes \"" ++ (key ++ (codes "\") " ++ string_bytes ghost_text))
+abbrev pub word_text : Presence → Bool → List ℕ → List ℕ → List ℕ → List ℕ
+word_text Required true sort key words = codes "(with_" ++ (sort ++ (codes "_once " ++ (key
+    ++ (codes " (codes \"" ++ (words ++ codes "\")")))))
+word_text Required false sort key words = codes "(with_" ++ (sort ++ (codes " " ++ (key
+    ++ (codes " (codes \"" ++ (words ++ codes "\")")))))
+word_text LeftOut once sort key words = codes "(with_optional_" ++ (sort ++ (codes " " ++ key))
+word_text (Or code ghost_text) once sort key words =
+    codes "(with_" ++ (sort ++ (codes "_or " ++ (key ++ (codes " " ++ string_bytes ghost_text))))
 
 abbrev pub field_word : Field → List ℕ
-field_word field =
-    word_text field.presence field.once (string_bytes field.key) (string_bytes field.words)
+field_word field = word_text field.presence field.once (sort_text field.key) (ghost_key field.key)
+    (string_bytes field.words)
+
+-- the call that writes a newtype, behind a tag or none
+abbrev pub newtype_call : Option ℕ → List ℕ
+newtype_call None = codes "self.0.serialize(ser)\n"
+newtype_call (Some tag) = codes "ser.serialize_tagged(" ++ (decimal tag ++ codes ", &self.0)\n")
 
 -- the brackets of a type in a ghost, in UTF-8
 abbrev pub open_bracket : List ℕ

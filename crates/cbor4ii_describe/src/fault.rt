@@ -11,9 +11,7 @@ use std::fmt;
 pub enum Why {
     /// The input holds no type.
     NoType,
-    /// An enum begins here.
-    Enum,
-    /// No struct begins here.
+    /// No struct and no enum begins here.
     NotType,
     /// A name should stand here.
     NoName,
@@ -37,18 +35,35 @@ pub enum Why {
     LeftOut,
     /// The type parameter stands in another place than `T`, `Vec<T>` or `Option<T>`.
     ParameterPlace,
-    /// Two fields are written under one name.
+    /// Two fields or variants are written under one name.
     SameName,
-    /// A struct that borrows has a field that may be left out.
-    BorrowedLeftOut,
+    /// Two fields are written under one integer.
+    SameKey,
+    /// Some of the fields have an integer as their key, and this one is of the other sort.
+    MixedKeys,
+    /// An integer of 64 bits should stand here.
+    Integer,
+    /// A field of an array has an attribute of its own.
+    ArrayField,
+    /// A struct that borrows has integer keys, or a field that may be left out.
+    Borrows,
+    /// The enum has a parameter.
+    EnumParameter,
+    /// The enum has no variant, or it has more than twelve.
+    VariantCount,
+    /// The variant has brackets with no item, or with more than three.
+    VariantItems,
+    /// The variant has more than four fields.
+    VariantFields,
+    /// A variant's field has an integer key, or it may be left out.
+    VariantField,
 }
 
 impl fmt::Display for Why {
     fn fmt<W: fmt::Write>(&self, f: &mut fmt::Formatter<W>) -> fmt::Result {
         match self {
-            Why::NoType => write!(f, "no struct stands in the input"),
-            Why::Enum => write!(f, "an enum has no form here"),
-            Why::NotType => write!(f, "no struct begins here"),
+            Why::NoType => write!(f, "no type stands in the input"),
+            Why::NotType => write!(f, "no struct and no enum begins here"),
             Why::NoName => write!(f, "a name should stand here"),
             Why::Unexpected => write!(f, "another sign should stand here"),
             Why::NotClosed => write!(f, "a text or a bracket is not closed"),
@@ -63,8 +78,23 @@ impl fmt::Display for Why {
             Why::DefaultValue => write!(f, "this default has no form: a number, a bool or None"),
             Why::LeftOut => write!(f, "only an Option may be left out"),
             Why::ParameterPlace => write!(f, "the parameter may stand alone, in Vec or in Option"),
-            Why::SameName => write!(f, "two fields are written under one name"),
-            Why::BorrowedLeftOut => write!(f, "a struct that borrows leaves no field out"),
+            Why::SameName => write!(f, "this name is written for another one already"),
+            Why::SameKey => write!(f, "two fields are written under one integer"),
+            Why::MixedKeys => write!(f, "either each field has an integer key or none has"),
+            Why::Integer => write!(f, "an integer of 64 bits should stand here"),
+            Why::ArrayField => write!(f, "the fields of an array have no attributes"),
+            Why::Borrows => write!(
+                f,
+                "a struct that borrows has no integer keys and leaves no field out"
+            ),
+            Why::EnumParameter => write!(f, "an enum with a parameter has no form here"),
+            Why::VariantCount => write!(f, "an enum has one to twelve variants"),
+            Why::VariantItems => write!(f, "a variant holds one to three items"),
+            Why::VariantFields => write!(f, "a variant has one to four fields"),
+            Why::VariantField => write!(
+                f,
+                "a variant's field has no integer key and is not left out"
+            ),
         }
     }
 }

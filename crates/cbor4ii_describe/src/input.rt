@@ -122,6 +122,28 @@ impl Input {
         }
     }
 
+    /// Takes an integer that is not negative, of 64 bits.
+    pub fn integer(&mut self) -> Result<u64, Fault>
+        ensures { OnOk result (Shorter self.old self.new) }
+    {
+        let digits = self.want_kind(Kind::Word, Why::Integer)?;
+        match digits.as_str().parse::<u64>() {
+            Ok(number) => Ok(number),
+            Err(_) => refused(self.line, Why::Integer),
+        }
+    }
+
+    /// Takes the comma behind a part, which need not stand before this bracket.
+    pub fn end_part(&mut self, close: &str) -> Result<(), Fault>
+        ensures { OnOk result (NoLonger self.old self.new) }
+    {
+        if self.is_next(close) {
+            Ok(())
+        } else {
+            self.want(",")
+        }
+    }
+
     /// The fault at the next token, or at the last one where none is left.
     pub fn fault(&self, why: Why) -> Fault {
         let line = match self.peek() {

@@ -1,11 +1,16 @@
-//! Reads structs of Rust from standard input, and prints the impls that make them
+//! Reads structs and enums of Rust from standard input, and prints the impls that make them
 //! described types.
+//!
+//! It takes serde's `rename`, `default` and `skip_serializing_if = "Option::is_none"`. Of its own are
+//! `describe(array)` on a struct, `describe(tag = 1)` on a newtype, and on a field
+//! `describe(key = -1)`, `describe(once)` and `describe(missing = "..")`.
 //!
 //! The exit status is 0, or 1 where a type has no form here: nothing is printed then, and a line on
 //! standard error says why.
 #![tactic(auto)]
 
 mod describe;
+mod enums;
 mod fault;
 mod input;
 mod options;

@@ -1,12 +1,15 @@
 //! What attributes of a type say.
-ghost use Rattle.std.specs.Prelude.{OnOk};
+ghost use Rattle.std.specs.Prelude.{◌≡◌, ◌<◌, ◌≤◌, ◌^◌, OnOk, None, Some, false, true};
 ghost use Rattle.cbor4ii_describe.specs.Input.{Shorter, NoLonger};
 
 use crate::fault::{Fault, Why, refused};
 use crate::input::Input;
-use crate::shape::Head;
+use crate::shape::{Head, Key};
 use crate::types::rest_of_attribute;
 use std::alloc::Global;
+
+// How far the least integer of 64 bits with a sign is below zero.
+const LEAST: u64 = 1 << 63;
 
 /// What the attributes above an item say.
 #[derive(Drop)]
@@ -21,6 +24,12 @@ pub struct Options {
     pub once: bool,
     /// What is said where the field is missing: `missing`.
     pub words: Option<String>,
+    /// The integer that is the field's key: `key`.
+    pub key: Option<Key>,
+    /// The tag before what the type holds: `tag`.
+    pub tag: Option<u64>,
+    /// Whether the struct is written as an array: `array`.
+    pub array: bool,
     /// Whether a derive stands among them.
     pub derives: bool,
 }
@@ -33,16 +42,29 @@ pub fn no_options() -> Options {
         left_out: false,
         once: false,
         words: None,
+        key: None,
+        tag: None,
+        array: false,
         derives: false,
     }
 }
 
 impl Options {
-    /// Whether they say nothing of a field.
+    /// Whether they say nothing.
     pub fn are_none(&self) -> bool {
-        self.rename.is_none()
-            && self.default.is_none()
+        self.rename.is_none() && self.are_of_field() && self.are_of_type()
+    }
+
+    /// Whether they say nothing that a type alone may have.
+    pub fn are_of_field(&self) -> bool {
+        self.tag.is_none() && !self.array
+    }
+
+    /// Whether they say nothing that a field alone may have.
+    pub fn are_of_type(&self) -> bool {
+        self.default.is_none()
             && self.words.is_none()
+            && self.key.is_none()
             && !self.left_out
             && !self.once
     }
@@ -109,21 +131,10 @@ fn serde_options(alloc: Global, input: &mut Input, options: &mut Options) -> Res
     input.want("(")?;
     while !input.took(")") {
         serde_option(alloc, input, options)?;
-        end_part(input)?;
+        input.end_part(")")?;
     }
     input.want("]")?;
     Ok(String::new(alloc))
-}
-
-// Takes the comma behind a part, which the last one need not have.
-fn end_part(input: &mut Input) -> Result<(), Fault>
-    ensures { OnOk result (NoLonger input.old input.new) }
-{
-    if input.is_next(")") {
-        Ok(())
-    } else {
-        input.want(",")
-    }
 }
 
 // Takes one word of serde, and its text.
@@ -153,7 +164,7 @@ fn own_options(alloc: Global, input: &mut Input, options: &mut Options) -> Resul
     input.want("(")?;
     while !input.took(")") {
         own_option(alloc, input, options)?;
-        end_part(input)?;
+        input.end_part(")")?;
     }
     input.want("]")?;
     Ok(String::new(alloc))
@@ -166,10 +177,43 @@ fn own_option(alloc: Global, input: &mut Input, options: &mut Options) -> Result
     let name = input.name()?;
     match name.as_str() {
         "once" => options.once = true,
+        "array" => options.array = true,
         "missing" => options.words = Some(value(alloc, input)?),
+        "key" => options.key = Some(key(input)?),
+        "tag" => {
+            input.want("=")?;
+            options.tag = Some(input.integer()?);
+        }
         _ => return refused(input.line(), Why::Attribute),
     }
     Ok(())
+}
+
+// Takes the integer that is a key, behind a word.
+fn key(input: &mut Input) -> Result<Key, Fault>
+    ensures { OnOk result (Shorter input.old input.new) }
+{
+    input.want("=")?;
+    let is_negative = input.took("-");
+    let size = input.integer()?;
+    match key_of(is_negative, size) {
+        Some(key) => Ok(key),
+        None => refused(input.line(), Why::Integer),
+    }
+}
+
+// The integer of this size and sign, where it is one of 64 bits with a sign.
+fn key_of(is_negative: bool, size: u64) -> Option<Key>
+    ensures positive { is_negative ≡ false → size < 2 ^ 63 → result ≡ Some (Key.Positive size) }
+    ensures negative { is_negative ≡ true → 0 < size → size ≤ 2 ^ 63
+        → result ≡ Some (Key.Negative size) }
+    ensures too_large { 2 ^ 63 < size → result ≡ None }
+{
+    match is_negative {
+        true if 0 < size && size <= LEAST => Some(Key::Negative(size)),
+        _ if size < LEAST => Some(Key::Positive(size)),
+        _ => None,
+    }
 }
 
 // Takes a sign and a text behind a word.
@@ -195,7 +239,7 @@ fn derive(alloc: Global, input: &mut Input) -> Result<String, Fault>
             line.push_str(path.as_str())?;
             line.push_str(", ")?;
         }
-        end_part(input)?;
+        input.end_part(")")?;
     }
     input.want("]")?;
     if drops {

@@ -1,19 +1,20 @@
-//! Structs, read from their tokens.
-ghost use Rattle.std.specs.Prelude.{◌≡◌, ◌<◌, ◌≤◌, OnOk, IfOk, IfNone, length, vec_len};
+//! Types, read from their tokens.
+ghost use Rattle.std.specs.Prelude.{◌≡◌, ◌<◌, ◌≤◌, OnOk, IfOk, IsSome, vec_len};
 ghost use Rattle.cbor4ii_describe.specs.Input.{left_count, Shorter, NoLonger};
 
+use crate::enums::variants;
 use crate::fault::{Fault, Why, refused};
 use crate::input::Input;
 use crate::options::{Options, head, no_options};
 use crate::presence::presence;
-use crate::shape::{Described, Field, Head, Parameter, Shape, leaves_out};
+use crate::shape::{Described, Field, Form, Head, Key, Parameter, Shape, leaves_out};
 use crate::types::its_type;
 use std::alloc::Global;
 
 /// How many fields a struct may have.
 pub const MOST_FIELDS: usize = 12;
 
-/// Takes all that is left: one struct after another.
+/// Takes all that is left: one type after another.
 pub fn items(alloc: Global, input: &mut Input) -> Result<Vec<Described>, Fault>
     ensures { OnOk result (left_count input.new ≡ 0) }
 {
@@ -27,13 +28,13 @@ pub fn items(alloc: Global, input: &mut Input) -> Result<Vec<Described>, Fault>
     Ok(items)
 }
 
-// Takes a struct.
+// Takes a type.
 fn item(alloc: Global, input: &mut Input) -> Result<Described, Fault>
     ensures { OnOk result (Shorter input.old input.new) }
 {
     let mut options = no_options();
     let mut head = head(alloc, input, &mut options)?;
-    begin(input)?;
+    let is_enum = begin(input)?;
     let name = input.name()?;
     let line = input.line();
     let parameter = parameter(input)?;
@@ -41,38 +42,47 @@ fn item(alloc: Global, input: &mut Input) -> Result<Described, Fault>
         head.lines
             .push(String::from_str(alloc, "#[derive(Drop)]")?)?;
     }
-    if !options.are_none() {
+    if !options.are_of_type() {
         return refused(line, Why::Attribute);
     }
-    let shape = struct_shape(alloc, input, name.as_str())?;
-    if borrows_and_leaves_out(&parameter, &shape) {
-        return refused(line, Why::BorrowedLeftOut);
+    let shape = if is_enum {
+        enum_shape(alloc, input, name.as_str(), &options)?
+    } else {
+        struct_shape(alloc, input, name.as_str(), &options)?
+    };
+    if let Some(why) = clash_of_parameter(&parameter, &shape) {
+        return refused(line, why);
     }
+    let label = or_name(alloc, options.rename, name.as_str())?;
     Ok(Described {
         head,
         name,
+        label,
         parameter,
         shape,
         line,
     })
 }
 
-// Whether a struct that borrows has fields that may be left out.
-fn borrows_and_leaves_out(parameter: &Parameter, shape: &Shape) -> bool {
+// Why a type of this shape may not have this parameter, if so.
+fn clash_of_parameter(parameter: &Parameter, shape: &Shape) -> Option<Why> {
     match (parameter, shape) {
-        (Parameter::Lifetime(_), Shape::Fields(fields)) => leaves_out(fields),
-        _ => false,
+        (Parameter::Nothing, _) => None,
+        (_, Shape::Variants { .. }) => Some(Why::EnumParameter),
+        (Parameter::Lifetime(_), Shape::Fields { form, fields })
+            if *form == Form::Keyed || leaves_out(fields) => { Some(Why::Borrows) }
+        _ => None,
     }
 }
 
-// Takes the word that begins a struct.
-fn begin(input: &mut Input) -> Result<(), Fault>
+// Takes the word that begins a type, and says whether it is an enum.
+fn begin(input: &mut Input) -> Result<bool, Fault>
     ensures { OnOk result (Shorter input.old input.new) }
 {
     if input.took("struct") {
-        Ok(())
-    } else if input.is_next("enum") {
-        Err(input.fault(Why::Enum))
+        Ok(false)
+    } else if input.took("enum") {
+        Ok(true)
     } else {
         Err(input.fault(Why::NotType))
     }
@@ -96,20 +106,74 @@ fn parameter(input: &mut Input) -> Result<Parameter, Fault>
     }
 }
 
-// Takes what a struct holds.
-fn struct_shape(alloc: Global, input: &mut Input, name: &str) -> Result<Shape, Fault>
+// Takes what an enum of this name and these options holds.
+fn enum_shape(
+    alloc: Global,
+    input: &mut Input,
+    name: &str,
+    options: &Options,
+) -> Result<Shape, Fault>
+    ensures { OnOk result (Shorter input.old input.new) }
+{
+    if !options.are_of_field() {
+        return refused(input.line(), Why::Attribute);
+    }
+    input.want("{")?;
+    let variants = variants(alloc, input)?;
+    let words = format!(in alloc; "no such {}", in_words(alloc, name)?)?;
+    Ok(Shape::Variants { variants, words })
+}
+
+// Takes what a struct of this name and these options holds.
+fn struct_shape(
+    alloc: Global,
+    input: &mut Input,
+    name: &str,
+    options: &Options,
+) -> Result<Shape, Fault>
     ensures { OnOk result (Shorter input.old input.new) }
 {
     if input.took("{") {
-        return Ok(Shape::Fields(fields(alloc, input, name)?));
+        return fields_shape(alloc, input, name, options);
     }
     input.want("(")?;
-    let (head, held) = unnamed(alloc, input)?;
+    let (head, its_type) = unnamed(alloc, input)?;
     input.want(";")?;
+    if options.array {
+        return refused(input.line(), Why::Attribute);
+    }
     Ok(Shape::Newtype {
         visibility: head.visibility,
-        its_type: held,
+        its_type,
+        tag: options.tag,
     })
+}
+
+// Takes what a struct holds whose fields have names.
+fn fields_shape(
+    alloc: Global,
+    input: &mut Input,
+    name: &str,
+    options: &Options,
+) -> Result<Shape, Fault>
+    ensures { OnOk result (Shorter input.old input.new) }
+{
+    let line = input.line();
+    let fields = fields(alloc, input, name, options.array)?;
+    if options.tag.is_some() {
+        return refused(line, Why::Attribute);
+    }
+    let form = form(&fields, options.array);
+    Ok(Shape::Fields { form, fields })
+}
+
+// As what these fields are written.
+fn form(fields: &[Field], is_array: bool) -> Form {
+    match fields.first() {
+        _ if is_array => Form::Array,
+        Some(field) if matches!(field.key, Key::Positive(_) | Key::Negative(_)) => Form::Keyed,
+        _ => Form::Named,
+    }
 }
 
 // Takes the one field that has no name.
@@ -129,70 +193,70 @@ fn unnamed(alloc: Global, input: &mut Input) -> Result<(Head, String), Fault>
     Ok((head, held))
 }
 
-// Takes the fields up to the bracket that closes them, of a struct or a variant of this name.
-fn fields(alloc: Global, input: &mut Input, owner: &str) -> Result<Vec<Field>, Fault>
+/// Takes the fields up to the bracket that closes them, of a struct or a variant of this name.
+pub fn fields(
+    alloc: Global,
+    input: &mut Input,
+    owner: &str,
+    is_array: bool,
+) -> Result<Vec<Field>, Fault>
     ensures takes { OnOk result (Shorter input.old input.new) }
     ensures count { IfOk result (λ fields. (0 < vec_len fields) × (vec_len fields ≤ 12)) }
 {
     let mut fields = Vec::new(alloc);
     while !input.took("}") {
-        fields.push(field(alloc, input, owner)?)?;
-        end_part(input)?;
+        let next = field(alloc, input, owner, is_array)?;
+        if let Some(why) = clash(&fields, &next.key) {
+            return refused(next.line, why);
+        }
+        fields.push(next)?;
+        input.end_part("}")?;
     }
-    match wrong(&fields) {
-        Some(why) => refused(input.line(), why),
-        None => Ok(fields),
-    }
-}
-
-// What is wrong with these fields together, if anything is.
-fn wrong(fields: &[Field]) -> Option<Why>
-    ensures { IfNone result ((0 < length fields.now) × (length fields.now ≤ 12)) }
-{
     if fields.is_empty() || fields.len() > MOST_FIELDS {
-        Some(Why::FieldCount)
-    } else if is_twice(fields) {
-        Some(Why::SameName)
-    } else {
-        None
+        return refused(input.line(), Why::FieldCount);
     }
+    Ok(fields)
 }
 
-// Whether two fields are written under one name.
-fn is_twice(fields: &[Field]) -> bool {
-    for (i, field) in fields.iter().enumerate() {
-        let key = field.key.as_str();
-        if fields
-            .iter()
-            .skip(i)
-            .skip(1)
-            .any(|other| other.key.as_str() == key)
-        {
-            return true;
+// Why a field under this key may not stand behind these, if so.
+fn clash(fields: &[Field], key: &Key) -> Option<Why> {
+    for field in fields {
+        let why = clash_of(&field.key, key);
+        if why.is_some() {
+            return why;
         }
     }
-    false
+    None
 }
 
-// Takes the comma behind a part, which the last one need not have.
-fn end_part(input: &mut Input) -> Result<(), Fault>
-    ensures { OnOk result (NoLonger input.old input.new) }
+// Why fields under these keys may not stand in one struct, if so.
+fn clash_of(one: &Key, other: &Key) -> Option<Why>
+    ensures { one.now ≡ other.now → IsSome result }
 {
-    if input.is_next("}") {
-        Ok(())
-    } else {
-        input.want(",")
+    match (one, other) {
+        (Key::Name(one), Key::Name(other)) if one.as_str() == other.as_str() => Some(Why::SameName),
+        (Key::Name(_), Key::Name(_)) => None,
+        (Key::Name(_), _) | (_, Key::Name(_)) => Some(Why::MixedKeys),
+        (Key::Positive(one), Key::Positive(other)) if one == other => Some(Why::SameKey),
+        (Key::Negative(one), Key::Negative(other)) if one == other => Some(Why::SameKey),
+        _ => None,
     }
 }
 
 // Takes a field.
-fn field(alloc: Global, input: &mut Input, owner: &str) -> Result<Field, Fault>
+fn field(alloc: Global, input: &mut Input, owner: &str, is_array: bool) -> Result<Field, Fault>
     ensures { OnOk result (Shorter input.old input.new) }
 {
     let mut options = no_options();
     let head = head(alloc, input, &mut options)?;
     let name = input.name()?;
     let line = input.line();
+    if is_array && !options.are_none() {
+        return refused(line, Why::ArrayField);
+    }
+    if !options.are_of_field() {
+        return refused(line, Why::Attribute);
+    }
     input.want(":")?;
     let its_type = its_type(alloc, input)?;
     let presence = presence(alloc, line, &options, its_type.as_str())?;
@@ -200,12 +264,13 @@ fn field(alloc: Global, input: &mut Input, owner: &str) -> Result<Field, Fault>
         rename,
         once,
         words,
+        key,
         ..
     } = options;
-    let key = or_name(alloc, rename, name.as_str())?;
+    let key = key_or_name(alloc, line, key, rename, name.as_str())?;
     let words = match words {
         Some(words) => words,
-        None => no_such_field(alloc, owner, key.as_str())?,
+        None => no_such_field(alloc, owner, &key, name.as_str())?,
     };
     Ok(Field {
         head,
@@ -219,22 +284,42 @@ fn field(alloc: Global, input: &mut Input, owner: &str) -> Result<Field, Fault>
     })
 }
 
-// The name that is written, where none is given the field's own.
-fn or_name(alloc: Global, rename: Option<String>, name: &str) -> Result<String, Fault> {
+// What a field is written under: this integer, this name, or its own one.
+fn key_or_name(
+    alloc: Global,
+    line: u32,
+    key: Option<Key>,
+    rename: Option<String>,
+    name: &str,
+) -> Result<Key, Fault> {
+    match (key, rename) {
+        (Some(_), Some(_)) => refused(line, Why::Attribute),
+        (Some(key), None) => Ok(key),
+        (None, rename) => Ok(Key::Name(or_name(alloc, rename, name)?)),
+    }
+}
+
+/// The name that is written, where none is given the item's own.
+pub fn or_name(alloc: Global, rename: Option<String>, name: &str) -> Result<String, Fault> {
     match rename {
         Some(name) => Ok(name),
         None => Ok(String::from_str(alloc, name)?),
     }
 }
 
-// What is said of a missing field: `a point has no x`.
-fn no_such_field(alloc: Global, owner: &str, key: &str) -> Result<String, Fault> {
+// What is said of a missing field: `a point has no x`. A field under an integer is called by its
+// own name.
+fn no_such_field(alloc: Global, owner: &str, key: &Key, name: &str) -> Result<String, Fault> {
+    let called = match key {
+        Key::Name(key) => key.as_str(),
+        _ => name,
+    };
     let owner = in_words(alloc, owner)?;
     let article = match owner.as_bytes().first() {
         Some(b'a' | b'e' | b'i' | b'o' | b'u') => "an",
         _ => "a",
     };
-    Ok(format!(in alloc; "{article} {owner} has no {key}")?)
+    Ok(format!(in alloc; "{article} {owner} has no {called}")?)
 }
 
 // A type's name as words: `a point` of `APoint`.

@@ -8,3 +8,4 @@ pub mod lists;
 pub mod serialize;
 pub mod types;
 pub mod uses;
+pub mod variants;

@@ -11,6 +11,17 @@ pub enum Parameter {
     Generic(String),
 }
 
+/// What a field is written under.
+#[derive(Drop)]
+pub enum Key {
+    /// A name.
+    Name(String),
+    /// An integer that is not negative.
+    Positive(u64),
+    /// The integer less than zero by so much.
+    Negative(u64),
+}
+
 /// What a field is that is missing.
 #[derive(Drop)]
 pub enum Presence {
@@ -38,8 +49,8 @@ pub struct Field {
     pub name: String,
     /// Its type.
     pub its_type: String,
-    /// The name that is written.
-    pub key: String,
+    /// What it is written under.
+    pub key: Key,
     /// What is said where it is missing.
     pub words: String,
     /// What it is where it is missing.
@@ -59,25 +70,73 @@ pub struct Head {
     pub visibility: String,
 }
 
+/// As what the fields of a struct are written.
+#[derive(Clone, Copy, Debug, PartialEq, Eq)]
+pub enum Form {
+    /// A map, under names.
+    Named,
+    /// A map, under integers.
+    Keyed,
+    /// An array.
+    Array,
+}
+
 /// What a type holds.
 #[derive(Drop)]
 pub enum Shape {
     /// Fields with names.
-    Fields(Vec<Field>),
-    /// One value: its visibility, and its type.
+    Fields {
+        form: Form,
+        fields: Vec<Field>,
+    },
+    /// One value: its visibility, its type, and the tag before it.
     Newtype {
         visibility: String,
         its_type: String,
+        tag: Option<u64>,
+    },
+    /// Variants, and what is said of the name of another one.
+    Variants {
+        variants: Vec<Variant>,
+        words: String,
     },
 }
 
-/// A struct.
+/// A variant of an enum.
+#[derive(Drop)]
+pub struct Variant {
+    /// What stands above it.
+    pub lines: Vec<String>,
+    /// Its name.
+    pub name: String,
+    /// The name that is written.
+    pub label: String,
+    /// What it holds.
+    pub holds: Content,
+    /// The line that its name stands on.
+    pub line: u32,
+}
+
+/// What a variant holds.
+#[derive(Drop)]
+pub enum Content {
+    /// Nothing.
+    Nothing,
+    /// Values of these types, without names.
+    Items(Vec<String>),
+    /// Fields with names.
+    Fields(Vec<Field>),
+}
+
+/// A struct or an enum.
 #[derive(Drop)]
 pub struct Described {
     /// What stands above it, and before its name.
     pub head: Head,
     /// Its name.
     pub name: String,
+    /// The name that calls are told.
+    pub label: String,
     /// Its parameter.
     pub parameter: Parameter,
     /// What it holds.

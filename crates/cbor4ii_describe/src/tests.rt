@@ -3,9 +3,9 @@ use crate::describe::describe;
 use crate::fault::{Fault, Why};
 
 // What is refused: the line, and why. Each input holds one form.
-const REFUSED: [(&str, u32, Why); 24] = [
+const REFUSED: [(&str, u32, Why); 57] = [
     ("", 1, Why::NoType),
-    ("\nenum A { B }", 2, Why::Enum),
+    ("\nunion A { B }", 2, Why::NotType),
     ("fn a() {}", 1, Why::NotType),
     ("struct 5;", 1, Why::NoName),
     ("struct A { 'a: u8 }", 1, Why::NoName),
@@ -48,7 +48,7 @@ const REFUSED: [(&str, u32, Why); 24] = [
     (
         "struct A<'a> { #[serde(skip_serializing_if = \"Option::is_none\")] a: Option<&'a str> }",
         1,
-        Why::BorrowedLeftOut,
+        Why::Borrows,
     ),
     (
         "struct A { a: u8, #[serde(rename = \"a\")] b: u8 }",
@@ -56,6 +56,99 @@ const REFUSED: [(&str, u32, Why); 24] = [
         Why::SameName,
     ),
     ("struct A<T> { a: (T, T) }", 1, Why::ParameterPlace),
+    (
+        "struct A { #[describe(key = 1)] a: u8,\nb: u8 }",
+        2,
+        Why::MixedKeys,
+    ),
+    (
+        "struct A { a: u8,\n#[describe(key = 1)] b: u8 }",
+        2,
+        Why::MixedKeys,
+    ),
+    (
+        "struct A { #[describe(key = 1)] a: u8,\n#[describe(key = 1)] b: u8 }",
+        2,
+        Why::SameKey,
+    ),
+    (
+        "struct A { #[describe(key = -1)] a: u8,\n#[describe(key = -1)] b: u8 }",
+        2,
+        Why::SameKey,
+    ),
+    (
+        "struct A { #[describe(key = -0)] a: u8,\n#[describe(key = 00)] b: u8 }",
+        2,
+        Why::SameKey,
+    ),
+    (
+        "struct A { #[describe(key = 9223372036854775808)] a: u8 }",
+        1,
+        Why::Integer,
+    ),
+    (
+        "struct A { #[describe(key = -9223372036854775809)] a: u8 }",
+        1,
+        Why::Integer,
+    ),
+    ("struct A { #[describe(key = x)] a: u8 }", 1, Why::Integer),
+    (
+        "struct A { #[describe(key = 1)] #[serde(rename = \"b\")] a: u8 }",
+        1,
+        Why::Attribute,
+    ),
+    ("#[describe(key = 1)] struct A(u8);", 1, Why::Attribute),
+    (
+        "struct A<'a> { #[describe(key = 1)] a: &'a str }",
+        1,
+        Why::Borrows,
+    ),
+    (
+        "#[describe(array)]\nstruct A { #[serde(default)] a: u8 }",
+        2,
+        Why::ArrayField,
+    ),
+    ("#[describe(array)] struct A(u8);", 1, Why::Attribute),
+    ("struct A { #[describe(array)] a: u8 }", 1, Why::Attribute),
+    (
+        "#[describe(tag = 18446744073709551616)] struct A(u8);",
+        1,
+        Why::Integer,
+    ),
+    ("#[describe(tag = 1)] struct A { a: u8 }", 1, Why::Attribute),
+    ("enum A {\n}", 2, Why::VariantCount),
+    (
+        "enum A { A, B, C, D, E, F, G, H, I, J, K, L, M }",
+        1,
+        Why::VariantCount,
+    ),
+    ("enum A { B,\nB }", 2, Why::SameName),
+    ("enum A { B, #[serde(rename = \"B\")] C }", 1, Why::SameName),
+    ("enum A { B() }", 1, Why::VariantItems),
+    ("enum A { B(u8, u8, u8, u8) }", 1, Why::VariantItems),
+    ("enum A { B {\n} }", 2, Why::FieldCount),
+    (
+        "enum A { B { a: u8, b: u8, c: u8, d: u8, e: u8 } }",
+        1,
+        Why::VariantFields,
+    ),
+    (
+        "enum A { B { #[describe(key = 1)] a: u8 } }",
+        1,
+        Why::VariantField,
+    ),
+    (
+        "enum A { B { #[serde(skip_serializing_if = \"Option::is_none\")] a: Option<u8> } }",
+        1,
+        Why::VariantField,
+    ),
+    ("enum A<T> { B(T) }", 1, Why::EnumParameter),
+    ("enum A<'a> { B(&'a str) }", 1, Why::EnumParameter),
+    ("#[describe(array)] enum A { B }", 1, Why::Attribute),
+    ("enum A { #[serde(other)] B }", 1, Why::Attribute),
+    ("enum A { #[describe(once)] B }", 1, Why::Attribute),
+    ("enum A { B(#[serde(default)] u8) }", 1, Why::Attribute),
+    ("enum A { B = 1 }", 1, Why::Unexpected),
 ];
 
 #[test]
@@ -69,7 +162,7 @@ fn forms_are_refused(rt: HostRuntime) {
 }
 
 // A type, and a part of what is written of it.
-const WRITTEN: [(&str, &str); 13] = [
+const WRITTEN: [(&str, &str); 26] = [
     (
         "struct A { #[serde(rename = \"b\")] a: u8 }",
         "serialize_1_field(\"A\", \"b\", &self.a)",
@@ -112,6 +205,58 @@ const WRITTEN: [(&str, &str); 13] = [
     (
         "struct A { a: u8 } struct B(A);",
         "de.deserialize_from::<A, B>(alloc)",
+    ),
+    (
+        "#[serde(rename = \"b\")] struct A { a: u8 }",
+        "serialize_1_field(\"b\", \"a\", &self.a)",
+    ),
+    (
+        "#[describe(array)] struct A { a: Option<u8> }",
+        "(with_element ⟦<Option<u8> as Described>⟧.codec\n        no_elements) refl",
+    ),
+    (
+        "struct A { #[describe(key = -9223372036854775808)] a: u8 }",
+        "(with_key (minus 9223372036854775808) (codes \"an a has no a\")",
+    ),
+    (
+        "struct A { #[describe(key = -1, once)] a: u8 }",
+        "fields.serialize_fields(\"A\", &[-1], ser)",
+    ),
+    (
+        "struct A { #[describe(key = 0)] #[serde(default = \"7\")] a: u8 }",
+        "(with_key_or (pos 0) 7 ",
+    ),
+    (
+        "#[describe(tag = 18446744073709551615)] struct A(u8);",
+        "ser.serialize_tagged(18446744073709551615, &self.0)",
+    ),
+    (
+        "enum A { #[serde(rename = \"b\")] B }",
+        "A::B => ser.serialize_unit_variant(\"A\", 0, \"b\"),",
+    ),
+    (
+        "enum AnEvent { B(u8) }",
+        "impl From<AnEventChoice> for AnEvent",
+    ),
+    (
+        "enum BigOrder { B(u8) }",
+        "Otherwise(\"no such big order\")",
+    ),
+    (
+        "enum A { B(u8, u8, u8), C }",
+        "ser.serialize_newtype_variant(\"A\", 0, \"B\", &(first, second, third))",
+    ),
+    (
+        "enum A { B, C { #[serde(rename = \"x\")] data: u8 } }",
+        "| A.C first ↦ Other (First (first, no_values))",
+    ),
+    (
+        "enum A { C { #[serde(rename = \"x\")] data: u8 }, B, D(u8) }",
+        "serialize_variant_of_1_field(\"A\", 0, \"C\", \"x\", data)",
+    ),
+    (
+        "enum A { B, C { b: u8 }, D(u8), E }",
+        "let others = (Holds, (Unit, others));\n        let names = &[\"b\"];",
     ),
 ];
 

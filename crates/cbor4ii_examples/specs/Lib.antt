@@ -10,8 +10,6 @@ pub mod Shape
 pub mod ShapeLaws
 -- A number with a limit.
 pub mod Percent
--- An enum, by its variants.
-pub mod Event
 -- A signed payload, sealed and opened.
 pub mod Envelope
 -- At which byte settings are rejected, and when a store rejects bytes.

@@ -8,7 +8,6 @@ ghost use Rattle.cbor4ii.specs.Fields.{no_values};
 
 use cbor4ii::dec::Source;
 use cbor4ii::enc::Write;
-use cbor4ii::error::StaticStr;
 use cbor4ii::serde::{
     AsDescribed, DecodeError, Described, Deserialize, Deserializer, EncodeError, FieldValues,
     IfSome, Optional, Required, Serialize, Serializer, Typed,
@@ -29,19 +28,15 @@ pub struct CoseKey {
     pub x: Bytes<Vec<u8>>,
 }
 
-const KEYS: [i64; 4] = [1, 3, -1, -2];
-
 /// A map of four fields, or of three where there is no algorithm.
 impl Serialize for CoseKey {
     ghost encoding = { ⟦<CoseKey as Described>⟧.codec.encoding };
 
     fn serialize<W: Write>(&self, ser: &mut Serializer<W>) -> Result<(), EncodeError<W::Error>> {
         let fields = (&self.kty, IfSome(&self.alg), &self.crv, &self.x);
-        fields.serialize_fields("COSE_Key", &KEYS, ser)
+        fields.serialize_fields("COSE_Key", &[1, 3, -1, -2], ser)
     }
 }
-
-const MISSING: [StaticStr; 4] = ["a key has no kty", "", "a key has no crv", "a key has no x"];
 
 /// Other keys are skipped, be they integers or texts.
 impl<S: Source> Deserialize<S> for CoseKey {
@@ -49,13 +44,14 @@ impl<S: Source> Deserialize<S> for CoseKey {
         alloc: Global,
         de: &mut Deserializer<S>,
     ) -> Result<CoseKey, DecodeError<S::Error>> {
+        let missing = ["a key has no kty", "", "a key has no crv", "a key has no x"];
         let presences = (Required, (Optional, (Required, (Required, ()))));
-        de.deserialize_keyed_fields(alloc, "COSE_Key", &KEYS, &MISSING, presences)
+        de.deserialize_keyed_fields(alloc, "COSE_Key", &[1, 3, -1, -2], &missing, presences)
     }
 }
 
 impl From<(i64, (Option<i64>, (i64, (Bytes<Vec<u8>>, ()))))> for CoseKey {
-    ghost from_gives = { λ values k. values ≡ (k.kty, (k.alg, (k.crv, (k.x, no_values)))) };
+    ghost from_gives = { λ values c. values ≡ (c.kty, (c.alg, (c.crv, (c.x, no_values)))) };
 
     fn from(values: (i64, (Option<i64>, (i64, (Bytes<Vec<u8>>, ()))))) -> CoseKey {
         let (kty, (alg, (crv, (x, ())))) = values;
@@ -68,7 +64,7 @@ impl Typed for CoseKey {
 }
 
 impl Described for CoseKey {
-    ghost codec = { keyed_codec (λ k. (k.kty, (k.alg, (k.crv, (k.x, no_values)))))
+    ghost codec = { keyed_codec (λ c. (c.kty, (c.alg, (c.crv, (c.x, no_values)))))
         (with_key (pos 1) (codes "a key has no kty") ⟦<i64 as Described>⟧.codec
         (with_optional_key (pos 3) ⟦<i64 as Described>⟧.codec
         (with_key (minus 1) (codes "a key has no crv") ⟦<i64 as Described>⟧.codec

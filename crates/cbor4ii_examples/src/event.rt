@@ -5,12 +5,12 @@ ghost use Rattle.cbor4ii.specs.CodecAgrees.{as_described};
 ghost use Rattle.cbor4ii.specs.CodecCases.{enum_codec, unit_variant, variant, variant_of_fields};
 ghost use Rattle.cbor4ii.specs.CodecCases.{no_case};
 ghost use Rattle.cbor4ii.specs.CodecFields.{with_field, no_fields};
-ghost use Rattle.cbor4ii_examples.specs.Event.{choice_of};
+ghost use Rattle.cbor4ii.specs.Fields.{no_values};
 
 use crate::sample::Sample;
 use cbor4ii::dec::Source;
 use cbor4ii::enc::Write;
-use cbor4ii::error::{Never, StaticStr};
+use cbor4ii::error::Never;
 use cbor4ii::serde::Choice::{First, Other};
 use cbor4ii::serde::{
     AsDescribed, Choice, DecodeError, Described, Deserialize, Deserializer, EncodeError,
@@ -39,9 +39,9 @@ impl Serialize for Event {
     fn serialize<W: Write>(&self, ser: &mut Serializer<W>) -> Result<(), EncodeError<W::Error>> {
         match self {
             Event::Started => ser.serialize_unit_variant("Event", 0, "Started"),
-            Event::Sampled(sample) => ser.serialize_newtype_variant("Event", 1, "Sampled", sample),
-            Event::Moved(east, north) => {
-                ser.serialize_newtype_variant("Event", 2, "Moved", &(*east, *north))
+            Event::Sampled(first) => ser.serialize_newtype_variant("Event", 1, "Sampled", first),
+            Event::Moved(first, second) => {
+                ser.serialize_newtype_variant("Event", 2, "Moved", &(first, second))
             }
             Event::Named { id, name } => {
                 ser.serialize_variant_of_2_fields("Event", 3, "Named", "id", id, "name", name)
@@ -50,31 +50,41 @@ impl Serialize for Event {
     }
 }
 
-const EVENTS: [StaticStr; 4] = ["Started", "Sampled", "Moved", "Named"];
-
 impl<S: Source> Deserialize<S> for Event {
     fn deserialize(
         alloc: Global,
         de: &mut Deserializer<S>,
     ) -> Result<Event, DecodeError<S::Error>> {
+        let variants = ["Started", "Sampled", "Moved", "Named"];
+        let others = Otherwise("no such event");
+        let names = &["id", "name"];
         let missing = &["a name has no id", "a name has no text"];
-        let words = FieldWords(&["id", "name"], missing, PhantomData);
+        let words = FieldWords(names, missing, PhantomData);
         let presences = (Required, (Required, ()));
-        let named = HoldsFields(words, presences, Otherwise("no such event"));
-        de.deserialize_variant(alloc, "Event", &EVENTS, (Unit, (Holds, (Holds, named))))
+        let others = HoldsFields(words, presences, others);
+        let others = (Unit, (Holds, (Holds, others)));
+        de.deserialize_variant(alloc, "Event", &variants, others)
     }
 }
 
-type Events = Choice<(), Choice<Sample, Choice<(i32, i32), Choice<(u32, (String, ())), Never>>>>;
+type EventChoice = Choice<
+    (),
+    Choice<Sample, Choice<(i32, i32), Choice<(u32, (String, ())), Never>>>,
+>;
 
-impl From<Events> for Event {
-    ghost from_gives = { λ c e. c ≡ choice_of e };
+impl From<EventChoice> for Event {
+    ghost from_gives = { λ choice e. choice ≡ elim e [
+      | Event.Started ↦ First tt
+      | Event.Sampled first ↦ Other (First first)
+      | Event.Moved first second ↦ Other (Other (First (first, second)))
+      | Event.Named first second ↦ Other (Other (Other (First (first, (second, no_values)))))
+    ] };
 
-    fn from(events: Events) -> Event {
-        match events {
+    fn from(choice: EventChoice) -> Event {
+        match choice {
             First(()) => Event::Started,
-            Other(First(sample)) => Event::Sampled(sample),
-            Other(Other(First((east, north)))) => Event::Moved(east, north),
+            Other(First(first)) => Event::Sampled(first),
+            Other(Other(First((first, second)))) => Event::Moved(first, second),
             Other(Other(Other(First((id, (name, ())))))) => Event::Named { id, name },
         }
     }
@@ -85,7 +95,13 @@ impl Typed for Event {
 }
 
 impl Described for Event {
-    ghost codec = { enum_codec choice_of (unit_variant (codes "Started")
+    ghost codec = { enum_codec (elim [
+      | Event.Started ↦ First tt
+      | Event.Sampled first ↦ Other (First first)
+      | Event.Moved first second ↦ Other (Other (First (first, second)))
+      | Event.Named first second ↦ Other (Other (Other (First (first, (second, no_values)))))
+    ])
+        (unit_variant (codes "Started")
         (variant (codes "Sampled") ⟦<Sample as Described>⟧.codec
         (variant (codes "Moved") ⟦<(i32, i32) as Described>⟧.codec
         (variant_of_fields (codes "Named")

@@ -27,20 +27,20 @@ impl Serialize for Moment {
     }
 }
 
-impl From<i64> for Moment {
-    ghost from_gives = { λ n m. n ≡ m.0 };
-
-    fn from(seconds: i64) -> Moment {
-        Moment(seconds)
-    }
-}
-
 impl<S: Source> Deserialize<S> for Moment {
     fn deserialize(
         alloc: Global,
         de: &mut Deserializer<S>,
     ) -> Result<Moment, DecodeError<S::Error>> {
         de.deserialize_tagged::<i64, Moment>(alloc, 1)
+    }
+}
+
+impl From<i64> for Moment {
+    ghost from_gives = { λ value m. value ≡ m.0 };
+
+    fn from(value: i64) -> Moment {
+        Moment(value)
     }
 }
 
@@ -97,11 +97,10 @@ impl Typed for Claim {
 
 impl Described for Claim {
     ghost codec = { struct_codec (λ c. (c.issuer, (c.issued, no_values)))
-        (with_field (codes "issuer") (codes "a claim has an issuer")
-        ⟦<String as Described>⟧.codec
+        (with_field (codes "issuer") (codes "a claim has an issuer") ⟦<String as Described>⟧.codec
         (with_field (codes "issued") (codes "a claim says when it was issued")
-        ⟦<Moment as Described>⟧.codec no_fields refl) refl)
-        refl };
+        ⟦<Moment as Described>⟧.codec
+        no_fields refl) refl) refl };
 }
 
 impl AsDescribed for Claim {

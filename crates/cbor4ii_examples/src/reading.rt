@@ -51,8 +51,10 @@ impl<S: Source> Deserialize<S> for Reading {
 }
 
 impl From<(u32, (u32, (i32, (Option<String>, (Vec<u16>, ())))))> for Reading {
-    ghost from_gives = { λ values r.
-        values ≡ (r.sensor, (r.time, (r.mean, (r.note, (r.samples, no_values))))) };
+    ghost from_gives = { λ values r. values ≡ (
+      r.sensor,
+      (r.time, (r.mean, (r.note, (r.samples, no_values)))),
+    ) };
 
     fn from(values: (u32, (u32, (i32, (Option<String>, (Vec<u16>, ())))))) -> Reading {
         let (sensor, (time, (mean, (note, (samples, ()))))) = values;
@@ -71,13 +73,16 @@ impl Typed for Reading {
 }
 
 impl Described for Reading {
-    ghost codec = { elements_codec
-        (λ r. (r.sensor, (r.time, (r.mean, (r.note, (r.samples, no_values))))))
+    ghost codec = { elements_codec (λ r. (
+      r.sensor,
+      (r.time, (r.mean, (r.note, (r.samples, no_values)))),
+    ))
         (with_element ⟦<u32 as Described>⟧.codec
         (with_element ⟦<u32 as Described>⟧.codec
         (with_element ⟦<i32 as Described>⟧.codec
         (with_element ⟦<Option<String> as Described>⟧.codec
-        (with_element ⟦<Vec<u16> as Described>⟧.codec no_elements))))) refl };
+        (with_element ⟦<Vec<u16> as Described>⟧.codec
+        no_elements))))) refl };
 }
 
 impl AsDescribed for Reading {

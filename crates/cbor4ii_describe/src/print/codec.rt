@@ -1,10 +1,10 @@
 //! The ghost `codec`.
 ghost use Rattle.std.specs.Prelude.{◌≡◌, ◌++◌, IfOk, IfSome, codes, string_bytes};
-ghost use Rattle.cbor4ii_describe.specs.Text.{field_word};
+ghost use Rattle.cbor4ii_describe.specs.Text.{field_word, ghost_key, sort_text};
 
 use crate::fault::{Fault, Why, refused};
 use crate::print::layout::{COLUMNS, width};
-use crate::shape::{Field, Parameter, Presence};
+use crate::shape::{Field, Form, Key, Parameter, Presence};
 use crate::types::{in_option, mentions};
 use std::alloc::{AllocError, Global};
 
@@ -64,11 +64,15 @@ fn in_vector(its_type: &str) -> Option<&str>
 pub fn put_fields(
     alloc: Global,
     out: &mut String,
+    form: Form,
     fields: &[Field],
     parameter: &Parameter,
 ) -> Result<(), Fault> {
     for field in fields {
-        let begin = begin(alloc, field)?;
+        let begin = match form {
+            Form::Array => String::from_str(alloc, "(with_element")?,
+            _ => begin(alloc, field)?,
+        };
         let codec = codec(alloc, field.line, held_type(field), parameter)?;
         let wide = width(begin.as_str()).saturating_add(width(codec.as_str()));
         if wide.saturating_add(9) <= COLUMNS {
@@ -77,9 +81,14 @@ pub fn put_fields(
             write!(out, "        {begin}\n        {codec}\n")?;
         }
     }
-    out.push_str("        no_fields")?;
+    let (last, close) = match form {
+        Form::Named => ("no_fields", " refl)"),
+        Form::Keyed => ("no_keys", " refl)"),
+        Form::Array => ("no_elements", ")"),
+    };
+    write!(out, "        {last}")?;
     for _ in fields {
-        out.push_str(" refl)")?;
+        out.push_str(close)?;
     }
     Ok(())
 }
@@ -97,19 +106,40 @@ pub fn held_type(field: &Field) -> &str {
 fn begin(alloc: Global, field: &Field) -> Result<String, AllocError>
     ensures { IfOk result (λ text. string_bytes text ≡ field_word field.now) }
 {
-    let (key, words) = (field.key.as_str(), field.words.as_str());
+    let (sort, key, words) = (
+        sort(&field.key),
+        key(alloc, &field.key)?,
+        field.words.as_str(),
+    );
     match &field.presence {
-        Presence::Required => {
-            let word = if field.once {
-                "with_field_once"
-            } else {
-                "with_field"
-            };
-            format!(in alloc; "({word} (codes \"{key}\") (codes \"{words}\")")
+        Presence::Required if field.once => {
+            format!(in alloc; "(with_{sort}_once {key} (codes \"{words}\")")
         }
-        Presence::LeftOut => format!(in alloc; "(with_optional_field (codes \"{key}\")"),
+        Presence::Required => format!(in alloc; "(with_{sort} {key} (codes \"{words}\")"),
+        Presence::LeftOut => format!(in alloc; "(with_optional_{sort} {key}"),
         Presence::Or { ghost_text, .. } => {
-            format!(in alloc; "(with_field_or (codes \"{key}\") {ghost_text}")
+            format!(in alloc; "(with_{sort}_or {key} {ghost_text}")
         }
+    }
+}
+
+// What a word of the codec calls a field under this key.
+fn sort(key: &Key) -> &'static str
+    ensures { result.now ≡ sort_text key.now }
+{
+    match key {
+        Key::Name(_) => "field",
+        Key::Positive(_) | Key::Negative(_) => "key",
+    }
+}
+
+// A key in a ghost.
+fn key(alloc: Global, key: &Key) -> Result<String, AllocError>
+    ensures { IfOk result (λ text. string_bytes text ≡ ghost_key key.now) }
+{
+    match key {
+        Key::Name(name) => format!(in alloc; "(codes \"{name}\")"),
+        Key::Positive(size) => format!(in alloc; "(pos {size})"),
+        Key::Negative(size) => format!(in alloc; "(minus {size})"),
     }
 }

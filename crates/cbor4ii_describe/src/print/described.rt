@@ -6,13 +6,17 @@ use crate::fault::Fault;
 use crate::print::codec::{codec, put_fields};
 use crate::print::deserialize::put_deserialize;
 use crate::print::from::put_from;
-use crate::print::layout::{Frame, LIST, indent, put_pairs};
+use crate::print::layout::{COLUMNS, Frame, LIST, Pair, indent, put_items, put_pairs, width};
 use crate::print::lists::places;
 use crate::print::serialize::put_serialize;
 use crate::print::types::{generics, letter, self_type};
-use crate::shape::{Described, Field, Head, Parameter, Shape};
+use crate::print::variants::put_enum_codec;
+use crate::shape::{Content, Described, Field, Form, Parameter, Shape, Variant};
 use crate::types::mentions;
 use std::alloc::{AllocError, Global};
+
+// How wide the fields of a variant are at most that stand on one line.
+const VARIANT: usize = 35;
 
 /// Appends a type and its impls.
 pub fn put_described(alloc: Global, out: &mut String, described: &Described) -> Result<(), Fault> {
@@ -28,38 +32,105 @@ pub fn put_described(alloc: Global, out: &mut String, described: &Described) -> 
 // Appends the type itself.
 fn put_type(alloc: Global, out: &mut String, described: &Described) -> Result<(), AllocError> {
     let this = self_type(alloc, described)?;
-    put_lines_above(out, 0, &described.head)?;
+    put_lines_above(out, 0, &described.head.lines)?;
     let visibility = described.head.visibility.as_str();
     match &described.shape {
         Shape::Newtype {
             visibility: inner,
             its_type,
+            ..
         } => write!(out, "{visibility}struct {this}({inner}{its_type});\n\n"),
-        Shape::Fields(fields) => {
+        Shape::Fields { fields, .. } => {
             write!(out, "{visibility}struct {this} {{\n")?;
             for field in fields {
-                put_field(out, field)?;
+                put_field(out, 4, field)?;
             }
+            out.push_str("}\n\n")
+        }
+        Shape::Variants { variants, .. } => {
+            write!(out, "{visibility}enum {this} {{\n")?;
+            put_enum(alloc, out, variants)?;
             out.push_str("}\n\n")
         }
     }
 }
 
 // Appends the lines above an item.
-fn put_lines_above(out: &mut String, columns: usize, head: &Head) -> Result<(), AllocError> {
-    for line in &head.lines {
+fn put_lines_above(out: &mut String, columns: usize, lines: &[String]) -> Result<(), AllocError> {
+    for line in lines {
         indent(out, columns)?;
         write!(out, "{line}\n")?;
     }
     Ok(())
 }
 
-// Appends a field of the struct.
-fn put_field(out: &mut String, field: &Field) -> Result<(), AllocError> {
-    put_lines_above(out, 4, &field.head)?;
+// Appends a field behind so many columns.
+fn put_field(out: &mut String, columns: usize, field: &Field) -> Result<(), AllocError> {
+    put_lines_above(out, columns, &field.head.lines)?;
     let visibility = field.head.visibility.as_str();
     let (name, its_type) = (field.name.as_str(), field.its_type.as_str());
-    write!(out, "    {visibility}{name}: {its_type},\n")
+    indent(out, columns)?;
+    write!(out, "{visibility}{name}: {its_type},\n")
+}
+
+// Appends the variants of an enum. Where the fields of one take several lines, those of each do.
+fn put_enum(alloc: Global, out: &mut String, variants: &[Variant]) -> Result<(), AllocError> {
+    let mut is_tall = false;
+    for variant in variants {
+        is_tall = is_tall || fields_line(alloc, variant)?.is_none();
+    }
+    for variant in variants {
+        put_lines_above(out, 4, &variant.lines)?;
+        put_variant(alloc, out, variant, is_tall)?;
+    }
+    Ok(())
+}
+
+// Appends a variant.
+fn put_variant(
+    alloc: Global,
+    out: &mut String,
+    variant: &Variant,
+    is_tall: bool,
+) -> Result<(), AllocError> {
+    let name = variant.name.as_str();
+    let line = fields_line(alloc, variant)?;
+    match (&variant.holds, line) {
+        (Content::Nothing, _) => write!(out, "    {name},\n"),
+        (Content::Items(items), _) => {
+            write!(out, "    {name}(")?;
+            put_items(out, items)?;
+            out.push_str("),\n")
+        }
+        (Content::Fields(_), Some(line)) if !is_tall => {
+            write!(out, "    {name} {{ {line} }},\n")
+        }
+        (Content::Fields(fields), _) => {
+            write!(out, "    {name} {{\n")?;
+            for field in fields {
+                put_field(out, 8, field)?;
+            }
+            out.push_str("    },\n")
+        }
+    }
+}
+
+// The fields of a variant on one line, where they have room there. Another variant has none.
+fn fields_line(alloc: Global, variant: &Variant) -> Result<Option<String>, AllocError> {
+    let mut line = String::new(alloc);
+    if let Content::Fields(fields) = &variant.holds {
+        for (i, field) in fields.iter().enumerate() {
+            if !field.head.lines.is_empty() {
+                return Ok(None);
+            }
+            let (name, its_type) = (field.name.as_str(), field.its_type.as_str());
+            let comma = if i == 0 { "" } else { ", " };
+            write!(line, "{comma}{name}: {its_type}")?;
+        }
+    }
+    let room = width(variant.name.as_str()).saturating_add(width(line.as_str()));
+    let is_narrow = width(line.as_str()) <= VARIANT && room.saturating_add(10) <= COLUMNS;
+    Ok(is_narrow.then_some(line))
 }
 
 // Appends what is promised where the type is read.
@@ -88,26 +159,44 @@ fn put_codec(alloc: Global, out: &mut String, described: &Described) -> Result<(
     let letter = letter(described.name.as_str());
     write!(out, "impl{generics} Described for {this} {{\n")?;
     match &described.shape {
-        Shape::Newtype { its_type, .. } => {
+        Shape::Newtype { its_type, tag, .. } => {
             let codec = codec(
                 alloc,
                 described.line,
                 its_type.as_str(),
                 &described.parameter,
             )?;
+            let codec = tagged(alloc, *tag, codec)?;
             write!(
                 out,
                 "    ghost codec = {{ codec_of (λ {letter}. {letter}.0) {codec}"
             )?;
         }
-        Shape::Fields(fields) => {
-            put_places(alloc, out, letter, fields)?;
-            put_fields(alloc, out, fields, &described.parameter)?;
+        Shape::Fields { form, fields } => {
+            put_places(alloc, out, letter, *form, fields)?;
+            put_fields(alloc, out, *form, fields, &described.parameter)?;
             out.push_str(" refl")?;
+        }
+        Shape::Variants { variants, words } => {
+            put_enum_codec(
+                alloc,
+                out,
+                described.name.as_str(),
+                words.as_str(),
+                variants,
+            )?;
         }
     }
     out.push_str(" };\n}\n\n")?;
     Ok(())
+}
+
+// A codec, behind a tag where there is one.
+fn tagged(alloc: Global, tag: Option<u64>, codec: String) -> Result<String, AllocError> {
+    match tag {
+        None => Ok(codec),
+        Some(tag) => format!(in alloc; "(tagged_codec {tag} {codec} refl)"),
+    }
 }
 
 // Appends where the fields of a struct stand in it.
@@ -115,15 +204,22 @@ fn put_places(
     alloc: Global,
     out: &mut String,
     letter: char,
+    form: Form,
     fields: &[Field],
 ) -> Result<(), AllocError> {
-    let before = format!(in alloc; "ghost codec = {{ struct_codec (λ {letter}. ")?;
+    let word = match form {
+        Form::Named => "struct_codec",
+        Form::Keyed => "keyed_codec",
+        Form::Array => "elements_codec",
+    };
+    let before = format!(in alloc; "ghost codec = {{ {word} (λ {letter}. ")?;
     let frame = Frame {
         columns: 4,
         before: before.as_str(),
         after: ")",
         step: 2,
         most: LIST,
+        pair: Pair::Tuple,
     };
     put_pairs(out, &places(alloc, letter, fields)?, "no_values", frame)
 }
@@ -161,9 +257,10 @@ fn laws(alloc: Global, described: &Described) -> Result<String, AllocError> {
 fn places_of(shape: &Shape, parameter: &str) -> usize {
     match shape {
         Shape::Newtype { its_type, .. } => usize::from(mentions(its_type.as_str(), parameter)),
-        Shape::Fields(fields) => fields
+        Shape::Fields { fields, .. } => fields
             .iter()
             .filter(|field| mentions(field.its_type.as_str(), parameter))
             .count(),
+        Shape::Variants { .. } => 0,
     }
 }

@@ -1,8 +1,9 @@
 //! `impl Deserialize`.
-use crate::print::layout::{COLUMNS, Frame, LIST, put_call, put_list, put_pairs, width};
+use crate::print::layout::{COLUMNS, Frame, LIST, Pair, put_call, put_list, put_pairs, width};
 use crate::print::lists::{keys, missing, presences};
 use crate::print::types::self_type;
-use crate::shape::{Described, Field, Parameter, Shape};
+use crate::print::variants::put_variants;
+use crate::shape::{Described, Field, Form, Parameter, Shape};
 use std::alloc::{AllocError, Global};
 
 /// Appends how a type is read.
@@ -25,13 +26,29 @@ pub fn put_deserialize(
     };
     put_signature(alloc, out, reader.as_str(), this.as_str(), error.as_str())?;
     match &described.shape {
-        Shape::Newtype { its_type, .. } => {
-            write!(
-                out,
-                "        de.deserialize_from::<{its_type}, {this}>(alloc)\n"
-            )?;
+        Shape::Newtype {
+            its_type,
+            tag: Some(tag),
+            ..
+        } => write!(
+            out,
+            "        de.deserialize_tagged::<{its_type}, {this}>(alloc, {tag})\n"
+        )?,
+        Shape::Newtype { its_type, .. } => write!(
+            out,
+            "        de.deserialize_from::<{its_type}, {this}>(alloc)\n"
+        )?,
+        Shape::Fields {
+            form: Form::Array,
+            ..
+        } => out.push_str("        de.deserialize_elements(alloc)\n")?,
+        Shape::Fields { form, fields } => {
+            put_struct(alloc, out, described.label.as_str(), *form, fields)?;
         }
-        Shape::Fields(fields) => put_struct(alloc, out, described.name.as_str(), fields)?,
+        Shape::Variants { variants, words } => {
+            let label = described.label.as_str();
+            put_variants(alloc, out, label, words.as_str(), variants)?;
+        }
     }
     out.push_str("    }\n}\n\n")
 }
@@ -79,22 +96,29 @@ fn put_signature(
     )
 }
 
-// Appends the call that reads a struct.
-fn put_struct(
-    alloc: Global,
-    out: &mut String,
-    name: &str,
-    fields: &[Field],
-) -> Result<(), AllocError> {
-    put_list(out, 8, "let missing = [", &missing(alloc, fields)?, "];")?;
+/// Appends what the fields are where they are missing.
+pub fn put_presences(alloc: Global, out: &mut String, fields: &[Field]) -> Result<(), AllocError> {
     let frame = Frame {
         columns: 8,
         before: "let presences = ",
         after: ";",
         step: 4,
         most: LIST,
+        pair: Pair::Tuple,
     };
-    put_pairs(out, &presences(alloc, fields)?, "()", frame)?;
+    put_pairs(out, &presences(alloc, fields)?, "()", frame)
+}
+
+// Appends the call that reads a struct from a map.
+fn put_struct(
+    alloc: Global,
+    out: &mut String,
+    name: &str,
+    form: Form,
+    fields: &[Field],
+) -> Result<(), AllocError> {
+    put_list(out, 8, "let missing = [", &missing(alloc, fields)?, "];")?;
+    put_presences(alloc, out, fields)?;
     let mut before = Vec::new(alloc);
     before.push(String::from_str(alloc, "alloc")?)?;
     before.push(format!(in alloc; "\"{name}\"")?)?;
@@ -102,5 +126,9 @@ fn put_struct(
     after.push(String::from_str(alloc, "&missing")?)?;
     after.push(String::from_str(alloc, "presences")?)?;
     let keys = keys(alloc, fields)?;
-    put_call(alloc, out, "de.deserialize_fields(", &before, &keys, &after)
+    let call = match form {
+        Form::Keyed => "de.deserialize_keyed_fields(",
+        _ => "de.deserialize_fields(",
+    };
+    put_call(alloc, out, call, &before, &keys, &after)
 }

@@ -1,9 +1,10 @@
 //! `impl From`.
 use crate::print::layout::{
-    COLUMNS, Frame, LIST, pairs_width, put_flat_pairs, put_items, put_lines, put_pairs, width,
+    COLUMNS, Frame, LIST, Pair, pairs_width, put_flat_pairs, put_items, put_lines, put_pairs, width,
 };
 use crate::print::lists::{names, places, types};
 use crate::print::types::{generics, letter, self_type};
+use crate::print::variants::put_from_choice;
 use crate::shape::{Described, Field, Shape};
 use std::alloc::{AllocError, Global};
 
@@ -24,7 +25,8 @@ pub fn put_from(alloc: Global, out: &mut String, described: &Described) -> Resul
              fn from(value: {its_type}) -> {this} {{\n        \
              {name}(value)\n    }}\n}}\n\n"
         ),
-        Shape::Fields(fields) => put_struct(alloc, out, described, fields),
+        Shape::Fields { fields, .. } => put_struct(alloc, out, described, fields),
+        Shape::Variants { variants, .. } => put_from_choice(alloc, out, name, variants),
     }
 }
 
@@ -48,6 +50,7 @@ fn put_struct(
         after: " };",
         step: 2,
         most: LIST,
+        pair: Pair::Tuple,
     };
     put_pairs(out, &places(alloc, letter, fields)?, "no_values", gives)?;
     write!(out, "\n    fn from(values: {values}) -> {this} {{\n")?;
@@ -66,7 +69,7 @@ fn put_values(
 ) -> Result<String, AllocError> {
     let types = types(alloc, fields)?;
     let mut values = String::new(alloc);
-    put_flat_pairs(&mut values, &types, "()")?;
+    put_flat_pairs(&mut values, &types, "()", Pair::Tuple)?;
     let this = self_type(alloc, described)?;
     let generics = generics(alloc, &described.parameter, "")?;
     let header = format!(in alloc; "impl{generics} From<{values}> for {this} {{")?;
@@ -83,6 +86,7 @@ fn put_values(
         after: ";",
         step: 4,
         most: LIST,
+        pair: Pair::Tuple,
     };
     put_pairs(out, &types, "()", frame)?;
     out.push('\n')?;
@@ -97,11 +101,12 @@ fn put_let(out: &mut String, names: &[String]) -> Result<(), AllocError> {
         after: " = values;",
         step: 4,
         most: COLUMNS,
+        pair: Pair::Tuple,
     };
-    let wide = pairs_width(names, "()");
+    let wide = pairs_width(names, "()", Pair::Tuple);
     if wide <= COLUMNS - 14 && wide > COLUMNS - 22 {
         out.push_str("        let ")?;
-        put_flat_pairs(out, names, "()")?;
+        put_flat_pairs(out, names, "()", Pair::Tuple)?;
         return out.push_str(" =\n            values;\n");
     }
     put_pairs(out, names, "()", frame)

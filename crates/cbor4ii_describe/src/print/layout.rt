@@ -23,8 +23,8 @@ pub fn indent(out: &mut String, columns: usize) -> Result<(), AllocError> {
     Ok(())
 }
 
-// How many columns the items of a list take on one line.
-fn list_width(items: &[String]) -> usize {
+/// How many columns the items of a list take on one line.
+pub fn list_width(items: &[String]) -> usize {
     let mut sum: usize = 0;
     for item in items {
         sum = sum.saturating_add(width(item.as_str())).saturating_add(2);
@@ -64,8 +64,8 @@ pub fn put_list(
         put_items(out, items)?;
     } else {
         out.push('\n')?;
-        if items.iter().all(|item| width(item.as_str()) <= SHORT) {
-            put_packed(out, columns.saturating_add(4), items)?;
+        if open.ends_with("[") && items.iter().all(|item| width(item.as_str()) <= SHORT) {
+            put_packed(out, columns.saturating_add(4), COLUMNS, items)?;
         } else {
             put_lines(out, columns.saturating_add(4), items)?;
         }
@@ -113,15 +113,20 @@ pub fn put_lines(out: &mut String, columns: usize, items: &[String]) -> Result<(
     Ok(())
 }
 
-/// Appends as many items on each line as it has room for.
-pub fn put_packed(out: &mut String, columns: usize, items: &[String]) -> Result<(), AllocError> {
+/// Appends as many items on each line as so many columns have room for.
+pub fn put_packed(
+    out: &mut String,
+    columns: usize,
+    most: usize,
+    items: &[String],
+) -> Result<(), AllocError> {
     let mut at = 0;
     for item in items {
         let more = width(item.as_str()).saturating_add(2);
         if at == 0 {
             indent(out, columns)?;
             at = columns;
-        } else if at.saturating_add(more) > COLUMNS + 1 {
+        } else if at.saturating_add(more) > most.saturating_add(1) {
             out.push('\n')?;
             indent(out, columns)?;
             at = columns;
@@ -133,6 +138,33 @@ pub fn put_packed(out: &mut String, columns: usize, items: &[String]) -> Result<
         at = at.saturating_add(more);
     }
     out.push('\n')
+}
+
+/// What stands round each pair.
+#[derive(Clone, Copy, PartialEq, Eq)]
+pub enum Pair {
+    /// The brackets of a tuple.
+    Tuple,
+    /// The type `Choice`.
+    Choice,
+}
+
+impl Pair {
+    // What stands before the first part.
+    fn open(self) -> &'static str {
+        match self {
+            Pair::Tuple => "(",
+            Pair::Choice => "Choice<",
+        }
+    }
+
+    // What stands behind the second part.
+    fn close(self) -> &'static str {
+        match self {
+            Pair::Tuple => ")",
+            Pair::Choice => ">",
+        }
+    }
 }
 
 /// What stands round a tuple of pairs, and how it is laid out.
@@ -148,13 +180,19 @@ pub struct Frame<'a> {
     pub step: usize,
     /// How wide it is at most on one line, between its brackets.
     pub most: usize,
+    /// What stands round each pair.
+    pub pair: Pair,
 }
 
-// How many columns the pairs take on one line, with their brackets.
-pub fn pairs_width(items: &[String], last: &str) -> usize {
+/// How many columns the pairs take on one line, with their brackets.
+pub fn pairs_width(items: &[String], last: &str, pair: Pair) -> usize {
+    let brackets = width(pair.open()).saturating_add(width(pair.close()));
+    let more = brackets.saturating_add(2);
     let mut sum = width(last);
     for item in items {
-        sum = sum.saturating_add(width(item.as_str())).saturating_add(4);
+        sum = sum
+            .saturating_add(width(item.as_str()))
+            .saturating_add(more);
     }
     sum
 }
@@ -165,7 +203,7 @@ fn broken(items: &[String], last: &str, frame: Frame) -> usize {
     let mut behind = width(frame.after);
     let mut begin = frame.columns;
     for (i, _) in items.iter().enumerate() {
-        let wide = pairs_width(&items[i..], last);
+        let wide = pairs_width(&items[i..], last, frame.pair);
         let room = columns.saturating_add(behind);
         if wide.saturating_sub(2) <= frame.most && wide.saturating_add(room) <= COLUMNS {
             return i;
@@ -177,14 +215,20 @@ fn broken(items: &[String], last: &str, frame: Frame) -> usize {
     items.len()
 }
 
-// Appends pairs on one line.
-pub fn put_flat_pairs(out: &mut String, items: &[String], last: &str) -> Result<(), AllocError> {
+/// Appends pairs on one line.
+pub fn put_flat_pairs(
+    out: &mut String,
+    items: &[String],
+    last: &str,
+    pair: Pair,
+) -> Result<(), AllocError> {
     for item in items {
-        write!(out, "({item}, ")?;
+        out.push_str(pair.open())?;
+        write!(out, "{item}, ")?;
     }
     out.push_str(last)?;
     for _ in items {
-        out.push(')')?;
+        out.push_str(pair.close())?;
     }
     Ok(())
 }
@@ -203,19 +247,102 @@ pub fn put_pairs(
     let mut columns = frame.columns;
     for item in items.iter().take(broken) {
         columns = columns.saturating_add(frame.step);
-        out.push_str("(\n")?;
+        out.push_str(frame.pair.open())?;
+        out.push('\n')?;
         indent(out, columns)?;
         out.push_str(item.as_str())?;
         out.push_str(",\n")?;
         indent(out, columns)?;
     }
-    put_flat_pairs(out, items.get(broken..).unwrap_or(&[]), last)?;
+    put_flat_pairs(out, items.get(broken..).unwrap_or(&[]), last, frame.pair)?;
     for _ in 0..broken {
         columns = columns.saturating_sub(frame.step);
         out.push_str(",\n")?;
         indent(out, columns)?;
-        out.push(')')?;
+        out.push_str(frame.pair.close())?;
     }
     out.push_str(frame.after)?;
     out.push('\n')
+}
+
+/// A list in its brackets: a call, a value or a pattern.
+#[derive(Drop)]
+pub struct Bracketed {
+    /// What stands before the list.
+    pub open: String,
+    /// The list.
+    pub items: Vec<String>,
+    /// What stands behind it.
+    pub close: &'static str,
+    /// What stands on both sides of the list on one line.
+    pub gap: &'static str,
+    /// How wide the list is at most on one line.
+    pub most: usize,
+}
+
+// Whether the list may stand on one line.
+fn is_narrow(list: &Bracketed) -> bool {
+    list_width(&list.items) <= list.most
+}
+
+// How many columns it takes on one line.
+fn flat_width(list: &Bracketed) -> usize {
+    let gaps = width(list.gap).saturating_mul(2);
+    let brackets = width(list.open.as_str()).saturating_add(width(list.close));
+    list_width(&list.items)
+        .saturating_add(gaps)
+        .saturating_add(brackets)
+}
+
+// Appends it on one line.
+fn put_flat(out: &mut String, list: &Bracketed) -> Result<(), AllocError> {
+    out.push_str(list.open.as_str())?;
+    out.push_str(list.gap)?;
+    put_items(out, &list.items)?;
+    out.push_str(list.gap)?;
+    out.push_str(list.close)
+}
+
+// Appends it on several lines, the first of which begins behind so many columns.
+fn put_tall(out: &mut String, columns: usize, list: &Bracketed) -> Result<(), AllocError> {
+    write!(out, "{}\n", list.open)?;
+    put_lines(out, columns.saturating_add(4), &list.items)?;
+    indent(out, columns)?;
+    out.push_str(list.close)
+}
+
+/// Appends an arm of a match in a method: its pattern, and what it gives.
+pub fn put_arm(out: &mut String, pattern: &Bracketed, body: &Bracketed) -> Result<(), AllocError> {
+    indent(out, 12)?;
+    let begin = if is_narrow(pattern) {
+        put_flat(out, pattern)?;
+        flat_width(pattern).saturating_add(16)
+    } else {
+        put_tall(out, 12, pattern)?;
+        17
+    };
+    out.push_str(" =>")?;
+    put_body(out, begin, body)
+}
+
+// Appends what an arm gives whose pattern ends so many columns before it.
+fn put_body(out: &mut String, begin: usize, body: &Bracketed) -> Result<(), AllocError> {
+    let wide = flat_width(body);
+    if is_narrow(body) && begin.saturating_add(wide) < COLUMNS {
+        out.push(' ')?;
+        put_flat(out, body)?;
+        out.push_str(",\n")
+    } else if is_narrow(body) && wide.saturating_add(16) <= COLUMNS {
+        out.push_str(" {\n                ")?;
+        put_flat(out, body)?;
+        out.push_str("\n            }\n")
+    } else if begin.saturating_add(width(body.open.as_str())) <= COLUMNS {
+        out.push(' ')?;
+        put_tall(out, 12, body)?;
+        out.push_str(",\n")
+    } else {
+        out.push_str("\n                ")?;
+        put_tall(out, 16, body)?;
+        out.push_str(",\n")
+    }
 }

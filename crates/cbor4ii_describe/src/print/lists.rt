@@ -1,8 +1,8 @@
 //! The lists that are made of the fields of a struct.
 ghost use Rattle.std.specs.Prelude.{◌≡◌, IfOk, string_bytes};
-ghost use Rattle.cbor4ii_describe.specs.Text.{presence_code};
+ghost use Rattle.cbor4ii_describe.specs.Text.{key_code, presence_code};
 
-use crate::shape::{Field, Presence};
+use crate::shape::{Field, Key, Presence};
 use std::alloc::{AllocError, Global};
 
 /// The fields' names.
@@ -23,14 +23,34 @@ pub fn types(alloc: Global, fields: &[Field]) -> Result<Vec<String>, AllocError>
     Ok(types)
 }
 
-/// The names that are written, in quotes.
+/// What the fields are written under, as code.
 pub fn keys(alloc: Global, fields: &[Field]) -> Result<Vec<String>, AllocError> {
     let mut keys = Vec::new(alloc);
     for field in fields {
-        let key = field.key.as_str();
-        keys.push(format!(in alloc; "\"{key}\"")?)?;
+        keys.push(key(alloc, &field.key)?)?;
     }
     Ok(keys)
+}
+
+/// A key as code: a name in quotes, or an integer.
+pub fn key(alloc: Global, key: &Key) -> Result<String, AllocError>
+    ensures { IfOk result (λ text. string_bytes text ≡ key_code key.now) }
+{
+    match key {
+        Key::Name(name) => format!(in alloc; "\"{name}\""),
+        Key::Positive(size) => format!(in alloc; "{size}"),
+        Key::Negative(size) => format!(in alloc; "-{size}"),
+    }
+}
+
+/// The fields of this value, by reference.
+pub fn references(alloc: Global, fields: &[Field]) -> Result<Vec<String>, AllocError> {
+    let mut references = Vec::new(alloc);
+    for field in fields {
+        let place = field.name.as_str();
+        references.push(format!(in alloc; "&self.{place}")?)?;
+    }
+    Ok(references)
 }
 
 /// The fields of the value that this letter stands for.

@@ -1,10 +1,12 @@
 //! `impl Serialize`.
-ghost use Rattle.std.specs.Prelude.{◌≡◌, ◌≢◌, ◌++◌, IfOk, codes, decimal, string_bytes};
+ghost use Rattle.std.specs.Prelude.{◌≡◌, ◌≢◌, ◌++◌, IfOk, OnOk, codes, decimal, string_bytes};
+ghost use Rattle.cbor4ii_describe.specs.Text.{newtype_call};
 
-use crate::print::layout::{put_call, put_list};
-use crate::print::lists::keys;
+use crate::print::layout::{Frame, LIST, Pair, put_call, put_list, put_pairs};
+use crate::print::lists::{key, keys, references};
 use crate::print::types::{generics, self_type};
-use crate::shape::{Described, Field, Presence, Shape, leaves_out};
+use crate::print::variants::put_match;
+use crate::shape::{Described, Field, Form, Presence, Shape, leaves_out};
 use std::alloc::{AllocError, Global};
 
 /// Appends how a type is written.
@@ -22,10 +24,24 @@ pub fn put_serialize(
          Serializer<W>) -> Result<(), EncodeError<W::Error>> {{\n"
     )?;
     match &described.shape {
-        Shape::Newtype { .. } => out.push_str("        self.0.serialize(ser)\n")?,
-        Shape::Fields(fields) => put_struct(alloc, out, described.name.as_str(), fields)?,
+        Shape::Newtype { tag, .. } => put_newtype(out, *tag)?,
+        Shape::Fields { form, fields } => {
+            put_struct(alloc, out, described.label.as_str(), *form, fields)?;
+        }
+        Shape::Variants { variants, .. } => put_match(alloc, out, described, variants)?,
     }
     out.push_str("    }\n}\n\n")
+}
+
+// Appends the call that writes a newtype, behind a tag where there is one.
+fn put_newtype(out: &mut String, tag: Option<u64>) -> Result<(), AllocError>
+    ensures { OnOk result (string_bytes out.new
+        ≡ string_bytes out.old ++ (codes "        " ++ newtype_call tag)) }
+{
+    match tag {
+        None => out.push_str("        self.0.serialize(ser)\n"),
+        Some(tag) => write!(out, "        ser.serialize_tagged({tag}, &self.0)\n"),
+    }
 }
 
 // Appends the call that writes a struct.
@@ -33,17 +49,34 @@ fn put_struct(
     alloc: Global,
     out: &mut String,
     name: &str,
+    form: Form,
     fields: &[Field],
 ) -> Result<(), AllocError> {
-    if leaves_out(fields) {
-        return put_listed(alloc, out, name, fields);
+    match form {
+        Form::Array => put_elements(alloc, out, fields),
+        Form::Named if !leaves_out(fields) => {
+            let call = call(alloc, fields.len())?;
+            let arguments = arguments(alloc, name, fields)?;
+            put_list(out, 8, call.as_str(), &arguments, ")")
+        }
+        _ => put_listed(alloc, out, name, fields),
     }
-    let call = call(alloc, fields.len())?;
-    let arguments = arguments(alloc, name, fields)?;
-    put_list(out, 8, call.as_str(), &arguments, ")")
 }
 
-// Appends the call that writes a struct of which fields may be left out.
+// Appends the call that writes a struct as an array.
+fn put_elements(alloc: Global, out: &mut String, fields: &[Field]) -> Result<(), AllocError> {
+    let frame = Frame {
+        columns: 8,
+        before: "ser.serialize_elements(&",
+        after: ")",
+        step: 4,
+        most: LIST,
+        pair: Pair::Tuple,
+    };
+    put_pairs(out, &references(alloc, fields)?, "()", frame)
+}
+
+// Appends the call that writes a struct with integer keys, or one of which fields may be left out.
 fn put_listed(
     alloc: Global,
     out: &mut String,
@@ -85,8 +118,8 @@ fn arguments(alloc: Global, name: &str, fields: &[Field]) -> Result<Vec<String>,
     let mut arguments = Vec::new(alloc);
     arguments.push(format!(in alloc; "\"{name}\"")?)?;
     for field in fields {
-        let (key, place) = (field.key.as_str(), field.name.as_str());
-        arguments.push(format!(in alloc; "\"{key}\"")?)?;
+        let place = field.name.as_str();
+        arguments.push(key(alloc, &field.key)?)?;
         arguments.push(format!(in alloc; "&self.{place}")?)?;
     }
     Ok(arguments)

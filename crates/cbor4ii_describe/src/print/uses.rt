@@ -1,7 +1,7 @@
 //! What the impls import.
 use crate::print::codec::held_type;
 use crate::print::layout::{COLUMNS, put_packed, width};
-use crate::shape::{Described, Field, Parameter, Presence, Shape};
+use crate::shape::{Content, Described, Field, Form, Key, Parameter, Presence, Shape, Variant};
 use crate::types::mentions;
 use std::alloc::{AllocError, Global};
 
@@ -9,8 +9,22 @@ use std::alloc::{AllocError, Global};
 #[derive(Clone, Copy, PartialEq, Eq)]
 enum For {
     Each,
-    Struct,
     Newtype,
+    Refl,
+    Codes,
+    Tag,
+    Enum,
+    Never,
+    SecondVariant,
+    Unit,
+    Items,
+    VariantFields,
+    Values,
+    Named,
+    Fields,
+    Keyed,
+    Array,
+    Listed,
     AnyReader,
     Slice,
     Parameter,
@@ -20,10 +34,22 @@ enum For {
     Once,
     Or,
     LeftOut,
+    Plain(Sort),
+    OnceOf(Sort),
+    OrOf(Sort),
+    LeftOutOf(Sort),
+    Negative,
+    Pos,
     OrNone,
     OrTrue,
     OrFalse,
-    OrSigned,
+}
+
+// What a field is written under.
+#[derive(Clone, Copy, PartialEq, Eq)]
+enum Sort {
+    Name,
+    Integer,
 }
 
 // A file of ghost words.
@@ -33,7 +59,11 @@ enum File {
     Common,
     Codec,
     CodecAgrees,
+    CodecCases,
+    CodecElements,
     CodecFields,
+    CodecItems,
+    CodecKeyed,
     Fields,
 }
 
@@ -44,51 +74,93 @@ fn path(file: File) -> &'static str {
         File::Common => "std.proofs.Common",
         File::Codec => "cbor4ii.specs.Codec",
         File::CodecAgrees => "cbor4ii.specs.CodecAgrees",
+        File::CodecCases => "cbor4ii.specs.CodecCases",
+        File::CodecElements => "cbor4ii.specs.CodecElements",
         File::CodecFields => "cbor4ii.specs.CodecFields",
+        File::CodecItems => "cbor4ii.specs.CodecItems",
+        File::CodecKeyed => "cbor4ii.specs.CodecKeyed",
         File::Fields => "cbor4ii.specs.Fields",
     }
 }
 
 // The ghost words: where each is defined, and what it is imported for.
-const WORDS: [(File, &str, For); 19] = [
+const WORDS: [(File, &str, For); 35] = [
     (File::Prelude, "◌≡◌", For::Each),
     (File::Prelude, "None", For::OrNone),
     (File::Prelude, "true", For::OrTrue),
     (File::Prelude, "false", For::OrFalse),
-    (File::Prelude, "pos", For::OrSigned),
-    (File::Prelude, "codes", For::Struct),
-    (File::Common, "refl", For::Struct),
+    (File::Prelude, "codes", For::Codes),
+    (File::Prelude, "pos", For::Pos),
+    (File::Common, "refl", For::Refl),
     (File::Codec, "codec_of", For::Newtype),
     (File::Codec, "option_codec", For::OptionOfParameter),
     (File::Codec, "vector_codec", For::VectorOfParameter),
     (File::CodecAgrees, "as_described", For::Each),
     (File::CodecAgrees, "its_codec", For::Parameter),
-    (File::CodecFields, "struct_codec", For::Struct),
-    (File::CodecFields, "with_field", For::Required),
-    (File::CodecFields, "with_field_once", For::Once),
-    (File::CodecFields, "with_field_or", For::Or),
-    (File::CodecFields, "with_optional_field", For::LeftOut),
-    (File::CodecFields, "no_fields", For::Struct),
-    (File::Fields, "no_values", For::Struct),
+    (File::CodecCases, "enum_codec", For::Enum),
+    (File::CodecCases, "unit_variant", For::Unit),
+    (File::CodecCases, "variant", For::Items),
+    (File::CodecCases, "variant_of_fields", For::VariantFields),
+    (File::CodecCases, "no_case", For::Enum),
+    (File::CodecElements, "elements_codec", For::Array),
+    (File::CodecElements, "with_element", For::Array),
+    (File::CodecElements, "no_elements", For::Array),
+    (File::CodecFields, "struct_codec", For::Named),
+    (File::CodecFields, "with_field", For::Plain(Sort::Name)),
+    (
+        File::CodecFields,
+        "with_field_once",
+        For::OnceOf(Sort::Name),
+    ),
+    (File::CodecFields, "with_field_or", For::OrOf(Sort::Name)),
+    (
+        File::CodecFields,
+        "with_optional_field",
+        For::LeftOutOf(Sort::Name),
+    ),
+    (File::CodecFields, "no_fields", For::Fields),
+    (File::CodecItems, "tagged_codec", For::Tag),
+    (File::CodecKeyed, "keyed_codec", For::Keyed),
+    (File::CodecKeyed, "with_key", For::Plain(Sort::Integer)),
+    (
+        File::CodecKeyed,
+        "with_key_once",
+        For::OnceOf(Sort::Integer),
+    ),
+    (File::CodecKeyed, "with_key_or", For::OrOf(Sort::Integer)),
+    (
+        File::CodecKeyed,
+        "with_optional_key",
+        For::LeftOutOf(Sort::Integer),
+    ),
+    (File::CodecKeyed, "no_keys", For::Keyed),
+    (File::CodecKeyed, "minus", For::Negative),
+    (File::Fields, "no_values", For::Values),
 ];
 
 // The names of `cbor4ii::serde`, in order.
-const NAMES: [(&str, For); 15] = [
+const NAMES: [(&str, For); 21] = [
     ("AsDescribed", For::Each),
+    ("Choice", For::Enum),
     ("DecodeError", For::Each),
     ("Described", For::Each),
     ("Deserialize", For::Each),
     ("Deserializer", For::Each),
     ("EncodeError", For::Each),
-    ("FieldValues", For::LeftOut),
+    ("FieldValues", For::Listed),
+    ("FieldWords", For::VariantFields),
+    ("Holds", For::Items),
+    ("HoldsFields", For::VariantFields),
     ("IfSome", For::LeftOut),
     ("Once", For::Once),
     ("Optional", For::LeftOut),
     ("Or", For::Or),
+    ("Otherwise", For::Enum),
     ("Required", For::Required),
     ("Serialize", For::Each),
     ("Serializer", For::Each),
     ("Typed", For::Each),
+    ("Unit", For::Unit),
 ];
 
 /// Appends what these types import, and an empty line.
@@ -99,16 +171,25 @@ pub fn put_uses(alloc: Global, out: &mut String, types: &[Described]) -> Result<
         out.push_str("use cbor4ii::dec::Source;\n")?;
     }
     out.push_str("use cbor4ii::enc::Write;\n")?;
-    if is_wanted(types, For::Slice) {
+    if is_wanted(types, For::Never) {
         out.push_str("use cbor4ii::error::Never;\n")?;
     }
+    if is_wanted(types, For::SecondVariant) {
+        out.push_str("use cbor4ii::serde::Choice::{First, Other};\n")?;
+    } else if is_wanted(types, For::Enum) {
+        out.push_str("use cbor4ii::serde::Choice::First;\n")?;
+    }
     out.push_str("use cbor4ii::serde::{\n")?;
-    put_packed(out, 4, &serde_names(alloc, types)?)?;
+    put_packed(out, 4, COLUMNS - 1, &serde_names(alloc, types)?)?;
     out.push_str("};\n")?;
     if is_wanted(types, For::Slice) {
         out.push_str("use cbor4ii::utils::SliceReader;\n")?;
     }
-    out.push_str("use std::alloc::Global;\n\n")
+    out.push_str("use std::alloc::Global;\n")?;
+    if is_wanted(types, For::VariantFields) {
+        out.push_str("use std::marker::PhantomData;\n")?;
+    }
+    out.push('\n')
 }
 
 // Appends the lines of the ghost words: as many words of one file on a line as it has room for.
@@ -152,8 +233,7 @@ fn end_line(out: &mut String, is_open: bool) -> Result<(), AllocError> {
 fn serde_names(alloc: Global, types: &[Described]) -> Result<Vec<String>, AllocError> {
     let mut names = Vec::new(alloc);
     for (name, why) in NAMES {
-        let wanted = is_wanted(types, why) || (name == "Required" && is_wanted(types, For::Once));
-        if wanted {
+        if is_wanted(types, why) {
             names.push(String::from_str(alloc, name)?)?;
         }
     }
@@ -170,14 +250,30 @@ fn wants(described: &Described, why: For) -> bool {
     let parameter = &described.parameter;
     match (why, &described.shape) {
         (For::Each, _) => true,
-        (For::Slice, _) => matches!(parameter, Parameter::Lifetime(_)),
+        (_, Shape::Variants { variants, .. }) => enum_wants(variants, why),
+        (For::Slice | For::Never, _) => matches!(parameter, Parameter::Lifetime(_)),
         (For::AnyReader, _) => !matches!(parameter, Parameter::Lifetime(_)),
-        (For::Struct, Shape::Fields(_)) => true,
         (For::Newtype, Shape::Newtype { .. }) => true,
+        (For::Tag | For::Refl, Shape::Newtype { tag, .. }) => tag.is_some(),
         (_, Shape::Newtype { its_type, .. }) => names(its_type.as_str(), parameter, why),
-        (_, Shape::Fields(fields)) => fields
-            .iter()
-            .any(|field| field_wants(field, parameter, why)),
+        (_, Shape::Fields { form, fields }) => {
+            form_wants(*form, why)
+                || fields.iter().any(|field| {
+                    names(held_type(field), parameter, why)
+                        || (*form != Form::Array && field_wants(field, why))
+                })
+        }
+    }
+}
+
+// Whether fields that are written in this way import what is imported for this.
+fn form_wants(form: Form, why: For) -> bool {
+    match why {
+        For::Refl | For::Values => true,
+        For::Named | For::Codes | For::Fields => form == Form::Named,
+        For::Keyed | For::Listed => form == Form::Keyed,
+        For::Array => form == Form::Array,
+        _ => false,
     }
 }
 
@@ -195,17 +291,55 @@ fn names(its_type: &str, parameter: &Parameter, why: For) -> bool {
     is_so && mentions(its_type, name.as_str())
 }
 
+// Whether an enum of these variants imports what is imported for this.
+fn enum_wants(variants: &[Variant], why: For) -> bool {
+    match why {
+        For::AnyReader | For::Refl | For::Codes | For::Enum | For::Never => true,
+        For::SecondVariant => 1 < variants.len(),
+        _ => variants.iter().any(|variant| variant_wants(variant, why)),
+    }
+}
+
+// Whether a variant imports what is imported for this.
+fn variant_wants(variant: &Variant, why: For) -> bool {
+    match (&variant.holds, why) {
+        (Content::Nothing, For::Unit) => true,
+        (Content::Items(_), For::Items) => true,
+        (Content::Fields(_), For::VariantFields | For::Fields | For::Values) => true,
+        (Content::Fields(fields), why) => fields.iter().any(|field| field_wants(field, why)),
+        _ => false,
+    }
+}
+
 // Whether a field imports what is imported for this.
-fn field_wants(field: &Field, parameter: &Parameter, why: For) -> bool {
+fn field_wants(field: &Field, why: For) -> bool {
+    let sort = match field.key {
+        Key::Name(_) => Sort::Name,
+        _ => Sort::Integer,
+    };
     match (&field.presence, why) {
-        (Presence::Required, For::Required) => !field.once,
+        (_, For::Negative) => matches!(field.key, Key::Negative(_)),
+        (_, For::Pos) if matches!(field.key, Key::Positive(_)) => true,
+        (Presence::Required, For::Required | For::Codes) => true,
         (Presence::Required, For::Once) => field.once,
-        (Presence::LeftOut, For::LeftOut) => true,
+        (Presence::Required, For::OnceOf(of)) => field.once && of == sort,
+        (Presence::Required, For::Plain(of)) => !field.once && of == sort,
+        (Presence::LeftOut, For::LeftOut | For::Listed) => true,
+        (Presence::LeftOut, For::LeftOutOf(of)) => of == sort,
         (Presence::Or { .. }, For::Or) => true,
-        (Presence::Or { ghost_text, .. }, For::OrNone) => ghost_text.as_str() == "None",
-        (Presence::Or { ghost_text, .. }, For::OrTrue) => ghost_text.as_str() == "true",
-        (Presence::Or { ghost_text, .. }, For::OrFalse) => ghost_text.as_str() == "false",
-        (Presence::Or { ghost_text, .. }, For::OrSigned) => ghost_text.as_str().starts_with("(pos"),
-        _ => names(held_type(field), parameter, why),
+        (Presence::Or { .. }, For::OrOf(of)) => of == sort,
+        (Presence::Or { ghost_text, .. }, why) => default_wants(ghost_text.as_str(), why),
+        _ => false,
+    }
+}
+
+// Whether a default imports what is imported for this.
+fn default_wants(ghost_text: &str, why: For) -> bool {
+    match why {
+        For::OrNone => ghost_text == "None",
+        For::OrTrue => ghost_text == "true",
+        For::OrFalse => ghost_text == "false",
+        For::Pos => ghost_text.starts_with("(pos"),
+        _ => false,
     }
 }
