@@ -75,10 +75,11 @@ abbrev pub field_word : Field → List ℕ
 field_word field = word_text field.presence field.once (sort_text field.key) (ghost_key field.key)
     (string_bytes field.words)
 
--- the call that writes a newtype, behind a tag or none
-abbrev pub newtype_call : Option ℕ → List ℕ
-newtype_call None = codes "self.0.serialize(ser)\n"
-newtype_call (Some tag) = codes "ser.serialize_tagged(" ++ (decimal tag ++ codes ", &self.0)\n")
+-- the line that writes a newtype, behind a tag or none
+abbrev pub newtype_line : Option ℕ → List ℕ
+newtype_line None = codes "        self.0.serialize(ser)\n"
+newtype_line (Some tag) =
+    codes "        ser.serialize_tagged(" ++ (decimal tag ++ codes ", &self.0)\n")
 
 -- the brackets of a type in a ghost, in UTF-8
 abbrev pub open_bracket : List ℕ

@@ -1,6 +1,6 @@
 //! `impl Serialize`.
 ghost use Rattle.std.specs.Prelude.{◌≡◌, ◌≢◌, ◌++◌, IfOk, OnOk, codes, decimal, string_bytes};
-ghost use Rattle.cbor4ii_describe.specs.Text.{newtype_call};
+ghost use Rattle.cbor4ii_describe.specs.Text.{newtype_line};
 
 use crate::print::layout::{Frame, LIST, Pair, put_call, put_list, put_pairs};
 use crate::print::lists::{key, keys, references};
@@ -36,7 +36,7 @@ pub fn put_serialize(
 // Appends the call that writes a newtype, behind a tag where there is one.
 fn put_newtype(out: &mut String, tag: Option<u64>) -> Result<(), AllocError>
     ensures { OnOk result (string_bytes out.new
-        ≡ string_bytes out.old ++ (codes "        " ++ newtype_call tag)) }
+        ≡ string_bytes out.old ++ newtype_line tag) }
 {
     match tag {
         None => out.push_str("        self.0.serialize(ser)\n"),
