@@ -39,6 +39,11 @@ pub fn is_on_one_line(columns: usize, open: &str, items: &[String], close: &str)
     inner <= LIST && columns.saturating_add(inner).saturating_add(brackets) <= COLUMNS
 }
 
+// Whether several items stand on a line of a list of several lines.
+fn are_short(items: &[String]) -> bool {
+    items.iter().all(|item| width(item.as_str()) <= SHORT)
+}
+
 /// Appends the items of a list with commas between them.
 pub fn put_items(out: &mut String, items: &[String]) -> Result<(), AllocError> {
     for (i, item) in items.iter().enumerate() {
@@ -64,7 +69,7 @@ pub fn put_list(
         put_items(out, items)?;
     } else {
         out.push('\n')?;
-        if open.ends_with("[") && items.iter().all(|item| width(item.as_str()) <= SHORT) {
+        if are_short(items) {
             put_packed(out, columns.saturating_add(4), COLUMNS, items)?;
         } else {
             put_lines(out, columns.saturating_add(4), items)?;
@@ -306,7 +311,11 @@ fn put_flat(out: &mut String, list: &Bracketed) -> Result<(), AllocError> {
 // Appends it on several lines, the first of which begins behind so many columns.
 fn put_tall(out: &mut String, columns: usize, list: &Bracketed) -> Result<(), AllocError> {
     write!(out, "{}\n", list.open)?;
-    put_lines(out, columns.saturating_add(4), &list.items)?;
+    if list.gap.is_empty() && are_short(&list.items) {
+        put_packed(out, columns.saturating_add(4), COLUMNS, &list.items)?;
+    } else {
+        put_lines(out, columns.saturating_add(4), &list.items)?;
+    }
     indent(out, columns)?;
     out.push_str(list.close)
 }
