@@ -105,7 +105,28 @@ fn items(alloc: Global, input: &mut Input) -> Result<Vec<String>, Fault>
     if items.is_empty() || items.len() > MOST_ITEMS {
         return refused(input.line(), Why::VariantItems);
     }
+    if items.len() > 1 && !items.iter().all(|its_type| is_number(its_type.as_str())) {
+        return refused(input.line(), Why::ItemTypes);
+    }
     Ok(items)
+}
+
+// Whether a type is a number, a bool or a char, which are copied.
+fn is_number(its_type: &str) -> bool {
+    matches!(
+        its_type,
+        "u8" | "u16"
+            | "u32"
+            | "u64"
+            | "u128"
+            | "i8"
+            | "i16"
+            | "i32"
+            | "i64"
+            | "i128"
+            | "bool"
+            | "char"
+    )
 }
 
 // Takes the type of an item, above which nothing stands.

@@ -53,10 +53,14 @@ pub enum Why {
     VariantCount,
     /// The variant has brackets with no item, or with more than three.
     VariantItems,
+    /// One of several items of a variant is no number, no bool and no char.
+    ItemTypes,
     /// The variant has more than four fields.
     VariantFields,
     /// A variant's field has an integer key, or it may be left out.
     VariantField,
+    /// The enum says no module.
+    Module,
 }
 
 impl fmt::Display for Why {
@@ -90,10 +94,15 @@ impl fmt::Display for Why {
             Why::EnumParameter => write!(f, "an enum with a parameter has no form here"),
             Why::VariantCount => write!(f, "an enum has one to twelve variants"),
             Why::VariantItems => write!(f, "a variant holds one to three items"),
+            Why::ItemTypes => write!(f, "of several items each is a number, a bool or a char"),
             Why::VariantFields => write!(f, "a variant has one to four fields"),
             Why::VariantField => write!(
                 f,
                 "a variant's field has no integer key and is not left out"
+            ),
+            Why::Module => write!(
+                f,
+                "an enum says its module, such as module = \"city::kind\""
             ),
         }
     }

@@ -30,6 +30,8 @@ pub struct Options {
     pub tag: Option<u64>,
     /// Whether the struct is written as an array: `array`.
     pub array: bool,
+    /// The path of the module that an enum stands in: `module`.
+    pub module: Option<String>,
     /// Whether a derive stands among them.
     pub derives: bool,
 }
@@ -45,6 +47,7 @@ pub fn no_options() -> Options {
         key: None,
         tag: None,
         array: false,
+        module: None,
         derives: false,
     }
 }
@@ -57,7 +60,7 @@ impl Options {
 
     /// Whether they say nothing that a type alone may have.
     pub fn are_of_field(&self) -> bool {
-        self.tag.is_none() && !self.array
+        self.tag.is_none() && !self.array && self.module.is_none()
     }
 
     /// Whether they say nothing that a field alone may have.
@@ -179,6 +182,7 @@ fn own_option(alloc: Global, input: &mut Input, options: &mut Options) -> Result
         "once" => options.once = true,
         "array" => options.array = true,
         "missing" => options.words = Some(value(alloc, input)?),
+        "module" => options.module = Some(value(alloc, input)?),
         "key" => options.key = Some(key(input)?),
         "tag" => {
             input.want("=")?;

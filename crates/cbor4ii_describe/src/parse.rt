@@ -53,12 +53,16 @@ fn item(alloc: Global, input: &mut Input) -> Result<Described, Fault>
     if let Some(why) = clash_of_parameter(&parameter, &shape) {
         return refused(line, why);
     }
+    if is_enum && options.module.is_none() {
+        return refused(line, Why::Module);
+    }
     let label = or_name(alloc, options.rename, name.as_str())?;
     Ok(Described {
         head,
         name,
         label,
         parameter,
+        module: options.module,
         shape,
         line,
     })
@@ -115,7 +119,7 @@ fn enum_shape(
 ) -> Result<Shape, Fault>
     ensures { OnOk result (Shorter input.old input.new) }
 {
-    if !options.are_of_field() {
+    if options.array || options.tag.is_some() {
         return refused(input.line(), Why::Attribute);
     }
     input.want("{")?;
@@ -133,6 +137,9 @@ fn struct_shape(
 ) -> Result<Shape, Fault>
     ensures { OnOk result (Shorter input.old input.new) }
 {
+    if options.module.is_some() {
+        return refused(input.line(), Why::Attribute);
+    }
     if input.took("{") {
         return fields_shape(alloc, input, name, options);
     }

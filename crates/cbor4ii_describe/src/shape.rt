@@ -139,6 +139,8 @@ pub struct Described {
     pub label: String,
     /// Its parameter.
     pub parameter: Parameter,
+    /// The path of the module that it stands in, of an enum.
+    pub module: Option<String>,
     /// What it holds.
     pub shape: Shape,
     /// The line that its name stands on.

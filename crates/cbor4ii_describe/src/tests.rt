@@ -3,7 +3,7 @@ use crate::describe::describe;
 use crate::fault::{Fault, Why};
 
 // What is refused: the line, and why. Each input holds one form.
-const REFUSED: [(&str, u32, Why); 57] = [
+const REFUSED: [(&str, u32, Why); 60] = [
     ("", 1, Why::NoType),
     ("\nunion A { B }", 2, Why::NotType),
     ("fn a() {}", 1, Why::NotType),
@@ -149,6 +149,13 @@ const REFUSED: [(&str, u32, Why); 57] = [
     ("enum A { #[describe(once)] B }", 1, Why::Attribute),
     ("enum A { B(#[serde(default)] u8) }", 1, Why::Attribute),
     ("enum A { B = 1 }", 1, Why::Unexpected),
+    ("enum A {\n B }", 1, Why::Module),
+    ("enum A { B(u8, String) }", 1, Why::ItemTypes),
+    (
+        "#[describe(module = \"a\")] struct A { a: u8 }",
+        1,
+        Why::Attribute,
+    ),
 ];
 
 #[test]
@@ -162,7 +169,7 @@ fn forms_are_refused(rt: HostRuntime) {
 }
 
 // A type, and a part of what is written of it.
-const WRITTEN: [(&str, &str); 26] = [
+const WRITTEN: [(&str, &str); 29] = [
     (
         "struct A { #[serde(rename = \"b\")] a: u8 }",
         "serialize_1_field(\"A\", \"b\", &self.a)",
@@ -231,32 +238,44 @@ const WRITTEN: [(&str, &str); 26] = [
         "ser.serialize_tagged(18446744073709551615, &self.0)",
     ),
     (
-        "enum A { #[serde(rename = \"b\")] B }",
+        "#[describe(module = \"a::b\")] enum A { #[serde(rename = \"b\")] B }",
         "A::B => ser.serialize_unit_variant(\"A\", 0, \"b\"),",
     ),
     (
-        "enum AnEvent { B(u8) }",
+        "#[describe(module = \"a::b\")] enum AnEvent { B(u8) }",
         "impl From<AnEventChoice> for AnEvent",
     ),
     (
-        "enum BigOrder { B(u8) }",
+        "#[describe(module = \"a::b\")] enum BigOrder { B(u8) }",
         "Otherwise(\"no such big order\")",
     ),
     (
-        "enum A { B(u8, u8, u8), C }",
-        "ser.serialize_newtype_variant(\"A\", 0, \"B\", &(first, second, third))",
+        "#[describe(module = \"a::b\")] enum A { B(u8, u8, u8), C }",
+        "ser.serialize_newtype_variant(\"A\", 0, \"B\", &(*first, *second, *third))",
     ),
     (
-        "enum A { B, C { #[serde(rename = \"x\")] data: u8 } }",
+        "#[describe(module = \"a::b\")] enum A { B, C { #[serde(rename = \"x\")] data: u8 } }",
         "| A.C first ↦ Other (First (first, no_values))",
     ),
     (
-        "enum A { C { #[serde(rename = \"x\")] data: u8 }, B, D(u8) }",
+        "#[describe(module = \"a::b\")] enum A { C { #[serde(rename = \"x\")] data: u8 }, B, D(u8) }",
         "serialize_variant_of_1_field(\"A\", 0, \"C\", \"x\", data)",
     ),
     (
-        "enum A { B, C { b: u8 }, D(u8), E }",
+        "#[describe(module = \"a::b\")] enum A { B, C { b: u8 }, D(u8), E }",
         "let others = (Holds, (Unit, others));\n        let names = &[\"b\"];",
+    ),
+    (
+        "#[describe(module = \"a::b\")] enum A { B }",
+        "ghost use Rattle.a.specs.declared.b.A.{A};",
+    ),
+    (
+        "#[describe(module = \"a\")] enum A { B }",
+        "ghost use Rattle.a.specs.declared.A.{A};",
+    ),
+    (
+        "#[describe(module = \"a::b\")] enum A { B }",
+        "(no_case {V = Infallible} (codes \"no such a\")) refl) };",
     ),
 ];
 

@@ -6,6 +6,9 @@ ghost use Rattle.cbor4ii.specs.CodecCases.{enum_codec, unit_variant, variant, va
 ghost use Rattle.cbor4ii.specs.CodecCases.{no_case};
 ghost use Rattle.cbor4ii.specs.CodecFields.{with_field, no_fields};
 ghost use Rattle.cbor4ii.specs.Fields.{no_values};
+ghost use Rattle.std.specs.declared.string.ParseError.{Infallible};
+ghost use Rattle.cbor4ii.specs.declared.serde.de.cases.Choice.TheVariants.{First, Other};
+ghost use Rattle.cbor4ii_examples.specs.declared.event.Event.{Event};
 
 use crate::sample::Sample;
 use cbor4ii::dec::Source;
@@ -41,7 +44,7 @@ impl Serialize for Event {
             Event::Started => ser.serialize_unit_variant("Event", 0, "Started"),
             Event::Sampled(first) => ser.serialize_newtype_variant("Event", 1, "Sampled", first),
             Event::Moved(first, second) => {
-                ser.serialize_newtype_variant("Event", 2, "Moved", &(first, second))
+                ser.serialize_newtype_variant("Event", 2, "Moved", &(*first, *second))
             }
             Event::Named { id, name } => {
                 ser.serialize_variant_of_2_fields("Event", 3, "Named", "id", id, "name", name)
@@ -85,7 +88,10 @@ impl From<EventChoice> for Event {
             First(()) => Event::Started,
             Other(First(first)) => Event::Sampled(first),
             Other(Other(First((first, second)))) => Event::Moved(first, second),
-            Other(Other(Other(First((id, (name, ())))))) => Event::Named { id, name },
+            Other(Other(Other(First(fields)))) => {
+                let (id, (name, ())) = fields;
+                Event::Named { id, name }
+            }
         }
     }
 }
@@ -108,7 +114,7 @@ impl Described for Event {
         (with_field (codes "id") (codes "a name has no id") ⟦<u32 as Described>⟧.codec
         (with_field (codes "name") (codes "a name has no text") ⟦<String as Described>⟧.codec
         no_fields refl) refl) refl
-        (no_case (codes "no such event")) refl) refl) refl) refl) };
+        (no_case {V = Infallible} (codes "no such event")) refl) refl) refl) refl) };
 }
 
 impl AsDescribed for Event {

@@ -355,3 +355,21 @@ fn put_body(out: &mut String, begin: usize, body: &Bracketed) -> Result<(), Allo
         out.push_str(",\n")
     }
 }
+
+/// Appends what begins an arm of several lines: its pattern, on one line.
+pub fn put_head(out: &mut String, pattern: &Bracketed) -> Result<(), AllocError> {
+    indent(out, 12)?;
+    put_flat(out, pattern)?;
+    out.push_str(" => {\n")
+}
+
+/// Appends a value behind so many columns, on one line or on several.
+pub fn put_value(out: &mut String, columns: usize, value: &Bracketed) -> Result<(), AllocError> {
+    indent(out, columns)?;
+    if is_narrow(value) && columns.saturating_add(flat_width(value)) <= COLUMNS {
+        put_flat(out, value)?;
+    } else {
+        put_tall(out, columns, value)?;
+    }
+    out.push('\n')
+}

@@ -65,6 +65,8 @@ enum File {
     CodecItems,
     CodecKeyed,
     Fields,
+    ParseError,
+    Choice,
 }
 
 // The path of a file of ghost words.
@@ -80,11 +82,13 @@ fn path(file: File) -> &'static str {
         File::CodecItems => "cbor4ii.specs.CodecItems",
         File::CodecKeyed => "cbor4ii.specs.CodecKeyed",
         File::Fields => "cbor4ii.specs.Fields",
+        File::ParseError => "std.specs.declared.string.ParseError",
+        File::Choice => "cbor4ii.specs.declared.serde.de.cases.Choice.TheVariants",
     }
 }
 
 // The ghost words: where each is defined, and what it is imported for.
-const WORDS: [(File, &str, For); 35] = [
+const WORDS: [(File, &str, For); 38] = [
     (File::Prelude, "◌≡◌", For::Each),
     (File::Prelude, "None", For::OrNone),
     (File::Prelude, "true", For::OrTrue),
@@ -136,6 +140,9 @@ const WORDS: [(File, &str, For); 35] = [
     (File::CodecKeyed, "no_keys", For::Keyed),
     (File::CodecKeyed, "minus", For::Negative),
     (File::Fields, "no_values", For::Values),
+    (File::ParseError, "Infallible", For::Enum),
+    (File::Choice, "First", For::Enum),
+    (File::Choice, "Other", For::SecondVariant),
 ];
 
 // The names of `cbor4ii::serde`, in order.
@@ -212,7 +219,25 @@ fn put_words(out: &mut String, types: &[Described]) -> Result<(), AllocError> {
             open = Some(file);
         }
     }
-    end_line(out, open.is_some())
+    end_line(out, open.is_some())?;
+    for described in types {
+        if let Some(module) = &described.module {
+            put_own(out, module.as_str(), described.name.as_str())?;
+        }
+    }
+    Ok(())
+}
+
+// Appends the line that imports a type of this module in its own ghosts.
+fn put_own(out: &mut String, module: &str, name: &str) -> Result<(), AllocError> {
+    out.push_str("ghost use Rattle")?;
+    for (i, part) in module.split("::").enumerate() {
+        write!(out, ".{part}")?;
+        if i == 0 {
+            out.push_str(".specs.declared")?;
+        }
+    }
+    write!(out, ".{name}.{{{name}}};\n")
 }
 
 // Appends what begins a line of ghost words.

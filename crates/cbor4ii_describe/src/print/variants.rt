@@ -4,8 +4,8 @@ use crate::print::codec::put_fields;
 use crate::print::deserialize::put_presences;
 use crate::print::from::STRUCT;
 use crate::print::layout::{
-    Bracketed, COLUMNS, Frame, LIST, Pair, put_arm, put_flat_pairs, put_items, put_list, put_pairs,
-    width,
+    Bracketed, COLUMNS, Frame, LIST, Pair, put_arm, put_flat_pairs, put_head, put_items, put_list,
+    put_pairs, put_value, width,
 };
 use crate::print::lists::{keys, missing, names, types};
 use crate::print::types::letter;
@@ -111,8 +111,13 @@ fn held(alloc: Global, count: usize) -> Result<String, AllocError> {
     if count == 1 {
         put_items(&mut held, &names)?;
     } else {
-        held.push_str("&(")?;
-        put_items(&mut held, &names)?;
+        held.push_str("&(*")?;
+        for (i, name) in names.iter().enumerate() {
+            if i != 0 {
+                held.push_str(", *")?;
+            }
+            held.push_str(name.as_str())?;
+        }
         held.push(')')?;
     }
     Ok(held)
@@ -226,13 +231,39 @@ pub fn put_from_choice(
         " }};\n\n    fn from(choice: {name}Choice) -> {name} {{\n        match choice {{\n"
     )?;
     for (i, variant) in variants.iter().enumerate() {
-        put_arm(
-            out,
-            &chosen(alloc, i, variant)?,
-            &parts(alloc, name, variant)?,
-        )?;
+        let pattern = chosen(alloc, i, variant)?;
+        let value = parts(alloc, name, variant)?;
+        match &variant.holds {
+            Content::Fields(fields) if fields.len() > 1 => {
+                put_apart(alloc, out, &pattern, fields, &value)?;
+            }
+            _ => put_arm(out, &pattern, &value)?,
+        }
     }
     out.push_str("        }\n    }\n}\n\n")
+}
+
+// Appends an arm that takes several fields apart: a pattern by value that names them in place may
+// not move more than one.
+fn put_apart(
+    alloc: Global,
+    out: &mut String,
+    pattern: &Bracketed,
+    fields: &[Field],
+    value: &Bracketed,
+) -> Result<(), AllocError> {
+    put_head(out, pattern)?;
+    let frame = Frame {
+        columns: 16,
+        before: "let ",
+        after: " = fields;",
+        step: 4,
+        most: COLUMNS,
+        pair: Pair::Tuple,
+    };
+    put_pairs(out, &names(alloc, fields)?, "()", frame)?;
+    put_value(out, 16, value)?;
+    out.push_str("            }\n")
 }
 
 // Appends the type of what is read of an enum.
@@ -292,6 +323,7 @@ fn chosen(alloc: Global, place: usize, variant: &Variant) -> Result<Bracketed, A
     match &variant.holds {
         Content::Nothing => open.push_str("()")?,
         Content::Items(items) => put_tuple(&mut open, &place_names(alloc, items.len())?)?,
+        Content::Fields(fields) if fields.len() > 1 => open.push_str("fields")?,
         Content::Fields(fields) => {
             put_flat_pairs(&mut open, &names(alloc, fields)?, "()", Pair::Tuple)?;
         }
@@ -374,7 +406,10 @@ pub fn put_enum_codec(
     for variant in variants {
         put_variant_codec(alloc, out, variant)?;
     }
-    write!(out, "        (no_case (codes \"{words}\"))")?;
+    write!(
+        out,
+        "        (no_case {{V = Infallible}} (codes \"{words}\"))"
+    )?;
     for _ in variants {
         out.push_str(" refl)")?;
     }
