@@ -258,7 +258,7 @@ const WRITTEN: [(&str, &str); 29] = [
         "| A.C first ↦ Other (First (first, no_values))",
     ),
     (
-        "#[describe(module = \"a::b\")] enum A { C { #[serde(rename = \"x\")] data: u8 }, B, D(u8) }",
+        "#[describe(module = \"a\")] enum A { C { #[serde(rename = \"x\")] data: u8 }, B, D(u8) }",
         "serialize_variant_of_1_field(\"A\", 0, \"C\", \"x\", data)",
     ),
     (
