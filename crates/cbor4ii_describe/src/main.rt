@@ -1,8 +1,8 @@
 //! Reads structs and enums of Rust from standard input, and prints the impls that make them
 //! described types.
 //!
-//! It takes serde's `rename`, `default` and `skip_serializing_if = "Option::is_none"`. Of its own are
-//! `describe(array)` on a struct, `describe(tag = 1)` on a newtype, the path of its module,
+//! It takes serde's `rename`, `default` and `skip_serializing_if = "Option::is_none"`. Of its own
+//! are `describe(array)` on a struct, `describe(tag = 1)` on a newtype, the path of its module,
 //! `describe(module = "city::kind")`, on an enum, and on a field `describe(key = -1)`,
 //! `describe(once)` and `describe(missing = "..")`.
 //!
