@@ -70,7 +70,7 @@ pub struct Head {
     pub visibility: String,
 }
 
-/// As what the fields of a struct are written.
+/// What the fields of a struct are written as.
 #[derive(Clone, Copy, Debug, PartialEq, Eq)]
 pub enum Form {
     /// A map, under names.

@@ -21,7 +21,7 @@ pub enum Kind {
     Comment,
     /// A text in quotes that is not closed yet.
     Open,
-    /// The same, behind a backslash.
+    /// A text in quotes that is not closed yet, behind a backslash.
     Escape,
     /// A text in quotes.
     Text,

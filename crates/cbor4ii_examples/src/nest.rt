@@ -32,7 +32,7 @@ impl Serialize for Nest {
 /// Nothing is promised of the bytes.
 impl Typed for Nest {}
 
-/// As `read_nest`, so that it is read inside other types too.
+/// Read by `read_nest`, inside other types too.
 impl<S: Source> Deserialize<S> for Nest {
     fn deserialize(alloc: Global, de: &mut Deserializer<S>) -> Result<Nest, DecodeError<S::Error>> {
         read_nest(alloc, de)

@@ -66,7 +66,7 @@ pub fn canonical_buf<S: Source>(
     take_shortest_string(alloc, reader, name, major)
 }
 
-/// As `canonical_buf`, by what a program does.
+/// Takes the string of `canonical_buf`, as the program of its contract says.
 fn take_shortest_string<S: Source>(
     alloc: Global,
     reader: &mut S,
@@ -81,7 +81,7 @@ fn take_shortest_string<S: Source>(
     take_known(alloc, reader, name, count)
 }
 
-/// As `canonical_head`, by what a program does.
+/// Takes the head of `canonical_head`, as the program of its contract says.
 #[inline(always)]
 fn take_shortest<S: Source>(
     reader: &mut S,

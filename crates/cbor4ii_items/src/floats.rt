@@ -66,7 +66,7 @@ fn take_float<S: Source>(
     }
 }
 
-/// As `take_float`, of a float whose first byte was seen: it is looked at whole.
+/// Takes a float whose first byte was seen: it is looked at whole.
 #[cold]
 #[inline(never)]
 fn take_longer_float<S: Source>(
@@ -149,7 +149,7 @@ fn number_of(bytes: &[u8]) -> u64
     number
 }
 
-/// The same, one byte at a time.
+/// Takes a float one byte at a time.
 #[cold]
 #[inline(never)]
 fn float_by_bytes<S: Source>(

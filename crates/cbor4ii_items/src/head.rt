@@ -146,8 +146,7 @@ pub(crate) fn head<S: Source>(
     }
 }
 
-/// As `head`, one byte at a time: a head that does not stand whole in what is shown, or is
-/// rejected.
+/// Takes one byte at a time a head that does not stand whole in what is shown, or is rejected.
 #[cold]
 #[inline(never)]
 pub(crate) fn head_by_bytes<S: Source>(
@@ -204,7 +203,7 @@ pub(crate) fn length<S: Source>(
     }
 }
 
-/// As `length`, one byte at a time.
+/// Takes the length that a head of this major type has, one byte at a time.
 #[cold]
 #[inline(never)]
 fn length_by_bytes<S: Source>(

@@ -59,7 +59,7 @@ fn take_maybe_head<S: Source>(reader: &mut S) -> Result<bool, DecodeError<S::Err
     take_few(reader)
 }
 
-/// As `take_maybe_head`, by what a program does.
+/// Takes the head of `take_maybe_head`, as the program of its contract says.
 fn take_few<S: Source>(reader: &mut S) -> Result<bool, DecodeError<S::Error>>
     ensures runs { Runs few_at (S.view reader.old) (S.view reader.new) result }
     ensures memory { IfErr result (λ error. is_out_of_memory error ≡ false) }

@@ -48,7 +48,7 @@ pub(crate) fn take_head<S: Source>(
     }
 }
 
-/// As `take_head`, of a head that has `size` bytes, which are looked at.
+/// Takes a head that has `size` bytes, which are looked at.
 #[cold]
 #[inline(never)]
 fn take_longer_head<S: Source>(

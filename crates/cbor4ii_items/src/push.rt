@@ -102,7 +102,7 @@ pub(crate) fn push_signed_integer<W: Write>(
     }
 }
 
-/// The same number, which is from 0 on.
+/// A number from 0 on, in its unsigned type.
 #[inline(always)]
 pub(crate) fn nonnegative(value: i128) -> u128
     requires { pos 0 ≤ℤ value }

@@ -186,7 +186,7 @@ fn head_of(shown: &[u8]) -> Ahead
     wide_head_of(*first, rest)
 }
 
-/// The same, by its first byte and the bytes after it.
+/// The head that begins with this byte and goes on in `rest`, and what is left of its item.
 #[inline(always)]
 fn wide_head_of(first: u8, rest: &[u8]) -> Ahead
     ensures { (among : Among) → Sees among result (first ∷ rest.now) }
@@ -208,7 +208,7 @@ fn wide_head_of(first: u8, rest: &[u8]) -> Ahead
     }
 }
 
-/// The same, of a head that has no argument.
+/// The head that has no argument, by its first byte, and what is left of its item.
 #[inline(always)]
 fn indefinite_head_of(first: u8) -> Ahead
     ensures { (among : Among) (rest : List ℕ) → Sees among result (first ∷ rest) }

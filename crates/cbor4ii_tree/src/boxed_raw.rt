@@ -65,7 +65,7 @@ impl BoxedRawValue {
         Ok(BoxedRawValue(writer.into_inner()))
     }
 
-    /// The same item, in memory of its own.
+    /// A copy of the item, in memory of its own.
     ///
     /// # Errors
     ///
@@ -112,7 +112,7 @@ impl<S: FillLong> Decode<S> for BoxedRawValue {
     }
 }
 
-/// As `decode`, in fewer clauses.
+/// Takes one item and copies it, in fewer clauses than `decode`.
 fn copy_lent<S: FillLong>(
     alloc: Global,
     reader: &mut S,

@@ -258,7 +258,7 @@ fn read_inside<S: Source, A: Encodings>(
     }
 }
 
-/// The same by what a look has shown of it.
+/// Reads one value whose step was taken, by what a look has shown of it.
 #[cycle(read)]
 #[inline(always)]
 fn read_next<S: Source, A: Encodings>(
@@ -498,7 +498,7 @@ fn more_items<S: Source, A: Encodings>(
     outcome
 }
 
-/// The same where a step was taken, which each of the values takes in turn.
+/// Reads the items that are missing where a step was taken, which each of them takes in turn.
 #[cycle(read)]
 #[inline(always)]
 fn items_inside<S: Source, A: Encodings>(
@@ -547,7 +547,7 @@ fn more_members<S: Source, A: Encodings>(
     outcome
 }
 
-/// The same where a step was taken, which each of the values takes in turn.
+/// Reads the pairs that are missing where a step was taken, which each value takes in turn.
 #[cycle(read)]
 #[inline(always)]
 fn members_inside<S: Source, A: Encodings>(

@@ -122,7 +122,7 @@ fn put_head<W: Write>(
     }
 }
 
-/// The same, of an argument that takes more than one byte.
+/// Writes the shortest head of an argument that takes more than one byte, in one push.
 #[inline(never)]
 fn put_long_head<W: Write>(
     writer: &mut W,

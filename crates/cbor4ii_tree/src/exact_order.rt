@@ -99,7 +99,7 @@ fn parts_of(value: &Value) -> (u8, u128)
     }
 }
 
-/// The same of a float: its width, and its bits.
+/// The number of a float's kind, which is its width, and its bits.
 fn float_parts(bits: FloatBits) -> (u8, u128)
     ensures { result ≡ parts_of (float_view bits) }
 {

@@ -188,7 +188,7 @@ pub(crate) fn least_size(number: u64) -> usize
     }
 }
 
-/// The same, by the first byte and the argument, which has so many of the bytes after it.
+/// The leaf that begins with this byte and argument, which has `size` of the bytes after it.
 #[inline(always)]
 fn leaf_after(alloc: Global, first: u8, trailing: &[u8], number: u64, size: usize) -> Leaf
     requires { ArgumentAfter (first % 32) trailing.now number size }
@@ -209,7 +209,7 @@ fn leaf_after(alloc: Global, first: u8, trailing: &[u8], number: u64, size: usiz
     }
 }
 
-/// The same of a byte of major type 7.
+/// The leaf that begins with this byte of major type 7.
 #[inline(always)]
 fn simple_after(first: u8, trailing: &[u8], number: u64, size: usize) -> Leaf
     requires argument { ArgumentAfter (first % 32) trailing.now number size }
@@ -227,7 +227,7 @@ fn simple_after(first: u8, trailing: &[u8], number: u64, size: usize) -> Leaf
     }
 }
 
-/// The same of a string, whose argument says how many bytes its content has.
+/// The string that begins with this byte, whose argument is the length of its content.
 #[inline(always)]
 fn string_after(alloc: Global, first: u8, trailing: &[u8], number: u64, size: usize) -> Leaf
     requires argument { ArgumentAfter (first % 32) trailing.now number size }

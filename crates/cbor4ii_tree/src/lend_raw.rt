@@ -72,7 +72,7 @@ pub(crate) fn take_raw<T: LendRaw<S>, S: Source>(
     capture(reader)
 }
 
-/// As `take_raw`, in one clause.
+/// Takes one item that is lent whole, with a contract of one clause.
 pub(crate) fn capture<T: LendRaw<S>, S: Source>(reader: &mut S) -> Result<T, DecodeError<S::Error>>
     ensures { Captures T.content (S.view reader.old) (S.view reader.new) result }
 {

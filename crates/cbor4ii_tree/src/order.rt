@@ -196,7 +196,7 @@ pub(crate) fn head_of(value: &Value) -> (u8, u64)
     }
 }
 
-/// The same of an integer: of a tag, where it is a bignum.
+/// The head that an integer's encoding begins with: a tag's, where it is a bignum.
 fn integer_parts(number: i128) -> (u8, u64)
     ensures { result ≡ head_of (integer number) }
 {
@@ -212,7 +212,7 @@ fn integer_parts(number: i128) -> (u8, u64)
     shortest_parts(major, size as u64)
 }
 
-/// The same of a float, in its own width.
+/// The head that a float's encoding begins with, in its own width.
 fn float_parts(bits: FloatBits) -> (u8, u64)
     ensures parts { result ≡ head_of (float_view bits) }
     ensures short { HasHead (float_view bits) }

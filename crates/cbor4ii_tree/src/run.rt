@@ -204,8 +204,8 @@ fn run_of<A: Encodings, P: Parts>(alloc: Global, shown: &[u8], most: usize, part
     }
 }
 
-/// The same of bytes that are there. It stays out of line, so that each level of arrays and maps
-/// takes little stack.
+/// Puts the values at the beginning of the shown bytes, of which there is one, after `parts`. It
+/// stays out of line, so that each level of arrays and maps takes little stack.
 #[inline(never)]
 fn put_run<A: Encodings, P: Parts>(alloc: Global, shown: &[u8], most: usize, parts: &mut P) -> Ran
     requires some { 1 ≤ length shown.now }

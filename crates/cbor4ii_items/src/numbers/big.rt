@@ -93,7 +93,7 @@ fn take_u128<S: Source>(reader: &mut S) -> Result<u128, DecodeError<S::Error>>
     }
 }
 
-/// As `take_u128`, where no unsigned integer stands whole in what is shown.
+/// Takes the number of `take_u128` where no unsigned integer stands whole in what is shown.
 fn u128_by_bytes<S: Source>(reader: &mut S) -> Result<u128, DecodeError<S::Error>>
     ensures runs { Runs u128_at (S.view reader.old) (S.view reader.new) result }
     ensures memory { IfErr result (λ error. is_out_of_memory error ≡ false) }
@@ -140,7 +140,7 @@ fn take_i128<S: Source>(reader: &mut S) -> Result<i128, DecodeError<S::Error>>
     }
 }
 
-/// As `take_i128`, where no unsigned integer stands whole in what is shown.
+/// Takes the number of `take_i128` where no unsigned integer stands whole in what is shown.
 fn i128_below_zero<S: Source>(reader: &mut S) -> Result<i128, DecodeError<S::Error>>
     ensures runs { Runs i128_at (S.view reader.old) (S.view reader.new) result }
     ensures memory { IfErr result (λ error. is_out_of_memory error ≡ false) }
@@ -153,7 +153,7 @@ fn i128_below_zero<S: Source>(reader: &mut S) -> Result<i128, DecodeError<S::Err
     }
 }
 
-/// As `take_i128`, where no integer stands whole in what is shown.
+/// Takes the number of `take_i128` where no integer stands whole in what is shown.
 fn i128_by_bytes<S: Source>(reader: &mut S) -> Result<i128, DecodeError<S::Error>>
     ensures runs { Runs i128_at (S.view reader.old) (S.view reader.new) result }
     ensures memory { IfErr result (λ error. is_out_of_memory error ≡ false) }

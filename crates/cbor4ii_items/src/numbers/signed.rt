@@ -71,7 +71,7 @@ fn signed<S: Source>(
     }
 }
 
-/// As `signed`, where no number from 0 on stands whole in what is shown.
+/// Takes the number of `signed` where no number from 0 on stands whole in what is shown.
 #[inline(always)]
 fn signed_below_zero<S: Source>(
     reader: &mut S,
@@ -100,7 +100,7 @@ fn signed_below_zero<S: Source>(
     }
 }
 
-/// As `signed`, one byte at a time.
+/// Takes the number of `signed` one byte at a time.
 #[cold]
 #[inline(never)]
 fn signed_by_bytes<S: Source>(

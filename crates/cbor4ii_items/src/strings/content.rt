@@ -45,7 +45,7 @@ pub(crate) fn lone_string<S: Source>(
     take_string(alloc, reader, name, major)
 }
 
-/// As `lone_string`, by what a program does.
+/// Takes the string of `lone_string`, as the program of its contract says.
 #[inline(always)]
 fn take_string<S: Source>(
     alloc: Global,

@@ -117,7 +117,7 @@ pub(crate) fn lend_content<'de, R: Read<'de>>(
     }
 }
 
-/// As `lend_content`, and the bytes are UTF-8.
+/// So many bytes of UTF-8, lent by one fill.
 pub(crate) fn lend_text<'de, R: Read<'de>>(
     reader: &mut R,
     count: u64,

@@ -76,7 +76,7 @@ fn skip_some<S: Source, F: Prefix<S>>(
     outcome
 }
 
-/// As `skip_some`, where the step was taken.
+/// Skips an item or a run of them, or takes a break, where the step was taken.
 #[cycle(skip)]
 #[inline(always)]
 fn some_inside<S: Source, F: Prefix<S>>(
@@ -103,7 +103,7 @@ fn some_inside<S: Source, F: Prefix<S>>(
     }
 }
 
-/// As `some_inside`, but of an item that holds a count of items, or of a tag, takes the head alone.
+/// Skips an item or a run, or takes a break. Of a counted container or a tag it takes the head.
 #[cycle(skip)]
 #[inline(always)]
 fn go_some<S: Source, F: Prefix<S>>(

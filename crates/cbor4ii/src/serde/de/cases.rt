@@ -253,7 +253,7 @@ fn variant_inside<S: Source, R: Drop, C: Cases<S, R>>(
     }
 }
 
-/// The same of a variant whose form was seen.
+/// A variant whose step was taken and whose form was seen.
 fn named_variant<S: Source, R: Drop, C: Cases<S, R>>(
     alloc: Global,
     de: &mut Deserializer<S>,

@@ -162,7 +162,7 @@ pub(crate) fn take_fields<S: Source, V: Values<S>>(
     outcome
 }
 
-/// The same of a map whose step was taken.
+/// Reads the fields of these names off a map whose step was taken.
 #[inline(always)]
 fn fields_inside<S: Source, V: Values<S>>(
     alloc: Global,
@@ -181,7 +181,7 @@ fn fields_inside<S: Source, V: Values<S>>(
     }
 }
 
-/// The same of so many entries.
+/// Reads the fields of these names off so many entries of a map.
 #[inline(always)]
 fn definite_fields<S: Source, V: Values<S>>(
     alloc: Global,
@@ -200,7 +200,7 @@ fn definite_fields<S: Source, V: Values<S>>(
     Ok(())
 }
 
-/// The same of entries up to a break.
+/// Reads the fields of these names off the entries of a map up to a break.
 fn indefinite_fields<S: Source, V: Values<S>>(
     alloc: Global,
     de: &mut Deserializer<S>,

@@ -145,7 +145,7 @@ fn take_keyed_fields<S: Source, V: KeyedValues<S>>(
     outcome
 }
 
-/// The same of a map whose step was taken.
+/// Reads the fields of these keys off a map whose step was taken.
 #[inline(always)]
 fn keyed_inside<S: Source, V: KeyedValues<S>>(
     alloc: Global,
@@ -164,7 +164,7 @@ fn keyed_inside<S: Source, V: KeyedValues<S>>(
     }
 }
 
-/// The same of so many entries.
+/// Reads the fields of these keys off so many entries of a map.
 #[inline(always)]
 fn definite_keyed<S: Source, V: KeyedValues<S>>(
     alloc: Global,
@@ -183,7 +183,7 @@ fn definite_keyed<S: Source, V: KeyedValues<S>>(
     Ok(())
 }
 
-/// The same of entries up to a break.
+/// Reads the fields of these keys off the entries of a map up to a break.
 fn indefinite_keyed<S: Source, V: KeyedValues<S>>(
     alloc: Global,
     de: &mut Deserializer<S>,

@@ -57,7 +57,7 @@ pub(crate) fn take_name<S: Source>(
     }
 }
 
-/// As `take_name`, where fewer bytes may be asked for than `LOOK`: so many at first, and then those
+/// Reads a name where fewer bytes may be asked for than `LOOK`: so many at first, and then those
 /// that the name is seen to have.
 #[cold]
 #[inline(never)]
@@ -82,7 +82,7 @@ fn take_name_narrowly<S: Source>(
     take_any_name(alloc, de, names)
 }
 
-/// As `take_name`, of a name that is kept for it.
+/// Reads a name as a `String` of its own, and answers which of `names` it is.
 #[cold]
 #[inline(never)]
 fn take_any_name<S: Source>(
@@ -144,7 +144,7 @@ fn seen_name(shown: &[u8], names: &[StaticStr]) -> Seen
     name_after(shown, 1, size, names)
 }
 
-/// The same of a name whose length stands in the byte after the first.
+/// What is seen of a name whose length stands in the byte after the first.
 #[inline(always)]
 fn seen_long_name(shown: &[u8], names: &[StaticStr]) -> Seen
     ensures { IfWhole names.now shown.now result }

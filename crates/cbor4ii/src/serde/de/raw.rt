@@ -41,7 +41,7 @@ impl<'de> Deserialize<SliceReader<'de>> for RawValue<'de> {
     }
 }
 
-/// The same. What is left of a segment has to hold the whole item.
+/// One item, as its bytes stand in a segment, which has to hold the whole of it.
 ///
 /// # Errors
 ///
