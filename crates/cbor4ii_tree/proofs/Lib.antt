@@ -10,3 +10,4 @@ pub mod canonical
 pub mod skip_calls
 pub mod raw_items
 pub mod PlainRaws
+pub mod WholeSlices

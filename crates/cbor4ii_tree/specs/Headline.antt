@@ -1,8 +1,11 @@
 -- The headline: what reading a value, skipping an item and writing a value promise together, of the
 -- bytes that the reader reports.
 use Rattle.std.specs.Prelude.{◌≡◌, ◌≤◌, ℕ, List, [], ◌++◌, Some, Result, Ok, Err, IfOk, IfSome}
+use Rattle.std.specs.Prelude.{length}
 use Rattle.cbor4ii_rw.specs.View.{View, IfKnown}
 use Rattle.cbor4ii_rw.specs.declared.error.DecodeError.{DecodeError}
+use Rattle.cbor4ii_rw.specs.declared.error.WholeError.{WholeError}
+use Rattle.cbor4ii_rw.specs.declared.error.WholeError.TheVariants.{Decode, Trailing}
 use Rattle.cbor4ii_items.specs.Budget.{CostFits}
 use Rattle.cbor4ii_items.specs.InputError.{input_error_of}
 use Rattle.cbor4ii_tree.specs.Tree.{Tree, bytes, Loose, Joins}
@@ -72,3 +75,15 @@ CanonicalReads old answer =
 abbrev pub AllSkips : {V E : Type 0} → View → View → Result V (DecodeError E) → Type 0
 AllSkips old new answer = IfKnown old.known (λ xs. (t : Tree) (rest : List ℕ) →
     Skips xs old.budget t rest → Answered (λ _. new.known ≡ Some rest) (λ _. ⊥) answer)
+
+-- ---- a call over a whole slice
+
+-- What is answered of a whole input: it is accepted with no rest, or so many bytes follow what is
+-- accepted, or it is rejected. A want of memory says nothing.
+abbrev pub AnswersWhole : {V E : Type 0} → (V → List ℕ → Type 0) →
+    (InputError → List ℕ → Type 0) → Result V (WholeError (DecodeError E)) → Type 0
+AnswersWhole Accepts Rejects (Ok v) = Accepts v []
+AnswersWhole {V} Accepts Rejects (Err (Trailing left)) =
+    (v : V) × (rest : List ℕ) × Accepts v rest × (length rest ≡ left) × (1 ≤ left)
+AnswersWhole Accepts Rejects (Err (Decode e)) =
+    IfSome (input_error_of e) (λ z. (rest : List ℕ) × Rejects z rest)

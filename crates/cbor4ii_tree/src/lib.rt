@@ -30,6 +30,7 @@ mod skip;
 mod slot;
 mod unseen;
 pub mod value;
+mod whole_slice;
 
 pub use boxed_raw::BoxedRawValue;
 pub use decode_canonical::Canonical;

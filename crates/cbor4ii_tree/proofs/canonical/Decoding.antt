@@ -43,7 +43,7 @@ as_canonically budget xs v ys r = record {
   begins = r.3;
 }
 
-as_read : (budget : Budget) (xs : List ℕ) (v : Item) (ys : List ℕ)
+pub as_read : (budget : Budget) (xs : List ℕ) (v : Item) (ys : List ℕ)
     → DecodesCanonically xs budget v ys → DecodesTo xs budget v ys
 as_read budget xs v ys r = record {
   encoding = r.encoding;
@@ -71,7 +71,7 @@ never_loose budget other xs more e rest v ys h is r =
     rest) is h) (s.of_tree, ys, s.canonical, r.begins ∙ ap (λ z. z ++ ys) (sym s.bytes_are))
 
 -- what is canonical is not rejected
-canonical_or : (budget : Budget) (xs : List ℕ) (e : InputError) (rest : List ℕ) (v : Item)
+pub canonical_or : (budget : Budget) (xs : List ℕ) (e : InputError) (rest : List ℕ) (v : Item)
     (ys : List ℕ) → CanonicalRejects xs budget e rest → ¬ (DecodesCanonically xs budget v ys)
 canonical_or budget xs e rest v ys h r = elim (canonically_as_value xs budget e rest h) [
   | inl is ↦ never_loose budget budget xs [] e rest v ys h is

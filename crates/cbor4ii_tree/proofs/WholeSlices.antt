@@ -1,0 +1,141 @@
+-- What is answered of a slice that is read as one item.
+use Rattle.std.proofs.Common.{◌≡◌, ◌≤◌, ◌+◌, ℕ, List, [], length, drop, Some, Result, Ok, Err, inl}
+use Rattle.std.proofs.Common.{refl, sym, ap, ◌∙◌, subst, arith, take, take-append-drop, IsTrue}
+use Rattle.std.proofs.Common.{append-nil}
+use Rattle.std.specs.Prelude.{IfOk, IfErr}
+use Rattle.std.proofs.Math.Seq.{drop-length}
+use Rattle.std.proofs.lemmas.List.{length-drop}
+use Rattle.std.specs.declared.string.ParseError.{Infallible}
+use Rattle.cbor4ii_rw.specs.{Input.limit, declared.error.DecodeError.DecodeError}
+use Rattle.cbor4ii_rw.specs.declared.error.DecodeError.TheVariants as error
+use Rattle.cbor4ii_rw.specs.declared.error.WholeError.{WholeError}
+use Rattle.cbor4ii_rw.specs.declared.error.WholeError.TheVariants.{Decode, Trailing}
+use Rattle.cbor4ii_items.specs.{Decoding.Format, InputError.InputError, Whole.DecodesWhole}
+use Rattle.cbor4ii_tree.specs.{Canonical.canonical_encoding, Canonically.canonical_format}
+use Rattle.cbor4ii_tree.specs.{CanonicalRejects.CanonicalRejects}
+use Rattle.cbor4ii_tree.specs.{CanonicalShape.DecodesCanonically, Encodings.DecodesTo, Item.Item}
+use Rattle.cbor4ii_tree.specs.{Headline.AnswersWhole, Promises.value_format, View.view}
+use Rattle.cbor4ii_tree.specs.{ReadingRejects.ReadingRejects}
+use Rattle.cbor4ii_tree.specs.declared.decode_canonical.Canonical.{Canonical}
+use Rattle.cbor4ii_tree.specs.declared.value.Value.{Value}
+use Rattle.cbor4ii_tree.proofs.canonical.Decoding.{as_read, canonical_or}
+use Rattle.cbor4ii_tree.proofs.encodings.CanonicalShape.{reads_canonically_iff}
+use Rattle.cbor4ii_tree.proofs.reading.Answer.{not_both, one_reading}
+
+module _ {V : Type 0} (format : Format V) (bytes : List ℕ) (Accepts : V → List ℕ → Type 0)
+    (accepts : (v : V) (n c : ℕ) → format.reads bytes v n c → c ≤ limit
+    → Accepts v (drop n bytes)) where
+  -- a call that reads an input as one item, in the words of what is accepted
+  answers : {E : Type 0} → IsTrue format.owned
+      → (answer : Result V (WholeError (DecodeError E))) → DecodesWhole format bytes answer
+      → AnswersWhole Accepts (format.rejects bytes (Some limit)) answer
+  answers owned (Ok v) d =
+      subst (Accepts v) (drop-length bytes)
+      (accepts v (length bytes) d.accepts.0 d.accepts.1 d.accepts.2)
+  answers owned (Err (Trailing left)) d =
+      let t = d.trailing.0 in
+      let long = length-drop t.1.0 bytes in
+      let sum : t.1.0 + left ≡ length bytes = t.1.4 in
+      let left_over : length (drop t.1.0 bytes) ≡ left = omega (arith) in
+      (t.0, drop t.1.0 bytes, accepts t.0 t.1.0 t.1.1 t.1.2 t.1.3, left_over, t.1.5)
+  answers owned (Err (Decode e)) d = d.rejects.rejects (inl owned)
+
+module _ {V : Type 0} (Accepts : V → List ℕ → Type 0) (Rejects : InputError → List ℕ → Type 0)
+    (none : (e : InputError) (rest : List ℕ) → Rejects e rest → ⊥)
+    (one : (v : V) (rest : List ℕ) → Accepts v rest → [] ≡ rest) where
+  -- what is accepted as a whole is rejected by a want of memory alone
+  memory_alone : (e : WholeError (DecodeError Infallible))
+      → AnswersWhole {V = V} {E = Infallible} Accepts Rejects (Err e)
+      → e ≡ Decode error.OutOfMemory
+  memory_alone (Trailing left) a =
+      let empty : 0 ≡ length a.1 = ap length (one a.0 a.1 a.2) in
+      let long : length a.1 ≡ left = a.3 in
+      let some : 1 ≤ left = a.4 in
+      absurd (omega (arith))
+  memory_alone (Decode error.OutOfMemory) a = refl
+  memory_alone (Decode (error.Read e)) a = elim e [ ]
+  memory_alone (Decode (error.Mismatch name found)) a = absurd (none _ a.0 a.1)
+  memory_alone (Decode (error.Unsupported name found)) a = absurd (none _ a.0 a.1)
+  memory_alone (Decode (error.Eof name expect)) a = absurd (none _ a.0 a.1)
+  memory_alone (Decode (error.RequireLength name found)) a = absurd (none _ a.0 a.1)
+  memory_alone (Decode (error.RequireBorrowed name)) a = absurd (none _ a.0 a.1)
+  memory_alone (Decode (error.RequireUtf8 name)) a = absurd (none _ a.0 a.1)
+  memory_alone (Decode (error.LengthOverflow name found)) a = absurd (none _ a.0 a.1)
+  memory_alone (Decode (error.CastOverflow name)) a = absurd (none _ a.0 a.1)
+  memory_alone (Decode (error.ArithmeticOverflow name ty)) a = absurd (none _ a.0 a.1)
+  memory_alone (Decode (error.DepthOverflow name)) a = absurd (none _ a.0 a.1)
+  memory_alone (Decode (error.Custom name num)) a = absurd (none _ a.0 a.1)
+  memory_alone (Decode (error.NotCanonical name)) a = absurd (none _ a.0 a.1)
+
+module _ (bytes : List ℕ) where
+  value_accepts : (v : Value) (n c : ℕ) → value_format.reads bytes v n c → c ≤ limit
+      → DecodesTo bytes (Some limit) (view v) (drop n bytes)
+  value_accepts v n c r fits = record {
+    encoding = take n bytes;
+    steps = c;
+    encodes = r.encodes;
+    fits = fits;
+    begins = sym (take-append-drop n bytes);
+  }
+
+  pub value_answers : {E : Type 0} (answer : Result Value (WholeError (DecodeError E)))
+      → DecodesWhole value_format bytes answer
+      → AnswersWhole (λ v. DecodesTo bytes (Some limit) (view v))
+      (ReadingRejects bytes (Some limit)) answer
+  value_answers =
+      answers value_format bytes (λ v. DecodesTo bytes (Some limit) (view v)) value_accepts refl
+
+  pub value_alone : (answer : Result Value (WholeError (DecodeError Infallible)))
+      → AnswersWhole (λ v. DecodesTo bytes (Some limit) (view v))
+      (ReadingRejects bytes (Some limit)) answer
+      → (v : Item) → DecodesTo bytes (Some limit) v []
+      → IfErr answer (λ e. e ≡ Decode error.OutOfMemory)
+  value_alone (Ok w) a v d = tt
+  value_alone (Err e) a v d =
+      memory_alone (λ w. DecodesTo bytes (Some limit) (view w)) (ReadingRejects bytes (Some limit))
+      (λ f rest. not_both bytes (Some limit) v [] f rest d)
+      (λ w rest is.
+      ((one_reading bytes (Some limit)).one_accepted v (view w) [] rest d is).1)
+      e a
+
+  canonical_accepts : (v : Canonical) (n c : ℕ) → canonical_format.reads bytes v n c → c ≤ limit
+      → DecodesCanonically bytes (Some limit) (view v.0) (drop n bytes)
+  canonical_accepts v n c r fits = record {
+    encoding = take n bytes;
+    steps = c;
+    encodes = r.encodes;
+    fits = fits;
+    begins = sym (take-append-drop n bytes);
+  }
+
+  pub canonical_answers : {E : Type 0} (answer : Result Canonical (WholeError (DecodeError E)))
+      → DecodesWhole canonical_format bytes answer
+      → AnswersWhole (λ v. DecodesCanonically bytes (Some limit) (view v.0))
+      (CanonicalRejects bytes (Some limit)) answer
+  canonical_answers =
+      answers canonical_format bytes (λ v. DecodesCanonically bytes (Some limit) (view v.0))
+      canonical_accepts refl
+
+  pub canonical_alone : (answer : Result Canonical (WholeError (DecodeError Infallible)))
+      → AnswersWhole (λ v. DecodesCanonically bytes (Some limit) (view v.0))
+      (CanonicalRejects bytes (Some limit)) answer
+      → (v : Item) → DecodesCanonically bytes (Some limit) v []
+      → IfErr answer (λ e. e ≡ Decode error.OutOfMemory)
+  canonical_alone (Ok w) a v d = tt
+  canonical_alone (Err e) a v d =
+      memory_alone (λ w. DecodesCanonically bytes (Some limit) (view w.0))
+      (CanonicalRejects bytes (Some limit))
+      (λ f rest h. canonical_or (Some limit) bytes f rest v [] h d)
+      (λ w rest is. ((one_reading bytes (Some limit)).one_accepted v (view w.0) [] rest
+      (as_read (Some limit) bytes v [] d)
+      (as_read (Some limit) bytes (view w.0) rest is)).1)
+      e a
+
+  pub canonical_same : (answer : Result Canonical (WholeError (DecodeError Infallible)))
+      → AnswersWhole (λ v. DecodesCanonically bytes (Some limit) (view v.0))
+      (CanonicalRejects bytes (Some limit)) answer
+      → IfOk answer (λ v. bytes ≡ canonical_encoding (view v.0))
+  canonical_same (Ok v) a =
+      ((reads_canonically_iff bytes (Some limit) (view v.0) []).0 a).2
+      ∙ append-nil (canonical_encoding (view v.0))
+  canonical_same (Err e) a = tt

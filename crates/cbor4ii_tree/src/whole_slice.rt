@@ -1,0 +1,78 @@
+//! Values that a whole slice encodes, and the bytes of a value.
+ghost use Rattle.std.specs.Prelude.{◌≡◌, [], Some, IfOk, IfErr};
+ghost use Rattle.cbor4ii_rw.specs.Input.{limit};
+ghost use Rattle.cbor4ii_rw.specs.declared.error.DecodeError.TheVariants.{OutOfMemory};
+ghost use Rattle.cbor4ii_rw.specs.declared.error.WholeError.TheVariants.{Decode};
+ghost use Rattle.cbor4ii_tree.specs.Canonical.{canonical_encoding};
+ghost use Rattle.cbor4ii_tree.specs.CanonicalRejects.{CanonicalRejects};
+ghost use Rattle.cbor4ii_tree.specs.CanonicalShape.{DecodesCanonically};
+ghost use Rattle.cbor4ii_tree.specs.Encodings.{DecodesTo};
+ghost use Rattle.cbor4ii_tree.specs.Headline.{AnswersWhole};
+ghost use Rattle.cbor4ii_tree.specs.Item.{Item};
+ghost use Rattle.cbor4ii_tree.specs.ReadingRejects.{ReadingRejects};
+ghost use Rattle.cbor4ii_tree.specs.View.{view};
+
+use crate::decode_canonical::Canonical;
+use crate::value::{NoMemory, Value};
+use cbor4ii_items::encode::Encode;
+use cbor4ii_items::whole::decode_whole;
+use cbor4ii_rw::buf_writer::BufWriter;
+use cbor4ii_rw::error::{DecodeError, Never, WholeError};
+use std::alloc::Global;
+
+impl Value {
+    /// The value that `input` encodes, all of it, read with `NESTING_LIMIT` steps. What is read, and
+    /// each error, is described at `Value`'s `Decode`.
+    ///
+    /// # Errors
+    ///
+    /// - `Decode` of an error of `Value`: no value that is read begins the input. Of `OutOfMemory`: a
+    ///   growth was refused
+    /// - `Trailing`: a value begins the input, and so many bytes follow it, one at least
+    pub fn from_slice(alloc: Global, input: &[u8]) -> Result<Value, WholeError<DecodeError<Never>>>
+        ensures answers { AnswersWhole (λ v. DecodesTo input.now (Some limit) (view v))
+            (ReadingRejects input.now (Some limit)) result }
+        ensures all { (v : Item) → DecodesTo input.now (Some limit) v [] →
+            IfErr result (λ e. e ≡ Decode OutOfMemory) }
+    {
+        decode_whole(alloc, input)
+    }
+
+    /// The value's canonical encoding, in a vector of its own.
+    ///
+    /// # Errors
+    ///
+    /// `NoMemory`: a growth was refused.
+    pub fn to_vec(&self, alloc: Global) -> Result<Vec<u8>, NoMemory>
+        ensures { IfOk result (λ bytes. bytes.items ≡ canonical_encoding (view self.now)) }
+    {
+        let mut writer = BufWriter::new(Vec::new(alloc));
+        match self.encode(&mut writer) {
+            Ok(()) => Ok(writer.into_inner()),
+            Err(_) => Err(NoMemory),
+        }
+    }
+}
+
+impl Canonical {
+    /// The value whose canonical encoding `input` is, all of it, read with `NESTING_LIMIT` steps.
+    /// What is read, and each error, is described at `Canonical`'s `Decode`.
+    ///
+    /// # Errors
+    ///
+    /// - `Decode` of an error of `Canonical`: no canonical encoding that is read begins the input.
+    ///   Of `OutOfMemory`: a growth was refused
+    /// - `Trailing`: a canonical encoding begins the input, and so many bytes follow it, one at least
+    pub fn from_slice(
+        alloc: Global,
+        input: &[u8],
+    ) -> Result<Canonical, WholeError<DecodeError<Never>>>
+        ensures answers { AnswersWhole (λ v. DecodesCanonically input.now (Some limit) (view v.0))
+            (CanonicalRejects input.now (Some limit)) result }
+        ensures same { IfOk result (λ v. input.now ≡ canonical_encoding (view v.0)) }
+        ensures all { (v : Item) → DecodesCanonically input.now (Some limit) v [] →
+            IfErr result (λ e. e ≡ Decode OutOfMemory) }
+    {
+        decode_whole(alloc, input)
+    }
+}
