@@ -6,6 +6,7 @@
 //! | `texts` | a text, borrowed from the input or joined out of a stream |
 //! | `raw_items` | items that are kept as their bytes, and one that is skipped |
 //! | `by_hand` | a map of two members, written and read by hand, with no contract |
+//! | `port` | what stands under a key of a value, with no type of one's own |
 //! | `page` | a struct over a type parameter, and its law |
 //! | `point` | a struct with an optional field, written and read in one call each, and its laws |
 //! | `sample` | a struct that is written part by part |
@@ -51,6 +52,7 @@ pub mod nest;
 pub mod page;
 pub mod percent;
 pub mod point;
+pub mod port;
 pub mod raw_items;
 pub mod reading;
 #[cfg(test)]

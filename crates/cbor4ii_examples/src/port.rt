@@ -1,0 +1,36 @@
+//! A setting that is looked for in a value, with no type of one's own.
+ghost use Rattle.std.specs.Prelude.{◌≡◌, [], Some, codes, option_and_then, IfOk, IfErr};
+ghost use Rattle.cbor4ii_rw.specs.declared.error.DecodeError.TheVariants.{OutOfMemory};
+ghost use Rattle.cbor4ii_rw.specs.declared.error.WholeError.TheVariants.{Decode};
+ghost use Rattle.cbor4ii_tree.specs.Access.{as_integer, as_map, find_text};
+ghost use Rattle.cbor4ii_tree.specs.Encodings.{DecodesTo};
+ghost use Rattle.cbor4ii_tree.specs.Item.{Item};
+
+use cbor4ii::Value;
+use cbor4ii::error::{DecodeError, Never, WholeError};
+use std::alloc::Global;
+
+/// The integer under the first key "port" of the map that `input` encodes. None where there is no
+/// such key, where its value is no integer, and where `input` encodes no map.
+///
+/// # Errors
+///
+/// - `Decode` of an error of `Value`: no value that is read with 256 steps begins the input. Of
+///   `OutOfMemory`: there is no memory for the value
+/// - `Trailing`: such a value begins the input, and so many bytes follow it
+pub fn port(alloc: Global, input: &[u8]) -> Result<Option<i128>, WholeError<DecodeError<Never>>>
+    ensures found { IfOk result (λ port. (v : Item) × DecodesTo input.now (Some 256) v [] ×
+        (port ≡ option_and_then as_integer
+        (option_and_then (find_text (codes "port")) (as_map v)))) }
+    ensures all { (v : Item) → DecodesTo input.now (Some 256) v [] →
+        IfErr result (λ e. e ≡ Decode OutOfMemory) }
+{
+    let value = Value::from_slice(alloc, input)?;
+    match value.get("port") {
+        Some(port) => Ok(port.as_integer()),
+        None => Ok(None),
+    }
+}
+
+#[cfg(test)]
+mod tests;

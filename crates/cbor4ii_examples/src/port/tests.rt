@@ -1,0 +1,39 @@
+//! Rows of what stands under a key.
+use crate::port::port;
+use cbor4ii::error::DecodeError::Eof;
+use cbor4ii::error::Len::Small;
+use cbor4ii::error::WholeError::{Decode, Trailing};
+use cbor4ii_vectors::table;
+use std::test::Fail;
+
+type Found = (&'static [u8], Option<i128>);
+
+// Items, and the integer under "port".
+const FOUND: &[Found] = table! {
+    (b"\xa1\x64port\x19\x1f\x90", Some(8080)),
+    (b"\xa2\x64host\x01\x64port\x20", Some(-1)),
+    (b"\xbf\x64port\x05\x64port\x06\xff", Some(5)),
+    (b"\xa1\x64port\x61x", None),
+    (b"\xa1\x44port\x05", None),
+    (b"\x80", None),
+};
+
+#[test]
+fn a_port_is_found(rt: HostRuntime) -> Result<(), Fail> {
+    for (input, found) in FOUND {
+        assert_eq!(rt; port(rt.alloc(), input)?, *found);
+    }
+    Ok(())
+}
+
+#[test]
+fn other_inputs_are_rejected(rt: HostRuntime) -> Result<(), Fail> {
+    let alloc = rt.alloc();
+    let cut = Decode(Eof {
+        name: "u64",
+        expect: Small(2),
+    });
+    assert_eq!(rt; port(alloc, b"\xa1\x64port\x19\x1f").err(), Some(cut));
+    assert_eq!(rt; port(alloc, b"\x80\x00").err(), Some(Trailing(1)));
+    Ok(())
+}
