@@ -4,7 +4,7 @@
 //! `read_tagged` stay out of line, and what leads from one of them to another is inline. What a
 //! loop answers is made a value where it comes back, so that each level has one place for it.
 ghost use Rattle.std.specs.Prelude.{◌≡◌, ◌+◌, ◌-◌, ◌*◌, ◌<◌, ◌≤◌, ◌/◌, ◌⊎◌, IfOk};
-ghost use Rattle.std.specs.Prelude.{true, false, length};
+ghost use Rattle.std.specs.Prelude.{true, length};
 ghost use Rattle.std.specs.Prelude.{OnSome, IfSome};
 ghost use Rattle.cbor4ii_tree.specs.Does.{Anything, DoesUnder, Gives, Never, WantsOnly, answered};
 ghost use Rattle.cbor4ii_tree.specs.Valuing.{ReadsOneValue, RejectsOneValue, ReadsUnder};
@@ -29,6 +29,7 @@ ghost use Rattle.cbor4ii_items.specs.Decoding.{Decodes};
 ghost use Rattle.cbor4ii_tree.specs.Laws.Values.{value_lawful};
 
 use crate::accepted::Encodings;
+use crate::any_encoding::AnyEncoding;
 use crate::leaf::{Looked, Next, take_leaf};
 use crate::run::{Pairs, Parts, put_value, take_run};
 use crate::simple::{read_float, simple_of};
@@ -38,7 +39,6 @@ use cbor4ii_items::decode::{Decodable, Decode};
 use cbor4ii_items::indefinite::is_break;
 use cbor4ii_items::major;
 use cbor4ii_items::reserve::items_ahead;
-use cbor4ii_items::types::{Array, Bytes, Map, Negative, Tag};
 use cbor4ii_rw::error::DecodeError;
 use cbor4ii_rw::read::Source;
 use std::alloc::Global;
@@ -109,79 +109,6 @@ impl<S: Source> Decode<S> for Value {
         let value = read_outermost::<S, AnyEncoding>(alloc, reader, &mut failure);
         whole(value, &mut failure)
     }
-}
-
-/// Each encoding is read.
-struct AnyEncoding;
-
-impl Encodings for AnyEncoding {
-    ghost exact = { false };
-
-    #[inline(always)]
-    fn accepts_head(_argument: u64, _size: usize) -> bool {
-        true
-    }
-
-    #[inline(always)]
-    fn accepts_simple(_first: u8) -> bool {
-        true
-    }
-
-    #[inline(always)]
-    fn take_length<S: Source>(
-        reader: &mut S,
-        major: u8,
-        first: u8,
-        failure: &mut Option<DecodeError<S::Error>>,
-    ) -> Option<Option<usize>> {
-        if first == major * 32 + 31 {
-            reader.advance(1);
-            return Some(None);
-        }
-        length(reader, major, failure)
-    }
-
-    #[inline(never)]
-    fn take_tag<S: Source>(
-        reader: &mut S,
-        failure: &mut Option<DecodeError<S::Error>>,
-    ) -> Option<u64> {
-        part(Tag::tag(reader), failure)
-    }
-
-    #[inline(always)]
-    fn read_leaf<S: Source>(
-        alloc: Global,
-        reader: &mut S,
-        first: u8,
-    ) -> Result<Value, DecodeError<S::Error>> {
-        match first / 32 {
-            major::UNSIGNED => Ok(Value::Integer(u64::decode(alloc, reader)? as i128)),
-            major::NEGATIVE => {
-                let number = Negative::<u64>::decode(alloc, reader)?;
-                Ok(Value::Integer(-1 - number.0 as i128))
-            }
-            major::BYTES => Ok(Value::Bytes(Bytes::<Vec<u8>>::decode(alloc, reader)?.0)),
-            _ => Ok(Value::Text(String::decode(alloc, reader)?)),
-        }
-    }
-}
-
-/// How many parts the head of an array or a map says. It stays out of line, as `read_alone`.
-#[inline(never)]
-fn length<S: Source>(
-    reader: &mut S,
-    major: u8,
-    failure: &mut Option<DecodeError<S::Error>>,
-) -> Option<Option<usize>>
-    requires { (major ≡ 4) ⊎ (major ≡ 5) }
-    ensures { Gives Never Anything (DoesUnder (TakesLength false major) (RejectsMajor false major))
-        (S.view reader.old) (S.view reader.new) (answered result failure.new) }
-{
-    if major == major::ARRAY {
-        return part(Array::len(reader), failure);
-    }
-    part(Map::len(reader), failure)
 }
 
 /// Reads one value that stands in no other. What is under its step is a function apart, so that of

@@ -5,6 +5,7 @@
 mod accepted;
 mod access;
 mod ahead;
+mod any_encoding;
 mod bignum;
 pub mod boxed_raw;
 pub mod decode_canonical;

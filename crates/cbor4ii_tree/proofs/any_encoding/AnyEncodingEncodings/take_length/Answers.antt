@@ -4,7 +4,7 @@ use Rattle.cbor4ii_tree.specs.Valuing.{RejectsMajor}
 use Rattle.cbor4ii_tree.specs.Valuing.{TakesLength}
 use Rattle.cbor4ii_tree.proofs.skip_calls.Doing.{does_ok, reached_as}
 use Rattle.cbor4ii_tree.proofs.values.{ByHead.{after_first, taken_first}, Gives.gives_as}
-use Rattle.cbor4ii_tree.proofs.decode_value.AnyEncodingEncodings.take_length.Goals as goal
+use Rattle.cbor4ii_tree.proofs.any_encoding.AnyEncodingEncodings.take_length.Goals as goal
 
 pub returns-then-first-major : goal.returns-then-first-major
 returns-then-first-major g c =

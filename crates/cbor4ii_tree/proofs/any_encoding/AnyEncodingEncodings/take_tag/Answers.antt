@@ -1,6 +1,6 @@
 use Rattle.std.proofs.Common.{refl}
 use Rattle.cbor4ii_tree.proofs.values.{Gives.gives_none, Heads.tag_taken}
-use Rattle.cbor4ii_tree.proofs.decode_value.AnyEncodingEncodings.take_tag.Goals as goal
+use Rattle.cbor4ii_tree.proofs.any_encoding.AnyEncodingEncodings.take_tag.Goals as goal
 
 pub returns : goal.returns
 returns g c =

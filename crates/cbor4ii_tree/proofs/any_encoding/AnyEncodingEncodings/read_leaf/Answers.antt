@@ -10,7 +10,7 @@ use Rattle.cbor4ii_tree.proofs.values.Strings.{text_rejects, bytes_reads, text_r
 use Rattle.cbor4ii_tree.proofs.{values.Calls.int_rejects, values.Heads.{leaf_read, leaf_rejected}}
 use Rattle.cbor4ii_tree.proofs.values.Heads.{negative_reads, unsigned_reads, head_at}
 use Rattle.cbor4ii_tree.proofs.values.{Answered.passed, Asking.passed_memory, Gives.no_want}
-use Rattle.cbor4ii_tree.proofs.decode_value.AnyEncodingEncodings.read_leaf.Goals as goal
+use Rattle.cbor4ii_tree.proofs.any_encoding.AnyEncodingEncodings.read_leaf.Goals as goal
 
 pub returns-in_err-decode-in-0-clause-does : goal.returns-in_err-decode-in-0-clause-does
 returns-in_err-decode-in-0-clause-does g c =

@@ -1,6 +1,6 @@
 use Rattle.std.proofs.Common.{false, refl, true}
 use Rattle.cbor4ii_tree.proofs.values.{Gives.gives_none, Sequences.{is_map, length_does}}
-use Rattle.cbor4ii_tree.proofs.decode_value.length.Goals as goal
+use Rattle.cbor4ii_tree.proofs.any_encoding.length.Goals as goal
 
 pub returns-then-major-eq-ARRAY : goal.returns-then-major-eq-ARRAY
 returns-then-major-eq-ARRAY g c =
