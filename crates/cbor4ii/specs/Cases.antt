@@ -124,6 +124,7 @@ reads_named cases form name = reads_by form (cases.units name) (cases.contents n
 abbrev pub rejects_named : {V : Type 0} → Cases V → Bool × ℕ → RejectsNamed
 rejects_named cases form name = cases.rejects name form
 
+-- how what follows a variant's name is rejected over any reader
 abbrev pub begins_named : {V : Type 0} → Cases V → Bool × ℕ → RejectsNamed
 begins_named cases form name = cases.begins name form
 
@@ -136,6 +137,7 @@ case_format cases form =
 abbrev pub other_rejects : List ℕ → RejectsAt
 other_rejects words xs budget err rest = (err ≡ in_words words) × (rest ≡ xs)
 
+-- no variant is left: every name is rejected in these words
 abbrev pub otherwise : {V : Type 0} → List ℕ → Cases V
 otherwise words = record {
   units = λ name v. ⊥;

@@ -134,6 +134,7 @@ unit_is_back v any = λ rest. (refl, refl, refl)
 abbrev pub IsText : List ℕ → Type 0
 IsText text = (length text < 2 ^ 64) × IsUtf8 text
 
+-- so few bytes that a head can count them
 abbrev pub AreFew : List ℕ → Type 0
 AreFew bytes = length bytes < 2 ^ 64
 

@@ -190,6 +190,7 @@ pub record KeyCodecs (V W : Type 0) : Type 1 where
   pub entries : Hold facts → (w : W) → stands w
       → AllByRecursion (IsOneEntry canonical) (keyed_entries integer_item (items w))
 
+-- no field is left
 abbrev pub no_keys : KeyCodecs (Unit {0}) (Unit {0})
 no_keys = record {
   shape = no_others;

@@ -36,6 +36,7 @@ none_lawful = record {
   alone = not_exact;
 }
 
+-- no element is left
 abbrev pub no_element : Elements (Unit {0})
 no_element = record {
   count = 0;

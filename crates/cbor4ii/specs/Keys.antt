@@ -42,6 +42,7 @@ abbrev pub ReadsKeyBy : Bool → Reads (Option ℤ)
 ReadsKeyBy true xs key n c = (text : String Global) × ReadsName xs text n c × (key ≡ None)
 ReadsKeyBy false xs key n c = (v : ℤ) × ReadsI128 xs v n c × (key ≡ Some v)
 
+-- a key: an integer as an i128 is read, or a text, which is the key of no field
 abbrev pub ReadsKey : Reads (Option ℤ)
 ReadsKey xs = ReadsKeyBy (begins_text xs) xs
 

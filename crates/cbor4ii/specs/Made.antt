@@ -88,6 +88,7 @@ RejectsMade rejects reads value xs budget err rest =
 abbrev pub made_rejects : {V W : Type 0} → Format V → (V → Result W (List ℕ)) → RejectsAt
 made_rejects s = RejectsMade s.rejects s.reads
 
+-- the part's error over any reader, or a whole part of which nothing is made
 abbrev pub made_begins : {V W : Type 0} → Format V → (V → Result W (List ℕ)) → RejectsAt
 made_begins s = RejectsMade s.begins s.reads
 

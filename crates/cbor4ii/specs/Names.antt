@@ -35,6 +35,7 @@ IsAfter [] at trailing next = (trailing ≡ []) × (next ≡ at)
 IsAfter (own ∷ names) zero trailing next = ⊥
 IsAfter (own ∷ names) (suc at) trailing next = (trailing ≡ names) × (next ≡ at)
 
+-- it is the place of the first name, or a place among the names after it
 abbrev pub IsAfterFirst : List (Bor (List ℕ)) → ℕ → Option (Bor (List (Bor (List ℕ))) × ℕ)
     → Type 0
 IsAfterFirst names at None = IsFirst names at

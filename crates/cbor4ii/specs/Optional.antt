@@ -50,6 +50,7 @@ never_rejects xs budget err rest = ⊥
 abbrev pub RejectsPresence : RejectsAt
 RejectsPresence = RejectsOption (RejectsStepped (codes "option") never_rejects)
 
+-- whether a value comes: null and undefined are none, and another byte takes a step
 abbrev pub presence_format : Format (Option (Unit {0}))
 presence_format = looking_format ReadsPresence RejectsPresence
 

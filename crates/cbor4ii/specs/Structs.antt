@@ -28,6 +28,7 @@ pub record Fields (V : Type 0) : Type 1 where
   pub alike : same first first
   pub laws : IsTrue exact → NamedLaws same named
 
+-- no field is left
 abbrev pub no_more : Fields (Unit {0})
 no_more = record {
   named = no_field;

@@ -32,6 +32,7 @@ abbrev pub RejectsTagHead : ℕ → RejectsAt
 RejectsTagHead number xs budget err rest =
     RejectsHead (codes "tag") 6 8 xs err rest ⊎ OtherTag number xs err rest
 
+-- the head of a tag of this number
 abbrev pub tag_head : ℕ → Format (Unit {0})
 tag_head number = leaf_format (ReadsTagHead number) (RejectsTagHead number)
 

@@ -120,6 +120,7 @@ nothing = record {
 abbrev pub said : Bool → RejectsAt → RejectsAt
 said known rejects xs budget err rest = IsTrue known → rejects xs budget err rest
 
+-- how a type that says it rejects bytes, over any reader
 abbrev pub said_by : {V : Type 0} → Promise V → RejectsAt
 said_by promise = said promise.known promise.format.begins
 

@@ -53,6 +53,7 @@ RejectsForm [] budget err rest = (err ≡ eof (codes "enum") (Small 1)) × (rest
 RejectsForm (b ∷ bs) budget err rest =
     (b ≢ 0xa1) × (b / 32 ≢ 3) × (err ≡ mismatch (codes "enum") b) × (rest ≡ b ∷ bs)
 
+-- which form a variant has: its name alone, or a map of one entry
 abbrev pub form_format : Format (Bool × ℕ)
 form_format = looking_format ReadsForm RejectsForm
 

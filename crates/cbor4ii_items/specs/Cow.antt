@@ -27,6 +27,7 @@ pub record BorrowsWhereDefinite {V : Type 0} (major : ℕ) (IsBorrowed IsOwned :
 
 -- ---- the types: the content, and whether it is borrowed
 
+-- the bytes of a text that is borrowed or owned
 abbrev pub cow_text : CowStr Global → List ℕ
 cow_text v = cow_str_bytes v
 
@@ -36,9 +37,11 @@ cow_bytes v = cow_slice_items v.0
 abbrev pub cow_unchecked : UncheckedStr (CowSlice ℕ Global) → List ℕ
 cow_unchecked v = cow_slice_items v.0
 
+-- the byte string is borrowed
 abbrev pub IsBorrowedBytes : Bytes (CowSlice ℕ Global) → Type 0
 IsBorrowedBytes v = IsBorrowedSlice v.0
 
+-- the byte string is owned
 abbrev pub IsOwnedBytes : Bytes (CowSlice ℕ Global) → Type 0
 IsOwnedBytes v = IsOwnedSlice v.0
 

@@ -23,6 +23,7 @@ kind_major text_string = 3
 pub data Simple : Type 0 where
   simple_false simple_true simple_null simple_undefined : Simple
 
+-- the byte of a simple value that has a meaning (section 3.3)
 abbrev pub simple_byte : Simple → ℕ
 simple_byte simple_false = 0xf4
 simple_byte simple_true = 0xf5

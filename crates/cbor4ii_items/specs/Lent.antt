@@ -138,6 +138,7 @@ bytes_stand v view = BeginsAt (place_after v.0) view
 abbrev pub unchecked_stands : UncheckedStr (Bor (List ℕ)) → View → Type 0
 unchecked_stands v view = BeginsAt (place_after v.0) view
 
+-- the bytes of a text that is lent
 abbrev pub lent_str : Bor (List ℕ) → List ℕ
 lent_str v = v.now
 

@@ -17,6 +17,7 @@ use Rattle.cbor4ii_items.specs.Decoding.{Reads, RejectsAt, Format, leaf_format, 
 abbrev pub ReadsArgument : ℕ → ℕ → Reads ℕ
 ReadsArgument major width xs v n c = ReadsHead major width xs v n × (c ≡ 0)
 
+-- no byte, another major type, a wider head, or a cut argument
 abbrev pub RejectsArgument : List ℕ → ℕ → ℕ → RejectsAt
 RejectsArgument name major width xs budget err rest = RejectsHead name major width xs err rest
 
@@ -35,6 +36,7 @@ RejectsUnsigned name width = RejectsArgument name 0 width
 abbrev pub ReadsNegative : ℕ → Reads (Negative ℕ)
 ReadsNegative width xs v n c = ReadsArgument 1 width xs v.0 n c
 
+-- as such a head of major type 1 is
 abbrev pub RejectsNegative : List ℕ → ℕ → RejectsAt
 RejectsNegative name width = RejectsArgument name 1 width
 
@@ -121,6 +123,7 @@ pub data RejectsMagnitude (name : List ℕ) (xs : List ℕ) (err : InputError)
 abbrev pub ReadsU128 : Reads ℕ
 ReadsU128 xs v n c = (ReadsHead 0 8 xs v n ⊎ ReadsBignum 2 xs v n) × (c ≡ 0)
 
+-- no byte, a head or a bignum that is rejected, or a byte that begins neither
 pub data RejectsU128 (xs : List ℕ) (err : InputError) (rest : List ℕ) : Type 0 where
   no_u128_byte : xs ≡ [] → err ≡ eof (codes "u128") (Small 1) → rest ≡ []
       → RejectsU128 xs err rest
@@ -142,6 +145,7 @@ ReadsI128 xs (pos k) n c = (ReadsHead 0 8 xs k n ⊎ (ReadsBignum 2 xs k n × (k
 ReadsI128 xs (negsuc k) n c =
     (ReadsHead 1 8 xs k n ⊎ (ReadsBignum 3 xs k n × (k < 2 ^ 127))) × (c ≡ 0)
 
+-- no byte, a head or a bignum that is rejected, another byte, or a bignum beyond i128
 pub data RejectsI128 (xs : List ℕ) (err : InputError) (rest : List ℕ) : Type 0 where
   no_i128_byte : xs ≡ [] → err ≡ eof (codes "i128") (Small 1) → rest ≡ []
       → RejectsI128 xs err rest
@@ -181,9 +185,11 @@ bignum_bytes tag v = shortest_head 6 tag ++ definite_string 2 (magnitude v)
 abbrev pub integer_bytes : ℕ → ℕ → ℕ → List ℕ
 integer_bytes major tag v = if nat_lt v (2 ^ 64) then shortest_head major v else bignum_bytes tag v
 
+-- the shortest head of n, or beyond 64 bits a bignum without leading zeros
 abbrev pub unsigned_bytes : ℕ → List ℕ
 unsigned_bytes v = integer_bytes 0 2 v
 
+-- the shortest head of n, of major type 0, or of -1 - n, of major type 1
 abbrev pub signed_head : ℤ → List ℕ
 signed_head (pos n) = shortest_head 0 n
 signed_head (negsuc n) = shortest_head 1 n

@@ -201,6 +201,7 @@ sequence_format name major s =
     (RejectsSequence name major s.reads s.rejects s.never_empty)
     (RejectsSequence name major s.reads s.begins s.never_empty) true
 
+-- an array of these items, as a vector
 abbrev pub array_format : {V : Type 0} → Format V → Format (Vec V Global)
 array_format = sequence_format (codes "array") 4
 
@@ -248,6 +249,7 @@ pair_format k v = record {
   closed = k.closed && v.closed;
 }
 
+-- a map of such keys and values, as its pairs in their order
 abbrev pub map_format : {K V : Type 0} → Format K → Format V
     → Format (Map (Vec (K × V) Global))
 map_format k v =

@@ -18,6 +18,7 @@ use Rattle.cbor4ii_items.specs.Decoding.{format_by}
 abbrev pub ReadsSimple : Reads Simple
 ReadsSimple xs v n c = ReadsArgument 7 1 xs v.0 n c
 
+-- as such a head of major type 7 is
 abbrev pub RejectsSimple : RejectsAt
 RejectsSimple = RejectsArgument (codes "simple") 7 1
 
@@ -31,6 +32,7 @@ simple_lawful =
 
 -- ---- false and true
 
+-- the byte of a flag: `f4` for false, `f5` for true
 abbrev pub bool_byte : Bool → ℕ
 bool_byte false = simple_byte simple_false
 bool_byte true = simple_byte simple_true
@@ -42,6 +44,7 @@ ReadsBool xs v n c = (take 1 xs ≡ bool_byte v ∷ []) × (n ≡ 1) × (c ≡ 0
 abbrev pub IsBool : ℕ → Type 0
 IsBool b = (v : Bool) × (b ≡ bool_byte v)
 
+-- no byte is left, or another one, which stays
 abbrev pub RejectsBool : RejectsAt
 RejectsBool xs budget err rest = NoneBegins (codes "bool") IsBool xs err rest
 

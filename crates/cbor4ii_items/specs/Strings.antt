@@ -87,6 +87,7 @@ ReadsTextAs content xs v n c = ReadsText xs (content v) n c
 abbrev pub bytes_content : Bytes (Vec ℕ Global) → List ℕ
 bytes_content v = v.0.items
 
+-- the content of a text whose UTF-8 is not tested
 abbrev pub unchecked_content : UncheckedStr (Vec ℕ Global) → List ℕ
 unchecked_content v = v.0.items
 
@@ -132,6 +133,7 @@ pub record RejectsIndefinite (name : List ℕ) (major : ℕ) (xs : List ℕ) (bu
   pub fits : CostFits (chunk_cost chunks) budget
   pub stop : RejectsChunk name major (drop between xs) budget err rest
 
+-- the head, a cut content, no step for chunks, or a chunk
 pub data RejectsString (name : List ℕ) (major : ℕ) (xs : List ℕ) (budget : Option ℕ)
     (err : InputError) (rest : List ℕ) : Type 0 where
   string_head_rejected : (take 1 xs ≡ indefinite_head major ∷ [] → ⊥)
@@ -171,6 +173,7 @@ abbrev pub ReadsBreak : Reads Bool
 ReadsBreak xs true n c = (take 1 xs ≡ break ∷ []) × (n ≡ 1) × (c ≡ 0)
 ReadsBreak xs false n c = (xs ≢ []) × (take 1 xs ≡ break ∷ [] → ⊥) × (n ≡ 0) × (c ≡ 0)
 
+-- no byte is left
 abbrev pub RejectsBreak : RejectsAt
 RejectsBreak xs budget err rest =
     (xs ≡ []) × (err ≡ eof (codes "break") (Small 1)) × (rest ≡ [])

@@ -11,6 +11,7 @@ use Rattle.cbor4ii_tree.specs.{Encodings.Skips, SkippingRejects.SkippingRejects,
 use Rattle.cbor4ii_tree.specs.Raw.{Unmoved, RejectsOnPrefix, raw_value, TakesItem}
 use Rattle.cbor4ii_tree.specs.Raw.{RejectsAsSkipping, Captured, NotCaptured}
 
+-- the bytes of a kept item, in memory of its own
 abbrev pub boxed_content : BoxedRawValue → List ℕ
 boxed_content v = v.0.items
 

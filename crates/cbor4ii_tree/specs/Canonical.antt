@@ -57,6 +57,7 @@ abbrev mutual
 abbrev pub canonical_encoding : Item → List ℕ
 canonical_encoding v = bytes (canonical_tree v)
 
+-- what the canonical encoding costs to read
 abbrev pub canonical_cost : Item → ℕ
 canonical_cost v = cost (canonical_tree v)
 

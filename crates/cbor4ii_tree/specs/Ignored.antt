@@ -12,8 +12,10 @@ pub record ReadsTree (xs : List ℕ) (n c : ℕ) : Type 0 where
   pub size : n ≡ length (bytes of_tree)
   pub cost : c ≡ skip_cost of_tree
 
+-- a loose tree begins the bytes
 abbrev pub ReadsIgnored : List ℕ → IgnoredAny → ℕ → ℕ → Type 0
 ReadsIgnored xs v n c = ReadsTree xs n c
 
+-- where skipping is rejected
 abbrev pub RejectsIgnored : List ℕ → Option ℕ → InputError → List ℕ → Type 0
 RejectsIgnored xs budget err rest = SkippingRejects xs budget err rest

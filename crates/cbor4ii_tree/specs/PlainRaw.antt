@@ -5,6 +5,7 @@ use Rattle.cbor4ii_tree.specs.declared.{plain_raw.PlainRawValue.PlainRawValue, v
 use Rattle.cbor4ii_tree.specs.{Promises.value_format, Raw.raw_content}
 use Rattle.cbor4ii_tree.specs.ReadingRejects.{ReadingRejects}
 
+-- the bytes of a kept item that reading accepts
 abbrev pub plain_raw_content : PlainRawValue → List ℕ
 plain_raw_content p = raw_content p.0
 

@@ -24,6 +24,7 @@ most = 2 ^ 64 - 1
 
 -- ---- what is read
 
+-- the bytes of a kept item, which the input lends
 abbrev pub raw_content : RawValue → List ℕ
 raw_content v = v.0.now
 
@@ -91,6 +92,7 @@ RejectedPrefix old xs e =
     ((e ≡ require_borrowed raw_value) × (xs ≢ []) × (IsTrue old.zero_copy → ⊥)) ⊎
     RejectsInPrefix xs old.budget e
 
+-- an error says that nothing is lent, or is one of skipping in a prefix of the bytes
 abbrev pub RejectsOnPrefix : {V E : Type 0} → View → Result V (DecodeError E) → Type 0
 RejectsOnPrefix old answer = IfKnown old.known (λ xs. Rejected (RejectedPrefix old xs) answer)
 

@@ -182,6 +182,7 @@ tag_format s = record {
   closed = s.closed;
 }
 
+-- a tag's laws come from those of its part
 pub tag_lawful : {V : Type 0} (s : Format V) → IsLawful s → IsLawful (tag_format s)
 tag_lawful s h = record {
   one = λ xs v w. tag_one s.reads s.same h.one xs v.0 v.1 w.0 w.1;
