@@ -1,6 +1,6 @@
 //! What shown bytes begin with, decided in one look: a run of items that hold no other, a head, or
 //! a break (RFC 8949 section 3). What does not stand whole in them is left undecided.
-ghost use Rattle.std.specs.Prelude.{◌≡◌, ◌≢◌, ◌≤◌, ◌<◌, ◌+◌, length, ◌∷◌, ◌↔◌, IsTrue, ℕ};
+ghost use Rattle.std.specs.Prelude.{◌≡◌, ◌≢◌, ◌≤◌, ◌+◌, ◌-◌, length, ◌∷◌, ◌↔◌, IsTrue, ℕ};
 ghost use Rattle.std.specs.Prelude.{List};
 ghost use Rattle.cbor4ii_tree.specs.Ahead.{leaf_bytes, in_map, Allows, IsIndefinite};
 ghost use Rattle.cbor4ii_tree.specs.Ahead.{BeginsWithBreak, Sees};
@@ -71,6 +71,9 @@ static LEAF_BYTES: [u8; 256] = [
     1, 1, 1, 0, 3, 5, 9, 0, 0, 0, 0,
 ];
 
+/// The greatest of these numbers.
+const MOST_LEAF_BYTES: usize = 24;
+
 /// What the shown bytes begin with.
 #[inline(always)]
 pub(crate) fn ahead_of(shown: &[u8], among: Among) -> Ahead
@@ -115,46 +118,75 @@ fn run_of_items(shown: &[u8], most: u64) -> (u64, usize)
     ensures few { result.0 ≤ most }
     ensures run { BeginsRun result.0 result.1 shown.now }
 {
-    let mut count = 0;
-    let mut size = 0;
-    while count < most {
-        let leaf = leaf_size(shown, size);
-        if leaf == 0 {
-            return (count, size);
-        }
-        if most - count > 1 && are_single(shown, size, leaf) {
-            count += 2;
-            size += 2;
-        } else {
-            count += 1;
-            size += leaf;
-        }
+    let leaf = leaf_size(shown, 0);
+    if leaf == 0 || most == 0 {
+        return (0, 0);
     }
-    (count, size)
+    more_of_run(shown, most, most - 1, leaf)
 }
 
-/// Whether the item at this place, which takes so many bytes, and the next take one byte each. One
-/// comparison answers both: where sizes change from item to item, one for each would be hard to
-/// foresee.
+/// The run that goes on after so many bytes, where `left` of at most `most` items are left. As long
+/// as any such item would stand whole, none is asked whether it does.
 #[inline(always)]
-fn are_single(shown: &[u8], at: usize, leaf: usize) -> bool
-    requires stands { at + leaf ≤ length shown.now }
-    requires some { 1 ≤ leaf }
-    requires small { leaf < 256 }
-    ensures first { IsTrue result → leaf ≡ 1 }
-    ensures second { IsTrue result → IsLeafAt (at + 1) 1 shown.now }
+fn more_of_run(shown: &[u8], most: u64, left: u64, size: usize) -> (u64, usize)
+    requires few { left ≤ most }
+    requires run { BeginsRun (most - left) size shown.now }
+    ensures few { result.0 ≤ most }
+    ensures run { BeginsRun result.0 result.1 shown.now }
 {
-    if at + 1 >= shown.len() {
-        return false;
+    let mut left = left;
+    let mut size = size;
+    while left > 1 && shown.len() - size > MOST_LEAF_BYTES {
+        let leaf = leaf_bytes(shown[size]);
+        if are_single(leaf, leaf_bytes(shown[size + 1])) {
+            left -= 2;
+            size += 2;
+        } else if leaf > 0 {
+            left -= 1;
+            size += leaf as usize;
+        } else {
+            return (most - left, size);
+        }
     }
-    256 * leaf + leaf_bytes(shown[at + 1]) as usize == 257
+    end_of_run(shown, most, left, size)
+}
+
+/// The same, up to the last item that stands whole.
+#[inline(always)]
+fn end_of_run(shown: &[u8], most: u64, left: u64, size: usize) -> (u64, usize)
+    requires few { left ≤ most }
+    requires run { BeginsRun (most - left) size shown.now }
+    ensures few { result.0 ≤ most }
+    ensures run { BeginsRun result.0 result.1 shown.now }
+{
+    let mut left = left;
+    let mut size = size;
+    while left > 0 {
+        let leaf = leaf_size(shown, size);
+        if leaf == 0 {
+            return (most - left, size);
+        }
+        left -= 1;
+        size += leaf;
+    }
+    (most, size)
+}
+
+/// Whether an item and the next, which take so many bytes by their first ones, take one byte each.
+/// One comparison answers both: where sizes change from item to item, one for each would be hard
+/// to foresee.
+#[inline(always)]
+fn are_single(leaf: u8, next: u8) -> bool
+    ensures first { IsTrue result → leaf ≡ 1 }
+    ensures second { IsTrue result → next ≡ 1 }
+{
+    256 * leaf as usize + next as usize == 257
 }
 
 /// How many bytes the item at this place takes, where it holds no other and stands whole; else 0.
 #[inline(always)]
 fn leaf_size(shown: &[u8], at: usize) -> usize
-    ensures leaf { result ≢ 0 → IsLeafAt at result shown.now }
-    ensures small { result < 256 }
+    ensures { result ≢ 0 → IsLeafAt at result shown.now }
 {
     if at >= shown.len() {
         return 0;
@@ -170,7 +202,8 @@ fn leaf_size(shown: &[u8], at: usize) -> usize
 /// no other; else 0.
 #[inline(always)]
 fn leaf_bytes(first: u8) -> u8
-    ensures { result ≡ leaf_bytes first }
+    ensures says { result ≡ leaf_bytes first }
+    ensures most { result ≤ 24 }
 {
     LEAF_BYTES[first as usize]
 }

@@ -105,6 +105,17 @@ run_more n at size shown some h l =
       );
     }
 
+-- the same run, by what its count is
+pub run_counts : (n m size : ℕ) (shown : List ℕ) → n ≡ m → BeginsRun n size shown
+    → BeginsRun m size shown
+run_counts n m size shown is h = subst (λ j. BeginsRun j size shown) is h
+
+pub run_first : (size : ℕ) (shown : List ℕ) → size ≢ 0 → IsLeafAt 0 size shown
+    → BeginsRun 1 size shown
+run_first size shown some l =
+    let end : 0 + size ≡ size = omega arith in
+    subst (λ j. BeginsRun 1 j shown) end (run_more 0 0 size shown some (run_none shown) l)
+
 -- two of one byte each
 pub run_two : (n at size : ℕ) (shown : List ℕ) → size ≡ 1 → BeginsRun n at shown
     → IsLeafAt at size shown → IsLeafAt (at + 1) 1 shown → BeginsRun (n + 2) (at + 2) shown
@@ -155,3 +166,15 @@ from_table table h b lt = agree_at _ _ 256 h b lt
 pub table_holds : (b : ℕ) → b < 256 → get_or LEAF_BYTES b 0 ≡ leaf_bytes b
 unfolding agree_below leaf_bytes initial
 table_holds b lt = from_table LEAF_BYTES refl b lt
+
+none_over : agree_below (λ k. leaf_bytes k - 24) (λ _. 0) 256 ≡ true → (b : ℕ) → b < 256
+    → leaf_bytes b - 24 ≡ 0
+none_over h b lt = agree_at _ _ 256 h b lt
+
+-- by computing, as the table
+over_24 : (b : ℕ) → b < 256 → leaf_bytes b - 24 ≡ 0
+unfolding agree_below leaf_bytes initial
+over_24 b lt = none_over refl b lt
+
+pub most_leaf_bytes : (b : ℕ) → b < 256 → leaf_bytes b ≤ 24
+most_leaf_bytes b lt = omega (arith, over_24 b lt)
