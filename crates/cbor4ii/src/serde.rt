@@ -11,6 +11,7 @@ pub use cbor4ii_ser::collect::Collect;
 pub use cbor4ii_ser::elements::{Answer, SerializeElements};
 pub use cbor4ii_ser::error::EncodeError;
 pub use cbor4ii_ser::key::Key;
+pub use cbor4ii_ser::leaf::Leaf;
 pub use cbor4ii_ser::listed::{FieldValue, FieldValues, IfSome};
 pub use cbor4ii_ser::serialize::Serialize;
 pub use cbor4ii_ser::serializer::Serializer;

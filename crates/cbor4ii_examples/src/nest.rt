@@ -23,6 +23,7 @@ pub struct Nest {
 impl Serialize for Nest {
     ghost encoding = { nest_item };
 
+    #[cycle(writing)]
     #[tactic(auto, using(crate::specs::declared::nest::Nest::the_lemmas, cbor4ii_ser::specs::Laws::Inside::values_inside,))]
     fn serialize<W: Write>(&self, ser: &mut Serializer<W>) -> Result<(), EncodeError<W::Error>> {
         self.inner.serialize(ser)

@@ -35,6 +35,7 @@ pub enum Shape {
 impl Serialize for Shape {
     ghost encoding = { ⟦<Shape as Described>⟧.codec.encoding };
 
+    #[cycle(writing)]
     #[tactic(auto, using(crate::specs::declared::shape::Shape::the_lemmas, cbor4ii_ser::specs::Laws::Inside::values_inside,))]
     fn serialize<W: Write>(&self, ser: &mut Serializer<W>) -> Result<(), EncodeError<W::Error>> {
         match self {

@@ -38,6 +38,7 @@ pub struct Tree {
 impl Serialize for Tree {
     ghost encoding = { ⟦<Tree as Described>⟧.codec.encoding };
 
+    #[cycle(writing)]
     #[tactic(auto, using(crate::specs::declared::tree::Tree::the_lemmas, cbor4ii_ser::specs::Laws::Inside::values_inside,))]
     fn serialize<W: Write>(&self, ser: &mut Serializer<W>) -> Result<(), EncodeError<W::Error>> {
         ser.serialize_3_fields(

@@ -32,6 +32,7 @@ enum Node {
 impl Serialize for Node {
     ghost encoding = { node_item };
 
+    #[cycle(writing)]
     #[tactic(auto, using(crate::specs::declared::levels::Node::the_lemmas, cbor4ii_ser::specs::Laws::Inside::values_inside,))]
     fn serialize<W: Write>(&self, ser: &mut Serializer<W>) -> Result<(), EncodeError<W::Error>> {
         match self {

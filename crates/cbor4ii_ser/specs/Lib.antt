@@ -1,5 +1,6 @@
 -- What writing a typed value is.
 pub mod Item
+pub mod Leaf
 pub mod Listed
 pub mod Counts
 pub mod OneItem

@@ -10,6 +10,7 @@ ghost use Rattle.cbor4ii_items.specs.Strings.{definite_string};
 ghost use Rattle.cbor4ii_ser.specs.Item.{encoded, option_encoding};
 
 use crate::error::EncodeError;
+use crate::leaf::Leaf;
 use crate::serialize::Serialize;
 use crate::serializer::Serializer;
 use cbor4ii_items::types::{Bytes, F16, F32, F64};
@@ -25,6 +26,16 @@ impl Serialize for bool {
     fn serialize<W: Write>(&self, ser: &mut Serializer<W>) -> Result<(), EncodeError<W::Error>> {
         ser.serialize_bool(*self)
     }
+
+    #[inline(always)]
+    fn is_leaf() -> bool {
+        true
+    }
+
+    #[inline(always)]
+    fn as_leaf(&self) -> Option<Leaf<'_>> {
+        Some(Leaf::Bool(*self))
+    }
 }
 
 /// As its shortest head (RFC 8949 section 3.1), in one push.
@@ -34,6 +45,16 @@ impl Serialize for i8 {
     #[inline]
     fn serialize<W: Write>(&self, ser: &mut Serializer<W>) -> Result<(), EncodeError<W::Error>> {
         ser.serialize_i8(*self)
+    }
+
+    #[inline(always)]
+    fn is_leaf() -> bool {
+        true
+    }
+
+    #[inline(always)]
+    fn as_leaf(&self) -> Option<Leaf<'_>> {
+        Some(Leaf::signed(*self as i64))
     }
 }
 
@@ -45,6 +66,16 @@ impl Serialize for i16 {
     fn serialize<W: Write>(&self, ser: &mut Serializer<W>) -> Result<(), EncodeError<W::Error>> {
         ser.serialize_i16(*self)
     }
+
+    #[inline(always)]
+    fn is_leaf() -> bool {
+        true
+    }
+
+    #[inline(always)]
+    fn as_leaf(&self) -> Option<Leaf<'_>> {
+        Some(Leaf::signed(*self as i64))
+    }
 }
 
 /// As its shortest head (RFC 8949 section 3.1), in one push.
@@ -55,6 +86,16 @@ impl Serialize for i32 {
     fn serialize<W: Write>(&self, ser: &mut Serializer<W>) -> Result<(), EncodeError<W::Error>> {
         ser.serialize_i32(*self)
     }
+
+    #[inline(always)]
+    fn is_leaf() -> bool {
+        true
+    }
+
+    #[inline(always)]
+    fn as_leaf(&self) -> Option<Leaf<'_>> {
+        Some(Leaf::signed(*self as i64))
+    }
 }
 
 /// As its shortest head (RFC 8949 section 3.1), in one push.
@@ -64,6 +105,16 @@ impl Serialize for i64 {
     #[inline]
     fn serialize<W: Write>(&self, ser: &mut Serializer<W>) -> Result<(), EncodeError<W::Error>> {
         ser.serialize_i64(*self)
+    }
+
+    #[inline(always)]
+    fn is_leaf() -> bool {
+        true
+    }
+
+    #[inline(always)]
+    fn as_leaf(&self) -> Option<Leaf<'_>> {
+        Some(Leaf::signed(*self))
     }
 }
 
@@ -85,6 +136,16 @@ impl Serialize for u8 {
     fn serialize<W: Write>(&self, ser: &mut Serializer<W>) -> Result<(), EncodeError<W::Error>> {
         ser.serialize_u8(*self)
     }
+
+    #[inline(always)]
+    fn is_leaf() -> bool {
+        true
+    }
+
+    #[inline(always)]
+    fn as_leaf(&self) -> Option<Leaf<'_>> {
+        Some(Leaf::unsigned(*self as u64))
+    }
 }
 
 /// As its shortest head (RFC 8949 section 3.1), in one push.
@@ -94,6 +155,16 @@ impl Serialize for u16 {
     #[inline]
     fn serialize<W: Write>(&self, ser: &mut Serializer<W>) -> Result<(), EncodeError<W::Error>> {
         ser.serialize_u16(*self)
+    }
+
+    #[inline(always)]
+    fn is_leaf() -> bool {
+        true
+    }
+
+    #[inline(always)]
+    fn as_leaf(&self) -> Option<Leaf<'_>> {
+        Some(Leaf::unsigned(*self as u64))
     }
 }
 
@@ -105,6 +176,16 @@ impl Serialize for u32 {
     fn serialize<W: Write>(&self, ser: &mut Serializer<W>) -> Result<(), EncodeError<W::Error>> {
         ser.serialize_u32(*self)
     }
+
+    #[inline(always)]
+    fn is_leaf() -> bool {
+        true
+    }
+
+    #[inline(always)]
+    fn as_leaf(&self) -> Option<Leaf<'_>> {
+        Some(Leaf::unsigned(*self as u64))
+    }
 }
 
 /// As its shortest head (RFC 8949 section 3.1), in one push.
@@ -114,6 +195,16 @@ impl Serialize for u64 {
     #[inline]
     fn serialize<W: Write>(&self, ser: &mut Serializer<W>) -> Result<(), EncodeError<W::Error>> {
         ser.serialize_u64(*self)
+    }
+
+    #[inline(always)]
+    fn is_leaf() -> bool {
+        true
+    }
+
+    #[inline(always)]
+    fn as_leaf(&self) -> Option<Leaf<'_>> {
+        Some(Leaf::unsigned(*self))
     }
 }
 
@@ -135,6 +226,16 @@ impl Serialize for F16 {
     fn serialize<W: Write>(&self, ser: &mut Serializer<W>) -> Result<(), EncodeError<W::Error>> {
         ser.serialize_f16(self.0)
     }
+
+    #[inline(always)]
+    fn is_leaf() -> bool {
+        true
+    }
+
+    #[inline(always)]
+    fn as_leaf(&self) -> Option<Leaf<'_>> {
+        Some(Leaf::F16(self.0))
+    }
 }
 
 /// As its first byte and its bits, most significant first, in one push.
@@ -145,6 +246,16 @@ impl Serialize for F32 {
     fn serialize<W: Write>(&self, ser: &mut Serializer<W>) -> Result<(), EncodeError<W::Error>> {
         ser.serialize_f32(self.0)
     }
+
+    #[inline(always)]
+    fn is_leaf() -> bool {
+        true
+    }
+
+    #[inline(always)]
+    fn as_leaf(&self) -> Option<Leaf<'_>> {
+        Some(Leaf::F32(self.0))
+    }
 }
 
 /// As its first byte and its bits, most significant first, in one push.
@@ -154,6 +265,16 @@ impl Serialize for F64 {
     #[inline]
     fn serialize<W: Write>(&self, ser: &mut Serializer<W>) -> Result<(), EncodeError<W::Error>> {
         ser.serialize_f64(self.0)
+    }
+
+    #[inline(always)]
+    fn is_leaf() -> bool {
+        true
+    }
+
+    #[inline(always)]
+    fn as_leaf(&self) -> Option<Leaf<'_>> {
+        Some(Leaf::F64(self.0))
     }
 }
 
@@ -175,6 +296,16 @@ impl<'a> Serialize for &'a str {
     fn serialize<W: Write>(&self, ser: &mut Serializer<W>) -> Result<(), EncodeError<W::Error>> {
         ser.serialize_str(self)
     }
+
+    #[inline(always)]
+    fn is_leaf() -> bool {
+        true
+    }
+
+    #[inline(always)]
+    fn as_leaf(&self) -> Option<Leaf<'_>> {
+        Some(Leaf::Text(self))
+    }
 }
 
 /// A text.
@@ -184,6 +315,16 @@ impl Serialize for String {
     #[inline]
     fn serialize<W: Write>(&self, ser: &mut Serializer<W>) -> Result<(), EncodeError<W::Error>> {
         ser.serialize_str(self.as_str())
+    }
+
+    #[inline(always)]
+    fn is_leaf() -> bool {
+        true
+    }
+
+    #[inline(always)]
+    fn as_leaf(&self) -> Option<Leaf<'_>> {
+        Some(Leaf::Text(self.as_str()))
     }
 }
 
@@ -195,6 +336,16 @@ impl<'a> Serialize for CowStr<'a, Global> {
     fn serialize<W: Write>(&self, ser: &mut Serializer<W>) -> Result<(), EncodeError<W::Error>> {
         ser.serialize_str(self)
     }
+
+    #[inline(always)]
+    fn is_leaf() -> bool {
+        true
+    }
+
+    #[inline(always)]
+    fn as_leaf(&self) -> Option<Leaf<'_>> {
+        Some(Leaf::Text(self))
+    }
 }
 
 /// A byte string.
@@ -205,6 +356,16 @@ impl<'a> Serialize for Bytes<&'a [u8]> {
     fn serialize<W: Write>(&self, ser: &mut Serializer<W>) -> Result<(), EncodeError<W::Error>> {
         ser.serialize_bytes(self.0)
     }
+
+    #[inline(always)]
+    fn is_leaf() -> bool {
+        true
+    }
+
+    #[inline(always)]
+    fn as_leaf(&self) -> Option<Leaf<'_>> {
+        Some(Leaf::Bytes(self.0))
+    }
 }
 
 /// A byte string.
@@ -214,6 +375,16 @@ impl Serialize for Bytes<Vec<u8>> {
     #[inline]
     fn serialize<W: Write>(&self, ser: &mut Serializer<W>) -> Result<(), EncodeError<W::Error>> {
         ser.serialize_bytes(self.0.as_slice())
+    }
+
+    #[inline(always)]
+    fn is_leaf() -> bool {
+        true
+    }
+
+    #[inline(always)]
+    fn as_leaf(&self) -> Option<Leaf<'_>> {
+        Some(Leaf::Bytes(self.0.as_slice()))
     }
 }
 
@@ -235,6 +406,16 @@ impl<T: Serialize> Serialize for Box<T> {
     fn serialize<W: Write>(&self, ser: &mut Serializer<W>) -> Result<(), EncodeError<W::Error>> {
         T::serialize(self.as_ref(), ser)
     }
+
+    #[inline(always)]
+    fn is_leaf() -> bool {
+        T::is_leaf()
+    }
+
+    #[inline(always)]
+    fn as_leaf(&self) -> Option<Leaf<'_>> {
+        T::as_leaf(self.as_ref())
+    }
 }
 
 /// Null for none, and else the value itself.
@@ -248,6 +429,19 @@ impl<T: Serialize> Serialize for Option<T> {
             Some(value) => ser.serialize_some(value),
         }
     }
+
+    #[inline(always)]
+    fn is_leaf() -> bool {
+        T::is_leaf()
+    }
+
+    #[inline(always)]
+    fn as_leaf(&self) -> Option<Leaf<'_>> {
+        match self {
+            None => Some(Leaf::Null),
+            Some(value) => value.as_leaf(),
+        }
+    }
 }
 
 /// A reference to a value, written as the value.
@@ -257,5 +451,15 @@ impl<'a, T: Serialize> Serialize for &'a T {
     #[inline]
     fn serialize<W: Write>(&self, ser: &mut Serializer<W>) -> Result<(), EncodeError<W::Error>> {
         T::serialize(self, ser)
+    }
+
+    #[inline(always)]
+    fn is_leaf() -> bool {
+        T::is_leaf()
+    }
+
+    #[inline(always)]
+    fn as_leaf(&self) -> Option<Leaf<'_>> {
+        T::as_leaf(self)
     }
 }

@@ -16,6 +16,7 @@ mod heads;
 mod held;
 pub mod key;
 pub mod laws;
+pub mod leaf;
 mod leaves;
 pub mod listed;
 mod maps;

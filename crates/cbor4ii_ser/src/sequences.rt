@@ -1,11 +1,13 @@
 //! Arrays that are there as a whole.
+ghost use Rattle.std.specs.Prelude.{◌≡◌, IfNone, IfSome, IsErr};
 ghost use Rattle.cbor4ii_ser.specs.Item.{each_encoding, array_encoding};
-ghost use Rattle.cbor4ii_ser.specs.Serializing.{Serializes, output};
+ghost use Rattle.cbor4ii_ser.specs.Serializing.{Serializes, answered, output};
 
 use crate::error::EncodeError;
+use crate::leaf::put_leaf;
 use crate::serialize::Serialize;
 use crate::serializer::Serializer;
-use crate::slot::{has_large_error, push_head_apart};
+use crate::slot::{has_large_error, push_head, push_head_apart};
 use cbor4ii_items::major;
 use cbor4ii_rw::write::Write;
 
@@ -27,6 +29,9 @@ fn put_array<W: Write, T: Serialize>(
     ensures { Serializes W.atomic (array_encoding T.encoding items.now)
         (output W.view ser.old) (output W.view ser.new) result }
 {
+    if T::is_leaf() {
+        return put_leaf_array(ser, items);
+    }
     if has_large_error::<W>() {
         let mut answer = Ok(());
         return match push_head_apart(
@@ -55,4 +60,54 @@ fn put_items<W: Write, T: Serialize>(
         item.serialize(ser)?;
     }
     Ok(())
+}
+
+/// Writes an array of leaves.
+#[inline(always)]
+fn put_leaf_array<W: Write, T: Serialize>(
+    ser: &mut Serializer<W>,
+    items: &[T],
+) -> Result<(), EncodeError<W::Error>>
+    ensures { Serializes W.atomic (array_encoding T.encoding items.now)
+        (output W.view ser.old) (output W.view ser.new) result }
+{
+    let mut answer = Ok(());
+    match put_leaves(ser, items, &mut answer) {
+        Some(()) => Ok(()),
+        None => answer,
+    }
+}
+
+/// The same, with a small answer. It is out of line, so that what holds such an array takes a small
+/// frame.
+#[inline(never)]
+fn put_leaves<W: Write, T: Serialize>(
+    ser: &mut Serializer<W>,
+    items: &[T],
+    answer: &mut Result<(), EncodeError<W::Error>>,
+) -> Option<()>
+    ensures writes { Serializes W.atomic (array_encoding T.encoding items.now)
+        (output W.view ser.old) (output W.view ser.new) (answered result answer.new) }
+    ensures failed { IfNone result (IsErr answer.new) }
+    ensures kept { IfSome result (λ _. answer.new ≡ answer.old) }
+{
+    push_head(&mut ser.writer, major::ARRAY, items.len() as u64, answer)?;
+    put_each_leaf(ser, items, answer)
+}
+
+#[inline(always)]
+fn put_each_leaf<W: Write, T: Serialize>(
+    ser: &mut Serializer<W>,
+    items: &[T],
+    answer: &mut Result<(), EncodeError<W::Error>>,
+) -> Option<()>
+    ensures writes { Serializes W.atomic (each_encoding T.encoding items.now)
+        (output W.view ser.old) (output W.view ser.new) (answered result answer.new) }
+    ensures failed { IfNone result (IsErr answer.new) }
+    ensures kept { IfSome result (λ _. answer.new ≡ answer.old) }
+{
+    for item in items {
+        put_leaf(ser, item, answer)?;
+    }
+    Some(())
 }

@@ -1,8 +1,11 @@
 //! What writing a typed value is.
-ghost use Rattle.cbor4ii_ser.specs.Item.{Encoding};
+ghost use Rattle.std.specs.Prelude.{◌≡◌, IfSome};
+ghost use Rattle.cbor4ii_ser.specs.Item.{Encoding, encoded};
+ghost use Rattle.cbor4ii_ser.specs.Leaf.{leaf_bytes};
 ghost use Rattle.cbor4ii_ser.specs.Serializing.{Serializes, output};
 
 use crate::error::EncodeError;
+use crate::leaf::Leaf;
 use crate::serializer::Serializer;
 use cbor4ii_rw::write::Write;
 
@@ -34,4 +37,20 @@ pub trait Serialize {
     fn serialize<W: Write>(&self, ser: &mut Serializer<W>) -> Result<(), EncodeError<W::Error>>
         ensures { Serializes W.atomic (encoding self.now)
             (output W.view ser.old) (output W.view ser.new) result };
+
+    /// Whether the type's values are leaves, which `as_leaf` answers. A vector then writes them in
+    /// line, without a call of `serialize` for each. What it writes is the same.
+    #[inline(always)]
+    fn is_leaf() -> bool {
+        false
+    }
+
+    /// The value as a leaf, which is written as the value is. Without a line of its own a type
+    /// answers none.
+    #[inline(always)]
+    fn as_leaf(&self) -> Option<Leaf<'_>>
+        ensures { IfSome result (λ leaf. encoding self.now ≡ encoded (leaf_bytes leaf)) }
+    {
+        None
+    }
 }

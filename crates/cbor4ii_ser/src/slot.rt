@@ -43,7 +43,7 @@ fn leave<E: Drop>(error: E, answer: &mut Result<(), EncodeError<E>>)
 
 /// Writes these bytes, in one push.
 #[inline(always)]
-fn push<W: Write>(
+pub(crate) fn push<W: Write>(
     writer: &mut W,
     bytes: &[u8],
     answer: &mut Result<(), EncodeError<W::Error>>,
@@ -85,7 +85,7 @@ pub(crate) fn push_head_apart<W: Write>(
 
 /// The same, in line.
 #[inline(always)]
-fn push_head<W: Write>(
+pub(crate) fn push_head<W: Write>(
     writer: &mut W,
     major: u8,
     argument: u64,
@@ -102,13 +102,33 @@ fn push_head<W: Write>(
     if argument < 24 {
         push(writer, &[32 * major + argument as u8], answer)
     } else {
-        push_long_head(writer, major, argument, answer)
+        push_long_head_apart(writer, major, argument, answer)
     }
 }
 
 /// The same, of an argument that has bytes of its own.
 #[inline(never)]
-fn push_long_head<W: Write>(
+fn push_long_head_apart<W: Write>(
+    writer: &mut W,
+    major: u8,
+    argument: u64,
+    answer: &mut Result<(), EncodeError<W::Error>>,
+) -> Option<()>
+    requires major { major < 8 }
+    requires long { 24 ≤ argument }
+    ensures writes { Serializes W.atomic (encoded (shortest_head major argument))
+        (W.view writer.old) (W.view writer.new) (answered result answer.new) }
+    ensures whole { AllOrNothing W.atomic (W.view writer.old) (W.view writer.new)
+        (answered result answer.new) }
+    ensures failed { IfNone result (IsErr answer.new) }
+    ensures kept { IfSome result (λ _. answer.new ≡ answer.old) }
+{
+    push_long_head(writer, major, argument, answer)
+}
+
+/// The same, in line.
+#[inline(always)]
+pub(crate) fn push_long_head<W: Write>(
     writer: &mut W,
     major: u8,
     argument: u64,
@@ -154,6 +174,23 @@ pub(crate) fn push_f16_apart<W: Write>(
     ensures failed { IfNone result (IsErr answer.new) }
     ensures kept { IfSome result (λ _. answer.new ≡ answer.old) }
 {
+    push_f16(writer, bits, answer)
+}
+
+/// The same, in line.
+#[inline(always)]
+pub(crate) fn push_f16<W: Write>(
+    writer: &mut W,
+    bits: u16,
+    answer: &mut Result<(), EncodeError<W::Error>>,
+) -> Option<()>
+    ensures writes { Serializes W.atomic (encoded (float_bytes 0xf9 2 bits))
+        (W.view writer.old) (W.view writer.new) (answered result answer.new) }
+    ensures whole { AllOrNothing W.atomic (W.view writer.old) (W.view writer.new)
+        (answered result answer.new) }
+    ensures failed { IfNone result (IsErr answer.new) }
+    ensures kept { IfSome result (λ _. answer.new ≡ answer.old) }
+{
     let [a, b] = bits.to_be_bytes();
     push(writer, &[marker::F16, a, b], answer)
 }
@@ -161,6 +198,23 @@ pub(crate) fn push_f16_apart<W: Write>(
 /// Writes a float of four bytes, its first byte and its bits, in one push.
 #[inline(never)]
 pub(crate) fn push_f32_apart<W: Write>(
+    writer: &mut W,
+    bits: u32,
+    answer: &mut Result<(), EncodeError<W::Error>>,
+) -> Option<()>
+    ensures writes { Serializes W.atomic (encoded (float_bytes 0xfa 4 bits))
+        (W.view writer.old) (W.view writer.new) (answered result answer.new) }
+    ensures whole { AllOrNothing W.atomic (W.view writer.old) (W.view writer.new)
+        (answered result answer.new) }
+    ensures failed { IfNone result (IsErr answer.new) }
+    ensures kept { IfSome result (λ _. answer.new ≡ answer.old) }
+{
+    push_f32(writer, bits, answer)
+}
+
+/// The same, in line.
+#[inline(always)]
+pub(crate) fn push_f32<W: Write>(
     writer: &mut W,
     bits: u32,
     answer: &mut Result<(), EncodeError<W::Error>>,
@@ -180,6 +234,23 @@ pub(crate) fn push_f32_apart<W: Write>(
 /// Writes a float of eight bytes, its first byte and its bits, in one push.
 #[inline(never)]
 pub(crate) fn push_f64_apart<W: Write>(
+    writer: &mut W,
+    bits: u64,
+    answer: &mut Result<(), EncodeError<W::Error>>,
+) -> Option<()>
+    ensures writes { Serializes W.atomic (encoded (float_bytes 0xfb 8 bits))
+        (W.view writer.old) (W.view writer.new) (answered result answer.new) }
+    ensures whole { AllOrNothing W.atomic (W.view writer.old) (W.view writer.new)
+        (answered result answer.new) }
+    ensures failed { IfNone result (IsErr answer.new) }
+    ensures kept { IfSome result (λ _. answer.new ≡ answer.old) }
+{
+    push_f64(writer, bits, answer)
+}
+
+/// The same, in line.
+#[inline(always)]
+pub(crate) fn push_f64<W: Write>(
     writer: &mut W,
     bits: u64,
     answer: &mut Result<(), EncodeError<W::Error>>,
@@ -215,7 +286,7 @@ pub(crate) fn push_string_apart<W: Write>(
 
 /// The same, in line.
 #[inline(always)]
-fn push_string<W: Write>(
+pub(crate) fn push_string<W: Write>(
     writer: &mut W,
     major: u8,
     content: &[u8],
@@ -248,7 +319,7 @@ pub(crate) fn push_text_apart<W: Write>(
 
 /// The same, in line.
 #[inline(always)]
-fn push_text<W: Write>(
+pub(crate) fn push_text<W: Write>(
     writer: &mut W,
     text: &str,
     answer: &mut Result<(), EncodeError<W::Error>>,
@@ -296,7 +367,7 @@ fn push_tuple_variant_apart<W: Write>(
 
 /// Writes a value.
 #[inline(always)]
-fn put_part<W: Write, T: Serialize>(
+pub(crate) fn put_part<W: Write, T: Serialize>(
     ser: &mut Serializer<W>,
     value: &T,
     answer: &mut Result<(), EncodeError<W::Error>>,

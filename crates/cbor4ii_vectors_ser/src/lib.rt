@@ -23,6 +23,8 @@ mod held;
 #[cfg(test)]
 mod laws;
 #[cfg(test)]
+mod leaf;
+#[cfg(test)]
 mod leaves;
 #[cfg(test)]
 mod listed;
