@@ -13,3 +13,8 @@ pub mod LineShown
 pub mod Shapes
 -- Trees one after another.
 pub mod Trees
+-- A stable sort.
+pub mod StableSort
+-- Values whose maps are sorted.
+pub mod Sorting
+pub mod SortedValues

@@ -15,5 +15,7 @@ pub mod Envelope
 -- At which byte settings are rejected, and when a store rejects bytes.
 pub mod Settings
 pub mod Store
+-- Values whose maps are sorted.
+pub mod Sorted
 -- What a reader over a line reports.
 pub mod Line

@@ -28,6 +28,7 @@
 //! | `forest` | a struct that holds trees and a shape, with no line of proof |
 //! | `station` | a type that is read and written by hand, each error proved |
 //! | `store` | what a content-addressed store checks: one item, in its canonical encoding |
+//! | `sorted` | a value whose maps are sorted, so that all who hold it write the same bytes |
 //! | `envelope` | a signed payload, checked as its bytes stand and then read |
 //!
 //! The rows' values come from RFC 8949 and from worked examples, never from this codec's own
@@ -61,6 +62,7 @@ pub mod reply;
 pub mod sample;
 pub mod settings;
 pub mod shape;
+pub mod sorted;
 pub mod station;
 pub mod store;
 pub mod texts;

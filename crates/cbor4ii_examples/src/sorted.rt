@@ -1,0 +1,196 @@
+//! Sorted encodings: the pairs of each map in the order of their keys' encodings, as the
+//! deterministic encoding asks for (RFC 8949 section 4.2.1).
+//!
+//! Heads and lengths are those of the canonical encoding, which that section asks for too. Floats
+//! keep their width, and the bytes of a tag stay as they are.
+ghost use Rattle.std.specs.Prelude.{◌≡◌, ◌↔◌, ◌⊎◌, IsTrue, OnOk, OnErr, IfOk, IfErr};
+ghost use Rattle.cbor4ii_tree.specs.Access.{HasMapWith, SomeHasMapWith, PairHasMapWith};
+ghost use Rattle.cbor4ii_tree.specs.Canonical.{canonical_encoding};
+ghost use Rattle.cbor4ii_tree.specs.Item.{Item};
+ghost use Rattle.cbor4ii_tree.specs.View.{view, items_view, members_view};
+ghost use Rattle.cbor4ii_examples.specs.Sorted.{sorted, sorted_items, sorted_pairs, in_order};
+ghost use Rattle.cbor4ii_examples.specs.Sorted.{EachMap, EachMapOfItems, EachMapOfPairs};
+ghost use Rattle.cbor4ii_examples.specs.Sorted.{KeysInOrder, KeysAscend, HasManyPairs};
+ghost use Rattle.cbor4ii_examples.specs.Sorted.{SameUpToOrder, SameItems, SamePairs, IsRefused};
+
+use cbor4ii::enc::Encode;
+use cbor4ii::utils::BufWriter;
+use cbor4ii::{NoMemory, Value};
+use std::alloc::{AllocError, Global};
+
+/// Puts the pairs of each map in the value in the order of their keys' encodings, byte by byte: in
+/// arrays, on tags, in keys and in values, from the inside out. Pairs with equal keys keep their
+/// order.
+///
+/// A map stays in its memory. One of more than 20 pairs takes as much again while it is sorted,
+/// and gives it back. The function calls itself once for each level, as reading the value did.
+///
+/// # Errors
+///
+/// `NoMemory`: that memory was refused. The value is then sorted in part.
+pub fn sort(value: &mut Value) -> Result<(), NoMemory>
+    ensures sorted { OnOk result (view value.new ≡ sorted (view value.old)) }
+    ensures order { OnOk result (EachMap KeysInOrder (view value.new)) }
+    ensures same { SameUpToOrder (view value.old) (view value.new) }
+    ensures memory { OnErr result (HasMapWith HasManyPairs (view value.old)) }
+{
+    Ok(sort_value(value)?)
+}
+
+#[cycle(sorting)]
+fn sort_value(value: &mut Value) -> Result<(), AllocError>
+    ensures sorted { OnOk result (view value.new ≡ sorted (view value.old)) }
+    ensures same { SameUpToOrder (view value.old) (view value.new) }
+    ensures memory { OnErr result (HasMapWith HasManyPairs (view value.old)) }
+{
+    match value {
+        Value::Array(items) => sort_items(items),
+        Value::Map(members) => sort_map(members),
+        Value::Tag(_, inner) => sort_value(inner),
+        _ => Ok(()),
+    }
+}
+
+#[cycle(sorting)]
+fn sort_items(items: &mut [Value]) -> Result<(), AllocError>
+    ensures sorted { OnOk result (items_view items.new ≡ sorted_items (items_view items.old)) }
+    ensures same { SameItems (items_view items.old) (items_view items.new) }
+    ensures memory { OnErr result (SomeHasMapWith HasManyPairs (items_view items.old)) }
+{
+    for i in 0..items.len() {
+        sort_value(&mut items[i])?;
+    }
+    Ok(())
+}
+
+/// Sorts what stands in the pairs, and then the pairs by their keys.
+#[cycle(sorting)]
+fn sort_map(members: &mut Vec<(Value, Value)>) -> Result<(), AllocError>
+    ensures sorted { OnOk result (members_view members.new.items
+        ≡ in_order (sorted_pairs (members_view members.old.items))) }
+    ensures same { SamePairs (members_view members.old.items) (members_view members.new.items) }
+    ensures memory { OnErr result (HasManyPairs (members_view members.old.items)
+        ⊎ PairHasMapWith HasManyPairs (members_view members.old.items)) }
+{
+    sort_pairs(members)?;
+    members.sort_by(|a, b| a.0.cmp_encodings(&b.0))?;
+    Ok(())
+}
+
+#[cycle(sorting)]
+fn sort_pairs(members: &mut [(Value, Value)]) -> Result<(), AllocError>
+    ensures sorted { OnOk result (members_view members.new
+        ≡ sorted_pairs (members_view members.old)) }
+    ensures same { SamePairs (members_view members.old) (members_view members.new) }
+    ensures memory { OnErr result (PairHasMapWith HasManyPairs (members_view members.old)) }
+{
+    for i in 0..members.len() {
+        sort_pair(&mut members[i])?;
+    }
+    Ok(())
+}
+
+#[cycle(sorting)]
+fn sort_pair(member: &mut (Value, Value)) -> Result<(), AllocError>
+    ensures key { OnOk result (view member.new.0 ≡ sorted (view member.old.0)) }
+    ensures value { OnOk result (view member.new.1 ≡ sorted (view member.old.1)) }
+    ensures same_key { SameUpToOrder (view member.old.0) (view member.new.0) }
+    ensures same_value { SameUpToOrder (view member.old.1) (view member.new.1) }
+    ensures memory { OnErr result (HasMapWith HasManyPairs (view member.old.0)
+        ⊎ HasMapWith HasManyPairs (view member.old.1)) }
+{
+    sort_value(&mut member.0)?;
+    sort_value(&mut member.1)
+}
+
+/// Whether each map in the value is in order and has no equal keys: each key's encoding is below
+/// the next one's, byte by byte.
+#[cycle(checking)]
+pub fn is_sorted(value: &Value) -> bool
+    ensures { IsTrue result ↔ EachMap KeysAscend (view value.now) }
+{
+    match value {
+        Value::Array(items) => are_sorted(items),
+        Value::Map(members) => keys_ascend(members) && pairs_are_sorted(members),
+        Value::Tag(_, inner) => is_sorted(inner),
+        _ => true,
+    }
+}
+
+#[cycle(checking)]
+fn are_sorted(items: &[Value]) -> bool
+    ensures { IsTrue result ↔ EachMapOfItems KeysAscend (items_view items.now) }
+{
+    for item in items {
+        if !is_sorted(item) {
+            return false;
+        }
+    }
+    true
+}
+
+#[cycle(checking)]
+fn pairs_are_sorted(members: &[(Value, Value)]) -> bool
+    ensures { IsTrue result ↔ EachMapOfPairs KeysAscend (members_view members.now) }
+{
+    for member in members {
+        if !is_sorted(&member.0) || !is_sorted(&member.1) {
+            return false;
+        }
+    }
+    true
+}
+
+/// Whether each key is below the next one.
+fn keys_ascend(members: &[(Value, Value)]) -> bool
+    ensures { IsTrue result ↔ KeysAscend (members_view members.now) }
+{
+    members.is_sorted_by(|a, b| a.0.cmp_encodings(&b.0).is_lt())
+}
+
+/// Why a value has no sorted encoding.
+#[derive(Clone, Copy, Debug, PartialEq, Eq)]
+pub enum SortedError {
+    /// A map has two keys with equal encodings, once they are sorted inside.
+    EqualKeys,
+    /// There is no memory for sorting, or for what is written.
+    NoMemory,
+}
+
+/// Sorts the value, and writes it: the bytes that all who hold it write, in whatever order they
+/// hold its pairs.
+///
+/// # Errors
+///
+/// - `EqualKeys`: a map in the value has equal keys. The value is sorted then
+/// - `NoMemory`: memory was refused. The value may be sorted in part then
+pub fn sorted_encoding(alloc: Global, value: &mut Value) -> Result<Vec<u8>, SortedError>
+    ensures encodes { IfOk result (λ bytes.
+        bytes.items ≡ canonical_encoding (sorted (view value.old))) }
+    ensures ascends { OnOk result (EachMap KeysAscend (sorted (view value.old))) }
+    ensures refuses { IfErr result (λ error. IsRefused error (view value.old)) }
+    ensures same { SameUpToOrder (view value.old) (view value.new) }
+{
+    if sort(value).is_err() {
+        return Err(SortedError::NoMemory);
+    }
+    if !is_sorted(value) {
+        return Err(SortedError::EqualKeys);
+    }
+    let mut writer = BufWriter::new(Vec::new(alloc));
+    match value.encode(&mut writer) {
+        Ok(()) => Ok(writer.into_inner()),
+        Err(_) => Err(SortedError::NoMemory),
+    }
+}
+
+/// Values that are equal up to the order of pairs have one encoding when they are sorted, where no
+/// two keys of a map are equal then. Sorting leaves a value in which each key is below the next.
+pub fn sorted_encodings_are_equal()
+    ensures one { (v w : Item) → SameUpToOrder v w → EachMap KeysAscend (sorted v) →
+        canonical_encoding (sorted v) ≡ canonical_encoding (sorted w) }
+    ensures stays { (v : Item) → EachMap KeysAscend v → sorted v ≡ v }
+{}
+
+#[cfg(test)]
+mod tests;
