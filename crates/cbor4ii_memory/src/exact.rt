@@ -3,6 +3,7 @@
 use crate::made::{Copied, EqualKeys, EqualKeysAtAnyLevel, Kept, MadeCanonical, Written};
 use crate::named::{Fields, Variant};
 use crate::of_slice::read_of_slice;
+use crate::own::{Elements, Keyed, Named, Short, Tagged};
 use crate::typed::{AsItem, Typed, as_core};
 use crate::values::Item;
 use cbor4ii::serde::Deserializer;
@@ -39,6 +40,11 @@ enum Way {
     Str,
     Fields,
     Variant,
+    Elements,
+    Keyed,
+    Named,
+    Tagged,
+    Checked,
 }
 
 const WAYS: &[(&[u8], Way)] = table! {
@@ -54,6 +60,11 @@ const WAYS: &[(&[u8], Way)] = table! {
     (b"str of a ", Way::Str),
     (b"fields of a ", Way::Fields),
     (b"variant of a ", Way::Variant),
+    (b"elements of a ", Way::Elements),
+    (b"keyed of a ", Way::Keyed),
+    (b"named of a ", Way::Named),
+    (b"tagged of a ", Way::Tagged),
+    (b"checked of a ", Way::Checked),
 };
 
 /// Reads the item that follows these words, if it is to be read alone: out of a slice, or of
@@ -92,6 +103,11 @@ fn way_of_slice(alloc: Global, way: Way, item: &[u8]) -> Alone {
         Way::Str => str_of_slice(alloc, item),
         Way::Fields => of_slice::<Typed<Fields>>(alloc, item),
         Way::Variant => of_slice::<Typed<Variant>>(alloc, item),
+        Way::Elements => of_slice::<Typed<Elements>>(alloc, item),
+        Way::Keyed => of_slice::<Typed<Keyed>>(alloc, item),
+        Way::Named => of_slice::<Typed<Named>>(alloc, item),
+        Way::Tagged => of_slice::<Typed<Tagged>>(alloc, item),
+        Way::Checked => of_slice::<Typed<Short>>(alloc, item),
     }
 }
 
@@ -109,6 +125,11 @@ fn way_of_stream(alloc: Global, way: Way, item: &[u8]) -> Alone {
         Way::Str => str_of_stream(alloc, item),
         Way::Fields => of_stream::<Typed<Fields>>(alloc, item),
         Way::Variant => of_stream::<Typed<Variant>>(alloc, item),
+        Way::Elements => of_stream::<Typed<Elements>>(alloc, item),
+        Way::Keyed => of_stream::<Typed<Keyed>>(alloc, item),
+        Way::Named => of_stream::<Typed<Named>>(alloc, item),
+        Way::Tagged => of_stream::<Typed<Tagged>>(alloc, item),
+        Way::Checked => of_stream::<Typed<Short>>(alloc, item),
     }
 }
 

@@ -23,6 +23,7 @@ mod levels;
 mod made;
 mod named;
 mod of_slice;
+mod own;
 mod read;
 mod room;
 mod tally;
@@ -119,6 +120,8 @@ fn typed_rows(tally: &mut Tally) -> Result<(), Broken> {
     typed::firsts(tally)?;
     typed_calls::types(tally)?;
     typed_calls::by_name(tally)?;
+    own::types(tally)?;
+    own::rejected(tally)?;
     lendable::lent_strings(tally)
 }
 

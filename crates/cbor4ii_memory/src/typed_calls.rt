@@ -110,6 +110,7 @@ enum Call {
     String,
     ByteBuf,
     NewtypeStruct,
+    From,
     Tagged,
     OptionValue,
     SomeDeserializer,
@@ -152,6 +153,7 @@ fn make_call<S: Source>(
         Call::String => Ok(Found::Text(de.deserialize_string(alloc)?)),
         Call::ByteBuf => Ok(Found::Bytes(de.deserialize_byte_buf(alloc)?)),
         Call::NewtypeStruct => Ok(Found::Text(de.deserialize_newtype_struct(alloc, "Name")?)),
+        Call::From => Ok(Found::Text(de.deserialize_from::<String, String>(alloc)?)),
         Call::Tagged => { Ok(Found::Text(de.deserialize_tagged::<String, String>(alloc, 32)?)) }
         Call::OptionValue => Ok(Found::Optional(de.deserialize_option()?.value(alloc)?)),
         Call::SomeDeserializer => some_text(alloc, de),
@@ -202,6 +204,7 @@ const CALL_ROWS: &[CallRow<Call>] = table! {
     ("deserialize_string", Call::String, b"\x7f\x61a\x61b\xff\x01", "Text(\"ab\")", b"\x01"),
     ("deserialize_byte_buf", Call::ByteBuf, b"\x5f\x41\x01\x41\x02\xff", "Bytes([1, 2])", b""),
     ("deserialize_newtype_struct", Call::NewtypeStruct, b"\x61a\x01", "Text(\"a\")", b"\x01"),
+    ("deserialize_from", Call::From, b"\x7f\x61a\x61b\xff\x01", "Text(\"ab\")", b"\x01"),
     ("deserialize_tagged", Call::Tagged, b"\xd8\x20\x61a\x01", "Text(\"a\")", b"\x01"),
     ("SomeAccessor::value", Call::OptionValue, b"\x61a\x01", "Optional(Some(\"a\"))", b"\x01"),
     ("SomeAccessor::deserializer", Call::SomeDeserializer, b"\x61a\x01", "Text(\"a\")", b"\x01"),

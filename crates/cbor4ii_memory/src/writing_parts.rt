@@ -1,7 +1,9 @@
 //! Rows of structs, variants, arrays, maps and texts that are written from their parts.
 use crate::tally::{Broken, Tally};
 use crate::writing::{WriteRow, writes, writes_rows};
-use cbor4ii::serde::{EncodeError, Serializer, Text, TextFault, TextWriter, to_vec, to_writer};
+use cbor4ii::serde::{
+    EncodeError, FieldValues, IfSome, Serializer, Text, TextFault, TextWriter, to_vec, to_writer,
+};
 use cbor4ii_rw::error as core_error;
 use cbor4ii_rw::write::Write;
 use cbor4ii_vectors::rows::WriteTo;
@@ -185,10 +187,60 @@ const PART_ROWS: &[WriteRow<Typed<InParts>>] = table! {
     ("serialize_struct_variant", Typed(InParts::StructVariant), b"\xa1\x61S\xa1\x61a\x01"),
 };
 
+/// What is written from a list of its parts in one call.
+#[derive(Clone, Copy)]
+enum Listed {
+    NoElement,
+    Elements,
+    Names,
+    Integers,
+    LeftOut,
+}
+
+// A number whose head has nine bytes, which are more than a small buffer has room for.
+const MUCH: u64 = 1_000_000_000_000;
+
+impl Put for Listed {
+    fn put<W: Write>(&self, ser: &mut Serializer<W>) -> Result<(), EncodeError<W::Error>> {
+        let [one, two] = &[1u8, 2];
+        match self {
+            Listed::NoElement => ser.serialize_elements(&()),
+            Listed::Elements => ser.serialize_elements(&(one, (&MUCH, (&500u16, (two, ()))))),
+            Listed::Names => (one, &MUCH, two).serialize_fields("Names", &["a", "b", "c"], ser),
+            Listed::Integers => (one, &MUCH, two).serialize_fields("Integers", &[1, -2, 500], ser),
+            Listed::LeftOut => left_out(ser),
+        }
+    }
+}
+
+fn left_out<W: Write>(ser: &mut Serializer<W>) -> Result<(), EncodeError<W::Error>> {
+    let (none, some, much) = (None::<u8>, Some(MUCH), MUCH);
+    let fields = (IfSome(&none), IfSome(&some), &much);
+    fields.serialize_fields("LeftOut", &["a", "b", "c"], ser)
+}
+
+const LISTED_ROWS: &[WriteRow<Typed<Listed>>] = table! {
+    ("serialize_elements of none", Typed(Listed::NoElement), b"\x80"),
+    ("serialize_elements", Typed(Listed::Elements), FOUR_ELEMENTS),
+    ("serialize_fields by names", Typed(Listed::Names), BY_NAMES),
+    ("serialize_fields by integers", Typed(Listed::Integers), BY_INTEGERS),
+    ("serialize_fields, one left out", Typed(Listed::LeftOut), ONE_LEFT_OUT),
+};
+
+const FOUR_ELEMENTS: &[u8] = b"\x84\x01\x1b\x00\x00\x00\xe8\xd4\xa5\x10\x00\x19\x01\xf4\x02";
+
+const BY_NAMES: &[u8] = b"\xa3\x61a\x01\x61b\x1b\x00\x00\x00\xe8\xd4\xa5\x10\x00\x61c\x02";
+
+const BY_INTEGERS: &[u8] = b"\xa3\x01\x01\x21\x1b\x00\x00\x00\xe8\xd4\xa5\x10\x00\x19\x01\xf4\x02";
+
+const ONE_LEFT_OUT: &[u8] = b"\xa2\x61b\x1b\x00\x00\x00\xe8\xd4\xa5\x10\x00\
+\x61c\x1b\x00\x00\x00\xe8\xd4\xa5\x10\x00";
+
 /// Structs and variants in one call, and what is written part by part.
 pub fn calls(tally: &mut Tally) -> Result<(), Broken> {
     writes_rows(tally, STRUCT_ROWS)?;
     writes_rows(tally, VARIANT_ROWS)?;
+    writes_rows(tally, LISTED_ROWS)?;
     writes_rows(tally, PART_ROWS)
 }
 
