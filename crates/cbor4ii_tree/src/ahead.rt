@@ -151,7 +151,7 @@ fn more_of_run(shown: &[u8], most: u64, left: u64, size: usize) -> (u64, usize)
     end_of_run(shown, most, left, size)
 }
 
-/// The same, up to the last item that stands whole.
+/// The run that goes on so, up to the last item that stands whole.
 #[inline(always)]
 fn end_of_run(shown: &[u8], most: u64, left: u64, size: usize) -> (u64, usize)
     requires few { left ≤ most }
