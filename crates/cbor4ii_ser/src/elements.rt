@@ -138,8 +138,8 @@ fn put_elements<W: Write, P: SerializeElements>(
     }
 }
 
-/// The same, out of line: to a writer with a large error what holds the elements then takes a small
-/// frame.
+/// Writes a head and the elements out of line: to a writer with a large error what holds them then
+/// takes a small frame.
 #[inline(never)]
 fn put_elements_apart<W: Write, P: SerializeElements>(
     ser: &mut Serializer<W>,

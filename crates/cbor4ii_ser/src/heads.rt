@@ -49,7 +49,8 @@ impl<W: Write> Serializer<W> {
         }
     }
 
-    /// The same, out of line: to a writer with a large error the caller's frame stays small.
+    /// The head of an array, out of line: to a writer with a large error the caller's frame stays
+    /// small.
     #[inline(never)]
     fn seq_head_apart(&mut self, len: Option<usize>) -> Result<(), EncodeError<W::Error>>
         ensures { Serializes W.atomic (encoded (container_head 4 len))

@@ -38,7 +38,7 @@ impl Serialize for bool {
     }
 }
 
-/// As its shortest head (RFC 8949 section 3.1), in one push.
+/// Its shortest head (RFC 8949 section 3.1), in one push.
 impl Serialize for i8 {
     ghost encoding = { λ v. encoded (signed_head v) };
 
@@ -58,7 +58,7 @@ impl Serialize for i8 {
     }
 }
 
-/// As its shortest head (RFC 8949 section 3.1), in one push.
+/// Its shortest head (RFC 8949 section 3.1), in one push.
 impl Serialize for i16 {
     ghost encoding = { λ v. encoded (signed_head v) };
 
@@ -78,7 +78,7 @@ impl Serialize for i16 {
     }
 }
 
-/// As its shortest head (RFC 8949 section 3.1), in one push.
+/// Its shortest head (RFC 8949 section 3.1), in one push.
 impl Serialize for i32 {
     ghost encoding = { λ v. encoded (signed_head v) };
 
@@ -98,7 +98,7 @@ impl Serialize for i32 {
     }
 }
 
-/// As its shortest head (RFC 8949 section 3.1), in one push.
+/// Its shortest head (RFC 8949 section 3.1), in one push.
 impl Serialize for i64 {
     ghost encoding = { λ v. encoded (signed_head v) };
 
@@ -118,7 +118,7 @@ impl Serialize for i64 {
     }
 }
 
-/// As its shortest head, or as a bignum where none has room for it (RFC 8949 section 3.4.3).
+/// Its shortest head, or a bignum where none has room for it (RFC 8949 section 3.4.3).
 impl Serialize for i128 {
     ghost encoding = { λ v. encoded (signed_bytes v) };
 
@@ -128,7 +128,7 @@ impl Serialize for i128 {
     }
 }
 
-/// As its shortest head (RFC 8949 section 3.1), in one push.
+/// Its shortest head (RFC 8949 section 3.1), in one push.
 impl Serialize for u8 {
     ghost encoding = { λ v. encoded (shortest_head 0 v) };
 
@@ -148,7 +148,7 @@ impl Serialize for u8 {
     }
 }
 
-/// As its shortest head (RFC 8949 section 3.1), in one push.
+/// Its shortest head (RFC 8949 section 3.1), in one push.
 impl Serialize for u16 {
     ghost encoding = { λ v. encoded (shortest_head 0 v) };
 
@@ -168,7 +168,7 @@ impl Serialize for u16 {
     }
 }
 
-/// As its shortest head (RFC 8949 section 3.1), in one push.
+/// Its shortest head (RFC 8949 section 3.1), in one push.
 impl Serialize for u32 {
     ghost encoding = { λ v. encoded (shortest_head 0 v) };
 
@@ -188,7 +188,7 @@ impl Serialize for u32 {
     }
 }
 
-/// As its shortest head (RFC 8949 section 3.1), in one push.
+/// Its shortest head (RFC 8949 section 3.1), in one push.
 impl Serialize for u64 {
     ghost encoding = { λ v. encoded (shortest_head 0 v) };
 
@@ -208,7 +208,7 @@ impl Serialize for u64 {
     }
 }
 
-/// As its shortest head, or as a bignum where none has room for it (RFC 8949 section 3.4.3).
+/// Its shortest head, or a bignum where none has room for it (RFC 8949 section 3.4.3).
 impl Serialize for u128 {
     ghost encoding = { λ v. encoded (unsigned_bytes v) };
 
@@ -218,7 +218,7 @@ impl Serialize for u128 {
     }
 }
 
-/// As its first byte and its bits, most significant first, in one push.
+/// Its first byte and its bits, most significant first, in one push.
 impl Serialize for F16 {
     ghost encoding = { λ v. encoded (float_bytes 0xf9 2 v.0) };
 
@@ -238,7 +238,7 @@ impl Serialize for F16 {
     }
 }
 
-/// As its first byte and its bits, most significant first, in one push.
+/// Its first byte and its bits, most significant first, in one push.
 impl Serialize for F32 {
     ghost encoding = { λ v. encoded (float_bytes 0xfa 4 v.0) };
 
@@ -258,7 +258,7 @@ impl Serialize for F32 {
     }
 }
 
-/// As its first byte and its bits, most significant first, in one push.
+/// Its first byte and its bits, most significant first, in one push.
 impl Serialize for F64 {
     ghost encoding = { λ v. encoded (float_bytes 0xfb 8 v.0) };
 

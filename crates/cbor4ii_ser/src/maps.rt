@@ -38,7 +38,7 @@ fn put_map<W: Write, K: Serialize + Ord, V: Serialize>(
     put_entries(ser, map)
 }
 
-/// The same, to a writer with a large error.
+/// Writes a map to a writer with a large error, its head and each entry in turn.
 #[inline(always)]
 fn put_map_in_turn<W: Write, K: Serialize + Ord, V: Serialize>(
     ser: &mut Serializer<W>,

@@ -78,8 +78,8 @@ fn put_leaf_array<W: Write, T: Serialize>(
     }
 }
 
-/// The same, with a small answer. It is out of line, so that what holds such an array takes a small
-/// frame.
+/// Writes an array of leaves with a small answer. It is out of line, so that what holds such an
+/// array takes a small frame.
 #[inline(never)]
 fn put_leaves<W: Write, T: Serialize>(
     ser: &mut Serializer<W>,

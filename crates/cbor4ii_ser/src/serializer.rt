@@ -75,7 +75,7 @@ impl<W: Write> Serializer<W> {
         Ok(value.encode(&mut self.writer)?)
     }
 
-    /// The same, out of line: to a writer with a large error the caller's frame stays small.
+    /// An item, out of line: to a writer with a large error the caller's frame stays small.
     #[inline(never)]
     fn item_apart<T: Encode>(&mut self, value: &T) -> Result<(), EncodeError<W::Error>>
         ensures { Serializes W.atomic (encoded (T.bytes value.now))

@@ -83,7 +83,7 @@ pub(crate) fn push_head_apart<W: Write>(
     push_head(writer, major, argument, answer)
 }
 
-/// The same, in line.
+/// Writes the shortest head of this major type with this argument, in line.
 #[inline(always)]
 pub(crate) fn push_head<W: Write>(
     writer: &mut W,
@@ -106,7 +106,7 @@ pub(crate) fn push_head<W: Write>(
     }
 }
 
-/// The same, of an argument that has bytes of its own.
+/// Writes the shortest head of an argument that has bytes of its own.
 #[inline(never)]
 fn push_long_head_apart<W: Write>(
     writer: &mut W,
@@ -126,7 +126,7 @@ fn push_long_head_apart<W: Write>(
     push_long_head(writer, major, argument, answer)
 }
 
-/// The same, in line.
+/// Writes the shortest head of an argument that has bytes of its own, in line.
 #[inline(always)]
 pub(crate) fn push_long_head<W: Write>(
     writer: &mut W,
@@ -177,7 +177,7 @@ pub(crate) fn push_f16_apart<W: Write>(
     push_f16(writer, bits, answer)
 }
 
-/// The same, in line.
+/// Writes a float of two bytes, in line.
 #[inline(always)]
 pub(crate) fn push_f16<W: Write>(
     writer: &mut W,
@@ -212,7 +212,7 @@ pub(crate) fn push_f32_apart<W: Write>(
     push_f32(writer, bits, answer)
 }
 
-/// The same, in line.
+/// Writes a float of four bytes, in line.
 #[inline(always)]
 pub(crate) fn push_f32<W: Write>(
     writer: &mut W,
@@ -248,7 +248,7 @@ pub(crate) fn push_f64_apart<W: Write>(
     push_f64(writer, bits, answer)
 }
 
-/// The same, in line.
+/// Writes a float of eight bytes, in line.
 #[inline(always)]
 pub(crate) fn push_f64<W: Write>(
     writer: &mut W,
@@ -284,7 +284,7 @@ pub(crate) fn push_string_apart<W: Write>(
     push_string(writer, major, content, answer)
 }
 
-/// The same, in line.
+/// Writes a string of this major type, in line.
 #[inline(always)]
 pub(crate) fn push_string<W: Write>(
     writer: &mut W,
@@ -317,7 +317,7 @@ pub(crate) fn push_text_apart<W: Write>(
     push_string_apart(writer, major::STRING, text.as_bytes(), answer)
 }
 
-/// The same, in line.
+/// Writes a text, in line.
 #[inline(always)]
 pub(crate) fn push_text<W: Write>(
     writer: &mut W,

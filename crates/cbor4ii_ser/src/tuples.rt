@@ -57,7 +57,7 @@ fn put_pair_apart<W: Write, A: Serialize, B: Serialize>(
     second.serialize(ser)
 }
 
-/// The same of a triple.
+/// Writes a triple out of line: to a writer with a large error the caller's frame stays small.
 #[inline(never)]
 fn put_triple_apart<W: Write, A: Serialize, B: Serialize, C: Serialize>(
     ser: &mut Serializer<W>,
