@@ -21,13 +21,13 @@ use cbor4ii_rw::error::{DecodeError, Never, WholeError};
 use std::alloc::Global;
 
 impl Value {
-    /// The value that `input` encodes, all of it, read with `NESTING_LIMIT` steps. What is read, and
-    /// each error, is described at `Value`'s `Decode`.
+    /// The value that `input` encodes, all of it, read with `NESTING_LIMIT` steps. What is read,
+    /// and each error, is described at `Value`'s `Decode`.
     ///
     /// # Errors
     ///
-    /// - `Decode` of an error of `Value`: no value that is read begins the input. Of `OutOfMemory`: a
-    ///   growth was refused
+    /// - `Decode` of an error of `Value`: no value that is read begins the input. `OutOfMemory`
+    ///   where a growth was refused
     /// - `Trailing`: a value begins the input, and so many bytes follow it, one at least
     pub fn from_slice(alloc: Global, input: &[u8]) -> Result<Value, WholeError<DecodeError<Never>>>
         ensures answers { AnswersWhole (λ v. DecodesTo input.now (Some limit) (view v))
@@ -61,8 +61,9 @@ impl Canonical {
     /// # Errors
     ///
     /// - `Decode` of an error of `Canonical`: no canonical encoding that is read begins the input.
-    ///   Of `OutOfMemory`: a growth was refused
-    /// - `Trailing`: a canonical encoding begins the input, and so many bytes follow it, one at least
+    ///   `OutOfMemory` where a growth was refused
+    /// - `Trailing`: a canonical encoding begins the input, and so many bytes follow it, one at
+    ///   least
     pub fn from_slice(
         alloc: Global,
         input: &[u8],
