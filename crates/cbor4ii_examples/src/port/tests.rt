@@ -3,6 +3,7 @@ use crate::port::port;
 use cbor4ii::error::DecodeError::Eof;
 use cbor4ii::error::Len::Small;
 use cbor4ii::error::WholeError::{Decode, Trailing};
+use cbor4ii::{Canonical, Value};
 use cbor4ii_vectors::table;
 use std::test::Fail;
 
@@ -35,5 +36,18 @@ fn other_inputs_are_rejected(rt: HostRuntime) -> Result<(), Fail> {
     });
     assert_eq!(rt; port(alloc, b"\xa1\x64port\x19\x1f").err(), Some(cut));
     assert_eq!(rt; port(alloc, b"\x80\x00").err(), Some(Trailing(1)));
+    Ok(())
+}
+
+#[test]
+fn a_value_is_written_again(rt: HostRuntime) -> Result<(), Fail> {
+    let alloc = rt.alloc();
+    let value = Value::from_slice(alloc, b"\xbf\x64port\x19\x00\x05\xff")?;
+    assert_eq!(rt;
+        value.to_vec(alloc)?.as_slice(),
+        b"\xa1\x64port\x05".as_slice()
+    );
+    let Canonical(same) = Canonical::from_slice(alloc, b"\xa1\x64port\x05")?;
+    assert_eq!(rt; same, value);
     Ok(())
 }
