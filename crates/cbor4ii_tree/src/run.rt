@@ -85,13 +85,12 @@ impl Parts for Pairs {
 
     #[inline(always)]
     fn put(&mut self, value: Value) -> Option<()> {
-        match self.key.take() {
-            Some(key) => push(&mut self.members, (key, value)),
-            None => {
-                self.key = Some(value);
-                Some(())
-            }
+        if self.key.is_none() {
+            self.key = Some(value);
+            return Some(());
         }
+        let key = self.key.take().unwrap();
+        push(&mut self.members, (key, value))
     }
 }
 
