@@ -390,7 +390,7 @@ fn definite_items<S: Source, A: Encodings>(
     ensures items { IfSome result (λ v. AreItems (items_view v.items)) }
 {
     let mut items = Vec::new(alloc);
-    if items.reserve(items_ahead(count)).is_err() {
+    if !make_room(&mut items, count) {
         *failure = None;
         return None;
     }
@@ -398,6 +398,15 @@ fn definite_items<S: Source, A: Encodings>(
         more_items::<S, A>(alloc, reader, count, &mut items, failure)?;
     }
     Some(items)
+}
+
+/// Makes room for so many parts, or for as many as have their place before any came. It answers
+/// whether there was memory. It stays out of line, as `read_alone`.
+#[inline(never)]
+fn make_room<T>(parts: &mut Vec<T>, count: usize) -> bool
+    ensures { parts.new.items ≡ parts.old.items }
+{
+    parts.reserve_exact(items_ahead(count)).is_ok()
 }
 
 /// Reads the items that come next, as many as one look decides, and the one after them
@@ -585,7 +594,7 @@ fn definite_members<S: Source, A: Encodings>(
         members: Vec::new(alloc),
         key: None,
     };
-    if pairs.members.reserve(items_ahead(count)).is_err() {
+    if !make_room(&mut pairs.members, count) {
         *failure = None;
         return None;
     }

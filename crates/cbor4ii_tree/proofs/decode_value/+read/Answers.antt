@@ -288,9 +288,9 @@ read_value-returns g t c =
     c.step_out.ensures.budget c.step_out.ensures.others
     c.read_inside-outcome.ensures
 
-pub definite_members-returns-then-is_err-clause-does :
-    goal.definite_members-returns-then-is_err-clause-does
-definite_members-returns-then-is_err-clause-does g t c =
+pub definite_members-returns-then-not-make_room-clause-does :
+    goal.definite_members-returns-then-not-make_room-clause-does
+definite_members-returns-then-not-make_room-clause-does g t c =
     does_no_memory _ _ refl (kept_alike _)
 
 pub read_value-returns-then-not-step_in : goal.read_value-returns-then-not-step_in
@@ -507,9 +507,9 @@ indefinite_members-returns-in_err-keep-clause-memory g t c =
     c.in_ok-part.ensures c.if-not-branch.true) (reached_by
     c.in_ok-member.ensures.does))
 
-pub definite_items-returns-then-is_err-clause-memory :
-    goal.definite_items-returns-then-is_err-clause-memory
-definite_items-returns-then-is_err-clause-memory g t c want =
+pub definite_items-returns-then-not-make_room-clause-memory :
+    goal.definite_items-returns-then-not-make_room-clause-memory
+definite_items-returns-then-not-make_room-clause-memory g t c want =
     asks_here _ (λ xs ys h. inl (0, omega arith, values_are _ _ [] xs ys h)) (none_read _ _ [] refl)
 
 pub definite_items-returns-in_err-more_items-clause-memory :
@@ -519,9 +519,9 @@ definite_items-returns-in_err-more_items-clause-memory g t c =
     us ys (values_are _ _ _ xs us h) s)) c.loop-alloc.invariant.reached
     (c.in_err-more_items.ensures.memory want))
 
-pub definite_members-returns-then-is_err-clause-memory :
-    goal.definite_members-returns-then-is_err-clause-memory
-definite_members-returns-then-is_err-clause-memory g t c want =
+pub definite_members-returns-then-not-make_room-clause-memory :
+    goal.definite_members-returns-then-not-make_room-clause-memory
+definite_members-returns-then-not-make_room-clause-memory g t c want =
     asks_here _ (λ xs ys h. inl (0, omega arith, values_are _ _ [] xs ys h)) (none_read _ _ [] refl)
 
 pub definite_members-returns-in_err-more_members-clause-memory :
