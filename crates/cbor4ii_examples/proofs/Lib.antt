@@ -18,3 +18,6 @@ pub mod StableSort
 -- Values whose maps are sorted.
 pub mod Sorting
 pub mod SortedValues
+pub mod SameOrder
+-- An item, or the end of a sequence.
+pub mod ItemOrEnd

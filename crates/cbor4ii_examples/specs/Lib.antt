@@ -15,6 +15,8 @@ pub mod Envelope
 -- At which byte settings are rejected, and when a store rejects bytes.
 pub mod Settings
 pub mod Store
+-- What comes next in a sequence of items.
+pub mod Sequence
 -- Values whose maps are sorted.
 pub mod Sorted
 -- What a reader over a line reports.

@@ -1,8 +1,9 @@
 -- Values whose maps have their pairs in the order of their keys' encodings (RFC 8949 section
 -- 4.2.1), and what the order of pairs leaves as it is.
-use Rattle.std.specs.Prelude.{◌≡◌, ℕ, zero, suc, ◌<◌, Bool, false, true, if◌then◌else◌}
+use Rattle.std.specs.Prelude.{◌≡◌, ◌⊎◌, ℕ, zero, suc, ◌<◌, Bool, false, true, if◌then◌else◌}
 use Rattle.std.specs.Ordering.{is_lt, nat_cmp}
 use Rattle.std.specs.Cmp.Lexicographic.{slice_cmp}
+use Rattle.cbor4ii_tree.specs.Access.{HasMapWith}
 use Rattle.cbor4ii_tree.specs.Canonical.{canonical_encoding}
 use Rattle.cbor4ii_tree.specs.Item.{Item, sequence, mapping, tag, Items, no_items, item, Members}
 use Rattle.cbor4ii_tree.specs.Item.{no_members, member, member_count, null, boolean, integer, float}
@@ -122,7 +123,8 @@ HasManyPairs ms = 20 < member_count ms
 
 -- ---- errors
 
--- what each error of a sorted encoding says of the value
+-- Two keys of a map are equal; or memory was refused, for sorting a long map, or for writing a
+-- value with no equal keys.
 abbrev pub IsRefused : SortedError → Item → Type 0
 IsRefused EqualKeys v = EachMap KeysAscend (sorted v) → ⊥
-IsRefused NoMemory v = Unit {0}
+IsRefused NoMemory v = HasMapWith HasManyPairs v ⊎ EachMap KeysAscend (sorted v)

@@ -18,6 +18,7 @@
 //! | `cose_key` | a struct whose keys are integers |
 //! | `settings` | a struct of eight fields with defaults, and at which byte its reading fails |
 //! | `log` | a log of events, out of parts that are cut anywhere or out of a stream |
+//! | `sequence` | items one after another (RFC 8742), out of a slice or a stream |
 //! | `line` | requests and answers over a line, whose reader waits for no byte too many |
 //! | `meters` | a newtype, read and written as what it holds |
 //! | `moment` | a newtype with a tag before it, and a struct that holds it |
@@ -60,6 +61,7 @@ pub mod reading;
 mod rejected;
 pub mod reply;
 pub mod sample;
+pub mod sequence;
 pub mod settings;
 pub mod shape;
 pub mod sorted;

@@ -2,8 +2,8 @@
 ghost use Rattle.std.specs.Prelude.{◌≤◌, length, IfOk};
 
 use crate::event::Event;
+use crate::sequence::is_at_end;
 use cbor4ii::dec::Source;
-use cbor4ii::dec::ask::look;
 use cbor4ii::error::{DecodeError as CoreError, Never};
 use cbor4ii::serde::{DecodeError, Deserialize, Deserializer};
 use cbor4ii::utils::{IoReader, SliceReader};
@@ -103,15 +103,6 @@ pub fn next_event<S: Source>(
     match Event::deserialize(alloc, &mut de) {
         Ok(event) => Ok(Some(event)),
         Err(error) => Err(error),
-    }
-}
-
-// Whether no byte is left.
-fn is_at_end<S: Source>(reader: &mut S) -> Result<bool, DecodeError<S::Error>> {
-    let mut failure = None;
-    match look(reader, 1, &mut failure) {
-        Some(shown) => Ok(shown.is_empty()),
-        None => Err(DecodeError::read(failure.unwrap())),
     }
 }
 

@@ -192,5 +192,12 @@ pub fn sorted_encodings_are_equal()
     ensures stays { (v : Item) → EachMap KeysAscend v → sorted v ≡ v }
 {}
 
+/// To be equal up to the order of pairs is an equivalence.
+pub fn same_up_to_order_is_an_equivalence()
+    ensures itself { (v : Item) → SameUpToOrder v v }
+    ensures back { (v w : Item) → SameUpToOrder v w → SameUpToOrder w v }
+    ensures on { (v w x : Item) → SameUpToOrder v w → SameUpToOrder w x → SameUpToOrder v x }
+{}
+
 #[cfg(test)]
 mod tests;
