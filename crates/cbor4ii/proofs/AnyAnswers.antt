@@ -22,7 +22,7 @@ use Rattle.cbor4ii_items.specs.Sequences.{RejectsPlace, no_byte, may_read_nothin
 use Rattle.cbor4ii_items.specs.Sequences.{RejectsInside, length_rejected, definite_rejected}
 use Rattle.cbor4ii_items.specs.Sequences.{indefinite_rejected, RejectsPair, ReadsPair}
 use Rattle.cbor4ii_items.specs.Laws.Bignums.{u128_one}
-use Rattle.cbor4ii_items.specs.Laws.Calls.{err, ok_after, err_after, of_exact, exactly}
+use Rattle.cbor4ii_items.specs.Laws.Calls.{err, ok_after, err_after, of_exact, decodes_exactly}
 use Rattle.cbor4ii_items.specs.Laws.Running.{kept_alike}
 use Rattle.cbor4ii_items.specs.Laws.Sequences.{pair_lawful}
 use Rattle.cbor4ii_tree.specs.declared.value.Value.{Value}
@@ -37,7 +37,7 @@ use Rattle.cbor4ii.specs.AnyFormat.{any_leaf, values_format, any_pair, pairs_for
 use Rattle.cbor4ii.specs.AnyRejects.{RejectsBignum, KindRejects, AnyRejects, AnyRejectsAt}
 use Rattle.cbor4ii.specs.AnyRejects.{RejectsAny}
 use Rattle.cbor4ii.specs.Laws.Any.{any_laws, any_of_inside, inside_of_any}
-use Rattle.cbor4ii_items.specs.Laws.Answering.{always}
+use Rattle.cbor4ii_items.specs.Laws.Answering.{whatever_error}
 use Rattle.cbor4ii.specs.Stepped.{RejectsStepped, stepped_format}
 use Rattle.cbor4ii.specs.Typed.{lawful_as, no_number}
 use Rattle.cbor4ii.proofs.Looking.{Saw, none_begins}
@@ -81,7 +81,7 @@ module _ {U V E : Type 0} (s : Format U) (t : Format V) (form : U → V) (m : Me
 
   pub as_err : {e : DecodeError E} → Decodes s a b (Err e) → Decodes t a b (Err e)
   as_err d =
-      exactly (err_after s t (kept_alike a) (λ xs known. (
+      decodes_exactly (err_after s t (kept_alike a) (λ xs known. (
         xs,
         known,
         record {
@@ -259,7 +259,7 @@ of_kind k {a = a} {first = first} kept s is (Ok v) d =
       },
     ))) (λ some. omega (arith, d.progress refl, kept.bound)) d
 of_kind k {a = a} {first = first} kept s is (Err e) d =
-    exactly (err_after (kind_format k) any_inside kept (λ xs known. (
+    decodes_exactly (err_after (kind_format k) any_inside kept (λ xs known. (
     let f = s.first xs known in
     let stop : (z : InputError) (ys : List ℕ) → KindRejects RejectsAny k xs a.budget z ys
     → AnyRejects RejectsAny xs a.budget z ys =
@@ -303,7 +303,7 @@ of_other name {a = a} {first = first} kept any s is =
 pub of_end : {E : Type 0} {a m : View} {e : DecodeError E}
     → Decodes (next_format (codes "any")) a m (Err e) → Decodes any_inside a m (Err e)
 of_end {a = a} d =
-    exactly (err_after (next_format (codes "any")) any_inside (kept_alike a) (λ xs known. (
+    decodes_exactly (err_after (next_format (codes "any")) any_inside (kept_alike a) (λ xs known. (
       xs,
       known,
       record {
@@ -340,7 +340,7 @@ pub too_great : {E : Type 0} {a b : View} {k : ℕ} {e : DecodeError E} → 2 ^ 
 too_great {k = k} {e = e} great s = record {
   at = λ xs known.
       let p = s.at xs known in
-      always (input_error_of e) (λ v n c q fits. (
+      whatever_error (input_error_of e) (λ v n c q fits. (
       let same = (u128_one xs q.0 k n p.count c p.cost q.1.0 p.read).2 in
       omega (arith, same, great, q.1.1)));
 }
@@ -368,7 +368,8 @@ pub bignum_err : {E : Type 0} {a b : View} {e : DecodeError E}
     → Decodes (leaf_format ReadsU128 (λ xs budget. RejectsU128 xs)) a b (Err e)
     → Decodes (any_leaf Bignum) a b (Err e)
 bignum_err {a = a} d =
-    exactly (err_after (leaf_format ReadsU128 (λ xs budget. RejectsU128 xs)) (any_leaf Bignum)
+    decodes_exactly (err_after (leaf_format ReadsU128 (λ xs budget. RejectsU128 xs))
+    (any_leaf Bignum)
     (kept_alike a) (λ xs known. (
       xs,
       known,

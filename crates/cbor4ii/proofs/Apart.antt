@@ -10,7 +10,7 @@ use Rattle.cbor4ii_items.specs.Laws.ContainersApart.{option_apart}
 use Rattle.cbor4ii_items.specs.Laws.SequencesApart.{none_left, fits_after}
 use Rattle.cbor4ii.specs.Optional.{ReadsPresence, RejectsPresence, ReadsNoByte, never_rejects}
 use Rattle.cbor4ii.specs.Stepped.{Stepped, RejectsStepped}
-use Rattle.cbor4ii.specs.Typed.{said}
+use Rattle.cbor4ii.specs.Typed.{rejects_if_known}
 
 stepped_apart : {V : Type 0} (name : List ℕ) (reads : Reads V) (rejects : RejectsAt)
     → NeverBoth reads rejects → NeverBoth (Stepped reads) (RejectsStepped name rejects)
@@ -28,16 +28,16 @@ absent_apart reads rejects apart =
     (stepped_apart (codes "option") reads rejects apart)
 
 said_apart : {V : Type 0} (known : Bool) (reads : Reads V) (rejects : RejectsAt) → IsTrue known
-    → NeverBoth reads rejects → NeverBoth reads (said known rejects)
+    → NeverBoth reads rejects → NeverBoth reads (rejects_if_known known rejects)
 said_apart known reads rejects is apart xs budget err rest s =
     apart xs budget err rest (s is)
 
 pub present_apart : {V : Type 0} (known : Bool) (reads : Reads V) (rejects : RejectsAt)
     → IsTrue known → NeverBoth reads rejects
     → NeverBoth (ReadsOption (Stepped reads)) (RejectsOption
-    (RejectsStepped (codes "option") (said known rejects)))
+    (RejectsStepped (codes "option") (rejects_if_known known rejects)))
 present_apart known reads rejects is apart =
-    absent_apart reads (said known rejects) (said_apart known reads rejects is apart)
+    absent_apart reads (rejects_if_known known rejects) (said_apart known reads rejects is apart)
 
 pub presence_apart : NeverBoth ReadsPresence RejectsPresence
 presence_apart =

@@ -12,7 +12,7 @@ use Rattle.cbor4ii_items.specs.InputError.{InputError, input_error_of, is_read}
 use Rattle.cbor4ii_items.specs.Laws.Containers.{not_null}
 use Rattle.cbor4ii_items.specs.Laws.Calls.{rejects_as}
 use Rattle.cbor4ii_items.specs.Laws.Answering.{not_read, kept_of}
-use Rattle.cbor4ii.specs.Typed.{not_exact, unsaid_rejects, said}
+use Rattle.cbor4ii.specs.Typed.{not_exact, unsaid_rejects, rejects_if_known}
 use Rattle.cbor4ii.proofs.Looking.{Saw}
 use Rattle.cbor4ii.proofs.Stopped.{stopped_as}
 
@@ -36,11 +36,12 @@ unsaid_left {e = e} {a = a} {b = b} m =
 -- what the part's type says of it, where it is exact
 pub said_left : {V E : Type 0} (exact : Bool) (rejects : RejectsAt) {e : DecodeError E} {a b : View}
     → Moves {V = V} a b (Err e) → (IsTrue exact → Rejects rejects a b e)
-    → Rejects (said exact rejects) a b e
-said_left true rejects m s = stopped_as rejects (said true rejects) (λ xs budget z ys h is. h)
+    → Rejects (rejects_if_known exact rejects) a b e
+said_left true rejects m s = stopped_as rejects (rejects_if_known true rejects)
+    (λ xs budget z ys h is. h)
     (s refl)
 said_left false rejects m s =
-    stopped_as unsaid_rejects (said false rejects) (λ xs budget z ys h is. not_exact is)
+    stopped_as unsaid_rejects (rejects_if_known false rejects) (λ xs budget z ys h is. not_exact is)
     (unsaid_left m)
 
 -- ---- a value that may be absent

@@ -26,7 +26,7 @@ use Rattle.cbor4ii_items.specs.Lent.{ReadsBorrowed, IsOfInput, lent_str, lent_by
 use Rattle.cbor4ii_items.specs.Laws.Strings.{head_not_indefinite, two_small, three_small}
 use Rattle.cbor4ii_items.specs.Laws.Answering.{complete_as}
 use Rattle.cbor4ii_items.specs.Laws.Steps.{moves_ok, moves_err}
-use Rattle.cbor4ii_items.specs.Laws.Answering.{always}
+use Rattle.cbor4ii_items.specs.Laws.Answering.{whatever_error}
 use Rattle.cbor4ii.specs.declared.serde.de.error.DecodeError.{DecodeError}
 use Rattle.cbor4ii.specs.Borrowed.{Borrows, LacksLoan, RejectsUnlent, unlent_text, unlent_bytes}
 use Rattle.cbor4ii.specs.Typed.{Deserializes, as_core, answer_of, not_exact}
@@ -119,7 +119,7 @@ module _ {V W E : Type 0} (content : V → List ℕ) (lent : W → List ℕ)
         → IsOwned v → IsTrue a.zero_copy → BorrowsWhereDefinite major IsBorrowed IsOwned a v
         → Complete (ReadsBorrowed major is_text lent) a e
     owned_at small apart {v = v} e owned lends k = record {
-      at = λ xs known. always (input_error_of e)
+      at = λ xs known. whatever_error (input_error_of e)
           (λ w n c r fits. apart v (k.definite lends xs known (λ is_indefinite.
           head_not_indefinite major xs (length (lent w)) r.0.before small r.0.head is_indefinite))
           owned);

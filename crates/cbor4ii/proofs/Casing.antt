@@ -17,7 +17,7 @@ use Rattle.cbor4ii.specs.declared.serde.de.cases.Choice.{Choice}
 use Rattle.cbor4ii.specs.declared.serde.de.cases.Choice.TheVariants.{First, Other}
 use Rattle.cbor4ii.specs.Cases.{Cases, Holding, reads_by, holding_format, case_format, case}
 use Rattle.cbor4ii.specs.Cases.{held_case, unnamed_case, cases_by, first_all}
-use Rattle.cbor4ii.specs.Cases.{other_all, reads_named, named_format, inside_format, form_one}
+use Rattle.cbor4ii.specs.Cases.{other_all, reads_named, named_format, cases_inside, form_one}
 use Rattle.cbor4ii.specs.Names.{StandsAt, IsFirst, IsAfter}
 use Rattle.cbor4ii.specs.Typed.{Promise, Deserializes}
 use Rattle.cbor4ii.specs.TypedParts.{part_of}
@@ -206,9 +206,9 @@ module _ {A B : Type 0} (h : Holding A) (others : Cases B) (name : List ℕ) whe
 
 module _ {V E : Type 0} (cases : Cases V) {a m : View} where
   pub form_err : {x : Bool} {e : DecodeError E} → Decodes form_format a m (Err e)
-      → DecodesIf x (inside_format cases) a m (Err e)
+      → DecodesIf x (cases_inside cases) a m (Err e)
   form_err d =
-      err_after form_format (inside_format cases) (kept_alike a) (λ xs known. (
+      err_after form_format (cases_inside cases) (kept_alike a) (λ xs known. (
         xs,
         known,
         record {
@@ -221,7 +221,7 @@ module _ {V E : Type 0} (cases : Cases V) {a m : View} where
   module _ (form : Bool × ℕ) (d : Decodes {E = E} form_format a m (Ok form)) where
     no_named : (xs : List ℕ) (i k : ℕ) → form_format.reads xs form i k
         → NoneRead (named_format cases form).reads (drop i xs) a.budget
-        → NoneRead (inside_format cases).reads xs a.budget
+        → NoneRead (cases_inside cases).reads xs a.budget
     no_named xs i k seen none v n c q fits =
         let e = form_one xs q.form form q.size i q.seen (seen.0, seen.1, refl) in
         none v q.between c
@@ -231,9 +231,9 @@ module _ {V E : Type 0} (cases : Cases V) {a m : View} where
 
     pub form_then : {x : Bool} {b : View} (r : Result V (DecodeError E))
         → DecodesIf x (named_format cases form) m b r
-        → DecodesIf x (inside_format cases) a b r
+        → DecodesIf x (cases_inside cases) a b r
     form_then (Ok v) h = of_exact (
-        ok_after (named_format cases form) (inside_format cases) d.moves.by (λ xs known.
+        ok_after (named_format cases form) (cases_inside cases) d.moves.by (λ xs known.
         let p = d.sound.at xs known in (
           drop p.count xs,
           p.left,
@@ -253,7 +253,7 @@ module _ {V E : Type 0} (cases : Cases V) {a m : View} where
           },
         )) (λ some. omega (arith, h.progress refl, d.moves.by.bound)) (accepted h))
     form_then (Err e) h =
-        err_after (named_format cases form) (inside_format cases) d.moves.by (λ xs known.
+        err_after (named_format cases form) (cases_inside cases) d.moves.by (λ xs known.
         let p = d.sound.at xs known in (
           drop p.count xs,
           p.left,

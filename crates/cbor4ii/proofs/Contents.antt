@@ -13,7 +13,7 @@ use Rattle.cbor4ii_items.specs.Next.{ReadsNext, RejectsNext}
 use Rattle.cbor4ii_items.specs.Decoding.{Reads, RejectsAt, Sound, NoneRead, Complete, Rejects}
 use Rattle.cbor4ii_items.specs.Laws.Answering.{fits_zero, complete_as}
 use Rattle.cbor4ii.specs.declared.serde.de.error.DecodeError.{DecodeError as Typed}
-use Rattle.cbor4ii.specs.Typed.{as_core, answer_of, said}
+use Rattle.cbor4ii.specs.Typed.{as_core, answer_of, rejects_if_known}
 use Rattle.cbor4ii.specs.Variants.{IsForm, ReadsForm, RejectsForm, ReadsContent, RejectsContent}
 use Rattle.cbor4ii.proofs.Looking.{Saw, none_begins}
 use Rattle.cbor4ii.proofs.Stopped.{stopped_as, stopped_after}
@@ -140,7 +140,8 @@ content_rejected rejects first (Err e) a b d is k s = content_rejects rejects fi
 pub content_said : {V E : Type 0} (exact : Bool) (rejects : RejectsAt) {content : Bool} (first : ℕ)
     (r : Result V (Typed E)) (a b d : View) → content ≡ true → KeepsAllButBudget b d
     → Moves a b (answer_of r) → (IsTrue exact → IfErr r (λ e. Rejects rejects a b (as_core e)))
-    → IfErr r (λ e. Rejects (RejectsContent (content, first) (said exact rejects)) a d (as_core e))
+    → IfErr r (λ e. Rejects (RejectsContent (content, first) (rejects_if_known exact rejects)) a d
+    (as_core e))
 content_said exact rejects first (Ok v) a b d is k m s = tt
 content_said exact rejects first (Err e) a b d is k m s =
-    content_rejects (said exact rejects) first is k (said_left exact rejects m s)
+    content_rejects (rejects_if_known exact rejects) first is k (said_left exact rejects m s)

@@ -15,7 +15,7 @@ use Rattle.cbor4ii_items.specs.Laws.Running.{kept_alike}
 use Rattle.cbor4ii_items.specs.Laws.Steps.{kept_then}
 use Rattle.cbor4ii.specs.declared.serde.de.accessor.Left.{Left}
 use Rattle.cbor4ii.specs.declared.serde.de.accessor.Left.TheVariants.{Definite, Indefinite, Ended}
-use Rattle.cbor4ii.specs.Accessing.{Next, next_format}
+use Rattle.cbor4ii.specs.Accessing.{Next, next_part_format}
 use Rattle.cbor4ii.proofs.Going.{part_of, part_start}
 
 -- what else stands there is read in its place
@@ -80,9 +80,9 @@ module _ {K V : Type 0} (k : Format K) (v : Format V) (left : Left) where
       (value_less k.reads v.reads xs p n c budget h fits)
 
   module _ {E : Type 0} {a m : View} where
-    pub entry_none : {x y : Bool} → DecodesIf {E = E} x (next_format left k) a m (Ok None)
-        → DecodesIf {E = E} y (next_format left (pair_format k v)) a m (Ok None)
-    entry_none d = of_exact (ok (next_format left (pair_format k v)) d.moves.by (λ some. cc)
+    pub entry_none : {x y : Bool} → DecodesIf {E = E} x (next_part_format left k) a m (Ok None)
+        → DecodesIf {E = E} y (next_part_format left (pair_format k v)) a m (Ok None)
+    entry_none d = of_exact (ok (next_part_format left (pair_format k v)) d.moves.by (λ some. cc)
         (record {
           at = λ xs known. let p = d.sound.at xs known in record {
             count = p.count;
@@ -94,10 +94,10 @@ module _ {K V : Type 0} (k : Format K) (v : Format V) (left : Left) where
         }))
 
     pub no_key_left : {x : Bool} (y : Bool) {e : DecodeError E}
-        → DecodesIf x (next_format left k) a m (Err e)
-        → DecodesIf (x && y) (next_format left (pair_format k v)) a m (Err e)
+        → DecodesIf x (next_part_format left k) a m (Err e)
+        → DecodesIf (x && y) (next_part_format left (pair_format k v)) a m (Err e)
     no_key_left {x = x} y d =
-        err_after (next_format left k) (next_format left (pair_format k v)) (kept_alike a)
+        err_after (next_part_format left k) (next_part_format left (pair_format k v)) (kept_alike a)
         (λ xs known. (
           xs,
           known,
@@ -115,12 +115,12 @@ module _ {K V : Type 0} (k : Format K) (v : Format V) (left : Left) where
         (exact_less (λ is. (both x y is).0) d)
 
     module _ {x : Bool} {key : K} {b : View}
-        (d : DecodesIf {E = E} x (next_format left k) a m (Ok (Some key))) where
+        (d : DecodesIf {E = E} x (next_part_format left k) a m (Ok (Some key))) where
       pub entry_read : {y : Bool} {value : V} → DecodesIf {E = E} y v m b (Ok value)
-          → DecodesIf {E = E} (x && y) (next_format left (pair_format k v)) a b
+          → DecodesIf {E = E} (x && y) (next_part_format left (pair_format k v)) a b
           (Ok (Some (key, value)))
       entry_read {value = value} t =
-          of_exact (ok (next_format left (pair_format k v)) (kept_then d.moves.by t.moves.by)
+          of_exact (ok (next_part_format left (pair_format k v)) (kept_then d.moves.by t.moves.by)
           (λ some. cc) (record {
             at = λ xs known.
                 let p = d.sound.at xs known in
@@ -138,9 +138,9 @@ module _ {K V : Type 0} (k : Format K) (v : Format V) (left : Left) where
 
       pub no_value_left : {y : Bool} {e : DecodeError E} → (IsTrue x → IsLawful k)
           → DecodesIf y v m b (Err e)
-          → DecodesIf (x && y) (next_format left (pair_format k v)) a b (Err e)
+          → DecodesIf (x && y) (next_part_format left (pair_format k v)) a b (Err e)
       no_value_left {y = y} lawful t =
-          err_after v (next_format left (pair_format k v)) d.moves.by (λ xs known.
+          err_after v (next_part_format left (pair_format k v)) d.moves.by (λ xs known.
           let p = d.sound.at xs known in
           let start = part_start k.reads left xs key p.count p.cost p.read in
           let stop : (rejects : RejectsAt) (z : InputError) (ys : List ℕ)

@@ -1,15 +1,17 @@
--- What becomes of a struct's values, entry by entry.
+-- What becomes of a struct's values, pair by pair.
 use Rattle.std.proofs.Common.{true, ◌-◌, ◌≤◌, length, take, drop, get_or, ◌≡◌, ◌≢◌, inl, inr, ℕ}
 use Rattle.std.proofs.Common.{◌+◌, ◌<◌, List, [], ◌∷◌, ◌++◌, Result, Ok, Err, Bool, refl, sym, ap}
 use Rattle.std.proofs.Common.{◌∙◌, subst}
 use denote.Ref.{Bor}
-use Rattle.std.specs.Prelude.{◌&&◌}
+use Rattle.std.specs.Prelude.{◌&&◌, OnOk}
 use Rattle.std.specs.declared.alloc.Global.{Global}
 use Rattle.std.specs.declared.string.String.{String}
 use Rattle.cbor4ii_rw.specs.View.{View}
 use Rattle.cbor4ii_rw.specs.declared.error.DecodeError.{DecodeError}
 use Rattle.cbor4ii_rw.specs.Reader.{StepsIn, KeepsAllButBudget, step_back}
 use Rattle.cbor4ii_items.specs.Decoding.{Format, Decodes, DecodesIf}
+use Rattle.cbor4ii_items.specs.Moves.{Moves}
+use Rattle.cbor4ii_items.specs.Laws.Steps.{moves_ok, moves_err}
 use Rattle.cbor4ii_items.specs.Reading.{Runs}
 use Rattle.cbor4ii_items.specs.ReadStrings.{break_at}
 use Rattle.cbor4ii_items.specs.Strings.{text_content}
@@ -20,13 +22,15 @@ use Rattle.cbor4ii_items.specs.Laws.Containers.{both}
 use Rattle.cbor4ii_items.specs.Laws.Running.{kept_alike}
 use Rattle.cbor4ii_items.specs.Laws.SequenceParts.{Begun, count_more, count_done, Stands, Opened}
 use Rattle.cbor4ii_items.specs.Laws.SequenceParts.{indefinite_more, indefinite_done}
-use Rattle.cbor4ii.specs.Fields.{no_field, no_field_rejects, changed, name_format, made, SameChange}
-use Rattle.cbor4ii.specs.Fields.{all_made, Altered, Alters}
+use Rattle.cbor4ii.specs.Fields.{no_field, no_field_rejects, after_changes, name_format, one_change}
+use Rattle.cbor4ii.specs.Fields.{SameChange}
+use Rattle.cbor4ii.specs.Fields.{all_changes, Altered, Alters, Puts}
 use Rattle.cbor4ii.specs.ItemRead.{skipped_format}
 use Rattle.cbor4ii.specs.Places.{Place}
 use Rattle.cbor4ii.specs.Stepped.{stepped_format}
-use Rattle.cbor4ii.specs.Structs.{Fields, placed, fields_by, unnamed, after_name, entry_of}
-use Rattle.cbor4ii.specs.Structs.{entries_of, struct_of}
+use Rattle.cbor4ii.specs.Structs.{Fields, placed_field, fields_by, unnamed_field, after_name}
+use Rattle.cbor4ii.specs.Structs.{field_pair}
+use Rattle.cbor4ii.specs.Structs.{field_pairs, struct_of}
 use Rattle.cbor4ii.specs.Typed.{Promise, Deserializes}
 use Rattle.cbor4ii.specs.TypedParts.{part_of}
 use Rattle.cbor4ii.proofs.Named.{entry_then}
@@ -41,7 +45,7 @@ module _ {V : Type 0} (f : Fields V) (name : List ℕ) (values : V) {a b : View}
   pub skips : {E : Type 0} (exact : Bool) (r : Result (Unit {0}) (DecodeError E))
       → f.named ≡ no_field → f.rejects ≡ no_field_rejects → f.begins ≡ no_field_rejects
       → Decodes skipped_format a b r
-      → Alters made exact (after_name f name) values values a b r
+      → Alters one_change exact (after_name f name) values values a b r
   skips exact (Ok u) none rejects begins d = record {
     what = λ v. v;
     read = decoded_ok (after_name f name) d.moves.by (λ some. cc) (record {
@@ -72,10 +76,10 @@ module _ {T P V E : Type 0} (place : Place T P) (own : List ℕ) (p : Promise T)
   -- the field itself
   pub field_ok : {v : T} {first last : P × V} → name ≡ own → last ≡ (place.put v first.0, first.1)
       → Deserializes {E = E} p a b (Ok v)
-      → Altered E made (after_name (placed place own p others) name) first last a b
+      → Altered E one_change (after_name (placed_field place own p others) name) first last a b
   field_ok {v = v} same filled d = record {
     what = λ values. (place.put v values.0, values.1);
-    read = decoded_ok (after_name (placed place own p others) name) d.moves.by (λ some. cc)
+    read = decoded_ok (after_name (placed_field place own p others) name) d.moves.by (λ some. cc)
         (record {
           at = λ xs known. let q = d.sound.at xs known in record {
             count = q.count;
@@ -89,10 +93,11 @@ module _ {T P V E : Type 0} (place : Place T P) (own : List ℕ) (p : Promise T)
   }
 
   pub field_err : {e : DecodeError E} → name ≡ own → Deserializes p a b (Err e)
-      → DecodesIf (placed place own p others).exact (after_name (placed place own p others) name) a
+      → DecodesIf (placed_field place own p others).exact
+      (after_name (placed_field place own p others) name) a
       b (Err e)
   field_err same d =
-      err_after (part_of p) (after_name (placed place own p others) name) (kept_alike a)
+      err_after (part_of p) (after_name (placed_field place own p others) name) (kept_alike a)
       (λ xs known. (
         xs,
         known,
@@ -105,16 +110,25 @@ module _ {T P V E : Type 0} (place : Place T P) (own : List ℕ) (p : Promise T)
       )) (λ owned. (both p.format.owned others.owned owned).0) (λ takes. refl)
       (exact_less (λ is. (both p.exact others.exact is).0) (tell p (Err _) d))
 
+  pub field_put : {U : Type 0} (r : Result U (DecodeError E)) (first : P × V) (after : P)
+      → name ≡ own → Puts place p first.0 after a b r
+      → Alters one_change (placed_field place own p others).exact
+      (after_name (placed_field place own p others) name) first (after, first.1) a b r
+  field_put (Ok u) first after same h = field_ok same (ap (λ o. (o, first.1)) h.1) h.2
+  field_put (Err e) first after same h = field_err same h
+
   -- one of the others
   pub field_below : {U : Type 0} (r : Result U (DecodeError E)) (first last : P × V)
       (below : V) → name ≢ own → last ≡ (first.0, below)
-      → Alters made others.exact (after_name others name) first.1 below a b r
-      → Alters made (placed place own p others).exact (after_name (placed place own p others) name)
+      → Alters one_change others.exact (after_name others name) first.1 below a b r
+      → Alters one_change (placed_field place own p others).exact
+      (after_name (placed_field place own p others) name)
       first last
       a b r
   field_below (Ok u) first last below not filled h = record {
     what = λ values. (values.0, h.what values.1);
-    read = decoded_ok (after_name (placed place own p others) name) h.read.moves.by (λ some. cc)
+    read = decoded_ok (after_name (placed_field place own p others) name) h.read.moves.by
+        (λ some. cc)
         (record {
           at = λ xs known. let q = h.read.sound.at xs known in record {
             count = q.count;
@@ -127,7 +141,7 @@ module _ {T P V E : Type 0} (place : Place T P) (own : List ℕ) (p : Promise T)
     is = filled ∙ ap (λ v. (first.0, v)) h.is;
   }
   field_below (Err e) first last below not filled h =
-      err_after (after_name others name) (after_name (placed place own p others) name)
+      err_after (after_name others name) (after_name (placed_field place own p others) name)
       (kept_alike a)
       (λ xs known. (
         xs,
@@ -141,38 +155,51 @@ module _ {T P V E : Type 0} (place : Place T P) (own : List ℕ) (p : Promise T)
       )) (λ owned. (both p.format.owned others.owned owned).1) (λ takes. refl)
       (exact_less (λ is. (both p.exact others.exact is).1) h)
 
+module _ {T P U E : Type 0} (place : Place T P) (p : Promise T) (before after : P)
+    (a b : View) where
+  pub puts_moves : (r : Result U (DecodeError E)) → Puts place p before after a b r
+      → Moves a b r
+  puts_moves (Ok u) h = moves_ok h.2.moves
+  puts_moves (Err e) h = moves_err h.moves
+
+  pub puts_progress : (r : Result U (DecodeError E)) → Puts place p before after a b r
+      → OnOk r (b.bound + 1 ≤ a.bound)
+  puts_progress (Ok u) h = h.2.progress
+  puts_progress (Err e) h = tt
+
 -- ---- which field has a name
 
 module _ {T P V U E : Type 0} (place : Place T P) (p : Promise T) (others : List (Bor (List ℕ)) → Fields V)
     (names : List (Bor (List ℕ))) (name : List ℕ) (before after : P × V) (a b : View)
     (r : Result U (DecodeError E)) where
   pub at_first : (d : Bor (List ℕ)) → 1 ≤ length names
-      → Alters made (p.exact && (others (take (length names - 1) (drop 1 names))).exact)
-      (after_name (placed place (get_or names 0 d).now p
+      → Alters one_change (p.exact && (others (take (length names - 1) (drop 1 names))).exact)
+      (after_name (placed_field place (get_or names 0 d).now p
       (others (take (length names - 1) (drop 1 names)))) name) before after a b r
-      → Alters made (fields_by place p others names).exact
+      → Alters one_change (fields_by place p others names).exact
       (after_name (fields_by place p others names) name) before after a b r
   at_first d some h =
-      subst (λ f. Alters made f.exact (after_name f name) before after a b r)
+      subst (λ f. Alters one_change f.exact (after_name f name) before after a b r)
       (ap (fields_by place p others) (sym (names_split names d some))) h
 
   pub at_none : length names < 1
-      → Alters made (p.exact && (others []).exact) (after_name (unnamed place p (others []))
+      → Alters one_change (p.exact && (others []).exact)
+      (after_name (unnamed_field place p (others []))
       name) before
       after a b r
-      → Alters made (fields_by place p others names).exact
+      → Alters one_change (fields_by place p others names).exact
       (after_name (fields_by place p others names) name) before after a b r
   at_none less h =
-      subst (λ f. Alters made f.exact (after_name f name) before after a b r)
+      subst (λ f. Alters one_change f.exact (after_name f name) before after a b r)
       (ap (fields_by place p others) (sym (names_none names less))) h
 
--- ---- an entry
+-- ---- a pair
 
 module _ {V E : Type 0} (f : Fields V) {a m : View} {name : String Global}
     (d : Decodes {E = E} name_format a m (Ok name)) where
   pub entry_alters : {U : Type 0} (r : Result U (DecodeError E)) (b : View) (first last : V)
-      → Alters made f.exact (after_name f (text_content name)) first last m b r
-      → Alters made f.exact (entry_of f) first last a b r
+      → Alters one_change f.exact (after_name f (text_content name)) first last m b r
+      → Alters one_change f.exact (field_pair f) first last a b r
   entry_alters (Ok u) b first last h = record {
     what = h.what;
     read = accepted (entry_then f.named f.rejects f.begins (SameChange f.same) f.owned d
@@ -182,65 +209,66 @@ module _ {V E : Type 0} (f : Fields V) {a m : View} {name : String Global}
   entry_alters (Err e) b first last h =
       entry_then f.named f.rejects f.begins (SameChange f.same) f.owned d (Err e) h
 
--- ---- entries, one after another
+-- ---- pairs, one after another
 
 changed_last : {V : Type 0} (values : V) (changes : List (V → V)) (change : V → V)
-    → changed values (changes ++ change ∷ []) ≡ change (changed values changes)
+    → after_changes values (changes ++ change ∷ []) ≡ change (after_changes values changes)
 changed_last values [] change = refl
 changed_last values (g ∷ changes) change = changed_last (g values) changes change
 
 module _ {V E : Type 0} (f : Fields V) where
   made_more : (first : V) {m b : View} {middle last : V} (changes : List (V → V))
-      → middle ≡ changed first changes → (t : Altered E made (entry_of f) middle last m b)
-      → last ≡ changed first (changes ++ t.what ∷ [])
+      → middle ≡ after_changes first changes → (t : Altered E one_change (field_pair f) middle last
+      m b)
+      → last ≡ after_changes first (changes ++ t.what ∷ [])
   made_more first changes is t = t.is ∙ (ap t.what is ∙ sym (changed_last first changes t.what))
 
 module _ {V : Type 0} (f : Fields V) where
-  -- so many entries
+  -- so many pairs
   pub record Definite (i : ℕ) (a m : View) (first last : V) : Type 0 where
     pub changes : List (V → V)
-    pub begun : Begun (entry_of f) i a m changes
-    pub is : last ≡ changed first changes
+    pub begun : Begun (field_pair f) i a m changes
+    pub is : last ≡ after_changes first changes
 
   pub definite_more : {E : Type 0} {i : ℕ} {a m b : View} {first middle last : V}
-      → Definite i a m first middle → Altered E made (entry_of f) middle last m b
+      → Definite i a m first middle → Altered E one_change (field_pair f) middle last m b
       → Definite (i + 1) a b first last
   definite_more {first = first} h t = record {
     changes = h.changes ++ t.what ∷ [];
-    begun = count_more (entry_of f) h.begun t.read.moves.by t.read.sound refl;
+    begun = count_more (field_pair f) h.begun t.read.moves.by t.read.sound refl;
     is = made_more f first h.changes h.is t;
   }
 
   pub definite_done : {E : Type 0} {i count : ℕ} {a m : View} {first last : V}
       → Definite i a m first last → i ≡ count
-      → Altered E all_made (count_of in_list (entry_of f) count) first last a m
+      → Altered E all_changes (count_of in_list (field_pair f) count) first last a m
   definite_done h all = record {
     what = h.changes;
-    read = count_done in_list (entry_of f) h.begun all;
+    read = count_done in_list (field_pair f) h.begun all;
     is = h.is;
   }
 
-  -- entries, with a break in the place of none of them
+  -- pairs, with a break in the place of none of them
   pub record Unended (a m : View) (first last : V) : Type 0 where
     pub changes : List (V → V)
-    pub opened : Opened (entry_of f) a m changes
-    pub is : last ≡ changed first changes
+    pub opened : Opened (field_pair f) a m changes
+    pub is : last ≡ after_changes first changes
 
   pub unended_more : {E : Type 0} {a l m b : View} {first middle last : V}
-      → Unended a l first middle → Stands l m → Altered E made (entry_of f) middle last m b
+      → Unended a l first middle → Stands l m → Altered E one_change (field_pair f) middle last m b
       → Unended a b first last
   unended_more {first = first} h s t = record {
     changes = h.changes ++ t.what ∷ [];
-    opened = indefinite_more (entry_of f) refl h.opened s t.read.moves.by t.read.sound refl;
+    opened = indefinite_more (field_pair f) refl h.opened s t.read.moves.by t.read.sound refl;
     is = made_more f first h.changes h.is t;
   }
 
   pub unended_done : {E : Type 0} (name : List ℕ) {ended : Bool} {a l b : View} {first last : V}
       → ended ≡ true → Unended a l first last → Runs {E = E} break_at l b (Ok ended)
-      → Altered E all_made (indefinite_of in_list name (entry_of f)) first last a b
+      → Altered E all_changes (indefinite_of in_list name (field_pair f)) first last a b
   unended_done name is h q = record {
     what = h.changes;
-    read = indefinite_done in_list name (entry_of f) is h.opened q;
+    read = indefinite_done in_list name (field_pair f) is h.opened q;
     is = h.is;
   }
 
@@ -274,15 +302,15 @@ module _ {W V U E : Type 0} (makes : W → V → V) (exact : Bool) (before after
 
 -- ---- the values
 
--- what was there before any entry
+-- what was there before any pair
 pub from_first : {V E : Type 0} (f : Fields V) {before after : V} {a b : View} → before ≡ f.first
-    → Altered E all_made (entries_of f) before after a b
-    → Altered E all_made (entries_of f) f.first after a b
+    → Altered E all_changes (field_pairs f) before after a b
+    → Altered E all_changes (field_pairs f) f.first after a b
 from_first {E = E} f {after = after} {a = a} {b = b} is =
-    subst (λ (first : _). Altered E all_made (entries_of f) first after a b) is
+    subst (λ (first : _). Altered E all_changes (field_pairs f) first after a b) is
 
 module _ {V W E : Type 0} (values : W → V) (f : Fields V) {a b : View} where
-  pub filled_ok : {w : W} → Altered E all_made (entries_of f) f.first (values w) a b
+  pub filled_ok : {w : W} → Altered E all_changes (field_pairs f) f.first (values w) a b
       → Decodes {E = E} (struct_of values f).format a b (Ok w)
   filled_ok h =
       decoded_ok (struct_of values f).format h.read.moves.by (λ some. h.read.progress refl)
@@ -296,10 +324,10 @@ module _ {V W E : Type 0} (values : W → V) (f : Fields V) {a b : View} where
         };
       })
 
-  pub filled_err : {e : DecodeError E} → DecodesIf f.exact (entries_of f) a b (Err e)
+  pub filled_err : {e : DecodeError E} → DecodesIf f.exact (field_pairs f) a b (Err e)
       → DecodesIf f.exact (struct_of values f).format a b (Err e)
   filled_err =
-      err_after (entries_of f) (struct_of values f).format (kept_alike a) (λ xs known. (
+      err_after (field_pairs f) (struct_of values f).format (kept_alike a) (λ xs known. (
         xs,
         known,
         record {
@@ -309,10 +337,10 @@ module _ {V W E : Type 0} (values : W → V) (f : Fields V) {a b : View} where
         },
       )) (λ o. o) (λ takes. refl)
 
-  pub struct_ok : {w : W} → Altered E all_made (entries_of f) f.first (values w) a b
+  pub struct_ok : {w : W} → Altered E all_changes (field_pairs f) f.first (values w) a b
       → Deserializes {E = E} (struct_of values f) a b (Ok w)
   struct_ok h = promised (struct_of values f) (of_exact (filled_ok h))
 
-  pub struct_err : {e : DecodeError E} → DecodesIf f.exact (entries_of f) a b (Err e)
+  pub struct_err : {e : DecodeError E} → DecodesIf f.exact (field_pairs f) a b (Err e)
       → Deserializes (struct_of values f) a b (Err e)
   struct_err d = promised (struct_of values f) (filled_err d)

@@ -1,6 +1,7 @@
 -- The value at the beginning of an input.
-use Rattle.std.proofs.Common.{◌≡◌, ℕ, ◌≤◌, inl, List, length, Option, Some}
-use Rattle.std.proofs.Common.{None, Result, Ok, Err, true, refl, sym, subst}
+use Rattle.std.proofs.Common.{◌≡◌, ℕ, ◌+◌, ◌≤◌, inl, List, length, drop, Option, Some}
+use Rattle.std.proofs.Common.{None, Result, Ok, Err, true, refl, sym, subst, arith}
+use Rattle.std.proofs.lemmas.List.{length-drop}
 use Rattle.std.specs.Prelude.{IfOk, IfErr, IfSome, IsTrue}
 use Rattle.cbor4ii_rw.specs.View.{View, IfKnown}
 use Rattle.cbor4ii_items.specs.InputError.{InputError, input_error_of}
@@ -8,15 +9,15 @@ use Rattle.cbor4ii_items.specs.Decoding.{RejectsAt, NoneRead, Sound, IsExact, Co
 use Rattle.cbor4ii_items.specs.Budget.{CostFits}
 use Rattle.cbor4ii_items.specs.Decoding.{Rejects}
 use Rattle.cbor4ii.specs.declared.serde.de.error.DecodeError.{DecodeError}
-use Rattle.cbor4ii.specs.First.{First, FirstOf, FirstWhole}
+use Rattle.cbor4ii.specs.First.{First, FirstOf, FirstWhole, typed_error_of}
 use Rattle.cbor4ii_rw.specs.Input.{limit}
-use Rattle.cbor4ii_items.specs.Whole.{IsSure}
+use Rattle.cbor4ii_items.specs.Whole.{IsSure, StopsAt}
 use Rattle.cbor4ii_items.specs.Laws.Wholes.{sure_is_exact, trails, to_the_end}
 use Rattle.cbor4ii_items.specs.Laws.Wholes.{none_whole, whole_of}
 use Rattle.std.specs.Result.{IsErrAnd}
 use Rattle.cbor4ii_rw.specs.declared.error.WholeError.{WholeError}
 use Rattle.cbor4ii_rw.specs.declared.error.WholeError.TheVariants.{Decode, Trailing}
-use Rattle.cbor4ii.specs.Typed.{Promise, Deserializes, as_core, answer_of}
+use Rattle.cbor4ii.specs.Typed.{Promise, Deserializes, as_core, answer_of, unsaid_rejects}
 use Rattle.cbor4ii.proofs.IfKnown.{if_ok, if_err}
 
 if_stopped : (rejects : RejectsAt) (o : Option InputError) (left : Option (List ℕ)) (xs : List ℕ)
@@ -141,3 +142,18 @@ module _ {V E : Type 0} (p : Promise V) (bytes : List ℕ) (a b : View)
         none = λ is. tt;
         rejects = first;
       })
+
+module _ (bytes : List ℕ) (at : ℕ) (within : at ≤ length bytes) where
+  unsaid_at : (o : Option InputError) → IfSome o (λ z. (ys : List ℕ)
+      × unsaid_rejects bytes (Some limit) z ys × (at + length ys ≡ length bytes))
+  unsaid_at None = tt
+  unsaid_at (Some z) = (drop at bytes, tt, omega (arith, length-drop at bytes, within))
+
+  -- an error of any type leaves so many bytes
+  pub stops_within : {E : Type 0} (e : DecodeError E)
+      → StopsAt typed_error_of unsaid_rejects bytes (record { at = at; error = Decode e })
+  stops_within e = record {
+    within = within;
+    trailing = tt;
+    leaves = unsaid_at (typed_error_of e);
+  }

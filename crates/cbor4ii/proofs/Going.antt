@@ -14,7 +14,7 @@ use Rattle.cbor4ii.specs.declared.serde.de.accessor.Left.{Left}
 use Rattle.cbor4ii.specs.declared.serde.de.accessor.Left.TheVariants.{Definite, Indefinite, Ended}
 use Rattle.cbor4ii.specs.Accessing.{Next, ReadsStart, LeftAfterStart, MayGoOn, fuel, left_then}
 use Rattle.cbor4ii.specs.Accessing.{left_tried}
-use Rattle.cbor4ii.specs.Accessing.{start_format, next_format}
+use Rattle.cbor4ii.specs.Accessing.{start_format, next_part_format}
 
 -- ---- whether a part comes
 
@@ -146,8 +146,8 @@ start_free Ended xs n c h = h
 
 module _ {V E : Type 0} (left : Left) (s : Format V) {a m : View} where
   pub next_end : Decodes {E = E} (start_format left) a m (Ok false)
-      → Decodes {E = E} (next_format left s) a m (Ok None)
-  next_end d = ok (next_format left s) d.moves.by (λ some. cc) (record {
+      → Decodes {E = E} (next_part_format left s) a m (Ok None)
+  next_end d = ok (next_part_format left s) d.moves.by (λ some. cc) (record {
     at = λ xs known. let p = d.sound.at xs known in record {
       count = p.count;
       cost = p.cost;
@@ -158,9 +158,9 @@ module _ {V E : Type 0} (left : Left) (s : Format V) {a m : View} where
   })
 
   pub next_rejected : {exact : Bool} {e : DecodeError E} → Decodes (start_format left) a m (Err e)
-      → DecodesIf exact (next_format left s) a m (Err e)
+      → DecodesIf exact (next_part_format left s) a m (Err e)
   next_rejected d =
-      err_after (start_format left) (next_format left s) (kept_alike a) (λ xs known. (
+      err_after (start_format left) (next_part_format left s) (kept_alike a) (λ xs known. (
         xs,
         known,
         record {
@@ -172,8 +172,8 @@ module _ {V E : Type 0} (left : Left) (s : Format V) {a m : View} where
 
   module _ {b : View} (d : Decodes {E = E} (start_format left) a m (Ok true)) where
     pub next_part : {v : V} → Decodes {E = E} s m b (Ok v)
-        → Decodes {E = E} (next_format left s) a b (Ok (Some v))
-    next_part {v = v} t = ok_after s (next_format left s) d.moves.by (λ xs known.
+        → Decodes {E = E} (next_part_format left s) a b (Ok (Some v))
+    next_part {v = v} t = ok_after s (next_part_format left s) d.moves.by (λ xs known.
         let p = d.sound.at xs known in (
           xs,
           start_stays left d.sound xs known,
@@ -187,8 +187,8 @@ module _ {V E : Type 0} (left : Left) (s : Format V) {a m : View} where
         )) (λ some. cc) t
 
     pub next_err : {exact : Bool} {e : DecodeError E} → DecodesIf exact s m b (Err e)
-        → DecodesIf exact (next_format left s) a b (Err e)
-    next_err t = err_after s (next_format left s) d.moves.by (λ xs known.
+        → DecodesIf exact (next_part_format left s) a b (Err e)
+    next_err t = err_after s (next_part_format left s) d.moves.by (λ xs known.
         let p = d.sound.at xs known in
         let free = start_free left xs p.count p.cost p.read in (
           xs,

@@ -1,6 +1,7 @@
 -- What a call promises of a typed value, reported of the codec's answer and of its own.
-use Rattle.std.proofs.Common.{◌+◌, ◌≤◌, Result, Ok, Err, IfOk, IfErr, IsTrue, true, refl}
-use Rattle.std.specs.Prelude.{OnOk}
+use Rattle.std.proofs.Common.{◌+◌, ◌≤◌, Option, Some, None, Result, Ok, Err, IfOk, IfErr}
+use Rattle.std.proofs.Common.{IsTrue, true, refl}
+use Rattle.std.specs.Prelude.{OnOk, OnSome}
 use Rattle.cbor4ii_rw.specs.View.{View}
 use Rattle.cbor4ii_rw.specs.declared.error.DecodeError.{DecodeError as CoreError}
 use Rattle.cbor4ii_items.specs.Decoding.{IsExact, Sound, Complete, Rejects, Decodes}
@@ -8,6 +9,7 @@ use Rattle.cbor4ii_items.specs.Moves.{Moves}
 use Rattle.cbor4ii_items.specs.InputError.{is_out_of_memory}
 use Rattle.cbor4ii.specs.declared.serde.de.error.DecodeError.{DecodeError}
 use Rattle.cbor4ii_items.specs.Laws.Calls.{of_exact}
+use Rattle.cbor4ii.specs.Answered.{typed_value_or_error}
 use Rattle.cbor4ii.specs.Typed.{Promise, Deserializes, as_core, answer_of}
 use Rattle.cbor4ii.proofs.Promised.{promised}
 
@@ -16,6 +18,11 @@ module _ {V E : Type 0} where
   pub on_ok : (P : Type 0) (r : Result V (DecodeError E)) → OnOk (answer_of r) P → OnOk r P
   on_ok P (Ok v) h = h
   on_ok P (Err e) h = tt
+
+  pub on_some : (P : Type 0) (r : Option V) (failure : Option (DecodeError E))
+      → OnOk (answer_of (typed_value_or_error r failure)) P → OnSome r P
+  on_some P (Some v) failure h = h
+  on_some P None failure h = tt
 
   pub if_ok : (F : V → Type 0) (r : Result V (DecodeError E)) → IfOk (answer_of r) F → IfOk r F
   if_ok F (Ok v) h = h

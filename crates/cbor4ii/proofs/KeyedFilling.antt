@@ -1,4 +1,4 @@
--- What becomes of a struct's values, entry by entry, where the keys are integers.
+-- What becomes of a struct's values, pair by pair, where the keys are integers.
 use Rattle.std.proofs.Common.{◌≡◌, ◌+◌, ◌∙◌, ℕ, List, [], ◌∷◌, ◌++◌, Ok, Err, Bool, true, refl, sym}
 use Rattle.std.proofs.Common.{ap, subst}
 use Rattle.cbor4ii_rw.specs.View.{View}
@@ -11,34 +11,35 @@ use Rattle.cbor4ii_items.specs.Laws.Calls.{ok as decoded_ok, err_after, of_exact
 use Rattle.cbor4ii_items.specs.Laws.Running.{kept_alike}
 use Rattle.cbor4ii_items.specs.Laws.SequenceParts.{Begun, count_more, count_done, Stands, Opened}
 use Rattle.cbor4ii_items.specs.Laws.SequenceParts.{indefinite_more, indefinite_done}
-use Rattle.cbor4ii.specs.Fields.{changed, made, all_made, Altered}
+use Rattle.cbor4ii.specs.Fields.{after_changes, one_change, all_changes, Altered}
 use Rattle.cbor4ii.specs.Keys.{keyed_of, all_keyed_of, keyed_struct_of}
 use Rattle.cbor4ii.specs.Structs.{Fields}
 use Rattle.cbor4ii.specs.Typed.{Deserializes}
 use Rattle.cbor4ii.proofs.Promised.{promised}
 
--- ---- entries, one after another
+-- ---- pairs, one after another
 
 changed_last : {V : Type 0} (values : V) (changes : List (V → V)) (change : V → V)
-    → changed values (changes ++ change ∷ []) ≡ change (changed values changes)
+    → after_changes values (changes ++ change ∷ []) ≡ change (after_changes values changes)
 changed_last values [] change = refl
 changed_last values (g ∷ changes) change = changed_last (g values) changes change
 
 module _ {V E : Type 0} (f : Fields V) where
   made_more : (first : V) {m b : View} {middle last : V} (changes : List (V → V))
-      → middle ≡ changed first changes → (t : Altered E made (keyed_of f) middle last m b)
-      → last ≡ changed first (changes ++ t.what ∷ [])
+      → middle ≡ after_changes first changes → (t : Altered E one_change (keyed_of f) middle last m
+      b)
+      → last ≡ after_changes first (changes ++ t.what ∷ [])
   made_more first changes is t = t.is ∙ (ap t.what is ∙ sym (changed_last first changes t.what))
 
 module _ {V : Type 0} (f : Fields V) where
-  -- so many entries
+  -- so many pairs
   pub record Definite (i : ℕ) (a m : View) (first last : V) : Type 0 where
     pub changes : List (V → V)
     pub begun : Begun (keyed_of f) i a m changes
-    pub is : last ≡ changed first changes
+    pub is : last ≡ after_changes first changes
 
   pub definite_more : {E : Type 0} {i : ℕ} {a m b : View} {first middle last : V}
-      → Definite i a m first middle → Altered E made (keyed_of f) middle last m b
+      → Definite i a m first middle → Altered E one_change (keyed_of f) middle last m b
       → Definite (i + 1) a b first last
   definite_more {first = first} h t = record {
     changes = h.changes ++ t.what ∷ [];
@@ -48,21 +49,21 @@ module _ {V : Type 0} (f : Fields V) where
 
   pub definite_done : {E : Type 0} {i count : ℕ} {a m : View} {first last : V}
       → Definite i a m first last → i ≡ count
-      → Altered E all_made (count_of in_list (keyed_of f) count) first last a m
+      → Altered E all_changes (count_of in_list (keyed_of f) count) first last a m
   definite_done h all = record {
     what = h.changes;
     read = count_done in_list (keyed_of f) h.begun all;
     is = h.is;
   }
 
-  -- entries, with a break in the place of none of them
+  -- pairs, with a break in the place of none of them
   pub record Unended (a m : View) (first last : V) : Type 0 where
     pub changes : List (V → V)
     pub opened : Opened (keyed_of f) a m changes
-    pub is : last ≡ changed first changes
+    pub is : last ≡ after_changes first changes
 
   pub unended_more : {E : Type 0} {a l m b : View} {first middle last : V}
-      → Unended a l first middle → Stands l m → Altered E made (keyed_of f) middle last m b
+      → Unended a l first middle → Stands l m → Altered E one_change (keyed_of f) middle last m b
       → Unended a b first last
   unended_more {first = first} h s t = record {
     changes = h.changes ++ t.what ∷ [];
@@ -72,7 +73,7 @@ module _ {V : Type 0} (f : Fields V) where
 
   pub unended_done : {E : Type 0} (name : List ℕ) {ended : Bool} {a l b : View} {first last : V}
       → ended ≡ true → Unended a l first last → Runs {E = E} break_at l b (Ok ended)
-      → Altered E all_made (indefinite_of in_list name (keyed_of f)) first last a b
+      → Altered E all_changes (indefinite_of in_list name (keyed_of f)) first last a b
   unended_done name is h q = record {
     what = h.changes;
     read = indefinite_done in_list name (keyed_of f) is h.opened q;
@@ -81,15 +82,15 @@ module _ {V : Type 0} (f : Fields V) where
 
 -- ---- the values
 
--- what was there before any entry
+-- what was there before any pair
 pub from_first : {V E : Type 0} (f : Fields V) {before after : V} {a b : View} → before ≡ f.first
-    → Altered E all_made (all_keyed_of f) before after a b
-    → Altered E all_made (all_keyed_of f) f.first after a b
+    → Altered E all_changes (all_keyed_of f) before after a b
+    → Altered E all_changes (all_keyed_of f) f.first after a b
 from_first {E = E} f {after = after} {a = a} {b = b} is =
-    subst (λ (first : _). Altered E all_made (all_keyed_of f) first after a b) is
+    subst (λ (first : _). Altered E all_changes (all_keyed_of f) first after a b) is
 
 module _ {V W E : Type 0} (values : W → V) (f : Fields V) {a b : View} where
-  pub filled_ok : {w : W} → Altered E all_made (all_keyed_of f) f.first (values w) a b
+  pub filled_ok : {w : W} → Altered E all_changes (all_keyed_of f) f.first (values w) a b
       → Decodes {E = E} (keyed_struct_of values f).format a b (Ok w)
   filled_ok h =
       decoded_ok (keyed_struct_of values f).format h.read.moves.by (λ some. h.read.progress refl)
@@ -116,7 +117,7 @@ module _ {V W E : Type 0} (values : W → V) (f : Fields V) {a b : View} where
         },
       )) (λ o. o) (λ takes. refl)
 
-  pub struct_ok : {w : W} → Altered E all_made (all_keyed_of f) f.first (values w) a b
+  pub struct_ok : {w : W} → Altered E all_changes (all_keyed_of f) f.first (values w) a b
       → Deserializes {E = E} (keyed_struct_of values f) a b (Ok w)
   struct_ok h = promised (keyed_struct_of values f) (of_exact (filled_ok h))
 

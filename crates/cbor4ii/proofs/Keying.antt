@@ -17,17 +17,18 @@ use Rattle.cbor4ii_items.specs.Moves.{Kept}
 use Rattle.cbor4ii_items.specs.Next.{ReadsNext, next_format}
 use Rattle.cbor4ii_items.specs.Numbers.{ReadsI128, RejectsI128, no_i128_byte}
 use Rattle.cbor4ii_items.specs.Laws.Answering.{fits_zero}
-use Rattle.cbor4ii_items.specs.Laws.Calls.{ok_after, err_after, of_exact, exactly, accepted}
+use Rattle.cbor4ii_items.specs.Laws.Calls.{ok_after, err_after, of_exact, decodes_exactly, accepted}
 use Rattle.cbor4ii_items.specs.Laws.Pairs.{less_max_left, less_max_right}
 use Rattle.cbor4ii_items.specs.Laws.Prefixes.{drop_more}
 use Rattle.cbor4ii_items.specs.Laws.Running.{kept_alike}
 use Rattle.cbor4ii_items.specs.Laws.SequenceParts.{fits_less, fits_max}
 use Rattle.cbor4ii_ser.specs.Listed.{integer_label}
-use Rattle.cbor4ii.specs.Fields.{RejectsNamed, name_format, named_part, made, SameChange, Alters}
+use Rattle.cbor4ii.specs.Fields.{RejectsNamed, name_format, named_part, one_change, SameChange}
+use Rattle.cbor4ii.specs.Fields.{Alters}
 use Rattle.cbor4ii.specs.Keys.{begins_text, ReadsKey, ReadsKeyBy, RejectsKey, RejectsKeyBy}
-use Rattle.cbor4ii.specs.Keys.{key_format, key_laws, key_labels, label_of, keyed_entry, keyed_of}
+use Rattle.cbor4ii.specs.Keys.{key_format, key_laws, key_labels, label_of, keyed_pair, keyed_of}
 use Rattle.cbor4ii.specs.Places.{Place}
-use Rattle.cbor4ii.specs.Structs.{Fields, after_name, fields_by, placed, unnamed}
+use Rattle.cbor4ii.specs.Structs.{Fields, after_name, fields_by, placed_field, unnamed_field}
 use Rattle.cbor4ii.specs.Keys.{as_key}
 use Rattle.cbor4ii.specs.Typed.{Promise, typed_format, answer_of}
 use Rattle.cbor4ii.specs.declared.serde.de.error.DecodeError.{DecodeError as TypedError}
@@ -79,7 +80,7 @@ module _ {E : Type 0} {a m b : View} where
   pub text_err : {e : DecodeError E} → Comes true a m → Decodes name_format m b (Err e)
       → Decodes key_format a b (Err e)
   text_err h d =
-      exactly (err_after name_format key_format h.kept (λ xs known.
+      decodes_exactly (err_after name_format key_format h.kept (λ xs known.
       let s = h.at xs known in (
         xs,
         s.0,
@@ -111,7 +112,7 @@ module _ {E : Type 0} {a m b : View} where
   pub integer_err : {e : DecodeError E} → Comes false a m → Decodes integer_format m b (Err e)
       → Decodes key_format a b (Err e)
   integer_err h d =
-      exactly (err_after integer_format key_format h.kept (λ xs known.
+      decodes_exactly (err_after integer_format key_format h.kept (λ xs known.
       let s = h.at xs known in (
         xs,
         s.0,
@@ -151,7 +152,7 @@ nothing_comes (x ∷ xs) budget z ys r = absurd (let e = r.0 in cc)
 pub no_key : {E : Type 0} {a b : View} {e : DecodeError E}
     → Decodes (next_format (codes "i128")) a b (Err e) → Decodes key_format a b (Err e)
 no_key {a = a} d =
-    exactly (err_after (next_format (codes "i128")) key_format (kept_alike a) (λ xs known. (
+    decodes_exactly (err_after (next_format (codes "i128")) key_format (kept_alike a) (λ xs known. (
       xs,
       known,
       record {
@@ -161,14 +162,14 @@ no_key {a = a} d =
       },
     )) (λ owned. refl) (λ takes. refl) (of_exact d))
 
--- ---- an entry
+-- ---- a pair
 
 module _ {W E : Type 0} (named : List ℕ → Reads W) (rejects begins : RejectsNamed)
     (same : W → W → Type 0) (owned : Bool) {a m : View} where
   key_err : {exact : Bool} {e : DecodeError E} → Decodes key_format a m (Err e)
-      → DecodesIf exact (keyed_entry named rejects begins same owned) a m (Err e)
+      → DecodesIf exact (keyed_pair named rejects begins same owned) a m (Err e)
   key_err d =
-      err_after key_format (keyed_entry named rejects begins same owned) (kept_alike a)
+      err_after key_format (keyed_pair named rejects begins same owned) (kept_alike a)
       (λ xs known. (
         xs,
         known,
@@ -184,7 +185,7 @@ module _ {W E : Type 0} (named : List ℕ → Reads W) (rejects begins : Rejects
   module _ {key : Option ℤ} (d : Decodes {E = E} key_format a m (Ok key)) where
     no_value : (xs : List ℕ) (i k : ℕ) → ReadsKey xs key i k
         → NoneRead (named (label_of key)) (drop i xs) a.budget
-        → NoneRead (keyed_entry named rejects begins same owned).reads xs a.budget
+        → NoneRead (keyed_pair named rejects begins same owned).reads xs a.budget
     no_value xs i k read none g n c q fits =
         let is = key_laws.one xs q.0 key q.1.key_size i q.1.key_cost k q.1.key read in
         none g q.1.value_size q.1.value_cost
@@ -196,10 +197,10 @@ module _ {W E : Type 0} (named : List ℕ → Reads W) (rejects begins : Rejects
 
     keyed_then : {exact : Bool} {b : View} (r : Result W (DecodeError E))
         → DecodesIf exact (named_part named rejects begins same owned (label_of key)) m b r
-        → DecodesIf exact (keyed_entry named rejects begins same owned) a b r
+        → DecodesIf exact (keyed_pair named rejects begins same owned) a b r
     keyed_then {b = b} (Ok w) h = of_exact (
         ok_after (named_part named rejects begins same owned (label_of key))
-        (keyed_entry named rejects begins same owned) d.moves.by (λ xs known.
+        (keyed_pair named rejects begins same owned) d.moves.by (λ xs known.
         let p = d.sound.at xs known in (
           drop p.count xs,
           p.left,
@@ -225,7 +226,7 @@ module _ {W E : Type 0} (named : List ℕ → Reads W) (rejects begins : Rejects
         )) (λ some. omega (arith, d.progress refl, h.moves.by.bound)) (accepted h))
     keyed_then (Err e) h =
         err_after (named_part named rejects begins same owned (label_of key))
-        (keyed_entry named rejects begins same owned) d.moves.by (λ xs known.
+        (keyed_pair named rejects begins same owned) d.moves.by (λ xs known.
         let p = d.sound.at xs known in (
           drop p.count xs,
           p.left,
@@ -257,8 +258,8 @@ module _ {V E : Type 0} (f : Fields V) {a m : View} where
 
   pub keyed_alters : {U : Type 0} {key : Option ℤ} (d : Decodes {E = E} key_format a m (Ok key))
       (r : Result U (DecodeError E)) (b : View) (first last : V)
-      → Alters made f.exact (after_name f (label_of key)) first last m b r
-      → Alters made f.exact (keyed_of f) first last a b r
+      → Alters one_change f.exact (after_name f (label_of key)) first last m b r
+      → Alters one_change f.exact (keyed_of f) first last a b r
   keyed_alters d (Ok u) b first last h = record {
     what = h.what;
     read = accepted (keyed_then f.named f.rejects f.begins (SameChange f.same) f.owned d
@@ -287,20 +288,22 @@ module _ {T P V U E : Type 0} (place : Place T P) (p : Promise T)
     (others : List (Bor (List ℕ)) → Fields V) (keys : List ℤ) (label : List ℕ)
     (before after : P × V) (a b : View) (r : Result U (DecodeError E)) where
   pub at_key : (d : ℤ) → 1 ≤ length keys
-      → Alters made (p.exact && (others (key_labels (take (length keys - 1) (drop 1 keys)))).exact)
-      (after_name (placed place (integer_label (get_or keys 0 d)) p
+      → Alters one_change (p.exact
+      && (others (key_labels (take (length keys - 1) (drop 1 keys)))).exact)
+      (after_name (placed_field place (integer_label (get_or keys 0 d)) p
       (others (key_labels (take (length keys - 1) (drop 1 keys))))) label) before after a b r
-      → Alters made (fields_by place p others (key_labels keys)).exact
+      → Alters one_change (fields_by place p others (key_labels keys)).exact
       (after_name (fields_by place p others (key_labels keys)) label) before after a b r
   at_key d some h =
-      subst (λ f. Alters made f.exact (after_name f label) before after a b r)
+      subst (λ f. Alters one_change f.exact (after_name f label) before after a b r)
       (ap (fields_by place p others) (sym (keys_split keys d some))) h
 
   pub at_no_key : length keys < 1
-      → Alters made (p.exact && (others []).exact) (after_name (unnamed place p (others []))
+      → Alters one_change (p.exact && (others []).exact)
+      (after_name (unnamed_field place p (others []))
       label) before after a b r
-      → Alters made (fields_by place p others (key_labels keys)).exact
+      → Alters one_change (fields_by place p others (key_labels keys)).exact
       (after_name (fields_by place p others (key_labels keys)) label) before after a b r
   at_no_key less h =
-      subst (λ f. Alters made f.exact (after_name f label) before after a b r)
+      subst (λ f. Alters one_change f.exact (after_name f label) before after a b r)
       (ap (fields_by place p others) (sym (keys_none keys less))) h

@@ -12,14 +12,15 @@ use Rattle.cbor4ii_items.specs.Laws.Prefixes.{drop_more}
 use Rattle.cbor4ii_items.specs.Laws.Pairs.{less_max_left, less_max_right}
 use Rattle.cbor4ii_items.specs.Laws.Running.{kept_alike}
 use Rattle.cbor4ii_items.specs.Laws.SequenceParts.{fits_less, fits_max}
-use Rattle.cbor4ii.specs.Fields.{RejectsNamed, name_laws, name_format, named_part, named_entry}
+use Rattle.cbor4ii.specs.Fields.{RejectsNamed, name_laws, name_format, named_part, named_pair}
 
 module _ {W E : Type 0} (named : List ℕ → Reads W) (rejects begins : RejectsNamed)
     (same : W → W → Type 0) (owned : Bool) {a m : View} where
   pub name_err : {exact : Bool} {e : DecodeError E} → Decodes name_format a m (Err e)
-      → DecodesIf exact (named_entry named rejects begins same owned) a m (Err e)
+      → DecodesIf exact (named_pair named rejects begins same owned) a m (Err e)
   name_err d =
-      err_after name_format (named_entry named rejects begins same owned) (kept_alike a) (λ xs known. (
+      err_after name_format (named_pair named rejects begins same owned) (kept_alike a)
+      (λ xs known. (
         xs,
         known,
         record {
@@ -34,7 +35,7 @@ module _ {W E : Type 0} (named : List ℕ → Reads W) (rejects begins : Rejects
   module _ {name : String Global} (d : Decodes {E = E} name_format a m (Ok name)) where
     no_value : (xs : List ℕ) (i k : ℕ) → name_format.reads xs name i k
         → NoneRead (named (text_content name)) (drop i xs) a.budget
-        → NoneRead (named_entry named rejects begins same owned).reads xs a.budget
+        → NoneRead (named_pair named rejects begins same owned).reads xs a.budget
     no_value xs i k read none g n c q fits =
         let is = name_laws.one xs q.0 name q.1.key_size i q.1.key_cost k q.1.key read in
         none g q.1.value_size q.1.value_cost
@@ -46,10 +47,10 @@ module _ {W E : Type 0} (named : List ℕ → Reads W) (rejects begins : Rejects
 
     pub entry_then : {exact : Bool} {b : View} (r : Result W (DecodeError E))
         → DecodesIf exact (named_part named rejects begins same owned (text_content name)) m b r
-        → DecodesIf exact (named_entry named rejects begins same owned) a b r
+        → DecodesIf exact (named_pair named rejects begins same owned) a b r
     entry_then {b = b} (Ok w) h = of_exact (
         ok_after (named_part named rejects begins same owned (text_content name))
-        (named_entry named rejects begins same owned) d.moves.by (λ xs known.
+        (named_pair named rejects begins same owned) d.moves.by (λ xs known.
         let p = d.sound.at xs known in (
           drop p.count xs,
           p.left,
@@ -75,7 +76,7 @@ module _ {W E : Type 0} (named : List ℕ → Reads W) (rejects begins : Rejects
         )) (λ some. omega (arith, d.progress refl, h.moves.by.bound)) (accepted h))
     entry_then (Err e) h =
         err_after (named_part named rejects begins same owned (text_content name))
-        (named_entry named rejects begins same owned) d.moves.by (λ xs known.
+        (named_pair named rejects begins same owned) d.moves.by (λ xs known.
         let p = d.sound.at xs known in (
           drop p.count xs,
           p.left,

@@ -21,11 +21,11 @@ use Rattle.cbor4ii_items.specs.Heads.{ReadsHead}
 use Rattle.cbor4ii_items.specs.Lent.{Stays}
 use Rattle.cbor4ii_items.specs.Strings.{ReadsDefiniteString, text_content}
 use Rattle.cbor4ii_items.specs.Laws.Answering.{fits_zero}
-use Rattle.cbor4ii_items.specs.Laws.Calls.{ok, err_after, of_exact, exactly}
+use Rattle.cbor4ii_items.specs.Laws.Calls.{ok, err_after, of_exact, decodes_exactly}
 use Rattle.cbor4ii_items.specs.Laws.Contents.{lends_prefix, first_bytes}
 use Rattle.cbor4ii_items.specs.Laws.Steps.{kept_then}
 use Rattle.cbor4ii.specs.Fields.{name_format}
-use Rattle.cbor4ii_items.specs.Laws.Heads.{after_head}
+use Rattle.cbor4ii_items.specs.Laws.Heads.{rest_after_head}
 use Rattle.cbor4ii.specs.Names.{StandsAt, StandsAfter, IfWholeAfter, IsWholeName, IfWhole}
 use Rattle.cbor4ii.specs.Names.{NameAt, TakesName}
 use Rattle.cbor4ii.specs.declared.serde.de.names.Seen.{Seen}
@@ -218,7 +218,7 @@ definite_name xs name w n short fits size stands =
       before = suc (byte_count w);
       head = h;
       stands =
-          ap (take (length name)) (after_head 3 8 xs (length name) (suc (byte_count w)) h)
+          ap (take (length name)) (rest_after_head 3 8 xs (length name) (suc (byte_count w)) h)
           ∙ take-append_seam name (drop n xs);
       size = omega (arith, size);
     }
@@ -322,7 +322,7 @@ pub then_takes : {E : Type 0} (names : List (Bor (List ℕ))) {a m : View} (b : 
     (r : Result ℕ (DecodeError E)) → Stays a m → TakesName names m b r → TakesName names a b r
 then_takes names b (Ok at) s h = stays_takes s h
 then_takes names b (Err e) s h =
-    exactly (err_after name_format name_format s.kept (λ xs known. (
+    decodes_exactly (err_after name_format name_format s.kept (λ xs known. (
       xs,
       s.known xs known,
       record { none = λ is none. none; rejects = λ z ys stop. stop; begins = λ z ys stop. stop },

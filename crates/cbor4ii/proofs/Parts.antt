@@ -11,7 +11,7 @@ use Rattle.cbor4ii_items.specs.Laws.Calls.{ok, by_ok, by_err_if, of_exact, accep
 use Rattle.cbor4ii_items.specs.Laws.Steps.{moves_err}
 use Rattle.cbor4ii_items.specs.Sequences.{in_list, in_vector}
 use Rattle.cbor4ii.specs.declared.serde.de.error.DecodeError.{DecodeError}
-use Rattle.cbor4ii.specs.Built.{built, map_of}
+use Rattle.cbor4ii.specs.Built.{built_pairs, built_map}
 use Rattle.cbor4ii.specs.Sequence.{sequence_of}
 use Rattle.cbor4ii.specs.Typed.{answer_of, parts_answer}
 
@@ -26,9 +26,9 @@ vector_of step name major s (Err e) d =
 
 module _ {K V M E : Type 0} (entries : M → List (K × V)) (cmp : K → K → Ordering)
     (s : Format (List (K × V))) {exact : Bool} {a b : View} where
-  pub map_ok : {m : M} {ps : List (K × V)} → entries m ≡ built cmp ps
-      → DecodesIf {E = E} exact s a b (Ok ps) → Decodes {E = E} (map_of entries cmp s) a b (Ok m)
-  map_ok {ps = ps} is d = ok (map_of entries cmp s) d.moves.by d.progress (record {
+  pub map_ok : {m : M} {ps : List (K × V)} → entries m ≡ built_pairs cmp ps
+      → DecodesIf {E = E} exact s a b (Ok ps) → Decodes {E = E} (built_map entries cmp s) a b (Ok m)
+  map_ok {ps = ps} is d = ok (built_map entries cmp s) d.moves.by d.progress (record {
     at = λ xs known. let p = d.sound.at xs known in record {
       count = p.count;
       cost = p.cost;
@@ -39,13 +39,13 @@ module _ {K V M E : Type 0} (entries : M → List (K × V)) (cmp : K → K → O
   })
 
   pub map_err : {e : CoreError E} → DecodesIf exact s a b (Err e)
-      → DecodesIf exact (map_of entries cmp s) a b (Err e)
+      → DecodesIf exact (built_map entries cmp s) a b (Err e)
   map_err d = record {
     moves = moves_err d.moves;
     progress = λ some. tt;
     memory = λ out. refl;
     sound = tt;
-    complete = λ is sure. complete_as s.reads (map_of entries cmp s).reads
+    complete = λ is sure. complete_as s.reads (built_map entries cmp s).reads
         (λ xs budget none m n c r fits. none r.0 n c r.1 fits) (d.complete is sure);
     rejects = d.rejects;
     begins = d.begins;

@@ -4,8 +4,9 @@ use Rattle.cbor4ii_rw.specs.View.{View}
 use Rattle.cbor4ii_rw.specs.declared.error.DecodeError.{DecodeError}
 use Rattle.cbor4ii_items.specs.Decoding.{IsExact, Decodes}
 use Rattle.cbor4ii_tree.specs.declared.raw.RawValue.{RawValue}
-use Rattle.cbor4ii_tree.specs.Raw.{raw_content, raw_format, TakesItem, RejectsAsSkipping, Unmoved}
-use Rattle.cbor4ii_tree.specs.Raw.{RejectsOnPrefix}
+use Rattle.cbor4ii_tree.specs.Calls.Raw.{raw_content, raw_format, TakesItem, RejectsAsSkipping}
+use Rattle.cbor4ii_tree.specs.Calls.Raw.{Unmoved}
+use Rattle.cbor4ii_tree.specs.Calls.Raw.{RejectsOnPrefix}
 use Rattle.cbor4ii.specs.Raw.{lent_item, LendsItem}
 use Rattle.cbor4ii.proofs.IfKnown.{decoded}
 

@@ -11,9 +11,9 @@ use Rattle.cbor4ii_items.specs.Budget.{CostFits}
 use Rattle.cbor4ii_items.specs.Decoding.{DecodesIf}
 use Rattle.cbor4ii_items.specs.Moves.{Moves}
 use Rattle.cbor4ii_items.specs.Laws.Answering.{if_some}
-use Rattle.cbor4ii_items.specs.Laws.UnderStep.{step_again, fits_step, fits_inside, stepped}
+use Rattle.cbor4ii_items.specs.Laws.UnderStep.{step_again, fits_step, fits_inside, stepped_at}
 use Rattle.cbor4ii_items.specs.Laws.UnderStep.{exact_step, moves_stepped}
-use Rattle.cbor4ii_items.specs.Laws.Calls.{rejects_as, ok as all_ok, of_exact, exactly}
+use Rattle.cbor4ii_items.specs.Laws.Calls.{rejects_as, ok as all_ok, of_exact, decodes_exactly}
 use Rattle.cbor4ii_rw.specs.declared.error.DecodeError.TheVariants.{DepthOverflow}
 use denote.Ref.{Bor}
 
@@ -70,7 +70,7 @@ pub rejects_stepped : {E : Type 0} (name : List ℕ)
 rejects_stepped name rejects {a = a} {b = b} {c = c} {d = d} {e = e} takes inward outward s =
     record {
       at = λ xs known.
-          let h = stepped a.budget b.budget takes in
+          let h = stepped_at a.budget b.budget takes in
           subst (λ left. IfSome (input_error_of e)
           (λ z. (ys : List ℕ) × (left ≡ Some ys) × RejectsStepped name rejects xs a.budget z ys))
           (sym outward.known)
@@ -153,4 +153,4 @@ module _ {V E : Type 0} (s : Format V) where
       → KeepsAllButBudget a b → KeepsAllButBudget c d → (r : Result V (DecodeError E))
       → d.budget ≡ step_back c.budget → Decodes s b c r → Decodes (stepped_format name s) a d r
   under name takes inward outward r gives t =
-      exactly (under_if name takes inward outward r gives (of_exact t))
+      decodes_exactly (under_if name takes inward outward r gives (of_exact t))

@@ -8,7 +8,7 @@ use Rattle.cbor4ii_rw.specs.declared.error.DecodeError.TheVariants.{Custom}
 use Rattle.cbor4ii_items.specs.Decoding.{Decodes, DecodesIf}
 use Rattle.cbor4ii_items.specs.Numbers.{ReadsArgument, argument_format}
 use Rattle.cbor4ii_items.specs.Sequences.{pair_format}
-use Rattle.cbor4ii_items.specs.Laws.Calls.{ok, err, err_after, of_exact, exactly, accepted}
+use Rattle.cbor4ii_items.specs.Laws.Calls.{ok, err, err_after, of_exact, decodes_exactly, accepted}
 use Rattle.cbor4ii_items.specs.Laws.Calls.{by_ok, by_err_if}
 use Rattle.cbor4ii_items.specs.Laws.Heads.{head_one}
 use Rattle.cbor4ii_items.specs.Laws.Pairs.{pair_ok, key_err, value_err}
@@ -66,7 +66,7 @@ pub tag_missing : {E : Type 0} {number : ℕ} {a m : View} {e : DecodeError E}
     → Decodes (argument_format (codes "tag") 6 8) a m (Err e)
     → Decodes (tag_head number) a m (Err e)
 tag_missing {number = number} {a = a} d =
-    exactly (err_after (argument_format (codes "tag") 6 8) (tag_head number) (kept_alike a)
+    decodes_exactly (err_after (argument_format (codes "tag") 6 8) (tag_head number) (kept_alike a)
     (λ xs known. (
       xs,
       known,

@@ -8,10 +8,10 @@ use Rattle.cbor4ii_rw.specs.declared.error.Len.TheVariants.{Small, Big, Indefini
 use Rattle.cbor4ii_rw.specs.declared.error.DecodeError.TheVariants.{RequireLength}
 use Rattle.cbor4ii_rw.specs.View.{View}
 use Rattle.cbor4ii_rw.specs.declared.error.DecodeError.{DecodeError}
-use Rattle.cbor4ii_items.specs.Laws.Calls.{ok, err, err_after, Leads, of_exact, exactly}
+use Rattle.cbor4ii_items.specs.Laws.Calls.{ok, err, err_after, Leads, of_exact, decodes_exactly}
 use Rattle.cbor4ii_items.specs.Laws.Running.{kept_alike}
 use Rattle.cbor4ii.specs.Sequence.{four_small}
-use Rattle.cbor4ii.specs.Tuples.{ReadsAfter, ReadsCountOf, RejectsCountOf, container_head}
+use Rattle.cbor4ii.specs.Tuples.{ReadsAfter, ReadsCountOf, RejectsCountOf, container_head_format}
 use Rattle.cbor4ii.specs.Tuples.{known_length}
 use Rattle.cbor4ii.specs.Tuples.{after_format}
 use Rattle.cbor4ii_items.specs.Heads.{ReadsHead}
@@ -26,9 +26,9 @@ use Rattle.cbor4ii_items.specs.Laws.Answering.{fits_zero}
 
 pub head_counts : {E : Type 0} {count found : ℕ} {l : Option ℕ} {a m : View} → l ≡ Some found
     → found ≡ count → Decodes {E = E} (length_format (codes "array") 4) a m (Ok l)
-    → Decodes {E = E} (container_head count) a m (Ok tt)
+    → Decodes {E = E} (container_head_format count) a m (Ok tt)
 head_counts {count = count} {a = a} is same d =
-    ok (container_head count) d.moves.by d.progress (record {
+    ok (container_head_format count) d.moves.by d.progress (record {
       at = λ xs known. (let p = d.sound.at xs known in record {
         count = p.count;
         cost = p.cost;
@@ -47,9 +47,10 @@ other count (Some found) xs n c budget not h v k d r fits =
 
 pub head_missing : {E : Type 0} {count : ℕ} {a m : View} {e : DecodeError E}
     → Decodes (length_format (codes "array") 4) a m (Err e)
-    → Decodes (container_head count) a m (Err e)
+    → Decodes (container_head_format count) a m (Err e)
 head_missing {count = count} {a = a} d =
-    exactly (err_after (length_format (codes "array") 4) (container_head count) (kept_alike a)
+    decodes_exactly (err_after (length_format (codes "array") 4) (container_head_format count)
+    (kept_alike a)
     (λ xs known. (
       xs,
       known,
@@ -76,9 +77,9 @@ indefinite_len is = rw is refl
 pub head_differs : {E : Type 0} {count : ℕ} {l : Option ℕ} {len : Len} {name : Bor (List ℕ)}
     {a m : View} → name.now ≡ codes "tuple" → (l ≡ Some count → ⊥) → len ≡ known_length l
     → Decodes {E = E} (length_format (codes "array") 4) a m (Ok l)
-    → Decodes {E = E} (container_head count) a m (Err (RequireLength name len))
+    → Decodes {E = E} (container_head_format count) a m (Err (RequireLength name len))
 head_differs {count = count} {l = l} {len = len} {name = name} {a = a} named not is d =
-    err (container_head count) (record { by = d.moves.by; depth = λ none. refl }) (λ out. cc)
+    err (container_head_format count) (record { by = d.moves.by; depth = λ none. refl }) (λ out. cc)
     (λ xs known. (
     let p = d.sound.at xs known in
     let stop : RejectsCountOf count xs a.budget (require_length name.now len) (drop p.count xs) =
@@ -126,10 +127,10 @@ module _ {V : Type 0} (count : ℕ) (s : Format V) where
       none v r.between d (subst (λ j. s.reads (drop j xs) v r.between d) same r.parts) fits
 
   pub head_err : {E : Type 0} {exact : Bool} {a m : View} {e : DecodeError E}
-      → DecodesIf exact (container_head count) a m (Err e)
+      → DecodesIf exact (container_head_format count) a m (Err e)
       → DecodesIf exact (after_format count s) a m (Err e)
   head_err {a = a} d =
-      err_after (container_head count) (after_format count s) (kept_alike a) (λ xs known. (
+      err_after (container_head_format count) (after_format count s) (kept_alike a) (λ xs known. (
         xs,
         known,
         record {
@@ -140,7 +141,7 @@ module _ {V : Type 0} (count : ℕ) (s : Format V) where
       )) (λ owned. refl) (λ takes. (let no : false ≡ _ = takes in cc)) d
 
   pub head_after : {E : Type 0} {exact : Bool} {a m : View}
-      → Decodes {E = E} (container_head count) a m (Ok tt)
+      → Decodes {E = E} (container_head_format count) a m (Ok tt)
       → Leads exact s (after_format count s) a m
   head_after {a = a} d = record {
     kept = d.moves.by;

@@ -10,7 +10,7 @@ use Rattle.cbor4ii_items.specs.InputError.{InputError, input_error_of, mismatch}
 use Rattle.cbor4ii_items.specs.Next.{ReadsNext, RejectsNext}
 use Rattle.cbor4ii_items.specs.Decoding.{NoneRead, Sound, Complete, Rejects}
 use Rattle.cbor4ii_items.specs.Laws.Answering.{fits_zero, complete_as}
-use Rattle.cbor4ii_items.specs.Laws.Answering.{always}
+use Rattle.cbor4ii_items.specs.Laws.Answering.{whatever_error}
 use Rattle.cbor4ii.specs.Tuples.{ReadsUnit, RejectsUnit}
 use Rattle.cbor4ii.proofs.Looking.{Saw, none_begins}
 use Rattle.cbor4ii.proofs.Stopped.{stopped_as}
@@ -35,7 +35,7 @@ unit_sound {a = a} s is adv = record {
 pub unit_other : {E : Type 0} {a m : View} {b : ℕ} {e : DecodeError E} → Saw a m b → b ≢ 0x80
     → Complete ReadsUnit a e
 unit_other {b = b} {e = e} s not = record {
-  at = λ xs known. (let f = s.first xs known in always (input_error_of e)
+  at = λ xs known. (let f = s.first xs known in whatever_error (input_error_of e)
       (λ v n c r fits. (let g = f.1 in let h = r.0 in let is : b ≡ 0x80 = cc in not is)));
 }
 

@@ -8,7 +8,7 @@ use Rattle.cbor4ii_items.specs.Moves.{Moves}
 use Rattle.cbor4ii_items.specs.Laws.Steps.{moves_err}
 use Rattle.cbor4ii.specs.declared.serde.de.error.DecodeError.{DecodeError}
 use Rattle.cbor4ii.specs.Borrowed.{RejectsCopy, RejectsUnlent}
-use Rattle.cbor4ii.specs.Typed.{Lawful, Deserializes, as_core, answer_of, typed_by}
+use Rattle.cbor4ii.specs.Typed.{IsLawfulReading, Deserializes, as_core, answer_of, typed_by}
 use Rattle.cbor4ii.proofs.Borrowing.{lends_of, unlent, unlent_rejects}
 use Rattle.cbor4ii.proofs.Stopped.{stopped_as}
 
@@ -35,7 +35,8 @@ module _ {V W E : Type 0} (name : List ℕ) (reads : Reads V) (rejects : Rejects
       subst (λ z. Rejects (RejectsUnlent name reads rejects) a b (as_core z)) (sym h.reason)
       (stopped_as rejects (RejectsUnlent name reads rejects) (λ xs budget z ys t. inl t) begins)
 
-  pub copy_rejected : {lent : Reads W} {same : W → W → Type 0} (laws : Lawful lent same true)
+  pub copy_rejected : {lent : Reads W} {same : W → W → Type 0} (laws : IsLawfulReading lent same
+      true)
       (r : Result V (DecodeError E)) (q : Result W (DecodeError E)) (a b : View)
       → a.zero_copy ≡ false → RejectsCopy name r q → Moves a b (answer_of r)
       → IfOk (answer_of r) (Sound reads a b) → IfErr (answer_of r) (Rejects rejects a b)

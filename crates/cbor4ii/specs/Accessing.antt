@@ -25,8 +25,8 @@ abbrev pub deserializer_of : {S E : Type 0} → Accessor S E → Deserializer S
 deserializer_of accessor = accessor.de.now
 
 -- which reference an accessor holds to its deserializer
-abbrev pub lender_of : {S E : Type 0} → Accessor S E → ℕ
-lender_of accessor = accessor.de.ghost_name
+abbrev pub deserializer_name : {S E : Type 0} → Accessor S E → ℕ
+deserializer_name accessor = accessor.de.ghost_name
 
 -- what is still to be read
 abbrev pub left_in : {S E : Type 0} → Accessor S E → Left
@@ -156,8 +156,8 @@ abbrev pub start_format : Left → Format Bool
 start_format left = looking_format (ReadsStart left) (RejectsStart left)
 
 -- the next part, or the end
-abbrev pub next_format : {V : Type 0} → Left → Format V → Format (Option V)
-next_format left s = record {
+abbrev pub next_part_format : {V : Type 0} → Left → Format V → Format (Option V)
+next_part_format left s = record {
   reads = Next s.reads left;
   same = SameOption s.same;
   rejects = RejectsElement s.rejects left;
@@ -169,10 +169,10 @@ next_format left s = record {
 }
 
 -- What an accessor holds after a call that says whether a part comes.
-pub record Starts {S E F : Type 0} (view : S → View) (old new : Accessor S E)
+pub record AccessorStarts {S E F : Type 0} (view : S → View) (old new : Accessor S E)
     (answer : Result Bool F) : Type 0 where
   -- it reads from the same deserializer, and holds the same steps
-  pub same_reference : lender_of new ≡ lender_of old
+  pub same_reference : deserializer_name new ≡ deserializer_name old
   pub same_steps : steps_held new ≡ steps_held old
   -- a part that comes is counted off, and a break is taken
   pub left : IfOk answer (λ more. LeftAfterStart (left_in old) (left_in new) more)
@@ -183,10 +183,10 @@ pub record Starts {S E F : Type 0} (view : S → View) (old new : Accessor S E)
   pub still : (left_in old ≢ Indefinite) → inside view new ≡ inside view old
 
 -- What an accessor holds after a call that reads the next part.
-pub record GoesOn {S E V F : Type 0} (view : S → View) (old new : Accessor S E)
+pub record AccessorGoesOn {S E V F : Type 0} (view : S → View) (old new : Accessor S E)
     (answer : Result (Option V) F) : Type 0 where
   -- it reads from the same deserializer, and holds the same steps
-  pub same_reference : lender_of new ≡ lender_of old
+  pub same_reference : deserializer_name new ≡ deserializer_name old
   pub same_steps : steps_held new ≡ steps_held old
   -- the part is counted off, and a break is the end
   pub left : IfOk answer (λ part. left_in new ≡ left_then (left_in old) part)

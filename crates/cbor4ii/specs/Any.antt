@@ -16,7 +16,7 @@ use Rattle.cbor4ii_items.specs.Numbers.{ReadsU128, ReadsI128}
 use Rattle.cbor4ii_items.specs.Sequences.{ReadsSequence, ReadsPair}
 use Rattle.cbor4ii_items.specs.Simple.{ReadsSimple, ReadsBool}
 use Rattle.cbor4ii_items.specs.Strings.{ReadsAs, ReadsTextAs, bytes_content, text_content}
-use Rattle.cbor4ii_tree.specs.View.{view}
+use Rattle.cbor4ii_tree.specs.Basis.View.{view}
 use Rattle.cbor4ii_tree.specs.declared.value.FloatBits.TheVariants as float_bits
 use Rattle.cbor4ii_tree.specs.declared.value.Value.{Value}
 use Rattle.cbor4ii_tree.specs.declared.value.Value as values

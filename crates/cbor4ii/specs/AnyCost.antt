@@ -1,9 +1,11 @@
 -- The steps that reading any item takes at its deepest place: one for a value, and one more for an
 -- array or a map. A bignum is an integer, and takes one.
 use Rattle.std.specs.Prelude.{ℕ, ◌+◌, max}
-use Rattle.cbor4ii_tree.specs.Item.{Item, null, boolean, integer, float, bytes_item, text, sequence}
-use Rattle.cbor4ii_tree.specs.Item.{mapping, tag, Items, no_items, item, Members, no_members}
-use Rattle.cbor4ii_tree.specs.Item.{member}
+use Rattle.cbor4ii_tree.specs.Basis.Item.{Item, null, boolean, integer, float, bytes_item, text}
+use Rattle.cbor4ii_tree.specs.Basis.Item.{sequence}
+use Rattle.cbor4ii_tree.specs.Basis.Item.{mapping, tag, Items, no_items, item, ItemPairs}
+use Rattle.cbor4ii_tree.specs.Basis.Item.{no_item_pairs}
+use Rattle.cbor4ii_tree.specs.Basis.Item.{item_pair}
 
 abbrev mutual
   pub any_cost : Item → ℕ
@@ -21,7 +23,7 @@ abbrev mutual
   greatest_any_cost no_items = 0
   greatest_any_cost (item v vs) = max (any_cost v) (greatest_any_cost vs)
 
-  pub greatest_any_pair_cost : Members → ℕ
-  greatest_any_pair_cost no_members = 0
-  greatest_any_pair_cost (member k v ms) =
+  pub greatest_any_pair_cost : ItemPairs → ℕ
+  greatest_any_pair_cost no_item_pairs = 0
+  greatest_any_pair_cost (item_pair k v ms) =
       max (max (any_cost k) (any_cost v)) (greatest_any_pair_cost ms)

@@ -11,12 +11,14 @@ use Rattle.cbor4ii_items.specs.Laws.Sequences.{one_byte}
 use Rattle.cbor4ii_items.specs.InputError.{InputError, mismatch}
 use Rattle.cbor4ii.specs.declared.serde.de.cases.Choice.{Choice}
 use Rattle.cbor4ii.specs.declared.serde.de.cases.Choice.TheVariants.{First, Other}
-use Rattle.cbor4ii.specs.Fields.{ReadsEntry, RejectsEntry, RejectsNamed, entry_laws, named_part}
-use Rattle.cbor4ii.specs.Fields.{named_entry}
+use Rattle.cbor4ii.specs.Fields.{ReadsNamedPair, RejectsNamedPair, RejectsNamed, entry_laws}
+use Rattle.cbor4ii.specs.Fields.{named_part}
+use Rattle.cbor4ii.specs.Fields.{named_pair}
 use Rattle.cbor4ii.specs.Presence.{made_struct}
 use Rattle.cbor4ii.specs.Stepped.{stepped_format, stepped_lawful}
 use Rattle.cbor4ii.specs.Structs.{Fields}
-use Rattle.cbor4ii.specs.Typed.{Promise, Lawful, format_of, lawful_as, typed_laws, said_by}
+use Rattle.cbor4ii.specs.Typed.{Promise, IsLawfulReading, format_of, lawful_as, typed_laws}
+use Rattle.cbor4ii.specs.Typed.{rejects_as_promised}
 use Rattle.cbor4ii.specs.Typed.{any_two, in_words, not_exact}
 use Rattle.cbor4ii.specs.TypedParts.{container}
 use Rattle.cbor4ii.specs.Variants.{ReadsForm, RejectsForm, RejectsContent}
@@ -37,7 +39,7 @@ pub record Holding (V : Type 0) : Type 1 where
   pub owned : Bool
   pub exact : Bool
   pub unit_one : (v w : V) → unit v → unit w → same v w
-  pub lawful : IsTrue exact → Lawful content same false
+  pub lawful : IsTrue exact → IsLawfulReading content same false
 
 -- after a name, by the form: nothing, or a content
 abbrev pub reads_by : {V : Type 0} → Bool × ℕ → (V → Type 0) → Reads V → Reads V
@@ -54,7 +56,8 @@ holding_format h form = named_part (λ name. reads_by form h.unit h.content)
 abbrev pub no_content : {V : Type 0} → Reads V
 no_content xs v n c = ⊥
 
-pub no_content_laws : {V : Type 0} (same : V → V → Type 0) → Lawful (no_content {V = V}) same false
+pub no_content_laws : {V : Type 0} (same : V → V → Type 0) → IsLawfulReading (no_content {V = V})
+    same false
 no_content_laws same = record {
   one = λ xs v w n m c d p q. absurd p;
   within = λ xs v n c p. absurd p;
@@ -81,8 +84,9 @@ unit_case = record {
   lawful = λ is. no_content_laws any_two;
 }
 
-pub some_laws : {V : Type 0} {reads : Reads V} {same : V → V → Type 0} → Lawful reads same true
-    → Lawful reads same false
+pub some_laws : {V : Type 0} {reads : Reads V} {same : V → V → Type 0} → IsLawfulReading reads same
+    true
+    → IsLawfulReading reads same false
 some_laws h = record { one = h.one; within = h.within; positive = not_exact; alone = not_exact }
 
 -- a value of this type
@@ -91,7 +95,7 @@ held_case p = record {
   unit = λ v. ⊥;
   content = p.format.reads;
   rejects = λ form. RejectsContent form p.format.rejects;
-  begins = λ form. RejectsContent form (said_by p);
+  begins = λ form. RejectsContent form (rejects_as_promised p);
   same = p.format.same;
   owned = p.format.owned;
   exact = p.exact;
@@ -115,7 +119,7 @@ pub record Cases (V : Type 0) : Type 1 where
   pub owned : Bool
   pub exact : Bool
   pub unit_one : (name : List ℕ) (v w : V) → units name v → units name w → same v w
-  pub laws : IsTrue exact → (name : List ℕ) → Lawful (contents name) same false
+  pub laws : IsTrue exact → (name : List ℕ) → IsLawfulReading (contents name) same false
 
 -- what follows each name, by the form
 abbrev pub reads_named : {V : Type 0} → Cases V → Bool × ℕ → List ℕ → Reads V
@@ -300,7 +304,7 @@ cases_by h others (own ∷ names) = case own.now h (others names)
 -- a name, and what follows it, by the form
 abbrev pub named_format : {V : Type 0} → Cases V → Bool × ℕ → Format V
 named_format cases form =
-    named_entry (reads_named cases form) (rejects_named cases form) (begins_named cases form)
+    named_pair (reads_named cases form) (rejects_named cases form) (begins_named cases form)
     cases.same cases.owned
 
 -- its form is seen, and then its name and what follows that are read
@@ -309,7 +313,7 @@ pub record ReadsCase {V : Type 0} (cases : Cases V) (xs : List ℕ) (v : V) (n c
   pub size : ℕ
   pub seen : ReadsForm xs form size 0
   pub between : ℕ
-  pub named : ReadsEntry (reads_named cases form) (drop size xs) v between c
+  pub named : ReadsNamedPair (reads_named cases form) (drop size xs) v between c
   pub whole : n ≡ size + between
 
 -- its form is seen, and its name, or what follows that, is rejected
@@ -318,15 +322,15 @@ pub record RejectsAfterForm (rejects : Bool × ℕ → RejectsNamed) (xs : List 
   pub form : Bool × ℕ
   pub size : ℕ
   pub seen : ReadsForm xs form size 0
-  pub stop : RejectsEntry (rejects form) (drop size xs) budget err rest
+  pub stop : RejectsNamedPair (rejects form) (drop size xs) budget err rest
 
 -- it has neither form, or what comes after its form is rejected
 abbrev pub RejectsCase : (Bool × ℕ → RejectsNamed) → RejectsAt
 RejectsCase rejects xs budget err rest =
     RejectsForm xs budget err rest ⊎ RejectsAfterForm rejects xs budget err rest
 
-abbrev pub inside_format : {V : Type 0} → Cases V → Format V
-inside_format cases =
+abbrev pub cases_inside : {V : Type 0} → Cases V → Format V
+cases_inside cases =
     format_of (ReadsCase cases) cases.same (RejectsCase (rejects_named cases))
     (RejectsCase (begins_named cases)) cases.owned true
 
@@ -348,7 +352,7 @@ form_within xs (false, a) n p = omega (arith, p.1.1)
 
 module _ {V : Type 0} (cases : Cases V) (is : IsTrue cases.exact) where
   after_laws : (form : Bool × ℕ) (name : List ℕ)
-      → Lawful (reads_named cases form name) cases.same false
+      → IsLawfulReading (reads_named cases form name) cases.same false
   after_laws (true, first) name = cases.laws is name
   after_laws (false, first) name = record {
     one = λ xs v w n m c d p q.
@@ -358,21 +362,22 @@ module _ {V : Type 0} (cases : Cases V) (is : IsTrue cases.exact) where
     alone = not_exact;
   }
 
-  named_laws : (form : Bool × ℕ) → Lawful (ReadsEntry (reads_named cases form)) cases.same true
+  named_laws : (form : Bool × ℕ) → IsLawfulReading (ReadsNamedPair (reads_named cases form))
+      cases.same true
   named_laws form = entry_laws cases.same (reads_named cases form) (after_laws form)
 
   case_one : (xs : List ℕ) (v w : V) (n m c d : ℕ) → ReadsCase cases xs v n c
       → ReadsCase cases xs w m d → (n ≡ m) × (c ≡ d) × cases.same v w
   case_one xs v w n m c d p q =
       let f = form_one xs p.form q.form p.size q.size p.seen q.seen in
-      let moved = subst (λ (form : Bool × ℕ). ReadsEntry (reads_named cases form)
+      let moved = subst (λ (form : Bool × ℕ). ReadsNamedPair (reads_named cases form)
       (drop p.size xs) v p.between c) f.0 p.named in
       let e = (named_laws q.form).one (drop q.size xs) v w p.between q.between c d
-      (subst (λ j. ReadsEntry (reads_named cases q.form) (drop j xs) v p.between c) f.1 moved)
+      (subst (λ j. ReadsNamedPair (reads_named cases q.form) (drop j xs) v p.between c) f.1 moved)
       q.named in
       (omega (arith, p.whole, q.whole, f.1, e.0), e.1, e.2)
 
-  pub case_lawful : IsLawful (inside_format cases)
+  pub case_lawful : IsLawful (cases_inside cases)
   case_lawful = lawful_as (record {
     one = case_one;
     within = λ xs v n c p. omega (
@@ -392,5 +397,5 @@ module _ {V : Type 0} (cases : Cases V) (is : IsTrue cases.exact) where
 
 -- an enum of these variants, under a step
 abbrev pub enum_of : {V : Type 0} → Cases V → Promise V
-enum_of cases = container cases.exact (stepped_format (codes "enum") (inside_format cases)) refl
-    (λ is. stepped_lawful (codes "enum") (inside_format cases) (case_lawful cases is))
+enum_of cases = container cases.exact (stepped_format (codes "enum") (cases_inside cases)) refl
+    (λ is. stepped_lawful (codes "enum") (cases_inside cases) (case_lawful cases is))

@@ -8,7 +8,7 @@ use Rattle.cbor4ii_items.specs.Budget.{CostFits}
 use Rattle.cbor4ii_items.specs.InputError.{InputError}
 use Rattle.cbor4ii_items.specs.Strings.{ReadsText, ReadsTextAs, RejectsText}
 use Rattle.cbor4ii_items.specs.Laws.Strings.{text_one, text_within, text_positive}
-use Rattle.cbor4ii.specs.Typed.{Lawful, in_words, not_exact}
+use Rattle.cbor4ii.specs.Typed.{IsLawfulReading, in_words, not_exact}
 
 -- a text of one character
 abbrev pub ReadsChar : Reads ℕ
@@ -29,7 +29,7 @@ pub data RejectsChar (xs : List ℕ) (budget : Option ℕ) (err : InputError)
 char_same : (v w : ℕ) → encode_utf8 v ≡ encode_utf8 w → v ≡ w
 char_same v w e = (encode_same v w [] [] (ap (λ zs. zs ++ []) e)).0
 
-pub char_laws : Lawful ReadsChar (λ v w. v ≡ w) true
+pub char_laws : IsLawfulReading ReadsChar (λ v w. v ≡ w) true
 char_laws = record {
   one = λ xs v w n m c d p q.
       (let e = text_one encode_utf8 xs v w n m c d p q in (e.0, e.1, char_same v w e.2));

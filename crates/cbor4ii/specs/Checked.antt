@@ -42,7 +42,7 @@ MakesShown text shown stands (Err OutOfMemory) = Unit {0}
 -- ---- what is read by it
 
 -- a value is whole, and its words reject it; all of it is taken
-pub record RejectsUnmade {V : Type 0} (reads : Reads V) (words : V → Option (List ℕ))
+pub record RejectsUnchecked {V : Type 0} (reads : Reads V) (words : V → Option (List ℕ))
     (xs : List ℕ) (budget : Option ℕ) (err : InputError) (rest : List ℕ) : Type 0 where
   pub part : V
   pub count : ℕ
@@ -57,7 +57,7 @@ pub record RejectsUnmade {V : Type 0} (reads : Reads V) (words : V → Option (L
 -- the value's own error, or the words of a whole one
 abbrev pub RejectsChecked : {V : Type 0} → RejectsAt → Reads V → (V → Option (List ℕ)) → RejectsAt
 RejectsChecked rejects reads words xs budget err rest =
-    rejects xs budget err rest ⊎ RejectsUnmade reads words xs budget err rest
+    rejects xs budget err rest ⊎ RejectsUnchecked reads words xs budget err rest
 
 abbrev pub checked_format : {V W : Type 0} → Format V → (V → Option (List ℕ))
     → (V → W → Type 0) → (takes_memory : Bool) → Format W

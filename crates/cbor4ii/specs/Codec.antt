@@ -16,7 +16,7 @@ use Rattle.std.proofs.lemmas.Str.{IsUtf8-encode, IsUtf8-string_bytes, length-enc
 use Rattle.std.proofs.lemmas.Str.{len_utf8_bounds}
 use Rattle.cbor4ii_items.specs.Decoding.{Reads}
 use Rattle.cbor4ii_items.specs.Numbers.{IsWithin, shortest_head, signed_head}
-use Rattle.cbor4ii_items.specs.ReadBack.{ReadsBack, greatest_cost, pair_cost}
+use Rattle.cbor4ii_items.specs.ReadBack.{ReadsBack, greatest_part_cost, pair_cost}
 use Rattle.cbor4ii_items.specs.Sequences.{ReadsPair, ReadsSequence}
 use Rattle.cbor4ii_items.specs.Strings.{ReadsAs, ReadsTextAs, definite_string, text_content}
 use Rattle.cbor4ii_items.specs.Strings.{bytes_content}
@@ -24,7 +24,7 @@ use Rattle.cbor4ii_items.specs.Laws.LeavesBack.{text_back, string_back}
 use Rattle.cbor4ii_items.specs.declared.types.Bytes.{Bytes}
 use Rattle.cbor4ii_ser.specs.Item.{Encoding, encoded, rejected, option_encoding, array_encoding}
 use Rattle.cbor4ii_ser.specs.Item.{map_encoding}
-use Rattle.cbor4ii_ser.specs.Item.{tuple_encoding, entry_encoding}
+use Rattle.cbor4ii_ser.specs.Item.{tuple_encoding, pair_encoding}
 use Rattle.cbor4ii_ser.specs.OneItem.{IsOneItem, canonical}
 use Rattle.cbor4ii_ser.specs.Laws.OneItem.{unsigned_is_item, signed_is_item, within_greater}
 use Rattle.cbor4ii_ser.specs.Laws.OneItem.{option_is_item, array_is_item, map_is_item}
@@ -193,7 +193,7 @@ pub vector_is_back : {T : Type 0} (c : Codec T) → Hold c.facts → (alloc : Gl
     (v : Vec T Global)
     → All c.stands v.items
     → IsReadBack (typed_vector c.promise).format.reads (array_encoding c.encoding v.items) v
-    (1 + greatest_cost c.cost v.items)
+    (1 + greatest_part_cost c.cost v.items)
 vector_is_back c hold alloc v all =
     sequence_read_back c.promise.format.reads c.encoding c.cost 4 true v.items
     (omega (arith, v.ok.0, v.ok.1, v.small)) (all_as c.stands
@@ -214,7 +214,7 @@ vector_codec c = record {
   promise = typed_vector c.promise;
   encoding = λ v. array_encoding c.encoding v.items;
   stands = λ v. All c.stands v.items;
-  cost = λ v. 1 + greatest_cost c.cost v.items;
+  cost = λ v. 1 + greatest_part_cost c.cost v.items;
   facts = c.facts;
   back = vector_is_back c;
   one = vector_is_one c;
@@ -292,7 +292,7 @@ module _ {K V M : Type 0} (entries : M → List (K × V)) (cmp : K → K → Ord
       → StandsMap k v cmp (entries m)
       → IsReadBack (typed_map entries cmp k.promise v.promise).format.reads
       (map_encoding k.encoding v.encoding (entries m)) m
-      (1 + greatest_cost (pair_cost k.cost v.cost) (entries m))
+      (1 + greatest_part_cost (pair_cost k.cost v.cost) (entries m))
   map_is_back hold alloc m h =
       let es = entries m in
       let key_hold = first_hold k.facts v.facts hold in
@@ -307,12 +307,13 @@ module _ {K V M : Type 0} (entries : M → List (K × V)) (cmp : K → K → Ord
       let each = entries_back k.promise.format.reads v.promise.format.reads k.encoding
       v.encoding k.cost
       v.cost es keys values in
-      let read = sequence_read_back pairs (entry_encoding k.encoding v.encoding)
+      let read = sequence_read_back pairs (pair_encoding k.encoding v.encoding)
       (pair_cost k.cost v.cost) 5
       true es h.few each in
       map_read_back entries cmp (ReadsSequence 5 pairs true)
       (map_encoding k.encoding v.encoding es) m
-      (1 + greatest_cost (pair_cost k.cost v.cost) es) (built_again cmp h.total es h.sorted) read
+      (1 + greatest_part_cost (pair_cost k.cost v.cost) es) (built_again cmp h.total es h.sorted)
+      read
 
   pub map_is_one : Hold (both_facts k.facts v.facts) → (m : M) → StandsMap k v cmp (entries m)
       → IsOneItem canonical (map_encoding k.encoding v.encoding (entries m))
@@ -332,7 +333,7 @@ module _ {K V M : Type 0} (entries : M → List (K × V)) (cmp : K → K → Ord
     promise = typed_map entries cmp k.promise v.promise;
     encoding = λ m. map_encoding k.encoding v.encoding (entries m);
     stands = λ m. StandsMap k v cmp (entries m);
-    cost = λ m. 1 + greatest_cost (pair_cost k.cost v.cost) (entries m);
+    cost = λ m. 1 + greatest_part_cost (pair_cost k.cost v.cost) (entries m);
     facts = both_facts k.facts v.facts;
     back = map_is_back;
     one = map_is_one;

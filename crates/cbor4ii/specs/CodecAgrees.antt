@@ -240,7 +240,7 @@ module _ {A B : Type 0} {first : Promise A} {second : Promise B} {one : A → En
     exact = both_exact left.exact right.exact;
   }
 
-  -- the entries of a map, one after another
+  -- the pairs of a map, one after another
   pub map_agrees : {M : Type 0} (entries : M → List (A × B)) (cmp : A → A → Ordering)
       → AgreesWith (typed_map entries cmp first second) (λ m. map_encoding one two (entries m))
       (map_codec entries cmp a b)

@@ -5,7 +5,7 @@ use Rattle.std.proofs.Common.{ltb-true}
 use Rattle.std.specs.Prelude.{◌&&◌, not, bytes_eq}
 use Rattle.std.specs.declared.alloc.Global.{Global}
 use Rattle.std.proofs.lemmas.List.{append-nil}
-use Rattle.cbor4ii_items.specs.Head.{additional, shortest}
+use Rattle.cbor4ii_items.specs.Head.{additional, shortest_width}
 use Rattle.cbor4ii_items.specs.ReadBack.{ReadsBack}
 use Rattle.cbor4ii_items.specs.Sequences.{ReadsPair}
 use Rattle.cbor4ii_items.specs.Strings.{definite_string, text_content}
@@ -226,8 +226,8 @@ module _ {V : Type 0} (alloc : Global) (cases : Cases V) (name : List ℕ) (v : 
       → IsReadBack (Stepped (ReadsCase cases)) (encoded (definite_string 3 name)) v 1
   alone_is_back stands rest =
       let n = length name in
-      let first = 32 * 3 + additional (shortest n) n in
-      let low = additional-lt n (shortest n) (shortest_fits n (omega (arith, is.1))) in
+      let first = 32 * 3 + additional (shortest_width n) n in
+      let low = additional-lt n (shortest_width n) (shortest_fits n (omega (arith, is.1))) in
       let form : Bool × ℕ = (false, first) in
       let nothing : ReadsBack (reads_named cases form name) [] v 0 = λ ys. (stands, refl, refl) in
       let entry = two_back ReadsName (reads_named cases form name) (definite_string 3 name) []

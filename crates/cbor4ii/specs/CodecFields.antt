@@ -12,7 +12,7 @@ use Rattle.std.proofs.lemmas.Str.Ascii.{IsAscii-nil}
 use Rattle.cbor4ii_items.specs.Laws.Containers.{both}
 use Rattle.cbor4ii_ser.specs.Item.{Encoding, struct_encoding}
 use Rattle.cbor4ii_ser.specs.Listed.{before}
-use Rattle.cbor4ii_ser.specs.OneItem.{IsOneItem, IsOneEntry, canonical}
+use Rattle.cbor4ii_ser.specs.OneItem.{IsOneItem, IsOnePair, canonical}
 use Rattle.cbor4ii_ser.specs.Laws.OneItem.{struct_is_item, field_is_entry}
 use Rattle.cbor4ii.specs.Codec.{Codec, Facts, no_facts, both_facts, Hold, first_hold, others_hold}
 use Rattle.cbor4ii.specs.Codec.{made_back}
@@ -21,8 +21,9 @@ use Rattle.cbor4ii.specs.Laws.FieldsBack.{none_back, field_back, no_field_back}
 use Rattle.cbor4ii.specs.Laws.StructsBack.{struct_back, fields_count, no_dearer}
 use Rattle.cbor4ii.specs.Made.{gives_ok, made_from}
 use Rattle.cbor4ii.specs.Places.{Place, last_place, only_place, put_last}
-use Rattle.cbor4ii.specs.Presence.{Shape, no_others, shaped, or_words, or_value, once, optional}
-use Rattle.cbor4ii.specs.Presence.{paired, struct_from}
+use Rattle.cbor4ii.specs.Presence.{Shape, no_more_fields, shaped_field, or_words, or_value}
+use Rattle.cbor4ii.specs.Presence.{once_or_words, optional_field}
+use Rattle.cbor4ii.specs.Presence.{both_or_words, struct_from}
 use Rattle.cbor4ii.specs.Structs.{struct_of}
 use Rattle.cbor4ii.specs.declared.serde.de.place.Single.{Single}
 use Rattle.cbor4ii.specs.ReadBack.{IsReadBack, IsName, NamedItems, fields_of, FieldsBack}
@@ -76,11 +77,11 @@ pub record FieldCodecs (V W : Type 0) : Type 1 where
   pub back : Hold facts → (alloc : Global) (w : W) → stands w
       → FieldsBack shape.fields.named shape.fields.first (held w) (items w) (cost w)
   pub entries : Hold facts → (w : W) → stands w
-      → AllByRecursion (IsOneEntry canonical) (fields_of (items w))
+      → AllByRecursion (IsOnePair canonical) (fields_of (items w))
 
 abbrev pub no_fields : FieldCodecs (Unit {0}) (Unit {0})
 no_fields = record {
-  shape = no_others;
+  shape = no_more_fields;
   names = [];
   items = λ w. [];
   few = λ w. omega arith;
@@ -112,7 +113,7 @@ module _ {T P V W : Type 0} (place : Place T P) (name : List ℕ) (c : Codec T)
 
   pub part_entries : Hold (both_facts c.facts others.facts) → (w : T × W)
       → c.stands w.0 × others.stands w.1
-      → AllByRecursion (IsOneEntry canonical)
+      → AllByRecursion (IsOnePair canonical)
       (fields_of ((name, c.encoding w.0) ∷ others.items w.1))
   part_entries hold w h =
       let e = both (are_ascii name && ltb (length name) 256) (is_apart name others.names) new in
@@ -126,7 +127,7 @@ module _ {T P V W : Type 0} (place : Place T P) (name : List ℕ) (c : Codec T)
   abbrev pub with_field_by : (value : P → Result T (List ℕ))
       → ((v : T) → value (place.put v place.none) ≡ Ok v) → FieldCodecs (P × V) (T × W)
   with_field_by value made = record {
-    shape = shaped place value name c.promise others.shape;
+    shape = shaped_field place value name c.promise others.shape;
     names = name ∷ others.names;
     items = λ w. (name, c.encoding w.0) ∷ others.items w.1;
     few = λ w. omega (arith, others.few w.1);
@@ -136,8 +137,9 @@ module _ {T P V W : Type 0} (place : Place T P) (name : List ℕ) (c : Codec T)
     held = λ w. (place.put w.0 place.none, others.held w.1);
     stands = λ w. c.stands w.0 × others.stands w.1;
     cost = λ w. max (c.cost w.0) (others.cost w.1);
-    made = λ w. subst (λ (r : Result T (List ℕ)). paired r (others.shape.value (others.held w.1))
-        ≡ Ok (w.0, w.1)) (sym (made w.0)) (ap (paired (Ok w.0)) (others.made w.1));
+    made = λ w. subst (λ (r : Result T (List ℕ)). both_or_words r
+        (others.shape.value (others.held w.1))
+        ≡ Ok (w.0, w.1)) (sym (made w.0)) (ap (both_or_words (Ok w.0)) (others.made w.1));
     facts = both_facts c.facts others.facts;
     back = part_back;
     entries = part_entries;
@@ -162,7 +164,7 @@ abbrev pub with_field_once : {T V W : Type 0} (name words : List ℕ) (c : Codec
     (others : FieldCodecs V W)
     → IsTrue (is_new name others.names) → FieldCodecs (Single T × V) (T × W)
 with_field_once name words c others new =
-    with_field_by only_place name c others new (once words (or_words words)) (λ v. refl)
+    with_field_by only_place name c others new (once_or_words words (or_words words)) (λ v. refl)
 
 -- ---- a field that is left out where it is none
 
@@ -212,7 +214,7 @@ module _ {T V W : Type 0} (name : List ℕ) (c : Codec T) (others : FieldCodecs 
 
   pub optional_entries : Hold (both_facts c.facts others.facts) → (w : Option T × W)
       → StandsHeld c w.0 × others.stands w.1
-      → AllByRecursion (IsOneEntry canonical)
+      → AllByRecursion (IsOnePair canonical)
       (fields_of (before name c.encoding w.0 (others.items w.1)))
   optional_entries hold (None, w) h =
       others.entries (others_hold c.facts others.facts hold) w h.1
@@ -221,7 +223,7 @@ module _ {T V W : Type 0} (name : List ℕ) (c : Codec T) (others : FieldCodecs 
   -- a field that is left out where it is none, and is none where it is missing
   abbrev pub with_optional_field : FieldCodecs (Option T × V) (Option T × W)
   with_optional_field = record {
-    shape = optional name c.promise others.shape;
+    shape = optional_field name c.promise others.shape;
     names = name ∷ others.names;
     items = λ w. before name c.encoding w.0 (others.items w.1);
     few = λ w. omega (arith, optional_few w);
@@ -229,7 +231,7 @@ module _ {T V W : Type 0} (name : List ℕ) (c : Codec T) (others : FieldCodecs 
     held = λ w. (w.0, others.held w.1);
     stands = λ w. StandsHeld c w.0 × others.stands w.1;
     cost = λ w. max (held_cost c w.0) (others.cost w.1);
-    made = λ w. ap (paired (Ok w.0)) (others.made w.1);
+    made = λ w. ap (both_or_words (Ok w.0)) (others.made w.1);
     facts = both_facts c.facts others.facts;
     back = optional_back;
     entries = optional_entries;

@@ -15,7 +15,7 @@ use Rattle.cbor4ii.specs.Laws.Backs.{two_back}
 use Rattle.cbor4ii.specs.Laws.StructsBack.{no_dearer}
 use Rattle.cbor4ii.specs.ReadBack.{IsReadBack}
 use Rattle.cbor4ii.specs.Tagged.{ReadsTagHead, after_tag, typed_tagged}
-use Rattle.cbor4ii.specs.Typed.{exactly}
+use Rattle.cbor4ii.specs.Typed.{exact_promise}
 
 -- ---- tagged values
 
@@ -67,7 +67,7 @@ pub record IsItemOf {T : Type 0} (format : Format T) (bytes : T → List ℕ) (s
 abbrev pub item_codec : {T : Type 0} (format : Format T) (bytes : T → List ℕ)
     (stands : T → Type 0) (cost : T → ℕ) → IsItemOf format bytes stands cost → Codec T
 item_codec format bytes stands cost h = record {
-  promise = exactly {format = format} h.some h.lawful;
+  promise = exact_promise {format = format} h.some h.lawful;
   encoding = λ v. encoded (bytes v);
   stands = stands;
   cost = cost;

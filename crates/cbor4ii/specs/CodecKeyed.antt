@@ -15,14 +15,14 @@ use Rattle.cbor4ii_items.specs.Laws.Containers.{both}
 use Rattle.cbor4ii_items.specs.Laws.NumbersBack.{head_back}
 use Rattle.cbor4ii_items.specs.Laws.Signed.{starts}
 use Rattle.cbor4ii_ser.specs.Item.{Encoding, encoded, rejected, followed, parts}
-use Rattle.cbor4ii_ser.specs.Listed.{NamedItems, keyed_entries, keyed_encoding, before}
+use Rattle.cbor4ii_ser.specs.Listed.{NamedItems, keyed_pairs, keyed_encoding, before}
 use Rattle.cbor4ii_ser.specs.Listed.{integer_label, integer_item, integer_item_of}
-use Rattle.cbor4ii_ser.specs.OneItem.{IsOneItem, IsOneEntry, canonical}
+use Rattle.cbor4ii_ser.specs.OneItem.{IsOneItem, IsOnePair, canonical}
 use Rattle.cbor4ii_ser.specs.Laws.OneItem.{struct_is_item, pair_is_entry, signed_is_item}
 use Rattle.cbor4ii.specs.Codec.{Codec, Facts, no_facts, both_facts, Hold, first_hold, others_hold}
 use Rattle.cbor4ii.specs.Codec.{made_back}
 use Rattle.cbor4ii.specs.CodecFields.{is_apart, is_other, StandsHeld, held_cost}
-use Rattle.cbor4ii.specs.Fields.{ReadsNamed, named_field, changed}
+use Rattle.cbor4ii.specs.Fields.{ReadsNamed, named_field, after_changes}
 use Rattle.cbor4ii.specs.Keys.{begins_text, ReadsKey, ReadsKeyBy, ReadsKeyed, ReadsKeyedFields}
 use Rattle.cbor4ii.specs.Keys.{label_of, keyed_from}
 use Rattle.cbor4ii.specs.Laws.Backs.{entry_back, joined_back, definite_back}
@@ -30,8 +30,9 @@ use Rattle.cbor4ii.specs.Laws.FieldsBack.{none_back, field_back, no_field_back}
 use Rattle.cbor4ii.specs.Laws.StructsBack.{no_dearer}
 use Rattle.cbor4ii.specs.Made.{gives_ok, made_from}
 use Rattle.cbor4ii.specs.Places.{Place, last_place, only_place, put_last}
-use Rattle.cbor4ii.specs.Presence.{Shape, no_others, shaped, or_words, or_value, once, optional}
-use Rattle.cbor4ii.specs.Presence.{paired}
+use Rattle.cbor4ii.specs.Presence.{Shape, no_more_fields, shaped_field, or_words, or_value}
+use Rattle.cbor4ii.specs.Presence.{once_or_words, optional_field}
+use Rattle.cbor4ii.specs.Presence.{both_or_words}
 use Rattle.cbor4ii.specs.declared.serde.de.place.Single.{Single}
 use Rattle.cbor4ii.specs.ReadBack.{IsReadBack, FieldsBackBy, ChangesBackBy}
 
@@ -64,7 +65,7 @@ small_key (negsuc n) h = ltb-true n (2 ^ 63) h
 pub is_key : (key : ℤ) → IsTrue (is_small key) → IsKey (integer_label key)
 is_key key h = record { key = key; small = small_key key h; is = refl }
 
--- ---- an entry is read back
+-- ---- a pair is read back
 
 no_text : (xs : List ℕ) (type first : ℕ) (others : List ℕ) → xs ≡ first ∷ others
     → first / 32 ≡ type → nat_eq type 3 ≡ false → begins_text xs ≡ false
@@ -120,28 +121,28 @@ module _ {V : Type 0} (named : ReadsNamed V) where
 
   keyed_back : (ps : NamedItems) (changes : List (V → V)) (cost : ℕ)
       → ChangesBackBy IsKey named ps changes cost
-      → IsReadBack (ReadsElements (ReadsKeyed named)) (parts (keyed_entries integer_item ps))
+      → IsReadBack (ReadsElements (ReadsKeyed named)) (parts (keyed_pairs integer_item ps))
       changes cost
   keyed_back [] [] cost back = λ rest. (refl, back)
   keyed_back [] (change ∷ changes) cost back = absurd back
   keyed_back (p ∷ ps) [] cost back = absurd back
   keyed_back (p ∷ ps) (change ∷ changes) cost back =
       subst (λ c. IsReadBack (ReadsElements (ReadsKeyed named))
-      (parts (keyed_entries integer_item (p ∷ ps))) (change ∷ changes) c) (sym back.5)
+      (parts (keyed_pairs integer_item (p ∷ ps))) (change ∷ changes) c) (sym back.5)
       (joined_back (ReadsKeyed named) (followed (encoded (integer_item p.0)) p.1)
-      (parts (keyed_entries integer_item ps)) change changes back.0 back.1
+      (parts (keyed_pairs integer_item ps)) change changes back.0 back.1
       (key_back p.0 p.1 change back.0 back.2 back.3) (keyed_back ps changes back.1 back.4))
 
   as_many : (ps : NamedItems) (changes : List (V → V)) (cost : ℕ)
       → ChangesBackBy IsKey named ps changes cost
-      → length changes ≡ length (keyed_entries integer_item ps)
+      → length changes ≡ length (keyed_pairs integer_item ps)
   as_many [] [] cost back = refl
   as_many [] (change ∷ changes) cost back = absurd back
   as_many (p ∷ ps) [] cost back = absurd back
   as_many (p ∷ ps) (change ∷ changes) cost back = ap suc (as_many ps changes back.1 back.4)
 
   as_values : (o : Encoding) (first values : V) (changes : List (V → V)) (cost : ℕ)
-      → values ≡ changed first changes
+      → values ≡ after_changes first changes
       → IsReadBack (ReadsSequence 5 (ReadsKeyed named) true) o changes cost
       → IsReadBack (ReadsKeyedFields first named) o values cost
   as_values (rejected bytes words) first values changes cost made back = tt
@@ -149,21 +150,21 @@ module _ {V : Type 0} (named : ReadsNamed V) where
       λ rest. (changes, back rest, made)
 
   keyed_struct_back : (first values : V) (ps : NamedItems) (cost : ℕ)
-      → length (keyed_entries integer_item ps) < 2 ^ 64
+      → length (keyed_pairs integer_item ps) < 2 ^ 64
       → FieldsBackBy IsKey named first values ps cost
       → IsReadBack (ReadsKeyedFields first named) (keyed_encoding integer_item ps) values
       (1 + cost)
   keyed_struct_back first values ps cost small back =
       let count = as_many ps back.changes cost back.each in
       let whole = definite_back (ReadsKeyed named) 5 true back.changes
-      (parts (keyed_entries integer_item ps)) cost (omega (arith, small, count))
+      (parts (keyed_pairs integer_item ps)) cost (omega (arith, small, count))
       (keyed_back ps back.changes cost back.each) in
       as_values (keyed_encoding integer_item ps) first values back.changes (1 + cost) back.made
       (subst (λ k. IsReadBack (ReadsSequence 5 (ReadsKeyed named) true)
-      (followed (encoded (shortest_head 5 k)) (parts (keyed_entries integer_item ps)))
+      (followed (encoded (shortest_head 5 k)) (parts (keyed_pairs integer_item ps)))
       back.changes (1 + cost)) count whole)
 
-keyed_count : (ps : NamedItems) → length (keyed_entries integer_item ps) ≡ length ps
+keyed_count : (ps : NamedItems) → length (keyed_pairs integer_item ps) ≡ length ps
 keyed_count [] = refl
 keyed_count (p ∷ ps) = ap suc (keyed_count ps)
 
@@ -188,12 +189,12 @@ pub record KeyCodecs (V W : Type 0) : Type 1 where
   pub back : Hold facts → (alloc : Global) (w : W) → stands w
       → FieldsBackBy IsKey shape.fields.named shape.fields.first (held w) (items w) (cost w)
   pub entries : Hold facts → (w : W) → stands w
-      → AllByRecursion (IsOneEntry canonical) (keyed_entries integer_item (items w))
+      → AllByRecursion (IsOnePair canonical) (keyed_pairs integer_item (items w))
 
 -- no field is left
 abbrev pub no_keys : KeyCodecs (Unit {0}) (Unit {0})
 no_keys = record {
-  shape = no_others;
+  shape = no_more_fields;
   labels = [];
   items = λ w. [];
   few = λ w. omega arith;
@@ -208,7 +209,7 @@ no_keys = record {
 }
 
 pub key_is_entry : (key : ℤ) (item : Encoding) → IsTrue (is_small key) → IsOneItem canonical item
-    → IsOneEntry canonical (followed (encoded (integer_item (integer_label key))) item)
+    → IsOnePair canonical (followed (encoded (integer_item (integer_label key))) item)
 key_is_entry (pos n) item h one =
     pair_is_entry canonical (encoded (shortest_head 0 n)) item
     (signed_is_item canonical (pos n) (omega (arith, ltb-true n (2 ^ 63) h))) one
@@ -236,8 +237,8 @@ module _ {T P V W : Type 0} (place : Place T P) (key : ℤ) (c : Codec T)
 
   pub key_part_entries : Hold (both_facts c.facts others.facts) → (w : T × W)
       → c.stands w.0 × others.stands w.1
-      → AllByRecursion (IsOneEntry canonical)
-      (keyed_entries integer_item ((integer_label key, c.encoding w.0) ∷ others.items w.1))
+      → AllByRecursion (IsOnePair canonical)
+      (keyed_pairs integer_item ((integer_label key, c.encoding w.0) ∷ others.items w.1))
   key_part_entries hold w h =
       let e = both (is_small key) (is_apart (integer_label key) others.labels) new in (
         key_is_entry key (c.encoding w.0) e.0
@@ -249,7 +250,7 @@ module _ {T P V W : Type 0} (place : Place T P) (key : ℤ) (c : Codec T)
   abbrev pub with_key_by : (value : P → Result T (List ℕ))
       → ((v : T) → value (place.put v place.none) ≡ Ok v) → KeyCodecs (P × V) (T × W)
   with_key_by value made = record {
-    shape = shaped place value (integer_label key) c.promise others.shape;
+    shape = shaped_field place value (integer_label key) c.promise others.shape;
     labels = integer_label key ∷ others.labels;
     items = λ w. (integer_label key, c.encoding w.0) ∷ others.items w.1;
     few = λ w. omega (arith, others.few w.1);
@@ -259,8 +260,9 @@ module _ {T P V W : Type 0} (place : Place T P) (key : ℤ) (c : Codec T)
     held = λ w. (place.put w.0 place.none, others.held w.1);
     stands = λ w. c.stands w.0 × others.stands w.1;
     cost = λ w. max (c.cost w.0) (others.cost w.1);
-    made = λ w. subst (λ (r : Result T (List ℕ)). paired r (others.shape.value (others.held w.1))
-        ≡ Ok (w.0, w.1)) (sym (made w.0)) (ap (paired (Ok w.0)) (others.made w.1));
+    made = λ w. subst (λ (r : Result T (List ℕ)). both_or_words r
+        (others.shape.value (others.held w.1))
+        ≡ Ok (w.0, w.1)) (sym (made w.0)) (ap (both_or_words (Ok w.0)) (others.made w.1));
     facts = both_facts c.facts others.facts;
     back = key_part_back;
     entries = key_part_entries;
@@ -285,7 +287,7 @@ abbrev pub with_key_once : {T V W : Type 0} (key : ℤ) (words : List ℕ) (c : 
     (others : KeyCodecs V W) → IsTrue (is_new_key key others.labels)
     → KeyCodecs (Single T × V) (T × W)
 with_key_once key words c others new =
-    with_key_by only_place key c others new (once words (or_words words)) (λ v. refl)
+    with_key_by only_place key c others new (once_or_words words (or_words words)) (λ v. refl)
 
 -- ---- a field that is left out where it is none
 
@@ -330,8 +332,8 @@ module _ {T V W : Type 0} (key : ℤ) (c : Codec T) (others : KeyCodecs V W)
       key_part_back last_place key c others new hold alloc (v, w) h
 
   pub optional_key_entries : Hold (both_facts c.facts others.facts) → (w : Option T × W)
-      → StandsHeld c w.0 × others.stands w.1 → AllByRecursion (IsOneEntry canonical)
-      (keyed_entries integer_item (before (integer_label key) c.encoding w.0 (others.items w.1)))
+      → StandsHeld c w.0 × others.stands w.1 → AllByRecursion (IsOnePair canonical)
+      (keyed_pairs integer_item (before (integer_label key) c.encoding w.0 (others.items w.1)))
   optional_key_entries hold (None, w) h =
       others.entries (others_hold c.facts others.facts hold) w h.1
   optional_key_entries hold (Some v, w) h =
@@ -340,7 +342,7 @@ module _ {T V W : Type 0} (key : ℤ) (c : Codec T) (others : KeyCodecs V W)
   -- a field that is left out where it is none, and is none where it is missing
   abbrev pub with_optional_key : KeyCodecs (Option T × V) (Option T × W)
   with_optional_key = record {
-    shape = optional (integer_label key) c.promise others.shape;
+    shape = optional_field (integer_label key) c.promise others.shape;
     labels = integer_label key ∷ others.labels;
     items = λ w. before (integer_label key) c.encoding w.0 (others.items w.1);
     few = λ w. omega (arith, optional_key_few w);
@@ -348,7 +350,7 @@ module _ {T V W : Type 0} (key : ℤ) (c : Codec T) (others : KeyCodecs V W)
     held = λ w. (w.0, others.held w.1);
     stands = λ w. StandsHeld c w.0 × others.stands w.1;
     cost = λ w. max (held_cost c w.0) (others.cost w.1);
-    made = λ w. ap (paired (Ok w.0)) (others.made w.1);
+    made = λ w. ap (both_or_words (Ok w.0)) (others.made w.1);
     facts = both_facts c.facts others.facts;
     back = optional_key_back;
     entries = optional_key_entries;
@@ -374,7 +376,7 @@ module _ {R V W : Type 0} (values : R → W) (p : KeyCodecs V W) (few : length p
       → IsOneItem canonical (keyed_encoding integer_item (p.items (values r)))
   keyed_is_one hold r h =
       let w = values r in
-      struct_is_item canonical (keyed_entries integer_item (p.items w))
+      struct_is_item canonical (keyed_pairs integer_item (p.items w))
       (omega (arith, keyed_count (p.items w), p.few w, few)) (p.entries hold w h)
 
 -- a struct that has these values of its fields, fewer than 256

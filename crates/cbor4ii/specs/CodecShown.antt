@@ -1,8 +1,8 @@
 -- Codecs of types that are read as values of the tree, as those are that hold themselves.
 use Rattle.std.proofs.Common.{◌≡◌, ◌∙◌, ℕ, List, Option, Some, true, ap}
 use Rattle.std.specs.declared.alloc.Global.{Global}
-use Rattle.cbor4ii_tree.specs.Item.{Item}
-use Rattle.cbor4ii_tree.specs.View.{view}
+use Rattle.cbor4ii_tree.specs.Basis.Item.{Item}
+use Rattle.cbor4ii_tree.specs.Basis.View.{view}
 use Rattle.cbor4ii_tree.specs.declared.value.Value.{Value}
 use Rattle.cbor4ii_ser.specs.Item.{Encoding}
 use Rattle.cbor4ii.specs.Any.{ReadsAny}

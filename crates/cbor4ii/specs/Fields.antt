@@ -14,12 +14,14 @@ use Rattle.std.specs.declared.alloc.Global.{Global}
 use Rattle.std.specs.declared.string.String.{String}
 use Rattle.cbor4ii_items.specs.Laws.Sequences.{sequence_one, sequence_within, sequence_positive}
 use Rattle.cbor4ii_items.specs.Laws.Strings.{text_one, text_within, text_positive}
-use Rattle.cbor4ii_tree.specs.Ignored.{ReadsTree, RejectsIgnored}
+use Rattle.cbor4ii_tree.specs.Calls.Ignored.{ReadsTree}
+use Rattle.cbor4ii_tree.specs.Calls.SkippingRejects.{SkippingRejects}
 use Rattle.cbor4ii_tree.specs.Laws.Ignoring.{tree_one, tree_within}
 use Rattle.cbor4ii.specs.Places.{Place}
 use Rattle.cbor4ii.specs.Sequence.{five_small}
 use Rattle.cbor4ii.specs.Tuples.{pair_laws}
-use Rattle.cbor4ii.specs.Typed.{Lawful, not_exact, format_of, typed_format}
+use Rattle.cbor4ii.specs.Typed.{IsLawfulReading, Promise, Deserializes, not_exact, format_of}
+use Rattle.cbor4ii.specs.Typed.{typed_format}
 
 -- what follows a name, read as what becomes of a struct's values
 abbrev pub ReadsNamed : Type 0 → Type 1
@@ -43,24 +45,24 @@ named_field {T} {P} {V} put own reads others name xs change n c =
     ⊎ ((name ≢ own) × (below : V → V) × others name xs below n c
     × (change ≡ λ (values : P × V). (values.0, below values.1)))
 
--- an entry: a name, which is a text, and what follows it
+-- a pair: a name, which is a text, and what follows it
 abbrev pub ReadsName : Reads (String Global)
 ReadsName = ReadsTextAs text_content
 
-abbrev pub ReadsEntry : {W : Type 0} → (List ℕ → Reads W) → Reads W
-ReadsEntry named xs w n c =
+abbrev pub ReadsNamedPair : {W : Type 0} → (List ℕ → Reads W) → Reads W
+ReadsNamedPair named xs w n c =
     (name : String Global) × ReadsPair ReadsName (named (text_content name)) xs (name, w) n c
 
 -- changes, one after another
-abbrev pub changed : {V : Type 0} → V → List (V → V) → V
-changed values [] = values
-changed values (change ∷ changes) = changed (change values) changes
+abbrev pub after_changes : {V : Type 0} → V → List (V → V) → V
+after_changes values [] = values
+after_changes values (change ∷ changes) = after_changes (change values) changes
 
--- a map of entries, from the values that are there before any of them
+-- a map of pairs, from the values that are there before any of them
 abbrev pub ReadsFields : {V : Type 0} → V → ReadsNamed V → Reads V
 ReadsFields {V} first named xs values n c =
-    (changes : List (V → V)) × ReadsSequence 5 (ReadsEntry named) true xs changes n c
-    × (values ≡ changed first changes)
+    (changes : List (V → V)) × ReadsSequence 5 (ReadsNamedPair named) true xs changes n c
+    × (values ≡ after_changes first changes)
 
 -- how what follows a name is rejected
 abbrev pub RejectsNamed : Type 1
@@ -68,7 +70,7 @@ RejectsNamed = List ℕ → RejectsAt
 
 -- no field has the name: as the item that is skipped
 abbrev pub no_field_rejects : RejectsNamed
-no_field_rejects name = RejectsIgnored
+no_field_rejects name = SkippingRejects
 
 -- after the field's name as the field, and after another name as one of the others
 abbrev pub field_rejects : List ℕ → RejectsAt → RejectsNamed → RejectsNamed
@@ -87,24 +89,24 @@ pub record RejectsAfterName (rejects : RejectsNamed) (xs : List ℕ) (budget : O
   pub stop : rejects (text_content whole) (drop size xs) budget err rest
 
 -- the name's error, or that of what follows it
-abbrev pub RejectsEntry : RejectsNamed → RejectsAt
-RejectsEntry rejects xs budget err rest =
+abbrev pub RejectsNamedPair : RejectsNamed → RejectsAt
+RejectsNamedPair rejects xs budget err rest =
     RejectsText (codes "str") xs budget err rest ⊎ RejectsAfterName rejects xs budget err rest
 
 -- How it is rejected: no step is left, or the head of a map is rejected, or after some whole
--- entries no byte is left, or an entry is rejected.
+-- pairs no byte is left, or a pair is rejected.
 abbrev pub RejectsFields : {V : Type 0} → ReadsNamed V → RejectsNamed → RejectsAt
 RejectsFields named rejects =
-    RejectsParts (codes "map") (codes "map") 5 (ReadsEntry named) (RejectsEntry rejects)
+    RejectsParts (codes "map") (codes "map") 5 (ReadsNamedPair named) (RejectsNamedPair rejects)
 
 -- ---- what calls make of the values
 
 -- a change of the values, and changes one after another
-abbrev pub made : {V : Type 0} → (V → V) → V → V
-made change values = change values
+abbrev pub one_change : {V : Type 0} → (V → V) → V → V
+one_change change values = change values
 
-abbrev pub all_made : {V : Type 0} → List (V → V) → V → V
-all_made changes values = changed values changes
+abbrev pub all_changes : {V : Type 0} → List (V → V) → V → V
+all_changes changes values = after_changes values changes
 
 -- it was read what becomes of the values, and that was made of them
 pub record Altered {W V : Type 0} (E : Type 0) (makes : W → V → V) (s : Format W)
@@ -119,6 +121,13 @@ abbrev pub Alters : {W V U E : Type 0} → (W → V → V) → Bool → Format W
 Alters {E = E} makes exact s before after old new (Ok u) = Altered E makes s before after old new
 Alters makes exact s before after old new (Err e) = DecodesIf exact s old new (Err e)
 
+-- a value was read and put where the field's value stands, or it was rejected
+abbrev pub Puts : {T P U E : Type 0} → Place T P → Promise T → P → P → View → View
+    → Result U (DecodeError E) → Type 0
+Puts {E = E} place p before after old new (Ok u) =
+    (v : _) × (after ≡ place.put v before) × Deserializes {E = E} p old new (Ok v)
+Puts place p before after old new (Err e) = Deserializes p old new (Err e)
+
 -- ---- laws
 
 -- of values that mean the same both changes make values that do
@@ -127,7 +136,7 @@ SameChange {V} same g h = (v w : V) → same v w → same (g v) (h w)
 
 -- what is read after each name is one change
 abbrev pub NamedLaws : {V : Type 0} → (V → V → Type 0) → ReadsNamed V → Type 0
-NamedLaws same named = (name : List ℕ) → Lawful (named name) (SameChange same) false
+NamedLaws same named = (name : List ℕ) → IsLawfulReading (named name) (SameChange same) false
 
 -- where neither is changed, they mean the same as before
 unchanged : {V : Type 0} (same : V → V → Type 0) (g h : V → V) → g ≡ (λ (values : V). values)
@@ -146,7 +155,7 @@ no_field_laws same name = record {
 
 module _ {T P V : Type 0} (place : Place T P) (own : List ℕ) {reads : Reads T}
     {alike : T → T → Type 0} {never_empty : Bool} (others : ReadsNamed V)
-    {same_others : V → V → Type 0} (laws : Lawful reads alike never_empty)
+    {same_others : V → V → Type 0} (laws : IsLawfulReading reads alike never_empty)
     (trailing : NamedLaws same_others others) where
   abbrev Same : P × V → P × V → Type 0
   Same = SamePair (place.same alike) same_others
@@ -191,7 +200,7 @@ module _ {T P V : Type 0} (place : Place T P) (own : List ℕ) {reads : Reads T}
 abbrev pub SameName : String Global → String Global → Type 0
 SameName s t = text_content s ≡ text_content t
 
-pub name_laws : Lawful ReadsName SameName true
+pub name_laws : IsLawfulReading ReadsName SameName true
 name_laws = record {
   one = text_one text_content;
   within = text_within text_content;
@@ -217,15 +226,17 @@ named_part named rejects begins same owned name = record {
 }
 
 -- a name, and what follows it
-abbrev pub named_entry : {W : Type 0} → (List ℕ → Reads W) → (rejects begins : RejectsNamed)
+abbrev pub named_pair : {W : Type 0} → (List ℕ → Reads W) → (rejects begins : RejectsNamed)
     → (W → W → Type 0) → (owned : Bool) → Format W
-named_entry named rejects begins same owned =
-    format_of (ReadsEntry named) same (RejectsEntry rejects) (RejectsEntry begins) owned true
+named_pair named rejects begins same owned =
+    format_of (ReadsNamedPair named) same (RejectsNamedPair rejects) (RejectsNamedPair begins) owned
+    true
 
 pub entry_laws : {W : Type 0} (same : W → W → Type 0) (named : List ℕ → Reads W)
-    → ((name : List ℕ) → Lawful (named name) same false) → Lawful (ReadsEntry named) same true
+    → ((name : List ℕ) → IsLawfulReading (named name) same false)
+    → IsLawfulReading (ReadsNamedPair named) same true
 entry_laws same named laws =
-    let pair : (name : List ℕ) → Lawful (ReadsPair ReadsName (named name))
+    let pair : (name : List ℕ) → IsLawfulReading (ReadsPair ReadsName (named name))
     (SamePair SameName same) true = λ name. pair_laws ReadsName (named name)
     SameName same true false name_laws (laws name) in
     record {
@@ -242,7 +253,7 @@ entry_laws same named laws =
 
 -- the same changes of the same values make the same values
 pub changed_same : {V : Type 0} (same : V → V → Type 0) (v w : V) (gs hs : List (V → V)) → same v w
-    → SameElements (SameChange same) gs hs → same (changed v gs) (changed w hs)
+    → SameElements (SameChange same) gs hs → same (after_changes v gs) (after_changes w hs)
 changed_same same v w [] [] s p = s
 changed_same same v w [] (h ∷ hs) s p = absurd p
 changed_same same v w (g ∷ gs) [] s p = absurd p
@@ -251,22 +262,23 @@ changed_same same v w (g ∷ gs) (h ∷ hs) s p = changed_same same (g v) (h w) 
 -- One input is read in one way, as values that mean the same. A struct that is made of the values
 -- may be exact by it.
 pub fields_laws : {V : Type 0} (same : V → V → Type 0) (first : V) (named : ReadsNamed V)
-    → same first first → NamedLaws same named → Lawful (ReadsFields first named) same true
+    → same first first → NamedLaws same named → IsLawfulReading (ReadsFields first named) same true
 fields_laws {V} same first named is laws =
     let entry = entry_laws (SameChange same) named laws in
     record {
       one = λ xs v w n m c d p q. (
-          let e = sequence_one 5 five_small (ReadsEntry named) true (SameChange same) entry.one xs
+          let e = sequence_one 5 five_small (ReadsNamedPair named) true (SameChange same) entry.one
+          xs
           p.0 q.0 n m c d p.1 q.1 in (
             e.0,
             e.1,
             subst (λ (z : V). same z w) (sym p.2)
-                (subst (λ (z : V). same (changed first p.0) z) (sym q.2)
+                (subst (λ (z : V). same (after_changes first p.0) z) (sym q.2)
                 (changed_same same first first p.0 q.0 is e.2)),
           ));
       within = λ xs v n c p.
-          sequence_within 5 five_small (ReadsEntry named) true entry.within xs p.0 n c p.1;
+          sequence_within 5 five_small (ReadsNamedPair named) true entry.within xs p.0 n c p.1;
       positive =
-          λ e xs v n c p. sequence_positive 5 five_small (ReadsEntry named) true xs p.0 n c p.1;
+          λ e xs v n c p. sequence_positive 5 five_small (ReadsNamedPair named) true xs p.0 n c p.1;
       alone = not_exact;
     }

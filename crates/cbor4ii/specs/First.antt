@@ -7,9 +7,13 @@ use Rattle.cbor4ii_rw.specs.View.{View, IfKnown}
 use Rattle.cbor4ii_items.specs.Decoding.{NoneRead, IsExact}
 use Rattle.cbor4ii_items.specs.Whole.{ReadsToTheEnd, IsWhole, NoneIsWhole, Trails, IsSure}
 use Rattle.cbor4ii_items.specs.Whole.{IfDecode, IfTrailing}
-use Rattle.cbor4ii_items.specs.InputError.{input_error_of, is_out_of_memory}
+use Rattle.cbor4ii_items.specs.InputError.{InputError, input_error_of, is_out_of_memory}
 use Rattle.cbor4ii.specs.declared.serde.de.error.DecodeError.{DecodeError}
 use Rattle.cbor4ii.specs.Typed.{Promise, as_core}
+
+-- what an error of typed reading says of the bytes
+abbrev pub typed_error_of : {E : Type 0} → DecodeError E → Option InputError
+typed_error_of error = input_error_of (as_core error)
 
 -- An accepted value is read at the beginning of the bytes, at a cost of at most 256. Memory is
 -- refused only to a type that takes some. Of an exact type, where it is sure to be accepted, an

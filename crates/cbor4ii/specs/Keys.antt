@@ -19,14 +19,15 @@ use Rattle.cbor4ii_items.specs.Strings.{RejectsText, text_content}
 use Rattle.cbor4ii_ser.specs.Listed.{integer_label}
 use Rattle.cbor4ii.specs.Beginning.{RejectsParts}
 use Rattle.cbor4ii.specs.Fields.{ReadsNamed, RejectsNamed, NamedLaws, SameChange, ReadsName}
-use Rattle.cbor4ii.specs.Fields.{changed}
+use Rattle.cbor4ii.specs.Fields.{after_changes}
 use Rattle.cbor4ii.specs.Fields.{changed_same}
 use Rattle.cbor4ii.specs.Made.{made_or_rejected}
 use Rattle.cbor4ii.specs.Presence.{Shape}
 use Rattle.cbor4ii.specs.Sequence.{sequence_of, five_small}
 use Rattle.cbor4ii.specs.Structs.{Fields}
 use Rattle.cbor4ii.specs.Tuples.{pair_laws}
-use Rattle.cbor4ii.specs.Typed.{Lawful, Promise, not_exact, format_of, typed_format, lawful_as}
+use Rattle.cbor4ii.specs.Typed.{IsLawfulReading, Promise, not_exact, format_of, typed_format}
+use Rattle.cbor4ii.specs.Typed.{lawful_as}
 use Rattle.std.specs.Prelude.{Result, Ok, Err}
 
 -- ---- a key
@@ -94,7 +95,7 @@ key_positive : (flag : Bool) (xs : List ℕ) (v : Option ℤ) (n c : ℕ) → Re
 key_positive true xs v n c p = text_positive text_content xs p.0 n c p.1
 key_positive false xs v n c p = i128_positive xs p.0 n c p.1
 
-pub key_laws : Lawful ReadsKey SameKey true
+pub key_laws : IsLawfulReading ReadsKey SameKey true
 key_laws = record {
   one = λ xs. key_one (begins_text xs) xs;
   within = λ xs. key_within (begins_text xs) xs;
@@ -102,7 +103,7 @@ key_laws = record {
   alone = not_exact;
 }
 
--- ---- an entry
+-- ---- a pair
 
 -- a key, and what follows it
 abbrev pub ReadsKeyed : {W : Type 0} → (List ℕ → Reads W) → Reads W
@@ -110,7 +111,7 @@ ReadsKeyed named xs w n c =
     (key : Option ℤ) × ReadsPair ReadsKey (named (label_of key)) xs (key, w) n c
 
 -- a key is whole, and what follows it is rejected
-pub record RejectsAfterKey (rejects : RejectsNamed) (xs : List ℕ) (budget : Option ℕ)
+pub record RejectsAfterIntegerKey (rejects : RejectsNamed) (xs : List ℕ) (budget : Option ℕ)
     (err : InputError) (rest : List ℕ) : Type 0 where
   pub whole : Option ℤ
   pub size : ℕ
@@ -122,17 +123,18 @@ pub record RejectsAfterKey (rejects : RejectsNamed) (xs : List ℕ) (budget : Op
 -- the key's error, or that of what follows it
 abbrev pub RejectsKeyed : RejectsNamed → RejectsAt
 RejectsKeyed rejects xs budget err rest =
-    RejectsKey xs budget err rest ⊎ RejectsAfterKey rejects xs budget err rest
+    RejectsKey xs budget err rest ⊎ RejectsAfterIntegerKey rejects xs budget err rest
 
-abbrev pub keyed_entry : {W : Type 0} → (List ℕ → Reads W) → (rejects begins : RejectsNamed)
+abbrev pub keyed_pair : {W : Type 0} → (List ℕ → Reads W) → (rejects begins : RejectsNamed)
     → (W → W → Type 0) → (owned : Bool) → Format W
-keyed_entry named rejects begins same owned =
+keyed_pair named rejects begins same owned =
     format_of (ReadsKeyed named) same (RejectsKeyed rejects) (RejectsKeyed begins) owned true
 
 keyed_laws : {W : Type 0} (same : W → W → Type 0) (named : List ℕ → Reads W)
-    → ((label : List ℕ) → Lawful (named label) same false) → Lawful (ReadsKeyed named) same true
+    → ((label : List ℕ) → IsLawfulReading (named label) same false)
+    → IsLawfulReading (ReadsKeyed named) same true
 keyed_laws same named laws =
-    let pair : (label : List ℕ) → Lawful (ReadsPair ReadsKey (named label))
+    let pair : (label : List ℕ) → IsLawfulReading (ReadsPair ReadsKey (named label))
     (SamePair SameKey same) true = λ label. pair_laws ReadsKey (named label) SameKey same true
     false key_laws (laws label) in
     record {
@@ -149,34 +151,35 @@ keyed_laws same named laws =
 
 -- ---- all fields
 
--- an entry of these fields, by its key
+-- a pair of these fields, by its key
 abbrev pub keyed_of : {V : Type 0} → Fields V → Format (V → V)
 keyed_of fields =
-    keyed_entry fields.named fields.rejects fields.begins (SameChange fields.same) fields.owned
+    keyed_pair fields.named fields.rejects fields.begins (SameChange fields.same) fields.owned
 
 pub keyed_lawful : {V : Type 0} (fields : Fields V) → IsTrue fields.exact
     → IsLawful (keyed_of fields)
 keyed_lawful fields is =
     lawful_as (keyed_laws (SameChange fields.same) fields.named (fields.laws is))
 
--- a map of entries
+-- a map of pairs
 abbrev pub all_keyed_of : {V : Type 0} → Fields V → Format (List (V → V))
 all_keyed_of fields = sequence_of in_list (codes "map") (codes "map") 5 (keyed_of fields)
 
--- a map of entries, from the values that are there before any of them
+-- a map of pairs, from the values that are there before any of them
 abbrev pub ReadsKeyedFields : {V : Type 0} → V → ReadsNamed V → Reads V
 ReadsKeyedFields {V} first named xs values n c =
     (changes : List (V → V)) × ReadsSequence 5 (ReadsKeyed named) true xs changes n c
-    × (values ≡ changed first changes)
+    × (values ≡ after_changes first changes)
 
 -- How it is rejected: no step is left, or the head of a map is rejected, or after some whole
--- entries no byte is left, or an entry is rejected.
+-- pairs no byte is left, or a pair is rejected.
 abbrev pub RejectsKeyedFields : {V : Type 0} → ReadsNamed V → RejectsNamed → RejectsAt
 RejectsKeyedFields named rejects =
     RejectsParts (codes "map") (codes "map") 5 (ReadsKeyed named) (RejectsKeyed rejects)
 
 pub keyed_fields_laws : {V : Type 0} (same : V → V → Type 0) (first : V) (named : ReadsNamed V)
-    → same first first → NamedLaws same named → Lawful (ReadsKeyedFields first named) same true
+    → same first first → NamedLaws same named → IsLawfulReading (ReadsKeyedFields first named) same
+    true
 keyed_fields_laws {V} same first named is laws =
     let entry = keyed_laws (SameChange same) named laws in
     record {
@@ -186,7 +189,7 @@ keyed_fields_laws {V} same first named is laws =
             e.0,
             e.1,
             subst (λ (z : V). same z w) (sym p.2)
-                (subst (λ (z : V). same (changed first p.0) z) (sym q.2)
+                (subst (λ (z : V). same (after_changes first p.0) z) (sym q.2)
                 (changed_same same first first p.0 q.0 is e.2)),
           ));
       within = λ xs v n c p.

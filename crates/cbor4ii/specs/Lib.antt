@@ -29,6 +29,7 @@ pub mod Made
 pub mod Presence
 pub mod Cases
 pub mod ReadBack
+pub mod Answered
 pub mod Names
 pub mod Keys
 pub mod Codec

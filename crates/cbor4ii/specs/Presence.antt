@@ -3,24 +3,24 @@ use Rattle.std.specs.Prelude.{◌≡◌, ℕ, List, [], ◌∷◌, Option, None,
 use denote.Ref.{Bor}
 use Rattle.cbor4ii.specs.Made.{made_or_rejected}
 use Rattle.cbor4ii.specs.Places.{Place, last_place, only_place, came_last, came_only}
-use Rattle.cbor4ii.specs.Structs.{Fields, no_more, placed, fields_by, struct_of}
+use Rattle.cbor4ii.specs.Structs.{Fields, no_more, placed_field, fields_by, struct_of}
 use Rattle.cbor4ii.specs.declared.serde.de.place.Single.{Single}
 use Rattle.cbor4ii.specs.declared.serde.de.place.Single.TheVariants.{Absent, Present, Repeated}
 use Rattle.cbor4ii.specs.Typed.{Promise}
 
 -- what a call makes, or the words with which it rejects
-abbrev pub outcome : {W : Type 0} → Result W (Bor (List ℕ)) → Result W (List ℕ)
-outcome (Ok w) = Ok w
-outcome (Err words) = Err words.now
+abbrev pub made_or_words : {W : Type 0} → Result W (Bor (List ℕ)) → Result W (List ℕ)
+made_or_words (Ok w) = Ok w
+made_or_words (Err words) = Err words.now
 
 -- the words of the first error, and those of the others
-abbrev pub first_of : List (Bor (List ℕ)) → List ℕ
-first_of [] = []
-first_of (words ∷ trailing) = words.now
+abbrev pub words_of_first : List (Bor (List ℕ)) → List ℕ
+words_of_first [] = []
+words_of_first (words ∷ trailing) = words.now
 
-abbrev pub after_of : List (Bor (List ℕ)) → List (Bor (List ℕ))
-after_of [] = []
-after_of (words ∷ trailing) = trailing
+abbrev pub words_of_others : List (Bor (List ℕ)) → List (Bor (List ℕ))
+words_of_others [] = []
+words_of_others (words ∷ trailing) = trailing
 
 -- ---- one field
 
@@ -39,20 +39,20 @@ abbrev pub or_none : {T : Type 0} → Option T → Result (Option T) (List ℕ)
 or_none o = Ok o
 
 -- it may come once; where it comes more than once, the struct is rejected in these words
-abbrev pub once : {T A : Type 0} → List ℕ → (Option T → Result A (List ℕ)) → Single T
+abbrev pub once_or_words : {T A : Type 0} → List ℕ → (Option T → Result A (List ℕ)) → Single T
     → Result A (List ℕ)
-once words value Absent = value None
-once words value (Present v) = value (Some v)
-once words value Repeated = Err words
+once_or_words words value Absent = value None
+once_or_words words value (Present v) = value (Some v)
+once_or_words words value Repeated = Err words
 
 -- ---- all fields
 
 -- both, or the first error
-abbrev pub paired : {T W : Type 0} → Result T (List ℕ) → Result W (List ℕ)
+abbrev pub both_or_words : {T W : Type 0} → Result T (List ℕ) → Result W (List ℕ)
     → Result (T × W) (List ℕ)
-paired (Err words) others = Err words
-paired (Ok v) (Err words) = Err words
-paired (Ok v) (Ok others) = Ok (v, others)
+both_or_words (Err words) others = Err words
+both_or_words (Ok v) (Err words) = Err words
+both_or_words (Ok v) (Ok others) = Ok (v, others)
 
 -- the values that a struct has of these fields
 abbrev pub made_struct : {V W : Type 0} → Fields V → (V → Result W (List ℕ)) → Promise W
@@ -65,34 +65,34 @@ pub record Shape (V W : Type 0) : Type 1 where
   pub fields : Fields V
   pub value : V → Result W (List ℕ)
 
-abbrev pub no_others : Shape (Unit {0}) (Unit {0})
-no_others = record { fields = no_more; value = λ v. Ok v }
+abbrev pub no_more_fields : Shape (Unit {0}) (Unit {0})
+no_more_fields = record { fields = no_more; value = λ v. Ok v }
 
 -- a field of this name, whose values stand in this place, of which this becomes, and others after
 -- it
-abbrev pub shaped : {T P A V W : Type 0} → Place T P → (P → Result A (List ℕ)) → List ℕ
+abbrev pub shaped_field : {T P A V W : Type 0} → Place T P → (P → Result A (List ℕ)) → List ℕ
     → Promise T → Shape V W → Shape (P × V) (A × W)
-shaped place value name p others = record {
-  fields = placed place name p others.fields;
-  value = λ v. paired (value v.0) (others.value v.1);
+shaped_field place value name p others = record {
+  fields = placed_field place name p others.fields;
+  value = λ v. both_or_words (value v.0) (others.value v.1);
 }
 
-abbrev pub required : {T V W : Type 0} → List ℕ → List ℕ → Promise T → Shape V W
+abbrev pub required_field : {T V W : Type 0} → List ℕ → List ℕ → Promise T → Shape V W
     → Shape (Option T × V) (T × W)
-required name words = shaped last_place (or_words words) name
+required_field name words = shaped_field last_place (or_words words) name
 
-abbrev pub or_else : {T V W : Type 0} → List ℕ → T → Promise T → Shape V W
+abbrev pub field_or_else : {T V W : Type 0} → List ℕ → T → Promise T → Shape V W
     → Shape (Option T × V) (T × W)
-or_else name other = shaped last_place (or_value other) name
+field_or_else name other = shaped_field last_place (or_value other) name
 
-abbrev pub optional : {T V W : Type 0} → List ℕ → Promise T → Shape V W
+abbrev pub optional_field : {T V W : Type 0} → List ℕ → Promise T → Shape V W
     → Shape (Option T × V) (Option T × W)
-optional name = shaped last_place or_none name
+optional_field name = shaped_field last_place or_none name
 
 -- a field that may come once, and of which this becomes
-abbrev pub single : {T A V W : Type 0} → List ℕ → List ℕ → (Option T → Result A (List ℕ))
+abbrev pub single_field : {T A V W : Type 0} → List ℕ → List ℕ → (Option T → Result A (List ℕ))
     → Promise T → Shape V W → Shape (Single T × V) (A × W)
-single name words value = shaped only_place (once words value) name
+single_field name words value = shaped_field only_place (once_or_words words value) name
 
 -- the values that a struct of this shape has
 abbrev pub struct_from : {V W : Type 0} → Shape V W → Promise W
@@ -124,7 +124,7 @@ value_fate other (Some v) (Some w) e = tt
 pub once_fate : {T A : Type 0} (words : List ℕ) (value : Option T → Result A (List ℕ))
     → ((o p : Option T) → came_last o ≡ came_last p → SameFate (value o) (value p))
     → (o p : Single T) → came_only o ≡ came_only p
-    → SameFate (once words value o) (once words value p)
+    → SameFate (once_or_words words value o) (once_or_words words value p)
 once_fate words value one Absent Absent e = one None None refl
 once_fate words value one Absent (Present w) e = cc
 once_fate words value one Absent Repeated e = cc
@@ -136,7 +136,7 @@ once_fate words value one Repeated (Present w) e = cc
 once_fate words value one Repeated Repeated e = refl
 
 pub paired_fate : {T W : Type 0} (a b : Result T (List ℕ)) (c d : Result W (List ℕ))
-    → SameFate a b → SameFate c d → SameFate (paired a c) (paired b d)
+    → SameFate a b → SameFate c d → SameFate (both_or_words a c) (both_or_words b d)
 paired_fate (Err v) (Err w) c d s t = s
 paired_fate (Err v) (Ok w) c d s t = absurd s
 paired_fate (Ok v) (Err w) c d s t = absurd s
@@ -152,7 +152,7 @@ pub pair_fate : {T P A V W : Type 0} (place : Place T P) (p : Promise T)
     → ((names : List (Bor (List ℕ))) (v w : V) → (others names).same v w
     → SameFate (values v) (values w))
     → (names : List (Bor (List ℕ))) (v w : P × V) → (fields_by place p others names).same v w
-    → SameFate (paired (value v.0) (values v.1)) (paired (value w.0) (values w.1))
+    → SameFate (both_or_words (value v.0) (values v.1)) (both_or_words (value w.0) (values w.1))
 pair_fate place p others value values one rest [] v w s =
     paired_fate (value v.0) (value w.0) (values v.1) (values w.1)
     (one v.0 w.0 (place.same_came p.format.same v.0 w.0 s.0)) (rest [] v.1 w.1 s.1)

@@ -4,14 +4,14 @@ use Rattle.cbor4ii_rw.specs.View.{View}
 use Rattle.cbor4ii_rw.specs.declared.error.DecodeError.{DecodeError}
 use Rattle.cbor4ii_items.specs.Decoding.{IsExact}
 use Rattle.cbor4ii_tree.specs.declared.raw.RawValue.{RawValue}
-use Rattle.cbor4ii_tree.specs.Raw.{raw_content, TakesItem, RejectsAsSkipping, Unmoved}
-use Rattle.cbor4ii_tree.specs.Raw.{RejectsOnPrefix}
+use Rattle.cbor4ii_tree.specs.Calls.Raw.{raw_content, TakesItem, RejectsAsSkipping, Unmoved}
+use Rattle.cbor4ii_tree.specs.Calls.Raw.{RejectsOnPrefix}
 use Rattle.cbor4ii_tree.specs.Laws.Capturing.{raw_lawful}
-use Rattle.cbor4ii.specs.Typed.{Promise, Deserializes, exactly}
+use Rattle.cbor4ii.specs.Typed.{Promise, Deserializes, exact_promise}
 
 -- one item, as its bytes stand in the input
 abbrev pub lent_item : Promise RawValue
-lent_item = exactly refl (raw_lawful raw_content)
+lent_item = exact_promise refl (raw_lawful raw_content)
 
 -- What reading an item as its bytes promises, where they are lent.
 pub record LendsItem {E : Type 0} (old new : View)

@@ -8,7 +8,7 @@ use Rattle.cbor4ii_items.specs.Decoding.{Reads}
 use Rattle.cbor4ii_items.specs.ReadBack.{ReadsBack}
 use Rattle.cbor4ii_ser.specs.Item.{Encoding, encoded, IfEncoded}
 pub use Rattle.cbor4ii_ser.specs.Listed.{NamedItems, fields_of}
-use Rattle.cbor4ii.specs.Fields.{ReadsNamed, changed}
+use Rattle.cbor4ii.specs.Fields.{ReadsNamed, after_changes}
 
 -- the item, where there is one, is read as the value at this cost, whatever follows it
 abbrev pub IsReadBack : {V : Type 0} → Reads V → Encoding → V → ℕ → Type 0
@@ -64,7 +64,7 @@ pub record FieldsBackBy {V : Type 0} (IsLabel : List ℕ → Type 0) (named : Re
     (first values : V) (parts : NamedItems) (cost : ℕ) : Type 0 where
   pub changes : List (V → V)
   pub each : ChangesBackBy IsLabel named parts changes cost
-  pub made : values ≡ changed first changes
+  pub made : values ≡ after_changes first changes
 
 -- the same after names
 abbrev pub FieldsBack : {V : Type 0} → ReadsNamed V → (first values : V) → NamedItems → ℕ → Type 0

@@ -1,18 +1,19 @@
 -- What a struct that is read from its named fields promises, by what its fields do.
-use Rattle.std.specs.Prelude.{List, [], ◌∷◌, ℕ, ◌&&◌, Bool, true, Option, IsTrue, refl, codes}
+use Rattle.std.specs.Prelude.{List, [], ◌∷◌, ℕ, ◌&&◌, Bool, true, IsTrue, refl, codes}
 use denote.Ref.{Bor}
 use Rattle.cbor4ii_items.specs.Decoding.{Format, IsLawful, format_by}
 use Rattle.cbor4ii_items.specs.Sequences.{SamePair, in_list}
 use Rattle.cbor4ii_items.specs.Laws.Containers.{both}
 use Rattle.cbor4ii_items.specs.Laws.Formats.{lawful_by}
 use Rattle.cbor4ii.specs.Fields.{ReadsNamed, RejectsNamed, NamedLaws, ReadsFields, RejectsFields}
-use Rattle.cbor4ii.specs.Fields.{SameChange, entry_laws, named_part, named_entry, no_field}
+use Rattle.cbor4ii.specs.Fields.{SameChange, entry_laws, named_part, named_pair, no_field}
 use Rattle.cbor4ii.specs.Fields.{no_values, named_field, no_field_rejects, field_rejects}
 use Rattle.cbor4ii.specs.Fields.{no_field_laws}
 use Rattle.cbor4ii.specs.Fields.{field_laws, fields_laws}
-use Rattle.cbor4ii.specs.Places.{Place, last_place}
+use Rattle.cbor4ii.specs.Places.{Place}
 use Rattle.cbor4ii.specs.Sequence.{sequence_of}
-use Rattle.cbor4ii.specs.Typed.{Promise, format_of, typed_laws, lawful_as, said_by, any_two}
+use Rattle.cbor4ii.specs.Typed.{Promise, format_of, typed_laws, lawful_as, rejects_as_promised}
+use Rattle.cbor4ii.specs.Typed.{any_two}
 
 -- the named fields of a struct, one after another
 pub record Fields (V : Type 0) : Type 1 where
@@ -21,7 +22,7 @@ pub record Fields (V : Type 0) : Type 1 where
   pub rejects : RejectsNamed
   pub begins : RejectsNamed
   pub same : V → V → Type 0
-  -- the values of no entry
+  -- the values of no pair
   pub first : V
   pub owned : Bool
   pub exact : Bool
@@ -43,11 +44,12 @@ no_more = record {
 }
 
 -- a field of this name, whose values stand in this place, and others after it
-abbrev pub placed : {T P V : Type 0} → Place T P → List ℕ → Promise T → Fields V → Fields (P × V)
-placed place name p others = record {
+abbrev pub placed_field : {T P V : Type 0} → Place T P → List ℕ → Promise T → Fields V
+    → Fields (P × V)
+placed_field place name p others = record {
   named = named_field place.put name p.format.reads others.named;
   rejects = field_rejects name p.format.rejects others.rejects;
-  begins = field_rejects name (said_by p) others.begins;
+  begins = field_rejects name (rejects_as_promised p) others.begins;
   same = SamePair (place.same p.format.same) others.same;
   first = (place.none, others.first);
   owned = p.format.owned && others.owned;
@@ -57,13 +59,9 @@ placed place name p others = record {
       field_laws place name others.named (typed_laws p h.0) (others.laws h.1));
 }
 
--- one of which the last value counts
-abbrev pub field : {T V : Type 0} → List ℕ → Promise T → Fields V → Fields (Option T × V)
-field {T} = placed (last_place {T = T})
-
 -- none of them has a name
-abbrev pub unnamed : {T P V : Type 0} → Place T P → Promise T → Fields V → Fields (P × V)
-unnamed place p others = record {
+abbrev pub unnamed_field : {T P V : Type 0} → Place T P → Promise T → Fields V → Fields (P × V)
+unnamed_field place p others = record {
   named = no_field;
   rejects = no_field_rejects;
   begins = no_field_rejects;
@@ -78,8 +76,8 @@ unnamed place p others = record {
 -- fields by their names: of a type, and then others
 abbrev pub fields_by : {T P V : Type 0} → Place T P → Promise T → (List (Bor (List ℕ)) → Fields V)
     → List (Bor (List ℕ)) → Fields (P × V)
-fields_by place p others [] = unnamed place p (others [])
-fields_by place p others (own ∷ trailing) = placed place own.now p (others trailing)
+fields_by place p others [] = unnamed_field place p (others [])
+fields_by place p others (own ∷ trailing) = placed_field place own.now p (others trailing)
 
 -- ---- how they are encoded
 
@@ -89,18 +87,18 @@ after_name fields =
     named_part fields.named fields.rejects fields.begins (SameChange fields.same) fields.owned
 
 -- a name, and what follows it
-abbrev pub entry_of : {V : Type 0} → Fields V → Format (V → V)
-entry_of fields =
-    named_entry fields.named fields.rejects fields.begins (SameChange fields.same) fields.owned
+abbrev pub field_pair : {V : Type 0} → Fields V → Format (V → V)
+field_pair fields =
+    named_pair fields.named fields.rejects fields.begins (SameChange fields.same) fields.owned
 
 pub entry_lawful : {V : Type 0} (fields : Fields V) → IsTrue fields.exact
-    → IsLawful (entry_of fields)
+    → IsLawful (field_pair fields)
 entry_lawful fields is =
     lawful_as (entry_laws (SameChange fields.same) fields.named (fields.laws is))
 
--- a map of entries
-abbrev pub entries_of : {V : Type 0} → Fields V → Format (List (V → V))
-entries_of fields = sequence_of in_list (codes "map") (codes "map") 5 (entry_of fields)
+-- a map of pairs
+abbrev pub field_pairs : {V : Type 0} → Fields V → Format (List (V → V))
+field_pairs fields = sequence_of in_list (codes "map") (codes "map") 5 (field_pair fields)
 
 abbrev pub fields_format : {V : Type 0} → Fields V → Format V
 fields_format fields =

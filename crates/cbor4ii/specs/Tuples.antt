@@ -15,7 +15,7 @@ use Rattle.cbor4ii_items.specs.Sequences.{ReadsPair, SamePair, RejectsPair, pair
 use Rattle.cbor4ii_items.specs.Laws.Sequences.{pair_lawful, one_byte}
 use Rattle.cbor4ii_items.specs.Laws.Formats.{lawful_by}
 use Rattle.cbor4ii.specs.Sequence.{four_small}
-use Rattle.cbor4ii.specs.Typed.{Lawful, reading, laws_of, any_two, not_exact}
+use Rattle.cbor4ii.specs.Typed.{IsLawfulReading, reading_format, laws_of, any_two, not_exact}
 
 -- an array of no item, in one byte
 abbrev pub ReadsUnit : List ℕ → Unit {0} → ℕ → ℕ → Type 0
@@ -27,7 +27,7 @@ RejectsUnit [] budget err rest = (err ≡ eof (codes "unit") (Small 1)) × (rest
 RejectsUnit (b ∷ bs) budget err rest =
     (b ≢ 0x80) × (err ≡ mismatch (codes "unit") b) × (rest ≡ bs)
 
-pub unit_laws : Lawful ReadsUnit any_two true
+pub unit_laws : IsLawfulReading ReadsUnit any_two true
 unit_laws = record {
   one = λ xs v w n m c d p q. (p.1 ∙ sym q.1, p.2 ∙ sym q.2, tt);
   within = λ xs v n c p. omega (arith, p.1, one_byte xs 0x80 p.0);
@@ -48,11 +48,12 @@ pub record ReadsAfter {V : Type 0} (count : ℕ) (reads : List ℕ → V → ℕ
 pub pair_laws : {A B : Type 0} (first : List ℕ → A → ℕ → ℕ → Type 0)
     (second : List ℕ → B → ℕ → ℕ → Type 0) (same_first : A → A → Type 0)
     (same_second : B → B → Type 0) (some_first some_second : Bool)
-    → Lawful first same_first some_first → Lawful second same_second some_second
-    → Lawful (ReadsPair first second) (SamePair same_first same_second) (some_first || some_second)
+    → IsLawfulReading first same_first some_first → IsLawfulReading second same_second some_second
+    → IsLawfulReading (ReadsPair first second) (SamePair same_first same_second)
+    (some_first || some_second)
 pair_laws first second same_first same_second some_first some_second h k =
-    laws_of (pair_lawful (reading first same_first some_first)
-    (reading second same_second some_second) h k)
+    laws_of (pair_lawful (reading_format first same_first some_first)
+    (reading_format second same_second some_second) h k)
 
 -- a length, as an error reports it
 abbrev pub known_length : Option ℕ → Len
@@ -78,8 +79,8 @@ abbrev pub RejectsCountOf : ℕ → RejectsAt
 RejectsCountOf count xs budget err rest =
     RejectsLength (codes "array") 4 xs budget err rest ⊎ OtherLength count xs err rest
 
-abbrev pub container_head : ℕ → Format (Unit {0})
-container_head count = leaf_format (ReadsCountOf count) (RejectsCountOf count)
+abbrev pub container_head_format : ℕ → Format (Unit {0})
+container_head_format count = leaf_format (ReadsCountOf count) (RejectsCountOf count)
 
 -- a head that counts so many, and what follows it
 abbrev pub after_format : {V : Type 0} → ℕ → Format V → Format V

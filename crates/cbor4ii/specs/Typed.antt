@@ -78,9 +78,9 @@ pub record Promise (V : Type 0) : Type 1 where
   pub lawful : IsTrue exact → IsLawful format
 
 -- a type that reads exactly what its format says
-abbrev pub exactly : {V : Type 0} {format : Format V} → IsTrue format.never_empty
+abbrev pub exact_promise : {V : Type 0} {format : Format V} → IsTrue format.never_empty
     → IsLawful format → Promise V
-exactly {format = format} some lawful = record {
+exact_promise {format = format} some lawful = record {
   format = format;
   exact = true;
   known = true;
@@ -94,8 +94,8 @@ abbrev pub any_two : {V : Type 0} → V → V → Type 0
 any_two v w = Unit {0}
 
 -- a reading of which nothing is said
-abbrev pub unsaid : {V : Type 0} → Reads V
-unsaid xs v n c = Unit {0}
+abbrev pub unsaid_reads : {V : Type 0} → Reads V
+unsaid_reads xs v n c = Unit {0}
 
 -- an error of which nothing is said
 abbrev pub unsaid_rejects : RejectsAt
@@ -106,9 +106,9 @@ pub not_exact : {Q : Type 0} → IsTrue false → Q
 not_exact h = let no : false ≡ true = h in cc
 
 -- nothing is promised of the bytes
-abbrev pub nothing : {V : Type 0} → Promise V
-nothing = record {
-  format = typed_format unsaid any_two unsaid_rejects true true;
+abbrev pub no_promise : {V : Type 0} → Promise V
+no_promise = record {
+  format = typed_format unsaid_reads any_two unsaid_rejects true true;
   exact = false;
   known = false;
   reports = not_exact;
@@ -117,12 +117,12 @@ nothing = record {
 }
 
 -- what a type that reports its errors says of them; of any other nothing is said
-abbrev pub said : Bool → RejectsAt → RejectsAt
-said known rejects xs budget err rest = IsTrue known → rejects xs budget err rest
+abbrev pub rejects_if_known : Bool → RejectsAt → RejectsAt
+rejects_if_known known rejects xs budget err rest = IsTrue known → rejects xs budget err rest
 
 -- how a type that says it rejects bytes, over any reader
-abbrev pub said_by : {V : Type 0} → Promise V → RejectsAt
-said_by promise = said promise.known promise.format.begins
+abbrev pub rejects_as_promised : {V : Type 0} → Promise V → RejectsAt
+rejects_as_promised promise = rejects_if_known promise.known promise.format.begins
 
 -- A call that reads one value, as its type promises.
 pub record Deserializes {V E : Type 0} (promise : Promise V) (old new : View)
@@ -152,8 +152,9 @@ pub record Deserializes {V E : Type 0} (promise : Promise V) (old new : View)
 -- ---- laws
 
 -- a reading alone, of whose errors nothing is said
-abbrev pub reading : {V : Type 0} → Reads V → (V → V → Type 0) → (never_empty : Bool) → Format V
-reading reads same never_empty = record {
+abbrev pub reading_format : {V : Type 0} → Reads V → (V → V → Type 0) → (never_empty : Bool)
+    → Format V
+reading_format reads same never_empty = record {
   reads = reads;
   same = same;
   rejects = unsaid_rejects;
@@ -166,12 +167,13 @@ reading reads same never_empty = record {
 
 -- One input is read in one way, what is read stands in the input, and where no reading is empty a
 -- byte is read.
-abbrev pub Lawful : {V : Type 0} → Reads V → (V → V → Type 0) → (never_empty : Bool) → Type 0
-Lawful reads same never_empty = IsLawful (reading reads same never_empty)
+abbrev pub IsLawfulReading : {V : Type 0} → Reads V → (V → V → Type 0) → (never_empty : Bool)
+    → Type 0
+IsLawfulReading reads same never_empty = IsLawful (reading_format reads same never_empty)
 
 -- a format that says nothing else of what is read has these laws too
 pub laws_of : {V : Type 0} {format : Format V} → IsLawful format
-    → Lawful format.reads format.same format.never_empty
+    → IsLawfulReading format.reads format.same format.never_empty
 laws_of h = record {
   one = h.one;
   within = h.within;
@@ -180,7 +182,7 @@ laws_of h = record {
 }
 
 pub typed_laws : {V : Type 0} (promise : Promise V) → IsTrue promise.exact
-    → Lawful promise.format.reads promise.format.same true
+    → IsLawfulReading promise.format.reads promise.format.same true
 typed_laws promise is =
     let h = promise.lawful is in
     record {
@@ -192,7 +194,7 @@ typed_laws promise is =
 
 -- a type that has these laws
 pub lawful_as : {V : Type 0} {reads : Reads V} {same : V → V → Type 0}
-    {rejects begins : RejectsAt} {owned takes_memory : Bool} → Lawful reads same true
+    {rejects begins : RejectsAt} {owned takes_memory : Bool} → IsLawfulReading reads same true
     → IsLawful (format_of reads same rejects begins owned takes_memory)
 lawful_as h = record {
   one = h.one;
@@ -203,6 +205,6 @@ lawful_as h = record {
 
 -- an exact type that has these laws
 abbrev pub typed_by : {V : Type 0} {reads : Reads V} {same : V → V → Type 0} → RejectsAt
-    → (owned takes_memory : Bool) → Lawful reads same true → Promise V
-typed_by {reads = reads} {same = same} rejects owned takes_memory laws = exactly
+    → (owned takes_memory : Bool) → IsLawfulReading reads same true → Promise V
+typed_by {reads = reads} {same = same} rejects owned takes_memory laws = exact_promise
     {format = typed_format reads same rejects owned takes_memory} refl (lawful_as laws)

@@ -9,17 +9,18 @@ use Rattle.cbor4ii_items.specs.Laws.Containers.{both, boxed_format, boxed_lawful
 use Rattle.cbor4ii_items.specs.Laws.Containers.{option_format, option_lawful}
 use Rattle.cbor4ii_items.specs.Laws.Sequences.{pair_lawful}
 use Rattle.cbor4ii_items.specs.Sequences.{in_list, in_vector, pair_format}
-use Rattle.cbor4ii.specs.Built.{map_of, map_of_lawful}
+use Rattle.cbor4ii.specs.Built.{built_map, map_of_lawful}
 use Rattle.cbor4ii.specs.Sequence.{four_small, five_small, sequence_of, sequence_of_lawful}
 use Rattle.cbor4ii.specs.Stepped.{stepped_format, stepped_lawful}
 use Rattle.cbor4ii.specs.Tuples.{after_format, after_lawful, triple_format, triple_lawful}
-use Rattle.cbor4ii.specs.Typed.{Promise, format_of, typed_laws, lawful_as, said_by}
+use Rattle.cbor4ii.specs.Typed.{Promise, format_of, typed_laws, lawful_as, rejects_as_promised}
 
 -- ---- a part
 
 -- a part as containers read it: where it does not report its errors, nothing is said of them
 abbrev pub part_of : {V : Type 0} → Promise V → Format V
-part_of p = format_of p.format.reads p.format.same p.format.rejects (said_by p) p.format.owned
+part_of p = format_of p.format.reads p.format.same p.format.rejects (rejects_as_promised p)
+    p.format.owned
     p.format.takes_memory
 
 pub part_lawful : {V : Type 0} (p : Promise V) → IsTrue p.exact → IsLawful (part_of p)
@@ -111,6 +112,6 @@ abbrev pub typed_map : {K V M : Type 0} → (M → List (K × V)) → (K → K �
     → Promise V → Promise M
 typed_map entries cmp k v =
     let pairs = sequence_of in_list (codes "map") (codes "map") 5 (two_of k v) in
-    container (k.exact && v.exact) (map_of entries cmp pairs) refl
+    container (k.exact && v.exact) (built_map entries cmp pairs) refl
     (λ is. map_of_lawful entries cmp pairs (sequence_of_lawful in_list (codes "map") (codes "map") 5
     five_small (two_of k v) (two_lawful k v is)))

@@ -1,4 +1,4 @@
--- Variants: a name alone, or a map of one entry, from the name to the content.
+-- Variants: a name alone, or a map of one pair, from the name to the content.
 use Rattle.std.specs.Prelude.{◌≡◌, ◌≢◌, ◌⊎◌, ℕ, ◌+◌, ◌/◌, Bool, true, false, List, [], ◌∷◌, take}
 use Rattle.std.specs.Prelude.{drop, Some, Result, IsErrAnd, codes}
 use Rattle.std.specs.Borrow.{MutBor}
@@ -38,7 +38,7 @@ form_of accessor = (accessor.content, accessor.found)
 abbrev pub with_content : {S E : Type 0} → EnumAccessor S E → Deserializer S → EnumAccessor S E
 with_content accessor last = record accessor { de = record accessor.de { now = last } }
 
--- the head of a map of one entry is taken, and that of a text stays (RFC 8949 section 3.1)
+-- the head of a map of one pair is taken, and that of a text stays (RFC 8949 section 3.1)
 abbrev pub IsForm : Bool → ℕ → ℕ → Type 0
 IsForm true first n = (first ≡ 0xa1) × (n ≡ 1)
 IsForm false first n = (first / 32 ≡ 3) × (n ≡ 0)
@@ -53,7 +53,7 @@ RejectsForm [] budget err rest = (err ≡ eof (codes "enum") (Small 1)) × (rest
 RejectsForm (b ∷ bs) budget err rest =
     (b ≢ 0xa1) × (b / 32 ≢ 3) × (err ≡ mismatch (codes "enum") b) × (rest ≡ b ∷ bs)
 
--- which form a variant has: its name alone, or a map of one entry
+-- which form a variant has: its name alone, or a map of one pair
 abbrev pub form_format : Format (Bool × ℕ)
 form_format = looking_format ReadsForm RejectsForm
 
@@ -89,9 +89,9 @@ RejectsContent form rejects xs budget err rest = elim form.0 [
 abbrev pub ReadsUnitVariant : {V : Type 0} → (List ℕ → V → Type 0) → Reads V
 ReadsUnitVariant units xs v n c = (name : List ℕ) × ReadsText xs name n c × units name v
 
--- another variant: the head of a map of one entry, its name as a text, and its content
-abbrev pub ReadsEntryVariant : {V : Type 0} → (List ℕ → Reads V) → Reads V
-ReadsEntryVariant contents xs v n c =
+-- another variant: the head of a map of one pair, its name as a text, and its content
+abbrev pub ReadsPairVariant : {V : Type 0} → (List ℕ → Reads V) → Reads V
+ReadsPairVariant contents xs v n c =
     (take 1 xs ≡ 0xa1 ∷ []) × (name : List ℕ) × (k : ℕ)
     × ReadsPair ReadsText (contents name) (drop 1 xs) (name, v) k c × (n ≡ 1 + k)
 
@@ -99,4 +99,4 @@ ReadsEntryVariant contents xs v n c =
 -- of its name and its content.
 abbrev pub ReadsVariant : {V : Type 0} → (List ℕ → V → Type 0) → (List ℕ → Reads V) → Reads V
 ReadsVariant units contents =
-    Stepped (λ xs v n c. ReadsUnitVariant units xs v n c ⊎ ReadsEntryVariant contents xs v n c)
+    Stepped (λ xs v n c. ReadsUnitVariant units xs v n c ⊎ ReadsPairVariant contents xs v n c)

@@ -4,7 +4,7 @@ pub mod de;
 pub mod described;
 pub mod laws;
 
-pub use cbor4ii_rw::error::WholeError;
+pub use cbor4ii_rw::error::{ErrorAt, WholeError};
 pub use cbor4ii_rw::input::Input;
 pub use cbor4ii_ser::bounded::BoundedCollect;
 pub use cbor4ii_ser::collect::Collect;
@@ -26,7 +26,7 @@ pub use de::elements::{DeserializeElements, TypedElements};
 pub use de::enum_accessor::EnumAccessor;
 pub use de::error::DecodeError;
 pub use de::fields::{Places, Values};
-pub use de::first::{from_reader, from_slice, from_slice_whole};
+pub use de::first::{from_reader, from_slice, from_slice_at, from_slice_whole};
 pub use de::keyed_fields::KeyedValues;
 pub use de::place::{Place, Single};
 pub use de::presence::{Once, Optional, Or, Presence, Presences, Required};

@@ -1,9 +1,9 @@
 //! Blocks of a store that names each by its bytes: a block is read canonically, looked into, and
 //! written again. Some are not canonical and are rejected.
-use crate::digest::Digest;
-use crate::fault::Fault;
-use crate::noise::Noise;
 use crate::shapes;
+use cbor4ii_bench_kit::digest::Digest;
+use cbor4ii_bench_kit::fault::Fault;
+use cbor4ii_bench_kit::noise::Noise;
 use cbor4ii_items::decode::Decode;
 use cbor4ii_items::encode::Encode;
 use cbor4ii_items::types::{Array, Bytes, Tag};

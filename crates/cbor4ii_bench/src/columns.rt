@@ -1,9 +1,9 @@
 //! Columns of a table as typed values: integers, floats, pairs and an ordered map.
-use crate::digest::Digest;
-use crate::fault::Fault;
-use crate::noise::Noise;
 use crate::shapes;
 use cbor4ii::serde::{Deserialize, Serialize, from_slice, to_vec};
+use cbor4ii_bench_kit::digest::Digest;
+use cbor4ii_bench_kit::fault::Fault;
+use cbor4ii_bench_kit::noise::Noise;
 use cbor4ii_items::encode::Encode;
 use cbor4ii_items::types::{Array, F64, Map};
 use cbor4ii_rw::buf_writer::BufWriter;

@@ -1,9 +1,9 @@
 //! Records of a log that come from a stream, each written again in its canonical encoding.
-use crate::digest::Digest;
-use crate::fault::Fault;
-use crate::noise::Noise;
 use crate::shapes;
-use crate::sink::Sink;
+use cbor4ii_bench_kit::digest::Digest;
+use cbor4ii_bench_kit::fault::Fault;
+use cbor4ii_bench_kit::noise::Noise;
+use cbor4ii_bench_kit::sink::Sink;
 use cbor4ii_items::decode::Decode;
 use cbor4ii_items::encode::Encode;
 use cbor4ii_rw::ask::look;

@@ -1,10 +1,10 @@
 //! Items of awkward shapes: of indefinite length, in chunks, with heads longer than needed, deep in
 //! one another. Each is skipped where it stands, kept as its bytes, and read out of a stream.
-use crate::digest::Digest;
-use crate::fault::Fault;
 use crate::ingest::rewrite;
-use crate::noise::Noise;
 use crate::shapes;
+use cbor4ii_bench_kit::digest::Digest;
+use cbor4ii_bench_kit::fault::Fault;
+use cbor4ii_bench_kit::noise::Noise;
 use cbor4ii_items::decode::Decode;
 use cbor4ii_items::encode::Encode;
 use cbor4ii_items::types::{Array, Map, Nothing, Tag, UncheckedStr};

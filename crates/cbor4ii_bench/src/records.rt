@@ -1,15 +1,18 @@
 //! Records of a log as values of a type of their own, read and written one by one.
-ghost use Rattle.std.specs.Prelude.{◌∷◌, [], codes};
-ghost use Rattle.cbor4ii_ser.specs.Item.{field, struct_encoding};
+ghost use Rattle.std.specs.Prelude.{◌≡◌, None, codes};
+ghost use Rattle.std.proofs.Common.{refl};
+ghost use Rattle.cbor4ii.specs.CodecAgrees.{as_described};
+ghost use Rattle.cbor4ii.specs.CodecFields.{struct_codec, with_field, with_field_or, no_fields};
+ghost use Rattle.cbor4ii.specs.Fields.{no_values};
 
-use crate::digest::Digest;
-use crate::fault::Fault;
-use crate::noise::Noise;
 use crate::shapes;
 use cbor4ii::serde::{
-    DecodeError, Deserialize, Deserializer, EncodeError, Serialize, Serializer, Typed, from_slice,
-    to_vec,
+    AsDescribed, DecodeError, Described, Deserialize, Deserializer, EncodeError, Or, Required,
+    Serialize, Serializer, Typed, from_slice, to_vec,
 };
+use cbor4ii_bench_kit::digest::Digest;
+use cbor4ii_bench_kit::fault::Fault;
+use cbor4ii_bench_kit::noise::Noise;
 use cbor4ii_rw::buf_writer::BufWriter;
 use cbor4ii_rw::read::Source;
 use cbor4ii_rw::write::Write;
@@ -17,17 +20,6 @@ use std::alloc::Global;
 
 /// So many records are in a round.
 const RECORDS: u64 = 200;
-
-/// A record of a log.
-#[derive(Debug, Drop)]
-struct Record {
-    ts: u64,
-    msg: String,
-    ok: bool,
-    tags: Vec<String>,
-    ctx: Context,
-    parent: Option<u64>,
-}
 
 /// Where a record comes from.
 #[derive(Debug, Drop)]
@@ -40,12 +32,7 @@ struct Context {
 }
 
 impl Serialize for Context {
-    ghost encoding = { λ c. struct_encoding
-        (field (codes "user") (⟦<String as Serialize>⟧.encoding c.user)
-        ∷ field (codes "path") (⟦<String as Serialize>⟧.encoding c.path)
-        ∷ field (codes "status") (⟦<u16 as Serialize>⟧.encoding c.status)
-        ∷ field (codes "args") (⟦<Vec<i64> as Serialize>⟧.encoding c.args)
-        ∷ field (codes "admin") (⟦<bool as Serialize>⟧.encoding c.admin) ∷ []) };
+    ghost encoding = { ⟦<Context as Described>⟧.codec.encoding };
 
     fn serialize<W: Write>(&self, ser: &mut Serializer<W>) -> Result<(), EncodeError<W::Error>> {
         ser.serialize_5_fields(
@@ -64,13 +51,76 @@ impl Serialize for Context {
     }
 }
 
+impl<S: Source> Deserialize<S> for Context {
+    fn deserialize(
+        alloc: Global,
+        de: &mut Deserializer<S>,
+    ) -> Result<Context, DecodeError<S::Error>> {
+        let names = ["user", "path", "status", "args", "admin"];
+        let missing = [
+            "a context has no user",
+            "a context has no path",
+            "a context has no status",
+            "a context has no args",
+            "a context has no admin",
+        ];
+        let presences = (Required, (Required, (Required, (Required, (Required, ())))));
+        de.deserialize_fields(alloc, "Context", &names, &missing, presences)
+    }
+}
+
+impl From<(String, (String, (u16, (Vec<i64>, (bool, ())))))> for Context {
+    ghost from_gives = { λ values c. values ≡ (
+      c.user,
+      (c.path, (c.status, (c.args, (c.admin, no_values)))),
+    ) };
+
+    fn from(values: (String, (String, (u16, (Vec<i64>, (bool, ())))))) -> Context {
+        let (user, (path, (status, (args, (admin, ()))))) = values;
+        Context {
+            user,
+            path,
+            status,
+            args,
+            admin,
+        }
+    }
+}
+
+impl Typed for Context {
+    ghost promise = { ⟦<Context as Described>⟧.codec.promise };
+}
+
+impl Described for Context {
+    ghost codec = { struct_codec (λ c. (
+      c.user,
+      (c.path, (c.status, (c.args, (c.admin, no_values)))),
+    ))
+        (with_field (codes "user") (codes "a context has no user") ⟦<String as Described>⟧.codec
+        (with_field (codes "path") (codes "a context has no path") ⟦<String as Described>⟧.codec
+        (with_field (codes "status") (codes "a context has no status") ⟦<u16 as Described>⟧.codec
+        (with_field (codes "args") (codes "a context has no args") ⟦<Vec<i64> as Described>⟧.codec
+        (with_field (codes "admin") (codes "a context has no admin") ⟦<bool as Described>⟧.codec
+        no_fields refl) refl) refl) refl) refl) refl };
+}
+
+impl AsDescribed for Context {
+    ghost agrees = { as_described tt };
+}
+
+/// A record of a log.
+#[derive(Debug, Drop)]
+struct Record {
+    ts: u64,
+    msg: String,
+    ok: bool,
+    tags: Vec<String>,
+    ctx: Context,
+    parent: Option<u64>,
+}
+
 impl Serialize for Record {
-    ghost encoding = { λ r. struct_encoding (field (codes "ts") (⟦<u64 as Serialize>⟧.encoding r.ts)
-        ∷ field (codes "msg") (⟦<String as Serialize>⟧.encoding r.msg)
-        ∷ field (codes "ok") (⟦<bool as Serialize>⟧.encoding r.ok)
-        ∷ field (codes "tags") (⟦<Vec<String> as Serialize>⟧.encoding r.tags)
-        ∷ field (codes "ctx") (⟦<Context as Serialize>⟧.encoding r.ctx)
-        ∷ field (codes "parent") (⟦<Option<u64> as Serialize>⟧.encoding r.parent) ∷ []) };
+    ghost encoding = { ⟦<Record as Described>⟧.codec.encoding };
 
     fn serialize<W: Write>(&self, ser: &mut Serializer<W>) -> Result<(), EncodeError<W::Error>> {
         ser.serialize_6_fields(
@@ -91,51 +141,71 @@ impl Serialize for Record {
     }
 }
 
-impl Typed for Context {}
-
-impl Typed for Record {}
-
-impl<S: Source> Deserialize<S> for Context {
-    fn deserialize(
-        alloc: Global,
-        de: &mut Deserializer<S>,
-    ) -> Result<Context, DecodeError<S::Error>> {
-        match de.deserialize_5_fields(alloc, "Context", "user", "path", "status", "args", "admin") {
-            Ok((user, path, status, args, admin)) => match (user, path, status, args, admin) {
-                (Some(user), Some(path), Some(status), Some(args), Some(admin)) => Ok(Context {
-                    user,
-                    path,
-                    status,
-                    args,
-                    admin,
-                }),
-                _ => Err(DecodeError::Custom("a field is missing")),
-            },
-            Err(error) => Err(error),
-        }
-    }
-}
-
 impl<S: Source> Deserialize<S> for Record {
     fn deserialize(
         alloc: Global,
         de: &mut Deserializer<S>,
     ) -> Result<Record, DecodeError<S::Error>> {
-        match de.deserialize_6_fields(alloc, "Record", "ts", "msg", "ok", "tags", "ctx", "parent") {
-            Ok((ts, msg, ok, tags, ctx, parent)) => match (ts, msg, ok, tags, ctx) {
-                (Some(ts), Some(msg), Some(ok), Some(tags), Some(ctx)) => Ok(Record {
-                    ts,
-                    msg,
-                    ok,
-                    tags,
-                    ctx,
-                    parent: parent.unwrap_or(None),
-                }),
-                _ => Err(DecodeError::Custom("a field is missing")),
-            },
-            Err(error) => Err(error),
+        let names = ["ts", "msg", "ok", "tags", "ctx", "parent"];
+        let missing = [
+            "a record has no ts",
+            "a record has no msg",
+            "a record has no ok",
+            "a record has no tags",
+            "a record has no ctx",
+        ];
+        let presences = (
+            Required,
+            (Required, (Required, (Required, (Required, (Or(None), ()))))),
+        );
+        de.deserialize_fields(alloc, "Record", &names, &missing, presences)
+    }
+}
+
+type RecordValues = (
+    u64,
+    (String, (bool, (Vec<String>, (Context, (Option<u64>, ()))))),
+);
+
+impl From<RecordValues> for Record {
+    ghost from_gives = { λ values r. values ≡ (
+      r.ts,
+      (r.msg, (r.ok, (r.tags, (r.ctx, (r.parent, no_values))))),
+    ) };
+
+    fn from(values: RecordValues) -> Record {
+        let (ts, (msg, (ok, (tags, (ctx, (parent, ())))))) = values;
+        Record {
+            ts,
+            msg,
+            ok,
+            tags,
+            ctx,
+            parent,
         }
     }
+}
+
+impl Typed for Record {
+    ghost promise = { ⟦<Record as Described>⟧.codec.promise };
+}
+
+impl Described for Record {
+    ghost codec = { struct_codec (λ r. (
+      r.ts,
+      (r.msg, (r.ok, (r.tags, (r.ctx, (r.parent, no_values))))),
+    ))
+        (with_field (codes "ts") (codes "a record has no ts") ⟦<u64 as Described>⟧.codec
+        (with_field (codes "msg") (codes "a record has no msg") ⟦<String as Described>⟧.codec
+        (with_field (codes "ok") (codes "a record has no ok") ⟦<bool as Described>⟧.codec
+        (with_field (codes "tags") (codes "a record has no tags") ⟦<Vec<String> as Described>⟧.codec
+        (with_field (codes "ctx") (codes "a record has no ctx") ⟦<Context as Described>⟧.codec
+        (with_field_or (codes "parent") None ⟦<Option<u64> as Described>⟧.codec
+        no_fields refl) refl) refl) refl) refl) refl) refl };
+}
+
+impl AsDescribed for Record {
+    ghost agrees = { as_described tt };
 }
 
 /// One round of records.

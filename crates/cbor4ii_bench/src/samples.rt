@@ -1,9 +1,9 @@
 //! Samples of sensors that come from a stream, each written again in its canonical encoding.
-use crate::digest::Digest;
-use crate::fault::Fault;
 use crate::ingest::rewrite;
-use crate::noise::Noise;
 use crate::shapes;
+use cbor4ii_bench_kit::digest::Digest;
+use cbor4ii_bench_kit::fault::Fault;
+use cbor4ii_bench_kit::noise::Noise;
 use cbor4ii_rw::buf_writer::BufWriter;
 use std::alloc::Global;
 

@@ -1,6 +1,6 @@
 //! Items of the shapes that jobs read, written by the encoders of `cbor4ii_items`.
-use crate::fault::Fault;
-use crate::noise::Noise;
+use cbor4ii_bench_kit::fault::Fault;
+use cbor4ii_bench_kit::noise::Noise;
 use cbor4ii_items::encode::Encode;
 use cbor4ii_items::types::{Array, F16, F32, F64, Map, Null, UncheckedStr};
 use cbor4ii_rw::buf_writer::BufWriter;

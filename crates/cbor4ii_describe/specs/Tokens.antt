@@ -5,13 +5,13 @@ use Rattle.cbor4ii_describe.specs.declared.tokens.Token.{Token}
 use Rattle.cbor4ii_describe.specs.declared.tokens.Cutting.{Cutting}
 
 -- the bytes of a token
-abbrev pub bytes_of : Token → List ℕ
-bytes_of token = string_bytes token.text
+abbrev pub token_bytes : Token → List ℕ
+token_bytes token = string_bytes token.text
 
 -- their texts behind one another
-abbrev pub joined : List Token → List ℕ
-joined tokens = flat_map bytes_of tokens
+abbrev pub tokens_bytes : List Token → List ℕ
+tokens_bytes tokens = flat_map token_bytes tokens
 
 -- what was taken: the tokens before the one in work, and that one
-abbrev pub text_of : Cutting → List ℕ
-text_of cut = joined cut.done.items ++ bytes_of cut.now
+abbrev pub taken_text_of : Cutting → List ℕ
+taken_text_of cut = tokens_bytes cut.done.items ++ token_bytes cut.now

@@ -1,6 +1,6 @@
 //! A text of Rust, cut into tokens.
 ghost use Rattle.std.specs.Prelude.{◌≡◌, ◌++◌, OnOk, IfOk, encode_utf8};
-ghost use Rattle.cbor4ii_describe.specs.Tokens.{text_of, joined};
+ghost use Rattle.cbor4ii_describe.specs.Tokens.{taken_text_of, tokens_bytes};
 
 use crate::fault::Fault;
 use std::alloc::{AllocError, Global};
@@ -74,7 +74,7 @@ struct Cutting {
 
 // Takes one more character.
 fn take(alloc: Global, cut: &mut Cutting, c: char) -> Result<(), Fault>
-    ensures { OnOk result (text_of cut.new ≡ text_of cut.old ++ encode_utf8 c) }
+    ensures { OnOk result (taken_text_of cut.new ≡ taken_text_of cut.old ++ encode_utf8 c) }
 {
     match joined(cut.now.kind, c) {
         Some(kind) => {
@@ -102,7 +102,7 @@ fn take(alloc: Global, cut: &mut Cutting, c: char) -> Result<(), Fault>
 /// The tokens of a text, white space and comments among them, behind an empty one. Their texts
 /// behind one another are the text.
 pub fn cut(alloc: Global, text: &str) -> Result<Vec<Token>, Fault>
-    ensures { IfOk result (λ tokens. joined tokens.items ≡ text.now) }
+    ensures { IfOk result (λ tokens. tokens_bytes tokens.items ≡ text.now) }
 {
     let mut cut = Cutting {
         done: Vec::new(alloc),

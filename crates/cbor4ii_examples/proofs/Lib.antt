@@ -4,8 +4,7 @@ pub mod Stations
 -- What is sealed, and that it is opened.
 pub mod Sealing
 pub mod Sealed
--- Where the reading of settings stops, and what a store rejects.
-pub mod Rejection
+-- What a store rejects.
 pub mod Stored
 -- What a reader over a line shows.
 pub mod LineShown
@@ -19,5 +18,5 @@ pub mod StableSort
 pub mod Sorting
 pub mod SortedValues
 pub mod SameOrder
--- An item, or the end of a sequence.
-pub mod ItemOrEnd
+-- The next value of a sequence: an item that is cut.
+pub mod CutSequence

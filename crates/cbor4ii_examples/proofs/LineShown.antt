@@ -5,7 +5,7 @@ use Rattle.std.specs.Prelude.{MatchOption, MatchResult}
 use Rattle.std.specs.Borrow.{Bor}
 use Rattle.cbor4ii_rw.specs.View.{IfKnown}
 use Rattle.cbor4ii_rw.specs.Reader.{IsPrefix, IsEnough, Shows, ReaderFails}
-use Rattle.cbor4ii_examples.specs.Line.{line_view, ready_bytes}
+use Rattle.cbor4ii_examples.specs.Line.{line_view, line_ready_bytes}
 use Rattle.cbor4ii_examples.specs.declared.line.Waiting.{Waiting}
 
 module _ {L E : Type 0} (want : ℕ) (before : Waiting L) where
@@ -26,7 +26,7 @@ module _ {L E : Type 0} (want : ℕ) (before : Waiting L) where
   -- what waiting for bytes leaves
   abbrev pub Waits : Waiting L → Option E → Type 0
   Waits waited failure = MatchOption failure
-      (Shows (ready_bytes waited.ready) (line_view before) (line_view waited))
+      (Shows (line_ready_bytes waited.ready) (line_view before) (line_view waited))
       (λ _. ReaderFails (line_view before) (line_view waited))
 
 -- a failure, or else the bytes
@@ -46,8 +46,8 @@ known_of_none is = absurd (search (is, rules))
 
 -- no more bytes are shown than can still come
 fit : {L : Type 0} (want : ℕ) (before waited : Waiting L) (bytes : Bor (List ℕ))
-    → Shows (ready_bytes waited.ready) (line_view before) (line_view waited)
-    → bytes.now ≡ ready_bytes waited.ready → length bytes.now ≤ (line_view before).bound
+    → Shows (line_ready_bytes waited.ready) (line_view before) (line_view waited)
+    → bytes.now ≡ line_ready_bytes waited.ready → length bytes.now ≤ (line_view before).bound
 fit want before waited bytes shows ready =
     let same : waited.ready.taken ≡ before.ready.taken = search (shows.taken, rules) in
     let short : length bytes.now ≤ waited.ready.count =
@@ -56,7 +56,7 @@ fit want before waited bytes shows ready =
 
 pub answered : {L E : Type 0} (want : ℕ) (before waited after : Waiting L) (failure : Option E)
     (bytes : Bor (List ℕ)) (r : Result (Bor (List ℕ)) E) → Waits want before waited failure
-    → bytes.now ≡ ready_bytes waited.ready → line_view after ≡ line_view waited
+    → bytes.now ≡ line_ready_bytes waited.ready → line_view after ≡ line_view waited
     → HandsOn failure bytes r → Answers want before after r
 answered want before waited after None bytes r waits ready kept told =
     subst (Answers want before after) (sym told) (record {

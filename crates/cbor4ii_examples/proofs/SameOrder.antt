@@ -1,28 +1,30 @@
 -- To be equal up to the order of pairs is an equivalence.
 use Rattle.std.proofs.Common.{◌≡◌, ℕ, zero, suc, refl, sym, ap, ◌∙◌, subst}
-use Rattle.cbor4ii_tree.specs.Item.{Item, sequence, mapping, tag, Items, no_items, item, Members}
-use Rattle.cbor4ii_tree.specs.Item.{no_members, member, null, boolean, integer, float, bytes_item}
-use Rattle.cbor4ii_tree.specs.Item.{text}
+use Rattle.cbor4ii_tree.specs.Basis.Item.{Item, sequence, mapping, tag, Items, no_items, item}
+use Rattle.cbor4ii_tree.specs.Basis.Item.{ItemPairs}
+use Rattle.cbor4ii_tree.specs.Basis.Item.{no_item_pairs, item_pair, null, boolean, integer, float}
+use Rattle.cbor4ii_tree.specs.Basis.Item.{bytes_item}
+use Rattle.cbor4ii_tree.specs.Basis.Item.{text}
 use Rattle.cbor4ii_examples.specs.Sorted.{with_pair_at, SameUpToOrder, SameItems, SamePairs}
 use Rattle.cbor4ii_examples.proofs.SortedValues.{same_as_itself, items_as_themselves}
 
 -- two pairs that were put in are put in in the other order
-exchange : (i : ℕ) (k v : Item) (j : ℕ) (l w : Item) (ms : Members)
+exchange : (i : ℕ) (k v : Item) (j : ℕ) (l w : Item) (ms : ItemPairs)
     → (s : ℕ) × (t : ℕ) × (with_pair_at i k v (with_pair_at j l w ms)
     ≡ with_pair_at s l w (with_pair_at t k v ms))
 exchange zero k v j l w ms = (suc j, zero, refl)
 exchange (suc i) k v zero l w ms = (zero, i, refl)
-exchange (suc i) k v (suc j) l w no_members = (zero, i, refl)
-exchange (suc i) k v (suc j) l w (member m x ms) =
-    let more = exchange i k v j l w ms in (suc more.0, suc more.1, ap (member m x) more.2)
+exchange (suc i) k v (suc j) l w no_item_pairs = (zero, i, refl)
+exchange (suc i) k v (suc j) l w (item_pair m x ms) =
+    let more = exchange i k v j l w ms in (suc more.0, suc more.1, ap (item_pair m x) more.2)
 
 -- two pairs that are the same, put in anywhere
-put_both : (i : ℕ) (k v : Item) (ms : Members) (j : ℕ) (l w : Item) (ns : Members)
+put_both : (i : ℕ) (k v : Item) (ms : ItemPairs) (j : ℕ) (l w : Item) (ns : ItemPairs)
     → SameUpToOrder k l → SameUpToOrder v w → SamePairs ms ns
     → SamePairs (with_pair_at i k v ms) (with_pair_at j l w ns)
 put_both zero k v ms j l w ns key value more = (j, l, w, ns, refl, key, value, more)
-put_both (suc i) k v no_members j l w ns key value more = (j, l, w, ns, refl, key, value, more)
-put_both (suc i) k v (member m x ms) j l w ns key value s =
+put_both (suc i) k v no_item_pairs j l w ns key value more = (j, l, w, ns, refl, key, value, more)
+put_both (suc i) k v (item_pair m x ms) j l w ns key value s =
     let other = exchange j l w s.0 s.1 s.2 s.3 in (
       other.0,
       s.1,
@@ -45,19 +47,20 @@ mutual
   items_back (item v vs) (item w ws) s = (same_back v w s.0, items_back vs ws s.1)
   items_back vs ws s = subst (λ (is : Items). SameItems is vs) s (items_as_themselves vs)
 
-  pairs_back : (ms ns : Members) → SamePairs ms ns → SamePairs ns ms
-  pairs_back no_members ns s = subst (λ (os : Members). SamePairs os no_members) s refl
-  pairs_back (member k v ms) ns s =
-      subst (λ (os : Members). SamePairs os (member k v ms)) s.4 (put_both s.0 s.1 s.2 s.3 zero k v
+  pairs_back : (ms ns : ItemPairs) → SamePairs ms ns → SamePairs ns ms
+  pairs_back no_item_pairs ns s = subst (λ (os : ItemPairs). SamePairs os no_item_pairs) s refl
+  pairs_back (item_pair k v ms) ns s =
+      subst (λ (os : ItemPairs). SamePairs os (item_pair k v ms)) s.4 (put_both s.0 s.1 s.2 s.3 zero
+      k v
       ms (same_back k s.1 s.5) (same_back v s.2 s.6) (pairs_back ms s.3 s.7))
 
 -- the pair that is the same as one that was put in, and the others
-take_out : (i : ℕ) (k v : Item) (ms ns : Members) → SamePairs (with_pair_at i k v ms) ns
-    → (j : ℕ) × (l : Item) × (w : Item) × (os : Members) × (with_pair_at j l w os ≡ ns)
+take_out : (i : ℕ) (k v : Item) (ms ns : ItemPairs) → SamePairs (with_pair_at i k v ms) ns
+    → (j : ℕ) × (l : Item) × (w : Item) × (os : ItemPairs) × (with_pair_at j l w os ≡ ns)
     × SameUpToOrder k l × SameUpToOrder v w × SamePairs ms os
 take_out zero k v ms ns s = s
-take_out (suc i) k v no_members ns s = s
-take_out (suc i) k v (member m x ms) ns s =
+take_out (suc i) k v no_item_pairs ns s = s
+take_out (suc i) k v (item_pair m x ms) ns s =
     let more = take_out i k v ms s.3 s.7 in
     let other = exchange s.0 s.1 s.2 more.0 more.1 more.2 more.3 in (
       other.0,
@@ -86,10 +89,11 @@ mutual
   items_on (item v vs) (item w ws) no_items s t = cc
   items_on vs ws xs s t = subst (λ (is : Items). SameItems is xs) (sym s) t
 
-  pairs_on : (ms ns os : Members) → SamePairs ms ns → SamePairs ns os → SamePairs ms os
-  pairs_on no_members ns os s t = subst (λ (is : Members). SamePairs is os) (sym s) t
-  pairs_on (member k v ms) ns os s t =
-      let out = take_out s.0 s.1 s.2 s.3 os (subst (λ (is : Members). SamePairs is os) (sym s.4) t)
+  pairs_on : (ms ns os : ItemPairs) → SamePairs ms ns → SamePairs ns os → SamePairs ms os
+  pairs_on no_item_pairs ns os s t = subst (λ (is : ItemPairs). SamePairs is os) (sym s) t
+  pairs_on (item_pair k v ms) ns os s t =
+      let out = take_out s.0 s.1 s.2 s.3 os (subst (λ (is : ItemPairs). SamePairs is os) (sym s.4)
+      t)
       in (
         out.0,
         out.1,

@@ -17,7 +17,7 @@ use Rattle.cbor4ii_items.specs.Laws.Arguments.{zero_small, argument_lawful}
 use Rattle.cbor4ii_items.specs.Laws.LeavesBack.{lent_back}
 use Rattle.cbor4ii_items.specs.Laws.NumbersBack.{argument_back}
 use Rattle.cbor4ii_items.specs.declared.types.Bytes.{Bytes}
-use Rattle.cbor4ii_tree.specs.PlainRaw.{plain_raw_content, ReadsPlainRaw}
+use Rattle.cbor4ii_tree.specs.Calls.PlainRaw.{plain_raw_content, ReadsPlainRaw}
 use Rattle.cbor4ii_tree.specs.Laws.Capturing.{plain_raw_alone, plain_raw_lawful}
 use Rattle.cbor4ii_tree.specs.declared.plain_raw.PlainRawValue.{PlainRawValue}
 use Rattle.cbor4ii_ser.specs.Item.{Encoding, encoded}
@@ -28,7 +28,7 @@ use Rattle.cbor4ii.specs.Codec.{Codec, leaf_codec, unsigned_is_one, AreFew, no_f
 use Rattle.cbor4ii.specs.CodecFields.{struct_codec, with_field_once, no_fields}
 use Rattle.cbor4ii.specs.Fields.{no_values}
 use Rattle.cbor4ii.specs.ReadBack.{IsReadBack}
-use Rattle.cbor4ii.specs.Typed.{Promise, exactly, not_exact}
+use Rattle.cbor4ii.specs.Typed.{Promise, exact_promise, not_exact}
 use Rattle.cbor4ii_examples.specs.Envelope.{Signatures, Sealed, IsOpened, envelope_encoding}
 use Rattle.cbor4ii_examples.specs.declared.envelope.Envelope.{Envelope}
 use Rattle.cbor4ii_examples.specs.declared.reply.Reply.{Reply}
@@ -59,7 +59,7 @@ module _ (payload : List ℕ) (plain : PlainRawValue) (cost : ℕ)
   -- this payload alone
   abbrev pub payload_codec : Codec PlainRawValue
   payload_codec = record {
-    promise = exactly refl plain_raw_lawful;
+    promise = exact_promise refl plain_raw_lawful;
     encoding = λ v. encoded (plain_raw_content v);
     stands = λ v. v ≡ plain;
     cost = λ v. cost;
@@ -72,7 +72,7 @@ module _ (payload : List ℕ) (plain : PlainRawValue) (cost : ℕ)
   }
 
   abbrev pub number_codec : Codec ℕ
-  number_codec = leaf_codec (exactly refl (argument_lawful (codes "u32") 0 4 zero_small))
+  number_codec = leaf_codec (exact_promise refl (argument_lawful (codes "u32") 0 4 zero_small))
       (λ v. encoded (shortest_head 0 v)) (λ v. v < 2 ^ 32) (argument_back 0 four)
       (unsigned_is_one (2 ^ 32) (lit≤ tt))
 

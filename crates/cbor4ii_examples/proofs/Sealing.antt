@@ -4,7 +4,7 @@ use Rattle.std.proofs.Common.{subst}
 use Rattle.std.proofs.Math.Seq.{take-length}
 use Rattle.std.specs.Prelude.{IfOk, MatchResult}
 use Rattle.cbor4ii_items.specs.Whole.{IsWhole}
-use Rattle.cbor4ii_tree.specs.PlainRaw.{plain_raw_content, plain_raw_format}
+use Rattle.cbor4ii_tree.specs.Calls.PlainRaw.{plain_raw_content, plain_raw_format}
 use Rattle.cbor4ii_tree.specs.declared.plain_raw.PlainRawValue.{PlainRawValue}
 use Rattle.cbor4ii_ser.specs.Item.{Encoding, encoded, rejected, IsEncodedAnd}
 use Rattle.cbor4ii_ser.specs.Item.{followed}

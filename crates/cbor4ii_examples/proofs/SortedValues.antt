@@ -11,22 +11,24 @@ use Rattle.std.specs.List.{AllAdjacentBelow, IsAllAdjacentAnswer}
 use Rattle.std.specs.List.Sorted.{IsSortedBy, IsStableBy}
 use Rattle.std.specs.Ordering.{is_lt, nat_cmp}
 use Rattle.std.specs.declared.cmp.Ordering.{Ordering}
-use Rattle.cbor4ii_tree.specs.Access.{HasMapWith, SomeHasMapWith, PairHasMapWith}
-use Rattle.cbor4ii_tree.specs.Item.{Item, sequence, mapping, tag, Items, no_items, item, Members}
-use Rattle.cbor4ii_tree.specs.Item.{no_members, member, null, boolean, integer, float, bytes_item}
-use Rattle.cbor4ii_tree.specs.Item.{text, member_count, size, size_all, size_members}
-use Rattle.cbor4ii_tree.specs.View.{view, items_view, members_view}
-use Rattle.cbor4ii_tree.specs.Canonical.{canonical_encoding}
+use Rattle.cbor4ii_tree.specs.Calls.Access.{HasMapWith, SomeHasMapWith, PairHasMapWith}
+use Rattle.cbor4ii_tree.specs.Basis.Item.{Item, sequence, mapping, tag, Items, no_items, item}
+use Rattle.cbor4ii_tree.specs.Basis.Item.{ItemPairs}
+use Rattle.cbor4ii_tree.specs.Basis.Item.{no_item_pairs, item_pair, null, boolean, integer, float}
+use Rattle.cbor4ii_tree.specs.Basis.Item.{bytes_item}
+use Rattle.cbor4ii_tree.specs.Basis.Item.{text, item_pair_count, size, size_all, size_pairs}
+use Rattle.cbor4ii_tree.specs.Basis.View.{view, items_view, pairs_view}
+use Rattle.cbor4ii_tree.specs.Basis.Canonical.{canonical_encoding}
 use Rattle.cbor4ii_tree.specs.declared.value.Value.{Value, Map, the_lemmas}
 use Rattle.cbor4ii_examples.specs.Sorted.{key_below, with_pair, in_order, sorted, sorted_items}
 use Rattle.cbor4ii_examples.specs.Sorted.{sorted_pairs, SameUpToOrder, SameItems, SamePairs}
 use Rattle.cbor4ii_examples.specs.Sorted.{EachMap, EachMapOfPairs, KeysAscend}
 use Rattle.cbor4ii_examples.proofs.{Sorting.key_order, StableSort.{put, put_all, stable_sort}}
 
-pub member_count-members_view : (ms : List (Value × Value))
-    → member_count (members_view ms) ≡ length ms
-member_count-members_view [] = refl
-member_count-members_view (m ∷ ms) = ap suc (member_count-members_view ms)
+pub pair_count-pairs_view : (ms : List (Value × Value))
+    → item_pair_count (pairs_view ms) ≡ length ms
+pair_count-pairs_view [] = refl
+pair_count-pairs_view (m ∷ ms) = ap suc (pair_count-pairs_view ms)
 
 -- ---- each part is smaller than the whole
 
@@ -38,7 +40,7 @@ size-at (v ∷ vs) (suc i) d lt = omega (arith, size-at vs i d (omega arith))
 
 pub sizes-at : (ms : List (Value × Value)) (i : ℕ) (d : Value × Value) → i < length ms
     → size (view (get_or ms i d).0) + size (view (get_or ms i d).1)
-    ≤ size_members (members_view ms)
+    ≤ size_pairs (pairs_view ms)
 sizes-at [] i d lt = absurd (omega arith)
 sizes-at (m ∷ ms) zero d lt = omega arith
 sizes-at (m ∷ ms) (suc i) d lt = omega (arith, sizes-at ms i d (omega arith))
@@ -54,9 +56,9 @@ items-push (x ∷ vs) [] v w h e = cc
 items-push (x ∷ vs) (y ∷ ws) v w h e = cc (items-push vs ws v w (cc) e)
 
 pairs-push : (ms ns : List (Value × Value)) (m n : Value × Value)
-    → members_view ms ≡ sorted_pairs (members_view ns) → view m.0 ≡ sorted (view n.0)
+    → pairs_view ms ≡ sorted_pairs (pairs_view ns) → view m.0 ≡ sorted (view n.0)
     → view m.1 ≡ sorted (view n.1)
-    → members_view (ms ++ m ∷ []) ≡ sorted_pairs (members_view (ns ++ n ∷ []))
+    → pairs_view (ms ++ m ∷ []) ≡ sorted_pairs (pairs_view (ns ++ n ∷ []))
 pairs-push [] [] m n h e f = cc
 pairs-push [] (x ∷ ns) m n h e f = cc
 pairs-push (x ∷ ms) [] m n h e f = cc
@@ -72,9 +74,9 @@ items_more xs zs i x y in_xs in_zs same h e =
 
 pub pairs_more : (xs zs : List (Value × Value)) (i : ℕ) (x y : Value × Value) → i < length xs
     → i < length zs → get_or xs i x ≡ get_or zs i x
-    → members_view (take i xs) ≡ sorted_pairs (members_view (take i zs))
+    → pairs_view (take i xs) ≡ sorted_pairs (pairs_view (take i zs))
     → view y.0 ≡ sorted (view (get_or xs i x).0) → view y.1 ≡ sorted (view (get_or xs i x).1)
-    → members_view (take (i + 1) (set xs i y)) ≡ sorted_pairs (members_view (take (i + 1) zs))
+    → pairs_view (take (i + 1) (set xs i y)) ≡ sorted_pairs (pairs_view (take (i + 1) zs))
 pairs_more xs zs i x y in_xs in_zs same h e f =
     rw (take_more_set xs i y in_xs, take_more zs i x in_zs) (pairs-push (take i xs) (take i zs) y
     (get_or zs i x) h (e ∙ ap (λ (m : Value × Value). sorted (view m.0)) same) (f ∙ ap
@@ -98,9 +100,9 @@ mutual
   items_as_themselves no_items = refl
   items_as_themselves (item v vs) = (same_as_itself v, items_as_themselves vs)
 
-  pairs_as_themselves : (ms : Members) → SamePairs ms ms
-  pairs_as_themselves no_members = refl
-  pairs_as_themselves (member k v ms) =
+  pairs_as_themselves : (ms : ItemPairs) → SamePairs ms ms
+  pairs_as_themselves no_item_pairs = refl
+  pairs_as_themselves (item_pair k v ms) =
       (zero, k, v, ms, refl, same_as_itself k, same_as_itself v, pairs_as_themselves ms)
 
 pub items_set : (zs xs : List Value) (i : ℕ) (d y : Value) → i < length zs
@@ -132,16 +134,16 @@ pairs_set (z ∷ zs) (x ∷ xs) (suc i) d y lt h e f =
     (h.0, h.1, pairs_set zs xs i d y (omega arith) h.2 e f)
 
 pub pairs_in_place : (ms ns : List (Value × Value)) → SameInPlace ms ns
-    → SamePairs (members_view ms) (members_view ns)
+    → SamePairs (pairs_view ms) (pairs_view ns)
 pairs_in_place [] [] h = refl
 pairs_in_place (m ∷ ms) (n ∷ ns) h =
-    (zero, view n.0, view n.1, members_view ns, refl, h.0, h.1, pairs_in_place ms ns h.2)
+    (zero, view n.0, view n.1, pairs_view ns, refl, h.0, h.1, pairs_in_place ms ns h.2)
 pairs_in_place [] (n ∷ ns) h = absurd h
 pairs_in_place (m ∷ ms) [] h = absurd h
 
 -- ---- what one of them has
 
-module _ (P : Members → Type 0) where
+module _ (P : ItemPairs → Type 0) where
   pub some_at : (vs : List Value) (i : ℕ) (d : Value) → i < length vs
       → HasMapWith P (view (get_or vs i d)) → SomeHasMapWith P (items_view vs)
   some_at [] i d lt h = absurd (omega arith)
@@ -150,7 +152,7 @@ module _ (P : Members → Type 0) where
 
   pub pair_at : (ms : List (Value × Value)) (i : ℕ) (d : Value × Value) → i < length ms
       → HasMapWith P (view (get_or ms i d).0) ⊎ HasMapWith P (view (get_or ms i d).1)
-      → PairHasMapWith P (members_view ms)
+      → PairHasMapWith P (pairs_view ms)
   pair_at [] i d lt h = absurd (omega arith)
   pair_at (m ∷ ms) zero d lt (inl h) = inl h
   pair_at (m ∷ ms) zero d lt (inr h) = inr (inl h)
@@ -168,29 +170,29 @@ pair_order = record {
   chain = λ l m n. key_order.chain (view l.0) (view m.0) (view n.0);
 }
 
-view_put : (m : Value × Value) (ms : List (Value × Value)) → members_view (put pair_below m ms)
-    ≡ with_pair (view m.0) (view m.1) (members_view ms)
+view_put : (m : Value × Value) (ms : List (Value × Value)) → pairs_view (put pair_below m ms)
+    ≡ with_pair (view m.0) (view m.1) (pairs_view ms)
 view_put m [] = refl
 view_put m (n ∷ ns) = by (pair_below n m) (view_put m ns)
   where
     by : (b : Bool)
-        → members_view (put pair_below m ns) ≡ with_pair (view m.0) (view m.1) (members_view ns)
-        → members_view (cond b (n ∷ put pair_below m ns) (m ∷ n ∷ ns))
-        ≡ cond b (member (view n.0) (view n.1) (with_pair (view m.0) (view m.1) (members_view ns)))
-        (member (view m.0) (view m.1) (members_view (n ∷ ns)))
-    by true e = ap (member (view n.0) (view n.1)) e
+        → pairs_view (put pair_below m ns) ≡ with_pair (view m.0) (view m.1) (pairs_view ns)
+        → pairs_view (cond b (n ∷ put pair_below m ns) (m ∷ n ∷ ns))
+        ≡ cond b (item_pair (view n.0) (view n.1) (with_pair (view m.0) (view m.1) (pairs_view ns)))
+        (item_pair (view m.0) (view m.1) (pairs_view (n ∷ ns)))
+    by true e = ap (item_pair (view n.0) (view n.1)) e
     by false e = refl
 
 view_put_all : (ms : List (Value × Value))
-    → members_view (put_all pair_below ms) ≡ in_order (members_view ms)
+    → pairs_view (put_all pair_below ms) ≡ in_order (pairs_view ms)
 view_put_all [] = refl
 view_put_all (m ∷ ms) =
     view_put m (put_all pair_below ms) ∙ ap (with_pair (view m.0) (view m.1)) (view_put_all ms)
 
 pub sorted_by_keys : (ms ns : List (Value × Value)) → IsSortedBy pair_below ns
-    → IsStableBy pair_below ms ns → members_view ns ≡ in_order (members_view ms)
+    → IsStableBy pair_below ms ns → pairs_view ns ≡ in_order (pairs_view ms)
 sorted_by_keys ms ns up stable =
-    ap members_view (stable_sort pair_below pair_order ms ns up stable) ∙ view_put_all ms
+    ap pairs_view (stable_sort pair_below pair_order ms ns up stable) ∙ view_put_all ms
 
 -- what a comparison of two keys answers
 pub answered : (r : Ordering) (m n : Value × Value) → r ≡ slice_cmp nat_cmp
@@ -200,7 +202,7 @@ answered r m n e = ap is_lt e
 -- ---- whether each key is below the next one
 
 ascend_from : (ms : List (Value × Value))
-    → AllAdjacentBelow (λ m n. true ≡ pair_below m n) ms (length ms) → KeysAscend (members_view ms)
+    → AllAdjacentBelow (λ m n. true ≡ pair_below m n) ms (length ms) → KeysAscend (pairs_view ms)
 ascend_from [] h = tt
 ascend_from (m ∷ []) h = (tt, tt)
 ascend_from (m ∷ n ∷ ms) h = (sym (h 0 m (omega arith)), ascend_from (n ∷ ms) next)
@@ -212,7 +214,7 @@ ascend_from (m ∷ n ∷ ms) h = (sym (h 0 m (omega arith)), ascend_from (n ∷ 
         (h (suc k) d (omega arith))
 
 ascend_to : (ms : List (Value × Value)) (k : ℕ) (d : Value × Value) → k + 1 < length ms
-    → KeysAscend (members_view ms) → pair_below (get_or ms k d) (get_or ms (k + 1) d) ≡ true
+    → KeysAscend (pairs_view ms) → pair_below (get_or ms k d) (get_or ms (k + 1) d) ≡ true
 ascend_to [] k d lt h = absurd (omega arith)
 ascend_to (m ∷ []) k d lt h = absurd (omega arith)
 ascend_to (m ∷ n ∷ ms) zero d lt h = h.0
@@ -223,7 +225,7 @@ ascend_to (m ∷ n ∷ ms) (suc k) d lt h =
 
 pub ascending : (r : Bool) (ms : List (Value × Value))
     → IsAllAdjacentAnswer (λ m n b. b ≡ pair_below m n) ms r
-    → IsTrue r ↔ KeysAscend (members_view ms)
+    → IsTrue r ↔ KeysAscend (pairs_view ms)
 ascending true ms h = (λ t. ascend_from ms h, λ u. refl)
 ascending false [] h = absurd (omega (arith, h.1))
 ascending false (m ∷ ms) h = (
@@ -233,14 +235,14 @@ ascending false (m ∷ ms) h = (
 
 -- ---- a map
 
-pub view-Map : (v : Vec (Value × Value) Global) → view (Map v) ≡ mapping (members_view v.items)
+pub view-Map : (v : Vec (Value × Value) Global) → view (Map v) ≡ mapping (pairs_view v.items)
 view-Map v = search (rules, the_lemmas)
 
 pub map_ascends : (x : Value) (v : Vec (Value × Value) Global) → x ≡ Map v
     → EachMap KeysAscend (view x)
-    ↔ (KeysAscend (members_view v.items) × EachMapOfPairs KeysAscend (members_view v.items))
+    ↔ (KeysAscend (pairs_view v.items) × EachMapOfPairs KeysAscend (pairs_view v.items))
 map_ascends x v is =
-    let whole : view x ≡ mapping (members_view v.items) = ap view is ∙ view-Map v in
+    let whole : view x ≡ mapping (pairs_view v.items) = ap view is ∙ view-Map v in
     (λ h. subst (EachMap KeysAscend) whole h, λ h. subst (EachMap KeysAscend) (sym whole) h)
 
 -- ---- memory

@@ -3,23 +3,24 @@ use Rattle.std.proofs.Common.{◌≡◌, ◌∙◌, ◌<◌, ◌+◌, ℕ, List,
 use Rattle.std.proofs.Common.{Option, None, Some, refl, sym, ap}
 use Rattle.std.specs.Prelude.{option_and_then}
 use Rattle.std.proofs.lemmas.List.{append_assoc, map-append}
-use Rattle.cbor4ii_tree.specs.View.{view, items_view, members_view}
+use Rattle.cbor4ii_tree.specs.Basis.View.{view, items_view, pairs_view}
 use Rattle.cbor4ii_tree.specs.declared.value.Value.{Value}
-use Rattle.cbor4ii.specs.Laws.Shown.{items_from, members_from}
-use Rattle.cbor4ii_examples.specs.Tree.{Node, Seen, members_at, children_at, with_member, node_at}
+use Rattle.cbor4ii.specs.Laws.Shown.{items_from, pairs_from}
+use Rattle.cbor4ii_examples.specs.Tree.{Node, NodeFields, node_pairs_at, children_at}
+use Rattle.cbor4ii_examples.specs.Tree.{with_node_pair, node_at}
 use Rattle.cbor4ii_examples.specs.Tree.{nodes_at}
 use Rattle.cbor4ii_examples.specs.Tree.{more_made, tree_node, tree_nodes}
 use Rattle.cbor4ii_examples.specs.declared.tree.Tree.{Tree}
 
--- a member more
-pub members-next : (ms : List (Value × Value)) (i : ℕ) (m : Value × Value) (s : Seen)
-    (o : Option Seen) → i < length ms → m ≡ get_or ms i m
-    → with_member s (view m.0) (view m.1) (children_at (view m.1)) ≡ o
-    → members_at (members_view (drop i ms)) s
-    ≡ option_and_then (members_at (members_view (drop (i + 1) ms))) o
-members-next ms i m s o lt is e =
-    ap (λ n. members_at n s) (members_from ms i m lt is)
-    ∙ ap (option_and_then (members_at (members_view (drop (i + 1) ms)))) e
+-- a item_pair more
+pub pairs-next : (ms : List (Value × Value)) (i : ℕ) (m : Value × Value) (s : NodeFields)
+    (o : Option NodeFields) → i < length ms → m ≡ get_or ms i m
+    → with_node_pair s (view m.0) (view m.1) (children_at (view m.1)) ≡ o
+    → node_pairs_at (pairs_view (drop i ms)) s
+    ≡ option_and_then (node_pairs_at (pairs_view (drop (i + 1) ms))) o
+pairs-next ms i m s o lt is e =
+    ap (λ n. node_pairs_at n s) (pairs_from ms i m lt is)
+    ∙ ap (option_and_then (node_pairs_at (pairs_view (drop (i + 1) ms)))) e
 
 -- nodes, and those after them
 abbrev pub after : List Node → Option (List Node) → Option (List Node)

@@ -4,7 +4,7 @@ use Rattle.std.specs.declared.string.ParseError.{Infallible}
 use Rattle.cbor4ii_items.specs.Numbers.{shortest_head}
 use Rattle.cbor4ii_items.specs.Strings.{definite_string}
 use Rattle.cbor4ii_items.specs.Whole.{IsWhole, DecodesWhole}
-use Rattle.cbor4ii_tree.specs.PlainRaw.{plain_raw_content, plain_raw_format}
+use Rattle.cbor4ii_tree.specs.Calls.PlainRaw.{plain_raw_content, plain_raw_format}
 use Rattle.cbor4ii_tree.specs.declared.plain_raw.PlainRawValue.{PlainRawValue}
 use Rattle.cbor4ii_ser.specs.Item.{Encoding, encoded, field, struct_encoding}
 use Rattle.cbor4ii_ser.specs.Serializing.{SaysWhy}

@@ -12,10 +12,9 @@ pub mod ShapeLaws
 pub mod Percent
 -- A signed payload, sealed and opened.
 pub mod Envelope
--- At which byte settings are rejected, and when a store rejects bytes.
-pub mod Settings
+-- When a store rejects bytes.
 pub mod Store
--- What comes next in a sequence of items.
+-- What the next value of a sequence promises of an input that is cut.
 pub mod Sequence
 -- Values whose maps are sorted.
 pub mod Sorted

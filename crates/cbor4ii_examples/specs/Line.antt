@@ -6,8 +6,8 @@ use Rattle.cbor4ii_examples.specs.declared.line.Ready.{Ready}
 use Rattle.cbor4ii_examples.specs.declared.line.Waiting.{Waiting}
 
 -- the bytes that were received and not taken
-abbrev pub ready_bytes : Ready → List ℕ
-ready_bytes ready = take ready.count ready.room.items
+abbrev pub line_ready_bytes : Ready → List ℕ
+line_ready_bytes ready = take ready.count ready.room.items
 
 -- the line behind the reader
 abbrev pub line_of : {L : Type 0} → Waiting L → L

@@ -8,10 +8,10 @@ use Rattle.cbor4ii_rw.specs.declared.error.WholeError.{WholeError}
 use Rattle.cbor4ii_rw.specs.declared.error.WholeError.TheVariants.{Decode}
 use Rattle.cbor4ii_items.specs.Whole.{DecodesWhole}
 use Rattle.cbor4ii_items.specs.Decoding.{Format}
-use Rattle.cbor4ii_tree.specs.Canonical.{canonical_encoding, canonical_cost}
-use Rattle.cbor4ii_tree.specs.CanonicalShape.{IsDecoded}
-use Rattle.cbor4ii_tree.specs.Encodings.{DecodesTo}
-use Rattle.cbor4ii_tree.specs.View.{view}
+use Rattle.cbor4ii_tree.specs.Basis.Canonical.{canonical_encoding, canonical_cost}
+use Rattle.cbor4ii_tree.specs.Calls.CanonicalShape.{IsDecoded}
+use Rattle.cbor4ii_tree.specs.Basis.Encodings.{DecodesTo}
+use Rattle.cbor4ii_tree.specs.Basis.View.{view}
 use Rattle.cbor4ii_tree.specs.declared.value.Value.{Value}
 
 -- the bytes are an encoding of the value, in 256 steps

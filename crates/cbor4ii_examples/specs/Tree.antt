@@ -6,10 +6,11 @@ use Rattle.std.specs.declared.alloc.Global.{Global}
 use Rattle.std.specs.declared.vec.Vec.{Vec}
 use Rattle.cbor4ii_items.specs.Numbers.{shortest_head}
 use Rattle.cbor4ii_items.specs.Strings.{definite_string}
-use Rattle.cbor4ii_tree.specs.Item.{Item, Items, Members, integer, text, sequence, mapping, item}
-use Rattle.cbor4ii_tree.specs.Item.{no_items, member, no_members}
+use Rattle.cbor4ii_tree.specs.Basis.Item.{Item, Items, ItemPairs, integer, text, sequence, mapping}
+use Rattle.cbor4ii_tree.specs.Basis.Item.{item}
+use Rattle.cbor4ii_tree.specs.Basis.Item.{no_items, item_pair, no_item_pairs}
 use Rattle.cbor4ii_ser.specs.Item.{Encoding, encoded, field, struct_encoding, array_encoding}
-use Rattle.cbor4ii_examples.specs.Shape.{text_eq}
+use Rattle.cbor4ii_examples.specs.Shape.{is_text_item}
 use Rattle.cbor4ii_examples.specs.declared.tree.Found.{Found}
 use Rattle.cbor4ii_examples.specs.declared.tree.Tree.{Tree, fold-Tree}
 use Rattle.cbor4ii_examples.specs.declared.tree.Tree.TheOpen.{Tree-F}
@@ -55,19 +56,19 @@ tree_item = fold-Tree Encoding tree_step
 -- ---- read
 
 -- the fields so far
-pub record Seen : Type 0 where
+pub record NodeFields : Type 0 where
   pub id : Option ℕ
   pub name : Option (List ℕ)
   pub children : List Node
 
-abbrev pub seen : Found → Seen
-seen f = record {
+abbrev pub node_fields : Found → NodeFields
+node_fields f = record {
   id = f.id;
   name = option_map string_bytes f.name;
   children = vector_nodes f.children;
 }
 
-abbrev pub nothing_seen : Seen
+abbrev pub nothing_seen : NodeFields
 nothing_seen = record { id = None; name = None; children = [] }
 
 -- a number below 2^64
@@ -75,36 +76,36 @@ abbrev pub id_at : ℤ → Option ℕ
 id_at (pos n) = if nat_lt n 18446744073709551616 then Some n else None
 id_at (negsuc n) = None
 
-abbrev pub with_id : Seen → Item → Seen
+abbrev pub with_id : NodeFields → Item → NodeFields
 with_id s (integer z) = record s { id = id_at z }
 with_id s _ = s
 
-abbrev pub with_name : Seen → Item → Seen
+abbrev pub with_name : NodeFields → Item → NodeFields
 with_name s (text bs) = record s { name = Some bs }
 with_name s _ = s
 
-abbrev pub with_nodes : Seen → Option (List Node) → Option Seen
+abbrev pub with_nodes : NodeFields → Option (List Node) → Option NodeFields
 with_nodes s None = None
 with_nodes s (Some ns) = Some (record s { children = ns })
 
-abbrev pub with_children : Seen → Item → Option (List Node) → Option Seen
+abbrev pub with_children : NodeFields → Item → Option (List Node) → Option NodeFields
 with_children s (sequence vs) below = with_nodes s below
 with_children s _ below = Some s
 
--- a member more, of which the nodes that its value may stand for are given
-abbrev pub with_member : Seen → Item → Item → Option (List Node) → Option Seen
-with_member s k v below = if text_eq k (codes "id") then Some (with_id s v)
-    else (if text_eq k (codes "name") then Some (with_name s v)
-    else (if text_eq k (codes "children") then with_children s v below else Some s))
+-- a item_pair more, of which the nodes that its value may stand for are given
+abbrev pub with_node_pair : NodeFields → Item → Item → Option (List Node) → Option NodeFields
+with_node_pair s k v below = if is_text_item k (codes "id") then Some (with_id s v)
+    else (if is_text_item k (codes "name") then Some (with_name s v)
+    else (if is_text_item k (codes "children") then with_children s v below else Some s))
 
-abbrev pub made_from : Option ℕ → Option (List ℕ) → List Node → Option Node
-made_from None name children = None
-made_from (Some id) None children = None
-made_from (Some id) (Some name) children = Some (node id name (nodes_of children))
+abbrev pub node_from : Option ℕ → Option (List ℕ) → List Node → Option Node
+node_from None name children = None
+node_from (Some id) None children = None
+node_from (Some id) (Some name) children = Some (node id name (nodes_of children))
 
-abbrev pub node_made : Option Seen → Option Node
+abbrev pub node_made : Option NodeFields → Option Node
 node_made None = None
-node_made (Some s) = made_from s.id s.name s.children
+node_made (Some s) = node_from s.id s.name s.children
 
 abbrev pub more_made : Option Node → Option (List Node) → Option (List Node)
 more_made None ns = None
@@ -113,13 +114,13 @@ more_made (Some n) (Some ns) = Some (n ∷ ns)
 
 abbrev mutual
   pub node_at : Item → Option Node
-  node_at (mapping ms) = node_made (members_at ms nothing_seen)
+  node_at (mapping ms) = node_made (node_pairs_at ms nothing_seen)
   node_at _ = None
 
-  pub members_at : Members → Seen → Option Seen
-  members_at no_members s = Some s
-  members_at (member k v ms) s =
-      option_and_then (members_at ms) (with_member s k v (children_at v))
+  pub node_pairs_at : ItemPairs → NodeFields → Option NodeFields
+  node_pairs_at no_item_pairs s = Some s
+  node_pairs_at (item_pair k v ms) s =
+      option_and_then (node_pairs_at ms) (with_node_pair s k v (children_at v))
 
   pub children_at : Item → Option (List Node)
   children_at (sequence vs) = nodes_at vs
@@ -135,9 +136,9 @@ abbrev mutual
 abbrev mutual
   pub node_item : Node → Item
   node_item (node id name children) =
-      mapping (member (text (codes "id")) (integer (pos id))
-      (member (text (codes "name")) (text name)
-      (member (text (codes "children")) (sequence (nodes_items children)) no_members)))
+      mapping (item_pair (text (codes "id")) (integer (pos id))
+      (item_pair (text (codes "name")) (text name)
+      (item_pair (text (codes "children")) (sequence (nodes_items children)) no_item_pairs)))
 
   pub nodes_items : Nodes → Items
   nodes_items no_nodes = no_items

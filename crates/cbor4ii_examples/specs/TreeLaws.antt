@@ -3,7 +3,7 @@ use Rattle.std.proofs.Common.{◌≡◌, ◌∙◌, ◌^◌, List, [], ◌∷◌
 use Rattle.std.proofs.Common.{ap, ap₂, subst, arith}
 use Rattle.std.proofs.lemmas.Bool.{lt-ltb}
 use Rattle.std.specs.Prelude.{if◌then◌else◌, option_and_then, codes}
-use Rattle.cbor4ii_tree.specs.Item.{no_members}
+use Rattle.cbor4ii_tree.specs.Basis.Item.{no_item_pairs}
 use Rattle.cbor4ii_ser.specs.Item.{Encoding}
 use Rattle.cbor4ii.specs.CodecShown.{IsShownBack}
 use Rattle.cbor4ii.specs.Held.{IsWrittenAs, AreWrittenAs}
@@ -11,7 +11,7 @@ use Rattle.cbor4ii.specs.Laws.Held.{unsigned_as, string_as, vector_as, no_parts,
 use Rattle.cbor4ii.specs.Laws.Held.{field_before, no_entries, struct_as}
 use Rattle.cbor4ii_examples.specs.Tree.{Node, node, Nodes, no_nodes, more, nodes_of, node_step}
 use Rattle.cbor4ii_examples.specs.Tree.{tree_node, tree_step, tree_item, node_at, nodes_at}
-use Rattle.cbor4ii_examples.specs.Tree.{members_at, more_made, node_made, with_nodes, node_item}
+use Rattle.cbor4ii_examples.specs.Tree.{node_pairs_at, more_made, node_made, with_nodes, node_item}
 use Rattle.cbor4ii_examples.specs.Tree.{nodes_items, IsNode, AreNodes}
 use Rattle.cbor4ii_examples.specs.declared.tree.Tree.{Tree, roll-Tree, map-Tree}
 use Rattle.cbor4ii_examples.specs.declared.tree.Tree.TheFolds.{ind-Tree, fold-roll-Tree}
@@ -30,7 +30,7 @@ nodes_of_list (more n ns) = ap (more n) (nodes_of_list ns)
 mutual
   node_read : (n : Node) → IsNode n → node_at (node_item n) ≡ Some n
   node_read (node id name ns) h =
-      ap₂ (λ t o. node_made (option_and_then (members_at no_members) (with_nodes
+      ap₂ (λ t o. node_made (option_and_then (node_pairs_at no_item_pairs) (with_nodes
       (record { id = if t then Some id else None; name = Some name; children = [] }) o)))
       (lt-ltb id (2 ^ 64) h.0) (nodes_read ns h.1)
       ∙ ap (λ below. Some (node id name below)) (nodes_of_list ns)

@@ -1,4 +1,4 @@
-//! Maps of two members, one written and one read by hand, with no contract.
+//! Maps of two pairs, one written and one read by hand, with no contract.
 use cbor4ii::dec::{Decode, Source, is_break};
 use cbor4ii::enc::Encode;
 use cbor4ii::error::{DecodeError, EncodeError};
@@ -6,7 +6,7 @@ use cbor4ii::types::{Bytes, Map, Tag};
 use cbor4ii::utils::{BufWriter, TryReserveError};
 use std::alloc::Global;
 
-/// Writes a map of two members, by hand.
+/// Writes a map of two pairs, by hand.
 pub fn write_record(
     alloc: Global,
     id: u64,
@@ -30,7 +30,7 @@ pub struct Record {
     pub name: String,
 }
 
-/// A record out of a map of indefinite length, its members in any order; none where the map is
+/// A record out of a map of indefinite length, its pairs in any order; none where the map is
 /// another one. The name has a tag, which is not looked at.
 ///
 /// # Errors

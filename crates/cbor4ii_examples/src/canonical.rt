@@ -1,8 +1,8 @@
 //! Any item, read, and written in its canonical encoding.
 ghost use Rattle.std.specs.Prelude.{◌≡◌, IfOk, Some};
-ghost use Rattle.cbor4ii_tree.specs.Canonical.{canonical_encoding};
-ghost use Rattle.cbor4ii_tree.specs.Item.{Item};
-ghost use Rattle.cbor4ii_tree.specs.Encodings.{DecodesTo};
+ghost use Rattle.cbor4ii_tree.specs.Basis.Canonical.{canonical_encoding};
+ghost use Rattle.cbor4ii_tree.specs.Basis.Item.{Item};
+ghost use Rattle.cbor4ii_tree.specs.Basis.Encodings.{DecodesTo};
 
 use cbor4ii::Value;
 use cbor4ii::dec::Decode;

@@ -8,7 +8,9 @@ ghost use Rattle.cbor4ii_examples.specs.declared.enumeration.Enum.TheVariants.{T
 
 use cbor4ii::dec::Source;
 use cbor4ii::enc::Write;
-use cbor4ii::serde::{DecodeError, Deserializer, EncodeError, EnumAccessor, Serialize, Serializer};
+use cbor4ii::serde::{
+    DecodeError, Deserializer, EncodeError, EnumAccessor, Required, Serialize, Serializer,
+};
 use std::alloc::Global;
 
 /// An enum with variants of each kind.
@@ -83,10 +85,11 @@ fn read_struct<S: Source>(
     mut variant: EnumAccessor<'_, S>,
 ) -> Result<Enum, DecodeError<S::Error>> {
     let fields = variant.content()?;
-    match fields.deserialize_2_fields(alloc, "Struct", "x", "y")? {
-        (Some(x), Some(y)) => Ok(Enum::Struct { x, y }),
-        _ => Err(DecodeError::Custom("a field is missing")),
-    }
+    let names = ["x", "y"];
+    let missing = ["a field is missing"; 2];
+    let presences = (Required, (Required, ()));
+    let (x, (y, ())) = fields.deserialize_fields(alloc, "Struct", &names, &missing, presences)?;
+    Ok(Enum::Struct { x, y })
 }
 
 #[cfg(test)]

@@ -7,7 +7,7 @@ ghost use Rattle.cbor4ii_ser.specs.Item.{field, struct_encoding};
 ghost use Rattle.cbor4ii_ser.specs.OneItem.{IsOneItem, canonical};
 ghost use Rattle.cbor4ii.specs.Fields.{no_values};
 ghost use Rattle.cbor4ii.specs.Made.{made_from};
-ghost use Rattle.cbor4ii.specs.Presence.{struct_from, single, or_words, no_others};
+ghost use Rattle.cbor4ii.specs.Presence.{struct_from, single_field, or_words, no_more_fields};
 ghost use Rattle.cbor4ii.specs.ReadBack.{IsReadBack};
 ghost use Rattle.cbor4ii_examples.specs.Envelope.{Sealed, NotSealed, IsOpened, NotOpened};
 ghost use Rattle.cbor4ii_examples.specs.declared.reply.Reply.{Reply};
@@ -93,14 +93,14 @@ impl<'a> Typed for Envelope<'a> {
     ghost promise = { made_from
         (λ values e. values ≡ (e.key, (e.signature, (e.payload, no_values))))
         (struct_from
-        (single (codes "key") (codes "an envelope has one key")
+        (single_field (codes "key") (codes "an envelope has one key")
         (or_words (codes "an envelope has one key")) ⟦<u32 as Typed>⟧.promise
-        (single (codes "signature") (codes "an envelope has one signature")
+        (single_field (codes "signature") (codes "an envelope has one signature")
         (or_words (codes "an envelope has one signature"))
         ⟦<Bytes<&'a [u8]> as Typed>⟧.promise
-        (single (codes "payload") (codes "an envelope has one payload")
+        (single_field (codes "payload") (codes "an envelope has one payload")
         (or_words (codes "an envelope has one payload"))
-        ⟦<PlainRawValue<'a> as Typed>⟧.promise no_others)))) };
+        ⟦<PlainRawValue<'a> as Typed>⟧.promise no_more_fields)))) };
 }
 
 /// What makes signatures.

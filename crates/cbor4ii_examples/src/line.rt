@@ -47,11 +47,11 @@ struct Ready {
 }
 
 impl Ready {
-    ghost use Rattle.cbor4ii_examples.specs.Line.{ready_bytes};
+    ghost use Rattle.cbor4ii_examples.specs.Line.{line_ready_bytes};
 
     /// The bytes.
     fn bytes(&self) -> &[u8]
-        ensures { result.now ≡ ready_bytes self.now }
+        ensures { result.now ≡ line_ready_bytes self.now }
     {
         &self.room[..self.count]
     }
@@ -108,7 +108,7 @@ pub struct Waiting<L> {
 
 impl<L: Line + Drop> Waiting<L> {
     ghost use Rattle.cbor4ii_rw.specs.Reader.{Shows, ReaderFails};
-    ghost use Rattle.cbor4ii_examples.specs.Line.{line_of, line_view, ready_bytes, taken_of};
+    ghost use Rattle.cbor4ii_examples.specs.Line.{line_of, line_view, line_ready_bytes, taken_of};
     ghost use Rattle.cbor4ii_examples.specs.contracts.line.Waiting.{the_row};
 
     /// A reader over `line`, of which nothing was received.
@@ -179,7 +179,7 @@ impl<L: Line + Drop> Waiting<L> {
     /// before a failure stays ready.
     fn wait(&mut self, want: usize) -> Option<L::Error>
         ensures { MatchOption result
-            (Shows (ready_bytes self.new.ready) (line_view self.old) (line_view self.new))
+            (Shows (line_ready_bytes self.new.ready) (line_view self.old) (line_view self.new))
             (λ _. ReaderFails (line_view self.old) (line_view self.new)) }
     {
         // In each turn a byte comes.
@@ -202,7 +202,7 @@ impl<L: Line + Drop> Waiting<L> {
 
     /// The bytes that are ready.
     fn shown(&mut self) -> &[u8]
-        ensures bytes { result.now ≡ ready_bytes self.old.ready }
+        ensures bytes { result.now ≡ line_ready_bytes self.old.ready }
         ensures* kept { sem 𝓛 (Rests (the_row L.row) self.entry
             (λ new. line_view new ≡ line_view self.old)) }
     {

@@ -2,8 +2,7 @@
 ghost use Rattle.std.specs.Prelude.{◌≤◌, length, IfOk};
 
 use crate::event::Event;
-use crate::sequence::is_at_end;
-use cbor4ii::dec::Source;
+use cbor4ii::dec::{Source, is_at_end};
 use cbor4ii::error::{DecodeError as CoreError, Never};
 use cbor4ii::serde::{DecodeError, Deserialize, Deserializer};
 use cbor4ii::utils::{IoReader, SliceReader};

@@ -5,20 +5,17 @@ ghost use Rattle.cbor4ii.specs.CodecAgrees.{as_described};
 ghost use Rattle.cbor4ii.specs.CodecFields.{struct_codec, with_field_once, with_field_or};
 ghost use Rattle.cbor4ii.specs.CodecFields.{no_fields};
 ghost use Rattle.cbor4ii.specs.Fields.{no_values};
-ghost use Rattle.cbor4ii.specs.First.{FirstWhole};
-ghost use Rattle.cbor4ii_examples.specs.Settings.{without_byte, StopsAt};
+ghost use Rattle.cbor4ii.specs.First.{FirstWhole, typed_error_of};
+ghost use Rattle.cbor4ii_items.specs.Whole.{StopsAt, without_byte};
 
 use cbor4ii::dec::Source;
 use cbor4ii::enc::Write;
 use cbor4ii::error::Never;
 use cbor4ii::serde::{
-    AsDescribed, DecodeError, Described, Deserialize, Deserializer, EncodeError, Once, Or,
-    Required, Serialize, Serializer, Typed, WholeError,
+    AsDescribed, DecodeError, Described, Deserialize, Deserializer, EncodeError, ErrorAt, Once, Or,
+    Required, Serialize, Serializer, Typed, WholeError, from_slice_at,
 };
-use cbor4ii::utils::SliceReader;
 use std::alloc::Global;
-use std::error::Error;
-use std::fmt;
 
 /// The settings of a server.
 #[derive(Debug, PartialEq, Drop)]
@@ -178,28 +175,8 @@ impl AsDescribed for Settings {
     ghost agrees = { as_described tt };
 }
 
-/// Settings that were rejected.
-#[derive(Debug, PartialEq, Drop)]
-pub struct Fault {
-    /// How many bytes were taken, from the first one: what is left begins at this byte.
-    pub at: usize,
-    /// Why.
-    pub error: WholeError<DecodeError<Never>>,
-}
-
-/// A line for a person: the byte, and why.
-impl fmt::Display for Fault {
-    fn fmt<W: fmt::Write>(&self, f: &mut fmt::Formatter<W>) -> fmt::Result {
-        let at = self.at;
-        match &self.error {
-            WholeError::Decode(DecodeError::Core(error)) => write!(f, "byte {at}: {error}"),
-            WholeError::Decode(DecodeError::Custom(words)) => write!(f, "byte {at}: {words}"),
-            WholeError::Trailing(left) => write!(f, "byte {at}: bytes after the settings: {left}"),
-        }
-    }
-}
-
-impl Error for Fault {}
+/// Why settings were rejected, and at which byte.
+pub type Fault = ErrorAt<WholeError<DecodeError<Never>>>;
 
 /// The settings that `input` is: one value and nothing else, read with 256 steps.
 ///
@@ -210,23 +187,10 @@ impl Error for Fault {}
 /// - `Trailing`: the input begins with settings. They end before the byte, and so many bytes follow
 pub fn read_settings(alloc: Global, input: &[u8]) -> Result<Settings, Fault>
     ensures whole { FirstWhole ⟦<Settings as Typed>⟧.promise input.now (without_byte result) }
-    ensures byte { IfErr result (StopsAt ⟦<Settings as Typed>⟧.promise input.now) }
+    ensures byte { IfErr result
+        (StopsAt typed_error_of ⟦<Settings as Typed>⟧.promise.format.begins input.now) }
 {
-    let mut de = Deserializer::new(SliceReader::new(input));
-    let answer = Settings::deserialize(alloc, &mut de);
-    let left = de.into_inner().remaining().len();
-    let at = input.len() - left;
-    match answer {
-        Ok(settings) if left == 0 => Ok(settings),
-        Ok(_) => Err(Fault {
-            at,
-            error: WholeError::Trailing(left),
-        }),
-        Err(error) => Err(Fault {
-            at,
-            error: WholeError::Decode(error),
-        }),
-    }
+    from_slice_at(alloc, input)
 }
 
 #[cfg(test)]

@@ -1,13 +1,15 @@
 //! An enum that holds values of its own kind in boxes, exact both ways.
 ghost use Rattle.std.specs.Prelude.{◌≡◌, Some, codes};
 ghost use Rattle.std.proofs.Common.{ap};
-ghost use Rattle.cbor4ii_tree.specs.View.{view, items_view, members_view};
+ghost use Rattle.cbor4ii_tree.specs.Basis.View.{view, items_view, pairs_view};
 ghost use Rattle.cbor4ii.specs.Checked.{MakesShown, words_unless};
 ghost use Rattle.cbor4ii.specs.CodecAgrees.{as_described};
 ghost use Rattle.cbor4ii.specs.CodecShown.{shown_codec};
-ghost use Rattle.cbor4ii_examples.specs.Shape.{Figure, figure, shape_item, number_at, circle_at};
+ghost use Rattle.cbor4ii_examples.specs.Shape.{Figure, figure, shape_item, small_number_at};
+ghost use Rattle.cbor4ii_examples.specs.Shape.{circle_at};
 ghost use Rattle.cbor4ii_examples.specs.Shape.{figure_item, IsFigure};
-ghost use Rattle.cbor4ii_examples.specs.Shape.{text_eq, under, figure_at, figure_in, variant_at};
+ghost use Rattle.cbor4ii_examples.specs.Shape.{is_text_item, under, figure_at, figure_in};
+ghost use Rattle.cbor4ii_examples.specs.Shape.{variant_at};
 ghost use Rattle.cbor4ii_examples.specs.Shape.{pair_at, pair_in, framed_at, framed_in};
 ghost use Rattle.cbor4ii_examples.specs.ShapeLaws.{shape_back};
 
@@ -31,7 +33,7 @@ pub enum Shape {
     Framed { width: u32, inner: Box<Shape> },
 }
 
-/// A map of one member: the variant's name, and its content.
+/// A map of one pair: the variant's name, and its content.
 impl Serialize for Shape {
     ghost encoding = { ⟦<Shape as Described>⟧.codec.encoding };
 
@@ -99,18 +101,18 @@ pub fn shape_of(alloc: Global, value: &Value) -> Result<Shape, Unmade>
     ensures { MakesShown (codes "no shape") figure (figure_at (view value.now)) result }
 {
     match value {
-        Value::Map(members) => shape_in(alloc, members),
+        Value::Map(pairs) => shape_in(alloc, pairs),
         _ => Err(Unmade::Rejected("no shape")),
     }
 }
 
 #[cycle(shapes)]
-fn shape_in(alloc: Global, members: &[(Value, Value)]) -> Result<Shape, Unmade>
-    ensures { MakesShown (codes "no shape") figure (figure_in (members_view members.now)) result }
+fn shape_in(alloc: Global, pairs: &[(Value, Value)]) -> Result<Shape, Unmade>
+    ensures { MakesShown (codes "no shape") figure (figure_in (pairs_view pairs.now)) result }
 {
-    match members {
+    match pairs {
         [] => Err(Unmade::Rejected("no shape")),
-        [member] => variant_of(alloc, &member.1, &member.0),
+        [pair] => variant_of(alloc, &pair.1, &pair.0),
         [_, _, ..] => Err(Unmade::Rejected("no shape")),
     }
 }
@@ -165,16 +167,16 @@ fn framed_of(alloc: Global, content: &Value) -> Result<Shape, Unmade>
     ensures { MakesShown (codes "no shape") figure (framed_at (view content.now)) result }
 {
     match content {
-        Value::Map(members) => framed_in(alloc, members),
+        Value::Map(pairs) => framed_in(alloc, pairs),
         _ => Err(Unmade::Rejected("no shape")),
     }
 }
 
 #[cycle(shapes)]
-fn framed_in(alloc: Global, members: &[(Value, Value)]) -> Result<Shape, Unmade>
-    ensures { MakesShown (codes "no shape") figure (framed_in (members_view members.now)) result }
+fn framed_in(alloc: Global, pairs: &[(Value, Value)]) -> Result<Shape, Unmade>
+    ensures { MakesShown (codes "no shape") figure (framed_in (pairs_view pairs.now)) result }
 {
-    match members {
+    match pairs {
         [width, inner] => {
             let width = width_of(&width.1, &width.0)?;
             let inner = inner_of(alloc, &inner.1, &inner.0)?;
@@ -200,7 +202,7 @@ fn inner_of(alloc: Global, value: &Value, key: &Value) -> Result<Shape, Unmade>
 
 fn width_of(value: &Value, key: &Value) -> Result<u32, Unmade>
     ensures { MakesShown (codes "no shape") (λ n. n)
-        (under (codes "width") (view key.now) (number_at (view value.now))) result }
+        (under (codes "width") (view key.now) (small_number_at (view value.now))) result }
 {
     if is_text(key, "width") {
         number_of(value)
@@ -210,7 +212,7 @@ fn width_of(value: &Value, key: &Value) -> Result<u32, Unmade>
 }
 
 fn number_of(value: &Value) -> Result<u32, Unmade>
-    ensures { MakesShown (codes "no shape") (λ n. n) (number_at (view value.now)) result }
+    ensures { MakesShown (codes "no shape") (λ n. n) (small_number_at (view value.now)) result }
 {
     match value {
         Value::Integer(number) => match u32::try_from(*number) {
@@ -223,7 +225,7 @@ fn number_of(value: &Value) -> Result<u32, Unmade>
 
 /// Whether a value is this text.
 pub(crate) fn is_text(value: &Value, name: &str) -> bool
-    ensures { result ≡ text_eq (view value.now) name.now }
+    ensures { result ≡ is_text_item (view value.now) name.now }
 {
     match value {
         Value::Text(found) => found.as_str() == name,

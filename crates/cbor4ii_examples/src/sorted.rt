@@ -4,10 +4,10 @@
 //! Heads and lengths are those of the canonical encoding, which that section asks for too. Floats
 //! keep their width, and the bytes of a tag stay as they are.
 ghost use Rattle.std.specs.Prelude.{◌≡◌, ◌↔◌, ◌⊎◌, IsTrue, OnOk, OnErr, IfOk, IfErr};
-ghost use Rattle.cbor4ii_tree.specs.Access.{HasMapWith, SomeHasMapWith, PairHasMapWith};
-ghost use Rattle.cbor4ii_tree.specs.Canonical.{canonical_encoding};
-ghost use Rattle.cbor4ii_tree.specs.Item.{Item};
-ghost use Rattle.cbor4ii_tree.specs.View.{view, items_view, members_view};
+ghost use Rattle.cbor4ii_tree.specs.Calls.Access.{HasMapWith, SomeHasMapWith, PairHasMapWith};
+ghost use Rattle.cbor4ii_tree.specs.Basis.Canonical.{canonical_encoding};
+ghost use Rattle.cbor4ii_tree.specs.Basis.Item.{Item};
+ghost use Rattle.cbor4ii_tree.specs.Basis.View.{view, items_view, pairs_view};
 ghost use Rattle.cbor4ii_examples.specs.Sorted.{sorted, sorted_items, sorted_pairs, in_order};
 ghost use Rattle.cbor4ii_examples.specs.Sorted.{EachMap, EachMapOfItems, EachMapOfPairs};
 ghost use Rattle.cbor4ii_examples.specs.Sorted.{KeysInOrder, KeysAscend, HasManyPairs};
@@ -45,7 +45,7 @@ fn sort_value(value: &mut Value) -> Result<(), AllocError>
 {
     match value {
         Value::Array(items) => sort_items(items),
-        Value::Map(members) => sort_map(members),
+        Value::Map(pairs) => sort_map(pairs),
         Value::Tag(_, inner) => sort_value(inner),
         _ => Ok(()),
     }
@@ -65,42 +65,42 @@ fn sort_items(items: &mut [Value]) -> Result<(), AllocError>
 
 /// Sorts what stands in the pairs, and then the pairs by their keys.
 #[cycle(sorting)]
-fn sort_map(members: &mut Vec<(Value, Value)>) -> Result<(), AllocError>
-    ensures sorted { OnOk result (members_view members.new.items
-        ≡ in_order (sorted_pairs (members_view members.old.items))) }
-    ensures same { SamePairs (members_view members.old.items) (members_view members.new.items) }
-    ensures memory { OnErr result (HasManyPairs (members_view members.old.items)
-        ⊎ PairHasMapWith HasManyPairs (members_view members.old.items)) }
+fn sort_map(pairs: &mut Vec<(Value, Value)>) -> Result<(), AllocError>
+    ensures sorted { OnOk result (pairs_view pairs.new.items
+        ≡ in_order (sorted_pairs (pairs_view pairs.old.items))) }
+    ensures same { SamePairs (pairs_view pairs.old.items) (pairs_view pairs.new.items) }
+    ensures memory { OnErr result (HasManyPairs (pairs_view pairs.old.items)
+        ⊎ PairHasMapWith HasManyPairs (pairs_view pairs.old.items)) }
 {
-    sort_pairs(members)?;
-    members.sort_by(|a, b| a.0.cmp_encodings(&b.0))?;
+    sort_pairs(pairs)?;
+    pairs.sort_by(|a, b| a.0.cmp_encodings(&b.0))?;
     Ok(())
 }
 
 #[cycle(sorting)]
-fn sort_pairs(members: &mut [(Value, Value)]) -> Result<(), AllocError>
-    ensures sorted { OnOk result (members_view members.new
-        ≡ sorted_pairs (members_view members.old)) }
-    ensures same { SamePairs (members_view members.old) (members_view members.new) }
-    ensures memory { OnErr result (PairHasMapWith HasManyPairs (members_view members.old)) }
+fn sort_pairs(pairs: &mut [(Value, Value)]) -> Result<(), AllocError>
+    ensures sorted { OnOk result (pairs_view pairs.new
+        ≡ sorted_pairs (pairs_view pairs.old)) }
+    ensures same { SamePairs (pairs_view pairs.old) (pairs_view pairs.new) }
+    ensures memory { OnErr result (PairHasMapWith HasManyPairs (pairs_view pairs.old)) }
 {
-    for i in 0..members.len() {
-        sort_pair(&mut members[i])?;
+    for i in 0..pairs.len() {
+        sort_pair(&mut pairs[i])?;
     }
     Ok(())
 }
 
 #[cycle(sorting)]
-fn sort_pair(member: &mut (Value, Value)) -> Result<(), AllocError>
-    ensures key { OnOk result (view member.new.0 ≡ sorted (view member.old.0)) }
-    ensures value { OnOk result (view member.new.1 ≡ sorted (view member.old.1)) }
-    ensures same_key { SameUpToOrder (view member.old.0) (view member.new.0) }
-    ensures same_value { SameUpToOrder (view member.old.1) (view member.new.1) }
-    ensures memory { OnErr result (HasMapWith HasManyPairs (view member.old.0)
-        ⊎ HasMapWith HasManyPairs (view member.old.1)) }
+fn sort_pair(pair: &mut (Value, Value)) -> Result<(), AllocError>
+    ensures key { OnOk result (view pair.new.0 ≡ sorted (view pair.old.0)) }
+    ensures value { OnOk result (view pair.new.1 ≡ sorted (view pair.old.1)) }
+    ensures same_key { SameUpToOrder (view pair.old.0) (view pair.new.0) }
+    ensures same_value { SameUpToOrder (view pair.old.1) (view pair.new.1) }
+    ensures memory { OnErr result (HasMapWith HasManyPairs (view pair.old.0)
+        ⊎ HasMapWith HasManyPairs (view pair.old.1)) }
 {
-    sort_value(&mut member.0)?;
-    sort_value(&mut member.1)
+    sort_value(&mut pair.0)?;
+    sort_value(&mut pair.1)
 }
 
 /// Whether each map in the value is in order and has no equal keys: each key's encoding is below
@@ -111,7 +111,7 @@ pub fn is_sorted(value: &Value) -> bool
 {
     match value {
         Value::Array(items) => are_sorted(items),
-        Value::Map(members) => keys_ascend(members) && pairs_are_sorted(members),
+        Value::Map(pairs) => keys_ascend(pairs) && pairs_are_sorted(pairs),
         Value::Tag(_, inner) => is_sorted(inner),
         _ => true,
     }
@@ -130,11 +130,11 @@ fn are_sorted(items: &[Value]) -> bool
 }
 
 #[cycle(checking)]
-fn pairs_are_sorted(members: &[(Value, Value)]) -> bool
-    ensures { IsTrue result ↔ EachMapOfPairs KeysAscend (members_view members.now) }
+fn pairs_are_sorted(pairs: &[(Value, Value)]) -> bool
+    ensures { IsTrue result ↔ EachMapOfPairs KeysAscend (pairs_view pairs.now) }
 {
-    for member in members {
-        if !is_sorted(&member.0) || !is_sorted(&member.1) {
+    for pair in pairs {
+        if !is_sorted(&pair.0) || !is_sorted(&pair.1) {
             return false;
         }
     }
@@ -142,10 +142,10 @@ fn pairs_are_sorted(members: &[(Value, Value)]) -> bool
 }
 
 /// Whether each key is below the next one.
-fn keys_ascend(members: &[(Value, Value)]) -> bool
-    ensures { IsTrue result ↔ KeysAscend (members_view members.now) }
+fn keys_ascend(pairs: &[(Value, Value)]) -> bool
+    ensures { IsTrue result ↔ KeysAscend (pairs_view pairs.now) }
 {
-    members.is_sorted_by(|a, b| a.0.cmp_encodings(&b.0).is_lt())
+    pairs.is_sorted_by(|a, b| a.0.cmp_encodings(&b.0).is_lt())
 }
 
 /// Why a value has no sorted encoding.

@@ -5,12 +5,12 @@
 //! integer as a bignum (RFC 8949 section 3.4.3), `c2 41 05` and `c2 42 00 05` have two addresses,
 //! and `05` has a third. Floats keep their width, pairs their order, and equal keys stay.
 ghost use Rattle.std.specs.Prelude.{◌≡◌, [], Some, IfOk, IfErr};
-ghost use Rattle.cbor4ii_tree.specs.Canonical.{canonical_encoding};
-ghost use Rattle.cbor4ii_tree.specs.Canonically.{canonical_format};
-ghost use Rattle.cbor4ii_tree.specs.Item.{Item};
-ghost use Rattle.cbor4ii_tree.specs.Encodings.{DecodesTo};
-ghost use Rattle.cbor4ii_tree.specs.Promises.{value_format};
-ghost use Rattle.cbor4ii_tree.specs.View.{view};
+ghost use Rattle.cbor4ii_tree.specs.Basis.Canonical.{canonical_encoding};
+ghost use Rattle.cbor4ii_tree.specs.Calls.Canonically.{canonical_format};
+ghost use Rattle.cbor4ii_tree.specs.Basis.Item.{Item};
+ghost use Rattle.cbor4ii_tree.specs.Basis.Encodings.{DecodesTo};
+ghost use Rattle.cbor4ii_tree.specs.Calls.Promises.{value_format};
+ghost use Rattle.cbor4ii_tree.specs.Basis.View.{view};
 ghost use Rattle.cbor4ii_examples.specs.Store.{IsEncoding, IsCanonicalEncoding, NotStored};
 
 use cbor4ii::dec::decode_whole;

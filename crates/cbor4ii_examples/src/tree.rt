@@ -2,15 +2,15 @@
 //! value of the tree.
 ghost use Rattle.std.specs.Prelude.{◌≡◌, Some, codes};
 ghost use Rattle.std.proofs.Common.{ap};
-ghost use Rattle.cbor4ii_tree.specs.View.{view, items_view, members_view};
+ghost use Rattle.cbor4ii_tree.specs.Basis.View.{view, items_view, pairs_view};
 ghost use Rattle.cbor4ii.specs.Checked.{MakesShown, words_unless};
 ghost use Rattle.cbor4ii.specs.CodecAgrees.{as_described};
 ghost use Rattle.cbor4ii.specs.CodecShown.{shown_codec};
 ghost use Rattle.cbor4ii_examples.specs.Tree.{tree_item, tree_node, vector_nodes, node_at};
 ghost use Rattle.cbor4ii_examples.specs.Tree.{node_item, IsNode};
-ghost use Rattle.cbor4ii_examples.specs.Tree.{seen, nothing_seen, with_id, with_name};
-ghost use Rattle.cbor4ii_examples.specs.Tree.{with_children, with_member, made_from};
-ghost use Rattle.cbor4ii_examples.specs.Tree.{members_at, children_at, nodes_at};
+ghost use Rattle.cbor4ii_examples.specs.Tree.{node_fields, nothing_seen, with_id, with_name};
+ghost use Rattle.cbor4ii_examples.specs.Tree.{with_children, with_node_pair, node_from};
+ghost use Rattle.cbor4ii_examples.specs.Tree.{node_pairs_at, children_at, nodes_at};
 ghost use Rattle.cbor4ii_examples.specs.TreeLaws.{tree_back};
 
 use crate::shape::is_text;
@@ -53,7 +53,7 @@ impl Serialize for Tree {
     }
 }
 
-/// A value that `node_at` accepts, and nothing else. Members of other names are left out, and of
+/// A value that `node_at` accepts, and nothing else. ItemPairs of other names are left out, and of
 /// several of one name the last counts that has a value of the field's kind.
 impl Typed for Tree {
     ghost promise = { ⟦<Tree as Described>⟧.codec.promise };
@@ -108,8 +108,8 @@ pub fn tree_of(alloc: Global, value: &Value) -> Result<Tree, Unmade>
     ensures { MakesShown (codes "no tree") tree_node (node_at (view value.now)) result }
 {
     match value {
-        Value::Map(members) => {
-            let found = found_in(alloc, members)?;
+        Value::Map(pairs) => {
+            let found = found_in(alloc, pairs)?;
             made(found)
         }
         _ => Err(Unmade::Rejected("no tree")),
@@ -117,24 +117,24 @@ pub fn tree_of(alloc: Global, value: &Value) -> Result<Tree, Unmade>
 }
 
 #[cycle(trees)]
-fn found_in(alloc: Global, members: &[(Value, Value)]) -> Result<Found, Unmade>
-    ensures { MakesShown (codes "no tree") seen
-        (members_at (members_view members.now) nothing_seen) result }
+fn found_in(alloc: Global, pairs: &[(Value, Value)]) -> Result<Found, Unmade>
+    ensures { MakesShown (codes "no tree") node_fields
+        (node_pairs_at (pairs_view pairs.now) nothing_seen) result }
 {
     let mut found = Found {
         id: None,
         name: None,
         children: Vec::new(alloc),
     };
-    for member in members {
-        found = with_member(alloc, &member.1, &member.0, found)?;
+    for pair in pairs {
+        found = with_node_pair(alloc, &pair.1, &pair.0, found)?;
     }
     Ok(found)
 }
 
 #[cycle(trees)]
-fn with_member(alloc: Global, value: &Value, key: &Value, found: Found) -> Result<Found, Unmade>
-    ensures { MakesShown (codes "no tree") seen (with_member (seen found)
+fn with_node_pair(alloc: Global, value: &Value, key: &Value, found: Found) -> Result<Found, Unmade>
+    ensures { MakesShown (codes "no tree") node_fields (with_node_pair (node_fields found)
         (view key.now) (view value.now) (children_at (view value.now))) result }
 {
     if is_text(key, "id") {
@@ -150,7 +150,7 @@ fn with_member(alloc: Global, value: &Value, key: &Value, found: Found) -> Resul
 }
 
 fn with_id(found: Found, value: &Value) -> Found
-    ensures { seen result ≡ with_id (seen found) (view value.now) }
+    ensures { node_fields result ≡ with_id (node_fields found) (view value.now) }
 {
     match value {
         Value::Integer(number) => Found {
@@ -162,8 +162,8 @@ fn with_id(found: Found, value: &Value) -> Found
 }
 
 fn with_name(alloc: Global, found: Found, value: &Value) -> Result<Found, Unmade>
-    ensures { MakesShown (codes "no tree") seen
-        (Some (with_name (seen found) (view value.now))) result }
+    ensures { MakesShown (codes "no tree") node_fields
+        (Some (with_name (node_fields found) (view value.now))) result }
 {
     match value {
         Value::Text(text) => {
@@ -180,7 +180,7 @@ fn with_name(alloc: Global, found: Found, value: &Value) -> Result<Found, Unmade
 #[cycle(trees)]
 #[tactic(auto, using(cbor4ii::specs::Laws::Shown::values_seen,))]
 fn with_children(alloc: Global, value: &Value, found: Found) -> Result<Found, Unmade>
-    ensures { MakesShown (codes "no tree") seen (with_children (seen found)
+    ensures { MakesShown (codes "no tree") node_fields (with_children (node_fields found)
         (view value.now) (children_at (view value.now))) result }
 {
     match value {
@@ -208,7 +208,8 @@ fn trees_of(alloc: Global, values: &[Value]) -> Result<Vec<Tree>, Unmade>
 #[tactic(auto, using(crate::specs::declared::tree::Tree::the_lemmas,))]
 fn made(found: Found) -> Result<Tree, Unmade>
     ensures { MakesShown (codes "no tree") tree_node
-        (made_from (seen found).id (seen found).name (seen found).children) result }
+        (node_from (node_fields found).id (node_fields found).name (node_fields found).children)
+        result }
 {
     match (found.id, found.name) {
         (Some(id), Some(name)) => Ok(Tree {

@@ -9,8 +9,8 @@ use Rattle.cbor4ii_items.specs.InputError.{InputError, is_out_of_memory}
 use Rattle.cbor4ii_items.specs.Reading.{Runs, peek_at}
 use Rattle.cbor4ii_items.specs.Decoding.{Reads, RejectsAt, NoneRead, Format, Decodes}
 use Rattle.cbor4ii_items.specs.Containers.{BeginsNull, ReadsOption, RejectsOption}
-use Rattle.cbor4ii_items.specs.Laws.Calls.{Rejected, err_of, ok_after, err_after, of_exact}
-use Rattle.cbor4ii_items.specs.Laws.Calls.{exactly}
+use Rattle.cbor4ii_items.specs.Laws.Calls.{IsRejected, err_of, ok_after, err_after, of_exact}
+use Rattle.cbor4ii_items.specs.Laws.Calls.{decodes_exactly}
 use Rattle.cbor4ii_items.specs.Laws.Containers.{option_format, not_null, no_option}
 use Rattle.cbor4ii_items.specs.Laws.Outcome.{same_input_error}
 use Rattle.cbor4ii_items.specs.Laws.Running.{peeked, kept_alike}
@@ -54,7 +54,7 @@ no_bytes reads budget (Some v) n c r fits = absurd (omega (arith, r.1))
 
 rejected_end : {V : Type 0} (s : Format V) (xs : List ℕ) (budget : Option ℕ) (z : InputError)
     (ys : List ℕ) → peek_at (codes "option") 1 xs ≡ Err (z, ys)
-    → Rejected true (option_format s) xs budget z ys
+    → IsRejected true (option_format s) xs budget z ys
 rejected_end s (x ∷ xs) budget z ys e = cc
 rejected_end s [] budget z ys e =
     let r = same_input_error (peek_at (codes "option") 1 []) refl e in record {
@@ -74,7 +74,7 @@ module _ {V E : Type 0} (s : Format V) {a m : View} where
   pub option_end : {e : DecodeError E} → Runs {V = ℕ} (peek_at (codes "option") 1) a m (Err e)
       → is_out_of_memory e ≡ false → Decodes (option_format s) a m (Err e)
   option_end p memory =
-      exactly (err_of (option_format s) p memory (λ xs. rejected_end s xs a.budget))
+      decodes_exactly (err_of (option_format s) p memory (λ xs. rejected_end s xs a.budget))
 
   module _ {b : View} {first : ℕ} (p : Runs {E = E} (peek_at (codes "option") 1) a m (Ok first))
       (not_null_byte : first ≢ 0xf6) (not_undefined : first ≢ 0xf7) where
@@ -95,7 +95,7 @@ module _ {V E : Type 0} (s : Format V) {a m : View} where
 
     pub option_err : {e : DecodeError E} → Decodes s m b (Err e)
         → Decodes (option_format s) a b (Err e)
-    option_err d = exactly (err_after s (option_format s) p.moves.by (λ xs known.
+    option_err d = decodes_exactly (err_after s (option_format s) p.moves.by (λ xs known.
         let f = (saw _ _ _ p).first xs known in
         let other = not_null xs first f.1 not_null_byte not_undefined in (
           xs,
@@ -121,7 +121,7 @@ module _ {V E : Type 0} (s : Format V) {a m : View} where
       → Decodes (argument_format (codes "tag") 6 8) a m (Err e)
       → Decodes (tag_format s) a m (Err e)
   tag_head_err d =
-      exactly (err_after (argument_format (codes "tag") 6 8) (tag_format s) (kept_alike a)
+      decodes_exactly (err_after (argument_format (codes "tag") 6 8) (tag_format s) (kept_alike a)
       (λ xs known. (
         xs,
         known,
@@ -157,7 +157,7 @@ module _ {V E : Type 0} (s : Format V) {a m : View} where
 
     pub tag_err : {e : DecodeError E} → Decodes s m b (Err e)
         → Decodes (tag_format s) a b (Err e)
-    tag_err h = exactly (err_after s (tag_format s) d.moves.by (λ xs known.
+    tag_err h = decodes_exactly (err_after s (tag_format s) d.moves.by (λ xs known.
         let p = d.sound.at xs known in
         let stop : (rejects : RejectsAt) (z : InputError) (ys : List ℕ)
         → rejects (drop p.count xs) a.budget z ys → RejectsAfterTag rejects xs a.budget z ys =

@@ -23,3 +23,4 @@ pub mod CowRows
 pub mod SequenceAnswers
 pub mod NextByte
 pub mod Shortest
+pub mod ItemOrEnd

@@ -23,7 +23,7 @@ use Rattle.cbor4ii_items.specs.Maybe.{few_indefinite}
 use Rattle.cbor4ii_items.specs.Maybe.{few_other, maybe_head_rejected, maybe_item_rejected, few_by}
 use Rattle.cbor4ii_items.specs.Maybe.{few_at, few_format}
 use Rattle.cbor4ii_items.specs.Laws.Maybe.{two_counts, maybe_format}
-use Rattle.cbor4ii_items.specs.Laws.Calls.{ok, ok_after, err_after, of_exact, exactly}
+use Rattle.cbor4ii_items.specs.Laws.Calls.{ok, ok_after, err_after, of_exact, decodes_exactly}
 use Rattle.cbor4ii_items.specs.Laws.Running.{kept_alike}
 use Rattle.cbor4ii_items.specs.Laws.Answering.{fits_zero}
 use Rattle.cbor4ii_items.proofs.Leaves.{IsLeaf}
@@ -114,7 +114,7 @@ module _ {V E : Type 0} (s : Format V) {a m : View} where
   pub maybe_head_err : {e : DecodeError E} → Decodes few_format a m (Err e)
       → Decodes (maybe_format s) a m (Err e)
   maybe_head_err d =
-      exactly (err_after few_format (maybe_format s) (kept_alike a) (λ xs known. (
+      decodes_exactly (err_after few_format (maybe_format s) (kept_alike a) (λ xs known. (
         xs,
         known,
         record {
@@ -164,7 +164,7 @@ module _ {V E : Type 0} (s : Format V) {a m : View} where
 
       pub maybe_err : {e : DecodeError E} → Decodes s m b (Err e)
           → Decodes (maybe_format s) a b (Err e)
-      maybe_err h = exactly (err_after s (maybe_format s) d.moves.by (λ xs known.
+      maybe_err h = decodes_exactly (err_after s (maybe_format s) d.moves.by (λ xs known.
           let p = d.sound.at xs known in
           let one = subst (λ w. ReadsFew xs w p.count p.cost) yes p.read in (
             drop p.count xs,

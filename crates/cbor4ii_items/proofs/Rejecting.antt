@@ -10,7 +10,8 @@ use Rattle.cbor4ii_items.specs.InputError.{InputError, mismatch, eof}
 use Rattle.cbor4ii_items.specs.Reading.{give, reject, byte_at}
 use Rattle.cbor4ii_items.specs.Laws.Outcome.{same_input_error}
 use Rattle.cbor4ii_items.specs.Heads.{Begins, NotAHead, CutHead, RejectsHead}
-use Rattle.cbor4ii_items.specs.ReadHead.{head_at, argument_at, number_on, following, allowed}
+use Rattle.cbor4ii_items.specs.ReadHead.{head_at, argument_at, number_on, argument_size}
+use Rattle.cbor4ii_items.specs.ReadHead.{allowed_info}
 use Rattle.cbor4ii_items.specs.Laws.Heads.{additional-lt, allowed_parts, two_parts, wide_of}
 use Rattle.cbor4ii_items.specs.Laws.ReadingHeads.{number_cut}
 
@@ -20,7 +21,8 @@ parts_of major width b wide h =
     let small : additional wide h.argument < 28 = additional-lt h.argument wide h.fits in
     (omega (arith, h.is, small), omega (arith, h.is, small))
 
-allowed_at : (width i k : ℕ) → i < 28 → following i ≡ k → k ≤ width → allowed width i ≡ true
+allowed_at : (width i k : ℕ) → i < 28 → argument_size i ≡ k → k ≤ width → allowed_info width i
+    ≡ true
 allowed_at width i k lt e le =
     let s : ltb i 28 ≡ true = lt-ltb i 28 lt in
     let t : leb k width ≡ true = le-leb k width le in
@@ -28,7 +30,7 @@ allowed_at width i k lt e le =
 
 -- a width that the head's byte says is allowed
 begun_allowed : (wide : Width) (width i n : ℕ) → 24 ≤ i → i ≡ additional wide n → HeadFits wide n
-    → byte_count wide ≤ width → allowed width i ≡ true
+    → byte_count wide ≤ width → allowed_info width i ≡ true
 begun_allowed in_first width i n lo e fits le = absurd (omega arith)
 begun_allowed w_one width i n lo e fits le = rw e (allowed_at width 24 1 (omega arith) refl le)
 begun_allowed two width i n lo e fits le = rw e (allowed_at width 25 2 (omega arith) refl le)
@@ -36,12 +38,12 @@ begun_allowed four width i n lo e fits le = rw e (allowed_at width 26 4 (omega a
 begun_allowed eight width i n lo e fits le = rw e (allowed_at width 27 8 (omega arith) refl le)
 
 cut_at : (name : List ℕ) (major width b : ℕ) (bs : List ℕ) (z : InputError) (ys : List ℕ)
-    → b / 32 ≡ major → 24 ≤ b % 32 → b % 32 < 28 → following (b % 32) ≤ width
-    → number_on name (following (b % 32)) (following (b % 32)) 0 bs ≡ Err (z, ys)
+    → b / 32 ≡ major → 24 ≤ b % 32 → b % 32 < 28 → argument_size (b % 32) ≤ width
+    → number_on name (argument_size (b % 32)) (argument_size (b % 32)) 0 bs ≡ Err (z, ys)
     → CutHead name major width b bs z ys
 cut_at name major width b bs z ys m lo hi le e =
     let w = wide_of (b % 32) lo hi in
-    let k = following (b % 32) in
+    let k = argument_size (b % 32) in
     let r = number_cut name k k 0 bs z ys e in
     record {
       wide = w.wide;
@@ -58,13 +60,14 @@ cut_at name major width b bs z ys m lo hi le e =
     }
 
 not_allowed : (name : List ℕ) (major width b : ℕ) (bs : List ℕ) (z : InputError) (ys : List ℕ)
-    → 24 ≤ b % 32 → allowed width (b % 32) ≡ false
+    → 24 ≤ b % 32 → allowed_info width (b % 32) ≡ false
     → reject {V = ℕ} (mismatch name b) bs ≡ Err (z, ys) → NotAHead name major width b bs z ys
 not_allowed name major width b bs z ys lo other e =
     let p = same_input_error (reject {V = ℕ} (mismatch name b) bs) refl e in
     record {
       none = λ wide h.
-          let yes : allowed width (b % 32) ≡ true = begun_allowed wide width (b % 32) h.argument lo
+          let yes : allowed_info width (b % 32) ≡ true = begun_allowed wide width (b % 32)
+          h.argument lo
           (parts_of major width b wide h).1 h.fits h.allowed in
           cc;
       answer = sym p.0;
@@ -72,8 +75,9 @@ not_allowed name major width b bs z ys lo other e =
     }
 
 argument_rejects : (s t : Bool) (name : List ℕ) (major width b : ℕ) (bs : List ℕ) (z : InputError)
-    (ys : List ℕ) → ltb (b % 32) 24 ≡ s → allowed width (b % 32) ≡ t → b / 32 ≡ major
-    → cond s (give (b % 32)) (cond t (number_on name (following (b % 32)) (following (b % 32)) 0)
+    (ys : List ℕ) → ltb (b % 32) 24 ≡ s → allowed_info width (b % 32) ≡ t → b / 32 ≡ major
+    → cond s (give (b % 32))
+    (cond t (number_on name (argument_size (b % 32)) (argument_size (b % 32)) 0)
     (reject (mismatch name b))) bs ≡ Err (z, ys) → RejectsHead name major width (b ∷ bs) z ys
 argument_rejects true t name major width b bs z ys es et m e = cc
 argument_rejects false false name major width b bs z ys es et m e =
@@ -99,7 +103,7 @@ head_by_rejects : (t : Bool) (name : List ℕ) (major width b : ℕ) (bs : List 
     → RejectsHead name major width (b ∷ bs) z ys
 head_by_rejects true name major width b bs z ys h e =
     argument_rejects (ltb (b % 32) 24)
-    (allowed width (b % 32)) name major width b bs z ys refl refl (eqb-true (b / 32) major h) e
+    (allowed_info width (b % 32)) name major width b bs z ys refl refl (eqb-true (b / 32) major h) e
 head_by_rejects false name major width b bs z ys h e =
     inl (other_major name major width b bs z ys (λ same. let t = eq-eqb (b / 32) major same in cc)
     e)

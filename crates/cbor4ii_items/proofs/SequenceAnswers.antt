@@ -17,7 +17,7 @@ use Rattle.cbor4ii_items.specs.Sequences.{inside_format, sequence_format}
 use Rattle.cbor4ii_items.specs.Laws.Answering.{if_some}
 use Rattle.cbor4ii_items.specs.Laws.Calls.{rejects_as, err}
 use Rattle.cbor4ii_items.specs.Laws.UnderStep.{exact_step, fits_inside, fits_step, moves_stepped}
-use Rattle.cbor4ii_items.specs.Laws.UnderStep.{no_step as none_left, stepped}
+use Rattle.cbor4ii_items.specs.Laws.UnderStep.{no_step as none_left, stepped_at}
 
 module _ {P : Type 0} (major : ℕ) (s : Format P) where
   -- no step is left
@@ -48,7 +48,7 @@ module _ {P : Type 0} (major : ℕ) (s : Format P) where
         → IfSome o (λ z. (ys : List ℕ) × (d.known ≡ Some ys)
         × RejectsSequence name major s.reads rejects s.never_empty xs a.budget z ys)
     rejects_under rejects o xs h =
-        let e = stepped a.budget b.budget takes in
+        let e = stepped_at a.budget b.budget takes in
         subst (λ left. IfSome o (λ z. (ys : List ℕ) × (left ≡ Some ys)
         × RejectsSequence name major s.reads rejects s.never_empty xs a.budget z ys))
         (sym outward.known)

@@ -11,7 +11,8 @@ use Rattle.cbor4ii_rw.specs.View.{View}
 use Rattle.cbor4ii_rw.specs.Reader.{Advances}
 use Rattle.cbor4ii_rw.specs.declared.error.DecodeError.{DecodeError}
 use Rattle.cbor4ii_items.specs.Head.{Width, byte_count}
-use Rattle.cbor4ii_items.specs.Head.{HeadFits, additional, head, indefinite_head, shortest, IsBytes}
+use Rattle.cbor4ii_items.specs.Head.{HeadFits, additional, head, indefinite_head, shortest_width}
+use Rattle.cbor4ii_items.specs.Head.{IsBytes}
 use Rattle.cbor4ii_items.specs.InputError.{InputError, input_error_of, is_read, is_depth_overflow}
 use Rattle.cbor4ii_items.specs.InputError.{eof}
 use Rattle.cbor4ii_items.specs.InputError.{len_of, not_canonical}
@@ -20,11 +21,11 @@ use Rattle.cbor4ii_items.specs.Reading.{Reading, give, reject, ◌>=>◌, Runs, 
 use Rattle.cbor4ii_items.specs.Decoding.{Rejects, Decodes}
 use Rattle.cbor4ii_items.specs.Laws.Outcome.{same_value, same_input_error}
 use Rattle.cbor4ii_items.specs.Heads.{ReadsHead}
-use Rattle.cbor4ii_items.specs.Laws.Heads.{read_head, head_again, following_head, after_head}
+use Rattle.cbor4ii_items.specs.Laws.Heads.{read_head, head_again, following_head, rest_after_head}
 use Rattle.cbor4ii_items.specs.Laws.Heads.{additional-lt, info-additional, shortest_fits}
 use Rattle.cbor4ii_items.specs.Laws.Heads.{argument_below, same_wide}
 use Rattle.cbor4ii_items.specs.ReadHead.{head_at}
-use Rattle.cbor4ii_items.specs.Contents.{listed}
+use Rattle.cbor4ii_items.specs.Contents.{items_answer}
 use Rattle.cbor4ii_items.specs.ReadStrings.{content_on}
 use Rattle.cbor4ii_items.specs.ReadShortest.{is_indefinite_head, shortest_by, shortest_at}
 use Rattle.cbor4ii_items.specs.ReadShortest.{shortest_string_at}
@@ -38,7 +39,7 @@ use Rattle.cbor4ii_items.specs.Laws.Calls.{ok}
 use Rattle.cbor4ii_items.specs.Laws.ProgramEnds.{Passed, ok_parts, err_parts, head_leaves}
 use Rattle.cbor4ii_items.specs.Laws.ProgramEnds.{content_inverse}
 use Rattle.cbor4ii_items.specs.Laws.Prefixes.{drop_more}
-use Rattle.cbor4ii_items.specs.Laws.Answering.{Seen, seen_of, Found, fits_zero, sound_by}
+use Rattle.cbor4ii_items.specs.Laws.Answering.{SeenAreBytes, seen_of, Found, fits_zero, sound_by}
 use Rattle.cbor4ii_items.specs.Laws.Answering.{complete_by, rejects_by}
 use Rattle.cbor4ii_items.specs.Laws.Arguments.{ReadBy}
 use Rattle.cbor4ii_items.specs.Laws.Running.{as_of, peeked, runs_as, runs_then, runs_err, runs_give}
@@ -61,12 +62,12 @@ says major n w h = omega (arith, additional-lt n w h)
 
 -- a head whose first byte says the least width has it
 least_width : (major v n : ℕ) (xs : List ℕ) → (h : ReadsHead major 8 xs v n)
-    → ((b : ℕ) (bs : List ℕ) → xs ≡ b ∷ bs → b % 32 ≡ additional (shortest v) v)
-    → h.wide ≡ shortest v
+    → ((b : ℕ) (bs : List ℕ) → xs ≡ b ∷ bs → b % 32 ≡ additional (shortest_width v) v)
+    → h.wide ≡ shortest_width v
 least_width major v n xs h first =
     let low = first (32 * major + additional h.wide v)
     (bytes_high_first (byte_count h.wide) v ++ h.rest) h.is in
-    same_width v h.wide (shortest v) h.fits (shortest_fits v (argument_below h.wide v h.fits))
+    same_width v h.wide (shortest_width v) h.fits (shortest_fits v (argument_below h.wide v h.fits))
     (sym (says major v h.wide h.fits) ∙ low)
 
 -- ---- the first byte of an indefinite length
@@ -113,28 +114,30 @@ given false n v us ys e = cc
 
 read_from : (t : Bool) (name : List ℕ) (major b v : ℕ) (bs ys : List ℕ)
     → cond t (λ xs. Err (Longer, bs)) (head_at name major 8 >=> shortest_by b) (b ∷ bs) ≡ Ok (v, ys)
-    → (head_at name major 8 (b ∷ bs) ≡ Ok (v, ys)) × (b % 32 ≡ additional (shortest v) v)
+    → (head_at name major 8 (b ∷ bs) ≡ Ok (v, ys)) × (b % 32 ≡ additional (shortest_width v) v)
 read_from true name major b v bs ys e = cc
 read_from false name major b v bs ys e =
     let g = ok_parts (head_at name major 8 (b ∷ bs)) (shortest_by b) v ys e in
     let f =
-    given (eqb (b % 32) (additional (shortest g.value) g.value)) g.value v g.rest ys g.ended in (
+    given (eqb (b % 32) (additional (shortest_width g.value) g.value)) g.value v g.rest ys g.ended
+    in (
       g.begun ∙ ap₂ (λ (j : ℕ) (zs : List ℕ). Ok (j, zs)) f.0 f.1,
       subst (λ j. b % 32 ≡ additional
-          (shortest j) j) f.0 (eqb-true (b % 32) (additional (shortest g.value) g.value) f.2),
+          (shortest_width j) j) f.0 (eqb-true (b % 32) (additional (shortest_width g.value) g.value)
+          f.2),
     )
 
 -- a shortest head is a head, and its first byte says the least width
 shortest_ok : (name : List ℕ) (major v : ℕ) (xs ys : List ℕ)
     → shortest_at name major xs ≡ Ok (v, ys)
     → (head_at name major 8 xs ≡ Ok (v, ys))
-    × ((b : ℕ) (bs : List ℕ) → xs ≡ b ∷ bs → b % 32 ≡ additional (shortest v) v)
+    × ((b : ℕ) (bs : List ℕ) → xs ≡ b ∷ bs → b % 32 ≡ additional (shortest_width v) v)
 shortest_ok name major v [] ys e = cc
 shortest_ok name major v (b ∷ bs) ys e =
     let p = read_from (is_indefinite_head major b) name major b v bs ys e in (
       p.0,
       λ c cs is.
-          (let same : b ≡ c = cc in subst (λ j. j % 32 ≡ additional (shortest v) v) same p.1),
+          (let same : b ≡ c = cc in subst (λ j. j % 32 ≡ additional (shortest_width v) v) same p.1),
     )
 
 pub shortest_means : (name : List ℕ) (major : ℕ) (xs : List ℕ) (v n : ℕ)
@@ -148,28 +151,30 @@ shortest_means name major xs v n e room bytes =
 -- ---- and read back
 
 back_from : (t : Bool) (name : List ℕ) (major b v : ℕ) (bs ys : List ℕ) → t ≡ false
-    → head_at name major 8 (b ∷ bs) ≡ Ok (v, ys) → eqb (b % 32) (additional (shortest v) v) ≡ true
+    → head_at name major 8 (b ∷ bs) ≡ Ok (v, ys) → eqb (b % 32) (additional (shortest_width v) v)
+    ≡ true
     → cond t (λ xs. Err (Longer, bs)) (head_at name major 8 >=> shortest_by b) (b ∷ bs) ≡ Ok (v, ys)
 back_from true name major b v bs ys e h k = cc
 back_from false name major b v bs ys e h k = rw (h, k) refl
 
 back_at : (name : List ℕ) (major v : ℕ) (w : Width) (rest ys : List ℕ) → HeadFits w v
-    → w ≡ shortest v → head_at name major 8 (head major v w ++ rest) ≡ Ok (v, ys)
+    → w ≡ shortest_width v → head_at name major 8 (head major v w ++ rest) ≡ Ok (v, ys)
     → shortest_at name major (head major v w ++ rest) ≡ Ok (v, ys)
 back_at name major v w rest ys h s e =
     let b = 32 * major + additional w v in
-    let low : b % 32 ≡ additional (shortest v) v = says major v w h ∙ ap (λ u. additional u v) s in
+    let low : b % 32 ≡ additional (shortest_width v) v = says major v w h ∙ ap (λ u. additional u v)
+    s in
     back_from (is_indefinite_head major b) name major b v
     (bytes_high_first (byte_count w) v ++ rest) ys
     (not_begun_by (is_indefinite_head major b) major b refl (head_begins_none major v w h)) e
-    (eq-eqb (b % 32) (additional (shortest v) v) low)
+    (eq-eqb (b % 32) (additional (shortest_width v) v) low)
 
 pub shortest_again : (name : List ℕ) (major : ℕ) (xs : List ℕ) (v n c : ℕ)
     → ReadsShortest major xs v n c → ReadBy (shortest_at name major) xs v n c
 shortest_again name major xs v n c r =
     let h = r.0 in
     let p = following_head h.wide major v n h.rest h.count in
-    let left : h.rest ≡ drop n xs = sym (after_head major 8 xs v n h) in
+    let left : h.rest ≡ drop n xs = sym (rest_after_head major 8 xs v n h) in
     record {
       answer =
           ap (shortest_at name major) h.is ∙ back_at name major v h.wide h.rest (drop n xs) h.fits
@@ -189,7 +194,7 @@ rejected_by false n us z ys e =
     let p = same_input_error (reject {V = ℕ} Longer us) refl e in (sym p.0, p.1, refl)
 
 rejects_from : (t : Bool) (name : List ℕ) (major b : ℕ) (bs : List ℕ) (budget : Option ℕ)
-    (z : InputError) (ys : List ℕ) → is_indefinite_head major b ≡ t → Seen (b ∷ bs) ys
+    (z : InputError) (ys : List ℕ) → is_indefinite_head major b ≡ t → SeenAreBytes (b ∷ bs) ys
     → cond {A = Reading ℕ} t (λ xs. Err (Longer, bs)) (head_at name major 8 >=> shortest_by b)
     (b ∷ bs) ≡ Err (z, ys) → RejectsShortest name major (b ∷ bs) budget z ys
 rejects_from true name major b bs budget z ys opening seen e =
@@ -202,7 +207,7 @@ rejects_from false name major b bs budget z ys opening seen e =
           subst (λ j. ¬ (LacksLength major j)) (sym same) (not_indefinite major b opening)))
           (head_rejects name major 8 (b ∷ bs) z ys f)
       | inr g ↦
-          let r = rejected_by (eqb (b % 32) (additional (shortest g.value) g.value)) g.value
+          let r = rejected_by (eqb (b % 32) (additional (shortest_width g.value) g.value)) g.value
           g.rest z
           ys g.ended in
           let passed : Passed (b ∷ bs) ys = (head_leaves name major 8).ok (b ∷ bs) g.value ys
@@ -218,18 +223,18 @@ rejects_from false name major b bs budget z ys opening seen e =
     ]
   where
     not_least : (major b v : ℕ) (w : Width) (bs rest : List ℕ) → HeadFits w v
-        → b ∷ bs ≡ head major v w ++ rest → w ≡ shortest v
-        → eqb (b % 32) (additional (shortest v) v) ≡ false → ⊥
+        → b ∷ bs ≡ head major v w ++ rest → w ≡ shortest_width v
+        → eqb (b % 32) (additional (shortest_width v) v) ≡ false → ⊥
     not_least major b v w bs rest h is least e =
         let first : b ≡ 32 * major + additional w v = cc in
-        let low : b % 32 ≡ additional (shortest v) v =
+        let low : b % 32 ≡ additional (shortest_width v) v =
         ap (λ j. j % 32) first ∙ says major v w h ∙ ap (λ u. additional u v) least in
-        let t = eq-eqb (b % 32) (additional (shortest v) v) low in
+        let t = eq-eqb (b % 32) (additional (shortest_width v) v) low in
         cc
 
 pub shortest_rejects : (name : List ℕ) (major : ℕ) (xs : List ℕ) (budget : Option ℕ)
     (z : InputError)
-    (ys : List ℕ) → shortest_at name major xs ≡ Err (z, ys) → Seen xs ys
+    (ys : List ℕ) → shortest_at name major xs ≡ Err (z, ys) → SeenAreBytes xs ys
     → RejectsShortest name major xs budget z ys
 shortest_rejects name major [] budget z ys e seen =
     let p = same_input_error (shortest_at name major []) refl e in
@@ -250,7 +255,7 @@ shortest_leaf name major = record {
 -- ---- strings
 
 string_found : (name : List ℕ) (major : ℕ) (budget : Option ℕ) (xs v ys : List ℕ)
-    → shortest_string_at name major xs ≡ Ok (v, ys) → Seen xs ys
+    → shortest_string_at name major xs ≡ Ok (v, ys) → SeenAreBytes xs ys
     → Found (ReadsShortestString major) budget xs v ys
 string_found name major budget xs v ys e seen =
     let g = ok_parts (shortest_at name major xs) (λ n. content_on name n []) v ys e in
@@ -259,8 +264,8 @@ string_found name major budget xs v ys e seen =
     let p : Passed xs g.rest = (head_leaves name major 8).ok xs g.value g.rest o.0 in
     let long : length v ≡ g.value = ap length c.1 ∙ length-take-le g.value g.rest c.0 in
     let first : (b : ℕ) (bs : List ℕ) → xs ≡ b ∷ bs
-    → b % 32 ≡ additional (shortest (length v)) (length v) =
-    subst (λ j. (b : ℕ) (bs : List ℕ) → xs ≡ b ∷ bs → b % 32 ≡ additional (shortest j) j)
+    → b % 32 ≡ additional (shortest_width (length v)) (length v) =
+    subst (λ j. (b : ℕ) (bs : List ℕ) → xs ≡ b ∷ bs → b % 32 ≡ additional (shortest_width j) j)
     (sym long) o.1 in
     let read : head_at name major 8 xs ≡ Ok (length v, drop p.count xs) =
     o.0 ∙ ap₂ (λ (j : ℕ) (zs : List ℕ). Ok (j, zs)) (sym long) p.left in
@@ -311,7 +316,7 @@ string_again name major xs v n c r =
     rw h.answer answer
 
 string_rejects : (name : List ℕ) (major : ℕ) (budget : Option ℕ) (xs : List ℕ) (z : InputError)
-    (ys : List ℕ) → shortest_string_at name major xs ≡ Err (z, ys) → Seen xs ys
+    (ys : List ℕ) → shortest_string_at name major xs ≡ Err (z, ys) → SeenAreBytes xs ys
     → RejectsShortestString name major xs budget z ys
 string_rejects name major budget xs z ys e seen =
     elim (err_parts (shortest_at name major xs) (λ n. content_on name n []) z ys e) [
@@ -339,8 +344,8 @@ string_rejects name major budget xs z ys e seen =
 
 module _ {E Z : Type 0} (name : List ℕ) (major : ℕ) {a b : View} where
   pub string_decodes : (r : Result (Vec ℕ Z) (DecodeError E))
-      → Runs (shortest_string_at name major) a b (listed r) → OnOk r (b.bound + 1 ≤ a.bound)
-      → Decodes (shortest_string_format name major) a b (listed r)
+      → Runs (shortest_string_at name major) a b (items_answer r) → OnOk r (b.bound + 1 ≤ a.bound)
+      → Decodes (shortest_string_format name major) a b (items_answer r)
   string_decodes (Ok v) p progress =
       ok (shortest_string_format name major) p.moves.by (λ some. progress)
       (sound_by (ReadsShortestString major)
@@ -409,20 +414,20 @@ module _ {E : Type 0} (name : List ℕ) (major b : ℕ) {a m : View}
     runs_head_err p = runs_closed (runs_err (shortest_by b) p)
 
     module _ {n : ℕ} {c : View} (p : Runs {E = E} (head_at name major 8) m c (Ok n)) where
-      pub runs_shortest : b % 32 ≡ additional (shortest n) n
+      pub runs_shortest : b % 32 ≡ additional (shortest_width n) n
           → Runs {E = E} (shortest_at name major) a c (Ok n)
       runs_shortest e =
-          let t : eqb (b % 32) (additional (shortest n) n) ≡ true =
-          eq-eqb (b % 32) (additional (shortest n) n) e in
+          let t : eqb (b % 32) (additional (shortest_width n) n) ≡ true =
+          eq-eqb (b % 32) (additional (shortest_width n) n) e in
           let here : shortest_by b n ≡ give n = rw t refl in
           runs_closed (runs_then (shortest_by b) p (runs_as here (runs_give n c)))
 
-      pub runs_too_long : {e : DecodeError E} → b % 32 ≢ additional (shortest n) n
+      pub runs_too_long : {e : DecodeError E} → b % 32 ≢ additional (shortest_width n) n
           → input_error_of e ≡ Some Longer → is_read e ≡ false → is_depth_overflow e ≡ false
           → Runs {V = ℕ} (shortest_at name major) a c (Err e)
       runs_too_long other says read depth =
-          let t : eqb (b % 32) (additional (shortest n) n) ≡ false =
-          ne_eqb (b % 32) (additional (shortest n) n) other in
+          let t : eqb (b % 32) (additional (shortest_width n) n) ≡ false =
+          ne_eqb (b % 32) (additional (shortest_width n) n) other in
           let here : shortest_by b n ≡ reject Longer = rw t refl in
           runs_closed
           (runs_then (shortest_by b) p (runs_as here (runs_reject Longer c says read depth)))

@@ -10,7 +10,7 @@ use denote.Ref.{Bor}
 use Rattle.cbor4ii_items.specs.InputError.{InputError, input_error_of, require_utf8}
 use Rattle.cbor4ii_items.specs.Decoding.{Sound, Complete, Rejects, Decodes}
 use Rattle.cbor4ii_items.specs.Reading.{Runs}
-use Rattle.cbor4ii_items.specs.Contents.{listed}
+use Rattle.cbor4ii_items.specs.Contents.{items_answer}
 use Rattle.cbor4ii_items.specs.ReadStrings.{string_at}
 use Rattle.cbor4ii_items.specs.Strings.{ReadsString, ReadsTextAs, RejectsString, RejectsText}
 use Rattle.cbor4ii_items.specs.Strings.{no_string, no_utf8, string_format, text_format}
@@ -60,8 +60,8 @@ module _ {E : Type 0} (name : List ℕ) (major : ℕ) {a b : View} where
   }
 
   pub string_decodes : {Z : Type 0} (r : Result (Vec ℕ Z) (DecodeError E)) → major < 8
-      → Runs (string_at name major a.budget) a b (listed r) → OnOk r (b.bound + 1 ≤ a.bound)
-      → Decodes (string_format name major) a b (listed r)
+      → Runs (string_at name major a.budget) a b (items_answer r) → OnOk r (b.bound + 1 ≤ a.bound)
+      → Decodes (string_format name major) a b (items_answer r)
   string_decodes (Ok v) m p progress = content_ok progress p
   string_decodes (Err e) m p progress = content_err m p
 

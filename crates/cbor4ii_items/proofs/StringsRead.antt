@@ -21,7 +21,8 @@ use Rattle.cbor4ii_items.specs.Laws.ProgramEnds.{length_none, content_inverse, b
 use Rattle.cbor4ii_items.specs.Laws.ProgramEnds.{break_rejected, chunk_passed, not_first}
 use Rattle.cbor4ii_items.specs.Laws.Chunks.{chunks_by}
 use Rattle.cbor4ii_items.specs.Laws.Prefixes.{drop_more}
-use Rattle.cbor4ii_items.specs.Strings.{ReadsDefiniteString, ReadsChunks, joined, chunk_cost}
+use Rattle.cbor4ii_items.specs.Strings.{ReadsDefiniteString, ReadsChunks, joined_content}
+use Rattle.cbor4ii_items.specs.Strings.{chunk_cost}
 use Rattle.cbor4ii_items.specs.Strings.{ReadsString, CutContent, RejectsChunk, no_chunk_byte}
 use Rattle.cbor4ii_items.specs.Strings.{no_step}
 use Rattle.cbor4ii_items.specs.Strings.{chunk_indefinite, chunk_rejected, chunk_cut}
@@ -29,16 +30,17 @@ use Rattle.cbor4ii_items.specs.Strings.{RejectsIndefinite}
 use Rattle.cbor4ii_items.specs.Strings.{RejectsString, string_head_rejected, string_cut}
 use Rattle.cbor4ii_items.specs.Strings.{string_indefinite}
 use Rattle.cbor4ii_items.specs.Laws.Strings.{BeginsWith, HasStep}
-use Rattle.cbor4ii_items.specs.Laws.Answering.{Seen, Found, fits_zero}
+use Rattle.cbor4ii_items.specs.Laws.Answering.{SeenAreBytes, Found, fits_zero}
 use Rattle.cbor4ii_items.specs.Laws.Contents.{IsBytes-append}
 use Rattle.cbor4ii_items.proofs.Rejecting.{head_rejects}
 
 -- ---- the bytes that were passed
 
-seen_more : (xs ys zs : List ℕ) → length ys ≤ length zs → Seen xs ys → Seen xs zs
+seen_more : (xs ys zs : List ℕ) → length ys ≤ length zs → SeenAreBytes xs ys → SeenAreBytes xs zs
 seen_more xs ys zs h s = λ m k. s m (omega (arith, h, k))
 
-seen_after : (i : ℕ) (xs ys : List ℕ) → i ≤ length xs → Seen xs ys → Seen (drop i xs) ys
+seen_after : (i : ℕ) (xs ys : List ℕ) → i ≤ length xs → SeenAreBytes xs ys
+    → SeenAreBytes (drop i xs) ys
 seen_after i xs ys h s = λ m k. IsBytes-append (take i xs) (take m (drop i xs))
     (subst IsBytes (take-add i m xs) (s (i + m) (omega (arith, h, k, length-drop i xs))))
 
@@ -51,7 +53,7 @@ record KnownLength (major k : ℕ) (xs us : List ℕ) : Type 0 where
   within : before ≤ length xs
 
 known_length : (name : List ℕ) (major k : ℕ) (xs us ys : List ℕ)
-    → length_at name major xs ≡ Ok (Some k, us) → length ys ≤ length us → Seen xs ys
+    → length_at name major xs ≡ Ok (Some k, us) → length ys ≤ length us → SeenAreBytes xs ys
     → KnownLength major k xs us
 known_length name major k xs us ys e short seen =
     let p = (length_passed name major (Some k) xs us e).0 in
@@ -78,7 +80,7 @@ record DefiniteFound (major : ℕ) (before xs v ys : List ℕ) : Type 0 where
 
 known_read : (name before : List ℕ) (major k : ℕ) (xs us v ys : List ℕ)
     → length_at name major xs ≡ Ok (Some k, us) → content_on name k before us ≡ Ok (v, ys)
-    → Seen xs ys → DefiniteFound major before xs v ys
+    → SeenAreBytes xs ys → DefiniteFound major before xs v ys
 known_read name before major k xs us v ys e f seen =
     let c = content_inverse name k before us v ys f in
     let h = known_length name major k xs us ys e (omega (arith, ap length c.2, length-drop k us))
@@ -99,21 +101,22 @@ known_read name before major k xs us v ys e f seen =
     }
 
 inside_by : (name before : List ℕ) (major : ℕ) (l : Option ℕ) (xs us v ys : List ℕ)
-    → length_at name major xs ≡ Ok (l, us) → chunk_by name before l us ≡ Ok (v, ys) → Seen xs ys
+    → length_at name major xs ≡ Ok (l, us) → chunk_by name before l us ≡ Ok (v, ys)
+    → SeenAreBytes xs ys
     → DefiniteFound major before xs v ys
 inside_by name before major None xs us v ys e f seen = cc
 inside_by name before major (Some k) xs us v ys e f seen =
     known_read name before major k xs us v ys e f seen
 
 inside_read : (name before : List ℕ) (major : ℕ) (xs v ys : List ℕ)
-    → chunk_inside_at name major before xs ≡ Ok (v, ys) → Seen xs ys
+    → chunk_inside_at name major before xs ≡ Ok (v, ys) → SeenAreBytes xs ys
     → DefiniteFound major before xs v ys
 inside_read name before major xs v ys e seen =
     let g = ok_parts (length_at name major xs) (chunk_by name before) v ys e in
     inside_by name before major g.value xs g.rest v ys g.begun g.ended seen
 
 chunk_read : (name before : List ℕ) (major : ℕ) (budget : Option ℕ) (xs v ys : List ℕ)
-    → chunk_at name major budget before xs ≡ Ok (v, ys) → Seen xs ys
+    → chunk_at name major budget before xs ≡ Ok (v, ys) → SeenAreBytes xs ys
     → DefiniteFound major before xs v ys × HasStep budget
 chunk_read name before major None xs v ys e seen =
     (inside_read name before major xs v ys e seen, tt)
@@ -128,7 +131,7 @@ record ChunksFound (major : ℕ) (budget : Option ℕ) (before xs v ys : List �
   between : ℕ
   read : ReadsChunks major chunks xs between
   ends : BeginsWith (drop between xs) break
-  value : v ≡ before ++ joined chunks
+  value : v ≡ before ++ joined_content chunks
   left : ys ≡ drop (1 + between) xs
   fits : CostFits (chunk_cost chunks) budget
 
@@ -150,11 +153,11 @@ ended_found major budget before xs us v ys e f =
 
 chunk_found : (name : List ℕ) (major : ℕ) (budget : Option ℕ) (before more xs zs v ys : List ℕ)
     → chunk_at name major budget before xs ≡ Ok (more, zs)
-    → (Seen zs ys → ChunksFound major budget more zs v ys) → Seen xs ys
+    → (SeenAreBytes zs ys → ChunksFound major budget more zs v ys) → SeenAreBytes xs ys
     → ChunksFound major budget before xs v ys
 chunk_found name major budget before more xs zs v ys e next seen =
     let p = (chunk_passed name major budget before xs more zs e).0 in
-    let r = next (subst (λ (us : List ℕ). Seen us ys) (sym p.left)
+    let r = next (subst (λ (us : List ℕ). SeenAreBytes us ys) (sym p.left)
     (seen_after p.count xs ys p.within seen)) in
     let c = chunk_read name before major budget xs more zs e (seen_more xs ys zs
     (omega (arith, ap length r.left, length-drop (1 + r.between) zs)) seen) in
@@ -173,8 +176,8 @@ chunk_found name major budget before more xs zs v ys e next seen =
           ap (take 1) (sym (drop_more r.between f.size xs) ∙ ap (drop r.between) (sym f.left))
           ∙ r.ends;
       value =
-          r.value ∙ (ap (λ us. us ++ joined r.chunks) f.value
-          ∙ append_assoc before f.part (joined r.chunks));
+          r.value ∙ (ap (λ us. us ++ joined_content r.chunks) f.value
+          ∙ append_assoc before f.part (joined_content r.chunks));
       left =
           r.left ∙ (ap (drop (1 + r.between)) f.left
           ∙ (drop_more (1 + r.between) f.size xs ∙ ap (λ j. drop j xs) (let
@@ -184,10 +187,10 @@ chunk_found name major budget before more xs zs v ys e next seen =
 
 by_ended : (name : List ℕ) (major : ℕ) (budget : Option ℕ) (before xs us v ys : List ℕ)
     (next : List ℕ → Reading (List ℕ))
-    → ((more zs : List ℕ) → length zs < length xs → next more zs ≡ Ok (v, ys) → Seen zs ys
+    → ((more zs : List ℕ) → length zs < length xs → next more zs ≡ Ok (v, ys) → SeenAreBytes zs ys
     → ChunksFound major budget more zs v ys)
     → (ended : Bool) → break_at xs ≡ Ok (ended, us)
-    → chunks_by name major budget before next ended us ≡ Ok (v, ys) → Seen xs ys
+    → chunks_by name major budget before next ended us ≡ Ok (v, ys) → SeenAreBytes xs ys
     → ChunksFound major budget before xs v ys
 by_ended name major budget before xs us v ys next h true e f seen =
     ended_found major budget before xs us v ys e f
@@ -200,7 +203,7 @@ by_ended name major budget before xs us v ys next h false e f seen =
     (chunk_passed name major budget before xs g.value g.rest here).1 g.ended) seen
 
 chunks_read : (f : ℕ) (name : List ℕ) (major : ℕ) (budget : Option ℕ) (before xs v ys : List ℕ)
-    → length xs < f → chunks_on f name major budget before xs ≡ Ok (v, ys) → Seen xs ys
+    → length xs < f → chunks_on f name major budget before xs ≡ Ok (v, ys) → SeenAreBytes xs ys
     → ChunksFound major budget before xs v ys
 chunks_read zero name major budget before xs v ys h e seen = absurd (omega (arith, h))
 chunks_read (suc f) name major budget before xs v ys h e seen =
@@ -214,7 +217,7 @@ chunks_read (suc f) name major budget before xs v ys h e seen =
 
 string_by_read : (name : List ℕ) (major : ℕ) (budget l : Option ℕ) (xs us v ys : List ℕ)
     → length_at name major xs ≡ Ok (l, us) → string_by name major budget l us ≡ Ok (v, ys)
-    → Seen xs ys → Found (ReadsString major) budget xs v ys
+    → SeenAreBytes xs ys → Found (ReadsString major) budget xs v ys
 string_by_read name major budget (Some k) xs us v ys e f seen =
     let r = known_read name [] major k xs us v ys e f seen in
     record {
@@ -232,7 +235,7 @@ string_by_read name major budget None xs us v ys e f seen =
     let o = length_none name major xs us e in
     let p = (length_passed name major None xs us e).0 in
     let r = chunks_read (suc (length us)) name major budget [] us v ys (omega arith) f (subst
-    (λ (zs : List ℕ). Seen zs ys) (sym p.left) (seen_after p.count xs ys p.within seen)) in
+    (λ (zs : List ℕ). SeenAreBytes zs ys) (sym p.left) (seen_after p.count xs ys p.within seen)) in
     record {
       count = 2 + r.between;
       cost = chunk_cost r.chunks;
@@ -254,7 +257,7 @@ string_by_read name major budget None xs us v ys e f seen =
     }
 
 pub string_read : (name : List ℕ) (major : ℕ) (budget : Option ℕ) (xs v ys : List ℕ)
-    → string_at name major budget xs ≡ Ok (v, ys) → Seen xs ys
+    → string_at name major budget xs ≡ Ok (v, ys) → SeenAreBytes xs ys
     → Found (ReadsString major) budget xs v ys
 string_read name major budget xs v ys e seen =
     let g = ok_parts (length_at name major xs) (string_by name major budget) v ys e in
@@ -305,7 +308,7 @@ content_rejected name count before xs z ys e =
 
 known_cut : (name before : List ℕ) (major k : ℕ) (xs us : List ℕ) (z : InputError) (ys : List ℕ)
     → length_at name major xs ≡ Ok (Some k, us) → content_on name k before us ≡ Err (z, ys)
-    → Seen xs ys → CutContent name major xs z ys
+    → SeenAreBytes xs ys → CutContent name major xs z ys
 known_cut name before major k xs us z ys e f seen =
     let c = content_rejected name k before us z ys f in
     let h = known_length name major k xs us ys e (omega (arith, ap length c.2)) seen in
@@ -326,7 +329,8 @@ begun b (x ∷ xs) ys h e = let f : x ≡ b = cc in ap₂ ◌∷◌ f (sym e)
 
 inside_rejects_by : (name before : List ℕ) (major : ℕ) (budget l : Option ℕ) (xs us : List ℕ)
     (z : InputError) (ys : List ℕ) → budget ≢ Some 0 → length_at name major xs ≡ Ok (l, us)
-    → chunk_by name before l us ≡ Err (z, ys) → Seen xs ys → RejectsChunk name major xs budget z ys
+    → chunk_by name before l us ≡ Err (z, ys) → SeenAreBytes xs ys → RejectsChunk name major xs
+    budget z ys
 inside_rejects_by name before major budget None xs us z ys step e f seen =
     let o = length_none name major xs us e in
     let p = same_input_error (reject {V = List ℕ} (require_length name Indefinite) us) refl f in
@@ -337,7 +341,7 @@ inside_rejects_by name before major budget (Some k) xs us z ys step e f seen =
 inside_rejects : (name before : List ℕ) (major : ℕ) (budget : Option ℕ) (xs : List ℕ)
     (z : InputError)
     (ys : List ℕ) → budget ≢ Some 0 → xs ≢ [] → (BeginsWith xs break → ⊥)
-    → chunk_inside_at name major before xs ≡ Err (z, ys) → Seen xs ys
+    → chunk_inside_at name major before xs ≡ Err (z, ys) → SeenAreBytes xs ys
     → RejectsChunk name major xs budget z ys
 inside_rejects name before major budget xs z ys step some other e seen =
     elim (err_parts (length_at name major xs) (chunk_by name before) z ys e) [
@@ -350,7 +354,7 @@ inside_rejects name before major budget xs z ys step some other e seen =
 chunk_rejects : (name before : List ℕ) (major : ℕ) (budget : Option ℕ) (xs : List ℕ)
     (z : InputError)
     (ys : List ℕ) → xs ≢ [] → (BeginsWith xs break → ⊥)
-    → chunk_at name major budget before xs ≡ Err (z, ys) → Seen xs ys
+    → chunk_at name major budget before xs ≡ Err (z, ys) → SeenAreBytes xs ys
     → RejectsChunk name major xs budget z ys
 chunk_rejects name before major None xs z ys some other e seen =
     inside_rejects name before major None xs z ys (λ h. cc) some other e seen
@@ -385,11 +389,11 @@ stop_length name major budget xs z ys (chunk_cut step h) = omega (arith, ap leng
 
 chunk_stopped : (name before : List ℕ) (major : ℕ) (budget : Option ℕ) (more xs zs : List ℕ)
     (z : InputError) (ys : List ℕ) → chunk_at name major budget before xs ≡ Ok (more, zs)
-    → (Seen zs ys → RejectsIndefinite name major zs budget z ys) → Seen xs ys
+    → (SeenAreBytes zs ys → RejectsIndefinite name major zs budget z ys) → SeenAreBytes xs ys
     → RejectsIndefinite name major xs budget z ys
 chunk_stopped name before major budget more xs zs z ys e next seen =
     let p = (chunk_passed name major budget before xs more zs e).0 in
-    let r = next (subst (λ (us : List ℕ). Seen us ys) (sym p.left)
+    let r = next (subst (λ (us : List ℕ). SeenAreBytes us ys) (sym p.left)
     (seen_after p.count xs ys p.within seen)) in
     let short = stop_length name major budget (drop r.between zs) z ys r.stop in
     let c = chunk_read name before major budget xs more zs e
@@ -414,10 +418,10 @@ chunk_stopped name before major budget more xs zs z ys e next seen =
 rejects_by : (name before : List ℕ) (major : ℕ) (budget : Option ℕ) (xs us : List ℕ)
     (z : InputError)
     (ys : List ℕ) (next : List ℕ → Reading (List ℕ))
-    → ((more zs : List ℕ) → length zs < length xs → next more zs ≡ Err (z, ys) → Seen zs ys
+    → ((more zs : List ℕ) → length zs < length xs → next more zs ≡ Err (z, ys) → SeenAreBytes zs ys
     → RejectsIndefinite name major zs budget z ys)
     → (ended : Bool) → break_at xs ≡ Ok (ended, us)
-    → chunks_by name major budget before next ended us ≡ Err (z, ys) → Seen xs ys
+    → chunks_by name major budget before next ended us ≡ Err (z, ys) → SeenAreBytes xs ys
     → RejectsIndefinite name major xs budget z ys
 rejects_by name before major budget xs us z ys next h true e f seen = cc
 rejects_by name before major budget xs us z ys next h false e f seen =
@@ -440,7 +444,7 @@ rejects_by name before major budget xs us z ys next h false e f seen =
 
 chunks_stop : (f : ℕ) (name before : List ℕ) (major : ℕ) (budget : Option ℕ) (xs : List ℕ)
     (z : InputError) (ys : List ℕ) → length xs < f
-    → chunks_on f name major budget before xs ≡ Err (z, ys) → Seen xs ys
+    → chunks_on f name major budget before xs ≡ Err (z, ys) → SeenAreBytes xs ys
     → RejectsIndefinite name major xs budget z ys
 chunks_stop zero name before major budget xs z ys h e seen = absurd (omega (arith, h))
 chunks_stop (suc f) name before major budget xs z ys h e seen = elim (err_parts (break_at xs)
@@ -460,7 +464,7 @@ chunks_stop (suc f) name before major budget xs z ys h e seen = elim (err_parts 
 string_by_rejects : (name : List ℕ) (major : ℕ) (budget l : Option ℕ) (xs us : List ℕ)
     (z : InputError)
     (ys : List ℕ) → length_at name major xs ≡ Ok (l, us)
-    → string_by name major budget l us ≡ Err (z, ys) → Seen xs ys
+    → string_by name major budget l us ≡ Err (z, ys) → SeenAreBytes xs ys
     → RejectsString name major xs budget z ys
 string_by_rejects name major budget (Some k) xs us z ys e f seen =
     string_cut (known_cut name [] major k xs us z ys e f seen)
@@ -468,11 +472,11 @@ string_by_rejects name major budget None xs us z ys e f seen =
     let o = length_none name major xs us e in
     let p = (length_passed name major None xs us e).0 in
     let r = chunks_stop (suc (length us)) name [] major budget us z ys (omega arith) f (subst
-    (λ (zs : List ℕ). Seen zs ys) (sym p.left) (seen_after p.count xs ys p.within seen)) in
+    (λ (zs : List ℕ). SeenAreBytes zs ys) (sym p.left) (seen_after p.count xs ys p.within seen)) in
     string_indefinite o.0 (subst (λ zs. RejectsIndefinite name major zs budget z ys) o.1 r)
 
 pub string_rejects : (name : List ℕ) (major : ℕ) (budget : Option ℕ) (xs : List ℕ) (z : InputError)
-    (ys : List ℕ) → string_at name major budget xs ≡ Err (z, ys) → Seen xs ys
+    (ys : List ℕ) → string_at name major budget xs ≡ Err (z, ys) → SeenAreBytes xs ys
     → RejectsString name major xs budget z ys
 string_rejects name major budget xs z ys e seen =
     elim (err_parts (length_at name major xs) (string_by name major budget) z ys e) [

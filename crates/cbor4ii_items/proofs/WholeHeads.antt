@@ -15,8 +15,9 @@ use Rattle.cbor4ii_items.specs.Moves.{ReaderFailed}
 use Rattle.cbor4ii_items.specs.Lent.{Stays}
 use Rattle.cbor4ii_items.specs.InputError.{mismatch}
 use Rattle.cbor4ii_items.specs.Reading.{Reading, go_on, give, Runs}
-use Rattle.cbor4ii_items.specs.ReadHead.{number_on, following, allowed, head_by, head_at, length_at}
-use Rattle.cbor4ii_items.specs.Prefix.{IsWhole, IsArgument, RunsOrStays, TookSeen}
+use Rattle.cbor4ii_items.specs.ReadHead.{number_on, argument_size, allowed_info, head_by, head_at}
+use Rattle.cbor4ii_items.specs.ReadHead.{length_at}
+use Rattle.cbor4ii_items.specs.Prefix.{IsWholeHead, IsArgument, RunsOrStays, TookSeen}
 use Rattle.cbor4ii_items.specs.Laws.Contents.{lends_prefix, stays_then}
 use Rattle.cbor4ii_items.specs.Laws.Steps.{moves_then, moves_ok, broke_then}
 use Rattle.cbor4ii_items.specs.Laws.ReadingHeads.{small_argument, allowed_le, wider}
@@ -35,9 +36,9 @@ in_first_byte name rest major width b m small =
     rw (t, u) refl
 
 in_following : (name rest : List ℕ) (major width b : ℕ) → b / 32 ≡ major → 24 ≤ b % 32
-    → allowed width (b % 32) ≡ true
-    → head_by name major width b rest ≡ number_on name (following (b % 32))
-    (following (b % 32)) 0 rest
+    → allowed_info width (b % 32) ≡ true
+    → head_by name major width b rest ≡ number_on name (argument_size (b % 32))
+    (argument_size (b % 32)) 0 rest
 in_following name rest major width b m large may =
     let t : eqb (b / 32) major ≡ true = eq-eqb (b / 32) major m in
     let u : ltb (b % 32) 24 ≡ false = le-ltb (b % 32) 24 large in
@@ -46,7 +47,7 @@ in_following name rest major width b m large may =
 pub whole_in_first : (major width : ℕ) (shown : List ℕ) → 1 ≤ length shown
     → slice_index_or shown 0 0 < 256 → slice_index_or shown 0 0 / 32 ≡ major
     → slice_index_or shown 0 0 % 32 < 24
-    → IsWhole major width shown (slice_index_or shown 0 0 % 32) 1
+    → IsWholeHead major width shown (slice_index_or shown 0 0 % 32) 1
 whole_in_first major width [] some byte m small = absurd (omega arith)
 whole_in_first major width (b ∷ bs) some byte m small = record {
   some = omega arith;
@@ -58,18 +59,19 @@ whole_in_first major width (b ∷ bs) some byte m small = record {
 
 pub whole_after : (major width argument : ℕ) (shown : List ℕ) → 1 ≤ length shown
     → slice_index_or shown 0 0 < 256 → slice_index_or shown 0 0 / 32 ≡ major
-    → 24 ≤ slice_index_or shown 0 0 % 32 → allowed width (slice_index_or shown 0 0 % 32) ≡ true
+    → 24 ≤ slice_index_or shown 0 0 % 32 → allowed_info width (slice_index_or shown 0 0 % 32) ≡ true
     → IsArgument (slice_index_or shown 0 0 % 32) (take (length shown - 1) (drop 1 shown)) argument
-    → IsWhole major width shown argument (1 + following (slice_index_or shown 0 0 % 32))
+    → IsWholeHead major width shown argument (1 + argument_size (slice_index_or shown 0 0 % 32))
 whole_after major width argument [] some byte m large may a = absurd (omega arith)
 whole_after major width argument (b ∷ bs) some byte m large may a =
     let p : IsArgument (b % 32) bs argument =
     subst (λ zs. IsArgument (b % 32) zs argument) (trailing b bs) a in
-    let e : suc (following (b % 32)) ≡ 1 + following (b % 32) = omega arith in
-    subst (IsWhole major width (b ∷ bs) argument) e (record {
+    let e : suc (argument_size (b % 32)) ≡ 1 + argument_size (b % 32) = omega arith in
+    subst (IsWholeHead major width (b ∷ bs) argument) e (record {
       some = omega arith;
       within = omega (arith, p.within);
-      fits = λ w. wider argument (following (b % 32)) width (allowed_le width (b % 32) may) p.fits;
+      fits = λ w. wider argument (argument_size (b % 32)) width (allowed_le width (b % 32) may)
+          p.fits;
       bytes = (byte, p.bytes);
       head = λ name rest. in_following name (bs ++ rest) major width b m large may
           ∙ p.number name rest;
@@ -79,7 +81,7 @@ whole_after major width argument (b ∷ bs) some byte m large may a =
 
 -- the bytes begin with what was shown, so they begin with the head
 begins_whole : (name : List ℕ) (major width want argument n : ℕ) (shown xs : List ℕ)
-    → IsPrefix want shown xs → IsWhole major width shown argument n
+    → IsPrefix want shown xs → IsWholeHead major width shown argument n
     → head_at name major width xs ≡ Ok (argument, drop n xs)
 begins_whole name major width want argument n shown xs prefix h =
     let rest = drop (length shown) xs in
@@ -91,7 +93,7 @@ begins_whole name major width want argument n shown xs prefix h =
 
 pub runs_whole : {E : Type 0} (name : List ℕ) {major width want argument n : ℕ} {shown : List ℕ}
     {a m b : View} → Shows shown a m → IfKnown a.known (IsPrefix want shown)
-    → IsWhole major width shown argument n → Advances n m b
+    → IsWholeHead major width shown argument n → Advances n m b
     → Runs {E = E} (head_at name major width) a b (Ok argument)
 runs_whole name {major = major} {width = width} {want = want} {argument = argument} {n = n}
     {shown = shown} s prefix h adv =
@@ -107,7 +109,7 @@ runs_whole name {major = major} {width = width} {want = want} {argument = argume
 
 pub took_whole : {E : Type 0} {major width want argument n : ℕ} {shown : List ℕ} {a m b : View}
     → Shows shown a m → IfKnown a.known (IsPrefix want shown)
-    → IsWhole major width shown argument n → Advances n m b
+    → IsWholeHead major width shown argument n → Advances n m b
     → TookSeen E (λ name. head_at name major width) (λ v. 1 ≤ width → v < 256 ^ width) argument a b
 took_whole s prefix h adv = record {
   runs = λ name. runs_whole name s prefix h adv;

@@ -5,14 +5,14 @@ use Rattle.cbor4ii_rw.specs.View.{View, IfKnown}
 use Rattle.cbor4ii_items.specs.Moves.{Kept}
 
 -- the answer, with a vector's items for the vector
-abbrev pub listed : {Z E : Type 0} → Result (Vec ℕ Z) E → Result (List ℕ) E
-listed (Ok v) = Ok v.items
-listed (Err e) = Err e
+abbrev pub items_answer : {Z E : Type 0} → Result (Vec ℕ Z) E → Result (List ℕ) E
+items_answer (Ok v) = Ok v.items
+items_answer (Err e) = Err e
 
 -- the answer of a call that leaves these items in a vector
-abbrev pub filled : {T E : Type 0} → List ℕ → Result T E → Result (List ℕ) E
-filled items (Ok t) = Ok items
-filled items (Err e) = Err e
+abbrev pub filled_answer : {T E : Type 0} → List ℕ → Result T E → Result (List ℕ) E
+filled_answer items (Ok t) = Ok items
+filled_answer items (Err e) = Err e
 
 -- n of the missing bytes were taken, at least one, and follow the items that were there
 -- before

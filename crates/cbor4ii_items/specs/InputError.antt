@@ -48,53 +48,17 @@ input_error_of (NotCanonical name) = Some (not_canonical name.now)
 -- the reader failed
 abbrev pub is_read : {E : Type 0} → DecodeError E → Bool
 is_read (Read e) = true
-is_read (Mismatch name found) = false
-is_read (Unsupported name found) = false
-is_read (Eof name expect) = false
-is_read (RequireLength name found) = false
-is_read (RequireBorrowed name) = false
-is_read (RequireUtf8 name) = false
-is_read (LengthOverflow name found) = false
-is_read (CastOverflow name) = false
-is_read (ArithmeticOverflow name ty) = false
-is_read (DepthOverflow name) = false
-is_read (Custom name num) = false
-is_read OutOfMemory = false
-is_read (NotCanonical name) = false
+is_read _ = false
 
 -- a growth was refused
 abbrev pub is_out_of_memory : {E : Type 0} → DecodeError E → Bool
-is_out_of_memory (Read e) = false
-is_out_of_memory (Mismatch name found) = false
-is_out_of_memory (Unsupported name found) = false
-is_out_of_memory (Eof name expect) = false
-is_out_of_memory (RequireLength name found) = false
-is_out_of_memory (RequireBorrowed name) = false
-is_out_of_memory (RequireUtf8 name) = false
-is_out_of_memory (LengthOverflow name found) = false
-is_out_of_memory (CastOverflow name) = false
-is_out_of_memory (ArithmeticOverflow name ty) = false
-is_out_of_memory (DepthOverflow name) = false
-is_out_of_memory (Custom name num) = false
 is_out_of_memory OutOfMemory = true
-is_out_of_memory (NotCanonical name) = false
+is_out_of_memory _ = false
 
 -- no step was left
 abbrev pub is_depth_overflow : {E : Type 0} → DecodeError E → Bool
-is_depth_overflow (Read e) = false
-is_depth_overflow (Mismatch name found) = false
-is_depth_overflow (Unsupported name found) = false
-is_depth_overflow (Eof name expect) = false
-is_depth_overflow (RequireLength name found) = false
-is_depth_overflow (RequireBorrowed name) = false
-is_depth_overflow (RequireUtf8 name) = false
-is_depth_overflow (LengthOverflow name found) = false
-is_depth_overflow (CastOverflow name) = false
-is_depth_overflow (ArithmeticOverflow name ty) = false
 is_depth_overflow (DepthOverflow name) = true
-is_depth_overflow (Custom name num) = false
-is_depth_overflow OutOfMemory = false
-is_depth_overflow (NotCanonical name) = false
+is_depth_overflow _ = false
 
 -- a count in an error
 abbrev pub len_of : ℕ → Len

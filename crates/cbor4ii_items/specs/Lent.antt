@@ -114,7 +114,8 @@ lack_is_read (Few n) = false
 lack_is_read NotUtf8 = false
 
 -- the error says what is lacking
-pub record Says {E : Type 0} (name : List ℕ) (lack : Lacks E) (error : DecodeError E) : Type 0 where
+pub record SaysLack {E : Type 0} (name : List ℕ) (lack : Lacks E)
+    (error : DecodeError E) : Type 0 where
   pub err : input_error_of error ≡ lack_error name lack
   pub read : is_read error ≡ lack_is_read lack
   pub memory : is_out_of_memory error ≡ false
@@ -124,7 +125,7 @@ abbrev pub Named : {V E : Type 0} → List ℕ → Result V (Lacks E) → Result
 Named name (Ok v) (Ok w) = v ≡ w
 Named name (Ok v) (Err e) = ⊥
 Named name (Err lack) (Ok w) = ⊥
-Named name (Err lack) (Err e) = Says name lack e
+Named name (Err lack) (Err e) = SaysLack name lack e
 
 -- ---- the types that a content is lent to
 

@@ -27,6 +27,7 @@ pub mod SequenceBytes
 pub mod Next
 pub mod Shortest
 pub mod Whole
+pub mod ItemOrEnd
 -- ---- what the decoders do, without the reader: the words of private contracts
 pub mod Reading
 pub mod Contents

@@ -3,7 +3,7 @@ use Rattle.std.specs.Prelude.{◌≡◌, ◌≢◌, ℕ, ◌+◌, ◌/◌, ◌^�
 use Rattle.std.specs.Prelude.{length, take, drop, ℤ, pos, negsuc, codes, nat_lt, if◌then◌else◌}
 use Rattle.cbor4ii_rw.specs.declared.error.Len.TheVariants.{Small, Indefinite}
 use Rattle.cbor4ii_items.specs.declared.types.Negative.{Negative}
-use Rattle.cbor4ii_items.specs.Head.{head, indefinite_head, shortest, IsBytes}
+use Rattle.cbor4ii_items.specs.Head.{head, indefinite_head, shortest_width, IsBytes}
 use Rattle.cbor4ii_items.specs.InputError.{InputError, mismatch, eof, require_length}
 use Rattle.cbor4ii_items.specs.InputError.{length_overflow}
 use Rattle.cbor4ii_items.specs.InputError.{cast_overflow, len_of}
@@ -171,7 +171,7 @@ pub data RejectsI128 (xs : List ℕ) (err : InputError) (rest : List ℕ) : Type
 
 -- the shortest head of this major type with this argument
 abbrev pub shortest_head : ℕ → ℕ → List ℕ
-shortest_head major v = head major v (shortest v)
+shortest_head major v = head major v (shortest_width v)
 
 -- the shortest head of this major type with the content's length, and the content
 abbrev pub definite_string : ℕ → List ℕ → List ℕ

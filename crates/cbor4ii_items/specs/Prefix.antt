@@ -5,21 +5,22 @@ use Rattle.cbor4ii_rw.specs.View.{View}
 use Rattle.cbor4ii_items.specs.Moves.{ReaderFailed}
 use Rattle.cbor4ii_items.specs.Head.{IsBytes}
 use Rattle.cbor4ii_items.specs.Reading.{Reading, Runs}
-use Rattle.cbor4ii_items.specs.ReadHead.{number_on, following, head_at}
+use Rattle.cbor4ii_items.specs.ReadHead.{number_on, argument_size, head_at}
 use Rattle.cbor4ii_items.specs.Lent.{Stays}
 use Rattle.cbor4ii_items.specs.declared.prefix.Shown.{Shown}
 use Rattle.cbor4ii_items.specs.declared.prefix.Shown.TheVariants.{Whole, Cut, Other}
 
 -- the bytes of an argument, by the additional information, with others after them
 pub record IsArgument (info : ℕ) (shown : List ℕ) (argument : ℕ) : Type 0 where
-  pub within : following info ≤ length shown
-  pub fits : argument < 256 ^ following info
-  pub bytes : IsBytes (take (following info) shown)
-  pub number : (name rest : List ℕ) → number_on name (following info)
-      (following info) 0 (shown ++ rest) ≡ Ok (argument, drop (following info) shown ++ rest)
+  pub within : argument_size info ≤ length shown
+  pub fits : argument < 256 ^ argument_size info
+  pub bytes : IsBytes (take (argument_size info) shown)
+  pub number : (name rest : List ℕ) → number_on name (argument_size info)
+      (argument_size info) 0 (shown ++ rest)
+      ≡ Ok (argument, drop (argument_size info) shown ++ rest)
 
 -- a head of this major type, n bytes long, with other bytes after it
-pub record IsWhole (major width : ℕ) (shown : List ℕ) (argument n : ℕ) : Type 0 where
+pub record IsWholeHead (major width : ℕ) (shown : List ℕ) (argument n : ℕ) : Type 0 where
   pub some : 1 ≤ n
   pub within : n ≤ length shown
   pub fits : 1 ≤ width → argument < 256 ^ width
@@ -29,7 +30,7 @@ pub record IsWhole (major width : ℕ) (shown : List ℕ) (argument n : ℕ) : T
 
 -- where a head is seen whole, it stands at the beginning
 abbrev pub SeesHead : ℕ → ℕ → List ℕ → Shown → Type 0
-SeesHead major width shown (Whole argument n) = IsWhole major width shown argument n
+SeesHead major width shown (Whole argument n) = IsWholeHead major width shown argument n
 SeesHead major width shown (Cut n) = Unit {0}
 SeesHead major width shown Other = Unit {0}
 

@@ -7,9 +7,9 @@ abbrev pub ReadsBack : {V : Type 0} → Reads V → List ℕ → V → ℕ → T
 ReadsBack reads bytes v cost = (rest : List ℕ) → reads (bytes ++ rest) v (length bytes) cost
 
 -- the greatest cost of one part, and 0 where there is none
-abbrev pub greatest_cost : {P : Type 0} → (P → ℕ) → List P → ℕ
-greatest_cost cost [] = 0
-greatest_cost cost (p ∷ ps) = max (cost p) (greatest_cost cost ps)
+abbrev pub greatest_part_cost : {P : Type 0} → (P → ℕ) → List P → ℕ
+greatest_part_cost cost [] = 0
+greatest_part_cost cost (p ∷ ps) = max (cost p) (greatest_part_cost cost ps)
 
 -- the greater cost of a key and its value
 abbrev pub pair_cost : {K V : Type 0} → (K → ℕ) → (V → ℕ) → K × V → ℕ

@@ -12,17 +12,19 @@ number_on name expect (suc k) high =
     byte_at name expect >=> λ b. number_on name expect k (high * 256 + b)
 
 -- in how many bytes the argument follows, by an additional information of 24 to 27
-abbrev pub following : ℕ → ℕ
-following info = if info == 24 then 1 else (if info == 25 then 2 else (if info == 26 then 4 else 8))
+abbrev pub argument_size : ℕ → ℕ
+argument_size info = if info == 24 then 1 else
+    (if info == 25 then 2 else (if info == 26 then 4 else 8))
 
-abbrev pub allowed : ℕ → ℕ → Bool
-allowed width info = if nat_lt info 28 then nat_le (following info) width else false
+abbrev pub allowed_info : ℕ → ℕ → Bool
+allowed_info width info = if nat_lt info 28 then nat_le (argument_size info) width else false
 
 -- the argument of a head that begins with b
 abbrev pub argument_at : List ℕ → ℕ → ℕ → Reading ℕ
 argument_at name width b =
     if nat_lt (b % 32) 24 then give (b % 32)
-    else (if allowed width (b % 32) then number_on name (following (b % 32)) (following (b % 32)) 0
+    else (if allowed_info width (b % 32) then number_on name (argument_size (b % 32))
+    (argument_size (b % 32)) 0
     else reject (mismatch name b))
 
 -- the argument of a head of this major type that begins with b

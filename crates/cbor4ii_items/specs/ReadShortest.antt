@@ -2,7 +2,7 @@
 -- without the reader.
 use Rattle.std.specs.Prelude.{ℕ, ◌%◌, ◌==◌, List, [], ◌∷◌, Bool, false, Err, nat_le, if◌then◌else◌}
 use Rattle.cbor4ii_rw.specs.declared.error.Len.TheVariants.{Small}
-use Rattle.cbor4ii_items.specs.Head.{indefinite_head, additional, shortest}
+use Rattle.cbor4ii_items.specs.Head.{indefinite_head, additional, shortest_width}
 use Rattle.cbor4ii_items.specs.InputError.{eof, not_canonical}
 use Rattle.cbor4ii_items.specs.Reading.{Reading, give, reject, ◌>=>◌}
 use Rattle.cbor4ii_items.specs.ReadHead.{head_at}
@@ -17,7 +17,8 @@ is_indefinite_head major b =
 -- the argument of a head that begins with b, where it is the shortest
 abbrev pub shortest_by : ℕ → ℕ → Reading ℕ
 shortest_by b n =
-    if (b % 32) == additional (shortest n) n then give n else reject (not_canonical canonical_name)
+    if (b % 32) == additional (shortest_width n) n then give n else reject
+    (not_canonical canonical_name)
 
 -- a head that begins with b
 abbrev pub shortest_from : List ℕ → ℕ → ℕ → List ℕ → Reading ℕ

@@ -46,9 +46,9 @@ ReadsChunks major (chunk ∷ chunks) xs n =
     × (n ≡ k + m)
 
 -- the contents of the chunks, joined
-abbrev pub joined : List (List ℕ) → List ℕ
-joined [] = []
-joined (chunk ∷ chunks) = chunk ++ joined chunks
+abbrev pub joined_content : List (List ℕ) → List ℕ
+joined_content [] = []
+joined_content (chunk ∷ chunks) = chunk ++ joined_content chunks
 
 -- the steps that the chunks cost: one, or none where there is no chunk
 abbrev pub chunk_cost : List (List ℕ) → ℕ
@@ -62,7 +62,7 @@ pub record ReadsIndefiniteString (major : ℕ) (xs content : List ℕ) (n c : �
   pub between : ℕ
   pub read : ReadsChunks major chunks (drop 1 xs) between
   pub ends : take 1 (drop (1 + between) xs) ≡ break ∷ []
-  pub value : content ≡ joined chunks
+  pub value : content ≡ joined_content chunks
   pub size : n ≡ 2 + between
   pub cost : c ≡ chunk_cost chunks
 

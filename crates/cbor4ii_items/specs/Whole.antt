@@ -1,12 +1,13 @@
 -- What it answers to read an input as one item: the whole of it, and nothing else.
 use Rattle.std.specs.Prelude.{◌≡◌, ℕ, ◌+◌, ◌^◌, ◌<◌, ◌≤◌, ◌⊎◌, Bool, List, length, Some}
-use Rattle.std.specs.Prelude.{Result, IfOk, IfErr, IfSome, IsTrue}
+use Rattle.std.specs.Prelude.{Result, Ok, Err, IfOk, IfErr, IfSome, IsTrue, Option}
 use Rattle.cbor4ii_rw.specs.Input.{limit}
 use Rattle.cbor4ii_rw.specs.declared.error.DecodeError.{DecodeError}
+use Rattle.cbor4ii_rw.specs.declared.error.ErrorAt.{ErrorAt}
 use Rattle.cbor4ii_rw.specs.declared.error.WholeError.{WholeError}
 use Rattle.cbor4ii_rw.specs.declared.error.WholeError.TheVariants.{Decode, Trailing}
-use Rattle.cbor4ii_items.specs.InputError.{input_error_of, is_out_of_memory}
-use Rattle.cbor4ii_items.specs.Decoding.{Reads, Format, NoneRead}
+use Rattle.cbor4ii_items.specs.InputError.{InputError, input_error_of, is_out_of_memory}
+use Rattle.cbor4ii_items.specs.Decoding.{Reads, RejectsAt, Format, NoneRead}
 
 -- the whole input is read as the value, within the steps
 abbrev pub IsWhole : {V : Type 0} → Reads V → List ℕ → V → Type 0
@@ -64,3 +65,19 @@ pub record DecodesWhole {V E : Type 0} (format : Format V) (bytes : List ℕ)
       (λ left. Trails format.reads bytes left × NoneIsWhole format.reads bytes))
   -- any other error is one of reading
   pub rejects : IfErr answer (λ error. IfDecode error (NotBegun format bytes))
+
+-- what is answered, without the byte
+abbrev pub without_byte : {V E : Type 0} → Result V (ErrorAt E) → Result V E
+without_byte (Ok v) = Ok v
+without_byte (Err fault) = Err fault.error
+
+-- the byte of an error is where what it leaves begins
+pub record StopsAt {E : Type 0} (error_of : E → Option InputError) (rejects : RejectsAt)
+    (bytes : List ℕ) (fault : ErrorAt (WholeError E)) : Type 0 where
+  pub within : fault.at ≤ length bytes
+  -- the value ends there, and as many bytes follow as are said to
+  pub trailing : IfTrailing fault.error (λ left. fault.at + left ≡ length bytes)
+  -- an error that speaks of the bytes is one that is given for them, and leaves the others
+  pub leaves : IfDecode fault.error (λ why. IfSome (error_of why) (λ err.
+      (rest : List ℕ) × rejects bytes (Some limit) err rest ×
+      (fault.at + length rest ≡ length bytes)))

@@ -1,7 +1,7 @@
 //! Heads and strings that are encoded in one way: by the shortest head (RFC 8949 section 4.1).
 ghost use Rattle.std.specs.Prelude.{◌≡◌, ◌+◌, ◌≤◌, ◌<◌, OnOk, IfErr, false};
-ghost use Rattle.cbor4ii_items.specs.Contents.{listed};
-ghost use Rattle.cbor4ii_items.specs.Head.{additional, shortest};
+ghost use Rattle.cbor4ii_items.specs.Contents.{items_answer};
+ghost use Rattle.cbor4ii_items.specs.Head.{additional, shortest_width};
 ghost use Rattle.cbor4ii_items.specs.ReadShortest.{is_indefinite_head, shortest_at};
 ghost use Rattle.cbor4ii_items.specs.ReadShortest.{shortest_string_at};
 ghost use Rattle.cbor4ii_items.specs.Reading.{Runs};
@@ -61,7 +61,7 @@ pub fn canonical_buf<S: Source>(
     reader: &mut S,
 ) -> Result<Vec<u8>, DecodeError<S::Error>>
     ensures { Decodes (shortest_string_format name.now major)
-        (S.view reader.old) (S.view reader.new) (listed result) }
+        (S.view reader.old) (S.view reader.new) (items_answer result) }
 {
     take_shortest_string(alloc, reader, name, major)
 }
@@ -74,7 +74,7 @@ fn take_shortest_string<S: Source>(
     major: u8,
 ) -> Result<Vec<u8>, DecodeError<S::Error>>
     ensures runs { Runs (shortest_string_at name.now major)
-        (S.view reader.old) (S.view reader.new) (listed result) }
+        (S.view reader.old) (S.view reader.new) (items_answer result) }
     ensures progress { OnOk result ((S.view reader.new).bound + 1 ≤ (S.view reader.old).bound) }
 {
     let count = take_shortest(reader, name, major)?;
@@ -114,7 +114,7 @@ fn is_indefinite(major: u8, first: u8) -> bool
 
 /// The additional information of the shortest head with this argument.
 fn shortest_info(argument: u64) -> u8
-    ensures { result ≡ additional (shortest argument) argument }
+    ensures { result ≡ additional (shortest_width argument) argument }
 {
     if argument < 24 {
         argument as u8

@@ -22,7 +22,7 @@ ghost use Rattle.cbor4ii_rw.specs.declared.error.DecodeError.{DecodeError};
 ghost use Rattle.cbor4ii_items.specs.Decoding.{Sound, Complete};
 ghost use Rattle.cbor4ii_items.specs.Budget.{CostFits};
 ghost use Rattle.cbor4ii_items.specs.Floats.{ReadsFloat, RejectsFloat};
-ghost use Rattle.cbor4ii_items.specs.Head.{Width, HeadFits, byte_count, shortest};
+ghost use Rattle.cbor4ii_items.specs.Head.{Width, HeadFits, byte_count, shortest_width};
 ghost use Rattle.cbor4ii_items.specs.Lengths.{ReadsLength, RejectsLength};
 ghost use Rattle.cbor4ii_items.specs.Lent.{ReadsBorrowed, RejectsBorrowed};
 ghost use Rattle.cbor4ii_items.specs.Maybe.{ReadsMaybe, RejectsMaybe, maybe_bytes};
@@ -33,7 +33,7 @@ ghost use Rattle.cbor4ii_items.specs.Numbers.{IsWithin, shortest_head, signed_he
 ghost use Rattle.cbor4ii_items.specs.Numbers.{signed_bytes, RejectsArgument, ReadsNegative};
 ghost use Rattle.cbor4ii_items.specs.Numbers.{RejectsNegative, RejectsSigned, RejectsU128};
 ghost use Rattle.cbor4ii_items.specs.Numbers.{RejectsI128};
-ghost use Rattle.cbor4ii_items.specs.ReadBack.{ReadsBack, NoneBeginsAnother, greatest_cost};
+ghost use Rattle.cbor4ii_items.specs.ReadBack.{ReadsBack, NoneBeginsAnother, greatest_part_cost};
 ghost use Rattle.cbor4ii_items.specs.ReadBack.{pair_cost};
 ghost use Rattle.cbor4ii_items.specs.InputError.{input_error_of};
 ghost use Rattle.cbor4ii_items.specs.SequenceBytes.{map_bytes};
@@ -52,9 +52,9 @@ use cbor4ii_rw::read::Source;
 /// The shortest width fits its argument wherever any does, and has no more bytes than any that
 /// fits (RFC 8949 section 4.2.1).
 pub fn shortest_is_least()
-    ensures fits { (width : Width) → (n : ℕ) → HeadFits width n → HeadFits (shortest n) n }
+    ensures fits { (width : Width) → (n : ℕ) → HeadFits width n → HeadFits (shortest_width n) n }
     ensures least { (width : Width) → (n : ℕ) → HeadFits width n →
-        byte_count (shortest n) ≤ byte_count width }
+        byte_count (shortest_width n) ≤ byte_count width }
 {}
 
 /// Every integer is read from its own encoding, whatever follows it, and without a step.
@@ -140,7 +140,7 @@ pub fn arrays_are_read_back<T: Decodable + Encode>()
     ensures { (v : Vec T Global) (cost : T → ℕ) → length v.items < 2 ^ 64 →
         All (λ item. ReadsBack T.format.reads (T.bytes item) item (cost item)) v.items →
         ReadsBack ⟦<Vec<T> as Decodable>⟧.format.reads (⟦<Vec<T> as Encode>⟧.bytes v) v
-        (1 + greatest_cost cost v.items) }
+        (1 + greatest_part_cost cost v.items) }
 {}
 
 /// A map is read from its own encoding wherever each key and value is, whatever follows it: at
@@ -152,7 +152,7 @@ pub fn maps_are_read_back<K: Decodable + Encode, V: Decodable + Encode>()
         All (λ p. ReadsBack V.format.reads (V.bytes p.1) p.1 (value_cost p.1)) v.0.items →
         ReadsBack ⟦<Map<Vec<(K, V)>> as Decodable>⟧.format.reads
         (map_bytes K.bytes V.bytes v.0.items) v
-        (1 + greatest_cost (pair_cost key_cost value_cost) v.0.items) }
+        (1 + greatest_part_cost (pair_cost key_cost value_cost) v.0.items) }
 {}
 
 /// What is read back is what `decode` answers, over a reader that reports these bytes and something

@@ -22,6 +22,7 @@ mod option;
 mod prefix;
 mod push;
 pub mod reserve;
+pub mod sequence;
 mod sequences;
 mod shortest_head;
 mod simple;

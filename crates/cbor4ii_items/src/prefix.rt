@@ -3,7 +3,7 @@
 ghost use Rattle.std.specs.Prelude.{◌≡◌, ◌+◌, ◌≤◌, ◌<◌, ◌^◌, ℕ, List, length, IfOk, IfSome, OnSome};
 ghost use Rattle.std.specs.Prelude.{None};
 ghost use Rattle.cbor4ii_items.specs.Prefix.{SeesHead, IsArgument, RunsOrStays, TakesSeen};
-ghost use Rattle.cbor4ii_items.specs.ReadHead.{head_at, following};
+ghost use Rattle.cbor4ii_items.specs.ReadHead.{head_at, argument_size};
 
 use crate::additional::{allowed, following};
 use cbor4ii_rw::ask::{at_most, look};
@@ -128,8 +128,8 @@ pub(crate) fn shown_argument(info: u8, rest: &[u8]) -> Option<(u64, usize)>
     requires from { 24 ≤ info }
     requires to { info < 28 }
     ensures some { IfSome result (λ found. IsArgument info rest.now found.0) }
-    ensures size { IfSome result (λ found. found.1 ≡ following info) }
-    ensures none { result ≡ None → length rest.now < following info }
+    ensures size { IfSome result (λ found. found.1 ≡ argument_size info) }
+    ensures none { result ≡ None → length rest.now < argument_size info }
 {
     match (info, rest) {
         (24, [a, ..]) => Some((*a as u64, 1)),

@@ -83,7 +83,7 @@ const ITEMS: Pieces<'static> = table! {
     ("]))", 1),
 };
 
-const MEMBERS: Pieces<'static> = table! {
+const PAIRS: Pieces<'static> = table! {
     ("Item(Map([(Integer(5), Integer(6))", 1),
     (", (Integer(5), Integer(6))", 299),
     ("]))", 1),
@@ -99,8 +99,8 @@ const CANONICAL: Pieces<'static> = table! {
 pub fn values(tally: &mut Tally) -> Result<(), Broken> {
     grows::<Item<Value>>(tally, "a long array", DEFINITE, ITEMS)?;
     grows::<Item<Value>>(tally, "a long indefinite array", INDEFINITE, ITEMS)?;
-    grows::<Item<Value>>(tally, "a long map", DEFINITE_PAIRS, MEMBERS)?;
-    grows::<Item<Value>>(tally, "a long indefinite map", INDEFINITE_PAIRS, MEMBERS)?;
+    grows::<Item<Value>>(tally, "a long map", DEFINITE_PAIRS, PAIRS)?;
+    grows::<Item<Value>>(tally, "a long indefinite map", INDEFINITE_PAIRS, PAIRS)?;
     grows::<Item<Canonical>>(tally, "a long canonical array", DEFINITE, CANONICAL)
 }
 

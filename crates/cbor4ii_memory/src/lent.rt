@@ -167,16 +167,16 @@ const BOTH_KEPT: &[LentRow] = table! {
 
 const BOTH: &[u8] = b"\x82\x18\x05\x80\x03";
 
-type KeptMembers = Lent<Map<Vec<(String, BoxedRawValue)>>>;
+type KeptPairs = Lent<Map<Vec<(String, BoxedRawValue)>>>;
 
 // A map under a key, with a longer head than needed.
-const KEPT_MEMBERS: &[LentRow] = table! {
-    (MEMBERS, &[MEMBERS], MEMBERS_SHOWN, b""),
+const KEPT_PAIRS: &[LentRow] = table! {
+    (PAIRS, &[PAIRS], PAIRS_SHOWN, b""),
 };
 
-const MEMBERS: &[u8] = b"\xa1\x63bar\xa1\x65value\x18\x99";
+const PAIRS: &[u8] = b"\xa1\x63bar\xa1\x65value\x18\x99";
 
-const MEMBERS_SHOWN: &str =
+const PAIRS_SHOWN: &str =
     "Lent(Map([(\"bar\", BoxedRawValue([161, 101, 118, 97, 108, 117, 101, 24, 153]))]))";
 
 /// Items that are kept as a copy of their bytes: the item was taken where memory is refused.
@@ -184,7 +184,7 @@ pub fn kept(tally: &mut Tally) -> Result<(), Broken> {
     lends::<Lent<BoxedRawValue>>(tally, "BoxedRawValue", Left::TheRest, KEPT)?;
     lends::<Typed<BoxedRawValue>>(tally, "typed BoxedRawValue", Left::TheRest, TYPED)?;
     lends::<Lent<Vec<BoxedRawValue>>>(tally, "Vec of BoxedRawValue", Left::AnEnd, BOTH_KEPT)?;
-    lends::<KeptMembers>(tally, "Map of BoxedRawValue", Left::AnEnd, KEPT_MEMBERS)?;
+    lends::<KeptPairs>(tally, "Map of BoxedRawValue", Left::AnEnd, KEPT_PAIRS)?;
     if let Some(value) = value(tally, b"\x9f\x18\x05\xff")? {
         keeps_value(tally, &value)?;
     }

@@ -2,7 +2,7 @@
 //!
 //! They are made from the inside, and left by `mem::forget`, so that writing alone takes stack for
 //! each level.
-ghost use Rattle.cbor4ii_memory.specs.Levels.{node_item};
+ghost use Rattle.cbor4ii_memory.specs.Levels.{level_item};
 
 use crate::tally::{Broken, Tally};
 use cbor4ii::serde::{EncodeError, Serialize, Serializer, to_vec, to_writer};
@@ -30,7 +30,7 @@ enum Node {
 
 /// As the value inside.
 impl Serialize for Node {
-    ghost encoding = { node_item };
+    ghost encoding = { level_item };
 
     #[cycle(writing)]
     #[tactic(auto, using(crate::specs::declared::levels::Node::the_lemmas, cbor4ii_ser::specs::Laws::Inside::values_inside,))]

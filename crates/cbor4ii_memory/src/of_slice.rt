@@ -2,10 +2,10 @@
 //! bytes that are kept where they stand.
 use crate::exact::{Alone, reported};
 use crate::typed::as_core;
-use cbor4ii::serde::{Deserialize, Deserializer, from_slice_whole};
+use cbor4ii::serde::{Deserialize, Deserializer, from_slice_at, from_slice_whole};
 use cbor4ii_items::decode::Decode;
-use cbor4ii_items::whole::decode_whole;
-use cbor4ii_rw::error::{DecodeError, Never, WholeError};
+use cbor4ii_items::whole::{decode_whole, decode_whole_at};
+use cbor4ii_rw::error::{DecodeError, ErrorAt, Never, WholeError};
 use cbor4ii_rw::slice_reader::SliceReader;
 use cbor4ii_tree::{PlainRawValue, RawValue, Value};
 use cbor4ii_vectors::table;
@@ -15,7 +15,9 @@ use std::alloc::Global;
 #[derive(Clone, Copy)]
 enum Way {
     Whole,
+    WholeAt,
     TypedWhole,
+    TypedWholeAt,
     Plain,
     PlainDecoded,
     PlainTyped,
@@ -24,7 +26,9 @@ enum Way {
 
 const WAYS: &[(&[u8], Way)] = table! {
     (b"whole of a slice:", Way::Whole),
+    (b"whole at of a slice:", Way::WholeAt),
     (b"typed whole of a slice:", Way::TypedWhole),
+    (b"typed whole at of a slice:", Way::TypedWholeAt),
     (b"plain of a slice:", Way::Plain),
     (b"plain decoded of a slice:", Way::PlainDecoded),
     (b"plain typed of a slice:", Way::PlainTyped),
@@ -44,7 +48,9 @@ pub fn read_of_slice(alloc: Global, input: &[u8]) -> Option<Alone> {
 fn read(alloc: Global, way: Way, item: &[u8]) -> Alone {
     match way {
         Way::Whole => whole(decode_whole::<&[u8], Value>(alloc, item)),
+        Way::WholeAt => whole_at(alloc, item),
         Way::TypedWhole => typed_whole(alloc, item),
+        Way::TypedWholeAt => typed_whole_at(alloc, item),
         Way::Plain => whole(PlainRawValue::new(alloc, item)),
         Way::PlainDecoded => plain_decoded(alloc, item),
         Way::PlainTyped => plain_typed(alloc, item),
@@ -59,6 +65,31 @@ fn whole<T: Drop>(got: Result<T, WholeError<DecodeError<Never>>>) -> Alone {
         Err(WholeError::Decode(error)) => reported(&Err::<(), _>(error), 0),
         Err(WholeError::Trailing(left)) => reported(&Ok::<(), DecodeError<Never>>(()), left),
     }
+}
+
+fn whole_at(alloc: Global, item: &[u8]) -> Alone {
+    match decode_whole_at::<&[u8], Value>(alloc, item) {
+        Ok(value) => whole(Ok(value)),
+        Err(ErrorAt { at, error }) => match error {
+            WholeError::Decode(error) => told_at(item, at, Err(error)),
+            WholeError::Trailing(_) => told_at(item, at, Ok(())),
+        },
+    }
+}
+
+fn typed_whole_at(alloc: Global, item: &[u8]) -> Alone {
+    match from_slice_at::<&[u8], Vec<String>>(alloc, item) {
+        Ok(texts) => whole(Ok(texts)),
+        Err(ErrorAt { at, error }) => match error {
+            WholeError::Decode(error) => told_at(item, at, as_core(Err(error))),
+            WholeError::Trailing(_) => told_at(item, at, Ok(())),
+        },
+    }
+}
+
+// Left is what stands from the byte of the error on.
+fn told_at(item: &[u8], at: usize, got: Result<(), DecodeError<Never>>) -> Alone {
+    reported(&got, item.len().saturating_sub(at))
 }
 
 fn typed_whole(alloc: Global, item: &[u8]) -> Alone {

@@ -31,7 +31,7 @@ impl Room for Value {
     fn room(&self) -> usize {
         match self {
             Value::Array(items) => items.capacity(),
-            Value::Map(members) => members.capacity(),
+            Value::Map(pairs) => pairs.capacity(),
             _ => 0,
         }
     }

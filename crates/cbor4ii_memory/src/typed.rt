@@ -3,7 +3,7 @@ use crate::debug_text::has_debug_text;
 use crate::read::{Row, reads_rows};
 use crate::tally::{Broken, Tally};
 use cbor4ii::Value;
-use cbor4ii::serde::{self, Deserialize, Deserializer, from_reader, from_slice};
+use cbor4ii::serde::{self, Deserialize, Deserializer, Optional, from_reader, from_slice};
 use cbor4ii::types::Bytes;
 use cbor4ii_rw::error::DecodeError;
 use cbor4ii_rw::read::Source;
@@ -134,24 +134,27 @@ pub fn types(tally: &mut Tally) -> Result<(), Broken> {
     reads_rows::<Typed<Value>>(tally, "deserialize_any", ANY)
 }
 
-type Fields = (Option<String>, Option<Vec<u8>>, Option<u8>);
+type Fields = (Option<String>, (Option<Vec<u8>>, (Option<u8>, ())));
 
 impl ReadFrom for Typed<Fields> {
     fn read_from<S: Source>(alloc: Global, reader: &mut S) -> Result<Self, DecodeError<S::Error>> {
         let mut de = Deserializer::new(reader);
-        answer(de.deserialize_3_fields(alloc, "Fields", "name", "list", "none"))
+        let presences = (Optional, (Optional, (Optional, ())));
+        answer(de.deserialize_fields(alloc, "Fields", &["name", "list", "none"], &[], presences))
     }
 }
 
 /// Two numbers.
-pub type Numbers = (Option<u8>, Option<u8>);
+pub type Numbers = (Option<u8>, (Option<u8>, ()));
 
 /// The longest name that the first look shows with its head: of 23 bytes.
 pub const LONGEST: &str = "abcdefghijklmnopqrstuvw";
 
 impl ReadFrom for Typed<Numbers> {
     fn read_from<S: Source>(alloc: Global, reader: &mut S) -> Result<Self, DecodeError<S::Error>> {
-        answer(Deserializer::new(reader).deserialize_2_fields(alloc, "Numbers", "a", LONGEST))
+        let mut de = Deserializer::new(reader);
+        let presences = (Optional, (Optional, ()));
+        answer(de.deserialize_fields(alloc, "Numbers", &["a", LONGEST], &[], presences))
     }
 }
 
@@ -202,7 +205,7 @@ fn read_parts<S: Source>(
 const STRUCT: &[u8] = b"\xa3\x64list\x82\x01\x02\x65other\x81\x05\x64name\x61a";
 
 const FIELDS: &[Row] = table! {
-    (STRUCT, "Typed((Some(\"a\"), Some([1, 2]), None))", b""),
+    (STRUCT, "Typed((Some(\"a\"), (Some([1, 2]), (None, ()))))", b""),
 };
 
 const VARIANT: &str = "Typed(Variant { name: \"List\", content: [1, 2] })";
@@ -217,7 +220,7 @@ const PARTS: &[Row] = table! {
 
 /// Calls for structs, variants and parts.
 pub fn calls(tally: &mut Tally) -> Result<(), Broken> {
-    reads_rows::<Typed<Fields>>(tally, "deserialize_3_fields", FIELDS)?;
+    reads_rows::<Typed<Fields>>(tally, "deserialize_fields", FIELDS)?;
     reads_rows::<Typed<Variant>>(tally, "variant and newtype_variant", VARIANTS)?;
     reads_rows::<Typed<Parts>>(tally, "next_element", PARTS)
 }

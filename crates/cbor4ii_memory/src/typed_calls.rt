@@ -4,9 +4,9 @@ use crate::tally::{Broken, Tally};
 use crate::typed::as_core;
 use cbor4ii::Value;
 use cbor4ii::dec::IgnoredAny;
-use cbor4ii::serde::{self, Deserialize, Deserializer};
+use cbor4ii::serde::{self, Deserialize, Deserializer, Optional};
 use cbor4ii::types::Bytes;
-use cbor4ii_rw::error::DecodeError;
+use cbor4ii_rw::error::{DecodeError, StaticStr};
 use cbor4ii_rw::read::Source;
 use cbor4ii_vectors::table;
 use std::alloc::Global;
@@ -217,49 +217,35 @@ const CALL_ROWS: &[CallRow<Call>] = table! {
 // {(_ "k"): "v"}.
 const ONE: &[u8] = b"\xa1\x7f\x61k\xff\x61v";
 
-/// A struct of so many fields.
+/// A struct of so many fields, each of which may be missing.
 #[derive(Clone, Copy)]
-enum Struct {
-    One,
-    Two,
-    Four,
-    Five,
-    Six,
-    Seven,
-    Eight,
-    Nine,
-    Ten,
-    Eleven,
-    Twelve,
-}
+struct Struct(usize);
 
-/// What its fields hold.
+const NAMES: [StaticStr; 12] = ["a", "b", "c", "d", "e", "f", "g", "h", "i", "j", "k", "l"];
+
+/// A text, and the fields after it.
+type Text<V> = (Option<String>, V);
+
+/// A number, and the fields after it.
+type Number<V> = (Option<u8>, V);
+
+/// Three numbers, and the fields after them.
+type Three<V> = Number<Number<Number<V>>>;
+
+/// What the fields hold.
 #[derive(Debug, Drop)]
 enum Fields {
-    One(Option<String>),
-    Two((Option<u8>, Option<String>)),
-    Four((Option<String>, Option<u8>, Option<u8>, Option<u8>)),
-    Five(
-        (
-            Option<String>,
-            Option<u8>,
-            Option<u8>,
-            Option<u8>,
-            Option<u8>,
-        ),
-    ),
-    Six(
-        (
-            Option<String>,
-            Option<u8>,
-            Option<u8>,
-            Option<u8>,
-            Option<u8>,
-            Option<u8>,
-        ),
-    ),
-    /// The first and the last of more.
-    Ends(Option<String>, Option<u8>),
+    One(Text<()>),
+    Two(Number<Text<()>>),
+    Four(Text<Three<()>>),
+    Five(Text<Three<Number<()>>>),
+    Six(Text<Three<Number<Number<()>>>>),
+    Seven(Text<Three<Three<()>>>),
+    Eight(Text<Three<Three<Number<()>>>>),
+    Nine(Text<Three<Three<Number<Number<()>>>>>),
+    Ten(Text<Three<Three<Three<()>>>>),
+    Eleven(Text<Three<Three<Three<Number<()>>>>>),
+    Twelve(Text<Three<Three<Three<Number<Number<()>>>>>>),
 }
 
 impl Calls for Struct {
@@ -270,138 +256,104 @@ impl Calls for Struct {
         alloc: Global,
         reader: &mut S,
     ) -> Result<Fields, DecodeError<S::Error>> {
-        as_core(read_struct(self, alloc, &mut Deserializer::new(reader)))
+        as_core(read_struct(self.0, alloc, &mut Deserializer::new(reader)))
     }
 }
 
 fn read_struct<S: Source>(
-    count: Struct,
+    count: usize,
     alloc: Global,
     de: &mut Deserializer<S>,
 ) -> Result<Fields, serde::DecodeError<S::Error>> {
+    let (names, _) = NAMES.split_at(count.min(NAMES.len()));
+    let one = (Optional, ());
+    let two = (Optional, (Optional, ()));
+    let three = (Optional, (Optional, (Optional, ())));
     match count {
-        Struct::One => Ok(Fields::One(de.deserialize_1_field(alloc, "One", "a")?)),
-        Struct::Two => Ok(Fields::Two(de.deserialize_2_fields(alloc, "Two", "a", "b")?)),
-        Struct::Four => {
-            Ok(Fields::Four(de.deserialize_4_fields(alloc, "Four", "a", "b", "c", "d")?))
+        1 => Ok(Fields::One(de.deserialize_fields(alloc, "One", names, &[], one)?)),
+        2 => Ok(Fields::Two(de.deserialize_fields(alloc, "Two", names, &[], two)?)),
+        4 => Ok(Fields::Four(de.deserialize_fields(alloc, "Four", names, &[], four(()))?)),
+        5 => Ok(Fields::Five(de.deserialize_fields(alloc, "Five", names, &[], four(one))?)),
+        6 => Ok(Fields::Six(de.deserialize_fields(alloc, "Six", names, &[], four(two))?)),
+        7 => Ok(Fields::Seven(de.deserialize_fields(alloc, "Seven", names, &[], four(three))?)),
+        8 => Ok(Fields::Eight(de.deserialize_fields(alloc, "Eight", names, &[], eight(()))?)),
+        9 => Ok(Fields::Nine(de.deserialize_fields(alloc, "Nine", names, &[], eight(one))?)),
+        10 => Ok(Fields::Ten(de.deserialize_fields(alloc, "Ten", names, &[], eight(two))?)),
+        11 => Ok(Fields::Eleven(de.deserialize_fields(alloc, "Eleven", names, &[], eight(three))?)),
+        _ => {
+            let presences = eight(four(()));
+            Ok(Fields::Twelve(de.deserialize_fields(alloc, "Twelve", names, &[], presences)?))
         }
-        Struct::Five => {
-            Ok(Fields::Five(de.deserialize_5_fields(alloc, "Five", "a", "b", "c", "d", "e")?))
-        }
-        Struct::Six => {
-            Ok(Fields::Six(de.deserialize_6_fields(alloc, "Six", "a", "b", "c", "d", "e", "f")?))
-        }
-        _ => read_ends(count, alloc, de),
     }
 }
 
-/// The first and the last field of seven or more.
-fn read_ends<S: Source>(
-    count: Struct,
-    alloc: Global,
-    de: &mut Deserializer<S>,
-) -> Result<Fields, serde::DecodeError<S::Error>> {
-    match count {
-        Struct::Seven => {
-            let (a, .., g) = de.deserialize_7_fields::<String, u8, u8, u8, u8, u8, u8>(
-                alloc, "Seven", "a", "b", "c", "d", "e", "f", "g",
-            )?;
-            Ok(Fields::Ends(a, g))
-        }
-        Struct::Eight => {
-            let (a, .., h) = de.deserialize_8_fields::<String, u8, u8, u8, u8, u8, u8, u8>(
-                alloc, "Eight", "a", "b", "c", "d", "e", "f", "g", "h",
-            )?;
-            Ok(Fields::Ends(a, h))
-        }
-        Struct::Nine => {
-            let (a, .., i) = de.deserialize_9_fields::<String, u8, u8, u8, u8, u8, u8, u8, u8>(
-                alloc, "Nine", "a", "b", "c", "d", "e", "f", "g", "h", "i",
-            )?;
-            Ok(Fields::Ends(a, i))
-        }
-        Struct::Ten => {
-            let (a, .., j) = de.deserialize_10_fields::<String, u8, u8, u8, u8, u8, u8, u8, u8, u8>(
-                alloc, "Ten", "a", "b", "c", "d", "e", "f", "g", "h", "i", "j",
-            )?;
-            Ok(Fields::Ends(a, j))
-        }
-        Struct::Eleven => {
-            let (a, .., k) = de.deserialize_11_fields::<
-                String,
-                u8,
-                u8,
-                u8,
-                u8,
-                u8,
-                u8,
-                u8,
-                u8,
-                u8,
-                u8,
-            >(
-                alloc, "Eleven", "a", "b", "c", "d", "e", "f", "g", "h", "i", "j", "k",
-            )?;
-            Ok(Fields::Ends(a, k))
-        }
-        _ => {
-            let (a, .., l) = de.deserialize_12_fields::<
-                String,
-                u8,
-                u8,
-                u8,
-                u8,
-                u8,
-                u8,
-                u8,
-                u8,
-                u8,
-                u8,
-                u8,
-            >(
-                alloc, "Twelve", "a", "b", "c", "d", "e", "f", "g", "h", "i", "j", "k", "l",
-            )?;
-            Ok(Fields::Ends(a, l))
-        }
-    }
+/// Four fields, before others.
+type FourMore<K> = (Optional, (Optional, (Optional, (Optional, K))));
+
+fn four<K>(others: K) -> FourMore<K> {
+    (Optional, (Optional, (Optional, (Optional, others))))
+}
+
+fn eight<K>(others: K) -> FourMore<FourMore<K>> {
+    four(four(others))
 }
 
 const STRUCT_ROWS: &[CallRow<Struct>] = table! {
-    ("deserialize_1_field", Struct::One, b"\xa1\x61a\x61x\x00", "One(Some(\"x\"))", b"\x00"),
-    ("deserialize_1_field", Struct::One, b"\xa1\x7f\x61a\xff\x61x", "One(Some(\"x\"))", b""),
-    ("deserialize_2_fields", Struct::Two, b"\xa1\x61b\x61x", "Two((None, Some(\"x\")))", b""),
-    ("deserialize_4_fields", Struct::Four, FOUR, "Four((Some(\"x\"), None, None, Some(4)))", b""),
-    ("deserialize_5_fields", Struct::Five, FIVE, FIVE_FIELDS, b""),
-    ("deserialize_6_fields", Struct::Six, SIX, SIX_FIELDS, b""),
-    ("deserialize_7_fields", Struct::Seven, SEVEN, "Ends(Some(\"x\"), Some(7))", b""),
-    ("deserialize_8_fields", Struct::Eight, EIGHT, "Ends(Some(\"x\"), Some(8))", b""),
-    ("deserialize_9_fields", Struct::Nine, NINE, "Ends(Some(\"x\"), Some(9))", b""),
-    ("deserialize_10_fields", Struct::Ten, TEN, "Ends(Some(\"x\"), Some(10))", b""),
-    ("deserialize_11_fields", Struct::Eleven, ELEVEN, "Ends(Some(\"x\"), Some(11))", b""),
-    ("deserialize_12_fields", Struct::Twelve, TWELVE, "Ends(Some(\"x\"), Some(12))", b""),
+    ("one field", Struct(1), b"\xa1\x61a\x61x\x00", "One((Some(\"x\"), ()))", b"\x00"),
+    ("one field", Struct(1), b"\xa1\x7f\x61a\xff\x61x", "One((Some(\"x\"), ()))", b""),
+    ("two fields", Struct(2), b"\xa1\x61b\x61x", "Two((None, (Some(\"x\"), ())))", b""),
+    ("four fields", Struct(4), FOUR, FOUR_FIELDS, b""),
+    ("five fields", Struct(5), FIVE, FIVE_FIELDS, b""),
+    ("six fields", Struct(6), SIX, SIX_FIELDS, b""),
+    ("seven fields", Struct(7), SEVEN, SEVEN_FIELDS, b""),
+    ("eight fields", Struct(8), EIGHT, EIGHT_FIELDS, b""),
+    ("nine fields", Struct(9), NINE, NINE_FIELDS, b""),
+    ("ten fields", Struct(10), TEN, TEN_FIELDS, b""),
+    ("eleven fields", Struct(11), ELEVEN, ELEVEN_FIELDS, b""),
+    ("twelve fields", Struct(12), TWELVE, TWELVE_FIELDS, b""),
 };
 
 const FOUR: &[u8] = b"\xa2\x61a\x61x\x61d\x04";
 
+const FOUR_FIELDS: &str = "Four((Some(\"x\"), (None, (None, (Some(4), ())))))";
+
 const FIVE: &[u8] = b"\xa2\x61a\x61x\x61e\x05";
 
-const FIVE_FIELDS: &str = "Five((Some(\"x\"), None, None, None, Some(5)))";
+const FIVE_FIELDS: &str = "Five((Some(\"x\"), (None, (None, (None, (Some(5), ()))))))";
 
 const SIX: &[u8] = b"\xbf\x61f\x06\x61a\x61x\xff";
 
-const SIX_FIELDS: &str = "Six((Some(\"x\"), None, None, None, None, Some(6)))";
+const SIX_FIELDS: &str = "Six((Some(\"x\"), (None, (None, (None, (None, (Some(6), ())))))))";
 
 const SEVEN: &[u8] = b"\xa2\x61a\x61x\x61g\x07";
 
+const SEVEN_FIELDS: &str = "Seven((Some(\"x\"), (None, (None, (None, (None, (None, \
+(Some(7), ()))))))))";
+
 const EIGHT: &[u8] = b"\xa2\x61a\x61x\x61h\x08";
+
+const EIGHT_FIELDS: &str = "Eight((Some(\"x\"), (None, (None, (None, (None, (None, (None, \
+(Some(8), ())))))))))";
 
 const NINE: &[u8] = b"\xa2\x61a\x61x\x61i\x09";
 
+const NINE_FIELDS: &str = "Nine((Some(\"x\"), (None, (None, (None, (None, (None, (None, (None, \
+(Some(9), ()))))))))))";
+
 const TEN: &[u8] = b"\xa2\x61a\x61x\x61j\x0a";
+
+const TEN_FIELDS: &str = "Ten((Some(\"x\"), (None, (None, (None, (None, (None, (None, (None, \
+(None, (Some(10), ())))))))))))";
 
 const ELEVEN: &[u8] = b"\xa2\x61a\x61x\x61k\x0b";
 
+const ELEVEN_FIELDS: &str = "Eleven((Some(\"x\"), (None, (None, (None, (None, (None, (None, (None, \
+(None, (None, (Some(11), ()))))))))))))";
+
 const TWELVE: &[u8] = b"\xa2\x61a\x61x\x61l\x0c";
+
+const TWELVE_FIELDS: &str = "Twelve((Some(\"x\"), (None, (None, (None, (None, (None, (None, (None, \
+(None, (None, (None, (Some(12), ())))))))))))))";
 
 /// Typed values, each by its own call.
 pub fn types(tally: &mut Tally) -> Result<(), Broken> {

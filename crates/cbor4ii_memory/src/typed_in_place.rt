@@ -245,8 +245,8 @@ const VARIANTS: &[CallRow<Variant>] = table! {
 // Structs of two fields, of which each reader shows each name whole. A field of no known name is
 // skipped.
 const NUMBERS: &[Row] = table! {
-    (b"\xbf\x61a\x01\xff\x00", "Typed((Some(1), None))", b"\x00"),
-    (b"\xa2\x61z\x81\x05\x61a\x02", "Typed((Some(2), None))", b""),
+    (b"\xbf\x61a\x01\xff\x00", "Typed((Some(1), (None, ())))", b"\x00"),
+    (b"\xa2\x61z\x81\x05\x61a\x02", "Typed((Some(2), (None, ())))", b""),
 };
 
 /// Typed values and calls that take no memory.
@@ -255,5 +255,5 @@ pub fn typed(tally: &mut Tally) -> Result<(), Broken> {
     makes_calls(tally, Left::Never, NAMED_ROWS)?;
     makes_calls(tally, Left::Never, OPENED_ROWS)?;
     makes_calls(tally, Left::Never, VARIANTS)?;
-    reads_in_place::<Typed<Numbers>>(tally, "deserialize_2_fields", NUMBERS)
+    reads_in_place::<Typed<Numbers>>(tally, "deserialize_fields", NUMBERS)
 }

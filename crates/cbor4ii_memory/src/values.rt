@@ -40,7 +40,7 @@ const VALUES: &[Row] = table! {
     (b"\x42\x01\x02\x03", "Item(Bytes([1, 2]))", b"\x03"),
     (b"\xd8\x18\x7f\x61x\x61y\xff", "Item(Tag(24, Text(\"xy\")))", b""),
     (b"\xa1\x61a\x81\x20", "Item(Map([(Text(\"a\"), Array([Integer(-1)]))]))", b""),
-    (b"\xbf\x61a\xf4\x01\x61b\xff", MEMBERS, b""),
+    (b"\xbf\x61a\xf4\x01\x61b\xff", PAIRS, b""),
     (b"\x5f\x42\x01\x02\x43\x03\x04\x05\xff", "Item(Bytes([1, 2, 3, 4, 5]))", b""),
     (b"\x7f\x65strea\x64ming\xff", "Item(Text(\"streaming\"))", b""),
     (b"\x9f\xff", "Item(Array([]))", b""),
@@ -61,7 +61,7 @@ const VALUES: &[Row] = table! {
     (b"\x81\x82\x0a\x1a\x00\x01\x86\x9f", PAIR, b""),
 };
 
-const MEMBERS: &str = "Item(Map([(Text(\"a\"), Bool(false)), (Integer(1), Text(\"b\"))]))";
+const PAIRS: &str = "Item(Map([(Text(\"a\"), Bool(false)), (Integer(1), Text(\"b\"))]))";
 
 const NESTED: &str =
     "Item(Array([Integer(1), Array([Integer(2), Integer(3)]), Array([Integer(4), Integer(5)])]))";

@@ -2,14 +2,14 @@
 use Rattle.std.proofs.Common.{◌≡◌, sym, subst, refl}
 use Rattle.std.specs.Prelude.{Option, Some, None, Result, Ok, Err, IfSome, OnSome, IfNone, IfOk}
 use Rattle.std.specs.Prelude.{IsSome, MatchOption, MatchResult}
-use Rattle.cbor4ii_rw.specs.Parted.{Parts}
+use Rattle.cbor4ii_rw.specs.Parted.{PartsAnswer}
 
 abbrev pub as_option : {T E : Type 0} → Result T E → Option T
 as_option (Ok x) = Some x
 as_option (Err e) = None
 
 pub is_option : {T E : Type 0} (r : Result T E) (before after : Option E) (o : Option T)
-    → Parts r before after o → o ≡ as_option r
+    → PartsAnswer r before after o → o ≡ as_option r
 is_option (Ok x) before after o p = p.0
 is_option (Err e) before after o p = p.0
 
@@ -18,12 +18,12 @@ at_option Q (Ok x) q = q
 at_option Q (Err e) q = tt
 
 pub slot_kept : {T E : Type 0} (r : Result T E) (before after : Option E) (o : Option T)
-    → Parts r before after o → OnSome o (after ≡ before)
+    → PartsAnswer r before after o → OnSome o (after ≡ before)
 slot_kept (Ok x) before after o p = subst (λ t. OnSome t (after ≡ before)) (sym p.0) p.1
 slot_kept (Err e) before after o p = subst (λ t. OnSome t (after ≡ before)) (sym p.0) tt
 
 pub error_kept : {T E : Type 0} (r : Result T E) (before after : Option E) (o : Option T)
-    → Parts r before after o → IfNone o (IsSome after)
+    → PartsAnswer r before after o → IfNone o (IsSome after)
 error_kept (Ok x) before after o p = subst (λ t. IfNone t (IsSome after)) (sym p.0) tt
 error_kept (Err e) before after o p = subst (λ t. IfNone o (IsSome t)) (sym p.1)
     (subst (λ t. IfNone t (IsSome (Some e))) (sym p.0) refl)

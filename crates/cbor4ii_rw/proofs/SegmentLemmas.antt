@@ -6,7 +6,8 @@ use Rattle.std.proofs.lemmas.Bool.{ltb-true}
 use Rattle.std.specs.Prelude.{IsTrue}
 use Rattle.std.specs.Borrow.{Bor}
 use Rattle.cbor4ii_rw.specs.Reader.{IsPrefix, IsEnough}
-use Rattle.cbor4ii_rw.specs.Segments.{joined_segments, full, full_count, first_of, first_full}
+use Rattle.cbor4ii_rw.specs.Segments.{joined_segments, count_of_full, full_count, first_nonempty}
+use Rattle.cbor4ii_rw.specs.Segments.{first_full}
 
 nothing_left : (current others : List ℕ) → length current ≡ 0 → others ≡ [] → current ++ others ≡ []
 nothing_left [] others none end = end
@@ -30,7 +31,7 @@ prefix_of_current want n current others is end = record {
     long : length (take n current) ≡ n
     long = shown_length want n current is
 
-full_zero : (bytes : List ℕ) → full bytes ≡ 0 → bytes ≡ []
+full_zero : (bytes : List ℕ) → count_of_full bytes ≡ 0 → bytes ≡ []
 full_zero [] none = refl
 full_zero (byte ∷ bytes) none = absurd (search (none, rules))
 
@@ -43,17 +44,17 @@ none_full (segment ∷ others) none =
 
 last_full : (current : List ℕ) (others : List (Bor (List ℕ)))
     → (length current ≡ 0 → current ++ joined_segments others ≡ [])
-    → full current + full_count others < 2
+    → count_of_full current + full_count others < 2
     → joined_segments others ≡ []
 last_full [] others end one = end refl
 last_full (byte ∷ bytes) others end one = none_full others (omega arith)
 
 pub current_is_enough : (want n : ℕ) (current : List ℕ) (others : List (Bor (List ℕ)))
     → n ≡ min want (length current) → (length current ≡ 0 → current ++ joined_segments others ≡ [])
-    → IsTrue (nat_lt (full current + full_count others) 2)
+    → IsTrue (nat_lt (count_of_full current + full_count others) 2)
     → IsEnough want (take n current) (current ++ joined_segments others)
 current_is_enough want n current others is end one =
-    let few = ltb-true (full current + full_count others) 2 one in
+    let few = ltb-true (count_of_full current + full_count others) 2 one in
     let long = shown_length want n current is in
     let none_after : joined_segments others ≡ [] = last_full current others end few in
     omega (arith, is, long, length-append current (joined_segments others), ap length none_after)
@@ -62,7 +63,7 @@ nothing_full : (others : List (Bor (List ℕ))) → length (joined_segments othe
     → first_full others ≡ []
 nothing_full [] none = refl
 nothing_full (segment ∷ others) none =
-    ap (λ bytes. first_of bytes (first_full others))
+    ap (λ bytes. first_nonempty bytes (first_full others))
     (nil_from_length segment.now
     (omega (arith, none, length-append segment.now (joined_segments others))))
     ∙ nothing_full others (omega (arith, none, length-append segment.now (joined_segments others)))
@@ -70,6 +71,6 @@ nothing_full (segment ∷ others) none =
 -- once empty segments are passed, the current one is shown
 pub current_is_shown : (current : List ℕ) (others : List (Bor (List ℕ)))
     → (length current ≡ 0 → current ++ joined_segments others ≡ [])
-    → first_of current (first_full others) ≡ current
+    → first_nonempty current (first_full others) ≡ current
 current_is_shown [] others end = nothing_full others (ap length (end refl))
 current_is_shown (byte ∷ bytes) others end = refl

@@ -12,20 +12,8 @@ use Rattle.cbor4ii_rw.specs.declared.error.DecodeError.TheVariants.{OutOfMemory,
 
 -- the input ended too early
 abbrev pub is_eof : {E : Type 0} → DecodeError E → Bool
-is_eof (Read e) = false
-is_eof (Mismatch name found) = false
-is_eof (Unsupported name found) = false
 is_eof (Eof name expect) = true
-is_eof (RequireLength name found) = false
-is_eof (RequireBorrowed name) = false
-is_eof (RequireUtf8 name) = false
-is_eof (LengthOverflow name found) = false
-is_eof (CastOverflow name) = false
-is_eof (ArithmeticOverflow name ty) = false
-is_eof (DepthOverflow name) = false
-is_eof (Custom name num) = false
-is_eof OutOfMemory = false
-is_eof (NotCanonical name) = false
+is_eof _ = false
 
 -- what was read
 abbrev pub name_of : {E : Type 0} → DecodeError E → Option (Bor (List ℕ))
@@ -46,17 +34,6 @@ name_of (NotCanonical name) = Some name
 
 -- the byte that was found in the place of another
 abbrev pub byte_of : {E : Type 0} → DecodeError E → Option ℕ
-byte_of (Read e) = None
 byte_of (Mismatch name found) = Some found
 byte_of (Unsupported name found) = Some found
-byte_of (Eof name expect) = None
-byte_of (RequireLength name found) = None
-byte_of (RequireBorrowed name) = None
-byte_of (RequireUtf8 name) = None
-byte_of (LengthOverflow name found) = None
-byte_of (CastOverflow name) = None
-byte_of (ArithmeticOverflow name ty) = None
-byte_of (DepthOverflow name) = None
-byte_of (Custom name num) = None
-byte_of OutOfMemory = None
-byte_of (NotCanonical name) = None
+byte_of _ = None

@@ -10,28 +10,28 @@ joined_segments [] = []
 joined_segments (segment ∷ others) = segment.now ++ joined_segments others
 
 -- 1 for a segment that has bytes
-abbrev pub full : List ℕ → ℕ
-full [] = 0
-full (byte ∷ bytes) = 1
+abbrev pub count_of_full : List ℕ → ℕ
+count_of_full [] = 0
+count_of_full (byte ∷ bytes) = 1
 
 -- how many segments have bytes
 abbrev pub full_count : List (Bor (List ℕ)) → ℕ
 full_count [] = 0
-full_count (segment ∷ others) = full segment.now + full_count others
+full_count (segment ∷ others) = count_of_full segment.now + full_count others
 
 -- the first bytes, unless there are none; then the others
-abbrev pub first_of : List ℕ → List ℕ → List ℕ
-first_of [] others = others
-first_of (byte ∷ bytes) others = byte ∷ bytes
+abbrev pub first_nonempty : List ℕ → List ℕ → List ℕ
+first_nonempty [] others = others
+first_nonempty (byte ∷ bytes) others = byte ∷ bytes
 
 -- the first segment that has bytes
 abbrev pub first_full : List (Bor (List ℕ)) → List ℕ
 first_full [] = []
-first_full (segment ∷ others) = first_of segment.now (first_full others)
+first_full (segment ∷ others) = first_nonempty segment.now (first_full others)
 
 -- what is left of the segment that a reader stands in, or of the next that has bytes
 abbrev pub shown_segment : SegmentReader → List ℕ
-shown_segment reader = first_of reader.current.now (first_full reader.segments.now)
+shown_segment reader = first_nonempty reader.current.now (first_full reader.segments.now)
 
 -- the bytes that a reader has left
 abbrev pub rest_of : SegmentReader → List ℕ
@@ -39,7 +39,7 @@ rest_of reader = reader.current.now ++ joined_segments reader.segments.now
 
 -- how many of its segments still have bytes
 abbrev pub full_of : SegmentReader → ℕ
-full_of reader = full reader.current.now + full_count reader.segments.now
+full_of reader = count_of_full reader.current.now + full_count reader.segments.now
 
 -- it reports all its bytes and never fails; it is zero-copy where at most one segment still has
 -- bytes

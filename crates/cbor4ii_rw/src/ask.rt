@@ -11,7 +11,7 @@ ghost use Rattle.std.specs.Io.BufRead.{Rests};
 ghost use Rattle.cbor4ii_rw.specs.View.{IfKnown};
 ghost use Rattle.cbor4ii_rw.specs.Reader.{IsPrefix, IsEnough, Shows, ReaderFails, Takes};
 ghost use Rattle.cbor4ii_rw.specs.Reference.{bytes_of, IsLong, IsSubslice};
-ghost use Rattle.cbor4ii_rw.specs.Parted.{Parts};
+ghost use Rattle.cbor4ii_rw.specs.Parted.{PartsAnswer};
 
 use crate::read::{Read, Reference, Source};
 
@@ -97,7 +97,7 @@ pub fn next_byte<S: Source>(reader: &mut S) -> Result<Option<u8>, S::Error>
 // An `Ok` is passed on, and an error goes to `failure`.
 #[inline(always)]
 fn part<T, E: Drop>(answer: Result<T, E>, failure: &mut Option<E>) -> Option<T>
-    ensures { Parts answer failure.old failure.new result }
+    ensures { PartsAnswer answer failure.old failure.new result }
 {
     match answer {
         Ok(prefix) => Some(prefix),

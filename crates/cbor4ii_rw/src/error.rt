@@ -176,6 +176,15 @@ pub enum WholeError<E> {
     Trailing(usize),
 }
 
+/// Why an input was rejected, and at which byte.
+#[derive(Clone, Debug, PartialEq, Eq, Drop)]
+pub struct ErrorAt<E> {
+    /// How many bytes were taken, from the first one: what the error leaves begins at this byte.
+    pub at: usize,
+    /// Why.
+    pub error: E,
+}
+
 /// Why a value was not written.
 #[derive(Clone, Debug, PartialEq, Eq, Drop)]
 pub enum EncodeError<E> {
@@ -234,8 +243,18 @@ impl<E: fmt::Display> fmt::Display for WholeError<E> {
     }
 }
 
+/// The byte, and the error.
+impl<E: fmt::Display> fmt::Display for ErrorAt<E> {
+    fn fmt<W: fmt::Write>(&self, f: &mut fmt::Formatter<W>) -> fmt::Result {
+        let ErrorAt { at, error } = self;
+        write!(f, "byte {at}: {error}")
+    }
+}
+
 impl<E: fmt::Debug + Drop> Error for DecodeError<E> {}
 
 impl<E: Error> Error for WholeError<E> {}
+
+impl<E: Error> Error for ErrorAt<E> {}
 
 impl<E: fmt::Debug + Drop> Error for EncodeError<E> {}

@@ -11,11 +11,12 @@ use Rattle.cbor4ii_items.specs.Laws.Written.{writes_then, writes_err, writes_as}
 use Rattle.cbor4ii_ser.specs.declared.error.EncodeError.TheVariants.{Core, Custom}
 use Rattle.cbor4ii_ser.specs.Serializing.{Serializes}
 use Rattle.cbor4ii_ser.specs.Pieces.{Pending, nothing_yet, written, after, last_bytes, text_bytes}
-use Rattle.cbor4ii_ser.specs.TextState.{TextSeen, Wrote, Flushes, Pends, outcome, text_encoding}
+use Rattle.cbor4ii_ser.specs.TextState.{TextSeen, Wrote, Flushes, Pends, writing_outcome}
+use Rattle.cbor4ii_ser.specs.TextState.{text_encoding}
 use Rattle.cbor4ii_ser.specs.TextState.{unended_bytes}
 
 flushed_on : {E : Type 0} {whole : Bool} (ps : List (List ℕ)) (p q : Pending) (o m n : Output)
-    (g : Option E) (r : Result (Unit {0}) E) → Writes whole (written p ps) o m (outcome g)
+    (g : Option E) (r : Result (Unit {0}) E) → Writes whole (written p ps) o m (writing_outcome g)
     → Pends ps p q g → (g ≡ None → Writes whole (last_bytes q) m n r)
     → ((e : E) → g ≡ Some e → (r ≡ Err e) × (n ≡ m))
     → Writes whole (written p ps ++ last_bytes (after p ps)) o n r
@@ -66,13 +67,13 @@ module _ {E : Type 0} {whole : Bool} where
       {E = E} whole (text_encoding fails_itself ps) a.output b.output (Err (Core e))
   collected_failed true {ps = ps} {a = a} {b = b} e is fine start w =
       let at : Writes whole (unended_bytes ps) a.output b.output (Err e) =
-      subst (λ z. Writes whole (unended_bytes ps) a.output b.output (outcome z)) is
-      (subst (λ z. Writes whole (written z ps) a.output b.output (outcome b.failure)) start
+      subst (λ z. Writes whole (unended_bytes ps) a.output b.output (writing_outcome z)) is
+      (subst (λ z. Writes whole (written z ps) a.output b.output (writing_outcome b.failure)) start
       (w.writes fine)) in
       record { appends = tt; counts = tt; failed = at.failed; prefix = at.prefix }
   collected_failed false {ps = ps} {a = a} {b = b} e is fine start w =
-      let at : Writes whole (written a.pending ps) a.output b.output (outcome (Some e)) =
-      subst (λ z. Writes whole (written a.pending ps) a.output b.output (outcome z)) is
+      let at : Writes whole (written a.pending ps) a.output b.output (writing_outcome (Some e)) =
+      subst (λ z. Writes whole (written a.pending ps) a.output b.output (writing_outcome z)) is
       (w.writes fine) in
       collected_err false ps refl
       (writes_as (Err e) (ap (λ z. written z ps ++ last_bytes (after z ps)) start)
@@ -86,8 +87,8 @@ module _ {E : Type 0} {whole : Bool} where
       {E = E} whole (text_encoding fails_itself ps) a.output b.output (Err (Custom text))
   collected_rejected true {ps = ps} {a = a} {b = b} text said is fine start why w =
       let at : Writes whole (unended_bytes ps) a.output b.output (Ok tt) =
-      subst (λ z. Writes whole (unended_bytes ps) a.output b.output (outcome z)) is
-      (subst (λ z. Writes whole (written z ps) a.output b.output (outcome b.failure)) start
+      subst (λ z. Writes whole (unended_bytes ps) a.output b.output (writing_outcome z)) is
+      (subst (λ z. Writes whole (written z ps) a.output b.output (writing_outcome b.failure)) start
       (w.writes fine)) in
       record {
         appends = tt;

@@ -1,14 +1,16 @@
 -- The pieces determine the chunks.
 use Rattle.std.proofs.Common.{◌≡◌, ℕ, ◌+◌, ◌<◌, List, [], ◌∷◌, ◌++◌, length, refl, sym, ap, ap₂}
 use Rattle.std.proofs.Common.{◌∙◌, inl, inr, arith, append_assoc, length-append, subst}
-use Rattle.cbor4ii_items.specs.Strings.{joined, opening, closing}
+use Rattle.cbor4ii_items.specs.Strings.{joined_content, opening, closing}
 use Rattle.cbor4ii_ser.specs.Pieces.{chunk_most, without_empty, IsFull, IsChunkOf, IsCut, Chunks}
 use Rattle.cbor4ii_ser.specs.Pieces.{one, several, definite_chunks}
 
-pub joined_append : (ps qs : List (List ℕ)) → joined (ps ++ qs) ≡ joined ps ++ joined qs
+pub joined_append : (ps qs : List (List ℕ)) → joined_content (ps ++ qs) ≡ joined_content ps
+    ++ joined_content qs
 joined_append [] qs = refl
 joined_append (p ∷ ps) qs =
-    ap (λ z. p ++ z) (joined_append ps qs) ∙ sym (append_assoc p (joined ps) (joined qs))
+    ap (λ z. p ++ z) (joined_append ps qs)
+    ∙ sym (append_assoc p (joined_content ps) (joined_content qs))
 
 -- two prefixes of one list: they are the same, or one goes on after the other
 data Prefixes (a b c d : List (List ℕ)) : Type 0 where
@@ -36,15 +38,18 @@ too_long : (chunk other : List ℕ) (run more t : List (List ℕ)) (x : List ℕ
     → IsChunkOf chunk run → IsChunkOf other more → more ≡ run ++ (x ∷ t) → IsFull chunk (x ∷ rest)
     → ⊥
 too_long chunk other run more t x rest is are e full =
-    let bytes : length other ≡ length (joined run) + (length x + length (joined t)) =
-    ap length (are.joins ∙ (ap joined e ∙ joined_append run (x ∷ t))) ∙ (length-append (joined run)
-    (x ++ joined t) ∙ ap (λ n. length (joined run) + n) (length-append x (joined t))) in
+    let bytes : length other ≡ length (joined_content run) + (length x + length (joined_content t))
+    =
+    ap length (are.joins ∙ (ap joined_content e ∙ joined_append run (x ∷ t)))
+    ∙ (length-append (joined_content run)
+    (x ++ joined_content t) ∙ ap (λ n. length (joined_content run) + n)
+    (length-append x (joined_content t))) in
     let runs : length more ≡ length run + length (x ∷ t) =
     ap length e ∙ length-append run (x ∷ t) in
     let one_more : 0 < length (x ∷ t) = omega arith in
     let some : 0 < length run = is.some in
     let long : chunk_most < length chunk + length x = omega (arith, full, length-append chunk x) in
-    let is_run : length chunk ≡ length (joined run) = ap length is.joins in
+    let is_run : length chunk ≡ length (joined_content run) = ap length is.joins in
     elim are.short [
       | inl short ↦ omega (arith, short, bytes, long, is_run)
       | inr single ↦ omega (arith, single, runs, some, one_more)
@@ -60,7 +65,7 @@ cut_same pieces [] (d ∷ ds) p q = absurd (no_run q.0 q.1 (sym p ∙ q.2) q.3.s
 cut_same pieces (c ∷ cs) [] p q = absurd (no_run p.0 p.1 (sym q ∙ p.2) p.3.some)
 cut_same pieces (c ∷ cs) (d ∷ ds) p q =
     elim (prefixes p.0 p.1 q.0 q.1 (sym p.2 ∙ q.2)) [
-      | same e f ↦ ap₂ (λ u v. u ∷ v) (p.3.joins ∙ (ap joined e ∙ sym q.3.joins))
+      | same e f ↦ ap₂ (λ u v. u ∷ v) (p.3.joins ∙ (ap joined_content e ∙ sym q.3.joins))
           (cut_same q.1 cs ds (subst (λ z. IsCut z cs) f p.5) q.5)
       | longer x t e f ↦
           absurd (too_long c d p.0 q.0 t x (t ++ q.1) p.3 q.3 e (subst (λ z. IsFull c z) f p.4))

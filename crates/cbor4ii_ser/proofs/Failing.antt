@@ -5,7 +5,7 @@ use Rattle.std.specs.Prelude.{IsErr, IfSome}
 use Rattle.cbor4ii_rw.specs.Writer.{Output}
 use Rattle.cbor4ii_ser.specs.declared.error.EncodeError.{EncodeError}
 use Rattle.cbor4ii_ser.specs.Item.{Encoding, encoded, followed}
-use Rattle.cbor4ii_ser.specs.Serializing.{Serializes, answered}
+use Rattle.cbor4ii_ser.specs.Serializing.{Serializes, done_or_answer}
 use Rattle.cbor4ii_ser.specs.Laws.Joining.{serializes_err, serializes_both_err}
 
 -- the first part failed
@@ -18,9 +18,10 @@ failed_then b (Ok t) is p = search rules
 -- the first part failed, and this was handed on
 pub failed_out : {E : Type 0} {atomic : Bool} {a : Encoding} (b : Encoding) {old new : Output}
     (o : Option (Unit {0})) (left : Result (Unit {0}) (EncodeError E)) → o ≡ None → IsErr left
-    → Serializes atomic a old new left → Serializes atomic (followed a b) old new (answered o left)
+    → Serializes atomic a old new left → Serializes atomic (followed a b) old new
+    (done_or_answer o left)
 failed_out {atomic = atomic} {a = a} b {old = old} {new = new} o left e is p =
-    subst (λ x. Serializes atomic (followed a b) old new (answered x left)) (sym e)
+    subst (λ x. Serializes atomic (followed a b) old new (done_or_answer x left)) (sym e)
     (failed_then b left is p)
 
 both_err : {E : Type 0} {atomic : Bool} {xs : List ℕ} (ys : List ℕ) {old new : Output}
@@ -33,13 +34,13 @@ both_err ys (Ok t) is p = search rules
 pub both_out : {E : Type 0} {atomic : Bool} {xs : List ℕ} (ys : List ℕ) {old new : Output}
     (o : Option (Unit {0})) (left : Result (Unit {0}) (EncodeError E)) → o ≡ None → IsErr left
     → Serializes atomic (encoded xs) old new left
-    → Serializes atomic (encoded (xs ++ ys)) old new (answered o left)
+    → Serializes atomic (encoded (xs ++ ys)) old new (done_or_answer o left)
 both_out {atomic = atomic} {xs = xs} ys {old = old} {new = new} o left e is p =
-    subst (λ x. Serializes atomic (encoded (xs ++ ys)) old new (answered x left)) (sym e)
+    subst (λ x. Serializes atomic (encoded (xs ++ ys)) old new (done_or_answer x left)) (sym e)
     (both_err ys left is p)
 
 answered_is : {E : Type 0} (o : Option (Unit {0})) (left : Result (Unit {0}) (EncodeError E))
-    → IfSome o (λ _. left ≡ Ok tt) → answered o left ≡ left
+    → IfSome o (λ _. left ≡ Ok tt) → done_or_answer o left ≡ left
 answered_is (Some u) left p = sym p
 answered_is None left p = refl
 
@@ -47,6 +48,6 @@ answered_is None left p = refl
 pub from_slot : {E : Type 0} {atomic : Bool} {a : Encoding} {old new : Output} (o : Option
     (Unit {0}))
     (left : Result (Unit {0}) (EncodeError E)) → IfSome o (λ _. left ≡ Ok tt)
-    → Serializes atomic a old new (answered o left) → Serializes atomic a old new left
+    → Serializes atomic a old new (done_or_answer o left) → Serializes atomic a old new left
 from_slot {atomic = atomic} {a = a} {old = old} {new = new} o left kept p =
     subst (λ r. Serializes atomic a old new r) (answered_is o left kept) p

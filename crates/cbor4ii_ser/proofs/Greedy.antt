@@ -4,10 +4,12 @@ use Rattle.std.proofs.Common.{length, refl, sym, ap, ◌∙◌, inl, inr, arith,
 use Rattle.std.proofs.Common.{length-append, subst}
 use Rattle.std.proofs.lemmas.List.{append-nil}
 use Rattle.std.proofs.lemmas.Bool.{leb-false, leb-true}
-use Rattle.cbor4ii_items.specs.Strings.{joined, definite_string, opening, closing}
+use Rattle.cbor4ii_items.specs.Strings.{joined_content, definite_string, opening, closing}
 use Rattle.cbor4ii_ser.specs.Pieces.{chunk_most, without_empty, IsFull, IsCut, Chunks, one, several}
-use Rattle.cbor4ii_ser.specs.Pieces.{definite_chunks, Pending, fits_after, run_bytes, long_bytes}
-use Rattle.cbor4ii_ser.specs.Pieces.{piece_bytes, piece_pending, held, written, after, last_bytes}
+use Rattle.cbor4ii_ser.specs.Pieces.{definite_chunks, Pending, piece_fits_after, run_bytes}
+use Rattle.cbor4ii_ser.specs.Pieces.{long_bytes}
+use Rattle.cbor4ii_ser.specs.Pieces.{piece_bytes, piece_pending, held_piece, written, after}
+use Rattle.cbor4ii_ser.specs.Pieces.{last_bytes}
 use Rattle.cbor4ii_ser.specs.Pieces.{text_bytes}
 use Rattle.cbor4ii_ser.proofs.Determined.{joined_append}
 
@@ -17,12 +19,13 @@ without_empty_append [] qs = refl
 without_empty_append ([] ∷ ps) qs = without_empty_append ps qs
 without_empty_append ((b ∷ bs) ∷ ps) qs = ap (λ z. (b ∷ bs) ∷ z) (without_empty_append ps qs)
 
-pub joined_without_empty : (ps : List (List ℕ)) → joined (without_empty ps) ≡ joined ps
+pub joined_without_empty : (ps : List (List ℕ)) → joined_content (without_empty ps) ≡ joined_content
+    ps
 joined_without_empty [] = refl
 joined_without_empty ([] ∷ ps) = joined_without_empty ps
 joined_without_empty ((b ∷ bs) ∷ ps) = ap (λ z. (b ∷ bs) ++ z) (joined_without_empty ps)
 
-none_without_empty : (ps : List (List ℕ)) → joined ps ≡ [] → without_empty ps ≡ []
+none_without_empty : (ps : List (List ℕ)) → joined_content ps ≡ [] → without_empty ps ≡ []
 none_without_empty [] e = refl
 none_without_empty ([] ∷ ps) e = none_without_empty ps e
 none_without_empty ((b ∷ bs) ∷ ps) e = absurd (cc)
@@ -37,7 +40,7 @@ encoded_at t p a ps =
     ++ last_bytes (after (piece_pending t p a) ps)
 
 encoded_cons : (p : Pending) (a : List ℕ) (ps : List (List ℕ))
-    → of_tree p (a ∷ ps) ≡ encoded_at (fits_after p a) p a ps
+    → of_tree p (a ∷ ps) ≡ encoded_at (piece_fits_after p a) p a ps
 unfolding written after
 encoded_cons p a ps = refl
 
@@ -59,7 +62,7 @@ cuts_as {ps = ps} {qs = qs} {a = a} {b = b} e f p =
 
 -- a run that is held back, as a chunk before others
 with_run : (fs : List (List ℕ)) (run : List ℕ) (rest : List (List ℕ)) (bytes : List ℕ)
-    → run ≡ joined fs → (run ≡ [] → fs ≡ []) → length run ≤ chunk_most → IsFull run rest
+    → run ≡ joined_content fs → (run ≡ [] → fs ≡ []) → length run ≤ chunk_most → IsFull run rest
     → Cuts rest bytes → Cuts (fs ++ rest) (run_bytes run ++ bytes)
 with_run fs [] rest bytes is empty short full p =
     cuts_as (ap (λ z. z ++ rest) (sym (empty refl))) refl p
@@ -72,11 +75,11 @@ with_run (f ∷ fs) (b ∷ bs) rest bytes is empty short full p =
           ∙ sym (append_assoc (definite_string 3 (b ∷ bs)) (definite_chunks p.0) closing),
     )
 
-with_held : (us rest : List (List ℕ)) (bytes : List ℕ) → length (joined us) ≤ chunk_most
-    → IsFull (joined us) rest → Cuts rest bytes
-    → Cuts (without_empty us ++ rest) (run_bytes (joined us) ++ bytes)
+with_held : (us rest : List (List ℕ)) (bytes : List ℕ) → length (joined_content us) ≤ chunk_most
+    → IsFull (joined_content us) rest → Cuts rest bytes
+    → Cuts (without_empty us ++ rest) (run_bytes (joined_content us) ++ bytes)
 with_held us rest bytes short full p =
-    with_run (without_empty us) (joined us) rest bytes (sym (joined_without_empty us))
+    with_run (without_empty us) (joined_content us) rest bytes (sym (joined_without_empty us))
     (none_without_empty us) short full p
 
 -- a long piece, as a chunk before others
@@ -101,33 +104,35 @@ full_long : (a : List ℕ) (rest : List (List ℕ)) → chunk_most < length a �
 full_long a [] h = tt
 full_long a (p ∷ rest) h = omega (arith, h, length-append a p)
 
-joined_one : (us : List (List ℕ)) (a : List ℕ) → joined (us ++ (a ∷ [])) ≡ joined us ++ a
-joined_one us a = joined_append us (a ∷ []) ∙ ap (λ z. joined us ++ z) (append-nil a)
+joined_one : (us : List (List ℕ)) (a : List ℕ) → joined_content (us ++ (a ∷ [])) ≡ joined_content us
+    ++ a
+joined_one us a = joined_append us (a ∷ []) ∙ ap (λ z. joined_content us ++ z) (append-nil a)
 
 -- a piece that does not fit after the run
 trailing : (u : Bool) (us : List (List ℕ)) (b : ℕ) (bs : List ℕ) (ps : List (List ℕ))
-    → nat_le (length (b ∷ bs)) chunk_most ≡ u → length (joined us) ≤ chunk_most
-    → chunk_most < length (joined us) + length (b ∷ bs)
-    → ((vs : List (List ℕ)) → length (joined vs) ≤ chunk_most
-    → Cuts (without_empty vs ++ without_empty ps) (of_tree (run_of true (joined vs)) ps))
+    → nat_le (length (b ∷ bs)) chunk_most ≡ u → length (joined_content us) ≤ chunk_most
+    → chunk_most < length (joined_content us) + length (b ∷ bs)
+    → ((vs : List (List ℕ)) → length (joined_content vs) ≤ chunk_most
+    → Cuts (without_empty vs ++ without_empty ps) (of_tree (run_of true (joined_content vs)) ps))
     → Cuts (without_empty us ++ without_empty ((b ∷ bs) ∷ ps))
-    ((run_bytes (joined us) ++ long_bytes u (b ∷ bs))
-    ++ of_tree (run_of true (held u (b ∷ bs))) ps)
+    ((run_bytes (joined_content us) ++ long_bytes u (b ∷ bs))
+    ++ of_tree (run_of true (held_piece u (b ∷ bs))) ps)
 trailing true us b bs ps is short long rec =
-    let fit : length (joined ((b ∷ bs) ∷ [])) ≤ chunk_most =
+    let fit : length (joined_content ((b ∷ bs) ∷ [])) ≤ chunk_most =
     omega (arith, leb-true (length (b ∷ bs)) chunk_most is, ap length (append-nil (b ∷ bs))) in
-    let full : chunk_most < length (joined us ++ (b ∷ bs)) =
-    omega (arith, long, length-append (joined us) (b ∷ bs)) in
-    cuts_as refl (sym (append_assoc (run_bytes (joined us)) [] (of_tree (run_of true (b ∷ bs)) ps)))
+    let full : chunk_most < length (joined_content us ++ (b ∷ bs)) =
+    omega (arith, long, length-append (joined_content us) (b ∷ bs)) in
+    cuts_as refl (sym (append_assoc (run_bytes (joined_content us)) []
+    (of_tree (run_of true (b ∷ bs)) ps)))
     (with_held us ((b ∷ bs) ∷ without_empty ps) (of_tree (run_of true (b ∷ bs)) ps) short full
     (cuts_as refl (ap (λ z. of_tree (run_of true z) ps) (append-nil (b ∷ bs)))
     (rec ((b ∷ bs) ∷ []) fit)))
 trailing false us b bs ps is short long rec =
     let big : chunk_most < length (b ∷ bs) = leb-false (length (b ∷ bs)) chunk_most is in
-    let full : chunk_most < length (joined us ++ (b ∷ bs)) =
-    omega (arith, long, length-append (joined us) (b ∷ bs)) in
+    let full : chunk_most < length (joined_content us ++ (b ∷ bs)) =
+    omega (arith, long, length-append (joined_content us) (b ∷ bs)) in
     let none : 0 ≤ chunk_most = omega arith in
-    cuts_as refl (sym (append_assoc (run_bytes (joined us)) (definite_string 3 (b ∷ bs))
+    cuts_as refl (sym (append_assoc (run_bytes (joined_content us)) (definite_string 3 (b ∷ bs))
     (of_tree (run_of true []) ps)))
     (with_held us ((b ∷ bs) ∷ without_empty ps)
     (definite_string 3 (b ∷ bs) ++ of_tree (run_of true []) ps) short full
@@ -135,45 +140,47 @@ trailing false us b bs ps is short long rec =
     (full_long (b ∷ bs) (without_empty ps) big) (rec [] none)))
 
 cut_at : (t : Bool) (us : List (List ℕ)) (a : List ℕ) (ps : List (List ℕ))
-    → fits_after (run_of true (joined us)) a ≡ t → length (joined us) ≤ chunk_most
-    → ((vs : List (List ℕ)) → length (joined vs) ≤ chunk_most
-    → Cuts (without_empty vs ++ without_empty ps) (of_tree (run_of true (joined vs)) ps))
+    → piece_fits_after (run_of true (joined_content us)) a ≡ t → length (joined_content us) ≤
+    chunk_most
+    → ((vs : List (List ℕ)) → length (joined_content vs) ≤ chunk_most
+    → Cuts (without_empty vs ++ without_empty ps) (of_tree (run_of true (joined_content vs)) ps))
     → Cuts (without_empty us ++ without_empty (a ∷ ps))
-    (encoded_at t (run_of true (joined us)) a ps)
+    (encoded_at t (run_of true (joined_content us)) a ps)
 cut_at true us a ps is short rec =
-    let fit : length (joined (us ++ (a ∷ []))) ≤ chunk_most =
+    let fit : length (joined_content (us ++ (a ∷ []))) ≤ chunk_most =
     omega (
       arith,
-      leb-true (length (joined us) + length a) chunk_most is,
+      leb-true (length (joined_content us) + length a) chunk_most is,
       ap length (joined_one us a),
-      length-append (joined us) a,
+      length-append (joined_content us) a,
     ) in
     cuts_as (ap (λ z. z ++ without_empty ps) (without_empty_append us (a ∷ []))
     ∙ (append_assoc (without_empty us) (without_empty (a ∷ [])) (without_empty ps)
     ∙ ap (λ z. without_empty us ++ z) (sym (without_empty_append (a ∷ []) ps))))
     (ap (λ z. of_tree (run_of true z) ps) (joined_one us a)) (rec (us ++ (a ∷ [])) fit)
 cut_at false us [] ps is short rec =
-    let long : chunk_most < length (joined us) + 0 =
-    leb-false (length (joined us) + 0) chunk_most is in
+    let long : chunk_most < length (joined_content us) + 0 =
+    leb-false (length (joined_content us) + 0) chunk_most is in
     absurd (omega (arith, long, short))
 cut_at false us (b ∷ bs) ps is short rec =
-    let long : chunk_most < length (joined us) + length (b ∷ bs) =
-    leb-false (length (joined us) + length (b ∷ bs)) chunk_most is in
+    let long : chunk_most < length (joined_content us) + length (b ∷ bs) =
+    leb-false (length (joined_content us) + length (b ∷ bs)) chunk_most is in
     let u = nat_le (length (b ∷ bs)) chunk_most in
-    cuts_as refl (sym (append_assoc (run_bytes (joined us) ++ long_bytes u (b ∷ bs))
-    (written (run_of true (held u (b ∷ bs))) ps)
-    (last_bytes (after (run_of true (held u (b ∷ bs))) ps))))
+    cuts_as refl (sym (append_assoc (run_bytes (joined_content us) ++ long_bytes u (b ∷ bs))
+    (written (run_of true (held_piece u (b ∷ bs))) ps)
+    (last_bytes (after (run_of true (held_piece u (b ∷ bs))) ps))))
     (trailing u us b bs ps refl short long rec)
 
 -- where a text of indefinite length has begun
-cut_on : (ps us : List (List ℕ)) → length (joined us) ≤ chunk_most
-    → Cuts (without_empty us ++ without_empty ps) (of_tree (run_of true (joined us)) ps)
+cut_on : (ps us : List (List ℕ)) → length (joined_content us) ≤ chunk_most
+    → Cuts (without_empty us ++ without_empty ps) (of_tree (run_of true (joined_content us)) ps)
 cut_on [] us short =
-    cuts_as refl (sym (encoded_nil (run_of true (joined us))))
+    cuts_as refl (sym (encoded_nil (run_of true (joined_content us))))
     (with_held us [] closing short tt ([], refl, refl))
 cut_on (a ∷ ps) us short =
-    cuts_as refl (sym (encoded_cons (run_of true (joined us)) a ps))
-    (cut_at (fits_after (run_of true (joined us)) a) us a ps refl short (λ vs h. cut_on ps vs h))
+    cuts_as refl (sym (encoded_cons (run_of true (joined_content us)) a ps))
+    (cut_at (piece_fits_after (run_of true (joined_content us)) a) us a ps refl short
+    (λ vs h. cut_on ps vs h))
 
 -- where none has begun
 begun_at : (run a : List ℕ) (ps : List (List ℕ)) → encoded_at false (run_of false run) a ps
@@ -181,46 +188,49 @@ begun_at : (run a : List ℕ) (ps : List (List ℕ)) → encoded_at false (run_o
 begun_at run a ps = refl
 
 chunks_at : (t : Bool) (us : List (List ℕ)) (a : List ℕ) (ps : List (List ℕ))
-    → fits_after (run_of true (joined us)) a ≡ t → length (joined us) ≤ chunk_most
-    → ((vs : List (List ℕ)) → length (joined vs) ≤ chunk_most
-    → Chunks (vs ++ ps) (of_tree (run_of false (joined vs)) ps))
-    → Chunks (us ++ (a ∷ ps)) (encoded_at t (run_of false (joined us)) a ps)
+    → piece_fits_after (run_of true (joined_content us)) a ≡ t → length (joined_content us) ≤
+    chunk_most
+    → ((vs : List (List ℕ)) → length (joined_content vs) ≤ chunk_most
+    → Chunks (vs ++ ps) (of_tree (run_of false (joined_content vs)) ps))
+    → Chunks (us ++ (a ∷ ps)) (encoded_at t (run_of false (joined_content us)) a ps)
 chunks_at true us a ps is short rec =
-    let fit : length (joined (us ++ (a ∷ []))) ≤ chunk_most =
+    let fit : length (joined_content (us ++ (a ∷ []))) ≤ chunk_most =
     omega (
       arith,
-      leb-true (length (joined us) + length a) chunk_most is,
+      leb-true (length (joined_content us) + length a) chunk_most is,
       ap length (joined_one us a),
-      length-append (joined us) a,
+      length-append (joined_content us) a,
     ) in
-    subst (λ z. Chunks z (of_tree (run_of false (joined us ++ a)) ps)) (append_assoc us (a ∷ []) ps)
+    subst (λ z. Chunks z (of_tree (run_of false (joined_content us ++ a)) ps))
+    (append_assoc us (a ∷ []) ps)
     (subst (λ z. Chunks ((us ++ (a ∷ [])) ++ ps) (of_tree (run_of false z) ps)) (joined_one us a)
     (rec (us ++ (a ∷ [])) fit))
 chunks_at false us a ps is short rec =
-    let long : chunk_most < length (joined us) + length a =
-    leb-false (length (joined us) + length a) chunk_most is in
-    let total : chunk_most < length (joined (us ++ (a ∷ ps))) =
+    let long : chunk_most < length (joined_content us) + length a =
+    leb-false (length (joined_content us) + length a) chunk_most is in
+    let total : chunk_most < length (joined_content (us ++ (a ∷ ps))) =
     omega (
       arith,
       long,
       ap length (joined_append us (a ∷ ps)),
-      length-append (joined us) (a ++ joined ps),
-      length-append a (joined ps),
+      length-append (joined_content us) (a ++ joined_content ps),
+      length-append a (joined_content ps),
     ) in
     let p = cut_at false us a ps is short (λ vs h. cut_on ps vs h) in
     several p.0 total (subst (λ z. IsCut z p.0) (sym (without_empty_append us (a ∷ ps))) p.1)
-    (begun_at (joined us) a ps ∙ (ap (λ z. opening 3 ++ z) p.2
+    (begun_at (joined_content us) a ps ∙ (ap (λ z. opening 3 ++ z) p.2
     ∙ sym (append_assoc (opening 3) (definite_chunks p.0) closing)))
 
-chunks_on : (ps us : List (List ℕ)) → length (joined us) ≤ chunk_most
-    → Chunks (us ++ ps) (of_tree (run_of false (joined us)) ps)
+chunks_on : (ps us : List (List ℕ)) → length (joined_content us) ≤ chunk_most
+    → Chunks (us ++ ps) (of_tree (run_of false (joined_content us)) ps)
 chunks_on [] us short =
-    let is : joined (us ++ []) ≡ joined us = ap joined (append-nil us) in
-    let fit : length (joined (us ++ [])) ≤ chunk_most = omega (arith, ap length is, short) in
-    one fit (encoded_nil (run_of false (joined us)) ∙ ap (definite_string 3) (sym is))
+    let is : joined_content (us ++ []) ≡ joined_content us = ap joined_content (append-nil us) in
+    let fit : length (joined_content (us ++ [])) ≤ chunk_most = omega (arith, ap length is, short)
+    in
+    one fit (encoded_nil (run_of false (joined_content us)) ∙ ap (definite_string 3) (sym is))
 chunks_on (a ∷ ps) us short =
-    subst (Chunks (us ++ (a ∷ ps))) (sym (encoded_cons (run_of false (joined us)) a ps))
-    (chunks_at (fits_after (run_of false (joined us)) a) us a ps refl short
+    subst (Chunks (us ++ (a ∷ ps))) (sym (encoded_cons (run_of false (joined_content us)) a ps))
+    (chunks_at (piece_fits_after (run_of false (joined_content us)) a) us a ps refl short
     (λ vs h. chunks_on ps vs h))
 
 -- what is written is a text of these pieces

@@ -2,9 +2,9 @@
 use Rattle.std.proofs.Common.{◌≡◌, ℕ, ◌+◌, ◌<◌, List, [], ◌∷◌, ◌++◌, length, take, drop, get_or}
 use Rattle.std.proofs.Common.{Bool, true, false, ◌||◌, refl, sym, ap, ap₂, ◌∙◌}
 use Rattle.std.proofs.lemmas.List.{take_more, take-append-drop}
-use Rattle.cbor4ii_tree.specs.View.{view, items_view, members_view}
+use Rattle.cbor4ii_tree.specs.Basis.View.{view, items_view, pairs_view}
 use Rattle.cbor4ii_tree.specs.declared.value.Value.{Value}
-use Rattle.cbor4ii_ser.specs.Values.{holds_tag, some_holds_tag, members_hold_tag}
+use Rattle.cbor4ii_ser.specs.Values.{holds_tag, some_holds_tag, pairs_hold_tag}
 
 or_true : (a : Bool) → (a || true) ≡ true
 or_true true = refl
@@ -64,29 +64,29 @@ pub items_found : (xs : List Value) (i : ℕ) (x : Value) → i < length xs → 
     → holds_tag (view x) ≡ true → some_holds_tag (items_view xs) ≡ true
 items_found xs i x lt is h = items_some xs ∙ one_found (λ v. holds_tag (view v)) xs i x lt is h
 
--- ---- entries
+-- ---- pairs
 
-members_some : (ms : List (Value × Value)) → members_hold_tag (members_view ms) ≡ some
+pairs_some : (ms : List (Value × Value)) → pairs_hold_tag (pairs_view ms) ≡ some
     (λ m. holds_tag (view m.0) || holds_tag (view m.1)) ms
-members_some [] = refl
-members_some (m ∷ ms) =
-    ap (λ z. (holds_tag (view m.0) || holds_tag (view m.1)) || z) (members_some ms)
+pairs_some [] = refl
+pairs_some (m ∷ ms) =
+    ap (λ z. (holds_tag (view m.0) || holds_tag (view m.1)) || z) (pairs_some ms)
 
 module _ (xs : List (Value × Value)) (i : ℕ) (x : Value × Value) (lt : i < length xs)
     (is : x ≡ get_or xs i x) where
-  pub members_none : members_hold_tag (members_view (take i xs)) ≡ false
+  pub pairs_none : pairs_hold_tag (pairs_view (take i xs)) ≡ false
       → holds_tag (view x.0) ≡ false → holds_tag (view x.1) ≡ false
-      → members_hold_tag (members_view (take (i + 1) xs)) ≡ false
-  members_none h k l =
-      members_some (take (i + 1) xs) ∙ none_more (λ m. holds_tag (view m.0) || holds_tag (view m.1))
-      xs i x lt is (sym (members_some (take i xs)) ∙ h) (ap₂ (λ a b. a || b) k l)
+      → pairs_hold_tag (pairs_view (take (i + 1) xs)) ≡ false
+  pairs_none h k l =
+      pairs_some (take (i + 1) xs) ∙ none_more (λ m. holds_tag (view m.0) || holds_tag (view m.1))
+      xs i x lt is (sym (pairs_some (take i xs)) ∙ h) (ap₂ (λ a b. a || b) k l)
 
-  pub key_found : holds_tag (view x.0) ≡ true → members_hold_tag (members_view xs) ≡ true
+  pub key_found : holds_tag (view x.0) ≡ true → pairs_hold_tag (pairs_view xs) ≡ true
   key_found h =
-      members_some xs ∙ one_found (λ m. holds_tag (view m.0) || holds_tag (view m.1)) xs i x lt is
+      pairs_some xs ∙ one_found (λ m. holds_tag (view m.0) || holds_tag (view m.1)) xs i x lt is
       (ap (λ a. a || holds_tag (view x.1)) h)
 
-  pub value_found : holds_tag (view x.1) ≡ true → members_hold_tag (members_view xs) ≡ true
+  pub value_found : holds_tag (view x.1) ≡ true → pairs_hold_tag (pairs_view xs) ≡ true
   value_found h =
-      members_some xs ∙ one_found (λ m. holds_tag (view m.0) || holds_tag (view m.1)) xs i x lt is
+      pairs_some xs ∙ one_found (λ m. holds_tag (view m.0) || holds_tag (view m.1)) xs i x lt is
       (ap (λ b. holds_tag (view x.0) || b) h ∙ or_true (holds_tag (view x.0)))

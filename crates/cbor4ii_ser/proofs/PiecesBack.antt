@@ -7,7 +7,7 @@ use Rattle.std.proofs.Math.Seq.{drop-append_seam}
 use Rattle.std.proofs.lemmas.List.{append-nil}
 use Rattle.std.proofs.lemmas.List.Elements.{All-head, All-tail}
 use Rattle.std.proofs.lemmas.Str.{IsUtf8-nil, IsUtf8-append}
-use Rattle.cbor4ii_items.specs.Strings.{joined, definite_string, opening, closing}
+use Rattle.cbor4ii_items.specs.Strings.{joined_content, definite_string, opening, closing}
 use Rattle.cbor4ii_items.specs.Strings.{ReadsDefiniteString, ReadsChunks, ReadsIndefiniteString}
 use Rattle.cbor4ii_items.specs.Strings.{ReadsTextAs, chunk_cost}
 use Rattle.cbor4ii_items.specs.ReadBack.{ReadsBack}
@@ -22,16 +22,17 @@ abbrev pub AllShort : List (List ℕ) → Type 0
 AllShort [] = Unit {0}
 AllShort (piece ∷ pieces) = (length piece < 2 ^ 64) × AllShort pieces
 
-pub all_short : (ps : List (List ℕ)) → length (joined ps) < 2 ^ 64 → AllShort ps
+pub all_short : (ps : List (List ℕ)) → length (joined_content ps) < 2 ^ 64 → AllShort ps
 all_short [] h = tt
 all_short (p ∷ ps) h =
-    let e = length-append p (joined ps) in
+    let e = length-append p (joined_content ps) in
     (omega (arith, h, e), all_short ps (omega (arith, h, e)))
 
-pub utf8_joined : (ps : List (List ℕ)) → All IsUtf8 ps → IsUtf8 (joined ps)
+pub utf8_joined : (ps : List (List ℕ)) → All IsUtf8 ps → IsUtf8 (joined_content ps)
 utf8_joined [] h = IsUtf8-nil
 utf8_joined (p ∷ ps) h =
-    IsUtf8-append p (joined ps) (All-head IsUtf8 p ps h) (utf8_joined ps (All-tail IsUtf8 p ps h))
+    IsUtf8-append p (joined_content ps) (All-head IsUtf8 p ps h)
+    (utf8_joined ps (All-tail IsUtf8 p ps h))
 
 chunks_back : (cs : List (List ℕ)) (rest : List ℕ) → AllShort cs
     → ReadsChunks 3 cs (definite_chunks cs ++ rest) (length (definite_chunks cs))
@@ -66,7 +67,8 @@ short_without_empty [] h = tt
 short_without_empty ([] ∷ ps) h = short_without_empty ps h.1
 short_without_empty ((b ∷ bs) ∷ ps) h = (h.0, short_without_empty ps h.1)
 
-short_one : (c : List ℕ) (run : List (List ℕ)) → length run ≡ 1 → c ≡ joined run → AllShort run
+short_one : (c : List ℕ) (run : List (List ℕ)) → length run ≡ 1 → c ≡ joined_content run
+    → AllShort run
     → length c < 2 ^ 64
 short_one c [] e is h = absurd (omega (arith, e))
 short_one c (p ∷ []) e is h = omega (arith, h.0, ap length (is ∙ append-nil p))
@@ -88,17 +90,19 @@ short_cut ps (c ∷ cs) p h =
           (short_rest p.0 p.1 all),
     )
 
-pub joined_cut : (ps cs : List (List ℕ)) → IsCut ps cs → joined ps ≡ joined cs
-joined_cut ps [] p = ap joined p
+pub joined_cut : (ps cs : List (List ℕ)) → IsCut ps cs → joined_content ps ≡ joined_content cs
+joined_cut ps [] p = ap joined_content p
 joined_cut ps (c ∷ cs) p =
-    ap joined p.2
+    ap joined_content p.2
     ∙ (joined_append p.0 p.1 ∙ ap₂ (λ u v. u ++ v) (sym p.3.joins) (joined_cut p.1 cs p.5))
 
 drop_after : (b : ℕ) (xs : List ℕ) (n : ℕ) → drop (1 + n) (b ∷ xs) ≡ drop n xs
 drop_after b xs n = let e : 1 + n ≡ suc n = omega arith in ap (λ j. drop j (b ∷ xs)) e
 
-indefinite_back : (ps cs : List (List ℕ)) (rest : List ℕ) → joined ps ≡ joined cs → AllShort cs
-    → ReadsIndefiniteString 3 ((opening 3 ++ definite_chunks cs ++ closing) ++ rest) (joined ps)
+indefinite_back : (ps cs : List (List ℕ)) (rest : List ℕ) → joined_content ps ≡ joined_content cs
+    → AllShort cs
+    → ReadsIndefiniteString 3 ((opening 3 ++ definite_chunks cs ++ closing) ++ rest)
+    (joined_content ps)
     (length (opening 3 ++ definite_chunks cs ++ closing)) (chunk_cost cs)
 indefinite_back ps cs rest is h =
     let n = length (definite_chunks cs) in
@@ -134,25 +138,27 @@ pieces_cost_small pieces bytes (one short e) = omega arith
 pieces_cost_small pieces bytes (several cs long cut e) = one_step cs
 
 module _ {V : Type 0} (content : V → List ℕ) (v : V) (pieces : List (List ℕ)) (bytes : List ℕ)
-    (fits : length (joined pieces) < 2 ^ 64) where
-  pub pieces_back : content v ≡ joined pieces → All IsUtf8 pieces → (is : Chunks pieces bytes)
+    (fits : length (joined_content pieces) < 2 ^ 64) where
+  pub pieces_back : content v ≡ joined_content pieces → All IsUtf8 pieces
+      → (is : Chunks pieces bytes)
       → ReadsBack (ReadsTextAs content) bytes v (pieces_cost pieces bytes is)
   pieces_back has utf8 (one short e) rest = (
     inl (
       subst (λ z. ReadsDefiniteString 3 (bytes ++ rest) z (length bytes)) (sym has)
-          (subst (λ z. ReadsDefiniteString 3 (z ++ rest) (joined pieces) (length z)) (sym e)
-          (definite_back 3 (joined pieces) rest fits)),
+          (subst (λ z. ReadsDefiniteString 3 (z ++ rest) (joined_content pieces) (length z)) (sym e)
+          (definite_back 3 (joined_content pieces) rest fits)),
       refl,
     ),
     subst IsUtf8 (sym has) (utf8_joined pieces utf8),
   )
   pieces_back has utf8 (several cs long cut e) rest =
-      let is : joined pieces ≡ joined cs =
+      let is : joined_content pieces ≡ joined_content cs =
       sym (joined_without_empty pieces) ∙ joined_cut (without_empty pieces) cs cut in
       let read = indefinite_back pieces cs rest is (short_cut (without_empty pieces) cs cut
       (short_without_empty pieces (all_short pieces fits))) in (
         inr (subst (λ z. ReadsIndefiniteString 3 (bytes ++ rest) z (length bytes) (chunk_cost cs))
-            (sym has) (subst (λ z. ReadsIndefiniteString 3 (z ++ rest) (joined pieces) (length z)
+            (sym has) (subst (λ z. ReadsIndefiniteString 3 (z ++ rest) (joined_content pieces)
+            (length z)
             (chunk_cost cs)) (sym e) read)),
         subst IsUtf8 (sym has) (utf8_joined pieces utf8),
       )

@@ -11,7 +11,7 @@ use Rattle.cbor4ii_ser.specs.declared.bounded.BoundedCollect.{BoundedCollect}
 abbrev pub left_of : {W E : Type 0} → Collect W E → Option ℕ
 left_of c = c.left
 
--- its parts are entries, each a key and a value
+-- its parts are pairs, each a key and a value
 abbrev pub is_keyed : {W E : Type 0} → Collect W E → Bool
 is_keyed c = c.keyed
 
@@ -20,12 +20,12 @@ abbrev pub owes : {W E : Type 0} → Collect W E → Bool
 owes c = c.owes
 
 -- what the writer reports; the first argument is how it reports it
-abbrev pub collected : {W E : Type 0} → (W → Output) → Collect W E → Output
-collected view c = output view c.ser.now
+abbrev pub collect_output : {W E : Type 0} → (W → Output) → Collect W E → Output
+collect_output view c = output view c.ser.now
 
 -- which reference it holds to its serializer
-abbrev pub lender_of : {W E : Type 0} → Collect W E → ℕ
-lender_of c = c.ser.ghost_name
+abbrev pub serializer_name : {W E : Type 0} → Collect W E → ℕ
+serializer_name c = c.ser.ghost_name
 
 -- ---- of so many parts
 

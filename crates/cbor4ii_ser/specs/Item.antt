@@ -58,13 +58,13 @@ array_encoding item vs = followed (encoded (shortest_head 4 (length vs))) (each_
 -- ---- maps
 
 -- a key, and its value after it
-abbrev pub entry_encoding : {K V : Type 0} → (K → Encoding) → (V → Encoding) → (K × V) → Encoding
-entry_encoding key value entry = followed (key entry.0) (value entry.1)
+abbrev pub pair_encoding : {K V : Type 0} → (K → Encoding) → (V → Encoding) → (K × V) → Encoding
+pair_encoding key value entry = followed (key entry.0) (value entry.1)
 
 -- a map of keys to values, in the order of the list
 abbrev pub map_encoding : {K V : Type 0} → (K → Encoding) → (V → Encoding) → List (K × V) → Encoding
 map_encoding key value entries =
-    followed (encoded (shortest_head 5 (length entries))) (each_encoding (entry_encoding key value)
+    followed (encoded (shortest_head 5 (length entries))) (each_encoding (pair_encoding key value)
     entries)
 
 -- a name as a text, and its value after it
@@ -82,7 +82,7 @@ abbrev pub option_encoding : {V : Type 0} → (V → Encoding) → Option V → 
 option_encoding item None = encoded (0xf6 ∷ [])
 option_encoding item (Some v) = item v
 
--- what begins a variant that has content: a map of one entry, whose key is the variant's name
+-- what begins a variant that has content: a map of one pair, whose key is the variant's name
 abbrev pub variant_head : List ℕ → List ℕ
 variant_head name = shortest_head 5 1 ++ definite_string 3 name
 

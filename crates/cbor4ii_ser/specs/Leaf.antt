@@ -9,17 +9,17 @@ use Rattle.cbor4ii_ser.specs.declared.leaf.Leaf.TheVariants.{Integer, Bytes, Tex
 use Rattle.cbor4ii_ser.specs.declared.leaf.Leaf.TheVariants.{Bool as Logical, Null, F16, F32, F64}
 
 -- the major type of a negative integer, or of one from 0 on
-abbrev pub integer_major : Bool → ℕ
-integer_major true = 1
-integer_major false = 0
+abbrev pub major_of_sign : Bool → ℕ
+major_of_sign true = 1
+major_of_sign false = 0
 
 -- its item
-abbrev pub leaf_bytes : Leaf → List ℕ
-leaf_bytes (Integer is_negative argument) = shortest_head (integer_major is_negative) argument
-leaf_bytes (Bytes content) = definite_string 2 content.now
-leaf_bytes (Text text) = definite_string 3 text.now
-leaf_bytes (Logical v) = bool_byte v ∷ []
-leaf_bytes Null = 0xf6 ∷ []
-leaf_bytes (F16 bits) = float_bytes 0xf9 2 bits
-leaf_bytes (F32 bits) = float_bytes 0xfa 4 bits
-leaf_bytes (F64 bits) = float_bytes 0xfb 8 bits
+abbrev pub bytes_of_leaf : Leaf → List ℕ
+bytes_of_leaf (Integer is_negative argument) = shortest_head (major_of_sign is_negative) argument
+bytes_of_leaf (Bytes content) = definite_string 2 content.now
+bytes_of_leaf (Text text) = definite_string 3 text.now
+bytes_of_leaf (Logical v) = bool_byte v ∷ []
+bytes_of_leaf Null = 0xf6 ∷ []
+bytes_of_leaf (F16 bits) = float_bytes 0xf9 2 bits
+bytes_of_leaf (F32 bits) = float_bytes 0xfa 4 bits
+bytes_of_leaf (F64 bits) = float_bytes 0xfb 8 bits

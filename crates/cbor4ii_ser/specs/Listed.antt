@@ -1,4 +1,4 @@
--- The entries of a struct that is written from a list of its fields, some of them left out.
+-- The pairs of a struct that is written from a list of its fields, some of them left out.
 use Rattle.std.specs.Prelude.{◌≡◌, ◌++◌, ℕ, ℤ, pos, negsuc, List, [], ◌∷◌, Option, None, Some}
 use Rattle.std.specs.Prelude.{refl}
 use Rattle.cbor4ii_items.specs.Numbers.{shortest_head, signed_head}
@@ -9,10 +9,10 @@ use Rattle.cbor4ii_ser.specs.Item.{Encoding, encoded, followed, struct_encoding}
 abbrev pub NamedItems : Type 0
 NamedItems = List (List ℕ × Encoding)
 
--- their entries, in order, where this is the item of a key by its label
-abbrev pub keyed_entries : (List ℕ → List ℕ) → NamedItems → List Encoding
-keyed_entries key [] = []
-keyed_entries key (part ∷ parts) = followed (encoded (key part.0)) part.1 ∷ keyed_entries key parts
+-- their pairs, in order, where this is the item of a key by its label
+abbrev pub keyed_pairs : (List ℕ → List ℕ) → NamedItems → List Encoding
+keyed_pairs key [] = []
+keyed_pairs key (part ∷ parts) = followed (encoded (key part.0)) part.1 ∷ keyed_pairs key parts
 
 -- the item of a name: a text
 abbrev pub name_item : List ℕ → List ℕ
@@ -35,15 +35,15 @@ integer_item_of (negsuc n) = refl
 
 -- the fields of these names and items, in order
 abbrev pub fields_of : NamedItems → List Encoding
-fields_of = keyed_entries name_item
+fields_of = keyed_pairs name_item
 
--- a map of these entries
+-- a map of these pairs
 abbrev pub keyed_encoding : (List ℕ → List ℕ) → NamedItems → Encoding
-keyed_encoding key items = struct_encoding (keyed_entries key items)
+keyed_encoding key items = struct_encoding (keyed_pairs key items)
 
 -- the item of a value, before others
-abbrev pub always : {T : Type 0} → (T → Encoding) → T → List ℕ → NamedItems → NamedItems
-always encoding v label others = (label, encoding v) ∷ others
+abbrev pub always_before : {T : Type 0} → (T → Encoding) → T → List ℕ → NamedItems → NamedItems
+always_before encoding v label others = (label, encoding v) ∷ others
 
 -- the item of a value that is there, before others
 abbrev pub before : {T : Type 0} → List ℕ → (T → Encoding) → Option T → NamedItems → NamedItems
@@ -51,8 +51,8 @@ before label encoding None others = others
 before label encoding (Some v) others = (label, encoding v) ∷ others
 
 -- what stands before others is the same before any
-abbrev pub Joins : {P : Type 0} → (P → List ℕ → NamedItems → NamedItems) → Type 0
-Joins {P} first = (v : P) (label : List ℕ) (others : NamedItems)
+abbrev pub StandsBeforeOthers : {P : Type 0} → (P → List ℕ → NamedItems → NamedItems) → Type 0
+StandsBeforeOthers {P} first = (v : P) (label : List ℕ) (others : NamedItems)
     → first v label others ≡ first v label [] ++ others
 
 pub before_joins : {T : Type 0} (encoding : T → Encoding) (o : Option T) (label : List ℕ)
@@ -64,12 +64,12 @@ before_joins encoding (Some v) label others = refl
 -- ---- a list of fields
 
 -- the end of a list
-abbrev pub no_others : Unit {0}
-no_others = tt
+abbrev pub end_of_list : Unit {0}
+end_of_list = tt
 
 -- of no field
-abbrev pub no_items : {V : Type 0} → V → List (List ℕ) → NamedItems
-no_items v labels = []
+abbrev pub no_named_items : {V : Type 0} → V → List (List ℕ) → NamedItems
+no_named_items v labels = []
 
 -- of a field and those after it, each under its label; one for which there is no label is left out
 infixr 5 ◌▹◌

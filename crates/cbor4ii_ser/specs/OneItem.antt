@@ -1,15 +1,18 @@
 -- What it is for the bytes that are written to be one item (RFC 8949 section 1.2: encoded data
 -- item): they are those of one tree.
 use Rattle.std.specs.Prelude.{◌≡◌, ℕ, List, ◌++◌, length, Option}
-use Rattle.cbor4ii_items.specs.Head.{shortest}
-use Rattle.cbor4ii_tree.specs.Tree.{Tree, int, string, chunked, array, array_indefinite, map_of}
-use Rattle.cbor4ii_tree.specs.Tree.{map_indefinite}
-use Rattle.cbor4ii_tree.specs.Tree.{tagged, simple, bits, Trees, no_trees, tree, Pairs, no_pairs}
-use Rattle.cbor4ii_tree.specs.Tree.{pair, count, pair_count, bytes, Plain}
-use Rattle.cbor4ii_tree.specs.Item.{Item}
-use Rattle.cbor4ii_tree.specs.Cost.{Budget}
-use Rattle.cbor4ii_tree.specs.Encodings.{Encodes, DecodesTo, Skips}
-use Rattle.cbor4ii_tree.specs.CanonicalShape.{CanonicalTree, EncodesCanonically, DecodesCanonically}
+use Rattle.cbor4ii_items.specs.Head.{shortest_width}
+use Rattle.cbor4ii_tree.specs.Basis.Tree.{Tree, int, string, chunked, array, array_indefinite}
+use Rattle.cbor4ii_tree.specs.Basis.Tree.{map_of}
+use Rattle.cbor4ii_tree.specs.Basis.Tree.{map_indefinite}
+use Rattle.cbor4ii_tree.specs.Basis.Tree.{tagged, simple, bits, Trees, no_trees, tree, Pairs}
+use Rattle.cbor4ii_tree.specs.Basis.Tree.{no_pairs}
+use Rattle.cbor4ii_tree.specs.Basis.Tree.{pair, count, pair_count, bytes, Plain}
+use Rattle.cbor4ii_tree.specs.Basis.Item.{Item}
+use Rattle.cbor4ii_tree.specs.Basis.Cost.{Budget}
+use Rattle.cbor4ii_tree.specs.Basis.Encodings.{Encodes, DecodesTo, Skips}
+use Rattle.cbor4ii_tree.specs.Calls.CanonicalShape.{CanonicalTree, EncodesCanonically}
+use Rattle.cbor4ii_tree.specs.Calls.CanonicalShape.{DecodesCanonically}
 use Rattle.cbor4ii_items.specs.Budget.{CostFits}
 use Rattle.cbor4ii_ser.specs.Item.{Encoding, encoded, followed, IfEncoded}
 use Rattle.cbor4ii_ser.specs.Counts.{container_head, container_end}
@@ -17,14 +20,14 @@ use Rattle.cbor4ii_ser.specs.Counts.{container_head, container_end}
 -- Every head of the tree is the shortest (RFC 8949 section 4.1). A length may be indefinite.
 abbrev mutual
   pub ShortestHeads : Tree → Type 0
-  ShortestHeads (int s n w) = w ≡ shortest n
-  ShortestHeads (string k w content) = w ≡ shortest (length content)
+  ShortestHeads (int s n w) = w ≡ shortest_width n
+  ShortestHeads (string k w content) = w ≡ shortest_width (length content)
   ShortestHeads (chunked k ts) = AllShortestHeads ts
-  ShortestHeads (array w ts) = (w ≡ shortest (count ts)) × AllShortestHeads ts
+  ShortestHeads (array w ts) = (w ≡ shortest_width (count ts)) × AllShortestHeads ts
   ShortestHeads (array_indefinite ts) = AllShortestHeads ts
-  ShortestHeads (map_of w ps) = (w ≡ shortest (pair_count ps)) × PairsShortestHeads ps
+  ShortestHeads (map_of w ps) = (w ≡ shortest_width (pair_count ps)) × PairsShortestHeads ps
   ShortestHeads (map_indefinite ps) = PairsShortestHeads ps
-  ShortestHeads (tagged n w t) = (w ≡ shortest n) × ShortestHeads t
+  ShortestHeads (tagged n w t) = (w ≡ shortest_width n) × ShortestHeads t
   ShortestHeads (simple s) = Unit {0}
   ShortestHeads (bits p n) = Unit {0}
 
@@ -56,16 +59,16 @@ abbrev pub IsOneItem : Form → Encoding → Type 0
 IsOneItem form item = IfEncoded item (OneItem form)
 
 -- The bytes are those of two trees of this form, a key and its value after it.
-pub record OneEntry (form : Form) (encoding : List ℕ) : Type 0 where
+pub record OnePair (form : Form) (encoding : List ℕ) : Type 0 where
   pub key : Tree
   pub held : Tree
   pub key_formed : IsOfForm form key
   pub held_formed : IsOfForm form held
   pub bytes_are : bytes key ++ bytes held ≡ encoding
 
--- what is written, where no value is rejected, is one entry of a map, of this form
-abbrev pub IsOneEntry : Form → Encoding → Type 0
-IsOneEntry form entry = IfEncoded entry (OneEntry form)
+-- what is written, where no value is rejected, is one pair of a map, of this form
+abbrev pub IsOnePair : Form → Encoding → Type 0
+IsOnePair form entry = IfEncoded entry (OnePair form)
 
 -- an array (4) or a map (5) that is written part by part, around its parts: of so many, or of any
 -- number up to a break

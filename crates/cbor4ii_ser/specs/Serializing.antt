@@ -49,7 +49,7 @@ pub record RejectsAtValue {E : Type 0} (atomic : Bool) (key value : Encoding) (o
   pub second : Serializes atomic value between new answer
 
 -- done, or an answer that was left
-abbrev pub answered : {E : Type 0} → Option (Unit {0}) → Result (Unit {0}) (EncodeError E)
+abbrev pub done_or_answer : {E : Type 0} → Option (Unit {0}) → Result (Unit {0}) (EncodeError E)
     → Result (Unit {0}) (EncodeError E)
-answered (Some u) left = Ok u
-answered None left = left
+done_or_answer (Some u) left = Ok u
+done_or_answer None left = left

@@ -1,8 +1,8 @@
 -- What is written for a tagged value, and that it is one item.
 use Rattle.std.proofs.Common.{ℕ, ◌<◌, ◌^◌, ◌++◌, ap}
-use Rattle.cbor4ii_items.specs.Head.{shortest}
+use Rattle.cbor4ii_items.specs.Head.{shortest_width}
 use Rattle.cbor4ii_items.specs.Numbers.{shortest_head}
-use Rattle.cbor4ii_tree.specs.Tree.{tagged}
+use Rattle.cbor4ii_tree.specs.Basis.Tree.{tagged}
 use Rattle.cbor4ii_ser.specs.Item.{Encoding, encoded, rejected, followed}
 use Rattle.cbor4ii_ser.specs.OneItem.{Form, IsOneItem}
 use Rattle.cbor4ii_ser.specs.Laws.OneItem.{tag_formed}
@@ -17,7 +17,7 @@ pub tagged_is_item : (form : Form) (number : ℕ) (item : Encoding) → number <
 unfolding followed
 tagged_is_item form number (rejected bytes words) small one = tt
 tagged_is_item form number (encoded bytes) small one = record {
-  of_tree = tagged number (shortest number) one.of_tree;
+  of_tree = tagged number (shortest_width number) one.of_tree;
   formed = tag_formed form number one.of_tree small one.formed;
   bytes_are = ap (λ zs. shortest_head 6 number ++ zs) one.bytes_are;
 }

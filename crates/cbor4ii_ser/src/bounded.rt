@@ -1,17 +1,19 @@
 //! Arrays and maps of a known number of parts, written part by part.
 ghost use Rattle.std.specs.Prelude.{◌≡◌, ◌<◌, ◌-◌, ◌++◌, [], Ok, IfOk, OnOk, OnErr, true, false};
+ghost use Rattle.std.specs.Prelude.{IfNone, IfSome, IsErr};
 ghost use Rattle.std.specs.Borrow.{sem, RestsIfErr};
 ghost use Rattle.cbor4ii_items.specs.Numbers.{shortest_head};
 ghost use Rattle.cbor4ii_ser.specs.contracts.serializer.Serializer.{the_row};
 ghost use Rattle.cbor4ii_ser.specs.Collecting.{bounded_left, bounded_keyed, bounded_output};
 ghost use Rattle.cbor4ii_ser.specs.Collecting.{bounded_lender};
 ghost use Rattle.cbor4ii_ser.specs.Item.{encoded, field, variant_head};
-ghost use Rattle.cbor4ii_ser.specs.Serializing.{Serializes, output};
+ghost use Rattle.cbor4ii_ser.specs.Serializing.{Serializes, done_or_answer, output};
 
 use crate::error::EncodeError;
+use crate::leaf::put_value;
 use crate::serialize::Serialize;
 use crate::serializer::Serializer;
-use crate::slot::{has_large_error, push_text_apart};
+use crate::slot::push_name;
 use cbor4ii_rw::write::Write;
 
 /// An array or a map of a known number of parts that is being written: a tuple, a struct, or a
@@ -93,7 +95,7 @@ impl<W: Write> Serializer<W> {
         })
     }
 
-    /// Begins a map of one entry: the variant's name and an array of `len` items, which are to
+    /// Begins a map of one pair: the variant's name and an array of `len` items, which are to
     /// follow, and `end`. The enum's name and the variant's index are not written.
     ///
     /// # Errors
@@ -152,7 +154,7 @@ impl<W: Write> Serializer<W> {
         })
     }
 
-    /// Begins a map of one entry: the variant's name and a map of `len` fields, which are to
+    /// Begins a map of one pair: the variant's name and a map of `len` fields, which are to
     /// follow, and `end`. The enum's name and the variant's index are not written.
     ///
     /// # Errors
@@ -243,7 +245,10 @@ impl<'a, W: Write> BoundedCollect<'a, W> {
         ensures written { Serializes W.atomic (field name.now (T.encoding value.now))
             (bounded_output W.view self.old) (bounded_output W.view self.new) result }
     {
-        put_field(self.ser, name, value)?;
+        let mut answer = Ok(());
+        let Some(()) = put_field(self.ser, name, value, &mut answer) else {
+            return answer;
+        };
         self.left -= 1;
         Ok(())
     }
@@ -265,22 +270,18 @@ impl<'a, W: Write> BoundedCollect<'a, W> {
 }
 
 /// Writes a name, and a value after it.
-#[inline]
+#[inline(always)]
 pub(crate) fn put_field<W: Write, T: Serialize>(
     ser: &mut Serializer<W>,
     name: &str,
     value: &T,
-) -> Result<(), EncodeError<W::Error>>
-    ensures { Serializes W.atomic (field name.now (T.encoding value.now))
-        (output W.view ser.old) (output W.view ser.new) result }
+    answer: &mut Result<(), EncodeError<W::Error>>,
+) -> Option<()>
+    ensures writes { Serializes W.atomic (field name.now (T.encoding value.now))
+        (output W.view ser.old) (output W.view ser.new) (done_or_answer result answer.new) }
+    ensures failed { IfNone result (IsErr answer.new) }
+    ensures kept { IfSome result (λ _. answer.new ≡ answer.old) }
 {
-    if has_large_error::<W>() {
-        let mut answer = Ok(());
-        return match push_text_apart(&mut ser.writer, name, &mut answer) {
-            Some(()) => value.serialize(ser),
-            None => answer,
-        };
-    }
-    ser.serialize_item(&name)?;
-    value.serialize(ser)
+    push_name(&mut ser.writer, name, answer)?;
+    put_value(ser, value, answer)
 }

@@ -2,12 +2,14 @@
 ghost use Rattle.std.specs.Prelude.{◌≡◌, Ok, IsSome, IfOk, OnOk, OnErr, true, false};
 ghost use Rattle.std.specs.Borrow.{sem, RestsIfErr};
 ghost use Rattle.cbor4ii_ser.specs.contracts.serializer.Serializer.{the_row};
-ghost use Rattle.cbor4ii_ser.specs.Collecting.{left_of, is_keyed, owes, collected, lender_of};
+ghost use Rattle.cbor4ii_ser.specs.Collecting.{left_of, is_keyed, owes, collect_output};
+ghost use Rattle.cbor4ii_ser.specs.Collecting.{serializer_name};
 ghost use Rattle.cbor4ii_ser.specs.Counts.{container_head, container_end, IsReady, IsDone, less};
 ghost use Rattle.cbor4ii_ser.specs.Item.{encoded, followed};
 ghost use Rattle.cbor4ii_ser.specs.Serializing.{Serializes, RejectsAtValue, output};
 
 use crate::error::EncodeError;
+use crate::leaf::put_value;
 use crate::serialize::Serialize;
 use crate::serializer::Serializer;
 use cbor4ii_rw::write::Write;
@@ -23,7 +25,7 @@ use cbor4ii_rw::write::Write;
 ///
 /// # Errors
 ///
-/// A call that fails changes neither `left` nor `owes_value`, unless it is an entry that fails at
+/// A call that fails changes neither `left` nor `owes_value`, unless it is a pair that fails at
 /// its value. Of that the key is written, `left` is lowered if it counts, and the value is owed.
 ///
 /// - `Core` of `Write`: the writer failed in the call. An atomic one then holds what it held before
@@ -49,15 +51,15 @@ impl<W: Write> Serializer<W> {
         &mut self,
         len: Option<usize>,
     ) -> Result<Collect<'_, W>, EncodeError<W::Error>>
-        ensures* rejected { sem 𝓛 (RestsIfErr (the_row W.row) self.entry lender_of result
+        ensures* rejected { sem 𝓛 (RestsIfErr (the_row W.row) self.entry serializer_name result
             (λ new. Serializes W.atomic (encoded (container_head 4 len))
             (output W.view self.old) (output W.view new) result)) }
-        ensures same_reference { IfOk result (λ c. lender_of c ≡ self.entry.ghost_name) }
+        ensures same_reference { IfOk result (λ c. serializer_name c ≡ self.entry.ghost_name) }
         ensures left { IfOk result (λ c. left_of c ≡ len) }
         ensures keyed { IfOk result (λ c. is_keyed c ≡ false) }
         ensures owes { IfOk result (λ c. owes c ≡ false) }
         ensures head { IfOk result (λ c. Serializes W.atomic (encoded (container_head 4 len))
-            (output W.view self.old) (collected W.view c) result) }
+            (output W.view self.old) (collect_output W.view c) result) }
     {
         self.seq_head(len)?;
         Ok(Collect {
@@ -68,7 +70,7 @@ impl<W: Write> Serializer<W> {
         })
     }
 
-    /// Begins a map of `len` entries, or of any number where none is given. The entries are to
+    /// Begins a map of `len` pairs, or of any number where none is given. The pairs are to
     /// follow, and `end`.
     ///
     /// # Errors
@@ -78,15 +80,15 @@ impl<W: Write> Serializer<W> {
         &mut self,
         len: Option<usize>,
     ) -> Result<Collect<'_, W>, EncodeError<W::Error>>
-        ensures* rejected { sem 𝓛 (RestsIfErr (the_row W.row) self.entry lender_of result
+        ensures* rejected { sem 𝓛 (RestsIfErr (the_row W.row) self.entry serializer_name result
             (λ new. Serializes W.atomic (encoded (container_head 5 len))
             (output W.view self.old) (output W.view new) result)) }
-        ensures same_reference { IfOk result (λ c. lender_of c ≡ self.entry.ghost_name) }
+        ensures same_reference { IfOk result (λ c. serializer_name c ≡ self.entry.ghost_name) }
         ensures left { IfOk result (λ c. left_of c ≡ len) }
         ensures keyed { IfOk result (λ c. is_keyed c ≡ true) }
         ensures owes { IfOk result (λ c. owes c ≡ false) }
         ensures head { IfOk result (λ c. Serializes W.atomic (encoded (container_head 5 len))
-            (output W.view self.old) (collected W.view c) result) }
+            (output W.view self.old) (collect_output W.view c) result) }
     {
         self.entries_head(len)?;
         Ok(Collect {
@@ -99,14 +101,14 @@ impl<W: Write> Serializer<W> {
 }
 
 impl<'a, W: Write> Collect<'a, W> {
-    /// How many elements or entries are still to come; none where any number may.
+    /// How many elements or pairs are still to come; none where any number may.
     pub fn left(&self) -> Option<usize>
         ensures { result ≡ left_of self.now }
     {
         self.left
     }
 
-    /// Whether its parts are entries, each a key and a value.
+    /// Whether its parts are pairs, each a key and a value.
     pub fn keyed(&self) -> bool
         ensures { result ≡ is_keyed self.now }
     {
@@ -131,15 +133,18 @@ impl<'a, W: Write> Collect<'a, W> {
     ) -> Result<(), EncodeError<W::Error>>
         requires keyed { is_keyed self.old ≡ false }
         requires left { IsReady (left_of self.old) }
-        ensures same_reference { lender_of self.new ≡ lender_of self.old }
+        ensures same_reference { serializer_name self.new ≡ serializer_name self.old }
         ensures keyed { is_keyed self.new ≡ is_keyed self.old }
         ensures owes { owes self.new ≡ owes self.old }
         ensures left { OnOk result (left_of self.new ≡ less (left_of self.old)) }
         ensures left_at_error { OnErr result (left_of self.new ≡ left_of self.old) }
         ensures written { Serializes W.atomic (T.encoding value.now)
-            (collected W.view self.old) (collected W.view self.new) result }
+            (collect_output W.view self.old) (collect_output W.view self.new) result }
     {
-        value.serialize(self.ser)?;
+        let mut answer = Ok(());
+        let Some(()) = put_value(self.ser, value, &mut answer) else {
+            return answer;
+        };
         self.count_one();
         Ok(())
     }
@@ -153,16 +158,19 @@ impl<'a, W: Write> Collect<'a, W> {
         requires keyed { is_keyed self.old ≡ true }
         requires owes { owes self.old ≡ false }
         requires left { IsReady (left_of self.old) }
-        ensures same_reference { lender_of self.new ≡ lender_of self.old }
+        ensures same_reference { serializer_name self.new ≡ serializer_name self.old }
         ensures keyed { is_keyed self.new ≡ is_keyed self.old }
         ensures owes { OnOk result (owes self.new ≡ true) }
         ensures owes_at_error { OnErr result (owes self.new ≡ owes self.old) }
         ensures left { OnOk result (left_of self.new ≡ less (left_of self.old)) }
         ensures left_at_error { OnErr result (left_of self.new ≡ left_of self.old) }
         ensures written { Serializes W.atomic (K.encoding key.now)
-            (collected W.view self.old) (collected W.view self.new) result }
+            (collect_output W.view self.old) (collect_output W.view self.new) result }
     {
-        key.serialize(self.ser)?;
+        let mut answer = Ok(());
+        let Some(()) = put_value(self.ser, key, &mut answer) else {
+            return answer;
+        };
         self.count_one();
         self.owes = true;
         Ok(())
@@ -177,15 +185,18 @@ impl<'a, W: Write> Collect<'a, W> {
     pub fn serialize_value<V: Serialize>(&mut self, value: &V) -> Result<(), EncodeError<W::Error>>
         requires keyed { is_keyed self.old ≡ true }
         requires owes { owes self.old ≡ true }
-        ensures same_reference { lender_of self.new ≡ lender_of self.old }
+        ensures same_reference { serializer_name self.new ≡ serializer_name self.old }
         ensures keyed { is_keyed self.new ≡ is_keyed self.old }
         ensures owes { OnOk result (owes self.new ≡ false) }
         ensures owes_at_error { OnErr result (owes self.new ≡ owes self.old) }
         ensures left { left_of self.new ≡ left_of self.old }
         ensures written { Serializes W.atomic (V.encoding value.now)
-            (collected W.view self.old) (collected W.view self.new) result }
+            (collect_output W.view self.old) (collect_output W.view self.new) result }
     {
-        value.serialize(self.ser)?;
+        let mut answer = Ok(());
+        let Some(()) = put_value(self.ser, value, &mut answer) else {
+            return answer;
+        };
         self.owes = false;
         Ok(())
     }
@@ -205,20 +216,20 @@ impl<'a, W: Write> Collect<'a, W> {
         requires keyed { is_keyed self.old ≡ true }
         requires owes { owes self.old ≡ false }
         requires left { IsReady (left_of self.old) }
-        ensures same_reference { lender_of self.new ≡ lender_of self.old }
+        ensures same_reference { serializer_name self.new ≡ serializer_name self.old }
         ensures keyed { is_keyed self.new ≡ is_keyed self.old }
         ensures owes { OnOk result (owes self.new ≡ false) }
         ensures left { OnOk result (left_of self.new ≡ less (left_of self.old)) }
         ensures rejected_at_key { OnErr result (owes self.new ≡ false →
             (left_of self.new ≡ left_of self.old)
             × Serializes W.atomic (K.encoding key.now)
-            (collected W.view self.old) (collected W.view self.new) result) }
+            (collect_output W.view self.old) (collect_output W.view self.new) result) }
         ensures rejected_at_value { OnErr result (owes self.new ≡ true →
             (left_of self.new ≡ less (left_of self.old))
             × RejectsAtValue W.atomic (K.encoding key.now) (V.encoding value.now)
-            (collected W.view self.old) (collected W.view self.new) result) }
+            (collect_output W.view self.old) (collect_output W.view self.new) result) }
         ensures written { Serializes W.atomic (followed (K.encoding key.now) (V.encoding value.now))
-            (collected W.view self.old) (collected W.view self.new) result }
+            (collect_output W.view self.old) (collect_output W.view self.new) result }
     {
         self.serialize_key(key)?;
         self.serialize_value(value)
@@ -227,7 +238,7 @@ impl<'a, W: Write> Collect<'a, W> {
     /// One part fewer is to come.
     fn count_one(&mut self)
         requires { IsReady (left_of self.old) }
-        ensures same_reference { lender_of self.new ≡ lender_of self.old }
+        ensures same_reference { serializer_name self.new ≡ serializer_name self.old }
         ensures ser { self.new.ser.now ≡ self.old.ser.now }
         ensures keyed { is_keyed self.new ≡ is_keyed self.old }
         ensures owes { owes self.new ≡ owes self.old }
@@ -253,9 +264,9 @@ impl<'a, W: Write> Collect<'a, W> {
         requires done { IsDone (left_of self) }
         ensures succeeds { IsSome (left_of self.entry) → result ≡ Ok tt }
         ensures untouched { IsSome (left_of self.entry) →
-            output W.view self.exit.0.now ≡ collected W.view self.entry }
+            output W.view self.exit.0.now ≡ collect_output W.view self.entry }
         ensures written { Serializes W.atomic (encoded (container_end (left_of self.entry)))
-            (collected W.view self.entry) (output W.view self.exit.0.now) result }
+            (collect_output W.view self.entry) (output W.view self.exit.0.now) result }
     {
         let Collect {
             ser,

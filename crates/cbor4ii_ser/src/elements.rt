@@ -5,9 +5,11 @@ ghost use Rattle.cbor4ii_ser.specs.Serializing.{Serializes, output};
 ghost use Rattle.cbor4ii_ser.specs.declared.error.EncodeError.{EncodeError};
 
 use crate::error::EncodeError;
+use crate::leaf::put_value;
 use crate::serialize::Serialize;
 use crate::serializer::Serializer;
-use crate::slot::has_large_error;
+use crate::slot::{has_large_error, push_parts_head};
+use cbor4ii_items::major;
 use cbor4ii_rw::write::Write;
 
 /// Elements of an array that is written in one call: nested pairs of references, in order, as
@@ -65,9 +67,10 @@ impl<'a, A: Serialize, B: SerializeElements> SerializeElements for (&'a A, B) {
         &self,
         ser: &mut Serializer<W>,
     ) -> Result<(), EncodeError<W::Error>> {
-        match self.0.serialize(ser) {
-            Ok(()) => self.1.serialize_each(ser),
-            Err(error) => Err(error),
+        let mut answer = Ok(());
+        match put_value(ser, self.0, &mut answer) {
+            Some(()) => self.1.serialize_each(ser),
+            None => answer,
         }
     }
 }
@@ -132,9 +135,10 @@ fn put_elements<W: Write, P: SerializeElements>(
     ensures { Serializes W.atomic (tuple_encoding (P.elements elements.now))
         (output W.view ser.old) (output W.view ser.new) result }
 {
-    match ser.array_head(elements.count()) {
-        Ok(()) => elements.serialize_each(ser),
-        Err(error) => Err(error),
+    let mut answer = Ok(());
+    match push_parts_head(&mut ser.writer, major::ARRAY, elements.count(), &mut answer) {
+        Some(()) => elements.serialize_each(ser),
+        None => answer,
     }
 }
 

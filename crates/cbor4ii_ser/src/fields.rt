@@ -7,6 +7,8 @@ use crate::bounded::put_field;
 use crate::error::EncodeError;
 use crate::serialize::Serialize;
 use crate::serializer::Serializer;
+use crate::slot::push_parts_head;
+use cbor4ii_items::major;
 use cbor4ii_rw::write::Write;
 
 // A call for each number of fields, since a list of them would be a type argument that names
@@ -31,10 +33,14 @@ impl<W: Write> Serializer<W> {
             (field first_name.now (A.encoding first.now) ∷ []))
             (output W.view self.old) (output W.view self.new) result }
     {
-        match self.map_head(1) {
-            Ok(()) => put_field(self, first_name, first),
-            Err(error) => Err(error),
-        }
+        let mut answer = Ok(());
+        let Some(()) = push_parts_head(&mut self.writer, major::MAP, 1, &mut answer) else {
+            return answer;
+        };
+        let Some(()) = put_field(self, first_name, first, &mut answer) else {
+            return answer;
+        };
+        Ok(())
     }
 
     /// Writes a struct of two fields, each a name and a value: a map, in this order. The struct's
@@ -57,9 +63,17 @@ impl<W: Write> Serializer<W> {
             ∷ field second_name.now (B.encoding second.now) ∷ []))
             (output W.view self.old) (output W.view self.new) result }
     {
-        self.map_head(2)?;
-        put_field(self, first_name, first)?;
-        put_field(self, second_name, second)
+        let mut answer = Ok(());
+        let Some(()) = push_parts_head(&mut self.writer, major::MAP, 2, &mut answer) else {
+            return answer;
+        };
+        let Some(()) = put_field(self, first_name, first, &mut answer) else {
+            return answer;
+        };
+        let Some(()) = put_field(self, second_name, second, &mut answer) else {
+            return answer;
+        };
+        Ok(())
     }
 
     /// Writes a struct of three fields, each a name and a value: a map, in this order. The struct's
@@ -85,10 +99,20 @@ impl<W: Write> Serializer<W> {
             ∷ field third_name.now (C.encoding third.now) ∷ []))
             (output W.view self.old) (output W.view self.new) result }
     {
-        self.map_head(3)?;
-        put_field(self, first_name, first)?;
-        put_field(self, second_name, second)?;
-        put_field(self, third_name, third)
+        let mut answer = Ok(());
+        let Some(()) = push_parts_head(&mut self.writer, major::MAP, 3, &mut answer) else {
+            return answer;
+        };
+        let Some(()) = put_field(self, first_name, first, &mut answer) else {
+            return answer;
+        };
+        let Some(()) = put_field(self, second_name, second, &mut answer) else {
+            return answer;
+        };
+        let Some(()) = put_field(self, third_name, third, &mut answer) else {
+            return answer;
+        };
+        Ok(())
     }
 
     /// Writes a struct of four fields, each a name and a value: a map, in this order. The struct's
@@ -117,11 +141,23 @@ impl<W: Write> Serializer<W> {
             ∷ field fourth_name.now (D.encoding fourth.now) ∷ []))
             (output W.view self.old) (output W.view self.new) result }
     {
-        self.map_head(4)?;
-        put_field(self, first_name, first)?;
-        put_field(self, second_name, second)?;
-        put_field(self, third_name, third)?;
-        put_field(self, fourth_name, fourth)
+        let mut answer = Ok(());
+        let Some(()) = push_parts_head(&mut self.writer, major::MAP, 4, &mut answer) else {
+            return answer;
+        };
+        let Some(()) = put_field(self, first_name, first, &mut answer) else {
+            return answer;
+        };
+        let Some(()) = put_field(self, second_name, second, &mut answer) else {
+            return answer;
+        };
+        let Some(()) = put_field(self, third_name, third, &mut answer) else {
+            return answer;
+        };
+        let Some(()) = put_field(self, fourth_name, fourth, &mut answer) else {
+            return answer;
+        };
+        Ok(())
     }
 
     /// Writes a struct of five fields, each a name and a value: a map, in this order. The struct's
@@ -153,12 +189,26 @@ impl<W: Write> Serializer<W> {
             ∷ field fifth_name.now (E.encoding fifth.now) ∷ []))
             (output W.view self.old) (output W.view self.new) result }
     {
-        self.map_head(5)?;
-        put_field(self, first_name, first)?;
-        put_field(self, second_name, second)?;
-        put_field(self, third_name, third)?;
-        put_field(self, fourth_name, fourth)?;
-        put_field(self, fifth_name, fifth)
+        let mut answer = Ok(());
+        let Some(()) = push_parts_head(&mut self.writer, major::MAP, 5, &mut answer) else {
+            return answer;
+        };
+        let Some(()) = put_field(self, first_name, first, &mut answer) else {
+            return answer;
+        };
+        let Some(()) = put_field(self, second_name, second, &mut answer) else {
+            return answer;
+        };
+        let Some(()) = put_field(self, third_name, third, &mut answer) else {
+            return answer;
+        };
+        let Some(()) = put_field(self, fourth_name, fourth, &mut answer) else {
+            return answer;
+        };
+        let Some(()) = put_field(self, fifth_name, fifth, &mut answer) else {
+            return answer;
+        };
+        Ok(())
     }
 
     /// Writes a struct of six fields, each a name and a value: a map, in this order. The struct's
@@ -200,13 +250,29 @@ impl<W: Write> Serializer<W> {
             ∷ field sixth_name.now (F.encoding sixth.now) ∷ []))
             (output W.view self.old) (output W.view self.new) result }
     {
-        self.map_head(6)?;
-        put_field(self, first_name, first)?;
-        put_field(self, second_name, second)?;
-        put_field(self, third_name, third)?;
-        put_field(self, fourth_name, fourth)?;
-        put_field(self, fifth_name, fifth)?;
-        put_field(self, sixth_name, sixth)
+        let mut answer = Ok(());
+        let Some(()) = push_parts_head(&mut self.writer, major::MAP, 6, &mut answer) else {
+            return answer;
+        };
+        let Some(()) = put_field(self, first_name, first, &mut answer) else {
+            return answer;
+        };
+        let Some(()) = put_field(self, second_name, second, &mut answer) else {
+            return answer;
+        };
+        let Some(()) = put_field(self, third_name, third, &mut answer) else {
+            return answer;
+        };
+        let Some(()) = put_field(self, fourth_name, fourth, &mut answer) else {
+            return answer;
+        };
+        let Some(()) = put_field(self, fifth_name, fifth, &mut answer) else {
+            return answer;
+        };
+        let Some(()) = put_field(self, sixth_name, sixth, &mut answer) else {
+            return answer;
+        };
+        Ok(())
     }
 
     /// Writes a struct of seven fields, each a name and a value: a map, in this order. The struct's
@@ -252,14 +318,32 @@ impl<W: Write> Serializer<W> {
             ∷ field seventh_name.now (G.encoding seventh.now) ∷ []))
             (output W.view self.old) (output W.view self.new) result }
     {
-        self.map_head(7)?;
-        put_field(self, first_name, first)?;
-        put_field(self, second_name, second)?;
-        put_field(self, third_name, third)?;
-        put_field(self, fourth_name, fourth)?;
-        put_field(self, fifth_name, fifth)?;
-        put_field(self, sixth_name, sixth)?;
-        put_field(self, seventh_name, seventh)
+        let mut answer = Ok(());
+        let Some(()) = push_parts_head(&mut self.writer, major::MAP, 7, &mut answer) else {
+            return answer;
+        };
+        let Some(()) = put_field(self, first_name, first, &mut answer) else {
+            return answer;
+        };
+        let Some(()) = put_field(self, second_name, second, &mut answer) else {
+            return answer;
+        };
+        let Some(()) = put_field(self, third_name, third, &mut answer) else {
+            return answer;
+        };
+        let Some(()) = put_field(self, fourth_name, fourth, &mut answer) else {
+            return answer;
+        };
+        let Some(()) = put_field(self, fifth_name, fifth, &mut answer) else {
+            return answer;
+        };
+        let Some(()) = put_field(self, sixth_name, sixth, &mut answer) else {
+            return answer;
+        };
+        let Some(()) = put_field(self, seventh_name, seventh, &mut answer) else {
+            return answer;
+        };
+        Ok(())
     }
 
     /// Writes a struct of eight fields, each a name and a value: a map, in this order. The struct's
@@ -309,15 +393,35 @@ impl<W: Write> Serializer<W> {
             ∷ field eighth_name.now (H.encoding eighth.now) ∷ []))
             (output W.view self.old) (output W.view self.new) result }
     {
-        self.map_head(8)?;
-        put_field(self, first_name, first)?;
-        put_field(self, second_name, second)?;
-        put_field(self, third_name, third)?;
-        put_field(self, fourth_name, fourth)?;
-        put_field(self, fifth_name, fifth)?;
-        put_field(self, sixth_name, sixth)?;
-        put_field(self, seventh_name, seventh)?;
-        put_field(self, eighth_name, eighth)
+        let mut answer = Ok(());
+        let Some(()) = push_parts_head(&mut self.writer, major::MAP, 8, &mut answer) else {
+            return answer;
+        };
+        let Some(()) = put_field(self, first_name, first, &mut answer) else {
+            return answer;
+        };
+        let Some(()) = put_field(self, second_name, second, &mut answer) else {
+            return answer;
+        };
+        let Some(()) = put_field(self, third_name, third, &mut answer) else {
+            return answer;
+        };
+        let Some(()) = put_field(self, fourth_name, fourth, &mut answer) else {
+            return answer;
+        };
+        let Some(()) = put_field(self, fifth_name, fifth, &mut answer) else {
+            return answer;
+        };
+        let Some(()) = put_field(self, sixth_name, sixth, &mut answer) else {
+            return answer;
+        };
+        let Some(()) = put_field(self, seventh_name, seventh, &mut answer) else {
+            return answer;
+        };
+        let Some(()) = put_field(self, eighth_name, eighth, &mut answer) else {
+            return answer;
+        };
+        Ok(())
     }
 
     /// Writes a struct of nine fields, each a name and a value: a map, in this order. The struct's
@@ -371,16 +475,38 @@ impl<W: Write> Serializer<W> {
             ∷ field ninth_name.now (I.encoding ninth.now) ∷ []))
             (output W.view self.old) (output W.view self.new) result }
     {
-        self.map_head(9)?;
-        put_field(self, first_name, first)?;
-        put_field(self, second_name, second)?;
-        put_field(self, third_name, third)?;
-        put_field(self, fourth_name, fourth)?;
-        put_field(self, fifth_name, fifth)?;
-        put_field(self, sixth_name, sixth)?;
-        put_field(self, seventh_name, seventh)?;
-        put_field(self, eighth_name, eighth)?;
-        put_field(self, ninth_name, ninth)
+        let mut answer = Ok(());
+        let Some(()) = push_parts_head(&mut self.writer, major::MAP, 9, &mut answer) else {
+            return answer;
+        };
+        let Some(()) = put_field(self, first_name, first, &mut answer) else {
+            return answer;
+        };
+        let Some(()) = put_field(self, second_name, second, &mut answer) else {
+            return answer;
+        };
+        let Some(()) = put_field(self, third_name, third, &mut answer) else {
+            return answer;
+        };
+        let Some(()) = put_field(self, fourth_name, fourth, &mut answer) else {
+            return answer;
+        };
+        let Some(()) = put_field(self, fifth_name, fifth, &mut answer) else {
+            return answer;
+        };
+        let Some(()) = put_field(self, sixth_name, sixth, &mut answer) else {
+            return answer;
+        };
+        let Some(()) = put_field(self, seventh_name, seventh, &mut answer) else {
+            return answer;
+        };
+        let Some(()) = put_field(self, eighth_name, eighth, &mut answer) else {
+            return answer;
+        };
+        let Some(()) = put_field(self, ninth_name, ninth, &mut answer) else {
+            return answer;
+        };
+        Ok(())
     }
 
     /// Writes a struct of ten fields, each a name and a value: a map, in this order. The struct's
@@ -438,17 +564,41 @@ impl<W: Write> Serializer<W> {
             ∷ field tenth_name.now (J.encoding tenth.now) ∷ []))
             (output W.view self.old) (output W.view self.new) result }
     {
-        self.map_head(10)?;
-        put_field(self, first_name, first)?;
-        put_field(self, second_name, second)?;
-        put_field(self, third_name, third)?;
-        put_field(self, fourth_name, fourth)?;
-        put_field(self, fifth_name, fifth)?;
-        put_field(self, sixth_name, sixth)?;
-        put_field(self, seventh_name, seventh)?;
-        put_field(self, eighth_name, eighth)?;
-        put_field(self, ninth_name, ninth)?;
-        put_field(self, tenth_name, tenth)
+        let mut answer = Ok(());
+        let Some(()) = push_parts_head(&mut self.writer, major::MAP, 10, &mut answer) else {
+            return answer;
+        };
+        let Some(()) = put_field(self, first_name, first, &mut answer) else {
+            return answer;
+        };
+        let Some(()) = put_field(self, second_name, second, &mut answer) else {
+            return answer;
+        };
+        let Some(()) = put_field(self, third_name, third, &mut answer) else {
+            return answer;
+        };
+        let Some(()) = put_field(self, fourth_name, fourth, &mut answer) else {
+            return answer;
+        };
+        let Some(()) = put_field(self, fifth_name, fifth, &mut answer) else {
+            return answer;
+        };
+        let Some(()) = put_field(self, sixth_name, sixth, &mut answer) else {
+            return answer;
+        };
+        let Some(()) = put_field(self, seventh_name, seventh, &mut answer) else {
+            return answer;
+        };
+        let Some(()) = put_field(self, eighth_name, eighth, &mut answer) else {
+            return answer;
+        };
+        let Some(()) = put_field(self, ninth_name, ninth, &mut answer) else {
+            return answer;
+        };
+        let Some(()) = put_field(self, tenth_name, tenth, &mut answer) else {
+            return answer;
+        };
+        Ok(())
     }
 
     /// Writes a struct of eleven fields, each a name and a value: a map, in this order. The
@@ -510,18 +660,44 @@ impl<W: Write> Serializer<W> {
             ∷ field eleventh_name.now (K.encoding eleventh.now) ∷ []))
             (output W.view self.old) (output W.view self.new) result }
     {
-        self.map_head(11)?;
-        put_field(self, first_name, first)?;
-        put_field(self, second_name, second)?;
-        put_field(self, third_name, third)?;
-        put_field(self, fourth_name, fourth)?;
-        put_field(self, fifth_name, fifth)?;
-        put_field(self, sixth_name, sixth)?;
-        put_field(self, seventh_name, seventh)?;
-        put_field(self, eighth_name, eighth)?;
-        put_field(self, ninth_name, ninth)?;
-        put_field(self, tenth_name, tenth)?;
-        put_field(self, eleventh_name, eleventh)
+        let mut answer = Ok(());
+        let Some(()) = push_parts_head(&mut self.writer, major::MAP, 11, &mut answer) else {
+            return answer;
+        };
+        let Some(()) = put_field(self, first_name, first, &mut answer) else {
+            return answer;
+        };
+        let Some(()) = put_field(self, second_name, second, &mut answer) else {
+            return answer;
+        };
+        let Some(()) = put_field(self, third_name, third, &mut answer) else {
+            return answer;
+        };
+        let Some(()) = put_field(self, fourth_name, fourth, &mut answer) else {
+            return answer;
+        };
+        let Some(()) = put_field(self, fifth_name, fifth, &mut answer) else {
+            return answer;
+        };
+        let Some(()) = put_field(self, sixth_name, sixth, &mut answer) else {
+            return answer;
+        };
+        let Some(()) = put_field(self, seventh_name, seventh, &mut answer) else {
+            return answer;
+        };
+        let Some(()) = put_field(self, eighth_name, eighth, &mut answer) else {
+            return answer;
+        };
+        let Some(()) = put_field(self, ninth_name, ninth, &mut answer) else {
+            return answer;
+        };
+        let Some(()) = put_field(self, tenth_name, tenth, &mut answer) else {
+            return answer;
+        };
+        let Some(()) = put_field(self, eleventh_name, eleventh, &mut answer) else {
+            return answer;
+        };
+        Ok(())
     }
 
     /// Writes a struct of twelve fields, each a name and a value: a map, in this order. The
@@ -587,18 +763,46 @@ impl<W: Write> Serializer<W> {
             ∷ field twelfth_name.now (L.encoding twelfth.now) ∷ []))
             (output W.view self.old) (output W.view self.new) result }
     {
-        self.map_head(12)?;
-        put_field(self, first_name, first)?;
-        put_field(self, second_name, second)?;
-        put_field(self, third_name, third)?;
-        put_field(self, fourth_name, fourth)?;
-        put_field(self, fifth_name, fifth)?;
-        put_field(self, sixth_name, sixth)?;
-        put_field(self, seventh_name, seventh)?;
-        put_field(self, eighth_name, eighth)?;
-        put_field(self, ninth_name, ninth)?;
-        put_field(self, tenth_name, tenth)?;
-        put_field(self, eleventh_name, eleventh)?;
-        put_field(self, twelfth_name, twelfth)
+        let mut answer = Ok(());
+        let Some(()) = push_parts_head(&mut self.writer, major::MAP, 12, &mut answer) else {
+            return answer;
+        };
+        let Some(()) = put_field(self, first_name, first, &mut answer) else {
+            return answer;
+        };
+        let Some(()) = put_field(self, second_name, second, &mut answer) else {
+            return answer;
+        };
+        let Some(()) = put_field(self, third_name, third, &mut answer) else {
+            return answer;
+        };
+        let Some(()) = put_field(self, fourth_name, fourth, &mut answer) else {
+            return answer;
+        };
+        let Some(()) = put_field(self, fifth_name, fifth, &mut answer) else {
+            return answer;
+        };
+        let Some(()) = put_field(self, sixth_name, sixth, &mut answer) else {
+            return answer;
+        };
+        let Some(()) = put_field(self, seventh_name, seventh, &mut answer) else {
+            return answer;
+        };
+        let Some(()) = put_field(self, eighth_name, eighth, &mut answer) else {
+            return answer;
+        };
+        let Some(()) = put_field(self, ninth_name, ninth, &mut answer) else {
+            return answer;
+        };
+        let Some(()) = put_field(self, tenth_name, tenth, &mut answer) else {
+            return answer;
+        };
+        let Some(()) = put_field(self, eleventh_name, eleventh, &mut answer) else {
+            return answer;
+        };
+        let Some(()) = put_field(self, twelfth_name, twelfth, &mut answer) else {
+            return answer;
+        };
+        Ok(())
     }
 }

@@ -86,7 +86,7 @@ impl<W: Write> Serializer<W> {
         }
     }
 
-    /// A map of one entry, and its key: the variant's name.
+    /// A map of one pair, and its key: the variant's name.
     pub(crate) fn variant_head(&mut self, name: &str) -> Result<(), EncodeError<W::Error>>
         ensures { Serializes W.atomic (encoded (variant_head name.now))
             (output W.view self.old) (output W.view self.new) result }

@@ -3,7 +3,7 @@
 //! `IsOneItem form item` says that what is written is the bytes of one item (RFC 8949 section 1.2),
 //! unless the value is rejected. `form` is how it is encoded: `shortest_heads`, by shortest heads
 //! alone, or `canonical`, as `Canonical` reads it, with every length given besides. A law of every
-//! `form` says both. `IsOneEntry form entry` says the same of a key with its value after it.
+//! `form` says both. `IsOnePair form pair` says the same of a key with its value after it.
 ghost use Rattle.std.specs.Prelude.{◌≡◌, ◌↔◌, ◌<◌, ◌≤◌, ◌^◌, ℕ, ℤ, List, Bool, Option, Some, None};
 ghost use Rattle.std.specs.Prelude.{All, length, string_bytes, IsUtf8};
 ghost use Rattle.std.specs.Borrow.{Bor};
@@ -21,15 +21,15 @@ ghost use Rattle.cbor4ii_items.specs.declared.types.F64.{F64};
 ghost use Rattle.cbor4ii_items.specs.Cow.{cow_text};
 ghost use Rattle.cbor4ii_items.specs.Numbers.{IsWithin, shortest_head};
 ghost use Rattle.cbor4ii_items.specs.ReadBack.{ReadsBack};
-ghost use Rattle.cbor4ii_items.specs.Strings.{joined, definite_string};
-ghost use Rattle.cbor4ii_tree.specs.Item.{Item, IsItem};
-ghost use Rattle.cbor4ii_tree.specs.View.{view};
+ghost use Rattle.cbor4ii_items.specs.Strings.{joined_content, definite_string};
+ghost use Rattle.cbor4ii_tree.specs.Basis.Item.{Item, IsItem};
+ghost use Rattle.cbor4ii_tree.specs.Basis.View.{view};
 ghost use Rattle.cbor4ii_tree.specs.declared.value.Value.{Value as AnyValue};
 ghost use Rattle.cbor4ii_ser.specs.Item.{Encoding, encoded, followed, each_encoding};
-ghost use Rattle.cbor4ii_ser.specs.Item.{entry_encoding};
+ghost use Rattle.cbor4ii_ser.specs.Item.{pair_encoding};
 ghost use Rattle.cbor4ii_ser.specs.Item.{tuple_encoding, field, struct_encoding, variant_encoding};
 ghost use Rattle.cbor4ii_ser.specs.Item.{tuple_variant_encoding, struct_variant_encoding};
-ghost use Rattle.cbor4ii_ser.specs.OneItem.{Form, shortest_heads, canonical, IsOneItem, IsOneEntry};
+ghost use Rattle.cbor4ii_ser.specs.OneItem.{Form, shortest_heads, canonical, IsOneItem, IsOnePair};
 ghost use Rattle.cbor4ii_ser.specs.OneItem.{collected_encoding, IsReadWhole, IsReadCanonically};
 ghost use Rattle.cbor4ii_ser.specs.Pieces.{Chunks, text_bytes, chunk_most};
 ghost use Rattle.cbor4ii_ser.specs.Tagged.{tagged_encoding};
@@ -54,8 +54,8 @@ pub fn chunks_are_determined()
 /// none.
 pub fn pieces_are_read_back()
     ensures { (pieces : List (List ℕ)) (bytes : List ℕ) (text : String Global) →
-        length (joined pieces) < 2 ^ 64 → All IsUtf8 pieces → Chunks pieces bytes →
-        string_bytes text ≡ joined pieces →
+        length (joined_content pieces) < 2 ^ 64 → All IsUtf8 pieces → Chunks pieces bytes →
+        string_bytes text ≡ joined_content pieces →
         (cost : ℕ) × (cost ≤ 1) × ReadsBack ⟦<String as Decodable>⟧.format.reads bytes text cost }
 {}
 
@@ -168,29 +168,29 @@ pub fn vectors_are_items<T: Serialize>()
 
 /// A map is written as one item wherever each key and value is, canonical where those are. A map
 /// that is written part by part up to a break is one with shortest heads. One whose length was
-/// given is its head and its entries, as a map or a struct of that length is.
+/// given is its head and its pairs, as a map or a struct of that length is.
 pub fn maps_are_items<K: Serialize + Ord, V: Serialize>()
     ensures map { (form : Form) (m : BTreeMap K V Global) → length m.entries < 2 ^ 64 →
         All (λ e. IsOneItem form (K.encoding e.0) × IsOneItem form (V.encoding e.1)) m.entries →
         IsOneItem form (⟦<BTreeMap<K, V> as Serialize>⟧.encoding m) }
     ensures up_to_a_break { (es : List (K × V)) →
-        All (λ e. IsOneEntry shortest_heads (entry_encoding K.encoding V.encoding e)) es →
+        All (λ e. IsOnePair shortest_heads (pair_encoding K.encoding V.encoding e)) es →
         IsOneItem shortest_heads (collected_encoding 5 None
-        (each_encoding (entry_encoding K.encoding V.encoding) es)) }
+        (each_encoding (pair_encoding K.encoding V.encoding) es)) }
     ensures entry { (form : Form) (key value : Encoding) → IsOneItem form key →
-        IsOneItem form value → IsOneEntry form (followed key value) }
+        IsOneItem form value → IsOnePair form (followed key value) }
     ensures definite { (n : ℕ) (inner : Encoding) →
         collected_encoding 5 (Some n) inner ≡ followed (encoded (shortest_head 5 n)) inner }
 {}
 
 /// A struct and a variant are written as one item wherever what stands in them is, canonical where
-/// that is. A field, its name and its value, is one entry.
+/// that is. A field, its name and its value, is one pair.
 pub fn structs_and_variants_are_items()
     ensures field { (form : Form) (name : List ℕ) (value : Encoding) →
         length name < 2 ^ 64 → IsUtf8 name → IsOneItem form value →
-        IsOneEntry form (field name value) }
+        IsOnePair form (field name value) }
     ensures fields { (form : Form) (fields : List Encoding) → length fields < 2 ^ 64 →
-        AllByRecursion (IsOneEntry form) fields → IsOneItem form (struct_encoding fields) }
+        AllByRecursion (IsOnePair form) fields → IsOneItem form (struct_encoding fields) }
     ensures unit_variant { (form : Form) (name : List ℕ) → length name < 2 ^ 64 → IsUtf8 name →
         IsOneItem form (encoded (definite_string 3 name)) }
     ensures variant { (form : Form) (name : List ℕ) (content : Encoding) →
@@ -201,7 +201,7 @@ pub fn structs_and_variants_are_items()
         AllByRecursion (IsOneItem form) ps → IsOneItem form (tuple_variant_encoding name ps) }
     ensures struct_variant { (form : Form) (name : List ℕ) (fields : List Encoding) →
         length name < 2 ^ 64 → IsUtf8 name → length fields < 2 ^ 64 →
-        AllByRecursion (IsOneEntry form) fields →
+        AllByRecursion (IsOnePair form) fields →
         IsOneItem form (struct_variant_encoding name fields) }
 {}
 
@@ -216,10 +216,10 @@ pub fn values_are_items()
 /// bytes together.
 pub fn texts_in_pieces_are_items()
     ensures text { (fails_itself : Bool) (pieces : List (List ℕ)) →
-        length (joined pieces) < 2 ^ 64 → All IsUtf8 pieces →
+        length (joined_content pieces) < 2 ^ 64 → All IsUtf8 pieces →
         IsOneItem shortest_heads (text_encoding fails_itself pieces) }
     ensures short { (form : Form) (fails_itself : Bool) (pieces : List (List ℕ)) →
-        length (joined pieces) ≤ chunk_most → All IsUtf8 pieces →
+        length (joined_content pieces) ≤ chunk_most → All IsUtf8 pieces →
         IsOneItem form (text_encoding fails_itself pieces) }
 {}
 

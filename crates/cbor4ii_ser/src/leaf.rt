@@ -1,16 +1,18 @@
 //! Values that hold no other value, as what is written for them.
-ghost use Rattle.std.specs.Prelude.{◌≡◌, ◌<◌, IfNone, IfSome, IsErr};
+ghost use Rattle.std.specs.Prelude.{◌≡◌, ◌<◌, ◌∷◌, [], IfNone, IfSome, IsErr};
 ghost use Rattle.cbor4ii_items.specs.Numbers.{shortest_head, signed_head};
 ghost use Rattle.cbor4ii_items.specs.Simple.{bool_byte};
 ghost use Rattle.cbor4ii_ser.specs.Item.{encoded};
-ghost use Rattle.cbor4ii_ser.specs.Leaf.{leaf_bytes, integer_major};
-ghost use Rattle.cbor4ii_ser.specs.Serializing.{Serializes, answered, output};
+ghost use Rattle.cbor4ii_ser.specs.Leaf.{bytes_of_leaf, major_of_sign};
+ghost use Rattle.cbor4ii_ser.specs.Serializing.{Serializes, done_or_answer, output};
 
 use crate::error::EncodeError;
 use crate::serialize::Serialize;
 use crate::serializer::Serializer;
 use crate::slot::{
-    push, push_f16, push_f32, push_f64, push_long_head, push_string, push_text, put_part,
+    has_large_error, push, push_f16, push_f16_apart, push_f32, push_f32_apart, push_f64,
+    push_f64_apart, push_head_apart, push_long_head, push_string, push_string_apart, push_text,
+    push_text_apart, put_part,
 };
 use cbor4ii_items::{major, marker};
 use cbor4ii_rw::write::Write;
@@ -45,7 +47,7 @@ impl<'a> Leaf<'a> {
     /// An integer from 0 on.
     #[inline(always)]
     pub fn unsigned(value: u64) -> Leaf<'a>
-        ensures { leaf_bytes result ≡ shortest_head 0 value }
+        ensures { bytes_of_leaf result ≡ shortest_head 0 value }
     {
         Leaf::Integer {
             is_negative: false,
@@ -56,7 +58,7 @@ impl<'a> Leaf<'a> {
     /// An integer of either sign.
     #[inline(always)]
     pub fn signed(value: i64) -> Leaf<'a>
-        ensures { leaf_bytes result ≡ signed_head value }
+        ensures { bytes_of_leaf result ≡ signed_head value }
     {
         if value >= 0 {
             return Leaf::unsigned(value as u64);
@@ -76,12 +78,49 @@ pub(crate) fn put_leaf<W: Write, T: Serialize>(
     answer: &mut Result<(), EncodeError<W::Error>>,
 ) -> Option<()>
     ensures writes { Serializes W.atomic (T.encoding value.now)
-        (output W.view ser.old) (output W.view ser.new) (answered result answer.new) }
+        (output W.view ser.old) (output W.view ser.new) (done_or_answer result answer.new) }
     ensures failed { IfNone result (IsErr answer.new) }
     ensures kept { IfSome result (λ _. answer.new ≡ answer.old) }
 {
     match value.as_leaf() {
         Some(leaf) => push_leaf(&mut ser.writer, leaf, answer),
+        None => put_part(ser, value, answer),
+    }
+}
+
+/// Writes a part of an array or a map. To a writer with a large error a leaf is written by
+/// functions that all such parts share.
+#[inline(always)]
+pub(crate) fn put_value<W: Write, T: Serialize>(
+    ser: &mut Serializer<W>,
+    value: &T,
+    answer: &mut Result<(), EncodeError<W::Error>>,
+) -> Option<()>
+    ensures writes { Serializes W.atomic (T.encoding value.now)
+        (output W.view ser.old) (output W.view ser.new) (done_or_answer result answer.new) }
+    ensures failed { IfNone result (IsErr answer.new) }
+    ensures kept { IfSome result (λ _. answer.new ≡ answer.old) }
+{
+    if has_large_error::<W>() {
+        return put_leaf_apart(ser, value, answer);
+    }
+    put_leaf(ser, value, answer)
+}
+
+/// Writes a value: out of line where it is a leaf, and else by its `serialize`.
+#[inline(always)]
+fn put_leaf_apart<W: Write, T: Serialize>(
+    ser: &mut Serializer<W>,
+    value: &T,
+    answer: &mut Result<(), EncodeError<W::Error>>,
+) -> Option<()>
+    ensures writes { Serializes W.atomic (T.encoding value.now)
+        (output W.view ser.old) (output W.view ser.new) (done_or_answer result answer.new) }
+    ensures failed { IfNone result (IsErr answer.new) }
+    ensures kept { IfSome result (λ _. answer.new ≡ answer.old) }
+{
+    match value.as_leaf() {
+        Some(leaf) => push_leaf_apart(&mut ser.writer, leaf, answer),
         None => put_part(ser, value, answer),
     }
 }
@@ -93,8 +132,8 @@ fn push_leaf<W: Write>(
     leaf: Leaf<'_>,
     answer: &mut Result<(), EncodeError<W::Error>>,
 ) -> Option<()>
-    ensures writes { Serializes W.atomic (encoded (leaf_bytes leaf.entry))
-        (W.view writer.old) (W.view writer.new) (answered result answer.new) }
+    ensures writes { Serializes W.atomic (encoded (bytes_of_leaf leaf.entry))
+        (W.view writer.old) (W.view writer.new) (done_or_answer result answer.new) }
     ensures failed { IfNone result (IsErr answer.new) }
     ensures kept { IfSome result (λ _. answer.new ≡ answer.old) }
 {
@@ -113,10 +152,37 @@ fn push_leaf<W: Write>(
     }
 }
 
+/// Writes a leaf, out of line.
+#[inline(always)]
+fn push_leaf_apart<W: Write>(
+    writer: &mut W,
+    leaf: Leaf<'_>,
+    answer: &mut Result<(), EncodeError<W::Error>>,
+) -> Option<()>
+    ensures writes { Serializes W.atomic (encoded (bytes_of_leaf leaf.entry))
+        (W.view writer.old) (W.view writer.new) (done_or_answer result answer.new) }
+    ensures failed { IfNone result (IsErr answer.new) }
+    ensures kept { IfSome result (λ _. answer.new ≡ answer.old) }
+{
+    match leaf {
+        Leaf::Integer {
+            is_negative,
+            argument,
+        } => push_head_apart(writer, major_of(is_negative), argument, answer),
+        Leaf::Bytes(content) => push_string_apart(writer, major::BYTES, content, answer),
+        Leaf::Text(text) => push_text_apart(writer, text, answer),
+        Leaf::Bool(value) => push_head_apart(writer, major::SIMPLE, simple_of(value), answer),
+        Leaf::Null => push_head_apart(writer, major::SIMPLE, 22, answer),
+        Leaf::F16(bits) => push_f16_apart(writer, bits, answer),
+        Leaf::F32(bits) => push_f32_apart(writer, bits, answer),
+        Leaf::F64(bits) => push_f64_apart(writer, bits, answer),
+    }
+}
+
 /// The major type of an integer.
 #[inline(always)]
 fn major_of(is_negative: bool) -> u8
-    ensures is { result ≡ integer_major is_negative }
+    ensures is { result ≡ major_of_sign is_negative }
     ensures small { result < 8 }
 {
     if is_negative {
@@ -134,6 +200,14 @@ fn byte_of(value: bool) -> u8
     if value { marker::TRUE } else { marker::FALSE }
 }
 
+/// The simple value of false or true.
+#[inline(always)]
+fn simple_of(value: bool) -> u64
+    ensures { shortest_head 7 result ≡ bool_byte value ∷ [] }
+{
+    if value { 21 } else { 20 }
+}
+
 /// Writes the shortest head of this major type with this argument, its longer forms in line, too.
 #[inline(always)]
 fn push_integer<W: Write>(
@@ -144,7 +218,7 @@ fn push_integer<W: Write>(
 ) -> Option<()>
     requires { major < 8 }
     ensures writes { Serializes W.atomic (encoded (shortest_head major argument))
-        (W.view writer.old) (W.view writer.new) (answered result answer.new) }
+        (W.view writer.old) (W.view writer.new) (done_or_answer result answer.new) }
     ensures failed { IfNone result (IsErr answer.new) }
     ensures kept { IfSome result (λ _. answer.new ≡ answer.old) }
 {

@@ -1,9 +1,10 @@
 //! Structs that are written from a list of their fields in one call. Some may be left out.
 ghost use Rattle.std.specs.Prelude.{◌≡◌, ◌≤◌, List, [], ℕ, length, refl};
 ghost use Rattle.cbor4ii_ser.specs.Item.{parts};
-ghost use Rattle.cbor4ii_ser.specs.Listed.{NamedItems, Joins, always, before, before_joins};
-ghost use Rattle.cbor4ii_ser.specs.Listed.{keyed_entries, keyed_encoding, labels_of};
-ghost use Rattle.cbor4ii_ser.specs.Listed.{◌▹◌, no_items, no_others};
+ghost use Rattle.cbor4ii_ser.specs.Listed.{NamedItems, StandsBeforeOthers, always_before, before};
+ghost use Rattle.cbor4ii_ser.specs.Listed.{before_joins};
+ghost use Rattle.cbor4ii_ser.specs.Listed.{keyed_pairs, keyed_encoding, labels_of};
+ghost use Rattle.cbor4ii_ser.specs.Listed.{◌▹◌, no_named_items, end_of_list};
 ghost use Rattle.cbor4ii_ser.specs.Serializing.{Serializes, output};
 
 use crate::error::EncodeError;
@@ -18,7 +19,7 @@ pub trait FieldValue: Drop {
     // The field's item under a key with this label, where it is written, before others.
     ghost before: { Self → List ℕ → NamedItems → NamedItems };
 
-    /// How many entries it has: one, or none where it is left out.
+    /// How many pairs it has: one, or none where it is left out.
     fn count(&self) -> usize
         ensures most { result ≤ 1 }
         ensures counts { (label : List ℕ) → result ≡ length (before self.now label []) };
@@ -35,16 +36,16 @@ pub trait FieldValue: Drop {
         ser: &mut Serializer<W>,
     ) -> Result<(), EncodeError<W::Error>>
         ensures { Serializes W.atomic
-            (parts (keyed_entries K.item (before self.now (K.label key.now) [])))
+            (parts (keyed_pairs K.item (before self.now (K.label key.now) [])))
             (output W.view ser.old) (output W.view ser.new) result };
 
     // A law: what is written of it stands before any others.
-    ghost joins: { Joins before };
+    ghost joins: { StandsBeforeOthers before };
 }
 
 /// It is always written.
 impl<'a, T: Serialize> FieldValue for &'a T {
-    ghost before = { λ v. always T.encoding v.now };
+    ghost before = { λ v. always_before T.encoding v.now };
 
     #[inline]
     fn count(&self) -> usize {
@@ -102,7 +103,7 @@ fn put_keyed<K: Key, T: Serialize, W: Write>(
     value: &T,
 ) -> Result<(), EncodeError<W::Error>>
     ensures { Serializes W.atomic
-        (parts (keyed_entries K.item (always T.encoding value.now (K.label key.now) [])))
+        (parts (keyed_pairs K.item (always_before T.encoding value.now (K.label key.now) [])))
         (output W.view ser.old) (output W.view ser.new) result }
 {
     match key.serialize_key(ser) {
@@ -116,24 +117,24 @@ trait NestedFields: Drop {
     // The items of those that are written, under these labels.
     ghost items: { Self → List (List ℕ) → NamedItems };
 
-    /// How many entries they have.
+    /// How many pairs they have.
     fn entries<K: Key>(&self, keys: &[K]) -> usize
         ensures counts { result ≡ length (items self.now (labels_of K.label keys.now)) }
         ensures most { result ≤ length keys.now };
 
-    /// Writes these entries.
+    /// Writes these pairs.
     fn serialize_entries<K: Key, W: Write>(
         &self,
         keys: &[K],
         ser: &mut Serializer<W>,
     ) -> Result<(), EncodeError<W::Error>>
         ensures { Serializes W.atomic
-            (parts (keyed_entries K.item (items self.now (labels_of K.label keys.now))))
+            (parts (keyed_pairs K.item (items self.now (labels_of K.label keys.now))))
             (output W.view ser.old) (output W.view ser.new) result };
 }
 
 impl NestedFields for () {
-    ghost items = { no_items };
+    ghost items = { no_named_items };
 
     #[inline]
     fn entries<K: Key>(&self, _keys: &[K]) -> usize {
@@ -224,7 +225,7 @@ pub trait FieldValues: Sized {
 
 /// A field.
 impl<A: FieldValue> FieldValues for (A,) {
-    ghost items = { λ v. (A.before ▹ no_items) (v.0, no_others) };
+    ghost items = { λ v. (A.before ▹ no_named_items) (v.0, end_of_list) };
 
     #[inline]
     fn serialize_fields<K: Key, W: Write>(
@@ -240,7 +241,7 @@ impl<A: FieldValue> FieldValues for (A,) {
 
 /// Two fields.
 impl<A: FieldValue, B: FieldValue> FieldValues for (A, B) {
-    ghost items = { λ v. (A.before ▹ B.before ▹ no_items) (v.0, (v.1, no_others)) };
+    ghost items = { λ v. (A.before ▹ B.before ▹ no_named_items) (v.0, (v.1, end_of_list)) };
 
     #[inline]
     fn serialize_fields<K: Key, W: Write>(
@@ -256,8 +257,8 @@ impl<A: FieldValue, B: FieldValue> FieldValues for (A, B) {
 
 /// Three fields.
 impl<A: FieldValue, B: FieldValue, C: FieldValue> FieldValues for (A, B, C) {
-    ghost items = { λ v. (A.before ▹ B.before ▹ C.before ▹ no_items)
-        (v.0, (v.1, (v.2, no_others))) };
+    ghost items = { λ v. (A.before ▹ B.before ▹ C.before ▹ no_named_items)
+        (v.0, (v.1, (v.2, end_of_list))) };
 
     #[inline]
     fn serialize_fields<K: Key, W: Write>(
@@ -274,8 +275,8 @@ impl<A: FieldValue, B: FieldValue, C: FieldValue> FieldValues for (A, B, C) {
 /// Four fields.
 impl<A: FieldValue, B: FieldValue, C: FieldValue, D: FieldValue> FieldValues for (A, B, C, D) {
     ghost items = { λ v. (A.before ▹ B.before ▹ C.before ▹ D.before ▹
-        no_items)
-        (v.0, (v.1, (v.2, (v.3, no_others)))) };
+        no_named_items)
+        (v.0, (v.1, (v.2, (v.3, end_of_list)))) };
 
     #[inline]
     fn serialize_fields<K: Key, W: Write>(
@@ -293,8 +294,8 @@ impl<A: FieldValue, B: FieldValue, C: FieldValue, D: FieldValue> FieldValues for
 impl<A: FieldValue, B: FieldValue, C: FieldValue, D: FieldValue, E: FieldValue> FieldValues
     for (A, B, C, D, E) {
     ghost items = { λ v. (A.before ▹ B.before ▹ C.before ▹ D.before ▹ E.before ▹
-        no_items)
-        (v.0, (v.1, (v.2, (v.3, (v.4, no_others))))) };
+        no_named_items)
+        (v.0, (v.1, (v.2, (v.3, (v.4, end_of_list))))) };
 
     #[inline]
     fn serialize_fields<K: Key, W: Write>(
@@ -318,8 +319,8 @@ impl<
     F: FieldValue,
 > FieldValues for (A, B, C, D, E, F) {
     ghost items = { λ v. (A.before ▹ B.before ▹ C.before ▹ D.before ▹ E.before ▹ F.before ▹
-        no_items)
-        (v.0, (v.1, (v.2, (v.3, (v.4, (v.5, no_others)))))) };
+        no_named_items)
+        (v.0, (v.1, (v.2, (v.3, (v.4, (v.5, end_of_list)))))) };
 
     #[inline]
     fn serialize_fields<K: Key, W: Write>(
@@ -344,8 +345,8 @@ impl<
     G: FieldValue,
 > FieldValues for (A, B, C, D, E, F, G) {
     ghost items = { λ v. (A.before ▹ B.before ▹ C.before ▹ D.before ▹ E.before ▹ F.before ▹
-        G.before ▹ no_items)
-        (v.0, (v.1, (v.2, (v.3, (v.4, (v.5, (v.6, no_others))))))) };
+        G.before ▹ no_named_items)
+        (v.0, (v.1, (v.2, (v.3, (v.4, (v.5, (v.6, end_of_list))))))) };
 
     #[inline]
     fn serialize_fields<K: Key, W: Write>(
@@ -371,8 +372,8 @@ impl<
     H: FieldValue,
 > FieldValues for (A, B, C, D, E, F, G, H) {
     ghost items = { λ v. (A.before ▹ B.before ▹ C.before ▹ D.before ▹ E.before ▹ F.before ▹
-        G.before ▹ H.before ▹ no_items)
-        (v.0, (v.1, (v.2, (v.3, (v.4, (v.5, (v.6, (v.7, no_others)))))))) };
+        G.before ▹ H.before ▹ no_named_items)
+        (v.0, (v.1, (v.2, (v.3, (v.4, (v.5, (v.6, (v.7, end_of_list)))))))) };
 
     #[inline]
     fn serialize_fields<K: Key, W: Write>(
@@ -399,8 +400,8 @@ impl<
     I: FieldValue,
 > FieldValues for (A, B, C, D, E, F, G, H, I) {
     ghost items = { λ v. (A.before ▹ B.before ▹ C.before ▹ D.before ▹ E.before ▹ F.before ▹
-        G.before ▹ H.before ▹ I.before ▹ no_items)
-        (v.0, (v.1, (v.2, (v.3, (v.4, (v.5, (v.6, (v.7, (v.8, no_others))))))))) };
+        G.before ▹ H.before ▹ I.before ▹ no_named_items)
+        (v.0, (v.1, (v.2, (v.3, (v.4, (v.5, (v.6, (v.7, (v.8, end_of_list))))))))) };
 
     #[inline]
     fn serialize_fields<K: Key, W: Write>(
@@ -428,8 +429,8 @@ impl<
     J: FieldValue,
 > FieldValues for (A, B, C, D, E, F, G, H, I, J) {
     ghost items = { λ v. (A.before ▹ B.before ▹ C.before ▹ D.before ▹ E.before ▹ F.before ▹
-        G.before ▹ H.before ▹ I.before ▹ J.before ▹ no_items)
-        (v.0, (v.1, (v.2, (v.3, (v.4, (v.5, (v.6, (v.7, (v.8, (v.9, no_others)))))))))) };
+        G.before ▹ H.before ▹ I.before ▹ J.before ▹ no_named_items)
+        (v.0, (v.1, (v.2, (v.3, (v.4, (v.5, (v.6, (v.7, (v.8, (v.9, end_of_list)))))))))) };
 
     #[inline]
     fn serialize_fields<K: Key, W: Write>(
@@ -462,8 +463,8 @@ impl<
     L: FieldValue,
 > FieldValues for (A, B, C, D, E, F, G, H, I, J, L) {
     ghost items = { λ v. (A.before ▹ B.before ▹ C.before ▹ D.before ▹ E.before ▹ F.before ▹
-        G.before ▹ H.before ▹ I.before ▹ J.before ▹ L.before ▹ no_items)
-        (v.0, (v.1, (v.2, (v.3, (v.4, (v.5, (v.6, (v.7, (v.8, (v.9, (v.10, no_others))))))))))) };
+        G.before ▹ H.before ▹ I.before ▹ J.before ▹ L.before ▹ no_named_items)
+        (v.0, (v.1, (v.2, (v.3, (v.4, (v.5, (v.6, (v.7, (v.8, (v.9, (v.10, end_of_list))))))))))) };
 
     #[inline]
     fn serialize_fields<K: Key, W: Write>(
@@ -497,7 +498,7 @@ impl<
     M: FieldValue,
 > FieldValues for (A, B, C, D, E, F, G, H, I, J, L, M) {
     ghost items = { λ v. (A.before ▹ B.before ▹ C.before ▹ D.before ▹ E.before ▹ F.before ▹
-        G.before ▹ H.before ▹ I.before ▹ J.before ▹ L.before ▹ M.before ▹ no_items) (
+        G.before ▹ H.before ▹ I.before ▹ J.before ▹ L.before ▹ M.before ▹ no_named_items) (
           v.0,
           (
             v.1,
@@ -519,7 +520,7 @@ impl<
                             v.9,
                             (
                               v.10,
-                              (v.11, no_others),
+                              (v.11, end_of_list),
                             ),
                           ),
                         ),

@@ -1,7 +1,7 @@
 //! Items that are kept as their bytes.
-ghost use Rattle.cbor4ii_tree.specs.BoxedRaw.{boxed_content};
-ghost use Rattle.cbor4ii_tree.specs.PlainRaw.{plain_raw_content};
-ghost use Rattle.cbor4ii_tree.specs.Raw.{raw_content};
+ghost use Rattle.cbor4ii_tree.specs.Calls.BoxedRaw.{boxed_content};
+ghost use Rattle.cbor4ii_tree.specs.Calls.PlainRaw.{plain_raw_content};
+ghost use Rattle.cbor4ii_tree.specs.Calls.Raw.{raw_content};
 ghost use Rattle.cbor4ii_ser.specs.Item.{encoded};
 
 use crate::error::EncodeError;

@@ -1,13 +1,13 @@
 //! Arrays that are there as a whole.
 ghost use Rattle.std.specs.Prelude.{◌≡◌, IfNone, IfSome, IsErr};
 ghost use Rattle.cbor4ii_ser.specs.Item.{each_encoding, array_encoding};
-ghost use Rattle.cbor4ii_ser.specs.Serializing.{Serializes, answered, output};
+ghost use Rattle.cbor4ii_ser.specs.Serializing.{Serializes, done_or_answer, output};
 
 use crate::error::EncodeError;
 use crate::leaf::put_leaf;
 use crate::serialize::Serialize;
 use crate::serializer::Serializer;
-use crate::slot::{has_large_error, push_head, push_head_apart};
+use crate::slot::{push_head, push_parts_head};
 use cbor4ii_items::major;
 use cbor4ii_rw::write::Write;
 
@@ -32,20 +32,11 @@ fn put_array<W: Write, T: Serialize>(
     if T::is_leaf() {
         return put_leaf_array(ser, items);
     }
-    if has_large_error::<W>() {
-        let mut answer = Ok(());
-        return match push_head_apart(
-            &mut ser.writer,
-            major::ARRAY,
-            items.len() as u64,
-            &mut answer,
-        ) {
-            Some(()) => put_items(ser, items),
-            None => answer,
-        };
+    let mut answer = Ok(());
+    match push_parts_head(&mut ser.writer, major::ARRAY, items.len(), &mut answer) {
+        Some(()) => put_items(ser, items),
+        None => answer,
     }
-    ser.array_head(items.len())?;
-    put_items(ser, items)
 }
 
 #[inline]
@@ -87,7 +78,7 @@ fn put_leaves<W: Write, T: Serialize>(
     answer: &mut Result<(), EncodeError<W::Error>>,
 ) -> Option<()>
     ensures writes { Serializes W.atomic (array_encoding T.encoding items.now)
-        (output W.view ser.old) (output W.view ser.new) (answered result answer.new) }
+        (output W.view ser.old) (output W.view ser.new) (done_or_answer result answer.new) }
     ensures failed { IfNone result (IsErr answer.new) }
     ensures kept { IfSome result (λ _. answer.new ≡ answer.old) }
 {
@@ -102,7 +93,7 @@ fn put_each_leaf<W: Write, T: Serialize>(
     answer: &mut Result<(), EncodeError<W::Error>>,
 ) -> Option<()>
     ensures writes { Serializes W.atomic (each_encoding T.encoding items.now)
-        (output W.view ser.old) (output W.view ser.new) (answered result answer.new) }
+        (output W.view ser.old) (output W.view ser.new) (done_or_answer result answer.new) }
     ensures failed { IfNone result (IsErr answer.new) }
     ensures kept { IfSome result (λ _. answer.new ≡ answer.old) }
 {

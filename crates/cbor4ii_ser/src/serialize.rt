@@ -1,7 +1,7 @@
 //! What writing a typed value is.
 ghost use Rattle.std.specs.Prelude.{◌≡◌, IfSome};
 ghost use Rattle.cbor4ii_ser.specs.Item.{Encoding, encoded};
-ghost use Rattle.cbor4ii_ser.specs.Leaf.{leaf_bytes};
+ghost use Rattle.cbor4ii_ser.specs.Leaf.{bytes_of_leaf};
 ghost use Rattle.cbor4ii_ser.specs.Serializing.{Serializes, output};
 
 use crate::error::EncodeError;
@@ -49,7 +49,7 @@ pub trait Serialize {
     /// answers none.
     #[inline(always)]
     fn as_leaf(&self) -> Option<Leaf<'_>>
-        ensures { IfSome result (λ leaf. encoding self.now ≡ encoded (leaf_bytes leaf)) }
+        ensures { IfSome result (λ leaf. encoding self.now ≡ encoded (bytes_of_leaf leaf)) }
     {
         None
     }

@@ -487,7 +487,7 @@ impl<W: Write> Serializer<W> {
         value.serialize(self)
     }
 
-    /// A map of one entry, the variant's name and the content; the enum's name and the variant's
+    /// A map of one pair, the variant's name and the content; the enum's name and the variant's
     /// index are not written.
     ///
     /// # Errors
@@ -504,12 +504,8 @@ impl<W: Write> Serializer<W> {
         ensures { Serializes W.atomic (variant_encoding variant.now (T.encoding value.now))
             (output W.view self.old) (output W.view self.new) result }
     {
-        if has_large_error::<W>() {
-            let mut answer = Ok(());
-            put_variant(self, variant, value, &mut answer);
-            return answer;
-        }
-        self.variant_head(variant)?;
-        value.serialize(self)
+        let mut answer = Ok(());
+        put_variant(self, variant, value, &mut answer);
+        answer
     }
 }

@@ -12,10 +12,11 @@ ghost use Rattle.cbor4ii_items.specs.Numbers.{shortest_head};
 ghost use Rattle.cbor4ii_items.specs.Strings.{definite_string};
 ghost use Rattle.cbor4ii_ser.specs.Item.{encoded, followed, variant_head, variant_encoding};
 ghost use Rattle.cbor4ii_ser.specs.Item.{tuple_variant_encoding};
-ghost use Rattle.cbor4ii_ser.specs.Serializing.{Serializes, AllOrNothing, answered, output};
+ghost use Rattle.cbor4ii_ser.specs.Serializing.{Serializes, AllOrNothing, done_or_answer, output};
 ghost use Rattle.cbor4ii_ser.specs.declared.error.EncodeError.TheVariants.{Core};
 
 use crate::error::EncodeError;
+use crate::leaf::put_value;
 use crate::serialize::Serialize;
 use crate::serializer::Serializer;
 use cbor4ii_items::{major, marker};
@@ -49,9 +50,9 @@ pub(crate) fn push<W: Write>(
     answer: &mut Result<(), EncodeError<W::Error>>,
 ) -> Option<()>
     ensures writes { Serializes W.atomic (encoded bytes.now)
-        (W.view writer.old) (W.view writer.new) (answered result answer.new) }
+        (W.view writer.old) (W.view writer.new) (done_or_answer result answer.new) }
     ensures whole { AllOrNothing W.atomic (W.view writer.old) (W.view writer.new)
-        (answered result answer.new) }
+        (done_or_answer result answer.new) }
     ensures failed { IfNone result (IsErr answer.new) }
     ensures kept { IfSome result (λ _. answer.new ≡ answer.old) }
 {
@@ -74,9 +75,9 @@ pub(crate) fn push_head_apart<W: Write>(
 ) -> Option<()>
     requires { major < 8 }
     ensures writes { Serializes W.atomic (encoded (shortest_head major argument))
-        (W.view writer.old) (W.view writer.new) (answered result answer.new) }
+        (W.view writer.old) (W.view writer.new) (done_or_answer result answer.new) }
     ensures whole { AllOrNothing W.atomic (W.view writer.old) (W.view writer.new)
-        (answered result answer.new) }
+        (done_or_answer result answer.new) }
     ensures failed { IfNone result (IsErr answer.new) }
     ensures kept { IfSome result (λ _. answer.new ≡ answer.old) }
 {
@@ -93,9 +94,9 @@ pub(crate) fn push_head<W: Write>(
 ) -> Option<()>
     requires { major < 8 }
     ensures writes { Serializes W.atomic (encoded (shortest_head major argument))
-        (W.view writer.old) (W.view writer.new) (answered result answer.new) }
+        (W.view writer.old) (W.view writer.new) (done_or_answer result answer.new) }
     ensures whole { AllOrNothing W.atomic (W.view writer.old) (W.view writer.new)
-        (answered result answer.new) }
+        (done_or_answer result answer.new) }
     ensures failed { IfNone result (IsErr answer.new) }
     ensures kept { IfSome result (λ _. answer.new ≡ answer.old) }
 {
@@ -104,6 +105,26 @@ pub(crate) fn push_head<W: Write>(
     } else {
         push_long_head_apart(writer, major, argument, answer)
     }
+}
+
+/// Writes the head of an array or a map: in line, but to a writer with a large error apart.
+#[inline(always)]
+pub(crate) fn push_parts_head<W: Write>(
+    writer: &mut W,
+    major: u8,
+    len: usize,
+    answer: &mut Result<(), EncodeError<W::Error>>,
+) -> Option<()>
+    requires { major < 8 }
+    ensures writes { Serializes W.atomic (encoded (shortest_head major len))
+        (W.view writer.old) (W.view writer.new) (done_or_answer result answer.new) }
+    ensures failed { IfNone result (IsErr answer.new) }
+    ensures kept { IfSome result (λ _. answer.new ≡ answer.old) }
+{
+    if has_large_error::<W>() {
+        return push_head_apart(writer, major, len as u64, answer);
+    }
+    push_head(writer, major, len as u64, answer)
 }
 
 /// Writes the shortest head of an argument that has bytes of its own.
@@ -117,9 +138,9 @@ fn push_long_head_apart<W: Write>(
     requires major { major < 8 }
     requires long { 24 ≤ argument }
     ensures writes { Serializes W.atomic (encoded (shortest_head major argument))
-        (W.view writer.old) (W.view writer.new) (answered result answer.new) }
+        (W.view writer.old) (W.view writer.new) (done_or_answer result answer.new) }
     ensures whole { AllOrNothing W.atomic (W.view writer.old) (W.view writer.new)
-        (answered result answer.new) }
+        (done_or_answer result answer.new) }
     ensures failed { IfNone result (IsErr answer.new) }
     ensures kept { IfSome result (λ _. answer.new ≡ answer.old) }
 {
@@ -137,9 +158,9 @@ pub(crate) fn push_long_head<W: Write>(
     requires major { major < 8 }
     requires long { 24 ≤ argument }
     ensures writes { Serializes W.atomic (encoded (shortest_head major argument))
-        (W.view writer.old) (W.view writer.new) (answered result answer.new) }
+        (W.view writer.old) (W.view writer.new) (done_or_answer result answer.new) }
     ensures whole { AllOrNothing W.atomic (W.view writer.old) (W.view writer.new)
-        (answered result answer.new) }
+        (done_or_answer result answer.new) }
     ensures failed { IfNone result (IsErr answer.new) }
     ensures kept { IfSome result (λ _. answer.new ≡ answer.old) }
 {
@@ -168,9 +189,9 @@ pub(crate) fn push_f16_apart<W: Write>(
     answer: &mut Result<(), EncodeError<W::Error>>,
 ) -> Option<()>
     ensures writes { Serializes W.atomic (encoded (float_bytes 0xf9 2 bits))
-        (W.view writer.old) (W.view writer.new) (answered result answer.new) }
+        (W.view writer.old) (W.view writer.new) (done_or_answer result answer.new) }
     ensures whole { AllOrNothing W.atomic (W.view writer.old) (W.view writer.new)
-        (answered result answer.new) }
+        (done_or_answer result answer.new) }
     ensures failed { IfNone result (IsErr answer.new) }
     ensures kept { IfSome result (λ _. answer.new ≡ answer.old) }
 {
@@ -185,9 +206,9 @@ pub(crate) fn push_f16<W: Write>(
     answer: &mut Result<(), EncodeError<W::Error>>,
 ) -> Option<()>
     ensures writes { Serializes W.atomic (encoded (float_bytes 0xf9 2 bits))
-        (W.view writer.old) (W.view writer.new) (answered result answer.new) }
+        (W.view writer.old) (W.view writer.new) (done_or_answer result answer.new) }
     ensures whole { AllOrNothing W.atomic (W.view writer.old) (W.view writer.new)
-        (answered result answer.new) }
+        (done_or_answer result answer.new) }
     ensures failed { IfNone result (IsErr answer.new) }
     ensures kept { IfSome result (λ _. answer.new ≡ answer.old) }
 {
@@ -203,9 +224,9 @@ pub(crate) fn push_f32_apart<W: Write>(
     answer: &mut Result<(), EncodeError<W::Error>>,
 ) -> Option<()>
     ensures writes { Serializes W.atomic (encoded (float_bytes 0xfa 4 bits))
-        (W.view writer.old) (W.view writer.new) (answered result answer.new) }
+        (W.view writer.old) (W.view writer.new) (done_or_answer result answer.new) }
     ensures whole { AllOrNothing W.atomic (W.view writer.old) (W.view writer.new)
-        (answered result answer.new) }
+        (done_or_answer result answer.new) }
     ensures failed { IfNone result (IsErr answer.new) }
     ensures kept { IfSome result (λ _. answer.new ≡ answer.old) }
 {
@@ -220,15 +241,14 @@ pub(crate) fn push_f32<W: Write>(
     answer: &mut Result<(), EncodeError<W::Error>>,
 ) -> Option<()>
     ensures writes { Serializes W.atomic (encoded (float_bytes 0xfa 4 bits))
-        (W.view writer.old) (W.view writer.new) (answered result answer.new) }
+        (W.view writer.old) (W.view writer.new) (done_or_answer result answer.new) }
     ensures whole { AllOrNothing W.atomic (W.view writer.old) (W.view writer.new)
-        (answered result answer.new) }
+        (done_or_answer result answer.new) }
     ensures failed { IfNone result (IsErr answer.new) }
     ensures kept { IfSome result (λ _. answer.new ≡ answer.old) }
 {
-    let mut bytes = [marker::F32, 0, 0, 0, 0];
-    bytes[1..].copy_from_slice(&bits.to_be_bytes());
-    push(writer, &bytes, answer)
+    let [a, b, c, d] = bits.to_be_bytes();
+    push(writer, &[marker::F32, a, b, c, d], answer)
 }
 
 /// Writes a float of eight bytes, its first byte and its bits, in one push.
@@ -239,9 +259,9 @@ pub(crate) fn push_f64_apart<W: Write>(
     answer: &mut Result<(), EncodeError<W::Error>>,
 ) -> Option<()>
     ensures writes { Serializes W.atomic (encoded (float_bytes 0xfb 8 bits))
-        (W.view writer.old) (W.view writer.new) (answered result answer.new) }
+        (W.view writer.old) (W.view writer.new) (done_or_answer result answer.new) }
     ensures whole { AllOrNothing W.atomic (W.view writer.old) (W.view writer.new)
-        (answered result answer.new) }
+        (done_or_answer result answer.new) }
     ensures failed { IfNone result (IsErr answer.new) }
     ensures kept { IfSome result (λ _. answer.new ≡ answer.old) }
 {
@@ -256,15 +276,14 @@ pub(crate) fn push_f64<W: Write>(
     answer: &mut Result<(), EncodeError<W::Error>>,
 ) -> Option<()>
     ensures writes { Serializes W.atomic (encoded (float_bytes 0xfb 8 bits))
-        (W.view writer.old) (W.view writer.new) (answered result answer.new) }
+        (W.view writer.old) (W.view writer.new) (done_or_answer result answer.new) }
     ensures whole { AllOrNothing W.atomic (W.view writer.old) (W.view writer.new)
-        (answered result answer.new) }
+        (done_or_answer result answer.new) }
     ensures failed { IfNone result (IsErr answer.new) }
     ensures kept { IfSome result (λ _. answer.new ≡ answer.old) }
 {
-    let mut bytes = [marker::F64, 0, 0, 0, 0, 0, 0, 0, 0];
-    bytes[1..].copy_from_slice(&bits.to_be_bytes());
-    push(writer, &bytes, answer)
+    let [a, b, c, d, e, f, g, h] = bits.to_be_bytes();
+    push(writer, &[marker::F64, a, b, c, d, e, f, g, h], answer)
 }
 
 /// Writes a string of this major type, its head in one push and its content in another.
@@ -277,7 +296,7 @@ pub(crate) fn push_string_apart<W: Write>(
 ) -> Option<()>
     requires { major < 8 }
     ensures writes { Serializes W.atomic (encoded (definite_string major content.now))
-        (W.view writer.old) (W.view writer.new) (answered result answer.new) }
+        (W.view writer.old) (W.view writer.new) (done_or_answer result answer.new) }
     ensures failed { IfNone result (IsErr answer.new) }
     ensures kept { IfSome result (λ _. answer.new ≡ answer.old) }
 {
@@ -294,7 +313,7 @@ pub(crate) fn push_string<W: Write>(
 ) -> Option<()>
     requires { major < 8 }
     ensures writes { Serializes W.atomic (encoded (definite_string major content.now))
-        (W.view writer.old) (W.view writer.new) (answered result answer.new) }
+        (W.view writer.old) (W.view writer.new) (done_or_answer result answer.new) }
     ensures failed { IfNone result (IsErr answer.new) }
     ensures kept { IfSome result (λ _. answer.new ≡ answer.old) }
 {
@@ -310,11 +329,29 @@ pub(crate) fn push_text_apart<W: Write>(
     answer: &mut Result<(), EncodeError<W::Error>>,
 ) -> Option<()>
     ensures writes { Serializes W.atomic (encoded (definite_string 3 text.now))
-        (W.view writer.old) (W.view writer.new) (answered result answer.new) }
+        (W.view writer.old) (W.view writer.new) (done_or_answer result answer.new) }
     ensures failed { IfNone result (IsErr answer.new) }
     ensures kept { IfSome result (λ _. answer.new ≡ answer.old) }
 {
     push_string_apart(writer, major::STRING, text.as_bytes(), answer)
+}
+
+/// Writes a name: in line, but to a writer with a large error apart.
+#[inline(always)]
+pub(crate) fn push_name<W: Write>(
+    writer: &mut W,
+    name: &str,
+    answer: &mut Result<(), EncodeError<W::Error>>,
+) -> Option<()>
+    ensures writes { Serializes W.atomic (encoded (definite_string 3 name.now))
+        (W.view writer.old) (W.view writer.new) (done_or_answer result answer.new) }
+    ensures failed { IfNone result (IsErr answer.new) }
+    ensures kept { IfSome result (λ _. answer.new ≡ answer.old) }
+{
+    if has_large_error::<W>() {
+        return push_text_apart(writer, name, answer);
+    }
+    push_text(writer, name, answer)
 }
 
 /// Writes a text, in line.
@@ -325,22 +362,22 @@ pub(crate) fn push_text<W: Write>(
     answer: &mut Result<(), EncodeError<W::Error>>,
 ) -> Option<()>
     ensures writes { Serializes W.atomic (encoded (definite_string 3 text.now))
-        (W.view writer.old) (W.view writer.new) (answered result answer.new) }
+        (W.view writer.old) (W.view writer.new) (done_or_answer result answer.new) }
     ensures failed { IfNone result (IsErr answer.new) }
     ensures kept { IfSome result (λ _. answer.new ≡ answer.old) }
 {
     push_string(writer, major::STRING, text.as_bytes(), answer)
 }
 
-/// Writes the map of one entry that a variant is, up to the variant's name.
+/// Writes the map of one pair that a variant is, up to the variant's name, out of line.
 #[inline(never)]
-pub(crate) fn push_variant_apart<W: Write>(
+fn push_variant_apart<W: Write>(
     writer: &mut W,
     name: &str,
     answer: &mut Result<(), EncodeError<W::Error>>,
 ) -> Option<()>
     ensures writes { Serializes W.atomic (encoded (variant_head name.now))
-        (W.view writer.old) (W.view writer.new) (answered result answer.new) }
+        (W.view writer.old) (W.view writer.new) (done_or_answer result answer.new) }
     ensures failed { IfNone result (IsErr answer.new) }
     ensures kept { IfSome result (λ _. answer.new ≡ answer.old) }
 {
@@ -348,21 +385,40 @@ pub(crate) fn push_variant_apart<W: Write>(
     push_text(writer, name, answer)
 }
 
-/// Writes what begins a variant whose content is an array of so many parts.
-#[inline(never)]
-fn push_tuple_variant_apart<W: Write>(
+/// Writes what begins a variant: in line, but to a writer with a large error apart.
+#[inline(always)]
+pub(crate) fn push_variant<W: Write>(
     writer: &mut W,
     name: &str,
-    len: u64,
     answer: &mut Result<(), EncodeError<W::Error>>,
 ) -> Option<()>
-    ensures writes { Serializes W.atomic (encoded (variant_head name.now ++ shortest_head 4 len))
-        (W.view writer.old) (W.view writer.new) (answered result answer.new) }
+    ensures writes { Serializes W.atomic (encoded (variant_head name.now))
+        (W.view writer.old) (W.view writer.new) (done_or_answer result answer.new) }
     ensures failed { IfNone result (IsErr answer.new) }
     ensures kept { IfSome result (λ _. answer.new ≡ answer.old) }
 {
-    push_variant_apart(writer, name, answer)?;
-    push_head(writer, major::ARRAY, len, answer)
+    if has_large_error::<W>() {
+        return push_variant_apart(writer, name, answer);
+    }
+    push_head(writer, major::MAP, 1, answer)?;
+    push_text(writer, name, answer)
+}
+
+/// Writes what begins a variant whose content is an array of so many parts.
+#[inline(always)]
+fn push_tuple_variant<W: Write>(
+    writer: &mut W,
+    name: &str,
+    len: usize,
+    answer: &mut Result<(), EncodeError<W::Error>>,
+) -> Option<()>
+    ensures writes { Serializes W.atomic (encoded (variant_head name.now ++ shortest_head 4 len))
+        (W.view writer.old) (W.view writer.new) (done_or_answer result answer.new) }
+    ensures failed { IfNone result (IsErr answer.new) }
+    ensures kept { IfSome result (λ _. answer.new ≡ answer.old) }
+{
+    push_variant(writer, name, answer)?;
+    push_parts_head(writer, major::ARRAY, len, answer)
 }
 
 /// Writes a value.
@@ -373,7 +429,7 @@ pub(crate) fn put_part<W: Write, T: Serialize>(
     answer: &mut Result<(), EncodeError<W::Error>>,
 ) -> Option<()>
     ensures writes { Serializes W.atomic (T.encoding value.now)
-        (output W.view ser.old) (output W.view ser.new) (answered result answer.new) }
+        (output W.view ser.old) (output W.view ser.new) (done_or_answer result answer.new) }
     ensures failed { IfNone result (IsErr answer.new) }
     ensures kept { IfSome result (λ _. answer.new ≡ answer.old) }
 {
@@ -395,12 +451,12 @@ pub(crate) fn put_both<W: Write, A: Serialize, B: Serialize>(
     answer: &mut Result<(), EncodeError<W::Error>>,
 ) -> Option<()>
     ensures writes { Serializes W.atomic (followed (A.encoding first.now) (B.encoding second.now))
-        (output W.view ser.old) (output W.view ser.new) (answered result answer.new) }
+        (output W.view ser.old) (output W.view ser.new) (done_or_answer result answer.new) }
     ensures failed { IfNone result (IsErr answer.new) }
     ensures kept { IfSome result (λ _. answer.new ≡ answer.old) }
 {
-    put_part(ser, first, answer)?;
-    put_part(ser, second, answer)
+    put_value(ser, first, answer)?;
+    put_value(ser, second, answer)
 }
 
 /// Writes a variant that has this content.
@@ -412,12 +468,12 @@ pub(crate) fn put_variant<W: Write, T: Serialize>(
     answer: &mut Result<(), EncodeError<W::Error>>,
 ) -> Option<()>
     ensures writes { Serializes W.atomic (variant_encoding name.now (T.encoding value.now))
-        (output W.view ser.old) (output W.view ser.new) (answered result answer.new) }
+        (output W.view ser.old) (output W.view ser.new) (done_or_answer result answer.new) }
     ensures failed { IfNone result (IsErr answer.new) }
     ensures kept { IfSome result (λ _. answer.new ≡ answer.old) }
 {
-    push_variant_apart(&mut ser.writer, name, answer)?;
-    put_part(ser, value, answer)
+    push_variant(&mut ser.writer, name, answer)?;
+    put_value(ser, value, answer)
 }
 
 /// Writes a variant whose content is an array of these two.
@@ -431,11 +487,11 @@ pub(crate) fn put_variant_of_two<W: Write, A: Serialize, B: Serialize>(
 ) -> Option<()>
     ensures writes { Serializes W.atomic (tuple_variant_encoding name.now
         (A.encoding first.now ∷ B.encoding second.now ∷ []))
-        (output W.view ser.old) (output W.view ser.new) (answered result answer.new) }
+        (output W.view ser.old) (output W.view ser.new) (done_or_answer result answer.new) }
     ensures failed { IfNone result (IsErr answer.new) }
     ensures kept { IfSome result (λ _. answer.new ≡ answer.old) }
 {
-    push_tuple_variant_apart(&mut ser.writer, name, 2, answer)?;
-    put_part(ser, first, answer)?;
-    put_part(ser, second, answer)
+    push_tuple_variant(&mut ser.writer, name, 2, answer)?;
+    put_value(ser, first, answer)?;
+    put_value(ser, second, answer)
 }

@@ -4,9 +4,11 @@ ghost use Rattle.cbor4ii_ser.specs.Item.{tuple_encoding};
 ghost use Rattle.cbor4ii_ser.specs.Serializing.{Serializes, output};
 
 use crate::error::EncodeError;
+use crate::leaf::put_value;
 use crate::serialize::Serialize;
 use crate::serializer::Serializer;
-use crate::slot::has_large_error;
+use crate::slot::{has_large_error, push_parts_head};
+use cbor4ii_items::major;
 use cbor4ii_rw::write::Write;
 
 /// An array of two items.
@@ -18,9 +20,7 @@ impl<A: Serialize, B: Serialize> Serialize for (A, B) {
         if has_large_error::<W>() {
             return put_pair_apart(ser, &self.0, &self.1);
         }
-        ser.array_head(2)?;
-        self.0.serialize(ser)?;
-        self.1.serialize(ser)
+        put_pair(ser, &self.0, &self.1)
     }
 }
 
@@ -34,10 +34,7 @@ impl<A: Serialize, B: Serialize, C: Serialize> Serialize for (A, B, C) {
         if has_large_error::<W>() {
             return put_triple_apart(ser, &self.0, &self.1, &self.2);
         }
-        ser.array_head(3)?;
-        self.0.serialize(ser)?;
-        self.1.serialize(ser)?;
-        self.2.serialize(ser)
+        put_triple(ser, &self.0, &self.1, &self.2)
     }
 }
 
@@ -52,9 +49,7 @@ fn put_pair_apart<W: Write, A: Serialize, B: Serialize>(
     ensures { Serializes W.atomic (tuple_encoding (A.encoding first.now ∷ B.encoding second.now
         ∷ [])) (output W.view ser.old) (output W.view ser.new) result }
 {
-    ser.array_head(2)?;
-    first.serialize(ser)?;
-    second.serialize(ser)
+    put_pair(ser, first, second)
 }
 
 /// Writes a triple out of line: to a writer with a large error the caller's frame stays small.
@@ -68,8 +63,55 @@ fn put_triple_apart<W: Write, A: Serialize, B: Serialize, C: Serialize>(
     ensures { Serializes W.atomic (tuple_encoding (A.encoding first.now ∷ B.encoding second.now
         ∷ C.encoding third.now ∷ [])) (output W.view ser.old) (output W.view ser.new) result }
 {
-    ser.array_head(3)?;
-    first.serialize(ser)?;
-    second.serialize(ser)?;
-    third.serialize(ser)
+    put_triple(ser, first, second, third)
+}
+
+/// Writes a head, and two values after it.
+#[inline(always)]
+fn put_pair<W: Write, A: Serialize, B: Serialize>(
+    ser: &mut Serializer<W>,
+    first: &A,
+    second: &B,
+) -> Result<(), EncodeError<W::Error>>
+    ensures { Serializes W.atomic (tuple_encoding (A.encoding first.now ∷ B.encoding second.now
+        ∷ [])) (output W.view ser.old) (output W.view ser.new) result }
+{
+    let mut answer = Ok(());
+    let Some(()) = push_parts_head(&mut ser.writer, major::ARRAY, 2, &mut answer) else {
+        return answer;
+    };
+    let Some(()) = put_value(ser, first, &mut answer) else {
+        return answer;
+    };
+    let Some(()) = put_value(ser, second, &mut answer) else {
+        return answer;
+    };
+    Ok(())
+}
+
+/// Writes a head, and three values after it.
+#[inline(always)]
+fn put_triple<W: Write, A: Serialize, B: Serialize, C: Serialize>(
+    ser: &mut Serializer<W>,
+    first: &A,
+    second: &B,
+    third: &C,
+) -> Result<(), EncodeError<W::Error>>
+    ensures { Serializes W.atomic (tuple_encoding (A.encoding first.now ∷ B.encoding second.now
+        ∷ C.encoding third.now ∷ [])) (output W.view ser.old) (output W.view ser.new) result }
+{
+    let mut answer = Ok(());
+    let Some(()) = push_parts_head(&mut ser.writer, major::ARRAY, 3, &mut answer) else {
+        return answer;
+    };
+    let Some(()) = put_value(ser, first, &mut answer) else {
+        return answer;
+    };
+    let Some(()) = put_value(ser, second, &mut answer) else {
+        return answer;
+    };
+    let Some(()) = put_value(ser, third, &mut answer) else {
+        return answer;
+    };
+    Ok(())
 }

@@ -1,8 +1,8 @@
 //! Values of the tree.
 ghost use Rattle.std.specs.Prelude.{◌≡◌, IsTrue};
-ghost use Rattle.cbor4ii_tree.specs.View.{view, items_view, members_view};
+ghost use Rattle.cbor4ii_tree.specs.Basis.View.{view, items_view, pairs_view};
 ghost use Rattle.cbor4ii_ser.specs.Serializing.{Serializes, output};
-ghost use Rattle.cbor4ii_ser.specs.Values.{holds_tag, some_holds_tag, members_hold_tag};
+ghost use Rattle.cbor4ii_ser.specs.Values.{holds_tag, some_holds_tag, pairs_hold_tag};
 ghost use Rattle.cbor4ii_ser.specs.Values.{value_encoding};
 
 use crate::error::EncodeError;
@@ -40,7 +40,7 @@ fn holds_tag(value: &Value) -> bool
 {
     match value {
         Value::Array(items) => some_holds_tag(items),
-        Value::Map(members) => members_hold_tag(members),
+        Value::Map(pairs) => pairs_hold_tag(pairs),
         Value::Tag(_, _) => true,
         _ => false,
     }
@@ -59,14 +59,14 @@ fn some_holds_tag(items: &[Value]) -> bool
 }
 
 #[cycle(tags)]
-fn members_hold_tag(members: &[(Value, Value)]) -> bool
-    ensures { result ≡ members_hold_tag (members_view members.now) }
+fn pairs_hold_tag(pairs: &[(Value, Value)]) -> bool
+    ensures { result ≡ pairs_hold_tag (pairs_view pairs.now) }
 {
-    for member in members {
-        if holds_tag(&member.0) {
+    for pair in pairs {
+        if holds_tag(&pair.0) {
             return true;
         }
-        if holds_tag(&member.1) {
+        if holds_tag(&pair.1) {
             return true;
         }
     }

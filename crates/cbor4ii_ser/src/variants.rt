@@ -7,11 +7,11 @@ ghost use Rattle.cbor4ii_ser.specs.Serializing.{Serializes, output};
 use crate::error::EncodeError;
 use crate::serialize::Serialize;
 use crate::serializer::Serializer;
-use crate::slot::{has_large_error, put_variant_of_two};
+use crate::slot::{push_variant, put_variant_of_two};
 use cbor4ii_rw::write::Write;
 
 impl<W: Write> Serializer<W> {
-    /// Writes a variant of one field, a name and a value. It is a map of one entry, the variant's
+    /// Writes a variant of one field, a name and a value. It is a map of one pair, the variant's
     /// name and a map of the fields in this order. The enum's name and the variant's index are not
     /// written.
     ///
@@ -31,11 +31,14 @@ impl<W: Write> Serializer<W> {
             (field first_name.now (A.encoding first.now) ∷ [])))
             (output W.view self.old) (output W.view self.new) result }
     {
-        self.variant_head(variant)?;
+        let mut answer = Ok(());
+        let Some(()) = push_variant(&mut self.writer, variant, &mut answer) else {
+            return answer;
+        };
         self.serialize_1_field(name, first_name, first)
     }
 
-    /// Writes a variant of two fields, each a name and a value. It is a map of one entry, the
+    /// Writes a variant of two fields, each a name and a value. It is a map of one pair, the
     /// variant's name and a map of the fields in this order. The enum's name and the variant's
     /// index are not written.
     ///
@@ -58,11 +61,14 @@ impl<W: Write> Serializer<W> {
             ∷ field second_name.now (B.encoding second.now) ∷ [])))
             (output W.view self.old) (output W.view self.new) result }
     {
-        self.variant_head(variant)?;
+        let mut answer = Ok(());
+        let Some(()) = push_variant(&mut self.writer, variant, &mut answer) else {
+            return answer;
+        };
         self.serialize_2_fields(name, first_name, first, second_name, second)
     }
 
-    /// Writes a variant of three fields, each a name and a value. It is a map of one entry, the
+    /// Writes a variant of three fields, each a name and a value. It is a map of one pair, the
     /// variant's name and a map of the fields in this order. The enum's name and the variant's
     /// index are not written.
     ///
@@ -88,7 +94,10 @@ impl<W: Write> Serializer<W> {
             ∷ field third_name.now (C.encoding third.now) ∷ [])))
             (output W.view self.old) (output W.view self.new) result }
     {
-        self.variant_head(variant)?;
+        let mut answer = Ok(());
+        let Some(()) = push_variant(&mut self.writer, variant, &mut answer) else {
+            return answer;
+        };
         self.serialize_3_fields(
             name,
             first_name,
@@ -100,7 +109,7 @@ impl<W: Write> Serializer<W> {
         )
     }
 
-    /// Writes a variant of four fields, each a name and a value. It is a map of one entry, the
+    /// Writes a variant of four fields, each a name and a value. It is a map of one pair, the
     /// variant's name and a map of the fields in this order. The enum's name and the variant's
     /// index are not written.
     ///
@@ -129,7 +138,10 @@ impl<W: Write> Serializer<W> {
             ∷ field fourth_name.now (D.encoding fourth.now) ∷ [])))
             (output W.view self.old) (output W.view self.new) result }
     {
-        self.variant_head(variant)?;
+        let mut answer = Ok(());
+        let Some(()) = push_variant(&mut self.writer, variant, &mut answer) else {
+            return answer;
+        };
         self.serialize_4_fields(
             name,
             first_name,
@@ -143,7 +155,7 @@ impl<W: Write> Serializer<W> {
         )
     }
 
-    /// Writes a variant of two items: a map of one entry, the variant's name and an array of the
+    /// Writes a variant of two items: a map of one pair, the variant's name and an array of the
     /// items in this order. The enum's name and the variant's index are not written.
     ///
     /// # Errors
@@ -162,17 +174,12 @@ impl<W: Write> Serializer<W> {
             (A.encoding first.now ∷ B.encoding second.now ∷ []))
             (output W.view self.old) (output W.view self.new) result }
     {
-        if has_large_error::<W>() {
-            let mut answer = Ok(());
-            put_variant_of_two(self, variant, first, second, &mut answer);
-            return answer;
-        }
-        self.tuple_variant_head(variant, 2)?;
-        first.serialize(self)?;
-        second.serialize(self)
+        let mut answer = Ok(());
+        put_variant_of_two(self, variant, first, second, &mut answer);
+        answer
     }
 
-    /// Writes a variant of three items: a map of one entry, the variant's name and an array of the
+    /// Writes a variant of three items: a map of one pair, the variant's name and an array of the
     /// items in this order. The enum's name and the variant's index are not written.
     ///
     /// # Errors

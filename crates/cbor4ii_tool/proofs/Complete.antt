@@ -3,10 +3,10 @@ use Rattle.std.proofs.Common.{◌≡◌, ℕ, ◌≤◌, List, [], ◌∷◌, �
 use Rattle.std.proofs.Common.{Err, refl, sym, ap, ◌∙◌, subst, arith}
 use Rattle.cbor4ii_rw.specs.View.{View, IfKnown}
 use Rattle.cbor4ii_rw.specs.Writer.{Appends}
-use Rattle.cbor4ii_items.specs.Head.{head, shortest}
-use Rattle.cbor4ii_tree.specs.Tree.{Tree, bytes}
-use Rattle.cbor4ii_tree.specs.Meaning.{value}
-use Rattle.cbor4ii_tree.specs.Canonical.{canonical_encoding}
+use Rattle.cbor4ii_items.specs.Head.{head, shortest_width}
+use Rattle.cbor4ii_tree.specs.Basis.Tree.{Tree, bytes}
+use Rattle.cbor4ii_tree.specs.Basis.Meaning.{value}
+use Rattle.cbor4ii_tree.specs.Basis.Canonical.{canonical_encoding}
 use Rattle.cbor4ii_tree.specs.Laws.Ignoring.{one_encoding}
 use Rattle.cbor4ii_tree.specs.Laws.Initials.{length-bytes-pos}
 use Rattle.cbor4ii_tool.specs.Integer.{IntegerHead, shortest_encoding}
@@ -21,7 +21,7 @@ use Rattle.cbor4ii_tool.proofs.Integers.{one_head}
 
 same_argument : (p q : IntegerHead) → p.major ≡ q.major → p.argument ≡ q.argument
     → shortest_encoding p ≡ shortest_encoding q
-same_argument p q major argument = λ i. head (major i) (argument i) (shortest (argument i))
+same_argument p q major argument = λ i. head (major i) (argument i) (shortest_width (argument i))
 
 -- at most one item begins an input, and for it one text is written
 one_item : (command : Command) (budget : Option ℕ) (input text rest other left : List ℕ)

@@ -8,14 +8,14 @@ use Rattle.cbor4ii_rw.specs.declared.error.DecodeError.{DecodeError}
 use Rattle.cbor4ii_rw.specs.declared.error.DecodeError.TheVariants.{Read, OutOfMemory}
 use Rattle.cbor4ii_items.specs.Head.{in_first, additional, IsBytes}
 use Rattle.cbor4ii_items.specs.Heads.{ReadsHead, RejectsHead, NotAHead, CutHead}
-use Rattle.cbor4ii_items.specs.Laws.Heads.{additional-lt, after_head, cut_head, byte_count-le}
+use Rattle.cbor4ii_items.specs.Laws.Heads.{additional-lt, rest_after_head, cut_head, byte_count-le}
 use Rattle.cbor4ii_items.specs.InputError.{InputError, mismatch, eof, is_out_of_memory}
 use Rattle.cbor4ii_items.specs.Moves.{Took, Moves}
 use Rattle.cbor4ii_items.specs.Decoding.{Rejects}
 use Rattle.cbor4ii_items.specs.Numbers.{RejectsArgument}
 use Rattle.cbor4ii_tool.specs.Fault.{kind_of}
 use Rattle.cbor4ii_tool.specs.Integer.{IntegerHead, IsIntegerHead, BeginsNoInteger, IsCutInteger}
-use Rattle.cbor4ii_tool.specs.Reading.{integer_major, integer_argument, BeginsNegative}
+use Rattle.cbor4ii_tool.specs.Reading.{major_of_integer, integer_argument, BeginsNegative}
 use Rattle.cbor4ii_tool.specs.Reading.{TakesInteger, ReadsInteger, RejectsInteger}
 use Rattle.cbor4ii_tool.specs.declared.integer.Integer.{Integer}
 use Rattle.cbor4ii_tool.specs.declared.integer.Integer.TheVariants.{Unsigned, Negative}
@@ -42,26 +42,28 @@ at_first (s ∷ ss) (x ∷ xs) major prefix h e =
 
 -- ---- a head that is read
 
-major_small : (integer : Integer) → integer_major integer ≤ 1
+major_small : (integer : Integer) → major_of_integer integer ≤ 1
 major_small (Unsigned n) = omega arith
 major_small (Negative n) = omega arith
 
 taken : (integer : Integer) (xs : List ℕ) (n : ℕ) (new : Option (List ℕ))
-    → ReadsHead (integer_major integer) 8 xs (integer_argument integer) n → new ≡ Some (drop n xs)
+    → ReadsHead (major_of_integer integer) 8 xs (integer_argument integer) n
+    → new ≡ Some (drop n xs)
     → TakesInteger integer xs new
 taken integer xs n new h left = record {
   width = h.wide;
   valid = record { major = major_small integer; fits = h.fits };
   rest = h.rest;
   joined = h.is;
-  left = left ∙ ap Some (after_head (integer_major integer) 8 xs (integer_argument integer) n h);
+  left = left ∙ ap Some (rest_after_head (major_of_integer integer) 8 xs (integer_argument integer)
+      n h);
 }
 
 -- an integer of the program's, read after a look at the first byte
 pub accepted : {V E : Type 0} (integer : Integer) (v : V) (shown : List ℕ) (a b c : View)
     → Shows shown a b → Moves {E = E} b c (Ok v) → c.bound + 1 ≤ b.bound
     → IfKnown b.known (λ xs. (n : ℕ)
-    × ReadsHead (integer_major integer) 8 xs (integer_argument integer) n
+    × ReadsHead (major_of_integer integer) 8 xs (integer_argument integer) n
     × (c.known ≡ Some (drop n xs))) → ReadsInteger integer a c
 accepted integer v shown a b c shows moves progress reads = record {
   takes = λ xs known. let h = reads xs (shows.known xs known) in taken integer xs h.0 c.known

@@ -3,7 +3,7 @@ use Rattle.std.proofs.Common.{◌≡◌, ℕ, suc, ◌+◌, ◌*◌, List, [], �
 use Rattle.std.proofs.Common.{◌∙◌, subst, arith, append_assoc, append-nil}
 use Rattle.cbor4ii_items.specs.Head.{byte_count, additional}
 use Rattle.cbor4ii_items.specs.Heads.{ReadsHead}
-use Rattle.cbor4ii_items.specs.Laws.Heads.{additional-lt, head_one, after_head, byte_count-le}
+use Rattle.cbor4ii_items.specs.Laws.Heads.{additional-lt, head_one, rest_after_head, byte_count-le}
 use Rattle.cbor4ii_tool.specs.Integer.{IntegerHead, IsIntegerHead, encoding, BeginsInteger}
 use Rattle.cbor4ii_tool.specs.Integer.{BeginsNoInteger, IsCutInteger}
 
@@ -46,9 +46,9 @@ one_head p q P Q xs ys e =
     (suc (byte_count q.width)) (omega (arith, P.major)) a c in (
       major,
       same.1,
-      sym (after_head p.major 8 all p.argument (suc (byte_count p.width)) a)
+      sym (rest_after_head p.major 8 all p.argument (suc (byte_count p.width)) a)
           ∙ (ap (λ n. drop n all) same.0
-          ∙ after_head q.major 8 all q.argument (suc (byte_count q.width)) b),
+          ∙ rest_after_head q.major 8 all q.argument (suc (byte_count q.width)) b),
     )
 
 pub none_begins_other : (bytes : List ℕ) → BeginsNoInteger bytes → ¬ BeginsInteger bytes

@@ -12,16 +12,16 @@ use Rattle.cbor4ii_items.specs.Moves.{Moves, Kept}
 use Rattle.cbor4ii_items.specs.Laws.Running.{shows_kept}
 use Rattle.cbor4ii_items.specs.Decoding.{Rejects as RejectsBy}
 use Rattle.cbor4ii_items.specs.InputError.{InputError, input_error_of, is_out_of_memory}
-use Rattle.cbor4ii_tree.specs.Tree.{Tree, bytes}
-use Rattle.cbor4ii_tree.specs.Encodings.{Skips, DecodesTo}
-use Rattle.cbor4ii_tree.specs.Canonical.{canonical_encoding}
-use Rattle.cbor4ii_tree.specs.View.{view}
-use Rattle.cbor4ii_tree.specs.Headline.{AllReads, AllSkips}
-use Rattle.cbor4ii_tree.specs.CanonicalShape.{DecodesCanonically}
-use Rattle.cbor4ii_tree.specs.Canonically.{RejectsCanonical, AllCanonical}
+use Rattle.cbor4ii_tree.specs.Basis.Tree.{Tree, bytes}
+use Rattle.cbor4ii_tree.specs.Basis.Encodings.{Skips, DecodesTo}
+use Rattle.cbor4ii_tree.specs.Basis.Canonical.{canonical_encoding}
+use Rattle.cbor4ii_tree.specs.Basis.View.{view}
+use Rattle.cbor4ii_tree.specs.Basis.Headline.{AllReads, AllSkips}
+use Rattle.cbor4ii_tree.specs.Calls.CanonicalShape.{DecodesCanonically}
+use Rattle.cbor4ii_tree.specs.Calls.Canonically.{RejectsCanonical, AllCanonical}
 use Rattle.cbor4ii_tree.specs.declared.decode_canonical.Canonical.{Canonical}
-use Rattle.cbor4ii_tree.specs.ReadingRejects.{ReadingRejects}
-use Rattle.cbor4ii_tree.specs.Ignored.{RejectsIgnored}
+use Rattle.cbor4ii_tree.specs.Calls.ReadingRejects.{ReadingRejects}
+use Rattle.cbor4ii_tree.specs.Calls.SkippingRejects.{SkippingRejects}
 use Rattle.cbor4ii_tree.specs.declared.value.Value.{Value}
 use Rattle.cbor4ii_tree.specs.declared.ignored.IgnoredAny.{IgnoredAny}
 use Rattle.cbor4ii_tool.specs.Fault.{kind_of, kind_of_input_error}
@@ -346,11 +346,11 @@ no_skip _ a b all xs known = λ (w, ys, (t, skips, is)). all xs known t ys skips
 
 pub length_fails : {E : Type 0} (error : DecodeError E) (a b : View) (held : Output)
     → Moves {V = IgnoredAny} a b (Err error)
-    → (IsTrue (is_out_of_memory error) → IsTrue false) → RejectsBy RejectsIgnored a b error
+    → (IsTrue (is_out_of_memory error) → IsTrue false) → RejectsBy SkippingRejects a b error
     → AllSkips {V = IgnoredAny} a b (Err error)
     → Fails Lens (kind_of error) a b held held
 length_fails error a b held moves memory stop all =
-    rejected_by {V = IgnoredAny} Lens RejectsIgnored error a b held moves
+    rejected_by {V = IgnoredAny} Lens SkippingRejects error a b held moves
     (λ o. absurd (never (memory o))) stop (no_skip error a b all)
     (λ xs e rest s. (e, rest, s, refl))
 

@@ -9,7 +9,7 @@ use Rattle.cbor4ii_rw.specs.View.{View, IfKnown}
 use Rattle.cbor4ii_rw.specs.Reader.{Shows, Failed, counts}
 use Rattle.cbor4ii_rw.specs.Writer.{Output, Appends}
 use Rattle.cbor4ii_tool.specs.Item.{Converts, BeginsItem, ItemIsTaken, RejectsAs, IsRow, together}
-use Rattle.cbor4ii_tool.specs.Run.{StandsAt, FaultAt, RunsOver, FailedOrCounted}
+use Rattle.cbor4ii_tool.specs.Run.{RestStandsAt, FaultAt, RunsOver, FailedOrCounted}
 use Rattle.cbor4ii_tool.specs.Steps.{Leaves, StandUpTo, Saw, Done, Fails, Ran}
 use Rattle.cbor4ii_tool.proofs.Items.{same_bytes}
 use Rattle.cbor4ii_tool.specs.declared.command.Command.{Command}
@@ -149,7 +149,7 @@ ended command start a b held h ran end input known =
     }
 
 at_is : (at count : ℕ) (input rest : List ℕ) (start known : Option ℕ) → known ≡ counts count start
-    → known ≡ Some at → count + length rest ≡ length input → StandsAt start input rest at
+    → known ≡ Some at → count + length rest ≡ length input → RestStandsAt start input rest at
 at_is at count input rest None known p q sum = tt
 at_is at count input rest (Some before) known p q sum =
     let same : at ≡ before + count = cc in omega (arith, same, sum)
@@ -173,7 +173,7 @@ unread command at start a b held h ran taken input known =
 
 fault_at : (command : Command) (at : ℕ) (kind : Kind) (texts : List (List ℕ))
     (input rest : List ℕ) (start b c : View) (held h i : Output)
-    → StandsAt start.taken input rest at → b.budget ≡ start.budget
+    → RestStandsAt start.taken input rest at → b.budget ≡ start.budget
     → Appends (together texts) held.written h.written → b.known ≡ Some rest
     → rest ≢ [] → Fails command kind b c h i
     → FaultAt command texts input rest start c held.written i.written at kind

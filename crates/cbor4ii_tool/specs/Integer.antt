@@ -1,6 +1,6 @@
 -- Integers: items of major types 0 and 1 (RFC 8949 section 3.1), each of them a head alone.
 use Rattle.std.specs.Prelude.{◌≡◌, ◌≢◌, ℕ, ◌+◌, ◌*◌, ◌≤◌, List, [], ◌∷◌, ◌++◌}
-use Rattle.cbor4ii_items.specs.Head.{Width, HeadFits, additional, head, shortest}
+use Rattle.cbor4ii_items.specs.Head.{Width, HeadFits, additional, head, shortest_width}
 
 -- what a head says, and in which width
 pub record IntegerHead : Type 0 where
@@ -19,7 +19,7 @@ encoding item = head item.major item.argument item.width
 
 -- the bytes of the least width that its argument has (RFC 8949 section 4.2.1)
 abbrev pub shortest_encoding : IntegerHead → List ℕ
-shortest_encoding item = head item.major item.argument (shortest item.argument)
+shortest_encoding item = head item.major item.argument (shortest_width item.argument)
 
 -- an integer stands at the beginning of these bytes
 pub record BeginsInteger (bytes : List ℕ) : Type 0 where

@@ -2,14 +2,14 @@
 use Rattle.std.specs.Prelude.{◌≡◌, ℕ, List, [], ◌∷◌, ◌++◌, length, decimal, Option, Some}
 use Rattle.std.specs.List.{flat_map}
 use Rattle.cbor4ii_items.specs.InputError.{InputError}
-use Rattle.cbor4ii_tree.specs.Tree.{Tree, bytes}
-use Rattle.cbor4ii_tree.specs.Item.{Item}
-use Rattle.cbor4ii_tree.specs.Canonical.{canonical_encoding}
-use Rattle.cbor4ii_tree.specs.Encodings.{DecodesTo, Skips}
-use Rattle.cbor4ii_tree.specs.CanonicalShape.{DecodesCanonically}
-use Rattle.cbor4ii_tree.specs.Canonically.{RejectsCanonical}
-use Rattle.cbor4ii_tree.specs.SkippingRejects.{SkippingRejects}
-use Rattle.cbor4ii_tree.specs.ReadingRejects.{ReadingRejects}
+use Rattle.cbor4ii_tree.specs.Basis.Tree.{Tree, bytes}
+use Rattle.cbor4ii_tree.specs.Basis.Item.{Item}
+use Rattle.cbor4ii_tree.specs.Basis.Canonical.{canonical_encoding}
+use Rattle.cbor4ii_tree.specs.Basis.Encodings.{DecodesTo, Skips}
+use Rattle.cbor4ii_tree.specs.Calls.CanonicalShape.{DecodesCanonically}
+use Rattle.cbor4ii_tree.specs.Calls.Canonically.{RejectsCanonical}
+use Rattle.cbor4ii_tree.specs.Calls.SkippingRejects.{SkippingRejects}
+use Rattle.cbor4ii_tree.specs.Calls.ReadingRejects.{ReadingRejects}
 use Rattle.cbor4ii_tool.specs.Integer.{IntegerHead, IsIntegerHead, encoding, shortest_encoding}
 use Rattle.cbor4ii_tool.specs.Fault.{kind_of_input_error}
 use Rattle.cbor4ii_tool.specs.Reading.{RejectsThere}

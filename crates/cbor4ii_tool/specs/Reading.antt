@@ -2,7 +2,7 @@
 use Rattle.std.specs.Prelude.{◌≡◌, ℕ, ◌+◌, ◌/◌, ◌≤◌, List, [], ◌∷◌, ◌++◌, Option, Some}
 use Rattle.cbor4ii_rw.specs.View.{View, IfKnown}
 use Rattle.cbor4ii_rw.specs.Reader.{Failed}
-use Rattle.cbor4ii_items.specs.Head.{Width, head, shortest}
+use Rattle.cbor4ii_items.specs.Head.{Width, head, shortest_width}
 use Rattle.cbor4ii_tool.specs.Integer.{IntegerHead, IsIntegerHead, encoding, BeginsNoInteger}
 use Rattle.cbor4ii_tool.specs.Integer.{IsCutInteger}
 use Rattle.cbor4ii_tool.specs.declared.fault.Kind.{Kind}
@@ -12,9 +12,9 @@ use Rattle.cbor4ii_tool.specs.declared.integer.Integer.TheVariants.{Unsigned, Ne
 
 -- ---- integers
 
-abbrev pub integer_major : Integer → ℕ
-integer_major (Unsigned n) = 0
-integer_major (Negative n) = 1
+abbrev pub major_of_integer : Integer → ℕ
+major_of_integer (Unsigned n) = 0
+major_of_integer (Negative n) = 1
 
 abbrev pub integer_argument : Integer → ℕ
 integer_argument (Unsigned n) = n
@@ -23,12 +23,13 @@ integer_argument (Negative n) = n.0
 -- its head in this width
 abbrev pub in_width : Width → Integer → IntegerHead
 in_width width integer =
-    record { major = integer_major integer; argument = integer_argument integer; width = width }
+    record { major = major_of_integer integer; argument = integer_argument integer; width = width }
 
 -- its head in the least width that its argument has
 abbrev pub written_bytes : Integer → List ℕ
 written_bytes integer =
-    head (integer_major integer) (integer_argument integer) (shortest (integer_argument integer))
+    head (major_of_integer integer) (integer_argument integer)
+    (shortest_width (integer_argument integer))
 
 -- ---- reading
 

@@ -14,8 +14,8 @@ use Rattle.cbor4ii_tool.specs.declared.fault.Kind.TheVariants.{Read, OutOfMemory
 
 -- the rest of the input follows so many bytes in all: those that were taken before the input,
 -- where they are counted, and those of the input before the rest
-abbrev pub StandsAt : Option ℕ → List ℕ → List ℕ → ℕ → Type 0
-StandsAt taken input rest at = IfSome taken (λ before. at + length rest ≡ before + length input)
+abbrev pub RestStandsAt : Option ℕ → List ℕ → List ℕ → ℕ → Type 0
+RestStandsAt taken input rest at = IfSome taken (λ before. at + length rest ≡ before + length input)
 
 -- no item is taken where the rest begins: nothing is left, the reader failed, memory may have been
 -- lacking, or the rest is rejected and begins no item
@@ -34,15 +34,15 @@ NoItemFollows command rest old new =
 abbrev pub FaultAt : Command → List (List ℕ) → List ℕ → List ℕ → View → View
     → Option (List ℕ) → Option (List ℕ) → ℕ → Kind → Type 0
 FaultAt command texts input rest old new held holds at Write =
-    (StandsAt old.taken input rest at × ItemIsTaken command old.budget rest new.known)
+    (RestStandsAt old.taken input rest at × ItemIsTaken command old.budget rest new.known)
     ⊎ ((new.taken ≡ Some at) × Appends (together texts) held holds
     × NoItemFollows command rest old new)
 FaultAt command texts input rest old new held holds at Read =
-    StandsAt old.taken input rest at × Appends (together texts) held holds
+    RestStandsAt old.taken input rest at × Appends (together texts) held holds
 FaultAt command texts input rest old new held holds at OutOfMemory =
-    StandsAt old.taken input rest at × Appends (together texts) held holds
+    RestStandsAt old.taken input rest at × Appends (together texts) held holds
 FaultAt command texts input rest old new held holds at kind =
-    StandsAt old.taken input rest at × Appends (together texts) held holds × (rest ≢ [])
+    RestStandsAt old.taken input rest at × Appends (together texts) held holds × (rest ≢ [])
     × RejectsAs command old.budget kind rest × ¬ (BeginsItem command old.budget rest)
 
 -- The input is a row of items, each under the reader's budget, and a rest. Without a fault nothing

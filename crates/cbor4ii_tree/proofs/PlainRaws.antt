@@ -7,7 +7,8 @@ use Rattle.cbor4ii_rw.specs.declared.error.WholeError.TheVariants.{Decode, Trail
 use Rattle.cbor4ii_items.specs.{Decoding.{NoneRead, Decodes}, InputError.input_error_of}
 use Rattle.cbor4ii_items.specs.{Laws.Answering.if_some, Whole.{DecodesWhole, NoneIsWhole, NotBegun}}
 use Rattle.cbor4ii_items.specs.Whole.{Trails}
-use Rattle.cbor4ii_tree.specs.{PlainRaw.{plain_raw_format, ReadsPlainRaw}, Promises.value_format}
+use Rattle.cbor4ii_tree.specs.{Calls.PlainRaw.{plain_raw_format, ReadsPlainRaw}}
+use Rattle.cbor4ii_tree.specs.{Calls.Promises.value_format}
 use Rattle.cbor4ii_tree.specs.declared.plain_raw.PlainRawValue.{PlainRawValue}
 
 none : (xs : List ℕ) (budget : Option ℕ) → NoneRead value_format.reads xs budget

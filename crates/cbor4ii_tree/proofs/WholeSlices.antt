@@ -11,11 +11,14 @@ use Rattle.cbor4ii_rw.specs.declared.error.DecodeError.TheVariants as error
 use Rattle.cbor4ii_rw.specs.declared.error.WholeError.{WholeError}
 use Rattle.cbor4ii_rw.specs.declared.error.WholeError.TheVariants.{Decode, Trailing}
 use Rattle.cbor4ii_items.specs.{Decoding.Format, InputError.InputError, Whole.DecodesWhole}
-use Rattle.cbor4ii_tree.specs.{Canonical.canonical_encoding, Canonically.canonical_format}
-use Rattle.cbor4ii_tree.specs.{CanonicalRejects.CanonicalRejects}
-use Rattle.cbor4ii_tree.specs.{CanonicalShape.DecodesCanonically, Encodings.DecodesTo, Item.Item}
-use Rattle.cbor4ii_tree.specs.{Headline.AnswersWhole, Promises.value_format, View.view}
-use Rattle.cbor4ii_tree.specs.{ReadingRejects.ReadingRejects}
+use Rattle.cbor4ii_tree.specs.{Basis.Canonical.canonical_encoding}
+use Rattle.cbor4ii_tree.specs.{Calls.Canonically.canonical_format}
+use Rattle.cbor4ii_tree.specs.{Calls.CanonicalRejects.CanonicalRejects}
+use Rattle.cbor4ii_tree.specs.{Calls.CanonicalShape.DecodesCanonically, Basis.Encodings.DecodesTo}
+use Rattle.cbor4ii_tree.specs.{Basis.Item.Item}
+use Rattle.cbor4ii_tree.specs.{Basis.Headline.AnswersWhole, Calls.Promises.value_format}
+use Rattle.cbor4ii_tree.specs.{Basis.View.view}
+use Rattle.cbor4ii_tree.specs.{Calls.ReadingRejects.ReadingRejects}
 use Rattle.cbor4ii_tree.specs.declared.decode_canonical.Canonical.{Canonical}
 use Rattle.cbor4ii_tree.specs.declared.value.Value.{Value}
 use Rattle.cbor4ii_tree.proofs.canonical.Decoding.{as_read, canonical_or}

@@ -2,6 +2,7 @@
 pub mod Calls
 pub mod Asking
 pub mod Gives
+pub mod HeadAt
 pub mod Heads
 pub mod Leaves
 pub mod ByHead

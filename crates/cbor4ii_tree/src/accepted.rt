@@ -4,15 +4,17 @@
 //! value, so that the calls that do stay one cycle.
 ghost use Rattle.std.specs.Prelude.{◌≡◌, ◌≢◌, ◌+◌, ◌≤◌, ◌/◌, ◌⊎◌, Bool, OnOk, OnSome, IfOk};
 ghost use Rattle.std.specs.Prelude.{true, false};
-ghost use Rattle.cbor4ii_items.specs.Head.{byte_count, shortest};
+ghost use Rattle.cbor4ii_items.specs.Head.{byte_count, shortest_width};
 ghost use Rattle.cbor4ii_items.specs.Initial.{simple_byte, simple_undefined};
-ghost use Rattle.cbor4ii_tree.specs.Does.{Anything, DoesUnder, Gives, Never, WantsOnly, answered};
-ghost use Rattle.cbor4ii_tree.specs.Asking.{BeginsString};
-ghost use Rattle.cbor4ii_tree.specs.Item.{IsItem};
-ghost use Rattle.cbor4ii_tree.specs.Leaf.{DoesAfterFirst};
-ghost use Rattle.cbor4ii_tree.specs.Valuing.{ReadsUnder, RejectsFirst, RejectsMajor, RejectsOf};
-ghost use Rattle.cbor4ii_tree.specs.Valuing.{TakesLength, TakesTag};
-ghost use Rattle.cbor4ii_tree.specs.View.{view};
+ghost use Rattle.cbor4ii_tree.specs.Inner.Does.{Anything, DoesUnder, Gives, Never, WantsOnly};
+ghost use Rattle.cbor4ii_tree.specs.Inner.Does.{value_or_error};
+ghost use Rattle.cbor4ii_tree.specs.Inner.Asking.{BeginsString};
+ghost use Rattle.cbor4ii_tree.specs.Basis.Item.{IsItem};
+ghost use Rattle.cbor4ii_tree.specs.Inner.Leaf.{DoesAfterFirst};
+ghost use Rattle.cbor4ii_tree.specs.Inner.Valuing.{ReadsUnder, RejectsFirst, RejectsMajor};
+ghost use Rattle.cbor4ii_tree.specs.Inner.Valuing.{RejectsOf};
+ghost use Rattle.cbor4ii_tree.specs.Inner.Valuing.{TakesLength, TakesTag};
+ghost use Rattle.cbor4ii_tree.specs.Basis.View.{view};
 
 use crate::value::Value;
 use cbor4ii_rw::error::DecodeError;
@@ -22,18 +24,18 @@ use std::alloc::Global;
 /// The encodings of a value that are read.
 pub(crate) trait Encodings {
     // Each value is read from its canonical encoding alone.
-    ghost exact: { Bool };
+    ghost canonical: { Bool };
 
     /// Whether the argument of a head may have so many bytes after the first one.
     fn accepts_head(argument: u64, size: usize) -> bool
-        ensures { result ≡ true → exact ≡ true → size ≡ byte_count (shortest argument) };
+        ensures { result ≡ true → canonical ≡ true → size ≡ byte_count (shortest_width argument) };
 
     /// Whether this byte of major type 7 may begin a value. Else it is undefined, which is not
     /// canonical.
     fn accepts_simple(first: u8) -> bool
-        ensures accepted { result ≡ true → exact ≡ true → first ≢ simple_byte simple_undefined }
+        ensures accepted { result ≡ true → canonical ≡ true → first ≢ simple_byte simple_undefined }
         ensures rejected { result ≡ false →
-            (exact ≡ true) × (first ≡ simple_byte simple_undefined) };
+            (canonical ≡ true) × (first ≡ simple_byte simple_undefined) };
 
     /// Takes the head of an array or a map, which no look has shown whole, and answers how many
     /// parts are to follow, none where its length is indefinite.
@@ -47,16 +49,16 @@ pub(crate) trait Encodings {
         requires major { first / 32 ≡ major }
         requires nests { (major ≡ 4) ⊎ (major ≡ 5) }
         ensures { Gives Never Anything
-            (DoesAfterFirst first (TakesLength exact major) (RejectsMajor exact major))
-            (S.view reader.old) (S.view reader.new) (answered result failure.new) };
+            (DoesAfterFirst first (TakesLength canonical major) (RejectsMajor canonical major))
+            (S.view reader.old) (S.view reader.new) (value_or_error result failure.new) };
 
     /// Takes the head of a tag, which no look has shown whole, and answers its number.
     fn take_tag<S: Source>(
         reader: &mut S,
         failure: &mut Option<DecodeError<S::Error>>,
     ) -> Option<u64>
-        ensures { Gives Never Anything (DoesUnder (TakesTag exact) (RejectsOf exact 6))
-            (S.view reader.old) (S.view reader.new) (answered result failure.new) };
+        ensures { Gives Never Anything (DoesUnder (TakesTag canonical) (RejectsOf canonical 6))
+            (S.view reader.old) (S.view reader.new) (value_or_error result failure.new) };
 
     /// Reads an integer or a string, whose first byte is shown.
     fn read_leaf<S: Source>(
@@ -65,7 +67,7 @@ pub(crate) trait Encodings {
         first: u8,
     ) -> Result<Value, DecodeError<S::Error>>
         requires major { first / 32 ≤ 3 }
-        ensures does { DoesUnder (ReadsUnder exact) (RejectsFirst exact first)
+        ensures does { DoesUnder (ReadsUnder canonical) (RejectsFirst canonical first)
             (S.view reader.old) (S.view reader.new) result }
         ensures memory { WantsOnly (λ _ _. BeginsString first)
             (S.view reader.old) (S.view reader.new) result }

@@ -1,10 +1,10 @@
 //! What stands in a value.
 ghost use Rattle.std.specs.Prelude.{◌≡◌, ◌↔◌, IsTrue, option_map, option_and_then};
-ghost use Rattle.cbor4ii_tree.specs.Item.{null, text};
-ghost use Rattle.cbor4ii_tree.specs.View.{view, items_view, members_view, float_view};
-ghost use Rattle.cbor4ii_tree.specs.Access.{as_bool, as_integer, as_float, as_bytes, as_text};
-ghost use Rattle.cbor4ii_tree.specs.Access.{as_array, as_map, as_tag, find_text, HasKey};
-ghost use Rattle.cbor4ii_tree.specs.Access.{HasEqualKeys, MapHasEqualKeys};
+ghost use Rattle.cbor4ii_tree.specs.Basis.Item.{null, text, integer};
+ghost use Rattle.cbor4ii_tree.specs.Basis.View.{view, items_view, pairs_view, float_view};
+ghost use Rattle.cbor4ii_tree.specs.Calls.Access.{as_bool, as_integer, as_float, as_bytes, as_text};
+ghost use Rattle.cbor4ii_tree.specs.Calls.Access.{as_array, as_map, as_tag, find_text, find_value};
+ghost use Rattle.cbor4ii_tree.specs.Calls.Access.{HasEqualKeys, HasKey, MapHasEqualKeys};
 
 use crate::value::{FloatBits, Value};
 
@@ -78,11 +78,11 @@ impl Value {
 
     /// The pairs of the map, in their order; none of any other kind of value.
     pub fn as_map(&self) -> Option<&[(Value, Value)]>
-        ensures { option_map (λ members. members_view members.now) result
+        ensures { option_map (λ pairs. pairs_view pairs.now) result
             ≡ as_map (view self.now) }
     {
         match self {
-            Value::Map(members) => Some(members),
+            Value::Map(pairs) => Some(pairs),
             _ => None,
         }
     }
@@ -105,7 +105,28 @@ impl Value {
             ≡ option_and_then (find_text key.now) (as_map (view self.now)) }
     {
         match self {
-            Value::Map(members) => find(members, key),
+            Value::Map(pairs) => find(pairs, key),
+            _ => None,
+        }
+    }
+
+    /// The value of the first pair of the map whose key is this integer. None where no key is, and
+    /// of any other kind of value. A bignum that was read is a tag, and no such key.
+    pub fn get_integer(&self, key: i128) -> Option<&Value>
+        ensures { option_map (λ value. view value.now) result
+            ≡ option_and_then (find_value (integer key)) (as_map (view self.now)) }
+    {
+        self.get_value(&Value::Integer(key))
+    }
+
+    /// The value of the first pair of the map that has this key, compared as `==` does. None where
+    /// no pair has it, and of any other kind of value.
+    pub fn get_value(&self, key: &Value) -> Option<&Value>
+        ensures { option_map (λ value. view value.now) result
+            ≡ option_and_then (find_value (view key.now)) (as_map (view self.now)) }
+    {
+        match self {
+            Value::Map(pairs) => find_value(pairs, key),
             _ => None,
         }
     }
@@ -119,20 +140,20 @@ impl Value {
         ensures { IsTrue result ↔ MapHasEqualKeys (view self.now) }
     {
         match self {
-            Value::Map(members) => repeats_key(members),
+            Value::Map(pairs) => repeats_key(pairs),
             _ => false,
         }
     }
 }
 
 /// The value of the first pair whose key is this text.
-fn find<'a>(members: &'a [(Value, Value)], key: &str) -> Option<&'a Value>
+fn find<'a>(pairs: &'a [(Value, Value)], key: &str) -> Option<&'a Value>
     ensures { option_map (λ value. view value.now) result
-        ≡ find_text key.now (members_view members.now) }
+        ≡ find_text key.now (pairs_view pairs.now) }
 {
-    for member in members {
-        if is_text(&member.0, key) {
-            return Some(&member.1);
+    for pair in pairs {
+        if is_text(&pair.0, key) {
+            return Some(&pair.1);
         }
     }
     None
@@ -148,12 +169,25 @@ fn is_text(value: &Value, content: &str) -> bool
     }
 }
 
-/// Whether two of the pairs have equal keys.
-fn repeats_key(members: &[(Value, Value)]) -> bool
-    ensures { IsTrue result ↔ HasEqualKeys (members_view members.now) }
+/// The value of the first pair that has this key.
+fn find_value<'a>(pairs: &'a [(Value, Value)], key: &Value) -> Option<&'a Value>
+    ensures { option_map (λ value. view value.now) result
+        ≡ find_value (view key.now) (pairs_view pairs.now) }
 {
-    for i in 0..members.len() {
-        if has_key(&members[i + 1..], &members[i].0) {
+    for found in pairs {
+        if found.0 == *key {
+            return Some(&found.1);
+        }
+    }
+    None
+}
+
+/// Whether two of the pairs have equal keys.
+fn repeats_key(pairs: &[(Value, Value)]) -> bool
+    ensures { IsTrue result ↔ HasEqualKeys (pairs_view pairs.now) }
+{
+    for i in 0..pairs.len() {
+        if has_key(&pairs[i + 1..], &pairs[i].0) {
             return true;
         }
     }
@@ -161,11 +195,11 @@ fn repeats_key(members: &[(Value, Value)]) -> bool
 }
 
 /// Whether one of the pairs has this key.
-fn has_key(members: &[(Value, Value)], key: &Value) -> bool
-    ensures { IsTrue result ↔ HasKey (view key.now) (members_view members.now) }
+fn has_key(pairs: &[(Value, Value)], key: &Value) -> bool
+    ensures { IsTrue result ↔ HasKey (view key.now) (pairs_view pairs.now) }
 {
-    for member in members {
-        if member.0 == *key {
+    for pair in pairs {
+        if pair.0 == *key {
             return true;
         }
     }

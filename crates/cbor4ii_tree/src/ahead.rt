@@ -2,11 +2,11 @@
 //! a break (RFC 8949 section 3). What does not stand whole in them is left undecided.
 ghost use Rattle.std.specs.Prelude.{◌≡◌, ◌≢◌, ◌≤◌, ◌+◌, ◌-◌, length, ◌∷◌, ◌↔◌, IsTrue, ℕ};
 ghost use Rattle.std.specs.Prelude.{List};
-ghost use Rattle.cbor4ii_tree.specs.Ahead.{leaf_bytes, in_map, Allows, IsIndefinite};
-ghost use Rattle.cbor4ii_tree.specs.Ahead.{BeginsWithBreak, Sees};
-ghost use Rattle.cbor4ii_tree.specs.Runs.{IsLeafAt, BeginsRun};
+ghost use Rattle.cbor4ii_tree.specs.Inner.Ahead.{leaf_bytes, in_map, Allows, IsIndefinite};
+ghost use Rattle.cbor4ii_tree.specs.Inner.Ahead.{BeginsWithBreak, Sees, AllShort};
+ghost use Rattle.cbor4ii_tree.specs.Inner.Runs.{IsLeafAt, BeginsRun};
 
-use crate::skip::{Additional, After, Start, members_of, parse_info, start_of};
+use crate::skip::{Additional, After, Start, pairs_of, parse_info, start_of};
 use cbor4ii_items::initial::argument;
 use cbor4ii_items::marker;
 
@@ -91,8 +91,8 @@ pub(crate) fn ahead_of(shown: &[u8], among: Among) -> Ahead
 
 /// Whether a break comes first.
 #[inline(always)]
-fn begins_with_break(shown: &[u8]) -> bool
-    ensures { IsTrue result → BeginsWithBreak shown.now }
+pub(crate) fn begins_with_break(shown: &[u8]) -> bool
+    ensures { IsTrue result ↔ BeginsWithBreak shown.now }
 {
     match shown {
         [first, ..] => *first == marker::BREAK,
@@ -126,7 +126,8 @@ fn run_of_items(shown: &[u8], most: u64) -> (u64, usize)
 }
 
 /// The run that goes on after so many bytes, where `left` of at most `most` items are left. As long
-/// as any such item would stand whole, none is asked whether it does.
+/// as any two such items would stand whole, none is asked whether it does. After two of one byte
+/// each more are looked for at once.
 #[inline(always)]
 fn more_of_run(shown: &[u8], most: u64, left: u64, size: usize) -> (u64, usize)
     requires few { left ≤ most }
@@ -136,16 +137,20 @@ fn more_of_run(shown: &[u8], most: u64, left: u64, size: usize) -> (u64, usize)
 {
     let mut left = left;
     let mut size = size;
-    while left > 1 && shown.len() - size > MOST_LEAF_BYTES {
-        let leaf = leaf_bytes(shown[size]);
-        if are_single(leaf, leaf_bytes(shown[size + 1])) {
-            left -= 2;
-            size += 2;
-        } else if leaf > 0 {
-            left -= 1;
-            size += leaf as usize;
-        } else {
+    while left > 1 && shown.len() - size > 2 * MOST_LEAF_BYTES {
+        let leaf = leaf_bytes(shown[size]) as usize;
+        if leaf == 0 {
             return (most - left, size);
+        }
+        let next = leaf_bytes(shown[size + leaf]) as usize;
+        if next == 0 {
+            return end_of_run(shown, most, left, size);
+        }
+        left -= 2;
+        size += leaf + next;
+        if leaf + next == 2 && left >= 8 && are_short(&shown[size..size + 8]) {
+            left -= 8;
+            size += 8;
         }
     }
     end_of_run(shown, most, left, size)
@@ -172,15 +177,25 @@ fn end_of_run(shown: &[u8], most: u64, left: u64, size: usize) -> (u64, usize)
     (most, size)
 }
 
-/// Whether an item and the next, which take so many bytes by their first ones, take one byte each.
-/// One comparison answers both: where sizes change from item to item, one for each would be hard
-/// to foresee.
+/// Whether each of these bytes is an integer. All are asked, whatever the first ones answer: so
+/// many are compared at once.
 #[inline(always)]
-fn are_single(leaf: u8, next: u8) -> bool
-    ensures first { IsTrue result → leaf ≡ 1 }
-    ensures second { IsTrue result → next ≡ 1 }
+fn are_short(bytes: &[u8]) -> bool
+    ensures { IsTrue result → AllShort bytes.now }
 {
-    256 * leaf as usize + next as usize == 257
+    let mut all = true;
+    for byte in bytes {
+        all &= is_short(*byte);
+    }
+    all
+}
+
+/// Whether an integer of one byte begins so.
+#[inline(always)]
+fn is_short(first: u8) -> bool
+    ensures { IsTrue result → leaf_bytes first ≡ 1 }
+{
+    (first < 64) & (first % 32 < 24)
 }
 
 /// How many bytes the item at this place takes, where it holds no other and stands whole; else 0.
@@ -192,7 +207,7 @@ fn leaf_size(shown: &[u8], at: usize) -> usize
         return 0;
     }
     let size = leaf_bytes(shown[at]) as usize;
-    if size > shown.len() - at {
+    if size.wrapping_sub(1) >= shown.len() - at {
         return 0;
     }
     size
@@ -235,7 +250,7 @@ fn wide_head_of(first: u8, rest: &[u8]) -> Ahead
             Ahead::Head(1 + size + argument as usize, After::Nothing)
         }
         Start::Items => Ahead::Head(1 + size, After::Items(argument)),
-        Start::Members => Ahead::Head(1 + size, members_of(argument)),
+        Start::Pairs => Ahead::Head(1 + size, pairs_of(argument)),
         Start::Tag => Ahead::Head(1 + size, After::Items(1)),
         _ => Ahead::Unseen,
     }
@@ -248,7 +263,7 @@ fn indefinite_head_of(first: u8) -> Ahead
 {
     match start_of(first) {
         Start::Indefinite => Ahead::Head(1, After::Indefinite),
-        Start::IndefiniteMembers => Ahead::Head(1, After::IndefiniteMembers),
+        Start::PairsToBreak => Ahead::Head(1, After::PairsToBreak),
         _ => Ahead::Unseen,
     }
 }

@@ -1,7 +1,7 @@
 //! What is read as a value: each of its encodings.
 ghost use Rattle.std.specs.Prelude.{◌≡◌, ◌⊎◌, ◌*◌, ◌+◌, false};
-ghost use Rattle.cbor4ii_tree.specs.Does.{Anything, DoesUnder, Gives, Never, answered};
-ghost use Rattle.cbor4ii_tree.specs.Valuing.{RejectsMajor, TakesLength};
+ghost use Rattle.cbor4ii_tree.specs.Inner.Does.{Anything, DoesUnder, Gives, Never, value_or_error};
+ghost use Rattle.cbor4ii_tree.specs.Inner.Valuing.{RejectsMajor, TakesLength};
 
 use crate::accepted::Encodings;
 use crate::slot::part;
@@ -17,7 +17,7 @@ use std::alloc::Global;
 pub(crate) struct AnyEncoding;
 
 impl Encodings for AnyEncoding {
-    ghost exact = { false };
+    ghost canonical = { false };
 
     #[inline(always)]
     fn accepts_head(_argument: u64, _size: usize) -> bool {
@@ -78,7 +78,7 @@ fn length<S: Source>(
 ) -> Option<Option<usize>>
     requires { (major ≡ 4) ⊎ (major ≡ 5) }
     ensures { Gives Never Anything (DoesUnder (TakesLength false major) (RejectsMajor false major))
-        (S.view reader.old) (S.view reader.new) (answered result failure.new) }
+        (S.view reader.old) (S.view reader.new) (value_or_error result failure.new) }
 {
     if major == major::ARRAY {
         return part(Array::len(reader), failure);

@@ -1,10 +1,10 @@
 //! Integers beyond 64 bits as the tags that they are written as (RFC 8949 section 3.4.3).
 ghost use Rattle.std.specs.Prelude.{◌≡◌, ◌≢◌, ◌⊎◌, OnOk, OnErr, IfOk, pos, negsuc};
 ghost use Rattle.cbor4ii_items.specs.Magnitude.{magnitude};
-ghost use Rattle.cbor4ii_tree.specs.Canonical.{with_bignums, with_bignums_all};
-ghost use Rattle.cbor4ii_tree.specs.Canonical.{with_bignums_members};
-ghost use Rattle.cbor4ii_tree.specs.Item.{bytes_item, integer, tag};
-ghost use Rattle.cbor4ii_tree.specs.View.{view, items_view, members_view};
+ghost use Rattle.cbor4ii_tree.specs.Basis.Canonical.{with_bignums, with_bignums_all};
+ghost use Rattle.cbor4ii_tree.specs.Basis.Canonical.{with_bignums_pairs};
+ghost use Rattle.cbor4ii_tree.specs.Basis.Item.{bytes_item, integer, tag};
+ghost use Rattle.cbor4ii_tree.specs.Basis.View.{view, items_view, pairs_view};
 
 use crate::value::Value;
 use cbor4ii_items::bignum::{NEGATIVE_BIGNUM, POSITIVE_BIGNUM, without_leading_zeros};
@@ -24,7 +24,7 @@ pub(crate) fn tag_bignums(alloc: Global, value: &mut Value) -> Result<(), AllocE
             Ok(())
         }
         Value::Array(items) => tag_items(alloc, items),
-        Value::Map(members) => tag_members(alloc, members),
+        Value::Map(pairs) => tag_pairs(alloc, pairs),
         Value::Tag(_, inner) => tag_bignums(alloc, inner),
         _ => Ok(()),
     }
@@ -44,27 +44,27 @@ fn tag_items(alloc: Global, items: &mut [Value]) -> Result<(), AllocError>
 }
 
 #[cycle(bignums)]
-fn tag_members(alloc: Global, members: &mut [(Value, Value)]) -> Result<(), AllocError>
-    ensures tagged { OnOk result (members_view members.new
-        ≡ with_bignums_members (members_view members.old)) }
-    ensures memory { OnErr result (with_bignums_members (members_view members.old)
-        ≢ members_view members.old) }
+fn tag_pairs(alloc: Global, pairs: &mut [(Value, Value)]) -> Result<(), AllocError>
+    ensures tagged { OnOk result (pairs_view pairs.new
+        ≡ with_bignums_pairs (pairs_view pairs.old)) }
+    ensures memory { OnErr result (with_bignums_pairs (pairs_view pairs.old)
+        ≢ pairs_view pairs.old) }
 {
-    for i in 0..members.len() {
-        tag_member(alloc, &mut members[i])?;
+    for i in 0..pairs.len() {
+        tag_pair(alloc, &mut pairs[i])?;
     }
     Ok(())
 }
 
 #[cycle(bignums)]
-fn tag_member(alloc: Global, member: &mut (Value, Value)) -> Result<(), AllocError>
-    ensures key { OnOk result (view member.new.0 ≡ with_bignums (view member.old.0)) }
-    ensures value { OnOk result (view member.new.1 ≡ with_bignums (view member.old.1)) }
-    ensures memory { OnErr result ((with_bignums (view member.old.0) ≢ view member.old.0)
-        ⊎ (with_bignums (view member.old.1) ≢ view member.old.1)) }
+fn tag_pair(alloc: Global, pair: &mut (Value, Value)) -> Result<(), AllocError>
+    ensures key { OnOk result (view pair.new.0 ≡ with_bignums (view pair.old.0)) }
+    ensures value { OnOk result (view pair.new.1 ≡ with_bignums (view pair.old.1)) }
+    ensures memory { OnErr result ((with_bignums (view pair.old.0) ≢ view pair.old.0)
+        ⊎ (with_bignums (view pair.old.1) ≢ view pair.old.1)) }
 {
-    tag_bignums(alloc, &mut member.0)?;
-    tag_bignums(alloc, &mut member.1)
+    tag_bignums(alloc, &mut pair.0)?;
+    tag_bignums(alloc, &mut pair.1)
 }
 
 /// An integer, or the tag that it is written as where it has no head.

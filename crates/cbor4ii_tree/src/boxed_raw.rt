@@ -4,13 +4,14 @@
 //! `OutOfMemory`, and the item was taken.
 ghost use Rattle.std.specs.Prelude.{◌≡◌, true, IfOk, IsTrue};
 ghost use Rattle.cbor4ii_items.specs.Writing.{WritesAtomically};
-ghost use Rattle.cbor4ii_tree.specs.Canonical.{canonical_encoding, canonical_cost, with_bignums};
-ghost use Rattle.cbor4ii_tree.specs.Encodings.{Encodes};
-ghost use Rattle.cbor4ii_tree.specs.View.{view};
-ghost use Rattle.cbor4ii_tree.specs.BoxedRaw.{boxed_content, CapturesCopy, CopiesItem};
-ghost use Rattle.cbor4ii_tree.specs.BoxedRaw.{CopiesNone, boxed_raw_format};
+ghost use Rattle.cbor4ii_tree.specs.Basis.Canonical.{canonical_encoding, canonical_cost};
+ghost use Rattle.cbor4ii_tree.specs.Basis.Canonical.{with_bignums};
+ghost use Rattle.cbor4ii_tree.specs.Basis.Encodings.{Encodes};
+ghost use Rattle.cbor4ii_tree.specs.Basis.View.{view};
+ghost use Rattle.cbor4ii_tree.specs.Calls.BoxedRaw.{boxed_content, CapturesCopy, CopiesItem};
+ghost use Rattle.cbor4ii_tree.specs.Calls.BoxedRaw.{CopiesNone, boxed_raw_format};
 ghost use Rattle.cbor4ii_tree.specs.Laws.Capturing.{boxed_raw_lawful};
-ghost use Rattle.cbor4ii_tree.specs.Raw.{raw_content};
+ghost use Rattle.cbor4ii_tree.specs.Calls.Raw.{raw_content};
 
 use crate::lend_raw::skip_lent;
 use crate::raw::RawValue;

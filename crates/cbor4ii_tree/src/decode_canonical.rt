@@ -1,13 +1,15 @@
 //! Values that are encoded in one way, read.
 ghost use Rattle.std.specs.Prelude.{◌≡◌, ◌+◌, ◌≤◌, OnOk, true};
-ghost use Rattle.cbor4ii_tree.specs.Canonically.{canonical_format, OnlyCanonical};
-ghost use Rattle.cbor4ii_tree.specs.Canonically.{AllCanonical, TakesEncoding, EveryEncoding};
-ghost use Rattle.cbor4ii_tree.specs.Canonically.{PrefixCanonical, DepthCanonical, NeverCanonical};
-ghost use Rattle.cbor4ii_tree.specs.Canonically.{OthersCanonical, ExactCanonical, ValueCanonical};
-ghost use Rattle.cbor4ii_tree.specs.Does.{DoesUnder, answered};
-ghost use Rattle.cbor4ii_tree.specs.Headline.{EofReads};
-ghost use Rattle.cbor4ii_tree.specs.CanonicalRejects.{CanonicalTextRejects};
-ghost use Rattle.cbor4ii_tree.specs.CanonicalCalls.{TextAt};
+ghost use Rattle.cbor4ii_tree.specs.Calls.Canonically.{canonical_format, OnlyCanonical};
+ghost use Rattle.cbor4ii_tree.specs.Calls.Canonically.{AllCanonical, TakesEncoding, EveryEncoding};
+ghost use Rattle.cbor4ii_tree.specs.Calls.Canonically.{PrefixCanonical, DepthCanonical};
+ghost use Rattle.cbor4ii_tree.specs.Calls.Canonically.{NeverCanonical};
+ghost use Rattle.cbor4ii_tree.specs.Calls.Canonically.{OthersCanonical, ExactCanonical};
+ghost use Rattle.cbor4ii_tree.specs.Calls.Canonically.{ValueCanonical};
+ghost use Rattle.cbor4ii_tree.specs.Inner.Does.{DoesUnder, value_or_error};
+ghost use Rattle.cbor4ii_tree.specs.Basis.Headline.{EofReads};
+ghost use Rattle.cbor4ii_tree.specs.Calls.CanonicalRejects.{CanonicalTextRejects};
+ghost use Rattle.cbor4ii_tree.specs.Inner.CanonicalCalls.{TextAt};
 ghost use Rattle.cbor4ii_items.specs.Decoding.{Decodes};
 ghost use Rattle.cbor4ii_items.specs.Shortest.{shortest_format};
 ghost use Rattle.cbor4ii_tree.specs.Laws.CanonicalReading.{canonical_lawful};
@@ -81,7 +83,7 @@ impl<S: Source> Decode<S> for Canonical {
 struct CanonicalEncoding;
 
 impl Encodings for CanonicalEncoding {
-    ghost exact = { true };
+    ghost canonical = { true };
 
     #[inline(always)]
     fn accepts_head(argument: u64, size: usize) -> bool {
@@ -143,7 +145,7 @@ fn head_of<S: Source>(
     failure: &mut Option<DecodeError<S::Error>>,
 ) -> Option<u64>
     ensures { Decodes (shortest_format name.now major)
-        (S.view reader.old) (S.view reader.new) (answered result failure.new) }
+        (S.view reader.old) (S.view reader.new) (value_or_error result failure.new) }
 {
     part(canonical_head(name, major, reader), failure)
 }

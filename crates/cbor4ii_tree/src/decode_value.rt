@@ -6,31 +6,36 @@
 ghost use Rattle.std.specs.Prelude.{◌≡◌, ◌+◌, ◌-◌, ◌*◌, ◌<◌, ◌≤◌, ◌/◌, ◌⊎◌, IfOk};
 ghost use Rattle.std.specs.Prelude.{true, length};
 ghost use Rattle.std.specs.Prelude.{OnSome, IfSome};
-ghost use Rattle.cbor4ii_tree.specs.Does.{Anything, DoesUnder, Gives, Never, WantsOnly, answered};
-ghost use Rattle.cbor4ii_tree.specs.Valuing.{ReadsOneValue, RejectsOneValue, ReadsUnder};
-ghost use Rattle.cbor4ii_tree.specs.Valuing.{InRange, RejectsUnder};
-ghost use Rattle.cbor4ii_tree.specs.Valuing.{ReadsInside, RejectsOf, RejectsMajor};
-ghost use Rattle.cbor4ii_tree.specs.Valuing.{ReadsVec, ReadsItems, RejectsItems};
-ghost use Rattle.cbor4ii_tree.specs.Valuing.{ReadsIndefiniteItems, RejectsIndefiniteItems};
-ghost use Rattle.cbor4ii_tree.specs.Valuing.{ReadsMembers, RejectsMembers, ReadsIndefiniteMembers};
-ghost use Rattle.cbor4ii_tree.specs.Valuing.{RejectsIndefiniteMembers, ReadsMember, RejectsMember};
-ghost use Rattle.cbor4ii_tree.specs.Valuing.{ReadsTagged, TakesLength, TakesTag, flat_values};
-ghost use Rattle.cbor4ii_tree.specs.Asking.{Asks, BeginsString, InParts, InTagged, InValue};
-ghost use Rattle.cbor4ii_tree.specs.Leaf.{AsksAfterNext, CanTake, DoesAfterFirst, DoesAfterNext};
-ghost use Rattle.cbor4ii_tree.specs.LeafRuns.{flat, GivesItems, PutsItems, PutsItemsUnder};
-ghost use Rattle.cbor4ii_tree.specs.LeafRuns.{RejectsItemsUnder};
-ghost use Rattle.cbor4ii_tree.specs.Item.{IsItem, AreItems};
-ghost use Rattle.cbor4ii_tree.specs.View.{view, items_view};
-ghost use Rattle.cbor4ii_tree.specs.Promises.{value_format, DepthReads, FinalReads, Others};
-ghost use Rattle.cbor4ii_tree.specs.Promises.{SizeReads, ExactReads};
-ghost use Rattle.cbor4ii_tree.specs.Headline.{OnlyReads, AllReads, PrefixReads, EofReads};
-ghost use Rattle.cbor4ii_tree.specs.Headline.{SkipsReads, CanonicalReads};
+ghost use Rattle.cbor4ii_tree.specs.Inner.Does.{Anything, DoesUnder, Gives, Never, WantsOnly};
+ghost use Rattle.cbor4ii_tree.specs.Inner.Does.{value_or_error};
+ghost use Rattle.cbor4ii_tree.specs.Inner.Valuing.{ReadsOneValue, RejectsOneValue, ReadsUnder};
+ghost use Rattle.cbor4ii_tree.specs.Inner.Valuing.{InRange, RejectsUnder};
+ghost use Rattle.cbor4ii_tree.specs.Inner.Valuing.{ReadsTwoStepsIn, RejectsOf, RejectsMajor};
+ghost use Rattle.cbor4ii_tree.specs.Inner.Valuing.{ReadsVec, ReadsItems, RejectsItems};
+ghost use Rattle.cbor4ii_tree.specs.Inner.Valuing.{ReadsIndefiniteItems, RejectsIndefiniteItems};
+ghost use Rattle.cbor4ii_tree.specs.Inner.Valuing.{ReadsValuePairs, RejectsValuePairs};
+ghost use Rattle.cbor4ii_tree.specs.Inner.Valuing.{ReadsPairsToBreak};
+ghost use Rattle.cbor4ii_tree.specs.Inner.Valuing.{RejectsPairsToBreak, ReadsValuePair};
+ghost use Rattle.cbor4ii_tree.specs.Inner.Valuing.{RejectsValuePair};
+ghost use Rattle.cbor4ii_tree.specs.Inner.Valuing.{ReadsTagged, TakesLength, TakesTag, flat_values};
+ghost use Rattle.cbor4ii_tree.specs.Inner.Asking.{Asks, BeginsString, InParts, InTagged, InValue};
+ghost use Rattle.cbor4ii_tree.specs.Inner.Leaf.{AsksAfterNext, CanTake, DoesAfterFirst};
+ghost use Rattle.cbor4ii_tree.specs.Inner.Leaf.{DoesAfterNext};
+ghost use Rattle.cbor4ii_tree.specs.Inner.LeafRuns.{pair_values, GivesItems, PutsItems};
+ghost use Rattle.cbor4ii_tree.specs.Inner.LeafRuns.{PutsItemsUnder};
+ghost use Rattle.cbor4ii_tree.specs.Inner.LeafRuns.{RejectsItemsUnder};
+ghost use Rattle.cbor4ii_tree.specs.Basis.Item.{IsItem, AreItems};
+ghost use Rattle.cbor4ii_tree.specs.Basis.View.{view, items_view};
+ghost use Rattle.cbor4ii_tree.specs.Calls.Promises.{value_format, DepthReads, FinalReads, Others};
+ghost use Rattle.cbor4ii_tree.specs.Calls.Promises.{SizeReads, ExactReads};
+ghost use Rattle.cbor4ii_tree.specs.Basis.Headline.{OnlyReads, AllReads, PrefixReads, EofReads};
+ghost use Rattle.cbor4ii_tree.specs.Basis.Headline.{SkipsReads, CanonicalReads};
 ghost use Rattle.cbor4ii_items.specs.Decoding.{Decodes};
 ghost use Rattle.cbor4ii_tree.specs.Laws.Values.{value_lawful};
 
 use crate::accepted::Encodings;
 use crate::any_encoding::AnyEncoding;
-use crate::leaf::{Looked, Next, take_leaf};
+use crate::leaf::{Next, TakenOrNext, take_leaf};
 use crate::run::{Pairs, Parts, put_value, take_run};
 use crate::simple::{read_float, simple_of};
 use crate::slot::{keep, leave_deep, leave_not_canonical, part, whole};
@@ -119,9 +124,9 @@ pub(crate) fn read_outermost<S: Source, A: Encodings>(
     reader: &mut S,
     failure: &mut Option<DecodeError<S::Error>>,
 ) -> Option<Value>
-    ensures { Gives (Asks (InValue A.exact)) InRange
-        (DoesUnder (ReadsOneValue A.exact) (RejectsOneValue A.exact))
-        (S.view reader.old) (S.view reader.new) (answered result failure.new) }
+    ensures { Gives (Asks (InValue A.canonical)) InRange
+        (DoesUnder (ReadsOneValue A.canonical) (RejectsOneValue A.canonical))
+        (S.view reader.old) (S.view reader.new) (value_or_error result failure.new) }
 {
     if !reader.step_in() {
         leave_deep("value", failure);
@@ -138,9 +143,9 @@ fn read_apart<S: Source, A: Encodings>(
     reader: &mut S,
     failure: &mut Option<DecodeError<S::Error>>,
 ) -> Option<Value>
-    ensures { Gives (Asks (InValue A.exact)) InRange
-        (DoesUnder (ReadsUnder A.exact) (RejectsUnder A.exact))
-        (S.view reader.old) (S.view reader.new) (answered result failure.new) }
+    ensures { Gives (Asks (InValue A.canonical)) InRange
+        (DoesUnder (ReadsUnder A.canonical) (RejectsUnder A.canonical))
+        (S.view reader.old) (S.view reader.new) (value_or_error result failure.new) }
 {
     read_inside::<S, A>(alloc, reader, failure)
 }
@@ -154,9 +159,9 @@ fn read_value<S: Source, A: Encodings>(
     reader: &mut S,
     failure: &mut Option<DecodeError<S::Error>>,
 ) -> Option<Value>
-    ensures { Gives (Asks (InValue A.exact)) InRange
-        (DoesUnder (ReadsOneValue A.exact) (RejectsOneValue A.exact))
-        (S.view reader.old) (S.view reader.new) (answered result failure.new) }
+    ensures { Gives (Asks (InValue A.canonical)) InRange
+        (DoesUnder (ReadsOneValue A.canonical) (RejectsOneValue A.canonical))
+        (S.view reader.old) (S.view reader.new) (value_or_error result failure.new) }
 {
     if !reader.step_in() {
         leave_deep("value", failure);
@@ -175,13 +180,13 @@ fn read_inside<S: Source, A: Encodings>(
     reader: &mut S,
     failure: &mut Option<DecodeError<S::Error>>,
 ) -> Option<Value>
-    ensures { Gives (Asks (InValue A.exact)) InRange
-        (DoesUnder (ReadsUnder A.exact) (RejectsUnder A.exact))
-        (S.view reader.old) (S.view reader.new) (answered result failure.new) }
+    ensures { Gives (Asks (InValue A.canonical)) InRange
+        (DoesUnder (ReadsUnder A.canonical) (RejectsUnder A.canonical))
+        (S.view reader.old) (S.view reader.new) (value_or_error result failure.new) }
 {
     match take_leaf::<S, A>(alloc, reader, failure)? {
-        Looked::Taken(value) => Some(value),
-        Looked::Begins(next) => read_next::<S, A>(alloc, reader, next, failure),
+        TakenOrNext::Taken(value) => Some(value),
+        TakenOrNext::Begins(next) => read_next::<S, A>(alloc, reader, next, failure),
     }
 }
 
@@ -195,9 +200,9 @@ fn read_next<S: Source, A: Encodings>(
     failure: &mut Option<DecodeError<S::Error>>,
 ) -> Option<Value>
     requires { CanTake next (S.view reader.old) }
-    ensures { Gives (AsksAfterNext A.exact next (InValue A.exact)) InRange
-        (DoesAfterNext A.exact next (ReadsUnder A.exact) (RejectsUnder A.exact))
-        (S.view reader.old) (S.view reader.new) (answered result failure.new) }
+    ensures { Gives (AsksAfterNext A.canonical next (InValue A.canonical)) InRange
+        (DoesAfterNext A.canonical next (ReadsUnder A.canonical) (RejectsUnder A.canonical))
+        (S.view reader.old) (S.view reader.new) (value_or_error result failure.new) }
 {
     match next.first / 32 {
         major::ARRAY => read_array::<S, A>(alloc, reader, next, failure),
@@ -218,9 +223,9 @@ fn read_tag<S: Source, A: Encodings>(
 ) -> Option<Value>
     requires can { CanTake next (S.view reader.old) }
     requires major { next.first / 32 ≡ 6 }
-    ensures { Gives (AsksAfterNext A.exact next (InValue A.exact)) InRange
-        (DoesAfterNext A.exact next (ReadsUnder A.exact) (RejectsOf A.exact 6))
-        (S.view reader.old) (S.view reader.new) (answered result failure.new) }
+    ensures { Gives (AsksAfterNext A.canonical next (InValue A.canonical)) InRange
+        (DoesAfterNext A.canonical next (ReadsUnder A.canonical) (RejectsOf A.canonical 6))
+        (S.view reader.old) (S.view reader.new) (value_or_error result failure.new) }
 {
     let number = take_tag::<S, A>(reader, next, failure)?;
     read_tagged::<S, A>(alloc, reader, number, failure)
@@ -235,9 +240,9 @@ fn read_tagged<S: Source, A: Encodings>(
     number: u64,
     failure: &mut Option<DecodeError<S::Error>>,
 ) -> Option<Value>
-    ensures { Gives (Asks (InTagged A.exact)) InRange
-        (DoesUnder (ReadsTagged A.exact number) (RejectsOneValue A.exact))
-        (S.view reader.old) (S.view reader.new) (answered result failure.new) }
+    ensures { Gives (Asks (InTagged A.canonical)) InRange
+        (DoesUnder (ReadsTagged A.canonical number) (RejectsOneValue A.canonical))
+        (S.view reader.old) (S.view reader.new) (value_or_error result failure.new) }
 {
     let inner = read_value::<S, A>(alloc, reader, failure)?;
     match Box::new(alloc, inner) {
@@ -259,8 +264,8 @@ fn take_tag<S: Source, A: Encodings>(
     requires can { CanTake next (S.view reader.old) }
     requires major { next.first / 32 ≡ 6 }
     ensures { Gives Never Anything
-        (DoesAfterNext A.exact next (TakesTag A.exact) (RejectsOf A.exact 6))
-        (S.view reader.old) (S.view reader.new) (answered result failure.new) }
+        (DoesAfterNext A.canonical next (TakesTag A.canonical) (RejectsOf A.canonical 6))
+        (S.view reader.old) (S.view reader.new) (value_or_error result failure.new) }
 {
     match next.head {
         Some(head) => {
@@ -283,9 +288,9 @@ fn take_length<S: Source, A: Encodings>(
     requires can { CanTake next (S.view reader.old) }
     requires major { next.first / 32 ≡ major }
     requires nests { (major ≡ 4) ⊎ (major ≡ 5) }
-    ensures { Gives Never Anything (DoesAfterNext A.exact next
-        (TakesLength A.exact major) (RejectsMajor A.exact major))
-        (S.view reader.old) (S.view reader.new) (answered result failure.new) }
+    ensures { Gives Never Anything (DoesAfterNext A.canonical next
+        (TakesLength A.canonical major) (RejectsMajor A.canonical major))
+        (S.view reader.old) (S.view reader.new) (value_or_error result failure.new) }
 {
     match next.head {
         Some(head) => {
@@ -308,8 +313,8 @@ fn read_alone<S: Source, A: Encodings>(
     requires shown { 1 ≤ (S.view reader.old).advanceable }
     requires major { (first / 32 ≤ 3) ⊎ (first / 32 ≡ 7) }
     ensures { Gives (λ _ _. BeginsString first) InRange
-        (DoesAfterFirst first (ReadsUnder A.exact) (RejectsUnder A.exact))
-        (S.view reader.old) (S.view reader.new) (answered result failure.new) }
+        (DoesAfterFirst first (ReadsUnder A.canonical) (RejectsUnder A.canonical))
+        (S.view reader.old) (S.view reader.new) (value_or_error result failure.new) }
 {
     if first / 32 != major::SIMPLE {
         return part(A::read_leaf(alloc, reader, first), failure);
@@ -339,9 +344,9 @@ fn read_array<S: Source, A: Encodings>(
 ) -> Option<Value>
     requires can { CanTake next (S.view reader.old) }
     requires major { next.first / 32 ≡ 4 }
-    ensures { Gives (AsksAfterNext A.exact next (InValue A.exact)) InRange
-        (DoesAfterNext A.exact next (ReadsUnder A.exact) (RejectsOf A.exact 4))
-        (S.view reader.old) (S.view reader.new) (answered result failure.new) }
+    ensures { Gives (AsksAfterNext A.canonical next (InValue A.canonical)) InRange
+        (DoesAfterNext A.canonical next (ReadsUnder A.canonical) (RejectsOf A.canonical 4))
+        (S.view reader.old) (S.view reader.new) (value_or_error result failure.new) }
 {
     if !reader.step_in() {
         leave_deep("array", failure);
@@ -362,16 +367,17 @@ fn array_inside<S: Source, A: Encodings>(
 ) -> Option<Value>
     requires can { CanTake next (S.view reader.old) }
     requires major { next.first / 32 ≡ 4 }
-    ensures { Gives (AsksAfterNext A.exact next (InValue A.exact)) InRange
-        (DoesAfterNext A.exact next
-        (ReadsInside A.exact) (RejectsMajor A.exact 4))
-        (S.view reader.old) (S.view reader.new) (answered result failure.new) }
+    ensures { Gives (AsksAfterNext A.canonical next (InValue A.canonical)) InRange
+        (DoesAfterNext A.canonical next
+        (ReadsTwoStepsIn A.canonical) (RejectsMajor A.canonical 4))
+        (S.view reader.old) (S.view reader.new) (value_or_error result failure.new) }
 {
-    match take_length::<S, A>(reader, major::ARRAY, next, failure)? {
-        Some(0) => Some(Value::Array(Vec::new(alloc))),
-        Some(count) => Some(Value::Array(definite_items::<S, A>(alloc, reader, count, failure)?)),
-        None => Some(Value::Array(indefinite_items::<S, A>(alloc, reader, failure)?)),
-    }
+    let items = match take_length::<S, A>(reader, major::ARRAY, next, failure)? {
+        Some(0) => return Some(Value::Array(Vec::new(alloc))),
+        Some(count) => definite_items::<S, A>(alloc, reader, count, failure),
+        None => indefinite_items::<S, A>(alloc, reader, failure),
+    };
+    Some(Value::Array(items?))
 }
 
 /// Reads so many items.
@@ -383,10 +389,11 @@ fn definite_items<S: Source, A: Encodings>(
     count: usize,
     failure: &mut Option<DecodeError<S::Error>>,
 ) -> Option<Vec<Value>>
-    ensures does { DoesUnder (ReadsVec (ReadsItems A.exact count)) (RejectsItems A.exact count)
-        (S.view reader.old) (S.view reader.new) (answered result failure.new) }
-    ensures memory { WantsOnly (Asks (InParts A.exact 0))
-        (S.view reader.old) (S.view reader.new) (answered result failure.new) }
+    ensures does { DoesUnder (ReadsVec (ReadsItems A.canonical count))
+        (RejectsItems A.canonical count)
+        (S.view reader.old) (S.view reader.new) (value_or_error result failure.new) }
+    ensures memory { WantsOnly (Asks (InParts A.canonical 0))
+        (S.view reader.old) (S.view reader.new) (value_or_error result failure.new) }
     ensures items { IfSome result (λ v. AreItems (items_view v.items)) }
 {
     let mut items = Vec::new(alloc);
@@ -401,8 +408,8 @@ fn definite_items<S: Source, A: Encodings>(
 }
 
 /// Makes room for so many parts, or for as many as have their place before any came. It answers
-/// whether there was memory. It stays out of line, as `read_alone`.
-#[inline(never)]
+/// whether there was memory.
+#[inline(always)]
 fn make_room<T>(parts: &mut Vec<T>, count: usize) -> bool
     ensures { parts.new.items ≡ parts.old.items }
 {
@@ -421,9 +428,9 @@ fn more_items<S: Source, A: Encodings>(
     failure: &mut Option<DecodeError<S::Error>>,
 ) -> Option<()>
     requires { length items.old.items < 1 * count }
-    ensures { GivesItems A.exact (PutsItems A.exact) (RejectsItems A.exact) (1 * count)
+    ensures { GivesItems A.canonical (PutsItems A.canonical) (RejectsItems A.canonical) (1 * count)
         items.old.items items.new.items
-        (S.view reader.old) (S.view reader.new) (answered result failure.new) }
+        (S.view reader.old) (S.view reader.new) (value_or_error result failure.new) }
 {
     if !reader.step_in() {
         leave_deep("value", failure);
@@ -445,9 +452,10 @@ fn items_inside<S: Source, A: Encodings>(
     failure: &mut Option<DecodeError<S::Error>>,
 ) -> Option<()>
     requires { length items.old.items < 1 * count }
-    ensures { GivesItems A.exact (PutsItemsUnder A.exact) (RejectsItemsUnder A.exact) (1 * count)
+    ensures { GivesItems A.canonical (PutsItemsUnder A.canonical) (RejectsItemsUnder A.canonical)
+        (1 * count)
         items.old.items items.new.items
-        (S.view reader.old) (S.view reader.new) (answered result failure.new) }
+        (S.view reader.old) (S.view reader.new) (value_or_error result failure.new) }
 {
     match take_run::<S, A, Vec<Value>>(alloc, reader, count, items, failure)? {
         Some(next) => {
@@ -462,23 +470,23 @@ fn items_inside<S: Source, A: Encodings>(
 /// that it leaves undecided.
 #[cycle(read)]
 #[inline(always)]
-fn more_members<S: Source, A: Encodings>(
+fn more_pairs<S: Source, A: Encodings>(
     alloc: Global,
     reader: &mut S,
     count: usize,
     pairs: &mut Pairs,
     failure: &mut Option<DecodeError<S::Error>>,
 ) -> Option<()>
-    requires { length (flat pairs.old) < 2 * count }
-    ensures { GivesItems A.exact (PutsItems A.exact) (RejectsItems A.exact) (2 * count)
-        (flat pairs.old) (flat pairs.new)
-        (S.view reader.old) (S.view reader.new) (answered result failure.new) }
+    requires { length (pair_values pairs.old) < 2 * count }
+    ensures { GivesItems A.canonical (PutsItems A.canonical) (RejectsItems A.canonical) (2 * count)
+        (pair_values pairs.old) (pair_values pairs.new)
+        (S.view reader.old) (S.view reader.new) (value_or_error result failure.new) }
 {
     if !reader.step_in() {
         leave_deep("value", failure);
         return None;
     }
-    let outcome = members_inside::<S, A>(alloc, reader, count, pairs, failure);
+    let outcome = pairs_inside::<S, A>(alloc, reader, count, pairs, failure);
     reader.step_out();
     outcome
 }
@@ -486,17 +494,18 @@ fn more_members<S: Source, A: Encodings>(
 /// Reads the pairs that are missing where a step was taken, which each value takes in turn.
 #[cycle(read)]
 #[inline(always)]
-fn members_inside<S: Source, A: Encodings>(
+fn pairs_inside<S: Source, A: Encodings>(
     alloc: Global,
     reader: &mut S,
     count: usize,
     pairs: &mut Pairs,
     failure: &mut Option<DecodeError<S::Error>>,
 ) -> Option<()>
-    requires { length (flat pairs.old) < 2 * count }
-    ensures { GivesItems A.exact (PutsItemsUnder A.exact) (RejectsItemsUnder A.exact) (2 * count)
-        (flat pairs.old) (flat pairs.new)
-        (S.view reader.old) (S.view reader.new) (answered result failure.new) }
+    requires { length (pair_values pairs.old) < 2 * count }
+    ensures { GivesItems A.canonical (PutsItemsUnder A.canonical) (RejectsItemsUnder A.canonical)
+        (2 * count)
+        (pair_values pairs.old) (pair_values pairs.new)
+        (S.view reader.old) (S.view reader.new) (value_or_error result failure.new) }
 {
     match take_run::<S, A, Pairs>(alloc, reader, count, pairs, failure)? {
         Some(next) => {
@@ -515,10 +524,10 @@ fn indefinite_items<S: Source, A: Encodings>(
     failure: &mut Option<DecodeError<S::Error>>,
 ) -> Option<Vec<Value>>
     ensures does { DoesUnder
-        (ReadsVec (ReadsIndefiniteItems A.exact)) (RejectsIndefiniteItems A.exact)
-        (S.view reader.old) (S.view reader.new) (answered result failure.new) }
-    ensures memory { WantsOnly (Asks (InParts A.exact 1))
-        (S.view reader.old) (S.view reader.new) (answered result failure.new) }
+        (ReadsVec (ReadsIndefiniteItems A.canonical)) (RejectsIndefiniteItems A.canonical)
+        (S.view reader.old) (S.view reader.new) (value_or_error result failure.new) }
+    ensures memory { WantsOnly (Asks (InParts A.canonical 1))
+        (S.view reader.old) (S.view reader.new) (value_or_error result failure.new) }
     ensures items { IfSome result (λ v. AreItems (items_view v.items)) }
 {
     let mut items = Vec::new(alloc);
@@ -540,9 +549,9 @@ fn read_map<S: Source, A: Encodings>(
 ) -> Option<Value>
     requires can { CanTake next (S.view reader.old) }
     requires major { next.first / 32 ≡ 5 }
-    ensures { Gives (AsksAfterNext A.exact next (InValue A.exact)) InRange
-        (DoesAfterNext A.exact next (ReadsUnder A.exact) (RejectsOf A.exact 5))
-        (S.view reader.old) (S.view reader.new) (answered result failure.new) }
+    ensures { Gives (AsksAfterNext A.canonical next (InValue A.canonical)) InRange
+        (DoesAfterNext A.canonical next (ReadsUnder A.canonical) (RejectsOf A.canonical 5))
+        (S.view reader.old) (S.view reader.new) (value_or_error result failure.new) }
 {
     if !reader.step_in() {
         leave_deep("map", failure);
@@ -563,81 +572,84 @@ fn map_inside<S: Source, A: Encodings>(
 ) -> Option<Value>
     requires can { CanTake next (S.view reader.old) }
     requires major { next.first / 32 ≡ 5 }
-    ensures { Gives (AsksAfterNext A.exact next (InValue A.exact)) InRange
-        (DoesAfterNext A.exact next
-        (ReadsInside A.exact) (RejectsMajor A.exact 5))
-        (S.view reader.old) (S.view reader.new) (answered result failure.new) }
+    ensures { Gives (AsksAfterNext A.canonical next (InValue A.canonical)) InRange
+        (DoesAfterNext A.canonical next
+        (ReadsTwoStepsIn A.canonical) (RejectsMajor A.canonical 5))
+        (S.view reader.old) (S.view reader.new) (value_or_error result failure.new) }
 {
-    match take_length::<S, A>(reader, major::MAP, next, failure)? {
-        Some(0) => Some(Value::Map(Vec::new(alloc))),
-        Some(count) => Some(Value::Map(definite_members::<S, A>(alloc, reader, count, failure)?)),
-        None => Some(Value::Map(indefinite_members::<S, A>(alloc, reader, failure)?)),
-    }
+    let pairs = match take_length::<S, A>(reader, major::MAP, next, failure)? {
+        Some(0) => return Some(Value::Map(Vec::new(alloc))),
+        Some(count) => definite_pairs::<S, A>(alloc, reader, count, failure),
+        None => indefinite_pairs::<S, A>(alloc, reader, failure),
+    };
+    Some(Value::Map(pairs?))
 }
 
 /// Reads so many pairs.
 #[cycle(read)]
 #[inline(never)]
-fn definite_members<S: Source, A: Encodings>(
+fn definite_pairs<S: Source, A: Encodings>(
     alloc: Global,
     reader: &mut S,
     count: usize,
     failure: &mut Option<DecodeError<S::Error>>,
 ) -> Option<Vec<(Value, Value)>>
-    ensures does { DoesUnder (ReadsVec (ReadsMembers A.exact count)) (RejectsMembers A.exact count)
-        (S.view reader.old) (S.view reader.new) (answered result failure.new) }
-    ensures memory { WantsOnly (Asks (InParts A.exact 0))
-        (S.view reader.old) (S.view reader.new) (answered result failure.new) }
+    ensures does { DoesUnder (ReadsVec (ReadsValuePairs A.canonical count))
+        (RejectsValuePairs A.canonical count)
+        (S.view reader.old) (S.view reader.new) (value_or_error result failure.new) }
+    ensures memory { WantsOnly (Asks (InParts A.canonical 0))
+        (S.view reader.old) (S.view reader.new) (value_or_error result failure.new) }
     ensures items { IfSome result (λ v. AreItems (items_view (flat_values v.items))) }
 {
-    let mut pairs = Pairs {
-        members: Vec::new(alloc),
-        key: None,
-    };
-    if !make_room(&mut pairs.members, count) {
+    let mut room = Vec::new(alloc);
+    if !make_room(&mut room, count) {
         *failure = None;
         return None;
     }
+    let mut pairs = Pairs {
+        pairs: room,
+        key: None,
+    };
     while pairs.lacks(count) {
-        more_members::<S, A>(alloc, reader, count, &mut pairs, failure)?;
+        more_pairs::<S, A>(alloc, reader, count, &mut pairs, failure)?;
     }
-    Some(pairs.members)
+    Some(pairs.pairs)
 }
 
 #[cycle(read)]
 #[inline(never)]
-fn indefinite_members<S: Source, A: Encodings>(
+fn indefinite_pairs<S: Source, A: Encodings>(
     alloc: Global,
     reader: &mut S,
     failure: &mut Option<DecodeError<S::Error>>,
 ) -> Option<Vec<(Value, Value)>>
     ensures does { DoesUnder
-        (ReadsVec (ReadsIndefiniteMembers A.exact)) (RejectsIndefiniteMembers A.exact)
-        (S.view reader.old) (S.view reader.new) (answered result failure.new) }
-    ensures memory { WantsOnly (Asks (InParts A.exact 1))
-        (S.view reader.old) (S.view reader.new) (answered result failure.new) }
+        (ReadsVec (ReadsPairsToBreak A.canonical)) (RejectsPairsToBreak A.canonical)
+        (S.view reader.old) (S.view reader.new) (value_or_error result failure.new) }
+    ensures memory { WantsOnly (Asks (InParts A.canonical 1))
+        (S.view reader.old) (S.view reader.new) (value_or_error result failure.new) }
     ensures items { IfSome result (λ v. AreItems (items_view (flat_values v.items))) }
 {
-    let mut members = Vec::new(alloc);
+    let mut pairs = Vec::new(alloc);
     while !part(is_break(reader), failure)? {
-        let member = read_member::<S, A>(alloc, reader, failure)?;
-        keep(&mut members, member, failure)?;
+        let pair = read_pair::<S, A>(alloc, reader, failure)?;
+        keep(&mut pairs, pair, failure)?;
     }
-    Some(members)
+    Some(pairs)
 }
 
 /// Reads a key, and the value after it. No break is looked for between the two.
 #[cycle(read)]
 #[inline(always)]
-fn read_member<S: Source, A: Encodings>(
+fn read_pair<S: Source, A: Encodings>(
     alloc: Global,
     reader: &mut S,
     failure: &mut Option<DecodeError<S::Error>>,
 ) -> Option<(Value, Value)>
-    ensures { Gives (Asks (InParts A.exact 1))
+    ensures { Gives (Asks (InParts A.canonical 1))
         (λ m. InRange m.0 × InRange m.1)
-        (DoesUnder (ReadsMember A.exact) (RejectsMember A.exact))
-        (S.view reader.old) (S.view reader.new) (answered result failure.new) }
+        (DoesUnder (ReadsValuePair A.canonical) (RejectsValuePair A.canonical))
+        (S.view reader.old) (S.view reader.new) (value_or_error result failure.new) }
 {
     let key = read_value::<S, A>(alloc, reader, failure)?;
     let value = read_value::<S, A>(alloc, reader, failure)?;

@@ -2,11 +2,12 @@
 ghost use Rattle.std.specs.Prelude.{◌≡◌, ◌≢◌, ◌++◌, ℕ, List, OnOk, OnErr, IfOk};
 ghost use Rattle.cbor4ii_items.specs.Budget.{CostFits};
 ghost use Rattle.cbor4ii_items.specs.Writing.{Writes};
-ghost use Rattle.cbor4ii_tree.specs.Canonical.{canonical_encoding, canonical_cost, with_bignums};
-ghost use Rattle.cbor4ii_tree.specs.CanonicalShape.{DecodesCanonically, EncodesCanonically};
-ghost use Rattle.cbor4ii_tree.specs.Cost.{Budget};
-ghost use Rattle.cbor4ii_tree.specs.Item.{IsItem};
-ghost use Rattle.cbor4ii_tree.specs.View.{view};
+ghost use Rattle.cbor4ii_tree.specs.Basis.Canonical.{canonical_encoding, canonical_cost};
+ghost use Rattle.cbor4ii_tree.specs.Basis.Canonical.{with_bignums};
+ghost use Rattle.cbor4ii_tree.specs.Calls.CanonicalShape.{DecodesCanonically, EncodesCanonically};
+ghost use Rattle.cbor4ii_tree.specs.Basis.Cost.{Budget};
+ghost use Rattle.cbor4ii_tree.specs.Basis.Item.{IsItem};
+ghost use Rattle.cbor4ii_tree.specs.Basis.View.{view};
 
 use crate::bignum::tag_bignums;
 use crate::decode_canonical::Canonical;

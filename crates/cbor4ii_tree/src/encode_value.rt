@@ -5,13 +5,14 @@ ghost use Rattle.cbor4ii_items.specs.Numbers.{shortest_head};
 ghost use Rattle.cbor4ii_items.specs.Strings.{definite_string};
 ghost use Rattle.cbor4ii_items.specs.SequenceBytes.{items_bytes};
 ghost use Rattle.cbor4ii_items.specs.Budget.{CostFits};
-ghost use Rattle.cbor4ii_tree.specs.Cost.{Budget};
-ghost use Rattle.cbor4ii_tree.specs.Canonical.{canonical_encoding, canonical_cost, with_bignums};
-ghost use Rattle.cbor4ii_tree.specs.Encodings.{Encodes, DecodesTo};
-ghost use Rattle.cbor4ii_tree.specs.Encoding.{value_bytes, member_bytes};
-ghost use Rattle.cbor4ii_tree.specs.Sending.{sent, Sends};
-ghost use Rattle.cbor4ii_tree.specs.View.{view, items_view, members_view, float_view};
-ghost use Rattle.cbor4ii_tree.specs.Item.{IsItem, AreItems, AreMembers, integer};
+ghost use Rattle.cbor4ii_tree.specs.Basis.Cost.{Budget};
+ghost use Rattle.cbor4ii_tree.specs.Basis.Canonical.{canonical_encoding, canonical_cost};
+ghost use Rattle.cbor4ii_tree.specs.Basis.Canonical.{with_bignums};
+ghost use Rattle.cbor4ii_tree.specs.Basis.Encodings.{Encodes, DecodesTo};
+ghost use Rattle.cbor4ii_tree.specs.Calls.Encoding.{value_bytes, value_pair_bytes};
+ghost use Rattle.cbor4ii_tree.specs.Inner.Sending.{sent_or_error, Sends};
+ghost use Rattle.cbor4ii_tree.specs.Basis.View.{view, items_view, pairs_view, float_view};
+ghost use Rattle.cbor4ii_tree.specs.Basis.Item.{IsItem, AreItems, AreItemPairs, integer};
 
 use crate::slot::leave;
 use crate::value::{FloatBits, Value};
@@ -66,7 +67,7 @@ fn put_value<W: Write>(
     failure: &mut Option<EncodeError<W::Error>>,
 ) -> Option<()>
     ensures writes { Writes W.atomic (value_bytes value.now)
-        (W.view writer.old) (W.view writer.new) (sent result failure.new) }
+        (W.view writer.old) (W.view writer.new) (sent_or_error result failure.new) }
     ensures item { OnSome result (IsItem (view value.now)) }
     ensures failed { IfNone result (IsSome failure.new) }
 {
@@ -78,7 +79,7 @@ fn put_value<W: Write>(
         Value::Bytes(content) => put_string(writer, major::BYTES, content, failure),
         Value::Text(text) => put_string(writer, major::STRING, text.as_bytes(), failure),
         Value::Array(items) => put_array(writer, items, failure),
-        Value::Map(members) => put_map(writer, members, failure),
+        Value::Map(pairs) => put_map(writer, pairs, failure),
         Value::Tag(number, inner) => put_tag(writer, *number, inner, failure),
     }
 }
@@ -91,7 +92,7 @@ fn put<W: Write, T: Encode>(
     failure: &mut Option<EncodeError<W::Error>>,
 ) -> Option<()>
     ensures writes { Writes W.atomic (T.bytes item.now)
-        (W.view writer.old) (W.view writer.new) (sent result failure.new) }
+        (W.view writer.old) (W.view writer.new) (sent_or_error result failure.new) }
     ensures failed { IfNone result (IsSome failure.new) }
 {
     part(item.encode(writer), failure)
@@ -110,7 +111,7 @@ fn put_head<W: Write>(
 ) -> Option<()>
     requires { major < 8 }
     ensures writes { WritesAtomically W.atomic (shortest_head major argument)
-        (W.view writer.old) (W.view writer.new) (sent result failure.new) }
+        (W.view writer.old) (W.view writer.new) (sent_or_error result failure.new) }
     ensures failed { IfNone result (IsSome failure.new) }
 {
     if argument < 24 {
@@ -133,7 +134,7 @@ fn put_long_head<W: Write>(
     requires major { major < 8 }
     requires long { 256 ≤ argument }
     ensures writes { WritesAtomically W.atomic (shortest_head major argument)
-        (W.view writer.old) (W.view writer.new) (sent result failure.new) }
+        (W.view writer.old) (W.view writer.new) (sent_or_error result failure.new) }
     ensures failed { IfNone result (IsSome failure.new) }
 {
     let first = 32 * major;
@@ -161,7 +162,7 @@ fn put_string<W: Write>(
 ) -> Option<()>
     requires { major < 8 }
     ensures writes { Writes W.atomic (definite_string major content.now)
-        (W.view writer.old) (W.view writer.new) (sent result failure.new) }
+        (W.view writer.old) (W.view writer.new) (sent_or_error result failure.new) }
     ensures failed { IfNone result (IsSome failure.new) }
 {
     put_head(writer, major, content.len() as u64, failure)?;
@@ -176,7 +177,7 @@ fn push<W: Write>(
     failure: &mut Option<EncodeError<W::Error>>,
 ) -> Option<()>
     ensures writes { WritesAtomically W.atomic bytes.now
-        (W.view writer.old) (W.view writer.new) (sent result failure.new) }
+        (W.view writer.old) (W.view writer.new) (sent_or_error result failure.new) }
     ensures failed { IfNone result (IsSome failure.new) }
 {
     match writer.push(bytes) {
@@ -210,7 +211,7 @@ fn put_integer<W: Write>(
     failure: &mut Option<EncodeError<W::Error>>,
 ) -> Option<()>
     ensures writes { Writes W.atomic (canonical_encoding (integer number))
-        (W.view writer.old) (W.view writer.new) (sent result failure.new) }
+        (W.view writer.old) (W.view writer.new) (sent_or_error result failure.new) }
     ensures item { IsItem (integer number) }
     ensures failed { IfNone result (IsSome failure.new) }
 {
@@ -228,7 +229,7 @@ fn put_float<W: Write>(
     failure: &mut Option<EncodeError<W::Error>>,
 ) -> Option<()>
     ensures writes { Writes W.atomic (canonical_encoding (float_view bits))
-        (W.view writer.old) (W.view writer.new) (sent result failure.new) }
+        (W.view writer.old) (W.view writer.new) (sent_or_error result failure.new) }
     ensures item { IsItem (float_view bits) }
     ensures failed { IfNone result (IsSome failure.new) }
 {
@@ -249,7 +250,7 @@ fn put_array<W: Write>(
 ) -> Option<()>
     ensures writes { Writes W.atomic
         (shortest_head 4 (length items.now) ++ items_bytes value_bytes items.now)
-        (W.view writer.old) (W.view writer.new) (sent result failure.new) }
+        (W.view writer.old) (W.view writer.new) (sent_or_error result failure.new) }
     ensures items { OnSome result (AreItems (items_view items.now)) }
     ensures failed { IfNone result (IsSome failure.new) }
 {
@@ -262,17 +263,17 @@ fn put_array<W: Write>(
 #[inline(never)]
 fn put_map<W: Write>(
     writer: &mut W,
-    members: &[(Value, Value)],
+    pairs: &[(Value, Value)],
     failure: &mut Option<EncodeError<W::Error>>,
 ) -> Option<()>
     ensures writes { Writes W.atomic
-        (shortest_head 5 (length members.now) ++ items_bytes member_bytes members.now)
-        (W.view writer.old) (W.view writer.new) (sent result failure.new) }
-    ensures members { OnSome result (AreMembers (members_view members.now)) }
+        (shortest_head 5 (length pairs.now) ++ items_bytes value_pair_bytes pairs.now)
+        (W.view writer.old) (W.view writer.new) (sent_or_error result failure.new) }
+    ensures pairs { OnSome result (AreItemPairs (pairs_view pairs.now)) }
     ensures failed { IfNone result (IsSome failure.new) }
 {
-    put_head(writer, major::MAP, members.len() as u64, failure)?;
-    put_members(writer, members, failure)
+    put_head(writer, major::MAP, pairs.len() as u64, failure)?;
+    put_pairs(writer, pairs, failure)
 }
 
 /// Writes a tagged value.
@@ -285,7 +286,7 @@ fn put_tag<W: Write>(
     failure: &mut Option<EncodeError<W::Error>>,
 ) -> Option<()>
     ensures writes { Writes W.atomic (shortest_head 6 number ++ value_bytes inner.now)
-        (W.view writer.old) (W.view writer.new) (sent result failure.new) }
+        (W.view writer.old) (W.view writer.new) (sent_or_error result failure.new) }
     ensures item { OnSome result (IsItem (view inner.now)) }
     ensures failed { IfNone result (IsSome failure.new) }
 {
@@ -300,7 +301,7 @@ fn put_items<W: Write>(
     failure: &mut Option<EncodeError<W::Error>>,
 ) -> Option<()>
     ensures writes { Writes W.atomic (items_bytes value_bytes items.now)
-        (W.view writer.old) (W.view writer.new) (sent result failure.new) }
+        (W.view writer.old) (W.view writer.new) (sent_or_error result failure.new) }
     ensures items { OnSome result (AreItems (items_view items.now)) }
     ensures failed { IfNone result (IsSome failure.new) }
 {
@@ -311,19 +312,19 @@ fn put_items<W: Write>(
 }
 
 #[cycle(put)]
-fn put_members<W: Write>(
+fn put_pairs<W: Write>(
     writer: &mut W,
-    members: &[(Value, Value)],
+    pairs: &[(Value, Value)],
     failure: &mut Option<EncodeError<W::Error>>,
 ) -> Option<()>
-    ensures writes { Writes W.atomic (items_bytes member_bytes members.now)
-        (W.view writer.old) (W.view writer.new) (sent result failure.new) }
-    ensures members { OnSome result (AreMembers (members_view members.now)) }
+    ensures writes { Writes W.atomic (items_bytes value_pair_bytes pairs.now)
+        (W.view writer.old) (W.view writer.new) (sent_or_error result failure.new) }
+    ensures pairs { OnSome result (AreItemPairs (pairs_view pairs.now)) }
     ensures failed { IfNone result (IsSome failure.new) }
 {
-    for member in members {
-        put_value(writer, &member.0, failure)?;
-        put_value(writer, &member.1, failure)?;
+    for pair in pairs {
+        put_value(writer, &pair.0, failure)?;
+        put_value(writer, &pair.1, failure)?;
     }
     Some(())
 }

@@ -1,10 +1,10 @@
 //! Equal keys of maps, found by a sort: at one level, and at every level.
 ghost use Rattle.std.specs.Prelude.{◌≡◌, ◌↔◌, IsTrue, IfOk, OnErr, map};
 ghost use Rattle.std.specs.List.Sorted.{IsSortedBy};
-ghost use Rattle.cbor4ii_tree.specs.Access.{HasEqualKeys, HasMapWith, HasTwoPairs, IsMapWith};
-ghost use Rattle.cbor4ii_tree.specs.Access.{MapHasEqualKeys, PairHasMapWith, SomeHasMapWith};
-ghost use Rattle.cbor4ii_tree.specs.ExactOrder.{Repeats, is_before, key_of, seen};
-ghost use Rattle.cbor4ii_tree.specs.View.{view, items_view, members_view};
+ghost use Rattle.cbor4ii_tree.specs.Calls.Access.{HasEqualKeys, HasMapWith, HasTwoPairs, IsMapWith};
+ghost use Rattle.cbor4ii_tree.specs.Calls.Access.{MapHasEqualKeys, PairHasMapWith, SomeHasMapWith};
+ghost use Rattle.cbor4ii_tree.specs.Calls.ExactOrder.{Repeats, is_before, key_of, item_behind};
+ghost use Rattle.cbor4ii_tree.specs.Basis.View.{view, items_view, pairs_view};
 
 use crate::exact_order::cmp_exactly;
 use crate::value::{NoMemory, Value};
@@ -26,7 +26,7 @@ impl Value {
         ensures memory { OnErr result (IsMapWith HasTwoPairs (view self.now)) }
     {
         match self {
-            Value::Map(members) => Ok(repeats_a_key(members)?),
+            Value::Map(pairs) => Ok(repeats_a_key(pairs)?),
             _ => Ok(false),
         }
     }
@@ -59,7 +59,7 @@ fn repeats_within(value: &Value) -> Result<bool, AllocError>
 {
     match value {
         Value::Array(items) => repeats_in_items(items),
-        Value::Map(members) => Ok(repeats_a_key(members)? || repeats_in_members(members)?),
+        Value::Map(pairs) => Ok(repeats_a_key(pairs)? || repeats_in_pairs(pairs)?),
         Value::Tag(_, inner) => repeats_within(inner),
         _ => Ok(false),
     }
@@ -80,13 +80,13 @@ fn repeats_in_items(items: &[Value]) -> Result<bool, AllocError>
 }
 
 #[cycle(within)]
-fn repeats_in_members(members: &[(Value, Value)]) -> Result<bool, AllocError>
+fn repeats_in_pairs(pairs: &[(Value, Value)]) -> Result<bool, AllocError>
     ensures answer { IfOk result (λ found.
-        IsTrue found ↔ PairHasMapWith HasEqualKeys (members_view members.now)) }
-    ensures memory { OnErr result (PairHasMapWith HasTwoPairs (members_view members.now)) }
+        IsTrue found ↔ PairHasMapWith HasEqualKeys (pairs_view pairs.now)) }
+    ensures memory { OnErr result (PairHasMapWith HasTwoPairs (pairs_view pairs.now)) }
 {
-    for member in members {
-        if repeats_within(&member.0)? || repeats_within(&member.1)? {
+    for pair in pairs {
+        if repeats_within(&pair.0)? || repeats_within(&pair.1)? {
             return Ok(true);
         }
     }
@@ -94,26 +94,26 @@ fn repeats_in_members(members: &[(Value, Value)]) -> Result<bool, AllocError>
 }
 
 /// Whether two of the pairs have equal keys.
-fn repeats_a_key(members: &Vec<(Value, Value)>) -> Result<bool, AllocError>
+fn repeats_a_key(pairs: &Vec<(Value, Value)>) -> Result<bool, AllocError>
     ensures answer { IfOk result (λ found.
-        IsTrue found ↔ HasEqualKeys (members_view members.now.items)) }
-    ensures memory { OnErr result (HasTwoPairs (members_view members.now.items)) }
+        IsTrue found ↔ HasEqualKeys (pairs_view pairs.now.items)) }
+    ensures memory { OnErr result (HasTwoPairs (pairs_view pairs.now.items)) }
 {
-    if members.len() < 2 {
+    if pairs.len() < 2 {
         return Ok(false);
     }
-    let mut keys = keys_of(members)?;
+    let mut keys = keys_of(pairs)?;
     keys.sort_unstable_by(|a, b| cmp_exactly(a, b));
     Ok(has_equal_neighbours(&keys))
 }
 
 /// The keys of the pairs, in their order.
-fn keys_of(members: &Vec<(Value, Value)>) -> Result<Vec<&Value>, AllocError>
-    ensures { IfOk result (λ keys. map seen keys.items ≡ map key_of members.now.items) }
+fn keys_of(pairs: &Vec<(Value, Value)>) -> Result<Vec<&Value>, AllocError>
+    ensures { IfOk result (λ keys. map item_behind keys.items ≡ map key_of pairs.now.items) }
 {
-    let mut keys = Vec::with_capacity(*members.allocator(), members.len())?;
-    for member in members {
-        keys.push(&member.0)?;
+    let mut keys = Vec::with_capacity(*pairs.allocator(), pairs.len())?;
+    for pair in pairs {
+        keys.push(&pair.0)?;
     }
     Ok(keys)
 }
@@ -121,7 +121,7 @@ fn keys_of(members: &Vec<(Value, Value)>) -> Result<Vec<&Value>, AllocError>
 /// Whether two keys in order that stand beside each other are equal.
 fn has_equal_neighbours(keys: &[&Value]) -> bool
     requires { IsSortedBy is_before keys.now }
-    ensures { IsTrue result ↔ Repeats (map seen keys.now) }
+    ensures { IsTrue result ↔ Repeats (map item_behind keys.now) }
 {
     for i in 1..keys.len() {
         if *keys[i - 1] == *keys[i] {

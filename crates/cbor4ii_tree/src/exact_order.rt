@@ -2,10 +2,10 @@
 //! by what stands in them.
 ghost use Rattle.std.specs.Prelude.{◌≡◌, length};
 ghost use Rattle.cbor4ii_items.specs.SequenceBytes.{items_bytes};
-ghost use Rattle.cbor4ii_tree.specs.ExactOrder.{parts_of, inner_numbers, value_numbers};
-ghost use Rattle.cbor4ii_tree.specs.ExactOrder.{member_numbers};
-ghost use Rattle.cbor4ii_tree.specs.Order.{Compares};
-ghost use Rattle.cbor4ii_tree.specs.View.{view, float_view};
+ghost use Rattle.cbor4ii_tree.specs.Calls.ExactOrder.{parts_of, inner_numbers, value_numbers};
+ghost use Rattle.cbor4ii_tree.specs.Calls.ExactOrder.{pair_numbers};
+ghost use Rattle.cbor4ii_tree.specs.Calls.Order.{Compares};
+ghost use Rattle.cbor4ii_tree.specs.Basis.View.{view, float_view};
 
 use crate::bignum::bignum_parts;
 use crate::order::{cmp_bytes, content_of, elements_of, pairs_of};
@@ -34,7 +34,7 @@ fn cmp_inside(a: &Value, b: &Value) -> Ordering
         Value::Bytes(content) => cmp_bytes(content, content_of(b)),
         Value::Text(text) => cmp_bytes(text.as_bytes(), content_of(b)),
         Value::Array(items) => cmp_items(items, elements_of(b)),
-        Value::Map(members) => cmp_members(members, pairs_of(b)),
+        Value::Map(pairs) => cmp_pairs(pairs, pairs_of(b)),
         Value::Tag(_, inner) => match b {
             Value::Tag(_, other) => cmp_exactly(inner, other),
             _ => Ordering::Equal,
@@ -60,10 +60,10 @@ fn cmp_items(a: &[Value], b: &[Value]) -> Ordering
 
 /// How as many keys and values compare.
 #[cycle(exact)]
-fn cmp_members(a: &[(Value, Value)], b: &[(Value, Value)]) -> Ordering
+fn cmp_pairs(a: &[(Value, Value)], b: &[(Value, Value)]) -> Ordering
     requires { length a.now ≡ length b.now }
     ensures { Compares result
-        (items_bytes member_numbers a.now) (items_bytes member_numbers b.now) }
+        (items_bytes pair_numbers a.now) (items_bytes pair_numbers b.now) }
 {
     for i in 0..a.len() {
         let (x, y) = (&a[i], &b[i]);
@@ -94,7 +94,7 @@ fn parts_of(value: &Value) -> (u8, u128)
         Value::Bytes(content) => (7, content.len() as u128),
         Value::Text(text) => (8, text.len() as u128),
         Value::Array(items) => (9, items.len() as u128),
-        Value::Map(members) => (10, members.len() as u128),
+        Value::Map(pairs) => (10, pairs.len() as u128),
         Value::Tag(number, _) => (11, *number as u128),
     }
 }

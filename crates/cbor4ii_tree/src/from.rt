@@ -1,7 +1,7 @@
 //! Values of what they hold.
 ghost use Rattle.std.specs.Prelude.{◌≡◌, pos, string_bytes};
-ghost use Rattle.cbor4ii_tree.specs.Item.{boolean, bytes_item, integer, text};
-ghost use Rattle.cbor4ii_tree.specs.View.{view, float_view};
+ghost use Rattle.cbor4ii_tree.specs.Basis.Item.{boolean, bytes_item, integer, text};
+ghost use Rattle.cbor4ii_tree.specs.Basis.View.{view, float_view};
 
 use crate::value::{FloatBits, Value};
 

@@ -1,8 +1,8 @@
 //! Values, hashed.
 ghost use Rattle.std.specs.Prelude.{◌≡◌, fold};
-ghost use Rattle.cbor4ii_tree.specs.Hashing.{hash_writes, inner_writes, items_writes};
-ghost use Rattle.cbor4ii_tree.specs.Hashing.{members_writes};
-ghost use Rattle.cbor4ii_tree.specs.View.{view, items_view, members_view};
+ghost use Rattle.cbor4ii_tree.specs.Calls.Hashing.{hash_writes, inner_writes, items_writes};
+ghost use Rattle.cbor4ii_tree.specs.Calls.Hashing.{pairs_writes};
+ghost use Rattle.cbor4ii_tree.specs.Basis.View.{view, items_view, pairs_view};
 
 use crate::order::head_of;
 use crate::value::Value;
@@ -11,7 +11,7 @@ use std::hash::{Hash, Hasher};
 /// Equal values hash equally. What is hashed is the head of a value's encoding, and then what
 /// stands in it, part by part.
 impl Hash for Value {
-    ghost use Rattle.cbor4ii_tree.specs.ItemEquality.{item_same};
+    ghost use Rattle.cbor4ii_tree.specs.Calls.ItemEquality.{item_same};
     ghost use Rattle.std.proofs.Common.{ap};
 
     ghost hash_input = { λ v. hash_writes (view v) };
@@ -45,7 +45,7 @@ fn hash_inside<H: Hasher>(value: &Value, state: &mut H)
         Value::Bytes(content) => state.write(content),
         Value::Text(text) => state.write(text.as_bytes()),
         Value::Array(items) => hash_items(items, state),
-        Value::Map(members) => hash_members(members, state),
+        Value::Map(pairs) => hash_pairs(pairs, state),
         Value::Tag(_, inner) => hash_value(inner, state),
     }
 }
@@ -60,11 +60,11 @@ fn hash_items<H: Hasher>(items: &[Value], state: &mut H)
 }
 
 #[cycle(hash)]
-fn hash_members<H: Hasher>(members: &[(Value, Value)], state: &mut H)
-    ensures { state.new ≡ fold H.write state.old (members_writes (members_view members.now)) }
+fn hash_pairs<H: Hasher>(pairs: &[(Value, Value)], state: &mut H)
+    ensures { state.new ≡ fold H.write state.old (pairs_writes (pairs_view pairs.now)) }
 {
-    for member in members {
-        hash_value(&member.0, state);
-        hash_value(&member.1, state);
+    for pair in pairs {
+        hash_value(&pair.0, state);
+        hash_value(&pair.1, state);
     }
 }

@@ -1,12 +1,13 @@
 //! Items that are skipped.
 ghost use Rattle.cbor4ii_items.specs.Decoding.{Decodes, leaf_format};
-ghost use Rattle.cbor4ii_tree.specs.Promises.{Others, OnlySkips, PrefixSkips, EofSkips};
-ghost use Rattle.cbor4ii_tree.specs.Headline.{AllSkips};
-ghost use Rattle.cbor4ii_tree.specs.Promises.{DepthSkips, FinalSkips, ExactSkips};
-ghost use Rattle.cbor4ii_tree.specs.Ignored.{ReadsIgnored, RejectsIgnored};
+ghost use Rattle.cbor4ii_tree.specs.Calls.Promises.{Others, OnlySkips, PrefixSkips, EofSkips};
+ghost use Rattle.cbor4ii_tree.specs.Basis.Headline.{AllSkips};
+ghost use Rattle.cbor4ii_tree.specs.Calls.Promises.{DepthSkips, FinalSkips, ExactSkips};
+ghost use Rattle.cbor4ii_tree.specs.Calls.Ignored.{ReadsIgnored};
+ghost use Rattle.cbor4ii_tree.specs.Calls.SkippingRejects.{SkippingRejects};
 ghost use Rattle.cbor4ii_tree.specs.Laws.Ignoring.{ignored_lawful};
 
-use crate::prefix::Own;
+use crate::bytes_ahead::Own;
 use crate::skip::items::skip_item;
 use cbor4ii_items::decode::{Decodable, Decode};
 use cbor4ii_rw::error::DecodeError;
@@ -19,7 +20,7 @@ pub struct IgnoredAny;
 
 /// One item is skipped, under a step for each level.
 impl Decodable for IgnoredAny {
-    ghost format = { leaf_format ReadsIgnored RejectsIgnored };
+    ghost format = { leaf_format ReadsIgnored SkippingRejects };
 
     fn is_never_empty() -> bool {
         true
@@ -50,7 +51,7 @@ impl Decodable for IgnoredAny {
 ///   `f7` and `f9` to `fb`, and no break where one may come
 impl<S: Source> Decode<S> for IgnoredAny {
     fn decode(alloc: Global, reader: &mut S) -> Result<IgnoredAny, DecodeError<S::Error>>
-        ensures decodes { Decodes (leaf_format ReadsIgnored RejectsIgnored)
+        ensures decodes { Decodes (leaf_format ReadsIgnored SkippingRejects)
             (S.view reader.old) (S.view reader.new) result }
         ensures only { OnlySkips (S.view reader.old) (S.view reader.new) result }
         ensures all { AllSkips (S.view reader.old) (S.view reader.new) result }

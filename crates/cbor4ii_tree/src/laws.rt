@@ -5,29 +5,34 @@ ghost use Rattle.std.specs.Prelude.{◌≡◌, ◌++◌, ◌≤◌, ◌<◌, ◌
 ghost use Rattle.std.specs.Prelude.{Err};
 ghost use Rattle.cbor4ii_rw.specs.Input.{limit};
 ghost use Rattle.cbor4ii_items.specs.Head.{IsBytes};
-ghost use Rattle.cbor4ii_tree.specs.Tree.{Tree, bytes, Loose, Plain, Joins};
-ghost use Rattle.cbor4ii_tree.specs.Item.{Item, IsItem, size};
-ghost use Rattle.cbor4ii_tree.specs.Meaning.{value};
+ghost use Rattle.cbor4ii_tree.specs.Basis.Tree.{Tree, bytes, Loose, Plain, Joins};
+ghost use Rattle.cbor4ii_tree.specs.Basis.Item.{Item, IsItem, size};
+ghost use Rattle.cbor4ii_tree.specs.Basis.Meaning.{value};
 ghost use Rattle.cbor4ii_items.specs.Budget.{CostFits};
 ghost use Rattle.cbor4ii_items.specs.Whole.{IsWhole};
 ghost use Rattle.cbor4ii_tree.specs.declared.decode_canonical.Canonical.{Canonical};
 ghost use Rattle.cbor4ii_tree.specs.declared.value.Value.{Value};
-ghost use Rattle.cbor4ii_tree.specs.Canonically.{canonical_format};
-ghost use Rattle.cbor4ii_tree.specs.Promises.{value_format};
-ghost use Rattle.cbor4ii_tree.specs.Cost.{Budget, skip_cost, cost};
-ghost use Rattle.cbor4ii_tree.specs.Canonical.{canonical_encoding, canonical_cost, with_bignums};
-ghost use Rattle.cbor4ii_tree.specs.InputError.{InputError, Len, eof, depth_overflow, IsFinal};
-ghost use Rattle.cbor4ii_tree.specs.InputError.{MayReject};
-ghost use Rattle.cbor4ii_tree.specs.Encodings.{Encodes, DecodesTo, Skips, SomeAnswer, AtMostOne};
-ghost use Rattle.cbor4ii_tree.specs.Encodings.{IsProperPrefix};
-ghost use Rattle.cbor4ii_tree.specs.CanonicalShape.{CanonicalShape, IsDecoded, EncodesCanonically};
-ghost use Rattle.cbor4ii_tree.specs.CanonicalShape.{DecodesCanonically};
-ghost use Rattle.cbor4ii_tree.specs.SkippingRejects.{SkippingRejects, SkippingRejectsByParts};
-ghost use Rattle.cbor4ii_tree.specs.ReadingRejects.{ReadingRejects, ReadingRejectsByParts};
-ghost use Rattle.cbor4ii_tree.specs.CanonicalRejects.{CanonicalRejects, CanonicalRejectsByParts};
-ghost use Rattle.cbor4ii_tree.specs.Skip.{skip};
-ghost use Rattle.cbor4ii_tree.specs.Read.{read};
-ghost use Rattle.cbor4ii_tree.specs.View.{view};
+ghost use Rattle.cbor4ii_tree.specs.Calls.Canonically.{canonical_format};
+ghost use Rattle.cbor4ii_tree.specs.Calls.Promises.{value_format};
+ghost use Rattle.cbor4ii_tree.specs.Basis.Cost.{Budget, skip_cost, cost};
+ghost use Rattle.cbor4ii_tree.specs.Basis.Canonical.{canonical_encoding, canonical_cost};
+ghost use Rattle.cbor4ii_tree.specs.Basis.Canonical.{with_bignums};
+ghost use Rattle.cbor4ii_tree.specs.Basis.InputError.{InputError, Len, eof, depth_overflow};
+ghost use Rattle.cbor4ii_tree.specs.Basis.InputError.{IsFinal};
+ghost use Rattle.cbor4ii_tree.specs.Basis.InputError.{MayReject};
+ghost use Rattle.cbor4ii_tree.specs.Basis.Encodings.{Encodes, DecodesTo, Skips, SomeAnswer};
+ghost use Rattle.cbor4ii_tree.specs.Basis.Encodings.{AtMostOne};
+ghost use Rattle.cbor4ii_tree.specs.Basis.Encodings.{IsProperPrefix};
+ghost use Rattle.cbor4ii_tree.specs.Calls.CanonicalShape.{CanonicalShape, IsDecoded};
+ghost use Rattle.cbor4ii_tree.specs.Calls.CanonicalShape.{EncodesCanonically};
+ghost use Rattle.cbor4ii_tree.specs.Calls.CanonicalShape.{DecodesCanonically};
+ghost use Rattle.cbor4ii_tree.specs.Calls.SkippingRejects.{SkippingRejects, SkippingRejectsByParts};
+ghost use Rattle.cbor4ii_tree.specs.Calls.ReadingRejects.{ReadingRejects, ReadingRejectsByParts};
+ghost use Rattle.cbor4ii_tree.specs.Calls.CanonicalRejects.{CanonicalRejects};
+ghost use Rattle.cbor4ii_tree.specs.Calls.CanonicalRejects.{CanonicalRejectsByParts};
+ghost use Rattle.cbor4ii_tree.specs.Calls.Skip.{skip};
+ghost use Rattle.cbor4ii_tree.specs.Calls.Read.{parse_value};
+ghost use Rattle.cbor4ii_tree.specs.Basis.View.{view};
 
 use crate::range::in_range;
 use crate::value::Value;
@@ -95,13 +100,14 @@ pub fn reading_has_one_answer()
     ensures some { (input : List ℕ) (budget : Budget) →
         IsBytes input → SomeAnswer (DecodesTo input budget) (ReadingRejects input budget) }
     ensures computes { (input : List ℕ) (budget : Budget) (v : Item) (rest : List ℕ) →
-        DecodesTo input budget v rest → read budget input ≡ Ok (v, rest) }
+        DecodesTo input budget v rest → parse_value budget input ≡ Ok (v, rest) }
     ensures computes_error { (input : List ℕ) (budget : Budget) (e : InputError) (rest : List ℕ) →
-        ReadingRejects input budget e rest → read budget input ≡ Err (e, rest) }
+        ReadingRejects input budget e rest → parse_value budget input ≡ Err (e, rest) }
     ensures means { (input : List ℕ) (budget : Budget) (v : Item) (rest : List ℕ) →
-        IsBytes input → read budget input ≡ Ok (v, rest) → DecodesTo input budget v rest }
+        IsBytes input → parse_value budget input ≡ Ok (v, rest) → DecodesTo input budget v rest }
     ensures means_error { (input : List ℕ) (budget : Budget) (e : InputError) (rest : List ℕ) →
-        IsBytes input → read budget input ≡ Err (e, rest) → ReadingRejects input budget e rest }
+        IsBytes input → parse_value budget input ≡ Err (e, rest) → ReadingRejects input budget e
+        rest }
 {}
 
 /// Where skipping or reading fails, a value or its canonical encoding alone, goes by where it fails

@@ -2,9 +2,9 @@
 //! (RFC 8949 section 3). Of what does not, the look hands on the first byte.
 ghost use Rattle.std.specs.Prelude.{◌≡◌, ◌∷◌, ◌/◌, ◌%◌, ◌⊎◌, IfOk, OnErr, IfSome, true};
 ghost use Rattle.cbor4ii_rw.specs.Reader.{ReaderFails};
-ghost use Rattle.cbor4ii_items.specs.Head.{ArgumentAfter, byte_count, shortest};
-ghost use Rattle.cbor4ii_tree.specs.Prefix.{Offers};
-ghost use Rattle.cbor4ii_tree.specs.Leaf.{ExactHead, SeesLeaf, SeesNext, TakesLeaf};
+ghost use Rattle.cbor4ii_items.specs.Head.{ArgumentAfter, byte_count, shortest_width};
+ghost use Rattle.cbor4ii_tree.specs.Inner.BytesAhead.{Offers};
+ghost use Rattle.cbor4ii_tree.specs.Inner.Leaf.{ExactHead, SeesLeaf, SeesNext, TakesLeaf};
 
 use crate::accepted::Encodings;
 use crate::simple::simple_of;
@@ -18,7 +18,7 @@ use cbor4ii_rw::read::Source;
 use std::alloc::Global;
 
 /// What the shown bytes begin with.
-pub(crate) enum Leaf {
+pub(crate) enum ValueSeen {
     /// A value that holds no other, in so many bytes.
     Whole(Value, usize),
     /// A string after a head of so many bytes, whose content has no memory.
@@ -48,7 +48,7 @@ pub(crate) struct Head {
 }
 
 /// What came of the look at a value.
-pub(crate) enum Looked {
+pub(crate) enum TakenOrNext {
     /// The value, which was taken.
     Taken(Value),
     /// Nothing that was taken: the value begins so.
@@ -63,24 +63,24 @@ pub(crate) fn take_leaf<S: Source, A: Encodings>(
     alloc: Global,
     reader: &mut S,
     failure: &mut Option<DecodeError<S::Error>>,
-) -> Option<Looked>
-    ensures { TakesLeaf A.exact (S.view reader.old) (S.view reader.new) result failure.new }
+) -> Option<TakenOrNext>
+    ensures { TakesLeaf A.canonical (S.view reader.old) (S.view reader.new) result failure.new }
 {
     match glance::<S, A>(alloc, reader) {
-        Ok(Leaf::Whole(value, size)) => {
+        Ok(ValueSeen::Whole(value, size)) => {
             reader.advance(size);
-            Some(Looked::Taken(value))
+            Some(TakenOrNext::Taken(value))
         }
-        Ok(Leaf::NoMemory(size)) => {
+        Ok(ValueSeen::NoMemory(size)) => {
             reader.advance(size);
             *failure = None;
             None
         }
-        Ok(Leaf::End) => {
+        Ok(ValueSeen::End) => {
             leave_end("value", failure);
             None
         }
-        Ok(Leaf::Begins(next)) => Some(Looked::Begins(next)),
+        Ok(ValueSeen::Begins(next)) => Some(TakenOrNext::Begins(next)),
         Err(error) => {
             leave(DecodeError::Read(error), failure);
             None
@@ -90,8 +90,8 @@ pub(crate) fn take_leaf<S: Source, A: Encodings>(
 
 /// What comes next, decided by one look at as many bytes as the reader lets a look ask for.
 #[inline(always)]
-fn glance<S: Source, A: Encodings>(alloc: Global, reader: &mut S) -> Result<Leaf, S::Error>
-    ensures offers { IfOk result (λ seen. Offers 1 (SeesLeaf (A.exact ≡ true) seen)
+fn glance<S: Source, A: Encodings>(alloc: Global, reader: &mut S) -> Result<ValueSeen, S::Error>
+    ensures offers { IfOk result (λ seen. Offers 1 (SeesLeaf (A.canonical ≡ true) seen)
         (S.view reader.old) (S.view reader.new)) }
     ensures breaks { OnErr result (ReaderFails (S.view reader.old) (S.view reader.new)) }
 {
@@ -105,16 +105,16 @@ fn glance<S: Source, A: Encodings>(alloc: Global, reader: &mut S) -> Result<Leaf
 
 /// What the shown bytes begin with.
 #[inline(always)]
-pub(crate) fn leaf_of<A: Encodings>(alloc: Global, shown: &[u8]) -> Leaf
-    ensures { SeesLeaf (A.exact ≡ true) result shown.now }
+pub(crate) fn leaf_of<A: Encodings>(alloc: Global, shown: &[u8]) -> ValueSeen
+    ensures { SeesLeaf (A.canonical ≡ true) result shown.now }
 {
     let [first, trailing @ ..] = shown else {
-        return Leaf::End;
+        return ValueSeen::End;
     };
     let first = *first;
     match argument_of::<A>(first, trailing) {
         Some((number, size)) => leaf_after(alloc, first, trailing, number, size),
-        None => Leaf::Begins(Next { first, head: None }),
+        None => ValueSeen::Begins(Next { first, head: None }),
     }
 }
 
@@ -123,7 +123,7 @@ pub(crate) fn leaf_of<A: Encodings>(alloc: Global, shown: &[u8]) -> Leaf
 /// `leaf_of`.
 #[inline(always)]
 pub(crate) fn undecided<A: Encodings>(first: u8, trailing: &[u8]) -> Option<Next>
-    ensures { IfSome result (λ n. SeesNext (A.exact ≡ true) n (first ∷ trailing.now)) }
+    ensures { IfSome result (λ n. SeesNext (A.canonical ≡ true) n (first ∷ trailing.now)) }
 {
     let Some((argument, size)) = argument_of::<A>(first, trailing) else {
         return Some(Next { first, head: None });
@@ -149,7 +149,7 @@ pub(crate) fn undecided<A: Encodings>(first: u8, trailing: &[u8]) -> Option<Next
 fn argument_of<A: Encodings>(first: u8, trailing: &[u8]) -> Option<(u64, usize)>
     ensures stands { IfSome result (λ found.
         ArgumentAfter (first % 32) trailing.now found.0 found.1) }
-    ensures exact { A.exact ≡ true → IfSome result (λ found. ExactHead first found.0 found.1) }
+    ensures exact { A.canonical ≡ true → IfSome result (λ found. ExactHead first found.0 found.1) }
 {
     let (number, size) = argument(first % 32, trailing)?;
     if !accepts::<A>(first, number, size) {
@@ -161,7 +161,7 @@ fn argument_of<A: Encodings>(first: u8, trailing: &[u8]) -> Option<(u64, usize)>
 /// Whether a head is one that the encodings have. A float has one width, so each is.
 #[inline(always)]
 fn accepts<A: Encodings>(first: u8, number: u64, size: usize) -> bool
-    ensures { result ≡ true → A.exact ≡ true → ExactHead first number size }
+    ensures { result ≡ true → A.canonical ≡ true → ExactHead first number size }
 {
     if first / 32 == major::SIMPLE {
         A::accepts_simple(first)
@@ -173,7 +173,7 @@ fn accepts<A: Encodings>(first: u8, number: u64, size: usize) -> bool
 /// In how many bytes after the first one the shortest head has this argument.
 #[inline(always)]
 pub(crate) fn least_size(number: u64) -> usize
-    ensures { result ≡ byte_count (shortest number) }
+    ensures { result ≡ byte_count (shortest_width number) }
 {
     if number < 24 {
         0
@@ -190,16 +190,16 @@ pub(crate) fn least_size(number: u64) -> usize
 
 /// The leaf that begins with this byte and argument, which has `size` of the bytes after it.
 #[inline(always)]
-fn leaf_after(alloc: Global, first: u8, trailing: &[u8], number: u64, size: usize) -> Leaf
+fn leaf_after(alloc: Global, first: u8, trailing: &[u8], number: u64, size: usize) -> ValueSeen
     requires { ArgumentAfter (first % 32) trailing.now number size }
     ensures { SeesLeaf (ExactHead first number size) result (first ∷ trailing.now) }
 {
     match first / 32 {
-        major::UNSIGNED => Leaf::Whole(Value::Integer(number as i128), 1 + size),
-        major::NEGATIVE => Leaf::Whole(Value::Integer(-1 - number as i128), 1 + size),
+        major::UNSIGNED => ValueSeen::Whole(Value::Integer(number as i128), 1 + size),
+        major::NEGATIVE => ValueSeen::Whole(Value::Integer(-1 - number as i128), 1 + size),
         major::BYTES | major::STRING => string_after(alloc, first, trailing, number, size),
         major::SIMPLE => simple_after(first, trailing, number, size),
-        _ => Leaf::Begins(Next {
+        _ => ValueSeen::Begins(Next {
             first,
             head: Some(Head {
                 argument: number,
@@ -211,46 +211,46 @@ fn leaf_after(alloc: Global, first: u8, trailing: &[u8], number: u64, size: usiz
 
 /// The leaf that begins with this byte of major type 7.
 #[inline(always)]
-fn simple_after(first: u8, trailing: &[u8], number: u64, size: usize) -> Leaf
+fn simple_after(first: u8, trailing: &[u8], number: u64, size: usize) -> ValueSeen
     requires argument { ArgumentAfter (first % 32) trailing.now number size }
     requires major { first / 32 ≡ 7 }
     ensures { SeesLeaf (ExactHead first number size) result (first ∷ trailing.now) }
 {
     match first {
-        marker::F16 => Leaf::Whole(Value::Float(FloatBits::F16(number as u16)), 3),
-        marker::F32 => Leaf::Whole(Value::Float(FloatBits::F32(number as u32)), 5),
-        marker::F64 => Leaf::Whole(Value::Float(FloatBits::F64(number)), 9),
+        marker::F16 => ValueSeen::Whole(Value::Float(FloatBits::F16(number as u16)), 3),
+        marker::F32 => ValueSeen::Whole(Value::Float(FloatBits::F32(number as u32)), 5),
+        marker::F64 => ValueSeen::Whole(Value::Float(FloatBits::F64(number)), 9),
         _ => match simple_of(first) {
-            Some(value) => Leaf::Whole(value, 1),
-            None => Leaf::Begins(Next { first, head: None }),
+            Some(value) => ValueSeen::Whole(value, 1),
+            None => ValueSeen::Begins(Next { first, head: None }),
         },
     }
 }
 
 /// The string that begins with this byte, whose argument is the length of its content.
 #[inline(always)]
-fn string_after(alloc: Global, first: u8, trailing: &[u8], number: u64, size: usize) -> Leaf
+fn string_after(alloc: Global, first: u8, trailing: &[u8], number: u64, size: usize) -> ValueSeen
     requires argument { ArgumentAfter (first % 32) trailing.now number size }
     requires major { (first / 32 ≡ 2) ⊎ (first / 32 ≡ 3) }
     ensures { SeesLeaf (ExactHead first number size) result (first ∷ trailing.now) }
 {
     let rest = &trailing[size..];
     if number > rest.len() as u64 {
-        return Leaf::Begins(Next { first, head: None });
+        return ValueSeen::Begins(Next { first, head: None });
     }
     let count = number as usize;
     let content = &rest[..count];
     if first / 32 == major::BYTES {
         return match Vec::from_slice(alloc, content) {
-            Ok(bytes) => Leaf::Whole(Value::Bytes(bytes), 1 + size + count),
-            Err(_) => Leaf::NoMemory(1 + size),
+            Ok(bytes) => ValueSeen::Whole(Value::Bytes(bytes), 1 + size + count),
+            Err(_) => ValueSeen::NoMemory(1 + size),
         };
     }
     let Ok(text) = str::from_utf8(content) else {
-        return Leaf::Begins(Next { first, head: None });
+        return ValueSeen::Begins(Next { first, head: None });
     };
     match String::from_str(alloc, text) {
-        Ok(text) => Leaf::Whole(Value::Text(text), 1 + size + count),
-        Err(_) => Leaf::NoMemory(1 + size),
+        Ok(text) => ValueSeen::Whole(Value::Text(text), 1 + size + count),
+        Err(_) => ValueSeen::NoMemory(1 + size),
     }
 }

@@ -3,12 +3,12 @@ ghost use Rattle.std.specs.Prelude.{◌≡◌, ◌≤◌, ℕ, List, length, tak
 ghost use Rattle.std.specs.Prelude.{IfErr};
 ghost use Rattle.cbor4ii_rw.specs.Long.{FillsLong};
 ghost use Rattle.cbor4ii_rw.specs.Reader.{KeepsAllButBudget};
-ghost use Rattle.cbor4ii_tree.specs.Raw.{raw_format, Unmoved, RejectsOnPrefix};
-ghost use Rattle.cbor4ii_tree.specs.Raw.{TakesItem, RejectsAsSkipping, LacksPrefix, most};
-ghost use Rattle.cbor4ii_tree.specs.Raw.{SkipsPrefix, RejectsPrefix, Captures};
+ghost use Rattle.cbor4ii_tree.specs.Calls.Raw.{raw_format, Unmoved, RejectsOnPrefix};
+ghost use Rattle.cbor4ii_tree.specs.Calls.Raw.{TakesItem, RejectsAsSkipping, LacksPrefix, most};
+ghost use Rattle.cbor4ii_tree.specs.Calls.Raw.{SkipsPrefix, RejectsPrefix, Captures};
 ghost use Rattle.cbor4ii_items.specs.Decoding.{IsExact, Decodes};
 
-use crate::prefix::Lent;
+use crate::bytes_ahead::Lent;
 use crate::skip::items::skip_item;
 use cbor4ii_rw::error::DecodeError;
 use cbor4ii_rw::read::Source;

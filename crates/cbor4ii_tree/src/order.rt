@@ -3,16 +3,17 @@
 ghost use Rattle.std.specs.Prelude.{◌≡◌, ◌<◌, length};
 ghost use Rattle.std.specs.Ordering.{nat_cmp};
 ghost use Rattle.std.specs.Cmp.Lexicographic.{slice_cmp};
-ghost use Rattle.cbor4ii_items.specs.Head.{additional, shortest};
+ghost use Rattle.cbor4ii_items.specs.Head.{additional, shortest_width};
 ghost use Rattle.cbor4ii_items.specs.Magnitude.{magnitude};
 ghost use Rattle.cbor4ii_items.specs.Numbers.{definite_string};
 ghost use Rattle.cbor4ii_items.specs.SequenceBytes.{items_bytes};
-ghost use Rattle.cbor4ii_tree.specs.Canonical.{canonical_encoding};
-ghost use Rattle.cbor4ii_tree.specs.Encoding.{value_bytes, member_bytes};
-ghost use Rattle.cbor4ii_tree.specs.Item.{integer};
-ghost use Rattle.cbor4ii_tree.specs.Order.{Compares, shortest_parts, head_of, HasHead};
-ghost use Rattle.cbor4ii_tree.specs.Order.{after_head, major_of, content_of, elements_of, pairs_of};
-ghost use Rattle.cbor4ii_tree.specs.View.{view, items_view, members_view, float_view};
+ghost use Rattle.cbor4ii_tree.specs.Basis.Canonical.{canonical_encoding};
+ghost use Rattle.cbor4ii_tree.specs.Calls.Encoding.{value_bytes, value_pair_bytes};
+ghost use Rattle.cbor4ii_tree.specs.Basis.Item.{integer};
+ghost use Rattle.cbor4ii_tree.specs.Calls.Order.{Compares, shortest_parts, head_of, HasHead};
+ghost use Rattle.cbor4ii_tree.specs.Calls.Order.{after_head, major_of, content_of, elements_of};
+ghost use Rattle.cbor4ii_tree.specs.Calls.Order.{pairs_of};
+ghost use Rattle.cbor4ii_tree.specs.Basis.View.{view, items_view, pairs_view, float_view};
 
 use crate::bignum::bignum_parts;
 use crate::value::{FloatBits, Value};
@@ -64,7 +65,7 @@ fn cmp_after_heads(a: &Value, b: &Value) -> Ordering
         Value::Bytes(content) => cmp_bytes(content, content_of(b)),
         Value::Text(text) => cmp_bytes(text.as_bytes(), content_of(b)),
         Value::Array(items) => cmp_items(items, elements_of(b)),
-        Value::Map(members) => cmp_members(members, pairs_of(b)),
+        Value::Map(pairs) => cmp_pairs(pairs, pairs_of(b)),
         Value::Tag(_, inner) => cmp_tagged(inner, b),
     }
 }
@@ -94,9 +95,10 @@ fn cmp_items(a: &[Value], b: &[Value]) -> Ordering
 
 /// How those of as many keys and values compare.
 #[cycle(order)]
-fn cmp_members(a: &[(Value, Value)], b: &[(Value, Value)]) -> Ordering
+fn cmp_pairs(a: &[(Value, Value)], b: &[(Value, Value)]) -> Ordering
     requires { length a.now ≡ length b.now }
-    ensures { Compares result (items_bytes member_bytes a.now) (items_bytes member_bytes b.now) }
+    ensures { Compares result (items_bytes value_pair_bytes a.now) (items_bytes value_pair_bytes
+        b.now) }
 {
     for i in 0..a.len() {
         let (x, y) = (&a[i], &b[i]);
@@ -191,7 +193,7 @@ pub(crate) fn head_of(value: &Value) -> (u8, u64)
         Value::Bytes(content) => shortest_parts(major::BYTES, content.len() as u64),
         Value::Text(text) => shortest_parts(major::STRING, text.len() as u64),
         Value::Array(items) => shortest_parts(major::ARRAY, items.len() as u64),
-        Value::Map(members) => shortest_parts(major::MAP, members.len() as u64),
+        Value::Map(pairs) => shortest_parts(major::MAP, pairs.len() as u64),
         Value::Tag(number, _) => shortest_parts(major::TAG, *number),
     }
 }
@@ -234,7 +236,7 @@ fn shortest_parts(major: u8, argument: u64) -> (u8, u64)
 
 /// The additional information of the shortest head with this argument (RFC 8949 section 3).
 fn additional(argument: u64) -> u8
-    ensures value { result ≡ additional (shortest argument) argument }
+    ensures value { result ≡ additional (shortest_width argument) argument }
     ensures below { result < 28 }
 {
     if argument < 24 {
@@ -273,10 +275,10 @@ pub(crate) fn elements_of(value: &Value) -> &[Value]
 
 /// The pairs of a map; none of any other kind of value.
 pub(crate) fn pairs_of(value: &Value) -> &[(Value, Value)]
-    ensures { members_view result.now ≡ pairs_of (view value.now) }
+    ensures { pairs_view result.now ≡ pairs_of (view value.now) }
 {
     match value {
-        Value::Map(members) => members,
+        Value::Map(pairs) => pairs,
         _ => &[],
     }
 }

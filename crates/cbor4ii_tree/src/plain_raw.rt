@@ -3,8 +3,8 @@ ghost use Rattle.std.specs.Prelude.{◌≡◌, true};
 ghost use Rattle.cbor4ii_items.specs.Whole.{DecodesWhole};
 ghost use Rattle.cbor4ii_items.specs.Writing.{WritesAtomically};
 ghost use Rattle.cbor4ii_tree.specs.Laws.Capturing.{plain_raw_lawful};
-ghost use Rattle.cbor4ii_tree.specs.PlainRaw.{plain_raw_content, plain_raw_format};
-ghost use Rattle.cbor4ii_tree.specs.Raw.{raw_content};
+ghost use Rattle.cbor4ii_tree.specs.Calls.PlainRaw.{plain_raw_content, plain_raw_format};
+ghost use Rattle.cbor4ii_tree.specs.Calls.Raw.{raw_content};
 
 use crate::raw::RawValue;
 use crate::value::Value;

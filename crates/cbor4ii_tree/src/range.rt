@@ -1,6 +1,6 @@
 //! That values of the program are in range, by a walk that reads each part.
-ghost use Rattle.cbor4ii_tree.specs.Item.{IsItem, AreItems, AreMembers};
-ghost use Rattle.cbor4ii_tree.specs.View.{view, items_view, members_view, float_view};
+ghost use Rattle.cbor4ii_tree.specs.Basis.Item.{IsItem, AreItems, AreItemPairs};
+ghost use Rattle.cbor4ii_tree.specs.Basis.View.{view, items_view, pairs_view, float_view};
 
 use crate::value::{FloatBits, Value};
 
@@ -22,7 +22,7 @@ pub(crate) fn in_range(value: &Value)
             let _text = content.as_str();
         }
         Value::Array(items) => items_in_range(items),
-        Value::Map(members) => members_in_range(members),
+        Value::Map(pairs) => pairs_in_range(pairs),
         Value::Tag(number, inner) => {
             let _number = *number;
             in_range(inner);
@@ -50,11 +50,11 @@ fn items_in_range(items: &[Value])
 }
 
 #[cycle(range)]
-fn members_in_range(members: &[(Value, Value)])
-    ensures { AreMembers (members_view members.now) }
+fn pairs_in_range(pairs: &[(Value, Value)])
+    ensures { AreItemPairs (pairs_view pairs.now) }
 {
-    for member in members {
-        in_range(&member.0);
-        in_range(&member.1);
+    for pair in pairs {
+        in_range(&pair.0);
+        in_range(&pair.1);
     }
 }

@@ -3,10 +3,10 @@ ghost use Rattle.std.specs.Prelude.{◌≡◌, true, false, IfOk, IfErr};
 ghost use Rattle.cbor4ii_items.specs.Writing.{WritesAtomically};
 ghost use Rattle.cbor4ii_items.specs.Decoding.{IsExact, Decodes};
 ghost use Rattle.cbor4ii_items.specs.Whole.{DecodesWhole};
-ghost use Rattle.cbor4ii_tree.specs.Promises.{value_format};
-ghost use Rattle.cbor4ii_tree.specs.Raw.{raw_content, raw_format, Unmoved, RejectsOnPrefix};
-ghost use Rattle.cbor4ii_tree.specs.Raw.{TakesItem};
-ghost use Rattle.cbor4ii_tree.specs.Raw.{RejectsAsSkipping};
+ghost use Rattle.cbor4ii_tree.specs.Calls.Promises.{value_format};
+ghost use Rattle.cbor4ii_tree.specs.Calls.Raw.{raw_content, raw_format, Unmoved, RejectsOnPrefix};
+ghost use Rattle.cbor4ii_tree.specs.Calls.Raw.{TakesItem};
+ghost use Rattle.cbor4ii_tree.specs.Calls.Raw.{RejectsAsSkipping};
 ghost use Rattle.cbor4ii_tree.specs.Laws.Capturing.{raw_lawful};
 
 use crate::lend_raw::{LendRaw, NoPrefix, capture, take_raw};

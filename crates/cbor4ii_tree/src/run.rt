@@ -3,12 +3,12 @@
 ghost use Rattle.std.specs.Prelude.{◌≡◌, ◌<◌, ◌≤◌, ◌*◌, ◌++◌, ◌∷◌, [], ℕ, List, length, true};
 ghost use Rattle.std.specs.Prelude.{false, OnSome, IfNone, IfOk, OnErr, None};
 ghost use Rattle.cbor4ii_rw.specs.Reader.{ReaderFails};
-ghost use Rattle.cbor4ii_tree.specs.Prefix.{Offers};
-ghost use Rattle.cbor4ii_tree.specs.LeafRuns.{flat, PutsRun, TakesRun};
+ghost use Rattle.cbor4ii_tree.specs.Inner.BytesAhead.{Offers};
+ghost use Rattle.cbor4ii_tree.specs.Inner.LeafRuns.{pair_values, PutsRun, TakesRun};
 ghost use Rattle.cbor4ii_tree.specs.declared.value.Value.{Value};
 
 use crate::accepted::Encodings;
-use crate::leaf::{Leaf, Next, leaf_of, undecided};
+use crate::leaf::{Next, ValueSeen, leaf_of, undecided};
 use crate::slot::{leave, leave_end};
 use crate::value::Value;
 use cbor4ii_rw::ask::look;
@@ -17,7 +17,7 @@ use cbor4ii_rw::read::Source;
 use std::alloc::Global;
 
 /// What one look has for a run.
-pub(crate) enum Ran {
+pub(crate) enum RunSeen {
     /// Values, in so many bytes.
     Whole(usize),
     /// One that is not decided here, after values in so many bytes.
@@ -68,19 +68,19 @@ impl Parts for Vec<Value> {
 /// The pairs of a map that is read: those that are whole, and a key whose value is to come.
 #[derive(Drop)]
 pub(crate) struct Pairs {
-    pub(crate) members: Vec<(Value, Value)>,
+    pub(crate) pairs: Vec<(Value, Value)>,
     pub(crate) key: Option<Value>,
 }
 
 /// Pairs: a part is a key, and the value after it.
 impl Parts for Pairs {
-    ghost flat = { flat };
+    ghost flat = { pair_values };
 
     ghost width = { 2 };
 
     #[inline(always)]
     fn lacks(&self, most: usize) -> bool {
-        self.members.len() < most
+        self.pairs.len() < most
     }
 
     #[inline(always)]
@@ -90,7 +90,7 @@ impl Parts for Pairs {
             return Some(());
         }
         let key = self.key.take().unwrap();
-        push(&mut self.members, (key, value))
+        push(&mut self.pairs, (key, value))
     }
 }
 
@@ -135,25 +135,25 @@ pub(crate) fn take_run<S: Source, A: Encodings, P: Parts>(
     failure: &mut Option<DecodeError<S::Error>>,
 ) -> Option<Option<Next>>
     requires { length (P.flat parts.old) < P.width * most }
-    ensures { TakesRun A.exact (P.width * most) (P.flat parts.old) (P.flat parts.new)
+    ensures { TakesRun A.canonical (P.width * most) (P.flat parts.old) (P.flat parts.new)
         (S.view reader.old) (S.view reader.new) result failure.new }
 {
     match glance_run::<S, A, P>(alloc, reader, most, parts) {
-        Ok(Ran::Whole(size)) => {
+        Ok(RunSeen::Whole(size)) => {
             reader.advance(size);
             Some(None)
         }
-        Ok(Ran::Before(next, size)) => {
+        Ok(RunSeen::Before(next, size)) => {
             reader.advance(size);
             Some(Some(next))
         }
-        Ok(Ran::Begins(next)) => Some(Some(next)),
-        Ok(Ran::NoMemory(size)) => {
+        Ok(RunSeen::Begins(next)) => Some(Some(next)),
+        Ok(RunSeen::NoMemory(size)) => {
             reader.advance(size);
             *failure = None;
             None
         }
-        Ok(Ran::End) => {
+        Ok(RunSeen::End) => {
             leave_end("value", failure);
             None
         }
@@ -172,10 +172,10 @@ fn glance_run<S: Source, A: Encodings, P: Parts>(
     reader: &mut S,
     most: usize,
     parts: &mut P,
-) -> Result<Ran, S::Error>
+) -> Result<RunSeen, S::Error>
     requires { length (P.flat parts.old) < P.width * most }
     ensures offers { IfOk result (λ ran. Offers 1
-        (PutsRun (A.exact ≡ true) (P.width * most) (P.flat parts.old) (P.flat parts.new) ran)
+        (PutsRun (A.canonical ≡ true) (P.width * most) (P.flat parts.old) (P.flat parts.new) ran)
         (S.view reader.old) (S.view reader.new)) }
     ensures breaks { OnErr result (ReaderFails (S.view reader.old) (S.view reader.new)) }
 {
@@ -189,16 +189,21 @@ fn glance_run<S: Source, A: Encodings, P: Parts>(
 
 /// Puts the values at the beginning of the shown bytes after `parts`.
 #[inline(always)]
-fn run_of<A: Encodings, P: Parts>(alloc: Global, shown: &[u8], most: usize, parts: &mut P) -> Ran
+fn run_of<A: Encodings, P: Parts>(
+    alloc: Global,
+    shown: &[u8],
+    most: usize,
+    parts: &mut P,
+) -> RunSeen
     requires { length (P.flat parts.old) < P.width * most }
-    ensures { PutsRun (A.exact ≡ true) (P.width * most) (P.flat parts.old) (P.flat parts.new)
+    ensures { PutsRun (A.canonical ≡ true) (P.width * most) (P.flat parts.old) (P.flat parts.new)
         result shown.now }
 {
     let [first, trailing @ ..] = shown else {
-        return Ran::End;
+        return RunSeen::End;
     };
     match undecided::<A>(*first, trailing) {
-        Some(next) => Ran::Begins(next),
+        Some(next) => RunSeen::Begins(next),
         None => put_run::<A, P>(alloc, shown, most, parts),
     }
 }
@@ -206,26 +211,31 @@ fn run_of<A: Encodings, P: Parts>(alloc: Global, shown: &[u8], most: usize, part
 /// Puts the values at the beginning of the shown bytes, of which there is one, after `parts`. It
 /// stays out of line, so that each level of arrays and maps takes little stack.
 #[inline(never)]
-fn put_run<A: Encodings, P: Parts>(alloc: Global, shown: &[u8], most: usize, parts: &mut P) -> Ran
+fn put_run<A: Encodings, P: Parts>(
+    alloc: Global,
+    shown: &[u8],
+    most: usize,
+    parts: &mut P,
+) -> RunSeen
     requires some { 1 ≤ length shown.now }
     requires lacks { length (P.flat parts.old) < P.width * most }
-    ensures { PutsRun (A.exact ≡ true) (P.width * most) (P.flat parts.old) (P.flat parts.new)
+    ensures { PutsRun (A.canonical ≡ true) (P.width * most) (P.flat parts.old) (P.flat parts.new)
         result shown.now }
 {
     let mut size = 0;
     while parts.lacks(most) {
         match leaf_of::<A>(alloc, &shown[size..]) {
-            Leaf::Whole(value, bytes) => {
+            ValueSeen::Whole(value, bytes) => {
                 size += bytes;
                 if parts.put(value).is_none() {
-                    return Ran::NoMemory(size);
+                    return RunSeen::NoMemory(size);
                 }
             }
-            Leaf::NoMemory(bytes) => return Ran::NoMemory(size + bytes),
-            Leaf::End => return Ran::Whole(size),
-            Leaf::Begins(next) if size == 0 => return Ran::Begins(next),
-            Leaf::Begins(next) => return Ran::Before(next, size),
+            ValueSeen::NoMemory(bytes) => return RunSeen::NoMemory(size + bytes),
+            ValueSeen::End => return RunSeen::Whole(size),
+            ValueSeen::Begins(next) if size == 0 => return RunSeen::Begins(next),
+            ValueSeen::Begins(next) => return RunSeen::Before(next, size),
         }
     }
-    Ran::Whole(size)
+    RunSeen::Whole(size)
 }

@@ -1,9 +1,9 @@
 //! Simple values and floats, which `Value` and `Canonical` read alike (RFC 8949 section 3.3).
 ghost use Rattle.std.specs.Prelude.{◌+◌, ◌≤◌, Bool, OnOk, IfOk};
-ghost use Rattle.cbor4ii_tree.specs.Does.{DoesUnder, Never, WantsOnly};
-ghost use Rattle.cbor4ii_tree.specs.Item.{IsItem};
-ghost use Rattle.cbor4ii_tree.specs.Valuing.{ReadsUnder, RejectsFirst, SimpleOf, IsNoSimple};
-ghost use Rattle.cbor4ii_tree.specs.View.{view};
+ghost use Rattle.cbor4ii_tree.specs.Inner.Does.{DoesUnder, Never, WantsOnly};
+ghost use Rattle.cbor4ii_tree.specs.Basis.Item.{IsItem};
+ghost use Rattle.cbor4ii_tree.specs.Inner.Valuing.{ReadsUnder, RejectsFirst, SimpleOf, IsNoSimple};
+ghost use Rattle.cbor4ii_tree.specs.Basis.View.{view};
 
 use crate::value::{FloatBits, Value};
 use cbor4ii_items::decode::Decode;
@@ -36,7 +36,8 @@ pub(crate) fn read_float<S: Source>(
 ) -> Result<Value, DecodeError<S::Error>>
     requires major { 224 ≤ first }
     requires other { IsNoSimple first }
-    ensures does { (exact : Bool) → DoesUnder (ReadsUnder exact) (RejectsFirst exact first)
+    ensures does { (canonical : Bool) → DoesUnder (ReadsUnder canonical)
+        (RejectsFirst canonical first)
         (S.view reader.old) (S.view reader.new) result }
     ensures memory { WantsOnly Never (S.view reader.old) (S.view reader.new) result }
     ensures item { IfOk result (λ v. IsItem (view v)) }

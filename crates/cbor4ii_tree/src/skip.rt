@@ -5,4 +5,4 @@ pub(crate) mod items;
 mod next;
 mod step;
 
-pub(crate) use initial::{Additional, After, Start, members_of, parse_info, start_of};
+pub(crate) use initial::{Additional, After, Start, pairs_of, parse_info, start_of};

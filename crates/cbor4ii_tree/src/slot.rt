@@ -6,7 +6,7 @@ ghost use Rattle.std.specs.Prelude.{◌≡◌, ◌∷◌, ◌++◌, [], Some, No
 ghost use Rattle.cbor4ii_rw.specs.declared.error.DecodeError.TheVariants.{DepthOverflow, Eof};
 ghost use Rattle.cbor4ii_rw.specs.declared.error.DecodeError.TheVariants.{NotCanonical};
 ghost use Rattle.cbor4ii_rw.specs.declared.error.Len.TheVariants.{Small};
-ghost use Rattle.cbor4ii_tree.specs.Does.{answered, error_left};
+ghost use Rattle.cbor4ii_tree.specs.Inner.Does.{value_or_error, error_left};
 
 use cbor4ii_rw::error::{DecodeError, Len, StaticStr};
 
@@ -16,7 +16,7 @@ pub(crate) fn part<T, E: Drop>(
     answer: Result<T, DecodeError<E>>,
     failure: &mut Option<DecodeError<E>>,
 ) -> Option<T>
-    ensures { answer ≡ answered result failure.new }
+    ensures { answer ≡ value_or_error result failure.new }
 {
     match answer {
         Ok(value) => Some(value),
@@ -72,7 +72,7 @@ pub(crate) fn whole<T: Drop, E: Drop>(
     value: Option<T>,
     failure: &mut Option<DecodeError<E>>,
 ) -> Result<T, DecodeError<E>>
-    ensures { result ≡ answered value failure.old }
+    ensures { result ≡ value_or_error value failure.old }
 {
     match value {
         Some(value) => Ok(value),

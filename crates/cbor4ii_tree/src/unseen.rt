@@ -3,24 +3,25 @@
 ghost use Rattle.std.specs.Prelude.{◌≡◌, ◌+◌, ◌≤◌, ◌<◌, ◌%◌, OnOk, IfOk, IsTrue, codes};
 ghost use Rattle.cbor4ii_rw.specs.Reader.{Advances};
 ghost use Rattle.cbor4ii_items.specs.Initial.{info_of};
-ghost use Rattle.cbor4ii_tree.specs.Does.{Does, Spares};
-ghost use Rattle.cbor4ii_tree.specs.Skipping.{RejectsSkippingUnder, Leads, TakesFirst, Says};
-ghost use Rattle.cbor4ii_tree.specs.Skipping.{rejection_of, head_name, trailing_of};
-ghost use Rattle.cbor4ii_tree.specs.Ahead.{IsIndefinite, EndsOrNot, RejectsAtEnd};
-ghost use Rattle.cbor4ii_tree.specs.HeadParts.{ArgumentBy, CutBy, DropsBytes, DropsSome};
-ghost use Rattle.cbor4ii_tree.specs.HeadParts.{NoByte, TakesByte, TakesNumber};
-ghost use Rattle.cbor4ii_tree.specs.Prefix.{Peeks};
-ghost use Rattle.cbor4ii_tree.specs.Rejections.{Missing, MissingAll};
+ghost use Rattle.cbor4ii_tree.specs.Inner.Does.{Does, Spares};
+ghost use Rattle.cbor4ii_tree.specs.Inner.Skipping.{RejectsSkippingUnder, HeadLeads, TakesFirst};
+ghost use Rattle.cbor4ii_tree.specs.Inner.Skipping.{SaysError};
+ghost use Rattle.cbor4ii_tree.specs.Inner.Skipping.{rejection_of, head_name, trailing_of};
+ghost use Rattle.cbor4ii_tree.specs.Inner.Ahead.{IsIndefinite, EndsOrNot, RejectsAtEnd};
+ghost use Rattle.cbor4ii_tree.specs.Inner.HeadParts.{ArgumentBy, CutBy, DropsBytes, DropsSome};
+ghost use Rattle.cbor4ii_tree.specs.Inner.HeadParts.{NoByte, TakesByte, TakesNumber};
+ghost use Rattle.cbor4ii_tree.specs.Inner.BytesAhead.{Peeks};
+ghost use Rattle.cbor4ii_tree.specs.Calls.Rejections.{Missing, MissingAll};
 
 use crate::ahead::Among;
-use crate::prefix::Prefix;
-use crate::skip::{Additional, After, Start, members_of, parse_info, start_of};
+use crate::bytes_ahead::BytesAhead;
+use crate::skip::{Additional, After, Start, pairs_of, parse_info, start_of};
 use cbor4ii_items::marker;
 use cbor4ii_rw::error::{DecodeError, Len, StaticStr};
 use cbor4ii_rw::read::Source;
 
 /// Takes a break where one may come.
-pub(crate) fn ends<S: Source, F: Prefix<S>>(
+pub(crate) fn ends<S: Source, F: BytesAhead<S>>(
     prefix: &mut F,
     reader: &mut S,
     among: Among,
@@ -43,11 +44,11 @@ pub(crate) fn ends<S: Source, F: Prefix<S>>(
 }
 
 /// Takes the head of an item, with a number's bytes or a float's, byte by byte.
-pub(crate) fn skip_head<S: Source, F: Prefix<S>>(
+pub(crate) fn skip_head<S: Source, F: BytesAhead<S>>(
     prefix: &mut F,
     reader: &mut S,
 ) -> Result<After, DecodeError<S::Error>>
-    ensures does { Does (Leads (F.view prefix.old reader.old).budget)
+    ensures does { Does (HeadLeads (F.view prefix.old reader.old).budget)
         (RejectsSkippingUnder (F.view prefix.old reader.old).budget)
         (F.view prefix.old reader.old) (F.view prefix.new reader.new) result }
     ensures spares { Spares result }
@@ -70,7 +71,7 @@ pub(crate) fn skip_head<S: Source, F: Prefix<S>>(
 }
 
 /// Takes the first byte, where it is taken with what begins so.
-fn take_first<S: Source, F: Prefix<S>>(prefix: &mut F, reader: &mut S, start: Start)
+fn take_first<S: Source, F: BytesAhead<S>>(prefix: &mut F, reader: &mut S, start: Start)
     requires { 1 ≤ (F.view prefix.old reader.old).advanceable }
     ensures takes { TakesFirst start →
         Advances 1 (F.view prefix.old reader.old) (F.view prefix.new reader.new) }
@@ -87,7 +88,7 @@ fn take_first<S: Source, F: Prefix<S>>(prefix: &mut F, reader: &mut S, start: St
 
 /// The error of a first byte with which no item begins.
 fn rejection<E>(start: Start, first: u8) -> Option<DecodeError<E>>
-    ensures { Says (rejection_of start first) result }
+    ensures { SaysError (rejection_of start first) result }
 {
     match start {
         Start::Stays | Start::Taken => Some(DecodeError::Mismatch {
@@ -123,16 +124,16 @@ fn trailing(start: Start, argument: u64) -> After
     match start {
         Start::Content => After::Bytes(argument),
         Start::Items => After::Items(argument),
-        Start::Members => members_of(argument),
+        Start::Pairs => pairs_of(argument),
         Start::Tag => After::Items(1),
         Start::Indefinite => After::Indefinite,
-        Start::IndefiniteMembers => After::IndefiniteMembers,
+        Start::PairsToBreak => After::PairsToBreak,
         _ => After::Nothing,
     }
 }
 
 /// The argument of a head whose first byte, which was taken, is `first`; 0 where it has none.
-fn argument<S: Source, F: Prefix<S>>(
+fn argument<S: Source, F: BytesAhead<S>>(
     prefix: &mut F,
     reader: &mut S,
     name: StaticStr,
@@ -152,7 +153,7 @@ fn argument<S: Source, F: Prefix<S>>(
 }
 
 /// So many bytes, most significant first.
-fn number<S: Source, F: Prefix<S>>(
+fn number<S: Source, F: BytesAhead<S>>(
     prefix: &mut F,
     reader: &mut S,
     name: StaticStr,
@@ -173,7 +174,7 @@ fn number<S: Source, F: Prefix<S>>(
 }
 
 /// The next byte, taken. Where there is none, `expect` bytes were expected.
-fn take_byte<S: Source, F: Prefix<S>>(
+fn take_byte<S: Source, F: BytesAhead<S>>(
     prefix: &mut F,
     reader: &mut S,
     name: StaticStr,
@@ -191,7 +192,7 @@ fn take_byte<S: Source, F: Prefix<S>>(
 }
 
 /// The next byte, which stays. Where there is none, `expect` bytes were expected.
-fn peek<S: Source, F: Prefix<S>>(
+fn peek<S: Source, F: BytesAhead<S>>(
     prefix: &mut F,
     reader: &mut S,
     name: StaticStr,
@@ -214,7 +215,7 @@ fn peek<S: Source, F: Prefix<S>>(
 }
 
 /// Takes so many bytes.
-pub(crate) fn skip_bytes<S: Source, F: Prefix<S>>(
+pub(crate) fn skip_bytes<S: Source, F: BytesAhead<S>>(
     prefix: &mut F,
     reader: &mut S,
     count: u64,
@@ -232,7 +233,7 @@ pub(crate) fn skip_bytes<S: Source, F: Prefix<S>>(
 }
 
 /// Takes the bytes that are shown, at most so many.
-fn skip_shown<S: Source, F: Prefix<S>>(
+fn skip_shown<S: Source, F: BytesAhead<S>>(
     prefix: &mut F,
     reader: &mut S,
     missing: usize,

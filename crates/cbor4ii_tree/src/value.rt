@@ -2,9 +2,9 @@
 
 ghost use Rattle.std.specs.Prelude.{◌≡◌, ◌↔◌, IfOk, IsTrue};
 ghost use Rattle.std.specs.Cmp.{on_per, on_equiv, partial_equiv_from_equiv};
-ghost use Rattle.cbor4ii_tree.specs.ItemEquality.{item_eq-equivalence};
-ghost use Rattle.cbor4ii_tree.specs.View.{view, items_view, members_view};
-ghost use Rattle.cbor4ii_tree.specs.ItemEquality.{same_view};
+ghost use Rattle.cbor4ii_tree.specs.Calls.ItemEquality.{item_eq-equivalence};
+ghost use Rattle.cbor4ii_tree.specs.Basis.View.{view, items_view, pairs_view};
+ghost use Rattle.cbor4ii_tree.specs.Calls.ItemEquality.{same_view};
 
 use std::alloc::AllocError;
 
@@ -99,7 +99,7 @@ fn copy_value(value: &Value) -> Result<Value, AllocError>
         Value::Bytes(bytes) => Ok(Value::Bytes(Vec::from_slice(*bytes.allocator(), bytes)?)),
         Value::Text(text) => Ok(Value::Text(text.clone()?)),
         Value::Array(items) => Ok(Value::Array(copy_items(items)?)),
-        Value::Map(members) => Ok(Value::Map(copy_members(members)?)),
+        Value::Map(pairs) => Ok(Value::Map(copy_pairs(pairs)?)),
         Value::Tag(number, inner) => {
             let copy = copy_value(inner)?;
             Ok(Value::Tag(*number, Box::new(*Box::allocator(inner), copy)?))
@@ -119,13 +119,13 @@ fn copy_items(items: &Vec<Value>) -> Result<Vec<Value>, AllocError>
 }
 
 #[cycle(copy)]
-fn copy_members(members: &Vec<(Value, Value)>) -> Result<Vec<(Value, Value)>, AllocError>
-    ensures { IfOk result (λ copy. members_view copy.items ≡ members_view members.now.items) }
+fn copy_pairs(pairs: &Vec<(Value, Value)>) -> Result<Vec<(Value, Value)>, AllocError>
+    ensures { IfOk result (λ copy. pairs_view copy.items ≡ pairs_view pairs.now.items) }
 {
-    let mut copies = Vec::with_capacity(*members.allocator(), members.len())?;
-    for member in members {
-        let key = copy_value(&member.0)?;
-        let value = copy_value(&member.1)?;
+    let mut copies = Vec::with_capacity(*pairs.allocator(), pairs.len())?;
+    for pair in pairs {
+        let key = copy_value(&pair.0)?;
+        let value = copy_value(&pair.1)?;
         copies.push((key, value))?;
     }
     Ok(copies)
@@ -143,7 +143,7 @@ fn same_value(a: &Value, b: &Value) -> bool
         (Value::Bytes(x), Value::Bytes(y)) => x == y,
         (Value::Text(x), Value::Text(y)) => x == y,
         (Value::Array(x), Value::Array(y)) => same_items(x, y),
-        (Value::Map(x), Value::Map(y)) => same_members(x, y),
+        (Value::Map(x), Value::Map(y)) => same_pairs(x, y),
         (Value::Tag(n, x), Value::Tag(m, y)) => *n == *m && same_value(x, y),
         _ => false,
     }
@@ -165,8 +165,8 @@ fn same_items(a: &[Value], b: &[Value]) -> bool
 }
 
 #[cycle(same)]
-fn same_members(a: &[(Value, Value)], b: &[(Value, Value)]) -> bool
-    ensures { IsTrue result ↔ (members_view a.now ≡ members_view b.now) }
+fn same_pairs(a: &[(Value, Value)], b: &[(Value, Value)]) -> bool
+    ensures { IsTrue result ↔ (pairs_view a.now ≡ pairs_view b.now) }
 {
     if a.len() != b.len() {
         return false;

@@ -188,7 +188,7 @@ fn what_an_accessor_answers_later(rt: HostRuntime) -> Result<(), Fail> {
     reads_all(alloc, TUPLE_STRUCTS, &[])
 }
 
-/// The entries of a map, in both ways, and what follows them.
+/// The pairs of a map, in both ways, and what follows them.
 #[derive(Debug, PartialEq, Drop)]
 struct Entries(
     Option<(u8, u8)>,
@@ -223,7 +223,7 @@ const ENTRIES: &[Row<Answer<Entries>>] = table! {
     (b"\x80", Err(mismatch!("map", 0x80)), b""),
 };
 
-/// A struct of one field, y, read entry by entry; others are skipped.
+/// A struct of one field, y, read pair by pair; others are skipped.
 #[derive(Debug, PartialEq, Drop)]
 struct Y(Option<u8>);
 
@@ -263,7 +263,7 @@ const YS: &[Row<Answer<Y>>] = table! {
 struct Both(u8, i16);
 
 impl Both {
-    /// Reads an entry into the field whose key it has, and answers whether there was one.
+    /// Reads a pair into the field whose key it has, and answers whether there was one.
     fn read_field<S: Source>(
         alloc: Global,
         fields: &mut Accessor<'_, S>,

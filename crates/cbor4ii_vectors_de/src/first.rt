@@ -1,12 +1,14 @@
 //! The value at the beginning of a slice, and of a stream.
+use crate::presence::Lamp;
 use crate::typed::{BothShown, come_back, comes_back_lent, is_at_beginning, is_rejected};
 use cbor4ii::Value;
 use cbor4ii::serde::{
-    DecodeError, Deserialize, WholeError, from_reader, from_slice, from_slice_whole,
+    DecodeError, Deserialize, WholeError, from_reader, from_slice, from_slice_at, from_slice_whole,
 };
 use cbor4ii_rw::error as core_error;
 use cbor4ii_rw::error::Len;
 use cbor4ii_rw::slice_reader::SliceReader;
+use cbor4ii_vectors::repeated::repeated;
 use cbor4ii_vectors::streams::FailingStream;
 use cbor4ii_vectors::{mismatch, table};
 use std::alloc::Global;
@@ -119,6 +121,78 @@ fn bytes_after_the_value_are_counted(rt: HostRuntime) {
     };
     let none = from_slice_whole::<&[u8], u8>(alloc, b"\x18").err();
     assert_eq!(rt; none, Some(WholeError::Decode(DecodeError::Core(cut))));
+}
+
+// An input, and the text of what is read, or of the error and its byte.
+type Told = (&'static [u8], &'static str);
+
+fn is_told<T>(alloc: Global, input: &'static [u8], want: &str) -> Result<(), Fail>
+where
+    T: Deserialize<SliceReader<'static>> + Debug + Drop,
+{
+    let text = match from_slice_at::<&'static [u8], T>(alloc, input) {
+        Ok(value) => InlineText::<128>::of(format_args!("{value:?}")),
+        Err(fault) => InlineText::of(fault),
+    };
+    if text.as_str() == want {
+        return Ok(());
+    }
+    Err(Fail::new(format_args!("{} in the place of {want}", text.as_str())))
+}
+
+fn are_told<T>(alloc: Global, rows: &[Told]) -> Result<(), Fail>
+where
+    T: Deserialize<SliceReader<'static>> + Debug + Drop,
+{
+    for &(input, want) in rows {
+        is_told::<T>(alloc, input, want)?;
+    }
+    Ok(())
+}
+
+// Cut bytes are all taken, and of another item the first byte is.
+const NUMBERS_TOLD: &[Told] = table! {
+    (b"\x18\x05", "5"),
+    (b"\x18\x05\x06\x07", "byte 2: bytes after the item: 2"),
+    (b"", "byte 0: Core(Eof { name: \"u8\", expect: Small(1) })"),
+    (b"\x18", "byte 1: Core(Eof { name: \"u8\", expect: Small(1) })"),
+    (b"\x20\x06", "byte 1: Core(Mismatch { name: \"u8\", found: 32 })"),
+};
+
+// A text is taken before it is tested.
+const TEXTS_TOLD: &[Told] = table! {
+    (b"\x82\x61a", "byte 3: Core(Eof { name: \"str\", expect: Small(1) })"),
+    (b"\x82\x61a\x05\x00", "byte 4: Core(Mismatch { name: \"str\", found: 5 })"),
+    (b"\x82\x62\xff\xff\x61a", "byte 4: Core(RequireUtf8 { name: \"str\" })"),
+};
+
+// All of a struct is taken before a field counts as missing.
+const LAMPS_TOLD: &[Told] = table! {
+    (b"\xa1\x65level\x07", "Lamp { level: 7, delay: 60, room: None }"),
+    (b"\xa1\x65level\x07\x00", "byte 8: bytes after the item: 1"),
+    (b"\xa1\x65lev", "byte 5: Core(Eof { name: \"str\", expect: Small(2) })"),
+    (b"\xa1\x65level\xf6\x00", "byte 8: Core(Mismatch { name: \"u8\", found: 246 })"),
+    (b"\xa1\x65delay\x05\x00\x00", "byte 8: Custom(\"a lamp has a level\")"),
+};
+
+#[test]
+fn an_error_tells_its_byte(rt: HostRuntime) -> Result<(), Fail> {
+    let alloc = rt.alloc();
+    are_told::<u8>(alloc, NUMBERS_TOLD)?;
+    are_told::<Vec<String>>(alloc, TEXTS_TOLD)?;
+    are_told::<Lamp>(alloc, LAMPS_TOLD)
+}
+
+// Each array takes two steps, and nothing of the item that has none is taken.
+#[test]
+fn an_item_without_a_step_stays(rt: HostRuntime) -> Result<(), Fail> {
+    let alloc = rt.alloc();
+    let deep = repeated(alloc, b"", b"\x81", 128, b"\x19\x01\x00")?;
+    is_told::<Value>(
+        alloc,
+        deep,
+        "byte 128: Core(DepthOverflow { name: \"any\" })",
+    )
 }
 
 /// The number at the beginning of a stream that is lent.

@@ -47,7 +47,7 @@ const KEYED: &[Row<Answer<Keyed>>] = table! {
     (b"\xa3\x01\x07\x21\x08\x19\x03\xe8\x09", Ok(Is(Keyed(7, Some(8), Some(9)))), b""),
     // In any order, and of any length.
     (b"\xbf\x19\x03\xe8\x09\x21\x08\x01\x07\xff\x00", Ok(Is(Keyed(7, Some(8), Some(9)))), b"\x00"),
-    // Of several entries of one key the last counts, or the struct is rejected.
+    // Of several pairs of one key the last counts, or the struct is rejected.
     (b"\xa2\x01\x07\x01\x08", Ok(Is(Keyed(8, None, None))), b""),
     (b"\xa3\x01\x07\x21\x08\x21\x08\x00", Ok(Custom("two -2")), b"\x00"),
     (b"\xa0\x00", Ok(Custom("no 1")), b"\x00"),
@@ -63,7 +63,7 @@ const LONG_HEADS: &[Row<Answer<Keyed>>] = table! {
     (b"\xa2\xc2\x41\x01\x07\xc3\x41\x01\x08", Ok(Is(Keyed(7, Some(8), None))), b""),
 };
 
-// Entries of other keys are skipped, whatever their values are.
+// Pairs of other keys are skipped, whatever their values are.
 const OTHERS: &[Row<Answer<Keyed>>] = table! {
     (b"\xa3\x02\x81\xf6\x01\x07\x20\xc1\x00", Ok(Is(Keyed(7, None, None))), b""),
     (b"\xa2\x1b\xff\xff\xff\xff\xff\xff\xff\xff\x61a\x01\x07", Ok(Is(Keyed(7, None, None))), b""),

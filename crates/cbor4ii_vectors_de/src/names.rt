@@ -1,7 +1,7 @@
 //! Names of fields and variants: what they ask of a reader.
 use crate::asked::{Row, asks_rows};
 use crate::typed::{Answer, Take};
-use cbor4ii::serde::{Choice, DecodeError, Deserializer, Holds, Otherwise, Unit};
+use cbor4ii::serde::{Choice, DecodeError, Deserializer, Holds, Optional, Otherwise, Unit};
 use cbor4ii_rw::error::{Never, StaticStr};
 use cbor4ii_rw::read::Source;
 use cbor4ii_vectors::table;
@@ -36,13 +36,13 @@ impl Take for Five {
         alloc: Global,
         de: &mut Deserializer<S>,
     ) -> Result<Five, DecodeError<S::Error>> {
-        let [a, b, c, d, e] = NAMES;
-        match de.deserialize_5_fields(alloc, "Five", a, b, c, d, e)? {
-            (Some(n), None, None, None, None)
-            | (None, Some(n), None, None, None)
-            | (None, None, Some(n), None, None)
-            | (None, None, None, Some(n), None)
-            | (None, None, None, None, Some(n)) => Ok(Five(n)),
+        let presences = (Optional, (Optional, (Optional, (Optional, (Optional, ())))));
+        match de.deserialize_fields(alloc, "Five", &NAMES, &[], presences)? {
+            (Some(n), (None, (None, (None, (None, ())))))
+            | (None, (Some(n), (None, (None, (None, ())))))
+            | (None, (None, (Some(n), (None, (None, ())))))
+            | (None, (None, (None, (Some(n), (None, ())))))
+            | (None, (None, (None, (None, (Some(n), ()))))) => Ok(Five(n)),
             _ => Err(DecodeError::Custom("not one field")),
         }
     }

@@ -2,7 +2,8 @@
 ghost use Rattle.std.specs.Prelude.{◌≡◌, codes};
 ghost use Rattle.cbor4ii.specs.Fields.{no_values};
 ghost use Rattle.cbor4ii.specs.Made.{made_from};
-ghost use Rattle.cbor4ii.specs.Presence.{no_others, optional, or_else, required, struct_from};
+ghost use Rattle.cbor4ii.specs.Presence.{no_more_fields, optional_field, field_or_else};
+ghost use Rattle.cbor4ii.specs.Presence.{required_field, struct_from};
 
 use crate::typed::Answer::{self, Custom, Is};
 use crate::typed::{Take, reads_all};
@@ -15,7 +16,7 @@ use std::test::Fail;
 
 /// A lamp: how bright it is, after how many seconds it goes out, and its room.
 #[derive(Debug, PartialEq, Drop)]
-struct Lamp {
+pub(crate) struct Lamp {
     level: u8,
     delay: u8,
     room: Option<u8>,
@@ -41,9 +42,9 @@ impl From<(u8, (u8, (Option<u8>, ())))> for Lamp {
 impl Typed for Lamp {
     ghost promise = { made_from (λ values l. values ≡ (l.level, (l.delay, (l.room, no_values))))
         (struct_from
-        (required (codes "level") (codes "a lamp has a level") ⟦<u8 as Typed>⟧.promise
-        (or_else (codes "delay") 60 ⟦<u8 as Typed>⟧.promise
-        (optional (codes "room") ⟦<u8 as Typed>⟧.promise no_others)))) };
+        (required_field (codes "level") (codes "a lamp has a level") ⟦<u8 as Typed>⟧.promise
+        (field_or_else (codes "delay") 60 ⟦<u8 as Typed>⟧.promise
+        (optional_field (codes "room") ⟦<u8 as Typed>⟧.promise no_more_fields)))) };
 }
 
 impl Take for Lamp {

@@ -1,6 +1,6 @@
 //! Rows of items that are kept as their bytes, as typed values: over slices, over segments and out
 //! of streams, and as a struct's field. Nothing of a rejected item is taken.
-use cbor4ii::serde::{DecodeError, Deserialize, Deserializer};
+use cbor4ii::serde::{DecodeError, Deserialize, Deserializer, Required};
 use cbor4ii::{BoxedRawValue, RawValue};
 use cbor4ii_rw::error as core_error;
 use cbor4ii_rw::io_reader::IoReader;
@@ -94,7 +94,7 @@ const STREAMED: &[Row] = table! {
 };
 
 // A struct whose one field, "a", is kept. An item that is rejected is left.
-const MEMBERS: &[Row] = table! {
+const PAIRS: &[Row] = table! {
     (b"\xa1\x61a\x81\x00\x01", 3, Ok(b"\x81\x00"), b"\x01"),
     (b"\xa1\x61a", 256, Err(CUT_OFF), b""),
     (b"\xa1\x61a\x82\x01", 256, Err(CUT_OFF), b"\x82\x01"),
@@ -116,18 +116,20 @@ where
 }
 
 /// The same of a struct's one field.
-fn reads_member<S, T>(alloc: Global, reader: S, row: &Row) -> Result<(), Fail>
+fn reads_pair<S, T>(alloc: Global, reader: S, row: &Row) -> Result<(), Fail>
 where
     S: Source + Drop,
     T: Deserialize<S> + Kept + Drop,
 {
     let mut de = Deserializer::new(reader);
-    let got = match de.deserialize_1_field::<T>(alloc, "Member", "a") {
-        Ok(Some(item)) => Ok(item),
-        Ok(None) => Err(DecodeError::Custom("no member")),
-        Err(error) => Err(error),
-    };
-    is_read(got, de.into_inner(), row)
+    let got: Result<(T, ()), _> = de.deserialize_fields(
+        alloc,
+        "Pair",
+        &["a"],
+        &["no pair"],
+        (Required, ()),
+    );
+    is_read(got.map(|(item, ())| item), de.into_inner(), row)
 }
 
 /// Whether the answer is the row's, and what is left of the reader. A row of a growth that was
@@ -242,18 +244,18 @@ fn fails_at_once(alloc: Global, bytes: &'static [u8], limit: usize) -> Result<()
     Err(Fail::new(format_args!("no fault of {bytes:?}")))
 }
 
-fn keeps_members(alloc: Global, rows: &[Row]) -> Result<(), Fail> {
+fn keeps_pairs(alloc: Global, rows: &[Row]) -> Result<(), Fail> {
     for row in rows {
         let (bytes, limit, _, _) = *row;
-        reads_member::<_, RawValue<'static>>(alloc, SliceReader::with_limit(bytes, limit), row)?;
-        reads_member::<_, BoxedRawValue>(alloc, SliceReader::with_limit(bytes, limit), row)?;
-        reads_member::<_, RawValue<'static>>(alloc, cut(alloc, bytes, 3, limit)?, row)?;
-        reads_member::<_, BoxedRawValue>(alloc, cut(alloc, bytes, 3, limit)?, row)?;
+        reads_pair::<_, RawValue<'static>>(alloc, SliceReader::with_limit(bytes, limit), row)?;
+        reads_pair::<_, BoxedRawValue>(alloc, SliceReader::with_limit(bytes, limit), row)?;
+        reads_pair::<_, RawValue<'static>>(alloc, cut(alloc, bytes, 3, limit)?, row)?;
+        reads_pair::<_, BoxedRawValue>(alloc, cut(alloc, bytes, 3, limit)?, row)?;
     }
     Ok(())
 }
 
 #[test]
 fn items_that_are_fields(rt: HostRuntime) -> Result<(), Fail> {
-    keeps_members(rt.alloc(), MEMBERS)
+    keeps_pairs(rt.alloc(), PAIRS)
 }

@@ -75,7 +75,7 @@ const SHAPES_READ: &[Row<Answer<Shape>>] = table! {
     (TURNED, Ok(Is(Shape::Round { x: 1, size: 2 })), b""),
     (INDEFINITE, Ok(Is(Shape::Round { x: 1, size: 2 })), b""),
     (NOTED, Ok(Is(Shape::Round { x: 1, size: 2 })), b""),
-    // Of several entries of one name the last counts.
+    // Of several pairs of one name the last counts.
     (AGAIN, Ok(Is(Shape::Round { x: 3, size: 2 })), b""),
     (b"\xa1\x65Round\xa1\x61x\x01\x00", Ok(Custom("no size")), b"\x00"),
     (b"\xa1\x65Round\xa0\x00", Ok(Custom("no x")), b"\x00"),

@@ -1,16 +1,19 @@
 //! Inputs that are one item and nothing else.
 use cbor4ii_items::decode::Decode;
-use cbor4ii_items::whole::decode_whole;
-use cbor4ii_rw::error::{DecodeError, Never, WholeError};
+use cbor4ii_items::whole::{decode_whole, decode_whole_at};
+use cbor4ii_rw::error::{DecodeError, ErrorAt, Never, WholeError};
 use cbor4ii_rw::slice_reader::SliceReader;
 use cbor4ii_vectors::compared::same;
-use cbor4ii_vectors::{eof, mismatch, require_length, table};
+use cbor4ii_vectors::{eof, mismatch, require_length, require_utf8, table};
 use std::alloc::Global;
-use std::fmt::{Debug, InlineText};
+use std::fmt::{Debug, Display, InlineText};
 use std::test::Fail;
 
 // A row: an input, and the text of what is read, or of the error.
 type Row = (&'static [u8], Result<&'static str, Why>);
+
+// A row: an input, and the text of what is read, or the byte of the error, and why.
+type RowAt = (&'static [u8], Result<&'static str, (usize, Why)>);
 
 // Why an input is not one item.
 #[derive(Debug)]
@@ -21,16 +24,27 @@ enum Why {
     Trailing(usize),
 }
 
+fn is_value<T: Debug>(value: &T, text: &str) -> bool {
+    InlineText::<128>::of(format_args!("{value:?}")).as_str() == text
+}
+
+fn is_why(error: &WholeError<DecodeError<Never>>, why: &Why) -> bool {
+    match (error, why) {
+        (WholeError::Decode(error), Why::Decode(text)) => {
+            InlineText::<128>::of(error).as_str() == *text
+        }
+        (WholeError::Trailing(left), Why::Trailing(wanted)) => *left == *wanted,
+        _ => false,
+    }
+}
+
 fn is_row<T: Debug + Drop>(
     got: &Result<T, WholeError<DecodeError<Never>>>,
     want: &Result<&str, Why>,
 ) -> bool {
     match (got, want) {
-        (Ok(value), Ok(text)) => InlineText::<128>::of(format_args!("{value:?}")).as_str() == *text,
-        (Err(WholeError::Decode(error)), Err(Why::Decode(text))) => {
-            InlineText::<128>::of(error).as_str() == *text
-        }
-        (Err(WholeError::Trailing(left)), Err(Why::Trailing(wanted))) => *left == *wanted,
+        (Ok(value), Ok(text)) => is_value(value, text),
+        (Err(error), Err(why)) => is_why(error, why),
         _ => false,
     }
 }
@@ -94,12 +108,97 @@ fn one_item_is_the_whole_input(rt: HostRuntime) -> Result<(), Fail> {
     reads_whole::<Vec<u8>>(alloc, ARRAYS)
 }
 
-fn is_line(error: WholeError<DecodeError<Never>>, line: &str) -> Result<(), Fail> {
+fn is_row_at<T: Debug + Drop>(
+    got: &Result<T, ErrorAt<WholeError<DecodeError<Never>>>>,
+    want: &Result<&str, (usize, Why)>,
+) -> bool {
+    match (got, want) {
+        (Ok(value), Ok(text)) => is_value(value, text),
+        (Err(fault), Err((at, why))) => fault.at == *at && is_why(&fault.error, why),
+        _ => false,
+    }
+}
+
+fn reads_row_at<T>(
+    alloc: Global,
+    input: &'static [u8],
+    want: &Result<&str, (usize, Why)>,
+) -> Result<(), Fail>
+where
+    T: Decode<SliceReader<'static>> + Debug + Drop,
+{
+    let got = decode_whole_at::<&'static [u8], T>(alloc, input);
+    if is_row_at(&got, want) {
+        return Ok(());
+    }
+    if matches!(&got, Err(fault) if fault.error == WholeError::Decode(DecodeError::OutOfMemory)) {
+        return Err(Fail::from(DecodeError::<Never>::OutOfMemory));
+    }
+    Err(Fail::new(format_args!("{got:?} of {input:?}")))
+}
+
+fn reads_whole_at<T>(alloc: Global, rows: &[RowAt]) -> Result<(), Fail>
+where
+    T: Decode<SliceReader<'static>> + Debug + Drop,
+{
+    for (input, want) in rows {
+        reads_row_at::<T>(alloc, input, want)?;
+    }
+    Ok(())
+}
+
+// Cut bytes are all taken, and of another item the first byte is.
+const NUMBERS_AT: &[RowAt] = table! {
+    (b"\x18\x05", Ok("5")),
+    (b"\x05\x06", Err((1, Why::Trailing(1)))),
+    (b"\x18\x05\x06\x07\x08", Err((2, Why::Trailing(3)))),
+    (b"", Err((0, Why::Decode(eof!("u64", 1))))),
+    (b"\x19\x05", Err((2, Why::Decode(eof!("u64", 2))))),
+    (b"\x20\x05\x06", Err((1, Why::Decode(mismatch!("u64", 32))))),
+};
+
+// Of a signed number another item's first byte stays.
+const SIGNED_AT: &[RowAt] = table! {
+    (b"\x20", Ok("-1")),
+    (b"\x40\x01", Err((0, Why::Decode(mismatch!("i8", 64))))),
+};
+
+// The item is taken before its text is tested.
+const TEXTS_AT: &[RowAt] = table! {
+    (b"\x62ab", Ok("\"ab\"")),
+    (b"\x62\xff\xff\x00", Err((3, Why::Decode(require_utf8!("str"))))),
+};
+
+// A content that is too short stays.
+const LENT_AT: &[RowAt] = table! {
+    (b"\x63ab", Err((1, Why::Decode(require_length!("str", 2))))),
+};
+
+const ARRAYS_AT: &[RowAt] = table! {
+    (b"\x9f\x01\x02\xff\xff", Err((4, Why::Trailing(1)))),
+    (b"\x82\x01", Err((2, Why::Decode(eof!("u8", 1))))),
+    (b"\x82\x01\x20\x05", Err((3, Why::Decode(mismatch!("u8", 32))))),
+};
+
+#[test]
+fn an_error_tells_its_byte(rt: HostRuntime) -> Result<(), Fail> {
+    let alloc = rt.alloc();
+    reads_whole_at::<u64>(alloc, NUMBERS_AT)?;
+    reads_whole_at::<i8>(alloc, SIGNED_AT)?;
+    reads_whole_at::<String>(alloc, TEXTS_AT)?;
+    reads_whole_at::<&str>(alloc, LENT_AT)?;
+    reads_whole_at::<Vec<u8>>(alloc, ARRAYS_AT)
+}
+
+fn is_line<E: Display>(error: &E, line: &str) -> Result<(), Fail> {
     same(InlineText::<64>::of(format_args!("{error}")).as_str(), line)
 }
 
 #[test]
 fn errors_are_lines() -> Result<(), Fail> {
-    is_line(WholeError::from(DecodeError::OutOfMemory), "OutOfMemory")?;
-    is_line(WholeError::Trailing(2), "bytes after the item: 2")
+    let none: WholeError<DecodeError<Never>> = WholeError::from(DecodeError::OutOfMemory);
+    is_line(&none, "OutOfMemory")?;
+    let error: WholeError<DecodeError<Never>> = WholeError::Trailing(2);
+    is_line(&error, "bytes after the item: 2")?;
+    is_line(&ErrorAt { at: 3, error }, "byte 3: bytes after the item: 2")
 }

@@ -5,7 +5,7 @@ use Rattle.std.proofs.lemmas.List.{append-nil}
 use Rattle.cbor4ii_rw.specs.Writer.{Output}
 use Rattle.cbor4ii_items.specs.Writing.{Writes}
 use Rattle.cbor4ii_ser.specs.Pieces.{written, after}
-use Rattle.cbor4ii_ser.specs.TextState.{TextSeen, Wrote, Pends, outcome}
+use Rattle.cbor4ii_ser.specs.TextState.{TextSeen, Wrote, Pends, writing_outcome}
 
 writes_nothing : {T E : Type 0} {whole : Bool} (o : Output) (t : T)
     → Writes {E = E} whole [] o o (Ok t)
@@ -21,7 +21,7 @@ pub wrote_nothing : {E : Type 0} {whole : Bool} {a : TextSeen E} → Wrote whole
 unfolding written after
 wrote_nothing {E = E} {whole = whole} {a = a} = record {
   writes = λ fine. subst
-      (λ z. Writes whole (written a.pending []) a.output a.output (outcome z)) (sym fine)
+      (λ z. Writes whole (written a.pending []) a.output a.output (writing_outcome z)) (sym fine)
       (writes_nothing {E = E} a.output tt);
   pends = λ fine. subst (λ z. Pends [] a.pending a.pending z) (sym fine) refl;
   stays = λ e is. refl;

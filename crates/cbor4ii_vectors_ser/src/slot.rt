@@ -155,7 +155,7 @@ impl Put for ArrayHead {
     }
 }
 
-/// The head of a map of so many entries.
+/// The head of a map of so many pairs.
 #[derive(Drop)]
 struct MapHead(Option<usize>);
 
@@ -232,7 +232,7 @@ fn heads_of_accessors(rt: HostRuntime) -> Result<(), Fail> {
     pushes(alloc, &MapHead(None), &[1])
 }
 
-/// A map of any number of entries, with one, to its end.
+/// A map of any number of pairs, with one, to its end.
 #[derive(Drop)]
 struct IndefiniteMap;
 

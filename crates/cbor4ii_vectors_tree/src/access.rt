@@ -236,8 +236,8 @@ fn is_map(
     let (Some(found), Some(want)) = (found, want) else {
         return Ok(found.is_none() && want.is_none());
     };
-    for (member, pair) in found.iter().zip(want) {
-        if member.0 != pair.0.to_value(alloc)? || member.1 != pair.1.to_value(alloc)? {
+    for (pair, literal) in found.iter().zip(want) {
+        if pair.0 != literal.0.to_value(alloc)? || pair.1 != literal.1.to_value(alloc)? {
             return Ok(false);
         }
     }
@@ -336,6 +336,57 @@ fn is_found(alloc: Global, found: Option<&Value>, want: &Option<Literal>) -> Res
 #[test]
 fn values_are_found_by_their_keys(rt: HostRuntime) -> Result<(), Fail> {
     are_found(rt.alloc(), FOUND)
+}
+
+// {1: 2, 3: 4}
+const NUMBERED: Literal = Map(&[(Integer(1), Integer(2)), (Integer(3), Integer(4))]);
+
+const BY_INTEGERS: &[(Literal, i128, Option<Literal>)] = table! {
+    (NUMBERED, 1, Some(Integer(2))),
+    (NUMBERED, 3, Some(Integer(4))),
+    (NUMBERED, 2, None),
+    (Map(&[(Integer(-1), Null), (Integer(1), Bool(true))]), -1, Some(Null)),
+    (Map(&[(Integer(1), Integer(2)), (Integer(1), Integer(3))]), 1, Some(Integer(2))),
+    (Map(&[(Integer(i128::MAX), Text("a"))]), i128::MAX, Some(Text("a"))),
+    (Map(&[(Tag(2, &Bytes(b"\x01")), Integer(2))]), 1, None),
+    (Map(&[(Text("1"), Integer(2))]), 1, None),
+    (Array(&[Integer(1), Integer(2)]), 1, None),
+    (Tag(1, &NUMBERED), 1, None),
+    (Integer(1), 1, None),
+};
+
+#[test]
+fn values_are_found_by_their_integers(rt: HostRuntime) -> Result<(), Fail> {
+    for (literal, key, want) in BY_INTEGERS {
+        let value = literal.to_value(rt.alloc())?;
+        if !is_found(rt.alloc(), value.get_integer(*key), want)? {
+            return Err(Fail::new(format_args!("under {key} in {value:?}")));
+        }
+    }
+    Ok(())
+}
+
+const BY_VALUES: &[(Literal, Literal, Option<Literal>)] = table! {
+    (NUMBERED, Integer(3), Some(Integer(4))),
+    (NUMBERED, Text("3"), None),
+    (ENTRIES, Text("a"), Some(Integer(1))),
+    (Map(&[(Array(&[Integer(1)]), Null)]), Array(&[Integer(1)]), Some(Null)),
+    (Map(&[(Array(&[Integer(1)]), Null)]), Array(&[]), None),
+    (Map(&[(Float(F16(0)), Null)]), Float(F32(0)), None),
+    (Map(&[(Tag(1, &Null), Integer(1)), (Null, Integer(2))]), Null, Some(Integer(2))),
+    (Array(&[Null, Null]), Null, None),
+};
+
+#[test]
+fn values_are_found_by_values(rt: HostRuntime) -> Result<(), Fail> {
+    for (literal, key, want) in BY_VALUES {
+        let value = literal.to_value(rt.alloc())?;
+        let key = key.to_value(rt.alloc())?;
+        if !is_found(rt.alloc(), value.get_value(&key), want)? {
+            return Err(Fail::new(format_args!("under {key:?} in {value:?}")));
+        }
+    }
+    Ok(())
 }
 
 /// Values, and whether two of their keys are equal.

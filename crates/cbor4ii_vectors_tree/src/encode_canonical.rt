@@ -89,21 +89,21 @@ fn bignums_are_written(rt: HostRuntime) -> Result<(), Fail> {
 
 // A map of so many pairs that its memory was taken several times. Its last value is 2^64.
 fn many_pairs(alloc: Global) -> Result<Value, AllocError> {
-    let mut members = Vec::new(alloc);
+    let mut pairs = Vec::new(alloc);
     for i in 0..1000_u64 {
-        members.push((Value::from(i), Value::Null))?;
+        pairs.push((Value::from(i), Value::Null))?;
     }
-    members.push((Value::from(1000_u64), Value::Integer(18446744073709551616)))?;
-    Ok(Value::Map(members))
+    pairs.push((Value::from(1000_u64), Value::Integer(18446744073709551616)))?;
+    Ok(Value::Map(pairs))
 }
 
 fn last_is_tagged(alloc: Global) -> Result<bool, Fail> {
     let value = Canonical::try_from_value(alloc, many_pairs(alloc)?)?.into_inner();
-    let members = value.as_map().unwrap_or(&[]);
-    let Some((key, last)) = members.last() else {
+    let pairs = value.as_map().unwrap_or(&[]);
+    let Some((key, last)) = pairs.last() else {
         return Ok(false);
     };
-    Ok(members.len() == 1001 && *key == Value::Integer(1000) && *last == TWO_TO_64.to_value(alloc)?)
+    Ok(pairs.len() == 1001 && *key == Value::Integer(1000) && *last == TWO_TO_64.to_value(alloc)?)
 }
 
 #[test]

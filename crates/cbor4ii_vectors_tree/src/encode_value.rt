@@ -133,11 +133,11 @@ fn nulls(alloc: Global, count: usize) -> Result<Vec<Value>, AllocError> {
 }
 
 fn pairs(alloc: Global, count: usize) -> Result<Vec<(Value, Value)>, AllocError> {
-    let mut members = Vec::new(alloc);
+    let mut pairs = Vec::new(alloc);
     for _ in 0..count {
-        members.push((Value::Null, Value::Null))?;
+        pairs.push((Value::Null, Value::Null))?;
     }
-    Ok(members)
+    Ok(pairs)
 }
 
 // So many parts, the head in front of them, and how many pushes both take.

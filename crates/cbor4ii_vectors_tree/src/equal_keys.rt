@@ -66,12 +66,12 @@ const MANY: u64 = 100_000;
 
 // A map of so many integers as keys, in no order. The last is the first once more, if asked.
 fn map_of_many(alloc: Global, repeats: bool) -> Result<Value, AllocError> {
-    let mut members = Vec::new(alloc);
+    let mut pairs = Vec::new(alloc);
     for i in 0..MANY {
         let place = if repeats && i + 1 == MANY { 0 } else { i };
-        members.push((Value::from(place * 77_773 % MANY), Value::Null))?;
+        pairs.push((Value::from(place * 77_773 % MANY), Value::Null))?;
     }
-    Ok(Value::Map(members))
+    Ok(Value::Map(pairs))
 }
 
 fn many_keys_are_sorted(alloc: Global, want: bool) -> Result<(), Fail> {

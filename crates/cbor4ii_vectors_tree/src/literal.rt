@@ -27,7 +27,7 @@ impl Literal {
             Literal::Bytes(bytes) => Value::Bytes(bytes.to_vec(alloc)?),
             Literal::Text(text) => Value::Text(String::from_str(alloc, text)?),
             Literal::Array(items) => Value::Array(to_items(items, alloc)?),
-            Literal::Map(pairs) => Value::Map(to_members(pairs, alloc)?),
+            Literal::Map(pairs) => Value::Map(to_pairs(pairs, alloc)?),
             Literal::Tag(number, item) => {
                 Value::Tag(*number, Box::new(alloc, item.to_value(alloc)?)?)
             }
@@ -45,14 +45,14 @@ fn to_items(items: &[Literal], alloc: Global) -> Result<Vec<Value>, AllocError> 
 }
 
 #[cycle(value)]
-fn to_members(
+fn to_pairs(
     pairs: &[(Literal, Literal)],
     alloc: Global,
 ) -> Result<Vec<(Value, Value)>, AllocError> {
-    let mut members = Vec::new(alloc);
+    let mut values = Vec::new(alloc);
     for pair in pairs {
         let key = pair.0.to_value(alloc)?;
-        members.push((key, pair.1.to_value(alloc)?))?;
+        values.push((key, pair.1.to_value(alloc)?))?;
     }
-    Ok(members)
+    Ok(values)
 }

@@ -15,8 +15,8 @@ use Rattle.cbor4ii_items.specs.Simple.{bool_within, bool_positive}
 use Rattle.cbor4ii_items.specs.Laws.Strings.{two_small, as_one, as_within, as_positive, text_one}
 use Rattle.cbor4ii_items.specs.Laws.Strings.{text_within, text_positive}
 use Rattle.cbor4ii_items.specs.Strings.{bytes_content, text_content}
-use Rattle.cbor4ii_tree.specs.Item.{item, bytes_item, text, sequence, mapping}
-use Rattle.cbor4ii_tree.specs.View.{view, items_view, members_view}
+use Rattle.cbor4ii_tree.specs.Basis.Item.{item, bytes_item, text, sequence, mapping}
+use Rattle.cbor4ii_tree.specs.Basis.View.{view, items_view, pairs_view}
 use Rattle.cbor4ii_tree.specs.declared.value.Value.{Value, the_lemmas}
 use Rattle.cbor4ii.specs.declared.serde.de.any_leaf.AnyKind.{AnyKind}
 use Rattle.cbor4ii.specs.declared.serde.de.any_leaf.AnyKind.TheVariants.{Leaf, Array, Map, Other}
@@ -30,7 +30,7 @@ use Rattle.cbor4ii.specs.Any.{ReadsValues, ReadsPairs, KindAs, AnyInside, AnyAt,
 use Rattle.cbor4ii.specs.Sequence.{four_small, five_small}
 use Rattle.cbor4ii.specs.Stepped.{Stepped, stepped_laws}
 use Rattle.cbor4ii.specs.Tuples.{pair_laws}
-use Rattle.cbor4ii.specs.Typed.{Lawful, not_exact}
+use Rattle.cbor4ii.specs.Typed.{IsLawfulReading, not_exact}
 
 -- ---- equal contents, equal values
 
@@ -52,12 +52,12 @@ items_same [] (w ∷ ws) h = absurd h
 items_same (v ∷ vs) [] h = absurd h
 items_same (v ∷ vs) (w ∷ ws) h = ap₂ item h.0 (items_same vs ws h.1)
 
-members_same : (ps qs : List (Value × Value)) → SameElements (SamePair SameView SameView) ps qs
-    → members_view ps ≡ members_view qs
-members_same [] [] h = refl
-members_same [] (q ∷ qs) h = absurd h
-members_same (p ∷ ps) [] h = absurd h
-members_same (p ∷ ps) (q ∷ qs) h = cc (h.0.0, h.0.1, members_same ps qs h.1)
+pairs_same : (ps qs : List (Value × Value)) → SameElements (SamePair SameView SameView) ps qs
+    → pairs_view ps ≡ pairs_view qs
+pairs_same [] [] h = refl
+pairs_same [] (q ∷ qs) h = absurd h
+pairs_same (p ∷ ps) [] h = absurd h
+pairs_same (p ∷ ps) (q ∷ qs) h = cc (h.0.0, h.0.1, pairs_same ps qs h.1)
 
 view_array : (vs ws : Vec Value Global) → items_view vs.items ≡ items_view ws.items
     → SameView (of_array vs) (of_array ws)
@@ -66,18 +66,18 @@ view_array vs ws e =
     let g : view (of_array ws) ≡ sequence (items_view ws.items) = search (rules, the_lemmas) in
     f ∙ ap sequence e ∙ sym g
 
-view_map : (ps qs : Vec (Value × Value) Global) → members_view ps.items ≡ members_view qs.items
+view_map : (ps qs : Vec (Value × Value) Global) → pairs_view ps.items ≡ pairs_view qs.items
     → SameView (of_map ps) (of_map qs)
 view_map ps qs e =
-    let f : view (of_map ps) ≡ mapping (members_view ps.items) = search (rules, the_lemmas) in
-    let g : view (of_map qs) ≡ mapping (members_view qs.items) = search (rules, the_lemmas) in
+    let f : view (of_map ps) ≡ mapping (pairs_view ps.items) = search (rules, the_lemmas) in
+    let g : view (of_map qs) ≡ mapping (pairs_view qs.items) = search (rules, the_lemmas) in
     f ∙ ap mapping e ∙ sym g
 
 -- ---- items that hold no other
 
 formed_laws : {W : Type 0} {reads : Reads W} {same : W → W → Type 0} (form : W → Value)
-    → ((v w : W) → same v w → SameView (form v) (form w)) → Lawful reads same true
-    → Lawful (Formed reads form) SameView true
+    → ((v w : W) → same v w → SameView (form v) (form w)) → IsLawfulReading reads same true
+    → IsLawfulReading (Formed reads form) SameView true
 formed_laws form alike h = record {
   one = λ xs v w n m c d p q. (
       let e = h.one xs p.0 q.0 n m c d p.1 q.1 in
@@ -87,11 +87,12 @@ formed_laws form alike h = record {
   alone = not_exact;
 }
 
-formed_by : {W : Type 0} {reads : Reads W} (form : W → Value) → Lawful reads (λ v w. v ≡ w) true
-    → Lawful (Formed reads form) SameView true
+formed_by : {W : Type 0} {reads : Reads W} (form : W → Value) → IsLawfulReading reads (λ v w. v ≡ w)
+    true
+    → IsLawfulReading (Formed reads form) SameView true
 formed_by form h = formed_laws form (λ v w e. ap (λ z. view (form z)) e) h
 
-leaf_laws : (leaf : AnyLeaf) → Lawful (LeafAs leaf) SameView true
+leaf_laws : (leaf : AnyLeaf) → IsLawfulReading (LeafAs leaf) SameView true
 leaf_laws Integer =
     formed_by of_integer
     (record {
@@ -169,8 +170,8 @@ leaf_laws F64 =
 
 -- ---- items that hold others
 
-module _ {inner : Reads Value} (h : Lawful inner SameView true) where
-  kind_laws : (k : AnyKind) → Lawful (KindAs inner k) SameView true
+module _ {inner : Reads Value} (h : IsLawfulReading inner SameView true) where
+  kind_laws : (k : AnyKind) → IsLawfulReading (KindAs inner k) SameView true
   kind_laws (Leaf leaf) = leaf_laws leaf
   kind_laws Array =
       formed_laws {reads = ReadsValues inner} of_array
@@ -183,7 +184,7 @@ module _ {inner : Reads Value} (h : Lawful inner SameView true) where
   kind_laws Map =
       let pair = pair_laws inner inner SameView SameView true true h h in
       formed_laws {reads = ReadsPairs inner} of_map
-      (λ ps qs e. view_map ps qs (members_same ps.items qs.items e)) (record {
+      (λ ps qs e. view_map ps qs (pairs_same ps.items qs.items e)) (record {
         one = λ xs v w. sequence_one 5 five_small (ReadsPair inner inner) true
             (SamePair SameView SameView) pair.one xs v.items w.items;
         within = λ xs v.
@@ -204,7 +205,7 @@ module _ {inner : Reads Value} (h : Lawful inner SameView true) where
   same_kind xs v n c b d e f r =
       let is : b ≡ d = cc in subst (λ z. KindAs inner (kind z) xs v n c) is r
 
-  inside_laws : Lawful (AnyInside inner) SameView true
+  inside_laws : IsLawfulReading (AnyInside inner) SameView true
   inside_laws = record {
     one = λ xs v w n m c d p q.
         (kind_laws (kind q.0)).one xs v w n m c d (same_kind xs v n c p.0 q.0 p.1 q.1 p.2) q.2;
@@ -213,7 +214,7 @@ module _ {inner : Reads Value} (h : Lawful inner SameView true) where
     alone = not_exact;
   }
 
-at_laws : (k : ℕ) → Lawful (AnyAt k) SameView true
+at_laws : (k : ℕ) → IsLawfulReading (AnyAt k) SameView true
 at_laws zero = record {
   one = λ xs v w n m c d p q. absurd p;
   within = λ xs v n c p. absurd p;
@@ -304,7 +305,7 @@ deeper (suc k) zero le xs v n c h = absurd (omega arith)
 deeper (suc k) (suc j) le xs v n c h =
     (h.0, any_more (deeper k j (omega arith)) xs v n h.0 h.1, h.2)
 
-pub any_laws : Lawful ReadsAny SameView true
+pub any_laws : IsLawfulReading ReadsAny SameView true
 any_laws = record {
   one = λ xs v w n m c d p q.
       (at_laws (p.0 + q.0)).one xs v w n m c d (deeper p.0 (p.0 + q.0) (omega arith) xs v n c p.1)

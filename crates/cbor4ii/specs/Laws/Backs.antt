@@ -14,13 +14,13 @@ use Rattle.std.specs.Map.{keys_of}
 use Rattle.cbor4ii_items.specs.Containers.{BeginsNull, ReadsOption}
 use Rattle.cbor4ii_items.specs.Decoding.{Reads}
 use Rattle.cbor4ii_items.specs.Numbers.{shortest_head}
-use Rattle.cbor4ii_items.specs.ReadBack.{ReadsBack, greatest_cost, pair_cost}
+use Rattle.cbor4ii_items.specs.ReadBack.{ReadsBack, greatest_part_cost, pair_cost}
 use Rattle.cbor4ii_items.specs.Sequences.{ReadsElements, ReadsDefiniteElements, ReadsSequence}
 use Rattle.cbor4ii_items.specs.Sequences.{ReadsPair}
 use Rattle.cbor4ii_items.specs.Laws.PartsBack.{pair_back, trailing, headed}
 use Rattle.cbor4ii_ser.specs.Item.{Encoding, encoded, rejected, followed, each_encoding}
-use Rattle.cbor4ii_ser.specs.Item.{entry_encoding}
-use Rattle.cbor4ii.specs.Built.{built, put_all, ReadsBuilt}
+use Rattle.cbor4ii_ser.specs.Item.{pair_encoding}
+use Rattle.cbor4ii.specs.Built.{built_pairs, put_all, ReadsBuilt}
 use Rattle.cbor4ii.specs.ReadBack.{IsReadBack, BeginsOther, IsNullItem}
 use Rattle.cbor4ii.specs.Stepped.{Stepped}
 use Rattle.cbor4ii.specs.Tuples.{ReadsAfter, ReadsTriple}
@@ -170,20 +170,21 @@ module _ {P : Type 0} (reads : Reads P) where
 
 module _ {P : Type 0} (reads : Reads P) (item : P → Encoding) (cost : P → ℕ) where
   items_back : (ps : List P) → All (λ p. IsReadBack reads (item p) p (cost p)) ps
-      → IsReadBack (ReadsElements reads) (each_encoding item ps) ps (greatest_cost cost ps)
+      → IsReadBack (ReadsElements reads) (each_encoding item ps) ps (greatest_part_cost cost ps)
   items_back [] h = λ rest. (refl, refl)
   items_back (p ∷ ps) h =
       let Q : P → Type 0 = λ q. IsReadBack reads (item q) q (cost q) in
-      joined_back reads (item p) (each_encoding item ps) p ps (cost p) (greatest_cost cost ps)
+      joined_back reads (item p) (each_encoding item ps) p ps (cost p) (greatest_part_cost cost ps)
       (All-head Q p ps h) (items_back ps (All-tail Q p ps h))
 
   pub sequence_read_back : (major : ℕ) (never_empty : Bool) (ps : List P) → length ps < 2 ^ 64
       → All (λ p. IsReadBack reads (item p) p (cost p)) ps
       → IsReadBack (ReadsSequence major reads never_empty)
       (followed (encoded (shortest_head major (length ps))) (each_encoding item ps)) ps
-      (1 + greatest_cost cost ps)
+      (1 + greatest_part_cost cost ps)
   sequence_read_back major never_empty ps small h =
-      definite_back reads major never_empty ps (each_encoding item ps) (greatest_cost cost ps) small
+      definite_back reads major never_empty ps (each_encoding item ps) (greatest_part_cost cost ps)
+      small
       (items_back ps h)
 
 -- ---- maps
@@ -201,7 +202,7 @@ pub entries_back : {K V : Type 0} (first : Reads K) (second : Reads V) (key : K 
     → All (λ p. IsReadBack first (key p.0) p.0 (key_cost p.0)) ps
     → All (λ p. IsReadBack second (value p.1) p.1 (value_cost p.1)) ps
     → All (λ p. IsReadBack (ReadsPair first second)
-    (entry_encoding key value p) p (pair_cost key_cost value_cost p)) ps
+    (pair_encoding key value p) p (pair_cost key_cost value_cost p)) ps
 entries_back first second key value key_cost value_cost ps h k =
     λ i d room. entry_back first second _ _ _ _ _ (h i d room) (k i d room)
 
@@ -238,12 +239,13 @@ module _ {K V : Type 0} (cmp : K → K → Ordering) (total : IsTotalOrder cmp) 
       ∙ (put_again (es ++ p ∷ []) ps (subst (λ zs. IsStrictlySortedBy cmp (keys_of zs))
       (sym (append_assoc es (p ∷ []) ps)) h) ∙ append_assoc es (p ∷ []) ps)
 
-  pub built_again : (es : List (K × V)) → IsStrictlySortedBy cmp (keys_of es) → built cmp es ≡ es
+  pub built_again : (es : List (K × V)) → IsStrictlySortedBy cmp (keys_of es) → built_pairs cmp es
+      ≡ es
   built_again es h = put_again [] es h
 
 pub map_read_back : {K V M : Type 0} (entries : M → List (K × V)) (cmp : K → K → Ordering)
     (reads : Reads (List (K × V))) (o : Encoding) (m : M) (cost : ℕ)
-    → built cmp (entries m) ≡ entries m → IsReadBack reads o (entries m) cost
+    → built_pairs cmp (entries m) ≡ entries m → IsReadBack reads o (entries m) cost
     → IsReadBack (ReadsBuilt entries cmp reads) o m cost
 map_read_back entries cmp reads (rejected bytes words) m cost e h = tt
 map_read_back entries cmp reads (encoded bytes) m cost e h = λ rest. (entries m, h rest, sym e)

@@ -3,7 +3,7 @@ use Rattle.std.proofs.Common.{◌≡◌, ◌≢◌, inl, inr, ℕ, List, [], ◌
 use Rattle.std.specs.List.{AllByRecursion}
 use Rattle.cbor4ii_items.specs.Decoding.{Reads}
 use Rattle.cbor4ii_ser.specs.Item.{Encoding, encoded, rejected}
-use Rattle.cbor4ii.specs.Fields.{ReadsNamed, named_field, no_field, no_values, changed}
+use Rattle.cbor4ii.specs.Fields.{ReadsNamed, named_field, no_field, no_values, after_changes}
 use Rattle.cbor4ii.specs.Places.{Place}
 use Rattle.cbor4ii.specs.ReadBack.{IsReadBack, NamedItems, ChangesBackBy, FieldsBackBy}
 
@@ -42,7 +42,7 @@ module _ {T P V : Type 0} (place : Place T P) (own : List ℕ) (reads : Reads T)
 
   -- the changes of the others leave the field
   changed_below : (o : P) (values : V) (changes : List (V → V))
-      → changed (o, values) (map below changes) ≡ (o, changed values changes)
+      → after_changes (o, values) (map below changes) ≡ (o, after_changes values changes)
   changed_below o values [] = refl
   changed_below o values (change ∷ changes) = changed_below o (change values) changes
 

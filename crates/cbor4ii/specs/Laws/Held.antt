@@ -11,19 +11,22 @@ use Rattle.std.specs.declared.string.String.{String}
 use Rattle.std.specs.declared.vec.Vec.{Vec}
 use denote.RawPtr.{null_ptr}
 use Rattle.cbor4ii_items.specs.Floats.{float_bytes}
-use Rattle.cbor4ii_items.specs.Head.{head, shortest}
+use Rattle.cbor4ii_items.specs.Head.{head, shortest_width}
 use Rattle.cbor4ii_items.specs.Initial.{unsigned, negative, Precision, half, single, double}
 use Rattle.cbor4ii_items.specs.Initial.{precision_byte, precision_bytes}
 use Rattle.cbor4ii_items.specs.Numbers.{IsWithin, shortest_head, signed_head}
 use Rattle.cbor4ii_items.specs.Simple.{bool_byte}
 use Rattle.cbor4ii_items.specs.Strings.{definite_string}
-use Rattle.cbor4ii_tree.specs.Canonical.{canonical_encoding, canonical_trees, canonical_pairs}
-use Rattle.cbor4ii_tree.specs.Canonical.{bignum}
-use Rattle.cbor4ii_tree.specs.Tree.{int, bytes, bytes_all, bytes_pairs, count, pair_count}
-use Rattle.cbor4ii_tree.specs.Item.{Item, null, boolean, integer, float, bytes_item, text, sequence}
-use Rattle.cbor4ii_tree.specs.Item.{mapping, tag, Items, no_items, item, Members, no_members}
-use Rattle.cbor4ii_tree.specs.Item.{member, item_count, member_count, IsItem, AreItems, AreMembers}
-use Rattle.cbor4ii_tree.specs.View.{view, items_view, members_view}
+use Rattle.cbor4ii_tree.specs.Basis.Canonical.{canonical_encoding, canonical_trees, canonical_pairs}
+use Rattle.cbor4ii_tree.specs.Basis.Canonical.{bignum}
+use Rattle.cbor4ii_tree.specs.Basis.Tree.{int, bytes, bytes_all, bytes_pairs, count, pair_count}
+use Rattle.cbor4ii_tree.specs.Basis.Item.{Item, null, boolean, integer, float, bytes_item, text}
+use Rattle.cbor4ii_tree.specs.Basis.Item.{sequence}
+use Rattle.cbor4ii_tree.specs.Basis.Item.{mapping, tag, Items, no_items, item, ItemPairs}
+use Rattle.cbor4ii_tree.specs.Basis.Item.{no_item_pairs}
+use Rattle.cbor4ii_tree.specs.Basis.Item.{item_pair, item_count, item_pair_count, IsItem, AreItems}
+use Rattle.cbor4ii_tree.specs.Basis.Item.{AreItemPairs}
+use Rattle.cbor4ii_tree.specs.Basis.View.{view, items_view, pairs_view}
 use Rattle.cbor4ii_tree.specs.declared.value.FloatBits.TheVariants as float_bits
 use Rattle.cbor4ii_tree.specs.declared.value.Value.{Value, the_lemmas}
 use Rattle.cbor4ii_tree.specs.declared.value.Value as values
@@ -31,15 +34,15 @@ use Rattle.cbor4ii_ser.specs.Item.{Encoding, encoded, followed, parts, field}
 use Rattle.cbor4ii_ser.specs.Item.{tuple_encoding, array_encoding, struct_encoding, variant_head}
 use Rattle.cbor4ii_ser.specs.Item.{variant_encoding, tuple_variant_encoding}
 use Rattle.cbor4ii_ser.specs.OneItem.{IsOneItem, canonical}
-use Rattle.cbor4ii_ser.specs.Values.{holds_tag, some_holds_tag, members_hold_tag, unless}
+use Rattle.cbor4ii_ser.specs.Values.{holds_tag, some_holds_tag, pairs_hold_tag, unless}
 use Rattle.cbor4ii_ser.specs.Values.{value_encoding}
 use Rattle.cbor4ii_ser.specs.Laws.Joining.{followed_both, followed_nil}
 use Rattle.cbor4ii_ser.specs.Laws.ValueItems.{value_is_item}
 use Rattle.cbor4ii.specs.Any.{ReadsAny}
 use Rattle.cbor4ii.specs.AnyCost.{any_cost}
 use Rattle.cbor4ii.specs.CodecFields.{are_ascii, is_name}
-use Rattle.cbor4ii.specs.Held.{IsHeld, AreHeld, AreHeldMembers, IsWrittenAs, AreWrittenAs}
-use Rattle.cbor4ii.specs.Held.{AreWrittenAsMembers}
+use Rattle.cbor4ii.specs.Held.{IsHeld, AreHeld, AreHeldPairs, IsWrittenAs, AreWrittenAs}
+use Rattle.cbor4ii.specs.Held.{AreWrittenAsPairs}
 use Rattle.cbor4ii.specs.Laws.Shown.{view-Array, view-Map}
 use Rattle.cbor4ii.specs.Laws.ValuesBack.{value_back}
 use Rattle.cbor4ii.specs.ReadBack.{IsReadBack, text_of}
@@ -68,10 +71,10 @@ record ValuesOf (vs : Items) : Type 0 where
   are : items_view values ≡ vs
   many : length values ≡ item_count vs
 
-record PairsOf (ms : Members) : Type 0 where
+record PairsOf (ms : ItemPairs) : Type 0 where
   values : List (Value × Value)
-  are : members_view values ≡ ms
-  many : length values ≡ member_count ms
+  are : pairs_view values ≡ ms
+  many : length values ≡ item_pair_count ms
 
 float_of : (p : Precision) (n : ℕ) → ValueOf (float p n)
 float_of half n =
@@ -125,16 +128,16 @@ mutual
         many = ap suc others.many;
       }
 
-  held_pairs : Global → (ms : Members) → AreHeldMembers ms → PairsOf ms
-  held_pairs alloc no_members h = record { values = []; are = refl; many = refl }
-  held_pairs alloc (member k v ms) h =
+  held_pairs : Global → (ms : ItemPairs) → AreHeldPairs ms → PairsOf ms
+  held_pairs alloc no_item_pairs h = record { values = []; are = refl; many = refl }
+  held_pairs alloc (item_pair k v ms) h =
       let key = held_value alloc k h.0 in
       let first = held_value alloc v h.1 in
       let others = held_pairs alloc ms h.2 in
       record {
         values = (key.value, first.value) ∷ others.values;
-        are = ap₂ (λ a b. member a b (members_view others.values)) key.is first.is
-            ∙ ap (member k v) others.are;
+        are = ap₂ (λ a b. item_pair a b (pairs_view others.values)) key.is first.is
+            ∙ ap (item_pair k v) others.are;
         many = ap suc others.many;
       }
 
@@ -149,16 +152,16 @@ mutual
   is_item (bytes_item bs) h = omega (arith, h)
   is_item (text bs) h = (omega (arith, h.1), h.0)
   is_item (sequence vs) h = (omega (arith, h.0), are_items vs h.1)
-  is_item (mapping ms) h = (omega (arith, h.0), are_members ms h.1)
+  is_item (mapping ms) h = (omega (arith, h.0), are_pairs ms h.1)
   is_item (tag n v) h = absurd h
 
   are_items : (vs : Items) → AreHeld vs → AreItems vs
   are_items no_items h = tt
   are_items (item v vs) h = (is_item v h.0, are_items vs h.1)
 
-  are_members : (ms : Members) → AreHeldMembers ms → AreMembers ms
-  are_members no_members h = tt
-  are_members (member k v ms) h = (is_item k h.0, is_item v h.1, are_members ms h.2)
+  are_pairs : (ms : ItemPairs) → AreHeldPairs ms → AreItemPairs ms
+  are_pairs no_item_pairs h = tt
+  are_pairs (item_pair k v ms) h = (is_item k h.0, is_item v h.1, are_pairs ms h.2)
 
 mutual
   untagged : (v : Item) → IsHeld v → holds_tag v ≡ false
@@ -169,18 +172,18 @@ mutual
   untagged (bytes_item bs) h = refl
   untagged (text bs) h = refl
   untagged (sequence vs) h = all_untagged vs h.1
-  untagged (mapping ms) h = members_untagged ms h.1
+  untagged (mapping ms) h = pairs_untagged ms h.1
   untagged (tag n v) h = absurd h
 
   all_untagged : (vs : Items) → AreHeld vs → some_holds_tag vs ≡ false
   all_untagged no_items h = refl
   all_untagged (item v vs) h = ap₂ (λ a b. a || b) (untagged v h.0) (all_untagged vs h.1)
 
-  members_untagged : (ms : Members) → AreHeldMembers ms → members_hold_tag ms ≡ false
-  members_untagged no_members h = refl
-  members_untagged (member k v ms) h =
+  pairs_untagged : (ms : ItemPairs) → AreHeldPairs ms → pairs_hold_tag ms ≡ false
+  pairs_untagged no_item_pairs h = refl
+  pairs_untagged (item_pair k v ms) h =
       ap₂ (λ a b. a || b) (ap₂ (λ a b. a || b) (untagged k h.0) (untagged v h.1))
-      (members_untagged ms h.2)
+      (pairs_untagged ms h.2)
 
 item_written : (v : Item) → IsHeld v → value_encoding v ≡ encoded (canonical_encoding v)
 item_written v h = ap (λ t. unless t (canonical_encoding v)) (untagged v h)
@@ -214,7 +217,8 @@ pub unsigned_as : (n : ℕ) → n < 2 ^ 64
     → IsWrittenAs (encoded (shortest_head 0 n)) (integer (pos n))
 unsigned_as n h = record {
   held = omega (arith, h);
-  is = sym (ap (λ t. encoded (bytes (if t then int unsigned n (shortest n) else bignum unsigned n)))
+  is = sym (ap (λ t. encoded (bytes (if t then int unsigned n (shortest_width n) else bignum
+      unsigned n)))
       (lt-ltb n (2 ^ 64) h));
 }
 
@@ -222,7 +226,8 @@ pub signed_as : (z : ℤ) → IsWithin (2 ^ 64) z → IsWrittenAs (encoded (sign
 signed_as (pos n) h = unsigned_as n h
 signed_as (negsuc n) h = record {
   held = omega (arith, h);
-  is = sym (ap (λ t. encoded (bytes (if t then int negative n (shortest n) else bignum negative n)))
+  is = sym (ap (λ t. encoded (bytes (if t then int negative n (shortest_width n) else bignum
+      negative n)))
       (lt-ltb n (2 ^ 64) h));
 }
 
@@ -256,10 +261,10 @@ encoded_both xs ys = refl
 headed : (major n m k : ℕ) (ps : List Encoding) (ys : List ℕ) → n ≡ k → m ≡ k
     → parts ps ≡ encoded ys
     → followed (encoded (shortest_head major n)) (parts ps)
-    ≡ encoded (head major m (shortest k) ++ ys)
+    ≡ encoded (head major m (shortest_width k) ++ ys)
 headed major n m k ps ys e f is =
     ap (followed (encoded (shortest_head major n))) is ∙ encoded_both (shortest_head major n) ys
-    ∙ ap₂ (λ i j. encoded (head major i (shortest j) ++ ys)) (e ∙ sym f) e
+    ∙ ap₂ (λ i j. encoded (head major i (shortest_width j) ++ ys)) (e ∙ sym f) e
 
 -- parts of an array: none, and one before others
 pub no_parts : AreWrittenAs [] no_items
@@ -294,13 +299,13 @@ pub vector_as : {T : Type 0} (encoding : T → Encoding) (v : Vec T Global) {vs 
 vector_as encoding v h =
     array_as h (omega (arith, length-map v.items encoding, v.ok.0, v.ok.1, v.small))
 
--- entries of a map: none, and one before others
-pub no_entries : AreWrittenAsMembers [] no_members
+-- pairs of a map: none, and one before others
+pub no_entries : AreWrittenAsPairs [] no_item_pairs
 no_entries = record { held = tt; are = refl; many = refl }
 
-pub entry_before : {key value : Encoding} {k v : Item} {ps : List Encoding} {ms : Members}
-    → IsWrittenAs key k → IsWrittenAs value v → AreWrittenAsMembers ps ms
-    → AreWrittenAsMembers (followed key value ∷ ps) (member k v ms)
+pub entry_before : {key value : Encoding} {k v : Item} {ps : List Encoding} {ms : ItemPairs}
+    → IsWrittenAs key k → IsWrittenAs value v → AreWrittenAsPairs ps ms
+    → AreWrittenAsPairs (followed key value ∷ ps) (item_pair k v ms)
 entry_before {k = k} {v = v} {ms = ms} h i others =
     let rest = bytes_pairs (canonical_pairs ms) in
     record {
@@ -313,22 +318,23 @@ entry_before {k = k} {v = v} {ms = ms} h i others =
     }
 
 -- a name and its value, before other fields
-pub field_before : (name : List ℕ) {value : Encoding} {v : Item} {ps : List Encoding} {ms : Members}
+pub field_before : (name : List ℕ) {value : Encoding} {v : Item} {ps : List Encoding}
+    {ms : ItemPairs}
     → IsTrue (are_ascii name && ltb (length name) 256) → IsWrittenAs value v
-    → AreWrittenAsMembers ps ms
-    → AreWrittenAsMembers (field name value ∷ ps) (member (text name) v ms)
+    → AreWrittenAsPairs ps ms
+    → AreWrittenAsPairs (field name value ∷ ps) (item_pair (text name) v ms)
 field_before name ok = entry_before (name_as name ok)
 
-count_pairs : (ms : Members) → pair_count (canonical_pairs ms) ≡ member_count ms
-count_pairs no_members = refl
-count_pairs (member k v ms) = ap suc (count_pairs ms)
+count_pairs : (ms : ItemPairs) → pair_count (canonical_pairs ms) ≡ item_pair_count ms
+count_pairs no_item_pairs = refl
+count_pairs (item_pair k v ms) = ap suc (count_pairs ms)
 
--- a map of these entries
-pub struct_as : {ps : List Encoding} {ms : Members} → AreWrittenAsMembers ps ms → length ps < 2 ^ 63
+-- a map of these pairs
+pub struct_as : {ps : List Encoding} {ms : ItemPairs} → AreWrittenAsPairs ps ms → length ps < 2 ^ 63
     → IsWrittenAs (struct_encoding ps) (mapping ms)
 struct_as {ps = ps} {ms = ms} h few = record {
   held = (omega (arith, few, h.many), h.held);
-  is = headed 5 (length ps) (pair_count (canonical_pairs ms)) (member_count ms) ps
+  is = headed 5 (length ps) (pair_count (canonical_pairs ms)) (item_pair_count ms) ps
       (bytes_pairs (canonical_pairs ms)) h.many (count_pairs ms) h.are;
 }
 
@@ -341,9 +347,9 @@ variant_is_struct name content =
 -- a variant that has content
 pub variant_as : (name : List ℕ) {content : Encoding} {v : Item}
     → IsTrue (are_ascii name && ltb (length name) 256) → IsWrittenAs content v
-    → IsWrittenAs (variant_encoding name content) (mapping (member (text name) v no_members))
+    → IsWrittenAs (variant_encoding name content) (mapping (item_pair (text name) v no_item_pairs))
 variant_as name {content = content} {v = v} ok h =
-    subst (λ (e : Encoding). IsWrittenAs e (mapping (member (text name) v no_members)))
+    subst (λ (e : Encoding). IsWrittenAs e (mapping (item_pair (text name) v no_item_pairs)))
     (variant_is_struct name content)
     (struct_as (field_before name ok h no_entries) (omega arith))
 
@@ -351,8 +357,9 @@ variant_as name {content = content} {v = v} ok h =
 pub tuple_variant_as : (name : List ℕ) {ps : List Encoding} {vs : Items}
     → IsTrue (are_ascii name && ltb (length name) 256) → AreWrittenAs ps vs → length ps < 2 ^ 63
     → IsWrittenAs (tuple_variant_encoding name ps)
-    (mapping (member (text name) (sequence vs) no_members))
+    (mapping (item_pair (text name) (sequence vs) no_item_pairs))
 tuple_variant_as name {ps = ps} {vs = vs} ok h few =
-    subst (λ (e : Encoding). IsWrittenAs e (mapping (member (text name) (sequence vs) no_members)))
+    subst (λ (e : Encoding). IsWrittenAs e
+    (mapping (item_pair (text name) (sequence vs) no_item_pairs)))
     (sym (followed_both (variant_head name) (shortest_head 4 (length ps)) (parts ps)))
     (variant_as name ok (array_as h few))

@@ -4,8 +4,8 @@ use Rattle.std.proofs.Common.{Some, Result, Ok, Err, true, refl, sym, ap, rules}
 use Rattle.std.proofs.lemmas.List.{drop_more}
 use Rattle.std.specs.declared.alloc.Global.{Global}
 use Rattle.std.specs.declared.vec.Vec.{Vec}
-use Rattle.cbor4ii_tree.specs.Item.{sequence, mapping, item, member}
-use Rattle.cbor4ii_tree.specs.View.{view, items_view, members_view}
+use Rattle.cbor4ii_tree.specs.Basis.Item.{sequence, mapping, item, item_pair}
+use Rattle.cbor4ii_tree.specs.Basis.View.{view, items_view, pairs_view}
 use Rattle.cbor4ii_tree.specs.declared.value.Value.{Value, Array, Map, the_lemmas}
 use Rattle.cbor4ii.specs.Checked.{Checks, MakesShown, words_unless}
 use Rattle.cbor4ii.specs.declared.serde.de.checked.Unmade.{Unmade}
@@ -15,7 +15,7 @@ use Rattle.cbor4ii.specs.declared.serde.de.checked.Unmade.TheVariants.{Rejected,
 pub view-Array : (v : Vec Value Global) → view (Array v) ≡ sequence (items_view v.items)
 view-Array v = search (rules, the_lemmas)
 
-pub view-Map : (v : Vec (Value × Value) Global) → view (Map v) ≡ mapping (members_view v.items)
+pub view-Map : (v : Vec (Value × Value) Global) → view (Map v) ≡ mapping (pairs_view v.items)
 view-Map v = search (rules, the_lemmas)
 
 -- what a function that goes down a value names by `using`
@@ -27,11 +27,11 @@ pub items_from : (vs : List Value) (i : ℕ) (v : Value) → i < length vs → v
 items_from vs i v lt is =
     ap items_view (drop_more vs i v lt) ∙ ap (λ n. items_view (n ∷ drop (i + 1) vs)) (sym is)
 
-pub members_from : (ms : List (Value × Value)) (i : ℕ) (m : Value × Value) → i < length ms
+pub pairs_from : (ms : List (Value × Value)) (i : ℕ) (m : Value × Value) → i < length ms
     → m ≡ get_or ms i m
-    → members_view (drop i ms) ≡ member (view m.0) (view m.1) (members_view (drop (i + 1) ms))
-members_from ms i m lt is =
-    ap members_view (drop_more ms i m lt) ∙ ap (λ n. members_view (n ∷ drop (i + 1) ms)) (sym is)
+    → pairs_view (drop i ms) ≡ item_pair (view m.0) (view m.1) (pairs_view (drop (i + 1) ms))
+pairs_from ms i m lt is =
+    ap pairs_view (drop_more ms i m lt) ∙ ap (λ n. pairs_view (n ∷ drop (i + 1) ms)) (sym is)
 
 -- where a part is not made, and nothing stands for the whole without it
 pub unmade_as : {A B T U : Type 0} (text : List ℕ) (part : T → A) (shown : U → B) (o : Option A)

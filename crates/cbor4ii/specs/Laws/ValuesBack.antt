@@ -11,36 +11,39 @@ use Rattle.std.specs.declared.boxed.Box.{Box}
 use Rattle.std.specs.formers.vec.Vec.{mapped}
 use Rattle.cbor4ii_items.specs.Decoding.{Reads}
 use Rattle.cbor4ii_items.specs.Floats.{float_bytes}
-use Rattle.cbor4ii_items.specs.Head.{head, indefinite_head, additional, shortest, eight}
+use Rattle.cbor4ii_items.specs.Head.{head, indefinite_head, additional, shortest_width, eight}
 use Rattle.cbor4ii_items.specs.Heads.{ReadsHead}
 use Rattle.cbor4ii_items.specs.Initial.{Sign, unsigned, negative}
 use Rattle.cbor4ii_items.specs.Numbers.{ReadsI128, ReadsU128, shortest_head, bignum_bytes}
 use Rattle.cbor4ii_items.specs.Sequences.{ReadsSequence, ReadsPair}
-use Rattle.cbor4ii_items.specs.ReadBack.{ReadsBack, greatest_cost, pair_cost}
+use Rattle.cbor4ii_items.specs.ReadBack.{ReadsBack, greatest_part_cost, pair_cost}
 use Rattle.cbor4ii_items.specs.Strings.{definite_string, bytes_content, text_content}
 use Rattle.cbor4ii_items.specs.Laws.LeavesBack.{definite_back, string_back, text_back, simple_back}
 use Rattle.cbor4ii_items.specs.Laws.LeavesBack.{float_back}
 use Rattle.cbor4ii_items.specs.Laws.NumbersBack.{head_back, u128_back, i128_back}
 use Rattle.cbor4ii_tree.specs.Laws.Numbers.{additional-lt}
-use Rattle.cbor4ii_tree.specs.Canonical.{canonical_encoding, canonical_cost, canonical_trees}
-use Rattle.cbor4ii_tree.specs.Canonical.{canonical_pairs, bignum}
+use Rattle.cbor4ii_tree.specs.Basis.Canonical.{canonical_encoding, canonical_cost, canonical_trees}
+use Rattle.cbor4ii_tree.specs.Basis.Canonical.{canonical_pairs, bignum}
 use Rattle.cbor4ii_tree.specs.declared.value.Value.TheFolds.{ind-Value}
-use Rattle.cbor4ii_tree.specs.Item.{Item, null, boolean, integer, float, bytes_item, text, sequence}
-use Rattle.cbor4ii_tree.specs.Item.{mapping, tag, Items, no_items, item, Members, no_members}
-use Rattle.cbor4ii_tree.specs.Item.{member, item_count, member_count, IsItem, AreItems, AreMembers}
-use Rattle.cbor4ii_tree.specs.Tree.{int, bytes, bytes_all, bytes_pairs, count, pair_count}
-use Rattle.cbor4ii_tree.specs.View.{view, float_view, items_view, members_view}
+use Rattle.cbor4ii_tree.specs.Basis.Item.{Item, null, boolean, integer, float, bytes_item, text}
+use Rattle.cbor4ii_tree.specs.Basis.Item.{sequence}
+use Rattle.cbor4ii_tree.specs.Basis.Item.{mapping, tag, Items, no_items, item, ItemPairs}
+use Rattle.cbor4ii_tree.specs.Basis.Item.{no_item_pairs}
+use Rattle.cbor4ii_tree.specs.Basis.Item.{item_pair, item_count, item_pair_count, IsItem, AreItems}
+use Rattle.cbor4ii_tree.specs.Basis.Item.{AreItemPairs}
+use Rattle.cbor4ii_tree.specs.Basis.Tree.{int, bytes, bytes_all, bytes_pairs, count, pair_count}
+use Rattle.cbor4ii_tree.specs.Basis.View.{view, float_view, items_view, pairs_view}
 use Rattle.cbor4ii_tree.specs.declared.value.FloatBits.{FloatBits}
 use Rattle.cbor4ii_tree.specs.declared.value.FloatBits.TheVariants as float_bits
 use Rattle.cbor4ii_tree.specs.declared.value.Value.{Value, the_lemmas}
 use Rattle.cbor4ii_tree.specs.declared.value.Value as values
 use Rattle.cbor4ii_tree.specs.declared.value.Value.TheOpen.{Value-F}
 use Rattle.cbor4ii_tree.specs.declared.value.Value.TheVariants as variants
-use Rattle.cbor4ii_tree.specs.Cost.{cost}
-use Rattle.cbor4ii_tree.specs.Cost as Cost
+use Rattle.cbor4ii_tree.specs.Basis.Cost.{cost}
+use Rattle.cbor4ii_tree.specs.Basis.Cost as Cost
 use Rattle.cbor4ii_ser.specs.Item.{Encoding, encoded, rejected, followed, each_encoding}
-use Rattle.cbor4ii_ser.specs.Item.{entry_encoding}
-use Rattle.cbor4ii_ser.specs.Values.{holds_tag, some_holds_tag, members_hold_tag, unless}
+use Rattle.cbor4ii_ser.specs.Item.{pair_encoding}
+use Rattle.cbor4ii_ser.specs.Values.{holds_tag, some_holds_tag, pairs_hold_tag, unless}
 use Rattle.cbor4ii_ser.specs.Values.{value_encoding}
 use Rattle.cbor4ii.specs.declared.serde.de.any_leaf.AnyKind.{AnyKind}
 use Rattle.cbor4ii.specs.declared.serde.de.any_leaf.AnyKind.TheVariants.{Leaf, Array, Map}
@@ -85,7 +88,7 @@ module _ {P : Type 0} (reads : Reads P) (k : AnyKind) (major : ℕ)
 -- ---- integers
 
 from_zero_back : (t : Bool) (k : ℕ) → ltb k (2 ^ 64) ≡ t → k < 2 ^ 127
-    → ReadsBack ReadsAny (bytes (cond t (int unsigned k (shortest k)) (bignum unsigned k)))
+    → ReadsBack ReadsAny (bytes (cond t (int unsigned k (shortest_width k)) (bignum unsigned k)))
     (values.Integer (pos k)) 1
 from_zero_back true k e h rest =
     let start = shortest_head 0 k in
@@ -100,7 +103,7 @@ from_zero_back false k e h rest =
     (length (bignum_bytes 2 k)) 0 refl refl (k, (back rest, h), refl)
 
 below_zero_back : (t : Bool) (k : ℕ) → ltb k (2 ^ 64) ≡ t → k < 2 ^ 127
-    → ReadsBack ReadsAny (bytes (cond t (int negative k (shortest k)) (bignum negative k)))
+    → ReadsBack ReadsAny (bytes (cond t (int negative k (shortest_width k)) (bignum negative k)))
     (values.Integer (negsuc k)) 1
 below_zero_back true k e h rest =
     let start = shortest_head 1 k in
@@ -217,7 +220,7 @@ abbrev own_item : Value → Encoding
 own_item v = value_encoding (view v)
 
 abbrev own_entry : Value × Value → Encoding
-own_entry = entry_encoding own_item own_item
+own_entry = pair_encoding own_item own_item
 
 items_joined : (vs : List Value) → Agrees (each_encoding own_item vs)
     (unless (some_holds_tag (items_view vs)) (bytes_all (canonical_trees (items_view vs))))
@@ -228,15 +231,15 @@ items_joined (v ∷ vs) =
     (bytes_all (canonical_trees (items_view vs))))
 
 entries_joined : (ms : List (Value × Value)) → Agrees (each_encoding own_entry ms)
-    (unless (members_hold_tag (members_view ms)) (bytes_pairs (canonical_pairs (members_view ms))))
+    (unless (pairs_hold_tag (pairs_view ms)) (bytes_pairs (canonical_pairs (pairs_view ms))))
 entries_joined [] = agrees _ _ refl
 entries_joined (m ∷ ms) =
     let s = holds_tag (view m.0) in
     let t = holds_tag (view m.1) in
-    let u = members_hold_tag (members_view ms) in
+    let u = pairs_hold_tag (pairs_view ms) in
     let key = canonical_encoding (view m.0) in
     let value = canonical_encoding (view m.1) in
-    let others = bytes_pairs (canonical_pairs (members_view ms)) in
+    let others = bytes_pairs (canonical_pairs (pairs_view ms)) in
     agrees_on _ _ _ (agree_both (own_entry m) (each_encoding own_entry ms) (unless (s || t)
     (key ++ value)) (unless u others) (joined s t key value) (entries_joined ms))
     (agrees_on _ _ _ (joined (s || t) u (key ++ value) others)
@@ -248,15 +251,15 @@ definite_items : (vs : List Value)
 definite_items [] = (refl, refl)
 definite_items (v ∷ vs) = (ap suc (definite_items vs).0, ap suc (definite_items vs).1)
 
-definite_members : (ms : List (Value × Value)) → (member_count (members_view ms) ≡ length ms)
-    × (pair_count (canonical_pairs (members_view ms)) ≡ length ms)
-definite_members [] = (refl, refl)
-definite_members (m ∷ ms) = (ap suc (definite_members ms).0, ap suc (definite_members ms).1)
+definite_pairs : (ms : List (Value × Value)) → (item_pair_count (pairs_view ms) ≡ length ms)
+    × (pair_count (canonical_pairs (pairs_view ms)) ≡ length ms)
+definite_pairs [] = (refl, refl)
+definite_pairs (m ∷ ms) = (ap suc (definite_pairs ms).0, ap suc (definite_pairs ms).1)
 
 -- the head of a sequence counts its parts in two ways
 one_head : (major n m k : ℕ) (t : Bool) (ys : List ℕ) → m ≡ k → n ≡ k
     → Agrees (followed (encoded (shortest_head major k)) (unless t ys))
-    (unless t (head major n (shortest m) ++ ys))
+    (unless t (head major n (shortest_width m) ++ ys))
 one_head major n m k t ys e f = rw (e, f) (joined false t (shortest_head major k) ys)
 
 array_is : (vs : List Value)
@@ -270,27 +273,27 @@ array_is vs =
 
 map_is : (ms : List (Value × Value))
     → Agrees (followed (encoded (shortest_head 5 (length ms))) (each_encoding own_entry ms))
-    (value_encoding (mapping (members_view ms)))
+    (value_encoding (mapping (pairs_view ms)))
 map_is ms =
     let start = encoded (shortest_head 5 (length ms)) in
     agrees_on _ _ _ (agree_both start _ start _ (agrees _ _ refl) (entries_joined ms))
-    (one_head 5 _ _ (length ms) (members_hold_tag (members_view ms))
-    (bytes_pairs (canonical_pairs (members_view ms)))
-    (definite_members ms).0 (definite_members ms).1)
+    (one_head 5 _ _ (length ms) (pairs_hold_tag (pairs_view ms))
+    (bytes_pairs (canonical_pairs (pairs_view ms)))
+    (definite_pairs ms).0 (definite_pairs ms).1)
 
 -- ---- what they cost
 
 abbrev own_cost : Value → ℕ
 own_cost v = any_cost (view v)
 
-items_cost : (vs : List Value) → greatest_cost own_cost vs ≡ greatest_any_cost (items_view vs)
+items_cost : (vs : List Value) → greatest_part_cost own_cost vs ≡ greatest_any_cost (items_view vs)
 items_cost [] = refl
 items_cost (v ∷ vs) = ap (max (own_cost v)) (items_cost vs)
 
-members_cost : (ms : List (Value × Value))
-    → greatest_cost (pair_cost own_cost own_cost) ms ≡ greatest_any_pair_cost (members_view ms)
-members_cost [] = refl
-members_cost (m ∷ ms) = ap (max (max (own_cost m.0) (own_cost m.1))) (members_cost ms)
+pairs_cost : (ms : List (Value × Value))
+    → greatest_part_cost (pair_cost own_cost own_cost) ms ≡ greatest_any_pair_cost (pairs_view ms)
+pairs_cost [] = refl
+pairs_cost (m ∷ ms) = ap (max (max (own_cost m.0) (own_cost m.1))) (pairs_cost ms)
 
 -- ---- arrays and maps
 
@@ -320,25 +323,25 @@ array_read vs all h =
     (λ xs n c r. (vs, r, refl)) _ _ read in
     let own = back_as ReadsAny (followed (encoded (shortest_head 4 (length vs.items)))
     (each_encoding own_item vs.items)) (value_encoding (sequence (items_view vs.items)))
-    (values.Array vs) (1 + (1 + greatest_cost own_cost vs.items)) (array_is vs.items) value in
+    (values.Array vs) (1 + (1 + greatest_part_cost own_cost vs.items)) (array_is vs.items) value in
     rw (items_cost vs.items, two_steps (greatest_any_cost (items_view vs.items))) at own
 
 map_read : (ms : Vec (Value × Value) Global) → All (λ m. IsBack m.0) ms.items
-    → All (λ m. IsBack m.1) ms.items → BackAs (mapping (members_view ms.items)) (values.Map ms)
+    → All (λ m. IsBack m.1) ms.items → BackAs (mapping (pairs_view ms.items)) (values.Map ms)
 map_read ms keys contents h =
     let entries =
     entries_back ReadsAny ReadsAny own_item own_item own_cost own_cost ms.items keys contents in
     let read =
     sequence_read_back (ReadsPair ReadsAny ReadsAny) own_entry (pair_cost own_cost own_cost) 5
-    true ms.items (omega (arith, h.0, (definite_members ms.items).0)) entries in
+    true ms.items (omega (arith, h.0, (definite_pairs ms.items).0)) entries in
     let value =
     under_value (ReadsPair ReadsAny ReadsAny) Map 5 (λ b. refl) refl ms.items (values.Map ms)
     (λ xs n c r. (ms, r, refl)) _ _ read in
     let own = back_as ReadsAny
     (followed (encoded (shortest_head 5 (length ms.items))) (each_encoding own_entry ms.items))
-    (value_encoding (mapping (members_view ms.items))) (values.Map ms)
-    (1 + (1 + greatest_cost (pair_cost own_cost own_cost) ms.items)) (map_is ms.items) value in
-    rw (members_cost ms.items, two_steps (greatest_any_pair_cost (members_view ms.items))) at own
+    (value_encoding (mapping (pairs_view ms.items))) (values.Map ms)
+    (1 + (1 + greatest_part_cost (pair_cost own_cost own_cost) ms.items)) (map_is ms.items) value in
+    rw (pairs_cost ms.items, two_steps (greatest_any_pair_cost (pairs_view ms.items))) at own
 
 -- ---- any value
 
@@ -355,13 +358,13 @@ module _ {E : Type 0} (f : E → Value) (back : (e : E) → Back (f e)) where
   abbrev both : E × E → Value × Value
   both p = (f p.0, f p.1)
 
-  keys_back : (es : List (E × E)) → AreMembers (members_view (map both es))
+  keys_back : (es : List (E × E)) → AreItemPairs (pairs_view (map both es))
       → All (λ m. IsBack m.0) (map both es)
   keys_back [] h = All-nil (λ m. IsBack m.0)
   keys_back (e ∷ es) h =
       All-cons (λ m. IsBack m.0) (both e) (map both es) (back e.0 h.0) (keys_back es h.2)
 
-  contents_back : (es : List (E × E)) → AreMembers (members_view (map both es))
+  contents_back : (es : List (E × E)) → AreItemPairs (pairs_view (map both es))
       → All (λ m. IsBack m.1) (map both es)
   contents_back [] h = All-nil (λ m. IsBack m.1)
   contents_back (e ∷ es) h =
@@ -376,8 +379,8 @@ module _ {E : Type 0} (f : E → Value) (back : (e : E) → Back (f e)) where
   maps_back : (w : Vec (Value × Value) Global) (es : List (E × E)) → w.items ≡ map both es
       → Back (values.Map w)
   maps_back w es e =
-      as_seen (values.Map w) (mapping (members_view w.items)) (search (rules, the_lemmas)) (λ h.
-      let each = subst (λ ms. AreMembers (members_view ms)) e h.1 in
+      as_seen (values.Map w) (mapping (pairs_view w.items)) (search (rules, the_lemmas)) (λ h.
+      let each = subst (λ ms. AreItemPairs (pairs_view ms)) e h.1 in
       map_read w (subst (All (λ m. IsBack m.0)) (sym e) (keys_back es each))
       (subst (All (λ m. IsBack m.1)) (sym e) (contents_back es each)) h)
 
@@ -404,7 +407,7 @@ value_back =
 -- ---- the canonical encoding costs no less
 
 least_integer : (t : Bool) (s : Sign) (n : ℕ)
-    → 1 ≤ cost (cond t (int s n (shortest n)) (bignum s n))
+    → 1 ≤ cost (cond t (int s n (shortest_width n)) (bignum s n))
 least_integer true s n = omega arith
 least_integer false s n = omega arith
 
@@ -425,7 +428,13 @@ mutual
   costs_least no_items = omega arith
   costs_least (item v vs) = omega (arith, cost_least v, costs_least vs)
 
-  pair_costs_least : (ms : Members)
+  pair_costs_least : (ms : ItemPairs)
       → greatest_any_pair_cost ms ≤ Cost.greatest_pair_cost (canonical_pairs ms)
-  pair_costs_least no_members = omega arith
-  pair_costs_least (member k v ms) = omega (arith, cost_least k, cost_least v, pair_costs_least ms)
+  pair_costs_least no_item_pairs = omega arith
+  pair_costs_least (item_pair k v ms) = omega (
+    arith,
+    cost_least k,
+    cost_least v,
+    pair_costs_least
+        ms,
+  )

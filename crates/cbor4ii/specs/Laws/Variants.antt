@@ -10,10 +10,10 @@ use Rattle.cbor4ii_items.specs.Laws.Heads.{additional-lt}
 use Rattle.cbor4ii_items.specs.Laws.Strings.{text_one, text_within, text_positive}
 use Rattle.cbor4ii.specs.Stepped.{stepped_laws}
 use Rattle.cbor4ii.specs.Tuples.{pair_laws}
-use Rattle.cbor4ii.specs.Typed.{Lawful, not_exact}
-use Rattle.cbor4ii.specs.Variants.{ReadsUnitVariant, ReadsEntryVariant, ReadsVariant}
+use Rattle.cbor4ii.specs.Typed.{IsLawfulReading, not_exact}
+use Rattle.cbor4ii.specs.Variants.{ReadsUnitVariant, ReadsPairVariant, ReadsVariant}
 
--- a text does not begin as a map of one entry
+-- a text does not begin as a map of one pair
 text_no_entry : (xs name : List ℕ) (n c : ℕ) → ReadsText xs name n c → take 1 xs ≡ 0xa1 ∷ [] → ⊥
 text_no_entry xs name n c (inl h, utf8) e =
     let head = h.0.head in
@@ -26,7 +26,7 @@ text_no_entry xs name n c (inr h, utf8) e =
     let same : indefinite_head 3 ≡ 0xa1 = cc in
     omega (arith, same)
 
-text_laws : Lawful ReadsText (λ (v w : List ℕ). v ≡ w) true
+text_laws : IsLawfulReading ReadsText (λ (v w : List ℕ). v ≡ w) true
 text_laws = record {
   one = text_one (λ (name : List ℕ). name);
   within = text_within (λ (name : List ℕ). name);
@@ -37,9 +37,10 @@ text_laws = record {
 module _ {V : Type 0} (units : List ℕ → V → Type 0) (contents : List ℕ → Reads V)
     (same : V → V → Type 0) {never_empty : Bool}
     (unit_one : (name : List ℕ) (v w : V) → units name v → units name w → same v w)
-    (laws : (name : List ℕ) → Lawful (contents name) same never_empty) where
+    (laws : (name : List ℕ) → IsLawfulReading (contents name) same never_empty) where
   name_laws : (name : List ℕ)
-      → Lawful (ReadsPair ReadsText (contents name)) (SamePair (λ (v w : List ℕ). v ≡ w) same) true
+      → IsLawfulReading (ReadsPair ReadsText (contents name)) (SamePair (λ (v w : List ℕ). v ≡ w)
+      same) true
   name_laws name =
       pair_laws ReadsText (contents name) (λ (v w : List ℕ). v ≡ w) same true never_empty
       text_laws (laws name)
@@ -50,8 +51,8 @@ module _ {V : Type 0} (units : List ℕ → V → Type 0) (contents : List ℕ �
       let e = text_laws.one xs p.0 q.0 n m c d p.1 q.1 in
       (e.0, e.1, unit_one q.0 v w (subst (λ name. units name v) e.2 p.2) q.2)
 
-  entry_variant_one : (xs : List ℕ) (v w : V) (n m c d : ℕ) → ReadsEntryVariant contents xs v n c
-      → ReadsEntryVariant contents xs w m d → (n ≡ m) × (c ≡ d) × same v w
+  entry_variant_one : (xs : List ℕ) (v w : V) (n m c d : ℕ) → ReadsPairVariant contents xs v n c
+      → ReadsPairVariant contents xs w m d → (n ≡ m) × (c ≡ d) × same v w
   entry_variant_one xs v w n m c d p q =
       let is = (text_laws.one (drop 1 xs) p.1 q.1 p.3.key_size q.3.key_size p.3.key_cost
       q.3.key_cost p.3.key q.3.key).2 in
@@ -61,8 +62,8 @@ module _ {V : Type 0} (units : List ℕ → V → Type 0) (contents : List ℕ �
       (omega (arith, p.4, q.4, e.0), e.1, e.2.1)
 
   variant_one : (xs : List ℕ) (v w : V) (n m c d : ℕ)
-      → ReadsUnitVariant units xs v n c ⊎ ReadsEntryVariant contents xs v n c
-      → ReadsUnitVariant units xs w m d ⊎ ReadsEntryVariant contents xs w m d
+      → ReadsUnitVariant units xs v n c ⊎ ReadsPairVariant contents xs v n c
+      → ReadsUnitVariant units xs w m d ⊎ ReadsPairVariant contents xs w m d
       → (n ≡ m) × (c ≡ d) × same v w
   variant_one xs v w n m c d (inl p) (inl q) = unit_variant_one xs v w n m c d p q
   variant_one xs v w n m c d (inl p) (inr q) = absurd (text_no_entry xs p.0 n c p.1 q.0)
@@ -70,7 +71,7 @@ module _ {V : Type 0} (units : List ℕ → V → Type 0) (contents : List ℕ �
   variant_one xs v w n m c d (inr p) (inr q) = entry_variant_one xs v w n m c d p q
 
   variant_within : (xs : List ℕ) (v : V) (n c : ℕ)
-      → ReadsUnitVariant units xs v n c ⊎ ReadsEntryVariant contents xs v n c → n ≤ length xs
+      → ReadsUnitVariant units xs v n c ⊎ ReadsPairVariant contents xs v n c → n ≤ length xs
   variant_within xs v n c (inl p) = text_laws.within xs p.0 n c p.1
   variant_within xs v n c (inr p) =
       omega (
@@ -83,12 +84,12 @@ module _ {V : Type 0} (units : List ℕ → V → Type 0) (contents : List ℕ �
       )
 
   variant_positive : (xs : List ℕ) (v : V) (n c : ℕ)
-      → ReadsUnitVariant units xs v n c ⊎ ReadsEntryVariant contents xs v n c → 1 ≤ n
+      → ReadsUnitVariant units xs v n c ⊎ ReadsPairVariant contents xs v n c → 1 ≤ n
   variant_positive xs v n c (inl p) = text_positive (λ (name : List ℕ). name) xs p.0 n c p.1
   variant_positive xs v n c (inr p) = omega (arith, p.4)
 
   -- A variant may be exact by it.
-  pub variant_laws : Lawful (ReadsVariant units contents) same true
+  pub variant_laws : IsLawfulReading (ReadsVariant units contents) same true
   variant_laws = stepped_laws (record {
     one = variant_one;
     within = variant_within;

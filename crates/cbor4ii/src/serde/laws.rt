@@ -14,13 +14,13 @@ ghost use Rattle.cbor4ii_rw.specs.declared.error.DecodeError.{DecodeError};
 ghost use Rattle.cbor4ii_items.specs.Decoding.{Reads, Sound, Complete};
 ghost use Rattle.cbor4ii_items.specs.Budget.{CostFits};
 ghost use Rattle.cbor4ii_items.specs.NeverBoth.{NeverBoth};
-ghost use Rattle.cbor4ii_items.specs.ReadBack.{greatest_cost, pair_cost};
+ghost use Rattle.cbor4ii_items.specs.ReadBack.{greatest_part_cost, pair_cost};
 ghost use Rattle.cbor4ii_items.specs.Whole.{IsWhole};
 ghost use Rattle.cbor4ii_items.specs.InputError.{input_error_of};
 ghost use Rattle.cbor4ii_items.specs.Moves.{Kept};
 ghost use Rattle.cbor4ii_items.specs.Strings.{definite_string, ReadsTextAs};
-ghost use Rattle.cbor4ii_tree.specs.Canonical.{canonical_cost};
-ghost use Rattle.cbor4ii_tree.specs.Item.{Item};
+ghost use Rattle.cbor4ii_tree.specs.Basis.Canonical.{canonical_cost};
+ghost use Rattle.cbor4ii_tree.specs.Basis.Item.{Item};
 ghost use Rattle.cbor4ii_ser.specs.Item.{Encoding, encoded, variant_encoding};
 ghost use Rattle.cbor4ii_ser.specs.OneItem.{canonical};
 ghost use Rattle.cbor4ii_ser.specs.Tagged.{tagged_encoding};
@@ -31,7 +31,7 @@ ghost use Rattle.cbor4ii.specs.Laws.ElementsAlike.{as_pair, as_triple};
 ghost use Rattle.cbor4ii.specs.Optional.{ReadsPresence, RejectsPresence};
 ghost use Rattle.cbor4ii.specs.ReadBack.{IsReadBack, BeginsOther, IsNullItem, IsName};
 ghost use Rattle.cbor4ii.specs.Tagged.{typed_tagged};
-ghost use Rattle.cbor4ii.specs.Typed.{Lawful};
+ghost use Rattle.cbor4ii.specs.Typed.{IsLawfulReading};
 ghost use Rattle.cbor4ii.specs.Variants.{OpensEnum, ReadsContent, ReadsVariant};
 
 use crate::serde::de::deserialize::Typed;
@@ -97,7 +97,7 @@ pub fn vectors_are_read_back<T: Typed + Serialize>()
         All (λ part. IsReadBack T.promise.format.reads (T.encoding part) part (cost part))
         v.items →
         IsReadBack ⟦<Vec<T> as Typed>⟧.promise.format.reads (⟦<Vec<T> as Serialize>⟧.encoding v) v
-        (1 + greatest_cost cost v.items) }
+        (1 + greatest_part_cost cost v.items) }
 {}
 
 /// A map whose keys stand in their order, as those of every map of the program do, is read back
@@ -110,7 +110,7 @@ pub fn maps_are_read_back<K: Typed + Serialize + Ord, V: Typed + Serialize>()
         m.entries →
         IsReadBack ⟦<BTreeMap<K, V> as Typed>⟧.promise.format.reads
         (⟦<BTreeMap<K, V> as Serialize>⟧.encoding m) m
-        (1 + greatest_cost (pair_cost key_cost value_cost) m.entries) }
+        (1 + greatest_part_cost (pair_cost key_cost value_cost) m.entries) }
 {}
 
 /// A value that may be absent and whose item is null or undefined is read as none.
@@ -147,13 +147,13 @@ pub trait EnumValues: Sized {
         Self.same v w };
 
     // one content is read in one way
-    ghost content_laws: { (name : List ℕ) → Lawful (Self.contents name) Self.same false };
+    ghost content_laws: { (name : List ℕ) → IsLawfulReading (Self.contents name) Self.same false };
 }
 
 /// A variant is read in one way. An enum that reads so may be exact by it, as by the same lemma,
 /// `variant_laws`.
 pub fn variants_are_read_in_one_way<V: EnumValues>()
-    ensures { Lawful (ReadsVariant V.units V.contents) V.same true }
+    ensures { IsLawfulReading (ReadsVariant V.units V.contents) V.same true }
 {}
 
 /// What the calls of `EnumAccessor` read is a variant: `deserialize_enum`, `variant`, and then

@@ -9,14 +9,15 @@ use cbor4ii::enc::Write;
 use cbor4ii::error::{Never, StaticStr};
 use cbor4ii::serde::Choice::{First, Other};
 use cbor4ii::serde::{
-    Choice, DecodeError, Deserialize, Deserializer, EncodeError, Holds, Otherwise, Serialize,
-    Serializer, Typed, Unit, to_writer,
+    Choice, DecodeError, Deserialize, Deserializer, EncodeError, FieldWords, Holds, HoldsFields,
+    Otherwise, Required, Serialize, Serializer, Typed, Unit, to_writer,
 };
 use cbor4ii_vectors::{mismatch, no_step, table};
 use cbor4ii_vectors_de::typed::{
     Answer, BothShown, RowShown, RowShownWithin, Take, come_back, tries_shown,
 };
 use std::alloc::Global;
+use std::marker::PhantomData;
 use std::test::Fail;
 
 impl Take for Enum {
@@ -59,15 +60,15 @@ const ENUM: [StaticStr; 4] = ["Unit", "NewType", "Tuple", "Struct"];
 
 impl<S: Source> Deserialize<S> for Enum {
     fn deserialize(alloc: Global, de: &mut Deserializer<S>) -> Result<Enum, DecodeError<S::Error>> {
-        let cases = (
-            Unit,
-            (Holds, (Holds, (Holds, Otherwise("another variant")))),
-        );
+        let words = FieldWords(&["x", "y"], &["a field is missing"; 2], PhantomData);
+        let presences = (Required, (Required, ()));
+        let others = HoldsFields(words, presences, Otherwise("another variant"));
+        let cases = (Unit, (Holds, (Holds, others)));
         de.deserialize_variant(alloc, "Enum", &ENUM, cases)
     }
 }
 
-type Variants = Choice<(), Choice<u32, Choice<(String, bool), Choice<Fields, Never>>>>;
+type Variants = Choice<(), Choice<u32, Choice<(String, bool), Choice<(u32, (i32, ())), Never>>>>;
 
 impl From<Variants> for Enum {
     fn from(variants: Variants) -> Enum {
@@ -75,31 +76,7 @@ impl From<Variants> for Enum {
             First(()) => Enum::Unit,
             Other(First(number)) => Enum::NewType(number),
             Other(Other(First((text, flag)))) => Enum::Tuple(text, flag),
-            Other(Other(Other(First(Fields { x, y })))) => Enum::Struct { x, y },
-        }
-    }
-}
-
-/// The fields of `Enum::Struct`.
-#[derive(Drop)]
-struct Fields {
-    x: u32,
-    y: i32,
-}
-
-impl Typed for Fields {}
-
-impl<S: Source> Deserialize<S> for Fields {
-    fn deserialize(
-        alloc: Global,
-        de: &mut Deserializer<S>,
-    ) -> Result<Fields, DecodeError<S::Error>> {
-        match de.deserialize_2_fields(alloc, "Struct", "x", "y") {
-            Ok((x, y)) => match (x, y) {
-                (Some(x), Some(y)) => Ok(Fields { x, y }),
-                _ => Err(DecodeError::Custom("a field is missing")),
-            },
-            Err(error) => Err(error),
+            Other(Other(Other(First((x, (y, ())))))) => Enum::Struct { x, y },
         }
     }
 }

@@ -7,7 +7,8 @@ use crate::label::Label;
 use cbor4ii::enc::Write;
 use cbor4ii::error::{DecodeError as CoreError, Never};
 use cbor4ii::serde::{
-    DecodeError, Deserialize, Deserializer, EncodeError, Serialize, Serializer, Typed, from_slice,
+    DecodeError, Deserialize, Deserializer, EncodeError, Or, Required, Serialize, Serializer,
+    Typed, from_slice,
 };
 use cbor4ii::types::Bytes;
 use cbor4ii::utils::SliceReader;
@@ -100,25 +101,37 @@ impl<'a> Deserialize<SliceReader<'a>> for Record<'a> {
         alloc: Global,
         de: &mut Deserializer<SliceReader<'a>>,
     ) -> Result<Record<'a>, DecodeError<Never>> {
-        match de.deserialize_6_fields(
-            alloc, "Record", "name", "objects", "bytes", "variants", "unit", "text",
-        ) {
-            Ok((name, objects, bytes, variants, unit, text)) => {
-                match (name, objects, bytes, variants, text) {
-                    (Some(name), Some(objects), Some(bytes), Some(variants), Some(text)) => {
-                        Ok(Record {
-                            name,
-                            objects,
-                            bytes,
-                            variants,
-                            unit: unit.unwrap_or(None),
-                            text,
-                        })
-                    }
-                    _ => Err(DecodeError::Custom("a field is missing")),
-                }
-            }
-            Err(error) => Err(error),
+        let names = ["name", "objects", "bytes", "variants", "unit", "text"];
+        let missing = ["a field is missing"; 6];
+        let presences = (
+            Required,
+            (Required, (Required, (Required, (Or(None), (Required, ()))))),
+        );
+        de.deserialize_fields(alloc, "Record", &names, &missing, presences)
+    }
+}
+
+type Fields<'a> = (
+    char,
+    (
+        BTreeMap<String, Vec<String>>,
+        (
+            Bytes<&'a [u8]>,
+            (BTreeMap<String, Enum>, (Option<()>, (&'a str, ()))),
+        ),
+    ),
+);
+
+impl<'a> From<Fields<'a>> for Record<'a> {
+    fn from(fields: Fields<'a>) -> Record<'a> {
+        let (name, (objects, (bytes, (variants, (unit, (text, ())))))) = fields;
+        Record {
+            name,
+            objects,
+            bytes,
+            variants,
+            unit,
+            text,
         }
     }
 }

@@ -130,7 +130,7 @@ const ROWS: &[Row] = table! {
     // A number of two bytes, in a head of five.
     (&[b"\xa2\x61x\x1a\x00\x00\x01\xf4\x64name\x60", FIVE],
         b"\xa1\x66status\x19\x01\xf4\xa1\x66status\x05"),
-    // An indefinite length, a name in chunks, and a member that is skipped.
+    // An indefinite length, a name in chunks, and a pair that is skipped.
     (&[b"\xbf\x61z\x82\xf6\x9f\xff\x7f\x62na\x62me\xff\x61a\x61x\x05\xff", FIVE],
         b"\xa1\x66status\x05\xa1\x66status\x05"),
     // A name and a text of 24 bytes.

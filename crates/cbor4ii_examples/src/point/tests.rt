@@ -6,8 +6,10 @@ ghost use Rattle.cbor4ii_ser.specs.Item.{field, struct_encoding};
 use crate::point::{Point, point_is_read_back};
 use cbor4ii::dec::Source;
 use cbor4ii::enc::Write;
-use cbor4ii::error::Never;
-use cbor4ii::serde::{DecodeError, Deserialize, Deserializer, EncodeError, Serialize, Serializer};
+use cbor4ii::error::{Never, StaticStr};
+use cbor4ii::serde::{
+    DecodeError, Deserialize, Deserializer, EncodeError, Optional, Required, Serialize, Serializer,
+};
 use cbor4ii_vectors::{eof, mismatch, no_step, table};
 use cbor4ii_vectors_de::typed::{
     Answer, BothShown, Rejected, RowShown, RowShownWithin, Take, comes_back, reads_all_shown,
@@ -108,18 +110,19 @@ impl Serialize for Whole {
     }
 }
 
-const MISSING: &str = "a field is missing";
+const MISSING: [StaticStr; 4] = ["a field is missing"; 4];
 
 impl Take for Whole {
     fn take<S: Source>(
         alloc: Global,
         de: &mut Deserializer<S>,
     ) -> Result<Whole, DecodeError<S::Error>> {
-        let (a, b, c, d) = de.deserialize_4_fields(alloc, "Whole", "a", "b", "c", "d")?;
-        match (a, b, c, d) {
-            (Some(a), Some(b), Some(c), Some(d)) => Ok(Whole { a, b, c, d }),
-            _ => Err(DecodeError::Custom(MISSING)),
-        }
+        let names = ["a", "b", "c", "d"];
+        let presences = (Required, (Required, (Required, (Required, ()))));
+        let (a, (b, (c, (d, ())))) = de.deserialize_fields(
+            alloc, "Whole", &names, &MISSING, presences,
+        )?;
+        Ok(Whole { a, b, c, d })
     }
 }
 
@@ -132,10 +135,10 @@ impl Take for WithoutC {
         alloc: Global,
         de: &mut Deserializer<S>,
     ) -> Result<WithoutC, DecodeError<S::Error>> {
-        match de.deserialize_3_fields(alloc, "Whole", "a", "b", "d")? {
-            (Some(a), Some(b), Some(d)) => Ok(WithoutC(a, b, d)),
-            _ => Err(DecodeError::Custom(MISSING)),
-        }
+        let names = ["a", "b", "d"];
+        let presences = (Required, (Required, (Required, ())));
+        let (a, (b, (d, ()))) = de.deserialize_fields(alloc, "Whole", &names, &MISSING, presences)?;
+        Ok(WithoutC(a, b, d))
     }
 }
 
@@ -148,11 +151,10 @@ impl Take for WithoutD {
         alloc: Global,
         de: &mut Deserializer<S>,
     ) -> Result<WithoutD, DecodeError<S::Error>> {
-        let (a, c, e) = de.deserialize_3_fields(alloc, "Whole", "a", "c", "e")?;
-        match (a, c) {
-            (Some(a), Some(c)) => Ok(WithoutD(a, c, e)),
-            _ => Err(DecodeError::Custom(MISSING)),
-        }
+        let names = ["a", "c", "e"];
+        let presences = (Required, (Required, (Optional, ())));
+        let (a, (c, (e, ()))) = de.deserialize_fields(alloc, "Whole", &names, &MISSING, presences)?;
+        Ok(WithoutD(a, c, e))
     }
 }
 

@@ -1,7 +1,6 @@
 //! Rows of sequences that end between two items, and inside one.
-use crate::sequence::next_item;
 use cbor4ii::Value;
-use cbor4ii::dec::Source;
+use cbor4ii::dec::{Source, next_item};
 use cbor4ii::error::DecodeError;
 use cbor4ii::utils::{IoReader, SliceReader};
 use cbor4ii_vectors::streams::FailingStream;

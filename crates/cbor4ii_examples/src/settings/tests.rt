@@ -79,9 +79,9 @@ fn a_fault_tells_its_byte(rt: HostRuntime) -> Result<(), Fail> {
 }
 
 const LINES: &[(&[u8], &str)] = table! {
-    (b"\xa1\x64host\x05", "byte 7: Mismatch { name: \"str\", found: 5 }"),
-    (b"\xa1\x64port\x01", "byte 7: settings have one host"),
-    (b"\xa1\x64host\x61a\x00\xff", "byte 8: bytes after the settings: 2"),
+    (b"\xa1\x64host\x05", "byte 7: Core(Mismatch { name: \"str\", found: 5 })"),
+    (b"\xa1\x64port\x01", "byte 7: Custom(\"settings have one host\")"),
+    (b"\xa1\x64host\x61a\x00\xff", "byte 8: bytes after the item: 2"),
 };
 
 #[test]

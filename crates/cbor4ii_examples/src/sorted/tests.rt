@@ -81,11 +81,11 @@ fn pairs_of_equal_keys_keep_their_order(rt: HostRuntime) -> Result<(), Fail> {
 
 #[test]
 fn long_maps_are_sorted(rt: HostRuntime) -> Result<(), Fail> {
-    let mut members = Vec::new(rt.alloc());
+    let mut pairs = Vec::new(rt.alloc());
     for i in 0..30u64 {
-        members.push((Value::Integer((i * 7 % 30) as i128), Value::Null))?;
+        pairs.push((Value::Integer((i * 7 % 30) as i128), Value::Null))?;
     }
-    let mut map = Value::Map(members);
+    let mut map = Value::Map(pairs);
     assert!(rt; sort(&mut map).is_ok());
     assert!(rt; is_sorted(&map));
     Ok(())

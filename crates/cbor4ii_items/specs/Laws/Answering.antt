@@ -25,11 +25,11 @@ same_some x y o p q = cc
 -- ---- the bytes that were passed
 
 -- what stands in xs before its end ys are bytes
-abbrev pub Seen : List ℕ → List ℕ → Type 0
-Seen xs ys = (m : ℕ) → m + length ys ≤ length xs → IsBytes (take m xs)
+abbrev pub SeenAreBytes : List ℕ → List ℕ → Type 0
+SeenAreBytes xs ys = (m : ℕ) → m + length ys ≤ length xs → IsBytes (take m xs)
 
 pub seen_of : (xs ys : List ℕ) (n : ℕ) → n ≤ length xs → IsBytes (take n xs) → ys ≡ drop n xs
-    → Seen xs ys
+    → SeenAreBytes xs ys
 seen_of xs ys n room bytes e =
     λ m h. IsBytes-take m n xs (omega (arith, h, room, ap length e, length-drop n xs)) bytes
 
@@ -64,7 +64,8 @@ sound_at {v = v} {b = b} reads means p = record {
 }
 
 pub sound_by : {V E : Type 0} {program : Reading V} {v : V} {a b : View} (reads : Reads V)
-    → ((xs ys : List ℕ) → program xs ≡ Ok (v, ys) → Seen xs ys → Found reads a.budget xs v ys)
+    → ((xs ys : List ℕ) → program xs ≡ Ok (v, ys) → SeenAreBytes xs ys → Found reads a.budget xs v
+    ys)
     → Runs {E = E} program a b (Ok v) → Sound reads a b v
 sound_by reads means p =
     sound_at reads (λ xs n e within bytes.
@@ -132,7 +133,7 @@ rejects_at {program = program} {e = e} {a = a} {b = b} rejects means p =
 
 pub rejects_by : {V E : Type 0} {program : Reading V} {e : DecodeError E} {a b : View}
     (rejects : RejectsAt) → ((xs : List ℕ) (z : InputError) (ys : List ℕ) → program xs ≡ Err (z, ys)
-    → Seen xs ys → rejects xs a.budget z ys)
+    → SeenAreBytes xs ys → rejects xs a.budget z ys)
     → Runs {V = V} program a b (Err e) → Rejects rejects a b e
 rejects_by rejects means p =
     rejects_at rejects (λ xs z n e within bytes.
@@ -147,9 +148,9 @@ if_some None f h = tt
 if_some (Some z) f h = f h
 
 -- what holds whatever is rejected
-pub always : {Q : Type 0} (o : Option InputError) → Q → IfSome o (λ z. Q)
-always None q = tt
-always (Some z) q = q
+pub whatever_error : {Q : Type 0} (o : Option InputError) → Q → IfSome o (λ z. Q)
+whatever_error None q = tt
+whatever_error (Some z) q = q
 
 pub complete_as : {U V E : Type 0} {e : DecodeError E} {a : View} (f : Reads U) (g : Reads V)
     → ((xs : List ℕ) (budget : Option ℕ) → NoneRead f xs budget → NoneRead g xs budget)

@@ -41,7 +41,7 @@ any_memory (Err e) = λ out. refl
 -- ---- a value, and an error
 
 -- how bytes are rejected, over any reader: of an exact type, no reading that fits begins them
-pub record Rejected {V : Type 0} (exact : Bool) (s : Format V) (xs : List ℕ) (budget : Option ℕ)
+pub record IsRejected {V : Type 0} (exact : Bool) (s : Format V) (xs : List ℕ) (budget : Option ℕ)
     (z : InputError) (ys : List ℕ) : Type 0 where
   pub none : IsTrue exact → NoneRead s.reads xs budget
   pub rejects : s.rejects xs budget z ys
@@ -67,9 +67,9 @@ of_exact d = record {
   begins = d.begins;
 }
 
-pub exactly : {V E : Type 0} {s : Format V} {a b : View} {r : Result V (DecodeError E)}
+pub decodes_exactly : {V E : Type 0} {s : Format V} {a b : View} {r : Result V (DecodeError E)}
     → DecodesIf true s a b r → Decodes s a b r
-exactly d = record {
+decodes_exactly d = record {
   moves = d.moves;
   progress = d.progress;
   memory = d.memory;
@@ -123,7 +123,7 @@ module _ {V E : Type 0} (s : Format V) {a b : View} where
   pub err_if : {exact : Bool} {e : DecodeError E} → Moves {V = V} a b (Err e)
       → (IsTrue (is_out_of_memory e) → IsTrue s.takes_memory)
       → IfKnown a.known (λ xs. IfSome (input_error_of e)
-      (λ z. (ys : List ℕ) × (b.known ≡ Some ys) × Rejected exact s xs a.budget z ys))
+      (λ z. (ys : List ℕ) × (b.known ≡ Some ys) × IsRejected exact s xs a.budget z ys))
       → DecodesIf exact s a b (Err e)
   err_if {exact = exact} {e = e} moves memory says = record {
     moves = moves;
@@ -131,15 +131,15 @@ module _ {V E : Type 0} (s : Format V) {a b : View} where
     memory = memory;
     sound = tt;
     complete = λ is sure. record {
-      at = λ xs known. none_of (input_error_of e) b.known {f = Rejected exact s xs a.budget}
+      at = λ xs known. none_of (input_error_of e) b.known {f = IsRejected exact s xs a.budget}
           (λ z ys r. r.none is) (says xs known);
     };
     rejects = λ is sure. record {
-      at = λ xs known. rejects_as (input_error_of e) b.known (Rejected exact s xs a.budget)
+      at = λ xs known. rejects_as (input_error_of e) b.known (IsRejected exact s xs a.budget)
           (s.rejects xs a.budget) (λ z ys r. r.rejects) (says xs known);
     };
     begins = record {
-      at = λ xs known. rejects_as (input_error_of e) b.known (Rejected exact s xs a.budget)
+      at = λ xs known. rejects_as (input_error_of e) b.known (IsRejected exact s xs a.budget)
           (s.begins xs a.budget) (λ z ys r. r.begins) (says xs known);
     };
   }
@@ -147,9 +147,9 @@ module _ {V E : Type 0} (s : Format V) {a b : View} where
   pub err : {e : DecodeError E} → Moves {V = V} a b (Err e)
       → (IsTrue (is_out_of_memory e) → IsTrue s.takes_memory)
       → IfKnown a.known (λ xs. IfSome (input_error_of e)
-      (λ z. (ys : List ℕ) × (b.known ≡ Some ys) × Rejected true s xs a.budget z ys))
+      (λ z. (ys : List ℕ) × (b.known ≡ Some ys) × IsRejected true s xs a.budget z ys))
       → Decodes s a b (Err e)
-  err moves memory says = exactly (err_if moves memory says)
+  err moves memory says = decodes_exactly (err_if moves memory says)
 
   pub out_of_memory : IsTrue s.takes_memory → Kept a b → Decodes {E = E} s a b (Err OutOfMemory)
   out_of_memory takes kept =
@@ -159,16 +159,16 @@ module _ {V E : Type 0} (s : Format V) {a b : View} where
   pub err_of : {U : Type 0} {exact : Bool} {program : Reading U} {e : DecodeError E}
       → Runs {V = U} program a b (Err e) → is_out_of_memory e ≡ false
       → ((xs : List ℕ) (z : InputError) (ys : List ℕ) → program xs ≡ Err (z, ys)
-      → Rejected exact s xs a.budget z ys) → DecodesIf exact s a b (Err e)
+      → IsRejected exact s xs a.budget z ys) → DecodesIf exact s a b (Err e)
   err_of {exact = exact} {program = program} {e = e} p memory says =
       err_if (moves_err p.moves) (λ out. absurd (let f = sym memory ∙ out in cc))
       (λ xs known. rejects_as (input_error_of e) b.known (λ z ys. program xs ≡ Err (z, ys))
-      (Rejected exact s xs a.budget) (says xs) (p.answers xs known))
+      (IsRejected exact s xs a.budget) (says xs) (p.answers xs known))
 
 -- ---- a part after what was read
 
 -- an error of the part at ys is one of the whole at xs
-pub record After {U V : Type 0} (exact : Bool) (part : Format U) (whole : Format V)
+pub record RejectsAsPart {U V : Type 0} (exact : Bool) (part : Format U) (whole : Format V)
     (xs ys : List ℕ) (budget : Option ℕ) : Type 0 where
   pub none : IsTrue exact → NoneRead part.reads ys budget → NoneRead whole.reads xs budget
   pub rejects : (z : InputError) (zs : List ℕ) → part.rejects ys budget z zs → whole.rejects xs
@@ -183,7 +183,7 @@ exact_as o p v f (inr e) = inr e
 module _ {U V E : Type 0} (part : Format U) (whole : Format V) {a m b : View} where
   pub err_after : {exact : Bool} {e : DecodeError E} → Kept a m
       → IfKnown a.known (λ xs. (ys : List ℕ) × (m.known ≡ Some ys)
-      × After exact part whole xs ys a.budget)
+      × RejectsAsPart exact part whole xs ys a.budget)
       → (IsTrue whole.owned → IsTrue part.owned)
       → (IsTrue part.takes_memory → IsTrue whole.takes_memory)
       → DecodesIf exact part m b (Err e) → DecodesIf exact whole a b (Err e)
@@ -249,7 +249,7 @@ pub record Leads {V : Type 0} (exact : Bool) (part whole : Format V) (a m : View
   pub at : IfKnown a.known (λ xs. (ys : List ℕ) × (m.known ≡ Some ys)
       × ((v : V) (n c : ℕ) → part.reads ys v n c → CostFits c a.budget
       → Found whole.reads a.budget xs v (drop n ys))
-      × After exact part whole xs ys a.budget)
+      × RejectsAsPart exact part whole xs ys a.budget)
 
 pub trailing : {V E : Type 0} {exact : Bool} (part whole : Format V) {a m b : View}
     (r : Result V (DecodeError E)) → Leads exact part whole a m → DecodesIf exact part m b r
@@ -291,7 +291,7 @@ module _ {U V E : Type 0} (part : V → U) (s : Format U) {a b : View} where
 
   pub by_err : {e : DecodeError E} → Decodes s a b (Err e)
       → Decodes (format_by part s) a b (Err e)
-  by_err d = exactly (by_err_if (of_exact d))
+  by_err d = decodes_exactly (by_err_if (of_exact d))
 
 pub in_memory : {V E : Type 0} (s : Format V) {a b : View} (r : Result V (DecodeError E))
     → Decodes s a b r → Decodes (taking_memory s) a b r

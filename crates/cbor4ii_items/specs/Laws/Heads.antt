@@ -11,12 +11,13 @@ use Rattle.std.proofs.Math.Nat.{pow-le-pow_right}
 use Rattle.std.proofs.Math.Arith.{mod-mul}
 use Rattle.std.proofs.Math.Seq.{drop-append_seam, take-append_seam}
 use Rattle.cbor4ii_items.specs.Head.{Width, in_first, one as w_one, two, four, eight, byte_count}
-use Rattle.cbor4ii_items.specs.Head.{HeadFits, additional, head, IsBytes, shortest}
+use Rattle.cbor4ii_items.specs.Head.{HeadFits, additional, head, IsBytes, shortest_width}
 use Rattle.cbor4ii_items.specs.Initial.{wide as in_width, info_of}
 use Rattle.cbor4ii_items.specs.InputError.{mismatch}
 use Rattle.cbor4ii_items.specs.Reading.{give, reject}
 use Rattle.cbor4ii_items.specs.Heads.{ReadsHead, Begins}
-use Rattle.cbor4ii_items.specs.ReadHead.{head_at, argument_at, number_on, following, allowed}
+use Rattle.cbor4ii_items.specs.ReadHead.{head_at, argument_at, number_on, argument_size}
+use Rattle.cbor4ii_items.specs.ReadHead.{allowed_info}
 use Rattle.cbor4ii_items.specs.Laws.Outcome.{same_value}
 
 -- one more byte in front of the low k bytes
@@ -85,7 +86,7 @@ pub if_cases : {A : Type 0} (P : A → Type 0) (b : Bool) (x y : A) → (b ≡ t
 if_cases P true x y f g = f refl
 if_cases P false x y f g = g refl
 
-pub shortest_fits : (n : ℕ) → n < 2 ^ 64 → HeadFits (shortest n) n
+pub shortest_fits : (n : ℕ) → n < 2 ^ 64 → HeadFits (shortest_width n) n
 shortest_fits n h =
     let P : Width → Type 0 = λ w. HeadFits w n in
     if_cases P (ltb n 24) _ _ (λ e. let lt = ltb-true n 24 e in omega (arith, lt))
@@ -130,9 +131,9 @@ following_head w major v n ys e =
     )
 
 -- what follows a head that begins the input
-pub after_head : (major width : ℕ) (xs : List ℕ) (v n : ℕ) → (h : ReadsHead major width xs v n)
+pub rest_after_head : (major width : ℕ) (xs : List ℕ) (v n : ℕ) → (h : ReadsHead major width xs v n)
     → drop n xs ≡ h.rest
-after_head major width xs v n h =
+rest_after_head major width xs v n h =
     ap (drop n) h.is ∙ (following_head h.wide major v n h.rest h.count).0
 
 -- a head that begins the input is the one that is read
@@ -143,7 +144,7 @@ head_read name major width xs v n m h =
     let b = following_head h.wide major v n h.rest h.count in
     let a : head_at name major width xs ≡ Ok (v, h.rest) = ap (head_at name major width) h.is
     ∙ head_again name h.wide major v width h.rest h.fits h.allowed in
-    let d : drop n xs ≡ h.rest = after_head major width xs v n h in (
+    let d : drop n xs ≡ h.rest = rest_after_head major width xs v n h in (
       a ∙ ap (λ (zs : List ℕ). Ok (v, zs)) (sym d),
       omega (arith, b.1, ap length h.is),
       omega (arith, h.count),
@@ -213,9 +214,9 @@ number_is name expect k v bs ys h e =
 -- the width that the additional information i says
 pub record Wide (i : ℕ) : Type 0 where
   pub wide : Width
-  pub count : byte_count wide ≡ following i
+  pub count : byte_count wide ≡ argument_size i
   pub info : (v : ℕ) → additional wide v ≡ i
-  pub fits : (v : ℕ) → v < 256 ^ following i → HeadFits wide v
+  pub fits : (v : ℕ) → v < 256 ^ argument_size i → HeadFits wide v
 
 wide_at : (k : ℕ) → k < 4 → Wide (24 + k)
 wide_at zero h = record { wide = w_one; count = refl; info = λ v. refl; fits = λ v h. omega arith }
@@ -243,11 +244,12 @@ allowed_by : (t : Bool) (i k width : ℕ) → ltb i 28 ≡ t → cond t (leb k w
 allowed_by true i k width h e = (ltb-true i 28 h, leb-true k width e)
 allowed_by false i k width h e = cc
 
-pub allowed_parts : (width i : ℕ) → allowed width i ≡ true → (i < 28) × (following i ≤ width)
-allowed_parts width i e = allowed_by (ltb i 28) i (following i) width refl e
+pub allowed_parts : (width i : ℕ) → allowed_info width i ≡ true → (i < 28)
+    × (argument_size i ≤ width)
+allowed_parts width i e = allowed_by (ltb i 28) i (argument_size i) width refl e
 
 long_number : (name : List ℕ) (major width b v n k : ℕ) (bs : List ℕ) → b / 32 ≡ major → 24 ≤ b % 32
-    → b % 32 < 28 → following (b % 32) ≤ width → k ≡ following (b % 32) → 1 ≤ n
+    → b % 32 < 28 → argument_size (b % 32) ≤ width → k ≡ argument_size (b % 32) → 1 ≤ n
     → n ≤ length (b ∷ bs) → IsBytes (take n (b ∷ bs))
     → number_on name k k 0 bs ≡ Ok (v, drop n (b ∷ bs)) → ReadsHead major width (b ∷ bs) v n
 long_number name major width b v n k bs m lo hi le kk some room bytes e =
@@ -275,9 +277,10 @@ long_number name major width b v n k bs m lo hi le kk some room bytes e =
     }
 
 argument_by : (s t : Bool) (name : List ℕ) (major width b v n : ℕ) (bs : List ℕ)
-    → ltb (b % 32) 24 ≡ s → allowed width (b % 32) ≡ t → b / 32 ≡ major → n ≤ length (b ∷ bs)
+    → ltb (b % 32) 24 ≡ s → allowed_info width (b % 32) ≡ t → b / 32 ≡ major → n ≤ length (b ∷ bs)
     → IsBytes (take n (b ∷ bs))
-    → cond s (give (b % 32)) (cond t (number_on name (following (b % 32)) (following (b % 32)) 0)
+    → cond s (give (b % 32))
+    (cond t (number_on name (argument_size (b % 32)) (argument_size (b % 32)) 0)
     (reject (mismatch name b))) bs ≡ Ok (v, drop n (b ∷ bs))
     → ReadsHead major width (b ∷ bs) v n
 argument_by true t name major width b v n bs es et m room bytes e =
@@ -295,7 +298,7 @@ argument_by true t name major width b v n bs es et m room bytes e =
     }
 argument_by false false name major width b v n bs es et m room bytes e = cc
 argument_by false true name major width b v n bs es et m room bytes e =
-    let k = following (b % 32) in
+    let k = argument_size (b % 32) in
     let inv = number_inverse name k k 0 v bs (drop n (b ∷ bs)) e in
     let some : 1 ≤ n = omega (
       arith,
@@ -313,7 +316,7 @@ head_by_inverse : (t : Bool) (name : List ℕ) (major width b v n : ℕ) (bs : L
     → cond t (argument_at name width b) (reject (mismatch name b)) bs ≡ Ok (v, drop n (b ∷ bs))
     → ReadsHead major width (b ∷ bs) v n
 head_by_inverse true name major width b v n bs h room bytes e =
-    argument_by (ltb (b % 32) 24) (allowed width (b % 32)) name major width b v n bs refl refl
+    argument_by (ltb (b % 32) 24) (allowed_info width (b % 32)) name major width b v n bs refl refl
     (eqb-true (b / 32) major h) room bytes e
 head_by_inverse false name major width b v n bs h room bytes e = cc
 

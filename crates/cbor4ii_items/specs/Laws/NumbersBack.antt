@@ -7,7 +7,7 @@ use Rattle.std.specs.Prelude.{ℤ, pos, negsuc}
 use Rattle.std.specs.Int.{byte_at as number_byte, bytes_high_first}
 use Rattle.std.proofs.Math.Seq.{take-append_seam, drop-append_seam, take-length}
 use Rattle.cbor4ii_items.specs.Head.{Width, in_first, one as w_one, two, four, eight, byte_count}
-use Rattle.cbor4ii_items.specs.Head.{HeadFits, shortest, IsBytes}
+use Rattle.cbor4ii_items.specs.Head.{HeadFits, shortest_width, IsBytes}
 use Rattle.cbor4ii_items.specs.Heads.{ReadsHead}
 use Rattle.cbor4ii_items.specs.Laws.Heads.{length-bytes_high_first, number_again}
 use Rattle.cbor4ii_items.specs.ReadHead.{number_on}
@@ -86,15 +86,16 @@ pub head_back : (major : ℕ) (wide : Width) (v : ℕ) → v < 256 ^ byte_count 
     → ReadsHead major (byte_count wide)
     (shortest_head major v ++ rest) v (length (shortest_head major v))
 head_back major wide v h rest =
-    let s : IsShortest v (shortest v) wide = shortest_by (ltb v 24) (ltb v 256) (ltb v (256 ^ 2))
+    let s : IsShortest v (shortest_width v) wide = shortest_by (ltb v 24) (ltb v 256)
+    (ltb v (256 ^ 2))
     (ltb v (256 ^ 4)) v wide refl refl refl refl h in
     record {
-      wide = shortest v;
+      wide = shortest_width v;
       allowed = s.least;
       fits = s.fits;
       rest = rest;
       is = refl;
-      count = ap suc (length-bytes_high_first (byte_count (shortest v)) v);
+      count = ap suc (length-bytes_high_first (byte_count (shortest_width v)) v);
     }
 
 pub argument_back : (major : ℕ) (wide : Width) (v : ℕ) → v < 256 ^ byte_count wide

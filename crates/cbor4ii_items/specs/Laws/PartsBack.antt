@@ -12,7 +12,7 @@ use Rattle.cbor4ii_items.specs.Lengths.{ReadsLength}
 use Rattle.cbor4ii_items.specs.Maybe.{ReadsMaybe}
 use Rattle.cbor4ii_items.specs.Containers.{ReadsTag}
 use Rattle.cbor4ii_items.specs.Numbers.{shortest_head}
-use Rattle.cbor4ii_items.specs.ReadBack.{ReadsBack, greatest_cost, pair_cost}
+use Rattle.cbor4ii_items.specs.ReadBack.{ReadsBack, greatest_part_cost, pair_cost}
 use Rattle.cbor4ii_items.specs.SequenceBytes.{items_bytes, pair_bytes}
 use Rattle.cbor4ii_items.specs.Sequences.{ReadsElements, ReadsDefiniteElements, ReadsSequence}
 use Rattle.cbor4ii_items.specs.Sequences.{ReadsPair}
@@ -27,11 +27,11 @@ pub indefinite_back : (major : ℕ) → ReadsBack (ReadsLength major) (opening m
 indefinite_back major rest = (refl, refl, refl)
 
 -- bytes after a prefix, and others after them
-pub record After (prefix bytes rest : List ℕ) : Type 0 where
+pub record StandsBetween (prefix bytes rest : List ℕ) : Type 0 where
   pub whole : (prefix ++ bytes) ++ rest ≡ prefix ++ (bytes ++ rest)
   pub left : drop (length prefix) ((prefix ++ bytes) ++ rest) ≡ bytes ++ rest
 
-pub trailing : (prefix bytes rest : List ℕ) → After prefix bytes rest
+pub trailing : (prefix bytes rest : List ℕ) → StandsBetween prefix bytes rest
 trailing prefix bytes rest =
     let e = append_assoc prefix bytes rest in
     record {
@@ -95,7 +95,7 @@ none_back reads rest = (head_back 4 eight 0 (omega arith) rest, refl)
 module _ {P : Type 0} (reads : Reads P) (bytes : P → List ℕ) (cost : P → ℕ) where
   parts_back : (ps : List P) → All (λ p. ReadsBack reads (bytes p) p (cost p)) ps → (rest : List ℕ)
       → ReadsElements reads (items_bytes bytes ps ++ rest) ps (length (items_bytes bytes ps))
-      (greatest_cost cost ps)
+      (greatest_part_cost cost ps)
   parts_back [] back rest = (refl, refl)
   parts_back (p ∷ ps) back rest =
       let P : P → Type 0 = λ q. ReadsBack reads (bytes q) q (cost q) in
@@ -106,9 +106,9 @@ module _ {P : Type 0} (reads : Reads P) (bytes : P → List ℕ) (cost : P → �
         n,
         cost p,
         length others,
-        greatest_cost cost ps,
+        greatest_part_cost cost ps,
         subst (λ zs. reads zs p n (cost p)) (sym b.whole) (All-head P p ps back (others ++ rest)),
-        subst (λ zs. ReadsElements reads zs ps (length others) (greatest_cost cost ps))
+        subst (λ zs. ReadsElements reads zs ps (length others) (greatest_part_cost cost ps))
             (sym b.left) tail,
         length-append (bytes p) others,
         refl,
@@ -117,14 +117,15 @@ module _ {P : Type 0} (reads : Reads P) (bytes : P → List ℕ) (cost : P → �
   pub sequence_back : (major : ℕ) (never_empty : Bool) (ps : List P) → length ps < 2 ^ 64
       → All (λ p. ReadsBack reads (bytes p) p (cost p)) ps
       → ReadsBack (ReadsSequence major reads never_empty)
-      (shortest_head major (length ps) ++ items_bytes bytes ps) ps (1 + greatest_cost cost ps)
+      (shortest_head major (length ps) ++ items_bytes bytes ps) ps (1 + greatest_part_cost cost ps)
   sequence_back major never_empty ps h back rest =
       let start = shortest_head major (length ps) in
       let inside = items_bytes bytes ps in
-      let parts = subst (λ zs. ReadsElements reads zs ps (length inside) (greatest_cost cost ps))
+      let parts = subst (λ zs. ReadsElements reads zs ps (length inside)
+      (greatest_part_cost cost ps))
       (sym (trailing start inside rest).left) (parts_back ps back rest) in
       let counted : ReadsDefiniteElements major reads ((start ++ inside) ++ rest) ps
-      (length (start ++ inside)) (greatest_cost cost ps) =
+      (length (start ++ inside)) (greatest_part_cost cost ps) =
       record {
         before = length start;
         head = headed major (length ps) inside rest h;
@@ -132,7 +133,7 @@ module _ {P : Type 0} (reads : Reads P) (bytes : P → List ℕ) (cost : P → �
         parts = parts;
         size = length-append start inside;
       } in
-      (greatest_cost cost ps, inl counted, refl)
+      (greatest_part_cost cost ps, inl counted, refl)
 
 pub pair_back : {K V : Type 0} (key_reads : Reads K) (value_reads : Reads V)
     (key_bytes : K → List ℕ) (value_bytes : V → List ℕ) (key_cost : K → ℕ) (value_cost : V → ℕ)

@@ -11,7 +11,7 @@ use Rattle.cbor4ii_items.specs.InputError.{InputError, mismatch, eof, len_of}
 use Rattle.cbor4ii_items.specs.Reading.{Reading, give, reject, go_on, ◌>=>◌, byte_at}
 use Rattle.cbor4ii_items.specs.Laws.Outcome.{same_value, same_input_error}
 use Rattle.cbor4ii_items.specs.ReadHead.{number_on, argument_at, head_by, head_at, length_by}
-use Rattle.cbor4ii_items.specs.ReadHead.{length_at, following, allowed}
+use Rattle.cbor4ii_items.specs.ReadHead.{length_at, argument_size, allowed_info}
 use Rattle.cbor4ii_items.specs.ReadStrings.{content_on, break_at, chunk_by, chunk_inside_at}
 use Rattle.cbor4ii_items.specs.ReadStrings.{chunk_at}
 use Rattle.cbor4ii_items.specs.Laws.Prefixes.{drop_more}
@@ -127,8 +127,8 @@ number_leaves name expect (suc k) high =
 
 argument_leaves : (name : List ℕ) (width b : ℕ) → LeavesEnd (argument_at name width b)
 argument_leaves name width b =
-    let k = following (b % 32) in
-    if_leaves (ltb (b % 32) 24) (give_leaves (b % 32)) (if_leaves (allowed width (b % 32))
+    let k = argument_size (b % 32) in
+    if_leaves (ltb (b % 32) 24) (give_leaves (b % 32)) (if_leaves (allowed_info width (b % 32))
     (number_leaves name k k 0) (reject_leaves (mismatch name b)))
 
 head_by_leaves : (name : List ℕ) (major width b : ℕ) → LeavesEnd (head_by name major width b)

@@ -10,7 +10,7 @@ use Rattle.cbor4ii_rw.specs.declared.error.Len.TheVariants.{Small}
 use Rattle.cbor4ii_items.specs.Head.{indefinite_head}
 use Rattle.cbor4ii_items.specs.Reading.{give, ◌>=>◌, byte_at, Runs, Reaches}
 use Rattle.cbor4ii_items.specs.ReadHead.{number_on, argument_at, head_by, head_at, length_by}
-use Rattle.cbor4ii_items.specs.ReadHead.{length_at, following, allowed}
+use Rattle.cbor4ii_items.specs.ReadHead.{length_at, argument_size, allowed_info}
 use Rattle.cbor4ii_items.specs.Laws.Running.{runs_give, runs_as, runs_then, runs_err, reaches_start}
 use Rattle.cbor4ii_items.specs.InputError.{InputError, eof}
 use Rattle.cbor4ii_items.specs.Laws.Outcome.{same_input_error}
@@ -18,8 +18,8 @@ use Rattle.cbor4ii_items.specs.Laws.Outcome.{same_input_error}
 -- ---- numbers
 
 -- one more byte of a number
-pub one_more : (v b i : ℕ) → v < 256 ^ i → b < 256 → v * 256 + b < 256 ^ (i + 1)
-one_more v b i h k =
+pub one_more_byte : (v b i : ℕ) → v < 256 ^ i → b < 256 → v * 256 + b < 256 ^ (i + 1)
+one_more_byte v b i h k =
     let e : 256 ^ suc i ≡ 256 ^ i * 256 = pow-suc 256 i in
     let s : i + 1 ≡ suc i = omega arith in
     rw s (omega (arith, e))
@@ -59,8 +59,8 @@ le_of : (t : Bool) (k width : ℕ) → cond t (nat_le k width) false ≡ true �
 le_of true k width e = leb-true k width e
 le_of false k width e = cc
 
-pub allowed_le : (width i : ℕ) → allowed width i ≡ true → following i ≤ width
-allowed_le width i e = le_of (nat_lt i 28) (following i) width e
+pub allowed_le : (width i : ℕ) → allowed_info width i ≡ true → argument_size i ≤ width
+allowed_le width i e = le_of (nat_lt i 28) (argument_size i) width e
 
 pub wider : (v k width : ℕ) → k ≤ width → v < 256 ^ k → v < 256 ^ width
 wider v k width le h =

@@ -14,14 +14,14 @@ use Rattle.cbor4ii_items.specs.Laws.Heads.{head_read, head_alone, additional-lt}
 use Rattle.cbor4ii_items.specs.Laws.Arguments.{ReadBy, leaf_one, leaf_within, leaf_positive}
 
 -- the first byte of an item says its major type
-pub record Starts (major : ℕ) (xs : List ℕ) : Type 0 where
+pub record StartsWithMajor (major : ℕ) (xs : List ℕ) : Type 0 where
   pub first : ℕ
   pub others : List ℕ
   pub is : xs ≡ first ∷ others
   pub type : first / 32 ≡ major
 
 pub starts : (major width : ℕ) (xs : List ℕ) (v n : ℕ) → ReadsHead major width xs v n
-    → Starts major xs
+    → StartsWithMajor major xs
 starts major width xs v n h =
     let small : additional h.wide v < 28 = additional-lt v h.wide h.fits in
     record {

@@ -17,7 +17,8 @@ use Rattle.cbor4ii_items.specs.ReadStrings.{chunk_at, chunks_at, string_by, stri
 use Rattle.cbor4ii_items.specs.Laws.Chunks.{chunks_by, chunks_more}
 use Rattle.cbor4ii_items.specs.Laws.DefiniteContent.{content_whole}
 use Rattle.cbor4ii_items.specs.Laws.Prefixes.{drop_more, two_prefixes, after_prefix, the_prefix}
-use Rattle.cbor4ii_items.specs.Strings.{ReadsDefiniteString, ReadsChunks, joined, chunk_cost}
+use Rattle.cbor4ii_items.specs.Strings.{ReadsDefiniteString, ReadsChunks, joined_content}
+use Rattle.cbor4ii_items.specs.Strings.{chunk_cost}
 use Rattle.cbor4ii_items.specs.Strings.{ReadsIndefiniteString, ReadsString, ReadsAs, ReadsTextAs}
 use Rattle.cbor4ii_items.specs.Strings.{as_format, text_format}
 
@@ -193,7 +194,8 @@ fewer (v ∷ vs) budget h = h
 chunks_again : (chunks : List (List ℕ)) (name before : List ℕ) (major : ℕ) (budget : Option ℕ)
     (xs : List ℕ) (n : ℕ) → major < 8 → CostFits (chunk_cost chunks) budget
     → ReadsChunks major chunks xs n
-    → chunks_at name major budget before xs ≡ chunks_at name major budget (before ++ joined chunks)
+    → chunks_at name major budget before xs ≡ chunks_at name major budget
+    (before ++ joined_content chunks)
     (drop n xs)
 chunks_again [] name before major budget xs n m s h =
     ap₂ (chunks_at name major budget) (sym (append-nil before)) (sym (ap (λ j. drop j xs) h))
@@ -201,7 +203,7 @@ chunks_again (v ∷ vs) name before major budget xs n m s h =
     let rest = chunks_again vs name (before ++ v) major budget (drop h.0 xs) h.1 m
     (fewer vs budget s) h.3 in
     chunks_once name before major budget xs v h.0 m s h.2
-    ∙ (rest ∙ ap₂ (chunks_at name major budget) (append_assoc before v (joined vs))
+    ∙ (rest ∙ ap₂ (chunks_at name major budget) (append_assoc before v (joined_content vs))
     (drop_more h.1 h.0 xs ∙ ap (λ j. drop j xs) (sym h.4)))
 
 chunks_alone : (chunks : List (List ℕ)) (major : ℕ) (xs ys : List ℕ) (n : ℕ) → major < 8
@@ -253,9 +255,9 @@ indefinite_again name major budget xs v n c m h fits =
     ∙ ap (λ j. drop j xs) (let e : (1 + k) + 1 ≡ n = omega (arith, h.size) in e)) in
     ap (λ z. go_on z (string_by name major budget)) (length_indefinite name major xs h.begins)
     ∙ (chunks_again h.chunks name [] major budget (drop 1 xs) k m steps h.read
-    ∙ (ap (λ p. p (drop k (drop 1 xs))) (chunks_more name major budget (joined h.chunks))
+    ∙ (ap (λ p. p (drop k (drop 1 xs))) (chunks_more name major budget (joined_content h.chunks))
     ∙ (ap (λ z. go_on z
-    (chunks_by name major budget (joined h.chunks) (chunks_at name major budget))) ended
+    (chunks_by name major budget (joined_content h.chunks) (chunks_at name major budget))) ended
     ∙ ap₂ (λ (us ws : List ℕ). Ok (us, ws)) (sym h.value) last)))
 
 indefinite_alone : (major : ℕ) (xs ys v : List ℕ) (n c : ℕ) → major < 8 → ReadsIndefiniteString

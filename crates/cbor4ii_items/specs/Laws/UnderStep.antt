@@ -39,9 +39,10 @@ pub fits_inside : (old new : Option ℕ) (c : ℕ) → StepsIn old new true → 
 fits_inside None new c h f = subst (CostFits c) (sym h) tt
 fits_inside (Some left) new c h f = subst (CostFits c) (sym h.2) (omega (arith, f))
 
-pub stepped : (old new : Option ℕ) → StepsIn old new true → (old ≢ Some 0) × (new ≡ after_step old)
-stepped None new h = ((λ e. cc), h)
-stepped (Some left) new h = ((λ e. let f : left ≡ 0 = cc in omega (arith, h.0, f)), h.2)
+pub stepped_at : (old new : Option ℕ) → StepsIn old new true → (old ≢ Some 0)
+    × (new ≡ after_step old)
+stepped_at None new h = ((λ e. cc), h)
+stepped_at (Some left) new h = ((λ e. let f : left ≡ 0 = cc in omega (arith, h.0, f)), h.2)
 
 pub no_step : (old new : Option ℕ) → StepsIn old new false → (old ≡ Some 0) × (new ≡ old)
 no_step None new h = absurd h

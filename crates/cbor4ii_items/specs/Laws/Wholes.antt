@@ -1,21 +1,23 @@
 -- An input that is read as one item.
 use Rattle.std.proofs.Common.{◌≡◌, ℕ, ◌+◌, ◌≤◌, ◌^◌, ◌<◌, inl, inr, List, length, drop, Option}
-use Rattle.std.proofs.Common.{Some, None, Result, Ok, Err, Bool, true, sym, subst, ◌∙◌, ◌-◌, arith}
+use Rattle.std.proofs.Common.{Some, None, Result, Ok, Err, Bool, true, sym, subst, ap, ◌∙◌, ◌-◌}
+use Rattle.std.proofs.Common.{arith}
 use Rattle.std.specs.Result.{IsErrAnd}
 use Rattle.std.proofs.lemmas.List.{length-drop}
-use Rattle.std.specs.Prelude.{IfSome}
+use Rattle.std.specs.Prelude.{IfSome, MatchBool, false}
 use Rattle.cbor4ii_rw.specs.Input.{limit}
 use Rattle.cbor4ii_rw.specs.View.{View, IfKnown}
 use Rattle.cbor4ii_rw.specs.declared.error.DecodeError.{DecodeError}
 use Rattle.cbor4ii_rw.specs.declared.error.WholeError.{WholeError}
-use Rattle.cbor4ii_rw.specs.declared.error.WholeError.TheVariants.{Decode}
+use Rattle.cbor4ii_rw.specs.declared.error.WholeError.TheVariants.{Decode, Trailing}
 use Rattle.cbor4ii_items.specs.InputError.{InputError, input_error_of}
 use Rattle.cbor4ii_items.specs.Decoding.{Reads, Format, IsLawful, Sound, NoneRead}
 use Rattle.cbor4ii_items.specs.Budget.{CostFits}
 use Rattle.cbor4ii_items.specs.Decoding.{IsExact}
 use Rattle.cbor4ii_items.specs.Decoding.{Decodes, RejectsAt}
 use Rattle.cbor4ii_items.specs.Whole.{IsWhole, NoneIsWhole, Trails, IsSure, NotBegun}
-use Rattle.cbor4ii_items.specs.Whole.{ReadsToTheEnd, DecodesWhole, IfDecode, IfTrailing}
+use Rattle.cbor4ii_items.specs.Whole.{ReadsToTheEnd, DecodesWhole, IfDecode, IfTrailing, StopsAt}
+use Rattle.cbor4ii_items.specs.Moves.{Kept, ReaderFailed}
 
 -- a type is exact over a reader that lends all of the input
 pub sure_is_exact : (owned : Bool) (a : View) (bytes : List ℕ) → a.known ≡ Some bytes
@@ -70,6 +72,28 @@ module _ {V : Type 0} (format : Format V) (lawful : IsLawful format) (bytes : Li
       let all : r.0 ≡ length bytes = omega (arith, lawful.within bytes v r.0 r.1 r.2, r.4) in
       (r.1, subst (λ n. format.reads bytes v n r.1) all r.2, r.3)
 
+module _ {V : Type 0} (format : Format V) (lawful : IsLawful format) (bytes : List ℕ) (a b : View)
+    (known : a.known ≡ Some bytes) (budget : a.budget ≡ Some limit) (v : V) (left : ℕ)
+    (sound : Sound format.reads a b v) (counts : IfKnown b.known (λ xs. left ≡ length xs)) where
+  -- the value is accepted
+  pub accepted : {E : Type 0} → left ≤ 0 → DecodesWhole {E = E} format bytes (Ok v)
+  accepted none = record {
+    accepts = whole_of format lawful bytes v
+        (to_the_end format.reads bytes a b known budget v left sound counts none);
+    trailing = tt;
+    rejects = tt;
+  }
+
+  -- bytes follow the value
+  pub followed : {E : Type 0} → 1 ≤ left → DecodesWhole {E = E} format bytes (Err (Trailing left))
+  followed some =
+      let t = trails format.reads bytes a b known budget v left sound counts some in
+      record {
+        accepts = tt;
+        trailing = (t, none_whole format lawful bytes left t);
+        rejects = tt;
+      }
+
 module _ {V : Type 0} (format : Format V) (bytes : List ℕ) (a b : View)
     (known : a.known ≡ Some bytes) (budget : a.budget ≡ Some limit) where
   not_begun : {E : Type 0} → a.zero_copy ≡ true → (e : DecodeError E)
@@ -96,4 +120,55 @@ module _ {V : Type 0} (format : Format V) (bytes : List ℕ) (a b : View)
     trailing = subst (λ w. IfTrailing w
         (λ left. Trails format.reads bytes left × NoneIsWhole format.reads bytes)) (sym is) tt;
     rejects = subst (λ w. IfDecode w (NotBegun format bytes)) (sym is) (not_begun lends e d);
+  }
+
+-- no more is left than was there
+no_longer : (failed : Bool) (a b : View) → MatchBool failed (ReaderFailed a b) (Kept a b)
+    → IfKnown a.known (λ xs. IfKnown b.known (λ ys. length ys ≤ length xs))
+no_longer true a b h = λ xs before ys after.
+    let p = h.rest xs before ys after in
+    omega (arith, ap length p.1, length-drop p.0 xs)
+no_longer false a b h = λ xs before ys after.
+    let p = h.rest xs before in
+    let same : ys ≡ drop p.0 xs = let both = p.1.left in cc in
+    omega (arith, ap length same, length-drop p.0 xs)
+
+-- where what an error leaves begins
+begins_at : (rejects : RejectsAt) (o : Option InputError) (bytes : List ℕ)
+    (known : Option (List ℕ)) (budget : Option ℕ) (left at : ℕ) → at ≡ length bytes - left
+    → budget ≡ Some limit → IfKnown known (λ ys. left ≡ length ys)
+    → IfKnown known (λ ys. length ys ≤ length bytes)
+    → IfSome o (λ err. (rest : List ℕ) × (known ≡ Some rest) × rejects bytes budget err rest)
+    → IfSome o (λ err. (rest : List ℕ) × rejects bytes (Some limit) err rest
+    × (at + length rest ≡ length bytes))
+begins_at rejects None bytes known budget left at taken is counts few h = tt
+begins_at rejects (Some err) bytes known budget left at taken is counts few h = (
+  h.0,
+  subst (λ k. rejects bytes k err h.0) is h.2,
+  omega (arith, counts h.0 h.1, few h.0 h.1, taken),
+)
+
+module _ {E : Type 0} (error_of : E → Option InputError) (rejects : RejectsAt) (bytes : List ℕ)
+    (all left at : ℕ) (taken : at ≡ all - left) (whole : all ≡ length bytes) where
+  -- the byte after a value
+  pub stops_after : {V : Type 0} (reads : Reads V) → Trails reads bytes left
+      → StopsAt error_of rejects bytes (record { at = at; error = Trailing left })
+  stops_after reads t = record {
+    within = omega (arith, taken, whole);
+    trailing = omega (arith, taken, whole, t.1.4);
+    leaves = tt;
+  }
+
+  -- the byte of an error of reading
+  pub stops_before : (failed : Bool) (a b : View) → a.known ≡ Some bytes → a.budget ≡ Some limit
+      → MatchBool failed (ReaderFailed a b) (Kept a b) → IfKnown b.known (λ ys. left ≡ length ys)
+      → (why : E) → IfKnown a.known (λ xs. IfSome (error_of why)
+      (λ err. (rest : List ℕ) × (b.known ≡ Some rest) × rejects xs a.budget err rest))
+      → StopsAt error_of rejects bytes (record { at = at; error = Decode why })
+  stops_before failed a b known budget moved counts why h = record {
+    within = omega (arith, taken, whole);
+    trailing = tt;
+    leaves = begins_at rejects (error_of why) bytes b.known a.budget left at
+        (omega (arith, taken, whole)) budget counts (no_longer failed a b moved bytes known)
+        (h bytes known);
   }

@@ -1,6 +1,6 @@
 //! Strings of indefinite length: chunks up to a break (RFC 8949 section 3.2.3).
 ghost use Rattle.std.specs.Prelude.{◌+◌, ◌≤◌, ◌<◌, OnOk, []};
-ghost use Rattle.cbor4ii_items.specs.Contents.{listed, filled};
+ghost use Rattle.cbor4ii_items.specs.Contents.{items_answer, filled_answer};
 ghost use Rattle.cbor4ii_items.specs.Reading.{Runs};
 ghost use Rattle.cbor4ii_items.specs.ReadStrings.{chunk_inside_at, chunk_at, chunks_at};
 
@@ -20,7 +20,7 @@ pub(crate) fn take_chunks<S: Source>(
 ) -> Result<Vec<u8>, DecodeError<S::Error>>
     requires { major < 8 }
     ensures { Runs (chunks_at name.now major (S.view reader.old).budget [])
-        (S.view reader.old) (S.view reader.new) (listed result) }
+        (S.view reader.old) (S.view reader.new) (items_answer result) }
 {
     let mut content = Vec::new(alloc);
     while !take_break(reader)? {
@@ -38,7 +38,7 @@ fn take_chunk<S: Source>(
 ) -> Result<(), DecodeError<S::Error>>
     requires { major < 8 }
     ensures runs { Runs (chunk_at name.now major (S.view reader.old).budget content.old.items)
-        (S.view reader.old) (S.view reader.new) (filled content.new.items result) }
+        (S.view reader.old) (S.view reader.new) (filled_answer content.new.items result) }
     ensures progress { OnOk result ((S.view reader.new).bound + 1 ≤ (S.view reader.old).bound) }
 {
     if !reader.step_in() {
@@ -58,7 +58,7 @@ fn take_chunk_inside<S: Source>(
 ) -> Result<(), DecodeError<S::Error>>
     requires { major < 8 }
     ensures runs { Runs (chunk_inside_at name.now major content.old.items)
-        (S.view reader.old) (S.view reader.new) (filled content.new.items result) }
+        (S.view reader.old) (S.view reader.new) (filled_answer content.new.items result) }
     ensures progress { OnOk result ((S.view reader.new).bound + 1 ≤ (S.view reader.old).bound) }
 {
     match length(reader, name, major)? {

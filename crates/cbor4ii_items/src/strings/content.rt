@@ -1,6 +1,6 @@
 //! The content of strings of definite or of indefinite length, taken off a reader.
 ghost use Rattle.std.specs.Prelude.{◌+◌, ◌≤◌, ◌<◌, OnOk, []};
-ghost use Rattle.cbor4ii_items.specs.Contents.{listed};
+ghost use Rattle.cbor4ii_items.specs.Contents.{items_answer};
 ghost use Rattle.cbor4ii_items.specs.Reading.{Runs};
 ghost use Rattle.cbor4ii_items.specs.ReadStrings.{content_on, string_at};
 ghost use Rattle.cbor4ii_items.specs.Decoding.{Decodes};
@@ -40,7 +40,7 @@ pub(crate) fn lone_string<S: Source>(
 ) -> Result<Vec<u8>, DecodeError<S::Error>>
     requires { major < 8 }
     ensures { Decodes (string_format name.now major)
-        (S.view reader.old) (S.view reader.new) (listed result) }
+        (S.view reader.old) (S.view reader.new) (items_answer result) }
 {
     take_string(alloc, reader, name, major)
 }
@@ -55,7 +55,7 @@ fn take_string<S: Source>(
 ) -> Result<Vec<u8>, DecodeError<S::Error>>
     requires { major < 8 }
     ensures runs { Runs (string_at name.now major (S.view reader.old).budget)
-        (S.view reader.old) (S.view reader.new) (listed result) }
+        (S.view reader.old) (S.view reader.new) (items_answer result) }
     ensures progress { OnOk result ((S.view reader.new).bound + 1 ≤ (S.view reader.old).bound) }
 {
     match length(reader, name, major)? {
@@ -73,7 +73,7 @@ pub(crate) fn take_known<S: Source>(
     count: u64,
 ) -> Result<Vec<u8>, DecodeError<S::Error>>
     ensures { Runs (content_on name.now count [])
-        (S.view reader.old) (S.view reader.new) (listed result) }
+        (S.view reader.old) (S.view reader.new) (items_answer result) }
 {
     let mut content = Vec::new(alloc);
     take_content(reader, name, count, &mut content)?;

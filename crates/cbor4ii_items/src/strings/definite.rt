@@ -1,6 +1,6 @@
 //! Content of definite length, taken off a reader.
 ghost use Rattle.std.specs.Prelude.{◌≤◌, IfOk, IfErr, Err};
-ghost use Rattle.cbor4ii_items.specs.Contents.{TakesOnto, filled};
+ghost use Rattle.cbor4ii_items.specs.Contents.{TakesOnto, filled_answer};
 ghost use Rattle.cbor4ii_items.specs.Reading.{Runs};
 ghost use Rattle.cbor4ii_items.specs.ReadStrings.{content_on};
 
@@ -19,7 +19,7 @@ pub(crate) fn take_content<S: Source>(
     content: &mut Vec<u8>,
 ) -> Result<(), DecodeError<S::Error>>
     ensures { Runs (content_on name.now count content.old.items)
-        (S.view reader.old) (S.view reader.new) (filled content.new.items result) }
+        (S.view reader.old) (S.view reader.new) (filled_answer content.new.items result) }
 {
     let mut missing = count as usize;
     if content.reserve(bytes_ahead(missing)).is_err() {

@@ -12,7 +12,7 @@ use Rattle.std.specs.declared.string.String.{String}
 use Rattle.std.proofs.lemmas.List.Elements.{All-head, All-tail}
 use Rattle.std.proofs.lemmas.Str.{IsUtf8-encode, IsUtf8-string_bytes, length-encode}
 use Rattle.std.proofs.lemmas.Str.{len_utf8_bounds}
-use Rattle.cbor4ii_items.specs.Head.{shortest}
+use Rattle.cbor4ii_items.specs.Head.{shortest_width}
 use Rattle.cbor4ii_items.specs.Initial.{Sign, unsigned, negative, sign_major, Kind, byte_string}
 use Rattle.cbor4ii_items.specs.Initial.{text_string, kind_major, Simple, simple_false, simple_true}
 use Rattle.cbor4ii_items.specs.Initial.{simple_null, simple_undefined, simple_byte, Precision}
@@ -25,33 +25,35 @@ use Rattle.cbor4ii_items.specs.Simple.{bool_byte}
 use Rattle.cbor4ii_items.specs.Strings.{definite_string, opening, closing}
 use Rattle.cbor4ii_items.specs.Laws.Heads.{length-bytes_high_first, if_cases, shortest_fits}
 use Rattle.cbor4ii_items.specs.Laws.NumbersBack.{length-without_leading_zeros}
-use Rattle.cbor4ii_tree.specs.Tree.{Tree, int, string, chunked, array, array_indefinite, map_of}
-use Rattle.cbor4ii_tree.specs.Tree.{map_indefinite}
-use Rattle.cbor4ii_tree.specs.Tree.{tagged, simple, bits, Trees, no_trees, tree, Pairs, no_pairs}
-use Rattle.cbor4ii_tree.specs.Tree.{pair, count, pair_count, bytes, bytes_all, bytes_pairs}
-use Rattle.cbor4ii_tree.specs.Tree.{LooseAll, LoosePairs, SoundStringsAll, SoundStringsPairs}
-use Rattle.cbor4ii_tree.specs.Tree.{TextIsUtf8}
-use Rattle.cbor4ii_tree.specs.CanonicalShape.{CanonicalShape, CanonicalShapeAll}
-use Rattle.cbor4ii_tree.specs.CanonicalShape.{CanonicalShapePairs}
+use Rattle.cbor4ii_tree.specs.Basis.Tree.{Tree, int, string, chunked, array, array_indefinite}
+use Rattle.cbor4ii_tree.specs.Basis.Tree.{map_of}
+use Rattle.cbor4ii_tree.specs.Basis.Tree.{map_indefinite}
+use Rattle.cbor4ii_tree.specs.Basis.Tree.{tagged, simple, bits, Trees, no_trees, tree, Pairs}
+use Rattle.cbor4ii_tree.specs.Basis.Tree.{no_pairs}
+use Rattle.cbor4ii_tree.specs.Basis.Tree.{pair, count, pair_count, bytes, bytes_all, bytes_pairs}
+use Rattle.cbor4ii_tree.specs.Basis.Tree.{LooseAll, LoosePairs, SoundStringsAll, SoundStringsPairs}
+use Rattle.cbor4ii_tree.specs.Basis.Tree.{TextIsUtf8}
+use Rattle.cbor4ii_tree.specs.Calls.CanonicalShape.{CanonicalShape, CanonicalShapeAll}
+use Rattle.cbor4ii_tree.specs.Calls.CanonicalShape.{CanonicalShapePairs}
 use Rattle.cbor4ii_ser.specs.Item.{Encoding, encoded, rejected, IfEncoded, followed, each_encoding}
-use Rattle.cbor4ii_ser.specs.Item.{parts, tuple_encoding, array_encoding, entry_encoding}
+use Rattle.cbor4ii_ser.specs.Item.{parts, tuple_encoding, array_encoding, pair_encoding}
 use Rattle.cbor4ii_ser.specs.Item.{map_encoding, field}
 use Rattle.cbor4ii_ser.specs.Item.{struct_encoding, option_encoding, variant_head, variant_encoding}
 use Rattle.cbor4ii_ser.specs.Item.{tuple_variant_encoding, struct_variant_encoding}
 use Rattle.cbor4ii_ser.specs.OneItem.{ShortestHeads, AllShortestHeads, PairsShortestHeads, Form}
 use Rattle.cbor4ii_ser.specs.OneItem.{shortest_heads, canonical, IsOfForm, OneItem, IsOneItem}
-use Rattle.cbor4ii_ser.specs.OneItem.{OneEntry, IsOneEntry, collected_encoding}
+use Rattle.cbor4ii_ser.specs.OneItem.{OnePair, IsOnePair, collected_encoding}
 use Rattle.cbor4ii_ser.specs.Laws.Joining.{followed_both, followed_nil}
 
 -- ---- trees
 
 pub int_formed : (form : Form) (s : Sign) (n : ℕ) → n < 2 ^ 64
-    → IsOfForm form (int s n (shortest n))
+    → IsOfForm form (int s n (shortest_width n))
 int_formed shortest_heads s n h = ((shortest_fits n h, tt), refl)
 int_formed canonical s n h = ((shortest_fits n h, tt), refl)
 
 pub string_formed : (form : Form) (k : Kind) (content : List ℕ) → length content < 2 ^ 64
-    → TextIsUtf8 k content → IsOfForm form (string k (shortest (length content)) content)
+    → TextIsUtf8 k content → IsOfForm form (string k (shortest_width (length content)) content)
 string_formed shortest_heads k content h utf8 = ((shortest_fits (length content) h, utf8), refl)
 string_formed canonical k content h utf8 = ((shortest_fits (length content) h, utf8), refl)
 
@@ -65,7 +67,7 @@ bits_formed shortest_heads p n h = ((h, tt), tt)
 bits_formed canonical p n h = ((h, tt), tt)
 
 pub tag_formed : (form : Form) (n : ℕ) (t : Tree) → n < 2 ^ 64 → IsOfForm form t
-    → IsOfForm form (tagged n (shortest n) t)
+    → IsOfForm form (tagged n (shortest_width n) t)
 tag_formed shortest_heads n t h p = (((shortest_fits n h, p.0.0), p.0.1), (refl, p.1))
 tag_formed canonical n t h p = (((shortest_fits n h, p.0.0), p.0.1), (refl, p.1))
 
@@ -84,7 +86,7 @@ more_formed shortest_heads t ts p q = (((p.0.0, q.0.0), (p.0.1, q.0.1)), (p.1, q
 more_formed canonical t ts p q = (((p.0.0, q.0.0), (p.0.1, q.0.1)), (p.1, q.1))
 
 pub array_formed : (form : Form) (ts : Trees) → count ts < 2 ^ 64 → AreOfForm form ts
-    → IsOfForm form (array (shortest (count ts)) ts)
+    → IsOfForm form (array (shortest_width (count ts)) ts)
 array_formed shortest_heads ts h p = (((shortest_fits (count ts) h, p.0.0), p.0.1), (refl, p.1))
 array_formed canonical ts h p = (((shortest_fits (count ts) h, p.0.0), p.0.1), (refl, p.1))
 
@@ -105,7 +107,7 @@ more_pairs_formed canonical k v ps p q r =
     (((p.0.0, q.0.0, r.0.0), (p.0.1, q.0.1, r.0.1)), (p.1, q.1, r.1))
 
 pub map_formed : (form : Form) (ps : Pairs) → pair_count ps < 2 ^ 64 → ArePairsOfForm form ps
-    → IsOfForm form (map_of (shortest (pair_count ps)) ps)
+    → IsOfForm form (map_of (shortest_width (pair_count ps)) ps)
 map_formed shortest_heads ps h p =
     (((shortest_fits (pair_count ps) h, p.0.0), p.0.1), (refl, p.1))
 map_formed canonical ps h p = (((shortest_fits (pair_count ps) h, p.0.0), p.0.1), (refl, p.1))
@@ -177,7 +179,11 @@ within_greater limit greater (negsuc n) le h = omega (arith, le, h)
 module _ (form : Form) where
   head_is_item : (s : Sign) (n : ℕ) → n < 2 ^ 64 → OneItem form (shortest_head (sign_major s) n)
   head_is_item s n h =
-      record { of_tree = int s n (shortest n); formed = int_formed form s n h; bytes_are = refl }
+      record {
+        of_tree = int s n (shortest_width n);
+        formed = int_formed form s n h;
+        bytes_are = refl;
+      }
 
   -- an unsigned integer
   pub unsigned_is_item : (n : ℕ) → n < 2 ^ 64 → IsOneItem form (encoded (shortest_head 0 n))
@@ -191,7 +197,7 @@ module _ (form : Form) where
   string_is_item : (k : Kind) (content : List ℕ) → length content < 2 ^ 64 → TextIsUtf8 k content
       → OneItem form (definite_string (kind_major k) content)
   string_is_item k content h utf8 = record {
-    of_tree = string k (shortest (length content)) content;
+    of_tree = string k (shortest_width (length content)) content;
     formed = string_formed form k content h utf8;
     bytes_are = refl;
   }
@@ -245,9 +251,9 @@ module _ (form : Form) where
 
   bignum_is_item : (tag n : ℕ) → tag < 2 ^ 64 → OneItem form (bignum_bytes tag n)
   bignum_is_item tag n h =
-      let inner = string byte_string (shortest (length (magnitude n))) (magnitude n) in
+      let inner = string byte_string (shortest_width (length (magnitude n))) (magnitude n) in
       record {
-        of_tree = tagged tag (shortest tag) inner;
+        of_tree = tagged tag (shortest_width tag) inner;
         formed = tag_formed form tag inner h
             (string_formed form byte_string (magnitude n) (length-magnitude n) tt);
         bytes_are = refl;
@@ -299,7 +305,7 @@ module _ (form : Form) where
   array_of : (n : ℕ) → n < 2 ^ 64 → (ys : List ℕ) → SomeItems form n ys
       → OneItem form (shortest_head 4 n ++ ys)
   array_of n h ys q = record {
-    of_tree = array (shortest (count q.of_tree)) q.of_tree;
+    of_tree = array (shortest_width (count q.of_tree)) q.of_tree;
     formed = array_formed form q.of_tree (omega (arith, h, q.many)) q.formed;
     bytes_are = ap₂ (λ k zs. shortest_head 4 k ++ zs) q.many q.bytes_are;
   }
@@ -307,7 +313,7 @@ module _ (form : Form) where
   -- an array of no item
   pub unit_is_item : IsOneItem form (encoded (shortest_head 4 0))
   unit_is_item = record {
-    of_tree = array (shortest 0) no_trees;
+    of_tree = array (shortest_width 0) no_trees;
     formed = array_formed form no_trees (omega arith) (none_formed form);
     bytes_are = refl;
   }
@@ -350,7 +356,7 @@ record SomeEntries (form : Form) (n : ℕ) (encoding : List ℕ) : Type 0 where
   bytes_are : bytes_pairs of_tree ≡ encoding
 
 module _ (form : Form) where
-  one_entry_more : (n : ℕ) (xs ys : List ℕ) → OneEntry form xs → SomeEntries form n ys
+  one_entry_more : (n : ℕ) (xs ys : List ℕ) → OnePair form xs → SomeEntries form n ys
       → SomeEntries form (suc n) (xs ++ ys)
   one_entry_more n xs ys p q = record {
     of_tree = pair p.key p.held q.of_tree;
@@ -361,12 +367,12 @@ module _ (form : Form) where
   }
 
   each_is_entry : {V : Type 0} (item : V → Encoding) (vs : List V)
-      → AllByRecursion (λ v. IsOneEntry form (item v)) vs
+      → AllByRecursion (λ v. IsOnePair form (item v)) vs
       → IfEncoded (each_encoding item vs) (SomeEntries form (length vs))
   each_is_entry item [] h =
       record { of_tree = no_pairs; formed = no_pairs_formed form; many = refl; bytes_are = refl }
   each_is_entry item (v ∷ vs) h =
-      if_followed (OneEntry form) (SomeEntries form (length vs))
+      if_followed (OnePair form) (SomeEntries form (length vs))
       (SomeEntries form (suc (length vs))) (item v) (each_encoding item vs)
       (one_entry_more (length vs))
       h.0 (each_is_entry item vs h.1)
@@ -374,14 +380,14 @@ module _ (form : Form) where
   map_of_entries : (n : ℕ) → n < 2 ^ 64 → (ys : List ℕ) → SomeEntries form n ys
       → OneItem form (shortest_head 5 n ++ ys)
   map_of_entries n h ys q = record {
-    of_tree = map_of (shortest (pair_count q.of_tree)) q.of_tree;
+    of_tree = map_of (shortest_width (pair_count q.of_tree)) q.of_tree;
     formed = map_formed form q.of_tree (omega (arith, h, q.many)) q.formed;
     bytes_are = ap₂ (λ k zs. shortest_head 5 k ++ zs) q.many q.bytes_are;
   }
 
-  -- a map of entries, whatever writes each
+  -- a map of pairs, whatever writes each
   entries_are_item : {V : Type 0} (item : V → Encoding) (vs : List V) → length vs < 2 ^ 64
-      → AllByRecursion (λ v. IsOneEntry form (item v)) vs
+      → AllByRecursion (λ v. IsOnePair form (item v)) vs
       → IsOneItem form (followed (encoded (shortest_head 5 (length vs))) (each_encoding item vs))
   entries_are_item item vs h p =
       if_headed (SomeEntries form (length vs)) (OneItem form) (shortest_head 5 (length vs))
@@ -389,8 +395,8 @@ module _ (form : Form) where
 
   -- a key, and its value after it
   pub pair_is_entry : (a b : Encoding) → IsOneItem form a → IsOneItem form b
-      → IsOneEntry form (followed a b)
-  pair_is_entry a b p q = if_followed (OneItem form) (OneItem form) (OneEntry form) a b
+      → IsOnePair form (followed a b)
+  pair_is_entry a b p q = if_followed (OneItem form) (OneItem form) (OnePair form) a b
       (λ xs ys k v. record {
         key = k.of_tree;
         held = v.of_tree;
@@ -401,14 +407,14 @@ module _ (form : Form) where
 
   -- a name, and its value after it
   pub field_is_entry : (name : List ℕ) (value : Encoding) → length name < 2 ^ 64 → IsUtf8 name
-      → IsOneItem form value → IsOneEntry form (field name value)
+      → IsOneItem form value → IsOnePair form (field name value)
   field_is_entry name value h utf8 p =
       pair_is_entry (encoded (definite_string 3 name)) value (text_is_item form name h utf8) p
 
   each_pair_is_entry : {K V : Type 0} (key : K → Encoding) (value : V → Encoding)
       (es : List (K × V))
       → AllByRecursion (λ e. IsOneItem form (key e.0) × IsOneItem form (value e.1)) es
-      → AllByRecursion (λ e. IsOneEntry form (entry_encoding key value e)) es
+      → AllByRecursion (λ e. IsOnePair form (pair_encoding key value e)) es
   each_pair_is_entry key value [] h = tt
   each_pair_is_entry key value (e ∷ es) h =
       (pair_is_entry (key e.0) (value e.1) h.0.0 h.0.1, each_pair_is_entry key value es h.1)
@@ -419,16 +425,16 @@ module _ (form : Form) where
       → AllByRecursion (λ e. IsOneItem form (key e.0) × IsOneItem form (value e.1)) entries
       → IsOneItem form (map_encoding key value entries)
   map_is_item key value entries h p =
-      entries_are_item (entry_encoding key value) entries h (each_pair_is_entry key value entries p)
+      entries_are_item (pair_encoding key value) entries h (each_pair_is_entry key value entries p)
 
   -- a map of so many fields
   pub struct_is_item : (fields : List Encoding) → length fields < 2 ^ 64
-      → AllByRecursion (IsOneEntry form) fields → IsOneItem form (struct_encoding fields)
+      → AllByRecursion (IsOnePair form) fields → IsOneItem form (struct_encoding fields)
   struct_is_item fields h p = entries_are_item (λ part. part) fields h p
 
 -- a map that ends at a break
 pub indefinite_map_is_item : {V : Type 0} (entry : V → Encoding) (vs : List V)
-    → AllByRecursion (λ v. IsOneEntry shortest_heads (entry v)) vs
+    → AllByRecursion (λ v. IsOnePair shortest_heads (entry v)) vs
     → IsOneItem shortest_heads (collected_encoding 5 None (each_encoding entry vs))
 indefinite_map_is_item entry vs p =
     let Ended : List ℕ → Type 0 = λ zs. OneItem shortest_heads (opening 5 ++ zs) in
@@ -463,7 +469,7 @@ module _ (form : Form) where
   option_is_item item None p = null_is_item form
   option_is_item item (Some u) p = p u refl
 
-  -- a map of one entry, from the variant's name to its content
+  -- a map of one pair, from the variant's name to its content
   pub variant_is_item : (name : List ℕ) (content : Encoding) → length name < 2 ^ 64 → IsUtf8 name
       → IsOneItem form content → IsOneItem form (variant_encoding name content)
   variant_is_item name content h utf8 p =
@@ -482,7 +488,7 @@ module _ (form : Form) where
 
   -- one whose content is a map of so many fields
   pub struct_variant_is_item : (name : List ℕ) (fields : List Encoding) → length name < 2 ^ 64
-      → IsUtf8 name → length fields < 2 ^ 64 → AllByRecursion (IsOneEntry form) fields
+      → IsUtf8 name → length fields < 2 ^ 64 → AllByRecursion (IsOnePair form) fields
       → IsOneItem form (struct_variant_encoding name fields)
   struct_variant_is_item name fields h utf8 few p =
       subst (IsOneItem form)

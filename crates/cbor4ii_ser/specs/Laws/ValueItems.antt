@@ -1,18 +1,21 @@
 -- The canonical encoding of a value of the tree is one item.
 use Rattle.std.proofs.Common.{◌≡◌, ℕ, suc, ◌^◌, ◌<◌, List, Bool, true, false, refl, ap, subst}
 use Rattle.std.proofs.Common.{arith, ltb, ltb-true, pos, negsuc}
-use Rattle.cbor4ii_items.specs.Head.{shortest}
+use Rattle.cbor4ii_items.specs.Head.{shortest_width}
 use Rattle.cbor4ii_items.specs.Initial.{Sign, unsigned, negative, byte_string, text_string}
 use Rattle.cbor4ii_items.specs.Initial.{simple_false, simple_true, simple_null}
 use Rattle.cbor4ii_items.specs.Magnitude.{magnitude}
 use Rattle.cbor4ii_items.specs.Laws.Heads.{if_cases}
-use Rattle.cbor4ii_tree.specs.Tree.{array, map_of, count, pair_count}
-use Rattle.cbor4ii_tree.specs.Item.{Item, null, boolean, integer, float, bytes_item, text, sequence}
-use Rattle.cbor4ii_tree.specs.Item.{mapping, tag, Items, no_items, item, Members, no_members}
-use Rattle.cbor4ii_tree.specs.Item.{member, item_count, member_count, IsItem, AreItems, AreMembers}
-use Rattle.cbor4ii_tree.specs.Canonical.{canonical_encoding, canonical_tree, canonical_trees}
-use Rattle.cbor4ii_tree.specs.Canonical.{canonical_pairs, integer_tree}
-use Rattle.cbor4ii_tree.specs.Canonical.{sign_tag}
+use Rattle.cbor4ii_tree.specs.Basis.Tree.{array, map_of, count, pair_count}
+use Rattle.cbor4ii_tree.specs.Basis.Item.{Item, null, boolean, integer, float, bytes_item, text}
+use Rattle.cbor4ii_tree.specs.Basis.Item.{sequence}
+use Rattle.cbor4ii_tree.specs.Basis.Item.{mapping, tag, Items, no_items, item, ItemPairs}
+use Rattle.cbor4ii_tree.specs.Basis.Item.{no_item_pairs}
+use Rattle.cbor4ii_tree.specs.Basis.Item.{item_pair, item_count, item_pair_count, IsItem, AreItems}
+use Rattle.cbor4ii_tree.specs.Basis.Item.{AreItemPairs}
+use Rattle.cbor4ii_tree.specs.Basis.Canonical.{canonical_encoding, canonical_tree, canonical_trees}
+use Rattle.cbor4ii_tree.specs.Basis.Canonical.{canonical_pairs, integer_tree}
+use Rattle.cbor4ii_tree.specs.Basis.Canonical.{sign_tag}
 use Rattle.cbor4ii_ser.specs.OneItem.{Form, IsOfForm, OneItem, IsOneItem}
 use Rattle.cbor4ii_ser.specs.Values.{unless, value_encoding, holds_tag}
 use Rattle.cbor4ii_ser.specs.Laws.OneItem.{int_formed, string_formed, simple_formed, bits_formed}
@@ -24,9 +27,9 @@ count_canonical : (vs : Items) → count (canonical_trees vs) ≡ item_count vs
 count_canonical no_items = refl
 count_canonical (item v vs) = ap suc (count_canonical vs)
 
-count_pairs : (ms : Members) → pair_count (canonical_pairs ms) ≡ member_count ms
-count_pairs no_members = refl
-count_pairs (member k v ms) = ap suc (count_pairs ms)
+count_pairs : (ms : ItemPairs) → pair_count (canonical_pairs ms) ≡ item_pair_count ms
+count_pairs no_item_pairs = refl
+count_pairs (item_pair k v ms) = ap suc (count_pairs ms)
 
 module _ (form : Form) where
   integer_formed : (s : Sign) (n : ℕ) → sign_tag s < 2 ^ 64 → IsOfForm form (integer_tree s n)
@@ -47,13 +50,14 @@ module _ (form : Form) where
     value_formed (bytes_item bs) h = string_formed form byte_string bs h tt
     value_formed (text bs) h = string_formed form text_string bs h.0 h.1
     value_formed (sequence vs) h =
-        subst (λ n. IsOfForm form (array (shortest n) (canonical_trees vs))) (count_canonical vs)
+        subst (λ n. IsOfForm form (array (shortest_width n) (canonical_trees vs)))
+        (count_canonical vs)
         (array_formed form (canonical_trees vs) (omega (arith, h.0, count_canonical vs))
         (values_formed vs h.1))
     value_formed (mapping ms) h =
-        subst (λ n. IsOfForm form (map_of (shortest n) (canonical_pairs ms))) (count_pairs ms)
+        subst (λ n. IsOfForm form (map_of (shortest_width n) (canonical_pairs ms))) (count_pairs ms)
         (map_formed form (canonical_pairs ms) (omega (arith, h.0, count_pairs ms))
-        (members_formed ms h.1))
+        (pairs_formed ms h.1))
     value_formed (tag n v) h = tag_formed form n (canonical_tree v) h.0 (value_formed v h.1)
 
     values_formed : (vs : Items) → AreItems vs → AreOfForm form (canonical_trees vs)
@@ -62,12 +66,12 @@ module _ (form : Form) where
         more_formed form (canonical_tree v) (canonical_trees vs) (value_formed v h.0)
         (values_formed vs h.1)
 
-    members_formed : (ms : Members) → AreMembers ms → ArePairsOfForm form (canonical_pairs ms)
-    members_formed no_members h = no_pairs_formed form
-    members_formed (member k v ms) h =
+    pairs_formed : (ms : ItemPairs) → AreItemPairs ms → ArePairsOfForm form (canonical_pairs ms)
+    pairs_formed no_item_pairs h = no_pairs_formed form
+    pairs_formed (item_pair k v ms) h =
         more_pairs_formed form (canonical_tree k) (canonical_tree v) (canonical_pairs ms)
         (value_formed k h.0)
-        (value_formed v h.1) (members_formed ms h.2)
+        (value_formed v h.1) (pairs_formed ms h.2)
 
   unless_is_item : (fails_itself : Bool) (xs : List ℕ) → OneItem form xs
       → IsOneItem form (unless fails_itself xs)

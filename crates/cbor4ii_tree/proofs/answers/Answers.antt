@@ -1,8 +1,8 @@
 -- A program that answers with what is accepted and with what is rejected: so one of the two holds,
 -- of one thing.
 use Rattle.std.proofs.Common.{◌≡◌, ℕ, List, inl, inr, Ok, Err, refl, ap}
-use Rattle.cbor4ii_tree.specs.{Encodings.{SomeAnswer, AtMostOne}, InputError.InputError}
-use Rattle.cbor4ii_tree.specs.{Laws.Binds.{same_ok, same_err, apart}, Parse.Answer}
+use Rattle.cbor4ii_tree.specs.{Basis.Encodings.{SomeAnswer, AtMostOne}, Basis.InputError.InputError}
+use Rattle.cbor4ii_tree.specs.{Laws.Binds.{same_ok, same_err, apart}, Calls.Parse.Answer}
 
 by_answer : {A : Type 0} (r s : Answer A) (Accepts : A → List ℕ → Type 0)
     (Rejects : InputError → List ℕ → Type 0) → r ≡ s

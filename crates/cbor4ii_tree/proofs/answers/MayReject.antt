@@ -8,13 +8,18 @@ use Rattle.cbor4ii_items.specs.Initial.{bad_string, starts_array, starts_indefin
 use Rattle.cbor4ii_items.specs.Initial.{bad_array, starts_map, starts_indefinite_map, bad_map}
 use Rattle.cbor4ii_items.specs.Initial.{starts_tag, bad_tag, starts_simple, starts_bits}
 use Rattle.cbor4ii_items.specs.Initial.{other_simple, initial}
-use Rattle.cbor4ii_tree.specs.{Cost.{Budget, step_in}, InputError.{InputError, Len, eof, MayReject}}
-use Rattle.cbor4ii_tree.specs.InputError.{IsEof, IsFinal, IsDepthOverflow, depth_overflow, tag_name}
-use Rattle.cbor4ii_tree.specs.ItemRejects.{Profile, NoUtf8Joined, ChunkRejectsBy, ChunkOf}
-use Rattle.cbor4ii_tree.specs.ItemRejects.{RejectsChunk, RejectsBy, RejectsFrom, RejectsWithin}
-use Rattle.cbor4ii_tree.specs.{ItemRejects.Rejects, Rejections.{Rejection, Missing, AtHead}}
-use Rattle.cbor4ii_tree.specs.Rejections.{RejectsInCount, RejectsAtStep, NoBreak, IndefiniteItems}
-use Rattle.cbor4ii_tree.specs.{Rejections.IndefinitePairs, Tree.Tree}
+use Rattle.cbor4ii_tree.specs.{Basis.Cost.{Budget, step_in}}
+use Rattle.cbor4ii_tree.specs.{Basis.InputError.{InputError, Len, eof, MayReject}}
+use Rattle.cbor4ii_tree.specs.Basis.InputError.{IsEof, IsFinal, IsDepthOverflow, depth_overflow}
+use Rattle.cbor4ii_tree.specs.Basis.InputError.{tag_name}
+use Rattle.cbor4ii_tree.specs.Calls.ItemRejects.{Profile, NoUtf8Joined, ChunkRejectsBy, ChunkOf}
+use Rattle.cbor4ii_tree.specs.Calls.ItemRejects.{RejectsChunkBy, RejectsBy, RejectsFrom}
+use Rattle.cbor4ii_tree.specs.Calls.ItemRejects.{RejectsWithin}
+use Rattle.cbor4ii_tree.specs.{Calls.ItemRejects.ItemRejects}
+use Rattle.cbor4ii_tree.specs.{Calls.Rejections.{Rejection, Missing, AtHead}}
+use Rattle.cbor4ii_tree.specs.Calls.Rejections.{RejectsInCount, RejectsAtStep, NoBreak}
+use Rattle.cbor4ii_tree.specs.Calls.Rejections.{IndefiniteItems}
+use Rattle.cbor4ii_tree.specs.{Calls.Rejections.IndefinitePairs, Basis.Tree.Tree}
 use Rattle.cbor4ii_tree.proofs.parts.Rejecting.{either}
 
 -- the error is one of these, and an end of the input leaves nothing
@@ -84,7 +89,7 @@ chunk_by_known text_string (starts_chunks byte_string) a bs e rest x = final _ e
 chunk_by_known k i a bs e rest x = final _ e rest x.0 tt
 
 chunk_known : (tests : Bool) (k : Kind) (b : Budget) (s : Rejection) → Known s
-    → Known (RejectsChunk tests k b s)
+    → Known (RejectsChunkBy tests k b s)
 chunk_known false k b s g bs e rest x = g bs e rest x
 chunk_known true k b s g [] e rest x = ended _ _ e rest x.0 x.1
 chunk_known true k b s g (a ∷ bs) e rest x =
@@ -139,11 +144,11 @@ module _ (p : Profile) where
       (λ c y. from_known c (RejectsWithin p n) (known n) bs e rest y) x
 
   pub may_reject : (input : List ℕ) (budget : Budget) (e : InputError) (rest : List ℕ)
-      → Rejects p input budget e rest → MayReject e
+      → ItemRejects p input budget e rest → MayReject e
   may_reject input budget e rest s = (known (suc (length input)) budget input e rest s).0
 
   -- of any numbers
   pub leaves_nothing : (input : List ℕ) (budget : Budget) (e : InputError) (rest : List ℕ)
-      → IsEof e → Rejects p input budget e rest → rest ≡ []
+      → IsEof e → ItemRejects p input budget e rest → rest ≡ []
   leaves_nothing input budget e rest h s =
       (known (suc (length input)) budget input e rest s).1 h

@@ -2,33 +2,39 @@
 -- however deep these go.
 use Rattle.std.proofs.Common.{ℕ, zero, suc, ◌*◌, ◌<◌, ◌≤◌, inl, inr, ◌↔◌, ◌/◌, List, [], ◌∷◌}
 use Rattle.std.proofs.Common.{length, ap, arith, length-append}
-use Rattle.cbor4ii_items.specs.{Head.{head, shortest}, Initial.{Initial, starts_tag, initial}}
-use Rattle.cbor4ii_tree.specs.CanonicalRejects.{FitsCanonically, AtShortest, CanonicalRejectsBy}
-use Rattle.cbor4ii_tree.specs.CanonicalRejects.{CanonicalRejectsFrom, CanonicalRejectsWithin}
-use Rattle.cbor4ii_tree.specs.CanonicalRejects.{CanonicalRejects, CanonicalRejectsByParts}
-use Rattle.cbor4ii_tree.specs.{Cost.{Budget, step_in}, InputError.{InputError, tag_name}}
-use Rattle.cbor4ii_tree.specs.{InputError.{array_name, map_name, value_name}, ItemRejects.RejectsBy}
-use Rattle.cbor4ii_tree.specs.ReadingRejects.{ReadingRejects, ReadingRejectsByParts, reading}
-use Rattle.cbor4ii_tree.specs.Rejections.{Rejection, RejectsInCount}
-use Rattle.cbor4ii_tree.specs.SkippingRejects.{SkippingRejects, SkippingRejectsByParts, skipping}
-use Rattle.cbor4ii_tree.specs.Tree.{Tree, bytes_all}
+use Rattle.cbor4ii_items.specs.{Head.{head, shortest_width}, Initial.{Initial, starts_tag, initial}}
+use Rattle.cbor4ii_tree.specs.Calls.CanonicalRejects.{FitsCanonically, AtShortest}
+use Rattle.cbor4ii_tree.specs.Calls.CanonicalRejects.{CanonicalRejectsBy}
+use Rattle.cbor4ii_tree.specs.Calls.CanonicalRejects.{CanonicalRejectsFrom, CanonicalRejectsWithin}
+use Rattle.cbor4ii_tree.specs.Calls.CanonicalRejects.{CanonicalRejects, CanonicalRejectsByParts}
+use Rattle.cbor4ii_tree.specs.{Basis.Cost.{Budget, step_in}}
+use Rattle.cbor4ii_tree.specs.{Basis.InputError.{InputError, tag_name}}
+use Rattle.cbor4ii_tree.specs.{Basis.InputError.{array_name, map_name, value_name}}
+use Rattle.cbor4ii_tree.specs.{Calls.ItemRejects.RejectsBy}
+use Rattle.cbor4ii_tree.specs.Calls.ReadingRejects.{ReadingRejects, ReadingRejectsByParts}
+use Rattle.cbor4ii_tree.specs.Calls.ReadingRejects.{reading_profile}
+use Rattle.cbor4ii_tree.specs.Calls.Rejections.{Rejection, RejectsInCount}
+use Rattle.cbor4ii_tree.specs.Calls.SkippingRejects.{SkippingRejects, SkippingRejectsByParts}
+use Rattle.cbor4ii_tree.specs.Calls.SkippingRejects.{skipping_profile}
+use Rattle.cbor4ii_tree.specs.Basis.Tree.{Tree, bytes_all}
 use Rattle.cbor4ii_tree.proofs.{parts.Rejecting.in_count, parts.Widen.trailing}
 use Rattle.cbor4ii_tree.proofs.profile.Widen.{by_parts, step_same, reading_widens, skipping_widens}
 
 pub reading_by_parts : (input : List ℕ) (budget : Budget) (e : InputError) (rest : List ℕ)
     → ReadingRejects input budget e rest ↔ ReadingRejectsByParts input budget e rest
-reading_by_parts = by_parts reading reading_widens
+reading_by_parts = by_parts reading_profile reading_widens
 
 -- ---- skipping, whose parts stand under one budget
 
 module _ (r : Budget → Rejection) (c : Budget) (e : InputError) (rest : List ℕ) where
-  to_one : (i : Initial) (b : ℕ) (bs : List ℕ) → RejectsBy skipping r c i b bs e rest
-      → RejectsBy skipping (λ left. r c) c i b bs e rest
+  to_one : (i : Initial) (b : ℕ) (bs : List ℕ) → RejectsBy skipping_profile r c i b bs e rest
+      → RejectsBy skipping_profile (λ left. r c) c i b bs e rest
   to_one (starts_tag w) b bs x = x
   to_one _ b bs x = x
 
-  from_one : (i : Initial) (b : ℕ) (bs : List ℕ) → RejectsBy skipping (λ left. r c) c i b bs e rest
-      → RejectsBy skipping r c i b bs e rest
+  from_one : (i : Initial) (b : ℕ) (bs : List ℕ) → RejectsBy skipping_profile (λ left. r c) c i b bs
+      e rest
+      → RejectsBy skipping_profile r c i b bs e rest
   from_one (starts_tag w) b bs x = x
   from_one _ b bs x = x
 
@@ -38,9 +44,9 @@ free b part = SkippingRejects part b
 pub skipping_by_parts : (input : List ℕ) (budget : Budget) (e : InputError) (rest : List ℕ)
     → SkippingRejects input budget e rest ↔ SkippingRejectsByParts input budget e rest
 unfolding free
-skipping_by_parts [] budget e rest = by_parts skipping skipping_widens [] budget e rest
+skipping_by_parts [] budget e rest = by_parts skipping_profile skipping_widens [] budget e rest
 skipping_by_parts (b ∷ bs) budget e rest =
-    let parts = by_parts skipping skipping_widens (b ∷ bs) budget e rest in (
+    let parts = by_parts skipping_profile skipping_widens (b ∷ bs) budget e rest in (
       (λ h. step_same _ (step_in budget) (b ∷ bs) _ _ e rest
           (λ c. to_one free c e rest (initial b) b bs) (parts.0 h)),
       (λ h. parts.1 (step_same _ (step_in budget) (b ∷ bs) _ _ e rest
@@ -67,7 +73,7 @@ at_shortest_below k name major b s t f bs e rest lt (inl x) = inl x
 at_shortest_below k name major b s t f bs e rest lt (inr x) =
     let n = x.argument in
     let less : length x.after < k =
-    omega (arith, ap length x.is.1, length-append (head major n (shortest n)) x.after) in
+    omega (arith, ap length x.is.1, length-append (head major n (shortest_width n)) x.after) in
     inr (record
     { argument = n; after = x.after; is = x.is; rejected = f n x.after e rest less x.rejected })
 

@@ -6,17 +6,23 @@ use Rattle.std.proofs.lemmas.List.{take-append-drop}
 use Rattle.cbor4ii_rw.specs.{declared.error.DecodeError.DecodeError, View.View}
 use Rattle.cbor4ii_items.specs.{Head.IsBytes, InputError.{InputError, input_error_of}}
 use Rattle.cbor4ii_items.specs.{Laws.Answering.not_read, Moves.{Moves, Kept, ReaderFailed}}
-use Rattle.cbor4ii_tree.specs.{Canonical.{canonical_encoding, canonical_cost}, Cost.Budget}
-use Rattle.cbor4ii_tree.specs.{declared.value.Value.Value, Does.{Accepting, Does}}
-use Rattle.cbor4ii_tree.specs.{Encodings.{Encodes, DecodesTo, IsProperPrefix}, Headline.Answered}
-use Rattle.cbor4ii_tree.specs.Headline.{AllSkips, OnlyReads, AllReads, PrefixReads, EofReads}
-use Rattle.cbor4ii_tree.specs.{Headline.{SkipsReads, CanonicalReads}, InputError.IsEof, Item.IsItem}
-use Rattle.cbor4ii_tree.specs.Promises.{Others, PrefixSkips, EofSkips, DepthSkips, FinalSkips}
-use Rattle.cbor4ii_tree.specs.Promises.{ExactSkips, DepthReads, FinalReads, ExactReads, SizeReads}
-use Rattle.cbor4ii_tree.specs.ReadingRejects.{ReadingRejects, Readable, reading}
-use Rattle.cbor4ii_tree.specs.{Rejections.Rejection, Skipping.{SkipsOne, RejectsSkippingOne}}
-use Rattle.cbor4ii_tree.specs.{SkippingRejects.skipping, Tree.{Tree, bytes, Loose, Joins}}
-use Rattle.cbor4ii_tree.specs.{Valuing.ReadsOneValue, View.view}
+use Rattle.cbor4ii_tree.specs.{Basis.Canonical.{canonical_encoding, canonical_cost}}
+use Rattle.cbor4ii_tree.specs.{Basis.Cost.Budget}
+use Rattle.cbor4ii_tree.specs.{declared.value.Value.Value, Inner.Does.{Accepting, Does}}
+use Rattle.cbor4ii_tree.specs.{Basis.Encodings.{Encodes, DecodesTo, IsProperPrefix}}
+use Rattle.cbor4ii_tree.specs.{Basis.Headline.Answered}
+use Rattle.cbor4ii_tree.specs.Basis.Headline.{AllSkips, OnlyReads, AllReads, PrefixReads, EofReads}
+use Rattle.cbor4ii_tree.specs.{Basis.Headline.{SkipsReads, CanonicalReads}, Basis.InputError.IsEof}
+use Rattle.cbor4ii_tree.specs.{Basis.Item.IsItem}
+use Rattle.cbor4ii_tree.specs.Calls.Promises.{Others, PrefixSkips, EofSkips, DepthSkips, FinalSkips}
+use Rattle.cbor4ii_tree.specs.Calls.Promises.{ExactSkips, DepthReads, FinalReads, ExactReads}
+use Rattle.cbor4ii_tree.specs.Calls.Promises.{SizeReads}
+use Rattle.cbor4ii_tree.specs.Calls.ReadingRejects.{ReadingRejects, Readable, reading_profile}
+use Rattle.cbor4ii_tree.specs.{Calls.Rejections.Rejection}
+use Rattle.cbor4ii_tree.specs.{Inner.Skipping.{SkipsOne, RejectsSkippingOne}}
+use Rattle.cbor4ii_tree.specs.{Calls.SkippingRejects.skipping_profile}
+use Rattle.cbor4ii_tree.specs.{Basis.Tree.{Tree, bytes, Loose, Joins}}
+use Rattle.cbor4ii_tree.specs.{Inner.Valuing.ReadsOneValue, Basis.View.view}
 use Rattle.cbor4ii_tree.proofs.answers.MayReject.{may_reject, leaves_nothing}
 use Rattle.cbor4ii_tree.proofs.{encodings.Canonical.canonical_encodes, encodings.Sizes.size-of_tree}
 use Rattle.cbor4ii_tree.proofs.profile.Answer.{skipping_laws, reading_laws, no_eof, stays}
@@ -81,7 +87,8 @@ module _ {V E : Type 0} {a b : View} (answer : Result V (DecodeError E))
 
   pub eof_skips : EofSkips a b answer
   eof_skips = λ xs known. says answer d xs known (λ ys v left s. tt) (λ ys z ended left h i.
-      let none : b.known ≡ Some [] = left ∙ ap Some (leaves_nothing skipping xs a.budget z ys i h)
+      let none : b.known ≡ Some [] = left ∙ ap Some (leaves_nothing skipping_profile xs a.budget z
+      ys i h)
       in let t = eof_on_prefix skipping_laws xs a.budget z ys (ended none) i h in
       (none, (t.0, t.1, t.3)))
 
@@ -97,7 +104,7 @@ module _ {V E : Type 0} {a b : View} (answer : Result V (DecodeError E))
 
   pub others_skips : Others a answer
   others_skips = λ xs known. says answer d xs known (λ ys v left s. tt)
-      (λ ys z ended left h. may_reject skipping xs a.budget z ys h)
+      (λ ys z ended left h. may_reject skipping_profile xs a.budget z ys h)
 
   pub exact_skips : ExactSkips a b answer
   exact_skips = λ xs known z rest rejects. let one = one_skipping xs a.budget in
@@ -142,7 +149,8 @@ module _ {E : Type 0} {a b : View} (answer : Result Value (DecodeError E))
 
   pub eof_reads : EofReads a b answer
   eof_reads = λ xs known. says answer d xs known (λ ys v left s. tt) (λ ys z ended left h i.
-      let none : b.known ≡ Some [] = left ∙ ap Some (leaves_nothing reading xs a.budget z ys i h)
+      let none : b.known ≡ Some [] = left ∙ ap Some (leaves_nothing reading_profile xs a.budget z ys
+      i h)
       in (none, reading_eof_prefix xs a.budget z ys i (ended none) h))
 
   pub depth_reads : DepthReads a answer
@@ -157,7 +165,7 @@ module _ {E : Type 0} {a b : View} (answer : Result Value (DecodeError E))
 
   pub others_reads : Others a answer
   others_reads = λ xs known. says answer d xs known (λ ys v left s. tt)
-      (λ ys z ended left h. may_reject reading xs a.budget z ys h)
+      (λ ys z ended left h. may_reject reading_profile xs a.budget z ys h)
 
   pub exact_reads : ExactReads a b answer
   exact_reads = λ xs known z rest rejects. let one = one_reading xs a.budget in

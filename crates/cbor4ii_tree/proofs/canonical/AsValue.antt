@@ -3,7 +3,7 @@
 use Rattle.std.proofs.Common.{false, ◌≡◌, ℕ, zero, suc, ◌/◌, ◌⊎◌, inl, inr, List, [], ◌∷◌, length}
 use Rattle.std.proofs.Common.{Option, Some, None, refl, ap, ◌∙◌, take, arith, Bool, true}
 use Rattle.cbor4ii_items.specs.{InputError.not_canonical, Laws.Heads.shortest_fits}
-use Rattle.cbor4ii_items.specs.{Head.{indefinite_head, shortest}, Heads.RejectsHead}
+use Rattle.cbor4ii_items.specs.{Head.{indefinite_head, shortest_width}, Heads.RejectsHead}
 use Rattle.cbor4ii_items.specs.Initial.{unsigned, negative, Kind, byte_string, text_string}
 use Rattle.cbor4ii_items.specs.Initial.{kind_major, Initial, starts_string, starts_simple}
 use Rattle.cbor4ii_items.specs.Initial.{starts_bits, other_simple, simple_undefined, initial, wide}
@@ -11,14 +11,19 @@ use Rattle.cbor4ii_items.specs.{Lengths.RejectsLength, Shortest.{canonical_name,
 use Rattle.cbor4ii_items.specs.Shortest.{RejectsShortest, shortest_rejected, shortest_indefinite}
 use Rattle.cbor4ii_items.specs.Shortest.{too_long, RejectsShortestString, length_rejected}
 use Rattle.cbor4ii_items.specs.{Shortest.content_cut, Strings.{string_head_rejected, string_cut}}
-use Rattle.cbor4ii_tree.specs.CanonicalRejects.{FitsCanonically, AtShortest, CanonicalOtherRejects}
-use Rattle.cbor4ii_tree.specs.CanonicalRejects.{CanonicalRejectsBy, CanonicalRejectsFrom}
-use Rattle.cbor4ii_tree.specs.CanonicalRejects.{CanonicalRejectsWithin, CanonicalRejects}
-use Rattle.cbor4ii_tree.specs.{Cost.{Budget, step_in}, InputError.{InputError, depth_overflow}}
-use Rattle.cbor4ii_tree.specs.InputError.{sign_name, kind_name, tag_name, value_name}
-use Rattle.cbor4ii_tree.specs.{Laws.Initials.{initial_string, initial_tag}, ReadingRejects.Readable}
-use Rattle.cbor4ii_tree.specs.{ReadingRejects.ReadingRejects, Rejections.{Rejection, RejectsAtStep}}
-use Rattle.cbor4ii_tree.specs.{Rejections.RejectsInCount, Valuing.{RejectsOneValue, RejectsUnder}}
+use Rattle.cbor4ii_tree.specs.Calls.CanonicalRejects.{FitsCanonically, AtShortest}
+use Rattle.cbor4ii_tree.specs.Calls.CanonicalRejects.{CanonicalOtherRejects}
+use Rattle.cbor4ii_tree.specs.Calls.CanonicalRejects.{CanonicalRejectsBy, CanonicalRejectsFrom}
+use Rattle.cbor4ii_tree.specs.Calls.CanonicalRejects.{CanonicalRejectsWithin, CanonicalRejects}
+use Rattle.cbor4ii_tree.specs.{Basis.Cost.{Budget, step_in}}
+use Rattle.cbor4ii_tree.specs.{Basis.InputError.{InputError, depth_overflow}}
+use Rattle.cbor4ii_tree.specs.Basis.InputError.{sign_name, kind_name, tag_name, value_name}
+use Rattle.cbor4ii_tree.specs.{Laws.Initials.{initial_string, initial_tag}}
+use Rattle.cbor4ii_tree.specs.{Calls.ReadingRejects.Readable}
+use Rattle.cbor4ii_tree.specs.{Calls.ReadingRejects.ReadingRejects}
+use Rattle.cbor4ii_tree.specs.{Calls.Rejections.{Rejection, RejectsAtStep}}
+use Rattle.cbor4ii_tree.specs.{Calls.Rejections.RejectsInCount}
+use Rattle.cbor4ii_tree.specs.{Inner.Valuing.{RejectsOneValue, RejectsUnder}}
 use Rattle.cbor4ii_tree.proofs.{answers.Nesting.reading_by_parts, parts.Widen.each_covers}
 use Rattle.cbor4ii_tree.proofs.{values.Calls.int_rejects, parts.Rejecting.{in_count, headed_by}}
 use Rattle.cbor4ii_tree.proofs.{values.Heads.{at_row, tag_rejects}, values.Sequences.major_of}
@@ -106,7 +111,7 @@ parts_value keyed outer inner rejects b bs e rest step m f (inl h) =
     b) h)
 parts_value keyed outer inner rejects b bs e rest step m f (inr h) =
     let n = h.argument in
-    let w = shortest n in
+    let w = shortest_width n in
     let fits = shortest_fits n h.is.0 in
     let total = in_all keyed n in
     or_value (RejectsInCount (Readable inner) (RejectsOneValue false inner) total h.after)
@@ -124,7 +129,7 @@ tag_value budget rejects b bs e rest m f (inl h) =
     false budget (b ∷ bs)) _ _ (λ s. tag_rejects _ _ _ _ _ m s.1) (head_value _ 6 _ _ _ _ _ h)
 tag_value budget rejects b bs e rest m f (inr h) =
     let n = h.argument in
-    let w = shortest n in
+    let w = shortest_width n in
     let fits = shortest_fits _ h.is.0 in
     or_value (RejectsOneValue false budget h.after) (RejectsUnder false budget (b ∷ bs)) _ _ (λ s.
     at_row _ _ _ _ _ _ (ap initial (first_byte 6 n w b bs h.after h.is.1) ∙ initial_tag _ _ fits)
@@ -178,7 +183,7 @@ by_value rejects budget (suc (suc (suc zero))) b bs e rest m f (inl h) =
     string_value text_string b bs budget e rest m h
 by_value rejects budget (suc (suc (suc zero))) b bs e rest m f (inr h) =
     let n = h.argument in
-    let w = shortest n in
+    let w = shortest_width n in
     let fits = shortest_fits n h.is.0 in
     inr (at_row budget (starts_string text_string w) b bs e rest (ap initial
     (first_byte 3 n w b bs h.after h.is.1) ∙ initial_string text_string n w fits) (inr (headed_by n

@@ -7,16 +7,19 @@ use Rattle.cbor4ii_rw.specs.{View.View, declared.error.DecodeError.DecodeError}
 use Rattle.cbor4ii_items.specs.{Laws.Answering.fits_zero, Laws.Heads.shortest_fits}
 use Rattle.cbor4ii_items.specs.{Laws.Prefixes.drop_more, Moves.Moves, Shortest.ReadsShortest}
 use Rattle.cbor4ii_items.specs.{Shortest.{ReadsShortestString, RejectsShortest}, Decoding.Sound}
-use Rattle.cbor4ii_items.specs.{Decoding.Rejects, Head.{head, shortest}, Initial.byte_string}
+use Rattle.cbor4ii_items.specs.{Decoding.Rejects, Head.{head, shortest_width}, Initial.byte_string}
 use Rattle.cbor4ii_items.specs.Initial.{text_string}
-use Rattle.cbor4ii_tree.specs.{CanonicalCalls.StringAt, CanonicalRejects.AtShortest}
-use Rattle.cbor4ii_tree.specs.{CanonicalRejects.CanonicalTextRejects, Cost.Budget, Does.Does}
-use Rattle.cbor4ii_tree.specs.{Does.answered, InputError.{kind_name, require_utf8, tag_name}}
-use Rattle.cbor4ii_tree.specs.{Laws.Binds.step_up, Tree.string, Valuing.{HeadAt, ReadsUnder}}
-use Rattle.cbor4ii_tree.specs.Valuing.{RejectsOf, RejectsOneValue, RejectsUnder, TakesTag}
+use Rattle.cbor4ii_tree.specs.{Inner.CanonicalCalls.StringAt, Calls.CanonicalRejects.AtShortest}
+use Rattle.cbor4ii_tree.specs.{Calls.CanonicalRejects.CanonicalTextRejects, Basis.Cost.Budget}
+use Rattle.cbor4ii_tree.specs.{Inner.Does.Does}
+use Rattle.cbor4ii_tree.specs.{Inner.Does.value_or_error}
+use Rattle.cbor4ii_tree.specs.{Basis.InputError.{kind_name, require_utf8, tag_name}}
+use Rattle.cbor4ii_tree.specs.{Laws.Binds.step_up, Basis.Tree.string}
+use Rattle.cbor4ii_tree.specs.{Inner.Valuing.{HeadAt, ReadsUnder}}
+use Rattle.cbor4ii_tree.specs.Inner.Valuing.{RejectsOf, RejectsOneValue, RejectsUnder, TakesTag}
 use Rattle.cbor4ii_tree.specs.declared.value.Value.{Bytes, Text}
 use Rattle.cbor4ii_tree.proofs.skip_calls.Doing.{Reached, reached_sound, does_ok, call_rejects}
-use Rattle.cbor4ii_tree.proofs.{values.Calls.whole, values.Heads.{at_major, head_at, shortest_at}}
+use Rattle.cbor4ii_tree.proofs.{values.Calls.whole, values.Heads.{at_major, head_at}}
 use Rattle.cbor4ii_tree.proofs.{values.Heads.after_shortest, values.Strings.{view-Bytes, view-Text}}
 
 -- ---- a shortest head
@@ -29,9 +32,10 @@ reached_shortest major n moves s =
 
 -- the number that the head of a tag has
 pub tag_shortest : {E : Type 0} {a c : View} (r : Option ℕ) (failure : Option (DecodeError E))
-    → Moves a c (answered r failure) → IfOk (answered r failure) (Sound (ReadsShortest 6) a c)
-    → IfErr (answered r failure) (Rejects (RejectsShortest tag_name 6) a c) → Does
-    (TakesTag true a.budget) (RejectsOf true 6 a.budget) a c (answered r failure)
+    → Moves a c (value_or_error r failure) → IfOk (value_or_error r failure)
+    (Sound (ReadsShortest 6) a c)
+    → IfErr (value_or_error r failure) (Rejects (RejectsShortest tag_name 6) a c) → Does
+    (TakesTag true a.budget) (RejectsOf true 6 a.budget) a c (value_or_error r failure)
 tag_shortest {a = a} (Some n) failure moves s h =
     does_ok _ _ (reached_shortest 6 n moves s)
 tag_shortest {a = a} None failure moves s h =
@@ -47,11 +51,10 @@ pub string_of : (major : ℕ) (content xs : List ℕ) (n c : ℕ)
 string_of major content xs n c r =
     let s = r.0 in
     let k = length content in
-    let h = shortest_at major k xs (drop s.before xs)
-    (head_at true major k xs s.before s.head (λ e. r.1)) in
+    let h = head_at true major k xs s.before s.head (λ e. r.1) in
     let left : drop s.before xs ≡ content ++ drop n xs = sym (take-append-drop k (drop s.before xs))
     ∙ ap₂ ◌++◌ s.stands (drop_more k s.before xs ∙ ap (λ j. drop j xs) (sym s.size)) in
-    (h.0, h.1 ∙ ap (λ z. head major k (shortest k) ++ z) left)
+    (h.0, h.1 ∙ ap (λ z. head major k (shortest_width k) ++ z) left)
 
 pub reached_string : {E : Type 0} (major : ℕ) (v : Vec ℕ Global) {a m : View}
     → Moves {E = E} a m (Ok v.items) → Sound (ReadsShortestString major) a m v.items
@@ -81,20 +84,20 @@ pub bytes_exact : (inner : Budget) (v : Vec ℕ Global) (xs ys : List ℕ) → S
     → ReadsUnder true inner xs (Bytes v) ys
 bytes_exact inner v xs ys h budget step =
     let k = length v.items in (
-      string byte_string (shortest k) v.items,
-      whole true budget (string byte_string (shortest k) v.items) (shortest_fits k h.0, tt)
+      string byte_string (shortest_width k) v.items,
+      whole true budget (string byte_string (shortest_width k) v.items) (shortest_fits k h.0, tt)
           (λ e. refl) (step_up budget inner 0 step (fits_zero inner)),
       sym (view-Bytes v),
-      h.1 ∙ sym (append_assoc (head 2 k (shortest k)) v.items ys),
+      h.1 ∙ sym (append_assoc (head 2 k (shortest_width k)) v.items ys),
     )
 
 pub text_exact : (inner : Budget) (v : String Global) (xs ys : List ℕ) → IsUtf8 (string_bytes v)
     → StringAt 3 (string_bytes v) xs ys → ReadsUnder true inner xs (Text v) ys
 text_exact inner v xs ys valid h budget step =
     let k = length (string_bytes v) in (
-      string text_string (shortest k) (string_bytes v),
-      whole true budget (string text_string (shortest k) (string_bytes v))
+      string text_string (shortest_width k) (string_bytes v),
+      whole true budget (string text_string (shortest_width k) (string_bytes v))
           (shortest_fits k h.0, valid) (λ e. refl) (step_up budget inner 0 step (fits_zero inner)),
       sym (view-Text v),
-      h.1 ∙ sym (append_assoc (head 3 k (shortest k)) (string_bytes v) ys),
+      h.1 ∙ sym (append_assoc (head 3 k (shortest_width k)) (string_bytes v) ys),
     )

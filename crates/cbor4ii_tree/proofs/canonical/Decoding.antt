@@ -8,17 +8,22 @@ use Rattle.cbor4ii_rw.specs.{View.View, declared.error.DecodeError.DecodeError}
 use Rattle.cbor4ii_items.specs.InputError.{not_canonical, InputError, input_error_of}
 use Rattle.cbor4ii_items.specs.{Laws.Calls.ok, Laws.Steps.moves_err, Decoding.{Sound, Complete}}
 use Rattle.cbor4ii_items.specs.Decoding.{Rejects, NoneRead, Decodes}
-use Rattle.cbor4ii_tree.specs.{CanonicalRejects.CanonicalRejects, CanonicalShape.DecodesCanonically}
-use Rattle.cbor4ii_tree.specs.{Does.Does, Encodings.DecodesTo, Headline.EofReads, InputError.eof}
-use Rattle.cbor4ii_tree.specs.{InputError.{MayReject, IsEof, IsDepthOverflow, IsFinal}, Item.Item}
-use Rattle.cbor4ii_tree.specs.{ReadingRejects.{ReadingRejects, reading}, Tree.bytes}
+use Rattle.cbor4ii_tree.specs.{Calls.CanonicalRejects.CanonicalRejects}
+use Rattle.cbor4ii_tree.specs.{Calls.CanonicalShape.DecodesCanonically}
+use Rattle.cbor4ii_tree.specs.{Inner.Does.Does, Basis.Encodings.DecodesTo, Basis.Headline.EofReads}
+use Rattle.cbor4ii_tree.specs.{Basis.InputError.eof}
+use Rattle.cbor4ii_tree.specs.{Basis.InputError.{MayReject, IsEof, IsDepthOverflow, IsFinal}}
+use Rattle.cbor4ii_tree.specs.{Basis.Item.Item}
+use Rattle.cbor4ii_tree.specs.{Calls.ReadingRejects.{ReadingRejects, reading_profile}}
+use Rattle.cbor4ii_tree.specs.{Basis.Tree.bytes}
 use Rattle.cbor4ii_tree.specs.declared.{decode_canonical.Canonical.Canonical, value.Value.Value}
-use Rattle.cbor4ii_tree.specs.Canonically.{ReadsCanonical, RejectsCanonical, IsNotCanonical}
-use Rattle.cbor4ii_tree.specs.Canonically.{OnlyCanonical, AllCanonical, TakesEncoding}
-use Rattle.cbor4ii_tree.specs.Canonically.{EveryEncoding, PrefixCanonical, DepthCanonical}
-use Rattle.cbor4ii_tree.specs.Canonically.{NeverCanonical, OthersCanonical, ValueCanonical}
-use Rattle.cbor4ii_tree.specs.{Canonically.{ExactCanonical, canonical_format}, Cost.{Budget, cost}}
-use Rattle.cbor4ii_tree.specs.{Valuing.{ReadsOneValue, RejectsOneValue}, View.view}
+use Rattle.cbor4ii_tree.specs.Calls.Canonically.{ReadsCanonical, RejectsCanonical, IsNotCanonical}
+use Rattle.cbor4ii_tree.specs.Calls.Canonically.{OnlyCanonical, AllCanonical, TakesEncoding}
+use Rattle.cbor4ii_tree.specs.Calls.Canonically.{EveryEncoding, PrefixCanonical, DepthCanonical}
+use Rattle.cbor4ii_tree.specs.Calls.Canonically.{NeverCanonical, OthersCanonical, ValueCanonical}
+use Rattle.cbor4ii_tree.specs.{Calls.Canonically.{ExactCanonical, canonical_format}}
+use Rattle.cbor4ii_tree.specs.{Basis.Cost.{Budget, cost}}
+use Rattle.cbor4ii_tree.specs.{Inner.Valuing.{ReadsOneValue, RejectsOneValue}, Basis.View.view}
 use Rattle.cbor4ii_tree.proofs.answers.MayReject.{may_reject, leaves_nothing}
 use Rattle.cbor4ii_tree.proofs.answers.Promises.{if_some, all_bytes, reading_eof_prefix}
 use Rattle.cbor4ii_tree.proofs.canonical.AsValue.{canonically_as_value}
@@ -94,7 +99,7 @@ deep : (budget : Budget) (xs : List ℕ) (e : InputError) (rest : List ℕ)
 deep budget xs e rest h i more v ys r = elim (canonically_as_value xs budget e rest h) [
   | inl is ↦ never_loose budget budget xs more e rest v ys h is r
   | inr s ↦ not_both (xs ++ more) budget v ys e (rest ++ more) (as_read budget (xs ++ more) v ys r)
-      (persists reading reading_widens xs more budget e rest (no_eof e (inl i)) s)
+      (persists reading_profile reading_widens xs more budget e rest (no_eof e (inl i)) s)
 ]
 
 never : (budget : Budget) (xs : List ℕ) (e : InputError) (rest : List ℕ)
@@ -102,7 +107,8 @@ never : (budget : Budget) (xs : List ℕ) (e : InputError) (rest : List ℕ)
     (other : Budget) (v : Item) (ys : List ℕ) → ¬ (DecodesCanonically (xs ++ more) other v ys)
 never budget xs e rest h i more other v ys r = elim (canonically_as_value xs budget e rest h) [
   | inl is ↦ never_loose budget other xs more e rest v ys h is r
-  | inr s ↦ final_stays xs more budget other e rest v ys (final e i (may_reject reading xs budget e
+  | inr s ↦ final_stays xs more budget other e rest v ys
+      (final e i (may_reject reading_profile xs budget e
       rest s)) s (as_read other (xs ++ more) v ys r)
 ]
   where
@@ -129,7 +135,7 @@ may_stop : (budget : Budget) (xs : List ℕ) (e : InputError) (rest : List ℕ)
     → CanonicalRejects xs budget e rest → MayReject e ⊎ IsNotCanonical e
 may_stop budget xs e rest h = elim (canonically_as_value xs budget e rest h) [
   | inl is ↦ inr (subst IsNotCanonical (sym is) tt)
-  | inr s ↦ inl (may_reject reading xs budget e rest s)
+  | inr s ↦ inl (may_reject reading_profile xs budget e rest s)
 ]
 
 -- ---- a value was read
@@ -256,7 +262,7 @@ module _ {E : Type 0} {a b : View} {e : DecodeError E}
   rejected_eof = λ xs known. rejected xs _ known (λ z ys is left h ended.
       let s = of_value a.budget xs z ys h (eof_is_other z ended) in
       let none : b.known ≡ Some [] =
-      left ∙ ap Some (leaves_nothing reading xs a.budget z ys ended s) in (
+      left ∙ ap Some (leaves_nothing reading_profile xs a.budget z ys ended s) in (
         none,
         reading_eof_prefix xs a.budget z ys ended
             (all_bytes {V = Value} a b e z xs is d.moves known none) s,

@@ -3,7 +3,8 @@ use Rattle.std.proofs.Common.{◌≡◌, ◌≢◌, ℕ, zero, suc, ◌*◌, ◌
 use Rattle.std.proofs.Common.{refl, sym, ap, ◌∙◌, subst, arith, append_assoc}
 use Rattle.std.proofs.lemmas.List.{append_cancel_left}
 use Rattle.std.specs.Int.{bytes_high_first}
-use Rattle.cbor4ii_items.specs.{Budget.CostFits, Head.{Width, byte_count, HeadFits, head, shortest}}
+use Rattle.cbor4ii_items.specs.{Budget.CostFits}
+use Rattle.cbor4ii_items.specs.{Head.{Width, byte_count, HeadFits, head, shortest_width}}
 use Rattle.cbor4ii_items.specs.{Heads.ReadsHead, Initial.{unsigned, negative, byte_string}}
 use Rattle.cbor4ii_items.specs.Initial.{text_string, Simple, simple_false, simple_true, simple_null}
 use Rattle.cbor4ii_items.specs.Initial.{simple_undefined, simple_byte, Precision, half, single}
@@ -11,26 +12,30 @@ use Rattle.cbor4ii_items.specs.Initial.{double, initial, precision_byte, precisi
 use Rattle.cbor4ii_items.specs.{Initial.{starts_simple, starts_bits}, Laws.Answering.fits_zero}
 use Rattle.cbor4ii_items.specs.Laws.Heads.{head_one, shortest_fits, argument_below, byte_count-le}
 use Rattle.cbor4ii_items.specs.Laws.SequenceParts.{fits_max}
-use Rattle.cbor4ii_tree.specs.CanonicalRejects.{FitsCanonically, ShortestAt}
-use Rattle.cbor4ii_tree.specs.CanonicalShape.{CanonicalShapeAll, CanonicalShapePairs, CanonicalTree}
-use Rattle.cbor4ii_tree.specs.Cost.{Budget, cost, greatest_cost, greatest_pair_cost}
+use Rattle.cbor4ii_tree.specs.Calls.CanonicalRejects.{FitsCanonically, ShortestAt}
+use Rattle.cbor4ii_tree.specs.Calls.CanonicalShape.{CanonicalShapeAll, CanonicalShapePairs}
+use Rattle.cbor4ii_tree.specs.Calls.CanonicalShape.{CanonicalTree}
+use Rattle.cbor4ii_tree.specs.Basis.Cost.{Budget, cost, greatest_cost, greatest_pair_cost}
 use Rattle.cbor4ii_tree.specs.{Laws.Ignoring.one_encoding, Laws.Initials.initial_simple}
 use Rattle.cbor4ii_tree.specs.{Laws.Initials.initial_bits, Laws.Numbers.additional-lt}
-use Rattle.cbor4ii_tree.specs.{Rejections.{Each, EachPair}, Tree.{Tree, int, string, chunked}}
-use Rattle.cbor4ii_tree.specs.Tree.{array, array_indefinite, map_of, map_indefinite, tagged, simple}
-use Rattle.cbor4ii_tree.specs.Tree.{bits, Trees, no_trees, tree, Pairs, no_pairs, pair, count}
-use Rattle.cbor4ii_tree.specs.Tree.{pair_count, bytes, bytes_all, bytes_pairs, LooseAll, LoosePairs}
-use Rattle.cbor4ii_tree.specs.Tree.{SoundStringsAll, SoundStringsPairs}
+use Rattle.cbor4ii_tree.specs.{Calls.Rejections.{Each, EachPair}}
+use Rattle.cbor4ii_tree.specs.{Basis.Tree.{Tree, int, string, chunked}}
+use Rattle.cbor4ii_tree.specs.Basis.Tree.{array, array_indefinite, map_of, map_indefinite, tagged}
+use Rattle.cbor4ii_tree.specs.Basis.Tree.{simple}
+use Rattle.cbor4ii_tree.specs.Basis.Tree.{bits, Trees, no_trees, tree, Pairs, no_pairs, pair, count}
+use Rattle.cbor4ii_tree.specs.Basis.Tree.{pair_count, bytes, bytes_all, bytes_pairs, LooseAll}
+use Rattle.cbor4ii_tree.specs.Basis.Tree.{LoosePairs}
+use Rattle.cbor4ii_tree.specs.Basis.Tree.{SoundStringsAll, SoundStringsPairs}
 use Rattle.cbor4ii_tree.proofs.encodings.CanonicalShape.{same_first, first_byte}
 use Rattle.cbor4ii_tree.proofs.parts.Pushed.{flat, count-flat, each-flat, bytes-flat}
 
 -- ---- heads
 
 pub head_here : (major n : ℕ) (xs ys : List ℕ) → ShortestAt major n xs ys
-    → ReadsHead major 8 xs n (suc (byte_count (shortest n)))
+    → ReadsHead major 8 xs n (suc (byte_count (shortest_width n)))
 head_here major n xs ys h = record {
-  wide = shortest n;
-  allowed = byte_count-le (shortest n);
+  wide = shortest_width n;
+  allowed = byte_count-le (shortest_width n);
   fits = shortest_fits n h.0;
   rest = ys;
   is = h.1;
@@ -38,21 +43,23 @@ head_here major n xs ys h = record {
 }
 
 pub one_head : (major n m : ℕ) (x y : List ℕ) → major < 8 → n < 2 ^ 64 → m < 2 ^ 64
-    → head major n (shortest n) ++ x ≡ head major m (shortest m) ++ y → (n ≡ m) × (x ≡ y)
+    → head major n (shortest_width n) ++ x ≡ head major m (shortest_width m) ++ y → (n ≡ m)
+    × (x ≡ y)
 one_head major n m x y small h k e =
-    let all : List ℕ = head major n (shortest n) ++ x in
+    let all : List ℕ = head major n (shortest_width n) ++ x in
     let same = (head_one major 8 all n m _ _ small (head_here major n all x (h, refl))
     (head_here major m all y (k, e))).1 in (
       same,
-      append_cancel_left (head major n (shortest n)) x y
-          (e ∙ ap (λ j. head major j (shortest j) ++ y) (sym same)),
+      append_cancel_left (head major n (shortest_width n)) x y
+          (e ∙ ap (λ j. head major j (shortest_width j) ++ y) (sym same)),
     )
 
 -- what follows a head that was taken
 pub following_head : (major n : ℕ) (xs ys more : List ℕ) (m : ℕ) (zs : List ℕ) → major < 8
     → ShortestAt major n xs ys → ShortestAt major m (xs ++ more) zs → (n ≡ m) × (ys ++ more ≡ zs)
 following_head major n xs ys more m zs small h k =
-    one_head major n m (ys ++ more) zs small h.0 k.0 (sym (append_assoc (head major n (shortest n))
+    one_head major n m (ys ++ more) zs small h.0 k.0
+    (sym (append_assoc (head major n (shortest_width n))
     ys more) ∙ ap (λ r. r ++ more) (sym h.1) ∙ k.1)
 
 -- ---- lists of canonical trees, each by itself or all together
@@ -129,7 +136,7 @@ Arm (suc (suc (suc (suc (suc (suc zero)))))) = BeginsHead 6 (λ n. BeginsOne)
 Arm (suc (suc (suc (suc (suc (suc (suc k))))))) = BeginsOther
 
 arm_head : (k n x : ℕ) (Then : ℕ → Beginning) (w : Width) (xs ys : List ℕ)
-    → (BeginsHead k Then (x ∷ xs) → Arm k (x ∷ xs)) → HeadFits w n → w ≡ shortest n
+    → (BeginsHead k Then (x ∷ xs) → Arm k (x ∷ xs)) → HeadFits w n → w ≡ shortest_width n
     → x ∷ xs ≡ head k n w ++ ys → Then n ys → Arm (x / 32) (x ∷ xs)
 arm_head k n x Then w xs ys f h s e then =
     let major : k ≡ x / 32 = omega (arith, first_byte k n w x xs ys e, additional-lt n w h) in

@@ -3,19 +3,21 @@
 use Rattle.std.proofs.Common.{◌≡◌, ◌≢◌, ℕ, zero, suc, ◌+◌, ◌*◌, ◌/◌, ◌<◌, inl, inr, List, [], ◌∷◌}
 use Rattle.std.proofs.Common.{◌++◌, Option, Some, None, refl, sym, ap, ◌∙◌, subst, arith}
 use Rattle.std.proofs.Common.{append_assoc}
-use Rattle.cbor4ii_items.specs.{Head.{byte_count, head, shortest}, Heads.{ReadsHead, RejectsHead}}
+use Rattle.cbor4ii_items.specs.{Head.{byte_count, head, shortest_width}}
+use Rattle.cbor4ii_items.specs.{Heads.{ReadsHead, RejectsHead}}
 use Rattle.cbor4ii_items.specs.Initial.{Initial, starts_simple, starts_bits, other_simple, initial}
 use Rattle.cbor4ii_items.specs.{Initial.simple_undefined, InputError.{InputError, not_canonical}}
 use Rattle.cbor4ii_items.specs.{Laws.Heads.{head_one, additional-lt}, Shortest.RejectsShortest}
 use Rattle.cbor4ii_items.specs.Shortest.{shortest_rejected, shortest_indefinite, too_long}
 use Rattle.cbor4ii_items.specs.Shortest.{canonical_name, RejectsShortestString, length_rejected}
 use Rattle.cbor4ii_items.specs.Shortest.{content_cut}
-use Rattle.cbor4ii_tree.specs.CanonicalRejects.{FitsCanonically, ShortestAt, AtShortest}
-use Rattle.cbor4ii_tree.specs.CanonicalRejects.{CanonicalArrayRejects, CanonicalMapRejects}
-use Rattle.cbor4ii_tree.specs.CanonicalRejects.{CanonicalOtherRejects, CanonicalRejectsBy}
-use Rattle.cbor4ii_tree.specs.CanonicalRejects.{CanonicalRejectsFrom, CanonicalRejectsWithin}
-use Rattle.cbor4ii_tree.specs.{Cost.{Budget, step_in}, InputError.value_name, Rejections.Rejection}
-use Rattle.cbor4ii_tree.specs.Rejections.{RejectsAtStep, RejectsInCount}
+use Rattle.cbor4ii_tree.specs.Calls.CanonicalRejects.{FitsCanonically, ShortestAt, AtShortest}
+use Rattle.cbor4ii_tree.specs.Calls.CanonicalRejects.{CanonicalArrayRejects, CanonicalMapRejects}
+use Rattle.cbor4ii_tree.specs.Calls.CanonicalRejects.{CanonicalOtherRejects, CanonicalRejectsBy}
+use Rattle.cbor4ii_tree.specs.Calls.CanonicalRejects.{CanonicalRejectsFrom, CanonicalRejectsWithin}
+use Rattle.cbor4ii_tree.specs.{Basis.Cost.{Budget, step_in}, Basis.InputError.value_name}
+use Rattle.cbor4ii_tree.specs.{Calls.Rejections.Rejection}
+use Rattle.cbor4ii_tree.specs.Calls.Rejections.{RejectsAtStep, RejectsInCount}
 use Rattle.cbor4ii_tree.proofs.canonical.FitsCanonically.{Beginning, BeginsOne, BeginsItems, Arm}
 use Rattle.cbor4ii_tree.proofs.canonical.FitsCanonically.{BeginsHead, BeginsOther, Anything, arm_of}
 use Rattle.cbor4ii_tree.proofs.canonical.FitsCanonically.{following_head, one_after, head_here}
@@ -45,7 +47,7 @@ no_indefinite major v n b bs is k =
 
 -- a head that is longer than needed is no shortest one
 pub longer : (major v n : ℕ) (xs more : List ℕ) → major < 8 → (h : ReadsHead major 8 xs v n)
-    → h.wide ≢ shortest v → (m : ℕ) (zs : List ℕ) → ¬ (ShortestAt major m (xs ++ more) zs)
+    → h.wide ≢ shortest_width v → (m : ℕ) (zs : List ℕ) → ¬ (ShortestAt major m (xs ++ more) zs)
 longer major v n xs more small h other m zs c =
     let all : List ℕ = xs ++ more in
     let is : all ≡ head major v h.wide ++ (h.rest ++ more) =
@@ -58,10 +60,10 @@ longer major v n xs more small h other m zs c =
       is = is;
       count = h.count;
     } in
-    let same = (head_one major 8 all v m n (suc (byte_count (shortest m))) small p
+    let same = (head_one major 8 all v m n (suc (byte_count (shortest_width m))) small p
     (head_here major m all zs c)).1 in
     other (same_head major v h.wide (h.rest ++ more) zs h.fits
-    (sym is ∙ c.1 ∙ ap (λ j. head major j (shortest j) ++ zs) (sym same))).0
+    (sym is ∙ c.1 ∙ ap (λ j. head major j (shortest_width j) ++ zs) (sym same))).0
 
 head_never : (name : List ℕ) (major : ℕ) (budget : Budget) (Then : ℕ → Beginning) → major < 8
     → Never (λ xs. RejectsShortest name major xs budget) (BeginsHead major Then)

@@ -6,19 +6,24 @@ use Rattle.std.specs.Int.{bytes_high_first}
 use Rattle.cbor4ii_items.specs.Laws.Heads.{argument_below, head_one, length-bytes_high_first}
 use Rattle.cbor4ii_items.specs.Shortest.{RejectsShortest, shortest_rejected, shortest_indefinite}
 use Rattle.cbor4ii_items.specs.Shortest.{too_long, RejectsShortestString, length_rejected}
-use Rattle.cbor4ii_items.specs.{Shortest.content_cut, Head.{Width, byte_count, head, shortest}}
+use Rattle.cbor4ii_items.specs.{Shortest.content_cut}
+use Rattle.cbor4ii_items.specs.{Head.{Width, byte_count, head, shortest_width}}
 use Rattle.cbor4ii_items.specs.{Heads.{ReadsHead, Begins, RejectsHead}, Initial.{wide, info_of}}
 use Rattle.cbor4ii_items.specs.Initial.{simple_undefined, Initial, starts_simple, starts_bits}
 use Rattle.cbor4ii_items.specs.Initial.{other_simple}
-use Rattle.cbor4ii_tree.specs.{InputError.{value_name, InputError}, Laws.Ignoring.one_encoding}
-use Rattle.cbor4ii_tree.specs.{Meaning.value, CanonicalRejects.{FitsCanonically, ShortestAt}}
-use Rattle.cbor4ii_tree.specs.CanonicalRejects.{AfterShortest, AtShortest, CanonicalTextRejects}
-use Rattle.cbor4ii_tree.specs.CanonicalRejects.{CanonicalArrayRejects, CanonicalMapRejects}
-use Rattle.cbor4ii_tree.specs.CanonicalRejects.{CanonicalOtherRejects, CanonicalRejectsBy}
-use Rattle.cbor4ii_tree.specs.CanonicalRejects.{CanonicalRejectsFrom, CanonicalRejectsWithin}
-use Rattle.cbor4ii_tree.specs.{CanonicalRejects.CanonicalRejects, Cost.{Budget, step_in}}
-use Rattle.cbor4ii_tree.specs.Rejections.{Rejection, RejectsAtStep, Each, RejectsInCount}
-use Rattle.cbor4ii_tree.specs.Tree.{Tree, Trees, no_trees, tree, bytes, bytes_all}
+use Rattle.cbor4ii_tree.specs.{Basis.InputError.{value_name, InputError}}
+use Rattle.cbor4ii_tree.specs.{Laws.Ignoring.one_encoding}
+use Rattle.cbor4ii_tree.specs.{Basis.Meaning.value}
+use Rattle.cbor4ii_tree.specs.{Calls.CanonicalRejects.{FitsCanonically, ShortestAt}}
+use Rattle.cbor4ii_tree.specs.Calls.CanonicalRejects.{AfterShortest, AtShortest}
+use Rattle.cbor4ii_tree.specs.Calls.CanonicalRejects.{CanonicalTextRejects}
+use Rattle.cbor4ii_tree.specs.Calls.CanonicalRejects.{CanonicalArrayRejects, CanonicalMapRejects}
+use Rattle.cbor4ii_tree.specs.Calls.CanonicalRejects.{CanonicalOtherRejects, CanonicalRejectsBy}
+use Rattle.cbor4ii_tree.specs.Calls.CanonicalRejects.{CanonicalRejectsFrom, CanonicalRejectsWithin}
+use Rattle.cbor4ii_tree.specs.{Calls.CanonicalRejects.CanonicalRejects}
+use Rattle.cbor4ii_tree.specs.{Basis.Cost.{Budget, step_in}}
+use Rattle.cbor4ii_tree.specs.Calls.Rejections.{Rejection, RejectsAtStep, Each, RejectsInCount}
+use Rattle.cbor4ii_tree.specs.Basis.Tree.{Tree, Trees, no_trees, tree, bytes, bytes_all}
 use Rattle.cbor4ii_tree.proofs.canonical.FitsCanonically.{one_head, head_here}
 use Rattle.cbor4ii_tree.proofs.canonical.NotCanonical.{loose, longer, not_by_head, within_never}
 use Rattle.cbor4ii_tree.proofs.canonical.NotCanonical.{no_indefinite}
@@ -90,10 +95,11 @@ no_shortest : (name : List ℕ) (major n : ℕ) (xs ys : List ℕ) (budget : Bud
     (x : List ℕ) → major < 8 → RejectsShortest name major xs budget e x →
     ¬ (ShortestAt major n xs ys)
 no_shortest name major n xs ys budget e x small (shortest_rejected closed h) k =
-    no_head name major n (suc (byte_count (shortest n))) xs e x h (head_here major n xs ys k)
+    no_head name major n (suc (byte_count (shortest_width n))) xs e x h (head_here major n xs ys k)
 no_shortest name major n xs ys budget e x small (shortest_indefinite b o is says) k =
-    no_indefinite major n (suc (byte_count (shortest n))) b x o.2 (subst (λ z. ReadsHead major 8 z n
-    (suc (byte_count (shortest n)))) is (head_here major n xs ys k))
+    no_indefinite major n (suc (byte_count (shortest_width n))) b x o.2
+    (subst (λ z. ReadsHead major 8 z n
+    (suc (byte_count (shortest_width n)))) is (head_here major n xs ys k))
 no_shortest name major n xs ys budget e x small (too_long v m h other says left) k =
     longer major v m xs [] small h other n ys (subst (λ z. ShortestAt major n z ys) (sym (append-nil
     xs)) k)

@@ -2,31 +2,40 @@
 use Rattle.std.proofs.Common.{◌≡◌, ℕ, suc, ◌^◌, ◌<◌, List, length, Bool, true, false, cond, ltb}
 use Rattle.std.proofs.Common.{ltb-true, lt-ltb, pos, negsuc, refl, sym, ap, ap₂, arith, subst}
 use Rattle.std.specs.Int.{bytes_high_first}
-use Rattle.cbor4ii_items.specs.{Head.{HeadFits, shortest}, Initial.{Sign, unsigned, negative, Kind}}
+use Rattle.cbor4ii_items.specs.{Head.{HeadFits, shortest_width}}
+use Rattle.cbor4ii_items.specs.{Initial.{Sign, unsigned, negative, Kind}}
 use Rattle.cbor4ii_items.specs.Initial.{byte_string, text_string, simple_false}
 use Rattle.cbor4ii_items.specs.Laws.Heads.{length-bytes_high_first, if_cases, shortest_fits}
 use Rattle.cbor4ii_items.specs.Laws.Heads.{argument_below}
 use Rattle.cbor4ii_items.specs.Laws.NumbersBack.{length-without_leading_zeros}
-use Rattle.cbor4ii_tree.specs.Canonical.{tagged_integer, canonical_encoding, canonical_tree}
-use Rattle.cbor4ii_tree.specs.Canonical.{canonical_trees, canonical_pairs, integer_tree, bignum}
-use Rattle.cbor4ii_tree.specs.Canonical.{magnitude, sign_tag, with_bignums, with_bignums_all}
-use Rattle.cbor4ii_tree.specs.{Canonical.with_bignums_members, Cost.cost, Encodings.Encodes}
-use Rattle.cbor4ii_tree.specs.Item.{Item, null, boolean, integer, float, bytes_item, text, sequence}
-use Rattle.cbor4ii_tree.specs.Item.{mapping, tag, Items, no_items, item, Members, no_members}
-use Rattle.cbor4ii_tree.specs.Item.{member, item_count, member_count, IsItem, AreItems, AreMembers}
-use Rattle.cbor4ii_tree.specs.Meaning.{value, values, member_values, number, content_item}
-use Rattle.cbor4ii_tree.specs.Tree.{Tree, int, string, chunked, array, array_indefinite, map_of}
-use Rattle.cbor4ii_tree.specs.Tree.{map_indefinite, tagged, simple, bits, Trees, no_trees, tree}
-use Rattle.cbor4ii_tree.specs.Tree.{Pairs, no_pairs, pair, joined_chunks, count, pair_count, Loose}
-use Rattle.cbor4ii_tree.specs.Tree.{LooseAll, LoosePairs, SoundStrings, SoundStringsAll}
-use Rattle.cbor4ii_tree.specs.Tree.{SoundStringsPairs}
+use Rattle.cbor4ii_tree.specs.Basis.Canonical.{tagged_integer, canonical_encoding, canonical_tree}
+use Rattle.cbor4ii_tree.specs.Basis.Canonical.{canonical_trees, canonical_pairs, integer_tree}
+use Rattle.cbor4ii_tree.specs.Basis.Canonical.{bignum}
+use Rattle.cbor4ii_tree.specs.Basis.Canonical.{magnitude, sign_tag, with_bignums, with_bignums_all}
+use Rattle.cbor4ii_tree.specs.{Basis.Canonical.with_bignums_pairs, Basis.Cost.cost}
+use Rattle.cbor4ii_tree.specs.{Basis.Encodings.Encodes}
+use Rattle.cbor4ii_tree.specs.Basis.Item.{Item, null, boolean, integer, float, bytes_item, text}
+use Rattle.cbor4ii_tree.specs.Basis.Item.{sequence}
+use Rattle.cbor4ii_tree.specs.Basis.Item.{mapping, tag, Items, no_items, item, ItemPairs}
+use Rattle.cbor4ii_tree.specs.Basis.Item.{no_item_pairs}
+use Rattle.cbor4ii_tree.specs.Basis.Item.{item_pair, item_count, item_pair_count, IsItem, AreItems}
+use Rattle.cbor4ii_tree.specs.Basis.Item.{AreItemPairs}
+use Rattle.cbor4ii_tree.specs.Basis.Meaning.{value, values, pair_values_of, number, content_item}
+use Rattle.cbor4ii_tree.specs.Basis.Tree.{Tree, int, string, chunked, array, array_indefinite}
+use Rattle.cbor4ii_tree.specs.Basis.Tree.{map_of}
+use Rattle.cbor4ii_tree.specs.Basis.Tree.{map_indefinite, tagged, simple, bits, Trees, no_trees}
+use Rattle.cbor4ii_tree.specs.Basis.Tree.{tree}
+use Rattle.cbor4ii_tree.specs.Basis.Tree.{Pairs, no_pairs, pair, joined_chunks, count, pair_count}
+use Rattle.cbor4ii_tree.specs.Basis.Tree.{Loose}
+use Rattle.cbor4ii_tree.specs.Basis.Tree.{LooseAll, LoosePairs, SoundStrings, SoundStringsAll}
+use Rattle.cbor4ii_tree.specs.Basis.Tree.{SoundStringsPairs}
 
 length-magnitude : (n : ℕ) → length (magnitude n) < 2 ^ 64
 length-magnitude n =
     omega
     (arith, length-without_leading_zeros (bytes_high_first 16 n), length-bytes_high_first 16 n)
 
-pub tag_fits : (s : Sign) → HeadFits (shortest (sign_tag s)) (sign_tag s)
+pub tag_fits : (s : Sign) → HeadFits (shortest_width (sign_tag s)) (sign_tag s)
 tag_fits unsigned = omega arith
 tag_fits negative = omega arith
 
@@ -42,12 +51,12 @@ pub count-canonical_encoding : (vs : Items) → count (canonical_trees vs) ≡ i
 count-canonical_encoding no_items = refl
 count-canonical_encoding (item v vs) = ap suc (count-canonical_encoding vs)
 
-pub count-pairs : (ms : Members) → pair_count (canonical_pairs ms) ≡ member_count ms
-count-pairs no_members = refl
-count-pairs (member k v ms) = ap suc (count-pairs ms)
+pub count-pairs : (ms : ItemPairs) → pair_count (canonical_pairs ms) ≡ item_pair_count ms
+count-pairs no_item_pairs = refl
+count-pairs (item_pair k v ms) = ap suc (count-pairs ms)
 
-definite_fits : (n m : ℕ) → n ≡ m → m < 2 ^ 64 → HeadFits (shortest m) n
-definite_fits n m e h = subst (HeadFits (shortest m)) (sym e) (shortest_fits m h)
+definite_fits : (n m : ℕ) → n ≡ m → m < 2 ^ 64 → HeadFits (shortest_width m) n
+definite_fits n m e h = subst (HeadFits (shortest_width m)) (sym e) (shortest_fits m h)
 
 mutual
   pub loose_canonical : (v : Item) → IsItem v → Loose (canonical_tree v)
@@ -68,9 +77,9 @@ mutual
   loose_canonical_all no_items h = tt
   loose_canonical_all (item v vs) h = (loose_canonical v h.0, loose_canonical_all vs h.1)
 
-  loose_canonical_pairs : (ms : Members) → AreMembers ms → LoosePairs (canonical_pairs ms)
-  loose_canonical_pairs no_members h = tt
-  loose_canonical_pairs (member k v ms) h =
+  loose_canonical_pairs : (ms : ItemPairs) → AreItemPairs ms → LoosePairs (canonical_pairs ms)
+  loose_canonical_pairs no_item_pairs h = tt
+  loose_canonical_pairs (item_pair k v ms) h =
       (loose_canonical k h.0, loose_canonical v h.1, loose_canonical_pairs ms h.2)
 
 mutual
@@ -90,16 +99,17 @@ mutual
   sound_canonical_all no_items h = tt
   sound_canonical_all (item v vs) h = (sound_canonical v h.0, sound_canonical_all vs h.1)
 
-  sound_canonical_pairs : (ms : Members) → AreMembers ms → SoundStringsPairs (canonical_pairs ms)
-  sound_canonical_pairs no_members h = tt
-  sound_canonical_pairs (member k v ms) h =
+  sound_canonical_pairs : (ms : ItemPairs) → AreItemPairs ms → SoundStringsPairs
+      (canonical_pairs ms)
+  sound_canonical_pairs no_item_pairs h = tt
+  sound_canonical_pairs (item_pair k v ms) h =
       (sound_canonical k h.0, sound_canonical v h.1, sound_canonical_pairs ms h.2)
 
 value_integer : (s : Sign) (n : ℕ)
     → value (integer_tree s n) ≡ tagged_integer s n (integer (number s n))
 value_integer s n = value_if (ltb n (2 ^ 64))
   where
-    value_if : (b : Bool) → value (cond b (Tree.int s n (shortest n)) (bignum s n)) ≡ cond b
+    value_if : (b : Bool) → value (cond b (Tree.int s n (shortest_width n)) (bignum s n)) ≡ cond b
         (integer (number s n)) (tag (sign_tag s) (bytes_item (magnitude n)))
     value_if true = refl
     value_if false = refl
@@ -115,7 +125,7 @@ mutual
   value-canonical_encoding (bytes_item bs) = refl
   value-canonical_encoding (text bs) = refl
   value-canonical_encoding (sequence vs) = ap sequence (values-canonical_encoding vs)
-  value-canonical_encoding (mapping ms) = ap mapping (member_values-canonical_encoding ms)
+  value-canonical_encoding (mapping ms) = ap mapping (pair_values-canonical_encoding ms)
   value-canonical_encoding (tag n v) = ap (tag n) (value-canonical_encoding v)
 
   values-canonical_encoding : (vs : Items) → values (canonical_trees vs) ≡ with_bignums_all vs
@@ -123,14 +133,14 @@ mutual
   values-canonical_encoding (item v vs) =
       ap₂ item (value-canonical_encoding v) (values-canonical_encoding vs)
 
-  member_values-canonical_encoding : (ms : Members) → member_values (canonical_pairs ms) ≡
-      with_bignums_members ms
-  member_values-canonical_encoding no_members = refl
-  member_values-canonical_encoding (member k v ms) =
+  pair_values-canonical_encoding : (ms : ItemPairs) → pair_values_of (canonical_pairs ms) ≡
+      with_bignums_pairs ms
+  pair_values-canonical_encoding no_item_pairs = refl
+  pair_values-canonical_encoding (item_pair k v ms) =
       cc (
         value-canonical_encoding k,
         value-canonical_encoding v,
-        member_values-canonical_encoding ms,
+        pair_values-canonical_encoding ms,
       )
 
 -- the canonical encoding is read back, with each large integer as its bignum
@@ -167,8 +177,8 @@ mutual
   with_bignums-value (chunked k ts) h = with_bignums-content k (joined_chunks ts)
   with_bignums-value (array w ts) h = ap sequence (with_bignums-values ts h.1)
   with_bignums-value (array_indefinite ts) h = ap sequence (with_bignums-values ts h)
-  with_bignums-value (map_of w ps) h = ap mapping (with_bignums-member_values ps h.1)
-  with_bignums-value (map_indefinite ps) h = ap mapping (with_bignums-member_values ps h)
+  with_bignums-value (map_of w ps) h = ap mapping (with_bignums-pair_values ps h.1)
+  with_bignums-value (map_indefinite ps) h = ap mapping (with_bignums-pair_values ps h)
   with_bignums-value (tagged n w t) h = ap (tag n) (with_bignums-value t h.1)
   with_bignums-value (simple simple_false) h = refl
   with_bignums-value (simple _) h = refl
@@ -179,8 +189,8 @@ mutual
   with_bignums-values (tree t ts) h =
       ap₂ item (with_bignums-value t h.0) (with_bignums-values ts h.1)
 
-  with_bignums-member_values : (ps : Pairs) → LoosePairs ps
-      → with_bignums_members (member_values ps) ≡ member_values ps
-  with_bignums-member_values no_pairs h = refl
-  with_bignums-member_values (pair k v ps) h =
-      cc (with_bignums-value k h.0, with_bignums-value v h.1, with_bignums-member_values ps h.2)
+  with_bignums-pair_values : (ps : Pairs) → LoosePairs ps
+      → with_bignums_pairs (pair_values_of ps) ≡ pair_values_of ps
+  with_bignums-pair_values no_pairs h = refl
+  with_bignums-pair_values (pair k v ps) h =
+      cc (with_bignums-value k h.0, with_bignums-value v h.1, with_bignums-pair_values ps h.2)

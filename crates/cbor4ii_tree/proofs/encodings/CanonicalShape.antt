@@ -4,32 +4,41 @@ use Rattle.std.proofs.Common.{ltb, ltb-true, lt-ltb, pos, negsuc, refl, sym, ap,
 use Rattle.std.proofs.{Common.{arith, append_assoc, get_or}, lemmas.List.append_cancel_left}
 use Rattle.std.specs.Prelude.{◌↔◌}
 use Rattle.cbor4ii_items.specs.{Budget.CostFits, Head.{Width, HeadFits, additional, head}}
-use Rattle.cbor4ii_items.specs.{Head.{indefinite_head, shortest, break}, Initial.{Sign, unsigned}}
+use Rattle.cbor4ii_items.specs.{Head.{indefinite_head, shortest_width, break}}
+use Rattle.cbor4ii_items.specs.{Initial.{Sign, unsigned}}
 use Rattle.cbor4ii_items.specs.Initial.{negative, sign_major, Kind, byte_string, text_string}
 use Rattle.cbor4ii_items.specs.Initial.{kind_major, simple_false, simple_true, simple_null}
 use Rattle.cbor4ii_items.specs.Initial.{simple_undefined, simple_byte, info_of}
 use Rattle.cbor4ii_items.specs.Laws.Heads.{if_cases, shortest_fits, argument_below, same_wide}
-use Rattle.cbor4ii_tree.specs.Canonical.{with_bignums, canonical_encoding, canonical_cost}
-use Rattle.cbor4ii_tree.specs.Canonical.{canonical_tree, canonical_trees, canonical_pairs}
-use Rattle.cbor4ii_tree.specs.{Canonical.integer_tree, CanonicalShape.CanonicalShape}
-use Rattle.cbor4ii_tree.specs.CanonicalShape.{CanonicalShapeAll, CanonicalShapePairs, IsDecoded}
-use Rattle.cbor4ii_tree.specs.CanonicalShape.{EncodesCanonically, DecodesCanonically}
-use Rattle.cbor4ii_tree.specs.Item.{AreMembers, Item, null, boolean, integer, float, bytes_item}
-use Rattle.cbor4ii_tree.specs.Item.{text, sequence, mapping, tag, Items, no_items, item, Members}
-use Rattle.cbor4ii_tree.specs.Item.{no_members, member, item_count, member_count, IsItem, AreItems}
+use Rattle.cbor4ii_tree.specs.Basis.Canonical.{with_bignums, canonical_encoding, canonical_cost}
+use Rattle.cbor4ii_tree.specs.Basis.Canonical.{canonical_tree, canonical_trees, canonical_pairs}
+use Rattle.cbor4ii_tree.specs.{Basis.Canonical.integer_tree, Calls.CanonicalShape.CanonicalShape}
+use Rattle.cbor4ii_tree.specs.Calls.CanonicalShape.{CanonicalShapeAll, CanonicalShapePairs}
+use Rattle.cbor4ii_tree.specs.Calls.CanonicalShape.{IsDecoded}
+use Rattle.cbor4ii_tree.specs.Calls.CanonicalShape.{EncodesCanonically, DecodesCanonically}
+use Rattle.cbor4ii_tree.specs.Basis.Item.{AreItemPairs, Item, null, boolean, integer, float}
+use Rattle.cbor4ii_tree.specs.Basis.Item.{bytes_item}
+use Rattle.cbor4ii_tree.specs.Basis.Item.{text, sequence, mapping, tag, Items, no_items, item}
+use Rattle.cbor4ii_tree.specs.Basis.Item.{ItemPairs}
+use Rattle.cbor4ii_tree.specs.Basis.Item.{no_item_pairs, item_pair, item_count, item_pair_count}
+use Rattle.cbor4ii_tree.specs.Basis.Item.{IsItem, AreItems}
 use Rattle.cbor4ii_tree.specs.{Laws.Ignoring.one_encoding, Laws.Numbers.info-additional}
-use Rattle.cbor4ii_tree.specs.{Laws.PartsAgain.pair_split, Cost.{cost, Budget}, Meaning.value}
-use Rattle.cbor4ii_tree.specs.{Meaning.{values, member_values, number, content_item}, Tree.Tree}
-use Rattle.cbor4ii_tree.specs.Tree.{int, string, chunked, array, array_indefinite, map_of}
-use Rattle.cbor4ii_tree.specs.Tree.{map_indefinite, tagged, simple, bits, Trees, no_trees, tree}
-use Rattle.cbor4ii_tree.specs.Tree.{Pairs, no_pairs, pair, count, pair_count, joined_chunks, bytes}
-use Rattle.cbor4ii_tree.specs.Tree.{bytes_all, bytes_pairs, Loose, LooseAll, LoosePairs}
-use Rattle.cbor4ii_tree.specs.Tree.{SoundStrings, SoundStringsAll, SoundStringsPairs, Plain}
+use Rattle.cbor4ii_tree.specs.{Laws.PartsAgain.pair_split, Basis.Cost.{cost, Budget}}
+use Rattle.cbor4ii_tree.specs.{Basis.Meaning.value}
+use Rattle.cbor4ii_tree.specs.{Basis.Meaning.{values, pair_values_of, number, content_item}}
+use Rattle.cbor4ii_tree.specs.{Basis.Tree.Tree}
+use Rattle.cbor4ii_tree.specs.Basis.Tree.{int, string, chunked, array, array_indefinite, map_of}
+use Rattle.cbor4ii_tree.specs.Basis.Tree.{map_indefinite, tagged, simple, bits, Trees, no_trees}
+use Rattle.cbor4ii_tree.specs.Basis.Tree.{tree}
+use Rattle.cbor4ii_tree.specs.Basis.Tree.{Pairs, no_pairs, pair, count, pair_count, joined_chunks}
+use Rattle.cbor4ii_tree.specs.Basis.Tree.{bytes}
+use Rattle.cbor4ii_tree.specs.Basis.Tree.{bytes_all, bytes_pairs, Loose, LooseAll, LoosePairs}
+use Rattle.cbor4ii_tree.specs.Basis.Tree.{SoundStrings, SoundStringsAll, SoundStringsPairs, Plain}
 use Rattle.cbor4ii_tree.proofs.encodings.Canonical.{count-canonical_encoding, count-pairs}
 use Rattle.cbor4ii_tree.proofs.encodings.Canonical.{loose_canonical, sound_canonical}
 use Rattle.cbor4ii_tree.proofs.encodings.Canonical.{value-canonical_encoding, with_bignums-value}
 use Rattle.cbor4ii_tree.proofs.encodings.Sizes.{integer-value, content-value, item_count-values}
-use Rattle.cbor4ii_tree.proofs.encodings.Sizes.{member_count-values}
+use Rattle.cbor4ii_tree.proofs.encodings.Sizes.{pair_count-values}
 
 -- ---- what encoders write has the shape
 
@@ -47,28 +56,32 @@ mutual
   shape_canonical (bytes_item bs) = refl
   shape_canonical (text bs) = refl
   shape_canonical (sequence vs) =
-      (ap shortest (sym (count-canonical_encoding vs)), shape_canonical_all vs)
-  shape_canonical (mapping ms) = (ap shortest (sym (count-pairs ms)), shape_canonical_pairs ms)
+      (ap shortest_width (sym (count-canonical_encoding vs)), shape_canonical_all vs)
+  shape_canonical (mapping ms) = (
+    ap shortest_width (sym (count-pairs ms)),
+    shape_canonical_pairs
+        ms,
+  )
   shape_canonical (tag n v) = (refl, shape_canonical v)
 
   shape_canonical_all : (vs : Items) → CanonicalShapeAll (canonical_trees vs)
   shape_canonical_all no_items = tt
   shape_canonical_all (item v vs) = (shape_canonical v, shape_canonical_all vs)
 
-  shape_canonical_pairs : (ms : Members) → CanonicalShapePairs (canonical_pairs ms)
-  shape_canonical_pairs no_members = tt
-  shape_canonical_pairs (member k v ms) =
+  shape_canonical_pairs : (ms : ItemPairs) → CanonicalShapePairs (canonical_pairs ms)
+  shape_canonical_pairs no_item_pairs = tt
+  shape_canonical_pairs (item_pair k v ms) =
       (shape_canonical k, shape_canonical v, shape_canonical_pairs ms)
 
 -- ---- a tree of this shape is what encoders write
 
 canonical_encoding-integer : (s : Sign) (n : ℕ) → n < 2 ^ 64
-    → canonical_tree (integer (number s n)) ≡ int s n (shortest n)
+    → canonical_tree (integer (number s n)) ≡ int s n (shortest_width n)
 canonical_encoding-integer unsigned n h = rw (lt-ltb n (2 ^ 64) h) refl
 canonical_encoding-integer negative n h = rw (lt-ltb n (2 ^ 64) h) refl
 
 canonical_encoding-content : (k : Kind) (content : List ℕ)
-    → canonical_tree (content_item k content) ≡ string k (shortest (length content)) content
+    → canonical_tree (content_item k content) ≡ string k (shortest_width (length content)) content
 canonical_encoding-content byte_string content = refl
 canonical_encoding-content text_string content = refl
 
@@ -80,10 +93,11 @@ mutual
       canonical_encoding-content k content ∙ ap (λ u. string k u content) (sym h)
   canonical_of_shape (chunked k ts) l h = absurd h
   canonical_of_shape (array w ts) l h =
-      ap₂ array (ap shortest (item_count-values ts) ∙ sym h.0) (canonical_of_shape_all ts l.1 h.1)
+      ap₂ array (ap shortest_width (item_count-values ts) ∙ sym h.0) (canonical_of_shape_all ts l.1
+      h.1)
   canonical_of_shape (array_indefinite ts) l h = absurd h
   canonical_of_shape (map_of w ps) l h =
-      ap₂ map_of (ap shortest (member_count-values ps) ∙ sym h.0)
+      ap₂ map_of (ap shortest_width (pair_count-values ps) ∙ sym h.0)
       (canonical_of_shape_pairs ps l.1 h.1)
   canonical_of_shape (map_indefinite ps) l h = absurd h
   canonical_of_shape (tagged n w t) l h = ap₂ (tagged n) (sym h.0) (canonical_of_shape t l.1 h.1)
@@ -100,7 +114,7 @@ mutual
       ap₂ tree (canonical_of_shape t l.0 h.0) (canonical_of_shape_all ts l.1 h.1)
 
   canonical_of_shape_pairs : (ps : Pairs) → LoosePairs ps → CanonicalShapePairs ps
-      → canonical_pairs (member_values ps) ≡ ps
+      → canonical_pairs (pair_values_of ps) ≡ ps
   canonical_of_shape_pairs no_pairs l h = refl
   canonical_of_shape_pairs (pair k v ps) l h =
       cc (
@@ -128,25 +142,26 @@ same_width major n w u h k e =
     same_wide w u (sym (info-additional n w h) ∙ ap info_of low ∙ info-additional n u k)
 
 pub same_head : (major n : ℕ) (w : Width) (x y : List ℕ) → HeadFits w n
-    → head major n w ++ x ≡ head major n (shortest n) ++ y → (w ≡ shortest n) × (x ≡ y)
+    → head major n w ++ x ≡ head major n (shortest_width n) ++ y → (w ≡ shortest_width n) × (x ≡ y)
 same_head major n w x y h e =
     let k = shortest_fits n (argument_below w n h) in
-    let s = same_width major n w (shortest n) h k (first_byte major n (shortest n) _ _ y e) in (
+    let s = same_width major n w (shortest_width n) h k (first_byte major n (shortest_width n) _ _ y
+    e) in (
       s,
-      append_cancel_left (head major n (shortest n)) x y
+      append_cancel_left (head major n (shortest_width n)) x y
           (ap (λ u. head major n u ++ x) (sym s) ∙ e),
     )
 
 -- the same of what is encoded after a head, whose argument an encoder gives
 same_headed : (major n : ℕ) (w : Width) (xs ys x y : List ℕ) {m k : ℕ} → HeadFits w n → m ≡ n
-    → k ≡ n → (head major n w ++ xs) ++ x ≡ (head major m (shortest k) ++ ys) ++ y
-    → (w ≡ shortest n) × (xs ++ x ≡ ys ++ y)
+    → k ≡ n → (head major n w ++ xs) ++ x ≡ (head major m (shortest_width k) ++ ys) ++ y
+    → (w ≡ shortest_width n) × (xs ++ x ≡ ys ++ y)
 same_headed major n w xs ys x y {m = m} {k = k} h p q e =
     same_head major n w (xs ++ x) (ys ++ y) h (sym (append_assoc (head major n w) xs x) ∙ e
-    ∙ append_assoc (head major m (shortest k)) ys y
-    ∙ ap₂ (λ i j. head major i (shortest j) ++ (ys ++ y)) p q)
+    ∙ append_assoc (head major m (shortest_width k)) ys y
+    ∙ ap₂ (λ i j. head major i (shortest_width j) ++ (ys ++ y)) p q)
 
-pub additional-shortest : (n : ℕ) → additional (shortest n) n < 28
+pub additional-shortest : (n : ℕ) → additional (shortest_width n) n < 28
 additional-shortest n =
     let P : Width → Type 0 = λ w. additional w n < 28 in
     if_cases P (ltb n 24) _ _ (λ e. let lt = ltb-true n 24 e in omega (arith, lt)) (λ _. if_cases P
@@ -154,11 +169,11 @@ additional-shortest n =
     (λ _. if_cases P (ltb n (256 ^ 4)) _ _ (λ _. omega arith) (λ _. omega arith))))
 
 not_indefinite : (major n : ℕ) (x ys y : List ℕ) {m : ℕ} → m ≡ n
-    → indefinite_head major ∷ x ≡ (head major m (shortest n) ++ ys) ++ y → ⊥
+    → indefinite_head major ∷ x ≡ (head major m (shortest_width n) ++ ys) ++ y → ⊥
 not_indefinite major n x ys y {m = m} p e =
-    let first = first_byte major n (shortest n) (indefinite_head major) x (ys ++ y) (e
-    ∙ append_assoc (head major m (shortest n)) ys y
-    ∙ ap (λ j. head major j (shortest n) ++ (ys ++ y)) p) in
+    let first = first_byte major n (shortest_width n) (indefinite_head major) x (ys ++ y) (e
+    ∙ append_assoc (head major m (shortest_width n)) ys y
+    ∙ ap (λ j. head major j (shortest_width n) ++ (ys ++ y)) p) in
     omega (arith, first, additional-shortest n)
 
 mutual
@@ -187,15 +202,15 @@ mutual
       absurd (not_indefinite 4 (item_count vs) ((bytes_all ts ++ break ∷ []) ++ x)
       (bytes_all (canonical_trees vs)) y (count-canonical_encoding vs) e)
   shape_of_canonical (map_of w ps) x y l e =
-      let ms = member_values ps in
-      let c = member_count-values ps in
+      let ms = pair_values_of ps in
+      let c = pair_count-values ps in
       let heads = same_headed 5 (pair_count ps) w (bytes_pairs ps)
       (bytes_pairs (canonical_pairs ms)) x y l.0 (count-pairs ms ∙ c) c e in
       let rest = shape_of_canonical_pairs ps x y l.1 heads.1 in
       ((heads.0, rest.0), rest.1)
   shape_of_canonical (map_indefinite ps) x y l e =
-      let ms = member_values ps in
-      absurd (not_indefinite 5 (member_count ms) ((bytes_pairs ps ++ break ∷ []) ++ x)
+      let ms = pair_values_of ps in
+      absurd (not_indefinite 5 (item_pair_count ms) ((bytes_pairs ps ++ break ∷ []) ++ x)
       (bytes_pairs (canonical_pairs ms)) y (count-pairs ms) e)
   shape_of_canonical (tagged n w t) x y l e =
       let heads = same_headed 6 n w (bytes t) (canonical_encoding (value t)) x y l.0 refl refl e in
@@ -223,11 +238,11 @@ mutual
       ((first.0, rest.0), rest.1)
 
   shape_of_canonical_pairs : (ps : Pairs) (x y : List ℕ) → LoosePairs ps
-      → bytes_pairs ps ++ x ≡ bytes_pairs (canonical_pairs (member_values ps)) ++ y
+      → bytes_pairs ps ++ x ≡ bytes_pairs (canonical_pairs (pair_values_of ps)) ++ y
       → CanonicalShapePairs ps × (x ≡ y)
   shape_of_canonical_pairs no_pairs x y l e = (tt, e)
   shape_of_canonical_pairs (pair k v ps) x y l e =
-      let trailing = bytes_pairs (canonical_pairs (member_values ps)) in
+      let trailing = bytes_pairs (canonical_pairs (pair_values_of ps)) in
       let key = shape_of_canonical k (bytes v ++ (bytes_pairs ps ++ x)) (canonical_encoding (value
       v) ++ (trailing ++ y)) l.0 (sym (pair_split (bytes k) (bytes v) (bytes_pairs ps) x) ∙ e ∙
       pair_split (canonical_encoding (value k)) (canonical_encoding (value v)) trailing y) in
@@ -257,9 +272,9 @@ mutual
   )
   item_of_shape (array_indefinite ts) l u h = absurd h
   item_of_shape (map_of w ps) l u h = (
-    subst (λ n. n < 2 ^ 64) (sym (member_count-values ps))
+    subst (λ n. n < 2 ^ 64) (sym (pair_count-values ps))
         (argument_below w (pair_count ps) l.0),
-    members_of_shape ps l.1 u h.1,
+    pairs_of_shape ps l.1 u h.1,
   )
   item_of_shape (map_indefinite ps) l u h = absurd h
   item_of_shape (tagged n w t) l u h = (argument_below w n l.0, item_of_shape t l.1 u h.1)
@@ -272,11 +287,11 @@ mutual
   items_of_shape no_trees l u h = tt
   items_of_shape (tree t ts) l u h = (item_of_shape t l.0 u.0 h.0, items_of_shape ts l.1 u.1 h.1)
 
-  members_of_shape : (ps : Pairs) → LoosePairs ps → SoundStringsPairs ps → CanonicalShapePairs ps
-      → AreMembers (member_values ps)
-  members_of_shape no_pairs l u h = tt
-  members_of_shape (pair k v ps) l u h =
-      (item_of_shape k l.0 u.0 h.0, item_of_shape v l.1 u.1 h.1, members_of_shape ps l.2 u.2 h.2)
+  pairs_of_shape : (ps : Pairs) → LoosePairs ps → SoundStringsPairs ps → CanonicalShapePairs ps
+      → AreItemPairs (pair_values_of ps)
+  pairs_of_shape no_pairs l u h = tt
+  pairs_of_shape (pair k v ps) l u h =
+      (item_of_shape k l.0 u.0 h.0, item_of_shape v l.1 u.1 h.1, pairs_of_shape ps l.2 u.2 h.2)
 
 -- the tree of a value is the one that encoders write
 pub canonically_canonical : (encoding : List ℕ) (v : Item) (steps : ℕ)

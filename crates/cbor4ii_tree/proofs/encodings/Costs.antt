@@ -3,15 +3,21 @@ use Rattle.std.proofs.Common.{ℕ, ◌+◌, ◌^◌, ◌<◌, ◌≤◌, arith, 
 use Rattle.cbor4ii_items.specs.{Head.in_first, Initial.{Sign, unsigned, negative, Kind}}
 use Rattle.cbor4ii_items.specs.Initial.{byte_string, text_string, simple_false, simple_true}
 use Rattle.cbor4ii_items.specs.{Initial.{simple_null, simple_undefined}, Laws.Heads.argument_below}
-use Rattle.cbor4ii_tree.specs.Canonical.{canonical_tree, canonical_trees, canonical_pairs}
-use Rattle.cbor4ii_tree.specs.{Canonical.integer_tree, Cost.{cost, chunks_cost, greatest_cost}}
-use Rattle.cbor4ii_tree.specs.Cost.{greatest_pair_cost, skip_cost, greatest_skip_cost}
-use Rattle.cbor4ii_tree.specs.{Cost.greatest_pair_skip_cost, Meaning.{value, values, member_values}}
-use Rattle.cbor4ii_tree.specs.{Meaning.content_item, Tree.{Tree, int, string, chunked, array}}
-use Rattle.cbor4ii_tree.specs.Tree.{array_indefinite, map_of, map_indefinite, tagged, simple, bits}
-use Rattle.cbor4ii_tree.specs.Tree.{Trees, no_trees, tree, Pairs, no_pairs, pair, Loose, LooseAll}
-use Rattle.cbor4ii_tree.specs.Tree.{LoosePairs, IsChunk, AreChunks, SoundStrings, SoundStringsAll}
-use Rattle.cbor4ii_tree.specs.Tree.{SoundStringsPairs, joined_chunks}
+use Rattle.cbor4ii_tree.specs.Basis.Canonical.{canonical_tree, canonical_trees, canonical_pairs}
+use Rattle.cbor4ii_tree.specs.{Basis.Canonical.integer_tree}
+use Rattle.cbor4ii_tree.specs.{Basis.Cost.{cost, chunks_cost, greatest_cost}}
+use Rattle.cbor4ii_tree.specs.Basis.Cost.{greatest_pair_cost, skip_cost, greatest_skip_cost}
+use Rattle.cbor4ii_tree.specs.{Basis.Cost.greatest_pair_skip_cost}
+use Rattle.cbor4ii_tree.specs.{Basis.Meaning.{value, values, pair_values_of}}
+use Rattle.cbor4ii_tree.specs.{Basis.Meaning.content_item}
+use Rattle.cbor4ii_tree.specs.{Basis.Tree.{Tree, int, string, chunked, array}}
+use Rattle.cbor4ii_tree.specs.Basis.Tree.{array_indefinite, map_of, map_indefinite, tagged, simple}
+use Rattle.cbor4ii_tree.specs.Basis.Tree.{bits}
+use Rattle.cbor4ii_tree.specs.Basis.Tree.{Trees, no_trees, tree, Pairs, no_pairs, pair, Loose}
+use Rattle.cbor4ii_tree.specs.Basis.Tree.{LooseAll}
+use Rattle.cbor4ii_tree.specs.Basis.Tree.{LoosePairs, IsChunk, AreChunks, SoundStrings}
+use Rattle.cbor4ii_tree.specs.Basis.Tree.{SoundStringsAll}
+use Rattle.cbor4ii_tree.specs.Basis.Tree.{SoundStringsPairs, joined_chunks}
 
 skip_cost-chunk : (k : Kind) (t : Tree) → IsChunk k t → skip_cost t ≤ 1
 skip_cost-chunk k (string j w content) h = omega arith
@@ -89,7 +95,7 @@ mutual
       omega (arith, cost-canonical_encoding t h.0, cost-canonical_all ts h.1)
 
   cost-canonical_pairs : (ps : Pairs) → LoosePairs ps
-      → greatest_pair_cost (canonical_pairs (member_values ps)) ≤ greatest_pair_cost ps
+      → greatest_pair_cost (canonical_pairs (pair_values_of ps)) ≤ greatest_pair_cost ps
   cost-canonical_pairs no_pairs h = omega arith
   cost-canonical_pairs (pair k v ps) h =
       omega (

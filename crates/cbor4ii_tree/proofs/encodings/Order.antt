@@ -12,16 +12,20 @@ use Rattle.std.specs.{Int.bytes_high_first, Ordering.{MatchOrdering, nat_cmp, or
 use Rattle.std.specs.Ordering.{ordering_reverse}
 use Rattle.cbor4ii_items.specs.Laws.Heads.{shortest_fits, additional-lt, info-additional, same_wide}
 use Rattle.cbor4ii_items.specs.{Numbers.definite_string, Head.{Width, in_first, one, two, four}}
-use Rattle.cbor4ii_items.specs.Head.{eight, HeadFits, additional, byte_count, head, shortest}
+use Rattle.cbor4ii_items.specs.Head.{eight, HeadFits, additional, byte_count, head, shortest_width}
 use Rattle.cbor4ii_items.specs.Initial.{Sign, unsigned, negative, sign_major, half, single, double}
 use Rattle.cbor4ii_items.specs.Initial.{info_of}
-use Rattle.cbor4ii_tree.specs.Canonical.{canonical_encoding, canonical_trees, canonical_pairs}
-use Rattle.cbor4ii_tree.specs.{Canonical.{bignum, magnitude, sign_tag}, Item.{Item, null, boolean}}
-use Rattle.cbor4ii_tree.specs.Item.{integer, float, bytes_item, text, sequence, mapping, tag}
-use Rattle.cbor4ii_tree.specs.{Item.{item_count, member_count}, Order.{Compares, shortest_parts}}
-use Rattle.cbor4ii_tree.specs.Order.{integer_parts, head_of, HasHead, after_head, integer_major}
-use Rattle.cbor4ii_tree.specs.{Order.{major_of, elements_of, pairs_of}, Tree.{int, bytes}}
-use Rattle.cbor4ii_tree.specs.Tree.{bytes_all, bytes_pairs}
+use Rattle.cbor4ii_tree.specs.Basis.Canonical.{canonical_encoding, canonical_trees, canonical_pairs}
+use Rattle.cbor4ii_tree.specs.{Basis.Canonical.{bignum, magnitude, sign_tag}}
+use Rattle.cbor4ii_tree.specs.{Basis.Item.{Item, null, boolean}}
+use Rattle.cbor4ii_tree.specs.Basis.Item.{integer, float, bytes_item, text, sequence, mapping, tag}
+use Rattle.cbor4ii_tree.specs.{Basis.Item.{item_count, item_pair_count}}
+use Rattle.cbor4ii_tree.specs.{Calls.Order.{Compares, shortest_parts}}
+use Rattle.cbor4ii_tree.specs.Calls.Order.{integer_parts, head_of, HasHead, after_head}
+use Rattle.cbor4ii_tree.specs.Calls.Order.{integer_major}
+use Rattle.cbor4ii_tree.specs.{Calls.Order.{major_of, elements_of, pairs_of}}
+use Rattle.cbor4ii_tree.specs.{Basis.Tree.{int, bytes}}
+use Rattle.cbor4ii_tree.specs.Basis.Tree.{bytes_all, bytes_pairs}
 use Rattle.cbor4ii_tree.proofs.encodings.Canonical.{count-canonical_encoding, count-pairs, tag_fits}
 use Rattle.cbor4ii_tree.proofs.encodings.CanonicalShape.{additional-shortest}
 
@@ -218,14 +222,15 @@ headed_as : {s t after : List ℕ} {parts : ℕ × ℕ} → s ≡ t → Headed s
 headed_as {after = after} {parts = parts} e h = subst (λ z. Headed z parts after) e h
 
 headed_integer : (s : Sign) (n : ℕ) (b : Bool) → ltb n (2 ^ 64) ≡ b
-    → Headed (bytes (cond b (int s n (shortest n)) (bignum s n)))
+    → Headed (bytes (cond b (int s n (shortest_width n)) (bignum s n)))
     (cond b (shortest_parts (sign_major s) n) (shortest_parts 6 (sign_tag s)))
     (cond b [] (definite_string 2 (magnitude n)))
 headed_integer s n true e =
-    headed_as (append-nil _) (headed_by (sign_major s) n (shortest n) []
+    headed_as (append-nil _) (headed_by (sign_major s) n (shortest_width n) []
     (shortest_fits n (ltb-true n (2 ^ 64) e)))
 headed_integer s n false e =
-    headed_by 6 (sign_tag s) (shortest (sign_tag s)) (definite_string 2 (magnitude n)) (tag_fits s)
+    headed_by 6 (sign_tag s) (shortest_width (sign_tag s)) (definite_string 2 (magnitude n))
+    (tag_fits s)
 
 headed : (v : Item) → HasHead v → Headed (canonical_encoding v) (head_of v) (after_head v)
 headed null h = headed_by 7 22 in_first [] (omega arith)
@@ -237,18 +242,21 @@ headed (float half n) h = headed_as (append-nil _) (headed_by 7 n two [] h)
 headed (float single n) h = headed_as (append-nil _) (headed_by 7 n four [] h)
 headed (float double n) h = headed_as (append-nil _) (headed_by 7 n eight [] h)
 headed (bytes_item bs) h =
-    headed_by 2 (length bs) (shortest (length bs)) bs (shortest_fits (length bs) h)
+    headed_by 2 (length bs) (shortest_width (length bs)) bs (shortest_fits (length bs) h)
 headed (text bs) h =
-    headed_by 3 (length bs) (shortest (length bs)) bs (shortest_fits (length bs) h)
+    headed_by 3 (length bs) (shortest_width (length bs)) bs (shortest_fits (length bs) h)
 headed (sequence vs) h =
-    headed_as (ap (λ c. head 4 c (shortest (item_count vs)) ++ bytes_all (canonical_trees vs)) (sym
-    (count-canonical_encoding vs))) (headed_by 4 (item_count vs) (shortest (item_count vs))
+    headed_as (ap (λ c. head 4 c (shortest_width (item_count vs)) ++ bytes_all (canonical_trees vs))
+    (sym
+    (count-canonical_encoding vs))) (headed_by 4 (item_count vs) (shortest_width (item_count vs))
     (bytes_all (canonical_trees vs)) (shortest_fits (item_count vs) h))
 headed (mapping ms) h =
-    headed_as (ap (λ c. head 5 c (shortest (member_count ms)) ++ bytes_pairs (canonical_pairs ms))
-    (sym (count-pairs ms))) (headed_by 5 (member_count ms) (shortest (member_count ms)) (bytes_pairs
-    (canonical_pairs ms)) (shortest_fits (member_count ms) h))
-headed (tag n v) h = headed_by 6 n (shortest n) (canonical_encoding v) (shortest_fits n h)
+    headed_as (ap (λ c. head 5 c (shortest_width (item_pair_count ms)) ++ bytes_pairs
+    (canonical_pairs ms))
+    (sym (count-pairs ms))) (headed_by 5 (item_pair_count ms) (shortest_width (item_pair_count ms))
+    (bytes_pairs
+    (canonical_pairs ms)) (shortest_fits (item_pair_count ms) h))
+headed (tag n v) h = headed_by 6 n (shortest_width n) (canonical_encoding v) (shortest_fits n h)
 
 -- how the program compares heads
 abbrev pub heads_cmp : ℕ × ℕ → ℕ × ℕ → Ordering
@@ -305,7 +313,7 @@ major_of_head (float double n) = refl
 major_of_head (bytes_item bs) = major_is 2 (length bs)
 major_of_head (text bs) = major_is 3 (length bs)
 major_of_head (sequence vs) = major_is 4 (item_count vs)
-major_of_head (mapping ms) = major_is 5 (member_count ms)
+major_of_head (mapping ms) = major_is 5 (item_pair_count ms)
 major_of_head (tag n v) = major_is 6 n
 
 pub same_major : (v w : Item) → head_of v ≡ head_of w → major_of v ≡ major_of w
@@ -329,7 +337,7 @@ after_array (integer (pos n)) e = not_integer unsigned n (omega arith) (omega ar
 after_array (integer (negsuc n)) e = not_integer negative n (omega arith) (omega arith)
 after_array _ e = absurd (omega arith)
 
-pub after_map : (v : Item) → major_of v ≡ 5 → (member_count (pairs_of v) ≡ (head_of v).1)
+pub after_map : (v : Item) → major_of v ≡ 5 → (item_pair_count (pairs_of v) ≡ (head_of v).1)
     × (after_head v ≡ bytes_pairs (canonical_pairs (pairs_of v)))
 after_map (mapping ms) e = (refl, refl)
 after_map (integer (pos n)) e = not_integer unsigned n (omega arith) (omega arith)

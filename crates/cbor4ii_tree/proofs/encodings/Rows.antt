@@ -7,15 +7,20 @@ use Rattle.std.proofs.Common.{Result, None, Some, refl, pos, negsuc, codes, repl
 use Rattle.std.specs.{Prelude.{nat_lt, if◌then◌else◌}, Str.{is_utf8, chars}}
 use Prim.Native.String.{String}
 use Rattle.cbor4ii_items.specs.Initial.{half, single, double, initial}
-use Rattle.cbor4ii_tree.specs.Canonical.{canonical_encoding, canonical_cost, with_bignums}
-use Rattle.cbor4ii_tree.specs.{Cost.{cost, skip_cost}, InputError.{InputError, eof, mismatch}}
-use Rattle.cbor4ii_tree.specs.InputError.{unsupported, require_length, require_utf8, depth_overflow}
-use Rattle.cbor4ii_tree.specs.{InputError.{Small, Big, Indefinite}, Item.{Item, null, boolean}}
-use Rattle.cbor4ii_tree.specs.Item.{integer, float, bytes_item, text, sequence, mapping, tag, size}
-use Rattle.cbor4ii_tree.specs.Parse.{Answer, argument_at, trees_at, pairs_at}
-use Rattle.cbor4ii_tree.specs.{Parse.{indefinite_trees_at, indefinite_pairs_at}, Read.read}
-use Rattle.cbor4ii_tree.specs.{ItemAt.item_within, Read.read_tree, Skip.skip}
-use Rattle.cbor4ii_tree.specs.{Tree.Tree, View.{items_of, members_of}}
+use Rattle.cbor4ii_tree.specs.Basis.Canonical.{canonical_encoding, canonical_cost, with_bignums}
+use Rattle.cbor4ii_tree.specs.{Basis.Cost.{cost, skip_cost}}
+use Rattle.cbor4ii_tree.specs.{Basis.InputError.{InputError, eof, mismatch}}
+use Rattle.cbor4ii_tree.specs.Basis.InputError.{unsupported, require_length, require_utf8}
+use Rattle.cbor4ii_tree.specs.Basis.InputError.{depth_overflow}
+use Rattle.cbor4ii_tree.specs.{Basis.InputError.{Small, Big, Indefinite}}
+use Rattle.cbor4ii_tree.specs.{Basis.Item.{Item, null, boolean}}
+use Rattle.cbor4ii_tree.specs.Basis.Item.{integer, float, bytes_item, text, sequence, mapping, tag}
+use Rattle.cbor4ii_tree.specs.Basis.Item.{size}
+use Rattle.cbor4ii_tree.specs.Calls.Parse.{Answer, parse_argument, trees_at, pairs_at}
+use Rattle.cbor4ii_tree.specs.{Calls.Parse.{indefinite_trees_at, indefinite_pairs_at}}
+use Rattle.cbor4ii_tree.specs.{Calls.Read.parse_value}
+use Rattle.cbor4ii_tree.specs.{Calls.ItemAt.item_within, Calls.Read.read_tree, Calls.Skip.skip}
+use Rattle.cbor4ii_tree.specs.{Basis.Tree.Tree, Basis.View.{items_of, item_pairs_of}}
 
 -- ---- how rows are written
 
@@ -49,7 +54,7 @@ abbrev items : List Item → Item
 items vs = sequence (items_of vs)
 
 abbrev pairs : List (Item × Item) → Item
-pairs ms = mapping (members_of ms)
+pairs ms = mapping (item_pairs_of ms)
 
 -- each is what it has to be
 abbrev firsts : {A : Type 0} → List (A × A) → List A
@@ -69,24 +74,24 @@ Read = Answer Item × List ℕ
 -- the input is read whole as the value, which is written so
 abbrev reads : String → Item → String → Read × Read
 reads input v written =
-    ((read (Some 256) (hex input), canonical_encoding v), (Ok (v, []), hex written))
+    ((parse_value (Some 256) (hex input), canonical_encoding v), (Ok (v, []), hex written))
 
 abbrev writes : Item → String → List ℕ × List ℕ
 writes v written = (canonical_encoding v, hex written)
 
 -- the input is rejected so, and these bytes are left
 abbrev rejects_under : ℕ → String → InputError → String → Answer Item × Answer Item
-rejects_under steps input e rest = (read (Some steps) (hex input), Err (e, hex rest))
+rejects_under steps input e rest = (parse_value (Some steps) (hex input), Err (e, hex rest))
 
 abbrev rejects : String → InputError → String → Answer Item × Answer Item
 rejects = rejects_under 256
 
 abbrev reads_under : ℕ → String → Item → Answer Item × Answer Item
-reads_under steps input v = (read (Some steps) (hex input), Ok (v, []))
+reads_under steps input v = (parse_value (Some steps) (hex input), Ok (v, []))
 
 -- the same where no budget bounds the steps
 abbrev reads_at_any_depth : String → Item → Answer Item × Answer Item
-reads_at_any_depth input v = (read None (hex input), Ok (v, []))
+reads_at_any_depth input v = (parse_value None (hex input), Ok (v, []))
 
 -- what was read or skipped is left out
 abbrev Rest : Type 0
@@ -145,7 +150,7 @@ pub integers_rows : AllEqual
     ∷ writes (integer (negsuc 170141183460469231731687303715884105727))
     "c3 50 7f ff ff ff ff ff ff ff ff ff ff ff ff ff ff ff" ∷ [])
 unfolding item_within trees_at pairs_at indefinite_trees_at indefinite_pairs_at
-    argument_at initial is_utf8 chars lib.Utf8.encode
+    parse_argument initial is_utf8 chars lib.Utf8.encode
 integers_rows = (refl, refl)
 
 -- Heads longer than needed are read, and written short (section 4.1).
@@ -162,7 +167,7 @@ pub longer_rows : AllEqual
     ∷ reads "bb 00 00 00 00 00 00 00 01 01 02" (pairs ((number 1, number 2) ∷ [])) "a1 01 02"
     ∷ reads "59 00 01 61" (octets "61") "41 61" ∷ [])
 unfolding item_within trees_at pairs_at indefinite_trees_at indefinite_pairs_at
-    argument_at initial is_utf8 chars lib.Utf8.encode
+    parse_argument initial is_utf8 chars lib.Utf8.encode
 longer_rows = refl
 
 -- Simple values and floats, whose bits are kept with their width (section 3.3). Undefined is null.
@@ -187,7 +192,7 @@ pub simples_rows : AllEqual
     ∷ reads "fb c0 10 66 66 66 66 66 66" (float double 0xc010666666666666)
     "fb c0 10 66 66 66 66 66 66" ∷ [])
 unfolding item_within trees_at pairs_at indefinite_trees_at indefinite_pairs_at
-    argument_at initial is_utf8 chars lib.Utf8.encode
+    parse_argument initial is_utf8 chars lib.Utf8.encode
 simples_rows = refl
 
 -- Byte strings, texts and tags (appendix A).
@@ -213,7 +218,7 @@ pub strings_rows : AllEqual
     (tag 32 (str "http://www.example.com"))
     "d8 20 76 68 74 74 70 3a 2f 2f 77 77 77 2e 65 78 61 6d 70 6c 65 2e 63 6f 6d" ∷ [])
 unfolding item_within trees_at pairs_at indefinite_trees_at indefinite_pairs_at
-    argument_at initial is_utf8 chars lib.Utf8.encode
+    parse_argument initial is_utf8 chars lib.Utf8.encode
 strings_rows = refl
 
 -- Arrays and maps (appendix A). Pairs keep their order, and equal keys are kept.
@@ -239,7 +244,7 @@ pub sequences_rows : AllEqual
     ∷ reads "a2 01 02 01 03" (pairs ((number 1, number 2) ∷ (number 1, number 3) ∷ []))
     "a2 01 02 01 03" ∷ [])
 unfolding item_within trees_at pairs_at indefinite_trees_at indefinite_pairs_at
-    argument_at initial is_utf8 chars lib.Utf8.encode
+    parse_argument initial is_utf8 chars lib.Utf8.encode
 sequences_rows = refl
 
 -- Items without a length are read, and written with one (section 3.2). The text of a string is what
@@ -277,7 +282,7 @@ pub opens_rows : AllEqual
     ∷ reads "9f 5f 41 01 ff 41 02 ff" (items (octets "01" ∷ octets "02" ∷ [])) "82 41 01 41 02"
     ∷ [])
 unfolding item_within trees_at pairs_at indefinite_trees_at indefinite_pairs_at
-    argument_at initial is_utf8 chars lib.Utf8.encode
+    parse_argument initial is_utf8 chars lib.Utf8.encode
 opens_rows = refl
 
 -- The input ends: of a number, a float, a length or a tag the whole argument is asked for, of a
@@ -325,7 +330,7 @@ pub ends_rows : AllEqual
     ∷ rejects "59 ff ff" (eof (codes "bytes") (Small 65535)) ""
     ∷ rejects "5a 00 01 00 00" (eof (codes "bytes") Big) "" ∷ [])
 unfolding item_within trees_at pairs_at indefinite_trees_at indefinite_pairs_at
-    argument_at initial is_utf8 chars lib.Utf8.encode
+    parse_argument initial is_utf8 chars lib.Utf8.encode
 ends_rows = refl
 
 -- Bytes that no continuation mends, and what they leave.
@@ -371,7 +376,7 @@ pub faults_rows : AllEqual
     ∷ rejects "64 f4 90 80 80" (require_utf8 (codes "str")) ""
     ∷ rejects "9f 62 ff ff 00 ff" (require_utf8 (codes "str")) "00 ff" ∷ [])
 unfolding item_within trees_at pairs_at indefinite_trees_at indefinite_pairs_at
-    argument_at initial is_utf8 chars lib.Utf8.encode
+    parse_argument initial is_utf8 chars lib.Utf8.encode
 faults_rows = refl
 
 -- What a budget allows: one step a value, one more for an array or a map, one for a chunk.
@@ -404,7 +409,7 @@ pub budgets_rows : AllEqual
     ∷ rejects_under 2 "bf 00 00 ff" (depth_overflow (codes "value")) "00 00 ff"
     ∷ reads_at_any_depth "c1 c1 00" (tag 1 (tag 1 (number 0))) ∷ [])
 unfolding item_within trees_at pairs_at indefinite_trees_at indefinite_pairs_at
-    argument_at initial is_utf8 chars lib.Utf8.encode
+    parse_argument initial is_utf8 chars lib.Utf8.encode
 budgets_rows = refl
 
 -- Skipping tests no text, and takes any items as chunks. What is missing is reported of a number, a
@@ -471,7 +476,7 @@ pub skipping_rows : AllEqual
     ∷ skip_rejects "c1 ff" (unsupported (codes "ignored-any") 0xff) "ff"
     ∷ skips_at_any_depth "c1 c1 00" "" ∷ [])
 unfolding item_within trees_at pairs_at indefinite_trees_at indefinite_pairs_at
-    argument_at initial is_utf8 chars lib.Utf8.encode
+    parse_argument initial is_utf8 chars lib.Utf8.encode
 skipping_rows = refl
 
 -- What values and trees measure. The size counts each value once and the bytes of texts and byte
@@ -516,13 +521,14 @@ pub measures_rows : AllEqual
       tag 3 (octets "01 00 00 00 00 00 00 00 00"),
     ) ∷ [])
 unfolding item_within trees_at pairs_at indefinite_trees_at indefinite_pairs_at
-    argument_at initial is_utf8 chars lib.Utf8.encode
+    parse_argument initial is_utf8 chars lib.Utf8.encode
 measures_rows = (refl, refl, refl)
 
 -- How deep a budget of 256 steps goes: two steps an array, one step a tag, one a level for
 -- skipping.
 abbrev read_under_heads : ℕ → ℕ → String → Rest
-read_under_heads n first trailing = rest_of (read (Some 256) (replicate n first ++ hex trailing))
+read_under_heads n first trailing =
+    rest_of (parse_value (Some 256) (replicate n first ++ hex trailing))
 
 abbrev skipped_under_heads : ℕ → ℕ → String → Rest
 skipped_under_heads n first trailing = rest_of (skip (Some 256) (replicate n first ++ hex trailing))
@@ -537,7 +543,7 @@ pub depths_of_reading : AllEqual
     ∷ (read_under_heads 255 0xc1 "7f 61 61 ff", too_deep "str" "61 61 ff")
     ∷ (read_under_heads 255 0xc1 "80", too_deep "array" "80") ∷ [])
 unfolding item_within trees_at pairs_at indefinite_trees_at indefinite_pairs_at
-    argument_at initial is_utf8 chars lib.Utf8.encode
+    parse_argument initial is_utf8 chars lib.Utf8.encode
 depths_of_reading = refl
 
 pub depths_of_skipping : AllEqual
@@ -546,5 +552,5 @@ pub depths_of_skipping : AllEqual
     ∷ (skipped_under_heads 255 0xc1 "80", Ok [])
     ∷ (skipped_under_heads 255 0xc1 "7f 61 61 ff", too_deep "ignored-any" "61 61 ff") ∷ [])
 unfolding item_within trees_at pairs_at indefinite_trees_at indefinite_pairs_at
-    argument_at initial is_utf8 chars lib.Utf8.encode
+    parse_argument initial is_utf8 chars lib.Utf8.encode
 depths_of_skipping = refl

@@ -5,15 +5,21 @@ use Rattle.std.specs.Int.{bytes_high_first}
 use Rattle.cbor4ii_items.specs.{Head.{byte_count, break}, Initial.{Sign, unsigned, negative, Kind}}
 use Rattle.cbor4ii_items.specs.Initial.{byte_string, text_string, simple_false}
 use Rattle.cbor4ii_items.specs.Laws.Heads.{argument_below}
-use Rattle.cbor4ii_tree.specs.{Encodings.Encodes, Item.{Item, integer, item_count, member_count}}
-use Rattle.cbor4ii_tree.specs.Item.{IsItem, AreItems, AreMembers, size, size_all, size_members}
-use Rattle.cbor4ii_tree.specs.{Laws.Initials.length-bytes-pos, Meaning.{value, values}}
-use Rattle.cbor4ii_tree.specs.{Meaning.{member_values, content_item, number}, Tree.{Tree, int}}
-use Rattle.cbor4ii_tree.specs.Tree.{string, chunked, array, array_indefinite, map_of}
-use Rattle.cbor4ii_tree.specs.Tree.{map_indefinite, tagged, simple, bits, Trees, no_trees, tree}
-use Rattle.cbor4ii_tree.specs.Tree.{Pairs, no_pairs, pair, count, pair_count, bytes, bytes_all}
-use Rattle.cbor4ii_tree.specs.Tree.{bytes_pairs, joined_chunks, Loose, LooseAll, LoosePairs}
-use Rattle.cbor4ii_tree.specs.Tree.{SoundStrings, SoundStringsAll, SoundStringsPairs, TextIsUtf8}
+use Rattle.cbor4ii_tree.specs.{Basis.Encodings.Encodes}
+use Rattle.cbor4ii_tree.specs.{Basis.Item.{Item, integer, item_count, item_pair_count}}
+use Rattle.cbor4ii_tree.specs.Basis.Item.{IsItem, AreItems, AreItemPairs, size, size_all}
+use Rattle.cbor4ii_tree.specs.Basis.Item.{size_pairs}
+use Rattle.cbor4ii_tree.specs.{Laws.Initials.length-bytes-pos, Basis.Meaning.{value, values}}
+use Rattle.cbor4ii_tree.specs.{Basis.Meaning.{pair_values_of, content_item, number}}
+use Rattle.cbor4ii_tree.specs.{Basis.Tree.{Tree, int}}
+use Rattle.cbor4ii_tree.specs.Basis.Tree.{string, chunked, array, array_indefinite, map_of}
+use Rattle.cbor4ii_tree.specs.Basis.Tree.{map_indefinite, tagged, simple, bits, Trees, no_trees}
+use Rattle.cbor4ii_tree.specs.Basis.Tree.{tree}
+use Rattle.cbor4ii_tree.specs.Basis.Tree.{Pairs, no_pairs, pair, count, pair_count, bytes}
+use Rattle.cbor4ii_tree.specs.Basis.Tree.{bytes_all}
+use Rattle.cbor4ii_tree.specs.Basis.Tree.{bytes_pairs, joined_chunks, Loose, LooseAll, LoosePairs}
+use Rattle.cbor4ii_tree.specs.Basis.Tree.{SoundStrings, SoundStringsAll, SoundStringsPairs}
+use Rattle.cbor4ii_tree.specs.Basis.Tree.{TextIsUtf8}
 
 size-content : (k : Kind) (content : List ℕ) → size (content_item k content) ≤ 1 + length content
 size-content byte_string content = omega arith
@@ -58,11 +64,11 @@ mutual
   size-value (map_of w ps) =
       omega (
         arith,
-        size-member_values ps,
+        size-pair_values ps,
         length-append (bytes_high_first (byte_count w) (pair_count ps)) (bytes_pairs ps),
       )
   size-value (map_indefinite ps) =
-      omega (arith, size-member_values ps, length-append (bytes_pairs ps) (break ∷ []))
+      omega (arith, size-pair_values ps, length-append (bytes_pairs ps) (break ∷ []))
   size-value (tagged n w t) =
       omega (arith, size-value t, length-append (bytes_high_first (byte_count w) n) (bytes t))
   size-value (simple simple_false) = omega arith
@@ -74,14 +80,14 @@ mutual
   size-values (tree t ts) =
       omega (arith, size-value t, size-values ts, length-append (bytes t) (bytes_all ts))
 
-  size-member_values : (ps : Pairs) → size_members (member_values ps) ≤ length (bytes_pairs ps)
-  size-member_values no_pairs = omega arith
-  size-member_values (pair k v ps) =
+  size-pair_values : (ps : Pairs) → size_pairs (pair_values_of ps) ≤ length (bytes_pairs ps)
+  size-pair_values no_pairs = omega arith
+  size-pair_values (pair k v ps) =
       omega (
         arith,
         size-value k,
         size-value v,
-        size-member_values ps,
+        size-pair_values ps,
         length-append (bytes k)
             (bytes v ++ bytes_pairs ps),
         length-append (bytes v) (bytes_pairs ps),
@@ -102,9 +108,9 @@ pub item_count-values : (ts : Trees) → item_count (values ts) ≡ count ts
 item_count-values no_trees = refl
 item_count-values (tree t ts) = ap suc (item_count-values ts)
 
-pub member_count-values : (ps : Pairs) → member_count (member_values ps) ≡ pair_count ps
-member_count-values no_pairs = refl
-member_count-values (pair k v ps) = ap suc (member_count-values ps)
+pub pair_count-values : (ps : Pairs) → item_pair_count (pair_values_of ps) ≡ pair_count ps
+pair_count-values no_pairs = refl
+pair_count-values (pair k v ps) = ap suc (pair_count-values ps)
 
 count-le : (ts : Trees) → count ts ≤ length (bytes_all ts)
 count-le no_trees = omega arith
@@ -141,8 +147,8 @@ mutual
       omega (arith, length-append (bytes_all ts) (break ∷ [])) in
       (omega (arith, item_count-values ts, count-le ts), AreItems-values ts l s less)
   IsItem-value (map_of w ps) l s lt = (
-    omega (arith, member_count-values ps, argument_below w (pair_count ps) l.0),
-    AreMembers-values ps l.1 s (omega (
+    omega (arith, pair_count-values ps, argument_below w (pair_count ps) l.0),
+    ArePairs-values ps l.1 s (omega (
       arith,
       length-append (bytes_high_first (byte_count w) (pair_count ps)) (bytes_pairs ps),
     )),
@@ -150,7 +156,7 @@ mutual
   IsItem-value (map_indefinite ps) l s lt =
       let less : length (bytes_pairs ps) < 2 ^ 64 =
       omega (arith, length-append (bytes_pairs ps) (break ∷ [])) in
-      (omega (arith, member_count-values ps, pair_count-le ps), AreMembers-values ps l s less)
+      (omega (arith, pair_count-values ps, pair_count-le ps), ArePairs-values ps l s less)
   IsItem-value (tagged n w t) l s lt = (
     argument_below w n l.0,
     IsItem-value t l.1 s
@@ -168,16 +174,16 @@ mutual
     AreItems-values ts l.1 s.1 (omega (arith, length-append (bytes t) (bytes_all ts))),
   )
 
-  AreMembers-values : (ps : Pairs) → LoosePairs ps → SoundStringsPairs ps
-      → length (bytes_pairs ps) < 2 ^ 64 → AreMembers (member_values ps)
-  AreMembers-values no_pairs l s lt = tt
-  AreMembers-values (pair k v ps) l s lt =
+  ArePairs-values : (ps : Pairs) → LoosePairs ps → SoundStringsPairs ps
+      → length (bytes_pairs ps) < 2 ^ 64 → AreItemPairs (pair_values_of ps)
+  ArePairs-values no_pairs l s lt = tt
+  ArePairs-values (pair k v ps) l s lt =
       let all = length-append (bytes k) (bytes v ++ bytes_pairs ps) in
       let last = length-append (bytes v) (bytes_pairs ps) in (
         IsItem-value k l.0 s.0 (omega (arith, all)),
         IsItem-value v l.1 s.1
             (omega (arith, all, last)),
-        AreMembers-values ps l.2 s.2 (omega (arith, all, last)),
+        ArePairs-values ps l.2 s.2 (omega (arith, all, last)),
       )
 
 pub size-of_tree : (encoding : List ℕ) (v : Item) (steps : ℕ) → Encodes encoding v steps

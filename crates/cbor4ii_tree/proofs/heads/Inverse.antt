@@ -6,7 +6,8 @@ use Rattle.std.proofs.lemmas.List.{length-take-le}
 use Rattle.std.specs.Int.{bytes_high_first}
 use Rattle.cbor4ii_items.specs.{Head.IsBytes, Laws.Heads.{onto-lt, bytes_onto, if_cases}}
 use Rattle.cbor4ii_items.specs.Magnitude.{number_of}
-use Rattle.cbor4ii_tree.specs.{Parse.{prefix_at, number_at}, Rejections.{Lacks, Missing}}
+use Rattle.cbor4ii_tree.specs.{Calls.Parse.{prefix_at, number_of_width}}
+use Rattle.cbor4ii_tree.specs.{Calls.Rejections.{Lacks, Missing}}
 use Rattle.cbor4ii_tree.proofs.parts.Meets.{Meets, ok_meets, err_meets}
 
 pub IsBytes-take : (k : ℕ) (bs : List ℕ) → IsBytes bs → IsBytes (take k bs)
@@ -55,7 +56,7 @@ pub record Whole (k n : ℕ) (bs after : List ℕ) : Type 0 where
   pub more : IsBytes after
 
 pub number_meets : (asks : ℕ → ℕ → ℕ) (name : List ℕ) (k : ℕ) (bs : List ℕ) → IsBytes bs
-    → Meets (λ p. Whole k p.0 bs p.1) (Lacks asks name k bs) (number_at asks name k bs)
+    → Meets (λ p. Whole k p.0 bs p.1) (Lacks asks name k bs) (number_of_width asks name k bs)
 number_meets asks name k bs h =
     if_cases (Meets (λ p. Whole k p.0 bs p.1) (Lacks asks name k bs)) (ltb (length bs) k) _ _
     (λ e. err_meets _ (ltb-true (length bs) k e, (refl, refl)))

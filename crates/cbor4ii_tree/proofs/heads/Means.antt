@@ -12,7 +12,7 @@ use Rattle.cbor4ii_items.specs.Initial.{starts_tag, starts_simple, starts_bits, 
 use Rattle.cbor4ii_items.specs.Initial.{int_by_info, string_by_info, array_by_info, map_by_info}
 use Rattle.cbor4ii_items.specs.Initial.{tag_by_info, simple_by_info, by_major}
 use Rattle.cbor4ii_items.specs.Laws.Heads.{if_cases}
-use Rattle.cbor4ii_tree.specs.{Parse.argument_at, Rejections.Lacks}
+use Rattle.cbor4ii_tree.specs.{Calls.Parse.parse_argument, Calls.Rejections.Lacks}
 use Rattle.cbor4ii_tree.proofs.{heads.Inverse.{Whole, number_meets}, parts.Meets.{Meets, ok_meets}}
 use Rattle.cbor4ii_tree.proofs.parts.Meets.{map_meets}
 
@@ -120,8 +120,8 @@ headed major n w b bs after e fits h = record { is = ap₂ ◌∷◌ e h.is; fit
 pub argument_meets : (asks : ℕ → ℕ → ℕ) (name : List ℕ) (major : ℕ) (w : Width) (b : ℕ)
     (bs : List ℕ) → IsBytes bs → HeadByte major w b
     → Meets (λ p. Headed major p.0 w b bs p.1) (Lacks asks name (byte_count w) bs)
-    (argument_at asks name w b bs)
-unfolding argument_at
+    (parse_argument asks name w b bs)
+unfolding parse_argument
 argument_meets asks name major in_first b bs h m =
     let low : b % 32 ≡ m.0 = omega (arith, m.1, m.2) in
     ok_meets _ (record {

@@ -4,12 +4,16 @@ use Rattle.std.proofs.Common.{sym, ap, ap₂, ◌∙◌, arith, subst, length-ap
 use Rattle.cbor4ii_items.specs.{Head.{Width, HeadFits, head, byte_count, IsBytes}, Initial.Sign}
 use Rattle.cbor4ii_items.specs.Initial.{sign_major, Kind, kind_major, Precision, precision_bytes}
 use Rattle.cbor4ii_items.specs.Initial.{starts_bits, starts_indefinite_array, starts_indefinite_map}
-use Rattle.cbor4ii_tree.specs.{InputError.{InputError, IsEof, tag_name}, Rejections.Rejection}
-use Rattle.cbor4ii_tree.specs.Rejections.{AtHead, AfterHead, Each, EachPair, RejectsInCount}
-use Rattle.cbor4ii_tree.specs.{Rejections.{Missing, IndefiniteItems, IndefinitePairs}, Tree.Tree}
-use Rattle.cbor4ii_tree.specs.Tree.{int, string, array, array_indefinite, map_of, map_indefinite}
-use Rattle.cbor4ii_tree.specs.Tree.{tagged, bits, Trees, Pairs, count, pair_count, bytes, bytes_all}
-use Rattle.cbor4ii_tree.specs.Tree.{bytes_pairs}
+use Rattle.cbor4ii_tree.specs.{Basis.InputError.{InputError, IsEof, tag_name}}
+use Rattle.cbor4ii_tree.specs.{Calls.Rejections.Rejection}
+use Rattle.cbor4ii_tree.specs.Calls.Rejections.{AtHead, AfterHead, Each, EachPair, RejectsInCount}
+use Rattle.cbor4ii_tree.specs.{Calls.Rejections.{Missing, IndefiniteItems, IndefinitePairs}}
+use Rattle.cbor4ii_tree.specs.{Basis.Tree.Tree}
+use Rattle.cbor4ii_tree.specs.Basis.Tree.{int, string, array, array_indefinite, map_of}
+use Rattle.cbor4ii_tree.specs.Basis.Tree.{map_indefinite}
+use Rattle.cbor4ii_tree.specs.Basis.Tree.{tagged, bits, Trees, Pairs, count, pair_count, bytes}
+use Rattle.cbor4ii_tree.specs.Basis.Tree.{bytes_all}
+use Rattle.cbor4ii_tree.specs.Basis.Tree.{bytes_pairs}
 use Rattle.cbor4ii_tree.proofs.{heads.Means.{HeadByte, Means}, parts.Prefixes.{IsMore, Prefix}}
 use Rattle.cbor4ii_tree.proofs.parts.Prefixes.{prefix_of, Prefixes, then_some, zeros, zeros_bytes}
 use Rattle.cbor4ii_tree.proofs.parts.Prefixes.{zeros_some, length-zeros, IsBytes-after, filled}

@@ -1,7 +1,9 @@
 -- Items after others, and pairs after others.
 use Rattle.std.proofs.Common.{◌≡◌, ℕ, ◌+◌, List, ◌++◌, refl, sym, ap, ◌∙◌, arith, append_assoc}
-use Rattle.cbor4ii_tree.specs.{Rejections.{Each, EachPair}, Tree.{Tree, Trees, no_trees, tree}}
-use Rattle.cbor4ii_tree.specs.Tree.{Pairs, no_pairs, pair, count, bytes, bytes_all, bytes_pairs}
+use Rattle.cbor4ii_tree.specs.{Calls.Rejections.{Each, EachPair}}
+use Rattle.cbor4ii_tree.specs.{Basis.Tree.{Tree, Trees, no_trees, tree}}
+use Rattle.cbor4ii_tree.specs.Basis.Tree.{Pairs, no_pairs, pair, count, bytes, bytes_all}
+use Rattle.cbor4ii_tree.specs.Basis.Tree.{bytes_pairs}
 
 unfoldable pub join : Trees → Trees → Trees
 join no_trees us = us

@@ -1,8 +1,9 @@
 -- What a plain program answers: something that is good, or one of these errors with a rest.
 use Rattle.std.proofs.Common.{◌≡◌, ℕ, List, Option, Some, None, Ok, Err, refl, subst}
 use Rattle.cbor4ii_items.specs.Reading.{go_on}
-use Rattle.cbor4ii_tree.specs.{Cost.Budget, InputError.InputError, Parse.{Answer, Parser, stepped}}
-use Rattle.cbor4ii_tree.specs.Rejections.{RejectsAtStep}
+use Rattle.cbor4ii_tree.specs.{Basis.Cost.Budget, Basis.InputError.InputError}
+use Rattle.cbor4ii_tree.specs.{Calls.Parse.{Answer, Parser, inside_step}}
+use Rattle.cbor4ii_tree.specs.Calls.Rejections.{RejectsAtStep}
 
 abbrev pub Failing : Type 1
 Failing = InputError → List ℕ → Type 0
@@ -48,7 +49,7 @@ map_meets {r = Err z} m k c = record { holds = c z.0 z.1 m.holds }
 pub step_meets : {A : Type 0} {Good : A × List ℕ → Type 0} (name : List ℕ) (step : Option Budget)
     (here : List ℕ) (next : Budget → Answer A) (rejects : Budget → Failing)
     → ((inner : Budget) → step ≡ Some inner → Meets Good (rejects inner) (next inner))
-    → Meets Good (RejectsAtStep name step here rejects) (stepped name step here next)
+    → Meets Good (RejectsAtStep name step here rejects) (inside_step name step here next)
 step_meets name None here next rejects k = record { holds = (refl, refl) }
 step_meets name (Some inner) here next rejects k = record { holds = (k inner refl).holds }
 

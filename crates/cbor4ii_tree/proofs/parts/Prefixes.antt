@@ -8,10 +8,12 @@ use Rattle.std.specs.Int.{bytes_high_first}
 use Rattle.cbor4ii_items.specs.Head.{Width, in_first, one, two, four, eight, HeadFits, additional}
 use Rattle.cbor4ii_items.specs.{Head.{byte_count, head, break, IsBytes}, Initial.unsigned}
 use Rattle.cbor4ii_items.specs.Magnitude.{number_of}
-use Rattle.cbor4ii_tree.specs.{Cost.Budget, InputError.{InputError, IsEof}, Rejections.Rejection}
-use Rattle.cbor4ii_tree.specs.Rejections.{RejectsAtStep, Each, EachPair, NoBreak, AfterKey}
-use Rattle.cbor4ii_tree.specs.Tree.{Tree, int, Trees, no_trees, tree, Pairs, no_pairs, pair, count}
-use Rattle.cbor4ii_tree.specs.Tree.{pair_count, bytes, bytes_all, bytes_pairs}
+use Rattle.cbor4ii_tree.specs.{Basis.Cost.Budget, Basis.InputError.{InputError, IsEof}}
+use Rattle.cbor4ii_tree.specs.{Calls.Rejections.Rejection}
+use Rattle.cbor4ii_tree.specs.Calls.Rejections.{RejectsAtStep, Each, EachPair, NoBreak, AfterKey}
+use Rattle.cbor4ii_tree.specs.Basis.Tree.{Tree, int, Trees, no_trees, tree, Pairs, no_pairs, pair}
+use Rattle.cbor4ii_tree.specs.Basis.Tree.{count}
+use Rattle.cbor4ii_tree.specs.Basis.Tree.{pair_count, bytes, bytes_all, bytes_pairs}
 use Rattle.cbor4ii_tree.proofs.{heads.Inverse.number_of_bytes, heads.Means.{WidthSays, HeadByte}}
 use Rattle.cbor4ii_tree.proofs.parts.Joined.{join, count-join, each-join, bytes_all-join}
 use Rattle.cbor4ii_tree.proofs.parts.Joined.{bytes_pairs-join, join_pairs, each-join_pairs}

@@ -1,9 +1,11 @@
 -- One more item after others, and one more pair.
 use Rattle.std.proofs.Common.{◌≡◌, ℕ, ◌+◌, ◌*◌, List, [], ◌++◌, refl, sym, ap, ◌∙◌, arith}
 use Rattle.std.proofs.Common.{append_assoc}
-use Rattle.cbor4ii_tree.specs.{Rejections.{Each, EachPair}, Tree.{Tree, Trees, no_trees, tree}}
-use Rattle.cbor4ii_tree.specs.Tree.{Pairs, no_pairs, pair, count, pair_count, bytes, bytes_all}
-use Rattle.cbor4ii_tree.specs.Tree.{bytes_pairs}
+use Rattle.cbor4ii_tree.specs.{Calls.Rejections.{Each, EachPair}}
+use Rattle.cbor4ii_tree.specs.{Basis.Tree.{Tree, Trees, no_trees, tree}}
+use Rattle.cbor4ii_tree.specs.Basis.Tree.{Pairs, no_pairs, pair, count, pair_count, bytes}
+use Rattle.cbor4ii_tree.specs.Basis.Tree.{bytes_all}
+use Rattle.cbor4ii_tree.specs.Basis.Tree.{bytes_pairs}
 
 unfoldable pub push : Trees → Tree → Trees
 push no_trees t = tree t no_trees

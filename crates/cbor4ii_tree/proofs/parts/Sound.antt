@@ -5,13 +5,16 @@ use Rattle.std.proofs.Common.{length, refl, sym, ap, ap₂, ◌∙◌, arith, eq
 use Rattle.std.proofs.Common.{length-append}
 use Rattle.std.proofs.lemmas.Bool.{eqb-false}
 use Rattle.cbor4ii_items.specs.{Head.{Width, head, break, IsBytes}, Laws.Heads.if_cases}
-use Rattle.cbor4ii_tree.specs.{Laws.Initials.length-bytes-pos, Parse.{Parser, trees_at, pairs_at}}
-use Rattle.cbor4ii_tree.specs.Parse.{indefinite_trees_at, indefinite_pairs_at}
-use Rattle.cbor4ii_tree.specs.Rejections.{Rejection, Each, EachPair, RejectsInCount}
-use Rattle.cbor4ii_tree.specs.Rejections.{IndefiniteItems}
-use Rattle.cbor4ii_tree.specs.{Rejections.IndefinitePairs, Tree.{Tree, Trees, no_trees, tree}}
-use Rattle.cbor4ii_tree.specs.Tree.{Pairs, no_pairs, pair, count, pair_count, bytes, bytes_all}
-use Rattle.cbor4ii_tree.specs.Tree.{bytes_pairs}
+use Rattle.cbor4ii_tree.specs.{Laws.Initials.length-bytes-pos}
+use Rattle.cbor4ii_tree.specs.{Calls.Parse.{Parser, trees_at, pairs_at}}
+use Rattle.cbor4ii_tree.specs.Calls.Parse.{indefinite_trees_at, indefinite_pairs_at}
+use Rattle.cbor4ii_tree.specs.Calls.Rejections.{Rejection, Each, EachPair, RejectsInCount}
+use Rattle.cbor4ii_tree.specs.Calls.Rejections.{IndefiniteItems}
+use Rattle.cbor4ii_tree.specs.{Calls.Rejections.IndefinitePairs}
+use Rattle.cbor4ii_tree.specs.{Basis.Tree.{Tree, Trees, no_trees, tree}}
+use Rattle.cbor4ii_tree.specs.Basis.Tree.{Pairs, no_pairs, pair, count, pair_count, bytes}
+use Rattle.cbor4ii_tree.specs.Basis.Tree.{bytes_all}
+use Rattle.cbor4ii_tree.specs.Basis.Tree.{bytes_pairs}
 use Rattle.cbor4ii_tree.proofs.parts.Meets.{Meets, ok_meets, err_meets, then_meets}
 use Rattle.cbor4ii_tree.proofs.parts.Rejecting.{in_count, in_items, in_pairs}
 

@@ -5,16 +5,20 @@ use Rattle.std.proofs.Common.{length-append}
 use Rattle.std.specs.Int.{bytes_high_first}
 use Rattle.cbor4ii_items.specs.Head.{Width, in_first, one, two, four, eight, byte_count, break}
 use Rattle.cbor4ii_items.specs.Reading.{Reading, go_on}
-use Rattle.cbor4ii_tree.specs.{InputError.InputError, Laws.Binds.{err, then_err}}
+use Rattle.cbor4ii_tree.specs.{Basis.InputError.InputError, Laws.Binds.{err, then_err}}
 use Rattle.cbor4ii_tree.specs.{Laws.HeadsAgain.argument_of, Laws.Initials.length-bytes-pos}
 use Rattle.cbor4ii_tree.specs.Laws.PartsAgain.{Again, StartNoBreak, shorter, pair_split}
 use Rattle.cbor4ii_tree.specs.Laws.PartsAgain.{indefinite_turn, indefinite_pair_turn}
-use Rattle.cbor4ii_tree.specs.Parse.{Parser, prefix_at, number_at, argument_at, argument_of_width}
-use Rattle.cbor4ii_tree.specs.Parse.{trees_at, pairs_at, indefinite_trees_at, indefinite_pairs_at}
-use Rattle.cbor4ii_tree.specs.Rejections.{Rejection, Lacks, Missing, AtHead, Each, EachPair}
-use Rattle.cbor4ii_tree.specs.Rejections.{RejectsInCount, NoBreak, IndefiniteItems, AfterKey}
-use Rattle.cbor4ii_tree.specs.{Rejections.IndefinitePairs, Tree.{Tree, Trees, no_trees, tree}}
-use Rattle.cbor4ii_tree.specs.Tree.{Pairs, no_pairs, pair, count, bytes, bytes_all, bytes_pairs}
+use Rattle.cbor4ii_tree.specs.Calls.Parse.{Parser, prefix_at, number_of_width, parse_argument}
+use Rattle.cbor4ii_tree.specs.Calls.Parse.{argument_of_width}
+use Rattle.cbor4ii_tree.specs.Calls.Parse.{trees_at, pairs_at, indefinite_trees_at}
+use Rattle.cbor4ii_tree.specs.Calls.Parse.{indefinite_pairs_at}
+use Rattle.cbor4ii_tree.specs.Calls.Rejections.{Rejection, Lacks, Missing, AtHead, Each, EachPair}
+use Rattle.cbor4ii_tree.specs.Calls.Rejections.{RejectsInCount, NoBreak, IndefiniteItems, AfterKey}
+use Rattle.cbor4ii_tree.specs.{Calls.Rejections.IndefinitePairs}
+use Rattle.cbor4ii_tree.specs.{Basis.Tree.{Tree, Trees, no_trees, tree}}
+use Rattle.cbor4ii_tree.specs.Basis.Tree.{Pairs, no_pairs, pair, count, bytes, bytes_all}
+use Rattle.cbor4ii_tree.specs.Basis.Tree.{bytes_pairs}
 
 -- ---- heads and contents
 
@@ -23,13 +27,13 @@ pub missing_prefix : (name : List ℕ) (k : ℕ) (bs : List ℕ) (e : InputError
 missing_prefix name k bs e rest h = rw (lt-ltb (length bs) k h.0) (err _ _ _ _ h.1)
 
 pub lacks_number : (asks : ℕ → ℕ → ℕ) (name : List ℕ) (k : ℕ) (bs : List ℕ) (e : InputError)
-    (rest : List ℕ) → Lacks asks name k bs e rest → number_at asks name k bs ≡ Err (e, rest)
+    (rest : List ℕ) → Lacks asks name k bs e rest → number_of_width asks name k bs ≡ Err (e, rest)
 lacks_number asks name k bs e rest h = rw (lt-ltb (length bs) k h.0) (err _ _ _ _ h.1)
 
 pub lacks_argument : (asks : ℕ → ℕ → ℕ) (name : List ℕ) (w : Width) (b : ℕ) (bs : List ℕ)
     (e : InputError) (rest : List ℕ) → Lacks asks name (byte_count w) bs e rest
-    → argument_at asks name w b bs ≡ Err (e, rest)
-unfolding argument_at
+    → parse_argument asks name w b bs ≡ Err (e, rest)
+unfolding parse_argument
 lacks_argument asks name in_first b bs e rest h = absurd (omega (arith, h.0))
 lacks_argument asks name one b bs e rest h = lacks_number asks name 1 bs e rest h
 lacks_argument asks name two b bs e rest h = lacks_number asks name 2 bs e rest h

@@ -5,12 +5,15 @@ use Rattle.std.proofs.Common.{Option, Some, None, refl, sym, ap, ◌∙◌, arit
 use Rattle.std.proofs.Common.{append-nil, length-append}
 use Rattle.std.specs.Int.{bytes_high_first}
 use Rattle.cbor4ii_items.specs.{Budget.CostFits, Head.{Width, byte_count, head}}
-use Rattle.cbor4ii_tree.specs.{Cost.{Budget, step_in}, InputError.{InputError, eof, Len, IsEof}}
-use Rattle.cbor4ii_tree.specs.{InputError.IsDepthOverflow, Rejections.{Rejection, Is, Lacks}}
-use Rattle.cbor4ii_tree.specs.Rejections.{AfterHead, AtHead, RejectsAtStep, Each, EachPair}
-use Rattle.cbor4ii_tree.specs.Rejections.{RejectsInCount, NoBreak, IndefiniteItems, AfterKey}
-use Rattle.cbor4ii_tree.specs.{Rejections.IndefinitePairs, Tree.{Tree, Trees, no_trees, tree}}
-use Rattle.cbor4ii_tree.specs.Tree.{Pairs, no_pairs, pair, bytes, bytes_all, bytes_pairs}
+use Rattle.cbor4ii_tree.specs.{Basis.Cost.{Budget, step_in}}
+use Rattle.cbor4ii_tree.specs.{Basis.InputError.{InputError, eof, Len, IsEof}}
+use Rattle.cbor4ii_tree.specs.{Basis.InputError.IsDepthOverflow}
+use Rattle.cbor4ii_tree.specs.{Calls.Rejections.{Rejection, Is, Lacks}}
+use Rattle.cbor4ii_tree.specs.Calls.Rejections.{AfterHead, AtHead, RejectsAtStep, Each, EachPair}
+use Rattle.cbor4ii_tree.specs.Calls.Rejections.{RejectsInCount, NoBreak, IndefiniteItems, AfterKey}
+use Rattle.cbor4ii_tree.specs.{Calls.Rejections.IndefinitePairs}
+use Rattle.cbor4ii_tree.specs.{Basis.Tree.{Tree, Trees, no_trees, tree}}
+use Rattle.cbor4ii_tree.specs.Basis.Tree.{Pairs, no_pairs, pair, bytes, bytes_all, bytes_pairs}
 use Rattle.cbor4ii_tree.proofs.parts.Rejecting.{headed_by, in_count, in_items, in_pairs}
 
 -- of one error, before what comes later, where fewer than k bytes are there

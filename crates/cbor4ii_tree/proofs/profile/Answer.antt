@@ -3,13 +3,16 @@
 use Rattle.std.proofs.Common.{◌≡◌, ℕ, suc, ◌⊎◌, inl, inr, List, [], ◌∷◌, ◌++◌, length, None, Ok}
 use Rattle.std.proofs.Common.{Err, sym, ap, ◌∙◌, subst, arith, append_assoc, append-nil}
 use Rattle.cbor4ii_items.specs.Head.{IsBytes}
-use Rattle.cbor4ii_tree.specs.{Cost.Budget, Encodings.{SomeAnswer, AtMostOne, IsProperPrefix}}
-use Rattle.cbor4ii_tree.specs.InputError.{InputError, eof, Len, IsEof, IsFinal, IsDepthOverflow}
-use Rattle.cbor4ii_tree.specs.{ItemAt.item_at, ItemRejects.{Profile, Rejects}}
+use Rattle.cbor4ii_tree.specs.{Basis.Cost.Budget}
+use Rattle.cbor4ii_tree.specs.{Basis.Encodings.{SomeAnswer, AtMostOne, IsProperPrefix}}
+use Rattle.cbor4ii_tree.specs.Basis.InputError.{InputError, eof, Len, IsEof, IsFinal}
+use Rattle.cbor4ii_tree.specs.Basis.InputError.{IsDepthOverflow}
+use Rattle.cbor4ii_tree.specs.{Calls.ItemAt.item_at, Calls.ItemRejects.{Profile, ItemRejects}}
 use Rattle.cbor4ii_tree.specs.{Laws.Ignoring.one_encoding, Laws.ItemAgain.item_again}
-use Rattle.cbor4ii_tree.specs.Laws.Profiles.{Lawful, skipping_lawful, reading_lawful}
-use Rattle.cbor4ii_tree.specs.{ReadingRejects.reading, SkippingRejects.skipping, Tree.{Tree, bytes}}
-use Rattle.cbor4ii_tree.specs.Tree.{Loose}
+use Rattle.cbor4ii_tree.specs.Laws.Profiles.{IsLawfulProfile, skipping_lawful, reading_lawful}
+use Rattle.cbor4ii_tree.specs.{Calls.ReadingRejects.reading_profile}
+use Rattle.cbor4ii_tree.specs.{Calls.SkippingRejects.skipping_profile, Basis.Tree.{Tree, bytes}}
+use Rattle.cbor4ii_tree.specs.Basis.Tree.{Loose}
 use Rattle.cbor4ii_tree.proofs.answers.Answers.{some_answer_of, at_most_one_of}
 use Rattle.cbor4ii_tree.proofs.answers.MayReject.{final_only, may_reject, leaves_nothing}
 use Rattle.cbor4ii_tree.proofs.{parts.Meets.{Meets, met_ok, met_err}, parts.Prefixes.whole_bytes}
@@ -42,15 +45,15 @@ Takes p input budget t rest = p.Whole budget t × (input ≡ bytes t ++ rest)
 
 -- the laws of a profile
 pub record Laws (p : Profile) : Type 0 where
-  pub lawful : Lawful p
+  pub lawful : IsLawfulProfile p
   pub widens : Widening p
   pub outlined : Outlined p
 
-pub skipping_laws : Laws skipping
+pub skipping_laws : Laws skipping_profile
 skipping_laws =
     record { lawful = skipping_lawful; widens = skipping_widens; outlined = λ b t w. w.0 }
 
-pub reading_laws : Laws reading
+pub reading_laws : Laws reading_profile
 reading_laws =
     record { lawful = reading_lawful; widens = reading_widens; outlined = readable_outline }
 
@@ -62,7 +65,7 @@ module _ {p : Profile} (l : Laws p) where
       (item_again p l.lawful (suc (length (bytes t ++ rest))) budget t rest s.0 (omega arith))
 
   meets : (input : List ℕ) (budget : Budget) → IsBytes input
-      → Meets (Took (p.Whole budget) input) (Rejects p input budget) (item_at p budget input)
+      → Meets (Took (p.Whole budget) input) (ItemRejects p input budget) (item_at p budget input)
   meets input budget h =
       item_meets p l.lawful (suc (length input)) budget input h (omega arith)
 
@@ -72,37 +75,37 @@ module _ {p : Profile} (l : Laws p) where
       let took = met_ok _ (t, rest) (meets input budget h) e in (took.whole, took.is)
 
   pub at_from_rejects : (input : List ℕ) (budget : Budget) (e : InputError) (rest : List ℕ)
-      → Rejects p input budget e rest → item_at p budget input ≡ Err (e, rest)
+      → ItemRejects p input budget e rest → item_at p budget input ≡ Err (e, rest)
   at_from_rejects input budget e rest s =
       item_rejects p l.lawful (suc (length input)) budget input e rest (omega arith) s
 
   pub rejects_from_at : (input : List ℕ) (budget : Budget) (e : InputError) (rest : List ℕ)
-      → IsBytes input → item_at p budget input ≡ Err (e, rest) → Rejects p input budget e rest
+      → IsBytes input → item_at p budget input ≡ Err (e, rest) → ItemRejects p input budget e rest
   rejects_from_at input budget e rest h x = met_err _ e rest (meets input budget h) x
 
   pub some_item : (input : List ℕ) (budget : Budget) → IsBytes input
-      → SomeAnswer (Takes p input budget) (Rejects p input budget)
+      → SomeAnswer (Takes p input budget) (ItemRejects p input budget)
   some_item input budget h =
       some_answer_of (item_at p budget input) _ _ (λ t x. takes_from_at input budget t x h)
       (λ e x. rejects_from_at input budget e x h)
 
   -- of any numbers
   pub one_item : (input : List ℕ) (budget : Budget)
-      → AtMostOne (Takes p input budget) (Rejects p input budget)
+      → AtMostOne (Takes p input budget) (ItemRejects p input budget)
   one_item input budget =
       at_most_one_of (item_at p budget input) _ _ (at_from_takes input budget)
       (at_from_rejects input budget)
 
   -- what is rejected goes on as no item that fits, unless the input ended
   pub stays : (input more : List ℕ) (budget : Budget) (t : Tree) (x : List ℕ) (e : InputError)
-      (rest : List ℕ) → ¬ (IsEof e) → Rejects p input budget e rest
+      (rest : List ℕ) → ¬ (IsEof e) → ItemRejects p input budget e rest
       → Takes p (input ++ more) budget t x → ⊥
   stays input more budget t x e rest h rejects s =
       (one_item (input ++ more) budget).not_both t x e (rest ++ more) s
       (persists p l.widens input more budget e rest h rejects)
 
   pub final_stays : (input more : List ℕ) (budget other : Budget) (e : InputError)
-      (rest : List ℕ) (t : Tree) (x : List ℕ) → IsFinal e → Rejects p input budget e rest
+      (rest : List ℕ) (t : Tree) (x : List ℕ) → IsFinal e → ItemRejects p input budget e rest
       → Takes p (input ++ more) other t x → ⊥
   final_stays input more budget other e rest t x h rejects s =
       let only = final_only e h in
@@ -112,7 +115,7 @@ module _ {p : Profile} (l : Laws p) where
 
   -- where a proper prefix of an item that fits is rejected, the input ended
   pub eof_alone : (prefix back : List ℕ) (budget : Budget) (t : Tree) (e : InputError)
-      (rest : List ℕ) → Rejects p prefix budget e rest → Takes p (prefix ++ back) budget t []
+      (rest : List ℕ) → ItemRejects p prefix budget e rest → Takes p (prefix ++ back) budget t []
       → IsEof e
   eof_alone prefix back budget t e rest s u = elim (may_reject p prefix budget e rest s) [
     | inl q ↦ q
@@ -121,7 +124,7 @@ module _ {p : Profile} (l : Laws p) where
 
   pub prefix_rejects : (t : Tree) (prefix : List ℕ) (budget : Budget) → p.Whole budget t
       → IsProperPrefix prefix (bytes t) → IsBytes prefix
-      → (name : List ℕ) × (expect : Len) × Rejects p prefix budget (eof name expect) []
+      → (name : List ℕ) × (expect : Len) × ItemRejects p prefix budget (eof name expect) []
   prefix_rejects t prefix budget whole b h =
       elim (some_item prefix budget h) [
         | inl x ↦ absurd (no_prefix prefix x.0 t x.1 (l.lawful.loose budget x.0 x.2.0)
@@ -130,18 +133,18 @@ module _ {p : Profile} (l : Laws p) where
             (whole, sym b.2 ∙ sym (append-nil (bytes t))))
       ]
     where
-      by_error : (e : InputError) (rest : List ℕ) → Rejects p prefix budget e rest → IsEof e
-          → (name : List ℕ) × (expect : Len) × Rejects p prefix budget (eof name expect) []
+      by_error : (e : InputError) (rest : List ℕ) → ItemRejects p prefix budget e rest → IsEof e
+          → (name : List ℕ) × (expect : Len) × ItemRejects p prefix budget (eof name expect) []
       by_error (eof name expect) rest s i = (
         name,
         expect,
-        subst (Rejects p prefix budget (eof name expect))
+        subst (ItemRejects p prefix budget (eof name expect))
             (leaves_nothing p prefix budget (eof name expect) rest tt s) s,
       )
       by_error _ rest s i = absurd i
 
   pub eof_on_prefix : (input : List ℕ) (budget : Budget) (e : InputError) (rest : List ℕ)
-      → IsBytes input → IsEof e → Rejects p input budget e rest
+      → IsBytes input → IsEof e → ItemRejects p input budget e rest
       → (t : Tree) × Outline p.tests t × IsBytes (bytes t) × IsProperPrefix input (bytes t)
   eof_on_prefix input budget e rest h eo s =
       let f = rejected_prefix p l.outlined input budget e rest h eo s in (

@@ -8,15 +8,21 @@ use Rattle.cbor4ii_items.specs.Initial.{starts_string, starts_chunks, bad_string
 use Rattle.cbor4ii_items.specs.Initial.{starts_indefinite_array, bad_array, starts_map}
 use Rattle.cbor4ii_items.specs.Initial.{starts_indefinite_map, bad_map, starts_tag, bad_tag}
 use Rattle.cbor4ii_items.specs.Initial.{starts_simple, starts_bits, other_simple, initial}
-use Rattle.cbor4ii_tree.specs.{Cost.{Budget, step_in}, InputError.{InputError, IsEof}}
-use Rattle.cbor4ii_tree.specs.ItemRejects.{Profile, NoUtf8Joined, ChunkRejectsBy, ChunkOf}
-use Rattle.cbor4ii_tree.specs.ItemRejects.{RejectsChunk, RejectsBy, RejectsFrom, RejectsWithin}
-use Rattle.cbor4ii_tree.specs.{ItemRejects.Rejects, ReadingRejects.Readable, Rejections.Rejection}
-use Rattle.cbor4ii_tree.specs.{Rejections.{Each, EachPair}, Tree.{Tree, int, string, chunked}}
-use Rattle.cbor4ii_tree.specs.Tree.{array, array_indefinite, map_of, map_indefinite, tagged, simple}
-use Rattle.cbor4ii_tree.specs.Tree.{bits, Trees, no_trees, tree, Pairs, no_pairs, pair, bytes}
-use Rattle.cbor4ii_tree.specs.Tree.{Loose, LooseAll, LoosePairs, IsChunk, AreChunks, SoundStrings}
-use Rattle.cbor4ii_tree.specs.Tree.{SoundStringsAll, SoundStringsPairs, Joins, JoinsAll, JoinsPairs}
+use Rattle.cbor4ii_tree.specs.{Basis.Cost.{Budget, step_in}, Basis.InputError.{InputError, IsEof}}
+use Rattle.cbor4ii_tree.specs.Calls.ItemRejects.{Profile, NoUtf8Joined, ChunkRejectsBy, ChunkOf}
+use Rattle.cbor4ii_tree.specs.Calls.ItemRejects.{RejectsChunkBy, RejectsBy, RejectsFrom}
+use Rattle.cbor4ii_tree.specs.Calls.ItemRejects.{RejectsWithin}
+use Rattle.cbor4ii_tree.specs.{Calls.ItemRejects.ItemRejects, Calls.ReadingRejects.Readable}
+use Rattle.cbor4ii_tree.specs.{Calls.Rejections.Rejection}
+use Rattle.cbor4ii_tree.specs.{Calls.Rejections.{Each, EachPair}}
+use Rattle.cbor4ii_tree.specs.{Basis.Tree.{Tree, int, string, chunked}}
+use Rattle.cbor4ii_tree.specs.Basis.Tree.{array, array_indefinite, map_of, map_indefinite, tagged}
+use Rattle.cbor4ii_tree.specs.Basis.Tree.{simple}
+use Rattle.cbor4ii_tree.specs.Basis.Tree.{bits, Trees, no_trees, tree, Pairs, no_pairs, pair, bytes}
+use Rattle.cbor4ii_tree.specs.Basis.Tree.{Loose, LooseAll, LoosePairs, IsChunk, AreChunks}
+use Rattle.cbor4ii_tree.specs.Basis.Tree.{SoundStrings}
+use Rattle.cbor4ii_tree.specs.Basis.Tree.{SoundStringsAll, SoundStringsPairs, Joins, JoinsAll}
+use Rattle.cbor4ii_tree.specs.Basis.Tree.{JoinsPairs}
 use Rattle.cbor4ii_tree.proofs.{heads.Means.{Means, means}, parts.Cut.{Shapes, cut_string, cut_int}}
 use Rattle.cbor4ii_tree.proofs.parts.Cut.{cut_float, cut_tag, cut_array, cut_open_array, cut_map}
 use Rattle.cbor4ii_tree.proofs.{parts.Cut.cut_open_map, parts.Prefixes.{Prefix, prefix_of}}
@@ -140,7 +146,7 @@ empty_chunk k =
 
 chunk_prefix : (tests : Bool) (k : Kind) (budget : Budget) (rejects : Rejection)
     → Prefixes (Outline tests) rejects
-    → Prefixes (Chunk tests k) (RejectsChunk tests k budget rejects)
+    → Prefixes (Chunk tests k) (RejectsChunkBy tests k budget rejects)
 unfolding Chunk
 chunk_prefix false k budget rejects g bs e rest h eo st = g bs e rest h eo st
 chunk_prefix true k budget rejects g [] e rest h eo st = empty_chunk k
@@ -235,6 +241,6 @@ module _ (p : Profile) (outlined : Outlined p) where
       (RejectsWithin p n) (within_prefix n) bs e rest h eo x) st
 
   pub rejected_prefix : (input : List ℕ) (budget : Budget) (e : InputError) (rest : List ℕ)
-      → IsBytes input → IsEof e → Rejects p input budget e rest → Prefix Good input
+      → IsBytes input → IsEof e → ItemRejects p input budget e rest → Prefix Good input
   rejected_prefix input budget e rest h eo st =
       within_prefix (suc (length input)) budget input e rest h eo st

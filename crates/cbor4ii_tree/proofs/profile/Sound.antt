@@ -13,17 +13,22 @@ use Rattle.cbor4ii_items.specs.Initial.{starts_indefinite_map, bad_map, starts_t
 use Rattle.cbor4ii_items.specs.Initial.{starts_simple, starts_bits, other_simple, initial}
 use Rattle.cbor4ii_items.specs.{Laws.Answering.fits_zero, Laws.Heads.if_cases, Reading.Reading}
 use Rattle.cbor4ii_items.specs.Reading.{go_on}
-use Rattle.cbor4ii_tree.specs.{Cost.{Budget, step_in}, InputError.{kind_name, require_utf8}}
-use Rattle.cbor4ii_tree.specs.{InputError.tag_name, ItemAt.{tested, string_at, chunk_tree_by}}
-use Rattle.cbor4ii_tree.specs.ItemAt.{chunk_at, item_by, item_from, item_within}
-use Rattle.cbor4ii_tree.specs.ItemRejects.{Profile, ReadableChunk, IsNoUtf8, ChunkRejectsBy}
-use Rattle.cbor4ii_tree.specs.ItemRejects.{ChunkOf, RejectsChunk, RejectsBy, RejectsFrom}
-use Rattle.cbor4ii_tree.specs.{ItemRejects.RejectsWithin, Laws.Binds.step_up, Laws.Profiles.Tested}
-use Rattle.cbor4ii_tree.specs.{Laws.Profiles.{Lawful, Parts}, Parse.{Parser, argument_of_width}}
-use Rattle.cbor4ii_tree.specs.{Rejections.{Rejection, Missing, AtHead}, Tree.{Tree, int, string}}
-use Rattle.cbor4ii_tree.specs.Tree.{chunked, array, array_indefinite, map_of, map_indefinite}
-use Rattle.cbor4ii_tree.specs.Tree.{tagged, simple, bits, count, pair_count, bytes, bytes_all}
-use Rattle.cbor4ii_tree.specs.Tree.{bytes_pairs, joined_chunks}
+use Rattle.cbor4ii_tree.specs.{Basis.Cost.{Budget, step_in}}
+use Rattle.cbor4ii_tree.specs.{Basis.InputError.{kind_name, require_utf8}}
+use Rattle.cbor4ii_tree.specs.{Basis.InputError.tag_name}
+use Rattle.cbor4ii_tree.specs.{Calls.ItemAt.{tested_string, string_tree_at, chunk_tree_by}}
+use Rattle.cbor4ii_tree.specs.Calls.ItemAt.{chunk_tree_at, item_by, item_from, item_within}
+use Rattle.cbor4ii_tree.specs.Calls.ItemRejects.{Profile, ReadableChunk, IsNoUtf8, ChunkRejectsBy}
+use Rattle.cbor4ii_tree.specs.Calls.ItemRejects.{ChunkOf, RejectsChunkBy, RejectsBy, RejectsFrom}
+use Rattle.cbor4ii_tree.specs.{Calls.ItemRejects.RejectsWithin, Laws.Binds.step_up}
+use Rattle.cbor4ii_tree.specs.{Laws.Profiles.Tested}
+use Rattle.cbor4ii_tree.specs.{Laws.Profiles.{IsLawfulProfile, HasWholeParts}}
+use Rattle.cbor4ii_tree.specs.{Calls.Parse.{Parser, argument_of_width}}
+use Rattle.cbor4ii_tree.specs.{Calls.Rejections.{Rejection, Missing, AtHead}}
+use Rattle.cbor4ii_tree.specs.{Basis.Tree.{Tree, int, string}}
+use Rattle.cbor4ii_tree.specs.Basis.Tree.{chunked, array, array_indefinite, map_of, map_indefinite}
+use Rattle.cbor4ii_tree.specs.Basis.Tree.{tagged, simple, bits, count, pair_count, bytes, bytes_all}
+use Rattle.cbor4ii_tree.specs.Basis.Tree.{bytes_pairs, joined_chunks}
 use Rattle.cbor4ii_tree.proofs.{heads.Inverse.{prefix_meets, number_meets}, heads.Means.HeadByte}
 use Rattle.cbor4ii_tree.proofs.heads.Means.{Means, means, Headed, argument_meets}
 use Rattle.cbor4ii_tree.proofs.parts.Meets.{and_meets, Failing, Meets, ok_meets, err_meets}
@@ -54,7 +59,7 @@ record TookString (k : Kind) (w : Width) (b : ℕ) (bs : List ℕ) (p : List ℕ
 
 string_meets : (name : List ℕ) (k : Kind) (w : Width) (b : ℕ) (bs : List ℕ) → IsBytes bs
     → HeadByte (kind_major k) w b → Meets (TookString k w b bs)
-    (AtHead name (kind_major k) w b (Missing name) bs) (string_at name w b bs)
+    (AtHead name (kind_major k) w b (Missing name) bs) (string_tree_at name w b bs)
 string_meets name k w b bs h m =
     head_meets name (kind_major k) w b bs (Missing name) h m (λ n x top le.
     map_meets (prefix_meets name n x top.more) (λ q c. record {
@@ -66,7 +71,7 @@ string_meets name k w b bs h m =
 tested_meets : {Good : Tree × List ℕ → Type 0} {Bad : Failing} (tests : Bool) (k : Kind)
     (content : List ℕ) (t : Tree) (x : List ℕ) → (Tested tests k content → Good (t, x))
     → (tests ≡ true → IsNoUtf8 k content → Bad (require_utf8 (kind_name k)) x)
-    → Meets Good Bad (tested tests k content t x)
+    → Meets Good Bad (tested_string tests k content t x)
 tested_meets {Good = Good} {Bad = Bad} true text_string content t x g f =
     if_cases (Meets Good Bad) (is_utf8 content) _ _
     (λ e. ok_meets _ (g (IsUtf8-from_is_utf8 content e)))
@@ -87,8 +92,8 @@ chunk_by_meets k budget i b bs f m h = err_meets _ (refl, refl)
 
 chunk_meets : (tests : Bool) (k : Kind) (budget : Budget) (item : Parser Tree)
     (Whole : Tree → Type 0) (rejects : Rejection) (bound : ℕ) → Decides item Whole rejects bound
-    → Decides (chunk_at tests k budget item) (ChunkOf tests k budget Whole)
-    (RejectsChunk tests k budget rejects) bound
+    → Decides (chunk_tree_at tests k budget item) (ChunkOf tests k budget Whole)
+    (RejectsChunkBy tests k budget rejects) bound
 chunk_meets false k budget item Whole rejects bound d bs h lt = d bs h lt
 chunk_meets true k budget item Whole rejects bound d [] h lt = err_meets _ (refl, refl)
 chunk_meets true k budget item Whole rejects bound d (b ∷ bs) h lt =
@@ -99,11 +104,11 @@ chunk_meets true k budget item Whole rejects bound d (b ∷ bs) h lt =
 
 -- ---- items
 
-module _ (p : Profile) (l : Lawful p) where
+module _ (p : Profile) (l : IsLawfulProfile p) where
   module _ (item : Budget → Parser Tree) (rejects : Budget → Rejection) (bound : ℕ)
       (d : (c : Budget) → Decides (item c) (p.Whole c) (rejects c) bound) (outer budget : Budget)
       (is : step_in outer ≡ Some budget) where
-    gives : {Bad : Failing} {b : ℕ} {bs x : List ℕ} (t : Tree) → Parts p budget t
+    gives : {Bad : Failing} {b : ℕ} {bs x : List ℕ} (t : Tree) → HasWholeParts p budget t
         → b ∷ bs ≡ bytes t ++ x → IsBytes x
         → Meets (Took (p.Whole outer) (b ∷ bs)) Bad (Ok (t, x))
     gives t parts same more = ok_meets _ (took (l.closes outer budget t is parts) same more)

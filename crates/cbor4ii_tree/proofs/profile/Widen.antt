@@ -10,14 +10,18 @@ use Rattle.cbor4ii_items.specs.Initial.{bad_string, starts_array, starts_indefin
 use Rattle.cbor4ii_items.specs.Initial.{bad_array, starts_map, starts_indefinite_map, bad_map}
 use Rattle.cbor4ii_items.specs.Initial.{starts_tag, bad_tag, starts_simple, starts_bits}
 use Rattle.cbor4ii_items.specs.Initial.{other_simple, initial}
-use Rattle.cbor4ii_tree.specs.{Cost.{Budget, step_in, cost, skip_cost}, InputError.InputError}
-use Rattle.cbor4ii_tree.specs.InputError.{IsEof, IsDepthOverflow, kind_name, tag_name}
-use Rattle.cbor4ii_tree.specs.ItemRejects.{Profile, NoUtf8, NoUtf8Joined, ChunkRejectsBy, ChunkOf}
-use Rattle.cbor4ii_tree.specs.ItemRejects.{RejectsChunk, RejectsBy, RejectsFrom, RejectsWithin}
-use Rattle.cbor4ii_tree.specs.{ItemRejects.Rejects, ReadingRejects.reading, Rejections.Rejection}
-use Rattle.cbor4ii_tree.specs.Rejections.{Is, Missing, AtHead, RejectsInCount, RejectsAtStep}
-use Rattle.cbor4ii_tree.specs.Rejections.{IndefiniteItems, IndefinitePairs}
-use Rattle.cbor4ii_tree.specs.{SkippingRejects.skipping, Tree.{Tree, bytes_all}}
+use Rattle.cbor4ii_tree.specs.{Basis.Cost.{Budget, step_in, cost, skip_cost}}
+use Rattle.cbor4ii_tree.specs.{Basis.InputError.InputError}
+use Rattle.cbor4ii_tree.specs.Basis.InputError.{IsEof, IsDepthOverflow, kind_name, tag_name}
+use Rattle.cbor4ii_tree.specs.Calls.ItemRejects.{Profile, NoUtf8, NoUtf8Joined, ChunkRejectsBy}
+use Rattle.cbor4ii_tree.specs.Calls.ItemRejects.{ChunkOf}
+use Rattle.cbor4ii_tree.specs.Calls.ItemRejects.{RejectsChunkBy, RejectsBy, RejectsFrom}
+use Rattle.cbor4ii_tree.specs.Calls.ItemRejects.{RejectsWithin}
+use Rattle.cbor4ii_tree.specs.{Calls.ItemRejects.ItemRejects, Calls.ReadingRejects.reading_profile}
+use Rattle.cbor4ii_tree.specs.{Calls.Rejections.Rejection}
+use Rattle.cbor4ii_tree.specs.Calls.Rejections.{Is, Missing, AtHead, RejectsInCount, RejectsAtStep}
+use Rattle.cbor4ii_tree.specs.Calls.Rejections.{IndefiniteItems, IndefinitePairs}
+use Rattle.cbor4ii_tree.specs.{Calls.SkippingRejects.skipping_profile, Basis.Tree.{Tree, bytes_all}}
 use Rattle.cbor4ii_tree.proofs.{parts.Rejecting.or_both, parts.Widen.{Goes, Calm, Widens}}
 use Rattle.cbor4ii_tree.proofs.parts.Widen.{widens_same, widens_none, widens_fits, StepWidens}
 use Rattle.cbor4ii_tree.proofs.parts.Widen.{step_widens, Covers, each_covers, is_goes, onward}
@@ -31,14 +35,14 @@ pub record Widening (p : Profile) : Type 0 where
       → StepWidens e (p.inside b) (p.inside c)
   pub stays : (b : ℕ) (bs more : List ℕ) → p.leaves b bs ++ more ≡ p.leaves b (bs ++ more)
 
-pub reading_widens : Widening reading
+pub reading_widens : Widening reading_profile
 reading_widens = record {
   covers = λ e b c w t h. (h.0, widens_fits e b c (cost t) w h.1);
   inside = step_widens;
   stays = λ b bs more. refl;
 }
 
-pub skipping_widens : Widening skipping
+pub skipping_widens : Widening skipping_profile
 skipping_widens = record {
   covers = λ e b c w t h. (h.0, widens_fits e b c (skip_cost t) w h.1);
   inside = λ e b c w. (c, refl, w);
@@ -82,10 +86,11 @@ module _ (k : ℕ) (e : InputError) (more : List ℕ) (calm : Calm e more) where
     chunk_covers false d b c w t h = l.covers e b c w t h
 
     chunk_goes : (tests : Bool) (d : Kind) (b c : Budget) (s t : Rejection) → Widens e b c
-        → Goes k e more s t → Goes k e more (RejectsChunk tests d b s) (RejectsChunk tests d c t)
+        → Goes k e more s t → Goes k e more (RejectsChunkBy tests d b s)
+        (RejectsChunkBy tests d c t)
     chunk_goes false d b c s t w g bs rest lt x = g bs rest lt x
     chunk_goes true d b c s t w g [] rest lt x =
-        no_byte_goes k e more calm _ _ (RejectsChunk true d c t) rest x x
+        no_byte_goes k e more calm _ _ (RejectsChunkBy true d c t) rest x x
     chunk_goes true d b c s t w g (a ∷ bs) rest lt x =
         stepped_goes (kind_name d) (step_in b) (step_in c) e (a ∷ bs) rest more
         (λ inner. ChunkRejectsBy d (initial a) a bs)
@@ -108,7 +113,7 @@ module _ (k : ℕ) (e : InputError) (more : List ℕ) (calm : Calm e more) where
           let covers = chunk_covers p.tests d b c w in
           or_both {B = NoUtf8Joined d V bs e rest} {D = NoUtf8Joined d W (bs ++ more) e
           (rest ++ more)} p.tests (items_goes k e more calm V W
-          (RejectsChunk p.tests d b (s b)) (RejectsChunk p.tests d c (t c)) covers
+          (RejectsChunkBy p.tests d b (s b)) (RejectsChunkBy p.tests d c (t c)) covers
           (chunk_goes p.tests d b c (s b) (t c) w (g b c w)) bs rest lt) (λ x. record {
             chunks = x.chunks;
             whole = each_covers V W covers x.chunks x.whole;
@@ -175,8 +180,8 @@ module _ (p : Profile) (l : Widening p) where
 
   -- further bytes mend no error but the end of the input
   pub persists : (input more : List ℕ) (budget : Budget) (e : InputError) (rest : List ℕ)
-      → ¬ (IsEof e) → Rejects p input budget e rest
-      → Rejects p (input ++ more) budget e (rest ++ more)
+      → ¬ (IsEof e) → ItemRejects p input budget e rest
+      → ItemRejects p (input ++ more) budget e (rest ++ more)
   persists input more budget e rest h =
       within_goes (suc (length input)) (suc (length input)) (suc (length (input ++ more))) budget
       budget e more (omega arith) (omega (arith, length-append input more)) (λ y. absurd (h y))
@@ -184,8 +189,8 @@ module _ (p : Profile) (l : Widening p) where
 
   -- nor do further steps, but one for want of a step
   pub unbounded : (input : List ℕ) (budget : Budget) (e : InputError) (rest : List ℕ)
-      → ¬ (IsEof e) → ¬ (IsDepthOverflow e) → (more : List ℕ) → Rejects p input budget e rest
-      → Rejects p (input ++ more) None e (rest ++ more)
+      → ¬ (IsEof e) → ¬ (IsDepthOverflow e) → (more : List ℕ) → ItemRejects p input budget e rest
+      → ItemRejects p (input ++ more) None e (rest ++ more)
   unbounded input budget e rest h d more =
       within_goes (suc (length input)) (suc (length input)) (suc (length (input ++ more))) budget
       None e more (omega arith) (omega (arith, length-append input more)) (λ y. absurd (h y))
@@ -198,7 +203,7 @@ module _ (p : Profile) (l : Widening p) where
       (subst (λ b. S b e (rest ++ [])) (append-nil bs) s)
 
   free : Budget → Rejection
-  free b part = Rejects p part b
+  free b part = ItemRejects p part b
 
   -- from one bound on how deep the parts nest to another that bounds nothing
   from_same : (n : ℕ) (s t : Budget → Rejection) (c : Budget) (input : List ℕ) (e : InputError)
@@ -211,8 +216,8 @@ module _ (p : Profile) (l : Widening p) where
 
   -- a rejection goes by those of the parts, however deep these go
   pub by_parts : (input : List ℕ) (budget : Budget) (e : InputError) (rest : List ℕ)
-      → Rejects p input budget e rest ↔ RejectsAtStep p.of_item (step_in budget) input
-      (λ c. RejectsFrom p (λ left part. Rejects p part left) c input) e rest
+      → ItemRejects p input budget e rest ↔ RejectsAtStep p.of_item (step_in budget) input
+      (λ c. RejectsFrom p (λ left part. ItemRejects p part left) c input) e rest
   unfolding free
   by_parts input budget e rest =
       let n : ℕ = length input in (

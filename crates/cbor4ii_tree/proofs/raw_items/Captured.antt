@@ -15,15 +15,19 @@ use Rattle.cbor4ii_items.specs.InputError.{is_out_of_memory, input_error_of, is_
 use Rattle.cbor4ii_items.specs.{Laws.Contents.lends_prefix, Budget.CostFits, Decoding.IsExact}
 use Rattle.cbor4ii_items.specs.Decoding.{Sound, NoneRead, Complete, Rejects, Decodes}
 use Rattle.cbor4ii_items.specs.{Laws.Running.shows_kept, Moves.{Kept, ReaderFailed, Moves}}
-use Rattle.cbor4ii_tree.specs.{Laws.Initials.length-bytes-pos, Prefix.lent_view, Raw.ReadsRaw}
-use Rattle.cbor4ii_tree.specs.Raw.{RejectsRaw, BeginsRaw, RejectedPrefix, Unmoved, most}
-use Rattle.cbor4ii_tree.specs.Raw.{SkipsPrefix, RejectsPrefix, Captured, NotCaptured, failed}
-use Rattle.cbor4ii_tree.specs.{Raw.{not_lent, rejected, Captures, raw_format}, Cost.Budget}
-use Rattle.cbor4ii_tree.specs.{Cost.skip_cost, Does.Does, Encodings.Skips, Headline.Answered}
-use Rattle.cbor4ii_tree.specs.{Headline.Rejected, Ignored.ReadsTree, InputError.InputError}
+use Rattle.cbor4ii_tree.specs.{Laws.Initials.length-bytes-pos, Inner.BytesAhead.lent_view}
+use Rattle.cbor4ii_tree.specs.{Calls.Raw.ReadsRaw}
+use Rattle.cbor4ii_tree.specs.Calls.Raw.{RejectsRaw, BeginsRaw, RejectedPrefix, Unmoved, most}
+use Rattle.cbor4ii_tree.specs.Calls.Raw.{SkipsPrefix, RejectsPrefix, Captured, NotCaptured, failed}
+use Rattle.cbor4ii_tree.specs.{Calls.Raw.{not_lent, rejected, Captures, raw_format}}
+use Rattle.cbor4ii_tree.specs.{Basis.Cost.Budget}
+use Rattle.cbor4ii_tree.specs.{Basis.Cost.skip_cost, Inner.Does.Does, Basis.Encodings.Skips}
+use Rattle.cbor4ii_tree.specs.{Basis.Headline.Answered}
+use Rattle.cbor4ii_tree.specs.{Basis.Headline.Rejected, Calls.Ignored.ReadsTree}
+use Rattle.cbor4ii_tree.specs.{Basis.InputError.InputError}
 use Rattle.cbor4ii_tree.specs.Laws.{Binds.same_err, Ignoring.{one_encoding, tree_prefix}}
-use Rattle.cbor4ii_tree.specs.{Skip.skip, Skipping.{SkipsOne, RejectsSkippingOne}}
-use Rattle.cbor4ii_tree.specs.{SkippingRejects.SkippingRejects, Tree.{Tree, bytes}}
+use Rattle.cbor4ii_tree.specs.{Calls.Skip.skip, Inner.Skipping.{SkipsOne, RejectsSkippingOne}}
+use Rattle.cbor4ii_tree.specs.{Calls.SkippingRejects.SkippingRejects, Basis.Tree.{Tree, bytes}}
 use Rattle.cbor4ii_tree.proofs.skipping.Answer.{not_both, skip_from_Rejects}
 use Rattle.cbor4ii_tree.proofs.skip_calls.Doing.{says}
 

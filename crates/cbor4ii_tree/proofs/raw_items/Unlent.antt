@@ -4,8 +4,10 @@ use Rattle.std.proofs.Common.{subst, arith, length-append}
 use Rattle.cbor4ii_rw.specs.{Long.FillsLong, Reader.KeepsAllButBudget, View.View}
 use Rattle.cbor4ii_rw.specs.declared.error.DecodeError.{DecodeError}
 use Rattle.cbor4ii_items.specs.{Decoding.Rejects, InputError.{input_error_of, is_out_of_memory}}
-use Rattle.cbor4ii_tree.specs.{BoxedRaw.RejectsRawUnlent, Cost.Budget, Raw.{RejectsPrefix, most}}
-use Rattle.cbor4ii_tree.specs.{Raw.SkipsPrefix, SkippingRejects.SkippingRejects, Tree.bytes}
+use Rattle.cbor4ii_tree.specs.{Calls.BoxedRaw.RejectsRawUnlent, Basis.Cost.Budget}
+use Rattle.cbor4ii_tree.specs.{Calls.Raw.{RejectsPrefix, most}}
+use Rattle.cbor4ii_tree.specs.{Calls.Raw.SkipsPrefix, Calls.SkippingRejects.SkippingRejects}
+use Rattle.cbor4ii_tree.specs.{Basis.Tree.bytes}
 use Rattle.cbor4ii_tree.specs.Laws.Initials.{length-bytes-pos}
 use Rattle.cbor4ii_tree.proofs.raw_items.Captured.{if_some}
 

@@ -3,12 +3,15 @@
 use Rattle.std.proofs.Common.{◌≡◌, ℕ, ◌<◌, ◌≤◌, ◌^◌, List, [], ◌++◌, length, refl, sym, ap, ◌∙◌}
 use Rattle.std.proofs.Common.{subst, arith}
 use Rattle.cbor4ii_items.specs.{Budget.CostFits, Head.IsBytes, Laws.SequenceParts.fits_less}
-use Rattle.cbor4ii_tree.specs.Canonical.{canonical_encoding, canonical_cost, with_bignums}
-use Rattle.cbor4ii_tree.specs.{Cost.{Budget, cost}, Encodings.{Encodes, DecodesTo, Skips}}
-use Rattle.cbor4ii_tree.specs.{Encodings.IsProperPrefix, InputError.{InputError, eof}}
-use Rattle.cbor4ii_tree.specs.{InputError.{depth_overflow, Len, IsFinal}, Item.{Item, IsItem}}
-use Rattle.cbor4ii_tree.specs.{Laws.Ignoring.one_encoding, Meaning.value}
-use Rattle.cbor4ii_tree.specs.{ReadingRejects.ReadingRejects, Tree.{Tree, bytes, Loose, Joins}}
+use Rattle.cbor4ii_tree.specs.Basis.Canonical.{canonical_encoding, canonical_cost, with_bignums}
+use Rattle.cbor4ii_tree.specs.{Basis.Cost.{Budget, cost}}
+use Rattle.cbor4ii_tree.specs.{Basis.Encodings.{Encodes, DecodesTo, Skips}}
+use Rattle.cbor4ii_tree.specs.{Basis.Encodings.IsProperPrefix, Basis.InputError.{InputError, eof}}
+use Rattle.cbor4ii_tree.specs.{Basis.InputError.{depth_overflow, Len, IsFinal}}
+use Rattle.cbor4ii_tree.specs.{Basis.Item.{Item, IsItem}}
+use Rattle.cbor4ii_tree.specs.{Laws.Ignoring.one_encoding, Basis.Meaning.value}
+use Rattle.cbor4ii_tree.specs.{Calls.ReadingRejects.ReadingRejects}
+use Rattle.cbor4ii_tree.specs.{Basis.Tree.{Tree, bytes, Loose, Joins}}
 use Rattle.cbor4ii_tree.proofs.encodings.Canonical.{canonical_encodes, with_bignums-value}
 use Rattle.cbor4ii_tree.proofs.encodings.Costs.{skip_cost-le, cost-canonical_encoding}
 use Rattle.cbor4ii_tree.proofs.{encodings.Sizes.IsItem-value, parts.Rejecting.skips_by}

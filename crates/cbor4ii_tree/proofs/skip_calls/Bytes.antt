@@ -8,8 +8,9 @@ use Rattle.cbor4ii_items.specs.{Head.Width, Initial.{info_of, wide}, InputError.
 use Rattle.cbor4ii_items.specs.InputError.{len_of}
 use Rattle.cbor4ii_tree.proofs.heads.Means.{WidthSays, InfoSays, info_says}
 use Rattle.cbor4ii_tree.proofs.parts.Prefixes.{IsBytes-append}
-use Rattle.cbor4ii_tree.specs.{Rejections.{Missing, MissingAll}, HeadParts.{DropsBytes, DropsSome}}
-use Rattle.cbor4ii_tree.specs.HeadParts.{TakesByte, NoByte, TakesNumber}
+use Rattle.cbor4ii_tree.specs.{Calls.Rejections.{Missing, MissingAll}}
+use Rattle.cbor4ii_tree.specs.{Inner.HeadParts.{DropsBytes, DropsSome}}
+use Rattle.cbor4ii_tree.specs.Inner.HeadParts.{TakesByte, NoByte, TakesNumber}
 
 pub len_is : (n : ℕ) (l : Len) → (n < 65536 → l ≡ Small n) → (65536 ≤ n → l ≡ Big) → l ≡ len_of n
 len_is n l s b = by_size (ltb n 65536) refl

@@ -3,8 +3,9 @@ use Rattle.std.proofs.Common.{◌≡◌, ◌≢◌, ℕ, List, [], ◌∷◌, Ok
 use Rattle.cbor4ii_rw.specs.{View.View, declared.error.DecodeError.DecodeError}
 use Rattle.cbor4ii_items.specs.{Decoding.{Sound, Rejects}, Head.break, Moves.Moves}
 use Rattle.cbor4ii_items.specs.Strings.{ReadsBreak, RejectsBreak}
-use Rattle.cbor4ii_tree.specs.{InputError.{break_name, eof, Small}, Rejections.Rejection}
-use Rattle.cbor4ii_tree.specs.{Cost.Budget, Does.{Accepting, Does}}
+use Rattle.cbor4ii_tree.specs.{Basis.InputError.{break_name, eof, Small}}
+use Rattle.cbor4ii_tree.specs.{Calls.Rejections.Rejection}
+use Rattle.cbor4ii_tree.specs.{Basis.Cost.Budget, Inner.Does.{Accepting, Does}}
 use Rattle.cbor4ii_tree.proofs.skip_calls.Doing.{Reached, reached_then, does_err, does_rejects}
 use Rattle.cbor4ii_tree.proofs.skip_calls.{Doing.reached_sound, Parts.{IsOther, after_break}}
 use Rattle.cbor4ii_tree.proofs.skip_calls.Parts.{other_byte}

@@ -11,12 +11,14 @@ use Rattle.cbor4ii_tree.proofs.skip_calls.Doing.{still_rejected, with, keeps_ali
 use Rattle.cbor4ii_tree.proofs.skip_calls.Doing.{stays_put, apart_with, apart_gains}
 use Rattle.cbor4ii_tree.proofs.skip_calls.Parts.{items_later, items_join, items_none, items_one}
 use Rattle.cbor4ii_tree.proofs.skip_calls.{Parts.first_stop, Runs.{some_of, steps}}
-use Rattle.cbor4ii_tree.specs.Skipping.{RejectsSkippingItems, SkipsItems}
-use Rattle.cbor4ii_tree.specs.{Ahead.TakesHead}
-use Rattle.cbor4ii_tree.specs.Ahead.{SkipsSome, RejectsSome, RejectsSomeUnder, GoesUnder}
-use Rattle.cbor4ii_tree.specs.{Ahead.{CountsSome, CountsNone, CountsWent}, Cost.{Budget, step_in}}
-use Rattle.cbor4ii_tree.specs.{Deeper.{Deeper, GoesOn, budgeted}, Does.{Accepting, Does, DoesApart}}
-use Rattle.cbor4ii_tree.specs.{Does.{DoesUnder, Lowers, Taking}, Rejections.Rejection}
+use Rattle.cbor4ii_tree.specs.Inner.Skipping.{RejectsSkippingItems, SkipsItems}
+use Rattle.cbor4ii_tree.specs.{Inner.Ahead.TakesHead}
+use Rattle.cbor4ii_tree.specs.Inner.Ahead.{SkipsSome, RejectsSome, RejectsSomeUnder, GoesUnder}
+use Rattle.cbor4ii_tree.specs.{Inner.Ahead.{CountsSome, CountsNone, CountsWent}}
+use Rattle.cbor4ii_tree.specs.{Basis.Cost.{Budget, step_in}}
+use Rattle.cbor4ii_tree.specs.{Inner.Deeper.{Deeper, FollowsInside, with_budget}}
+use Rattle.cbor4ii_tree.specs.{Inner.Does.{Accepting, Does, DoesApart}}
+use Rattle.cbor4ii_tree.specs.{Inner.Does.{DoesUnder, Lowers, Taking}, Calls.Rejections.Rejection}
 use Rattle.cbor4ii_tree.specs.declared.skip.items.Went.TheVariants.{Into}
 use Rattle.cbor4ii_tree.specs.declared.skip.initial.After.TheVariants as after
 use Rattle.cbor4ii_tree.specs.declared.ahead.Among.TheVariants as among
@@ -43,7 +45,7 @@ all_back d start same gives h = gives start (subst (λ b. Deeper d start b) same
 
 -- ---- the same with another budget
 
-alike_both : (s u : Budget) (v : View) → KeepsAllButBudget (budgeted s v) (budgeted u v)
+alike_both : (s u : Budget) (v : View) → KeepsAllButBudget (with_budget s v) (with_budget u v)
 alike_both s u v = record {
   known = refl;
   bound = refl;
@@ -55,37 +57,38 @@ alike_both s u v = record {
   ends_at = refl;
 }
 
-pub alike_within : (s : Budget) (v : View) → KeepsAllButBudget v (budgeted s v)
+pub alike_within : (s : Budget) (v : View) → KeepsAllButBudget v (with_budget s v)
 alike_within s v = alike_both v.budget s v
 
-pub alike_without : (s : Budget) (v : View) → KeepsAllButBudget (budgeted s v) v
+pub alike_without : (s : Budget) (v : View) → KeepsAllButBudget (with_budget s v) v
 alike_without s v = alike_both s v.budget v
 
 -- what leads from one view to another leads so under any budget
 does_budgeted : {V E : Type 0} (s : Budget) (A : Accepting V) (S : Rejection)
     {r : Result V (DecodeError E)} {m : View} (n : View) → (s ≡ None → m.budget ≡ None)
-    → Does A S m (budgeted m.budget n) r → Does A S (budgeted s m) (budgeted s n) r
+    → Does A S m (with_budget m.budget n) r → Does A S (with_budget s m) (with_budget s n) r
 does_budgeted s A S {m = m} n unbound d =
     does_between A S (alike_without s m) (alike_both m.budget s n) unbound (λ same. refl) d
 
 -- its own budget is given back, or left out
 pub does_back : {V E : Type 0} (A : Accepting V) (S : Rejection) {r : Result V (DecodeError E)}
     {a b c : View} → KeepsAllButBudget b c → c.budget ≡ a.budget
-    → Does A S a (budgeted a.budget b) r → Does A S a c r
+    → Does A S a (with_budget a.budget b) r → Does A S a c r
 does_back A S {a = a} {b = b} outward restored d =
     does_between A S (keeps_alike a a refl)
     (keeps_then (alike_without a.budget b) outward) (λ none. none) (λ same. restored) d
 
 does_without : {V E : Type 0} (A : Accepting V) (S : Rejection) {r : Result V (DecodeError E)}
-    {a b : View} → Does A S a b r → Does A S a (budgeted a.budget b) r
+    {a b : View} → Does A S a b r → Does A S a (with_budget a.budget b) r
 does_without A S {a = a} {b = b} d =
     does_between A S (keeps_alike a a refl)
     (alike_within a.budget b) (λ none. none) (λ same. refl) d
 
 -- ---- going on
 
-goes_then : (total left now : ℕ) (a m n : Budget) (xs ys zs : List ℕ) → GoesOn total m a xs left ys
-    → GoesOn left n m ys now zs → GoesOn total n a xs now zs
+goes_then : (total left now : ℕ) (a m n : Budget) (xs ys zs : List ℕ) → FollowsInside total m a xs
+    left ys
+    → FollowsInside left n m ys now zs → FollowsInside total n a xs now zs
 goes_then total left now a m n xs ys zs g h = record {
   skips = λ rest s. g.skips rest (h.skips rest s);
   rejects = λ e rest s. g.rejects e rest (h.rejects e rest s);
@@ -93,7 +96,8 @@ goes_then total left now a m n xs ys zs g h = record {
 
 -- some of them were skipped
 goes_past : (total left some : ℕ) (budget inner : Budget) (xs ys : List ℕ) → inner ≡ budget
-    → left + some ≡ total → SkipsItems some budget xs ys → GoesOn total inner budget xs left ys
+    → left + some ≡ total → SkipsItems some budget xs ys → FollowsInside total inner budget xs left
+    ys
 goes_past total left some budget inner xs ys same sum h = record {
   skips = λ rest s. subst (λ n. SkipsItems n budget xs rest) (omega (arith, sum))
       (items_join some left budget xs ys rest h (subst (λ b. SkipsItems left b ys rest) same s));
@@ -104,7 +108,7 @@ goes_past total left some budget inner xs ys same sum h = record {
 -- the head of the last was taken
 goes_into : (total n : ℕ) (budget between inner : Budget) (xs ys : List ℕ) → total ≡ 1
     → inner ≡ between → step_in budget ≡ Some between → TakesHead between xs (after.Items n) ys
-    → GoesOn total inner budget xs n ys
+    → FollowsInside total inner budget xs n ys
 goes_into total n budget between inner xs ys last same step h = record {
   skips = λ rest s. subst (λ k. SkipsItems k budget xs rest) (sym last) (items_one budget xs rest
       (h.leads.skips rest (subst (λ b. SkipsItems n b ys rest) same s) budget step));
@@ -123,15 +127,18 @@ module _ {F S : Type 0} (view : F → S → View) (own : S → View)
       → KeepsAllButBudget (own s) (own t) → StepsIn (own s).budget (own t).budget true → left ≡ 1
       → DoesApart {E = E} (GoesUnder (among.Items left)) (RejectsSomeUnder (among.Items left))
       (CountsWent (among.Items left)) apart (own t) i (view f t) c (Ok (Into n))
-      → DoesApart {E = E} (GoesOn left c.budget) (RejectsSkippingItems left) Lowers apart (own s) i
-      (view f s) (budgeted (view f s).budget c) (Ok n)
+      → DoesApart {E = E} (FollowsInside left c.budget) (RejectsSkippingItems left) Lowers apart
+      (own s) i
+      (view f s) (with_budget (view f s).budget c) (Ok n)
   gone_into left n {f = f} {s = s} {t = t} {c = c} inward takes last d =
       let step = steps view own same f s t takes in
       let kept : c.budget ≡ (view f t).budget = d.does.moves.by.budget in
       let into = moved f s t inward in
-      apart_with (λ _. n) (does_around (λ xs k ys. (k ≡ n) × GoesOn left c.budget (view f s).budget
+      apart_with (λ _. n) (does_around (λ xs k ys. (k ≡ n) × FollowsInside left c.budget
+      (view f s).budget
       xs n ys) _ (RejectsSkippingItems left (view f s).budget) _ (λ xs ys k h. subst
-      (λ j. GoesOn left c.budget (view f s).budget xs j ys) (sym h.0) h.1) (λ xs e rest h. h) into
+      (λ j. FollowsInside left c.budget (view f s).budget xs j ys) (sym h.0) h.1) (λ xs e rest h. h)
+      into
       (alike_within (view f s).budget c) (λ none. step_unbound (view f s).budget
       (view f t).budget step none) (λ _. refl) (does_ok _ _ (reached_as _ _ (λ xs ys h. (
         refl,
@@ -143,8 +150,8 @@ module _ {E : Type 0} (left : ℕ) {apart : Bool} {o i a d : View} (any : 1 ≤ 
   -- some were skipped
   pub gone : {r : Result ℕ (DecodeError E)} → DoesApart (SkipsSome (among.Items left))
       (RejectsSome (among.Items left)) (CountsSome (among.Items left)) apart o i a d r
-      → DoesApart (GoesOn left d.budget) (RejectsSkippingItems left) Lowers apart o i a
-      (budgeted a.budget d) (with (λ n. left - n) r)
+      → DoesApart (FollowsInside left d.budget) (RejectsSkippingItems left) Lowers apart o i a
+      (with_budget a.budget d) (with (λ n. left - n) r)
   gone {r = Ok n} k =
       let same : d.budget ≡ a.budget = k.does.moves.by.budget in
       apart_with (λ n. left - n) (does_without _ _ (does_ok _ _ (reached_as _ _ (λ xs ys h.
@@ -157,7 +164,8 @@ module _ {E : Type 0} (left : ℕ) {apart : Bool} {o i a d : View} (any : 1 ≤ 
   -- no step was left
   pub gone_without : {r : Result ℕ (DecodeError E)} → DoesApart (SkipsSome (among.Items left))
       (RejectsSome (among.Items left)) (CountsNone (among.Items left)) apart o i a d r → DoesApart
-      (GoesOn left d.budget) (RejectsSkippingItems left) Lowers apart o i a (budgeted a.budget d) r
+      (FollowsInside left d.budget) (RejectsSkippingItems left) Lowers apart o i a
+      (with_budget a.budget d) r
   gone_without {r = Ok n} k = absurd (omega (arith, k.gains.0.0, k.gains.1))
   gone_without {r = Err e} k = gone
       (apart_gains (λ n h. (h.0, λ some. absurd (omega (arith, some, h.1)))) k)
@@ -165,24 +173,27 @@ module _ {E : Type 0} (left : ℕ) {apart : Bool} {o i a d : View} (any : 1 ≤ 
 -- ---- all of them
 
 module _ {E : Type 0} (total left : ℕ) {a m : View}
-    (p : Reached (λ xs ys. GoesOn total m.budget a.budget xs left ys) a (budgeted a.budget m)) where
-  pub gone_on : (now : ℕ) {n : View} → DoesUnder {E = E} (GoesOn left n.budget)
-      (RejectsSkippingItems left) m (budgeted m.budget n) (Ok now) → (a.budget ≡ None → m.budget
-      ≡ None) → Reached (λ xs ys. GoesOn total n.budget a.budget xs now ys) a (budgeted a.budget n)
+    (p : Reached (λ xs ys. FollowsInside total m.budget a.budget xs left ys) a
+    (with_budget a.budget m)) where
+  pub gone_on : (now : ℕ) {n : View} → DoesUnder {E = E} (FollowsInside left n.budget)
+      (RejectsSkippingItems left) m (with_budget m.budget n) (Ok now) → (a.budget ≡ None → m.budget
+      ≡ None) → Reached (λ xs ys. FollowsInside total n.budget a.budget xs now ys) a
+      (with_budget a.budget n)
   gone_on now {n = n} d unbound =
       reached_then _ _ _ (λ xs ys zs g h. goes_then total left now a.budget m.budget n.budget xs ys
       zs g h) p (reached_by (does_budgeted a.budget _ _ n unbound d))
 
-  pub gone_no_further : {e : DecodeError E} {n : View} → DoesUnder {V = ℕ} (GoesOn left n.budget)
-      (RejectsSkippingItems left) m (budgeted m.budget n) (Err e)
+  pub gone_no_further : {e : DecodeError E} {n : View} → DoesUnder {V = ℕ}
+      (FollowsInside left n.budget)
+      (RejectsSkippingItems left) m (with_budget m.budget n) (Err e)
       → (a.budget ≡ None → m.budget ≡ None) → DoesUnder (Taking (SkipsItems total))
-      (RejectsSkippingItems total) a (budgeted a.budget n) (Err e)
+      (RejectsSkippingItems total) a (with_budget a.budget n) (Err e)
   gone_no_further {n = n} d unbound =
       does_err _ _ _ (RejectsSkippingItems left m.budget) _ (λ xs ys z rest g s. g.rejects z rest s)
       p (does_budgeted a.budget _ _ n unbound d)
 
   pub all_gone : left ≡ 0 → DoesUnder {E = E} (Taking (SkipsItems total))
-      (RejectsSkippingItems total) a (budgeted a.budget m) (Ok tt)
+      (RejectsSkippingItems total) a (with_budget a.budget m) (Ok tt)
   all_gone none =
       does_ok _ _ (reached_as _ (SkipsItems total a.budget) (λ xs ys g.
       g.skips ys (subst (λ n. SkipsItems n m.budget ys ys) (sym none) (items_none m.budget ys))) p)

@@ -12,8 +12,9 @@ use Rattle.cbor4ii_items.specs.Laws.Steps.{moves_then, moves_err}
 use Rattle.cbor4ii_items.specs.Laws.{Steps.{kept_then, counted_none}, UnderStep.step_again}
 use Rattle.cbor4ii_items.specs.{Laws.UnderStep.{step_unbound, moves_around, no_step}, Moves.Kept}
 use Rattle.cbor4ii_items.specs.Moves.{Moves, is_failure}
-use Rattle.cbor4ii_tree.specs.{Cost.{Budget, step_in}, Does.{Accepting, Does, DoesApart, DoesUnder}}
-use Rattle.cbor4ii_tree.specs.{Does.{Spares, Lowers}, Rejections.Rejection}
+use Rattle.cbor4ii_tree.specs.{Basis.Cost.{Budget, step_in}}
+use Rattle.cbor4ii_tree.specs.{Inner.Does.{Accepting, Does, DoesApart, DoesUnder}}
+use Rattle.cbor4ii_tree.specs.{Inner.Does.{Spares, Lowers}, Calls.Rejections.Rejection}
 
 -- Some calls went well: what was taken is reported by P.
 pub record Reached (P : List ℕ → List ℕ → Type 0) (a m : View) : Type 0 where

@@ -7,10 +7,12 @@ use Rattle.std.specs.Int.{bytes_high_first}
 use Rattle.cbor4ii_items.specs.{Head.{ArgumentAfter, IsBytes, break}, Initial.{info_of, wide}}
 use Rattle.cbor4ii_items.specs.{Initial.initial, Laws.Heads.info-additional}
 use Rattle.cbor4ii_items.specs.Laws.{Heads.length-bytes_high_first, Prefixes.drop_more}
-use Rattle.cbor4ii_tree.specs.{Cost.Budget, HeadParts.ArgumentBy, Skipping.start_of}
-use Rattle.cbor4ii_tree.specs.Skipping.{trailing_of, rejection_of, Leads, RejectsSkippingAfter}
-use Rattle.cbor4ii_tree.specs.{InputError.InputError, declared.skip.initial.Start.Start}
-use Rattle.cbor4ii_tree.specs.{declared.skip.initial.After.After, Ahead.BeginsHead}
+use Rattle.cbor4ii_tree.specs.{Basis.Cost.Budget, Inner.HeadParts.ArgumentBy}
+use Rattle.cbor4ii_tree.specs.{Inner.Skipping.start_of}
+use Rattle.cbor4ii_tree.specs.Inner.Skipping.{trailing_of, rejection_of, HeadLeads}
+use Rattle.cbor4ii_tree.specs.Inner.Skipping.{RejectsSkippingAfter}
+use Rattle.cbor4ii_tree.specs.{Basis.InputError.InputError, declared.skip.initial.Start.Start}
+use Rattle.cbor4ii_tree.specs.{declared.skip.initial.After.After, Inner.Ahead.BeginsHead}
 use Rattle.cbor4ii_tree.specs.declared.skip.initial.After.TheVariants.{Nothing}
 use Rattle.cbor4ii_tree.proofs.heads.Inverse.{IsBytes-take, IsBytes-drop}
 use Rattle.cbor4ii_tree.proofs.skip_calls.Leading.{Opens, whole, content_leaf, goes, opens_by}
@@ -20,7 +22,7 @@ use Rattle.cbor4ii_tree.specs.declared.skip.initial.Start.TheVariants as start
 after_first : (size k : ℕ) (trailing : After) (b : ℕ) (bs : List ℕ) → size ≡ suc k → b < 256
     → k ≤ length bs → IsBytes (take k bs) → ((inner : Budget) (ys : List ℕ) (e : InputError)
     (rest : List ℕ) → RejectsSkippingAfter trailing inner ys e rest → b ≢ break) → ((inner : Budget)
-    (after : List ℕ) → Leads inner (b ∷ (bs ++ after)) trailing (drop k bs ++ after))
+    (after : List ℕ) → HeadLeads inner (b ∷ (bs ++ after)) trailing (drop k bs ++ after))
     → BeginsHead size trailing (b ∷ bs)
 after_first size k trailing b bs e small h fresh other f =
     subst (λ j. BeginsHead j trailing (b ∷ bs)) (sym e) (record {

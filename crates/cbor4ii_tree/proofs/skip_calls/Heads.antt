@@ -4,9 +4,11 @@ use Rattle.std.proofs.Common.{refl, sym, ◌∙◌, subst}
 use Rattle.cbor4ii_rw.specs.{View.View, Reader.Advances, declared.error.DecodeError.DecodeError}
 use Rattle.cbor4ii_items.specs.{Initial.initial, InputError.{InputError, input_error_of, is_read}}
 use Rattle.cbor4ii_items.specs.InputError.{is_depth_overflow}
-use Rattle.cbor4ii_tree.specs.{Cost.Budget, Rejections.Rejection, Does.{Accepting, Does}}
-use Rattle.cbor4ii_tree.specs.{Prefix.{Offers, FirstByteIs}, Skipping.start_of}
-use Rattle.cbor4ii_tree.specs.Skipping.{RejectsSkippingUnder, Leads, TakesFirst, rejection_of, Says}
+use Rattle.cbor4ii_tree.specs.{Basis.Cost.Budget, Calls.Rejections.Rejection}
+use Rattle.cbor4ii_tree.specs.{Inner.Does.{Accepting, Does}}
+use Rattle.cbor4ii_tree.specs.{Inner.BytesAhead.{Offers, FirstByteIs}, Inner.Skipping.start_of}
+use Rattle.cbor4ii_tree.specs.Inner.Skipping.{RejectsSkippingUnder, HeadLeads, TakesFirst}
+use Rattle.cbor4ii_tree.specs.Inner.Skipping.{rejection_of, SaysError}
 use Rattle.cbor4ii_tree.specs.declared.skip.initial.{Start.Start, After.After}
 use Rattle.cbor4ii_tree.proofs.skip_calls.Doing.{Reached, reached_by, reached_then, reached_as}
 use Rattle.cbor4ii_tree.proofs.skip_calls.Doing.{does_ok, does_err, does_reject}
@@ -21,17 +23,17 @@ module _ {inner : Budget} {b : ℕ} {a c d : View} (first : Reached (First b) a 
     {A : Accepting U} {S : Rejection} where
   pub first_err : {e : DecodeError E} → ((bs : List ℕ) (z : InputError) (rest : List ℕ)
       → S bs z rest → RejectsSkippingUnder inner (b ∷ bs) z rest) → Does {V = U} A S c d (Err e)
-      → Does {V = After} (Leads inner) (RejectsSkippingUnder inner) a d (Err e)
+      → Does {V = After} (HeadLeads inner) (RejectsSkippingUnder inner) a d (Err e)
   first_err f k =
       does_err _ _ _ S _ (λ xs ys z rest e m.
       subst (λ x. RejectsSkippingUnder inner x z rest) (sym e) (f ys z rest m)) first k
 
   pub first_ok : {trailing : After} {u : U} → ((bs ys : List ℕ) → A bs u ys
-      → Leads inner (b ∷ bs) trailing ys) → Does {E = E} A S c d (Ok u)
-      → Does {E = E} (Leads inner) (RejectsSkippingUnder inner) a d (Ok trailing)
+      → HeadLeads inner (b ∷ bs) trailing ys) → Does {E = E} A S c d (Ok u)
+      → Does {E = E} (HeadLeads inner) (RejectsSkippingUnder inner) a d (Ok trailing)
   first_ok {trailing = trailing} f k =
-      does_ok _ _ (reached_then _ _ (λ xs ys. Leads inner xs trailing ys) (λ xs ys zs e h. subst
-      (λ x. Leads inner x trailing zs) (sym e) (f ys zs h)) first (reached_by k))
+      does_ok _ _ (reached_then _ _ (λ xs ys. HeadLeads inner xs trailing ys) (λ xs ys zs e h. subst
+      (λ x. HeadLeads inner x trailing zs) (sym e) (f ys zs h)) first (reached_by k))
 
 -- ---- a first byte with which no item begins
 
@@ -47,12 +49,12 @@ taken_first start.Unsupported b none = cc
 taken_first _ b none = tt
 
 pub says_not : {E : Type 0} (o : Option InputError) (answer : Option (DecodeError E))
-    → Says o answer → ((e : DecodeError E) → answer ≡ Some e → ⊥) → o ≡ None
+    → SaysError o answer → ((e : DecodeError E) → answer ≡ Some e → ⊥) → o ≡ None
 says_not None answer h not = refl
 says_not (Some z) None h not = absurd h
 says_not (Some z) (Some e) h not = absurd (not e refl)
 
-says_some : {E : Type 0} (o : Option InputError) (e : DecodeError E) → Says o (Some e)
+says_some : {E : Type 0} (o : Option InputError) (e : DecodeError E) → SaysError o (Some e)
     → (z : InputError) × (o ≡ Some z) × (input_error_of e ≡ Some z) × (is_read e ≡ false)
     × (is_depth_overflow e ≡ false)
 says_some None e h = cc
@@ -79,11 +81,12 @@ module _ {b : ℕ} {a m c : View} (o : Offers 1 (FirstByteIs b) a m) (s : Start)
   ]
 
   pub first_rejected : (inner : Budget) {E : Type 0} {e : DecodeError E} → s ≡ start_of (initial b)
-      → ((TakesFirst s → ⊥) → c ≡ m) → Says (rejection_of s b) (Some e)
-      → Does {V = After} (Leads inner) (RejectsSkippingUnder inner) a c (Err e)
+      → ((TakesFirst s → ⊥) → c ≡ m) → SaysError (rejection_of s b) (Some e)
+      → Does {V = After} (HeadLeads inner) (RejectsSkippingUnder inner) a c (Err e)
   first_rejected inner {e = e} is left says =
       let z = says_some (rejection_of s b) e says in
-      does_reject Seen (Leads inner) (RejectsSkippingUnder inner) z.0 z.2 z.3 z.4 (λ xs ys h. subst
+      does_reject Seen (HeadLeads inner) (RejectsSkippingUnder inner) z.0 z.2 z.3 z.4
+      (λ xs ys h. subst
       (λ x. RejectsSkippingUnder inner x z.0 ys) (sym h.1) (begins_none inner b z.0 h.0 ys (subst
       (λ t. rejection_of t b ≡ Some z.0) is z.1) (subst (λ t. TakesFirst t → ys ≡ h.0) is h.2)
       (subst (λ t. (TakesFirst t → ⊥) → ys ≡ b ∷ h.0) is h.3))) (seen left)

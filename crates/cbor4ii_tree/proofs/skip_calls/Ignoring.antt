@@ -8,9 +8,12 @@ use Rattle.cbor4ii_items.specs.{Decoding.leaf_format, InputError.{InputError, in
 use Rattle.cbor4ii_items.specs.{InputError.is_out_of_memory, Laws.Calls.{ok, no_memory}}
 use Rattle.cbor4ii_items.specs.Laws.Steps.{moves_err}
 use Rattle.cbor4ii_tree.proofs.{parts.Rejecting.skips_by, skipping.Answer.not_both}
-use Rattle.cbor4ii_tree.specs.{SkippingRejects.SkippingRejects, Tree.bytes, Cost.skip_cost}
-use Rattle.cbor4ii_tree.specs.{Does.Does, Ignored.{ReadsIgnored, RejectsIgnored}, Skipping.SkipsOne}
-use Rattle.cbor4ii_tree.specs.{Skipping.RejectsSkippingOne, declared.ignored.IgnoredAny.IgnoredAny}
+use Rattle.cbor4ii_tree.specs.{Calls.SkippingRejects.SkippingRejects, Basis.Tree.bytes}
+use Rattle.cbor4ii_tree.specs.{Basis.Cost.skip_cost}
+use Rattle.cbor4ii_tree.specs.{Inner.Does.Does, Calls.Ignored.{ReadsIgnored}}
+use Rattle.cbor4ii_tree.specs.{Inner.Skipping.SkipsOne}
+use Rattle.cbor4ii_tree.specs.{Inner.Skipping.RejectsSkippingOne}
+use Rattle.cbor4ii_tree.specs.{declared.ignored.IgnoredAny.IgnoredAny}
 
 ignored_sound : {E : Type 0} (v : IgnoredAny) {u : Unit {0}} {a b : View} → Does {E = E} (λ xs _ ys.
     SkipsOne a.budget xs ys) (RejectsSkippingOne a.budget) a b (Ok u) → Sound ReadsIgnored a b v
@@ -50,13 +53,13 @@ ignored_complete {e = e} {a = a} {b = b} d =
 
 pub ignored_ok : {E : Type 0} (v : IgnoredAny) {u : Unit {0}} {a b : View}
     → Does {E = E} (λ xs _ ys. SkipsOne a.budget xs ys) (RejectsSkippingOne a.budget) a b (Ok u)
-    → b.bound + 1 ≤ a.bound → Decodes {E = E} (leaf_format ReadsIgnored RejectsIgnored) a b (Ok v)
+    → b.bound + 1 ≤ a.bound → Decodes {E = E} (leaf_format ReadsIgnored SkippingRejects) a b (Ok v)
 ignored_ok v d progress =
-    ok (leaf_format ReadsIgnored RejectsIgnored) d.moves.by (λ some. progress) (ignored_sound v d)
+    ok (leaf_format ReadsIgnored SkippingRejects) d.moves.by (λ some. progress) (ignored_sound v d)
 
 pub ignored_err : {U E : Type 0} {e : DecodeError E} {a b : View}
     → Does {V = U} (λ xs _ ys. SkipsOne a.budget xs ys) (RejectsSkippingOne a.budget) a b (Err e)
-    → is_out_of_memory e ≡ false → Decodes (leaf_format ReadsIgnored RejectsIgnored) a b (Err e)
+    → is_out_of_memory e ≡ false → Decodes (leaf_format ReadsIgnored SkippingRejects) a b (Err e)
 ignored_err {e = e} d spares = record {
   moves = moves_err d.moves;
   progress = λ some. tt;

@@ -13,23 +13,30 @@ use Rattle.cbor4ii_items.specs.Initial.{starts_map, starts_indefinite_map, bad_m
 use Rattle.cbor4ii_items.specs.Initial.{bad_tag, starts_simple, starts_bits, initial, simple_byte}
 use Rattle.cbor4ii_items.specs.{Initial.precision_byte, Budget.CostFits, Magnitude.number_of}
 use Rattle.cbor4ii_items.specs.Laws.Answering.{fits_zero}
-use Rattle.cbor4ii_tree.specs.Tree.{Tree, no_trees, no_pairs, int, string, chunked, array}
-use Rattle.cbor4ii_tree.specs.Tree.{array_indefinite, map_of, map_indefinite, tagged, simple, bits}
-use Rattle.cbor4ii_tree.specs.Tree.{count, pair_count, bytes, bytes_all, bytes_pairs, Loose}
-use Rattle.cbor4ii_tree.specs.Cost.{Budget, skip_cost, greatest_skip_cost, greatest_pair_skip_cost}
-use Rattle.cbor4ii_tree.specs.{InputError.{InputError, tag_name, ignored_any}, Rejections.Missing}
-use Rattle.cbor4ii_tree.specs.Rejections.{Rejection, AtHead, RejectsAtStep}
-use Rattle.cbor4ii_tree.specs.SkippingRejects.{Skippable, SkippingRejectsBy, SkippingRejects}
-use Rattle.cbor4ii_tree.specs.{SkippingRejects.SkippingRejectsFrom, HeadParts.ArgumentAt}
-use Rattle.cbor4ii_tree.specs.{HeadParts.{ArgumentBy, CutBy, DropsBytes, NoByte}, Runs.TakesLeaf}
-use Rattle.cbor4ii_tree.specs.Skipping.{start_of, RejectsSkippingOne, RejectsSkippingItems}
-use Rattle.cbor4ii_tree.specs.Skipping.{SkipsItems, SkipsUnder, SkipsAfter, RejectsSkippingAfter}
-use Rattle.cbor4ii_tree.specs.Skipping.{RejectsSkippingUnder, Leads, TakesFirst, rejection_of}
-use Rattle.cbor4ii_tree.specs.Skipping.{additional_of, head_name, members_of, trailing_of}
+use Rattle.cbor4ii_tree.specs.Basis.Tree.{Tree, no_trees, no_pairs, int, string, chunked, array}
+use Rattle.cbor4ii_tree.specs.Basis.Tree.{array_indefinite, map_of, map_indefinite, tagged, simple}
+use Rattle.cbor4ii_tree.specs.Basis.Tree.{bits}
+use Rattle.cbor4ii_tree.specs.Basis.Tree.{count, pair_count, bytes, bytes_all, bytes_pairs, Loose}
+use Rattle.cbor4ii_tree.specs.Basis.Cost.{Budget, skip_cost, greatest_skip_cost}
+use Rattle.cbor4ii_tree.specs.Basis.Cost.{greatest_pair_skip_cost}
+use Rattle.cbor4ii_tree.specs.{Basis.InputError.{InputError, tag_name, ignored_any}}
+use Rattle.cbor4ii_tree.specs.{Calls.Rejections.Missing}
+use Rattle.cbor4ii_tree.specs.Calls.Rejections.{Rejection, AtHead, RejectsAtStep}
+use Rattle.cbor4ii_tree.specs.Calls.SkippingRejects.{Skippable, SkippingRejectsBy, SkippingRejects}
+use Rattle.cbor4ii_tree.specs.{Calls.SkippingRejects.SkippingRejectsFrom}
+use Rattle.cbor4ii_tree.specs.{Inner.HeadParts.ArgumentAt}
+use Rattle.cbor4ii_tree.specs.{Inner.HeadParts.{ArgumentBy, CutBy, DropsBytes, NoByte}}
+use Rattle.cbor4ii_tree.specs.{Inner.Runs.SkipsLeaf}
+use Rattle.cbor4ii_tree.specs.Inner.Skipping.{start_of, RejectsSkippingOne, RejectsSkippingItems}
+use Rattle.cbor4ii_tree.specs.Inner.Skipping.{SkipsItems, SkipsUnder, SkipsAfter}
+use Rattle.cbor4ii_tree.specs.Inner.Skipping.{RejectsSkippingAfter}
+use Rattle.cbor4ii_tree.specs.Inner.Skipping.{RejectsSkippingUnder, HeadLeads, TakesFirst}
+use Rattle.cbor4ii_tree.specs.Inner.Skipping.{rejection_of}
+use Rattle.cbor4ii_tree.specs.Inner.Skipping.{additional_of, head_name, items_of_pairs, trailing_of}
 use Rattle.cbor4ii_tree.specs.declared.skip.initial.{Additional.TheVariants.Wide, After.After}
 use Rattle.cbor4ii_tree.specs.declared.skip.initial.After.TheVariants.{Nothing, Bytes, Items}
 use Rattle.cbor4ii_tree.specs.declared.skip.initial.After.TheVariants.{Twice, Indefinite}
-use Rattle.cbor4ii_tree.specs.declared.skip.initial.After.TheVariants.{IndefiniteMembers}
+use Rattle.cbor4ii_tree.specs.declared.skip.initial.After.TheVariants.{PairsToBreak}
 use Rattle.cbor4ii_tree.specs.{declared.skip.initial.Start.Start, Laws.Binds.step_up}
 use Rattle.cbor4ii_tree.specs.Laws.Wholes.{all_skippable, all_pairs_skippable}
 use Rattle.cbor4ii_tree.proofs.{answers.Nesting.skipping_by_parts, heads.Inverse.number_of_bytes}
@@ -153,7 +160,7 @@ first_argument _ b bs is says = cc
 
 -- ---- items that hold no other
 
-pub whole : (inner : Budget) (xs ys : List ℕ) → TakesLeaf xs ys → Leads inner xs Nothing ys
+pub whole : (inner : Budget) (xs ys : List ℕ) → SkipsLeaf xs ys → HeadLeads inner xs Nothing ys
 whole inner xs ys (t, l, is) = record {
   skips = λ rest e budget step. (
     t,
@@ -170,10 +177,10 @@ whole inner xs ys (t, l, is) = record {
 module _ (b : ℕ) (small : b < 256) where
   -- so many bytes after the first are all of the item
   pub bytes_leaf : (k : ℕ) (bs ys : List ℕ) → start_of (initial b) ≡ start.Bytes k
-      → DropsBytes k bs ys → TakesLeaf (b ∷ bs) ys
+      → DropsBytes k bs ys → SkipsLeaf (b ∷ bs) ys
   bytes_leaf k bs ys e d = by_row (initial b) refl e
     where
-      by_row : (i : Initial) → initial b ≡ i → start_of i ≡ start.Bytes k → TakesLeaf (b ∷ bs) ys
+      by_row : (i : Initial) → initial b ≡ i → start_of i ≡ start.Bytes k → SkipsLeaf (b ∷ bs) ys
       by_row (starts_int s w) is e =
           let size : k ≡ byte_count w = cc in
           let m = row b (starts_int s w) small is in
@@ -215,7 +222,7 @@ module _ (b : ℕ) (small : b < 256) where
       by_row _ is f = cc
 
   string_leaf : (k : Kind) (w : Width) (bs ys zs : List ℕ) (n : ℕ) → HeadFits w n
-      → b ∷ bs ≡ head (kind_major k) n w ++ ys → DropsBytes n ys zs → TakesLeaf (b ∷ bs) zs
+      → b ∷ bs ≡ head (kind_major k) n w ++ ys → DropsBytes n ys zs → SkipsLeaf (b ∷ bs) zs
   string_leaf k w bs ys zs n fits is d = (
     string k w d.content,
     (subst (HeadFits w) (sym d.size) fits, refl),
@@ -223,10 +230,10 @@ module _ (b : ℕ) (small : b < 256) where
   )
 
   pub content_leaf : (bs ys zs : List ℕ) (n : ℕ) → start_of (initial b) ≡ start.Content
-      → ArgumentBy (info_of (b % 32)) b bs n ys → DropsBytes n ys zs → TakesLeaf (b ∷ bs) zs
+      → ArgumentBy (info_of (b % 32)) b bs n ys → DropsBytes n ys zs → SkipsLeaf (b ∷ bs) zs
   content_leaf bs ys zs n s h d = by_row (initial b) refl s
     where
-      by_row : (i : Initial) → initial b ≡ i → start_of i ≡ start.Content → TakesLeaf (b ∷ bs) zs
+      by_row : (i : Initial) → initial b ≡ i → start_of i ≡ start.Content → SkipsLeaf (b ∷ bs) zs
       by_row (starts_string k w) is e =
           let m = row b (starts_string k w) small is in
           let a = subst (λ j. ArgumentBy j b bs n ys) (head_info (kind_major k) w b m) h in
@@ -246,15 +253,15 @@ module _ (b : ℕ) (small : b < 256) where
       by_row _ is e = cc
 
   -- an array or a map without parts
-  pub empty_leaf : (s : Start) (bs : List ℕ) → (s ≡ start.Items) ⊎ (s ≡ start.Members)
-      → start_of (initial b) ≡ s → b % 32 ≡ 0 → TakesLeaf (b ∷ bs) bs
+  pub empty_leaf : (s : Start) (bs : List ℕ) → (s ≡ start.Items) ⊎ (s ≡ start.Pairs)
+      → start_of (initial b) ≡ s → b % 32 ≡ 0 → SkipsLeaf (b ∷ bs) bs
   empty_leaf s bs empty e none = by_row (initial b) refl (subst Empties (sym e) empty)
     where
       Empties : Start → Type 0
-      Empties s = (s ≡ start.Items) ⊎ (s ≡ start.Members)
+      Empties s = (s ≡ start.Items) ⊎ (s ≡ start.Pairs)
 
       made : (major : ℕ) (w : Width) (t : Tree) → HeadByte major w b → (HeadFits w 0 → Loose t)
-          → skip_cost t ≡ 1 → bytes t ≡ head major 0 w ++ [] → TakesLeaf (b ∷ bs) bs
+          → skip_cost t ≡ 1 → bytes t ≡ head major 0 w ++ [] → SkipsLeaf (b ∷ bs) bs
       made major w t m loose cost is =
           let a = argument_low w b bs (head_info major w b m) (omega (arith, none)) in (
             t,
@@ -263,7 +270,7 @@ module _ (b : ℕ) (small : b < 256) where
                 ∙ ap (λ r. r ++ bs) (sym (is ∙ append-nil (head major 0 w))),
           )
 
-      by_row : (i : Initial) → initial b ≡ i → Empties (start_of i) → TakesLeaf (b ∷ bs) bs
+      by_row : (i : Initial) → initial b ≡ i → Empties (start_of i) → SkipsLeaf (b ∷ bs) bs
       by_row (starts_array w) is h =
           made 4 w (array w no_trees) (row b (starts_array w) small is) (λ f. (f, tt)) refl refl
       by_row (starts_map w) is h =
@@ -278,12 +285,12 @@ ended b part ys rest e f = ap₂ ◌∷◌ e (f ∙ sym (append_assoc part (brea
 -- no argument belongs to such a head
 abbrev pub Opens : Start → Type 0
 Opens start.Indefinite = Unit {0}
-Opens start.IndefiniteMembers = Unit {0}
+Opens start.PairsToBreak = Unit {0}
 Opens _ = ⊥
 
 module _ (inner : Budget) (b : ℕ) (small : b < 256) where
   pub leads_bytes : (k : ℕ) (bs ys : List ℕ) → start_of (initial b) ≡ start.Bytes k
-      → DropsBytes k bs ys → Leads inner (b ∷ bs) Nothing ys
+      → DropsBytes k bs ys → HeadLeads inner (b ∷ bs) Nothing ys
   leads_bytes k bs ys e d = whole inner (b ∷ bs) ys (bytes_leaf b small k bs ys e d)
 
   -- ---- items that hold others
@@ -300,19 +307,19 @@ module _ (inner : Budget) (b : ℕ) (small : b < 256) where
   )
 
   -- twice so many items, whether a number counts these or not
-  members_skipped : (n : ℕ) (ys rest : List ℕ) → SkipsAfter (members_of n) inner ys rest
+  pairs_skipped : (n : ℕ) (ys rest : List ℕ) → SkipsAfter (items_of_pairs n) inner ys rest
       → SkipsItems (2 * n) inner ys rest
-  members_skipped n ys rest = by_size (ltb n (2 ^ 63))
+  pairs_skipped n ys rest = by_size (ltb n (2 ^ 63))
     where
       by_size : (t : Bool) → SkipsAfter (cond t (Items (2 * n)) (Twice n)) inner ys rest
           → SkipsItems (2 * n) inner ys rest
       by_size true h = h
       by_size false h = h
 
-  members_stop : (n : ℕ) (ys : List ℕ) (e : InputError) (rest : List ℕ)
-      → RejectsSkippingAfter (members_of n) inner ys e rest
+  pairs_stop : (n : ℕ) (ys : List ℕ) (e : InputError) (rest : List ℕ)
+      → RejectsSkippingAfter (items_of_pairs n) inner ys e rest
       → RejectsSkippingItems (2 * n) inner ys e rest
-  members_stop n ys e rest = by_size (ltb n (2 ^ 63))
+  pairs_stop n ys e rest = by_size (ltb n (2 ^ 63))
     where
       by_size : (t : Bool) → RejectsSkippingAfter (cond t (Items (2 * n)) (Twice n)) inner ys e rest
           → RejectsSkippingItems (2 * n) inner ys e rest
@@ -324,7 +331,7 @@ module _ (inner : Budget) (b : ℕ) (small : b < 256) where
   Goes name lead =
       ((bs : List ℕ) (e : InputError) (rest : List ℕ) → CutBy name (info_of (b % 32)) bs e rest
       → RejectsSkippingUnder inner (b ∷ bs) e rest) × ((bs ys : List ℕ) (n : ℕ)
-      → ArgumentBy (info_of (b % 32)) b bs n ys → Leads inner (b ∷ bs) (lead n) ys)
+      → ArgumentBy (info_of (b % 32)) b bs n ys → HeadLeads inner (b ∷ bs) (lead n) ys)
 
   -- by a head with an argument
   headed : (i : Initial) (name : List ℕ) (major : ℕ) (w : Width) (lead : ℕ → After) (S : ℕ
@@ -354,7 +361,7 @@ module _ (inner : Budget) (b : ℕ) (small : b < 256) where
 
   -- by a head alone
   opens : (i : Initial) → initial b ≡ i → Opens (start_of i) → (ys : List ℕ)
-      → Leads inner (b ∷ ys) (trailing_of (start_of i) 0) ys
+      → HeadLeads inner (b ∷ ys) (trailing_of (start_of i) 0) ys
   opens (starts_chunks k) is o ys = record {
     skips = λ rest h. let all = all_skippable h.0 inner h.1 in
         led (b ∷ ys) rest (chunked k h.0) (greatest_skip_cost h.0) all.0 refl all.1
@@ -376,13 +383,13 @@ module _ (inner : Budget) (b : ℕ) (small : b < 256) where
   opens _ is o ys = absurd o
 
   alone : (major : ℕ) (lead : After) → b ≡ indefinite_head major
-      → ((ys : List ℕ) → Leads inner (b ∷ ys) lead ys) → Goes ignored_any (λ n. lead)
+      → ((ys : List ℕ) → HeadLeads inner (b ∷ ys) lead ys) → Goes ignored_any (λ n. lead)
   alone major lead is leads =
       let low : b % 32 ≡ 31 = low_byte major 31 b is (omega arith) in
       let info : info_of (b % 32) ≡ indefinite_ended = rw low refl in (
         λ bs e rest h. absurd (subst (λ i. CutBy ignored_any i bs e rest) info h),
         λ bs ys n h. let same : ys ≡ bs = subst (λ i. ArgumentBy i b bs n ys) info h in
-            subst (λ zs. Leads inner (b ∷ zs) lead ys) same (leads ys),
+            subst (λ zs. HeadLeads inner (b ∷ zs) lead ys) same (leads ys),
       )
 
   -- ---- by what begins
@@ -405,10 +412,11 @@ module _ (inner : Budget) (b : ℕ) (small : b < 256) where
       (subst (HeadFits w) (sym h.1) fits, all.0) refl all.1
       (counted 4 n (count h.0) w b bs ys (bytes_all h.0) rest here h.1 h.3))
   by_row (starts_map w) is r none =
-      headed (starts_map w) ignored_any 5 w members_of (λ n. RejectsSkippingItems (2 * n) inner) is
-      (row b (starts_map w) small is) (λ bs e rest h. h) (λ n ys e rest h. members_stop n ys e rest
+      headed (starts_map w) ignored_any 5 w items_of_pairs (λ n. RejectsSkippingItems (2 * n) inner)
+      is
+      (row b (starts_map w) small is) (λ bs e rest h. h) (λ n ys e rest h. pairs_stop n ys e rest
       h)
-      (λ bs ys n fits here rest h. let k = members_skipped n ys rest h in
+      (λ bs ys n fits here rest h. let k = pairs_skipped n ys rest h in
       let p = paired (Skippable inner) n k.0 k.1 k.2 in
       let all = all_pairs_skippable p.0 inner p.2 in
       led (b ∷ bs) rest (map_of w p.0) (greatest_pair_skip_cost p.0)
@@ -427,7 +435,7 @@ module _ (inner : Budget) (b : ℕ) (small : b < 256) where
       alone 4 Indefinite (row b starts_indefinite_array small is)
       (opens starts_indefinite_array is tt)
   by_row starts_indefinite_map is r none =
-      alone 5 IndefiniteMembers (row b starts_indefinite_map small is)
+      alone 5 PairsToBreak (row b starts_indefinite_map small is)
       (opens starts_indefinite_map is tt)
   by_row _ is r none = cc
 
@@ -437,6 +445,7 @@ module _ (inner : Budget) (b : ℕ) (small : b < 256) where
       → Goes (head_name s) (trailing_of s)) is (by_row (initial b) refl)
 
   pub opens_by : (s : Start) → start_of (initial b) ≡ s → Opens s → (ys : List ℕ)
-      → Leads inner (b ∷ ys) (trailing_of s 0) ys
-  opens_by s is = subst (λ s. Opens s → (ys : List ℕ) → Leads inner (b ∷ ys) (trailing_of s 0) ys)
+      → HeadLeads inner (b ∷ ys) (trailing_of s 0) ys
+  opens_by s is = subst (λ s. Opens s → (ys : List ℕ) → HeadLeads inner (b ∷ ys) (trailing_of s 0)
+      ys)
       is (opens (initial b) refl)

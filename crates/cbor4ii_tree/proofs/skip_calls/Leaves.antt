@@ -4,18 +4,22 @@ use Rattle.std.proofs.Common.{◌∷◌, ◌++◌, length, get_or, take, drop, r
 use Rattle.std.proofs.Common.{arith, true, false, Bool, cond, ltb, ltb-true, eqb, eqb-true}
 use Rattle.std.proofs.Common.{append-nil, inl, inr, nat_eq, drop-cons, length-drop}
 use Rattle.std.proofs.{Math.Seq.{take-add, take-length}, lemmas.Bool.cases_eq}
-use Rattle.std.proofs.lemmas.List.{length-take-le}
+use Rattle.std.proofs.lemmas.List.{length-take-le, get_or-take, get_or-drop}
 use Rattle.cbor4ii_items.specs.{Budget.CostFits, Head.IsBytes, Initial.initial}
 use Rattle.cbor4ii_items.specs.Laws.Contents.{first_bytes}
 use Rattle.cbor4ii_tree.proofs.{heads.Inverse.{IsBytes-take, IsBytes-drop}, parts.Pushed.push}
 use Rattle.cbor4ii_tree.proofs.parts.Pushed.{count-push, each-push, bytes-push}
 use Rattle.cbor4ii_tree.proofs.skip_calls.Leading.{bytes_leaf, content_leaf, short_argument}
 use Rattle.cbor4ii_tree.proofs.skip_calls.Leading.{empty_leaf}
-use Rattle.cbor4ii_tree.specs.{Ahead.{leaf_by, leaf_bytes}, Cost.Budget, HeadParts.DropsBytes}
-use Rattle.cbor4ii_tree.specs.{Rejections.Each, Runs.{IsLeaf, TakesLeaf, IsLeafAt}}
-use Rattle.cbor4ii_tree.specs.{Runs.{BeginsRun, TakesRun}, Skipping.{start_of, SkipsItems}}
-use Rattle.cbor4ii_tree.specs.{SkippingRejects.Skippable, Tree.{Trees, no_trees, tree, count}}
-use Rattle.cbor4ii_tree.specs.{Tree.{bytes, bytes_all}, declared.ahead.TheConstants.LEAF_BYTES}
+use Rattle.cbor4ii_tree.specs.{Inner.Ahead.{leaf_by, leaf_bytes, AllShort}, Basis.Cost.Budget}
+use Rattle.cbor4ii_tree.specs.{Inner.HeadParts.DropsBytes}
+use Rattle.cbor4ii_tree.specs.{Calls.Rejections.Each, Inner.Runs.{IsItemLeaf, SkipsLeaf, IsLeafAt}}
+use Rattle.cbor4ii_tree.specs.{Inner.Runs.{BeginsRun, SkipsRun}}
+use Rattle.cbor4ii_tree.specs.{Inner.Skipping.{start_of, SkipsItems}}
+use Rattle.cbor4ii_tree.specs.{Calls.SkippingRejects.Skippable}
+use Rattle.cbor4ii_tree.specs.{Basis.Tree.{Trees, no_trees, tree, count}}
+use Rattle.cbor4ii_tree.specs.{Basis.Tree.{bytes, bytes_all}}
+use Rattle.cbor4ii_tree.specs.{declared.ahead.TheConstants.LEAF_BYTES}
 use Rattle.cbor4ii_tree.specs.declared.skip.initial.Start.{Start}
 use Rattle.cbor4ii_tree.specs.declared.skip.initial.Start.TheVariants as start
 
@@ -36,18 +40,18 @@ zero_is false low k e h = absurd (omega (arith, h))
 
 -- the first byte, and as many after it as it says
 leaf_here : (b k : ℕ) (bs : List ℕ) → b < 256 → leaf_bytes b ≡ suc k → length bs ≡ k → IsBytes bs
-    → TakesLeaf (b ∷ bs) []
+    → SkipsLeaf (b ∷ bs) []
 unfolding leaf_bytes
 leaf_here b k bs small is size fresh = by_start (start_of (initial b)) refl is
   where
     all : (j : ℕ) → k ≡ j → DropsBytes j bs []
     all j e = record { content = bs; size = size ∙ e; bytes = fresh; is = sym (append-nil bs) }
 
-    nothing : k ≡ 0 → TakesLeaf (b ∷ bs) bs → TakesLeaf (b ∷ bs) []
-    nothing e l = subst (TakesLeaf (b ∷ bs)) (no_bytes bs k size e) l
+    nothing : k ≡ 0 → SkipsLeaf (b ∷ bs) bs → SkipsLeaf (b ∷ bs) []
+    nothing e l = subst (SkipsLeaf (b ∷ bs)) (no_bytes bs k size e) l
 
     by_start : (s : Start) → start_of (initial b) ≡ s → leaf_by s (b % 32) ≡ suc k
-        → TakesLeaf (b ∷ bs) []
+        → SkipsLeaf (b ∷ bs) []
     by_start (start.Bytes j) e h = bytes_leaf b small j bs [] e (all j (omega (arith, h)))
     by_start start.Content e h =
         let l = low_is (ltb (b % 32) 24) (b % 32) k refl h in
@@ -56,9 +60,9 @@ leaf_here b k bs small is size fresh = by_start (start_of (initial b)) refl is
     by_start start.Items e h =
         let z = zero_is (eqb (b % 32) 0) (b % 32) k refl h in
         nothing z.0 (empty_leaf b small start.Items bs (inl refl) e z.1)
-    by_start start.Members e h =
+    by_start start.Pairs e h =
         let z = zero_is (eqb (b % 32) 0) (b % 32) k refl h in
-        nothing z.0 (empty_leaf b small start.Members bs (inr refl) e z.1)
+        nothing z.0 (empty_leaf b small start.Pairs bs (inr refl) e z.1)
     by_start _ e h = absurd (omega (arith, h))
 
 pub shown_bytes : (shown : List ℕ) → ((i : ℕ) → get_or shown i 0 < 256) → IsBytes shown
@@ -100,7 +104,7 @@ run_more n at size shown some h l =
       run = (
         push ts t,
         count-push ts t ∙ ap (λ j. j + 1) h.run.1,
-        each-push IsLeaf ts t h.run.2 l.leaf.1,
+        each-push IsItemLeaf ts t h.run.2 l.leaf.1,
         take-add at size shown ∙ (ap₂ ◌++◌ h.run.3 l.leaf.2 ∙ sym joined),
       );
     }
@@ -116,24 +120,52 @@ run_first size shown some l =
     let end : 0 + size ≡ size = omega arith in
     subst (λ j. BeginsRun 1 j shown) end (run_more 0 0 size shown some (run_none shown) l)
 
--- two of one byte each
-pub run_two : (n at size : ℕ) (shown : List ℕ) → size ≡ 1 → BeginsRun n at shown
-    → IsLeafAt at size shown → IsLeafAt (at + 1) 1 shown → BeginsRun (n + 2) (at + 2) shown
-run_two n at size shown one h l m =
-    let first = run_more n at 1 shown (omega arith) h (subst (λ k. IsLeafAt at k shown) one l) in
-    let both = run_more (n + 1) (at + 1) 1 shown (omega arith) first m in
+-- two, where so many bytes are left that any two would stand whole
+pub run_two : (n at size next : ℕ) (shown : List ℕ) → ((i : ℕ) → get_or shown i 0 < 256)
+    → 48 < length shown - at → size ≡ leaf_bytes (get_or shown at 0) → size ≤ 24 → size ≢ 0
+    → next ≡ leaf_bytes (get_or shown (at + size) 0) → next ≤ 24 → next ≢ 0 → BeginsRun n at shown
+    → BeginsRun (n + 2) (at + (size + next)) shown
+run_two n at size next shown small room is most some then most_then some_then h =
+    let l : IsLeafAt at size shown =
+    leaf_at at size shown (omega (arith, room)) is (omega (arith, room, most)) small some in
+    let m : IsLeafAt (at + size) next shown =
+    leaf_at (at + size) next shown (omega (arith, room, most)) then
+    (omega (arith, room, most, most_then)) small some_then in
+    let first = run_more n at size shown some h l in
+    let both = run_more (n + 1) (at + size) next shown some_then first m in
     let count : n + 1 + 1 ≡ n + 2 = omega arith in
-    let end : at + 1 + 1 ≡ at + 2 = omega arith in
-    subst (λ j. BeginsRun j (at + 2) shown) count
+    let end : at + size + next ≡ at + (size + next) = omega arith in
+    subst (λ j. BeginsRun j (at + (size + next)) shown) count
     (subst (λ j. BeginsRun (n + 1 + 1) j shown) end both)
 
-leaves_fit : (budget : Budget) (ts : Trees) → CostFits 1 budget → Each IsLeaf ts
+-- so many of one byte each
+pub run_short : (k n at : ℕ) (shown : List ℕ) → ((i : ℕ) → get_or shown i 0 < 256)
+    → at + k ≤ length shown
+    → ((i : ℕ) → i < k → leaf_bytes (get_or shown (at + i) 0) ≡ 1) → BeginsRun n at shown
+    → BeginsRun (n + k) (at + k) shown
+run_short zero n at shown small within short h =
+    let count : n ≡ n + 0 = omega arith in
+    let end : at ≡ at + 0 = omega arith in
+    subst (λ j. BeginsRun j (at + 0) shown) count (subst (λ j. BeginsRun n j shown) end h)
+run_short (suc k) n at shown small within short h =
+    let before =
+    run_short k n at shown small (omega (arith, within)) (λ i lt. short i (omega (arith, lt))) h in
+    let leaf : IsLeafAt (at + k) 1 shown =
+    leaf_at (at + k) 1 shown (omega (arith, within)) (sym (short k (omega arith)))
+    (omega (arith, within)) small (omega arith) in
+    let after = run_more (n + k) (at + k) 1 shown (omega arith) before leaf in
+    let count : n + k + 1 ≡ n + suc k = omega arith in
+    let end : at + k + 1 ≡ at + suc k = omega arith in
+    subst (λ j. BeginsRun j (at + suc k) shown) count
+    (subst (λ j. BeginsRun (n + k + 1) j shown) end after)
+
+leaves_fit : (budget : Budget) (ts : Trees) → CostFits 1 budget → Each IsItemLeaf ts
     → Each (Skippable budget) ts
 leaves_fit budget no_trees fits h = tt
 leaves_fit budget (tree t ts) fits h =
     ((h.0.0, subst (λ c. CostFits c budget) (sym h.0.1) fits), leaves_fit budget ts fits h.1)
 
-pub run_items : (n : ℕ) (budget : Budget) (xs ys : List ℕ) → CostFits 1 budget → TakesRun n xs ys
+pub run_items : (n : ℕ) (budget : Budget) (xs ys : List ℕ) → CostFits 1 budget → SkipsRun n xs ys
     → SkipsItems n budget xs ys
 run_items n budget xs ys fits (ts, count, each, is) =
     (ts, count, leaves_fit budget ts fits each, is)
@@ -178,3 +210,31 @@ over_24 b lt = none_over refl b lt
 
 pub most_leaf_bytes : (b : ℕ) → b < 256 → leaf_bytes b ≤ 24
 most_leaf_bytes b lt = omega (arith, over_24 b lt)
+
+-- ---- integers of one byte
+
+all_short : agree_below (λ k. cond (ltb (k % 32) 24) (leaf_bytes k) 1) (λ _. 1) 64 ≡ true
+    → (b : ℕ) → b < 64 → cond (ltb (b % 32) 24) (leaf_bytes b) 1 ≡ 1
+all_short h b lt = agree_at _ _ 64 h b lt
+
+-- by computing, as the table
+short_below : (b : ℕ) → b < 64 → cond (ltb (b % 32) 24) (leaf_bytes b) 1 ≡ 1
+unfolding agree_below leaf_bytes initial
+short_below b lt = all_short refl b lt
+
+pub short_leaf : (b : ℕ) → (ltb b 64 && ltb (b % 32) 24) ≡ true → leaf_bytes b ≡ 1
+short_leaf b h =
+    let both = both_of (ltb b 64) (ltb (b % 32) 24) h in
+    subst (λ t. cond t (leaf_bytes b) 1 ≡ 1) both.1 (short_below b (ltb-true b 64 both.0))
+
+-- those of a part
+pub short_inside : (k m at : ℕ) (shown : List ℕ) → m ≡ k → at + k ≤ length shown
+    → AllShort (take m (drop at shown)) → (i : ℕ) → i < k → leaf_bytes (get_or shown (at + i) 0) ≡ 1
+short_inside k m at shown same within short i lt =
+    let part = drop at shown in
+    let size : length (take k part) ≡ k =
+    length-take-le k part (omega (arith, within, length-drop at shown)) in
+    let is : get_or (take k part) i 0 ≡ get_or shown (at + i) 0 =
+    get_or-take k part i 0 lt ∙ get_or-drop at shown i 0 in
+    ap leaf_bytes (sym is)
+    ∙ subst (λ j. AllShort (take j part)) same short i (omega (arith, lt, size))

@@ -3,11 +3,13 @@ use Rattle.std.proofs.Common.{◌≡◌, ℕ, zero, suc, ◌+◌, ◌*◌, ◌/�
 use Rattle.std.proofs.Common.{false, cond, not, inl, inr, refl, sym, ap, ap₂, ◌∙◌, arith}
 use Rattle.std.proofs.Common.{append_assoc, append-nil}
 use Rattle.cbor4ii_items.specs.Head.{break}
-use Rattle.cbor4ii_tree.specs.{Cost.Budget, InputError.InputError, Rejections.{Each, EachPair}}
-use Rattle.cbor4ii_tree.specs.Skipping.{SkipsItems, SkipsMembers, RejectsSkippingMembers}
-use Rattle.cbor4ii_tree.specs.Ahead.{in_map, IsIndefinite, RejectsSome}
-use Rattle.cbor4ii_tree.specs.{SkippingRejects.Skippable, Tree.{Tree, Trees, no_trees, tree, Pairs}}
-use Rattle.cbor4ii_tree.specs.Tree.{no_pairs, pair, count, bytes, bytes_all, bytes_pairs}
+use Rattle.cbor4ii_tree.specs.{Basis.Cost.Budget, Basis.InputError.InputError}
+use Rattle.cbor4ii_tree.specs.{Calls.Rejections.{Each, EachPair}}
+use Rattle.cbor4ii_tree.specs.Inner.Skipping.{SkipsItems, SkipsPairs, RejectsSkippingPairs}
+use Rattle.cbor4ii_tree.specs.Inner.Ahead.{in_map, IsIndefinite, RejectsSome}
+use Rattle.cbor4ii_tree.specs.{Calls.SkippingRejects.Skippable}
+use Rattle.cbor4ii_tree.specs.{Basis.Tree.{Tree, Trees, no_trees, tree, Pairs}}
+use Rattle.cbor4ii_tree.specs.Basis.Tree.{no_pairs, pair, count, bytes, bytes_all, bytes_pairs}
 use Rattle.cbor4ii_tree.proofs.{skip_calls.Parts.{items_none, items_join}, parts.Prefixes.paired}
 
 odd_pairs : (W : Tree → Type 0) (n : ℕ) (ts : Trees) → count ts ≡ 2 * n + 1 → Each W ts
@@ -50,7 +52,7 @@ keyed_kept keyed m budget xs ys zs even h k =
     (h.0 + m, omega (arith, h.1, even), items_join h.0 m budget xs ys zs h.2 k)
 
 pub keyed_done : (keyed : Bool) (budget : Budget) (xs ys zs : List ℕ) → Keyed keyed budget xs ys
-    → IsIndefinite (in_map keyed) × (ys ≡ break ∷ zs) → SkipsMembers budget xs zs
+    → IsIndefinite (in_map keyed) × (ys ≡ break ∷ zs) → SkipsPairs budget xs zs
 keyed_done true budget xs ys zs h e = absurd e.0
 keyed_done false budget xs ys zs (n, even, k) e =
     let r = paired (Skippable budget) (n / 2) k.0 (omega (arith, k.1, even)) k.2 in
@@ -58,7 +60,7 @@ keyed_done false budget xs ys zs (n, even, k) e =
 
 pub keyed_stop : (keyed : Bool) (budget : Budget) (xs ys : List ℕ) (e : InputError)
     (rest : List ℕ) → Keyed keyed budget xs ys → RejectsSome (in_map keyed) budget ys e rest
-    → RejectsSkippingMembers budget xs e rest
+    → RejectsSkippingPairs budget xs e rest
 keyed_stop false budget xs ys e rest (n, even, k) s =
     let r = paired (Skippable budget) (n / 2) k.0 (omega (arith, k.1, even)) k.2 in record {
       prefix = r.0;

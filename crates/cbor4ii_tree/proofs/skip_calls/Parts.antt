@@ -5,12 +5,13 @@ use Rattle.cbor4ii_items.specs.{Head.break, Strings.ReadsBreak}
 use Rattle.cbor4ii_tree.proofs.parts.{Joined.{join, count-join, each-join, bytes-join}, Pushed.push}
 use Rattle.cbor4ii_tree.proofs.parts.Pushed.{count-push, each-push, bytes-push}
 use Rattle.cbor4ii_tree.proofs.parts.{Rejecting.in_count}
-use Rattle.cbor4ii_tree.specs.Skipping.{SkipsOne, RejectsSkippingOne}
-use Rattle.cbor4ii_tree.specs.Skipping.{SkipsItems, RejectsSkippingItems, SkipsIndefinite}
-use Rattle.cbor4ii_tree.specs.Skipping.{RejectsSkippingIndefinite}
-use Rattle.cbor4ii_tree.specs.{SkippingRejects.Skippable, Cost.Budget, InputError.InputError}
-use Rattle.cbor4ii_tree.specs.{Ahead.NotBreak, Rejections.{Rejection, Each, NoBreak}}
-use Rattle.cbor4ii_tree.specs.Tree.{Trees, no_trees, tree, count, bytes, bytes_all}
+use Rattle.cbor4ii_tree.specs.Inner.Skipping.{SkipsOne, RejectsSkippingOne}
+use Rattle.cbor4ii_tree.specs.Inner.Skipping.{SkipsItems, RejectsSkippingItems, SkipsIndefinite}
+use Rattle.cbor4ii_tree.specs.Inner.Skipping.{RejectsSkippingIndefinite}
+use Rattle.cbor4ii_tree.specs.{Calls.SkippingRejects.Skippable, Basis.Cost.Budget}
+use Rattle.cbor4ii_tree.specs.{Basis.InputError.InputError}
+use Rattle.cbor4ii_tree.specs.{Inner.Ahead.NotBreak, Calls.Rejections.{Rejection, Each, NoBreak}}
+use Rattle.cbor4ii_tree.specs.Basis.Tree.{Trees, no_trees, tree, count, bytes, bytes_all}
 
 -- whole items
 abbrev pub SkippedEach : Budget → List ℕ → List ℕ → Type 0

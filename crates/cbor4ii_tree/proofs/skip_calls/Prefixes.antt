@@ -8,12 +8,15 @@ use Rattle.cbor4ii_rw.specs.declared.error.Len.TheVariants.{Small, Big}
 use Rattle.cbor4ii_rw.specs.declared.error.DecodeError.TheVariants.{Eof}
 use Rattle.cbor4ii_items.specs.{Head.IsBytes, InputError.{eof, len_of}, Laws.Contents.lends_prefix}
 use Rattle.cbor4ii_items.specs.Laws.Running.{shows_kept}
-use Rattle.cbor4ii_tree.specs.{Prefix.{Offers, FirstByteIs, Ready}, HeadParts.DropsSome}
-use Rattle.cbor4ii_tree.specs.{HeadParts.{TakesByte, NoByte}, Ahead.{Sees, TakesAhead, TakesHead}}
-use Rattle.cbor4ii_tree.specs.{Ahead.{Passes, NeverRejects}, declared.skip.initial.After.After}
+use Rattle.cbor4ii_tree.specs.{Inner.BytesAhead.{Offers, FirstByteIs, Ready}}
+use Rattle.cbor4ii_tree.specs.{Inner.HeadParts.DropsSome}
+use Rattle.cbor4ii_tree.specs.{Inner.HeadParts.{TakesByte, NoByte}}
+use Rattle.cbor4ii_tree.specs.{Inner.Ahead.{Sees, TakesAhead, TakesHead}}
+use Rattle.cbor4ii_tree.specs.{Inner.Ahead.{Passes, NeverRejects}}
+use Rattle.cbor4ii_tree.specs.{declared.skip.initial.After.After}
 use Rattle.cbor4ii_tree.specs.declared.ahead.{Among.Among, Ahead.{Ahead, TheVariants.{Run, Head}}}
-use Rattle.cbor4ii_tree.specs.{declared.ahead.Ahead.TheVariants.Break, Rejections.Missing}
-use Rattle.cbor4ii_tree.specs.Does.{Does, DoesApart}
+use Rattle.cbor4ii_tree.specs.{declared.ahead.Ahead.TheVariants.Break, Calls.Rejections.Missing}
+use Rattle.cbor4ii_tree.specs.Inner.Does.{Does, DoesApart}
 use Rattle.cbor4ii_tree.proofs.skip_calls.Doing.{Reached, does_ok, does_reject, apart_leaf}
 use Rattle.cbor4ii_tree.proofs.skip_calls.Bytes.{len_is}
 

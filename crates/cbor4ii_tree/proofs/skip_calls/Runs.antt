@@ -9,17 +9,25 @@ use Rattle.cbor4ii_rw.specs.{View.View, Reader.{KeepsAllButBudget, StepsIn, step
 use Rattle.cbor4ii_rw.specs.declared.error.DecodeError.{DecodeError, TheVariants.DepthOverflow}
 use Rattle.cbor4ii_items.specs.{Head.break, InputError.InputError, Laws.Answering.fits_zero}
 use Rattle.cbor4ii_items.specs.Laws.UnderStep.{no_step}
-use Rattle.cbor4ii_tree.specs.{InputError.{depth_overflow, ignored_any, break_name}, Cost.Budget}
-use Rattle.cbor4ii_tree.specs.{Rejections.{Rejection, NoBreak}, Does.{Accepting, Does, DoesUnder}}
-use Rattle.cbor4ii_tree.specs.{Does.{DoesApart, Lowers, MayStay, Taking}, HeadParts.TakesByte}
-use Rattle.cbor4ii_tree.specs.{HeadParts.NoByte, Prefix.{Offers, FirstByteIs}, Skipping.SkipsOne}
-use Rattle.cbor4ii_tree.specs.Skipping.{RejectsSkippingOne, SkipsItems, RejectsSkippingItems}
-use Rattle.cbor4ii_tree.specs.Skipping.{SkipsUnder, RejectsSkippingUnder, Leads, SkipsAfter}
-use Rattle.cbor4ii_tree.specs.{Skipping.RejectsSkippingAfter, Ahead.{TakesAhead, TakesHead, Passes}}
-use Rattle.cbor4ii_tree.specs.Ahead.{Allows, Awaits, CountsAmong, IsIndefinite, NotBreak, SkipsSome}
-use Rattle.cbor4ii_tree.specs.Ahead.{RejectsSome, SkipsSomeUnder, RejectsSomeUnder, GoesUnder}
-use Rattle.cbor4ii_tree.specs.Ahead.{CountsSome, CountsWent, EndsOrNot, CountsNone, RejectsAtEnd}
-use Rattle.cbor4ii_tree.specs.{Ahead.NeverRejects, declared.skip.initial.After.After}
+use Rattle.cbor4ii_tree.specs.{Basis.InputError.{depth_overflow, ignored_any, break_name}}
+use Rattle.cbor4ii_tree.specs.{Basis.Cost.Budget}
+use Rattle.cbor4ii_tree.specs.{Calls.Rejections.{Rejection, NoBreak}}
+use Rattle.cbor4ii_tree.specs.{Inner.Does.{Accepting, Does, DoesUnder}}
+use Rattle.cbor4ii_tree.specs.{Inner.Does.{DoesApart, Lowers, MayStay, Taking}}
+use Rattle.cbor4ii_tree.specs.{Inner.HeadParts.TakesByte}
+use Rattle.cbor4ii_tree.specs.{Inner.HeadParts.NoByte, Inner.BytesAhead.{Offers, FirstByteIs}}
+use Rattle.cbor4ii_tree.specs.{Inner.Skipping.SkipsOne}
+use Rattle.cbor4ii_tree.specs.Inner.Skipping.{RejectsSkippingOne, SkipsItems, RejectsSkippingItems}
+use Rattle.cbor4ii_tree.specs.Inner.Skipping.{SkipsUnder, RejectsSkippingUnder, HeadLeads}
+use Rattle.cbor4ii_tree.specs.Inner.Skipping.{SkipsAfter}
+use Rattle.cbor4ii_tree.specs.{Inner.Skipping.RejectsSkippingAfter}
+use Rattle.cbor4ii_tree.specs.{Inner.Ahead.{TakesAhead, TakesHead, Passes}}
+use Rattle.cbor4ii_tree.specs.Inner.Ahead.{Allows, Awaits, CountsAmong, IsIndefinite, NotBreak}
+use Rattle.cbor4ii_tree.specs.Inner.Ahead.{SkipsSome}
+use Rattle.cbor4ii_tree.specs.Inner.Ahead.{RejectsSome, SkipsSomeUnder, RejectsSomeUnder, GoesUnder}
+use Rattle.cbor4ii_tree.specs.Inner.Ahead.{CountsSome, CountsWent, EndsOrNot, CountsNone}
+use Rattle.cbor4ii_tree.specs.Inner.Ahead.{RejectsAtEnd}
+use Rattle.cbor4ii_tree.specs.{Inner.Ahead.NeverRejects, declared.skip.initial.After.After}
 use Rattle.cbor4ii_tree.specs.declared.skip.{initial.After.TheVariants.Nothing, items.Went.Went}
 use Rattle.cbor4ii_tree.specs.declared.{skip.items.Went.TheVariants.{Past, Into}, ahead.Among.Among}
 use Rattle.cbor4ii_tree.specs.declared.ahead.{Among.TheVariants.{Items, Indefinite}, Ahead.Ahead}
@@ -233,7 +241,7 @@ module _ {E : Type 0} (among : Among) where
 
 -- what follows a head, byte by byte
 pub went_on : {E : Type 0} (trailing : After) {r : Result (Unit {0}) (DecodeError E)}
-    {a m b : View} → DoesUnder {E = E} Leads RejectsSkippingUnder a m (Ok trailing)
+    {a m b : View} → DoesUnder {E = E} HeadLeads RejectsSkippingUnder a m (Ok trailing)
     → DoesUnder (Taking (SkipsAfter trailing)) (RejectsSkippingAfter trailing) m b r
     → DoesUnder (Taking SkipsUnder) RejectsSkippingUnder a b r
 went_on trailing {a = a} {m = m} h d =

@@ -1,9 +1,11 @@
 -- Skipping has one answer for each input and budget, and no encoding begins another.
 use Rattle.std.proofs.Common.{◌≡◌, ℕ, List, [], ◌++◌, Ok, Err, sym, ◌∙◌, append-nil}
 use Rattle.cbor4ii_items.specs.Head.{IsBytes}
-use Rattle.cbor4ii_tree.specs.{Cost.Budget, Encodings.{Skips, SomeAnswer, AtMostOne}}
-use Rattle.cbor4ii_tree.specs.{InputError.InputError, Laws.Ignoring.one_encoding, Skip.skip}
-use Rattle.cbor4ii_tree.specs.{SkippingRejects.SkippingRejects, Tree.{Tree, bytes, Loose}}
+use Rattle.cbor4ii_tree.specs.{Basis.Cost.Budget, Basis.Encodings.{Skips, SomeAnswer, AtMostOne}}
+use Rattle.cbor4ii_tree.specs.{Basis.InputError.InputError, Laws.Ignoring.one_encoding}
+use Rattle.cbor4ii_tree.specs.{Calls.Skip.skip}
+use Rattle.cbor4ii_tree.specs.{Calls.SkippingRejects.SkippingRejects}
+use Rattle.cbor4ii_tree.specs.{Basis.Tree.{Tree, bytes, Loose}}
 use Rattle.cbor4ii_tree.proofs.answers.Answers.{some_answer_of, at_most_one_of}
 use Rattle.cbor4ii_tree.proofs.{parts.Rejecting.skips_by, profile.Answer.at_from_takes}
 use Rattle.cbor4ii_tree.proofs.profile.Answer.{takes_from_at, at_from_rejects, rejects_from_at}

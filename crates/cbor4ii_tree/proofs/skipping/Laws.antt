@@ -1,9 +1,11 @@
 -- What each error of skipping says of the bytes that may still come.
 use Rattle.std.proofs.Common.{ℕ, List, [], ◌++◌}
 use Rattle.cbor4ii_items.specs.{Budget.CostFits, Head.IsBytes}
-use Rattle.cbor4ii_tree.specs.{Cost.{Budget, skip_cost}, Encodings.{Skips, IsProperPrefix}}
-use Rattle.cbor4ii_tree.specs.InputError.{InputError, eof, depth_overflow, Len, IsFinal}
-use Rattle.cbor4ii_tree.specs.{SkippingRejects.SkippingRejects, Tree.{Tree, bytes, Loose}}
+use Rattle.cbor4ii_tree.specs.{Basis.Cost.{Budget, skip_cost}}
+use Rattle.cbor4ii_tree.specs.{Basis.Encodings.{Skips, IsProperPrefix}}
+use Rattle.cbor4ii_tree.specs.Basis.InputError.{InputError, eof, depth_overflow, Len, IsFinal}
+use Rattle.cbor4ii_tree.specs.{Calls.SkippingRejects.SkippingRejects}
+use Rattle.cbor4ii_tree.specs.{Basis.Tree.{Tree, bytes, Loose}}
 use Rattle.cbor4ii_tree.proofs.profile.Answer.{skipping_laws}
 use Rattle.cbor4ii_tree.proofs.profile.Answer as items
 

@@ -3,7 +3,7 @@ use Rattle.std.proofs.Common.{Result, Err, ◌≡◌}
 use Rattle.std.proofs.lemmas.Result.{err_from_is_err_and}
 use Rattle.std.specs.Result.{IsErrAnd}
 use Rattle.cbor4ii_rw.specs.{declared.error.DecodeError.DecodeError, View.View}
-use Rattle.cbor4ii_tree.specs.{Does.{Accepting, Does}, Rejections.Rejection}
+use Rattle.cbor4ii_tree.specs.{Inner.Does.{Accepting, Does}, Calls.Rejections.Rejection}
 
 -- the error that a `?` hands on
 pub passed : {V E : Type 0} {A : Accepting V} {S : Rejection} {e : DecodeError E} {a b : View}

@@ -9,16 +9,19 @@ use Rattle.std.specs.Result.{IsErrAnd}
 use Rattle.cbor4ii_rw.specs.Reader.{Advances, IsPrefix, KeepsAllButBudget}
 use Rattle.cbor4ii_rw.specs.{View.View, declared.error.DecodeError.DecodeError}
 use Rattle.cbor4ii_items.specs.{InputError.is_out_of_memory, Laws.Prefixes.the_prefix}
-use Rattle.cbor4ii_tree.specs.Asking.{Asks, BeginsString, Grows, InParts, InTagged, InValue}
-use Rattle.cbor4ii_tree.specs.Asking.{IsRead, Values, BeginsParts, boxed, content, grown, in_tag}
-use Rattle.cbor4ii_tree.specs.Asking.{inside}
-use Rattle.cbor4ii_tree.specs.Cost.{Budget, step_in}
-use Rattle.cbor4ii_tree.specs.Leaf.{AsksAfterNext, DoesAfterNext, ShowsFirst, WantsContent}
-use Rattle.cbor4ii_tree.specs.LeafRuns.{IsLeaf, PutsItemsUnder, RefusedMemory, RunsBefore}
-use Rattle.cbor4ii_tree.specs.{LeafRuns.StandFirst, Prefix.Offers}
-use Rattle.cbor4ii_tree.specs.Tree.{Tree, bytes_all, no_trees}
-use Rattle.cbor4ii_tree.specs.Valuing.{HeadAt, ReadsItems, ReadsOneValue, ReadsUnder, RejectsUnder}
-use Rattle.cbor4ii_tree.specs.Valuing.{Whole}
+use Rattle.cbor4ii_tree.specs.Inner.Asking.{Asks, BeginsString, Grows, InParts, InTagged, InValue}
+use Rattle.cbor4ii_tree.specs.Inner.Asking.{IsRead, Values, BeginsParts, boxed, content, grown}
+use Rattle.cbor4ii_tree.specs.Inner.Asking.{in_tag}
+use Rattle.cbor4ii_tree.specs.Inner.Asking.{inside}
+use Rattle.cbor4ii_tree.specs.Basis.Cost.{Budget, step_in}
+use Rattle.cbor4ii_tree.specs.Inner.Leaf.{AsksAfterNext, DoesAfterNext, ShowsFirst, WantsContent}
+use Rattle.cbor4ii_tree.specs.Inner.LeafRuns.{IsValueLeaf, PutsItemsUnder, RefusedMemory}
+use Rattle.cbor4ii_tree.specs.Inner.LeafRuns.{RunsBefore}
+use Rattle.cbor4ii_tree.specs.{Inner.LeafRuns.StandFirst, Inner.BytesAhead.Offers}
+use Rattle.cbor4ii_tree.specs.Basis.Tree.{Tree, bytes_all, no_trees}
+use Rattle.cbor4ii_tree.specs.Inner.Valuing.{HeadAt, ReadsItems, ReadsOneValue, ReadsUnder}
+use Rattle.cbor4ii_tree.specs.Inner.Valuing.{RejectsUnder}
+use Rattle.cbor4ii_tree.specs.Inner.Valuing.{Whole}
 use Rattle.cbor4ii_tree.specs.declared.{leaf.Next.Next, value.Value.Value}
 use Rattle.cbor4ii_tree.proofs.parts.Joined.{bytes-join, count-join, each-join, join}
 use Rattle.cbor4ii_tree.proofs.parts.Widen.{each_covers}
@@ -70,29 +73,30 @@ asks_around inward outward h = record {
 
 -- ---- values
 
-read_is : (exact : Bool) (budget : Budget) (t : Tree) → Whole exact budget t → IsRead exact t
-read_is exact budget t h = let w = whole_is exact budget t h in (w.0, w.1)
+read_is : (canonical : Bool) (budget : Budget) (t : Tree) → Whole canonical budget t
+    → IsRead canonical t
+read_is canonical budget t h = let w = whole_is canonical budget t h in (w.0, w.1)
 
-pub values_are : (exact : Bool) {n : ℕ} (budget : Budget) (vs : List Value) (xs ys : List ℕ)
-    → ReadsItems exact n budget xs vs ys → Values exact n xs ys
-values_are exact budget vs xs ys h = (
+pub values_are : (canonical : Bool) {n : ℕ} (budget : Budget) (vs : List Value) (xs ys : List ℕ)
+    → ReadsItems canonical n budget xs vs ys → Values canonical n xs ys
+values_are canonical budget vs xs ys h = (
   h.0,
   h.1,
-  each_covers (Whole exact budget) (IsRead exact) (read_is exact budget) h.0 h.2,
+  each_covers (Whole canonical budget) (IsRead canonical) (read_is canonical budget) h.0 h.2,
   h.4,
 )
 
-pub value_is : (exact : Bool) (budget : Budget) (v : Value) (xs ys : List ℕ)
-    → ReadsOneValue exact budget xs v ys → Values exact 1 xs ys
-value_is exact budget v xs ys h =
-    values_are exact budget (v ∷ []) xs ys (one_item exact budget xs v ys h)
+pub value_is : (canonical : Bool) (budget : Budget) (v : Value) (xs ys : List ℕ)
+    → ReadsOneValue canonical budget xs v ys → Values canonical 1 xs ys
+value_is canonical budget v xs ys h =
+    values_are canonical budget (v ∷ []) xs ys (one_item canonical budget xs v ys h)
 
-pub values_join : (exact : Bool) {j k : ℕ} (xs us ys : List ℕ) → Values exact j xs us
-    → Values exact k us ys → Values exact (j + k) xs ys
-values_join exact xs us ys h s = (
+pub values_join : (canonical : Bool) {j k : ℕ} (xs us ys : List ℕ) → Values canonical j xs us
+    → Values canonical k us ys → Values canonical (j + k) xs ys
+values_join canonical xs us ys h s = (
   join h.0 s.0,
   count-join h.0 s.0 ∙ ap₂ ◌+◌ h.1 s.1,
-  each-join (IsRead exact) h.0 s.0 h.2 s.2,
+  each-join (IsRead canonical) h.0 s.0 h.2 s.2,
   h.3 ∙ ap (λ r. bytes_all h.0 ++ r) s.3 ∙ sym (bytes-join h.0 s.0 ys),
 )
 
@@ -101,89 +105,90 @@ outer_of : (inner : Budget) → (budget : Budget) × (step_in budget ≡ Some in
 outer_of None = (None, refl)
 outer_of (Some n) = (Some (suc n), refl)
 
-value_under : (exact : Bool) (inner : Budget) (v : Value) (xs ys : List ℕ)
-    → ReadsUnder exact inner xs v ys → Values exact 1 xs ys
-value_under exact inner v xs ys h =
-    let o = outer_of inner in value_is exact o.0 v xs ys (h o.0 o.1)
+value_under : (canonical : Bool) (inner : Budget) (v : Value) (xs ys : List ℕ)
+    → ReadsUnder canonical inner xs v ys → Values canonical 1 xs ys
+value_under canonical inner v xs ys h =
+    let o = outer_of inner in value_is canonical o.0 v xs ys (h o.0 o.1)
 
-values_under : (exact : Bool) (before after : List Value) (inner : Budget) (xs ys : List ℕ)
-    → PutsItemsUnder exact before after inner xs tt ys → (k : ℕ) × Values exact k xs ys
-values_under exact before after inner xs ys h =
+values_under : (canonical : Bool) (before after : List Value) (inner : Budget) (xs ys : List ℕ)
+    → PutsItemsUnder canonical before after inner xs tt ys → (k : ℕ) × Values canonical k xs ys
+values_under canonical before after inner xs ys h =
     let o = outer_of inner in
-    let p = h o.0 o.1 in (length p.0, values_are exact o.0 p.0 xs ys p.2)
+    let p = h o.0 o.1 in (length p.0, values_are canonical o.0 p.0 xs ys p.2)
 
 -- ---- parts
 
 -- in the value after so many
-pub in_next : (exact : Bool) (least : ℕ) {k : ℕ} (xs us ys : List ℕ) → Values exact k xs us
-    → InValue exact us ys → InParts exact least xs ys
-in_next exact least xs us ys h s = inr (_, us, h, s)
+pub in_next : (canonical : Bool) (least : ℕ) {k : ℕ} (xs us ys : List ℕ) → Values canonical k xs us
+    → InValue canonical us ys → InParts canonical least xs ys
+in_next canonical least xs us ys h s = inr (_, us, h, s)
 
 -- after more values before them
-pub in_further : (exact : Bool) {least : ℕ} {j : ℕ} (xs us ys : List ℕ) → Values exact j xs us
-    → InParts exact least us ys → InParts exact least xs ys
-in_further exact xs us ys h (inl s) =
-    inl (_, omega (arith, s.1), values_join exact xs us ys h s.2)
-in_further exact xs us ys h (inr s) = inr (_, s.1, values_join exact xs us s.1 h s.2, s.3)
+pub in_further : (canonical : Bool) {least : ℕ} {j : ℕ} (xs us ys : List ℕ) → Values canonical j xs
+    us
+    → InParts canonical least us ys → InParts canonical least xs ys
+in_further canonical xs us ys h (inl s) =
+    inl (_, omega (arith, s.1), values_join canonical xs us ys h s.2)
+in_further canonical xs us ys h (inr s) = inr (_, s.1, values_join canonical xs us s.1 h s.2, s.3)
 
 -- any number of them
-pub in_any : (exact : Bool) {least : ℕ} (xs ys : List ℕ) → InParts exact least xs ys
-    → InParts exact 0 xs ys
-in_any exact xs ys (inl s) = inl (s.0, omega arith, s.2)
-in_any exact xs ys (inr s) = inr s
+pub in_any : (canonical : Bool) {least : ℕ} (xs ys : List ℕ) → InParts canonical least xs ys
+    → InParts canonical 0 xs ys
+in_any canonical xs ys (inl s) = inl (s.0, omega arith, s.2)
+in_any canonical xs ys (inr s) = inr s
 
 -- after the head of an array or a map
-pub in_parts : (exact : Bool) {least : ℕ} (o : Option ℕ)
-    → ((k : ℕ) → least ≤ k → Grows o k) → (xs us ys : List ℕ) → BeginsParts exact o xs us
-    → InParts exact least us ys → InValue exact xs ys
-in_parts exact o grows xs us ys h (inl s) = (grown s.0, (o, us, h, grows s.0 s.1, s.2))
-in_parts exact o grows xs us ys h (inr s) = (inside s.0 s.3.0, (o, us, s.1, h, s.2, s.3.1))
+pub in_parts : (canonical : Bool) {least : ℕ} (o : Option ℕ)
+    → ((k : ℕ) → least ≤ k → Grows o k) → (xs us ys : List ℕ) → BeginsParts canonical o xs us
+    → InParts canonical least us ys → InValue canonical xs ys
+in_parts canonical o grows xs us ys h (inl s) = (grown s.0, (o, us, h, grows s.0 s.1, s.2))
+in_parts canonical o grows xs us ys h (inr s) = (inside s.0 s.3.0, (o, us, s.1, h, s.2, s.3.1))
 
 -- after the head of a tag
-pub in_tagged : (exact : Bool) {n : ℕ} (xs us ys : List ℕ) → HeadAt exact 6 n xs us
-    → InTagged exact us ys → InValue exact xs ys
-in_tagged exact xs us ys h (inl s) = (boxed, (_, us, h, s))
-in_tagged exact xs us ys h (inr s) = (in_tag s.0, (_, us, h, s.1))
+pub in_tagged : (canonical : Bool) (n : ℕ) (xs us ys : List ℕ) → HeadAt canonical 6 n xs us
+    → InTagged canonical us ys → InValue canonical xs ys
+in_tagged canonical n xs us ys h (inl s) = (boxed, (n, us, h, s))
+in_tagged canonical n xs us ys h (inr s) = (in_tag s.0, (n, us, h, s.1))
 
 -- in the first value
-pub in_first : (exact : Bool) {least : ℕ} (xs ys : List ℕ) → InValue exact xs ys
-    → InParts exact least xs ys
-in_first exact xs ys s = inr (0, xs, (no_trees, refl, tt, refl), s)
+pub in_first : (canonical : Bool) {least : ℕ} (xs ys : List ℕ) → InValue canonical xs ys
+    → InParts canonical least xs ys
+in_first canonical xs ys s = inr (0, xs, (no_trees, refl, tt, refl), s)
 
 -- ---- a turn: a run, and the value after it
 
-module _ (exact : Bool) {E : Type 0} {before mid : List Value} {n : Next} {a m b : View}
-    (run : RunsBefore E exact n before mid a m) where
+module _ (canonical : Bool) {E : Type 0} {before mid : List Value} {n : Next} {a m b : View}
+    (run : RunsBefore E canonical n before mid a m) where
   -- in the value
-  pub turn_asks : AsksAfterNext exact n (InValue exact) m b → Asks (InParts exact 1) a b
+  pub turn_asks : AsksAfterNext canonical n (InValue canonical) m b → Asks (InParts canonical 1) a b
   turn_asks h =
-      asks_after (λ xs us ys p s. let v = values_under exact before mid a.budget xs us p in
-      in_next exact 1 xs us ys v.1 s) (reached_by run.puts) (h run.mid run.shows)
+      asks_after (λ xs us ys p s. let v = values_under canonical before mid a.budget xs us p in
+      in_next canonical 1 xs us ys v.1 s) (reached_by run.puts) (h run.mid run.shows)
 
   -- for the place of the value
-  pub turn_grows : {v : Value} → DoesAfterNext {E = E} exact n (ReadsUnder exact)
-      (RejectsUnder exact) m b (Ok v) → Asks (InParts exact 1) a b
+  pub turn_grows : {v : Value} → DoesAfterNext {E = E} canonical n (ReadsUnder canonical)
+      (RejectsUnder canonical) m b (Ok v) → Asks (InParts canonical 1) a b
   turn_grows {v = v} d =
-      asks_here (InParts exact 1) (λ xs ys h. h) (reached_then
-      (λ xs ys. PutsItemsUnder exact before mid a.budget xs tt ys)
-      (λ xs ys. ReadsUnder exact run.mid.budget xs v ys) (InParts exact 1) (λ xs us ys p s.
-      let k = values_under exact before mid a.budget xs us p in
-      let one = value_under exact run.mid.budget v us ys s in
-      inl (k.0 + 1, omega arith, values_join exact xs us ys k.1 one))
+      asks_here (InParts canonical 1) (λ xs ys h. h) (reached_then
+      (λ xs ys. PutsItemsUnder canonical before mid a.budget xs tt ys)
+      (λ xs ys. ReadsUnder canonical run.mid.budget xs v ys) (InParts canonical 1) (λ xs us ys p s.
+      let k = values_under canonical before mid a.budget xs us p in
+      let one = value_under canonical run.mid.budget v us ys s in
+      inl (k.0 + 1, omega arith, values_join canonical xs us ys k.1 one))
       (reached_by run.puts) (reached_by (d run.mid run.shows)))
 
 -- ---- values up to a break
 
 -- for the place of what was read after others
-pub put_grows : (exact : Bool) (vs part : List Value) {a m b : View} → 1 ≤ length part
-    → Reached (Before (ReadEach exact vs) a.budget) a m
-    → Reached (λ xs ys. ReadEach exact part m.budget xs ys) m b → Asks (InParts exact 1) a b
-put_grows exact vs part {a = a} some p q =
-    asks_here (InParts exact 1) (λ xs ys h. inl (
+pub put_grows : (canonical : Bool) (vs part : List Value) {a m b : View} → 1 ≤ length part
+    → Reached (Before (ReadEach canonical vs) a.budget) a m
+    → Reached (λ xs ys. ReadEach canonical part m.budget xs ys) m b → Asks (InParts canonical 1) a b
+put_grows canonical vs part {a = a} some p q =
+    asks_here (InParts canonical 1) (λ xs ys h. inl (
       _,
       omega (arith, some, length-append vs part),
-      values_are exact a.budget (vs ++ part) xs ys h,
-    )) (put_read exact vs part refl p q)
+      values_are canonical a.budget (vs ++ part) xs ys h,
+    )) (put_read canonical vs part refl p q)
 
 -- ---- a run
 
@@ -196,30 +201,31 @@ prefix_of_shown n shown xs within long e =
     ∙ ap (λ j. take j xs) many ∙ e in
     sym (the_prefix n xs (take more (drop n xs)) (omega (arith, within, long))) ∙ ap (take n) all
 
-stand_in : (exact : Bool) {vs : List Value} (taken : ℕ) (shown xs : List ℕ)
-    → StandFirst (exact ≡ true) vs taken shown → take taken xs ≡ take taken shown
-    → Values exact (length vs) xs (drop taken xs)
-stand_in exact taken shown xs s same = (
+stand_in : (canonical : Bool) {vs : List Value} (taken : ℕ) (shown xs : List ℕ)
+    → StandFirst (canonical ≡ true) vs taken shown → take taken xs ≡ take taken shown
+    → Values canonical (length vs) xs (drop taken xs)
+stand_in canonical taken shown xs s same = (
   s.trees,
   s.many,
-  each_covers (IsLeaf (exact ≡ true)) (IsRead exact) (λ t h. (h.0, h.2)) s.trees s.each,
+  each_covers (IsValueLeaf (canonical ≡ true)) (IsRead canonical) (λ t h. (h.0, h.2)) s.trees
+      s.each,
   sym (take-append-drop taken xs) ∙ ap (λ r. r ++ drop taken xs) (same ∙ s.is),
 )
 
-in_run : (exact : Bool) (size : ℕ) (shown xs ys : List ℕ) → IsPrefix 1 shown xs
-    → ys ≡ drop size xs → RefusedMemory (exact ≡ true) size shown → InParts exact 1 xs ys
-in_run exact size shown xs ys p after r =
-    by_place (stand_in exact r.taken shown xs r.stand (prefix_of_shown r.taken shown xs
+in_run : (canonical : Bool) (size : ℕ) (shown xs ys : List ℕ) → IsPrefix 1 shown xs
+    → ys ≡ drop size xs → RefusedMemory (canonical ≡ true) size shown → InParts canonical 1 xs ys
+in_run canonical size shown xs ys p after r =
+    by_place (stand_in canonical r.taken shown xs r.stand (prefix_of_shown r.taken shown xs
     r.stand.within p.within p.begins)) r.at
   where
-    by_place : Values exact (length r.values) xs (drop r.taken xs)
+    by_place : Values canonical (length r.values) xs (drop r.taken xs)
         → ((1 ≤ length r.values) × (size ≡ r.taken)) ⊎ ((head : ℕ) × (size ≡ r.taken + head)
-        × WantsContent head (drop r.taken shown)) → InParts exact 1 xs ys
+        × WantsContent head (drop r.taken shown)) → InParts canonical 1 xs ys
     by_place here (inl h) =
         inl (
           length r.values,
           h.0,
-          subst (λ zs. Values exact (length r.values) xs zs)
+          subst (λ zs. Values canonical (length r.values) xs zs)
               (sym (after ∙ ap (λ j. drop j xs) h.1)) here,
         )
     by_place here (inr h) =
@@ -242,34 +248,34 @@ in_run exact size shown xs ys p after r =
         )
 
 -- no memory was found in a run
-pub run_asks : (exact : Bool) {size : ℕ} {a m b : View}
-    → Offers 1 (RefusedMemory (exact ≡ true) size) a m → Advances size m b
-    → Asks (InParts exact 1) a b
-run_asks exact {size = size} {m = m} {b = b} o adv = record {
+pub run_asks : (canonical : Bool) {size : ℕ} {a m b : View}
+    → Offers 1 (RefusedMemory (canonical ≡ true) size) a m → Advances size m b
+    → Asks (InParts canonical 1) a b
+run_asks canonical {size = size} {m = m} {b = b} o adv = record {
   at = λ xs known ys left.
       let gone = sym left ∙ adv.known xs (o.shows.known xs known) in
       let after : ys ≡ drop size xs = cc in
-      in_run exact size o.shown xs ys (o.prefix xs known) after o.is;
+      in_run canonical size o.shown xs ys (o.prefix xs known) after o.is;
 }
 
 -- ---- strings
 
-pub in_string : (exact : Bool) (first : ℕ) {a m b : View} → ShowsFirst first a m
-    → BeginsString first → Asks (InValue exact) a b
-in_string exact first shows string = record {
+pub in_string : (canonical : Bool) (first : ℕ) {a m b : View} → ShowsFirst first a m
+    → BeginsString first → Asks (InValue canonical) a b
+in_string canonical first shows string = record {
   at = λ xs known ys left.
       let s = (peeked_first first shows).at xs known in
       (content, (first, s.2.0, s.2.1, string));
 }
 
 -- a look has shown it whole
-pub in_content : (exact : Bool) {size : ℕ} {a m b : View} → Offers 1 (WantsContent size) a m
-    → Asks (InValue exact) a b
-in_content exact {a = a} {m = m} o =
+pub in_content : (canonical : Bool) {size : ℕ} {a m b : View} → Offers 1 (WantsContent size) a m
+    → Asks (InValue canonical) a b
+in_content canonical {a = a} {m = m} o =
     let shows : ShowsFirst o.is.first a m = record {
       shown = o.shown;
       shows = o.shows;
       prefix = o.prefix;
       is = (o.is.trailing, o.is.begins);
     } in
-    in_string exact o.is.first shows o.is.major
+    in_string canonical o.is.first shows o.is.major

@@ -7,12 +7,13 @@ use Rattle.cbor4ii_rw.specs.Reader.{Advances, KeepsAllButBudget, StepsIn}
 use Rattle.cbor4ii_rw.specs.{View.View, declared.error.DecodeError.DecodeError}
 use Rattle.cbor4ii_items.specs.{Head.{IsBytes, head}, Laws.Contents.lends_prefix}
 use Rattle.cbor4ii_items.specs.Laws.Running.{kept_alike, shows_kept}
-use Rattle.cbor4ii_tree.specs.{Cost.Budget, Deeper.budgeted, Rejections.Rejection, Valuing.HeadAt}
-use Rattle.cbor4ii_tree.specs.{declared.leaf.Head.Head, Does.{Accepting, Does}}
-use Rattle.cbor4ii_tree.specs.Leaf.{CanTake, HeadStands, ShowsFirst, ShowsNext}
+use Rattle.cbor4ii_tree.specs.{Basis.Cost.Budget, Inner.Deeper.with_budget}
+use Rattle.cbor4ii_tree.specs.{Calls.Rejections.Rejection, Inner.Valuing.HeadAt}
+use Rattle.cbor4ii_tree.specs.{declared.leaf.Head.Head, Inner.Does.{Accepting, Does}}
+use Rattle.cbor4ii_tree.specs.Inner.Leaf.{CanTake, HeadStands, ShowsFirst, ShowsNext}
 use Rattle.cbor4ii_tree.specs.declared.leaf.Next.{Next}
 use Rattle.cbor4ii_tree.proofs.skip_calls.Doing.{Reached, reached_as}
-use Rattle.cbor4ii_tree.proofs.values.Calls.{Peeked, does_under}
+use Rattle.cbor4ii_tree.proofs.values.{Calls.{Peeked, does_under}, HeadAt.head_by}
 
 -- ---- a first byte that was shown
 
@@ -65,7 +66,7 @@ module _ (first : ℕ) {a m : View} (s : ShowsFirst first a m) where
 
 -- ---- the value that comes next
 
-module _ {exact : Type 0} (n : Next) {a m : View} (s : ShowsNext exact n a m) where
+module _ {canonical : Type 0} (n : Next) {a m : View} (s : ShowsNext canonical n a m) where
   pub next_first : ShowsFirst n.first a m
   next_first = record {
     shown = s.shown;
@@ -89,7 +90,8 @@ module _ {exact : Type 0} (n : Next) {a m : View} (s : ShowsNext exact n a m) wh
   after_next A S d = after_first n.first next_first A S d
 
   -- under a step
-  pub next_stepped : {b : View} → KeepsAllButBudget m b → ShowsNext exact n (budgeted b.budget a) b
+  pub next_stepped : {b : View} → KeepsAllButBudget m b → ShowsNext canonical n
+      (with_budget b.budget a) b
   next_stepped k = record {
     shown = s.shown;
     shows = record {
@@ -109,7 +111,7 @@ module _ {exact : Type 0} (n : Next) {a m : View} (s : ShowsNext exact n a m) wh
 
   -- the step is one of the view before the look
   pub next_step : (b : View) → StepsIn m.budget b.budget true
-      → StepsIn a.budget (budgeted b.budget a).budget true
+      → StepsIn a.budget (with_budget b.budget a).budget true
   next_step b h = subst (λ o. StepsIn o b.budget true) s.shows.budget h
 
 -- the bound falls by the bytes of its head
@@ -120,11 +122,12 @@ head_gains n {m = m} h can is adv =
     omega (arith, t.0, t.1, adv.bound)
 
 -- its head was taken
-pub takes_head : (exact : Bool) (n : Next) {a m c : View} (major : ℕ) (h : Head)
-    → ShowsNext (exact ≡ true) n a m → n.head ≡ Some h → n.first / 32 ≡ major
-    → Advances h.size m c → Reached (HeadAt exact major h.argument) a c
-takes_head exact n major h s is e adv =
-    let t = subst (λ o. IfSome o (λ h. HeadStands (exact ≡ true) (n.first / 32) h.argument h.size
+pub takes_head : (canonical : Bool) (n : Next) {a m c : View} (major : ℕ) (h : Head)
+    → ShowsNext (canonical ≡ true) n a m → n.head ≡ Some h → n.first / 32 ≡ major
+    → Advances h.size m c → Reached (HeadAt canonical major h.argument) a c
+takes_head canonical n major h s is e adv =
+    let t = subst (λ o. IfSome o (λ h. HeadStands (canonical ≡ true) (n.first / 32) h.argument
+    h.size
     s.shown)) is s.is.head in
     let l = lends_prefix s.shows s.prefix t.within t.fresh refl adv in
     record {
@@ -133,13 +136,9 @@ takes_head exact n major h s is e adv =
           let q = l.at xs known in (
             drop h.size xs,
             q.1,
-            (
-              t.width,
-              t.fits,
-              t.least,
-              sym (take-append-drop h.size xs)
-                  ∙ ap (λ r. r ++ drop h.size xs)
-                  (sym q.2 ∙ t.is ∙ ap (λ j. head j h.argument t.width) e),
-            ),
+            head_by canonical major h.argument xs (drop h.size xs) t.width t.fits t.least
+                (sym (take-append-drop h.size xs)
+                ∙ ap (λ r. r ++ drop h.size xs)
+                (sym q.2 ∙ t.is ∙ ap (λ j. head j h.argument t.width) e)),
           );
     }

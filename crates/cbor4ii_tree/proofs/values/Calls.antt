@@ -12,14 +12,15 @@ use Rattle.cbor4ii_items.specs.{Head.{HeadFits, indefinite_head}, Heads.{Rejects
 use Rattle.cbor4ii_items.specs.Initial.{Info, wide, indefinite_ended, reserved, info_of, initial}
 use Rattle.cbor4ii_items.specs.Initial.{by_major, int_by_info, Sign, unsigned, negative, sign_major}
 use Rattle.cbor4ii_items.specs.InputError.{InputError, depth_overflow}
-use Rattle.cbor4ii_tree.specs.{CanonicalShape.CanonicalShape}
-use Rattle.cbor4ii_tree.specs.{Cost.{Budget, step_in, cost}, Does.{Does, Accepting}}
-use Rattle.cbor4ii_tree.specs.InputError.{sign_name, value_name, eof, mismatch, Small, len_of}
+use Rattle.cbor4ii_tree.specs.{Calls.CanonicalShape.CanonicalShape}
+use Rattle.cbor4ii_tree.specs.{Basis.Cost.{Budget, step_in, cost}, Inner.Does.{Does, Accepting}}
+use Rattle.cbor4ii_tree.specs.Basis.InputError.{sign_name, value_name, eof, mismatch, Small, len_of}
 use Rattle.cbor4ii_tree.specs.Laws.Numbers.{additional-lt, info-additional}
-use Rattle.cbor4ii_tree.specs.ReadingRejects.{ReadingRejectsBy, ReadingRejects}
-use Rattle.cbor4ii_tree.specs.{Rejections.{RejectsAtStep, Is, MissingAll, Rejection}, Tree.Tree}
-use Rattle.cbor4ii_tree.specs.{Tree.Plain, Valuing.{Whole, RejectsOneValue}}
-use Rattle.cbor4ii_tree.specs.Valuing.{RejectsUnder}
+use Rattle.cbor4ii_tree.specs.Calls.ReadingRejects.{ReadingRejectsBy, ReadingRejects}
+use Rattle.cbor4ii_tree.specs.{Calls.Rejections.{RejectsAtStep, Is, MissingAll, Rejection}}
+use Rattle.cbor4ii_tree.specs.{Basis.Tree.Tree}
+use Rattle.cbor4ii_tree.specs.{Basis.Tree.Plain, Inner.Valuing.{Whole, RejectsOneValue}}
+use Rattle.cbor4ii_tree.specs.Inner.Valuing.{RejectsUnder}
 use Rattle.cbor4ii_tree.proofs.{skip_calls.Bytes.says_width}
 use Rattle.cbor4ii_tree.proofs.skip_calls.Doing.{Reached, does_after, does_err}
 use Rattle.cbor4ii_tree.proofs.answers.Nesting.{reading_by_parts, canonical_by_parts}
@@ -27,21 +28,21 @@ use Rattle.cbor4ii_tree.proofs.heads.Means.{WidthSays, InfoSays, info_says}
 
 -- ---- an encoding that is read whole
 
-pub whole : (exact : Bool) (budget : Budget) (t : Tree) → Plain t
-    → (exact ≡ true → CanonicalShape t) → CostFits (cost t) budget → Whole exact budget t
+pub whole : (canonical : Bool) (budget : Budget) (t : Tree) → Plain t
+    → (canonical ≡ true → CanonicalShape t) → CostFits (cost t) budget → Whole canonical budget t
 whole false budget t plain shape fits = (plain, fits)
 whole true budget t plain shape fits = ((plain, shape refl), fits)
 
-pub whole_is : (exact : Bool) (budget : Budget) (t : Tree) → Whole exact budget t
-    → Plain t × (exact ≡ true → CanonicalShape t) × CostFits (cost t) budget
+pub whole_is : (canonical : Bool) (budget : Budget) (t : Tree) → Whole canonical budget t
+    → Plain t × (canonical ≡ true → CanonicalShape t) × CostFits (cost t) budget
 whole_is false budget t h = (h.0, (λ e. cc), h.1)
 whole_is true budget t h = (h.0.0, (λ e. h.0.1), h.1)
 
 -- ---- a step
 
-pub rejects_under : (exact : Bool) (inner budget : Budget) (xs : List ℕ) (e : InputError)
-    (rest : List ℕ) → step_in budget ≡ Some inner → RejectsUnder exact inner xs e rest
-    → RejectsOneValue exact budget xs e rest
+pub rejects_under : (canonical : Bool) (inner budget : Budget) (xs : List ℕ) (e : InputError)
+    (rest : List ℕ) → step_in budget ≡ Some inner → RejectsUnder canonical inner xs e rest
+    → RejectsOneValue canonical budget xs e rest
 rejects_under false inner budget xs e rest step h =
     (reading_by_parts xs budget e rest).1 (subst (λ o. RejectsAtStep value_name o xs (λ inner.
     RejectsUnder false inner xs) e rest) (sym step) h)
@@ -50,14 +51,14 @@ rejects_under true inner budget xs e rest step h =
     RejectsUnder true inner xs) e rest) (sym step) h)
 
 -- no step is left
-pub value_no_step : (exact : Bool) (budget : Budget) → budget ≡ Some 0 → (xs : List ℕ)
-    → RejectsOneValue exact budget xs (depth_overflow value_name) xs
+pub value_no_step : (canonical : Bool) (budget : Budget) → budget ≡ Some 0 → (xs : List ℕ)
+    → RejectsOneValue canonical budget xs (depth_overflow value_name) xs
 value_no_step false budget none xs = rw none (refl, refl)
 value_no_step true budget none xs = rw none (refl, refl)
 
 -- no byte is left
-pub value_no_byte : (exact : Bool) (budget : Budget) (z : InputError) (rest : List ℕ)
-    → Is (eof value_name (Small 1)) [] z rest → RejectsUnder exact budget [] z rest
+pub value_no_byte : (canonical : Bool) (budget : Budget) (z : InputError) (rest : List ℕ)
+    → Is (eof value_name (Small 1)) [] z rest → RejectsUnder canonical budget [] z rest
 value_no_byte false budget z rest is = is
 value_no_byte true budget z rest is = is
 

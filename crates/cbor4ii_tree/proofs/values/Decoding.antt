@@ -6,9 +6,12 @@ use Rattle.std.proofs.Math.Seq.{take-append_seam}
 use Rattle.cbor4ii_rw.specs.{View.View, declared.error.DecodeError.DecodeError}
 use Rattle.cbor4ii_items.specs.{Budget.CostFits, Decoding.{Sound, Complete, Rejects, NoneRead}}
 use Rattle.cbor4ii_items.specs.{Decoding.Decodes, InputError.InputError, Laws.Calls.any_memory}
-use Rattle.cbor4ii_tree.specs.{Cost.{Budget, cost}, Does.Does, Encodings.DecodesTo, Item.Item}
-use Rattle.cbor4ii_tree.specs.{Promises.{ReadsValue, value_format}, ReadingRejects.ReadingRejects}
-use Rattle.cbor4ii_tree.specs.{Tree.bytes, Valuing.{ReadsOneValue, RejectsOneValue}, View.view}
+use Rattle.cbor4ii_tree.specs.{Basis.Cost.{Budget, cost}, Inner.Does.Does}
+use Rattle.cbor4ii_tree.specs.{Basis.Encodings.DecodesTo, Basis.Item.Item}
+use Rattle.cbor4ii_tree.specs.{Calls.Promises.{ReadsValue, value_format}}
+use Rattle.cbor4ii_tree.specs.{Calls.ReadingRejects.ReadingRejects}
+use Rattle.cbor4ii_tree.specs.{Basis.Tree.bytes, Inner.Valuing.{ReadsOneValue, RejectsOneValue}}
+use Rattle.cbor4ii_tree.specs.{Basis.View.view}
 use Rattle.cbor4ii_tree.specs.declared.value.Value.{Value}
 use Rattle.cbor4ii_tree.proofs.reading.Answer.{not_both}
 
@@ -85,7 +88,7 @@ module _ {E : Type 0} {a b : View} where
     progress = λ some. progress;
     memory = any_memory r;
     sound = value_sound r d;
-    complete = λ exact. value_complete r d;
-    rejects = λ exact. value_rejects r d;
+    complete = λ canonical. value_complete r d;
+    rejects = λ canonical. value_rejects r d;
     begins = value_rejects r d;
   }

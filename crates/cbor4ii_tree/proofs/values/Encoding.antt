@@ -1,15 +1,18 @@
 -- What values are written as, in the words of the calls that write the parts.
 use Rattle.std.proofs.Common.{◌≡◌, ℕ, List, [], ◌∷◌, ◌++◌, length, Bool, true, false, ℤ, refl, sym}
 use Rattle.std.proofs.Common.{ap, ◌∙◌, append_assoc, rules, Vec, Global, Box}
-use Rattle.cbor4ii_items.specs.{SequenceBytes.items_bytes, Simple.bool_byte, Head.{shortest, head}}
+use Rattle.cbor4ii_items.specs.{SequenceBytes.items_bytes, Simple.bool_byte}
+use Rattle.cbor4ii_items.specs.{Head.{shortest_width, head}}
 use Rattle.cbor4ii_items.specs.Numbers.{shortest_head}
-use Rattle.cbor4ii_tree.specs.Canonical.{canonical_encoding, canonical_trees, canonical_pairs}
-use Rattle.cbor4ii_tree.specs.{Encoding.{value_bytes, member_bytes}, Item.{boolean, integer}}
-use Rattle.cbor4ii_tree.specs.Item.{sequence, mapping, tag, item_count, member_count}
-use Rattle.cbor4ii_tree.specs.{Tree.{bytes_all, bytes_pairs}, View.{view, items_view, members_view}}
+use Rattle.cbor4ii_tree.specs.Basis.Canonical.{canonical_encoding, canonical_trees, canonical_pairs}
+use Rattle.cbor4ii_tree.specs.{Calls.Encoding.{value_bytes, value_pair_bytes}}
+use Rattle.cbor4ii_tree.specs.{Basis.Item.{boolean, integer}}
+use Rattle.cbor4ii_tree.specs.Basis.Item.{sequence, mapping, tag, item_count, item_pair_count}
+use Rattle.cbor4ii_tree.specs.{Basis.Tree.{bytes_all, bytes_pairs}}
+use Rattle.cbor4ii_tree.specs.{Basis.View.{view, items_view, pairs_view}}
 use Rattle.cbor4ii_tree.specs.declared.value.Value.{the_lemmas}
 use Rattle.cbor4ii_tree.proofs.encodings.Canonical.{count-canonical_encoding, count-pairs}
-use Rattle.cbor4ii_tree.proofs.values.Views.{item_count-items_view, member_count-members_view}
+use Rattle.cbor4ii_tree.proofs.values.Views.{item_count-items_view, pair_count-pairs_view}
 use Rattle.cbor4ii_tree.proofs.values.Views.{view-Map}
 use Rattle.cbor4ii_tree.specs.declared.value.Value.{Value, Bool as VBool, Integer, Array, Map, Tag}
 
@@ -20,16 +23,16 @@ pub items-canonical_encoding : (vs : List Value)
 items-canonical_encoding [] = refl
 items-canonical_encoding (v ∷ vs) = ap (λ z. value_bytes v ++ z) (items-canonical_encoding vs)
 
-pub members-canonical_encoding : (ms : List (Value × Value))
-    → items_bytes member_bytes ms ≡ bytes_pairs (canonical_pairs (members_view ms))
-members-canonical_encoding [] = refl
-members-canonical_encoding (m ∷ ms) =
-    append_assoc (value_bytes m.0) (value_bytes m.1) (items_bytes member_bytes ms)
-    ∙ ap (λ z. value_bytes m.0 ++ (value_bytes m.1 ++ z)) (members-canonical_encoding ms)
+pub pairs-canonical_encoding : (ms : List (Value × Value))
+    → items_bytes value_pair_bytes ms ≡ bytes_pairs (canonical_pairs (pairs_view ms))
+pairs-canonical_encoding [] = refl
+pairs-canonical_encoding (m ∷ ms) =
+    append_assoc (value_bytes m.0) (value_bytes m.1) (items_bytes value_pair_bytes ms)
+    ∙ ap (λ z. value_bytes m.0 ++ (value_bytes m.1 ++ z)) (pairs-canonical_encoding ms)
 
 -- the shortest head with the count of the items, which is described in two ways
 headed : (major n m k : ℕ) (xs ys : List ℕ) → n ≡ k → m ≡ k → xs ≡ ys
-    → shortest_head major n ++ xs ≡ head major m (shortest k) ++ ys
+    → shortest_head major n ++ xs ≡ head major m (shortest_width k) ++ ys
 headed major n m k xs ys e f g = rw (e, f, g) refl
 
 pub sequence-canonical_encoding : (vs : List Value) → shortest_head 4 (length vs) ++ items_bytes
@@ -39,10 +42,10 @@ sequence-canonical_encoding vs =
     (count-canonical_encoding (items_view vs)) (items-canonical_encoding vs)
 
 pub mapping-canonical_encoding : (ms : List (Value × Value)) → shortest_head 5 (length ms)
-    ++ items_bytes member_bytes ms ≡ canonical_encoding (mapping (members_view ms))
+    ++ items_bytes value_pair_bytes ms ≡ canonical_encoding (mapping (pairs_view ms))
 mapping-canonical_encoding ms =
-    headed 5 _ _ (member_count (members_view ms)) _ _ (sym (member_count-members_view ms))
-    (count-pairs (members_view ms)) (members-canonical_encoding ms)
+    headed 5 _ _ (item_pair_count (pairs_view ms)) _ _ (sym (pair_count-pairs_view ms))
+    (count-pairs (pairs_view ms)) (pairs-canonical_encoding ms)
 
 -- ---- values
 
@@ -68,9 +71,9 @@ Array-bytes value v vs e same =
 
 pub Map-bytes : (value : Value) (v : Vec (Value × Value) Global) (ms : List (Value × Value))
     → value ≡ Map v → ms ≡ v.items
-    → shortest_head 5 (length ms) ++ items_bytes member_bytes ms ≡ value_bytes value
+    → shortest_head 5 (length ms) ++ items_bytes value_pair_bytes ms ≡ value_bytes value
 Map-bytes value v ms e same =
-    mapping-canonical_encoding ms ∙ ap (λ l. canonical_encoding (mapping (members_view l))) same
+    mapping-canonical_encoding ms ∙ ap (λ l. canonical_encoding (mapping (pairs_view l))) same
     ∙ sym (ap canonical_encoding (ap view e ∙ view-Map v))
 
 pub view-Integer : (z : ℤ) → view (Integer z) ≡ integer z

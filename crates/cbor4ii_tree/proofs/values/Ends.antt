@@ -5,8 +5,9 @@ use denote.Ref.{Bor}
 use Rattle.cbor4ii_rw.specs.{Reader.{Shows, IsPrefix}, View.{View, IfKnown}}
 use Rattle.cbor4ii_rw.specs.declared.error.DecodeError.TheVariants.{Eof}
 use Rattle.cbor4ii_items.specs.{InputError.InputError, Laws.Running.shows_kept}
-use Rattle.cbor4ii_tree.specs.{Does.{Accepting, Does}, InputError.{value_name, eof, Small}}
-use Rattle.cbor4ii_tree.specs.{Rejections.{Rejection, Is}}
+use Rattle.cbor4ii_tree.specs.{Inner.Does.{Accepting, Does}}
+use Rattle.cbor4ii_tree.specs.{Basis.InputError.{value_name, eof, Small}}
+use Rattle.cbor4ii_tree.specs.{Calls.Rejections.{Rejection, Is}}
 use Rattle.cbor4ii_tree.proofs.skip_calls.Doing.{does_reject}
 
 -- an end of the input there fails so

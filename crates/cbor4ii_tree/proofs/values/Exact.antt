@@ -5,18 +5,22 @@ use Rattle.std.proofs.{Common.{append-nil, Vec, Global}, lemmas.Map.Lookups.exac
 use Rattle.std.specs.{declared.cmp.Ordering.Ordering, declared.cmp.Ordering.TheVariants.Equal}
 use Rattle.std.specs.{Ordering.{nat_cmp, ordering_then}, Cmp.Lexicographic.slice_cmp}
 use Rattle.cbor4ii_items.specs.{SequenceBytes.items_bytes, Initial.{half, single, double}}
-use Rattle.cbor4ii_tree.specs.Item.{Item, null, boolean, integer, float, bytes_item, text, sequence}
-use Rattle.cbor4ii_tree.specs.Item.{mapping, tag, Items, no_items, item, item_count, Members}
-use Rattle.cbor4ii_tree.specs.{Item.{no_members, member, member_count}, ExactOrder.parts_of}
-use Rattle.cbor4ii_tree.specs.ExactOrder.{first_numbers, inner_numbers, items_numbers, numbers}
-use Rattle.cbor4ii_tree.specs.ExactOrder.{members_numbers, value_numbers, member_numbers}
-use Rattle.cbor4ii_tree.specs.{Order.{Compares, elements_of, pairs_of}, View.view}
-use Rattle.cbor4ii_tree.specs.{View.{items_view, members_view}, declared.value.Value.Value}
+use Rattle.cbor4ii_tree.specs.Basis.Item.{Item, null, boolean, integer, float, bytes_item, text}
+use Rattle.cbor4ii_tree.specs.Basis.Item.{sequence}
+use Rattle.cbor4ii_tree.specs.Basis.Item.{mapping, tag, Items, no_items, item, item_count}
+use Rattle.cbor4ii_tree.specs.Basis.Item.{ItemPairs}
+use Rattle.cbor4ii_tree.specs.{Basis.Item.{no_item_pairs, item_pair, item_pair_count}}
+use Rattle.cbor4ii_tree.specs.{Calls.ExactOrder.parts_of}
+use Rattle.cbor4ii_tree.specs.Calls.ExactOrder.{first_numbers, inner_numbers, items_numbers}
+use Rattle.cbor4ii_tree.specs.Calls.ExactOrder.{numbers}
+use Rattle.cbor4ii_tree.specs.Calls.ExactOrder.{pairs_numbers, value_numbers, pair_numbers}
+use Rattle.cbor4ii_tree.specs.{Calls.Order.{Compares, elements_of, pairs_of}, Basis.View.view}
+use Rattle.cbor4ii_tree.specs.{Basis.View.{items_view, pairs_view}, declared.value.Value.Value}
 use Rattle.cbor4ii_tree.specs.declared.value.Value.{Array, Map}
 use Rattle.cbor4ii_tree.proofs.encodings.Order.{compares_cons, compares_first, compares_nothing}
 use Rattle.cbor4ii_tree.proofs.encodings.Order.{compares_then, heads_cmp, then-Equal}
 use Rattle.cbor4ii_tree.proofs.values.{Encoding.view-Array, Ordered.Alike, Views.view-Map}
-use Rattle.cbor4ii_tree.proofs.values.Views.{item_count-items_view, member_count-members_view}
+use Rattle.cbor4ii_tree.proofs.values.Views.{item_count-items_view, pair_count-pairs_view}
 
 -- ---- the first numbers, and then what stands inside
 
@@ -48,10 +52,10 @@ items-numbers : (vs : List Value)
 items-numbers [] = refl
 items-numbers (v ∷ vs) = ap (λ z. value_numbers v ++ z) (items-numbers vs)
 
-members-numbers : (ms : List (Value × Value))
-    → items_bytes member_numbers ms ≡ members_numbers (members_view ms)
-members-numbers [] = refl
-members-numbers (m ∷ ms) = ap (λ z. member_numbers m ++ z) (members-numbers ms)
+pairs-numbers : (ms : List (Value × Value))
+    → items_bytes pair_numbers ms ≡ pairs_numbers (pairs_view ms)
+pairs-numbers [] = refl
+pairs-numbers (m ∷ ms) = ap (λ z. pair_numbers m ++ z) (pairs-numbers ms)
 
 inside_array : (v : Item) → (parts_of v).0 ≡ 9 → (item_count (elements_of v) ≡ (parts_of v).1)
     × (inner_numbers v ≡ items_numbers (elements_of v))
@@ -65,8 +69,8 @@ inside_array (float single n) e = absurd (omega arith)
 inside_array (float double n) e = absurd (omega arith)
 inside_array _ e = absurd (omega arith)
 
-inside_map : (v : Item) → (parts_of v).0 ≡ 10 → (member_count (pairs_of v) ≡ (parts_of v).1)
-    × (inner_numbers v ≡ members_numbers (pairs_of v))
+inside_map : (v : Item) → (parts_of v).0 ≡ 10 → (item_pair_count (pairs_of v) ≡ (parts_of v).1)
+    × (inner_numbers v ≡ pairs_numbers (pairs_of v))
 inside_map (mapping ms) e = (refl, refl)
 inside_map (boolean false) e = absurd (omega arith)
 inside_map (boolean true) e = absurd (omega arith)
@@ -94,19 +98,19 @@ exact_arrays a b v ys is seen e =
     }
 
 pub exact_maps : (a b : Value) (v : Vec (Value × Value) Global) (ns : List (Value × Value))
-    → a ≡ Map v → members_view ns ≡ pairs_of (view b) → parts_of (view a) ≡ parts_of (view b)
-    → Alike member_numbers v.items ns (inner_numbers (view a)) (inner_numbers (view b))
+    → a ≡ Map v → pairs_view ns ≡ pairs_of (view b) → parts_of (view a) ≡ parts_of (view b)
+    → Alike pair_numbers v.items ns (inner_numbers (view a)) (inner_numbers (view b))
 exact_maps a b v ns is seen e =
-    let whole : view a ≡ mapping (members_view v.items) = ap view is ∙ view-Map v in
+    let whole : view a ≡ mapping (pairs_view v.items) = ap view is ∙ view-Map v in
     let kind : (parts_of (view b)).0 ≡ 10 =
     sym (ap (λ h. h.0) e) ∙ ap (λ w. (parts_of w).0) whole in
     let other = inside_map (view b) kind in
     record {
       long =
-          sym (member_count-members_view v.items) ∙ sym (ap (λ w. (parts_of w).1) whole) ∙ ap (λ h.
-          h.1) e ∙ sym other.0 ∙ ap member_count (sym seen) ∙ member_count-members_view ns;
-      first = members-numbers v.items ∙ sym (ap inner_numbers whole);
-      second = members-numbers ns ∙ ap members_numbers seen ∙ sym other.1;
+          sym (pair_count-pairs_view v.items) ∙ sym (ap (λ w. (parts_of w).1) whole) ∙ ap (λ h.
+          h.1) e ∙ sym other.0 ∙ ap item_pair_count (sym seen) ∙ pair_count-pairs_view ns;
+      first = pairs-numbers v.items ∙ sym (ap inner_numbers whole);
+      second = pairs-numbers ns ∙ ap pairs_numbers seen ∙ sym other.1;
     }
 
 -- ---- values of equal numbers are equal
@@ -182,7 +186,7 @@ mutual
   same_inside (sequence vs) (sequence ws) x y h =
       let is = same_items vs ws x y h.second h.rest in (ap sequence is.0, is.1)
   same_inside (mapping ms) (mapping ns) x y h =
-      let is = same_members ms ns x y h.second h.rest in (ap mapping is.0, is.1)
+      let is = same_pairs ms ns x y h.second h.rest in (ap mapping is.0, is.1)
   same_inside (tag m v) (tag n w) x y h =
       let is = same_inside v w x y (same_start v w x y h.rest) in (ap₂ tag h.second is.0, is.1)
   same_inside _ _ x y h = absurd (omega (arith, h.kind, h.first, h.second))
@@ -198,19 +202,19 @@ mutual
       (ap₂ item is.0 rest.0, rest.1)
   same_items _ _ x y n e = absurd (omega arith)
 
-  same_members : (ms ns : Members) (x y : List ℕ) → member_count ms ≡ member_count ns
-      → members_numbers ms ++ x ≡ members_numbers ns ++ y → (ms ≡ ns) × (x ≡ y)
-  same_members no_members no_members x y n e = (refl, e)
-  same_members (member k v ms) (member l w ns) x y n e =
-      let keys = same_inside k l (numbers v ++ (members_numbers ms ++ x))
-      (numbers w ++ (members_numbers ns ++ y)) (same_start k l _ _
-      (sym (regroup (numbers k) (numbers v) (members_numbers ms) x) ∙ e
-      ∙ regroup (numbers l) (numbers w) (members_numbers ns) y)) in
-      let values = same_inside v w (members_numbers ms ++ x) (members_numbers ns ++ y)
+  same_pairs : (ms ns : ItemPairs) (x y : List ℕ) → item_pair_count ms ≡ item_pair_count ns
+      → pairs_numbers ms ++ x ≡ pairs_numbers ns ++ y → (ms ≡ ns) × (x ≡ y)
+  same_pairs no_item_pairs no_item_pairs x y n e = (refl, e)
+  same_pairs (item_pair k v ms) (item_pair l w ns) x y n e =
+      let keys = same_inside k l (numbers v ++ (pairs_numbers ms ++ x))
+      (numbers w ++ (pairs_numbers ns ++ y)) (same_start k l _ _
+      (sym (regroup (numbers k) (numbers v) (pairs_numbers ms) x) ∙ e
+      ∙ regroup (numbers l) (numbers w) (pairs_numbers ns) y)) in
+      let values = same_inside v w (pairs_numbers ms ++ x) (pairs_numbers ns ++ y)
       (same_start v w _ _ keys.1) in
-      let rest = same_members ms ns x y (omega arith) values.1 in
+      let rest = same_pairs ms ns x y (omega arith) values.1 in
       (cc (keys.0, values.0, rest.0), rest.1)
-  same_members _ _ x y n e = absurd (omega arith)
+  same_pairs _ _ x y n e = absurd (omega arith)
 
 pub exact : (v w : Item) → slice_cmp nat_cmp (numbers v) (numbers w) ≡ Equal → v ≡ w
 exact v w e =

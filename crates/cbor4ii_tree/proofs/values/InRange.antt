@@ -3,10 +3,12 @@ use Rattle.std.proofs.Common.{◌≡◌, ℕ, ◌+◌, ◌<◌, ◌^◌, List, [
 use Rattle.std.proofs.{Common.{ap, ◌∙◌, arith, subst, Vec, Global, String}, lemmas.List.take_more}
 use Rattle.std.proofs.lemmas.Str.{IsUtf8-string_bytes}
 use Rattle.std.specs.Prelude.{string_bytes}
-use Rattle.cbor4ii_tree.specs.{Item.{IsItem, AreItems, AreMembers}, View.{view, items_view}}
-use Rattle.cbor4ii_tree.specs.{View.members_view, declared.value.Value.{Value, Text, Array, Map}}
+use Rattle.cbor4ii_tree.specs.{Basis.Item.{IsItem, AreItems, AreItemPairs}}
+use Rattle.cbor4ii_tree.specs.{Basis.View.{view, items_view}}
+use Rattle.cbor4ii_tree.specs.{Basis.View.pairs_view}
+use Rattle.cbor4ii_tree.specs.{declared.value.Value.{Value, Text, Array, Map}}
 use Rattle.cbor4ii_tree.proofs.{values.Encoding.view-Array, values.Strings.view-Text}
-use Rattle.cbor4ii_tree.proofs.values.Views.{item_count-items_view, member_count-members_view}
+use Rattle.cbor4ii_tree.proofs.values.Views.{item_count-items_view, pair_count-pairs_view}
 use Rattle.cbor4ii_tree.proofs.values.Views.{view-Map}
 
 pub AreItems-append : (vs ws : List Value) → AreItems (items_view vs) → AreItems (items_view ws)
@@ -14,36 +16,36 @@ pub AreItems-append : (vs ws : List Value) → AreItems (items_view vs) → AreI
 AreItems-append [] ws h k = k
 AreItems-append (v ∷ vs) ws h k = (h.0, AreItems-append vs ws h.1 k)
 
-pub AreMembers-push : (ms : List (Value × Value)) (m : Value × Value) → AreMembers (members_view ms)
-    → IsItem (view m.0) → IsItem (view m.1) → AreMembers (members_view (ms ++ m ∷ []))
-AreMembers-push [] m h k l = (k, l, tt)
-AreMembers-push (n ∷ ms) m h k l = (h.0, h.1, AreMembers-push ms m h.2 k l)
+pub ArePairs-push : (ms : List (Value × Value)) (m : Value × Value) → AreItemPairs (pairs_view ms)
+    → IsItem (view m.0) → IsItem (view m.1) → AreItemPairs (pairs_view (ms ++ m ∷ []))
+ArePairs-push [] m h k l = (k, l, tt)
+ArePairs-push (n ∷ ms) m h k l = (h.0, h.1, ArePairs-push ms m h.2 k l)
 
 pub items_step : (xs : List Value) (i : ℕ) (x : Value) → i < length xs → x ≡ get_or xs i x
     → AreItems (items_view (take i xs)) → IsItem (view x) → AreItems (items_view (take (i + 1) xs))
 items_step xs i x lt is h k = rw (take_more xs i x lt, ← is) (AreItems-append (take i xs)
     (x ∷ []) h (k, tt))
 
-pub members_step : (xs : List (Value × Value)) (i : ℕ) (x : Value × Value) → i < length xs
-    → x ≡ get_or xs i x → AreMembers (members_view (take i xs)) → IsItem (view x.0)
-    → IsItem (view x.1) → AreMembers (members_view (take (i + 1) xs))
-members_step xs i x lt is h k l =
-    rw (take_more xs i x lt, ← is) (AreMembers-push (take i xs) x h k l)
+pub pairs_step : (xs : List (Value × Value)) (i : ℕ) (x : Value × Value) → i < length xs
+    → x ≡ get_or xs i x → AreItemPairs (pairs_view (take i xs)) → IsItem (view x.0)
+    → IsItem (view x.1) → AreItemPairs (pairs_view (take (i + 1) xs))
+pairs_step xs i x lt is h k l =
+    rw (take_more xs i x lt, ← is) (ArePairs-push (take i xs) x h k l)
 
 pub array_in_range : (value : Value) (v : Vec Value Global) (vs : List Value) → value ≡ Array v
     → vs ≡ v.items → length vs < 2 ^ 64 → AreItems (items_view vs) → IsItem (view value)
 array_in_range value v vs e same small h =
     subst IsItem (sym (ap view e ∙ view-Array v))
-    (subst (λ ws. IsItem (Rattle.cbor4ii_tree.specs.Item.sequence (items_view ws))) same
+    (subst (λ ws. IsItem (Rattle.cbor4ii_tree.specs.Basis.Item.sequence (items_view ws))) same
     (omega (arith, item_count-items_view vs), h))
 
 pub map_in_range : (value : Value) (v : Vec (Value × Value) Global) (vs : List (Value × Value))
-    → value ≡ Map v → vs ≡ v.items → length vs < 2 ^ 64 → AreMembers (members_view vs)
+    → value ≡ Map v → vs ≡ v.items → length vs < 2 ^ 64 → AreItemPairs (pairs_view vs)
     → IsItem (view value)
 map_in_range value v vs e same small h =
     subst IsItem (sym (ap view e ∙ view-Map v))
-    (subst (λ ws. IsItem (Rattle.cbor4ii_tree.specs.Item.mapping (members_view ws))) same
-    (omega (arith, member_count-members_view vs), h))
+    (subst (λ ws. IsItem (Rattle.cbor4ii_tree.specs.Basis.Item.mapping (pairs_view ws))) same
+    (omega (arith, pair_count-pairs_view vs), h))
 
 pub text_in_range : (value : Value) (s : String Global) → value ≡ Text s
     → length (string_bytes s) < 2 ^ 64 → IsItem (view value)

@@ -12,24 +12,25 @@ use Rattle.std.specs.List.Sorted.{IsPermutation, IsSortedBy}
 use Rattle.std.specs.Ordering.{is_lt, nat_cmp, ordering_reverse}
 use Rattle.std.specs.{Cmp.Lexicographic.slice_cmp, declared.cmp.Ordering.Ordering}
 use Rattle.std.specs.declared.cmp.Ordering.TheVariants.{Less, Equal, Greater}
-use Rattle.cbor4ii_tree.specs.{Access.{HasKey, HasEqualKeys}, Item.Item}
-use Rattle.cbor4ii_tree.specs.ExactOrder.{IsOneOf, Repeats, is_before, key_of, numbers, seen}
-use Rattle.cbor4ii_tree.specs.{ExactOrder.value_numbers, Order.Compares}
-use Rattle.cbor4ii_tree.specs.{ItemEquality.{item_eq, item_eq-Decides}, View.members_view}
+use Rattle.cbor4ii_tree.specs.{Calls.Access.{HasKey, HasEqualKeys}, Basis.Item.Item}
+use Rattle.cbor4ii_tree.specs.Calls.ExactOrder.{IsOneOf, Repeats, is_before, key_of, numbers}
+use Rattle.cbor4ii_tree.specs.Calls.ExactOrder.{item_behind}
+use Rattle.cbor4ii_tree.specs.{Calls.ExactOrder.value_numbers, Calls.Order.Compares}
+use Rattle.cbor4ii_tree.specs.{Calls.ItemEquality.{item_eq, item_eq-Decides}, Basis.View.pairs_view}
 use Rattle.cbor4ii_tree.specs.declared.value.Value.{Value}
 use Rattle.cbor4ii_tree.proofs.{encodings.Order.compares_alone, values.Exact.exact}
 
 -- ---- the keys of a map as a list
 
 keys_among : (k : Item) (ms : List (Value × Value))
-    → HasKey k (members_view ms) ↔ IsOneOf k (map key_of ms)
+    → HasKey k (pairs_view ms) ↔ IsOneOf k (map key_of ms)
 keys_among k [] = (λ h. h, λ h. h)
 keys_among k (m ∷ ms) =
     let more = keys_among k ms in
     (λ h. ⊎_elim inl (λ r. inr (more.0 r)) h, λ h. ⊎_elim inl (λ r. inr (more.1 r)) h)
 
 pub keys_repeat : (ms : List (Value × Value))
-    → HasEqualKeys (members_view ms) ↔ Repeats (map key_of ms)
+    → HasEqualKeys (pairs_view ms) ↔ Repeats (map key_of ms)
 keys_repeat [] = (λ h. h, λ h. h)
 keys_repeat (m ∷ ms) =
     let first = keys_among (key_of m) ms in
@@ -94,16 +95,17 @@ moved vs ws p h =
 
 -- keys in another order
 pub repeats_moved : (xs ys : List (Bor Value)) → IsPermutation xs ys
-    → Repeats (map seen xs) → Repeats (map seen ys)
-repeats_moved xs ys p = moved (map seen xs) (map seen ys) (IsPermutation-map seen xs ys p)
+    → Repeats (map item_behind xs) → Repeats (map item_behind ys)
+repeats_moved xs ys p = moved (map item_behind xs) (map item_behind ys)
+    (IsPermutation-map item_behind xs ys p)
 
 -- ---- keys in the order of a sort
 
 pub before_is_order : IsStrictWeakOrder is_before
-before_is_order = ranks_by nat_list_cmp_total (λ key. numbers (seen key))
+before_is_order = ranks_by nat_list_cmp_total (λ key. numbers (item_behind key))
 
-among_at : (v : Item) (xs : List (Bor Value)) → IsOneOf v (map seen xs)
-    → (j : ℕ) × (j < length xs) × ((d : Bor Value) → seen (get_or xs j d) ≡ v)
+among_at : (v : Item) (xs : List (Bor Value)) → IsOneOf v (map item_behind xs)
+    → (j : ℕ) × (j < length xs) × ((d : Bor Value) → item_behind (get_or xs j d) ≡ v)
 among_at v [] h = absurd h
 among_at v (x ∷ xs) (inl e) = (zero, omega arith, λ d. e)
 among_at v (x ∷ xs) (inr h) =
@@ -125,27 +127,33 @@ tie a b no_less no_more =
 
 -- a key that is not equal to the next is equal to none that follow it
 pub unlike_next : (keys : List (Bor Value)) (i : ℕ) (x y : Bor Value) → IsSortedBy is_before keys
-    → 1 ≤ i → i < length keys → x ≡ get_or keys (i - 1) x → y ≡ get_or keys i y → seen x ≢ seen y
-    → ¬ (IsOneOf (seen x) (map seen (drop i keys)))
+    → 1 ≤ i → i < length keys → x ≡ get_or keys (i - 1) x → y ≡ get_or keys i y
+    → item_behind x ≢ item_behind y
+    → ¬ (IsOneOf (item_behind x) (map item_behind (drop i keys)))
 unlike_next keys i x y up some lt is are n h =
-    let found = among_at (seen x) (drop i keys) h in
+    let found = among_at (item_behind x) (drop i keys) h in
     let j = i + found.0 in
     let within : j < length keys = omega (arith, found.1, length-drop i keys) in
-    let same : seen (get_or keys j y) ≡ seen x =
-    ap seen (sym (get_or-drop i keys found.0 y)) ∙ found.2 y in
+    let same : item_behind (get_or keys j y) ≡ item_behind x =
+    ap item_behind (sym (get_or-drop i keys found.0 y)) ∙ found.2 y in
     let far : is_before (get_or keys j y) (get_or keys i y) ≡ false =
     sorted_far is_before before_is_order keys up i j y (omega arith) within in
-    let no_less : is_lt (slice_cmp nat_cmp (numbers (seen x)) (numbers (seen y))) ≡ false =
-    sym (ap₂ (λ v w. is_lt (slice_cmp nat_cmp (numbers v) (numbers w))) same (ap seen (sym are)))
+    let no_less : is_lt (slice_cmp nat_cmp (numbers (item_behind x)) (numbers (item_behind y)))
+    ≡ false =
+    sym (ap₂ (λ v w. is_lt (slice_cmp nat_cmp (numbers v) (numbers w))) same
+    (ap item_behind (sym are)))
     ∙ far in
     let near : is_before (get_or keys i y) (get_or keys (i - 1) y) ≡ false =
     sorted_far is_before before_is_order keys up (i - 1) i y (omega arith) lt in
     let here : get_or keys (i - 1) y ≡ x =
     get_or_any keys (i - 1) y x (omega arith) ∙ sym is in
-    let no_more : is_lt (slice_cmp nat_cmp (numbers (seen y)) (numbers (seen x))) ≡ false =
-    sym (ap₂ (λ v w. is_lt (slice_cmp nat_cmp (numbers (seen v)) (numbers (seen w)))) (sym are)
+    let no_more : is_lt (slice_cmp nat_cmp (numbers (item_behind y)) (numbers (item_behind x)))
+    ≡ false =
+    sym (ap₂ (λ v w. is_lt (slice_cmp nat_cmp (numbers (item_behind v)) (numbers (item_behind w))))
+    (sym are)
     here) ∙ near in
-    n (exact (seen x) (seen y) (tie (numbers (seen x)) (numbers (seen y)) no_less no_more))
+    n (exact (item_behind x) (item_behind y) (tie (numbers (item_behind x))
+    (numbers (item_behind y)) no_less no_more))
   where
     get_or_any : (xs : List (Bor Value)) (k : ℕ) (d e : Bor Value) → k < length xs
         → get_or xs k d ≡ get_or xs k e
@@ -156,14 +164,14 @@ unlike_next keys i x y up some lt is are n h =
 -- the keys from a place on are the one there and those after it
 pub keys_from : (keys : List (Bor Value)) (i : ℕ) (x : Bor Value) → 1 ≤ i → i < length keys
     → x ≡ get_or keys (i - 1) x
-    → map seen (drop (i - 1) keys) ≡ seen x ∷ map seen (drop i keys)
+    → map item_behind (drop (i - 1) keys) ≡ item_behind x ∷ map item_behind (drop i keys)
 keys_from keys i x some lt is =
     let next : i - 1 + 1 ≡ i = omega arith in
-    ap (map seen) (drop_more keys (i - 1) x (omega arith))
-    ∙ ap₂ (λ z k. seen z ∷ map seen (drop k keys)) (sym is) next
+    ap (map item_behind) (drop_more keys (i - 1) x (omega arith))
+    ∙ ap₂ (λ z k. item_behind z ∷ map item_behind (drop k keys)) (sym is) next
 
 -- fewer than two
-pub repeats_short : (xs : List (Bor Value)) → length xs ≤ 1 → ¬ (Repeats (map seen xs))
+pub repeats_short : (xs : List (Bor Value)) → length xs ≤ 1 → ¬ (Repeats (map item_behind xs))
 repeats_short [] h r = r
 repeats_short (x ∷ []) h (inl r) = r
 repeats_short (x ∷ []) h (inr r) = r
@@ -171,8 +179,10 @@ repeats_short (x ∷ y ∷ xs) h r = absurd (omega arith)
 
 -- past a key that is not equal to the next
 pub repeats_past : (keys : List (Bor Value)) (i : ℕ) (x y : Bor Value) → IsSortedBy is_before keys
-    → 1 ≤ i → i < length keys → x ≡ get_or keys (i - 1) x → y ≡ get_or keys i y → seen x ≢ seen y
-    → Repeats (map seen (drop (i - 1) keys)) ↔ Repeats (map seen (drop (i + 1 - 1) keys))
+    → 1 ≤ i → i < length keys → x ≡ get_or keys (i - 1) x → y ≡ get_or keys i y
+    → item_behind x ≢ item_behind y
+    → Repeats (map item_behind (drop (i - 1) keys)) ↔ Repeats
+    (map item_behind (drop (i + 1 - 1) keys))
 repeats_past keys i x y up some lt is are n =
     let same : i + 1 - 1 ≡ i = omega arith in
     let from = keys_from keys i x some lt is in
@@ -185,14 +195,14 @@ repeats_past keys i x y up some lt is are n =
 -- ---- a map and its keys in order
 
 pub sorted_keys : (ms : List (Value × Value)) (xs ys : List (Bor Value))
-    → map seen xs ≡ map key_of ms → IsPermutation xs ys
-    → HasEqualKeys (members_view ms) ↔ Repeats (map seen ys)
+    → map item_behind xs ≡ map key_of ms → IsPermutation xs ys
+    → HasEqualKeys (pairs_view ms) ↔ Repeats (map item_behind ys)
 sorted_keys ms xs ys same p = (
   λ h. repeats_moved xs ys p (subst Repeats (sym same) ((keys_repeat ms).0 h)),
   λ h. (keys_repeat ms).1 (subst Repeats same (repeats_moved ys xs (IsPermutation-sym xs ys p) h)),
 )
 
-pub keys_short : (ms : List (Value × Value)) → length ms ≤ 1 → ¬ (HasEqualKeys (members_view ms))
+pub keys_short : (ms : List (Value × Value)) → length ms ≤ 1 → ¬ (HasEqualKeys (pairs_view ms))
 keys_short [] h r = r
 keys_short (m ∷ []) h (inl r) = r
 keys_short (m ∷ []) h (inr r) = r

@@ -17,21 +17,27 @@ use Rattle.cbor4ii_items.specs.InputError.{is_read}
 use Rattle.cbor4ii_items.specs.{Laws.Answering.fits_zero, Budget.CostFits, Head.IsBytes}
 use Rattle.cbor4ii_items.specs.{Laws.Contents.lends_prefix}
 use Rattle.cbor4ii_items.specs.Moves.{ReaderFailed, Kept}
-use Rattle.cbor4ii_tree.specs.Valuing.{ReadsMembers, ReadsOneValue, flat_values, Whole}
-use Rattle.cbor4ii_tree.specs.Valuing.{RejectsItems, ReadsItems, ReadsEach, ReadsUnder}
-use Rattle.cbor4ii_tree.specs.{Valuing.{RejectsOneValue, RejectsUnder}, Prefix.Offers}
-use Rattle.cbor4ii_tree.specs.{declared.leaf.Next.Next, Cost.Budget, Does.{Accepting, Does}}
-use Rattle.cbor4ii_tree.specs.{Asking.{Asks, InParts}, Does.error_left}
-use Rattle.cbor4ii_tree.specs.{InputError.{InputError, value_name}}
-use Rattle.cbor4ii_tree.specs.{InputError.Small, Item.{AreItems, item, no_items}}
-use Rattle.cbor4ii_tree.specs.{Laws.Binds.step_up, Leaf.{DoesAfterNext, SeesNext}}
-use Rattle.cbor4ii_tree.specs.Leaf.{ShowsNext, StandsAhead, WantsContent}
-use Rattle.cbor4ii_tree.specs.LeafRuns.{flat_pairs, IsLeaf, StandFirst, PutsAfter, PutsRun}
-use Rattle.cbor4ii_tree.specs.LeafRuns.{RefusedMemory, PutsItems, RunsBefore, PutsItemsUnder}
-use Rattle.cbor4ii_tree.specs.LeafRuns.{KeepsItems, RejectsItemsUnder, RejectsWhereNone, TakesBy}
-use Rattle.cbor4ii_tree.specs.{LeafRuns.TakesRun, Meaning.{values}, Rejections.Each}
-use Rattle.cbor4ii_tree.specs.{Rejections.{Rejection, RejectsInCount}, Tree.{Tree, Trees, no_trees}}
-use Rattle.cbor4ii_tree.specs.{Tree.{tree, bytes, bytes_all, count}, View.{items_view}}
+use Rattle.cbor4ii_tree.specs.Inner.Valuing.{ReadsValuePairs, ReadsOneValue, flat_values, Whole}
+use Rattle.cbor4ii_tree.specs.Inner.Valuing.{RejectsItems, ReadsItems, ReadsEach, ReadsUnder}
+use Rattle.cbor4ii_tree.specs.{Inner.Valuing.{RejectsOneValue, RejectsUnder}}
+use Rattle.cbor4ii_tree.specs.{Inner.BytesAhead.Offers}
+use Rattle.cbor4ii_tree.specs.{declared.leaf.Next.Next, Basis.Cost.Budget}
+use Rattle.cbor4ii_tree.specs.{Inner.Does.{Accepting, Does}}
+use Rattle.cbor4ii_tree.specs.{Inner.Asking.{Asks, InParts}, Inner.Does.error_left}
+use Rattle.cbor4ii_tree.specs.{Basis.InputError.{InputError, value_name}}
+use Rattle.cbor4ii_tree.specs.{Basis.InputError.Small, Basis.Item.{AreItems, item, no_items}}
+use Rattle.cbor4ii_tree.specs.{Laws.Binds.step_up, Inner.Leaf.{DoesAfterNext, SeesNext}}
+use Rattle.cbor4ii_tree.specs.Inner.Leaf.{ShowsNext, StandsAhead, WantsContent}
+use Rattle.cbor4ii_tree.specs.Inner.LeafRuns.{flat_pairs, IsValueLeaf, StandFirst, PutsAfter}
+use Rattle.cbor4ii_tree.specs.Inner.LeafRuns.{PutsRun}
+use Rattle.cbor4ii_tree.specs.Inner.LeafRuns.{RefusedMemory, PutsItems, RunsBefore, PutsItemsUnder}
+use Rattle.cbor4ii_tree.specs.Inner.LeafRuns.{KeepsItems, RejectsItemsUnder, RejectsWhereNone}
+use Rattle.cbor4ii_tree.specs.Inner.LeafRuns.{TakesValuesBy}
+use Rattle.cbor4ii_tree.specs.{Inner.LeafRuns.TakesRun, Basis.Meaning.{values}}
+use Rattle.cbor4ii_tree.specs.{Calls.Rejections.Each}
+use Rattle.cbor4ii_tree.specs.{Calls.Rejections.{Rejection, RejectsInCount}}
+use Rattle.cbor4ii_tree.specs.{Basis.Tree.{Tree, Trees, no_trees}}
+use Rattle.cbor4ii_tree.specs.{Basis.Tree.{tree, bytes, bytes_all, count}, Basis.View.{items_view}}
 use Rattle.cbor4ii_tree.specs.declared.value.Value.{Value}
 use Rattle.cbor4ii_tree.proofs.{parts.Prefixes.IsBytes-append, skip_calls.Doing.does_ok}
 use Rattle.cbor4ii_tree.proofs.skip_calls.Doing.{does_no_step, does_no_memory}
@@ -43,7 +49,7 @@ use Rattle.cbor4ii_tree.proofs.values.Calls.{whole, value_no_step, value_no_byte
 use Rattle.cbor4ii_tree.proofs.{values.Calls.stops_under, values.Ends.none_shown}
 use Rattle.cbor4ii_tree.proofs.{values.InRange.AreItems-append}
 use Rattle.cbor4ii_tree.proofs.values.Leaves.{MayTake, wants_may}
-use Rattle.cbor4ii_tree.specs.declared.run.Ran.TheVariants as run
+use Rattle.cbor4ii_tree.specs.declared.run.RunSeen.TheVariants as run
 
 -- ---- lists of values
 
@@ -93,13 +99,13 @@ pair_put ms ns before after k v (Some u) e f g =
     (append_assoc (flat_values ms) (k ∷ []) (v ∷ []))))
 pair_put ms ns before after k v None e f g = tt
 
-pub many_members : (v : Vec (Value × Value) Global) → v.len ≡ length v.items
-many_members v = omega (arith, v.ok.0, v.ok.1)
+pub many_pairs : (v : Vec (Value × Value) Global) → v.len ≡ length v.items
+many_pairs v = omega (arith, v.ok.0, v.ok.1)
 
 -- ---- in shown bytes
 
-stand_none : (exact : Type 0) (shown : List ℕ) → StandFirst exact [] 0 shown
-stand_none exact shown = record {
+stand_none : (canonical : Type 0) (shown : List ℕ) → StandFirst canonical [] 0 shown
+stand_none canonical shown = record {
   within = omega arith;
   fresh = tt;
   trees = no_trees;
@@ -110,9 +116,10 @@ stand_none exact shown = record {
   is = refl;
 }
 
-stand_one : (exact : Type 0) (v : Value) (n : ℕ) (shown : List ℕ) → StandsAhead exact v n shown
-    → StandFirst exact (v ∷ []) n shown
-stand_one exact v n shown l = record {
+stand_one : (canonical : Type 0) (v : Value) (n : ℕ) (shown : List ℕ) → StandsAhead canonical v n
+    shown
+    → StandFirst canonical (v ∷ []) n shown
+stand_one canonical v n shown l = record {
   within = l.within;
   fresh = l.fresh;
   trees = tree l.item no_trees;
@@ -133,21 +140,21 @@ may_more at n size shown h l e =
           (IsBytes-append (take at shown) (take n (drop at shown)) h.fresh l.fresh);
     })
 
-may_take : {exact : Type 0} {vs : List Value} {size : ℕ} {shown : List ℕ}
-    → StandFirst exact vs size shown → MayTake size shown
+may_take : {canonical : Type 0} {vs : List Value} {size : ℕ} {shown : List ℕ}
+    → StandFirst canonical vs size shown → MayTake size shown
 may_take s = record { within = s.within; fresh = s.fresh }
 
-stand_join : (exact : Type 0) (vs ws : List Value) (at n : ℕ) (shown : List ℕ)
-    → StandFirst exact vs at shown → StandFirst exact ws n (drop at shown)
-    → StandFirst exact (vs ++ ws) (at + n) shown
-stand_join exact vs ws at n shown h l =
+stand_join : (canonical : Type 0) (vs ws : List Value) (at n : ℕ) (shown : List ℕ)
+    → StandFirst canonical vs at shown → StandFirst canonical ws n (drop at shown)
+    → StandFirst canonical (vs ++ ws) (at + n) shown
+stand_join canonical vs ws at n shown h l =
     let may = may_more at n (at + n) shown (may_take h) (may_take l) refl in
     record {
       within = may.within;
       fresh = may.fresh;
       trees = join h.trees l.trees;
       many = count-join h.trees l.trees ∙ ap₂ ◌+◌ h.many l.many ∙ sym (length-append vs ws);
-      each = each-join (IsLeaf exact) h.trees l.trees h.each l.each;
+      each = each-join (IsValueLeaf canonical) h.trees l.trees h.each l.each;
       means = values-join h.trees l.trees vs ws h.means l.means;
       ranged = AreItems-append vs ws h.ranged l.ranged;
       is =
@@ -156,29 +163,31 @@ stand_join exact vs ws at n shown h l =
           ∙ sym (bytes-join h.trees l.trees []) ∙ append-nil (bytes_all (join h.trees l.trees));
     }
 
-pub put_none : (exact : Type 0) (items : List Value) (shown : List ℕ)
-    → PutsAfter exact 0 shown items items
-put_none exact items shown =
-    record { new = []; is = sym (append-nil items); stand = stand_none exact shown }
+pub put_none : (canonical : Type 0) (items : List Value) (shown : List ℕ)
+    → PutsAfter canonical 0 shown items items
+put_none canonical items shown =
+    record { new = []; is = sym (append-nil items); stand = stand_none canonical shown }
 
-pub put_more : (exact : Type 0) (before items after : List Value) (at n size : ℕ) (shown : List ℕ)
-    → PutsAfter exact at shown before items → PutsAfter exact n (drop at shown) items after
-    → size ≡ at + n → PutsAfter exact size shown before after
-put_more exact before items after at n size shown p l e = record {
+pub put_more : (canonical : Type 0) (before items after : List Value) (at n size : ℕ)
+    (shown : List ℕ)
+    → PutsAfter canonical at shown before items → PutsAfter canonical n (drop at shown) items after
+    → size ≡ at + n → PutsAfter canonical size shown before after
+put_more canonical before items after at n size shown p l e = record {
   new = p.new ++ l.new;
   is = l.is ∙ (ap (λ r. r ++ l.new) p.is ∙ append_assoc before p.new l.new);
   stand =
-      subst (λ j. StandFirst exact (p.new ++ l.new) j shown) (sym e)
-      (stand_join exact p.new l.new at n shown p.stand l.stand);
+      subst (λ j. StandFirst canonical (p.new ++ l.new) j shown) (sym e)
+      (stand_join canonical p.new l.new at n shown p.stand l.stand);
 }
 
 -- one more value
-pub put_one : (exact : Type 0) (before items after : List Value) (v : Value) (at n : ℕ)
-    (shown : List ℕ) → PutsAfter exact at shown before items → StandsAhead exact v n (drop at shown)
-    → after ≡ items ++ v ∷ [] → PutsAfter exact (at + n) shown before after
-put_one exact before items after v at n shown p l is =
-    put_more exact before items after at n (at + n) shown p
-    (record { new = v ∷ []; is = is; stand = stand_one exact v n (drop at shown) l }) refl
+pub put_one : (canonical : Type 0) (before items after : List Value) (v : Value) (at n : ℕ)
+    (shown : List ℕ) → PutsAfter canonical at shown before items → StandsAhead canonical v n
+    (drop at shown)
+    → after ≡ items ++ v ∷ [] → PutsAfter canonical (at + n) shown before after
+put_one canonical before items after v at n shown p l is =
+    put_more canonical before items after at n (at + n) shown p
+    (record { new = v ∷ []; is = is; stand = stand_one canonical v n (drop at shown) l }) refl
 
 -- it was put well
 pub put_well : {A : Type 0} {P : Type 0} {b : Bool} (r : Option A) → is_some r ≡ not b → b ≡ false
@@ -187,21 +196,23 @@ put_well (Some v) e f p = p
 put_well None e f p = cc
 
 -- memory was refused where the last of some values was put
-pub refused_growth : (exact : Type 0) (before items : List Value) (v : Value) (at n : ℕ)
-    (shown : List ℕ) → PutsAfter exact at shown before items
-    → StandsAhead exact v n (drop at shown) → RefusedMemory exact (at + n) shown
-refused_growth exact before items v at n shown p l = record {
+pub refused_growth : (canonical : Type 0) (before items : List Value) (v : Value) (at n : ℕ)
+    (shown : List ℕ) → PutsAfter canonical at shown before items
+    → StandsAhead canonical v n (drop at shown) → RefusedMemory canonical (at + n) shown
+refused_growth canonical before items v at n shown p l = record {
   values = p.new ++ v ∷ [];
   taken = at + n;
   stand =
-      stand_join exact p.new (v ∷ []) at n shown p.stand (stand_one exact v n (drop at shown) l);
+      stand_join canonical p.new (v ∷ []) at n shown p.stand
+      (stand_one canonical v n (drop at shown) l);
   at = inl (omega (arith, length-append p.new (v ∷ [])), refl);
 }
 
 -- so many bytes may be taken then
-pub refused_may : (exact : Type 0) (size : ℕ) (shown : List ℕ) → RefusedMemory exact size shown
+pub refused_may : (canonical : Type 0) (size : ℕ) (shown : List ℕ) → RefusedMemory canonical size
+    shown
     → MayTake size shown
-refused_may exact size shown r = by_place r.at
+refused_may canonical size shown r = by_place r.at
   where
     by_place : ((1 ≤ length r.values) × (size ≡ r.taken)) ⊎ ((head : ℕ) × (size ≡ r.taken + head)
         × WantsContent head (drop r.taken shown)) → MayTake size shown
@@ -211,16 +222,16 @@ refused_may exact size shown r = by_place r.at
 -- ---- taken
 
 -- a leaf is read whole
-leaf_whole : (exact : Bool) (budget : Budget) (t : Tree) → CostFits 1 budget
-    → IsLeaf (exact ≡ true) t → Whole exact budget t
-leaf_whole exact budget t fits h =
-    whole exact budget t h.0 h.2 (subst (λ c. CostFits c budget) (sym h.1) fits)
+leaf_whole : (canonical : Bool) (budget : Budget) (t : Tree) → CostFits 1 budget
+    → IsValueLeaf (canonical ≡ true) t → Whole canonical budget t
+leaf_whole canonical budget t fits h =
+    whole canonical budget t h.0 h.2 (subst (λ c. CostFits c budget) (sym h.1) fits)
 
-each_fits : (exact : Bool) (budget : Budget) (ts : Trees) → CostFits 1 budget
-    → Each (IsLeaf (exact ≡ true)) ts → Each (Whole exact budget) ts
-each_fits exact budget no_trees fits h = tt
-each_fits exact budget (tree t ts) fits h =
-    (leaf_whole exact budget t fits h.0, each_fits exact budget ts fits h.1)
+each_fits : (canonical : Bool) (budget : Budget) (ts : Trees) → CostFits 1 budget
+    → Each (IsValueLeaf (canonical ≡ true)) ts → Each (Whole canonical budget) ts
+each_fits canonical budget no_trees fits h = tt
+each_fits canonical budget (tree t ts) fits h =
+    (leaf_whole canonical budget t fits h.0, each_fits canonical budget ts fits h.1)
 
 pub begins_after : (size : ℕ) (shown xs : List ℕ) → size ≤ length shown → take (length shown) xs ≡
     shown
@@ -279,10 +290,10 @@ does_narrow {a = a} {b = b} d = record {
 }
 
 -- what follows what was taken was shown, from where its bytes are known only as before
-next_after : (exact : Type 0) (size : ℕ) (n : Next) {shown : List ℕ} {a m b : View}
+next_after : (canonical : Type 0) (size : ℕ) (n : Next) {shown : List ℕ} {a m b : View}
     → Shows shown a m → IfKnown a.known (IsPrefix 1 shown) → size ≤ length shown → Advances size m b
-    → SeesNext exact n (drop size shown) → ShowsNext exact n (narrow a b) b
-next_after exact size n {shown = shown} {a = a} {b = b} shows prefix within adv s = record {
+    → SeesNext canonical n (drop size shown) → ShowsNext canonical n (narrow a b) b
+next_after canonical size n {shown = shown} {a = a} {b = b} shows prefix within adv s = record {
   shown = drop size shown;
   shows = record {
     known = λ ys known. (known_narrowed a.known b.known ys known).2;
@@ -321,15 +332,16 @@ next_after exact size n {shown = shown} {a = a} {b = b} shows prefix within adv 
   is = s;
 }
 
-pub after_are : (exact : Type 0) (before after : List Value) {size : ℕ} {shown : List ℕ}
-    → PutsAfter exact size shown before after → KeepsItems before after
-after_are exact before after p kept =
+pub after_are : (canonical : Type 0) (before after : List Value) {size : ℕ} {shown : List ℕ}
+    → PutsAfter canonical size shown before after → KeepsItems before after
+after_are canonical before after p kept =
     subst (λ x. AreItems (items_view x)) (sym p.is) (AreItems-append _ _ kept p.stand.ranged)
 
-module _ (exact : Bool) (before after : List Value) {E : Type 0} {a m b : View} where
+module _ (canonical : Bool) (before after : List Value) {E : Type 0} {a m b : View} where
   puts_taken : (size : ℕ) {shown : List ℕ} → Shows shown a m → IfKnown a.known (IsPrefix 1 shown)
-      → PutsAfter (exact ≡ true) size shown before after → Advances size m b → Does {V = Unit {0}}
-      {E = E} (PutsItemsUnder exact before after a.budget) RejectsWhereNone a b (Ok tt)
+      → PutsAfter (canonical ≡ true) size shown before after → Advances size m b
+      → Does {V = Unit {0}}
+      {E = E} (PutsItemsUnder canonical before after a.budget) RejectsWhereNone a b (Ok tt)
   puts_taken size shows prefix p adv =
       let s = p.stand in
       let l = lends_prefix shows prefix s.within s.fresh refl adv in
@@ -345,7 +357,7 @@ module _ (exact : Bool) (before after : List Value) {E : Type 0} {a m b : View} 
                 (
                   s.trees,
                   s.many,
-                  each_fits exact budget s.trees
+                  each_fits canonical budget s.trees
                       (step_up budget a.budget 0 step (fits_zero a.budget)) s.each,
                   s.means,
                   sym (take-append-drop size xs)
@@ -356,14 +368,14 @@ module _ (exact : Bool) (before after : List Value) {E : Type 0} {a m b : View} 
       })
 
   pub takes_whole : (full size : ℕ)
-      → Offers 1 (PutsRun (exact ≡ true) full before after (run.Whole size)) a m
+      → Offers 1 (PutsRun (canonical ≡ true) full before after (run.Whole size)) a m
       → Advances size m b → Does {V = Unit {0}} {E = E}
-      (PutsItemsUnder exact before after a.budget) RejectsWhereNone a b (Ok tt)
+      (PutsItemsUnder canonical before after a.budget) RejectsWhereNone a b (Ok tt)
   takes_whole full size o adv = puts_taken size o.shows o.prefix o.is.puts adv
 
   pub takes_before : (full size : ℕ) (n : Next)
-      → Offers 1 (PutsRun (exact ≡ true) full before after (run.Before n size)) a m
-      → Advances size m b → RunsBefore E exact n before after a b
+      → Offers 1 (PutsRun (canonical ≡ true) full before after (run.Before n size)) a m
+      → Advances size m b → RunsBefore E canonical n before after a b
   takes_before full size n o adv =
       let d = puts_taken size o.shows o.prefix o.is.puts adv in
       record {
@@ -373,22 +385,23 @@ module _ (exact : Bool) (before after : List Value) {E : Type 0} {a m b : View} 
             next_after _ _ _ o.shows o.prefix o.is.puts.stand.within adv o.is.next;
       }
 
-  pub run_no_memory : (size : ℕ) → Offers 1 (RefusedMemory (exact ≡ true) size) a m
+  pub run_no_memory : (size : ℕ) → Offers 1 (RefusedMemory (canonical ≡ true) size) a m
       → Advances size m b → Does {V = Unit {0}} {E = E}
-      (PutsItemsUnder exact before after a.budget) RejectsWhereNone a b (Err OutOfMemory)
+      (PutsItemsUnder canonical before after a.budget) RejectsWhereNone a b (Err OutOfMemory)
   run_no_memory size o adv =
-      let may = refused_may (exact ≡ true) size o.shown o.is in
+      let may = refused_may (canonical ≡ true) size o.shown o.is in
       does_no_memory _ _ refl (lends_prefix o.shows o.prefix may.within may.fresh refl adv).kept
 
-module _ (exact : Bool) (before after : List Value) {E : Type 0} {a m : View} where
+module _ (canonical : Bool) (before after : List Value) {E : Type 0} {a m : View} where
   -- nothing was put
   pub takes_none : (n : Next)
-      → Offers 1 (λ shown. (after ≡ before) × SeesNext (exact ≡ true) n shown) a m
-      → RunsBefore E exact n before after a m
+      → Offers 1 (λ shown. (after ≡ before) × SeesNext (canonical ≡ true) n shown) a m
+      → RunsBefore E canonical n before after a m
   takes_none n o = record {
     mid = a;
     puts =
-        does_ok _ _ (reached_start (λ xs ys. PutsItemsUnder exact before after a.budget xs tt ys) a
+        does_ok _ _ (reached_start (λ xs ys. PutsItemsUnder canonical before after a.budget xs tt
+        ys) a
         (λ xs budget step. (
           [],
           o.is.0 ∙ sym (append-nil before),
@@ -400,9 +413,10 @@ module _ (exact : Bool) (before after : List Value) {E : Type 0} {a m : View} wh
 
   pub run_ends : Offers 1 (λ shown. length shown ≡ 0) a m → {name : Bor (List ℕ)}
       → name.now ≡ value_name → Does {V = Unit {0}} {E = E}
-      (PutsItemsUnder exact before after a.budget) RejectsWhereNone a m (Err (Eof name (Small 1)))
+      (PutsItemsUnder canonical before after a.budget) RejectsWhereNone a m
+      (Err (Eof name (Small 1)))
   run_ends o says =
-      none_shown (PutsItemsUnder exact before after a.budget) RejectsWhereNone
+      none_shown (PutsItemsUnder canonical before after a.budget) RejectsWhereNone
       (λ z rest is. (refl, is)) 1 says (omega arith) o.shows o.prefix o.is
 
 breaks_broke : {a b : View} → ReaderFails a b → ReaderFailed a b
@@ -421,20 +435,20 @@ breaks_broke b = record {
 }
 
 -- the reader failed
-pub run_broke : (exact : Bool) (before after : List Value) {E : Type 0} {a b : View} (error : E)
-    → ReaderFails a b → Does {V = Unit {0}} {E = E} (PutsItemsUnder exact before after a.budget)
+pub run_broke : (canonical : Bool) (before after : List Value) {E : Type 0} {a b : View} (error : E)
+    → ReaderFails a b → Does {V = Unit {0}} {E = E} (PutsItemsUnder canonical before after a.budget)
     RejectsWhereNone a b (Err (Read error))
-run_broke exact before after error breaks = record {
+run_broke canonical before after error breaks = record {
   moves = record { by = breaks_broke breaks; depth = λ none. refl };
   ok = tt;
   err = λ xs known. tt;
 }
 
 -- where a run fails it promises no more
-pub run_fails : {exact : Bool} {full : ℕ} {before after : List Value} {E : Type 0} {a b : View}
+pub run_fails : {canonical : Bool} {full : ℕ} {before after : List Value} {E : Type 0} {a b : View}
     {failure : Option (DecodeError E)} → (IsTrue (is_out_of_memory (error_left failure))
-    → Asks (InParts exact 1) a b) → TakesBy exact before after a b None failure
-    → TakesRun exact full before after a b None failure
+    → Asks (InParts canonical 1) a b) → TakesValuesBy canonical before after a b None failure
+    → TakesRun canonical full before after a b None failure
 run_fails wants puts = record {
   puts = puts;
   memory = wants;
@@ -457,12 +471,13 @@ none_lacks full before after is lacks = subst (λ vs. length vs < full) (sym is)
 
 -- these values
 abbrev pub ReadEach : Bool → List Value → Budget → List ℕ → List ℕ → Type 0
-ReadEach exact vs budget xs ys = ReadsItems exact (length vs) budget xs vs ys
+ReadEach canonical vs budget xs ys = ReadsItems canonical (length vs) budget xs vs ys
 
-pub none_read : (exact : Bool) (a : View) (vs : List Value) → vs ≡ []
-    → Reached (ReadEach exact vs a.budget) a a
-none_read exact a vs e =
-    reached_start (ReadEach exact vs a.budget) a (λ xs. subst (λ us. ReadEach exact us a.budget xs
+pub none_read : (canonical : Bool) (a : View) (vs : List Value) → vs ≡ []
+    → Reached (ReadEach canonical vs a.budget) a a
+none_read canonical a vs e =
+    reached_start (ReadEach canonical vs a.budget) a
+    (λ xs. subst (λ us. ReadEach canonical us a.budget xs
     xs) (sym e) (no_trees, refl, tt, refl, refl))
 
 pub none_too_many : {A : Type 0} (vs : List A) (count : ℕ) → vs ≡ [] → length vs ≤ count
@@ -490,9 +505,9 @@ rejected_further W stop vs full xs ys z rest h s =
 -- ---- a turn: a run, and the value after it
 
 -- one value
-pub one_item : (exact : Bool) (budget : Budget) (xs : List ℕ) (v : Value) (ys : List ℕ)
-    → ReadsOneValue exact budget xs v ys → ReadsItems exact 1 budget xs (v ∷ []) ys
-one_item exact budget xs v ys t = (
+pub one_item : (canonical : Bool) (budget : Budget) (xs : List ℕ) (v : Value) (ys : List ℕ)
+    → ReadsOneValue canonical budget xs v ys → ReadsItems canonical 1 budget xs (v ∷ []) ys
+one_item canonical budget xs v ys t = (
   tree t.0 no_trees,
   refl,
   (t.1, tt),
@@ -501,10 +516,10 @@ one_item exact budget xs v ys t = (
 )
 
 -- no byte is left where a value is to begin
-none_under : (exact : Bool) (budget : Budget) (xs : List ℕ) (z : InputError) (rest : List ℕ)
-    → RejectsWhereNone xs z rest → RejectsUnder exact budget xs z rest
-none_under exact budget xs z rest s =
-    subst (λ x. RejectsUnder exact budget x z rest) (sym s.0) (value_no_byte _ _ _ _ s.1)
+none_under : (canonical : Bool) (budget : Budget) (xs : List ℕ) (z : InputError) (rest : List ℕ)
+    → RejectsWhereNone xs z rest → RejectsUnder canonical budget xs z rest
+none_under canonical budget xs z rest s =
+    subst (λ x. RejectsUnder canonical budget x z rest) (sym s.0) (value_no_byte _ _ _ _ s.1)
 
 pub rejected_after : (W : Tree → Type 0) (stop : Rejection) (vs : List Value) (room : ℕ)
     (xs ys : List ℕ) (z : InputError) (rest : List ℕ) → ReadsEach W (length vs) xs vs ys
@@ -512,107 +527,118 @@ pub rejected_after : (W : Tree → Type 0) (stop : Rejection) (vs : List Value) 
 rejected_after W stop vs room xs ys z rest h few s =
     in_count h.0 ys (omega (arith, h.1, few)) h.2 h.4 s
 
-module _ (exact : Bool) (full : ℕ) (before : List Value) {E : Type 0} {a : View} where
+module _ (canonical : Bool) (full : ℕ) (before : List Value) {E : Type 0} {a : View} where
   -- no byte is left
   pub turn_ends : (after : List Value) {e : DecodeError E} {b : View} → length before < full → Does
-      {V = Unit {0}} {E = E} (PutsItemsUnder exact before after a.budget) RejectsWhereNone a b
-      (Err e) → Does {V = Unit {0}} {E = E} (PutsItemsUnder exact before after a.budget)
-      (RejectsItemsUnder exact (full - length before) a.budget) a b (Err e)
+      {V = Unit {0}} {E = E} (PutsItemsUnder canonical before after a.budget) RejectsWhereNone a b
+      (Err e) → Does {V = Unit {0}} {E = E} (PutsItemsUnder canonical before after a.budget)
+      (RejectsItemsUnder canonical (full - length before) a.budget) a b (Err e)
   turn_ends after lacks d =
       does_err (λ xs ys. xs ≡ ys) _ _ RejectsWhereNone _ (λ xs ys z rest is s budget step.
-      rejected_after (Whole exact budget)
-      (RejectsOneValue exact budget) [] (full - length before) xs xs z rest (
+      rejected_after (Whole canonical budget)
+      (RejectsOneValue canonical budget) [] (full - length before) xs xs z rest (
         no_trees,
         refl,
         tt,
         refl,
         refl,
-      ) (omega (arith, lacks)) (rejects_under exact a.budget budget xs z rest step (subst
-      (λ x. RejectsUnder exact a.budget x z rest) (sym is) (none_under exact a.budget ys z rest
+      ) (omega (arith, lacks)) (rejects_under canonical a.budget budget xs z rest step (subst
+      (λ x. RejectsUnder canonical a.budget x z rest) (sym is) (none_under canonical a.budget ys z
+      rest
       s)))) (reached_start (λ xs ys. xs ≡ ys) a (λ xs. refl)) d
 
-  module _ (mid : List Value) {m : View} (n : Next) (run : RunsBefore E exact n before mid a m)
+  module _ (mid : List Value) {m : View} (n : Next) (run : RunsBefore E canonical n before mid a m)
     where
       -- the run, and a value after it
       pub turn_value : (after : List Value) {v : Value} {b : View} → after ≡ mid ++ v ∷ []
-          → DoesAfterNext {E = E} exact n (ReadsUnder exact) (RejectsUnder exact) m b
-          (Ok v) → Does {V = Unit {0}} {E = E} (PutsItemsUnder exact before after a.budget)
-          (RejectsItemsUnder exact (full - length before) a.budget) a b (Ok tt)
+          → DoesAfterNext {E = E} canonical n (ReadsUnder canonical) (RejectsUnder canonical) m b
+          (Ok v) → Does {V = Unit {0}} {E = E} (PutsItemsUnder canonical before after a.budget)
+          (RejectsItemsUnder canonical (full - length before) a.budget) a b (Ok tt)
       turn_value after {v = v} is d =
-          does_ok _ _ (reached_then (λ xs ys. PutsItemsUnder exact before mid a.budget xs tt ys)
-          (λ xs ys. ReadsUnder exact run.mid.budget xs v ys) _ (λ xs ys zs h s budget step.
+          does_ok _ _ (reached_then (λ xs ys. PutsItemsUnder canonical before mid a.budget xs tt ys)
+          (λ xs ys. ReadsUnder canonical run.mid.budget xs v ys) _ (λ xs ys zs h s budget step.
           let p = h budget step in
-          let r = one_item exact budget ys v zs
-          (subst (λ o. ReadsUnder exact o ys v zs) run.puts.moves.by.budget s budget step) in (
+          let r = one_item canonical budget ys v zs
+          (subst (λ o. ReadsUnder canonical o ys v zs) run.puts.moves.by.budget s budget step) in (
             p.0 ++ v ∷ [],
             is ∙ ap (λ r. r ++ v ∷ []) p.1 ∙ append_assoc before p.0 (v ∷ []),
-            join_items (Whole exact budget) p.0 (v ∷ []) xs ys zs p.2 r,
+            join_items (Whole canonical budget) p.0 (v ∷ []) xs ys zs p.2 r,
           )) (reached_by run.puts) (reached_by (d run.mid run.shows)))
 
       -- the value is rejected
       pub turn_rejected : {V : Type 0} (B : Accepting V) {e : DecodeError E} {b : View}
-          → length mid < full → DoesAfterNext {V = Value} {E = E} exact n
-          (ReadsUnder exact) (RejectsUnder exact) m b (Err e) → Does {V = V} B (RejectsItemsUnder
-          exact (full - length before) a.budget) a b (Err e)
+          → length mid < full → DoesAfterNext {V = Value} {E = E} canonical n
+          (ReadsUnder canonical) (RejectsUnder canonical) m b (Err e)
+          → Does {V = V} B (RejectsItemsUnder
+          canonical (full - length before) a.budget) a b (Err e)
       turn_rejected B lacks d =
-          does_err (λ xs ys. PutsItemsUnder exact before mid a.budget xs tt ys) _ B (RejectsUnder
-          exact run.mid.budget) _ (λ xs ys z rest h s budget step.
+          does_err (λ xs ys. PutsItemsUnder canonical before mid a.budget xs tt ys) _ B
+          (RejectsUnder
+          canonical run.mid.budget) _ (λ xs ys z rest h s budget step.
           let p = h budget step in
-          rejected_after (Whole exact budget) (RejectsOneValue exact budget)
+          rejected_after (Whole canonical budget) (RejectsOneValue canonical budget)
           _ _ _ _ _ _ p.2 (omega (
             arith,
             lacks,
             ap length p.1,
             length-append
                 before p.0,
-          )) (rejects_under exact a.budget budget ys z rest step (subst (λ o. RejectsUnder exact o
+          )) (rejects_under canonical a.budget budget ys z rest step
+          (subst (λ o. RejectsUnder canonical o
           ys z rest) run.puts.moves.by.budget s))) (reached_by run.puts) (d run.mid run.shows)
 
 -- ---- what a run answers
 
-pub run_before : (exact : Bool) {E : Type 0} (before after : List Value) {a b : View}
+pub run_before : (canonical : Bool) {E : Type 0} (before after : List Value) {a b : View}
     {found : Option Next} (n : Next) (failure : Option (DecodeError E)) → found ≡ Some n
-    → TakesBy exact before after a b (Some found) failure → RunsBefore E exact n before after a b
-run_before exact before after {a = a} {b = b} n failure is t =
-    subst (λ o. TakesBy exact before after a b (Some o) failure) is t
+    → TakesValuesBy canonical before after a b (Some found) failure → RunsBefore E canonical n
+    before after a b
+run_before canonical before after {a = a} {b = b} n failure is t =
+    subst (λ o. TakesValuesBy canonical before after a b (Some o) failure) is t
 
 pub on_found : {A : Type 0} {P : Type 0} {found : Option A} (v : A) → found ≡ Some v
     → OnSome found P → P
 on_found {P = P} v is h = subst (λ o. OnSome o P) is h
 
 -- no step is left
-pub turn_unstepped : (exact : Bool) (full : ℕ) (before after : List Value) {E : Type 0}
+pub turn_unstepped : (canonical : Bool) (full : ℕ) (before after : List Value) {E : Type 0}
     {e : DecodeError E} {a b : View} → length before < full
     → input_error_of e ≡ Some (depth_overflow value_name) → is_read e ≡ false
-    → StepsIn a.budget b.budget false → KeepsAllButBudget a b → Does {V = Unit {0}} (PutsItems exact
-    before after a.budget) (RejectsItems exact (full - length before) a.budget) a b (Err e)
-turn_unstepped exact full before after {a = a} lacks says read takes k =
-    does_no_step value_name _ _ says read (λ none xs. rejected_after (Whole exact a.budget)
-    (RejectsOneValue exact a.budget) [] (full - length before) xs xs (depth_overflow value_name) xs
-    (no_trees, refl, tt, refl, refl) (omega (arith, lacks)) (value_no_step exact a.budget none xs))
+    → StepsIn a.budget b.budget false → KeepsAllButBudget a b → Does {V = Unit {0}}
+    (PutsItems canonical
+    before after a.budget) (RejectsItems canonical (full - length before) a.budget) a b (Err e)
+turn_unstepped canonical full before after {a = a} lacks says read takes k =
+    does_no_step value_name _ _ says read (λ none xs. rejected_after (Whole canonical a.budget)
+    (RejectsOneValue canonical a.budget) [] (full - length before) xs xs (depth_overflow value_name)
+    xs
+    (no_trees, refl, tt, refl, refl) (omega (arith, lacks)) (value_no_step canonical a.budget none
+    xs))
     takes k
 
 -- ---- turns, one after another
 
-module _ (exact : Bool) (full : ℕ) (items after : List Value) {a m : View}
-    (p : Reached (ReadEach exact items a.budget) a m) where
-  pub ran : {E : Type 0} {u : Unit {0}} {b : View} → Does {E = E} (PutsItems exact items after
-      m.budget) (RejectsItems exact (full - length items) m.budget) m b (Ok u)
-      → Reached (ReadEach exact after a.budget) a b
+module _ (canonical : Bool) (full : ℕ) (items after : List Value) {a m : View}
+    (p : Reached (ReadEach canonical items a.budget) a m) where
+  pub ran : {E : Type 0} {u : Unit {0}} {b : View} → Does {E = E} (PutsItems canonical items after
+      m.budget) (RejectsItems canonical (full - length items) m.budget) m b (Ok u)
+      → Reached (ReadEach canonical after a.budget) a b
   ran {u = u} d =
-      reached_then (ReadEach exact items a.budget) (λ xs ys. PutsItems exact items after m.budget xs
-      u ys) _ (λ xs ys zs h s. subst (λ us. ReadEach exact us a.budget xs zs) (sym s.1) (join_items
-      (Whole exact a.budget) items s.0 xs ys zs h (subst (λ o. ReadEach exact s.0 o ys zs)
+      reached_then (ReadEach canonical items a.budget) (λ xs ys. PutsItems canonical items after
+      m.budget xs
+      u ys) _ (λ xs ys zs h s. subst (λ us. ReadEach canonical us a.budget xs zs) (sym s.1)
+      (join_items
+      (Whole canonical a.budget) items s.0 xs ys zs h (subst (λ o. ReadEach canonical s.0 o ys zs)
       p.kept.budget s.2))) p (reached_by d)
 
   pub run_rejects : {V E : Type 0} (B : Accepting V) → {e : DecodeError E} {b : View}
-      → Does {V = Unit {0}} (PutsItems exact items after m.budget)
-      (RejectsItems exact (full - length items) m.budget) m b (Err e)
-      → Does {V = V} B (RejectsItems exact full a.budget) a b (Err e)
+      → Does {V = Unit {0}} (PutsItems canonical items after m.budget)
+      (RejectsItems canonical (full - length items) m.budget) m b (Err e)
+      → Does {V = V} B (RejectsItems canonical full a.budget) a b (Err e)
   run_rejects B d =
-      stops_under (ReadEach exact items a.budget) (PutsItems exact items after)
-      (RejectsItems exact (full - length items)) B _ (λ xs ys z rest h s. rejected_further
-      (Whole exact a.budget) (RejectsOneValue exact a.budget) items full xs ys z rest h s) p d
+      stops_under (ReadEach canonical items a.budget) (PutsItems canonical items after)
+      (RejectsItems canonical (full - length items)) B _ (λ xs ys z rest h s. rejected_further
+      (Whole canonical a.budget) (RejectsOneValue canonical a.budget) items full xs ys z rest h s) p
+      d
 
 -- ---- pairs
 
@@ -623,12 +649,13 @@ whole_pairs ms None n e = refl
 whole_pairs ms (Some k) n e =
     absurd (omega (arith, e, length-append (flat_values ms) (k ∷ []), length-flat ms))
 
-pub pairs_are_read : (exact : Bool) (budget : Budget) (ms : List (Value × Value))
+pub pairs_are_read : (canonical : Bool) (budget : Budget) (ms : List (Value × Value))
     (key : Option Value) (n : ℕ) (xs ys : List ℕ) → length (flat_pairs ms key) ≡ 2 * n
-    → ReadEach exact (flat_pairs ms key) budget xs ys → ReadsMembers exact n budget xs ms ys
-pairs_are_read exact budget ms key n xs ys e h =
-    subst (λ us. ReadsItems exact (2 * n) budget xs us ys) (whole_pairs ms key n e)
-    (subst (λ j. ReadsItems exact j budget xs (flat_pairs ms key) ys) e h)
+    → ReadEach canonical (flat_pairs ms key) budget xs ys → ReadsValuePairs canonical n budget xs ms
+    ys
+pairs_are_read canonical budget ms key n xs ys e h =
+    subst (λ us. ReadsItems canonical (2 * n) budget xs us ys) (whole_pairs ms key n e)
+    (subst (λ j. ReadsItems canonical j budget xs (flat_pairs ms key) ys) e h)
 
 -- they stay in range
 pub pairs_are : (ms : List (Value × Value)) (key : Option Value) (n : ℕ)
@@ -643,10 +670,10 @@ pub both_there : (ms : List (Value × Value)) (key : Option Value) (most : ℕ)
 both_there ms key most few full = omega (arith, few, full)
 
 -- of one value a part, so many parts
-pub stop_alone : (exact : Bool) (n : ℕ) (budget : Budget) {V E : Type 0} (B : Accepting V)
+pub stop_alone : (canonical : Bool) (n : ℕ) (budget : Budget) {V E : Type 0} (B : Accepting V)
     {e : DecodeError E} {a b : View}
-    → Does {V = V} B (RejectsItems exact (1 * n) budget) a b (Err e)
-    → Does {V = V} B (RejectsItems exact n budget) a b (Err e)
-stop_alone exact n budget {V = V} B {e = e} {a = a} {b = b} d =
+    → Does {V = V} B (RejectsItems canonical (1 * n) budget) a b (Err e)
+    → Does {V = V} B (RejectsItems canonical n budget) a b (Err e)
+stop_alone canonical n budget {V = V} B {e = e} {a = a} {b = b} d =
     let one : 1 * n ≡ n = omega arith in
-    subst (λ j. Does {V = V} B (RejectsItems exact j budget) a b (Err e)) one d
+    subst (λ j. Does {V = V} B (RejectsItems canonical j budget) a b (Err e)) one d

@@ -12,21 +12,25 @@ use Rattle.cbor4ii_rw.specs.declared.error.DecodeError.TheVariants.{OutOfMemory,
 use Rattle.cbor4ii_items.specs.{Laws.Answering.fits_zero, Laws.Contents.lends_prefix}
 use Rattle.cbor4ii_items.specs.Laws.Heads.{length-bytes_high_first}
 use Rattle.cbor4ii_items.specs.{Budget.CostFits, Head.{Width, byte_count, additional, HeadFits}}
-use Rattle.cbor4ii_items.specs.Head.{ArgumentAfter, IsBytes, shortest, in_first, one, two, four}
+use Rattle.cbor4ii_items.specs.Head.{ArgumentAfter, IsBytes, shortest_width, in_first, one, two}
+use Rattle.cbor4ii_items.specs.Head.{four}
 use Rattle.cbor4ii_items.specs.{Head.{eight, head}, Initial.{Sign, sign_major, Precision}}
 use Rattle.cbor4ii_items.specs.Initial.{precision_byte, precision_bytes, half, single, double}
 use Rattle.cbor4ii_items.specs.Initial.{Simple, simple_false, unsigned, negative, Kind, kind_major}
 use Rattle.cbor4ii_items.specs.Initial.{simple_byte, byte_string, text_string}
-use Rattle.cbor4ii_tree.specs.{Valuing.{RejectsUnder, SimpleOf, ReadsUnder}, View.view}
+use Rattle.cbor4ii_tree.specs.{Inner.Valuing.{RejectsUnder, SimpleOf, ReadsUnder}, Basis.View.view}
 use Rattle.cbor4ii_tree.specs.{declared.leaf.Next.Next}
 use Rattle.cbor4ii_tree.specs.{declared.value.FloatBits.FloatBits, declared.value.Value.Value}
-use Rattle.cbor4ii_tree.specs.{declared.value.Value.{Integer, Float}, Does.Does}
-use Rattle.cbor4ii_tree.specs.{InputError.{value_name, Small}, Item.{integer, float, IsItem}}
-use Rattle.cbor4ii_tree.specs.{Laws.Binds.step_up, Leaf.{CanTake, ExactHead}}
-use Rattle.cbor4ii_tree.specs.Leaf.{StandsAhead, SeesLeaf, ShowsNext}
-use Rattle.cbor4ii_tree.specs.{Leaf.WantsContent, Meaning.{number, simple_item, content_item}}
-use Rattle.cbor4ii_tree.specs.{Prefix.Offers, Tree.{int, bits, simple, string, TextIsUtf8}}
-use Rattle.cbor4ii_tree.specs.declared.leaf.Leaf.TheVariants.{Whole, NoMemory, End}
+use Rattle.cbor4ii_tree.specs.{declared.value.Value.{Integer, Float}, Inner.Does.Does}
+use Rattle.cbor4ii_tree.specs.{Basis.InputError.{value_name, Small}}
+use Rattle.cbor4ii_tree.specs.{Basis.Item.{integer, float, IsItem}}
+use Rattle.cbor4ii_tree.specs.{Laws.Binds.step_up, Inner.Leaf.{CanTake, ExactHead}}
+use Rattle.cbor4ii_tree.specs.Inner.Leaf.{StandsAhead, SeesLeaf, ShowsNext}
+use Rattle.cbor4ii_tree.specs.{Inner.Leaf.WantsContent}
+use Rattle.cbor4ii_tree.specs.{Basis.Meaning.{number, simple_item, content_item}}
+use Rattle.cbor4ii_tree.specs.{Inner.BytesAhead.Offers}
+use Rattle.cbor4ii_tree.specs.{Basis.Tree.{int, bits, simple, string, TextIsUtf8}}
+use Rattle.cbor4ii_tree.specs.declared.leaf.ValueSeen.TheVariants.{Whole, NoMemory, End}
 use Rattle.cbor4ii_tree.proofs.{heads.Inverse.IsBytes-take, skip_calls.Doing.does_ok}
 use Rattle.cbor4ii_tree.proofs.{skip_calls.Doing.does_no_memory, values.Calls.value_no_byte}
 use Rattle.cbor4ii_tree.proofs.{values.Calls.{fits_less, whole}, values.Encoding.view-Integer}
@@ -86,8 +90,8 @@ module _ (b n k : ℕ) (bs : List ℕ) (small : b < 256) (fresh : IsBytes bs)
       (length-bytes_high_first k n)) ∙ take-append_seam (bytes_high_first k n) (drop k bs) ∙ ap
       (λ j. bytes_high_first j n) a.size
 
-  least : ExactHead b n k → b / 32 ≢ 7 → a.width ≡ shortest n
-  least exact other = same_width a.width (shortest n) (sym a.size ∙ exact.least other)
+  least : ExactHead b n k → b / 32 ≢ 7 → a.width ≡ shortest_width n
+  least canonical other = same_width a.width (shortest_width n) (sym a.size ∙ canonical.least other)
 
   pub int_ahead : (s : Sign) (z : ℤ) (size : ℕ) → size ≡ suc k → b / 32 ≡ sign_major s
       → number s n ≡ z → StandsAhead (ExactHead b n k) (Integer z) size (b ∷ bs)
@@ -98,7 +102,7 @@ module _ (b n k : ℕ) (bs : List ℕ) (small : b < 256) (fresh : IsBytes bs)
         fresh = (small, IsBytes-take k bs fresh);
         item = int s n a.width;
         plain = (a.fits, tt);
-        shape = λ exact. least exact (λ e7. no_sign s (sym m ∙ e7));
+        shape = λ canonical. least canonical (λ e7. no_sign s (sym m ∙ e7));
         step = refl;
         means = ap integer is ∙ sym (view-Integer z);
         ranged =
@@ -123,7 +127,7 @@ module _ (b n k : ℕ) (bs : List ℕ) (small : b < 256) (fresh : IsBytes bs)
         fresh = (small, IsBytes-take k bs fresh);
         item = bits p n;
         plain = (t.1, tt);
-        shape = λ exact. tt;
+        shape = λ canonical. tt;
         step = refl;
         means = means;
         ranged = subst IsItem means t.1;
@@ -146,8 +150,8 @@ module _ (b n k : ℕ) (bs : List ℕ) (small : b < 256) (fresh : IsBytes bs)
         fresh = (small, IsBytes-take (k + n) bs fresh);
         item = string kind a.width content;
         plain = (subst (HeadFits a.width) (sym long) a.fits, valid);
-        shape = λ exact.
-            least exact (λ e7. no_kind kind (sym m ∙ e7)) ∙ ap shortest (sym long);
+        shape = λ canonical.
+            least canonical (λ e7. no_kind kind (sym m ∙ e7)) ∙ ap shortest_width (sym long);
         step = refl;
         means = means;
         ranged = ranged;
@@ -167,7 +171,7 @@ simple_ahead b n k bs v small s = record {
   fresh = (small, tt);
   item = simple s.0;
   plain = (tt, tt);
-  shape = λ exact none. exact.defined (s.1 ∙ ap simple_byte none);
+  shape = λ canonical none. canonical.defined (s.1 ∙ ap simple_byte none);
   step = refl;
   means = s.2;
   ranged = subst IsItem s.2 (simple_item_is s.0);
@@ -189,10 +193,10 @@ wants_may n shown w = record {
 
 -- ---- what a look decides is taken
 
-module _ (exact : Bool) {E : Type 0} {a m b : View} where
+module _ (canonical : Bool) {E : Type 0} {a m b : View} where
   pub takes_leaf : (v : Value) (size : ℕ)
-      → Offers 1 (SeesLeaf (exact ≡ true) (Whole v size)) a m → Advances size m b
-      → Does {E = E} (ReadsUnder exact a.budget) (RejectsUnder exact a.budget) a b (Ok v)
+      → Offers 1 (SeesLeaf (canonical ≡ true) (Whole v size)) a m → Advances size m b
+      → Does {E = E} (ReadsUnder canonical a.budget) (RejectsUnder canonical a.budget) a b (Ok v)
   takes_leaf v size o adv =
       let l = lends_prefix o.shows o.prefix o.is.within o.is.fresh refl adv in
       does_ok _ _ (record {
@@ -203,7 +207,7 @@ module _ (exact : Bool) {E : Type 0} {a m b : View} where
               t.1,
               λ budget step. (
                 o.is.item,
-                whole exact budget o.is.item o.is.plain o.is.shape
+                whole canonical budget o.is.item o.is.plain o.is.shape
                     (subst (λ j. CostFits j budget) (sym o.is.step)
                     (step_up budget a.budget 0 step (fits_zero a.budget))),
                 o.is.means,
@@ -213,20 +217,20 @@ module _ (exact : Bool) {E : Type 0} {a m b : View} where
             );
       })
 
-  pub no_content : (size : ℕ) → Offers 1 (SeesLeaf (exact ≡ true) (NoMemory size)) a m
+  pub no_content : (size : ℕ) → Offers 1 (SeesLeaf (canonical ≡ true) (NoMemory size)) a m
       → Advances size m b → Does {V = Value} {E = E}
-      (ReadsUnder exact a.budget) (RejectsUnder exact a.budget) a b (Err OutOfMemory)
+      (ReadsUnder canonical a.budget) (RejectsUnder canonical a.budget) a b (Err OutOfMemory)
   no_content size o adv =
       let may = wants_may size o.shown o.is in
       does_no_memory _ _ refl (lends_prefix o.shows o.prefix may.within may.fresh refl adv).kept
 
-pub no_value : (exact : Bool) {E : Type 0} {a m : View}
-    → Offers 1 (SeesLeaf (exact ≡ true) End) a m → {name : Bor (List ℕ)} → name.now ≡ value_name
-    → Does {V = Value} {E = E} (ReadsUnder exact a.budget) (RejectsUnder exact a.budget) a m
+pub no_value : (canonical : Bool) {E : Type 0} {a m : View}
+    → Offers 1 (SeesLeaf (canonical ≡ true) End) a m → {name : Bor (List ℕ)} → name.now ≡ value_name
+    → Does {V = Value} {E = E} (ReadsUnder canonical a.budget) (RejectsUnder canonical a.budget) a m
     (Err (Eof name (Small 1)))
-no_value exact {a = a} o says =
-    none_shown (ReadsUnder exact a.budget) (RejectsUnder exact a.budget)
-    (value_no_byte exact a.budget) 1 says (omega arith) o.shows o.prefix o.is
+no_value canonical {a = a} o says =
+    none_shown (ReadsUnder canonical a.budget) (RejectsUnder canonical a.budget)
+    (value_no_byte canonical a.budget) 1 says (omega arith) o.shows o.prefix o.is
 
 -- what follows of what is there
 some_as : {A : Type 0} {P Q : A → Type 0} (o : Option A) → ((x : A) → P x → Q x) → IfSome o P
@@ -234,8 +238,9 @@ some_as : {A : Type 0} {P Q : A → Type 0} (o : Option A) → ((x : A) → P x 
 some_as None f h = tt
 some_as (Some x) f h = f x h
 
-pub shown_can : (exact : Type 0) (n : Next) (a m : View) → ShowsNext exact n a m → CanTake n m
-shown_can exact n a m s = record {
+pub shown_can : (canonical : Type 0) (n : Next) (a m : View) → ShowsNext canonical n a m
+    → CanTake n m
+shown_can canonical n a m s = record {
   first = omega (arith, s.shows.advanceable, ap length s.is.begins);
   head =
       some_as n.head (λ h t. (t.some, omega (arith, t.within, s.shows.advanceable))) s.is.head;

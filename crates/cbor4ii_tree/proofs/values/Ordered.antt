@@ -3,16 +3,21 @@ use Rattle.std.proofs.Common.{◌≡◌, ◌≢◌, ℕ, ◌+◌, ◌<◌, List,
 use Rattle.std.proofs.{Common.{ap, ◌∙◌, subst₂, Vec, Global}, lemmas.List.drop_more}
 use Rattle.std.specs.{declared.cmp.Ordering.Ordering, declared.cmp.Ordering.TheVariants.Equal}
 use Rattle.cbor4ii_items.specs.SequenceBytes.{items_bytes}
-use Rattle.cbor4ii_tree.specs.{Canonical.{canonical_trees, canonical_pairs}, Encoding.value_bytes}
-use Rattle.cbor4ii_tree.specs.{Encoding.member_bytes, Item.{sequence, mapping, item_count}}
-use Rattle.cbor4ii_tree.specs.{Item.member_count, Order.{Compares, head_of, after_head, major_of}}
-use Rattle.cbor4ii_tree.specs.{Order.{elements_of, pairs_of}, Tree.{bytes_all, bytes_pairs}}
-use Rattle.cbor4ii_tree.specs.{View.{view, items_view, members_view}, declared.value.Value.Value}
+use Rattle.cbor4ii_tree.specs.{Basis.Canonical.{canonical_trees, canonical_pairs}}
+use Rattle.cbor4ii_tree.specs.{Calls.Encoding.value_bytes}
+use Rattle.cbor4ii_tree.specs.{Calls.Encoding.value_pair_bytes}
+use Rattle.cbor4ii_tree.specs.{Basis.Item.{sequence, mapping, item_count}}
+use Rattle.cbor4ii_tree.specs.{Basis.Item.item_pair_count}
+use Rattle.cbor4ii_tree.specs.{Calls.Order.{Compares, head_of, after_head, major_of}}
+use Rattle.cbor4ii_tree.specs.{Calls.Order.{elements_of, pairs_of}}
+use Rattle.cbor4ii_tree.specs.{Basis.Tree.{bytes_all, bytes_pairs}}
+use Rattle.cbor4ii_tree.specs.{Basis.View.{view, items_view, pairs_view}}
+use Rattle.cbor4ii_tree.specs.{declared.value.Value.Value}
 use Rattle.cbor4ii_tree.specs.declared.value.Value.{Array, Map}
-use Rattle.cbor4ii_tree.proofs.values.Encoding.{members-canonical_encoding}
+use Rattle.cbor4ii_tree.proofs.values.Encoding.{pairs-canonical_encoding}
 use Rattle.cbor4ii_tree.proofs.values.Encoding.{items-canonical_encoding, view-Array}
 use Rattle.cbor4ii_tree.proofs.values.Views.{view-Map, item_count-items_view}
-use Rattle.cbor4ii_tree.proofs.values.Views.{member_count-members_view}
+use Rattle.cbor4ii_tree.proofs.values.Views.{pair_count-pairs_view}
 use Rattle.cbor4ii_tree.proofs.encodings.Order.{compares_first, compares_then, same_major}
 use Rattle.cbor4ii_tree.proofs.encodings.Order.{after_array, after_map}
 
@@ -40,19 +45,19 @@ arrays a b v ys is seen e =
     }
 
 pub maps : (a b : Value) (v : Vec (Value × Value) Global) (ns : List (Value × Value)) → a ≡ Map v
-    → members_view ns ≡ pairs_of (view b) → head_of (view a) ≡ head_of (view b)
-    → Alike member_bytes v.items ns (after_head (view a)) (after_head (view b))
+    → pairs_view ns ≡ pairs_of (view b) → head_of (view a) ≡ head_of (view b)
+    → Alike value_pair_bytes v.items ns (after_head (view a)) (after_head (view b))
 maps a b v ns is seen e =
-    let whole : view a ≡ mapping (members_view v.items) = ap view is ∙ view-Map v in
+    let whole : view a ≡ mapping (pairs_view v.items) = ap view is ∙ view-Map v in
     let major = sym (same_major (view a) (view b) e) ∙ ap major_of whole in
     let other = after_map (view b) major in
     record {
       long =
-          sym (member_count-members_view v.items) ∙ sym (ap (λ w. (head_of w).1) whole) ∙ ap (λ h.
-          h.1) e ∙ sym other.0 ∙ ap member_count (sym seen) ∙ member_count-members_view ns;
-      first = members-canonical_encoding v.items ∙ sym (ap after_head whole);
+          sym (pair_count-pairs_view v.items) ∙ sym (ap (λ w. (head_of w).1) whole) ∙ ap (λ h.
+          h.1) e ∙ sym other.0 ∙ ap item_pair_count (sym seen) ∙ pair_count-pairs_view ns;
+      first = pairs-canonical_encoding v.items ∙ sym (ap after_head whole);
       second =
-          members-canonical_encoding ns ∙ ap (λ ms. bytes_pairs (canonical_pairs ms)) seen ∙ sym
+          pairs-canonical_encoding ns ∙ ap (λ ms. bytes_pairs (canonical_pairs ms)) seen ∙ sym
           other.1;
     }
 

@@ -18,26 +18,39 @@ use Rattle.cbor4ii_items.specs.{Lengths.RejectsLength, Moves.Moves, Shortest.Rej
 use Rattle.cbor4ii_items.specs.Strings.{break_format}
 use Rattle.cbor4ii_tree.specs.Laws.Initials.{initial_indefinite_map, initial_array, initial_map}
 use Rattle.cbor4ii_tree.specs.{Laws.Initials.initial_indefinite_array, Laws.Wholes.all_readable}
-use Rattle.cbor4ii_tree.specs.{Laws.Wholes.all_pairs_readable, CanonicalShape.CanonicalShapeAll}
-use Rattle.cbor4ii_tree.specs.{CanonicalShape.CanonicalShapePairs, Cost.{Budget, step_in}}
-use Rattle.cbor4ii_tree.specs.{Cost.{greatest_cost, greatest_pair_cost}, Does.{Accepting, Does}}
-use Rattle.cbor4ii_tree.specs.{Does.answered, InputError.{array_name, map_name, mismatch}}
-use Rattle.cbor4ii_tree.specs.{InputError.{depth_overflow, eof, break_name, Small}, Item.sequence}
-use Rattle.cbor4ii_tree.specs.{Item.mapping, Laws.Binds.step_up, Meaning.{member_values, values}}
-use Rattle.cbor4ii_tree.specs.Rejections.{Rejection, Is, AtHead, RejectsAtStep, RejectsInCount}
-use Rattle.cbor4ii_tree.specs.Rejections.{Each}
-use Rattle.cbor4ii_tree.specs.{Rejections.{EachPair, NoBreak}, Tree.{Tree, Trees, no_trees, Pairs}}
-use Rattle.cbor4ii_tree.specs.Tree.{no_pairs, pair, array, array_indefinite, map_of, map_indefinite}
-use Rattle.cbor4ii_tree.specs.Tree.{bytes, bytes_all, bytes_pairs, LooseAll, LoosePairs}
-use Rattle.cbor4ii_tree.specs.Tree.{SoundStringsAll, SoundStringsPairs, count, pair_count, tree}
-use Rattle.cbor4ii_tree.specs.Valuing.{Whole, HeadAt, IndefiniteAt, ReadsOneValue, RejectsOneValue}
-use Rattle.cbor4ii_tree.specs.Valuing.{RejectsUnder, TakesLength, ReadsItems}
-use Rattle.cbor4ii_tree.specs.Valuing.{RejectsItems, ReadsIndefiniteItems, RejectsIndefiniteItems}
-use Rattle.cbor4ii_tree.specs.Valuing.{RejectsIndefiniteMembers, ReadsMember, RejectsMember}
-use Rattle.cbor4ii_tree.specs.Valuing.{RejectsMajor, RejectsOf, flat_values, ReadsInside}
-use Rattle.cbor4ii_tree.specs.{View.{items_view, members_view}, declared.value.Value.{Value, Array}}
-use Rattle.cbor4ii_tree.specs.{declared.value.Value.Map, CanonicalRejects.AtShortest}
-use Rattle.cbor4ii_tree.specs.CanonicalRejects.{FitsCanonically}
+use Rattle.cbor4ii_tree.specs.{Laws.Wholes.all_pairs_readable}
+use Rattle.cbor4ii_tree.specs.{Calls.CanonicalShape.CanonicalShapeAll}
+use Rattle.cbor4ii_tree.specs.{Calls.CanonicalShape.CanonicalShapePairs}
+use Rattle.cbor4ii_tree.specs.{Basis.Cost.{Budget, step_in}}
+use Rattle.cbor4ii_tree.specs.{Basis.Cost.{greatest_cost, greatest_pair_cost}}
+use Rattle.cbor4ii_tree.specs.{Inner.Does.{Accepting, Does}}
+use Rattle.cbor4ii_tree.specs.{Inner.Does.value_or_error}
+use Rattle.cbor4ii_tree.specs.{Basis.InputError.{array_name, map_name, mismatch}}
+use Rattle.cbor4ii_tree.specs.{Basis.InputError.{depth_overflow, eof, break_name, Small}}
+use Rattle.cbor4ii_tree.specs.{Basis.Item.sequence}
+use Rattle.cbor4ii_tree.specs.{Basis.Item.mapping, Laws.Binds.step_up}
+use Rattle.cbor4ii_tree.specs.{Basis.Meaning.{pair_values_of, values}}
+use Rattle.cbor4ii_tree.specs.Calls.Rejections.{Rejection, Is, AtHead, RejectsAtStep}
+use Rattle.cbor4ii_tree.specs.Calls.Rejections.{RejectsInCount}
+use Rattle.cbor4ii_tree.specs.Calls.Rejections.{Each}
+use Rattle.cbor4ii_tree.specs.{Calls.Rejections.{EachPair, NoBreak}}
+use Rattle.cbor4ii_tree.specs.{Basis.Tree.{Tree, Trees, no_trees, Pairs}}
+use Rattle.cbor4ii_tree.specs.Basis.Tree.{no_pairs, pair, array, array_indefinite, map_of}
+use Rattle.cbor4ii_tree.specs.Basis.Tree.{map_indefinite}
+use Rattle.cbor4ii_tree.specs.Basis.Tree.{bytes, bytes_all, bytes_pairs, LooseAll, LoosePairs}
+use Rattle.cbor4ii_tree.specs.Basis.Tree.{SoundStringsAll, SoundStringsPairs, count, pair_count}
+use Rattle.cbor4ii_tree.specs.Basis.Tree.{tree}
+use Rattle.cbor4ii_tree.specs.Inner.Valuing.{Whole, HeadAt, IndefiniteAt, ReadsOneValue}
+use Rattle.cbor4ii_tree.specs.Inner.Valuing.{RejectsOneValue}
+use Rattle.cbor4ii_tree.specs.Inner.Valuing.{RejectsUnder, TakesLength, ReadsItems}
+use Rattle.cbor4ii_tree.specs.Inner.Valuing.{RejectsItems, ReadsIndefiniteItems}
+use Rattle.cbor4ii_tree.specs.Inner.Valuing.{RejectsIndefiniteItems}
+use Rattle.cbor4ii_tree.specs.Inner.Valuing.{RejectsPairsToBreak, ReadsValuePair, RejectsValuePair}
+use Rattle.cbor4ii_tree.specs.Inner.Valuing.{RejectsMajor, RejectsOf, flat_values, ReadsTwoStepsIn}
+use Rattle.cbor4ii_tree.specs.{Basis.View.{items_view, pairs_view}}
+use Rattle.cbor4ii_tree.specs.{declared.value.Value.{Value, Array}}
+use Rattle.cbor4ii_tree.specs.{declared.value.Value.Map, Calls.CanonicalRejects.AtShortest}
+use Rattle.cbor4ii_tree.specs.Calls.CanonicalRejects.{FitsCanonically}
 use Rattle.cbor4ii_tree.proofs.skip_calls.Doing.{Reached, reached_by, reached_then}
 use Rattle.cbor4ii_tree.proofs.skip_calls.Doing.{call_rejects, reached_as, reached_sound}
 use Rattle.cbor4ii_tree.proofs.skip_calls.Doing.{does_ok, does_no_step}
@@ -45,7 +58,8 @@ use Rattle.cbor4ii_tree.proofs.values.Calls.{indefinite_byte, head_cut, no_head,
 use Rattle.cbor4ii_tree.proofs.{values.Calls.{stops_under}, values.Encoding.view-Array}
 use Rattle.cbor4ii_tree.proofs.canonical.FitsCanonically.{all_exactly, all_pairs_exactly}
 use Rattle.cbor4ii_tree.proofs.parts.Rejecting.{in_items, in_pairs, headed_by}
-use Rattle.cbor4ii_tree.proofs.values.Heads.{at_row, at_major, first_is, head_at, shortest_at}
+use Rattle.cbor4ii_tree.proofs.values.Heads.{at_row, at_major, first_is, head_at}
+use Rattle.cbor4ii_tree.proofs.values.HeadAt.{width_of_head}
 use Rattle.cbor4ii_tree.proofs.{values.Views.view-Map, values.LeafRuns.{ReadEach, none_read}}
 use Rattle.cbor4ii_tree.proofs.{values.LeafRuns.{join_items, one_item}, skip_calls.Calls.Before}
 use Rattle.cbor4ii_tree.proofs.skip_calls.Calls.{broke, other, at_end}
@@ -84,7 +98,7 @@ by_info true = map_by_info
 -- what is rejected after the step, by what the first byte adds
 abbrev pub RejectsOpen : Bool → Bool → Budget → Rejection
 RejectsOpen false = RejectsIndefiniteItems
-RejectsOpen true = RejectsIndefiniteMembers
+RejectsOpen true = RejectsPairsToBreak
 
 abbrev pub RejectsInside : Bool → Info → Budget → ℕ → Rejection
 RejectsInside keyed (wide w) inner b bs =
@@ -152,8 +166,8 @@ initial_open false = initial_indefinite_array
 initial_open true = initial_indefinite_map
 
 -- no step is left
-pub parts_no_step : (keyed exact : Bool) (budget : Budget) → budget ≡ Some 0 → (xs : List ℕ)
-    → RejectsOf exact (major_of keyed) budget xs (depth_overflow (name_of keyed)) xs
+pub parts_no_step : (keyed canonical : Bool) (budget : Budget) → budget ≡ Some 0 → (xs : List ℕ)
+    → RejectsOf canonical (major_of keyed) budget xs (depth_overflow (name_of keyed)) xs
 parts_no_step keyed false budget none xs b bs is m =
     let i = info_of (b % 32) in
     rw is (at_info budget b bs _ _ keyed i (initial_by keyed b m) (no_step_left (name_of keyed)
@@ -162,11 +176,11 @@ parts_no_step keyed true budget none xs b bs is m =
     rw is (at_canonical budget b bs _ _ keyed m (no_step_left (name_of keyed) (b ∷ bs) (λ inner.
     RejectsCanonically keyed (RejectsOneValue true) inner (b ∷ bs)) budget none))
 
-pub parts_deep : (keyed exact : Bool) {V E : Type 0} {name : Bor (List ℕ)} {A : Accepting V}
+pub parts_deep : (keyed canonical : Bool) {V E : Type 0} {name : Bor (List ℕ)} {A : Accepting V}
     {a b : View} → name.now ≡ name_of keyed → StepsIn a.budget b.budget false
     → KeepsAllButBudget a b
-    → Does {E = E} A (RejectsOf exact (major_of keyed) a.budget) a b (Err (DepthOverflow name))
-parts_deep keyed exact {a = a} is takes k =
+    → Does {E = E} A (RejectsOf canonical (major_of keyed) a.budget) a b (Err (DepthOverflow name))
+parts_deep keyed canonical {a = a} is takes k =
     does_no_step _ _ _ (ap (λ n. Some (depth_overflow n)) is) refl (parts_no_step _ _ _) takes k
 
 -- ---- heads
@@ -215,11 +229,12 @@ shortest_rejected keyed {major = major} is {a = a} moves s =
 
 -- the length that a head says
 pub length_does : (keyed : Bool) {E : Type 0} {a c : View} (r : Option (Option ℕ))
-    (failure : Option (DecodeError E)) → Moves a c (answered r failure)
-    → IfOk (answered r failure) (Sound (ReadsLength (major_of keyed)) a c)
-    → IfErr (answered r failure) (Rejects (RejectsLength (name_of keyed) (major_of keyed)) a c)
+    (failure : Option (DecodeError E)) → Moves a c (value_or_error r failure)
+    → IfOk (value_or_error r failure) (Sound (ReadsLength (major_of keyed)) a c)
+    → IfErr (value_or_error r failure) (Rejects (RejectsLength (name_of keyed) (major_of keyed)) a
+    c)
     → Does (TakesLength false (major_of keyed) a.budget)
-    (RejectsMajor false (major_of keyed) a.budget) a c (answered r failure)
+    (RejectsMajor false (major_of keyed) a.budget) a c (value_or_error r failure)
 length_does keyed (Some (Some n)) failure moves s h =
     does_ok _ _ (reached_sound (ReadsLength (major_of keyed)) (HeadAt false (major_of keyed) n)
     (λ xs k c _ r. head_at false (major_of keyed) n xs k r.0 (λ e. cc)) moves s)
@@ -234,23 +249,24 @@ length_does keyed {a = a} None failure moves s h =
 
 -- ---- what is rejected after a head
 
-pub row : (keyed exact : Bool) (n : ℕ) (inner : Budget) (xs ys : List ℕ) (e : InputError)
-    (rest : List ℕ) → HeadAt exact (major_of keyed) n xs ys
-    → RejectsItems exact (in_all keyed n) inner ys e rest
-    → RejectsMajor exact (major_of keyed) inner xs e rest
+pub row : (keyed canonical : Bool) (n : ℕ) (inner : Budget) (xs ys : List ℕ) (e : InputError)
+    (rest : List ℕ) → HeadAt canonical (major_of keyed) n xs ys
+    → RejectsItems canonical (in_all keyed n) inner ys e rest
+    → RejectsMajor canonical (major_of keyed) inner xs e rest
 row keyed false n inner xs ys e rest h s b bs is m outer step =
-    rw h.3 (inside _ _ _ _ _ _ _ _ (initial_wide _ _ _ h.1) step (inr (headed_by n ys h.1 refl s)))
+    rw h.2 (inside _ _ _ _ _ _ _ _ (initial_wide _ _ _ h.1) step (inr (headed_by n ys h.1 refl s)))
 row keyed true n inner xs ys e rest h s b bs is m outer step =
     canonical_rejects _ _ _ _ _ (inr (record {
       argument = n;
       after = ys;
-      is = shortest_at (major_of keyed) n xs ys h;
+      is = h;
       rejected = s;
     })) b bs is m outer step
 
-pub open_row : (keyed exact : Bool) (inner : Budget) (xs ys : List ℕ) (e : InputError)
-    (rest : List ℕ) → IndefiniteAt exact (major_of keyed) xs ys → RejectsOpen keyed exact inner ys e
-    rest → RejectsMajor exact (major_of keyed) inner xs e rest
+pub open_row : (keyed canonical : Bool) (inner : Budget) (xs ys : List ℕ) (e : InputError)
+    (rest : List ℕ) → IndefiniteAt canonical (major_of keyed) xs ys → RejectsOpen keyed canonical
+    inner ys e
+    rest → RejectsMajor canonical (major_of keyed) inner xs e rest
 open_row keyed false inner xs ys e rest h s b bs is m outer step =
     rw h.1 (inside outer _ ys e rest keyed indefinite_ended inner (initial_open keyed) step s)
 open_row keyed true inner xs ys e rest h s b bs is m outer step = cc
@@ -262,14 +278,14 @@ two_steps : (c : ℕ) (budget inner deep : Budget) → step_in budget ≡ Some i
 two_steps c budget inner deep s t f =
     fits_less (2 + c) (1 + (1 + c)) budget (omega arith) (step_up _ _ _ s (step_up _ _ _ t f))
 
-all_whole : (exact : Bool) (ts : Trees) (b : Budget) → Each (Whole exact b) ts
-    → (LooseAll ts × SoundStringsAll ts) × (exact ≡ true → CanonicalShapeAll ts)
+all_whole : (canonical : Bool) (ts : Trees) (b : Budget) → Each (Whole canonical b) ts
+    → (LooseAll ts × SoundStringsAll ts) × (canonical ≡ true → CanonicalShapeAll ts)
     × CostFits (greatest_cost ts) b
 all_whole false ts b w = let r = all_readable ts b w in (r.0, (λ e. cc), r.1)
 all_whole true ts b w = let r = all_exactly ts b w in (r.0, (λ e. r.1), r.2)
 
-all_pairs_whole : (exact : Bool) (ps : Pairs) (b : Budget) → EachPair (Whole exact b) ps
-    → (LoosePairs ps × SoundStringsPairs ps) × (exact ≡ true → CanonicalShapePairs ps)
+all_pairs_whole : (canonical : Bool) (ps : Pairs) (b : Budget) → EachPair (Whole canonical b) ps
+    → (LoosePairs ps × SoundStringsPairs ps) × (canonical ≡ true → CanonicalShapePairs ps)
     × CostFits (greatest_pair_cost ps) b
 all_pairs_whole false ps b w = let r = all_pairs_readable ps b w in (r.0, (λ e. cc), r.1)
 all_pairs_whole true ps b w = let r = all_pairs_exactly ps b w in (r.0, (λ e. r.1), r.2)
@@ -278,7 +294,7 @@ all_pairs_whole true ps b w = let r = all_pairs_exactly ps b w in (r.0, (λ e. r
 paired : (W : Tree → Type 0) (ms : List (Value × Value)) (ts : Trees) → Each W ts
     → values ts ≡ items_view (flat_values ms)
     → (ps : Pairs) × (count ts ≡ 2 * pair_count ps) × EachPair W ps
-    × (member_values ps ≡ members_view ms) × (bytes_all ts ≡ bytes_pairs ps)
+    × (pair_values_of ps ≡ pairs_view ms) × (bytes_all ts ≡ bytes_pairs ps)
 paired W [] no_trees h e = (no_pairs, refl, tt, refl, refl)
 paired W [] (tree t ts) h e = cc
 paired W (m ∷ ms) no_trees h e = cc
@@ -292,51 +308,53 @@ paired W (m ∷ ms) (tree k (tree v ts)) h e =
       ap (λ z. bytes k ++ (bytes v ++ z)) r.4,
     )
 
-pub reads : (keyed exact : Bool) (deep : Budget) (n : ℕ) (v : Vec (Element keyed) Global)
-    (xs ys zs : List ℕ) → HeadAt exact (major_of keyed) n xs ys
-    → ReadsItems exact (in_all keyed n) deep ys (values_of keyed v.items) zs
-    → ReadsInside exact deep xs (made_of keyed v) zs
-reads false exact deep n v xs ys zs h r inner t budget s =
-    let k = subst (λ j. HeadAt exact 4 j xs ys) (sym r.1) h in
-    let all = all_whole exact r.0 deep r.2 in (
+pub reads : (keyed canonical : Bool) (deep : Budget) (n : ℕ) (v : Vec (Element keyed) Global)
+    (xs ys zs : List ℕ) → HeadAt canonical (major_of keyed) n xs ys
+    → ReadsItems canonical (in_all keyed n) deep ys (values_of keyed v.items) zs
+    → ReadsTwoStepsIn canonical deep xs (made_of keyed v) zs
+reads false canonical deep n v xs ys zs h r inner t budget s =
+    let k = width_of_head canonical 4 (count r.0) xs ys
+    (subst (λ j. HeadAt canonical 4 j xs ys) (sym r.1) h) in
+    let all = all_whole canonical r.0 deep r.2 in (
       array k.0 r.0,
-      whole exact budget (array k.0 r.0) ((k.1, all.0.0), all.0.1) (λ e. (k.2 e, all.1 e))
+      whole canonical budget (array k.0 r.0) ((k.1, all.0.0), all.0.1) (λ e. (k.2 e, all.1 e))
           (two_steps (greatest_cost r.0) budget inner deep s t all.2),
       ap sequence r.3 ∙ sym (view-Array v),
       k.3 ∙ ap (λ z. head 4 (count r.0) k.0 ++ z) r.4
           ∙ sym (append_assoc (head 4 (count r.0) k.0) (bytes_all r.0) zs),
     )
-reads true exact deep n v xs ys zs h r inner t budget s =
-    let p = paired (Whole exact deep) v.items r.0 r.2 r.3 in
+reads true canonical deep n v xs ys zs h r inner t budget s =
+    let p = paired (Whole canonical deep) v.items r.0 r.2 r.3 in
     let many : n ≡ pair_count p.0 = omega (arith, r.1, p.1) in
-    let k = subst (λ j. HeadAt exact 5 j xs ys) many h in
-    let all = all_pairs_whole exact p.0 deep p.2 in (
+    let k = width_of_head canonical 5 (pair_count p.0) xs ys
+    (subst (λ j. HeadAt canonical 5 j xs ys) many h) in
+    let all = all_pairs_whole canonical p.0 deep p.2 in (
       map_of k.0 p.0,
-      whole exact budget (map_of k.0 p.0) ((k.1, all.0.0), all.0.1) (λ e. (k.2 e, all.1 e))
+      whole canonical budget (map_of k.0 p.0) ((k.1, all.0.0), all.0.1) (λ e. (k.2 e, all.1 e))
           (two_steps (greatest_pair_cost p.0) budget inner deep s t all.2),
       ap mapping p.3 ∙ sym (view-Map v),
       k.3 ∙ ap (λ z. head 5 (pair_count p.0) k.0 ++ z) (r.4 ∙ ap (λ z. z ++ zs) p.4)
           ∙ sym (append_assoc (head 5 (pair_count p.0) k.0) (bytes_pairs p.0) zs),
     )
 
-pub open_reads : (keyed exact : Bool) (deep : Budget) (v : Vec (Element keyed) Global)
-    (xs ys zs : List ℕ) → IndefiniteAt exact (major_of keyed) xs ys
-    → ReadsIndefiniteItems exact deep ys (values_of keyed v.items) zs
-    → ReadsInside exact deep xs (made_of keyed v) zs
-open_reads false exact deep v xs ys zs h r inner t budget s =
-    let all = all_whole exact r.0 deep r.2 in (
+pub open_reads : (keyed canonical : Bool) (deep : Budget) (v : Vec (Element keyed) Global)
+    (xs ys zs : List ℕ) → IndefiniteAt canonical (major_of keyed) xs ys
+    → ReadsIndefiniteItems canonical deep ys (values_of keyed v.items) zs
+    → ReadsTwoStepsIn canonical deep xs (made_of keyed v) zs
+open_reads false canonical deep v xs ys zs h r inner t budget s =
+    let all = all_whole canonical r.0 deep r.2 in (
       array_indefinite r.0,
-      whole exact budget (array_indefinite r.0) all.0 (λ e. cc)
+      whole canonical budget (array_indefinite r.0) all.0 (λ e. cc)
           (two_steps (greatest_cost r.0) budget inner deep s t all.2),
       ap sequence r.3 ∙ sym (view-Array v),
       h.1 ∙ ap (λ z. indefinite_head 4 ∷ z)
           (r.4 ∙ sym (append_assoc (bytes_all r.0) (break ∷ []) zs)),
     )
-open_reads true exact deep v xs ys zs h r inner t budget s =
-    let p = paired (Whole exact deep) v.items r.0 r.2 r.3 in
-    let all = all_pairs_whole exact p.0 deep p.2 in (
+open_reads true canonical deep v xs ys zs h r inner t budget s =
+    let p = paired (Whole canonical deep) v.items r.0 r.2 r.3 in
+    let all = all_pairs_whole canonical p.0 deep p.2 in (
       map_indefinite p.0,
-      whole exact budget (map_indefinite p.0) all.0 (λ e. cc)
+      whole canonical budget (map_indefinite p.0) all.0 (λ e. cc)
           (two_steps (greatest_pair_cost p.0) budget inner deep s t all.2),
       ap mapping p.3 ∙ sym (view-Map v),
       h.1 ∙ ap (λ z. indefinite_head 5 ∷ z) (r.4 ∙ ap (λ z. z ++ (break ∷ zs)) p.4
@@ -351,20 +369,23 @@ answer_as f (Ok u) = Ok (f u)
 answer_as f (Err e) = Err e
 
 -- the length that was taken
-pub follow : (exact : Bool) {E : Type 0} (major : ℕ) (o p : Option ℕ) {S : Rejection} {a m : View}
-    → o ≡ p → Does {E = E} (TakesLength exact major a.budget) S a m (Ok o)
-    → Reached (λ xs ys. TakesLength exact major a.budget xs p ys) a m
-follow exact major o p {a = a} is d =
-    reached_as (λ xs ys. TakesLength exact major a.budget xs o ys) _
-    (λ xs ys h. subst (λ z. TakesLength exact major a.budget xs z ys) is h) (reached_by d)
+pub follow : (canonical : Bool) {E : Type 0} (major : ℕ) (o p : Option ℕ) {S : Rejection}
+    {a m : View}
+    → o ≡ p → Does {E = E} (TakesLength canonical major a.budget) S a m (Ok o)
+    → Reached (λ xs ys. TakesLength canonical major a.budget xs p ys) a m
+follow canonical major o p {a = a} is d =
+    reached_as (λ xs ys. TakesLength canonical major a.budget xs o ys) _
+    (λ xs ys h. subst (λ z. TakesLength canonical major a.budget xs z ys) is h) (reached_by d)
 
 -- no element
-pub none_follow : (exact : Bool) {E T : Type 0} (f : T → List Value) (v : T) {m : View} → f v ≡ []
-    → Does {E = E} (λ xs u ys. ReadsItems exact 0 m.budget xs (f u) ys)
-    (RejectsItems exact 0 m.budget) m m (Ok v)
-none_follow exact f v {m = m} e =
-    does_ok _ _ (reached_as (ReadEach exact (f v) m.budget) _ (λ xs ys h. subst (λ us. ReadsItems
-    exact (length us) m.budget xs (f v) ys) e h) (none_read exact m (f v) e))
+pub none_follow : (canonical : Bool) {E T : Type 0} (f : T → List Value) (v : T) {m : View}
+    → f v ≡ []
+    → Does {E = E} (λ xs u ys. ReadsItems canonical 0 m.budget xs (f u) ys)
+    (RejectsItems canonical 0 m.budget) m m (Ok v)
+none_follow canonical f v {m = m} e =
+    does_ok _ _ (reached_as (ReadEach canonical (f v) m.budget) _
+    (λ xs ys h. subst (λ us. ReadsItems
+    canonical (length us) m.budget xs (f v) ys) e h) (none_read canonical m (f v) e))
 
 -- it is a map where it is no array
 pub is_map : {major : ℕ} → (major ≡ 4) ⊎ (major ≡ 5) → major ≢ 4 → major ≡ 5
@@ -372,106 +393,120 @@ is_map h other = omega (arith, h, other)
 
 -- ---- values one after another, up to a break
 
-no_break : (exact : Bool) (budget : Budget) (ys : List ℕ) (e : InputError) (rest : List ℕ) → ys ≢ []
-    → ((bs : List ℕ) → ys ≡ break ∷ bs → ⊥) → RejectsOneValue exact budget ys e rest
-    → NoBreak (RejectsOneValue exact budget) ys e rest
-no_break exact budget [] e rest some none s = absurd (some refl)
-no_break exact budget (b ∷ bs) e rest some none s = ((λ f. none bs (ap (λ c. c ∷ bs) f)), s)
+no_break : (canonical : Bool) (budget : Budget) (ys : List ℕ) (e : InputError) (rest : List ℕ)
+    → ys ≢ []
+    → ((bs : List ℕ) → ys ≡ break ∷ bs → ⊥) → RejectsOneValue canonical budget ys e rest
+    → NoBreak (RejectsOneValue canonical budget) ys e rest
+no_break canonical budget [] e rest some none s = absurd (some refl)
+no_break canonical budget (b ∷ bs) e rest some none s = ((λ f. none bs (ap (λ c. c ∷ bs) f)), s)
 
-open_stop : (keyed exact : Bool) (budget : Budget) (vs : List (Element keyed)) (xs ys : List ℕ)
-    (e : InputError) (rest : List ℕ) → ReadEach exact (values_of keyed vs) budget xs ys
-    → NoBreak (RejectsOneValue exact budget) ys e rest → RejectsOpen keyed exact budget xs e rest
-open_stop false exact budget vs xs ys e rest h s = in_items h.0 ys h.2 h.4 s
-open_stop true exact budget ms xs ys e rest h s =
-    let r = paired (Whole exact budget) ms h.0 h.2 h.3 in
+open_stop : (keyed canonical : Bool) (budget : Budget) (vs : List (Element keyed)) (xs ys : List ℕ)
+    (e : InputError) (rest : List ℕ) → ReadEach canonical (values_of keyed vs) budget xs ys
+    → NoBreak (RejectsOneValue canonical budget) ys e rest → RejectsOpen keyed canonical budget xs e
+    rest
+open_stop false canonical budget vs xs ys e rest h s = in_items h.0 ys h.2 h.4 s
+open_stop true canonical budget ms xs ys e rest h s =
+    let r = paired (Whole canonical budget) ms h.0 h.2 h.3 in
     in_pairs r.0 ys r.2 (h.4 ∙ ap (λ z. z ++ ys) r.4) (inl s)
 
-pair_stop : (exact : Bool) (budget : Budget) (ms : List (Value × Value)) (xs ys : List ℕ)
-    (e : InputError) (rest : List ℕ) → Before (ReadEach exact (flat_values ms)) budget xs ys
-    → RejectsMember exact budget ys e rest → RejectsIndefiniteMembers exact budget xs e rest
-pair_stop exact budget ms xs ys e rest h (inl s) =
-    open_stop true exact budget ms xs ys e rest h.0 (no_break exact budget ys e rest h.1 h.2 s)
-pair_stop exact budget ms xs ys e rest h (inr k) =
-    let r = paired (Whole exact budget) ms h.0.0 h.0.2 h.0.3 in
+pair_stop : (canonical : Bool) (budget : Budget) (ms : List (Value × Value)) (xs ys : List ℕ)
+    (e : InputError) (rest : List ℕ) → Before (ReadEach canonical (flat_values ms)) budget xs ys
+    → RejectsValuePair canonical budget ys e rest → RejectsPairsToBreak canonical budget xs e rest
+pair_stop canonical budget ms xs ys e rest h (inl s) =
+    open_stop true canonical budget ms xs ys e rest h.0 (no_break canonical budget ys e rest h.1 h.2
+    s)
+pair_stop canonical budget ms xs ys e rest h (inr k) =
+    let r = paired (Whole canonical budget) ms h.0.0 h.0.2 h.0.3 in
     in_pairs r.0 ys r.2 (h.0.4 ∙ ap (λ z. z ++ ys) r.4) (inr k)
 
 -- after a look for a break
-module _ (exact : Bool) (vs : List Value) {E : Type 0} {a m b : View}
-    {r : Result Bool (DecodeError E)} (p : Reached (ReadEach exact vs a.budget) a m)
+module _ (canonical : Bool) (vs : List Value) {E : Type 0} {a m b : View}
+    {r : Result Bool (DecodeError E)} (p : Reached (ReadEach canonical vs a.budget) a m)
     (d : Decodes break_format m b r) where
   -- there is one
   pub break_taken : {v : Bool} → r ≡ Ok v → v ≡ true
-      → Reached (λ xs ys. ReadsIndefiniteItems exact a.budget xs vs ys) a b
+      → Reached (λ xs ys. ReadsIndefiniteItems canonical a.budget xs vs ys) a b
   break_taken is v =
-      broke (ReadEach exact vs) p _ (λ xs ys zs h e. subst (ReadEach exact vs a.budget xs) e h) v
+      broke (ReadEach canonical vs) p _ (λ xs ys zs h e. subst (ReadEach canonical vs a.budget xs) e
+      h) v
       (rw is at d.moves) (rw is at d.sound)
 
   -- another byte comes next
   pub no_break_yet : {v : Bool} → r ≡ Ok v → v ≡ false
-      → Reached (Before (ReadEach exact vs) a.budget) a b
+      → Reached (Before (ReadEach canonical vs) a.budget) a b
   no_break_yet is v =
-      other (ReadEach exact vs) p v (rw is at d.moves) (rw is at d.sound)
+      other (ReadEach canonical vs) p v (rw is at d.moves) (rw is at d.sound)
 
 -- there is no byte
-pub no_byte_left : (keyed exact : Bool) (vs : List (Element keyed)) {V E : Type 0}
+pub no_byte_left : (keyed canonical : Bool) (vs : List (Element keyed)) {V E : Type 0}
     (B : Accepting V) {a m b : View} {r : Result Bool (DecodeError E)} {e : DecodeError E}
-    → Reached (ReadEach exact (values_of keyed vs) a.budget) a m → Decodes break_format m b r
-    → r ≡ Err e → Does {V = V} B (RejectsOpen keyed exact a.budget) a b (Err e)
-no_byte_left keyed exact vs B {a = a} p d is =
+    → Reached (ReadEach canonical (values_of keyed vs) a.budget) a m → Decodes break_format m b r
+    → r ≡ Err e → Does {V = V} B (RejectsOpen keyed canonical a.budget) a b (Err e)
+no_byte_left keyed canonical vs B {a = a} p d is =
     let z = eof break_name (Small 1) in
-    at_end (ReadEach exact (values_of keyed vs)) p B _ (λ xs ys h e. open_stop keyed exact a.budget
-    vs xs ys z [] h (subst (λ zs. NoBreak (RejectsOneValue exact a.budget) zs z []) (sym e)
+    at_end (ReadEach canonical (values_of keyed vs)) p B _ (λ xs ys h e. open_stop keyed canonical
+    a.budget
+    vs xs ys z [] h (subst (λ zs. NoBreak (RejectsOneValue canonical a.budget) zs z []) (sym e)
     (refl, refl))) (rw is at d.moves) (rw is at d.begins)
 
 -- ---- one more
 
 -- values after those that were read
-pub put_read : (exact : Bool) (vs part : List Value) {ws : List Value} {a m b : View}
-    → ws ≡ vs ++ part → Reached (Before (ReadEach exact vs) a.budget) a m
-    → Reached (λ xs ys. ReadEach exact part m.budget xs ys) m b
-    → Reached (ReadEach exact ws a.budget) a b
-put_read exact vs part {a = a} is p q =
-    reached_then (Before (ReadEach exact vs) a.budget) _ _ (λ xs ys zs h s. subst (λ us. ReadEach
-    exact us a.budget xs zs) (sym is) (join_items (Whole exact a.budget) vs part xs ys zs h.0 (subst
-    (λ o. ReadEach exact part o ys zs) p.kept.budget s))) p q
+pub put_read : (canonical : Bool) (vs part : List Value) {ws : List Value} {a m b : View}
+    → ws ≡ vs ++ part → Reached (Before (ReadEach canonical vs) a.budget) a m
+    → Reached (λ xs ys. ReadEach canonical part m.budget xs ys) m b
+    → Reached (ReadEach canonical ws a.budget) a b
+put_read canonical vs part {a = a} is p q =
+    reached_then (Before (ReadEach canonical vs) a.budget) _ _
+    (λ xs ys zs h s. subst (λ us. ReadEach
+    canonical us a.budget xs zs) (sym is) (join_items (Whole canonical a.budget) vs part xs ys zs
+    h.0 (subst
+    (λ o. ReadEach canonical part o ys zs) p.kept.budget s))) p q
 
 -- a value, or a pair, that is rejected after them
-module _ (exact : Bool) {V E : Type 0} (B : Accepting V) {e : DecodeError E} {a m b : View} where
-  pub value_stops : (vs : List Value) → Reached (Before (ReadEach exact vs) a.budget) a m
-      → Does {V = Value} (ReadsOneValue exact m.budget) (RejectsOneValue exact m.budget) m b (Err e)
-      → Does {V = V} B (RejectsIndefiniteItems exact a.budget) a b (Err e)
+module _ (canonical : Bool) {V E : Type 0} (B : Accepting V)
+    {e : DecodeError E} {a m b : View} where
+  pub value_stops : (vs : List Value) → Reached (Before (ReadEach canonical vs) a.budget) a m
+      → Does {V = Value} (ReadsOneValue canonical m.budget) (RejectsOneValue canonical m.budget) m b
+      (Err e)
+      → Does {V = V} B (RejectsIndefiniteItems canonical a.budget) a b (Err e)
   value_stops vs p d =
-      stops_under (Before (ReadEach exact vs) a.budget) (ReadsOneValue exact) (RejectsOneValue
-      exact) B _ (λ xs ys z rest h s. open_stop
-      false exact a.budget vs xs ys z rest h.0 (no_break exact a.budget ys z rest h.1 h.2 s)) p d
+      stops_under (Before (ReadEach canonical vs) a.budget) (ReadsOneValue canonical)
+      (RejectsOneValue
+      canonical) B _ (λ xs ys z rest h s. open_stop
+      false canonical a.budget vs xs ys z rest h.0 (no_break canonical a.budget ys z rest h.1 h.2
+      s)) p d
 
-  pub member_stops : (ms : List (Value × Value))
-      → Reached (Before (ReadEach exact (flat_values ms)) a.budget) a m
-      → Does {V = Value × Value} (ReadsMember exact m.budget) (RejectsMember exact m.budget) m b
-      (Err e) → Does {V = V} B (RejectsIndefiniteMembers exact a.budget) a b (Err e)
-  member_stops ms p d =
-      stops_under (Before (ReadEach exact (flat_values ms)) a.budget) (ReadsMember exact)
-      (RejectsMember exact) B _ (λ xs ys. pair_stop exact a.budget ms xs ys) p d
+  pub pair_stops : (ms : List (Value × Value))
+      → Reached (Before (ReadEach canonical (flat_values ms)) a.budget) a m
+      → Does {V = Value × Value} (ReadsValuePair canonical m.budget) (RejectsValuePair canonical
+      m.budget) m b
+      (Err e) → Does {V = V} B (RejectsPairsToBreak canonical a.budget) a b (Err e)
+  pair_stops ms p d =
+      stops_under (Before (ReadEach canonical (flat_values ms)) a.budget) (ReadsValuePair canonical)
+      (RejectsValuePair canonical) B _ (λ xs ys. pair_stop canonical a.budget ms xs ys) p d
 
 -- ---- a pair
 
-module _ (exact : Bool) {k : Value} {E : Type 0} {S : Rejection} {a m : View}
-    (key : Does {E = E} (ReadsOneValue exact a.budget) S a m (Ok k)) where
+module _ (canonical : Bool) {k : Value} {E : Type 0} {S : Rejection} {a m : View}
+    (key : Does {E = E} (ReadsOneValue canonical a.budget) S a m (Ok k)) where
   pub pair_read : {v : Value} {b : View} {T : Rejection}
-      → Does {E = E} (ReadsOneValue exact m.budget) T m b (Ok v)
-      → Reached (λ xs ys. ReadsMember exact a.budget xs (k, v) ys) a b
+      → Does {E = E} (ReadsOneValue canonical m.budget) T m b (Ok v)
+      → Reached (λ xs ys. ReadsValuePair canonical a.budget xs (k, v) ys) a b
   pair_read {v = v} d =
-      reached_then _ (λ xs ys. ReadsOneValue exact m.budget xs v ys) _ (λ xs ys zs h s. join_items
-      (Whole exact a.budget) (k ∷ []) (v ∷ []) xs ys zs (one_item exact a.budget xs k ys h)
-      (one_item exact a.budget ys v zs (subst (λ o. ReadsOneValue exact o ys v zs)
+      reached_then _ (λ xs ys. ReadsOneValue canonical m.budget xs v ys) _
+      (λ xs ys zs h s. join_items
+      (Whole canonical a.budget) (k ∷ []) (v ∷ []) xs ys zs (one_item canonical a.budget xs k ys h)
+      (one_item canonical a.budget ys v zs (subst (λ o. ReadsOneValue canonical o ys v zs)
       key.moves.by.budget s))) (reached_by key) (reached_by d)
 
   pub value_rejected : {V : Type 0} (B : Accepting V) {e : DecodeError E} {b : View}
-      → Does {V = Value} (ReadsOneValue exact m.budget) (RejectsOneValue exact m.budget) m b (Err e)
-      → Does {V = V} B (RejectsMember exact a.budget) a b (Err e)
+      → Does {V = Value} (ReadsOneValue canonical m.budget) (RejectsOneValue canonical m.budget) m b
+      (Err e)
+      → Does {V = V} B (RejectsValuePair canonical a.budget) a b (Err e)
   value_rejected B d =
-      stops_under (λ xs ys. ReadsOneValue exact a.budget xs k ys) (ReadsOneValue exact)
-      (RejectsOneValue exact) B _ (λ xs ys z rest h s. inr (record {
+      stops_under (λ xs ys. ReadsOneValue canonical a.budget xs k ys) (ReadsOneValue canonical)
+      (RejectsOneValue canonical) B _ (λ xs ys z rest h s. inr (record {
         key = h.0;
         after = ys;
         whole = h.1;

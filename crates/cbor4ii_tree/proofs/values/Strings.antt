@@ -6,7 +6,7 @@ use Rattle.std.proofs.Common.{◌∙◌, subst, arith, append_assoc, length-appe
 use Rattle.std.proofs.Common.{inr, rules, cond, IsUtf8, eqb, eqb-true, eq-eqb, get_or, string_bytes}
 use Rattle.std.proofs.Common.{Vec, Global, String}
 use Rattle.std.specs.Int.{bytes_high_first}
-use Rattle.cbor4ii_items.specs.{Laws.Answering.fits_zero, Laws.Heads.after_head}
+use Rattle.cbor4ii_items.specs.{Laws.Answering.fits_zero, Laws.Heads.rest_after_head}
 use Rattle.cbor4ii_items.specs.{Laws.Heads.length-bytes_high_first, Laws.Prefixes.drop_more}
 use Rattle.cbor4ii_items.specs.{Budget.CostFits, Head.{Width, byte_count, head, indefinite_head}}
 use Rattle.cbor4ii_items.specs.{Head.break, Heads.{RejectsHead, Begins, CutHead}, Initial.Initial}
@@ -23,17 +23,23 @@ use Rattle.cbor4ii_items.specs.Strings.{RejectsChunk, no_chunk_byte, no_step, ch
 use Rattle.cbor4ii_items.specs.Strings.{chunk_rejected, chunk_cut, RejectsString}
 use Rattle.cbor4ii_items.specs.Strings.{string_head_rejected, string_cut, string_indefinite}
 use Rattle.cbor4ii_items.specs.Strings.{RejectsText, no_string, no_utf8}
-use Rattle.cbor4ii_tree.specs.{Cost.{Budget, step_in, chunks_cost}, InputError.{eof, mismatch}}
-use Rattle.cbor4ii_tree.specs.InputError.{require_length, require_utf8, Indefinite, len_of}
-use Rattle.cbor4ii_tree.specs.{InputError.kind_name, Item.{bytes_item, text}, Laws.Binds.step_up}
+use Rattle.cbor4ii_tree.specs.{Basis.Cost.{Budget, step_in, chunks_cost}}
+use Rattle.cbor4ii_tree.specs.{Basis.InputError.{eof, mismatch}}
+use Rattle.cbor4ii_tree.specs.Basis.InputError.{require_length, require_utf8, Indefinite, len_of}
+use Rattle.cbor4ii_tree.specs.{Basis.InputError.kind_name, Basis.Item.{bytes_item, text}}
+use Rattle.cbor4ii_tree.specs.{Laws.Binds.step_up}
 use Rattle.cbor4ii_tree.specs.Laws.Initials.{initial_string, initial_chunks, head_below, kind_below}
-use Rattle.cbor4ii_tree.specs.{Meaning.{value, content_item}, ReadingRejects.Readable}
-use Rattle.cbor4ii_tree.specs.ReadingRejects.{ReadableChunk, CutString, ChunkRejectsBy}
-use Rattle.cbor4ii_tree.specs.ReadingRejects.{ChunkRejects, ReadingRejectsBy, ReadingRejects}
-use Rattle.cbor4ii_tree.specs.{Rejections.{Is, RejectsAtStep, Each, NoBreak}, Tree.{Tree, Trees}}
-use Rattle.cbor4ii_tree.specs.Tree.{no_trees, tree, string, chunked, bytes, bytes_all, LooseAll}
-use Rattle.cbor4ii_tree.specs.{Tree.{AreChunks, joined_chunks, TextIsUtf8}, Valuing.ReadsUnder}
-use Rattle.cbor4ii_tree.specs.{Valuing.RejectsUnder, View.view, declared.value.Value.{Bytes, Text}}
+use Rattle.cbor4ii_tree.specs.{Basis.Meaning.{value, content_item}, Calls.ReadingRejects.Readable}
+use Rattle.cbor4ii_tree.specs.Calls.ReadingRejects.{ReadableChunk, CutString, ChunkRejectsBy}
+use Rattle.cbor4ii_tree.specs.Calls.ReadingRejects.{ChunkRejects, ReadingRejectsBy, ReadingRejects}
+use Rattle.cbor4ii_tree.specs.{Calls.Rejections.{Is, RejectsAtStep, Each, NoBreak}}
+use Rattle.cbor4ii_tree.specs.{Basis.Tree.{Tree, Trees}}
+use Rattle.cbor4ii_tree.specs.Basis.Tree.{no_trees, tree, string, chunked, bytes, bytes_all}
+use Rattle.cbor4ii_tree.specs.Basis.Tree.{LooseAll}
+use Rattle.cbor4ii_tree.specs.{Basis.Tree.{AreChunks, joined_chunks, TextIsUtf8}}
+use Rattle.cbor4ii_tree.specs.{Inner.Valuing.ReadsUnder}
+use Rattle.cbor4ii_tree.specs.{Inner.Valuing.RejectsUnder, Basis.View.view}
+use Rattle.cbor4ii_tree.specs.{declared.value.Value.{Bytes, Text}}
 use Rattle.cbor4ii_tree.specs.declared.value.Value.{the_lemmas}
 use Rattle.cbor4ii_tree.proofs.{parts.Rejecting.{headed_by, in_items}, values.Calls.head_cut}
 use Rattle.cbor4ii_tree.proofs.values.Calls.{no_head, initial_of, width_begins, small_count}
@@ -46,7 +52,7 @@ use Rattle.cbor4ii_items.specs.Strings as strings
 content_after : (major : ℕ) (xs content : List ℕ) (n : ℕ)
     → (r : ReadsDefiniteString major xs content n) → r.head.rest ≡ content ++ drop n xs
 content_after major xs content n r =
-    sym (after_head major 8 xs (length content) r.before r.head)
+    sym (rest_after_head major 8 xs (length content) r.before r.head)
     ∙ sym (take-append-drop (length content) (drop r.before xs)) ∙ ap₂ ◌++◌ r.stands
     (drop_more (length content) r.before xs ∙ ap (λ j. drop j xs) (sym r.size))
 
@@ -64,7 +70,7 @@ record ChunkTrees (k : Kind) (chunks : List (List ℕ)) (xs : List ℕ) (n : ℕ
   trees : Trees
   loose : LooseAll trees
   are : AreChunks k trees
-  content : joined_chunks trees ≡ strings.joined chunks
+  content : joined_chunks trees ≡ strings.joined_content chunks
   is : xs ≡ bytes_all trees ++ drop n xs
   costs : chunks_cost trees ≡ 1 + chunk_cost chunks
   fit : (budget : Budget) → CostFits (chunk_cost chunks) budget

@@ -3,10 +3,10 @@ use Rattle.std.proofs.Common.{◌≡◌, ℕ, zero, suc, ◌+◌, ◌-◌, ◌�
 use Rattle.std.proofs.Common.{Ok, Err, Result, refl, ap, arith}
 use Rattle.cbor4ii_items.specs.Budget.{CostFits}
 use Rattle.cbor4ii_items.specs.Reading.{go_on}
-use Rattle.cbor4ii_tree.specs.Cost.{Budget, step_in}
-use Rattle.cbor4ii_tree.specs.InputError.{InputError}
-use Rattle.cbor4ii_tree.specs.Rejections.{Is, RejectsAtStep}
-use Rattle.cbor4ii_tree.specs.Parse.{Answer, Parser, ◌>>=◌, stepped}
+use Rattle.cbor4ii_tree.specs.Basis.Cost.{Budget, step_in}
+use Rattle.cbor4ii_tree.specs.Basis.InputError.{InputError}
+use Rattle.cbor4ii_tree.specs.Calls.Rejections.{Is, RejectsAtStep}
+use Rattle.cbor4ii_tree.specs.Calls.Parse.{Answer, Parser, ◌>>=◌, inside_step}
 
 pub same_ok : {A E : Type 0} (r : Result A E) (x y : A) → r ≡ Ok x → r ≡ Ok y → x ≡ y
 same_ok r x y p q = cc
@@ -40,25 +40,26 @@ pub then_err : {A B : Type 0} (r : Answer A) (next : A → Parser B) (z : InputE
     → r ≡ Err z → go_on r next ≡ Err z
 then_err r next z e = rw e refl
 
-pub err : {A : Type 0} (f : InputError) (left : List ℕ) (e : InputError) (rest : List ℕ)
-    → Is f left e rest → ◌≡◌ {A = Answer A} (Err (f, left)) (Err (e, rest))
-err f left e rest h = cc
+pub err : {A : Type 0} (f : InputError) (step_leaves : List ℕ) (e : InputError) (rest : List ℕ)
+    → Is f step_leaves e rest → ◌≡◌ {A = Answer A} (Err (f, step_leaves)) (Err (e, rest))
+err f step_leaves e rest h = cc
 
 -- the answer's two parts
-pub parts : {A : Type 0} (r : Answer A) (a c : A) (b d : List ℕ) → r ≡ Ok (a, b) → r ≡ Ok (c, d)
+pub answer_parts : {A : Type 0} (r : Answer A) (a c : A) (b d : List ℕ) → r ≡ Ok (a, b)
+    → r ≡ Ok (c, d)
     → (a ≡ c) × (b ≡ d)
-parts {A} r a c b d p q =
+answer_parts {A} r a c b d p q =
     let e = same_ok r (a, b) (c, d) p q in
     (ap (λ (x : A × List ℕ). x.0) e, ap (λ (x : A × List ℕ). x.1) e)
 
 -- ---- steps
 
 -- what a step leaves
-abbrev pub left : Budget → Budget
-left None = None
-left (Some n) = Some (n - 1)
+abbrev pub step_leaves : Budget → Budget
+step_leaves None = None
+step_leaves (Some n) = Some (n - 1)
 
-pub step_left : (b : Budget) → CostFits 1 b → step_in b ≡ Some (left b)
+pub step_left : (b : Budget) → CostFits 1 b → step_in b ≡ Some (step_leaves b)
 step_left None h = refl
 step_left (Some zero) h = absurd (omega arith)
 step_left (Some (suc n)) h = let e : suc n - 1 ≡ n = omega arith in rw e refl
@@ -75,6 +76,6 @@ pub stepped_rejects : {A : Type 0} (name : List ℕ) (step : Option Budget) (her
     (next : Budget → Answer A) (rejects : Budget → InputError → List ℕ → Type 0) (e : InputError)
     (rest : List ℕ)
     → ((inner : Budget) → step ≡ Some inner → rejects inner e rest → next inner ≡ Err (e, rest))
-    → RejectsAtStep name step here rejects e rest → stepped name step here next ≡ Err (e, rest)
+    → RejectsAtStep name step here rejects e rest → inside_step name step here next ≡ Err (e, rest)
 stepped_rejects name None here next rejects e rest k x = err _ _ _ _ x
 stepped_rejects name (Some inner) here next rejects e rest k x = k inner refl x

@@ -4,12 +4,12 @@ use Rattle.std.proofs.Common.{subst, arith, length-append}
 use Rattle.std.proofs.lemmas.List.{length-take-le}
 use Rattle.std.proofs.Math.Seq.{take-append_seam}
 use Rattle.cbor4ii_tree.specs.declared.decode_canonical.Canonical.{Canonical}
-use Rattle.cbor4ii_tree.specs.Item.{Item}
-use Rattle.cbor4ii_tree.specs.CanonicalShape.{EncodesCanonically}
-use Rattle.cbor4ii_tree.specs.View.{view}
-use Rattle.cbor4ii_tree.specs.Promises.{ReadsValue}
-use Rattle.cbor4ii_tree.specs.Canonically.{ReadsCanonicalItem, ReadsCanonical}
-use Rattle.cbor4ii_tree.specs.Canonically.{canonical_format}
+use Rattle.cbor4ii_tree.specs.Basis.Item.{Item}
+use Rattle.cbor4ii_tree.specs.Calls.CanonicalShape.{EncodesCanonically}
+use Rattle.cbor4ii_tree.specs.Basis.View.{view}
+use Rattle.cbor4ii_tree.specs.Calls.Promises.{ReadsValue}
+use Rattle.cbor4ii_tree.specs.Calls.Canonically.{ReadsCanonicalItem, ReadsCanonical}
+use Rattle.cbor4ii_tree.specs.Calls.Canonically.{canonical_format}
 use Rattle.cbor4ii_items.specs.Decoding.{IsLawful}
 use Rattle.cbor4ii_tree.specs.Laws.Values.{value_one, value_positive}
 

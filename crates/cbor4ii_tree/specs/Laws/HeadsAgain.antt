@@ -4,8 +4,9 @@ use Rattle.std.proofs.Common.{refl, arith, le-ltb, length-append, take_at, drop_
 use Rattle.std.specs.Int.{bytes_high_first}
 use Rattle.cbor4ii_items.specs.Head.{Width, in_first, one, two, four, eight, HeadFits, additional}
 use Rattle.cbor4ii_items.specs.{Head.{byte_count, head}, Laws.Heads.length-bytes_high_first}
-use Rattle.cbor4ii_tree.specs.{Laws.Numbers.low_bytes, Parse.{prefix_at, number_at, argument_at}}
-use Rattle.cbor4ii_tree.specs.Parse.{argument_of_width}
+use Rattle.cbor4ii_tree.specs.{Laws.Numbers.low_bytes}
+use Rattle.cbor4ii_tree.specs.{Calls.Parse.{prefix_at, number_of_width, parse_argument}}
+use Rattle.cbor4ii_tree.specs.Calls.Parse.{argument_of_width}
 
 pub prefix_again : (name : List ℕ) (k : ℕ) (xs x : List ℕ) → length xs ≡ k
     → prefix_at name k (xs ++ x) ≡ Ok (xs, x)
@@ -14,7 +15,7 @@ prefix_again name k xs x e =
     rw (le-ltb (length (xs ++ x)) k room, take_at xs x k e, drop_at xs x k e) refl
 
 pub number_again : (asks : ℕ → ℕ → ℕ) (name : List ℕ) (k n : ℕ) (x : List ℕ) → n < 256 ^ k
-    → number_at asks name k (bytes_high_first k n ++ x) ≡ Ok (n, x)
+    → number_of_width asks name k (bytes_high_first k n ++ x) ≡ Ok (n, x)
 number_again asks name k n x h =
     let e = length-bytes_high_first k n in
     let room : k ≤ length (bytes_high_first k n ++ x) =
@@ -29,9 +30,9 @@ number_again asks name k n x h =
     ) refl
 
 pub argument_again : (asks : ℕ → ℕ → ℕ) (name : List ℕ) (major n : ℕ) (w : Width) (x : List ℕ)
-    → HeadFits w n → argument_at asks name w (32 * major + additional w n)
+    → HeadFits w n → parse_argument asks name w (32 * major + additional w n)
     (bytes_high_first (byte_count w) n ++ x) ≡ Ok (n, x)
-unfolding argument_at
+unfolding parse_argument
 argument_again asks name major n in_first x h =
     let low : (32 * major + n) % 32 ≡ n = omega arith in rw low refl
 argument_again asks name major n one x h = number_again asks name 1 n x (omega arith)

@@ -3,20 +3,23 @@ use Rattle.std.proofs.Common.{◌≡◌, ℕ, suc, None, Ok, subst, ◌≤◌, L
 use Rattle.std.proofs.Common.{IsTrue, true, refl, sym, ap, ◌∙◌, arith, length-append}
 use Rattle.std.proofs.Math.Seq.{take-append_seam, drop-append_seam}
 use Rattle.cbor4ii_items.specs.Decoding.{IsLawful, leaf_format}
-use Rattle.cbor4ii_tree.specs.{Cost.skip_cost, declared.ignored.IgnoredAny.IgnoredAny}
-use Rattle.cbor4ii_tree.specs.{Ignored.{ReadsTree, ReadsIgnored, RejectsIgnored}, Laws.Binds.parts}
+use Rattle.cbor4ii_tree.specs.{Basis.Cost.skip_cost, declared.ignored.IgnoredAny.IgnoredAny}
+use Rattle.cbor4ii_tree.specs.{Calls.Ignored.{ReadsTree, ReadsIgnored}, Laws.Binds.answer_parts}
+use Rattle.cbor4ii_tree.specs.Calls.SkippingRejects.{SkippingRejects}
 use Rattle.cbor4ii_tree.specs.{Laws.Initials.length-bytes-pos, Laws.ItemAgain.item_again}
-use Rattle.cbor4ii_tree.specs.{Laws.Profiles.skipping_lawful, Skip.skip, SkippingRejects.skipping}
-use Rattle.cbor4ii_tree.specs.Tree.{Tree, bytes, Loose}
+use Rattle.cbor4ii_tree.specs.{Laws.Profiles.skipping_lawful, Calls.Skip.skip}
+use Rattle.cbor4ii_tree.specs.{Calls.SkippingRejects.skipping_profile}
+use Rattle.cbor4ii_tree.specs.Basis.Tree.{Tree, bytes, Loose}
 
 encoding_again : (t : Tree) (x : List ℕ) → Loose t → skip None (bytes t ++ x) ≡ Ok (t, x)
 encoding_again t x l =
-    item_again skipping skipping_lawful (suc (length (bytes t ++ x))) None t x (l, tt) (omega arith)
+    item_again skipping_profile skipping_lawful (suc (length (bytes t ++ x))) None t x (l, tt)
+    (omega arith)
 
 pub one_encoding : (t u : Tree) (x y : List ℕ) → Loose t → Loose u → bytes t ++ x ≡ bytes u ++ y
     → (t ≡ u) × (x ≡ y)
 one_encoding t u x y l m e =
-    parts (skip None (bytes t ++ x)) t u x y (encoding_again t x l)
+    answer_parts (skip None (bytes t ++ x)) t u x y (encoding_again t x l)
     (subst (λ (z : List ℕ). skip None z ≡ Ok (u, y)) (sym e) (encoding_again u y m))
 
 -- ---- a tree at the beginning
@@ -74,7 +77,7 @@ pub ignored_alone : IsTrue true → (xs ys : List ℕ) (v : IgnoredAny) (n c : �
     → ReadsIgnored xs v n c → ReadsIgnored (take n xs ++ ys) v n c
 ignored_alone e xs ys v n c p = tree_alone xs ys n c p
 
-pub ignored_lawful : IsLawful (leaf_format ReadsIgnored RejectsIgnored)
+pub ignored_lawful : IsLawful (leaf_format ReadsIgnored SkippingRejects)
 ignored_lawful = record {
   one = ignored_one;
   within = ignored_within;

@@ -11,9 +11,10 @@ use Rattle.cbor4ii_items.specs.Initial.{starts_indefinite_map, starts_tag, start
 use Rattle.cbor4ii_items.specs.Initial.{starts_bits}
 use Rattle.cbor4ii_items.specs.Initial.{initial, int_by_info, string_by_info, array_by_info}
 use Rattle.cbor4ii_items.specs.Initial.{map_by_info, tag_by_info}
-use Rattle.cbor4ii_tree.specs.Tree.{Tree, int, string, chunked, array, array_indefinite, map_of}
-use Rattle.cbor4ii_tree.specs.Tree.{map_indefinite}
-use Rattle.cbor4ii_tree.specs.Tree.{tagged, simple, bits, count, pair_count, bytes, Loose}
+use Rattle.cbor4ii_tree.specs.Basis.Tree.{Tree, int, string, chunked, array, array_indefinite}
+use Rattle.cbor4ii_tree.specs.Basis.Tree.{map_of}
+use Rattle.cbor4ii_tree.specs.Basis.Tree.{map_indefinite}
+use Rattle.cbor4ii_tree.specs.Basis.Tree.{tagged, simple, bits, count, pair_count, bytes, Loose}
 use Rattle.cbor4ii_tree.specs.Laws.Numbers.{additional-lt, info-additional, initial-head}
 
 pub initial_int : (s : Sign) (n : ℕ) (w : Width) → HeadFits w n

@@ -6,9 +6,12 @@ use Rattle.std.specs.Int.{bytes_high_first}
 use Rattle.cbor4ii_items.specs.Head.{Width, HeadFits, byte_count, break, additional}
 use Rattle.cbor4ii_items.specs.Initial.{sign_major, Kind, byte_string, text_string, kind_major}
 use Rattle.cbor4ii_items.specs.Initial.{precision_bytes, Initial, starts_string, initial}
-use Rattle.cbor4ii_tree.specs.{Cost.Budget, InputError.tag_name, ItemAt.{tested, string_at}}
-use Rattle.cbor4ii_tree.specs.ItemAt.{chunk_tree_by, chunk_at, item_by, item_from, item_within}
-use Rattle.cbor4ii_tree.specs.{ItemRejects.{Profile, ChunkOf}, Laws.Binds.{left, step_left}}
+use Rattle.cbor4ii_tree.specs.{Basis.Cost.Budget, Basis.InputError.tag_name}
+use Rattle.cbor4ii_tree.specs.{Calls.ItemAt.{tested_string, string_tree_at}}
+use Rattle.cbor4ii_tree.specs.Calls.ItemAt.{chunk_tree_by, chunk_tree_at, item_by, item_from}
+use Rattle.cbor4ii_tree.specs.Calls.ItemAt.{item_within}
+use Rattle.cbor4ii_tree.specs.{Calls.ItemRejects.{Profile, ChunkOf}}
+use Rattle.cbor4ii_tree.specs.{Laws.Binds.{step_leaves, step_left}}
 use Rattle.cbor4ii_tree.specs.Laws.HeadsAgain.{prefix_again, argument_again, number_again}
 use Rattle.cbor4ii_tree.specs.Laws.Initials.{begins, initial_int, initial_string, initial_array}
 use Rattle.cbor4ii_tree.specs.Laws.Initials.{initial_map, initial_tag, initial_chunks}
@@ -16,10 +19,12 @@ use Rattle.cbor4ii_tree.specs.Laws.Initials.{initial_simple, initial_bits, initi
 use Rattle.cbor4ii_tree.specs.{Laws.Initials.initial_indefinite_map, Laws.PartsAgain.Again}
 use Rattle.cbor4ii_tree.specs.Laws.PartsAgain.{StartNoBreak, trees_again, pairs_again}
 use Rattle.cbor4ii_tree.specs.Laws.PartsAgain.{indefinite_trees_again, indefinite_pairs_again}
-use Rattle.cbor4ii_tree.specs.{Laws.Profiles.{Tested, Parts, Lawful}, Parse.Parser, Tree.Tree}
-use Rattle.cbor4ii_tree.specs.Tree.{int, string, chunked, array, array_indefinite, map_of}
-use Rattle.cbor4ii_tree.specs.Tree.{map_indefinite, tagged, simple, bits, count, pair_count, bytes}
-use Rattle.cbor4ii_tree.specs.Tree.{bytes_all, bytes_pairs, joined_chunks}
+use Rattle.cbor4ii_tree.specs.{Laws.Profiles.{Tested, HasWholeParts, IsLawfulProfile}}
+use Rattle.cbor4ii_tree.specs.{Calls.Parse.Parser, Basis.Tree.Tree}
+use Rattle.cbor4ii_tree.specs.Basis.Tree.{int, string, chunked, array, array_indefinite, map_of}
+use Rattle.cbor4ii_tree.specs.Basis.Tree.{map_indefinite, tagged, simple, bits, count, pair_count}
+use Rattle.cbor4ii_tree.specs.Basis.Tree.{bytes}
+use Rattle.cbor4ii_tree.specs.Basis.Tree.{bytes_all, bytes_pairs, joined_chunks}
 
 -- after the initial byte, and after the head
 pub following_head : (xs ys x : List ℕ) (n : ℕ) → suc (length ((xs ++ ys) ++ x)) < suc n
@@ -34,13 +39,13 @@ after_indefinite xs x n h = omega (arith, ap length (append_assoc xs (break ∷ 
 -- ---- strings
 
 tested_again : (tests : Bool) (k : Kind) (content : List ℕ) (t : Tree) (x : List ℕ)
-    → Tested tests k content → tested tests k content t x ≡ Ok (t, x)
+    → Tested tests k content → tested_string tests k content t x ≡ Ok (t, x)
 tested_again true text_string content t x h = rw (is_utf8-from_IsUtf8 content h) refl
 tested_again true byte_string content t x h = refl
 tested_again false k content t x h = refl
 
 string_again : (name : List ℕ) (k : Kind) (w : Width) (content x : List ℕ)
-    → HeadFits w (length content) → string_at name w (32 * kind_major k + additional w
+    → HeadFits w (length content) → string_tree_at name w (32 * kind_major k + additional w
     (length content)) (bytes_high_first (byte_count w) (length content) ++ (content ++ x))
     ≡ Ok (content, x)
 string_again name k w content x l =
@@ -60,7 +65,7 @@ chunk_by_again text_string byte_string w content x e l = cc
 
 pub chunk_again : (tests : Bool) (k : Kind) (b : Budget) (item : Parser Tree)
     (Whole : Tree → Type 0) (bound : ℕ) → Again item Whole bound
-    → Again (chunk_at tests k b item) (ChunkOf tests k b Whole) bound
+    → Again (chunk_tree_at tests k b item) (ChunkOf tests k b Whole) bound
 chunk_again false k b item Whole bound a t x h lt = a t x h lt
 chunk_again true k b item Whole bound a (string j w content) x h lt =
     rw (
@@ -77,7 +82,7 @@ chunks_start false k b Whole s t w = s t w
 
 -- ---- items
 
-module _ (p : Profile) (l : Lawful p) where
+module _ (p : Profile) (l : IsLawfulProfile p) where
   pub starts : (b : Budget) → StartNoBreak (p.Whole b)
   starts b t w = begins t (l.loose b t w)
 
@@ -86,7 +91,8 @@ module _ (p : Profile) (l : Lawful p) where
   by_initial item c b bs i e = ap (λ j. item_by p item c j b bs) e
 
   from_again : (item : Budget → Parser Tree) (n : ℕ) (b : Budget)
-      → ((c : Budget) → Again (item c) (p.Whole c) n) → (t : Tree) (x : List ℕ) → Parts p b t
+      → ((c : Budget) → Again (item c) (p.Whole c) n) → (t : Tree) (x : List ℕ) → HasWholeParts p b
+      t
       → length (bytes t ++ x) < suc n → item_from p item b (bytes t ++ x) ≡ Ok (t, x)
   from_again item n b a (int s m w) x h lt =
       by_initial item b _ _ _ (initial_int s m w h)
@@ -101,7 +107,8 @@ module _ (p : Profile) (l : Lawful p) where
       by_initial item b _ _ _ (initial_chunks k)
       ∙ rw (
         append_assoc (bytes_all ts) (break ∷ []) x,
-        indefinite_trees_again (chunk_at p.tests k b (item b)) (ChunkOf p.tests k b (p.Whole b)) n
+        indefinite_trees_again (chunk_tree_at p.tests k b (item b))
+            (ChunkOf p.tests k b (p.Whole b)) n
             (chunk_again p.tests k b (item b) (p.Whole b) n (a b))
             (chunks_start p.tests k b (p.Whole b) (starts b)) ts
             (suc (length (bytes_all ts ++ break ∷ x))) x h.0 (omega arith)
@@ -165,4 +172,5 @@ module _ (p : Profile) (l : Lawful p) where
   item_again zero budget t x w lt = absurd (omega arith)
   item_again (suc n) budget t x w lt =
       rw (step_left budget (l.costs budget t w))
-      (from_again (item_within p n) n (left budget) (item_again n) t x (l.opens budget t w) lt)
+      (from_again (item_within p n) n (step_leaves budget) (item_again n) t x (l.opens budget t w)
+      lt)

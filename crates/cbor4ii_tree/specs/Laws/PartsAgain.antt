@@ -2,11 +2,13 @@
 use Rattle.std.proofs.Common.{◌≡◌, ℕ, zero, suc, ◌<◌, ◌≤◌, List, ◌∷◌, ◌++◌, length, Ok, refl, ap}
 use Rattle.std.proofs.Common.{◌∙◌, arith, subst, ne_eqb, append_assoc, length-append}
 use Rattle.cbor4ii_items.specs.Head.{break}
-use Rattle.cbor4ii_tree.specs.{Laws.Initials.{BeginsNoBreak, length-bytes-pos}, Parse.Parser}
-use Rattle.cbor4ii_tree.specs.Parse.{◌>>=◌, trees_at, pairs_at, indefinite_trees_at}
-use Rattle.cbor4ii_tree.specs.{Parse.indefinite_pairs_at, Rejections.{Each, EachPair}, Tree.Tree}
-use Rattle.cbor4ii_tree.specs.Tree.{Trees, no_trees, tree, Pairs, no_pairs, pair, count, pair_count}
-use Rattle.cbor4ii_tree.specs.Tree.{bytes, bytes_all, bytes_pairs}
+use Rattle.cbor4ii_tree.specs.{Laws.Initials.{BeginsNoBreak, length-bytes-pos}, Calls.Parse.Parser}
+use Rattle.cbor4ii_tree.specs.Calls.Parse.{◌>>=◌, trees_at, pairs_at, indefinite_trees_at}
+use Rattle.cbor4ii_tree.specs.{Calls.Parse.indefinite_pairs_at, Calls.Rejections.{Each, EachPair}}
+use Rattle.cbor4ii_tree.specs.{Basis.Tree.Tree}
+use Rattle.cbor4ii_tree.specs.Basis.Tree.{Trees, no_trees, tree, Pairs, no_pairs, pair, count}
+use Rattle.cbor4ii_tree.specs.Basis.Tree.{pair_count}
+use Rattle.cbor4ii_tree.specs.Basis.Tree.{bytes, bytes_all, bytes_pairs}
 
 -- below so many bytes, whole items are read back
 abbrev pub Again : Parser Tree → (Tree → Type 0) → ℕ → Type 0

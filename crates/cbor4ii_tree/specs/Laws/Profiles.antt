@@ -4,17 +4,24 @@ use Rattle.std.proofs.Common.{◌≡◌, ℕ, ◌+◌, ◌^◌, ◌<◌, List, l
 use Rattle.std.proofs.Common.{refl, subst, arith, ◌≤◌}
 use Rattle.cbor4ii_items.specs.{Budget.CostFits, Head.HeadFits, Initial.{Kind, precision_bytes}}
 use Rattle.cbor4ii_items.specs.{Laws.Answering.fits_zero, Laws.SequenceParts.fits_less}
-use Rattle.cbor4ii_tree.specs.Cost.{Budget, step_in, cost, skip_cost, chunks_cost, greatest_cost}
-use Rattle.cbor4ii_tree.specs.{ItemRejects.{Profile, ReadableChunk, ChunkOf}, Laws.Binds.left}
+use Rattle.cbor4ii_tree.specs.Basis.Cost.{Budget, step_in, cost, skip_cost, chunks_cost}
+use Rattle.cbor4ii_tree.specs.Basis.Cost.{greatest_cost}
+use Rattle.cbor4ii_tree.specs.{Calls.ItemRejects.{Profile, ReadableChunk, ChunkOf}}
+use Rattle.cbor4ii_tree.specs.{Laws.Binds.step_leaves}
 use Rattle.cbor4ii_tree.specs.{Laws.Binds.{step_left, step_up}, Laws.Budgets.{fits_left, fits_two}}
 use Rattle.cbor4ii_tree.specs.Laws.Wholes.{each_readable, each_pair_readable, each_chunk}
 use Rattle.cbor4ii_tree.specs.Laws.Wholes.{each_skippable, each_pair_skippable, all_readable}
 use Rattle.cbor4ii_tree.specs.Laws.Wholes.{all_pairs_readable, all_chunks, all_skippable}
-use Rattle.cbor4ii_tree.specs.{Laws.Wholes.all_pairs_skippable, ReadingRejects.{Readable, reading}}
-use Rattle.cbor4ii_tree.specs.{Rejections.{Each, EachPair}, SkippingRejects.{Skippable, skipping}}
-use Rattle.cbor4ii_tree.specs.Tree.{Tree, int, string, chunked, array, array_indefinite, map_of}
-use Rattle.cbor4ii_tree.specs.Tree.{map_indefinite, tagged, simple, bits, Trees, no_trees, tree}
-use Rattle.cbor4ii_tree.specs.Tree.{count, pair_count, joined_chunks, Loose, AreChunks, TextIsUtf8}
+use Rattle.cbor4ii_tree.specs.{Laws.Wholes.all_pairs_skippable}
+use Rattle.cbor4ii_tree.specs.{Calls.ReadingRejects.{Readable, reading_profile}}
+use Rattle.cbor4ii_tree.specs.{Calls.Rejections.{Each, EachPair}}
+use Rattle.cbor4ii_tree.specs.{Calls.SkippingRejects.{Skippable, skipping_profile}}
+use Rattle.cbor4ii_tree.specs.Basis.Tree.{Tree, int, string, chunked, array, array_indefinite}
+use Rattle.cbor4ii_tree.specs.Basis.Tree.{map_of}
+use Rattle.cbor4ii_tree.specs.Basis.Tree.{map_indefinite, tagged, simple, bits, Trees, no_trees}
+use Rattle.cbor4ii_tree.specs.Basis.Tree.{tree}
+use Rattle.cbor4ii_tree.specs.Basis.Tree.{count, pair_count, joined_chunks, Loose, AreChunks}
+use Rattle.cbor4ii_tree.specs.Basis.Tree.{TextIsUtf8}
 
 -- a text is UTF-8, where it is tested
 abbrev pub Tested : Bool → Kind → List ℕ → Type 0
@@ -25,23 +32,24 @@ Tested false k content = Unit {0}
 abbrev pub Inside : Profile → Budget → (Budget → Type 0) → Type 0
 Inside p budget P = (inner : Budget) × (p.inside budget ≡ Some inner) × P inner
 
-abbrev pub Parts : Profile → Budget → Tree → Type 0
-Parts p b (int s n w) = HeadFits w n
-Parts p b (string k w content) = HeadFits w (length content) × Tested p.tests k content
-Parts p b (chunked k ts) =
+abbrev pub HasWholeParts : Profile → Budget → Tree → Type 0
+HasWholeParts p b (int s n w) = HeadFits w n
+HasWholeParts p b (string k w content) = HeadFits w (length content) × Tested p.tests k content
+HasWholeParts p b (chunked k ts) =
     Each (ChunkOf p.tests k b (p.Whole b)) ts × Tested p.tests k (joined_chunks ts)
-Parts p b (array w ts) = HeadFits w (count ts) × Inside p b (λ c. Each (p.Whole c) ts)
-Parts p b (array_indefinite ts) = Inside p b (λ c. Each (p.Whole c) ts)
-Parts p b (map_of w ps) = HeadFits w (pair_count ps) × Inside p b (λ c. EachPair (p.Whole c) ps)
-Parts p b (map_indefinite ps) = Inside p b (λ c. EachPair (p.Whole c) ps)
-Parts p b (tagged n w t) = HeadFits w n × p.Whole b t
-Parts p b (simple s) = Unit {0}
-Parts p b (bits f n) = n < 256 ^ precision_bytes f
+HasWholeParts p b (array w ts) = HeadFits w (count ts) × Inside p b (λ c. Each (p.Whole c) ts)
+HasWholeParts p b (array_indefinite ts) = Inside p b (λ c. Each (p.Whole c) ts)
+HasWholeParts p b (map_of w ps) = HeadFits w (pair_count ps)
+    × Inside p b (λ c. EachPair (p.Whole c) ps)
+HasWholeParts p b (map_indefinite ps) = Inside p b (λ c. EachPair (p.Whole c) ps)
+HasWholeParts p b (tagged n w t) = HeadFits w n × p.Whole b t
+HasWholeParts p b (simple s) = Unit {0}
+HasWholeParts p b (bits f n) = n < 256 ^ precision_bytes f
 
-pub record Lawful (p : Profile) : Type 0 where
+pub record IsLawfulProfile (p : Profile) : Type 0 where
   pub costs : (b : Budget) (t : Tree) → p.Whole b t → CostFits 1 b
-  pub opens : (b : Budget) (t : Tree) → p.Whole b t → Parts p (left b) t
-  pub closes : (b c : Budget) (t : Tree) → step_in b ≡ Some c → Parts p c t → p.Whole b t
+  pub opens : (b : Budget) (t : Tree) → p.Whole b t → HasWholeParts p (step_leaves b) t
+  pub closes : (b c : Budget) (t : Tree) → step_in b ≡ Some c → HasWholeParts p c t → p.Whole b t
   pub loose : (b : Budget) (t : Tree) → p.Whole b t → Loose t
 
 -- ---- skipping
@@ -50,26 +58,28 @@ skip_cost-pos : (t : Tree) → 1 ≤ skip_cost t
 skip_cost-pos (int s n w) = omega arith
 skip_cost-pos _ = omega arith
 
-skipping_opens : (b : Budget) (t : Tree) → Skippable b t → Parts skipping (left b) t
+skipping_opens : (b : Budget) (t : Tree) → Skippable b t → HasWholeParts skipping_profile
+    (step_leaves b) t
 skipping_opens b (int s n w) h = h.0
 skipping_opens b (string k w content) h = (h.0, tt)
-skipping_opens b (chunked k ts) h = (each_skippable ts (left b) h.0 (fits_left _ b h.1), tt)
+skipping_opens b (chunked k ts) h = (each_skippable ts (step_leaves b) h.0 (fits_left _ b h.1), tt)
 skipping_opens b (array w ts) h =
-    (h.0.0, (left b, refl, each_skippable ts (left b) h.0.1 (fits_left _ b h.1)))
+    (h.0.0, (step_leaves b, refl, each_skippable ts (step_leaves b) h.0.1 (fits_left _ b h.1)))
 skipping_opens b (array_indefinite ts) h =
-    (left b, refl, each_skippable ts (left b) h.0 (fits_left _ b h.1))
+    (step_leaves b, refl, each_skippable ts (step_leaves b) h.0 (fits_left _ b h.1))
 skipping_opens b (map_of w ps) h =
-    (h.0.0, (left b, refl, each_pair_skippable ps (left b) h.0.1 (fits_left _ b h.1)))
+    (h.0.0, (step_leaves b, refl, each_pair_skippable ps (step_leaves b) h.0.1 (fits_left _ b h.1)))
 skipping_opens b (map_indefinite ps) h =
-    (left b, refl, each_pair_skippable ps (left b) h.0 (fits_left _ b h.1))
+    (step_leaves b, refl, each_pair_skippable ps (step_leaves b) h.0 (fits_left _ b h.1))
 skipping_opens b (tagged n w t) h = (h.0.0, (h.0.1, fits_left _ b h.1))
 skipping_opens b (simple s) h = tt
 skipping_opens b (bits f n) h = h.0
 
-same_inside : (c : Budget) (P : Budget → Type 0) → Inside skipping c P → P c
+same_inside : (c : Budget) (P : Budget → Type 0) → Inside skipping_profile c P → P c
 same_inside c P h = let same : h.0 ≡ c = cc in subst P same h.2
 
-skipping_closes : (b c : Budget) (t : Tree) → step_in b ≡ Some c → Parts skipping c t
+skipping_closes : (b c : Budget) (t : Tree) → step_in b ≡ Some c → HasWholeParts skipping_profile c
+    t
     → Skippable b t
 skipping_closes b c (int s n w) is h = (h, step_up b c 0 is (fits_zero c))
 skipping_closes b c (string k w content) is h = (h.0, step_up b c 0 is (fits_zero c))
@@ -88,7 +98,7 @@ skipping_closes b c (tagged n w t) is h = ((h.0, h.1.0), step_up b c _ is h.1.1)
 skipping_closes b c (simple s) is h = (tt, step_up b c 0 is (fits_zero c))
 skipping_closes b c (bits f n) is h = (h, step_up b c 0 is (fits_zero c))
 
-pub skipping_lawful : Lawful skipping
+pub skipping_lawful : IsLawfulProfile skipping_profile
 skipping_lawful = record {
   costs = λ b t h. fits_less 1 (skip_cost t) b (skip_cost-pos t) h.1;
   opens = skipping_opens;
@@ -110,22 +120,25 @@ greatest_chunk k (tree (string j w content) ts) a = omega (arith, greatest_chunk
 greatest_chunk k (tree _ ts) a = absurd a.0
 
 chunks_fit : (k : Kind) (ts : Trees) (b : Budget) → AreChunks k ts → CostFits (chunks_cost ts) b
-    → CostFits (greatest_cost ts) (left b)
+    → CostFits (greatest_cost ts) (step_leaves b)
 chunks_fit k ts None a f = tt
 chunks_fit k no_trees (Some n) a f = omega arith
 chunks_fit k (tree t ts) (Some n) a f = omega (arith, greatest_chunk k (tree t ts) a)
 
 -- after two steps
 inside : (b : Budget) (n : ℕ) (P : Budget → Type 0) → CostFits (2 + n) b
-    → (CostFits n (left (left b)) → P (left (left b))) → Inside reading (left b) P
+    → (CostFits n (step_leaves (step_leaves b)) → P (step_leaves (step_leaves b)))
+    → Inside reading_profile (step_leaves b) P
 inside b n P f k =
-    let two = fits_two n b f in (left (left b), step_left (left b) two.0, k two.1)
+    let two = fits_two n b f in
+    (step_leaves (step_leaves b), step_left (step_leaves b) two.0, k two.1)
 
-reading_opens : (b : Budget) (t : Tree) → Readable b t → Parts reading (left b) t
+reading_opens : (b : Budget) (t : Tree) → Readable b t → HasWholeParts reading_profile
+    (step_leaves b) t
 reading_opens b (int s n w) h = h.0.0
 reading_opens b (string k w content) h = h.0
 reading_opens b (chunked k ts) h =
-    (each_chunk k ts (left b) h.0.0 h.0.1.0 (chunks_fit k ts b h.0.1.0 h.1), h.0.1.1)
+    (each_chunk k ts (step_leaves b) h.0.0 h.0.1.0 (chunks_fit k ts b h.0.1.0 h.1), h.0.1.1)
 reading_opens b (array w ts) h =
     (h.0.0.0, inside b _ _ h.1 (λ f. each_readable ts _ h.0.0.1 h.0.1 f))
 reading_opens b (array_indefinite ts) h =
@@ -152,7 +165,8 @@ chunks_up k (tree (string j v content) ts) b c is w =
     fits_less 2 (1 + 1) b (omega arith) (step_up b c 1 is w.0.2)
 chunks_up k (tree _ ts) b c is w = absurd w.0.1
 
-reading_closes : (b c : Budget) (t : Tree) → step_in b ≡ Some c → Parts reading c t → Readable b t
+reading_closes : (b c : Budget) (t : Tree) → step_in b ≡ Some c → HasWholeParts reading_profile c t
+    → Readable b t
 reading_closes b c (int s n w) is h = ((h, tt), step_up b c 0 is (fits_zero c))
 reading_closes b c (string k w content) is h = (h, step_up b c 0 is (fits_zero c))
 reading_closes b c (chunked k ts) is h =
@@ -172,7 +186,7 @@ reading_closes b c (tagged n w t) is h = (((h.0, h.1.0.0), h.1.0.1), step_up b c
 reading_closes b c (simple s) is h = ((tt, tt), step_up b c 0 is (fits_zero c))
 reading_closes b c (bits f n) is h = ((h, tt), step_up b c 0 is (fits_zero c))
 
-pub reading_lawful : Lawful reading
+pub reading_lawful : IsLawfulProfile reading_profile
 reading_lawful = record {
   costs = λ b t h. fits_less 1 (cost t) b (cost-pos t) h.1;
   opens = reading_opens;

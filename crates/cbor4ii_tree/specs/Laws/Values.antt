@@ -4,13 +4,13 @@ use Rattle.std.proofs.Common.{◌∙◌, subst, arith, length-append, take-appen
 use Rattle.std.proofs.lemmas.List.{length-take-le}
 use Rattle.std.proofs.Math.Seq.{take-append_seam}
 use Rattle.cbor4ii_tree.specs.declared.value.Value.{Value}
-use Rattle.cbor4ii_tree.specs.Tree.{bytes}
-use Rattle.cbor4ii_tree.specs.Item.{Item}
-use Rattle.cbor4ii_tree.specs.Meaning.{value}
-use Rattle.cbor4ii_tree.specs.Cost.{cost}
-use Rattle.cbor4ii_tree.specs.Encodings.{Encodes}
-use Rattle.cbor4ii_tree.specs.View.{view}
-use Rattle.cbor4ii_tree.specs.Promises.{ReadsValue, value_format}
+use Rattle.cbor4ii_tree.specs.Basis.Tree.{bytes}
+use Rattle.cbor4ii_tree.specs.Basis.Item.{Item}
+use Rattle.cbor4ii_tree.specs.Basis.Meaning.{value}
+use Rattle.cbor4ii_tree.specs.Basis.Cost.{cost}
+use Rattle.cbor4ii_tree.specs.Basis.Encodings.{Encodes}
+use Rattle.cbor4ii_tree.specs.Basis.View.{view}
+use Rattle.cbor4ii_tree.specs.Calls.Promises.{ReadsValue, value_format}
 use Rattle.cbor4ii_items.specs.Decoding.{IsLawful}
 use Rattle.cbor4ii_tree.specs.Laws.Ignoring.{one_encoding}
 use Rattle.cbor4ii_tree.specs.Laws.Initials.{length-bytes-pos}

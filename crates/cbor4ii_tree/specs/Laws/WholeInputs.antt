@@ -5,11 +5,11 @@ use Rattle.std.specs.Prelude.{◌↔◌}
 use Rattle.std.proofs.lemmas.List.{take_all, append-nil}
 use Rattle.cbor4ii_rw.specs.Input.{limit}
 use Rattle.cbor4ii_items.specs.Whole.{IsWhole}
-use Rattle.cbor4ii_tree.specs.Encodings.{Encodes, DecodesTo}
-use Rattle.cbor4ii_tree.specs.CanonicalShape.{EncodesCanonically, DecodesCanonically}
-use Rattle.cbor4ii_tree.specs.Promises.{value_format}
-use Rattle.cbor4ii_tree.specs.Canonically.{canonical_format}
-use Rattle.cbor4ii_tree.specs.View.{view}
+use Rattle.cbor4ii_tree.specs.Basis.Encodings.{Encodes, DecodesTo}
+use Rattle.cbor4ii_tree.specs.Calls.CanonicalShape.{EncodesCanonically, DecodesCanonically}
+use Rattle.cbor4ii_tree.specs.Calls.Promises.{value_format}
+use Rattle.cbor4ii_tree.specs.Calls.Canonically.{canonical_format}
+use Rattle.cbor4ii_tree.specs.Basis.View.{view}
 use Rattle.cbor4ii_tree.specs.declared.value.Value.{Value}
 use Rattle.cbor4ii_tree.specs.declared.decode_canonical.Canonical.{Canonical}
 

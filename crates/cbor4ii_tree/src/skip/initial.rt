@@ -2,7 +2,7 @@
 //! its head.
 ghost use Rattle.std.specs.Prelude.{◌≡◌};
 ghost use Rattle.cbor4ii_items.specs.Initial.{initial, info_of};
-ghost use Rattle.cbor4ii_tree.specs.Skipping.{additional_of, start_of, members_of};
+ghost use Rattle.cbor4ii_tree.specs.Inner.Skipping.{additional_of, start_of, items_of_pairs};
 
 use cbor4ii_items::{major, marker};
 
@@ -27,13 +27,13 @@ pub(crate) enum Start {
     /// A count of items, and these.
     Items,
     /// A count of pairs, and these.
-    Members,
+    Pairs,
     /// A number, and an item.
     Tag,
     /// Items up to a break.
     Indefinite,
     /// Pairs up to a break.
-    IndefiniteMembers,
+    PairsToBreak,
     /// No item; the byte stays.
     Stays,
     /// No item; the byte is taken.
@@ -57,7 +57,7 @@ pub(crate) enum After {
     /// Items up to a break.
     Indefinite,
     /// Pairs up to a break.
-    IndefiniteMembers,
+    PairsToBreak,
 }
 
 /// What begins with this first byte.
@@ -83,8 +83,8 @@ pub(crate) fn start_of(first: u8) -> Start
             Additional::Reserved => Start::Taken,
         },
         major::MAP => match info {
-            Additional::Wide(_) => Start::Members,
-            Additional::Indefinite => Start::IndefiniteMembers,
+            Additional::Wide(_) => Start::Pairs,
+            Additional::Indefinite => Start::PairsToBreak,
             Additional::Reserved => Start::Taken,
         },
         major::TAG => match info {
@@ -106,8 +106,8 @@ pub(crate) fn start_of(first: u8) -> Start
 
 /// What is left of a map of so many pairs: their keys and values in turn.
 #[inline(always)]
-pub(crate) fn members_of(count: u64) -> After
-    ensures { result ≡ members_of count }
+pub(crate) fn pairs_of(count: u64) -> After
+    ensures { result ≡ items_of_pairs count }
 {
     if count < 1 << 63 {
         return After::Items(2 * count);

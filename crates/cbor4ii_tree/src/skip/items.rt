@@ -1,21 +1,22 @@
 //! Items skipped, those that hold others with all that they hold: one cycle of calls.
 ghost use Rattle.std.specs.Prelude.{◌+◌, ◌*◌, ◌≤◌, OnOk, IsTrue};
 ghost use Rattle.cbor4ii_rw.specs.Reader.{KeepsAllButBudget};
-ghost use Rattle.cbor4ii_tree.specs.Ahead.{Awaits, SkipsSome, RejectsSome, SkipsSomeUnder};
-ghost use Rattle.cbor4ii_tree.specs.Ahead.{RejectsSomeUnder, GoesUnder, CountsSome, CountsWent};
-ghost use Rattle.cbor4ii_tree.specs.Cost.{Budget};
-ghost use Rattle.cbor4ii_tree.specs.Deeper.{Deeper, GoesOn, budgeted};
-ghost use Rattle.cbor4ii_tree.specs.Does.{Does, DoesApart, Lowers, MayStay, Spares, Taking};
-ghost use Rattle.cbor4ii_tree.specs.Does.{answered, done};
-ghost use Rattle.cbor4ii_tree.specs.Skipping.{SkipsOne, RejectsSkippingOne, SkipsItems};
-ghost use Rattle.cbor4ii_tree.specs.Skipping.{RejectsSkippingItems, SkipsIndefinite};
-ghost use Rattle.cbor4ii_tree.specs.Skipping.{RejectsSkippingIndefinite, SkipsMembers};
-ghost use Rattle.cbor4ii_tree.specs.Skipping.{RejectsSkippingMembers, SkipsUnder};
-ghost use Rattle.cbor4ii_tree.specs.Skipping.{RejectsSkippingUnder, SkipsAfter};
-ghost use Rattle.cbor4ii_tree.specs.Skipping.{RejectsSkippingAfter};
+ghost use Rattle.cbor4ii_tree.specs.Inner.Ahead.{Awaits, SkipsSome, RejectsSome, SkipsSomeUnder};
+ghost use Rattle.cbor4ii_tree.specs.Inner.Ahead.{RejectsSomeUnder, GoesUnder, CountsSome};
+ghost use Rattle.cbor4ii_tree.specs.Inner.Ahead.{CountsWent};
+ghost use Rattle.cbor4ii_tree.specs.Basis.Cost.{Budget};
+ghost use Rattle.cbor4ii_tree.specs.Inner.Deeper.{Deeper, FollowsInside, with_budget};
+ghost use Rattle.cbor4ii_tree.specs.Inner.Does.{Does, DoesApart, Lowers, MayStay, Spares, Taking};
+ghost use Rattle.cbor4ii_tree.specs.Inner.Does.{value_or_error, done_or_error};
+ghost use Rattle.cbor4ii_tree.specs.Inner.Skipping.{SkipsOne, RejectsSkippingOne, SkipsItems};
+ghost use Rattle.cbor4ii_tree.specs.Inner.Skipping.{RejectsSkippingItems, SkipsIndefinite};
+ghost use Rattle.cbor4ii_tree.specs.Inner.Skipping.{RejectsSkippingIndefinite, SkipsPairs};
+ghost use Rattle.cbor4ii_tree.specs.Inner.Skipping.{RejectsSkippingPairs, SkipsUnder};
+ghost use Rattle.cbor4ii_tree.specs.Inner.Skipping.{RejectsSkippingUnder, SkipsAfter};
+ghost use Rattle.cbor4ii_tree.specs.Inner.Skipping.{RejectsSkippingAfter};
 
 use crate::ahead::{Ahead, Among};
-use crate::prefix::Prefix;
+use crate::bytes_ahead::BytesAhead;
 use crate::skip::initial::After;
 use crate::skip::next::{skip_content, take_ahead};
 use crate::skip::step::{give_back, skip_without_step};
@@ -34,7 +35,7 @@ pub(crate) enum Went {
 }
 
 /// Skips one item.
-pub(crate) fn skip_item<S: Source, F: Prefix<S>>(
+pub(crate) fn skip_item<S: Source, F: BytesAhead<S>>(
     prefix: &mut F,
     reader: &mut S,
 ) -> Result<(), DecodeError<S::Error>>
@@ -57,7 +58,7 @@ pub(crate) fn skip_item<S: Source, F: Prefix<S>>(
 /// does neither, the error goes to `failure`: no large answer is handed up from level to level.
 #[cycle(skip)]
 #[inline(always)]
-fn skip_some<S: Source, F: Prefix<S>>(
+fn skip_some<S: Source, F: BytesAhead<S>>(
     prefix: &mut F,
     reader: &mut S,
     among: Among,
@@ -66,7 +67,7 @@ fn skip_some<S: Source, F: Prefix<S>>(
     requires { Awaits among }
     ensures { DoesApart (SkipsSome among) (RejectsSome among) (CountsSome among)
         F.apart (S.view reader.old) (S.view reader.new) (F.view prefix.old reader.old)
-        (F.view prefix.new reader.new) (answered result failure.new) }
+        (F.view prefix.new reader.new) (value_or_error result failure.new) }
 {
     if !reader.step_in() {
         return skip_without_step(prefix, reader, among, failure);
@@ -79,7 +80,7 @@ fn skip_some<S: Source, F: Prefix<S>>(
 /// Skips an item or a run of them, or takes a break, where the step was taken.
 #[cycle(skip)]
 #[inline(always)]
-fn some_inside<S: Source, F: Prefix<S>>(
+fn some_inside<S: Source, F: BytesAhead<S>>(
     prefix: &mut F,
     reader: &mut S,
     among: Among,
@@ -88,7 +89,7 @@ fn some_inside<S: Source, F: Prefix<S>>(
     requires { Awaits among }
     ensures { DoesApart (SkipsSomeUnder among) (RejectsSomeUnder among) (CountsSome among)
         F.apart (S.view reader.old) (S.view reader.new) (F.view prefix.old reader.old)
-        (F.view prefix.new reader.new) (answered result failure.new) }
+        (F.view prefix.new reader.new) (value_or_error result failure.new) }
 {
     match go_some(prefix, reader, among, failure) {
         Some(Went::Past(count)) => Some(count),
@@ -106,7 +107,7 @@ fn some_inside<S: Source, F: Prefix<S>>(
 /// Skips an item or a run, or takes a break. Of a counted container or a tag it takes the head.
 #[cycle(skip)]
 #[inline(always)]
-fn go_some<S: Source, F: Prefix<S>>(
+fn go_some<S: Source, F: BytesAhead<S>>(
     prefix: &mut F,
     reader: &mut S,
     among: Among,
@@ -115,7 +116,7 @@ fn go_some<S: Source, F: Prefix<S>>(
     requires { Awaits among }
     ensures { DoesApart (GoesUnder among) (RejectsSomeUnder among) (CountsWent among)
         F.apart (S.view reader.old) (S.view reader.new) (F.view prefix.old reader.old)
-        (F.view prefix.new reader.new) (answered result failure.new) }
+        (F.view prefix.new reader.new) (value_or_error result failure.new) }
 {
     match take_ahead(prefix, reader, among, failure) {
         Some(Ahead::Run(count, _)) => Some(Went::Past(count)),
@@ -139,7 +140,7 @@ fn go_some<S: Source, F: Prefix<S>>(
 /// Skips what is left of an item after its head.
 #[cycle(skip)]
 #[inline(always)]
-fn skip_after<S: Source, F: Prefix<S>>(
+fn skip_after<S: Source, F: BytesAhead<S>>(
     prefix: &mut F,
     reader: &mut S,
     trailing: After,
@@ -147,7 +148,7 @@ fn skip_after<S: Source, F: Prefix<S>>(
 ) -> bool
     ensures { DoesApart (Taking (SkipsAfter trailing)) (RejectsSkippingAfter trailing) MayStay
         F.apart (S.view reader.old) (S.view reader.new) (F.view prefix.old reader.old)
-        (F.view prefix.new reader.new) (done result failure.new) }
+        (F.view prefix.new reader.new) (done_or_error result failure.new) }
 {
     match trailing {
         After::Nothing => true,
@@ -155,13 +156,13 @@ fn skip_after<S: Source, F: Prefix<S>>(
         After::Items(count) => skip_items(prefix, reader, count, failure),
         After::Twice(count) => skip_twice(prefix, reader, count, failure),
         After::Indefinite => skip_indefinite(prefix, reader, failure),
-        After::IndefiniteMembers => skip_indefinite_members(prefix, reader, failure),
+        After::PairsToBreak => skip_indefinite_pairs(prefix, reader, failure),
     }
 }
 
 /// Skips so many items.
 #[cycle(skip)]
-fn skip_items<S: Source, F: Prefix<S>>(
+fn skip_items<S: Source, F: BytesAhead<S>>(
     prefix: &mut F,
     reader: &mut S,
     count: u64,
@@ -169,7 +170,7 @@ fn skip_items<S: Source, F: Prefix<S>>(
 ) -> bool
     ensures { DoesApart (Taking (SkipsItems count)) (RejectsSkippingItems count) MayStay
         F.apart (S.view reader.old) (S.view reader.new) (F.view prefix.old reader.old)
-        (F.view prefix.new reader.new) (done result failure.new) }
+        (F.view prefix.new reader.new) (done_or_error result failure.new) }
 {
     let (done, depth) = skip_inward(prefix, reader, count, failure);
     give_back(reader, depth);
@@ -180,7 +181,7 @@ fn skip_items<S: Source, F: Prefix<S>>(
 /// place, and keeps the step; it answers how many steps it kept.
 #[cycle(skip)]
 #[inline(always)]
-fn skip_inward<S: Source, F: Prefix<S>>(
+fn skip_inward<S: Source, F: BytesAhead<S>>(
     prefix: &mut F,
     reader: &mut S,
     count: u64,
@@ -188,8 +189,8 @@ fn skip_inward<S: Source, F: Prefix<S>>(
 ) -> (bool, u64)
     ensures skips { DoesApart (Taking (SkipsItems count)) (RejectsSkippingItems count) MayStay
         F.apart (S.view reader.old) (S.view reader.new) (F.view prefix.old reader.old)
-        (budgeted (F.view prefix.old reader.old).budget (F.view prefix.new reader.new))
-        (done result.0 failure.new) }
+        (with_budget (F.view prefix.old reader.old).budget (F.view prefix.new reader.new))
+        (done_or_error result.0 failure.new) }
     ensures deeper { Deeper result.1 (F.view prefix.old reader.old).budget
         (F.view prefix.new reader.new).budget }
 {
@@ -209,7 +210,7 @@ fn skip_inward<S: Source, F: Prefix<S>>(
 /// counted in `depth`.
 #[cycle(skip)]
 #[inline(always)]
-fn skip_next<S: Source, F: Prefix<S>>(
+fn skip_next<S: Source, F: BytesAhead<S>>(
     prefix: &mut F,
     reader: &mut S,
     left: u64,
@@ -217,11 +218,11 @@ fn skip_next<S: Source, F: Prefix<S>>(
     failure: &mut Option<DecodeError<S::Error>>,
 ) -> Option<u64>
     requires { 1 ≤ left }
-    ensures skips { DoesApart (GoesOn left (F.view prefix.new reader.new).budget)
+    ensures skips { DoesApart (FollowsInside left (F.view prefix.new reader.new).budget)
         (RejectsSkippingItems left) Lowers
         F.apart (S.view reader.old) (S.view reader.new) (F.view prefix.old reader.old)
-        (budgeted (F.view prefix.old reader.old).budget (F.view prefix.new reader.new))
-        (answered result failure.new) }
+        (with_budget (F.view prefix.old reader.old).budget (F.view prefix.new reader.new))
+        (value_or_error result failure.new) }
     ensures deeper { (outer : Budget) →
         Deeper depth.old outer (F.view prefix.old reader.old).budget →
         Deeper depth.new outer (F.view prefix.new reader.new).budget }
@@ -254,7 +255,7 @@ fn skip_next<S: Source, F: Prefix<S>>(
 #[cycle(skip)]
 #[cold]
 #[inline(never)]
-fn skip_twice<S: Source, F: Prefix<S>>(
+fn skip_twice<S: Source, F: BytesAhead<S>>(
     prefix: &mut F,
     reader: &mut S,
     count: u64,
@@ -262,7 +263,7 @@ fn skip_twice<S: Source, F: Prefix<S>>(
 ) -> bool
     ensures { DoesApart (Taking (SkipsItems (2 * count))) (RejectsSkippingItems (2 * count)) MayStay
         F.apart (S.view reader.old) (S.view reader.new) (F.view prefix.old reader.old)
-        (F.view prefix.new reader.new) (done result failure.new) }
+        (F.view prefix.new reader.new) (done_or_error result failure.new) }
 {
     if !skip_items(prefix, reader, count, failure) {
         return false;
@@ -272,14 +273,14 @@ fn skip_twice<S: Source, F: Prefix<S>>(
 
 /// Skips items up to a break.
 #[cycle(skip)]
-fn skip_indefinite<S: Source, F: Prefix<S>>(
+fn skip_indefinite<S: Source, F: BytesAhead<S>>(
     prefix: &mut F,
     reader: &mut S,
     failure: &mut Option<DecodeError<S::Error>>,
 ) -> bool
     ensures { DoesApart (Taking SkipsIndefinite) RejectsSkippingIndefinite MayStay
         F.apart (S.view reader.old) (S.view reader.new) (F.view prefix.old reader.old)
-        (F.view prefix.new reader.new) (done result failure.new) }
+        (F.view prefix.new reader.new) (done_or_error result failure.new) }
 {
     loop {
         match skip_some(prefix, reader, Among::Indefinite, failure) {
@@ -292,14 +293,14 @@ fn skip_indefinite<S: Source, F: Prefix<S>>(
 
 /// Skips pairs up to a break. No break may come after a key.
 #[cycle(skip)]
-fn skip_indefinite_members<S: Source, F: Prefix<S>>(
+fn skip_indefinite_pairs<S: Source, F: BytesAhead<S>>(
     prefix: &mut F,
     reader: &mut S,
     failure: &mut Option<DecodeError<S::Error>>,
 ) -> bool
-    ensures { DoesApart (Taking SkipsMembers) RejectsSkippingMembers MayStay
+    ensures { DoesApart (Taking SkipsPairs) RejectsSkippingPairs MayStay
         F.apart (S.view reader.old) (S.view reader.new) (F.view prefix.old reader.old)
-        (F.view prefix.new reader.new) (done result failure.new) }
+        (F.view prefix.new reader.new) (done_or_error result failure.new) }
 {
     let mut keyed = false;
     loop {
@@ -321,7 +322,7 @@ fn skip_indefinite_members<S: Source, F: Prefix<S>>(
 #[cycle(skip)]
 #[cold]
 #[inline(never)]
-fn skip_unseen<S: Source, F: Prefix<S>>(
+fn skip_unseen<S: Source, F: BytesAhead<S>>(
     prefix: &mut F,
     reader: &mut S,
     among: Among,
@@ -330,7 +331,7 @@ fn skip_unseen<S: Source, F: Prefix<S>>(
     requires { Awaits among }
     ensures { DoesApart (SkipsSomeUnder among) (RejectsSomeUnder among) (CountsSome among)
         F.apart (S.view reader.old) (S.view reader.new) (F.view prefix.old reader.old)
-        (F.view prefix.new reader.new) (answered result failure.new) }
+        (F.view prefix.new reader.new) (value_or_error result failure.new) }
 {
     let ended = match part(ends(prefix, reader, among), failure) {
         Some(ended) => ended,
@@ -347,14 +348,14 @@ fn skip_unseen<S: Source, F: Prefix<S>>(
 
 /// Skips one item byte by byte; the step was taken.
 #[cycle(skip)]
-fn skip_inside<S: Source, F: Prefix<S>>(
+fn skip_inside<S: Source, F: BytesAhead<S>>(
     prefix: &mut F,
     reader: &mut S,
     failure: &mut Option<DecodeError<S::Error>>,
 ) -> bool
     ensures { DoesApart (Taking SkipsUnder) RejectsSkippingUnder Lowers
         F.apart (S.view reader.old) (S.view reader.new) (F.view prefix.old reader.old)
-        (F.view prefix.new reader.new) (done result failure.new) }
+        (F.view prefix.new reader.new) (done_or_error result failure.new) }
 {
     match part(skip_head(prefix, reader), failure) {
         Some(trailing) => skip_after(prefix, reader, trailing, failure),

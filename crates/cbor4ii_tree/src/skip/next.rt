@@ -1,12 +1,13 @@
 //! What comes next, taken.
 ghost use Rattle.std.specs.Prelude.{◌≡◌, IsTrue, codes};
-ghost use Rattle.cbor4ii_tree.specs.Does.{Does, DoesApart, Spares, answered, done};
-ghost use Rattle.cbor4ii_tree.specs.Ahead.{TakesAhead, Passes, NeverRejects};
-ghost use Rattle.cbor4ii_tree.specs.HeadParts.{DropsBytes};
-ghost use Rattle.cbor4ii_tree.specs.Rejections.{Missing};
+ghost use Rattle.cbor4ii_tree.specs.Inner.Does.{Does, DoesApart, Spares, value_or_error};
+ghost use Rattle.cbor4ii_tree.specs.Inner.Does.{done_or_error};
+ghost use Rattle.cbor4ii_tree.specs.Inner.Ahead.{TakesAhead, Passes, NeverRejects};
+ghost use Rattle.cbor4ii_tree.specs.Inner.HeadParts.{DropsBytes};
+ghost use Rattle.cbor4ii_tree.specs.Calls.Rejections.{Missing};
 
 use crate::ahead::{Ahead, Among};
-use crate::prefix::Prefix;
+use crate::bytes_ahead::BytesAhead;
 use crate::slot::{leave, part};
 use crate::unseen::skip_bytes;
 use cbor4ii_rw::error::DecodeError;
@@ -14,7 +15,7 @@ use cbor4ii_rw::read::Source;
 
 /// Takes what comes next where one look decides it, by one advance.
 #[inline(always)]
-pub(crate) fn take_ahead<S: Source, F: Prefix<S>>(
+pub(crate) fn take_ahead<S: Source, F: BytesAhead<S>>(
     prefix: &mut F,
     reader: &mut S,
     among: Among,
@@ -22,7 +23,7 @@ pub(crate) fn take_ahead<S: Source, F: Prefix<S>>(
 ) -> Option<Ahead>
     ensures { DoesApart (TakesAhead among) (λ _. NeverRejects) (Passes among)
         F.apart (S.view reader.old) (S.view reader.new) (F.view prefix.old reader.old)
-        (F.view prefix.new reader.new) (answered result failure.new) }
+        (F.view prefix.new reader.new) (value_or_error result failure.new) }
 {
     match prefix.ahead(reader, among) {
         Ok(Ahead::Run(count, size)) => {
@@ -47,15 +48,16 @@ pub(crate) fn take_ahead<S: Source, F: Prefix<S>>(
 
 /// Skips so many bytes.
 #[inline(never)]
-pub(crate) fn skip_content<S: Source, F: Prefix<S>>(
+pub(crate) fn skip_content<S: Source, F: BytesAhead<S>>(
     prefix: &mut F,
     reader: &mut S,
     count: u64,
     failure: &mut Option<DecodeError<S::Error>>,
 ) -> bool
     ensures does { Does (λ xs _ ys. DropsBytes count xs ys) (Missing (codes "ignored-any") count)
-        (F.view prefix.old reader.old) (F.view prefix.new reader.new) (done result failure.new) }
-    ensures spares { Spares (done result failure.new) }
+        (F.view prefix.old reader.old) (F.view prefix.new reader.new)
+        (done_or_error result failure.new) }
+    ensures spares { Spares (done_or_error result failure.new) }
     ensures stays { IsTrue F.apart → S.view reader.new ≡ S.view reader.old }
 {
     match part(skip_bytes(prefix, reader, count), failure) {

@@ -1,13 +1,13 @@
 //! Steps: an item where none is left, and many that are given back.
 ghost use Rattle.std.specs.Prelude.{◌≡◌, Some};
 ghost use Rattle.cbor4ii_rw.specs.Reader.{KeepsAllButBudget};
-ghost use Rattle.cbor4ii_tree.specs.Cost.{Budget};
-ghost use Rattle.cbor4ii_tree.specs.Deeper.{Deeper};
-ghost use Rattle.cbor4ii_tree.specs.Does.{DoesApart, answered};
-ghost use Rattle.cbor4ii_tree.specs.Ahead.{Awaits, CountsNone, SkipsSome, RejectsSome};
+ghost use Rattle.cbor4ii_tree.specs.Basis.Cost.{Budget};
+ghost use Rattle.cbor4ii_tree.specs.Inner.Deeper.{Deeper};
+ghost use Rattle.cbor4ii_tree.specs.Inner.Does.{DoesApart, value_or_error};
+ghost use Rattle.cbor4ii_tree.specs.Inner.Ahead.{Awaits, CountsNone, SkipsSome, RejectsSome};
 
 use crate::ahead::Among;
-use crate::prefix::Prefix;
+use crate::bytes_ahead::BytesAhead;
 use crate::slot::{leave, part};
 use crate::unseen::ends;
 use cbor4ii_rw::error::DecodeError;
@@ -16,7 +16,7 @@ use cbor4ii_rw::read::Source;
 /// Where no step is left a break alone may come.
 #[cold]
 #[inline(never)]
-pub(crate) fn skip_without_step<S: Source, F: Prefix<S>>(
+pub(crate) fn skip_without_step<S: Source, F: BytesAhead<S>>(
     prefix: &mut F,
     reader: &mut S,
     among: Among,
@@ -27,7 +27,7 @@ pub(crate) fn skip_without_step<S: Source, F: Prefix<S>>(
     ensures { DoesApart (λ _. SkipsSome among (Some 0)) (λ _. RejectsSome among (Some 0))
         (CountsNone among) F.apart (S.view reader.old) (S.view reader.new)
         (F.view prefix.old reader.old) (F.view prefix.new reader.new)
-        (answered result failure.new) }
+        (value_or_error result failure.new) }
 {
     let ended = match part(ends(prefix, reader, among), failure) {
         Some(ended) => ended,

@@ -9,11 +9,13 @@ ghost use Rattle.cbor4ii_items.specs.Lengths.{length_format};
 ghost use Rattle.cbor4ii.specs.contracts.serde.de.accessor.Accessor.{the_row as the_accessor};
 ghost use Rattle.cbor4ii.specs.contracts.serde.de.deserializer.Deserializer.{the_row};
 ghost use Rattle.cbor4ii.specs.declared.serde.de.accessor.Left.TheVariants.{Definite};
-ghost use Rattle.cbor4ii.specs.Accessing.{inside, deserializer_of, lender_of, left_in, steps_held};
+ghost use Rattle.cbor4ii.specs.Accessing.{inside, deserializer_of, deserializer_name, left_in};
+ghost use Rattle.cbor4ii.specs.Accessing.{steps_held};
 ghost use Rattle.cbor4ii.specs.Accessing.{with_deserializer, OpensParts, RejectedAs, Closes, hint};
-ghost use Rattle.cbor4ii.specs.Accessing.{start_format, next_format, Starts, GoesOn};
+ghost use Rattle.cbor4ii.specs.Accessing.{start_format, next_part_format, AccessorStarts};
+ghost use Rattle.cbor4ii.specs.Accessing.{AccessorGoesOn};
 ghost use Rattle.cbor4ii.specs.Stepped.{stepped_format};
-ghost use Rattle.cbor4ii.specs.Tuples.{container_head};
+ghost use Rattle.cbor4ii.specs.Tuples.{container_head_format};
 ghost use Rattle.cbor4ii.specs.Typed.{input, answer_of, Deserializes};
 ghost use Rattle.cbor4ii.specs.TypedParts.{part_of, two_of};
 
@@ -80,11 +82,12 @@ impl<S: Source> Deserializer<S> {
     ///   left then
     /// - `Core` of `Mismatch` by "array" with the first byte, which is taken: it begins no array
     pub fn deserialize_seq(&mut self) -> Result<Accessor<'_, S>, DecodeError<S::Error>>
-        ensures* rejected { sem 𝓛 (RestsIfErr (the_row S.row) self.entry lender_of result (λ new.
+        ensures* rejected { sem 𝓛 (RestsIfErr (the_row S.row) self.entry deserializer_name result
+            (λ new.
             RejectedAs (stepped_format (codes "seq") (length_format (codes "array") 4))
             (input S.view self.old) (input S.view new) (answer_of result))) }
         ensures same_reference { IfOk result
-            (λ accessor. lender_of accessor ≡ self.entry.ghost_name) }
+            (λ accessor. deserializer_name accessor ≡ self.entry.ghost_name) }
         ensures opened { IfOk result (λ accessor. OpensParts 4 (input S.view self.old)
             (inside S.view accessor) (left_in accessor)) }
         ensures steps { IfOk result (λ accessor. steps_held accessor ≡ 1) }
@@ -112,11 +115,12 @@ impl<S: Source> Deserializer<S> {
         &mut self,
         len: usize,
     ) -> Result<Accessor<'_, S>, DecodeError<S::Error>>
-        ensures* rejected { sem 𝓛 (RestsIfErr (the_row S.row) self.entry lender_of result (λ new.
-            RejectedAs (stepped_format (codes "tuple") (container_head len))
+        ensures* rejected { sem 𝓛 (RestsIfErr (the_row S.row) self.entry deserializer_name result
+            (λ new.
+            RejectedAs (stepped_format (codes "tuple") (container_head_format len))
             (input S.view self.old) (input S.view new) (answer_of result))) }
         ensures same_reference { IfOk result
-            (λ accessor. lender_of accessor ≡ self.entry.ghost_name) }
+            (λ accessor. deserializer_name accessor ≡ self.entry.ghost_name) }
         ensures opened { IfOk result (λ accessor. OpensParts 4 (input S.view self.old)
             (inside S.view accessor) (left_in accessor)) }
         ensures steps { IfOk result (λ accessor. steps_held accessor ≡ 1) }
@@ -138,11 +142,12 @@ impl<S: Source> Deserializer<S> {
     ///
     /// Those of `deserialize_seq`, by "map" in the place of "seq" and "array".
     pub fn deserialize_map(&mut self) -> Result<Accessor<'_, S>, DecodeError<S::Error>>
-        ensures* rejected { sem 𝓛 (RestsIfErr (the_row S.row) self.entry lender_of result (λ new.
+        ensures* rejected { sem 𝓛 (RestsIfErr (the_row S.row) self.entry deserializer_name result
+            (λ new.
             RejectedAs (stepped_format (codes "map") (length_format (codes "map") 5))
             (input S.view self.old) (input S.view new) (answer_of result))) }
         ensures same_reference { IfOk result
-            (λ accessor. lender_of accessor ≡ self.entry.ghost_name) }
+            (λ accessor. deserializer_name accessor ≡ self.entry.ghost_name) }
         ensures opened { IfOk result (λ accessor. OpensParts 5 (input S.view self.old)
             (inside S.view accessor) (left_in accessor)) }
         ensures steps { IfOk result (λ accessor. steps_held accessor ≡ 1) }
@@ -168,11 +173,12 @@ impl<S: Source> Deserializer<S> {
         name: StaticStr,
         len: usize,
     ) -> Result<Accessor<'_, S>, DecodeError<S::Error>>
-        ensures* rejected { sem 𝓛 (RestsIfErr (the_row S.row) self.entry lender_of result (λ new.
-            RejectedAs (stepped_format (codes "tuple") (container_head len))
+        ensures* rejected { sem 𝓛 (RestsIfErr (the_row S.row) self.entry deserializer_name result
+            (λ new.
+            RejectedAs (stepped_format (codes "tuple") (container_head_format len))
             (input S.view self.old) (input S.view new) (answer_of result))) }
         ensures same_reference { IfOk result
-            (λ accessor. lender_of accessor ≡ self.entry.ghost_name) }
+            (λ accessor. deserializer_name accessor ≡ self.entry.ghost_name) }
         ensures opened { IfOk result (λ accessor. OpensParts 4 (input S.view self.old)
             (inside S.view accessor) (left_in accessor)) }
         ensures steps { IfOk result (λ accessor. steps_held accessor ≡ 1) }
@@ -192,11 +198,12 @@ impl<S: Source> Deserializer<S> {
         name: StaticStr,
         fields: &[StaticStr],
     ) -> Result<Accessor<'_, S>, DecodeError<S::Error>>
-        ensures* rejected { sem 𝓛 (RestsIfErr (the_row S.row) self.entry lender_of result (λ new.
+        ensures* rejected { sem 𝓛 (RestsIfErr (the_row S.row) self.entry deserializer_name result
+            (λ new.
             RejectedAs (stepped_format (codes "map") (length_format (codes "map") 5))
             (input S.view self.old) (input S.view new) (answer_of result))) }
         ensures same_reference { IfOk result
-            (λ accessor. lender_of accessor ≡ self.entry.ghost_name) }
+            (λ accessor. deserializer_name accessor ≡ self.entry.ghost_name) }
         ensures opened { IfOk result (λ accessor. OpensParts 5 (input S.view self.old)
             (inside S.view accessor) (left_in accessor)) }
         ensures steps { IfOk result (λ accessor. steps_held accessor ≡ 1) }
@@ -226,7 +233,7 @@ impl<'a, S: Source> Accessor<'a, S> {
             (inside S.view self.old) (inside S.view self.new) (answer_of result) }
         ensures failed { OnRead (answer_of result)
             (ReaderFails (inside S.view self.old) (inside S.view self.new)) }
-        ensures starts { Starts S.view self.old self.new result }
+        ensures starts { AccessorStarts S.view self.old self.new result }
     {
         match self.left {
             Left::Definite(0) => Ok(false),
@@ -272,9 +279,9 @@ impl<'a, S: Source> Accessor<'a, S> {
         alloc: Global,
     ) -> Result<Option<T>, DecodeError<S::Error>>
         ensures decodes { DecodesIf T.promise.exact
-            (next_format (left_in self.old) (part_of T.promise))
+            (next_part_format (left_in self.old) (part_of T.promise))
             (inside S.view self.old) (inside S.view self.new) (answer_of result) }
-        ensures goes_on { GoesOn S.view self.old self.new result }
+        ensures goes_on { AccessorGoesOn S.view self.old self.new result }
     {
         match self.starts_element() {
             Ok(true) => match T::deserialize(alloc, self.de) {
@@ -296,9 +303,9 @@ impl<'a, S: Source> Accessor<'a, S> {
         alloc: Global,
     ) -> Result<Option<K>, DecodeError<S::Error>>
         ensures decodes { DecodesIf K.promise.exact
-            (next_format (left_in self.old) (part_of K.promise))
+            (next_part_format (left_in self.old) (part_of K.promise))
             (inside S.view self.old) (inside S.view self.new) (answer_of result) }
-        ensures goes_on { GoesOn S.view self.old self.new result }
+        ensures goes_on { AccessorGoesOn S.view self.old self.new result }
     {
         self.next_element::<K>(alloc)
     }
@@ -312,7 +319,7 @@ impl<'a, S: Source> Accessor<'a, S> {
         &mut self,
         alloc: Global,
     ) -> Result<V, DecodeError<S::Error>>
-        ensures same_reference { lender_of self.new ≡ lender_of self.old }
+        ensures same_reference { deserializer_name self.new ≡ deserializer_name self.old }
         ensures same_steps { steps_held self.new ≡ steps_held self.old }
         ensures left { left_in self.new ≡ left_in self.old }
         ensures decodes { Deserializes V.promise
@@ -328,16 +335,16 @@ impl<'a, S: Source> Accessor<'a, S> {
     /// No error comes at the end. The budget is as before.
     ///
     /// - those of `next_key`
-    /// - those of the value, with what they leave. The key was taken then. Where entries are
+    /// - those of the value, with what they leave. The key was taken then. Where pairs are
     ///   counted, this one was counted off
     pub fn next_entry<K: Deserialize<S> + Drop, V: Deserialize<S>>(
         &mut self,
         alloc: Global,
     ) -> Result<Option<(K, V)>, DecodeError<S::Error>>
         ensures decodes { DecodesIf (K.promise.exact && V.promise.exact)
-            (next_format (left_in self.old) (two_of K.promise V.promise))
+            (next_part_format (left_in self.old) (two_of K.promise V.promise))
             (inside S.view self.old) (inside S.view self.new) (answer_of result) }
-        ensures goes_on { GoesOn S.view self.old self.new result }
+        ensures goes_on { AccessorGoesOn S.view self.old self.new result }
     {
         match self.next_element::<K>(alloc) {
             Ok(Some(key)) => match V::deserialize(alloc, self.de) {

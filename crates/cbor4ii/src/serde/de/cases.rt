@@ -5,7 +5,7 @@ ghost use Rattle.cbor4ii_items.specs.Decoding.{DecodesIf};
 ghost use Rattle.cbor4ii_items.specs.Moves.{Moves};
 ghost use Rattle.cbor4ii.specs.Cases.{Cases as Variants, Holding, holding_format, case_format};
 ghost use Rattle.cbor4ii.specs.Cases.{unit_case, held_case, otherwise, cases_by, enum_of};
-ghost use Rattle.cbor4ii.specs.Cases.{inside_format, named_format};
+ghost use Rattle.cbor4ii.specs.Cases.{cases_inside, named_format};
 ghost use Rattle.cbor4ii.specs.Made.{made_from};
 ghost use Rattle.cbor4ii.specs.Names.{StandsAt, IsAfterFirst};
 ghost use Rattle.cbor4ii.specs.Typed.{input, answer_of, Deserializes};
@@ -15,6 +15,7 @@ use crate::serde::de::deserializer::Deserializer;
 use crate::serde::de::enum_accessor::take_form;
 use crate::serde::de::error::DecodeError;
 use crate::serde::de::names::take_name;
+use crate::serde::de::slot::left;
 use cbor4ii_rw::error as core_error;
 use cbor4ii_rw::error::{Never, StaticStr};
 use cbor4ii_rw::read::Source;
@@ -198,7 +199,7 @@ pub(crate) fn after_first(names: &[StaticStr], at: usize) -> Option<(&[StaticStr
 }
 
 impl<S: Source> Deserializer<S> {
-    /// An enum: a text, which is the name of a variant that holds nothing, or a map of one entry,
+    /// An enum: a text, which is the name of a variant that holds nothing, or a map of one pair,
     /// from the name of a variant to what it holds. `cases` says what each variant holds, in the
     /// order of the names. The enum's own name is not encoded.
     ///
@@ -244,7 +245,7 @@ fn variant_inside<S: Source, R: Drop, C: Cases<S, R>>(
     cases: C,
 ) -> Result<R, DecodeError<S::Error>>
     ensures { DecodesIf (C.cases cases variants.now).exact
-        (inside_format (C.cases cases variants.now))
+        (cases_inside (C.cases cases variants.now))
         (input S.view de.old) (input S.view de.new) (answer_of result) }
 {
     match take_form(&mut de.reader) {
@@ -265,8 +266,9 @@ fn named_variant<S: Source, R: Drop, C: Cases<S, R>>(
         (named_format (C.cases cases variants.now) form)
         (input S.view de.old) (input S.view de.new) (answer_of result) }
 {
-    match take_name(alloc, de, variants) {
-        Ok(at) => cases.take(alloc, variants, at, form, de),
-        Err(error) => Err(error),
+    let mut failure = None;
+    match take_name(alloc, de, variants, &mut failure) {
+        Some(at) => cases.take(alloc, variants, at, form, de),
+        None => Err(left(failure)),
     }
 }

@@ -6,7 +6,7 @@ ghost use Rattle.std.specs.Cow.{IsBorrowedStr, IsOwnedStr};
 ghost use Rattle.cbor4ii_items.specs.Cow.{BorrowsWhereDefinite, cow_text, cow_bytes};
 ghost use Rattle.cbor4ii_items.specs.Cow.{IsBorrowedBytes, IsOwnedBytes};
 ghost use Rattle.cbor4ii_items.specs.Laws.Strings.{two_small, text_lawful, as_lawful};
-ghost use Rattle.cbor4ii.specs.Typed.{input, answer_of, exactly, Deserializes};
+ghost use Rattle.cbor4ii.specs.Typed.{input, answer_of, exact_promise, Deserializes};
 
 use crate::serde::de::deserialize::{Deserialize, Typed};
 use crate::serde::de::deserializer::Deserializer;
@@ -24,7 +24,7 @@ use std::io;
 use std::io::BufRead;
 
 impl<'de> Typed for CowStr<'de, Global> {
-    ghost promise = { exactly refl (text_lawful (codes "str") cow_text) };
+    ghost promise = { exact_promise refl (text_lawful (codes "str") cow_text) };
 }
 
 /// A text: a slice of the input where its length is definite, a copy of its chunks where it is not.
@@ -88,7 +88,7 @@ impl<'de, R: BufRead + Drop> Deserialize<IoReader<R>> for CowStr<'de, Global> {
 }
 
 impl<'de> Typed for Bytes<CowSlice<'de, u8, Global>> {
-    ghost promise = { exactly refl (as_lawful (codes "bytes") 2 two_small cow_bytes) };
+    ghost promise = { exact_promise refl (as_lawful (codes "bytes") 2 two_small cow_bytes) };
 }
 
 /// A byte string: a slice of the input where its length is definite, a copy of its chunks where it

@@ -1,5 +1,5 @@
 //! What reading a typed value is.
-ghost use Rattle.cbor4ii.specs.Typed.{input, answer_of, Promise, nothing, Deserializes};
+ghost use Rattle.cbor4ii.specs.Typed.{input, answer_of, Promise, no_promise, Deserializes};
 
 use crate::serde::de::deserializer::Deserializer;
 use crate::serde::de::error::DecodeError;
@@ -11,7 +11,7 @@ use std::alloc::Global;
 /// leaves it out.
 pub trait Typed: Sized {
     // What is read, how bytes are rejected, and how much of that the type promises.
-    ghost promise: { Promise Self } = { nothing };
+    ghost promise: { Promise Self } = { no_promise };
 }
 
 /// A type whose values are read from a reader.

@@ -3,7 +3,7 @@ ghost use Rattle.std.specs.Prelude.{◌≡◌, ◌↔◌, IsTrue};
 ghost use Rattle.cbor4ii_items.specs.Decoding.{Decodes, DecodesIf};
 ghost use Rattle.cbor4ii.specs.Elements.{Elements, no_element, element_before, typed_elements};
 ghost use Rattle.cbor4ii.specs.Made.{made_from};
-ghost use Rattle.cbor4ii.specs.Tuples.{container_head, after_format};
+ghost use Rattle.cbor4ii.specs.Tuples.{container_head_format, after_format};
 ghost use Rattle.cbor4ii.specs.Typed.{input, answer_of, Deserializes};
 
 use crate::serde::de::deserialize::{Deserialize, Typed};
@@ -154,7 +154,7 @@ fn elements_after<S: Source, V: DeserializeElements<S>>(
 fn take_count_of<S: Source, V: TypedElements>(
     reader: &mut S,
 ) -> Result<(), core_error::DecodeError<S::Error>>
-    ensures { Decodes (container_head V.elements.count)
+    ensures { Decodes (container_head_format V.elements.count)
         (S.view reader.old) (S.view reader.new) result }
 {
     match Array::<()>::len(reader) {

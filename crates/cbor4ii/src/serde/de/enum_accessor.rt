@@ -11,11 +11,12 @@ ghost use Rattle.cbor4ii_items.specs.InputError.{is_out_of_memory};
 ghost use Rattle.cbor4ii.specs.contracts.serde.de.deserializer.Deserializer.{the_row};
 ghost use Rattle.cbor4ii.specs.contracts.serde.de.enum_accessor.EnumAccessor.{the_row as the_enum};
 ghost use Rattle.cbor4ii.specs.declared.serde.de.accessor.Left.TheVariants.{Definite};
-ghost use Rattle.cbor4ii.specs.Accessing.{inside, lender_of, left_in, steps_held, OpensParts};
+ghost use Rattle.cbor4ii.specs.Accessing.{inside, deserializer_name, left_in, steps_held};
+ghost use Rattle.cbor4ii.specs.Accessing.{OpensParts};
 ghost use Rattle.cbor4ii.specs.Accessing.{Closes, Finishes, RejectedAs};
 ghost use Rattle.cbor4ii.specs.Stepped.{Stepped, RejectsStepped, stepped_format};
 ghost use Rattle.cbor4ii.specs.Tuples.{ReadsCountOf, RejectsCountOf};
-ghost use Rattle.cbor4ii.specs.Typed.{input, answer_of, as_core, said_by, Deserializes};
+ghost use Rattle.cbor4ii.specs.Typed.{input, answer_of, as_core, rejects_as_promised, Deserializes};
 ghost use Rattle.cbor4ii.specs.Variants.{inside_enum, reference_of_enum, deserializer_of_enum};
 ghost use Rattle.cbor4ii.specs.Variants.{lender_of_enum, form_of, with_content, OpensEnum};
 ghost use Rattle.cbor4ii.specs.Variants.{ReadsContent, RejectsContent, SaysOther, form_format};
@@ -32,7 +33,7 @@ use cbor4ii_rw::error::StaticStr;
 use cbor4ii_rw::read::Source;
 use std::alloc::Global;
 
-/// The head of a map of one entry.
+/// The head of a map of one pair.
 const ENTRY: u8 = 0xa1;
 
 /// A variant: its name, and then what it holds. It holds a step of the budget, and gives it back
@@ -60,7 +61,7 @@ impl<'a, S: Source> Drop for EnumAccessor<'a, S> {
 }
 
 impl<S: Source> Deserializer<S> {
-    /// A variant: a text, its name, or a map of one entry, from its name to its content. A step is
+    /// A variant: a text, its name, or a map of one pair, from its name to its content. A step is
     /// taken, and the head of the map; a text stays. The enum's own name is not encoded, and no
     /// name of a variant is asked for.
     ///
@@ -72,7 +73,7 @@ impl<S: Source> Deserializer<S> {
     /// - `Core` of `DepthOverflow` by "enum": no step is left
     /// - `Core` of `Eof` by "enum" with 1: no byte is left
     /// - `Core` of `Mismatch` by "enum" with the first byte: it begins neither a text nor a map of
-    ///   one entry in one byte
+    ///   one pair in one byte
     #[inline(always)]
     pub fn deserialize_enum(
         &mut self,
@@ -324,7 +325,7 @@ impl<'a, S: Source> EnumAccessor<'a, S> {
             (RejectsContent (form_of self.entry) T.promise.format.rejects)
             (inside_enum S.view self.entry) (input S.view self.exit.0.now) (as_core error)) }
         ensures rejects { IfErr result (λ error. Rejects
-            (RejectsContent (form_of self.entry) (said_by T.promise))
+            (RejectsContent (form_of self.entry) (rejects_as_promised T.promise))
             (inside_enum S.view self.entry) (input S.view self.exit.0.now) (as_core error)) }
     {
         if !self.content {
@@ -347,13 +348,13 @@ impl<'a, S: Source> EnumAccessor<'a, S> {
     /// - those of `deserialize_tuple`
     pub fn tuple_variant(self, len: usize) -> Result<Accessor<'a, S>, DecodeError<S::Error>>
         ensures* rejected { sem 𝓛 (RestsIfErr (the_row S.row) (reference_of_enum self.entry)
-            lender_of result (λ new.
+            deserializer_name result (λ new.
             Finishes 1 (inside_enum S.view self.entry) (input S.view new) (answer_of result) ×
             IfErr result (λ error. Rejects (RejectsContent (form_of self.entry)
             (RejectsStepped (codes "tuple") (RejectsCountOf len)))
             (inside_enum S.view self.entry) (input S.view new) (as_core error)))) }
         ensures same_reference { IfOk result
-            (λ accessor. lender_of accessor ≡ lender_of_enum self.entry) }
+            (λ accessor. deserializer_name accessor ≡ lender_of_enum self.entry) }
         ensures wrong { (form_of self.entry).0 ≡ false →
             SaysOther (form_of self.entry).1 (answer_of result) }
         ensures opened { IfOk result (λ accessor. OpensParts 4 (inside_enum S.view self.entry)
@@ -387,13 +388,13 @@ impl<'a, S: Source> EnumAccessor<'a, S> {
     /// - those of `deserialize_map`
     pub fn struct_variant(self) -> Result<Accessor<'a, S>, DecodeError<S::Error>>
         ensures* rejected { sem 𝓛 (RestsIfErr (the_row S.row) (reference_of_enum self.entry)
-            lender_of result (λ new.
+            deserializer_name result (λ new.
             Finishes 1 (inside_enum S.view self.entry) (input S.view new) (answer_of result) ×
             IfErr result (λ error. Rejects (RejectsContent (form_of self.entry)
             (RejectsStepped (codes "map") (RejectsLength (codes "map") 5)))
             (inside_enum S.view self.entry) (input S.view new) (as_core error)))) }
         ensures same_reference { IfOk result
-            (λ accessor. lender_of accessor ≡ lender_of_enum self.entry) }
+            (λ accessor. deserializer_name accessor ≡ lender_of_enum self.entry) }
         ensures wrong { (form_of self.entry).0 ≡ false →
             SaysOther (form_of self.entry).1 (answer_of result) }
         ensures opened { IfOk result (λ accessor. OpensParts 5 (inside_enum S.view self.entry)

@@ -1,14 +1,18 @@
 //! Structs that are read from their named fields in one call.
-ghost use Rattle.std.specs.Prelude.{◌≡◌, ◌+◌, ◌≤◌, ℕ, List, OnOk, codes};
+ghost use Rattle.std.specs.Prelude.{◌≡◌, ◌+◌, ◌≤◌, ℕ, List, OnSome, codes};
 ghost use Rattle.std.specs.Borrow.{Bor};
+ghost use Rattle.cbor4ii_items.specs.Decoding.{Decodes};
 ghost use Rattle.cbor4ii_items.specs.Moves.{Moves};
 ghost use Rattle.cbor4ii_items.specs.Sequences.{count_of, indefinite_of, inside_of, in_list};
-ghost use Rattle.cbor4ii.specs.Fields.{made, all_made, Alters};
+ghost use Rattle.cbor4ii.specs.Answered.{typed_value_or_error};
+ghost use Rattle.cbor4ii.specs.ItemRead.{skipped_format};
+ghost use Rattle.cbor4ii.specs.Fields.{one_change, all_changes, Alters, Puts};
 ghost use Rattle.cbor4ii.specs.Names.{StandsAt};
 ghost use Rattle.cbor4ii.specs.Made.{made_from};
 ghost use Rattle.cbor4ii.specs.Presence.{made_struct};
-ghost use Rattle.cbor4ii.specs.Structs.{Fields, no_more, field, fields_by, after_name, entry_of};
-ghost use Rattle.cbor4ii.specs.Structs.{entries_of};
+ghost use Rattle.cbor4ii.specs.Structs.{Fields, no_more, fields_by, after_name};
+ghost use Rattle.cbor4ii.specs.Structs.{field_pair};
+ghost use Rattle.cbor4ii.specs.Structs.{field_pairs};
 ghost use Rattle.cbor4ii.specs.Typed.{input, answer_of, Deserializes};
 
 use crate::serde::de::deserialize::Deserialize;
@@ -18,6 +22,7 @@ use crate::serde::de::names::take_name;
 use crate::serde::de::parts::takes_break;
 use crate::serde::de::place::Place;
 use crate::serde::de::presence::Presences;
+use crate::serde::de::slot::{leave, part, whole};
 use cbor4ii_items::types::Map;
 use cbor4ii_rw::error as core_error;
 use cbor4ii_rw::error::StaticStr;
@@ -29,7 +34,7 @@ pub trait Places: Sized {
     // The fields that have these names, with what the type of each promises.
     ghost fields: { List (Bor (List ℕ)) → Fields Self };
 
-    /// The values of no entry.
+    /// The values of no pair.
     fn none() -> Self
         ensures { (names : List (Bor (List ℕ))) → result ≡ (Self.fields names).first };
 }
@@ -61,8 +66,8 @@ pub trait Values<S: Source>: Places {
     ///
     /// # Errors
     ///
-    /// Those of the field's value, and of `deserialize_ignored_any` for an entry of another name,
-    /// with what they leave.
+    /// Those of the field's value, and of `deserialize_ignored_any` for a pair of another name,
+    /// with what they leave. None is answered then, and the error goes to `failure`.
     #[inline(always)]
     fn take(
         &mut self,
@@ -70,13 +75,17 @@ pub trait Values<S: Source>: Places {
         names: &[StaticStr],
         at: usize,
         de: &mut Deserializer<S>,
-    ) -> Result<(), DecodeError<S::Error>>
-        ensures moves { Moves (input S.view de.old) (input S.view de.new) (answer_of result) }
-        ensures progress { OnOk result
+        failure: &mut Option<DecodeError<S::Error>>,
+    ) -> Option<()>
+        ensures moves { Moves (input S.view de.old) (input S.view de.new)
+            (answer_of (typed_value_or_error result failure.new)) }
+        ensures progress { OnSome result
             ((input S.view de.new).bound + 1 ≤ (input S.view de.old).bound) }
         ensures alters { (name : List ℕ) → StandsAt name names.now at →
-            Alters made (Self.fields names.now).exact (after_name (Self.fields names.now) name)
-            self.old self.new (input S.view de.old) (input S.view de.new) (answer_of result) };
+            Alters one_change (Self.fields names.now).exact (after_name (Self.fields names.now)
+            name)
+            self.old self.new (input S.view de.old) (input S.view de.new)
+            (answer_of (typed_value_or_error result failure.new)) };
 }
 
 /// No field.
@@ -88,8 +97,9 @@ impl<S: Source> Values<S> for () {
         names: &[StaticStr],
         at: usize,
         de: &mut Deserializer<S>,
-    ) -> Result<(), DecodeError<S::Error>> {
-        de.deserialize_ignored_any(alloc)
+        failure: &mut Option<DecodeError<S::Error>>,
+    ) -> Option<()> {
+        skip_value(alloc, de, failure)
     }
 }
 
@@ -105,23 +115,57 @@ where
         names: &[StaticStr],
         at: usize,
         de: &mut Deserializer<S>,
-    ) -> Result<(), DecodeError<S::Error>> {
+        failure: &mut Option<DecodeError<S::Error>>,
+    ) -> Option<()> {
         match names {
             [_, trailing @ ..] => {
                 if at > 0 {
-                    return self.1.take(alloc, trailing, at - 1, de);
+                    return self.1.take(alloc, trailing, at - 1, de, failure);
                 }
-                match <P::Value>::deserialize(alloc, de) {
-                    Ok(value) => {
-                        self.0.put(value);
-                        Ok(())
-                    }
-                    Err(error) => Err(error),
-                }
+                put_value(alloc, &mut self.0, de, failure)
             }
-            [] => de.deserialize_ignored_any(alloc),
+            [] => skip_value(alloc, de, failure),
         }
     }
+}
+
+/// Reads the value of a field, and puts it where it stands.
+#[inline(always)]
+fn put_value<S: Source, P: Place>(
+    alloc: Global,
+    place: &mut P,
+    de: &mut Deserializer<S>,
+    failure: &mut Option<DecodeError<S::Error>>,
+) -> Option<()>
+where
+    P::Value: Deserialize<S>,
+    ensures { Puts P.place P.Value.promise place.old place.new
+        (input S.view de.old) (input S.view de.new)
+        (answer_of (typed_value_or_error result failure.new)) }
+{
+    match <P::Value>::deserialize(alloc, de) {
+        Ok(value) => {
+            place.put(value);
+            Some(())
+        }
+        Err(error) => {
+            leave(error, failure);
+            None
+        }
+    }
+}
+
+/// Skips what follows a name that no field has.
+#[inline(never)]
+fn skip_value<S: Source>(
+    alloc: Global,
+    de: &mut Deserializer<S>,
+    failure: &mut Option<DecodeError<S::Error>>,
+) -> Option<()>
+    ensures { Decodes skipped_format (input S.view de.old) (input S.view de.new)
+        (answer_of (typed_value_or_error result failure.new)) }
+{
+    part(de.deserialize_ignored_any(alloc), failure)
 }
 
 /// Reads a name and what follows it.
@@ -131,35 +175,38 @@ fn take_field<S: Source, V: Values<S>>(
     de: &mut Deserializer<S>,
     names: &[StaticStr],
     values: &mut V,
-) -> Result<(), DecodeError<S::Error>>
-    ensures { Alters made (V.fields names.now).exact
-        (entry_of (V.fields names.now)) values.old values.new
-        (input S.view de.old) (input S.view de.new) (answer_of result) }
+    failure: &mut Option<DecodeError<S::Error>>,
+) -> Option<()>
+    ensures { Alters one_change (V.fields names.now).exact
+        (field_pair (V.fields names.now)) values.old values.new
+        (input S.view de.old) (input S.view de.new)
+        (answer_of (typed_value_or_error result failure.new)) }
 {
-    match take_name(alloc, de, names) {
-        Ok(at) => values.take(alloc, names, at, de),
-        Err(error) => Err(error),
+    match take_name(alloc, de, names, failure) {
+        Some(at) => values.take(alloc, names, at, de, failure),
+        None => None,
     }
 }
 
 /// Reads the fields of these names off a map, in any order, and skips the others.
 #[inline(always)]
-pub(crate) fn take_fields<S: Source, V: Values<S>>(
+fn take_fields<S: Source, V: Values<S>>(
     alloc: Global,
     de: &mut Deserializer<S>,
     names: &[StaticStr],
     values: &mut V,
 ) -> Result<(), DecodeError<S::Error>>
-    ensures { Alters all_made (V.fields names.now).exact
-        (entries_of (V.fields names.now)) values.old values.new
+    ensures { Alters all_changes (V.fields names.now).exact
+        (field_pairs (V.fields names.now)) values.old values.new
         (input S.view de.old) (input S.view de.new) (answer_of result) }
 {
     if !de.reader.step_in() {
         return Err(DecodeError::Core(core_error::DecodeError::DepthOverflow { name: "map" }));
     }
-    let outcome = fields_inside(alloc, de, names, values);
+    let mut failure = None;
+    let outcome = fields_inside(alloc, de, names, values, &mut failure);
     de.reader.step_out();
-    outcome
+    whole(outcome, failure)
 }
 
 /// Reads the fields of these names off a map whose step was taken.
@@ -169,19 +216,24 @@ fn fields_inside<S: Source, V: Values<S>>(
     de: &mut Deserializer<S>,
     names: &[StaticStr],
     values: &mut V,
-) -> Result<(), DecodeError<S::Error>>
-    ensures { Alters all_made (V.fields names.now).exact
-        (inside_of in_list (codes "map") 5 (entry_of (V.fields names.now))) values.old values.new
-        (input S.view de.old) (input S.view de.new) (answer_of result) }
+    failure: &mut Option<DecodeError<S::Error>>,
+) -> Option<()>
+    ensures { Alters all_changes (V.fields names.now).exact
+        (inside_of in_list (codes "map") 5 (field_pair (V.fields names.now))) values.old values.new
+        (input S.view de.old) (input S.view de.new)
+        (answer_of (typed_value_or_error result failure.new)) }
 {
     match Map::<()>::len(&mut de.reader) {
-        Ok(Some(count)) => definite_fields(alloc, de, names, values, count),
-        Ok(None) => indefinite_fields(alloc, de, names, values),
-        Err(error) => Err(DecodeError::Core(error)),
+        Ok(Some(count)) => definite_fields(alloc, de, names, values, count, failure),
+        Ok(None) => indefinite_fields(alloc, de, names, values, failure),
+        Err(error) => {
+            leave(DecodeError::Core(error), failure);
+            None
+        }
     }
 }
 
-/// Reads the fields of these names off so many entries of a map.
+/// Reads the fields of these names off so many pairs of a map.
 #[inline(always)]
 fn definite_fields<S: Source, V: Values<S>>(
     alloc: Global,
@@ -189,32 +241,37 @@ fn definite_fields<S: Source, V: Values<S>>(
     names: &[StaticStr],
     values: &mut V,
     count: usize,
-) -> Result<(), DecodeError<S::Error>>
-    ensures { Alters all_made (V.fields names.now).exact
-        (count_of in_list (entry_of (V.fields names.now)) count) values.old values.new
-        (input S.view de.old) (input S.view de.new) (answer_of result) }
+    failure: &mut Option<DecodeError<S::Error>>,
+) -> Option<()>
+    ensures { Alters all_changes (V.fields names.now).exact
+        (count_of in_list (field_pair (V.fields names.now)) count) values.old values.new
+        (input S.view de.old) (input S.view de.new)
+        (answer_of (typed_value_or_error result failure.new)) }
 {
     for i in 0..count {
-        take_field(alloc, de, names, values)?;
+        take_field(alloc, de, names, values, failure)?;
     }
-    Ok(())
+    Some(())
 }
 
-/// Reads the fields of these names off the entries of a map up to a break.
+/// Reads the fields of these names off the pairs of a map up to a break.
 fn indefinite_fields<S: Source, V: Values<S>>(
     alloc: Global,
     de: &mut Deserializer<S>,
     names: &[StaticStr],
     values: &mut V,
-) -> Result<(), DecodeError<S::Error>>
-    ensures { Alters all_made (V.fields names.now).exact
-        (indefinite_of in_list (codes "map") (entry_of (V.fields names.now))) values.old values.new
-        (input S.view de.old) (input S.view de.new) (answer_of result) }
+    failure: &mut Option<DecodeError<S::Error>>,
+) -> Option<()>
+    ensures { Alters all_changes (V.fields names.now).exact
+        (indefinite_of in_list (codes "map") (field_pair (V.fields names.now))) values.old
+        values.new
+        (input S.view de.old) (input S.view de.new)
+        (answer_of (typed_value_or_error result failure.new)) }
 {
-    while !takes_break(de)? {
-        take_field(alloc, de, names, values)?;
+    while !part(takes_break(de), failure)? {
+        take_field(alloc, de, names, values, failure)?;
     }
-    Ok(())
+    Some(())
 }
 
 /// Reads a struct of fields of these names, and answers what it has of them.
@@ -239,31 +296,30 @@ pub(crate) fn take_struct<S: Source, V: Values<S> + Drop, P: Presences<V>>(
     }
 }
 
-/// Each of these reads a struct: a map from its fields' names to their values, of any length, in
-/// any order. An entry of another name is skipped, a field of which no entry came is none, and of
-/// several entries of one name the last counts, or the struct is rejected where the field may come
-/// once. Of two fields of one name the first is read. The struct's own name is not encoded.
-///
-/// A name is read as a `String`, and what is skipped as `IgnoredAny`, both under the step of the
-/// map. A name of at most 255 bytes takes no memory where it stands whole in what the reader shows,
-/// after a head of one or two bytes. The budget is as before, whatever the answer is.
-///
-/// # Errors
-///
-/// They are described at `deserialize_fields`, which alone answers one for a field that is missing.
-/// What was read before is let go then, and what follows it is left.
 impl<S: Source> Deserializer<S> {
-    /// A struct of fields that have these names. `presences` says of each whether it has to be
-    /// there, what stands in its place else, and whether it may come once alone. `missing` has the
-    /// words of each, in the order of the names, with which a struct is rejected that lacks it, or
-    /// in which it comes again. The struct is made of the values, nested pairs in the order of the
-    /// names.
+    /// A struct of fields that have these names: a map from their names to their values, of any
+    /// length, in any order. A pair of another name is skipped, a field of which no pair came is
+    /// missing, and of several pairs of one name the last counts, or the struct is rejected where
+    /// the field may come once. Of two fields of one name the first is read. The struct's own name
+    /// is not encoded.
+    ///
+    /// `presences` says of each field whether it has to be there, what stands in its place else,
+    /// and whether it may come once alone. `missing` has the words of each, in the order of the
+    /// names, with which a struct is rejected that lacks it, or in which it comes again. The struct
+    /// is made of the values, nested pairs in the order of the names.
+    ///
+    /// A name is read as a `String`, and what is skipped as `IgnoredAny`, both under the step of
+    /// the map. A name of at most 255 bytes takes no memory where it stands whole in what the
+    /// reader shows, after a head of one or two bytes. The budget is as before, whatever the answer
+    /// is.
     ///
     /// How many fields compile goes by their types: up to 21 of `Option<u8>`, and up to 14 of
     /// `Vec<(u8, Option<String>)>`. Of more the compiler says `overflowing-bound`, and the struct
     /// is read part by part.
     ///
     /// # Errors
+    ///
+    /// What was read before is let go then, and what follows it is left.
     ///
     /// - those of `deserialize_map`, at the head
     /// - `Core` of `Eof` by "break" with 1: the length is indefinite, and no byte is left where a

@@ -1,14 +1,15 @@
 //! The value at the beginning of an input.
-ghost use Rattle.std.specs.Prelude.{◌≡◌, Some, IsTrue};
+ghost use Rattle.std.specs.Prelude.{◌≡◌, Some, IsTrue, IfErr};
 ghost use Rattle.cbor4ii_rw.specs.Input.{limit};
 ghost use Rattle.cbor4ii_rw.specs.Stream.{most_bytes, cut_known};
-ghost use Rattle.cbor4ii.specs.First.{First, FirstOf, FirstWhole};
-ghost use Rattle.cbor4ii_items.specs.Whole.{IsSure};
+ghost use Rattle.cbor4ii.specs.First.{First, FirstOf, FirstWhole, typed_error_of};
+ghost use Rattle.cbor4ii.specs.Typed.{unsaid_rejects};
+ghost use Rattle.cbor4ii_items.specs.Whole.{IsSure, StopsAt, without_byte};
 
 use crate::serde::de::deserialize::Deserialize;
 use crate::serde::de::deserializer::Deserializer;
 use crate::serde::de::error::DecodeError;
-use cbor4ii_rw::error::WholeError;
+use cbor4ii_rw::error::{ErrorAt, WholeError};
 use cbor4ii_rw::input::Input;
 use cbor4ii_rw::io_reader::IoReader;
 use cbor4ii_rw::read::Source;
@@ -56,6 +57,46 @@ pub fn from_slice_whole<I: Input, T: Deserialize<I::Reader> + Drop>(
         return Err(WholeError::Trailing(left));
     }
     Ok(value)
+}
+
+/// Reads `input`, a slice, as one value, as `from_slice_whole` does. An error tells its byte, too:
+/// how many bytes were taken, so that what it leaves begins there.
+///
+/// # Errors
+///
+/// Those of `from_slice_whole`:
+///
+/// - `Decode`: the byte is that of the error's rest. Where an input of a user's own failed, it is
+///   at most the number of bytes
+/// - `Trailing`: the byte is the first one after the value
+pub fn from_slice_at<I: Input, T: Deserialize<I::Reader> + Drop>(
+    alloc: Global,
+    input: I,
+) -> Result<T, ErrorAt<WholeError<DecodeError<<I::Reader as Source>::Error>>>>
+    ensures whole { FirstWhole T.promise (I.bytes input) (without_byte result) }
+    ensures within { IfErr result (StopsAt typed_error_of unsaid_rejects (I.bytes input)) }
+    ensures at { IsTrue T.promise.known →
+        IfErr result (StopsAt typed_error_of T.promise.format.begins (I.bytes input)) }
+    ensures exact { IsTrue T.promise.exact → IsSure T.promise.format.owned (I.bytes input) →
+        IfErr result (StopsAt typed_error_of T.promise.format.rejects (I.bytes input)) }
+{
+    let source = input.reader();
+    let length = I::left(&source);
+    let mut de = Deserializer::new(source);
+    let answer = T::deserialize(alloc, &mut de);
+    let left = I::left(&de.into_inner());
+    let at = length.saturating_sub(left);
+    match answer {
+        Ok(value) if left == 0 => Ok(value),
+        Ok(_) => Err(ErrorAt {
+            at,
+            error: WholeError::Trailing(left),
+        }),
+        Err(error) => Err(ErrorAt {
+            at,
+            error: WholeError::Decode(error),
+        }),
+    }
 }
 
 /// Reads the value at the beginning of a stream, with 256 steps. Of a stream, at most 2^64-1 bytes

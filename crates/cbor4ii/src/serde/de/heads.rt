@@ -4,7 +4,7 @@ ghost use Rattle.cbor4ii_items.specs.Lengths.{length_format};
 ghost use Rattle.cbor4ii.specs.declared.serde.de.accessor.Left.TheVariants.{Definite};
 ghost use Rattle.cbor4ii.specs.Accessing.{OpensParts, RejectedAs};
 ghost use Rattle.cbor4ii.specs.Stepped.{stepped_format};
-ghost use Rattle.cbor4ii.specs.Tuples.{container_head};
+ghost use Rattle.cbor4ii.specs.Tuples.{container_head_format};
 
 use crate::serde::de::accessor::Left;
 use crate::serde::de::tuples::take_count;
@@ -61,7 +61,7 @@ pub(crate) fn begin_tuple<S: Source>(
 ) -> Result<(), DecodeError<S::Error>>
     ensures opened { OnOk result
         (OpensParts 4 (S.view reader.old) (S.view reader.new) (Definite len)) }
-    ensures rejected { RejectedAs (stepped_format (codes "tuple") (container_head len))
+    ensures rejected { RejectedAs (stepped_format (codes "tuple") (container_head_format len))
         (S.view reader.old) (S.view reader.new) result }
 {
     if !reader.step_in() {

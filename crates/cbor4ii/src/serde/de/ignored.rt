@@ -1,12 +1,12 @@
 //! Items that are skipped.
 ghost use Rattle.std.proofs.Common.{refl};
 ghost use Rattle.cbor4ii_items.specs.Decoding.{Decodes};
-ghost use Rattle.cbor4ii_tree.specs.Promises.{Others, OnlySkips, PrefixSkips, EofSkips};
-ghost use Rattle.cbor4ii_tree.specs.Headline.{AllSkips};
-ghost use Rattle.cbor4ii_tree.specs.Promises.{DepthSkips, FinalSkips, ExactSkips};
+ghost use Rattle.cbor4ii_tree.specs.Calls.Promises.{Others, OnlySkips, PrefixSkips, EofSkips};
+ghost use Rattle.cbor4ii_tree.specs.Basis.Headline.{AllSkips};
+ghost use Rattle.cbor4ii_tree.specs.Calls.Promises.{DepthSkips, FinalSkips, ExactSkips};
 ghost use Rattle.cbor4ii_tree.specs.Laws.Ignoring.{ignored_lawful};
 ghost use Rattle.cbor4ii.specs.ItemRead.{skipped_format};
-ghost use Rattle.cbor4ii.specs.Typed.{input, answer_of, exactly};
+ghost use Rattle.cbor4ii.specs.Typed.{input, answer_of, exact_promise};
 
 use crate::serde::de::deserialize::{Deserialize, Typed};
 use crate::serde::de::deserializer::{Deserializer, take_item};
@@ -17,7 +17,7 @@ use cbor4ii_tree::IgnoredAny;
 use std::alloc::Global;
 
 impl Typed for IgnoredAny {
-    ghost promise = { exactly refl ignored_lawful };
+    ghost promise = { exact_promise refl ignored_lawful };
 }
 
 /// Any item, of which nothing is kept, read by `Deserializer::deserialize_ignored_any`.

@@ -6,7 +6,7 @@ ghost use Rattle.cbor4ii_items.specs.Laws.Bignums.{u128_one, u128_within, u128_p
 ghost use Rattle.cbor4ii_items.specs.Laws.Bignums.{u128_alone, i128_one, i128_within};
 ghost use Rattle.cbor4ii_items.specs.Laws.Bignums.{i128_positive, i128_alone};
 ghost use Rattle.cbor4ii_items.specs.Laws.Signed.{signed_lawful};
-ghost use Rattle.cbor4ii.specs.Typed.{exactly};
+ghost use Rattle.cbor4ii.specs.Typed.{exact_promise};
 
 use crate::serde::de::deserialize::{Deserialize, Typed};
 use crate::serde::de::deserializer::{Deserializer, take_item};
@@ -16,7 +16,7 @@ use cbor4ii_rw::read::Source;
 use std::alloc::Global;
 
 impl Typed for u8 {
-    ghost promise = { exactly refl (argument_lawful (codes "u8") 0 1 zero_small) };
+    ghost promise = { exact_promise refl (argument_lawful (codes "u8") 0 1 zero_small) };
 }
 
 /// An unsigned integer whose argument has at most one byte, whether or not in its shortest head
@@ -39,7 +39,7 @@ impl<S: Source> Deserialize<S> for u8 {
 }
 
 impl Typed for u16 {
-    ghost promise = { exactly refl (argument_lawful (codes "u16") 0 2 zero_small) };
+    ghost promise = { exact_promise refl (argument_lawful (codes "u16") 0 2 zero_small) };
 }
 
 /// An unsigned integer whose argument has at most two bytes, read as a `u8` is.
@@ -55,7 +55,7 @@ impl<S: Source> Deserialize<S> for u16 {
 }
 
 impl Typed for u32 {
-    ghost promise = { exactly refl (argument_lawful (codes "u32") 0 4 zero_small) };
+    ghost promise = { exact_promise refl (argument_lawful (codes "u32") 0 4 zero_small) };
 }
 
 /// An unsigned integer whose argument has at most four bytes, read as a `u8` is.
@@ -71,7 +71,7 @@ impl<S: Source> Deserialize<S> for u32 {
 }
 
 impl Typed for u64 {
-    ghost promise = { exactly refl (argument_lawful (codes "u64") 0 8 zero_small) };
+    ghost promise = { exact_promise refl (argument_lawful (codes "u64") 0 8 zero_small) };
 }
 
 /// An unsigned integer whose argument has at most eight bytes, read as a `u8` is.
@@ -87,7 +87,7 @@ impl<S: Source> Deserialize<S> for u64 {
 }
 
 impl Typed for u128 {
-    ghost promise = { exactly {format = ⟦<u128 as Decodable>⟧.format} refl (record {
+    ghost promise = { exact_promise {format = ⟦<u128 as Decodable>⟧.format} refl (record {
       one = u128_one;
       within = u128_within;
       positive = λ _. u128_positive;
@@ -114,7 +114,7 @@ impl<S: Source> Deserialize<S> for u128 {
 }
 
 impl Typed for i8 {
-    ghost promise = { exactly refl
+    ghost promise = { exact_promise refl
         (signed_lawful (codes "i8") (codes "+i8") (codes "-i8") 1 (2 ^ 7)) };
 }
 
@@ -142,7 +142,7 @@ impl<S: Source> Deserialize<S> for i8 {
 }
 
 impl Typed for i16 {
-    ghost promise = { exactly refl
+    ghost promise = { exact_promise refl
         (signed_lawful (codes "i16") (codes "+i16") (codes "-i16") 2 (2 ^ 15)) };
 }
 
@@ -160,7 +160,7 @@ impl<S: Source> Deserialize<S> for i16 {
 }
 
 impl Typed for i32 {
-    ghost promise = { exactly refl
+    ghost promise = { exact_promise refl
         (signed_lawful (codes "i32") (codes "+i32") (codes "-i32") 4 (2 ^ 31)) };
 }
 
@@ -178,7 +178,7 @@ impl<S: Source> Deserialize<S> for i32 {
 }
 
 impl Typed for i64 {
-    ghost promise = { exactly refl
+    ghost promise = { exact_promise refl
         (signed_lawful (codes "i64") (codes "+i64") (codes "-i64") 8 (2 ^ 63)) };
 }
 
@@ -196,7 +196,7 @@ impl<S: Source> Deserialize<S> for i64 {
 }
 
 impl Typed for i128 {
-    ghost promise = { exactly {format = ⟦<i128 as Decodable>⟧.format} refl (record {
+    ghost promise = { exact_promise {format = ⟦<i128 as Decodable>⟧.format} refl (record {
       one = i128_one;
       within = i128_within;
       positive = λ _. i128_positive;

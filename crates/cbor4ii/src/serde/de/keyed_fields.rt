@@ -3,7 +3,7 @@ ghost use Rattle.std.specs.Prelude.{◌≡◌, ◌≢◌, ◌+◌, ◌≤◌, On
 ghost use Rattle.cbor4ii_ser.specs.Listed.{integer_label};
 ghost use Rattle.cbor4ii_items.specs.Moves.{Moves};
 ghost use Rattle.cbor4ii_items.specs.Sequences.{count_of, indefinite_of, inside_of, in_list};
-ghost use Rattle.cbor4ii.specs.Fields.{made, all_made, Alters};
+ghost use Rattle.cbor4ii.specs.Fields.{one_change, all_changes, Alters};
 ghost use Rattle.cbor4ii.specs.Keys.{key_labels, label_of, keyed_of, all_keyed_of, made_keyed};
 ghost use Rattle.cbor4ii.specs.Made.{made_from};
 ghost use Rattle.cbor4ii.specs.Structs.{after_name};
@@ -33,7 +33,7 @@ pub trait KeyedValues<S: Source>: Places {
     ///
     /// # Errors
     ///
-    /// Those of the field's value, and of `deserialize_ignored_any` for an entry of another key,
+    /// Those of the field's value, and of `deserialize_ignored_any` for a pair of another key,
     /// with what they leave.
     fn take_keyed(
         &mut self,
@@ -45,7 +45,7 @@ pub trait KeyedValues<S: Source>: Places {
         ensures moves { Moves (input S.view de.old) (input S.view de.new) (answer_of result) }
         ensures progress { OnOk result
             ((input S.view de.new).bound + 1 ≤ (input S.view de.old).bound) }
-        ensures alters { Alters made (Self.fields (key_labels keys.now)).exact
+        ensures alters { Alters one_change (Self.fields (key_labels keys.now)).exact
             (after_name (Self.fields (key_labels keys.now)) (label_of key))
             self.old self.new (input S.view de.old) (input S.view de.new) (answer_of result) };
 }
@@ -115,7 +115,7 @@ fn take_keyed_field<S: Source, V: KeyedValues<S>>(
     keys: &[i64],
     values: &mut V,
 ) -> Result<(), DecodeError<S::Error>>
-    ensures { Alters made (V.fields (key_labels keys.now)).exact
+    ensures { Alters one_change (V.fields (key_labels keys.now)).exact
         (keyed_of (V.fields (key_labels keys.now))) values.old values.new
         (input S.view de.old) (input S.view de.new) (answer_of result) }
 {
@@ -133,7 +133,7 @@ fn take_keyed_fields<S: Source, V: KeyedValues<S>>(
     keys: &[i64],
     values: &mut V,
 ) -> Result<(), DecodeError<S::Error>>
-    ensures { Alters all_made (V.fields (key_labels keys.now)).exact
+    ensures { Alters all_changes (V.fields (key_labels keys.now)).exact
         (all_keyed_of (V.fields (key_labels keys.now))) values.old values.new
         (input S.view de.old) (input S.view de.new) (answer_of result) }
 {
@@ -153,7 +153,7 @@ fn keyed_inside<S: Source, V: KeyedValues<S>>(
     keys: &[i64],
     values: &mut V,
 ) -> Result<(), DecodeError<S::Error>>
-    ensures { Alters all_made (V.fields (key_labels keys.now)).exact
+    ensures { Alters all_changes (V.fields (key_labels keys.now)).exact
         (inside_of in_list (codes "map") 5 (keyed_of (V.fields (key_labels keys.now))))
         values.old values.new (input S.view de.old) (input S.view de.new) (answer_of result) }
 {
@@ -164,7 +164,7 @@ fn keyed_inside<S: Source, V: KeyedValues<S>>(
     }
 }
 
-/// Reads the fields of these keys off so many entries of a map.
+/// Reads the fields of these keys off so many pairs of a map.
 #[inline(always)]
 fn definite_keyed<S: Source, V: KeyedValues<S>>(
     alloc: Global,
@@ -173,7 +173,7 @@ fn definite_keyed<S: Source, V: KeyedValues<S>>(
     values: &mut V,
     count: usize,
 ) -> Result<(), DecodeError<S::Error>>
-    ensures { Alters all_made (V.fields (key_labels keys.now)).exact
+    ensures { Alters all_changes (V.fields (key_labels keys.now)).exact
         (count_of in_list (keyed_of (V.fields (key_labels keys.now))) count)
         values.old values.new (input S.view de.old) (input S.view de.new) (answer_of result) }
 {
@@ -183,14 +183,14 @@ fn definite_keyed<S: Source, V: KeyedValues<S>>(
     Ok(())
 }
 
-/// Reads the fields of these keys off the entries of a map up to a break.
+/// Reads the fields of these keys off the pairs of a map up to a break.
 fn indefinite_keyed<S: Source, V: KeyedValues<S>>(
     alloc: Global,
     de: &mut Deserializer<S>,
     keys: &[i64],
     values: &mut V,
 ) -> Result<(), DecodeError<S::Error>>
-    ensures { Alters all_made (V.fields (key_labels keys.now)).exact
+    ensures { Alters all_changes (V.fields (key_labels keys.now)).exact
         (indefinite_of in_list (codes "map") (keyed_of (V.fields (key_labels keys.now))))
         values.old values.new (input S.view de.old) (input S.view de.new) (answer_of result) }
 {
@@ -229,7 +229,7 @@ impl<S: Source> Deserializer<S> {
     ///
     /// A key is read as an `i128`, so in a head of any length, or as a bignum, and compared as the
     /// integer that it is (RFC 8949 sections 3.1 and 3.4.3). A text is read as a `String`, and is
-    /// the key of no field. An entry of another integer, or of a text, is skipped. A key that is
+    /// the key of no field. A pair of another integer, or of a text, is skipped. A key that is
     /// neither is rejected. A text of at most 255 bytes takes no memory where it stands whole in
     /// what the reader shows, after a head of one or two bytes.
     ///

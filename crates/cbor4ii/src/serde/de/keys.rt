@@ -8,6 +8,7 @@ use crate::serde::de::deserialize::Deserialize;
 use crate::serde::de::deserializer::Deserializer;
 use crate::serde::de::error::DecodeError;
 use crate::serde::de::names::take_name;
+use crate::serde::de::slot::left;
 use cbor4ii_items::initial::{if_major, peek};
 use cbor4ii_items::major;
 use cbor4ii_rw::error::StaticStr;
@@ -30,9 +31,10 @@ pub(crate) fn take_key<S: Source>(
         Err(error) => return Err(DecodeError::Core(error)),
     };
     if if_major(first) == major::STRING {
-        return match take_name(alloc, de, &NO_NAMES) {
-            Ok(_) => Ok(None),
-            Err(error) => Err(error),
+        let mut failure = None;
+        return match take_name(alloc, de, &NO_NAMES, &mut failure) {
+            Some(_) => Ok(None),
+            None => Err(left(failure)),
         };
     }
     as_key(i128::deserialize(alloc, de))

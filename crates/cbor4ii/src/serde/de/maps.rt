@@ -2,7 +2,7 @@
 ghost use Rattle.std.specs.Prelude.{◌≡◌, ◌&&◌, codes, IfOk, OnOk};
 ghost use Rattle.std.proofs.Common.{refl};
 ghost use Rattle.std.specs.BTreeMap.{insert_entry};
-ghost use Rattle.cbor4ii.specs.Built.{built};
+ghost use Rattle.cbor4ii.specs.Built.{built_pairs};
 ghost use Rattle.cbor4ii.specs.Sequence.{five_small};
 ghost use Rattle.cbor4ii.specs.TypedParts.{two_of, two_lawful, typed_map};
 
@@ -83,7 +83,7 @@ fn put_all<K: Ord + Drop, V: Drop>(
     alloc: Global,
     pairs: Vec<(K, V)>,
 ) -> Result<BTreeMap<K, V>, AllocError>
-    ensures { IfOk result (λ m. m.entries ≡ built K.cmp pairs.items) }
+    ensures { IfOk result (λ m. m.entries ≡ built_pairs K.cmp pairs.items) }
 {
     let mut map = BTreeMap::new(alloc);
     for (key, value) in pairs {

@@ -1,12 +1,14 @@
 //! Names of fields, read and found among some names. No memory is taken for one of at most 255
 //! bytes that stands whole in what the reader shows, after a head of one or two bytes.
 ghost use Rattle.std.specs.Prelude.{◌≡◌, ◌≢◌, ◌≤◌, ◌<◌, length, true, false, IsUtf8};
+ghost use Rattle.cbor4ii.specs.Answered.{typed_value_or_error};
 ghost use Rattle.cbor4ii.specs.Names.{StandsAt, IfWhole, IfWholeAfter, TakesName, TakesShown};
 ghost use Rattle.cbor4ii.specs.Typed.{input, answer_of};
 
 use crate::serde::de::deserialize::Deserialize;
 use crate::serde::de::deserializer::Deserializer;
 use crate::serde::de::error::DecodeError;
+use crate::serde::de::slot::leave;
 use cbor4ii_items::major;
 use cbor4ii_rw::ask::look;
 use cbor4ii_rw::error::StaticStr;
@@ -42,18 +44,19 @@ pub(crate) fn take_name<S: Source>(
     alloc: Global,
     de: &mut Deserializer<S>,
     names: &[StaticStr],
-) -> Result<usize, DecodeError<S::Error>>
+    failure: &mut Option<DecodeError<S::Error>>,
+) -> Option<usize>
     ensures { TakesName names.now (input S.view de.old) (input S.view de.new)
-        (answer_of result) }
+        (answer_of (typed_value_or_error result failure.new)) }
 {
     if de.reader.window() < LOOK {
-        return take_name_narrowly(alloc, de, names);
+        return take_name_narrowly(alloc, de, names, failure);
     }
-    match take_shown_name(de, names, LOOK) {
-        Ok(Seen::Whole { at, .. }) => Ok(at),
-        Ok(Seen::Cut(_)) => take_any_name(alloc, de, names),
-        Ok(Seen::Other) => take_any_name(alloc, de, names),
-        Err(error) => Err(error),
+    match take_shown_name(de, names, LOOK, failure) {
+        Some(Seen::Whole { at, .. }) => Some(at),
+        Some(Seen::Cut(_)) => take_any_name(alloc, de, names, failure),
+        Some(Seen::Other) => take_any_name(alloc, de, names, failure),
+        None => None,
     }
 }
 
@@ -65,21 +68,22 @@ fn take_name_narrowly<S: Source>(
     alloc: Global,
     de: &mut Deserializer<S>,
     names: &[StaticStr],
-) -> Result<usize, DecodeError<S::Error>>
+    failure: &mut Option<DecodeError<S::Error>>,
+) -> Option<usize>
     ensures { TakesName names.now (input S.view de.old) (input S.view de.new)
-        (answer_of result) }
+        (answer_of (typed_value_or_error result failure.new)) }
 {
     let mut want = de.reader.window();
     while want <= AGAIN {
-        match take_shown_name(de, names, want) {
-            Ok(Seen::Whole { at, .. }) => return Ok(at),
-            Ok(Seen::Cut(size)) if want < size => want = size,
-            Ok(Seen::Cut(_)) => return take_any_name(alloc, de, names),
-            Ok(Seen::Other) => return take_any_name(alloc, de, names),
-            Err(error) => return Err(error),
+        match take_shown_name(de, names, want, failure) {
+            Some(Seen::Whole { at, .. }) => return Some(at),
+            Some(Seen::Cut(size)) if want < size => want = size,
+            Some(Seen::Cut(_)) => return take_any_name(alloc, de, names, failure),
+            Some(Seen::Other) => return take_any_name(alloc, de, names, failure),
+            None => return None,
         }
     }
-    take_any_name(alloc, de, names)
+    take_any_name(alloc, de, names, failure)
 }
 
 /// Reads a name as a `String` of its own, and answers which of `names` it is.
@@ -89,13 +93,17 @@ fn take_any_name<S: Source>(
     alloc: Global,
     de: &mut Deserializer<S>,
     names: &[StaticStr],
-) -> Result<usize, DecodeError<S::Error>>
+    failure: &mut Option<DecodeError<S::Error>>,
+) -> Option<usize>
     ensures { TakesName names.now (input S.view de.old) (input S.view de.new)
-        (answer_of result) }
+        (answer_of (typed_value_or_error result failure.new)) }
 {
     match String::deserialize(alloc, de) {
-        Ok(name) => Ok(place(names, name.as_bytes())),
-        Err(error) => Err(error),
+        Ok(name) => Some(place(names, name.as_bytes())),
+        Err(error) => {
+            leave(error, failure);
+            None
+        }
     }
 }
 
@@ -106,22 +114,26 @@ fn take_shown_name<S: Source>(
     de: &mut Deserializer<S>,
     names: &[StaticStr],
     want: usize,
-) -> Result<Seen, DecodeError<S::Error>>
+    failure: &mut Option<DecodeError<S::Error>>,
+) -> Option<Seen>
     ensures { TakesShown names.now (input S.view de.old) (input S.view de.new)
-        (answer_of result) }
+        (answer_of (typed_value_or_error result failure.new)) }
 {
-    let mut failure = None;
-    let seen = match look(&mut de.reader, want, &mut failure) {
+    let mut failed = None;
+    let seen = match look(&mut de.reader, want, &mut failed) {
         Some(shown) => seen_name(shown, names),
-        None => return Err(DecodeError::read(failure.unwrap())),
+        None => {
+            leave(DecodeError::read(failed.unwrap()), failure);
+            return None;
+        }
     };
     match seen {
         Seen::Whole { at, size } => {
             de.reader.advance(size);
-            Ok(Seen::Whole { at, size })
+            Some(Seen::Whole { at, size })
         }
-        Seen::Cut(size) => Ok(Seen::Cut(size)),
-        Seen::Other => Ok(Seen::Other),
+        Seen::Cut(size) => Some(Seen::Cut(size)),
+        Seen::Other => Some(Seen::Other),
     }
 }
 

@@ -3,7 +3,7 @@ ghost use Rattle.std.specs.Prelude.{codes};
 ghost use Rattle.std.proofs.Common.{refl};
 ghost use Rattle.cbor4ii_items.specs.Strings.{text_content, bytes_content};
 ghost use Rattle.cbor4ii_items.specs.Laws.Strings.{two_small, text_lawful, as_lawful};
-ghost use Rattle.cbor4ii.specs.Typed.{exactly};
+ghost use Rattle.cbor4ii.specs.Typed.{exact_promise};
 
 use crate::serde::de::deserialize::{Deserialize, Typed};
 use crate::serde::de::deserializer::{Deserializer, take_item};
@@ -13,7 +13,7 @@ use cbor4ii_rw::read::Source;
 use std::alloc::Global;
 
 impl Typed for String {
-    ghost promise = { exactly refl (text_lawful (codes "str") text_content) };
+    ghost promise = { exact_promise refl (text_lawful (codes "str") text_content) };
 }
 
 /// A text that is UTF-8, of definite or of indefinite length (RFC 8949 sections 3.1 and 3.2.3).
@@ -48,7 +48,7 @@ impl<S: Source> Deserialize<S> for String {
 }
 
 impl Typed for Bytes<Vec<u8>> {
-    ghost promise = { exactly refl (as_lawful (codes "bytes") 2 two_small bytes_content) };
+    ghost promise = { exact_promise refl (as_lawful (codes "bytes") 2 two_small bytes_content) };
 }
 
 /// A byte string, of definite or of indefinite length (RFC 8949 sections 3.1 and 3.2.3), read as a

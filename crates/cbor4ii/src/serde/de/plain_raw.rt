@@ -1,7 +1,7 @@
 //! Items that are kept as their bytes, and are read as values.
 ghost use Rattle.std.proofs.Common.{refl};
 ghost use Rattle.cbor4ii_tree.specs.Laws.Capturing.{plain_raw_lawful};
-ghost use Rattle.cbor4ii.specs.Typed.{exactly};
+ghost use Rattle.cbor4ii.specs.Typed.{exact_promise};
 
 use crate::serde::de::deserialize::{Deserialize, Typed};
 use crate::serde::de::deserializer::{Deserializer, take_item};
@@ -12,7 +12,7 @@ use cbor4ii_tree::PlainRawValue;
 use std::alloc::Global;
 
 impl<'de> Typed for PlainRawValue<'de> {
-    ghost promise = { exactly refl plain_raw_lawful };
+    ghost promise = { exact_promise refl plain_raw_lawful };
 }
 
 /// One item that `Value` accepts, as its bytes stand in the input.

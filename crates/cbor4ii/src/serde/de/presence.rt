@@ -1,9 +1,10 @@
 //! What a struct makes of its fields where some of them are missing.
 ghost use Rattle.std.specs.Prelude.{◌≡◌, ℕ, List, Option, Result, Ok};
 ghost use Rattle.std.specs.Borrow.{Bor};
-ghost use Rattle.cbor4ii.specs.Presence.{outcome, or_words, or_value, or_none, once, paired};
+ghost use Rattle.cbor4ii.specs.Presence.{made_or_words, or_words, or_value, or_none, once_or_words};
+ghost use Rattle.cbor4ii.specs.Presence.{both_or_words};
 ghost use Rattle.cbor4ii.specs.Presence.{SameFate, words_fate, value_fate, once_fate, pair_fate};
-ghost use Rattle.cbor4ii.specs.Presence.{first_of, after_of};
+ghost use Rattle.cbor4ii.specs.Presence.{words_of_first, words_of_others};
 
 use crate::serde::de::deserialize::Typed;
 use crate::serde::de::fields::Places;
@@ -25,7 +26,7 @@ pub trait Presence<P: Place>: Sized + Drop {
     /// The words that `made` gives, where it rejects: of `Required` where no value was read, and of
     /// `Once` also where several were. `Or` and `Optional` never reject.
     fn value(self, words: StaticStr, read: P) -> Result<Self::Value, StaticStr>
-        ensures { outcome result ≡ made self words.now read };
+        ensures { made_or_words result ≡ made self words.now read };
 
     // A law: whether it rejects depends on nothing but how many values were read.
     ghost fate: { (kind : Self) (words : List ℕ) (o p : P) → P.place.came o ≡ P.place.came p →
@@ -41,8 +42,9 @@ impl<T: Typed + Drop> Presence<Option<T>> for Required {
 
     ghost made = { λ kind. or_words };
 
+    #[inline(always)]
     fn value(self, words: StaticStr, read: Option<T>) -> Result<T, StaticStr>
-        ensures { outcome result ≡ or_words words.now read }
+        ensures { made_or_words result ≡ or_words words.now read }
     {
         match read {
             Some(value) => Ok(value),
@@ -62,8 +64,9 @@ impl<T: Typed + Drop> Presence<Option<T>> for Or<T> {
 
     ghost made = { λ kind words. or_value kind.0 };
 
+    #[inline(always)]
     fn value(self, words: StaticStr, read: Option<T>) -> Result<T, StaticStr>
-        ensures { outcome result ≡ or_value self.0 read }
+        ensures { made_or_words result ≡ or_value self.0 read }
     {
         match read {
             Some(value) => Ok(value),
@@ -83,8 +86,9 @@ impl<T: Typed + Drop> Presence<Option<T>> for Optional {
 
     ghost made = { λ kind words. or_none };
 
+    #[inline(always)]
     fn value(self, words: StaticStr, read: Option<T>) -> Result<Option<T>, StaticStr>
-        ensures { outcome result ≡ or_none read }
+        ensures { made_or_words result ≡ or_none read }
     {
         Ok(read)
     }
@@ -100,10 +104,11 @@ pub struct Once<K>(pub K);
 impl<T: Typed + Drop, K: Presence<Option<T>>> Presence<Single<T>> for Once<K> {
     type Value = K::Value;
 
-    ghost made = { λ kind words. once words (K.made kind.0 words) };
+    ghost made = { λ kind words. once_or_words words (K.made kind.0 words) };
 
+    #[inline(always)]
     fn value(self, words: StaticStr, read: Single<T>) -> Result<K::Value, StaticStr>
-        ensures { outcome result ≡ once words.now (K.made self.0 words.now) read }
+        ensures { made_or_words result ≡ once_or_words words.now (K.made self.0 words.now) read }
     {
         match read {
             Single::Absent => self.0.value(words, None),
@@ -131,7 +136,7 @@ pub trait Presences<V: Places>: Sized + Drop {
     /// The words that `made` gives, where it rejects: of a pair those of its field, or of the
     /// fields after it.
     fn values(self, missing: &[StaticStr], read: V) -> Result<Self::Values, StaticStr>
-        ensures { outcome result ≡ made self missing.now read };
+        ensures { made_or_words result ≡ made self missing.now read };
 
     // A law: values that mean the same are made or rejected alike.
     ghost fate: { (kinds : Self) (words names : List (Bor (List ℕ))) (v w : V) →
@@ -144,6 +149,7 @@ impl Presences<()> for () {
 
     ghost made = { λ kinds words v. Ok v };
 
+    #[inline(always)]
     fn values(self, missing: &[StaticStr], read: ()) -> Result<(), StaticStr> {
         Ok(())
     }
@@ -156,9 +162,10 @@ impl<P: Place + Drop, O: Presence<P>, V: Places + Drop, K: Presences<V>> Presenc
     for (O, K) {
     type Values = (O::Value, K::Values);
 
-    ghost made = { λ kinds words v. paired (O.made kinds.0 (first_of words) v.0)
-        (K.made kinds.1 (after_of words) v.1) };
+    ghost made = { λ kinds words v. both_or_words (O.made kinds.0 (words_of_first words) v.0)
+        (K.made kinds.1 (words_of_others words) v.1) };
 
+    #[inline(always)]
     fn values(
         self,
         missing: &[StaticStr],
@@ -176,13 +183,14 @@ impl<P: Place + Drop, O: Presence<P>, V: Places + Drop, K: Presences<V>> Presenc
     }
 
     ghost fate = { λ kinds words. pair_fate P.place P.Value.promise V.fields
-        (O.made kinds.0 (first_of words)) (K.made kinds.1 (after_of words))
-        (O.fate kinds.0 (first_of words)) (K.fate kinds.1 (after_of words)) };
+        (O.made kinds.0 (words_of_first words)) (K.made kinds.1 (words_of_others words))
+        (O.fate kinds.0 (words_of_first words)) (K.fate kinds.1 (words_of_others words)) };
 }
 
 /// The words of the first field, and none where there are none.
+#[inline(always)]
 fn first_words(missing: &[StaticStr]) -> StaticStr
-    ensures { result.now ≡ first_of missing.now }
+    ensures { result.now ≡ words_of_first missing.now }
 {
     match missing {
         [first, ..] => first,
@@ -191,8 +199,9 @@ fn first_words(missing: &[StaticStr]) -> StaticStr
 }
 
 /// The words of the fields after the first.
+#[inline(always)]
 fn words_after(missing: &[StaticStr]) -> &[StaticStr]
-    ensures { result.now ≡ after_of missing.now }
+    ensures { result.now ≡ words_of_others missing.now }
 {
     match missing {
         [_, trailing @ ..] => trailing,

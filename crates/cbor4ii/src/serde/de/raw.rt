@@ -1,10 +1,10 @@
 //! Items that are kept as their bytes.
 ghost use Rattle.std.proofs.Common.{refl};
 ghost use Rattle.std.specs.Prelude.{IsTrue};
-ghost use Rattle.cbor4ii_tree.specs.BoxedRaw.{CopiesItem, CopiesNone};
+ghost use Rattle.cbor4ii_tree.specs.Calls.BoxedRaw.{CopiesItem, CopiesNone};
 ghost use Rattle.cbor4ii_tree.specs.Laws.Capturing.{boxed_raw_lawful};
 ghost use Rattle.cbor4ii.specs.Raw.{lent_item, LendsItem};
-ghost use Rattle.cbor4ii.specs.Typed.{exactly, input, answer_of, Deserializes};
+ghost use Rattle.cbor4ii.specs.Typed.{exact_promise, input, answer_of, Deserializes};
 
 use crate::serde::de::deserialize::{Deserialize, Typed};
 use crate::serde::de::deserializer::Deserializer;
@@ -60,7 +60,7 @@ impl<'de> Deserialize<SegmentReader<'de>> for RawValue<'de> {
 }
 
 impl Typed for BoxedRawValue {
-    ghost promise = { exactly refl boxed_raw_lawful };
+    ghost promise = { exact_promise refl boxed_raw_lawful };
 }
 
 /// One item, as a copy of its bytes. Over a reader that lends nothing, as a stream's, nothing is

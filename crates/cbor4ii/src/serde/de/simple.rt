@@ -4,7 +4,7 @@ ghost use Rattle.std.proofs.Common.{refl};
 ghost use Rattle.cbor4ii_items.specs.Simple.{bool_lawful};
 ghost use Rattle.cbor4ii_items.specs.Floats.{float_format, float_lawful};
 ghost use Rattle.cbor4ii_items.specs.Laws.Formats.{lawful_by};
-ghost use Rattle.cbor4ii.specs.Typed.{exactly};
+ghost use Rattle.cbor4ii.specs.Typed.{exact_promise};
 
 use crate::serde::de::deserialize::{Deserialize, Typed};
 use crate::serde::de::deserializer::{Deserializer, take_item};
@@ -14,7 +14,7 @@ use cbor4ii_rw::read::Source;
 use std::alloc::Global;
 
 impl Typed for bool {
-    ghost promise = { exactly refl bool_lawful };
+    ghost promise = { exact_promise refl bool_lawful };
 }
 
 /// False or true, in one byte (RFC 8949 section 3.3). It takes no step.
@@ -34,7 +34,7 @@ impl<S: Source> Deserialize<S> for bool {
 }
 
 impl Typed for F16 {
-    ghost promise = { exactly refl (lawful_by (λ v. v.0)
+    ghost promise = { exact_promise refl (lawful_by (λ v. v.0)
         (float_format (codes "f16") 0xf9 2) (float_lawful (codes "f16") 0xf9 2)) };
 }
 
@@ -56,7 +56,7 @@ impl<S: Source> Deserialize<S> for F16 {
 }
 
 impl Typed for F32 {
-    ghost promise = { exactly refl (lawful_by (λ v. v.0)
+    ghost promise = { exact_promise refl (lawful_by (λ v. v.0)
         (float_format (codes "f32") 0xfa 4) (float_lawful (codes "f32") 0xfa 4)) };
 }
 
@@ -78,7 +78,7 @@ impl<S: Source> Deserialize<S> for F32 {
 }
 
 impl Typed for F64 {
-    ghost promise = { exactly refl (lawful_by (λ v. v.0)
+    ghost promise = { exact_promise refl (lawful_by (λ v. v.0)
         (float_format (codes "f64") 0xfb 8) (float_lawful (codes "f64") 0xfb 8)) };
 }
 

@@ -2,7 +2,7 @@
 ghost use Rattle.std.specs.Prelude.{◌&&◌};
 ghost use Rattle.cbor4ii_items.specs.Decoding.{Decodes, DecodesIf};
 ghost use Rattle.cbor4ii.specs.Typed.{input, answer_of};
-ghost use Rattle.cbor4ii.specs.Tuples.{container_head, after_format};
+ghost use Rattle.cbor4ii.specs.Tuples.{container_head_format, after_format};
 ghost use Rattle.cbor4ii.specs.TypedParts.{two_of, three_of, typed_pair, typed_triple};
 
 use crate::serde::de::deserialize::{Deserialize, Typed};
@@ -77,7 +77,7 @@ pub(crate) fn take_count<S: Source>(
     reader: &mut S,
     count: usize,
 ) -> Result<(), core_error::DecodeError<S::Error>>
-    ensures { Decodes (container_head count) (S.view reader.old) (S.view reader.new) result }
+    ensures { Decodes (container_head_format count) (S.view reader.old) (S.view reader.new) result }
 {
     match Array::<()>::len(reader) {
         Ok(Some(found)) => {

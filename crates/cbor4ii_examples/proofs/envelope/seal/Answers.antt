@@ -2,7 +2,7 @@ use Rattle.std.proofs.Common.{◌≡◌, ℕ, ◌++◌, subst, arith}
 use Rattle.std.specs.declared.alloc.Global.{Global}
 use Rattle.std.specs.declared.vec.Vec.{Vec}
 use Rattle.cbor4ii_items.specs.Whole.{IsWhole}
-use Rattle.cbor4ii_tree.specs.PlainRaw.{plain_raw_content, plain_raw_format}
+use Rattle.cbor4ii_tree.specs.Calls.PlainRaw.{plain_raw_content, plain_raw_format}
 use Rattle.cbor4ii_ser.specs.Item.{IsEncodedAnd}
 use Rattle.cbor4ii_examples.specs.Envelope.{envelope_encoding}
 use Rattle.cbor4ii_examples.proofs.Sealing.{written, ok_of, is_sealed, not_enveloped}

@@ -1,4 +1,4 @@
-use Rattle.cbor4ii_examples.proofs.ItemOrEnd.{cut_is_eof}
+use Rattle.cbor4ii_examples.proofs.CutSequence.{cut_is_eof}
 use Rattle.cbor4ii_examples.proofs.sequence.next_value.Goals as goal
 
 pub returns-clause-cut : goal.returns-clause-cut

@@ -4,7 +4,7 @@ use Rattle.cbor4ii_examples.proofs.shape.+shapes.Goals as goal
 
 pub shape_in-returns-in-len2-up : goal.shape_in-returns-in-len2-up
 shape_in-returns-in-len2-up t c =
-    (not_one c.args.members.now (λ e. omega (arith, c.in-len2-up.len_at_least)), refl)
+    (not_one c.args.pairs.now (λ e. omega (arith, c.in-len2-up.len_at_least)), refl)
 
 pub pair_in-returns-in-len1 : goal.pair_in-returns-in-len1
 pair_in-returns-in-len1 t c =
@@ -16,8 +16,8 @@ pair_in-returns-in-len3-up t c =
 
 pub framed_in-returns-in-len1 : goal.framed_in-returns-in-len1
 framed_in-returns-in-len1 t c =
-    (no_frame c.args.members.now (λ e. omega (arith, c.in-len1.len_below)), refl)
+    (no_frame c.args.pairs.now (λ e. omega (arith, c.in-len1.len_below)), refl)
 
 pub framed_in-returns-in-len3-up : goal.framed_in-returns-in-len3-up
 framed_in-returns-in-len3-up t c =
-    (no_frame c.args.members.now (λ e. omega (arith, c.in-len3-up.len_at_least)), refl)
+    (no_frame c.args.pairs.now (λ e. omega (arith, c.in-len3-up.len_at_least)), refl)

@@ -1,6 +1,7 @@
 use Rattle.std.proofs.Common.{◌≡◌, ◌+◌, ◌*◌, take}
-use Rattle.cbor4ii_tree.specs.{Item.{size, size_all, size_members}, View.{view, items_view}}
-use Rattle.cbor4ii_tree.specs.View.{members_view}
+use Rattle.cbor4ii_tree.specs.{Basis.Item.{size, size_all, size_pairs}}
+use Rattle.cbor4ii_tree.specs.{Basis.View.{view, items_view}}
+use Rattle.cbor4ii_tree.specs.Basis.View.{pairs_view}
 use Rattle.cbor4ii_examples.specs.Sorted.{sorted_items, sorted_pairs, SameItems}
 use Rattle.cbor4ii_examples.proofs.SortedValues.{SameInPlace}
 use Rattle.cbor4ii_examples.proofs.sorted.+sorting.Given as goal
@@ -13,8 +14,8 @@ invariant-sort_items-loop-i l = goal.unvisited-sort_items-loop-i l
 
 abbrev pub invariant-sort_pairs-loop-i : goal.invariant-sort_pairs-loop-i
 invariant-sort_pairs-loop-i l = goal.unvisited-sort_pairs-loop-i l
-    × (members_view (take l.i l.members) ≡ sorted_pairs (members_view (take l.i l.initial.members)))
-    × SameInPlace l.initial.members l.members
+    × (pairs_view (take l.i l.pairs) ≡ sorted_pairs (pairs_view (take l.i l.initial.pairs)))
+    × SameInPlace l.initial.pairs l.pairs
 
 -- the size of what is walked, with the caller above its helpers
 abbrev pub decreases-sort_value : goal.decreases-sort_value
@@ -24,10 +25,10 @@ abbrev pub decreases-sort_items : goal.decreases-sort_items
 decreases-sort_items l = 4 * size_all (items_view l.items.now) + 2
 
 abbrev pub decreases-sort_map : goal.decreases-sort_map
-decreases-sort_map l = 4 * size_members (members_view l.members.now.items) + 3
+decreases-sort_map l = 4 * size_pairs (pairs_view l.pairs.now.items) + 3
 
 abbrev pub decreases-sort_pairs : goal.decreases-sort_pairs
-decreases-sort_pairs l = 4 * size_members (members_view l.members.now) + 2
+decreases-sort_pairs l = 4 * size_pairs (pairs_view l.pairs.now) + 2
 
 abbrev pub decreases-sort_pair : goal.decreases-sort_pair
-decreases-sort_pair l = 4 * (size (view l.member.now.0) + size (view l.member.now.1)) + 1
+decreases-sort_pair l = 4 * (size (view l.pair.now.0) + size (view l.pair.now.1)) + 1

@@ -5,5 +5,5 @@ use Rattle.cbor4ii_examples.proofs.sorted.keys_ascend.Goals as goal
 
 pub returns : goal.returns
 returns c =
-    ascending c.is_sorted_by.result c.args.members.now (c.is_sorted_by.ensures.cases pair_below
+    ascending c.is_sorted_by.result c.args.pairs.now (c.is_sorted_by.ensures.cases pair_below
     (answers_always _ _ _ (λ f a r next called. search (rules, answered))))

@@ -1,5 +1,5 @@
 use Rattle.std.proofs.Common.{subst, sym}
-use Rattle.cbor4ii_tree.specs.View.{view}
+use Rattle.cbor4ii_tree.specs.Basis.View.{view}
 use Rattle.cbor4ii_examples.specs.Sorted.{EachMap, KeysInOrder}
 use Rattle.cbor4ii_examples.proofs.Sorting.{sorted_is_in_order}
 use Rattle.cbor4ii_examples.proofs.sorted.sort.Goals as goal

@@ -1,6 +1,6 @@
 use Rattle.std.proofs.Common.{◌≡◌, [], ◌++◌, refl, ap, ◌∙◌, rules}
-use Rattle.cbor4ii_tree.specs.Canonical.{canonical_encoding}
-use Rattle.cbor4ii_tree.specs.View.{view}
+use Rattle.cbor4ii_tree.specs.Basis.Canonical.{canonical_encoding}
+use Rattle.cbor4ii_tree.specs.Basis.View.{view}
 use Rattle.cbor4ii_examples.specs.Sorted.{sorted}
 use Rattle.cbor4ii_examples.proofs.sorted.sorted_encoding.Goals as goal
 

@@ -1,5 +1,5 @@
 use Rattle.std.proofs.Common.{ap}
-use Rattle.cbor4ii_tree.specs.Canonical.{canonical_encoding}
+use Rattle.cbor4ii_tree.specs.Basis.Canonical.{canonical_encoding}
 use Rattle.cbor4ii_examples.proofs.Sorting.{in_order_is_sorted, one_for_all}
 use Rattle.cbor4ii_examples.proofs.sorted.sorted_encodings_are_equal.Goals as goal
 

@@ -1,7 +1,7 @@
 use Rattle.std.proofs.Common.{◌≡◌, [], ◌++◌, refl, ap}
-use Rattle.cbor4ii_tree.specs.Canonical.{canonical_encoding}
-use Rattle.cbor4ii_tree.specs.View.{view}
-use Rattle.cbor4ii_tree.specs.Promises.{value_format}
+use Rattle.cbor4ii_tree.specs.Basis.Canonical.{canonical_encoding}
+use Rattle.cbor4ii_tree.specs.Basis.View.{view}
+use Rattle.cbor4ii_tree.specs.Calls.Promises.{value_format}
 use Rattle.cbor4ii_examples.proofs.Stored.{handed_on, no_room}
 use Rattle.cbor4ii_examples.specs.Store.{IsEncoding}
 use Rattle.cbor4ii_examples.proofs.store.canonical_bytes.Goals as goal

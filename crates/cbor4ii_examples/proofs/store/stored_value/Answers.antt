@@ -1,5 +1,5 @@
 use Rattle.std.proofs.Common.{refl}
-use Rattle.cbor4ii_tree.specs.Canonically.{canonical_format}
+use Rattle.cbor4ii_tree.specs.Calls.Canonically.{canonical_format}
 use Rattle.cbor4ii_examples.proofs.Stored.{handed_on}
 use Rattle.cbor4ii_examples.specs.Store.{IsCanonicalEncoding}
 use Rattle.cbor4ii_examples.proofs.store.stored_value.Goals as goal

@@ -1,21 +1,21 @@
 use Rattle.std.proofs.Common.{◌∙◌, None, Some, ap}
 use Rattle.std.proofs.lemmas.Result.{err_from_is_err_and}
 use Rattle.cbor4ii.specs.Laws.Shown.{unmade_as}
-use Rattle.cbor4ii_examples.specs.Tree.{tree_node, vector_nodes, seen}
-use Rattle.cbor4ii_examples.proofs.Trees.{members-next, nodes-next, after, after-pushed}
+use Rattle.cbor4ii_examples.specs.Tree.{tree_node, vector_nodes, node_fields}
+use Rattle.cbor4ii_examples.proofs.Trees.{pairs-next, nodes-next, after, after-pushed}
 use Rattle.cbor4ii_examples.proofs.tree.+trees.Goals as goal
 
-pub found_in-loop-member-preserved : goal.found_in-loop-member-preserved
-found_in-loop-member-preserved t c =
-    c.loop-member.invariant
-    ∙ members-next _ _ _ _ _ c.loop-member-test.true c.member-item.is c.in_ok-found.ensures
+pub found_in-loop-pair-preserved : goal.found_in-loop-pair-preserved
+found_in-loop-pair-preserved t c =
+    c.loop-pair.invariant
+    ∙ pairs-next _ _ _ _ _ c.loop-pair-test.true c.pair-item.is c.in_ok-found.ensures
 
 pub found_in-returns-in_err-found : goal.found_in-returns-in_err-found
 found_in-returns-in_err-found t c =
     let p = err_from_is_err_and c.from_residual.result c.from_residual.ensures.1 in
-    rw (p.1, p.2) (unmade_as _ seen seen _ _ _ c.in_err-found.ensures
-    (λ none. c.loop-member.invariant
-    ∙ members-next _ _ _ _ None c.loop-member-test.true c.member-item.is none))
+    rw (p.1, p.2) (unmade_as _ node_fields node_fields _ _ _ c.in_err-found.ensures
+    (λ none. c.loop-pair.invariant
+    ∙ pairs-next _ _ _ _ None c.loop-pair-test.true c.pair-item.is none))
 
 pub trees_of-loop-value-preserved : goal.trees_of-loop-value-preserved
 trees_of-loop-value-preserved t c =

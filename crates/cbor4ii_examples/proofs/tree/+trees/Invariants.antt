@@ -1,13 +1,14 @@
 use Rattle.std.proofs.Common.{◌≡◌, drop}
-use Rattle.cbor4ii_tree.specs.View.{items_view, members_view}
-use Rattle.cbor4ii_examples.specs.Tree.{seen, nothing_seen, members_at, nodes_at, vector_nodes}
+use Rattle.cbor4ii_tree.specs.Basis.View.{items_view, pairs_view}
+use Rattle.cbor4ii_examples.specs.Tree.{node_fields, nothing_seen, node_pairs_at, nodes_at}
+use Rattle.cbor4ii_examples.specs.Tree.{vector_nodes}
 use Rattle.cbor4ii_examples.proofs.Trees.{after}
 use Rattle.cbor4ii_examples.proofs.tree.+trees.Given as goal
 
-abbrev pub invariant-found_in-loop-member : goal.invariant-found_in-loop-member
-invariant-found_in-loop-member l =
-    members_at (members_view l.members) nothing_seen
-    ≡ members_at (members_view (drop l.member-index l.members)) (seen l.found)
+abbrev pub invariant-found_in-loop-pair : goal.invariant-found_in-loop-pair
+invariant-found_in-loop-pair l =
+    node_pairs_at (pairs_view l.pairs) nothing_seen
+    ≡ node_pairs_at (pairs_view (drop l.pair-index l.pairs)) (node_fields l.found)
 
 abbrev pub invariant-trees_of-loop-value : goal.invariant-trees_of-loop-value
 invariant-trees_of-loop-value l =

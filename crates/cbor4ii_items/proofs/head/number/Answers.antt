@@ -2,7 +2,8 @@ use Rattle.std.proofs.Common.{◌+◌, ◌-◌, ◌*◌, ◌<◌, ◌^◌, arith
 use Rattle.std.proofs.lemmas.Result.{err_from_is_err_and}
 use Rattle.cbor4ii_items.specs.ReadHead.{number_on}
 use Rattle.cbor4ii_items.specs.Laws.Running.{runs_err, reaches_as, reaches_then, reaches_end}
-use Rattle.cbor4ii_items.specs.Laws.ReadingHeads.{one_more, small_number, number_more, number_start}
+use Rattle.cbor4ii_items.specs.Laws.ReadingHeads.{one_more_byte, small_number, number_more}
+use Rattle.cbor4ii_items.specs.Laws.ReadingHeads.{number_start}
 use Rattle.cbor4ii_items.proofs.head.number.Goals as goal
 
 pub loop-i-init : goal.loop-i-init
@@ -17,14 +18,14 @@ returns-in_err-byte-clause-runs g c =
 
 pub overflow_mul-value : goal.overflow_mul-value
 overflow_mul-value g c =
-    let more = one_more c.loop-i.value 0 c.loop-i.i c.loop-i.invariant.small (omega arith) in
+    let more = one_more_byte c.loop-i.value 0 c.loop-i.i c.loop-i.invariant.small (omega arith) in
     let h : c.loop-i.value * 256 + 0 < 2 ^ 128 =
     small_number _ (c.loop-i.i + 1) more (omega arith) in
     omega (arith, h)
 
 pub overflow_add-value : goal.overflow_add-value
 overflow_add-value g c =
-    let more = one_more c.loop-i.value c.in_ok-byte.byte c.loop-i.i c.loop-i.invariant.small
+    let more = one_more_byte c.loop-i.value c.in_ok-byte.byte c.loop-i.i c.loop-i.invariant.small
     c.in_ok-byte.ensures.byte in
     let h : c.loop-i.value * 256 + c.in_ok-byte.byte < 2 ^ 128 =
     small_number _ (c.loop-i.i + 1) more (omega arith) in
@@ -37,5 +38,5 @@ loop-i-preserved g c = record {
       (c.loop-i.value * 256 + b))
       (reaches_as (number_more _ _ _ _ _ c.loop-i-test.true) c.loop-i.invariant.read)
       c.in_ok-byte.ensures.runs;
-  small = one_more _ _ _ c.loop-i.invariant.small c.in_ok-byte.ensures.byte;
+  small = one_more_byte _ _ _ c.loop-i.invariant.small c.in_ok-byte.ensures.byte;
 }

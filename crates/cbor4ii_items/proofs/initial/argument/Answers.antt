@@ -5,7 +5,7 @@ use Rattle.std.proofs.lemmas.List.{append-nil}
 use Rattle.cbor4ii_items.specs.Prefix.{IsArgument}
 use Rattle.cbor4ii_items.specs.Head.{Width, in_first, one, two, four, eight, byte_count, HeadFits}
 use Rattle.cbor4ii_items.specs.Head.{additional, ArgumentAfter, LacksArgument, IsBytes}
-use Rattle.cbor4ii_items.specs.ReadHead.{following}
+use Rattle.cbor4ii_items.specs.ReadHead.{argument_size}
 use Rattle.cbor4ii_items.specs.Laws.Heads.{additional-lt, length-bytes_high_first, number_is}
 use Rattle.cbor4ii_items.specs.Laws.Heads.{wide_of}
 use Rattle.cbor4ii_items.proofs.initial.argument.Goals as goal
@@ -15,9 +15,9 @@ in_first_byte info trailing small =
     record { width = in_first; fits = omega (arith, small); says = refl; size = refl; is = refl }
 
 in_following : (info n : ℕ) (trailing : List ℕ) → 24 ≤ info → info < 28 → IsArgument info trailing n
-    → ArgumentAfter info trailing n (following info)
+    → ArgumentAfter info trailing n (argument_size info)
 in_following info n trailing from to a =
-    let k = following info in
+    let k = argument_size info in
     let w = wide_of info from to in
     let read = number_is [] k k n (trailing ++ []) (drop k trailing ++ [])
     (subst (λ bs. IsBytes (take k bs)) (sym (append-nil trailing)) a.bytes) (a.number [] []) in
@@ -32,21 +32,21 @@ in_following info n trailing from to a =
     }
 
 found : (info : ℕ) (trailing : List ℕ) → 24 ≤ info → info < 28 → (o : Option (ℕ × ℕ))
-    → IfSome o (λ f. IsArgument info trailing f.0) → IfSome o (λ f. f.1 ≡ following info)
+    → IfSome o (λ f. IsArgument info trailing f.0) → IfSome o (λ f. f.1 ≡ argument_size info)
     → IfSome o (λ f. ArgumentAfter info trailing f.0 f.1)
 found info trailing from to None a size = tt
 found info trailing from to (Some f) a size = rw size (in_following info f.0 trailing from to a)
 
 -- from 24 on the argument follows in as many bytes as the additional information says
 follows : (info n : ℕ) (w : Width) → 24 ≤ info → HeadFits w n → additional w n ≡ info
-    → byte_count w ≡ following info
+    → byte_count w ≡ argument_size info
 follows info n in_first from fits says = absurd (omega (arith, from, fits, says))
-follows info n one from fits says = ap following says
-follows info n two from fits says = ap following says
-follows info n four from fits says = ap following says
-follows info n eight from fits says = ap following says
+follows info n one from fits says = ap argument_size says
+follows info n two from fits says = ap argument_size says
+follows info n four from fits says = ap argument_size says
+follows info n eight from fits says = ap argument_size says
 
-too_few : (info : ℕ) (trailing : List ℕ) → 24 ≤ info → length trailing < following info
+too_few : (info : ℕ) (trailing : List ℕ) → 24 ≤ info → length trailing < argument_size info
     → LacksArgument info trailing
 too_few info trailing from short n k a =
     let size = follows info n a.width from a.fits a.says in

@@ -1,4 +1,4 @@
-use Rattle.cbor4ii_items.specs.Laws.Wholes.{trails, to_the_end, none_whole, whole_of, rejected}
+use Rattle.cbor4ii_items.specs.Laws.Wholes.{accepted, followed, rejected}
 use Rattle.cbor4ii_items.proofs.whole.decode_whole.Goals as goal
 
 pub returns-in_err-value : goal.returns-in_err-value
@@ -11,31 +11,14 @@ returns-in_err-value g c =
 
 pub returns-then-left-gt0 : goal.returns-then-left-gt0
 returns-then-left-gt0 g c =
-    let bytes = g.I.Input.bytes c.args.input in
-    let some = trails g.T.Decodable.format.reads bytes
-    (g.I.Reader.Source.view c.reader-reader.result)
-    (g.I.Reader.Source.view c.decode.new.reader) c.reader-reader.ensures.known
-    c.reader-reader.ensures.budget c.in_ok-value.value c.left-left.result
-    c.in_ok-value.ensures.sound c.left-left.ensures c.if-left-gt0.true in
-    record {
-      accepts = tt;
-      trailing = (
-        some,
-        none_whole g.T.Decodable.format g.met.T.Decodable.lawful bytes c.left-left.result some,
-      );
-      rejects = tt;
-    }
+    followed g.T.Decodable.format g.met.T.Decodable.lawful (g.I.Input.bytes c.args.input)
+    (g.I.Reader.Source.view c.reader-reader.result) (g.I.Reader.Source.view c.decode.new.reader)
+    c.reader-reader.ensures.known c.reader-reader.ensures.budget c.in_ok-value.value
+    c.left-left.result c.in_ok-value.ensures.sound c.left-left.ensures c.if-left-gt0.true
 
 pub returns : goal.returns
 returns g c =
-    let bytes = g.I.Input.bytes c.args.input in
-    record {
-      accepts = whole_of g.T.Decodable.format g.met.T.Decodable.lawful bytes c.in_ok-value.value
-          (to_the_end g.T.Decodable.format.reads bytes
-          (g.I.Reader.Source.view c.reader-reader.result)
-          (g.I.Reader.Source.view c.decode.new.reader) c.reader-reader.ensures.known
-          c.reader-reader.ensures.budget c.in_ok-value.value c.left-left.result
-          c.in_ok-value.ensures.sound c.left-left.ensures c.if-left-gt0.false);
-      trailing = tt;
-      rejects = tt;
-    }
+    accepted g.T.Decodable.format g.met.T.Decodable.lawful (g.I.Input.bytes c.args.input)
+    (g.I.Reader.Source.view c.reader-reader.result) (g.I.Reader.Source.view c.decode.new.reader)
+    c.reader-reader.ensures.known c.reader-reader.ensures.budget c.in_ok-value.value
+    c.left-left.result c.in_ok-value.ensures.sound c.left-left.ensures c.if-left-gt0.false

@@ -59,7 +59,7 @@ use Rattle.cbor4ii_rw.proofs.read.Reference.TheLaws as RFL
 use Rattle.cbor4ii_rw.specs.View.{IfKnown}
 use Rattle.cbor4ii_rw.specs.Reader.{IsPrefix, IsEnough, Shows, ReaderFails}
 use Rattle.cbor4ii_rw.specs.Reference.{bytes_of, IsLong, IsSubslice}
-use Rattle.cbor4ii_rw.specs.Parted.{Parts}
+use Rattle.cbor4ii_rw.specs.Parted.{PartsAnswer}
 use Rattle.cbor4ii_rw.proofs.Parted.{is_option, at_option, slot_kept, error_kept, leaves}
 use Rattle.cbor4ii_rw.proofs.Results.{nm, RR, Filled, filled_result}
 use Rattle.cbor4ii_rw.specs.contracts.read.Read.fill as M
@@ -311,13 +311,13 @@ module _ (R E : RattleType) (gR : Read.Ghosts R.Denot E.Denot) (dR : Dict)
       ((OPT.the_row (RR κ2 κ0)).own_val t (v2 ∷ []))) ⊛
       some (λ (ws2 : Lasts (G.ended (At κ2 κ0) (Q R E gR dR gS dS gD dD dX Pp) dX) z2.0.0 z2.0.3). ‵
       (lasts (G.ended (At κ2 κ0) (Q R E gR dR gS dS gD dD dX Pp) dX) z2.0.0 z2.0.3 ws2) ⊛ raw
-      (fact 𝓤 (Parts r slot.now ws2.1.0 t)))))) (id⊢ 𝓤 _) $
+      (fact 𝓤 (PartsAnswer r slot.now ws2.1.0 t)))))) (id⊢ 𝓤 _) $
       await ! tt $ pick ! (λ t. split ! $ split ! $ move ! (1 ∷ []) $
       peeks ! (OPT.the_row (RR κ2 κ0)) _ (shows 𝓛 (OPT.the_row (RR κ2 κ0))) t (v2 ∷ [])
       (λ is2.
       lands_as ! refl refl ((shown_lawful 𝓛 κ2 κ0).typed t (v2 ∷ []) is2).0 $
       move ! (2 ∷ []) $ pick ! (λ ws2. split ! $ move ! (1 ∷ []) $
-      heard ! (Parts r slot.now ws2.1.0 t) (λ parted.
+      heard ! (PartsAnswer r slot.now ws2.1.0 t) (λ parted.
       -- [last values; the result; the tokens; κ3; resγ]
       returns ! (look_at ! 0 refl) $ free_all ! refl $
       let same = is_option r slot.now ws2.1.0 t parted in

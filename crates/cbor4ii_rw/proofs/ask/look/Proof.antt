@@ -54,7 +54,7 @@ use Rattle.cbor4ii_rw.specs.declared.read.Source as Source
 use Rattle.std.specs.Borrow.{Bor}
 use Rattle.cbor4ii_rw.specs.View.{IfKnown}
 use Rattle.cbor4ii_rw.specs.Reader.{IsPrefix, IsEnough, Shows, ReaderFails}
-use Rattle.cbor4ii_rw.specs.Parted.{Parts}
+use Rattle.cbor4ii_rw.specs.Parted.{PartsAnswer}
 use Rattle.cbor4ii_rw.proofs.Parted.{is_option, at_option, slot_kept, error_kept, leaves}
 use Rattle.cbor4ii_rw.proofs.Results.{SF, slice_laws, Shown, shown_result}
 use Rattle.cbor4ii_rw.specs.contracts.read.Source.show as M
@@ -269,13 +269,13 @@ module _ (R E : RattleType) (gS : Source.Ghosts R.Denot E.Denot) (dS : Dict)
       ((OPT.the_row (SF κ0).row).own_val t (v2 ∷ []))) ⊛
       some (λ (ws2 : Lasts (G.ended (At κ0) (Q R E gS dS gD dD dX) dX) z2.0.0 z2.0.3). ‵
       (lasts (G.ended (At κ0) (Q R E gS dS gD dD dX) dX) z2.0.0 z2.0.3 ws2) ⊛ raw
-      (fact 𝓤 (Parts r slot.now ws2.1.0 t)))))) (id⊢ 𝓤 _) $
+      (fact 𝓤 (PartsAnswer r slot.now ws2.1.0 t)))))) (id⊢ 𝓤 _) $
       await ! tt $ pick ! (λ t. split ! $ split ! $ move ! (1 ∷ []) $
       peeks ! (OPT.the_row (SF κ0).row) _ (shows 𝓛 (OPT.the_row (SF κ0).row)) t (v2 ∷ [])
       (λ is2.
       lands_as ! refl refl ((shown_lawful 𝓛 κ0).typed t (v2 ∷ []) is2).0 $
       move ! (2 ∷ []) $ pick ! (λ ws2. split ! $ move ! (1 ∷ []) $
-      heard ! (Parts r slot.now ws2.1.0 t) (λ parted.
+      heard ! (PartsAnswer r slot.now ws2.1.0 t) (λ parted.
       -- [last values; the result; the tokens; κ2; resγ]
       returns ! (look_at ! 0 refl) $ free_all ! refl $
       let same = is_option r slot.now ws2.1.0 t parted in

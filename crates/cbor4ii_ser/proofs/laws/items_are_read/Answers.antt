@@ -1,11 +1,11 @@
 use Rattle.std.proofs.Common.{ℕ, List, ◌++◌, refl}
 use Rattle.cbor4ii_items.specs.Budget.{CostFits}
-use Rattle.cbor4ii_tree.specs.Cost.{Budget, cost}
-use Rattle.cbor4ii_tree.specs.Item.{Item}
-use Rattle.cbor4ii_tree.specs.Meaning.{value}
-use Rattle.cbor4ii_tree.specs.Encodings.{Encodes, DecodesTo, Skips}
-use Rattle.cbor4ii_tree.specs.CanonicalShape.{EncodesCanonically}
-use Rattle.cbor4ii_tree.specs.Tree.{Tree, Plain}
+use Rattle.cbor4ii_tree.specs.Basis.Cost.{Budget, cost}
+use Rattle.cbor4ii_tree.specs.Basis.Item.{Item}
+use Rattle.cbor4ii_tree.specs.Basis.Meaning.{value}
+use Rattle.cbor4ii_tree.specs.Basis.Encodings.{Encodes, DecodesTo, Skips}
+use Rattle.cbor4ii_tree.specs.Calls.CanonicalShape.{EncodesCanonically}
+use Rattle.cbor4ii_tree.specs.Basis.Tree.{Tree, Plain}
 use Rattle.cbor4ii_ser.specs.OneItem.{Form, shortest_heads, canonical, IsOfForm, OneItem}
 use Rattle.cbor4ii_ser.specs.OneItem.{IsReadWhole, IsReadCanonically}
 use Rattle.cbor4ii_ser.proofs.laws.items_are_read.Goals as goal

@@ -1,4 +1,4 @@
-use Rattle.cbor4ii_ser.specs.Item.{entry_encoding}
+use Rattle.cbor4ii_ser.specs.Item.{pair_encoding}
 use Rattle.cbor4ii_ser.specs.Laws.OneItem.{map_is_item, indefinite_map_is_item}
 use Rattle.cbor4ii_ser.specs.Laws.OneItem.{collected_with_length}
 use Rattle.cbor4ii_ser.specs.Laws.OneItem.{by_recursion, pair_is_entry}
@@ -11,7 +11,7 @@ returns-clause-map g c form m few each =
 
 pub returns-clause-up_to_a_break : goal.returns-clause-up_to_a_break
 returns-clause-up_to_a_break g c es each =
-    indefinite_map_is_item (entry_encoding g.K.Serialize.encoding g.V.Serialize.encoding) es
+    indefinite_map_is_item (pair_encoding g.K.Serialize.encoding g.V.Serialize.encoding) es
     (by_recursion _ es each)
 
 pub returns-clause-entry : goal.returns-clause-entry

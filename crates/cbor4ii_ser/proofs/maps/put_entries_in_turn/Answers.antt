@@ -1,5 +1,5 @@
 use Rattle.std.proofs.Common.{◌≡◌, ◌++◌, ◌∷◌, [], None, rules, sym, ap, ◌∙◌, append_assoc}
-use Rattle.cbor4ii_ser.specs.Item.{each_encoding, entry_encoding}
+use Rattle.cbor4ii_ser.specs.Item.{each_encoding, pair_encoding}
 use Rattle.cbor4ii_ser.specs.Laws.Joining.{serializes_then, serializes_as}
 use Rattle.cbor4ii_ser.specs.Laws.Joining.{items_turn, items_push}
 use Rattle.cbor4ii_ser.proofs.Failing.{failed_out}
@@ -12,7 +12,7 @@ loop-key-preserved g c =
       done ++ (e ∷ []),
       c.loop-key.invariant.1 ∙ (ap (λ z. done ++ z) c.in-Some.ensures.steps
           ∙ sym (append_assoc done (e ∷ []) c.next.new.self)),
-      serializes_as _ (items_push (entry_encoding g.K.Serialize.encoding g.V.Serialize.encoding)
+      serializes_as _ (items_push (pair_encoding g.K.Serialize.encoding g.V.Serialize.encoding)
           done e)
           (serializes_then _ _ _ c.loop-key.invariant.2 c.in_ok-put_both.ensures.writes),
       c.in_ok-put_both.ensures.kept ∙ c.loop-key.invariant.3,
@@ -20,7 +20,7 @@ loop-key-preserved g c =
 
 pub returns-in_err-put_both-clause-writes : goal.returns-in_err-put_both-clause-writes
 returns-in_err-put_both-clause-writes g c =
-    let item = entry_encoding g.K.Serialize.encoding g.V.Serialize.encoding in
+    let item = pair_encoding g.K.Serialize.encoding g.V.Serialize.encoding in
     let done = c.loop-key.invariant.0 in
     let e : g.row.K.Denot × g.row.V.Denot = (c.in-Some.key.now, c.in-Some.value.now) in
     let all = c.loop-key.invariant.1 ∙ ap (λ z. done ++ z) c.in-Some.ensures.steps in

@@ -1,4 +1,4 @@
-use Rattle.cbor4ii_ser.specs.Laws.Joining.{serializes_then, serializes_out}
+use Rattle.cbor4ii_ser.specs.Laws.Joining.{serializes_then}
 use Rattle.cbor4ii_ser.proofs.Failing.{failed_then}
 use Rattle.cbor4ii_ser.proofs.sequences.put_array.Goals as goal
 
@@ -8,10 +8,3 @@ returns-in-Some g c =
 
 pub returns-in-None : goal.returns-in-None
 returns-in-None g c = failed_then _ _ c.in-None.ensures.failed c.in-None.ensures.writes
-
-pub returns-in_err-array_head : goal.returns-in_err-array_head
-returns-in_err-array_head g c =
-    serializes_out _ c.from_residual.ensures.1 c.in_err-array_head.ensures
-
-pub returns : goal.returns
-returns g c = serializes_then _ _ c.put_items-2.result c.in_ok-array_head.ensures c.put_items-2.ensures

@@ -3,11 +3,11 @@ use Rattle.cbor4ii_ser.specs.Laws.Joining.{serializes_then}
 use Rattle.cbor4ii_ser.proofs.Failing.{failed_out}
 use Rattle.cbor4ii_ser.proofs.slot.put_variant.Goals as goal
 
-pub returns-in_err-push_variant_apart-clause-writes : goal.returns-in_err-push_variant_apart-clause-writes
-returns-in_err-push_variant_apart-clause-writes g c =
+pub returns-in_err-push_variant-clause-writes : goal.returns-in_err-push_variant-clause-writes
+returns-in_err-push_variant-clause-writes g c =
     let e : c.from_residual.result ≡ None = search rules in
-    failed_out _ _ _ e c.in_err-push_variant_apart.ensures.failed c.in_err-push_variant_apart.ensures.writes
+    failed_out _ _ _ e c.in_err-push_variant.ensures.failed c.in_err-push_variant.ensures.writes
 
 pub returns-clause-writes : goal.returns-clause-writes
 returns-clause-writes g c =
-    serializes_then _ _ _ c.in_ok-push_variant_apart.ensures.writes c.put_part.ensures.writes
+    serializes_then _ _ _ c.in_ok-push_variant.ensures.writes c.put_value.ensures.writes

@@ -1,8 +1,8 @@
-use Rattle.cbor4ii_ser.specs.Values.{some_holds_tag, members_hold_tag}
-use Rattle.cbor4ii_tree.specs.View.{items_view, members_view}
+use Rattle.cbor4ii_ser.specs.Values.{some_holds_tag, pairs_hold_tag}
+use Rattle.cbor4ii_tree.specs.Basis.View.{items_view, pairs_view}
 use Rattle.std.proofs.Math.Seq.{take-length}
 use Rattle.std.proofs.Common.{sym, refl, ap, ◌∙◌, ◌≡◌, length, take, arith}
-use Rattle.cbor4ii_ser.proofs.HoldingTags.{items_none, items_found, members_none, key_found}
+use Rattle.cbor4ii_ser.proofs.HoldingTags.{items_none, items_found, pairs_none, key_found}
 use Rattle.cbor4ii_ser.proofs.HoldingTags.{value_found}
 use Rattle.cbor4ii_ser.proofs.value.+tags.Goals as goal
 
@@ -16,27 +16,27 @@ some_holds_tag-loop-item-preserved t c =
     items_none c.args.items.now c.loop-item.item-index c.item-item.result c.loop-item-test.true
     c.item-item.is c.loop-item.invariant (sym c.if-holds_tag.ensures)
 
-pub members_hold_tag-returns-then-holds_tag : goal.members_hold_tag-returns-then-holds_tag
-members_hold_tag-returns-then-holds_tag t c =
-    sym (key_found c.args.members.now c.loop-member.member-index c.member-item.result
-    c.loop-member-test.true c.member-item.is (sym c.if-holds_tag.ensures))
+pub pairs_hold_tag-returns-then-holds_tag : goal.pairs_hold_tag-returns-then-holds_tag
+pairs_hold_tag-returns-then-holds_tag t c =
+    sym (key_found c.args.pairs.now c.loop-pair.pair-index c.pair-item.result
+    c.loop-pair-test.true c.pair-item.is (sym c.if-holds_tag.ensures))
 
-pub members_hold_tag-returns-then-holds_tag-2 : goal.members_hold_tag-returns-then-holds_tag-2
-members_hold_tag-returns-then-holds_tag-2 t c =
-    sym (value_found c.args.members.now c.loop-member.member-index c.member-item.result
-    c.loop-member-test.true c.member-item.is (sym c.if-holds_tag-2.ensures))
+pub pairs_hold_tag-returns-then-holds_tag-2 : goal.pairs_hold_tag-returns-then-holds_tag-2
+pairs_hold_tag-returns-then-holds_tag-2 t c =
+    sym (value_found c.args.pairs.now c.loop-pair.pair-index c.pair-item.result
+    c.loop-pair-test.true c.pair-item.is (sym c.if-holds_tag-2.ensures))
 
-pub members_hold_tag-loop-member-preserved : goal.members_hold_tag-loop-member-preserved
-members_hold_tag-loop-member-preserved t c =
-    members_none c.args.members.now c.loop-member.member-index c.member-item.result
-    c.loop-member-test.true c.member-item.is c.loop-member.invariant
+pub pairs_hold_tag-loop-pair-preserved : goal.pairs_hold_tag-loop-pair-preserved
+pairs_hold_tag-loop-pair-preserved t c =
+    pairs_none c.args.pairs.now c.loop-pair.pair-index c.pair-item.result
+    c.loop-pair-test.true c.pair-item.is c.loop-pair.invariant
     (sym c.if-holds_tag.ensures) (sym c.if-holds_tag-2.ensures)
 
 pub some_holds_tag-loop-item-init : goal.some_holds_tag-loop-item-init
 some_holds_tag-loop-item-init t c = refl
 
-pub members_hold_tag-loop-member-init : goal.members_hold_tag-loop-member-init
-members_hold_tag-loop-member-init t c = refl
+pub pairs_hold_tag-loop-pair-init : goal.pairs_hold_tag-loop-pair-init
+pairs_hold_tag-loop-pair-init t c = refl
 
 pub some_holds_tag-returns : goal.some_holds_tag-returns
 some_holds_tag-returns t c =
@@ -45,9 +45,9 @@ some_holds_tag-returns t c =
     (sym (ap (λ j. take j c.args.items.now) e ∙ take-length c.args.items.now))
     ∙ c.loop-item.invariant)
 
-pub members_hold_tag-returns : goal.members_hold_tag-returns
-members_hold_tag-returns t c =
-    let e : c.loop-member.member-index ≡ length c.args.members.now = omega arith in
-    sym (ap (λ ms. members_hold_tag (members_view ms))
-    (sym (ap (λ j. take j c.args.members.now) e ∙ take-length c.args.members.now))
-    ∙ c.loop-member.invariant)
+pub pairs_hold_tag-returns : goal.pairs_hold_tag-returns
+pairs_hold_tag-returns t c =
+    let e : c.loop-pair.pair-index ≡ length c.args.pairs.now = omega arith in
+    sym (ap (λ ms. pairs_hold_tag (pairs_view ms))
+    (sym (ap (λ j. take j c.args.pairs.now) e ∙ take-length c.args.pairs.now))
+    ∙ c.loop-pair.invariant)

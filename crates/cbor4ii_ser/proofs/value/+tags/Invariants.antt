@@ -1,6 +1,6 @@
 use Rattle.std.proofs.Common.{◌≡◌, take, false}
-use Rattle.cbor4ii_tree.specs.View.{items_view, members_view}
-use Rattle.cbor4ii_ser.specs.Values.{some_holds_tag, members_hold_tag}
+use Rattle.cbor4ii_tree.specs.Basis.View.{items_view, pairs_view}
+use Rattle.cbor4ii_ser.specs.Values.{some_holds_tag, pairs_hold_tag}
 use Rattle.cbor4ii_ser.proofs.value.+tags.Given as goal
 
 -- none of those so far holds a tag
@@ -8,6 +8,6 @@ abbrev pub invariant-some_holds_tag-loop-item : goal.invariant-some_holds_tag-lo
 invariant-some_holds_tag-loop-item l =
     some_holds_tag (items_view (take l.item-index l.items)) ≡ false
 
-abbrev pub invariant-members_hold_tag-loop-member : goal.invariant-members_hold_tag-loop-member
-invariant-members_hold_tag-loop-member l =
-    members_hold_tag (members_view (take l.member-index l.members)) ≡ false
+abbrev pub invariant-pairs_hold_tag-loop-pair : goal.invariant-pairs_hold_tag-loop-pair
+invariant-pairs_hold_tag-loop-pair l =
+    pairs_hold_tag (pairs_view (take l.pair-index l.pairs)) ≡ false

@@ -1,5 +1,5 @@
 use Rattle.std.proofs.Common.{◌-◌, ◌≤◌}
-use Rattle.cbor4ii_tree.specs.Runs.{BeginsRun}
+use Rattle.cbor4ii_tree.specs.Inner.Runs.{BeginsRun}
 use Rattle.cbor4ii_tree.proofs.ahead.end_of_run.Given as goal
 
 abbrev pub invariant-loop-left : goal.invariant-loop-left

@@ -7,6 +7,6 @@ pub returns-in-Indefinite : goal.returns-in-Indefinite
 returns-in-Indefinite c = λ among rest. sees_alone c.args.first rest (omega arith) start.Indefinite
     (sym c.start_of.ensures ∙ c.in-Indefinite.is) refl tt
 
-pub returns-in-IndefiniteMembers : goal.returns-in-IndefiniteMembers
-returns-in-IndefiniteMembers c = λ among rest. sees_alone c.args.first rest (omega arith)
-    start.IndefiniteMembers (sym c.start_of.ensures ∙ c.in-IndefiniteMembers.is) refl tt
+pub returns-in-PairsToBreak : goal.returns-in-PairsToBreak
+returns-in-PairsToBreak c = λ among rest. sees_alone c.args.first rest (omega arith)
+    start.PairsToBreak (sym c.start_of.ensures ∙ c.in-PairsToBreak.is) refl tt

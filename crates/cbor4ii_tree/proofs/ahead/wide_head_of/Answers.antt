@@ -18,10 +18,10 @@ returns-in-Items c = λ among. sees_head _ _ _ _ (omega arith)
     (shown_bytes _ (λ i. Fits-lt-pow {w = w8} (c.type_inv.rest i))) c.in-Some.ensures.some
     start.Items (sym c.start_of.ensures ∙ c.in-Items.is) refl (λ j e. cc)
 
-pub returns-in-Members : goal.returns-in-Members
-returns-in-Members c = λ among. rw c.members_of.ensures (sees_head _ _ _ _ (omega arith)
+pub returns-in-Pairs : goal.returns-in-Pairs
+returns-in-Pairs c = λ among. rw c.pairs_of.ensures (sees_head _ _ _ _ (omega arith)
     (shown_bytes _ (λ i. Fits-lt-pow {w = w8} (c.type_inv.rest i))) c.in-Some.ensures.some
-    start.Members (sym c.start_of.ensures ∙ c.in-Members.is) refl (λ j e. cc))
+    start.Pairs (sym c.start_of.ensures ∙ c.in-Pairs.is) refl (λ j e. cc))
 
 pub returns-in-Tag : goal.returns-in-Tag
 returns-in-Tag c = λ among. sees_head _ _ _ _ (omega arith)

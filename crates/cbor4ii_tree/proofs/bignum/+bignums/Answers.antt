@@ -1,8 +1,8 @@
 use Rattle.std.proofs.Common.{◌≢◌, ◌⊎◌, subst, rules, arith}
-use Rattle.cbor4ii_tree.specs.{Canonical.with_bignums, View.view}
+use Rattle.cbor4ii_tree.specs.{Basis.Canonical.with_bignums, Basis.View.view}
 use Rattle.cbor4ii_tree.specs.declared.value.Value.{Value, the_lemmas}
-use Rattle.cbor4ii_tree.proofs.values.Bignums.{items_change, items_tagged, members_change}
-use Rattle.cbor4ii_tree.proofs.values.Bignums.{members_tagged, size-at, sizes-at}
+use Rattle.cbor4ii_tree.proofs.values.Bignums.{items_change, items_tagged, pairs_change}
+use Rattle.cbor4ii_tree.proofs.values.Bignums.{pairs_tagged, size-at, sizes-at}
 use Rattle.cbor4ii_tree.proofs.bignum.+bignums.Goals as goal
 
 -- the variant is opened, since its second part is what was changed
@@ -20,14 +20,14 @@ tag_items-loop-i-preserved t c =
           c.in_ok-tag_bignums.ensures.tagged,
     )
 
-pub tag_members-loop-i-preserved : goal.tag_members-loop-i-preserved
-tag_members-loop-i-preserved t c =
+pub tag_pairs-loop-i-preserved : goal.tag_pairs-loop-i-preserved
+tag_pairs-loop-i-preserved t c =
     let i = c.loop-i.i in
-    let x = c.index-members-i.result in (
+    let x = c.index-pairs-i.result in (
       search rules,
-      members_tagged c.loop-i.members c.args.members.now i x c.tag_member.new.member (omega arith)
+      pairs_tagged c.loop-i.pairs c.args.pairs.now i x c.tag_pair.new.pair (omega arith)
           c.loop-i-test.true (c.loop-i.invariant.0.1 i x (omega arith)) c.loop-i.invariant.1
-          c.in_ok-tag_member.ensures.key c.in_ok-tag_member.ensures.value,
+          c.in_ok-tag_pair.ensures.key c.in_ok-tag_pair.ensures.value,
     )
 
 pub tag_items-tag_bignums-requires : goal.tag_items-tag_bignums-requires
@@ -37,11 +37,11 @@ tag_items-tag_bignums-requires t c =
     let small = size-at c.args.items.now i x c.loop-i-test.true in
     rw (c.loop-i.invariant.0.1 i x (omega arith)) (omega (arith, small, c.decreases), tt)
 
-pub tag_members-tag_member-requires : goal.tag_members-tag_member-requires
-tag_members-tag_member-requires t c =
+pub tag_pairs-tag_pair-requires : goal.tag_pairs-tag_pair-requires
+tag_pairs-tag_pair-requires t c =
     let i = c.loop-i.i in
-    let x = c.index-members-i.result in
-    let small = sizes-at c.args.members.now i x c.loop-i-test.true in
+    let x = c.index-pairs-i.result in
+    let small = sizes-at c.args.pairs.now i x c.loop-i-test.true in
     rw (c.loop-i.invariant.0.1 i x (omega arith)) (omega (arith, small, c.decreases), tt)
 
 pub tag_items-returns-in_err-tag_bignums-clause-memory :
@@ -54,13 +54,13 @@ tag_items-returns-in_err-tag_bignums-clause-memory t c =
     let all = items_change c.args.items.now i x (omega arith) here in
     search (rules, all)
 
-pub tag_members-returns-in_err-tag_member-clause-memory :
-    goal.tag_members-returns-in_err-tag_member-clause-memory
-tag_members-returns-in_err-tag_member-clause-memory t c =
+pub tag_pairs-returns-in_err-tag_pair-clause-memory :
+    goal.tag_pairs-returns-in_err-tag_pair-clause-memory
+tag_pairs-returns-in_err-tag_pair-clause-memory t c =
     let i = c.loop-i.i in
-    let x = c.index-members-i.result in
+    let x = c.index-pairs-i.result in
     let here = subst (λ (m : Value × Value). (with_bignums (view m.0) ≢ view m.0)
     ⊎ (with_bignums (view m.1) ≢ view m.1)) (c.loop-i.invariant.0.1 i x (omega arith))
-    c.in_err-tag_member.ensures.memory in
-    let all = members_change c.args.members.now i x (omega arith) here in
+    c.in_err-tag_pair.ensures.memory in
+    let all = pairs_change c.args.pairs.now i x (omega arith) here in
     search (rules, all)

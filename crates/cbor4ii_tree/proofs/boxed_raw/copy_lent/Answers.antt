@@ -1,5 +1,5 @@
 use Rattle.std.proofs.Common.{inl, inr, refl, ap, ◌∙◌, take, List, ℕ}
-use Rattle.cbor4ii_tree.specs.BoxedRaw.{boxed_content}
+use Rattle.cbor4ii_tree.specs.Calls.BoxedRaw.{boxed_content}
 use Rattle.cbor4ii_tree.proofs.raw_items.{Copied.none_read, Unlent.none_rejects, Captured.captured}
 use Rattle.cbor4ii_tree.proofs.raw_items.Captured.{rejected_in}
 use Rattle.cbor4ii_tree.proofs.boxed_raw.copy_lent.Goals as goal

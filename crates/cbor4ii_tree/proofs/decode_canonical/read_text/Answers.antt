@@ -1,7 +1,8 @@
 use Rattle.std.proofs.Common.{ℕ, ap, sym, refl, inl, subst, Vec, Global}
 use Rattle.cbor4ii_items.specs.{Initial.text_string, Shortest.RejectsShortestString}
-use Rattle.cbor4ii_tree.specs.{CanonicalRejects.CanonicalTextRejects, InputError.require_utf8}
-use Rattle.cbor4ii_tree.specs.{InputError.kind_name, CanonicalCalls.{StringAt, TextAt}}
+use Rattle.cbor4ii_tree.specs.{Calls.CanonicalRejects.CanonicalTextRejects}
+use Rattle.cbor4ii_tree.specs.{Basis.InputError.require_utf8}
+use Rattle.cbor4ii_tree.specs.{Basis.InputError.kind_name, Inner.CanonicalCalls.{StringAt, TextAt}}
 use Rattle.cbor4ii_tree.proofs.{canonical.Calls.{reached_string, no_text}, skip_calls.Doing.does_ok}
 use Rattle.cbor4ii_tree.proofs.skip_calls.Doing.{does_reject, reached_as, call_rejects}
 use Rattle.cbor4ii_tree.proofs.values.Answered.{passed}

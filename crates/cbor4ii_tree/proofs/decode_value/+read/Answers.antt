@@ -1,9 +1,11 @@
 use Rattle.std.proofs.Common.{inl, inr, refl, sym, ap, subst, arith, ◌∙◌, ◌∷◌, [], false, true, Vec}
 use Rattle.std.proofs.Common.{Global, Some}
 use Rattle.cbor4ii_items.specs.{Laws.Running.kept_alike, Laws.Steps.kept_then}
-use Rattle.cbor4ii_tree.specs.{Does.error_left, InputError.value_name, Item.{IsItem, tag}}
-use Rattle.cbor4ii_tree.specs.{LeafRuns.flat, Valuing.{flat_values, ReadsUnder, RejectsOf}}
-use Rattle.cbor4ii_tree.specs.{View.view, declared.value.Value.{Tag, Value}}
+use Rattle.cbor4ii_tree.specs.{Inner.Does.error_left, Basis.InputError.value_name}
+use Rattle.cbor4ii_tree.specs.{Basis.Item.{IsItem, tag}}
+use Rattle.cbor4ii_tree.specs.{Inner.LeafRuns.pair_values}
+use Rattle.cbor4ii_tree.specs.{Inner.Valuing.{flat_values, ReadsUnder, RejectsOf}}
+use Rattle.cbor4ii_tree.specs.{Basis.View.view, declared.value.Value.{Tag, Value}}
 use Rattle.cbor4ii_tree.proofs.skip_calls.Doing.{reached_by, does_ok, does_no_memory, does_no_step}
 use Rattle.cbor4ii_tree.proofs.skip_calls.Doing.{refused, reached_as, still_rejected}
 use Rattle.cbor4ii_tree.proofs.values.ByHead.{peeks_next, after_next, next_first}
@@ -15,16 +17,19 @@ use Rattle.cbor4ii_tree.proofs.values.LeafRuns.{run_rejects, stop_alone, both_th
 use Rattle.cbor4ii_tree.proofs.values.LeafRuns.{pairs_are_read, turn_unstepped, turn_rejected}
 use Rattle.cbor4ii_tree.proofs.values.LeafRuns.{turn_ends, run_before, on_found}
 use Rattle.cbor4ii_tree.proofs.values.Sequences.{break_taken, no_break_yet, no_byte_left, put_read}
-use Rattle.cbor4ii_tree.proofs.values.Sequences.{value_stops, member_stops, pair_read}
+use Rattle.cbor4ii_tree.proofs.values.Sequences.{value_stops, pair_stops, pair_read}
 use Rattle.cbor4ii_tree.proofs.values.Sequences.{value_rejected, none_follow, parts_deep}
 use Rattle.cbor4ii_tree.proofs.values.Gives.{gives_err, gives_on, gives_as, value_stepped}
 use Rattle.cbor4ii_tree.proofs.values.Gives.{second_stepped, items_stepped, item_put}
-use Rattle.cbor4ii_tree.proofs.values.Gives.{counted_gives, opened_gives, look_gives, no_want}
-use Rattle.cbor4ii_tree.proofs.values.Gives.{counted_asks, opened_asks}
+use Rattle.cbor4ii_tree.proofs.values.Gives.{counted_gives, look_gives, no_want, as_found, as_left}
+use Rattle.cbor4ii_tree.proofs.values.Gives.{counted_made, opened_made}
 use Rattle.cbor4ii_tree.proofs.values.Asking.{asks_after, asks_as, asks_here, in_any, in_first}
 use Rattle.cbor4ii_tree.proofs.values.Asking.{in_further, in_next, in_string, in_tagged}
 use Rattle.cbor4ii_tree.proofs.values.Asking.{not_wanted, put_grows, turn_asks, value_is}
 use Rattle.cbor4ii_tree.proofs.values.Asking.{values_are}
+use Rattle.cbor4ii_tree.proofs.values.Sequences.{made_of}
+use Rattle.cbor4ii_tree.proofs.decode_value.+read.Goals.{array_inside-in-Some, array_inside-in-None}
+use Rattle.cbor4ii_tree.proofs.decode_value.+read.Goals.{map_inside-in-Some, map_inside-in-None}
 use Rattle.cbor4ii_tree.proofs.decode_value.+read.Goals as goal
 
 -- ---- an array or a map
@@ -37,7 +42,8 @@ read_array-returns g t c =
 pub read_array-returns-then-not-step_in : goal.read_array-returns-then-not-step_in
 read_array-returns-then-not-step_in g t c =
     rw c.leave_deep.ensures (gives_err not_wanted (λ before shows. after_next _ shows
-    (ReadsUnder g.A.Encodings.exact) (RejectsOf g.A.Encodings.exact _) (parts_deep false _ refl
+    (ReadsUnder g.A.Encodings.canonical) (RejectsOf g.A.Encodings.canonical _)
+    (parts_deep false _ refl
     c.if-not-step_in.ensures.budget c.step_in.ensures.others)))
 
 pub array_inside-returns-in-Some-eq0 : goal.array_inside-returns-in-Some-eq0
@@ -46,37 +52,38 @@ array_inside-returns-in-Some-eq0 g t c =
     (items_none c.new.ensures.items) tt 0 (c.in-Some-eq0.is ∙ ap Some c.in-Some-eq0.field-0-test)
     (none_follow _ (λ (v : Vec Value Global). v.items) _ c.new.ensures.items)
 
-pub array_inside-returns-in_ok-definite_items-in-Some :
-    goal.array_inside-returns-in_ok-definite_items-in-Some
-array_inside-returns-in_ok-definite_items-in-Some g t c =
-    counted_gives false _ c.in_ok-take_length.ensures.does c.in_ok-take_length.ensures.gains
-    c.in_ok-definite_items-in-Some.ensures.items tt _ c.in-Some.is
-    c.in_ok-definite_items-in-Some.ensures.does
+pub array_inside-returns : goal.array_inside-returns
+array_inside-returns g t c =
+    as_found (made_of false) c.match-branch-2.items c.match-branch-2.failure _ c.in_ok-items.was
+    (elim c.match-branch-2.branch [
+      | array_inside-in-Some w ↦ rw w.reader-is (rw w.failure-is (rw w.items-is
+          (counted_made false _ _ _ c.in_ok-take_length.ensures.does
+          c.in_ok-take_length.ensures.gains w.definite_items-items.ensures.items _ w.in-Some.is
+          (omega arith) w.definite_items-items.ensures.memory
+          w.definite_items-items.ensures.does)))
+      | array_inside-in-None w ↦ rw w.reader-is (rw w.failure-is (rw w.items-is
+          (opened_made false _ _ _ c.in_ok-take_length.ensures.does
+          c.in_ok-take_length.ensures.gains w.indefinite_items-items.ensures.items w.in-None.is
+          w.indefinite_items-items.ensures.memory
+          w.indefinite_items-items.ensures.does)))
+    ])
 
-pub array_inside-returns-in_err-definite_items-in-Some :
-    goal.array_inside-returns-in_err-definite_items-in-Some
-array_inside-returns-in_err-definite_items-in-Some g t c =
-    rw c.from_residual-in_err-definite_items-in-Some.ensures (counted_gives false _
-    c.in_ok-take_length.ensures.does c.in_ok-take_length.ensures.gains tt (λ want. counted_asks
-    false _ c.in_ok-take_length.ensures.does _ c.in-Some.is (omega arith)
-    (c.in_err-definite_items-in-Some.ensures.memory want)) _ c.in-Some.is
-    c.in_err-definite_items-in-Some.ensures.does)
-
-pub array_inside-returns-in_ok-indefinite_items-in-None :
-    goal.array_inside-returns-in_ok-indefinite_items-in-None
-array_inside-returns-in_ok-indefinite_items-in-None g t c =
-    opened_gives false _ c.in_ok-take_length.ensures.does c.in_ok-take_length.ensures.gains
-    c.in_ok-indefinite_items-in-None.ensures.items tt c.in-None.is
-    c.in_ok-indefinite_items-in-None.ensures.does
-
-pub array_inside-returns-in_err-indefinite_items-in-None :
-    goal.array_inside-returns-in_err-indefinite_items-in-None
-array_inside-returns-in_err-indefinite_items-in-None g t c =
-    rw c.from_residual-in_err-indefinite_items-in-None.ensures (opened_gives false _
-    c.in_ok-take_length.ensures.does c.in_ok-take_length.ensures.gains tt (λ want. opened_asks
-    false _ c.in_ok-take_length.ensures.does c.in-None.is
-    (c.in_err-indefinite_items-in-None.ensures.memory want)) c.in-None.is
-    c.in_err-indefinite_items-in-None.ensures.does)
+pub array_inside-returns-in_err-items : goal.array_inside-returns-in_err-items
+array_inside-returns-in_err-items g t c =
+    rw c.from_residual-in_err-items.ensures (as_left (made_of false) c.match-branch-2.items
+    c.match-branch-2.failure c.in_err-items.was
+    (elim c.match-branch-2.branch [
+      | array_inside-in-Some w ↦ rw w.reader-is (rw w.failure-is (rw w.items-is
+          (counted_made false _ _ _ c.in_ok-take_length.ensures.does
+          c.in_ok-take_length.ensures.gains w.definite_items-items.ensures.items _ w.in-Some.is
+          (omega arith) w.definite_items-items.ensures.memory
+          w.definite_items-items.ensures.does)))
+      | array_inside-in-None w ↦ rw w.reader-is (rw w.failure-is (rw w.items-is
+          (opened_made false _ _ _ c.in_ok-take_length.ensures.does
+          c.in_ok-take_length.ensures.gains w.indefinite_items-items.ensures.items w.in-None.is
+          w.indefinite_items-items.ensures.memory
+          w.indefinite_items-items.ensures.does)))
+    ]))
 
 pub array_inside-returns-in_err-take_length : goal.array_inside-returns-in_err-take_length
 array_inside-returns-in_err-take_length g t c =
@@ -91,7 +98,8 @@ read_map-returns g t c =
 pub read_map-returns-then-not-step_in : goal.read_map-returns-then-not-step_in
 read_map-returns-then-not-step_in g t c =
     rw c.leave_deep.ensures (gives_err not_wanted (λ before shows. after_next _ shows
-    (ReadsUnder g.A.Encodings.exact) (RejectsOf g.A.Encodings.exact _) (parts_deep true _ refl
+    (ReadsUnder g.A.Encodings.canonical) (RejectsOf g.A.Encodings.canonical _)
+    (parts_deep true _ refl
     c.if-not-step_in.ensures.budget c.step_in.ensures.others)))
 
 pub map_inside-returns-in-Some-eq0 : goal.map_inside-returns-in-Some-eq0
@@ -101,37 +109,38 @@ map_inside-returns-in-Some-eq0 g t c =
     (c.in-Some-eq0.is ∙ ap Some c.in-Some-eq0.field-0-test) (none_follow _ (λ (v : Vec
     (Value × Value) Global). flat_values v.items) _ (ap flat_values c.new.ensures.items))
 
-pub map_inside-returns-in_ok-definite_members-in-Some :
-    goal.map_inside-returns-in_ok-definite_members-in-Some
-map_inside-returns-in_ok-definite_members-in-Some g t c =
-    counted_gives true _ c.in_ok-take_length.ensures.does c.in_ok-take_length.ensures.gains
-    c.in_ok-definite_members-in-Some.ensures.items tt _ c.in-Some.is
-    c.in_ok-definite_members-in-Some.ensures.does
+pub map_inside-returns : goal.map_inside-returns
+map_inside-returns g t c =
+    as_found (made_of true) c.match-branch-2.pairs c.match-branch-2.failure _ c.in_ok-pairs.was
+    (elim c.match-branch-2.branch [
+      | map_inside-in-Some w ↦ rw w.reader-is (rw w.failure-is (rw w.pairs-is
+          (counted_made true _ _ _ c.in_ok-take_length.ensures.does
+          c.in_ok-take_length.ensures.gains w.definite_pairs-pairs.ensures.items _ w.in-Some.is
+          (omega arith) w.definite_pairs-pairs.ensures.memory
+          w.definite_pairs-pairs.ensures.does)))
+      | map_inside-in-None w ↦ rw w.reader-is (rw w.failure-is (rw w.pairs-is
+          (opened_made true _ _ _ c.in_ok-take_length.ensures.does
+          c.in_ok-take_length.ensures.gains w.indefinite_pairs-pairs.ensures.items w.in-None.is
+          w.indefinite_pairs-pairs.ensures.memory
+          w.indefinite_pairs-pairs.ensures.does)))
+    ])
 
-pub map_inside-returns-in_err-definite_members-in-Some :
-    goal.map_inside-returns-in_err-definite_members-in-Some
-map_inside-returns-in_err-definite_members-in-Some g t c =
-    rw c.from_residual-in_err-definite_members-in-Some.ensures (counted_gives true _
-    c.in_ok-take_length.ensures.does c.in_ok-take_length.ensures.gains tt (λ want. counted_asks
-    true _ c.in_ok-take_length.ensures.does _ c.in-Some.is (omega arith)
-    (c.in_err-definite_members-in-Some.ensures.memory want)) _ c.in-Some.is
-    c.in_err-definite_members-in-Some.ensures.does)
-
-pub map_inside-returns-in_ok-indefinite_members-in-None :
-    goal.map_inside-returns-in_ok-indefinite_members-in-None
-map_inside-returns-in_ok-indefinite_members-in-None g t c =
-    opened_gives true _ c.in_ok-take_length.ensures.does c.in_ok-take_length.ensures.gains
-    c.in_ok-indefinite_members-in-None.ensures.items tt c.in-None.is
-    c.in_ok-indefinite_members-in-None.ensures.does
-
-pub map_inside-returns-in_err-indefinite_members-in-None :
-    goal.map_inside-returns-in_err-indefinite_members-in-None
-map_inside-returns-in_err-indefinite_members-in-None g t c =
-    rw c.from_residual-in_err-indefinite_members-in-None.ensures (opened_gives true _
-    c.in_ok-take_length.ensures.does c.in_ok-take_length.ensures.gains tt (λ want. opened_asks
-    true _ c.in_ok-take_length.ensures.does c.in-None.is
-    (c.in_err-indefinite_members-in-None.ensures.memory want)) c.in-None.is
-    c.in_err-indefinite_members-in-None.ensures.does)
+pub map_inside-returns-in_err-pairs : goal.map_inside-returns-in_err-pairs
+map_inside-returns-in_err-pairs g t c =
+    rw c.from_residual-in_err-pairs.ensures (as_left (made_of true) c.match-branch-2.pairs
+    c.match-branch-2.failure c.in_err-pairs.was
+    (elim c.match-branch-2.branch [
+      | map_inside-in-Some w ↦ rw w.reader-is (rw w.failure-is (rw w.pairs-is
+          (counted_made true _ _ _ c.in_ok-take_length.ensures.does
+          c.in_ok-take_length.ensures.gains w.definite_pairs-pairs.ensures.items _ w.in-Some.is
+          (omega arith) w.definite_pairs-pairs.ensures.memory
+          w.definite_pairs-pairs.ensures.does)))
+      | map_inside-in-None w ↦ rw w.reader-is (rw w.failure-is (rw w.pairs-is
+          (opened_made true _ _ _ c.in_ok-take_length.ensures.does
+          c.in_ok-take_length.ensures.gains w.indefinite_pairs-pairs.ensures.items w.in-None.is
+          w.indefinite_pairs-pairs.ensures.memory
+          w.indefinite_pairs-pairs.ensures.does)))
+    ]))
 
 pub map_inside-returns-in_err-take_length : goal.map_inside-returns-in_err-take_length
 map_inside-returns-in_err-take_length g t c =
@@ -160,9 +169,10 @@ read_tag-returns-in_err-number g t c =
 
 pub read_tag-returns : goal.read_tag-returns
 read_tag-returns g t c =
-    gives_on (λ h before shows. asks_after (λ xs us ys. in_tagged _ xs us ys) (reached_by
-    (c.in_ok-number.ensures.does before shows)) h) (λ d before shows. tag_does _ _ (reached_by
-    (c.in_ok-number.ensures.does before shows)) d) (omega (arith, c.in_ok-number.ensures.gains))
+    gives_on (λ h before shows. asks_after (λ xs us ys. in_tagged _ c.in_ok-number.number xs us ys)
+    (reached_by (c.in_ok-number.ensures.does before shows)) h) (λ d before shows. tag_does _ _
+    (reached_by (c.in_ok-number.ensures.does before shows)) d)
+    (omega (arith, c.in_ok-number.ensures.gains))
     (omega arith) c.read_tagged.ensures
 
 pub read_inside-returns-in-Begins : goal.read_inside-returns-in-Begins
@@ -213,55 +223,55 @@ indefinite_items-returns-in_err-keep-clause-does g t c =
     c.is_break.ensures.decodes c.in_ok-part.ensures c.if-not-branch.true).kept
     c.in_ok-value.ensures.does.moves.by))
 
-pub indefinite_members-loop-members-init : goal.indefinite_members-loop-members-init
-indefinite_members-loop-members-init g t c = record {
-  reached = none_read _ _ _ (ap flat_values c.new-members.ensures.items);
-  items = items_none (ap flat_values c.new-members.ensures.items);
+pub indefinite_pairs-loop-pairs-init : goal.indefinite_pairs-loop-pairs-init
+indefinite_pairs-loop-pairs-init g t c = record {
+  reached = none_read _ _ _ (ap flat_values c.new-pairs.ensures.items);
+  items = items_none (ap flat_values c.new-pairs.ensures.items);
 }
 
-pub indefinite_members-loop-members-preserved : goal.indefinite_members-loop-members-preserved
-indefinite_members-loop-members-preserved g t c =
-    let member = c.in_ok-member.member in
-    let members = c.loop-members.members.items in
-    let kept = ap flat_values c.in_ok-keep.ensures.kept ∙ flat-push members member in
+pub indefinite_pairs-loop-pairs-preserved : goal.indefinite_pairs-loop-pairs-preserved
+indefinite_pairs-loop-pairs-preserved g t c =
+    let item_pair = c.in_ok-pair.pair in
+    let pairs = c.loop-pairs.pairs.items in
+    let kept = ap flat_values c.in_ok-keep.ensures.kept ∙ flat-push pairs item_pair in
     record {
       reached =
-          put_read _ _ (member.0 ∷ member.1 ∷ []) kept (no_break_yet _ _
-          c.loop-members.invariant.reached c.is_break.ensures.decodes c.in_ok-part.ensures
-          c.if-not-branch.true) (reached_by c.in_ok-member.ensures.does);
+          put_read _ _ (item_pair.0 ∷ item_pair.1 ∷ []) kept (no_break_yet _ _
+          c.loop-pairs.invariant.reached c.is_break.ensures.decodes c.in_ok-part.ensures
+          c.if-not-branch.true) (reached_by c.in_ok-pair.ensures.does);
       items =
-          items_are _ _ (member.0 ∷ member.1 ∷ []) kept c.loop-members.invariant.items
-          (c.in_ok-member.ensures.ranged.0, (c.in_ok-member.ensures.ranged.1, tt));
+          items_are _ _ (item_pair.0 ∷ item_pair.1 ∷ []) kept c.loop-pairs.invariant.items
+          (c.in_ok-pair.ensures.ranged.0, (c.in_ok-pair.ensures.ranged.1, tt));
     }
 
-pub indefinite_members-returns-clause-does : goal.indefinite_members-returns-clause-does
-indefinite_members-returns-clause-does g t c =
-    does_ok _ _ (break_taken _ _ c.loop-members.invariant.reached c.is_break.ensures.decodes
+pub indefinite_pairs-returns-clause-does : goal.indefinite_pairs-returns-clause-does
+indefinite_pairs-returns-clause-does g t c =
+    does_ok _ _ (break_taken _ _ c.loop-pairs.invariant.reached c.is_break.ensures.decodes
     c.in_ok-part.ensures c.if-not-branch.false)
 
-pub indefinite_members-returns-in_err-part-clause-does :
-    goal.indefinite_members-returns-in_err-part-clause-does
-indefinite_members-returns-in_err-part-clause-does g t c =
-    rw c.from_residual.ensures (no_byte_left true _ c.loop-members.members.items _
-    c.loop-members.invariant.reached c.is_break.ensures.decodes c.in_err-part.ensures)
+pub indefinite_pairs-returns-in_err-part-clause-does :
+    goal.indefinite_pairs-returns-in_err-part-clause-does
+indefinite_pairs-returns-in_err-part-clause-does g t c =
+    rw c.from_residual.ensures (no_byte_left true _ c.loop-pairs.pairs.items _
+    c.loop-pairs.invariant.reached c.is_break.ensures.decodes c.in_err-part.ensures)
 
-pub indefinite_members-returns-in_err-member-clause-does :
-    goal.indefinite_members-returns-in_err-member-clause-does
-indefinite_members-returns-in_err-member-clause-does g t c =
-    rw c.from_residual-in_err-member.ensures (member_stops _ _ c.loop-members.members.items
-    (no_break_yet _ _ c.loop-members.invariant.reached c.is_break.ensures.decodes
-    c.in_ok-part.ensures c.if-not-branch.true) c.in_err-member.ensures.does)
+pub indefinite_pairs-returns-in_err-pair-clause-does :
+    goal.indefinite_pairs-returns-in_err-pair-clause-does
+indefinite_pairs-returns-in_err-pair-clause-does g t c =
+    rw c.from_residual-in_err-pair.ensures (pair_stops _ _ c.loop-pairs.pairs.items
+    (no_break_yet _ _ c.loop-pairs.invariant.reached c.is_break.ensures.decodes
+    c.in_ok-part.ensures c.if-not-branch.true) c.in_err-pair.ensures.does)
 
-pub indefinite_members-returns-in_err-keep-clause-does :
-    goal.indefinite_members-returns-in_err-keep-clause-does
-indefinite_members-returns-in_err-keep-clause-does g t c =
+pub indefinite_pairs-returns-in_err-keep-clause-does :
+    goal.indefinite_pairs-returns-in_err-keep-clause-does
+indefinite_pairs-returns-in_err-keep-clause-does g t c =
     rw c.from_residual-in_err-keep.ensures (does_no_memory _ _ (ap error_left
-    c.in_err-keep.ensures.memory) (kept_then (no_break_yet _ _ c.loop-members.invariant.reached
+    c.in_err-keep.ensures.memory) (kept_then (no_break_yet _ _ c.loop-pairs.invariant.reached
     c.is_break.ensures.decodes c.in_ok-part.ensures c.if-not-branch.true).kept
-    c.in_ok-member.ensures.does.moves.by))
+    c.in_ok-pair.ensures.does.moves.by))
 
-pub read_member-returns : goal.read_member-returns
-read_member-returns g t c =
+pub read_pair-returns : goal.read_pair-returns
+read_pair-returns g t c =
     record {
       does = does_ok _ _ (pair_read _ c.in_ok-key.ensures.does c.in_ok-value.ensures.does);
       memory = tt;
@@ -269,14 +279,14 @@ read_member-returns g t c =
       gains = omega (arith, c.in_ok-key.ensures.gains, c.in_ok-value.ensures.gains);
     }
 
-pub read_member-returns-in_err-key : goal.read_member-returns-in_err-key
-read_member-returns-in_err-key g t c =
+pub read_pair-returns-in_err-key : goal.read_pair-returns-in_err-key
+read_pair-returns-in_err-key g t c =
     rw c.from_residual.ensures (gives_err (λ want. asks_as (in_first _)
     (c.in_err-key.ensures.memory want)) (still_rejected _ _ _ _ (λ xs z rest s. inl s)
     c.in_err-key.ensures.does))
 
-pub read_member-returns-in_err-value : goal.read_member-returns-in_err-value
-read_member-returns-in_err-value g t c =
+pub read_pair-returns-in_err-value : goal.read_pair-returns-in_err-value
+read_pair-returns-in_err-value g t c =
     rw c.from_residual-in_err-value.ensures (gives_err (λ want. asks_after
     (λ xs us ys h s. in_next _ 1 xs us ys (value_is _ _ _ xs us h) s) (reached_by
     c.in_ok-key.ensures.does) (c.in_err-value.ensures.memory want)) (value_rejected _
@@ -288,9 +298,9 @@ read_value-returns g t c =
     c.step_out.ensures.budget c.step_out.ensures.others
     c.read_inside-outcome.ensures
 
-pub definite_members-returns-then-not-make_room-clause-does :
-    goal.definite_members-returns-then-not-make_room-clause-does
-definite_members-returns-then-not-make_room-clause-does g t c =
+pub definite_pairs-returns-then-not-make_room-clause-does :
+    goal.definite_pairs-returns-then-not-make_room-clause-does
+definite_pairs-returns-then-not-make_room-clause-does g t c =
     does_no_memory _ _ refl (kept_alike _)
 
 pub read_value-returns-then-not-step_in : goal.read_value-returns-then-not-step_in
@@ -306,12 +316,12 @@ indefinite_items-loop-items-smaller g t c =
       c.in_ok-value.ensures.gains,
     )
 
-pub indefinite_members-loop-members-smaller : goal.indefinite_members-loop-members-smaller
-indefinite_members-loop-members-smaller g t c =
+pub indefinite_pairs-loop-pairs-smaller : goal.indefinite_pairs-loop-pairs-smaller
+indefinite_pairs-loop-pairs-smaller g t c =
     omega (
       arith,
       (rw c.in_ok-part.ensures at c.is_break.ensures.decodes.moves).by.bound,
-      c.in_ok-member.ensures.gains,
+      c.in_ok-pair.ensures.gains,
     )
 
 pub read_tagged-returns-in_err-inner : goal.read_tagged-returns-in_err-inner
@@ -366,32 +376,32 @@ items_inside-returns-in_err-next g t c =
     rw c.from_residual.ensures (gives_err c.in_err-next.ensures.memory (turn_ends _ _ _ _ c.requires
     c.in_err-next.ensures.puts))
 
-pub more_members-returns : goal.more_members-returns
-more_members-returns g t c =
+pub more_pairs-returns : goal.more_pairs-returns
+more_pairs-returns g t c =
     items_stepped _ c.if-not-step_in.ensures.budget c.step_in.ensures.others
     c.step_out.ensures.budget c.step_out.ensures.others _ _ _
-    c.members_inside-outcome.ensures
+    c.pairs_inside-outcome.ensures
 
-pub more_members-returns-then-not-step_in : goal.more_members-returns-then-not-step_in
-more_members-returns-then-not-step_in g t c =
+pub more_pairs-returns-then-not-step_in : goal.more_pairs-returns-then-not-step_in
+more_pairs-returns-then-not-step_in g t c =
     rw c.leave_deep.ensures (gives_err not_wanted (turn_unstepped _ _ _ _ c.requires refl refl
     c.if-not-step_in.ensures.budget c.step_in.ensures.others))
 
-pub members_inside-returns-in_ok-value-in-Some : goal.members_inside-returns-in_ok-value-in-Some
-members_inside-returns-in_ok-value-in-Some g t c =
+pub pairs_inside-returns-in_ok-value-in-Some : goal.pairs_inside-returns-in_ok-value-in-Some
+pairs_inside-returns-in_ok-value-in-Some g t c =
     item_put _ _ _ _ _ _ _ _ _ c.in-Some.is c.in_ok-next.ensures c.put_value.ensures.kept
     c.put_value.ensures.memory c.in_ok-value-in-Some.ensures
 
-pub members_inside-returns-in_err-value-in-Some : goal.members_inside-returns-in_err-value-in-Some
-members_inside-returns-in_err-value-in-Some g t c =
+pub pairs_inside-returns-in_err-value-in-Some : goal.pairs_inside-returns-in_err-value-in-Some
+pairs_inside-returns-in_err-value-in-Some g t c =
     rw c.from_residual-in_err-value-in-Some.ensures (gives_err (λ want. turn_asks _
     (run_before _ _ _ _ _ c.in-Some.is c.in_ok-next.ensures.puts)
     (c.in_err-value-in-Some.ensures.memory want)) (turn_rejected _ _ _ _ _
     (run_before _ _ _ _ _ c.in-Some.is c.in_ok-next.ensures.puts) _ (on_found _ c.in-Some.is
     c.in_ok-next.ensures.lacks) c.in_err-value-in-Some.ensures.does))
 
-pub members_inside-returns-in_err-next : goal.members_inside-returns-in_err-next
-members_inside-returns-in_err-next g t c =
+pub pairs_inside-returns-in_err-next : goal.pairs_inside-returns-in_err-next
+pairs_inside-returns-in_err-next g t c =
     rw c.from_residual.ensures (gives_err c.in_err-next.ensures.memory (turn_ends _ _ _ _ c.requires
     c.in_err-next.ensures.puts))
 
@@ -420,40 +430,41 @@ definite_items-returns-in_err-more_items-clause-does g t c =
 
 -- ---- a map whose pairs are counted
 
-pub definite_members-loop-alloc-init : goal.definite_members-loop-alloc-init
-definite_members-loop-alloc-init g t c = record {
+pub definite_pairs-loop-alloc-init : goal.definite_pairs-loop-alloc-init
+definite_pairs-loop-alloc-init g t c = record {
   reached = none_read _ _ _ (cc);
   items = items_none (cc);
   few = none_too_many _ _ (cc);
 }
 
-pub definite_members-loop-alloc-preserved : goal.definite_members-loop-alloc-preserved
-definite_members-loop-alloc-preserved g t c = record {
+pub definite_pairs-loop-alloc-preserved : goal.definite_pairs-loop-alloc-preserved
+definite_pairs-loop-alloc-preserved g t c = record {
   reached =
-      ran _ _ _ _ c.loop-alloc.invariant.reached c.in_ok-more_members.ensures.does;
-  items = c.in_ok-more_members.ensures.ranged.0 c.loop-alloc.invariant.items;
-  few = c.in_ok-more_members.ensures.ranged.1;
+      ran _ _ _ _ c.loop-alloc.invariant.reached c.in_ok-more_pairs.ensures.does;
+  items = c.in_ok-more_pairs.ensures.ranged.0 c.loop-alloc.invariant.items;
+  few = c.in_ok-more_pairs.ensures.ranged.1;
 }
 
-pub definite_members-returns-in_err-more_members-clause-does :
-    goal.definite_members-returns-in_err-more_members-clause-does
-definite_members-returns-in_err-more_members-clause-does g t c =
+pub definite_pairs-returns-in_err-more_pairs-clause-does :
+    goal.definite_pairs-returns-in_err-more_pairs-clause-does
+definite_pairs-returns-in_err-more_pairs-clause-does g t c =
     rw c.from_residual.ensures (run_rejects _ _ _ _ c.loop-alloc.invariant.reached _
-    c.in_err-more_members.ensures.does)
+    c.in_err-more_pairs.ensures.does)
 
-pub definite_members-returns-clause-does : goal.definite_members-returns-clause-does
-definite_members-returns-clause-does g t c =
+pub definite_pairs-returns-clause-does : goal.definite_pairs-returns-clause-does
+definite_pairs-returns-clause-does g t c =
     let budget = (g.S.Source.view c.args.reader.now).budget in
     let pairs = c.loop-alloc.pairs in
-    let all = both_there pairs.members.items pairs.key c.args.count c.loop-alloc.invariant.few
+    let all = both_there pairs.pairs.items pairs.key c.args.count c.loop-alloc.invariant.few
     (c.lacks.ensures.full c.loop-alloc-test.false) in
-    does_ok _ _ (reached_as (ReadEach _ (flat pairs) budget) _ (λ xs ys h. pairs_are_read _ budget
-    pairs.members.items pairs.key c.args.count xs ys all h) c.loop-alloc.invariant.reached)
+    does_ok _ _ (reached_as (ReadEach _ (pair_values pairs) budget) _ (λ xs ys h. pairs_are_read _
+    budget
+    pairs.pairs.items pairs.key c.args.count xs ys all h) c.loop-alloc.invariant.reached)
 
-pub definite_members-returns-clause-items : goal.definite_members-returns-clause-items
-definite_members-returns-clause-items g t c =
+pub definite_pairs-returns-clause-items : goal.definite_pairs-returns-clause-items
+definite_pairs-returns-clause-items g t c =
     let pairs = c.loop-alloc.pairs in
-    pairs_are pairs.members.items pairs.key c.args.count (both_there pairs.members.items pairs.key
+    pairs_are pairs.pairs.items pairs.key c.args.count (both_there pairs.pairs.items pairs.key
     c.args.count c.loop-alloc.invariant.few (c.lacks.ensures.full c.loop-alloc-test.false))
     c.loop-alloc.invariant.items
 
@@ -484,28 +495,28 @@ indefinite_items-returns-in_err-keep-clause-memory g t c =
     c.in_ok-part.ensures c.if-not-branch.true) (reached_as _ _ (λ xs ys h. one_item _ _ xs _ ys h)
     (reached_by c.in_ok-value.ensures.does)))
 
-pub indefinite_members-returns-in_err-part-clause-memory :
-    goal.indefinite_members-returns-in_err-part-clause-memory
-indefinite_members-returns-in_err-part-clause-memory g t c =
+pub indefinite_pairs-returns-in_err-part-clause-memory :
+    goal.indefinite_pairs-returns-in_err-part-clause-memory
+indefinite_pairs-returns-in_err-part-clause-memory g t c =
     rw c.from_residual.ensures (λ want. absurd (no_want (rw c.in_err-part.ensures at
     c.is_break.ensures.decodes.memory) want))
 
-pub indefinite_members-returns-in_err-member-clause-memory :
-    goal.indefinite_members-returns-in_err-member-clause-memory
-indefinite_members-returns-in_err-member-clause-memory g t c =
-    rw c.from_residual-in_err-member.ensures (λ want. asks_after (λ xs us ys h s. in_further _ xs us
+pub indefinite_pairs-returns-in_err-pair-clause-memory :
+    goal.indefinite_pairs-returns-in_err-pair-clause-memory
+indefinite_pairs-returns-in_err-pair-clause-memory g t c =
+    rw c.from_residual-in_err-pair.ensures (λ want. asks_after (λ xs us ys h s. in_further _ xs us
     ys (values_are _ _ _ xs us h.0) s)
-    (no_break_yet _ _ c.loop-members.invariant.reached c.is_break.ensures.decodes
-    c.in_ok-part.ensures c.if-not-branch.true) (c.in_err-member.ensures.memory want))
+    (no_break_yet _ _ c.loop-pairs.invariant.reached c.is_break.ensures.decodes
+    c.in_ok-part.ensures c.if-not-branch.true) (c.in_err-pair.ensures.memory want))
 
-pub indefinite_members-returns-in_err-keep-clause-memory :
-    goal.indefinite_members-returns-in_err-keep-clause-memory
-indefinite_members-returns-in_err-keep-clause-memory g t c =
-    rw c.from_residual-in_err-keep.ensures (λ want. put_grows _ _ (c.in_ok-member.member.0
-    ∷ c.in_ok-member.member.1 ∷ []) (omega arith)
-    (no_break_yet _ _ c.loop-members.invariant.reached c.is_break.ensures.decodes
+pub indefinite_pairs-returns-in_err-keep-clause-memory :
+    goal.indefinite_pairs-returns-in_err-keep-clause-memory
+indefinite_pairs-returns-in_err-keep-clause-memory g t c =
+    rw c.from_residual-in_err-keep.ensures (λ want. put_grows _ _ (c.in_ok-pair.pair.0
+    ∷ c.in_ok-pair.pair.1 ∷ []) (omega arith)
+    (no_break_yet _ _ c.loop-pairs.invariant.reached c.is_break.ensures.decodes
     c.in_ok-part.ensures c.if-not-branch.true) (reached_by
-    c.in_ok-member.ensures.does))
+    c.in_ok-pair.ensures.does))
 
 pub definite_items-returns-then-not-make_room-clause-memory :
     goal.definite_items-returns-then-not-make_room-clause-memory
@@ -519,14 +530,14 @@ definite_items-returns-in_err-more_items-clause-memory g t c =
     us ys (values_are _ _ _ xs us h) s)) c.loop-alloc.invariant.reached
     (c.in_err-more_items.ensures.memory want))
 
-pub definite_members-returns-then-not-make_room-clause-memory :
-    goal.definite_members-returns-then-not-make_room-clause-memory
-definite_members-returns-then-not-make_room-clause-memory g t c want =
+pub definite_pairs-returns-then-not-make_room-clause-memory :
+    goal.definite_pairs-returns-then-not-make_room-clause-memory
+definite_pairs-returns-then-not-make_room-clause-memory g t c want =
     asks_here _ (λ xs ys h. inl (0, omega arith, values_are _ _ [] xs ys h)) (none_read _ _ [] refl)
 
-pub definite_members-returns-in_err-more_members-clause-memory :
-    goal.definite_members-returns-in_err-more_members-clause-memory
-definite_members-returns-in_err-more_members-clause-memory g t c =
+pub definite_pairs-returns-in_err-more_pairs-clause-memory :
+    goal.definite_pairs-returns-in_err-more_pairs-clause-memory
+definite_pairs-returns-in_err-more_pairs-clause-memory g t c =
     rw c.from_residual.ensures (λ want. asks_after (λ xs us ys h s. in_any _ xs ys (in_further _ xs
     us ys (values_are _ _ _ xs us h) s)) c.loop-alloc.invariant.reached
-    (c.in_err-more_members.ensures.memory want))
+    (c.in_err-more_pairs.ensures.memory want))

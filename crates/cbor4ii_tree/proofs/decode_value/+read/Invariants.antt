@@ -1,5 +1,6 @@
 use Rattle.std.proofs.Common.{◌+◌, ◌*◌, ◌≤◌, length}
-use Rattle.cbor4ii_tree.specs.{Item.AreItems, LeafRuns.flat, Valuing.flat_values, View.items_view}
+use Rattle.cbor4ii_tree.specs.{Basis.Item.AreItems, Inner.LeafRuns.pair_values}
+use Rattle.cbor4ii_tree.specs.{Inner.Valuing.flat_values, Basis.View.items_view}
 use Rattle.cbor4ii_tree.proofs.{skip_calls.Doing.Reached, values.LeafRuns.ReadEach}
 use Rattle.cbor4ii_tree.proofs.decode_value.+read.Given as goal
 
@@ -36,14 +37,14 @@ decreases-definite_items g l = 8 * (g.S.Source.view l.reader.now).bound + 7
 abbrev pub decreases-indefinite_items : goal.decreases-indefinite_items
 decreases-indefinite_items g l = 8 * (g.S.Source.view l.reader.now).bound + 7
 
-abbrev pub decreases-definite_members : goal.decreases-definite_members
-decreases-definite_members g l = 8 * (g.S.Source.view l.reader.now).bound + 7
+abbrev pub decreases-definite_pairs : goal.decreases-definite_pairs
+decreases-definite_pairs g l = 8 * (g.S.Source.view l.reader.now).bound + 7
 
-abbrev pub decreases-indefinite_members : goal.decreases-indefinite_members
-decreases-indefinite_members g l = 8 * (g.S.Source.view l.reader.now).bound + 7
+abbrev pub decreases-indefinite_pairs : goal.decreases-indefinite_pairs
+decreases-indefinite_pairs g l = 8 * (g.S.Source.view l.reader.now).bound + 7
 
-abbrev pub decreases-read_member : goal.decreases-read_member
-decreases-read_member g l = 8 * (g.S.Source.view l.reader.now).bound + 6
+abbrev pub decreases-read_pair : goal.decreases-read_pair
+decreases-read_pair g l = 8 * (g.S.Source.view l.reader.now).bound + 6
 
 abbrev pub decreases-more_items : goal.decreases-more_items
 decreases-more_items g l = 8 * (g.S.Source.view l.reader.now).bound + 5
@@ -51,15 +52,15 @@ decreases-more_items g l = 8 * (g.S.Source.view l.reader.now).bound + 5
 abbrev pub decreases-items_inside : goal.decreases-items_inside
 decreases-items_inside g l = 8 * (g.S.Source.view l.reader.now).bound + 4
 
-abbrev pub decreases-more_members : goal.decreases-more_members
-decreases-more_members g l = 8 * (g.S.Source.view l.reader.now).bound + 5
+abbrev pub decreases-more_pairs : goal.decreases-more_pairs
+decreases-more_pairs g l = 8 * (g.S.Source.view l.reader.now).bound + 5
 
-abbrev pub decreases-members_inside : goal.decreases-members_inside
-decreases-members_inside g l = 8 * (g.S.Source.view l.reader.now).bound + 4
+abbrev pub decreases-pairs_inside : goal.decreases-pairs_inside
+decreases-pairs_inside g l = 8 * (g.S.Source.view l.reader.now).bound + 4
 
 abbrev pub invariant-definite_items-loop-alloc : goal.invariant-definite_items-loop-alloc
 invariant-definite_items-loop-alloc g l = record {
-  reached : Reached (ReadEach g.A.Encodings.exact l.items.items (g.S.Source.view
+  reached : Reached (ReadEach g.A.Encodings.canonical l.items.items (g.S.Source.view
       l.fn.reader).budget) (g.S.Source.view l.fn.reader) (g.S.Source.view l.reader);
   items : AreItems (items_view l.items.items);
   few : length l.items.items ≤ 1 * l.count;
@@ -68,21 +69,21 @@ invariant-definite_items-loop-alloc g l = record {
 abbrev pub decreases-definite_items-loop-alloc : goal.decreases-definite_items-loop-alloc
 decreases-definite_items-loop-alloc g l = (g.S.Source.view l.reader).bound
 
-abbrev pub invariant-definite_members-loop-alloc : goal.invariant-definite_members-loop-alloc
-invariant-definite_members-loop-alloc g l = record {
-  reached : Reached (ReadEach g.A.Encodings.exact (flat l.pairs) (g.S.Source.view
+abbrev pub invariant-definite_pairs-loop-alloc : goal.invariant-definite_pairs-loop-alloc
+invariant-definite_pairs-loop-alloc g l = record {
+  reached : Reached (ReadEach g.A.Encodings.canonical (pair_values l.pairs) (g.S.Source.view
       l.fn.reader).budget) (g.S.Source.view l.fn.reader) (g.S.Source.view l.reader);
-  items : AreItems (items_view (flat l.pairs));
-  few : length (flat l.pairs) ≤ 2 * l.count;
+  items : AreItems (items_view (pair_values l.pairs));
+  few : length (pair_values l.pairs) ≤ 2 * l.count;
 }
 
-abbrev pub decreases-definite_members-loop-alloc : goal.decreases-definite_members-loop-alloc
-decreases-definite_members-loop-alloc g l = (g.S.Source.view l.reader).bound
+abbrev pub decreases-definite_pairs-loop-alloc : goal.decreases-definite_pairs-loop-alloc
+decreases-definite_pairs-loop-alloc g l = (g.S.Source.view l.reader).bound
 
 abbrev pub invariant-indefinite_items-loop-items : goal.invariant-indefinite_items-loop-items
 invariant-indefinite_items-loop-items g l =
     record {
-      reached : Reached (ReadEach g.A.Encodings.exact l.items.items (g.S.Source.view
+      reached : Reached (ReadEach g.A.Encodings.canonical l.items.items (g.S.Source.view
           l.fn.reader).budget) (g.S.Source.view l.fn.reader) (g.S.Source.view l.reader);
       items : AreItems (items_view l.items.items);
     }
@@ -90,16 +91,16 @@ invariant-indefinite_items-loop-items g l =
 abbrev pub decreases-indefinite_items-loop-items : goal.decreases-indefinite_items-loop-items
 decreases-indefinite_items-loop-items g l = (g.S.Source.view l.reader).bound
 
-abbrev pub invariant-indefinite_members-loop-members :
-    goal.invariant-indefinite_members-loop-members
-invariant-indefinite_members-loop-members g l =
+abbrev pub invariant-indefinite_pairs-loop-pairs :
+    goal.invariant-indefinite_pairs-loop-pairs
+invariant-indefinite_pairs-loop-pairs g l =
     record {
-      reached : Reached (ReadEach g.A.Encodings.exact (flat_values l.members.items)
+      reached : Reached (ReadEach g.A.Encodings.canonical (flat_values l.pairs.items)
           (g.S.Source.view l.fn.reader).budget) (g.S.Source.view l.fn.reader)
           (g.S.Source.view l.reader);
-      items : AreItems (items_view (flat_values l.members.items));
+      items : AreItems (items_view (flat_values l.pairs.items));
     }
 
-abbrev pub decreases-indefinite_members-loop-members :
-    goal.decreases-indefinite_members-loop-members
-decreases-indefinite_members-loop-members g l = (g.S.Source.view l.reader).bound
+abbrev pub decreases-indefinite_pairs-loop-pairs :
+    goal.decreases-indefinite_pairs-loop-pairs
+decreases-indefinite_pairs-loop-pairs g l = (g.S.Source.view l.reader).bound

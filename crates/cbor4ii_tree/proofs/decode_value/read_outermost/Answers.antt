@@ -1,5 +1,5 @@
 use Rattle.std.proofs.Common.{refl}
-use Rattle.cbor4ii_tree.specs.{InputError.value_name}
+use Rattle.cbor4ii_tree.specs.{Basis.InputError.value_name}
 use Rattle.cbor4ii_tree.proofs.{skip_calls.Doing.does_no_step, values.Calls.value_no_step}
 use Rattle.cbor4ii_tree.proofs.values.{Asking.not_wanted, Gives.{gives_err, value_stepped}}
 use Rattle.cbor4ii_tree.proofs.decode_value.read_outermost.Goals as goal
@@ -12,5 +12,5 @@ returns g c =
 pub returns-then-not-step_in : goal.returns-then-not-step_in
 returns-then-not-step_in g c =
     rw c.leave_deep.ensures (gives_err not_wanted (does_no_step value_name _ _ refl refl (λ none xs.
-    value_no_step g.A.Encodings.exact _ none xs) c.if-not-step_in.ensures.budget
+    value_no_step g.A.Encodings.canonical _ none xs) c.if-not-step_in.ensures.budget
     c.step_in.ensures.others))

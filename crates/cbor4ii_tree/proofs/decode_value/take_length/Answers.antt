@@ -4,9 +4,10 @@ use Rattle.cbor4ii_tree.proofs.decode_value.take_length.Goals as goal
 
 pub returns-in-Some : goal.returns-in-Some
 returns-in-Some g c =
-    let exact = g.A.Encodings.exact in
+    let canonical = g.A.Encodings.canonical in
     record {
-      does = λ before shows. does_ok _ _ (takes_head exact c.args.next c.args.major c.in-Some.head
+      does = λ before shows. does_ok _ _ (takes_head canonical c.args.next c.args.major
+          c.in-Some.head
           shows c.in-Some.is c.requires.major c.advance.ensures);
       memory = tt;
       ranged = tt;

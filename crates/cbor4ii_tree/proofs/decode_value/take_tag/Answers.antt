@@ -1,13 +1,13 @@
-use Rattle.cbor4ii_tree.specs.Valuing.{RejectsOf, TakesTag}
+use Rattle.cbor4ii_tree.specs.Inner.Valuing.{RejectsOf, TakesTag}
 use Rattle.cbor4ii_tree.proofs.{skip_calls.Doing.does_ok, values.ByHead.{after_next, takes_head}}
 use Rattle.cbor4ii_tree.proofs.values.{ByHead.head_gains, Gives.gives_as}
 use Rattle.cbor4ii_tree.proofs.decode_value.take_tag.Goals as goal
 
 pub returns-in-Some : goal.returns-in-Some
 returns-in-Some g c =
-    let exact = g.A.Encodings.exact in
+    let canonical = g.A.Encodings.canonical in
     record {
-      does = λ before shows. does_ok _ _ (takes_head exact c.args.next 6 c.in-Some.head shows
+      does = λ before shows. does_ok _ _ (takes_head canonical c.args.next 6 c.in-Some.head shows
           c.in-Some.is c.requires.major c.advance.ensures);
       memory = tt;
       ranged = tt;
@@ -17,4 +17,4 @@ returns-in-Some g c =
 pub returns-in-None : goal.returns-in-None
 returns-in-None g c =
     gives_as (λ never. never) (λ d before shows. after_next c.args.next shows
-    (TakesTag g.A.Encodings.exact) (RejectsOf g.A.Encodings.exact 6) d) c.take_tag.ensures
+    (TakesTag g.A.Encodings.canonical) (RejectsOf g.A.Encodings.canonical 6) d) c.take_tag.ensures

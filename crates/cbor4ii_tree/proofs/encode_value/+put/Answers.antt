@@ -5,11 +5,12 @@ use mir.Syntax.{w128}
 use mir.Val.{to_z, of_z}
 use Rattle.cbor4ii_items.specs.Laws.SequenceBytes.{items_then, items_err}
 use Rattle.cbor4ii_items.specs.Laws.Written.{writes_then, writes_err, writes_as, appends_then}
-use Rattle.cbor4ii_tree.specs.{Item.integer, View.view, Canonical.canonical_encoding}
-use Rattle.cbor4ii_tree.specs.Encoding.{value_bytes, member_bytes}
+use Rattle.cbor4ii_tree.specs.{Basis.Item.integer, Basis.View.view}
+use Rattle.cbor4ii_tree.specs.{Basis.Canonical.canonical_encoding}
+use Rattle.cbor4ii_tree.specs.Calls.Encoding.{value_bytes, value_pair_bytes}
 use Rattle.cbor4ii_tree.proofs.values.Encoding.{Tag-bytes, Bool-bytes, view-Integer, Array-bytes}
 use Rattle.cbor4ii_tree.proofs.{values.Encoding.Map-bytes, values.InRange.items_step}
-use Rattle.cbor4ii_tree.proofs.values.InRange.{members_step, array_in_range, map_in_range}
+use Rattle.cbor4ii_tree.proofs.values.InRange.{pairs_step, array_in_range, map_in_range}
 use Rattle.cbor4ii_tree.proofs.{values.InRange.text_in_range, values.Sent.{on_some, on_any_some}}
 use Rattle.cbor4ii_tree.proofs.encode_value.+put.Goals as goal
 
@@ -30,34 +31,34 @@ put_items-loop-item-preserved g t c = record {
       c.in_ok-put_value.ensures.item;
 }
 
-pub put_members-returns-in_err-put_value-clause-writes :
-    goal.put_members-returns-in_err-put_value-clause-writes
-put_members-returns-in_err-put_value-clause-writes g t c =
-    rw c.from_residual.ensures (items_err member_bytes _ _ _ c.loop-member-test.true
-    c.member-item.is c.loop-member.invariant.appends c.loop-member.invariant.counts (writes_err _
+pub put_pairs-returns-in_err-put_value-clause-writes :
+    goal.put_pairs-returns-in_err-put_value-clause-writes
+put_pairs-returns-in_err-put_value-clause-writes g t c =
+    rw c.from_residual.ensures (items_err value_pair_bytes _ _ _ c.loop-pair-test.true
+    c.pair-item.is c.loop-pair.invariant.appends c.loop-pair.invariant.counts (writes_err _
     c.in_err-put_value.ensures.writes))
 
-pub put_members-returns-in_err-put_value-2-clause-writes :
-    goal.put_members-returns-in_err-put_value-2-clause-writes
-put_members-returns-in_err-put_value-2-clause-writes g t c =
-    rw c.from_residual-in_err-put_value-2.ensures (items_err member_bytes c.args.members.now
-    c.loop-member.member-index c.member-item.result c.loop-member-test.true c.member-item.is
-    c.loop-member.invariant.appends c.loop-member.invariant.counts (writes_then _
+pub put_pairs-returns-in_err-put_value-2-clause-writes :
+    goal.put_pairs-returns-in_err-put_value-2-clause-writes
+put_pairs-returns-in_err-put_value-2-clause-writes g t c =
+    rw c.from_residual-in_err-put_value-2.ensures (items_err value_pair_bytes c.args.pairs.now
+    c.loop-pair.pair-index c.pair-item.result c.loop-pair-test.true c.pair-item.is
+    c.loop-pair.invariant.appends c.loop-pair.invariant.counts (writes_then _
     c.in_ok-put_value.ensures.writes c.in_err-put_value-2.ensures.writes))
 
-pub put_members-loop-member-preserved : goal.put_members-loop-member-preserved
-put_members-loop-member-preserved g t c =
+pub put_pairs-loop-pair-preserved : goal.put_pairs-loop-pair-preserved
+put_pairs-loop-pair-preserved g t c =
     record {
       appends =
-          items_then member_bytes _ _ _ _ _ _ c.loop-member-test.true c.member-item.is
-          c.loop-member.invariant.appends (appends_then _ _ _ _ _
+          items_then value_pair_bytes _ _ _ _ _ _ c.loop-pair-test.true c.pair-item.is
+          c.loop-pair.invariant.appends (appends_then _ _ _ _ _
           c.in_ok-put_value.ensures.writes.appends c.in_ok-put_value-2.ensures.writes.appends);
       counts =
           c.in_ok-put_value-2.ensures.writes.counts ∙ c.in_ok-put_value.ensures.writes.counts ∙
-          c.loop-member.invariant.counts;
-      members =
-          members_step _ _ _ c.loop-member-test.true c.member-item.is
-          c.loop-member.invariant.members c.in_ok-put_value.ensures.item
+          c.loop-pair.invariant.counts;
+      pairs =
+          pairs_step _ _ _ c.loop-pair-test.true c.pair-item.is
+          c.loop-pair.invariant.pairs c.in_ok-put_value.ensures.item
           c.in_ok-put_value-2.ensures.item;
     }
 
@@ -77,7 +78,7 @@ put_map-returns-in_err-put_head-clause-writes g t c =
 
 pub put_map-returns-clause-writes : goal.put_map-returns-clause-writes
 put_map-returns-clause-writes g t c =
-    writes_then _ c.in_ok-put_head.ensures.writes.writes c.put_members.ensures.writes
+    writes_then _ c.in_ok-put_head.ensures.writes.writes c.put_pairs.ensures.writes
 
 pub put_tag-returns-in_err-put_head-clause-writes :
     goal.put_tag-returns-in_err-put_head-clause-writes
@@ -114,8 +115,8 @@ put_value-returns-in-Array-clause-item g t c =
 pub put_value-returns-in-Map-clause-item : goal.put_value-returns-in-Map-clause-item
 put_value-returns-in-Map-clause-item g t c =
     on_some c.put_map.result
-    (map_in_range c.args.value.now c.in-Map.members c.deref-in-Map.result.now c.in-Map.is
-    c.deref-in-Map.ensures.value c.deref-in-Map.type_inv.0) c.put_map.ensures.members
+    (map_in_range c.args.value.now c.in-Map.pairs c.deref-in-Map.result.now c.in-Map.is
+    c.deref-in-Map.ensures.value c.deref-in-Map.type_inv.0) c.put_map.ensures.pairs
 
 pub put_value-returns-in-Array-clause-writes : goal.put_value-returns-in-Array-clause-writes
 put_value-returns-in-Array-clause-writes g t c =

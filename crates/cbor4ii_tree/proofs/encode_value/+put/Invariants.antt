@@ -1,8 +1,9 @@
 use Rattle.std.proofs.Common.{◌≡◌, take}
 use Rattle.cbor4ii_rw.specs.Writer.{Appends}
 use Rattle.cbor4ii_items.specs.SequenceBytes.{items_bytes}
-use Rattle.cbor4ii_tree.specs.{Encoding.{value_bytes, member_bytes}, Item.{AreItems, AreMembers}}
-use Rattle.cbor4ii_tree.specs.View.{items_view, members_view}
+use Rattle.cbor4ii_tree.specs.{Calls.Encoding.{value_bytes, value_pair_bytes}}
+use Rattle.cbor4ii_tree.specs.{Basis.Item.{AreItems, AreItemPairs}}
+use Rattle.cbor4ii_tree.specs.Basis.View.{items_view, pairs_view}
 use Rattle.cbor4ii_tree.proofs.encode_value.+put.Given as goal
 
 -- so many were written, one after another
@@ -14,10 +15,10 @@ invariant-put_items-loop-item g l = record {
   items : AreItems (items_view (take l.item-index l.items));
 }
 
-abbrev pub invariant-put_members-loop-member : goal.invariant-put_members-loop-member
-invariant-put_members-loop-member g l = record {
-  appends : Appends (items_bytes member_bytes (take l.member-index l.members))
+abbrev pub invariant-put_pairs-loop-pair : goal.invariant-put_pairs-loop-pair
+invariant-put_pairs-loop-pair g l = record {
+  appends : Appends (items_bytes value_pair_bytes (take l.pair-index l.pairs))
       (g.W.Write.view l.fn.writer).written (g.W.Write.view l.writer).written;
   counts : (g.W.Write.view l.writer).failures ≡ (g.W.Write.view l.fn.writer).failures;
-  members : AreMembers (members_view (take l.member-index l.members));
+  pairs : AreItemPairs (pairs_view (take l.pair-index l.pairs));
 }

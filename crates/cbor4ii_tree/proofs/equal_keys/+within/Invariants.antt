@@ -1,6 +1,7 @@
 use Rattle.std.proofs.Common.{◌↔◌, drop}
-use Rattle.cbor4ii_tree.specs.Access.{HasEqualKeys, HasTwoPairs, PairHasMapWith, SomeHasMapWith}
-use Rattle.cbor4ii_tree.specs.View.{items_view, members_view}
+use Rattle.cbor4ii_tree.specs.Calls.Access.{HasEqualKeys, HasTwoPairs, PairHasMapWith}
+use Rattle.cbor4ii_tree.specs.Calls.Access.{SomeHasMapWith}
+use Rattle.cbor4ii_tree.specs.Basis.View.{items_view, pairs_view}
 use Rattle.cbor4ii_tree.proofs.equal_keys.+within.Given as goal
 
 -- what the rest has is what all have
@@ -11,9 +12,9 @@ invariant-repeats_in_items-loop-item l =
     × (SomeHasMapWith HasTwoPairs (items_view (drop l.item-index l.items))
     → SomeHasMapWith HasTwoPairs (items_view l.items))
 
-abbrev pub invariant-repeats_in_members-loop-member : goal.invariant-repeats_in_members-loop-member
-invariant-repeats_in_members-loop-member l =
-    (PairHasMapWith HasEqualKeys (members_view l.members)
-    ↔ PairHasMapWith HasEqualKeys (members_view (drop l.member-index l.members)))
-    × (PairHasMapWith HasTwoPairs (members_view (drop l.member-index l.members))
-    → PairHasMapWith HasTwoPairs (members_view l.members))
+abbrev pub invariant-repeats_in_pairs-loop-pair : goal.invariant-repeats_in_pairs-loop-pair
+invariant-repeats_in_pairs-loop-pair l =
+    (PairHasMapWith HasEqualKeys (pairs_view l.pairs)
+    ↔ PairHasMapWith HasEqualKeys (pairs_view (drop l.pair-index l.pairs)))
+    × (PairHasMapWith HasTwoPairs (pairs_view (drop l.pair-index l.pairs))
+    → PairHasMapWith HasTwoPairs (pairs_view l.pairs))

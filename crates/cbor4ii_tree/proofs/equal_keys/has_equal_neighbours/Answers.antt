@@ -1,5 +1,5 @@
 use Rattle.std.proofs.Common.{◌≢◌, ◌-◌, drop, sym, ap, ◌∙◌, arith, length-drop}
-use Rattle.cbor4ii_tree.specs.ExactOrder.{seen}
+use Rattle.cbor4ii_tree.specs.Calls.ExactOrder.{item_behind}
 use Rattle.cbor4ii_tree.proofs.values.Keys.{repeats_past, repeats_short}
 use Rattle.cbor4ii_tree.proofs.equal_keys.has_equal_neighbours.Goals as goal
 
@@ -7,9 +7,9 @@ pub loop-i-preserved : goal.loop-i-preserved
 loop-i-preserved c =
     let x = c.index-keys-i.result in
     let y = c.index-keys-i-in-loop-i.result in
-    let differ : seen x ≢ seen y =
-    λ e. absurd (cc (c.if-eq.ensures.trees.1 (ap seen (sym c.index-keys-i.is) ∙ e
-    ∙ ap seen c.index-keys-i-in-loop-i.is))) in
+    let differ : item_behind x ≢ item_behind y =
+    λ e. absurd (cc (c.if-eq.ensures.trees.1 (ap item_behind (sym c.index-keys-i.is) ∙ e
+    ∙ ap item_behind c.index-keys-i-in-loop-i.is))) in
     let past = repeats_past c.args.keys.now c.loop-i.i x y c.requires (omega arith)
     (omega arith) c.index-keys-i.is c.index-keys-i-in-loop-i.is differ in
     (λ h. past.0 (c.loop-i.invariant.0 h), λ h. c.loop-i.invariant.1 (past.1 h))

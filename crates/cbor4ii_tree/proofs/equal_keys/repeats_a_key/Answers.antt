@@ -1,22 +1,22 @@
 use Rattle.std.proofs.Common.{arith, map, rules, subst, sym}
 use Rattle.std.proofs.lemmas.List.Sorted.{answers_always}
 use Rattle.std.specs.List.Sorted.{IsSortedBy}
-use Rattle.cbor4ii_tree.specs.{Access.HasTwoPairs, View.members_view}
-use Rattle.cbor4ii_tree.specs.ExactOrder.{Repeats, is_before, seen}
+use Rattle.cbor4ii_tree.specs.{Calls.Access.HasTwoPairs, Basis.View.pairs_view}
+use Rattle.cbor4ii_tree.specs.Calls.ExactOrder.{Repeats, is_before, item_behind}
 use Rattle.cbor4ii_tree.proofs.values.Keys.{before_by, before_is_order, keys_short, sorted_keys}
-use Rattle.cbor4ii_tree.proofs.values.Views.{member_count-members_view}
+use Rattle.cbor4ii_tree.proofs.values.Views.{pair_count-pairs_view}
 use Rattle.cbor4ii_tree.proofs.equal_keys.repeats_a_key.Goals as goal
 
 pub returns-then-len-lt2-clause-answer : goal.returns-then-len-lt2-clause-answer
 returns-then-len-lt2-clause-answer c =
-    let ms = c.args.members.now.items in
-    (λ f. absurd (cc f), λ h. absurd (keys_short ms (omega (arith, c.args.members.now.ok)) h))
+    let ms = c.args.pairs.now.items in
+    (λ f. absurd (cc f), λ h. absurd (keys_short ms (omega (arith, c.args.pairs.now.ok)) h))
 
 pub returns-in_err-keys-clause-memory : goal.returns-in_err-keys-clause-memory
 returns-in_err-keys-clause-memory c =
-    let ms = c.args.members.now.items in
-    let two : HasTwoPairs (members_view ms) =
-    omega (arith, c.args.members.now.ok, member_count-members_view ms) in
+    let ms = c.args.pairs.now.items in
+    let two : HasTwoPairs (pairs_view ms) =
+    omega (arith, c.args.pairs.now.ok, pair_count-pairs_view ms) in
     search (rules, two)
 
 pub has_equal_neighbours-requires : goal.has_equal_neighbours-requires
@@ -29,8 +29,9 @@ pub returns-clause-answer : goal.returns-clause-answer
 returns-clause-answer c =
     let found = c.has_equal_neighbours.ensures in
     let sort = c.sort_unstable_by in
-    let same = sorted_keys c.args.members.now.items c.in_ok-keys.keys.items sort.new.self.items
+    let same = sorted_keys c.args.pairs.now.items c.in_ok-keys.keys.items sort.new.self.items
     c.in_ok-keys.ensures sort.ensures.permutation in (
-      λ f. same.1 (subst (λ l. Repeats (map seen l)) c.deref.ensures.value (found.0 f)),
-      λ h. found.1 (subst (λ l. Repeats (map seen l)) (sym c.deref.ensures.value) (same.0 h)),
+      λ f. same.1 (subst (λ l. Repeats (map item_behind l)) c.deref.ensures.value (found.0 f)),
+      λ h. found.1 (subst (λ l. Repeats (map item_behind l)) (sym c.deref.ensures.value)
+          (same.0 h)),
     )

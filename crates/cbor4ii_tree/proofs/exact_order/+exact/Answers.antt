@@ -1,8 +1,8 @@
 use Rattle.std.proofs.Common.{◌≡◌, ◌≢◌, length, sym, ap, ap₂, ◌∙◌, subst, subst₂, arith, rules}
 use Rattle.std.specs.declared.cmp.Ordering.TheVariants.{Equal}
 use Rattle.cbor4ii_items.specs.SequenceBytes.{items_bytes}
-use Rattle.cbor4ii_tree.specs.{ExactOrder.{value_numbers, member_numbers}, Order.Compares}
-use Rattle.cbor4ii_tree.specs.{View.view, declared.value.Value.the_lemmas}
+use Rattle.cbor4ii_tree.specs.{Calls.ExactOrder.{value_numbers, pair_numbers}, Calls.Order.Compares}
+use Rattle.cbor4ii_tree.specs.{Basis.View.view, declared.value.Value.the_lemmas}
 use Rattle.cbor4ii_tree.proofs.encodings.Order.{heads_cmp, compares_then}
 use Rattle.cbor4ii_tree.proofs.values.Exact.{exact_arrays, exact_maps, other_parts, same_parts}
 use Rattle.cbor4ii_tree.proofs.values.Ordered.{compares_from, compares_here}
@@ -24,9 +24,9 @@ cmp_inside-cmp_items-requires t c =
     c.in-Array.is c.elements_of.ensures c.requires in
     (search (rules, the_lemmas), ap length c.deref-in-Array.ensures.value ∙ h.long)
 
-pub cmp_inside-cmp_members-requires : goal.cmp_inside-cmp_members-requires
-cmp_inside-cmp_members-requires t c =
-    let h = exact_maps c.args.a.now c.args.b.now c.in-Map.members c.pairs_of.result.now
+pub cmp_inside-cmp_pairs-requires : goal.cmp_inside-cmp_pairs-requires
+cmp_inside-cmp_pairs-requires t c =
+    let h = exact_maps c.args.a.now c.args.b.now c.in-Map.pairs c.pairs_of.result.now
     c.in-Map.is c.pairs_of.ensures c.requires in
     (search (rules, the_lemmas), ap length c.deref-in-Map.ensures.value ∙ h.long)
 
@@ -39,11 +39,11 @@ cmp_inside-returns-in-Array t c =
 pub cmp_inside-returns-in-Map : goal.cmp_inside-returns-in-Map
 cmp_inside-returns-in-Map t c =
     let h = exact_maps _ _ _ _ c.in-Map.is c.pairs_of.ensures c.requires in
-    subst₂ (Compares c.cmp_members.result) (ap (items_bytes member_numbers)
-    c.deref-in-Map.ensures.value ∙ h.first) h.second c.cmp_members.ensures
+    subst₂ (Compares c.cmp_pairs.result) (ap (items_bytes pair_numbers)
+    c.deref-in-Map.ensures.value ∙ h.first) h.second c.cmp_pairs.ensures
 
-pub cmp_members-loop-i-preserved : goal.cmp_members-loop-i-preserved
-cmp_members-loop-i-preserved t c = λ r rest.
+pub cmp_pairs-loop-i-preserved : goal.cmp_pairs-loop-i-preserved
+cmp_pairs-loop-i-preserved t c = λ r rest.
     let x = c.index-a-i.result in
     let y = c.index-b-i.result in
     let keys : c.cmp_exactly-keys.result ≡ Equal = search rules in
@@ -51,17 +51,17 @@ cmp_members-loop-i-preserved t c = λ r rest.
     let here = compares_then (subst (λ o. Compares o (value_numbers x.0) (value_numbers y.0)) keys
     c.cmp_exactly-keys.ensures) (subst (λ o. Compares o (value_numbers x.1) (value_numbers y.1))
     values c.cmp_exactly-values.ensures) in
-    c.loop-i.invariant r (compares_from member_numbers c.args.a.now c.args.b.now c.loop-i.i x y r
+    c.loop-i.invariant r (compares_from pair_numbers c.args.a.now c.args.b.now c.loop-i.i x y r
     c.loop-i-test.true (omega arith) c.index-a-i.is c.index-b-i.is here rest)
 
-pub cmp_members-returns-then-ne-2 : goal.cmp_members-returns-then-ne-2
-cmp_members-returns-then-ne-2 t c =
+pub cmp_pairs-returns-then-ne-2 : goal.cmp_pairs-returns-then-ne-2
+cmp_pairs-returns-then-ne-2 t c =
     let x = c.index-a-i.result in
     let y = c.index-b-i.result in
     let keys : c.cmp_exactly-keys.result ≡ Equal = search rules in
     let differ : c.cmp_exactly-values.result ≢ Equal = search rules in
     let here = compares_then (subst (λ o. Compares o (value_numbers x.0) (value_numbers y.0)) keys
     c.cmp_exactly-keys.ensures) c.cmp_exactly-values.ensures in
-    c.loop-i.invariant c.cmp_exactly-values.result (compares_here member_numbers c.args.a.now
+    c.loop-i.invariant c.cmp_exactly-values.result (compares_here pair_numbers c.args.a.now
     c.args.b.now c.loop-i.i x y c.cmp_exactly-values.result c.loop-i-test.true (omega arith)
     c.index-a-i.is c.index-b-i.is differ here)

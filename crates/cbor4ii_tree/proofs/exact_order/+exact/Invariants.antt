@@ -1,7 +1,7 @@
 use Rattle.std.proofs.Common.{drop}
 use Rattle.std.specs.declared.cmp.Ordering.{Ordering}
 use Rattle.cbor4ii_items.specs.SequenceBytes.{items_bytes}
-use Rattle.cbor4ii_tree.specs.{ExactOrder.{value_numbers, member_numbers}, Order.Compares}
+use Rattle.cbor4ii_tree.specs.{Calls.ExactOrder.{value_numbers, pair_numbers}, Calls.Order.Compares}
 use Rattle.cbor4ii_tree.proofs.exact_order.+exact.Given as goal
 
 -- how the rest compares is how all compares
@@ -11,8 +11,8 @@ invariant-cmp_items-loop-i l = (r : Ordering)
     (items_bytes value_numbers (drop l.i l.b))
     → Compares r (items_bytes value_numbers l.a) (items_bytes value_numbers l.b)
 
-abbrev pub invariant-cmp_members-loop-i : goal.invariant-cmp_members-loop-i
-invariant-cmp_members-loop-i l = (r : Ordering)
-    → Compares r (items_bytes member_numbers (drop l.i l.a))
-    (items_bytes member_numbers (drop l.i l.b))
-    → Compares r (items_bytes member_numbers l.a) (items_bytes member_numbers l.b)
+abbrev pub invariant-cmp_pairs-loop-i : goal.invariant-cmp_pairs-loop-i
+invariant-cmp_pairs-loop-i l = (r : Ordering)
+    → Compares r (items_bytes pair_numbers (drop l.i l.a))
+    (items_bytes pair_numbers (drop l.i l.b))
+    → Compares r (items_bytes pair_numbers l.a) (items_bytes pair_numbers l.b)

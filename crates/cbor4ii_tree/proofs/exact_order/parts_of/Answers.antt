@@ -1,7 +1,7 @@
 use Rattle.std.proofs.Common.{sym, ap, ◌∙◌, arith}
-use Rattle.cbor4ii_tree.specs.{ExactOrder.parts_of, View.view}
+use Rattle.cbor4ii_tree.specs.{Calls.ExactOrder.parts_of, Basis.View.view}
 use Rattle.cbor4ii_tree.proofs.{values.Encoding.view-Array, values.Views.view-Map}
-use Rattle.cbor4ii_tree.proofs.values.Views.{item_count-items_view, member_count-members_view}
+use Rattle.cbor4ii_tree.proofs.values.Views.{item_count-items_view, pair_count-pairs_view}
 use Rattle.cbor4ii_tree.proofs.exact_order.parts_of.Goals as goal
 
 pub returns-in-Array : goal.returns-in-Array
@@ -12,6 +12,6 @@ returns-in-Array c =
 
 pub returns-in-Map : goal.returns-in-Map
 returns-in-Map c =
-    let v = c.in-Map.members in
-    ap (λ n. (10, n)) (omega (arith, c.len-in-Map.ensures, member_count-members_view v.items, v.ok))
+    let v = c.in-Map.pairs in
+    ap (λ n. (10, n)) (omega (arith, c.len-in-Map.ensures, pair_count-pairs_view v.items, v.ok))
     ∙ sym (ap parts_of (ap view c.in-Map.is ∙ view-Map v))

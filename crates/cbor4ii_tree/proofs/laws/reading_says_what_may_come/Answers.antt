@@ -1,4 +1,4 @@
-use Rattle.cbor4ii_tree.specs.{InputError.eof, ReadingRejects.reading}
+use Rattle.cbor4ii_tree.specs.{Basis.InputError.eof, Calls.ReadingRejects.reading_profile}
 use Rattle.cbor4ii_tree.proofs.answers.MayReject.{may_reject, leaves_nothing}
 use Rattle.cbor4ii_tree.proofs.reading.Laws as lemmas
 use Rattle.cbor4ii_tree.proofs.laws.reading_says_what_may_come.Goals as goal
@@ -8,7 +8,8 @@ returns-clause-prefix c = lemmas.prefix_rejects
 
 pub returns-clause-nothing_left : goal.returns-clause-nothing_left
 returns-clause-nothing_left c =
-    λ input budget name expect rest. leaves_nothing reading input budget (eof name expect) rest tt
+    λ input budget name expect rest. leaves_nothing reading_profile input budget (eof name expect)
+    rest tt
 
 pub returns-clause-only_prefixes : goal.returns-clause-only_prefixes
 returns-clause-only_prefixes c = lemmas.eof_on_prefix
@@ -20,4 +21,4 @@ pub returns-clause-never : goal.returns-clause-never
 returns-clause-never c = lemmas.final_stays
 
 pub returns-clause-no_others : goal.returns-clause-no_others
-returns-clause-no_others c = may_reject reading
+returns-clause-no_others c = may_reject reading_profile

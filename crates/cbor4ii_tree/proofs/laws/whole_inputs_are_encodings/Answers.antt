@@ -1,7 +1,7 @@
 use Rattle.std.proofs.{Common.{◌≡◌, [], Some, ◌∙◌, sym}, lemmas.List.append-nil}
 use Rattle.cbor4ii_rw.specs.Input.{limit}
-use Rattle.cbor4ii_tree.specs.{Canonical.canonical_encoding, Laws.WholeInputs.value_is_whole}
-use Rattle.cbor4ii_tree.specs.{Laws.WholeInputs.canonical_is_whole, View.view}
+use Rattle.cbor4ii_tree.specs.{Basis.Canonical.canonical_encoding, Laws.WholeInputs.value_is_whole}
+use Rattle.cbor4ii_tree.specs.{Laws.WholeInputs.canonical_is_whole, Basis.View.view}
 use Rattle.cbor4ii_tree.proofs.encodings.CanonicalShape.{equal_iff_bytes, reads_canonically_iff}
 use Rattle.cbor4ii_tree.proofs.laws.whole_inputs_are_encodings.Goals as goal
 

@@ -1,5 +1,5 @@
 use Rattle.std.proofs.Common.{refl, subst, arith}
-use Rattle.cbor4ii_tree.specs.Valuing.{SimpleOf}
+use Rattle.cbor4ii_tree.specs.Inner.Valuing.{SimpleOf}
 use Rattle.cbor4ii_tree.proofs.values.Heads.{view-F16, view-F32, view-F64}
 use Rattle.cbor4ii_tree.proofs.values.Leaves.{float_ahead, simple_ahead, fresh_shown}
 use Rattle.cbor4ii_tree.proofs.leaf.simple_after.Goals as goal

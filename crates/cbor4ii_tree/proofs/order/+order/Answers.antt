@@ -1,7 +1,8 @@
 use Rattle.std.proofs.Common.{◌≡◌, length, sym, ap, ap₂, ◌∙◌, subst, subst₂, arith, rules}
 use Rattle.std.specs.declared.cmp.Ordering.TheVariants.{Equal}
 use Rattle.cbor4ii_items.specs.SequenceBytes.{items_bytes}
-use Rattle.cbor4ii_tree.specs.{Encoding.{value_bytes, member_bytes}, Order.Compares, View.view}
+use Rattle.cbor4ii_tree.specs.{Calls.Encoding.{value_bytes, value_pair_bytes}, Calls.Order.Compares}
+use Rattle.cbor4ii_tree.specs.{Basis.View.view}
 use Rattle.cbor4ii_tree.specs.declared.value.Value.{the_lemmas}
 use Rattle.cbor4ii_tree.proofs.encodings.Order.{heads_cmp, same_heads, other_heads, compares_then}
 use Rattle.cbor4ii_tree.proofs.values.Ordered.{arrays, maps, compares_from}
@@ -25,9 +26,9 @@ cmp_after_heads-cmp_items-requires t c =
     c.elements_of.ensures c.requires in
     (search (rules, the_lemmas), ap length c.deref-in-Array.ensures.value ∙ h.long)
 
-pub cmp_after_heads-cmp_members-requires : goal.cmp_after_heads-cmp_members-requires
-cmp_after_heads-cmp_members-requires t c =
-    let h = maps c.args.a.now c.args.b.now c.in-Map.members c.pairs_of.result.now c.in-Map.is
+pub cmp_after_heads-cmp_pairs-requires : goal.cmp_after_heads-cmp_pairs-requires
+cmp_after_heads-cmp_pairs-requires t c =
+    let h = maps c.args.a.now c.args.b.now c.in-Map.pairs c.pairs_of.result.now c.in-Map.is
     c.pairs_of.ensures c.requires in
     (search (rules, the_lemmas), ap length c.deref-in-Map.ensures.value ∙ h.long)
 
@@ -40,11 +41,11 @@ cmp_after_heads-returns-in-Array t c =
 pub cmp_after_heads-returns-in-Map : goal.cmp_after_heads-returns-in-Map
 cmp_after_heads-returns-in-Map t c =
     let h = maps _ _ _ _ c.in-Map.is c.pairs_of.ensures c.requires in
-    subst₂ (Compares c.cmp_members.result) (ap (items_bytes member_bytes)
-    c.deref-in-Map.ensures.value ∙ h.first) h.second c.cmp_members.ensures
+    subst₂ (Compares c.cmp_pairs.result) (ap (items_bytes value_pair_bytes)
+    c.deref-in-Map.ensures.value ∙ h.first) h.second c.cmp_pairs.ensures
 
-pub cmp_members-loop-i-preserved : goal.cmp_members-loop-i-preserved
-cmp_members-loop-i-preserved t c = λ r rest.
+pub cmp_pairs-loop-i-preserved : goal.cmp_pairs-loop-i-preserved
+cmp_pairs-loop-i-preserved t c = λ r rest.
     let x = c.index-a-i.result in
     let y = c.index-b-i.result in
     let keys : c.cmp_values-keys.result ≡ Equal = search rules in
@@ -52,5 +53,5 @@ cmp_members-loop-i-preserved t c = λ r rest.
     let here = compares_then (subst (λ o. Compares o (value_bytes x.0) (value_bytes y.0)) keys
     c.cmp_values-keys.ensures) (subst (λ o. Compares o (value_bytes x.1) (value_bytes y.1)) values
     c.cmp_values-values.ensures) in
-    c.loop-i.invariant r (compares_from member_bytes c.args.a.now c.args.b.now c.loop-i.i x y r
+    c.loop-i.invariant r (compares_from value_pair_bytes c.args.a.now c.args.b.now c.loop-i.i x y r
     c.loop-i-test.true (omega arith) c.index-a-i.is c.index-b-i.is here rest)

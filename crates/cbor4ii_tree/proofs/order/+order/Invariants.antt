@@ -1,7 +1,7 @@
 use Rattle.std.proofs.Common.{drop}
 use Rattle.std.specs.declared.cmp.Ordering.{Ordering}
 use Rattle.cbor4ii_items.specs.SequenceBytes.{items_bytes}
-use Rattle.cbor4ii_tree.specs.{Encoding.{value_bytes, member_bytes}, Order.Compares}
+use Rattle.cbor4ii_tree.specs.{Calls.Encoding.{value_bytes, value_pair_bytes}, Calls.Order.Compares}
 use Rattle.cbor4ii_tree.proofs.order.+order.Given as goal
 
 -- how the rest compares is how all compares
@@ -10,7 +10,8 @@ invariant-cmp_items-loop-i l = (r : Ordering)
     → Compares r (items_bytes value_bytes (drop l.i l.a)) (items_bytes value_bytes (drop l.i l.b))
     → Compares r (items_bytes value_bytes l.a) (items_bytes value_bytes l.b)
 
-abbrev pub invariant-cmp_members-loop-i : goal.invariant-cmp_members-loop-i
-invariant-cmp_members-loop-i l = (r : Ordering)
-    → Compares r (items_bytes member_bytes (drop l.i l.a)) (items_bytes member_bytes (drop l.i l.b))
-    → Compares r (items_bytes member_bytes l.a) (items_bytes member_bytes l.b)
+abbrev pub invariant-cmp_pairs-loop-i : goal.invariant-cmp_pairs-loop-i
+invariant-cmp_pairs-loop-i l = (r : Ordering)
+    → Compares r (items_bytes value_pair_bytes (drop l.i l.a)) (items_bytes value_pair_bytes
+    (drop l.i l.b))
+    → Compares r (items_bytes value_pair_bytes l.a) (items_bytes value_pair_bytes l.b)

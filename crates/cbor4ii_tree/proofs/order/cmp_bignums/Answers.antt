@@ -1,6 +1,6 @@
 use Rattle.std.proofs.Common.{ap, ◌∙◌, subst₂}
 use Rattle.cbor4ii_items.specs.{Magnitude.without_leading_zeros, Numbers.definite_string}
-use Rattle.cbor4ii_tree.specs.Order.{Compares}
+use Rattle.cbor4ii_tree.specs.Calls.Order.{Compares}
 use Rattle.cbor4ii_tree.proofs.order.cmp_bignums.Goals as goal
 
 pub returns : goal.returns

@@ -1,5 +1,5 @@
 use Rattle.std.proofs.Common.{sym, subst}
-use Rattle.cbor4ii_tree.specs.Order.{Compares}
+use Rattle.cbor4ii_tree.specs.Calls.Order.{Compares}
 use Rattle.cbor4ii_tree.proofs.encodings.Order.{compares_bytes}
 use Rattle.cbor4ii_tree.proofs.order.cmp_bytes.Goals as goal
 

@@ -2,8 +2,8 @@ use Rattle.std.proofs.Common.{◌≡◌, ◌≤◌, sym, ap, ◌∙◌, subst, s
 use Rattle.std.proofs.lemmas.Int.{to_z-of_z}
 use Rattle.std.specs.declared.cmp.Ordering.TheVariants.{Equal}
 use mir.Syntax.{w128}
-use Rattle.cbor4ii_tree.specs.{Order.{major_of, Compares, after_head}, View.view}
-use Rattle.cbor4ii_tree.specs.{Encoding.value_bytes, Item.integer}
+use Rattle.cbor4ii_tree.specs.{Calls.Order.{major_of, Compares, after_head}, Basis.View.view}
+use Rattle.cbor4ii_tree.specs.{Calls.Encoding.value_bytes, Basis.Item.integer}
 use Rattle.cbor4ii_tree.proofs.encodings.Order.{PartsOf, compares_nothing, compares_back}
 use Rattle.cbor4ii_tree.proofs.encodings.Order.{same_major, after_small, small_integer, big_integer}
 use Rattle.cbor4ii_tree.proofs.{encodings.Order.after_tag, values.Encoding.{view-Integer, view-Tag}}

@@ -1,5 +1,5 @@
 use Rattle.std.proofs.Common.{ap₂, ◌∙◌}
-use Rattle.cbor4ii_tree.specs.Item.{bytes_item}
+use Rattle.cbor4ii_tree.specs.Basis.Item.{bytes_item}
 use Rattle.cbor4ii_tree.proofs.encodings.Order.{heads_cmp, other_heads}
 use Rattle.cbor4ii_tree.proofs.order.cmp_strings.Goals as goal
 

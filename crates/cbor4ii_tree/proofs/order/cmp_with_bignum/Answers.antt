@@ -1,6 +1,6 @@
 use Rattle.std.proofs.Common.{ap, ◌∙◌, subst}
 use Rattle.cbor4ii_items.specs.{Magnitude.without_leading_zeros, Numbers.definite_string}
-use Rattle.cbor4ii_tree.specs.{Encoding.value_bytes, Order.Compares}
+use Rattle.cbor4ii_tree.specs.{Calls.Encoding.value_bytes, Calls.Order.Compares}
 use Rattle.cbor4ii_tree.proofs.order.cmp_with_bignum.Goals as goal
 
 pub returns : goal.returns

@@ -1,7 +1,7 @@
 use Rattle.std.proofs.Common.{sym, ap, ◌∙◌, subst, arith}
-use Rattle.cbor4ii_tree.specs.{Order.{head_of, HasHead, shortest_parts}, View.view}
+use Rattle.cbor4ii_tree.specs.{Calls.Order.{head_of, HasHead, shortest_parts}, Basis.View.view}
 use Rattle.cbor4ii_tree.proofs.{values.Encoding.view-Array, values.Views.view-Map}
-use Rattle.cbor4ii_tree.proofs.values.Views.{item_count-items_view, member_count-members_view}
+use Rattle.cbor4ii_tree.proofs.values.Views.{item_count-items_view, pair_count-pairs_view}
 use Rattle.cbor4ii_tree.proofs.order.head_of.Goals as goal
 
 pub returns-in-Array-clause-parts : goal.returns-in-Array-clause-parts
@@ -22,16 +22,16 @@ returns-in-Array-clause-short c =
 
 pub returns-in-Map-clause-parts : goal.returns-in-Map-clause-parts
 returns-in-Map-clause-parts c =
-    let v = c.in-Map.members in
+    let v = c.in-Map.pairs in
     c.shortest_parts-in-Map.ensures ∙ ap (shortest_parts 5) (omega (
       arith,
       c.len-in-Map.ensures,
-      member_count-members_view v.items,
+      pair_count-pairs_view v.items,
       v.ok,
     )) ∙ sym (ap head_of (ap view c.in-Map.is ∙ view-Map v))
 
 pub returns-in-Map-clause-short : goal.returns-in-Map-clause-short
 returns-in-Map-clause-short c =
-    let v = c.in-Map.members in
+    let v = c.in-Map.pairs in
     subst HasHead (sym (ap view c.in-Map.is ∙ view-Map v))
-    (omega (arith, member_count-members_view v.items, v.small, v.ok))
+    (omega (arith, pair_count-pairs_view v.items, v.small, v.ok))

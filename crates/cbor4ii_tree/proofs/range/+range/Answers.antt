@@ -1,4 +1,4 @@
-use Rattle.cbor4ii_tree.proofs.values.InRange.{items_step, members_step, array_in_range}
+use Rattle.cbor4ii_tree.proofs.values.InRange.{items_step, pairs_step, array_in_range}
 use Rattle.cbor4ii_tree.proofs.values.InRange.{map_in_range}
 use Rattle.cbor4ii_tree.proofs.range.+range.Goals as goal
 
@@ -9,14 +9,14 @@ in_range-returns-in-Array t c =
 
 pub in_range-returns-in-Map : goal.in_range-returns-in-Map
 in_range-returns-in-Map t c =
-    map_in_range c.args.value.now c.in-Map.members c.deref-in-Map.result.now c.in-Map.is
-    c.deref-in-Map.ensures.value c.deref-in-Map.type_inv.0 c.members_in_range.ensures
+    map_in_range c.args.value.now c.in-Map.pairs c.deref-in-Map.result.now c.in-Map.is
+    c.deref-in-Map.ensures.value c.deref-in-Map.type_inv.0 c.pairs_in_range.ensures
 
 pub items_in_range-loop-item-preserved : goal.items_in_range-loop-item-preserved
 items_in_range-loop-item-preserved t c =
     items_step _ _ _ c.loop-item-test.true c.item-item.is c.loop-item.invariant c.in_range.ensures
 
-pub members_in_range-loop-member-preserved : goal.members_in_range-loop-member-preserved
-members_in_range-loop-member-preserved t c =
-    members_step _ _ _ c.loop-member-test.true c.member-item.is c.loop-member.invariant
-    c.in_range.ensures c.in_range-in-loop-member.ensures
+pub pairs_in_range-loop-pair-preserved : goal.pairs_in_range-loop-pair-preserved
+pairs_in_range-loop-pair-preserved t c =
+    pairs_step _ _ _ c.loop-pair-test.true c.pair-item.is c.loop-pair.invariant
+    c.in_range.ensures c.in_range-in-loop-pair.ensures

@@ -1,12 +1,13 @@
 use Rattle.std.proofs.Common.{◌≡◌, ◌∷◌, [], length, length-append, ap, subst, refl, true, arith}
 use Rattle.std.proofs.lemmas.List.{take_rest}
-use Rattle.cbor4ii_tree.specs.Leaf.{StandsAhead}
+use Rattle.cbor4ii_tree.specs.Inner.Leaf.{StandsAhead}
 use Rattle.cbor4ii_tree.proofs.values.LeafRuns.{put_none, put_one, put_well, refused_growth}
 use Rattle.cbor4ii_tree.proofs.run.put_run.Goals as goal
 
 pub loop-alloc-init : goal.loop-alloc-init
 loop-alloc-init g c = record {
-  puts = put_none (g.A.Encodings.exact ≡ true) (g.P.Parts.flat c.args.parts.now) c.args.shown.now;
+  puts = put_none (g.A.Encodings.canonical ≡ true) (g.P.Parts.flat c.args.parts.now)
+      c.args.shown.now;
   few = omega (arith, c.requires.lacks);
   none = λ e. refl;
 }
@@ -14,13 +15,13 @@ loop-alloc-init g c = record {
 pub returns-then-is_none : goal.returns-then-is_none
 returns-then-is_none g c =
     refused_growth _ _ _ _ _ _ _ c.loop-alloc.invariant.puts (subst (StandsAhead
-    (g.A.Encodings.exact ≡ true) c.in-Whole.value c.in-Whole.bytes) (take_rest c.args.shown.now
+    (g.A.Encodings.canonical ≡ true) c.in-Whole.value c.in-Whole.bytes) (take_rest c.args.shown.now
     c.loop-alloc.size) c.in-Whole.ensures)
 
 pub loop-alloc-preserved : goal.loop-alloc-preserved
 loop-alloc-preserved g c =
     let is = put_well _ c.is_none.ensures c.if-is_none.false c.put.ensures in
-    let l = subst (StandsAhead (g.A.Encodings.exact ≡ true) c.in-Whole.value c.in-Whole.bytes)
+    let l = subst (StandsAhead (g.A.Encodings.canonical ≡ true) c.in-Whole.value c.in-Whole.bytes)
     (take_rest c.args.shown.now c.loop-alloc.size) c.in-Whole.ensures in
     record {
       puts =

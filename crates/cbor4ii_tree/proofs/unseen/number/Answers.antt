@@ -1,6 +1,6 @@
 use Rattle.std.proofs.Common.{◌≡◌, ◌+◌, ◌*◌, ◌<◌, ◌^◌, refl, ◌∙◌, arith, subst}
 use Rattle.std.proofs.lemmas.Result.{err_from_is_err_and}
-use Rattle.cbor4ii_tree.specs.HeadParts.{NoByte, TakesNumber}
+use Rattle.cbor4ii_tree.specs.Inner.HeadParts.{NoByte, TakesNumber}
 use Rattle.cbor4ii_tree.proofs.skip_calls.Bytes.{number_none, number_more, number_cut, one_more}
 use Rattle.cbor4ii_tree.proofs.skip_calls.{Bytes.small_number, Doing.{reached_start, reached_by}}
 use Rattle.cbor4ii_tree.proofs.skip_calls.Doing.{reached_then, reached_as, does_ok, does_err}

@@ -1,5 +1,5 @@
 use Rattle.std.proofs.{Common.{arith, codes, refl, ◌∙◌}, lemmas.Result.err_from_is_err_and}
-use Rattle.cbor4ii_tree.specs.{Rejections.Missing, HeadParts.DropsBytes}
+use Rattle.cbor4ii_tree.specs.{Calls.Rejections.Missing, Inner.HeadParts.DropsBytes}
 use Rattle.cbor4ii_tree.proofs.skip_calls.Doing.{reached_start, reached_by, reached_then}
 use Rattle.cbor4ii_tree.proofs.skip_calls.Doing.{reached_as, does_ok, does_err}
 use Rattle.cbor4ii_tree.proofs.skip_calls.Bytes.{dropped_none, dropped_more, dropped_cut}

@@ -1,6 +1,6 @@
 use Rattle.std.proofs.{Common.{◌%◌, sym, ◌∙◌, subst}, lemmas.Result.err_from_is_err_and}
 use Rattle.cbor4ii_items.specs.Initial.{info_of}
-use Rattle.cbor4ii_tree.specs.{InputError.ignored_any, HeadParts.{CutBy, NoByte}}
+use Rattle.cbor4ii_tree.specs.{Basis.InputError.ignored_any, Inner.HeadParts.{CutBy, NoByte}}
 use Rattle.cbor4ii_tree.proofs.skip_calls.{Doing.still_rejected, Leading.{leads_bytes, bytes_cut}}
 use Rattle.cbor4ii_tree.proofs.skip_calls.{Leading.{no_first, goes}, Heads.{first_err, first_ok}}
 use Rattle.cbor4ii_tree.proofs.skip_calls.Heads.{first_taken, first_rejected, says_not}
@@ -15,7 +15,7 @@ returns-in_err-first-clause-does g c =
 pub returns-in-Some-clause-does : goal.returns-in-Some-clause-does
 returns-in-Some-clause-does g c =
     first_rejected c.in_ok-first.ensures.peeks _ c.take_first.ensures.takes
-    (g.F.Prefix.view c.args.prefix.now c.args.reader.now).budget c.start_of-start.ensures
+    (g.F.BytesAhead.view c.args.prefix.now c.args.reader.now).budget c.start_of-start.ensures
     c.take_first.ensures.leaves c.in-Some.ensures
 
 pub returns-in_err-skip_bytes-clause-does : goal.returns-in_err-skip_bytes-clause-does

@@ -1,5 +1,5 @@
 use Rattle.std.proofs.Common.{sym, ap, ◌∙◌}
-use Rattle.cbor4ii_tree.specs.{Item.{sequence, mapping}, View.view}
+use Rattle.cbor4ii_tree.specs.{Basis.Item.{sequence, mapping}, Basis.View.view}
 use Rattle.cbor4ii_tree.proofs.{values.Encoding.view-Array, values.Views.view-Map}
 use Rattle.cbor4ii_tree.proofs.value.+copy.Goals as goal
 
@@ -17,7 +17,7 @@ copy_value-returns-in_ok-copy_items-in-Array t c =
     view-Array c.in_ok-copy_items-in-Array.field-0 ∙ ap sequence c.in_ok-copy_items-in-Array.ensures
     ∙ sym (ap view c.in-Array.is ∙ view-Array c.in-Array.items)
 
-pub copy_value-returns-in_ok-copy_members-in-Map : goal.copy_value-returns-in_ok-copy_members-in-Map
-copy_value-returns-in_ok-copy_members-in-Map t c =
-    view-Map c.in_ok-copy_members-in-Map.field-0 ∙ ap mapping c.in_ok-copy_members-in-Map.ensures
-    ∙ sym (ap view c.in-Map.is ∙ view-Map c.in-Map.members)
+pub copy_value-returns-in_ok-copy_pairs-in-Map : goal.copy_value-returns-in_ok-copy_pairs-in-Map
+copy_value-returns-in_ok-copy_pairs-in-Map t c =
+    view-Map c.in_ok-copy_pairs-in-Map.field-0 ∙ ap mapping c.in_ok-copy_pairs-in-Map.ensures
+    ∙ sym (ap view c.in-Map.is ∙ view-Map c.in-Map.pairs)

@@ -1,23 +1,23 @@
 use Rattle.std.proofs.{Common.{◌<◌, arith, length, sym, ap, ◌∙◌, refl}, lemmas.List.take_more}
-use Rattle.cbor4ii_tree.specs.View.{view}
-use Rattle.cbor4ii_tree.proofs.values.Views.{length-items_view, length-members_view, view_at}
-use Rattle.cbor4ii_tree.proofs.values.Views.{items_view-push, views_at, members_more, mapping_same}
+use Rattle.cbor4ii_tree.specs.Basis.View.{view}
+use Rattle.cbor4ii_tree.proofs.values.Views.{length-items_view, length-pairs_view, view_at}
+use Rattle.cbor4ii_tree.proofs.values.Views.{items_view-push, views_at, pairs_more, mapping_same}
 use Rattle.cbor4ii_tree.proofs.value.+same.Goals as goal
 
 pub same_value-returns-in-Map-Map : goal.same_value-returns-in-Map-Map
 same_value-returns-in-Map-Map t c =
     let m = mapping_same _ _ _ _ _ _ c.in-Map-Map.is-0 c.in-Map-Map.is-1
     c.deref-in-Map-Map.ensures.value c.deref-in-Map-Map-2.ensures.value in
-    (λ h. m.0 (c.same_members.ensures.0 h), λ e. c.same_members.ensures.1 (m.1 e))
+    (λ h. m.0 (c.same_pairs.ensures.0 h), λ e. c.same_pairs.ensures.1 (m.1 e))
 
 pub same_items-returns-then-a-b : goal.same_items-returns-then-a-b
 same_items-returns-then-a-b t c =
     let f = length-items_view c.args.a.now c.args.b.now in
     (λ h. absurd (cc h), λ e. absurd (c.if-a-b.true (f e)))
 
-pub same_members-returns-then-a-b : goal.same_members-returns-then-a-b
-same_members-returns-then-a-b t c =
-    let f = length-members_view c.args.a.now c.args.b.now in
+pub same_pairs-returns-then-a-b : goal.same_pairs-returns-then-a-b
+same_pairs-returns-then-a-b t c =
+    let f = length-pairs_view c.args.a.now c.args.b.now in
     (λ h. absurd (cc h), λ e. absurd (c.if-a-b.true (f e)))
 
 pub same_items-returns-then-not-same_value : goal.same_items-returns-then-not-same_value
@@ -42,26 +42,26 @@ same_items-loop-i-preserved t c =
       ← c.index-b-i.is,
     ) (items_view-push _ _ x y c.loop-i.invariant (c.if-not-same_value.ensures.0 refl))
 
-pub same_members-returns-then-not-same_value : goal.same_members-returns-then-not-same_value
-same_members-returns-then-not-same_value t c = (
+pub same_pairs-returns-then-not-same_value : goal.same_pairs-returns-then-not-same_value
+same_pairs-returns-then-not-same_value t c = (
   λ h. absurd (cc h),
   λ e. c.if-not-same_value.ensures.1 (views_at c.args.a.now c.args.b.now
       c.loop-i.i c.index-a-i.result c.index-b-i.result e c.loop-i-test.true).0,
 )
 
-pub same_members-returns-then-not-same_value-2 : goal.same_members-returns-then-not-same_value-2
-same_members-returns-then-not-same_value-2 t c = (
+pub same_pairs-returns-then-not-same_value-2 : goal.same_pairs-returns-then-not-same_value-2
+same_pairs-returns-then-not-same_value-2 t c = (
   λ h. absurd (cc h),
   λ e. c.if-not-same_value-2.ensures.1 (views_at c.args.a.now c.args.b.now c.loop-i.i
       c.index-a-i-in-loop-i.result c.index-b-i-in-loop-i.result e c.loop-i-test.true).1,
 )
 
-pub same_members-loop-i-preserved : goal.same_members-loop-i-preserved
-same_members-loop-i-preserved t c =
+pub same_pairs-loop-i-preserved : goal.same_pairs-loop-i-preserved
+same_pairs-loop-i-preserved t c =
     let a = c.args.a.now in
     let b = c.args.b.now in
     let i = c.loop-i.i in
     let in_a : i < length a = c.loop-i-test.true in
     let in_b : i < length b = omega arith in
-    members_more _ _ _ _ _ _ _ in_a in_b c.loop-i.invariant (c.if-not-same_value.ensures.0 refl)
+    pairs_more _ _ _ _ _ _ _ in_a in_b c.loop-i.invariant (c.if-not-same_value.ensures.0 refl)
     (c.if-not-same_value-2.ensures.0 refl)

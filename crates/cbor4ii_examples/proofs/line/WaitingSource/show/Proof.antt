@@ -55,7 +55,7 @@ use Rattle.std.proofs.option.Option.TheLaws as OPTL
 use Rattle.std.specs.contracts.result.Result as RES
 use Rattle.std.proofs.result.Result.TheLaws as RESL
 use Rattle.std.specs.declared.fmt.Debug as Debug
-use Rattle.cbor4ii_examples.specs.Line.{line_view, ready_bytes}
+use Rattle.cbor4ii_examples.specs.Line.{line_view, line_ready_bytes}
 use Rattle.cbor4ii_examples.specs.declared.line.Line as Line
 use Rattle.cbor4ii_examples.specs.contracts.line.Line.TheBound as LINE
 use Rattle.std.specs.contracts.fmt.Debug.TheBound as DEBUG
@@ -303,13 +303,13 @@ module _ (R E : RattleType) (gL : Line.Ghosts R.Denot E.Denot) (dL : Dict)
       ⊛ ‵ ((SF κ0).row.own_val bytes (v2 ∷ []))) ⊛
       some (λ (ws2 : Lasts (shown_ended R E gL dL gD dD dR dE) z2.0.0 z2.0.3).
       ‵ (lasts (shown_ended R E gL dL gD dD dR dE) z2.0.0 z2.0.3 ws2)
-      ⊛ raw (fact 𝓤 (bytes.now ≡ ready_bytes w.ready))
+      ⊛ raw (fact 𝓤 (bytes.now ≡ line_ready_bytes w.ready))
       ⊛ ‵ (Rests S' again (λ new. line_view new ≡ line_view w)))))) (id⊢ 𝓤 _) $
       await ! tt $ pick ! (λ bytes. split ! $ split ! $ move ! (1 ∷ []) $
       peeks ! (SF κ0).row _ (shows 𝓛 (SF κ0).row) bytes (v2 ∷ []) (λ is2.
       lands_as ! refl refl (((slice_laws κ0).lawful 𝓛).typed bytes (v2 ∷ []) is2).0 $
       move ! (2 ∷ []) $ pick ! (λ ws2. split3 ! $ drop ! $
-      heard ! (bytes.now ≡ ready_bytes w.ready) (λ ready. fpick ! (λ s.
+      heard ! (bytes.now ≡ line_ready_bytes w.ready) (λ ready. fpick ! (λ s.
       -- [the reader's last value; the bytes; the tokens; the failure]
       sets ! (of_opd ! (get ! refl)) refl typed1 $
       move ! (2 ∷ []) $ split3 ! $ move ! (0 ∷ 2 ∷ []) $ join ! $

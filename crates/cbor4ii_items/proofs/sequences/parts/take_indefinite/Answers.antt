@@ -1,6 +1,6 @@
 use Rattle.std.proofs.Common.{refl, sym, rules}
 use Rattle.std.proofs.lemmas.Result.{err_from_is_err_and}
-use Rattle.cbor4ii_items.specs.Laws.Calls.{out_of_memory, of_exact, exactly}
+use Rattle.cbor4ii_items.specs.Laws.Calls.{out_of_memory, of_exact, decodes_exactly}
 use Rattle.cbor4ii_items.specs.Laws.SequenceParts.{stands, indefinite_more, indefinite_done}
 use Rattle.cbor4ii_items.specs.Laws.SequenceParts.{indefinite_err}
 use Rattle.cbor4ii_items.specs.Laws.SequenceParts.{place_end, place_nothing, place_part}
@@ -12,7 +12,7 @@ pub returns-in_err-take_break : goal.returns-in_err-take_break
 returns-in_err-take_break g c =
     let p = err_from_is_err_and c.from_residual.result c.from_residual.ensures.1 in
     let s = g.Q.Sequence.part in
-    rw (p.1, p.2) (exactly (indefinite_err in_vector c.args.name.now s
+    rw (p.1, p.2) (decodes_exactly (indefinite_err in_vector c.args.name.now s
     (λ is. g.met.Q.Sequence.lawful)
     c.loop-parts.invariant
     (place_end s c.args.name.now (λ is. g.met.Q.Sequence.lawful) c.in_err-take_break.ensures.runs
@@ -21,7 +21,7 @@ returns-in_err-take_break g c =
 pub returns-then-not-is_part_never_empty : goal.returns-then-not-is_part_never_empty
 returns-then-not-is_part_never_empty g c =
     let s = g.Q.Sequence.part in
-    exactly (indefinite_err in_vector c.args.name.now s (λ is. g.met.Q.Sequence.lawful)
+    decodes_exactly (indefinite_err in_vector c.args.name.now s (λ is. g.met.Q.Sequence.lawful)
     c.loop-parts.invariant
     (place_nothing s c.args.name (sym c.if-not-is_part_never_empty.ensures)
     (stands c.if-not-branch.true c.in_ok-take_break.ensures.runs)))
@@ -31,7 +31,7 @@ returns-in_err-part g c =
     let p = err_from_is_err_and c.from_residual-in_err-part.result
     c.from_residual-in_err-part.ensures.1 in
     let s = g.Q.Sequence.part in
-    rw (p.1, p.2) (exactly (indefinite_err in_vector c.args.name.now s
+    rw (p.1, p.2) (decodes_exactly (indefinite_err in_vector c.args.name.now s
     (λ is. g.met.Q.Sequence.lawful) c.loop-parts.invariant
     (place_part s c.args.name.now (sym c.if-not-is_part_never_empty.ensures)
     (stands c.if-not-branch.true c.in_ok-take_break.ensures.runs)

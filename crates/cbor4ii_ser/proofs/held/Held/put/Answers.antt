@@ -1,4 +1,4 @@
-use Rattle.cbor4ii_ser.specs.Pieces.{chunk_most, fits_after, release_bytes}
+use Rattle.cbor4ii_ser.specs.Pieces.{chunk_most, piece_fits_after, release_bytes}
 use Rattle.std.proofs.lemmas.Bool.{lt-leb, le-leb}
 use Rattle.std.proofs.lemmas.Result.{err_from_is_err_and}
 use Rattle.std.proofs.Common.{arith, sym, refl, ap, ◌∙◌, Some, Ok, ◌≡◌, false, true, length, nat_le}
@@ -40,7 +40,8 @@ returns-then-piece-self-clause-pends g c =
 pub returns-in_err-release-clause-writes : goal.returns-in_err-release-clause-writes
 returns-in_err-release-clause-writes g c =
     let p = err_from_is_err_and c.from_residual.result c.from_residual.ensures.1 in
-    let h : fits_after (pending_of c.args.self.now) c.args.piece.now ≡ false = lt-leb _ chunk_most
+    let h : piece_fits_after (pending_of c.args.self.now) c.args.piece.now ≡ false =
+    lt-leb _ chunk_most
     (omega (arith, length-take c.args.self.now.size c.args.self.now.bytes)) in
     rw (p.1, p.2) (rw h (writes_err _ c.in_err-release.ensures))
 
@@ -50,7 +51,8 @@ returns-in_err-release-clause-pends g c =
 
 pub returns-then-piece-le255-clause-writes : goal.returns-then-piece-le255-clause-writes
 returns-then-piece-le255-clause-writes g c =
-    let h : fits_after (pending_of c.args.self.now) c.args.piece.now ≡ false = lt-leb _ chunk_most
+    let h : piece_fits_after (pending_of c.args.self.now) c.args.piece.now ≡ false =
+    lt-leb _ chunk_most
     (omega (arith, length-take c.args.self.now.size c.args.self.now.bytes)) in
     let k : nat_le (length c.args.piece.now) chunk_most ≡ true =
     le-leb _ chunk_most (omega arith) in
@@ -59,7 +61,8 @@ returns-then-piece-le255-clause-writes g c =
 
 pub returns-then-piece-le255-clause-pends : goal.returns-then-piece-le255-clause-pends
 returns-then-piece-le255-clause-pends g c =
-    let h : fits_after (pending_of c.args.self.now) c.args.piece.now ≡ false = lt-leb _ chunk_most
+    let h : piece_fits_after (pending_of c.args.self.now) c.args.piece.now ≡ false =
+    lt-leb _ chunk_most
     (omega (arith, length-take c.args.self.now.size c.args.self.now.bytes)) in
     let k : nat_le (length c.args.piece.now) chunk_most ≡ true =
     le-leb _ chunk_most (omega arith) in

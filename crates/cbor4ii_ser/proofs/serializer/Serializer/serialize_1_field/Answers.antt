@@ -1,8 +1,15 @@
-use Rattle.cbor4ii_ser.specs.Laws.Joining.{◌⨾◌, serializes_err, serializes_last}
+use Rattle.cbor4ii_ser.specs.Laws.Joining.{◌⨾◌, serializes_last}
+use Rattle.cbor4ii_ser.proofs.Failing.{failed_then}
 use Rattle.cbor4ii_ser.proofs.serializer.Serializer.serialize_1_field.Goals as goal
 
-pub returns-in-Ok : goal.returns-in-Ok
-returns-in-Ok g c = c.in-Ok.ensures ⨾ serializes_last _ c.put_field.ensures
+pub returns-in_default : goal.returns-in_default
+returns-in_default g c = failed_then _ _ c.in_default.ensures.failed c.in_default.ensures.writes
 
-pub returns-in-Err : goal.returns-in-Err
-returns-in-Err g c = serializes_err _ _ c.in-Err.ensures
+pub returns-in_default-put_field : goal.returns-in_default-put_field
+returns-in_default-put_field g c =
+    c.in-Some.ensures.writes
+    ⨾ failed_then _ _ c.in_default-put_field.ensures.failed c.in_default-put_field.ensures.writes
+
+pub returns : goal.returns
+returns g c =
+    c.in-Some.ensures.writes ⨾ serializes_last _ c.in-Some-put_field.ensures.writes

@@ -3,7 +3,7 @@ use Rattle.cbor4ii_items.specs.Initial.{unsigned, negative, byte_string, text_st
 use Rattle.cbor4ii_items.specs.Numbers.{ReadsUnsigned, RejectsUnsigned, ReadsNegative}
 use Rattle.cbor4ii_items.specs.{Numbers.RejectsNegative, Strings.{ReadsAs, ReadsTextAs}}
 use Rattle.cbor4ii_items.specs.Strings.{RejectsString, RejectsText, bytes_content, text_content}
-use Rattle.cbor4ii_tree.specs.{InputError.{sign_name, kind_name}, declared.value.Value.Bytes}
+use Rattle.cbor4ii_tree.specs.{Basis.InputError.{sign_name, kind_name}, declared.value.Value.Bytes}
 use Rattle.cbor4ii_tree.specs.declared.value.Value.{Text}
 use Rattle.cbor4ii_tree.proofs.{values.Items.text_encoding, values.Strings.string_rejects}
 use Rattle.cbor4ii_tree.proofs.values.Strings.{text_rejects, bytes_reads, text_reads}

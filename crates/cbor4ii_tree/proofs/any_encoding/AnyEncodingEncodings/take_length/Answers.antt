@@ -1,7 +1,7 @@
 use Rattle.std.proofs.Common.{◌≡◌, ◌∷◌, false, refl, subst, arith}
 use Rattle.cbor4ii_items.specs.Head.{indefinite_head}
-use Rattle.cbor4ii_tree.specs.Valuing.{RejectsMajor}
-use Rattle.cbor4ii_tree.specs.Valuing.{TakesLength}
+use Rattle.cbor4ii_tree.specs.Inner.Valuing.{RejectsMajor}
+use Rattle.cbor4ii_tree.specs.Inner.Valuing.{TakesLength}
 use Rattle.cbor4ii_tree.proofs.skip_calls.Doing.{does_ok, reached_as}
 use Rattle.cbor4ii_tree.proofs.values.{ByHead.{after_first, taken_first}, Gives.gives_as}
 use Rattle.cbor4ii_tree.proofs.any_encoding.AnyEncodingEncodings.take_length.Goals as goal

@@ -4,8 +4,9 @@ use Rattle.std.proofs.Common.{drop}
 use Rattle.cbor4ii_items.specs.{Initial.{unsigned, negative, byte_string}, Shortest.ReadsShortest}
 use Rattle.cbor4ii_items.specs.Shortest.{ReadsShortestString, RejectsShortest}
 use Rattle.cbor4ii_items.specs.Shortest.{RejectsShortestString}
-use Rattle.cbor4ii_tree.specs.{CanonicalCalls.TextAt, CanonicalRejects.CanonicalTextRejects}
-use Rattle.cbor4ii_tree.specs.{InputError.{sign_name, kind_name}, Valuing.RejectsUnder}
+use Rattle.cbor4ii_tree.specs.{Inner.CanonicalCalls.TextAt}
+use Rattle.cbor4ii_tree.specs.{Calls.CanonicalRejects.CanonicalTextRejects}
+use Rattle.cbor4ii_tree.specs.{Basis.InputError.{sign_name, kind_name}, Inner.Valuing.RejectsUnder}
 use Rattle.cbor4ii_tree.specs.declared.value.Value.{Bytes}
 use Rattle.cbor4ii_tree.proofs.canonical.Calls.{string_of, bytes_exact, text_exact}
 use Rattle.cbor4ii_tree.proofs.skip_calls.Doing.{does_ok, reached_as, reached_by, still_rejected}

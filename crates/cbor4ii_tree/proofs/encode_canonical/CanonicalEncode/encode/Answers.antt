@@ -1,5 +1,6 @@
 use Rattle.std.proofs.{Common.refl, lemmas.Result.on_ok_weaker}
-use Rattle.cbor4ii_tree.specs.{Canonical.{canonical_encoding, canonical_cost}, View.view}
+use Rattle.cbor4ii_tree.specs.{Basis.Canonical.{canonical_encoding, canonical_cost}}
+use Rattle.cbor4ii_tree.specs.{Basis.View.view}
 use Rattle.cbor4ii_tree.proofs.encodings.CanonicalShape.{written_canonically}
 use Rattle.cbor4ii_tree.proofs.encode_canonical.CanonicalEncode.encode.Goals as goal
 

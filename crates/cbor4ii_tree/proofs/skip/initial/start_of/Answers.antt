@@ -3,7 +3,7 @@ use Rattle.std.proofs.Common.{arith}
 use Rattle.cbor4ii_items.specs.Initial.{Info, wide, indefinite_ended, reserved, info_of}
 use Rattle.cbor4ii_items.specs.Initial.{int_by_info, string_by_info, Sign, unsigned, negative, Kind}
 use Rattle.cbor4ii_items.specs.Initial.{byte_string, text_string, simple_by_info, by_major, initial}
-use Rattle.cbor4ii_tree.specs.Skipping.{additional_of, start_of}
+use Rattle.cbor4ii_tree.specs.Inner.Skipping.{additional_of, start_of}
 use Rattle.cbor4ii_tree.specs.declared.skip.initial.Start.TheVariants.{Bytes, Content}
 use Rattle.cbor4ii_tree.specs.declared.skip.initial.Additional.TheVariants.{Wide}
 use Rattle.cbor4ii_tree.proofs.skip.initial.start_of.Goals as goal

@@ -1,9 +1,9 @@
-use Rattle.cbor4ii_tree.specs.Ahead.{in_map}
+use Rattle.cbor4ii_tree.specs.Inner.Ahead.{in_map}
 use Rattle.cbor4ii_tree.proofs.skip_calls.Pairs.{keyed_none, keyed_turned, keyed_kept, keyed_done}
 use Rattle.cbor4ii_tree.proofs.skip_calls.{Pairs.keyed_stop, Runs.{twice, once}}
 use Rattle.std.proofs.Common.{refl, ◌∙◌, arith, rules}
-use Rattle.cbor4ii_tree.specs.{Ahead.{NeverRejects, RejectsSome}}
-use Rattle.cbor4ii_tree.specs.Skipping.{SkipsItems, SkipsIndefinite, SkipsMembers}
+use Rattle.cbor4ii_tree.specs.{Inner.Ahead.{NeverRejects, RejectsSome}}
+use Rattle.cbor4ii_tree.specs.Inner.Skipping.{SkipsItems, SkipsIndefinite, SkipsPairs}
 use Rattle.cbor4ii_tree.specs.declared.skip.items.Went.TheVariants.{Past}
 use Rattle.cbor4ii_tree.proofs.skip_calls.Doing.{reached_start, reached_on}
 use Rattle.cbor4ii_tree.proofs.skip_calls.Doing.{reached_then, does_ok, does_value}
@@ -26,17 +26,19 @@ use Rattle.cbor4ii_tree.proofs.skip.items.+skip.Goals as goal
 pub skip_some-skip_without_step-requires-clause-no_step :
     goal.skip_some-skip_without_step-requires-clause-no_step
 skip_some-skip_without_step-requires-clause-no_step g t c =
-    none_left _ _ _ (g.met.F.Prefix.same_budget _ _) c.if-not-step_in.ensures.budget
+    none_left _ _ _ (g.met.F.BytesAhead.same_budget _ _) c.if-not-step_in.ensures.budget
 
 pub skip_some-returns-then-not-step_in : goal.skip_some-returns-then-not-step_in
 skip_some-returns-then-not-step_in g t c =
     apart_gains (λ n h. (h.0, λ some. absurd (omega (arith, some, h.1)))) (without_step
-    g.F.Prefix.view g.S.Source.view g.met.F.Prefix.same_budget g.met.F.Prefix.moved c.args.among
+    g.F.BytesAhead.view g.S.Source.view g.met.F.BytesAhead.same_budget g.met.F.BytesAhead.moved
+    c.args.among
     c.step_in.ensures.others c.if-not-step_in.ensures.budget c.skip_without_step.ensures)
 
 pub skip_some-returns : goal.skip_some-returns
 skip_some-returns g t c =
-    stepped g.F.Prefix.view g.S.Source.view g.met.F.Prefix.same_budget g.met.F.Prefix.moved
+    stepped g.F.BytesAhead.view g.S.Source.view g.met.F.BytesAhead.same_budget
+    g.met.F.BytesAhead.moved
     c.args.among c.step_in.ensures.others c.if-not-step_in.ensures.budget
     c.some_inside-outcome.ensures c.step_out.ensures.budget c.step_out.ensures.others
 
@@ -117,16 +119,16 @@ skip_after-returns-in-Twice g t c = goes_on c.in-Twice.is c.skip_twice.ensures
 pub skip_after-returns-in-Indefinite : goal.skip_after-returns-in-Indefinite
 skip_after-returns-in-Indefinite g t c = goes_on c.in-Indefinite.is c.skip_indefinite.ensures
 
-pub skip_after-returns-in-IndefiniteMembers : goal.skip_after-returns-in-IndefiniteMembers
-skip_after-returns-in-IndefiniteMembers g t c =
-    goes_on c.in-IndefiniteMembers.is c.skip_indefinite_members.ensures
+pub skip_after-returns-in-PairsToBreak : goal.skip_after-returns-in-PairsToBreak
+skip_after-returns-in-PairsToBreak g t c =
+    goes_on c.in-PairsToBreak.is c.skip_indefinite_pairs.ensures
 
 pub skip_items-returns : goal.skip_items-returns
 skip_items-returns g t c =
-    let same = g.met.F.Prefix.same_budget in
+    let same = g.met.F.BytesAhead.same_budget in
     let d = c.skip_inward-done.ensures.skips in
     record {
-      does = does_back _ _ (g.met.F.Prefix.moved _ _ _ c.give_back.ensures.others) (same _ _
+      does = does_back _ _ (g.met.F.BytesAhead.moved _ _ _ c.give_back.ensures.others) (same _ _
           ∙ all_back _ _ (same _ _) c.give_back.ensures.budget c.skip_inward-done.ensures.deeper)
           d.does;
       spares = d.spares;
@@ -167,14 +169,15 @@ skip_inward-returns-clause-deeper g t c = c.loop-left.invariant.deeper
 pub skip_next-returns-then-not-step_in-clause-skips :
     goal.skip_next-returns-then-not-step_in-clause-skips
 skip_next-returns-then-not-step_in-clause-skips g t c =
-    gone_without c.args.left c.requires (without_step g.F.Prefix.view g.S.Source.view
-    g.met.F.Prefix.same_budget g.met.F.Prefix.moved (among.Items c.args.left)
+    gone_without c.args.left c.requires (without_step g.F.BytesAhead.view g.S.Source.view
+    g.met.F.BytesAhead.same_budget g.met.F.BytesAhead.moved (among.Items c.args.left)
     c.step_in.ensures.others c.if-not-step_in.ensures.budget c.skip_without_step.ensures)
 
 pub skip_next-returns-then-depth-lt18446744073709551615-clause-skips :
     goal.skip_next-returns-then-depth-lt18446744073709551615-clause-skips
 skip_next-returns-then-depth-lt18446744073709551615-clause-skips g t c =
-    gone_into g.F.Prefix.view g.S.Source.view g.met.F.Prefix.same_budget g.met.F.Prefix.moved
+    gone_into g.F.BytesAhead.view g.S.Source.view g.met.F.BytesAhead.same_budget
+    g.met.F.BytesAhead.moved
     c.args.left _ c.step_in.ensures.others c.if-not-step_in.ensures.budget (omega
     (arith, c.if-left-eq1.true)) (apart_value c.in-Some-Into.field-0-is c.in-Some-Into.ensures)
 
@@ -184,16 +187,18 @@ skip_next-returns-then-depth-lt18446744073709551615-clause-deeper g t c = search
 
 pub skip_next-returns-then-done-clause-skips : goal.skip_next-returns-then-done-clause-skips
 skip_next-returns-then-done-clause-skips g t c =
-    gone c.args.left c.requires (stepped g.F.Prefix.view g.S.Source.view g.met.F.Prefix.same_budget
-    g.met.F.Prefix.moved (among.Items c.args.left) c.step_in.ensures.others
+    gone c.args.left c.requires (stepped g.F.BytesAhead.view g.S.Source.view
+    g.met.F.BytesAhead.same_budget
+    g.met.F.BytesAhead.moved (among.Items c.args.left) c.step_in.ensures.others
     c.if-not-step_in.ensures.budget (into (among.Items c.args.left) c.requires c.in-Some-Into.count
     (apart_value c.in-Some-Into.field-0-is c.in-Some-Into.ensures) c.if-done.ensures)
     c.step_out.ensures.budget c.step_out.ensures.others)
 
 pub skip_next-returns-else-done-clause-skips : goal.skip_next-returns-else-done-clause-skips
 skip_next-returns-else-done-clause-skips g t c =
-    gone c.args.left c.requires (stepped g.F.Prefix.view g.S.Source.view g.met.F.Prefix.same_budget
-    g.met.F.Prefix.moved (among.Items c.args.left) c.step_in.ensures.others
+    gone c.args.left c.requires (stepped g.F.BytesAhead.view g.S.Source.view
+    g.met.F.BytesAhead.same_budget
+    g.met.F.BytesAhead.moved (among.Items c.args.left) c.step_in.ensures.others
     c.if-not-step_in.ensures.budget (into (among.Items c.args.left) c.requires c.in-Some-Into.count
     (apart_value c.in-Some-Into.field-0-is c.in-Some-Into.ensures) c.if-done.ensures)
     c.step_out.ensures.budget c.step_out.ensures.others)
@@ -201,7 +206,8 @@ skip_next-returns-else-done-clause-skips g t c =
 pub skip_next-returns-in-Some-Past-clause-skips : goal.skip_next-returns-in-Some-Past-clause-skips
 skip_next-returns-in-Some-Past-clause-skips g t c =
     gone c.args.left c.requires
-    (stepped g.F.Prefix.view g.S.Source.view g.met.F.Prefix.same_budget g.met.F.Prefix.moved
+    (stepped g.F.BytesAhead.view g.S.Source.view g.met.F.BytesAhead.same_budget
+    g.met.F.BytesAhead.moved
     (among.Items c.args.left) c.step_in.ensures.others c.if-not-step_in.ensures.budget (was_past
     (among.Items c.args.left) _ (apart_value c.in-Some-Past.field-0-is c.in-Some-Past.ensures))
     c.step_out-in-Some-Past.ensures.budget c.step_out-in-Some-Past.ensures.others)
@@ -209,7 +215,8 @@ skip_next-returns-in-Some-Past-clause-skips g t c =
 pub skip_next-returns-in-None-clause-skips : goal.skip_next-returns-in-None-clause-skips
 skip_next-returns-in-None-clause-skips g t c =
     gone c.args.left c.requires
-    (stepped g.F.Prefix.view g.S.Source.view g.met.F.Prefix.same_budget g.met.F.Prefix.moved
+    (stepped g.F.BytesAhead.view g.S.Source.view g.met.F.BytesAhead.same_budget
+    g.met.F.BytesAhead.moved
     (among.Items c.args.left) c.step_in.ensures.others c.if-not-step_in.ensures.budget
     (apart_with (λ _. 0) (refused c.in-None.ensures.does) tt stays_put c.in-None.ensures)
     c.step_out-in-None.ensures.budget c.step_out-in-None.ensures.others)
@@ -239,28 +246,28 @@ skip_indefinite-loop-preserved g t c = record {
   stays = stays_then c.loop.invariant.stays c.in-Some.ensures.stays;
 }
 
-pub skip_indefinite_members-loop-some-init : goal.skip_indefinite_members-loop-some-init
-skip_indefinite_members-loop-some-init g t c =
+pub skip_indefinite_pairs-loop-some-init : goal.skip_indefinite_pairs-loop-some-init
+skip_indefinite_pairs-loop-some-init g t c =
     record { reached = reached_start _ _ (keyed_none _); stays = stays_put }
 
-pub skip_indefinite_members-returns-in-None : goal.skip_indefinite_members-returns-in-None
-skip_indefinite_members-returns-in-None g t c =
+pub skip_indefinite_pairs-returns-in-None : goal.skip_indefinite_pairs-returns-in-None
+skip_indefinite_pairs-returns-in-None g t c =
     let h = rw c.in_map.ensures at c.in-None.ensures in
     apart_with (λ _. tt) (stops_on c.loop-some.invariant.reached
     (RejectsSome (in_map c.loop-some.keyed)) (keyed_stop c.loop-some.keyed _) h.does) tt
     c.loop-some.invariant.stays h
 
-pub skip_indefinite_members-returns-then-some-eq0 :
-    goal.skip_indefinite_members-returns-then-some-eq0
-skip_indefinite_members-returns-then-some-eq0 g t c =
+pub skip_indefinite_pairs-returns-then-some-eq0 :
+    goal.skip_indefinite_pairs-returns-then-some-eq0
+skip_indefinite_pairs-returns-then-some-eq0 g t c =
     let h = rw c.in_map.ensures at c.in-Some.ensures in
-    apart_with (λ _. tt) (does_ok _ _ (reached_then _ _ (SkipsMembers _) (keyed_done
+    apart_with (λ _. tt) (does_ok _ _ (reached_then _ _ (SkipsPairs _) (keyed_done
     c.loop-some.keyed _) c.loop-some.invariant.reached (break_of (in_map c.loop-some.keyed) _
     h c.if-some-eq0.true))) tt c.loop-some.invariant.stays h
 
-pub skip_indefinite_members-loop-some-preserved-then-some-eq1 :
-    goal.skip_indefinite_members-loop-some-preserved-then-some-eq1
-skip_indefinite_members-loop-some-preserved-then-some-eq1 g t c = record {
+pub skip_indefinite_pairs-loop-some-preserved-then-some-eq1 :
+    goal.skip_indefinite_pairs-loop-some-preserved-then-some-eq1
+skip_indefinite_pairs-loop-some-preserved-then-some-eq1 g t c = record {
   reached = reached_on c.loop-some.invariant.reached (SkipsItems _) (λ xs ys zs. keyed_turned
       c.loop-some.keyed _ _ xs ys zs (omega (arith, c.if-some-eq1.true))) (some_of
       (in_map c.loop-some.keyed) _ (rw c.in_map.ensures at c.in-Some.ensures)
@@ -268,8 +275,8 @@ skip_indefinite_members-loop-some-preserved-then-some-eq1 g t c = record {
   stays = stays_then c.loop-some.invariant.stays c.in-Some.ensures.stays;
 }
 
-pub skip_indefinite_members-loop-some-preserved : goal.skip_indefinite_members-loop-some-preserved
-skip_indefinite_members-loop-some-preserved g t c = record {
+pub skip_indefinite_pairs-loop-some-preserved : goal.skip_indefinite_pairs-loop-some-preserved
+skip_indefinite_pairs-loop-some-preserved g t c = record {
   reached = reached_on c.loop-some.invariant.reached (SkipsItems _) (λ xs ys zs. keyed_kept
       c.loop-some.keyed _ _ xs ys zs c.if-some-eq1.false) (some_of (in_map c.loop-some.keyed) _
       (rw c.in_map.ensures at c.in-Some.ensures) (omega (arith, c.if-some-eq0.false)));

@@ -1,5 +1,5 @@
 use Rattle.cbor4ii_rw.specs.Reader.{KeepsAllButBudget}
-use Rattle.cbor4ii_tree.specs.{Cost.Budget, Deeper.Deeper}
+use Rattle.cbor4ii_tree.specs.{Basis.Cost.Budget, Inner.Deeper.Deeper}
 use Rattle.cbor4ii_tree.proofs.skip.step.give_back.Given as goal
 
 abbrev pub invariant-loop-left : goal.invariant-loop-left

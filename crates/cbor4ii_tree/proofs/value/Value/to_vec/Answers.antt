@@ -1,5 +1,5 @@
 use Rattle.std.proofs.Common.{◌≡◌, [], ◌++◌, refl, ap}
-use Rattle.cbor4ii_tree.specs.{Canonical.canonical_encoding, View.view}
+use Rattle.cbor4ii_tree.specs.{Basis.Canonical.canonical_encoding, Basis.View.view}
 use Rattle.cbor4ii_tree.proofs.value.Value.to_vec.Goals as goal
 
 pub returns-in-Ok : goal.returns-in-Ok

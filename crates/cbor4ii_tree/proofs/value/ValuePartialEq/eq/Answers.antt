@@ -1,5 +1,5 @@
 use Rattle.std.proofs.lemmas.Bool.Decides.{same_from_decides}
-use Rattle.cbor4ii_tree.specs.{ItemEquality.{item_eq, item_eq-Decides}, View.view}
+use Rattle.cbor4ii_tree.specs.{Calls.ItemEquality.{item_eq, item_eq-Decides}, Basis.View.view}
 use Rattle.cbor4ii_tree.proofs.value.ValuePartialEq.eq.Goals as goal
 
 pub returns-clause-answer : goal.returns-clause-answer

@@ -3,7 +3,7 @@ use Rattle.std.specs.Prelude.{codes}
 use Rattle.std.proofs.lemmas.Result.{err_from_is_err_and}
 use Rattle.cbor4ii_items.specs.Laws.Calls.{trailing, out_of_memory}
 use Rattle.cbor4ii_items.specs.Laws.Pairs.{pair_ok, key_err, value_err}
-use Rattle.cbor4ii_items.specs.Laws.Calls.{of_exact, exactly}
+use Rattle.cbor4ii_items.specs.Laws.Calls.{of_exact, decodes_exactly}
 use Rattle.cbor4ii_items.specs.Sequences.{in_vector}
 use Rattle.cbor4ii_items.specs.Laws.SequenceParts.{count_more, count_done, count_err, stands}
 use Rattle.cbor4ii_items.specs.Laws.SequenceParts.{indefinite_more, indefinite_done, indefinite_err}
@@ -90,12 +90,12 @@ any_array-returns g t c =
 
 pub array_inside-returns-in-Err : goal.array_inside-returns-in-Err
 array_inside-returns-in-Err g t c =
-    exactly (head_err in_vector (codes "array") 4 any_format four_small
+    decodes_exactly (head_err in_vector (codes "array") 4 any_format four_small
     (of_exact c.in-Err.ensures))
 
 pub array_inside-returns-in-Ok-Some : goal.array_inside-returns-in-Ok-Some
 array_inside-returns-in-Ok-Some g t c =
-    exactly (trailing (count_format any_format _) values_inside
+    decodes_exactly (trailing (count_format any_format _) values_inside
     (answer_of c.definite_values.result)
     (counts in_vector (codes "array") 4 any_format four_small c.in-Ok-Some.field-0-is
     c.in-Ok-Some.ensures)
@@ -103,7 +103,7 @@ array_inside-returns-in-Ok-Some g t c =
 
 pub array_inside-returns-in-Ok-None : goal.array_inside-returns-in-Ok-None
 array_inside-returns-in-Ok-None g t c =
-    exactly (trailing (indefinite_format (codes "array") any_format) values_inside
+    decodes_exactly (trailing (indefinite_format (codes "array") any_format) values_inside
     (answer_of c.indefinite_values.result)
     (opens in_vector (codes "array") 4 any_format four_small c.in-Ok-None.field-0-is
     c.in-Ok-None.ensures)
@@ -116,7 +116,8 @@ definite_values-returns-then-is_err g t c =
 pub definite_values-returns-in_err-add_value : goal.definite_values-returns-in_err-add_value
 definite_values-returns-in_err-add_value g t c =
     let p = err_from_is_err_and c.from_residual.result c.from_residual.ensures.1 in
-    rw (p.1, p.2) (exactly (count_err in_vector any_format (λ is. any_lawful) c.loop-i.invariant
+    rw (p.1, p.2) (decodes_exactly (count_err in_vector any_format (λ is. any_lawful)
+    c.loop-i.invariant
     c.loop-i-test.true
     (of_exact c.in_err-add_value.ensures)))
 
@@ -134,7 +135,8 @@ definite_values-returns g t c =
 pub indefinite_values-returns-in_err-takes_break : goal.indefinite_values-returns-in_err-takes_break
 indefinite_values-returns-in_err-takes_break g t c =
     let p = err_from_is_err_and c.from_residual.result c.from_residual.ensures.1 in
-    rw (p.1, p.2) (exactly (indefinite_err in_vector (codes "array") any_format (λ is. any_lawful)
+    rw (p.1, p.2) (decodes_exactly (indefinite_err in_vector (codes "array") any_format
+    (λ is. any_lawful)
     c.loop-values.invariant
     (place_end any_format (codes "array") (λ is. any_lawful) c.in_err-takes_break.ensures.runs
     c.in_err-takes_break.ensures.memory)))
@@ -143,7 +145,8 @@ pub indefinite_values-returns-in_err-add_value : goal.indefinite_values-returns-
 indefinite_values-returns-in_err-add_value g t c =
     let p = err_from_is_err_and c.from_residual-in_err-add_value.result
     c.from_residual-in_err-add_value.ensures.1 in
-    rw (p.1, p.2) (exactly (indefinite_err in_vector (codes "array") any_format (λ is. any_lawful)
+    rw (p.1, p.2) (decodes_exactly (indefinite_err in_vector (codes "array") any_format
+    (λ is. any_lawful)
     c.loop-values.invariant
     (place_part any_format (codes "array") refl
     (stands c.if-not-branch.true c.in_ok-takes_break.ensures.runs)
@@ -201,18 +204,20 @@ any_map-returns g t c =
 
 pub map_inside-returns-in-Err : goal.map_inside-returns-in-Err
 map_inside-returns-in-Err g t c =
-    exactly (head_err in_vector (codes "map") 5 any_pair five_small (of_exact c.in-Err.ensures))
+    decodes_exactly (head_err in_vector (codes "map") 5 any_pair five_small
+    (of_exact c.in-Err.ensures))
 
 pub map_inside-returns-in-Ok-Some : goal.map_inside-returns-in-Ok-Some
 map_inside-returns-in-Ok-Some g t c =
-    exactly (trailing (count_format any_pair _) pairs_inside (answer_of c.definite_pairs.result)
+    decodes_exactly (trailing (count_format any_pair _) pairs_inside
+    (answer_of c.definite_pairs.result)
     (counts in_vector (codes "map") 5 any_pair five_small c.in-Ok-Some.field-0-is
     c.in-Ok-Some.ensures)
     (of_exact c.definite_pairs.ensures))
 
 pub map_inside-returns-in-Ok-None : goal.map_inside-returns-in-Ok-None
 map_inside-returns-in-Ok-None g t c =
-    exactly (trailing (indefinite_format (codes "map") any_pair) pairs_inside
+    decodes_exactly (trailing (indefinite_format (codes "map") any_pair) pairs_inside
     (answer_of c.indefinite_pairs.result)
     (opens in_vector (codes "map") 5 any_pair five_small c.in-Ok-None.field-0-is
     c.in-Ok-None.ensures)
@@ -225,7 +230,8 @@ definite_pairs-returns-then-is_err g t c =
 pub definite_pairs-returns-in_err-add_pair : goal.definite_pairs-returns-in_err-add_pair
 definite_pairs-returns-in_err-add_pair g t c =
     let p = err_from_is_err_and c.from_residual.result c.from_residual.ensures.1 in
-    rw (p.1, p.2) (exactly (count_err in_vector any_pair (λ is. pair_is_lawful) c.loop-i.invariant
+    rw (p.1, p.2) (decodes_exactly (count_err in_vector any_pair (λ is. pair_is_lawful)
+    c.loop-i.invariant
     c.loop-i-test.true
     (of_exact c.in_err-add_pair.ensures)))
 
@@ -243,7 +249,8 @@ definite_pairs-returns g t c =
 pub indefinite_pairs-returns-in_err-takes_break : goal.indefinite_pairs-returns-in_err-takes_break
 indefinite_pairs-returns-in_err-takes_break g t c =
     let p = err_from_is_err_and c.from_residual.result c.from_residual.ensures.1 in
-    rw (p.1, p.2) (exactly (indefinite_err in_vector (codes "map") any_pair (λ is. pair_is_lawful)
+    rw (p.1, p.2) (decodes_exactly (indefinite_err in_vector (codes "map") any_pair
+    (λ is. pair_is_lawful)
     c.loop-pairs.invariant
     (place_end any_pair (codes "map") (λ is. pair_is_lawful) c.in_err-takes_break.ensures.runs
     c.in_err-takes_break.ensures.memory)))
@@ -252,7 +259,8 @@ pub indefinite_pairs-returns-in_err-add_pair : goal.indefinite_pairs-returns-in_
 indefinite_pairs-returns-in_err-add_pair g t c =
     let p = err_from_is_err_and c.from_residual-in_err-add_pair.result
     c.from_residual-in_err-add_pair.ensures.1 in
-    rw (p.1, p.2) (exactly (indefinite_err in_vector (codes "map") any_pair (λ is. pair_is_lawful)
+    rw (p.1, p.2) (decodes_exactly (indefinite_err in_vector (codes "map") any_pair
+    (λ is. pair_is_lawful)
     c.loop-pairs.invariant
     (place_part any_pair (codes "map") refl
     (stands c.if-not-branch.true c.in_ok-takes_break.ensures.runs)
@@ -296,7 +304,7 @@ add_pair-returns g t c = record {
 pub read_pair-returns-in_err-key : goal.read_pair-returns-in_err-key
 read_pair-returns-in_err-key g t c =
     let p = err_from_is_err_and c.from_residual.result c.from_residual.ensures.1 in
-    rw (p.1, p.2) (exactly (key_err any_format any_format (of_exact c.in_err-key.ensures)))
+    rw (p.1, p.2) (decodes_exactly (key_err any_format any_format (of_exact c.in_err-key.ensures)))
 
 pub read_pair-returns-in-Ok : goal.read_pair-returns-in-Ok
 read_pair-returns-in-Ok g t c =
@@ -304,5 +312,5 @@ read_pair-returns-in-Ok g t c =
 
 pub read_pair-returns-in-Err : goal.read_pair-returns-in-Err
 read_pair-returns-in-Err g t c =
-    exactly (value_err any_format any_format (λ is. any_lawful) c.in_ok-key.ensures
+    decodes_exactly (value_err any_format any_format (λ is. any_lawful) c.in_ok-key.ensures
     (of_exact c.in-Err.ensures))

@@ -4,16 +4,17 @@ use Rattle.cbor4ii.proofs.Named.{name_err, entry_then}
 use Rattle.cbor4ii.proofs.Names.{text_taken}
 use Rattle.cbor4ii.proofs.serde.de.cases.named_variant.Goals as goal
 
-pub returns-in-Ok : goal.returns-in-Ok
-returns-in-Ok g c =
-    let h = c.in-Ok.ensures in
+pub returns-in-Some : goal.returns-in-Some
+returns-in-Some g c =
+    let h = c.in-Some.ensures in
     let cases = g.C.Cases.cases c.args.cases c.args.variants.now in
     entry_then (reads_named cases c.args.form) (rejects_named cases c.args.form)
-    (begins_named cases c.args.form) cases.same cases.owned (text_taken c.args.alloc h) (answer_of c.take.result)
+    (begins_named cases c.args.form) cases.same cases.owned
+    (text_taken c.args.alloc h) (answer_of c.take.result)
     (c.take.ensures.decodes h.name h.which)
 
-pub returns-in-Err : goal.returns-in-Err
-returns-in-Err g c =
+pub returns-in-None : goal.returns-in-None
+returns-in-None g c =
     let cases = g.C.Cases.cases c.args.cases c.args.variants.now in
-    name_err (reads_named cases c.args.form) (rejects_named cases c.args.form)
-    (begins_named cases c.args.form) cases.same cases.owned c.in-Err.ensures
+    rw c.left.ensures (name_err (reads_named cases c.args.form) (rejects_named cases c.args.form)
+    (begins_named cases c.args.form) cases.same cases.owned c.in-None.ensures)

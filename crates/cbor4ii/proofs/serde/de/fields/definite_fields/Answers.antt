@@ -1,17 +1,15 @@
 use Rattle.std.proofs.Common.{arith, refl, []}
-use Rattle.std.proofs.lemmas.Result.{err_from_is_err_and}
 use Rattle.cbor4ii_items.specs.Laws.Running.{kept_alike}
 use Rattle.cbor4ii_items.specs.Laws.SequenceParts.{no_part, count_err}
 use Rattle.cbor4ii_items.specs.Sequences.{in_list}
-use Rattle.cbor4ii.specs.Structs.{entry_of, entry_lawful}
+use Rattle.cbor4ii.specs.Structs.{field_pair, entry_lawful}
 use Rattle.cbor4ii.proofs.Filling.{definite_more, definite_done}
 use Rattle.cbor4ii.proofs.serde.de.fields.definite_fields.Goals as goal
 
 pub returns-in_err-take_field : goal.returns-in_err-take_field
 returns-in_err-take_field g c =
-    let p = err_from_is_err_and c.from_residual.result c.from_residual.ensures.1 in
     let fields = g.V.Places.fields c.args.names.now in
-    rw (p.1, p.2) (count_err in_list (entry_of fields) (entry_lawful fields)
+    rw c.from_residual.ensures (count_err in_list (field_pair fields) (entry_lawful fields)
     c.loop-i.invariant.begun c.loop-i-test.true c.in_err-take_field.ensures)
 
 pub loop-i-init : goal.loop-i-init
@@ -20,7 +18,7 @@ loop-i-init g c = record {
   begun = record {
     kept = kept_alike _;
     count = refl;
-    parts = no_part (entry_of (g.V.Places.fields c.args.names.now)).reads refl refl;
+    parts = no_part (field_pair (g.V.Places.fields c.args.names.now)).reads refl refl;
   };
   is = refl;
 }

@@ -1,11 +1,10 @@
 use Rattle.std.proofs.Common.{arith, refl, inl, []}
 use Rattle.std.specs.Prelude.{codes}
-use Rattle.std.proofs.lemmas.Result.{err_from_is_err_and}
 use Rattle.cbor4ii_items.specs.Laws.Answering.{fits_zero}
 use Rattle.cbor4ii_items.specs.Laws.Running.{kept_alike}
 use Rattle.cbor4ii_items.specs.Laws.SequenceParts.{stands, indefinite_err, place_end, place_part}
 use Rattle.cbor4ii_items.specs.Sequences.{in_list}
-use Rattle.cbor4ii.specs.Structs.{entry_of, entry_lawful}
+use Rattle.cbor4ii.specs.Structs.{field_pair, entry_lawful}
 use Rattle.cbor4ii.proofs.Filling.{unended_more, unended_done}
 use Rattle.cbor4ii.proofs.serde.de.fields.indefinite_fields.Goals as goal
 
@@ -30,37 +29,35 @@ loop-alloc-init g c =
       is = refl;
     }
 
-pub returns-in_err-takes_break : goal.returns-in_err-takes_break
-returns-in_err-takes_break g c =
-    let p = err_from_is_err_and c.from_residual.result c.from_residual.ensures.1 in
+pub returns-in_err-part : goal.returns-in_err-part
+returns-in_err-part g c =
     let fields = g.V.Places.fields c.args.names.now in
-    rw (p.1, p.2) (indefinite_err in_list (codes "map") (entry_of fields) (entry_lawful fields)
-    c.loop-alloc.invariant.opened (place_end (entry_of fields) (codes "map") (entry_lawful fields)
-    c.in_err-takes_break.ensures.runs c.in_err-takes_break.ensures.memory))
+    rw c.from_residual.ensures (indefinite_err in_list (codes "map") (field_pair fields)
+    (entry_lawful fields) c.loop-alloc.invariant.opened (place_end (field_pair fields) (codes "map")
+    (entry_lawful fields) (rw c.in_err-part.ensures at c.takes_break.ensures.runs)
+    (rw c.in_err-part.ensures at c.takes_break.ensures.memory)))
 
 pub returns-in_err-take_field : goal.returns-in_err-take_field
 returns-in_err-take_field g c =
-    let p = err_from_is_err_and c.from_residual-in_err-take_field.result
-    c.from_residual-in_err-take_field.ensures.1 in
     let fields = g.V.Places.fields c.args.names.now in
-    rw (p.1, p.2) (indefinite_err in_list (codes "map") (entry_of fields) (entry_lawful fields)
-    c.loop-alloc.invariant.opened (place_part (entry_of fields) (codes "map") refl
-    (stands c.if-not-branch.true c.in_ok-takes_break.ensures.runs) c.in_err-take_field.ensures))
+    let taken = rw c.in_ok-part.ensures at c.takes_break.ensures.runs in
+    rw c.from_residual-in_err-take_field.ensures (indefinite_err in_list (codes "map")
+    (field_pair fields) (entry_lawful fields) c.loop-alloc.invariant.opened
+    (place_part (field_pair fields) (codes "map") refl (stands c.if-not-branch.true taken)
+    c.in_err-take_field.ensures))
 
 pub loop-alloc-preserved : goal.loop-alloc-preserved
 loop-alloc-preserved g c =
+    let taken = rw c.in_ok-part.ensures at c.takes_break.ensures.runs in
     unended_more (g.V.Places.fields c.args.names.now) c.loop-alloc.invariant
-    (stands c.if-not-branch.true c.in_ok-takes_break.ensures.runs) c.in_ok-take_field.ensures
+    (stands c.if-not-branch.true taken) c.in_ok-take_field.ensures
 
 pub returns : goal.returns
 returns g c =
     unended_done (g.V.Places.fields c.args.names.now) (codes "map") c.if-not-branch.false
-    c.loop-alloc.invariant c.in_ok-takes_break.ensures.runs
+    c.loop-alloc.invariant (rw c.in_ok-part.ensures at c.takes_break.ensures.runs)
 
 pub loop-alloc-smaller : goal.loop-alloc-smaller
 loop-alloc-smaller g c =
-    omega (
-      arith,
-      c.in_ok-take_field.ensures.read.progress refl,
-      c.in_ok-takes_break.ensures.runs.moves.by.bound,
-    )
+    let taken = rw c.in_ok-part.ensures at c.takes_break.ensures.runs in
+    omega (arith, c.in_ok-take_field.ensures.read.progress refl, taken.moves.by.bound)

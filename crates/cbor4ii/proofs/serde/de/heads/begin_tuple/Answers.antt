@@ -1,6 +1,6 @@
 use Rattle.std.proofs.Common.{refl, arith, Some, Err, rules}
 use Rattle.std.specs.Prelude.{codes}
-use Rattle.cbor4ii.specs.Tuples.{container_head}
+use Rattle.cbor4ii.specs.Tuples.{container_head_format}
 use Rattle.cbor4ii.proofs.Steps.{no_step_left, under}
 use Rattle.cbor4ii.proofs.Tupled.{count_length}
 use Rattle.cbor4ii.proofs.serde.de.heads.begin_tuple.Goals as goal
@@ -10,7 +10,7 @@ returns-then-not-step_in-clause-opened g c = tt
 
 pub returns-then-not-step_in-clause-rejected : goal.returns-then-not-step_in-clause-rejected
 returns-then-not-step_in-clause-rejected g c =
-    no_step_left (container_head c.args.len) _ (search rules) c.if-not-step_in.ensures.budget
+    no_step_left (container_head_format c.args.len) _ (search rules) c.if-not-step_in.ensures.budget
     c.step_in.ensures.others
 
 pub returns-in-Ok-clause-opened : goal.returns-in-Ok-clause-opened
@@ -30,6 +30,6 @@ returns-in-Err-clause-opened g c = tt
 
 pub returns-in-Err-clause-rejected : goal.returns-in-Err-clause-rejected
 returns-in-Err-clause-rejected g c =
-    under (container_head c.args.len) (codes "tuple") c.if-not-step_in.ensures.budget
+    under (container_head_format c.args.len) (codes "tuple") c.if-not-step_in.ensures.budget
     c.step_in.ensures.others c.step_out.ensures.others (Err c.in-Err.error)
     c.step_out.ensures.budget c.in-Err.ensures

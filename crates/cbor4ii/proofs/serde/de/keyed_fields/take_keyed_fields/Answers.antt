@@ -2,7 +2,7 @@ use Rattle.std.proofs.Common.{rules}
 use Rattle.std.specs.Prelude.{codes}
 use Rattle.cbor4ii_items.specs.Laws.Calls.{of_exact}
 use Rattle.cbor4ii_items.specs.Sequences.{inside_of, in_list}
-use Rattle.cbor4ii.specs.Fields.{all_made}
+use Rattle.cbor4ii.specs.Fields.{all_changes}
 use Rattle.cbor4ii.specs.Keys.{key_labels, keyed_of}
 use Rattle.cbor4ii.specs.Typed.{answer_of}
 use Rattle.cbor4ii.proofs.Filling.{alters_under}
@@ -17,7 +17,7 @@ returns-then-not-step_in g c =
 
 pub returns : goal.returns
 returns g c =
-    alters_under all_made (g.V.Places.fields (key_labels c.args.keys.now)).exact _ _
+    alters_under all_changes (g.V.Places.fields (key_labels c.args.keys.now)).exact _ _
     (inside_of in_list (codes "map") 5
     (keyed_of (g.V.Places.fields (key_labels c.args.keys.now)))) (codes "map")
     (answer_of c.keyed_inside-outcome.result) c.if-not-step_in.ensures.budget

@@ -8,18 +8,18 @@ use Rattle.cbor4ii.proofs.serde.de.keys.take_key.Goals as goal
 pub returns-in-Err : goal.returns-in-Err
 returns-in-Err g c = no_key c.in-Err.ensures.decodes
 
-pub returns-in-Ok-take_name : goal.returns-in-Ok-take_name
-returns-in-Ok-take_name g c =
+pub returns-in-Some : goal.returns-in-Some
+returns-in-Some g c =
     text_ok (comes true c.in-Ok.ensures.decodes
     (subst (λ k. nat_eq k 3 ≡ true) c.if_major.ensures
     (is_text c.if_major.result c.if-if_major-eq-STRING.true)))
-    (text_taken c.args.alloc c.in-Ok-take_name.ensures)
+    (text_taken c.args.alloc c.in-Some.ensures)
 
-pub returns-in-Err-take_name : goal.returns-in-Err-take_name
-returns-in-Err-take_name g c =
-    text_err (comes true c.in-Ok.ensures.decodes
+pub returns-in-None : goal.returns-in-None
+returns-in-None g c =
+    rw c.left.ensures (text_err (comes true c.in-Ok.ensures.decodes
     (subst (λ k. nat_eq k 3 ≡ true) c.if_major.ensures
-    (is_text c.if_major.result c.if-if_major-eq-STRING.true))) c.in-Err-take_name.ensures
+    (is_text c.if_major.result c.if-if_major-eq-STRING.true))) c.in-None.ensures)
 
 pub returns : goal.returns
 returns g c =

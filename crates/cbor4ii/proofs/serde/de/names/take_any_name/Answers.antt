@@ -9,4 +9,4 @@ returns-in-Ok g c =
     c.place.ensures.which
 
 pub returns-in-Err : goal.returns-in-Err
-returns-in-Err g c = whole refl refl c.in-Err.ensures
+returns-in-Err g c = rw c.leave.ensures (whole refl refl c.in-Err.ensures)

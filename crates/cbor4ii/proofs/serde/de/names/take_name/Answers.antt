@@ -1,18 +1,20 @@
+use Rattle.cbor4ii.specs.Answered.{typed_value_or_error}
 use Rattle.cbor4ii.specs.Typed.{answer_of}
 use Rattle.cbor4ii.proofs.Names.{then_takes}
 use Rattle.cbor4ii.proofs.serde.de.names.take_name.Goals as goal
 
-pub returns-in-Ok-Cut : goal.returns-in-Ok-Cut
-returns-in-Ok-Cut g c =
-    then_takes c.args.names.now _ (answer_of c.take_any_name.result)
-    (rw c.in-Ok-Cut.field-0-is at c.in-Ok-Cut.ensures)
+pub returns-in-Some-Cut : goal.returns-in-Some-Cut
+returns-in-Some-Cut g c =
+    then_takes c.args.names.now _ (answer_of (typed_value_or_error c.take_any_name.result _))
+    (rw c.in-Some-Cut.field-0-is at c.in-Some-Cut.ensures)
     c.take_any_name.ensures
 
-pub returns-in-Ok-Other : goal.returns-in-Ok-Other
-returns-in-Ok-Other g c =
-    then_takes c.args.names.now _ (answer_of c.take_any_name-in-Ok-Other.result)
-    (rw c.in-Ok-Other.field-0-is at c.in-Ok-Other.ensures)
-    c.take_any_name-in-Ok-Other.ensures
+pub returns-in-Some-Other : goal.returns-in-Some-Other
+returns-in-Some-Other g c =
+    then_takes c.args.names.now _
+    (answer_of (typed_value_or_error c.take_any_name-in-Some-Other.result _))
+    (rw c.in-Some-Other.field-0-is at c.in-Some-Other.ensures)
+    c.take_any_name-in-Some-Other.ensures
 
-pub returns-in-Err : goal.returns-in-Err
-returns-in-Err g c = c.in-Err.ensures.0
+pub returns-in-None : goal.returns-in-None
+returns-in-None g c = c.in-None.ensures.0

@@ -1,7 +1,7 @@
 use Rattle.std.proofs.Common.{refl}
 use Rattle.cbor4ii_items.specs.Laws.Answering.{complete_as}
 use Rattle.cbor4ii_items.specs.Laws.Steps.{moves_ok, moves_err}
-use Rattle.cbor4ii_tree.specs.Ignored.{ReadsIgnored}
+use Rattle.cbor4ii_tree.specs.Calls.Ignored.{ReadsIgnored}
 use Rattle.cbor4ii.specs.ItemRead.{ReadsSkipped}
 use Rattle.cbor4ii.proofs.Forms.{sound_as}
 use Rattle.cbor4ii.proofs.serde.de.deserializer.Deserializer.deserialize_ignored_any.Goals as goal

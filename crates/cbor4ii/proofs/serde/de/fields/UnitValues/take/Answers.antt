@@ -1,18 +1,20 @@
 use Rattle.std.proofs.Common.{true, refl}
+use Rattle.cbor4ii.specs.Answered.{typed_value_or_error}
 use Rattle.cbor4ii.specs.Structs.{no_more}
 use Rattle.cbor4ii.specs.Typed.{answer_of}
-use Rattle.cbor4ii.proofs.IfKnown.{on_ok}
+use Rattle.cbor4ii.proofs.IfKnown.{on_some}
 use Rattle.cbor4ii.proofs.Filling.{skips}
 use Rattle.cbor4ii.proofs.serde.de.fields.UnitValues.take.Goals as goal
 
 pub returns-clause-alters : goal.returns-clause-alters
 returns-clause-alters g c name which =
-    skips no_more name c.args.self.now true (answer_of c.deserialize_ignored_any.result) refl refl refl
-    c.deserialize_ignored_any.ensures.item
+    skips no_more name c.args.self.now true (answer_of (typed_value_or_error c.skip_value.result _))
+    refl refl
+    refl c.skip_value.ensures
 
 pub returns-clause-moves : goal.returns-clause-moves
-returns-clause-moves g c = c.deserialize_ignored_any.ensures.item.moves
+returns-clause-moves g c = c.skip_value.ensures.moves
 
 pub returns-clause-progress : goal.returns-clause-progress
-returns-clause-progress g c = on_ok _ c.deserialize_ignored_any.result
-    (c.deserialize_ignored_any.ensures.item.progress refl)
+returns-clause-progress g c = on_some _ c.skip_value.result _
+    (c.skip_value.ensures.progress refl)

@@ -1,6 +1,6 @@
 use Rattle.std.proofs.Common.{◌-◌, pos, Ok, Err, length, take, drop, [], ap, refl}
 use Rattle.cbor4ii.specs.Keys.{key_labels, label_of}
-use Rattle.cbor4ii.specs.Structs.{unnamed}
+use Rattle.cbor4ii.specs.Structs.{unnamed_field}
 use Rattle.cbor4ii.specs.Typed.{answer_of}
 use Rattle.cbor4ii.proofs.Filling.{skips, field_ok, field_err, field_below}
 use Rattle.cbor4ii.proofs.Keying.{at_key, at_no_key}
@@ -47,6 +47,6 @@ returns-in-empty-clause-alters g c =
     let p = g.P.Value.Typed.promise in
     at_no_key place p g.V.Places.fields c.args.keys.now (label_of c.args.key) _ _ _ _
     (answer_of c.deserialize_ignored_any.result) c.in-empty.len_below
-    (skips (unnamed place p (g.V.Places.fields [])) (label_of c.args.key) c.args.self.now _
+    (skips (unnamed_field place p (g.V.Places.fields [])) (label_of c.args.key) c.args.self.now _
     (answer_of c.deserialize_ignored_any.result) refl refl refl
     c.deserialize_ignored_any.ensures.item)

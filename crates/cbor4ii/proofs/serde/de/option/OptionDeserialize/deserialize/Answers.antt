@@ -1,7 +1,7 @@
 use Rattle.std.proofs.Common.{refl, inl, inr, arith}
 use Rattle.cbor4ii_items.specs.Laws.Steps.{moves_then, moves_ok, moves_err}
 use Rattle.cbor4ii_items.specs.Laws.Answering.{exact_kept}
-use Rattle.cbor4ii.specs.Typed.{said_by}
+use Rattle.cbor4ii.specs.Typed.{rejects_as_promised}
 use Rattle.cbor4ii.proofs.Looking.{kept_next, saw, some_sound, some_complete, option_complete}
 use Rattle.cbor4ii.proofs.Looking.{null_sound}
 use Rattle.std.specs.Prelude.{codes}
@@ -81,6 +81,7 @@ returns-in-Err g c = record {
   complete = λ is exact. option_complete _ (c.in-Err.ensures.decodes.complete (inl refl));
   rejects = λ is exact. option_ended (RejectsStepped (codes "option")
       g.T.Typed.promise.format.rejects) c.in-Err.ensures.decodes.begins;
-  begins = λ _. option_ended (RejectsStepped (codes "option") (said_by g.T.Typed.promise))
+  begins = λ _. option_ended (RejectsStepped (codes "option")
+      (rejects_as_promised g.T.Typed.promise))
       c.in-Err.ensures.decodes.begins;
 }

@@ -1,0 +1,9 @@
+use Rattle.cbor4ii_tree.specs.Calls.RawParts.{means_integer, pair_bytes_left}
+use Rattle.cbor4ii_tree.proofs.raw_items.Finding.{Searches}
+use Rattle.cbor4ii_tree.proofs.raw_parts.find_by_integer.Given as goal
+
+abbrev pub invariant-loop-name : goal.invariant-loop-name
+invariant-loop-name l = Searches (means_integer l.key) l.pairs l.rest
+
+abbrev pub decreases-loop-name : goal.decreases-loop-name
+decreases-loop-name l = pair_bytes_left l.rest

@@ -1,0 +1,14 @@
+-- What values are written as.
+use Rattle.std.specs.Prelude.{ℕ, List}
+use Rattle.cbor4ii_items.specs.SequenceBytes.{pair_bytes}
+use Rattle.cbor4ii_tree.specs.Basis.Canonical.{canonical_encoding}
+use Rattle.cbor4ii_tree.specs.Basis.View.{view}
+use Rattle.cbor4ii_tree.specs.declared.value.Value.{Value}
+
+-- the canonical encoding
+abbrev pub value_bytes : Value → List ℕ
+value_bytes v = canonical_encoding (view v)
+
+-- a key, and its value after it
+abbrev pub value_pair_bytes : Value × Value → List ℕ
+value_pair_bytes = pair_bytes value_bytes value_bytes

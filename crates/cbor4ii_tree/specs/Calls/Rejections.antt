@@ -1,0 +1,108 @@
+-- The parts of a rejection that skipping and reading a value share. A rejection is a relation
+-- between an input, an error and the rest that it leaves, stated by heads and trees.
+use Rattle.std.specs.Prelude.{◌≡◌, ◌≢◌, ℕ, ◌-◌, ◌<◌, List, [], ◌∷◌, ◌++◌, length, ◌⊎◌, Option, Some}
+use Rattle.std.specs.Prelude.{None}
+use Rattle.cbor4ii_items.specs.Head.{Width, byte_count, HeadFits, head, break}
+use Rattle.cbor4ii_tree.specs.{Basis.Cost.Budget}
+use Rattle.cbor4ii_tree.specs.{Basis.InputError.{InputError, eof, depth_overflow, len_of}}
+use Rattle.cbor4ii_tree.specs.{Basis.InputError.{Small, break_name}}
+use Rattle.cbor4ii_tree.specs.{Basis.Tree.{Tree, Trees, no_trees, tree}}
+use Rattle.cbor4ii_tree.specs.Basis.Tree.{Pairs, no_pairs, pair, count, bytes, bytes_all}
+use Rattle.cbor4ii_tree.specs.Basis.Tree.{bytes_pairs}
+
+abbrev pub Rejection : Type 1
+Rejection = List ℕ → InputError → List ℕ → Type 0
+
+-- the error is this one, and these bytes are left
+abbrev pub Is : InputError → List ℕ → InputError → List ℕ → Type 0
+Is err left e rest = (e ≡ err) × (rest ≡ left)
+
+-- Fewer than k bytes are there. How many are asked for goes by k, and by how many are there.
+abbrev pub Lacks : (ℕ → ℕ → ℕ) → List ℕ → ℕ → Rejection
+Lacks asks name k bs e rest =
+    (length bs < k) × Is (eof name (len_of (asks k (length bs)))) [] e rest
+
+-- as many as are missing are asked for
+abbrev pub Missing : List ℕ → ℕ → Rejection
+Missing = Lacks (λ k n. k - n)
+
+-- all k are asked for
+abbrev pub MissingAll : List ℕ → ℕ → Rejection
+MissingAll = Lacks (λ k n. k)
+
+-- A whole head of the major type, whose initial byte is b, and after it the bytes are rejected as
+-- its argument says (section 3).
+pub record AfterHead (major : ℕ) (w : Width) (b : ℕ) (then : ℕ → Rejection) (bs : List ℕ)
+    (e : InputError) (rest : List ℕ) : Type 0 where
+  pub argument : ℕ
+  pub after : List ℕ
+  pub fits : HeadFits w argument
+  pub is : b ∷ bs ≡ head major argument w ++ after
+  pub rejected : then argument after e rest
+
+-- a head whose argument is cut, or a whole one and what is rejected after it
+abbrev pub AtHead : List ℕ → ℕ → Width → ℕ → (ℕ → Rejection) → Rejection
+AtHead name major w b then bs e rest =
+    MissingAll name (byte_count w) bs e rest ⊎ AfterHead major w b then bs e rest
+
+-- One more step is asked for: none is left, and nothing moves, or the bytes are rejected under what
+-- is left then.
+abbrev pub RejectsAtStep : List ℕ → Option Budget → List ℕ → (Budget → InputError → List ℕ → Type 0)
+    → InputError → List ℕ → Type 0
+RejectsAtStep name None here rejects e rest = Is (depth_overflow name) here e rest
+RejectsAtStep name (Some inner) here rejects e rest = rejects inner e rest
+
+abbrev pub Each : (Tree → Type 0) → Trees → Type 0
+Each Whole no_trees = Unit {0}
+Each Whole (tree t ts) = Whole t × Each Whole ts
+
+abbrev pub EachPair : (Tree → Type 0) → Pairs → Type 0
+EachPair Whole no_pairs = Unit {0}
+EachPair Whole (pair k v ps) = Whole k × Whole v × EachPair Whole ps
+
+-- Whole items, fewer than n, and then one that is rejected. The items of a map are its keys and
+-- values in turn (section 3.1).
+pub record RejectsInCount (Whole : Tree → Type 0) (rejects : Rejection) (n : ℕ) (bs : List ℕ)
+    (e : InputError) (rest : List ℕ) : Type 0 where
+  pub prefix : Trees
+  pub after : List ℕ
+  pub few : count prefix < n
+  pub whole : Each Whole prefix
+  pub is : bs ≡ bytes_all prefix ++ after
+  pub rejected : rejects after e rest
+
+-- Where an item or the break should come: the end of the input, or no break and an item that is
+-- rejected (section 3.2).
+abbrev pub NoBreak : Rejection → Rejection
+NoBreak rejects [] e rest = Is (eof break_name (Small 1)) [] e rest
+NoBreak rejects (b ∷ bs) e rest = (b ≢ break) × rejects (b ∷ bs) e rest
+
+-- whole items, and then no break (section 3.2.2)
+pub record IndefiniteItems (Whole : Tree → Type 0) (rejects : Rejection) (bs : List ℕ)
+    (e : InputError)
+    (rest : List ℕ) : Type 0 where
+  pub prefix : Trees
+  pub after : List ℕ
+  pub whole : Each Whole prefix
+  pub is : bs ≡ bytes_all prefix ++ after
+  pub rejected : NoBreak rejects after e rest
+
+-- A whole key, and a value that is rejected. No break is looked for between the two (section
+-- 3.2.2).
+pub record AfterKey (Whole : Tree → Type 0) (rejects : Rejection) (bs : List ℕ) (e : InputError)
+    (rest : List ℕ) : Type 0 where
+  pub key : Tree
+  pub after : List ℕ
+  pub whole : Whole key
+  pub is : bs ≡ bytes key ++ after
+  pub rejected : rejects after e rest
+
+-- whole pairs, and then no break and a key that is rejected, or a value that is
+pub record IndefinitePairs (Whole : Tree → Type 0) (rejects : Rejection) (bs : List ℕ)
+    (e : InputError)
+    (rest : List ℕ) : Type 0 where
+  pub prefix : Pairs
+  pub after : List ℕ
+  pub whole : EachPair Whole prefix
+  pub is : bs ≡ bytes_pairs prefix ++ after
+  pub rejected : NoBreak rejects after e rest ⊎ AfterKey Whole rejects after e rest
