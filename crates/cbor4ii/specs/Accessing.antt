@@ -40,7 +40,7 @@ steps_held accessor = if accessor.nested then 2 else 1
 abbrev pub with_deserializer : {S E : Type 0} → Accessor S E → Deserializer S → Accessor S E
 with_deserializer accessor last = record accessor { de = record accessor.de { now = last } }
 
--- what is consumed a head
+-- what is left of an array or a map after its head, by the length that this gives
 abbrev pub left_after : Option ℕ → Left
 left_after None = Indefinite
 left_after (Some count) = Definite count
@@ -56,13 +56,13 @@ pub record OpensParts (major : ℕ) (old new : View) (left : Left) : Type 0 wher
   pub head : Sound (ReadsLength major) within new length
   pub begun : left ≡ left_after length
 
--- it was rejected, as what is encoded so
+-- where the answer is an error, it is one that this format gives
 abbrev pub RejectedAs : {U V E : Type 0} → Format U → View → View → Result V (DecodeError E) →
     Type 0
 RejectedAs s old new (Ok v) = Unit {0}
 RejectedAs s old new (Err error) = Decodes s old new (Err error)
 
--- so many steps more
+-- the budget with so many steps given back
 abbrev pub steps_back : ℕ → Option ℕ → Option ℕ
 steps_back zero budget = budget
 steps_back (suc k) budget = step_back (steps_back k budget)
@@ -79,8 +79,9 @@ pub record Finishes {V E : Type 0} (held : ℕ) (old new : View)
   pub moves : Moves old within answer
   pub closes : Closes held within new
 
--- Whether a part comes, by what is left: where parts are counted, while some are left; where the
--- length is indefinite, before another byte than a break, which is taken; after the break none.
+-- Where parts are counted, one comes while some are left. Where the length is indefinite, one comes
+-- before another byte than a break; the break is taken, and after it none comes.
+-- It is read whether a part comes, by what is left.
 abbrev pub ReadsStart : Left → Reads Bool
 ReadsStart (Definite zero) xs true n c = ⊥
 ReadsStart (Definite zero) xs false n c = (n ≡ 0) × (c ≡ 0)
@@ -96,13 +97,13 @@ MayGoOn (Definite k) = 1 ≤ k
 MayGoOn Indefinite = Unit {0}
 MayGoOn Ended = ⊥
 
--- how that is rejected: no byte is left where a part or a break should come
+-- whether a part comes is not read: no byte is left where a part or a break should come
 abbrev pub RejectsStart : Left → RejectsAt
 RejectsStart (Definite k) xs budget err rest = ⊥
 RejectsStart Indefinite xs budget err rest = RejectsBreak xs budget err rest
 RejectsStart Ended xs budget err rest = ⊥
 
--- what is left then
+-- what is left after it was read whether a part comes
 abbrev pub LeftAfterStart : Left → Left → Bool → Type 0
 LeftAfterStart (Definite k) new true = (0 < k) × (new ≡ Definite (k - 1))
 LeftAfterStart (Definite k) new false = (k ≡ 0) × (new ≡ Definite 0)
@@ -111,9 +112,9 @@ LeftAfterStart Indefinite new false = new ≡ Ended
 LeftAfterStart Ended new true = ⊥
 LeftAfterStart Ended new false = new ≡ Ended
 
--- What comes next is read as a part, or as the end, by what is left. Where parts are counted, one
--- comes while some are left. Where the length is indefinite, a break is the end, and another byte
--- begins a part; after the break nothing is looked at.
+-- Where parts are counted, one comes while some are left. Where the length is indefinite, a break
+-- is the end, and another byte begins a part; after the break nothing is looked at.
+-- What comes next is read as a part, or as the end, by what is left.
 abbrev pub Next : {V : Type 0} → Reads V → Left → Reads (Option V)
 Next reads (Definite zero) xs None n c = (n ≡ 0) × (c ≡ 0)
 Next reads (Definite zero) xs (Some v) n c = ⊥
@@ -124,26 +125,26 @@ Next reads Indefinite xs (Some v) n c = ReadsBreak xs false 0 0 × reads xs v n 
 Next reads Ended xs None n c = (n ≡ 0) × (c ≡ 0)
 Next reads Ended xs (Some v) n c = ⊥
 
--- how that is rejected: nothing comes, or what comes is rejected as a part
+-- the next part is rejected: nothing comes, or what comes is rejected as a part
 abbrev pub RejectsElement : RejectsAt → Left → RejectsAt
 RejectsElement rejects left xs budget err rest =
     RejectsStart left xs budget err rest
     ⊎ (ReadsStart left xs true 0 0 × rejects xs budget err rest)
 
--- what is left then
+-- what is left after the next part, or the end, was read
 abbrev pub left_then : {V : Type 0} → Left → Option V → Left
 left_then (Definite k) o = Definite (k - 1)
 left_then Indefinite None = Ended
 left_then Indefinite (Some v) = Indefinite
 left_then Ended o = Ended
 
--- what is left after an error: a part was counted off before it was read
+-- what is left after an error in the next part, which was counted off before it was read
 abbrev pub left_tried : Left → Left
 left_tried (Definite k) = Definite (k - 1)
 left_tried Indefinite = Indefinite
 left_tried Ended = Ended
 
--- what falls with each part that reads a byte
+-- a number that falls with each part that reads a byte
 abbrev pub fuel : Left → ℕ → ℕ
 fuel (Definite count) bound = count
 fuel Indefinite bound = bound
@@ -201,7 +202,7 @@ pub record AccessorGoesOn {S E V F : Type 0} (view : S → View) (old new : Acce
       (fuel (left_in new) (inside view new).bound + 1
       ≤ fuel (left_in old) (inside view old).bound))
 
--- what is left of a count
+-- how many parts are left, where they are counted
 abbrev pub hint : Left → Option ℕ
 hint (Definite k) = Some k
 hint Indefinite = None

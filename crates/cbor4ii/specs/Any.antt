@@ -30,11 +30,11 @@ use Rattle.cbor4ii.specs.Stepped.{Stepped}
 
 -- ---- what a first byte begins
 
--- tags 2 and 3 in the first byte
+-- the kind that the first byte of a tag begins: integers at tags 2 and 3, and else none
 abbrev pub tag_kind : ℕ → AnyKind
 tag_kind b = if b == 0xc2 then Leaf Bignum else (if b == 0xc3 then Leaf Integer else Other)
 
--- major type 7
+-- the kind that a first byte of major type 7 begins
 abbrev pub simple_kind : ℕ → AnyKind
 simple_kind b =
     if b == 0xf4 then Leaf Flag
@@ -55,13 +55,13 @@ kind_by (suc (suc (suc (suc (suc zero))))) b = Map
 kind_by (suc (suc (suc (suc (suc (suc zero)))))) b = tag_kind b
 kind_by _ b = simple_kind b
 
--- by the major type
+-- the kind that a first byte begins, by its major type
 abbrev pub kind : ℕ → AnyKind
 kind b = kind_by (b / 32) b
 
 -- ---- items that hold no other
 
--- what is read, as a value
+-- what is read, formed into a `Value`
 abbrev pub Formed : {W : Type 0} → Reads W → (W → Value) → Reads Value
 Formed {W} reads form xs v n c = (w : W) × reads xs w n c × (v ≡ form w)
 
@@ -97,7 +97,7 @@ ReadsSmallU128 xs k n c = ReadsU128 xs k n c × (k < 2 ^ 127)
 abbrev pub of_bignum : ℕ → Value
 of_bignum k = values.Integer (pos k)
 
--- what each is read as: null and undefined are simple values, read as null
+-- what each leaf is read as: null and undefined are simple values, read as null
 abbrev pub LeafAs : AnyLeaf → Reads Value
 LeafAs Integer = Formed ReadsI128 of_integer
 LeafAs Bignum = Formed ReadsSmallU128 of_bignum
@@ -136,12 +136,12 @@ KindAs inner Other = λ xs v n c. ⊥
 abbrev pub AnyInside : Reads Value → Reads Value
 AnyInside inner xs v n c = (b : ℕ) × (take 1 xs ≡ b ∷ []) × KindAs inner (kind b) xs v n c
 
--- at most so many items within one another, each under one step
+-- any item, with at most so many items within one another, each under one step
 abbrev pub AnyAt : ℕ → Reads Value
 AnyAt zero xs v n c = ⊥
 AnyAt (suc k) xs v n c = Stepped (AnyInside (AnyAt k)) xs v n c
 
--- however deep items nest
+-- any item, however deep items nest
 abbrev pub ReadsAny : Reads Value
 ReadsAny xs v n c = (k : ℕ) × AnyAt k xs v n c
 

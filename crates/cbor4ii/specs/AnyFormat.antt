@@ -17,11 +17,11 @@ use Rattle.cbor4ii.specs.Typed.{typed_format}
 abbrev pub any_format : Format Value
 any_format = typed_format ReadsAny SameView RejectsAny true true
 
--- an item whose step was taken
+-- any item, whose step was taken
 abbrev pub any_inside : Format Value
 any_inside = typed_format (AnyInside ReadsAny) SameView (AnyRejects RejectsAny) true true
 
--- an item of this kind, and one that holds no other
+-- an item of this kind, and likewise one that holds no other
 abbrev pub kind_format : AnyKind → Format Value
 kind_format k = typed_format (KindAs ReadsAny k) SameView (KindRejects RejectsAny k) true true
 
@@ -65,7 +65,7 @@ pub record Adds {P : Type 0} (E : Type 0) (s : Format P) (before after : List P)
   pub read : Decodes {E = E} s old new (Ok part)
   pub added : after ≡ before ++ part ∷ []
 
--- that, or the part was rejected
+-- a part was read, and follows those that were there; or the part was rejected
 abbrev pub AddsOne : {P V E : Type 0} → Format P → List P → List P → View → View
     → Result V (DecodeError E) → Type 0
 AddsOne {E = E} s before after old new (Ok v) = Adds E s before after old new

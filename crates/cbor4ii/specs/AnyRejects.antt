@@ -31,7 +31,7 @@ pub record TooGreat (xs : List ℕ) (err : InputError) (rest : List ℕ) : Type 
 abbrev pub RejectsBignum : RejectsAt
 RejectsBignum xs budget err rest = RejectsU128 xs err rest ⊎ TooGreat xs err rest
 
--- as each is rejected by its own type
+-- each leaf is rejected as by its own type
 abbrev pub LeafRejects : AnyLeaf → RejectsAt
 LeafRejects Integer = λ xs budget. RejectsI128 xs
 LeafRejects Bignum = RejectsBignum
@@ -43,7 +43,7 @@ LeafRejects F16 = RejectsFloat (codes "f16") 0xf9 2
 LeafRejects F32 = RejectsFloat (codes "f32") 0xfa 4
 LeafRejects F64 = RejectsFloat (codes "f64") 0xfb 8
 
--- the first byte is none that is read, and stays
+-- the first byte begins no item that is read, and stays
 abbrev pub RejectsOther : RejectsAt
 RejectsOther xs budget err rest =
     (b : ℕ) × (take 1 xs ≡ b ∷ []) × (err ≡ unsupported (codes "any") b) × (rest ≡ xs)
@@ -64,12 +64,12 @@ AnyRejects inner xs budget err rest =
     RejectsNext (codes "any") xs budget err rest
     ⊎ ((b : ℕ) × (take 1 xs ≡ b ∷ []) × KindRejects inner (kind b) xs budget err rest)
 
--- at most so many items within one another, each under one step
+-- any item is rejected, within at most so many items, each under one step
 abbrev pub AnyRejectsAt : ℕ → RejectsAt
 AnyRejectsAt zero xs budget err rest = ⊥
 AnyRejectsAt (suc k) xs budget err rest =
     RejectsStepped (codes "any") (AnyRejects (AnyRejectsAt k)) xs budget err rest
 
--- however deep items nest
+-- any item is rejected, however deep items nest
 abbrev pub RejectsAny : RejectsAt
 RejectsAny xs budget err rest = (k : ℕ) × AnyRejectsAt k xs budget err rest

@@ -21,14 +21,15 @@ use Rattle.cbor4ii.specs.Typed.{as_core, Promise, typed_by, laws_of}
 abbrev pub LacksLoan : {E : Type 0} → List ℕ → CoreError E → Type 0
 LacksLoan name error = (found : Bor (List ℕ)) × (error ≡ RequireBorrowed found) × (found.now ≡ name)
 
--- A string that is to be borrowed is rejected as one that may be a copy, or it was read with a cost
--- that fits, and is a copy: it is taken then.
+-- It is rejected as one that may be a copy. Or it was read with a cost that fits, and is a copy: it
+-- is taken then.
+-- A string that is to be borrowed is rejected.
 abbrev pub RejectsUnlent : {V : Type 0} → List ℕ → Reads V → RejectsAt → RejectsAt
 RejectsUnlent {V} name reads rejects xs budget err rest =
     rejects xs budget err rest ⊎ ((v : V) × (n c : ℕ) × reads xs v n c × CostFits c budget
     × (err ≡ require_borrowed name) × (rest ≡ drop n xs))
 
--- a text of definite length, and a byte string
+-- a text of definite length that is to be borrowed, and likewise a byte string
 abbrev pub unlent_text : Promise (Bor (List ℕ))
 unlent_text = typed_by (RejectsUnlent (codes "str") (ReadsTextAs cow_text)
     (RejectsText (codes "str")))
@@ -40,8 +41,8 @@ unlent_bytes = typed_by
     false true
     (laws_of (lent_lawful (codes "bytes") 2 two_small false lent_bytes))
 
--- A string that was borrowed is handed on with its content. One that was copied is rejected, and so
--- is what was rejected before.
+-- A string that was copied is rejected, and so is what was rejected before.
+-- A string that was borrowed is handed on with its content.
 pub record Borrows {V W E : Type 0} (content : V → List ℕ) (lent : W → List ℕ)
     (IsBorrowed IsOwned : V → Type 0) (name : List ℕ) (found : Result V (CoreError E))
     (answer : Result W (DecodeError E)) : Type 0 where
@@ -56,8 +57,8 @@ pub record RejectsCopy {V W E : Type 0} (name : List ℕ) (found : Result V (Dec
   pub reason : IfErr answer
       (λ error. MatchResult found (λ v. LacksLoan name (as_core error)) (λ before. error ≡ before))
 
--- What was read is handed on with its content, in memory of its own; or there was no memory for
--- that. An error is handed on as it is.
+-- Without memory for that the error is `OutOfMemory`, and an earlier error is handed on as it is.
+-- What was read is handed on with its content, in memory of its own.
 pub record Copies {V W E : Type 0} (content : V → List ℕ) (copy : W → List ℕ) (IsOwned : W → Type 0)
     (found : Result V (DecodeError E)) (answer : Result W (DecodeError E)) : Type 0 where
   pub handed : IfOk answer (λ w. IsOkAnd found (λ v. IsOwned w × (copy w ≡ content v)))

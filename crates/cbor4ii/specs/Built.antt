@@ -11,7 +11,7 @@ abbrev pub put_all : {K V : Type 0} → (K → K → Ordering) → List (K × V)
 put_all cmp es [] = es
 put_all cmp es (p ∷ ps) = put_all cmp (insert_entry cmp es p.0 p.1) ps
 
--- of equal keys the first stays, with the last value
+-- what pairs build: of equal keys the first stays, with the last value
 abbrev pub built_pairs : {K V : Type 0} → (K → K → Ordering) → List (K × V) → List (K × V)
 built_pairs cmp ps = put_all cmp [] ps
 
@@ -21,7 +21,7 @@ abbrev pub ReadsBuilt : {K V M : Type 0} → (M → List (K × V)) → (K → K 
 ReadsBuilt {K} {V} entries cmp reads xs m n c =
     (ps : List (K × V)) × reads xs ps n c × (entries m ≡ built_pairs cmp ps)
 
--- the same of a format; two maps are the same where the same pairs build both
+-- a map that its pairs build; two maps are the same where the same pairs build both
 abbrev pub built_map : {K V M : Type 0} → (M → List (K × V)) → (K → K → Ordering)
     → Format (List (K × V)) → Format M
 built_map {K} {V} entries cmp s = record {

@@ -41,7 +41,7 @@ pub record Holding (V : Type 0) : Type 1 where
   pub unit_one : (v w : V) → unit v → unit w → same v w
   pub lawful : IsTrue exact → IsLawfulReading content same false
 
--- after a name, by the form: nothing, or a content
+-- what is read after a variant's name, by the form: nothing, or a content
 abbrev pub reads_by : {V : Type 0} → Bool × ℕ → (V → Type 0) → Reads V → Reads V
 reads_by form unit content xs v n c = elim form.0 [
   | true ↦ content xs v n c
@@ -65,12 +65,12 @@ no_content_laws same = record {
   alone = not_exact;
 }
 
--- it has a content, and is rejected by its first byte; nothing is taken
+-- a variant of its name alone has a content: its first byte is rejected, and nothing is taken
 abbrev pub RejectsUnitCase : Bool × ℕ → RejectsAt
 RejectsUnitCase form xs budget err rest =
     IsTrue form.0 × (err ≡ mismatch (codes "enum") form.1) × (rest ≡ xs)
 
--- its name alone
+-- a variant that is its name alone
 abbrev pub unit_case : Holding (Unit {0})
 unit_case = record {
   unit = λ v. Unit {0};
@@ -89,7 +89,7 @@ pub some_laws : {V : Type 0} {reads : Reads V} {same : V → V → Type 0} → I
     → IsLawfulReading reads same false
 some_laws h = record { one = h.one; within = h.within; positive = not_exact; alone = not_exact }
 
--- a value of this type
+-- a variant that holds a value of this type
 abbrev pub held_case : {V : Type 0} → Promise V → Holding V
 held_case p = record {
   unit = λ v. ⊥;
@@ -103,7 +103,7 @@ held_case p = record {
   lawful = λ is. some_laws (typed_laws p is);
 }
 
--- the values of named fields, of which this becomes
+-- a variant that holds named fields, of whose values this becomes
 abbrev pub fields_case : {V W : Type 0} → Fields V → (V → Result W (List ℕ)) → Holding W
 fields_case fields value = held_case (made_struct fields value)
 
@@ -121,7 +121,7 @@ pub record Cases (V : Type 0) : Type 1 where
   pub unit_one : (name : List ℕ) (v w : V) → units name v → units name w → same v w
   pub laws : IsTrue exact → (name : List ℕ) → IsLawfulReading (contents name) same false
 
--- what follows each name, by the form
+-- what is read after each variant's name, by the form
 abbrev pub reads_named : {V : Type 0} → Cases V → Bool × ℕ → List ℕ → Reads V
 reads_named cases form name = reads_by form (cases.units name) (cases.contents name)
 
@@ -155,12 +155,12 @@ otherwise words = record {
   laws = λ is name. no_content_laws any_two;
 }
 
--- it is of the first variant, and such
+-- the value is of the first variant, and such
 abbrev pub FirstAnd : {A B : Type 0} → (A → Type 0) → Choice A B → Type 0
 FirstAnd P (First v) = P v
 FirstAnd P (Other v) = ⊥
 
--- it is of another one, and such
+-- the value is of another variant than the first, and such
 abbrev pub OtherAnd : {A B : Type 0} → (B → Type 0) → Choice A B → Type 0
 OtherAnd P (First v) = ⊥
 OtherAnd P (Other v) = P v
@@ -271,7 +271,7 @@ module _ {A B : Type 0} (h : Holding A) (others : Cases B) where
   lifted_one is name xs (Other v) (First w) n m c d p q = absurd q
   lifted_one is name xs (First v) w n m c d p q = absurd p
 
-  -- the others alone: a variant that no name has
+  -- a variant that no name has: the others alone are read
   abbrev pub unnamed_case : Cases (Choice A B)
   unnamed_case = record {
     units = λ name. OtherAnd (others.units name);
@@ -301,13 +301,13 @@ cases_by h others (own ∷ names) = case own.now h (others names)
 
 -- ---- a whole variant
 
--- a name, and what follows it, by the form
+-- a variant's name, and what follows it, by the form
 abbrev pub named_format : {V : Type 0} → Cases V → Bool × ℕ → Format V
 named_format cases form =
     named_pair (reads_named cases form) (rejects_named cases form) (begins_named cases form)
     cases.same cases.owned
 
--- its form is seen, and then its name and what follows that are read
+-- a variant's form is seen, and then its name and what follows that are read
 pub record ReadsCase {V : Type 0} (cases : Cases V) (xs : List ℕ) (v : V) (n c : ℕ) : Type 0 where
   pub form : Bool × ℕ
   pub size : ℕ
@@ -316,7 +316,7 @@ pub record ReadsCase {V : Type 0} (cases : Cases V) (xs : List ℕ) (v : V) (n c
   pub named : ReadsNamedPair (reads_named cases form) (drop size xs) v between c
   pub whole : n ≡ size + between
 
--- its form is seen, and its name, or what follows that, is rejected
+-- a variant's form is seen, and its name, or what follows that, is rejected
 pub record RejectsAfterForm (rejects : Bool × ℕ → RejectsNamed) (xs : List ℕ)
     (budget : Option ℕ) (err : InputError) (rest : List ℕ) : Type 0 where
   pub form : Bool × ℕ
@@ -324,7 +324,7 @@ pub record RejectsAfterForm (rejects : Bool × ℕ → RejectsNamed) (xs : List 
   pub seen : ReadsForm xs form size 0
   pub stop : RejectsNamedPair (rejects form) (drop size xs) budget err rest
 
--- it has neither form, or what comes after its form is rejected
+-- a variant is rejected: it has neither form, or what comes after its form is rejected
 abbrev pub RejectsCase : (Bool × ℕ → RejectsNamed) → RejectsAt
 RejectsCase rejects xs budget err rest =
     RejectsForm xs budget err rest ⊎ RejectsAfterForm rejects xs budget err rest
@@ -334,7 +334,7 @@ cases_inside cases =
     format_of (ReadsCase cases) cases.same (RejectsCase (rejects_named cases))
     (RejectsCase (begins_named cases)) cases.owned true
 
--- one form is seen in one way
+-- a variant's form is seen in one way
 pub form_one : (xs : List ℕ) (f g : Bool × ℕ) (n m : ℕ) → ReadsForm xs f n 0 → ReadsForm xs g m 0
     → (f ≡ g) × (n ≡ m)
 form_one xs (true, a) (true, b) n m p q =

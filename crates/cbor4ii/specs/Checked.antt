@@ -28,7 +28,7 @@ Checks words makes takes_memory v (Err OutOfMemory) = IsTrue takes_memory
 
 -- ---- a value that stands for something, or for nothing
 
--- these words, where nothing stands there
+-- these words, where there is no value
 abbrev pub words_unless : {A : Type 0} → List ℕ → Option A → Option (List ℕ)
 words_unless text None = Some text
 words_unless text (Some a) = None
@@ -54,7 +54,7 @@ pub record RejectsUnchecked {V : Type 0} (reads : Reads V) (words : V → Option
   pub is : err ≡ in_words text
   pub left : rest ≡ drop count xs
 
--- the value's own error, or the words of a whole one
+-- the value's own error, or the words that reject a whole one
 abbrev pub RejectsChecked : {V : Type 0} → RejectsAt → Reads V → (V → Option (List ℕ)) → RejectsAt
 RejectsChecked rejects reads words xs budget err rest =
     rejects xs budget err rest ⊎ RejectsUnchecked reads words xs budget err rest
@@ -83,22 +83,23 @@ checked_from words makes takes_memory p = record {
   lawful = λ is. checked_lawful p words makes takes_memory (p.lawful is);
 }
 
--- A type whose values are made of those of another that stand for something, and are shown as it.
 -- Another value is rejected in these words. Memory may be taken.
+-- A type whose values are made of those of another that stand for something, and are shown as it.
 abbrev pub shown_from : {A V W : Type 0} → List ℕ → (V → Option A) → (W → A) → Promise V → Promise W
 shown_from text stands shown = checked_from (λ v. words_unless text (stands v))
     (λ v w. stands v ≡ Some (shown w)) true
 
 -- ---- written too
 
--- it holds a value of the program, and one that no words reject
+-- the value that it holds is one of the program's, and one that no words reject
 pub record StandsChecked {V W : Type 0} (words : V → Option (List ℕ)) (of : W → V)
     (stands : V → Type 0) (w : W) : Type 0 where
   pub held : stands (of w)
   pub passes : words (of w) ≡ None
 
--- A newtype with a test, and its like: `of` is the value that it holds, and the test takes no
--- memory. What is written is that value's item, and it is read back where the test passes.
+-- `of` is the value that it holds, and the test takes no memory. What is written is that value's
+-- item, and it is read back where the test passes.
+-- How a newtype with a test, and its like, is written and read.
 abbrev pub checked_codec : {V W : Type 0} → (V → Option (List ℕ)) → (W → V) → Codec V → Codec W
 checked_codec words of c = record {
   promise = checked_from words (λ v w. v ≡ of w) false c.promise;

@@ -49,7 +49,7 @@ abbrev pub both_facts : Facts → Facts → Facts
 both_facts no_facts others = others
 both_facts (fact_before fact facts) others = fact_before fact (both_facts facts others)
 
--- each of them holds
+-- each of the facts holds
 abbrev pub Hold : Facts → Type 0
 Hold no_facts = Unit {0}
 Hold (fact_before fact facts) = fact × Hold facts
@@ -86,7 +86,7 @@ pub record Codec (T : Type 0) : Type 1 where
 
 -- ---- what holds no other value
 
--- every value of the program is one
+-- every value of the type is one of the program's
 abbrev pub any_value : {T : Type 0} → T → Type 0
 any_value v = Unit {0}
 
@@ -171,7 +171,7 @@ pub option_is_one : {T : Type 0} (c : Codec T) → Hold c.facts → (o : Option 
 option_is_one c hold None h = option_is_item canonical c.encoding None (λ u e. cc)
 option_is_one c hold (Some v) h = c.one hold v h.0
 
--- a value whose item is null stands for none, so it is not one that is read back
+-- an option: a value whose item is null stands for none, so it is not one that is read back
 abbrev pub option_codec : {T : Type 0} → Codec T → Codec (Option T)
 option_codec c = record {
   promise = typed_option c.promise;

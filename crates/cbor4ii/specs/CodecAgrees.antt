@@ -75,8 +75,9 @@ module _ {T : Type 0} (promise : Promise T) (encoding : T → Encoding) (c : Cod
       subst (λ (item : Encoding). IsOneItem canonical item) (sym (agrees.written v))
       (c.one agrees.facts v stands)
 
--- The codec of a type parameter: it is written and read as the type's own code writes and reads,
--- and stands on that this is as the type's codec says.
+-- It is written and read as the type's own code writes and reads, and stands on that this is as the
+-- type's codec says.
+-- The codec of a type parameter.
 abbrev pub its_codec : {T : Type 0} → Promise T → (T → Encoding) → Codec T → Codec T
 its_codec promise encoding c = record {
   promise = promise;
@@ -240,7 +241,7 @@ module _ {A B : Type 0} {first : Promise A} {second : Promise B} {one : A → En
     exact = both_exact left.exact right.exact;
   }
 
-  -- the pairs of a map, one after another
+  -- a map agrees with its codec, where its keys and its values agree with theirs
   pub map_agrees : {M : Type 0} (entries : M → List (A × B)) (cmp : A → A → Ordering)
       → AgreesWith (typed_map entries cmp first second) (λ m. map_encoding one two (entries m))
       (map_codec entries cmp a b)

@@ -60,7 +60,7 @@ pub record CaseCodecs (V : Type 0) : Type 1 where
       → VariantBack cases names (encoding v) v (cost v)
   pub one : Hold facts → (v : V) → stands v → IsOneItem canonical (encoding v)
 
--- no other variant
+-- no other variant is left: every name is rejected in these words
 abbrev pub no_case : {V : Type 0} → List ℕ → CaseCodecs V
 no_case words = record {
   cases = otherwise words;
@@ -73,7 +73,7 @@ no_case words = record {
   one = λ hold v h. absurd h;
 }
 
--- of the first variant, or of another
+-- what is made of a value of the first variant, or of another
 abbrev pub by_choice {ℓ} : {A B : Type 0} {X : Type ℓ} → (A → X) → (B → X) → Choice A B → X
 by_choice first other (First v) = first v
 by_choice first other (Other v) = other v

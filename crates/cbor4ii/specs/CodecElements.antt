@@ -29,7 +29,7 @@ pub record ElementCodecs (V : Type 0) : Type 1 where
       → IsReadBack elements.format.reads (parts (items v)) v (cost v)
   pub one : Hold facts → (v : V) → stands v → AllByRecursion (IsOneItem canonical) (items v)
 
--- no element is left
+-- how elements are written and read where none is left
 abbrev pub no_elements : ElementCodecs (Unit {0})
 no_elements = record {
   elements = no_element;

@@ -39,7 +39,7 @@ abbrev pub is_apart : List ℕ → List (List ℕ) → Bool
 is_apart name [] = true
 is_apart name (other ∷ names) = not (bytes_eq other name) && is_apart name names
 
--- ASCII, below 256 bytes, and none of the others
+-- the name is ASCII, below 256 bytes, and none of the others
 abbrev pub is_new : List ℕ → List (List ℕ) → Bool
 is_new name names = (are_ascii name && ltb (length name) 256) && is_apart name names
 
@@ -58,8 +58,7 @@ is_other other name h e = let same = (bytes_eq-Decides other name).1 e in cc
 
 -- ---- structs
 
--- the fields of a struct: how they are written and read, of values of type W, which are held as V
--- while they are read
+-- how a struct's fields are written and read: values of type W, held as V while they are read
 pub record FieldCodecs (V W : Type 0) : Type 1 where
   pub shape : Shape V W
   pub names : List (List ℕ)
@@ -145,7 +144,7 @@ module _ {T P V W : Type 0} (place : Place T P) (name : List ℕ) (c : Codec T)
     entries = part_entries;
   }
 
--- a field that has to be there
+-- a field that has to be there; else the struct is rejected in these words
 abbrev pub with_field : {T V W : Type 0} (name words : List ℕ) (c : Codec T)
     (others : FieldCodecs V W)
     → IsTrue (is_new name others.names) → FieldCodecs (Option T × V) (T × W)

@@ -52,8 +52,9 @@ tagged_codec number c small = record {
 
 -- ---- items of the codec
 
--- What is asked of a type that is encoded and decoded: each value that stands is written as one
--- canonical item, which its format reads as the value at this cost, and leaves what follows it.
+-- Each value that stands is written as one canonical item, which its format reads as the value at
+-- this cost, and leaves what follows it.
+-- What is asked of a type that is encoded and decoded.
 pub record IsItemOf {T : Type 0} (format : Format T) (bytes : T → List ℕ) (stands : T → Type 0)
     (cost : T → ℕ) : Type 0 where
   -- a value takes a byte

@@ -43,12 +43,12 @@ abbrev pub minus : ℕ → ℤ
 minus zero = pos 0
 minus (suc n) = negsuc n
 
--- an i64
+-- the integer is an i64
 abbrev pub is_small : ℤ → Bool
 is_small (pos n) = ltb n (2 ^ 63)
 is_small (negsuc n) = ltb n (2 ^ 63)
 
--- an i64, and none of the others
+-- the key is an i64, and none of the others
 abbrev pub is_new_key : ℤ → List (List ℕ) → Bool
 is_new_key key labels = is_small key && is_apart (integer_label key) labels
 
@@ -170,8 +170,7 @@ keyed_count (p ∷ ps) = ap suc (keyed_count ps)
 
 -- ---- structs
 
--- the fields of a struct: how they are written and read, of values of type W, which are held as V
--- while they are read
+-- how fields with integer keys are written and read: values of type W, held as V while read
 pub record KeyCodecs (V W : Type 0) : Type 1 where
   pub shape : Shape V W
   pub labels : List (List ℕ)
@@ -191,7 +190,7 @@ pub record KeyCodecs (V W : Type 0) : Type 1 where
   pub entries : Hold facts → (w : W) → stands w
       → AllByRecursion (IsOnePair canonical) (keyed_pairs integer_item (items w))
 
--- no field is left
+-- how fields with integer keys are written and read where none is left
 abbrev pub no_keys : KeyCodecs (Unit {0}) (Unit {0})
 no_keys = record {
   shape = no_more_fields;
@@ -268,7 +267,7 @@ module _ {T P V W : Type 0} (place : Place T P) (key : ℤ) (c : Codec T)
     entries = key_part_entries;
   }
 
--- a field that has to be there
+-- a field that has to be there; else the struct is rejected in these words
 abbrev pub with_key : {T V W : Type 0} (key : ℤ) (words : List ℕ) (c : Codec T)
     (others : KeyCodecs V W) → IsTrue (is_new_key key others.labels)
     → KeyCodecs (Option T × V) (T × W)

@@ -20,8 +20,8 @@ use Rattle.cbor4ii.specs.Typed.{Promise, typed_by}
 abbrev pub typed_any : Promise Value
 typed_any = typed_by RejectsAny true true any_laws
 
--- What is asked of a type whose values are shown as others: each that stands is written as the item
--- of what it is shown as, and that item stands for it.
+-- Each that stands is written as the item of what it is shown as, and that item stands for it.
+-- What is asked of a type whose values are shown as others.
 pub record IsShownBack {A T : Type 0} (stands_for : Item → Option A) (shown : T → A)
     (encoding : T → Encoding) (item : A → Item) (stands : A → Type 0) : Type 0 where
   pub written : (t : T) → stands (shown t) → IsWrittenAs (encoding t) (item (shown t))
@@ -48,8 +48,8 @@ module _ {A T : Type 0} (text : List ℕ) (stands_for : Item → Option A) (show
       (any_cost (item (shown t))) (made_of t s held)
       (written_back (encoding t) (item (shown t)) written held)
 
-  -- A type that is read as a value of the tree: `stands_for` is what an item stands for, and
-  -- another item is rejected in the words of `text`.
+  -- `stands_for` is what an item stands for, and another item is rejected in the words of `text`.
+  -- A type that is read as a value of the tree.
   abbrev pub shown_codec : Codec T
   shown_codec = record {
     promise = shown_from text (λ v. stands_for (view v)) shown typed_any;

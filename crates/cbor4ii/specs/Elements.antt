@@ -9,8 +9,7 @@ use Rattle.cbor4ii_items.specs.Sequences.{pair_format}
 use Rattle.cbor4ii.specs.Typed.{Promise, not_exact}
 use Rattle.cbor4ii.specs.TypedParts.{part_of, part_lawful, container, tuple_of, tuple_lawful}
 
--- What elements promise together: how many they are, and how they are read one after another, with
--- no head before them.
+-- what elements promise: how many they are, and how they are read in turn, with no head before
 pub record Elements (V : Type 0) : Type 1 where
   pub count : ℕ
   pub format : Format V
@@ -36,7 +35,7 @@ none_lawful = record {
   alone = not_exact;
 }
 
--- no element is left
+-- the elements, where none is left
 abbrev pub no_element : Elements (Unit {0})
 no_element = record {
   count = 0;
@@ -72,8 +71,8 @@ AlsoRejects first second =
     (xs : List ℕ) (budget : Option ℕ) (err : InputError) (rest : List ℕ)
     → first xs budget err rest → second xs budget err rest
 
--- The two formats read the same bytes at the same cost, one as a value and the other as what `to`
--- makes of it, and reject all others alike.
+-- They read the same bytes at the same cost, one as a value and the other as what `to` makes of it.
+-- The two formats read alike, and reject all other bytes alike.
 pub record ReadsAlike {V W : Type 0} (to : V → W) (first : Format V) (second : Format W)
     : Type 0 where
   -- each value of the second is made of one of the first

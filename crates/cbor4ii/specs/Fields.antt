@@ -31,12 +31,13 @@ ReadsNamed V = List ℕ → Reads (V → V)
 abbrev pub no_field : {V : Type 0} → ReadsNamed V
 no_field {V} name xs change n c = ReadsTree xs n c × (change ≡ λ (values : V). values)
 
--- no value
+-- the values of no field
 abbrev pub no_values : Unit {0}
 no_values = tt
 
--- A field of this name stands before others. After its name a value is read and put in its place;
--- after another name it stays, and one of the others is read.
+-- After its name a value is read and put in its place; after another name it stays, and one of the
+-- others is read.
+-- A field of this name stands before others.
 abbrev pub named_field : {T P V : Type 0} → (T → P → P) → List ℕ → Reads T → ReadsNamed V
     → ReadsNamed (P × V)
 named_field {T} {P} {V} put own reads others name xs change n c =
@@ -45,7 +46,7 @@ named_field {T} {P} {V} put own reads others name xs change n c =
     ⊎ ((name ≢ own) × (below : V → V) × others name xs below n c
     × (change ≡ λ (values : P × V). (values.0, below values.1)))
 
--- a pair: a name, which is a text, and what follows it
+-- a name, which is a text, and likewise a pair of a name and what follows it
 abbrev pub ReadsName : Reads (String Global)
 ReadsName = ReadsTextAs text_content
 
@@ -53,7 +54,7 @@ abbrev pub ReadsNamedPair : {W : Type 0} → (List ℕ → Reads W) → Reads W
 ReadsNamedPair named xs w n c =
     (name : String Global) × ReadsPair ReadsName (named (text_content name)) xs (name, w) n c
 
--- changes, one after another
+-- what becomes of the values by changes, one after another
 abbrev pub after_changes : {V : Type 0} → V → List (V → V) → V
 after_changes values [] = values
 after_changes values (change ∷ changes) = after_changes (change values) changes
@@ -68,11 +69,11 @@ ReadsFields {V} first named xs values n c =
 abbrev pub RejectsNamed : Type 1
 RejectsNamed = List ℕ → RejectsAt
 
--- no field has the name: as the item that is skipped
+-- no field has the name: what follows it is rejected as an item that is skipped
 abbrev pub no_field_rejects : RejectsNamed
 no_field_rejects name = SkippingRejects
 
--- after the field's name as the field, and after another name as one of the others
+-- what follows the field's name is rejected as the field, and else as one of the others
 abbrev pub field_rejects : List ℕ → RejectsAt → RejectsNamed → RejectsNamed
 field_rejects own rejects others name xs budget err rest =
     ((name ≡ own) × rejects xs budget err rest)
@@ -88,20 +89,21 @@ pub record RejectsAfterName (rejects : RejectsNamed) (xs : List ℕ) (budget : O
   pub fits : CostFits cost budget
   pub stop : rejects (text_content whole) (drop size xs) budget err rest
 
--- the name's error, or that of what follows it
+-- a pair's error: that of its name, or that of what follows it
 abbrev pub RejectsNamedPair : RejectsNamed → RejectsAt
 RejectsNamedPair rejects xs budget err rest =
     RejectsText (codes "str") xs budget err rest ⊎ RejectsAfterName rejects xs budget err rest
 
--- How it is rejected: no step is left, or the head of a map is rejected, or after some whole
--- pairs no byte is left, or a pair is rejected.
+-- The reason: no step is left, the head is rejected, or after some whole pairs no byte is left or a
+-- pair is rejected.
+-- A map of named fields is rejected.
 abbrev pub RejectsFields : {V : Type 0} → ReadsNamed V → RejectsNamed → RejectsAt
 RejectsFields named rejects =
     RejectsParts (codes "map") (codes "map") 5 (ReadsNamedPair named) (RejectsNamedPair rejects)
 
 -- ---- what calls make of the values
 
--- a change of the values, and changes one after another
+-- the values after a change, and likewise after changes one after another
 abbrev pub one_change : {V : Type 0} → (V → V) → V → V
 one_change change values = change values
 
@@ -115,7 +117,7 @@ pub record Altered {W V : Type 0} (E : Type 0) (makes : W → V → V) (s : Form
   pub read : Decodes {E = E} s old new (Ok what)
   pub is : after ≡ makes what before
 
--- that, or it was rejected
+-- it was read what becomes of the values, and that was made of them; or it was rejected
 abbrev pub Alters : {W V U E : Type 0} → (W → V → V) → Bool → Format W → V → V → View → View
     → Result U (DecodeError E) → Type 0
 Alters {E = E} makes exact s before after old new (Ok u) = Altered E makes s before after old new
@@ -259,8 +261,8 @@ changed_same same v w [] (h ∷ hs) s p = absurd p
 changed_same same v w (g ∷ gs) [] s p = absurd p
 changed_same same v w (g ∷ gs) (h ∷ hs) s p = changed_same same (g v) (h w) gs hs (p.0 v w s) p.1
 
--- One input is read in one way, as values that mean the same. A struct that is made of the values
--- may be exact by it.
+-- A struct that is made of the values may be exact by it.
+-- One input is read as a map of fields in one way, as values that mean the same.
 pub fields_laws : {V : Type 0} (same : V → V → Type 0) (first : V) (named : ReadsNamed V)
     → same first first → NamedLaws same named → IsLawfulReading (ReadsFields first named) same true
 fields_laws {V} same first named is laws =

@@ -15,10 +15,10 @@ use Rattle.cbor4ii.specs.Typed.{Promise, as_core}
 abbrev pub typed_error_of : {E : Type 0} → DecodeError E → Option InputError
 typed_error_of error = input_error_of (as_core error)
 
--- An accepted value is read at the beginning of the bytes, at a cost of at most 256. Memory is
--- refused only to a type that takes some. Of an exact type, where it is sure to be accepted, an
--- error that speaks of the bytes comes only where none is, and is the one that the type gives for
--- all of them. Of a type that reports its errors it is one that the type gives there.
+-- Memory is refused only to a type that takes some. Of an exact type, where it is sure to be
+-- accepted, an error that speaks of the bytes comes only where none is. It is the one that the type
+-- gives for all of them. Of a type that reports its errors it is one that the type gives there.
+-- An accepted value is read at the beginning of the bytes, at a cost of at most 256.
 pub record First {V E : Type 0} (promise : Promise V) (sure : Type 0) (known : Option (List ℕ))
     (answer : Result V (DecodeError E)) : Type 0 where
   pub accepts : IfOk answer (λ v. IfKnown known
@@ -35,14 +35,14 @@ pub record First {V E : Type 0} (promise : Promise V) (sure : Type 0) (known : O
       → IfErr answer (λ error. IfKnown known (λ xs. IfSome (input_error_of (as_core error))
       (λ err. (rest : List ℕ) × promise.format.begins xs (Some limit) err rest)))
 
--- the same of what a reader has left
+-- an accepted value is read at the beginning of what a reader has left, as `First` says
 pub record FirstOf {V E : Type 0} (promise : Promise V) (view : View)
     (answer : Result V (DecodeError E)) : Type 0 where
   pub first : First promise (IsExact promise.format.owned view) view.known answer
 
--- An accepted value is read from the beginning, and is the whole input of an exact type. Bytes that
--- follow a value are counted; of an exact type the whole input is read as no value then. Any other
--- error is one of reading.
+-- Bytes that follow a value are counted; of an exact type the whole input is read as no value then.
+-- Any other error is one of reading.
+-- An accepted value is read from the beginning, and is the whole input of an exact type.
 pub record FirstWhole {V E : Type 0} (promise : Promise V) (bytes : List ℕ)
     (answer : Result V (WholeError (DecodeError E))) : Type 0 where
   pub accepts : IfOk answer (ReadsToTheEnd promise.format.reads bytes)

@@ -37,8 +37,7 @@ abbrev pub begins_text : List ℕ → Bool
 begins_text [] = false
 begins_text (b ∷ bs) = nat_eq (b / 32) 3
 
--- Where a text begins, a text, which is the key of no field. Elsewhere an integer, as an i128 is
--- read.
+-- a key: where a text begins, a text, which is no field's key; else an integer, read as an i128
 abbrev pub ReadsKeyBy : Bool → Reads (Option ℤ)
 ReadsKeyBy true xs key n c = (text : String Global) × ReadsName xs text n c × (key ≡ None)
 ReadsKeyBy false xs key n c = (v : ℤ) × ReadsI128 xs v n c × (key ≡ Some v)
@@ -47,7 +46,7 @@ ReadsKeyBy false xs key n c = (v : ℤ) × ReadsI128 xs v n c × (key ≡ Some v
 abbrev pub ReadsKey : Reads (Option ℤ)
 ReadsKey xs = ReadsKeyBy (begins_text xs) xs
 
--- the error of the text, or that of the integer
+-- a key's error: that of the text, or that of the integer
 abbrev pub RejectsKeyBy : Bool → RejectsAt
 RejectsKeyBy true xs budget = RejectsText (codes "str") xs budget
 RejectsKeyBy false xs budget = RejectsI128 xs
@@ -61,7 +60,7 @@ SameKey key other = key ≡ other
 abbrev pub key_format : Format (Option ℤ)
 key_format = typed_format ReadsKey SameKey RejectsKey true true
 
--- what fields are told apart by: of a text that of no integer
+-- the label of a key, by which fields are told apart; a text has that of no integer
 abbrev pub label_of : Option ℤ → List ℕ
 label_of None = []
 label_of (Some v) = integer_label v
@@ -120,7 +119,7 @@ pub record RejectsAfterIntegerKey (rejects : RejectsNamed) (xs : List ℕ) (budg
   pub fits : CostFits cost budget
   pub stop : rejects (label_of whole) (drop size xs) budget err rest
 
--- the key's error, or that of what follows it
+-- a pair's error: that of its key, or that of what follows it
 abbrev pub RejectsKeyed : RejectsNamed → RejectsAt
 RejectsKeyed rejects xs budget err rest =
     RejectsKey xs budget err rest ⊎ RejectsAfterIntegerKey rejects xs budget err rest
@@ -161,7 +160,7 @@ pub keyed_lawful : {V : Type 0} (fields : Fields V) → IsTrue fields.exact
 keyed_lawful fields is =
     lawful_as (keyed_laws (SameChange fields.same) fields.named (fields.laws is))
 
--- a map of pairs
+-- a map of pairs of these fields, by their keys
 abbrev pub all_keyed_of : {V : Type 0} → Fields V → Format (List (V → V))
 all_keyed_of fields = sequence_of in_list (codes "map") (codes "map") 5 (keyed_of fields)
 
@@ -171,8 +170,9 @@ ReadsKeyedFields {V} first named xs values n c =
     (changes : List (V → V)) × ReadsSequence 5 (ReadsKeyed named) true xs changes n c
     × (values ≡ after_changes first changes)
 
--- How it is rejected: no step is left, or the head of a map is rejected, or after some whole
--- pairs no byte is left, or a pair is rejected.
+-- The reason: no step is left, the head is rejected, or after some whole pairs no byte is left or a
+-- pair is rejected.
+-- A map of fields with integer keys is rejected.
 abbrev pub RejectsKeyedFields : {V : Type 0} → ReadsNamed V → RejectsNamed → RejectsAt
 RejectsKeyedFields named rejects =
     RejectsParts (codes "map") (codes "map") 5 (ReadsKeyed named) (RejectsKeyed rejects)

@@ -61,7 +61,7 @@ made_from gives p = record {
 
 -- ---- or rejected in words
 
--- this is made of it, and no words reject it
+-- this is made of the value, and no words reject it
 abbrev pub gives_ok : {V W : Type 0} → (V → Result W (List ℕ)) → V → W → Type 0
 gives_ok value v w = value v ≡ Ok w
 
@@ -78,13 +78,13 @@ pub record RejectsUnmade {V W : Type 0} (reads : Reads V) (value : V → Result 
   pub is : err ≡ in_words words
   pub left : rest ≡ drop count xs
 
--- the part's error, or that of a whole part
+-- the part's error, or that of a whole part of which nothing is made
 abbrev pub RejectsMade : {V W : Type 0} → RejectsAt → Reads V → (V → Result W (List ℕ))
     → RejectsAt
 RejectsMade rejects reads value xs budget err rest =
     rejects xs budget err rest ⊎ RejectsUnmade reads value xs budget err rest
 
--- where acceptance is exact, and over any reader
+-- the part's error where acceptance is exact, or a whole part of which nothing is made
 abbrev pub made_rejects : {V W : Type 0} → Format V → (V → Result W (List ℕ)) → RejectsAt
 made_rejects s = RejectsMade s.rejects s.reads
 

@@ -16,8 +16,7 @@ use Rattle.cbor4ii.specs.ReadBack.{IsName}
 use Rattle.cbor4ii.specs.declared.serde.de.names.Seen.{Seen}
 use Rattle.cbor4ii.specs.declared.serde.de.names.Seen.TheVariants.{Whole, Cut, Other}
 
--- the first of the names that is this one stands at this place, which follows them all where
--- none is
+-- the first name that is this one stands at this place, which follows all names where none is
 abbrev pub StandsAt : List ℕ → List (Bor (List ℕ)) → ℕ → Type 0
 StandsAt name [] at = Unit {0}
 StandsAt name (own ∷ names) zero = name ≡ own.now
@@ -35,7 +34,7 @@ IsAfter [] at trailing next = (trailing ≡ []) × (next ≡ at)
 IsAfter (own ∷ names) zero trailing next = ⊥
 IsAfter (own ∷ names) (suc at) trailing next = (trailing ≡ names) × (next ≡ at)
 
--- it is the place of the first name, or a place among the names after it
+-- this is the place of the first name, or a place among the names after it
 abbrev pub IsAfterFirst : List (Bor (List ℕ)) → ℕ → Option (Bor (List (Bor (List ℕ))) × ℕ)
     → Type 0
 IsAfterFirst names at None = IsFirst names at
@@ -55,8 +54,9 @@ IfWholeAfter names shown before size (Whole at n) = StandsAfter names shown befo
 IfWholeAfter names shown before size (Cut n) = Unit {0}
 IfWholeAfter names shown before size Other = Unit {0}
 
--- A name stands whole at the start of the bytes, after its length in the first byte or in the next
--- one, in so many bytes in all. It has this place among the names.
+-- Its length is in the first byte or in the next one, and it takes so many bytes in all. It has
+-- this place among the names.
+-- A name stands whole at the start of the bytes.
 pub record IsWholeName (names : List (Bor (List ℕ))) (shown : List ℕ) (at n : ℕ) : Type 0 where
   pub name : List ℕ
   pub width : Width
@@ -84,13 +84,14 @@ pub record NameAt (names : List (Bor (List ℕ))) (at : ℕ) (old new : View) : 
   pub read : Sound ReadsText old new name
   pub which : StandsAt name names at
 
--- that, or it was rejected as a text is
+-- a name was taken, and has this place among the names; or it was rejected as a text is
 abbrev pub TakesName : {E : Type 0} → List (Bor (List ℕ)) → View → View
     → Result ℕ (DecodeError E) → Type 0
 TakesName names old new (Ok at) = NameAt names at old new
 TakesName names old new (Err e) = Decodes name_format old new (Err e)
 
--- The same of a name that is seen whole; of another nothing is taken. A look asks for no memory.
+-- Of a name not seen whole nothing is taken. It is rejected as a text; a look asks for no memory.
+-- A name that is seen whole was taken, and has this place among the names, or it was rejected.
 abbrev pub TakesShown : {E : Type 0} → List (Bor (List ℕ)) → View → View
     → Result Seen (DecodeError E) → Type 0
 TakesShown names old new (Ok (Whole at n)) = NameAt names at old new

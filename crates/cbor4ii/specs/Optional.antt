@@ -46,7 +46,7 @@ ReadsPresence = ReadsOption (Stepped ReadsNoByte)
 abbrev pub never_rejects : RejectsAt
 never_rejects xs budget err rest = ⊥
 
--- no byte is left, or no step where a value comes
+-- whether a value comes is not read: no byte is left, or no step where a value comes
 abbrev pub RejectsPresence : RejectsAt
 RejectsPresence = RejectsOption (RejectsStepped (codes "option") never_rejects)
 
@@ -54,7 +54,7 @@ RejectsPresence = RejectsOption (RejectsStepped (codes "option") never_rejects)
 abbrev pub presence_format : Format (Option (Unit {0}))
 presence_format = looking_format ReadsPresence RejectsPresence
 
--- null and undefined are taken, and another byte stays
+-- whether a value comes: null and undefined are taken, and another byte stays
 abbrev pub ReadsComing : Reads Bool
 ReadsComing xs true n c = (BeginsNull xs → ⊥) × (1 ≤ length xs) × (n ≡ 0) × (c ≡ 0)
 ReadsComing xs false n c = BeginsNull xs × (n ≡ 1) × (c ≡ 0)
@@ -72,7 +72,7 @@ pub record OpensOption (old new : View) (some : Bool) : Type 0 where
   pub progress : some ≡ false → within.bound + 1 ≤ old.bound
   pub held : HoldsStep some within new
 
--- what is read then
+-- what is read after it was read whether a value comes: the value, or nothing
 abbrev pub ReadsComingValue : {V : Type 0} → Bool → Reads V → Reads (Option V)
 ReadsComingValue true reads xs (Some v) n c = reads xs v n c
 ReadsComingValue true reads xs None n c = ⊥

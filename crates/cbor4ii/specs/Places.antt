@@ -4,7 +4,7 @@ use Rattle.cbor4ii_items.specs.Containers.{SameOption}
 use Rattle.cbor4ii.specs.declared.serde.de.place.Single.{Single}
 use Rattle.cbor4ii.specs.declared.serde.de.place.Single.TheVariants.{Absent, Present, Repeated}
 
--- what stands there before any value was read, and what becomes of it with each
+-- a field's place: what stands there before any value was read, and what becomes of it with each
 pub record Place (T P : Type 0) : Type 1 where
   pub none : P
   pub put : T → P → P
@@ -31,7 +31,7 @@ same_came_last alike (Some v) (Some w) h = refl
 abbrev pub put_last : {T : Type 0} → T → Option T → Option T
 put_last v o = Some v
 
--- the last value counts
+-- a place in which the last value counts
 abbrev pub last_place : {T : Type 0} → Place T (Option T)
 last_place = record {
   none = None;
@@ -88,7 +88,7 @@ same_came_only alike Repeated Absent h = absurd h
 same_came_only alike Repeated (Present w) h = absurd h
 same_came_only alike Repeated Repeated h = refl
 
--- it says whether one value came, or several
+-- a place that says whether one value came, or several
 abbrev pub only_place : {T : Type 0} → Place T (Single T)
 only_place = record {
   none = Absent;

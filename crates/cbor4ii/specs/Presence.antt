@@ -13,7 +13,7 @@ abbrev pub made_or_words : {W : Type 0} → Result W (Bor (List ℕ)) → Result
 made_or_words (Ok w) = Ok w
 made_or_words (Err words) = Err words.now
 
--- the words of the first error, and those of the others
+-- the words of the first error, and likewise those of the others
 abbrev pub words_of_first : List (Bor (List ℕ)) → List ℕ
 words_of_first [] = []
 words_of_first (words ∷ trailing) = words.now
@@ -24,21 +24,21 @@ words_of_others (words ∷ trailing) = trailing
 
 -- ---- one field
 
--- it has to be there; where it is not, the struct is rejected in these words
+-- a field has to be there; where it is not, the struct is rejected in these words
 abbrev pub or_words : {T : Type 0} → List ℕ → Option T → Result T (List ℕ)
 or_words words None = Err words
 or_words words (Some v) = Ok v
 
--- where it is not there, this stands in its place
+-- where a field is not there, this stands in its place
 abbrev pub or_value : {T : Type 0} → T → Option T → Result T (List ℕ)
 or_value other None = Ok other
 or_value other (Some v) = Ok v
 
--- it may be missing, and is none then
+-- a field may be missing, and is none then
 abbrev pub or_none : {T : Type 0} → Option T → Result (Option T) (List ℕ)
 or_none o = Ok o
 
--- it may come once; where it comes more than once, the struct is rejected in these words
+-- a field may come once; where it comes more than once, the struct is rejected in these words
 abbrev pub once_or_words : {T A : Type 0} → List ℕ → (Option T → Result A (List ℕ)) → Single T
     → Result A (List ℕ)
 once_or_words words value Absent = value None
@@ -47,7 +47,7 @@ once_or_words words value Repeated = Err words
 
 -- ---- all fields
 
--- both, or the first error
+-- the values of both, or the first error
 abbrev pub both_or_words : {T W : Type 0} → Result T (List ℕ) → Result W (List ℕ)
     → Result (T × W) (List ℕ)
 both_or_words (Err words) others = Err words
@@ -60,7 +60,7 @@ made_struct fields value = made_or_rejected value (struct_of (λ v. v) fields)
 
 -- ---- a struct, field by field
 
--- its fields, and what becomes of them
+-- the fields of a struct, and what becomes of their values
 pub record Shape (V W : Type 0) : Type 1 where
   pub fields : Fields V
   pub value : V → Result W (List ℕ)
@@ -68,8 +68,7 @@ pub record Shape (V W : Type 0) : Type 1 where
 abbrev pub no_more_fields : Shape (Unit {0}) (Unit {0})
 no_more_fields = record { fields = no_more; value = λ v. Ok v }
 
--- a field of this name, whose values stand in this place, of which this becomes, and others after
--- it
+-- a field of this name, whose values stand in this place and become this, and others after it
 abbrev pub shaped_field : {T P A V W : Type 0} → Place T P → (P → Result A (List ℕ)) → List ℕ
     → Promise T → Shape V W → Shape (P × V) (A × W)
 shaped_field place value name p others = record {

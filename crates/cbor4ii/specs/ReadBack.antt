@@ -44,8 +44,7 @@ text_of alloc text utf8 few = record {
   ok = ∣ utf8 ∣₁;
 }
 
--- each item is read back after its name or another such label as its change, at the greatest cost
--- of one
+-- each item is read back after its name or such a label as its change, at the greatest cost of one
 abbrev pub ChangesBackBy : {V : Type 0} → (List ℕ → Type 0) → ReadsNamed V → NamedItems
     → List (V → V) → ℕ → Type 0
 ChangesBackBy IsLabel named [] [] cost = cost ≡ 0
@@ -58,14 +57,13 @@ ChangesBackBy IsLabel named (part ∷ parts) (change ∷ changes) cost =
 abbrev pub ChangesBack : {V : Type 0} → ReadsNamed V → NamedItems → List (V → V) → ℕ → Type 0
 ChangesBack = ChangesBackBy IsName
 
--- the items are read back after such labels, one after another, and make these values of the first
--- ones
+-- the items are read back in turn, after such labels, and make these values of the first ones
 pub record FieldsBackBy {V : Type 0} (IsLabel : List ℕ → Type 0) (named : ReadsNamed V)
     (first values : V) (parts : NamedItems) (cost : ℕ) : Type 0 where
   pub changes : List (V → V)
   pub each : ChangesBackBy IsLabel named parts changes cost
   pub made : values ≡ after_changes first changes
 
--- the same after names
+-- the items are read back in turn, after names, and make these values of the first ones
 abbrev pub FieldsBack : {V : Type 0} → ReadsNamed V → (first values : V) → NamedItems → ℕ → Type 0
 FieldsBack = FieldsBackBy IsName

@@ -6,7 +6,7 @@ use Rattle.cbor4ii_items.specs.Laws.Sequences.{sequence_one, sequence_within, se
 use Rattle.cbor4ii.specs.Stepped.{stepped_format}
 use Rattle.cbor4ii.specs.Typed.{not_exact}
 
--- the major types of arrays and maps
+-- the major type of arrays is below 8, and likewise that of maps
 pub four_small : 4 < 8
 four_small = omega arith
 

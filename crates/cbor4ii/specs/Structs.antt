@@ -29,7 +29,7 @@ pub record Fields (V : Type 0) : Type 1 where
   pub alike : same first first
   pub laws : IsTrue exact → NamedLaws same named
 
--- no field is left
+-- the fields of a struct, where none is left
 abbrev pub no_more : Fields (Unit {0})
 no_more = record {
   named = no_field;
@@ -59,7 +59,7 @@ placed_field place name p others = record {
       field_laws place name others.named (typed_laws p h.0) (others.laws h.1));
 }
 
--- none of them has a name
+-- a field and others after it, none of which has a name
 abbrev pub unnamed_field : {T P V : Type 0} → Place T P → Promise T → Fields V → Fields (P × V)
 unnamed_field place p others = record {
   named = no_field;
@@ -86,7 +86,7 @@ abbrev pub after_name : {V : Type 0} → Fields V → List ℕ → Format (V →
 after_name fields =
     named_part fields.named fields.rejects fields.begins (SameChange fields.same) fields.owned
 
--- a name, and what follows it
+-- a field's name, and what follows it
 abbrev pub field_pair : {V : Type 0} → Fields V → Format (V → V)
 field_pair fields =
     named_pair fields.named fields.rejects fields.begins (SameChange fields.same) fields.owned
@@ -96,7 +96,7 @@ pub entry_lawful : {V : Type 0} (fields : Fields V) → IsTrue fields.exact
 entry_lawful fields is =
     lawful_as (entry_laws (SameChange fields.same) fields.named (fields.laws is))
 
--- a map of pairs
+-- a map of pairs of these fields, by their names
 abbrev pub field_pairs : {V : Type 0} → Fields V → Format (List (V → V))
 field_pairs fields = sequence_of in_list (codes "map") (codes "map") 5 (field_pair fields)
 

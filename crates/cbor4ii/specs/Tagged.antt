@@ -27,7 +27,7 @@ pub record OtherTag (number : ℕ) (xs : List ℕ) (err : InputError) (rest : Li
   pub rejected : err ≡ in_words (codes "expected another tag")
   pub left : rest ≡ drop size xs
 
--- a rejected head, or a number that is another
+-- a tag's head is rejected, or its number is another
 abbrev pub RejectsTagHead : ℕ → RejectsAt
 RejectsTagHead number xs budget err rest =
     RejectsHead (codes "tag") 6 8 xs err rest ⊎ OtherTag number xs err rest
@@ -49,7 +49,7 @@ tag_head_lawful number =
 
 -- ---- the value after it
 
--- nothing of the head is kept
+-- a value after the head of its tag, of which nothing is kept
 abbrev pub after_tag : {V : Type 0} → V → Unit {0} × V
 after_tag v = (tt, v)
 

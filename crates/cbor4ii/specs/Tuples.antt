@@ -21,7 +21,7 @@ use Rattle.cbor4ii.specs.Typed.{IsLawfulReading, reading_format, laws_of, any_tw
 abbrev pub ReadsUnit : List ℕ → Unit {0} → ℕ → ℕ → Type 0
 ReadsUnit xs v n c = (take 1 xs ≡ 0x80 ∷ []) × (n ≡ 1) × (c ≡ 0)
 
--- no byte is left, or the first one is another, and is taken
+-- no byte is left, or the first one is another than that of an empty array, and is taken
 abbrev pub RejectsUnit : RejectsAt
 RejectsUnit [] budget err rest = (err ≡ eof (codes "unit") (Small 1)) × (rest ≡ [])
 RejectsUnit (b ∷ bs) budget err rest =
@@ -35,7 +35,7 @@ unit_laws = record {
   alone = not_exact;
 }
 
--- a head that counts so many, and what follows it
+-- the head of an array of so many items, and what follows it
 pub record ReadsAfter {V : Type 0} (count : ℕ) (reads : List ℕ → V → ℕ → ℕ → Type 0) (xs : List ℕ)
     (v : V) (n c : ℕ) : Type 0 where
   pub before : ℕ
@@ -44,7 +44,7 @@ pub record ReadsAfter {V : Type 0} (count : ℕ) (reads : List ℕ → V → ℕ
   pub parts : reads (drop before xs) v between c
   pub size : n ≡ before + between
 
--- two parts, one after the other
+-- two parts with the laws of reading have them together, one after the other
 pub pair_laws : {A B : Type 0} (first : List ℕ → A → ℕ → ℕ → Type 0)
     (second : List ℕ → B → ℕ → ℕ → Type 0) (same_first : A → A → Type 0)
     (same_second : B → B → Type 0) (some_first some_second : Bool)
@@ -60,11 +60,11 @@ abbrev pub known_length : Option ℕ → Len
 known_length None = Indefinite
 known_length (Some count) = len_of count
 
--- a head that counts so many
+-- the head of an array of so many items
 abbrev pub ReadsCountOf : ℕ → List ℕ → Unit {0} → ℕ → ℕ → Type 0
 ReadsCountOf count xs v n c = ReadsHead 4 8 xs count n × (c ≡ 0)
 
--- a length that is another
+-- the length of an array is another, and its head is taken
 pub record OtherLength (count : ℕ) (xs : List ℕ) (err : InputError) (rest : List ℕ) : Type 0 where
   pub found : Option ℕ
   pub size : ℕ
@@ -74,7 +74,7 @@ pub record OtherLength (count : ℕ) (xs : List ℕ) (err : InputError) (rest : 
   pub rejected : err ≡ require_length (codes "tuple") (known_length found)
   pub left : rest ≡ drop size xs
 
--- a rejected head, or a length that is another, whose head is taken
+-- an array's head is rejected, or its length is another, and its head is taken
 abbrev pub RejectsCountOf : ℕ → RejectsAt
 RejectsCountOf count xs budget err rest =
     RejectsLength (codes "array") 4 xs budget err rest ⊎ OtherLength count xs err rest
@@ -82,7 +82,7 @@ RejectsCountOf count xs budget err rest =
 abbrev pub container_head_format : ℕ → Format (Unit {0})
 container_head_format count = leaf_format (ReadsCountOf count) (RejectsCountOf count)
 
--- a head that counts so many, and what follows it
+-- the head of an array of so many items, and what follows it
 abbrev pub after_format : {V : Type 0} → ℕ → Format V → Format V
 after_format count s = record {
   reads = ReadsAfter count s.reads;

@@ -36,7 +36,7 @@ abbrev pub answer_of : {V E : Type 0} → Result V (DecodeError E) → Result V 
 answer_of (Ok v) = Ok v
 answer_of (Err error) = Err (as_core error)
 
--- the same of a vector, by its parts
+-- an answer with a vector, as one of the codec's with its parts
 abbrev pub parts_answer : {P E : Type 0} → Result (Vec P Global) (DecodeError E)
     → Result (List P) (CoreError E)
 parts_answer (Ok v) = Ok v.items
@@ -44,8 +44,8 @@ parts_answer (Err error) = Err (as_core error)
 
 -- ---- what a type promises
 
--- A format that reads a byte. It is rejected by the first relation where acceptance is exact, and
--- by the second over every reader.
+-- The first relation rejects where acceptance is exact, and the second over every reader.
+-- A format that reads a byte, and is rejected by these relations.
 abbrev pub format_of : {V : Type 0} → Reads V → (V → V → Type 0) → (rejects begins : RejectsAt)
     → (owned : Bool) → (takes_memory : Bool) → Format V
 format_of reads same rejects begins owned takes_memory = record {
@@ -59,7 +59,7 @@ format_of reads same rejects begins owned takes_memory = record {
   closed = false;
 }
 
--- one that is rejected alike over every reader
+-- a format that reads a byte, and is rejected alike over every reader
 abbrev pub typed_format : {V : Type 0} → Reads V → (V → V → Type 0) → RejectsAt → (owned : Bool)
     → (takes_memory : Bool) → Format V
 typed_format reads same rejects = format_of reads same rejects rejects
@@ -165,8 +165,8 @@ reading_format reads same never_empty = record {
   closed = false;
 }
 
--- One input is read in one way, what is read stands in the input, and where no reading is empty a
--- byte is read.
+-- Where no reading is empty a byte is read.
+-- One input is read in one way, and what is read stands in the input.
 abbrev pub IsLawfulReading : {V : Type 0} → Reads V → (V → V → Type 0) → (never_empty : Bool)
     → Type 0
 IsLawfulReading reads same never_empty = IsLawful (reading_format reads same never_empty)

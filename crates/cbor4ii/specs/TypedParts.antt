@@ -47,7 +47,7 @@ typed_option p =
     container p.exact (option_format value) refl (λ is. option_lawful value
     (stepped_lawful (codes "option") (part_of p) (part_lawful p is)))
 
--- in a box, which takes memory
+-- a value in a box, which takes memory
 abbrev pub typed_box : {V : Type 0} → Promise V → Promise (Box V Global)
 typed_box p = record {
   format = boxed_format p.format;
@@ -87,7 +87,7 @@ three_lawful a b c is =
     triple_lawful (part_of a) (part_of b) (part_of c) (part_lawful a h.0) (part_lawful b k.0)
     (part_lawful c k.1)
 
--- an array of so many, under a step
+-- an array of so many items, under a step
 abbrev pub tuple_of : {V : Type 0} → ℕ → Format V → Format V
 tuple_of count s = stepped_format (codes "tuple") (after_format count s)
 

@@ -26,7 +26,7 @@ reference_of_enum accessor = accessor.de
 abbrev pub deserializer_of_enum : {S E : Type 0} → EnumAccessor S E → Deserializer S
 deserializer_of_enum accessor = accessor.de.now
 
--- which reference that is
+-- which reference an accessor holds to its deserializer
 abbrev pub lender_of_enum : {S E : Type 0} → EnumAccessor S E → ℕ
 lender_of_enum accessor = accessor.de.ghost_name
 
@@ -47,7 +47,7 @@ IsForm false first n = (first / 32 ≡ 3) × (n ≡ 0)
 abbrev pub ReadsForm : Reads (Bool × ℕ)
 ReadsForm xs form n c = (take 1 xs ≡ form.1 ∷ []) × IsForm form.0 form.1 n × (c ≡ 0)
 
--- no byte is left, or the first one begins neither, and stays
+-- no byte is left, or the first one begins neither form of a variant, and stays
 abbrev pub RejectsForm : RejectsAt
 RejectsForm [] budget err rest = (err ≡ eof (codes "enum") (Small 1)) × (rest ≡ [])
 RejectsForm (b ∷ bs) budget err rest =
@@ -95,8 +95,8 @@ ReadsPairVariant contents xs v n c =
     (take 1 xs ≡ 0xa1 ∷ []) × (name : List ℕ) × (k : ℕ)
     × ReadsPair ReadsText (contents name) (drop 1 xs) (name, v) k c × (n ≡ 1 + k)
 
--- A variant, under one step: without content at the cost of its name, and else at the greater cost
--- of its name and its content.
+-- Without content it is read at the cost of its name, else at the greater of name and content.
+-- A variant is read under one step.
 abbrev pub ReadsVariant : {V : Type 0} → (List ℕ → V → Type 0) → (List ℕ → Reads V) → Reads V
 ReadsVariant units contents =
     Stepped (λ xs v n c. ReadsUnitVariant units xs v n c ⊎ ReadsPairVariant contents xs v n c)

@@ -174,7 +174,7 @@ fn fields_shape(
     Ok(Shape::Fields { form, fields })
 }
 
-// As what these fields are written.
+// What these fields are written as.
 fn form(fields: &[Field], is_array: bool) -> Form {
     match fields.first() {
         _ if is_array => Form::Array,

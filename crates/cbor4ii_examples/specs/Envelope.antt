@@ -17,7 +17,7 @@ use Rattle.cbor4ii_examples.specs.declared.envelope.SealError.{SealError}
 use Rattle.cbor4ii_examples.specs.declared.envelope.SealError.TheVariants as seal_error
 use Rattle.cbor4ii_examples.specs.declared.reply.Reply.{Reply}
 
--- by the number of a key: which bytes are its signature over a message
+-- which bytes are a signature over a message, by the number of the key
 abbrev pub Signatures : Type 1
 Signatures = ℕ → List ℕ → List ℕ → Type 0
 
@@ -44,8 +44,9 @@ pub record Sealed (signed : Signatures) (key : ℕ) (item : Encoding) (bytes : L
   -- the bytes are the envelope's
   pub encoding : envelope_encoding key signature payload ≡ encoded bytes
 
--- Why the value of this item was not sealed: it, or its envelope, was not written; or its item is
--- none that `Value` accepts; or there was no memory for the signature over it.
+-- It, or its envelope, was not written; or its item is none that `Value` accepts; or there was no
+-- memory for the signature over it.
+-- Why the value of this item was not sealed.
 abbrev pub NotSealed : Encoding → SealError → Type 0
 NotSealed item (seal_error.Encode why) = SaysWhy item why
 NotSealed item (seal_error.Payload why) = (payload : List ℕ) × (item ≡ encoded payload) ×
@@ -59,7 +60,7 @@ NotSealed item seal_error.OutOfMemory = (payload : List ℕ) × (item ≡ encode
 abbrev pub IsEnvelope : Promise Envelope → List ℕ → Envelope → Type 0
 IsEnvelope envelopes input e = IsWhole envelopes.format.reads input e
 
--- Its signature is one over its payload's bytes.
+-- The envelope's signature is one over its payload's bytes.
 abbrev pub IsSigned : Signatures → Envelope → Type 0
 IsSigned signed e = signed e.key e.signature.0.now (plain_raw_content e.payload)
 
@@ -71,8 +72,7 @@ pub record IsOpened (envelopes : Promise Envelope) (replies : Promise Reply) (si
   pub is_signed : IsSigned signed envelope
   pub payload : IsWhole replies.format.reads (plain_raw_content envelope.payload) reply
 
--- Why nothing was opened: the input is no envelope; or it is one that is not signed; or it is
--- signed, and its payload is no reply.
+-- Why nothing was opened: no envelope, none that is signed, or a signed payload that is no reply.
 abbrev pub NotOpened : Promise Envelope → Promise Reply → Signatures → List ℕ → OpenError → Type 0
 NotOpened envelopes replies signed input (open_error.Envelope why) =
     FirstWhole {E = Infallible} envelopes input (Err why)

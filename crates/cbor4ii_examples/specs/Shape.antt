@@ -61,7 +61,7 @@ framed_made None width = None
 framed_made (Some b) None = None
 framed_made (Some b) (Some n) = Some (framed n b)
 
--- this, where no other stands beside it
+-- this figure, where no other pair stands beside it
 abbrev pub only_this : ItemPairs → Option Figure → Option Figure
 only_this no_item_pairs o = o
 only_this (item_pair k v ms) o = None
@@ -140,7 +140,7 @@ figure_item (framed width inner) = variant_item (codes "Framed")
     (mapping (item_pair (text (codes "width")) (integer (pos width))
     (item_pair (text (codes "inner")) (figure_item inner) no_item_pairs)))
 
--- each number is one of the program's
+-- each number of the figure is one of the program's
 abbrev pub IsFigure : Figure → Type 0
 IsFigure (circle radius) = radius < 2 ^ 32
 IsFigure (pair first second) = IsFigure first × IsFigure second

@@ -126,8 +126,8 @@ HasManyPairs ms = 20 < item_pair_count ms
 
 -- ---- errors
 
--- Two keys of a map are equal; or memory was refused, for sorting a long map, or for writing a
--- value with no equal keys.
+-- Memory is refused for sorting a long map, or for writing a value with no equal keys.
+-- The sorted encoding is refused: two keys of a map are equal, or memory was refused.
 abbrev pub IsRefused : SortedError → Item → Type 0
 IsRefused EqualKeys v = EachMap KeysAscend (sorted v) → ⊥
 IsRefused NoMemory v = HasMapWith HasManyPairs v ⊎ EachMap KeysAscend (sorted v)

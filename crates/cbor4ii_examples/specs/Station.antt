@@ -17,7 +17,7 @@ use Rattle.cbor4ii_examples.specs.Then.{ReadsThen, RejectsThen}
 
 -- ---- what is written
 
--- an array of two: the number, and the name
+-- the bytes of a station, an array of two: the number, and the name
 abbrev pub station_bytes : Station → List ℕ
 station_bytes v =
     shortest_head 4 2 ++ (shortest_head 0 v.id ++ definite_string 3 (text_content v.name))
@@ -29,7 +29,7 @@ abbrev pub ReadsOpening : Reads Bool
 ReadsOpening xs false n c = ReadsLength 4 xs (Some 2) n c
 ReadsOpening xs true n c = ReadsLength 4 xs None n c
 
--- after the two items: nothing, or the break of an indefinite length
+-- what follows the two items: nothing, or the break of an indefinite length
 abbrev pub ReadsEnd : Bool → Reads (Unit {0})
 ReadsEnd false xs u n c = (n ≡ 0) × (c ≡ 0)
 ReadsEnd true xs u n c = ReadsBreak xs true n c
@@ -54,7 +54,7 @@ abbrev pub ReadsStation : Reads Station
 ReadsStation xs v n c = (indefinite : Bool)
     × ReadsThen ReadsOpening ReadsAfterOpening xs (indefinite, (v.id, (v.name, tt))) n c
 
--- the same number and the same name
+-- the two stations have the same number and the same name
 abbrev pub SameStation : Station → Station → Type 0
 SameStation v w = (v.id ≡ w.id) × (text_content v.name ≡ text_content w.name)
 

@@ -23,8 +23,8 @@ abbrev pub IsCanonicalEncoding : List ℕ → Value → Type 0
 IsCanonicalEncoding bytes v =
     IsDecoded (view v) × (canonical_cost (view v) ≤ limit) × (bytes ≡ canonical_encoding (view v))
 
--- Why the bytes are rejected: memory was refused, or they are of no value. Which error it is, with
--- which fields, is what `decode_whole` says.
+-- Which error it is, with which fields, is what `decode_whole` says.
+-- Why the bytes are rejected: memory was refused, or they are of no value.
 pub record NotStored {V : Type 0} (format : Format V) (Is : List ℕ → Value → Type 0)
     (bytes : List ℕ) (error : WholeError (DecodeError Infallible)) : Type 0 where
   pub only : (error ≡ Decode OutOfMemory) ⊎ ((v : Value) → Is bytes v → ⊥)

@@ -55,7 +55,7 @@ tree_item = fold-Tree Encoding tree_step
 
 -- ---- read
 
--- the fields so far
+-- the fields of a node that were seen so far
 pub record NodeFields : Type 0 where
   pub id : Option ℕ
   pub name : Option (List ℕ)
@@ -92,7 +92,7 @@ abbrev pub with_children : NodeFields → Item → Option (List Node) → Option
 with_children s (sequence vs) below = with_nodes s below
 with_children s _ below = Some s
 
--- a item_pair more, of which the nodes that its value may stand for are given
+-- the fields after one more pair, of which the nodes that its value may stand for are given
 abbrev pub with_node_pair : NodeFields → Item → Item → Option (List Node) → Option NodeFields
 with_node_pair s k v below = if is_text_item k (codes "id") then Some (with_id s v)
     else (if is_text_item k (codes "name") then Some (with_name s v)

@@ -35,8 +35,8 @@ pub struct Record {
 ///
 /// # Errors
 ///
-/// As the head of the map, a key, or what stands under it is rejected; of `is_break` where the
-/// input ends in the place of a key.
+/// Those of the map's head, of a key and of what stands under it. Where the input ends in the place
+/// of a key, those of `is_break`.
 pub fn decode_record<S: Source>(
     alloc: Global,
     reader: &mut S,

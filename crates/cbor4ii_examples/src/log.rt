@@ -38,8 +38,8 @@ impl<E> Fault<E> {
 ///
 /// # Errors
 ///
-/// As `next_event` rejects the event at which reading fails, but for `Eof`. `Core` of `OutOfMemory`
-/// where there is no memory for the batch.
+/// Those of `next_event` for the event at which reading fails, but for `Eof`. `Core` of
+/// `OutOfMemory` where there is no memory for the batch.
 pub fn whole_events(alloc: Global, part: &[u8]) -> Result<Batch, Fault<Never>>
     ensures { IfOk result (λ batch. batch.taken ≤ length part.now) }
 {
@@ -63,7 +63,7 @@ pub fn whole_events(alloc: Global, part: &[u8]) -> Result<Batch, Fault<Never>>
 ///
 /// # Errors
 ///
-/// As `next_event` rejects the event at which reading fails. Each one before it was handed on.
+/// Those of `next_event` for the event at which reading fails. Each one before it was handed on.
 /// Where the event is cut, reading goes on at its first byte, once more of it is there.
 pub fn replay<R: BufRead + Drop, F: FnMut(Event) + Drop>(
     alloc: Global,

@@ -44,7 +44,7 @@ impl<S: Source> Deserialize<S> for Nest {
 ///
 /// # Errors
 ///
-/// As `deserialize_seq` and `starts_element` reject the array at which reading fails; `Core` of
+/// Those of `deserialize_seq` and `starts_element` for the array at which reading fails; `Core` of
 /// `OutOfMemory` where there is no memory for a list.
 pub fn read_nest<S: Source>(
     alloc: Global,

@@ -14,8 +14,7 @@ abbrev pub filled_answer : {T E : Type 0} → List ℕ → Result T E → Result
 filled_answer items (Ok t) = Ok items
 filled_answer items (Err e) = Err e
 
--- n of the missing bytes were taken, at least one, and follow the items that were there
--- before
+-- n of the missing bytes were taken, at least one, and follow the items that were there before
 pub record TakesOnto (missing n : ℕ) (before after : List ℕ) (old new : View) : Type 0 where
   pub kept : Kept old new
   pub some : 1 ≤ n

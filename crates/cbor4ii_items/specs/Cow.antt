@@ -17,8 +17,7 @@ use Rattle.cbor4ii_items.specs.Decoding.{Format}
 
 -- ---- which strings are borrowed
 
--- A string of indefinite length is owned, over any reader. One of definite length is borrowed,
--- where the reader is zero-copy.
+-- a string of indefinite length is owned, one of definite length borrowed over a zero-copy reader
 pub record BorrowsWhereDefinite {V : Type 0} (major : ℕ) (IsBorrowed IsOwned : V → Type 0)
     (old : View) (v : V) : Type 0 where
   pub indefinite : IfKnown old.known (λ xs. take 1 xs ≡ indefinite_head major ∷ [] → IsOwned v)
@@ -51,13 +50,13 @@ IsBorrowedUnchecked v = IsBorrowedSlice v.0
 abbrev pub IsOwnedUnchecked : UncheckedStr (CowSlice ℕ Global) → Type 0
 IsOwnedUnchecked v = IsOwnedSlice v.0
 
--- a borrowed slice is the input's own: what is left begins right after it, where the reader reports
--- the place of its end
+-- What is left begins right after it, where the reader reports the place of its end.
+-- A borrowed slice is the input's own.
 abbrev pub slice_stands : CowSlice ℕ Global → View → Type 0
 slice_stands (Borrowed bytes) view = BeginsAt (place_after bytes) view
 slice_stands (Owned bytes) view = Unit {0}
 
--- of an owned slice nothing is owed; a trait's law cites it, so it stands here
+-- the proof that an owned slice stands in any view: nothing is owed of it
 pub owned_stands : (v : CowSlice ℕ Global) (view : View) → IsOwnedSlice v → slice_stands v view
 owned_stands (Borrowed bytes) view owned = absurd owned
 owned_stands (Owned bytes) view owned = tt
@@ -86,8 +85,7 @@ TakesBy {E = E} program is_text content old new (Ok value) =
     (items : List ℕ) × Runs {E = E} program old new (Ok items) × Holds is_text content items value
 TakesBy {E = E} program is_text content old new (Err e) = Runs {E = E} program old new (Err e)
 
--- a call that does what the program does where there is memory, and then makes a value of the
--- content
+-- a call does what the program does where there is memory, and makes a value of the content
 pub record TakesContent {V E : Type 0} (program : Reading (List ℕ)) (is_text : Bool)
     (content : V → List ℕ) (old new : View)
     (answer : Result (Option V) (DecodeError E)) : Type 0 where

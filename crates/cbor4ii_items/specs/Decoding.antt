@@ -8,8 +8,7 @@ use Rattle.cbor4ii_items.specs.Budget.{CostFits}
 use Rattle.cbor4ii_items.specs.InputError.{InputError, input_error_of, is_out_of_memory}
 use Rattle.cbor4ii_items.specs.Moves.{Moves}
 
--- what a type reads: the bytes to come, the value, how many of them it takes, and the steps that it
--- costs
+-- what a type reads: the bytes to come, the value, how many bytes it takes, and its cost in steps
 abbrev pub Reads : Type 0 → Type 1
 Reads V = List ℕ → V → ℕ → ℕ → Type 0
 
@@ -41,15 +40,14 @@ pub record Complete {V E : Type 0} (reads : List ℕ → V → ℕ → ℕ → T
   pub at : IfKnown old.known (λ xs. IfSome (input_error_of error)
       (λ _. NoneRead reads xs old.budget))
 
--- an error that speaks of the bytes is one that the type gives there, and leaves what the type
--- leaves then
+-- an error that speaks of the bytes, and what it leaves, are those that the type gives there
 pub record Rejects {E : Type 0} (rejects : List ℕ → Option ℕ → InputError → List ℕ → Type 0)
     (old new : View) (error : DecodeError E) : Type 0 where
   pub at : IfKnown old.known (λ xs. IfSome (input_error_of error)
       (λ err. (rest : List ℕ) × (new.known ≡ Some rest) × rejects xs old.budget err rest))
 
--- where acceptance is exact: the type needs no borrowed slice, or the reader is zero-copy, and no
--- more bytes are left than one fill can ask for
+-- The type needs no borrowed slice, or the reader is zero-copy and one fill can ask for all bytes.
+-- Acceptance by the type is exact over this reader.
 abbrev pub IsExact : Bool → View → Type 0
 IsExact owned view =
     IsTrue owned ⊎ (IsTrue view.zero_copy × IfKnown view.known (λ xs. length xs < 2 ^ 64))
@@ -80,7 +78,8 @@ leaf_format reads rejects = record {
   closed = true;
 }
 
--- the same of what may take no byte, where what comes next says which
+-- It borrows nothing, takes no memory, and its values are compared as they are.
+-- A type that may take no byte, where what comes next says which.
 abbrev pub looking_format : {V : Type 0} → Reads V → RejectsAt → Format V
 looking_format reads rejects = record {
   reads = reads;
@@ -106,7 +105,7 @@ format_by part s = record {
   closed = s.closed;
 }
 
--- the same, where memory may be taken too
+-- the type, where memory may be taken too
 abbrev pub taking_memory : {V : Type 0} → Format V → Format V
 taking_memory s = record {
   reads = s.reads;
@@ -141,8 +140,9 @@ pub record Decodes {V E : Type 0} (format : Format V) (old new : View)
   pub rejects : IsExact format.owned old → IfErr answer (Rejects format.rejects old new)
   pub begins : IfErr answer (Rejects format.begins old new)
 
--- The same of a type that may not be exact. Where it is not, what is rejected by a reading of its
--- own, or over one kind of reader, is not reported.
+-- Where the type is not exact, what is rejected by a reading of its own, or over one kind of
+-- reader, is not reported.
+-- A call that reads one item of a type that may not be exact.
 pub record DecodesIf {V E : Type 0} (exact : Bool) (format : Format V) (old new : View)
     (answer : Result V (DecodeError E)) : Type 0 where
   pub moves : Moves old new answer

@@ -52,7 +52,7 @@ pub record CutFloat (name : List ℕ) (marker count : ℕ) (xs : List ℕ) (err 
   pub answer : err ≡ eof name (Small count)
   pub left : rest ≡ []
 
--- no byte is left, another one, which stays, or the bits are cut
+-- no byte is left, another one comes, which stays, or the bits are cut
 abbrev pub RejectsFloat : List ℕ → ℕ → ℕ → RejectsAt
 RejectsFloat name marker count xs budget err rest =
     NoneBegins name (λ b. b ≡ marker) xs err rest ⊎ CutFloat name marker count xs err rest

@@ -5,8 +5,8 @@ use Rattle.cbor4ii_rw.specs.declared.error.Len.TheVariants.{Small}
 use Rattle.cbor4ii_items.specs.Head.{Width, byte_count, HeadFits, additional, head}
 use Rattle.cbor4ii_items.specs.InputError.{InputError, mismatch, eof}
 
--- the bytes begin with a head of this major type, of at most so many bytes of argument; v is its
--- argument, n its length
+-- The head has at most so many bytes of argument; v is its argument, and n its length.
+-- The bytes begin with a head of this major type.
 pub record ReadsHead (major width : ℕ) (xs : List ℕ) (v n : ℕ) : Type 0 where
   pub wide : Width
   pub allowed : byte_count wide ≤ width
@@ -22,7 +22,7 @@ pub record Begins (major width b : ℕ) (wide : Width) : Type 0 where
   pub allowed : byte_count wide ≤ width
   pub is : b ≡ 32 * major + additional wide argument
 
--- no such head begins with the byte b, which is taken
+-- no head of this major type, of at most so many bytes of argument, begins with b, which is taken
 pub record NotAHead (name : List ℕ) (major width b : ℕ) (bs : List ℕ) (err : InputError)
     (rest : List ℕ) : Type 0 where
   pub none : (wide : Width) → Begins major width b wide → ⊥

@@ -44,8 +44,7 @@ precision_bytes half = 2
 precision_bytes single = 4
 precision_bytes double = 8
 
--- The additional information of major types 0 to 6: a width, 31, or the reserved 28 to 30 (section
--- 3).
+-- the additional information of major types 0 to 6 (section 3): a width, 31, or a reserved 28 to 30
 pub data Info : Type 0 where
   wide : Width → Info
   indefinite_ended reserved : Info
@@ -98,8 +97,8 @@ abbrev pub tag_by_info : Info → Initial
 tag_by_info (wide w) = starts_tag w
 tag_by_info _ = bad_tag
 
--- Major type 7 (section 3.3): the other simple values and a break that stands where an item should
--- are `other_simple`.
+-- The other simple values and a break that stands where an item should are `other_simple`.
+-- What an item of major type 7 is, by its additional information (section 3.3).
 abbrev pub simple_by_info : ℕ → Initial
 simple_by_info i =
     if i == 20 then starts_simple simple_false

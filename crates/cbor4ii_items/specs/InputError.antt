@@ -13,7 +13,7 @@ use Rattle.cbor4ii_rw.specs.declared.error.DecodeError.TheVariants.{ArithmeticOv
 use Rattle.cbor4ii_rw.specs.declared.error.DecodeError.TheVariants.{DepthOverflow, Custom}
 use Rattle.cbor4ii_rw.specs.declared.error.DecodeError.TheVariants.{OutOfMemory, NotCanonical}
 
--- each with the name of what was read
+-- the errors that speak of the bytes, each with the name of what was read
 pub data InputError : Type 0 where
   mismatch : List ℕ → ℕ → InputError
   unsupported : List ℕ → ℕ → InputError

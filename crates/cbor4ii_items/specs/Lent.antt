@@ -24,8 +24,8 @@ abbrev pub ReadsBorrowed : {V : Type 0} → ℕ → Bool → (V → List ℕ) �
 ReadsBorrowed major is_text content xs v n c =
     ReadsDefiniteString major xs (content v) n × (c ≡ 0) × (IsTrue is_text → IsUtf8 (content v))
 
--- the head; too few bytes, and what follows the head is left; no UTF-8, and what follows the
--- item is left
+-- With too few bytes what follows the head is left, and with no UTF-8 what follows the item.
+-- The head is rejected, too few bytes follow it, or a text is no UTF-8.
 pub data RejectsBorrowed (name : List ℕ) (major : ℕ) (is_text : Bool) (xs : List ℕ)
     (budget : Option ℕ)
     (err : InputError) (rest : List ℕ) : Type 0 where
@@ -39,8 +39,8 @@ pub data RejectsBorrowed (name : List ℕ) (major : ℕ) (is_text : Bool) (xs : 
       → (IsUtf8 content → ⊥) → err ≡ require_utf8 name → rest ≡ drop n xs
       → RejectsBorrowed name major is_text xs budget err rest
 
--- Over any reader: the head; no content is lent, or too little, and what follows the head is
--- left; no UTF-8, and what follows the item is left.
+-- With no or too little content what follows the head is left, with no UTF-8 what follows the item.
+-- Over any reader the head is rejected, no content is lent or too little, or a text is no UTF-8.
 pub data BeginsBorrowed (name : List ℕ) (major : ℕ) (is_text : Bool) (xs : List ℕ)
     (budget : Option ℕ)
     (err : InputError) (rest : List ℕ) : Type 0 where
@@ -56,8 +56,8 @@ pub data BeginsBorrowed (name : List ℕ) (major : ℕ) (is_text : Bool) (xs : L
       → ReadsDefiniteString major xs content n → (IsUtf8 content → ⊥) → err ≡ require_utf8 name
       → rest ≡ drop n xs → BeginsBorrowed name major is_text xs budget err rest
 
--- A type that needs a borrowed slice of the input: what is rejected over any reader depends on how
--- it cuts.
+-- What is rejected over any reader depends on how it cuts.
+-- A type that needs a borrowed slice of the input.
 abbrev pub lent_format : {V : Type 0} → List ℕ → ℕ → Bool → (V → List ℕ) → Format V
 lent_format name major is_text content = record {
   reads = ReadsBorrowed major is_text content;
@@ -72,8 +72,8 @@ lent_format name major is_text content = record {
 
 -- ---- a content that is lent
 
--- The bytes are the input's own, which it reports: what is left begins right after them, where the
--- reader reports the place of its end.
+-- What is left begins right after them, where the reader reports the place of its end.
+-- The bytes are the input's own, which it reports.
 abbrev pub IsOfInput : Bor (List ℕ) → View → View → Type 0
 IsOfInput bytes old new = IfKnown old.known (λ xs. BeginsAt (place_after bytes) new)
 

@@ -22,8 +22,8 @@ Ends old new = IfKnown old (λ xs. (n : ℕ) × Took xs new n)
 abbrev pub EndsOrForgets : Option (List ℕ) → Option (List ℕ) → Type 0
 EndsOrForgets old new = IfKnown old (λ xs. IfKnown new (λ ys. (n : ℕ) × (ys ≡ drop n xs)))
 
--- where the bytes are known before and after, the count of those that were taken, if there is one,
--- rises by as many as are gone
+-- It holds where the bytes are known before and after, and where there is a count.
+-- The count of the bytes that were taken rises by as many as are gone.
 abbrev pub Counted : View → View → Type 0
 Counted old new =
     IfKnown old.known (λ xs. IfKnown new.known
@@ -40,8 +40,8 @@ pub record Kept (old new : View) : Type 0 where
   pub remembers : IsTrue old.remembers → IsTrue new.remembers
   pub ends_at : new.ends_at ≡ old.ends_at
 
--- The reader failed: what is left, where still known, is an end, and a reader that remembers still
--- reports it; the budget is as before.
+-- What is left, where still known, is an end, and a reader that remembers still reports it.
+-- The reader failed, and the budget is as before.
 pub record ReaderFailed (old new : View) : Type 0 where
   pub rest : EndsOrForgets old.known new.known
   pub left : IsTrue old.remembers → Ends old.known new.known
@@ -62,8 +62,8 @@ abbrev pub lacks_step : {V E : Type 0} → Result V (DecodeError E) → Bool
 lacks_step (Ok v) = false
 lacks_step (Err e) = is_depth_overflow e
 
--- `Read` is answered exactly where the reader failed in the call, and a step is lacking only where
--- there is a budget
+-- A step is lacking only where there is a budget.
+-- `Read` is answered exactly where the reader failed in the call.
 pub record Moves {V E : Type 0} (old new : View) (answer : Result V (DecodeError E)) : Type 0 where
   pub by : MatchBool (is_failure answer) (ReaderFailed old new) (Kept old new)
   pub depth : old.budget ≡ None → lacks_step answer ≡ false

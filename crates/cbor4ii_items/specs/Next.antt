@@ -13,7 +13,7 @@ use Rattle.cbor4ii_items.specs.Strings.{ReadsBreak, RejectsBreak}
 abbrev pub ReadsNext : Reads ℕ
 ReadsNext xs b n c = (take 1 xs ≡ b ∷ []) × (n ≡ 0) × (c ≡ 0)
 
--- there is no byte
+-- no byte is left
 abbrev pub RejectsNext : List ℕ → RejectsAt
 RejectsNext name xs budget err rest = (xs ≡ []) × (err ≡ eof name (Small 1)) × (rest ≡ [])
 
@@ -22,9 +22,9 @@ next_format name = looking_format ReadsNext (RejectsNext name)
 
 -- ---- whether a part follows
 
--- Whether a part follows, by what is left of the length. Where parts are counted, one follows while
--- some are left, and no byte is taken. Else a break is taken, and another byte begins a part and
--- stays.
+-- Where parts are counted, one follows while some are left, and no byte is taken. Else a break is
+-- taken, and another byte begins a part and stays.
+-- Whether a part follows, by what is left of the length.
 abbrev pub ReadsFollows : Option ℕ → Reads Bool
 ReadsFollows (Some left) xs more n c = (more ≡ nat_lt 0 left) × (n ≡ 0) × (c ≡ 0)
 ReadsFollows None xs more n c = ReadsBreak xs (not more) n c

@@ -36,7 +36,7 @@ RejectsUnsigned name width = RejectsArgument name 0 width
 abbrev pub ReadsNegative : ℕ → Reads (Negative ℕ)
 ReadsNegative width xs v n c = ReadsArgument 1 width xs v.0 n c
 
--- as such a head of major type 1 is
+-- a head of major type 1, of at most so many bytes of argument, is rejected
 abbrev pub RejectsNegative : List ℕ → ℕ → RejectsAt
 RejectsNegative name width = RejectsArgument name 1 width
 
@@ -45,7 +45,7 @@ negative_format name width = format_by (λ v. v.0) (argument_format name 1 width
 
 -- ---- signed integers of at most eight bytes
 
--- from 0 on, or -1 - k, with k below the limit
+-- an integer from 0 on, or -1 - k, with k below the limit
 abbrev pub ReadsSigned : ℕ → ℕ → Reads ℤ
 ReadsSigned width limit xs (pos k) n c = ReadsHead 0 width xs k n × (k < limit) × (c ≡ 0)
 ReadsSigned width limit xs (negsuc k) n c = ReadsHead 1 width xs k n × (k < limit) × (c ≡ 0)
@@ -64,8 +64,8 @@ pub data RejectsHalf (name : List ℕ) (major width limit : ℕ) (xs : List ℕ)
       → err ≡ cast_overflow name → rest ≡ drop n xs
       → RejectsHalf name major width limit xs err rest
 
--- the first byte by the type's name, numbers from 0 on by a second name, and negative ones by a
--- third
+-- The first byte goes by the type's name, numbers from 0 on by a second, negative ones by a third.
+-- A signed integer is rejected by its first byte, or as a number from 0 on, or as a negative one.
 pub data RejectsSigned (name plus minus : List ℕ) (width limit : ℕ) (xs : List ℕ) (err : InputError)
     (rest : List ℕ) : Type 0 where
   no_signed_byte : xs ≡ [] → err ≡ eof name (Small 1) → rest ≡ []
@@ -194,8 +194,8 @@ abbrev pub signed_head : ℤ → List ℕ
 signed_head (pos n) = shortest_head 0 n
 signed_head (negsuc n) = shortest_head 1 n
 
--- from 0 on an unsigned integer, and -1 - n as the argument n of major type 1, or as a negative
--- bignum
+-- From 0 on an unsigned integer, and -1 - n as the argument n of major type 1 or a negative bignum.
+-- The bytes of an integer of either sign.
 abbrev pub signed_bytes : ℤ → List ℕ
 signed_bytes (pos n) = integer_bytes 0 2 n
 signed_bytes (negsuc n) = integer_bytes 1 3 n

@@ -9,8 +9,8 @@ use Rattle.cbor4ii_items.specs.ReadHead.{length_at}
 
 -- ---- content of definite length
 
--- so many bytes, after a content; where fewer are left, nothing is, and the error says how many
--- are missing
+-- Where fewer are left, nothing is left then, and the error says how many are missing.
+-- So many bytes are read, after a content.
 abbrev pub content_on : List ℕ → ℕ → List ℕ → Reading (List ℕ)
 content_on name count content xs =
     if nat_lt (length xs) count then Err (eof name (len_of (count - length xs)), [])

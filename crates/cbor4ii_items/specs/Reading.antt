@@ -46,15 +46,16 @@ AnswersAs outcome new (Err e) =
     IfSome (input_error_of e)
     (λ err. (ys : List ℕ) × (new ≡ Some ys) × (outcome ≡ Err (err, ys)))
 
--- A call that does what the program does: over any reader it leaves the reader as a decoding call
--- does, and over known bytes it answers as the program, unless there was no memory.
+-- Over any reader it leaves the reader as a decoding call does. Over known bytes it answers as the
+-- program, unless there was no memory.
+-- A call that does what the program does.
 pub record Runs {V E : Type 0} (program : Reading V) (old new : View)
     (answer : Result V (DecodeError E)) : Type 0 where
   pub moves : Moves old new answer
   pub answers : IfKnown old.known (λ xs. AnswersAs (program xs) new.known answer)
 
--- A call that is under way: it took some bytes of what the whole program reads, and the program
--- next is left to do.
+-- It took some bytes of what the whole program reads.
+-- A call that is under way, and the program `next` is left to do.
 pub record Reaches {V : Type 0} (whole next : Reading V) (old new : View) : Type 0 where
   pub kept : Kept old new
   pub leads : IfKnown old.known (λ xs. (ys : List ℕ) × (new.known ≡ Some ys) × (whole xs ≡ next ys))

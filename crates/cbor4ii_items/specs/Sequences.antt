@@ -31,8 +31,8 @@ ReadsCount reads count xs ps n c = (length ps ≡ count) × ReadsElements reads 
 abbrev pub Unbroken : {P : Type 0} → Reads P → Reads P
 Unbroken reads xs p n c = (take 1 xs ≡ break ∷ [] → ⊥) × reads xs p n c
 
--- elements up to the first break that stands in an element's place, and the break; no element where
--- one may read nothing
+-- The break is the first in an element's place. There is no element where one may read nothing.
+-- Elements up to a break, and the break.
 pub record ReadsUpToBreak {P : Type 0} (reads : Reads P) (never_empty : Bool) (xs : List ℕ)
     (ps : List P) (n c : ℕ) : Type 0 where
   pub allowed : IsTrue never_empty ⊎ (ps ≡ [])
@@ -65,7 +65,7 @@ ReadsInside major reads never_empty xs ps n c =
     ReadsDefiniteElements major reads xs ps n c ⊎ ReadsIndefiniteElements major reads never_empty
     xs ps n c
 
--- the same under one step
+-- under one step, elements that are counted, or that a break ends
 abbrev pub ReadsSequence : {P : Type 0} → ℕ → Reads P → Bool → Reads (List P)
 ReadsSequence major reads never_empty xs ps n c =
     (d : ℕ) × ReadsInside major reads never_empty xs ps n d × (c ≡ 1 + d)
@@ -91,7 +91,7 @@ pub record RejectsCount {P : Type 0} (reads : Reads P) (rejects : RejectsAt) (co
   pub fits : CostFits cost budget
   pub stop : rejects (drop between xs) budget err rest
 
--- where an element or a break should come
+-- what is rejected where an element or a break should come
 pub data RejectsPlace (name : List ℕ) (rejects : RejectsAt) (never_empty : Bool) (xs : List ℕ)
     (budget : Option ℕ) (err : InputError) (rest : List ℕ) : Type 0 where
   no_byte : xs ≡ [] → err ≡ eof (codes "break") (Small 1) → rest ≡ []
@@ -147,7 +147,7 @@ pub data RejectsSequence {P : Type 0} (name : List ℕ) (major : ℕ) (reads : R
 
 -- ---- values that hold elements
 
--- elements that are read and rejected so
+-- a type whose values hold elements, read and rejected as given
 abbrev pub elements_format : {P W : Type 0} → (W → List P) → Format P → Reads (List P) → RejectsAt
     → RejectsAt → Bool → Format W
 elements_format items s reads rejects begins never_empty = record {
@@ -249,7 +249,7 @@ pair_format k v = record {
   closed = k.closed && v.closed;
 }
 
--- a map of such keys and values, as its pairs in their order
+-- a map of keys and values of these formats, as its pairs in their order
 abbrev pub map_format : {K V : Type 0} → Format K → Format V
     → Format (Map (Vec (K × V) Global))
 map_format k v =

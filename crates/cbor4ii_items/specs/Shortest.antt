@@ -19,8 +19,8 @@ abbrev pub ReadsShortest : ℕ → Reads ℕ
 ReadsShortest major xs v n c = (h : ReadsHead major 8 xs v n) × (h.wide ≡ shortest_width v)
     × (c ≡ 0)
 
--- A head that is rejected as every head is, the first byte of an indefinite length, or a whole head
--- that is longer than needed. What follows the byte, or the head, is left.
+-- What follows the byte, or the whole head, is left.
+-- A head rejected as any is, the first byte of an indefinite length, or a head longer than needed.
 pub data RejectsShortest (name : List ℕ) (major : ℕ) (xs : List ℕ) (budget : Option ℕ)
     (err : InputError) (rest : List ℕ) : Type 0 where
   shortest_rejected : ((b : ℕ) (bs : List ℕ) → xs ≡ b ∷ bs → ¬ (LacksLength major b))

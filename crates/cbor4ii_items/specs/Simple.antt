@@ -18,7 +18,7 @@ use Rattle.cbor4ii_items.specs.Decoding.{format_by}
 abbrev pub ReadsSimple : Reads Simple
 ReadsSimple xs v n c = ReadsArgument 7 1 xs v.0 n c
 
--- as such a head of major type 7 is
+-- a head of major type 7, of at most one byte of argument, is rejected
 abbrev pub RejectsSimple : RejectsAt
 RejectsSimple = RejectsArgument (codes "simple") 7 1
 

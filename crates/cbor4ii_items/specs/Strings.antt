@@ -107,7 +107,7 @@ pub record CutContent (name : List ℕ) (major : ℕ) (xs : List ℕ) (err : Inp
   pub answer : err ≡ eof name (len_of (before + count - length xs))
   pub left : rest ≡ []
 
--- where a chunk or a break should come
+-- what is rejected where a chunk or a break should come
 pub data RejectsChunk (name : List ℕ) (major : ℕ) (xs : List ℕ) (budget : Option ℕ)
     (err : InputError) (rest : List ℕ) : Type 0 where
   no_chunk_byte : xs ≡ [] → err ≡ eof (codes "break") (Small 1) → rest ≡ []
@@ -123,8 +123,8 @@ pub data RejectsChunk (name : List ℕ) (major : ℕ) (xs : List ℕ) (budget : 
   chunk_cut : budget ≢ Some 0 → CutContent name major xs err rest
       → RejectsChunk name major xs budget err rest
 
--- after the first byte of a string of indefinite length: some chunks are whole and fit the budget,
--- and then comes the error
+-- Some chunks are whole and fit the budget, and then comes the error.
+-- A string of indefinite length is rejected after its first byte.
 pub record RejectsIndefinite (name : List ℕ) (major : ℕ) (xs : List ℕ) (budget : Option ℕ)
     (err : InputError) (rest : List ℕ) : Type 0 where
   pub chunks : List (List ℕ)

@@ -10,8 +10,8 @@ abbrev pub AppendsPrefix : List ℕ → Option (List ℕ) → Option (List ℕ) 
 AppendsPrefix bytes old new =
     IfKnown old (λ xs. (prefix : List ℕ) × StartsWith bytes prefix × (new ≡ Some (xs ++ prefix)))
 
--- The call wrote the bytes, or the writer failed in it; a writer that is atomic then has a
--- beginning of them.
+-- Where a writer that is atomic failed, it has a beginning of them.
+-- The call wrote the bytes, or the writer failed in it.
 pub record Writes {T E : Type 0} (atomic : Bool) (bytes : List ℕ) (old new : Output)
     (answer : Result T E) : Type 0 where
   pub appends : OnOk answer (Appends bytes old.written new.written)
@@ -19,7 +19,7 @@ pub record Writes {T E : Type 0} (atomic : Bool) (bytes : List ℕ) (old new : O
   pub failed : OnErr answer (Failed old.failures new.failures)
   pub prefix : IsTrue atomic → OnErr answer (AppendsPrefix bytes old.written new.written)
 
--- as `Writes`, in one push: where an atomic writer failed, known bytes are as they were
+-- `Writes` in one push: where an atomic writer failed, known bytes are as they were
 pub record WritesAtomically {T E : Type 0} (atomic : Bool) (bytes : List ℕ) (old new : Output)
     (answer : Result T E) : Type 0 where
   pub writes : Writes atomic bytes old new answer

@@ -78,7 +78,7 @@ pub fn read_alone(alloc: Global, input: &[u8]) -> Option<Alone> {
     read_of_slice(alloc, input)
 }
 
-// The same of the word for a reader, and what follows it.
+// Reads the item that follows the word for a reader, over that reader and in this way.
 fn read_so(alloc: Global, way: Way, input: &[u8]) -> Option<Alone> {
     if let Some(item) = input.strip_prefix(b"slice:".as_slice()) {
         return Some(way_of_slice(alloc, way, item));

@@ -213,8 +213,8 @@ const TWO: &[u8] = b"\x62ab\x01";
 
 const PAIR: &[u8] = b"\x42\x08\x09\x01";
 
-// The same where no segment has them whole: they are copied. What has to be lent is rejected then,
-// by the name "str" or "bytes".
+// Texts and byte strings that no segment has whole: they are copied. What has to be lent is
+// rejected then, by the name "str" or "bytes".
 const COPIED: &[Row] = table! {
     ("typed CowStr", Way::Text, TWO, &[b"\x62a", b"b\x01"], "[97, 98]", b"\x01"),
     ("deserialize_str", Way::TextByName, TWO, &[b"\x62a", b"b\x01"], "[97, 98]", b"\x01"),

@@ -155,7 +155,7 @@ impl<S: FillLong> ReadBy<S> for Typed<BoxedRawValue> {
     }
 }
 
-// The same as a typed value.
+// [1, 2] as a typed value, and 3 after it.
 const TYPED: &[LentRow] = table! {
     (PAIR, &[b"\x82\x01\x02", b"\x03"], "Typed(BoxedRawValue([130, 1, 2]))", b"\x03"),
 };

@@ -28,7 +28,7 @@ enum Node {
     Pairs(Vec<(String, Node)>),
 }
 
-/// As the value inside.
+/// Written as the value inside, or as null.
 impl Serialize for Node {
     ghost encoding = { level_item };
 

@@ -58,7 +58,7 @@ pub enum Left {
     Never,
     /// An end of them.
     AnEnd,
-    /// What is consumed the item, which was taken.
+    /// What follows the item, which was taken.
     TheRest,
 }
 
@@ -81,7 +81,7 @@ pub fn reads_rows<T: ReadFrom + Debug + Drop>(
     Ok(())
 }
 
-/// As `reads_rows`, of a type that takes no memory: none is refused to it.
+/// Reads each row of a type that takes no memory over each reader: none is refused to it.
 pub fn reads_in_place<T: ReadFrom + Debug + Drop>(
     tally: &mut Tally,
     row: &'static str,
@@ -166,7 +166,7 @@ pub fn makes_calls<C: Calls>(
     Ok(())
 }
 
-// As `reads`, of a call.
+// Makes a call over a slice, over two segments and over a stream that shows three bytes at most.
 fn answers<C: Calls>(tally: &mut Tally, call: C, meant: &Meant<'_>) -> Result<(), Broken> {
     let bytes = meant.bytes;
     answers_over(tally, call, &mut SliceReader::new(bytes), meant)?;

@@ -346,7 +346,7 @@ pub fn whole(tally: &mut Tally) -> Result<(), Broken> {
     Ok(())
 }
 
-/// As `whole`, after what a stream holds that takes memory.
+/// A typed value after what a stream holds that takes memory.
 pub fn streamed(tally: &mut Tally) -> Result<(), Broken> {
     let Ok(held) = Vec::from_slice(tally.alloc(), b"\xff") else {
         tally.refuse();
@@ -363,7 +363,7 @@ pub fn streamed(tally: &mut Tally) -> Result<(), Broken> {
     Ok(())
 }
 
-/// As `whole`, into memory that is there.
+/// A typed value that is written into memory that is there.
 pub fn streamed_in_place() -> Result<(), Broken> {
     let mut room = [0xff; 12];
     let is_written = to_writer(room.as_mut_slice(), &("streaming", Some(5u8))).is_ok();

@@ -15,7 +15,7 @@ abbrev pub is_eof : {E : Type 0} → DecodeError E → Bool
 is_eof (Eof name expect) = true
 is_eof _ = false
 
--- what was read
+-- the name of what was read
 abbrev pub name_of : {E : Type 0} → DecodeError E → Option (Bor (List ℕ))
 name_of (Read e) = None
 name_of (Mismatch name found) = Some name

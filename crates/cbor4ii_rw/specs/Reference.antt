@@ -9,7 +9,7 @@ abbrev pub bytes_of : Reference → List ℕ
 bytes_of (Long bytes) = bytes.now
 bytes_of (Short bytes) = bytes.now
 
--- it lives as long as the reader's input
+-- the reference lives as long as the reader's input
 abbrev pub IsLong : Reference → Type 0
 IsLong (Long bytes) = ⊤
 IsLong (Short bytes) = ⊥

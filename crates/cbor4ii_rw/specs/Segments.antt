@@ -37,12 +37,12 @@ shown_segment reader = first_nonempty reader.current.now (first_full reader.segm
 abbrev pub rest_of : SegmentReader → List ℕ
 rest_of reader = reader.current.now ++ joined_segments reader.segments.now
 
--- how many of its segments still have bytes
+-- how many of a reader's segments still have bytes
 abbrev pub full_of : SegmentReader → ℕ
 full_of reader = count_of_full reader.current.now + full_count reader.segments.now
 
--- it reports all its bytes and never fails; it is zero-copy where at most one segment still has
--- bytes
+-- It is zero-copy where at most one segment still has bytes.
+-- A reader over segments reports all its bytes and never fails.
 abbrev pub segment_view : SegmentReader → View
 segment_view reader = record {
   known = Some (rest_of reader);

@@ -3,7 +3,8 @@ use Rattle.std.specs.Prelude.{length, None, Some, true}
 use Rattle.cbor4ii_rw.specs.View.{View, place_after}
 use Rattle.cbor4ii_rw.specs.declared.slice_reader.SliceReader.{SliceReader}
 
--- it reports all its bytes and the place of their end, lends them without a copy, and never fails
+-- It lends them without a copy, and never fails.
+-- A reader over a slice reports all its bytes and the place of their end.
 abbrev pub slice_view : SliceReader → View
 slice_view reader = record {
   known = Some reader.bytes.now;

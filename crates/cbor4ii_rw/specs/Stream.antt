@@ -18,7 +18,7 @@ abbrev pub cut_known : ℕ → Option (List ℕ) → Option (List ℕ)
 cut_known n None = None
 cut_known n (Some bytes) = Some (take n bytes)
 
--- cut bytes are no more than the cut; a trait's law cites it, so it stands here
+-- the proof that known bytes, once cut, are no more than the cut
 pub cut_within : (most : ℕ) (known : Option (List ℕ))
     → IfKnown (cut_known most known) (λ xs. length xs ≤ most)
 cut_within most None xs is = absurd (search (is, rules))
@@ -42,15 +42,15 @@ held_bytes (Some bytes) limit tally =
     where_known (fits limit tally.shown && nat_lt tally.used (tally.shown + 1))
     (drop tally.used bytes)
 
--- what the stream behind a reader holds, without the bytes that were taken; the first argument is
--- what a stream has left, and the second how many bytes it may be asked to consume
+-- The first arguments are what a stream has left and how many bytes it may be asked to consume.
+-- What the stream behind a reader holds, without the bytes that were taken.
 abbrev pub stream_left : {R : Type 0} → (R → Option (List ℕ)) → (R → Option ℕ) → IoReader R
     → Option (List ℕ)
 stream_left remaining consumable reader =
     held_bytes (remaining reader.inner) (consumable reader.inner) reader.tally
 
--- It reports what the stream has left, up to the most that are taken in all, counts what was taken,
--- and is never zero-copy.
+-- It counts what was taken, and is never zero-copy.
+-- A reader over a stream reports what the stream has left, up to the most that are taken in all.
 abbrev pub stream_view : {R : Type 0} → (R → Option (List ℕ)) → (R → Option ℕ) → IoReader R → View
 stream_view remaining consumable reader = record {
   known = cut_known (most_bytes - reader.tally.taken) (stream_left remaining consumable reader);

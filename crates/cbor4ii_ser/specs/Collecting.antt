@@ -11,7 +11,7 @@ use Rattle.cbor4ii_ser.specs.declared.bounded.BoundedCollect.{BoundedCollect}
 abbrev pub left_of : {W E : Type 0} → Collect W E → Option ℕ
 left_of c = c.left
 
--- its parts are pairs, each a key and a value
+-- the parts of a collector are pairs, each a key and a value
 abbrev pub is_keyed : {W E : Type 0} → Collect W E → Bool
 is_keyed c = c.keyed
 
@@ -23,7 +23,7 @@ owes c = c.owes
 abbrev pub collect_output : {W E : Type 0} → (W → Output) → Collect W E → Output
 collect_output view c = output view c.ser.now
 
--- which reference it holds to its serializer
+-- which reference a collector holds to its serializer
 abbrev pub serializer_name : {W E : Type 0} → Collect W E → ℕ
 serializer_name c = c.ser.ghost_name
 
@@ -32,7 +32,7 @@ serializer_name c = c.ser.ghost_name
 abbrev pub bounded_left : {W E : Type 0} → BoundedCollect W E → ℕ
 bounded_left c = c.left
 
--- its parts are fields, each a name and a value
+-- the parts of a bounded collector are fields, each a name and a value
 abbrev pub bounded_keyed : {W E : Type 0} → BoundedCollect W E → Bool
 bounded_keyed c = c.keyed
 

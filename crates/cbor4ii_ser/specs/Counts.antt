@@ -8,7 +8,7 @@ abbrev pub container_head : ℕ → Option ℕ → List ℕ
 container_head major (Some len) = shortest_head major len
 container_head major None = opening major
 
--- what ends it
+-- what ends an array or a map: nothing after so many parts, and else a break
 abbrev pub container_end : Option ℕ → List ℕ
 container_end (Some len) = []
 container_end None = closing

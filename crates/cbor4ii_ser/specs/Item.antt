@@ -4,8 +4,8 @@ use Rattle.std.specs.Prelude.{ℕ, List, [], ◌∷◌, ◌++◌, length, Option
 use Rattle.cbor4ii_items.specs.Numbers.{shortest_head}
 use Rattle.cbor4ii_items.specs.Strings.{definite_string}
 
--- all the bytes, of an item (RFC 8949 section 1.2: encoded data item) or of a part of one; or those
--- before the place at which the value is rejected, and the error's words
+-- The bytes are of an item (RFC 8949 section 1.2: encoded data item) or of a part of one.
+-- All the bytes of a value, or those before the place where it is rejected and the error's words.
 pub data Encoding : Type 0 where
   encoded : List ℕ → Encoding
   rejected : List ℕ → List ℕ → Encoding
@@ -25,7 +25,7 @@ abbrev pub IfEncoded : Encoding → (List ℕ → Type 0) → Type 0
 IfEncoded (encoded bytes) P = P bytes
 IfEncoded (rejected bytes words) P = Unit {0}
 
--- it is rejected, and the bytes before that and its words are such
+-- the value is rejected, and the bytes before that and its words are such
 abbrev pub IsRejectedAnd : Encoding → (List ℕ → List ℕ → Type 0) → Type 0
 IsRejectedAnd (encoded bytes) P = ⊥
 IsRejectedAnd (rejected bytes words) P = P bytes words

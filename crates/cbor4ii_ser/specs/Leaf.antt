@@ -13,7 +13,7 @@ abbrev pub major_of_sign : Bool → ℕ
 major_of_sign true = 1
 major_of_sign false = 0
 
--- its item
+-- the bytes of a leaf's item
 abbrev pub bytes_of_leaf : Leaf → List ℕ
 bytes_of_leaf (Integer is_negative argument) = shortest_head (major_of_sign is_negative) argument
 bytes_of_leaf (Bytes content) = definite_string 2 content.now

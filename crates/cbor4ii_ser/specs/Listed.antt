@@ -9,7 +9,7 @@ use Rattle.cbor4ii_ser.specs.Item.{Encoding, encoded, followed, struct_encoding}
 abbrev pub NamedItems : Type 0
 NamedItems = List (List ℕ × Encoding)
 
--- their pairs, in order, where this is the item of a key by its label
+-- the pairs of labelled items, in order, where this is the item of a key by its label
 abbrev pub keyed_pairs : (List ℕ → List ℕ) → NamedItems → List Encoding
 keyed_pairs key [] = []
 keyed_pairs key (part ∷ parts) = followed (encoded (key part.0)) part.1 ∷ keyed_pairs key parts
@@ -67,11 +67,11 @@ before_joins encoding (Some v) label others = refl
 abbrev pub end_of_list : Unit {0}
 end_of_list = tt
 
--- of no field
+-- the labelled items of no field
 abbrev pub no_named_items : {V : Type 0} → V → List (List ℕ) → NamedItems
 no_named_items v labels = []
 
--- of a field and those after it, each under its label; one for which there is no label is left out
+-- the items of a field and those after it, each under its label; one without a label is left out
 infixr 5 ◌▹◌
 abbrev pub ◌▹◌ : {P V : Type 0} → (P → List ℕ → NamedItems → NamedItems)
     → (V → List (List ℕ) → NamedItems) → P × V → List (List ℕ) → NamedItems

@@ -70,14 +70,12 @@ pub record OnePair (form : Form) (encoding : List ℕ) : Type 0 where
 abbrev pub IsOnePair : Form → Encoding → Type 0
 IsOnePair form entry = IfEncoded entry (OnePair form)
 
--- an array (4) or a map (5) that is written part by part, around its parts: of so many, or of any
--- number up to a break
+-- an array (4) or a map (5) around parts written in turn: so many, or any number up to a break
 abbrev pub collected_encoding : ℕ → Option ℕ → Encoding → Encoding
 collected_encoding major len inner =
     followed (encoded (container_head major len)) (followed inner (encoded (container_end len)))
 
--- The bytes encode the value, and are read as it and skipped, whatever follows them, where the
--- steps fit.
+-- The bytes encode the value, are read as it and skipped, whatever follows, where the steps fit.
 pub record IsReadWhole (encoding : List ℕ) (v : Item) (steps : ℕ) : Type 0 where
   pub encodes : Encodes encoding v steps
   pub reads : (rest : List ℕ) (budget : Budget) → CostFits steps budget
@@ -85,8 +83,7 @@ pub record IsReadWhole (encoding : List ℕ) (v : Item) (steps : ℕ) : Type 0 w
   pub skips : (rest : List ℕ) (budget : Budget) → CostFits steps budget
       → (t : Tree) × Skips (encoding ++ rest) budget t rest
 
--- The bytes are the canonical encoding of the value, and are read so, whatever follows them and
--- where the steps fit.
+-- The bytes encode the value canonically, and are read so, whatever follows, where the steps fit.
 pub record IsReadCanonically (encoding : List ℕ) (v : Item) (steps : ℕ) : Type 0 where
   pub encodes : EncodesCanonically encoding v steps
   pub reads : (rest : List ℕ) (budget : Budget) → CostFits steps budget

@@ -13,17 +13,17 @@ use Rattle.cbor4ii_ser.specs.declared.serializer.Serializer.{Serializer}
 abbrev pub output : {W : Type 0} → (W → Output) → Serializer W → Output
 output view ser = view ser.writer
 
--- why a call failed: the writer did; or the value is rejected in these words, what stands before
--- that is appended, and the writer did not fail
+-- Where the value is rejected, what stands before that is appended, and the writer did not fail.
+-- Why a call failed: the writer did, or the value is rejected in these words.
 abbrev pub Blames : {E : Type 0} → Encoding → Output → Output → EncodeError E → Type 0
 Blames item old new (Core error) = Failed old.failures new.failures
 Blames item old new (Custom text) =
     IsRejectedAnd item (λ bytes words. Appends bytes old.written new.written × (text.now ≡ words))
     × (new.failures ≡ old.failures)
 
--- The call wrote the item; or the writer failed in it; or the value is rejected, and it says so in
--- its words after exactly what stands before that. Where the writer failed, one that is atomic has
--- a beginning of all that.
+-- Where the value is rejected, the call says so in its words after exactly what stands before that.
+-- Where the writer failed, one that is atomic has a beginning of all that is to be written.
+-- The call wrote the item, or the writer failed in it, or the value is rejected.
 pub record Serializes {T E : Type 0} (atomic : Bool) (item : Encoding) (old new : Output)
     (answer : Result T (EncodeError E)) : Type 0 where
   pub appends : OnOk answer (IsEncodedAnd item (λ bytes. Appends bytes old.written new.written))

@@ -17,7 +17,7 @@ use Rattle.cbor4ii_tool.specs.declared.fault.Fault.{Fault}
 use Rattle.cbor4ii_tool.specs.declared.fault.Kind.{Kind}
 use Rattle.cbor4ii_tool.specs.declared.fault.Kind.TheVariants as kind
 
--- the kind of the same name
+-- the kind of the same name as an error
 abbrev pub kind_of : {E : Type 0} → DecodeError E → Kind
 kind_of (Read error) = kind.Read
 kind_of (Mismatch name found) = kind.Mismatch

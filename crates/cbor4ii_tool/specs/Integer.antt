@@ -8,12 +8,12 @@ pub record IntegerHead : Type 0 where
   pub argument : ℕ
   pub width : Width
 
--- it is the head of an integer
+-- the head is that of an integer
 pub record IsIntegerHead (item : IntegerHead) : Type 0 where
   pub major : item.major ≤ 1
   pub fits : HeadFits item.width item.argument
 
--- its bytes
+-- the bytes of a head
 abbrev pub encoding : IntegerHead → List ℕ
 encoding item = head item.major item.argument item.width
 

@@ -17,10 +17,10 @@ use Rattle.cbor4ii_tool.specs.declared.command.Command.{Command}
 use Rattle.cbor4ii_tool.specs.declared.command.Command.TheVariants.{Ints, Canon, Lens, Strict}
 use Rattle.cbor4ii_tool.specs.declared.fault.Kind.{Kind}
 
--- An item of the command, under this budget of steps, begins the input, this text is written for
--- it, and this rest follows it: of an integer the head with the shortest argument, of a value
--- its canonical encoding, and of an item that is skipped its length in bytes, in decimal and with a
--- newline.
+-- The text of an integer is the head with the shortest argument, and of a value its canonical
+-- encoding. Of an item that is skipped it is its length in bytes, in decimal and with a newline.
+-- The item is under this budget of steps.
+-- An item of the command begins the input, this text is written for it, and this rest follows it.
 abbrev pub Converts : Command → Option ℕ → List ℕ → List ℕ → List ℕ → Type 0
 Converts Ints budget input text rest =
     (item : IntegerHead) × IsIntegerHead item × (input ≡ encoding item ++ rest)
@@ -62,8 +62,8 @@ TakesMemory Canon = Unit {0}
 TakesMemory Strict = Unit {0}
 TakesMemory _ = ⊥
 
--- the input is items, one after another, for which these texts are written, and then the rest;
--- each item is under this budget of steps
+-- Each item is under this budget of steps.
+-- The input is items, one after another, for which these texts are written, and then the rest.
 abbrev pub IsRow : Command → Option ℕ → List (List ℕ) → List ℕ → List ℕ → Type 0
 IsRow command budget [] input rest = input ≡ rest
 IsRow command budget (text ∷ texts) input rest =

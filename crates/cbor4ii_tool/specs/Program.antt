@@ -25,14 +25,15 @@ pub record IsFreshOver (bytes : List ℕ) (reader : View) : Type 0 where
   pub taken : reader.taken ≡ Some 0
   pub budget : reader.budget ≡ Some 256
 
--- a run of the command over a reader that opens these bytes may have this outcome, after what the
--- output held
+-- The run is over a reader that opens these bytes, after what the output held.
+-- A run of the command may have this outcome.
 abbrev pub MayEnd : Command → List ℕ → Option (List ℕ) → Outcome → Type 0
 MayEnd command bytes held outcome = (old : View) × IsFreshOver bytes old × (new : View)
     × (holds : Option (List ℕ)) × RunsOver command bytes old new held holds outcome
 
--- The status is that of an outcome, 0 or 1, and where the input is known, a run of the command over
--- it may have this outcome, after what the output held.
+-- Where the input is known, a run of the command over it may have that outcome, after what the
+-- output held.
+-- The status of the command is that of an outcome, 0 or 1.
 abbrev pub EndsIn : Command → Option (List ℕ) → Option (List ℕ) → ℕ → Type 0
 EndsIn command input held status = (outcome : Outcome) × (status ≡ status_of outcome)
     × IfKnown input (λ bytes. MayEnd command bytes held outcome)

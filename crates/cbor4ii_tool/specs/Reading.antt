@@ -20,12 +20,12 @@ abbrev pub integer_argument : Integer → ℕ
 integer_argument (Unsigned n) = n
 integer_argument (Negative n) = n.0
 
--- its head in this width
+-- the head of an integer, in this width
 abbrev pub in_width : Width → Integer → IntegerHead
 in_width width integer =
     record { major = major_of_integer integer; argument = integer_argument integer; width = width }
 
--- its head in the least width that its argument has
+-- the bytes of an integer's head, in the least width that its argument has
 abbrev pub written_bytes : Integer → List ℕ
 written_bytes integer =
     head (major_of_integer integer) (integer_argument integer)
@@ -52,7 +52,7 @@ pub record ReadsInteger (integer : Integer) (old new : View) : Type 0 where
   pub bound : new.bound + 1 ≤ old.bound
   pub failures : new.failures ≡ old.failures
 
--- what each kind says of the bytes
+-- what a fault of each kind says of the bytes
 abbrev pub RejectsThere : Kind → List ℕ → Type 0
 RejectsThere Mismatch xs = BeginsNoInteger xs
 RejectsThere Eof xs = IsCutInteger xs

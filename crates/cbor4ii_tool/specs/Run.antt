@@ -12,25 +12,27 @@ use Rattle.cbor4ii_tool.specs.declared.command.Command.{Command}
 use Rattle.cbor4ii_tool.specs.declared.fault.Kind.{Kind}
 use Rattle.cbor4ii_tool.specs.declared.fault.Kind.TheVariants.{Read, OutOfMemory, Write}
 
--- the rest of the input follows so many bytes in all: those that were taken before the input,
--- where they are counted, and those of the input before the rest
+-- They are those that were taken before the input, where they are counted, and those of the input
+-- before the rest.
+-- The rest of the input follows so many bytes in all.
 abbrev pub RestStandsAt : Option ℕ → List ℕ → List ℕ → ℕ → Type 0
 RestStandsAt taken input rest at = IfSome taken (λ before. at + length rest ≡ before + length input)
 
--- no item is taken where the rest begins: nothing is left, the reader failed, memory may have been
--- lacking, or the rest is rejected and begins no item
+-- The reason: nothing is left, the reader failed, memory may have been lacking, or the rest is
+-- rejected and begins no item.
+-- No item is taken where the rest begins.
 abbrev pub NoItemFollows : Command → List ℕ → View → View → Type 0
 NoItemFollows command rest old new =
     (rest ≡ []) ⊎ Failed old.failures new.failures ⊎ TakesMemory command
     ⊎ (((kind : Kind) × RejectsAs command old.budget kind rest)
     × ¬ (BeginsItem command old.budget rest))
 
--- What a fault says where these texts were to be written and the rest follows their items; `held`
--- and `holds` are what the writer held before and after. But for `Write`, the fault stands at the
--- rest, and the texts are written; `Read` and `OutOfMemory` say nothing of the rest, and the other
--- kinds are those by which it is rejected. `Write` stands at the rest where the item there was
--- taken and could not be written; of `holds` nothing is said then. Where the flush failed, it
+-- `held` and `holds` are what the writer held before and after. But for `Write`, the fault stands
+-- at the rest, and the texts are written. `Read` and `OutOfMemory` say nothing of the rest, and the
+-- other kinds are those by which it is rejected. `Write` stands at the rest where the item there
+-- was taken and could not be written; of `holds` nothing is said then. Where the flush failed, it
 -- follows all that was taken, the texts are written, and no item follows.
+-- What a fault says where these texts were to be written and the rest follows their items.
 abbrev pub FaultAt : Command → List (List ℕ) → List ℕ → List ℕ → View → View
     → Option (List ℕ) → Option (List ℕ) → ℕ → Kind → Type 0
 FaultAt command texts input rest old new held holds at Write =
@@ -45,8 +47,8 @@ FaultAt command texts input rest old new held holds at kind =
     RestStandsAt old.taken input rest at × Appends (together texts) held holds × (rest ≢ [])
     × RejectsAs command old.budget kind rest × ¬ (BeginsItem command old.budget rest)
 
--- The input is a row of items, each under the reader's budget, and a rest. Without a fault nothing
--- is left, and the texts of the items are written.
+-- Without a fault nothing is left, and the texts of the items are written.
+-- The input of the run is a row of items, each under the reader's budget, and a rest.
 pub record RunsOver (command : Command) (input : List ℕ) (old new : View)
     (held holds : Option (List ℕ)) (outcome : Outcome) : Type 0 where
   pub texts : List (List ℕ)
@@ -63,8 +65,7 @@ IsExcused Write = Unit {0}
 IsExcused OutOfMemory = Unit {0}
 IsExcused _ = ⊥
 
--- Where the input as a whole is a row of items with these texts, they are written, and no fault of
--- the input comes.
+-- where the whole input is a row of items, these texts are written, and no fault of it comes
 abbrev pub ConvertsWhole : Command → Option ℕ → List ℕ → Option (List ℕ) → Option (List ℕ)
     → Outcome → Type 0
 ConvertsWhole command budget input held holds outcome =
@@ -91,9 +92,10 @@ pub record FailsAtItem (flushed : Bool) (held holds : ℕ) : Type 0 where
   pub failed : Failed held between
   pub flush : FlushCounts flushed between holds
 
--- Whom a fault blames. At `Read` the reader failed, and the writer did not. At `Write` the writer
--- failed at an item, and the reader did not, or the flush alone failed, after all that was taken,
--- whether or not the reader had failed. At every other kind nobody failed.
+-- At `Read` the reader failed, and the writer did not. At `Write` the writer failed at an item, and
+-- the reader did not. Or the flush alone failed, after all that was taken, whether or not the
+-- reader had failed. At every other kind nobody failed.
+-- Whom a fault of this kind blames.
 abbrev pub BlamesAt : Kind → ℕ → Bool → View → View → Output → Output → Type 0
 BlamesAt Read at flushed old new held holds =
     Failed old.failures new.failures × (holds.failures ≡ held.failures)

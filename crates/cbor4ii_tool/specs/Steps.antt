@@ -15,8 +15,8 @@ use Rattle.cbor4ii_tool.specs.declared.fault.Kind.TheVariants.{Read, OutOfMemory
 
 -- ---- the reader
 
--- what is left is an end of what was left before, the budget is as before, and unless the reader
--- failed, what was taken is counted
+-- The budget is as before, and unless the reader failed, what was taken is counted.
+-- What is left is an end of what was left before.
 pub record Leaves (old new : View) : Type 0 where
   pub budget : new.budget ≡ old.budget
   pub rest : EndsOrForgets old.known new.known
@@ -49,8 +49,9 @@ pub record Done (command : Command) (old new : View) (held holds : Output) : Typ
   pub item : IfKnown old.known
       (λ xs. Converted command old.budget xs new.known held.written holds.written)
 
--- why it was not: the reader or the writer failed, there was no memory, or the bytes begin none;
--- where the writer failed, the item was taken
+-- The reader or the writer failed, there was no memory, or the bytes begin none; where the writer
+-- failed, the item was taken.
+-- Why the item that begins the bytes was not converted.
 abbrev pub Fails : Command → Kind → View → View → Output → Output → Type 0
 Fails command Read old new held holds = Failed old.failures new.failures × (holds ≡ held)
 Fails command Write old new held holds =

@@ -8,8 +8,9 @@ use Rattle.cbor4ii_vectors.specs.declared.readers.Asked.{Asked}
 use Rattle.cbor4ii_vectors.specs.declared.writers.FailingWriter.{FailingWriter}
 use Rattle.cbor4ii_vectors.specs.declared.writers.PushLengths.{PushLengths}
 
--- it counts its failures, reports no byte once it has forgotten them, and is zero-copy where it
--- shows all that is left for as long as the input, at each fill
+-- It counts its failures, and reports no byte once it has forgotten them. It is zero-copy where it
+-- shows all that is left for as long as the input, at each fill.
+-- What a test reader reports.
 abbrev pub test_view : TestReader → View
 test_view reader = record {
   known = if reader.has_forgotten then None else Some reader.bytes.now;
@@ -53,6 +54,6 @@ asked_view reader = record {
 abbrev pub failing_output : FailingWriter → Output
 failing_output writer = record { written = Some writer.bytes.items; failures = writer.failures }
 
--- it reports no byte
+-- what a writer of push lengths reports: its failures, and no byte
 abbrev pub pushed_output : PushLengths → Output
 pushed_output writer = record { written = None; failures = writer.failures }

@@ -71,7 +71,8 @@ impl<'a> TestReader<'a> {
         TestReader::new(bytes, Some(limit), true, true)
     }
 
-    /// As `whole`, and lets items nest without a limit.
+    /// A reader that shows all that is left, whatever is wanted, which lives as long as the input.
+    /// It lets items nest without a limit.
     pub fn unlimited(bytes: &'a [u8]) -> TestReader<'a>
         ensures known { (test_view result).known ≡ Some bytes.now }
         ensures budget { (test_view result).budget ≡ None }
@@ -131,14 +132,14 @@ impl<'a> TestReader<'a> {
         }
     }
 
-    /// The same reader, which shows so many times before it fails.
+    /// Makes the reader fail after it showed so many times.
     pub fn failing_after(self, shows: usize) -> TestReader<'a>
         ensures { test_view result ≡ test_view self.entry }
     {
         TestReader { shows, ..self }
     }
 
-    /// The same reader, which fails in the place of showing that nothing is left.
+    /// Makes the reader fail in the place of showing that nothing is left.
     pub fn failing_at_end(self) -> TestReader<'a>
         ensures { test_view result ≡ test_view self.entry }
     {
@@ -148,9 +149,9 @@ impl<'a> TestReader<'a> {
         }
     }
 
-    /// The same reader, which waits for all that is wanted before it shows some, and fails where
-    /// fewer bytes are left, since these never come. Where usize's greatest number is wanted, that
-    /// is all that is left.
+    /// Makes the reader wait for all that is wanted before it shows some, and fail where fewer
+    /// bytes are left, since these never come. Where usize's greatest number is wanted, that is all
+    /// that is left.
     pub fn waiting(self) -> TestReader<'a>
         ensures { test_view result ≡ test_view self.entry }
     {
@@ -160,7 +161,7 @@ impl<'a> TestReader<'a> {
         }
     }
 
-    /// The same reader, which loses what is left where it fails.
+    /// Makes the reader lose what is left where it fails.
     pub fn forgetting(self) -> TestReader<'a>
         ensures known { (test_view result).known ≡ (test_view self.entry).known }
         ensures budget { (test_view result).budget ≡ (test_view self.entry).budget }
@@ -476,12 +477,12 @@ impl<'a> Asked<'a> {
         }
     }
 
-    /// The same reader, which shows at most so many bytes at a time, and one at least.
+    /// Makes the reader show at most so many bytes at a time, and one at least.
     pub fn showing(self, prefix: usize) -> Asked<'a> {
         Asked { prefix, ..self }
     }
 
-    /// The same reader, which lets a look ask for 4,096 bytes.
+    /// Makes the reader let a look ask for 4,096 bytes.
     pub fn wide(self) -> Asked<'a> {
         Asked {
             is_wide: true,
@@ -489,7 +490,7 @@ impl<'a> Asked<'a> {
         }
     }
 
-    /// The same reader, which fails where more than so many bytes are wanted.
+    /// Makes the reader fail where more than so many bytes are wanted.
     pub fn refusing_above(self, most: usize) -> Asked<'a> {
         Asked { most, ..self }
     }

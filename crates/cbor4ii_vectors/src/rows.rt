@@ -103,7 +103,7 @@ where
     Ok(())
 }
 
-/// As `reads_rows`, for one row.
+/// Reads the bytes over each reader: the same answer, and the same bytes left.
 pub fn reads<T>(alloc: Global, bytes: &'static [u8], want: Want<T>, rest: &[u8]) -> Result<(), Fail>
 where
     T: ReadFrom + PartialEq + Debug + Drop,
@@ -111,7 +111,7 @@ where
     reads_alike(alloc, bytes, &want, rest)
 }
 
-/// As `reads_rows`, over each reader that counts its steps, with so many of them.
+/// Reads the bytes of each row within its limit, over each reader that counts its steps.
 pub fn reads_rows_within<T>(alloc: Global, rows: &[RowWithin<T>]) -> Result<(), Fail>
 where
     T: ReadFrom + PartialEq + Debug + Drop,
@@ -122,7 +122,7 @@ where
     Ok(())
 }
 
-/// As `reads_rows_within`, for one row.
+/// Reads the bytes over each reader that counts its steps, with so many of them.
 pub fn reads_within<T>(
     alloc: Global,
     bytes: &'static [u8],
@@ -136,7 +136,7 @@ where
     reads_alike_within(alloc, bytes, limit, want, rest)
 }
 
-/// As `reads_within`, with no fault and not cut at each place: for rows of many bytes.
+/// Reads a row of many bytes over each reader with so many steps, in one piece and with no fault.
 pub fn reads_by_each<T>(
     alloc: Global,
     bytes: &'static [u8],
@@ -173,7 +173,7 @@ where
     Ok(())
 }
 
-/// As `reads`, for what holds borrowed slices, where it is no matter whether they are lent.
+/// Reads the bytes over each reader: it is no matter whether borrowed slices are lent.
 pub fn reads_alike<T>(
     alloc: Global,
     bytes: &'static [u8],
@@ -222,7 +222,7 @@ pub fn by_text<T>(alloc: Global, want: &Want<&str>) -> Result<Want<ByText<T>>, A
     }
 }
 
-/// As `reads_rows`, where a row has the `Debug` text of what is read.
+/// Reads the bytes of each row over each reader: what is read has the row's `Debug` text.
 pub fn reads_texts<T>(alloc: Global, rows: &[Row<&'static str>]) -> Result<(), Fail>
 where
     T: ReadFrom + Debug + Drop,
@@ -233,7 +233,8 @@ where
     Ok(())
 }
 
-/// As `reads_rows_within`, where a row has the `Debug` text of what is read.
+/// Reads the bytes of each row within its limit, over each reader that counts its steps: what is
+/// read has the row's `Debug` text.
 pub fn reads_texts_within<T>(alloc: Global, rows: &[RowWithin<&'static str>]) -> Result<(), Fail>
 where
     T: ReadFrom + Debug + Drop,
@@ -244,7 +245,8 @@ where
     Ok(())
 }
 
-// As `reads_within`, for what holds borrowed slices, where it is no matter whether they are lent.
+// Reads the bytes over each reader that counts its steps, with so many of them. It is no matter
+// whether borrowed slices are lent.
 fn reads_alike_within<T>(
     alloc: Global,
     bytes: &'static [u8],
@@ -324,7 +326,7 @@ fn cuts(alloc: Global, bytes: &'static [u8]) -> Result<&'static [[&'static [u8];
     Ok(cuts.leak())
 }
 
-// As `reads_within`, over two segments, for each place where the bytes can be cut.
+// Reads the bytes with so many steps over two segments, for each place where they can be cut.
 fn reads_in_segments<T>(
     alloc: Global,
     bytes: &'static [u8],
@@ -342,7 +344,7 @@ where
     Ok(())
 }
 
-/// As `reads`, for a borrowed value over each zero-copy reader.
+/// Reads a borrowed value over each zero-copy reader: the same answer, and the same bytes left.
 pub fn lends<T>(alloc: Global, bytes: &'static [u8], want: Want<T>, rest: &[u8]) -> Result<(), Fail>
 where
     T: ReadByEach + PartialEq + Debug + Drop,
@@ -425,7 +427,7 @@ fn takes_none<T: ReadBy<TestReader<'static>> + PartialEq + Debug + Drop>(
     Ok(has_failed)
 }
 
-/// As `reads`, for a borrowed value over each reader whose bytes do not outlive the fill.
+/// Reads a borrowed value over each reader whose bytes do not outlive the fill.
 pub fn lends_short<T>(
     alloc: Global,
     bytes: &'static [u8],
@@ -761,7 +763,8 @@ where
     Ok(())
 }
 
-// As `asks_nothing_after`, over readers that show all that is left, or what is wanted.
+// The item of a row that is read, alone, over readers that show all that is left, or what is
+// wanted. They fail where it is not enough, and the answer is the same.
 fn asks_whole_nothing_after<T>(
     alloc: Global,
     item: &'static [u8],
@@ -779,7 +782,7 @@ where
     waits_for_nothing_after(alloc, item, limit, want)
 }
 
-// As `asks_nothing_after`, over readers that wait for all that is wanted: no look asks for a byte
+// The item of a row, alone, over readers that wait for all that is wanted. No look asks for a byte
 // that the item does not need, and each complete item is read.
 fn waits_for_nothing_after<T>(
     alloc: Global,
@@ -965,7 +968,7 @@ where
     Ok(())
 }
 
-/// As `goes_both_ways`, for rows of values: the bytes, the value and its pushes.
+/// Writes the value of each row and reads it back: the bytes, the value and its pushes.
 pub fn rows_go_both_ways<T>(alloc: Global, rows: &[(&'static [u8], T, usize)]) -> Result<(), Fail>
 where
     T: WriteTo + ReadFrom + PartialEq + Debug + Copy + Drop,

@@ -27,7 +27,7 @@ impl<'a> FailingStream<'a> {
         }
     }
 
-    /// The same stream, which fails in the place of showing that nothing is left.
+    /// Makes the stream fail in the place of showing that nothing is left.
     pub fn failing_at_end(self) -> FailingStream<'a> {
         FailingStream {
             fails_at_end: true,
@@ -35,7 +35,7 @@ impl<'a> FailingStream<'a> {
         }
     }
 
-    /// The same stream, which fails with an error of this kind.
+    /// Makes the stream fail with an error of this kind, where it fails.
     pub fn failing_with(self, kind: ErrorKind) -> FailingStream<'a> {
         FailingStream { kind, ..self }
     }
@@ -98,7 +98,7 @@ impl FailingSink {
         }
     }
 
-    /// The same stream, of which each flush fails with an error of this kind.
+    /// Makes each flush of the stream fail with an error of this kind.
     pub fn failing_at_flush(self, kind: ErrorKind) -> FailingSink {
         FailingSink {
             flush_failure: Some(kind),

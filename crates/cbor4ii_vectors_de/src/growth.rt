@@ -81,7 +81,7 @@ pub fn lettered(alloc: Global, shape: &Shape, letters: usize) -> Result<&'static
     Ok(bytes.leak())
 }
 
-/// As `grows`, for a value of letters.
+/// A text of 20,000 letters is read as the value in each shape, whole and over streams.
 pub fn grows_by_letters<A>(alloc: Global, answer: A) -> Result<(), Fail>
 where
     A: ReadFrom + PartialEq + Debug + Drop,

@@ -282,7 +282,7 @@ fn reads_streamed(
     Ok(())
 }
 
-/// The same, and out of a stream that fails at one look or another, which is the answer then.
+/// Out of streams, also of one that fails at one look or another, which is the answer then.
 fn reads_of_streams(
     kind: Kind,
     alloc: Global,
@@ -364,7 +364,7 @@ fn reads_with_no_step(kinds: &[Kind], alloc: Global, row: Alike) -> Result<(), F
 /// How many letters a long string has: 0x012c. It is cut at each place, and read with each fault.
 const FEW: usize = 300;
 
-/// What is consumed a long string.
+/// What follows a long string.
 const AFTER: &[u8] = b"\x01";
 
 /// Strings of 300 letters, by each way to read: one that is counted, and others in chunks.
@@ -388,7 +388,8 @@ fn reads_long(
     Ok(())
 }
 
-/// As `reads_long`, of 20,000 letters, more than are reserved before any came.
+/// Strings of 20,000 letters, more than are reserved before any came, by each way to read: one that
+/// is counted, and others in chunks.
 fn reads_longer(
     kinds: &[Kind],
     alloc: Global,

@@ -115,7 +115,7 @@ where
     is_read(got, de.into_inner(), row)
 }
 
-/// The same of a struct's one field.
+/// Reads a row's item as a struct's one field, and what is left, with the steps as before.
 fn reads_pair<S, T>(alloc: Global, reader: S, row: &Row) -> Result<(), Fail>
 where
     S: Source + Drop,

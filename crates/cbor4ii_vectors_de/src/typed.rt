@@ -136,7 +136,8 @@ pub type RowShown = Row<&'static str>;
 /// A row within a limit that holds the text of the answer.
 pub type RowShownWithin = RowWithin<&'static str>;
 
-/// As `go_both_ways`, where each row holds the text of the answer: what is read is written.
+/// What each row reads has the row's text, and is written as the row's bytes. Each proper prefix of
+/// them is the end of the input.
 fn go_shown_both_ways<A>(alloc: Global, rows: &[BothShown]) -> Result<(), Fail>
 where
     A: WriteTo + ReadFrom + Debug + Drop,
@@ -150,7 +151,7 @@ where
     Ok(())
 }
 
-/// As `reads_all`, where each row holds the text of the answer.
+/// Reads the rows, those without a limit and those within one: each holds the text of the answer.
 pub fn reads_all_shown<A>(
     alloc: Global,
     rows: &[RowShown],
@@ -163,7 +164,8 @@ where
     reads_texts_within::<A>(alloc, within)
 }
 
-/// As `tries`, where each row holds the text of the answer.
+/// All rows of one type: those that go both ways, those that are read, and those that are read
+/// within a limit. Each holds the text of the answer.
 pub fn tries_shown<A>(
     alloc: Global,
     both: &[BothShown],
@@ -213,8 +215,8 @@ where
     Err(Fail::new(format_args!("{value:?}, {streamed:?} in the place of {text}")))
 }
 
-/// As `is_at_beginning`, of bytes that are all of the value: it is written as them, by the call for
-/// one value.
+/// The calls for one value read the bytes, from a slice and out of a stream, and write them back.
+/// The value has this text.
 pub fn comes_back<T>(alloc: Global, bytes: &'static [u8], text: &str) -> Result<(), Fail>
 where
     T: Deserialize<SliceReader<'static>>
@@ -228,7 +230,7 @@ where
     is_written_as(alloc, &value, bytes)
 }
 
-/// As `comes_back`, for rows of bytes, each with the text of its value.
+/// The calls for one value read each row's bytes and write them back. The value has the row's text.
 pub fn come_back<T>(alloc: Global, rows: &[BothShown]) -> Result<(), Fail>
 where
     T: Deserialize<SliceReader<'static>>
@@ -244,8 +246,8 @@ where
     Ok(())
 }
 
-/// As `comes_back`, from a slice alone, which need not live for good: a value may borrow from it.
-/// `input` is the slice of these bytes.
+/// The calls for one value read the bytes from a slice, and write them back. The slice need not
+/// live for good: a value may borrow from it. `input` is the slice of these bytes.
 pub fn comes_back_lent<I: Input, T>(
     alloc: Global,
     input: I,

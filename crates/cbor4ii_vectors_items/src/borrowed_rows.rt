@@ -203,7 +203,7 @@ pub fn rows_alike(alloc: Global, rows: &[BorrowedRow]) -> Result<(), Fail> {
     Ok(())
 }
 
-/// As `rows_alike`, for one row, with so many steps and no fault.
+/// Reads one row over each reader, with so many steps and no fault. It is no matter what is lent.
 pub fn answers_alike(
     kind: Kind,
     alloc: Global,

@@ -1,6 +1,6 @@
 //! Rows of lengths that the bytes do not carry, and of more than is reserved before any of it came.
 //!
-//! As the bytes come a decoder has to grow, and where memory is found it has to answer the value.
+//! A decoder has to grow as the bytes come, and where memory is found it has to answer the value.
 use cbor4ii_items::types::{Bytes, Map, UncheckedStr};
 use cbor4ii_vectors::rows::{Row, reads_by_each, reads_texts};
 use cbor4ii_vectors::{eof, table};
@@ -115,7 +115,7 @@ fn byte_strings_of_20000_bytes(rt: HostRuntime) -> Result<(), Fail> {
     reads_bytes(alloc, b"\x5f\x59\x4e\x20", &content, b"\xff")
 }
 
-// The same of a text, unchecked and checked.
+// 20,000 bytes, as they stand between a head and an end: a text, unchecked and checked.
 fn reads_text(alloc: Global, head: &[u8], inner: &[u8], end: &[u8]) -> Result<(), Fail> {
     let bytes = between(alloc, head, inner, end)?;
     let unchecked = UncheckedStr(numbers(alloc, 20_000)?);

@@ -28,7 +28,7 @@ impl<A: Serialize> Put for One<A> {
     }
 }
 
-/// As many elements as a pair has.
+/// Two elements.
 #[derive(Drop)]
 struct Two<A, B>(A, B);
 
@@ -38,7 +38,7 @@ impl<A: Serialize, B: Serialize> Put for Two<A, B> {
     }
 }
 
-/// As many elements as a triple has.
+/// Three elements.
 #[derive(Drop)]
 struct Three<A, B, C>(A, B, C);
 
@@ -70,7 +70,7 @@ fn any_number_of_elements(rt: HostRuntime) -> Result<(), Fail> {
     Ok(())
 }
 
-// The same bytes, by a tuple and by its elements.
+// A tuple and its elements have the same bytes.
 #[test]
 fn pairs_and_triples_by_their_elements(rt: HostRuntime) -> Result<(), Fail> {
     let alloc = rt.alloc();

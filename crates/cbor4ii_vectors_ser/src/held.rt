@@ -6,17 +6,17 @@ use cbor4ii_ser::text::{Text, TextFault, TextWriter};
 use std::alloc::Global;
 use std::test::Fail;
 
-// As `writes_text`, for a text of so many letters.
+// A text of so many letters is written as these parts.
 fn writes_letters(alloc: Global, count: usize, parts: Parts<'_>) -> Result<(), Fail> {
     writes_text(alloc, letters(alloc, count)?, parts)
 }
 
-// As `writes_letters`, with an empty piece before and after.
+// So many letters, with an empty piece before and after, are written as these parts.
 fn writes_between(alloc: Global, count: usize, parts: Parts<'_>) -> Result<(), Fail> {
     writes_text(alloc, ("", (letters(alloc, count)?, "")), parts)
 }
 
-// As `writes_text`, for two pieces of so many letters each.
+// Two pieces of so many letters each are written as these parts.
 fn writes_two(alloc: Global, first: usize, second: usize, parts: Parts<'_>) -> Result<(), Fail> {
     let text = (letters(alloc, first)?, letters(alloc, second)?);
     writes_text(alloc, text, parts)
@@ -69,7 +69,7 @@ const ONES: SixteenTimes<SixteenTimes<&str>> = Twice(Twice(Twice(Twice(Twice(Twi
     "a",
 ))))))));
 
-// As `writes_text`, for a piece of so many letters, and 257 pieces of one letter after it.
+// A piece of so many letters, and 257 of one letter after it, are written as these parts.
 fn writes_before_ones(alloc: Global, first: usize, parts: Parts<'_>) -> Result<(), Fail> {
     writes_text(alloc, (letters(alloc, first)?, (ONES, "a")), parts)
 }

@@ -20,7 +20,7 @@ use std::test::Fail;
 #[derive(Clone, Copy, Debug, PartialEq, Eq)]
 struct LargeFailure([u64; 16]);
 
-/// As `PushLengths`, with a large error.
+/// A `PushLengths` with a large error.
 #[derive(Drop)]
 struct LargePushes(PushLengths);
 

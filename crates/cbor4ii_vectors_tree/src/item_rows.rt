@@ -24,7 +24,8 @@ pub fn reads_item(
     reads_value(alloc, item, limit, literal.to_value(alloc)?)
 }
 
-/// As `reads_item`, for a value that is built.
+/// The item is read as this built value, with so many steps and with no limit, and as its copy. It
+/// is also skipped, and each proper prefix of it is the end of the input.
 pub fn reads_value(
     alloc: Global,
     item: &'static [u8],
@@ -88,7 +89,7 @@ pub fn skips(
     reads(alloc, bytes, want.map(|any| Item(any)), rest)
 }
 
-/// As `skips`, with so many steps.
+/// What begins the bytes is skipped with so many steps, or that is rejected.
 pub fn skips_within(
     alloc: Global,
     bytes: &'static [u8],
@@ -110,7 +111,7 @@ pub fn rejects_in_skipping(
     keeps_none(alloc, bytes, 256, error)
 }
 
-/// As `rejects_in_skipping`, with so many steps.
+/// With so many steps skipping is rejected, and so is an item that is kept: nothing of it is taken.
 pub fn rejects_in_skipping_within(
     alloc: Global,
     bytes: &'static [u8],

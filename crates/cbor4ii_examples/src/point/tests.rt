@@ -126,7 +126,7 @@ impl Take for Whole {
     }
 }
 
-/// The same struct, by a type that does not know c.
+/// A type that reads `Whole` and does not know c.
 #[derive(Debug, PartialEq, Drop)]
 struct WithoutC(u8, Option<u8>, Point);
 
@@ -142,7 +142,7 @@ impl Take for WithoutC {
     }
 }
 
-/// The same struct, by a type that does not know d, and knows e, which may be missing.
+/// A type that reads `Whole`, does not know d, and knows e, which may be missing.
 #[derive(Debug, PartialEq, Drop)]
 struct WithoutD(u8, Vec<u8>, Option<u8>);
 

@@ -22,13 +22,12 @@ abbrev pub sign_tag : Sign → ℕ
 sign_tag unsigned = 2
 sign_tag negative = 3
 
--- a bignum: tag 2 over the bytes of n, or tag 3 over those of n for the integer -1 - n (section
--- 3.4.3)
+-- a bignum (section 3.4.3): tag 2 over the bytes of n, or tag 3 over them for the integer -1 - n
 abbrev pub bignum : Sign → ℕ → Tree
 bignum s n = tagged (sign_tag s) (shortest_width (sign_tag s))
     (string byte_string (shortest_width (length (magnitude n))) (magnitude n))
 
--- the shortest head, where the argument has one
+-- an integer's shortest head, where its argument has one, else its bignum
 abbrev pub integer_tree : Sign → ℕ → Tree
 integer_tree s n = if nat_lt n (2 ^ 64) then int s n (shortest_width n) else bignum s n
 
@@ -65,12 +64,12 @@ canonical_encoding v = bytes (canonical_tree v)
 abbrev pub canonical_cost : Item → ℕ
 canonical_cost v = cost (canonical_tree v)
 
--- The value with each integer that has no head as the bignum that it is written as: what reading
--- it back gives.
+-- an integer as reading it back gives it: where it has no head, the bignum that it is written as
 abbrev pub tagged_integer : Sign → ℕ → Item → Item
 tagged_integer s n small =
     if nat_lt n (2 ^ 64) then small else tag (sign_tag s) (bytes_item (magnitude n))
 
+-- a value as reading it back gives it: each integer without a head is the bignum it is written as
 abbrev mutual
   pub with_bignums : Item → Item
   with_bignums null = null

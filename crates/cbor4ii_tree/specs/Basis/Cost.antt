@@ -17,13 +17,13 @@ step_in None = Some None
 step_in (Some zero) = None
 step_in (Some (suc n)) = Some (Some n)
 
--- one step, or two where a chunk is read
+-- the cost of a string of indefinite length: one step, or two where a chunk is read
 abbrev pub chunks_cost : Trees → ℕ
 chunks_cost no_trees = 1
 chunks_cost (tree t ts) = 2
 
--- The cost of a tree: steps that reading it as a value takes at its deepest place. An array or a
--- map takes two, one as a value and one as a sequence of values.
+-- An array or a map takes two, one as a value and one as a sequence of values.
+-- The cost of a tree: the steps that reading it as a value takes at its deepest place.
 abbrev mutual
   pub cost : Tree → ℕ
   cost (int s n w) = 1

@@ -46,19 +46,19 @@ PrefixReads old answer = IfKnown old.known (λ xs. (encoding : List ℕ) (v : It
     Encodes encoding v steps → CostFits steps old.budget → IsProperPrefix xs encoding →
     Answered (λ _. ⊥) IsEof answer)
 
--- an end of the input leaves nothing, and comes only on a proper prefix of an item whose strings
--- join chunks of their kind
+-- The strings of the item join chunks of their kind.
+-- An end of the input leaves nothing, and comes only on a proper prefix of an item.
 abbrev pub EofReads : {V E : Type 0} → View → View → Result V (DecodeError E) → Type 0
 EofReads old new answer = IfKnown old.known (λ xs. Rejected (λ e. IsEof e →
     (new.known ≡ Some []) × ((t : Tree) × Loose t × Joins t × IsProperPrefix xs (bytes t))) answer)
 
--- skipping takes the same bytes
+-- skipping takes the bytes that reading a value takes
 abbrev pub SkipsReads : {E : Type 0} → View → View → Result Value (DecodeError E) → Type 0
 SkipsReads old new answer = IfKnown old.known (λ xs. IfOk answer (λ v.
     (t : Tree) × (rest : List ℕ) × (new.known ≡ Some rest) × Skips xs old.budget t rest))
 
--- The canonical encoding encodes the value itself, costs no more than any other, and under the same
--- budget is read as it.
+-- It costs no more than any other, and under the same budget is read as the value.
+-- The canonical encoding encodes the value itself.
 pub record IsCanonical (budget : Budget) (v : Item) : Type 0 where
   pub same : with_bignums v ≡ v
   pub encodes : Encodes (canonical_encoding v) v (canonical_cost v)
@@ -71,15 +71,15 @@ CanonicalReads old answer =
 
 -- ---- `IgnoredAny::decode`
 
--- what fits and begins the bytes is accepted, and its bytes are taken
+-- an item that fits and begins the bytes is accepted, and its bytes are taken
 abbrev pub AllSkips : {V E : Type 0} → View → View → Result V (DecodeError E) → Type 0
 AllSkips old new answer = IfKnown old.known (λ xs. (t : Tree) (rest : List ℕ) →
     Skips xs old.budget t rest → Answered (λ _. new.known ≡ Some rest) (λ _. ⊥) answer)
 
 -- ---- a call over a whole slice
 
--- What is answered of a whole input: it is accepted with no rest, or so many bytes follow what is
--- accepted, or it is rejected. A want of memory says nothing.
+-- A want of memory says nothing.
+-- A whole input is accepted with no rest, so many bytes follow what is accepted, or it is rejected.
 abbrev pub AnswersWhole : {V E : Type 0} → (V → List ℕ → Type 0) →
     (InputError → List ℕ → Type 0) → Result V (WholeError (DecodeError E)) → Type 0
 AnswersWhole Accepts Rejects (Ok v) = Accepts v []

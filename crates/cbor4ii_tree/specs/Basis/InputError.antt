@@ -29,7 +29,7 @@ IsDepthOverflow _ = ⊥
 abbrev pub MayReject : InputError → Type 0
 MayReject e = IsEof e ⊎ (IsDepthOverflow e ⊎ IsFinal e)
 
--- the names of what is read
+-- the names of what is read: that of an integer in errors, by its sign
 abbrev pub sign_name : Sign → List ℕ
 sign_name unsigned = codes "u64"
 sign_name negative = codes "-u64"

@@ -32,8 +32,7 @@ abbrev pub item_pair_count : ItemPairs → ℕ
 item_pair_count no_item_pairs = 0
 item_pair_count (item_pair k v ms) = suc (item_pair_count ms)
 
--- The size of a value: how many values stand in it, itself counted, and the length of its texts
--- and byte strings.
+-- the size of a value: how many values stand in it, itself counted, and the length of its strings
 abbrev mutual
   pub size : Item → ℕ
   size null = 1
@@ -54,8 +53,8 @@ abbrev mutual
   size_pairs no_item_pairs = 0
   size_pairs (item_pair k v ms) = size k + size v + size_pairs ms
 
--- What a value of the program can be: lengths and tags are below 2 ^ 64, texts are UTF-8,
--- integers are those of i128.
+-- Of a value of the program lengths and tags are below 2 ^ 64, and texts are UTF-8.
+-- An integer of a value of the program is one of i128.
 abbrev pub IsInteger : ℤ → Type 0
 IsInteger (pos n) = n < 2 ^ 127
 IsInteger (negsuc n) = n < 2 ^ 127

@@ -15,7 +15,7 @@ use Rattle.cbor4ii_tree.specs.Basis.Item.{mapping, tag, Items, no_items, item, I
 use Rattle.cbor4ii_tree.specs.Basis.Item.{no_item_pairs}
 use Rattle.cbor4ii_tree.specs.Basis.Item.{item_pair}
 
--- n, or -1 - n (section 3.1, major types 0 and 1)
+-- the integer n, or -1 - n (section 3.1, major types 0 and 1)
 abbrev pub number : Sign → ℕ → ℤ
 number unsigned n = pos n
 number negative n = negsuc n

@@ -37,9 +37,9 @@ abbrev pub pair_count : Pairs → ℕ
 pair_count no_pairs = 0
 pair_count (pair k v ps) = suc (pair_count ps)
 
--- The bytes of a tree: heads and parts in order. The argument of a string's head counts bytes,
--- of an array's items, of a map's pairs (section 3.1); without a length the parts end at a break
--- (section 3.2).
+-- The argument of a string's head counts bytes, of an array's items, of a map's pairs (section
+-- 3.1); without a length the parts end at a break (section 3.2).
+-- The bytes of a tree: heads and parts in order.
 abbrev mutual
   pub bytes : Tree → List ℕ
   bytes (int s n w) = head (sign_major s) n w
@@ -103,8 +103,8 @@ abbrev pub TextIsUtf8 : Kind → List ℕ → Type 0
 TextIsUtf8 byte_string content = Unit {0}
 TextIsUtf8 text_string content = IsUtf8 content
 
--- Every string without a length joins chunks of its kind. This is all that a value's chunks owe
--- while bytes are missing.
+-- This is all that a value's chunks owe while bytes are missing.
+-- Every string without a length joins chunks of its kind.
 abbrev mutual
   pub Joins : Tree → Type 0
   Joins (int s n w) = Unit {0}
@@ -126,9 +126,9 @@ abbrev mutual
   JoinsPairs no_pairs = Unit {0}
   JoinsPairs (pair k v ps) = Joins k × Joins v × JoinsPairs ps
 
--- Every string without a length joins chunks of its kind, and every text is UTF-8. A text in
--- chunks is tested as a whole: section 3.2.3 asks it of each chunk, and this codec does not, so
--- a character may stand across two chunks.
+-- A text in chunks is tested as a whole: section 3.2.3 asks it of each chunk, and this codec does
+-- not, so a character may stand across two chunks.
+-- Every string without a length joins chunks of its kind, and every text is UTF-8.
 abbrev mutual
   pub SoundStrings : Tree → Type 0
   SoundStrings (int s n w) = Unit {0}

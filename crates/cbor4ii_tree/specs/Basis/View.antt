@@ -24,7 +24,7 @@ float_view (F16 n) = float half n
 float_view (F32 n) = float single n
 float_view (F64 n) = float double n
 
--- one level, with each value inside already seen as its item
+-- one level of a value as an item, with each value inside already seen as its item
 abbrev pub view_step : Value-F Item → Item
 view_step Value-F.Null = null
 view_step (Value-F.Bool b) = boolean b

@@ -7,17 +7,17 @@ use Rattle.cbor4ii_tree.specs.Basis.Item.{no_item_pairs}
 use Rattle.cbor4ii_tree.specs.Basis.Item.{item_pair, item_pair_count}
 use Rattle.cbor4ii_tree.specs.Calls.ItemEquality.{item_eq}
 
--- the truth value, of that kind alone
+-- the truth value of a boolean alone
 abbrev pub as_bool : Item → Option Bool
 as_bool (boolean b) = Some b
 as_bool _ = None
 
--- the integer, of that kind alone
+-- the value of an integer alone
 abbrev pub as_integer : Item → Option ℤ
 as_integer (integer z) = Some z
 as_integer _ = None
 
--- the float itself, with its width, of that kind alone
+-- the float itself, with its width, of a float alone
 abbrev pub as_float : Item → Option Item
 as_float (float p n) = Some (float p n)
 as_float _ = None
@@ -83,8 +83,8 @@ abbrev pub IsMapWith : (ItemPairs → Type 0) → Item → Type 0
 IsMapWith P (mapping ms) = P ms
 IsMapWith P _ = ⊥
 
--- P holds of the value, where it is a map, or of one inside it, at any level: in an array, on a
--- tag, in a key or in a value
+-- A map is inside in an array, on a tag, in a key or in a value.
+-- P holds of the value, where it is a map, or of one inside it, at any level.
 abbrev mutual
   pub HasMapWith : (ItemPairs → Type 0) → Item → Type 0
   HasMapWith P (sequence vs) = SomeHasMapWith P vs

@@ -38,8 +38,8 @@ abbrev pub SkippedTo : View → View → List ℕ → Type 0
 SkippedTo old new xs =
     (t : Tree) × (rest : List ℕ) × Skips xs old.budget t rest × (new.known ≡ Some rest)
 
--- Over a reader that lends nothing nothing moves: some bytes are left, or none are and skipping
--- fails there.
+-- Some bytes are left, or none are and skipping fails there.
+-- Over a reader that lends nothing an item is rejected, and nothing moves.
 abbrev pub RejectsRawUnlent : List ℕ → Budget → InputError → List ℕ → Type 0
 RejectsRawUnlent xs budget e rest = (rest ≡ xs) × (((xs ≢ []) × (e ≡ require_borrowed raw_value)) ⊎
     ((xs ≡ []) × ((left : List ℕ) × SkippingRejects [] budget e left)))

@@ -47,7 +47,7 @@ CanonicalTextRejects budget xs e rest =
     RejectsShortestString (kind_name text_string) 3 xs budget e rest
     ⊎ AfterShortest 3 (NoUtf8 text_string) xs e rest
 
--- an array, or a map, whose step was taken
+-- an array, or a map, whose step was taken, is rejected
 abbrev pub CanonicalArrayRejects : (Budget → Rejection) → Budget → Rejection
 CanonicalArrayRejects rejects budget xs e rest =
     AtShortest array_name 4 budget (RejectsInCount (FitsCanonically budget) (rejects budget))
@@ -59,8 +59,8 @@ CanonicalMapRejects rejects budget xs e rest =
     (2 * n)) xs e
     rest
 
--- Of major type 7, after the byte b, which says so (section 3.3): undefined is not canonical, and
--- the other simple values never fail.
+-- Undefined is not canonical, and the other simple values never fail.
+-- An item of major type 7 is rejected after its first byte b, which says so (section 3.3).
 abbrev pub CanonicalOtherRejects : Initial → ℕ → Rejection
 CanonicalOtherRejects (starts_simple simple_undefined) b bs e rest =
     Is (not_canonical canonical_name) bs e rest
@@ -69,8 +69,8 @@ CanonicalOtherRejects (starts_bits p) b bs e rest =
 CanonicalOtherRejects other_simple b bs e rest = Is (unsupported value_name b) (b ∷ bs) e rest
 CanonicalOtherRejects _ b bs e rest = ⊥
 
--- An item of this major type, whose first byte is b. An array or a map asks for one more step
--- before its head.
+-- An array or a map asks for one more step before its head.
+-- An item of this major type, whose first byte is b, is rejected.
 abbrev pub CanonicalRejectsBy : (Budget → Rejection) → Budget → ℕ → ℕ → Rejection
 CanonicalRejectsBy rejects budget zero b bs e rest =
     RejectsShortest (sign_name unsigned) 0 (b ∷ bs) budget e rest
@@ -96,19 +96,20 @@ CanonicalRejectsFrom rejects budget (b ∷ bs) e rest =
     CanonicalRejectsBy rejects budget (b / 32) b bs e rest
 
 -- The number bounds how deep items nest, as it does in `ReadingRejects`.
+-- Reading a value from its canonical encoding fails within a bound on how deep items nest.
 abbrev pub CanonicalRejectsWithin : ℕ → Budget → Rejection
 CanonicalRejectsWithin zero budget bs e rest = ⊥
 CanonicalRejectsWithin (suc n) budget bs e rest =
     RejectsAtStep value_name (step_in budget) bs
     (λ inner. CanonicalRejectsFrom (CanonicalRejectsWithin n) inner bs) e rest
 
--- Reading a value from its canonical encoding at the beginning of the input under the budget fails
--- with the error, and leaves the rest.
+-- The value is read from its canonical encoding at the beginning of the input.
+-- Reading from a canonical encoding fails under the budget with the error, and leaves the rest.
 abbrev pub CanonicalRejects : List ℕ → Budget → InputError → List ℕ → Type 0
 CanonicalRejects input budget e rest =
     CanonicalRejectsWithin (suc (length input)) budget input e rest
 
--- The same without the bound, as the rejections of the parts say.
+-- `CanonicalRejects` without the bound on nesting, as the rejections of the parts say
 abbrev pub CanonicalRejectsByParts : List ℕ → Budget → InputError → List ℕ → Type 0
 CanonicalRejectsByParts input budget e rest =
     RejectsAtStep value_name (step_in budget) input

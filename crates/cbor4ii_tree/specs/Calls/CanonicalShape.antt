@@ -40,8 +40,8 @@ abbrev mutual
 abbrev pub CanonicalTree : Tree → Type 0
 CanonicalTree t = Plain t × CanonicalShape t
 
--- A value that reading gives: one of the program whose integers all have a head, since larger ones
--- are read as tags (section 3.4.3).
+-- Larger integers are read as tags (section 3.4.3).
+-- A value that reading gives: one of the program whose integers all have a head.
 abbrev pub IsDecoded : Item → Type 0
 IsDecoded v = IsItem v × (with_bignums v ≡ v)
 

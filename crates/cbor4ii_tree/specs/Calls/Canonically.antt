@@ -39,27 +39,27 @@ abbrev pub IsNotCanonical : InputError → Type 0
 IsNotCanonical (not_canonical name) = Unit {0}
 IsNotCanonical _ = ⊥
 
--- what is accepted is a value of which a canonical tree that fits begins the bytes, and that is
--- taken
+-- what is accepted is a value of which a canonical tree that fits begins the bytes and is taken
 abbrev pub OnlyCanonical : {E : Type 0} → View → View → Result Canonical (DecodeError E) → Type 0
 OnlyCanonical old new answer = IfKnown old.known (λ xs. IfOk answer (λ v.
     (rest : List ℕ) × (new.known ≡ Some rest) × DecodesCanonically xs old.budget (view v.0) rest))
 
--- such a value is accepted, and the bytes of that tree are taken
+-- a value of which a canonical tree that fits begins the bytes is accepted, and that tree is taken
 abbrev pub AllCanonical : {E : Type 0} → View → View → Result Canonical (DecodeError E) → Type 0
 AllCanonical old new answer = IfKnown old.known (λ xs. (v : Item) (rest : List ℕ) →
     DecodesCanonically xs old.budget v rest →
     Answered (λ w. (view w.0 ≡ v) × (new.known ≡ Some rest)) (λ _. ⊥) answer)
 
--- the same in other words: what is accepted is a value that reading gives, its cost fits, and its
--- canonical encoding begins the bytes, and is taken
+-- In other words than `OnlyCanonical`: the value is one that reading gives, and its cost fits.
+-- The canonical encoding of what is accepted begins the bytes, and is taken.
 abbrev pub TakesEncoding : {E : Type 0} → View → View → Result Canonical (DecodeError E) → Type 0
 TakesEncoding old new answer = IfKnown old.known (λ xs. IfOk answer (λ v.
     (rest : List ℕ) × (new.known ≡ Some rest) × IsDecoded (view v.0)
     × CostFits (canonical_cost (view v.0)) old.budget ×
     (xs ≡ canonical_encoding (view v.0) ++ rest)))
 
--- such a value whose canonical encoding begins the bytes is accepted, and that encoding is taken
+-- The value is one that reading gives, and its cost fits.
+-- A value whose canonical encoding begins the bytes is accepted, and that encoding is taken.
 abbrev pub EveryEncoding : {E : Type 0} → View → View → Result Canonical (DecodeError E) → Type 0
 EveryEncoding old new answer = IfKnown old.known (λ xs. (v : Item) (rest : List ℕ) →
     IsDecoded v → CostFits (canonical_cost v) old.budget → xs ≡ canonical_encoding v ++ rest →
@@ -78,14 +78,13 @@ DepthCanonical old answer = IfKnown old.known (λ xs. Rejected (λ e. IsDepthOve
     (more : List ℕ) (v : Item) (after : List ℕ) →
     ¬ (DecodesCanonically (xs ++ more) old.budget v after)) answer)
 
--- an encoding that is not the canonical one, and what is final, come only where no continuation is
--- accepted under any budget
+-- a final or not-canonical error comes only where no continuation is accepted under any budget
 abbrev pub NeverCanonical : {E : Type 0} → View → Result Canonical (DecodeError E) → Type 0
 NeverCanonical old answer = IfKnown old.known (λ xs.
     Rejected (λ e. IsFinal e ⊎ IsNotCanonical e → (more : List ℕ) (other : Budget) (v : Item)
     (after : List ℕ) → ¬ (DecodesCanonically (xs ++ more) other v after)) answer)
 
--- where such a reading fails, it is rejected so, and leaves what is left there
+-- where `CanonicalRejects` gives an error, that error is answered, and what it leaves is left
 abbrev pub ExactCanonical : {E : Type 0} → View → View → Result Canonical (DecodeError E) → Type 0
 ExactCanonical old new answer = IfKnown old.known (λ xs. (e : InputError) (rest : List ℕ) →
     CanonicalRejects xs old.budget e rest →
@@ -96,8 +95,7 @@ abbrev pub OthersCanonical : {E : Type 0} → View → Result Canonical (DecodeE
 OthersCanonical old answer =
     IfKnown old.known (λ xs. Rejected (λ e. MayReject e ⊎ IsNotCanonical e) answer)
 
--- each other error than that an encoding is not the canonical one is the one that reading the
--- bytes as a value gives, and leaves what that leaves
+-- each error but not-canonical is that of reading the bytes as a value, and leaves what that leaves
 abbrev pub ValueCanonical : {E : Type 0} → View → View → Result Canonical (DecodeError E) → Type 0
 ValueCanonical old new answer = IfKnown old.known (λ xs. Rejected (λ e. ¬ (IsNotCanonical e) →
     (rest : List ℕ) × (new.known ≡ Some rest) × ReadingRejects xs old.budget e rest) answer)

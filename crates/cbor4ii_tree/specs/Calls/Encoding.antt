@@ -5,10 +5,10 @@ use Rattle.cbor4ii_tree.specs.Basis.Canonical.{canonical_encoding}
 use Rattle.cbor4ii_tree.specs.Basis.View.{view}
 use Rattle.cbor4ii_tree.specs.declared.value.Value.{Value}
 
--- the canonical encoding
+-- the canonical encoding of a value
 abbrev pub value_bytes : Value → List ℕ
 value_bytes v = canonical_encoding (view v)
 
--- a key, and its value after it
+-- a key's canonical encoding, and its value's after it
 abbrev pub value_pair_bytes : Value × Value → List ℕ
 value_pair_bytes = pair_bytes value_bytes value_bytes

@@ -15,8 +15,8 @@ use Rattle.cbor4ii_tree.specs.Basis.Item.{no_item_pairs, item_pair, item_pair_co
 use Rattle.cbor4ii_tree.specs.Basis.View.{view}
 use Rattle.cbor4ii_tree.specs.declared.value.Value.{Value}
 
--- the number of the kind, with the sign of an integer and the width of a float; and the number that
--- the value is, its length, its count or its tag
+-- The kind's number goes with the sign of an integer and the width of a float.
+-- Two numbers: the kind's, and the number that the value is, its length, its count or its tag.
 abbrev pub parts_of : Item → ℕ × ℕ
 parts_of null = (0, 0)
 parts_of (boolean false) = (1, 0)
@@ -57,7 +57,7 @@ abbrev mutual
 abbrev pub numbers : Item → List ℕ
 numbers v = first_numbers v ++ inner_numbers v
 
--- the same of values of the program
+-- the numbers of a value of the program
 abbrev pub value_numbers : Value → List ℕ
 value_numbers v = numbers (view v)
 
@@ -77,12 +77,12 @@ key_of m = view m.0
 abbrev pub is_before : Bor Value → Bor Value → Bool
 is_before a b = is_lt (slice_cmp nat_cmp (numbers (item_behind a)) (numbers (item_behind b)))
 
--- one of the list is this
+-- one item of the list is this
 abbrev pub IsOneOf : Item → List Item → Type 0
 IsOneOf v [] = ⊥
 IsOneOf v (w ∷ ws) = (w ≡ v) ⊎ IsOneOf v ws
 
--- two of the list are equal
+-- two items of the list are equal
 abbrev pub Repeats : List Item → Type 0
 Repeats [] = ⊥
 Repeats (v ∷ vs) = IsOneOf v vs ⊎ Repeats vs

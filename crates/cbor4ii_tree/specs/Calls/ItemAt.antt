@@ -22,7 +22,7 @@ use Rattle.cbor4ii_tree.specs.Basis.Tree.{Tree, int, string, chunked, array, arr
 use Rattle.cbor4ii_tree.specs.Basis.Tree.{map_of}
 use Rattle.cbor4ii_tree.specs.Basis.Tree.{map_indefinite, tagged, simple, bits, joined_chunks}
 
--- a string whose content is tested, if it is
+-- a string, whose text is tested for UTF-8 where strings are tested
 abbrev pub tested_string : Bool → Kind → List ℕ → Tree → Parser Tree
 tested_string true text_string content t rest =
     if is_utf8 content then Ok (t, rest) else Err (require_utf8 (kind_name text_string), rest)
@@ -45,7 +45,7 @@ chunk_tree_at true k budget item (b ∷ bs) =
     inside_step (kind_name k) (step_in budget) (b ∷ bs) (λ inner. chunk_tree_by k (initial b) b bs)
 chunk_tree_at false k budget item bs = item bs
 
--- after the initial byte b, which says so, under the budget that is left
+-- an item after its initial byte b, which says what begins, under the budget that is left
 abbrev pub item_by : Profile → (Budget → Parser Tree) → Budget → Initial → ℕ → Parser Tree
 item_by p item budget (starts_int s w) b bs =
     parse_argument p.asks (p.of_int s) w b bs >>= λ n. Ok (int s n.0 w, n.1)
@@ -88,6 +88,7 @@ item_from p item budget [] = Err (eof p.of_item (Small 1), [])
 item_from p item budget (b ∷ bs) = item_by p item budget (initial b) b bs
 
 -- The number bounds how deep items nest: more than the count of the bytes is enough.
+-- The tree at the beginning of the bytes, within a bound on how deep items nest.
 unfoldable pub item_within : Profile → ℕ → Budget → Parser Tree
 item_within p zero budget bs = Err (eof p.of_item (Small 1), [])
 item_within p (suc n) budget bs =

@@ -71,12 +71,12 @@ same_kind byte_string byte_string = true
 same_kind text_string text_string = true
 same_kind _ _ = false
 
--- a string without a length, or an item that is no string of the kind
+-- the error of no chunk: a string without a length, or an item that is no string of the kind
 abbrev pub no_chunk : Bool → Kind → ℕ → InputError
 no_chunk true k b = require_length (kind_name k) Indefinite
 no_chunk false k b = mismatch (kind_name k) b
 
--- a chunk that is cut, or none (section 3.2.3)
+-- a chunk that is cut, or an item that is no chunk (section 3.2.3)
 abbrev pub ChunkRejectsBy : Kind → Initial → ℕ → Rejection
 ChunkRejectsBy k (starts_string j w) b bs e rest =
     MatchBool (same_kind j k) (CutString k w b bs e rest) (Is (mismatch (kind_name k) b) bs e rest)
@@ -99,8 +99,8 @@ pub record NoUtf8Joined (k : Kind) (Whole : Tree → Type 0) (bs : List ℕ) (e 
   pub invalid : IsNoUtf8 k (joined_chunks chunks)
   pub err : e ≡ require_utf8 (kind_name k)
 
--- What a chunk is, and where it is rejected: as a string of its kind, or as an item under the
--- budget that is left. Only where strings are tested, text that is no UTF-8 is rejected.
+-- It is rejected as what it is. Only where strings are tested, text that is no UTF-8 is rejected.
+-- A chunk is a string of its kind, or an item under the budget that is left.
 abbrev pub ChunkOf : Bool → Kind → Budget → (Tree → Type 0) → Tree → Type 0
 ChunkOf true k budget Whole = ReadableChunk k budget
 ChunkOf false k budget Whole = Whole
@@ -115,7 +115,7 @@ OrTested false cut invalid = cut
 
 -- ---- items
 
--- After the initial byte b, which says so, under the budget that is left.
+-- after its initial byte b, which says what begins, an item is rejected under the budget left
 abbrev pub RejectsBy : Profile → (Budget → Rejection) → Budget → Initial → ℕ → Rejection
 RejectsBy p rejects budget (starts_int s w) b bs e rest =
     Lacks p.asks (p.of_int s) (byte_count w) bs e rest
@@ -162,15 +162,14 @@ abbrev pub RejectsFrom : Profile → (Budget → Rejection) → Budget → Rejec
 RejectsFrom p rejects budget [] e rest = Is (eof p.of_item (Small 1)) [] e rest
 RejectsFrom p rejects budget (b ∷ bs) e rest = RejectsBy p rejects budget (initial b) b bs e rest
 
--- The number bounds how deep items nest. More than the count of the bytes is enough, since each
--- part stands at least one byte further on.
+-- More than the count of the bytes is enough, since each part stands at least one byte further on.
+-- An item is rejected under the budget, where the number bounds how deep items nest.
 abbrev pub RejectsWithin : Profile → ℕ → Budget → Rejection
 RejectsWithin p zero budget bs e rest = ⊥
 RejectsWithin p (suc n) budget bs e rest =
     RejectsAtStep p.of_item (step_in budget) bs
     (λ inner. RejectsFrom p (RejectsWithin p n) inner bs) e rest
 
--- The item at the beginning of the input is rejected under the budget with the error, and leaves
--- the rest.
+-- the input's first item is rejected under the budget with the error, and leaves the rest
 abbrev pub ItemRejects : Profile → List ℕ → Budget → InputError → List ℕ → Type 0
 ItemRejects p input budget e rest = RejectsWithin p (suc (length input)) budget input e rest

@@ -46,7 +46,7 @@ head_of (sequence vs) = shortest_parts 4 (item_count vs)
 head_of (mapping ms) = shortest_parts 5 (item_pair_count ms)
 head_of (tag n v) = shortest_parts 6 n
 
--- the major type of that head
+-- the major type of the head that the canonical encoding of an integer begins with
 abbrev pub integer_major : Sign → ℕ → ℕ
 integer_major s n = if nat_lt n (2 ^ 64) then sign_major s else 6
 
@@ -60,7 +60,7 @@ major_of (mapping ms) = 5
 major_of (tag n v) = 6
 major_of _ = 7
 
--- the argument has a head, as that of each value of the program does
+-- the argument of the item has a head, as that of each value of the program does
 abbrev pub HasHead : Item → Type 0
 HasHead (float p n) = n < 256 ^ precision_bytes p
 HasHead (bytes_item bs) = length bs < 2 ^ 64

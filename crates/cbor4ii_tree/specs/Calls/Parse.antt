@@ -41,11 +41,11 @@ parse_argument asks name two b bs = number_of_width asks name 2 bs
 parse_argument asks name four b bs = number_of_width asks name 4 bs
 parse_argument asks name eight b bs = number_of_width asks name 8 bs
 
--- the same; where some bytes are missing, all are asked for
+-- the argument in this width; where some of its bytes are missing, all are asked for
 abbrev pub argument_of_width : List ℕ → Width → ℕ → Parser ℕ
 argument_of_width = parse_argument (λ k n. k)
 
--- under one step more; or none is left, and these bytes are
+-- what is parsed under one step more; where no step is left, these bytes are left
 abbrev pub inside_step : {A : Type 0} → List ℕ → Option Budget → List ℕ → (Budget → Answer A)
     → Answer A
 inside_step name None here next = Err (depth_overflow name, here)

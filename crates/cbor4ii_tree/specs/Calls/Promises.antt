@@ -25,13 +25,13 @@ pub record ReadsValue (xs : List ℕ) (v : Item) (n c : ℕ) : Type 0 where
 abbrev pub value_format : Format Value
 value_format = format_by view (taking_memory (leaf_format ReadsValue ReadingRejects))
 
--- no other error comes
+-- no other error comes than those that `MayReject` allows
 abbrev pub Others : {V E : Type 0} → View → Result V (DecodeError E) → Type 0
 Others old answer = IfKnown old.known (λ xs. Rejected MayReject answer)
 
 -- ---- an item is skipped
 
--- what is accepted fits, and begins the bytes
+-- what skipping accepts fits, and begins the bytes
 abbrev pub OnlySkips : {V E : Type 0} → View → View → Result V (DecodeError E) → Type 0
 OnlySkips old new answer = IfKnown old.known (λ xs. IfOk answer (λ _.
     (t : Tree) × (rest : List ℕ) × (new.known ≡ Some rest) × Skips xs old.budget t rest))
@@ -53,13 +53,13 @@ DepthSkips old answer = IfKnown old.known (λ xs. Rejected (λ e. IsDepthOverflo
     (more : List ℕ) (t : Tree) (after : List ℕ) →
     ¬ (Skips (xs ++ more) old.budget t after)) answer)
 
--- after the others no continuation fits any budget
+-- after a final error no continuation fits any budget
 abbrev pub FinalSkips : {V E : Type 0} → View → Result V (DecodeError E) → Type 0
 FinalSkips old answer = IfKnown old.known (λ xs. Rejected (λ e. IsFinal e →
     (more : List ℕ) (other : Budget) (t : Tree) (after : List ℕ) →
     ¬ (Skips (xs ++ more) other t after)) answer)
 
--- where skipping fails, it is rejected so, and leaves what is left there
+-- where `SkippingRejects` gives an error, that error is answered, and what it leaves is left
 abbrev pub ExactSkips : {V E : Type 0} → View → View → Result V (DecodeError E) → Type 0
 ExactSkips old new answer = IfKnown old.known (λ xs. (e : InputError) (rest : List ℕ) →
     SkippingRejects xs old.budget e rest →
@@ -73,13 +73,13 @@ DepthReads old answer = IfKnown old.known (λ xs. Rejected (λ e. IsDepthOverflo
     (more : List ℕ) (v : Item) (after : List ℕ) →
     ¬ (DecodesTo (xs ++ more) old.budget v after)) answer)
 
--- after the others no continuation fits any budget
+-- after a final error no continuation fits any budget
 abbrev pub FinalReads : {E : Type 0} → View → Result Value (DecodeError E) → Type 0
 FinalReads old answer = IfKnown old.known (λ xs. Rejected (λ e. IsFinal e →
     (more : List ℕ) (other : Budget) (v : Item) (after : List ℕ) →
     ¬ (DecodesTo (xs ++ more) other v after)) answer)
 
--- where reading fails, it is rejected so, and leaves what is left there
+-- where `ReadingRejects` gives an error, that error is answered, and what it leaves is left
 abbrev pub ExactReads : {E : Type 0} → View → View → Result Value (DecodeError E) → Type 0
 ExactReads old new answer = IfKnown old.known (λ xs. (e : InputError) (rest : List ℕ) →
     ReadingRejects xs old.budget e rest →

@@ -17,11 +17,11 @@ use Rattle.cbor4ii_tree.specs.{Basis.Encodings.Skips, Calls.SkippingRejects.Skip
 use Rattle.cbor4ii_tree.specs.{Calls.Ignored.ReadsTree}
 use Rattle.cbor4ii_tree.specs.Basis.Headline.{Answered, Rejected}
 
--- the name in errors
+-- the name of a kept item in errors
 abbrev pub raw_value : List ℕ
 raw_value = codes "raw-value"
 
--- a fill asks for as many bytes
+-- the count of bytes that a fill asks for
 abbrev pub most : ℕ
 most = 2 ^ 64 - 1
 
@@ -35,7 +35,7 @@ raw_content v = v.0.now
 abbrev pub ReadsRaw : {V : Type 0} → (V → List ℕ) → List ℕ → V → ℕ → ℕ → Type 0
 ReadsRaw content xs v n c = ReadsTree xs n c × (content v ≡ take n xs)
 
--- the error of skipping, and nothing moves
+-- an item is rejected with the error of skipping, and nothing moves
 abbrev pub RejectsRaw : List ℕ → Budget → InputError → List ℕ → Type 0
 RejectsRaw xs budget e rest = (rest ≡ xs) × ((left : List ℕ) × SkippingRejects xs budget e left)
 
@@ -44,8 +44,8 @@ abbrev pub RejectsInPrefix : List ℕ → Budget → InputError → Type 0
 RejectsInPrefix xs budget e = (shown : List ℕ) × IsPrefix most shown xs ×
     ((left : List ℕ) × SkippingRejects shown budget e left)
 
--- Over any reader nothing moves: some bytes are left that are not lent as long as the input lives,
--- or skipping fails in a prefix of them.
+-- Some bytes are left that are not lent as long as the input lives, or skipping fails in a prefix.
+-- Over any reader an item is rejected, and nothing moves.
 abbrev pub BeginsRaw : List ℕ → Budget → InputError → List ℕ → Type 0
 BeginsRaw xs budget e rest = (rest ≡ xs) ×
     (((e ≡ require_borrowed raw_value) × (xs ≢ [])) ⊎ RejectsInPrefix xs budget e)
@@ -77,8 +77,8 @@ RejectsAsSkipping old new answer = IfKnown old.known (λ xs. (e : InputError) (l
     SkippingRejects xs old.budget e left →
     Answered (λ _. ⊥) (λ f. (f ≡ e) × (new.known ≡ Some xs)) answer)
 
--- the reader failed: it may report its bytes no more, but they are as they were, and a reader that
--- remembers still reports them
+-- It may report its bytes no more, but a reader that remembers still reports them.
+-- The reader failed, and its bytes are as they were.
 abbrev pub LeftAsTheyWere : View → View → Type 0
 LeftAsTheyWere old new =
     KeepsOrForgets old.known new.known × (IsTrue old.remembers → Keeps old.known new.known)

@@ -36,13 +36,13 @@ pub record KeepsItem (t : Tree) (raw : RawValue) : Type 0 where
   pub loose : Loose t
   pub bytes_are : raw_content raw ≡ bytes t
 
--- its bytes are an encoding of the value, which takes at most so many steps to read
+-- a kept item's bytes are an encoding of the value, which takes at most so many steps to read
 abbrev pub KeepsEncoding : ℕ → Item → RawValue → Type 0
 KeepsEncoding steps v raw = (c : ℕ) × Encodes (raw_content raw) v c × (c ≤ steps)
 
 -- ---- keys
 
--- whether each is a text with a length
+-- whether each tree is a text with a length
 abbrev pub are_whole_texts : Trees → Bool
 are_whole_texts no_trees = true
 are_whole_texts (tree (string text_string w content) ts) = are_whole_texts ts
@@ -88,7 +88,7 @@ indexed_tree i no_trees = None
 indexed_tree zero (tree t ts) = Some t
 indexed_tree (suc i) (tree t ts) = indexed_tree i ts
 
--- the same of a value
+-- the value at this place, the first at 0
 abbrev pub indexed_value : ℕ → Items → Option Item
 indexed_value i no_items = None
 indexed_value zero (item v vs) = Some v
@@ -96,7 +96,7 @@ indexed_value (suc i) (item v vs) = indexed_value i vs
 
 -- ---- what is still to come
 
--- by a length or none, and the bytes to come: so many parts of these bytes, or such up to a break
+-- what is to come: by a length so many parts of these bytes, else such parts up to a break
 abbrev pub IsRest : Option ℕ → List ℕ → ℕ → List ℕ → Type 0
 IsRest (Some left) rest n bs = (left ≡ n) × (rest ≡ bs)
 IsRest None rest n bs = rest ≡ bs ++ break ∷ []
@@ -105,7 +105,7 @@ IsRest None rest n bs = rest ≡ bs ++ break ∷ []
 abbrev pub AreToCome : Parts → ℕ → List ℕ → Type 0
 AreToCome parts n bs = IsRest parts.left parts.rest.now n bs
 
--- of a length or of none, and the bytes to come, what is left of it after the next part
+-- what is left of a length, or of none, after the next part of the bytes to come
 abbrev pub IsNextLength : Option ℕ → List ℕ → Option (Option ℕ) → Type 0
 IsNextLength (Some zero) rest answer = answer ≡ None
 IsNextLength (Some (suc left)) rest answer = answer ≡ Some (Some left)
@@ -137,11 +137,11 @@ GivesPair no_pairs new answer = (answer ≡ None) × PairsToCome no_pairs new
 GivesPair (pair k v ps) new answer =
     IsSomeAnd answer (λ p. KeepsItem k p.0 × KeepsItem v p.1) × PairsToCome ps new
 
--- how many bytes are to come
+-- how many bytes of items are to come
 abbrev pub item_bytes_left : RawItems → ℕ
 item_bytes_left items = length items.0.rest.now
 
--- how many bytes are to come
+-- how many bytes of pairs are to come
 abbrev pub pair_bytes_left : RawPairs → ℕ
 pair_bytes_left pairs = length pairs.0.rest.now
 

@@ -18,8 +18,8 @@ pub use Rattle.cbor4ii_tree.specs.Calls.ItemRejects.{ChunkRejects}
 abbrev pub Readable : Budget → Tree → Type 0
 Readable budget t = Plain t × CostFits (cost t) budget
 
--- An array or a map asks for one more step before its head. Of a number that is cut, its whole
--- width is asked for.
+-- An array or a map asks for one more step before its head.
+-- How a value is read: of a number that is cut, its whole width is asked for.
 abbrev pub reading_profile : Profile
 reading_profile = record {
   of_int = sign_name;
@@ -41,12 +41,11 @@ ReadingRejectsBy = RejectsBy reading_profile
 abbrev pub ReadingRejectsFrom : (Budget → Rejection) → Budget → Rejection
 ReadingRejectsFrom = RejectsFrom reading_profile
 
--- Reading a value from the beginning of the input under the budget fails with the error, and
--- leaves the rest.
+-- reading the input's first value fails under the budget with the error, and leaves the rest
 abbrev pub ReadingRejects : List ℕ → Budget → InputError → List ℕ → Type 0
 ReadingRejects = ItemRejects reading_profile
 
--- The same without a bound on how deep items nest, as the rejections of the parts say.
+-- `ReadingRejects` without a bound on how deep items nest, as the rejections of the parts say
 abbrev pub ReadingRejectsByParts : List ℕ → Budget → InputError → List ℕ → Type 0
 ReadingRejectsByParts input budget e rest =
     RejectsAtStep value_name (step_in budget) input

@@ -22,16 +22,16 @@ abbrev pub Lacks : (ℕ → ℕ → ℕ) → List ℕ → ℕ → Rejection
 Lacks asks name k bs e rest =
     (length bs < k) × Is (eof name (len_of (asks k (length bs)))) [] e rest
 
--- as many as are missing are asked for
+-- fewer than k bytes are there, and as many as are missing are asked for
 abbrev pub Missing : List ℕ → ℕ → Rejection
 Missing = Lacks (λ k n. k - n)
 
--- all k are asked for
+-- fewer than k bytes are there, and all k are asked for
 abbrev pub MissingAll : List ℕ → ℕ → Rejection
 MissingAll = Lacks (λ k n. k)
 
--- A whole head of the major type, whose initial byte is b, and after it the bytes are rejected as
--- its argument says (section 3).
+-- The head's initial byte is b (section 3).
+-- After a whole head of the major type the bytes are rejected as its argument says.
 pub record AfterHead (major : ℕ) (w : Width) (b : ℕ) (then : ℕ → Rejection) (bs : List ℕ)
     (e : InputError) (rest : List ℕ) : Type 0 where
   pub argument : ℕ
@@ -45,8 +45,7 @@ abbrev pub AtHead : List ℕ → ℕ → Width → ℕ → (ℕ → Rejection) �
 AtHead name major w b then bs e rest =
     MissingAll name (byte_count w) bs e rest ⊎ AfterHead major w b then bs e rest
 
--- One more step is asked for: none is left, and nothing moves, or the bytes are rejected under what
--- is left then.
+-- no step is left and nothing moves, or one is taken and the bytes are rejected under what is left
 abbrev pub RejectsAtStep : List ℕ → Option Budget → List ℕ → (Budget → InputError → List ℕ → Type 0)
     → InputError → List ℕ → Type 0
 RejectsAtStep name None here rejects e rest = Is (depth_overflow name) here e rest
@@ -60,8 +59,8 @@ abbrev pub EachPair : (Tree → Type 0) → Pairs → Type 0
 EachPair Whole no_pairs = Unit {0}
 EachPair Whole (pair k v ps) = Whole k × Whole v × EachPair Whole ps
 
--- Whole items, fewer than n, and then one that is rejected. The items of a map are its keys and
--- values in turn (section 3.1).
+-- The items of a map are its keys and values in turn (section 3.1).
+-- Whole items, fewer than n, and then one that is rejected.
 pub record RejectsInCount (Whole : Tree → Type 0) (rejects : Rejection) (n : ℕ) (bs : List ℕ)
     (e : InputError) (rest : List ℕ) : Type 0 where
   pub prefix : Trees
@@ -71,8 +70,7 @@ pub record RejectsInCount (Whole : Tree → Type 0) (rejects : Rejection) (n : �
   pub is : bs ≡ bytes_all prefix ++ after
   pub rejected : rejects after e rest
 
--- Where an item or the break should come: the end of the input, or no break and an item that is
--- rejected (section 3.2).
+-- in place of an item or break: the end of the input, or no break and a rejected item (section 3.2)
 abbrev pub NoBreak : Rejection → Rejection
 NoBreak rejects [] e rest = Is (eof break_name (Small 1)) [] e rest
 NoBreak rejects (b ∷ bs) e rest = (b ≢ break) × rejects (b ∷ bs) e rest
@@ -87,8 +85,8 @@ pub record IndefiniteItems (Whole : Tree → Type 0) (rejects : Rejection) (bs :
   pub is : bs ≡ bytes_all prefix ++ after
   pub rejected : NoBreak rejects after e rest
 
--- A whole key, and a value that is rejected. No break is looked for between the two (section
--- 3.2.2).
+-- No break is looked for between the two (section 3.2.2).
+-- A whole key, and a value that is rejected.
 pub record AfterKey (Whole : Tree → Type 0) (rejects : Rejection) (bs : List ℕ) (e : InputError)
     (rest : List ℕ) : Type 0 where
   pub key : Tree

@@ -11,7 +11,7 @@ use Rattle.cbor4ii_tree.specs.{Calls.Rejections.RejectsAtStep, Basis.Tree.{Tree,
 abbrev pub Skippable : Budget → Tree → Type 0
 Skippable budget t = Loose t × CostFits (skip_cost t) budget
 
--- Of a number that is cut, what is missing is asked for. Any items are taken as chunks.
+-- how an item is skipped: of a cut number what is missing is asked for, and any items are chunks
 abbrev pub skipping_profile : Profile
 skipping_profile = record {
   of_int = λ s. ignored_any;
@@ -33,12 +33,11 @@ SkippingRejectsBy rejects = RejectsBy skipping_profile (λ left. rejects)
 abbrev pub SkippingRejectsFrom : Rejection → Budget → Rejection
 SkippingRejectsFrom rejects = RejectsFrom skipping_profile (λ left. rejects)
 
--- Skipping the item at the beginning of the input under the budget fails with the error, and
--- leaves the rest.
+-- skipping the input's first item fails under the budget with the error, and leaves the rest
 abbrev pub SkippingRejects : List ℕ → Budget → InputError → List ℕ → Type 0
 SkippingRejects = ItemRejects skipping_profile
 
--- The same without a bound on how deep items nest, as the rejections of the parts say.
+-- `SkippingRejects` without a bound on how deep items nest, as the rejections of the parts say
 abbrev pub SkippingRejectsByParts : List ℕ → Budget → InputError → List ℕ → Type 0
 SkippingRejectsByParts input budget e rest =
     RejectsAtStep ignored_any (step_in budget) input

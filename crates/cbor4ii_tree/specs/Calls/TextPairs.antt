@@ -16,6 +16,6 @@ text_pairs (item_pair _ v ms) = text_pairs ms
 abbrev pub text_pair_view : Bor (List ℕ) × Bor Value → List ℕ × Item
 text_pair_view pair = (pair.0.now, view pair.1.now)
 
--- what is to come
+-- the text pairs that are to come
 abbrev pub texts_to_come : TextPairs → List (List ℕ × Item)
 texts_to_come pairs = text_pairs (pairs_view pairs.0.now)

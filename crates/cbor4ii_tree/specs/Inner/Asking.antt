@@ -8,7 +8,7 @@ use Rattle.cbor4ii_tree.specs.Calls.Rejections.{Each}
 use Rattle.cbor4ii_tree.specs.Basis.Tree.{Tree, Trees, Plain, count, bytes_all}
 use Rattle.cbor4ii_tree.specs.Inner.Valuing.{HeadAt, TakesLength}
 
--- where in a value, and for what
+-- where in a value memory is asked for, and for what
 pub data AskPlace : Type 0 where
   -- for the content of a string
   content : AskPlace
@@ -25,7 +25,7 @@ pub data AskPlace : Type 0 where
 abbrev pub IsRead : Bool → Tree → Type 0
 IsRead canonical t = Plain t × (canonical ≡ true → CanonicalShape t)
 
--- so many values
+-- the encodings of so many values, one after another
 abbrev pub Values : Bool → ℕ → List ℕ → List ℕ → Type 0
 Values canonical n xs ys =
     (ts : Trees) × (count ts ≡ n) × Each (IsRead canonical) ts × (xs ≡ bytes_all ts ++ ys)
@@ -34,8 +34,8 @@ Values canonical n xs ys =
 abbrev pub BeginsString : ℕ → Type 0
 BeginsString first = (first / 32 ≡ 2) ⊎ (first / 32 ≡ 3)
 
--- After so many values of an array or a map places are asked for: at any time where its length is
--- given and is not 0, and behind each value where it is indefinite.
+-- With a length that is not 0 it is at any time, and with an indefinite one behind each value.
+-- After so many values of an array or a map places are asked for.
 abbrev pub Grows : Option ℕ → ℕ → Type 0
 Grows (Some n) k = 1 ≤ n
 Grows None k = 1 ≤ k
@@ -45,7 +45,7 @@ abbrev pub BeginsParts : Bool → Option ℕ → List ℕ → List ℕ → Type 
 BeginsParts canonical o xs ys =
     (major : ℕ) × ((major ≡ 4) ⊎ (major ≡ 5)) × TakesLength canonical major None xs o ys
 
--- by the bytes before, and those that are left
+-- memory is asked for at this place, by the bytes before and those that are left
 abbrev pub AsksAt : Bool → AskPlace → List ℕ → List ℕ → Type 0
 AsksAt canonical content xs ys = (b : ℕ) × (bs : List ℕ) × (xs ≡ b ∷ bs) × BeginsString b
 AsksAt canonical boxed xs ys =
@@ -58,19 +58,19 @@ AsksAt canonical (grown k) xs ys =
 AsksAt canonical (inside k p) xs ys = (o : Option ℕ) × (zs : List ℕ) × (us : List ℕ)
     × BeginsParts canonical o xs zs × Values canonical k zs us × AsksAt canonical p us ys
 
--- in a value
+-- memory is asked for in a value
 abbrev pub InValue : Bool → List ℕ → List ℕ → Type 0
 InValue canonical xs ys = (p : AskPlace) × AsksAt canonical p xs ys
 
--- in a tag's value, or for its place
+-- memory is asked for in a tag's value, or for its place
 abbrev pub InTagged : Bool → List ℕ → List ℕ → Type 0
 InTagged canonical xs ys = Values canonical 1 xs ys ⊎ InValue canonical xs ys
 
--- in values one after another, or for places after so many of them at least
+-- memory is asked for in values one after another, or for places after so many of them at least
 abbrev pub InParts : Bool → ℕ → List ℕ → List ℕ → Type 0
 InParts canonical least xs ys = ((k : ℕ) × (least ≤ k) × Values canonical k xs ys)
     ⊎ ((k : ℕ) × (us : List ℕ) × Values canonical k xs us × InValue canonical us ys)
 
--- memory is asked for there in the known bytes
+-- memory is asked for in the known bytes, where `inside` says
 pub record Asks (inside : List ℕ → List ℕ → Type 0) (old new : View) : Type 0 where
   pub at : IfKnown old.known (λ xs. IfKnown new.known (λ ys. inside xs ys))

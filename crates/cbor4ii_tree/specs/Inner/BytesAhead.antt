@@ -7,8 +7,8 @@ use Rattle.cbor4ii_items.specs.Head.{IsBytes}
 use Rattle.cbor4ii_tree.specs.{Inner.Does.Does, Inner.HeadParts.TakesByte}
 use Rattle.cbor4ii_tree.specs.{Calls.Rejections.Rejection}
 
--- lent bytes, read under the steps of a reader: all of them are reported, nothing fails, and the
--- reader's own bytes count for nothing
+-- All of them are reported, nothing fails, and the reader's own bytes count for nothing.
+-- The view of lent bytes that are read under the steps of a reader.
 abbrev pub lent_view : List ℕ → View → View
 lent_view bytes reader =
     record {
@@ -30,7 +30,7 @@ pub record Offers (want : ℕ) (P : List ℕ → Type 0) (old new : View) : Type
   pub prefix : IfKnown old.known (IsPrefix want shown)
   pub is : P shown
 
--- the first byte of some
+-- the first of some bytes is this
 abbrev pub FirstByteIs : ℕ → List ℕ → Type 0
 FirstByteIs b shown = (length shown ≢ 0) × (b ≡ get_or shown 0 0) × (b < 256)
 

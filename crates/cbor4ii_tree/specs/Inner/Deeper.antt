@@ -5,18 +5,19 @@ use Rattle.cbor4ii_tree.specs.{Basis.Cost.Budget, Basis.InputError.InputError}
 use Rattle.cbor4ii_tree.specs.{Inner.Skipping.SkipsItems}
 use Rattle.cbor4ii_tree.specs.Inner.Skipping.{RejectsSkippingItems}
 
--- so many steps were taken, and these are left
+-- so many steps were taken, and this budget is left
 abbrev pub Deeper : ℕ → Budget → Budget → Type 0
 Deeper zero outer inner = inner ≡ outer
 Deeper (suc d) outer inner =
     (between : Budget) × Deeper d outer between × StepsIn between inner true
 
--- the same with this budget
+-- the view with this budget
 abbrev pub with_budget : Budget → View → View
 with_budget budget view = record view { budget = budget }
 
--- What follows `ys` is what follows `xs`: where so many items are skipped of the one under the
--- inner budget, so many are of the other under the outer, and so with what is rejected.
+-- Where so many items are skipped of `ys` under the inner budget, so many are of `xs` under the
+-- outer, and so with what is rejected.
+-- What follows `ys` under the inner budget is what follows `xs` under the outer.
 pub record FollowsInside (total : ℕ) (inner outer : Budget) (xs : List ℕ) (left : ℕ)
     (ys : List ℕ) : Type 0 where
   pub skips : (rest : List ℕ) → SkipsItems left inner ys rest → SkipsItems total outer xs rest

@@ -7,7 +7,7 @@ use Rattle.cbor4ii_rw.specs.declared.error.DecodeError.{DecodeError, TheVariants
 use Rattle.cbor4ii_items.specs.{InputError.{input_error_of, is_out_of_memory}, Moves.Moves}
 use Rattle.cbor4ii_tree.specs.{Basis.Cost.Budget, Calls.Rejections.Rejection}
 
--- the bytes before, the value, and the bytes after what was taken
+-- what a call accepts: the bytes before, the value, and the bytes after what was taken
 abbrev pub Accepting : Type 0 → Type 1
 Accepting V = List ℕ → V → List ℕ → Type 0
 
@@ -19,7 +19,7 @@ pub record Does {V E : Type 0} (accepts : Accepting V) (rejects : Rejection)
   pub err : IfErr answer (λ e. IfKnown old.known (λ xs. IfSome (input_error_of e) (λ z.
       (ys : List ℕ) × (new.known ≡ Some ys) × rejects xs z ys)))
 
--- the same of what is accepted and fails under a budget, here the reader's own
+-- `Does`, of what is accepted and fails under a budget, here the reader's own
 abbrev pub DoesUnder : {V E : Type 0} → (Budget → Accepting V) → (Budget → Rejection) →
     View → View → Result V (DecodeError E) → Type 0
 DoesUnder accepts rejects old new answer =
@@ -29,8 +29,8 @@ DoesUnder accepts rejects old new answer =
 abbrev pub Spares : {V E : Type 0} → Result V (DecodeError E) → Type 0
 Spares answer = IfErr answer (λ e. is_out_of_memory e ≡ false)
 
--- Such a call over the reader's own bytes or over lent ones, which stand apart from the reader. No
--- growth is refused, and a reader that is apart keeps all but its budget.
+-- No growth is refused, and a reader that is apart keeps all but its budget.
+-- `DoesUnder` over the reader's own bytes, or over lent ones that stand apart from the reader.
 pub record DoesApart {V E : Type 0} (accepts : Budget → Accepting V) (rejects : Budget → Rejection)
     (leads : ℕ → ℕ → V → Type 0) (apart : Bool) (reader_old reader_new old new : View)
     (answer : Result V (DecodeError E)) : Type 0 where
@@ -39,7 +39,7 @@ pub record DoesApart {V E : Type 0} (accepts : Budget → Accepting V) (rejects 
   pub gains : IfOk answer (leads old.bound new.bound)
   pub stays : IsTrue apart → KeepsAllButBudget reader_old reader_new
 
--- the bound falls, or may stay
+-- the bound falls; by `MayStay` it may stay
 abbrev pub Lowers : {V : Type 0} → ℕ → ℕ → V → Type 0
 Lowers old new v = new + 1 ≤ old
 
@@ -50,7 +50,7 @@ MayStay old new v = Unit {0}
 abbrev pub Asking : Type 1
 Asking = View → View → Type 0
 
--- it asks for none
+-- a call asks for no memory
 abbrev pub Never : Asking
 Never old new = ⊥
 

@@ -7,11 +7,11 @@ use Rattle.cbor4ii_tree.specs.{Calls.Rejections.{Rejection, Is, MissingAll}}
 
 -- ---- bytes
 
--- the next byte
+-- the next byte is taken
 abbrev pub TakesByte : List ℕ → ℕ → List ℕ → Type 0
 TakesByte bs b after = bs ≡ b ∷ after
 
--- there is none, and so many are asked for
+-- no byte is left, and so many are asked for
 abbrev pub NoByte : List ℕ → ℕ → Rejection
 NoByte name expect bs e rest = (bs ≡ []) × Is (eof name (Small expect)) [] e rest
 
@@ -22,7 +22,7 @@ pub record DropsBytes (count : ℕ) (bs after : List ℕ) : Type 0 where
   pub bytes : IsBytes content
   pub is : bs ≡ content ++ after
 
--- some bytes, and no more than are missing
+-- some bytes were taken, and no more than are missing
 abbrev pub DropsSome : ℕ → List ℕ → ℕ → List ℕ → Type 0
 DropsSome missing bs n after = (1 ≤ n) × (n ≤ missing) × DropsBytes n bs after
 

@@ -24,15 +24,14 @@ use Rattle.cbor4ii_tree.specs.declared.leaf.TakenOrNext.{TakenOrNext}
 use Rattle.cbor4ii_tree.specs.declared.leaf.TakenOrNext.TheVariants.{Taken}
 use Rattle.cbor4ii_tree.specs.declared.leaf.TakenOrNext.TheVariants as looked
 
--- A head with this first byte, and an argument in so many bytes, may begin a canonical encoding. It
--- is not undefined, and of major types 0 to 6 it is the shortest.
+-- The head is not undefined, and of major types 0 to 6 it is the shortest.
+-- A head with this first byte and an argument in so many bytes may begin a canonical encoding.
 pub record ExactHead (first number size : ℕ) : Type 0 where
   pub defined : first ≢ simple_byte simple_undefined
   pub least : first / 32 ≢ 7 → size ≡ byte_count (shortest_width number)
 
--- the encoding of a value, which takes one step, has so many bytes at the beginning; where
--- canonical
--- holds it is the canonical one
+-- The value takes one step; where canonical holds, the encoding is the canonical one.
+-- The encoding of a value has so many bytes at the beginning.
 pub record StandsAhead (canonical : Type 0) (v : Value) (size : ℕ) (shown : List ℕ) : Type 0 where
   pub some : 1 ≤ size
   pub within : size ≤ length shown
@@ -58,8 +57,8 @@ pub record WantsContent (size : ℕ) (shown : List ℕ) : Type 0 where
   pub whole : width + number ≤ length trailing
   pub fresh : IsBytes (take size shown)
 
--- A whole head of this major type, of an array, a map or a tag, with this argument stands in so
--- many bytes at the beginning. Where canonical holds it is the shortest.
+-- The head is of an array, a map or a tag; where canonical holds, it is the shortest.
+-- A whole head of this major type with this argument stands in so many bytes at the beginning.
 pub record HeadStands (canonical : Type 0) (major n size : ℕ) (shown : List ℕ) : Type 0 where
   pub nests : (4 ≤ major) × (major ≤ 6)
   pub within : size ≤ length shown
@@ -96,20 +95,19 @@ pub record CanTake (n : Next) (view : View) : Type 0 where
   pub first : 1 ≤ view.advanceable
   pub head : IfSome n.head (λ h. (1 ≤ h.size) × (h.size ≤ view.advanceable))
 
--- as DoesUnder, of a call together with the look before it, which has shown this byte
+-- `DoesUnder` of a call together with the look before it, which has shown this byte
 abbrev pub DoesAfterFirst : {V E : Type 0} → ℕ → (Budget → Accepting V) → (Budget → Rejection)
     → View → View → Result V (DecodeError E) → Type 0
 DoesAfterFirst first accepts rejects old new answer =
     (before : View) → ShowsFirst first before old → DoesUnder accepts rejects before new answer
 
--- as DoesUnder, of a call together with the look before it, which has shown the value that comes
--- next
+-- `DoesUnder` of a call together with the look before it, which has shown the value that comes next
 abbrev pub DoesAfterNext : {V E : Type 0} → Bool → Next → (Budget → Accepting V)
     → (Budget → Rejection) → View → View → Result V (DecodeError E) → Type 0
 DoesAfterNext canonical n accepts rejects old new answer = (before : View)
     → ShowsNext (canonical ≡ true) n before old → DoesUnder accepts rejects before new answer
 
--- as Asks, of a call together with the look before it
+-- `Asks` of a call together with the look before it
 abbrev pub AsksAfterNext : Bool → Next → (List ℕ → List ℕ → Type 0) → Asking
 AsksAfterNext canonical n at old new =
     (before : View) → ShowsNext (canonical ≡ true) n before old → Asks at before new

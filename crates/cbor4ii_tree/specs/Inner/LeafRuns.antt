@@ -66,7 +66,7 @@ pub record PutsWhole (canonical : Type 0) (full size : ℕ) (shown : List ℕ)
   pub few : length after ≤ full
   pub puts : PutsAfter canonical size shown before after
 
--- the same, and after them stands a value that is missing too, and is left undecided
+-- values were put after the others, and the next one, which is missing too, is left undecided
 pub record PutsBefore (canonical : Type 0) (full size : ℕ) (n : Next) (shown : List ℕ)
     (before after : List Value) : Type 0 where
   pub some : 1 ≤ size
@@ -74,8 +74,9 @@ pub record PutsBefore (canonical : Type 0) (full size : ℕ) (n : Next) (shown :
   pub puts : PutsAfter canonical size shown before after
   pub next : SeesNext canonical n (drop size shown)
 
--- After some values memory was refused, for the content of a string, whose head is taken, or where
--- the last of the values was put, which is taken too.
+-- It was refused for the content of a string, whose head is taken, or where the last of the values
+-- was put, which is taken too.
+-- After some values memory was refused.
 pub record RefusedMemory (canonical : Type 0) (size : ℕ) (shown : List ℕ) : Type 0 where
   pub values : List Value
   pub taken : ℕ
@@ -83,8 +84,8 @@ pub record RefusedMemory (canonical : Type 0) (size : ℕ) (shown : List ℕ) : 
   pub at : ((1 ≤ length values) × (size ≡ taken))
       ⊎ ((head : ℕ) × (size ≡ taken + head) × WantsContent head (drop taken shown))
 
--- the values in so many bytes at the beginning were put after the others, up to so many in all; or
--- the first is left undecided, or memory was refused, or there is no byte
+-- Else the first is left undecided, or memory was refused, or there is no byte.
+-- The values in so many bytes at the beginning were put after the others, up to so many in all.
 abbrev pub PutsRun : Type 0 → ℕ → List Value → List Value → RunSeen → List ℕ → Type 0
 PutsRun canonical full before after (run.Whole size) shown =
     PutsWhole canonical full size shown before after
@@ -103,7 +104,7 @@ abbrev pub PutsItems : Bool → List Value → List Value → Budget → List �
 PutsItems canonical before after budget xs _ ys =
     (vs : List Value) × (after ≡ before ++ vs) × ReadsItems canonical (length vs) budget xs vs ys
 
--- the same under a step that leaves this budget
+-- `PutsItems` under a step that leaves this budget
 abbrev pub PutsItemsUnder : Bool → List Value → List Value → Budget → List ℕ → Unit {0} → List ℕ
     → Type 0
 PutsItemsUnder canonical before after inner xs u ys = (budget : Budget) → step_in budget
@@ -150,8 +151,9 @@ TakesValuesBy canonical before after old new None failure =
     Does {V = Unit {0}} (PutsItemsUnder canonical before after old.budget) RejectsWhereNone old new
     (Err (error_left failure))
 
--- What a run takes of values, of which so many are to be there at most: the values before and after
--- it. It answers what a look has shown of the next value, where that is left undecided.
+-- `before` and `after` are the values before and after it. It answers what a look has shown of the
+-- next value, where that is left undecided.
+-- What a run takes of values, of which so many are to be there at most.
 pub record TakesRun {E : Type 0} (canonical : Bool) (full : ℕ) (before after : List Value)
     (old new : View) (result : Option (Option Next)) (failure : Option (DecodeError E)) : Type 0
   where

@@ -50,7 +50,7 @@ start_of (starts_simple s) = start.Bytes 0
 start_of (starts_bits p) = start.Bytes (precision_bytes p)
 start_of other_simple = start.Unsupported
 
--- the first byte is taken with what begins so
+-- the first byte is taken together with an item that begins so
 abbrev pub TakesFirst : Start → Type 0
 TakesFirst start.Stays = ⊥
 TakesFirst start.Unsupported = ⊥
@@ -99,7 +99,7 @@ SkipsOne budget xs ys = (t : Tree) × Skips xs budget t ys
 abbrev pub RejectsSkippingOne : Budget → Rejection
 RejectsSkippingOne budget xs = SkippingRejects xs budget
 
--- so many items
+-- so many items are skipped
 abbrev pub SkipsItems : ℕ → Budget → List ℕ → List ℕ → Type 0
 SkipsItems n budget xs ys =
     (ts : Trees) × (count ts ≡ n) × Each (Skippable budget) ts × (xs ≡ bytes_all ts ++ ys)

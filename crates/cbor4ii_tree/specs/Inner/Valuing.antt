@@ -52,12 +52,12 @@ abbrev pub ReadsTwoStepsIn : Bool → Budget → List ℕ → Value → List ℕ
 ReadsTwoStepsIn canonical deep xs v ys =
     (inner : Budget) → step_in inner ≡ Some deep → ReadsUnder canonical inner xs v ys
 
--- so many values, of which each encoding is such a tree
+-- so many values are read, of which each encoding is a tree of which W holds
 abbrev pub ReadsEach : (Tree → Type 0) → ℕ → List ℕ → List Value → List ℕ → Type 0
 ReadsEach W n xs vs ys = (ts : Trees) × (count ts ≡ n) × Each W ts ×
     (values ts ≡ items_view vs) × (xs ≡ bytes_all ts ++ ys)
 
--- so many values
+-- so many values are read
 abbrev pub ReadsItems : Bool → ℕ → Budget → List ℕ → List Value → List ℕ → Type 0
 ReadsItems canonical n budget xs vs ys = ReadsEach (Whole canonical budget) n xs vs ys
 
@@ -122,14 +122,13 @@ abbrev pub TakesLength : Bool → ℕ → Budget → Accepting (Option ℕ)
 TakesLength canonical major budget xs (Some n) ys = HeadAt canonical major n xs ys
 TakesLength canonical major budget xs None ys = IndefiniteAt canonical major xs ys
 
--- What it is for an array, or a map, to fail is what it is for a value whose first byte is one of
--- its major type.
+-- an array or a map fails as a value does whose first byte is of its major type
 abbrev pub RejectsMajor : Bool → ℕ → Budget → Rejection
 RejectsMajor canonical major inner xs e rest = (b : ℕ) (bs : List ℕ) → xs ≡ b ∷ bs → b / 32 ≡ major
     →
     (outer : Budget) → step_in outer ≡ Some inner → RejectsUnder canonical outer xs e rest
 
--- after a first byte of this major type, before the step is taken
+-- what is rejected after a first byte of this major type, before the step is taken
 abbrev pub RejectsOf : Bool → ℕ → Budget → Rejection
 RejectsOf canonical major budget xs e rest =
     (b : ℕ) (bs : List ℕ) → xs ≡ b ∷ bs → b / 32 ≡ major → RejectsUnder canonical budget xs e rest

@@ -54,7 +54,7 @@ fn look_is_reset(mut failure: Option<io::Error>) -> bool {
         && matches!(&failure, Some(error) if is_reset(error))
 }
 
-// The same of a fill.
+// A fill that fails puts the stream's error into this slot.
 fn lend_is_reset(mut failure: Option<io::Error>) -> bool {
     let mut reader = reset();
     lend(&mut reader, 1, &mut failure).is_none()

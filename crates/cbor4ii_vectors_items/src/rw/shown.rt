@@ -74,7 +74,7 @@ pub fn shows<S: Source>(
     Ok(())
 }
 
-/// As `shows`, for each row of how many are wanted, and these bytes. None is taken.
+/// Each row's bytes are shown where so many are wanted. None is taken.
 pub fn shows_each<S: Source>(reader: &mut S, rows: &[(usize, &[u8])]) -> Result<(), Fail> {
     for (want, bytes) in rows {
         shows(reader, *want, bytes, 0)?;

@@ -7,7 +7,7 @@ use cbor4ii_vectors::compared::same;
 use cbor4ii_vectors::rows::steps;
 use std::test::Fail;
 
-// As many steps may be taken, and as many again once they are given back.
+// So many steps may be taken, and so many again once they are given back.
 fn counts<S: Source>(reader: &mut S, want: u16) -> bool {
     steps(reader) == want && steps(reader) == want
 }

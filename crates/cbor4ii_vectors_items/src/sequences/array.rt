@@ -17,7 +17,7 @@ const DEFINITE: &[u8] = &[
     0x18, 24, 0x18, 25,
 ];
 
-/// The same, up to a break.
+/// 1 to 25, up to a break.
 pub const INDEFINITE: &[u8] = &[
     0x9f, 1, 2, 3, 4, 5, 6, 7, 8, 9, 10, 11, 12, 13, 14, 15, 16, 17, 18, 19, 20, 21, 22, 23, 0x18,
     24, 0x18, 25, 0xff,
@@ -97,7 +97,7 @@ fn arrays_of_nothing(rt: HostRuntime) -> Result<(), Fail> {
     reads_texts::<Vec<Option<Nothing>>>(alloc, OPTIONAL_NOTHING)
 }
 
-// As many steps as a limit can be do not run over.
+// The steps of the greatest limit do not run over.
 const STEPS: &[RowWithin<&str>] = table! {
     (b"\x80", 0, Err(no_step!("array")), b"\x80"),
     (b"\x81\x05", usize::MAX, Ok("[5]"), b""),
@@ -178,7 +178,7 @@ fn arrays_of_300_numbers(rt: HostRuntime) -> Result<(), Fail> {
     same(numbers.as_slice(), &[0x05; 300])
 }
 
-// The same up to a break, with no more steps than are needed.
+// 300 items up to a break, with no more steps than are needed.
 #[test]
 fn indefinite_arrays_of_300_numbers(rt: HostRuntime) -> Result<(), Fail> {
     let mut bytes = [0x05; 302];

@@ -253,7 +253,7 @@ fn borrowed_and_owned_in_turn(rt: HostRuntime) -> Result<(), Fail> {
     decodes(Kind::Bytes, alloc, &mut reader, bytes, second, b"")
 }
 
-// The same content, borrowed or owned.
+// Each reader gives the same content, borrowed or owned.
 #[test]
 fn texts_over_each_reader(rt: HostRuntime) -> Result<(), Fail> {
     for bytes in [b"\x62aa".as_slice(), b"\x7f\x61a\x61a\xff"] {

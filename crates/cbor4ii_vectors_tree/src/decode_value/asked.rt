@@ -183,7 +183,7 @@ const ENDS: &[&[u8]] = table! {
     b"\xa1\x61a\x62a",
 };
 
-// The same, of what has no canonical encoding.
+// Bytes that end too early, of what has no canonical encoding. One look finds the end.
 const INDEFINITE_ENDS: &[&[u8]] = table! {
     b"\x9f",
     b"\x9f\x00",

@@ -197,7 +197,7 @@ const SKIPPED: &[Skipped] = table! {
     (b"\x9f\x62\xff\xff\x00\xff", require_utf8!("str"), b"\x00\xff", b""),
 };
 
-// As `Rejected`, with so many steps.
+// Input that a value and skipping both reject with so many steps: each error and what it leaves.
 type RejectedWithin = (
     &'static [u8],
     usize,
@@ -281,7 +281,8 @@ const OTHERS_WITHIN: &[RejectedWithin] = table! {
     (b"\xfc", 1, unsupported!("value", 0xfc), b"\xfc", unsupported!("ignored-any", 0xfc), b"\xfc"),
 };
 
-// As `Skipped`, with so many steps.
+// Items that are no values, and are skipped with so many steps: the error and what it leaves, and
+// what skipping leaves.
 type SkippedWithin = (
     &'static [u8],
     usize,

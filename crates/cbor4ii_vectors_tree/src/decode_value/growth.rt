@@ -29,7 +29,8 @@ fn reads(alloc: Global, bytes: &'static [u8], value: Value) -> Result<(), Fail> 
     reads_by_each(alloc, bytes, 256, &Ok(Item(value)), b"")
 }
 
-// As it is written: read also where no other encoding is, and copied.
+// The value is written as these bytes. They are read as a copy of it, and as it where no other
+// encoding is read.
 fn reads_and_writes(alloc: Global, bytes: &'static [u8], value: Value) -> Result<(), Fail> {
     writes(alloc, &value, bytes)?;
     reads(alloc, bytes, value.try_clone()?)?;
