@@ -2,6 +2,7 @@ pub mod IfKnown
 pub mod Promised
 pub mod Pairs
 pub mod Parts
+pub mod ShownParts
 pub mod Items
 pub mod Firsts
 pub mod Forms

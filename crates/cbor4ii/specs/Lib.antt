@@ -31,6 +31,7 @@ pub mod Cases
 pub mod ReadBack
 pub mod Answered
 pub mod Names
+pub mod ShownParts
 pub mod Keys
 pub mod Codec
 pub mod Checked

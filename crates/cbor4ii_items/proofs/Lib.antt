@@ -5,6 +5,7 @@ pub mod Arguments
 pub mod BelowLimit
 pub mod SignedLeaf
 pub mod BigRuns
+pub mod ShownLeaves
 pub mod SignedRuns
 pub mod BigLeaf
 pub mod Containers

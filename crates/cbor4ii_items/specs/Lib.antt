@@ -8,6 +8,7 @@ pub mod InputError
 pub mod Budget
 pub mod Moves
 pub mod Decoding
+pub mod ShownLeaf
 pub mod Writing
 pub mod ReadBack
 pub mod NeverBoth

@@ -6,7 +6,9 @@ ghost use Rattle.cbor4ii_items.specs.Magnitude.{number_of};
 ghost use Rattle.cbor4ii_items.specs.Decoding.{Decodes, format_by};
 ghost use Rattle.cbor4ii_items.specs.Reading.{Runs};
 ghost use Rattle.cbor4ii_items.specs.InputError.{is_out_of_memory};
-ghost use Rattle.cbor4ii_items.specs.Floats.{float_bytes, SeesFloat, float_at, float_format};
+ghost use Rattle.cbor4ii_items.specs.Floats.{float_bytes, ReadsFloat, SeesFloat, float_at};
+ghost use Rattle.cbor4ii_items.specs.Floats.{float_format};
+ghost use Rattle.cbor4ii_items.specs.ShownLeaf.{IsShownLeaf};
 ghost use Rattle.cbor4ii_items.specs.Prefix.{TakesSeen};
 ghost use Rattle.cbor4ii_items.specs.Floats.{float_lawful};
 ghost use Rattle.cbor4ii_items.specs.Laws.Formats.{lawful_by};
@@ -15,6 +17,7 @@ ghost use Rattle.cbor4ii_items.specs.Writing.{WritesAtomically};
 use crate::decode::{Decodable, Decode};
 use crate::encode::Encode;
 use crate::head::{marked, number};
+use crate::leaf::DecodeLeaf;
 use crate::marker;
 use crate::prefix::Shown;
 use crate::push::push_bytes;
@@ -131,8 +134,36 @@ fn float_in(prefix: &[u8], marker: u8, bytes: u8) -> Shown
     if prefix.len() < size {
         return Shown::Cut(size);
     }
-    let trailing = &prefix[1..];
-    Shown::Whole(number_of(&trailing[..bytes as usize]), size)
+    Shown::Whole(bits_of(&prefix[1..size]), size)
+}
+
+/// The bits of a float that stands whole in `shown`, and how many bytes it has.
+#[inline(always)]
+fn seen_float(shown: &[u8], marker: u8, bytes: u8) -> Option<(u64, usize)>
+    requires { bytes ≤ 8 }
+    ensures stands { IfSome result (IsShownLeaf (ReadsFloat marker bytes) shown.now 0) }
+    ensures fits { IfSome result (λ found. found.0 < 256 ^ bytes) }
+{
+    match float_in(shown, marker, bytes) {
+        Shown::Whole(bits, size) => Some((bits, size)),
+        Shown::Cut(_) => None,
+        Shown::Other => None,
+    }
+}
+
+/// The number that the bytes are, most significant first. Those of a float are read at once.
+#[inline(always)]
+fn bits_of(bytes: &[u8]) -> u64
+    requires { length bytes.now ≤ 8 }
+    ensures value { result ≡ number_of bytes.now }
+    ensures bytes { IsBytes bytes.now }
+{
+    match bytes {
+        [a, b] => u16::from_be_bytes([*a, *b]) as u64,
+        [a, b, c, d] => u32::from_be_bytes([*a, *b, *c, *d]) as u64,
+        [a, b, c, d, e, f, g, h] => u64::from_be_bytes([*a, *b, *c, *d, *e, *f, *g, *h]),
+        _ => number_of(bytes),
+    }
 }
 
 /// The number that the bytes are, most significant first.
@@ -180,6 +211,14 @@ impl Decodable for F16 {
         (float_lawful (codes "f16") 0xf9 2) };
 }
 
+impl DecodeLeaf for F16 {
+    #[inline(always)]
+    fn shown_leaf(shown: &[u8], steps: u8) -> Option<(F16, usize)> {
+        let (bits, size) = seen_float(shown, marker::F16, 2)?;
+        Some((F16(bits as u16), size))
+    }
+}
+
 /// A float of two bytes, as its bits (RFC 8949 section 3.3).
 ///
 /// # Errors
@@ -223,6 +262,14 @@ impl Decodable for F32 {
 
     ghost lawful = { lawful_by (λ v. v.0) (float_format (codes "f32") 0xfa 4)
         (float_lawful (codes "f32") 0xfa 4) };
+}
+
+impl DecodeLeaf for F32 {
+    #[inline(always)]
+    fn shown_leaf(shown: &[u8], steps: u8) -> Option<(F32, usize)> {
+        let (bits, size) = seen_float(shown, marker::F32, 4)?;
+        Some((F32(bits as u32), size))
+    }
 }
 
 /// A float of four bytes, as its bits (RFC 8949 section 3.3).
@@ -269,6 +316,14 @@ impl Decodable for F64 {
 
     ghost lawful = { lawful_by (λ v. v.0) (float_format (codes "f64") 0xfb 8)
         (float_lawful (codes "f64") 0xfb 8) };
+}
+
+impl DecodeLeaf for F64 {
+    #[inline(always)]
+    fn shown_leaf(shown: &[u8], steps: u8) -> Option<(F64, usize)> {
+        let (bits, size) = seen_float(shown, marker::F64, 8)?;
+        Some((F64(bits), size))
+    }
 }
 
 /// A float of eight bytes, as its bits (RFC 8949 section 3.3).

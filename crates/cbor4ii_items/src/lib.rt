@@ -13,6 +13,7 @@ pub mod indefinite;
 pub mod initial;
 pub mod integer_head;
 pub mod laws;
+pub mod leaf;
 pub mod major;
 pub mod marker;
 mod maybe;

@@ -3,7 +3,9 @@
 ghost use Rattle.std.specs.Prelude.{◌≡◌, ◌+◌, ◌≤◌, ◌<◌, ◌^◌, ℕ, List, length, IfOk, IfSome, OnSome};
 ghost use Rattle.std.specs.Prelude.{None};
 ghost use Rattle.cbor4ii_items.specs.Prefix.{SeesHead, IsArgument, RunsOrStays, TakesSeen};
+ghost use Rattle.cbor4ii_items.specs.Numbers.{ReadsArgument};
 ghost use Rattle.cbor4ii_items.specs.ReadHead.{head_at, argument_size};
+ghost use Rattle.cbor4ii_items.specs.ShownLeaf.{IsShownLeaf};
 
 use crate::additional::{allowed, following};
 use cbor4ii_rw::ask::{at_most, look};
@@ -119,6 +121,20 @@ fn whole_head(shown: &[u8], major: u8, width: u8) -> Shown
     match shown_argument(info, rest) {
         Some((argument, size)) => Shown::Whole(argument, 1 + size),
         None => Shown::Cut(1 + following(info) as usize),
+    }
+}
+
+/// The argument of a head of this major type that stands whole in `shown`, and how many bytes the
+/// head has.
+#[inline(always)]
+pub(crate) fn seen_head(shown: &[u8], major: u8, width: u8) -> Option<(u64, usize)>
+    ensures stands { IfSome result (IsShownLeaf (ReadsArgument major width) shown.now 0) }
+    ensures fits { 1 ≤ width → IfSome result (λ found. found.0 < 256 ^ width) }
+{
+    match whole_head(shown, major, width) {
+        Shown::Whole(argument, size) => Some((argument, size)),
+        Shown::Cut(_) => None,
+        Shown::Other => None,
     }
 }
 

@@ -11,6 +11,7 @@ ghost use Rattle.cbor4ii_items.specs.Writing.{WritesAtomically};
 use crate::decode::{Decodable, Decode};
 use crate::encode::Encode;
 use crate::head::{lone_head, marked};
+use crate::leaf::DecodeLeaf;
 use crate::push::{push_bytes, push_head};
 use crate::types::{Null, Simple, Undefined};
 use crate::{major, marker};
@@ -73,6 +74,19 @@ impl Decodable for bool {
     }
 
     ghost lawful = { bool_lawful };
+}
+
+impl DecodeLeaf for bool {
+    #[inline(always)]
+    fn shown_leaf(shown: &[u8], steps: u8) -> Option<(bool, usize)> {
+        let [first, ..] = shown else {
+            return None;
+        };
+        if *first != marker::FALSE && *first != marker::TRUE {
+            return None;
+        }
+        Some((*first == marker::TRUE, 1))
+    }
 }
 
 /// False or true, in one byte (RFC 8949 section 3.3).

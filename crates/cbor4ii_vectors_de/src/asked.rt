@@ -12,7 +12,8 @@
 //! it is read as a text, with the looks of one.
 //!
 //! Where the reader lets a look ask for more, a head takes one look, as does a name of up to 255
-//! bytes after a head of one or two bytes.
+//! bytes after a head of one or two bytes. A vector of four leaves or more takes one for as many as
+//! it shows whole, and one for the next, by turns.
 use crate::typed::Answer;
 use cbor4ii::Value;
 use cbor4ii::types::F64;
@@ -94,7 +95,8 @@ const OPTIONS: &[Row] = table! {
 
 const VECTORS: &[Row] = table! {
     (b"\x83", b"\x05", 3, b"", 1, (4, 4), (4, 4)),
-    (b"\x99\x17\x70", b"\x05", 6_000, b"", 3, (6_002, 6_005), (6_001, 6_004)),
+    (b"\x84", b"\x18\xff", 4, b"", 2, (9, 17), (2, 17)),
+    (b"\x99\x17\x70", b"\x05", 6_000, b"", 3, (6_002, 6_005), (4, 6_004)),
     (b"\x9f", b"\x05", 2, b"\xff", 1, (7, 7), (7, 7)),
 };
 

@@ -8,6 +8,7 @@ use std::test::Fail;
 const MAPS: &[BothShown] = table! {
     (b"\xa0", "Is({})"),
     (b"\xa2\x01\x02\x03\x04", "Is({1: 2, 3: 4})"),
+    (b"\xa4\x01\x18\x18\x03\x04\x05\x06\x18\x18\x01", "Is({1: 24, 3: 4, 5: 6, 24: 1})"),
 };
 
 const MAPS_READ: &[RowShown] = table! {
@@ -15,6 +16,8 @@ const MAPS_READ: &[RowShown] = table! {
     (b"\x80\x01", Err(mismatch!("map", 0x80)), b"\x01"),
     (b"\xa1\x61\x02", Err(mismatch!("u8", 0x61)), b"\x02"),
     (b"\xbf\x01\xff", Err(mismatch!("u8", 0xff)), b""),
+    (b"\xa4\x01\x02\x03\x20\x05", Err(mismatch!("u8", 0x20)), b"\x05"),
+    (b"\xa4\x01\x02\x03\x04\x05", Err(eof!("u8", 1)), b""),
     // Of equal keys the last value stays.
     (b"\xa2\x01\x02\x01\x03", Ok("Is({1: 3})"), b""),
 };

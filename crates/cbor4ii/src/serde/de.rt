@@ -31,6 +31,7 @@ pub mod place;
 mod plain_raw;
 pub mod presence;
 mod raw;
+mod runs;
 mod simple;
 mod slot;
 pub mod some_accessor;

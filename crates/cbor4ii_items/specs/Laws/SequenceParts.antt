@@ -37,31 +37,37 @@ pub fits_max : (c d : ℕ) (budget : Option ℕ) → CostFits c budget → CostF
 fits_max c d None p q = tt
 fits_max c d (Some n) p q = max-le p q
 
--- ---- one more part
+-- ---- more parts
 
 module _ {P : Type 0} (reads : Reads P) where
-  parts_more : (xs : List ℕ) (ps : List P) (p : P) (n c k d : ℕ) → ReadsElements reads xs ps n c
-      → reads (drop n xs) p k d → ReadsElements reads xs (ps ++ p ∷ []) (n + k) (max c d)
-  parts_more xs [] p n c k d h r = (
-    k,
-    d,
-    0,
-    0,
-    subst (λ j. reads (drop j xs) p k d) h.0 r,
-    (refl, refl),
-    omega (arith, h.0),
-    omega (arith, h.1),
-  )
-  parts_more xs (q ∷ ps) p n c k d h r =
+  parts_append : (xs : List ℕ) (ps qs : List P) (n c k d : ℕ) → ReadsElements reads xs ps n c
+      → ReadsElements reads (drop n xs) qs k d
+      → ReadsElements reads xs (ps ++ qs) (n + k) (max c d)
+  parts_append xs [] qs n c k d h r =
+      let size : k ≡ n + k = omega (arith, h.0) in
+      let cost : d ≡ max c d = omega (arith, h.1) in
+      subst (λ j. ReadsElements reads xs qs j (max c d)) size
+      (subst (ReadsElements reads xs qs k) cost
+      (subst (λ j. ReadsElements reads (drop j xs) qs k d) h.0 r))
+  parts_append xs (q ∷ ps) qs n c k d h r =
       let e : drop n xs ≡ drop h.2 (drop h.0 xs) =
       ap (λ j. drop j xs) h.6 ∙ sym (drop_more h.2 h.0 xs) in
-      let rest = parts_more (drop h.0 xs) ps p h.2 h.3 k d h.5 (subst (λ ys. reads ys p k d) e r) in
+      let rest = parts_append (drop h.0 xs) ps qs h.2 h.3 k d h.5
+      (subst (λ ys. ReadsElements reads ys qs k d) e r) in
       (h.0, h.1, h.2 + k, max h.3 d, h.4, rest, omega (arith, h.6), omega (arith, h.7))
 
-  pub parts_then : {a m b : View} {ps qs : List P} {p : P} → m.budget ≡ a.budget
-      → Sound (ReadsElements reads) a m ps → Sound reads m b p → qs ≡ ps ++ p ∷ []
-      → Sound (ReadsElements reads) a b qs
-  parts_then {a = a} {m = m} {b = b} {ps = ps} {p = p} budget s t added =
+  one_part : (xs : List ℕ) (p : P) (n c : ℕ) → reads xs p n c → ReadsElements reads xs (p ∷ []) n c
+  one_part xs p n c h = (n, c, 0, 0, h, (refl, refl), omega arith, omega arith)
+
+  pub parts_more : (xs : List ℕ) (ps : List P) (p : P) (n c k d : ℕ) → ReadsElements reads xs ps n c
+      → reads (drop n xs) p k d → ReadsElements reads xs (ps ++ p ∷ []) (n + k) (max c d)
+  parts_more xs ps p n c k d h r =
+      parts_append xs ps (p ∷ []) n c k d h (one_part (drop n xs) p k d r)
+
+  parts_onto : {a m b : View} {ps qs rs : List P} → m.budget ≡ a.budget
+      → Sound (ReadsElements reads) a m ps → Sound (ReadsElements reads) m b qs → rs ≡ ps ++ qs
+      → Sound (ReadsElements reads) a b rs
+  parts_onto {a = a} {m = m} {b = b} {ps = ps} {qs = qs} budget s t added =
       subst (λ ws. Sound (ReadsElements reads) a b ws) (sym added) (record {
         at = λ xs known.
             let u = s.at xs known in
@@ -69,11 +75,27 @@ module _ {P : Type 0} (reads : Reads P) where
             record {
               count = u.count + v.count;
               cost = max u.cost v.cost;
-              read = parts_more xs ps p u.count u.cost v.count v.cost u.read v.read;
+              read = parts_append xs ps qs u.count u.cost v.count v.cost u.read v.read;
               fits = fits_max u.cost v.cost a.budget u.fits (subst (CostFits v.cost) budget v.fits);
               left = v.left ∙ ap Some (drop_more v.count u.count xs);
             };
       })
+
+  one_sound : {m b : View} {p : P} → Sound reads m b p → Sound (ReadsElements reads) m b (p ∷ [])
+  one_sound {p = p} t = record {
+    at = λ xs known. let u = t.at xs known in record {
+      count = u.count;
+      cost = u.cost;
+      read = one_part xs p u.count u.cost u.read;
+      fits = u.fits;
+      left = u.left;
+    };
+  }
+
+  pub parts_then : {a m b : View} {ps qs : List P} {p : P} → m.budget ≡ a.budget
+      → Sound (ReadsElements reads) a m ps → Sound reads m b p → qs ≡ ps ++ p ∷ []
+      → Sound (ReadsElements reads) a b qs
+  parts_then budget s t added = parts_onto budget s (one_sound t) added
 
 module _ {P : Type 0} (s : Format P) (lawful : IsLawful s) where
   one_size : (xs : List ℕ) (p q : P) (n m c d : ℕ) → s.reads xs p n c → s.reads xs q m d → n ≡ m
@@ -103,13 +125,17 @@ module _ {P : Type 0} (s : Format P) where
     pub count : length ps ≡ i
     pub parts : Sound (ReadsElements s.reads) a m ps
 
+  pub count_onto : {a m b : View} {i : ℕ} {ps qs rs : List P} → Begun i a m ps → Kept m b
+      → Sound (ReadsElements s.reads) m b qs → rs ≡ ps ++ qs → Begun (i + length qs) a b rs
+  count_onto {ps = ps} {qs = qs} h kept t added = record {
+    kept = kept_then h.kept kept;
+    count = ap length added ∙ (length-append ps qs ∙ ap (λ j. j + length qs) h.count);
+    parts = parts_onto s.reads h.kept.budget h.parts t added;
+  }
+
   pub count_more : {a m b : View} {i : ℕ} {ps qs : List P} {p : P} → Begun i a m ps → Kept m b
       → Sound s.reads m b p → qs ≡ ps ++ p ∷ [] → Begun (i + 1) a b qs
-  count_more {ps = ps} {p = p} h kept t added = record {
-    kept = kept_then h.kept kept;
-    count = ap length added ∙ (length-append ps (p ∷ []) ∙ ap (λ j. j + 1) h.count);
-    parts = parts_then s.reads h.kept.budget h.parts t added;
-  }
+  count_more h kept t added = count_onto h kept (one_sound s.reads t) added
 
   none_more : IsLawful s → (xs : List ℕ) (ps : List P) (n c count : ℕ) (budget : Option ℕ)
       → ReadsElements s.reads xs ps n c → length ps < count → NoneRead s.reads (drop n xs) budget

@@ -1,20 +1,23 @@
 //! Signed integers of at most eight bytes.
-ghost use Rattle.std.specs.Prelude.{◌≡◌, ◌+◌, ◌<◌, ◌≤◌, ◌^◌, OnOk, IfOk, IfErr, true, false, codes};
+ghost use Rattle.std.specs.Prelude.{◌≡◌, ◌+◌, ◌<◌, ◌≤◌, ◌^◌, OnOk, IfOk, IfErr, IfSome, true};
+ghost use Rattle.std.specs.Prelude.{false, codes};
 ghost use Rattle.std.specs.Prelude.{pos, negsuc};
 ghost use Rattle.cbor4ii_items.specs.Reading.{Runs};
 ghost use Rattle.cbor4ii_items.specs.InputError.{is_out_of_memory};
 ghost use Rattle.cbor4ii_items.specs.ReadNumber.{head_below_at, signed_at};
 ghost use Rattle.cbor4ii_items.specs.Writing.{WritesAtomically};
 ghost use Rattle.cbor4ii_items.specs.Decoding.{Decodes};
-ghost use Rattle.cbor4ii_items.specs.Numbers.{IsWithin, signed_head, signed_format};
+ghost use Rattle.cbor4ii_items.specs.Numbers.{IsWithin, ReadsSigned, signed_head, signed_format};
+ghost use Rattle.cbor4ii_items.specs.ShownLeaf.{IsShownLeaf};
 ghost use Rattle.cbor4ii_items.specs.Laws.Signed.{signed_lawful};
 
 use crate::decode::{Decodable, Decode};
 use crate::encode::Encode;
 use crate::head::{head_by_bytes, peek};
 use crate::initial::if_major;
+use crate::leaf::DecodeLeaf;
 use crate::major;
-use crate::prefix::take_head;
+use crate::prefix::{seen_head, take_head};
 use crate::push::push_signed;
 use cbor4ii_rw::error::{DecodeError, EncodeError, StaticStr};
 use cbor4ii_rw::read::Source;
@@ -132,6 +135,33 @@ fn signed_by_bytes<S: Source>(
     }
 }
 
+/// A number from 0 on, or -1 - n, with an argument below `limit`, that stands whole in `shown`, and
+/// how many bytes it has.
+#[inline(always)]
+fn seen_signed(shown: &[u8], width: u8, limit: u64) -> Option<(i64, usize)>
+    requires { limit ≤ 2 ^ 63 }
+    ensures stands { IfSome result (IsShownLeaf (ReadsSigned width limit) shown.now 0) }
+    ensures range { IfSome result (λ found. IsWithin limit found.0) }
+{
+    let [first, ..] = shown else {
+        return None;
+    };
+    let major = if_major(*first);
+    if major > major::NEGATIVE {
+        return None;
+    }
+    let (argument, size) = seen_head(shown, major, width)?;
+    if argument >= limit {
+        return None;
+    }
+    let number = if major == major::UNSIGNED {
+        positive(argument)
+    } else {
+        negative(argument)
+    };
+    Some((number, size))
+}
+
 fn positive(number: u64) -> i64
     requires { number < 2 ^ 63 }
     ensures { result ≡ pos number }
@@ -175,6 +205,14 @@ impl Decodable for i8 {
 
     ghost lawful = { signed_lawful (codes "i8") (codes "+i8") (codes "-i8") 1
         (2 ^ 7) };
+}
+
+impl DecodeLeaf for i8 {
+    #[inline(always)]
+    fn shown_leaf(shown: &[u8], steps: u8) -> Option<(i8, usize)> {
+        let (number, size) = seen_signed(shown, 1, 0x80)?;
+        Some((number as i8, size))
+    }
 }
 
 /// An integer of major type 0, or a negative one of major type 1, whose argument has at most one
@@ -230,6 +268,14 @@ impl Decodable for i16 {
         (2 ^ 15) };
 }
 
+impl DecodeLeaf for i16 {
+    #[inline(always)]
+    fn shown_leaf(shown: &[u8], steps: u8) -> Option<(i16, usize)> {
+        let (number, size) = seen_signed(shown, 2, 0x8000)?;
+        Some((number as i16, size))
+    }
+}
+
 /// An integer of major type 0, or a negative one of major type 1, whose argument has at most two
 /// bytes and is below 2^15 (RFC 8949 section 3.1).
 ///
@@ -278,6 +324,14 @@ impl Decodable for i32 {
         (2 ^ 31) };
 }
 
+impl DecodeLeaf for i32 {
+    #[inline(always)]
+    fn shown_leaf(shown: &[u8], steps: u8) -> Option<(i32, usize)> {
+        let (number, size) = seen_signed(shown, 4, 0x8000_0000)?;
+        Some((number as i32, size))
+    }
+}
+
 /// An integer of major type 0, or a negative one of major type 1, whose argument has at most four
 /// bytes and is below 2^31 (RFC 8949 section 3.1).
 ///
@@ -324,6 +378,13 @@ impl Decodable for i64 {
 
     ghost lawful = { signed_lawful (codes "i64") (codes "+i64") (codes "-i64") 8
         (2 ^ 63) };
+}
+
+impl DecodeLeaf for i64 {
+    #[inline(always)]
+    fn shown_leaf(shown: &[u8], steps: u8) -> Option<(i64, usize)> {
+        seen_signed(shown, 8, 0x8000_0000_0000_0000)
+    }
 }
 
 /// An integer of major type 0, or a negative one of major type 1, whose argument has at most eight

@@ -7,7 +7,9 @@ ghost use Rattle.cbor4ii_items.specs.Laws.Arguments.{argument_lawful, zero_small
 use crate::decode::{Decodable, Decode};
 use crate::encode::Encode;
 use crate::head::lone_head;
+use crate::leaf::DecodeLeaf;
 use crate::major;
+use crate::prefix::seen_head;
 use crate::push::push_head;
 use cbor4ii_rw::error::{DecodeError, EncodeError};
 use cbor4ii_rw::read::Source;
@@ -22,6 +24,14 @@ impl Decodable for u8 {
     }
 
     ghost lawful = { argument_lawful (codes "u8") 0 1 zero_small };
+}
+
+impl DecodeLeaf for u8 {
+    #[inline(always)]
+    fn shown_leaf(shown: &[u8], steps: u8) -> Option<(u8, usize)> {
+        let (argument, size) = seen_head(shown, major::UNSIGNED, 1)?;
+        Some((argument as u8, size))
+    }
 }
 
 /// An unsigned integer whose argument has at most one byte, whether or not in its shortest head
@@ -70,6 +80,14 @@ impl Decodable for u16 {
     ghost lawful = { argument_lawful (codes "u16") 0 2 zero_small };
 }
 
+impl DecodeLeaf for u16 {
+    #[inline(always)]
+    fn shown_leaf(shown: &[u8], steps: u8) -> Option<(u16, usize)> {
+        let (argument, size) = seen_head(shown, major::UNSIGNED, 2)?;
+        Some((argument as u16, size))
+    }
+}
+
 /// An unsigned integer whose argument has at most two bytes, whether or not in its shortest head
 /// (RFC 8949 section 3.1).
 ///
@@ -111,6 +129,14 @@ impl Decodable for u32 {
     ghost lawful = { argument_lawful (codes "u32") 0 4 zero_small };
 }
 
+impl DecodeLeaf for u32 {
+    #[inline(always)]
+    fn shown_leaf(shown: &[u8], steps: u8) -> Option<(u32, usize)> {
+        let (argument, size) = seen_head(shown, major::UNSIGNED, 4)?;
+        Some((argument as u32, size))
+    }
+}
+
 /// An unsigned integer whose argument has at most four bytes, whether or not in its shortest head
 /// (RFC 8949 section 3.1).
 ///
@@ -150,6 +176,13 @@ impl Decodable for u64 {
     }
 
     ghost lawful = { argument_lawful (codes "u64") 0 8 zero_small };
+}
+
+impl DecodeLeaf for u64 {
+    #[inline(always)]
+    fn shown_leaf(shown: &[u8], steps: u8) -> Option<(u64, usize)> {
+        seen_head(shown, major::UNSIGNED, 8)
+    }
 }
 
 /// An unsigned integer whose argument has at most eight bytes, whether or not in its shortest head

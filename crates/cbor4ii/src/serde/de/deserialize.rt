@@ -1,4 +1,6 @@
 //! What reading a typed value is.
+ghost use Rattle.std.specs.Prelude.{IfSome};
+ghost use Rattle.cbor4ii_items.specs.ShownLeaf.{IsShownLeaf};
 ghost use Rattle.cbor4ii.specs.Typed.{input, answer_of, Promise, no_promise, Deserializes};
 
 use crate::serde::de::deserializer::Deserializer;
@@ -7,11 +9,27 @@ use cbor4ii_rw::read::Source;
 use std::alloc::Global;
 
 /// A type whose values are read. What stands here is the same for every reader, so that a value
-/// means the same over all of them. No code runs for it. A type that promises nothing of the bytes
-/// leaves it out.
+/// means the same over all of them. A type that promises nothing of the bytes leaves all of it out.
 pub trait Typed: Sized {
     // What is read, how bytes are rejected, and how much of that the type promises.
     ghost promise: { Promise Self } = { no_promise };
+
+    /// Whether `shown_leaf` answers the type's values. A vector then reads as many at a time as one
+    /// look shows, and what it reads is the same.
+    #[inline(always)]
+    fn is_leaf() -> bool {
+        false
+    }
+
+    /// The value that the shown bytes begin with and how many bytes it has, where it holds no
+    /// other, stands whole in them, and takes at most so many steps. A type without a line of its
+    /// own answers none.
+    #[inline(always)]
+    fn shown_leaf(shown: &[u8], steps: u8) -> Option<(Self, usize)>
+        ensures { IfSome result (IsShownLeaf promise.format.reads shown.now steps) }
+    {
+        None
+    }
 }
 
 /// A type whose values are read from a reader.

@@ -12,11 +12,22 @@ use crate::serde::de::deserialize::{Deserialize, Typed};
 use crate::serde::de::deserializer::{Deserializer, take_item};
 use crate::serde::de::error::DecodeError;
 use cbor4ii_items::decode::Decodable;
+use cbor4ii_items::leaf::DecodeLeaf;
 use cbor4ii_rw::read::Source;
 use std::alloc::Global;
 
 impl Typed for u8 {
     ghost promise = { exact_promise refl (argument_lawful (codes "u8") 0 1 zero_small) };
+
+    #[inline(always)]
+    fn is_leaf() -> bool {
+        true
+    }
+
+    #[inline(always)]
+    fn shown_leaf(shown: &[u8], steps: u8) -> Option<(u8, usize)> {
+        <u8 as DecodeLeaf>::shown_leaf(shown, steps)
+    }
 }
 
 /// An unsigned integer whose argument has at most one byte, whether or not in its shortest head
@@ -40,6 +51,16 @@ impl<S: Source> Deserialize<S> for u8 {
 
 impl Typed for u16 {
     ghost promise = { exact_promise refl (argument_lawful (codes "u16") 0 2 zero_small) };
+
+    #[inline(always)]
+    fn is_leaf() -> bool {
+        true
+    }
+
+    #[inline(always)]
+    fn shown_leaf(shown: &[u8], steps: u8) -> Option<(u16, usize)> {
+        <u16 as DecodeLeaf>::shown_leaf(shown, steps)
+    }
 }
 
 /// An unsigned integer whose argument has at most two bytes, read as a `u8` is.
@@ -56,6 +77,16 @@ impl<S: Source> Deserialize<S> for u16 {
 
 impl Typed for u32 {
     ghost promise = { exact_promise refl (argument_lawful (codes "u32") 0 4 zero_small) };
+
+    #[inline(always)]
+    fn is_leaf() -> bool {
+        true
+    }
+
+    #[inline(always)]
+    fn shown_leaf(shown: &[u8], steps: u8) -> Option<(u32, usize)> {
+        <u32 as DecodeLeaf>::shown_leaf(shown, steps)
+    }
 }
 
 /// An unsigned integer whose argument has at most four bytes, read as a `u8` is.
@@ -72,6 +103,16 @@ impl<S: Source> Deserialize<S> for u32 {
 
 impl Typed for u64 {
     ghost promise = { exact_promise refl (argument_lawful (codes "u64") 0 8 zero_small) };
+
+    #[inline(always)]
+    fn is_leaf() -> bool {
+        true
+    }
+
+    #[inline(always)]
+    fn shown_leaf(shown: &[u8], steps: u8) -> Option<(u64, usize)> {
+        <u64 as DecodeLeaf>::shown_leaf(shown, steps)
+    }
 }
 
 /// An unsigned integer whose argument has at most eight bytes, read as a `u8` is.
@@ -116,6 +157,16 @@ impl<S: Source> Deserialize<S> for u128 {
 impl Typed for i8 {
     ghost promise = { exact_promise refl
         (signed_lawful (codes "i8") (codes "+i8") (codes "-i8") 1 (2 ^ 7)) };
+
+    #[inline(always)]
+    fn is_leaf() -> bool {
+        true
+    }
+
+    #[inline(always)]
+    fn shown_leaf(shown: &[u8], steps: u8) -> Option<(i8, usize)> {
+        <i8 as DecodeLeaf>::shown_leaf(shown, steps)
+    }
 }
 
 /// An integer of major type 0, or a negative one of major type 1, whose argument has at most one
@@ -144,6 +195,16 @@ impl<S: Source> Deserialize<S> for i8 {
 impl Typed for i16 {
     ghost promise = { exact_promise refl
         (signed_lawful (codes "i16") (codes "+i16") (codes "-i16") 2 (2 ^ 15)) };
+
+    #[inline(always)]
+    fn is_leaf() -> bool {
+        true
+    }
+
+    #[inline(always)]
+    fn shown_leaf(shown: &[u8], steps: u8) -> Option<(i16, usize)> {
+        <i16 as DecodeLeaf>::shown_leaf(shown, steps)
+    }
 }
 
 /// An integer whose argument has at most two bytes and is below 2^15, read as an `i8` is.
@@ -162,6 +223,16 @@ impl<S: Source> Deserialize<S> for i16 {
 impl Typed for i32 {
     ghost promise = { exact_promise refl
         (signed_lawful (codes "i32") (codes "+i32") (codes "-i32") 4 (2 ^ 31)) };
+
+    #[inline(always)]
+    fn is_leaf() -> bool {
+        true
+    }
+
+    #[inline(always)]
+    fn shown_leaf(shown: &[u8], steps: u8) -> Option<(i32, usize)> {
+        <i32 as DecodeLeaf>::shown_leaf(shown, steps)
+    }
 }
 
 /// An integer whose argument has at most four bytes and is below 2^31, read as an `i8` is.
@@ -180,6 +251,16 @@ impl<S: Source> Deserialize<S> for i32 {
 impl Typed for i64 {
     ghost promise = { exact_promise refl
         (signed_lawful (codes "i64") (codes "+i64") (codes "-i64") 8 (2 ^ 63)) };
+
+    #[inline(always)]
+    fn is_leaf() -> bool {
+        true
+    }
+
+    #[inline(always)]
+    fn shown_leaf(shown: &[u8], steps: u8) -> Option<(i64, usize)> {
+        <i64 as DecodeLeaf>::shown_leaf(shown, steps)
+    }
 }
 
 /// An integer whose argument has at most eight bytes and is below 2^63, read as an `i8` is.

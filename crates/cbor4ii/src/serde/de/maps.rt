@@ -43,6 +43,18 @@ impl<S: Source, K: Deserialize<S> + Ord + Drop, V: Deserialize<S> + Drop> Sequen
         two_parts::<S, K, V>(alloc, de)
     }
 
+    #[inline(always)]
+    fn has_leaves() -> bool {
+        K::is_leaf() && V::is_leaf()
+    }
+
+    #[inline(always)]
+    fn shown_part(shown: &[u8], steps: u8) -> Option<((K, V), usize)> {
+        let (key, size) = K::shown_leaf(shown, steps)?;
+        let (value, more) = V::shown_leaf(&shown[size..], steps)?;
+        Some(((key, value), size + more))
+    }
+
     ghost some = { refl };
 
     ghost lawful = { two_lawful K.promise V.promise };

@@ -12,6 +12,26 @@ use std::alloc::Global;
 
 impl<T: Typed> Typed for Option<T> {
     ghost promise = { typed_option T.promise };
+
+    #[inline(always)]
+    fn is_leaf() -> bool {
+        T::is_leaf()
+    }
+
+    #[inline(always)]
+    fn shown_leaf(shown: &[u8], steps: u8) -> Option<(Option<T>, usize)> {
+        let [first, ..] = shown else {
+            return None;
+        };
+        if *first == marker::NULL || *first == marker::UNDEFINED {
+            return Some((None, 1));
+        }
+        if steps == 0 {
+            return None;
+        }
+        let (value, size) = T::shown_leaf(shown, steps - 1)?;
+        Some((Some(value), size))
+    }
 }
 
 /// Null and undefined are none, and take no step. Before any other byte a value is read, under a

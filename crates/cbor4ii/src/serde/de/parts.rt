@@ -1,6 +1,7 @@
 //! What arrays and maps share, read into a vector of their parts.
-ghost use Rattle.std.specs.Prelude.{ℕ, ◌≡◌, ◌<◌, List, Bool, IsTrue, false, IfErr};
+ghost use Rattle.std.specs.Prelude.{ℕ, ◌≡◌, ◌<◌, List, Bool, IsTrue, false, IfErr, IfSome};
 ghost use Rattle.cbor4ii_items.specs.Decoding.{Format, IsLawful, Decodes, DecodesIf};
+ghost use Rattle.cbor4ii_items.specs.ShownLeaf.{IsShownLeaf};
 ghost use Rattle.cbor4ii_items.specs.Lengths.{length_format};
 ghost use Rattle.cbor4ii_items.specs.Reading.{Runs};
 ghost use Rattle.cbor4ii_items.specs.ReadStrings.{break_at};
@@ -11,12 +12,19 @@ ghost use Rattle.cbor4ii.specs.Typed.{input, answer_of, parts_answer, as_core};
 
 use crate::serde::de::deserializer::Deserializer;
 use crate::serde::de::error::DecodeError;
+use crate::serde::de::runs::take_runs;
 use cbor4ii_items::indefinite::is_break;
 use cbor4ii_items::reserve::items_ahead;
 use cbor4ii_rw::error as core_error;
 use cbor4ii_rw::error::StaticStr;
 use cbor4ii_rw::read::Source;
 use std::alloc::Global;
+
+/// Fewer parts are read one by one.
+const MANY: usize = 4;
+
+/// A head or a float has at most so many bytes.
+const LONGEST: usize = 9;
 
 /// A type of arrays or of maps, by its parts.
 pub(crate) trait Sequence<S: Source>: Sized {
@@ -46,6 +54,21 @@ pub(crate) trait Sequence<S: Source>: Sized {
     ) -> Result<Self::Part, DecodeError<S::Error>>
         ensures { DecodesIf Self.exact Self.part
             (input S.view de.old) (input S.view de.new) (answer_of result) };
+
+    /// Whether `shown_part` answers parts, which are then read as many at a time as one look shows.
+    #[inline(always)]
+    fn has_leaves() -> bool {
+        false
+    }
+
+    /// The part that the shown bytes begin with and how many bytes it has, where it stands whole in
+    /// them and takes at most so many steps.
+    #[inline(always)]
+    fn shown_part(shown: &[u8], steps: u8) -> Option<(Self::Part, usize)>
+        ensures { IfSome result (IsShownLeaf part.reads shown.now steps) }
+    {
+        None
+    }
 
     ghost some: { IsTrue part.never_empty };
 
@@ -82,13 +105,31 @@ fn take_inside<S: Source, Q: Sequence<S>>(
         (input S.view de.old) (input S.view de.new) (parts_answer result) }
 {
     match Q::take_length(&mut de.reader) {
-        Ok(Some(count)) => take_definite::<S, Q>(alloc, de, count),
+        Ok(Some(count)) => take_counted::<S, Q>(alloc, de, count),
         Ok(None) => take_indefinite::<S, Q>(alloc, de),
         Err(error) => Err(DecodeError::Core(error)),
     }
 }
 
-/// Reads so many parts. A count alone takes little memory: more is taken as the parts come.
+/// Reads so many parts.
+#[inline(always)]
+fn take_counted<S: Source, Q: Sequence<S>>(
+    alloc: Global,
+    de: &mut Deserializer<S>,
+    count: usize,
+) -> Result<Vec<Q::Part>, DecodeError<S::Error>>
+    ensures { DecodesIf Q.exact (count_of in_list Q.part count)
+        (input S.view de.old) (input S.view de.new) (parts_answer result) }
+{
+    if Q::has_leaves() && count >= MANY && de.reader.window() >= LONGEST {
+        take_runs::<S, Q>(alloc, de, count)
+    } else {
+        take_definite::<S, Q>(alloc, de, count)
+    }
+}
+
+/// Reads so many parts, one by one. A count alone takes little memory: more is taken as the parts
+/// come.
 #[inline(always)]
 fn take_definite<S: Source, Q: Sequence<S>>(
     alloc: Global,

@@ -38,6 +38,16 @@ impl<S: Source, T: Deserialize<S> + Drop> Sequence<S> for Vec<T> {
         T::deserialize(alloc, de)
     }
 
+    #[inline(always)]
+    fn has_leaves() -> bool {
+        T::is_leaf()
+    }
+
+    #[inline(always)]
+    fn shown_part(shown: &[u8], steps: u8) -> Option<(T, usize)> {
+        T::shown_leaf(shown, steps)
+    }
+
     ghost some = { refl };
 
     ghost lawful = { part_lawful T.promise };

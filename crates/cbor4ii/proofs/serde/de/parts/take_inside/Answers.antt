@@ -8,9 +8,9 @@ pub returns-in-Ok-Some : goal.returns-in-Ok-Some
 returns-in-Ok-Some g c =
     let s = g.Q.Sequence.part in
     trailing (count_of in_list s _) (inside_of in_list g.Q.Sequence.name g.Q.Sequence.major s)
-    (parts_answer c.take_definite.result)
+    (parts_answer c.take_counted.result)
     (counts in_list g.Q.Sequence.name g.Q.Sequence.major s g.met.Q.Sequence.small
-    c.in-Ok-Some.field-0-is c.in-Ok-Some.ensures) c.take_definite.ensures
+    c.in-Ok-Some.field-0-is c.in-Ok-Some.ensures) c.take_counted.ensures
 
 pub returns-in-Ok-None : goal.returns-in-Ok-None
 returns-in-Ok-None g c =
