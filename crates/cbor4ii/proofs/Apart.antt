@@ -8,7 +8,9 @@ use Rattle.cbor4ii_items.specs.NeverBoth.{NeverBoth}
 use Rattle.cbor4ii_items.specs.Sequences.{after_step}
 use Rattle.cbor4ii_items.specs.Laws.ContainersApart.{option_apart}
 use Rattle.cbor4ii_items.specs.Laws.SequencesApart.{none_left, fits_after}
-use Rattle.cbor4ii.specs.Optional.{ReadsPresence, RejectsPresence, ReadsNoByte, never_rejects}
+use Rattle.cbor4ii.specs.Optional.{ReadsPresence, RejectsPresence}
+use Rattle.cbor4ii.specs.Elements.{ReadsNone}
+use Rattle.cbor4ii_items.specs.Nothing.{RejectsNothing}
 use Rattle.cbor4ii.specs.Stepped.{Stepped, RejectsStepped}
 use Rattle.cbor4ii.specs.Typed.{rejects_if_known}
 
@@ -41,4 +43,4 @@ present_apart known reads rejects is apart =
 
 pub presence_apart : NeverBoth ReadsPresence RejectsPresence
 presence_apart =
-    absent_apart ReadsNoByte never_rejects (λ xs budget err rest s v n c p fits. s)
+    absent_apart ReadsNone RejectsNothing (λ xs budget err rest s v n c p fits. s)

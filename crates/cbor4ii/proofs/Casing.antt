@@ -8,7 +8,7 @@ use Rattle.cbor4ii_rw.specs.View.{View}
 use Rattle.cbor4ii_rw.specs.declared.error.DecodeError.{DecodeError}
 use Rattle.cbor4ii_items.specs.Decoding.{NoneRead, Decodes, DecodesIf}
 use Rattle.cbor4ii_items.specs.Laws.Answering.{fits_zero}
-use Rattle.cbor4ii_items.specs.Laws.Calls.{ok, ok_after, err_after, of_exact, accepted}
+use Rattle.cbor4ii_items.specs.Laws.Calls.{ok, ok_after, err_after, of_exact, exactly_ok}
 use Rattle.cbor4ii_items.specs.Laws.Calls.{exact_less}
 use Rattle.cbor4ii_items.specs.Laws.Containers.{both}
 use Rattle.cbor4ii_items.specs.Laws.Prefixes.{drop_more}
@@ -251,7 +251,7 @@ module _ {V E : Type 0} (cases : Cases V) {a m : View} where
             fits = fits;
             left = drop_more n p.count xs;
           },
-        )) (λ some. omega (arith, h.progress refl, d.moves.by.bound)) (accepted h))
+        )) (λ some. omega (arith, h.progress refl, d.moves.by.bound)) (exactly_ok h))
     form_then (Err e) h =
         err_after (named_format cases form) (cases_inside cases) d.moves.by (λ xs known.
         let p = d.sound.at xs known in (

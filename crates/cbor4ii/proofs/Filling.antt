@@ -16,8 +16,8 @@ use Rattle.cbor4ii_items.specs.Reading.{Runs}
 use Rattle.cbor4ii_items.specs.ReadStrings.{break_at}
 use Rattle.cbor4ii_items.specs.Strings.{text_content}
 use Rattle.cbor4ii_items.specs.Sequences.{count_of, indefinite_of, in_list}
-use Rattle.cbor4ii_items.specs.Laws.Calls.{ok as decoded_ok, err_after, trailing, Leads, of_exact}
-use Rattle.cbor4ii_items.specs.Laws.Calls.{exact_less, accepted}
+use Rattle.cbor4ii_items.specs.Laws.Calls.{ok as decoded_ok, err_after, part_then, Leads, of_exact}
+use Rattle.cbor4ii_items.specs.Laws.Calls.{exact_less, exactly_ok}
 use Rattle.cbor4ii_items.specs.Laws.Containers.{both}
 use Rattle.cbor4ii_items.specs.Laws.Running.{kept_alike}
 use Rattle.cbor4ii_items.specs.Laws.SequenceParts.{Begun, count_more, count_done, Stands, Opened}
@@ -202,7 +202,7 @@ module _ {V E : Type 0} (f : Fields V) {a m : View} {name : String Global}
       → Alters one_change f.exact (field_pair f) first last a b r
   entry_alters (Ok u) b first last h = record {
     what = h.what;
-    read = accepted (entry_then f.named f.rejects f.begins (SameChange f.same) f.owned d
+    read = exactly_ok (entry_then f.named f.rejects f.begins (SameChange f.same) f.owned d
         (Ok h.what) (of_exact {exact = f.exact} h.read));
     is = h.is;
   }
@@ -281,10 +281,10 @@ module _ {W V U E : Type 0} (makes : W → V → V) (exact : Bool) (before after
       → Alters makes exact whole before after a b r
   alters_after part whole b (Ok u) l h = record {
     what = h.what;
-    read = accepted (trailing part whole (Ok h.what) l (of_exact h.read));
+    read = exactly_ok (part_then part whole (Ok h.what) l (of_exact h.read));
     is = h.is;
   }
-  alters_after part whole b (Err e) l d = trailing part whole (Err e) l d
+  alters_after part whole b (Err e) l d = part_then part whole (Err e) l d
 
   pub alters_under : (s : Format W) (name : List ℕ) {a b c d : View}
       (r : Result U (DecodeError E))
@@ -293,7 +293,7 @@ module _ {W V U E : Type 0} (makes : W → V → V) (exact : Bool) (before after
       → Alters makes exact (stepped_format name s) before after a d r
   alters_under s name (Ok u) takes inward outward gives h = record {
     what = h.what;
-    read = accepted (under_if s {exact = exact} name takes inward outward (Ok h.what) gives
+    read = exactly_ok (under_if s {exact = exact} name takes inward outward (Ok h.what) gives
         (of_exact h.read));
     is = h.is;
   }

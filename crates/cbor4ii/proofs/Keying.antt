@@ -17,7 +17,8 @@ use Rattle.cbor4ii_items.specs.Moves.{Kept}
 use Rattle.cbor4ii_items.specs.Next.{ReadsNext, next_format}
 use Rattle.cbor4ii_items.specs.Numbers.{ReadsI128, RejectsI128, no_i128_byte}
 use Rattle.cbor4ii_items.specs.Laws.Answering.{fits_zero}
-use Rattle.cbor4ii_items.specs.Laws.Calls.{ok_after, err_after, of_exact, decodes_exactly, accepted}
+use Rattle.cbor4ii_items.specs.Laws.Calls.{ok_after, err_after, of_exact, decodes_exactly}
+use Rattle.cbor4ii_items.specs.Laws.Calls.{exactly_ok}
 use Rattle.cbor4ii_items.specs.Laws.Pairs.{less_max_left, less_max_right}
 use Rattle.cbor4ii_items.specs.Laws.Prefixes.{drop_more}
 use Rattle.cbor4ii_items.specs.Laws.Running.{kept_alike}
@@ -223,7 +224,7 @@ module _ {W E : Type 0} (named : List ℕ → Reads W) (rejects begins : Rejects
             fits = fits_max p.cost c a.budget p.fits fits;
             left = drop_more n p.count xs;
           },
-        )) (λ some. omega (arith, d.progress refl, h.moves.by.bound)) (accepted h))
+        )) (λ some. omega (arith, d.progress refl, h.moves.by.bound)) (exactly_ok h))
     keyed_then (Err e) h =
         err_after (named_part named rejects begins same owned (label_of key))
         (keyed_pair named rejects begins same owned) d.moves.by (λ xs known.
@@ -262,7 +263,7 @@ module _ {V E : Type 0} (f : Fields V) {a m : View} where
       → Alters one_change f.exact (keyed_of f) first last a b r
   keyed_alters d (Ok u) b first last h = record {
     what = h.what;
-    read = accepted (keyed_then f.named f.rejects f.begins (SameChange f.same) f.owned d
+    read = exactly_ok (keyed_then f.named f.rejects f.begins (SameChange f.same) f.owned d
         (Ok h.what) (of_exact {exact = f.exact} h.read));
     is = h.is;
   }

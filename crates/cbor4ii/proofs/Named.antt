@@ -7,7 +7,7 @@ use Rattle.cbor4ii_rw.specs.View.{View}
 use Rattle.cbor4ii_rw.specs.declared.error.DecodeError.{DecodeError}
 use Rattle.cbor4ii_items.specs.Decoding.{Reads, NoneRead, Decodes, DecodesIf}
 use Rattle.cbor4ii_items.specs.Strings.{text_content}
-use Rattle.cbor4ii_items.specs.Laws.Calls.{ok_after, err_after, of_exact, accepted}
+use Rattle.cbor4ii_items.specs.Laws.Calls.{ok_after, err_after, of_exact, exactly_ok}
 use Rattle.cbor4ii_items.specs.Laws.Prefixes.{drop_more}
 use Rattle.cbor4ii_items.specs.Laws.Pairs.{less_max_left, less_max_right}
 use Rattle.cbor4ii_items.specs.Laws.Running.{kept_alike}
@@ -73,7 +73,7 @@ module _ {W E : Type 0} (named : List ℕ → Reads W) (rejects begins : Rejects
             fits = fits_max p.cost c a.budget p.fits fits;
             left = drop_more n p.count xs;
           },
-        )) (λ some. omega (arith, d.progress refl, h.moves.by.bound)) (accepted h))
+        )) (λ some. omega (arith, d.progress refl, h.moves.by.bound)) (exactly_ok h))
     entry_then (Err e) h =
         err_after (named_part named rejects begins same owned (text_content name))
         (named_pair named rejects begins same owned) d.moves.by (λ xs known.

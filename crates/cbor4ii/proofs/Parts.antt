@@ -7,7 +7,7 @@ use Rattle.cbor4ii_rw.specs.View.{View}
 use Rattle.cbor4ii_rw.specs.declared.error.DecodeError.{DecodeError as CoreError}
 use Rattle.cbor4ii_items.specs.Decoding.{Format, Decodes, DecodesIf}
 use Rattle.cbor4ii_items.specs.Laws.Answering.{complete_as}
-use Rattle.cbor4ii_items.specs.Laws.Calls.{ok, by_ok, by_err_if, of_exact, accepted}
+use Rattle.cbor4ii_items.specs.Laws.Calls.{ok, by_ok, by_err_if, of_exact, exactly_ok}
 use Rattle.cbor4ii_items.specs.Laws.Steps.{moves_err}
 use Rattle.cbor4ii_items.specs.Sequences.{in_list, in_vector}
 use Rattle.cbor4ii.specs.declared.serde.de.error.DecodeError.{DecodeError}
@@ -20,7 +20,7 @@ pub vector_of : {P E : Type 0} {exact : Bool} (step name : List ℕ) (major : �
     → DecodesIf exact (sequence_of in_list step name major s) a b (parts_answer r)
     → DecodesIf exact (sequence_of in_vector step name major s) a b (answer_of r)
 vector_of step name major s (Ok v) d =
-    of_exact (by_ok in_vector (sequence_of in_list step name major s) refl (accepted d))
+    of_exact (by_ok in_vector (sequence_of in_list step name major s) refl (exactly_ok d))
 vector_of step name major s (Err e) d =
     by_err_if in_vector (sequence_of in_list step name major s) d
 

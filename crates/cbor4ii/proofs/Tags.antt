@@ -8,7 +8,8 @@ use Rattle.cbor4ii_rw.specs.declared.error.DecodeError.TheVariants.{Custom}
 use Rattle.cbor4ii_items.specs.Decoding.{Decodes, DecodesIf}
 use Rattle.cbor4ii_items.specs.Numbers.{ReadsArgument, argument_format}
 use Rattle.cbor4ii_items.specs.Sequences.{pair_format}
-use Rattle.cbor4ii_items.specs.Laws.Calls.{ok, err, err_after, of_exact, decodes_exactly, accepted}
+use Rattle.cbor4ii_items.specs.Laws.Calls.{ok, err, err_after, of_exact, decodes_exactly}
+use Rattle.cbor4ii_items.specs.Laws.Calls.{exactly_ok}
 use Rattle.cbor4ii_items.specs.Laws.Calls.{by_ok, by_err_if}
 use Rattle.cbor4ii_items.specs.Laws.Heads.{head_one}
 use Rattle.cbor4ii_items.specs.Laws.Pairs.{pair_ok, key_err, value_err}
@@ -86,7 +87,7 @@ module _ {V E : Type 0} (number : ℕ) (p : Promise V) {a m : View} where
   tagged_after (Ok v) d t =
       let both = pair_format (tag_head number) (part_of p) in
       of_exact (by_ok after_tag both refl
-      (pair_ok (tag_head number) (part_of p) d (accepted (tell p (Ok v) t))))
+      (pair_ok (tag_head number) (part_of p) d (exactly_ok (tell p (Ok v) t))))
   tagged_after (Err e) d t =
       let both = pair_format (tag_head number) (part_of p) in
       by_err_if after_tag both (value_err (tag_head number) (part_of p)

@@ -4,7 +4,7 @@ use Rattle.std.proofs.Common.{sym, ap, arith}
 use Rattle.cbor4ii_items.specs.Decoding.{Reads}
 use Rattle.cbor4ii_items.specs.Strings.{ReadsText, definite_string}
 use Rattle.cbor4ii_items.specs.Laws.LeavesBack.{text_back}
-use Rattle.cbor4ii_ser.specs.Item.{Encoding, encoded, rejected, followed}
+use Rattle.cbor4ii_ser.specs.Item.{Encoding, encoded, rejected, one_then}
 use Rattle.cbor4ii_ser.specs.Item.{variant_encoding}
 use Rattle.cbor4ii.specs.ReadBack.{IsReadBack, IsName}
 use Rattle.cbor4ii.specs.Variants.{ReadsVariant}
@@ -26,7 +26,7 @@ module _ {V : Type 0} (units : List ℕ → V → Type 0) (contents : List ℕ �
 
   pub variant_back : (content : Encoding) (cost : ℕ) → IsReadBack (contents name) content v cost
       → IsReadBack (ReadsVariant units contents) (variant_encoding name content) v (1 + cost)
-  unfolding followed
+  unfolding one_then
   variant_back (rejected bytes words) cost back = tt
   variant_back (encoded bytes) cost back = λ rest. (
       let text = text_back (λ (text : List ℕ). text) name (omega (arith, is.1)) is.0 in

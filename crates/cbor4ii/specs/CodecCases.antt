@@ -12,7 +12,7 @@ use Rattle.cbor4ii_items.specs.Strings.{definite_string, text_content}
 use Rattle.cbor4ii_items.specs.Laws.Containers.{both}
 use Rattle.cbor4ii_items.specs.Laws.Heads.{additional-lt, shortest_fits}
 use Rattle.cbor4ii_items.specs.Laws.LeavesBack.{text_back}
-use Rattle.cbor4ii_ser.specs.Item.{Encoding, encoded, rejected, followed, variant_encoding}
+use Rattle.cbor4ii_ser.specs.Item.{Encoding, encoded, rejected, one_then, variant_encoding}
 use Rattle.cbor4ii_ser.specs.OneItem.{IsOneItem, canonical}
 use Rattle.cbor4ii_ser.specs.Laws.OneItem.{text_is_item, variant_is_item}
 use Rattle.cbor4ii.specs.declared.serde.de.cases.Choice.{Choice}
@@ -252,7 +252,7 @@ module _ {V : Type 0} (alloc : Global) (cases : Cases V) (name : List ℕ) (v : 
   after_is_back : (content : Encoding) (cost : ℕ)
       → IsReadBack (cases.contents name) content v cost
       → IsReadBack (Stepped (ReadsCase cases)) (variant_encoding name content) v (1 + cost)
-  unfolding followed
+  unfolding one_then
   after_is_back (rejected bytes words) cost back = tt
   after_is_back (encoded bytes) cost back = λ rest.
       let form : Bool × ℕ = (true, 0xa1) in

@@ -5,7 +5,7 @@ use Rattle.std.proofs.Common.{subst, ltb, ltb-true, arith}
 use Rattle.std.specs.List.{AllByRecursion}
 use Rattle.std.specs.declared.alloc.Global.{Global}
 use Rattle.cbor4ii_items.specs.Numbers.{shortest_head}
-use Rattle.cbor4ii_ser.specs.Item.{Encoding, encoded, followed, parts, tuple_encoding}
+use Rattle.cbor4ii_ser.specs.Item.{Encoding, encoded, one_then, parts, tuple_encoding}
 use Rattle.cbor4ii_ser.specs.OneItem.{IsOneItem, canonical}
 use Rattle.cbor4ii_ser.specs.Laws.OneItem.{tuple_is_item}
 use Rattle.cbor4ii.specs.Codec.{Codec, Facts, no_facts, both_facts, Hold, first_hold, others_hold}
@@ -46,7 +46,7 @@ module _ {T V : Type 0} (c : Codec T) (others : ElementCodecs V) where
   pub elements_back : Hold (both_facts c.facts others.facts) → (alloc : Global) (v : T × V)
       → c.stands v.0 × others.stands v.1
       → IsReadBack (element_before c.promise others.elements).format.reads
-      (followed (c.encoding v.0) (parts (others.items v.1))) v (max (c.cost v.0) (others.cost v.1))
+      (one_then (c.encoding v.0) (parts (others.items v.1))) v (max (c.cost v.0) (others.cost v.1))
   elements_back hold alloc v h =
       entry_back c.promise.format.reads others.elements.format.reads (c.encoding v.0)
       (parts (others.items v.1)) v (c.cost v.0) (others.cost v.1)
@@ -77,7 +77,7 @@ module _ {V : Type 0} (p : ElementCodecs V) (few : p.elements.count < 2 ^ 64) wh
       (1 + p.cost v)
   array_is_back hold alloc v h =
       subst (λ n. IsReadBack (typed_elements p.elements).format.reads
-      (followed (encoded (shortest_head 4 n)) (parts (p.items v))) v (1 + p.cost v))
+      (one_then (encoded (shortest_head 4 n)) (parts (p.items v))) v (1 + p.cost v))
       (sym (p.counts v))
       (counted_back p.elements.count p.elements.format.reads (parts (p.items v)) v (p.cost v) few
       (p.back hold alloc v h))

@@ -7,7 +7,7 @@ use Rattle.cbor4ii_items.specs.Numbers.{shortest_head}
 use Rattle.cbor4ii_items.specs.ReadBack.{ReadsBack}
 use Rattle.cbor4ii_items.specs.Sequences.{ReadsPair}
 use Rattle.cbor4ii_items.specs.Laws.NumbersBack.{head_back}
-use Rattle.cbor4ii_ser.specs.Item.{Encoding, encoded, rejected, followed}
+use Rattle.cbor4ii_ser.specs.Item.{Encoding, encoded, rejected, one_then}
 use Rattle.cbor4ii_ser.specs.OneItem.{OneItem, canonical}
 use Rattle.cbor4ii_ser.specs.Tagged.{tagged_encoding, tagged_is_item}
 use Rattle.cbor4ii.specs.Codec.{Codec, no_facts}
@@ -27,7 +27,7 @@ pub tagged_back : {V : Type 0} (reads : Reads V) (number : ℕ) (item : Encoding
     (cost : ℕ) → number < 2 ^ 64 → IsReadBack reads item v cost
     → IsReadBack (λ xs v. ReadsPair (ReadsTagHead number) reads xs (after_tag v))
     (tagged_encoding number item) v cost
-unfolding followed
+unfolding one_then
 tagged_back reads number (rejected bytes words) v cost small back = tt
 tagged_back reads number (encoded bytes) v cost small back =
     subst (ReadsBack (ReadsPair (ReadsTagHead number) reads) (shortest_head 6 number ++ bytes)

@@ -14,7 +14,7 @@ use Rattle.cbor4ii_items.specs.Sequences.{ReadsElements, ReadsSequence, ReadsPai
 use Rattle.cbor4ii_items.specs.Laws.Containers.{both}
 use Rattle.cbor4ii_items.specs.Laws.NumbersBack.{head_back}
 use Rattle.cbor4ii_items.specs.Laws.Signed.{starts}
-use Rattle.cbor4ii_ser.specs.Item.{Encoding, encoded, rejected, followed, parts}
+use Rattle.cbor4ii_ser.specs.Item.{Encoding, encoded, rejected, one_then, parts}
 use Rattle.cbor4ii_ser.specs.Listed.{NamedItems, keyed_pairs, keyed_encoding, before}
 use Rattle.cbor4ii_ser.specs.Listed.{integer_label, integer_item, integer_item_of}
 use Rattle.cbor4ii_ser.specs.OneItem.{IsOneItem, IsOnePair, canonical}
@@ -99,23 +99,23 @@ module _ {V : Type 0} (named : ReadsNamed V) where
 
   integer_entry_back : (key : ℤ) (item : Encoding) (change : V → V) (cost : ℕ)
       → IsWithin (2 ^ 63) key → IsReadBack (named (integer_label key)) item change cost
-      → IsReadBack (ReadsKeyed named) (followed (encoded (integer_item (integer_label key))) item)
+      → IsReadBack (ReadsKeyed named) (one_then (encoded (integer_item (integer_label key))) item)
       change cost
   integer_entry_back key item change cost small back =
       let entry = entry_back ReadsKey (named (integer_label key)) (encoded (signed_head key)) item
       (Some key, change) 0 cost (integer_back key small) back in
-      subst (λ (bytes : List ℕ). IsReadBack (ReadsKeyed named) (followed (encoded bytes) item)
+      subst (λ (bytes : List ℕ). IsReadBack (ReadsKeyed named) (one_then (encoded bytes) item)
       change cost) (sym (integer_item_of key))
-      (subst (λ c. IsReadBack (ReadsKeyed named) (followed (encoded (signed_head key)) item)
+      (subst (λ c. IsReadBack (ReadsKeyed named) (one_then (encoded (signed_head key)) item)
       change c) (no_dearer cost)
-      (as_keyed (Some key) (followed (encoded (signed_head key)) item) change (max 0 cost) entry))
+      (as_keyed (Some key) (one_then (encoded (signed_head key)) item) change (max 0 cost) entry))
 
   key_back : (label : List ℕ) (item : Encoding) (change : V → V) (cost : ℕ) → IsKey label
       → IsReadBack (named label) item change cost
-      → IsReadBack (ReadsKeyed named) (followed (encoded (integer_item label)) item) change cost
+      → IsReadBack (ReadsKeyed named) (one_then (encoded (integer_item label)) item) change cost
   key_back label item change cost is back =
       subst (λ (l : List ℕ). IsReadBack (ReadsKeyed named)
-      (followed (encoded (integer_item l)) item) change cost) (sym is.is)
+      (one_then (encoded (integer_item l)) item) change cost) (sym is.is)
       (integer_entry_back is.key item change cost is.small
       (subst (λ (l : List ℕ). IsReadBack (named l) item change cost) is.is back))
 
@@ -129,7 +129,7 @@ module _ {V : Type 0} (named : ReadsNamed V) where
   keyed_back (p ∷ ps) (change ∷ changes) cost back =
       subst (λ c. IsReadBack (ReadsElements (ReadsKeyed named))
       (parts (keyed_pairs integer_item (p ∷ ps))) (change ∷ changes) c) (sym back.5)
-      (joined_back (ReadsKeyed named) (followed (encoded (integer_item p.0)) p.1)
+      (joined_back (ReadsKeyed named) (one_then (encoded (integer_item p.0)) p.1)
       (parts (keyed_pairs integer_item ps)) change changes back.0 back.1
       (key_back p.0 p.1 change back.0 back.2 back.3) (keyed_back ps changes back.1 back.4))
 
@@ -161,7 +161,7 @@ module _ {V : Type 0} (named : ReadsNamed V) where
       (keyed_back ps back.changes cost back.each) in
       as_values (keyed_encoding integer_item ps) first values back.changes (1 + cost) back.made
       (subst (λ k. IsReadBack (ReadsSequence 5 (ReadsKeyed named) true)
-      (followed (encoded (shortest_head 5 k)) (parts (keyed_pairs integer_item ps)))
+      (one_then (encoded (shortest_head 5 k)) (parts (keyed_pairs integer_item ps)))
       back.changes (1 + cost)) count whole)
 
 keyed_count : (ps : NamedItems) → length (keyed_pairs integer_item ps) ≡ length ps
@@ -208,7 +208,7 @@ no_keys = record {
 }
 
 pub key_is_entry : (key : ℤ) (item : Encoding) → IsTrue (is_small key) → IsOneItem canonical item
-    → IsOnePair canonical (followed (encoded (integer_item (integer_label key))) item)
+    → IsOnePair canonical (one_then (encoded (integer_item (integer_label key))) item)
 key_is_entry (pos n) item h one =
     pair_is_entry canonical (encoded (shortest_head 0 n)) item
     (signed_is_item canonical (pos n) (omega (arith, ltb-true n (2 ^ 63) h))) one

@@ -5,6 +5,7 @@ use Rattle.cbor4ii_items.specs.Decoding.{Reads, RejectsAt, Format, IsLawful, loo
 use Rattle.cbor4ii_items.specs.InputError.{InputError}
 use Rattle.cbor4ii_items.specs.Laws.Containers.{both}
 use Rattle.cbor4ii_items.specs.Laws.Sequences.{pair_lawful}
+use Rattle.cbor4ii_items.specs.Nothing.{RejectsNothing}
 use Rattle.cbor4ii_items.specs.Sequences.{pair_format}
 use Rattle.cbor4ii.specs.Typed.{Promise, not_exact}
 use Rattle.cbor4ii.specs.TypedParts.{part_of, part_lawful, container, tuple_of, tuple_lawful}
@@ -23,11 +24,7 @@ pub record Elements (V : Type 0) : Type 1 where
 abbrev pub ReadsNone : Reads (Unit {0})
 ReadsNone xs v n c = (n ≡ 0) × (c ≡ 0)
 
--- no bytes are rejected
-abbrev pub RejectsNone : RejectsAt
-RejectsNone xs budget err rest = ⊥
-
-pub none_lawful : IsLawful (looking_format ReadsNone RejectsNone)
+pub none_lawful : IsLawful (looking_format ReadsNone RejectsNothing)
 none_lawful = record {
   one = λ xs v w n m c d p q. (p.0 ∙ sym q.0, p.1 ∙ sym q.1, refl);
   within = λ xs v n c p. omega (arith, p.0);
@@ -39,7 +36,7 @@ none_lawful = record {
 abbrev pub no_element : Elements (Unit {0})
 no_element = record {
   count = 0;
-  format = looking_format ReadsNone RejectsNone;
+  format = looking_format ReadsNone RejectsNothing;
   exact = true;
   lawful = λ is. none_lawful;
 }

@@ -5,9 +5,11 @@ use Rattle.cbor4ii_rw.specs.View.{View}
 use Rattle.cbor4ii_rw.specs.Reader.{StepsIn, KeepsAllButBudget}
 use Rattle.cbor4ii_items.specs.Moves.{Kept}
 use Rattle.cbor4ii_items.specs.Decoding.{Reads, RejectsAt, Sound, Format, looking_format}
+use Rattle.cbor4ii_items.specs.Nothing.{RejectsNothing}
 use Rattle.cbor4ii_items.specs.Containers.{BeginsNull, ReadsOption, RejectsOption}
 use Rattle.cbor4ii.specs.declared.serde.de.deserializer.Deserializer.{Deserializer}
 use Rattle.cbor4ii.specs.declared.serde.de.some_accessor.SomeAccessor.{SomeAccessor}
+use Rattle.cbor4ii.specs.Elements.{ReadsNone}
 use Rattle.cbor4ii.specs.Stepped.{Stepped, RejectsStepped}
 
 -- what the reader under an accessor reports
@@ -34,21 +36,13 @@ with_value_from accessor last = record accessor { de = record accessor.de { now 
 abbrev pub steps_of_some : Bool → ℕ
 steps_of_some some = if some then 1 else 0
 
--- nothing is read yet
-abbrev pub ReadsNoByte : Reads (Unit {0})
-ReadsNoByte xs v n c = (n ≡ 0) × (c ≡ 0)
-
 -- null or undefined, or another byte under one step, after which the value is still to be read
 abbrev pub ReadsPresence : Reads (Option (Unit {0}))
-ReadsPresence = ReadsOption (Stepped ReadsNoByte)
-
--- nothing is rejected
-abbrev pub never_rejects : RejectsAt
-never_rejects xs budget err rest = ⊥
+ReadsPresence = ReadsOption (Stepped ReadsNone)
 
 -- whether a value comes is not read: no byte is left, or no step where a value comes
 abbrev pub RejectsPresence : RejectsAt
-RejectsPresence = RejectsOption (RejectsStepped (codes "option") never_rejects)
+RejectsPresence = RejectsOption (RejectsStepped (codes "option") RejectsNothing)
 
 -- whether a value comes: null and undefined are none, and another byte takes a step
 abbrev pub presence_format : Format (Option (Unit {0}))

@@ -7,7 +7,7 @@ use Rattle.cbor4ii_items.specs.Whole.{IsWhole}
 use Rattle.cbor4ii_tree.specs.Calls.PlainRaw.{plain_raw_content, plain_raw_format}
 use Rattle.cbor4ii_tree.specs.declared.plain_raw.PlainRawValue.{PlainRawValue}
 use Rattle.cbor4ii_ser.specs.Item.{Encoding, encoded, rejected, IsEncodedAnd}
-use Rattle.cbor4ii_ser.specs.Item.{followed}
+use Rattle.cbor4ii_ser.specs.Item.{one_then}
 use Rattle.cbor4ii_ser.specs.Serializing.{SaysWhy}
 use Rattle.cbor4ii_ser.specs.declared.error.EncodeError.{EncodeError}
 use Rattle.cbor4ii_ser.specs.declared.error.EncodeError.TheVariants.{Core, Custom}
@@ -64,6 +64,6 @@ is_sealed signed key own item payload plain message signature held bytes is read
 pub not_enveloped : {E : Type 0} (item : Encoding) (key : ℕ) (signature payload : List ℕ)
     (why : EncodeError E) → SaysWhy (envelope_encoding key signature payload) why
     → SaysWhy item why
-unfolding followed
+unfolding one_then
 not_enveloped item key signature payload (Core error) h = tt
 not_enveloped item key signature payload (Custom text) h = absurd h

@@ -20,7 +20,7 @@ use Rattle.cbor4ii_tree.specs.Basis.Item.{text, item_pair_count, size, size_all,
 use Rattle.cbor4ii_tree.specs.Basis.View.{view, items_view, pairs_view}
 use Rattle.cbor4ii_tree.specs.Basis.Canonical.{canonical_encoding}
 use Rattle.cbor4ii_tree.specs.declared.value.Value.{Value, Map, the_lemmas}
-use Rattle.cbor4ii_examples.specs.Sorted.{key_below, with_pair, in_order, sorted, sorted_items}
+use Rattle.cbor4ii_examples.specs.Sorted.{key_below, with_pair, in_order, sort_of, sorted_items}
 use Rattle.cbor4ii_examples.specs.Sorted.{sorted_pairs, SameUpToOrder, SameItems, SamePairs}
 use Rattle.cbor4ii_examples.specs.Sorted.{EachMap, EachMapOfPairs, KeysAscend}
 use Rattle.cbor4ii_examples.proofs.{Sorting.key_order, StableSort.{put, put_all, stable_sort}}
@@ -48,7 +48,7 @@ sizes-at (m ∷ ms) (suc i) d lt = omega (arith, sizes-at ms i d (omega arith))
 -- ---- one value more is sorted: y stands at the place of x
 
 items-push : (vs ws : List Value) (v w : Value) → items_view vs ≡ sorted_items (items_view ws)
-    → view v ≡ sorted (view w)
+    → view v ≡ sort_of (view w)
     → items_view (vs ++ v ∷ []) ≡ sorted_items (items_view (ws ++ w ∷ []))
 items-push [] [] v w h e = ap (λ x. item x no_items) e
 items-push [] (x ∷ ws) v w h e = cc
@@ -56,8 +56,8 @@ items-push (x ∷ vs) [] v w h e = cc
 items-push (x ∷ vs) (y ∷ ws) v w h e = cc (items-push vs ws v w (cc) e)
 
 pairs-push : (ms ns : List (Value × Value)) (m n : Value × Value)
-    → pairs_view ms ≡ sorted_pairs (pairs_view ns) → view m.0 ≡ sorted (view n.0)
-    → view m.1 ≡ sorted (view n.1)
+    → pairs_view ms ≡ sorted_pairs (pairs_view ns) → view m.0 ≡ sort_of (view n.0)
+    → view m.1 ≡ sort_of (view n.1)
     → pairs_view (ms ++ m ∷ []) ≡ sorted_pairs (pairs_view (ns ++ n ∷ []))
 pairs-push [] [] m n h e f = cc
 pairs-push [] (x ∷ ns) m n h e f = cc
@@ -66,21 +66,21 @@ pairs-push (x ∷ ms) (y ∷ ns) m n h e f = cc (pairs-push ms ns m n (cc) e f)
 
 pub items_more : (xs zs : List Value) (i : ℕ) (x y : Value) → i < length xs → i < length zs
     → get_or xs i x ≡ get_or zs i x → items_view (take i xs) ≡ sorted_items (items_view (take i zs))
-    → view y ≡ sorted (view (get_or xs i x)) → items_view (take (i + 1) (set xs i y))
+    → view y ≡ sort_of (view (get_or xs i x)) → items_view (take (i + 1) (set xs i y))
     ≡ sorted_items (items_view (take (i + 1) zs))
 items_more xs zs i x y in_xs in_zs same h e =
     rw (take_more_set xs i y in_xs, take_more zs i x in_zs) (items-push (take i xs) (take i zs) y
-    (get_or zs i x) h (e ∙ ap (λ v. sorted (view v)) same))
+    (get_or zs i x) h (e ∙ ap (λ v. sort_of (view v)) same))
 
 pub pairs_more : (xs zs : List (Value × Value)) (i : ℕ) (x y : Value × Value) → i < length xs
     → i < length zs → get_or xs i x ≡ get_or zs i x
     → pairs_view (take i xs) ≡ sorted_pairs (pairs_view (take i zs))
-    → view y.0 ≡ sorted (view (get_or xs i x).0) → view y.1 ≡ sorted (view (get_or xs i x).1)
+    → view y.0 ≡ sort_of (view (get_or xs i x).0) → view y.1 ≡ sort_of (view (get_or xs i x).1)
     → pairs_view (take (i + 1) (set xs i y)) ≡ sorted_pairs (pairs_view (take (i + 1) zs))
 pairs_more xs zs i x y in_xs in_zs same h e f =
     rw (take_more_set xs i y in_xs, take_more zs i x in_zs) (pairs-push (take i xs) (take i zs) y
-    (get_or zs i x) h (e ∙ ap (λ (m : Value × Value). sorted (view m.0)) same) (f ∙ ap
-    (λ (m : Value × Value). sorted (view m.1)) same))
+    (get_or zs i x) h (e ∙ ap (λ (m : Value × Value). sort_of (view m.0)) same) (f ∙ ap
+    (λ (m : Value × Value). sort_of (view m.1)) same))
 
 -- ---- the same up to the order
 

@@ -11,7 +11,7 @@ use Rattle.cbor4ii_tree.specs.Basis.Item.{ItemPairs}
 use Rattle.cbor4ii_tree.specs.Basis.Item.{no_item_pairs, item_pair, null, boolean, integer, float}
 use Rattle.cbor4ii_tree.specs.Basis.Item.{bytes_item}
 use Rattle.cbor4ii_tree.specs.Basis.Item.{text}
-use Rattle.cbor4ii_examples.specs.Sorted.{key_below, with_pair, in_order, sorted, sorted_items}
+use Rattle.cbor4ii_examples.specs.Sorted.{key_below, with_pair, in_order, sort_of, sorted_items}
 use Rattle.cbor4ii_examples.specs.Sorted.{sorted_pairs, EachMap, EachMapOfItems, EachMapOfPairs}
 use Rattle.cbor4ii_examples.specs.Sorted.{IsNotAboveFirst, KeysInOrder, IsBelowFirst, KeysAscend}
 use Rattle.cbor4ii_examples.specs.Sorted.{with_pair_at, SameUpToOrder, SameItems, SamePairs}
@@ -80,7 +80,7 @@ module _ (P : ItemPairs → Type 0) where
       each_put k v (in_order ms) h.0 h.1 (each_in_order ms h.2)
 
 mutual
-  pub sorted_is_in_order : (v : Item) → EachMap KeysInOrder (sorted v)
+  pub sorted_is_in_order : (v : Item) → EachMap KeysInOrder (sort_of v)
   sorted_is_in_order null = tt
   sorted_is_in_order (boolean b) = tt
   sorted_is_in_order (integer z) = tt
@@ -118,7 +118,7 @@ placed k v (item_pair l w ms) = by (key_below l k) (placed k v ms)
     by false more = (zero, refl)
 
 mutual
-  pub sorted_is_same : (v : Item) → SameUpToOrder v (sorted v)
+  pub sorted_is_same : (v : Item) → SameUpToOrder v (sort_of v)
   sorted_is_same null = refl
   sorted_is_same (boolean b) = refl
   sorted_is_same (integer z) = refl
@@ -136,10 +136,10 @@ mutual
   pub pairs_are_same : (ms : ItemPairs) → SamePairs ms (in_order (sorted_pairs ms))
   pairs_are_same no_item_pairs = refl
   pairs_are_same (item_pair k v ms) =
-      let put = placed (sorted k) (sorted v) (in_order (sorted_pairs ms)) in (
+      let put = placed (sort_of k) (sort_of v) (in_order (sorted_pairs ms)) in (
         put.0,
-        sorted k,
-        sorted v,
+        sort_of k,
+        sort_of v,
         in_order (sorted_pairs ms),
         put.1,
         sorted_is_same k,
@@ -283,36 +283,37 @@ put_at (suc i) l w (item_pair k v ms) h =
     ap (with_pair k v) (put_at i l w ms back.1) ∙ puts_commute l w k v (in_order ms) back.0
 
 sorted_at : (place : ℕ) (l w : Item) (ms : ItemPairs) → sorted_pairs (with_pair_at place l w ms)
-    ≡ with_pair_at place (sorted l) (sorted w) (sorted_pairs ms)
+    ≡ with_pair_at place (sort_of l) (sort_of w) (sorted_pairs ms)
 sorted_at zero l w ms = refl
 sorted_at (suc i) l w no_item_pairs = refl
-sorted_at (suc i) l w (item_pair k v ms) = ap (item_pair (sorted k) (sorted v)) (sorted_at i l w ms)
+sorted_at (suc i) l w (item_pair k v ms) = ap (item_pair (sort_of k) (sort_of v))
+    (sorted_at i l w ms)
 
 -- a pair more on both sides
 one_pair_more : (k v : Item) (ms ns : ItemPairs) (place : ℕ) (l w : Item) (others : ItemPairs)
-    → with_pair_at place l w others ≡ ns → sorted k ≡ sorted l → sorted v ≡ sorted w
+    → with_pair_at place l w others ≡ ns → sort_of k ≡ sort_of l → sort_of v ≡ sort_of w
     → in_order (sorted_pairs ms) ≡ in_order (sorted_pairs others)
-    → Differs (sorted k) (in_order (sorted_pairs ms))
+    → Differs (sort_of k) (in_order (sorted_pairs ms))
     → in_order (sorted_pairs (item_pair k v ms)) ≡ in_order (sorted_pairs ns)
 one_pair_more k v ms ns place l w others is key value rest differ =
-    let unlike : Differs (sorted l) (in_order (sorted_pairs others)) =
+    let unlike : Differs (sort_of l) (in_order (sorted_pairs others)) =
     subst (λ i. Differs i (in_order (sorted_pairs others))) key
-    (subst (Differs (sorted k)) rest differ) in
+    (subst (Differs (sort_of k)) rest differ) in
     let at : in_order (sorted_pairs ns)
-    ≡ with_pair (sorted l) (sorted w) (in_order (sorted_pairs others)) =
+    ≡ with_pair (sort_of l) (sort_of w) (in_order (sorted_pairs others)) =
     sym (ap (λ os. in_order (sorted_pairs os)) is) ∙ ap in_order (sorted_at place l w others)
-    ∙ put_at place (sorted l) (sorted w) (sorted_pairs others) unlike in
-    ap (λ i. with_pair i (sorted v) (in_order (sorted_pairs ms))) key
-    ∙ ap₂ (with_pair (sorted l)) value rest ∙ sym at
+    ∙ put_at place (sort_of l) (sort_of w) (sorted_pairs others) unlike in
+    ap (λ i. with_pair i (sort_of v) (in_order (sorted_pairs ms))) key
+    ∙ ap₂ (with_pair (sort_of l)) value rest ∙ sym at
 
 mutual
-  pub one_for_all : (v w : Item) → SameUpToOrder v w → EachMap KeysAscend (sorted v)
-      → sorted v ≡ sorted w
+  pub one_for_all : (v w : Item) → SameUpToOrder v w → EachMap KeysAscend (sort_of v)
+      → sort_of v ≡ sort_of w
   one_for_all (sequence vs) (sequence ws) s u = ap sequence (one_for_items vs ws s u)
   one_for_all (mapping ms) (mapping ns) s u =
       ap mapping (one_for_pairs ms ns s (ascending_differ (in_order (sorted_pairs ms)) u.0) u.1)
   one_for_all (tag m v) (tag n w) s u = ap₂ tag s.0 (one_for_all v w s.1 u)
-  one_for_all v w s u = ap sorted s
+  one_for_all v w s u = ap sort_of s
 
   one_for_items : (vs ws : Items) → SameItems vs ws → EachMapOfItems KeysAscend (sorted_items vs)
       → sorted_items vs ≡ sorted_items ws
@@ -325,8 +326,8 @@ mutual
       → in_order (sorted_pairs ms) ≡ in_order (sorted_pairs ns)
   one_for_pairs no_item_pairs ns s d u = ap (λ ms. in_order (sorted_pairs ms)) s
   one_for_pairs (item_pair k v ms) ns s d u =
-      let back = each_put_back KeysAscend (sorted k) (sorted v) (in_order (sorted_pairs ms)) u in
-      let differ = differ_put_back (sorted k) (sorted v) (in_order (sorted_pairs ms)) d in
+      let back = each_put_back KeysAscend (sort_of k) (sort_of v) (in_order (sorted_pairs ms)) u in
+      let differ = differ_put_back (sort_of k) (sort_of v) (in_order (sorted_pairs ms)) d in
       one_pair_more k v ms ns s.0 s.1 s.2 s.3 s.4 (one_for_all k s.1 s.5 back.0)
       (one_for_all v s.2 s.6 back.1) (one_for_pairs ms s.3 s.7 differ.1 back.2) differ.0
 
@@ -341,7 +342,7 @@ kept (item_pair k v ms) u = ap (with_pair k v) (kept ms u.1) ∙ first ms u.0
     first (item_pair l w ms) h = put_here k v l w ms (key_order.one_way k l h)
 
 mutual
-  pub in_order_is_sorted : (v : Item) → EachMap KeysAscend v → sorted v ≡ v
+  pub in_order_is_sorted : (v : Item) → EachMap KeysAscend v → sort_of v ≡ v
   in_order_is_sorted null u = refl
   in_order_is_sorted (boolean b) u = refl
   in_order_is_sorted (integer z) u = refl

@@ -31,7 +31,7 @@ use Rattle.cbor4ii_examples.specs.Station.{station_format}
 use Rattle.cbor4ii_examples.specs.Station.{ReadsStation, RejectsOpening, RejectsEnd}
 use Rattle.cbor4ii_examples.specs.Station.{RejectsAfterNumber}
 use Rattle.cbor4ii_examples.specs.Station.{RejectsAfterOpening, RejectsStation}
-use Rattle.cbor4ii_examples.specs.StationLaws.{opening_one, carried}
+use Rattle.cbor4ii_examples.specs.StationLaws.{opening_one, opening_carries}
 use Rattle.cbor4ii_examples.proofs.After.{sound_as, rejects_as, then_sound, first_complete}
 use Rattle.cbor4ii_examples.proofs.After.{second_complete, first_stopped, second_stopped}
 
@@ -276,7 +276,8 @@ module _ {E : Type 0} {e : DecodeError E} {a i : View} (indefinite : Bool) (open
     (opening : Sound ReadsOpening a i indefinite) where
   after_opening : Complete (ReadsAfterOpening indefinite) i e → Complete ReadsStation a e
   after_opening r =
-      as_station (second_complete ReadsOpening ReadsAfterOpening (λ v w. v ≡ w) carried opening_one
+      as_station (second_complete ReadsOpening ReadsAfterOpening
+      (λ v w. v ≡ w) opening_carries opening_one
       opened opening r)
 
   pub no_id : Complete (ReadsUnsigned 8) i e → Complete ReadsStation a e

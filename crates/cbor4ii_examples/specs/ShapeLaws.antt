@@ -30,10 +30,10 @@ figure_read (framed width inner) h =
 abbrev FigureIsWritten : Encoding → Figure → Type 0
 FigureIsWritten encoding f = IsFigure f → IsWrittenAs encoding (figure_item f)
 
-abbrev IsWritten : Shape → Type 0
-IsWritten s = FigureIsWritten (shape_item s) (figure s)
+abbrev IsShapeWritten : Shape → Type 0
+IsShapeWritten s = FigureIsWritten (shape_item s) (figure s)
 
-module _ {E : Type 0} (f : E → Shape) (written : (e : E) → IsWritten (f e)) where
+module _ {E : Type 0} (f : E → Shape) (written : (e : E) → IsShapeWritten (f e)) where
   one_written : (y : Shape-F E) → FigureIsWritten
       (shape_step (map-Shape Shape Encoding shape_item (map-Shape E Shape f y)))
       (figure_step (map-Shape Shape Figure figure (map-Shape E Shape f y)))
@@ -47,7 +47,7 @@ module _ {E : Type 0} (f : E → Shape) (written : (e : E) → IsWritten (f e)) 
       (field_before (codes "width") refl (unsigned_as width (omega (arith, h.0)))
       (field_before (codes "inner") refl (written inner.value h.1) no_entries)) (omega arith))
 
-  rolled_written : (y : Shape-F E) → IsWritten (roll-Shape (map-Shape E Shape f y))
+  rolled_written : (y : Shape-F E) → IsShapeWritten (roll-Shape (map-Shape E Shape f y))
   rolled_written y =
       let x = map-Shape E Shape f y in
       subst (λ (e : Encoding). FigureIsWritten e (figure (roll-Shape x)))
@@ -55,9 +55,9 @@ module _ {E : Type 0} (f : E → Shape) (written : (e : E) → IsWritten (f e)) 
       (subst (λ g. FigureIsWritten (shape_step (map-Shape Shape Encoding shape_item x)) g)
       (sym (fold-roll-Shape Figure figure_step x)) (one_written y))
 
-shape_written : (s : Shape) → IsWritten s
-shape_written = ind-Shape IsWritten (λ x y is.
-    subst (λ z. IsWritten (roll-Shape z)) is (rolled_written (λ e. e.0) (λ e. e.1) y))
+shape_written : (s : Shape) → IsShapeWritten s
+shape_written = ind-Shape IsShapeWritten (λ x y is.
+    subst (λ z. IsShapeWritten (roll-Shape z)) is (rolled_written (λ e. e.0) (λ e. e.1) y))
 
 -- a shape is read back
 pub shape_back : IsShownBack figure_at figure shape_item figure_item IsFigure

@@ -32,25 +32,25 @@ in_order (item_pair k v ms) = with_pair k v (in_order ms)
 
 -- the value with the pairs of each map in order, at every depth, from the inside out
 abbrev mutual
-  pub sorted : Item → Item
-  sorted null = null
-  sorted (boolean b) = boolean b
-  sorted (integer z) = integer z
-  sorted (float p n) = float p n
-  sorted (bytes_item bs) = bytes_item bs
-  sorted (text bs) = text bs
-  sorted (sequence vs) = sequence (sorted_items vs)
-  sorted (mapping ms) = mapping (in_order (sorted_pairs ms))
-  sorted (tag n v) = tag n (sorted v)
+  pub sort_of : Item → Item
+  sort_of null = null
+  sort_of (boolean b) = boolean b
+  sort_of (integer z) = integer z
+  sort_of (float p n) = float p n
+  sort_of (bytes_item bs) = bytes_item bs
+  sort_of (text bs) = text bs
+  sort_of (sequence vs) = sequence (sorted_items vs)
+  sort_of (mapping ms) = mapping (in_order (sorted_pairs ms))
+  sort_of (tag n v) = tag n (sort_of v)
 
   pub sorted_items : Items → Items
   sorted_items no_items = no_items
-  sorted_items (item v vs) = item (sorted v) (sorted_items vs)
+  sorted_items (item v vs) = item (sort_of v) (sorted_items vs)
 
   -- what stands in the pairs is sorted, and the pairs stay where they are
   pub sorted_pairs : ItemPairs → ItemPairs
   sorted_pairs no_item_pairs = no_item_pairs
-  sorted_pairs (item_pair k v ms) = item_pair (sorted k) (sorted v) (sorted_pairs ms)
+  sorted_pairs (item_pair k v ms) = item_pair (sort_of k) (sort_of v) (sorted_pairs ms)
 
 -- ---- values that are in order
 
@@ -129,5 +129,5 @@ HasManyPairs ms = 20 < item_pair_count ms
 -- Memory is refused for sorting a long map, or for writing a value with no equal keys.
 -- The sorted encoding is refused: two keys of a map are equal, or memory was refused.
 abbrev pub IsRefused : SortedError → Item → Type 0
-IsRefused EqualKeys v = EachMap KeysAscend (sorted v) → ⊥
-IsRefused NoMemory v = HasMapWith HasManyPairs v ⊎ EachMap KeysAscend (sorted v)
+IsRefused EqualKeys v = EachMap KeysAscend (sort_of v) → ⊥
+IsRefused NoMemory v = HasMapWith HasManyPairs v ⊎ EachMap KeysAscend (sort_of v)

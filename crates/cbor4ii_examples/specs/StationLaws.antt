@@ -99,8 +99,8 @@ numbered_alone indefinite =
     (argument_within 0 8 zero_small) (argument_alone 0 8) (named_alone indefinite)
 
 -- what is read after an opening is read after the same opening
-pub carried : Carries (λ a b. a ≡ b) ReadsAfterOpening
-carried a b xs v n c e h = subst (λ indefinite. ReadsAfterOpening indefinite xs v n c) e h
+pub opening_carries : Carries (λ a b. a ≡ b) ReadsAfterOpening
+opening_carries a b xs v n c e h = subst (λ indefinite. ReadsAfterOpening indefinite xs v n c) e h
 
 -- ---- a station
 
@@ -109,7 +109,7 @@ parts indefinite v = (indefinite, (v.id, (v.name, tt)))
 
 pub station_one : InOneWay ReadsStation SameStation
 station_one xs v w n m c d p q =
-    let whole = then_one ReadsOpening ReadsAfterOpening (λ a b. a ≡ b) SameNumbered carried
+    let whole = then_one ReadsOpening ReadsAfterOpening (λ a b. a ≡ b) SameNumbered opening_carries
     opening_one numbered_one in
     let r = whole xs (parts p.0 v) (parts q.0 w) n m c d p.1 q.1 in
     (r.0, r.1, (r.2.1.0, r.2.1.1.0))

@@ -44,14 +44,14 @@ mutual
 abbrev NodeIsWritten : Encoding → Node → Type 0
 NodeIsWritten encoding n = IsNode n → IsWrittenAs encoding (node_item n)
 
-abbrev IsWritten : Tree → Type 0
-IsWritten t = NodeIsWritten (tree_item t) (tree_node t)
+abbrev IsTreeWritten : Tree → Type 0
+IsTreeWritten t = NodeIsWritten (tree_item t) (tree_node t)
 
 abbrev AreWritten : List Tree → Type 0
 AreWritten ts = AreNodes (nodes_of (map tree_node ts))
     → AreWrittenAs (map tree_item ts) (nodes_items (nodes_of (map tree_node ts)))
 
-children_written : (ts : List ((t : Tree) × IsWritten t)) → AreWritten (map (λ e. e.0) ts)
+children_written : (ts : List ((t : Tree) × IsTreeWritten t)) → AreWritten (map (λ e. e.0) ts)
 children_written [] h = no_parts
 children_written (e ∷ ts) h = part_before (e.1 h.0) (children_written ts h.1)
 
@@ -64,7 +64,7 @@ module _ (x : Tree-F Tree) (below : AreWritten x.children.items) where
       (field_before (codes "children") refl (vector_as tree_item x.children (below h.1))
       no_entries))) (omega arith)
 
-  rolled_written : IsWritten (roll-Tree x)
+  rolled_written : IsTreeWritten (roll-Tree x)
   rolled_written =
       subst (λ (e : Encoding). NodeIsWritten e (tree_node (roll-Tree x)))
       (sym (fold-roll-Tree Encoding tree_step x))
@@ -72,8 +72,8 @@ module _ (x : Tree-F Tree) (below : AreWritten x.children.items) where
       (sym (fold-roll-Tree Node node_step x)) layer_written)
 
 -- y is x with a proof beside each node below it
-tree_written : (t : Tree) → IsWritten t
-tree_written = ind-Tree IsWritten (λ x y is.
+tree_written : (t : Tree) → IsTreeWritten t
+tree_written = ind-Tree IsTreeWritten (λ x y is.
     rolled_written x
     (subst (λ z. AreWritten z.children.items) is (children_written y.children.items)))
 

@@ -8,7 +8,7 @@ ghost use Rattle.cbor4ii_tree.specs.Calls.Access.{HasMapWith, SomeHasMapWith, Pa
 ghost use Rattle.cbor4ii_tree.specs.Basis.Canonical.{canonical_encoding};
 ghost use Rattle.cbor4ii_tree.specs.Basis.Item.{Item};
 ghost use Rattle.cbor4ii_tree.specs.Basis.View.{view, items_view, pairs_view};
-ghost use Rattle.cbor4ii_examples.specs.Sorted.{sorted, sorted_items, sorted_pairs, in_order};
+ghost use Rattle.cbor4ii_examples.specs.Sorted.{sort_of, sorted_items, sorted_pairs, in_order};
 ghost use Rattle.cbor4ii_examples.specs.Sorted.{EachMap, EachMapOfItems, EachMapOfPairs};
 ghost use Rattle.cbor4ii_examples.specs.Sorted.{KeysInOrder, KeysAscend, HasManyPairs};
 ghost use Rattle.cbor4ii_examples.specs.Sorted.{SameUpToOrder, SameItems, SamePairs, IsRefused};
@@ -29,7 +29,7 @@ use std::alloc::{AllocError, Global};
 ///
 /// `NoMemory`: that memory was refused. The value is then sorted in part.
 pub fn sort(value: &mut Value) -> Result<(), NoMemory>
-    ensures sorted { OnOk result (view value.new ≡ sorted (view value.old)) }
+    ensures sort_of { OnOk result (view value.new ≡ sort_of (view value.old)) }
     ensures order { OnOk result (EachMap KeysInOrder (view value.new)) }
     ensures same { SameUpToOrder (view value.old) (view value.new) }
     ensures memory { OnErr result (HasMapWith HasManyPairs (view value.old)) }
@@ -39,7 +39,7 @@ pub fn sort(value: &mut Value) -> Result<(), NoMemory>
 
 #[cycle(sorting)]
 fn sort_value(value: &mut Value) -> Result<(), AllocError>
-    ensures sorted { OnOk result (view value.new ≡ sorted (view value.old)) }
+    ensures sort_of { OnOk result (view value.new ≡ sort_of (view value.old)) }
     ensures same { SameUpToOrder (view value.old) (view value.new) }
     ensures memory { OnErr result (HasMapWith HasManyPairs (view value.old)) }
 {
@@ -53,7 +53,7 @@ fn sort_value(value: &mut Value) -> Result<(), AllocError>
 
 #[cycle(sorting)]
 fn sort_items(items: &mut [Value]) -> Result<(), AllocError>
-    ensures sorted { OnOk result (items_view items.new ≡ sorted_items (items_view items.old)) }
+    ensures sort_of { OnOk result (items_view items.new ≡ sorted_items (items_view items.old)) }
     ensures same { SameItems (items_view items.old) (items_view items.new) }
     ensures memory { OnErr result (SomeHasMapWith HasManyPairs (items_view items.old)) }
 {
@@ -66,7 +66,7 @@ fn sort_items(items: &mut [Value]) -> Result<(), AllocError>
 /// Sorts what stands in the pairs, and then the pairs by their keys.
 #[cycle(sorting)]
 fn sort_map(pairs: &mut Vec<(Value, Value)>) -> Result<(), AllocError>
-    ensures sorted { OnOk result (pairs_view pairs.new.items
+    ensures sort_of { OnOk result (pairs_view pairs.new.items
         ≡ in_order (sorted_pairs (pairs_view pairs.old.items))) }
     ensures same { SamePairs (pairs_view pairs.old.items) (pairs_view pairs.new.items) }
     ensures memory { OnErr result (HasManyPairs (pairs_view pairs.old.items)
@@ -79,7 +79,7 @@ fn sort_map(pairs: &mut Vec<(Value, Value)>) -> Result<(), AllocError>
 
 #[cycle(sorting)]
 fn sort_pairs(pairs: &mut [(Value, Value)]) -> Result<(), AllocError>
-    ensures sorted { OnOk result (pairs_view pairs.new
+    ensures sort_of { OnOk result (pairs_view pairs.new
         ≡ sorted_pairs (pairs_view pairs.old)) }
     ensures same { SamePairs (pairs_view pairs.old) (pairs_view pairs.new) }
     ensures memory { OnErr result (PairHasMapWith HasManyPairs (pairs_view pairs.old)) }
@@ -92,8 +92,8 @@ fn sort_pairs(pairs: &mut [(Value, Value)]) -> Result<(), AllocError>
 
 #[cycle(sorting)]
 fn sort_pair(pair: &mut (Value, Value)) -> Result<(), AllocError>
-    ensures key { OnOk result (view pair.new.0 ≡ sorted (view pair.old.0)) }
-    ensures value { OnOk result (view pair.new.1 ≡ sorted (view pair.old.1)) }
+    ensures key { OnOk result (view pair.new.0 ≡ sort_of (view pair.old.0)) }
+    ensures value { OnOk result (view pair.new.1 ≡ sort_of (view pair.old.1)) }
     ensures same_key { SameUpToOrder (view pair.old.0) (view pair.new.0) }
     ensures same_value { SameUpToOrder (view pair.old.1) (view pair.new.1) }
     ensures memory { OnErr result (HasMapWith HasManyPairs (view pair.old.0)
@@ -166,8 +166,8 @@ pub enum SortedError {
 /// - `NoMemory`: memory was refused. The value may be sorted in part then
 pub fn sorted_encoding(alloc: Global, value: &mut Value) -> Result<Vec<u8>, SortedError>
     ensures encodes { IfOk result (λ bytes.
-        bytes.items ≡ canonical_encoding (sorted (view value.old))) }
-    ensures ascends { OnOk result (EachMap KeysAscend (sorted (view value.old))) }
+        bytes.items ≡ canonical_encoding (sort_of (view value.old))) }
+    ensures ascends { OnOk result (EachMap KeysAscend (sort_of (view value.old))) }
     ensures refuses { IfErr result (λ error. IsRefused error (view value.old)) }
     ensures same { SameUpToOrder (view value.old) (view value.new) }
 {
@@ -187,9 +187,9 @@ pub fn sorted_encoding(alloc: Global, value: &mut Value) -> Result<Vec<u8>, Sort
 /// Values that are equal up to the order of pairs have one encoding when they are sorted, where no
 /// two keys of a map are equal then. Sorting leaves a value in which each key is below the next.
 pub fn sorted_encodings_are_equal()
-    ensures one { (v w : Item) → SameUpToOrder v w → EachMap KeysAscend (sorted v) →
-        canonical_encoding (sorted v) ≡ canonical_encoding (sorted w) }
-    ensures stays { (v : Item) → EachMap KeysAscend v → sorted v ≡ v }
+    ensures one { (v w : Item) → SameUpToOrder v w → EachMap KeysAscend (sort_of v) →
+        canonical_encoding (sort_of v) ≡ canonical_encoding (sort_of w) }
+    ensures stays { (v : Item) → EachMap KeysAscend v → sort_of v ≡ v }
 {}
 
 /// To be equal up to the order of pairs is an equivalence.

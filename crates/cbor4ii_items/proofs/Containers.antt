@@ -13,7 +13,7 @@ use Rattle.cbor4ii_items.specs.Laws.Calls.{IsRejected, err_of, ok_after, err_aft
 use Rattle.cbor4ii_items.specs.Laws.Calls.{decodes_exactly}
 use Rattle.cbor4ii_items.specs.Laws.Containers.{option_format, not_null, no_option}
 use Rattle.cbor4ii_items.specs.Laws.Outcome.{same_input_error}
-use Rattle.cbor4ii_items.specs.Laws.Running.{peeked, kept_alike}
+use Rattle.cbor4ii_items.specs.Laws.Running.{peek_byte, kept_alike}
 use Rattle.cbor4ii_items.specs.declared.types.Tag.{Tag}
 use Rattle.cbor4ii_items.specs.Heads.{ReadsHead}
 use Rattle.cbor4ii_items.specs.Numbers.{argument_format}
@@ -39,7 +39,7 @@ pub saw : {E : Type 0} (name : List ℕ) (expect b : ℕ) {a m : View}
 saw name expect b p = record {
   first = λ xs known.
       let h = p.answers xs known in
-      let q = peeked name expect b xs h.0 h.2 in
+      let q = peek_byte name expect b xs h.0 h.2 in
       let f = first_of b q.0 xs q.1 in
       (h.1 ∙ ap Some q.2, f.0, f.1);
   budget = p.moves.by.budget;

@@ -15,7 +15,7 @@ use Rattle.cbor4ii_items.specs.Reading.{peek_at, Runs}
 use Rattle.cbor4ii_items.specs.InputError.{InputError, eof, is_out_of_memory}
 use Rattle.cbor4ii_items.specs.Strings.{ReadsBreak, break_format}
 use Rattle.cbor4ii_items.specs.Laws.Answering.{fits_zero, complete_as, complete_by, rejects_by}
-use Rattle.cbor4ii_items.specs.Laws.Running.{peeked, kept_alike}
+use Rattle.cbor4ii_items.specs.Laws.Running.{peek_byte, kept_alike}
 
 -- ---- the next byte
 
@@ -39,7 +39,7 @@ module _ {E : Type 0} (name : List ℕ) {a b : View} where
   next_sound (Ok v) p = record {
     at = λ xs known.
         let h = p.answers xs known in
-        let q = peeked name 1 v xs h.0 h.2 in
+        let q = peek_byte name 1 v xs h.0 h.2 in
         record {
           count = 0;
           cost = 0;

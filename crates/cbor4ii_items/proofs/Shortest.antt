@@ -42,7 +42,8 @@ use Rattle.cbor4ii_items.specs.Laws.Prefixes.{drop_more}
 use Rattle.cbor4ii_items.specs.Laws.Answering.{SeenAreBytes, seen_of, Found, fits_zero, sound_by}
 use Rattle.cbor4ii_items.specs.Laws.Answering.{complete_by, rejects_by}
 use Rattle.cbor4ii_items.specs.Laws.Arguments.{ReadBy}
-use Rattle.cbor4ii_items.specs.Laws.Running.{as_of, peeked, runs_as, runs_then, runs_err, runs_give}
+use Rattle.cbor4ii_items.specs.Laws.Running.{as_of, peek_byte, runs_as, runs_then, runs_err}
+use Rattle.cbor4ii_items.specs.Laws.Running.{runs_give}
 use Rattle.cbor4ii_items.specs.Laws.Running.{runs_reject, runs_byte}
 use Rattle.cbor4ii_items.proofs.Leaves.{IsLeaf}
 use Rattle.cbor4ii_items.proofs.Rejecting.{head_rejects}
@@ -375,7 +376,7 @@ runs_when {f = f} {g = g} name b {c = c} {r = r} first same p = record {
   moves = p.moves;
   answers = λ xs known.
       let t = first.answers xs known in
-      let is = peeked name 1 b xs t.0 t.2 in
+      let is = peek_byte name 1 b xs t.0 t.2 in
       as_of (f xs) (g xs) c.known r (ap f is.1 ∙ same is.0 ∙ ap g (sym is.1)) (p.answers xs known);
 }
 

@@ -27,7 +27,8 @@ whole_head_shown {major = major} {width = width} {argument = argument} {n = n} {
       cost = 0;
       fits = omega arith;
       read = λ rest.
-          let whole : head_at [] major width (shown ++ rest) ≡ Ok (argument, drop n (shown ++ rest)) =
+          let whole : head_at [] major width (shown ++ rest) ≡ Ok
+          (argument, drop n (shown ++ rest)) =
           h.head [] rest ∙ ap (λ (zs : List ℕ). Ok (argument, zs))
           (sym (drop-append-le n shown rest h.within)) in (
             read_head [] major width (shown ++ rest) argument n whole

@@ -21,12 +21,12 @@ use Rattle.std.specs.Prelude.{string_bytes}
 -- ---- what is written
 
 -- the first byte of a string of indefinite length
-abbrev pub opening : ℕ → List ℕ
-opening major = indefinite_head major ∷ []
+abbrev pub open_head : ℕ → List ℕ
+open_head major = indefinite_head major ∷ []
 
 -- the byte that ends an indefinite length
-abbrev pub closing : List ℕ
-closing = break ∷ []
+abbrev pub break_bytes : List ℕ
+break_bytes = break ∷ []
 
 -- ---- what is read
 

@@ -38,7 +38,7 @@ ghost use Rattle.cbor4ii_items.specs.ReadBack.{pair_cost};
 ghost use Rattle.cbor4ii_items.specs.InputError.{input_error_of};
 ghost use Rattle.cbor4ii_items.specs.SequenceBytes.{map_bytes};
 ghost use Rattle.cbor4ii_items.specs.Simple.{ReadsSimple, RejectsSimple, ReadsBool, RejectsBool};
-ghost use Rattle.cbor4ii_items.specs.Strings.{ReadsAs, ReadsTextAs, definite_string, opening};
+ghost use Rattle.cbor4ii_items.specs.Strings.{ReadsAs, ReadsTextAs, definite_string, open_head};
 ghost use Rattle.cbor4ii_items.specs.Strings.{text_content, RejectsString, RejectsText, ReadsBreak};
 ghost use Rattle.cbor4ii_items.specs.Strings.{RejectsBreak};
 
@@ -117,7 +117,7 @@ pub fn simple_values_are_read_back<T: Decodable>()
 pub fn lengths_are_read_back()
     ensures definite { (major : ℕ) (len : ℕ) → len < 2 ^ 64 →
         ReadsBack (ReadsLength major) (shortest_head major len) (Some len) 0 }
-    ensures indefinite { (major : ℕ) → ReadsBack (ReadsLength major) (opening major) None 0 }
+    ensures indefinite { (major : ℕ) → ReadsBack (ReadsLength major) (open_head major) None 0 }
 {}
 
 /// A tagged item, an optional item as an array, and an item in a box are read from their own

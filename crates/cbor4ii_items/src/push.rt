@@ -1,7 +1,7 @@
 //! Heads and numbers, written.
 ghost use Rattle.std.specs.Prelude.{◌≡◌, ◌<◌, ◌<ℤ◌, ◌≤ℤ◌, ◌++◌, pos, negsuc};
 ghost use Rattle.cbor4ii_items.specs.Writing.{Writes, WritesAtomically};
-ghost use Rattle.cbor4ii_items.specs.Strings.{closing, definite_string, opening};
+ghost use Rattle.cbor4ii_items.specs.Strings.{break_bytes, definite_string, open_head};
 ghost use Rattle.cbor4ii_items.specs.Numbers.{shortest_head, signed_head, bignum_bytes};
 ghost use Rattle.cbor4ii_items.specs.Numbers.{integer_bytes, unsigned_bytes, signed_bytes};
 
@@ -50,7 +50,7 @@ pub(crate) fn push_indefinite<W: Write>(
     major: u8,
 ) -> Result<(), EncodeError<W::Error>>
     requires { major < 8 }
-    ensures { WritesAtomically W.atomic (opening major) (W.view writer.old) (W.view writer.new)
+    ensures { WritesAtomically W.atomic (open_head major) (W.view writer.old) (W.view writer.new)
         result }
 {
     push_bytes(writer, &[32 * major + marker::START])
@@ -59,7 +59,7 @@ pub(crate) fn push_indefinite<W: Write>(
 /// Writes the end of an indefinite length, one byte, in one push.
 #[inline(always)]
 pub(crate) fn push_end<W: Write>(writer: &mut W) -> Result<(), EncodeError<W::Error>>
-    ensures { WritesAtomically W.atomic closing (W.view writer.old) (W.view writer.new) result }
+    ensures { WritesAtomically W.atomic break_bytes (W.view writer.old) (W.view writer.new) result }
 {
     push_bytes(writer, &[marker::BREAK])
 }

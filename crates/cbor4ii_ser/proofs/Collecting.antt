@@ -10,23 +10,25 @@ use Rattle.cbor4ii_items.specs.Writing.{Writes}
 use Rattle.cbor4ii_items.specs.Laws.Written.{writes_then, writes_err, writes_as}
 use Rattle.cbor4ii_ser.specs.declared.error.EncodeError.TheVariants.{Core, Custom}
 use Rattle.cbor4ii_ser.specs.Serializing.{Serializes}
-use Rattle.cbor4ii_ser.specs.Pieces.{Pending, nothing_yet, written, after, last_bytes, text_bytes}
+use Rattle.cbor4ii_ser.specs.Pieces.{Pending, nothing_yet, pieces_bytes, after, last_bytes}
+use Rattle.cbor4ii_ser.specs.Pieces.{text_bytes}
 use Rattle.cbor4ii_ser.specs.TextState.{TextSeen, Wrote, Flushes, Pends, writing_outcome}
 use Rattle.cbor4ii_ser.specs.TextState.{text_encoding}
 use Rattle.cbor4ii_ser.specs.TextState.{unended_bytes}
 
 flushed_on : {E : Type 0} {whole : Bool} (ps : List (List ℕ)) (p q : Pending) (o m n : Output)
-    (g : Option E) (r : Result (Unit {0}) E) → Writes whole (written p ps) o m (writing_outcome g)
+    (g : Option E) (r : Result (Unit {0}) E) → Writes whole (pieces_bytes p ps) o m
+    (writing_outcome g)
     → Pends ps p q g → (g ≡ None → Writes whole (last_bytes q) m n r)
     → ((e : E) → g ≡ Some e → (r ≡ Err e) × (n ≡ m))
-    → Writes whole (written p ps ++ last_bytes (after p ps)) o n r
+    → Writes whole (pieces_bytes p ps ++ last_bytes (after p ps)) o n r
 flushed_on ps p q o m n None r first is ends fails =
-    writes_as r (ap (λ z. written p ps ++ last_bytes z) is)
+    writes_as r (ap (λ z. pieces_bytes p ps ++ last_bytes z) is)
     (writes_then {t = tt} r first (ends refl))
 flushed_on {whole = whole} ps p q o m n (Some e) r first is ends fails =
     let at = fails e refl in
-    subst (λ z. Writes whole (written p ps ++ last_bytes (after p ps)) o z r) (sym at.1)
-    (subst (λ z. Writes whole (written p ps ++ last_bytes (after p ps)) o m z) (sym at.0)
+    subst (λ z. Writes whole (pieces_bytes p ps ++ last_bytes (after p ps)) o z r) (sym at.1)
+    (subst (λ z. Writes whole (pieces_bytes p ps ++ last_bytes (after p ps)) o m z) (sym at.0)
     (writes_err (last_bytes (after p ps)) first))
 
 -- the pieces from the first on, and the end
@@ -34,7 +36,7 @@ pub flushed : {E : Type 0} {whole : Bool} {ps : List (List ℕ)} {a b : TextSeen
     {r : Result (Unit {0}) E} → a.failure ≡ None → a.pending ≡ nothing_yet → Wrote whole ps a b
     → Flushes whole b n r → Writes whole (text_bytes ps) a.output n r
 flushed {whole = whole} {ps = ps} {a = a} {b = b} {n = n} {r = r} fine start w f =
-    writes_as r (ap (λ z. written z ps ++ last_bytes (after z ps)) start)
+    writes_as r (ap (λ z. pieces_bytes z ps ++ last_bytes (after z ps)) start)
     (flushed_on ps a.pending b.pending a.output b.output n b.failure r (w.writes fine)
     (w.pends fine) f.ends f.fails)
 
@@ -68,15 +70,17 @@ module _ {E : Type 0} {whole : Bool} where
   collected_failed true {ps = ps} {a = a} {b = b} e is fine start w =
       let at : Writes whole (unended_bytes ps) a.output b.output (Err e) =
       subst (λ z. Writes whole (unended_bytes ps) a.output b.output (writing_outcome z)) is
-      (subst (λ z. Writes whole (written z ps) a.output b.output (writing_outcome b.failure)) start
+      (subst (λ z. Writes whole (pieces_bytes z ps) a.output b.output
+      (writing_outcome b.failure)) start
       (w.writes fine)) in
       record { appends = tt; counts = tt; failed = at.failed; prefix = at.prefix }
   collected_failed false {ps = ps} {a = a} {b = b} e is fine start w =
-      let at : Writes whole (written a.pending ps) a.output b.output (writing_outcome (Some e)) =
-      subst (λ z. Writes whole (written a.pending ps) a.output b.output (writing_outcome z)) is
+      let at : Writes whole (pieces_bytes a.pending ps) a.output b.output
+      (writing_outcome (Some e)) =
+      subst (λ z. Writes whole (pieces_bytes a.pending ps) a.output b.output (writing_outcome z)) is
       (w.writes fine) in
       collected_err false ps refl
-      (writes_as (Err e) (ap (λ z. written z ps ++ last_bytes (after z ps)) start)
+      (writes_as (Err e) (ap (λ z. pieces_bytes z ps ++ last_bytes (after z ps)) start)
       (writes_err (last_bytes (after a.pending ps)) at))
 
   -- it rejected by itself
@@ -88,7 +92,8 @@ module _ {E : Type 0} {whole : Bool} where
   collected_rejected true {ps = ps} {a = a} {b = b} text said is fine start why w =
       let at : Writes whole (unended_bytes ps) a.output b.output (Ok tt) =
       subst (λ z. Writes whole (unended_bytes ps) a.output b.output (writing_outcome z)) is
-      (subst (λ z. Writes whole (written z ps) a.output b.output (writing_outcome b.failure)) start
+      (subst (λ z. Writes whole (pieces_bytes z ps) a.output b.output
+      (writing_outcome b.failure)) start
       (w.writes fine)) in
       record {
         appends = tt;

@@ -1,7 +1,7 @@
 -- The pieces determine the chunks.
 use Rattle.std.proofs.Common.{◌≡◌, ℕ, ◌+◌, ◌<◌, List, [], ◌∷◌, ◌++◌, length, refl, sym, ap, ap₂}
 use Rattle.std.proofs.Common.{◌∙◌, inl, inr, arith, append_assoc, length-append, subst}
-use Rattle.cbor4ii_items.specs.Strings.{joined_content, opening, closing}
+use Rattle.cbor4ii_items.specs.Strings.{joined_content, open_head, break_bytes}
 use Rattle.cbor4ii_ser.specs.Pieces.{chunk_most, without_empty, IsFull, IsChunkOf, IsCut, Chunks}
 use Rattle.cbor4ii_ser.specs.Pieces.{one, several, definite_chunks}
 
@@ -80,5 +80,5 @@ chunks_same pieces a b (one h e) (one k f) = e ∙ sym f
 chunks_same pieces a b (one h e) (several cs k cut f) = absurd (omega (arith, h, k))
 chunks_same pieces a b (several cs h cut e) (one k f) = absurd (omega (arith, h, k))
 chunks_same pieces a b (several cs h cut e) (several ds k other f) =
-    e ∙ (ap (λ z. opening 3 ++ definite_chunks z ++ closing)
+    e ∙ (ap (λ z. open_head 3 ++ definite_chunks z ++ break_bytes)
     (cut_same (without_empty pieces) cs ds cut other) ∙ sym f)

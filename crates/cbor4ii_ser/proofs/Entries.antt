@@ -3,7 +3,7 @@ use Rattle.std.proofs.Common.{◌≡◌, ◌≤◌, ◌-◌, ℕ, suc, List, [],
 use Rattle.std.proofs.Common.{get_or}
 use Rattle.std.proofs.Common.{refl, sym, ap, ◌∙◌, arith}
 use Rattle.std.proofs.Math.Seq.{take-length}
-use Rattle.cbor4ii_ser.specs.Item.{Encoding, encoded, followed, parts}
+use Rattle.cbor4ii_ser.specs.Item.{Encoding, encoded, one_then, parts}
 use Rattle.cbor4ii_ser.specs.Listed.{NamedItems, StandsBeforeOthers, keyed_pairs, keyed_encoding}
 use Rattle.cbor4ii_ser.specs.Listed.{labels_of}
 use Rattle.cbor4ii_ser.specs.Listed.{◌▹◌}
@@ -19,22 +19,22 @@ entries_append : (key : List ℕ → List ℕ) (first others : NamedItems)
     → keyed_pairs key (first ++ others) ≡ keyed_pairs key first ++ keyed_pairs key others
 entries_append key [] others = refl
 entries_append key (part ∷ first) others =
-    ap (λ (es : List Encoding). followed (encoded (key part.0)) part.1 ∷ es)
+    ap (λ (es : List Encoding). one_then (encoded (key part.0)) part.1 ∷ es)
     (entries_append key first others)
 
 -- the head of as many pairs as there are
 pub counted : (key : List ℕ → List ℕ) (items : NamedItems) (count : ℕ) → count ≡ length items
-    → followed (encoded (shortest_head 5 count)) (parts (keyed_pairs key items))
+    → one_then (encoded (shortest_head 5 count)) (parts (keyed_pairs key items))
     ≡ keyed_encoding key items
 counted key items count is =
-    ap (λ n. followed (encoded (shortest_head 5 n)) (parts (keyed_pairs key items)))
+    ap (λ n. one_then (encoded (shortest_head 5 n)) (parts (keyed_pairs key items)))
     (is ∙ sym (entries_count key items))
 
 module _ {P : Type 0} (first : P → List ℕ → NamedItems → NamedItems) (joins : StandsBeforeOthers
     first)
     (key : List ℕ → List ℕ) where
   first_then : (v : P) (label : List ℕ) (others : NamedItems)
-      → followed (parts (keyed_pairs key (first v label []))) (parts (keyed_pairs key others))
+      → one_then (parts (keyed_pairs key (first v label []))) (parts (keyed_pairs key others))
       ≡ parts (keyed_pairs key (first v label others))
   first_then v label others =
       sym (ap (λ items. parts (keyed_pairs key items)) (joins v label others)
@@ -45,7 +45,7 @@ module _ {P : Type 0} (first : P → List ℕ → NamedItems → NamedItems) (jo
   -- a field, and those after it
   pub field_then : {K V : Type 0} (label : K → List ℕ) (others : V → List (List ℕ) → NamedItems)
       (v : P × V) (keys : List K) (d : K) → 1 ≤ length keys → d ≡ get_or keys 0 d
-      → followed (parts (keyed_pairs key (first v.0 (label d) [])))
+      → one_then (parts (keyed_pairs key (first v.0 (label d) [])))
       (parts (keyed_pairs key (others v.1
       (labels_of label (take (length keys - 1) (drop 1 keys))))))
       ≡ parts (keyed_pairs key ((first ▹ others) v (labels_of label keys)))
@@ -54,8 +54,8 @@ module _ {P : Type 0} (first : P → List ℕ → NamedItems → NamedItems) (jo
       let few : length (own ∷ keys) - 1 ≡ length keys = omega arith in
       let all : take (length (own ∷ keys) - 1) keys ≡ keys =
       ap (λ j. take j keys) few ∙ take-length keys in
-      ap (λ ks. followed (parts (keyed_pairs key (first v.0 (label d) [])))
+      ap (λ ks. one_then (parts (keyed_pairs key (first v.0 (label d) [])))
       (parts (keyed_pairs key (others v.1 (labels_of label ks))))) all
-      ∙ (ap (λ k. followed (parts (keyed_pairs key (first v.0 (label k) [])))
+      ∙ (ap (λ k. one_then (parts (keyed_pairs key (first v.0 (label k) [])))
       (parts (keyed_pairs key (others v.1 (labels_of label keys))))) is
       ∙ first_then v.0 (label own) (others v.1 (labels_of label keys)))

@@ -4,24 +4,24 @@ use Rattle.std.proofs.Common.{subst, rules, ℕ, List, ◌++◌}
 use Rattle.std.specs.Prelude.{IsErr, IfSome}
 use Rattle.cbor4ii_rw.specs.Writer.{Output}
 use Rattle.cbor4ii_ser.specs.declared.error.EncodeError.{EncodeError}
-use Rattle.cbor4ii_ser.specs.Item.{Encoding, encoded, followed}
+use Rattle.cbor4ii_ser.specs.Item.{Encoding, encoded, one_then}
 use Rattle.cbor4ii_ser.specs.Serializing.{Serializes, done_or_answer}
 use Rattle.cbor4ii_ser.specs.Laws.Joining.{serializes_err, serializes_both_err}
 
 -- the first part failed
 pub failed_then : {T E : Type 0} {atomic : Bool} {a : Encoding} (b : Encoding) {old new : Output}
     (r : Result T (EncodeError E)) → IsErr r → Serializes atomic a old new r
-    → Serializes atomic (followed a b) old new r
+    → Serializes atomic (one_then a b) old new r
 failed_then {a = a} b (Err e) is p = serializes_err a b p
 failed_then b (Ok t) is p = search rules
 
 -- the first part failed, and this was handed on
 pub failed_out : {E : Type 0} {atomic : Bool} {a : Encoding} (b : Encoding) {old new : Output}
     (o : Option (Unit {0})) (left : Result (Unit {0}) (EncodeError E)) → o ≡ None → IsErr left
-    → Serializes atomic a old new left → Serializes atomic (followed a b) old new
+    → Serializes atomic a old new left → Serializes atomic (one_then a b) old new
     (done_or_answer o left)
 failed_out {atomic = atomic} {a = a} b {old = old} {new = new} o left e is p =
-    subst (λ x. Serializes atomic (followed a b) old new (done_or_answer x left)) (sym e)
+    subst (λ x. Serializes atomic (one_then a b) old new (done_or_answer x left)) (sym e)
     (failed_then b left is p)
 
 both_err : {E : Type 0} {atomic : Bool} {xs : List ℕ} (ys : List ℕ) {old new : Output}

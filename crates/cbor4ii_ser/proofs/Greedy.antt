@@ -4,11 +4,11 @@ use Rattle.std.proofs.Common.{length, refl, sym, ap, ◌∙◌, inl, inr, arith,
 use Rattle.std.proofs.Common.{length-append, subst}
 use Rattle.std.proofs.lemmas.List.{append-nil}
 use Rattle.std.proofs.lemmas.Bool.{leb-false, leb-true}
-use Rattle.cbor4ii_items.specs.Strings.{joined_content, definite_string, opening, closing}
+use Rattle.cbor4ii_items.specs.Strings.{joined_content, definite_string, open_head, break_bytes}
 use Rattle.cbor4ii_ser.specs.Pieces.{chunk_most, without_empty, IsFull, IsCut, Chunks, one, several}
 use Rattle.cbor4ii_ser.specs.Pieces.{definite_chunks, Pending, piece_fits_after, run_bytes}
 use Rattle.cbor4ii_ser.specs.Pieces.{long_bytes}
-use Rattle.cbor4ii_ser.specs.Pieces.{piece_bytes, piece_pending, held_piece, written, after}
+use Rattle.cbor4ii_ser.specs.Pieces.{piece_bytes, piece_pending, held_piece, pieces_bytes, after}
 use Rattle.cbor4ii_ser.specs.Pieces.{last_bytes}
 use Rattle.cbor4ii_ser.specs.Pieces.{text_bytes}
 use Rattle.cbor4ii_ser.proofs.Determined.{joined_append}
@@ -32,20 +32,20 @@ none_without_empty ((b ∷ bs) ∷ ps) e = absurd (cc)
 
 -- what is still to be written, and the end
 abbrev of_tree : Pending → List (List ℕ) → List ℕ
-of_tree p ps = written p ps ++ last_bytes (after p ps)
+of_tree p ps = pieces_bytes p ps ++ last_bytes (after p ps)
 
 abbrev encoded_at : Bool → Pending → List ℕ → List (List ℕ) → List ℕ
 encoded_at t p a ps =
-    (piece_bytes t p a ++ written (piece_pending t p a) ps)
+    (piece_bytes t p a ++ pieces_bytes (piece_pending t p a) ps)
     ++ last_bytes (after (piece_pending t p a) ps)
 
 encoded_cons : (p : Pending) (a : List ℕ) (ps : List (List ℕ))
     → of_tree p (a ∷ ps) ≡ encoded_at (piece_fits_after p a) p a ps
-unfolding written after
+unfolding pieces_bytes after
 encoded_cons p a ps = refl
 
 encoded_nil : (p : Pending) → of_tree p [] ≡ last_bytes p
-unfolding written after
+unfolding pieces_bytes after
 encoded_nil p = refl
 
 abbrev run_of : Bool → List ℕ → Pending
@@ -54,7 +54,7 @@ run_of begun run = record { begun = begun; run = run }
 -- chunks of these pieces, and the bytes after the beginning
 abbrev Cuts : List (List ℕ) → List ℕ → Type 0
 Cuts pieces bytes =
-    (chunks : List (List ℕ)) × IsCut pieces chunks × (bytes ≡ definite_chunks chunks ++ closing)
+    (chunks : List (List ℕ)) × IsCut pieces chunks × (bytes ≡ definite_chunks chunks ++ break_bytes)
 
 cuts_as : {ps qs : List (List ℕ)} {a b : List ℕ} → ps ≡ qs → a ≡ b → Cuts ps a → Cuts qs b
 cuts_as {ps = ps} {qs = qs} {a = a} {b = b} e f p =
@@ -72,7 +72,7 @@ with_run (f ∷ fs) (b ∷ bs) rest bytes is empty short full p =
       (b ∷ bs) ∷ p.0,
       (f ∷ fs, rest, refl, record { some = some; joins = is; short = inl short }, full, p.1),
       ap (λ z. definite_string 3 (b ∷ bs) ++ z) p.2
-          ∙ sym (append_assoc (definite_string 3 (b ∷ bs)) (definite_chunks p.0) closing),
+          ∙ sym (append_assoc (definite_string 3 (b ∷ bs)) (definite_chunks p.0) break_bytes),
     )
 
 with_held : (us rest : List (List ℕ)) (bytes : List ℕ) → length (joined_content us) ≤ chunk_most
@@ -97,7 +97,7 @@ with_long a rest bytes full p =
         p.1,
       ),
       ap (λ z. definite_string 3 a ++ z) p.2
-          ∙ sym (append_assoc (definite_string 3 a) (definite_chunks p.0) closing),
+          ∙ sym (append_assoc (definite_string 3 a) (definite_chunks p.0) break_bytes),
     )
 
 full_long : (a : List ℕ) (rest : List (List ℕ)) → chunk_most < length a → IsFull a rest
@@ -167,7 +167,7 @@ cut_at false us (b ∷ bs) ps is short rec =
     leb-false (length (joined_content us) + length (b ∷ bs)) chunk_most is in
     let u = nat_le (length (b ∷ bs)) chunk_most in
     cuts_as refl (sym (append_assoc (run_bytes (joined_content us) ++ long_bytes u (b ∷ bs))
-    (written (run_of true (held_piece u (b ∷ bs))) ps)
+    (pieces_bytes (run_of true (held_piece u (b ∷ bs))) ps)
     (last_bytes (after (run_of true (held_piece u (b ∷ bs))) ps))))
     (trailing u us b bs ps refl short long rec)
 
@@ -176,7 +176,7 @@ cut_on : (ps us : List (List ℕ)) → length (joined_content us) ≤ chunk_most
     → Cuts (without_empty us ++ without_empty ps) (of_tree (run_of true (joined_content us)) ps)
 cut_on [] us short =
     cuts_as refl (sym (encoded_nil (run_of true (joined_content us))))
-    (with_held us [] closing short tt ([], refl, refl))
+    (with_held us [] break_bytes short tt ([], refl, refl))
 cut_on (a ∷ ps) us short =
     cuts_as refl (sym (encoded_cons (run_of true (joined_content us)) a ps))
     (cut_at (piece_fits_after (run_of true (joined_content us)) a) us a ps refl short
@@ -184,7 +184,7 @@ cut_on (a ∷ ps) us short =
 
 -- where none has begun
 begun_at : (run a : List ℕ) (ps : List (List ℕ)) → encoded_at false (run_of false run) a ps
-    ≡ opening 3 ++ encoded_at false (run_of true run) a ps
+    ≡ open_head 3 ++ encoded_at false (run_of true run) a ps
 begun_at run a ps = refl
 
 chunks_at : (t : Bool) (us : List (List ℕ)) (a : List ℕ) (ps : List (List ℕ))
@@ -218,8 +218,8 @@ chunks_at false us a ps is short rec =
     ) in
     let p = cut_at false us a ps is short (λ vs h. cut_on ps vs h) in
     several p.0 total (subst (λ z. IsCut z p.0) (sym (without_empty_append us (a ∷ ps))) p.1)
-    (begun_at (joined_content us) a ps ∙ (ap (λ z. opening 3 ++ z) p.2
-    ∙ sym (append_assoc (opening 3) (definite_chunks p.0) closing)))
+    (begun_at (joined_content us) a ps ∙ (ap (λ z. open_head 3 ++ z) p.2
+    ∙ sym (append_assoc (open_head 3) (definite_chunks p.0) break_bytes)))
 
 chunks_on : (ps us : List (List ℕ)) → length (joined_content us) ≤ chunk_most
     → Chunks (us ++ ps) (of_tree (run_of false (joined_content us)) ps)

@@ -7,7 +7,7 @@ use Rattle.std.proofs.Math.Seq.{drop-append_seam}
 use Rattle.std.proofs.lemmas.List.{append-nil}
 use Rattle.std.proofs.lemmas.List.Elements.{All-head, All-tail}
 use Rattle.std.proofs.lemmas.Str.{IsUtf8-nil, IsUtf8-append}
-use Rattle.cbor4ii_items.specs.Strings.{joined_content, definite_string, opening, closing}
+use Rattle.cbor4ii_items.specs.Strings.{joined_content, definite_string, open_head, break_bytes}
 use Rattle.cbor4ii_items.specs.Strings.{ReadsDefiniteString, ReadsChunks, ReadsIndefiniteString}
 use Rattle.cbor4ii_items.specs.Strings.{ReadsTextAs, chunk_cost}
 use Rattle.cbor4ii_items.specs.ReadBack.{ReadsBack}
@@ -101,25 +101,26 @@ drop_after b xs n = let e : 1 + n ≡ suc n = omega arith in ap (λ j. drop j (b
 
 indefinite_back : (ps cs : List (List ℕ)) (rest : List ℕ) → joined_content ps ≡ joined_content cs
     → AllShort cs
-    → ReadsIndefiniteString 3 ((opening 3 ++ definite_chunks cs ++ closing) ++ rest)
+    → ReadsIndefiniteString 3 ((open_head 3 ++ definite_chunks cs ++ break_bytes) ++ rest)
     (joined_content ps)
-    (length (opening 3 ++ definite_chunks cs ++ closing)) (chunk_cost cs)
+    (length (open_head 3 ++ definite_chunks cs ++ break_bytes)) (chunk_cost cs)
 indefinite_back ps cs rest is h =
     let n = length (definite_chunks cs) in
-    let whole : (definite_chunks cs ++ closing) ++ rest ≡ definite_chunks cs ++ (closing ++ rest) =
-    append_assoc (definite_chunks cs) closing rest in
-    let left : drop n ((definite_chunks cs ++ closing) ++ rest) ≡ closing ++ rest =
-    ap (drop n) whole ∙ drop-append_seam (definite_chunks cs) (closing ++ rest) in
+    let whole : (definite_chunks cs ++ break_bytes) ++ rest ≡ definite_chunks cs ++
+    (break_bytes ++ rest) =
+    append_assoc (definite_chunks cs) break_bytes rest in
+    let left : drop n ((definite_chunks cs ++ break_bytes) ++ rest) ≡ break_bytes ++ rest =
+    ap (drop n) whole ∙ drop-append_seam (definite_chunks cs) (break_bytes ++ rest) in
     record {
       begins = refl;
       chunks = cs;
       between = n;
-      read = subst (λ z. ReadsChunks 3 cs z n) (sym whole) (chunks_back cs (closing ++ rest) h);
-      ends = ap (take 1) (drop_after 127 ((definite_chunks cs ++ closing) ++ rest) n ∙ left);
+      read = subst (λ z. ReadsChunks 3 cs z n) (sym whole) (chunks_back cs (break_bytes ++ rest) h);
+      ends = ap (take 1) (drop_after 127 ((definite_chunks cs ++ break_bytes) ++ rest) n ∙ left);
       value = is;
       size =
-          (let m : length (definite_chunks cs ++ closing) ≡ n + 1 =
-          length-append (definite_chunks cs) closing in omega (arith, m));
+          (let m : length (definite_chunks cs ++ break_bytes) ≡ n + 1 =
+          length-append (definite_chunks cs) break_bytes in omega (arith, m));
       cost = refl;
     }
 

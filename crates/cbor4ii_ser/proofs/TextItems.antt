@@ -5,7 +5,7 @@ use Rattle.std.specs.Prelude.{All, IsUtf8}
 use Rattle.cbor4ii_items.specs.Head.{shortest_width}
 use Rattle.cbor4ii_items.specs.Initial.{text_string}
 use Rattle.cbor4ii_items.specs.Laws.Heads.{shortest_fits}
-use Rattle.cbor4ii_items.specs.Strings.{joined_content, definite_string, opening, closing}
+use Rattle.cbor4ii_items.specs.Strings.{joined_content, definite_string, open_head, break_bytes}
 use Rattle.cbor4ii_tree.specs.Basis.Tree.{string, chunked, Trees, no_trees, tree, bytes_all}
 use Rattle.cbor4ii_tree.specs.Basis.Tree.{joined_chunks, LooseAll, AreChunks}
 use Rattle.cbor4ii_ser.specs.OneItem.{AllShortestHeads, Form, shortest_heads, OneItem, IsOneItem}
@@ -42,14 +42,14 @@ bytes_trees [] = refl
 bytes_trees (c ∷ cs) = ap (λ zs. definite_string 3 c ++ zs) (bytes_trees cs)
 
 chunks_are_item : (cs : List (List ℕ)) → AllShort cs → IsUtf8 (joined_content cs)
-    → OneItem shortest_heads (opening 3 ++ definite_chunks cs ++ closing)
+    → OneItem shortest_heads (open_head 3 ++ definite_chunks cs ++ break_bytes)
 chunks_are_item cs short utf8 = record {
   of_tree = chunked text_string (chunk_trees cs);
   formed = (
     (loose_chunks cs short, (are_chunks cs, subst IsUtf8 (sym (joined_trees cs)) utf8)),
     shortest_chunks cs,
   );
-  bytes_are = ap (λ zs. opening 3 ++ (zs ++ closing)) (bytes_trees cs);
+  bytes_are = ap (λ zs. open_head 3 ++ (zs ++ break_bytes)) (bytes_trees cs);
 }
 
 pieces_are_item : (pieces : List (List ℕ)) (bytes : List ℕ) → length (joined_content pieces) < 2 ^

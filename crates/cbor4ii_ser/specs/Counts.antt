@@ -1,17 +1,17 @@
 -- How many parts an array or a map has: a number, or any up to a break.
 use Rattle.std.specs.Prelude.{◌≡◌, ◌<◌, ◌-◌, ℕ, List, [], Option, None, Some}
 use Rattle.cbor4ii_items.specs.Numbers.{shortest_head}
-use Rattle.cbor4ii_items.specs.Strings.{opening, closing}
+use Rattle.cbor4ii_items.specs.Strings.{open_head, break_bytes}
 
 -- the head of an array (4) or a map (5) of so many parts
 abbrev pub container_head : ℕ → Option ℕ → List ℕ
 container_head major (Some len) = shortest_head major len
-container_head major None = opening major
+container_head major None = open_head major
 
 -- what ends an array or a map: nothing after so many parts, and else a break
 abbrev pub container_end : Option ℕ → List ℕ
 container_end (Some len) = []
-container_end None = closing
+container_end None = break_bytes
 
 -- another part may come
 abbrev pub IsReady : Option ℕ → Type 0

@@ -31,17 +31,17 @@ IsRejectedAnd (encoded bytes) P = ⊥
 IsRejectedAnd (rejected bytes words) P = P bytes words
 
 -- one after the other; nothing follows an error
-unfoldable pub followed : Encoding → Encoding → Encoding
-followed (rejected xs words) second = rejected xs words
-followed (encoded xs) (rejected ys words) = rejected (xs ++ ys) words
-followed (encoded xs) (encoded ys) = encoded (xs ++ ys)
+unfoldable pub one_then : Encoding → Encoding → Encoding
+one_then (rejected xs words) second = rejected xs words
+one_then (encoded xs) (rejected ys words) = rejected (xs ++ ys) words
+one_then (encoded xs) (encoded ys) = encoded (xs ++ ys)
 
 -- ---- arrays
 
 -- each value's item, in order
 abbrev pub each_encoding : {V : Type 0} → (V → Encoding) → List V → Encoding
 each_encoding item [] = encoded []
-each_encoding item (v ∷ vs) = followed (item v) (each_encoding item vs)
+each_encoding item (v ∷ vs) = one_then (item v) (each_encoding item vs)
 
 -- parts, one after another
 abbrev pub parts : List Encoding → Encoding
@@ -49,31 +49,31 @@ parts = each_encoding (λ part. part)
 
 -- an array of so many parts (RFC 8949 section 3.1)
 abbrev pub tuple_encoding : List Encoding → Encoding
-tuple_encoding ps = followed (encoded (shortest_head 4 (length ps))) (parts ps)
+tuple_encoding ps = one_then (encoded (shortest_head 4 (length ps))) (parts ps)
 
 -- an array of values
 abbrev pub array_encoding : {V : Type 0} → (V → Encoding) → List V → Encoding
-array_encoding item vs = followed (encoded (shortest_head 4 (length vs))) (each_encoding item vs)
+array_encoding item vs = one_then (encoded (shortest_head 4 (length vs))) (each_encoding item vs)
 
 -- ---- maps
 
 -- a key, and its value after it
 abbrev pub pair_encoding : {K V : Type 0} → (K → Encoding) → (V → Encoding) → (K × V) → Encoding
-pair_encoding key value entry = followed (key entry.0) (value entry.1)
+pair_encoding key value entry = one_then (key entry.0) (value entry.1)
 
 -- a map of keys to values, in the order of the list
 abbrev pub map_encoding : {K V : Type 0} → (K → Encoding) → (V → Encoding) → List (K × V) → Encoding
 map_encoding key value entries =
-    followed (encoded (shortest_head 5 (length entries))) (each_encoding (pair_encoding key value)
+    one_then (encoded (shortest_head 5 (length entries))) (each_encoding (pair_encoding key value)
     entries)
 
 -- a name as a text, and its value after it
 abbrev pub field : List ℕ → Encoding → Encoding
-field name value = followed (encoded (definite_string 3 name)) value
+field name value = one_then (encoded (definite_string 3 name)) value
 
 -- a map of so many fields
 abbrev pub struct_encoding : List Encoding → Encoding
-struct_encoding fields = followed (encoded (shortest_head 5 (length fields))) (parts fields)
+struct_encoding fields = one_then (encoded (shortest_head 5 (length fields))) (parts fields)
 
 -- ---- options and variants
 
@@ -88,14 +88,14 @@ variant_head name = shortest_head 5 1 ++ definite_string 3 name
 
 -- a variant that has content
 abbrev pub variant_encoding : List ℕ → Encoding → Encoding
-variant_encoding name content = followed (encoded (variant_head name)) content
+variant_encoding name content = one_then (encoded (variant_head name)) content
 
 -- a variant whose content is an array of so many parts
 abbrev pub tuple_variant_encoding : List ℕ → List Encoding → Encoding
 tuple_variant_encoding name ps =
-    followed (encoded (variant_head name ++ shortest_head 4 (length ps))) (parts ps)
+    one_then (encoded (variant_head name ++ shortest_head 4 (length ps))) (parts ps)
 
 -- a variant whose content is a map of so many fields
 abbrev pub struct_variant_encoding : List ℕ → List Encoding → Encoding
 struct_variant_encoding name fields =
-    followed (encoded (variant_head name ++ shortest_head 5 (length fields))) (parts fields)
+    one_then (encoded (variant_head name ++ shortest_head 5 (length fields))) (parts fields)

@@ -3,7 +3,7 @@ use Rattle.std.specs.Prelude.{◌≡◌, ◌++◌, ℕ, ℤ, pos, negsuc, List, 
 use Rattle.std.specs.Prelude.{refl}
 use Rattle.cbor4ii_items.specs.Numbers.{shortest_head, signed_head}
 use Rattle.cbor4ii_items.specs.Strings.{definite_string}
-use Rattle.cbor4ii_ser.specs.Item.{Encoding, encoded, followed, struct_encoding}
+use Rattle.cbor4ii_ser.specs.Item.{Encoding, encoded, one_then, struct_encoding}
 
 -- labels of keys, each with the item of its value; a name's label is its text
 abbrev pub NamedItems : Type 0
@@ -12,7 +12,7 @@ NamedItems = List (List ℕ × Encoding)
 -- the pairs of labelled items, in order, where this is the item of a key by its label
 abbrev pub keyed_pairs : (List ℕ → List ℕ) → NamedItems → List Encoding
 keyed_pairs key [] = []
-keyed_pairs key (part ∷ parts) = followed (encoded (key part.0)) part.1 ∷ keyed_pairs key parts
+keyed_pairs key (part ∷ parts) = one_then (encoded (key part.0)) part.1 ∷ keyed_pairs key parts
 
 -- the item of a name: a text
 abbrev pub name_item : List ℕ → List ℕ

@@ -14,7 +14,7 @@ use Rattle.cbor4ii_tree.specs.Basis.Encodings.{Encodes, DecodesTo, Skips}
 use Rattle.cbor4ii_tree.specs.Calls.CanonicalShape.{CanonicalTree, EncodesCanonically}
 use Rattle.cbor4ii_tree.specs.Calls.CanonicalShape.{DecodesCanonically}
 use Rattle.cbor4ii_items.specs.Budget.{CostFits}
-use Rattle.cbor4ii_ser.specs.Item.{Encoding, encoded, followed, IfEncoded}
+use Rattle.cbor4ii_ser.specs.Item.{Encoding, encoded, one_then, IfEncoded}
 use Rattle.cbor4ii_ser.specs.Counts.{container_head, container_end}
 
 -- Every head of the tree is the shortest (RFC 8949 section 4.1). A length may be indefinite.
@@ -73,7 +73,7 @@ IsOnePair form entry = IfEncoded entry (OnePair form)
 -- an array (4) or a map (5) around parts written in turn: so many, or any number up to a break
 abbrev pub collected_encoding : ℕ → Option ℕ → Encoding → Encoding
 collected_encoding major len inner =
-    followed (encoded (container_head major len)) (followed inner (encoded (container_end len)))
+    one_then (encoded (container_head major len)) (one_then inner (encoded (container_end len)))
 
 -- The bytes encode the value, are read as it and skipped, whatever follows, where the steps fit.
 pub record IsReadWhole (encoding : List ℕ) (v : Item) (steps : ℕ) : Type 0 where

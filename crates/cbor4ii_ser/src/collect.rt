@@ -5,7 +5,7 @@ ghost use Rattle.cbor4ii_ser.specs.contracts.serializer.Serializer.{the_row};
 ghost use Rattle.cbor4ii_ser.specs.Collecting.{left_of, is_keyed, owes, collect_output};
 ghost use Rattle.cbor4ii_ser.specs.Collecting.{serializer_name};
 ghost use Rattle.cbor4ii_ser.specs.Counts.{container_head, container_end, IsReady, IsDone, less};
-ghost use Rattle.cbor4ii_ser.specs.Item.{encoded, followed};
+ghost use Rattle.cbor4ii_ser.specs.Item.{encoded, one_then};
 ghost use Rattle.cbor4ii_ser.specs.Serializing.{Serializes, RejectsAtValue, output};
 
 use crate::error::EncodeError;
@@ -228,7 +228,7 @@ impl<'a, W: Write> Collect<'a, W> {
             (left_of self.new ≡ less (left_of self.old))
             × RejectsAtValue W.atomic (K.encoding key.now) (V.encoding value.now)
             (collect_output W.view self.old) (collect_output W.view self.new) result) }
-        ensures written { Serializes W.atomic (followed (K.encoding key.now) (V.encoding value.now))
+        ensures written { Serializes W.atomic (one_then (K.encoding key.now) (V.encoding value.now))
             (collect_output W.view self.old) (collect_output W.view self.new) result }
     {
         self.serialize_key(key)?;

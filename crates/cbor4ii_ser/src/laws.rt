@@ -25,7 +25,7 @@ ghost use Rattle.cbor4ii_items.specs.Strings.{joined_content, definite_string};
 ghost use Rattle.cbor4ii_tree.specs.Basis.Item.{Item, IsItem};
 ghost use Rattle.cbor4ii_tree.specs.Basis.View.{view};
 ghost use Rattle.cbor4ii_tree.specs.declared.value.Value.{Value as AnyValue};
-ghost use Rattle.cbor4ii_ser.specs.Item.{Encoding, encoded, followed, each_encoding};
+ghost use Rattle.cbor4ii_ser.specs.Item.{Encoding, encoded, one_then, each_encoding};
 ghost use Rattle.cbor4ii_ser.specs.Item.{pair_encoding};
 ghost use Rattle.cbor4ii_ser.specs.Item.{tuple_encoding, field, struct_encoding, variant_encoding};
 ghost use Rattle.cbor4ii_ser.specs.Item.{tuple_variant_encoding, struct_variant_encoding};
@@ -163,7 +163,7 @@ pub fn vectors_are_items<T: Serialize>()
         All (λ item. IsOneItem shortest_heads (T.encoding item)) vs →
         IsOneItem shortest_heads (collected_encoding 4 None (each_encoding T.encoding vs)) }
     ensures definite { (n : ℕ) (inner : Encoding) →
-        collected_encoding 4 (Some n) inner ≡ followed (encoded (shortest_head 4 n)) inner }
+        collected_encoding 4 (Some n) inner ≡ one_then (encoded (shortest_head 4 n)) inner }
 {}
 
 /// A map is written as one item wherever each key and value is, canonical where those are. A map
@@ -178,9 +178,9 @@ pub fn maps_are_items<K: Serialize + Ord, V: Serialize>()
         IsOneItem shortest_heads (collected_encoding 5 None
         (each_encoding (pair_encoding K.encoding V.encoding) es)) }
     ensures entry { (form : Form) (key value : Encoding) → IsOneItem form key →
-        IsOneItem form value → IsOnePair form (followed key value) }
+        IsOneItem form value → IsOnePair form (one_then key value) }
     ensures definite { (n : ℕ) (inner : Encoding) →
-        collected_encoding 5 (Some n) inner ≡ followed (encoded (shortest_head 5 n)) inner }
+        collected_encoding 5 (Some n) inner ≡ one_then (encoded (shortest_head 5 n)) inner }
 {}
 
 /// A struct and a variant are written as one item wherever what stands in them is, canonical where

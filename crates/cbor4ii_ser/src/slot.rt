@@ -10,7 +10,7 @@ ghost use Rattle.cbor4ii_rw.specs.declared.error.EncodeError.TheVariants.{Write}
 ghost use Rattle.cbor4ii_items.specs.Floats.{float_bytes};
 ghost use Rattle.cbor4ii_items.specs.Numbers.{shortest_head};
 ghost use Rattle.cbor4ii_items.specs.Strings.{definite_string};
-ghost use Rattle.cbor4ii_ser.specs.Item.{encoded, followed, variant_head, variant_encoding};
+ghost use Rattle.cbor4ii_ser.specs.Item.{encoded, one_then, variant_head, variant_encoding};
 ghost use Rattle.cbor4ii_ser.specs.Item.{tuple_variant_encoding};
 ghost use Rattle.cbor4ii_ser.specs.Serializing.{Serializes, AllOrNothing, done_or_answer, output};
 ghost use Rattle.cbor4ii_ser.specs.declared.error.EncodeError.TheVariants.{Core};
@@ -450,7 +450,7 @@ pub(crate) fn put_both<W: Write, A: Serialize, B: Serialize>(
     second: &B,
     answer: &mut Result<(), EncodeError<W::Error>>,
 ) -> Option<()>
-    ensures writes { Serializes W.atomic (followed (A.encoding first.now) (B.encoding second.now))
+    ensures writes { Serializes W.atomic (one_then (A.encoding first.now) (B.encoding second.now))
         (output W.view ser.old) (output W.view ser.new) (done_or_answer result answer.new) }
     ensures failed { IfNone result (IsErr answer.new) }
     ensures kept { IfSome result (λ _. answer.new ≡ answer.old) }

@@ -18,7 +18,8 @@ use Rattle.cbor4ii_tree.specs.Basis.Canonical.{canonical_encoding}
 use Rattle.cbor4ii_tree.specs.Basis.View.{view}
 use Rattle.cbor4ii_tree.specs.Basis.Headline.{AllReads, AllSkips}
 use Rattle.cbor4ii_tree.specs.Calls.CanonicalShape.{DecodesCanonically}
-use Rattle.cbor4ii_tree.specs.Calls.Canonically.{RejectsCanonical, AllCanonical}
+use Rattle.cbor4ii_tree.specs.Calls.Canonically.{AllCanonical}
+use Rattle.cbor4ii_tree.specs.Calls.CanonicalRejects.{CanonicalRejects}
 use Rattle.cbor4ii_tree.specs.declared.decode_canonical.Canonical.{Canonical}
 use Rattle.cbor4ii_tree.specs.Calls.ReadingRejects.{ReadingRejects}
 use Rattle.cbor4ii_tree.specs.Calls.SkippingRejects.{SkippingRejects}
@@ -289,10 +290,10 @@ no_canonical NoMemory a b all xs known = tt
 no_canonical _ a b all xs known = λ (w, ys, (v, reads, is)). all xs known v ys reads
 
 pub canonical_fails : {E : Type 0} (error : DecodeError E) (a b : View) (held : Output)
-    → Moves {V = Canonical} a b (Err error) → RejectsBy RejectsCanonical a b error
+    → Moves {V = Canonical} a b (Err error) → RejectsBy CanonicalRejects a b error
     → AllCanonical a b (Err error) → Fails Strict (kind_of error) a b held held
 canonical_fails error a b held moves stop all =
-    rejected_by {V = Canonical} Strict RejectsCanonical error a b held moves (λ _. tt) stop
+    rejected_by {V = Canonical} Strict CanonicalRejects error a b held moves (λ _. tt) stop
     (no_canonical error a b all) (λ xs e rest s. (e, rest, s, refl))
 
 pub canonical_done : (v : Canonical) (a b : View) (held holds : Output) → Kept a b

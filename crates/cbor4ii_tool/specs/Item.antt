@@ -7,7 +7,7 @@ use Rattle.cbor4ii_tree.specs.Basis.Item.{Item}
 use Rattle.cbor4ii_tree.specs.Basis.Canonical.{canonical_encoding}
 use Rattle.cbor4ii_tree.specs.Basis.Encodings.{DecodesTo, Skips}
 use Rattle.cbor4ii_tree.specs.Calls.CanonicalShape.{DecodesCanonically}
-use Rattle.cbor4ii_tree.specs.Calls.Canonically.{RejectsCanonical}
+use Rattle.cbor4ii_tree.specs.Calls.CanonicalRejects.{CanonicalRejects}
 use Rattle.cbor4ii_tree.specs.Calls.SkippingRejects.{SkippingRejects}
 use Rattle.cbor4ii_tree.specs.Calls.ReadingRejects.{ReadingRejects}
 use Rattle.cbor4ii_tool.specs.Integer.{IntegerHead, IsIntegerHead, encoding, shortest_encoding}
@@ -50,7 +50,7 @@ RejectsAs Canon budget kind input =
     (e : InputError) × (left : List ℕ) × ReadingRejects input budget e left ×
     (kind ≡ kind_of_input_error e)
 RejectsAs Strict budget kind input =
-    (e : InputError) × (left : List ℕ) × RejectsCanonical input budget e left
+    (e : InputError) × (left : List ℕ) × CanonicalRejects input budget e left
     × (kind ≡ kind_of_input_error e)
 RejectsAs Lens budget kind input =
     (e : InputError) × (left : List ℕ) × SkippingRejects input budget e left

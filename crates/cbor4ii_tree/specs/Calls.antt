@@ -11,7 +11,7 @@ pub mod ItemEquality
 pub mod Access
 pub mod Encoding
 pub mod Order
-pub mod ExactOrder
+pub mod TotalOrder
 pub mod Hashing
 pub mod Ignored
 pub mod Raw

@@ -1,8 +1,8 @@
 -- What the calls promise each other: the words of private contracts.
 pub mod Does
 pub mod Sending
-pub mod Skipping
 pub mod HeadParts
+pub mod Skipping
 pub mod Valuing
 pub mod CanonicalCalls
 pub mod BytesAhead

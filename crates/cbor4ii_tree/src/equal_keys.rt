@@ -3,10 +3,10 @@ ghost use Rattle.std.specs.Prelude.{◌≡◌, ◌↔◌, IsTrue, IfOk, OnErr, m
 ghost use Rattle.std.specs.List.Sorted.{IsSortedBy};
 ghost use Rattle.cbor4ii_tree.specs.Calls.Access.{HasEqualKeys, HasMapWith, HasTwoPairs, IsMapWith};
 ghost use Rattle.cbor4ii_tree.specs.Calls.Access.{MapHasEqualKeys, PairHasMapWith, SomeHasMapWith};
-ghost use Rattle.cbor4ii_tree.specs.Calls.ExactOrder.{Repeats, is_before, key_of, item_behind};
+ghost use Rattle.cbor4ii_tree.specs.Calls.TotalOrder.{Repeats, is_before, key_of, item_behind};
 ghost use Rattle.cbor4ii_tree.specs.Basis.View.{view, items_view, pairs_view};
 
-use crate::exact_order::cmp_exactly;
+use crate::total_order::total_cmp;
 use crate::value::{NoMemory, Value};
 use std::alloc::AllocError;
 
@@ -103,7 +103,7 @@ fn repeats_a_key(pairs: &Vec<(Value, Value)>) -> Result<bool, AllocError>
         return Ok(false);
     }
     let mut keys = keys_of(pairs)?;
-    keys.sort_unstable_by(|a, b| cmp_exactly(a, b));
+    keys.sort_unstable_by(|a, b| total_cmp(a, b));
     Ok(has_equal_neighbours(&keys))
 }
 

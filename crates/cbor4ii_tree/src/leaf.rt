@@ -4,7 +4,7 @@ ghost use Rattle.std.specs.Prelude.{◌≡◌, ◌∷◌, ◌/◌, ◌%◌, ◌�
 ghost use Rattle.cbor4ii_rw.specs.Reader.{ReaderFails};
 ghost use Rattle.cbor4ii_items.specs.Head.{ArgumentAfter, byte_count, shortest_width};
 ghost use Rattle.cbor4ii_tree.specs.Inner.BytesAhead.{Offers};
-ghost use Rattle.cbor4ii_tree.specs.Inner.Leaf.{ExactHead, SeesLeaf, SeesNext, TakesLeaf};
+ghost use Rattle.cbor4ii_tree.specs.Inner.Leaf.{ShortestHead, SeesLeaf, SeesNext, TakesLeaf};
 
 use crate::accepted::Encodings;
 use crate::simple::simple_of;
@@ -149,7 +149,8 @@ pub(crate) fn undecided<A: Encodings>(first: u8, trailing: &[u8]) -> Option<Next
 fn argument_of<A: Encodings>(first: u8, trailing: &[u8]) -> Option<(u64, usize)>
     ensures stands { IfSome result (λ found.
         ArgumentAfter (first % 32) trailing.now found.0 found.1) }
-    ensures exact { A.canonical ≡ true → IfSome result (λ found. ExactHead first found.0 found.1) }
+    ensures exact { A.canonical ≡ true → IfSome result
+        (λ found. ShortestHead first found.0 found.1) }
 {
     let (number, size) = argument(first % 32, trailing)?;
     if !accepts::<A>(first, number, size) {
@@ -161,7 +162,7 @@ fn argument_of<A: Encodings>(first: u8, trailing: &[u8]) -> Option<(u64, usize)>
 /// Whether a head is one that the encodings have. A float has one width, so each is.
 #[inline(always)]
 fn accepts<A: Encodings>(first: u8, number: u64, size: usize) -> bool
-    ensures { result ≡ true → A.canonical ≡ true → ExactHead first number size }
+    ensures { result ≡ true → A.canonical ≡ true → ShortestHead first number size }
 {
     if first / 32 == major::SIMPLE {
         A::accepts_simple(first)
@@ -192,7 +193,7 @@ pub(crate) fn least_size(number: u64) -> usize
 #[inline(always)]
 fn leaf_after(alloc: Global, first: u8, trailing: &[u8], number: u64, size: usize) -> ValueSeen
     requires { ArgumentAfter (first % 32) trailing.now number size }
-    ensures { SeesLeaf (ExactHead first number size) result (first ∷ trailing.now) }
+    ensures { SeesLeaf (ShortestHead first number size) result (first ∷ trailing.now) }
 {
     match first / 32 {
         major::UNSIGNED => ValueSeen::Whole(Value::Integer(number as i128), 1 + size),
@@ -214,7 +215,7 @@ fn leaf_after(alloc: Global, first: u8, trailing: &[u8], number: u64, size: usiz
 fn simple_after(first: u8, trailing: &[u8], number: u64, size: usize) -> ValueSeen
     requires argument { ArgumentAfter (first % 32) trailing.now number size }
     requires major { first / 32 ≡ 7 }
-    ensures { SeesLeaf (ExactHead first number size) result (first ∷ trailing.now) }
+    ensures { SeesLeaf (ShortestHead first number size) result (first ∷ trailing.now) }
 {
     match first {
         marker::F16 => ValueSeen::Whole(Value::Float(FloatBits::F16(number as u16)), 3),
@@ -232,7 +233,7 @@ fn simple_after(first: u8, trailing: &[u8], number: u64, size: usize) -> ValueSe
 fn string_after(alloc: Global, first: u8, trailing: &[u8], number: u64, size: usize) -> ValueSeen
     requires argument { ArgumentAfter (first % 32) trailing.now number size }
     requires major { (first / 32 ≡ 2) ⊎ (first / 32 ≡ 3) }
-    ensures { SeesLeaf (ExactHead first number size) result (first ∷ trailing.now) }
+    ensures { SeesLeaf (ShortestHead first number size) result (first ∷ trailing.now) }
 {
     let rest = &trailing[size..];
     if number > rest.len() as u64 {

@@ -4,7 +4,7 @@ use Rattle.std.proofs.Common.{subst}
 use Rattle.std.proofs.lemmas.List.{append-nil}
 use Rattle.cbor4ii_rw.specs.Writer.{Output}
 use Rattle.cbor4ii_items.specs.Writing.{Writes}
-use Rattle.cbor4ii_ser.specs.Pieces.{written, after}
+use Rattle.cbor4ii_ser.specs.Pieces.{pieces_bytes, after}
 use Rattle.cbor4ii_ser.specs.TextState.{TextSeen, Wrote, Pends, writing_outcome}
 
 writes_nothing : {T E : Type 0} {whole : Bool} (o : Output) (t : T)
@@ -18,10 +18,11 @@ writes_nothing o t = record {
 
 -- no piece was written
 pub wrote_nothing : {E : Type 0} {whole : Bool} {a : TextSeen E} → Wrote whole [] a a
-unfolding written after
+unfolding pieces_bytes after
 wrote_nothing {E = E} {whole = whole} {a = a} = record {
   writes = λ fine. subst
-      (λ z. Writes whole (written a.pending []) a.output a.output (writing_outcome z)) (sym fine)
+      (λ z. Writes whole (pieces_bytes a.pending []) a.output a.output (writing_outcome z))
+      (sym fine)
       (writes_nothing {E = E} a.output tt);
   pends = λ fine. subst (λ z. Pends [] a.pending a.pending z) (sym fine) refl;
   stays = λ e is. refl;

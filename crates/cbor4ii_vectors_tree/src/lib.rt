@@ -6,7 +6,7 @@
 //! - `skip.rt`, `unseen.rt`, `ahead.rt` and `prefix.rt` are called by `IgnoredAny`
 //! - `lend_raw.rt` is called by `RawValue` and `BoxedRawValue`, and `range.rt` by a law
 //! - `raw_head.rt` and `raw_key.rt` are called by what `raw_parts.rt` looks for
-//! - `bignum.rt` is called by `Canonical`, and `exact_order.rt` by what looks for equal keys
+//! - `bignum.rt` is called by `Canonical`, and `total_order.rt` by what looks for equal keys
 //!
 //! The rows' values come from RFC 8949 (its Appendix A above all) and from worked examples, never
 //! from this codec's own answers.

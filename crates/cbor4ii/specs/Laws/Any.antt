@@ -27,6 +27,7 @@ use Rattle.cbor4ii.specs.declared.serde.de.any_leaf.AnyLeaf.TheVariants.{F16, F3
 use Rattle.cbor4ii.specs.Any.{kind, Formed, of_integer, of_bignum, of_bytes, of_text, of_bool}
 use Rattle.cbor4ii.specs.Any.{of_null, of_f16, of_f32, of_f64, of_array, of_map, LeafAs}
 use Rattle.cbor4ii.specs.Any.{ReadsValues, ReadsPairs, KindAs, AnyInside, AnyAt, ReadsAny, SameView}
+use Rattle.cbor4ii.specs.CodecAgrees.{AlsoReads}
 use Rattle.cbor4ii.specs.Sequence.{four_small, five_small}
 use Rattle.cbor4ii.specs.Stepped.{Stepped, stepped_laws}
 use Rattle.cbor4ii.specs.Tuples.{pair_laws}
@@ -225,10 +226,7 @@ at_laws (suc k) = stepped_laws (inside_laws (at_laws k))
 
 -- ---- more is read where more of the parts is
 
-abbrev ReadsMore : {V : Type 0} → Reads V → Reads V → Type 0
-ReadsMore {V} f g = (xs : List ℕ) (v : V) (n c : ℕ) → f xs v n c → g xs v n c
-
-parts_more : {P : Type 0} {f g : Reads P} → ReadsMore f g → ReadsMore (ReadsElements f)
+parts_more : {P : Type 0} {f g : Reads P} → AlsoReads f g → AlsoReads (ReadsElements f)
     (ReadsElements g)
 parts_more more xs [] n c h = h
 parts_more more xs (p ∷ ps) n c h = (
@@ -242,11 +240,11 @@ parts_more more xs (p ∷ ps) n c h = (
   h.7,
 )
 
-unbroken_more : {P : Type 0} {f g : Reads P} → ReadsMore f g → ReadsMore (Unbroken f) (Unbroken g)
+unbroken_more : {P : Type 0} {f g : Reads P} → AlsoReads f g → AlsoReads (Unbroken f) (Unbroken g)
 unbroken_more more xs p n c h = (h.0, more xs p n c h.1)
 
-inside_more : {P : Type 0} {f g : Reads P} (major : ℕ) → ReadsMore f g
-    → ReadsMore (ReadsInside major f true) (ReadsInside major g true)
+inside_more : {P : Type 0} {f g : Reads P} (major : ℕ) → AlsoReads f g
+    → AlsoReads (ReadsInside major f true) (ReadsInside major g true)
 inside_more major more xs ps n c (inl h) =
     inl (record {
       before = h.before;
@@ -272,11 +270,11 @@ inside_more major more xs ps n c (inr h) =
       size = h.size;
     })
 
-sequence_more : {P : Type 0} {f g : Reads P} (major : ℕ) → ReadsMore f g
-    → ReadsMore (ReadsSequence major f true) (ReadsSequence major g true)
+sequence_more : {P : Type 0} {f g : Reads P} (major : ℕ) → AlsoReads f g
+    → AlsoReads (ReadsSequence major f true) (ReadsSequence major g true)
 sequence_more major more xs ps n c h = (h.0, inside_more major more xs ps n h.0 h.1, h.2)
 
-pair_more : {f g : Reads Value} → ReadsMore f g → ReadsMore (ReadsPair f f) (ReadsPair g g)
+pair_more : {f g : Reads Value} → AlsoReads f g → AlsoReads (ReadsPair f f) (ReadsPair g g)
 pair_more more xs p n c h = record {
   key_size = h.key_size;
   key_cost = h.key_cost;
@@ -288,18 +286,18 @@ pair_more more xs p n c h = record {
   cost = h.cost;
 }
 
-kind_more : {f g : Reads Value} → ReadsMore f g → (k : AnyKind)
-    → ReadsMore (KindAs f k) (KindAs g k)
+kind_more : {f g : Reads Value} → AlsoReads f g → (k : AnyKind)
+    → AlsoReads (KindAs f k) (KindAs g k)
 kind_more more (Leaf leaf) xs v n c h = h
 kind_more more Array xs v n c h = (h.0, sequence_more 4 more xs h.0.items n c h.1, h.2)
 kind_more more Map xs v n c h = (h.0, sequence_more 5 (pair_more more) xs h.0.items n c h.1, h.2)
 kind_more more Other xs v n c h = h
 
-any_more : {f g : Reads Value} → ReadsMore f g → ReadsMore (AnyInside f) (AnyInside g)
+any_more : {f g : Reads Value} → AlsoReads f g → AlsoReads (AnyInside f) (AnyInside g)
 any_more more xs v n c h = (h.0, h.1, kind_more more (kind h.0) xs v n c h.2)
 
 -- where items may nest deeper
-deeper : (k j : ℕ) → k ≤ j → ReadsMore (AnyAt k) (AnyAt j)
+deeper : (k j : ℕ) → k ≤ j → AlsoReads (AnyAt k) (AnyAt j)
 deeper zero j le xs v n c h = absurd h
 deeper (suc k) zero le xs v n c h = absurd (omega arith)
 deeper (suc k) (suc j) le xs v n c h =
@@ -318,7 +316,7 @@ any_laws = record {
 -- ---- parts that nest, each so deep, nest no deeper than some depth
 
 module _ {P : Type 0} (reads : Reads P) (to : ℕ → Reads P)
-    (more : (k j : ℕ) → k ≤ j → ReadsMore (to k) (to j)) where
+    (more : (k j : ℕ) → k ≤ j → AlsoReads (to k) (to j)) where
   abbrev Bounded : Type 0
   Bounded = (xs : List ℕ) (p : P) (n c : ℕ) → reads xs p n c → (k : ℕ) × to k xs p n c
 
@@ -343,7 +341,7 @@ module _ {P : Type 0} (reads : Reads P) (to : ℕ → Reads P)
       )
 
 module _ {P : Type 0} (reads : Reads P) (to : ℕ → Reads P)
-    (more : (k j : ℕ) → k ≤ j → ReadsMore (to k) (to j))
+    (more : (k j : ℕ) → k ≤ j → AlsoReads (to k) (to j))
     (bound : (xs : List ℕ) (p : P) (n c : ℕ) → reads xs p n c → (k : ℕ) × to k xs p n c) where
   unbroken_in : (xs : List ℕ) (p : P) (n c : ℕ) → Unbroken reads xs p n c
       → (k : ℕ) × Unbroken (to k) xs p n c

@@ -17,8 +17,8 @@ use Rattle.cbor4ii_items.specs.Numbers.{shortest_head}
 use Rattle.cbor4ii_items.specs.ReadBack.{ReadsBack, greatest_part_cost, pair_cost}
 use Rattle.cbor4ii_items.specs.Sequences.{ReadsElements, ReadsDefiniteElements, ReadsSequence}
 use Rattle.cbor4ii_items.specs.Sequences.{ReadsPair}
-use Rattle.cbor4ii_items.specs.Laws.PartsBack.{pair_back, trailing, headed}
-use Rattle.cbor4ii_ser.specs.Item.{Encoding, encoded, rejected, followed, each_encoding}
+use Rattle.cbor4ii_items.specs.Laws.PartsBack.{pair_back, stands_between, head_before}
+use Rattle.cbor4ii_ser.specs.Item.{Encoding, encoded, rejected, one_then, each_encoding}
 use Rattle.cbor4ii_ser.specs.Item.{pair_encoding}
 use Rattle.cbor4ii.specs.Built.{built_pairs, put_all, ReadsBuilt}
 use Rattle.cbor4ii.specs.ReadBack.{IsReadBack, BeginsOther, IsNullItem}
@@ -60,12 +60,13 @@ after_back : {V : Type 0} (count : ℕ) (reads : Reads V) (bytes : List ℕ) (v 
     → ReadsBack (Stepped (ReadsAfter count reads)) (shortest_head 4 count ++ bytes) v (1 + cost)
 after_back count reads bytes v cost h back rest =
     let start = shortest_head 4 count in
-    let parts = subst (λ zs. reads zs v (length bytes) cost) (sym (trailing start bytes rest).left)
+    let parts = subst (λ zs. reads zs v (length bytes) cost)
+    (sym (stands_between start bytes rest).left)
     (back rest) in (
       cost,
       record {
         before = length start;
-        head = headed 4 count bytes rest h;
+        head = head_before 4 count bytes rest h;
         between = length bytes;
         parts = parts;
         size = length-append start bytes;
@@ -76,9 +77,9 @@ after_back count reads bytes v cost h back rest =
 -- a head that counts so many, and what is read back after it
 pub counted_back : {V : Type 0} (count : ℕ) (reads : Reads V) (o : Encoding) (v : V) (cost : ℕ)
     → count < 2 ^ 64 → IsReadBack reads o v cost
-    → IsReadBack (Stepped (ReadsAfter count reads)) (followed (encoded (shortest_head 4 count)) o) v
+    → IsReadBack (Stepped (ReadsAfter count reads)) (one_then (encoded (shortest_head 4 count)) o) v
     (1 + cost)
-unfolding followed
+unfolding one_then
 counted_back count reads (rejected bytes words) v cost few h = tt
 counted_back count reads (encoded bytes) v cost few h = after_back count reads bytes v cost few h
 
@@ -91,9 +92,9 @@ two_back first second xs ys p c d h k =
 pub pair_read_back : {A B : Type 0} (first : Reads A) (second : Reads B) (a b : Encoding)
     (p : A × B) (c d : ℕ) → IsReadBack first a p.0 c → IsReadBack second b p.1 d
     → IsReadBack (Stepped (ReadsAfter 2 (ReadsPair first second)))
-    (followed (encoded (shortest_head 4 2)) (followed a (followed b (encoded [])))) p
+    (one_then (encoded (shortest_head 4 2)) (one_then a (one_then b (encoded [])))) p
     (1 + max c d)
-unfolding followed
+unfolding one_then
 pair_read_back first second (rejected xs words) b p c d h k = tt
 pair_read_back first second (encoded xs) (rejected ys words) p c d h k = tt
 pair_read_back first second (encoded xs) (encoded ys) p c d h k =
@@ -105,9 +106,9 @@ pub triple_read_back : {A B C : Type 0} (first : Reads A) (second : Reads B) (th
     (a b c : Encoding) (p : A × B × C) (i j k : ℕ) → IsReadBack first a p.0 i
     → IsReadBack second b p.1 j → IsReadBack third c p.2 k
     → IsReadBack (Stepped (ReadsAfter 3 (ReadsTriple first second third)))
-    (followed (encoded (shortest_head 4 3)) (followed a (followed b (followed c (encoded [])))))
+    (one_then (encoded (shortest_head 4 3)) (one_then a (one_then b (one_then c (encoded [])))))
     p (1 + max i (max j k))
-unfolding followed
+unfolding one_then
 triple_read_back first second third (rejected xs words) b c p i j k f g h = tt
 triple_read_back first second third (encoded xs) (rejected ys words) c p i j k f g h = tt
 triple_read_back first second third (encoded xs) (encoded ys) (rejected zs words) p i j k f g h = tt
@@ -128,7 +129,7 @@ module _ {P : Type 0} (reads : Reads P) where
       → ReadsBack (ReadsElements reads) ys ps d
       → ReadsBack (ReadsElements reads) (xs ++ ys) (p ∷ ps) (max c d)
   more_back p ps xs ys c d h k rest =
-      let b = trailing xs ys rest in (
+      let b = stands_between xs ys rest in (
         length xs,
         c,
         length ys,
@@ -141,8 +142,8 @@ module _ {P : Type 0} (reads : Reads P) where
 
   pub joined_back : (o q : Encoding) (p : P) (ps : List P) (c d : ℕ) → IsReadBack reads o p c
       → IsReadBack (ReadsElements reads) q ps d
-      → IsReadBack (ReadsElements reads) (followed o q) (p ∷ ps) (max c d)
-  unfolding followed
+      → IsReadBack (ReadsElements reads) (one_then o q) (p ∷ ps) (max c d)
+  unfolding one_then
   joined_back (rejected xs words) q p ps c d h k = tt
   joined_back (encoded xs) (rejected ys words) p ps c d h k = tt
   joined_back (encoded xs) (encoded ys) p ps c d h k = more_back p ps xs ys c d h k
@@ -150,18 +151,18 @@ module _ {P : Type 0} (reads : Reads P) where
   pub definite_back : (major : ℕ) (never_empty : Bool) (ps : List P) (o : Encoding) (cost : ℕ)
       → length ps < 2 ^ 64 → IsReadBack (ReadsElements reads) o ps cost
       → IsReadBack (ReadsSequence major reads never_empty)
-      (followed (encoded (shortest_head major (length ps))) o) ps (1 + cost)
-  unfolding followed
+      (one_then (encoded (shortest_head major (length ps))) o) ps (1 + cost)
+  unfolding one_then
   definite_back major never_empty ps (rejected bytes words) cost small h = tt
   definite_back major never_empty ps (encoded bytes) cost small h = λ rest. (
       let start = shortest_head major (length ps) in
       let parts = subst (λ zs. ReadsElements reads zs ps (length bytes) cost)
-      (sym (trailing start bytes rest).left) (h rest) in
+      (sym (stands_between start bytes rest).left) (h rest) in
       let counted : ReadsDefiniteElements major reads ((start ++ bytes) ++ rest) ps
       (length (start ++ bytes)) cost =
       record {
         before = length start;
-        head = headed major (length ps) bytes rest small;
+        head = head_before major (length ps) bytes rest small;
         between = length bytes;
         parts = parts;
         size = length-append start bytes;
@@ -180,7 +181,7 @@ module _ {P : Type 0} (reads : Reads P) (item : P → Encoding) (cost : P → �
   pub sequence_read_back : (major : ℕ) (never_empty : Bool) (ps : List P) → length ps < 2 ^ 64
       → All (λ p. IsReadBack reads (item p) p (cost p)) ps
       → IsReadBack (ReadsSequence major reads never_empty)
-      (followed (encoded (shortest_head major (length ps))) (each_encoding item ps)) ps
+      (one_then (encoded (shortest_head major (length ps))) (each_encoding item ps)) ps
       (1 + greatest_part_cost cost ps)
   sequence_read_back major never_empty ps small h =
       definite_back reads major never_empty ps (each_encoding item ps) (greatest_part_cost cost ps)
@@ -191,8 +192,8 @@ module _ {P : Type 0} (reads : Reads P) (item : P → Encoding) (cost : P → �
 
 pub entry_back : {K V : Type 0} (first : Reads K) (second : Reads V) (a b : Encoding) (p : K × V)
     (c d : ℕ) → IsReadBack first a p.0 c → IsReadBack second b p.1 d
-    → IsReadBack (ReadsPair first second) (followed a b) p (max c d)
-unfolding followed
+    → IsReadBack (ReadsPair first second) (one_then a b) p (max c d)
+unfolding one_then
 entry_back first second (rejected xs words) b p c d h k = tt
 entry_back first second (encoded xs) (rejected ys words) p c d h k = tt
 entry_back first second (encoded xs) (encoded ys) p c d h k = two_back first second xs ys p c d h k

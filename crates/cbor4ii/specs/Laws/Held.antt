@@ -30,7 +30,7 @@ use Rattle.cbor4ii_tree.specs.Basis.View.{view, items_view, pairs_view}
 use Rattle.cbor4ii_tree.specs.declared.value.FloatBits.TheVariants as float_bits
 use Rattle.cbor4ii_tree.specs.declared.value.Value.{Value, the_lemmas}
 use Rattle.cbor4ii_tree.specs.declared.value.Value as values
-use Rattle.cbor4ii_ser.specs.Item.{Encoding, encoded, followed, parts, field}
+use Rattle.cbor4ii_ser.specs.Item.{Encoding, encoded, one_then, parts, field}
 use Rattle.cbor4ii_ser.specs.Item.{tuple_encoding, array_encoding, struct_encoding, variant_head}
 use Rattle.cbor4ii_ser.specs.Item.{variant_encoding, tuple_variant_encoding}
 use Rattle.cbor4ii_ser.specs.OneItem.{IsOneItem, canonical}
@@ -253,17 +253,17 @@ name_as name ok = record { held = is_name name ok; is = refl }
 
 -- ---- items that hold others
 
-encoded_both : (xs ys : List ℕ) → followed (encoded xs) (encoded ys) ≡ encoded (xs ++ ys)
-unfolding followed
+encoded_both : (xs ys : List ℕ) → one_then (encoded xs) (encoded ys) ≡ encoded (xs ++ ys)
+unfolding one_then
 encoded_both xs ys = refl
 
 -- so many parts after the head that counts them
 headed : (major n m k : ℕ) (ps : List Encoding) (ys : List ℕ) → n ≡ k → m ≡ k
     → parts ps ≡ encoded ys
-    → followed (encoded (shortest_head major n)) (parts ps)
+    → one_then (encoded (shortest_head major n)) (parts ps)
     ≡ encoded (head major m (shortest_width k) ++ ys)
 headed major n m k ps ys e f is =
-    ap (followed (encoded (shortest_head major n))) is ∙ encoded_both (shortest_head major n) ys
+    ap (one_then (encoded (shortest_head major n))) is ∙ encoded_both (shortest_head major n) ys
     ∙ ap₂ (λ i j. encoded (head major i (shortest_width j) ++ ys)) (e ∙ sym f) e
 
 -- parts of an array: none, and one before others
@@ -274,7 +274,7 @@ pub part_before : {p : Encoding} {v : Item} {ps : List Encoding} {vs : Items} �
     → AreWrittenAs ps vs → AreWrittenAs (p ∷ ps) (item v vs)
 part_before {v = v} {vs = vs} h others = record {
   held = (h.held, others.held);
-  are = ap₂ followed h.is others.are
+  are = ap₂ one_then h.is others.are
       ∙ encoded_both (canonical_encoding v) (bytes_all (canonical_trees vs));
   many = ap suc others.many;
 }
@@ -305,12 +305,12 @@ no_entries = record { held = tt; are = refl; many = refl }
 
 pub entry_before : {key value : Encoding} {k v : Item} {ps : List Encoding} {ms : ItemPairs}
     → IsWrittenAs key k → IsWrittenAs value v → AreWrittenAsPairs ps ms
-    → AreWrittenAsPairs (followed key value ∷ ps) (item_pair k v ms)
+    → AreWrittenAsPairs (one_then key value ∷ ps) (item_pair k v ms)
 entry_before {k = k} {v = v} {ms = ms} h i others =
     let rest = bytes_pairs (canonical_pairs ms) in
     record {
       held = (h.held, i.held, others.held);
-      are = ap₂ followed (ap₂ followed h.is i.is
+      are = ap₂ one_then (ap₂ one_then h.is i.is
           ∙ encoded_both (canonical_encoding k) (canonical_encoding v)) others.are
           ∙ encoded_both (canonical_encoding k ++ canonical_encoding v) rest
           ∙ ap encoded (append_assoc (canonical_encoding k) (canonical_encoding v) rest);
@@ -341,7 +341,7 @@ struct_as {ps = ps} {ms = ms} h few = record {
 variant_is_struct : (name : List ℕ) (content : Encoding)
     → struct_encoding (field name content ∷ []) ≡ variant_encoding name content
 variant_is_struct name content =
-    ap (followed (encoded (shortest_head 5 1))) (followed_nil (field name content))
+    ap (one_then (encoded (shortest_head 5 1))) (followed_nil (field name content))
     ∙ sym (followed_both (shortest_head 5 1) (definite_string 3 name) content)
 
 -- a variant that has content

@@ -7,7 +7,7 @@ use Rattle.cbor4ii_items.specs.Sequences.{ReadsElements, ReadsSequence, ReadsPai
 use Rattle.cbor4ii_items.specs.Strings.{definite_string, text_content}
 use Rattle.cbor4ii_items.specs.Laws.LeavesBack.{text_back}
 use Rattle.cbor4ii_items.specs.Numbers.{shortest_head}
-use Rattle.cbor4ii_ser.specs.Item.{Encoding, encoded, rejected, followed, field, parts}
+use Rattle.cbor4ii_ser.specs.Item.{Encoding, encoded, rejected, one_then, field, parts}
 use Rattle.cbor4ii_ser.specs.Item.{struct_encoding}
 use Rattle.cbor4ii.specs.Fields.{ReadsNamed, ReadsName, ReadsNamedPair, ReadsFields, after_changes}
 use Rattle.cbor4ii.specs.ReadBack.{IsReadBack, IsName, NamedItems, fields_of, ChangesBack}
@@ -81,5 +81,5 @@ module _ {V : Type 0} (named : ReadsNamed V) (alloc : Global) where
       (changes_back ps back.changes cost back.each) in
       as_values (struct_encoding (fields_of ps)) first values back.changes (1 + cost) back.made
       (subst (λ k. IsReadBack (ReadsSequence 5 (ReadsNamedPair named) true)
-      (followed (encoded (shortest_head 5 k)) (parts (fields_of ps))) back.changes (1 + cost))
+      (one_then (encoded (shortest_head 5 k)) (parts (fields_of ps))) back.changes (1 + cost))
       count whole)

@@ -41,7 +41,7 @@ use Rattle.cbor4ii_tree.specs.declared.value.Value.TheOpen.{Value-F}
 use Rattle.cbor4ii_tree.specs.declared.value.Value.TheVariants as variants
 use Rattle.cbor4ii_tree.specs.Basis.Cost.{cost}
 use Rattle.cbor4ii_tree.specs.Basis.Cost as Cost
-use Rattle.cbor4ii_ser.specs.Item.{Encoding, encoded, rejected, followed, each_encoding}
+use Rattle.cbor4ii_ser.specs.Item.{Encoding, encoded, rejected, one_then, each_encoding}
 use Rattle.cbor4ii_ser.specs.Item.{pair_encoding}
 use Rattle.cbor4ii_ser.specs.Values.{holds_tag, some_holds_tag, pairs_hold_tag, unless}
 use Rattle.cbor4ii_ser.specs.Values.{value_encoding}
@@ -186,31 +186,32 @@ texts_back s =
 -- ---- items, one after another
 
 -- where the second is an item, the first is that item
-abbrev Agrees : Encoding → Encoding → Type 0
-Agrees a b = (bytes : List ℕ) → b ≡ encoded bytes → a ≡ encoded bytes
+abbrev AgreesAsItem : Encoding → Encoding → Type 0
+AgreesAsItem a b = (bytes : List ℕ) → b ≡ encoded bytes → a ≡ encoded bytes
 
-agrees : (a b : Encoding) → a ≡ b → Agrees a b
+agrees : (a b : Encoding) → a ≡ b → AgreesAsItem a b
 agrees a b e bytes is = e ∙ is
 
-agrees_on : (a b c : Encoding) → Agrees a b → Agrees b c → Agrees a c
+agrees_on : (a b c : Encoding) → AgreesAsItem a b → AgreesAsItem b c → AgreesAsItem a c
 agrees_on a b c h k bytes is = h bytes (k bytes is)
 
 -- one after the other
-agree_both : (a b c d : Encoding) → Agrees a c → Agrees b d → Agrees (followed a b) (followed c d)
-unfolding followed
+agree_both : (a b c d : Encoding) → AgreesAsItem a c → AgreesAsItem b d → AgreesAsItem
+    (one_then a b) (one_then c d)
+unfolding one_then
 agree_both a b (rejected xs words) d h k bytes is = absurd (cc)
 agree_both a b (encoded xs) (rejected ys words) h k bytes is = absurd (cc)
 agree_both a b (encoded xs) (encoded ys) h k bytes is = rw (h xs refl, k ys refl) is
 
 joined : (s t : Bool) (xs ys : List ℕ)
-    → Agrees (followed (unless s xs) (unless t ys)) (unless (s || t) (xs ++ ys))
-unfolding followed
+    → AgreesAsItem (one_then (unless s xs) (unless t ys)) (unless (s || t) (xs ++ ys))
+unfolding one_then
 joined true t xs ys bytes is = absurd (cc)
 joined false true xs ys bytes is = absurd (cc)
 joined false false xs ys bytes is = is
 
 -- what is read back from an item is so where another agrees with it
-back_as : {V : Type 0} (reads : Reads V) (a b : Encoding) (v : V) (cost : ℕ) → Agrees a b
+back_as : {V : Type 0} (reads : Reads V) (a b : Encoding) (v : V) (cost : ℕ) → AgreesAsItem a b
     → IsReadBack reads a v cost → IsReadBack reads b v cost
 back_as reads a (rejected bytes words) v cost h back = tt
 back_as reads a (encoded bytes) v cost h back =
@@ -222,7 +223,7 @@ own_item v = value_encoding (view v)
 abbrev own_entry : Value × Value → Encoding
 own_entry = pair_encoding own_item own_item
 
-items_joined : (vs : List Value) → Agrees (each_encoding own_item vs)
+items_joined : (vs : List Value) → AgreesAsItem (each_encoding own_item vs)
     (unless (some_holds_tag (items_view vs)) (bytes_all (canonical_trees (items_view vs))))
 items_joined [] = agrees _ _ refl
 items_joined (v ∷ vs) =
@@ -230,7 +231,7 @@ items_joined (v ∷ vs) =
     (joined (holds_tag (view v)) (some_holds_tag (items_view vs)) (canonical_encoding (view v))
     (bytes_all (canonical_trees (items_view vs))))
 
-entries_joined : (ms : List (Value × Value)) → Agrees (each_encoding own_entry ms)
+entries_joined : (ms : List (Value × Value)) → AgreesAsItem (each_encoding own_entry ms)
     (unless (pairs_hold_tag (pairs_view ms)) (bytes_pairs (canonical_pairs (pairs_view ms))))
 entries_joined [] = agrees _ _ refl
 entries_joined (m ∷ ms) =
@@ -258,12 +259,12 @@ definite_pairs (m ∷ ms) = (ap suc (definite_pairs ms).0, ap suc (definite_pair
 
 -- the head of a sequence counts its parts in two ways
 one_head : (major n m k : ℕ) (t : Bool) (ys : List ℕ) → m ≡ k → n ≡ k
-    → Agrees (followed (encoded (shortest_head major k)) (unless t ys))
+    → AgreesAsItem (one_then (encoded (shortest_head major k)) (unless t ys))
     (unless t (head major n (shortest_width m) ++ ys))
 one_head major n m k t ys e f = rw (e, f) (joined false t (shortest_head major k) ys)
 
 array_is : (vs : List Value)
-    → Agrees (followed (encoded (shortest_head 4 (length vs))) (each_encoding own_item vs))
+    → AgreesAsItem (one_then (encoded (shortest_head 4 (length vs))) (each_encoding own_item vs))
     (value_encoding (sequence (items_view vs)))
 array_is vs =
     let start = encoded (shortest_head 4 (length vs)) in
@@ -272,7 +273,7 @@ array_is vs =
     (bytes_all (canonical_trees (items_view vs))) (definite_items vs).0 (definite_items vs).1)
 
 map_is : (ms : List (Value × Value))
-    → Agrees (followed (encoded (shortest_head 5 (length ms))) (each_encoding own_entry ms))
+    → AgreesAsItem (one_then (encoded (shortest_head 5 (length ms))) (each_encoding own_entry ms))
     (value_encoding (mapping (pairs_view ms)))
 map_is ms =
     let start = encoded (shortest_head 5 (length ms)) in
@@ -321,7 +322,7 @@ array_read vs all h =
     (omega (arith, h.0, (definite_items vs.items).0)) all in
     let value = under_value ReadsAny Array 4 (λ b. refl) refl vs.items (values.Array vs)
     (λ xs n c r. (vs, r, refl)) _ _ read in
-    let own = back_as ReadsAny (followed (encoded (shortest_head 4 (length vs.items)))
+    let own = back_as ReadsAny (one_then (encoded (shortest_head 4 (length vs.items)))
     (each_encoding own_item vs.items)) (value_encoding (sequence (items_view vs.items)))
     (values.Array vs) (1 + (1 + greatest_part_cost own_cost vs.items)) (array_is vs.items) value in
     rw (items_cost vs.items, two_steps (greatest_any_cost (items_view vs.items))) at own
@@ -338,7 +339,7 @@ map_read ms keys contents h =
     under_value (ReadsPair ReadsAny ReadsAny) Map 5 (λ b. refl) refl ms.items (values.Map ms)
     (λ xs n c r. (ms, r, refl)) _ _ read in
     let own = back_as ReadsAny
-    (followed (encoded (shortest_head 5 (length ms.items))) (each_encoding own_entry ms.items))
+    (one_then (encoded (shortest_head 5 (length ms.items))) (each_encoding own_entry ms.items))
     (value_encoding (mapping (pairs_view ms.items))) (values.Map ms)
     (1 + (1 + greatest_part_cost (pair_cost own_cost own_cost) ms.items)) (map_is ms.items) value in
     rw (pairs_cost ms.items, two_steps (greatest_any_pair_cost (pairs_view ms.items))) at own

@@ -94,9 +94,9 @@ exact_less less d = record {
 }
 
 -- of what is accepted, every type says the same
-pub accepted : {V E : Type 0} {exact : Bool} {s : Format V} {a b : View} {v : V}
+pub exactly_ok : {V E : Type 0} {exact : Bool} {s : Format V} {a b : View} {v : V}
     → DecodesIf {E = E} exact s a b (Ok v) → Decodes {E = E} s a b (Ok v)
-accepted d = record {
+exactly_ok d = record {
   moves = d.moves;
   progress = d.progress;
   memory = d.memory;
@@ -251,13 +251,13 @@ pub record Leads {V : Type 0} (exact : Bool) (part whole : Format V) (a m : View
       → Found whole.reads a.budget xs v (drop n ys))
       × RejectsAsPart exact part whole xs ys a.budget)
 
-pub trailing : {V E : Type 0} {exact : Bool} (part whole : Format V) {a m b : View}
+pub part_then : {V E : Type 0} {exact : Bool} (part whole : Format V) {a m b : View}
     (r : Result V (DecodeError E)) → Leads exact part whole a m → DecodesIf exact part m b r
     → DecodesIf exact whole a b r
-trailing part whole {b = b} (Ok v) l d =
+part_then part whole {b = b} (Ok v) l d =
     of_exact (ok_after part whole l.kept (λ xs known. let h = l.at xs known in (h.0, h.1, h.2 v))
-    (λ some. omega (arith, l.progress some, d.moves.by.bound)) (accepted d))
-trailing part whole {b = b} (Err e) l d =
+    (λ some. omega (arith, l.progress some, d.moves.by.bound)) (exactly_ok d))
+part_then part whole {b = b} (Err e) l d =
     err_after part whole l.kept
     (λ xs known. let h = l.at xs known in (h.0, h.1, h.3)) l.owned l.memory d
 

@@ -16,14 +16,14 @@ use Rattle.cbor4ii_items.specs.ReadBack.{ReadsBack, greatest_part_cost, pair_cos
 use Rattle.cbor4ii_items.specs.SequenceBytes.{items_bytes, pair_bytes}
 use Rattle.cbor4ii_items.specs.Sequences.{ReadsElements, ReadsDefiniteElements, ReadsSequence}
 use Rattle.cbor4ii_items.specs.Sequences.{ReadsPair}
-use Rattle.cbor4ii_items.specs.Strings.{opening}
+use Rattle.cbor4ii_items.specs.Strings.{open_head}
 use Rattle.cbor4ii_items.specs.Laws.NumbersBack.{head_back}
 
 pub length_back : (major len : ℕ) → len < 2 ^ 64
     → ReadsBack (ReadsLength major) (shortest_head major len) (Some len) 0
 length_back major len h rest = (head_back major eight len h rest, refl)
 
-pub indefinite_back : (major : ℕ) → ReadsBack (ReadsLength major) (opening major) None 0
+pub indefinite_back : (major : ℕ) → ReadsBack (ReadsLength major) (open_head major) None 0
 indefinite_back major rest = (refl, refl, refl)
 
 -- bytes after a prefix, and others after them
@@ -31,8 +31,8 @@ pub record StandsBetween (prefix bytes rest : List ℕ) : Type 0 where
   pub whole : (prefix ++ bytes) ++ rest ≡ prefix ++ (bytes ++ rest)
   pub left : drop (length prefix) ((prefix ++ bytes) ++ rest) ≡ bytes ++ rest
 
-pub trailing : (prefix bytes rest : List ℕ) → StandsBetween prefix bytes rest
-trailing prefix bytes rest =
+pub stands_between : (prefix bytes rest : List ℕ) → StandsBetween prefix bytes rest
+stands_between prefix bytes rest =
     let e = append_assoc prefix bytes rest in
     record {
       whole = e;
@@ -41,12 +41,13 @@ trailing prefix bytes rest =
     }
 
 -- a head of eight bytes of argument at most, whatever follows it
-pub headed : (major k : ℕ) (bytes rest : List ℕ) → k < 2 ^ 64
+pub head_before : (major k : ℕ) (bytes rest : List ℕ) → k < 2 ^ 64
     → ReadsHead major 8 ((shortest_head major k ++ bytes) ++ rest) k
     (length (shortest_head major k))
-headed major k bytes rest h =
+head_before major k bytes rest h =
     let start = shortest_head major k in
-    subst (λ zs. ReadsHead major 8 zs k (length start)) (sym (trailing start bytes rest).whole)
+    subst (λ zs. ReadsHead major 8 zs k (length start))
+    (sym (stands_between start bytes rest).whole)
     (head_back major eight k h (bytes ++ rest))
 
 -- what is read back, after a prefix
@@ -55,7 +56,8 @@ item_after : {V : Type 0} (reads : Reads V) (prefix bytes : List ℕ) (v : V) (c
     → (rest : List ℕ) → reads (drop (length prefix) ((prefix ++ bytes) ++ rest)) v
     (length bytes) cost
 item_after reads prefix bytes v cost back rest =
-    subst (λ zs. reads zs v (length bytes) cost) (sym (trailing prefix bytes rest).left) (back rest)
+    subst (λ zs. reads zs v (length bytes) cost) (sym (stands_between prefix bytes rest).left)
+    (back rest)
 
 -- ---- items after a head
 
@@ -69,7 +71,7 @@ module _ {V : Type 0} (reads : Reads V) (bytes : List ℕ) (v : V) (cost : ℕ)
       let start = shortest_head 6 number in
       record {
         before = length start;
-        head = headed 6 number bytes rest h;
+        head = head_before 6 number bytes rest h;
         count = length bytes;
         item = item_after reads start bytes v cost back rest;
         bytes = length-append start bytes;
@@ -80,7 +82,7 @@ module _ {V : Type 0} (reads : Reads V) (bytes : List ℕ) (v : V) (cost : ℕ)
       let start = shortest_head 4 1 in
       record {
         before = length start;
-        head = headed 4 1 bytes rest (omega arith);
+        head = head_before 4 1 bytes rest (omega arith);
         count = length bytes;
         item = item_after reads start bytes v cost back rest;
         bytes = length-append start bytes;
@@ -101,7 +103,7 @@ module _ {P : Type 0} (reads : Reads P) (bytes : P → List ℕ) (cost : P → �
       let P : P → Type 0 = λ q. ReadsBack reads (bytes q) q (cost q) in
       let others = items_bytes bytes ps in
       let n = length (bytes p) in
-      let b = trailing (bytes p) others rest in
+      let b = stands_between (bytes p) others rest in
       let tail = parts_back ps (All-tail P p ps back) rest in (
         n,
         cost p,
@@ -123,12 +125,12 @@ module _ {P : Type 0} (reads : Reads P) (bytes : P → List ℕ) (cost : P → �
       let inside = items_bytes bytes ps in
       let parts = subst (λ zs. ReadsElements reads zs ps (length inside)
       (greatest_part_cost cost ps))
-      (sym (trailing start inside rest).left) (parts_back ps back rest) in
+      (sym (stands_between start inside rest).left) (parts_back ps back rest) in
       let counted : ReadsDefiniteElements major reads ((start ++ inside) ++ rest) ps
       (length (start ++ inside)) (greatest_part_cost cost ps) =
       record {
         before = length start;
-        head = headed major (length ps) inside rest h;
+        head = head_before major (length ps) inside rest h;
         between = length inside;
         parts = parts;
         size = length-append start inside;
@@ -150,7 +152,7 @@ pair_back key_reads value_reads key_bytes value_bytes key_cost value_cost p key 
       key_cost = key_cost p.0;
       key =
           subst (λ zs. key_reads zs p.0 (length first) (key_cost p.0))
-          (sym (trailing first second rest).whole) (key (second ++ rest));
+          (sym (stands_between first second rest).whole) (key (second ++ rest));
       value_size = length second;
       value_cost = value_cost p.1;
       value = item_after value_reads first second p.1 (value_cost p.1) value rest;

@@ -76,10 +76,10 @@ runs_give v a = record {
   answers = λ xs known. (xs, known, refl);
 }
 
-pub unread : (t : Bool) (a b : View) → t ≡ false → Kept a b → MatchBool t (ReaderFailed a b)
+pub no_failure : (t : Bool) (a b : View) → t ≡ false → Kept a b → MatchBool t (ReaderFailed a b)
     (Kept a b)
-unread true a b e k = cc
-unread false a b e k = k
+no_failure true a b e k = cc
+no_failure false a b e k = k
 
 rejected_as : {V : Type 0} (o : Option InputError) (z : InputError)
     (outcome : Result (V × List ℕ) (InputError × List ℕ)) (new : Option (List ℕ)) → o ≡ Some z
@@ -95,7 +95,7 @@ pub runs_rejected : {V E : Type 0} {f : Reading V} {a b : View} {e : DecodeError
     → IfKnown a.known (λ xs. (ys : List ℕ) × (b.known ≡ Some ys) × (f xs ≡ Err (z, ys)))
     → Runs f a b (Err e)
 runs_rejected {f = f} {a = a} {b = b} {e = e} z says read shallow kept at = record {
-  moves = record { by = unread (is_read e) a b read kept; depth = λ none. shallow };
+  moves = record { by = no_failure (is_read e) a b read kept; depth = λ none. shallow };
   answers = λ xs known. rejected_as (input_error_of e) z (f xs) b.known says (at xs known);
 }
 
@@ -120,10 +120,10 @@ shows_kept {a = a} {b = b} s = record {
   ends_at = s.ends_at;
 }
 
-pub looked : (a b : View) (answer : Option (Bor (List ℕ))) (shown : Bor (List ℕ))
+pub look_shows : (a b : View) (answer : Option (Bor (List ℕ))) (shown : Bor (List ℕ))
     → answer ≡ Some shown → MatchOption answer (ReaderFails a b) (λ s. Shows s.now a b)
     → Shows shown.now a b
-looked a b answer shown e h = subst (λ o. MatchOption o (ReaderFails a b)
+look_shows a b answer shown e h = subst (λ o. MatchOption o (ReaderFails a b)
     (λ s. Shows s.now a b)) e h
 
 -- nothing was shown
@@ -157,10 +157,11 @@ runs_peek name expect {shown = shown} s prefix some = record {
 }
 
 -- the byte that was peeked
-pub peeked : (name : List ℕ) (expect b : ℕ) (xs ys : List ℕ) → peek_at name expect xs ≡ Ok (b, ys)
+pub peek_byte : (name : List ℕ) (expect b : ℕ) (xs ys : List ℕ) → peek_at name expect xs ≡ Ok
+    (b, ys)
     → (rest : List ℕ) × (xs ≡ b ∷ rest) × (ys ≡ xs)
-peeked name expect b [] ys e = cc
-peeked name expect b (x ∷ xs) ys e =
+peek_byte name expect b [] ys e = cc
+peek_byte name expect b (x ∷ xs) ys e =
     let p = same_value (peek_at name expect (x ∷ xs)) e refl in
     (xs, ap (λ z. z ∷ xs) (sym p.0), p.1)
 
@@ -170,7 +171,7 @@ taken : {E : Type 0} (name : List ℕ) (expect b : ℕ) (a m c : View) (xs : Lis
     → (rest : List ℕ) × (xs ≡ b ∷ rest) × (c.known ≡ Some rest)
 taken name expect b a m c xs p adv known =
     let h = p.answers xs known in
-    let q = peeked name expect b xs h.0 h.2 in
+    let q = peek_byte name expect b xs h.0 h.2 in
     let e : h.0 ≡ b ∷ q.0 = q.2 ∙ q.1 in
     (q.0, q.1, adv.known h.0 h.1 ∙ ap (λ (zs : List ℕ). Some (drop 1 zs)) e)
 
@@ -190,7 +191,7 @@ counts_one name expect b a m c xs ys p adv known left n gone =
     let t = taken name expect b a m c xs p adv known in
     let h = p.answers xs known in
     let e : ys ≡ t.0 = let l = t.2 in cc in
-    let same : h.0 ≡ xs = (peeked name expect b xs h.0 h.2).2 in
+    let same : h.0 ≡ xs = (peek_byte name expect b xs h.0 h.2).2 in
     let one : n ≡ 1 = omega (arith, gone, ap length e, ap length t.1) in
     let stays : m.taken ≡ counts 0 a.taken =
     p.moves.by.counted xs known h.0 h.1 0 (omega (arith, ap length same)) in

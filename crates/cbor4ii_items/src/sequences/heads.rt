@@ -2,7 +2,7 @@
 //! 3.2.2).
 ghost use Rattle.std.specs.Prelude.{codes};
 ghost use Rattle.cbor4ii_items.specs.Numbers.{shortest_head};
-ghost use Rattle.cbor4ii_items.specs.Strings.{opening, closing};
+ghost use Rattle.cbor4ii_items.specs.Strings.{open_head, break_bytes};
 ghost use Rattle.cbor4ii_items.specs.Writing.{WritesAtomically};
 ghost use Rattle.cbor4ii_items.specs.Decoding.{Decodes};
 ghost use Rattle.cbor4ii_items.specs.Lengths.{length_format};
@@ -53,7 +53,7 @@ impl Array<()> {
     ///
     /// `Write`: the writer failed. An atomic writer then holds what it held before.
     pub fn unbounded<W: Write>(writer: &mut W) -> Result<(), EncodeError<W::Error>>
-        ensures { WritesAtomically W.atomic (opening 4) (W.view writer.old) (W.view writer.new)
+        ensures { WritesAtomically W.atomic (open_head 4) (W.view writer.old) (W.view writer.new)
             result }
     {
         push_indefinite(writer, major::ARRAY)
@@ -65,7 +65,8 @@ impl Array<()> {
     ///
     /// `Write`: the writer failed. An atomic writer then holds what it held before.
     pub fn end<W: Write>(writer: &mut W) -> Result<(), EncodeError<W::Error>>
-        ensures { WritesAtomically W.atomic closing (W.view writer.old) (W.view writer.new) result }
+        ensures { WritesAtomically W.atomic break_bytes (W.view writer.old)
+            (W.view writer.new) result }
     {
         push_end(writer)
     }
@@ -109,7 +110,7 @@ impl Map<()> {
     ///
     /// `Write`: the writer failed. An atomic writer then holds what it held before.
     pub fn unbounded<W: Write>(writer: &mut W) -> Result<(), EncodeError<W::Error>>
-        ensures { WritesAtomically W.atomic (opening 5) (W.view writer.old) (W.view writer.new)
+        ensures { WritesAtomically W.atomic (open_head 5) (W.view writer.old) (W.view writer.new)
             result }
     {
         push_indefinite(writer, major::MAP)
@@ -121,7 +122,8 @@ impl Map<()> {
     ///
     /// `Write`: the writer failed. An atomic writer then holds what it held before.
     pub fn end<W: Write>(writer: &mut W) -> Result<(), EncodeError<W::Error>>
-        ensures { WritesAtomically W.atomic closing (W.view writer.old) (W.view writer.new) result }
+        ensures { WritesAtomically W.atomic break_bytes (W.view writer.old)
+            (W.view writer.new) result }
     {
         push_end(writer)
     }

@@ -1,7 +1,7 @@
 //! Strings that are written in parts: their heads and their ends (RFC 8949 sections 3.1 and 3.2.3).
 ghost use Rattle.cbor4ii_items.specs.Writing.{WritesAtomically};
 ghost use Rattle.cbor4ii_items.specs.Numbers.{shortest_head};
-ghost use Rattle.cbor4ii_items.specs.Strings.{opening, closing};
+ghost use Rattle.cbor4ii_items.specs.Strings.{open_head, break_bytes};
 
 use crate::major;
 use crate::push::{push_end, push_head, push_indefinite};
@@ -30,7 +30,7 @@ impl Bytes<()> {
     ///
     /// `Write`: the writer failed. An atomic writer then holds what it held before.
     pub fn unbounded<W: Write>(writer: &mut W) -> Result<(), EncodeError<W::Error>>
-        ensures { WritesAtomically W.atomic (opening 2) (W.view writer.old) (W.view writer.new)
+        ensures { WritesAtomically W.atomic (open_head 2) (W.view writer.old) (W.view writer.new)
             result }
     {
         push_indefinite(writer, major::BYTES)
@@ -42,7 +42,8 @@ impl Bytes<()> {
     ///
     /// `Write`: the writer failed. An atomic writer then holds what it held before.
     pub fn end<W: Write>(writer: &mut W) -> Result<(), EncodeError<W::Error>>
-        ensures { WritesAtomically W.atomic closing (W.view writer.old) (W.view writer.new) result }
+        ensures { WritesAtomically W.atomic break_bytes (W.view writer.old)
+            (W.view writer.new) result }
     {
         push_end(writer)
     }
@@ -69,7 +70,7 @@ impl UncheckedStr<()> {
     ///
     /// `Write`: the writer failed. An atomic writer then holds what it held before.
     pub fn unbounded<W: Write>(writer: &mut W) -> Result<(), EncodeError<W::Error>>
-        ensures { WritesAtomically W.atomic (opening 3) (W.view writer.old) (W.view writer.new)
+        ensures { WritesAtomically W.atomic (open_head 3) (W.view writer.old) (W.view writer.new)
             result }
     {
         push_indefinite(writer, major::STRING)
@@ -81,7 +82,8 @@ impl UncheckedStr<()> {
     ///
     /// `Write`: the writer failed. An atomic writer then holds what it held before.
     pub fn end<W: Write>(writer: &mut W) -> Result<(), EncodeError<W::Error>>
-        ensures { WritesAtomically W.atomic closing (W.view writer.old) (W.view writer.new) result }
+        ensures { WritesAtomically W.atomic break_bytes (W.view writer.old)
+            (W.view writer.new) result }
     {
         push_end(writer)
     }

@@ -22,7 +22,7 @@ use Rattle.cbor4ii_items.specs.Magnitude.{magnitude}
 use Rattle.cbor4ii_items.specs.Numbers.{shortest_head, signed_head, signed_bytes, unsigned_bytes}
 use Rattle.cbor4ii_items.specs.Numbers.{integer_bytes, bignum_bytes, IsWithin}
 use Rattle.cbor4ii_items.specs.Simple.{bool_byte}
-use Rattle.cbor4ii_items.specs.Strings.{definite_string, opening, closing}
+use Rattle.cbor4ii_items.specs.Strings.{definite_string, open_head, break_bytes}
 use Rattle.cbor4ii_items.specs.Laws.Heads.{length-bytes_high_first, if_cases, shortest_fits}
 use Rattle.cbor4ii_items.specs.Laws.NumbersBack.{length-without_leading_zeros}
 use Rattle.cbor4ii_tree.specs.Basis.Tree.{Tree, int, string, chunked, array, array_indefinite}
@@ -35,7 +35,7 @@ use Rattle.cbor4ii_tree.specs.Basis.Tree.{LooseAll, LoosePairs, SoundStringsAll,
 use Rattle.cbor4ii_tree.specs.Basis.Tree.{TextIsUtf8}
 use Rattle.cbor4ii_tree.specs.Calls.CanonicalShape.{CanonicalShape, CanonicalShapeAll}
 use Rattle.cbor4ii_tree.specs.Calls.CanonicalShape.{CanonicalShapePairs}
-use Rattle.cbor4ii_ser.specs.Item.{Encoding, encoded, rejected, IfEncoded, followed, each_encoding}
+use Rattle.cbor4ii_ser.specs.Item.{Encoding, encoded, rejected, IfEncoded, one_then, each_encoding}
 use Rattle.cbor4ii_ser.specs.Item.{parts, tuple_encoding, array_encoding, pair_encoding}
 use Rattle.cbor4ii_ser.specs.Item.{map_encoding, field}
 use Rattle.cbor4ii_ser.specs.Item.{struct_encoding, option_encoding, variant_head, variant_encoding}
@@ -122,15 +122,15 @@ by_recursion P (v ∷ vs) h = (All-head P v vs h, by_recursion P vs (All-tail P 
 
 if_followed : (P Q R : List ℕ → Type 0) (a b : Encoding)
     → ((xs ys : List ℕ) → P xs → Q ys → R (xs ++ ys)) → IfEncoded a P → IfEncoded b Q
-    → IfEncoded (followed a b) R
-unfolding followed
+    → IfEncoded (one_then a b) R
+unfolding one_then
 if_followed P Q R (rejected xs words) b f p q = tt
 if_followed P Q R (encoded xs) (rejected ys words) f p q = tt
 if_followed P Q R (encoded xs) (encoded ys) f p q = f xs ys p q
 
 -- a head, or a name, and what follows it
 if_headed : (Q R : List ℕ → Type 0) (xs : List ℕ) (b : Encoding)
-    → ((ys : List ℕ) → Q ys → R (xs ++ ys)) → IfEncoded b Q → IfEncoded (followed (encoded xs) b) R
+    → ((ys : List ℕ) → Q ys → R (xs ++ ys)) → IfEncoded b Q → IfEncoded (one_then (encoded xs) b) R
 if_headed Q R xs b f q = if_followed (λ zs. zs ≡ xs) Q R (encoded xs) b (λ zs ys e p.
     subst (λ z. R (z ++ ys)) (sym e) (f ys p)) refl q
 
@@ -335,15 +335,15 @@ pub indefinite_array_is_item : {V : Type 0} (item : V → Encoding) (vs : List V
     → AllByRecursion (λ v. IsOneItem shortest_heads (item v)) vs
     → IsOneItem shortest_heads (collected_encoding 4 None (each_encoding item vs))
 indefinite_array_is_item item vs p =
-    let Ended : List ℕ → Type 0 = λ zs. OneItem shortest_heads (opening 4 ++ zs) in
-    if_headed Ended (OneItem shortest_heads) (opening 4)
-    (followed (each_encoding item vs) (encoded closing)) (λ zs q. q)
-    (if_followed (SomeItems shortest_heads (length vs)) (λ zs. zs ≡ closing) Ended
-    (each_encoding item vs) (encoded closing)
+    let Ended : List ℕ → Type 0 = λ zs. OneItem shortest_heads (open_head 4 ++ zs) in
+    if_headed Ended (OneItem shortest_heads) (open_head 4)
+    (one_then (each_encoding item vs) (encoded break_bytes)) (λ zs q. q)
+    (if_followed (SomeItems shortest_heads (length vs)) (λ zs. zs ≡ break_bytes) Ended
+    (each_encoding item vs) (encoded break_bytes)
     (λ ys zs q e. record {
       of_tree = array_indefinite q.of_tree;
       formed = q.formed;
-      bytes_are = ap₂ (λ us ws. opening 4 ++ (us ++ ws)) q.bytes_are (sym e);
+      bytes_are = ap₂ (λ us ws. open_head 4 ++ (us ++ ws)) q.bytes_are (sym e);
     }) (each_is shortest_heads item vs p) refl)
 
 -- ---- maps
@@ -388,14 +388,14 @@ module _ (form : Form) where
   -- a map of pairs, whatever writes each
   entries_are_item : {V : Type 0} (item : V → Encoding) (vs : List V) → length vs < 2 ^ 64
       → AllByRecursion (λ v. IsOnePair form (item v)) vs
-      → IsOneItem form (followed (encoded (shortest_head 5 (length vs))) (each_encoding item vs))
+      → IsOneItem form (one_then (encoded (shortest_head 5 (length vs))) (each_encoding item vs))
   entries_are_item item vs h p =
       if_headed (SomeEntries form (length vs)) (OneItem form) (shortest_head 5 (length vs))
       (each_encoding item vs) (map_of_entries (length vs) h) (each_is_entry item vs p)
 
   -- a key, and its value after it
   pub pair_is_entry : (a b : Encoding) → IsOneItem form a → IsOneItem form b
-      → IsOnePair form (followed a b)
+      → IsOnePair form (one_then a b)
   pair_is_entry a b p q = if_followed (OneItem form) (OneItem form) (OnePair form) a b
       (λ xs ys k v. record {
         key = k.of_tree;
@@ -437,29 +437,29 @@ pub indefinite_map_is_item : {V : Type 0} (entry : V → Encoding) (vs : List V)
     → AllByRecursion (λ v. IsOnePair shortest_heads (entry v)) vs
     → IsOneItem shortest_heads (collected_encoding 5 None (each_encoding entry vs))
 indefinite_map_is_item entry vs p =
-    let Ended : List ℕ → Type 0 = λ zs. OneItem shortest_heads (opening 5 ++ zs) in
-    if_headed Ended (OneItem shortest_heads) (opening 5)
-    (followed (each_encoding entry vs) (encoded closing)) (λ zs q. q)
-    (if_followed (SomeEntries shortest_heads (length vs)) (λ zs. zs ≡ closing) Ended
-    (each_encoding entry vs) (encoded closing)
+    let Ended : List ℕ → Type 0 = λ zs. OneItem shortest_heads (open_head 5 ++ zs) in
+    if_headed Ended (OneItem shortest_heads) (open_head 5)
+    (one_then (each_encoding entry vs) (encoded break_bytes)) (λ zs q. q)
+    (if_followed (SomeEntries shortest_heads (length vs)) (λ zs. zs ≡ break_bytes) Ended
+    (each_encoding entry vs) (encoded break_bytes)
     (λ ys zs q e. record {
       of_tree = map_indefinite q.of_tree;
       formed = q.formed;
-      bytes_are = ap₂ (λ us ws. opening 5 ++ (us ++ ws)) q.bytes_are (sym e);
+      bytes_are = ap₂ (λ us ws. open_head 5 ++ (us ++ ws)) q.bytes_are (sym e);
     }) (each_is_entry shortest_heads entry vs p) refl)
 
 -- one whose length is given is the head and the parts
 pub collected_with_length : (major n : ℕ) (inner : Encoding)
-    → collected_encoding major (Some n) inner ≡ followed (encoded (shortest_head major n)) inner
+    → collected_encoding major (Some n) inner ≡ one_then (encoded (shortest_head major n)) inner
 collected_with_length major n inner =
-    ap (followed (encoded (shortest_head major n))) (followed_nil inner)
+    ap (one_then (encoded (shortest_head major n))) (followed_nil inner)
 
 -- ---- options and variants
 
 variant_is_struct : (name : List ℕ) (content : Encoding)
     → struct_encoding (field name content ∷ []) ≡ variant_encoding name content
 variant_is_struct name content =
-    ap (followed (encoded (shortest_head 5 1))) (followed_nil (field name content))
+    ap (one_then (encoded (shortest_head 5 1))) (followed_nil (field name content))
     ∙ sym (followed_both (shortest_head 5 1) (definite_string 3 name) content)
 
 module _ (form : Form) where

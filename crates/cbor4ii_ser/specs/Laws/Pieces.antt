@@ -6,7 +6,7 @@ use Rattle.std.proofs.lemmas.List.{append-nil}
 use Rattle.cbor4ii_rw.specs.Writer.{Output}
 use Rattle.cbor4ii_items.specs.Writing.{Writes}
 use Rattle.cbor4ii_items.specs.Laws.Written.{writes_then, writes_err, writes_as}
-use Rattle.cbor4ii_ser.specs.Pieces.{Pending, written, after, piece_fits_after, piece_bytes}
+use Rattle.cbor4ii_ser.specs.Pieces.{Pending, pieces_bytes, after, piece_fits_after, piece_bytes}
 use Rattle.cbor4ii_ser.specs.Pieces.{piece_pending}
 use Rattle.cbor4ii_ser.specs.TextState.{TextSeen, Wrote, Pends, writing_outcome}
 
@@ -17,19 +17,20 @@ after_append p [] qs = refl
 after_append p (a ∷ ps) qs = after_append (piece_pending (piece_fits_after p a) p a) ps qs
 
 pub written_append : (p : Pending) (ps qs : List (List ℕ))
-    → written p (ps ++ qs) ≡ written p ps ++ written (after p ps) qs
-unfolding written after
+    → pieces_bytes p (ps ++ qs) ≡ pieces_bytes p ps ++ pieces_bytes (after p ps) qs
+unfolding pieces_bytes after
 written_append p [] qs = refl
 written_append p (a ∷ ps) qs =
     ap (λ z. piece_bytes (piece_fits_after p a) p a ++ z)
     (written_append (piece_pending (piece_fits_after p a) p a) ps qs)
     ∙ sym (append_assoc (piece_bytes (piece_fits_after p a) p a)
-    (written (piece_pending (piece_fits_after p a) p a) ps)
-    (written (after (piece_pending (piece_fits_after p a) p a) ps) qs))
+    (pieces_bytes (piece_pending (piece_fits_after p a) p a) ps)
+    (pieces_bytes (after (piece_pending (piece_fits_after p a) p a) ps) qs))
 
-written_one : (p : Pending) (a : List ℕ) → written p (a ∷ []) ≡ piece_bytes (piece_fits_after p a) p
+written_one : (p : Pending) (a : List ℕ) → pieces_bytes p (a ∷ []) ≡ piece_bytes
+    (piece_fits_after p a) p
     a
-unfolding written
+unfolding pieces_bytes
 written_one p a = append-nil (piece_bytes (piece_fits_after p a) p a)
 
 after_one : (p : Pending) (a : List ℕ) → after p (a ∷ []) ≡ piece_pending (piece_fits_after p a) p a
@@ -37,20 +38,20 @@ unfolding after
 after_one p a = refl
 
 writes_on : {E : Type 0} {whole : Bool} (ps qs : List (List ℕ)) (p q : Pending) (o m n : Output)
-    (f g : Option E) → Writes whole (written p ps) o m (writing_outcome f) → Pends ps p q f
-    → (f ≡ None → Writes whole (written q qs) m n (writing_outcome g))
+    (f g : Option E) → Writes whole (pieces_bytes p ps) o m (writing_outcome f) → Pends ps p q f
+    → (f ≡ None → Writes whole (pieces_bytes q qs) m n (writing_outcome g))
     → ((e : E) → f ≡ Some e → (n ≡ m) × (g ≡ f))
-    → Writes whole (written p (ps ++ qs)) o n (writing_outcome g)
+    → Writes whole (pieces_bytes p (ps ++ qs)) o n (writing_outcome g)
 writes_on {whole = whole} ps qs p q o m n None g first is second stays =
-    writes_as (writing_outcome g) (ap (λ z. written p ps ++ written z qs) is
+    writes_as (writing_outcome g) (ap (λ z. pieces_bytes p ps ++ pieces_bytes z qs) is
     ∙ sym (written_append p ps qs))
     (writes_then {t = tt} (writing_outcome g) first (second refl))
 writes_on {E = E} {whole = whole} ps qs p q o m n (Some e) g first is second stays =
     let at = stays e refl in
-    subst (λ z. Writes whole (written p (ps ++ qs)) o z (writing_outcome g)) (sym at.0)
-    (subst (λ z. Writes whole (written p (ps ++ qs)) o m (writing_outcome z)) (sym at.1)
+    subst (λ z. Writes whole (pieces_bytes p (ps ++ qs)) o z (writing_outcome g)) (sym at.0)
+    (subst (λ z. Writes whole (pieces_bytes p (ps ++ qs)) o m (writing_outcome z)) (sym at.1)
     (writes_as (writing_outcome (Some e)) (sym (written_append p ps qs))
-    (writes_err (written (after p ps) qs) first)))
+    (writes_err (pieces_bytes (after p ps) qs) first)))
 
 pends_on : {E : Type 0} (ps qs : List (List ℕ)) (p q r : Pending) (f g : Option E) → Pends ps p q f
     → (f ≡ None → Pends qs q r g) → ((e : E) → f ≡ Some e → g ≡ f) → Pends (ps ++ qs) p r g
@@ -73,10 +74,10 @@ wrote_then {whole = whole} {ps = ps} {qs = qs} {a = a} {b = b} {c = c} first sec
 }
 
 writes_cut : {E : Type 0} {whole : Bool} (ps qs : List (List ℕ)) (p : Pending) (o m : Output)
-    (f : Option E) (e : E) → f ≡ Some e → Writes whole (written p ps) o m (writing_outcome f)
-    → Writes whole (written p (ps ++ qs)) o m (writing_outcome f)
+    (f : Option E) (e : E) → f ≡ Some e → Writes whole (pieces_bytes p ps) o m (writing_outcome f)
+    → Writes whole (pieces_bytes p (ps ++ qs)) o m (writing_outcome f)
 writes_cut ps qs p o m (Some e) x is w =
-    writes_as (Err e) (sym (written_append p ps qs)) (writes_err (written (after p ps) qs) w)
+    writes_as (Err e) (sym (written_append p ps qs)) (writes_err (pieces_bytes (after p ps) qs) w)
 writes_cut ps qs p o m None x is w = absurd (cc)
 
 pends_cut : {E : Type 0} (ps qs : List (List ℕ)) (p q : Pending) (f : Option E) (e : E) → f ≡ Some e
@@ -103,7 +104,7 @@ pub wrote_one : {E : Type 0} {whole : Bool} (piece : List ℕ) {p q : Pending} {
     → Wrote {E = E} whole (piece ∷ []) (record { output = o; pending = p; failure = f })
     (record { output = n; pending = q; failure = f })
 wrote_one {E = E} {whole = whole} piece {p = p} {q = q} {o = o} {n = n} {f = f} none w is = record {
-  writes = λ fine. subst (λ z. Writes whole (written p (piece ∷ [])) o n (writing_outcome z))
+  writes = λ fine. subst (λ z. Writes whole (pieces_bytes p (piece ∷ [])) o n (writing_outcome z))
       (sym none)
       (writes_as (Ok tt) (sym (written_one p piece)) w);
   pends = λ fine. subst (λ z. Pends (piece ∷ []) p q z) (sym none) (is ∙ sym (after_one p piece));

@@ -15,7 +15,8 @@ use Rattle.cbor4ii_tree.specs.{Inner.Does.Does}
 use Rattle.cbor4ii_tree.specs.{Inner.Does.value_or_error}
 use Rattle.cbor4ii_tree.specs.{Basis.InputError.{kind_name, require_utf8, tag_name}}
 use Rattle.cbor4ii_tree.specs.{Laws.Binds.step_up, Basis.Tree.string}
-use Rattle.cbor4ii_tree.specs.{Inner.Valuing.{HeadAt, ReadsUnder}}
+use Rattle.cbor4ii_tree.specs.Calls.CanonicalRejects.{ShortestAt}
+use Rattle.cbor4ii_tree.specs.Inner.Valuing.{ReadsUnder}
 use Rattle.cbor4ii_tree.specs.Inner.Valuing.{RejectsOf, RejectsOneValue, RejectsUnder, TakesTag}
 use Rattle.cbor4ii_tree.specs.declared.value.Value.{Bytes, Text}
 use Rattle.cbor4ii_tree.proofs.skip_calls.Doing.{Reached, reached_sound, does_ok, call_rejects}
@@ -25,9 +26,9 @@ use Rattle.cbor4ii_tree.proofs.{values.Heads.after_shortest, values.Strings.{vie
 -- ---- a shortest head
 
 pub reached_shortest : {E : Type 0} (major n : ℕ) {a m : View} → Moves {E = E} a m (Ok n)
-    → Sound (ReadsShortest major) a m n → Reached (HeadAt true major n) a m
+    → Sound (ReadsShortest major) a m n → Reached (ShortestAt major n) a m
 reached_shortest major n moves s =
-    reached_sound (ReadsShortest major) (HeadAt true major n)
+    reached_sound (ReadsShortest major) (ShortestAt major n)
     (λ xs k c _ r. head_at true major n xs k r.0 (λ e. r.1)) moves s
 
 -- the number that the head of a tag has

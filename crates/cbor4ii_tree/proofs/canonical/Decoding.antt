@@ -17,7 +17,8 @@ use Rattle.cbor4ii_tree.specs.{Basis.Item.Item}
 use Rattle.cbor4ii_tree.specs.{Calls.ReadingRejects.{ReadingRejects, reading_profile}}
 use Rattle.cbor4ii_tree.specs.{Basis.Tree.bytes}
 use Rattle.cbor4ii_tree.specs.declared.{decode_canonical.Canonical.Canonical, value.Value.Value}
-use Rattle.cbor4ii_tree.specs.Calls.Canonically.{ReadsCanonical, RejectsCanonical, IsNotCanonical}
+use Rattle.cbor4ii_tree.specs.Calls.Canonically.{ReadsCanonical, IsNotCanonical}
+use Rattle.cbor4ii_tree.specs.Calls.CanonicalRejects.{CanonicalRejects}
 use Rattle.cbor4ii_tree.specs.Calls.Canonically.{OnlyCanonical, AllCanonical, TakesEncoding}
 use Rattle.cbor4ii_tree.specs.Calls.Canonically.{EveryEncoding, PrefixCanonical, DepthCanonical}
 use Rattle.cbor4ii_tree.specs.Calls.Canonically.{NeverCanonical, OthersCanonical, ValueCanonical}
@@ -231,7 +232,7 @@ module _ {E : Type 0} {a b : View} {e : DecodeError E}
         }));
   }
 
-  canonical_rejects : Rejects RejectsCanonical a b e
+  canonical_rejects : Rejects CanonicalRejects a b e
   canonical_rejects = record { at = λ xs known. d.err xs known }
 
   pub canonical_err : Decodes canonical_format a b (Err e)

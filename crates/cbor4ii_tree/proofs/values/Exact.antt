@@ -10,10 +10,10 @@ use Rattle.cbor4ii_tree.specs.Basis.Item.{sequence}
 use Rattle.cbor4ii_tree.specs.Basis.Item.{mapping, tag, Items, no_items, item, item_count}
 use Rattle.cbor4ii_tree.specs.Basis.Item.{ItemPairs}
 use Rattle.cbor4ii_tree.specs.{Basis.Item.{no_item_pairs, item_pair, item_pair_count}}
-use Rattle.cbor4ii_tree.specs.{Calls.ExactOrder.parts_of}
-use Rattle.cbor4ii_tree.specs.Calls.ExactOrder.{first_numbers, inner_numbers, items_numbers}
-use Rattle.cbor4ii_tree.specs.Calls.ExactOrder.{numbers}
-use Rattle.cbor4ii_tree.specs.Calls.ExactOrder.{pairs_numbers, value_numbers, pair_numbers}
+use Rattle.cbor4ii_tree.specs.{Calls.TotalOrder.parts_of}
+use Rattle.cbor4ii_tree.specs.Calls.TotalOrder.{first_numbers, inner_numbers, items_numbers}
+use Rattle.cbor4ii_tree.specs.Calls.TotalOrder.{numbers}
+use Rattle.cbor4ii_tree.specs.Calls.TotalOrder.{pairs_numbers, value_numbers, pair_numbers}
 use Rattle.cbor4ii_tree.specs.{Calls.Order.{Compares, elements_of, pairs_of}, Basis.View.view}
 use Rattle.cbor4ii_tree.specs.{Basis.View.{items_view, pairs_view}, declared.value.Value.Value}
 use Rattle.cbor4ii_tree.specs.declared.value.Value.{Array, Map}

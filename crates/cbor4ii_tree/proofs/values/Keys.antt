@@ -13,9 +13,9 @@ use Rattle.std.specs.Ordering.{is_lt, nat_cmp, ordering_reverse}
 use Rattle.std.specs.{Cmp.Lexicographic.slice_cmp, declared.cmp.Ordering.Ordering}
 use Rattle.std.specs.declared.cmp.Ordering.TheVariants.{Less, Equal, Greater}
 use Rattle.cbor4ii_tree.specs.{Calls.Access.{HasKey, HasEqualKeys}, Basis.Item.Item}
-use Rattle.cbor4ii_tree.specs.Calls.ExactOrder.{IsOneOf, Repeats, is_before, key_of, numbers}
-use Rattle.cbor4ii_tree.specs.Calls.ExactOrder.{item_behind}
-use Rattle.cbor4ii_tree.specs.{Calls.ExactOrder.value_numbers, Calls.Order.Compares}
+use Rattle.cbor4ii_tree.specs.Calls.TotalOrder.{IsOneOf, Repeats, is_before, key_of, numbers}
+use Rattle.cbor4ii_tree.specs.Calls.TotalOrder.{item_behind}
+use Rattle.cbor4ii_tree.specs.{Calls.TotalOrder.value_numbers, Calls.Order.Compares}
 use Rattle.cbor4ii_tree.specs.{Calls.ItemEquality.{item_eq, item_eq-Decides}, Basis.View.pairs_view}
 use Rattle.cbor4ii_tree.specs.declared.value.Value.{Value}
 use Rattle.cbor4ii_tree.proofs.{encodings.Order.compares_alone, values.Exact.exact}

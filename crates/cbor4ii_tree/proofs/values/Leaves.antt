@@ -24,7 +24,7 @@ use Rattle.cbor4ii_tree.specs.{declared.value.FloatBits.FloatBits, declared.valu
 use Rattle.cbor4ii_tree.specs.{declared.value.Value.{Integer, Float}, Inner.Does.Does}
 use Rattle.cbor4ii_tree.specs.{Basis.InputError.{value_name, Small}}
 use Rattle.cbor4ii_tree.specs.{Basis.Item.{integer, float, IsItem}}
-use Rattle.cbor4ii_tree.specs.{Laws.Binds.step_up, Inner.Leaf.{CanTake, ExactHead}}
+use Rattle.cbor4ii_tree.specs.{Laws.Binds.step_up, Inner.Leaf.{CanTake, ShortestHead}}
 use Rattle.cbor4ii_tree.specs.Inner.Leaf.{StandsAhead, SeesLeaf, ShowsNext}
 use Rattle.cbor4ii_tree.specs.{Inner.Leaf.WantsContent}
 use Rattle.cbor4ii_tree.specs.{Basis.Meaning.{number, simple_item, content_item}}
@@ -90,13 +90,13 @@ module _ (b n k : ℕ) (bs : List ℕ) (small : b < 256) (fresh : IsBytes bs)
       (length-bytes_high_first k n)) ∙ take-append_seam (bytes_high_first k n) (drop k bs) ∙ ap
       (λ j. bytes_high_first j n) a.size
 
-  least : ExactHead b n k → b / 32 ≢ 7 → a.width ≡ shortest_width n
+  least : ShortestHead b n k → b / 32 ≢ 7 → a.width ≡ shortest_width n
   least canonical other = same_width a.width (shortest_width n) (sym a.size ∙ canonical.least other)
 
   pub int_ahead : (s : Sign) (z : ℤ) (size : ℕ) → size ≡ suc k → b / 32 ≡ sign_major s
-      → number s n ≡ z → StandsAhead (ExactHead b n k) (Integer z) size (b ∷ bs)
+      → number s n ≡ z → StandsAhead (ShortestHead b n k) (Integer z) size (b ∷ bs)
   int_ahead s z size e m is =
-      subst (λ j. StandsAhead (ExactHead b n k) (Integer z) j (b ∷ bs)) (sym e) (record {
+      subst (λ j. StandsAhead (ShortestHead b n k) (Integer z) j (b ∷ bs)) (sym e) (record {
         some = omega arith;
         within = omega (arith, stands);
         fresh = (small, IsBytes-take k bs fresh);
@@ -116,11 +116,11 @@ module _ (b n k : ℕ) (bs : List ℕ) (small : b < 256) (fresh : IsBytes bs)
 
   pub float_ahead : (p : Precision) (f : FloatBits) (size : ℕ) → size ≡ suc (precision_bytes p)
       → b ≡ precision_byte p → float p n ≡ view (Float f)
-      → StandsAhead (ExactHead b n k) (Float f) size (b ∷ bs)
+      → StandsAhead (ShortestHead b n k) (Float f) size (b ∷ bs)
   float_ahead p f size e is means =
       let t = float_fits p a.width n a.fits (a.says ∙ ap (λ j. j % 32) is) in
       let same : k ≡ precision_bytes p = a.size ∙ t.0 in
-      subst (λ j. StandsAhead (ExactHead b n k) (Float f) j (b ∷ bs))
+      subst (λ j. StandsAhead (ShortestHead b n k) (Float f) j (b ∷ bs))
       (sym (e ∙ ap suc (sym same))) (record {
         some = omega arith;
         within = omega (arith, stands);
@@ -139,12 +139,12 @@ module _ (b n k : ℕ) (bs : List ℕ) (small : b < 256) (fresh : IsBytes bs)
   pub string_ahead : (kind : Kind) (v : Value) (size : ℕ) (content : List ℕ) → size ≡ suc (k + n)
       → b / 32 ≡ kind_major kind → n ≤ length bs - k → content ≡ take n (drop k bs)
       → TextIsUtf8 kind content → content_item kind content ≡ view v → IsItem (view v)
-      → StandsAhead (ExactHead b n k) v size (b ∷ bs)
+      → StandsAhead (ShortestHead b n k) v size (b ∷ bs)
   string_ahead kind v size content e m room is valid means ranged =
       let long : length content ≡ n = ap length is
       ∙ length-take-le n (drop k bs) (omega (arith, length-drop k bs, room)) in
       let first : b ≡ 32 * kind_major kind + additional a.width n = omega (arith, m, a.says) in
-      subst (λ j. StandsAhead (ExactHead b n k) v j (b ∷ bs)) (sym e) (record {
+      subst (λ j. StandsAhead (ShortestHead b n k) v j (b ∷ bs)) (sym e) (record {
         some = omega arith;
         within = omega (arith, stands, room);
         fresh = (small, IsBytes-take (k + n) bs fresh);
@@ -164,7 +164,7 @@ module _ (b n k : ℕ) (bs : List ℕ) (small : b < 256) (fresh : IsBytes bs)
       })
 
 pub simple_ahead : (b n k : ℕ) (bs : List ℕ) (v : Value) → b < 256 → SimpleOf b (Some v)
-    → StandsAhead (ExactHead b n k) v 1 (b ∷ bs)
+    → StandsAhead (ShortestHead b n k) v 1 (b ∷ bs)
 simple_ahead b n k bs v small s = record {
   some = omega arith;
   within = omega arith;

@@ -2,7 +2,7 @@
 use Rattle.std.specs.Prelude.{◌≡◌, ◌≤◌, ℕ, List, ◌++◌, length, take, Some, Result, IfOk, ◌⊎◌}
 use Rattle.cbor4ii_rw.specs.View.{View, IfKnown}
 use Rattle.cbor4ii_rw.specs.declared.error.DecodeError.{DecodeError}
-use Rattle.cbor4ii_items.specs.Decoding.{Reads as ReadsOf, RejectsAt, Format}
+use Rattle.cbor4ii_items.specs.Decoding.{Reads as ReadsOf, Format}
 use Rattle.cbor4ii_items.specs.Budget.{CostFits}
 use Rattle.cbor4ii_items.specs.Decoding.{leaf_format, format_by, taking_memory}
 use Rattle.cbor4ii_items.specs.InputError.{InputError, not_canonical}
@@ -27,12 +27,9 @@ pub record ReadsCanonicalItem (xs : List ℕ) (v : Item) (n c : ℕ) : Type 0 wh
 abbrev pub ReadsCanonical : ReadsOf Canonical
 ReadsCanonical xs v n c = ReadsCanonicalItem xs (view v.0) n c
 
-abbrev pub RejectsCanonical : RejectsAt
-RejectsCanonical xs budget e rest = CanonicalRejects xs budget e rest
-
 abbrev pub canonical_format : Format Canonical
 canonical_format =
-    format_by (λ v. view v.0) (taking_memory (leaf_format ReadsCanonicalItem RejectsCanonical))
+    format_by (λ v. view v.0) (taking_memory (leaf_format ReadsCanonicalItem CanonicalRejects))
 
 -- the error says that an encoding is not the canonical one
 abbrev pub IsNotCanonical : InputError → Type 0

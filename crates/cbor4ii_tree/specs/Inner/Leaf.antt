@@ -26,7 +26,7 @@ use Rattle.cbor4ii_tree.specs.declared.leaf.TakenOrNext.TheVariants as looked
 
 -- The head is not undefined, and of major types 0 to 6 it is the shortest.
 -- A head with this first byte and an argument in so many bytes may begin a canonical encoding.
-pub record ExactHead (first number size : ℕ) : Type 0 where
+pub record ShortestHead (first number size : ℕ) : Type 0 where
   pub defined : first ≢ simple_byte simple_undefined
   pub least : first / 32 ≢ 7 → size ≡ byte_count (shortest_width number)
 

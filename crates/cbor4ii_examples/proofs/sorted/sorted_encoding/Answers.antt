@@ -1,7 +1,7 @@
 use Rattle.std.proofs.Common.{◌≡◌, [], ◌++◌, refl, ap, ◌∙◌, rules}
 use Rattle.cbor4ii_tree.specs.Basis.Canonical.{canonical_encoding}
 use Rattle.cbor4ii_tree.specs.Basis.View.{view}
-use Rattle.cbor4ii_examples.specs.Sorted.{sorted}
+use Rattle.cbor4ii_examples.specs.Sorted.{sort_of}
 use Rattle.cbor4ii_examples.proofs.sorted.sorted_encoding.Goals as goal
 
 pub returns-in-Ok-clause-encodes : goal.returns-in-Ok-clause-encodes
@@ -15,5 +15,5 @@ returns-in-Ok-clause-encodes c =
     let empty : held ≡ [] = cc in
     let from : held ++ encoding ≡ encoding = ap (λ xs. xs ++ encoding) empty in
     let all : c.into_inner.result.items ≡ encoding = cc in
-    let same : view c.sort.new.value ≡ sorted (view c.args.value.now) = search rules in
+    let same : view c.sort.new.value ≡ sort_of (view c.args.value.now) = search rules in
     all ∙ ap canonical_encoding same

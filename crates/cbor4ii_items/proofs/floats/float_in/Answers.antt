@@ -8,6 +8,7 @@ returns c =
     let count : 1 + c.args.bytes - 1 ≡ c.args.bytes = omega arith in (
       omega arith,
       rw c.bits_of.ensures.value
-          (prefix_is_float c.args.marker c.args.bytes prefix _ (ap (λ j. take j (drop 1 prefix)) count)
+          (prefix_is_float c.args.marker c.args.bytes prefix _
+          (ap (λ j. take j (drop 1 prefix)) count)
           (omega arith) c.if-prefix-marker.false (omega arith) c.bits_of.ensures.bytes),
     )

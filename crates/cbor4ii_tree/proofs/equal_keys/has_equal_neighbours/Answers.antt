@@ -1,5 +1,5 @@
 use Rattle.std.proofs.Common.{◌≢◌, ◌-◌, drop, sym, ap, ◌∙◌, arith, length-drop}
-use Rattle.cbor4ii_tree.specs.Calls.ExactOrder.{item_behind}
+use Rattle.cbor4ii_tree.specs.Calls.TotalOrder.{item_behind}
 use Rattle.cbor4ii_tree.proofs.values.Keys.{repeats_past, repeats_short}
 use Rattle.cbor4ii_tree.proofs.equal_keys.has_equal_neighbours.Goals as goal
 

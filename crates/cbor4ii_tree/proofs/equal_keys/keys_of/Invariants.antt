@@ -1,5 +1,5 @@
 use Rattle.std.proofs.Common.{◌≡◌, map, take}
-use Rattle.cbor4ii_tree.specs.Calls.ExactOrder.{key_of, item_behind}
+use Rattle.cbor4ii_tree.specs.Calls.TotalOrder.{key_of, item_behind}
 use Rattle.cbor4ii_tree.proofs.equal_keys.keys_of.Given as goal
 
 abbrev pub invariant-loop-pair : goal.invariant-loop-pair

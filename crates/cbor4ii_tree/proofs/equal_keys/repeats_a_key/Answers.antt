@@ -2,7 +2,7 @@ use Rattle.std.proofs.Common.{arith, map, rules, subst, sym}
 use Rattle.std.proofs.lemmas.List.Sorted.{answers_always}
 use Rattle.std.specs.List.Sorted.{IsSortedBy}
 use Rattle.cbor4ii_tree.specs.{Calls.Access.HasTwoPairs, Basis.View.pairs_view}
-use Rattle.cbor4ii_tree.specs.Calls.ExactOrder.{Repeats, is_before, item_behind}
+use Rattle.cbor4ii_tree.specs.Calls.TotalOrder.{Repeats, is_before, item_behind}
 use Rattle.cbor4ii_tree.proofs.values.Keys.{before_by, before_is_order, keys_short, sorted_keys}
 use Rattle.cbor4ii_tree.proofs.values.Views.{pair_count-pairs_view}
 use Rattle.cbor4ii_tree.proofs.equal_keys.repeats_a_key.Goals as goal

@@ -1,6 +1,6 @@
 use Rattle.std.proofs.Common.{Ok, Err}
 use Rattle.std.proofs.lemmas.Result.{err_from_is_err_and}
-use Rattle.cbor4ii_items.specs.Laws.Calls.{trailing, of_exact, decodes_exactly}
+use Rattle.cbor4ii_items.specs.Laws.Calls.{part_then, of_exact, decodes_exactly}
 use Rattle.cbor4ii_items.specs.Laws.SequenceHeads.{head_err, counts, opens}
 use Rattle.cbor4ii_items.specs.Sequences.{count_format, indefinite_format, inside_format}
 use Rattle.cbor4ii_items.specs.Sequences.{in_vector}
@@ -19,7 +19,7 @@ returns-in_err-count g c =
 pub returns-in-Some : goal.returns-in-Some
 returns-in-Some g c =
     let s = g.Q.Sequence.part in
-    decodes_exactly (trailing (count_format s _) (inside_format c.args.name.now c.args.major s)
+    decodes_exactly (part_then (count_format s _) (inside_format c.args.name.now c.args.major s)
     c.take_definite.result (counts in_vector c.args.name.now c.args.major s c.requires c.in-Some.is
     (decodes_of_runs (length_leaf c.args.name.now _ c.requires) (Ok _) c.in_ok-count.ensures.runs
     tt c.in_ok-count.ensures.progress)) (of_exact c.take_definite.ensures))
@@ -27,7 +27,7 @@ returns-in-Some g c =
 pub returns-in-None : goal.returns-in-None
 returns-in-None g c =
     let s = g.Q.Sequence.part in
-    decodes_exactly (trailing (indefinite_format c.args.name.now s)
+    decodes_exactly (part_then (indefinite_format c.args.name.now s)
     (inside_format c.args.name.now c.args.major s) c.take_indefinite.result
     (opens in_vector c.args.name.now c.args.major s c.requires c.in-None.is
     (decodes_of_runs (length_leaf c.args.name.now _ c.requires) (Ok _) c.in_ok-count.ensures.runs

@@ -1,7 +1,7 @@
 use Rattle.std.proofs.Common.{refl, arith, rules, Ok, Err}
 use Rattle.std.specs.Prelude.{codes}
 use Rattle.std.proofs.lemmas.Result.{err_from_is_err_and}
-use Rattle.cbor4ii_items.specs.Laws.Calls.{trailing, out_of_memory}
+use Rattle.cbor4ii_items.specs.Laws.Calls.{part_then, out_of_memory}
 use Rattle.cbor4ii_items.specs.Laws.Pairs.{pair_ok, key_err, value_err}
 use Rattle.cbor4ii_items.specs.Laws.Calls.{of_exact, decodes_exactly}
 use Rattle.cbor4ii_items.specs.Sequences.{in_vector}
@@ -95,7 +95,7 @@ array_inside-returns-in-Err g t c =
 
 pub array_inside-returns-in-Ok-Some : goal.array_inside-returns-in-Ok-Some
 array_inside-returns-in-Ok-Some g t c =
-    decodes_exactly (trailing (count_format any_format _) values_inside
+    decodes_exactly (part_then (count_format any_format _) values_inside
     (answer_of c.definite_values.result)
     (counts in_vector (codes "array") 4 any_format four_small c.in-Ok-Some.field-0-is
     c.in-Ok-Some.ensures)
@@ -103,7 +103,7 @@ array_inside-returns-in-Ok-Some g t c =
 
 pub array_inside-returns-in-Ok-None : goal.array_inside-returns-in-Ok-None
 array_inside-returns-in-Ok-None g t c =
-    decodes_exactly (trailing (indefinite_format (codes "array") any_format) values_inside
+    decodes_exactly (part_then (indefinite_format (codes "array") any_format) values_inside
     (answer_of c.indefinite_values.result)
     (opens in_vector (codes "array") 4 any_format four_small c.in-Ok-None.field-0-is
     c.in-Ok-None.ensures)
@@ -209,7 +209,7 @@ map_inside-returns-in-Err g t c =
 
 pub map_inside-returns-in-Ok-Some : goal.map_inside-returns-in-Ok-Some
 map_inside-returns-in-Ok-Some g t c =
-    decodes_exactly (trailing (count_format any_pair _) pairs_inside
+    decodes_exactly (part_then (count_format any_pair _) pairs_inside
     (answer_of c.definite_pairs.result)
     (counts in_vector (codes "map") 5 any_pair five_small c.in-Ok-Some.field-0-is
     c.in-Ok-Some.ensures)
@@ -217,7 +217,7 @@ map_inside-returns-in-Ok-Some g t c =
 
 pub map_inside-returns-in-Ok-None : goal.map_inside-returns-in-Ok-None
 map_inside-returns-in-Ok-None g t c =
-    decodes_exactly (trailing (indefinite_format (codes "map") any_pair) pairs_inside
+    decodes_exactly (part_then (indefinite_format (codes "map") any_pair) pairs_inside
     (answer_of c.indefinite_pairs.result)
     (opens in_vector (codes "map") 5 any_pair five_small c.in-Ok-None.field-0-is
     c.in-Ok-None.ensures)

@@ -1,6 +1,6 @@
 use Rattle.std.proofs.Common.{Ok, Err, refl}
 use Rattle.std.proofs.lemmas.Result.{err_from_is_err_and}
-use Rattle.cbor4ii_items.specs.Laws.Calls.{by_ok, by_err_if, of_exact, accepted}
+use Rattle.cbor4ii_items.specs.Laws.Calls.{by_ok, by_err_if, of_exact, exactly_ok}
 use Rattle.cbor4ii_items.specs.Sequences.{pair_format}
 use Rattle.cbor4ii.specs.Tuples.{three}
 use Rattle.cbor4ii.specs.TypedParts.{part_of, part_lawful, two_of}
@@ -20,7 +20,7 @@ pub returns-in-Ok : goal.returns-in-Ok
 returns-in-Ok g c =
     let first = part_of g.A.Typed.promise in
     let others = two_of g.B.Typed.promise g.C.Typed.promise in
-    of_exact (by_ok three (pair_format first others) refl (accepted (two_ok first others
+    of_exact (by_ok three (pair_format first others) refl (exactly_ok (two_ok first others
     (tell g.A.Typed.promise (Ok _) c.in_ok-first.ensures) c.in-Ok.ensures)))
 
 pub returns-in-Err : goal.returns-in-Err

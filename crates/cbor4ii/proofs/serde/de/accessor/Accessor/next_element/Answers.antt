@@ -1,5 +1,5 @@
 use Rattle.std.proofs.Common.{Ok, Err}
-use Rattle.cbor4ii_items.specs.Laws.Calls.{of_exact, accepted}
+use Rattle.cbor4ii_items.specs.Laws.Calls.{of_exact, exactly_ok}
 use Rattle.cbor4ii.specs.TypedParts.{part_of}
 use Rattle.cbor4ii.proofs.Going.{next_end, next_part, next_rejected, next_err, may_go_on}
 use Rattle.cbor4ii.proofs.Going.{left_started, left_ended, tried_started, shrinks_by}
@@ -10,7 +10,7 @@ pub returns-in-Ok-clause-decodes : goal.returns-in-Ok-clause-decodes
 returns-in-Ok-clause-decodes g c =
     of_exact (next_part _ (part_of g.T.Typed.promise)
     (rw c.in-Ok-true.field-0-test at c.in-Ok-true.ensures.decodes)
-    (accepted (tell g.T.Typed.promise (Ok _) c.in-Ok.ensures)))
+    (exactly_ok (tell g.T.Typed.promise (Ok _) c.in-Ok.ensures)))
 
 pub returns-in-Err-deserialize-clause-decodes : goal.returns-in-Err-deserialize-clause-decodes
 returns-in-Err-deserialize-clause-decodes g c =

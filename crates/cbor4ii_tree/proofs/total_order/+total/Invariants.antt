@@ -1,8 +1,8 @@
 use Rattle.std.proofs.Common.{drop}
 use Rattle.std.specs.declared.cmp.Ordering.{Ordering}
 use Rattle.cbor4ii_items.specs.SequenceBytes.{items_bytes}
-use Rattle.cbor4ii_tree.specs.{Calls.ExactOrder.{value_numbers, pair_numbers}, Calls.Order.Compares}
-use Rattle.cbor4ii_tree.proofs.exact_order.+exact.Given as goal
+use Rattle.cbor4ii_tree.specs.{Calls.TotalOrder.{value_numbers, pair_numbers}, Calls.Order.Compares}
+use Rattle.cbor4ii_tree.proofs.total_order.+total.Given as goal
 
 -- how the rest compares is how all compares
 abbrev pub invariant-cmp_items-loop-i : goal.invariant-cmp_items-loop-i

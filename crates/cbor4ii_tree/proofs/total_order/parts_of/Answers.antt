@@ -1,8 +1,8 @@
 use Rattle.std.proofs.Common.{sym, ap, ◌∙◌, arith}
-use Rattle.cbor4ii_tree.specs.{Calls.ExactOrder.parts_of, Basis.View.view}
+use Rattle.cbor4ii_tree.specs.{Calls.TotalOrder.parts_of, Basis.View.view}
 use Rattle.cbor4ii_tree.proofs.{values.Encoding.view-Array, values.Views.view-Map}
 use Rattle.cbor4ii_tree.proofs.values.Views.{item_count-items_view, pair_count-pairs_view}
-use Rattle.cbor4ii_tree.proofs.exact_order.parts_of.Goals as goal
+use Rattle.cbor4ii_tree.proofs.total_order.parts_of.Goals as goal
 
 pub returns-in-Array : goal.returns-in-Array
 returns-in-Array c =

@@ -2,8 +2,8 @@
 //! by what stands in them.
 ghost use Rattle.std.specs.Prelude.{◌≡◌, length};
 ghost use Rattle.cbor4ii_items.specs.SequenceBytes.{items_bytes};
-ghost use Rattle.cbor4ii_tree.specs.Calls.ExactOrder.{parts_of, inner_numbers, value_numbers};
-ghost use Rattle.cbor4ii_tree.specs.Calls.ExactOrder.{pair_numbers};
+ghost use Rattle.cbor4ii_tree.specs.Calls.TotalOrder.{parts_of, inner_numbers, value_numbers};
+ghost use Rattle.cbor4ii_tree.specs.Calls.TotalOrder.{pair_numbers};
 ghost use Rattle.cbor4ii_tree.specs.Calls.Order.{Compares};
 ghost use Rattle.cbor4ii_tree.specs.Basis.View.{view, float_view};
 
@@ -13,8 +13,8 @@ use crate::value::{FloatBits, Value};
 use std::cmp::Ordering;
 
 /// How two values compare in that order. Nothing is written, and no memory is taken.
-#[cycle(exact)]
-pub(crate) fn cmp_exactly(a: &Value, b: &Value) -> Ordering
+#[cycle(total)]
+pub(crate) fn total_cmp(a: &Value, b: &Value) -> Ordering
     ensures { Compares result (value_numbers a.now) (value_numbers b.now) }
 {
     match parts_of(a).cmp(&parts_of(b)) {
@@ -24,7 +24,7 @@ pub(crate) fn cmp_exactly(a: &Value, b: &Value) -> Ordering
 }
 
 /// How what stands in two values of one kind compares.
-#[cycle(exact)]
+#[cycle(total)]
 fn cmp_inside(a: &Value, b: &Value) -> Ordering
     requires { parts_of (view a.now) ≡ parts_of (view b.now) }
     ensures { Compares result (inner_numbers (view a.now)) (inner_numbers (view b.now)) }
@@ -36,21 +36,21 @@ fn cmp_inside(a: &Value, b: &Value) -> Ordering
         Value::Array(items) => cmp_items(items, elements_of(b)),
         Value::Map(pairs) => cmp_pairs(pairs, pairs_of(b)),
         Value::Tag(_, inner) => match b {
-            Value::Tag(_, other) => cmp_exactly(inner, other),
+            Value::Tag(_, other) => total_cmp(inner, other),
             _ => Ordering::Equal,
         },
     }
 }
 
 /// How as many elements compare, one after another.
-#[cycle(exact)]
+#[cycle(total)]
 fn cmp_items(a: &[Value], b: &[Value]) -> Ordering
     requires { length a.now ≡ length b.now }
     ensures { Compares result
         (items_bytes value_numbers a.now) (items_bytes value_numbers b.now) }
 {
     for i in 0..a.len() {
-        let order = cmp_exactly(&a[i], &b[i]);
+        let order = total_cmp(&a[i], &b[i]);
         if order != Ordering::Equal {
             return order;
         }
@@ -59,7 +59,7 @@ fn cmp_items(a: &[Value], b: &[Value]) -> Ordering
 }
 
 /// How as many keys and values compare.
-#[cycle(exact)]
+#[cycle(total)]
 fn cmp_pairs(a: &[(Value, Value)], b: &[(Value, Value)]) -> Ordering
     requires { length a.now ≡ length b.now }
     ensures { Compares result
@@ -67,11 +67,11 @@ fn cmp_pairs(a: &[(Value, Value)], b: &[(Value, Value)]) -> Ordering
 {
     for i in 0..a.len() {
         let (x, y) = (&a[i], &b[i]);
-        let keys = cmp_exactly(&x.0, &y.0);
+        let keys = total_cmp(&x.0, &y.0);
         if keys != Ordering::Equal {
             return keys;
         }
-        let values = cmp_exactly(&x.1, &y.1);
+        let values = total_cmp(&x.1, &y.1);
         if values != Ordering::Equal {
             return values;
         }

@@ -1,20 +1,20 @@
 use Rattle.std.proofs.Common.{◌≡◌, ◌≢◌, length, sym, ap, ap₂, ◌∙◌, subst, subst₂, arith, rules}
 use Rattle.std.specs.declared.cmp.Ordering.TheVariants.{Equal}
 use Rattle.cbor4ii_items.specs.SequenceBytes.{items_bytes}
-use Rattle.cbor4ii_tree.specs.{Calls.ExactOrder.{value_numbers, pair_numbers}, Calls.Order.Compares}
+use Rattle.cbor4ii_tree.specs.{Calls.TotalOrder.{value_numbers, pair_numbers}, Calls.Order.Compares}
 use Rattle.cbor4ii_tree.specs.{Basis.View.view, declared.value.Value.the_lemmas}
 use Rattle.cbor4ii_tree.proofs.encodings.Order.{heads_cmp, compares_then}
 use Rattle.cbor4ii_tree.proofs.values.Exact.{exact_arrays, exact_maps, other_parts, same_parts}
 use Rattle.cbor4ii_tree.proofs.values.Ordered.{compares_from, compares_here}
-use Rattle.cbor4ii_tree.proofs.exact_order.+exact.Goals as goal
+use Rattle.cbor4ii_tree.proofs.total_order.+total.Goals as goal
 
-pub cmp_exactly-returns-in-Equal : goal.cmp_exactly-returns-in-Equal
-cmp_exactly-returns-in-Equal t c =
+pub total_cmp-returns-in-Equal : goal.total_cmp-returns-in-Equal
+total_cmp-returns-in-Equal t c =
     same_parts (view c.args.a.now) (view c.args.b.now) c.cmp_inside.result (sym (c.cmp.ensures
     ∙ ap₂ heads_cmp c.parts_of.ensures c.parts_of-2.ensures) ∙ c.in-Equal.is) c.cmp_inside.ensures
 
-pub cmp_exactly-returns-in_default : goal.cmp_exactly-returns-in_default
-cmp_exactly-returns-in_default t c =
+pub total_cmp-returns-in_default : goal.total_cmp-returns-in_default
+total_cmp-returns-in_default t c =
     other_parts (view c.args.a.now) (view c.args.b.now) c.cmp.result (c.cmp.ensures
     ∙ ap₂ heads_cmp c.parts_of.ensures c.parts_of-2.ensures) c.in_default.not-Equal
 
@@ -46,11 +46,11 @@ pub cmp_pairs-loop-i-preserved : goal.cmp_pairs-loop-i-preserved
 cmp_pairs-loop-i-preserved t c = λ r rest.
     let x = c.index-a-i.result in
     let y = c.index-b-i.result in
-    let keys : c.cmp_exactly-keys.result ≡ Equal = search rules in
-    let values : c.cmp_exactly-values.result ≡ Equal = search rules in
+    let keys : c.total_cmp-keys.result ≡ Equal = search rules in
+    let values : c.total_cmp-values.result ≡ Equal = search rules in
     let here = compares_then (subst (λ o. Compares o (value_numbers x.0) (value_numbers y.0)) keys
-    c.cmp_exactly-keys.ensures) (subst (λ o. Compares o (value_numbers x.1) (value_numbers y.1))
-    values c.cmp_exactly-values.ensures) in
+    c.total_cmp-keys.ensures) (subst (λ o. Compares o (value_numbers x.1) (value_numbers y.1))
+    values c.total_cmp-values.ensures) in
     c.loop-i.invariant r (compares_from pair_numbers c.args.a.now c.args.b.now c.loop-i.i x y r
     c.loop-i-test.true (omega arith) c.index-a-i.is c.index-b-i.is here rest)
 
@@ -58,10 +58,10 @@ pub cmp_pairs-returns-then-ne-2 : goal.cmp_pairs-returns-then-ne-2
 cmp_pairs-returns-then-ne-2 t c =
     let x = c.index-a-i.result in
     let y = c.index-b-i.result in
-    let keys : c.cmp_exactly-keys.result ≡ Equal = search rules in
-    let differ : c.cmp_exactly-values.result ≢ Equal = search rules in
+    let keys : c.total_cmp-keys.result ≡ Equal = search rules in
+    let differ : c.total_cmp-values.result ≢ Equal = search rules in
     let here = compares_then (subst (λ o. Compares o (value_numbers x.0) (value_numbers y.0)) keys
-    c.cmp_exactly-keys.ensures) c.cmp_exactly-values.ensures in
-    c.loop-i.invariant c.cmp_exactly-values.result (compares_here pair_numbers c.args.a.now
-    c.args.b.now c.loop-i.i x y c.cmp_exactly-values.result c.loop-i-test.true (omega arith)
+    c.total_cmp-keys.ensures) c.total_cmp-values.ensures in
+    c.loop-i.invariant c.total_cmp-values.result (compares_here pair_numbers c.args.a.now
+    c.args.b.now c.loop-i.i x y c.total_cmp-values.result c.loop-i-test.true (omega arith)
     c.index-a-i.is c.index-b-i.is differ here)
