@@ -104,30 +104,30 @@ opening_carries a b xs v n c e h = subst (λ indefinite. ReadsAfterOpening indef
 
 -- ---- a station
 
-abbrev parts : Bool → Station → Bool × AfterOpening
-parts indefinite v = (indefinite, (v.id, (v.name, tt)))
+abbrev station_parts : Bool → Station → Bool × AfterOpening
+station_parts indefinite v = (indefinite, (v.id, (v.name, tt)))
 
 pub station_one : InOneWay ReadsStation SameStation
 station_one xs v w n m c d p q =
     let whole = then_one ReadsOpening ReadsAfterOpening (λ a b. a ≡ b) SameNumbered opening_carries
     opening_one numbered_one in
-    let r = whole xs (parts p.0 v) (parts q.0 w) n m c d p.1 q.1 in
+    let r = whole xs (station_parts p.0 v) (station_parts q.0 w) n m c d p.1 q.1 in
     (r.0, r.1, (r.2.1.0, r.2.1.1.0))
 
 pub station_within : Within ReadsStation
 station_within xs v n c p =
-    then_within ReadsOpening ReadsAfterOpening opening_within numbered_within xs (parts p.0 v) n c
+    then_within ReadsOpening ReadsAfterOpening opening_within numbered_within xs (station_parts p.0 v) n c
     p.1
 
 pub station_positive : Positive ReadsStation
 station_positive xs v n c p =
-    then_positive ReadsOpening ReadsAfterOpening opening_positive xs (parts p.0 v) n c p.1
+    then_positive ReadsOpening ReadsAfterOpening opening_positive xs (station_parts p.0 v) n c p.1
 
 pub station_alone : Alone ReadsStation
 station_alone xs ys v n c p =
     let whole =
     then_alone ReadsOpening ReadsAfterOpening opening_within opening_alone numbered_alone in
-    (p.0, whole xs ys (parts p.0 v) n c p.1)
+    (p.0, whole xs ys (station_parts p.0 v) n c p.1)
 
 pub station_lawful : IsLawful station_format
 station_lawful = record {

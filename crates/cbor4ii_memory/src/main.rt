@@ -10,9 +10,9 @@
 //! otherwise.
 #![tactic(auto)]
 
+mod alone;
 mod answer;
 mod debug_text;
-mod exact;
 mod growth;
 mod in_place;
 mod items;
@@ -37,7 +37,7 @@ mod writing_parts;
 mod writing_typed;
 mod writing_values;
 
-use crate::exact::{Alone, read_alone};
+use crate::alone::{Alone, read_alone};
 use crate::tally::{Broken, Tally};
 use std::alloc::Global;
 use std::io::Read;

@@ -1,6 +1,6 @@
 //! One item of a slice, read in the ways that are for a slice alone: as the whole input, and as
 //! bytes that are kept where they stand.
-use crate::exact::{Alone, reported};
+use crate::alone::{Alone, reported};
 use crate::typed::as_core;
 use cbor4ii::serde::{Deserialize, Deserializer, from_slice_at, from_slice_whole};
 use cbor4ii_items::decode::Decode;

@@ -3,7 +3,8 @@
 ghost use Rattle.std.specs.Prelude.{◌≡◌, ◌≢◌, ◌≤◌, ◌+◌, ◌-◌, length, ◌∷◌, ◌↔◌, IsTrue, ℕ};
 ghost use Rattle.std.specs.Prelude.{List};
 ghost use Rattle.cbor4ii_tree.specs.Inner.Ahead.{leaf_bytes, in_map, Allows, IsIndefinite};
-ghost use Rattle.cbor4ii_tree.specs.Inner.Ahead.{BeginsWithBreak, Sees, AllShort};
+ghost use Rattle.cbor4ii_tree.specs.Calls.RawParts.{BeginsWithBreak};
+ghost use Rattle.cbor4ii_tree.specs.Inner.Ahead.{Sees, AllShort};
 ghost use Rattle.cbor4ii_tree.specs.Inner.Runs.{IsLeafAt, BeginsRun};
 
 use crate::skip::{Additional, After, Start, pairs_of, parse_info, start_of};

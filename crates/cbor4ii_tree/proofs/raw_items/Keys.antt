@@ -14,7 +14,7 @@ use Rattle.std.proofs.lemmas.Int.{ints, to_z-of_z, to_z_pos}
 use Rattle.std.specs.Cmp.{signed_Decides}
 use Rattle.cbor4ii_items.specs.Head.{Width}
 use Rattle.cbor4ii_items.specs.Laws.Heads.{argument_below}
-use Rattle.cbor4ii_tree.specs.Inner.Ahead.{BeginsWithBreak}
+use Rattle.cbor4ii_tree.specs.Calls.RawParts.{BeginsWithBreak}
 use Rattle.cbor4ii_tree.specs.Basis.Item.{text}
 use Rattle.cbor4ii_tree.specs.Calls.ItemEquality.{item_eq-Decides}
 use Rattle.cbor4ii_tree.specs.Laws.Initials.{begins}

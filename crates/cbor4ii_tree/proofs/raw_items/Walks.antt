@@ -4,7 +4,7 @@ use Rattle.std.proofs.Common.{Option, Some, None, refl, sym, ap, ◌∙◌, subs
 use Rattle.std.proofs.Common.{get_or}
 use Rattle.cbor4ii_items.specs.Head.{break}
 use Rattle.cbor4ii_items.specs.Initial.{unsigned, negative, byte_string, text_string}
-use Rattle.cbor4ii_tree.specs.Inner.Ahead.{BeginsWithBreak}
+use Rattle.cbor4ii_tree.specs.Calls.RawParts.{BeginsWithBreak}
 use Rattle.cbor4ii_tree.specs.Laws.Initials.{BeginsNoBreak, begins}
 use Rattle.cbor4ii_tree.specs.Calls.RawParts.{Agrees, AreToCome, GivesItem, GivesPair, IsHead}
 use Rattle.cbor4ii_tree.specs.Calls.RawParts.{IsLeftAfter, IsNextLength, IsRest, ItemsToCome}

@@ -3,7 +3,7 @@
 use denote.Ref.{Bor}
 use Rattle.std.specs.Prelude.{◌≡◌, ◌≢◌, ℕ, zero, suc, ◌<◌, ◌≤◌, ℤ, List, [], ◌∷◌, ◌++◌}
 use Rattle.std.specs.Prelude.{Bool, true, false, ◌&&◌, if◌then◌else◌, length, Option, Some, None}
-use Rattle.std.specs.Prelude.{IsSomeAnd}
+use Rattle.std.specs.Prelude.{IsSomeAnd, get_or}
 use Rattle.std.specs.Ordering.{int_eq}
 use Rattle.cbor4ii_items.specs.Head.{Width, HeadFits, head, indefinite_head, break}
 use Rattle.cbor4ii_items.specs.Initial.{text_string}
@@ -14,7 +14,6 @@ use Rattle.cbor4ii_tree.specs.Basis.Tree.{pair}
 use Rattle.cbor4ii_tree.specs.Basis.Tree.{count, pair_count, bytes, bytes_all, bytes_pairs}
 use Rattle.cbor4ii_tree.specs.Basis.Tree.{joined_chunks}
 use Rattle.cbor4ii_tree.specs.Basis.Tree.{Loose, LooseAll, LoosePairs}
-use Rattle.cbor4ii_tree.specs.Inner.Ahead.{BeginsWithBreak}
 use Rattle.cbor4ii_tree.specs.Basis.Item.{Item, Items, no_items, item}
 use Rattle.cbor4ii_tree.specs.Calls.ItemEquality.{text_eq}
 use Rattle.cbor4ii_tree.specs.{Basis.Encodings.Encodes, Basis.Meaning.number, Calls.Raw.raw_content}
@@ -95,6 +94,11 @@ indexed_value zero (item v vs) = Some v
 indexed_value (suc i) (item v vs) = indexed_value i vs
 
 -- ---- what is still to come
+
+-- a break stands first
+pub record BeginsWithBreak (shown : List ℕ) : Type 0 where
+  pub some : 1 ≤ length shown
+  pub is : get_or shown 0 0 ≡ break
 
 -- what is to come: by a length so many parts of these bytes, else such parts up to a break
 abbrev pub IsRest : Option ℕ → List ℕ → ℕ → List ℕ → Type 0

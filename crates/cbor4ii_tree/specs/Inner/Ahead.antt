@@ -7,6 +7,7 @@ use Rattle.cbor4ii_tree.specs.{Basis.Cost.{Budget, step_in}}
 use Rattle.cbor4ii_tree.specs.{Basis.InputError.{InputError, eof, Small}}
 use Rattle.cbor4ii_tree.specs.{Basis.InputError.break_name, Inner.Runs.{BeginsRun, SkipsRun}}
 use Rattle.cbor4ii_tree.specs.{Calls.Rejections.{Rejection, Is, NoBreak}}
+use Rattle.cbor4ii_tree.specs.Calls.RawParts.{BeginsWithBreak}
 use Rattle.cbor4ii_tree.specs.{Inner.Skipping.{start_of, HeadLeads}}
 use Rattle.cbor4ii_tree.specs.Inner.Skipping.{RejectsSkippingAfter, SkipsItems, RejectsSkippingOne}
 use Rattle.cbor4ii_tree.specs.declared.skip.{initial.After.After, items.Went.Went}
@@ -83,10 +84,6 @@ pub record SeesRun (among : Among) (n size : ℕ) (shown : List ℕ) : Type 0 wh
   pub allowed : Allows among n
   pub begins : BeginsRun n size shown
   pub bytes : IsBytes (take size shown)
-
-pub record BeginsWithBreak (shown : List ℕ) : Type 0 where
-  pub some : 1 ≤ length shown
-  pub is : get_or shown 0 0 ≡ break
 
 abbrev pub Sees : Among → Ahead → List ℕ → Type 0
 Sees among (Run n size) shown = SeesRun among n size shown
