@@ -7,7 +7,7 @@ use Rattle.cbor4ii_rw.specs.Reader.{KeepsAllButBudget, StepsIn, step_back}
 use Rattle.cbor4ii_rw.specs.declared.error.DecodeError.TheVariants.{OutOfMemory}
 use Rattle.cbor4ii_items.specs.{Budget.CostFits, Decoding.{Sound, Rejects}, InputError.InputError}
 use Rattle.cbor4ii_items.specs.InputError.{input_error_of, is_read, is_depth_overflow}
-use Rattle.cbor4ii_items.specs.{InputError.depth_overflow, Laws.Running.{kept_alike, unread}}
+use Rattle.cbor4ii_items.specs.{InputError.depth_overflow, Laws.Running.{kept_alike, no_failure}}
 use Rattle.cbor4ii_items.specs.Laws.Steps.{moves_then, moves_err}
 use Rattle.cbor4ii_items.specs.Laws.{Steps.{kept_then, counted_none}, UnderStep.step_again}
 use Rattle.cbor4ii_items.specs.{Laws.UnderStep.{step_unbound, moves_around, no_step}, Moves.Kept}
@@ -116,7 +116,7 @@ pub does_reject_by : {V E : Type 0} (P : List ℕ → List ℕ → Type 0) (B : 
     → is_read e ≡ false → (a.budget ≡ None → is_depth_overflow e ≡ false)
     → ((xs ys : List ℕ) → P xs ys → T xs z ys) → Reached P a b → Does {V = V} B T a b (Err e)
 does_reject_by P B T z {e = e} {a = a} {b = b} is read shallow f p = record {
-  moves = record { by = unread (is_read e) a b read p.kept; depth = shallow };
+  moves = record { by = no_failure (is_read e) a b read p.kept; depth = shallow };
   ok = tt;
   err = λ xs known. let s = p.at xs known in
       says (λ z. (ys : List ℕ) × (b.known ≡ Some ys) × T xs z ys) is (s.0, s.1, f xs s.0 s.2);
