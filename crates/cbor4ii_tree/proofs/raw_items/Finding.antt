@@ -20,9 +20,6 @@ pub record FoundLater (test : Tree → Bool) (ps : Pairs) (pairs : RawPairs) : T
 abbrev pub Searches : (Tree → Bool) → RawPairs → RawPairs → Type 0
 Searches test initial pairs = (ps : Pairs) → PairsToCome ps initial → FoundLater test ps pairs
 
-pub begins_search : (test : Tree → Bool) (pairs : RawPairs) → Searches test pairs pairs
-begins_search test pairs ps p = record { more = ps; come = p; same = refl }
-
 module _ (test : Tree → Bool) (ps : Pairs) (new : RawPairs) (answer : Option (RawValue × RawValue))
   where
     abbrev Found : RawValue × RawValue → Type 0
@@ -91,13 +88,6 @@ pub record PlacedLater (index place : ℕ) (ts : Trees) (items : RawItems) : Typ
 abbrev pub Counts : ℕ → ℕ → RawItems → RawItems → Type 0
 Counts index counter initial items =
     (ts : Trees) → ItemsToCome ts initial → PlacedLater index (index - counter) ts items
-
-pub begins_count : (index : ℕ) (items : RawItems) → Counts index 0 items items
-begins_count index items ts p = record {
-  more = ts;
-  come = p;
-  same = ap (λ i. indexed_tree i ts) (omega arith);
-}
 
 module _ (index place : ℕ) (ts : Trees) (new : RawItems) (answer : Option RawValue) where
   item_ends : (more : Trees) → indexed_tree index ts ≡ indexed_tree place more

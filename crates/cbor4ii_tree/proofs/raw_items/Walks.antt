@@ -142,10 +142,6 @@ module _ (left : Option ℕ) (rest : List ℕ) (answer : Option (Option ℕ))
           (r ∙ append_assoc first bs (break ∷ []))) in
           let same : o ≡ None = cc in subst (λ l. IsRest l after n bs) (sym same) is
 
-tail_splits : (left : Option ℕ) (xs bs : List ℕ) → tail_of left (xs ++ bs) ≡ xs ++ tail_of left bs
-tail_splits (Some n) xs bs = refl
-tail_splits None xs bs = append_assoc xs bs (break ∷ [])
-
 -- ---- items
 
 module _ (items : RawItems) (after : Option (Option ℕ)) (left_is : IsLeftAfter items.0 after) where
