@@ -11,7 +11,7 @@ use Rattle.cbor4ii_items.specs.Laws.Sequences.{one_byte}
 use Rattle.cbor4ii_items.specs.InputError.{InputError, mismatch}
 use Rattle.cbor4ii.specs.declared.serde.de.cases.Choice.{Choice}
 use Rattle.cbor4ii.specs.declared.serde.de.cases.Choice.TheVariants.{First, Other}
-use Rattle.cbor4ii.specs.Fields.{ReadsNamedPair, RejectsNamedPair, RejectsNamed, entry_laws}
+use Rattle.cbor4ii.specs.Fields.{ReadsNamedPair, RejectsNamedPair, RejectsNamed, named_pair_laws}
 use Rattle.cbor4ii.specs.Fields.{named_part}
 use Rattle.cbor4ii.specs.Fields.{named_pair}
 use Rattle.cbor4ii.specs.Presence.{made_struct}
@@ -364,7 +364,7 @@ module _ {V : Type 0} (cases : Cases V) (is : IsTrue cases.exact) where
 
   named_laws : (form : Bool × ℕ) → IsLawfulReading (ReadsNamedPair (reads_named cases form))
       cases.same true
-  named_laws form = entry_laws cases.same (reads_named cases form) (after_laws form)
+  named_laws form = named_pair_laws cases.same (reads_named cases form) (after_laws form)
 
   case_one : (xs : List ℕ) (v w : V) (n m c d : ℕ) → ReadsCase cases xs v n c
       → ReadsCase cases xs w m d → (n ≡ m) × (c ≡ d) × cases.same v w

@@ -30,7 +30,7 @@ use Rattle.cbor4ii_ser.specs.Laws.OneItem.{unsigned_is_item, signed_is_item, wit
 use Rattle.cbor4ii_ser.specs.Laws.OneItem.{option_is_item, array_is_item, map_is_item}
 use Rattle.cbor4ii_ser.specs.Laws.OneItem.{tuple_is_item, by_recursion, bytes_are_item}
 use Rattle.cbor4ii.specs.Laws.Backs.{some_read_back, sequence_read_back, pair_read_back}
-use Rattle.cbor4ii.specs.Laws.Backs.{triple_read_back, entries_back, built_again, map_read_back}
+use Rattle.cbor4ii.specs.Laws.Backs.{triple_read_back, map_pairs_back, built_again, map_read_back}
 use Rattle.cbor4ii.specs.Made.{ReadsMade, made_from}
 use Rattle.cbor4ii.specs.ReadBack.{IsReadBack, BeginsOther}
 use Rattle.cbor4ii.specs.Tuples.{ReadsUnit}
@@ -304,7 +304,7 @@ module _ {K V M : Type 0} (entries : M → List (K × V)) (cmp : K → K → Ord
       (v.encoding e.1) e.1
       (v.cost e.1)) (λ e s. v.back value_hold alloc e.1 s.1) es h.each in
       let pairs = ReadsPair k.promise.format.reads v.promise.format.reads in
-      let each = entries_back k.promise.format.reads v.promise.format.reads k.encoding
+      let each = map_pairs_back k.promise.format.reads v.promise.format.reads k.encoding
       v.encoding k.cost
       v.cost es keys values in
       let read = sequence_read_back pairs (pair_encoding k.encoding v.encoding)

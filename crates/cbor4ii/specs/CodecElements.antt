@@ -11,7 +11,7 @@ use Rattle.cbor4ii_ser.specs.Laws.OneItem.{tuple_is_item}
 use Rattle.cbor4ii.specs.Codec.{Codec, Facts, no_facts, both_facts, Hold, first_hold, others_hold}
 use Rattle.cbor4ii.specs.Codec.{made_back}
 use Rattle.cbor4ii.specs.Elements.{Elements, no_element, element_before, typed_elements}
-use Rattle.cbor4ii.specs.Laws.Backs.{entry_back, counted_back}
+use Rattle.cbor4ii.specs.Laws.Backs.{key_value_back, counted_back}
 use Rattle.cbor4ii.specs.Made.{made_from}
 use Rattle.cbor4ii.specs.ReadBack.{IsReadBack}
 
@@ -48,7 +48,7 @@ module _ {T V : Type 0} (c : Codec T) (others : ElementCodecs V) where
       → IsReadBack (element_before c.promise others.elements).format.reads
       (one_then (c.encoding v.0) (parts (others.items v.1))) v (max (c.cost v.0) (others.cost v.1))
   elements_back hold alloc v h =
-      entry_back c.promise.format.reads others.elements.format.reads (c.encoding v.0)
+      key_value_back c.promise.format.reads others.elements.format.reads (c.encoding v.0)
       (parts (others.items v.1)) v (c.cost v.0) (others.cost v.1)
       (c.back (first_hold c.facts others.facts hold) alloc v.0 h.0)
       (others.back (others_hold c.facts others.facts hold) alloc v.1 h.1)

@@ -75,9 +75,10 @@ pub record FieldCodecs (V W : Type 0) : Type 1 where
   pub facts : Facts
   pub back : Hold facts → (alloc : Global) (w : W) → stands w
       → FieldsBack shape.fields.named shape.fields.first (held w) (items w) (cost w)
-  pub entries : Hold facts → (w : W) → stands w
+  pub pairs : Hold facts → (w : W) → stands w
       → AllByRecursion (IsOnePair canonical) (fields_of (items w))
 
+-- no field, or the end of them
 abbrev pub no_fields : FieldCodecs (Unit {0}) (Unit {0})
 no_fields = record {
   shape = no_more_fields;
@@ -91,7 +92,7 @@ no_fields = record {
   made = λ w. refl;
   facts = no_facts;
   back = λ hold alloc w h. none_back w;
-  entries = λ hold w h. tt;
+  pairs = λ hold w h. tt;
 }
 
 module _ {T P V W : Type 0} (place : Place T P) (name : List ℕ) (c : Codec T)
@@ -110,16 +111,16 @@ module _ {T P V W : Type 0} (place : Place T P) (name : List ℕ) (c : Codec T)
       (is_name name e.0) (others.others name e.1 w.1)
       (c.back (first_hold c.facts others.facts hold) alloc w.0 h.0)
 
-  pub part_entries : Hold (both_facts c.facts others.facts) → (w : T × W)
+  pub part_pairs : Hold (both_facts c.facts others.facts) → (w : T × W)
       → c.stands w.0 × others.stands w.1
       → AllByRecursion (IsOnePair canonical)
       (fields_of ((name, c.encoding w.0) ∷ others.items w.1))
-  part_entries hold w h =
+  part_pairs hold w h =
       let e = both (are_ascii name && ltb (length name) 256) (is_apart name others.names) new in
       let is = is_name name e.0 in (
         field_is_entry canonical name (c.encoding w.0) (omega (arith, is.1)) is.0
             (c.one (first_hold c.facts others.facts hold) w.0 h.0),
-        others.entries (others_hold c.facts others.facts hold) w.1 h.1,
+        others.pairs (others_hold c.facts others.facts hold) w.1 h.1,
       )
 
   -- a field of this name and of which this becomes, where a value that is there becomes itself
@@ -141,7 +142,7 @@ module _ {T P V W : Type 0} (place : Place T P) (name : List ℕ) (c : Codec T)
         ≡ Ok (w.0, w.1)) (sym (made w.0)) (ap (both_or_words (Ok w.0)) (others.made w.1));
     facts = both_facts c.facts others.facts;
     back = part_back;
-    entries = part_entries;
+    pairs = part_pairs;
   }
 
 -- a field that has to be there; else the struct is rejected in these words
@@ -211,13 +212,13 @@ module _ {T V W : Type 0} (name : List ℕ) (c : Codec T) (others : FieldCodecs 
   optional_back hold alloc (Some v, w) h =
       part_back last_place name c others new hold alloc (v, w) h
 
-  pub optional_entries : Hold (both_facts c.facts others.facts) → (w : Option T × W)
+  pub optional_pairs : Hold (both_facts c.facts others.facts) → (w : Option T × W)
       → StandsHeld c w.0 × others.stands w.1
       → AllByRecursion (IsOnePair canonical)
       (fields_of (before name c.encoding w.0 (others.items w.1)))
-  optional_entries hold (None, w) h =
-      others.entries (others_hold c.facts others.facts hold) w h.1
-  optional_entries hold (Some v, w) h = part_entries last_place name c others new hold (v, w) h
+  optional_pairs hold (None, w) h =
+      others.pairs (others_hold c.facts others.facts hold) w h.1
+  optional_pairs hold (Some v, w) h = part_pairs last_place name c others new hold (v, w) h
 
   -- a field that is left out where it is none, and is none where it is missing
   abbrev pub with_optional_field : FieldCodecs (Option T × V) (Option T × W)
@@ -233,7 +234,7 @@ module _ {T V W : Type 0} (name : List ℕ) (c : Codec T) (others : FieldCodecs 
     made = λ w. ap (both_or_words (Ok w.0)) (others.made w.1);
     facts = both_facts c.facts others.facts;
     back = optional_back;
-    entries = optional_entries;
+    pairs = optional_pairs;
   }
 
 -- ---- whole structs
@@ -250,7 +251,7 @@ module _ {V W : Type 0} (p : FieldCodecs V W) (few : length p.names < 256) where
   pub fields_are_one : Hold p.facts → (w : W) → p.stands w
       → IsOneItem canonical (struct_encoding (fields_of (p.items w)))
   fields_are_one hold w h = struct_is_item canonical (fields_of (p.items w))
-      (omega (arith, fields_count (p.items w), p.few w, few)) (p.entries hold w h)
+      (omega (arith, fields_count (p.items w), p.few w, few)) (p.pairs hold w h)
 
   pub values_are_back : Hold p.facts → (alloc : Global) (w : W) → p.stands w
       → IsReadBack (struct_from p.shape).format.reads (struct_encoding (fields_of (p.items w))) w

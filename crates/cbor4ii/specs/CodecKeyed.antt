@@ -25,7 +25,7 @@ use Rattle.cbor4ii.specs.CodecFields.{is_apart, is_other, StandsHeld, held_cost}
 use Rattle.cbor4ii.specs.Fields.{ReadsNamed, named_field, after_changes}
 use Rattle.cbor4ii.specs.Keys.{begins_text, ReadsKey, ReadsKeyBy, ReadsKeyed, ReadsKeyedFields}
 use Rattle.cbor4ii.specs.Keys.{label_of, keyed_from}
-use Rattle.cbor4ii.specs.Laws.Backs.{entry_back, joined_back, definite_back}
+use Rattle.cbor4ii.specs.Laws.Backs.{key_value_back, joined_back, definite_back}
 use Rattle.cbor4ii.specs.Laws.FieldsBack.{none_back, field_back, no_field_back}
 use Rattle.cbor4ii.specs.Laws.StructsBack.{no_dearer}
 use Rattle.cbor4ii.specs.Made.{gives_ok, made_from}
@@ -102,7 +102,8 @@ module _ {V : Type 0} (named : ReadsNamed V) where
       → IsReadBack (ReadsKeyed named) (one_then (encoded (integer_item (integer_label key))) item)
       change cost
   integer_entry_back key item change cost small back =
-      let entry = entry_back ReadsKey (named (integer_label key)) (encoded (signed_head key)) item
+      let entry = key_value_back ReadsKey (named (integer_label key))
+      (encoded (signed_head key)) item
       (Some key, change) 0 cost (integer_back key small) back in
       subst (λ (bytes : List ℕ). IsReadBack (ReadsKeyed named) (one_then (encoded bytes) item)
       change cost) (sym (integer_item_of key))
@@ -187,7 +188,7 @@ pub record KeyCodecs (V W : Type 0) : Type 1 where
   pub facts : Facts
   pub back : Hold facts → (alloc : Global) (w : W) → stands w
       → FieldsBackBy IsKey shape.fields.named shape.fields.first (held w) (items w) (cost w)
-  pub entries : Hold facts → (w : W) → stands w
+  pub pairs : Hold facts → (w : W) → stands w
       → AllByRecursion (IsOnePair canonical) (keyed_pairs integer_item (items w))
 
 -- how fields with integer keys are written and read where none is left
@@ -204,15 +205,15 @@ no_keys = record {
   made = λ w. refl;
   facts = no_facts;
   back = λ hold alloc w h. none_back w;
-  entries = λ hold w h. tt;
+  pairs = λ hold w h. tt;
 }
 
-pub key_is_entry : (key : ℤ) (item : Encoding) → IsTrue (is_small key) → IsOneItem canonical item
+pub key_is_pair : (key : ℤ) (item : Encoding) → IsTrue (is_small key) → IsOneItem canonical item
     → IsOnePair canonical (one_then (encoded (integer_item (integer_label key))) item)
-key_is_entry (pos n) item h one =
+key_is_pair (pos n) item h one =
     pair_is_entry canonical (encoded (shortest_head 0 n)) item
     (signed_is_item canonical (pos n) (omega (arith, ltb-true n (2 ^ 63) h))) one
-key_is_entry (negsuc n) item h one =
+key_is_pair (negsuc n) item h one =
     pair_is_entry canonical (encoded (shortest_head 1 n)) item
     (signed_is_item canonical (negsuc n) (omega (arith, ltb-true n (2 ^ 63) h))) one
 
@@ -234,15 +235,15 @@ module _ {T P V W : Type 0} (place : Place T P) (key : ℤ) (c : Codec T)
       (is_key key e.0) (others.others (integer_label key) e.1 w.1)
       (c.back (first_hold c.facts others.facts hold) alloc w.0 h.0)
 
-  pub key_part_entries : Hold (both_facts c.facts others.facts) → (w : T × W)
+  pub key_part_pairs : Hold (both_facts c.facts others.facts) → (w : T × W)
       → c.stands w.0 × others.stands w.1
       → AllByRecursion (IsOnePair canonical)
       (keyed_pairs integer_item ((integer_label key, c.encoding w.0) ∷ others.items w.1))
-  key_part_entries hold w h =
+  key_part_pairs hold w h =
       let e = both (is_small key) (is_apart (integer_label key) others.labels) new in (
-        key_is_entry key (c.encoding w.0) e.0
+        key_is_pair key (c.encoding w.0) e.0
             (c.one (first_hold c.facts others.facts hold) w.0 h.0),
-        others.entries (others_hold c.facts others.facts hold) w.1 h.1,
+        others.pairs (others_hold c.facts others.facts hold) w.1 h.1,
       )
 
   -- a field of this key and of which this becomes, where a value that is there becomes itself
@@ -264,7 +265,7 @@ module _ {T P V W : Type 0} (place : Place T P) (key : ℤ) (c : Codec T)
         ≡ Ok (w.0, w.1)) (sym (made w.0)) (ap (both_or_words (Ok w.0)) (others.made w.1));
     facts = both_facts c.facts others.facts;
     back = key_part_back;
-    entries = key_part_entries;
+    pairs = key_part_pairs;
   }
 
 -- a field that has to be there; else the struct is rejected in these words
@@ -330,13 +331,13 @@ module _ {T V W : Type 0} (key : ℤ) (c : Codec T) (others : KeyCodecs V W)
   optional_key_back hold alloc (Some v, w) h =
       key_part_back last_place key c others new hold alloc (v, w) h
 
-  pub optional_key_entries : Hold (both_facts c.facts others.facts) → (w : Option T × W)
+  pub optional_key_pairs : Hold (both_facts c.facts others.facts) → (w : Option T × W)
       → StandsHeld c w.0 × others.stands w.1 → AllByRecursion (IsOnePair canonical)
       (keyed_pairs integer_item (before (integer_label key) c.encoding w.0 (others.items w.1)))
-  optional_key_entries hold (None, w) h =
-      others.entries (others_hold c.facts others.facts hold) w h.1
-  optional_key_entries hold (Some v, w) h =
-      key_part_entries last_place key c others new hold (v, w) h
+  optional_key_pairs hold (None, w) h =
+      others.pairs (others_hold c.facts others.facts hold) w h.1
+  optional_key_pairs hold (Some v, w) h =
+      key_part_pairs last_place key c others new hold (v, w) h
 
   -- a field that is left out where it is none, and is none where it is missing
   abbrev pub with_optional_key : KeyCodecs (Option T × V) (Option T × W)
@@ -352,7 +353,7 @@ module _ {T V W : Type 0} (key : ℤ) (c : Codec T) (others : KeyCodecs V W)
     made = λ w. ap (both_or_words (Ok w.0)) (others.made w.1);
     facts = both_facts c.facts others.facts;
     back = optional_key_back;
-    entries = optional_key_entries;
+    pairs = optional_key_pairs;
   }
 
 -- ---- whole structs
@@ -376,7 +377,7 @@ module _ {R V W : Type 0} (values : R → W) (p : KeyCodecs V W) (few : length p
   keyed_is_one hold r h =
       let w = values r in
       struct_is_item canonical (keyed_pairs integer_item (p.items w))
-      (omega (arith, keyed_count (p.items w), p.few w, few)) (p.entries hold w h)
+      (omega (arith, keyed_count (p.items w), p.few w, few)) (p.pairs hold w h)
 
 -- a struct that has these values of its fields, fewer than 256
 abbrev pub keyed_codec : {R V W : Type 0} (values : R → W) (p : KeyCodecs V W)

@@ -103,10 +103,11 @@ RejectsFields named rejects =
 
 -- ---- what calls make of the values
 
--- the values after a change, and likewise after changes one after another
+-- the values after a change
 abbrev pub one_change : {V : Type 0} → (V → V) → V → V
 one_change change values = change values
 
+-- the values after changes, one after another
 abbrev pub all_changes : {V : Type 0} → List (V → V) → V → V
 all_changes changes values = after_changes values changes
 
@@ -162,11 +163,12 @@ module _ {T P V : Type 0} (place : Place T P) (own : List ℕ) {reads : Reads T}
   abbrev Same : P × V → P × V → Type 0
   Same = SamePair (place.same alike) same_others
 
-  abbrev Named : ReadsNamed (P × V)
-  Named = named_field place.put own reads others
+  abbrev NamedField : ReadsNamed (P × V)
+  NamedField = named_field place.put own reads others
 
   field_one : (name xs : List ℕ) (g h : P × V → P × V) (n m c d : ℕ)
-      → Named name xs g n c → Named name xs h m d → (n ≡ m) × (c ≡ d) × SameChange Same g h
+      → NamedField name xs g n c → NamedField name xs h m d → (n ≡ m) ×
+      (c ≡ d) × SameChange Same g h
   field_one name xs g h n m c d (inl p) (inl q) =
       let e = laws.one xs p.1 q.1 n m c d p.2 q.2 in (
         e.0,
@@ -186,12 +188,12 @@ module _ {T P V : Type 0} (place : Place T P) (own : List ℕ) {reads : Reads T}
             (s.0, e.2 v.1 w.1 s.1)),
       )
 
-  field_within : (name xs : List ℕ) (g : P × V → P × V) (n c : ℕ) → Named name xs g n c
+  field_within : (name xs : List ℕ) (g : P × V → P × V) (n c : ℕ) → NamedField name xs g n c
       → n ≤ length xs
   field_within name xs g n c (inl p) = laws.within xs p.1 n c p.2
   field_within name xs g n c (inr p) = (trailing name).within xs p.1 n c p.2
 
-  pub field_laws : NamedLaws Same Named
+  pub field_laws : NamedLaws Same NamedField
   field_laws name = record {
     one = field_one name;
     within = field_within name;
@@ -234,10 +236,10 @@ named_pair named rejects begins same owned =
     format_of (ReadsNamedPair named) same (RejectsNamedPair rejects) (RejectsNamedPair begins) owned
     true
 
-pub entry_laws : {W : Type 0} (same : W → W → Type 0) (named : List ℕ → Reads W)
+pub named_pair_laws : {W : Type 0} (same : W → W → Type 0) (named : List ℕ → Reads W)
     → ((name : List ℕ) → IsLawfulReading (named name) same false)
     → IsLawfulReading (ReadsNamedPair named) same true
-entry_laws same named laws =
+named_pair_laws same named laws =
     let pair : (name : List ℕ) → IsLawfulReading (ReadsPair ReadsName (named name))
     (SamePair SameName same) true = λ name. pair_laws ReadsName (named name)
     SameName same true false name_laws (laws name) in
@@ -266,7 +268,7 @@ changed_same same v w (g ∷ gs) (h ∷ hs) s p = changed_same same (g v) (h w) 
 pub fields_laws : {V : Type 0} (same : V → V → Type 0) (first : V) (named : ReadsNamed V)
     → same first first → NamedLaws same named → IsLawfulReading (ReadsFields first named) same true
 fields_laws {V} same first named is laws =
-    let entry = entry_laws (SameChange same) named laws in
+    let entry = named_pair_laws (SameChange same) named laws in
     record {
       one = λ xs v w n m c d p q. (
           let e = sequence_one 5 five_small (ReadsNamedPair named) true (SameChange same) entry.one

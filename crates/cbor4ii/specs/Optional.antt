@@ -21,8 +21,8 @@ abbrev pub deserializer_of_some : {S E : Type 0} → SomeAccessor S E → Deseri
 deserializer_of_some accessor = accessor.de.now
 
 -- which reference an accessor holds to its deserializer
-abbrev pub lender_of_some : {S E : Type 0} → SomeAccessor S E → ℕ
-lender_of_some accessor = accessor.de.ghost_name
+abbrev pub some_accessor_name : {S E : Type 0} → SomeAccessor S E → ℕ
+some_accessor_name accessor = accessor.de.ghost_name
 
 -- whether a value comes
 abbrev pub comes : {S E : Type 0} → SomeAccessor S E → Bool

@@ -6,7 +6,7 @@ use Rattle.cbor4ii_items.specs.Sequences.{SamePair, in_list}
 use Rattle.cbor4ii_items.specs.Laws.Containers.{both}
 use Rattle.cbor4ii_items.specs.Laws.Formats.{lawful_by}
 use Rattle.cbor4ii.specs.Fields.{ReadsNamed, RejectsNamed, NamedLaws, ReadsFields, RejectsFields}
-use Rattle.cbor4ii.specs.Fields.{SameChange, entry_laws, named_part, named_pair, no_field}
+use Rattle.cbor4ii.specs.Fields.{SameChange, named_pair_laws, named_part, named_pair, no_field}
 use Rattle.cbor4ii.specs.Fields.{no_values, named_field, no_field_rejects, field_rejects}
 use Rattle.cbor4ii.specs.Fields.{no_field_laws}
 use Rattle.cbor4ii.specs.Fields.{field_laws, fields_laws}
@@ -91,10 +91,10 @@ abbrev pub field_pair : {V : Type 0} → Fields V → Format (V → V)
 field_pair fields =
     named_pair fields.named fields.rejects fields.begins (SameChange fields.same) fields.owned
 
-pub entry_lawful : {V : Type 0} (fields : Fields V) → IsTrue fields.exact
+pub named_pair_lawful : {V : Type 0} (fields : Fields V) → IsTrue fields.exact
     → IsLawful (field_pair fields)
-entry_lawful fields is =
-    lawful_as (entry_laws (SameChange fields.same) fields.named (fields.laws is))
+named_pair_lawful fields is =
+    lawful_as (named_pair_laws (SameChange fields.same) fields.named (fields.laws is))
 
 -- a map of pairs of these fields, by their names
 abbrev pub field_pairs : {V : Type 0} → Fields V → Format (List (V → V))

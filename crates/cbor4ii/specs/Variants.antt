@@ -27,8 +27,8 @@ abbrev pub deserializer_of_enum : {S E : Type 0} → EnumAccessor S E → Deseri
 deserializer_of_enum accessor = accessor.de.now
 
 -- which reference an accessor holds to its deserializer
-abbrev pub lender_of_enum : {S E : Type 0} → EnumAccessor S E → ℕ
-lender_of_enum accessor = accessor.de.ghost_name
+abbrev pub enum_accessor_name : {S E : Type 0} → EnumAccessor S E → ℕ
+enum_accessor_name accessor = accessor.de.ghost_name
 
 -- whether a content follows the name, and the first byte
 abbrev pub form_of : {S E : Type 0} → EnumAccessor S E → Bool × ℕ

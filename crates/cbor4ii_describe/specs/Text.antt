@@ -49,7 +49,7 @@ key_code (Name name) = codes "\"" ++ (string_bytes name ++ codes "\"")
 key_code (Positive size) = decimal size
 key_code (Negative size) = codes "-" ++ decimal size
 
--- the same in a ghost
+-- what a field is written under, in a ghost
 abbrev pub ghost_key : Key → List ℕ
 ghost_key (Name name) = codes "(codes \"" ++ (string_bytes name ++ codes "\")")
 ghost_key (Positive size) = codes "(pos " ++ (decimal size ++ codes ")")

@@ -8,7 +8,7 @@ use Rattle.cbor4ii_describe.specs.declared.tokens.Cutting.{Cutting}
 abbrev pub token_bytes : Token → List ℕ
 token_bytes token = string_bytes token.text
 
--- their texts behind one another
+-- the texts of tokens, one after another
 abbrev pub tokens_bytes : List Token → List ℕ
 tokens_bytes tokens = flat_map token_bytes tokens
 

@@ -5,7 +5,8 @@ use Rattle.std.specs.Prelude.{if◌then◌else◌, codes, option_map}
 use Rattle.cbor4ii_ser.specs.Item.{Encoding}
 use Rattle.cbor4ii.specs.CodecShown.{IsShownBack}
 use Rattle.cbor4ii.specs.Held.{IsWrittenAs}
-use Rattle.cbor4ii.specs.Laws.Held.{unsigned_as, no_parts, part_before, no_entries, field_before}
+use Rattle.cbor4ii.specs.Laws.Held.{unsigned_as, no_parts, part_before, no_pairs_written}
+use Rattle.cbor4ii.specs.Laws.Held.{field_before}
 use Rattle.cbor4ii.specs.Laws.Held.{struct_as, variant_as, tuple_variant_as}
 use Rattle.cbor4ii_examples.specs.Shape.{Figure, circle, pair, framed, figure_step, figure}
 use Rattle.cbor4ii_examples.specs.Shape.{shape_step, shape_item, figure_at, pair_made, framed_made}
@@ -45,7 +46,7 @@ module _ {E : Type 0} (f : E → Shape) (written : (e : E) → IsShapeWritten (f
   one_written (Shape-F.Framed width inner) h =
       variant_as (codes "Framed") refl (struct_as
       (field_before (codes "width") refl (unsigned_as width (omega (arith, h.0)))
-      (field_before (codes "inner") refl (written inner.value h.1) no_entries)) (omega arith))
+      (field_before (codes "inner") refl (written inner.value h.1) no_pairs_written)) (omega arith))
 
   rolled_written : (y : Shape-F E) → IsShapeWritten (roll-Shape (map-Shape E Shape f y))
   rolled_written y =

@@ -116,7 +116,8 @@ station_one xs v w n m c d p q =
 
 pub station_within : Within ReadsStation
 station_within xs v n c p =
-    then_within ReadsOpening ReadsAfterOpening opening_within numbered_within xs (station_parts p.0 v) n c
+    then_within ReadsOpening ReadsAfterOpening opening_within numbered_within xs
+    (station_parts p.0 v) n c
     p.1
 
 pub station_positive : Positive ReadsStation

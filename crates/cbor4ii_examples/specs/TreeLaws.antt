@@ -8,7 +8,7 @@ use Rattle.cbor4ii_ser.specs.Item.{Encoding}
 use Rattle.cbor4ii.specs.CodecShown.{IsShownBack}
 use Rattle.cbor4ii.specs.Held.{IsWrittenAs, AreWrittenAs}
 use Rattle.cbor4ii.specs.Laws.Held.{unsigned_as, string_as, vector_as, no_parts, part_before}
-use Rattle.cbor4ii.specs.Laws.Held.{field_before, no_entries, struct_as}
+use Rattle.cbor4ii.specs.Laws.Held.{field_before, no_pairs_written, struct_as}
 use Rattle.cbor4ii_examples.specs.Tree.{Node, node, Nodes, no_nodes, more, nodes_of, node_step}
 use Rattle.cbor4ii_examples.specs.Tree.{tree_node, tree_step, tree_item, node_at, nodes_at}
 use Rattle.cbor4ii_examples.specs.Tree.{node_pairs_at, more_made, node_made, with_nodes, node_item}
@@ -62,7 +62,7 @@ module _ (x : Tree-F Tree) (below : AreWritten x.children.items) where
       struct_as (field_before (codes "id") refl (unsigned_as x.id h.0)
       (field_before (codes "name") refl (string_as x.name)
       (field_before (codes "children") refl (vector_as tree_item x.children (below h.1))
-      no_entries))) (omega arith)
+      no_pairs_written))) (omega arith)
 
   rolled_written : IsTreeWritten (roll-Tree x)
   rolled_written =

@@ -2,8 +2,8 @@
 use Rattle.std.specs.Prelude.{ℕ, ◌≤◌, ◌++◌, List, length}
 use Rattle.cbor4ii_items.specs.Decoding.{Reads}
 
--- a value and how many bytes it has: whatever follows the shown bytes, it is read from the first of
--- them, in at most so many steps
+-- Whatever follows the shown bytes, it is read from the first of them, in at most so many steps.
+-- a value that stands whole in what is shown, and how many bytes it has
 pub record IsShownLeaf {V : Type 0} (reads : Reads V) (shown : List ℕ) (steps : ℕ)
     (found : V × ℕ) : Type 0 where
   pub some : 1 ≤ found.1

@@ -4,10 +4,10 @@ use Rattle.std.specs.Prelude.{string_bytes, if◌then◌else◌}
 use Rattle.std.specs.declared.alloc.Global.{Global}
 use Rattle.std.specs.declared.string.String.{String}
 
--- the words in which a text of these bytes is rejected
+-- the words in which these bytes of a text are rejected
 abbrev pub short_words : List ℕ → Option (List ℕ)
 short_words bytes = if nat_le (length bytes) 4 then None else Some (codes "longer than four bytes")
 
--- the same of a text
+-- the words in which a text is rejected
 abbrev pub short_text_words : String Global → Option (List ℕ)
 short_text_words text = short_words (string_bytes text)

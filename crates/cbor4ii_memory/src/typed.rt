@@ -116,10 +116,10 @@ const MAPS_OF_TEXTS: &[Row] = table! {
 };
 
 // {"a": [h'05', -1]}.
-const MEMBER: &str = "Typed(Map([(Text(\"a\"), Array([Bytes([5]), Integer(-1)]))]))";
+const PAIR: &str = "Typed(Map([(Text(\"a\"), Array([Bytes([5]), Integer(-1)]))]))";
 
 const ANY: &[Row] = table! {
-    (b"\xa1\x61a\x82\x41\x05\x20", MEMBER, b""),
+    (b"\xa1\x61a\x82\x41\x05\x20", PAIR, b""),
     (b"\x9f\x7f\x61a\xff\xf6\xff\x01", "Typed(Array([Text(\"a\"), Null]))", b"\x01"),
 };
 

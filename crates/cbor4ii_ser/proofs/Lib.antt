@@ -6,4 +6,4 @@ pub mod Greedy
 pub mod PiecesBack
 pub mod TextItems
 pub mod Failing
-pub mod Entries
+pub mod FieldPairs

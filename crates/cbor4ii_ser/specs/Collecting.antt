@@ -39,5 +39,5 @@ bounded_keyed c = c.keyed
 abbrev pub bounded_output : {W E : Type 0} → (W → Output) → BoundedCollect W E → Output
 bounded_output view c = output view c.ser.now
 
-abbrev pub bounded_lender : {W E : Type 0} → BoundedCollect W E → ℕ
-bounded_lender c = c.ser.ghost_name
+abbrev pub bounded_serializer_name : {W E : Type 0} → BoundedCollect W E → ℕ
+bounded_serializer_name c = c.ser.ghost_name

@@ -5,7 +5,7 @@ ghost use Rattle.std.specs.Borrow.{sem, RestsIfErr};
 ghost use Rattle.cbor4ii_items.specs.Numbers.{shortest_head};
 ghost use Rattle.cbor4ii_ser.specs.contracts.serializer.Serializer.{the_row};
 ghost use Rattle.cbor4ii_ser.specs.Collecting.{bounded_left, bounded_keyed, bounded_output};
-ghost use Rattle.cbor4ii_ser.specs.Collecting.{bounded_lender};
+ghost use Rattle.cbor4ii_ser.specs.Collecting.{bounded_serializer_name};
 ghost use Rattle.cbor4ii_ser.specs.Item.{encoded, field, variant_head};
 ghost use Rattle.cbor4ii_ser.specs.Serializing.{Serializes, done_or_answer, output};
 
@@ -50,10 +50,12 @@ impl<W: Write> Serializer<W> {
         &mut self,
         len: usize,
     ) -> Result<BoundedCollect<'_, W>, EncodeError<W::Error>>
-        ensures* rejected { sem 𝓛 (RestsIfErr (the_row W.row) self.entry bounded_lender result
+        ensures* rejected { sem 𝓛 (RestsIfErr
+            (the_row W.row) self.entry bounded_serializer_name result
             (λ new. Serializes W.atomic (encoded (shortest_head 4 len))
             (output W.view self.old) (output W.view new) result)) }
-        ensures same_reference { IfOk result (λ c. bounded_lender c ≡ self.entry.ghost_name) }
+        ensures same_reference { IfOk result
+            (λ c. bounded_serializer_name c ≡ self.entry.ghost_name) }
         ensures left { IfOk result (λ c. bounded_left c ≡ len) }
         ensures keyed { IfOk result (λ c. bounded_keyed c ≡ false) }
         ensures head { IfOk result (λ c. Serializes W.atomic (encoded (shortest_head 4 len))
@@ -78,10 +80,12 @@ impl<W: Write> Serializer<W> {
         _name: &str,
         len: usize,
     ) -> Result<BoundedCollect<'_, W>, EncodeError<W::Error>>
-        ensures* rejected { sem 𝓛 (RestsIfErr (the_row W.row) self.entry bounded_lender result
+        ensures* rejected { sem 𝓛 (RestsIfErr
+            (the_row W.row) self.entry bounded_serializer_name result
             (λ new. Serializes W.atomic (encoded (shortest_head 4 len))
             (output W.view self.old) (output W.view new) result)) }
-        ensures same_reference { IfOk result (λ c. bounded_lender c ≡ self.entry.ghost_name) }
+        ensures same_reference { IfOk result
+            (λ c. bounded_serializer_name c ≡ self.entry.ghost_name) }
         ensures left { IfOk result (λ c. bounded_left c ≡ len) }
         ensures keyed { IfOk result (λ c. bounded_keyed c ≡ false) }
         ensures head { IfOk result (λ c. Serializes W.atomic (encoded (shortest_head 4 len))
@@ -108,10 +112,12 @@ impl<W: Write> Serializer<W> {
         variant: &str,
         len: usize,
     ) -> Result<BoundedCollect<'_, W>, EncodeError<W::Error>>
-        ensures* rejected { sem 𝓛 (RestsIfErr (the_row W.row) self.entry bounded_lender result
+        ensures* rejected { sem 𝓛 (RestsIfErr
+            (the_row W.row) self.entry bounded_serializer_name result
             (λ new. Serializes W.atomic (encoded (variant_head variant.now ++ shortest_head 4 len))
             (output W.view self.old) (output W.view new) result)) }
-        ensures same_reference { IfOk result (λ c. bounded_lender c ≡ self.entry.ghost_name) }
+        ensures same_reference { IfOk result
+            (λ c. bounded_serializer_name c ≡ self.entry.ghost_name) }
         ensures left { IfOk result (λ c. bounded_left c ≡ len) }
         ensures keyed { IfOk result (λ c. bounded_keyed c ≡ false) }
         ensures head { IfOk result (λ c. Serializes W.atomic
@@ -137,10 +143,12 @@ impl<W: Write> Serializer<W> {
         _name: &str,
         len: usize,
     ) -> Result<BoundedCollect<'_, W>, EncodeError<W::Error>>
-        ensures* rejected { sem 𝓛 (RestsIfErr (the_row W.row) self.entry bounded_lender result
+        ensures* rejected { sem 𝓛 (RestsIfErr
+            (the_row W.row) self.entry bounded_serializer_name result
             (λ new. Serializes W.atomic (encoded (shortest_head 5 len))
             (output W.view self.old) (output W.view new) result)) }
-        ensures same_reference { IfOk result (λ c. bounded_lender c ≡ self.entry.ghost_name) }
+        ensures same_reference { IfOk result
+            (λ c. bounded_serializer_name c ≡ self.entry.ghost_name) }
         ensures left { IfOk result (λ c. bounded_left c ≡ len) }
         ensures keyed { IfOk result (λ c. bounded_keyed c ≡ true) }
         ensures head { IfOk result (λ c. Serializes W.atomic (encoded (shortest_head 5 len))
@@ -167,10 +175,12 @@ impl<W: Write> Serializer<W> {
         variant: &str,
         len: usize,
     ) -> Result<BoundedCollect<'_, W>, EncodeError<W::Error>>
-        ensures* rejected { sem 𝓛 (RestsIfErr (the_row W.row) self.entry bounded_lender result
+        ensures* rejected { sem 𝓛 (RestsIfErr
+            (the_row W.row) self.entry bounded_serializer_name result
             (λ new. Serializes W.atomic (encoded (variant_head variant.now ++ shortest_head 5 len))
             (output W.view self.old) (output W.view new) result)) }
-        ensures same_reference { IfOk result (λ c. bounded_lender c ≡ self.entry.ghost_name) }
+        ensures same_reference { IfOk result
+            (λ c. bounded_serializer_name c ≡ self.entry.ghost_name) }
         ensures left { IfOk result (λ c. bounded_left c ≡ len) }
         ensures keyed { IfOk result (λ c. bounded_keyed c ≡ true) }
         ensures head { IfOk result (λ c. Serializes W.atomic
@@ -212,7 +222,8 @@ impl<'a, W: Write> BoundedCollect<'a, W> {
     ) -> Result<(), EncodeError<W::Error>>
         requires keyed { bounded_keyed self.old ≡ false }
         requires left { 0 < bounded_left self.old }
-        ensures same_reference { bounded_lender self.new ≡ bounded_lender self.old }
+        ensures same_reference { bounded_serializer_name self.new ≡ bounded_serializer_name
+            self.old }
         ensures keyed { bounded_keyed self.new ≡ bounded_keyed self.old }
         ensures left { OnOk result (bounded_left self.new ≡ bounded_left self.old - 1) }
         ensures left_at_error { OnErr result (bounded_left self.new ≡ bounded_left self.old) }
@@ -238,7 +249,8 @@ impl<'a, W: Write> BoundedCollect<'a, W> {
     ) -> Result<(), EncodeError<W::Error>>
         requires keyed { bounded_keyed self.old ≡ true }
         requires left { 0 < bounded_left self.old }
-        ensures same_reference { bounded_lender self.new ≡ bounded_lender self.old }
+        ensures same_reference { bounded_serializer_name self.new ≡ bounded_serializer_name
+            self.old }
         ensures keyed { bounded_keyed self.new ≡ bounded_keyed self.old }
         ensures left { OnOk result (bounded_left self.new ≡ bounded_left self.old - 1) }
         ensures left_at_error { OnErr result (bounded_left self.new ≡ bounded_left self.old) }

@@ -118,12 +118,12 @@ trait NestedFields: Drop {
     ghost items: { Self → List (List ℕ) → NamedItems };
 
     /// How many pairs they have.
-    fn entries<K: Key>(&self, keys: &[K]) -> usize
+    fn pair_count<K: Key>(&self, keys: &[K]) -> usize
         ensures counts { result ≡ length (items self.now (labels_of K.label keys.now)) }
         ensures most { result ≤ length keys.now };
 
     /// Writes these pairs.
-    fn serialize_entries<K: Key, W: Write>(
+    fn serialize_pairs<K: Key, W: Write>(
         &self,
         keys: &[K],
         ser: &mut Serializer<W>,
@@ -137,12 +137,12 @@ impl NestedFields for () {
     ghost items = { no_named_items };
 
     #[inline]
-    fn entries<K: Key>(&self, _keys: &[K]) -> usize {
+    fn pair_count<K: Key>(&self, _keys: &[K]) -> usize {
         0
     }
 
     #[inline]
-    fn serialize_entries<K: Key, W: Write>(
+    fn serialize_pairs<K: Key, W: Write>(
         &self,
         _keys: &[K],
         _ser: &mut Serializer<W>,
@@ -155,22 +155,22 @@ impl<P: FieldValue, V: NestedFields> NestedFields for (P, V) {
     ghost items = { P.before ▹ V.items };
 
     #[inline]
-    fn entries<K: Key>(&self, keys: &[K]) -> usize {
+    fn pair_count<K: Key>(&self, keys: &[K]) -> usize {
         match keys {
-            [_, trailing @ ..] => self.0.count() + self.1.entries(trailing),
+            [_, trailing @ ..] => self.0.count() + self.1.pair_count(trailing),
             [] => 0,
         }
     }
 
     #[inline]
-    fn serialize_entries<K: Key, W: Write>(
+    fn serialize_pairs<K: Key, W: Write>(
         &self,
         keys: &[K],
         ser: &mut Serializer<W>,
     ) -> Result<(), EncodeError<W::Error>> {
         match keys {
             [key, trailing @ ..] => match self.0.serialize_field(key, ser) {
-                Ok(()) => self.1.serialize_entries(trailing, ser),
+                Ok(()) => self.1.serialize_pairs(trailing, ser),
                 Err(error) => Err(error),
             },
             [] => Ok(()),
@@ -189,8 +189,8 @@ fn put_fields<V: NestedFields, K: Key, W: Write>(
         (keyed_encoding K.item (V.items fields (labels_of K.label keys.now)))
         (output W.view ser.old) (output W.view ser.new) result }
 {
-    match ser.map_head(fields.entries(keys)) {
-        Ok(()) => fields.serialize_entries(keys, ser),
+    match ser.map_head(fields.pair_count(keys)) {
+        Ok(()) => fields.serialize_pairs(keys, ser),
         Err(error) => Err(error),
     }
 }

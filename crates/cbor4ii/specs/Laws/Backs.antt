@@ -190,22 +190,24 @@ module _ {P : Type 0} (reads : Reads P) (item : P → Encoding) (cost : P → �
 
 -- ---- maps
 
-pub entry_back : {K V : Type 0} (first : Reads K) (second : Reads V) (a b : Encoding) (p : K × V)
+pub key_value_back : {K V : Type 0} (first : Reads K) (second : Reads V) (a b : Encoding)
+    (p : K × V)
     (c d : ℕ) → IsReadBack first a p.0 c → IsReadBack second b p.1 d
     → IsReadBack (ReadsPair first second) (one_then a b) p (max c d)
 unfolding one_then
-entry_back first second (rejected xs words) b p c d h k = tt
-entry_back first second (encoded xs) (rejected ys words) p c d h k = tt
-entry_back first second (encoded xs) (encoded ys) p c d h k = two_back first second xs ys p c d h k
+key_value_back first second (rejected xs words) b p c d h k = tt
+key_value_back first second (encoded xs) (rejected ys words) p c d h k = tt
+key_value_back first second (encoded xs)
+    (encoded ys) p c d h k = two_back first second xs ys p c d h k
 
-pub entries_back : {K V : Type 0} (first : Reads K) (second : Reads V) (key : K → Encoding)
+pub map_pairs_back : {K V : Type 0} (first : Reads K) (second : Reads V) (key : K → Encoding)
     (value : V → Encoding) (key_cost : K → ℕ) (value_cost : V → ℕ) (ps : List (K × V))
     → All (λ p. IsReadBack first (key p.0) p.0 (key_cost p.0)) ps
     → All (λ p. IsReadBack second (value p.1) p.1 (value_cost p.1)) ps
     → All (λ p. IsReadBack (ReadsPair first second)
     (pair_encoding key value p) p (pair_cost key_cost value_cost p)) ps
-entries_back first second key value key_cost value_cost ps h k =
-    λ i d room. entry_back first second _ _ _ _ _ (h i d room) (k i d room)
+map_pairs_back first second key value key_cost value_cost ps h k =
+    λ i d room. key_value_back first second _ _ _ _ _ (h i d room) (k i d room)
 
 -- ---- the map that its own entries build
 

@@ -4,7 +4,8 @@ use Rattle.std.proofs.Common.{subst, arith}
 use Rattle.std.specs.Prelude.{◌&&◌, ◌||◌, codes}
 use Rattle.cbor4ii_items.specs.Decoding.{Reads, RejectsAt, Format, format_by}
 use Rattle.cbor4ii_items.specs.Sequences.{ReadsPair, RejectsPair, pair_format, after_step}
-use Rattle.cbor4ii.specs.Elements.{ReadsNone, RejectsNone, no_element, element_before}
+use Rattle.cbor4ii_items.specs.Nothing.{RejectsNothing}
+use Rattle.cbor4ii.specs.Elements.{ReadsNone, no_element, element_before}
 use Rattle.cbor4ii.specs.Elements.{typed_elements, AlsoRejects, ReadsAlike, PromisesAlike}
 use Rattle.cbor4ii.specs.Stepped.{RejectsStepped, stepped_format}
 use Rattle.cbor4ii.specs.Tuples.{after_format, ReadsCountOf, RejectsCountOf, three}
@@ -30,7 +31,7 @@ module _ {T : Type 0} (s : Format T) where
       subst (λ k. s.reads xs v.0 k c) (sym size)
       (subst (λ k. s.reads xs v.0 r.key_size k) (sym cost) r.key)
 
-  last_rejected : (rejects : RejectsAt) → AlsoRejects (RejectsPair s.reads rejects RejectsNone)
+  last_rejected : (rejects : RejectsAt) → AlsoRejects (RejectsPair s.reads rejects RejectsNothing)
       rejects
   last_rejected rejects xs budget err rest (inl h) = h
   last_rejected rejects xs budget err rest (inr h) = absurd h.stop

@@ -12,13 +12,13 @@ use Rattle.cbor4ii.specs.ReadBack.{IsReadBack, NamedItems, ChangesBackBy, Fields
 module _ {T P V : Type 0} (place : Place T P) (own : List ℕ) (reads : Reads T)
     (named : ReadsNamed V) where
   -- a change of the others
-  abbrev below : (V → V) → P × V → P × V
-  below change = λ (values : P × V). (values.0, change values.1)
+  abbrev changes_others : (V → V) → P × V → P × V
+  changes_others change = λ (values : P × V). (values.0, change values.1)
 
   -- after another name an item is read as one of the others
   other_back : (name : List ℕ) (item : Encoding) (change : V → V) (cost : ℕ) → name ≢ own
       → IsReadBack (named name) item change cost
-      → IsReadBack (named_field place.put own reads named name) item (below change) cost
+      → IsReadBack (named_field place.put own reads named name) item (changes_others change) cost
   other_back name (rejected bytes words) change cost other back = tt
   other_back name (encoded bytes) change cost other back =
       λ rest. inr (other, change, back rest, refl)
@@ -27,7 +27,8 @@ module _ {T P V : Type 0} (place : Place T P) (own : List ℕ) (reads : Reads T)
       (cost : ℕ)
       → AllByRecursion (λ (part : List ℕ × Encoding). part.0 ≢ own) parts
       → ChangesBackBy IsLabel named parts changes cost
-      → ChangesBackBy IsLabel (named_field place.put own reads named) parts (map below changes) cost
+      → ChangesBackBy IsLabel (named_field place.put own reads named) parts
+      (map changes_others changes) cost
   others_back IsLabel [] [] cost other back = back
   others_back IsLabel [] (change ∷ changes) cost other back = absurd back
   others_back IsLabel (part ∷ parts) [] cost other back = absurd back
@@ -42,7 +43,7 @@ module _ {T P V : Type 0} (place : Place T P) (own : List ℕ) (reads : Reads T)
 
   -- the changes of the others leave the field
   changed_below : (o : P) (values : V) (changes : List (V → V))
-      → after_changes (o, values) (map below changes) ≡ (o, after_changes values changes)
+      → after_changes (o, values) (map changes_others changes) ≡ (o, after_changes values changes)
   changed_below o values [] = refl
   changed_below o values (change ∷ changes) = changed_below o (change values) changes
 
@@ -62,7 +63,8 @@ module _ {T P V : Type 0} (place : Place T P) (own : List ℕ) (reads : Reads T)
       (place.put v place.none, values)
       ((own, item) ∷ parts) (max own_cost cost)
   field_back {IsLabel = L} first values parts cost item v own_cost others name apart back = record {
-    changes = (λ (values : P × V). (place.put v values.0, values.1)) ∷ map below others.changes;
+    changes = (λ (values : P × V).
+        (place.put v values.0, values.1)) ∷ map changes_others others.changes;
     each = (
       own_cost,
       cost,
@@ -84,7 +86,7 @@ module _ {T P V : Type 0} (place : Place T P) (own : List ℕ) (reads : Reads T)
       → FieldsBackBy IsLabel (named_field place.put own reads named) (place.none, first)
       (place.none, values) parts cost
   no_field_back {IsLabel = IsLabel} first values parts cost others apart = record {
-    changes = map below others.changes;
+    changes = map changes_others others.changes;
     each = others_back IsLabel parts others.changes cost apart others.each;
     made =
         ap (λ (trailing : V). (place.none, trailing)) others.made

@@ -300,13 +300,13 @@ vector_as encoding v h =
     array_as h (omega (arith, length-map v.items encoding, v.ok.0, v.ok.1, v.small))
 
 -- pairs of a map: none, and one before others
-pub no_entries : AreWrittenAsPairs [] no_item_pairs
-no_entries = record { held = tt; are = refl; many = refl }
+pub no_pairs_written : AreWrittenAsPairs [] no_item_pairs
+no_pairs_written = record { held = tt; are = refl; many = refl }
 
-pub entry_before : {key value : Encoding} {k v : Item} {ps : List Encoding} {ms : ItemPairs}
+pub written_pair_before : {key value : Encoding} {k v : Item} {ps : List Encoding} {ms : ItemPairs}
     → IsWrittenAs key k → IsWrittenAs value v → AreWrittenAsPairs ps ms
     → AreWrittenAsPairs (one_then key value ∷ ps) (item_pair k v ms)
-entry_before {k = k} {v = v} {ms = ms} h i others =
+written_pair_before {k = k} {v = v} {ms = ms} h i others =
     let rest = bytes_pairs (canonical_pairs ms) in
     record {
       held = (h.held, i.held, others.held);
@@ -323,7 +323,7 @@ pub field_before : (name : List ℕ) {value : Encoding} {v : Item} {ps : List En
     → IsTrue (are_ascii name && ltb (length name) 256) → IsWrittenAs value v
     → AreWrittenAsPairs ps ms
     → AreWrittenAsPairs (field name value ∷ ps) (item_pair (text name) v ms)
-field_before name ok = entry_before (name_as name ok)
+field_before name ok = written_pair_before (name_as name ok)
 
 count_pairs : (ms : ItemPairs) → pair_count (canonical_pairs ms) ≡ item_pair_count ms
 count_pairs no_item_pairs = refl
@@ -351,7 +351,7 @@ pub variant_as : (name : List ℕ) {content : Encoding} {v : Item}
 variant_as name {content = content} {v = v} ok h =
     subst (λ (e : Encoding). IsWrittenAs e (mapping (item_pair (text name) v no_item_pairs)))
     (variant_is_struct name content)
-    (struct_as (field_before name ok h no_entries) (omega arith))
+    (struct_as (field_before name ok h no_pairs_written) (omega arith))
 
 -- one whose content is an array of these parts
 pub tuple_variant_as : (name : List ℕ) {ps : List Encoding} {vs : Items}

@@ -12,7 +12,7 @@ use Rattle.cbor4ii_ser.specs.Item.{struct_encoding}
 use Rattle.cbor4ii.specs.Fields.{ReadsNamed, ReadsName, ReadsNamedPair, ReadsFields, after_changes}
 use Rattle.cbor4ii.specs.ReadBack.{IsReadBack, IsName, NamedItems, fields_of, ChangesBack}
 use Rattle.cbor4ii.specs.ReadBack.{FieldsBack, text_of}
-use Rattle.cbor4ii.specs.Laws.Backs.{entry_back, joined_back, definite_back}
+use Rattle.cbor4ii.specs.Laws.Backs.{key_value_back, joined_back, definite_back}
 
 -- ---- all fields
 
@@ -35,7 +35,7 @@ module _ {V : Type 0} (named : ReadsNamed V) (alloc : Global) where
       → IsReadBack (ReadsNamedPair named) (field name item) change cost
   named_back name item change cost is back =
       let text = text_of alloc name is.0 is.1 in
-      let entry = entry_back ReadsName (named name) (encoded (definite_string 3 name)) item
+      let entry = key_value_back ReadsName (named name) (encoded (definite_string 3 name)) item
       (text, change) 0 cost (text_back text_content text (omega (arith, is.1)) is.0) back in
       subst (λ c. IsReadBack (ReadsNamedPair named) (field name item) change c) (no_dearer cost)
       (as_entry text (field name item) change (max 0 cost) entry)

@@ -54,7 +54,7 @@ use Rattle.cbor4ii.specs.Any.{kind, kind_by, KindAs, ReadsAny}
 use Rattle.cbor4ii.specs.AnyCost.{any_cost, greatest_any_cost, greatest_any_pair_cost}
 use Rattle.cbor4ii.specs.Laws.Any.{any_of_inside}
 use Rattle.cbor4ii.specs.ReadBack.{IsReadBack}
-use Rattle.cbor4ii.specs.Laws.Backs.{sequence_read_back, entries_back}
+use Rattle.cbor4ii.specs.Laws.Backs.{sequence_read_back, map_pairs_back}
 use Rattle.std.proofs.lemmas.List.Elements.{All-nil, All-cons}
 
 -- ---- by the first byte
@@ -220,8 +220,8 @@ back_as reads a (encoded bytes) v cost h back =
 abbrev own_item : Value → Encoding
 own_item v = value_encoding (view v)
 
-abbrev own_entry : Value × Value → Encoding
-own_entry = pair_encoding own_item own_item
+abbrev own_pair : Value × Value → Encoding
+own_pair = pair_encoding own_item own_item
 
 items_joined : (vs : List Value) → AgreesAsItem (each_encoding own_item vs)
     (unless (some_holds_tag (items_view vs)) (bytes_all (canonical_trees (items_view vs))))
@@ -231,18 +231,18 @@ items_joined (v ∷ vs) =
     (joined (holds_tag (view v)) (some_holds_tag (items_view vs)) (canonical_encoding (view v))
     (bytes_all (canonical_trees (items_view vs))))
 
-entries_joined : (ms : List (Value × Value)) → AgreesAsItem (each_encoding own_entry ms)
+pairs_joined : (ms : List (Value × Value)) → AgreesAsItem (each_encoding own_pair ms)
     (unless (pairs_hold_tag (pairs_view ms)) (bytes_pairs (canonical_pairs (pairs_view ms))))
-entries_joined [] = agrees _ _ refl
-entries_joined (m ∷ ms) =
+pairs_joined [] = agrees _ _ refl
+pairs_joined (m ∷ ms) =
     let s = holds_tag (view m.0) in
     let t = holds_tag (view m.1) in
     let u = pairs_hold_tag (pairs_view ms) in
     let key = canonical_encoding (view m.0) in
     let value = canonical_encoding (view m.1) in
     let others = bytes_pairs (canonical_pairs (pairs_view ms)) in
-    agrees_on _ _ _ (agree_both (own_entry m) (each_encoding own_entry ms) (unless (s || t)
-    (key ++ value)) (unless u others) (joined s t key value) (entries_joined ms))
+    agrees_on _ _ _ (agree_both (own_pair m) (each_encoding own_pair ms) (unless (s || t)
+    (key ++ value)) (unless u others) (joined s t key value) (pairs_joined ms))
     (agrees_on _ _ _ (joined (s || t) u (key ++ value) others)
     (agrees _ _ (ap (unless ((s || t) || u)) (append_assoc key value others))))
 
@@ -273,11 +273,11 @@ array_is vs =
     (bytes_all (canonical_trees (items_view vs))) (definite_items vs).0 (definite_items vs).1)
 
 map_is : (ms : List (Value × Value))
-    → AgreesAsItem (one_then (encoded (shortest_head 5 (length ms))) (each_encoding own_entry ms))
+    → AgreesAsItem (one_then (encoded (shortest_head 5 (length ms))) (each_encoding own_pair ms))
     (value_encoding (mapping (pairs_view ms)))
 map_is ms =
     let start = encoded (shortest_head 5 (length ms)) in
-    agrees_on _ _ _ (agree_both start _ start _ (agrees _ _ refl) (entries_joined ms))
+    agrees_on _ _ _ (agree_both start _ start _ (agrees _ _ refl) (pairs_joined ms))
     (one_head 5 _ _ (length ms) (pairs_hold_tag (pairs_view ms))
     (bytes_pairs (canonical_pairs (pairs_view ms)))
     (definite_pairs ms).0 (definite_pairs ms).1)
@@ -331,15 +331,15 @@ map_read : (ms : Vec (Value × Value) Global) → All (λ m. IsBack m.0) ms.item
     → All (λ m. IsBack m.1) ms.items → BackAs (mapping (pairs_view ms.items)) (values.Map ms)
 map_read ms keys contents h =
     let entries =
-    entries_back ReadsAny ReadsAny own_item own_item own_cost own_cost ms.items keys contents in
+    map_pairs_back ReadsAny ReadsAny own_item own_item own_cost own_cost ms.items keys contents in
     let read =
-    sequence_read_back (ReadsPair ReadsAny ReadsAny) own_entry (pair_cost own_cost own_cost) 5
+    sequence_read_back (ReadsPair ReadsAny ReadsAny) own_pair (pair_cost own_cost own_cost) 5
     true ms.items (omega (arith, h.0, (definite_pairs ms.items).0)) entries in
     let value =
     under_value (ReadsPair ReadsAny ReadsAny) Map 5 (λ b. refl) refl ms.items (values.Map ms)
     (λ xs n c r. (ms, r, refl)) _ _ read in
     let own = back_as ReadsAny
-    (one_then (encoded (shortest_head 5 (length ms.items))) (each_encoding own_entry ms.items))
+    (one_then (encoded (shortest_head 5 (length ms.items))) (each_encoding own_pair ms.items))
     (value_encoding (mapping (pairs_view ms.items))) (values.Map ms)
     (1 + (1 + greatest_part_cost (pair_cost own_cost own_cost) ms.items)) (map_is ms.items) value in
     rw (pairs_cost ms.items, two_steps (greatest_any_pair_cost (pairs_view ms.items))) at own

@@ -349,15 +349,15 @@ indefinite_array_is_item item vs p =
 -- ---- maps
 
 -- The bytes are those of so many pairs of the form.
-record SomeEntries (form : Form) (n : ℕ) (encoding : List ℕ) : Type 0 where
+record SomePairs (form : Form) (n : ℕ) (encoding : List ℕ) : Type 0 where
   of_tree : Pairs
   formed : ArePairsOfForm form of_tree
   many : pair_count of_tree ≡ n
   bytes_are : bytes_pairs of_tree ≡ encoding
 
 module _ (form : Form) where
-  one_entry_more : (n : ℕ) (xs ys : List ℕ) → OnePair form xs → SomeEntries form n ys
-      → SomeEntries form (suc n) (xs ++ ys)
+  one_entry_more : (n : ℕ) (xs ys : List ℕ) → OnePair form xs → SomePairs form n ys
+      → SomePairs form (suc n) (xs ++ ys)
   one_entry_more n xs ys p q = record {
     of_tree = pair p.key p.held q.of_tree;
     formed = more_pairs_formed form p.key p.held q.of_tree p.key_formed p.held_formed q.formed;
@@ -368,16 +368,16 @@ module _ (form : Form) where
 
   each_is_entry : {V : Type 0} (item : V → Encoding) (vs : List V)
       → AllByRecursion (λ v. IsOnePair form (item v)) vs
-      → IfEncoded (each_encoding item vs) (SomeEntries form (length vs))
+      → IfEncoded (each_encoding item vs) (SomePairs form (length vs))
   each_is_entry item [] h =
       record { of_tree = no_pairs; formed = no_pairs_formed form; many = refl; bytes_are = refl }
   each_is_entry item (v ∷ vs) h =
-      if_followed (OnePair form) (SomeEntries form (length vs))
-      (SomeEntries form (suc (length vs))) (item v) (each_encoding item vs)
+      if_followed (OnePair form) (SomePairs form (length vs))
+      (SomePairs form (suc (length vs))) (item v) (each_encoding item vs)
       (one_entry_more (length vs))
       h.0 (each_is_entry item vs h.1)
 
-  map_of_entries : (n : ℕ) → n < 2 ^ 64 → (ys : List ℕ) → SomeEntries form n ys
+  map_of_entries : (n : ℕ) → n < 2 ^ 64 → (ys : List ℕ) → SomePairs form n ys
       → OneItem form (shortest_head 5 n ++ ys)
   map_of_entries n h ys q = record {
     of_tree = map_of (shortest_width (pair_count q.of_tree)) q.of_tree;
@@ -390,7 +390,7 @@ module _ (form : Form) where
       → AllByRecursion (λ v. IsOnePair form (item v)) vs
       → IsOneItem form (one_then (encoded (shortest_head 5 (length vs))) (each_encoding item vs))
   entries_are_item item vs h p =
-      if_headed (SomeEntries form (length vs)) (OneItem form) (shortest_head 5 (length vs))
+      if_headed (SomePairs form (length vs)) (OneItem form) (shortest_head 5 (length vs))
       (each_encoding item vs) (map_of_entries (length vs) h) (each_is_entry item vs p)
 
   -- a key, and its value after it
@@ -440,7 +440,7 @@ indefinite_map_is_item entry vs p =
     let Ended : List ℕ → Type 0 = λ zs. OneItem shortest_heads (open_head 5 ++ zs) in
     if_headed Ended (OneItem shortest_heads) (open_head 5)
     (one_then (each_encoding entry vs) (encoded break_bytes)) (λ zs q. q)
-    (if_followed (SomeEntries shortest_heads (length vs)) (λ zs. zs ≡ break_bytes) Ended
+    (if_followed (SomePairs shortest_heads (length vs)) (λ zs. zs ≡ break_bytes) Ended
     (each_encoding entry vs) (encoded break_bytes)
     (λ ys zs q e. record {
       of_tree = map_indefinite q.of_tree;

@@ -57,6 +57,7 @@ abbrev mutual
   canonical_pairs (item_pair k v ms) = pair (canonical_tree k) (canonical_tree v)
       (canonical_pairs ms)
 
+-- the one encoding that is written for a value
 abbrev pub canonical_encoding : Item → List ℕ
 canonical_encoding v = bytes (canonical_tree v)
 

@@ -65,6 +65,7 @@ pub record IsCanonical (budget : Budget) (v : Item) : Type 0 where
   pub least : (encoding : List ℕ) (steps : ℕ) → Encodes encoding v steps → canonical_cost v ≤ steps
   pub reads : (more : List ℕ) → DecodesTo (canonical_encoding v ++ more) budget v more
 
+-- what is read has a canonical encoding, which costs no more and is read as it
 abbrev pub CanonicalReads : {E : Type 0} → View → Result Value (DecodeError E) → Type 0
 CanonicalReads old answer =
     IfKnown old.known (λ xs. IfOk answer (λ v. IsCanonical old.budget (view v)))

@@ -5,6 +5,7 @@ use Rattle.std.specs.Prelude.{ℕ, suc, ◌+◌, ◌^◌, ◌<◌, ℤ, pos, neg
 use Rattle.cbor4ii_items.specs.Initial.{Precision, precision_bytes}
 
 mutual
+  -- what an encoded data item means
   pub data Item : Type 0 where
     null : Item
     boolean : Bool → Item
@@ -53,13 +54,13 @@ abbrev mutual
   size_pairs no_item_pairs = 0
   size_pairs (item_pair k v ms) = size k + size v + size_pairs ms
 
--- Of a value of the program lengths and tags are below 2 ^ 64, and texts are UTF-8.
 -- An integer of a value of the program is one of i128.
 abbrev pub IsInteger : ℤ → Type 0
 IsInteger (pos n) = n < 2 ^ 127
 IsInteger (negsuc n) = n < 2 ^ 127
 
 abbrev mutual
+  -- a value of the program: lengths and tags are below 2 ^ 64, and texts are UTF-8
   pub IsItem : Item → Type 0
   IsItem null = Unit {0}
   IsItem (boolean b) = Unit {0}

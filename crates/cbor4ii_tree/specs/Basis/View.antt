@@ -36,6 +36,7 @@ view_step (Value-F.Array v) = sequence (items_of v.items)
 view_step (Value-F.Map v) = mapping (item_pairs_of v.items)
 view_step (Value-F.Tag n v) = tag n v.value
 
+-- what a `Value` of a program means
 abbrev pub view : Value → Item
 view = fold-Value Item view_step
 

@@ -22,6 +22,7 @@ pub record ReadsValue (xs : List ℕ) (v : Item) (n c : ℕ) : Type 0 where
   pub within : n ≤ length xs
   pub encodes : Encodes (take n xs) v c
 
+-- a value, read from any encoding of it
 abbrev pub value_format : Format Value
 value_format = format_by view (taking_memory (leaf_format ReadsValue ReadingRejects))
 

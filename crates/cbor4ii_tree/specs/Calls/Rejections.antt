@@ -51,6 +51,7 @@ abbrev pub RejectsAtStep : List ℕ → Option Budget → List ℕ → (Budget �
 RejectsAtStep name None here rejects e rest = Is (depth_overflow name) here e rest
 RejectsAtStep name (Some inner) here rejects e rest = rejects inner e rest
 
+-- each of these items is so
 abbrev pub Each : (Tree → Type 0) → Trees → Type 0
 Each Whole no_trees = Unit {0}
 Each Whole (tree t ts) = Whole t × Each Whole ts

@@ -3,6 +3,7 @@ use Rattle.std.proofs.Common.{◌≡◌, ℕ, zero, suc, ◌+◌, ◌-◌, ◌�
 use Rattle.std.proofs.Common.{Ok, Err, Result, refl, ap, arith}
 use Rattle.cbor4ii_items.specs.Budget.{CostFits}
 use Rattle.cbor4ii_items.specs.Reading.{go_on}
+use Rattle.cbor4ii_items.specs.Sequences.{after_step}
 use Rattle.cbor4ii_tree.specs.Basis.Cost.{Budget, step_in}
 use Rattle.cbor4ii_tree.specs.Basis.InputError.{InputError}
 use Rattle.cbor4ii_tree.specs.Calls.Rejections.{Is, RejectsAtStep}
@@ -40,9 +41,9 @@ pub then_err : {A B : Type 0} (r : Answer A) (next : A → Parser B) (z : InputE
     → r ≡ Err z → go_on r next ≡ Err z
 then_err r next z e = rw e refl
 
-pub err : {A : Type 0} (f : InputError) (step_leaves : List ℕ) (e : InputError) (rest : List ℕ)
-    → Is f step_leaves e rest → ◌≡◌ {A = Answer A} (Err (f, step_leaves)) (Err (e, rest))
-err f step_leaves e rest h = cc
+pub err : {A : Type 0} (f : InputError) (left : List ℕ) (e : InputError) (rest : List ℕ)
+    → Is f left e rest → ◌≡◌ {A = Answer A} (Err (f, left)) (Err (e, rest))
+err f left e rest h = cc
 
 -- the answer's two parts
 pub answer_parts : {A : Type 0} (r : Answer A) (a c : A) (b d : List ℕ) → r ≡ Ok (a, b)
@@ -54,12 +55,7 @@ answer_parts {A} r a c b d p q =
 
 -- ---- steps
 
--- what a step leaves
-abbrev pub step_leaves : Budget → Budget
-step_leaves None = None
-step_leaves (Some n) = Some (n - 1)
-
-pub step_left : (b : Budget) → CostFits 1 b → step_in b ≡ Some (step_leaves b)
+pub step_left : (b : Budget) → CostFits 1 b → step_in b ≡ Some (after_step b)
 step_left None h = refl
 step_left (Some zero) h = absurd (omega arith)
 step_left (Some (suc n)) h = let e : suc n - 1 ≡ n = omega arith in rw e refl

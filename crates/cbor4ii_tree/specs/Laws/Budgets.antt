@@ -2,14 +2,14 @@
 use Rattle.std.proofs.Common.{ℕ, ◌+◌, Some, None, arith}
 use Rattle.cbor4ii_items.specs.Budget.{CostFits}
 use Rattle.cbor4ii_tree.specs.Basis.Cost.{Budget}
-use Rattle.cbor4ii_tree.specs.Laws.Binds.{step_leaves}
+use Rattle.cbor4ii_items.specs.Sequences.{after_step}
 
-pub fits_left : (c : ℕ) (b : Budget) → CostFits (1 + c) b → CostFits c (step_leaves b)
+pub fits_left : (c : ℕ) (b : Budget) → CostFits (1 + c) b → CostFits c (after_step b)
 fits_left c None h = tt
 fits_left c (Some n) h = omega arith
 
 -- two steps, one after another
 pub fits_two : (c : ℕ) (b : Budget) → CostFits (2 + c) b
-    → CostFits 1 (step_leaves b) × CostFits c (step_leaves (step_leaves b))
+    → CostFits 1 (after_step b) × CostFits c (after_step (after_step b))
 fits_two c None h = (tt, tt)
 fits_two c (Some n) h = (omega arith, omega arith)

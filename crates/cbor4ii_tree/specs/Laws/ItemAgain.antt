@@ -11,7 +11,8 @@ use Rattle.cbor4ii_tree.specs.{Calls.ItemAt.{tested_string, string_tree_at}}
 use Rattle.cbor4ii_tree.specs.Calls.ItemAt.{chunk_tree_by, chunk_tree_at, item_by, item_from}
 use Rattle.cbor4ii_tree.specs.Calls.ItemAt.{item_within}
 use Rattle.cbor4ii_tree.specs.{Calls.ItemRejects.{Profile, ChunkOf}}
-use Rattle.cbor4ii_tree.specs.{Laws.Binds.{step_leaves, step_left}}
+use Rattle.cbor4ii_items.specs.Sequences.{after_step}
+use Rattle.cbor4ii_tree.specs.Laws.Binds.{step_left}
 use Rattle.cbor4ii_tree.specs.Laws.HeadsAgain.{prefix_again, argument_again, number_again}
 use Rattle.cbor4ii_tree.specs.Laws.Initials.{begins, initial_int, initial_string, initial_array}
 use Rattle.cbor4ii_tree.specs.Laws.Initials.{initial_map, initial_tag, initial_chunks}
@@ -172,5 +173,5 @@ module _ (p : Profile) (l : IsLawfulProfile p) where
   item_again zero budget t x w lt = absurd (omega arith)
   item_again (suc n) budget t x w lt =
       rw (step_left budget (l.costs budget t w))
-      (from_again (item_within p n) n (step_leaves budget) (item_again n) t x (l.opens budget t w)
+      (from_again (item_within p n) n (after_step budget) (item_again n) t x (l.opens budget t w)
       lt)

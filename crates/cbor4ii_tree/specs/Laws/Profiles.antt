@@ -7,7 +7,7 @@ use Rattle.cbor4ii_items.specs.{Laws.Answering.fits_zero, Laws.SequenceParts.fit
 use Rattle.cbor4ii_tree.specs.Basis.Cost.{Budget, step_in, cost, skip_cost, chunks_cost}
 use Rattle.cbor4ii_tree.specs.Basis.Cost.{greatest_cost}
 use Rattle.cbor4ii_tree.specs.{Calls.ItemRejects.{Profile, ReadableChunk, ChunkOf}}
-use Rattle.cbor4ii_tree.specs.{Laws.Binds.step_leaves}
+use Rattle.cbor4ii_items.specs.Sequences.{after_step}
 use Rattle.cbor4ii_tree.specs.{Laws.Binds.{step_left, step_up}, Laws.Budgets.{fits_left, fits_two}}
 use Rattle.cbor4ii_tree.specs.Laws.Wholes.{each_readable, each_pair_readable, each_chunk}
 use Rattle.cbor4ii_tree.specs.Laws.Wholes.{each_skippable, each_pair_skippable, all_readable}
@@ -48,7 +48,7 @@ HasWholeParts p b (bits f n) = n < 256 ^ precision_bytes f
 
 pub record IsLawfulProfile (p : Profile) : Type 0 where
   pub costs : (b : Budget) (t : Tree) → p.Whole b t → CostFits 1 b
-  pub opens : (b : Budget) (t : Tree) → p.Whole b t → HasWholeParts p (step_leaves b) t
+  pub opens : (b : Budget) (t : Tree) → p.Whole b t → HasWholeParts p (after_step b) t
   pub closes : (b c : Budget) (t : Tree) → step_in b ≡ Some c → HasWholeParts p c t → p.Whole b t
   pub loose : (b : Budget) (t : Tree) → p.Whole b t → Loose t
 
@@ -59,18 +59,18 @@ skip_cost-pos (int s n w) = omega arith
 skip_cost-pos _ = omega arith
 
 skipping_opens : (b : Budget) (t : Tree) → Skippable b t → HasWholeParts skipping_profile
-    (step_leaves b) t
+    (after_step b) t
 skipping_opens b (int s n w) h = h.0
 skipping_opens b (string k w content) h = (h.0, tt)
-skipping_opens b (chunked k ts) h = (each_skippable ts (step_leaves b) h.0 (fits_left _ b h.1), tt)
+skipping_opens b (chunked k ts) h = (each_skippable ts (after_step b) h.0 (fits_left _ b h.1), tt)
 skipping_opens b (array w ts) h =
-    (h.0.0, (step_leaves b, refl, each_skippable ts (step_leaves b) h.0.1 (fits_left _ b h.1)))
+    (h.0.0, (after_step b, refl, each_skippable ts (after_step b) h.0.1 (fits_left _ b h.1)))
 skipping_opens b (array_indefinite ts) h =
-    (step_leaves b, refl, each_skippable ts (step_leaves b) h.0 (fits_left _ b h.1))
+    (after_step b, refl, each_skippable ts (after_step b) h.0 (fits_left _ b h.1))
 skipping_opens b (map_of w ps) h =
-    (h.0.0, (step_leaves b, refl, each_pair_skippable ps (step_leaves b) h.0.1 (fits_left _ b h.1)))
+    (h.0.0, (after_step b, refl, each_pair_skippable ps (after_step b) h.0.1 (fits_left _ b h.1)))
 skipping_opens b (map_indefinite ps) h =
-    (step_leaves b, refl, each_pair_skippable ps (step_leaves b) h.0 (fits_left _ b h.1))
+    (after_step b, refl, each_pair_skippable ps (after_step b) h.0 (fits_left _ b h.1))
 skipping_opens b (tagged n w t) h = (h.0.0, (h.0.1, fits_left _ b h.1))
 skipping_opens b (simple s) h = tt
 skipping_opens b (bits f n) h = h.0
@@ -120,25 +120,25 @@ greatest_chunk k (tree (string j w content) ts) a = omega (arith, greatest_chunk
 greatest_chunk k (tree _ ts) a = absurd a.0
 
 chunks_fit : (k : Kind) (ts : Trees) (b : Budget) → AreChunks k ts → CostFits (chunks_cost ts) b
-    → CostFits (greatest_cost ts) (step_leaves b)
+    → CostFits (greatest_cost ts) (after_step b)
 chunks_fit k ts None a f = tt
 chunks_fit k no_trees (Some n) a f = omega arith
 chunks_fit k (tree t ts) (Some n) a f = omega (arith, greatest_chunk k (tree t ts) a)
 
 -- after two steps
 inside : (b : Budget) (n : ℕ) (P : Budget → Type 0) → CostFits (2 + n) b
-    → (CostFits n (step_leaves (step_leaves b)) → P (step_leaves (step_leaves b)))
-    → Inside reading_profile (step_leaves b) P
+    → (CostFits n (after_step (after_step b)) → P (after_step (after_step b)))
+    → Inside reading_profile (after_step b) P
 inside b n P f k =
     let two = fits_two n b f in
-    (step_leaves (step_leaves b), step_left (step_leaves b) two.0, k two.1)
+    (after_step (after_step b), step_left (after_step b) two.0, k two.1)
 
 reading_opens : (b : Budget) (t : Tree) → Readable b t → HasWholeParts reading_profile
-    (step_leaves b) t
+    (after_step b) t
 reading_opens b (int s n w) h = h.0.0
 reading_opens b (string k w content) h = h.0
 reading_opens b (chunked k ts) h =
-    (each_chunk k ts (step_leaves b) h.0.0 h.0.1.0 (chunks_fit k ts b h.0.1.0 h.1), h.0.1.1)
+    (each_chunk k ts (after_step b) h.0.0 h.0.1.0 (chunks_fit k ts b h.0.1.0 h.1), h.0.1.1)
 reading_opens b (array w ts) h =
     (h.0.0.0, inside b _ _ h.1 (λ f. each_readable ts _ h.0.0.1 h.0.1 f))
 reading_opens b (array_indefinite ts) h =

@@ -18,7 +18,7 @@ ghost use Rattle.cbor4ii.specs.Stepped.{Stepped, RejectsStepped, stepped_format}
 ghost use Rattle.cbor4ii.specs.Tuples.{ReadsCountOf, RejectsCountOf};
 ghost use Rattle.cbor4ii.specs.Typed.{input, answer_of, as_core, rejects_as_promised, Deserializes};
 ghost use Rattle.cbor4ii.specs.Variants.{inside_enum, reference_of_enum, deserializer_of_enum};
-ghost use Rattle.cbor4ii.specs.Variants.{lender_of_enum, form_of, with_content, OpensEnum};
+ghost use Rattle.cbor4ii.specs.Variants.{enum_accessor_name, form_of, with_content, OpensEnum};
 ghost use Rattle.cbor4ii.specs.Variants.{ReadsContent, RejectsContent, SaysOther, form_format};
 
 use crate::serde::de::accessor::{Accessor, Left};
@@ -34,7 +34,7 @@ use cbor4ii_rw::read::Source;
 use std::alloc::Global;
 
 /// The head of a map of one pair.
-const ENTRY: u8 = 0xa1;
+const PAIR: u8 = 0xa1;
 
 /// A variant: its name, and then what it holds. It holds a step of the budget, and gives it back
 /// when it is dropped. What was not read stays.
@@ -81,12 +81,12 @@ impl<S: Source> Deserializer<S> {
         variants: &[StaticStr],
     ) -> Result<EnumAccessor<'_, S>, DecodeError<S::Error>>
         ensures* rejected { sem 𝓛 (RestsIfErr (the_row S.row) self.entry
-            lender_of_enum result (λ new.
+            enum_accessor_name result (λ new.
             RejectedAs (stepped_format (codes "enum") form_format)
             (input S.view self.old) (input S.view new) (answer_of result) ×
             OnRead (answer_of result) (ReaderFails (input S.view self.old) (input S.view new)))) }
         ensures same_reference { IfOk result
-            (λ accessor. lender_of_enum accessor ≡ self.entry.ghost_name) }
+            (λ accessor. enum_accessor_name accessor ≡ self.entry.ghost_name) }
         ensures opened { IfOk result (λ accessor. OpensEnum (input S.view self.old)
             (inside_enum S.view accessor) (form_of accessor)) }
     {
@@ -131,7 +131,7 @@ pub(crate) fn take_form<S: Source>(
 {
     match peek(reader, "enum") {
         Ok(first) => {
-            if first == ENTRY {
+            if first == PAIR {
                 reader.advance(1);
                 return Ok((true, first));
             }
@@ -233,7 +233,7 @@ impl<'a, S: Source> EnumAccessor<'a, S> {
     /// Those of the name, with what they leave. The step stays taken.
     #[inline(always)]
     pub fn variant<V: Deserialize<S>>(&mut self, alloc: Global) -> Result<V, DecodeError<S::Error>>
-        ensures same_reference { lender_of_enum self.new ≡ lender_of_enum self.old }
+        ensures same_reference { enum_accessor_name self.new ≡ enum_accessor_name self.old }
         ensures same_form { form_of self.new ≡ form_of self.old }
         ensures decodes { Deserializes V.promise (inside_enum S.view self.old)
             (inside_enum S.view self.new) (answer_of result) }
@@ -354,7 +354,7 @@ impl<'a, S: Source> EnumAccessor<'a, S> {
             (RejectsStepped (codes "tuple") (RejectsCountOf len)))
             (inside_enum S.view self.entry) (input S.view new) (as_core error)))) }
         ensures same_reference { IfOk result
-            (λ accessor. deserializer_name accessor ≡ lender_of_enum self.entry) }
+            (λ accessor. deserializer_name accessor ≡ enum_accessor_name self.entry) }
         ensures wrong { (form_of self.entry).0 ≡ false →
             SaysOther (form_of self.entry).1 (answer_of result) }
         ensures opened { IfOk result (λ accessor. OpensParts 4 (inside_enum S.view self.entry)
@@ -394,7 +394,7 @@ impl<'a, S: Source> EnumAccessor<'a, S> {
             (RejectsStepped (codes "map") (RejectsLength (codes "map") 5)))
             (inside_enum S.view self.entry) (input S.view new) (as_core error)))) }
         ensures same_reference { IfOk result
-            (λ accessor. deserializer_name accessor ≡ lender_of_enum self.entry) }
+            (λ accessor. deserializer_name accessor ≡ enum_accessor_name self.entry) }
         ensures wrong { (form_of self.entry).0 ≡ false →
             SaysOther (form_of self.entry).1 (answer_of result) }
         ensures opened { IfOk result (λ accessor. OpensParts 5 (inside_enum S.view self.entry)

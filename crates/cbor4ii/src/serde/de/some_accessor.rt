@@ -10,7 +10,8 @@ ghost use Rattle.cbor4ii_items.specs.InputError.{is_out_of_memory};
 ghost use Rattle.cbor4ii.specs.contracts.serde.de.deserializer.Deserializer.{the_row};
 ghost use Rattle.cbor4ii.specs.contracts.serde.de.some_accessor.SomeAccessor.{the_row as the_some};
 ghost use Rattle.cbor4ii.specs.Accessing.{Closes, Finishes, RejectedAs};
-ghost use Rattle.cbor4ii.specs.Optional.{inside_some, deserializer_of_some, lender_of_some, comes};
+ghost use Rattle.cbor4ii.specs.Optional.{inside_some, deserializer_of_some, some_accessor_name};
+ghost use Rattle.cbor4ii.specs.Optional.{comes};
 ghost use Rattle.cbor4ii.specs.Optional.{steps_of_some, with_value_from, OpensOption};
 ghost use Rattle.cbor4ii.specs.Optional.{ReadsComingValue, presence_format};
 ghost use Rattle.cbor4ii.specs.Typed.{input, answer_of, as_core};
@@ -57,12 +58,12 @@ impl<S: Source> Deserializer<S> {
     /// - `Core` of `DepthOverflow` by "option": a value comes and no step is left
     pub fn deserialize_option(&mut self) -> Result<SomeAccessor<'_, S>, DecodeError<S::Error>>
         ensures* rejected { sem 𝓛 (RestsIfErr (the_row S.row) self.entry
-            lender_of_some result (λ new.
+            some_accessor_name result (λ new.
             RejectedAs presence_format
             (input S.view self.old) (input S.view new) (answer_of result) ×
             OnRead (answer_of result) (ReaderFails (input S.view self.old) (input S.view new)))) }
         ensures same_reference { IfOk result
-            (λ accessor. lender_of_some accessor ≡ self.entry.ghost_name) }
+            (λ accessor. some_accessor_name accessor ≡ self.entry.ghost_name) }
         ensures opened { IfOk result (λ accessor. OpensOption (input S.view self.old)
             (inside_some S.view accessor) (comes accessor)) }
     {

@@ -2,7 +2,7 @@ use Rattle.std.proofs.Common.{◌+◌, true}
 use Rattle.cbor4ii_items.specs.ReadBack.{pair_cost, greatest_part_cost}
 use Rattle.cbor4ii_items.specs.Sequences.{ReadsPair, ReadsSequence}
 use Rattle.cbor4ii_ser.specs.Item.{pair_encoding, map_encoding}
-use Rattle.cbor4ii.specs.Laws.Backs.{sequence_read_back, entries_back, built_again, map_read_back}
+use Rattle.cbor4ii.specs.Laws.Backs.{sequence_read_back, map_pairs_back, built_again, map_read_back}
 use Rattle.cbor4ii.proofs.serde.laws.maps_are_read_back.Goals as goal
 
 pub returns : goal.returns
@@ -10,7 +10,8 @@ returns g c m key_cost value_cost ordered small keys values =
     let key = g.K.Serialize.encoding in
     let value = g.V.Serialize.encoding in
     let pairs = ReadsPair g.K.Typed.promise.format.reads g.V.Typed.promise.format.reads in
-    let each = entries_back g.K.Typed.promise.format.reads g.V.Typed.promise.format.reads key value
+    let each = map_pairs_back g.K.Typed.promise.format.reads g.V.Typed.promise.format.reads key
+    value
     key_cost value_cost m.entries keys values in
     let read = sequence_read_back pairs (pair_encoding key value) (pair_cost key_cost value_cost) 5
     true m.entries small each in

@@ -2,14 +2,14 @@ use Rattle.std.proofs.Common.{arith, refl, []}
 use Rattle.cbor4ii_items.specs.Laws.Running.{kept_alike}
 use Rattle.cbor4ii_items.specs.Laws.SequenceParts.{no_part, count_err}
 use Rattle.cbor4ii_items.specs.Sequences.{in_list}
-use Rattle.cbor4ii.specs.Structs.{field_pair, entry_lawful}
+use Rattle.cbor4ii.specs.Structs.{field_pair, named_pair_lawful}
 use Rattle.cbor4ii.proofs.Filling.{definite_more, definite_done}
 use Rattle.cbor4ii.proofs.serde.de.fields.definite_fields.Goals as goal
 
 pub returns-in_err-take_field : goal.returns-in_err-take_field
 returns-in_err-take_field g c =
     let fields = g.V.Places.fields c.args.names.now in
-    rw c.from_residual.ensures (count_err in_list (field_pair fields) (entry_lawful fields)
+    rw c.from_residual.ensures (count_err in_list (field_pair fields) (named_pair_lawful fields)
     c.loop-i.invariant.begun c.loop-i-test.true c.in_err-take_field.ensures)
 
 pub loop-i-init : goal.loop-i-init

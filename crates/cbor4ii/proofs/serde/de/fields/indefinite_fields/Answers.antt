@@ -4,7 +4,7 @@ use Rattle.cbor4ii_items.specs.Laws.Answering.{fits_zero}
 use Rattle.cbor4ii_items.specs.Laws.Running.{kept_alike}
 use Rattle.cbor4ii_items.specs.Laws.SequenceParts.{stands, indefinite_err, place_end, place_part}
 use Rattle.cbor4ii_items.specs.Sequences.{in_list}
-use Rattle.cbor4ii.specs.Structs.{field_pair, entry_lawful}
+use Rattle.cbor4ii.specs.Structs.{field_pair, named_pair_lawful}
 use Rattle.cbor4ii.proofs.Filling.{unended_more, unended_done}
 use Rattle.cbor4ii.proofs.serde.de.fields.indefinite_fields.Goals as goal
 
@@ -33,8 +33,9 @@ pub returns-in_err-part : goal.returns-in_err-part
 returns-in_err-part g c =
     let fields = g.V.Places.fields c.args.names.now in
     rw c.from_residual.ensures (indefinite_err in_list (codes "map") (field_pair fields)
-    (entry_lawful fields) c.loop-alloc.invariant.opened (place_end (field_pair fields) (codes "map")
-    (entry_lawful fields) (rw c.in_err-part.ensures at c.takes_break.ensures.runs)
+    (named_pair_lawful fields) c.loop-alloc.invariant.opened
+    (place_end (field_pair fields) (codes "map")
+    (named_pair_lawful fields) (rw c.in_err-part.ensures at c.takes_break.ensures.runs)
     (rw c.in_err-part.ensures at c.takes_break.ensures.memory)))
 
 pub returns-in_err-take_field : goal.returns-in_err-take_field
@@ -42,7 +43,7 @@ returns-in_err-take_field g c =
     let fields = g.V.Places.fields c.args.names.now in
     let taken = rw c.in_ok-part.ensures at c.takes_break.ensures.runs in
     rw c.from_residual-in_err-take_field.ensures (indefinite_err in_list (codes "map")
-    (field_pair fields) (entry_lawful fields) c.loop-alloc.invariant.opened
+    (field_pair fields) (named_pair_lawful fields) c.loop-alloc.invariant.opened
     (place_part (field_pair fields) (codes "map") refl (stands c.if-not-branch.true taken)
     c.in_err-take_field.ensures))
 
