@@ -29,7 +29,7 @@ use std::alloc::{AllocError, Global};
 ///
 /// `NoMemory`: that memory was refused. The value is then sorted in part.
 pub fn sort(value: &mut Value) -> Result<(), NoMemory>
-    ensures sort_of { OnOk result (view value.new ≡ sort_of (view value.old)) }
+    ensures sorted { OnOk result (view value.new ≡ sort_of (view value.old)) }
     ensures order { OnOk result (EachMap KeysInOrder (view value.new)) }
     ensures same { SameUpToOrder (view value.old) (view value.new) }
     ensures memory { OnErr result (HasMapWith HasManyPairs (view value.old)) }
@@ -39,7 +39,7 @@ pub fn sort(value: &mut Value) -> Result<(), NoMemory>
 
 #[cycle(sorting)]
 fn sort_value(value: &mut Value) -> Result<(), AllocError>
-    ensures sort_of { OnOk result (view value.new ≡ sort_of (view value.old)) }
+    ensures sorted { OnOk result (view value.new ≡ sort_of (view value.old)) }
     ensures same { SameUpToOrder (view value.old) (view value.new) }
     ensures memory { OnErr result (HasMapWith HasManyPairs (view value.old)) }
 {
@@ -53,7 +53,7 @@ fn sort_value(value: &mut Value) -> Result<(), AllocError>
 
 #[cycle(sorting)]
 fn sort_items(items: &mut [Value]) -> Result<(), AllocError>
-    ensures sort_of { OnOk result (items_view items.new ≡ sorted_items (items_view items.old)) }
+    ensures sorted { OnOk result (items_view items.new ≡ sorted_items (items_view items.old)) }
     ensures same { SameItems (items_view items.old) (items_view items.new) }
     ensures memory { OnErr result (SomeHasMapWith HasManyPairs (items_view items.old)) }
 {
@@ -66,7 +66,7 @@ fn sort_items(items: &mut [Value]) -> Result<(), AllocError>
 /// Sorts what stands in the pairs, and then the pairs by their keys.
 #[cycle(sorting)]
 fn sort_map(pairs: &mut Vec<(Value, Value)>) -> Result<(), AllocError>
-    ensures sort_of { OnOk result (pairs_view pairs.new.items
+    ensures sorted { OnOk result (pairs_view pairs.new.items
         ≡ in_order (sorted_pairs (pairs_view pairs.old.items))) }
     ensures same { SamePairs (pairs_view pairs.old.items) (pairs_view pairs.new.items) }
     ensures memory { OnErr result (HasManyPairs (pairs_view pairs.old.items)
@@ -79,7 +79,7 @@ fn sort_map(pairs: &mut Vec<(Value, Value)>) -> Result<(), AllocError>
 
 #[cycle(sorting)]
 fn sort_pairs(pairs: &mut [(Value, Value)]) -> Result<(), AllocError>
-    ensures sort_of { OnOk result (pairs_view pairs.new
+    ensures sorted { OnOk result (pairs_view pairs.new
         ≡ sorted_pairs (pairs_view pairs.old)) }
     ensures same { SamePairs (pairs_view pairs.old) (pairs_view pairs.new) }
     ensures memory { OnErr result (PairHasMapWith HasManyPairs (pairs_view pairs.old)) }
