@@ -1,6 +1,6 @@
 -- What a lawful reader does: how its view moves in each call.
 use Rattle.std.specs.Prelude.{◌≡◌, ℕ, ◌+◌, ◌-◌, ◌^◌, ◌<◌, ◌≤◌, ◌⊎◌, Bool, true, false, nat_lt}
-use Rattle.std.specs.Prelude.{if◌then◌else◌, min, List, [], length, drop, None, Some, Option}
+use Rattle.std.specs.Prelude.{if◌then◌else◌, min, max, List, [], length, drop, None, Some, Option}
 use Rattle.std.specs.Prelude.{IsTrue}
 use Rattle.std.specs.Io.{StartsWith}
 use Rattle.cbor4ii_rw.specs.View.{View, IfKnown}
@@ -35,6 +35,12 @@ pub record IsPrefix (want : ℕ) (shown xs : List ℕ) : Type 0 where
 -- as many bytes as are wanted, or all that are left
 abbrev pub IsEnough : ℕ → List ℕ → List ℕ → Type 0
 IsEnough want shown xs = min want (length xs) ≤ length shown
+
+-- The first arguments are a number of bytes that is free, and which windows above 1 are allowed.
+-- n is the least of `most` and a window that is allowed, or of `most` and what is free
+abbrev pub AsksWithin : ℕ → (ℕ → Type 0) → ℕ → ℕ → Type 0
+AsksWithin free Allows most n = (window : ℕ) × (1 ≤ window) × (2 ≤ window → Allows window)
+    × (n ≡ min most (max free window))
 
 -- What a prefix that was shown leaves: no byte is taken, and what is shown may be advanced.
 pub record Shows (shown : List ℕ) (old new : View) : Type 0 where

@@ -9,7 +9,7 @@ ghost use Rattle.std.specs.Prelude.{OnSome, IsSome, MatchOption};
 ghost use Rattle.std.specs.Borrow.{sem};
 ghost use Rattle.std.specs.Io.BufRead.{Rests};
 ghost use Rattle.cbor4ii_rw.specs.View.{IfKnown};
-ghost use Rattle.cbor4ii_rw.specs.Reader.{IsPrefix, IsEnough, Shows, ReaderFails, Takes};
+ghost use Rattle.cbor4ii_rw.specs.Reader.{IsPrefix, IsEnough, Shows, ReaderFails, Takes, AsksWithin};
 ghost use Rattle.cbor4ii_rw.specs.Reference.{bytes_of, IsLong, IsSubslice};
 ghost use Rattle.cbor4ii_rw.specs.Parted.{PartsAnswer};
 
@@ -21,8 +21,22 @@ use crate::read::{Read, Reference, Source};
 pub fn at_most<S: Source>(reader: &S, most: usize) -> usize
     ensures most { result ≤ most }
     ensures some { 1 ≤ most → 1 ≤ result }
+    ensures within { AsksWithin 1 (S.allows reader.now) most result }
 {
     most.min(reader.window())
+}
+
+/// How many bytes a look asks for where a content lacks `missing`, which is copied or skipped: so
+/// many as `Source::window` allows, or 16384 where that is more, and at most `missing`.
+///
+/// The length that a head says may be false, and a reader may wait for all that is wanted.
+#[inline(always)]
+pub fn content_part<S: Source>(reader: &S, missing: usize) -> usize
+    ensures most { result ≤ missing }
+    ensures some { 1 ≤ missing → 1 ≤ result }
+    ensures within { AsksWithin 16384 (S.allows reader.now) missing result }
+{
+    missing.min(reader.window().max(16384))
 }
 
 /// A prefix of what `reader` has left, as `Source::show` shows it. Where the reader fails, none,

@@ -9,6 +9,8 @@ impl<S: Source> Source for &mut S {
 
     ghost view = { λ reader. S.view reader.now };
 
+    ghost allows = { λ reader. S.allows reader.now };
+
     fn show(&mut self, want: usize) -> Result<&[u8], S::Error> {
         Source::show(&mut **self, want)
     }

@@ -3,7 +3,7 @@
 //! A reader shows a prefix of what is left, and takes bytes only when it is asked to advance. It
 //! also counts the steps that nested items take (RFC 8949 section 10 leaves the limit to the
 //! decoder), so that hostile input cannot drive a recursion as deep as it likes.
-ghost use Rattle.std.specs.Prelude.{◌≡◌, ◌≤◌, ◌↔◌, length, take, IsTrue, IfOk, MatchResult};
+ghost use Rattle.std.specs.Prelude.{◌≡◌, ◌≤◌, ◌↔◌, ℕ, ⊤, length, take, IsTrue, IfOk, MatchResult};
 ghost use Rattle.std.specs.Borrow.{sem};
 ghost use Rattle.std.specs.Io.BufRead.{Rests};
 ghost use Rattle.cbor4ii_rw.specs.View.{View, IfKnown};
@@ -57,11 +57,15 @@ pub trait Source {
     // others.
     ghost view: { Self → View };
 
+    // Which numbers above 1 `window` may answer; any, where nothing else is said.
+    ghost allows: { Self → ℕ → Type 0 } = { λ _ _. ⊤ };
+
     /// Shows a prefix of what is left, perhaps shorter or longer than `want`, and takes nothing.
     /// It is empty only at the end, or where `want` is 0. What is shown may be advanced.
     ///
     /// `want` is a wish: one byte is enough. A reader whose `window` is 1 may also wait for all
-    /// that is wanted, since the item needs it. Any other may wait for ever then.
+    /// that is wanted, since the item needs it. Any other may wait for ever then. So many bytes it
+    /// may have to hold: `window` says what bounds them.
     ///
     /// # Errors
     ///
@@ -84,12 +88,18 @@ pub trait Source {
     /// Where it is 1, no call asks for more bytes than the item is sure to need by what was seen
     /// of it, and for none after it. It asks for one at first, then for what the head lacks, and
     /// then for what the content lacks. Where it is greater, a look may ask for so many, and for no
-    /// more than the greater of the two. A `RawValue` and its like alone ask for all that is left.
+    /// more than the greater of the two.
+    ///
+    /// A head may say that 2^64 - 1 bytes follow. Of a content that is copied or skipped a look
+    /// asks for no more than the greater of the window and 16384 bytes at a time. A content that is
+    /// to be lent is wanted whole, by `Read::fill` alone. A `RawValue` and its like ask for all
+    /// that is left.
     ///
     /// Only a reader that waits for no byte because more are wanted, and rejects none, answers
     /// more than 1. One that shows what it has, whatever is wanted, answers the greatest number.
     fn window(&self) -> usize
-        ensures { 1 ≤ result }
+        ensures some { 1 ≤ result }
+        ensures allowed { 2 ≤ result → allows self.now result }
     {
         1
     }
