@@ -38,3 +38,10 @@ pub mod ContainersApart
 pub mod SequencesApart
 pub mod StringsApart
 pub mod Wholes
+pub mod HeadErrors
+pub mod NumberErrors
+pub mod LeafErrors
+pub mod NumbersOnce
+pub mod StringErrors
+pub mod ContainerErrors
+pub mod SequenceErrors

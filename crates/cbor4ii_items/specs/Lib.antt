@@ -12,6 +12,7 @@ pub mod ShownLeaf
 pub mod Writing
 pub mod ReadBack
 pub mod NeverBoth
+pub mod OneError
 pub mod Numbers
 pub mod Magnitude
 pub mod Floats

@@ -1,5 +1,6 @@
 -- What an encoding call leaves in the writer.
-use Rattle.std.specs.Prelude.{◌≡◌, ℕ, List, ◌++◌, Bool, Option, Some, Result, OnOk, OnErr, IsTrue}
+use Rattle.std.specs.Prelude.{◌≡◌, ◌⊎◌, ℕ, List, ◌++◌, Bool, Option, Some, Result, OnOk, OnErr}
+use Rattle.std.specs.Prelude.{IsTrue}
 use Rattle.std.specs.Io.{StartsWith}
 use Rattle.cbor4ii_rw.specs.View.{IfKnown}
 use Rattle.cbor4ii_rw.specs.Reader.{Failed, Keeps}
@@ -24,3 +25,9 @@ pub record WritesAtomically {T E : Type 0} (atomic : Bool) (bytes : List ℕ) (o
     (answer : Result T E) : Type 0 where
   pub writes : Writes atomic bytes old new answer
   pub kept : IsTrue atomic → OnErr answer (Keeps old.written new.written)
+
+-- Of an atomic writer that failed known bytes are as they were, or have the first after them.
+-- One push writes the first bytes, and another what follows them.
+abbrev pub InTwoPushes : {T E : Type 0} → Bool → List ℕ → Output → Output → Result T E → Type 0
+InTwoPushes atomic first old new answer = IsTrue atomic → OnErr answer
+    (Keeps old.written new.written ⊎ Appends first old.written new.written)

@@ -20,11 +20,12 @@ ghost use Rattle.cbor4ii_items.specs.declared.types.Undefined.{Undefined};
 ghost use Rattle.cbor4ii_rw.specs.View.{View};
 ghost use Rattle.cbor4ii_rw.specs.declared.error.DecodeError.{DecodeError};
 ghost use Rattle.cbor4ii_items.specs.Decoding.{Sound, Complete};
+ghost use Rattle.cbor4ii_items.specs.OneError.{RejectsOnce};
 ghost use Rattle.cbor4ii_items.specs.Budget.{CostFits};
-ghost use Rattle.cbor4ii_items.specs.Floats.{ReadsFloat, RejectsFloat};
+ghost use Rattle.cbor4ii_items.specs.Floats.{ReadsFloat, RejectsFloat, float_format};
 ghost use Rattle.cbor4ii_items.specs.Head.{Width, HeadFits, byte_count, shortest_width};
-ghost use Rattle.cbor4ii_items.specs.Lengths.{ReadsLength, RejectsLength};
-ghost use Rattle.cbor4ii_items.specs.Lent.{ReadsBorrowed, RejectsBorrowed};
+ghost use Rattle.cbor4ii_items.specs.Lengths.{ReadsLength, RejectsLength, length_format};
+ghost use Rattle.cbor4ii_items.specs.Lent.{ReadsBorrowed, RejectsBorrowed, lent_format};
 ghost use Rattle.cbor4ii_items.specs.Maybe.{ReadsMaybe, RejectsMaybe, maybe_bytes};
 ghost use Rattle.cbor4ii_items.specs.NeverBoth.{NeverBoth};
 ghost use Rattle.cbor4ii_items.specs.Nothing.{ReadsNothing, RejectsNothing};
@@ -32,7 +33,8 @@ ghost use Rattle.cbor4ii_items.specs.Numbers.{ReadsArgument, ReadsSigned, ReadsU
 ghost use Rattle.cbor4ii_items.specs.Numbers.{IsWithin, shortest_head, signed_head, unsigned_bytes};
 ghost use Rattle.cbor4ii_items.specs.Numbers.{signed_bytes, RejectsArgument, ReadsNegative};
 ghost use Rattle.cbor4ii_items.specs.Numbers.{RejectsNegative, RejectsSigned, RejectsU128};
-ghost use Rattle.cbor4ii_items.specs.Numbers.{RejectsI128};
+ghost use Rattle.cbor4ii_items.specs.Numbers.{RejectsI128, argument_format, negative_format};
+ghost use Rattle.cbor4ii_items.specs.Numbers.{signed_format};
 ghost use Rattle.cbor4ii_items.specs.ReadBack.{ReadsBack, NoneBeginsAnother, greatest_part_cost};
 ghost use Rattle.cbor4ii_items.specs.ReadBack.{pair_cost};
 ghost use Rattle.cbor4ii_items.specs.InputError.{input_error_of};
@@ -40,12 +42,12 @@ ghost use Rattle.cbor4ii_items.specs.SequenceBytes.{map_bytes};
 ghost use Rattle.cbor4ii_items.specs.Simple.{ReadsSimple, RejectsSimple, ReadsBool, RejectsBool};
 ghost use Rattle.cbor4ii_items.specs.Strings.{ReadsAs, ReadsTextAs, definite_string, open_head};
 ghost use Rattle.cbor4ii_items.specs.Strings.{text_content, RejectsString, RejectsText, ReadsBreak};
-ghost use Rattle.cbor4ii_items.specs.Strings.{RejectsBreak};
+ghost use Rattle.cbor4ii_items.specs.Strings.{RejectsBreak, as_format, text_format};
 
 use crate::decode::{Decodable, Decode};
 use crate::encode::Encode;
 use crate::types::{
-    Bytes, F16, F32, F64, Map, Nothing, Null, Simple, Tag, UncheckedStr, Undefined,
+    Bytes, F16, F32, F64, Map, Maybe, Nothing, Null, Simple, Tag, UncheckedStr, Undefined,
 };
 use cbor4ii_rw::read::Source;
 
@@ -256,4 +258,57 @@ pub fn rejected_maps_are_not_read<S: Source, K: Decode<S>, V: Decode<S>>()
         NeverBoth V.format.reads V.format.begins →
         NeverBoth ⟦<Map<Vec<(K, V)>> as Decodable>⟧.format.reads
         ⟦<Map<Vec<(K, V)>> as Decodable>⟧.format.begins }
+{}
+
+/// A number that is rejected is not read, and has one error, which leaves one rest.
+pub fn numbers_are_rejected_once()
+    ensures heads { (name : List ℕ) (major width : ℕ) →
+        RejectsOnce (argument_format name major width) }
+    ensures negative { (name : List ℕ) (width : ℕ) → RejectsOnce (negative_format name width) }
+    ensures signed { (name plus minus : List ℕ) (width limit : ℕ) →
+        RejectsOnce (signed_format name plus minus width limit) }
+    ensures unsigned_of_sixteen { RejectsOnce ⟦<u128 as Decodable>⟧.format }
+    ensures signed_of_sixteen { RejectsOnce ⟦<i128 as Decodable>⟧.format }
+{}
+
+/// A simple value, a float, a length, or nothing at all: what is rejected is not read, and has one
+/// error, which leaves one rest.
+pub fn simple_values_are_rejected_once()
+    ensures simple { RejectsOnce ⟦<Simple as Decodable>⟧.format }
+    ensures bool { RejectsOnce ⟦<bool as Decodable>⟧.format }
+    ensures floats { (name : List ℕ) (marker count : ℕ) →
+        RejectsOnce (float_format name marker count) }
+    ensures nothing { RejectsOnce ⟦<Nothing as Decodable>⟧.format }
+    ensures lengths { (name : List ℕ) (major : ℕ) → RejectsOnce (length_format name major) }
+{}
+
+/// A string that is rejected is not read, and has one error, which leaves one rest. Of borrowed
+/// strings it is said where the reader is zero-copy: over any other reader how it cuts is seen.
+pub fn strings_are_rejected_once<V>()
+    ensures strings { (name : List ℕ) (major : ℕ) (content : V → List ℕ) → major < 7 →
+        RejectsOnce (as_format name major content) }
+    ensures texts { (name : List ℕ) (content : V → List ℕ) →
+        RejectsOnce (text_format name content) }
+    ensures lent { (name : List ℕ) (major : ℕ) (is_text : Bool) (content : V → List ℕ) →
+        major < 8 → RejectsOnce (lent_format name major is_text content) }
+{}
+
+/// An optional item, a tagged item, an optional item as an array, and an item in a box are
+/// rejected with one error wherever the item is.
+pub fn parts_are_rejected_once<T: Decodable>()
+    ensures optional { RejectsOnce T.format → RejectsOnce ⟦<Option<T> as Decodable>⟧.format }
+    ensures tagged { RejectsOnce T.format → RejectsOnce ⟦<Tag<T> as Decodable>⟧.format }
+    ensures maybe { RejectsOnce T.format → RejectsOnce ⟦<Maybe<Option<T>> as Decodable>⟧.format }
+    ensures boxed { RejectsOnce T.format → RejectsOnce ⟦<Box<T> as Decodable>⟧.format }
+{}
+
+/// An array is rejected with one error wherever its items are.
+pub fn arrays_are_rejected_once<S: Source, T: Decode<S>>()
+    ensures { RejectsOnce T.format → RejectsOnce ⟦<Vec<T> as Decodable>⟧.format }
+{}
+
+/// A map is rejected with one error wherever its keys and its values are.
+pub fn maps_are_rejected_once<S: Source, K: Decode<S>, V: Decode<S>>()
+    ensures { RejectsOnce K.format → RejectsOnce V.format →
+        RejectsOnce ⟦<Map<Vec<(K, V)>> as Decodable>⟧.format }
 {}

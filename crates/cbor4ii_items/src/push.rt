@@ -1,8 +1,8 @@
 //! Heads and numbers, written.
-ghost use Rattle.std.specs.Prelude.{◌≡◌, ◌<◌, ◌<ℤ◌, ◌≤ℤ◌, ◌++◌, pos, negsuc};
-ghost use Rattle.cbor4ii_items.specs.Writing.{Writes, WritesAtomically};
+ghost use Rattle.std.specs.Prelude.{◌≡◌, ◌<◌, ◌^◌, ◌<ℤ◌, ◌≤ℤ◌, ◌++◌, length, pos, negsuc};
+ghost use Rattle.cbor4ii_items.specs.Writing.{InTwoPushes, Writes, WritesAtomically};
 ghost use Rattle.cbor4ii_items.specs.Strings.{break_bytes, definite_string, open_head};
-ghost use Rattle.cbor4ii_items.specs.Numbers.{shortest_head, signed_head, bignum_bytes};
+ghost use Rattle.cbor4ii_items.specs.Numbers.{shortest_head, signed_head, bignum_bytes, IsWithin};
 ghost use Rattle.cbor4ii_items.specs.Numbers.{integer_bytes, unsigned_bytes, signed_bytes};
 
 use crate::bignum::{NEGATIVE_BIGNUM, POSITIVE_BIGNUM, without_leading_zeros};
@@ -77,23 +77,28 @@ pub(crate) fn push_signed<W: Write>(writer: &mut W, value: i64) -> Result<(), En
     }
 }
 
-/// Writes a number from 0 on.
+/// Writes a number from 0 on, in one push where it is below 2^64.
 pub(crate) fn push_unsigned_integer<W: Write>(
     writer: &mut W,
     value: u128,
 ) -> Result<(), EncodeError<W::Error>>
-    ensures { Writes W.atomic (unsigned_bytes value) (W.view writer.old) (W.view writer.new)
-        result }
+    ensures writes { Writes W.atomic (unsigned_bytes value)
+        (W.view writer.old) (W.view writer.new) result }
+    ensures whole { value < 2 ^ 64 → WritesAtomically W.atomic (unsigned_bytes value)
+        (W.view writer.old) (W.view writer.new) result }
 {
     push_integer(writer, major::UNSIGNED, POSITIVE_BIGNUM, value)
 }
 
-/// Writes a number from 0 on, or -1 - n.
+/// Writes a number from 0 on, or -1 - n, in one push where the number, or n, is below 2^64.
 pub(crate) fn push_signed_integer<W: Write>(
     writer: &mut W,
     value: i128,
 ) -> Result<(), EncodeError<W::Error>>
-    ensures { Writes W.atomic (signed_bytes value) (W.view writer.old) (W.view writer.new) result }
+    ensures writes { Writes W.atomic (signed_bytes value)
+        (W.view writer.old) (W.view writer.new) result }
+    ensures whole { IsWithin (2 ^ 64) value → WritesAtomically W.atomic (signed_bytes value)
+        (W.view writer.old) (W.view writer.new) result }
 {
     if value >= 0 {
         push_integer(writer, major::UNSIGNED, POSITIVE_BIGNUM, nonnegative(value))
@@ -120,8 +125,8 @@ pub(crate) fn beyond(value: i128) -> u128
     (-1 - value) as u128
 }
 
-/// Writes a number as the argument of a head of this major type where it fits, else as a bignum
-/// with this tag.
+/// Writes a number as the argument of a head of this major type where it fits, in one push, else
+/// as a bignum with this tag.
 fn push_integer<W: Write>(
     writer: &mut W,
     major: u8,
@@ -129,7 +134,9 @@ fn push_integer<W: Write>(
     value: u128,
 ) -> Result<(), EncodeError<W::Error>>
     requires { major < 8 }
-    ensures { Writes W.atomic (integer_bytes major tag value)
+    ensures writes { Writes W.atomic (integer_bytes major tag value)
+        (W.view writer.old) (W.view writer.new) result }
+    ensures whole { value < 2 ^ 64 → WritesAtomically W.atomic (integer_bytes major tag value)
         (W.view writer.old) (W.view writer.new) result }
 {
     match u64::try_from(value) {
@@ -159,7 +166,9 @@ pub(crate) fn push_string<W: Write>(
     content: &[u8],
 ) -> Result<(), EncodeError<W::Error>>
     requires { major < 8 }
-    ensures { Writes W.atomic (definite_string major content.now)
+    ensures writes { Writes W.atomic (definite_string major content.now)
+        (W.view writer.old) (W.view writer.new) result }
+    ensures pushes { InTwoPushes W.atomic (shortest_head major (length content.now))
         (W.view writer.old) (W.view writer.new) result }
 {
     push_head(writer, major, content.len() as u64)?;

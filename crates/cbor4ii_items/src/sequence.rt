@@ -1,6 +1,6 @@
 //! A sequence of items, one after another with nothing between them (RFC 8742), read an item a
 //! call. It is written by `encode` of one item after another.
-ghost use Rattle.std.specs.Prelude.{◌≡◌, [], IfOk, IfErr, IfNone, false};
+ghost use Rattle.std.specs.Prelude.{◌≡◌, ◌+◌, ◌≤◌, [], IfOk, IfErr, IfNone, IsTrue, OnSome, false};
 ghost use Rattle.cbor4ii_rw.specs.View.{IfKnown};
 ghost use Rattle.cbor4ii_items.specs.Decoding.{Decodes};
 ghost use Rattle.cbor4ii_items.specs.InputError.{is_out_of_memory};
@@ -27,6 +27,8 @@ pub fn next_item<S: Source, T: Decode<S>>(
         (IfKnown (S.view reader.old).known (λ xs. xs ≡ []))) }
     ensures decodes { Decodes (item_or_end T.format)
         (S.view reader.old) (S.view reader.new) result }
+    ensures progress { IsTrue T.format.never_empty → IfOk result (λ next. OnSome next
+        ((S.view reader.new).bound + 1 ≤ (S.view reader.old).bound)) }
 {
     if is_at_end(reader)? {
         return Ok(None);

@@ -17,7 +17,7 @@ use Rattle.cbor4ii_items.specs.Laws.Maybe.{two_counts}
 use Rattle.cbor4ii_items.specs.Laws.Strings.{head_not_indefinite}
 
 -- the head of an array of no item or one
-few_apart : (xs : List ℕ) (budget : Option ℕ) (err : InputError) (rest : List ℕ) (count n : ℕ)
+pub few_apart : (xs : List ℕ) (budget : Option ℕ) (err : InputError) (rest : List ℕ) (count n : ℕ)
     → RejectsFew xs budget err rest → (count ≡ 0) ⊎ (count ≡ 1) → ReadsHead 4 8 xs count n → ⊥
 few_apart xs budget err rest count n (few_head_rejected s) few h =
     head_apart _ 4 8 xs err rest count n s.1 h

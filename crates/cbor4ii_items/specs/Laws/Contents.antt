@@ -138,20 +138,19 @@ counts_prefix n xs ys a m b h e first second k gone =
     let same : n ≡ k = omega (arith, h, gone, ap length e, length-drop n xs) in
     second ∙ ap₂ counts same first
 
-pub takes_prefix : {missing n : ℕ} {shown before after : List ℕ} {a m b : View} → Shows shown a m
-    → IfKnown a.known (IsPrefix missing shown) → 1 ≤ n → n ≤ missing → n ≤ length shown →
-    IsBytes after
-    → after ≡ before ++ take n shown → Advances n m b
+pub takes_prefix : {want missing n : ℕ} {shown before after : List ℕ} {a m b : View}
+    → Shows shown a m → IfKnown a.known (IsPrefix want shown) → 1 ≤ n → n ≤ missing
+    → n ≤ length shown → IsBytes after → after ≡ before ++ take n shown → Advances n m b
     → TakesOnto missing n before after a b
-takes_prefix {missing = missing} {n = n} {shown = shown} {before = before} {after = after} {a = a}
-    {m = m} {b = b} s prefix some most within bytes is adv =
+takes_prefix {want = want} {missing = missing} {n = n} {shown = shown} {before = before}
+    {after = after} {a = a} {m = m} {b = b} s prefix some most within bytes is adv =
     let fresh : IsBytes (take n shown) =
     IsBytes-append before (take n shown) (subst IsBytes is bytes) in
     record {
       kept = record {
         rest = λ xs known. (
           n,
-          took_prefix missing n shown xs b.known (prefix xs known) within fresh
+          took_prefix want n shown xs b.known (prefix xs known) within fresh
               (adv.known xs (s.known xs known)),
         );
         counted = λ xs known ys left k gone.
@@ -170,7 +169,7 @@ takes_prefix {missing = missing} {n = n} {shown = shown} {before = before} {afte
       at = λ xs known. (
         omega (arith, within, (prefix xs known).within),
         adv.known xs (s.known xs known),
-        is ∙ ap (λ z. before ++ z) (prefix_is missing n shown xs (prefix xs known) within),
+        is ∙ ap (λ z. before ++ z) (prefix_is want n shown xs (prefix xs known) within),
       );
     }
 

@@ -97,7 +97,7 @@ module _ {P : Type 0} (reads : Reads P) (rejects : RejectsAt) (apart : NeverBoth
         (ap (λ j. take 1 (drop j xs)) same ∙ p.ends)
 
     module _ (major : ℕ) (small : major < 8) where
-      inside_apart : (xs : List ℕ) (budget : Option ℕ) (err : InputError) (rest : List ℕ)
+      pub inside_apart : (xs : List ℕ) (budget : Option ℕ) (err : InputError) (rest : List ℕ)
           → RejectsInside name major reads rejects never_empty xs budget err rest
           → (ps : List P) (n c : ℕ) → ReadsInside major reads never_empty xs ps n c
           → CostFits c budget → ⊥
@@ -138,7 +138,7 @@ array_apart s rejects h apart xs budget err rest f v =
 module _ {K V : Type 0} (k : Format K) (v : Format V) (key_rejects value_rejects : RejectsAt)
     (g : IsLawful k) (h : IsLawful v) (key_apart : NeverBoth k.reads key_rejects)
     (value_apart : NeverBoth v.reads value_rejects) where
-  pair_apart : NeverBoth (ReadsPair k.reads v.reads) (RejectsPair k.reads key_rejects value_rejects)
+  pub pair_apart : NeverBoth (ReadsPair k.reads v.reads) (RejectsPair k.reads key_rejects value_rejects)
   pair_apart xs budget err rest (inl s) p n c f fits =
       key_apart xs budget err rest s p.0 f.key_size f.key_cost f.key
       (fits_less budget f.key_cost c (omega (arith, f.cost)) fits)

@@ -191,7 +191,7 @@ fewer [] None h = tt
 fewer [] (Some left) h = omega arith
 fewer (v ∷ vs) budget h = h
 
-chunks_again : (chunks : List (List ℕ)) (name before : List ℕ) (major : ℕ) (budget : Option ℕ)
+pub chunks_again : (chunks : List (List ℕ)) (name before : List ℕ) (major : ℕ) (budget : Option ℕ)
     (xs : List ℕ) (n : ℕ) → major < 8 → CostFits (chunk_cost chunks) budget
     → ReadsChunks major chunks xs n
     → chunks_at name major budget before xs ≡ chunks_at name major budget

@@ -1,12 +1,12 @@
 -- One push after another.
 use Rattle.std.proofs.Common.{◌≡◌, ℕ, ◌≤◌, List, ◌++◌, length, take, Option, Some, Result, Ok, Err}
-use Rattle.std.proofs.Common.{Bool, ap, ◌∙◌, append_assoc, subst, length-append, arith}
+use Rattle.std.proofs.Common.{Bool, ap, ◌∙◌, append_assoc, subst, length-append, arith, inr}
 use Rattle.std.specs.Io.{StartsWith}
 use Rattle.std.proofs.Math.Seq.{take-append-add}
 use Rattle.std.proofs.lemmas.List.{take-append-le, length-take}
 use Rattle.cbor4ii_rw.specs.Reader.{Failed}
 use Rattle.cbor4ii_rw.specs.Writer.{Output, Appends}
-use Rattle.cbor4ii_items.specs.Writing.{AppendsPrefix, Writes}
+use Rattle.cbor4ii_items.specs.Writing.{AppendsPrefix, Writes, WritesAtomically, InTwoPushes}
 
 pub appends_then : (xs ys : List ℕ) (a m b : Option (List ℕ)) → Appends xs a m → Appends ys m b
     → Appends (xs ++ ys) a b
@@ -63,3 +63,15 @@ writes_err {xs = xs} ys p = record {
 pub writes_as : {T E : Type 0} {whole : Bool} {xs ys : List ℕ} {a b : Output} (r : Result T E)
     → xs ≡ ys → Writes whole xs a b r → Writes whole ys a b r
 writes_as {whole = whole} {a = a} {b = b} r e p = subst (λ z. Writes whole z a b r) e p
+
+pub writes_once_as : {T E : Type 0} {whole : Bool} {xs ys : List ℕ} {a b : Output}
+    (r : Result T E) → xs ≡ ys → WritesAtomically whole xs a b r → WritesAtomically whole ys a b r
+writes_once_as r e p = record { writes = writes_as r e p.writes; kept = p.kept }
+
+-- the second push, after the first
+pub in_two_pushes : {T U E F : Type 0} {atomic : Bool} {first bytes : List ℕ} {a m b : Output}
+    {u : U} (r : Result T E) → Writes {T = U} {E = F} atomic first a m (Ok u)
+    → WritesAtomically atomic bytes m b r → InTwoPushes atomic first a b r
+in_two_pushes (Ok v) p w is = tt
+in_two_pushes {first = first} (Err e) p w is =
+    inr (λ xs known. w.kept is (xs ++ first) (p.appends xs known))

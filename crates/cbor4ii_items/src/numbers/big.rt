@@ -7,7 +7,8 @@ ghost use Rattle.cbor4ii_items.specs.ReadNumber.{magnitude_at, small_magnitude_a
 ghost use Rattle.cbor4ii_items.specs.ReadNumber.{unsigned_bignum_at, u128_at, signed_bignum_at};
 ghost use Rattle.cbor4ii_items.specs.ReadNumber.{i128_at};
 ghost use Rattle.cbor4ii_items.specs.Numbers.{ReadsU128, RejectsU128, ReadsI128, RejectsI128};
-ghost use Rattle.cbor4ii_items.specs.Numbers.{unsigned_bytes, signed_bytes};
+ghost use Rattle.cbor4ii_items.specs.Numbers.{unsigned_bytes, signed_bytes, IsWithin};
+ghost use Rattle.cbor4ii_items.specs.Writing.{Writes, WritesAtomically};
 ghost use Rattle.cbor4ii_items.specs.Laws.Bignums.{u128_one, u128_within, u128_positive};
 ghost use Rattle.cbor4ii_items.specs.Laws.Bignums.{u128_alone, i128_one, i128_within};
 ghost use Rattle.cbor4ii_items.specs.Laws.Bignums.{i128_positive, i128_alone};
@@ -242,7 +243,12 @@ impl<S: Source> Decode<S> for u128 {
 impl Encode for u128 {
     ghost bytes = { unsigned_bytes };
 
-    fn encode<W: Write>(&self, writer: &mut W) -> Result<(), EncodeError<W::Error>> {
+    fn encode<W: Write>(&self, writer: &mut W) -> Result<(), EncodeError<W::Error>>
+        ensures writes { Writes W.atomic (unsigned_bytes self.now)
+            (W.view writer.old) (W.view writer.new) result }
+        ensures whole { self.now < 2 ^ 64 → WritesAtomically W.atomic (unsigned_bytes self.now)
+            (W.view writer.old) (W.view writer.new) result }
+    {
         push_unsigned_integer(writer, *self)
     }
 }
@@ -299,7 +305,12 @@ impl<S: Source> Decode<S> for i128 {
 impl Encode for i128 {
     ghost bytes = { signed_bytes };
 
-    fn encode<W: Write>(&self, writer: &mut W) -> Result<(), EncodeError<W::Error>> {
+    fn encode<W: Write>(&self, writer: &mut W) -> Result<(), EncodeError<W::Error>>
+        ensures writes { Writes W.atomic (signed_bytes self.now)
+            (W.view writer.old) (W.view writer.new) result }
+        ensures whole { IsWithin (2 ^ 64) self.now → WritesAtomically W.atomic
+            (signed_bytes self.now) (W.view writer.old) (W.view writer.new) result }
+    {
         push_signed_integer(writer, *self)
     }
 }

@@ -5,7 +5,7 @@ ghost use Rattle.cbor4ii_items.specs.Reading.{Runs};
 ghost use Rattle.cbor4ii_items.specs.ReadStrings.{content_on};
 
 use crate::reserve::bytes_ahead;
-use cbor4ii_rw::ask::look;
+use cbor4ii_rw::ask::{content_part, look};
 use cbor4ii_rw::error::{DecodeError, Len, StaticStr};
 use cbor4ii_rw::read::Source;
 
@@ -31,7 +31,8 @@ pub(crate) fn take_content<S: Source>(
     Ok(())
 }
 
-/// Takes the bytes that the reader shows, at most so many, after those of `content`.
+/// Takes the bytes that the reader shows, at most so many, after those of `content`. One that may
+/// wait for what is wanted is asked for a part of them at a time.
 #[inline(always)]
 fn take_shown<S: Source>(
     reader: &mut S,
@@ -46,7 +47,8 @@ fn take_shown<S: Source>(
         (S.view reader.old) (S.view reader.new) (Err error)) }
 {
     let mut failure = None;
-    match look(reader, missing, &mut failure) {
+    let want = content_part(reader, missing);
+    match look(reader, want, &mut failure) {
         Some(shown) => {
             let count = shown.len().min(missing);
             if count == 0 {

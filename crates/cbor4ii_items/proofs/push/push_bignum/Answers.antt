@@ -13,4 +13,4 @@ returns-in_err-push_head g c =
 pub returns : goal.returns
 returns g c = writes_then c.push_string.result c.in_ok-push_head.ensures.writes
     (writes_as c.push_string.result (ap (definite_string 2) (c.without_leading_zeros.ensures
-    ∙ ap without_leading_zeros c.to_be_bytes.ensures)) c.push_string.ensures)
+    ∙ ap without_leading_zeros c.to_be_bytes.ensures)) c.push_string.ensures.writes)
