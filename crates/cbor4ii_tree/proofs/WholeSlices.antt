@@ -1,16 +1,19 @@
 -- What is answered of a slice that is read as one item.
 use Rattle.std.proofs.Common.{◌≡◌, ◌≤◌, ◌+◌, ℕ, List, [], length, drop, Some, Result, Ok, Err, inl}
 use Rattle.std.proofs.Common.{refl, sym, ap, ◌∙◌, subst, arith, take, take-append-drop, IsTrue}
-use Rattle.std.proofs.Common.{append-nil}
+use Rattle.std.proofs.Common.{append-nil, Bool}
 use Rattle.std.specs.Prelude.{IfOk, IfErr}
 use Rattle.std.proofs.Math.Seq.{drop-length}
 use Rattle.std.proofs.lemmas.List.{length-drop}
+use Rattle.std.specs.Result.{IsErrAnd}
 use Rattle.std.specs.declared.string.ParseError.{Infallible}
-use Rattle.cbor4ii_rw.specs.{Input.limit, declared.error.DecodeError.DecodeError}
+use Rattle.cbor4ii_rw.specs.{Input.limit, View.View, declared.error.DecodeError.DecodeError}
 use Rattle.cbor4ii_rw.specs.declared.error.DecodeError.TheVariants as error
 use Rattle.cbor4ii_rw.specs.declared.error.WholeError.{WholeError}
 use Rattle.cbor4ii_rw.specs.declared.error.WholeError.TheVariants.{Decode, Trailing}
-use Rattle.cbor4ii_items.specs.{Decoding.Format, InputError.InputError, Whole.DecodesWhole}
+use Rattle.cbor4ii_items.specs.{Decoding.Format, Moves.{Kept, Moves}, Whole.DecodesWhole}
+use Rattle.cbor4ii_items.specs.InputError.{InputError, is_out_of_memory}
+use Rattle.cbor4ii_tree.specs.Calls.Asking.{Asks, InValue, WantsOnly, WantsOnlyWhole}
 use Rattle.cbor4ii_tree.specs.{Basis.Canonical.canonical_encoding}
 use Rattle.cbor4ii_tree.specs.{Calls.Canonically.canonical_format}
 use Rattle.cbor4ii_tree.specs.{Calls.CanonicalRejects.CanonicalRejects}
@@ -24,6 +27,7 @@ use Rattle.cbor4ii_tree.specs.declared.value.Value.{Value}
 use Rattle.cbor4ii_tree.proofs.canonical.Decoding.{as_read, canonical_or}
 use Rattle.cbor4ii_tree.proofs.encodings.CanonicalShape.{reads_canonically_iff}
 use Rattle.cbor4ii_tree.proofs.reading.Answer.{not_both, one_reading}
+use Rattle.cbor4ii_tree.proofs.values.Asking.{not_wanted}
 
 module _ {V : Type 0} (format : Format V) (bytes : List ℕ) (Accepts : V → List ℕ → Type 0)
     (accepts : (v : V) (n c : ℕ) → format.reads bytes v n c → c ≤ limit
@@ -69,6 +73,26 @@ module _ {V : Type 0} (Accepts : V → List ℕ → Type 0) (Rejects : InputErro
   memory_alone (Decode (error.DepthOverflow name)) a = absurd (none _ a.0 a.1)
   memory_alone (Decode (error.Custom name num)) a = absurd (none _ a.0 a.1)
   memory_alone (Decode (error.NotCanonical name)) a = absurd (none _ a.0 a.1)
+
+-- ---- where memory is asked for
+
+-- a want of memory is no failure of the reader
+kept_by : {V E : Type 0} (e : DecodeError E) (a b : View) → IsTrue (is_out_of_memory e)
+    → Moves {V = V} a b (Err e) → Kept a b
+kept_by error.OutOfMemory a b out moves = moves.by
+kept_by _ a b out moves = not_wanted out
+
+module _ {V : Type 0} (canonical : Bool) (bytes : List ℕ) (a b : View)
+    (known : a.known ≡ Some bytes) where
+  pub wants_whole : {E : Type 0} (e : DecodeError E) → Moves {V = V} a b (Err e)
+      → WantsOnly {V = V} (Asks (InValue canonical)) a b (Err e)
+      → (r : Result V (WholeError (DecodeError E))) → IsErrAnd r (λ w. w ≡ Decode e)
+      → WantsOnlyWhole canonical bytes r
+  wants_whole e moves wants (Ok v) is = absurd is
+  wants_whole e moves wants (Err w) is =
+      subst (λ z. WantsOnlyWhole {V = V} canonical bytes (Err z)) (sym is) (λ out.
+      let t = (kept_by e a b out moves).rest bytes known in
+      (drop t.0 bytes, (wants out).at bytes known (drop t.0 bytes) t.1.left))
 
 module _ (bytes : List ℕ) where
   value_accepts : (v : Value) (n c : ℕ) → value_format.reads bytes v n c → c ≤ limit

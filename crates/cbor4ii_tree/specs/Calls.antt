@@ -6,6 +6,8 @@ pub mod SkippingRejects
 pub mod ReadingRejects
 pub mod CanonicalRejects
 pub mod Promises
+pub mod Asking
+pub mod SameAnswer
 pub mod Canonically
 pub mod ItemEquality
 pub mod Access

@@ -6,9 +6,9 @@ ghost use Rattle.std.specs.Prelude.{◌≡◌, ◌≢◌, ◌+◌, ◌≤◌, �
 ghost use Rattle.std.specs.Prelude.{true, false};
 ghost use Rattle.cbor4ii_items.specs.Head.{byte_count, shortest_width};
 ghost use Rattle.cbor4ii_items.specs.Initial.{simple_byte, simple_undefined};
-ghost use Rattle.cbor4ii_tree.specs.Inner.Does.{Anything, DoesUnder, Gives, Never, WantsOnly};
+ghost use Rattle.cbor4ii_tree.specs.Calls.Asking.{BeginsString, Never, WantsOnly};
+ghost use Rattle.cbor4ii_tree.specs.Inner.Does.{Anything, DoesUnder, Gives};
 ghost use Rattle.cbor4ii_tree.specs.Inner.Does.{value_or_error};
-ghost use Rattle.cbor4ii_tree.specs.Inner.Asking.{BeginsString};
 ghost use Rattle.cbor4ii_tree.specs.Basis.Item.{IsItem};
 ghost use Rattle.cbor4ii_tree.specs.Inner.Leaf.{DoesAfterFirst};
 ghost use Rattle.cbor4ii_tree.specs.Inner.Valuing.{ReadsUnder, RejectsFirst, RejectsMajor};

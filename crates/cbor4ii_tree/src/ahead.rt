@@ -2,10 +2,13 @@
 //! a break (RFC 8949 section 3). What does not stand whole in them is left undecided.
 ghost use Rattle.std.specs.Prelude.{◌≡◌, ◌≢◌, ◌≤◌, ◌+◌, ◌-◌, length, ◌∷◌, ◌↔◌, IsTrue, ℕ};
 ghost use Rattle.std.specs.Prelude.{List};
+ghost use Rattle.cbor4ii_items.specs.Initial.{initial};
+ghost use Rattle.cbor4ii_tree.specs.declared.skip.initial.Start.TheVariants.{Unsupported};
 ghost use Rattle.cbor4ii_tree.specs.Inner.Ahead.{leaf_bytes, in_map, Allows, IsIndefinite};
 ghost use Rattle.cbor4ii_tree.specs.Calls.RawParts.{BeginsWithBreak};
 ghost use Rattle.cbor4ii_tree.specs.Inner.Ahead.{Sees, AllShort};
 ghost use Rattle.cbor4ii_tree.specs.Inner.Runs.{IsLeafAt, BeginsRun};
+ghost use Rattle.cbor4ii_tree.specs.Inner.Skipping.{start_of};
 
 use crate::skip::{Additional, After, Start, pairs_of, parse_info, start_of};
 use cbor4ii_items::initial::argument;
@@ -269,10 +272,15 @@ fn indefinite_head_of(first: u8) -> Ahead
     }
 }
 
-/// How many bytes a head has that begins with this byte.
+/// How many bytes a head has that begins with this byte: one, where the byte alone is rejected, as
+/// `f8` is (RFC 8949 section 3.3).
 pub(crate) fn head_size(first: u8) -> usize
-    ensures { 1 ≤ result }
+    ensures some { 1 ≤ result }
+    ensures alone { start_of (initial first) ≡ Unsupported → result ≡ 1 }
 {
+    if let Start::Unsupported = start_of(first) {
+        return 1;
+    }
     match parse_info(first % 32) {
         Additional::Wide(count) => 1 + count as usize,
         _ => 1,

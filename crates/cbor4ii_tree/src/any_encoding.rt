@@ -1,6 +1,7 @@
 //! What is read as a value: each of its encodings.
 ghost use Rattle.std.specs.Prelude.{◌≡◌, ◌⊎◌, ◌*◌, ◌+◌, false};
-ghost use Rattle.cbor4ii_tree.specs.Inner.Does.{Anything, DoesUnder, Gives, Never, value_or_error};
+ghost use Rattle.cbor4ii_tree.specs.Calls.Asking.{Never};
+ghost use Rattle.cbor4ii_tree.specs.Inner.Does.{Anything, DoesUnder, Gives, value_or_error};
 ghost use Rattle.cbor4ii_tree.specs.Inner.Valuing.{RejectsMajor, TakesLength};
 
 use crate::accepted::Encodings;

@@ -1,5 +1,6 @@
 //! Values that are encoded in one way, read.
 ghost use Rattle.std.specs.Prelude.{◌≡◌, ◌+◌, ◌≤◌, OnOk, true};
+ghost use Rattle.cbor4ii_tree.specs.Calls.Asking.{Asks, InValue, WantsOnly};
 ghost use Rattle.cbor4ii_tree.specs.Calls.Canonically.{canonical_format, OnlyCanonical};
 ghost use Rattle.cbor4ii_tree.specs.Calls.Canonically.{AllCanonical, TakesEncoding, EveryEncoding};
 ghost use Rattle.cbor4ii_tree.specs.Calls.Canonically.{PrefixCanonical, DepthCanonical};
@@ -72,6 +73,8 @@ impl<S: Source> Decode<S> for Canonical {
         ensures others { OthersCanonical (S.view reader.old) result }
         ensures exact { ExactCanonical (S.view reader.old) (S.view reader.new) result }
         ensures value { ValueCanonical (S.view reader.old) (S.view reader.new) result }
+        ensures asks { WantsOnly (Asks (InValue true))
+            (S.view reader.old) (S.view reader.new) result }
     {
         let mut failure = None;
         let value = read_outermost::<S, CanonicalEncoding>(alloc, reader, &mut failure);

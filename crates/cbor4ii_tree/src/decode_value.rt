@@ -4,9 +4,10 @@
 //! `read_tagged` stay out of line, and what leads from one of them to another is inline. What a
 //! loop answers is made a value where it comes back, so that each level has one place for it.
 ghost use Rattle.std.specs.Prelude.{◌≡◌, ◌+◌, ◌-◌, ◌*◌, ◌<◌, ◌≤◌, ◌/◌, ◌⊎◌, IfOk};
-ghost use Rattle.std.specs.Prelude.{true, length};
+ghost use Rattle.std.specs.Prelude.{true, false, length};
 ghost use Rattle.std.specs.Prelude.{OnSome, IfSome};
-ghost use Rattle.cbor4ii_tree.specs.Inner.Does.{Anything, DoesUnder, Gives, Never, WantsOnly};
+ghost use Rattle.cbor4ii_tree.specs.Calls.Asking.{Asks, BeginsString, InValue, Never, WantsOnly};
+ghost use Rattle.cbor4ii_tree.specs.Inner.Does.{Anything, DoesUnder, Gives};
 ghost use Rattle.cbor4ii_tree.specs.Inner.Does.{value_or_error};
 ghost use Rattle.cbor4ii_tree.specs.Inner.Valuing.{ReadsOneValue, RejectsOneValue, ReadsUnder};
 ghost use Rattle.cbor4ii_tree.specs.Inner.Valuing.{InRange, RejectsUnder};
@@ -18,7 +19,7 @@ ghost use Rattle.cbor4ii_tree.specs.Inner.Valuing.{ReadsPairsToBreak};
 ghost use Rattle.cbor4ii_tree.specs.Inner.Valuing.{RejectsPairsToBreak, ReadsValuePair};
 ghost use Rattle.cbor4ii_tree.specs.Inner.Valuing.{RejectsValuePair};
 ghost use Rattle.cbor4ii_tree.specs.Inner.Valuing.{ReadsTagged, TakesLength, TakesTag, flat_values};
-ghost use Rattle.cbor4ii_tree.specs.Inner.Asking.{Asks, BeginsString, InParts, InTagged, InValue};
+ghost use Rattle.cbor4ii_tree.specs.Inner.Asking.{InParts, InTagged};
 ghost use Rattle.cbor4ii_tree.specs.Inner.Leaf.{AsksAfterNext, CanTake, DoesAfterFirst};
 ghost use Rattle.cbor4ii_tree.specs.Inner.Leaf.{DoesAfterNext};
 ghost use Rattle.cbor4ii_tree.specs.Inner.LeafRuns.{pair_values, GivesItems, PutsItems};
@@ -106,6 +107,8 @@ impl<S: Source> Decode<S> for Value {
         ensures size { SizeReads (S.view reader.old) (S.view reader.new) result }
         ensures exact { ExactReads (S.view reader.old) (S.view reader.new) result }
         ensures skips { SkipsReads (S.view reader.old) (S.view reader.new) result }
+        ensures asks { WantsOnly (Asks (InValue false))
+            (S.view reader.old) (S.view reader.new) result }
         // Over any reader.
         ensures item { IfOk result (λ v. IsItem (view v)) }
         ensures canonical { CanonicalReads (S.view reader.old) result }

@@ -1,6 +1,6 @@
 //! Values, written.
 ghost use Rattle.std.specs.Prelude.{◌++◌, ◌<◌, ◌≤◌, ℕ, List, length, OnOk, OnSome, IfNone, IsSome};
-ghost use Rattle.cbor4ii_items.specs.Writing.{Writes, WritesAtomically};
+ghost use Rattle.cbor4ii_items.specs.Writing.{InTwoPushes, Writes, WritesAtomically};
 ghost use Rattle.cbor4ii_items.specs.Numbers.{shortest_head};
 ghost use Rattle.cbor4ii_items.specs.Strings.{definite_string};
 ghost use Rattle.cbor4ii_items.specs.SequenceBytes.{items_bytes};
@@ -162,6 +162,8 @@ fn put_string<W: Write>(
 ) -> Option<()>
     requires { major < 8 }
     ensures writes { Writes W.atomic (definite_string major content.now)
+        (W.view writer.old) (W.view writer.new) (sent_or_error result failure.new) }
+    ensures pushes { InTwoPushes W.atomic (shortest_head major (length content.now))
         (W.view writer.old) (W.view writer.new) (sent_or_error result failure.new) }
     ensures failed { IfNone result (IsSome failure.new) }
 {

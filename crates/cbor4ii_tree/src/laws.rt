@@ -1,9 +1,12 @@
 //! Laws of the definitions in `specs/`, each the contract of a function that does nothing. They
 //! hold of every tree, input and budget; where an input has to be one of bytes, the law says so.
 
-ghost use Rattle.std.specs.Prelude.{◌≡◌, ◌++◌, ◌≤◌, ◌<◌, ◌^◌, ◌↔◌, ℕ, List, [], length, Some, Ok};
-ghost use Rattle.std.specs.Prelude.{Err};
+ghost use Rattle.std.specs.Prelude.{◌≡◌, ◌++◌, ◌≤◌, ◌<◌, ◌^◌, ◌↔◌, ℕ, List, [], length, Some};
+ghost use Rattle.std.specs.Prelude.{Result, Ok, Err};
 ghost use Rattle.cbor4ii_rw.specs.Input.{limit};
+ghost use Rattle.cbor4ii_rw.specs.View.{View};
+ghost use Rattle.cbor4ii_rw.specs.declared.error.DecodeError.{DecodeError};
+ghost use Rattle.cbor4ii_items.specs.Decoding.{Decodes};
 ghost use Rattle.cbor4ii_items.specs.Head.{IsBytes};
 ghost use Rattle.cbor4ii_tree.specs.Basis.Tree.{Tree, bytes, Loose, Plain, Joins};
 ghost use Rattle.cbor4ii_tree.specs.Basis.Item.{Item, IsItem, size};
@@ -12,8 +15,12 @@ ghost use Rattle.cbor4ii_items.specs.Budget.{CostFits};
 ghost use Rattle.cbor4ii_items.specs.Whole.{IsWhole};
 ghost use Rattle.cbor4ii_tree.specs.declared.decode_canonical.Canonical.{Canonical};
 ghost use Rattle.cbor4ii_tree.specs.declared.value.Value.{Value};
-ghost use Rattle.cbor4ii_tree.specs.Calls.Canonically.{canonical_format};
-ghost use Rattle.cbor4ii_tree.specs.Calls.Promises.{value_format};
+ghost use Rattle.cbor4ii_tree.specs.declared.ignored.IgnoredAny.{IgnoredAny};
+ghost use Rattle.cbor4ii_tree.specs.Calls.Canonically.{canonical_format, OnlyCanonical};
+ghost use Rattle.cbor4ii_tree.specs.Calls.Canonically.{AllCanonical, ExactCanonical};
+ghost use Rattle.cbor4ii_tree.specs.Calls.Promises.{value_format, ExactReads, ExactSkips};
+ghost use Rattle.cbor4ii_tree.specs.Calls.SameAnswer.{SameAnswer};
+ghost use Rattle.cbor4ii_tree.specs.Basis.Headline.{AllReads, AllSkips};
 ghost use Rattle.cbor4ii_tree.specs.Basis.Cost.{Budget, skip_cost, cost};
 ghost use Rattle.cbor4ii_tree.specs.Basis.Canonical.{canonical_encoding, canonical_cost};
 ghost use Rattle.cbor4ii_tree.specs.Basis.Canonical.{with_bignums};
@@ -229,4 +236,27 @@ pub fn whole_inputs_are_encodings()
         × (canonical_cost (view v.0) ≤ limit) × (xs ≡ canonical_encoding (view v.0)))) }
     ensures equal { (s t : List ℕ) (v w : Canonical) → IsWhole canonical_format.reads s v
         → IsWhole canonical_format.reads t w → ((view v.0 ≡ view w.0) ↔ (s ≡ t)) }
+{}
+
+/// Any two lawful readers with the same bytes to come and the same budget get the same answer of
+/// `Value::decode`, of `IgnoredAny::decode` and of `Canonical::decode`: equal values, or one error
+/// with the same fields, and the same bytes are left. A call in which the reader failed or memory
+/// was refused says nothing.
+pub fn readers_are_answered_alike<E, F>()
+    ensures reading { (xs : List ℕ) (old new other after : View) (r : Result Value (DecodeError E))
+        (s : Result Value (DecodeError F)) → IsBytes xs → old.known ≡ Some xs →
+        other.known ≡ Some xs → old.budget ≡ other.budget →
+        AllReads old new r → ExactReads old new r → AllReads other after s →
+        ExactReads other after s → SameAnswer (λ v w. view v ≡ view w) new after r s }
+    ensures skipping { (xs : List ℕ) (old new other after : View)
+        (r : Result IgnoredAny (DecodeError E)) (s : Result IgnoredAny (DecodeError F)) →
+        IsBytes xs → old.known ≡ Some xs → other.known ≡ Some xs → old.budget ≡ other.budget →
+        AllSkips old new r → ExactSkips old new r → AllSkips other after s →
+        ExactSkips other after s → SameAnswer (λ _ _. Unit {0}) new after r s }
+    ensures canonical { (xs : List ℕ) (old new other after : View)
+        (r : Result Canonical (DecodeError E)) (s : Result Canonical (DecodeError F)) →
+        old.known ≡ Some xs → other.known ≡ Some xs → old.budget ≡ other.budget →
+        Decodes canonical_format old new r → OnlyCanonical old new r →
+        AllCanonical other after s → ExactCanonical other after s →
+        SameAnswer (λ v w. view v.0 ≡ view w.0) new after r s }
 {}

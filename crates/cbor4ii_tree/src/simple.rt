@@ -1,6 +1,7 @@
 //! Simple values and floats, which `Value` and `Canonical` read alike (RFC 8949 section 3.3).
 ghost use Rattle.std.specs.Prelude.{◌+◌, ◌≤◌, Bool, OnOk, IfOk};
-ghost use Rattle.cbor4ii_tree.specs.Inner.Does.{DoesUnder, Never, WantsOnly};
+ghost use Rattle.cbor4ii_tree.specs.Calls.Asking.{Never, WantsOnly};
+ghost use Rattle.cbor4ii_tree.specs.Inner.Does.{DoesUnder};
 ghost use Rattle.cbor4ii_tree.specs.Basis.Item.{IsItem};
 ghost use Rattle.cbor4ii_tree.specs.Inner.Valuing.{ReadsUnder, RejectsFirst, SimpleOf, IsNoSimple};
 ghost use Rattle.cbor4ii_tree.specs.Basis.View.{view};

@@ -17,6 +17,7 @@ use crate::ahead::Among;
 use crate::bytes_ahead::BytesAhead;
 use crate::skip::{Additional, After, Start, pairs_of, parse_info, start_of};
 use cbor4ii_items::marker;
+use cbor4ii_rw::ask::content_part;
 use cbor4ii_rw::error::{DecodeError, Len, StaticStr};
 use cbor4ii_rw::read::Source;
 
@@ -232,7 +233,8 @@ pub(crate) fn skip_bytes<S: Source, F: BytesAhead<S>>(
     Ok(())
 }
 
-/// Takes the bytes that are shown, at most so many.
+/// Takes the bytes that are shown, at most so many. A reader that may wait for what is wanted is
+/// asked for a part of them at a time.
 fn skip_shown<S: Source, F: BytesAhead<S>>(
     prefix: &mut F,
     reader: &mut S,
@@ -245,7 +247,8 @@ fn skip_shown<S: Source, F: BytesAhead<S>>(
     ensures some { IfOk result (λ n. (1 ≤ n) × (n ≤ missing)) }
     ensures stays { IsTrue F.apart → S.view reader.new ≡ S.view reader.old }
 {
-    match prefix.ready(reader, missing) {
+    let want = content_part(reader, missing);
+    match prefix.ready(reader, want) {
         Ok((0, _)) => Err(DecodeError::Eof {
             name: "ignored-any",
             expect: Len::new(missing),

@@ -1,11 +1,15 @@
 //! Values that a whole slice encodes, and the bytes of a value.
-ghost use Rattle.std.specs.Prelude.{◌≡◌, [], Some, IfOk, IfErr};
+ghost use Rattle.std.specs.Prelude.{◌≡◌, [], true, false, Some, IfOk, IfErr};
 ghost use Rattle.cbor4ii_rw.specs.Input.{limit};
 ghost use Rattle.cbor4ii_rw.specs.declared.error.DecodeError.TheVariants.{OutOfMemory};
 ghost use Rattle.cbor4ii_rw.specs.declared.error.WholeError.TheVariants.{Decode};
+ghost use Rattle.cbor4ii_items.specs.Whole.{DecodesWhole};
 ghost use Rattle.cbor4ii_tree.specs.Basis.Canonical.{canonical_encoding};
+ghost use Rattle.cbor4ii_tree.specs.Calls.Asking.{WantsOnlyWhole};
 ghost use Rattle.cbor4ii_tree.specs.Calls.CanonicalRejects.{CanonicalRejects};
 ghost use Rattle.cbor4ii_tree.specs.Calls.CanonicalShape.{DecodesCanonically};
+ghost use Rattle.cbor4ii_tree.specs.Calls.Canonically.{canonical_format};
+ghost use Rattle.cbor4ii_tree.specs.Calls.Promises.{value_format};
 ghost use Rattle.cbor4ii_tree.specs.Basis.Encodings.{DecodesTo};
 ghost use Rattle.cbor4ii_tree.specs.Basis.Headline.{AnswersWhole};
 ghost use Rattle.cbor4ii_tree.specs.Basis.Item.{Item};
@@ -14,10 +18,11 @@ ghost use Rattle.cbor4ii_tree.specs.Basis.View.{view};
 
 use crate::decode_canonical::Canonical;
 use crate::value::{NoMemory, Value};
+use cbor4ii_items::decode::Decode;
 use cbor4ii_items::encode::Encode;
-use cbor4ii_items::whole::decode_whole;
 use cbor4ii_rw::buf_writer::BufWriter;
 use cbor4ii_rw::error::{DecodeError, Never, WholeError};
+use cbor4ii_rw::slice_reader::SliceReader;
 use std::alloc::Global;
 
 impl Value {
@@ -27,15 +32,23 @@ impl Value {
     /// # Errors
     ///
     /// - `Decode` of an error of `Value`: no value that is read begins the input. `OutOfMemory`
-    ///   where a growth was refused
+    ///   where a growth was refused: never where no string, tag, array or map begins it
     /// - `Trailing`: a value begins the input, and so many bytes follow it, one at least
     pub fn from_slice(alloc: Global, input: &[u8]) -> Result<Value, WholeError<DecodeError<Never>>>
         ensures answers { AnswersWhole (λ v. DecodesTo input.now (Some limit) (view v))
             (ReadingRejects input.now (Some limit)) result }
         ensures all { (v : Item) → DecodesTo input.now (Some limit) v [] →
             IfErr result (λ e. e ≡ Decode OutOfMemory) }
+        ensures whole { DecodesWhole value_format input.now result }
+        ensures asks { WantsOnlyWhole false input.now result }
     {
-        decode_whole(alloc, input)
+        let mut reader = SliceReader::new(input);
+        let value = Value::decode(alloc, &mut reader)?;
+        let left = reader.remaining().len();
+        if left > 0 {
+            return Err(WholeError::Trailing(left));
+        }
+        Ok(value)
     }
 
     /// The value's canonical encoding, in a vector of its own.
@@ -61,7 +74,8 @@ impl Canonical {
     /// # Errors
     ///
     /// - `Decode` of an error of `Canonical`: no canonical encoding that is read begins the input.
-    ///   `OutOfMemory` where a growth was refused
+    ///   `OutOfMemory` where a growth was refused: never where no string, tag, array or map begins
+    ///   it
     /// - `Trailing`: a canonical encoding begins the input, and so many bytes follow it, one at
     ///   least
     pub fn from_slice(
@@ -73,7 +87,15 @@ impl Canonical {
         ensures same { IfOk result (λ v. input.now ≡ canonical_encoding (view v.0)) }
         ensures all { (v : Item) → DecodesCanonically input.now (Some limit) v [] →
             IfErr result (λ e. e ≡ Decode OutOfMemory) }
+        ensures whole { DecodesWhole canonical_format input.now result }
+        ensures asks { WantsOnlyWhole true input.now result }
     {
-        decode_whole(alloc, input)
+        let mut reader = SliceReader::new(input);
+        let value = Canonical::decode(alloc, &mut reader)?;
+        let left = reader.remaining().len();
+        if left > 0 {
+            return Err(WholeError::Trailing(left));
+        }
+        Ok(value)
     }
 }

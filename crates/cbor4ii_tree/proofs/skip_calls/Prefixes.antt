@@ -70,22 +70,26 @@ module _ {want : ℕ} {found : ℕ × ℕ} {a m : View} (some : 1 ≤ want)
       does_reject (λ xs ys. (xs ≡ []) × (ys ≡ [])) TakesByte (NoByte name.now expect)
       (eof name.now (Small expect)) refl refl refl (λ xs ys e. (e.0, (refl, e.1))) (ended none)
 
-  pub none_ready : {E : Type 0} {name : Bor (List ℕ)} {l : Len} → found.0 ≡ 0
-      → (want < 65536 → l ≡ Small want) → (65536 ≤ want → l ≡ Big)
-      → Does {V = ℕ} {E = E} (DropsSome want) (Missing name.now want) a m (Err (Eof name l))
-  none_ready {name = name} {l = l} none small big =
-      let is : l ≡ len_of want = len_is want l small big in
-      does_reject (λ xs ys. (xs ≡ []) × (ys ≡ [])) (DropsSome want) (Missing name.now want)
+  -- of more that are missing
+  pub none_ready : {E : Type 0} {name : Bor (List ℕ)} {l : Len} (missing : ℕ) → want ≤ missing
+      → found.0 ≡ 0 → (missing < 65536 → l ≡ Small missing) → (65536 ≤ missing → l ≡ Big)
+      → Does {V = ℕ} {E = E} (DropsSome missing) (Missing name.now missing) a m
+      (Err (Eof name l))
+  none_ready {name = name} {l = l} missing few none small big =
+      let is : l ≡ len_of missing = len_is missing l small big in
+      does_reject (λ xs ys. (xs ≡ []) × (ys ≡ [])) (DropsSome missing) (Missing name.now missing)
       (eof name.now l) refl refl refl (λ xs ys e. let z : length xs ≡ 0 = ap length e.0 in
-      let gap : want - length xs ≡ want = omega (arith, z) in
-      (omega (arith, z, some), (ap (eof name.now) (is ∙ ap len_of (sym gap)), e.1))) (ended none)
+      let gap : missing - length xs ≡ missing = omega (arith, z) in
+      (omega (arith, z, some, few), (ap (eof name.now) (is ∙ ap len_of (sym gap)), e.1)))
+      (ended none)
 
-  pub some_ready : {E : Type 0} {name : List ℕ} {b : View} → found.0 ≢ 0 → Advances found.0 m b
-      → Does {V = ℕ} {E = E} (DropsSome want) (Missing name want) a b (Ok found.0)
-  some_ready {name = name} more adv =
+  pub some_ready : {E : Type 0} {name : List ℕ} {b : View} (missing : ℕ) → want ≤ missing
+      → found.0 ≢ 0 → Advances found.0 m b
+      → Does {V = ℕ} {E = E} (DropsSome missing) (Missing name missing) a b (Ok found.0)
+  some_ready {name = name} missing few more adv =
       let within : found.0 ≤ length o.shown = omega (arith, o.is.0) in
       let l = lends_prefix o.shows o.prefix within o.is.1 refl adv in
-      does_ok (DropsSome want) (Missing name want) (record {
+      does_ok (DropsSome missing) (Missing name missing) (record {
         kept = l.kept;
         at = λ xs known.
             let t = l.at xs known in (
@@ -93,7 +97,7 @@ module _ {want : ℕ} {found : ℕ × ℕ} {a m : View} (some : 1 ≤ want)
               t.1,
               (
                 omega (arith, more),
-                omega (arith, o.is.0),
+                omega (arith, o.is.0, few),
                 record {
                   content = take found.0 xs;
                   size = length-take-le found.0 xs t.0;

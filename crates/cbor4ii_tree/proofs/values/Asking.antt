@@ -9,17 +9,16 @@ use Rattle.std.specs.Result.{IsErrAnd}
 use Rattle.cbor4ii_rw.specs.Reader.{Advances, IsPrefix, KeepsAllButBudget}
 use Rattle.cbor4ii_rw.specs.{View.View, declared.error.DecodeError.DecodeError}
 use Rattle.cbor4ii_items.specs.{InputError.is_out_of_memory, Laws.Prefixes.the_prefix}
-use Rattle.cbor4ii_tree.specs.Inner.Asking.{Asks, BeginsString, Grows, InParts, InTagged, InValue}
-use Rattle.cbor4ii_tree.specs.Inner.Asking.{IsRead, Values, BeginsParts, boxed, content, grown}
-use Rattle.cbor4ii_tree.specs.Inner.Asking.{in_tag}
-use Rattle.cbor4ii_tree.specs.Inner.Asking.{inside}
+use Rattle.cbor4ii_tree.specs.Calls.Asking.{Asks, BeginsParts, BeginsString, Grows, HeadAt, InValue}
+use Rattle.cbor4ii_tree.specs.Calls.Asking.{IsRead, Values, boxed, content, grown, in_tag, inside}
+use Rattle.cbor4ii_tree.specs.Inner.Asking.{InParts, InTagged}
 use Rattle.cbor4ii_tree.specs.Basis.Cost.{Budget, step_in}
 use Rattle.cbor4ii_tree.specs.Inner.Leaf.{AsksAfterNext, DoesAfterNext, ShowsFirst, WantsContent}
 use Rattle.cbor4ii_tree.specs.Inner.LeafRuns.{IsValueLeaf, PutsItemsUnder, RefusedMemory}
 use Rattle.cbor4ii_tree.specs.Inner.LeafRuns.{RunsBefore}
 use Rattle.cbor4ii_tree.specs.{Inner.LeafRuns.StandFirst, Inner.BytesAhead.Offers}
 use Rattle.cbor4ii_tree.specs.Basis.Tree.{Tree, bytes_all, no_trees}
-use Rattle.cbor4ii_tree.specs.Inner.Valuing.{HeadAt, ReadsItems, ReadsOneValue, ReadsUnder}
+use Rattle.cbor4ii_tree.specs.Inner.Valuing.{ReadsItems, ReadsOneValue, ReadsUnder}
 use Rattle.cbor4ii_tree.specs.Inner.Valuing.{RejectsUnder}
 use Rattle.cbor4ii_tree.specs.Inner.Valuing.{Whole}
 use Rattle.cbor4ii_tree.specs.declared.{leaf.Next.Next, value.Value.Value}

@@ -8,7 +8,7 @@ use Rattle.cbor4ii_rw.specs.{View.View, declared.error.DecodeError.DecodeError}
 use Rattle.cbor4ii_items.specs.{Head.{IsBytes, head}, Laws.Contents.lends_prefix}
 use Rattle.cbor4ii_items.specs.Laws.Running.{kept_alike, shows_kept}
 use Rattle.cbor4ii_tree.specs.{Basis.Cost.Budget, Inner.Deeper.with_budget}
-use Rattle.cbor4ii_tree.specs.{Calls.Rejections.Rejection, Inner.Valuing.HeadAt}
+use Rattle.cbor4ii_tree.specs.Calls.{Asking.HeadAt, Rejections.Rejection}
 use Rattle.cbor4ii_tree.specs.{declared.leaf.Head.Head, Inner.Does.{Accepting, Does}}
 use Rattle.cbor4ii_tree.specs.Inner.Leaf.{CanTake, HeadStands, ShowsFirst, ShowsNext}
 use Rattle.cbor4ii_tree.specs.declared.leaf.Next.{Next}

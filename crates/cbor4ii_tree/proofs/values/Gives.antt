@@ -8,15 +8,17 @@ use Rattle.cbor4ii_rw.specs.{View.View, declared.error.DecodeError.DecodeError}
 use Rattle.cbor4ii_items.specs.{Laws.Steps.kept_then, Moves.Moves}
 use Rattle.cbor4ii_tree.specs.{Inner.Deeper.with_budget, Inner.Does.{Does, DoesUnder}}
 use Rattle.cbor4ii_items.specs.InputError.{is_out_of_memory}
-use Rattle.cbor4ii_tree.specs.Inner.Does.{Anything, Asking, Gives, Never, WantsOnly, value_or_error}
-use Rattle.cbor4ii_tree.specs.{Inner.Asking.{Asks, InParts, InValue}, Inner.Leaf.AsksAfterNext}
+use Rattle.cbor4ii_tree.specs.Calls.Asking.{Asking, Asks, HeadAt, InValue, IndefiniteAt, Never}
+use Rattle.cbor4ii_tree.specs.Calls.Asking.{WantsOnly}
+use Rattle.cbor4ii_tree.specs.Inner.Does.{Anything, Gives, value_or_error}
+use Rattle.cbor4ii_tree.specs.{Inner.Asking.InParts, Inner.Leaf.AsksAfterNext}
 use Rattle.cbor4ii_tree.proofs.values.Asking.{asks_after, asks_around, in_parts, turn_grows}
 use Rattle.cbor4ii_tree.specs.{Inner.Does.error_left, Basis.Item.AreItems}
 use Rattle.cbor4ii_tree.specs.{Inner.Leaf.{DoesAfterNext, ShowsNext, TakesLeaf}}
 use Rattle.cbor4ii_tree.specs.{Inner.LeafRuns.{GivesItems}}
 use Rattle.cbor4ii_tree.specs.Inner.LeafRuns.{PutsItems, PutsItemsUnder, RejectsItemsUnder}
 use Rattle.cbor4ii_tree.specs.Inner.LeafRuns.{TakesRun}
-use Rattle.cbor4ii_tree.specs.{Inner.Valuing.{HeadAt, IndefiniteAt, InRange}}
+use Rattle.cbor4ii_tree.specs.Inner.Valuing.{InRange}
 use Rattle.cbor4ii_tree.specs.Inner.Valuing.{ReadsIndefiniteItems, ReadsTwoStepsIn, ReadsItems}
 use Rattle.cbor4ii_tree.specs.Inner.Valuing.{ReadsOneValue}
 use Rattle.cbor4ii_tree.specs.Inner.Valuing.{ReadsUnder, RejectsItems, RejectsMajor, RejectsOf}

@@ -2,7 +2,7 @@
 use Rattle.std.proofs.Common.{◌≡◌, ℕ, ◌++◌, List, Bool, true, false, refl, ap, ◌∙◌}
 use Rattle.cbor4ii_items.specs.Head.{Width, HeadFits, head, shortest_width}
 use Rattle.cbor4ii_items.specs.Laws.Heads.{argument_below, shortest_fits}
-use Rattle.cbor4ii_tree.specs.Inner.Valuing.{HeadAt}
+use Rattle.cbor4ii_tree.specs.Calls.Asking.{HeadAt}
 
 -- by its width
 pub head_by : (canonical : Bool) (major n : ℕ) (xs ys : List ℕ) (w : Width) → HeadFits w n

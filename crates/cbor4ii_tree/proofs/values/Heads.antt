@@ -33,7 +33,8 @@ use Rattle.cbor4ii_tree.specs.{Laws.Initials.initial_simple, Basis.Meaning.numbe
 use Rattle.cbor4ii_tree.specs.Calls.ReadingRejects.{ReadingRejectsBy, ReadingRejects}
 use Rattle.cbor4ii_tree.specs.{Calls.Rejections.{Rejection, MissingAll}}
 use Rattle.cbor4ii_tree.specs.{Basis.Tree.{int, tagged, simple, bits}}
-use Rattle.cbor4ii_tree.specs.{Basis.Tree.bytes, Inner.Valuing.{HeadAt, ReadsOneValue, ReadsTagged}}
+use Rattle.cbor4ii_tree.specs.Calls.Asking.{HeadAt}
+use Rattle.cbor4ii_tree.specs.{Basis.Tree.bytes, Inner.Valuing.{ReadsOneValue, ReadsTagged}}
 use Rattle.cbor4ii_tree.specs.Inner.Valuing.{RejectsOneValue, ReadsUnder, RejectsUnder, TakesTag}
 use Rattle.cbor4ii_tree.specs.{Inner.Valuing.{RejectsFirst, RejectsOf, SimpleOf}, Basis.View.view}
 use Rattle.cbor4ii_tree.specs.declared.value.FloatBits.{FloatBits}

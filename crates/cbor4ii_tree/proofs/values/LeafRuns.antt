@@ -23,7 +23,7 @@ use Rattle.cbor4ii_tree.specs.{Inner.Valuing.{RejectsOneValue, RejectsUnder}}
 use Rattle.cbor4ii_tree.specs.{Inner.BytesAhead.Offers}
 use Rattle.cbor4ii_tree.specs.{declared.leaf.Next.Next, Basis.Cost.Budget}
 use Rattle.cbor4ii_tree.specs.{Inner.Does.{Accepting, Does}}
-use Rattle.cbor4ii_tree.specs.{Inner.Asking.{Asks, InParts}, Inner.Does.error_left}
+use Rattle.cbor4ii_tree.specs.{Calls.Asking.Asks, Inner.Asking.InParts, Inner.Does.error_left}
 use Rattle.cbor4ii_tree.specs.{Basis.InputError.{InputError, value_name}}
 use Rattle.cbor4ii_tree.specs.{Basis.InputError.Small, Basis.Item.{AreItems, item, no_items}}
 use Rattle.cbor4ii_tree.specs.{Laws.Binds.step_up, Inner.Leaf.{DoesAfterNext, SeesNext}}

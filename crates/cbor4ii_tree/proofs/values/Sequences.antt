@@ -40,7 +40,8 @@ use Rattle.cbor4ii_tree.specs.Basis.Tree.{map_indefinite}
 use Rattle.cbor4ii_tree.specs.Basis.Tree.{bytes, bytes_all, bytes_pairs, LooseAll, LoosePairs}
 use Rattle.cbor4ii_tree.specs.Basis.Tree.{SoundStringsAll, SoundStringsPairs, count, pair_count}
 use Rattle.cbor4ii_tree.specs.Basis.Tree.{tree}
-use Rattle.cbor4ii_tree.specs.Inner.Valuing.{Whole, HeadAt, IndefiniteAt, ReadsOneValue}
+use Rattle.cbor4ii_tree.specs.Calls.Asking.{HeadAt, IndefiniteAt}
+use Rattle.cbor4ii_tree.specs.Inner.Valuing.{Whole, ReadsOneValue}
 use Rattle.cbor4ii_tree.specs.Inner.Valuing.{RejectsOneValue}
 use Rattle.cbor4ii_tree.specs.Inner.Valuing.{RejectsUnder, TakesLength, ReadsItems}
 use Rattle.cbor4ii_tree.specs.Inner.Valuing.{RejectsItems, ReadsIndefiniteItems}

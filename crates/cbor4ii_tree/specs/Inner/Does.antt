@@ -5,7 +5,8 @@ use Rattle.std.specs.Prelude.{IfSome, IsTrue, Bool, true, false, ◌+◌, ◌≤
 use Rattle.cbor4ii_rw.specs.{Reader.KeepsAllButBudget, View.{View, IfKnown}}
 use Rattle.cbor4ii_rw.specs.declared.error.DecodeError.{DecodeError, TheVariants.OutOfMemory}
 use Rattle.cbor4ii_items.specs.{InputError.{input_error_of, is_out_of_memory}, Moves.Moves}
-use Rattle.cbor4ii_tree.specs.{Basis.Cost.Budget, Calls.Rejections.Rejection}
+use Rattle.cbor4ii_tree.specs.Basis.Cost.{Budget}
+use Rattle.cbor4ii_tree.specs.Calls.{Asking.{Asking, WantsOnly}, Rejections.Rejection}
 
 -- what a call accepts: the bytes before, the value, and the bytes after what was taken
 abbrev pub Accepting : Type 0 → Type 1
@@ -45,18 +46,6 @@ Lowers old new v = new + 1 ≤ old
 
 abbrev pub MayStay : {V : Type 0} → ℕ → ℕ → V → Type 0
 MayStay old new v = Unit {0}
-
--- where a call asks for memory: the views before it, and where a growth is refused
-abbrev pub Asking : Type 1
-Asking = View → View → Type 0
-
--- a call asks for no memory
-abbrev pub Never : Asking
-Never old new = ⊥
-
--- no growth is refused but where the call asks for memory
-abbrev pub WantsOnly : {V E : Type 0} → Asking → View → View → Result V (DecodeError E) → Type 0
-WantsOnly asks old new answer = IfErr answer (λ e. IsTrue (is_out_of_memory e) → asks old new)
 
 -- What a call of reading promises, by itself or together with the look before it.
 pub record Gives {V E : Type 0} (asks : Asking) (is : V → Type 0)

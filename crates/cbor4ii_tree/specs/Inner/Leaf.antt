@@ -6,9 +6,9 @@ use Rattle.cbor4ii_rw.specs.declared.error.DecodeError.{DecodeError}
 use Rattle.cbor4ii_items.specs.Head.{ArgumentAfter, HeadFits, IsBytes, Width, byte_count, head}
 use Rattle.cbor4ii_items.specs.Head.{shortest_width}
 use Rattle.cbor4ii_items.specs.Initial.{simple_byte, simple_undefined}
-use Rattle.cbor4ii_tree.specs.Inner.Asking.{Asks, InValue}
+use Rattle.cbor4ii_tree.specs.Calls.Asking.{Asking, Asks, InValue}
 use Rattle.cbor4ii_tree.specs.Basis.Cost.{Budget, cost}
-use Rattle.cbor4ii_tree.specs.Inner.Does.{Accepting, Asking, DoesUnder, Gives, error_left}
+use Rattle.cbor4ii_tree.specs.Inner.Does.{Accepting, DoesUnder, Gives, error_left}
 use Rattle.cbor4ii_tree.specs.Basis.Item.{IsItem}
 use Rattle.cbor4ii_tree.specs.Basis.Meaning.{value}
 use Rattle.cbor4ii_tree.specs.{Inner.BytesAhead.Offers, Calls.Rejections.Rejection}

@@ -7,7 +7,8 @@ use Rattle.cbor4ii_rw.specs.View.{View}
 use Rattle.cbor4ii_rw.specs.declared.error.DecodeError.{DecodeError}
 use Rattle.cbor4ii_items.specs.Head.{IsBytes}
 use Rattle.cbor4ii_items.specs.InputError.{is_out_of_memory}
-use Rattle.cbor4ii_tree.specs.Inner.Asking.{Asks, InParts}
+use Rattle.cbor4ii_tree.specs.Calls.Asking.{Asks}
+use Rattle.cbor4ii_tree.specs.Inner.Asking.{InParts}
 use Rattle.cbor4ii_tree.specs.Basis.Cost.{Budget, cost, step_in}
 use Rattle.cbor4ii_tree.specs.Inner.Does.{Accepting, Does, DoesUnder, Gives, error_left}
 use Rattle.cbor4ii_tree.specs.Basis.Item.{AreItems}

@@ -2,10 +2,11 @@
 -- read from its canonical encoding alone.
 use Rattle.std.specs.Prelude.{◌≡◌, ℕ, ◌*◌, ◌/◌, List, [], ◌∷◌, ◌++◌, length, Option, Some, None}
 use Rattle.std.specs.Prelude.{Bool, true, false, ◌⊎◌}
-use Rattle.cbor4ii_items.specs.Head.{Width, HeadFits, head, shortest_width, indefinite_head, break}
+use Rattle.cbor4ii_items.specs.Head.{break}
 use Rattle.cbor4ii_items.specs.Initial.{Simple, simple_byte}
 use Rattle.std.specs.declared.vec.Vec.{Vec}
 use Rattle.std.specs.declared.alloc.Global.{Global}
+use Rattle.cbor4ii_tree.specs.Calls.Asking.{HeadAt, LengthAt}
 use Rattle.cbor4ii_tree.specs.Inner.Does.{Accepting}
 use Rattle.cbor4ii_tree.specs.declared.value.Value.{Value}
 use Rattle.cbor4ii_tree.specs.Basis.Item.{IsItem, tag}
@@ -16,7 +17,7 @@ use Rattle.cbor4ii_tree.specs.Calls.Rejections.{Rejection, Each, RejectsInCount,
 use Rattle.cbor4ii_tree.specs.Calls.Rejections.{AfterKey, IndefinitePairs}
 use Rattle.cbor4ii_tree.specs.Calls.ReadingRejects.{Readable, ReadingRejectsFrom, ReadingRejects}
 use Rattle.cbor4ii_tree.specs.Calls.CanonicalRejects.{FitsCanonically, CanonicalRejectsFrom}
-use Rattle.cbor4ii_tree.specs.Calls.CanonicalRejects.{CanonicalRejects, ShortestAt}
+use Rattle.cbor4ii_tree.specs.Calls.CanonicalRejects.{CanonicalRejects}
 use Rattle.cbor4ii_tree.specs.Basis.View.{view, items_view}
 
 -- what is read is a value of the program
@@ -104,23 +105,13 @@ abbrev pub RejectsPairsToBreak : Bool → Budget → Rejection
 RejectsPairsToBreak canonical budget =
     IndefinitePairs (Whole canonical budget) (RejectsOneValue canonical budget)
 
--- a head of this major type with this argument, and what follows it: the shortest one, or any
-abbrev pub HeadAt : Bool → ℕ → ℕ → List ℕ → List ℕ → Type 0
-HeadAt true major n xs ys = ShortestAt major n xs ys
-HeadAt false major n xs ys = (w : Width) × HeadFits w n × (xs ≡ head major n w ++ ys)
-
--- the head of an array or a map whose length is indefinite
-abbrev pub IndefiniteAt : Bool → ℕ → List ℕ → List ℕ → Type 0
-IndefiniteAt canonical major xs ys = (canonical ≡ false) × (xs ≡ indefinite_head major ∷ ys)
-
 -- the head of a tag
 abbrev pub TakesTag : Bool → Budget → Accepting ℕ
 TakesTag canonical budget xs n ys = HeadAt canonical 6 n xs ys
 
 -- the head that says how many parts are to follow, none where its length is indefinite
 abbrev pub TakesLength : Bool → ℕ → Budget → Accepting (Option ℕ)
-TakesLength canonical major budget xs (Some n) ys = HeadAt canonical major n xs ys
-TakesLength canonical major budget xs None ys = IndefiniteAt canonical major xs ys
+TakesLength canonical major budget xs o ys = LengthAt canonical major o xs ys
 
 -- an array or a map fails as a value does whose first byte is of its major type
 abbrev pub RejectsMajor : Bool → ℕ → Budget → Rejection

@@ -25,12 +25,14 @@ returns g c =
       others = λ xs known. tt;
       exact = canonical_exact does;
       value = λ xs known. tt;
+      asks = given.memory;
     }
 
 pub returns-in_err-whole : goal.returns-in_err-whole
 returns-in_err-whole g c =
     let p = err_from_is_err_and c.from_residual.result c.from_residual.ensures.1 in
-    let does = rw (sym c.in_err-whole.ensures) at c.read_outermost-value.ensures.does in
+    let given = rw (sym c.in_err-whole.ensures) at c.read_outermost-value.ensures in
+    let does = given.does in
     rw (p.1, p.2) (record {
       decodes = canonical_err does;
       only = λ xs known. tt;
@@ -44,4 +46,5 @@ returns-in_err-whole g c =
       others = rejected_others does;
       exact = rejected_exact does;
       value = rejected_value does;
+      asks = given.memory;
     })

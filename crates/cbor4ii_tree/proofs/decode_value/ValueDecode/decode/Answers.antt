@@ -20,6 +20,7 @@ returns g c =
       size = size_reads _ does;
       exact = exact_reads _ does;
       skips = skips_reads _ does;
+      asks = given.memory;
       item = given.ranged;
       canonical = canonical_reads _ does given.ranged;
     })
