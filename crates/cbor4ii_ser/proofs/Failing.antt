@@ -1,12 +1,12 @@
 -- What a call writes whose answer was left in a slot.
 use Rattle.std.proofs.Common.{◌≡◌, Option, Some, None, Result, Ok, Err, Bool, refl, sym}
-use Rattle.std.proofs.Common.{subst, rules, ℕ, List, ◌++◌}
+use Rattle.std.proofs.Common.{subst, rules}
 use Rattle.std.specs.Prelude.{IsErr, IfSome}
 use Rattle.cbor4ii_rw.specs.Writer.{Output}
 use Rattle.cbor4ii_ser.specs.declared.error.EncodeError.{EncodeError}
-use Rattle.cbor4ii_ser.specs.Item.{Encoding, encoded, one_then}
+use Rattle.cbor4ii_ser.specs.Item.{Encoding, one_then}
 use Rattle.cbor4ii_ser.specs.Serializing.{Serializes, done_or_answer}
-use Rattle.cbor4ii_ser.specs.Laws.Joining.{serializes_err, serializes_both_err}
+use Rattle.cbor4ii_ser.specs.Laws.Joining.{serializes_err}
 
 -- the first part failed
 pub failed_then : {T E : Type 0} {atomic : Bool} {a : Encoding} (b : Encoding) {old new : Output}
@@ -14,30 +14,6 @@ pub failed_then : {T E : Type 0} {atomic : Bool} {a : Encoding} (b : Encoding) {
     → Serializes atomic (one_then a b) old new r
 failed_then {a = a} b (Err e) is p = serializes_err a b p
 failed_then b (Ok t) is p = search rules
-
--- the first part failed, and this was handed on
-pub failed_out : {E : Type 0} {atomic : Bool} {a : Encoding} (b : Encoding) {old new : Output}
-    (o : Option (Unit {0})) (left : Result (Unit {0}) (EncodeError E)) → o ≡ None → IsErr left
-    → Serializes atomic a old new left → Serializes atomic (one_then a b) old new
-    (done_or_answer o left)
-failed_out {atomic = atomic} {a = a} b {old = old} {new = new} o left e is p =
-    subst (λ x. Serializes atomic (one_then a b) old new (done_or_answer x left)) (sym e)
-    (failed_then b left is p)
-
-both_err : {E : Type 0} {atomic : Bool} {xs : List ℕ} (ys : List ℕ) {old new : Output}
-    (left : Result (Unit {0}) (EncodeError E)) → IsErr left
-    → Serializes atomic (encoded xs) old new left → Serializes atomic (encoded (xs ++ ys)) old new left
-both_err ys (Err e) is p = serializes_both_err ys p
-both_err ys (Ok t) is p = search rules
-
--- the same of bytes
-pub both_out : {E : Type 0} {atomic : Bool} {xs : List ℕ} (ys : List ℕ) {old new : Output}
-    (o : Option (Unit {0})) (left : Result (Unit {0}) (EncodeError E)) → o ≡ None → IsErr left
-    → Serializes atomic (encoded xs) old new left
-    → Serializes atomic (encoded (xs ++ ys)) old new (done_or_answer o left)
-both_out {atomic = atomic} {xs = xs} ys {old = old} {new = new} o left e is p =
-    subst (λ x. Serializes atomic (encoded (xs ++ ys)) old new (done_or_answer x left)) (sym e)
-    (both_err ys left is p)
 
 answered_is : {E : Type 0} (o : Option (Unit {0})) (left : Result (Unit {0}) (EncodeError E))
     → IfSome o (λ _. left ≡ Ok tt) → done_or_answer o left ≡ left

@@ -6,4 +6,5 @@ pub mod Greedy
 pub mod PiecesBack
 pub mod TextItems
 pub mod Failing
+pub mod Pushing
 pub mod FieldPairs

@@ -23,3 +23,14 @@ bytes_of_leaf Null = 0xf6 ∷ []
 bytes_of_leaf (F16 bits) = float_bytes 0xf9 2 bits
 bytes_of_leaf (F32 bits) = float_bytes 0xfa 4 bits
 bytes_of_leaf (F64 bits) = float_bytes 0xfb 8 bits
+
+-- whether a leaf is written by one push, as each is but strings
+abbrev pub is_one_push : Leaf → Bool
+is_one_push (Bytes content) = false
+is_one_push (Text text) = false
+is_one_push (Integer is_negative argument) = true
+is_one_push (Logical v) = true
+is_one_push Null = true
+is_one_push (F16 bits) = true
+is_one_push (F32 bits) = true
+is_one_push (F64 bits) = true

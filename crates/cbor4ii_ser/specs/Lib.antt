@@ -5,6 +5,7 @@ pub mod Listed
 pub mod Counts
 pub mod OneItem
 pub mod Serializing
+pub mod Pushing
 pub mod Collecting
 pub mod Pieces
 pub mod HeldRun

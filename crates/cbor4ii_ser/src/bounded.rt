@@ -1,13 +1,13 @@
 //! Arrays and maps of a known number of parts, written part by part.
 ghost use Rattle.std.specs.Prelude.{◌≡◌, ◌<◌, ◌-◌, ◌++◌, [], Ok, IfOk, OnOk, OnErr, true, false};
-ghost use Rattle.std.specs.Prelude.{IfNone, IfSome, IsErr};
 ghost use Rattle.std.specs.Borrow.{sem, RestsIfErr};
 ghost use Rattle.cbor4ii_items.specs.Numbers.{shortest_head};
 ghost use Rattle.cbor4ii_ser.specs.contracts.serializer.Serializer.{the_row};
 ghost use Rattle.cbor4ii_ser.specs.Collecting.{bounded_left, bounded_keyed, bounded_output};
 ghost use Rattle.cbor4ii_ser.specs.Collecting.{bounded_serializer_name};
 ghost use Rattle.cbor4ii_ser.specs.Item.{encoded, field, variant_head};
-ghost use Rattle.cbor4ii_ser.specs.Serializing.{Serializes, done_or_answer, output};
+ghost use Rattle.cbor4ii_ser.specs.Pushing.{PushesInTurn};
+ghost use Rattle.cbor4ii_ser.specs.Serializing.{Serializes, output};
 
 use crate::error::EncodeError;
 use crate::leaf::put_value;
@@ -289,10 +289,8 @@ pub(crate) fn put_field<W: Write, T: Serialize>(
     value: &T,
     answer: &mut Result<(), EncodeError<W::Error>>,
 ) -> Option<()>
-    ensures writes { Serializes W.atomic (field name.now (T.encoding value.now))
-        (output W.view ser.old) (output W.view ser.new) (done_or_answer result answer.new) }
-    ensures failed { IfNone result (IsErr answer.new) }
-    ensures kept { IfSome result (λ _. answer.new ≡ answer.old) }
+    ensures { PushesInTurn W.atomic (field name.now (T.encoding value.now))
+        (output W.view ser.old) (output W.view ser.new) result answer.old answer.new }
 {
     push_name(&mut ser.writer, name, answer)?;
     put_value(ser, value, answer)

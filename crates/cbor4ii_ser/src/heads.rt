@@ -3,7 +3,7 @@ ghost use Rattle.std.specs.Prelude.{◌≡◌, ◌++◌, Ok, IsSome};
 ghost use Rattle.cbor4ii_items.specs.Numbers.{shortest_head};
 ghost use Rattle.cbor4ii_ser.specs.Counts.{container_head, container_end};
 ghost use Rattle.cbor4ii_ser.specs.Item.{encoded, variant_head};
-ghost use Rattle.cbor4ii_ser.specs.Serializing.{Serializes, output};
+ghost use Rattle.cbor4ii_ser.specs.Serializing.{Serializes, AllOrNothing, output};
 
 use crate::error::EncodeError;
 use crate::serializer::Serializer;
@@ -15,8 +15,10 @@ use cbor4ii_rw::write::Write;
 impl<W: Write> Serializer<W> {
     #[inline]
     pub(crate) fn array_head(&mut self, len: usize) -> Result<(), EncodeError<W::Error>>
-        ensures { Serializes W.atomic (encoded (shortest_head 4 len))
+        ensures writes { Serializes W.atomic (encoded (shortest_head 4 len))
             (output W.view self.old) (output W.view self.new) result }
+        ensures whole { AllOrNothing W.atomic (output W.view self.old) (output W.view self.new)
+            result }
     {
         if has_large_error::<W>() {
             return self.put_head(major::ARRAY, len as u64);
@@ -26,8 +28,10 @@ impl<W: Write> Serializer<W> {
 
     #[inline]
     pub(crate) fn map_head(&mut self, len: usize) -> Result<(), EncodeError<W::Error>>
-        ensures { Serializes W.atomic (encoded (shortest_head 5 len))
+        ensures writes { Serializes W.atomic (encoded (shortest_head 5 len))
             (output W.view self.old) (output W.view self.new) result }
+        ensures whole { AllOrNothing W.atomic (output W.view self.old) (output W.view self.new)
+            result }
     {
         if has_large_error::<W>() {
             return self.put_head(major::MAP, len as u64);
@@ -37,8 +41,10 @@ impl<W: Write> Serializer<W> {
 
     /// The head of an array, of an indefinite length where none is known.
     pub(crate) fn seq_head(&mut self, len: Option<usize>) -> Result<(), EncodeError<W::Error>>
-        ensures { Serializes W.atomic (encoded (container_head 4 len))
+        ensures writes { Serializes W.atomic (encoded (container_head 4 len))
             (output W.view self.old) (output W.view self.new) result }
+        ensures whole { AllOrNothing W.atomic (output W.view self.old) (output W.view self.new)
+            result }
     {
         if has_large_error::<W>() {
             return self.seq_head_apart(len);
@@ -53,8 +59,10 @@ impl<W: Write> Serializer<W> {
     /// small.
     #[inline(never)]
     fn seq_head_apart(&mut self, len: Option<usize>) -> Result<(), EncodeError<W::Error>>
-        ensures { Serializes W.atomic (encoded (container_head 4 len))
+        ensures writes { Serializes W.atomic (encoded (container_head 4 len))
             (output W.view self.old) (output W.view self.new) result }
+        ensures whole { AllOrNothing W.atomic (output W.view self.old) (output W.view self.new)
+            result }
     {
         match len {
             Some(len) => self.array_head(len),
@@ -64,8 +72,10 @@ impl<W: Write> Serializer<W> {
 
     /// The head of a map, of an indefinite length where none is known.
     pub(crate) fn entries_head(&mut self, len: Option<usize>) -> Result<(), EncodeError<W::Error>>
-        ensures { Serializes W.atomic (encoded (container_head 5 len))
+        ensures writes { Serializes W.atomic (encoded (container_head 5 len))
             (output W.view self.old) (output W.view self.new) result }
+        ensures whole { AllOrNothing W.atomic (output W.view self.old) (output W.view self.new)
+            result }
     {
         match len {
             Some(len) => self.map_head(len),

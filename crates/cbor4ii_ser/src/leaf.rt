@@ -1,10 +1,11 @@
 //! Values that hold no other value, as what is written for them.
-ghost use Rattle.std.specs.Prelude.{◌≡◌, ◌<◌, ◌∷◌, [], IfNone, IfSome, IsErr};
+ghost use Rattle.std.specs.Prelude.{◌≡◌, ◌<◌, ◌∷◌, []};
 ghost use Rattle.cbor4ii_items.specs.Numbers.{shortest_head, signed_head};
 ghost use Rattle.cbor4ii_items.specs.Simple.{bool_byte};
 ghost use Rattle.cbor4ii_ser.specs.Item.{encoded};
-ghost use Rattle.cbor4ii_ser.specs.Leaf.{bytes_of_leaf, major_of_sign};
-ghost use Rattle.cbor4ii_ser.specs.Serializing.{Serializes, done_or_answer, output};
+ghost use Rattle.cbor4ii_ser.specs.Leaf.{bytes_of_leaf, major_of_sign, is_one_push};
+ghost use Rattle.cbor4ii_ser.specs.Pushing.{Pushes, PushesOnce, PushesInTurn};
+ghost use Rattle.cbor4ii_ser.specs.Serializing.{output};
 
 use crate::error::EncodeError;
 use crate::serialize::Serialize;
@@ -77,10 +78,8 @@ pub(crate) fn put_leaf<W: Write, T: Serialize>(
     value: &T,
     answer: &mut Result<(), EncodeError<W::Error>>,
 ) -> Option<()>
-    ensures writes { Serializes W.atomic (T.encoding value.now)
-        (output W.view ser.old) (output W.view ser.new) (done_or_answer result answer.new) }
-    ensures failed { IfNone result (IsErr answer.new) }
-    ensures kept { IfSome result (λ _. answer.new ≡ answer.old) }
+    ensures { PushesInTurn W.atomic (T.encoding value.now)
+        (output W.view ser.old) (output W.view ser.new) result answer.old answer.new }
 {
     match value.as_leaf() {
         Some(leaf) => push_leaf(&mut ser.writer, leaf, answer),
@@ -96,10 +95,8 @@ pub(crate) fn put_value<W: Write, T: Serialize>(
     value: &T,
     answer: &mut Result<(), EncodeError<W::Error>>,
 ) -> Option<()>
-    ensures writes { Serializes W.atomic (T.encoding value.now)
-        (output W.view ser.old) (output W.view ser.new) (done_or_answer result answer.new) }
-    ensures failed { IfNone result (IsErr answer.new) }
-    ensures kept { IfSome result (λ _. answer.new ≡ answer.old) }
+    ensures { PushesInTurn W.atomic (T.encoding value.now)
+        (output W.view ser.old) (output W.view ser.new) result answer.old answer.new }
 {
     if has_large_error::<W>() {
         return put_leaf_apart(ser, value, answer);
@@ -114,10 +111,8 @@ fn put_leaf_apart<W: Write, T: Serialize>(
     value: &T,
     answer: &mut Result<(), EncodeError<W::Error>>,
 ) -> Option<()>
-    ensures writes { Serializes W.atomic (T.encoding value.now)
-        (output W.view ser.old) (output W.view ser.new) (done_or_answer result answer.new) }
-    ensures failed { IfNone result (IsErr answer.new) }
-    ensures kept { IfSome result (λ _. answer.new ≡ answer.old) }
+    ensures { PushesInTurn W.atomic (T.encoding value.now)
+        (output W.view ser.old) (output W.view ser.new) result answer.old answer.new }
 {
     match value.as_leaf() {
         Some(leaf) => push_leaf_apart(&mut ser.writer, leaf, answer),
@@ -132,10 +127,8 @@ fn push_leaf<W: Write>(
     leaf: Leaf<'_>,
     answer: &mut Result<(), EncodeError<W::Error>>,
 ) -> Option<()>
-    ensures writes { Serializes W.atomic (encoded (bytes_of_leaf leaf.entry))
-        (W.view writer.old) (W.view writer.new) (done_or_answer result answer.new) }
-    ensures failed { IfNone result (IsErr answer.new) }
-    ensures kept { IfSome result (λ _. answer.new ≡ answer.old) }
+    ensures { Pushes (is_one_push leaf.entry) W.atomic (encoded (bytes_of_leaf leaf.entry))
+        (W.view writer.old) (W.view writer.new) result answer.old answer.new }
 {
     match leaf {
         Leaf::Integer {
@@ -159,10 +152,8 @@ fn push_leaf_apart<W: Write>(
     leaf: Leaf<'_>,
     answer: &mut Result<(), EncodeError<W::Error>>,
 ) -> Option<()>
-    ensures writes { Serializes W.atomic (encoded (bytes_of_leaf leaf.entry))
-        (W.view writer.old) (W.view writer.new) (done_or_answer result answer.new) }
-    ensures failed { IfNone result (IsErr answer.new) }
-    ensures kept { IfSome result (λ _. answer.new ≡ answer.old) }
+    ensures { Pushes (is_one_push leaf.entry) W.atomic (encoded (bytes_of_leaf leaf.entry))
+        (W.view writer.old) (W.view writer.new) result answer.old answer.new }
 {
     match leaf {
         Leaf::Integer {
@@ -217,10 +208,8 @@ fn push_integer<W: Write>(
     answer: &mut Result<(), EncodeError<W::Error>>,
 ) -> Option<()>
     requires { major < 8 }
-    ensures writes { Serializes W.atomic (encoded (shortest_head major argument))
-        (W.view writer.old) (W.view writer.new) (done_or_answer result answer.new) }
-    ensures failed { IfNone result (IsErr answer.new) }
-    ensures kept { IfSome result (λ _. answer.new ≡ answer.old) }
+    ensures { PushesOnce W.atomic (encoded (shortest_head major argument))
+        (W.view writer.old) (W.view writer.new) result answer.old answer.new }
 {
     if argument < 24 {
         push(writer, &[32 * major + argument as u8], answer)

@@ -1,7 +1,7 @@
 //! Maps that are there as a whole.
-ghost use Rattle.std.specs.Prelude.{◌≡◌, IfNone, IfSome, IsErr};
 ghost use Rattle.cbor4ii_ser.specs.Item.{each_encoding, pair_encoding, map_encoding};
-ghost use Rattle.cbor4ii_ser.specs.Serializing.{Serializes, done_or_answer, output};
+ghost use Rattle.cbor4ii_ser.specs.Pushing.{PushesInTurn};
+ghost use Rattle.cbor4ii_ser.specs.Serializing.{Serializes, output};
 
 use crate::error::EncodeError;
 use crate::serialize::Serialize;
@@ -41,10 +41,8 @@ fn put_map_in_turn<W: Write, K: Serialize + Ord, V: Serialize>(
     map: &BTreeMap<K, V>,
     answer: &mut Result<(), EncodeError<W::Error>>,
 ) -> Option<()>
-    ensures writes { Serializes W.atomic (map_encoding K.encoding V.encoding map.now.entries)
-        (output W.view ser.old) (output W.view ser.new) (done_or_answer result answer.new) }
-    ensures failed { IfNone result (IsErr answer.new) }
-    ensures kept { IfSome result (λ _. answer.new ≡ answer.old) }
+    ensures { PushesInTurn W.atomic (map_encoding K.encoding V.encoding map.now.entries)
+        (output W.view ser.old) (output W.view ser.new) result answer.old answer.new }
 {
     push_parts_head(&mut ser.writer, major::MAP, map.len(), answer)?;
     put_entries_in_turn(ser, map, answer)
@@ -57,11 +55,9 @@ fn put_entries_in_turn<W: Write, K: Serialize + Ord, V: Serialize>(
     map: &BTreeMap<K, V>,
     answer: &mut Result<(), EncodeError<W::Error>>,
 ) -> Option<()>
-    ensures writes { Serializes W.atomic (each_encoding (pair_encoding K.encoding V.encoding)
+    ensures { PushesInTurn W.atomic (each_encoding (pair_encoding K.encoding V.encoding)
         map.now.entries)
-        (output W.view ser.old) (output W.view ser.new) (done_or_answer result answer.new) }
-    ensures failed { IfNone result (IsErr answer.new) }
-    ensures kept { IfSome result (λ _. answer.new ≡ answer.old) }
+        (output W.view ser.old) (output W.view ser.new) result answer.old answer.new }
 {
     for (key, value) in map {
         put_both(ser, key, value, answer)?;

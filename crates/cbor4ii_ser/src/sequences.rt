@@ -1,7 +1,7 @@
 //! Arrays that are there as a whole.
-ghost use Rattle.std.specs.Prelude.{◌≡◌, IfNone, IfSome, IsErr};
 ghost use Rattle.cbor4ii_ser.specs.Item.{each_encoding, array_encoding};
-ghost use Rattle.cbor4ii_ser.specs.Serializing.{Serializes, done_or_answer, output};
+ghost use Rattle.cbor4ii_ser.specs.Pushing.{PushesInTurn};
+ghost use Rattle.cbor4ii_ser.specs.Serializing.{Serializes, output};
 
 use crate::error::EncodeError;
 use crate::leaf::put_leaf;
@@ -77,10 +77,8 @@ fn put_leaves<W: Write, T: Serialize>(
     items: &[T],
     answer: &mut Result<(), EncodeError<W::Error>>,
 ) -> Option<()>
-    ensures writes { Serializes W.atomic (array_encoding T.encoding items.now)
-        (output W.view ser.old) (output W.view ser.new) (done_or_answer result answer.new) }
-    ensures failed { IfNone result (IsErr answer.new) }
-    ensures kept { IfSome result (λ _. answer.new ≡ answer.old) }
+    ensures { PushesInTurn W.atomic (array_encoding T.encoding items.now)
+        (output W.view ser.old) (output W.view ser.new) result answer.old answer.new }
 {
     push_head(&mut ser.writer, major::ARRAY, items.len() as u64, answer)?;
     put_each_leaf(ser, items, answer)
@@ -92,10 +90,8 @@ fn put_each_leaf<W: Write, T: Serialize>(
     items: &[T],
     answer: &mut Result<(), EncodeError<W::Error>>,
 ) -> Option<()>
-    ensures writes { Serializes W.atomic (each_encoding T.encoding items.now)
-        (output W.view ser.old) (output W.view ser.new) (done_or_answer result answer.new) }
-    ensures failed { IfNone result (IsErr answer.new) }
-    ensures kept { IfSome result (λ _. answer.new ≡ answer.old) }
+    ensures { PushesInTurn W.atomic (each_encoding T.encoding items.now)
+        (output W.view ser.old) (output W.view ser.new) result answer.old answer.new }
 {
     for item in items {
         put_leaf(ser, item, answer)?;

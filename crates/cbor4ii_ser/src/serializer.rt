@@ -7,7 +7,7 @@ ghost use Rattle.cbor4ii_items.specs.Numbers.{unsigned_bytes};
 ghost use Rattle.cbor4ii_items.specs.Simple.{bool_byte};
 ghost use Rattle.cbor4ii_items.specs.Strings.{definite_string};
 ghost use Rattle.cbor4ii_ser.specs.Item.{encoded, variant_encoding};
-ghost use Rattle.cbor4ii_ser.specs.Serializing.{Serializes, output};
+ghost use Rattle.cbor4ii_ser.specs.Serializing.{Serializes, AllOrNothing, output};
 
 use crate::error::EncodeError;
 use crate::serialize::Serialize;
@@ -89,8 +89,10 @@ impl<W: Write> Serializer<W> {
     #[inline]
     pub(crate) fn put_head(&mut self, major: u8, argument: u64) -> Result<(), EncodeError<W::Error>>
         requires { major < 8 }
-        ensures { Serializes W.atomic (encoded (shortest_head major argument))
+        ensures writes { Serializes W.atomic (encoded (shortest_head major argument))
             (output W.view self.old) (output W.view self.new) result }
+        ensures whole { AllOrNothing W.atomic (output W.view self.old) (output W.view self.new)
+            result }
     {
         let mut answer = Ok(());
         if push_head_apart(&mut self.writer, major, argument, &mut answer).is_none() {
@@ -102,8 +104,10 @@ impl<W: Write> Serializer<W> {
     /// Writes an integer as a head, to a writer with a large error.
     #[inline]
     fn put_signed(&mut self, value: i64) -> Result<(), EncodeError<W::Error>>
-        ensures { Serializes W.atomic (encoded (signed_head value))
+        ensures writes { Serializes W.atomic (encoded (signed_head value))
             (output W.view self.old) (output W.view self.new) result }
+        ensures whole { AllOrNothing W.atomic (output W.view self.old) (output W.view self.new)
+            result }
     {
         if value >= 0 {
             self.put_head(major::UNSIGNED, value as u64)
@@ -133,13 +137,15 @@ impl<W: Write> Serializer<W> {
     /// `Core`, which is described at `Serializer`.
     #[inline]
     pub fn serialize_bool(&mut self, value: bool) -> Result<(), EncodeError<W::Error>>
-        ensures { Serializes W.atomic (encoded (bool_byte value ∷ []))
+        ensures writes { Serializes W.atomic (encoded (bool_byte value ∷ []))
             (output W.view self.old) (output W.view self.new) result }
+        ensures whole { AllOrNothing W.atomic (output W.view self.old) (output W.view self.new)
+            result }
     {
         if has_large_error::<W>() {
             return self.put_head(major::SIMPLE, if value { 21 } else { 20 });
         }
-        self.serialize_item(&value)
+        Ok(value.encode(&mut self.writer)?)
     }
 
     /// An integer, as a head.
@@ -149,13 +155,15 @@ impl<W: Write> Serializer<W> {
     /// `Core`, which is described at `Serializer`.
     #[inline]
     pub fn serialize_i8(&mut self, value: i8) -> Result<(), EncodeError<W::Error>>
-        ensures { Serializes W.atomic (encoded (signed_head value))
+        ensures writes { Serializes W.atomic (encoded (signed_head value))
             (output W.view self.old) (output W.view self.new) result }
+        ensures whole { AllOrNothing W.atomic (output W.view self.old) (output W.view self.new)
+            result }
     {
         if has_large_error::<W>() {
             return self.put_signed(value as i64);
         }
-        self.serialize_item(&value)
+        Ok(value.encode(&mut self.writer)?)
     }
 
     /// An integer, as a head.
@@ -165,13 +173,15 @@ impl<W: Write> Serializer<W> {
     /// `Core`, which is described at `Serializer`.
     #[inline]
     pub fn serialize_i16(&mut self, value: i16) -> Result<(), EncodeError<W::Error>>
-        ensures { Serializes W.atomic (encoded (signed_head value))
+        ensures writes { Serializes W.atomic (encoded (signed_head value))
             (output W.view self.old) (output W.view self.new) result }
+        ensures whole { AllOrNothing W.atomic (output W.view self.old) (output W.view self.new)
+            result }
     {
         if has_large_error::<W>() {
             return self.put_signed(value as i64);
         }
-        self.serialize_item(&value)
+        Ok(value.encode(&mut self.writer)?)
     }
 
     /// An integer, as a head.
@@ -181,13 +191,15 @@ impl<W: Write> Serializer<W> {
     /// `Core`, which is described at `Serializer`.
     #[inline]
     pub fn serialize_i32(&mut self, value: i32) -> Result<(), EncodeError<W::Error>>
-        ensures { Serializes W.atomic (encoded (signed_head value))
+        ensures writes { Serializes W.atomic (encoded (signed_head value))
             (output W.view self.old) (output W.view self.new) result }
+        ensures whole { AllOrNothing W.atomic (output W.view self.old) (output W.view self.new)
+            result }
     {
         if has_large_error::<W>() {
             return self.put_signed(value as i64);
         }
-        self.serialize_item(&value)
+        Ok(value.encode(&mut self.writer)?)
     }
 
     /// An integer, as a head.
@@ -197,13 +209,15 @@ impl<W: Write> Serializer<W> {
     /// `Core`, which is described at `Serializer`.
     #[inline]
     pub fn serialize_i64(&mut self, value: i64) -> Result<(), EncodeError<W::Error>>
-        ensures { Serializes W.atomic (encoded (signed_head value))
+        ensures writes { Serializes W.atomic (encoded (signed_head value))
             (output W.view self.old) (output W.view self.new) result }
+        ensures whole { AllOrNothing W.atomic (output W.view self.old) (output W.view self.new)
+            result }
     {
         if has_large_error::<W>() {
             return self.put_signed(value);
         }
-        self.serialize_item(&value)
+        Ok(value.encode(&mut self.writer)?)
     }
 
     /// An integer, as a head; below -2^64 and from 2^64 on as a bignum (RFC 8949 section 3.4.3).
@@ -225,13 +239,15 @@ impl<W: Write> Serializer<W> {
     /// `Core`, which is described at `Serializer`.
     #[inline]
     pub fn serialize_u8(&mut self, value: u8) -> Result<(), EncodeError<W::Error>>
-        ensures { Serializes W.atomic (encoded (shortest_head 0 value))
+        ensures writes { Serializes W.atomic (encoded (shortest_head 0 value))
             (output W.view self.old) (output W.view self.new) result }
+        ensures whole { AllOrNothing W.atomic (output W.view self.old) (output W.view self.new)
+            result }
     {
         if has_large_error::<W>() {
             return self.put_head(major::UNSIGNED, value as u64);
         }
-        self.serialize_item(&value)
+        Ok(value.encode(&mut self.writer)?)
     }
 
     /// An integer from 0 on, as a head.
@@ -241,13 +257,15 @@ impl<W: Write> Serializer<W> {
     /// `Core`, which is described at `Serializer`.
     #[inline]
     pub fn serialize_u16(&mut self, value: u16) -> Result<(), EncodeError<W::Error>>
-        ensures { Serializes W.atomic (encoded (shortest_head 0 value))
+        ensures writes { Serializes W.atomic (encoded (shortest_head 0 value))
             (output W.view self.old) (output W.view self.new) result }
+        ensures whole { AllOrNothing W.atomic (output W.view self.old) (output W.view self.new)
+            result }
     {
         if has_large_error::<W>() {
             return self.put_head(major::UNSIGNED, value as u64);
         }
-        self.serialize_item(&value)
+        Ok(value.encode(&mut self.writer)?)
     }
 
     /// An integer from 0 on, as a head.
@@ -257,13 +275,15 @@ impl<W: Write> Serializer<W> {
     /// `Core`, which is described at `Serializer`.
     #[inline]
     pub fn serialize_u32(&mut self, value: u32) -> Result<(), EncodeError<W::Error>>
-        ensures { Serializes W.atomic (encoded (shortest_head 0 value))
+        ensures writes { Serializes W.atomic (encoded (shortest_head 0 value))
             (output W.view self.old) (output W.view self.new) result }
+        ensures whole { AllOrNothing W.atomic (output W.view self.old) (output W.view self.new)
+            result }
     {
         if has_large_error::<W>() {
             return self.put_head(major::UNSIGNED, value as u64);
         }
-        self.serialize_item(&value)
+        Ok(value.encode(&mut self.writer)?)
     }
 
     /// An integer from 0 on, as a head.
@@ -273,13 +293,15 @@ impl<W: Write> Serializer<W> {
     /// `Core`, which is described at `Serializer`.
     #[inline]
     pub fn serialize_u64(&mut self, value: u64) -> Result<(), EncodeError<W::Error>>
-        ensures { Serializes W.atomic (encoded (shortest_head 0 value))
+        ensures writes { Serializes W.atomic (encoded (shortest_head 0 value))
             (output W.view self.old) (output W.view self.new) result }
+        ensures whole { AllOrNothing W.atomic (output W.view self.old) (output W.view self.new)
+            result }
     {
         if has_large_error::<W>() {
             return self.put_head(major::UNSIGNED, value);
         }
-        self.serialize_item(&value)
+        Ok(value.encode(&mut self.writer)?)
     }
 
     /// An integer from 0 on, as a head; from 2^64 on as a bignum (RFC 8949 section 3.4.3).
@@ -301,8 +323,10 @@ impl<W: Write> Serializer<W> {
     /// `Core`, which is described at `Serializer`.
     #[inline]
     pub fn serialize_f16(&mut self, bits: u16) -> Result<(), EncodeError<W::Error>>
-        ensures { Serializes W.atomic (encoded (float_bytes 0xf9 2 bits))
+        ensures writes { Serializes W.atomic (encoded (float_bytes 0xf9 2 bits))
             (output W.view self.old) (output W.view self.new) result }
+        ensures whole { AllOrNothing W.atomic (output W.view self.old) (output W.view self.new)
+            result }
     {
         if has_large_error::<W>() {
             let mut answer = Ok(());
@@ -311,7 +335,7 @@ impl<W: Write> Serializer<W> {
                 None => answer,
             };
         }
-        self.serialize_item(&F16(bits))
+        Ok(F16(bits).encode(&mut self.writer)?)
     }
 
     /// A float of four bytes, as its bits.
@@ -321,8 +345,10 @@ impl<W: Write> Serializer<W> {
     /// `Core`, which is described at `Serializer`.
     #[inline]
     pub fn serialize_f32(&mut self, bits: u32) -> Result<(), EncodeError<W::Error>>
-        ensures { Serializes W.atomic (encoded (float_bytes 0xfa 4 bits))
+        ensures writes { Serializes W.atomic (encoded (float_bytes 0xfa 4 bits))
             (output W.view self.old) (output W.view self.new) result }
+        ensures whole { AllOrNothing W.atomic (output W.view self.old) (output W.view self.new)
+            result }
     {
         if has_large_error::<W>() {
             let mut answer = Ok(());
@@ -331,7 +357,7 @@ impl<W: Write> Serializer<W> {
                 None => answer,
             };
         }
-        self.serialize_item(&F32(bits))
+        Ok(F32(bits).encode(&mut self.writer)?)
     }
 
     /// A float of eight bytes, as its bits.
@@ -341,8 +367,10 @@ impl<W: Write> Serializer<W> {
     /// `Core`, which is described at `Serializer`.
     #[inline]
     pub fn serialize_f64(&mut self, bits: u64) -> Result<(), EncodeError<W::Error>>
-        ensures { Serializes W.atomic (encoded (float_bytes 0xfb 8 bits))
+        ensures writes { Serializes W.atomic (encoded (float_bytes 0xfb 8 bits))
             (output W.view self.old) (output W.view self.new) result }
+        ensures whole { AllOrNothing W.atomic (output W.view self.old) (output W.view self.new)
+            result }
     {
         if has_large_error::<W>() {
             let mut answer = Ok(());
@@ -351,7 +379,7 @@ impl<W: Write> Serializer<W> {
                 None => answer,
             };
         }
-        self.serialize_item(&F64(bits))
+        Ok(F64(bits).encode(&mut self.writer)?)
     }
 
     /// A text of one character.
@@ -406,13 +434,15 @@ impl<W: Write> Serializer<W> {
     /// `Core`, which is described at `Serializer`.
     #[inline]
     pub fn serialize_none(&mut self) -> Result<(), EncodeError<W::Error>>
-        ensures { Serializes W.atomic (encoded (0xf6 ∷ []))
+        ensures writes { Serializes W.atomic (encoded (0xf6 ∷ []))
             (output W.view self.old) (output W.view self.new) result }
+        ensures whole { AllOrNothing W.atomic (output W.view self.old) (output W.view self.new)
+            result }
     {
         if has_large_error::<W>() {
             return self.put_head(major::SIMPLE, 22);
         }
-        self.serialize_item(&Null)
+        Ok(Null.encode(&mut self.writer)?)
     }
 
     /// The value itself.
@@ -435,8 +465,10 @@ impl<W: Write> Serializer<W> {
     /// `Core`, which is described at `Serializer`.
     #[inline]
     pub fn serialize_unit(&mut self) -> Result<(), EncodeError<W::Error>>
-        ensures { Serializes W.atomic (encoded (shortest_head 4 0))
+        ensures writes { Serializes W.atomic (encoded (shortest_head 4 0))
             (output W.view self.old) (output W.view self.new) result }
+        ensures whole { AllOrNothing W.atomic (output W.view self.old) (output W.view self.new)
+            result }
     {
         self.array_head(0)
     }
@@ -447,8 +479,10 @@ impl<W: Write> Serializer<W> {
     ///
     /// `Core`, which is described at `Serializer`.
     pub fn serialize_unit_struct(&mut self, _name: &str) -> Result<(), EncodeError<W::Error>>
-        ensures { Serializes W.atomic (encoded (shortest_head 4 0))
+        ensures writes { Serializes W.atomic (encoded (shortest_head 4 0))
             (output W.view self.old) (output W.view self.new) result }
+        ensures whole { AllOrNothing W.atomic (output W.view self.old) (output W.view self.new)
+            result }
     {
         self.serialize_unit()
     }

@@ -5,14 +5,15 @@
 //! the whole answer goes through a reference. What pushes is out of line, since each push takes
 //! room in the frame that it stands in. For the same reason heads are not written by
 //! `cbor4ii_items`, whose answer holds the writer's error.
-ghost use Rattle.std.specs.Prelude.{◌≡◌, ◌<◌, ◌≤◌, ◌∷◌, [], ◌++◌, Err, IfNone, IfSome, IsErr};
+ghost use Rattle.std.specs.Prelude.{◌≡◌, ◌<◌, ◌≤◌, ◌∷◌, [], ◌++◌, Err};
 ghost use Rattle.cbor4ii_rw.specs.declared.error.EncodeError.TheVariants.{Write};
 ghost use Rattle.cbor4ii_items.specs.Floats.{float_bytes};
 ghost use Rattle.cbor4ii_items.specs.Numbers.{shortest_head};
 ghost use Rattle.cbor4ii_items.specs.Strings.{definite_string};
 ghost use Rattle.cbor4ii_ser.specs.Item.{encoded, one_then, variant_head, variant_encoding};
 ghost use Rattle.cbor4ii_ser.specs.Item.{tuple_variant_encoding};
-ghost use Rattle.cbor4ii_ser.specs.Serializing.{Serializes, AllOrNothing, done_or_answer, output};
+ghost use Rattle.cbor4ii_ser.specs.Pushing.{PushesOnce, PushesInTurn};
+ghost use Rattle.cbor4ii_ser.specs.Serializing.{output};
 ghost use Rattle.cbor4ii_ser.specs.declared.error.EncodeError.TheVariants.{Core};
 
 use crate::error::EncodeError;
@@ -49,12 +50,8 @@ pub(crate) fn push<W: Write>(
     bytes: &[u8],
     answer: &mut Result<(), EncodeError<W::Error>>,
 ) -> Option<()>
-    ensures writes { Serializes W.atomic (encoded bytes.now)
-        (W.view writer.old) (W.view writer.new) (done_or_answer result answer.new) }
-    ensures whole { AllOrNothing W.atomic (W.view writer.old) (W.view writer.new)
-        (done_or_answer result answer.new) }
-    ensures failed { IfNone result (IsErr answer.new) }
-    ensures kept { IfSome result (λ _. answer.new ≡ answer.old) }
+    ensures { PushesOnce W.atomic (encoded bytes.now)
+        (W.view writer.old) (W.view writer.new) result answer.old answer.new }
 {
     match writer.push(bytes) {
         Ok(()) => Some(()),
@@ -74,12 +71,8 @@ pub(crate) fn push_head_apart<W: Write>(
     answer: &mut Result<(), EncodeError<W::Error>>,
 ) -> Option<()>
     requires { major < 8 }
-    ensures writes { Serializes W.atomic (encoded (shortest_head major argument))
-        (W.view writer.old) (W.view writer.new) (done_or_answer result answer.new) }
-    ensures whole { AllOrNothing W.atomic (W.view writer.old) (W.view writer.new)
-        (done_or_answer result answer.new) }
-    ensures failed { IfNone result (IsErr answer.new) }
-    ensures kept { IfSome result (λ _. answer.new ≡ answer.old) }
+    ensures { PushesOnce W.atomic (encoded (shortest_head major argument))
+        (W.view writer.old) (W.view writer.new) result answer.old answer.new }
 {
     push_head(writer, major, argument, answer)
 }
@@ -93,12 +86,8 @@ pub(crate) fn push_head<W: Write>(
     answer: &mut Result<(), EncodeError<W::Error>>,
 ) -> Option<()>
     requires { major < 8 }
-    ensures writes { Serializes W.atomic (encoded (shortest_head major argument))
-        (W.view writer.old) (W.view writer.new) (done_or_answer result answer.new) }
-    ensures whole { AllOrNothing W.atomic (W.view writer.old) (W.view writer.new)
-        (done_or_answer result answer.new) }
-    ensures failed { IfNone result (IsErr answer.new) }
-    ensures kept { IfSome result (λ _. answer.new ≡ answer.old) }
+    ensures { PushesOnce W.atomic (encoded (shortest_head major argument))
+        (W.view writer.old) (W.view writer.new) result answer.old answer.new }
 {
     if argument < 24 {
         push(writer, &[32 * major + argument as u8], answer)
@@ -116,10 +105,8 @@ pub(crate) fn push_parts_head<W: Write>(
     answer: &mut Result<(), EncodeError<W::Error>>,
 ) -> Option<()>
     requires { major < 8 }
-    ensures writes { Serializes W.atomic (encoded (shortest_head major len))
-        (W.view writer.old) (W.view writer.new) (done_or_answer result answer.new) }
-    ensures failed { IfNone result (IsErr answer.new) }
-    ensures kept { IfSome result (λ _. answer.new ≡ answer.old) }
+    ensures { PushesOnce W.atomic (encoded (shortest_head major len))
+        (W.view writer.old) (W.view writer.new) result answer.old answer.new }
 {
     if has_large_error::<W>() {
         return push_head_apart(writer, major, len as u64, answer);
@@ -137,12 +124,8 @@ fn push_long_head_apart<W: Write>(
 ) -> Option<()>
     requires major { major < 8 }
     requires long { 24 ≤ argument }
-    ensures writes { Serializes W.atomic (encoded (shortest_head major argument))
-        (W.view writer.old) (W.view writer.new) (done_or_answer result answer.new) }
-    ensures whole { AllOrNothing W.atomic (W.view writer.old) (W.view writer.new)
-        (done_or_answer result answer.new) }
-    ensures failed { IfNone result (IsErr answer.new) }
-    ensures kept { IfSome result (λ _. answer.new ≡ answer.old) }
+    ensures { PushesOnce W.atomic (encoded (shortest_head major argument))
+        (W.view writer.old) (W.view writer.new) result answer.old answer.new }
 {
     push_long_head(writer, major, argument, answer)
 }
@@ -157,12 +140,8 @@ pub(crate) fn push_long_head<W: Write>(
 ) -> Option<()>
     requires major { major < 8 }
     requires long { 24 ≤ argument }
-    ensures writes { Serializes W.atomic (encoded (shortest_head major argument))
-        (W.view writer.old) (W.view writer.new) (done_or_answer result answer.new) }
-    ensures whole { AllOrNothing W.atomic (W.view writer.old) (W.view writer.new)
-        (done_or_answer result answer.new) }
-    ensures failed { IfNone result (IsErr answer.new) }
-    ensures kept { IfSome result (λ _. answer.new ≡ answer.old) }
+    ensures { PushesOnce W.atomic (encoded (shortest_head major argument))
+        (W.view writer.old) (W.view writer.new) result answer.old answer.new }
 {
     let first = 32 * major;
     if argument < 0x100 {
@@ -188,12 +167,8 @@ pub(crate) fn push_f16_apart<W: Write>(
     bits: u16,
     answer: &mut Result<(), EncodeError<W::Error>>,
 ) -> Option<()>
-    ensures writes { Serializes W.atomic (encoded (float_bytes 0xf9 2 bits))
-        (W.view writer.old) (W.view writer.new) (done_or_answer result answer.new) }
-    ensures whole { AllOrNothing W.atomic (W.view writer.old) (W.view writer.new)
-        (done_or_answer result answer.new) }
-    ensures failed { IfNone result (IsErr answer.new) }
-    ensures kept { IfSome result (λ _. answer.new ≡ answer.old) }
+    ensures { PushesOnce W.atomic (encoded (float_bytes 0xf9 2 bits))
+        (W.view writer.old) (W.view writer.new) result answer.old answer.new }
 {
     push_f16(writer, bits, answer)
 }
@@ -205,12 +180,8 @@ pub(crate) fn push_f16<W: Write>(
     bits: u16,
     answer: &mut Result<(), EncodeError<W::Error>>,
 ) -> Option<()>
-    ensures writes { Serializes W.atomic (encoded (float_bytes 0xf9 2 bits))
-        (W.view writer.old) (W.view writer.new) (done_or_answer result answer.new) }
-    ensures whole { AllOrNothing W.atomic (W.view writer.old) (W.view writer.new)
-        (done_or_answer result answer.new) }
-    ensures failed { IfNone result (IsErr answer.new) }
-    ensures kept { IfSome result (λ _. answer.new ≡ answer.old) }
+    ensures { PushesOnce W.atomic (encoded (float_bytes 0xf9 2 bits))
+        (W.view writer.old) (W.view writer.new) result answer.old answer.new }
 {
     let [a, b] = bits.to_be_bytes();
     push(writer, &[marker::F16, a, b], answer)
@@ -223,12 +194,8 @@ pub(crate) fn push_f32_apart<W: Write>(
     bits: u32,
     answer: &mut Result<(), EncodeError<W::Error>>,
 ) -> Option<()>
-    ensures writes { Serializes W.atomic (encoded (float_bytes 0xfa 4 bits))
-        (W.view writer.old) (W.view writer.new) (done_or_answer result answer.new) }
-    ensures whole { AllOrNothing W.atomic (W.view writer.old) (W.view writer.new)
-        (done_or_answer result answer.new) }
-    ensures failed { IfNone result (IsErr answer.new) }
-    ensures kept { IfSome result (λ _. answer.new ≡ answer.old) }
+    ensures { PushesOnce W.atomic (encoded (float_bytes 0xfa 4 bits))
+        (W.view writer.old) (W.view writer.new) result answer.old answer.new }
 {
     push_f32(writer, bits, answer)
 }
@@ -240,15 +207,12 @@ pub(crate) fn push_f32<W: Write>(
     bits: u32,
     answer: &mut Result<(), EncodeError<W::Error>>,
 ) -> Option<()>
-    ensures writes { Serializes W.atomic (encoded (float_bytes 0xfa 4 bits))
-        (W.view writer.old) (W.view writer.new) (done_or_answer result answer.new) }
-    ensures whole { AllOrNothing W.atomic (W.view writer.old) (W.view writer.new)
-        (done_or_answer result answer.new) }
-    ensures failed { IfNone result (IsErr answer.new) }
-    ensures kept { IfSome result (λ _. answer.new ≡ answer.old) }
+    ensures { PushesOnce W.atomic (encoded (float_bytes 0xfa 4 bits))
+        (W.view writer.old) (W.view writer.new) result answer.old answer.new }
 {
-    let [a, b, c, d] = bits.to_be_bytes();
-    push(writer, &[marker::F32, a, b, c, d], answer)
+    let mut bytes = [marker::F32, 0, 0, 0, 0];
+    bytes[1..].copy_from_slice(&bits.to_be_bytes());
+    push(writer, &bytes, answer)
 }
 
 /// Writes a float of eight bytes, its first byte and its bits, in one push.
@@ -258,12 +222,8 @@ pub(crate) fn push_f64_apart<W: Write>(
     bits: u64,
     answer: &mut Result<(), EncodeError<W::Error>>,
 ) -> Option<()>
-    ensures writes { Serializes W.atomic (encoded (float_bytes 0xfb 8 bits))
-        (W.view writer.old) (W.view writer.new) (done_or_answer result answer.new) }
-    ensures whole { AllOrNothing W.atomic (W.view writer.old) (W.view writer.new)
-        (done_or_answer result answer.new) }
-    ensures failed { IfNone result (IsErr answer.new) }
-    ensures kept { IfSome result (λ _. answer.new ≡ answer.old) }
+    ensures { PushesOnce W.atomic (encoded (float_bytes 0xfb 8 bits))
+        (W.view writer.old) (W.view writer.new) result answer.old answer.new }
 {
     push_f64(writer, bits, answer)
 }
@@ -275,15 +235,12 @@ pub(crate) fn push_f64<W: Write>(
     bits: u64,
     answer: &mut Result<(), EncodeError<W::Error>>,
 ) -> Option<()>
-    ensures writes { Serializes W.atomic (encoded (float_bytes 0xfb 8 bits))
-        (W.view writer.old) (W.view writer.new) (done_or_answer result answer.new) }
-    ensures whole { AllOrNothing W.atomic (W.view writer.old) (W.view writer.new)
-        (done_or_answer result answer.new) }
-    ensures failed { IfNone result (IsErr answer.new) }
-    ensures kept { IfSome result (λ _. answer.new ≡ answer.old) }
+    ensures { PushesOnce W.atomic (encoded (float_bytes 0xfb 8 bits))
+        (W.view writer.old) (W.view writer.new) result answer.old answer.new }
 {
-    let [a, b, c, d, e, f, g, h] = bits.to_be_bytes();
-    push(writer, &[marker::F64, a, b, c, d, e, f, g, h], answer)
+    let mut bytes = [marker::F64, 0, 0, 0, 0, 0, 0, 0, 0];
+    bytes[1..].copy_from_slice(&bits.to_be_bytes());
+    push(writer, &bytes, answer)
 }
 
 /// Writes a string of this major type, its head in one push and its content in another.
@@ -295,10 +252,8 @@ pub(crate) fn push_string_apart<W: Write>(
     answer: &mut Result<(), EncodeError<W::Error>>,
 ) -> Option<()>
     requires { major < 8 }
-    ensures writes { Serializes W.atomic (encoded (definite_string major content.now))
-        (W.view writer.old) (W.view writer.new) (done_or_answer result answer.new) }
-    ensures failed { IfNone result (IsErr answer.new) }
-    ensures kept { IfSome result (λ _. answer.new ≡ answer.old) }
+    ensures { PushesInTurn W.atomic (encoded (definite_string major content.now))
+        (W.view writer.old) (W.view writer.new) result answer.old answer.new }
 {
     push_string(writer, major, content, answer)
 }
@@ -312,10 +267,8 @@ pub(crate) fn push_string<W: Write>(
     answer: &mut Result<(), EncodeError<W::Error>>,
 ) -> Option<()>
     requires { major < 8 }
-    ensures writes { Serializes W.atomic (encoded (definite_string major content.now))
-        (W.view writer.old) (W.view writer.new) (done_or_answer result answer.new) }
-    ensures failed { IfNone result (IsErr answer.new) }
-    ensures kept { IfSome result (λ _. answer.new ≡ answer.old) }
+    ensures { PushesInTurn W.atomic (encoded (definite_string major content.now))
+        (W.view writer.old) (W.view writer.new) result answer.old answer.new }
 {
     push_head(writer, major, content.len() as u64, answer)?;
     push(writer, content, answer)
@@ -328,10 +281,8 @@ pub(crate) fn push_text_apart<W: Write>(
     text: &str,
     answer: &mut Result<(), EncodeError<W::Error>>,
 ) -> Option<()>
-    ensures writes { Serializes W.atomic (encoded (definite_string 3 text.now))
-        (W.view writer.old) (W.view writer.new) (done_or_answer result answer.new) }
-    ensures failed { IfNone result (IsErr answer.new) }
-    ensures kept { IfSome result (λ _. answer.new ≡ answer.old) }
+    ensures { PushesInTurn W.atomic (encoded (definite_string 3 text.now))
+        (W.view writer.old) (W.view writer.new) result answer.old answer.new }
 {
     push_string_apart(writer, major::STRING, text.as_bytes(), answer)
 }
@@ -343,10 +294,8 @@ pub(crate) fn push_name<W: Write>(
     name: &str,
     answer: &mut Result<(), EncodeError<W::Error>>,
 ) -> Option<()>
-    ensures writes { Serializes W.atomic (encoded (definite_string 3 name.now))
-        (W.view writer.old) (W.view writer.new) (done_or_answer result answer.new) }
-    ensures failed { IfNone result (IsErr answer.new) }
-    ensures kept { IfSome result (λ _. answer.new ≡ answer.old) }
+    ensures { PushesInTurn W.atomic (encoded (definite_string 3 name.now))
+        (W.view writer.old) (W.view writer.new) result answer.old answer.new }
 {
     if has_large_error::<W>() {
         return push_text_apart(writer, name, answer);
@@ -361,10 +310,8 @@ pub(crate) fn push_text<W: Write>(
     text: &str,
     answer: &mut Result<(), EncodeError<W::Error>>,
 ) -> Option<()>
-    ensures writes { Serializes W.atomic (encoded (definite_string 3 text.now))
-        (W.view writer.old) (W.view writer.new) (done_or_answer result answer.new) }
-    ensures failed { IfNone result (IsErr answer.new) }
-    ensures kept { IfSome result (λ _. answer.new ≡ answer.old) }
+    ensures { PushesInTurn W.atomic (encoded (definite_string 3 text.now))
+        (W.view writer.old) (W.view writer.new) result answer.old answer.new }
 {
     push_string(writer, major::STRING, text.as_bytes(), answer)
 }
@@ -376,10 +323,8 @@ fn push_variant_apart<W: Write>(
     name: &str,
     answer: &mut Result<(), EncodeError<W::Error>>,
 ) -> Option<()>
-    ensures writes { Serializes W.atomic (encoded (variant_head name.now))
-        (W.view writer.old) (W.view writer.new) (done_or_answer result answer.new) }
-    ensures failed { IfNone result (IsErr answer.new) }
-    ensures kept { IfSome result (λ _. answer.new ≡ answer.old) }
+    ensures { PushesInTurn W.atomic (encoded (variant_head name.now))
+        (W.view writer.old) (W.view writer.new) result answer.old answer.new }
 {
     push_head(writer, major::MAP, 1, answer)?;
     push_text(writer, name, answer)
@@ -392,10 +337,8 @@ pub(crate) fn push_variant<W: Write>(
     name: &str,
     answer: &mut Result<(), EncodeError<W::Error>>,
 ) -> Option<()>
-    ensures writes { Serializes W.atomic (encoded (variant_head name.now))
-        (W.view writer.old) (W.view writer.new) (done_or_answer result answer.new) }
-    ensures failed { IfNone result (IsErr answer.new) }
-    ensures kept { IfSome result (λ _. answer.new ≡ answer.old) }
+    ensures { PushesInTurn W.atomic (encoded (variant_head name.now))
+        (W.view writer.old) (W.view writer.new) result answer.old answer.new }
 {
     if has_large_error::<W>() {
         return push_variant_apart(writer, name, answer);
@@ -412,10 +355,8 @@ fn push_tuple_variant<W: Write>(
     len: usize,
     answer: &mut Result<(), EncodeError<W::Error>>,
 ) -> Option<()>
-    ensures writes { Serializes W.atomic (encoded (variant_head name.now ++ shortest_head 4 len))
-        (W.view writer.old) (W.view writer.new) (done_or_answer result answer.new) }
-    ensures failed { IfNone result (IsErr answer.new) }
-    ensures kept { IfSome result (λ _. answer.new ≡ answer.old) }
+    ensures { PushesInTurn W.atomic (encoded (variant_head name.now ++ shortest_head 4 len))
+        (W.view writer.old) (W.view writer.new) result answer.old answer.new }
 {
     push_variant(writer, name, answer)?;
     push_parts_head(writer, major::ARRAY, len, answer)
@@ -428,10 +369,8 @@ pub(crate) fn put_part<W: Write, T: Serialize>(
     value: &T,
     answer: &mut Result<(), EncodeError<W::Error>>,
 ) -> Option<()>
-    ensures writes { Serializes W.atomic (T.encoding value.now)
-        (output W.view ser.old) (output W.view ser.new) (done_or_answer result answer.new) }
-    ensures failed { IfNone result (IsErr answer.new) }
-    ensures kept { IfSome result (λ _. answer.new ≡ answer.old) }
+    ensures { PushesInTurn W.atomic (T.encoding value.now)
+        (output W.view ser.old) (output W.view ser.new) result answer.old answer.new }
 {
     match value.serialize(ser) {
         Ok(()) => Some(()),
@@ -450,10 +389,8 @@ pub(crate) fn put_both<W: Write, A: Serialize, B: Serialize>(
     second: &B,
     answer: &mut Result<(), EncodeError<W::Error>>,
 ) -> Option<()>
-    ensures writes { Serializes W.atomic (one_then (A.encoding first.now) (B.encoding second.now))
-        (output W.view ser.old) (output W.view ser.new) (done_or_answer result answer.new) }
-    ensures failed { IfNone result (IsErr answer.new) }
-    ensures kept { IfSome result (λ _. answer.new ≡ answer.old) }
+    ensures { PushesInTurn W.atomic (one_then (A.encoding first.now) (B.encoding second.now))
+        (output W.view ser.old) (output W.view ser.new) result answer.old answer.new }
 {
     put_value(ser, first, answer)?;
     put_value(ser, second, answer)
@@ -467,10 +404,8 @@ pub(crate) fn put_variant<W: Write, T: Serialize>(
     value: &T,
     answer: &mut Result<(), EncodeError<W::Error>>,
 ) -> Option<()>
-    ensures writes { Serializes W.atomic (variant_encoding name.now (T.encoding value.now))
-        (output W.view ser.old) (output W.view ser.new) (done_or_answer result answer.new) }
-    ensures failed { IfNone result (IsErr answer.new) }
-    ensures kept { IfSome result (λ _. answer.new ≡ answer.old) }
+    ensures { PushesInTurn W.atomic (variant_encoding name.now (T.encoding value.now))
+        (output W.view ser.old) (output W.view ser.new) result answer.old answer.new }
 {
     push_variant(&mut ser.writer, name, answer)?;
     put_value(ser, value, answer)
@@ -485,11 +420,9 @@ pub(crate) fn put_variant_of_two<W: Write, A: Serialize, B: Serialize>(
     second: &B,
     answer: &mut Result<(), EncodeError<W::Error>>,
 ) -> Option<()>
-    ensures writes { Serializes W.atomic (tuple_variant_encoding name.now
+    ensures { PushesInTurn W.atomic (tuple_variant_encoding name.now
         (A.encoding first.now ∷ B.encoding second.now ∷ []))
-        (output W.view ser.old) (output W.view ser.new) (done_or_answer result answer.new) }
-    ensures failed { IfNone result (IsErr answer.new) }
-    ensures kept { IfSome result (λ _. answer.new ≡ answer.old) }
+        (output W.view ser.old) (output W.view ser.new) result answer.old answer.new }
 {
     push_tuple_variant(&mut ser.writer, name, 2, answer)?;
     put_value(ser, first, answer)?;

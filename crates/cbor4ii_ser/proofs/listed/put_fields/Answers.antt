@@ -7,10 +7,10 @@ pub returns-in-Ok : goal.returns-in-Ok
 returns-in-Ok g c =
     serializes_as _ (counted g.K.Key.item (g.V.NestedFields.items c.args.fields
     (labels_of g.K.Key.label c.args.keys.now)) c.pair_count.result c.pair_count.ensures.counts)
-    (serializes_then _ _ c.serialize_pairs.result c.in-Ok.ensures c.serialize_pairs.ensures)
+    (serializes_then _ _ c.serialize_pairs.result c.in-Ok.ensures.writes c.serialize_pairs.ensures)
 
 pub returns : goal.returns
 returns g c =
     serializes_as _ (counted g.K.Key.item (g.V.NestedFields.items c.args.fields
     (labels_of g.K.Key.label c.args.keys.now)) c.pair_count.result c.pair_count.ensures.counts)
-    (serializes_err _ _ c.in-Err.ensures)
+    (serializes_err _ _ c.in-Err.ensures.writes)

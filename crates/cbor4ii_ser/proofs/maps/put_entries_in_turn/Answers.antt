@@ -2,7 +2,7 @@ use Rattle.std.proofs.Common.{◌≡◌, ◌++◌, ◌∷◌, [], None, rules, s
 use Rattle.cbor4ii_ser.specs.Item.{each_encoding, pair_encoding}
 use Rattle.cbor4ii_ser.specs.Laws.Joining.{serializes_then, serializes_as}
 use Rattle.cbor4ii_ser.specs.Laws.Joining.{items_turn, items_push}
-use Rattle.cbor4ii_ser.proofs.Failing.{failed_out}
+use Rattle.cbor4ii_ser.proofs.Pushing.{pushes_out, pushes_on, pushes_as}
 use Rattle.cbor4ii_ser.proofs.maps.put_entries_in_turn.Goals as goal
 
 pub loop-key-preserved : goal.loop-key-preserved
@@ -18,14 +18,13 @@ loop-key-preserved g c =
       c.in_ok-put_both.ensures.kept ∙ c.loop-key.invariant.3,
     )
 
-pub returns-in_err-put_both-clause-writes : goal.returns-in_err-put_both-clause-writes
-returns-in_err-put_both-clause-writes g c =
+pub returns-in_err-put_both : goal.returns-in_err-put_both
+returns-in_err-put_both g c =
     let item = pair_encoding g.K.Serialize.encoding g.V.Serialize.encoding in
     let done = c.loop-key.invariant.0 in
     let e : g.row.K.Denot × g.row.V.Denot = (c.in-Some.key.now, c.in-Some.value.now) in
     let all = c.loop-key.invariant.1 ∙ ap (λ z. done ++ z) c.in-Some.ensures.steps in
     let r : c.from_residual.result ≡ None = search rules in
-    serializes_as _ (items_turn item done e c.next.new.self ∙ sym (ap (each_encoding item) all))
-    (serializes_then _ _ _ c.loop-key.invariant.2 (failed_out
-    (each_encoding item c.next.new.self) _ _ r c.in_err-put_both.ensures.failed
-    c.in_err-put_both.ensures.writes))
+    pushes_as (items_turn item done e c.next.new.self ∙ sym (ap (each_encoding item) all))
+    (pushes_on _ c.loop-key.invariant.2 c.loop-key.invariant.3
+    (pushes_out (each_encoding item c.next.new.self) r c.in_err-put_both.ensures))

@@ -1,13 +1,11 @@
 use Rattle.std.proofs.Common.{◌≡◌, None, rules}
-use Rattle.cbor4ii_ser.specs.Laws.Joining.{serializes_both}
-use Rattle.cbor4ii_ser.proofs.Failing.{both_out}
+use Rattle.cbor4ii_ser.proofs.Pushing.{pushes_both, pushes_both_out}
 use Rattle.cbor4ii_ser.proofs.slot.push_variant.Goals as goal
 
-pub returns-clause-writes : goal.returns-clause-writes
-returns-clause-writes g c =
-    serializes_both _ c.in_ok-push_head.ensures.writes c.push_text.ensures.writes
+pub returns : goal.returns
+returns g c = pushes_both c.in_ok-push_head.ensures c.push_text.ensures
 
-pub returns-in_err-push_head-clause-writes : goal.returns-in_err-push_head-clause-writes
-returns-in_err-push_head-clause-writes g c =
+pub returns-in_err-push_head : goal.returns-in_err-push_head
+returns-in_err-push_head g c =
     let e : c.from_residual.result ≡ None = search rules in
-    both_out _ _ _ e c.in_err-push_head.ensures.failed c.in_err-push_head.ensures.writes
+    pushes_both_out _ e c.in_err-push_head.ensures

@@ -1,13 +1,11 @@
 use Rattle.std.proofs.Common.{◌≡◌, None, rules}
-use Rattle.cbor4ii_ser.specs.Laws.Joining.{serializes_then}
-use Rattle.cbor4ii_ser.proofs.Failing.{failed_out}
+use Rattle.cbor4ii_ser.proofs.Pushing.{pushes_then, pushes_out}
 use Rattle.cbor4ii_ser.proofs.slot.put_variant.Goals as goal
 
-pub returns-in_err-push_variant-clause-writes : goal.returns-in_err-push_variant-clause-writes
-returns-in_err-push_variant-clause-writes g c =
+pub returns-in_err-push_variant : goal.returns-in_err-push_variant
+returns-in_err-push_variant g c =
     let e : c.from_residual.result ≡ None = search rules in
-    failed_out _ _ _ e c.in_err-push_variant.ensures.failed c.in_err-push_variant.ensures.writes
+    pushes_out _ e c.in_err-push_variant.ensures
 
-pub returns-clause-writes : goal.returns-clause-writes
-returns-clause-writes g c =
-    serializes_then _ _ _ c.in_ok-push_variant.ensures.writes c.put_value.ensures.writes
+pub returns : goal.returns
+returns g c = pushes_then _ _ c.in_ok-push_variant.ensures c.put_value.ensures

@@ -1,22 +1,18 @@
 use Rattle.std.proofs.Common.{◌≡◌, None, rules}
-use Rattle.cbor4ii_ser.specs.Laws.Joining.{serializes_then, serializes_last}
-use Rattle.cbor4ii_ser.proofs.Failing.{failed_out}
+use Rattle.cbor4ii_ser.proofs.Pushing.{pushes_then, pushes_out, pushes_last}
 use Rattle.cbor4ii_ser.proofs.slot.put_variant_of_two.Goals as goal
 
-pub returns-in_err-push_tuple_variant-clause-writes : goal.returns-in_err-push_tuple_variant-clause-writes
-returns-in_err-push_tuple_variant-clause-writes g c =
+pub returns-in_err-push_tuple_variant : goal.returns-in_err-push_tuple_variant
+returns-in_err-push_tuple_variant g c =
     let e : c.from_residual.result ≡ None = search rules in
-    failed_out _ _ _ e c.in_err-push_tuple_variant.ensures.failed
-    c.in_err-push_tuple_variant.ensures.writes
+    pushes_out _ e c.in_err-push_tuple_variant.ensures
 
-pub returns-in_err-put_value-clause-writes : goal.returns-in_err-put_value-clause-writes
-returns-in_err-put_value-clause-writes g c =
+pub returns-in_err-put_value : goal.returns-in_err-put_value
+returns-in_err-put_value g c =
     let e : c.from_residual-in_err-put_value.result ≡ None = search rules in
-    serializes_then _ _ _ c.in_ok-push_tuple_variant.ensures.writes
-    (failed_out _ _ _ e c.in_err-put_value.ensures.failed c.in_err-put_value.ensures.writes)
+    pushes_then _ _ c.in_ok-push_tuple_variant.ensures (pushes_out _ e c.in_err-put_value.ensures)
 
-pub returns-clause-writes : goal.returns-clause-writes
-returns-clause-writes g c =
-    serializes_then _ _ _ c.in_ok-push_tuple_variant.ensures.writes
-    (serializes_then _ _ _ c.in_ok-put_value.ensures.writes
-    (serializes_last _ c.put_value-2.ensures.writes))
+pub returns : goal.returns
+returns g c =
+    pushes_then _ _ c.in_ok-push_tuple_variant.ensures
+    (pushes_then _ _ c.in_ok-put_value.ensures (pushes_last c.put_value-2.ensures))

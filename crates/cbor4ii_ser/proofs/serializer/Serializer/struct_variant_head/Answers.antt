@@ -8,4 +8,4 @@ returns-in_err-variant_head g c =
     rw (p.1, p.2) (serializes_both_err _ c.in_err-variant_head.ensures)
 
 pub returns : goal.returns
-returns g c = serializes_both _ c.in_ok-variant_head.ensures c.map_head.ensures
+returns g c = serializes_both _ c.in_ok-variant_head.ensures c.map_head.ensures.writes
