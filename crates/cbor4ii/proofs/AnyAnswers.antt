@@ -139,7 +139,7 @@ module _ {P : Type 0} (name : List ℕ) (major : ℕ) (reads : Reads P) (rejects
   place_in xs budget z ys (part_rejected e f some s) =
       let r = bound xs budget z ys s in (r.0, part_rejected e f some r.1)
 
-  inside_in : (xs : List ℕ) (budget : Option ℕ) (z : InputError) (ys : List ℕ)
+  pub inside_in : (xs : List ℕ) (budget : Option ℕ) (z : InputError) (ys : List ℕ)
       → RejectsInside name major reads rejects true xs budget z ys
       → (k : ℕ) × RejectsInside name major reads (to k) true xs budget z ys
   inside_in xs budget z ys (length_rejected e h) = (0, length_rejected e h)
@@ -378,7 +378,7 @@ bignum_err {a = a} d =
         rejects = λ z ys h. inl h;
         begins = λ z ys h. inl h;
       },
-    )) (λ owned. refl) (λ takes. refl) (of_exact d))
+    )) (λ owned. refl) (λ takes. takes) (of_exact d))
 
 -- an item that holds no other, by what it is
 pub leaf_is : {E : Type 0} {l k : AnyLeaf} {a b : View} {r : Result Value (DecodeError E)} → l ≡ k

@@ -272,7 +272,7 @@ module _ {V E : Type 0} (f : Fields V) {a m : View} where
 
 -- ---- which field has a key
 
-keys_split : (keys : List ℤ) (d : ℤ) → 1 ≤ length keys → key_labels keys
+pub keys_split : (keys : List ℤ) (d : ℤ) → 1 ≤ length keys → key_labels keys
     ≡ record { ref_ptr = (0, 0); now = integer_label (get_or keys 0 d) }
     ∷ key_labels (take (length keys - 1) (drop 1 keys))
 keys_split [] d some = absurd (omega (arith, some))

@@ -24,6 +24,7 @@ pub mod VariantsBack
 pub mod VariantsRead
 pub mod Beginnings
 pub mod AnyAnswers
+pub mod AnyOnce
 pub mod Named
 pub mod Filling
 pub mod Making
@@ -35,3 +36,4 @@ pub mod Apart
 pub mod Tags
 pub mod Keying
 pub mod KeyedFilling
+pub mod KeyMemory

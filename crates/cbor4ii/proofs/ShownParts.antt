@@ -1,6 +1,6 @@
 -- Parts that a look shows.
 use Rattle.std.proofs.Common.{◌≡◌, ℕ, ◌+◌, ◌-◌, ◌≤◌, List, [], ◌∷◌, ◌++◌, length, take, drop, Bool}
-use Rattle.std.proofs.Common.{true, false, Ok, IsTrue, refl, sym, ap, ◌∙◌, subst, arith, max}
+use Rattle.std.proofs.Common.{true, false, IsTrue, refl, sym, ap, ◌∙◌, subst, arith, max}
 use Rattle.std.proofs.Common.{Some, ◌≢◌, inl, inr, append_assoc, length-append, get_or}
 use Rattle.std.specs.Prelude.{MatchBool}
 use Rattle.std.proofs.lemmas.List.{append-nil, length-drop, take_all, take-append-drop}

@@ -1,5 +1,5 @@
 -- What any item that is read as a value is encoded as, and its parts.
-use Rattle.std.specs.Prelude.{◌≡◌, List, ◌++◌, [], ◌∷◌, true, false, codes, Result, Ok, Err}
+use Rattle.std.specs.Prelude.{◌≡◌, List, ◌++◌, [], ◌∷◌, Bool, true, false, codes, Result, Ok, Err}
 use Rattle.std.specs.declared.alloc.Global.{Global}
 use Rattle.std.specs.declared.vec.Vec.{Vec}
 use Rattle.cbor4ii_rw.specs.View.{View}
@@ -9,6 +9,9 @@ use Rattle.cbor4ii_items.specs.Sequences.{inside_format, pair_format}
 use Rattle.cbor4ii_tree.specs.declared.value.Value.{Value}
 use Rattle.cbor4ii.specs.declared.serde.de.any_leaf.AnyKind.{AnyKind}
 use Rattle.cbor4ii.specs.declared.serde.de.any_leaf.AnyLeaf.{AnyLeaf}
+use Rattle.cbor4ii.specs.declared.serde.de.any_leaf.AnyLeaf.TheVariants.{Integer, Bignum, Bytes}
+use Rattle.cbor4ii.specs.declared.serde.de.any_leaf.AnyLeaf.TheVariants.{Text, Bool as Logical, Null}
+use Rattle.cbor4ii.specs.declared.serde.de.any_leaf.AnyLeaf.TheVariants.{F16, F32, F64}
 use Rattle.cbor4ii.specs.Any.{Formed, KindAs, LeafAs, AnyInside, ReadsAny, SameView}
 use Rattle.cbor4ii.specs.AnyRejects.{KindRejects, LeafRejects, AnyRejects, RejectsAny}
 use Rattle.cbor4ii.specs.Stepped.{stepped_format}
@@ -38,8 +41,21 @@ formed_format form s = record {
   closed = false;
 }
 
+-- strings alone take memory
+abbrev pub leaf_takes_memory : AnyLeaf → Bool
+leaf_takes_memory Bytes = true
+leaf_takes_memory Text = true
+leaf_takes_memory Integer = false
+leaf_takes_memory Bignum = false
+leaf_takes_memory Logical = false
+leaf_takes_memory Null = false
+leaf_takes_memory F16 = false
+leaf_takes_memory F32 = false
+leaf_takes_memory F64 = false
+
 abbrev pub any_leaf : AnyLeaf → Format Value
-any_leaf leaf = typed_format (LeafAs leaf) SameView (LeafRejects leaf) true true
+any_leaf leaf =
+    typed_format (LeafAs leaf) SameView (LeafRejects leaf) true (leaf_takes_memory leaf)
 
 -- the values of an array whose step was taken, and under it
 abbrev pub values_inside : Format (Vec Value Global)

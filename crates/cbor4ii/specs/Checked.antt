@@ -1,6 +1,6 @@
 -- Values that are made of other values by a test, or rejected in its words.
 use Rattle.std.proofs.Common.{◌≡◌, ◌⊎◌, ℕ, List, drop, Option, None, Some, Result, Ok, Err, Bool}
-use Rattle.std.proofs.Common.{IsTrue, true, false, refl}
+use Rattle.std.proofs.Common.{IsTrue, true, false, refl, ap, subst}
 use Rattle.std.specs.Prelude.{◌||◌}
 use Rattle.cbor4ii_items.specs.Decoding.{Reads, RejectsAt, IsLawful, Format}
 use Rattle.cbor4ii_items.specs.Budget.{CostFits}
@@ -97,11 +97,19 @@ pub record StandsChecked {V W : Type 0} (words : V → Option (List ℕ)) (of : 
   pub held : stands (of w)
   pub passes : words (of w) ≡ None
 
--- `of` is the value that it holds, and the test takes no memory. What is written is that value's
--- item, and it is read back where the test passes.
+-- a value, and a proof of a fact of it that has one proof at most: of one value one is made
+pub made_alike : {V W : Type 0} {P : V → Type 0} (make : (v : V) → P v → W)
+    → ((v : V) → IsProp (P v)) → (v w : V) (p : P v) (q : P w) → v ≡ w → make v p ≡ make w q
+made_alike {P = P} make one v w p q same =
+    subst (λ u. (r : P u) → make v p ≡ make u r) same (λ r. ap (make v) (one v p r)) q
+
+-- `of` is the value that it holds, and all that it holds: two that hold one value are equal. The
+-- test takes no memory. What is written is that value's item, and it is read back where the test
+-- passes.
 -- How a newtype with a test, and its like, is written and read.
-abbrev pub checked_codec : {V W : Type 0} → (V → Option (List ℕ)) → (W → V) → Codec V → Codec W
-checked_codec words of c = record {
+abbrev pub checked_codec : {V W : Type 0} → (V → Option (List ℕ)) → (of : W → V)
+    → ((v w : W) → of v ≡ of w → v ≡ w) → Codec V → Codec W
+checked_codec words of all c = record {
   promise = checked_from words (λ v w. v ≡ of w) false c.promise;
   encoding = λ w. c.encoding (of w);
   stands = StandsChecked words of c.stands;

@@ -350,15 +350,16 @@ made_back reads gives (encoded bytes) v w cost made back =
     λ rest. record { part = v; read = back rest; made = made }
 
 -- a newtype and its like: `of` is the value that it holds
-abbrev pub codec_of : {V W : Type 0} → (W → V) → Codec V → Codec W
-codec_of of c = record {
-  promise = made_from (λ v w. v ≡ of w) c.promise;
+abbrev pub codec_of : {V W : Type 0} (of : W → V) (make : V → W) → ((w : W) → w ≡ make (of w))
+    → Codec V → Codec W
+codec_of of make whole c = record {
+  promise = made_from (λ v w. w ≡ make v) c.promise;
   encoding = λ w. c.encoding (of w);
   stands = λ w. c.stands (of w);
   cost = λ w. c.cost (of w);
   facts = c.facts;
-  back = λ hold alloc w h. made_back c.promise.format.reads (λ v w. v ≡ of w) (c.encoding (of w))
+  back = λ hold alloc w h. made_back c.promise.format.reads (λ v w. w ≡ make v) (c.encoding (of w))
       (of w) w
-      (c.cost (of w)) refl (c.back hold alloc (of w) h);
+      (c.cost (of w)) (whole w) (c.back hold alloc (of w) h);
   one = λ hold w. c.one hold (of w);
 }

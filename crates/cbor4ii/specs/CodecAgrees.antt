@@ -1,9 +1,9 @@
 -- That a type is written and read as its codec says, and what of it is known where the type is a
 -- type parameter.
 use Rattle.std.proofs.Common.{◌≡◌, ◌∙◌, ℕ, List, [], ◌∷◌, ◌++◌, length, drop, None, Some, Bool}
-use Rattle.std.proofs.Common.{true, inl, inr, refl, sym, ap, subst}
+use Rattle.std.proofs.Common.{true, false, inl, inr, refl, sym, ap, subst}
 use Rattle.std.proofs.Math.Path.{fun_ext}
-use Rattle.std.specs.Prelude.{◌&&◌}
+use Rattle.std.specs.Prelude.{◌&&◌, IsTrue}
 use Rattle.std.specs.declared.alloc.Global.{Global}
 use Rattle.std.specs.declared.cmp.Ordering.{Ordering}
 use Rattle.cbor4ii_items.specs.Containers.{ReadsOption}
@@ -19,7 +19,7 @@ use Rattle.cbor4ii.specs.Codec.{triple_codec}
 use Rattle.cbor4ii.specs.ReadBack.{IsReadBack}
 use Rattle.cbor4ii.specs.Stepped.{Stepped}
 use Rattle.cbor4ii.specs.Tuples.{ReadsAfter, ReadsTriple}
-use Rattle.cbor4ii.specs.Typed.{Promise}
+use Rattle.cbor4ii.specs.Typed.{Promise, not_exact}
 use Rattle.cbor4ii.specs.TypedParts.{typed_option, typed_vector, typed_box, typed_pair}
 use Rattle.cbor4ii.specs.TypedParts.{typed_triple, typed_map}
 
@@ -40,16 +40,19 @@ pub record AgreesWith {T : Type 0} (promise : Promise T) (encoding : T → Encod
   pub reads : AlsoReads c.promise.format.reads promise.format.reads
   -- what is accepted is exact where the codec says so
   pub exact : promise.exact ≡ c.promise.exact
+  -- and it is
+  pub is : IsTrue promise.exact
 
 -- a type whose promise and whose encoding are its codec's, where that stands on facts that hold
-abbrev pub as_described : {T : Type 0} {c : Codec T} → Hold c.facts
+abbrev pub as_described : {T : Type 0} {c : Codec T} → Hold c.facts → IsTrue c.promise.exact
     → AgreesWith c.promise c.encoding c
-as_described hold = record {
+as_described hold is = record {
   facts = hold;
   written = λ v. refl;
   read = λ xs v n k h. h;
   reads = λ xs v n k h. h;
   exact = refl;
+  is = is;
 }
 
 -- ---- it is read back, and one item
@@ -178,6 +181,11 @@ after_also count first second also xs v n c r = (
 both_exact : {a b c d : Bool} → a ≡ c → b ≡ d → (a && b) ≡ (c && d)
 both_exact {a = a} {d = d} p q = ap (λ y. a && y) q ∙ ap (λ x. x && d) p
 
+pub both_are : {a b : Bool} → IsTrue a → IsTrue b → IsTrue (a && b)
+both_are {a = true} {b = true} p q = refl
+both_are {a = false} p q = not_exact p
+both_are {a = true} {b = false} p q = not_exact q
+
 module _ {T : Type 0} {promise : Promise T} {encoding : T → Encoding} {c : Codec T}
     (agrees : AgreesWith promise encoding c) where
   same_encoding : encoding ≡ c.encoding
@@ -190,6 +198,7 @@ module _ {T : Type 0} {promise : Promise T} {encoding : T → Encoding} {c : Cod
     read = option_also promise.format.reads c.promise.format.reads agrees.read;
     reads = option_also c.promise.format.reads promise.format.reads agrees.reads;
     exact = agrees.exact;
+    is = agrees.is;
   }
 
   pub box_agrees : AgreesWith (typed_box promise) (λ b. encoding b.value) (box_codec c)
@@ -199,6 +208,7 @@ module _ {T : Type 0} {promise : Promise T} {encoding : T → Encoding} {c : Cod
     read = λ xs b. agrees.read xs b.value;
     reads = λ xs b. agrees.reads xs b.value;
     exact = agrees.exact;
+    is = agrees.is;
   }
 
   pub vector_agrees : AgreesWith (typed_vector promise) (λ v. array_encoding encoding v.items)
@@ -219,6 +229,7 @@ module _ {T : Type 0} {promise : Promise T} {encoding : T → Encoding} {c : Cod
       r.2,
     );
     exact = agrees.exact;
+    is = agrees.is;
   }
 
 module _ {A B : Type 0} {first : Promise A} {second : Promise B} {one : A → Encoding}
@@ -239,6 +250,7 @@ module _ {A B : Type 0} {first : Promise A} {second : Promise B} {one : A → En
         (pair_also a.promise.format.reads first.format.reads b.promise.format.reads
         second.format.reads left.reads right.reads);
     exact = both_exact left.exact right.exact;
+    is = both_are left.is right.is;
   }
 
   -- a map agrees with its codec, where its keys and its values agree with theirs
@@ -277,6 +289,7 @@ module _ {A B : Type 0} {first : Promise A} {second : Promise B} {one : A → En
       r.2,
     );
     exact = both_exact left.exact right.exact;
+    is = both_are left.is right.is;
   }
 
 module _ {A B C : Type 0} {first : Promise A} {second : Promise B} {third : Promise C}
@@ -304,4 +317,5 @@ module _ {A B C : Type 0} {first : Promise A} {second : Promise B} {third : Prom
         second.format.reads c.promise.format.reads third.format.reads left.reads middle.reads
         right.reads);
     exact = both_exact left.exact (both_exact middle.exact right.exact);
+    is = both_are left.is (both_are middle.is right.is);
   }

@@ -279,15 +279,16 @@ case_is_back alloc cases names encoding v cost b = elim b.back [
 ]
 
 -- an enum of these variants; `choice` is the one that a value is of
-abbrev pub enum_codec : {R V : Type 0} (choice : R → V) → CaseCodecs V → Codec R
-enum_codec choice vs = record {
-  promise = made_from (λ v r. v ≡ choice r) (enum_of vs.cases);
+abbrev pub enum_codec : {R V : Type 0} (choice : R → V) (make : V → R)
+    → ((r : R) → r ≡ make (choice r)) → CaseCodecs V → Codec R
+enum_codec choice make whole vs = record {
+  promise = made_from (λ v r. r ≡ make v) (enum_of vs.cases);
   encoding = λ r. vs.encoding (choice r);
   stands = λ r. vs.stands (choice r);
   cost = λ r. 1 + vs.cost (choice r);
   facts = vs.facts;
-  back = λ hold alloc r h. made_back (Stepped (ReadsCase vs.cases)) (λ v r. v ≡ choice r)
-      (vs.encoding (choice r)) (choice r) r (1 + vs.cost (choice r)) refl
+  back = λ hold alloc r h. made_back (Stepped (ReadsCase vs.cases)) (λ v r. r ≡ make v)
+      (vs.encoding (choice r)) (choice r) r (1 + vs.cost (choice r)) (whole r)
       (case_is_back alloc vs.cases vs.names (vs.encoding (choice r)) (choice r) (vs.cost (choice r))
       (vs.back hold alloc (choice r) h));
   one = λ hold r. vs.one hold (choice r);

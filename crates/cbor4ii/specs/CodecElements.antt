@@ -87,25 +87,27 @@ module _ {V : Type 0} (p : ElementCodecs V) (few : p.elements.count < 2 ^ 64) wh
   array_is_one hold v h =
       tuple_is_item canonical (p.items v) (omega (arith, p.counts v, few)) (p.one hold v h)
 
-pub elements_are_back : {R V : Type 0} (values : R → V) (p : ElementCodecs V)
+pub elements_are_back : {R V : Type 0} (values : R → V) (make : V → R)
+    → ((r : R) → r ≡ make (values r)) → (p : ElementCodecs V)
     → p.elements.count < 2 ^ 64 → Hold p.facts → (alloc : Global) (r : R) → p.stands (values r)
     → IsReadBack
-    (made_from (λ (v : V) (r : R). v ≡ values r) (typed_elements p.elements)).format.reads
+    (made_from (λ (v : V) (r : R). r ≡ make v) (typed_elements p.elements)).format.reads
     (tuple_encoding (p.items (values r))) r (1 + p.cost (values r))
-elements_are_back {R = R} {V = V} values p few hold alloc r h =
+elements_are_back {R = R} {V = V} values make whole p few hold alloc r h =
     let v = values r in
-    made_back (typed_elements p.elements).format.reads (λ (v : V) (r : R). v ≡ values r)
-    (tuple_encoding (p.items v)) v r (1 + p.cost v) refl (array_is_back p few hold alloc v h)
+    made_back (typed_elements p.elements).format.reads (λ (v : V) (r : R). r ≡ make v)
+    (tuple_encoding (p.items v)) v r (1 + p.cost v) (whole r) (array_is_back p few hold alloc v h)
 
 -- a struct that is an array of these elements, which has these values of them
-abbrev pub elements_codec : {R V : Type 0} (values : R → V) (p : ElementCodecs V)
+abbrev pub elements_codec : {R V : Type 0} (values : R → V) (make : V → R)
+    → ((r : R) → r ≡ make (values r)) → (p : ElementCodecs V)
     → IsTrue (ltb p.elements.count (2 ^ 64)) → Codec R
-elements_codec values p few = record {
-  promise = made_from (λ v r. v ≡ values r) (typed_elements p.elements);
+elements_codec values make whole p few = record {
+  promise = made_from (λ v r. r ≡ make v) (typed_elements p.elements);
   encoding = λ r. tuple_encoding (p.items (values r));
   stands = λ r. p.stands (values r);
   cost = λ r. 1 + p.cost (values r);
   facts = p.facts;
-  back = elements_are_back values p (ltb-true p.elements.count (2 ^ 64) few);
+  back = elements_are_back values make whole p (ltb-true p.elements.count (2 ^ 64) few);
   one = λ hold r. array_is_one p (ltb-true p.elements.count (2 ^ 64) few) hold (values r);
 }

@@ -24,7 +24,6 @@ use Rattle.cbor4ii.specs.Places.{Place, last_place, only_place, put_last}
 use Rattle.cbor4ii.specs.Presence.{Shape, no_more_fields, shaped_field, or_words, or_value}
 use Rattle.cbor4ii.specs.Presence.{once_or_words, optional_field}
 use Rattle.cbor4ii.specs.Presence.{both_or_words, struct_from}
-use Rattle.cbor4ii.specs.Structs.{struct_of}
 use Rattle.cbor4ii.specs.declared.serde.de.place.Single.{Single}
 use Rattle.cbor4ii.specs.ReadBack.{IsReadBack, IsName, NamedItems, fields_of, FieldsBack}
 
@@ -273,39 +272,27 @@ module _ {V W : Type 0} (p : FieldCodecs V W) (few : length p.names < 256) where
     one = fields_are_one;
   }
 
-pub struct_is_back : {R V W : Type 0} (values : R → W) (p : FieldCodecs V W) → length p.names < 256
+pub struct_is_back : {R V W : Type 0} (values : R → W) (make : W → R)
+    → ((r : R) → r ≡ make (values r)) → (p : FieldCodecs V W) → length p.names < 256
     → Hold p.facts → (alloc : Global) (r : R) → p.stands (values r)
-    → IsReadBack (made_from (λ (w : W) (r : R). w ≡ values r) (struct_from p.shape)).format.reads
+    → IsReadBack (made_from (λ (w : W) (r : R). r ≡ make w) (struct_from p.shape)).format.reads
     (struct_encoding (fields_of (p.items (values r)))) r (1 + p.cost (values r))
-struct_is_back {R = R} {W = W} values p few hold alloc r h =
+struct_is_back {R = R} {W = W} values make whole p few hold alloc r h =
     let w = values r in
-    made_back (struct_from p.shape).format.reads (λ (w : W) (r : R). w ≡ values r)
-    (struct_encoding (fields_of (p.items w))) w r (1 + p.cost w) refl
+    made_back (struct_from p.shape).format.reads (λ (w : W) (r : R). r ≡ make w)
+    (struct_encoding (fields_of (p.items w))) w r (1 + p.cost w) (whole r)
     (values_are_back p few hold alloc w h)
 
 -- a struct that has these values of its fields, fewer than 256
-abbrev pub struct_codec : {R V W : Type 0} (values : R → W) (p : FieldCodecs V W)
+abbrev pub struct_codec : {R V W : Type 0} (values : R → W) (make : W → R)
+    → ((r : R) → r ≡ make (values r)) → (p : FieldCodecs V W)
     → IsTrue (ltb (length p.names) 256) → Codec R
-struct_codec values p few = record {
-  promise = made_from (λ w r. w ≡ values r) (struct_from p.shape);
+struct_codec values make whole p few = record {
+  promise = made_from (λ w r. r ≡ make w) (struct_from p.shape);
   encoding = λ r. struct_encoding (fields_of (p.items (values r)));
   stands = λ r. p.stands (values r);
   cost = λ r. 1 + p.cost (values r);
   facts = p.facts;
-  back = struct_is_back values p (ltb-true (length p.names) 256 few);
-  one = λ hold r. fields_are_one p (ltb-true (length p.names) 256 few) hold (values r);
-}
-
--- a struct whose call answers the values of its fields as they are held, each of them there
-abbrev pub fields_codec : {R V W : Type 0} (values : R → W) (p : FieldCodecs V W)
-    → IsTrue (ltb (length p.names) 256) → Codec R
-fields_codec values p few = record {
-  promise = struct_of (λ r. p.held (values r)) p.shape.fields;
-  encoding = λ r. struct_encoding (fields_of (p.items (values r)));
-  stands = λ r. p.stands (values r);
-  cost = λ r. 1 + p.cost (values r);
-  facts = p.facts;
-  back = λ hold alloc r.
-      fields_are_back p (ltb-true (length p.names) 256 few) hold alloc (values r);
+  back = struct_is_back values make whole p (ltb-true (length p.names) 256 few);
   one = λ hold r. fields_are_one p (ltb-true (length p.names) 256 few) hold (values r);
 }

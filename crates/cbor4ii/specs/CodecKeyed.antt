@@ -358,15 +358,16 @@ module _ {T V W : Type 0} (key : ℤ) (c : Codec T) (others : KeyCodecs V W)
 
 -- ---- whole structs
 
-module _ {R V W : Type 0} (values : R → W) (p : KeyCodecs V W) (few : length p.labels < 256) where
+module _ {R V W : Type 0} (values : R → W) (make : W → R) (whole : (r : R) → r ≡ make (values r))
+    (p : KeyCodecs V W) (few : length p.labels < 256) where
   pub keyed_is_back : Hold p.facts → (alloc : Global) (r : R) → p.stands (values r)
-      → IsReadBack (made_from (λ (w : W) (r : R). w ≡ values r) (keyed_from p.shape)).format.reads
+      → IsReadBack (made_from (λ (w : W) (r : R). r ≡ make w) (keyed_from p.shape)).format.reads
       (keyed_encoding integer_item (p.items (values r))) r (1 + p.cost (values r))
   keyed_is_back hold alloc r h =
       let w = values r in
       let item = keyed_encoding integer_item (p.items w) in
-      made_back (keyed_from p.shape).format.reads (λ (w : W) (r : R). w ≡ values r) item w r
-      (1 + p.cost w) refl
+      made_back (keyed_from p.shape).format.reads (λ (w : W) (r : R). r ≡ make w) item w r
+      (1 + p.cost w) (whole r)
       (made_back (ReadsKeyedFields p.shape.fields.first p.shape.fields.named)
       (gives_ok p.shape.value) item (p.held w) w (1 + p.cost w) (p.made w)
       (keyed_struct_back p.shape.fields.named p.shape.fields.first (p.held w) (p.items w)
@@ -380,14 +381,15 @@ module _ {R V W : Type 0} (values : R → W) (p : KeyCodecs V W) (few : length p
       (omega (arith, keyed_count (p.items w), p.few w, few)) (p.pairs hold w h)
 
 -- a struct that has these values of its fields, fewer than 256
-abbrev pub keyed_codec : {R V W : Type 0} (values : R → W) (p : KeyCodecs V W)
+abbrev pub keyed_codec : {R V W : Type 0} (values : R → W) (make : W → R)
+    → ((r : R) → r ≡ make (values r)) → (p : KeyCodecs V W)
     → IsTrue (ltb (length p.labels) 256) → Codec R
-keyed_codec values p few = record {
-  promise = made_from (λ w r. w ≡ values r) (keyed_from p.shape);
+keyed_codec values make whole p few = record {
+  promise = made_from (λ w r. r ≡ make w) (keyed_from p.shape);
   encoding = λ r. keyed_encoding integer_item (p.items (values r));
   stands = λ r. p.stands (values r);
   cost = λ r. 1 + p.cost (values r);
   facts = p.facts;
-  back = keyed_is_back values p (ltb-true (length p.labels) 256 few);
-  one = keyed_is_one values p (ltb-true (length p.labels) 256 few);
+  back = keyed_is_back values make whole p (ltb-true (length p.labels) 256 few);
+  one = keyed_is_one values make whole p (ltb-true (length p.labels) 256 few);
 }

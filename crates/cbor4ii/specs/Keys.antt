@@ -1,13 +1,15 @@
 -- Keys that are integers, among others that are texts, and fields that they name.
 use Rattle.std.proofs.Common.{◌≡◌, ◌/◌, ℕ, ℤ, List, [], ◌∷◌, Option, None, Some, Bool, true, false}
 use Rattle.std.proofs.Common.{◌≤◌, length, IsTrue, refl, sym, ap, ◌∙◌, subst, drop}
-use Rattle.std.specs.Prelude.{◌⊎◌, codes, nat_eq}
+use Rattle.std.specs.Prelude.{◌⊎◌, codes, nat_eq, IfErr}
 use Rattle.std.specs.declared.alloc.Global.{Global}
 use Rattle.std.specs.declared.string.String.{String}
 use denote.Ref.{Bor}
+use Rattle.cbor4ii_rw.specs.View.{View, IfKnown}
+use Rattle.cbor4ii_rw.specs.declared.error.DecodeError.{DecodeError}
 use Rattle.cbor4ii_items.specs.Budget.{CostFits}
 use Rattle.cbor4ii_items.specs.Decoding.{Reads, RejectsAt, Format, IsLawful}
-use Rattle.cbor4ii_items.specs.InputError.{InputError}
+use Rattle.cbor4ii_items.specs.InputError.{InputError, is_out_of_memory}
 use Rattle.cbor4ii_items.specs.Laws.Bignums.{i128_one, i128_within, i128_positive}
 use Rattle.cbor4ii_items.specs.Laws.Formats.{lawful_by}
 use Rattle.cbor4ii_items.specs.Laws.Sequences.{sequence_one, sequence_within, sequence_positive}
@@ -74,6 +76,19 @@ key_labels (key ∷ keys) = record { ref_ptr = (0, 0); now = integer_label key }
 abbrev pub as_key : {V E : Type 0} → Result V E → Result (Option V) E
 as_key (Ok v) = Ok (Some v)
 as_key (Err e) = Err e
+
+-- ---- memory
+
+-- a text begins somewhere in what comes
+abbrev pub TextComes : View → Type 0
+TextComes view = IfKnown view.known (λ xs. (n : ℕ) × (begins_text (drop n xs) ≡ true))
+
+-- Memory is wanted by a field that takes some, or where a text comes, which may be a key; and
+-- nowhere else.
+abbrev pub WantsByKeys : {V E : Type 0} → (takes_memory : Bool) → View → Result V (DecodeError E)
+    → Type 0
+WantsByKeys takes_memory old answer = IfErr answer
+    (λ error. IsTrue (is_out_of_memory error) → IsTrue takes_memory ⊎ TextComes old)
 
 -- ---- its laws
 

@@ -10,3 +10,10 @@ pub mod Shown
 pub mod StructsBack
 pub mod ValuesBack
 pub mod Variants
+pub mod TypedOnce
+pub mod StructsOnce
+pub mod EnumsOnce
+pub mod KeyedOnce
+pub mod ItemsOnce
+pub mod CharacterOnce
+pub mod Alike

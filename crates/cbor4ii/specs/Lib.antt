@@ -43,5 +43,6 @@ pub mod CodecItems
 pub mod CodecKeyed
 pub mod Held
 pub mod CodecShown
+pub mod Once
 -- ---- laws
 pub mod Laws

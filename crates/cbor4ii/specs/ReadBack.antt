@@ -1,10 +1,14 @@
 -- What is written of a typed value is read back.
 use Rattle.std.specs.Prelude.{◌≡◌, ◌≢◌, ◌⊎◌, ℕ, ◌<◌, ◌^◌, List, [], ◌∷◌, length, max, IsUtf8, refl}
+use Rattle.std.specs.Prelude.{None, Some, Result, Ok, Err}
 use Rattle.std.proofs.Common.{arith}
 use Rattle.std.specs.declared.alloc.Global.{Global}
 use Rattle.std.specs.declared.string.String.{String}
 use denote.RawPtr.{null_ptr}
-use Rattle.cbor4ii_items.specs.Decoding.{Reads}
+use Rattle.cbor4ii_rw.specs.View.{View}
+use Rattle.cbor4ii_rw.specs.declared.error.DecodeError.{DecodeError}
+use Rattle.cbor4ii_items.specs.Decoding.{Reads, Format}
+use Rattle.cbor4ii_items.specs.InputError.{input_error_of}
 use Rattle.cbor4ii_items.specs.ReadBack.{ReadsBack}
 use Rattle.cbor4ii_ser.specs.Item.{Encoding, encoded, IfEncoded}
 pub use Rattle.cbor4ii_ser.specs.Listed.{NamedItems, fields_of}
@@ -22,6 +26,13 @@ BeginsOther item =
 -- the item is null or undefined (RFC 8949 section 3.3)
 abbrev pub IsNullItem : Encoding → Type 0
 IsNullItem item = (item ≡ encoded (0xf6 ∷ [])) ⊎ (item ≡ encoded (0xf7 ∷ []))
+
+-- What a call answers where bytes that stand for this value come first, and then others: a value
+-- that means the same, and the others are left; or the reader failed, or memory was refused.
+abbrev pub AnswersBack : {V E : Type 0} → Format V → V → (others : List ℕ) → View
+    → Result V (DecodeError E) → Type 0
+AnswersBack format v others new (Ok w) = format.same v w × (new.known ≡ Some others)
+AnswersBack format v others new (Err error) = input_error_of error ≡ None
 
 -- ---- structs
 

@@ -1,5 +1,5 @@
 -- What a struct that is read from its named fields promises, by what its fields do.
-use Rattle.std.specs.Prelude.{List, [], ◌∷◌, ℕ, ◌&&◌, Bool, true, IsTrue, refl, codes}
+use Rattle.std.specs.Prelude.{List, [], ◌∷◌, ℕ, ◌&&◌, ◌||◌, Bool, true, false, IsTrue, refl, codes}
 use denote.Ref.{Bor}
 use Rattle.cbor4ii_items.specs.Decoding.{Format, IsLawful, format_by}
 use Rattle.cbor4ii_items.specs.Sequences.{SamePair, in_list}
@@ -25,6 +25,8 @@ pub record Fields (V : Type 0) : Type 1 where
   -- the values of no pair
   pub first : V
   pub owned : Bool
+  -- the value of a field takes memory
+  pub takes_memory : Bool
   pub exact : Bool
   pub alike : same first first
   pub laws : IsTrue exact → NamedLaws same named
@@ -38,6 +40,7 @@ no_more = record {
   same = any_two;
   first = no_values;
   owned = true;
+  takes_memory = false;
   exact = true;
   alike = tt;
   laws = λ is. no_field_laws any_two;
@@ -53,6 +56,7 @@ placed_field place name p others = record {
   same = SamePair (place.same p.format.same) others.same;
   first = (place.none, others.first);
   owned = p.format.owned && others.owned;
+  takes_memory = p.format.takes_memory || others.takes_memory;
   exact = p.exact && others.exact;
   alike = (place.none_same p.format.same, others.alike);
   laws = λ is. (let h = both p.exact others.exact is in
@@ -68,6 +72,7 @@ unnamed_field place p others = record {
   same = SamePair (place.same p.format.same) others.same;
   first = (place.none, others.first);
   owned = p.format.owned && others.owned;
+  takes_memory = p.format.takes_memory || others.takes_memory;
   exact = p.exact && others.exact;
   alike = (place.none_same p.format.same, others.alike);
   laws = λ is. no_field_laws (SamePair (place.same p.format.same) others.same);

@@ -32,4 +32,6 @@ pub use de::place::{Place, Single};
 pub use de::presence::{Once, Optional, Or, Presence, Presences, Required};
 pub use de::some_accessor::SomeAccessor;
 pub use de::variant_fields::{FieldWords, HoldsFields};
-pub use described::{AsDescribed, Described, described_values_are_read_back};
+pub use described::{
+    AsDescribed, Described, described_values_are_answered, described_values_are_read_back,
+};

@@ -1,6 +1,6 @@
 -- What is written as an item of the tree is read back as a value that is this item.
-use Rattle.std.proofs.Common.{◌≡◌, ◌∙◌, ℕ, suc, ◌<◌, ◌^◌, ℤ, pos, negsuc, List, [], ◌∷◌, ◌++◌}
-use Rattle.std.proofs.Common.{length, map, Bool, true, false, ◌||◌, ltb, refl, sym, ap, ap₂, subst}
+use Rattle.std.proofs.Common.{◌≡◌, ◌∙◌, ℕ, suc, ◌<◌, ◌^◌, pos, List, [], ◌∷◌, ◌++◌}
+use Rattle.std.proofs.Common.{length, map, Bool, false, ◌||◌, ltb, refl, sym, ap, ap₂, subst}
 use Rattle.std.proofs.Common.{arith, rules, append_assoc, IsTrue}
 use Rattle.std.proofs.lemmas.Bool.{lt-ltb}
 use Rattle.std.proofs.lemmas.List.{length-map}
@@ -10,12 +10,9 @@ use Rattle.std.specs.declared.alloc.Global.{Global}
 use Rattle.std.specs.declared.string.String.{String}
 use Rattle.std.specs.declared.vec.Vec.{Vec}
 use denote.RawPtr.{null_ptr}
-use Rattle.cbor4ii_items.specs.Floats.{float_bytes}
 use Rattle.cbor4ii_items.specs.Head.{head, shortest_width}
-use Rattle.cbor4ii_items.specs.Initial.{unsigned, negative, Precision, half, single, double}
-use Rattle.cbor4ii_items.specs.Initial.{precision_byte, precision_bytes}
-use Rattle.cbor4ii_items.specs.Numbers.{IsWithin, shortest_head, signed_head}
-use Rattle.cbor4ii_items.specs.Simple.{bool_byte}
+use Rattle.cbor4ii_items.specs.Initial.{unsigned, Precision, half, single, double}
+use Rattle.cbor4ii_items.specs.Numbers.{shortest_head}
 use Rattle.cbor4ii_items.specs.Strings.{definite_string}
 use Rattle.cbor4ii_tree.specs.Basis.Canonical.{canonical_encoding, canonical_trees, canonical_pairs}
 use Rattle.cbor4ii_tree.specs.Basis.Canonical.{bignum}
@@ -206,13 +203,6 @@ written_one encoding v h =
 
 -- ---- what is written as an item: items that hold no other
 
-pub null_as : IsWrittenAs (encoded (0xf6 ∷ [])) null
-null_as = record { held = tt; is = refl }
-
-pub bool_as : (b : Bool) → IsWrittenAs (encoded (bool_byte b ∷ [])) (boolean b)
-bool_as false = record { held = tt; is = refl }
-bool_as true = record { held = tt; is = refl }
-
 pub unsigned_as : (n : ℕ) → n < 2 ^ 64
     → IsWrittenAs (encoded (shortest_head 0 n)) (integer (pos n))
 unsigned_as n h = record {
@@ -221,23 +211,6 @@ unsigned_as n h = record {
       unsigned n)))
       (lt-ltb n (2 ^ 64) h));
 }
-
-pub signed_as : (z : ℤ) → IsWithin (2 ^ 64) z → IsWrittenAs (encoded (signed_head z)) (integer z)
-signed_as (pos n) h = unsigned_as n h
-signed_as (negsuc n) h = record {
-  held = omega (arith, h);
-  is = sym (ap (λ t. encoded (bytes (if t then int negative n (shortest_width n) else bignum
-      negative n)))
-      (lt-ltb n (2 ^ 64) h));
-}
-
-pub float_as : (p : Precision) (n : ℕ) → n < 256 ^ precision_bytes p
-    → IsWrittenAs (encoded (float_bytes (precision_byte p) (precision_bytes p) n)) (float p n)
-float_as p n h = record { held = h; is = refl }
-
-pub bytes_as : (v : Vec ℕ Global)
-    → IsWrittenAs (encoded (definite_string 2 v.items)) (bytes_item v.items)
-bytes_as v = record { held = omega (arith, v.ok.0, v.ok.1, v.small); is = refl }
 
 pub string_as : (s : String Global)
     → IsWrittenAs (encoded (definite_string 3 (string_bytes s))) (text (string_bytes s))

@@ -1,9 +1,13 @@
 //! Types that are described in one word: how they are written and read.
-ghost use Rattle.std.specs.Prelude.{◌<◌, ◌^◌, true, false};
-ghost use Rattle.std.proofs.Common.{lit≤};
+ghost use Rattle.std.specs.Prelude.{◌<◌, ◌^◌, true, false, ◌≡◌, ◌++◌, ℕ, List, Some, Result};
+ghost use Rattle.std.proofs.Common.{lit≤, refl};
 ghost use Rattle.std.specs.Char.{IsScalar};
 ghost use Rattle.std.specs.declared.alloc.Global.{Global};
+ghost use Rattle.cbor4ii_rw.specs.View.{View};
+ghost use Rattle.cbor4ii_rw.specs.declared.error.DecodeError.{DecodeError};
+ghost use Rattle.cbor4ii_items.specs.Budget.{CostFits};
 ghost use Rattle.cbor4ii_items.specs.Cow.{cow_text};
+ghost use Rattle.cbor4ii_items.specs.Decoding.{IsExact};
 ghost use Rattle.cbor4ii_items.specs.Head.{one, two, four, eight};
 ghost use Rattle.cbor4ii_items.specs.Initial.{half, single, double};
 ghost use Rattle.cbor4ii_items.specs.Lent.{lent_str, lent_bytes};
@@ -13,6 +17,7 @@ ghost use Rattle.cbor4ii_items.specs.Laws.NumbersBack.{argument_back, signed_bac
 ghost use Rattle.cbor4ii_items.specs.Laws.NumbersBack.{i128_back};
 ghost use Rattle.cbor4ii_tree.specs.Basis.Item.{IsItem};
 ghost use Rattle.cbor4ii_tree.specs.Basis.View.{view};
+ghost use Rattle.cbor4ii_ser.specs.Item.{encoded};
 ghost use Rattle.cbor4ii_ser.specs.OneItem.{IsOneItem, canonical};
 ghost use Rattle.cbor4ii_ser.specs.Laws.OneItem.{bool_is_item, unsigned_bytes_are_item};
 ghost use Rattle.cbor4ii_ser.specs.Laws.OneItem.{signed_bytes_are_item, float_is_item};
@@ -28,8 +33,8 @@ ghost use Rattle.cbor4ii.specs.Codec.{no_facts};
 ghost use Rattle.cbor4ii.specs.CodecAgrees.{AgreesWith, as_described, option_agrees, box_agrees};
 ghost use Rattle.cbor4ii.specs.CodecAgrees.{vector_agrees, pair_agrees, triple_agrees, map_agrees};
 ghost use Rattle.cbor4ii.specs.Laws.ValuesBack.{value_back};
-ghost use Rattle.cbor4ii.specs.ReadBack.{IsReadBack};
-ghost use Rattle.cbor4ii.specs.Typed.{not_exact};
+ghost use Rattle.cbor4ii.specs.ReadBack.{IsReadBack, AnswersBack};
+ghost use Rattle.cbor4ii.specs.Typed.{not_exact, Deserializes};
 
 use crate::serde::de::deserialize::Typed;
 use cbor4ii_items::types::{Bytes, F16, F32, F64};
@@ -48,7 +53,7 @@ pub trait Described: Sized {
 }
 
 /// A type that is written and read as it is described. No code runs for it. Of a type whose ghosts
-/// are its codec's the law is `as_described tt`.
+/// are its codec's the law is `as_described tt refl`.
 pub trait AsDescribed: Described + Serialize + Typed {
     // What it writes is the codec's item, what it reads is what the codec reads, and it is exact
     // where the codec is.
@@ -66,6 +71,17 @@ pub fn described_values_are_read_back<T: AsDescribed>()
     ensures agrees { AgreesWith T.promise T.encoding T.codec }
 {}
 
+/// Where bytes are what is written of a value of such a type, with others after them, each call
+/// that reads the type answers a value that means the same, and leaves the others. So it is over
+/// every reader whose budget has the cost, but where the reader failed or memory was refused.
+pub fn described_values_are_answered<T: AsDescribed, E>()
+    ensures { (alloc : Global) (v : T) (bytes others : List ℕ) (old new : View)
+        (answer : Result T (DecodeError E)) → T.codec.stands v → T.encoding v ≡ encoded bytes →
+        old.known ≡ Some (bytes ++ others) → IsExact T.promise.format.owned old →
+        CostFits (T.codec.cost v) old.budget → Deserializes T.promise old new answer →
+        AnswersBack T.promise.format v others new answer }
+{}
+
 impl Described for u8 {
     ghost codec = { leaf_codec ⟦<u8 as Typed>⟧.promise ⟦<u8 as Serialize>⟧.encoding
         (λ v. v < 2 ^ 8) (argument_back 0 one)
@@ -73,7 +89,7 @@ impl Described for u8 {
 }
 
 impl AsDescribed for u8 {
-    ghost agrees = { as_described tt };
+    ghost agrees = { as_described tt refl };
 }
 
 impl Described for u16 {
@@ -83,7 +99,7 @@ impl Described for u16 {
 }
 
 impl AsDescribed for u16 {
-    ghost agrees = { as_described tt };
+    ghost agrees = { as_described tt refl };
 }
 
 impl Described for u32 {
@@ -93,7 +109,7 @@ impl Described for u32 {
 }
 
 impl AsDescribed for u32 {
-    ghost agrees = { as_described tt };
+    ghost agrees = { as_described tt refl };
 }
 
 impl Described for u64 {
@@ -103,7 +119,7 @@ impl Described for u64 {
 }
 
 impl AsDescribed for u64 {
-    ghost agrees = { as_described tt };
+    ghost agrees = { as_described tt refl };
 }
 
 impl Described for u128 {
@@ -113,7 +129,7 @@ impl Described for u128 {
 }
 
 impl AsDescribed for u128 {
-    ghost agrees = { as_described tt };
+    ghost agrees = { as_described tt refl };
 }
 
 impl Described for i8 {
@@ -123,7 +139,7 @@ impl Described for i8 {
 }
 
 impl AsDescribed for i8 {
-    ghost agrees = { as_described tt };
+    ghost agrees = { as_described tt refl };
 }
 
 impl Described for i16 {
@@ -133,7 +149,7 @@ impl Described for i16 {
 }
 
 impl AsDescribed for i16 {
-    ghost agrees = { as_described tt };
+    ghost agrees = { as_described tt refl };
 }
 
 impl Described for i32 {
@@ -143,7 +159,7 @@ impl Described for i32 {
 }
 
 impl AsDescribed for i32 {
-    ghost agrees = { as_described tt };
+    ghost agrees = { as_described tt refl };
 }
 
 impl Described for i64 {
@@ -153,7 +169,7 @@ impl Described for i64 {
 }
 
 impl AsDescribed for i64 {
-    ghost agrees = { as_described tt };
+    ghost agrees = { as_described tt refl };
 }
 
 impl Described for i128 {
@@ -163,7 +179,7 @@ impl Described for i128 {
 }
 
 impl AsDescribed for i128 {
-    ghost agrees = { as_described tt };
+    ghost agrees = { as_described tt refl };
 }
 
 impl Described for F16 {
@@ -173,7 +189,7 @@ impl Described for F16 {
 }
 
 impl AsDescribed for F16 {
-    ghost agrees = { as_described tt };
+    ghost agrees = { as_described tt refl };
 }
 
 impl Described for F32 {
@@ -183,7 +199,7 @@ impl Described for F32 {
 }
 
 impl AsDescribed for F32 {
-    ghost agrees = { as_described tt };
+    ghost agrees = { as_described tt refl };
 }
 
 impl Described for F64 {
@@ -193,7 +209,7 @@ impl Described for F64 {
 }
 
 impl AsDescribed for F64 {
-    ghost agrees = { as_described tt };
+    ghost agrees = { as_described tt refl };
 }
 
 impl Described for bool {
@@ -203,7 +219,7 @@ impl Described for bool {
 }
 
 impl AsDescribed for bool {
-    ghost agrees = { as_described tt };
+    ghost agrees = { as_described tt refl };
 }
 
 impl Described for char {
@@ -213,7 +229,7 @@ impl Described for char {
 }
 
 impl AsDescribed for char {
-    ghost agrees = { as_described tt };
+    ghost agrees = { as_described tt refl };
 }
 
 impl<'de> Described for &'de str {
@@ -223,7 +239,7 @@ impl<'de> Described for &'de str {
 }
 
 impl<'de> AsDescribed for &'de str {
-    ghost agrees = { as_described tt };
+    ghost agrees = { as_described tt refl };
 }
 
 impl Described for String {
@@ -233,7 +249,7 @@ impl Described for String {
 }
 
 impl AsDescribed for String {
-    ghost agrees = { as_described tt };
+    ghost agrees = { as_described tt refl };
 }
 
 impl<'de> Described for CowStr<'de, Global> {
@@ -244,7 +260,7 @@ impl<'de> Described for CowStr<'de, Global> {
 }
 
 impl<'de> AsDescribed for CowStr<'de, Global> {
-    ghost agrees = { as_described tt };
+    ghost agrees = { as_described tt refl };
 }
 
 impl<'de> Described for Bytes<&'de [u8]> {
@@ -255,7 +271,7 @@ impl<'de> Described for Bytes<&'de [u8]> {
 }
 
 impl<'de> AsDescribed for Bytes<&'de [u8]> {
-    ghost agrees = { as_described tt };
+    ghost agrees = { as_described tt refl };
 }
 
 impl Described for Bytes<Vec<u8>> {
@@ -265,7 +281,7 @@ impl Described for Bytes<Vec<u8>> {
 }
 
 impl AsDescribed for Bytes<Vec<u8>> {
-    ghost agrees = { as_described tt };
+    ghost agrees = { as_described tt refl };
 }
 
 impl Described for () {
@@ -275,7 +291,7 @@ impl Described for () {
 }
 
 impl AsDescribed for () {
-    ghost agrees = { as_described tt };
+    ghost agrees = { as_described tt refl };
 }
 
 impl<T: Described> Described for Option<T> {
@@ -341,5 +357,5 @@ impl Described for Value {
 }
 
 impl AsDescribed for Value {
-    ghost agrees = { as_described tt };
+    ghost agrees = { as_described tt refl };
 }

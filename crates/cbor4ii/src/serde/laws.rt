@@ -1,8 +1,9 @@
 //! Laws of what is written and read, each the contract of a function that does nothing. An item is
 //! the one that `Serialize` writes, where it writes one.
 ghost use Rattle.std.specs.Prelude.{ℕ, ◌≡◌, ◌+◌, ◌<◌, ◌≤◌, ◌++◌, List, Bool, true, Some, None};
-ghost use Rattle.std.specs.Prelude.{◌^◌, false, IsTrue, All, length, max};
+ghost use Rattle.std.specs.Prelude.{◌^◌, false, IsTrue, All, length, max, Option, Result};
 ghost use Rattle.std.specs.BTreeMap.{IsOrdered};
+ghost use Rattle.std.specs.Borrow.{Bor};
 ghost use Rattle.std.specs.Cmp.{IsTotalOrder};
 ghost use Rattle.std.specs.declared.alloc.Global.{Global};
 ghost use Rattle.std.specs.declared.boxed.Box.{Box};
@@ -11,7 +12,8 @@ ghost use Rattle.cbor4ii_rw.specs.Input.{limit};
 ghost use Rattle.cbor4ii_rw.specs.Reader.{KeepsAllButBudget};
 ghost use Rattle.cbor4ii_rw.specs.View.{View};
 ghost use Rattle.cbor4ii_rw.specs.declared.error.DecodeError.{DecodeError};
-ghost use Rattle.cbor4ii_items.specs.Decoding.{Reads, Sound, Complete};
+ghost use Rattle.cbor4ii_items.specs.Decoding.{Reads, Sound, Complete, Decodes, IsExact};
+ghost use Rattle.cbor4ii_items.specs.OneError.{RejectsOnce};
 ghost use Rattle.cbor4ii_items.specs.Budget.{CostFits};
 ghost use Rattle.cbor4ii_items.specs.NeverBoth.{NeverBoth};
 ghost use Rattle.cbor4ii_items.specs.ReadBack.{greatest_part_cost, pair_cost};
@@ -21,6 +23,7 @@ ghost use Rattle.cbor4ii_items.specs.Moves.{Kept};
 ghost use Rattle.cbor4ii_items.specs.Strings.{definite_string, ReadsTextAs};
 ghost use Rattle.cbor4ii_tree.specs.Basis.Canonical.{canonical_cost};
 ghost use Rattle.cbor4ii_tree.specs.Basis.Item.{Item};
+ghost use Rattle.cbor4ii_tree.specs.Calls.SameAnswer.{SameAnswer};
 ghost use Rattle.cbor4ii_ser.specs.Item.{Encoding, encoded, variant_encoding};
 ghost use Rattle.cbor4ii_ser.specs.OneItem.{canonical};
 ghost use Rattle.cbor4ii_ser.specs.Tagged.{tagged_encoding};
@@ -31,11 +34,31 @@ ghost use Rattle.cbor4ii.specs.Laws.ElementsAlike.{as_pair, as_triple};
 ghost use Rattle.cbor4ii.specs.Optional.{ReadsPresence, RejectsPresence};
 ghost use Rattle.cbor4ii.specs.ReadBack.{IsReadBack, BeginsOther, IsNullItem, IsName};
 ghost use Rattle.cbor4ii.specs.Tagged.{typed_tagged};
-ghost use Rattle.cbor4ii.specs.Typed.{IsLawfulReading};
+ghost use Rattle.cbor4ii.specs.Typed.{IsLawfulReading, Promise, Deserializes};
+ghost use Rattle.cbor4ii.specs.Once.{SkippedOnce, FieldsOnce, CasesOnce, HoldingOnce};
+ghost use Rattle.cbor4ii.specs.Presence.{made_struct};
+ghost use Rattle.cbor4ii.specs.Cases.{unit_case, held_case, fields_case, otherwise, cases_by};
+ghost use Rattle.cbor4ii.specs.Cases.{enum_of};
+ghost use Rattle.cbor4ii.specs.Made.{made_from};
+ghost use Rattle.cbor4ii.specs.Checked.{checked_from};
+ghost use Rattle.cbor4ii.specs.Keys.{made_keyed};
 ghost use Rattle.cbor4ii.specs.Variants.{OpensEnum, ReadsContent, ReadsVariant};
 
+use crate::serde::de::cases::{Case, Cases};
+use crate::serde::de::checked::CheckedFrom;
 use crate::serde::de::deserialize::Typed;
+use crate::serde::de::elements::TypedElements;
+use crate::serde::de::fields::Places;
+use crate::serde::de::place::Place;
+use crate::serde::de::presence::Presences;
+use cbor4ii_items::decode::Decodable;
+use cbor4ii_items::types::{Bytes, F16, F32, F64};
+use cbor4ii_rw::read::Source;
 use cbor4ii_ser::serialize::Serialize;
+use cbor4ii_tree::laws::{reading_has_one_answer, skipping_has_one_answer};
+use cbor4ii_tree::{BoxedRawValue, IgnoredAny, PlainRawValue, RawValue, Value};
+use std::alloc::Global;
+use std::borrow::{CowSlice, CowStr};
 use std::collections::BTreeMap;
 
 /// A value in a box, and one that may be absent, are read back wherever the value is: in a box at
@@ -214,4 +237,171 @@ pub fn rejected_options_are_not_read<T: Typed>()
         NeverBoth ⟦<Option<T> as Typed>⟧.promise.format.reads
         ⟦<Option<T> as Typed>⟧.promise.format.begins }
     ensures presence { NeverBoth ReadsPresence RejectsPresence }
+{}
+
+/// Any two lawful readers with the same bytes to come and the same budget get the same answer in
+/// full of a call that reads a type: values that mean the same, or one error with the same fields,
+/// and the same bytes are left. The type is exact and rejects with one error, and both calls are
+/// over readers where it is exact. A call in which the reader failed or memory was refused says
+/// nothing.
+pub fn exact_calls_are_answered_alike<T: Typed, E, F>()
+    ensures { IsTrue T.promise.exact → RejectsOnce T.promise.format →
+        (xs : List ℕ) (old new other after : View) (r : Result T (DecodeError E))
+        (s : Result T (DecodeError F)) → old.known ≡ Some xs → other.known ≡ Some xs →
+        old.budget ≡ other.budget → IsExact T.promise.format.owned old →
+        IsExact T.promise.format.owned other → Deserializes T.promise old new r →
+        Deserializes T.promise other after s → SameAnswer T.promise.format.same new after r s }
+{}
+
+/// A type that an item is read as by `decode` is read alike too.
+pub fn decoded_items_are_answered_alike<T: Decodable, E, F>()
+    ensures { RejectsOnce T.format → (xs : List ℕ) (old new other after : View)
+        (r : Result T (DecodeError E)) (s : Result T (DecodeError F)) → old.known ≡ Some xs →
+        other.known ≡ Some xs → old.budget ≡ other.budget → IsExact T.format.owned old →
+        IsExact T.format.owned other → Decodes T.format old new r →
+        Decodes T.format other after s → SameAnswer T.format.same new after r s }
+{}
+
+/// An item that is read as a `Value`, by `decode` or as a typed value, one that is skipped, an
+/// array of no item and a text of one character are rejected with one error.
+pub fn any_items_are_rejected_once()
+    ensures value { RejectsOnce ⟦<Value as Decodable>⟧.format }
+    ensures any { RejectsOnce ⟦<Value as Typed>⟧.promise.format }
+    ensures ignored { RejectsOnce ⟦<IgnoredAny as Typed>⟧.promise.format }
+    ensures unit { RejectsOnce ⟦<() as Typed>⟧.promise.format }
+    ensures character { RejectsOnce ⟦<char as Typed>⟧.promise.format }
+{
+    reading_has_one_answer();
+    skipping_has_one_answer();
+}
+
+/// A number, a bool, a float, and a string that may be a copy are rejected with one error.
+pub fn typed_leaves_are_rejected_once()
+    ensures u8 { RejectsOnce ⟦<u8 as Typed>⟧.promise.format }
+    ensures u16 { RejectsOnce ⟦<u16 as Typed>⟧.promise.format }
+    ensures u32 { RejectsOnce ⟦<u32 as Typed>⟧.promise.format }
+    ensures u64 { RejectsOnce ⟦<u64 as Typed>⟧.promise.format }
+    ensures u128 { RejectsOnce ⟦<u128 as Typed>⟧.promise.format }
+    ensures i8 { RejectsOnce ⟦<i8 as Typed>⟧.promise.format }
+    ensures i16 { RejectsOnce ⟦<i16 as Typed>⟧.promise.format }
+    ensures i32 { RejectsOnce ⟦<i32 as Typed>⟧.promise.format }
+    ensures i64 { RejectsOnce ⟦<i64 as Typed>⟧.promise.format }
+    ensures i128 { RejectsOnce ⟦<i128 as Typed>⟧.promise.format }
+    ensures bool { RejectsOnce ⟦<bool as Typed>⟧.promise.format }
+    ensures f16 { RejectsOnce ⟦<F16 as Typed>⟧.promise.format }
+    ensures f32 { RejectsOnce ⟦<F32 as Typed>⟧.promise.format }
+    ensures f64 { RejectsOnce ⟦<F64 as Typed>⟧.promise.format }
+    ensures text { RejectsOnce ⟦<String as Typed>⟧.promise.format }
+    ensures bytes { RejectsOnce ⟦<Bytes<Vec<u8>> as Typed>⟧.promise.format }
+    ensures cow_text { RejectsOnce ⟦<CowStr<'static, Global> as Typed>⟧.promise.format }
+    ensures cow_bytes { RejectsOnce
+        ⟦<Bytes<CowSlice<'static, u8, Global>> as Typed>⟧.promise.format }
+{}
+
+/// An item that is kept as its bytes is rejected with one error: as it stands, in a box, or where
+/// it is one that `decode` reads as a `Value`.
+pub fn raw_items_are_rejected_once()
+    ensures lent { RejectsOnce ⟦<RawValue<'static> as Typed>⟧.promise.format }
+    ensures boxed { RejectsOnce ⟦<BoxedRawValue as Typed>⟧.promise.format }
+    ensures plain { RejectsOnce ⟦<PlainRawValue<'static> as Typed>⟧.promise.format }
+{
+    reading_has_one_answer();
+    skipping_has_one_answer();
+}
+
+/// A value in a box, one that may be absent, a vector, a tuple and a tagged value are rejected with
+/// one error wherever their parts are.
+pub fn wrapped_values_are_rejected_once<A: Typed, B: Typed, C: Typed>()
+    ensures boxed { RejectsOnce A.promise.format → RejectsOnce ⟦<Box<A> as Typed>⟧.promise.format }
+    ensures option { RejectsOnce A.promise.format →
+        RejectsOnce ⟦<Option<A> as Typed>⟧.promise.format }
+    ensures vector { IsTrue A.promise.exact → RejectsOnce A.promise.format →
+        RejectsOnce ⟦<Vec<A> as Typed>⟧.promise.format }
+    ensures pair { IsTrue A.promise.exact → IsTrue B.promise.exact →
+        RejectsOnce A.promise.format → RejectsOnce B.promise.format →
+        RejectsOnce ⟦<(A, B) as Typed>⟧.promise.format }
+    ensures triple { IsTrue A.promise.exact → IsTrue B.promise.exact → IsTrue C.promise.exact →
+        RejectsOnce A.promise.format → RejectsOnce B.promise.format →
+        RejectsOnce C.promise.format → RejectsOnce ⟦<(A, B, C) as Typed>⟧.promise.format }
+    ensures tagged { (number : ℕ) → IsTrue A.promise.exact → RejectsOnce A.promise.format →
+        RejectsOnce (typed_tagged number A.promise).format }
+{}
+
+/// A map is rejected with one error wherever its keys and its values are.
+pub fn typed_maps_are_rejected_once<K: Typed + Ord, V: Typed>()
+    ensures { IsTrue K.promise.exact → IsTrue V.promise.exact → RejectsOnce K.promise.format →
+        RejectsOnce V.promise.format → RejectsOnce ⟦<BTreeMap<K, V> as Typed>⟧.promise.format }
+{}
+
+/// An array of so many elements is rejected with one error wherever they are, and so is what
+/// `deserialize_elements` makes of it.
+pub fn elements_are_rejected_once<A: Typed, B: TypedElements, T: From<B>>()
+    ensures none { RejectsOnce ⟦<() as TypedElements>⟧.elements.format }
+    ensures more { IsTrue A.promise.exact → IsTrue B.elements.exact →
+        RejectsOnce A.promise.format → RejectsOnce B.elements.format →
+        RejectsOnce ⟦<(A, B) as TypedElements>⟧.elements.format }
+    ensures whole { IsTrue B.elements.exact → RejectsOnce B.elements.format →
+        RejectsOnce (made_from T.from_gives (typed_elements B.elements)).format }
+{}
+
+/// What `deserialize_fields` and `deserialize_keyed_fields` read is rejected with one error
+/// wherever its fields are. What follows a name that no field has is skipped, and is rejected with
+/// one error.
+pub fn structs_are_rejected_once<P: Place, V: Places, K: Presences<V>, T: From<K::Values>>()
+    ensures skipped { SkippedOnce }
+    ensures none { (names : List (Bor (List ℕ))) → FieldsOnce (⟦<() as Places>⟧.fields names) }
+    ensures more { RejectsOnce P.Value.promise.format →
+        ((names : List (Bor (List ℕ))) → FieldsOnce (V.fields names)) →
+        (names : List (Bor (List ℕ))) → FieldsOnce (⟦<(P, V) as Places>⟧.fields names) }
+    ensures named { (kinds : K) (names words : List (Bor (List ℕ))) →
+        IsTrue (V.fields names).exact → FieldsOnce (V.fields names) →
+        RejectsOnce (made_from T.from_gives
+        (made_struct (V.fields names) (K.made kinds words))).format }
+    ensures keyed { (kinds : K) (names words : List (Bor (List ℕ))) →
+        IsTrue (V.fields names).exact → FieldsOnce (V.fields names) →
+        RejectsOnce (made_from T.from_gives
+        (made_keyed (V.fields names) (K.made kinds words))).format }
+{
+    skipping_has_one_answer();
+}
+
+/// What `deserialize_checked` reads is rejected with one error wherever the value is that it tests.
+pub fn tested_values_are_rejected_once<V: Typed, T: CheckedFrom<V>>()
+    ensures { IsTrue V.promise.exact → RejectsOnce V.promise.format →
+        RejectsOnce (checked_from T.words T.makes T.takes_memory V.promise).format }
+{}
+
+/// What a variant holds is rejected with one error wherever the value is. So is a variant with
+/// fields, and those after it, wherever the fields are and what the others hold.
+pub fn variants_are_rejected_once<
+    S,
+    T: Typed,
+    V: Places,
+    K: Presences<V>,
+    B: Drop,
+    D: Cases<S, B>,
+>()
+where
+    S: Source,
+    ensures unit { HoldingOnce unit_case }
+    ensures held { RejectsOnce T.promise.format → HoldingOnce (held_case T.promise) }
+    ensures fields { (kinds : K) (own words : List (Bor (List ℕ))) (cases : D) →
+        IsTrue (V.fields own).exact → FieldsOnce (V.fields own) →
+        ((names : List (Bor (List ℕ))) → CasesOnce (D.cases cases names)) →
+        (names : List (Bor (List ℕ))) →
+        CasesOnce (cases_by (fields_case (V.fields own) (K.made kinds words)) (D.cases cases)
+        names) }
+{}
+
+/// What `deserialize_variant` reads is rejected with one error wherever what its variants hold is.
+pub fn enums_are_rejected_once<S: Source, A: Drop, B: Drop, C: Case<S, A>, D: Cases<S, B>, T>()
+where
+    T: From<B>,
+    ensures none { (words : List ℕ) → CasesOnce (otherwise {V = B} words) }
+    ensures more { (cases : D) → HoldingOnce C.holding →
+        ((names : List (Bor (List ℕ))) → CasesOnce (D.cases cases names)) →
+        (names : List (Bor (List ℕ))) → CasesOnce (cases_by C.holding (D.cases cases) names) }
+    ensures whole { (cases : D) (names : List (Bor (List ℕ))) →
+        CasesOnce (D.cases cases names) →
+        RejectsOnce (made_from T.from_gives (enum_of (D.cases cases names))).format }
 {}

@@ -21,6 +21,13 @@ pub trait Typed: Sized {
         false
     }
 
+    /// Whether a value that `shown_leaf` answers may take a step, as one that may be absent does. An
+    /// option of such a type takes two, and a vector reads it by itself.
+    #[inline(always)]
+    fn leaf_takes_step() -> bool {
+        false
+    }
+
     /// The value that the shown bytes begin with and how many bytes it has, where it holds no
     /// other, stands whole in them, and takes at most so many steps. A type without a line of its
     /// own answers none.

@@ -5,6 +5,7 @@ ghost use Rattle.cbor4ii_items.specs.Moves.{Moves};
 ghost use Rattle.cbor4ii_items.specs.Sequences.{count_of, indefinite_of, inside_of, in_list};
 ghost use Rattle.cbor4ii.specs.Fields.{one_change, all_changes, Alters};
 ghost use Rattle.cbor4ii.specs.Keys.{key_labels, label_of, keyed_of, all_keyed_of, made_keyed};
+ghost use Rattle.cbor4ii.specs.Keys.{WantsByKeys};
 ghost use Rattle.cbor4ii.specs.Made.{made_from};
 ghost use Rattle.cbor4ii.specs.Structs.{after_name};
 ghost use Rattle.cbor4ii.specs.Typed.{input, answer_of, Deserializes};
@@ -47,7 +48,9 @@ pub trait KeyedValues<S: Source>: Places {
             ((input S.view de.new).bound + 1 ≤ (input S.view de.old).bound) }
         ensures alters { Alters one_change (Self.fields (key_labels keys.now)).exact
             (after_name (Self.fields (key_labels keys.now)) (label_of key))
-            self.old self.new (input S.view de.old) (input S.view de.new) (answer_of result) };
+            self.old self.new (input S.view de.old) (input S.view de.new) (answer_of result) }
+        ensures memory { WantsByKeys (Self.fields (key_labels keys.now)).takes_memory
+            (input S.view de.old) (answer_of result) };
 }
 
 /// No field.
@@ -115,9 +118,11 @@ fn take_keyed_field<S: Source, V: KeyedValues<S>>(
     keys: &[i64],
     values: &mut V,
 ) -> Result<(), DecodeError<S::Error>>
-    ensures { Alters one_change (V.fields (key_labels keys.now)).exact
+    ensures alters { Alters one_change (V.fields (key_labels keys.now)).exact
         (keyed_of (V.fields (key_labels keys.now))) values.old values.new
         (input S.view de.old) (input S.view de.new) (answer_of result) }
+    ensures memory { WantsByKeys (V.fields (key_labels keys.now)).takes_memory
+        (input S.view de.old) (answer_of result) }
 {
     match take_key(alloc, de) {
         Ok(key) => values.take_keyed(alloc, keys, key, de),
@@ -133,9 +138,11 @@ fn take_keyed_fields<S: Source, V: KeyedValues<S>>(
     keys: &[i64],
     values: &mut V,
 ) -> Result<(), DecodeError<S::Error>>
-    ensures { Alters all_changes (V.fields (key_labels keys.now)).exact
+    ensures alters { Alters all_changes (V.fields (key_labels keys.now)).exact
         (all_keyed_of (V.fields (key_labels keys.now))) values.old values.new
         (input S.view de.old) (input S.view de.new) (answer_of result) }
+    ensures memory { WantsByKeys (V.fields (key_labels keys.now)).takes_memory
+        (input S.view de.old) (answer_of result) }
 {
     if !de.reader.step_in() {
         return Err(DecodeError::Core(core_error::DecodeError::DepthOverflow { name: "map" }));
@@ -153,9 +160,11 @@ fn keyed_inside<S: Source, V: KeyedValues<S>>(
     keys: &[i64],
     values: &mut V,
 ) -> Result<(), DecodeError<S::Error>>
-    ensures { Alters all_changes (V.fields (key_labels keys.now)).exact
+    ensures alters { Alters all_changes (V.fields (key_labels keys.now)).exact
         (inside_of in_list (codes "map") 5 (keyed_of (V.fields (key_labels keys.now))))
         values.old values.new (input S.view de.old) (input S.view de.new) (answer_of result) }
+    ensures memory { WantsByKeys (V.fields (key_labels keys.now)).takes_memory
+        (input S.view de.old) (answer_of result) }
 {
     match Map::<()>::len(&mut de.reader) {
         Ok(Some(count)) => definite_keyed(alloc, de, keys, values, count),
@@ -173,9 +182,11 @@ fn definite_keyed<S: Source, V: KeyedValues<S>>(
     values: &mut V,
     count: usize,
 ) -> Result<(), DecodeError<S::Error>>
-    ensures { Alters all_changes (V.fields (key_labels keys.now)).exact
+    ensures alters { Alters all_changes (V.fields (key_labels keys.now)).exact
         (count_of in_list (keyed_of (V.fields (key_labels keys.now))) count)
         values.old values.new (input S.view de.old) (input S.view de.new) (answer_of result) }
+    ensures memory { WantsByKeys (V.fields (key_labels keys.now)).takes_memory
+        (input S.view de.old) (answer_of result) }
 {
     for i in 0..count {
         take_keyed_field(alloc, de, keys, values)?;
@@ -190,9 +201,11 @@ fn indefinite_keyed<S: Source, V: KeyedValues<S>>(
     keys: &[i64],
     values: &mut V,
 ) -> Result<(), DecodeError<S::Error>>
-    ensures { Alters all_changes (V.fields (key_labels keys.now)).exact
+    ensures alters { Alters all_changes (V.fields (key_labels keys.now)).exact
         (indefinite_of in_list (codes "map") (keyed_of (V.fields (key_labels keys.now))))
         values.old values.new (input S.view de.old) (input S.view de.new) (answer_of result) }
+    ensures memory { WantsByKeys (V.fields (key_labels keys.now)).takes_memory
+        (input S.view de.old) (answer_of result) }
 {
     while !takes_break(de)? {
         take_keyed_field(alloc, de, keys, values)?;
@@ -209,9 +222,11 @@ fn take_keyed_struct<S: Source, V: KeyedValues<S> + Drop, P: Presences<V>>(
     missing: &[StaticStr],
     presences: P,
 ) -> Result<P::Values, DecodeError<S::Error>>
-    ensures { Deserializes
+    ensures promised { Deserializes
         (made_keyed (V.fields (key_labels keys.now)) (P.made presences missing.now))
         (input S.view de.old) (input S.view de.new) (answer_of result) }
+    ensures memory { WantsByKeys (V.fields (key_labels keys.now)).takes_memory
+        (input S.view de.old) (answer_of result) }
 {
     let mut values = V::none();
     match take_keyed_fields(alloc, de, keys, &mut values) {
@@ -233,7 +248,8 @@ impl<S: Source> Deserializer<S> {
     /// neither is rejected. A text of at most 255 bytes takes no memory where it stands whole in
     /// what the reader shows, after a head of one or two bytes.
     ///
-    /// The budget is as before, whatever the answer is.
+    /// The budget is as before, whatever the answer is. Memory is wanted by a field whose type takes
+    /// some, or where a text comes, and nowhere else.
     ///
     /// # Errors
     ///
@@ -255,9 +271,11 @@ impl<S: Source> Deserializer<S> {
         missing: &[StaticStr],
         presences: P,
     ) -> Result<T, DecodeError<S::Error>>
-        ensures { Deserializes (made_from T.from_gives
+        ensures promised { Deserializes (made_from T.from_gives
             (made_keyed (V.fields (key_labels keys.now)) (P.made presences missing.now)))
             (input S.view self.old) (input S.view self.new) (answer_of result) }
+        ensures memory { WantsByKeys (V.fields (key_labels keys.now)).takes_memory
+            (input S.view self.old) (answer_of result) }
     {
         match take_keyed_struct(alloc, self, keys, missing, presences) {
             Ok(values) => Ok(T::from(values)),

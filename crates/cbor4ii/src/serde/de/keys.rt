@@ -1,7 +1,7 @@
 //! Keys that are integers, among others that are texts, read.
-ghost use Rattle.std.specs.Prelude.{◌≡◌};
+ghost use Rattle.std.specs.Prelude.{◌≡◌, false};
 ghost use Rattle.cbor4ii_items.specs.Decoding.{Decodes};
-ghost use Rattle.cbor4ii.specs.Keys.{key_format, as_key};
+ghost use Rattle.cbor4ii.specs.Keys.{key_format, as_key, WantsByKeys};
 ghost use Rattle.cbor4ii.specs.Typed.{input, answer_of};
 
 use crate::serde::de::deserialize::Deserialize;
@@ -24,7 +24,9 @@ pub(crate) fn take_key<S: Source>(
     alloc: Global,
     de: &mut Deserializer<S>,
 ) -> Result<Option<i128>, DecodeError<S::Error>>
-    ensures { Decodes key_format (input S.view de.old) (input S.view de.new) (answer_of result) }
+    ensures decodes { Decodes key_format
+        (input S.view de.old) (input S.view de.new) (answer_of result) }
+    ensures memory { WantsByKeys false (input S.view de.old) (answer_of result) }
 {
     let first = match peek(&mut de.reader, "i128") {
         Ok(first) => first,

@@ -15,7 +15,12 @@ impl<T: Typed> Typed for Option<T> {
 
     #[inline(always)]
     fn is_leaf() -> bool {
-        T::is_leaf()
+        T::is_leaf() && !T::leaf_takes_step()
+    }
+
+    #[inline(always)]
+    fn leaf_takes_step() -> bool {
+        true
     }
 
     #[inline(always)]

@@ -1,6 +1,8 @@
 use Rattle.std.proofs.Common.{refl, arith, rules, Ok, Err}
 use Rattle.std.specs.Prelude.{codes}
 use Rattle.std.proofs.lemmas.Result.{err_from_is_err_and}
+use Rattle.cbor4ii_items.specs.Laws.Calls.{in_memory}
+use Rattle.cbor4ii.specs.AnyFormat.{any_leaf}
 use Rattle.cbor4ii_items.specs.Laws.Calls.{part_then, out_of_memory}
 use Rattle.cbor4ii_items.specs.Laws.Pairs.{pair_ok, key_err, value_err}
 use Rattle.cbor4ii_items.specs.Laws.Calls.{of_exact, decodes_exactly}
@@ -44,7 +46,8 @@ pub any_inside-returns-in-Leaf : goal.any_inside-returns-in-Leaf
 any_inside-returns-in-Leaf g t c =
     let d = c.in-Ok.ensures.decodes in
     of_kind (Leaf _) d.moves.by (saw d.moves d.sound) c.in-Leaf.ensures
-    (answer_of c.take_leaf.result) c.take_leaf.ensures
+    (answer_of c.take_leaf.result)
+    (in_memory (any_leaf _) (answer_of c.take_leaf.result) c.take_leaf.ensures)
 
 pub any_inside-returns-in-Ok-any_array : goal.any_inside-returns-in-Ok-any_array
 any_inside-returns-in-Ok-any_array g t c =

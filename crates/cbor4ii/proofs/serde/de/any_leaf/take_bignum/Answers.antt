@@ -17,7 +17,7 @@ returns-else-number g c =
     record {
       moves = record { by = c.in-Ok.ensures.moves.by; depth = λ none. refl };
       progress = λ some. tt;
-      memory = λ out. refl;
+      memory = λ out. out;
       sound = tt;
       complete = λ sure. too_great (omega (arith, c.if-number.false)) c.in-Ok.ensures.sound;
       rejects = λ sure. rejects;

@@ -1,3 +1,4 @@
+use Rattle.std.proofs.Common.{Err, false}
 use Rattle.std.specs.Prelude.{codes}
 use Rattle.cbor4ii_items.specs.Laws.Calls.{of_exact}
 use Rattle.cbor4ii_items.specs.Laws.SequenceHeads.{head_err, counts, opens}
@@ -5,28 +6,44 @@ use Rattle.cbor4ii_items.specs.Sequences.{count_of, indefinite_of, inside_of, in
 use Rattle.cbor4ii.specs.Fields.{all_changes}
 use Rattle.cbor4ii.specs.Sequence.{five_small}
 use Rattle.cbor4ii.specs.Keys.{key_labels, keyed_of}
-use Rattle.cbor4ii.specs.Typed.{answer_of}
+use Rattle.cbor4ii.specs.Typed.{answer_of, not_exact}
 use Rattle.cbor4ii.proofs.Filling.{alters_after}
+use Rattle.cbor4ii.proofs.KeyMemory.{wants_as, wants_after}
 use Rattle.cbor4ii.proofs.serde.de.keyed_fields.keyed_inside.Goals as goal
 
-pub returns-in-Ok-Some : goal.returns-in-Ok-Some
-returns-in-Ok-Some g c =
+pub returns-in-Ok-Some-clause-alters : goal.returns-in-Ok-Some-clause-alters
+returns-in-Ok-Some-clause-alters g c =
     let entry = keyed_of (g.V.Places.fields (key_labels c.args.keys.now)) in
     alters_after all_changes (g.V.Places.fields (key_labels c.args.keys.now)).exact _ _
     (count_of in_list entry _) (inside_of in_list (codes "map") 5 entry) _
     (answer_of c.definite_keyed.result) (counts in_list (codes "map") 5 entry five_small
-    c.in-Ok-Some.field-0-is c.in-Ok-Some.ensures) c.definite_keyed.ensures
+    c.in-Ok-Some.field-0-is c.in-Ok-Some.ensures) c.definite_keyed.ensures.alters
 
-pub returns-in-Ok-None : goal.returns-in-Ok-None
-returns-in-Ok-None g c =
+pub returns-in-Ok-None-clause-alters : goal.returns-in-Ok-None-clause-alters
+returns-in-Ok-None-clause-alters g c =
     let entry = keyed_of (g.V.Places.fields (key_labels c.args.keys.now)) in
     alters_after all_changes (g.V.Places.fields (key_labels c.args.keys.now)).exact _ _
     (indefinite_of in_list (codes "map") entry)
     (inside_of in_list (codes "map") 5 entry) _ (answer_of c.indefinite_keyed.result)
     (opens in_list (codes "map") 5 entry five_small c.in-Ok-None.field-0-is c.in-Ok-None.ensures)
-    c.indefinite_keyed.ensures
+    c.indefinite_keyed.ensures.alters
 
-pub returns-in-Err : goal.returns-in-Err
-returns-in-Err g c =
+pub returns-in-Err-clause-alters : goal.returns-in-Err-clause-alters
+returns-in-Err-clause-alters g c =
     head_err in_list (codes "map") 5 (keyed_of (g.V.Places.fields (key_labels c.args.keys.now)))
     five_small (of_exact c.in-Err.ensures)
+
+pub returns-in-Ok-Some-clause-memory : goal.returns-in-Ok-Some-clause-memory
+returns-in-Ok-Some-clause-memory g c =
+    wants_after _ (answer_of c.definite_keyed.result) c.in-Ok-Some.ensures.moves.by
+    c.definite_keyed.ensures.memory
+
+pub returns-in-Ok-None-clause-memory : goal.returns-in-Ok-None-clause-memory
+returns-in-Ok-None-clause-memory g c =
+    wants_after _ (answer_of c.indefinite_keyed.result) c.in-Ok-None.ensures.moves.by
+    c.indefinite_keyed.ensures.memory
+
+pub returns-in-Err-clause-memory : goal.returns-in-Err-clause-memory
+returns-in-Err-clause-memory g c =
+    wants_as {V = Unit {0}} (g.S.Source.view c.args.de.now.reader) false _ (Err _) not_exact
+    c.in-Err.ensures.memory

@@ -1,29 +1,47 @@
-use Rattle.std.proofs.Common.{◌≡◌, true, false, refl, subst, nat_eq}
+use Rattle.std.proofs.Common.{◌≡◌, ℤ, Option, Err, inr, true, false, refl, subst, nat_eq}
 use Rattle.cbor4ii.proofs.Keying.{comes, is_text, is_no_text, no_key, text_ok, text_err}
 use Rattle.cbor4ii.proofs.Keying.{integer_any}
 use Rattle.cbor4ii.proofs.Names.{text_taken}
 use Rattle.cbor4ii.proofs.Promised.{whole}
+use Rattle.cbor4ii.specs.Typed.{not_exact}
+use Rattle.cbor4ii.proofs.KeyMemory.{wants_as, wants_integer, comes_here}
 use Rattle.cbor4ii.proofs.serde.de.keys.take_key.Goals as goal
 
-pub returns-in-Err : goal.returns-in-Err
-returns-in-Err g c = no_key c.in-Err.ensures.decodes
+pub returns-in-Err-clause-decodes : goal.returns-in-Err-clause-decodes
+returns-in-Err-clause-decodes g c = no_key c.in-Err.ensures.decodes
 
-pub returns-in-Some : goal.returns-in-Some
-returns-in-Some g c =
+pub returns-in-Some-clause-decodes : goal.returns-in-Some-clause-decodes
+returns-in-Some-clause-decodes g c =
     text_ok (comes true c.in-Ok.ensures.decodes
     (subst (λ k. nat_eq k 3 ≡ true) c.if_major.ensures
     (is_text c.if_major.result c.if-if_major-eq-STRING.true)))
     (text_taken c.args.alloc c.in-Some.ensures)
 
-pub returns-in-None : goal.returns-in-None
-returns-in-None g c =
+pub returns-in-None-clause-decodes : goal.returns-in-None-clause-decodes
+returns-in-None-clause-decodes g c =
     rw c.left.ensures (text_err (comes true c.in-Ok.ensures.decodes
     (subst (λ k. nat_eq k 3 ≡ true) c.if_major.ensures
     (is_text c.if_major.result c.if-if_major-eq-STRING.true))) c.in-None.ensures)
 
-pub returns : goal.returns
-returns g c =
+pub returns-clause-decodes : goal.returns-clause-decodes
+returns-clause-decodes g c =
     rw c.as_key.ensures (integer_any c.deserialize.result (comes false c.in-Ok.ensures.decodes
     (subst (λ k. nat_eq k 3 ≡ false) c.if_major.ensures
     (is_no_text c.if_major.result c.if-if_major-eq-STRING.false)))
     (whole refl refl c.deserialize.ensures))
+
+pub returns-in-Err-clause-memory : goal.returns-in-Err-clause-memory
+returns-in-Err-clause-memory g c =
+    wants_as {V = Option ℤ} (g.S.Source.view c.args.de.now.reader) false _ (Err _) not_exact
+    c.in-Err.ensures.decodes.memory
+
+pub returns-in-None-clause-memory : goal.returns-in-None-clause-memory
+returns-in-None-clause-memory g c out =
+    inr (comes_here (comes true c.in-Ok.ensures.decodes
+    (subst (λ k. nat_eq k 3 ≡ true) c.if_major.ensures
+    (is_text c.if_major.result c.if-if_major-eq-STRING.true))))
+
+pub returns-clause-memory : goal.returns-clause-memory
+returns-clause-memory g c =
+    rw c.as_key.ensures (wants_integer (g.S.Source.view c.args.de.now.reader) c.deserialize.result
+    c.deserialize.ensures.memory)

@@ -1,9 +1,8 @@
-use Rattle.std.proofs.Common.{◌<◌, ◌≤◌, length, arith, refl, rules, subst, sym}
+use Rattle.std.proofs.Common.{arith, refl, rules, subst, sym}
 use Rattle.std.proofs.lemmas.Bool.{MatchBool-at_true, MatchBool-at_false}
 use Rattle.std.proofs.lemmas.Result.{err_from_is_err_and}
 use Rattle.cbor4ii_items.specs.Budget.{CostFits}
 use Rattle.cbor4ii_items.specs.Laws.Calls.{err, out_of_memory, of_exact}
-use Rattle.cbor4ii_items.specs.Laws.Running.{kept_alike}
 use Rattle.cbor4ii_items.specs.Laws.SequenceParts.{count_done, count_err}
 use Rattle.cbor4ii_items.specs.Laws.Steps.{kept_then, broke_then}
 use Rattle.cbor4ii_items.specs.Sequences.{count_of, in_list}

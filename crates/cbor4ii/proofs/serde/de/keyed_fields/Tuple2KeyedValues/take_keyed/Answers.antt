@@ -1,9 +1,10 @@
-use Rattle.std.proofs.Common.{◌-◌, pos, Ok, Err, length, take, drop, [], ap, refl}
+use Rattle.std.proofs.Common.{false, ◌-◌, pos, Ok, Err, length, take, drop, [], ap, refl}
 use Rattle.cbor4ii.specs.Keys.{key_labels, label_of}
 use Rattle.cbor4ii.specs.Structs.{unnamed_field}
-use Rattle.cbor4ii.specs.Typed.{answer_of}
+use Rattle.cbor4ii.specs.Typed.{answer_of, not_exact}
 use Rattle.cbor4ii.proofs.Filling.{skips, field_ok, field_err, field_below}
 use Rattle.cbor4ii.proofs.Keying.{at_key, at_no_key}
+use Rattle.cbor4ii.proofs.KeyMemory.{wants_as, wants_first, wants_below}
 use Rattle.cbor4ii.proofs.serde.de.keyed_fields.Tuple2KeyedValues.take_keyed.Goals as goal
 
 pub returns-then-not-is_key-clause-alters : goal.returns-then-not-is_key-clause-alters
@@ -50,3 +51,21 @@ returns-in-empty-clause-alters g c =
     (skips (unnamed_field place p (g.V.Places.fields [])) (label_of c.args.key) c.args.self.now _
     (answer_of c.deserialize_ignored_any.result) refl refl refl
     c.deserialize_ignored_any.ensures.item)
+
+pub returns-then-not-is_key-clause-memory : goal.returns-then-not-is_key-clause-memory
+returns-then-not-is_key-clause-memory g c =
+    wants_below g.P.Place.place g.P.Value.Typed.promise g.V.Places.fields c.args.keys.now
+    (g.S.Source.view c.args.de.now.reader) (answer_of c.take_keyed.result) (pos 0)
+    c.in-len1-up.len_at_least c.take_keyed.ensures.memory
+
+pub returns-in-Err-clause-memory : goal.returns-in-Err-clause-memory
+returns-in-Err-clause-memory g c =
+    wants_first g.P.Place.place g.P.Value.Typed.promise g.V.Places.fields
+    c.args.keys.now {U = Unit {0}} (g.S.Source.view c.args.de.now.reader) (Err _) (pos 0)
+    c.in-len1-up.len_at_least c.in-Err.ensures.memory
+
+pub returns-in-empty-clause-memory : goal.returns-in-empty-clause-memory
+returns-in-empty-clause-memory g c =
+    wants_as (g.S.Source.view c.args.de.now.reader) false _
+    (answer_of c.deserialize_ignored_any.result) not_exact
+    c.deserialize_ignored_any.ensures.item.memory
