@@ -20,8 +20,10 @@ pub struct Options {
     pub default: Option<String>,
     /// Whether none is not written: `skip_serializing_if`.
     pub left_out: bool,
-    /// Whether the field may come once: `once`.
+    /// Whether the field may come once, which is so where nothing else is said: `once`.
     pub once: bool,
+    /// Whether the last of several counts: `last`.
+    pub last: bool,
     /// What is said where the field is missing: `missing`.
     pub words: Option<String>,
     /// The integer that is the field's key: `key`.
@@ -43,6 +45,7 @@ pub fn no_options() -> Options {
         default: None,
         left_out: false,
         once: false,
+        last: false,
         words: None,
         key: None,
         tag: None,
@@ -70,6 +73,7 @@ impl Options {
             && self.key.is_none()
             && !self.left_out
             && !self.once
+            && !self.last
     }
 }
 
@@ -180,6 +184,7 @@ fn own_option(alloc: Global, input: &mut Input, options: &mut Options) -> Result
     let name = input.name()?;
     match name.as_str() {
         "once" => options.once = true,
+        "last" => options.last = true,
         "array" => options.array = true,
         "missing" => options.words = Some(value(alloc, input)?),
         "module" => options.module = Some(value(alloc, input)?),

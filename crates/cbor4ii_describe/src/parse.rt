@@ -269,15 +269,16 @@ fn field(alloc: Global, input: &mut Input, owner: &str, is_array: bool) -> Resul
     let presence = presence(alloc, line, &options, its_type.as_str())?;
     let Options {
         rename,
-        once,
+        last,
         words,
         key,
         ..
     } = options;
+    let once = !last;
     let key = key_or_name(alloc, line, key, rename, name.as_str())?;
     let words = match words {
         Some(words) => words,
-        None => no_such_field(alloc, owner, &key, name.as_str())?,
+        None => words_of(alloc, owner, &key, name.as_str(), once)?,
     };
     Ok(Field {
         head,
@@ -314,9 +315,15 @@ pub fn or_name(alloc: Global, rename: Option<String>, name: &str) -> Result<Stri
     }
 }
 
-// What is said of a missing field: `a point has no x`. A field under an integer is called by its
-// own name.
-fn no_such_field(alloc: Global, owner: &str, key: &Key, name: &str) -> Result<String, Fault> {
+// What is said of a field that is missing: `a point has no x`. Of one that may come once it is said
+// where it comes twice, too: `a point has one x`. A field under an integer has its own name.
+fn words_of(
+    alloc: Global,
+    owner: &str,
+    key: &Key,
+    name: &str,
+    once: bool,
+) -> Result<String, Fault> {
     let called = match key {
         Key::Name(key) => key.as_str(),
         _ => name,
@@ -326,7 +333,8 @@ fn no_such_field(alloc: Global, owner: &str, key: &Key, name: &str) -> Result<St
         Some(b'a' | b'e' | b'i' | b'o' | b'u') => "an",
         _ => "a",
     };
-    Ok(format!(in alloc; "{article} {owner} has no {called}")?)
+    let count = if once { "one" } else { "no" };
+    Ok(format!(in alloc; "{article} {owner} has {count} {called}")?)
 }
 
 // A type's name as words: `a point` of `APoint`.

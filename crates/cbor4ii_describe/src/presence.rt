@@ -40,7 +40,8 @@ pub fn presence(
         None if sort == Sort::Optional => or_default(alloc, line, "", sort)?,
         None => Presence::Required,
     };
-    if options.once && !matches!(presence, Presence::Required) {
+    let comes_last = options.last || !matches!(presence, Presence::Required);
+    if options.once && comes_last {
         return refused(line, Why::Attribute);
     }
     Ok(presence)

@@ -3,7 +3,7 @@ use crate::describe::describe;
 use crate::fault::{Fault, Why};
 
 // What is refused: the line, and why. Each input holds one form.
-const REFUSED: [(&str, u32, Why); 60] = [
+const REFUSED: [(&str, u32, Why); 63] = [
     ("", 1, Why::NoType),
     ("\nunion A { B }", 2, Why::NotType),
     ("fn a() {}", 1, Why::NotType),
@@ -25,6 +25,13 @@ const REFUSED: [(&str, u32, Why); 60] = [
         3,
         Why::Attribute,
     ),
+    (
+        "struct A { #[describe(once, last)] a: u8 }",
+        1,
+        Why::Attribute,
+    ),
+    ("#[describe(last)] struct A { a: u8 }", 1, Why::Attribute),
+    ("struct A(#[describe(last)] u8);", 1, Why::Attribute),
     (
         "struct A { #[serde(rename = \"é\")] a: u8 }",
         1,
@@ -169,7 +176,7 @@ fn forms_are_refused(rt: HostRuntime) {
 }
 
 // A type, and a part of what is written of it.
-const WRITTEN: [(&str, &str); 29] = [
+const WRITTEN: [(&str, &str); 38] = [
     (
         "struct A { #[serde(rename = \"b\")] a: u8 }",
         "serialize_1_field(\"A\", \"b\", &self.a)",
@@ -192,11 +199,38 @@ const WRITTEN: [(&str, &str); 29] = [
         "struct A { #[describe(once)] a: u8 }",
         "(Once(Required), ())",
     ),
+    ("struct A { a: u8 }", "(Once(Required), ())"),
+    ("struct A { a: u8 }", "let missing = [\"an a has one a\"];"),
+    ("struct A { #[describe(last)] a: u8 }", "(Required, ())"),
+    (
+        "struct A { #[describe(last)] a: u8 }",
+        "let missing = [\"an a has no a\"];",
+    ),
+    (
+        "struct A { #[describe(last, key = 1)] a: u8 }",
+        "(with_key (pos 1) (codes \"an a has no a\")",
+    ),
+    (
+        "struct A<T>(Vec<T>);",
+        "ghost agrees = { as_described (T.agrees, tt) T.agrees.is };",
+    ),
+    (
+        "struct A<T> { a: u8, b: T }",
+        "as_described (T.agrees, tt)\n        (both_are T.agrees.is refl) };",
+    ),
+    (
+        "struct A { a: u8 }",
+        "        (λ values. record { a = values.0 }) (λ a. refl)\n",
+    ),
+    (
+        "#[describe(module = \"a\")] enum A { B { x: u8, y: u8 } }",
+        "| First held ↦ A.B held.0 held.1.0\n      | Other others ↦ elim others [ ]\n    ] };",
+    ),
     (
         "struct A { #[describe(missing = \"no a\")] a: u8 }",
         "let missing = [\"no a\"];",
     ),
-    ("struct AnItem { a: u8 }", "\"an an item has no a\""),
+    ("struct AnItem { a: u8 }", "\"an an item has one a\""),
     (
         "#[derive(Clone, Serialize)]\nstruct A(u8);",
         "#[derive(Clone, Drop)]\nstruct A(u8);",
@@ -223,7 +257,7 @@ const WRITTEN: [(&str, &str); 29] = [
     ),
     (
         "struct A { #[describe(key = -9223372036854775808)] a: u8 }",
-        "(with_key (minus 9223372036854775808) (codes \"an a has no a\")",
+        "(with_key_once (minus 9223372036854775808) (codes \"an a has one a\")",
     ),
     (
         "struct A { #[describe(key = -1, once)] a: u8 }",

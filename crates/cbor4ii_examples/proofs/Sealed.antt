@@ -83,6 +83,7 @@ module _ (payload : List ℕ) (plain : PlainRawValue) (cost : ℕ)
 
   abbrev pub envelope_codec : Codec Envelope
   envelope_codec = struct_codec (λ e. (e.key, (e.signature, (e.payload, no_values))))
+      (λ values. record { key = values.0; signature = values.1.0; payload = values.1.1.0 }) (λ e. refl)
       (with_field_once (codes "key") (codes "an envelope has one key") number_codec
       (with_field_once (codes "signature") (codes "an envelope has one signature") signature_codec
       (with_field_once (codes "payload") (codes "an envelope has one payload") payload_codec

@@ -1,49 +1,51 @@
 -- Trees one after another.
 use Rattle.std.proofs.Common.{◌≡◌, ◌∙◌, ◌<◌, ◌+◌, ℕ, List, [], ◌∷◌, ◌++◌, length, drop, get_or}
-use Rattle.std.proofs.Common.{Option, None, Some, refl, sym, ap}
-use Rattle.std.specs.Prelude.{option_and_then}
+use Rattle.std.proofs.Common.{Ok, Err, refl, sym, ap}
 use Rattle.std.proofs.lemmas.List.{append_assoc, map-append}
 use Rattle.cbor4ii_tree.specs.Basis.View.{view, items_view, pairs_view}
 use Rattle.cbor4ii_tree.specs.declared.value.Value.{Value}
 use Rattle.cbor4ii.specs.Laws.Shown.{items_from, pairs_from}
+use Rattle.cbor4ii_examples.specs.Told.{Told, told_as, told_then}
 use Rattle.cbor4ii_examples.specs.Tree.{Node, NodeFields, node_pairs_at, children_at}
 use Rattle.cbor4ii_examples.specs.Tree.{with_node_pair, node_at}
 use Rattle.cbor4ii_examples.specs.Tree.{nodes_at}
-use Rattle.cbor4ii_examples.specs.Tree.{more_made, tree_node, tree_nodes}
+use Rattle.cbor4ii_examples.specs.Tree.{tree_node, tree_nodes}
 use Rattle.cbor4ii_examples.specs.declared.tree.Tree.{Tree}
 
--- a item_pair more
+-- a pair more
 pub pairs-next : (ms : List (Value × Value)) (i : ℕ) (m : Value × Value) (s : NodeFields)
-    (o : Option NodeFields) → i < length ms → m ≡ get_or ms i m
+    (o : Told NodeFields) → i < length ms → m ≡ get_or ms i m
     → with_node_pair s (view m.0) (view m.1) (children_at (view m.1)) ≡ o
     → node_pairs_at (pairs_view (drop i ms)) s
-    ≡ option_and_then (node_pairs_at (pairs_view (drop (i + 1) ms))) o
+    ≡ told_then (node_pairs_at (pairs_view (drop (i + 1) ms))) o
 pairs-next ms i m s o lt is e =
     ap (λ n. node_pairs_at n s) (pairs_from ms i m lt is)
-    ∙ ap (option_and_then (node_pairs_at (pairs_view (drop (i + 1) ms)))) e
+    ∙ ap (told_then (node_pairs_at (pairs_view (drop (i + 1) ms)))) e
 
 -- nodes, and those after them
-abbrev pub after : List Node → Option (List Node) → Option (List Node)
-after ns None = None
-after ns (Some ms) = Some (ns ++ ms)
+abbrev pub after : List Node → Told (List Node) → Told (List Node)
+after ns = told_as (λ ms. ns ++ ms)
+
+abbrev pub more_told : Told Node → Told (List Node) → Told (List Node)
+more_told told ns = told_then (λ n. told_as (λ ms. n ∷ ms) ns) told
 
 -- a node more
-pub nodes-next : (vs : List Value) (i : ℕ) (v : Value) (o : Option Node) → i < length vs
+pub nodes-next : (vs : List Value) (i : ℕ) (v : Value) (o : Told Node) → i < length vs
     → v ≡ get_or vs i v → node_at (view v) ≡ o
-    → nodes_at (items_view (drop i vs)) ≡ more_made o (nodes_at (items_view (drop (i + 1) vs)))
+    → nodes_at (items_view (drop i vs)) ≡ more_told o (nodes_at (items_view (drop (i + 1) vs)))
 nodes-next vs i v o lt is e =
     ap nodes_at (items_from vs i v lt is)
-    ∙ ap (λ n. more_made n (nodes_at (items_view (drop (i + 1) vs)))) e
+    ∙ ap (λ n. more_told n (nodes_at (items_view (drop (i + 1) vs)))) e
 
-after-more : (ns : List Node) (n : Node) (o : Option (List Node))
-    → after ns (more_made (Some n) o) ≡ after (ns ++ n ∷ []) o
-after-more ns n None = refl
-after-more ns n (Some ms) = ap Some (sym (append_assoc ns (n ∷ []) ms))
+after-more : (ns : List Node) (n : Node) (o : Told (List Node))
+    → after ns (more_told (Ok n) o) ≡ after (ns ++ n ∷ []) o
+after-more ns n (Err words) = refl
+after-more ns n (Ok ms) = ap Ok (sym (append_assoc ns (n ∷ []) ms))
 
 -- the same where its tree was put after those that were there
-pub after-pushed : (trees : List Tree) (tree : Tree) (pushed : List Tree) (o : Option (List Node))
+pub after-pushed : (trees : List Tree) (tree : Tree) (pushed : List Tree) (o : Told (List Node))
     → pushed ≡ trees ++ tree ∷ []
-    → after (tree_nodes trees) (more_made (Some (tree_node tree)) o) ≡ after (tree_nodes pushed) o
+    → after (tree_nodes trees) (more_told (Ok (tree_node tree)) o) ≡ after (tree_nodes pushed) o
 after-pushed trees tree pushed o e = after-more (tree_nodes trees) (tree_node tree) o
     ∙ ap (λ (ns : List Node). after ns o)
     (sym (ap tree_nodes e ∙ map-append tree_node trees (tree ∷ [])))

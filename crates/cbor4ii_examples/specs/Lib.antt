@@ -4,6 +4,7 @@ pub mod Station
 pub mod StationLaws
 pub mod Nest
 -- A struct and an enum that hold values of their own kind, and that they are read back.
+pub mod Told
 pub mod Tree
 pub mod TreeLaws
 pub mod Shape

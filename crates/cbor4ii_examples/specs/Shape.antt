@@ -1,12 +1,19 @@
 -- Which items are shapes, and how shapes are written.
-use Rattle.std.specs.Prelude.{ℕ, ◌^◌, ◌<◌, ◌∷◌, [], pos, List, Bool, false, Option, None, Some}
-use Rattle.std.specs.Prelude.{codes, bytes_eq, nat_lt, if◌then◌else◌, option_map}
+use Rattle.std.specs.Prelude.{ℕ, ◌^◌, ◌<◌, ◌∷◌, [], pos, List, Ok, Err}
+use Rattle.std.specs.Prelude.{codes, bytes_eq, if◌then◌else◌}
 use Rattle.cbor4ii_items.specs.Numbers.{shortest_head}
 use Rattle.cbor4ii_tree.specs.Basis.Item.{Item, Items, ItemPairs, integer, text, sequence, mapping}
 use Rattle.cbor4ii_tree.specs.Basis.Item.{item}
 use Rattle.cbor4ii_tree.specs.Basis.Item.{no_items, item_pair, no_item_pairs}
 use Rattle.cbor4ii_ser.specs.Item.{Encoding, encoded, field, variant_encoding}
 use Rattle.cbor4ii_ser.specs.Item.{tuple_variant_encoding, struct_encoding}
+use Rattle.cbor4ii.specs.Places.{put_only}
+use Rattle.cbor4ii.specs.Presence.{both_or_words}
+use Rattle.cbor4ii.specs.declared.serde.de.place.Single.{Single}
+use Rattle.cbor4ii.specs.declared.serde.de.place.Single.TheVariants.{Absent}
+use Rattle.cbor4ii_examples.specs.Told.{Told, told_as, told_then, number_at, text_at, the_one}
+use Rattle.cbor4ii_examples.specs.Told.{single_as}
+use Rattle.cbor4ii_examples.specs.declared.shape.Frame.{Frame}
 use Rattle.cbor4ii_examples.specs.declared.shape.Shape.{Shape, fold-Shape}
 use Rattle.cbor4ii_examples.specs.declared.shape.Shape.TheOpen.{Shape-F}
 
@@ -43,87 +50,101 @@ shape_item = fold-Shape Encoding shape_step
 
 -- ---- read
 
--- a number below 2^32
-abbrev pub small_number_at : Item → Option ℕ
-small_number_at (integer (pos n)) = if nat_lt n 4294967296 then Some n else None
-small_number_at _ = None
+-- a number below 2^32, in these words where it is another item
+abbrev pub small_number_at : List ℕ → Item → Told ℕ
+small_number_at = number_at 4294967296
 
-abbrev pub circle_at : Item → Option Figure
-circle_at v = option_map circle (small_number_at v)
+-- the fields of a frame that were seen so far
+pub record FrameFields : Type 0 where
+  pub width : Single ℕ
+  pub inner : Single Figure
 
-abbrev pub pair_made : (first second : Option Figure) → Option Figure
-pair_made None second = None
-pair_made (Some a) None = None
-pair_made (Some a) (Some b) = Some (pair a b)
+abbrev pub frame_fields : Frame → FrameFields
+frame_fields f = record { width = f.width; inner = single_as figure f.inner }
 
-abbrev pub framed_made : (inner : Option Figure) → (width : Option ℕ) → Option Figure
-framed_made None width = None
-framed_made (Some b) None = None
-framed_made (Some b) (Some n) = Some (framed n b)
+abbrev pub nothing_framed : FrameFields
+nothing_framed = record { width = Absent; inner = Absent }
 
--- this figure, where no other pair stands beside it
-abbrev pub only_this : ItemPairs → Option Figure → Option Figure
-only_this no_item_pairs o = o
-only_this (item_pair k v ms) o = None
+-- the fields after one more, of which the figure that its value may stand for is given
+abbrev pub with_frame_field : FrameFields → List ℕ → Item → Told Figure → Told FrameFields
+with_frame_field s name v inner = if bytes_eq name (codes "width")
+    then told_as (λ n. record s { width = put_only n s.width })
+    (small_number_at (codes "a width is a number below 2^32") v)
+    else (if bytes_eq name (codes "inner")
+    then told_as (λ f. record s { inner = put_only f s.inner }) inner
+    else Ok s)
 
-abbrev pub last : Items → Option Figure → Option Figure
-last no_items o = o
-last (item v vs) o = None
+abbrev pub with_frame_pair : FrameFields → Item → Item → Told Figure → Told FrameFields
+with_frame_pair s k v inner = told_then (λ name. with_frame_field s name v inner)
+    (text_at (codes "the name of a field is a text") k)
 
--- the item is this text
-abbrev pub is_text_item : Item → List ℕ → Bool
-is_text_item (text bs) name = bytes_eq bs name
-is_text_item _ name = false
+-- a frame has each of its fields once
+abbrev pub frame_from : FrameFields → Told Figure
+frame_from s = told_as (λ parts. framed parts.0 parts.1)
+    (both_or_words (the_one (codes "a frame has one width") s.width)
+    (the_one (codes "a frame has one shape inside") s.inner))
 
--- this, where the key is this name
-abbrev pub under : {A : Type 0} → List ℕ → Item → Option A → Option A
-under name key o = if is_text_item key name then o else None
+-- the variant of this name, where each is told of the content that is its own
+abbrev pub variant_of_name : List ℕ → (circle pair framed : Told Figure) → Told Figure
+variant_of_name name c p f = if bytes_eq name (codes "Circle") then c
+    else (if bytes_eq name (codes "Pair") then p
+    else (if bytes_eq name (codes "Framed") then f else Err (codes "no such shape")))
 
--- the variant of this name, where each stands for the content that is its own
-abbrev pub variant_named : Item → (circle pair framed : Option Figure) → Option Figure
-variant_named name c p f = if is_text_item name (codes "Circle") then c
-    else (if is_text_item name (codes "Pair") then p
-    else under (codes "Framed") name f)
+abbrev pub variant_named : Item → (circle pair framed : Told Figure) → Told Figure
+variant_named k c p f = told_then (λ name. variant_of_name name c p f)
+    (text_at (codes "the name of a shape is a text") k)
 
--- The figure that an item stands for: a map of one item_pair, the variant's name and its content. A
--- pair is an array of two, and a frame a map of its width and what is inside, in this order.
+abbrev pub circle_at : Item → Told Figure
+circle_at v = told_as circle (small_number_at (codes "a radius is a number below 2^32") v)
+
+-- two figures, where no other stands beside them
+abbrev pub pair_told : (first second : Told Figure) → Told Figure
+pair_told first second = told_as (λ parts. pair parts.0 parts.1) (both_or_words first second)
+
+-- this, where no other pair or item stands beside it
+abbrev pub only_pair : ItemPairs → Told Figure → Told Figure
+only_pair no_item_pairs o = o
+only_pair (item_pair k v ms) o = Err (codes "a shape is a map of one pair")
+
+abbrev pub only_item : Items → Told Figure → Told Figure
+only_item no_items o = o
+only_item (item v vs) o = Err (codes "a pair is an array of two")
+
+-- What an item stands for is that of an enum of a number, a tuple of two figures and a struct of a
+-- number and a figure, level by level: a map of one pair, the variant's name and its content.
 abbrev mutual
-  pub figure_at : Item → Option Figure
+  pub figure_at : Item → Told Figure
   figure_at (mapping ms) = figure_in ms
-  figure_at _ = None
+  figure_at _ = Err (codes "a shape is a map of one pair")
 
-  pub figure_in : ItemPairs → Option Figure
-  figure_in no_item_pairs = None
-  figure_in (item_pair k v ms) = only_this ms (variant_named k (circle_at v) (pair_at v)
+  pub figure_in : ItemPairs → Told Figure
+  figure_in no_item_pairs = Err (codes "a shape is a map of one pair")
+  figure_in (item_pair k v ms) = only_pair ms (variant_named k (circle_at v) (pair_at v)
       (framed_at v))
 
-  pub pair_at : Item → Option Figure
+  pub pair_at : Item → Told Figure
   pair_at (sequence vs) = pair_in vs
-  pair_at _ = None
+  pair_at _ = Err (codes "a pair is an array of two")
 
-  pub pair_in : Items → Option Figure
-  pair_in no_items = None
-  pair_in (item v vs) = pair_made (figure_at v) (second_in vs)
+  pub pair_in : Items → Told Figure
+  pair_in no_items = Err (codes "a pair is an array of two")
+  pair_in (item v vs) = second_in vs (figure_at v)
 
-  pub second_in : Items → Option Figure
-  second_in no_items = None
-  second_in (item v vs) = last vs (figure_at v)
+  pub second_in : Items → Told Figure → Told Figure
+  second_in no_items first = Err (codes "a pair is an array of two")
+  second_in (item v vs) first = only_item vs (pair_told first (figure_at v))
 
-  pub framed_at : Item → Option Figure
-  framed_at (mapping ms) = framed_in ms
-  framed_at _ = None
+  pub framed_at : Item → Told Figure
+  framed_at (mapping ms) = told_then frame_from (frame_pairs_at ms nothing_framed)
+  framed_at _ = Err (codes "a frame is a map")
 
-  pub framed_in : ItemPairs → Option Figure
-  framed_in no_item_pairs = None
-  framed_in (item_pair k v ms) =
-      framed_made (inner_in ms) (under (codes "width") k (small_number_at v))
-
-  pub inner_in : ItemPairs → Option Figure
-  inner_in no_item_pairs = None
-  inner_in (item_pair k v ms) = only_this ms (under (codes "inner") k (figure_at v))
+  pub frame_pairs_at : ItemPairs → FrameFields → Told FrameFields
+  frame_pairs_at no_item_pairs s = Ok s
+  frame_pairs_at (item_pair k v ms) s =
+      told_then (frame_pairs_at ms) (with_frame_pair s k v (figure_at v))
 
 -- the variant of this name and content
-abbrev pub variant_at : Item → Item → Option Figure
+abbrev pub variant_at : Item → Item → Told Figure
 variant_at k v = variant_named k (circle_at v) (pair_at v) (framed_at v)
 
 -- ---- read back

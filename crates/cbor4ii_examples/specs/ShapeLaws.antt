@@ -1,30 +1,37 @@
 -- That what is written for a shape is read back.
-use Rattle.std.proofs.Common.{◌≡◌, ◌^◌, Some, None, refl, sym, ap, ap₂, subst, arith}
+use Rattle.std.proofs.Common.{◌≡◌, ◌∙◌, ◌^◌, Ok, Err, refl, sym, ap, ap₂, subst, arith}
 use Rattle.std.proofs.lemmas.Bool.{lt-ltb}
-use Rattle.std.specs.Prelude.{if◌then◌else◌, codes, option_map}
+use Rattle.std.specs.Prelude.{if◌then◌else◌, codes}
 use Rattle.cbor4ii_ser.specs.Item.{Encoding}
-use Rattle.cbor4ii.specs.CodecShown.{IsShownBack}
 use Rattle.cbor4ii.specs.Held.{IsWrittenAs}
 use Rattle.cbor4ii.specs.Laws.Held.{unsigned_as, no_parts, part_before, no_pairs_written}
 use Rattle.cbor4ii.specs.Laws.Held.{field_before}
 use Rattle.cbor4ii.specs.Laws.Held.{struct_as, variant_as, tuple_variant_as}
+use Rattle.cbor4ii_tree.specs.Basis.Item.{text, item_pair, no_item_pairs}
+use Rattle.cbor4ii.specs.declared.serde.de.place.Single.TheVariants.{Absent, Present}
+use Rattle.cbor4ii_examples.specs.Told.{told_as, told_then, IsToldBack}
 use Rattle.cbor4ii_examples.specs.Shape.{Figure, circle, pair, framed, figure_step, figure}
-use Rattle.cbor4ii_examples.specs.Shape.{shape_step, shape_item, figure_at, pair_made, framed_made}
-use Rattle.cbor4ii_examples.specs.Shape.{figure_item, IsFigure}
+use Rattle.cbor4ii_examples.specs.Shape.{shape_step, shape_item, figure_at, pair_told, frame_from}
+use Rattle.cbor4ii_examples.specs.Shape.{frame_pairs_at, figure_item, IsFigure}
 use Rattle.cbor4ii_examples.specs.declared.shape.Shape.{Shape, roll-Shape, map-Shape}
 use Rattle.cbor4ii_examples.specs.declared.shape.Shape.TheFolds.{ind-Shape, fold-roll-Shape}
 use Rattle.cbor4ii_examples.specs.declared.shape.Shape.TheOpen.{Shape-F}
 
 -- ---- the item of a figure stands for it
 
-figure_read : (f : Figure) → IsFigure f → figure_at (figure_item f) ≡ Some f
+figure_read : (f : Figure) → IsFigure f → figure_at (figure_item f) ≡ Ok f
 figure_read (circle radius) h =
-    ap (λ t. option_map circle (if t then Some radius else None)) (lt-ltb radius (2 ^ 32) h)
+    ap (λ t. told_as circle (if t then Ok radius
+    else Err (codes "a radius is a number below 2^32"))) (lt-ltb radius (2 ^ 32) h)
 figure_read (pair first second) h =
-    ap₂ pair_made (figure_read first h.0) (figure_read second h.1)
+    ap₂ pair_told (figure_read first h.0) (figure_read second h.1)
 figure_read (framed width inner) h =
-    ap₂ (λ o t. framed_made o (if t then Some width else None)) (figure_read inner h.1)
+    ap (λ t. told_then frame_from (told_then (frame_pairs_at (item_pair (text (codes "inner"))
+    (figure_item inner) no_item_pairs)) (told_as (λ n. record { width = Present n; inner = Absent })
+    (if t then Ok width else Err (codes "a width is a number below 2^32")))))
     (lt-ltb width (2 ^ 32) h.0)
+    ∙ ap (λ o. told_then frame_from (told_then (frame_pairs_at no_item_pairs) (told_as (λ f.
+    record { width = Present width; inner = Present f }) o))) (figure_read inner h.1)
 
 -- ---- a shape is written as the item of its figure
 
@@ -61,5 +68,5 @@ shape_written = ind-Shape IsShapeWritten (λ x y is.
     subst (λ z. IsShapeWritten (roll-Shape z)) is (rolled_written (λ e. e.0) (λ e. e.1) y))
 
 -- a shape is read back
-pub shape_back : IsShownBack figure_at figure shape_item figure_item IsFigure
+pub shape_back : IsToldBack figure_at figure shape_item figure_item IsFigure
 shape_back = record { written = shape_written; read = figure_read }

@@ -1,7 +1,6 @@
 -- Nodes below a node, as maps in a map: how they are written, and which items are read as such.
-use Rattle.std.specs.Prelude.{ℕ, ◌^◌, ◌<◌, ℤ, pos, negsuc, List, [], ◌∷◌, Option, None, Some}
-use Rattle.std.specs.Prelude.{codes, nat_lt, if◌then◌else◌, option_map, option_and_then}
-use Rattle.std.specs.Prelude.{string_bytes, map}
+use Rattle.std.specs.Prelude.{ℕ, ◌^◌, ◌<◌, pos, List, [], ◌∷◌, Ok, Err}
+use Rattle.std.specs.Prelude.{codes, bytes_eq, if◌then◌else◌, string_bytes, map}
 use Rattle.std.specs.declared.alloc.Global.{Global}
 use Rattle.std.specs.declared.vec.Vec.{Vec}
 use Rattle.cbor4ii_items.specs.Numbers.{shortest_head}
@@ -10,7 +9,12 @@ use Rattle.cbor4ii_tree.specs.Basis.Item.{Item, Items, ItemPairs, integer, text,
 use Rattle.cbor4ii_tree.specs.Basis.Item.{item}
 use Rattle.cbor4ii_tree.specs.Basis.Item.{no_items, item_pair, no_item_pairs}
 use Rattle.cbor4ii_ser.specs.Item.{Encoding, encoded, field, struct_encoding, array_encoding}
-use Rattle.cbor4ii_examples.specs.Shape.{is_text_item}
+use Rattle.cbor4ii.specs.Places.{put_only}
+use Rattle.cbor4ii.specs.Presence.{both_or_words}
+use Rattle.cbor4ii.specs.declared.serde.de.place.Single.{Single}
+use Rattle.cbor4ii.specs.declared.serde.de.place.Single.TheVariants.{Absent}
+use Rattle.cbor4ii_examples.specs.Told.{Told, told_as, told_then, number_at, text_at, the_one}
+use Rattle.cbor4ii_examples.specs.Told.{single_as}
 use Rattle.cbor4ii_examples.specs.declared.tree.Found.{Found}
 use Rattle.cbor4ii_examples.specs.declared.tree.Tree.{Tree, fold-Tree}
 use Rattle.cbor4ii_examples.specs.declared.tree.Tree.TheOpen.{Tree-F}
@@ -57,78 +61,62 @@ tree_item = fold-Tree Encoding tree_step
 
 -- the fields of a node that were seen so far
 pub record NodeFields : Type 0 where
-  pub id : Option ℕ
-  pub name : Option (List ℕ)
-  pub children : List Node
+  pub id : Single ℕ
+  pub name : Single (List ℕ)
+  pub children : Single (List Node)
 
 abbrev pub node_fields : Found → NodeFields
 node_fields f = record {
   id = f.id;
-  name = option_map string_bytes f.name;
-  children = vector_nodes f.children;
+  name = single_as string_bytes f.name;
+  children = single_as vector_nodes f.children;
 }
 
 abbrev pub nothing_seen : NodeFields
-nothing_seen = record { id = None; name = None; children = [] }
+nothing_seen = record { id = Absent; name = Absent; children = Absent }
 
--- a number below 2^64
-abbrev pub id_at : ℤ → Option ℕ
-id_at (pos n) = if nat_lt n 18446744073709551616 then Some n else None
-id_at (negsuc n) = None
+-- the fields after one more, of which the nodes that its value may stand for are given
+abbrev pub with_node_field : NodeFields → List ℕ → Item → Told (List Node) → Told NodeFields
+with_node_field s name v below = if bytes_eq name (codes "id")
+    then told_as (λ n. record s { id = put_only n s.id })
+    (number_at 18446744073709551616 (codes "an id is a number below 2^64") v)
+    else (if bytes_eq name (codes "name")
+    then told_as (λ bs. record s { name = put_only bs s.name })
+    (text_at (codes "a name is a text") v)
+    else (if bytes_eq name (codes "children")
+    then told_as (λ ns. record s { children = put_only ns s.children }) below
+    else Ok s))
 
-abbrev pub with_id : NodeFields → Item → NodeFields
-with_id s (integer z) = record s { id = id_at z }
-with_id s _ = s
+abbrev pub with_node_pair : NodeFields → Item → Item → Told (List Node) → Told NodeFields
+with_node_pair s k v below = told_then (λ name. with_node_field s name v below)
+    (text_at (codes "the name of a field is a text") k)
 
-abbrev pub with_name : NodeFields → Item → NodeFields
-with_name s (text bs) = record s { name = Some bs }
-with_name s _ = s
+-- a node has each of its fields once
+abbrev pub node_from : NodeFields → Told Node
+node_from s = told_as (λ parts. node parts.0 parts.1.0 (nodes_of parts.1.1))
+    (both_or_words (the_one (codes "a tree has one id") s.id)
+    (both_or_words (the_one (codes "a tree has one name") s.name)
+    (the_one (codes "a tree has one list of children") s.children)))
 
-abbrev pub with_nodes : NodeFields → Option (List Node) → Option NodeFields
-with_nodes s None = None
-with_nodes s (Some ns) = Some (record s { children = ns })
-
-abbrev pub with_children : NodeFields → Item → Option (List Node) → Option NodeFields
-with_children s (sequence vs) below = with_nodes s below
-with_children s _ below = Some s
-
--- the fields after one more pair, of which the nodes that its value may stand for are given
-abbrev pub with_node_pair : NodeFields → Item → Item → Option (List Node) → Option NodeFields
-with_node_pair s k v below = if is_text_item k (codes "id") then Some (with_id s v)
-    else (if is_text_item k (codes "name") then Some (with_name s v)
-    else (if is_text_item k (codes "children") then with_children s v below else Some s))
-
-abbrev pub node_from : Option ℕ → Option (List ℕ) → List Node → Option Node
-node_from None name children = None
-node_from (Some id) None children = None
-node_from (Some id) (Some name) children = Some (node id name (nodes_of children))
-
-abbrev pub node_made : Option NodeFields → Option Node
-node_made None = None
-node_made (Some s) = node_from s.id s.name s.children
-
-abbrev pub more_made : Option Node → Option (List Node) → Option (List Node)
-more_made None ns = None
-more_made (Some n) None = None
-more_made (Some n) (Some ns) = Some (n ∷ ns)
-
+-- What an item stands for is that of a struct of a number, a text and an array of nodes, level by
+-- level: a map from texts, in any order, of which other names are skipped.
 abbrev mutual
-  pub node_at : Item → Option Node
-  node_at (mapping ms) = node_made (node_pairs_at ms nothing_seen)
-  node_at _ = None
+  pub node_at : Item → Told Node
+  node_at (mapping ms) = told_then node_from (node_pairs_at ms nothing_seen)
+  node_at _ = Err (codes "a tree is a map")
 
-  pub node_pairs_at : ItemPairs → NodeFields → Option NodeFields
-  node_pairs_at no_item_pairs s = Some s
+  pub node_pairs_at : ItemPairs → NodeFields → Told NodeFields
+  node_pairs_at no_item_pairs s = Ok s
   node_pairs_at (item_pair k v ms) s =
-      option_and_then (node_pairs_at ms) (with_node_pair s k v (children_at v))
+      told_then (node_pairs_at ms) (with_node_pair s k v (children_at v))
 
-  pub children_at : Item → Option (List Node)
+  pub children_at : Item → Told (List Node)
   children_at (sequence vs) = nodes_at vs
-  children_at _ = None
+  children_at _ = Err (codes "children are an array")
 
-  pub nodes_at : Items → Option (List Node)
-  nodes_at no_items = Some []
-  nodes_at (item v vs) = more_made (node_at v) (nodes_at vs)
+  pub nodes_at : Items → Told (List Node)
+  nodes_at no_items = Ok []
+  nodes_at (item v vs) = told_then (λ n. told_as (λ ns. n ∷ ns) (nodes_at vs)) (node_at v)
 
 -- ---- read back
 

@@ -2,7 +2,7 @@
 ghost use Rattle.std.specs.Prelude.{◌≡◌, codes, pos};
 ghost use Rattle.std.proofs.Common.{refl};
 ghost use Rattle.cbor4ii.specs.CodecAgrees.{as_described};
-ghost use Rattle.cbor4ii.specs.CodecKeyed.{keyed_codec, with_key, with_optional_key, no_keys};
+ghost use Rattle.cbor4ii.specs.CodecKeyed.{keyed_codec, with_key_once, with_optional_key, no_keys};
 ghost use Rattle.cbor4ii.specs.CodecKeyed.{minus};
 ghost use Rattle.cbor4ii.specs.Fields.{no_values};
 
@@ -10,7 +10,7 @@ use cbor4ii::dec::Source;
 use cbor4ii::enc::Write;
 use cbor4ii::serde::{
     AsDescribed, DecodeError, Described, Deserialize, Deserializer, EncodeError, FieldValues,
-    IfSome, Optional, Required, Serialize, Serializer, Typed,
+    IfSome, Once, Optional, Required, Serialize, Serializer, Typed,
 };
 use cbor4ii::types::Bytes;
 use std::alloc::Global;
@@ -44,14 +44,27 @@ impl<S: Source> Deserialize<S> for CoseKey {
         alloc: Global,
         de: &mut Deserializer<S>,
     ) -> Result<CoseKey, DecodeError<S::Error>> {
-        let missing = ["a key has no kty", "", "a key has no crv", "a key has no x"];
-        let presences = (Required, (Optional, (Required, (Required, ()))));
+        let missing = [
+            "a key has one kty",
+            "",
+            "a key has one crv",
+            "a key has one x",
+        ];
+        let presences = (
+            Once(Required),
+            (Optional, (Once(Required), (Once(Required), ()))),
+        );
         de.deserialize_keyed_fields(alloc, "COSE_Key", &[1, 3, -1, -2], &missing, presences)
     }
 }
 
 impl From<(i64, (Option<i64>, (i64, (Bytes<Vec<u8>>, ()))))> for CoseKey {
-    ghost from_gives = { λ values c. values ≡ (c.kty, (c.alg, (c.crv, (c.x, no_values)))) };
+    ghost from_gives = { λ values c. c ≡ record {
+      kty = values.0;
+      alg = values.1.0;
+      crv = values.1.1.0;
+      x = values.1.1.1.0;
+    } };
 
     fn from(values: (i64, (Option<i64>, (i64, (Bytes<Vec<u8>>, ()))))) -> CoseKey {
         let (kty, (alg, (crv, (x, ())))) = values;
@@ -65,15 +78,21 @@ impl Typed for CoseKey {
 
 impl Described for CoseKey {
     ghost codec = { keyed_codec (λ c. (c.kty, (c.alg, (c.crv, (c.x, no_values)))))
-        (with_key (pos 1) (codes "a key has no kty") ⟦<i64 as Described>⟧.codec
+        (λ values. record {
+          kty = values.0;
+          alg = values.1.0;
+          crv = values.1.1.0;
+          x = values.1.1.1.0;
+        }) (λ c. refl)
+        (with_key_once (pos 1) (codes "a key has one kty") ⟦<i64 as Described>⟧.codec
         (with_optional_key (pos 3) ⟦<i64 as Described>⟧.codec
-        (with_key (minus 1) (codes "a key has no crv") ⟦<i64 as Described>⟧.codec
-        (with_key (minus 2) (codes "a key has no x") ⟦<Bytes<Vec<u8>> as Described>⟧.codec
+        (with_key_once (minus 1) (codes "a key has one crv") ⟦<i64 as Described>⟧.codec
+        (with_key_once (minus 2) (codes "a key has one x") ⟦<Bytes<Vec<u8>> as Described>⟧.codec
         no_keys refl) refl) refl) refl) refl };
 }
 
 impl AsDescribed for CoseKey {
-    ghost agrees = { as_described tt };
+    ghost agrees = { as_described tt refl };
 }
 
 #[cfg(test)]

@@ -77,7 +77,11 @@ impl<'a> Deserialize<SliceReader<'a>> for Envelope<'a> {
 type Values<'a> = (u32, (Bytes<&'a [u8]>, (PlainRawValue<'a>, ())));
 
 impl<'a> From<Values<'a>> for Envelope<'a> {
-    ghost from_gives = { λ values e. values ≡ (e.key, (e.signature, (e.payload, no_values))) };
+    ghost from_gives = { λ values e. e ≡ record {
+      key = values.0;
+      signature = values.1.0;
+      payload = values.1.1.0;
+    } };
 
     fn from(values: Values<'a>) -> Envelope<'a> {
         let (key, (signature, (payload, ()))) = values;
@@ -91,7 +95,7 @@ impl<'a> From<Values<'a>> for Envelope<'a> {
 
 impl<'a> Typed for Envelope<'a> {
     ghost promise = { made_from
-        (λ values e. values ≡ (e.key, (e.signature, (e.payload, no_values))))
+        (λ values e. e ≡ record { key = values.0; signature = values.1.0; payload = values.1.1.0 })
         (struct_from
         (single_field (codes "key") (codes "an envelope has one key")
         (or_words (codes "an envelope has one key")) ⟦<u32 as Typed>⟧.promise

@@ -4,7 +4,7 @@ ghost use Rattle.std.proofs.Common.{refl};
 ghost use Rattle.cbor4ii.specs.CodecAgrees.{as_described};
 ghost use Rattle.cbor4ii.specs.CodecCases.{enum_codec, unit_variant, variant, variant_of_fields};
 ghost use Rattle.cbor4ii.specs.CodecCases.{no_case};
-ghost use Rattle.cbor4ii.specs.CodecFields.{with_field, no_fields};
+ghost use Rattle.cbor4ii.specs.CodecFields.{with_field_once, no_fields};
 ghost use Rattle.cbor4ii.specs.Fields.{no_values};
 ghost use Rattle.std.specs.declared.string.ParseError.{Infallible};
 ghost use Rattle.cbor4ii.specs.declared.serde.de.cases.Choice.TheVariants.{First, Other};
@@ -17,7 +17,7 @@ use cbor4ii::error::Never;
 use cbor4ii::serde::Choice::{First, Other};
 use cbor4ii::serde::{
     AsDescribed, Choice, DecodeError, Described, Deserialize, Deserializer, EncodeError,
-    FieldWords, Holds, HoldsFields, Otherwise, Required, Serialize, Serializer, Typed, Unit,
+    FieldWords, Holds, HoldsFields, Once, Otherwise, Required, Serialize, Serializer, Typed, Unit,
 };
 use std::alloc::Global;
 use std::marker::PhantomData;
@@ -61,9 +61,9 @@ impl<S: Source> Deserialize<S> for Event {
         let variants = ["Started", "Sampled", "Moved", "Named"];
         let others = Otherwise("no such event");
         let names = &["id", "name"];
-        let missing = &["a name has no id", "a name has no text"];
+        let missing = &["a name has one id", "a name has one text"];
         let words = FieldWords(names, missing, PhantomData);
-        let presences = (Required, (Required, ()));
+        let presences = (Once(Required), (Once(Required), ()));
         let others = HoldsFields(words, presences, others);
         let others = (Unit, (Holds, (Holds, others)));
         de.deserialize_variant(alloc, "Event", &variants, others)
@@ -76,11 +76,18 @@ type EventChoice = Choice<
 >;
 
 impl From<EventChoice> for Event {
-    ghost from_gives = { λ choice e. choice ≡ elim e [
-      | Event.Started ↦ First tt
-      | Event.Sampled first ↦ Other (First first)
-      | Event.Moved first second ↦ Other (Other (First (first, second)))
-      | Event.Named first second ↦ Other (Other (Other (First (first, (second, no_values)))))
+    ghost from_gives = { λ choice e. e ≡ elim choice [
+      | First held ↦ Event.Started
+      | Other others ↦ elim others [
+        | First held ↦ Event.Sampled held
+        | Other others ↦ elim others [
+          | First held ↦ Event.Moved held.0 held.1
+          | Other others ↦ elim others [
+            | First held ↦ Event.Named held.0 held.1.0
+            | Other others ↦ elim others [ ]
+          ]
+        ]
+      ]
     ] };
 
     fn from(choice: EventChoice) -> Event {
@@ -107,18 +114,37 @@ impl Described for Event {
       | Event.Moved first second ↦ Other (Other (First (first, second)))
       | Event.Named first second ↦ Other (Other (Other (First (first, (second, no_values)))))
     ])
+        (elim [
+          | First held ↦ Event.Started
+          | Other others ↦ elim others [
+            | First held ↦ Event.Sampled held
+            | Other others ↦ elim others [
+              | First held ↦ Event.Moved held.0 held.1
+              | Other others ↦ elim others [
+                | First held ↦ Event.Named held.0 held.1.0
+                | Other others ↦ elim others [ ]
+              ]
+            ]
+          ]
+        ])
+        (elim [
+          | Event.Started ↦ refl
+          | Event.Sampled first ↦ refl
+          | Event.Moved first second ↦ refl
+          | Event.Named first second ↦ refl
+        ])
         (unit_variant (codes "Started")
         (variant (codes "Sampled") ⟦<Sample as Described>⟧.codec
         (variant (codes "Moved") ⟦<(i32, i32) as Described>⟧.codec
         (variant_of_fields (codes "Named")
-        (with_field (codes "id") (codes "a name has no id") ⟦<u32 as Described>⟧.codec
-        (with_field (codes "name") (codes "a name has no text") ⟦<String as Described>⟧.codec
+        (with_field_once (codes "id") (codes "a name has one id") ⟦<u32 as Described>⟧.codec
+        (with_field_once (codes "name") (codes "a name has one text") ⟦<String as Described>⟧.codec
         no_fields refl) refl) refl
         (no_case {V = Infallible} (codes "no such event")) refl) refl) refl) refl) };
 }
 
 impl AsDescribed for Event {
-    ghost agrees = { as_described tt };
+    ghost agrees = { as_described tt refl };
 }
 
 #[cfg(test)]

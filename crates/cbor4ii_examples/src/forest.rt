@@ -2,7 +2,7 @@
 ghost use Rattle.std.specs.Prelude.{◌≡◌, codes};
 ghost use Rattle.std.proofs.Common.{refl};
 ghost use Rattle.cbor4ii.specs.CodecAgrees.{as_described};
-ghost use Rattle.cbor4ii.specs.CodecFields.{struct_codec, with_field, no_fields};
+ghost use Rattle.cbor4ii.specs.CodecFields.{struct_codec, with_field_once, no_fields};
 ghost use Rattle.cbor4ii.specs.Fields.{no_values};
 
 use crate::shape::Shape;
@@ -10,7 +10,7 @@ use crate::tree::Tree;
 use cbor4ii::dec::Source;
 use cbor4ii::enc::Write;
 use cbor4ii::serde::{
-    AsDescribed, DecodeError, Described, Deserialize, Deserializer, EncodeError, Required,
+    AsDescribed, DecodeError, Described, Deserialize, Deserializer, EncodeError, Once, Required,
     Serialize, Serializer, Typed,
 };
 use std::alloc::Global;
@@ -48,11 +48,11 @@ impl<S: Source> Deserialize<S> for Forest {
         de: &mut Deserializer<S>,
     ) -> Result<Forest, DecodeError<S::Error>> {
         let missing = [
-            "a forest has a name",
-            "a forest has trees",
-            "a forest has a border",
+            "a forest has one name",
+            "a forest has one list of trees",
+            "a forest has one border",
         ];
-        let presences = (Required, (Required, (Required, ())));
+        let presences = (Once(Required), (Once(Required), (Once(Required), ())));
         de.deserialize_fields(
             alloc,
             "Forest",
@@ -64,7 +64,8 @@ impl<S: Source> Deserialize<S> for Forest {
 }
 
 impl From<(String, (Vec<Tree>, (Shape, ())))> for Forest {
-    ghost from_gives = { λ values f. values ≡ (f.name, (f.trees, (f.border, no_values))) };
+    ghost from_gives = { λ values f. f ≡
+        record { name = values.0; trees = values.1.0; border = values.1.1.0 } };
 
     fn from(values: (String, (Vec<Tree>, (Shape, ())))) -> Forest {
         let (name, (trees, (border, ()))) = values;
@@ -82,14 +83,19 @@ impl Typed for Forest {
 
 impl Described for Forest {
     ghost codec = { struct_codec (λ f. (f.name, (f.trees, (f.border, no_values))))
-        (with_field (codes "name") (codes "a forest has a name") ⟦<String as Described>⟧.codec
-        (with_field (codes "trees") (codes "a forest has trees") ⟦<Vec<Tree> as Described>⟧.codec
-        (with_field (codes "border") (codes "a forest has a border") ⟦<Shape as Described>⟧.codec
+        (λ values. record { name = values.0; trees = values.1.0; border = values.1.1.0 })
+        (λ f. refl)
+        (with_field_once (codes "name") (codes "a forest has one name")
+        ⟦<String as Described>⟧.codec
+        (with_field_once (codes "trees") (codes "a forest has one list of trees")
+        ⟦<Vec<Tree> as Described>⟧.codec
+        (with_field_once (codes "border") (codes "a forest has one border")
+        ⟦<Shape as Described>⟧.codec
         no_fields refl) refl) refl) refl };
 }
 
 impl AsDescribed for Forest {
-    ghost agrees = { as_described tt };
+    ghost agrees = { as_described tt refl };
 }
 
 #[cfg(test)]

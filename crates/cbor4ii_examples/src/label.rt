@@ -2,13 +2,13 @@
 ghost use Rattle.std.specs.Prelude.{◌≡◌, codes};
 ghost use Rattle.std.proofs.Common.{refl};
 ghost use Rattle.cbor4ii.specs.CodecAgrees.{as_described};
-ghost use Rattle.cbor4ii.specs.CodecFields.{struct_codec, with_field, no_fields};
+ghost use Rattle.cbor4ii.specs.CodecFields.{struct_codec, with_field_once, no_fields};
 ghost use Rattle.cbor4ii.specs.Fields.{no_values};
 
 use cbor4ii::enc::Write;
 use cbor4ii::error::Never;
 use cbor4ii::serde::{
-    AsDescribed, DecodeError, Described, Deserialize, Deserializer, EncodeError, Required,
+    AsDescribed, DecodeError, Described, Deserialize, Deserializer, EncodeError, Once, Required,
     Serialize, Serializer, Typed,
 };
 use cbor4ii::utils::SliceReader;
@@ -37,14 +37,14 @@ impl<'a> Deserialize<SliceReader<'a>> for Label<'a> {
         alloc: Global,
         de: &mut Deserializer<SliceReader<'a>>,
     ) -> Result<Label<'a>, DecodeError<Never>> {
-        let missing = ["a label has no id", "a label has no text"];
-        let presences = (Required, (Required, ()));
+        let missing = ["a label has one id", "a label has one text"];
+        let presences = (Once(Required), (Once(Required), ()));
         de.deserialize_fields(alloc, "Label", &["id", "text"], &missing, presences)
     }
 }
 
 impl<'a> From<(u8, (&'a str, ()))> for Label<'a> {
-    ghost from_gives = { λ values l. values ≡ (l.id, (l.text, no_values)) };
+    ghost from_gives = { λ values l. l ≡ record { id = values.0; text = values.1.0 } };
 
     fn from(values: (u8, (&'a str, ()))) -> Label<'a> {
         let (id, (text, ())) = values;
@@ -58,13 +58,15 @@ impl<'a> Typed for Label<'a> {
 
 impl<'a> Described for Label<'a> {
     ghost codec = { struct_codec (λ l. (l.id, (l.text, no_values)))
-        (with_field (codes "id") (codes "a label has no id") ⟦<u8 as Described>⟧.codec
-        (with_field (codes "text") (codes "a label has no text") ⟦<&'a str as Described>⟧.codec
+        (λ values. record { id = values.0; text = values.1.0 }) (λ l. refl)
+        (with_field_once (codes "id") (codes "a label has one id") ⟦<u8 as Described>⟧.codec
+        (with_field_once (codes "text") (codes "a label has one text")
+        ⟦<&'a str as Described>⟧.codec
         no_fields refl) refl) refl };
 }
 
 impl<'a> AsDescribed for Label<'a> {
-    ghost agrees = { as_described tt };
+    ghost agrees = { as_described tt refl };
 }
 
 #[cfg(test)]

@@ -52,6 +52,7 @@ pub mod meters;
 pub mod moment;
 pub mod nest;
 pub mod page;
+mod parts;
 pub mod percent;
 pub mod point;
 pub mod port;

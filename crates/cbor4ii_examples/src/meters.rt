@@ -1,5 +1,6 @@
 //! A newtype, which is read and written as what it holds.
 ghost use Rattle.std.specs.Prelude.{◌≡◌};
+ghost use Rattle.std.proofs.Common.{refl};
 ghost use Rattle.cbor4ii.specs.Codec.{codec_of};
 ghost use Rattle.cbor4ii.specs.CodecAgrees.{as_described};
 
@@ -33,7 +34,7 @@ impl<S: Source> Deserialize<S> for Meters {
 }
 
 impl From<u32> for Meters {
-    ghost from_gives = { λ value m. value ≡ m.0 };
+    ghost from_gives = { λ value m. m ≡ record { 0 = value } };
 
     fn from(value: u32) -> Meters {
         Meters(value)
@@ -45,11 +46,12 @@ impl Typed for Meters {
 }
 
 impl Described for Meters {
-    ghost codec = { codec_of (λ m. m.0) ⟦<u32 as Described>⟧.codec };
+    ghost codec = { codec_of (λ m. m.0) (λ value. record { 0 = value }) (λ m. refl)
+        ⟦<u32 as Described>⟧.codec };
 }
 
 impl AsDescribed for Meters {
-    ghost agrees = { as_described tt };
+    ghost agrees = { as_described tt refl };
 }
 
 #[cfg(test)]

@@ -3,14 +3,14 @@ ghost use Rattle.std.specs.Prelude.{◌≡◌, codes};
 ghost use Rattle.std.proofs.Common.{refl};
 ghost use Rattle.cbor4ii.specs.Codec.{codec_of};
 ghost use Rattle.cbor4ii.specs.CodecAgrees.{as_described};
-ghost use Rattle.cbor4ii.specs.CodecFields.{struct_codec, with_field, no_fields};
+ghost use Rattle.cbor4ii.specs.CodecFields.{struct_codec, with_field_once, no_fields};
 ghost use Rattle.cbor4ii.specs.CodecItems.{tagged_codec};
 ghost use Rattle.cbor4ii.specs.Fields.{no_values};
 
 use cbor4ii::dec::Source;
 use cbor4ii::enc::Write;
 use cbor4ii::serde::{
-    AsDescribed, DecodeError, Described, Deserialize, Deserializer, EncodeError, Required,
+    AsDescribed, DecodeError, Described, Deserialize, Deserializer, EncodeError, Once, Required,
     Serialize, Serializer, Typed,
 };
 use std::alloc::Global;
@@ -37,7 +37,7 @@ impl<S: Source> Deserialize<S> for Moment {
 }
 
 impl From<i64> for Moment {
-    ghost from_gives = { λ value m. value ≡ m.0 };
+    ghost from_gives = { λ value m. m ≡ record { 0 = value } };
 
     fn from(value: i64) -> Moment {
         Moment(value)
@@ -49,11 +49,12 @@ impl Typed for Moment {
 }
 
 impl Described for Moment {
-    ghost codec = { codec_of (λ m. m.0) (tagged_codec 1 ⟦<i64 as Described>⟧.codec refl) };
+    ghost codec = { codec_of (λ m. m.0) (λ value. record { 0 = value }) (λ m. refl)
+        (tagged_codec 1 ⟦<i64 as Described>⟧.codec refl) };
 }
 
 impl AsDescribed for Moment {
-    ghost agrees = { as_described tt };
+    ghost agrees = { as_described tt refl };
 }
 
 /// Who claims something, and when.
@@ -76,14 +77,14 @@ impl<S: Source> Deserialize<S> for Claim {
         alloc: Global,
         de: &mut Deserializer<S>,
     ) -> Result<Claim, DecodeError<S::Error>> {
-        let missing = ["a claim has an issuer", "a claim says when it was issued"];
-        let presences = (Required, (Required, ()));
+        let missing = ["a claim has one issuer", "a claim was issued once"];
+        let presences = (Once(Required), (Once(Required), ()));
         de.deserialize_fields(alloc, "Claim", &["issuer", "issued"], &missing, presences)
     }
 }
 
 impl From<(String, (Moment, ()))> for Claim {
-    ghost from_gives = { λ values c. values ≡ (c.issuer, (c.issued, no_values)) };
+    ghost from_gives = { λ values c. c ≡ record { issuer = values.0; issued = values.1.0 } };
 
     fn from(values: (String, (Moment, ()))) -> Claim {
         let (issuer, (issued, ())) = values;
@@ -97,14 +98,16 @@ impl Typed for Claim {
 
 impl Described for Claim {
     ghost codec = { struct_codec (λ c. (c.issuer, (c.issued, no_values)))
-        (with_field (codes "issuer") (codes "a claim has an issuer") ⟦<String as Described>⟧.codec
-        (with_field (codes "issued") (codes "a claim says when it was issued")
+        (λ values. record { issuer = values.0; issued = values.1.0 }) (λ c. refl)
+        (with_field_once (codes "issuer") (codes "a claim has one issuer")
+        ⟦<String as Described>⟧.codec
+        (with_field_once (codes "issued") (codes "a claim was issued once")
         ⟦<Moment as Described>⟧.codec
         no_fields refl) refl) refl };
 }
 
 impl AsDescribed for Claim {
-    ghost agrees = { as_described tt };
+    ghost agrees = { as_described tt refl };
 }
 
 #[cfg(test)]

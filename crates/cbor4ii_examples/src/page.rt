@@ -4,16 +4,17 @@ ghost use Rattle.std.specs.declared.alloc.Global.{Global};
 ghost use Rattle.std.proofs.Common.{refl};
 ghost use Rattle.cbor4ii_ser.specs.OneItem.{IsOneItem, canonical};
 ghost use Rattle.cbor4ii.specs.Codec.{option_codec, vector_codec};
-ghost use Rattle.cbor4ii.specs.CodecAgrees.{as_described, its_codec};
-ghost use Rattle.cbor4ii.specs.CodecFields.{struct_codec, with_field, with_field_or, no_fields};
+ghost use Rattle.cbor4ii.specs.CodecAgrees.{as_described, its_codec, both_are};
+ghost use Rattle.cbor4ii.specs.CodecFields.{struct_codec, with_field_once, with_field_or};
+ghost use Rattle.cbor4ii.specs.CodecFields.{no_fields};
 ghost use Rattle.cbor4ii.specs.Fields.{no_values};
 ghost use Rattle.cbor4ii.specs.ReadBack.{IsReadBack};
 
 use cbor4ii::dec::Source;
 use cbor4ii::enc::Write;
 use cbor4ii::serde::{
-    AsDescribed, DecodeError, Described, Deserialize, Deserializer, EncodeError, Or, Required,
-    Serialize, Serializer, Typed, described_values_are_read_back,
+    AsDescribed, DecodeError, Described, Deserialize, Deserializer, EncodeError, Once, Or,
+    Required, Serialize, Serializer, Typed, described_values_are_read_back,
 };
 use std::alloc::Global;
 
@@ -49,8 +50,8 @@ impl<S: Source, T: AsDescribed + Deserialize<S> + Drop> Deserialize<S> for Page<
         alloc: Global,
         de: &mut Deserializer<S>,
     ) -> Result<Page<T>, DecodeError<S::Error>> {
-        let missing = ["a page has no total", "a page has no entries"];
-        let presences = (Required, (Required, (Or(None), ())));
+        let missing = ["a page has one total", "a page has one list of entries"];
+        let presences = (Once(Required), (Once(Required), (Or(None), ())));
         de.deserialize_fields(
             alloc,
             "Page",
@@ -62,7 +63,11 @@ impl<S: Source, T: AsDescribed + Deserialize<S> + Drop> Deserialize<S> for Page<
 }
 
 impl<T> From<(u64, (Vec<T>, (Option<T>, ())))> for Page<T> {
-    ghost from_gives = { λ values p. values ≡ (p.total, (p.entries, (p.next, no_values))) };
+    ghost from_gives = { λ values p. p ≡ record {
+      total = values.0;
+      entries = values.1.0;
+      next = values.1.1.0;
+    } };
 
     fn from(values: (u64, (Vec<T>, (Option<T>, ())))) -> Page<T> {
         let (total, (entries, (next, ()))) = values;
@@ -80,15 +85,21 @@ impl<T: AsDescribed> Typed for Page<T> {
 
 impl<T: AsDescribed> Described for Page<T> {
     ghost codec = { struct_codec (λ p. (p.total, (p.entries, (p.next, no_values))))
-        (with_field (codes "total") (codes "a page has no total") ⟦<u64 as Described>⟧.codec
-        (with_field (codes "entries") (codes "a page has no entries")
+        (λ values. record {
+          total = values.0;
+          entries = values.1.0;
+          next = values.1.1.0;
+        }) (λ p. refl)
+        (with_field_once (codes "total") (codes "a page has one total") ⟦<u64 as Described>⟧.codec
+        (with_field_once (codes "entries") (codes "a page has one list of entries")
         (vector_codec (its_codec T.promise T.encoding T.codec))
         (with_field_or (codes "next") None (option_codec (its_codec T.promise T.encoding T.codec))
         no_fields refl) refl) refl) refl };
 }
 
 impl<T: AsDescribed> AsDescribed for Page<T> {
-    ghost agrees = { as_described (T.agrees, (T.agrees, tt)) };
+    ghost agrees = { as_described (T.agrees, (T.agrees, tt))
+        (both_are T.agrees.is (both_are T.agrees.is refl)) };
 }
 
 /// What a page writes is one canonical item, and is read back as that page, whatever follows it, at

@@ -1,7 +1,8 @@
 //! A newtype with a test: a number that is read only up to a limit.
 ghost use Rattle.std.specs.Prelude.{◌≡◌, ◌≤◌, false};
-ghost use Rattle.std.proofs.Common.{ap};
-ghost use Rattle.cbor4ii.specs.Checked.{checked_codec};
+ghost use Rattle.std.proofs.Common.{ap, refl};
+ghost use Rattle.std.specs.Coded.{le_prop};
+ghost use Rattle.cbor4ii.specs.Checked.{checked_codec, made_alike};
 ghost use Rattle.cbor4ii.specs.CodecAgrees.{as_described};
 ghost use Rattle.cbor4ii_examples.specs.Percent.{percent_words};
 
@@ -62,11 +63,14 @@ impl Typed for Percent {
 }
 
 impl Described for Percent {
-    ghost codec = { checked_codec percent_words (λ p. p.value) ⟦<u8 as Described>⟧.codec };
+    ghost codec = { checked_codec percent_words (λ p. p.value)
+        (λ p q. made_alike (λ n h. record { value = n; at_most_100 = h }) (λ n. le_prop) p.value
+        q.value p.at_most_100 q.at_most_100)
+        ⟦<u8 as Described>⟧.codec };
 }
 
 impl AsDescribed for Percent {
-    ghost agrees = { as_described tt };
+    ghost agrees = { as_described tt refl };
 }
 
 #[cfg(test)]

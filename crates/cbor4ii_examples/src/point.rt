@@ -4,15 +4,16 @@ ghost use Rattle.std.proofs.Common.{refl};
 ghost use Rattle.cbor4ii_items.specs.Numbers.{IsWithin};
 ghost use Rattle.cbor4ii_ser.specs.OneItem.{IsOneItem, canonical};
 ghost use Rattle.cbor4ii.specs.CodecAgrees.{as_described};
-ghost use Rattle.cbor4ii.specs.CodecFields.{struct_codec, with_field, with_field_or, no_fields};
+ghost use Rattle.cbor4ii.specs.CodecFields.{struct_codec, with_field_once, with_field_or};
+ghost use Rattle.cbor4ii.specs.CodecFields.{no_fields};
 ghost use Rattle.cbor4ii.specs.Fields.{no_values};
 ghost use Rattle.cbor4ii.specs.ReadBack.{IsReadBack};
 
 use cbor4ii::dec::Source;
 use cbor4ii::enc::Write;
 use cbor4ii::serde::{
-    AsDescribed, DecodeError, Described, Deserialize, Deserializer, EncodeError, Or, Required,
-    Serialize, Serializer, Typed, described_values_are_read_back,
+    AsDescribed, DecodeError, Described, Deserialize, Deserializer, EncodeError, Once, Or,
+    Required, Serialize, Serializer, Typed, described_values_are_read_back,
 };
 use std::alloc::Global;
 
@@ -37,14 +38,18 @@ impl<S: Source> Deserialize<S> for Point {
         alloc: Global,
         de: &mut Deserializer<S>,
     ) -> Result<Point, DecodeError<S::Error>> {
-        let missing = ["a point has no x", "a point has no name"];
-        let presences = (Required, (Required, (Or(None), ())));
+        let missing = ["a point has one x", "a point has one name"];
+        let presences = (Once(Required), (Once(Required), (Or(None), ())));
         de.deserialize_fields(alloc, "Point", &["x", "name", "y"], &missing, presences)
     }
 }
 
 impl From<(u32, (String, (Option<i32>, ())))> for Point {
-    ghost from_gives = { λ values p. values ≡ (p.x, (p.name, (p.y, no_values))) };
+    ghost from_gives = { λ values p. p ≡ record {
+      x = values.0;
+      name = values.1.0;
+      y = values.1.1.0;
+    } };
 
     fn from(values: (u32, (String, (Option<i32>, ())))) -> Point {
         let (x, (name, (y, ()))) = values;
@@ -58,14 +63,15 @@ impl Typed for Point {
 
 impl Described for Point {
     ghost codec = { struct_codec (λ p. (p.x, (p.name, (p.y, no_values))))
-        (with_field (codes "x") (codes "a point has no x") ⟦<u32 as Described>⟧.codec
-        (with_field (codes "name") (codes "a point has no name") ⟦<String as Described>⟧.codec
+        (λ values. record { x = values.0; name = values.1.0; y = values.1.1.0 }) (λ p. refl)
+        (with_field_once (codes "x") (codes "a point has one x") ⟦<u32 as Described>⟧.codec
+        (with_field_once (codes "name") (codes "a point has one name") ⟦<String as Described>⟧.codec
         (with_field_or (codes "y") None ⟦<Option<i32> as Described>⟧.codec
         no_fields refl) refl) refl) refl };
 }
 
 impl AsDescribed for Point {
-    ghost agrees = { as_described tt };
+    ghost agrees = { as_described tt refl };
 }
 
 /// What a `Point` writes is one canonical item, and is read back as that `Point`, whatever follows

@@ -51,10 +51,13 @@ impl<S: Source> Deserialize<S> for Reading {
 }
 
 impl From<(u32, (u32, (i32, (Option<String>, (Vec<u16>, ())))))> for Reading {
-    ghost from_gives = { λ values r. values ≡ (
-      r.sensor,
-      (r.time, (r.mean, (r.note, (r.samples, no_values)))),
-    ) };
+    ghost from_gives = { λ values r. r ≡ record {
+      sensor = values.0;
+      time = values.1.0;
+      mean = values.1.1.0;
+      note = values.1.1.1.0;
+      samples = values.1.1.1.1.0;
+    } };
 
     fn from(values: (u32, (u32, (i32, (Option<String>, (Vec<u16>, ())))))) -> Reading {
         let (sensor, (time, (mean, (note, (samples, ()))))) = values;
@@ -77,6 +80,13 @@ impl Described for Reading {
       r.sensor,
       (r.time, (r.mean, (r.note, (r.samples, no_values)))),
     ))
+        (λ values. record {
+          sensor = values.0;
+          time = values.1.0;
+          mean = values.1.1.0;
+          note = values.1.1.1.0;
+          samples = values.1.1.1.1.0;
+        }) (λ r. refl)
         (with_element ⟦<u32 as Described>⟧.codec
         (with_element ⟦<u32 as Described>⟧.codec
         (with_element ⟦<i32 as Described>⟧.codec
@@ -86,7 +96,7 @@ impl Described for Reading {
 }
 
 impl AsDescribed for Reading {
-    ghost agrees = { as_described tt };
+    ghost agrees = { as_described tt refl };
 }
 
 #[cfg(test)]

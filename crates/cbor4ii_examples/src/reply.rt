@@ -54,7 +54,11 @@ impl<S: Source> Deserialize<S> for Reply {
 }
 
 impl From<(u16, (Option<String>, (Option<u32>, ())))> for Reply {
-    ghost from_gives = { λ values r. values ≡ (r.status, (r.reason, (r.retry, no_values))) };
+    ghost from_gives = { λ values r. r ≡ record {
+      status = values.0;
+      reason = values.1.0;
+      retry = values.1.1.0;
+    } };
 
     fn from(values: (u16, (Option<String>, (Option<u32>, ())))) -> Reply {
         let (status, (reason, (retry, ()))) = values;
@@ -72,6 +76,11 @@ impl Typed for Reply {
 
 impl Described for Reply {
     ghost codec = { struct_codec (λ r. (r.status, (r.reason, (r.retry, no_values))))
+        (λ values. record {
+          status = values.0;
+          reason = values.1.0;
+          retry = values.1.1.0;
+        }) (λ r. refl)
         (with_field (codes "status") (codes "a reply has no status") ⟦<u16 as Described>⟧.codec
         (with_optional_field (codes "reason") ⟦<String as Described>⟧.codec
         (with_optional_field (codes "retry") ⟦<u32 as Described>⟧.codec
@@ -79,7 +88,7 @@ impl Described for Reply {
 }
 
 impl AsDescribed for Reply {
-    ghost agrees = { as_described tt };
+    ghost agrees = { as_described tt refl };
 }
 
 #[cfg(test)]

@@ -54,7 +54,11 @@ const FIELDS: [StaticStr; 3] = ["sensor", "value", "note"];
 const MISSING: [StaticStr; 3] = ["a sample has no sensor", "a sample has no value", ""];
 
 impl From<(String, (i64, (Option<String>, ())))> for Sample {
-    ghost from_gives = { λ values s. values ≡ (s.sensor, (s.value, (s.note, no_values))) };
+    ghost from_gives = { λ values s. s ≡ record {
+      sensor = values.0;
+      value = values.1.0;
+      note = values.1.1.0;
+    } };
 
     fn from(values: (String, (i64, (Option<String>, ())))) -> Sample {
         let (sensor, (value, (note, ()))) = values;
@@ -72,6 +76,11 @@ impl Typed for Sample {
 
 impl Described for Sample {
     ghost codec = { struct_codec (λ s. (s.sensor, (s.value, (s.note, no_values))))
+        (λ values. record {
+          sensor = values.0;
+          value = values.1.0;
+          note = values.1.1.0;
+        }) (λ s. refl)
         (with_field (codes "sensor") (codes "a sample has no sensor") ⟦<String as Described>⟧.codec
         (with_field (codes "value") (codes "a sample has no value") ⟦<i64 as Described>⟧.codec
         (with_field_or (codes "note") None ⟦<Option<String> as Described>⟧.codec no_fields
@@ -80,7 +89,7 @@ impl Described for Sample {
 }
 
 impl AsDescribed for Sample {
-    ghost agrees = { as_described tt };
+    ghost agrees = { as_described tt refl };
 }
 
 #[cfg(test)]

@@ -111,19 +111,16 @@ type SettingsValues = (
 );
 
 impl From<SettingsValues> for Settings {
-    ghost from_gives = { λ values s. values ≡ (
-      s.host,
-      (
-        s.port,
-        (
-          s.verbose,
-          (
-            s.workers,
-            (s.cache, (s.proxy, (s.plugins, (s.greeting, no_values)))),
-          ),
-        ),
-      ),
-    ) };
+    ghost from_gives = { λ values s. s ≡ record {
+      host = values.0;
+      port = values.1.0;
+      verbose = values.1.1.0;
+      workers = values.1.1.1.0;
+      cache = values.1.1.1.1.0;
+      proxy = values.1.1.1.1.1.0;
+      plugins = values.1.1.1.1.1.1.0;
+      greeting = values.1.1.1.1.1.1.1.0;
+    } };
 
     fn from(values: SettingsValues) -> Settings {
         let (host, (port, (verbose, (workers, (cache, (proxy, (plugins, (greeting, ())))))))) =
@@ -159,6 +156,16 @@ impl Described for Settings {
         ),
       ),
     ))
+        (λ values. record {
+          host = values.0;
+          port = values.1.0;
+          verbose = values.1.1.0;
+          workers = values.1.1.1.0;
+          cache = values.1.1.1.1.0;
+          proxy = values.1.1.1.1.1.0;
+          plugins = values.1.1.1.1.1.1.0;
+          greeting = values.1.1.1.1.1.1.1.0;
+        }) (λ s. refl)
         (with_field_once (codes "host") (codes "settings have one host")
         ⟦<String as Described>⟧.codec
         (with_field_or (codes "port") 8080 ⟦<u16 as Described>⟧.codec
@@ -172,7 +179,7 @@ impl Described for Settings {
 }
 
 impl AsDescribed for Settings {
-    ghost agrees = { as_described tt };
+    ghost agrees = { as_described tt refl };
 }
 
 /// Why settings were rejected, and at which byte.

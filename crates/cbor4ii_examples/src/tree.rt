@@ -1,25 +1,32 @@
 //! A struct that holds values of its own kind, exact both ways: written in one call, and read as a
 //! value of the tree.
-ghost use Rattle.std.specs.Prelude.{◌≡◌, Some, codes};
-ghost use Rattle.std.proofs.Common.{ap};
+//!
+//! It accepts what a described struct of its fields would, level by level, each field once: in any
+//! order, unknown ones skipped. A value keeps less than the bytes, so in four things it differs:
+//!
+//! - Every error inside is `Custom` in words, with no byte and no name. It comes once all of the
+//!   outermost item was taken.
+//! - What `Value` does not read is rejected as `Value` rejects it: a tag, in an unknown field too.
+//! - A bignum below 2^64 is a number as any other.
+//! - Each item takes a step, a number and a text too.
+ghost use Rattle.std.specs.Prelude.{◌≡◌, Ok, codes};
+ghost use Rattle.std.proofs.Common.{ap, refl};
 ghost use Rattle.cbor4ii_tree.specs.Basis.View.{view, items_view, pairs_view};
-ghost use Rattle.cbor4ii.specs.Checked.{MakesShown, words_unless};
 ghost use Rattle.cbor4ii.specs.CodecAgrees.{as_described};
-ghost use Rattle.cbor4ii.specs.CodecShown.{shown_codec};
+ghost use Rattle.cbor4ii_examples.specs.Told.{MakesTold, told_words, told_codec};
 ghost use Rattle.cbor4ii_examples.specs.Tree.{tree_item, tree_node, vector_nodes, node_at};
-ghost use Rattle.cbor4ii_examples.specs.Tree.{node_item, IsNode};
-ghost use Rattle.cbor4ii_examples.specs.Tree.{node_fields, nothing_seen, with_id, with_name};
-ghost use Rattle.cbor4ii_examples.specs.Tree.{with_children, with_node_pair, node_from};
+ghost use Rattle.cbor4ii_examples.specs.Tree.{node_item, IsNode, node_fields, nothing_seen};
+ghost use Rattle.cbor4ii_examples.specs.Tree.{with_node_field, with_node_pair, node_from};
 ghost use Rattle.cbor4ii_examples.specs.Tree.{node_pairs_at, children_at, nodes_at};
 ghost use Rattle.cbor4ii_examples.specs.TreeLaws.{tree_back};
 
-use crate::shape::is_text;
+use crate::parts::{number_of, one_more, text_of, the_one};
 use cbor4ii::Value;
 use cbor4ii::dec::Source;
 use cbor4ii::enc::Write;
 use cbor4ii::serde::{
     AsDescribed, CheckedFrom, DecodeError, Described, Deserialize, Deserializer, EncodeError,
-    Serialize, Serializer, Typed, Unmade,
+    Serialize, Serializer, Single, Typed, Unmade,
 };
 use std::alloc::Global;
 
@@ -53,19 +60,17 @@ impl Serialize for Tree {
     }
 }
 
-/// A value that `node_at` accepts, and nothing else. ItemPairs of other names are left out, and of
-/// several of one name the last counts that has a value of the field's kind.
+/// A value that `node_at` accepts, and nothing else.
 impl Typed for Tree {
     ghost promise = { ⟦<Tree as Described>⟧.codec.promise };
 }
 
 impl Described for Tree {
-    ghost codec = { shown_codec (codes "no tree") node_at tree_node tree_item node_item IsNode
-        tree_back };
+    ghost codec = { told_codec node_at tree_node tree_item node_item IsNode tree_back };
 }
 
 impl AsDescribed for Tree {
-    ghost agrees = { as_described tt };
+    ghost agrees = { as_described tt refl };
 }
 
 /// Any item is read, and the tree is made of it.
@@ -76,126 +81,117 @@ impl<S: Source> Deserialize<S> for Tree {
 }
 
 impl CheckedFrom<Value> for Tree {
-    ghost words = { λ v. words_unless (codes "no tree") (node_at (view v)) };
+    ghost words = { λ v. told_words (node_at (view v)) };
 
-    ghost makes = { λ v t. node_at (view v) ≡ Some (tree_node t) };
+    ghost makes = { λ v t. node_at (view v) ≡ Ok (tree_node t) };
 
-    #[tactic(auto, using(cbor4ii::specs::Laws::Shown::shown_checks,))]
+    #[tactic(auto, using(crate::specs::Told::told_checks,))]
     fn checked_from(alloc: Global, value: Value) -> Result<Tree, Unmade> {
         tree_of(alloc, &value)
     }
 
-    ghost fate = { λ v w same. ap (λ i. words_unless (codes "no tree") (node_at i)) same };
+    ghost fate = { λ v w same. ap (λ i. told_words (node_at i)) same };
 }
 
 /// The fields of a node that its map has so far.
 #[derive(Debug, Drop)]
 struct Found {
-    id: Option<u64>,
-    name: Option<String>,
-    children: Vec<Tree>,
+    id: Single<u64>,
+    name: Single<String>,
+    children: Single<Vec<Tree>>,
 }
 
 /// The tree that a value stands for. It calls itself once for each level, as reading the value did.
 ///
 /// # Errors
 ///
-/// - `Rejected` of "no tree": it stands for none
+/// - `Rejected` in words: it stands for none. It is no map, a key is no text, a field is of another
+///   kind, missing or there twice, or a value below it is no tree
 /// - `OutOfMemory`: there was no memory for the tree
 #[cycle(trees)]
 #[tactic(auto, using(cbor4ii::specs::Laws::Shown::values_seen,))]
 pub fn tree_of(alloc: Global, value: &Value) -> Result<Tree, Unmade>
-    ensures { MakesShown (codes "no tree") tree_node (node_at (view value.now)) result }
+    ensures { MakesTold tree_node (node_at (view value.now)) result }
 {
     match value {
         Value::Map(pairs) => {
             let found = found_in(alloc, pairs)?;
             made(found)
         }
-        _ => Err(Unmade::Rejected("no tree")),
+        _ => Err(Unmade::Rejected("a tree is a map")),
     }
 }
 
 #[cycle(trees)]
 fn found_in(alloc: Global, pairs: &[(Value, Value)]) -> Result<Found, Unmade>
-    ensures { MakesShown (codes "no tree") node_fields
-        (node_pairs_at (pairs_view pairs.now) nothing_seen) result }
+    ensures { MakesTold node_fields (node_pairs_at (pairs_view pairs.now) nothing_seen) result }
 {
     let mut found = Found {
-        id: None,
-        name: None,
-        children: Vec::new(alloc),
+        id: Single::Absent,
+        name: Single::Absent,
+        children: Single::Absent,
     };
     for pair in pairs {
-        found = with_node_pair(alloc, &pair.1, &pair.0, found)?;
+        found = with_pair(alloc, &pair.1, &pair.0, found)?;
     }
     Ok(found)
 }
 
 #[cycle(trees)]
-fn with_node_pair(alloc: Global, value: &Value, key: &Value, found: Found) -> Result<Found, Unmade>
-    ensures { MakesShown (codes "no tree") node_fields (with_node_pair (node_fields found)
+fn with_pair(alloc: Global, value: &Value, key: &Value, found: Found) -> Result<Found, Unmade>
+    ensures { MakesTold node_fields (with_node_pair (node_fields found)
         (view key.now) (view value.now) (children_at (view value.now))) result }
 {
-    if is_text(key, "id") {
-        return Ok(with_id(found, value));
+    match key {
+        Value::Text(name) => with_field(alloc, value, name.as_str(), found),
+        _ => Err(Unmade::Rejected("the name of a field is a text")),
     }
-    if is_text(key, "name") {
-        return with_name(alloc, found, value);
+}
+
+#[cycle(trees)]
+#[tactic(auto, using(crate::specs::Told::parts_told,))]
+fn with_field(alloc: Global, value: &Value, name: &str, found: Found) -> Result<Found, Unmade>
+    ensures { MakesTold node_fields (with_node_field (node_fields found)
+        name.now (view value.now) (children_at (view value.now))) result }
+{
+    if name == "id" {
+        let id = number_of("an id is a number below 2^64", value)?;
+        return Ok(Found {
+            id: one_more(found.id, id),
+            ..found
+        });
     }
-    if is_text(key, "children") {
-        return with_children(alloc, value, found);
+    if name == "name" {
+        let name = text_of(alloc, "a name is a text", value)?;
+        return Ok(Found {
+            name: one_more(found.name, name),
+            ..found
+        });
+    }
+    if name == "children" {
+        let children = children_of(alloc, value)?;
+        return Ok(Found {
+            children: one_more(found.children, children),
+            ..found
+        });
     }
     Ok(found)
-}
-
-fn with_id(found: Found, value: &Value) -> Found
-    ensures { node_fields result ≡ with_id (node_fields found) (view value.now) }
-{
-    match value {
-        Value::Integer(number) => Found {
-            id: u64::try_from(*number).ok(),
-            ..found
-        },
-        _ => found,
-    }
-}
-
-fn with_name(alloc: Global, found: Found, value: &Value) -> Result<Found, Unmade>
-    ensures { MakesShown (codes "no tree") node_fields
-        (Some (with_name (node_fields found) (view value.now))) result }
-{
-    match value {
-        Value::Text(text) => {
-            let name = String::from_str(alloc, text.as_str())?;
-            Ok(Found {
-                name: Some(name),
-                ..found
-            })
-        }
-        _ => Ok(found),
-    }
 }
 
 #[cycle(trees)]
 #[tactic(auto, using(cbor4ii::specs::Laws::Shown::values_seen,))]
-fn with_children(alloc: Global, value: &Value, found: Found) -> Result<Found, Unmade>
-    ensures { MakesShown (codes "no tree") node_fields (with_children (node_fields found)
-        (view value.now) (children_at (view value.now))) result }
+fn children_of(alloc: Global, value: &Value) -> Result<Vec<Tree>, Unmade>
+    ensures { MakesTold vector_nodes (children_at (view value.now)) result }
 {
     match value {
-        Value::Array(items) => {
-            let children = trees_of(alloc, items)?;
-            Ok(Found { children, ..found })
-        }
-        _ => Ok(found),
+        Value::Array(items) => trees_of(alloc, items),
+        _ => Err(Unmade::Rejected("children are an array")),
     }
 }
 
 #[cycle(trees)]
 fn trees_of(alloc: Global, values: &[Value]) -> Result<Vec<Tree>, Unmade>
-    ensures { MakesShown (codes "no tree") vector_nodes
-        (nodes_at (items_view values.now)) result }
+    ensures { MakesTold vector_nodes (nodes_at (items_view values.now)) result }
 {
     let mut trees = Vec::new(alloc);
     for value in values {
@@ -205,20 +201,14 @@ fn trees_of(alloc: Global, values: &[Value]) -> Result<Vec<Tree>, Unmade>
     Ok(trees)
 }
 
-#[tactic(auto, using(crate::specs::declared::tree::Tree::the_lemmas,))]
+#[tactic(auto, using(crate::specs::declared::tree::Tree::the_lemmas, crate::specs::Told::parts_told,))]
 fn made(found: Found) -> Result<Tree, Unmade>
-    ensures { MakesShown (codes "no tree") tree_node
-        (node_from (node_fields found).id (node_fields found).name (node_fields found).children)
-        result }
+    ensures { MakesTold tree_node (node_from (node_fields found)) result }
 {
-    match (found.id, found.name) {
-        (Some(id), Some(name)) => Ok(Tree {
-            id,
-            name,
-            children: found.children,
-        }),
-        _ => Err(Unmade::Rejected("no tree")),
-    }
+    let id = the_one("a tree has one id", found.id)?;
+    let name = the_one("a tree has one name", found.name)?;
+    let children = the_one("a tree has one list of children", found.children)?;
+    Ok(Tree { id, name, children })
 }
 
 #[cfg(test)]

@@ -4,13 +4,13 @@
 ghost use Rattle.std.specs.Prelude.{◌≡◌, codes};
 ghost use Rattle.std.proofs.Common.{refl};
 ghost use Rattle.cbor4ii.specs.CodecAgrees.{as_described};
-ghost use Rattle.cbor4ii.specs.CodecFields.{struct_codec, with_field, no_fields};
+ghost use Rattle.cbor4ii.specs.CodecFields.{struct_codec, with_field_once, no_fields};
 ghost use Rattle.cbor4ii.specs.Fields.{no_values};
 
 use cbor4ii::dec::Source;
 use cbor4ii::enc::Write;
 use cbor4ii::serde::{
-    AsDescribed, DecodeError, Described, Deserialize, Deserializer, EncodeError, Required,
+    AsDescribed, DecodeError, Described, Deserialize, Deserializer, EncodeError, Once, Required,
     Serialize, Serializer, Typed, from_slice, to_vec,
 };
 use std::alloc::Global;
@@ -32,14 +32,14 @@ impl Serialize for City {
 
 impl<S: Source> Deserialize<S> for City {
     fn deserialize(alloc: Global, de: &mut Deserializer<S>) -> Result<City, DecodeError<S::Error>> {
-        let missing = ["a city has people", "a city has a name"];
-        let presences = (Required, (Required, ()));
+        let missing = ["its people come once", "its name comes once"];
+        let presences = (Once(Required), (Once(Required), ()));
         de.deserialize_fields(alloc, "City", &["people", "name"], &missing, presences)
     }
 }
 
 impl From<(u32, (String, ()))> for City {
-    ghost from_gives = { λ values c. values ≡ (c.people, (c.name, no_values)) };
+    ghost from_gives = { λ values c. c ≡ record { people = values.0; name = values.1.0 } };
 
     fn from(values: (u32, (String, ()))) -> City {
         let (people, (name, ())) = values;
@@ -53,13 +53,14 @@ impl Typed for City {
 
 impl Described for City {
     ghost codec = { struct_codec (λ c. (c.people, (c.name, no_values)))
-        (with_field (codes "people") (codes "a city has people") ⟦<u32 as Described>⟧.codec
-        (with_field (codes "name") (codes "a city has a name") ⟦<String as Described>⟧.codec
+        (λ values. record { people = values.0; name = values.1.0 }) (λ c. refl)
+        (with_field_once (codes "people") (codes "its people come once") ⟦<u32 as Described>⟧.codec
+        (with_field_once (codes "name") (codes "its name comes once") ⟦<String as Described>⟧.codec
         no_fields refl) refl) refl };
 }
 
 impl AsDescribed for City {
-    ghost agrees = { as_described tt };
+    ghost agrees = { as_described tt refl };
 }
 
 fn there_and_back(alloc: Global) -> Option<(Vec<u8>, City)> {

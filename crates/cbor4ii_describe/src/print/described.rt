@@ -6,8 +6,10 @@ use crate::fault::Fault;
 use crate::print::codec::{codec, put_fields};
 use crate::print::deserialize::put_deserialize;
 use crate::print::from::put_from;
-use crate::print::layout::{COLUMNS, Frame, LIST, Pair, indent, put_items, put_pairs, width};
-use crate::print::lists::places;
+use crate::print::layout::{
+    COLUMNS, Frame, LIST, Pair, indent, put_items, put_pairs, put_record, width,
+};
+use crate::print::lists::{made_fields, places};
 use crate::print::serialize::put_serialize;
 use crate::print::types::{generics, letter, self_type};
 use crate::print::variants::put_enum_codec;
@@ -169,11 +171,13 @@ fn put_codec(alloc: Global, out: &mut String, described: &Described) -> Result<(
             let codec = tagged(alloc, *tag, codec)?;
             write!(
                 out,
-                "    ghost codec = {{ codec_of (λ {letter}. {letter}.0) {codec}"
+                "    ghost codec = {{ codec_of (λ {letter}. {letter}.0) \
+                 (λ value. record {{ 0 = value }}) (λ {letter}. refl)\n        {codec}"
             )?;
         }
         Shape::Fields { form, fields } => {
             put_places(alloc, out, letter, *form, fields)?;
+            put_made(alloc, out, letter, fields)?;
             put_fields(alloc, out, *form, fields, &described.parameter)?;
             out.push_str(" refl")?;
         }
@@ -224,33 +228,65 @@ fn put_places(
     put_pairs(out, &places(alloc, letter, fields)?, "no_values", frame)
 }
 
+// Appends how a struct is made of its values, and that it is made of its own.
+fn put_made(
+    alloc: Global,
+    out: &mut String,
+    letter: char,
+    fields: &[Field],
+) -> Result<(), AllocError> {
+    let after = format!(in alloc; ") (λ {letter}. refl)")?;
+    let made = made_fields(alloc, fields)?;
+    put_record(out, 8, "(λ values. ", &made, after.as_str())
+}
+
 // Appends the law, over the law of a parameter at each place that names it.
 fn put_agrees(alloc: Global, out: &mut String, described: &Described) -> Result<(), AllocError> {
     let this = self_type(alloc, described)?;
     let generics = generics(alloc, &described.parameter, ": AsDescribed")?;
-    let laws = laws(alloc, described)?;
     write!(
         out,
         "impl{generics} AsDescribed for {this} {{\n    \
-         ghost agrees = {{ as_described {laws} }};\n}}\n"
-    )
+         ghost agrees = {{ as_described "
+    )?;
+    match &described.parameter {
+        Parameter::Generic(name) => put_laws(out, name.as_str(), &described.shape)?,
+        _ => out.push_str("tt refl")?,
+    }
+    out.push_str(" };\n}\n")
 }
 
-// The laws of a parameter, one for each place that names it, behind one another.
-fn laws(alloc: Global, described: &Described) -> Result<String, AllocError> {
-    let mut laws = String::new(alloc);
-    let mut places: usize = 0;
-    if let Parameter::Generic(name) = &described.parameter {
-        places = places_of(&described.shape, name.as_str());
-        for _ in 0..places {
-            write!(laws, "({name}.agrees, ")?;
+// Appends the laws of a parameter, one for each place that names it, and that all are exact.
+fn put_laws(out: &mut String, name: &str, shape: &Shape) -> Result<(), AllocError> {
+    let places = places_of(shape, name);
+    put_nested(out, name, places, "", "agrees, ", "tt")?;
+    match shape {
+        Shape::Newtype { .. } if places != 0 => write!(out, " {name}.agrees.is"),
+        _ if places == 0 => out.push_str(" refl"),
+        _ => {
+            out.push_str("\n        ")?;
+            put_nested(out, name, places, "both_are ", "agrees.is ", "refl")
         }
     }
-    laws.push_str("tt")?;
+}
+
+// Appends so many words of a parameter, each in brackets round those after it, with `last` inside.
+fn put_nested(
+    out: &mut String,
+    name: &str,
+    places: usize,
+    before: &str,
+    word: &str,
+    last: &str,
+) -> Result<(), AllocError> {
     for _ in 0..places {
-        laws.push(')')?;
+        write!(out, "({before}{name}.{word}")?;
     }
-    Ok(laws)
+    out.push_str(last)?;
+    for _ in 0..places {
+        out.push(')')?;
+    }
+    Ok(())
 }
 
 // In how many places of a type its parameter stands.

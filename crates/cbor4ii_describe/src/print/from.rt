@@ -1,8 +1,9 @@
 //! `impl From`.
 use crate::print::layout::{
-    COLUMNS, Frame, LIST, Pair, pairs_width, put_flat_pairs, put_items, put_lines, put_pairs, width,
+    COLUMNS, Frame, LIST, Pair, pairs_width, put_flat_pairs, put_items, put_lines, put_pairs,
+    put_record, width,
 };
-use crate::print::lists::{names, places, types};
+use crate::print::lists::{made_fields, names, types};
 use crate::print::types::{generics, letter, self_type};
 use crate::print::variants::put_from_choice;
 use crate::shape::{Described, Field, Shape};
@@ -21,7 +22,7 @@ pub fn put_from(alloc: Global, out: &mut String, described: &Described) -> Resul
         Shape::Newtype { its_type, .. } => write!(
             out,
             "impl{generics} From<{its_type}> for {this} {{\n    ghost from_gives = {{ λ value \
-             {letter}. value ≡ {letter}.0 }};\n\n    \
+             {letter}. {letter} ≡ record {{ 0 = value }} }};\n\n    \
              fn from(value: {its_type}) -> {this} {{\n        \
              {name}(value)\n    }}\n}}\n\n"
         ),
@@ -43,16 +44,8 @@ fn put_struct(
     let values = put_values(alloc, out, described, fields)?;
     let letter = letter(name);
     write!(out, "impl{generics} From<{values}> for {this} {{\n")?;
-    let before = format!(in alloc; "ghost from_gives = {{ λ values {letter}. values ≡ ")?;
-    let gives = Frame {
-        columns: 4,
-        before: before.as_str(),
-        after: " };",
-        step: 2,
-        most: LIST,
-        pair: Pair::Tuple,
-    };
-    put_pairs(out, &places(alloc, letter, fields)?, "no_values", gives)?;
+    let before = format!(in alloc; "ghost from_gives = {{ λ values {letter}. {letter} ≡ ")?;
+    put_record(out, 4, before.as_str(), &made_fields(alloc, fields)?, " };")?;
     write!(out, "\n    fn from(values: {values}) -> {this} {{\n")?;
     let names = names(alloc, fields)?;
     put_let(out, &names)?;

@@ -270,6 +270,37 @@ pub fn put_pairs(
     out.push('\n')
 }
 
+/// Appends a record of a ghost, of these fields, behind so many columns: on one line or several.
+pub fn put_record(
+    out: &mut String,
+    columns: usize,
+    before: &str,
+    fields: &[String],
+    after: &str,
+) -> Result<(), AllocError> {
+    indent(out, columns)?;
+    write!(out, "{before}record {{")?;
+    let brackets = width(before)
+        .saturating_add(width(after))
+        .saturating_add(11);
+    let wide = list_width(fields).saturating_add(brackets);
+    if columns.saturating_add(wide) <= COLUMNS {
+        for (i, field) in fields.iter().enumerate() {
+            let begin = if i == 0 { " " } else { "; " };
+            write!(out, "{begin}{field}")?;
+        }
+        out.push(' ')?;
+    } else {
+        out.push('\n')?;
+        for field in fields {
+            indent(out, columns.saturating_add(2))?;
+            write!(out, "{field};\n")?;
+        }
+        indent(out, columns)?;
+    }
+    write!(out, "}}{after}\n")
+}
+
 /// A list in its brackets: a call, a value or a pattern.
 #[derive(Drop)]
 pub struct Bracketed {

@@ -63,6 +63,26 @@ pub fn places(alloc: Global, letter: char, fields: &[Field]) -> Result<Vec<Strin
     Ok(places)
 }
 
+/// The fields of a struct in a ghost, each with its place in the values.
+pub fn made_fields(alloc: Global, fields: &[Field]) -> Result<Vec<String>, AllocError> {
+    let mut made = Vec::new(alloc);
+    for (i, field) in fields.iter().enumerate() {
+        let place = pair_place(alloc, i)?;
+        made.push(format!(in alloc; "{} = values{place}", field.name)?)?;
+    }
+    Ok(made)
+}
+
+/// Where an item stands in nested pairs, behind so many others.
+pub fn pair_place(alloc: Global, others: usize) -> Result<String, AllocError> {
+    let mut place = String::new(alloc);
+    for _ in 0..others {
+        place.push_str(".1")?;
+    }
+    place.push_str(".0")?;
+    Ok(place)
+}
+
 /// What each field is where it is missing, as code.
 pub fn presences(alloc: Global, fields: &[Field]) -> Result<Vec<String>, AllocError> {
     let mut presences = Vec::new(alloc);

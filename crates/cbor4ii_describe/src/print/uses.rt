@@ -10,7 +10,6 @@ use std::alloc::{AllocError, Global};
 enum For {
     Each,
     Newtype,
-    Refl,
     Codes,
     Tag,
     Enum,
@@ -28,6 +27,7 @@ enum For {
     AnyReader,
     Slice,
     Parameter,
+    ParameterOfField,
     OptionOfParameter,
     VectorOfParameter,
     Required,
@@ -88,19 +88,20 @@ fn path(file: File) -> &'static str {
 }
 
 // The ghost words: where each is defined, and what it is imported for.
-const WORDS: [(File, &str, For); 38] = [
+const WORDS: [(File, &str, For); 39] = [
     (File::Prelude, "◌≡◌", For::Each),
     (File::Prelude, "None", For::OrNone),
     (File::Prelude, "true", For::OrTrue),
     (File::Prelude, "false", For::OrFalse),
     (File::Prelude, "codes", For::Codes),
     (File::Prelude, "pos", For::Pos),
-    (File::Common, "refl", For::Refl),
+    (File::Common, "refl", For::Each),
     (File::Codec, "codec_of", For::Newtype),
     (File::Codec, "option_codec", For::OptionOfParameter),
     (File::Codec, "vector_codec", For::VectorOfParameter),
     (File::CodecAgrees, "as_described", For::Each),
     (File::CodecAgrees, "its_codec", For::Parameter),
+    (File::CodecAgrees, "both_are", For::ParameterOfField),
     (File::CodecCases, "enum_codec", For::Enum),
     (File::CodecCases, "unit_variant", For::Unit),
     (File::CodecCases, "variant", For::Items),
@@ -142,7 +143,7 @@ const WORDS: [(File, &str, For); 38] = [
     (File::Fields, "no_values", For::Values),
     (File::ParseError, "Infallible", For::Enum),
     (File::Choice, "First", For::Enum),
-    (File::Choice, "Other", For::SecondVariant),
+    (File::Choice, "Other", For::Enum),
 ];
 
 // The names of `cbor4ii::serde`, in order.
@@ -279,12 +280,12 @@ fn wants(described: &Described, why: For) -> bool {
         (For::Slice | For::Never, _) => matches!(parameter, Parameter::Lifetime(_)),
         (For::AnyReader, _) => !matches!(parameter, Parameter::Lifetime(_)),
         (For::Newtype, Shape::Newtype { .. }) => true,
-        (For::Tag | For::Refl, Shape::Newtype { tag, .. }) => tag.is_some(),
+        (For::Tag, Shape::Newtype { tag, .. }) => tag.is_some(),
         (_, Shape::Newtype { its_type, .. }) => names(its_type.as_str(), parameter, why),
         (_, Shape::Fields { form, fields }) => {
             form_wants(*form, why)
                 || fields.iter().any(|field| {
-                    names(held_type(field), parameter, why)
+                    names(held_type(field), parameter, of_field(why))
                         || (*form != Form::Array && field_wants(field, why))
                 })
         }
@@ -294,11 +295,19 @@ fn wants(described: &Described, why: For) -> bool {
 // Whether fields that are written in this way import what is imported for this.
 fn form_wants(form: Form, why: For) -> bool {
     match why {
-        For::Refl | For::Values => true,
+        For::Values => true,
         For::Named | For::Codes | For::Fields => form == Form::Named,
         For::Keyed | For::Listed => form == Form::Keyed,
         For::Array => form == Form::Array,
         _ => false,
+    }
+}
+
+// What a field imports a name for that a newtype does not import.
+fn of_field(why: For) -> For {
+    match why {
+        For::ParameterOfField => For::Parameter,
+        _ => why,
     }
 }
 
@@ -319,7 +328,7 @@ fn names(its_type: &str, parameter: &Parameter, why: For) -> bool {
 // Whether an enum of these variants imports what is imported for this.
 fn enum_wants(variants: &[Variant], why: For) -> bool {
     match why {
-        For::AnyReader | For::Refl | For::Codes | For::Enum | For::Never => true,
+        For::AnyReader | For::Codes | For::Enum | For::Never => true,
         For::SecondVariant => 1 < variants.len(),
         _ => variants.iter().any(|variant| variant_wants(variant, why)),
     }

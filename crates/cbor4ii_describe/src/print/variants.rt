@@ -4,10 +4,10 @@ use crate::print::codec::put_fields;
 use crate::print::deserialize::put_presences;
 use crate::print::from::STRUCT;
 use crate::print::layout::{
-    Bracketed, COLUMNS, Frame, LIST, Pair, put_arm, put_flat_pairs, put_head, put_items, put_list,
-    put_pairs, put_value, width,
+    Bracketed, COLUMNS, Frame, LIST, Pair, indent, put_arm, put_flat_pairs, put_head, put_items,
+    put_list, put_pairs, put_value, width,
 };
-use crate::print::lists::{keys, missing, names, types};
+use crate::print::lists::{keys, missing, names, pair_place, types};
 use crate::print::types::letter;
 use crate::shape::{Content, Described, Field, Form, Parameter, Variant};
 use std::alloc::{AllocError, Global};
@@ -223,9 +223,9 @@ pub fn put_from_choice(
     write!(
         out,
         "impl From<{name}Choice> for {name} {{\n    \
-         ghost from_gives = {{ λ choice {letter}. choice ≡ elim {letter} "
+         ghost from_gives = {{ λ choice {letter}. {letter} ≡ elim choice "
     )?;
-    put_cases(alloc, out, name, variants)?;
+    put_made_cases(alloc, out, 4, name, variants)?;
     write!(
         out,
         " }};\n\n    fn from(choice: {name}Choice) -> {name} {{\n        match choice {{\n"
@@ -360,6 +360,73 @@ fn put_cases(
     out.push_str("    ]")
 }
 
+// Appends which variant each choice is, by cases inside one another, behind so many columns.
+fn put_made_cases(
+    alloc: Global,
+    out: &mut String,
+    columns: usize,
+    name: &str,
+    variants: &[Variant],
+) -> Result<(), AllocError> {
+    out.push_str("[\n")?;
+    let mut inside = columns;
+    for (i, variant) in variants.iter().enumerate() {
+        inside = inside.saturating_add(2);
+        indent(out, inside)?;
+        write!(out, "| First held ↦ {name}.{}", variant.name)?;
+        put_held_places(alloc, out, variant)?;
+        out.push('\n')?;
+        indent(out, inside)?;
+        let is_last = i + 1 == variants.len();
+        let end = if is_last { " ]\n" } else { "\n" };
+        write!(out, "| Other others ↦ elim others [{end}")?;
+    }
+    for _ in variants.iter().skip(1) {
+        inside = inside.saturating_sub(2);
+        indent(out, inside)?;
+        out.push_str("]\n")?;
+    }
+    indent(out, columns)?;
+    out.push(']')
+}
+
+// Appends the parts of a variant by their places in what is held.
+fn put_held_places(alloc: Global, out: &mut String, variant: &Variant) -> Result<(), AllocError> {
+    match &variant.holds {
+        Content::Nothing => {}
+        Content::Items(items) if items.len() == 1 => out.push_str(" held")?,
+        Content::Items(items) => {
+            for place in 0..items.len() {
+                write!(out, " held.{place}")?;
+            }
+        }
+        Content::Fields(fields) => {
+            for others in 0..fields.len() {
+                write!(out, " held{}", pair_place(alloc, others)?)?;
+            }
+        }
+    }
+    Ok(())
+}
+
+// Appends that each variant is made of the choice that it is, by cases.
+fn put_refl_cases(
+    alloc: Global,
+    out: &mut String,
+    name: &str,
+    variants: &[Variant],
+) -> Result<(), AllocError> {
+    out.push_str("        (elim [\n")?;
+    for variant in variants {
+        write!(out, "          | {name}.{}", variant.name)?;
+        for place in place_names(alloc, count(variant))? {
+            write!(out, " {place}")?;
+        }
+        out.push_str(" ↦ refl\n")?;
+    }
+    out.push_str("        ])\n")
+}
+
 // How many parts a variant has.
 fn count(variant: &Variant) -> usize {
     match &variant.holds {
@@ -402,7 +469,10 @@ pub fn put_enum_codec(
 ) -> Result<(), Fault> {
     out.push_str("    ghost codec = { enum_codec (elim ")?;
     put_cases(alloc, out, name, variants)?;
+    out.push_str(")\n        (elim ")?;
+    put_made_cases(alloc, out, 8, name, variants)?;
     out.push_str(")\n")?;
+    put_refl_cases(alloc, out, name, variants)?;
     for variant in variants {
         put_variant_codec(alloc, out, variant)?;
     }

@@ -49,7 +49,9 @@ const EVENTS: &[BothShown] = table! {
 
 const EVENTS_READ: &[RowShown] = table! {
     (b"\x67Stopped\x00", Ok("Custom(\"no such event\")"), b"\x00"),
-    (b"\xa1\x65Named\xa0\x00", Ok("Custom(\"a name has no id\")"), b"\x00"),
+    (b"\xa1\x65Named\xa0\x00", Ok("Custom(\"a name has one id\")"), b"\x00"),
+    (b"\xa1\x65Named\xa3\x62id\x05\x64name\x60\x62id\x05\x00",
+        Ok("Custom(\"a name has one id\")"), b"\x00"),
 };
 
 const EVENTS_WITHIN: &[RowShownWithin] = table! {

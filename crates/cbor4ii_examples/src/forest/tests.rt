@@ -32,9 +32,11 @@ const FORESTS: &[BothShown] = table! {
 const OTHERS: &[RowShown] = table! {
     (b"\xbf\x65trees\x9f\xff\x64name\x60\x66border\xbf\x66Circle\x18\x03\xff\xff\x01",
         Ok("Is(Forest { name: \"\", trees: [], border: Circle(3) })"), b"\x01"),
-    (b"\xa1\x65trees\x81\x81\x05\x02", Ok("Custom(\"no tree\")"), b"\x02"),
-    (b"\xa1\x66border\x81\x05\x02", Ok("Custom(\"no shape\")"), b"\x02"),
-    (b"\xa1\x65trees\x80\x02", Ok("Custom(\"a forest has a name\")"), b"\x02"),
+    (b"\xa1\x65trees\x81\x81\x05\x02", Ok("Custom(\"a tree is a map\")"), b"\x02"),
+    (b"\xa1\x66border\x81\x05\x02", Ok("Custom(\"a shape is a map of one pair\")"), b"\x02"),
+    (b"\xa1\x65trees\x80\x02", Ok("Custom(\"a forest has one name\")"), b"\x02"),
+    (b"\xa3\x64name\x60\x65trees\x80\x65trees\x80\x02",
+        Ok("Custom(\"a forest has one list of trees\")"), b"\x02"),
 };
 
 // The map takes a step, the border's map two, and its number one more.

@@ -44,7 +44,20 @@ fn a_text_outlives_the_struct_that_borrowed_it(rt: HostRuntime) -> Result<(), Fa
 #[test]
 fn a_label_without_a_text_is_rejected(rt: HostRuntime) -> Result<(), Fail> {
     let rejection = text_of(rt.alloc(), b"\xa1\x62id\x05").err();
-    assert_eq!(rt; rejection, Some(DecodeError::Custom("a label has no text")));
+    assert_eq!(rt;
+        rejection,
+        Some(DecodeError::Custom("a label has one text"))
+    );
+    Ok(())
+}
+
+#[test]
+fn a_label_with_two_texts_is_rejected(rt: HostRuntime) -> Result<(), Fail> {
+    let rejection = text_of(rt.alloc(), b"\xa3\x62id\x05\x64text\x61a\x64text\x61a").err();
+    assert_eq!(rt;
+        rejection,
+        Some(DecodeError::Custom("a label has one text"))
+    );
     Ok(())
 }
 

@@ -2,6 +2,8 @@
 use crate::line::{Fault, Line, Refusal, Waiting};
 use crate::point::Point;
 use crate::reply::Reply;
+use cbor4ii::dec::Source;
+use cbor4ii::dec::ask::look;
 use cbor4ii::error::DecodeError::Eof;
 use cbor4ii::error::StaticStr;
 use cbor4ii::serde::DecodeError::Core;
@@ -87,13 +89,13 @@ impl Line for Asker {
 // How requests were answered: the answers, how many bytes were taken, and how it ended.
 type Served = (Vec<u8>, u64, Result<u64, Fault<StaticStr>>);
 
-// The status of the reply is the point's x.
-fn served(
+// A reader over a line whose other end sends these requests.
+fn waiting(
     alloc: Global,
     requests: &'static [&'static [u8]],
     most: usize,
     end: End,
-) -> Result<Served, Fail> {
+) -> Result<Waiting<Asker>, Fail> {
     let asker = Asker {
         requests,
         most,
@@ -102,7 +104,17 @@ fn served(
         end,
         answers: Vec::new(alloc),
     };
-    let reader = Waiting::new(alloc, asker)?;
+    Ok(Waiting::new(alloc, asker)?)
+}
+
+// The status of the reply is the point's x.
+fn served(
+    alloc: Global,
+    requests: &'static [&'static [u8]],
+    most: usize,
+    end: End,
+) -> Result<Served, Fail> {
+    let reader = waiting(alloc, requests, most, end)?;
     let (reader, outcome) = reader.serve(
         alloc,
         |point: Point| Reply {
@@ -160,6 +172,34 @@ fn length(requests: &[&[u8]]) -> u64 {
     length
 }
 
+// How many bytes are looked for, what is shown, and how many of it are taken.
+type LookRow = (usize, &'static [u8], usize);
+
+const LOOKS: &[LookRow] = table! {
+    (3, b"abc", 1),
+    (2, b"bc", 0),
+    (4, b"bcde", 3),
+    (1, b"e", 0),
+    (2, b"ef", 2),
+};
+
+// What was shown and not taken is shown first, however the bytes come.
+#[test]
+fn what_is_not_taken_is_shown_again(rt: HostRuntime) -> Result<(), Fail> {
+    for most in [1, 2, 4096] {
+        let mut reader = waiting(rt.alloc(), &[b"abcdef"], most, End::Answered)?;
+        for (want, bytes, taken) in LOOKS {
+            let mut failure = None;
+            let shown = look(&mut reader, *want, &mut failure).ok_or("a look fails")?;
+            assert_eq!(rt; shown, *bytes);
+            let count = shown.len();
+            reader.advance(count.min(*taken));
+        }
+        assert_eq!(rt; reader.taken(), 6);
+    }
+    Ok(())
+}
+
 // Requests, the end of the last one, and why it was not answered.
 type FaultRow = (&'static [&'static [u8]], End, &'static str);
 
@@ -168,7 +208,7 @@ const FAULTS: &[FaultRow] = table! {
     (&[FIVE, b"\x05"], End::Answered, "Request(Core(Mismatch { name: \"map\", found: 5 }))"),
     (&[FIVE, b"\xa1\x61x\x20"], End::Answered,
         "Request(Core(Mismatch { name: \"u32\", found: 32 }))"),
-    (&[FIVE, b"\xa0"], End::Answered, "Request(Custom(\"a point has no x\"))"),
+    (&[FIVE, b"\xa0"], End::Answered, "Request(Custom(\"a point has one x\"))"),
     (&[FIVE, FIVE], End::Lost(0), "Request(Core(Read(\"the line is lost\")))"),
     (&[FIVE, FIVE], End::Lost(10), "Request(Core(Read(\"the line is lost\")))"),
     (&[FIVE, FIVE], End::Refused, "Send(\"it is not taken\")"),

@@ -1,8 +1,8 @@
 //! Rows of a log that is cut at each place, of one that goes on with other bytes, and of streams.
 use crate::event::Event;
 use crate::log::{Fault, replay, whole_events};
-use cbor4ii::error::DecodeError::{Mismatch, Read};
-use cbor4ii::error::Never;
+use cbor4ii::error::DecodeError::{Eof, Mismatch, OutOfMemory, Read};
+use cbor4ii::error::{Len, Never};
 use cbor4ii::serde::DecodeError;
 use cbor4ii::serde::DecodeError::{Core, Custom};
 use cbor4ii_vectors::streams::FailingStream;
@@ -83,6 +83,25 @@ fn a_fault_tells_its_event(rt: HostRuntime) -> Result<(), Fail> {
         }
     }
     Ok(())
+}
+
+// Only `Eof` says that the log is cut.
+#[test]
+fn want_of_memory_is_no_cut(rt: HostRuntime) {
+    let faults: [(DecodeError<Never>, bool); 3] = [
+        (Core(OutOfMemory), false),
+        (Custom("no such event"), false),
+        (
+            Core(Eof {
+                name: "enum",
+                expect: Len::Small(1),
+            }),
+            true,
+        ),
+    ];
+    for (error, is_cut) in faults {
+        assert_eq!(rt; Fault { at: 0, error }.is_cut(), is_cut);
+    }
 }
 
 // What a stream of these bytes hands on, and how it ends.

@@ -40,7 +40,8 @@ const PAGES: &[RowShown] = table! {
         b"",
     ),
     (b"\xa2\x67entries\x81\x20\x65total\x00", Err(mismatch!("u32", 32)), b"\x65total\x00"),
-    (b"\xa1\x65total\x00\x01", Ok("Custom(\"a page has no entries\")"), b"\x01"),
+    (b"\xa1\x65total\x00\x01", Ok("Custom(\"a page has one list of entries\")"), b"\x01"),
+    (b"\xa2\x65total\x00\x65total\x00\x01", Ok("Custom(\"a page has one total\")"), b"\x01"),
 };
 
 const PAGES_WITHIN: &[RowShownWithin] = table! {

@@ -65,15 +65,22 @@ const POINTS: &[BothShown] = table! {
     (b"\xa3\x61x\x05\x64name\x61a\x61y\x20", WITH_Y),
 };
 
+const X_TWICE: &str = "Custom(\"a point has one x\")";
+
+const NAME_TWICE: &str = "Custom(\"a point has one name\")";
+
 const POINTS_READ: &[RowShown] = table! {
     (b"\xbf\x61y\x20\x64name\x61a\x61x\x05\xff\x00", Ok(WITH_Y), b"\x00"),
     (b"\xa4\x61z\x81\x82\x01\x02\x61y\x20\x61x\x05\x64name\x61a", Ok(WITH_Y), b""),
-    (b"\xa4\x61x\x04\x61y\x20\x61x\x05\x64name\x61a\xff", Ok(WITH_Y), b"\xff"),
+    // Of several y the last counts; x and the name come once.
+    (b"\xa4\x61y\xf6\x61x\x05\x61y\x20\x64name\x61a\xff", Ok(WITH_Y), b"\xff"),
+    (b"\xa4\x61x\x04\x61y\x20\x61x\x05\x64name\x61a\xff", Ok(X_TWICE), b"\xff"),
+    (b"\xa3\x61x\x05\x64name\x61a\x64name\x61a\xff", Ok(NAME_TWICE), b"\xff"),
     // Only y may be missing.
     (b"\xa2\x61x\x05\x64name\x61a", Ok(WITHOUT_Y), b""),
-    (b"\xa2\x61x\x05\x61y\xf6", Ok("Custom(\"a point has no name\")"), b""),
-    (b"\xa2\x64name\x61a\x61y\x20", Ok("Custom(\"a point has no x\")"), b""),
-    (b"\xa0\x00", Ok("Custom(\"a point has no x\")"), b"\x00"),
+    (b"\xa2\x61x\x05\x61y\xf6", Ok("Custom(\"a point has one name\")"), b""),
+    (b"\xa2\x64name\x61a\x61y\x20", Ok("Custom(\"a point has one x\")"), b""),
+    (b"\xa0\x00", Ok("Custom(\"a point has one x\")"), b"\x00"),
 };
 
 const POINTS_WITHIN: &[RowShownWithin] = table! {
