@@ -70,10 +70,13 @@ impl<S: Source> Deserialize<S> for Context {
 }
 
 impl From<(String, (String, (u16, (Vec<i64>, (bool, ())))))> for Context {
-    ghost from_gives = { λ values c. values ≡ (
-      c.user,
-      (c.path, (c.status, (c.args, (c.admin, no_values)))),
-    ) };
+    ghost from_gives = { λ values c. c ≡ record {
+      user = values.0;
+      path = values.1.0;
+      status = values.1.1.0;
+      args = values.1.1.1.0;
+      admin = values.1.1.1.1.0;
+    } };
 
     fn from(values: (String, (String, (u16, (Vec<i64>, (bool, ())))))) -> Context {
         let (user, (path, (status, (args, (admin, ()))))) = values;
@@ -96,6 +99,13 @@ impl Described for Context {
       c.user,
       (c.path, (c.status, (c.args, (c.admin, no_values)))),
     ))
+        (λ values. record {
+          user = values.0;
+          path = values.1.0;
+          status = values.1.1.0;
+          args = values.1.1.1.0;
+          admin = values.1.1.1.1.0;
+        }) (λ c. refl)
         (with_field (codes "user") (codes "a context has no user") ⟦<String as Described>⟧.codec
         (with_field (codes "path") (codes "a context has no path") ⟦<String as Described>⟧.codec
         (with_field (codes "status") (codes "a context has no status") ⟦<u16 as Described>⟧.codec
@@ -105,7 +115,7 @@ impl Described for Context {
 }
 
 impl AsDescribed for Context {
-    ghost agrees = { as_described tt };
+    ghost agrees = { as_described tt refl };
 }
 
 /// A record of a log.
@@ -168,10 +178,14 @@ type RecordValues = (
 );
 
 impl From<RecordValues> for Record {
-    ghost from_gives = { λ values r. values ≡ (
-      r.ts,
-      (r.msg, (r.ok, (r.tags, (r.ctx, (r.parent, no_values))))),
-    ) };
+    ghost from_gives = { λ values r. r ≡ record {
+      ts = values.0;
+      msg = values.1.0;
+      ok = values.1.1.0;
+      tags = values.1.1.1.0;
+      ctx = values.1.1.1.1.0;
+      parent = values.1.1.1.1.1.0;
+    } };
 
     fn from(values: RecordValues) -> Record {
         let (ts, (msg, (ok, (tags, (ctx, (parent, ())))))) = values;
@@ -195,6 +209,14 @@ impl Described for Record {
       r.ts,
       (r.msg, (r.ok, (r.tags, (r.ctx, (r.parent, no_values))))),
     ))
+        (λ values. record {
+          ts = values.0;
+          msg = values.1.0;
+          ok = values.1.1.0;
+          tags = values.1.1.1.0;
+          ctx = values.1.1.1.1.0;
+          parent = values.1.1.1.1.1.0;
+        }) (λ r. refl)
         (with_field (codes "ts") (codes "a record has no ts") ⟦<u64 as Described>⟧.codec
         (with_field (codes "msg") (codes "a record has no msg") ⟦<String as Described>⟧.codec
         (with_field (codes "ok") (codes "a record has no ok") ⟦<bool as Described>⟧.codec
@@ -205,7 +227,7 @@ impl Described for Record {
 }
 
 impl AsDescribed for Record {
-    ghost agrees = { as_described tt };
+    ghost agrees = { as_described tt refl };
 }
 
 /// One round of records.

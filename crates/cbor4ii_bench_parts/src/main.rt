@@ -5,6 +5,7 @@
 //! words name no job.
 #![tactic(auto)]
 
+mod leaves;
 mod record;
 mod skipped;
 mod small;
@@ -16,6 +17,7 @@ use cbor4ii_bench_kit::digest::Digest;
 use cbor4ii_bench_kit::fault::Fault;
 use cbor4ii_bench_kit::noise::Noise;
 use cbor4ii_bench_kit::task::{Job, run_jobs};
+use cbor4ii_items::types::{F16, F32, F64};
 use std::alloc::Global;
 use std::process::ExitCode;
 
@@ -26,9 +28,32 @@ enum Part {
     Small,
     Written,
     Texts,
+    U8,
+    U16,
+    I8,
+    I16,
+    Bool,
+    F16,
+    F32,
+    F64,
+    Threes,
 }
 
-const PARTS: [Part; 4] = [Part::Skipped, Part::Small, Part::Written, Part::Texts];
+const PARTS: [Part; 13] = [
+    Part::Skipped,
+    Part::Small,
+    Part::Written,
+    Part::Texts,
+    Part::U8,
+    Part::U16,
+    Part::I8,
+    Part::I16,
+    Part::Bool,
+    Part::F16,
+    Part::F32,
+    Part::F64,
+    Part::Threes,
+];
 
 impl Job for Part {
     fn name(self) -> &'static str {
@@ -37,6 +62,15 @@ impl Job for Part {
             Part::Small => "small",
             Part::Written => "written",
             Part::Texts => "texts",
+            Part::U8 => "u8",
+            Part::U16 => "u16",
+            Part::I8 => "i8",
+            Part::I16 => "i16",
+            Part::Bool => "bool",
+            Part::F16 => "f16",
+            Part::F32 => "f32",
+            Part::F64 => "f64",
+            Part::Threes => "threes",
         }
     }
 
@@ -49,6 +83,15 @@ impl Job for Part {
                 Part::Small => small::round(alloc, &mut noise, &mut digest)?,
                 Part::Written => written::round(alloc, &mut noise, &mut digest)?,
                 Part::Texts => texts::round(alloc, &mut noise, &mut digest)?,
+                Part::U8 => leaves::round::<u8>(alloc, &mut noise, &mut digest)?,
+                Part::U16 => leaves::round::<u16>(alloc, &mut noise, &mut digest)?,
+                Part::I8 => leaves::round::<i8>(alloc, &mut noise, &mut digest)?,
+                Part::I16 => leaves::round::<i16>(alloc, &mut noise, &mut digest)?,
+                Part::Bool => leaves::round::<bool>(alloc, &mut noise, &mut digest)?,
+                Part::F16 => leaves::round::<F16>(alloc, &mut noise, &mut digest)?,
+                Part::F32 => leaves::round::<F32>(alloc, &mut noise, &mut digest)?,
+                Part::F64 => leaves::round::<F64>(alloc, &mut noise, &mut digest)?,
+                Part::Threes => leaves::threes(alloc, &mut noise, &mut digest)?,
             }
         }
         Ok(digest.value())

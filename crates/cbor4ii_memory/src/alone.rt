@@ -1,6 +1,6 @@
 //! One item that is read, with what is left of it. `.ci/memory` counts its requests for memory and
 //! their bytes, and refuses each of them.
-use crate::made::{Copied, EqualKeys, EqualKeysAtAnyLevel, Kept, MadeCanonical, Written};
+use crate::made::{Copied, EqualKeys, EqualKeysAtAnyLevel, Kept, MadeCanonical, Next, Written};
 use crate::named::{Fields, Variant};
 use crate::of_slice::read_of_slice;
 use crate::own::{Elements, Keyed, Named, Short, Tagged};
@@ -38,6 +38,8 @@ enum Way {
     EqualKeys,
     EqualKeysAtAnyLevel,
     Str,
+    Next,
+    Numbers,
     Fields,
     Variant,
     Elements,
@@ -58,6 +60,8 @@ const WAYS: &[(&[u8], Way)] = table! {
     (b"equal keys of a ", Way::EqualKeys),
     (b"equal keys at any level of a ", Way::EqualKeysAtAnyLevel),
     (b"str of a ", Way::Str),
+    (b"next of a ", Way::Next),
+    (b"numbers of a ", Way::Numbers),
     (b"fields of a ", Way::Fields),
     (b"variant of a ", Way::Variant),
     (b"elements of a ", Way::Elements),
@@ -101,6 +105,8 @@ fn way_of_slice(alloc: Global, way: Way, item: &[u8]) -> Alone {
         Way::EqualKeys => of_slice::<EqualKeys>(alloc, item),
         Way::EqualKeysAtAnyLevel => of_slice::<EqualKeysAtAnyLevel>(alloc, item),
         Way::Str => str_of_slice(alloc, item),
+        Way::Next => of_slice::<Next>(alloc, item),
+        Way::Numbers => of_slice::<Typed<Vec<u8>>>(alloc, item),
         Way::Fields => of_slice::<Typed<Fields>>(alloc, item),
         Way::Variant => of_slice::<Typed<Variant>>(alloc, item),
         Way::Elements => of_slice::<Typed<Elements>>(alloc, item),
@@ -123,6 +129,8 @@ fn way_of_stream(alloc: Global, way: Way, item: &[u8]) -> Alone {
         Way::EqualKeys => of_stream::<EqualKeys>(alloc, item),
         Way::EqualKeysAtAnyLevel => of_stream::<EqualKeysAtAnyLevel>(alloc, item),
         Way::Str => str_of_stream(alloc, item),
+        Way::Next => of_stream::<Next>(alloc, item),
+        Way::Numbers => of_stream::<Typed<Vec<u8>>>(alloc, item),
         Way::Fields => of_stream::<Typed<Fields>>(alloc, item),
         Way::Variant => of_stream::<Typed<Variant>>(alloc, item),
         Way::Elements => of_stream::<Typed<Elements>>(alloc, item),

@@ -1,12 +1,24 @@
 //! What is made of a whole item once it is read: one that is encoded in one way, a copy of its
-//! bytes, and a vector that holds what is written. Or whether keys of its maps are equal.
+//! bytes, and a vector that holds what is written. Or whether keys of its maps are equal. And the
+//! next item, where one comes.
 use cbor4ii::serde::to_vec;
 use cbor4ii_items::decode::Decode;
+use cbor4ii_items::sequence::next_item;
 use cbor4ii_rw::error::DecodeError;
 use cbor4ii_rw::read::Source;
 use cbor4ii_tree::{BoxedRawValue, Canonical, NoMemory, Value};
 use cbor4ii_vectors::rows::ReadFrom;
 use std::alloc::Global;
+
+/// The next value of a sequence, or none at its end.
+#[derive(Drop)]
+pub struct Next(Option<Value>);
+
+impl ReadFrom for Next {
+    fn read_from<S: Source>(alloc: Global, reader: &mut S) -> Result<Self, DecodeError<S::Error>> {
+        Ok(Next(next_item(alloc, reader)?))
+    }
+}
 
 /// A value, made canonical.
 #[derive(Drop)]

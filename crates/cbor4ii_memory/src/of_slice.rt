@@ -7,7 +7,7 @@ use cbor4ii_items::decode::Decode;
 use cbor4ii_items::whole::{decode_whole, decode_whole_at};
 use cbor4ii_rw::error::{DecodeError, ErrorAt, Never, WholeError};
 use cbor4ii_rw::slice_reader::SliceReader;
-use cbor4ii_tree::{PlainRawValue, RawValue, Value};
+use cbor4ii_tree::{Canonical, NoMemory, PlainRawValue, RawValue, Value};
 use cbor4ii_vectors::table;
 use std::alloc::Global;
 
@@ -22,6 +22,9 @@ enum Way {
     PlainDecoded,
     PlainTyped,
     RawToValue,
+    FromSlice,
+    CanonicalFromSlice,
+    ToVec,
 }
 
 const WAYS: &[(&[u8], Way)] = table! {
@@ -33,6 +36,9 @@ const WAYS: &[(&[u8], Way)] = table! {
     (b"plain decoded of a slice:", Way::PlainDecoded),
     (b"plain typed of a slice:", Way::PlainTyped),
     (b"raw to value of a slice:", Way::RawToValue),
+    (b"value from a slice:", Way::FromSlice),
+    (b"canonical from a slice:", Way::CanonicalFromSlice),
+    (b"to vec from a slice:", Way::ToVec),
 };
 
 /// Reads the item that follows these words, if it is to be read in one of these ways.
@@ -55,6 +61,9 @@ fn read(alloc: Global, way: Way, item: &[u8]) -> Alone {
         Way::PlainDecoded => plain_decoded(alloc, item),
         Way::PlainTyped => plain_typed(alloc, item),
         Way::RawToValue => raw_to_value(alloc, item),
+        Way::FromSlice => whole(Value::from_slice(alloc, item)),
+        Way::CanonicalFromSlice => whole(Canonical::from_slice(alloc, item)),
+        Way::ToVec => whole(to_vec(alloc, item)),
     }
 }
 
@@ -64,6 +73,14 @@ fn whole<T: Drop>(got: Result<T, WholeError<DecodeError<Never>>>) -> Alone {
         Ok(_) => reported(&Ok::<(), DecodeError<Never>>(()), 0),
         Err(WholeError::Decode(error)) => reported(&Err::<(), _>(error), 0),
         Err(WholeError::Trailing(left)) => reported(&Ok::<(), DecodeError<Never>>(()), left),
+    }
+}
+
+// The item as a value, written again.
+fn to_vec(alloc: Global, item: &[u8]) -> Result<Vec<u8>, WholeError<DecodeError<Never>>> {
+    match Value::from_slice(alloc, item)?.to_vec(alloc) {
+        Ok(bytes) => Ok(bytes),
+        Err(NoMemory) => Err(WholeError::Decode(DecodeError::OutOfMemory)),
     }
 }
 

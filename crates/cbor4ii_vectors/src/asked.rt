@@ -6,6 +6,10 @@ use cbor4ii_rw::error::{DecodeError, Never};
 use std::alloc::Global;
 use std::test::Fail;
 
+/// So many bytes a look may ask for: two; one fewer than the longest head has, that, and more; one
+/// fewer than the longest name that takes no memory has with its head, and that.
+pub const WINDOWS: [usize; 6] = [2, 8, 9, 24, 256, 257];
+
 /// How the reader is asked: whether the bytes are read, and what it was asked for. It fails
 /// nowhere.
 pub fn asks<T: ReadFrom + Drop>(
@@ -46,4 +50,29 @@ pub fn looks_at_most<T: ReadFrom + Drop>(
         return Ok(());
     }
     Err(Fail::new(format_args!("{asks:?}, where {looks} looks read {bytes:?}")))
+}
+
+/// Readers of each of `WINDOWS`, which fail where a look asks for more than the greater of the
+/// window and `most`, the bytes that a look needs. They show what is wanted, or one byte at a time,
+/// and are asked for no more than so many looks. The bytes are read, or they are not.
+pub fn looks_within_windows<T: ReadFrom + Drop>(
+    alloc: Global,
+    bytes: &[u8],
+    is_read: bool,
+    most: usize,
+    (looks, by_byte): (usize, usize),
+) -> Result<(), Fail> {
+    for window in WINDOWS {
+        let reader = Asked::new(bytes)
+            .with_window(window)
+            .refusing_above(most.max(window));
+        let come = bytes.len().saturating_add(window);
+        looks_at_most::<T>(alloc, reader, bytes, is_read, looks, come)?;
+        let reader = Asked::new(bytes)
+            .with_window(window)
+            .refusing_above(most.max(window))
+            .showing(1);
+        looks_at_most::<T>(alloc, reader, bytes, is_read, by_byte, come)?;
+    }
+    Ok(())
 }

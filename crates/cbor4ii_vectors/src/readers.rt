@@ -447,8 +447,8 @@ pub struct Asked<'a> {
     asks: Asks,
     // How many bytes it shows at most; one where this is none.
     prefix: usize,
-    // Whether a look may ask it for 4,096 bytes.
-    is_wide: bool,
+    // For how many bytes a look may ask, whatever the item needs; one where this is none.
+    window: usize,
     // It fails where more is wanted.
     most: usize,
     failures: u64,
@@ -471,7 +471,7 @@ impl<'a> Asked<'a> {
             taken: 0,
             asks,
             prefix: usize::MAX,
-            is_wide: false,
+            window: 1,
             most: usize::MAX,
             failures: 0,
         }
@@ -484,10 +484,12 @@ impl<'a> Asked<'a> {
 
     /// Makes the reader let a look ask for 4,096 bytes.
     pub fn wide(self) -> Asked<'a> {
-        Asked {
-            is_wide: true,
-            ..self
-        }
+        self.with_window(4_096)
+    }
+
+    /// Makes the reader let a look ask for so many bytes, and for one at least.
+    pub fn with_window(self, window: usize) -> Asked<'a> {
+        Asked { window, ..self }
     }
 
     /// Makes the reader fail where more than so many bytes are wanted.
@@ -530,7 +532,7 @@ impl Source for Asked<'_> {
     }
 
     fn window(&self) -> usize {
-        if self.is_wide { 4096 } else { 1 }
+        self.window.max(1)
     }
 
     fn advance(&mut self, n: usize) {

@@ -17,7 +17,7 @@
 use crate::typed::Answer;
 use cbor4ii::Value;
 use cbor4ii::types::F64;
-use cbor4ii_vectors::asked::looks_at_most;
+use cbor4ii_vectors::asked::{looks_at_most, looks_within_windows};
 use cbor4ii_vectors::readers::Asked;
 use cbor4ii_vectors::repeated::repeated;
 use cbor4ii_vectors::rows::ReadFrom;
@@ -39,8 +39,9 @@ pub type Row = (
     (usize, usize),
 );
 
-/// Reads each row over readers that fail where more bytes are wanted than the row says, or than
-/// 4,096. The first two have to have had no byte that is not the item's.
+/// Reads each row over readers that fail where more bytes are wanted than the row says, or than the
+/// window that they let a look ask for. The first two have to have had no byte that is not the
+/// item's. A wider window takes no more looks than they do.
 pub fn asks_rows<A: ReadFrom + Drop>(alloc: Global, rows: &[Row]) -> Result<(), Fail> {
     for &(head, part, count, end, most, (looks, by_byte), wide) in rows {
         let bytes = repeated(alloc, head, part, count, end)?;
@@ -48,6 +49,7 @@ pub fn asks_rows<A: ReadFrom + Drop>(alloc: Global, rows: &[Row]) -> Result<(), 
         looks_at_most::<A>(alloc, reader, bytes, true, looks, bytes.len())?;
         let reader = Asked::new(bytes).refusing_above(most).showing(1);
         looks_at_most::<A>(alloc, reader, bytes, true, by_byte, bytes.len())?;
+        looks_within_windows::<A>(alloc, bytes, true, most, (looks, by_byte))?;
         asks_wide::<A>(alloc, bytes, wide)?;
     }
     Ok(())
@@ -62,6 +64,21 @@ fn asks_wide<A: ReadFrom + Drop>(
     looks_at_most::<A>(alloc, reader, bytes, true, looks, usize::MAX)?;
     let reader = Asked::new(bytes).wide().refusing_above(4_096).showing(1);
     looks_at_most::<A>(alloc, reader, bytes, true, by_byte, usize::MAX)
+}
+
+/// Over a reader that lets a look ask for 4,096 bytes no look wants more than `most`, or than the
+/// row says.
+pub fn asks_no_more_than<A: ReadFrom + Drop>(
+    alloc: Global,
+    most: usize,
+    rows: &[Row],
+) -> Result<(), Fail> {
+    for &(head, part, count, end, needed, _, (looks, _)) in rows {
+        let bytes = repeated(alloc, head, part, count, end)?;
+        let reader = Asked::new(bytes).wide().refusing_above(most.max(needed));
+        looks_at_most::<A>(alloc, reader, bytes, true, looks, usize::MAX)?;
+    }
+    Ok(())
 }
 
 const NUMBERS: &[Row] = table! {
@@ -121,4 +138,44 @@ fn containers_are_asked_for(rt: HostRuntime) -> Result<(), Fail> {
     asks_rows::<Answer<Vec<u8>>>(alloc, VECTORS)?;
     asks_rows::<Answer<BTreeMap<u8, u8>>>(alloc, MAPS)?;
     asks_rows::<Answer<Value>>(alloc, ANY)
+}
+
+// Vectors of four leaves: the window, and the most looks over a reader that shows what is wanted.
+// The head takes one. Within a window of fewer bytes than the longest leaf has, leaves are read one
+// by one: each takes a look, and one more where it is longer than the window.
+type Windowed = (&'static [u8], &'static [u8], usize, usize);
+
+const LEAVES: &[Windowed] = table! {
+    (b"\x84", b"\x1a\x00\x01\x00\x00", 2, 9),
+    (b"\x84", b"\x1a\x00\x01\x00\x00", 8, 5),
+    (b"\x84", b"\x1b\x00\x00\x00\x01\x00\x00\x00\x00", 2, 9),
+    (b"\x84", b"\x1b\x00\x00\x00\x01\x00\x00\x00\x00", 8, 9),
+    (b"\x84", b"\x1b\x00\x00\x00\x01\x00\x00\x00\x00", 9, 5),
+    (b"\x84", b"\x1b\x00\x00\x00\x01\x00\x00\x00\x00", 24, 4),
+    (b"\x84", b"\x1b\x00\x00\x00\x01\x00\x00\x00\x00", 256, 2),
+};
+
+fn asks_windowed(alloc: Global, rows: &[Windowed]) -> Result<(), Fail> {
+    for &(head, leaf, window, looks) in rows {
+        let bytes = repeated(alloc, head, leaf, 4, b"")?;
+        let reader = Asked::new(bytes)
+            .with_window(window)
+            .refusing_above(window.max(9));
+        looks_at_most::<Answer<Vec<u64>>>(alloc, reader, bytes, true, looks, usize::MAX)?;
+    }
+    Ok(())
+}
+
+#[test]
+fn leaves_within_a_window(rt: HostRuntime) -> Result<(), Fail> {
+    asks_windowed(rt.alloc(), LEAVES)
+}
+
+// 1,000 elements, 0x3e8, that are no null: the head takes a look, and each of them three at most.
+#[test]
+fn options_of_options_take_no_look_in_vain(rt: HostRuntime) -> Result<(), Fail> {
+    let alloc = rt.alloc();
+    let bytes = repeated(alloc, b"\x99\x03\xe8", b"\x05", 1_000, b"")?;
+    let reader = Asked::new(bytes).wide().refusing_above(4_096);
+    looks_at_most::<Answer<Vec<Option<Option<u8>>>>>(alloc, reader, bytes, true, 3_001, usize::MAX)
 }

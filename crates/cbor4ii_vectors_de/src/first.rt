@@ -4,10 +4,12 @@ use crate::typed::{BothShown, come_back, comes_back_lent, is_at_beginning, is_re
 use cbor4ii::Value;
 use cbor4ii::serde::{
     DecodeError, Deserialize, WholeError, from_reader, from_slice, from_slice_at, from_slice_whole,
+    to_vec,
 };
 use cbor4ii_rw::error as core_error;
 use cbor4ii_rw::error::Len;
 use cbor4ii_rw::slice_reader::SliceReader;
+use cbor4ii_vectors::compared::same;
 use cbor4ii_vectors::repeated::repeated;
 use cbor4ii_vectors::streams::FailingStream;
 use cbor4ii_vectors::{mismatch, table};
@@ -159,6 +161,15 @@ const NUMBERS_TOLD: &[Told] = table! {
     (b"\x20\x06", "byte 1: Core(Mismatch { name: \"u8\", found: 32 })"),
 };
 
+#[test]
+fn many_bytes_after_the_value_are_counted(rt: HostRuntime) -> Result<(), Fail> {
+    let alloc = rt.alloc();
+    let more = repeated(alloc, b"\x05", b"\xff", 70_000, b"")?;
+    is_told::<u8>(alloc, more, "byte 1: bytes after the item: 70000")?;
+    let got = from_slice_whole::<&[u8], u8>(alloc, more).err();
+    same(got, Some(WholeError::Trailing(70_000)))
+}
+
 // A text is taken before it is tested.
 const TEXTS_TOLD: &[Told] = table! {
     (b"\x82\x61a", "byte 3: Core(Eof { name: \"str\", expect: Small(1) })"),
@@ -193,6 +204,19 @@ fn an_item_without_a_step_stays(rt: HostRuntime) -> Result<(), Fail> {
         deep,
         "byte 128: Core(DepthOverflow { name: \"any\" })",
     )
+}
+
+// A stream has as many steps as a slice: 127 arrays take all but one.
+#[test]
+fn values_within_the_limit(rt: HostRuntime) -> Result<(), Fail> {
+    let alloc = rt.alloc();
+    let deep = repeated(alloc, b"", b"\x81", 127, b"\x05")?;
+    let whole: Value = from_slice(alloc, deep)?;
+    let streamed: Value = from_reader(alloc, deep)?;
+    if whole == streamed && to_vec(Vec::new(alloc), &streamed)?.as_slice() == deep {
+        return Ok(());
+    }
+    Err(Fail::new(format_args!("{streamed:?} of a stream")))
 }
 
 /// The number at the beginning of a stream that is lent.

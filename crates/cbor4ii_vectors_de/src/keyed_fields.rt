@@ -3,12 +3,14 @@ ghost use Rattle.std.specs.Prelude.{◌≡◌};
 ghost use Rattle.cbor4ii.specs.Fields.{no_values};
 
 use crate::asked::{Row as AskedRow, asks_rows};
+use crate::presence::Lamp;
 use crate::typed::Answer::{self, Custom, Is};
 use crate::typed::{Take, reads_all};
 use cbor4ii::serde::{DecodeError, Deserializer, Once, Optional, Required};
 use cbor4ii_rw::read::Source;
-use cbor4ii_vectors::rows::Row;
-use cbor4ii_vectors::{eof, mismatch, require_utf8, table, unsupported};
+use cbor4ii_vectors::repeated::repeated;
+use cbor4ii_vectors::rows::{Row, RowWithin, reads_by_each};
+use cbor4ii_vectors::{eof, mismatch, no_step, require_utf8, table, unsupported};
 use std::alloc::Global;
 use std::test::Fail;
 
@@ -92,9 +94,17 @@ const REJECTED: &[Row<Answer<Keyed>>] = table! {
     (b"\x81\x01", Err(mismatch!("map", 0x81)), b"\x01"),
 };
 
+// A struct takes one step, and so does what is skipped in it.
+const WITHIN: &[RowWithin<Answer<Keyed>>] = table! {
+    (b"\xa1\x01\x07", 0, Err(no_step!("map")), b"\xa1\x01\x07"),
+    (b"\xa1\x01\x07", 1, Ok(Is(Keyed(7, None, None))), b""),
+    (b"\xa2\x01\x07\x02\x80", 1, Err(no_step!("ignored-any")), b"\x80"),
+    (b"\xa2\x01\x07\x02\x80", 2, Ok(Is(Keyed(7, None, None))), b""),
+};
+
 #[test]
 fn keys_are_integers(rt: HostRuntime) -> Result<(), Fail> {
-    reads_all(rt.alloc(), KEYED, &[])?;
+    reads_all(rt.alloc(), KEYED, WITHIN)?;
     reads_all(rt.alloc(), LONG_HEADS, &[])
 }
 
@@ -118,4 +128,82 @@ const ASKED: &[AskedRow] = table! {
 #[test]
 fn looks_for_keys(rt: HostRuntime) -> Result<(), Fail> {
     asks_rows::<Answer<Keyed>>(rt.alloc(), ASKED)
+}
+
+/// A struct of the key 0, which has to be there.
+#[derive(Debug, PartialEq, Drop)]
+struct Zero(u8);
+
+impl From<(u8, ())> for Zero {
+    fn from(values: (u8, ())) -> Zero {
+        Zero(values.0)
+    }
+}
+
+impl Take for Zero {
+    fn take<S: Source>(
+        alloc: Global,
+        de: &mut Deserializer<S>,
+    ) -> Result<Zero, DecodeError<S::Error>> {
+        de.deserialize_keyed_fields(alloc, "Zero", &[0], &["no 0"], (Required, ()))
+    }
+}
+
+// A text, also an empty one, is not the key 0.
+const ZEROS: &[Row<Answer<Zero>>] = table! {
+    (b"\xa1\x00\x07", Ok(Is(Zero(7))), b""),
+    (b"\xa2\x60\x05\x00\x07", Ok(Is(Zero(7))), b""),
+    (b"\xa2\x00\x07\x60\x05", Ok(Is(Zero(7))), b""),
+    (b"\xa1\x60\x05\x00", Ok(Custom("no 0")), b"\x00"),
+    (b"\xa1\x61\x00\x05\x00", Ok(Custom("no 0")), b"\x00"),
+};
+
+#[test]
+fn no_text_is_the_key_0(rt: HostRuntime) -> Result<(), Fail> {
+    reads_all(rt.alloc(), ZEROS, &[])
+}
+
+/// A struct whose field may be left out, and rejects some values in words.
+#[derive(Debug, PartialEq, Drop)]
+struct Lit(Option<Lamp>);
+
+impl From<(Option<Lamp>, ())> for Lit {
+    fn from(values: (Option<Lamp>, ())) -> Lit {
+        Lit(values.0)
+    }
+}
+
+impl Take for Lit {
+    fn take<S: Source>(
+        alloc: Global,
+        de: &mut Deserializer<S>,
+    ) -> Result<Lit, DecodeError<S::Error>> {
+        de.deserialize_keyed_fields(alloc, "Lit", &[1], &[], (Optional, ()))
+    }
+}
+
+// A field that is rejected in words does not count as left out.
+const LIT: &[Row<Answer<Lit>>] = table! {
+    (b"\xa0\x00", Ok(Is(Lit(None))), b"\x00"),
+    (b"\xa1\x01\xa0\x00", Ok(Custom("a lamp has a level")), b"\x00"),
+    (b"\xa2\x01\xa0\x02\x00\x00", Ok(Custom("a lamp has a level")), b"\x02\x00\x00"),
+};
+
+#[test]
+fn a_field_that_is_rejected_is_not_left_out(rt: HostRuntime) -> Result<(), Fail> {
+    reads_all(rt.alloc(), LIT, &[])
+}
+
+// 6,000 pairs in a row, of a field that is known and of ones that are not: 0x1770. Of the known one
+// the last counts.
+#[test]
+fn so_many_pairs_are_read(rt: HostRuntime) -> Result<(), Fail> {
+    let alloc = rt.alloc();
+    let want = Ok(Is(Keyed(5, None, None)));
+    let known = repeated(alloc, b"\xb9\x17\x70", b"\x01\x05", 6_000, b"")?;
+    reads_by_each(alloc, known, 256, &want, b"")?;
+    let other = repeated(alloc, b"\xb9\x17\x71\x01\x05", b"\x02\x80", 6_000, b"")?;
+    reads_by_each(alloc, other, 256, &want, b"")?;
+    let texts = repeated(alloc, b"\xbf\x01\x05", b"\x61x\x80", 6_000, b"\xff")?;
+    reads_by_each(alloc, texts, 256, &want, b"")
 }

@@ -11,12 +11,14 @@ ghost use Rattle.cbor4ii.specs.Typed.{not_exact};
 use crate::typed::comes_back;
 use cbor4ii::serde::laws::{self, EnumValues};
 use cbor4ii::serde::{
-    AsDescribed, DecodeError, Described, Deserialize, Deserializer, EncodeError, Required,
-    Serialize, Serializer, Typed, described_values_are_read_back,
+    AsDescribed, Choice, DecodeError, Described, Deserialize, Deserializer, EncodeError, Holds,
+    Otherwise, Required, Serialize, Serializer, Typed, Unit, described_values_are_answered,
+    described_values_are_read_back,
 };
 use cbor4ii_items::types::Bytes;
 use cbor4ii_rw::error::Never;
 use cbor4ii_rw::read::Source;
+use cbor4ii_rw::slice_reader::SliceReader;
 use cbor4ii_rw::write::Write;
 use cbor4ii_tree::{RawValue, Value};
 use std::alloc::Global;
@@ -37,6 +39,7 @@ fn laws_of_values_are_called(rt: HostRuntime) {
 fn laws_of_containers_are_called(rt: HostRuntime) {
     laws::wrapped_values_are_read_back::<RawValue<'static>>();
     laws::tuples_are_read_back::<u8, RawValue<'static>, RawValue<'static>>();
+    laws::elements_are_read_as_tuples::<u8, RawValue<'static>, RawValue<'static>>();
     laws::tagged_values_are_read_back::<RawValue<'static>>();
     laws::vectors_are_read_back::<RawValue<'static>>();
     laws::maps_are_read_back::<String, RawValue<'static>>();
@@ -65,7 +68,7 @@ impl<S: Source> Deserialize<S> for Two {
 }
 
 impl From<(u8, (bool, ()))> for Two {
-    ghost from_gives = { λ values t. values ≡ (t.b, (t.f, no_values)) };
+    ghost from_gives = { λ values t. t ≡ record { b = values.0; f = values.1.0 } };
 
     fn from(values: (u8, (bool, ()))) -> Two {
         let (b, (f, ())) = values;
@@ -79,13 +82,14 @@ impl Typed for Two {
 
 impl Described for Two {
     ghost codec = { struct_codec (λ t. (t.b, (t.f, no_values)))
+        (λ values. record { b = values.0; f = values.1.0 }) (λ t. refl)
         (with_field (codes "b") (codes "no b") ⟦<u8 as Described>⟧.codec
         (with_field (codes "f") (codes "no f") ⟦<bool as Described>⟧.codec no_fields refl) refl)
         refl };
 }
 
 impl AsDescribed for Two {
-    ghost agrees = { as_described tt };
+    ghost agrees = { as_described tt refl };
 }
 
 #[test]
@@ -102,6 +106,9 @@ fn laws_of_described_types_are_called(rt: HostRuntime) {
     described_values_are_read_back::<Two>();
     described_values_are_read_back::<BTreeMap<String, (Option<u64>, Vec<Box<()>>)>>();
     described_values_are_read_back::<BTreeMap<Bytes<Vec<u8>>, Value>>();
+    described_values_are_answered::<Two, Never>();
+    described_values_are_answered::<BTreeMap<String, (Option<u64>, Vec<Box<()>>)>, Never>();
+    described_values_are_answered::<BTreeMap<Bytes<Vec<u8>>, Value>, Never>();
 }
 
 /// How bright a lamp is, by a variant: `Off` by its name alone, which is 0, or `Level` with a
@@ -130,4 +137,45 @@ fn laws_of_variants_are_called(rt: HostRuntime) {
     laws::variants_are_read_in_one_way::<Lamp>();
     laws::variants_are_read_by_calls::<String, Lamp>();
     laws::variants_are_read_back::<Lamp>();
+}
+
+#[test]
+fn laws_of_one_answer_are_called(rt: HostRuntime) {
+    laws::exact_calls_are_answered_alike::<u8, Never, Never>();
+    laws::decoded_items_are_answered_alike::<u8, Never, Never>();
+}
+
+#[test]
+fn laws_of_one_error_are_called(rt: HostRuntime) {
+    laws::typed_leaves_are_rejected_once();
+    laws::any_items_are_rejected_once();
+    laws::raw_items_are_rejected_once();
+    laws::wrapped_values_are_rejected_once::<u8, bool, String>();
+    laws::typed_maps_are_rejected_once::<String, u8>();
+    laws::elements_are_rejected_once::<String, (u8, (bool, ())), Two>();
+}
+
+type Slice = SliceReader<'static>;
+
+type TwoPlaces = (Option<u8>, (Option<bool>, ()));
+
+type TwoPresences = (Required, (Required, ()));
+
+#[test]
+fn laws_of_one_error_of_structs_are_called(rt: HostRuntime) {
+    laws::structs_are_rejected_once::<Option<String>, TwoPlaces, TwoPresences, Two>();
+}
+
+impl From<Choice<u8, Never>> for Lamp {
+    fn from(level: Choice<u8, Never>) -> Lamp {
+        match level {
+            Choice::First(value) => Lamp(value),
+        }
+    }
+}
+
+#[test]
+fn laws_of_one_error_of_enums_are_called(rt: HostRuntime) {
+    laws::enums_are_rejected_once::<Slice, (), Choice<u8, Never>, Unit, (Holds, Otherwise), Lamp>();
+    laws::variants_are_rejected_once::<Slice, u8, TwoPlaces, TwoPresences, Never, Otherwise>();
 }

@@ -49,6 +49,8 @@ mod laws;
 #[cfg(test)]
 mod lent_strings;
 #[cfg(test)]
+mod many;
+#[cfg(test)]
 mod maps;
 #[cfg(test)]
 mod methods;

@@ -20,6 +20,9 @@ const MAPS_READ: &[RowShown] = table! {
     (b"\xa4\x01\x02\x03\x04\x05", Err(eof!("u8", 1)), b""),
     // Of equal keys the last value stays.
     (b"\xa2\x01\x02\x01\x03", Ok("Is({1: 3})"), b""),
+    (b"\xa4\x01\x02\x03\x04\x05\x06\x01\x07", Ok("Is({1: 7, 3: 4, 5: 6})"), b""),
+    (b"\xa5\x01\x02\x03\x04\x05\x06\x07\x08\x07\x09\x00",
+        Ok("Is({1: 2, 3: 4, 5: 6, 7: 9})"), b"\x00"),
 };
 
 const MAPS_WITHIN: &[RowShownWithin] = table! {
@@ -31,6 +34,17 @@ const MAPS_WITHIN: &[RowShownWithin] = table! {
 #[test]
 fn maps(rt: HostRuntime) -> Result<(), Fail> {
     tries_shown::<Answer<BTreeMap<u8, u8>>>(rt.alloc(), MAPS, MAPS_READ, MAPS_WITHIN)
+}
+
+// A value of nine bytes, the longest head, between others.
+const MAPS_TO_GREAT_NUMBERS: &[BothShown] = table! {
+    (b"\xa4\x01\x1b\0\0\0\x01\0\0\0\x02\x03\x04\x05\x1b\0\0\0\x01\0\0\0\0\x18\x18\x06",
+        "Is({1: 4294967298, 3: 4, 5: 4294967296, 24: 6})"),
+};
+
+#[test]
+fn maps_to_great_numbers(rt: HostRuntime) -> Result<(), Fail> {
+    tries_shown::<Answer<BTreeMap<u8, u64>>>(rt.alloc(), MAPS_TO_GREAT_NUMBERS, &[], &[])
 }
 
 const OF_TEXTS_TO_ARRAYS: &str = "Is({\"obj\": [], \"obj2\": [\"obj3\", \"obj4\", \"\"]})";

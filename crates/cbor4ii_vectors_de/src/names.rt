@@ -1,9 +1,11 @@
 //! Names of fields and variants: what they ask of a reader.
-use crate::asked::{Row, asks_rows};
-use crate::typed::{Answer, Take};
+use crate::asked::{Row, asks_no_more_than, asks_rows};
+use crate::typed::Answer::{self, Is};
+use crate::typed::{Take, reads_all};
 use cbor4ii::serde::{Choice, DecodeError, Deserializer, Holds, Optional, Otherwise, Unit};
 use cbor4ii_rw::error::{Never, StaticStr};
 use cbor4ii_rw::read::Source;
+use cbor4ii_vectors::rows::Row as ReadRow;
 use cbor4ii_vectors::table;
 use std::alloc::Global;
 use std::test::Fail;
@@ -26,6 +28,9 @@ const NAMES: [StaticStr; 5] = [
         "nnnnnnnnnnnnnnnnnnnnnnnnnnnnnnnnnnnnnnnnnnnnnnnnnnnnnnnnnnnnnnnn",
     ),
 ];
+
+// A name of 255 bytes with its head: no look asks for more because more may be asked for.
+const NAME: usize = 257;
 
 /// A struct of five fields, of which one came.
 #[derive(Drop)]
@@ -66,7 +71,9 @@ const FIELDS: &[Row] = table! {
 
 #[test]
 fn looks_for_names_of_fields(rt: HostRuntime) -> Result<(), Fail> {
-    asks_rows::<Answer<Five>>(rt.alloc(), FIELDS)
+    let alloc = rt.alloc();
+    asks_rows::<Answer<Five>>(alloc, FIELDS)?;
+    asks_no_more_than::<Answer<Five>>(alloc, NAME, FIELDS)
 }
 
 /// The name of a variant. The first of them holds a number.
@@ -105,5 +112,37 @@ const VARIANTS: &[Row] = table! {
 
 #[test]
 fn looks_for_names_of_variants(rt: HostRuntime) -> Result<(), Fail> {
-    asks_rows::<Answer<Variant>>(rt.alloc(), VARIANTS)
+    let alloc = rt.alloc();
+    asks_rows::<Answer<Variant>>(alloc, VARIANTS)?;
+    asks_no_more_than::<Answer<Variant>>(alloc, NAME, VARIANTS)
+}
+
+/// A struct of two fields whose names have one length and differ in their last letter.
+#[derive(Debug, PartialEq, Drop)]
+struct Alike(Option<u8>, Option<u8>);
+
+impl Take for Alike {
+    fn take<S: Source>(
+        alloc: Global,
+        de: &mut Deserializer<S>,
+    ) -> Result<Alike, DecodeError<S::Error>> {
+        let presences = (Optional, (Optional, ()));
+        let names = ["measured1", "measured2"];
+        let (first, (second, ())) = de.deserialize_fields(alloc, "Alike", &names, &[], presences)?;
+        Ok(Alike(first, second))
+    }
+}
+
+const ALIKE: &[ReadRow<Answer<Alike>>] = table! {
+    (b"\xa1\x69measured1\x05", Ok(Is(Alike(Some(5), None))), b""),
+    (b"\xa1\x69measured2\x05", Ok(Is(Alike(None, Some(5)))), b""),
+    (b"\xa2\x69measured2\x05\x69measured1\x06", Ok(Is(Alike(Some(6), Some(5)))), b""),
+    (b"\xa1\x69measured3\x05", Ok(Is(Alike(None, None))), b""),
+    (b"\xa1\x68measured\x05", Ok(Is(Alike(None, None))), b""),
+    (b"\xa1\x6ameasured10\x05", Ok(Is(Alike(None, None))), b""),
+};
+
+#[test]
+fn names_that_begin_alike(rt: HostRuntime) -> Result<(), Fail> {
+    reads_all(rt.alloc(), ALIKE, &[])
 }

@@ -204,7 +204,7 @@ impl Described for Kept {
 }
 
 impl AsDescribed for Kept {
-    ghost agrees = { as_described tt };
+    ghost agrees = { as_described tt refl };
 }
 
 #[test]

@@ -296,7 +296,34 @@ impl Take for Vec<u16> {
     }
 }
 
+impl Take for Vec<u64> {
+    fn take<S: Source>(
+        alloc: Global,
+        de: &mut Deserializer<S>,
+    ) -> Result<Self, DecodeError<S::Error>> {
+        Self::deserialize(alloc, de)
+    }
+}
+
 impl Take for Vec<Option<u32>> {
+    fn take<S: Source>(
+        alloc: Global,
+        de: &mut Deserializer<S>,
+    ) -> Result<Self, DecodeError<S::Error>> {
+        Self::deserialize(alloc, de)
+    }
+}
+
+impl Take for Vec<Option<F16>> {
+    fn take<S: Source>(
+        alloc: Global,
+        de: &mut Deserializer<S>,
+    ) -> Result<Self, DecodeError<S::Error>> {
+        Self::deserialize(alloc, de)
+    }
+}
+
+impl Take for Vec<Option<Option<u8>>> {
     fn take<S: Source>(
         alloc: Global,
         de: &mut Deserializer<S>,
@@ -315,6 +342,15 @@ impl Take for Option<Vec<(u128, i128)>> {
 }
 
 impl Take for BTreeMap<u8, u8> {
+    fn take<S: Source>(
+        alloc: Global,
+        de: &mut Deserializer<S>,
+    ) -> Result<Self, DecodeError<S::Error>> {
+        Self::deserialize(alloc, de)
+    }
+}
+
+impl Take for BTreeMap<u8, u64> {
     fn take<S: Source>(
         alloc: Global,
         de: &mut Deserializer<S>,

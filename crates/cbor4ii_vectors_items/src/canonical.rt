@@ -3,6 +3,9 @@ use cbor4ii_items::canonical::{canonical_buf, canonical_head};
 use cbor4ii_items::initial::peek;
 use cbor4ii_rw::error::DecodeError;
 use cbor4ii_rw::read::Source;
+use cbor4ii_rw::slice_reader::SliceReader;
+use cbor4ii_vectors::compared::same;
+use cbor4ii_vectors::repeated::repeated;
 use cbor4ii_vectors::rows::{ReadFrom, Row, reads_rows, reads_texts};
 use cbor4ii_vectors::{eof, mismatch, not_canonical, table};
 use std::alloc::Global;
@@ -101,4 +104,15 @@ fn strings_after_shortest_heads(rt: HostRuntime) -> Result<(), Fail> {
     let alloc = rt.alloc();
     reads_texts::<Content>(alloc, STRINGS_AFTER_SHORTEST_HEADS)?;
     reads_texts::<TextContent>(alloc, TEXTS_AFTER_SHORTEST_HEADS)
+}
+
+// 100,000 bytes, 0x186a0: memory is found for all of them.
+#[test]
+fn long_strings_after_shortest_heads(rt: HostRuntime) -> Result<(), Fail> {
+    let alloc = rt.alloc();
+    let bytes = repeated(alloc, b"\x5a\x00\x01\x86\xa0", b"a", 100_000, b"\xff")?;
+    let mut reader = SliceReader::new(bytes);
+    let content = canonical_buf(alloc, "bytes", 2, &mut reader)?;
+    same(bytes.get(5..100_005) == Some(content.as_slice()), true)?;
+    same(reader.remaining(), b"\xff".as_slice())
 }

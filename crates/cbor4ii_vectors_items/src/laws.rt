@@ -1,11 +1,13 @@
 //! The laws are called.
 use cbor4ii_items::laws::{
-    arrays_are_read_back, integers_are_read_back, lengths_are_read_back, maps_are_read_back,
-    no_encoding_begins_another, parts_are_read_back, rejected_arrays_are_not_read,
-    rejected_lengths_are_not_read, rejected_maps_are_not_read, rejected_numbers_are_not_read,
-    rejected_parts_are_not_read, rejected_simple_values_are_not_read,
-    rejected_strings_are_not_read, shortest_is_least, simple_values_are_read_back,
-    strings_are_read_back, what_is_written_is_decoded,
+    arrays_are_read_back, arrays_are_rejected_once, integers_are_read_back, lengths_are_read_back,
+    maps_are_read_back, maps_are_rejected_once, no_encoding_begins_another,
+    numbers_are_rejected_once, parts_are_read_back, parts_are_rejected_once,
+    rejected_arrays_are_not_read, rejected_lengths_are_not_read, rejected_maps_are_not_read,
+    rejected_numbers_are_not_read, rejected_parts_are_not_read,
+    rejected_simple_values_are_not_read, rejected_strings_are_not_read, shortest_is_least,
+    simple_values_are_read_back, simple_values_are_rejected_once, strings_are_read_back,
+    strings_are_rejected_once, what_is_written_is_decoded,
 };
 use cbor4ii_items::types::Tag;
 use cbor4ii_rw::error::Never;
@@ -30,4 +32,10 @@ fn laws_are_called(rt: HostRuntime) {
     rejected_parts_are_not_read::<u8>();
     rejected_arrays_are_not_read::<SliceReader, Tag<u8>>();
     rejected_maps_are_not_read::<SliceReader, Tag<u8>, String>();
+    numbers_are_rejected_once();
+    simple_values_are_rejected_once();
+    strings_are_rejected_once::<u8>();
+    parts_are_rejected_once::<u8>();
+    arrays_are_rejected_once::<SliceReader, Tag<u8>>();
+    maps_are_rejected_once::<SliceReader, Tag<u8>, String>();
 }

@@ -44,6 +44,8 @@ mod reserve;
 #[cfg(test)]
 mod rw;
 #[cfg(test)]
+mod sequence;
+#[cfg(test)]
 mod sequences;
 #[cfg(test)]
 mod simple;

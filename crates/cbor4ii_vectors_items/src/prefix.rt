@@ -1,6 +1,6 @@
 //! What a head and a float ask of a reader that shows what is wanted.
 use cbor4ii_items::types::F64;
-use cbor4ii_vectors::asked::looks_at_most;
+use cbor4ii_vectors::asked::{looks_at_most, looks_within_windows};
 use cbor4ii_vectors::readers::Asked;
 use cbor4ii_vectors::rows::ReadFrom;
 use cbor4ii_vectors::table;
@@ -9,6 +9,7 @@ use std::test::Fail;
 
 // The most looks over a reader that shows what is wanted, over one that shows one byte at a time,
 // and where a look may ask for 4,096 bytes. The first two want no byte that is not the item's.
+// Where a look may ask for fewer than 4,096, there are no more than over these.
 type Looks = (usize, usize, usize);
 
 fn asks<T: ReadFrom + Drop>(alloc: Global, bytes: &[u8], looks: Looks) -> Result<(), Fail> {
@@ -22,6 +23,7 @@ fn asks<T: ReadFrom + Drop>(alloc: Global, bytes: &[u8], looks: Looks) -> Result
         by_byte,
         bytes.len(),
     )?;
+    looks_within_windows::<T>(alloc, bytes, true, bytes.len(), (shown, by_byte))?;
     looks_at_most::<T>(alloc, Asked::new(bytes).wide(), bytes, true, wide, 9)
 }
 

@@ -1,5 +1,6 @@
 //! Rows of byte strings and texts.
 
+mod asked;
 mod borrowed;
 mod chunks;
 mod cow;

@@ -1,9 +1,11 @@
 //! Inputs that are one item and nothing else.
 use cbor4ii_items::decode::Decode;
+use cbor4ii_items::types::Bytes;
 use cbor4ii_items::whole::{decode_whole, decode_whole_at};
 use cbor4ii_rw::error::{DecodeError, ErrorAt, Never, WholeError};
 use cbor4ii_rw::slice_reader::SliceReader;
 use cbor4ii_vectors::compared::same;
+use cbor4ii_vectors::repeated::repeated;
 use cbor4ii_vectors::{eof, mismatch, require_length, require_utf8, table};
 use std::alloc::Global;
 use std::fmt::{Debug, Display, InlineText};
@@ -188,6 +190,49 @@ fn an_error_tells_its_byte(rt: HostRuntime) -> Result<(), Fail> {
     reads_whole_at::<String>(alloc, TEXTS_AT)?;
     reads_whole_at::<&str>(alloc, LENT_AT)?;
     reads_whole_at::<Vec<u8>>(alloc, ARRAYS_AT)
+}
+
+// How many bytes follow an item, and memory for 5,000 parts, 0x1388, and 100,000 bytes, 0x186a0.
+#[test]
+fn many_bytes_after_an_item(rt: HostRuntime) -> Result<(), Fail> {
+    let alloc = rt.alloc();
+    for count in [255, 256, 70_000] {
+        let input = repeated(alloc, b"\x05", b"\xff", count, b"")?;
+        let got = decode_whole::<&[u8], u8>(alloc, input);
+        same(got, Err(WholeError::Trailing(count)))?;
+        let error = WholeError::Trailing(count);
+        same(
+            decode_whole_at::<&[u8], u8>(alloc, input),
+            Err(ErrorAt { at: 1, error }),
+        )?;
+    }
+    Ok(())
+}
+
+#[test]
+fn an_item_of_many_parts(rt: HostRuntime) -> Result<(), Fail> {
+    let alloc = rt.alloc();
+    let input = repeated(alloc, b"\x99\x13\x88", b"\x05", 5_000, b"")?;
+    let want = vec![in alloc; 5u8; 5_000]?;
+    are_bytes(&decode_whole::<&[u8], Vec<u8>>(alloc, input)?, &want)?;
+    are_bytes(&decode_whole_at::<&[u8], Vec<u8>>(alloc, input)?, &want)?;
+    let input = repeated(alloc, b"\x5a\x00\x01\x86\xa0", b"\x05", 100_000, b"")?;
+    let want = vec![in alloc; 5u8; 100_000]?;
+    are_bytes(
+        &decode_whole::<&[u8], Bytes<Vec<u8>>>(alloc, input)?.0,
+        &want,
+    )?;
+    are_bytes(
+        &decode_whole_at::<&[u8], Bytes<Vec<u8>>>(alloc, input)?.0,
+        &want,
+    )
+}
+
+fn are_bytes(found: &[u8], want: &[u8]) -> Result<(), Fail> {
+    if found == want {
+        return Ok(());
+    }
+    Err(Fail::new(format_args!("{} bytes in the place of {}", found.len(), want.len())))
 }
 
 fn is_line<E: Display>(error: &E, line: &str) -> Result<(), Fail> {

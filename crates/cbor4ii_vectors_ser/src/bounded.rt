@@ -66,15 +66,29 @@ fn a_struct_variant_field_by_field(rt: HostRuntime) -> Result<(), Fail> {
 }
 
 fn a_struct_says(ser: &mut Serializer<BufWriter>) -> Result<bool, EncodeError<TryReserveError>> {
-    let fields = ser.serialize_struct("Struct", 2)?;
-    Ok(fields.left() == 2 && fields.keyed())
+    let mut fields = ser.serialize_struct("Struct", 2)?;
+    let at_first = fields.left() == 2 && fields.keyed();
+    fields.serialize_field("a", &1u8)?;
+    let after_one = fields.left() == 1 && fields.keyed();
+    fields.serialize_field("b", &2u8)?;
+    Ok(at_first && after_one && fields.left() == 0 && fields.keyed())
+}
+
+fn a_tuple_says(ser: &mut Serializer<BufWriter>) -> Result<bool, EncodeError<TryReserveError>> {
+    let mut items = ser.serialize_tuple(2)?;
+    let at_first = items.left() == 2 && !items.keyed();
+    items.serialize_element(&1u8)?;
+    let after_one = items.left() == 1 && !items.keyed();
+    items.serialize_element(&2u8)?;
+    Ok(at_first && after_one && items.left() == 0 && !items.keyed())
 }
 
 #[test]
 fn what_a_struct_says_of_itself(rt: HostRuntime) -> Result<(), Fail> {
     let mut ser = Serializer::new(BufWriter::new(Vec::new(rt.alloc())));
     assert!(rt; a_struct_says(&mut ser)?);
-    assert_eq!(rt; ser.into_inner().buffer(), b"\xa2".as_slice());
+    assert!(rt; a_tuple_says(&mut ser)?);
+    has_written(ser, b"\xa2\x61a\x01\x61b\x02\x82\x01\x02")?;
     Ok(())
 }
 

@@ -1,6 +1,7 @@
 //! Rows of typed values that are only written, as tests, in files named as those of `cbor4ii_ser`.
-//! Rows of variants stand in `fields` and `serializer`. What several of them share stands in
-//! `by_pieces`, `pieces`, `tagged` and `typed`.
+//! Rows of variants stand in `fields` and `serializer`, and those of values as the parts of each
+//! call in `parts`. What several of them share stands in `by_pieces`, `pieces`, `tagged` and
+//! `typed`.
 //!
 //! The rows' values come from RFC 8949 and from worked examples, never from this codec's own
 //! answers.
@@ -30,6 +31,8 @@ mod leaves;
 mod listed;
 #[cfg(test)]
 mod maps;
+#[cfg(test)]
+mod parts;
 pub mod pieces;
 #[cfg(test)]
 mod sequences;

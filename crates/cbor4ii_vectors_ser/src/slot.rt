@@ -1,7 +1,7 @@
 //! A head is one push, and a string's content another, whether the writer's error is small or
 //! large: calls of a serializer, and how many bytes each push has.
 ghost use Rattle.std.specs.Prelude.{false};
-ghost use Rattle.cbor4ii_vectors.specs.Reports.{pushed_output};
+ghost use Rattle.cbor4ii_vectors.specs.Reports.{failing_output, pushed_output};
 
 use crate::by_pieces::ByPieces;
 use crate::pieces::letters;
@@ -11,7 +11,7 @@ use cbor4ii_rw::write::Write;
 use cbor4ii_ser::error::EncodeError;
 use cbor4ii_ser::serializer::Serializer;
 use cbor4ii_tree::Value;
-use cbor4ii_vectors::writers::PushLengths;
+use cbor4ii_vectors::writers::{FailingWriter, PushLengths};
 use std::alloc::Global;
 use std::collections::BTreeMap;
 use std::test::Fail;
@@ -39,6 +39,25 @@ impl Write for LargePushes {
     }
 }
 
+/// A `FailingWriter` with a large error.
+#[derive(Drop)]
+struct LargeWriter(FailingWriter);
+
+impl Write for LargeWriter {
+    type Error = LargeFailure;
+
+    ghost atomic = { false };
+
+    ghost view = { λ writer. failing_output writer.0 };
+
+    fn push(&mut self, input: &[u8]) -> Result<(), LargeFailure> {
+        match self.0.push(input) {
+            Ok(()) => Ok(()),
+            Err(_) => Err(LargeFailure([0; 16])),
+        }
+    }
+}
+
 // Compares how many bytes the pushes have.
 fn are_lengths(found: &[usize], wanted: &[usize]) -> Result<(), Fail> {
     if found == wanted {
@@ -55,6 +74,24 @@ pub fn pushes<T: Put>(alloc: Global, calls: &T, lengths: &[usize]) -> Result<(),
     let mut large = Serializer::new(LargePushes(PushLengths::new(alloc)));
     calls.put(&mut large)?;
     are_lengths(large.into_inner().0.lengths(), lengths)
+}
+
+/// The calls write these bytes, to a writer of either kind.
+pub fn writes_alike<T: Put>(alloc: Global, calls: &T, bytes: &[u8]) -> Result<(), Fail> {
+    let mut small = Serializer::new(FailingWriter::new(Vec::new(alloc), usize::MAX));
+    calls.put(&mut small)?;
+    are_bytes(small.into_inner().buffer(), bytes)?;
+    let large = LargeWriter(FailingWriter::new(Vec::new(alloc), usize::MAX));
+    let mut large = Serializer::new(large);
+    calls.put(&mut large)?;
+    are_bytes(large.into_inner().0.buffer(), bytes)
+}
+
+fn are_bytes(found: &[u8], wanted: &[u8]) -> Result<(), Fail> {
+    if found == wanted {
+        return Ok(());
+    }
+    Err(Fail::new(format_args!("{found:?} in the place of {wanted:?}")))
 }
 
 #[test]

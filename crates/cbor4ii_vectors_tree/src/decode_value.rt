@@ -15,7 +15,7 @@ use std::test::Fail;
 mod asked;
 mod depth;
 mod errors;
-mod growth;
+pub mod growth;
 mod window;
 
 // [1, [2, 3], [4, 5]]

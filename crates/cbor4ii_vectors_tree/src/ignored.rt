@@ -5,7 +5,7 @@
 use crate::item::Item;
 use crate::item_rows::{rejects_in_skipping, skips, skips_item};
 use cbor4ii_tree::IgnoredAny;
-use cbor4ii_vectors::asked::{asks, looks_at_most};
+use cbor4ii_vectors::asked::{asks, looks_at_most, looks_within_windows};
 use cbor4ii_vectors::readers::Asked;
 use cbor4ii_vectors::rows::Want;
 use cbor4ii_vectors::{eof, table, unsupported};
@@ -158,6 +158,43 @@ fn many_items(rt: HostRuntime) -> Result<(), Fail> {
     skips_zeros(rt.alloc(), ZEROS)
 }
 
+// More than two of the longest items that say their size in the first byte: no part of what is
+// skipped before them.
+const MORE: &[u8] = &[0; 60];
+
+// A head, and what follows it so many times: runs of items of one byte, of which eight are taken at
+// once where so many are left, some with items of two bytes between them.
+const RUNS: &[(&[u8], &[u8], usize)] = table! {
+    (b"\x82", b"\x00", 2),
+    (b"\x88", b"\x00", 8),
+    (b"\x89", b"\x00", 9),
+    (b"\x8a", b"\x00", 10),
+    (b"\x8b", b"\x00", 11),
+    (b"\x91", b"\x00", 17),
+    (b"\x92", b"\x00", 18),
+    (b"\x93", b"\x00", 19),
+    (b"\xa4", b"\x17\x20", 4),
+    (b"\xa5", b"\x17\x20", 5),
+    (b"\x98\x64", b"\x00\x00\x00\x18\x05", 25),
+    (b"\x98\x64", b"\x17\x37\x38\x05\x20", 25),
+    (b"\x98\x64", b"\x00\x41\x05\x00\x00", 25),
+    (b"\xb8\x32", b"\x00\x00\x00\x18\x05", 25),
+};
+
+fn skips_runs(alloc: Global, rows: &[(&[u8], &[u8], usize)]) -> Result<(), Fail> {
+    for &(head, part, count) in rows {
+        let mut bytes = repeated(alloc, head, count, part)?;
+        bytes.extend_from_slice(MORE)?;
+        skips(alloc, bytes.leak(), Ok(IgnoredAny), MORE)?;
+    }
+    Ok(())
+}
+
+#[test]
+fn runs_end_with_their_items(rt: HostRuntime) -> Result<(), Fail> {
+    skips_runs(rt.alloc(), RUNS)
+}
+
 fn zeros(alloc: Global, head: &[u8], count: usize, end: &[u8]) -> Result<Vec<u8>, AllocError> {
     let mut bytes = repeated(alloc, head, count, b"\x00")?;
     bytes.extend_from_slice(end)?;
@@ -235,6 +272,28 @@ fn asks_rows(alloc: Global, rows: &[(&[u8], usize, usize, usize)]) -> Result<(),
         looks_at_most::<Item<IgnoredAny>>(alloc, reader, bytes, true, looks, bytes.len())?;
         let reader = Asked::new(bytes).refusing_above(most).showing(1);
         looks_at_most::<Item<IgnoredAny>>(alloc, reader, bytes, true, by_byte, bytes.len())?;
+        looks_within_windows::<Item<IgnoredAny>>(alloc, bytes, true, most, (looks, by_byte))?;
+    }
+    Ok(())
+}
+
+// What is rejected by its first byte, whatever follows it (RFC 8949 section 3.3), and how many
+// bytes come up to that one. No look asks for a byte after it, and one more asks for it again.
+const REJECTED_AT_ONCE: &[(&[u8], usize)] = table! {
+    (b"\xf8", 1),
+    (b"\xf8\x14", 1),
+    (b"\xf8\x63", 1),
+    (b"\x81\xf8\x63", 2),
+    (b"\xc1\xf8", 2),
+    (b"\xf0", 1),
+    (b"\xfc", 1),
+};
+
+#[test]
+fn what_is_rejected_wants_no_byte_after_it(rt: HostRuntime) -> Result<(), Fail> {
+    for &(bytes, come) in REJECTED_AT_ONCE {
+        let reader = Asked::new(bytes).refusing_above(1);
+        looks_at_most::<Item<IgnoredAny>>(rt.alloc(), reader, bytes, false, come + 1, come)?;
     }
     Ok(())
 }

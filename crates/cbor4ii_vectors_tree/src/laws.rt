@@ -15,6 +15,7 @@ fn laws_are_called(rt: HostRuntime) -> Result<(), Fail> {
     laws::reading_says_what_may_come();
     laws::canonical_encoding_reads_back();
     laws::skipping_takes_what_reading_takes();
+    laws::readers_are_answered_alike::<u8, u8>();
     laws::canonical_trees_are_canonical_encodings();
     laws::values_are_items(&Value::Tag(1, Box::new(rt.alloc(), Value::Null)?));
     Ok(())

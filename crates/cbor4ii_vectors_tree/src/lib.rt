@@ -54,3 +54,5 @@ mod raw_parts;
 mod text_pairs;
 #[cfg(test)]
 mod value;
+#[cfg(test)]
+mod whole_slice;

@@ -2,7 +2,7 @@
 use cbor4ii_items::decode::Decode;
 use cbor4ii_rw::error::{DecodeError, Len, Never, WholeError};
 use cbor4ii_rw::slice_reader::SliceReader;
-use cbor4ii_tree::PlainRawValue;
+use cbor4ii_tree::{BoxedRawValue, PlainRawValue};
 use cbor4ii_vectors::repeated::repeated;
 use cbor4ii_vectors::table;
 use std::test::Fail;
@@ -39,6 +39,8 @@ fn long_items_are_kept(rt: HostRuntime) -> Result<(), Fail> {
         let item = repeated(alloc, head, part, 6_000, b"")?;
         let plain = PlainRawValue::new(alloc, item)?;
         assert_eq!(rt; plain.as_bytes(), item);
+        let value = plain.as_raw().to_value(alloc)?;
+        assert_eq!(rt; BoxedRawValue::from_value(alloc, &value)?.as_bytes(), item);
     }
     Ok(())
 }

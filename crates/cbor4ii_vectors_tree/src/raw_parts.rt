@@ -4,7 +4,7 @@ use cbor4ii_items::decode::Decode;
 use cbor4ii_rw::slice_reader::SliceReader;
 use cbor4ii_tree::RawValue;
 use cbor4ii_vectors::table;
-use std::alloc::Global;
+use std::alloc::{AllocError, Global};
 use std::test::Fail;
 
 // An item, a key or a place, and the item that stands there.
@@ -33,6 +33,9 @@ const TEXTS: &[Row<&str>] = table! {
     (b"\xbfaa\x01ab\x9f\x02\x03\xff\xff", "b", Some(b"\x9f\x02\x03\xff")),
     (b"\xa1\x7festreadming\xff\x01", "streaming", Some(b"\x01")),
     (b"\xa1\x7festreadming\xff\x01", "stream", None),
+    // The text ends where a chunk does, and the key goes on.
+    (b"\xa1\x7festreadming\xff\x01", "strea", None),
+    (b"\xa2\x7fa\x61`ab\xff\x01aa\x02", "a", Some(b"\x02")),
     (b"\xa1\x7festreadming\xff\x01", "streamings", None),
     (b"\xa1\x7f\xff\x01", "", Some(b"\x01")),
     (b"\xa2\x7fA\x61\xff\x01aa\x02", "a", Some(b"\x02")),
@@ -106,6 +109,42 @@ fn items_by_their_places(rt: HostRuntime) -> Result<(), Fail> {
     for (item, index, want) in PLACES {
         let raw = RawValue::new(item)?;
         is_found(raw.at(*index), *want, item)?;
+    }
+    Ok(())
+}
+
+// 70,000 items, 0x11170: nulls, with a number at three of the places.
+fn numbered(alloc: Global) -> Result<Vec<u8>, AllocError> {
+    let mut bytes = Vec::from_slice(alloc, b"\x9a\x00\x01\x11\x70")?;
+    for place in 0..70_000_u32 {
+        let item = match place {
+            1_000 => 0x01,
+            1_001 => 0x02,
+            69_999 => 0x03,
+            _ => 0xf6,
+        };
+        bytes.push(item)?;
+    }
+    Ok(bytes)
+}
+
+const FAR_PLACES: &[(usize, Option<&[u8]>)] = table! {
+    (999, Some(b"\xf6")),
+    (1_000, Some(b"\x01")),
+    (1_001, Some(b"\x02")),
+    (1_002, Some(b"\xf6")),
+    (69_998, Some(b"\xf6")),
+    (69_999, Some(b"\x03")),
+    (70_000, None),
+    (70_001, None),
+};
+
+#[test]
+fn items_by_far_places(rt: HostRuntime) -> Result<(), Fail> {
+    let bytes = numbered(rt.alloc())?;
+    let raw = RawValue::new(bytes.as_slice())?;
+    for (index, want) in FAR_PLACES {
+        is_found(raw.at(*index), *want, b"70,000 items")?;
     }
     Ok(())
 }

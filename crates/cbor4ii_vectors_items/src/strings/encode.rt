@@ -3,12 +3,15 @@
 //! An owned text is written in the rows of `owned.rt`, which go both ways.
 use cbor4ii_items::encode::Encode;
 use cbor4ii_items::types::{Bytes, UncheckedStr};
+use cbor4ii_rw::buf_writer::BufWriter;
 use cbor4ii_rw::error::EncodeError;
 use cbor4ii_vectors::compared::same;
 use cbor4ii_vectors::readers::Failure;
+use cbor4ii_vectors::repeated::repeated;
 use cbor4ii_vectors::rows::writes_rows;
 use cbor4ii_vectors::table;
-use cbor4ii_vectors::writers::FailingWriter;
+use cbor4ii_vectors::writers::{FailingWriter, PushLengths};
+use std::alloc::Global;
 use std::test::Fail;
 
 const TEXTS: &[(&str, &[u8], usize)] = table! {
@@ -44,6 +47,42 @@ fn written_strings(rt: HostRuntime) -> Result<(), Fail> {
     writes_rows(alloc, TEXTS)?;
     writes_rows(alloc, UNCHECKED_TEXTS)?;
     writes_rows(alloc, BYTE_STRINGS)
+}
+
+// A string of so many letters a is a head and a content, each a push, however long it is.
+const LONG: &[(usize, &[u8], &[u8])] = table! {
+    (100, b"\x58\x64", b"\x78\x64"),
+    (101, b"\x58\x65", b"\x78\x65"),
+    (5_000, b"\x59\x13\x88", b"\x79\x13\x88"),
+    (100_000, b"\x5a\x00\x01\x86\xa0", b"\x7a\x00\x01\x86\xa0"),
+};
+
+fn is_in_two_pushes<T: Encode>(
+    alloc: Global,
+    value: &T,
+    head: &[u8],
+    content: &[u8],
+) -> Result<(), Fail> {
+    let mut pushes = PushLengths::new(alloc);
+    value.encode(&mut pushes)?;
+    same(pushes.lengths(), [head.len(), content.len()].as_slice())?;
+    let mut writer = BufWriter::new(Vec::new(alloc));
+    value.encode(&mut writer)?;
+    let bytes = repeated(alloc, head, content, 1, b"")?;
+    same(writer.buffer() == bytes, true)
+}
+
+#[test]
+fn long_strings_are_two_pushes(rt: HostRuntime) -> Result<(), Fail> {
+    let alloc = rt.alloc();
+    for &(count, bytes_head, text_head) in LONG {
+        let text = String::from_utf8(vec![in alloc; b'a'; count]?)?;
+        let content = text.as_bytes();
+        is_in_two_pushes(alloc, &text.as_str(), text_head, content)?;
+        is_in_two_pushes(alloc, &Bytes(content), bytes_head, content)?;
+        is_in_two_pushes(alloc, &UncheckedStr(content), text_head, content)?;
+    }
+    Ok(())
 }
 
 #[test]

@@ -11,8 +11,8 @@
 use crate::item::Item;
 use cbor4ii_rw::error::DecodeError;
 use cbor4ii_rw::read::Source;
-use cbor4ii_tree::{Canonical, Value};
-use cbor4ii_vectors::asked::{asks, looks_at_most};
+use cbor4ii_tree::{Canonical, IgnoredAny, Value};
+use cbor4ii_vectors::asked::{asks, looks_at_most, looks_within_windows};
 use cbor4ii_vectors::readers::{Asked, Asks};
 use cbor4ii_vectors::repeated::repeated;
 use cbor4ii_vectors::rows::ReadFrom;
@@ -84,8 +84,8 @@ const MANY: &[Row] = table! {
 };
 
 // Over a reader that fails where more than `most` bytes are wanted, and has to have had no byte but
-// these; and over one that lets a look ask for 4,096, and fails where more than that are wanted.
-// What is read is read by each.
+// these; over one that lets a look ask for 4,096, and fails where more than that are wanted; and
+// over those that let it ask for fewer. What is read is read by each.
 fn asks_at_most<T: ReadFrom + Drop>(
     alloc: Global,
     bytes: &[u8],
@@ -97,6 +97,7 @@ fn asks_at_most<T: ReadFrom + Drop>(
     looks_at_most::<T>(alloc, narrow, bytes, is_read, looks.0, bytes.len())?;
     let narrow = Asked::new(bytes).refusing_above(most).showing(1);
     looks_at_most::<T>(alloc, narrow, bytes, is_read, looks.1, bytes.len())?;
+    looks_within_windows::<T>(alloc, bytes, is_read, most, (looks.0, looks.1))?;
     let wide = Asked::new(bytes).wide().refusing_above(4_096);
     looks_at_most::<T>(alloc, wide, bytes, is_read, looks.2, usize::MAX)?;
     let wide = Asked::new(bytes).wide().refusing_above(4_096).showing(1);
@@ -307,6 +308,43 @@ fn looks_in_prefixes<T: ReadFrom + Drop>(
 #[test]
 fn few_bytes_at_a_time(rt: HostRuntime) -> Result<(), Fail> {
     looks_shown(rt.alloc(), SHOWN)
+}
+
+// Strings that are said to have 2^64-1 bytes, of which none or few come: no look asks a reader that
+// may wait for all that is wanted for more than 16,384 of them.
+const FALSE_LENGTHS: &[&[u8]] = table! {
+    b"\x5b\xff\xff\xff\xff\xff\xff\xff\xff",
+    b"\x7b\xff\xff\xff\xff\xff\xff\xff\xff",
+    b"\x5b\xff\xff\xff\xff\xff\xff\xff\xffab",
+    b"\x81\x7b\xff\xff\xff\xff\xff\xff\xff\xffab",
+    b"\xa1\x5b\xff\xff\xff\xff\xff\xff\xff\xff",
+    b"\xc1\x7b\xff\xff\xff\xff\xff\xff\xff\xff",
+};
+
+fn is_asked_in_parts<T: ReadFrom + Drop>(
+    alloc: Global,
+    bytes: &[u8],
+    is_read: bool,
+) -> Result<(), Fail> {
+    let reader = Asked::new(bytes).refusing_above(16_384);
+    looks_at_most::<T>(alloc, reader, bytes, is_read, usize::MAX, usize::MAX)
+}
+
+fn are_asked_in_parts<T: ReadFrom + Drop>(alloc: Global) -> Result<(), Fail> {
+    for bytes in FALSE_LENGTHS {
+        is_asked_in_parts::<T>(alloc, bytes, false)?;
+    }
+    // 40,000 bytes, 0x9c40, all of which come.
+    let bytes = repeated(alloc, b"\x59\x9c\x40", b"a", 40_000, b"")?;
+    is_asked_in_parts::<T>(alloc, bytes, true)
+}
+
+#[test]
+fn a_long_string_is_asked_for_in_parts(rt: HostRuntime) -> Result<(), Fail> {
+    let alloc = rt.alloc();
+    are_asked_in_parts::<Item<Value>>(alloc)?;
+    are_asked_in_parts::<Item<Canonical>>(alloc)?;
+    are_asked_in_parts::<Item<IgnoredAny>>(alloc)
 }
 
 // After a reference.
