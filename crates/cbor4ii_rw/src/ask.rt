@@ -9,7 +9,8 @@ ghost use Rattle.std.specs.Prelude.{OnSome, IsSome, MatchOption};
 ghost use Rattle.std.specs.Borrow.{sem};
 ghost use Rattle.std.specs.Io.BufRead.{Rests};
 ghost use Rattle.cbor4ii_rw.specs.View.{IfKnown};
-ghost use Rattle.cbor4ii_rw.specs.Reader.{IsPrefix, IsEnough, Shows, ReaderFails, Takes, AsksWithin};
+ghost use Rattle.cbor4ii_rw.specs.Reader.{IsPrefix, IsEnough, Shows, ReaderFails, Takes};
+ghost use Rattle.cbor4ii_rw.specs.Reader.{AsksWithin};
 ghost use Rattle.cbor4ii_rw.specs.Reference.{bytes_of, IsLong, IsSubslice};
 ghost use Rattle.cbor4ii_rw.specs.Parted.{PartsAnswer};
 

@@ -19,6 +19,11 @@ impl<S: Source> Source for &mut S {
         Source::window(&**self)
     }
 
+    #[inline(always)]
+    fn is_in_memory(&self) -> bool {
+        Source::is_in_memory(&**self)
+    }
+
     fn advance(&mut self, n: usize) {
         Source::advance(&mut **self, n)
     }

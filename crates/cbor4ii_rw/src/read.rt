@@ -104,6 +104,13 @@ pub trait Source {
         1
     }
 
+    /// Whether all that is left stands in memory, so that a look takes a few instructions; false
+    /// where nothing else is said. It decides how short vectors are read and no answer.
+    #[inline(always)]
+    fn is_in_memory(&self) -> bool {
+        false
+    }
+
     /// Takes the next `n` bytes, at most as many as were shown last and not taken since.
     fn advance(&mut self, n: usize)
         requires { n ≤ (view self.old).advanceable }

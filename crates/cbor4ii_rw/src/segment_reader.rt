@@ -121,6 +121,11 @@ impl Source for SegmentReader<'_> {
         usize::MAX
     }
 
+    #[inline(always)]
+    fn is_in_memory(&self) -> bool {
+        true
+    }
+
     fn advance(&mut self, n: usize) {
         self.current = &self.current[n..];
     }

@@ -92,6 +92,11 @@ impl Source for SliceReader<'_> {
     }
 
     #[inline(always)]
+    fn is_in_memory(&self) -> bool {
+        true
+    }
+
+    #[inline(always)]
     fn advance(&mut self, n: usize) {
         self.bytes = &self.bytes[n..];
     }

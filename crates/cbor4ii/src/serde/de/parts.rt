@@ -20,8 +20,11 @@ use cbor4ii_rw::error::StaticStr;
 use cbor4ii_rw::read::Source;
 use std::alloc::Global;
 
-/// Fewer parts are read one by one.
+/// Fewer parts are read one by one, where a look takes a few instructions.
 const MANY: usize = 4;
+
+/// Fewer parts are read one by one, where a look takes more.
+const MANY_STREAMED: usize = 2;
 
 /// A head or a float has at most so many bytes.
 const LONGEST: usize = 9;
@@ -121,7 +124,8 @@ fn take_counted<S: Source, Q: Sequence<S>>(
     ensures { DecodesIf Q.exact (count_of in_list Q.part count)
         (input S.view de.old) (input S.view de.new) (parts_answer result) }
 {
-    if Q::has_leaves() && count >= MANY && de.reader.window() >= LONGEST {
+    let many = if de.reader.is_in_memory() { MANY } else { MANY_STREAMED };
+    if Q::has_leaves() && count >= many && de.reader.window() >= LONGEST {
         take_runs::<S, Q>(alloc, de, count)
     } else {
         take_definite::<S, Q>(alloc, de, count)
