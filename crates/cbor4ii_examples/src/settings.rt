@@ -12,8 +12,8 @@ use cbor4ii::dec::Source;
 use cbor4ii::enc::Write;
 use cbor4ii::error::Never;
 use cbor4ii::serde::{
-    AsDescribed, DecodeError, Described, Deserialize, Deserializer, EncodeError, ErrorAt, Once, Or,
-    Required, Serialize, Serializer, Typed, WholeError, from_slice_at,
+    AsDescribed, DecodeError, Described, Deserialize, Deserializer, EncodeError, ErrorAt,
+    FieldValues, Once, Or, Required, Serialize, Serializer, Typed, WholeError, from_slice_at,
 };
 use std::alloc::Global;
 
@@ -38,29 +38,25 @@ pub struct Settings {
     pub greeting: Option<String>,
 }
 
+const NAMES: [&str; 8] = [
+    "host", "port", "verbose", "workers", "cache", "proxy", "plugins", "greeting",
+];
+
 impl Serialize for Settings {
     ghost encoding = { ⟦<Settings as Described>⟧.codec.encoding };
 
     fn serialize<W: Write>(&self, ser: &mut Serializer<W>) -> Result<(), EncodeError<W::Error>> {
-        ser.serialize_8_fields(
-            "Settings",
-            "host",
+        let fields = (
             &self.host,
-            "port",
             &self.port,
-            "verbose",
             &self.verbose,
-            "workers",
             &self.workers,
-            "cache",
             &self.cache,
-            "proxy",
             &self.proxy,
-            "plugins",
             &self.plugins,
-            "greeting",
             &self.greeting,
-        )
+        );
+        fields.serialize_fields("Settings", &NAMES, ser)
     }
 }
 
@@ -81,15 +77,7 @@ impl<S: Source> Deserialize<S> for Settings {
                 ),
             ),
         );
-        de.deserialize_fields(
-            alloc,
-            "Settings",
-            &[
-                "host", "port", "verbose", "workers", "cache", "proxy", "plugins", "greeting",
-            ],
-            &missing,
-            presences,
-        )
+        de.deserialize_fields(alloc, "Settings", &NAMES, &missing, presences)
     }
 }
 

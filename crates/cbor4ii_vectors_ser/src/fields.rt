@@ -53,85 +53,11 @@ impl Put for SixFields {
 
 const SIX_FIELDS: &[u8] = b"\xa6\x61a\x01\x61b\x02\x61c\x03\x61d\x04\x61e\x05\x61f\x06";
 
-/// Structs of seven to nine fields.
-#[derive(Drop)]
-struct SevenToNine;
-
-impl Put for SevenToNine {
-    fn put<W: Write>(&self, ser: &mut Serializer<W>) -> Result<(), EncodeError<W::Error>> {
-        let [one, two, three, four, five, six, seven, eight, nine] = &[1u8, 2, 3, 4, 5, 6, 7, 8, 9];
-        ser.serialize_7_fields(
-            "Seven", "a", one, "b", two, "c", three, "d", four, "e", five, "f", six, "g", seven,
-        )?;
-        ser.serialize_8_fields(
-            "Eight", "a", one, "b", two, "c", three, "d", four, "e", five, "f", six, "g", seven,
-            "h", eight,
-        )?;
-        ser.serialize_9_fields(
-            "Nine", "a", one, "b", two, "c", three, "d", four, "e", five, "f", six, "g", seven,
-            "h", eight, "i", nine,
-        )
-    }
-}
-
-const SEVEN_TO_NINE: &[u8] = b"\xa7\x61a\x01\x61b\x02\x61c\x03\x61d\x04\x61e\x05\x61f\x06\x61g\x07\
-\xa8\x61a\x01\x61b\x02\x61c\x03\x61d\x04\x61e\x05\x61f\x06\x61g\x07\x61h\x08\
-\xa9\x61a\x01\x61b\x02\x61c\x03\x61d\x04\x61e\x05\x61f\x06\x61g\x07\x61h\x08\x61i\x09";
-
-/// Structs of ten to twelve fields.
-#[derive(Drop)]
-struct TenToTwelve;
-
-impl Put for TenToTwelve {
-    fn put<W: Write>(&self, ser: &mut Serializer<W>) -> Result<(), EncodeError<W::Error>> {
-        let [
-            one,
-            two,
-            three,
-            four,
-            five,
-            six,
-            seven,
-            eight,
-            nine,
-            ten,
-            eleven,
-            twelve,
-        ] = &[1u8, 2, 3, 4, 5, 6, 7, 8, 9, 10, 11, 12];
-        ser.serialize_10_fields(
-            "Ten", "a", one, "b", two, "c", three, "d", four, "e", five, "f", six, "g", seven, "h",
-            eight, "i", nine, "j", ten,
-        )?;
-        ser.serialize_11_fields(
-            "Eleven", "a", one, "b", two, "c", three, "d", four, "e", five, "f", six, "g", seven,
-            "h", eight, "i", nine, "j", ten, "k", eleven,
-        )?;
-        ser.serialize_12_fields(
-            "Twelve", "a", one, "b", two, "c", three, "d", four, "e", five, "f", six, "g", seven,
-            "h", eight, "i", nine, "j", ten, "k", eleven, "l", twelve,
-        )
-    }
-}
-
-const TEN_TO_TWELVE: &[u8] = b"\xaa\x61a\x01\x61b\x02\x61c\x03\x61d\x04\x61e\x05\x61f\x06\
-\x61g\x07\x61h\x08\x61i\x09\x61j\x0a\
-\xab\x61a\x01\x61b\x02\x61c\x03\x61d\x04\x61e\x05\x61f\x06\
-\x61g\x07\x61h\x08\x61i\x09\x61j\x0a\x61k\x0b\
-\xac\x61a\x01\x61b\x02\x61c\x03\x61d\x04\x61e\x05\x61f\x06\
-\x61g\x07\x61h\x08\x61i\x09\x61j\x0a\x61k\x0b\x61l\x0c";
-
 #[test]
 fn calls_for_structs(rt: HostRuntime) -> Result<(), Fail> {
     writes(rt.alloc(), &Typed(Structs), STRUCTS)?;
     writes(rt.alloc(), &Typed(OtherStructs), OTHER_STRUCTS)?;
     writes(rt.alloc(), &Typed(SixFields), SIX_FIELDS)?;
-    Ok(())
-}
-
-#[test]
-fn calls_for_structs_of_more_fields(rt: HostRuntime) -> Result<(), Fail> {
-    writes(rt.alloc(), &Typed(SevenToNine), SEVEN_TO_NINE)?;
-    writes(rt.alloc(), &Typed(TenToTwelve), TEN_TO_TWELVE)?;
     Ok(())
 }
 
