@@ -47,6 +47,8 @@ pub enum Why {
     ArrayField,
     /// A struct that borrows has integer keys, or a field that may be left out.
     Borrows,
+    /// A struct that borrows has more than six fields.
+    BorrowedFields,
     /// The enum has a parameter.
     EnumParameter,
     /// The enum has no variant, or it has more than twelve.
@@ -91,6 +93,7 @@ impl fmt::Display for Why {
                 f,
                 "a struct that borrows has no integer keys and leaves no field out"
             ),
+            Why::BorrowedFields => write!(f, "a struct that borrows has one to six fields"),
             Why::EnumParameter => write!(f, "an enum with a parameter has no form here"),
             Why::VariantCount => write!(f, "an enum has one to twelve variants"),
             Why::VariantItems => write!(f, "a variant holds one to three items"),

@@ -7,7 +7,7 @@ use crate::fault::{Fault, Why, refused};
 use crate::input::Input;
 use crate::options::{Options, head, no_options};
 use crate::presence::presence;
-use crate::shape::{Described, Field, Form, Head, Key, Parameter, Shape, leaves_out};
+use crate::shape::{Described, Field, Form, Head, Key, MOST_CALLED, Parameter, Shape, leaves_out};
 use crate::types::its_type;
 use std::alloc::Global;
 
@@ -75,6 +75,8 @@ fn clash_of_parameter(parameter: &Parameter, shape: &Shape) -> Option<Why> {
         (_, Shape::Variants { .. }) => Some(Why::EnumParameter),
         (Parameter::Lifetime(_), Shape::Fields { form, fields })
             if *form == Form::Keyed || leaves_out(fields) => { Some(Why::Borrows) }
+        (Parameter::Lifetime(_), Shape::Fields { form, fields })
+            if *form == Form::Named && fields.len() > MOST_CALLED => { Some(Why::BorrowedFields) }
         _ => None,
     }
 }

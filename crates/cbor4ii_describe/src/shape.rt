@@ -33,6 +33,10 @@ pub enum Presence {
     LeftOut,
 }
 
+/// Structs of no more fields than these are written by a call for their number, which a struct that
+/// borrows may use. Others list their fields.
+pub const MOST_CALLED: usize = 6;
+
 /// Whether one of the fields is left out where it is none.
 pub fn leaves_out(fields: &[Field]) -> bool {
     fields

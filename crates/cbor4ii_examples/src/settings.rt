@@ -38,10 +38,6 @@ pub struct Settings {
     pub greeting: Option<String>,
 }
 
-const NAMES: [&str; 8] = [
-    "host", "port", "verbose", "workers", "cache", "proxy", "plugins", "greeting",
-];
-
 impl Serialize for Settings {
     ghost encoding = { ⟦<Settings as Described>⟧.codec.encoding };
 
@@ -56,7 +52,13 @@ impl Serialize for Settings {
             &self.plugins,
             &self.greeting,
         );
-        fields.serialize_fields("Settings", &NAMES, ser)
+        fields.serialize_fields(
+            "Settings",
+            &[
+                "host", "port", "verbose", "workers", "cache", "proxy", "plugins", "greeting",
+            ],
+            ser,
+        )
     }
 }
 

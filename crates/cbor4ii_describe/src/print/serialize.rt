@@ -6,7 +6,7 @@ use crate::print::layout::{Frame, LIST, Pair, put_call, put_list, put_pairs};
 use crate::print::lists::{key, keys, references};
 use crate::print::types::{generics, self_type};
 use crate::print::variants::put_match;
-use crate::shape::{Described, Field, Form, Presence, Shape, leaves_out};
+use crate::shape::{Described, Field, Form, MOST_CALLED, Presence, Shape, leaves_out};
 use std::alloc::{AllocError, Global};
 
 /// Appends how a type is written.
@@ -54,7 +54,7 @@ fn put_struct(
 ) -> Result<(), AllocError> {
     match form {
         Form::Array => put_elements(alloc, out, fields),
-        Form::Named if !leaves_out(fields) => {
+        Form::Named if !leaves_out(fields) && fields.len() <= MOST_CALLED => {
             let call = call(alloc, fields.len())?;
             let arguments = arguments(alloc, name, fields)?;
             put_list(out, 8, call.as_str(), &arguments, ")")
@@ -76,7 +76,8 @@ fn put_elements(alloc: Global, out: &mut String, fields: &[Field]) -> Result<(),
     put_pairs(out, &references(alloc, fields)?, "()", frame)
 }
 
-// Appends the call that writes a struct with integer keys, or one of which fields may be left out.
+// Appends the call that writes a struct with integer keys or many fields, or one of which fields may
+// be left out.
 fn put_listed(
     alloc: Global,
     out: &mut String,
