@@ -26,7 +26,7 @@ pub use de::elements::{DeserializeElements, TypedElements};
 pub use de::enum_accessor::EnumAccessor;
 pub use de::error::DecodeError;
 pub use de::fields::{Places, Values};
-pub use de::first::{from_reader, from_slice, from_slice_at, from_slice_whole};
+pub use de::first::{from_reader, from_slice, from_slice_whole, from_slice_whole_at};
 pub use de::keyed_fields::KeyedValues;
 pub use de::place::{Place, Single};
 pub use de::presence::{Once, Optional, Or, Presence, Presences, Required};

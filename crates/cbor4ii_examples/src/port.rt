@@ -28,7 +28,7 @@ pub fn port(alloc: Global, input: &[u8]) -> Result<Option<i128>, WholeError<Deco
     ensures all { (v : Item) → DecodesTo input.now (Some 256) v [] →
         IfErr result (λ e. e ≡ Decode OutOfMemory) }
 {
-    let value = Value::from_slice(alloc, input)?;
+    let value = Value::from_slice_whole(alloc, input)?;
     match value.get("port") {
         Some(port) => Ok(port.as_integer()),
         None => Ok(None),

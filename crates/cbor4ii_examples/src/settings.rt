@@ -13,7 +13,7 @@ use cbor4ii::enc::Write;
 use cbor4ii::error::Never;
 use cbor4ii::serde::{
     AsDescribed, DecodeError, Described, Deserialize, Deserializer, EncodeError, ErrorAt,
-    FieldValues, Once, Or, Required, Serialize, Serializer, Typed, WholeError, from_slice_at,
+    FieldValues, Once, Or, Required, Serialize, Serializer, Typed, WholeError, from_slice_whole_at,
 };
 use std::alloc::Global;
 
@@ -187,7 +187,7 @@ pub fn read_settings(alloc: Global, input: &[u8]) -> Result<Settings, Fault>
     ensures byte { IfErr result
         (StopsAt typed_error_of ⟦<Settings as Typed>⟧.promise.format.begins input.now) }
 {
-    from_slice_at(alloc, input)
+    from_slice_whole_at(alloc, input)
 }
 
 #[cfg(test)]

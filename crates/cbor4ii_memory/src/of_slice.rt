@@ -2,7 +2,7 @@
 //! bytes that are kept where they stand.
 use crate::alone::{Alone, reported};
 use crate::typed::as_core;
-use cbor4ii::serde::{Deserialize, Deserializer, from_slice_at, from_slice_whole};
+use cbor4ii::serde::{Deserialize, Deserializer, from_slice_whole, from_slice_whole_at};
 use cbor4ii_items::decode::Decode;
 use cbor4ii_items::whole::{decode_whole, decode_whole_at};
 use cbor4ii_rw::error::{DecodeError, ErrorAt, Never, WholeError};
@@ -61,8 +61,8 @@ fn read(alloc: Global, way: Way, item: &[u8]) -> Alone {
         Way::PlainDecoded => plain_decoded(alloc, item),
         Way::PlainTyped => plain_typed(alloc, item),
         Way::RawToValue => raw_to_value(alloc, item),
-        Way::FromSlice => whole(Value::from_slice(alloc, item)),
-        Way::CanonicalFromSlice => whole(Canonical::from_slice(alloc, item)),
+        Way::FromSlice => whole(Value::from_slice_whole(alloc, item)),
+        Way::CanonicalFromSlice => whole(Canonical::from_slice_whole(alloc, item)),
         Way::ToVec => whole(to_vec(alloc, item)),
     }
 }
@@ -78,7 +78,7 @@ fn whole<T: Drop>(got: Result<T, WholeError<DecodeError<Never>>>) -> Alone {
 
 // The item as a value, written again.
 fn to_vec(alloc: Global, item: &[u8]) -> Result<Vec<u8>, WholeError<DecodeError<Never>>> {
-    match Value::from_slice(alloc, item)?.to_vec(alloc) {
+    match Value::from_slice_whole(alloc, item)?.to_vec(alloc) {
         Ok(bytes) => Ok(bytes),
         Err(NoMemory) => Err(WholeError::Decode(DecodeError::OutOfMemory)),
     }
@@ -95,7 +95,7 @@ fn whole_at(alloc: Global, item: &[u8]) -> Alone {
 }
 
 fn typed_whole_at(alloc: Global, item: &[u8]) -> Alone {
-    match from_slice_at::<&[u8], Vec<String>>(alloc, item) {
+    match from_slice_whole_at::<&[u8], Vec<String>>(alloc, item) {
         Ok(texts) => whole(Ok(texts)),
         Err(ErrorAt { at, error }) => match error {
             WholeError::Decode(error) => told_at(item, at, as_core(Err(error))),

@@ -34,7 +34,10 @@ impl Value {
     /// - `Decode` of an error of `Value`: no value that is read begins the input. `OutOfMemory`
     ///   where a growth was refused: never where no string, tag, array or map begins it
     /// - `Trailing`: a value begins the input, and so many bytes follow it, one at least
-    pub fn from_slice(alloc: Global, input: &[u8]) -> Result<Value, WholeError<DecodeError<Never>>>
+    pub fn from_slice_whole(
+        alloc: Global,
+        input: &[u8],
+    ) -> Result<Value, WholeError<DecodeError<Never>>>
         ensures answers { AnswersWhole (λ v. DecodesTo input.now (Some limit) (view v))
             (ReadingRejects input.now (Some limit)) result }
         ensures all { (v : Item) → DecodesTo input.now (Some limit) v [] →
@@ -78,7 +81,7 @@ impl Canonical {
     ///   it
     /// - `Trailing`: a canonical encoding begins the input, and so many bytes follow it, one at
     ///   least
-    pub fn from_slice(
+    pub fn from_slice_whole(
         alloc: Global,
         input: &[u8],
     ) -> Result<Canonical, WholeError<DecodeError<Never>>>

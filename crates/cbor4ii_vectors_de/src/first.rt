@@ -3,8 +3,8 @@ use crate::presence::Lamp;
 use crate::typed::{BothShown, come_back, comes_back_lent, is_at_beginning, is_rejected};
 use cbor4ii::Value;
 use cbor4ii::serde::{
-    DecodeError, Deserialize, WholeError, from_reader, from_slice, from_slice_at, from_slice_whole,
-    to_vec,
+    DecodeError, Deserialize, WholeError, from_reader, from_slice, from_slice_whole,
+    from_slice_whole_at, to_vec,
 };
 use cbor4ii_rw::error as core_error;
 use cbor4ii_rw::error::Len;
@@ -132,7 +132,7 @@ fn is_told<T>(alloc: Global, input: &'static [u8], want: &str) -> Result<(), Fai
 where
     T: Deserialize<SliceReader<'static>> + Debug + Drop,
 {
-    let text = match from_slice_at::<&'static [u8], T>(alloc, input) {
+    let text = match from_slice_whole_at::<&'static [u8], T>(alloc, input) {
         Ok(value) => InlineText::<128>::of(format_args!("{value:?}")),
         Err(fault) => InlineText::of(fault),
     };

@@ -9,7 +9,7 @@ use cbor4ii::Value;
 use cbor4ii::serde::laws::tested_values_are_rejected_once;
 use cbor4ii::serde::{
     CheckedFrom, Choice, DecodeError, Deserializer, Holds, Otherwise, Required, Unmade,
-    from_reader, from_slice, from_slice_at, from_slice_whole,
+    from_reader, from_slice, from_slice_whole, from_slice_whole_at,
 };
 use cbor4ii::types::Bytes;
 use cbor4ii_rw::error::Never;
@@ -369,7 +369,7 @@ fn by_calls_for_one_value(rt: HostRuntime) -> Result<(), Fail> {
     let bytes = many_after(alloc, b"")?;
     is_many(alloc, from_slice(alloc, bytes)?)?;
     is_many(alloc, from_slice_whole(alloc, bytes)?)?;
-    is_many(alloc, from_slice_at(alloc, bytes)?)?;
+    is_many(alloc, from_slice_whole_at(alloc, bytes)?)?;
     is_many(alloc, from_reader(alloc, bytes)?)
 }
 

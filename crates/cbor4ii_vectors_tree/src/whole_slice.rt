@@ -15,7 +15,7 @@ use std::test::Fail;
 
 // The bytes are read as this value, as any encoding of it.
 fn is_read(alloc: Global, bytes: &[u8], value: &Value) -> Result<(), Fail> {
-    if Value::from_slice(alloc, bytes)? == *value {
+    if Value::from_slice_whole(alloc, bytes)? == *value {
         return Ok(());
     }
     Err(Fail::new(format_args!("another value of {} bytes", bytes.len())))
@@ -25,7 +25,7 @@ fn is_read(alloc: Global, bytes: &[u8], value: &Value) -> Result<(), Fail> {
 fn is_canonical(alloc: Global, bytes: &[u8], value: Value) -> Result<(), Fail> {
     is_read(alloc, bytes, &value)?;
     is_written(alloc, &value, bytes)?;
-    if Canonical::from_slice(alloc, bytes)?.into_inner() == value {
+    if Canonical::from_slice_whole(alloc, bytes)?.into_inner() == value {
         return Ok(());
     }
     Err(Fail::new(format_args!("another canonical value of {} bytes", bytes.len())))
@@ -88,7 +88,11 @@ fn reads_rows(alloc: Global) -> Result<(), Fail> {
     for (bytes, literal, written) in OTHERS {
         is_read(alloc, bytes, &literal.to_value(alloc)?)?;
         is_canonical(alloc, written, literal.to_value(alloc)?)?;
-        is_error(Canonical::from_slice(alloc, bytes), bytes, NOT_CANONICAL)?;
+        is_error(
+            Canonical::from_slice_whole(alloc, bytes),
+            bytes,
+            NOT_CANONICAL,
+        )?;
     }
     Ok(())
 }
@@ -126,8 +130,8 @@ const REJECTED_VALUES: &[(&[u8], &str)] = table! {
 };
 
 fn is_rejected_by_both(alloc: Global, bytes: &[u8], want: &str) -> Result<(), Fail> {
-    is_error(Value::from_slice(alloc, bytes), bytes, want)?;
-    is_error(Canonical::from_slice(alloc, bytes), bytes, want)
+    is_error(Value::from_slice_whole(alloc, bytes), bytes, want)?;
+    is_error(Canonical::from_slice_whole(alloc, bytes), bytes, want)
 }
 
 fn rejects_rows(alloc: Global) -> Result<(), Fail> {
@@ -139,8 +143,12 @@ fn rejects_rows(alloc: Global) -> Result<(), Fail> {
         is_rejected_by_both(alloc, bytes, want)?;
     }
     for (bytes, want) in REJECTED_VALUES {
-        is_error(Value::from_slice(alloc, bytes), bytes, want)?;
-        is_error(Canonical::from_slice(alloc, bytes), bytes, NOT_CANONICAL)?;
+        is_error(Value::from_slice_whole(alloc, bytes), bytes, want)?;
+        is_error(
+            Canonical::from_slice_whole(alloc, bytes),
+            bytes,
+            NOT_CANONICAL,
+        )?;
     }
     Ok(())
 }
@@ -155,7 +163,7 @@ fn another_slice_is_rejected(rt: HostRuntime) -> Result<(), Fail> {
 fn a_whole_slice_within_the_limit(rt: HostRuntime) -> Result<(), Fail> {
     let alloc = rt.alloc();
     let deep = repeated(alloc, b"", b"\x81", 127, b"\x05")?;
-    let value = Value::from_slice(alloc, deep)?;
+    let value = Value::from_slice_whole(alloc, deep)?;
     is_canonical(alloc, deep, value)?;
     let deeper = repeated(alloc, b"", b"\x81", 128, b"\x05")?;
     is_rejected_by_both(alloc, deeper, no_step!("value"))

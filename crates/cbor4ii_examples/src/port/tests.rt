@@ -63,12 +63,12 @@ fn the_bytes_of_a_port_are_lent(rt: HostRuntime) -> Result<(), Fail> {
 #[test]
 fn a_value_is_written_again(rt: HostRuntime) -> Result<(), Fail> {
     let alloc = rt.alloc();
-    let value = Value::from_slice(alloc, b"\xbf\x64port\x19\x00\x05\xff")?;
+    let value = Value::from_slice_whole(alloc, b"\xbf\x64port\x19\x00\x05\xff")?;
     assert_eq!(rt;
         value.to_vec(alloc)?.as_slice(),
         b"\xa1\x64port\x05".as_slice()
     );
-    let Canonical(same) = Canonical::from_slice(alloc, b"\xa1\x64port\x05")?;
+    let Canonical(same) = Canonical::from_slice_whole(alloc, b"\xa1\x64port\x05")?;
     assert_eq!(rt; same, value);
     Ok(())
 }

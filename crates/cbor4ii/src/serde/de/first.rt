@@ -69,7 +69,7 @@ pub fn from_slice_whole<I: Input, T: Deserialize<I::Reader> + Drop>(
 /// - `Decode`: the byte is that of the error's rest. Where an input of a user's own failed, it is
 ///   at most the number of bytes
 /// - `Trailing`: the byte is the first one after the value
-pub fn from_slice_at<I: Input, T: Deserialize<I::Reader> + Drop>(
+pub fn from_slice_whole_at<I: Input, T: Deserialize<I::Reader> + Drop>(
     alloc: Global,
     input: I,
 ) -> Result<T, ErrorAt<WholeError<DecodeError<<I::Reader as Source>::Error>>>>

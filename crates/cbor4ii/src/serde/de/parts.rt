@@ -124,7 +124,11 @@ fn take_counted<S: Source, Q: Sequence<S>>(
     ensures { DecodesIf Q.exact (count_of in_list Q.part count)
         (input S.view de.old) (input S.view de.new) (parts_answer result) }
 {
-    let many = if de.reader.is_in_memory() { MANY } else { MANY_STREAMED };
+    let many = if de.reader.is_in_memory() {
+        MANY
+    } else {
+        MANY_STREAMED
+    };
     if Q::has_leaves() && count >= many && de.reader.window() >= LONGEST {
         take_runs::<S, Q>(alloc, de, count)
     } else {

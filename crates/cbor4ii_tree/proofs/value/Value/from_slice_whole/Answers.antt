@@ -6,7 +6,7 @@ use Rattle.cbor4ii_items.specs.Laws.Wholes.{accepted, followed, rejected}
 use Rattle.cbor4ii_items.specs.Whole.{DecodesWhole}
 use Rattle.cbor4ii_tree.specs.{Calls.Promises.value_format, Laws.Values.value_lawful}
 use Rattle.cbor4ii_tree.proofs.WholeSlices.{value_answers, value_alone, wants_whole}
-use Rattle.cbor4ii_tree.proofs.value.Value.from_slice.Goals as goal
+use Rattle.cbor4ii_tree.proofs.value.Value.from_slice_whole.Goals as goal
 
 pub returns-in_err-value : goal.returns-in_err-value
 returns-in_err-value c =

@@ -4,7 +4,7 @@ use Rattle.cbor4ii_items.specs.Laws.Wholes.{stops_after, stops_before, sure_is_e
 use Rattle.cbor4ii.specs.First.{typed_error_of}
 use Rattle.cbor4ii.specs.Typed.{input, unsaid_rejects}
 use Rattle.cbor4ii.proofs.Firsts.{first_whole, first_trails, first_rejected, stops_within}
-use Rattle.cbor4ii.proofs.serde.de.first.from_slice_at.Goals as goal
+use Rattle.cbor4ii.proofs.serde.de.first.from_slice_whole_at.Goals as goal
 
 pub returns-in-Ok-clause-whole : goal.returns-in-Ok-clause-whole
 returns-in-Ok-clause-whole g c =

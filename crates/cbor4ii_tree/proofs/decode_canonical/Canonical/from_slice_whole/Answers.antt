@@ -8,7 +8,7 @@ use Rattle.cbor4ii_tree.specs.Calls.Canonically.{canonical_format}
 use Rattle.cbor4ii_tree.specs.Laws.CanonicalReading.{canonical_lawful}
 use Rattle.cbor4ii_tree.proofs.WholeSlices.{canonical_answers, canonical_alone, canonical_same}
 use Rattle.cbor4ii_tree.proofs.WholeSlices.{wants_whole}
-use Rattle.cbor4ii_tree.proofs.decode_canonical.Canonical.from_slice.Goals as goal
+use Rattle.cbor4ii_tree.proofs.decode_canonical.Canonical.from_slice_whole.Goals as goal
 
 pub returns-in_err-value : goal.returns-in_err-value
 returns-in_err-value c =
