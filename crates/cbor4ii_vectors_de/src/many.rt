@@ -15,7 +15,7 @@ use cbor4ii::types::Bytes;
 use cbor4ii_rw::error::Never;
 use cbor4ii_rw::read::Source;
 use cbor4ii_vectors::repeated::repeated;
-use cbor4ii_vectors::rows::reads_around_a_look;
+use cbor4ii_vectors::rows::{ReadFrom, reads_around_a_look};
 use std::alloc::{AllocError, Global};
 use std::fmt::Debug;
 use std::test::Fail;
@@ -72,12 +72,12 @@ impl CheckedFrom<Many> for Read {
     ghost fate = { λ v w same. refl };
 }
 
-fn reads<T: Take + PartialEq + Debug + Drop>(
+fn reads<A: ReadFrom + PartialEq + Debug + Drop>(
     alloc: Global,
     before: &[u8],
-    value: T,
+    value: A,
 ) -> Result<(), Fail> {
-    reads_around_a_look(alloc, many_after(alloc, before)?, &Ok(Is(value)))
+    reads_around_a_look(alloc, many_after(alloc, before)?, &Ok(value))
 }
 
 /// By `deserialize_from`.
@@ -208,20 +208,20 @@ fn the_law_of_what_is_tested_is_called(rt: HostRuntime) {
 #[test]
 fn by_one_call(rt: HostRuntime) -> Result<(), Fail> {
     let alloc = rt.alloc();
-    reads(alloc, b"", ByFrom(Read(many(alloc)?)))?;
-    reads(alloc, b"", ByTest(Read(many(alloc)?)))?;
-    reads(alloc, b"\xd8\x18", ByTag(Read(many(alloc)?)))?;
-    reads(alloc, b"", ByNewtype(many(alloc)?))?;
-    reads(alloc, b"", ByOption(Some(many(alloc)?)))
+    reads(alloc, b"", Is(ByFrom(Read(many(alloc)?))))?;
+    reads(alloc, b"", Is(ByTest(Read(many(alloc)?))))?;
+    reads(alloc, b"\xd8\x18", Is(ByTag(Read(many(alloc)?))))?;
+    reads(alloc, b"", Is(ByNewtype(many(alloc)?)))?;
+    reads(alloc, b"", Is(ByOption(Some(many(alloc)?))))
 }
 
 #[test]
 fn by_calls_for_structs_and_enums(rt: HostRuntime) -> Result<(), Fail> {
     let alloc = rt.alloc();
-    reads(alloc, b"\x81", ByElements(Read(many(alloc)?)))?;
-    reads(alloc, b"\xa1\x61a", ByFields(Read(many(alloc)?)))?;
-    reads(alloc, b"\xa1\x01", ByKeys(Read(many(alloc)?)))?;
-    reads(alloc, b"\xa1\x61A", ByCases(Read(many(alloc)?)))
+    reads(alloc, b"\x81", Is(ByElements(Read(many(alloc)?))))?;
+    reads(alloc, b"\xa1\x61a", Is(ByFields(Read(many(alloc)?))))?;
+    reads(alloc, b"\xa1\x01", Is(ByKeys(Read(many(alloc)?))))?;
+    reads(alloc, b"\xa1\x61A", Is(ByCases(Read(many(alloc)?))))
 }
 
 /// By `next_element`.
@@ -309,13 +309,13 @@ impl Take for ByContent {
 #[test]
 fn by_the_calls_of_accessors(rt: HostRuntime) -> Result<(), Fail> {
     let alloc = rt.alloc();
-    reads(alloc, b"\x81", ByElement(Some(many(alloc)?)))?;
-    reads(alloc, b"\xa1", ByKey(Some(many(alloc)?)))?;
-    reads(alloc, b"\xa1\x01", ByValue(Some(1), many(alloc)?))?;
-    reads(alloc, b"\xa1\x01", ByEntry(Some((1, many(alloc)?))))?;
-    reads(alloc, b"\xa1", ByName(many(alloc)?))?;
+    reads(alloc, b"\x81", Is(ByElement(Some(many(alloc)?))))?;
+    reads(alloc, b"\xa1", Is(ByKey(Some(many(alloc)?))))?;
+    reads(alloc, b"\xa1\x01", Is(ByValue(Some(1), many(alloc)?)))?;
+    reads(alloc, b"\xa1\x01", Is(ByEntry(Some((1, many(alloc)?)))))?;
+    reads(alloc, b"\xa1", Is(ByName(many(alloc)?)))?;
     let name = String::from_str(alloc, "A")?;
-    reads(alloc, b"\xa1\x61A", ByContent(name, many(alloc)?))
+    reads(alloc, b"\xa1\x61A", Is(ByContent(name, many(alloc)?)))
 }
 
 /// An item of any kind, and one of the codec.
@@ -359,8 +359,8 @@ fn numbers(alloc: Global) -> Result<Value, AllocError> {
 fn by_calls_for_any_item(rt: HostRuntime) -> Result<(), Fail> {
     let alloc = rt.alloc();
     let bytes = Value::Bytes(vec![in alloc; b'a'; 100_000]?);
-    reads(alloc, b"", Items(numbers(alloc)?, bytes))?;
-    reads(alloc, b"", Skipped)
+    reads(alloc, b"", Is(Items(numbers(alloc)?, bytes)))?;
+    reads(alloc, b"", Is(Skipped))
 }
 
 #[test]

@@ -45,6 +45,24 @@ fn window<S: Source>(reader: &S) -> usize {
     reader.window()
 }
 
+// Which readers have all that is left in memory, as they are and after a reference.
+#[test]
+fn slices_and_segments_are_in_memory() -> Result<(), Fail> {
+    let said = [
+        SliceReader::new(b"").is_in_memory(),
+        SegmentReader::new(&[]).is_in_memory(),
+        IoReader::new(b"".as_slice()).is_in_memory(),
+        Counting::new(b"").is_in_memory(),
+        is_in_memory(&&mut SliceReader::new(b"")),
+        is_in_memory(&&mut IoReader::new(b"".as_slice())),
+    ];
+    same(said, [true, true, false, false, true, false])
+}
+
+fn is_in_memory<S: Source>(reader: &S) -> bool {
+    reader.is_in_memory()
+}
+
 // A reader behind a reference fails as the reader does.
 #[test]
 fn a_failure_after_a_reference() -> Result<(), Fail> {
