@@ -20,9 +20,9 @@ use Rattle.cbor4ii.specs.Fields.{ReadsFields, named_field}
 use Rattle.cbor4ii.specs.Laws.FieldsBack.{none_back, field_back, no_field_back}
 use Rattle.cbor4ii.specs.Laws.StructsBack.{struct_back, fields_count, no_dearer}
 use Rattle.cbor4ii.specs.Made.{gives_ok, made_from}
-use Rattle.cbor4ii.specs.Places.{Place, last_place, only_place, put_last}
+use Rattle.cbor4ii.specs.Places.{Place, last_place, only_place}
 use Rattle.cbor4ii.specs.Presence.{Shape, no_more_fields, shaped_field, or_words, or_value}
-use Rattle.cbor4ii.specs.Presence.{once_or_words, optional_field}
+use Rattle.cbor4ii.specs.Presence.{or_none, once_or_words}
 use Rattle.cbor4ii.specs.Presence.{both_or_words, struct_from}
 use Rattle.cbor4ii.specs.declared.serde.de.place.Single.{Single}
 use Rattle.cbor4ii.specs.ReadBack.{IsReadBack, IsName, NamedItems, fields_of, FieldsBack}
@@ -165,6 +165,14 @@ abbrev pub with_field_once : {T V W : Type 0} (name words : List ℕ) (c : Codec
 with_field_once name words c others new =
     with_field_by only_place name c others new (once_or_words words (or_words words)) (λ v. refl)
 
+-- a field that may come once, and in whose place this value stands where it is missing; where it
+-- comes more than once, the struct is rejected in these words
+abbrev pub with_field_once_or : {T V W : Type 0} (name words : List ℕ) (other : T) (c : Codec T)
+    (others : FieldCodecs V W)
+    → IsTrue (is_new name others.names) → FieldCodecs (Single T × V) (T × W)
+with_field_once_or name words other c others new =
+    with_field_by only_place name c others new (once_or_words words (or_value other)) (λ v. refl)
+
 -- ---- a field that is left out where it is none
 
 abbrev pub StandsHeld : {T : Type 0} → Codec T → Option T → Type 0
@@ -175,8 +183,22 @@ abbrev pub held_cost : {T : Type 0} → Codec T → Option T → ℕ
 held_cost c None = 0
 held_cost c (Some v) = c.cost v
 
-module _ {T V W : Type 0} (name : List ℕ) (c : Codec T) (others : FieldCodecs V W)
-    (new : IsTrue (is_new name others.names)) where
+-- what stands in the place of a field that came so: never, or once
+abbrev pub put_option : {T P : Type 0} → Place T P → Option T → P
+put_option place None = place.none
+put_option place (Some v) = place.put v place.none
+
+pub last_option : {T : Type 0} (o : Option T) → or_none (put_option last_place o) ≡ Ok o
+last_option None = refl
+last_option (Some v) = refl
+
+pub only_option : {T : Type 0} (words : List ℕ) (o : Option T)
+    → once_or_words words or_none (put_option only_place o) ≡ Ok o
+only_option words None = refl
+only_option words (Some v) = refl
+
+module _ {T P V W : Type 0} (place : Place T P) (name : List ℕ) (c : Codec T)
+    (others : FieldCodecs V W) (new : IsTrue (is_new name others.names)) where
   pub optional_few : (w : Option T × W)
       → length (before name c.encoding w.0 (others.items w.1)) ≤ 1 + length others.names
   optional_few (None, w) = omega (arith, others.few w)
@@ -195,21 +217,21 @@ module _ {T V W : Type 0} (name : List ℕ) (c : Codec T) (others : FieldCodecs 
   pub optional_back : Hold (both_facts c.facts others.facts) → (alloc : Global)
       (w : Option T × W)
       → StandsHeld c w.0 × others.stands w.1
-      → FieldsBack (named_field put_last name c.promise.format.reads others.shape.fields.named)
-      (None, others.shape.fields.first) (w.0, others.held w.1)
+      → FieldsBack (named_field place.put name c.promise.format.reads others.shape.fields.named)
+      (place.none, others.shape.fields.first) (put_option place w.0, others.held w.1)
       (before name c.encoding w.0 (others.items w.1)) (max (held_cost c w.0) (others.cost w.1))
   optional_back hold alloc (None, w) h =
       let e = both (are_ascii name && ltb (length name) 256) (is_apart name others.names) new in
       subst (λ cost. FieldsBack
-      (named_field put_last name c.promise.format.reads others.shape.fields.named)
-      (None, others.shape.fields.first) (None, others.held w) (others.items w) cost)
+      (named_field place.put name c.promise.format.reads others.shape.fields.named)
+      (place.none, others.shape.fields.first) (place.none, others.held w) (others.items w) cost)
       (sym (no_dearer (others.cost w)))
-      (no_field_back last_place name c.promise.format.reads others.shape.fields.named
+      (no_field_back place name c.promise.format.reads others.shape.fields.named
       others.shape.fields.first (others.held w) (others.items w) (others.cost w)
       (others.back (others_hold c.facts others.facts hold) alloc w h.1)
       (others.others name e.1 w))
   optional_back hold alloc (Some v, w) h =
-      part_back last_place name c others new hold alloc (v, w) h
+      part_back place name c others new hold alloc (v, w) h
 
   pub optional_pairs : Hold (both_facts c.facts others.facts) → (w : Option T × W)
       → StandsHeld c w.0 × others.stands w.1
@@ -217,24 +239,44 @@ module _ {T V W : Type 0} (name : List ℕ) (c : Codec T) (others : FieldCodecs 
       (fields_of (before name c.encoding w.0 (others.items w.1)))
   optional_pairs hold (None, w) h =
       others.pairs (others_hold c.facts others.facts hold) w h.1
-  optional_pairs hold (Some v, w) h = part_pairs last_place name c others new hold (v, w) h
+  optional_pairs hold (Some v, w) h = part_pairs place name c others new hold (v, w) h
 
-  -- a field that is left out where it is none, and is none where it is missing
-  abbrev pub with_optional_field : FieldCodecs (Option T × V) (Option T × W)
-  with_optional_field = record {
-    shape = optional_field name c.promise others.shape;
+  -- a field that is left out where it is none, and of which this becomes: none where it is missing
+  abbrev pub with_optional_field_by : (value : P → Result (Option T) (List ℕ))
+      → ((o : Option T) → value (put_option place o) ≡ Ok o)
+      → FieldCodecs (P × V) (Option T × W)
+  with_optional_field_by value made = record {
+    shape = shaped_field place value name c.promise others.shape;
     names = name ∷ others.names;
     items = λ w. before name c.encoding w.0 (others.items w.1);
     few = λ w. omega (arith, optional_few w);
     others = optional_others;
-    held = λ w. (w.0, others.held w.1);
+    held = λ w. (put_option place w.0, others.held w.1);
     stands = λ w. StandsHeld c w.0 × others.stands w.1;
     cost = λ w. max (held_cost c w.0) (others.cost w.1);
-    made = λ w. ap (both_or_words (Ok w.0)) (others.made w.1);
+    made = λ w. subst (λ (r : Result (Option T) (List ℕ)). both_or_words r
+        (others.shape.value (others.held w.1))
+        ≡ Ok (w.0, w.1)) (sym (made w.0)) (ap (both_or_words (Ok w.0)) (others.made w.1));
     facts = both_facts c.facts others.facts;
     back = optional_back;
     pairs = optional_pairs;
   }
+
+-- a field that is left out where it is none, and is none where it is missing
+abbrev pub with_optional_field : {T V W : Type 0} (name : List ℕ) (c : Codec T)
+    (others : FieldCodecs V W)
+    → IsTrue (is_new name others.names) → FieldCodecs (Option T × V) (Option T × W)
+with_optional_field name c others new =
+    with_optional_field_by last_place name c others new or_none last_option
+
+-- the same, of a field that may come once; where it comes more than once, the struct is rejected
+-- in these words
+abbrev pub with_optional_field_once : {T V W : Type 0} (name words : List ℕ) (c : Codec T)
+    (others : FieldCodecs V W)
+    → IsTrue (is_new name others.names) → FieldCodecs (Single T × V) (Option T × W)
+with_optional_field_once name words c others new =
+    with_optional_field_by only_place name c others new (once_or_words words or_none)
+    (only_option words)
 
 -- ---- whole structs
 

@@ -21,7 +21,8 @@ use Rattle.cbor4ii_ser.specs.OneItem.{IsOneItem, IsOnePair, canonical}
 use Rattle.cbor4ii_ser.specs.Laws.OneItem.{struct_is_item, pair_is_entry, signed_is_item}
 use Rattle.cbor4ii.specs.Codec.{Codec, Facts, no_facts, both_facts, Hold, first_hold, others_hold}
 use Rattle.cbor4ii.specs.Codec.{made_back}
-use Rattle.cbor4ii.specs.CodecFields.{is_apart, is_other, StandsHeld, held_cost}
+use Rattle.cbor4ii.specs.CodecFields.{is_apart, is_other, StandsHeld, held_cost, put_option}
+use Rattle.cbor4ii.specs.CodecFields.{last_option, only_option}
 use Rattle.cbor4ii.specs.Fields.{ReadsNamed, named_field, after_changes}
 use Rattle.cbor4ii.specs.Keys.{begins_text, ReadsKey, ReadsKeyBy, ReadsKeyed, ReadsKeyedFields}
 use Rattle.cbor4ii.specs.Keys.{label_of, keyed_from}
@@ -29,9 +30,9 @@ use Rattle.cbor4ii.specs.Laws.Backs.{key_value_back, joined_back, definite_back}
 use Rattle.cbor4ii.specs.Laws.FieldsBack.{none_back, field_back, no_field_back}
 use Rattle.cbor4ii.specs.Laws.StructsBack.{no_dearer}
 use Rattle.cbor4ii.specs.Made.{gives_ok, made_from}
-use Rattle.cbor4ii.specs.Places.{Place, last_place, only_place, put_last}
+use Rattle.cbor4ii.specs.Places.{Place, last_place, only_place}
 use Rattle.cbor4ii.specs.Presence.{Shape, no_more_fields, shaped_field, or_words, or_value}
-use Rattle.cbor4ii.specs.Presence.{once_or_words, optional_field}
+use Rattle.cbor4ii.specs.Presence.{or_none, once_or_words}
 use Rattle.cbor4ii.specs.Presence.{both_or_words}
 use Rattle.cbor4ii.specs.declared.serde.de.place.Single.{Single}
 use Rattle.cbor4ii.specs.ReadBack.{IsReadBack, FieldsBackBy, ChangesBackBy}
@@ -289,10 +290,18 @@ abbrev pub with_key_once : {T V W : Type 0} (key : ℤ) (words : List ℕ) (c : 
 with_key_once key words c others new =
     with_key_by only_place key c others new (once_or_words words (or_words words)) (λ v. refl)
 
+-- a field that may come once, and in whose place this value stands where it is missing; where it
+-- comes more than once, the struct is rejected in these words
+abbrev pub with_key_once_or : {T V W : Type 0} (key : ℤ) (words : List ℕ) (other : T)
+    (c : Codec T) (others : KeyCodecs V W) → IsTrue (is_new_key key others.labels)
+    → KeyCodecs (Single T × V) (T × W)
+with_key_once_or key words other c others new =
+    with_key_by only_place key c others new (once_or_words words (or_value other)) (λ v. refl)
+
 -- ---- a field that is left out where it is none
 
-module _ {T V W : Type 0} (key : ℤ) (c : Codec T) (others : KeyCodecs V W)
-    (new : IsTrue (is_new_key key others.labels)) where
+module _ {T P V W : Type 0} (place : Place T P) (key : ℤ) (c : Codec T)
+    (others : KeyCodecs V W) (new : IsTrue (is_new_key key others.labels)) where
   pub optional_key_few : (w : Option T × W)
       → length (before (integer_label key) c.encoding w.0 (others.items w.1))
       ≤ 1 + length others.labels
@@ -313,23 +322,25 @@ module _ {T V W : Type 0} (key : ℤ) (c : Codec T) (others : KeyCodecs V W)
   pub optional_key_back : Hold (both_facts c.facts others.facts) → (alloc : Global)
       (w : Option T × W) → StandsHeld c w.0 × others.stands w.1
       → FieldsBackBy IsKey
-      (named_field put_last (integer_label key) c.promise.format.reads others.shape.fields.named)
-      (None, others.shape.fields.first) (w.0, others.held w.1)
+      (named_field place.put (integer_label key) c.promise.format.reads
+      others.shape.fields.named)
+      (place.none, others.shape.fields.first) (put_option place w.0, others.held w.1)
       (before (integer_label key) c.encoding w.0 (others.items w.1))
       (max (held_cost c w.0) (others.cost w.1))
   optional_key_back hold alloc (None, w) h =
       let e = both (is_small key) (is_apart (integer_label key) others.labels) new in
       subst (λ cost. FieldsBackBy IsKey
-      (named_field put_last (integer_label key) c.promise.format.reads others.shape.fields.named)
-      (None, others.shape.fields.first) (None, others.held w) (others.items w) cost)
+      (named_field place.put (integer_label key) c.promise.format.reads
+      others.shape.fields.named)
+      (place.none, others.shape.fields.first) (place.none, others.held w) (others.items w) cost)
       (sym (no_dearer (others.cost w)))
-      (no_field_back last_place (integer_label key) c.promise.format.reads
+      (no_field_back place (integer_label key) c.promise.format.reads
       others.shape.fields.named
       others.shape.fields.first (others.held w) (others.items w) (others.cost w)
       (others.back (others_hold c.facts others.facts hold) alloc w h.1)
       (others.others (integer_label key) e.1 w))
   optional_key_back hold alloc (Some v, w) h =
-      key_part_back last_place key c others new hold alloc (v, w) h
+      key_part_back place key c others new hold alloc (v, w) h
 
   pub optional_key_pairs : Hold (both_facts c.facts others.facts) → (w : Option T × W)
       → StandsHeld c w.0 × others.stands w.1 → AllByRecursion (IsOnePair canonical)
@@ -337,24 +348,43 @@ module _ {T V W : Type 0} (key : ℤ) (c : Codec T) (others : KeyCodecs V W)
   optional_key_pairs hold (None, w) h =
       others.pairs (others_hold c.facts others.facts hold) w h.1
   optional_key_pairs hold (Some v, w) h =
-      key_part_pairs last_place key c others new hold (v, w) h
+      key_part_pairs place key c others new hold (v, w) h
 
-  -- a field that is left out where it is none, and is none where it is missing
-  abbrev pub with_optional_key : KeyCodecs (Option T × V) (Option T × W)
-  with_optional_key = record {
-    shape = optional_field (integer_label key) c.promise others.shape;
+  -- a field that is left out where it is none, and of which this becomes: none where it is missing
+  abbrev pub with_optional_key_by : (value : P → Result (Option T) (List ℕ))
+      → ((o : Option T) → value (put_option place o) ≡ Ok o)
+      → KeyCodecs (P × V) (Option T × W)
+  with_optional_key_by value made = record {
+    shape = shaped_field place value (integer_label key) c.promise others.shape;
     labels = integer_label key ∷ others.labels;
     items = λ w. before (integer_label key) c.encoding w.0 (others.items w.1);
     few = λ w. omega (arith, optional_key_few w);
     others = optional_key_others;
-    held = λ w. (w.0, others.held w.1);
+    held = λ w. (put_option place w.0, others.held w.1);
     stands = λ w. StandsHeld c w.0 × others.stands w.1;
     cost = λ w. max (held_cost c w.0) (others.cost w.1);
-    made = λ w. ap (both_or_words (Ok w.0)) (others.made w.1);
+    made = λ w. subst (λ (r : Result (Option T) (List ℕ)). both_or_words r
+        (others.shape.value (others.held w.1))
+        ≡ Ok (w.0, w.1)) (sym (made w.0)) (ap (both_or_words (Ok w.0)) (others.made w.1));
     facts = both_facts c.facts others.facts;
     back = optional_key_back;
     pairs = optional_key_pairs;
   }
+
+-- a field that is left out where it is none, and is none where it is missing
+abbrev pub with_optional_key : {T V W : Type 0} (key : ℤ) (c : Codec T) (others : KeyCodecs V W)
+    → IsTrue (is_new_key key others.labels) → KeyCodecs (Option T × V) (Option T × W)
+with_optional_key key c others new =
+    with_optional_key_by last_place key c others new or_none last_option
+
+-- the same, of a field that may come once; where it comes more than once, the struct is rejected
+-- in these words
+abbrev pub with_optional_key_once : {T V W : Type 0} (key : ℤ) (words : List ℕ) (c : Codec T)
+    (others : KeyCodecs V W) → IsTrue (is_new_key key others.labels)
+    → KeyCodecs (Single T × V) (Option T × W)
+with_optional_key_once key words c others new =
+    with_optional_key_by only_place key c others new (once_or_words words or_none)
+    (only_option words)
 
 -- ---- whole structs
 

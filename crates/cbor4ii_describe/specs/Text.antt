@@ -37,8 +37,10 @@ self_type d = with_parameter (string_bytes d.name) d.parameter
 abbrev pub presence_text : Presence → Bool → List ℕ
 presence_text Required true = codes "Once(Required)"
 presence_text Required false = codes "Required"
-presence_text LeftOut once = codes "Optional"
-presence_text (Or code ghost_text) once = codes "Or(" ++ (string_bytes code ++ codes ")")
+presence_text LeftOut true = codes "Once(Optional)"
+presence_text LeftOut false = codes "Optional"
+presence_text (Or code ghost_text) true = codes "Once(Or(" ++ (string_bytes code ++ codes "))")
+presence_text (Or code ghost_text) false = codes "Or(" ++ (string_bytes code ++ codes ")")
 
 abbrev pub presence_code : Field → List ℕ
 presence_code field = presence_text field.presence field.once
@@ -67,8 +69,13 @@ word_text Required true sort key words = codes "(with_" ++ (sort ++ (codes "_onc
     ++ (codes " (codes \"" ++ (words ++ codes "\")")))))
 word_text Required false sort key words = codes "(with_" ++ (sort ++ (codes " " ++ (key
     ++ (codes " (codes \"" ++ (words ++ codes "\")")))))
-word_text LeftOut once sort key words = codes "(with_optional_" ++ (sort ++ (codes " " ++ key))
-word_text (Or code ghost_text) once sort key words =
+word_text LeftOut true sort key words = codes "(with_optional_" ++ (sort ++ (codes "_once " ++ (key
+    ++ (codes " (codes \"" ++ (words ++ codes "\")")))))
+word_text LeftOut false sort key words = codes "(with_optional_" ++ (sort ++ (codes " " ++ key))
+word_text (Or code ghost_text) true sort key words =
+    codes "(with_" ++ (sort ++ (codes "_once_or " ++ (key ++ (codes " (codes \"" ++ (words
+    ++ (codes "\") " ++ string_bytes ghost_text))))))
+word_text (Or code ghost_text) false sort key words =
     codes "(with_" ++ (sort ++ (codes "_or " ++ (key ++ (codes " " ++ string_bytes ghost_text))))
 
 abbrev pub field_word : Field → List ℕ

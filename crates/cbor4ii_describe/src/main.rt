@@ -4,8 +4,8 @@
 //! It takes serde's `rename`, `default` and `skip_serializing_if = "Option::is_none"`. Of its own
 //! are `describe(array)` on a struct, `describe(tag = 1)` on a newtype, the path of its module,
 //! `describe(module = "city::kind")`, on an enum, and on a field `describe(key = -1)`,
-//! `describe(last)` and `describe(missing = "..")`. A field that has to be there may come once,
-//! which `describe(once)` says too; of one with `last` the last counts.
+//! `describe(last)` and `describe(missing = "..")`. A field may come once, which `describe(once)`
+//! says too; of one with `last` the last counts.
 //!
 //! The exit status is 0, or 1 where a type has no form here: nothing is printed then, and a line on
 //! standard error says why.

@@ -263,7 +263,7 @@ fn field(alloc: Global, input: &mut Input, owner: &str, is_array: bool) -> Resul
     if is_array && !options.are_none() {
         return refused(line, Why::ArrayField);
     }
-    if !options.are_of_field() {
+    if !options.are_of_field() || (options.once && options.last) {
         return refused(line, Why::Attribute);
     }
     input.want(":")?;

@@ -34,17 +34,12 @@ pub fn presence(
     its_type: &str,
 ) -> Result<Presence, Fault> {
     let sort = sort_of(its_type);
-    let presence = match &options.default {
-        _ if options.left_out => left_out(line, options, sort)?,
-        Some(code) => or_default(alloc, line, code.as_str(), sort)?,
-        None if sort == Sort::Optional => or_default(alloc, line, "", sort)?,
-        None => Presence::Required,
-    };
-    let comes_last = options.last || !matches!(presence, Presence::Required);
-    if options.once && comes_last {
-        return refused(line, Why::Attribute);
+    match &options.default {
+        _ if options.left_out => left_out(line, options, sort),
+        Some(code) => or_default(alloc, line, code.as_str(), sort),
+        None if sort == Sort::Optional => or_default(alloc, line, "", sort),
+        None => Ok(Presence::Required),
     }
-    Ok(presence)
 }
 
 // That none is not written, for a field that may be none and has no other default.

@@ -55,7 +55,7 @@ pub struct Field {
     pub its_type: String,
     /// What it is written under.
     pub key: Key,
-    /// What is said where it is missing.
+    /// What is said where it is missing, or comes twice.
     pub words: String,
     /// What it is where it is missing.
     pub presence: Presence,
@@ -63,6 +63,13 @@ pub struct Field {
     pub once: bool,
     /// The line that its name stands on.
     pub line: u32,
+}
+
+impl Field {
+    /// Whether something is said of it: it has to be there, or may come once.
+    pub fn is_told(&self) -> bool {
+        self.once || matches!(self.presence, Presence::Required)
+    }
 }
 
 /// What stands above an item, and its visibility.

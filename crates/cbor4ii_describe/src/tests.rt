@@ -3,7 +3,7 @@ use crate::describe::describe;
 use crate::fault::{Fault, Why};
 
 // What is refused: the line, and why. Each input holds one form.
-const REFUSED: [(&str, u32, Why); 63] = [
+const REFUSED: [(&str, u32, Why); 62] = [
     ("", 1, Why::NoType),
     ("\nunion A { B }", 2, Why::NotType),
     ("fn a() {}", 1, Why::NotType),
@@ -20,11 +20,6 @@ const REFUSED: [(&str, u32, Why); 63] = [
     ("struct A {\n}", 2, Why::FieldCount),
     ("struct A(u8, u8);", 1, Why::TupleFields),
     ("#[serde(untagged)]\nstruct A(u8);", 1, Why::Attribute),
-    (
-        "struct A {\n#[describe(once)]\na: Option<u8> }",
-        3,
-        Why::Attribute,
-    ),
     (
         "struct A { #[describe(once, last)] a: u8 }",
         1,
@@ -176,21 +171,49 @@ fn forms_are_refused(rt: HostRuntime) {
 }
 
 // A type, and a part of what is written of it.
-const WRITTEN: [(&str, &str); 38] = [
+const WRITTEN: [(&str, &str); 47] = [
     (
         "struct A { #[serde(rename = \"b\")] a: u8 }",
         "serialize_1_field(\"A\", \"b\", &self.a)",
     ),
-    ("struct A { #[serde(default)] a: u8 }", "(Or(0), ())"),
+    ("struct A { #[serde(default)] a: u8 }", "(Once(Or(0)), ())"),
+    (
+        "struct A { #[serde(default)] #[describe(last)] a: u8 }",
+        "(Or(0), ())",
+    ),
     (
         "struct A { #[serde(default = \"true\")] a: bool }",
+        "(with_field_once_or (codes \"a\") (codes \"an a has one a\") true ",
+    ),
+    (
+        "struct A { #[describe(last)] #[serde(default = \"true\")] a: bool }",
         "(with_field_or (codes \"a\") true ",
     ),
     (
-        "struct A { #[serde(default = \"7\")] a: i8 }",
+        "struct A { #[describe(last)] #[serde(default = \"7\")] a: i8 }",
         "(with_field_or (codes \"a\") (pos 7) ",
     ),
-    ("struct A { a: Option<u8> }", "(Or(None), ())"),
+    ("struct A { a: Option<u8> }", "(Once(Or(None)), ())"),
+    (
+        "struct A { #[describe(once)] a: Option<u8> }",
+        "let missing = [\"an a has one a\"];",
+    ),
+    (
+        "struct A { #[describe(last)] a: Option<u8>, b: Option<u8> }",
+        "let missing = [\"\", \"an a has one b\"];",
+    ),
+    (
+        "struct A { #[describe(last)] a: Option<u8> }",
+        "let missing = [];",
+    ),
+    (
+        "struct A { #[serde(skip_serializing_if = \"Option::is_none\")] a: Option<u8> }",
+        "let presences = (Once(Optional), ());",
+    ),
+    (
+        "struct A { #[serde(skip_serializing_if = \"Option::is_none\")] a: Option<u8> }",
+        "(with_optional_field_once (codes \"a\") (codes \"an a has one a\")",
+    ),
     (
         "struct A { #[serde(skip_serializing_if = \"Option::is_none\")] a: Option<u8> }",
         "let fields = (IfSome(&self.a),);\n        fields.serialize_fields(\"A\", &[\"a\"], ser)\n",
@@ -265,7 +288,16 @@ const WRITTEN: [(&str, &str); 38] = [
     ),
     (
         "struct A { #[describe(key = 0)] #[serde(default = \"7\")] a: u8 }",
+        "(with_key_once_or (pos 0) (codes \"an a has one a\") 7 ",
+    ),
+    (
+        "struct A { #[describe(key = 0, last)] #[serde(default = \"7\")] a: u8 }",
         "(with_key_or (pos 0) 7 ",
+    ),
+    (
+        "struct A { #[describe(key = 0)] #[serde(skip_serializing_if = \"Option::is_none\")] \
+a: Option<u8> }",
+        "(with_optional_key_once (pos 0) (codes \"an a has one a\")",
     ),
     (
         "#[describe(tag = 18446744073709551615)] struct A(u8);",

@@ -2,8 +2,8 @@
 ghost use Rattle.std.specs.Prelude.{◌≡◌, codes, pos};
 ghost use Rattle.std.proofs.Common.{refl};
 ghost use Rattle.cbor4ii.specs.CodecAgrees.{as_described};
-ghost use Rattle.cbor4ii.specs.CodecKeyed.{keyed_codec, with_key_once, with_optional_key, no_keys};
-ghost use Rattle.cbor4ii.specs.CodecKeyed.{minus};
+ghost use Rattle.cbor4ii.specs.CodecKeyed.{keyed_codec, with_key_once, with_optional_key_once};
+ghost use Rattle.cbor4ii.specs.CodecKeyed.{no_keys, minus};
 ghost use Rattle.cbor4ii.specs.Fields.{no_values};
 
 use cbor4ii::dec::Source;
@@ -46,13 +46,13 @@ impl<S: Source> Deserialize<S> for CoseKey {
     ) -> Result<CoseKey, DecodeError<S::Error>> {
         let missing = [
             "a key has one kty",
-            "",
+            "a key has one alg",
             "a key has one crv",
             "a key has one x",
         ];
         let presences = (
             Once(Required),
-            (Optional, (Once(Required), (Once(Required), ()))),
+            (Once(Optional), (Once(Required), (Once(Required), ()))),
         );
         de.deserialize_keyed_fields(alloc, "COSE_Key", &[1, 3, -1, -2], &missing, presences)
     }
@@ -85,7 +85,7 @@ impl Described for CoseKey {
           x = values.1.1.1.0;
         }) (λ c. refl)
         (with_key_once (pos 1) (codes "a key has one kty") ⟦<i64 as Described>⟧.codec
-        (with_optional_key (pos 3) ⟦<i64 as Described>⟧.codec
+        (with_optional_key_once (pos 3) (codes "a key has one alg") ⟦<i64 as Described>⟧.codec
         (with_key_once (minus 1) (codes "a key has one crv") ⟦<i64 as Described>⟧.codec
         (with_key_once (minus 2) (codes "a key has one x") ⟦<Bytes<Vec<u8>> as Described>⟧.codec
         no_keys refl) refl) refl) refl) refl };

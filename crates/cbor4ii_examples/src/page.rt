@@ -5,7 +5,7 @@ ghost use Rattle.std.proofs.Common.{refl};
 ghost use Rattle.cbor4ii_ser.specs.OneItem.{IsOneItem, canonical};
 ghost use Rattle.cbor4ii.specs.Codec.{option_codec, vector_codec};
 ghost use Rattle.cbor4ii.specs.CodecAgrees.{as_described, its_codec, both_are};
-ghost use Rattle.cbor4ii.specs.CodecFields.{struct_codec, with_field_once, with_field_or};
+ghost use Rattle.cbor4ii.specs.CodecFields.{struct_codec, with_field_once, with_field_once_or};
 ghost use Rattle.cbor4ii.specs.CodecFields.{no_fields};
 ghost use Rattle.cbor4ii.specs.Fields.{no_values};
 ghost use Rattle.cbor4ii.specs.ReadBack.{IsReadBack};
@@ -50,8 +50,12 @@ impl<S: Source, T: AsDescribed + Deserialize<S> + Drop> Deserialize<S> for Page<
         alloc: Global,
         de: &mut Deserializer<S>,
     ) -> Result<Page<T>, DecodeError<S::Error>> {
-        let missing = ["a page has one total", "a page has one list of entries"];
-        let presences = (Once(Required), (Once(Required), (Or(None), ())));
+        let missing = [
+            "a page has one total",
+            "a page has one list of entries",
+            "a page has one next",
+        ];
+        let presences = (Once(Required), (Once(Required), (Once(Or(None)), ())));
         de.deserialize_fields(
             alloc,
             "Page",
@@ -93,7 +97,8 @@ impl<T: AsDescribed> Described for Page<T> {
         (with_field_once (codes "total") (codes "a page has one total") ⟦<u64 as Described>⟧.codec
         (with_field_once (codes "entries") (codes "a page has one list of entries")
         (vector_codec (its_codec T.promise T.encoding T.codec))
-        (with_field_or (codes "next") None (option_codec (its_codec T.promise T.encoding T.codec))
+        (with_field_once_or (codes "next") (codes "a page has one next") None
+        (option_codec (its_codec T.promise T.encoding T.codec))
         no_fields refl) refl) refl) refl };
 }
 

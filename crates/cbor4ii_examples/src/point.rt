@@ -4,7 +4,7 @@ ghost use Rattle.std.proofs.Common.{refl};
 ghost use Rattle.cbor4ii_items.specs.Numbers.{IsWithin};
 ghost use Rattle.cbor4ii_ser.specs.OneItem.{IsOneItem, canonical};
 ghost use Rattle.cbor4ii.specs.CodecAgrees.{as_described};
-ghost use Rattle.cbor4ii.specs.CodecFields.{struct_codec, with_field_once, with_field_or};
+ghost use Rattle.cbor4ii.specs.CodecFields.{struct_codec, with_field_once, with_field_once_or};
 ghost use Rattle.cbor4ii.specs.CodecFields.{no_fields};
 ghost use Rattle.cbor4ii.specs.Fields.{no_values};
 ghost use Rattle.cbor4ii.specs.ReadBack.{IsReadBack};
@@ -38,8 +38,12 @@ impl<S: Source> Deserialize<S> for Point {
         alloc: Global,
         de: &mut Deserializer<S>,
     ) -> Result<Point, DecodeError<S::Error>> {
-        let missing = ["a point has one x", "a point has one name"];
-        let presences = (Once(Required), (Once(Required), (Or(None), ())));
+        let missing = [
+            "a point has one x",
+            "a point has one name",
+            "a point has one y",
+        ];
+        let presences = (Once(Required), (Once(Required), (Once(Or(None)), ())));
         de.deserialize_fields(alloc, "Point", &["x", "name", "y"], &missing, presences)
     }
 }
@@ -66,7 +70,8 @@ impl Described for Point {
         (λ values. record { x = values.0; name = values.1.0; y = values.1.1.0 }) (λ p. refl)
         (with_field_once (codes "x") (codes "a point has one x") ⟦<u32 as Described>⟧.codec
         (with_field_once (codes "name") (codes "a point has one name") ⟦<String as Described>⟧.codec
-        (with_field_or (codes "y") None ⟦<Option<i32> as Described>⟧.codec
+        (with_field_once_or (codes "y") (codes "a point has one y") None
+        ⟦<Option<i32> as Described>⟧.codec
         no_fields refl) refl) refl) refl };
 }
 

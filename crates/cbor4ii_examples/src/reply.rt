@@ -2,15 +2,15 @@
 ghost use Rattle.std.specs.Prelude.{◌≡◌, codes};
 ghost use Rattle.std.proofs.Common.{refl};
 ghost use Rattle.cbor4ii.specs.CodecAgrees.{as_described};
-ghost use Rattle.cbor4ii.specs.CodecFields.{struct_codec, with_field, with_optional_field};
-ghost use Rattle.cbor4ii.specs.CodecFields.{no_fields};
+ghost use Rattle.cbor4ii.specs.CodecFields.{struct_codec, with_field_once, with_optional_field};
+ghost use Rattle.cbor4ii.specs.CodecFields.{with_optional_field_once, no_fields};
 ghost use Rattle.cbor4ii.specs.Fields.{no_values};
 
 use cbor4ii::dec::Source;
 use cbor4ii::enc::Write;
 use cbor4ii::serde::{
     AsDescribed, DecodeError, Described, Deserialize, Deserializer, EncodeError, FieldValues,
-    IfSome, Optional, Required, Serialize, Serializer, Typed,
+    IfSome, Once, Optional, Required, Serialize, Serializer, Typed,
 };
 use std::alloc::Global;
 
@@ -21,7 +21,8 @@ pub struct Reply {
     pub status: u16,
     /// Why, where it is reported.
     pub reason: Option<String>,
-    /// After how many seconds to ask again, where it is reported.
+    /// After how many seconds to ask again, where it is reported. A proxy may append another one,
+    /// which counts.
     pub retry: Option<u32>,
 }
 
@@ -41,8 +42,8 @@ impl<S: Source> Deserialize<S> for Reply {
         alloc: Global,
         de: &mut Deserializer<S>,
     ) -> Result<Reply, DecodeError<S::Error>> {
-        let missing = ["a reply has no status"];
-        let presences = (Required, (Optional, (Optional, ())));
+        let missing = ["a reply has one status", "a reply has one reason"];
+        let presences = (Once(Required), (Once(Optional), (Optional, ())));
         de.deserialize_fields(
             alloc,
             "Reply",
@@ -81,8 +82,10 @@ impl Described for Reply {
           reason = values.1.0;
           retry = values.1.1.0;
         }) (λ r. refl)
-        (with_field (codes "status") (codes "a reply has no status") ⟦<u16 as Described>⟧.codec
-        (with_optional_field (codes "reason") ⟦<String as Described>⟧.codec
+        (with_field_once (codes "status") (codes "a reply has one status")
+        ⟦<u16 as Described>⟧.codec
+        (with_optional_field_once (codes "reason") (codes "a reply has one reason")
+        ⟦<String as Described>⟧.codec
         (with_optional_field (codes "retry") ⟦<u32 as Described>⟧.codec
         no_fields refl) refl) refl) refl };
 }

@@ -2,7 +2,7 @@
 ghost use Rattle.std.specs.Prelude.{◌≡◌, None, false, codes, IfErr};
 ghost use Rattle.std.proofs.Common.{refl};
 ghost use Rattle.cbor4ii.specs.CodecAgrees.{as_described};
-ghost use Rattle.cbor4ii.specs.CodecFields.{struct_codec, with_field_once, with_field_or};
+ghost use Rattle.cbor4ii.specs.CodecFields.{struct_codec, with_field_once, with_field_once_or};
 ghost use Rattle.cbor4ii.specs.CodecFields.{no_fields};
 ghost use Rattle.cbor4ii.specs.Fields.{no_values};
 ghost use Rattle.cbor4ii.specs.First.{FirstWhole, typed_error_of};
@@ -68,14 +68,29 @@ impl<S: Source> Deserialize<S> for Settings {
         alloc: Global,
         de: &mut Deserializer<S>,
     ) -> Result<Settings, DecodeError<S::Error>> {
-        let missing = ["settings have one host"];
+        let missing = [
+            "settings have one host",
+            "settings have one port",
+            "settings are verbose or not",
+            "settings have one number of workers",
+            "settings have one cache",
+            "settings have one proxy",
+            "settings have one list of plugins",
+            "settings have one greeting",
+        ];
         let presences = (
             Once(Required),
             (
-                Or(8080),
+                Once(Or(8080)),
                 (
-                    Or(false),
-                    (Or(4), (Or(0), (Or(None), (Or(None), (Or(None), ()))))),
+                    Once(Or(false)),
+                    (
+                        Once(Or(4)),
+                        (
+                            Once(Or(0)),
+                            (Once(Or(None)), (Once(Or(None)), (Once(Or(None)), ()))),
+                        ),
+                    ),
                 ),
             ),
         );
@@ -158,13 +173,20 @@ impl Described for Settings {
         }) (λ s. refl)
         (with_field_once (codes "host") (codes "settings have one host")
         ⟦<String as Described>⟧.codec
-        (with_field_or (codes "port") 8080 ⟦<u16 as Described>⟧.codec
-        (with_field_or (codes "verbose") false ⟦<bool as Described>⟧.codec
-        (with_field_or (codes "workers") 4 ⟦<u8 as Described>⟧.codec
-        (with_field_or (codes "cache") 0 ⟦<u64 as Described>⟧.codec
-        (with_field_or (codes "proxy") None ⟦<Option<String> as Described>⟧.codec
-        (with_field_or (codes "plugins") None ⟦<Option<Vec<String>> as Described>⟧.codec
-        (with_field_or (codes "greeting") None ⟦<Option<String> as Described>⟧.codec
+        (with_field_once_or (codes "port") (codes "settings have one port") 8080
+        ⟦<u16 as Described>⟧.codec
+        (with_field_once_or (codes "verbose") (codes "settings are verbose or not") false
+        ⟦<bool as Described>⟧.codec
+        (with_field_once_or (codes "workers") (codes "settings have one number of workers") 4
+        ⟦<u8 as Described>⟧.codec
+        (with_field_once_or (codes "cache") (codes "settings have one cache") 0
+        ⟦<u64 as Described>⟧.codec
+        (with_field_once_or (codes "proxy") (codes "settings have one proxy") None
+        ⟦<Option<String> as Described>⟧.codec
+        (with_field_once_or (codes "plugins") (codes "settings have one list of plugins") None
+        ⟦<Option<Vec<String>> as Described>⟧.codec
+        (with_field_once_or (codes "greeting") (codes "settings have one greeting") None
+        ⟦<Option<String> as Described>⟧.codec
         no_fields refl) refl) refl) refl) refl) refl) refl) refl) refl };
 }
 

@@ -116,7 +116,13 @@ fn begin(alloc: Global, field: &Field) -> Result<String, AllocError>
             format!(in alloc; "(with_{sort}_once {key} (codes \"{words}\")")
         }
         Presence::Required => format!(in alloc; "(with_{sort} {key} (codes \"{words}\")"),
+        Presence::LeftOut if field.once => {
+            format!(in alloc; "(with_optional_{sort}_once {key} (codes \"{words}\")")
+        }
         Presence::LeftOut => format!(in alloc; "(with_optional_{sort} {key}"),
+        Presence::Or { ghost_text, .. } if field.once => {
+            format!(in alloc; "(with_{sort}_once_or {key} (codes \"{words}\") {ghost_text}")
+        }
         Presence::Or { ghost_text, .. } => {
             format!(in alloc; "(with_{sort}_or {key} {ghost_text}")
         }

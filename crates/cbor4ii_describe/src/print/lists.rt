@@ -99,30 +99,33 @@ fn presence(alloc: Global, field: &Field) -> Result<String, AllocError>
     match &field.presence {
         Presence::Required if field.once => String::from_str(alloc, "Once(Required)"),
         Presence::Required => String::from_str(alloc, "Required"),
+        Presence::LeftOut if field.once => String::from_str(alloc, "Once(Optional)"),
         Presence::LeftOut => String::from_str(alloc, "Optional"),
+        Presence::Or { code, .. } if field.once => format!(in alloc; "Once(Or({code}))"),
         Presence::Or { code, .. } => format!(in alloc; "Or({code})"),
     }
 }
 
-/// What is said of missing fields, in quotes and by their places, up to the last one that has to be
-/// there.
+/// What is said of fields that are missing or come twice, in quotes and by their places, up to the
+/// last one of which something is said.
 pub fn missing(alloc: Global, fields: &[Field]) -> Result<Vec<String>, AllocError> {
     let mut missing = Vec::new(alloc);
-    for field in fields.iter().take(last_required(fields)) {
-        let words = match field.presence {
-            Presence::Required => field.words.as_str(),
-            _ => "",
+    for field in fields.iter().take(last_told(fields)) {
+        let words = if field.is_told() {
+            field.words.as_str()
+        } else {
+            ""
         };
         missing.push(format!(in alloc; "\"{words}\"")?)?;
     }
     Ok(missing)
 }
 
-// How many fields there are up to the last one that has to be there.
-fn last_required(fields: &[Field]) -> usize {
+// How many fields there are up to the last one of which something is said.
+fn last_told(fields: &[Field]) -> usize {
     let mut last = 0;
     for (i, field) in fields.iter().enumerate() {
-        if matches!(field.presence, Presence::Required) {
+        if field.is_told() {
             last = i + 1;
         }
     }

@@ -37,7 +37,9 @@ enum For {
     Plain(Sort),
     OnceOf(Sort),
     OrOf(Sort),
+    OnceOrOf(Sort),
     LeftOutOf(Sort),
+    OnceLeftOutOf(Sort),
     Negative,
     Pos,
     OrNone,
@@ -88,7 +90,7 @@ fn path(file: File) -> &'static str {
 }
 
 // The ghost words: where each is defined, and what it is imported for.
-const WORDS: [(File, &str, For); 39] = [
+const WORDS: [(File, &str, For); 43] = [
     (File::Prelude, "◌≡◌", For::Each),
     (File::Prelude, "None", For::OrNone),
     (File::Prelude, "true", For::OrTrue),
@@ -120,8 +122,18 @@ const WORDS: [(File, &str, For); 39] = [
     (File::CodecFields, "with_field_or", For::OrOf(Sort::Name)),
     (
         File::CodecFields,
+        "with_field_once_or",
+        For::OnceOrOf(Sort::Name),
+    ),
+    (
+        File::CodecFields,
         "with_optional_field",
         For::LeftOutOf(Sort::Name),
+    ),
+    (
+        File::CodecFields,
+        "with_optional_field_once",
+        For::OnceLeftOutOf(Sort::Name),
     ),
     (File::CodecFields, "no_fields", For::Fields),
     (File::CodecItems, "tagged_codec", For::Tag),
@@ -135,8 +147,18 @@ const WORDS: [(File, &str, For); 39] = [
     (File::CodecKeyed, "with_key_or", For::OrOf(Sort::Integer)),
     (
         File::CodecKeyed,
+        "with_key_once_or",
+        For::OnceOrOf(Sort::Integer),
+    ),
+    (
+        File::CodecKeyed,
         "with_optional_key",
         For::LeftOutOf(Sort::Integer),
+    ),
+    (
+        File::CodecKeyed,
+        "with_optional_key_once",
+        For::OnceLeftOutOf(Sort::Integer),
     ),
     (File::CodecKeyed, "no_keys", For::Keyed),
     (File::CodecKeyed, "minus", For::Negative),
@@ -354,14 +376,17 @@ fn field_wants(field: &Field, why: For) -> bool {
     match (&field.presence, why) {
         (_, For::Negative) => matches!(field.key, Key::Negative(_)),
         (_, For::Pos) if matches!(field.key, Key::Positive(_)) => true,
-        (Presence::Required, For::Required | For::Codes) => true,
-        (Presence::Required, For::Once) => field.once,
+        (_, For::Codes) => field.is_told(),
+        (_, For::Once) => field.once,
+        (Presence::Required, For::Required) => true,
         (Presence::Required, For::OnceOf(of)) => field.once && of == sort,
         (Presence::Required, For::Plain(of)) => !field.once && of == sort,
         (Presence::LeftOut, For::LeftOut | For::Listed) => true,
-        (Presence::LeftOut, For::LeftOutOf(of)) => of == sort,
+        (Presence::LeftOut, For::LeftOutOf(of)) => !field.once && of == sort,
+        (Presence::LeftOut, For::OnceLeftOutOf(of)) => field.once && of == sort,
         (Presence::Or { .. }, For::Or) => true,
-        (Presence::Or { .. }, For::OrOf(of)) => of == sort,
+        (Presence::Or { .. }, For::OrOf(of)) => !field.once && of == sort,
+        (Presence::Or { .. }, For::OnceOrOf(of)) => field.once && of == sort,
         (Presence::Or { ghost_text, .. }, why) => default_wants(ghost_text.as_str(), why),
         _ => false,
     }

@@ -41,6 +41,11 @@ const KEYS: &[RowShown] = table! {
     ),
     (b"\xa2\x01\x01\x20\x06\x00", Ok("Custom(\"a key has one x\")"), b"\x00"),
     (b"\xa4\x01\x01\x20\x06\x20\x06\x21\x40\x00", Ok("Custom(\"a key has one crv\")"), b"\x00"),
+    (
+        b"\xa5\x01\x01\x03\x27\x20\x06\x21\x40\x03\x27\x00",
+        Ok("Custom(\"a key has one alg\")"),
+        b"\x00",
+    ),
     (b"\xa1\x01\x61a\x00", Err(mismatch!("i64", 0x61)), b"\x61a\x00"),
 };
 

@@ -42,6 +42,11 @@ const PAGES: &[RowShown] = table! {
     (b"\xa2\x67entries\x81\x20\x65total\x00", Err(mismatch!("u32", 32)), b"\x65total\x00"),
     (b"\xa1\x65total\x00\x01", Ok("Custom(\"a page has one list of entries\")"), b"\x01"),
     (b"\xa2\x65total\x00\x65total\x00\x01", Ok("Custom(\"a page has one total\")"), b"\x01"),
+    (
+        b"\xa4\x64next\xf6\x65total\x00\x67entries\x80\x64next\x05\x01",
+        Ok("Custom(\"a page has one next\")"),
+        b"\x01",
+    ),
 };
 
 const PAGES_WITHIN: &[RowShownWithin] = table! {

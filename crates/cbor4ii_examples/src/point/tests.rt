@@ -69,11 +69,13 @@ const X_TWICE: &str = "Custom(\"a point has one x\")";
 
 const NAME_TWICE: &str = "Custom(\"a point has one name\")";
 
+const Y_TWICE: &str = "Custom(\"a point has one y\")";
+
 const POINTS_READ: &[RowShown] = table! {
     (b"\xbf\x61y\x20\x64name\x61a\x61x\x05\xff\x00", Ok(WITH_Y), b"\x00"),
     (b"\xa4\x61z\x81\x82\x01\x02\x61y\x20\x61x\x05\x64name\x61a", Ok(WITH_Y), b""),
-    // Of several y the last counts; x and the name come once.
-    (b"\xa4\x61y\xf6\x61x\x05\x61y\x20\x64name\x61a\xff", Ok(WITH_Y), b"\xff"),
+    // Each comes once.
+    (b"\xa4\x61y\xf6\x61x\x05\x61y\x20\x64name\x61a\xff", Ok(Y_TWICE), b"\xff"),
     (b"\xa4\x61x\x04\x61y\x20\x61x\x05\x64name\x61a\xff", Ok(X_TWICE), b"\xff"),
     (b"\xa3\x61x\x05\x64name\x61a\x64name\x61a\xff", Ok(NAME_TWICE), b"\xff"),
     // Only y may be missing.

@@ -31,10 +31,13 @@ const REPLIES: &[RowShown] = table! {
     (b"\xa2\x66reason\x60\x66status\x05",
         Ok("Is(Reply { status: 5, reason: Some(\"\"), retry: None })"), b""),
     (b"\xa2\x66reason\xf6\x66status\x05", Err(mismatch!("str", 0xf6)), b"\x66status\x05"),
-    (b"\xa0\x01", Ok("Custom(\"a reply has no status\")"), b"\x01"),
-    // Of several fields of one name the last counts.
-    (b"\xa4\x65retry\x01\x66status\x04\x65retry\x02\x66status\x05\x00",
+    (b"\xa0\x01", Ok("Custom(\"a reply has one status\")"), b"\x01"),
+    // Of several retries the last counts; the status and the reason come once.
+    (b"\xa3\x65retry\x01\x66status\x05\x65retry\x02\x00",
         Ok("Is(Reply { status: 5, reason: None, retry: Some(2) })"), b"\x00"),
+    (b"\xa2\x66status\x05\x66status\x05\x00", Ok("Custom(\"a reply has one status\")"), b"\x00"),
+    (b"\xa3\x66reason\x60\x66status\x05\x66reason\x60\x00",
+        Ok("Custom(\"a reply has one reason\")"), b"\x00"),
 };
 
 #[test]

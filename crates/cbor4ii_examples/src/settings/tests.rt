@@ -37,10 +37,25 @@ cache: 0, proxy: None, plugins: None, greeting: None })";
 const SETTINGS: &[RowShown] = table! {
     (b"\xa1\x64host\x61a\x00", Ok(DEFAULTS), b"\x00"),
     (b"\xa2\x65color\x81\x01\x64host\x61a", Ok(DEFAULTS), b""),
-    // Of several ports the last counts; several hosts are rejected.
-    (b"\xa3\x64port\x01\x64host\x61a\x64port\x19\x1f\x90", Ok(DEFAULTS), b""),
-    (b"\xa2\x64host\x61a\x64host\x61a\x00", Ok("Custom(\"settings have one host\")"), b"\x00"),
     (b"\xa1\x64port\x01\x00", Ok("Custom(\"settings have one host\")"), b"\x00"),
+    // Each comes once, be it set to its default or left as it was.
+    (b"\xa2\x64host\x61a\x64host\x61a\x00", Ok("Custom(\"settings have one host\")"), b"\x00"),
+    (b"\xa3\x64port\x19\x1f\x90\x64host\x61a\x64port\x19\x1f\x90",
+        Ok("Custom(\"settings have one port\")"), b""),
+    (b"\xa3\x67verbose\xf4\x67verbose\xf5\x64host\x61a\x00",
+        Ok("Custom(\"settings are verbose or not\")"), b"\x00"),
+    (b"\xa3\x64host\x61a\x67workers\x04\x67workers\x04",
+        Ok("Custom(\"settings have one number of workers\")"), b""),
+    (b"\xa3\x64host\x61a\x65cache\x00\x65cache\x01", Ok("Custom(\"settings have one cache\")"), b""),
+    (b"\xbf\x64host\x61a\x65proxy\xf6\x65proxy\xf6\xff\x00",
+        Ok("Custom(\"settings have one proxy\")"), b"\x00"),
+    (b"\xa4\x64host\x61a\x67plugins\x80\x67plugins\xf6\x67plugins\x80",
+        Ok("Custom(\"settings have one list of plugins\")"), b""),
+    (b"\xa3\x68greeting\x61a\x64host\x61a\x68greeting\x61b",
+        Ok("Custom(\"settings have one greeting\")"), b""),
+    // Of several the first field that is rejected tells why.
+    (b"\xa4\x65cache\x00\x65cache\x00\x64port\x01\x64port\x01",
+        Ok("Custom(\"settings have one host\")"), b""),
 };
 
 #[test]
@@ -53,7 +68,7 @@ type Row = (&'static [u8], usize, WholeError<DecodeError<Never>>);
 const NO_HOST: WholeError<DecodeError<Never>> = Decode(Custom("settings have one host"));
 
 // A port of four bytes, a number in the place of a text, a map that ends too early, one that lacks
-// the host, one that has two, and bytes behind one.
+// the host, one that has two, one that has two ports, and bytes behind one.
 const FAULTS: &[Row] = table! {
     (b"\xa1\x64port\x1a\x00\x01\x00\x00", 7, Decode(Core(Mismatch { name: "u16", found: 0x1a }))),
     (b"\xa1\x64host\x05", 7, Decode(Core(Mismatch { name: "str", found: 5 }))),
@@ -61,6 +76,8 @@ const FAULTS: &[Row] = table! {
     (b"\xa0", 1, NO_HOST),
     (b"\xa0\x00", 1, NO_HOST),
     (b"\xa2\x64host\x61a\x64host\x61b", 15, NO_HOST),
+    (b"\xa3\x64host\x61a\x64port\x01\x64port\x01\x00", 20,
+        Decode(Custom("settings have one port"))),
     (b"\xa1\x64host\x61a\x00\xff", 8, Trailing(2)),
 };
 
