@@ -1,11 +1,11 @@
 -- Items that are kept as their bytes, read as typed values.
-use Rattle.std.specs.Prelude.{Result, IfErr, false, refl}
-use Rattle.cbor4ii_rw.specs.View.{View}
+use Rattle.std.specs.Prelude.{Result, IfOk, IfErr, false, refl}
+use Rattle.cbor4ii_rw.specs.View.{View, BeginsAt}
 use Rattle.cbor4ii_rw.specs.declared.error.DecodeError.{DecodeError}
 use Rattle.cbor4ii_items.specs.Decoding.{IsExact}
 use Rattle.cbor4ii_tree.specs.declared.raw.RawValue.{RawValue}
 use Rattle.cbor4ii_tree.specs.Calls.Raw.{raw_content, TakesItem, RejectsAsSkipping, Unmoved}
-use Rattle.cbor4ii_tree.specs.Calls.Raw.{RejectsOnPrefix}
+use Rattle.cbor4ii_tree.specs.Calls.Raw.{RejectsOnPrefix, raw_place}
 use Rattle.cbor4ii_tree.specs.Laws.Capturing.{raw_lawful}
 use Rattle.cbor4ii.specs.Typed.{Promise, Deserializes, exact_promise}
 
@@ -25,3 +25,5 @@ pub record LendsItem {E : Type 0} (old new : View)
   pub unmoved : IfErr answer (Unmoved old new)
   -- `RequireBorrowed` comes only where the reader is not zero-copy
   pub errs : RejectsOnPrefix old answer
+  -- the item is the input's own part: it stands where the bytes to come begin
+  pub place : IfOk answer (λ v. BeginsAt (raw_place v) old)

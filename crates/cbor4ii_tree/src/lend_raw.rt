@@ -1,6 +1,7 @@
 //! Items that are lent: the bytes of one item, as they stand in the input.
-ghost use Rattle.std.specs.Prelude.{◌≡◌, ◌≤◌, ℕ, List, length, take, false, IfOk};
+ghost use Rattle.std.specs.Prelude.{◌≡◌, ◌≢◌, ◌≤◌, ℕ, List, [], length, take, false, IfOk};
 ghost use Rattle.std.specs.Prelude.{IfErr};
+ghost use Rattle.cbor4ii_rw.specs.View.{BeginsAt};
 ghost use Rattle.cbor4ii_rw.specs.Long.{FillsLong};
 ghost use Rattle.cbor4ii_rw.specs.Reader.{KeepsAllButBudget};
 ghost use Rattle.cbor4ii_tree.specs.Calls.Raw.{raw_format, Unmoved, RejectsOnPrefix};
@@ -33,13 +34,19 @@ pub(crate) trait LendRaw<S: Source>: Sized {
     // The bytes.
     ghost content: { Self → List ℕ };
 
-    /// All that one fill lends. The reader's position stays.
+    // Where they stand.
+    ghost place: { Self → ℕ × ℕ };
+
+    /// All that one fill lends. The reader's position stays. Where there are any, they begin where
+    /// the bytes to come do.
     ///
     /// `Read` where the reader failed; `Short` where some bytes are left, and they do not live as
     /// long as the input.
     fn lend_prefix(reader: &mut S) -> Result<Self, NoPrefix<S::Error>>
         ensures lent { IfOk result
             (λ v. FillsLong most (content v) (S.view reader.old) (S.view reader.new)) }
+        ensures place { IfOk result
+            (λ v. content v ≢ [] → BeginsAt (place v) (S.view reader.old)) }
         ensures lacks { IfErr result (LacksPrefix (S.view reader.old) (S.view reader.new)) };
 
     /// The bytes.
@@ -49,7 +56,8 @@ pub(crate) trait LendRaw<S: Source>: Sized {
     /// The first `size` bytes alone.
     fn cut(self, size: usize) -> Self
         requires { size ≤ length (content self) }
-        ensures { content result ≡ take size (content self) };
+        ensures content { content result ≡ take size (content self) }
+        ensures place { place result ≡ place self };
 
     /// Lets the bytes go.
     fn discard(self);
@@ -68,13 +76,15 @@ pub(crate) fn take_raw<T: LendRaw<S>, S: Source>(
         RejectsAsSkipping (S.view reader.old) (S.view reader.new) result }
     ensures unmoved { IfErr result (Unmoved (S.view reader.old) (S.view reader.new)) }
     ensures errs { RejectsOnPrefix (S.view reader.old) result }
+    ensures place { IfOk result (λ v. BeginsAt (T.place v) (S.view reader.old)) }
 {
     capture(reader)
 }
 
-/// Takes one item that is lent whole, with a contract of one clause.
+/// Takes one item that is lent whole, with a contract of fewer clauses.
 pub(crate) fn capture<T: LendRaw<S>, S: Source>(reader: &mut S) -> Result<T, DecodeError<S::Error>>
-    ensures { Captures T.content (S.view reader.old) (S.view reader.new) result }
+    ensures captures { Captures T.content (S.view reader.old) (S.view reader.new) result }
+    ensures place { IfOk result (λ v. BeginsAt (T.place v) (S.view reader.old)) }
 {
     match T::lend_prefix(reader) {
         Ok(lent) => match skip_lent(lent.prefix(), reader) {

@@ -1,10 +1,14 @@
 //! Items that are kept as their bytes, and are read as values.
-ghost use Rattle.std.specs.Prelude.{◌≡◌, true};
+ghost use Rattle.std.specs.Prelude.{◌≡◌, true, IfOk};
+ghost use Rattle.cbor4ii_rw.specs.View.{place_of, BeginsAt};
+ghost use Rattle.cbor4ii_rw.specs.Slice.{slice_view};
+ghost use Rattle.cbor4ii_items.specs.Decoding.{Decodes};
 ghost use Rattle.cbor4ii_items.specs.Whole.{DecodesWhole};
 ghost use Rattle.cbor4ii_items.specs.Writing.{WritesAtomically};
 ghost use Rattle.cbor4ii_tree.specs.Laws.Capturing.{plain_raw_lawful};
 ghost use Rattle.cbor4ii_tree.specs.Calls.PlainRaw.{plain_raw_content, plain_raw_format};
-ghost use Rattle.cbor4ii_tree.specs.Calls.Raw.{raw_content};
+ghost use Rattle.cbor4ii_tree.specs.Calls.PlainRaw.{plain_raw_place};
+ghost use Rattle.cbor4ii_tree.specs.Calls.Raw.{raw_content, raw_place};
 
 use crate::raw::RawValue;
 use crate::value::Value;
@@ -23,7 +27,7 @@ pub struct PlainRawValue<'de>(RawValue<'de>);
 
 impl<'de> PlainRawValue<'de> {
     /// The item that `bytes` are: one item and nothing else, which `Value` accepts with 256 steps.
-    /// The value is read and dropped, and the bytes are not copied.
+    /// The value is read and dropped. The bytes are not copied: the item stands where they stand.
     ///
     /// # Errors
     ///
@@ -34,6 +38,7 @@ impl<'de> PlainRawValue<'de> {
         bytes: &'de [u8],
     ) -> Result<PlainRawValue<'de>, WholeError<DecodeError<Never>>>
         ensures whole { DecodesWhole plain_raw_format bytes.now result }
+        ensures place { IfOk result (λ raw. plain_raw_place raw ≡ place_of bytes.entry) }
     {
         let _value: Value = decode_whole(alloc, bytes)?;
         Ok(PlainRawValue(RawValue::of(bytes)))
@@ -41,14 +46,16 @@ impl<'de> PlainRawValue<'de> {
 
     /// The item, of which it is not known any more that `Value` accepts it.
     pub fn as_raw(&self) -> RawValue<'de>
-        ensures { raw_content result ≡ plain_raw_content self.now }
+        ensures content { raw_content result ≡ plain_raw_content self.now }
+        ensures place { raw_place result ≡ plain_raw_place self.now }
     {
         self.0
     }
 
     /// The item's bytes.
     pub fn as_bytes(&self) -> &'de [u8]
-        ensures { result.now ≡ plain_raw_content self.now }
+        ensures content { result.now ≡ plain_raw_content self.now }
+        ensures place { place_of result ≡ plain_raw_place self.now }
     {
         self.0.as_bytes()
     }
@@ -68,7 +75,8 @@ impl<'de> Decodable for PlainRawValue<'de> {
 }
 
 /// Over a slice. The value at its beginning is read and dropped, and its bytes are kept as they
-/// stand. They are not copied. What is accepted is exactly what `Value` accepts.
+/// stand. They are not copied: the item begins where the bytes to come do. What is accepted is
+/// exactly what `Value` accepts.
 ///
 /// # Errors
 ///
@@ -77,7 +85,12 @@ impl<'de> Decode<SliceReader<'de>> for PlainRawValue<'de> {
     fn decode(
         alloc: Global,
         reader: &mut SliceReader<'de>,
-    ) -> Result<PlainRawValue<'de>, DecodeError<Never>> {
+    ) -> Result<PlainRawValue<'de>, DecodeError<Never>>
+        ensures place { IfOk result
+            (λ raw. BeginsAt (plain_raw_place raw) (slice_view reader.old)) }
+        ensures decodes { Decodes plain_raw_format
+            (slice_view reader.old) (slice_view reader.new) result }
+    {
         let bytes = reader.remaining();
         let _value = Value::decode(alloc, reader)?;
         let size = bytes.len() - reader.remaining().len();

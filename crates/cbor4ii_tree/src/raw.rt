@@ -1,11 +1,12 @@
 //! Items that are kept as their bytes.
 ghost use Rattle.std.specs.Prelude.{◌≡◌, true, false, IfOk, IfErr};
+ghost use Rattle.cbor4ii_rw.specs.View.{place_of, BeginsAt};
 ghost use Rattle.cbor4ii_items.specs.Writing.{WritesAtomically};
 ghost use Rattle.cbor4ii_items.specs.Decoding.{IsExact, Decodes};
 ghost use Rattle.cbor4ii_items.specs.Whole.{DecodesWhole};
 ghost use Rattle.cbor4ii_tree.specs.Calls.Promises.{value_format};
 ghost use Rattle.cbor4ii_tree.specs.Calls.Raw.{raw_content, raw_format, Unmoved, RejectsOnPrefix};
-ghost use Rattle.cbor4ii_tree.specs.Calls.Raw.{TakesItem};
+ghost use Rattle.cbor4ii_tree.specs.Calls.Raw.{TakesItem, raw_place};
 ghost use Rattle.cbor4ii_tree.specs.Calls.Raw.{RejectsAsSkipping};
 ghost use Rattle.cbor4ii_tree.specs.Laws.Capturing.{raw_lawful};
 
@@ -28,7 +29,8 @@ pub struct RawValue<'de>(&'de [u8]);
 
 impl<'de> RawValue<'de> {
     /// The item that `bytes` are: one item and nothing else, skipped with 256 steps. It is
-    /// accepted exactly where `IgnoredAny` takes all of the bytes. Nothing is copied.
+    /// accepted exactly where `IgnoredAny` takes all of the bytes. Nothing is copied: the item
+    /// stands where `bytes` stand.
     ///
     /// A string of indefinite length may hold any items then, as `5f 80 ff` does, and a text may be
     /// no UTF-8. `PlainRawValue` rejects both.
@@ -40,6 +42,7 @@ impl<'de> RawValue<'de> {
     pub fn new(bytes: &'de [u8]) -> Result<RawValue<'de>, WholeError<DecodeError<Never>>>
         ensures whole { DecodesWhole (raw_format raw_content) bytes.now result }
         ensures content { IfOk result (λ raw. raw_content raw ≡ bytes.now) }
+        ensures place { IfOk result (λ raw. raw_place raw ≡ place_of bytes.entry) }
     {
         let mut reader = SliceReader::new(bytes);
         let raw = capture(&mut reader)?;
@@ -65,14 +68,16 @@ impl<'de> RawValue<'de> {
 
     /// The item whose bytes these are.
     pub(crate) fn of(bytes: &'de [u8]) -> RawValue<'de>
-        ensures { raw_content result ≡ bytes.now }
+        ensures content { raw_content result ≡ bytes.now }
+        ensures place { raw_place result ≡ place_of bytes.entry }
     {
         RawValue(bytes)
     }
 
     /// The item's bytes.
     pub fn as_bytes(&self) -> &'de [u8]
-        ensures { result.now ≡ raw_content self.now }
+        ensures content { result.now ≡ raw_content self.now }
+        ensures place { place_of result ≡ raw_place self.now }
     {
         self.0
     }
@@ -94,6 +99,8 @@ impl<'de> Decodable for RawValue<'de> {
 /// It is lent by a fill that asks for all that is left. At the end of the input it is empty.
 impl<'de, R: Read<'de>> LendRaw<R> for RawValue<'de> {
     ghost content = { raw_content };
+
+    ghost place = { raw_place };
 
     fn lend_prefix(reader: &mut R) -> Result<RawValue<'de>, NoPrefix<R::Error>> {
         let mut failure = None;
@@ -122,7 +129,8 @@ impl<'de, R: Read<'de>> LendRaw<R> for RawValue<'de> {
 
 /// One fill asks for all that is left. Where its bytes live as long as the input, the item at
 /// their beginning is skipped in place, under the reader's steps, and then taken at once. Nothing
-/// is copied, and no memory is taken.
+/// is copied, and no memory is taken. The item is the input's own part: it begins where the bytes
+/// to come do, where the reader reports the place of their end.
 ///
 /// # Errors
 ///
@@ -142,6 +150,7 @@ impl<'de, R: Read<'de>> Decode<R> for RawValue<'de> {
             RejectsAsSkipping (R.view reader.old) (R.view reader.new) result }
         ensures unmoved { IfErr result (Unmoved (R.view reader.old) (R.view reader.new)) }
         ensures errs { RejectsOnPrefix (R.view reader.old) result }
+        ensures place { IfOk result (λ v. BeginsAt (raw_place v) (R.view reader.old)) }
     {
         take_raw(alloc, reader)
     }

@@ -2,12 +2,16 @@
 use Rattle.std.specs.Prelude.{◌≡◌, ℕ, List, take, true}
 use Rattle.cbor4ii_items.specs.Decoding.{Format}
 use Rattle.cbor4ii_tree.specs.declared.{plain_raw.PlainRawValue.PlainRawValue, value.Value.Value}
-use Rattle.cbor4ii_tree.specs.{Calls.Promises.value_format, Calls.Raw.raw_content}
+use Rattle.cbor4ii_tree.specs.{Calls.Promises.value_format, Calls.Raw.{raw_content, raw_place}}
 use Rattle.cbor4ii_tree.specs.Calls.ReadingRejects.{ReadingRejects}
 
 -- the bytes of a kept item that reading accepts
 abbrev pub plain_raw_content : PlainRawValue → List ℕ
 plain_raw_content p = raw_content p.0
+
+-- where it stands
+abbrev pub plain_raw_place : PlainRawValue → ℕ × ℕ
+plain_raw_place p = raw_place p.0
 
 -- the first n bytes are read as a value, and are what is kept
 abbrev pub ReadsPlainRaw : List ℕ → PlainRawValue → ℕ → ℕ → Type 0

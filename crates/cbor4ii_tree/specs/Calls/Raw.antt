@@ -2,7 +2,7 @@
 use Rattle.std.specs.Prelude.{◌≡◌, ◌≢◌, ℕ, ◌+◌, ◌-◌, ◌^◌, ◌≤◌, ◌⊎◌, true, false, codes, List, []}
 use Rattle.std.specs.Prelude.{length, take, drop, Some, None, Result, Ok, Err, IsTrue, IfSome}
 use Rattle.std.specs.Prelude.{MatchBool}
-use Rattle.cbor4ii_rw.specs.{View.{View, IfKnown}, Reader.{IsPrefix, ReaderFails, Keeps}}
+use Rattle.cbor4ii_rw.specs.{View.{View, IfKnown, place_of}, Reader.{IsPrefix, ReaderFails, Keeps}}
 use Rattle.cbor4ii_rw.specs.{Reader.KeepsOrForgets, Long.{FillsLong, BorrowsNone}}
 use Rattle.cbor4ii_rw.specs.declared.error.DecodeError.{DecodeError}
 use Rattle.cbor4ii_items.specs.{Head.IsBytes, Decoding.Format, Lent.Lends}
@@ -30,6 +30,10 @@ most = 2 ^ 64 - 1
 -- the bytes of a kept item, which the input lends
 abbrev pub raw_content : RawValue → List ℕ
 raw_content v = v.0.now
+
+-- where a kept item stands
+abbrev pub raw_place : RawValue → ℕ × ℕ
+raw_place v = place_of v.0
 
 -- the first n bytes are those of a loose tree, and the value's content
 abbrev pub ReadsRaw : {V : Type 0} → (V → List ℕ) → List ℕ → V → ℕ → ℕ → Type 0

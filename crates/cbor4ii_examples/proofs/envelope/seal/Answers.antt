@@ -29,7 +29,7 @@ returns-in-Ok-clause-sealed g c =
     (subst (λ xs. IsWhole plain_raw_format.reads xs plain) lent
     (ok_of _ c.new-2.result plain (IsWhole plain_raw_format.reads c.deref.result.now)
     c.in_ok-payload.ensures.cases c.new-2.ensures.whole.accepts))
-    c.as_bytes.ensures
+    c.as_bytes.ensures.content
     (ok_of _ c.sign.result s (λ (v : Vec ℕ Global). signed number v.items c.as_bytes.result.now)
     c.in_ok-signature.ensures.cases c.sign.ensures)
     (omega (arith, s.ok.0, s.ok.1, s.small)) c.key.ensures held

@@ -12,14 +12,14 @@ returns-then-means_integer c = λ ps p.
     (to_z-of_z w128 c.args.key c.ranges.key)
     (search_finds _ _ _ _ _ c.loop-name.invariant c.next.ensures.steps ps p
     (c.in-Some.name, c.in-Some.value) c.in-Some.is (λ k h.
-    sym (c.means_integer.ensures k h.loose (c.as_bytes.ensures ∙ h.bytes_are))
+    sym (c.means_integer.ensures k h.loose (c.as_bytes.ensures.content ∙ h.bytes_are))
     ∙ c.if-means_integer.true))
 
 pub loop-name-preserved : goal.loop-name-preserved
 loop-name-preserved c = λ ps p.
     search_goes_on _ _ _ _ _ c.loop-name.invariant c.next.ensures.steps ps p
     (c.in-Some.name, c.in-Some.value) c.in-Some.is (λ k h.
-    sym (c.means_integer.ensures k h.loose (c.as_bytes.ensures ∙ h.bytes_are))
+    sym (c.means_integer.ensures k h.loose (c.as_bytes.ensures.content ∙ h.bytes_are))
     ∙ c.if-means_integer.false)
 
 pub returns : goal.returns

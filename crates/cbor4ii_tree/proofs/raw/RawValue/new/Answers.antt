@@ -2,15 +2,16 @@ use Rattle.std.proofs.Common.{◌≡◌, Ok, refl, length, ap}
 use Rattle.cbor4ii_rw.specs.Slice.{slice_view}
 use Rattle.cbor4ii_items.specs.Laws.Wholes.{trails, to_the_end, none_whole, whole_of, rejected}
 use Rattle.cbor4ii_tree.specs.{Laws.Capturing.raw_lawful}
-use Rattle.cbor4ii_tree.specs.{Calls.Raw.{raw_content, raw_format, ReadsRaw}}
+use Rattle.cbor4ii_tree.specs.{Calls.Raw.{raw_content, raw_format, raw_place, ReadsRaw}}
 use Rattle.cbor4ii_tree.proofs.raw_items.Captured.{raw_decodes}
+use Rattle.cbor4ii_tree.proofs.raw_items.Placed.{begins_slice}
 use Rattle.cbor4ii_tree.proofs.raw.RawValue.new.Goals as goal
 
 pub returns-in_err-raw-clause-whole : goal.returns-in_err-raw-clause-whole
 returns-in_err-raw-clause-whole c =
     rejected (raw_format raw_content) c.args.bytes.now (slice_view c.new-reader.result)
     (slice_view c.capture.new.reader) c.new-reader.ensures.known c.new-reader.ensures.budget refl
-    c.in_err-raw.field-0.0 (raw_decodes raw_content _ _ _ c.in_err-raw.ensures)
+    c.in_err-raw.field-0.0 (raw_decodes raw_content _ _ _ c.in_err-raw.ensures.captures)
     c.from_residual.result c.from_residual.ensures.1
 
 pub returns-then-left-gt0-clause-whole : goal.returns-then-left-gt0-clause-whole
@@ -18,7 +19,7 @@ returns-then-left-gt0-clause-whole c =
     let some = trails (ReadsRaw raw_content) c.args.bytes.now (slice_view c.new-reader.result)
     (slice_view c.capture.new.reader) c.new-reader.ensures.known c.new-reader.ensures.budget
     c.in_ok-raw.raw _ (raw_decodes {E = Unit {0}} raw_content _ _ (Ok c.in_ok-raw.raw)
-    c.in_ok-raw.ensures).sound (λ xs e. let same : c.remaining-left.result.now ≡ xs = cc in ap
+    c.in_ok-raw.ensures.captures).sound (λ xs e. let same : c.remaining-left.result.now ≡ xs = cc in ap
     length same) c.if-left-gt0.true in
     record {
       accepts = tt;
@@ -35,8 +36,13 @@ returns-clause-whole c = record {
       c.in_ok-raw.raw (to_the_end (ReadsRaw raw_content) c.args.bytes.now (slice_view
       c.new-reader.result) (slice_view c.capture.new.reader) c.new-reader.ensures.known
       c.new-reader.ensures.budget c.in_ok-raw.raw _ (raw_decodes {E = Unit {0}} raw_content _ _
-      (Ok c.in_ok-raw.raw) c.in_ok-raw.ensures).sound (λ xs e. let same
+      (Ok c.in_ok-raw.raw) c.in_ok-raw.ensures.captures).sound (λ xs e. let same
       : c.remaining-left.result.now ≡ xs = cc in ap length same) c.if-left-gt0.false);
   trailing = tt;
   rejects = tt;
 }
+
+pub returns-clause-place : goal.returns-clause-place
+returns-clause-place c =
+    begins_slice c.args.bytes (raw_place c.in_ok-raw.raw) (slice_view c.new-reader.result)
+    c.new-reader.ensures.known c.new-reader.ensures.place c.in_ok-raw.ensures.place
