@@ -13,15 +13,6 @@ pub cut_begins : {shown lent : List ℕ} {budget : Budget} {n : ℕ} {p q : ℕ 
 cut_begins a same is item begins =
     subst (λ (z : ℕ × ℕ). BeginsAt z a) (sym same) (begins (λ none. no_item none is item))
 
--- the bytes to come begin where the slice begins that they are
-pub slice_begins : (bytes : Bor (List ℕ)) (p : ℕ × ℕ) (a : View) → a.known ≡ Some bytes.now
-    → a.ends_at ≡ Some (place_after bytes) → p ≡ place_of bytes → BeginsAt p a
-slice_begins bytes p a known ends at end e xs k =
-    let same : end ≡ place_after bytes = cc in
-    let all : bytes.now ≡ xs = cc in
-    subst (λ (z : ℕ × ℕ). end ≡ (z.0, z.1 + length xs)) (sym at)
-    (subst (λ ys. end ≡ (bytes.ref_ptr.0, bytes.ref_ptr.1 + length ys)) all same)
-
 -- the slice begins where its bytes, as bytes to come, begin
 pub begins_slice : (bytes : Bor (List ℕ)) (p : ℕ × ℕ) (a : View) → a.known ≡ Some bytes.now
     → a.ends_at ≡ Some (place_after bytes) → BeginsAt p a → p ≡ place_of bytes
