@@ -218,7 +218,7 @@ const NO_MAP: OpenError = Payload(Decode(Core(Mismatch {
     found: 5,
 })));
 
-const NO_STATUS: OpenError = Payload(Decode(Custom("a reply has no status")));
+const NO_STATUS: OpenError = Payload(Decode(Custom("a reply has one status")));
 
 fn rejects(alloc: Global, rows: &[Rejection]) -> Result<(), Fail> {
     for (bytes, message, want) in rows {
