@@ -1,6 +1,6 @@
 -- Values that are made of other values by a test, or rejected in its words.
 use Rattle.std.proofs.Common.{◌≡◌, ◌⊎◌, ℕ, List, drop, Option, None, Some, Result, Ok, Err, Bool}
-use Rattle.std.proofs.Common.{IsTrue, true, false, refl, ap, subst}
+use Rattle.std.proofs.Common.{IsTrue, false, refl, ap, subst}
 use Rattle.std.specs.Prelude.{◌||◌}
 use Rattle.cbor4ii_items.specs.Decoding.{Reads, RejectsAt, IsLawful, Format}
 use Rattle.cbor4ii_items.specs.Budget.{CostFits}
@@ -25,19 +25,6 @@ abbrev pub Checks : {V W : Type 0} → (V → Option (List ℕ)) → (V → W �
 Checks words makes takes_memory v (Ok w) = IsMade words makes v w
 Checks words makes takes_memory v (Err (Rejected text)) = words v ≡ Some text.now
 Checks words makes takes_memory v (Err OutOfMemory) = IsTrue takes_memory
-
--- ---- a value that stands for something, or for nothing
-
--- these words, where there is no value
-abbrev pub words_unless : {A : Type 0} → List ℕ → Option A → Option (List ℕ)
-words_unless text None = Some text
-words_unless text (Some a) = None
-
--- What is made where this stands: what is shown as it; or these words, where nothing stands.
-abbrev pub MakesShown : {A W : Type 0} → List ℕ → (W → A) → Option A → Result W Unmade → Type 0
-MakesShown text shown stands (Ok w) = stands ≡ Some (shown w)
-MakesShown text shown stands (Err (Rejected words)) = (stands ≡ None) × (words.now ≡ text)
-MakesShown text shown stands (Err OutOfMemory) = Unit {0}
 
 -- ---- what is read by it
 
@@ -82,12 +69,6 @@ checked_from words makes takes_memory p = record {
   some = refl;
   lawful = λ is. checked_lawful p words makes takes_memory (p.lawful is);
 }
-
--- Another value is rejected in these words. Memory may be taken.
--- A type whose values are made of those of another that stand for something, and are shown as it.
-abbrev pub shown_from : {A V W : Type 0} → List ℕ → (V → Option A) → (W → A) → Promise V → Promise W
-shown_from text stands shown = checked_from (λ v. words_unless text (stands v))
-    (λ v w. stands v ≡ Some (shown w)) true
 
 -- ---- written too
 

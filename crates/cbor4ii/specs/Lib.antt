@@ -20,6 +20,7 @@ pub mod Any
 pub mod AnyCost
 pub mod AnyRejects
 pub mod AnyFormat
+pub mod TypedAny
 pub mod Beginning
 pub mod TypedParts
 pub mod Elements
@@ -42,7 +43,6 @@ pub mod CodecAgrees
 pub mod CodecItems
 pub mod CodecKeyed
 pub mod Held
-pub mod CodecShown
 pub mod Once
 -- ---- laws
 pub mod Laws

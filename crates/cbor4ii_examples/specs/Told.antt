@@ -12,12 +12,12 @@ use Rattle.cbor4ii.specs.Any.{ReadsAny}
 use Rattle.cbor4ii.specs.AnyCost.{any_cost}
 use Rattle.cbor4ii.specs.Checked.{Checks, IsMade, checked_from}
 use Rattle.cbor4ii.specs.Codec.{Codec, no_facts, made_back}
-use Rattle.cbor4ii.specs.CodecShown.{typed_any}
 use Rattle.cbor4ii.specs.Held.{IsWrittenAs}
 use Rattle.cbor4ii.specs.Laws.Held.{ValueOf, held_value, written_back, written_one}
 use Rattle.cbor4ii.specs.Places.{put_only}
 use Rattle.cbor4ii.specs.Presence.{once_or_words, or_words}
 use Rattle.cbor4ii.specs.ReadBack.{IsReadBack}
+use Rattle.cbor4ii.specs.TypedAny.{typed_any}
 use Rattle.cbor4ii.specs.declared.serde.de.checked.Unmade.{Unmade}
 use Rattle.cbor4ii.specs.declared.serde.de.checked.Unmade.TheVariants.{Rejected, OutOfMemory}
 use Rattle.cbor4ii.specs.declared.serde.de.place.Single.{Single}

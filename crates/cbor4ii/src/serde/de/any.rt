@@ -5,8 +5,8 @@ ghost use Rattle.cbor4ii_items.specs.Sequences.{count_format, indefinite_format}
 ghost use Rattle.cbor4ii.specs.AnyFormat.{any_format, any_inside, values_inside};
 ghost use Rattle.cbor4ii.specs.AnyFormat.{values_format, any_pair, pairs_inside};
 ghost use Rattle.cbor4ii.specs.AnyFormat.{pairs_format, AddsOne};
-ghost use Rattle.cbor4ii.specs.CodecShown.{typed_any};
 ghost use Rattle.cbor4ii.specs.Typed.{input, answer_of, Deserializes};
+ghost use Rattle.cbor4ii.specs.TypedAny.{typed_any};
 
 use crate::serde::de::any_leaf::{AnyKind, kind_of, take_leaf};
 use crate::serde::de::deserialize::{Deserialize, Typed};
