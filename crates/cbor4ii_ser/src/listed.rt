@@ -201,12 +201,15 @@ fn put_fields<V: NestedFields, K: Key, W: Write>(
 /// and the borrow checker does not cover one. Nor does it cover a field that borrows, behind a
 /// reference: such a struct is written by `Serializer::serialize_1_field` and its like.
 pub trait FieldValues: Sized {
+    // How many fields there are.
+    ghost many: { ℕ };
+
     // The items of those that are written, under these labels.
     ghost items: { Self → List (List ℕ) → NamedItems };
 
     /// Writes a struct: a map from the keys to the values of the fields that are not left out, in
-    /// this order. `keys` has the key of each field by its place, names or integers. A field for
-    /// which there is none is left out. The struct's own name is not written.
+    /// this order. `keys` has the key of each field by its place, names or integers: the prover
+    /// refuses a call with fewer keys than fields. The struct's own name is not written.
     ///
     /// # Errors
     ///
@@ -218,6 +221,7 @@ pub trait FieldValues: Sized {
         keys: &[K],
         ser: &mut Serializer<W>,
     ) -> Result<(), EncodeError<W::Error>>
+        requires { many ≤ length keys.now }
         ensures { Serializes W.atomic
             (keyed_encoding K.item (items self (labels_of K.label keys.now)))
             (output W.view ser.old) (output W.view ser.new) result };
@@ -225,6 +229,8 @@ pub trait FieldValues: Sized {
 
 /// A field.
 impl<A: FieldValue> FieldValues for (A,) {
+    ghost many = { 1 };
+
     ghost items = { λ v. (A.before ▹ no_named_items) (v.0, end_of_list) };
 
     #[inline]
@@ -241,6 +247,8 @@ impl<A: FieldValue> FieldValues for (A,) {
 
 /// Two fields.
 impl<A: FieldValue, B: FieldValue> FieldValues for (A, B) {
+    ghost many = { 2 };
+
     ghost items = { λ v. (A.before ▹ B.before ▹ no_named_items) (v.0, (v.1, end_of_list)) };
 
     #[inline]
@@ -257,6 +265,8 @@ impl<A: FieldValue, B: FieldValue> FieldValues for (A, B) {
 
 /// Three fields.
 impl<A: FieldValue, B: FieldValue, C: FieldValue> FieldValues for (A, B, C) {
+    ghost many = { 3 };
+
     ghost items = { λ v. (A.before ▹ B.before ▹ C.before ▹ no_named_items)
         (v.0, (v.1, (v.2, end_of_list))) };
 
@@ -274,6 +284,8 @@ impl<A: FieldValue, B: FieldValue, C: FieldValue> FieldValues for (A, B, C) {
 
 /// Four fields.
 impl<A: FieldValue, B: FieldValue, C: FieldValue, D: FieldValue> FieldValues for (A, B, C, D) {
+    ghost many = { 4 };
+
     ghost items = { λ v. (A.before ▹ B.before ▹ C.before ▹ D.before ▹
         no_named_items)
         (v.0, (v.1, (v.2, (v.3, end_of_list)))) };
@@ -293,6 +305,8 @@ impl<A: FieldValue, B: FieldValue, C: FieldValue, D: FieldValue> FieldValues for
 /// Five fields.
 impl<A: FieldValue, B: FieldValue, C: FieldValue, D: FieldValue, E: FieldValue> FieldValues
     for (A, B, C, D, E) {
+    ghost many = { 5 };
+
     ghost items = { λ v. (A.before ▹ B.before ▹ C.before ▹ D.before ▹ E.before ▹
         no_named_items)
         (v.0, (v.1, (v.2, (v.3, (v.4, end_of_list))))) };
@@ -318,6 +332,8 @@ impl<
     E: FieldValue,
     F: FieldValue,
 > FieldValues for (A, B, C, D, E, F) {
+    ghost many = { 6 };
+
     ghost items = { λ v. (A.before ▹ B.before ▹ C.before ▹ D.before ▹ E.before ▹ F.before ▹
         no_named_items)
         (v.0, (v.1, (v.2, (v.3, (v.4, (v.5, end_of_list)))))) };
@@ -344,6 +360,8 @@ impl<
     F: FieldValue,
     G: FieldValue,
 > FieldValues for (A, B, C, D, E, F, G) {
+    ghost many = { 7 };
+
     ghost items = { λ v. (A.before ▹ B.before ▹ C.before ▹ D.before ▹ E.before ▹ F.before ▹
         G.before ▹ no_named_items)
         (v.0, (v.1, (v.2, (v.3, (v.4, (v.5, (v.6, end_of_list))))))) };
@@ -371,6 +389,8 @@ impl<
     G: FieldValue,
     H: FieldValue,
 > FieldValues for (A, B, C, D, E, F, G, H) {
+    ghost many = { 8 };
+
     ghost items = { λ v. (A.before ▹ B.before ▹ C.before ▹ D.before ▹ E.before ▹ F.before ▹
         G.before ▹ H.before ▹ no_named_items)
         (v.0, (v.1, (v.2, (v.3, (v.4, (v.5, (v.6, (v.7, end_of_list)))))))) };
@@ -399,6 +419,8 @@ impl<
     H: FieldValue,
     I: FieldValue,
 > FieldValues for (A, B, C, D, E, F, G, H, I) {
+    ghost many = { 9 };
+
     ghost items = { λ v. (A.before ▹ B.before ▹ C.before ▹ D.before ▹ E.before ▹ F.before ▹
         G.before ▹ H.before ▹ I.before ▹ no_named_items)
         (v.0, (v.1, (v.2, (v.3, (v.4, (v.5, (v.6, (v.7, (v.8, end_of_list))))))))) };
@@ -428,6 +450,8 @@ impl<
     I: FieldValue,
     J: FieldValue,
 > FieldValues for (A, B, C, D, E, F, G, H, I, J) {
+    ghost many = { 10 };
+
     ghost items = { λ v. (A.before ▹ B.before ▹ C.before ▹ D.before ▹ E.before ▹ F.before ▹
         G.before ▹ H.before ▹ I.before ▹ J.before ▹ no_named_items)
         (v.0, (v.1, (v.2, (v.3, (v.4, (v.5, (v.6, (v.7, (v.8, (v.9, end_of_list)))))))))) };
@@ -462,6 +486,8 @@ impl<
     J: FieldValue,
     L: FieldValue,
 > FieldValues for (A, B, C, D, E, F, G, H, I, J, L) {
+    ghost many = { 11 };
+
     ghost items = { λ v. (A.before ▹ B.before ▹ C.before ▹ D.before ▹ E.before ▹ F.before ▹
         G.before ▹ H.before ▹ I.before ▹ J.before ▹ L.before ▹ no_named_items)
         (v.0, (v.1, (v.2, (v.3, (v.4, (v.5, (v.6, (v.7, (v.8, (v.9, (v.10, end_of_list))))))))))) };
@@ -497,6 +523,8 @@ impl<
     L: FieldValue,
     M: FieldValue,
 > FieldValues for (A, B, C, D, E, F, G, H, I, J, L, M) {
+    ghost many = { 12 };
+
     ghost items = { λ v. (A.before ▹ B.before ▹ C.before ▹ D.before ▹ E.before ▹ F.before ▹
         G.before ▹ H.before ▹ I.before ▹ J.before ▹ L.before ▹ M.before ▹ no_named_items) (
           v.0,

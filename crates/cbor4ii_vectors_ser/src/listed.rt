@@ -134,25 +134,6 @@ fn none_is_null_where_it_is_always_written(rt: HostRuntime) -> Result<(), Fail> 
     Ok(())
 }
 
-/// A struct of three fields, of which two have a key.
-#[derive(Drop)]
-struct FewKeys;
-
-impl Put for FewKeys {
-    fn put<W: Write>(&self, ser: &mut Serializer<W>) -> Result<(), EncodeError<W::Error>> {
-        (&1u8, &2u8, &3u8).serialize_fields("FewKeys", &["x", "y"], ser)?;
-        (&1u8, &2u8).serialize_fields("NoKeys", &NO_KEYS, ser)
-    }
-}
-
-const NO_KEYS: [i64; 0] = [];
-
-#[test]
-fn a_field_without_a_key_is_left_out(rt: HostRuntime) -> Result<(), Fail> {
-    writes(rt.alloc(), &Typed(FewKeys), b"\xa2\x61x\x01\x61y\x02\xa0")?;
-    Ok(())
-}
-
 /// Structs whose keys are integers (RFC 8949 section 3.1), of each length of a head.
 #[derive(Drop)]
 struct Integers;
