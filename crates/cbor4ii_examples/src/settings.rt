@@ -94,7 +94,15 @@ impl<S: Source> Deserialize<S> for Settings {
                 ),
             ),
         );
-        de.deserialize_fields(alloc, "Settings", &NAMES, &missing, presences)
+        de.deserialize_fields(
+            alloc,
+            "Settings",
+            &[
+                "host", "port", "verbose", "workers", "cache", "proxy", "plugins", "greeting",
+            ],
+            &missing,
+            presences,
+        )
     }
 }
 
