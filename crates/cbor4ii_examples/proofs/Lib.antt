@@ -8,6 +8,7 @@ pub mod Sealed
 pub mod Stored
 -- What a reader over a line shows.
 pub mod LineShown
+pub mod Taken
 -- Lists that are no shape.
 pub mod Shapes
 -- Trees one after another.
@@ -20,3 +21,7 @@ pub mod SortedValues
 pub mod SameOrder
 -- The next value of a sequence: an item that is cut.
 pub mod CutSequence
+-- The item at the beginning of an input.
+pub mod First
+-- What is written by hand.
+pub mod ByHand

@@ -1,5 +1,7 @@
 -- What the records of a user's own are read and written as, and parts one after another.
 pub mod Then
+-- The item at the beginning of an input.
+pub mod First
 pub mod Station
 pub mod StationLaws
 pub mod Nest
@@ -19,5 +21,7 @@ pub mod Store
 pub mod Sequence
 -- Values whose maps are sorted.
 pub mod Sorted
+-- A map that is written by hand.
+pub mod ByHand
 -- What a reader over a line reports.
 pub mod Line

@@ -1,4 +1,7 @@
-//! Maps of two pairs, one written and one read by hand, with no contract.
+//! Maps of two pairs, one written and one read by hand, the second with no contract.
+ghost use Rattle.std.specs.Prelude.{◌≡◌, IfOk};
+ghost use Rattle.cbor4ii_examples.specs.ByHand.{written_record};
+
 use cbor4ii::dec::{Decode, Source, is_break};
 use cbor4ii::enc::Encode;
 use cbor4ii::error::{DecodeError, EncodeError};
@@ -6,12 +9,19 @@ use cbor4ii::types::{Bytes, Map, Tag};
 use cbor4ii::utils::{BufWriter, TryReserveError};
 use std::alloc::Global;
 
-/// Writes a map of two pairs, by hand.
+/// Writes a map of two pairs, by hand: the number under "id", and under "key" the bytes with the
+/// tag 42.
+///
+/// # Errors
+///
+/// `Write`: there is no memory for the bytes.
 pub fn write_record(
     alloc: Global,
     id: u64,
     key: &[u8],
-) -> Result<Vec<u8>, EncodeError<TryReserveError>> {
+) -> Result<Vec<u8>, EncodeError<TryReserveError>>
+    ensures { IfOk result (λ bytes. bytes.items ≡ written_record id key.now) }
+{
     let mut writer = BufWriter::new(Vec::new(alloc));
     Map::bounded(2, &mut writer)?;
     "id".encode(&mut writer)?;

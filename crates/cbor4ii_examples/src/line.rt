@@ -5,7 +5,7 @@
 //! `specs/Line.antt`, `proofs/LineShown.antt` and `proofs/line`, put your crate's name in the place
 //! of this one's, and write an `impl Line`: it is proved for each.
 ghost use Rattle.std.specs.Prelude.{◌≡◌, ◌↔◌, ◌≤◌, ◌<◌, ◌+◌, ◌-◌, min, None, Some, IsTrue, IfOk};
-ghost use Rattle.std.specs.Prelude.{IfErr, IfSome, IfNone, MatchOption, vec_len};
+ghost use Rattle.std.specs.Prelude.{IfErr, IfSome, IfNone, MatchOption, drop, vec_len};
 ghost use Rattle.std.specs.Borrow.{sem};
 ghost use Rattle.std.specs.Io.BufRead.{Rests};
 ghost use Rattle.std.proofs.Common.{rules};
@@ -83,9 +83,10 @@ impl Ready {
         Ok(came > 0)
     }
 
-    /// Takes the first `n` bytes.
+    /// Takes the first `n` bytes. The others stay, in their order.
     fn take(&mut self, n: usize)
         requires { n ≤ self.old.count }
+        ensures bytes { line_ready_bytes self.new ≡ drop n (line_ready_bytes self.old) }
         ensures count { self.new.count + n ≡ self.old.count }
         ensures taken { self.new.taken ≡ self.old.taken + n }
     {
