@@ -3,9 +3,8 @@ use Rattle.std.proofs.Common.{true, ◌-◌, ◌≤◌, length, take, drop, get_
 use Rattle.std.proofs.Common.{◌+◌, ◌<◌, List, [], ◌∷◌, ◌++◌, Result, Ok, Err, Bool, refl, sym, ap}
 use Rattle.std.proofs.Common.{◌∙◌, subst}
 use denote.Ref.{Bor}
-use Rattle.std.specs.Prelude.{◌&&◌, OnOk}
-use Rattle.std.specs.declared.alloc.Global.{Global}
-use Rattle.std.specs.declared.string.String.{String}
+use Rattle.std.specs.Prelude.{◌&&◌, OnOk, IfErr, IsTrue}
+use Rattle.cbor4ii_items.specs.InputError.{is_out_of_memory}
 use Rattle.cbor4ii_rw.specs.View.{View}
 use Rattle.cbor4ii_rw.specs.declared.error.DecodeError.{DecodeError}
 use Rattle.cbor4ii_rw.specs.Reader.{StepsIn, KeepsAllButBudget, step_back}
@@ -14,7 +13,6 @@ use Rattle.cbor4ii_items.specs.Moves.{Moves}
 use Rattle.cbor4ii_items.specs.Laws.Steps.{moves_ok, moves_err}
 use Rattle.cbor4ii_items.specs.Reading.{Runs}
 use Rattle.cbor4ii_items.specs.ReadStrings.{break_at}
-use Rattle.cbor4ii_items.specs.Strings.{text_content}
 use Rattle.cbor4ii_items.specs.Sequences.{count_of, indefinite_of, in_list}
 use Rattle.cbor4ii_items.specs.Laws.Calls.{ok as decoded_ok, err_after, part_then, Leads, of_exact}
 use Rattle.cbor4ii_items.specs.Laws.Calls.{exact_less, exactly_ok}
@@ -22,7 +20,8 @@ use Rattle.cbor4ii_items.specs.Laws.Containers.{both}
 use Rattle.cbor4ii_items.specs.Laws.Running.{kept_alike}
 use Rattle.cbor4ii_items.specs.Laws.SequenceParts.{Begun, count_more, count_done, Stands, Opened}
 use Rattle.cbor4ii_items.specs.Laws.SequenceParts.{indefinite_more, indefinite_done}
-use Rattle.cbor4ii.specs.Fields.{no_field, no_field_rejects, after_changes, name_format, one_change}
+use Rattle.cbor4ii.specs.FieldKey.{FieldKey, key_format, labels_by}
+use Rattle.cbor4ii.specs.Fields.{no_field, no_field_rejects, after_changes, one_change}
 use Rattle.cbor4ii.specs.Fields.{SameChange}
 use Rattle.cbor4ii.specs.Fields.{all_changes, Altered, Alters, Puts}
 use Rattle.cbor4ii.specs.ItemRead.{skipped_format}
@@ -33,8 +32,8 @@ use Rattle.cbor4ii.specs.Structs.{field_pair}
 use Rattle.cbor4ii.specs.Structs.{field_pairs, struct_of}
 use Rattle.cbor4ii.specs.Typed.{Promise, Deserializes}
 use Rattle.cbor4ii.specs.TypedParts.{part_of}
-use Rattle.cbor4ii.proofs.Named.{entry_then}
-use Rattle.cbor4ii.proofs.Names.{names_split, names_none}
+use Rattle.cbor4ii.proofs.Named.{key_err, entry_then}
+use Rattle.cbor4ii.proofs.Labels.{keys_split, keys_none}
 use Rattle.cbor4ii.proofs.Promised.{promised, tell}
 use Rattle.cbor4ii.proofs.Steps.{under_if}
 
@@ -167,47 +166,57 @@ module _ {T P U E : Type 0} (place : Place T P) (p : Promise T) (before after : 
   puts_progress (Ok u) h = h.2.progress
   puts_progress (Err e) h = tt
 
--- ---- which field has a name
+  pub puts_memory : (r : Result U (DecodeError E)) → Puts place p before after a b r
+      → IfErr r (λ e. IsTrue (is_out_of_memory e) → IsTrue p.format.takes_memory)
+  puts_memory (Ok u) h = tt
+  puts_memory (Err e) h = h.memory
 
-module _ {T P V U E : Type 0} (place : Place T P) (p : Promise T) (others : List (Bor (List ℕ)) → Fields V)
-    (names : List (Bor (List ℕ))) (name : List ℕ) (before after : P × V) (a b : View)
-    (r : Result U (DecodeError E)) where
-  pub at_first : (d : Bor (List ℕ)) → 1 ≤ length names
-      → Alters one_change (p.exact && (others (take (length names - 1) (drop 1 names))).exact)
-      (after_name (placed_field place (get_or names 0 d).now p
-      (others (take (length names - 1) (drop 1 names)))) name) before after a b r
-      → Alters one_change (fields_by place p others names).exact
-      (after_name (fields_by place p others names) name) before after a b r
+-- ---- which field has a label
+
+module _ {K T P V U E : Type 0} (key : K → Bor (List ℕ)) (place : Place T P) (p : Promise T)
+    (others : List (Bor (List ℕ)) → Fields V) (keys : List K) (label : List ℕ)
+    (before after : P × V) (a b : View) (r : Result U (DecodeError E)) where
+  pub at_first : (d : K) → 1 ≤ length keys
+      → Alters one_change
+      (p.exact && (others (labels_by key (take (length keys - 1) (drop 1 keys)))).exact)
+      (after_name (placed_field place (key (get_or keys 0 d)).now p
+      (others (labels_by key (take (length keys - 1) (drop 1 keys))))) label) before after a b r
+      → Alters one_change (fields_by place p others (labels_by key keys)).exact
+      (after_name (fields_by place p others (labels_by key keys)) label) before after a b r
   at_first d some h =
-      subst (λ f. Alters one_change f.exact (after_name f name) before after a b r)
-      (ap (fields_by place p others) (sym (names_split names d some))) h
+      subst (λ f. Alters one_change f.exact (after_name f label) before after a b r)
+      (ap (fields_by place p others) (sym (keys_split key keys d some))) h
 
-  pub at_none : length names < 1
+  pub at_none : length keys < 1
       → Alters one_change (p.exact && (others []).exact)
-      (after_name (unnamed_field place p (others []))
-      name) before
-      after a b r
-      → Alters one_change (fields_by place p others names).exact
-      (after_name (fields_by place p others names) name) before after a b r
+      (after_name (unnamed_field place p (others [])) label) before after a b r
+      → Alters one_change (fields_by place p others (labels_by key keys)).exact
+      (after_name (fields_by place p others (labels_by key keys)) label) before after a b r
   at_none less h =
-      subst (λ f. Alters one_change f.exact (after_name f name) before after a b r)
-      (ap (fields_by place p others) (sym (names_none names less))) h
+      subst (λ f. Alters one_change f.exact (after_name f label) before after a b r)
+      (ap (fields_by place p others) (sym (keys_none key keys less))) h
 
 -- ---- a pair
 
-module _ {V E : Type 0} (f : Fields V) {a m : View} {name : String Global}
-    (d : Decodes {E = E} name_format a m (Ok name)) where
+module _ {V E : Type 0} (key : FieldKey) (f : Fields V) {a m : View} {label : List ℕ}
+    (d : Decodes {E = E} (key_format key) a m (Ok label)) where
   pub entry_alters : {U : Type 0} (r : Result U (DecodeError E)) (b : View) (first last : V)
-      → Alters one_change f.exact (after_name f (text_content name)) first last m b r
-      → Alters one_change f.exact (field_pair f) first last a b r
+      → Alters one_change f.exact (after_name f label) first last m b r
+      → Alters one_change f.exact (field_pair key f) first last a b r
   entry_alters (Ok u) b first last h = record {
     what = h.what;
-    read = exactly_ok (entry_then f.named f.rejects f.begins (SameChange f.same) f.owned d
+    read = exactly_ok (entry_then key f.named f.rejects f.begins (SameChange f.same) f.owned d
         (Ok h.what) (of_exact {exact = f.exact} h.read));
     is = h.is;
   }
   entry_alters (Err e) b first last h =
-      entry_then f.named f.rejects f.begins (SameChange f.same) f.owned d (Err e) h
+      entry_then key f.named f.rejects f.begins (SameChange f.same) f.owned d (Err e) h
+
+-- the key was rejected
+pub entry_rejected : {V E : Type 0} (key : FieldKey) (f : Fields V) {a m : View}
+    {e : DecodeError E} → Decodes (key_format key) a m (Err e)
+    → DecodesIf f.exact (field_pair key f) a m (Err e)
+entry_rejected key f d = key_err key f.named f.rejects f.begins (SameChange f.same) f.owned d
 
 -- ---- pairs, one after another
 
@@ -216,59 +225,59 @@ changed_last : {V : Type 0} (values : V) (changes : List (V → V)) (change : V 
 changed_last values [] change = refl
 changed_last values (g ∷ changes) change = changed_last (g values) changes change
 
-module _ {V E : Type 0} (f : Fields V) where
+module _ {V E : Type 0} (key : FieldKey) (f : Fields V) where
   made_more : (first : V) {m b : View} {middle last : V} (changes : List (V → V))
-      → middle ≡ after_changes first changes → (t : Altered E one_change (field_pair f) middle last
+      → middle ≡ after_changes first changes → (t : Altered E one_change (field_pair key f) middle last
       m b)
       → last ≡ after_changes first (changes ++ t.what ∷ [])
   made_more first changes is t = t.is ∙ (ap t.what is ∙ sym (changed_last first changes t.what))
 
-module _ {V : Type 0} (f : Fields V) where
+module _ {V : Type 0} (key : FieldKey) (f : Fields V) where
   -- so many pairs
   pub record Definite (i : ℕ) (a m : View) (first last : V) : Type 0 where
     pub changes : List (V → V)
-    pub begun : Begun (field_pair f) i a m changes
+    pub begun : Begun (field_pair key f) i a m changes
     pub is : last ≡ after_changes first changes
 
   pub definite_more : {E : Type 0} {i : ℕ} {a m b : View} {first middle last : V}
-      → Definite i a m first middle → Altered E one_change (field_pair f) middle last m b
+      → Definite i a m first middle → Altered E one_change (field_pair key f) middle last m b
       → Definite (i + 1) a b first last
   definite_more {first = first} h t = record {
     changes = h.changes ++ t.what ∷ [];
-    begun = count_more (field_pair f) h.begun t.read.moves.by t.read.sound refl;
-    is = made_more f first h.changes h.is t;
+    begun = count_more (field_pair key f) h.begun t.read.moves.by t.read.sound refl;
+    is = made_more key f first h.changes h.is t;
   }
 
   pub definite_done : {E : Type 0} {i count : ℕ} {a m : View} {first last : V}
       → Definite i a m first last → i ≡ count
-      → Altered E all_changes (count_of in_list (field_pair f) count) first last a m
+      → Altered E all_changes (count_of in_list (field_pair key f) count) first last a m
   definite_done h all = record {
     what = h.changes;
-    read = count_done in_list (field_pair f) h.begun all;
+    read = count_done in_list (field_pair key f) h.begun all;
     is = h.is;
   }
 
   -- pairs, with a break in the place of none of them
   pub record Unended (a m : View) (first last : V) : Type 0 where
     pub changes : List (V → V)
-    pub opened : Opened (field_pair f) a m changes
+    pub opened : Opened (field_pair key f) a m changes
     pub is : last ≡ after_changes first changes
 
   pub unended_more : {E : Type 0} {a l m b : View} {first middle last : V}
-      → Unended a l first middle → Stands l m → Altered E one_change (field_pair f) middle last m b
+      → Unended a l first middle → Stands l m → Altered E one_change (field_pair key f) middle last m b
       → Unended a b first last
   unended_more {first = first} h s t = record {
     changes = h.changes ++ t.what ∷ [];
-    opened = indefinite_more (field_pair f) refl h.opened s t.read.moves.by t.read.sound refl;
-    is = made_more f first h.changes h.is t;
+    opened = indefinite_more (field_pair key f) refl h.opened s t.read.moves.by t.read.sound refl;
+    is = made_more key f first h.changes h.is t;
   }
 
   pub unended_done : {E : Type 0} (name : List ℕ) {ended : Bool} {a l b : View} {first last : V}
       → ended ≡ true → Unended a l first last → Runs {E = E} break_at l b (Ok ended)
-      → Altered E all_changes (indefinite_of in_list name (field_pair f)) first last a b
+      → Altered E all_changes (indefinite_of in_list name (field_pair key f)) first last a b
   unended_done name is h q = record {
     what = h.changes;
-    read = indefinite_done in_list name (field_pair f) is h.opened q;
+    read = indefinite_done in_list name (field_pair key f) is h.opened q;
     is = h.is;
   }
 
@@ -303,17 +312,17 @@ module _ {W V U E : Type 0} (makes : W → V → V) (exact : Bool) (before after
 -- ---- the values
 
 -- what was there before any pair
-pub from_first : {V E : Type 0} (f : Fields V) {before after : V} {a b : View} → before ≡ f.first
-    → Altered E all_changes (field_pairs f) before after a b
-    → Altered E all_changes (field_pairs f) f.first after a b
-from_first {E = E} f {after = after} {a = a} {b = b} is =
-    subst (λ (first : _). Altered E all_changes (field_pairs f) first after a b) is
+pub from_first : {V E : Type 0} (key : FieldKey) (f : Fields V) {before after : V} {a b : View} → before ≡ f.first
+    → Altered E all_changes (field_pairs key f) before after a b
+    → Altered E all_changes (field_pairs key f) f.first after a b
+from_first {E = E} key f {after = after} {a = a} {b = b} is =
+    subst (λ (first : _). Altered E all_changes (field_pairs key f) first after a b) is
 
-module _ {V W E : Type 0} (values : W → V) (f : Fields V) {a b : View} where
-  pub filled_ok : {w : W} → Altered E all_changes (field_pairs f) f.first (values w) a b
-      → Decodes {E = E} (struct_of values f).format a b (Ok w)
+module _ {V W E : Type 0} (values : W → V) (key : FieldKey) (f : Fields V) {a b : View} where
+  pub filled_ok : {w : W} → Altered E all_changes (field_pairs key f) f.first (values w) a b
+      → Decodes {E = E} (struct_of values key f).format a b (Ok w)
   filled_ok h =
-      decoded_ok (struct_of values f).format h.read.moves.by (λ some. h.read.progress refl)
+      decoded_ok (struct_of values key f).format h.read.moves.by (λ some. h.read.progress refl)
       (record {
         at = λ xs known. let p = h.read.sound.at xs known in record {
           count = p.count;
@@ -324,10 +333,10 @@ module _ {V W E : Type 0} (values : W → V) (f : Fields V) {a b : View} where
         };
       })
 
-  pub filled_err : {e : DecodeError E} → DecodesIf f.exact (field_pairs f) a b (Err e)
-      → DecodesIf f.exact (struct_of values f).format a b (Err e)
+  pub filled_err : {e : DecodeError E} → DecodesIf f.exact (field_pairs key f) a b (Err e)
+      → DecodesIf f.exact (struct_of values key f).format a b (Err e)
   filled_err =
-      err_after (field_pairs f) (struct_of values f).format (kept_alike a) (λ xs known. (
+      err_after (field_pairs key f) (struct_of values key f).format (kept_alike a) (λ xs known. (
         xs,
         known,
         record {
@@ -337,10 +346,10 @@ module _ {V W E : Type 0} (values : W → V) (f : Fields V) {a b : View} where
         },
       )) (λ o. o) (λ takes. refl)
 
-  pub struct_ok : {w : W} → Altered E all_changes (field_pairs f) f.first (values w) a b
-      → Deserializes {E = E} (struct_of values f) a b (Ok w)
-  struct_ok h = promised (struct_of values f) (of_exact (filled_ok h))
+  pub struct_ok : {w : W} → Altered E all_changes (field_pairs key f) f.first (values w) a b
+      → Deserializes {E = E} (struct_of values key f) a b (Ok w)
+  struct_ok h = promised (struct_of values key f) (of_exact (filled_ok h))
 
-  pub struct_err : {e : DecodeError E} → DecodesIf f.exact (field_pairs f) a b (Err e)
-      → Deserializes (struct_of values f) a b (Err e)
-  struct_err d = promised (struct_of values f) (filled_err d)
+  pub struct_err : {e : DecodeError E} → DecodesIf f.exact (field_pairs key f) a b (Err e)
+      → Deserializes (struct_of values key f) a b (Err e)
+  struct_err d = promised (struct_of values key f) (filled_err d)

@@ -30,10 +30,10 @@ pub mod Filling
 pub mod Making
 pub mod Checking
 pub mod Raws
+pub mod Labels
 pub mod Names
 pub mod Casing
 pub mod Apart
 pub mod Tags
 pub mod Keying
-pub mod KeyedFilling
 pub mod KeyMemory

@@ -1,25 +1,23 @@
--- A name, and what follows it.
+-- A key, and what follows it.
 use Rattle.std.proofs.Common.{◌+◌, inl, inr, ℕ, List, drop, Result, Ok, Err, Bool, max, refl}
 use Rattle.std.proofs.Common.{subst, arith}
-use Rattle.std.specs.declared.alloc.Global.{Global}
-use Rattle.std.specs.declared.string.String.{String}
 use Rattle.cbor4ii_rw.specs.View.{View}
 use Rattle.cbor4ii_rw.specs.declared.error.DecodeError.{DecodeError}
 use Rattle.cbor4ii_items.specs.Decoding.{Reads, NoneRead, Decodes, DecodesIf}
-use Rattle.cbor4ii_items.specs.Strings.{text_content}
 use Rattle.cbor4ii_items.specs.Laws.Calls.{ok_after, err_after, of_exact, exactly_ok}
 use Rattle.cbor4ii_items.specs.Laws.Prefixes.{drop_more}
 use Rattle.cbor4ii_items.specs.Laws.Pairs.{less_max_left, less_max_right}
 use Rattle.cbor4ii_items.specs.Laws.Running.{kept_alike}
 use Rattle.cbor4ii_items.specs.Laws.SequenceParts.{fits_less, fits_max}
-use Rattle.cbor4ii.specs.Fields.{RejectsNamed, name_laws, name_format, named_part, named_pair}
+use Rattle.cbor4ii.specs.FieldKey.{FieldKey, key_format}
+use Rattle.cbor4ii.specs.Fields.{RejectsNamed, named_part, keyed_pair}
 
-module _ {W E : Type 0} (named : List ℕ → Reads W) (rejects begins : RejectsNamed)
-    (same : W → W → Type 0) (owned : Bool) {a m : View} where
-  pub name_err : {exact : Bool} {e : DecodeError E} → Decodes name_format a m (Err e)
-      → DecodesIf exact (named_pair named rejects begins same owned) a m (Err e)
-  name_err d =
-      err_after name_format (named_pair named rejects begins same owned) (kept_alike a)
+module _ {W E : Type 0} (key : FieldKey) (named : List ℕ → Reads W)
+    (rejects begins : RejectsNamed) (same : W → W → Type 0) (owned : Bool) {a m : View} where
+  pub key_err : {exact : Bool} {e : DecodeError E} → Decodes (key_format key) a m (Err e)
+      → DecodesIf exact (keyed_pair key named rejects begins same owned) a m (Err e)
+  key_err d =
+      err_after (key_format key) (keyed_pair key named rejects begins same owned) (kept_alike a)
       (λ xs known. (
         xs,
         known,
@@ -32,25 +30,25 @@ module _ {W E : Type 0} (named : List ℕ → Reads W) (rejects begins : Rejects
         },
       )) (λ owned. refl) (λ takes. takes) (of_exact d)
 
-  module _ {name : String Global} (d : Decodes {E = E} name_format a m (Ok name)) where
-    no_value : (xs : List ℕ) (i k : ℕ) → name_format.reads xs name i k
-        → NoneRead (named (text_content name)) (drop i xs) a.budget
-        → NoneRead (named_pair named rejects begins same owned).reads xs a.budget
+  module _ {label : List ℕ} (d : Decodes {E = E} (key_format key) a m (Ok label)) where
+    no_value : (xs : List ℕ) (i k : ℕ) → key.reads xs label i k
+        → NoneRead (named label) (drop i xs) a.budget
+        → NoneRead (keyed_pair key named rejects begins same owned).reads xs a.budget
     no_value xs i k read none g n c q fits =
-        let is = name_laws.one xs q.0 name q.1.key_size i q.1.key_cost k q.1.key read in
+        let is = key.laws.one xs q.0 label q.1.key_size i q.1.key_cost k q.1.key read in
         none g q.1.value_size q.1.value_cost
         (subst (λ z. named z (drop i xs) g q.1.value_size q.1.value_cost) is.2
-        (subst (λ j. named (text_content q.0) (drop j xs) g q.1.value_size q.1.value_cost) is.0
+        (subst (λ j. named q.0 (drop j xs) g q.1.value_size q.1.value_cost) is.0
         q.1.value))
         (fits_less q.1.value_cost c a.budget
         (less_max_right c q.1.key_cost q.1.value_cost q.1.cost) fits)
 
     pub entry_then : {exact : Bool} {b : View} (r : Result W (DecodeError E))
-        → DecodesIf exact (named_part named rejects begins same owned (text_content name)) m b r
-        → DecodesIf exact (named_pair named rejects begins same owned) a b r
+        → DecodesIf exact (named_part named rejects begins same owned label) m b r
+        → DecodesIf exact (keyed_pair key named rejects begins same owned) a b r
     entry_then {b = b} (Ok w) h = of_exact (
-        ok_after (named_part named rejects begins same owned (text_content name))
-        (named_pair named rejects begins same owned) d.moves.by (λ xs known.
+        ok_after (named_part named rejects begins same owned label)
+        (keyed_pair key named rejects begins same owned) d.moves.by (λ xs known.
         let p = d.sound.at xs known in (
           drop p.count xs,
           p.left,
@@ -58,7 +56,7 @@ module _ {W E : Type 0} (named : List ℕ → Reads W) (rejects begins : Rejects
             count = p.count + n;
             cost = max p.cost c;
             read = (
-              name,
+              label,
               record {
                 key_size = p.count;
                 key_cost = p.cost;
@@ -75,26 +73,26 @@ module _ {W E : Type 0} (named : List ℕ → Reads W) (rejects begins : Rejects
           },
         )) (λ some. omega (arith, d.progress refl, h.moves.by.bound)) (exactly_ok h))
     entry_then (Err e) h =
-        err_after (named_part named rejects begins same owned (text_content name))
-        (named_pair named rejects begins same owned) d.moves.by (λ xs known.
+        err_after (named_part named rejects begins same owned label)
+        (keyed_pair key named rejects begins same owned) d.moves.by (λ xs known.
         let p = d.sound.at xs known in (
           drop p.count xs,
           p.left,
           record {
             none = λ is. no_value xs p.count p.cost p.read;
             rejects = λ z ys h. inr (record {
-              whole = name;
+              label = label;
               size = p.count;
               cost = p.cost;
-              name = p.read;
+              whole = p.read;
               fits = p.fits;
               stop = h;
             });
             begins = λ z ys h. inr (record {
-              whole = name;
+              label = label;
               size = p.count;
               cost = p.cost;
-              name = p.read;
+              whole = p.read;
               fits = p.fits;
               stop = h;
             });

@@ -5,111 +5,34 @@ use Rattle.std.proofs.Common.{refl, sym, ap, ap₂, ◌∙◌, subst, arith, ◌
 use Rattle.std.proofs.Math.Seq.{take-length}
 use Rattle.std.proofs.Math.Seq.{take-append_seam}
 use Rattle.std.proofs.lemmas.List.{length-take-le, take-append-drop, append_assoc}
-use Rattle.std.proofs.lemmas.Str.{IsUtf8-string_bytes}
-use Rattle.std.specs.Prelude.{IsUtf8}
+use Rattle.std.specs.Prelude.{IsUtf8, IfSome, Option, None, Some, true, codes}
 use Rattle.std.specs.declared.alloc.Global.{Global}
 use Rattle.std.specs.declared.string.String.{String}
 use denote.Ref.{Bor}
 use Rattle.cbor4ii_rw.specs.View.{View, IfKnown}
 use Rattle.cbor4ii_rw.specs.Reader.{Shows, Advances, IsPrefix}
 use Rattle.cbor4ii_rw.specs.declared.error.DecodeError.{DecodeError}
-use Rattle.cbor4ii_items.specs.Decoding.{Decodes}
+use Rattle.cbor4ii_items.specs.Decoding.{Decodes, Format, NoneRead}
 use Rattle.cbor4ii_items.specs.Budget.{CostFits}
 use Rattle.cbor4ii_items.specs.Head.{Width, in_first, one, two, four, eight, head, byte_count}
 use Rattle.cbor4ii_items.specs.Head.{HeadFits}
 use Rattle.cbor4ii_items.specs.Heads.{ReadsHead}
 use Rattle.cbor4ii_items.specs.Lent.{Stays}
-use Rattle.cbor4ii_items.specs.Strings.{ReadsDefiniteString, text_content}
+use Rattle.cbor4ii_items.specs.InputError.{InputError, input_error_of}
+use Rattle.cbor4ii_items.specs.Strings.{ReadsDefiniteString, ReadsText, ReadsTextAs, RejectsText}
+use Rattle.cbor4ii_items.specs.Strings.{text_content}
+use Rattle.cbor4ii_items.specs.Laws.StringsApart.{text_apart}
 use Rattle.cbor4ii_items.specs.Laws.Answering.{fits_zero}
 use Rattle.cbor4ii_items.specs.Laws.Calls.{ok, err_after, of_exact, decodes_exactly}
 use Rattle.cbor4ii_items.specs.Laws.Contents.{lends_prefix, first_bytes}
-use Rattle.cbor4ii_items.specs.Laws.Steps.{kept_then}
-use Rattle.cbor4ii.specs.Fields.{name_format}
+use Rattle.cbor4ii_items.specs.Laws.Steps.{kept_then, moves_err}
+use Rattle.cbor4ii.specs.FieldKey.{FieldKey, key_format, text_key}
 use Rattle.cbor4ii_items.specs.Laws.Heads.{rest_after_head}
 use Rattle.cbor4ii.specs.Names.{StandsAt, StandsAfter, IfWholeAfter, IsWholeName, IfWhole}
-use Rattle.cbor4ii.specs.Names.{NameAt, TakesName}
+use Rattle.cbor4ii.specs.Names.{KeyAt, TakesKey}
 use Rattle.cbor4ii.specs.declared.serde.de.names.Seen.{Seen}
 use Rattle.cbor4ii.specs.declared.serde.de.names.Seen.TheVariants.{Whole, Cut, Other}
-use Rattle.cbor4ii.specs.ReadBack.{text_of}
-
--- ---- the place
-
--- the names before this place are others
-abbrev pub Others : List ℕ → List (Bor (List ℕ)) → ℕ → Type 0
-Others name names at = (j : ℕ) (d : Bor (List ℕ)) → j < at → name ≢ (get_or names j d).now
-
-same_item : (names : List (Bor (List ℕ))) (i : ℕ) (d e : Bor (List ℕ)) → i < length names
-    → get_or names i d ≡ get_or names i e
-same_item [] i d e less = absurd (omega (arith, less))
-same_item (own ∷ names) zero d e less = refl
-same_item (own ∷ names) (suc i) d e less = same_item names i d e (omega (arith, less))
-
-stands_by : (name : List ℕ) (names : List (Bor (List ℕ))) (at : ℕ) → Others name names at
-    → at ≤ length names
-    → ((d : Bor (List ℕ)) → at < length names → name ≡ (get_or names at d).now)
-    → StandsAt name names at
-stands_by name [] at others within same = tt
-stands_by name (own ∷ names) zero others within same = same own (omega arith)
-stands_by name (own ∷ names) (suc at) others within same = (
-  others 0 own (omega arith),
-  stands_by name names at (λ j d less. others (suc j) d (omega (arith, less)))
-      (omega (arith, within)) (λ d less. same d (omega (arith, less))),
-)
-
--- one is the name
-pub stands_here : (name : List ℕ) (names : List (Bor (List ℕ))) (at : ℕ) (d : Bor (List ℕ))
-    → Others name names at → at < length names → name ≡ (get_or names at d).now
-    → StandsAt name names at
-stands_here name names at d others less is =
-    stands_by name names at others (omega (arith, less)) (λ e h.
-    is ∙ ap (λ (s : Bor (List ℕ)). s.now) (same_item names at d e less))
-
--- none is
-pub stands_nowhere : (name : List ℕ) (names : List (Bor (List ℕ))) (at : ℕ) → Others name names at
-    → at ≡ length names → StandsAt name names (length names)
-stands_nowhere name names at others all =
-    subst (StandsAt name names) all (stands_by name names at others (omega (arith, all))
-    (λ d h. absurd (omega (arith, h, all))))
-
--- ---- by the place
-
-pub some_name : (names : List (Bor (List ℕ))) → 1 ≤ length names → Bor (List ℕ)
-some_name [] some = absurd (omega (arith, some))
-some_name (own ∷ names) some = own
-
--- the first, and those after it
-pub names_split : (names : List (Bor (List ℕ))) (d : Bor (List ℕ)) → 1 ≤ length names
-    → names ≡ get_or names 0 d ∷ take (length names - 1) (drop 1 names)
-names_split [] d some = absurd (omega (arith, some))
-names_split (own ∷ names) d some =
-    let few : length (own ∷ names) - 1 ≡ length names = omega arith in
-    ap (λ zs. own ∷ zs) (sym (ap (λ j. take j names) few ∙ take-length names))
-
-pub names_none : (names : List (Bor (List ℕ))) → length names < 1 → names ≡ []
-names_none [] less = refl
-names_none (own ∷ names) less = absurd (omega arith)
-
-pub is_first : (name : List ℕ) (names : List (Bor (List ℕ))) (at : ℕ) (d : Bor (List ℕ))
-    → 1 ≤ length names → at ≤ 0 → StandsAt name names at → name ≡ (get_or names 0 d).now
-is_first name [] at d some none h = absurd (omega (arith, some))
-is_first name (own ∷ names) zero d some none h = h
-is_first name (own ∷ names) (suc at) d some none h = absurd (omega (arith, none))
-
-pub is_after : (name : List ℕ) (names : List (Bor (List ℕ))) (at : ℕ) (d : Bor (List ℕ))
-    → 1 ≤ length names → 0 < at → StandsAt name names at
-    → (name ≢ (get_or names 0 d).now) × StandsAt name (take (length names - 1) (drop 1 names))
-    (at - 1)
-is_after name [] at d some more h = absurd (omega (arith, some))
-is_after name (own ∷ names) zero d some more h = absurd (omega (arith, more))
-is_after name (own ∷ names) (suc at) d some more h =
-    let few : length (own ∷ names) - 1 ≡ length names = omega arith in
-    let all : take (length (own ∷ names) - 1) names ≡ names =
-    ap (λ j. take j names) few ∙ take-length names in
-    let less : suc at - 1 ≡ at = omega arith in (
-      h.0,
-      subst (λ zs. StandsAt name zs (suc at - 1)) (sym all)
-          (subst (StandsAt name names) (sym less) h.1),
-    )
+use Rattle.cbor4ii.specs.Typed.{typed_format}
 
 -- ---- a name that stands whole in what is shown
 
@@ -223,21 +146,13 @@ definite_name xs name w n short fits size stands =
       size = omega (arith, size);
     }
 
-small_name : (w : Width) (v : ℕ) → byte_count w ≤ 1 → HeadFits w v → v < 2 ^ 63
-small_name in_first v short fits = omega (arith, fits)
-small_name one v short fits = omega (arith, fits)
-small_name two v short fits = absurd (omega (arith, short))
-small_name four v short fits = absurd (omega (arith, short))
-small_name eight v short fits = absurd (omega (arith, short))
-
 pub takes_shown : {names : List (Bor (List ℕ))} {shown : List ℕ} {at n want : ℕ} {a m b : View}
     → Shows shown a m → IfKnown a.known (IsPrefix want shown) → IsWholeName names shown at n
-    → Advances n m b → NameAt names at a b
+    → Advances n m b → KeyAt text_key names at a b
 takes_shown {n = n} {a = a} s prefix w adv =
     let l = lends_prefix s prefix w.within w.bytes refl adv in
     record {
-      name = w.name;
-      is = (w.utf8, small_name w.width (length w.name) w.short w.fits);
+      label = w.name;
       kept = l.kept;
       progress = omega (arith, w.size, adv.bound, s.bound);
       read = record {
@@ -260,16 +175,17 @@ takes_shown {n = n} {a = a} s prefix w adv =
 
 -- ---- a name that was read as a text
 
+-- a text that the program owns
+abbrev text_format : Format (String Global)
+text_format = typed_format (ReadsTextAs text_content) (λ s t. text_content s ≡ text_content t)
+    (RejectsText (codes "str")) true true
+
 pub takes_text : {E : Type 0} {names : List (Bor (List ℕ))} {at : ℕ} {a b : View}
     {name : String Global} (known_name : List ℕ) → known_name ≡ text_content name
-    → Decodes {E = E} name_format a b (Ok name) → StandsAt known_name names at
-    → NameAt names at a b
+    → Decodes {E = E} text_format a b (Ok name) → StandsAt known_name names at
+    → KeyAt text_key names at a b
 takes_text {names = names} {at = at} {name = name} known_name is d which = record {
-  name = text_content name;
-  is = (
-    IsUtf8-string_bytes name,
-    omega (arith, name.bytes.ok.0, name.bytes.ok.1, name.bytes.small),
-  );
+  label = text_content name;
   kept = d.moves.by;
   progress = d.progress refl;
   read = record {
@@ -284,26 +200,40 @@ takes_text {names = names} {at = at} {name = name} known_name is d which = recor
   which = subst (λ zs. StandsAt zs names at) is which;
 }
 
-pub text_taken : {E : Type 0} {names : List (Bor (List ℕ))} {at : ℕ} {a b : View} (alloc : Global)
-    → (h : NameAt names at a b)
-    → Decodes {E = E} name_format a b (Ok (text_of alloc h.name h.is.0 h.is.1))
-text_taken alloc h = ok name_format h.kept (λ some. h.progress) (record {
-  at = λ xs known. (let p = h.read.at xs known in record {
-    count = p.count;
-    cost = p.cost;
-    read = p.read;
-    fits = p.fits;
-    left = p.left;
-  });
-})
+none_read : (xs : List ℕ) (budget : Option ℕ) (left : Option (List ℕ)) (o : Option InputError)
+    → IfSome o (λ err. (rest : List ℕ) × (left ≡ Some rest)
+    × RejectsText (codes "str") xs budget err rest)
+    → IfSome o (λ err. NoneRead ReadsText xs budget)
+none_read xs budget left None h = tt
+none_read xs budget left (Some err) h =
+    λ name n c p fits. text_apart (codes "str") xs budget err h.0 h.2 name n c p fits
+
+-- what is rejected as a text is no name
+pub no_name : {E : Type 0} {a b : View} {e : DecodeError E} → Decodes text_format a b (Err e)
+    → Decodes (key_format text_key) a b (Err e)
+no_name {a = a} {b = b} {e = e} d = record {
+  moves = moves_err d.moves;
+  progress = λ some. tt;
+  memory = d.memory;
+  sound = tt;
+  complete = λ exact. record {
+    at = λ xs known. none_read xs a.budget b.known (input_error_of e)
+        ((d.rejects exact).at xs known);
+  };
+  rejects = d.rejects;
+  begins = d.begins;
+}
+
+pub key_taken : {E : Type 0} {key : FieldKey} {labels : List (Bor (List ℕ))} {at : ℕ} {a b : View}
+    → (h : KeyAt key labels at a b) → Decodes {E = E} (key_format key) a b (Ok h.label)
+key_taken {key = key} h = ok (key_format key) h.kept (λ some. h.progress) h.read
 
 -- ---- after a look that took nothing
 
 pub stays_takes : {names : List (Bor (List ℕ))} {at : ℕ} {a m b : View} → Stays a m
-    → NameAt names at m b → NameAt names at a b
+    → KeyAt text_key names at m b → KeyAt text_key names at a b
 stays_takes s h = record {
-  name = h.name;
-  is = h.is;
+  label = h.label;
   kept = kept_then s.kept h.kept;
   progress = omega (arith, s.kept.bound, h.progress);
   read = record {
@@ -319,10 +249,10 @@ stays_takes s h = record {
 }
 
 pub then_takes : {E : Type 0} (names : List (Bor (List ℕ))) {a m : View} (b : View)
-    (r : Result ℕ (DecodeError E)) → Stays a m → TakesName names m b r → TakesName names a b r
+    (r : Result ℕ (DecodeError E)) → Stays a m → TakesKey text_key names m b r → TakesKey text_key names a b r
 then_takes names b (Ok at) s h = stays_takes s h
 then_takes names b (Err e) s h =
-    decodes_exactly (err_after name_format name_format s.kept (λ xs known. (
+    decodes_exactly (err_after (key_format text_key) (key_format text_key) s.kept (λ xs known. (
       xs,
       s.known xs known,
       record { none = λ is none. none; rejects = λ z ys stop. stop; begins = λ z ys stop. stop },

@@ -11,9 +11,10 @@ use Rattle.cbor4ii_items.specs.Laws.Sequences.{one_byte}
 use Rattle.cbor4ii_items.specs.InputError.{InputError, mismatch}
 use Rattle.cbor4ii.specs.declared.serde.de.cases.Choice.{Choice}
 use Rattle.cbor4ii.specs.declared.serde.de.cases.Choice.TheVariants.{First, Other}
-use Rattle.cbor4ii.specs.Fields.{ReadsNamedPair, RejectsNamedPair, RejectsNamed, named_pair_laws}
+use Rattle.cbor4ii.specs.FieldKey.{text_key}
+use Rattle.cbor4ii.specs.Fields.{ReadsByKey, RejectsByKey, RejectsNamed, keyed_pair_laws}
 use Rattle.cbor4ii.specs.Fields.{named_part}
-use Rattle.cbor4ii.specs.Fields.{named_pair}
+use Rattle.cbor4ii.specs.Fields.{keyed_pair}
 use Rattle.cbor4ii.specs.Presence.{made_struct}
 use Rattle.cbor4ii.specs.Stepped.{stepped_format, stepped_lawful}
 use Rattle.cbor4ii.specs.Structs.{Fields}
@@ -105,7 +106,7 @@ held_case p = record {
 
 -- a variant that holds named fields, of whose values this becomes
 abbrev pub fields_case : {V W : Type 0} → Fields V → (V → Result W (List ℕ)) → Holding W
-fields_case fields value = held_case (made_struct fields value)
+fields_case fields value = held_case (made_struct text_key fields value)
 
 -- ---- all variants
 
@@ -304,8 +305,8 @@ cases_by h others (own ∷ names) = case own.now h (others names)
 -- a variant's name, and what follows it, by the form
 abbrev pub named_format : {V : Type 0} → Cases V → Bool × ℕ → Format V
 named_format cases form =
-    named_pair (reads_named cases form) (rejects_named cases form) (begins_named cases form)
-    cases.same cases.owned
+    keyed_pair text_key (reads_named cases form) (rejects_named cases form)
+    (begins_named cases form) cases.same cases.owned
 
 -- a variant's form is seen, and then its name and what follows that are read
 pub record ReadsCase {V : Type 0} (cases : Cases V) (xs : List ℕ) (v : V) (n c : ℕ) : Type 0 where
@@ -313,7 +314,7 @@ pub record ReadsCase {V : Type 0} (cases : Cases V) (xs : List ℕ) (v : V) (n c
   pub size : ℕ
   pub seen : ReadsForm xs form size 0
   pub between : ℕ
-  pub named : ReadsNamedPair (reads_named cases form) (drop size xs) v between c
+  pub named : ReadsByKey text_key (reads_named cases form) (drop size xs) v between c
   pub whole : n ≡ size + between
 
 -- a variant's form is seen, and its name, or what follows that, is rejected
@@ -322,7 +323,7 @@ pub record RejectsAfterForm (rejects : Bool × ℕ → RejectsNamed) (xs : List 
   pub form : Bool × ℕ
   pub size : ℕ
   pub seen : ReadsForm xs form size 0
-  pub stop : RejectsNamedPair (rejects form) (drop size xs) budget err rest
+  pub stop : RejectsByKey text_key (rejects form) (drop size xs) budget err rest
 
 -- a variant is rejected: it has neither form, or what comes after its form is rejected
 abbrev pub RejectsCase : (Bool × ℕ → RejectsNamed) → RejectsAt
@@ -362,19 +363,19 @@ module _ {V : Type 0} (cases : Cases V) (is : IsTrue cases.exact) where
     alone = not_exact;
   }
 
-  named_laws : (form : Bool × ℕ) → IsLawfulReading (ReadsNamedPair (reads_named cases form))
+  named_laws : (form : Bool × ℕ) → IsLawfulReading (ReadsByKey text_key (reads_named cases form))
       cases.same true
-  named_laws form = named_pair_laws cases.same (reads_named cases form) (after_laws form)
+  named_laws form = keyed_pair_laws text_key cases.same (reads_named cases form) (after_laws form)
 
   case_one : (xs : List ℕ) (v w : V) (n m c d : ℕ) → ReadsCase cases xs v n c
       → ReadsCase cases xs w m d → (n ≡ m) × (c ≡ d) × cases.same v w
   case_one xs v w n m c d p q =
       let f = form_one xs p.form q.form p.size q.size p.seen q.seen in
-      let moved = subst (λ (form : Bool × ℕ). ReadsNamedPair (reads_named cases form)
+      let moved = subst (λ (form : Bool × ℕ). ReadsByKey text_key (reads_named cases form)
       (drop p.size xs) v p.between c) f.0 p.named in
       let e = (named_laws q.form).one (drop q.size xs) v w p.between q.between c d
-      (subst (λ j. ReadsNamedPair (reads_named cases q.form) (drop j xs) v p.between c) f.1 moved)
-      q.named in
+      (subst (λ j. ReadsByKey text_key (reads_named cases q.form) (drop j xs) v p.between c) f.1
+      moved) q.named in
       (omega (arith, p.whole, q.whole, f.1, e.0), e.1, e.2)
 
   pub case_lawful : IsLawful (cases_inside cases)

@@ -8,7 +8,7 @@ use Rattle.std.proofs.lemmas.List.{append-nil}
 use Rattle.cbor4ii_items.specs.Head.{additional, shortest_width}
 use Rattle.cbor4ii_items.specs.ReadBack.{ReadsBack}
 use Rattle.cbor4ii_items.specs.Sequences.{ReadsPair}
-use Rattle.cbor4ii_items.specs.Strings.{definite_string, text_content}
+use Rattle.cbor4ii_items.specs.Strings.{ReadsText, definite_string}
 use Rattle.cbor4ii_items.specs.Laws.Containers.{both}
 use Rattle.cbor4ii_items.specs.Laws.Heads.{additional-lt, shortest_fits}
 use Rattle.cbor4ii_items.specs.Laws.LeavesBack.{text_back}
@@ -21,13 +21,13 @@ use Rattle.cbor4ii.specs.Cases.{Cases, Holding, case, unit_case, held_case, othe
 use Rattle.cbor4ii.specs.Cases.{reads_named, enum_of}
 use Rattle.cbor4ii.specs.Codec.{Codec, Facts, no_facts, both_facts, Hold, first_hold, others_hold}
 use Rattle.cbor4ii.specs.Codec.{any_value, made_back}
-use Rattle.cbor4ii.specs.CodecFields.{is_apart, is_new, is_name, is_other, are_ascii}
+use Rattle.cbor4ii.specs.CodecFields.{is_apart, is_new, is_other}
 use Rattle.cbor4ii.specs.CodecFields.{FieldCodecs, values_codec}
-use Rattle.cbor4ii.specs.Fields.{ReadsName}
+use Rattle.cbor4ii.specs.FieldKey.{is_name, is_short_ascii}
 use Rattle.cbor4ii.specs.Laws.Backs.{two_back}
 use Rattle.cbor4ii.specs.Laws.StructsBack.{no_dearer}
 use Rattle.cbor4ii.specs.Made.{made_from}
-use Rattle.cbor4ii.specs.ReadBack.{IsReadBack, IsName, text_of}
+use Rattle.cbor4ii.specs.ReadBack.{IsReadBack, IsName}
 use Rattle.cbor4ii.specs.Stepped.{Stepped}
 
 -- ---- enums
@@ -89,7 +89,7 @@ among_apart own name (other ∷ names) h (inr among) =
     among_apart own name names t.1 among
 
 module _ {A B : Type 0} (own : List ℕ) (h : Holding A) (others : CaseCodecs B)
-    (new : IsTrue (is_new own others.names)) where
+    (new : IsTrue (is_new is_short_ascii own others.names)) where
   other_content : (name : List ℕ) (content : Encoding) (v : B) (cost : ℕ) → name ≢ own
       → IsReadBack (others.cases.contents name) content v cost
       → IsReadBack ((case own h others.cases).contents name) content (Other v) cost
@@ -101,7 +101,7 @@ module _ {A B : Type 0} (own : List ℕ) (h : Holding A) (others : CaseCodecs B)
       → VariantBack others.cases others.names encoding v cost
       → VariantBack (case own h others.cases) (own ∷ others.names) encoding (Other v) cost
   other_is_back encoding v cost b =
-      let e = both (are_ascii own && ltb (length own) 256) (is_apart own others.names) new in
+      let e = both (is_short_ascii own) (is_apart own others.names) new in
       let apart = among_apart own b.name others.names e.1 b.among in
       record {
         name = b.name;
@@ -115,7 +115,7 @@ module _ {A B : Type 0} (own : List ℕ) (h : Holding A) (others : CaseCodecs B)
 
   own_is_name : IsName own
   own_is_name =
-      is_name own (both (are_ascii own && ltb (length own) 256) (is_apart own others.names) new).0
+      is_name own (both (is_short_ascii own) (is_apart own others.names) new).0
 
 held_content : {T B : Type 0} (own : List ℕ) (c : Codec T) (cases : Cases B) (content : Encoding)
     (v : T) (cost : ℕ) → IsReadBack c.promise.format.reads content v cost
@@ -124,7 +124,7 @@ held_content own c cases (rejected bytes words) v cost back = tt
 held_content own c cases (encoded bytes) v cost back = λ rest. inl (refl, back rest)
 
 module _ {T B : Type 0} (own : List ℕ) (c : Codec T) (others : CaseCodecs B)
-    (new : IsTrue (is_new own others.names)) where
+    (new : IsTrue (is_new is_short_ascii own others.names)) where
   pub held_is_back : Hold (both_facts c.facts others.facts) → (alloc : Global) (v : Choice T B)
       → by_choice c.stands others.stands v
       → VariantBack (case own (held_case c.promise) others.cases) (own ∷ others.names)
@@ -169,12 +169,12 @@ module _ {T B : Type 0} (own : List ℕ) (c : Codec T) (others : CaseCodecs B)
 
 -- a variant that holds named fields, fewer than 256, and others after it
 abbrev pub variant_of_fields : {V W B : Type 0} (own : List ℕ) (p : FieldCodecs V W)
-    → IsTrue (ltb (length p.names) 256) → (others : CaseCodecs B)
-    → IsTrue (is_new own others.names) → CaseCodecs (Choice W B)
-variant_of_fields own p few = variant own (values_codec p (ltb-true (length p.names) 256 few))
+    → IsTrue (ltb (length p.labels) 256) → (others : CaseCodecs B)
+    → IsTrue (is_new is_short_ascii own others.names) → CaseCodecs (Choice W B)
+variant_of_fields own p few = variant own (values_codec p (ltb-true (length p.labels) 256 few))
 
 module _ {B : Type 0} (own : List ℕ) (others : CaseCodecs B)
-    (new : IsTrue (is_new own others.names)) where
+    (new : IsTrue (is_new is_short_ascii own others.names)) where
   pub unit_is_back : Hold others.facts → (alloc : Global) (v : Choice (Unit {0}) B)
       → by_choice any_value others.stands v
       → VariantBack (case own unit_case others.cases) (own ∷ others.names)
@@ -216,11 +216,9 @@ module _ {B : Type 0} (own : List ℕ) (others : CaseCodecs B)
 next_one : (k : ℕ) → suc k ≡ 1 + k
 next_one k = omega arith
 
-module _ {V : Type 0} (alloc : Global) (cases : Cases V) (name : List ℕ) (v : V)
-    (is : IsName name) where
-  name_is_back : ReadsBack ReadsName (definite_string 3 name) (text_of alloc name is.0 is.1) 0
-  name_is_back =
-      text_back text_content (text_of alloc name is.0 is.1) (omega (arith, is.1)) is.0
+module _ {V : Type 0} (cases : Cases V) (name : List ℕ) (v : V) (is : IsName name) where
+  name_is_back : ReadsBack ReadsText (definite_string 3 name) name 0
+  name_is_back = text_back (λ (text : List ℕ). text) name (omega (arith, is.1)) is.0
 
   alone_is_back : cases.units name v
       → IsReadBack (Stepped (ReadsCase cases)) (encoded (definite_string 3 name)) v 1
@@ -230,8 +228,8 @@ module _ {V : Type 0} (alloc : Global) (cases : Cases V) (name : List ℕ) (v : 
       let low = additional-lt n (shortest_width n) (shortest_fits n (omega (arith, is.1))) in
       let form : Bool × ℕ = (false, first) in
       let nothing : ReadsBack (reads_named cases form name) [] v 0 = λ ys. (stands, refl, refl) in
-      let entry = two_back ReadsName (reads_named cases form name) (definite_string 3 name) []
-      (text_of alloc name is.0 is.1, v) 0 0 name_is_back nothing in (
+      let entry = two_back ReadsText (reads_named cases form name) (definite_string 3 name) []
+      (name, v) 0 0 name_is_back nothing in (
         0,
         record {
           form = form;
@@ -239,9 +237,9 @@ module _ {V : Type 0} (alloc : Global) (cases : Cases V) (name : List ℕ) (v : 
           seen = (refl, (omega (arith, low), refl), refl);
           between = length (definite_string 3 name);
           named = (
-            text_of alloc name is.0 is.1,
-            (subst (λ (bytes : List ℕ). ReadsBack (ReadsPair ReadsName
-                (reads_named cases form name)) bytes (text_of alloc name is.0 is.1, v) 0)
+            name,
+            (subst (λ (bytes : List ℕ). ReadsBack (ReadsPair ReadsText
+                (reads_named cases form name)) bytes (name, v) 0)
                 (append-nil (definite_string 3 name)) entry) rest,
           );
           whole = omega arith;
@@ -256,26 +254,26 @@ module _ {V : Type 0} (alloc : Global) (cases : Cases V) (name : List ℕ) (v : 
   after_is_back (rejected bytes words) cost back = tt
   after_is_back (encoded bytes) cost back = λ rest.
       let form : Bool × ℕ = (true, 0xa1) in
-      let entry = two_back ReadsName (reads_named cases form name) (definite_string 3 name) bytes
-      (text_of alloc name is.0 is.1, v) 0 cost name_is_back back in (
+      let entry = two_back ReadsText (reads_named cases form name) (definite_string 3 name) bytes
+      (name, v) 0 cost name_is_back back in (
         max 0 cost,
         record {
           form = form;
           size = 1;
           seen = (refl, (refl, refl), refl);
           between = length (definite_string 3 name ++ bytes);
-          named = (text_of alloc name is.0 is.1, entry rest);
+          named = (name, entry rest);
           whole = next_one (length (definite_string 3 name ++ bytes));
         },
         ap (λ k. 1 + k) (sym (no_dearer cost)),
       )
 
-pub case_is_back : {V : Type 0} (alloc : Global) (cases : Cases V) (names : List (List ℕ))
+pub case_is_back : {V : Type 0} (cases : Cases V) (names : List (List ℕ))
     (encoding : Encoding) (v : V) (cost : ℕ) → VariantBack cases names encoding v cost
     → IsReadBack (Stepped (ReadsCase cases)) encoding v (1 + cost)
-case_is_back alloc cases names encoding v cost b = elim b.back [
-  | inl u ↦ rw (u.0, u.2) (alone_is_back alloc cases b.name v b.is u.1)
-  | inr k ↦ rw k.1 (after_is_back alloc cases b.name v b.is k.0 cost k.2)
+case_is_back cases names encoding v cost b = elim b.back [
+  | inl u ↦ rw (u.0, u.2) (alone_is_back cases b.name v b.is u.1)
+  | inr k ↦ rw k.1 (after_is_back cases b.name v b.is k.0 cost k.2)
 ]
 
 -- an enum of these variants; `choice` is the one that a value is of
@@ -289,7 +287,7 @@ enum_codec choice make whole vs = record {
   facts = vs.facts;
   back = λ hold alloc r h. made_back (Stepped (ReadsCase vs.cases)) (λ v r. r ≡ make v)
       (vs.encoding (choice r)) (choice r) r (1 + vs.cost (choice r)) (whole r)
-      (case_is_back alloc vs.cases vs.names (vs.encoding (choice r)) (choice r) (vs.cost (choice r))
+      (case_is_back vs.cases vs.names (vs.encoding (choice r)) (choice r) (vs.cost (choice r))
       (vs.back hold alloc (choice r) h));
   one = λ hold r. vs.one hold (choice r);
 }

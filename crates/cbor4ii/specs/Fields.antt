@@ -7,13 +7,10 @@ use Rattle.cbor4ii_rw.specs.declared.error.DecodeError.{DecodeError}
 use Rattle.cbor4ii_items.specs.Decoding.{Reads, RejectsAt, Format, Decodes, DecodesIf}
 use Rattle.cbor4ii_items.specs.Budget.{CostFits}
 use Rattle.cbor4ii.specs.Beginning.{RejectsParts}
+use Rattle.cbor4ii.specs.FieldKey.{FieldKey}
 use Rattle.cbor4ii_items.specs.Sequences.{ReadsSequence, ReadsPair, SamePair, SameElements}
-use Rattle.cbor4ii_items.specs.Strings.{ReadsTextAs, RejectsText, text_content}
 use Rattle.cbor4ii_items.specs.InputError.{InputError}
-use Rattle.std.specs.declared.alloc.Global.{Global}
-use Rattle.std.specs.declared.string.String.{String}
 use Rattle.cbor4ii_items.specs.Laws.Sequences.{sequence_one, sequence_within, sequence_positive}
-use Rattle.cbor4ii_items.specs.Laws.Strings.{text_one, text_within, text_positive}
 use Rattle.cbor4ii_tree.specs.Calls.Ignored.{ReadsTree}
 use Rattle.cbor4ii_tree.specs.Calls.SkippingRejects.{SkippingRejects}
 use Rattle.cbor4ii_tree.specs.Laws.Ignoring.{tree_one, tree_within}
@@ -21,7 +18,6 @@ use Rattle.cbor4ii.specs.Places.{Place}
 use Rattle.cbor4ii.specs.Sequence.{five_small}
 use Rattle.cbor4ii.specs.Tuples.{pair_laws}
 use Rattle.cbor4ii.specs.Typed.{IsLawfulReading, Promise, Deserializes, not_exact, format_of}
-use Rattle.cbor4ii.specs.Typed.{typed_format}
 
 -- what follows a name, read as what becomes of a struct's values
 abbrev pub ReadsNamed : Type 0 → Type 1
@@ -46,13 +42,10 @@ named_field {T} {P} {V} put own reads others name xs change n c =
     ⊎ ((name ≢ own) × (below : V → V) × others name xs below n c
     × (change ≡ λ (values : P × V). (values.0, below values.1)))
 
--- a name, which is a text, and likewise a pair of a name and what follows it
-abbrev pub ReadsName : Reads (String Global)
-ReadsName = ReadsTextAs text_content
-
-abbrev pub ReadsNamedPair : {W : Type 0} → (List ℕ → Reads W) → Reads W
-ReadsNamedPair named xs w n c =
-    (name : String Global) × ReadsPair ReadsName (named (text_content name)) xs (name, w) n c
+-- a key, and what follows it, by its label
+abbrev pub ReadsByKey : {W : Type 0} → FieldKey → (List ℕ → Reads W) → Reads W
+ReadsByKey key named xs w n c =
+    (label : List ℕ) × ReadsPair key.reads (named label) xs (label, w) n c
 
 -- what becomes of the values by changes, one after another
 abbrev pub after_changes : {V : Type 0} → V → List (V → V) → V
@@ -60,9 +53,9 @@ after_changes values [] = values
 after_changes values (change ∷ changes) = after_changes (change values) changes
 
 -- a map of pairs, from the values that are there before any of them
-abbrev pub ReadsFields : {V : Type 0} → V → ReadsNamed V → Reads V
-ReadsFields {V} first named xs values n c =
-    (changes : List (V → V)) × ReadsSequence 5 (ReadsNamedPair named) true xs changes n c
+abbrev pub ReadsFields : {V : Type 0} → FieldKey → V → ReadsNamed V → Reads V
+ReadsFields {V} key first named xs values n c =
+    (changes : List (V → V)) × ReadsSequence 5 (ReadsByKey key named) true xs changes n c
     × (values ≡ after_changes first changes)
 
 -- how what follows a name is rejected
@@ -79,27 +72,26 @@ field_rejects own rejects others name xs budget err rest =
     ((name ≡ own) × rejects xs budget err rest)
     ⊎ ((name ≢ own) × others name xs budget err rest)
 
--- a name is whole, and what follows it is rejected
-pub record RejectsAfterName (rejects : RejectsNamed) (xs : List ℕ) (budget : Option ℕ)
-    (err : InputError) (rest : List ℕ) : Type 0 where
-  pub whole : String Global
+-- a key is whole, and what follows it is rejected
+pub record RejectsAfterKey (key : FieldKey) (rejects : RejectsNamed) (xs : List ℕ)
+    (budget : Option ℕ) (err : InputError) (rest : List ℕ) : Type 0 where
+  pub label : List ℕ
   pub size : ℕ
   pub cost : ℕ
-  pub name : ReadsName xs whole size cost
+  pub whole : key.reads xs label size cost
   pub fits : CostFits cost budget
-  pub stop : rejects (text_content whole) (drop size xs) budget err rest
+  pub stop : rejects label (drop size xs) budget err rest
 
--- a pair's error: that of its name, or that of what follows it
-abbrev pub RejectsNamedPair : RejectsNamed → RejectsAt
-RejectsNamedPair rejects xs budget err rest =
-    RejectsText (codes "str") xs budget err rest ⊎ RejectsAfterName rejects xs budget err rest
+-- a pair's error: that of its key, or that of what follows it
+abbrev pub RejectsByKey : FieldKey → RejectsNamed → RejectsAt
+RejectsByKey key rejects xs budget err rest =
+    key.rejects xs budget err rest ⊎ RejectsAfterKey key rejects xs budget err rest
 
--- The reason: no step is left, the head is rejected, or after some whole pairs no byte is left or a
--- pair is rejected.
--- A map of named fields is rejected.
-abbrev pub RejectsFields : {V : Type 0} → ReadsNamed V → RejectsNamed → RejectsAt
-RejectsFields named rejects =
-    RejectsParts (codes "map") (codes "map") 5 (ReadsNamedPair named) (RejectsNamedPair rejects)
+-- a map of fields is rejected: no step is left, the head is rejected, or after some whole pairs no
+-- byte is left or a pair is rejected
+abbrev pub RejectsFields : {V : Type 0} → FieldKey → ReadsNamed V → RejectsNamed → RejectsAt
+RejectsFields key named rejects =
+    RejectsParts (codes "map") (codes "map") 5 (ReadsByKey key named) (RejectsByKey key rejects)
 
 -- ---- what calls make of the values
 
@@ -201,20 +193,6 @@ module _ {T P V : Type 0} (place : Place T P) (own : List ℕ) {reads : Reads T}
     alone = not_exact;
   }
 
-abbrev pub SameName : String Global → String Global → Type 0
-SameName s t = text_content s ≡ text_content t
-
-pub name_laws : IsLawfulReading ReadsName SameName true
-name_laws = record {
-  one = text_one text_content;
-  within = text_within text_content;
-  positive = λ e. text_positive text_content;
-  alone = not_exact;
-}
-
-abbrev pub name_format : Format (String Global)
-name_format = typed_format ReadsName SameName (RejectsText (codes "str")) true true
-
 -- what follows a name, and may take no byte
 abbrev pub named_part : {W : Type 0} → (List ℕ → Reads W) → (rejects begins : RejectsNamed)
     → (W → W → Type 0) → (owned : Bool) → List ℕ → Format W
@@ -229,29 +207,30 @@ named_part named rejects begins same owned name = record {
   closed = false;
 }
 
--- a name, and what follows it
-abbrev pub named_pair : {W : Type 0} → (List ℕ → Reads W) → (rejects begins : RejectsNamed)
-    → (W → W → Type 0) → (owned : Bool) → Format W
-named_pair named rejects begins same owned =
-    format_of (ReadsNamedPair named) same (RejectsNamedPair rejects) (RejectsNamedPair begins) owned
-    true
+-- a key, and what follows it
+abbrev pub keyed_pair : {W : Type 0} → FieldKey → (List ℕ → Reads W)
+    → (rejects begins : RejectsNamed) → (W → W → Type 0) → (owned : Bool) → Format W
+keyed_pair key named rejects begins same owned =
+    format_of (ReadsByKey key named) same (RejectsByKey key rejects) (RejectsByKey key begins)
+    owned true
 
-pub named_pair_laws : {W : Type 0} (same : W → W → Type 0) (named : List ℕ → Reads W)
-    → ((name : List ℕ) → IsLawfulReading (named name) same false)
-    → IsLawfulReading (ReadsNamedPair named) same true
-named_pair_laws same named laws =
-    let pair : (name : List ℕ) → IsLawfulReading (ReadsPair ReadsName (named name))
-    (SamePair SameName same) true = λ name. pair_laws ReadsName (named name)
-    SameName same true false name_laws (laws name) in
+pub keyed_pair_laws : {W : Type 0} (key : FieldKey) (same : W → W → Type 0)
+    (named : List ℕ → Reads W)
+    → ((label : List ℕ) → IsLawfulReading (named label) same false)
+    → IsLawfulReading (ReadsByKey key named) same true
+keyed_pair_laws key same named laws =
+    let pair : (label : List ℕ) → IsLawfulReading (ReadsPair key.reads (named label))
+    (SamePair (λ (k l : List ℕ). k ≡ l) same) true = λ label. pair_laws key.reads (named label)
+    (λ (k l : List ℕ). k ≡ l) same true false key.laws (laws label) in
     record {
       one = λ xs g h n m c d p q. (
-          let is = (name_laws.one xs p.0 q.0 p.1.key_size q.1.key_size p.1.key_cost q.1.key_cost
+          let is = (key.laws.one xs p.0 q.0 p.1.key_size q.1.key_size p.1.key_cost q.1.key_cost
           p.1.key q.1.key).2 in
-          let e = (pair (text_content q.0)).one xs (p.0, g) (q.0, h) n m c d
-          (subst (λ name. ReadsPair ReadsName (named name) xs (p.0, g) n c) is p.1) q.1 in
+          let e = (pair q.0).one xs (p.0, g) (q.0, h) n m c d
+          (subst (λ label. ReadsPair key.reads (named label) xs (p.0, g) n c) is p.1) q.1 in
           (e.0, e.1, e.2.1));
-      within = λ xs g n c p. (pair (text_content p.0)).within xs (p.0, g) n c p.1;
-      positive = λ e xs g n c p. (pair (text_content p.0)).positive e xs (p.0, g) n c p.1;
+      within = λ xs g n c p. (pair p.0).within xs (p.0, g) n c p.1;
+      positive = λ e xs g n c p. (pair p.0).positive e xs (p.0, g) n c p.1;
       alone = not_exact;
     }
 
@@ -265,13 +244,14 @@ changed_same same v w (g ∷ gs) (h ∷ hs) s p = changed_same same (g v) (h w) 
 
 -- A struct that is made of the values may be exact by it.
 -- One input is read as a map of fields in one way, as values that mean the same.
-pub fields_laws : {V : Type 0} (same : V → V → Type 0) (first : V) (named : ReadsNamed V)
-    → same first first → NamedLaws same named → IsLawfulReading (ReadsFields first named) same true
-fields_laws {V} same first named is laws =
-    let entry = named_pair_laws (SameChange same) named laws in
+pub fields_laws : {V : Type 0} (key : FieldKey) (same : V → V → Type 0) (first : V)
+    (named : ReadsNamed V) → same first first → NamedLaws same named
+    → IsLawfulReading (ReadsFields key first named) same true
+fields_laws {V} key same first named is laws =
+    let entry = keyed_pair_laws key (SameChange same) named laws in
     record {
       one = λ xs v w n m c d p q. (
-          let e = sequence_one 5 five_small (ReadsNamedPair named) true (SameChange same) entry.one
+          let e = sequence_one 5 five_small (ReadsByKey key named) true (SameChange same) entry.one
           xs
           p.0 q.0 n m c d p.1 q.1 in (
             e.0,
@@ -281,8 +261,8 @@ fields_laws {V} same first named is laws =
                 (changed_same same first first p.0 q.0 is e.2)),
           ));
       within = λ xs v n c p.
-          sequence_within 5 five_small (ReadsNamedPair named) true entry.within xs p.0 n c p.1;
+          sequence_within 5 five_small (ReadsByKey key named) true entry.within xs p.0 n c p.1;
       positive =
-          λ e xs v n c p. sequence_positive 5 five_small (ReadsNamedPair named) true xs p.0 n c p.1;
+          λ e xs v n c p. sequence_positive 5 five_small (ReadsByKey key named) true xs p.0 n c p.1;
       alone = not_exact;
     }

@@ -13,7 +13,6 @@ pub mod Variants
 pub mod TypedOnce
 pub mod StructsOnce
 pub mod EnumsOnce
-pub mod KeyedOnce
 pub mod ItemsOnce
 pub mod CharacterOnce
 pub mod Alike

@@ -13,6 +13,7 @@ pub mod Accessing
 pub mod Optional
 pub mod Variants
 pub mod Places
+pub mod FieldKey
 pub mod Fields
 pub mod Borrowed
 pub mod Character
@@ -41,7 +42,6 @@ pub mod CodecElements
 pub mod CodecCases
 pub mod CodecAgrees
 pub mod CodecItems
-pub mod CodecKeyed
 pub mod Held
 pub mod Once
 -- ---- laws

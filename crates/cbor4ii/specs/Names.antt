@@ -11,8 +11,7 @@ use Rattle.cbor4ii_items.specs.InputError.{is_out_of_memory}
 use Rattle.cbor4ii_items.specs.Lent.{Stays}
 use Rattle.cbor4ii_items.specs.Moves.{Kept}
 use Rattle.cbor4ii_items.specs.Strings.{ReadsText}
-use Rattle.cbor4ii.specs.Fields.{name_format}
-use Rattle.cbor4ii.specs.ReadBack.{IsName}
+use Rattle.cbor4ii.specs.FieldKey.{FieldKey, key_format, text_key}
 use Rattle.cbor4ii.specs.declared.serde.de.names.Seen.{Seen}
 use Rattle.cbor4ii.specs.declared.serde.de.names.Seen.TheVariants.{Whole, Cut, Other}
 
@@ -75,27 +74,27 @@ IfWhole names shown (Whole at n) = IsWholeName names shown at n
 IfWhole names shown (Cut n) = Unit {0}
 IfWhole names shown Other = Unit {0}
 
--- a name was taken, and has this place among the names
-pub record NameAt (names : List (Bor (List ℕ))) (at : ℕ) (old new : View) : Type 0 where
-  pub name : List ℕ
-  pub is : IsName name
+-- a key was taken, and has this place among the labels
+pub record KeyAt (key : FieldKey) (labels : List (Bor (List ℕ))) (at : ℕ) (old new : View)
+    : Type 0 where
+  pub label : List ℕ
   pub kept : Kept old new
   pub progress : new.bound + 1 ≤ old.bound
-  pub read : Sound ReadsText old new name
-  pub which : StandsAt name names at
+  pub read : Sound key.reads old new label
+  pub which : StandsAt label labels at
 
--- a name was taken, and has this place among the names; or it was rejected as a text is
-abbrev pub TakesName : {E : Type 0} → List (Bor (List ℕ)) → View → View
+-- a key was taken, and has this place among the labels; or it was rejected
+abbrev pub TakesKey : {E : Type 0} → FieldKey → List (Bor (List ℕ)) → View → View
     → Result ℕ (DecodeError E) → Type 0
-TakesName names old new (Ok at) = NameAt names at old new
-TakesName names old new (Err e) = Decodes name_format old new (Err e)
+TakesKey key labels old new (Ok at) = KeyAt key labels at old new
+TakesKey key labels old new (Err e) = Decodes (key_format key) old new (Err e)
 
 -- Of a name not seen whole nothing is taken. It is rejected as a text; a look asks for no memory.
 -- A name that is seen whole was taken, and has this place among the names, or it was rejected.
 abbrev pub TakesShown : {E : Type 0} → List (Bor (List ℕ)) → View → View
     → Result Seen (DecodeError E) → Type 0
-TakesShown names old new (Ok (Whole at n)) = NameAt names at old new
+TakesShown names old new (Ok (Whole at n)) = KeyAt text_key names at old new
 TakesShown names old new (Ok (Cut n)) = Stays old new
 TakesShown names old new (Ok Other) = Stays old new
 TakesShown names old new (Err e) =
-    Decodes name_format old new (Err e) × (is_out_of_memory e ≡ false)
+    Decodes (key_format text_key) old new (Err e) × (is_out_of_memory e ≡ false)

@@ -3,6 +3,7 @@ use Rattle.std.specs.Prelude.{◌≡◌, ℕ, List, [], ◌∷◌, Option, None,
 use denote.Ref.{Bor}
 use Rattle.cbor4ii.specs.Made.{made_or_rejected}
 use Rattle.cbor4ii.specs.Places.{Place, last_place, only_place, came_last, came_only}
+use Rattle.cbor4ii.specs.FieldKey.{FieldKey}
 use Rattle.cbor4ii.specs.Structs.{Fields, no_more, placed_field, fields_by, struct_of}
 use Rattle.cbor4ii.specs.declared.serde.de.place.Single.{Single}
 use Rattle.cbor4ii.specs.declared.serde.de.place.Single.TheVariants.{Absent, Present, Repeated}
@@ -55,23 +56,27 @@ both_or_words (Ok v) (Err words) = Err words
 both_or_words (Ok v) (Ok others) = Ok (v, others)
 
 -- the values that a struct has of these fields
-abbrev pub made_struct : {V W : Type 0} → Fields V → (V → Result W (List ℕ)) → Promise W
-made_struct fields value = made_or_rejected value (struct_of (λ v. v) fields)
+abbrev pub made_struct : {V W : Type 0} → FieldKey → Fields V → (V → Result W (List ℕ))
+    → Promise W
+made_struct key fields value = made_or_rejected value (struct_of (λ v. v) key fields)
 
 -- ---- a struct, field by field
 
--- the fields of a struct, and what becomes of their values
+-- the fields of a struct, what their keys are, and what becomes of their values
 pub record Shape (V W : Type 0) : Type 1 where
+  pub key : FieldKey
   pub fields : Fields V
   pub value : V → Result W (List ℕ)
 
-abbrev pub no_more_fields : Shape (Unit {0}) (Unit {0})
-no_more_fields = record { fields = no_more; value = λ v. Ok v }
+-- no field, or the end of them, of keys of this kind
+abbrev pub no_more_fields : FieldKey → Shape (Unit {0}) (Unit {0})
+no_more_fields key = record { key = key; fields = no_more; value = λ v. Ok v }
 
 -- a field of this name, whose values stand in this place and become this, and others after it
 abbrev pub shaped_field : {T P A V W : Type 0} → Place T P → (P → Result A (List ℕ)) → List ℕ
     → Promise T → Shape V W → Shape (P × V) (A × W)
 shaped_field place value name p others = record {
+  key = others.key;
   fields = placed_field place name p others.fields;
   value = λ v. both_or_words (value v.0) (others.value v.1);
 }
@@ -95,7 +100,7 @@ single_field name words value = shaped_field only_place (once_or_words words val
 
 -- the values that a struct of this shape has
 abbrev pub struct_from : {V W : Type 0} → Shape V W → Promise W
-struct_from shape = made_struct shape.fields shape.value
+struct_from shape = made_struct shape.key shape.fields shape.value
 
 -- ---- alike
 

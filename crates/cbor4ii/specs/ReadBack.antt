@@ -12,6 +12,7 @@ use Rattle.cbor4ii_items.specs.InputError.{input_error_of}
 use Rattle.cbor4ii_items.specs.ReadBack.{ReadsBack}
 use Rattle.cbor4ii_ser.specs.Item.{Encoding, encoded, IfEncoded}
 pub use Rattle.cbor4ii_ser.specs.Listed.{NamedItems, fields_of}
+pub use Rattle.cbor4ii.specs.FieldKey.{IsName}
 use Rattle.cbor4ii.specs.Fields.{ReadsNamed, after_changes}
 
 -- the item, where there is one, is read as the value at this cost, whatever follows it
@@ -36,10 +37,6 @@ AnswersBack format v others new (Err error) = input_error_of error ≡ None
 
 -- ---- structs
 
--- a name, as every text of the program is
-abbrev pub IsName : List ℕ → Type 0
-IsName name = IsUtf8 name × (length name < 2 ^ 63)
-
 -- the text of these bytes
 abbrev pub text_of : Global → (text : List ℕ) → IsUtf8 text → length text < 2 ^ 63 → String Global
 text_of alloc text utf8 few = record {
@@ -55,26 +52,19 @@ text_of alloc text utf8 few = record {
   ok = ∣ utf8 ∣₁;
 }
 
--- each item is read back after its name or such a label as its change, at the greatest cost of one
-abbrev pub ChangesBackBy : {V : Type 0} → (List ℕ → Type 0) → ReadsNamed V → NamedItems
+-- each item is read back after such a label as its change, at the greatest cost of one
+abbrev pub ChangesBack : {V : Type 0} → (List ℕ → Type 0) → ReadsNamed V → NamedItems
     → List (V → V) → ℕ → Type 0
-ChangesBackBy IsLabel named [] [] cost = cost ≡ 0
-ChangesBackBy IsLabel named [] (change ∷ changes) cost = ⊥
-ChangesBackBy IsLabel named (part ∷ parts) [] cost = ⊥
-ChangesBackBy IsLabel named (part ∷ parts) (change ∷ changes) cost =
+ChangesBack IsLabel named [] [] cost = cost ≡ 0
+ChangesBack IsLabel named [] (change ∷ changes) cost = ⊥
+ChangesBack IsLabel named (part ∷ parts) [] cost = ⊥
+ChangesBack IsLabel named (part ∷ parts) (change ∷ changes) cost =
     (own : ℕ) × (others : ℕ) × IsLabel part.0 × IsReadBack (named part.0) part.1 change own
-    × ChangesBackBy IsLabel named parts changes others × (cost ≡ max own others)
-
-abbrev pub ChangesBack : {V : Type 0} → ReadsNamed V → NamedItems → List (V → V) → ℕ → Type 0
-ChangesBack = ChangesBackBy IsName
+    × ChangesBack IsLabel named parts changes others × (cost ≡ max own others)
 
 -- the items are read back in turn, after such labels, and make these values of the first ones
-pub record FieldsBackBy {V : Type 0} (IsLabel : List ℕ → Type 0) (named : ReadsNamed V)
+pub record FieldsBack {V : Type 0} (IsLabel : List ℕ → Type 0) (named : ReadsNamed V)
     (first values : V) (parts : NamedItems) (cost : ℕ) : Type 0 where
   pub changes : List (V → V)
-  pub each : ChangesBackBy IsLabel named parts changes cost
+  pub each : ChangesBack IsLabel named parts changes cost
   pub made : values ≡ after_changes first changes
-
--- the items are read back in turn, after names, and make these values of the first ones
-abbrev pub FieldsBack : {V : Type 0} → ReadsNamed V → (first values : V) → NamedItems → ℕ → Type 0
-FieldsBack = FieldsBackBy IsName

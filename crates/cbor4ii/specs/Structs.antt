@@ -1,4 +1,4 @@
--- What a struct that is read from its named fields promises, by what its fields do.
+-- What a struct that is read from its fields promises, by what its fields do.
 use Rattle.std.specs.Prelude.{List, [], ◌∷◌, ℕ, ◌&&◌, ◌||◌, Bool, true, false, IsTrue, refl, codes}
 use denote.Ref.{Bor}
 use Rattle.cbor4ii_items.specs.Decoding.{Format, IsLawful, format_by}
@@ -6,7 +6,8 @@ use Rattle.cbor4ii_items.specs.Sequences.{SamePair, in_list}
 use Rattle.cbor4ii_items.specs.Laws.Containers.{both}
 use Rattle.cbor4ii_items.specs.Laws.Formats.{lawful_by}
 use Rattle.cbor4ii.specs.Fields.{ReadsNamed, RejectsNamed, NamedLaws, ReadsFields, RejectsFields}
-use Rattle.cbor4ii.specs.Fields.{SameChange, named_pair_laws, named_part, named_pair, no_field}
+use Rattle.cbor4ii.specs.FieldKey.{FieldKey}
+use Rattle.cbor4ii.specs.Fields.{SameChange, keyed_pair_laws, named_part, keyed_pair, no_field}
 use Rattle.cbor4ii.specs.Fields.{no_values, named_field, no_field_rejects, field_rejects}
 use Rattle.cbor4ii.specs.Fields.{no_field_laws}
 use Rattle.cbor4ii.specs.Fields.{field_laws, fields_laws}
@@ -15,7 +16,7 @@ use Rattle.cbor4ii.specs.Sequence.{sequence_of}
 use Rattle.cbor4ii.specs.Typed.{Promise, format_of, typed_laws, lawful_as, rejects_as_promised}
 use Rattle.cbor4ii.specs.Typed.{any_two}
 
--- the named fields of a struct, one after another
+-- the fields of a struct, one after another
 pub record Fields (V : Type 0) : Type 1 where
   -- what follows a name, and how it is rejected: where acceptance is exact, and over any reader
   pub named : ReadsNamed V
@@ -91,34 +92,36 @@ abbrev pub after_name : {V : Type 0} → Fields V → List ℕ → Format (V →
 after_name fields =
     named_part fields.named fields.rejects fields.begins (SameChange fields.same) fields.owned
 
--- a field's name, and what follows it
-abbrev pub field_pair : {V : Type 0} → Fields V → Format (V → V)
-field_pair fields =
-    named_pair fields.named fields.rejects fields.begins (SameChange fields.same) fields.owned
+-- a field's key, and what follows it
+abbrev pub field_pair : {V : Type 0} → FieldKey → Fields V → Format (V → V)
+field_pair key fields =
+    keyed_pair key fields.named fields.rejects fields.begins (SameChange fields.same)
+    fields.owned
 
-pub named_pair_lawful : {V : Type 0} (fields : Fields V) → IsTrue fields.exact
-    → IsLawful (field_pair fields)
-named_pair_lawful fields is =
-    lawful_as (named_pair_laws (SameChange fields.same) fields.named (fields.laws is))
+pub field_pair_lawful : {V : Type 0} (key : FieldKey) (fields : Fields V) → IsTrue fields.exact
+    → IsLawful (field_pair key fields)
+field_pair_lawful key fields is =
+    lawful_as (keyed_pair_laws key (SameChange fields.same) fields.named (fields.laws is))
 
--- a map of pairs of these fields, by their names
-abbrev pub field_pairs : {V : Type 0} → Fields V → Format (List (V → V))
-field_pairs fields = sequence_of in_list (codes "map") (codes "map") 5 (field_pair fields)
+-- a map of pairs of these fields, by their keys
+abbrev pub field_pairs : {V : Type 0} → FieldKey → Fields V → Format (List (V → V))
+field_pairs key fields = sequence_of in_list (codes "map") (codes "map") 5 (field_pair key fields)
 
-abbrev pub fields_format : {V : Type 0} → Fields V → Format V
-fields_format fields =
-    format_of (ReadsFields fields.first fields.named) fields.same
-    (RejectsFields fields.named fields.rejects) (RejectsFields fields.named fields.begins)
-    fields.owned true
+abbrev pub fields_format : {V : Type 0} → FieldKey → Fields V → Format V
+fields_format key fields =
+    format_of (ReadsFields key fields.first fields.named) fields.same
+    (RejectsFields key fields.named fields.rejects)
+    (RejectsFields key fields.named fields.begins) fields.owned true
 
 -- a struct that has these values of its fields
-abbrev pub struct_of : {V W : Type 0} → (W → V) → Fields V → Promise W
-struct_of values fields = record {
-  format = format_by values (fields_format fields);
+abbrev pub struct_of : {V W : Type 0} → (W → V) → FieldKey → Fields V → Promise W
+struct_of values key fields = record {
+  format = format_by values (fields_format key fields);
   exact = fields.exact;
   known = true;
   reports = λ _. refl;
   some = refl;
-  lawful = λ is. lawful_by values (fields_format fields)
-      (lawful_as (fields_laws fields.same fields.first fields.named fields.alike (fields.laws is)));
+  lawful = λ is. lawful_by values (fields_format key fields)
+      (lawful_as (fields_laws key fields.same fields.first fields.named fields.alike
+      (fields.laws is)));
 }

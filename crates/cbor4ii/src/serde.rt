@@ -27,7 +27,7 @@ pub use de::enum_accessor::EnumAccessor;
 pub use de::error::DecodeError;
 pub use de::fields::{Places, Values};
 pub use de::first::{from_reader, from_slice, from_slice_whole, from_slice_whole_at};
-pub use de::keyed_fields::KeyedValues;
+pub use de::keys::ReadKey;
 pub use de::place::{Place, Single};
 pub use de::presence::{Once, Optional, Or, Presence, Presences, Required};
 pub use de::some_accessor::SomeAccessor;

@@ -13,14 +13,15 @@ use Rattle.cbor4ii.specs.Cases.{unnamed_case, cases_by}
 use Rattle.cbor4ii.specs.Cases.{FirstAnd, OtherAnd, enum_of, reads_named, rejects_named, form_one}
 use Rattle.cbor4ii.specs.Cases.{cases_inside, RejectsCase, ReadsCase, reads_by}
 use Rattle.cbor4ii.specs.Checked.{IsMade, RejectsChecked, checked_from}
-use Rattle.cbor4ii.specs.Fields.{ReadsNamedPair, RejectsNamedPair}
+use Rattle.cbor4ii.specs.FieldKey.{text_key}
+use Rattle.cbor4ii.specs.Fields.{ReadsByKey, RejectsByKey}
 use Rattle.cbor4ii.specs.Made.{ReadsMade}
 use Rattle.cbor4ii.specs.Once.{CasesOnce, HoldingOnce}
 use Rattle.cbor4ii.specs.Typed.{Promise, in_words}
 use Rattle.cbor4ii.specs.Variants.{ReadsForm, RejectsForm}
 use Rattle.cbor4ii.specs.declared.serde.de.cases.Choice.{Choice}
 use Rattle.cbor4ii.specs.declared.serde.de.cases.Choice.TheVariants.{First, Other}
-use Rattle.cbor4ii.specs.Laws.StructsOnce.{named_apart, named_error}
+use Rattle.cbor4ii.specs.Laws.StructsOnce.{pair_apart, pair_error}
 use Rattle.cbor4ii.specs.Laws.TypedOnce.{stepped_once}
 
 -- ---- what one variant holds
@@ -158,11 +159,11 @@ module _ {V : Type 0} (cases : Cases V) (once : CasesOnce cases) where
       begins_form xs budget e x p.form p.size 0 s p.seen
   case_apart xs budget e x (inr s) v n c p fits =
       let f = form_one xs p.form s.form p.size s.size p.seen s.seen in
-      let moved = subst (λ (form : Bool × ℕ). ReadsNamedPair (reads_named cases form)
+      let moved = subst (λ (form : Bool × ℕ). ReadsByKey text_key (reads_named cases form)
       (drop p.size xs) v p.between c) f.0 p.named in
-      named_apart (reads_named cases s.form) (rejects_named cases s.form) (once.apart s.form)
+      pair_apart text_key (reads_named cases s.form) (rejects_named cases s.form) (once.apart s.form)
       (once.one_error s.form) (drop s.size xs) budget e x s.stop v p.between c
-      (subst (λ k. ReadsNamedPair (reads_named cases s.form) (drop k xs) v p.between c) f.1 moved)
+      (subst (λ k. ReadsByKey text_key (reads_named cases s.form) (drop k xs) v p.between c) f.1 moved)
       fits
 
   case_error : OneError (RejectsCase (rejects_named cases))
@@ -173,11 +174,11 @@ module _ {V : Type 0} (cases : Cases V) (once : CasesOnce cases) where
       absurd (begins_form xs budget f y s.form s.size 0 t s.seen)
   case_error xs budget e f x y (inr s) (inr t) =
       let same = form_one xs s.form t.form s.size t.size s.seen t.seen in
-      let moved = subst (λ (form : Bool × ℕ). RejectsNamedPair (rejects_named cases form)
+      let moved = subst (λ (form : Bool × ℕ). RejectsByKey text_key (rejects_named cases form)
       (drop s.size xs) budget e x) same.0 s.stop in
-      named_error (reads_named cases t.form) (rejects_named cases t.form) (once.apart t.form)
+      pair_error text_key (reads_named cases t.form) (rejects_named cases t.form) (once.apart t.form)
       (once.one_error t.form) (drop t.size xs) budget e f x y
-      (subst (λ k. RejectsNamedPair (rejects_named cases t.form) (drop k xs) budget e x) same.1
+      (subst (λ k. RejectsByKey text_key (rejects_named cases t.form) (drop k xs) budget e x) same.1
       moved) t.stop
 
   pub enum_once : RejectsOnce (enum_of cases).format

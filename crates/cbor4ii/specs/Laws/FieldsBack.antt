@@ -5,7 +5,7 @@ use Rattle.cbor4ii_items.specs.Decoding.{Reads}
 use Rattle.cbor4ii_ser.specs.Item.{Encoding, encoded, rejected}
 use Rattle.cbor4ii.specs.Fields.{ReadsNamed, named_field, no_field, no_values, after_changes}
 use Rattle.cbor4ii.specs.Places.{Place}
-use Rattle.cbor4ii.specs.ReadBack.{IsReadBack, NamedItems, ChangesBackBy, FieldsBackBy}
+use Rattle.cbor4ii.specs.ReadBack.{IsReadBack, NamedItems, ChangesBack, FieldsBack}
 
 -- ---- a field before others
 
@@ -26,8 +26,8 @@ module _ {T P V : Type 0} (place : Place T P) (own : List ℕ) (reads : Reads T)
   others_back : (IsLabel : List ℕ → Type 0) (parts : NamedItems) (changes : List (V → V))
       (cost : ℕ)
       → AllByRecursion (λ (part : List ℕ × Encoding). part.0 ≢ own) parts
-      → ChangesBackBy IsLabel named parts changes cost
-      → ChangesBackBy IsLabel (named_field place.put own reads named) parts
+      → ChangesBack IsLabel named parts changes cost
+      → ChangesBack IsLabel (named_field place.put own reads named) parts
       (map changes_others changes) cost
   others_back IsLabel [] [] cost other back = back
   others_back IsLabel [] (change ∷ changes) cost other back = absurd back
@@ -56,10 +56,10 @@ module _ {T P V : Type 0} (place : Place T P) (own : List ℕ) (reads : Reads T)
 
   pub field_back : {IsLabel : List ℕ → Type 0} (first values : V) (parts : NamedItems)
       (cost : ℕ) (item : Encoding) (v : T)
-      (own_cost : ℕ) → FieldsBackBy IsLabel named first values parts cost → IsLabel own
+      (own_cost : ℕ) → FieldsBack IsLabel named first values parts cost → IsLabel own
       → AllByRecursion (λ (part : List ℕ × Encoding). part.0 ≢ own) parts
       → IsReadBack reads item v own_cost
-      → FieldsBackBy IsLabel (named_field place.put own reads named) (place.none, first)
+      → FieldsBack IsLabel (named_field place.put own reads named) (place.none, first)
       (place.put v place.none, values)
       ((own, item) ∷ parts) (max own_cost cost)
   field_back {IsLabel = L} first values parts cost item v own_cost others name apart back = record {
@@ -81,9 +81,9 @@ module _ {T P V : Type 0} (place : Place T P) (own : List ℕ) (reads : Reads T)
   -- where no item has its name, the field stays as it was
   pub no_field_back : {IsLabel : List ℕ → Type 0} (first values : V) (parts : NamedItems)
       (cost : ℕ)
-      → FieldsBackBy IsLabel named first values parts cost
+      → FieldsBack IsLabel named first values parts cost
       → AllByRecursion (λ (part : List ℕ × Encoding). part.0 ≢ own) parts
-      → FieldsBackBy IsLabel (named_field place.put own reads named) (place.none, first)
+      → FieldsBack IsLabel (named_field place.put own reads named) (place.none, first)
       (place.none, values) parts cost
   no_field_back {IsLabel = IsLabel} first values parts cost others apart = record {
     changes = map changes_others others.changes;
@@ -96,5 +96,5 @@ module _ {T P V : Type 0} (place : Place T P) (own : List ℕ) (reads : Reads T)
 -- ---- no field
 
 pub none_back : {IsLabel : List ℕ → Type 0} (values : Unit {0})
-    → FieldsBackBy IsLabel no_field no_values values [] 0
+    → FieldsBack IsLabel no_field no_values values [] 0
 none_back values = record { changes = []; each = refl; made = refl }

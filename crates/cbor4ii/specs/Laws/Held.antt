@@ -37,7 +37,7 @@ use Rattle.cbor4ii_ser.specs.Laws.Joining.{followed_both, followed_nil}
 use Rattle.cbor4ii_ser.specs.Laws.ValueItems.{value_is_item}
 use Rattle.cbor4ii.specs.Any.{ReadsAny}
 use Rattle.cbor4ii.specs.AnyCost.{any_cost}
-use Rattle.cbor4ii.specs.CodecFields.{are_ascii, is_name}
+use Rattle.cbor4ii.specs.FieldKey.{are_ascii, is_name}
 use Rattle.cbor4ii.specs.Held.{IsHeld, AreHeld, AreHeldPairs, IsWrittenAs, AreWrittenAs}
 use Rattle.cbor4ii.specs.Held.{AreWrittenAsPairs}
 use Rattle.cbor4ii.specs.Laws.Shown.{view-Array, view-Map}

@@ -9,15 +9,13 @@ use Rattle.cbor4ii_items.specs.Decoding.{Reads, Format, IsLawful}
 use Rattle.cbor4ii_items.specs.NeverBoth.{NeverBoth}
 use Rattle.cbor4ii_items.specs.OneError.{OneError, RejectsOnce}
 use Rattle.cbor4ii_items.specs.Sequences.{in_list}
-use Rattle.cbor4ii_items.specs.Strings.{text_content}
 use Rattle.cbor4ii_items.specs.Laws.NumbersOnce.{once_by}
 use Rattle.cbor4ii_items.specs.Laws.SequencesApart.{fits_less}
-use Rattle.cbor4ii_items.specs.Laws.StringErrors.{text_error}
-use Rattle.cbor4ii_items.specs.Laws.StringsApart.{text_apart}
 use Rattle.cbor4ii_tree.specs.Basis.Cost.{Budget}
 use Rattle.cbor4ii_tree.specs.Basis.Encodings.{Skips, AtMostOne}
 use Rattle.cbor4ii_tree.specs.Calls.SkippingRejects.{SkippingRejects}
-use Rattle.cbor4ii.specs.Fields.{RejectsNamed, ReadsNamedPair, RejectsNamedPair, name_laws}
+use Rattle.cbor4ii.specs.FieldKey.{FieldKey}
+use Rattle.cbor4ii.specs.Fields.{RejectsNamed, ReadsByKey, RejectsByKey}
 use Rattle.cbor4ii.specs.Made.{RejectsMade, ReadsMade, gives_ok, made_or_rejected}
 use Rattle.cbor4ii.specs.Made.{made_from}
 use Rattle.cbor4ii.specs.Once.{SkippedOnce, FieldsOnce}
@@ -25,7 +23,7 @@ use Rattle.cbor4ii.specs.Places.{Place}
 use Rattle.cbor4ii.specs.Presence.{SameFate, made_struct}
 use Rattle.cbor4ii.specs.Sequence.{five_small}
 use Rattle.cbor4ii.specs.Structs.{Fields, no_more, placed_field, unnamed_field, fields_by}
-use Rattle.cbor4ii.specs.Structs.{field_pair, named_pair_lawful, fields_format, struct_of}
+use Rattle.cbor4ii.specs.Structs.{field_pair, field_pair_lawful, fields_format, struct_of}
 use Rattle.cbor4ii.specs.Typed.{Promise, in_words}
 use Rattle.cbor4ii.specs.Laws.TypedOnce.{sequence_of_once}
 
@@ -100,40 +98,35 @@ made_from_once gives p once = record {
   one_error = once.one_error;
 }
 
--- ---- a name, and what follows it
+-- ---- a key, and what follows it
 
-module _ {W : Type 0} (named : List ℕ → Reads W) (rejects : RejectsNamed)
-    (apart : (name : List ℕ) → NeverBoth (named name) (rejects name))
-    (once : (name : List ℕ) → OneError (rejects name)) where
-  pub named_apart : NeverBoth (ReadsNamedPair named) (RejectsNamedPair rejects)
-  named_apart xs budget e x (inl s) w n c p fits =
-      text_apart (codes "str") xs budget e x s (text_content p.0) p.1.key_size p.1.key_cost p.1.key
+module _ {W : Type 0} (key : FieldKey) (named : List ℕ → Reads W) (rejects : RejectsNamed)
+    (apart : (label : List ℕ) → NeverBoth (named label) (rejects label))
+    (once : (label : List ℕ) → OneError (rejects label)) where
+  pub pair_apart : NeverBoth (ReadsByKey key named) (RejectsByKey key rejects)
+  pair_apart xs budget e x (inl s) w n c p fits =
+      key.apart xs budget e x s p.0 p.1.key_size p.1.key_cost p.1.key
       (fits_less budget p.1.key_cost c (omega (arith, p.1.cost)) fits)
-  named_apart xs budget e x (inr s) w n c p fits =
-      let same = name_laws.one xs p.0 s.whole p.1.key_size s.size p.1.key_cost s.cost p.1.key
-      s.name in
-      let value = subst (λ name. named name (drop p.1.key_size xs) w p.1.value_size p.1.value_cost)
-      same.2 p.1.value in
-      apart (text_content s.whole) (drop s.size xs) budget e x s.stop w p.1.value_size
-      p.1.value_cost
-      (subst (λ k. named (text_content s.whole) (drop k xs) w p.1.value_size p.1.value_cost)
-      same.0 value)
+  pair_apart xs budget e x (inr s) w n c p fits =
+      let same = key.laws.one xs p.0 s.label p.1.key_size s.size p.1.key_cost s.cost p.1.key
+      s.whole in
+      let value = subst (λ label. named label (drop p.1.key_size xs) w p.1.value_size
+      p.1.value_cost) same.2 p.1.value in
+      apart s.label (drop s.size xs) budget e x s.stop w p.1.value_size p.1.value_cost
+      (subst (λ k. named s.label (drop k xs) w p.1.value_size p.1.value_cost) same.0 value)
       (fits_less budget p.1.value_cost c (omega (arith, p.1.cost)) fits)
 
-  pub named_error : OneError (RejectsNamedPair rejects)
-  named_error xs budget e f x y (inl s) (inl t) =
-      text_error (codes "str") xs budget e f x y s t
-  named_error xs budget e f x y (inl s) (inr t) =
-      absurd (text_apart (codes "str") xs budget e x s (text_content t.whole) t.size t.cost t.name
-      t.fits)
-  named_error xs budget e f x y (inr s) (inl t) =
-      absurd (text_apart (codes "str") xs budget f y t (text_content s.whole) s.size s.cost s.name
-      s.fits)
-  named_error xs budget e f x y (inr s) (inr t) =
-      let same = name_laws.one xs s.whole t.whole s.size t.size s.cost t.cost s.name t.name in
-      let stop = subst (λ name. rejects name (drop s.size xs) budget e x) same.2 s.stop in
-      once (text_content t.whole) (drop t.size xs) budget e f x y
-      (subst (λ k. rejects (text_content t.whole) (drop k xs) budget e x) same.0 stop) t.stop
+  pub pair_error : OneError (RejectsByKey key rejects)
+  pair_error xs budget e f x y (inl s) (inl t) = key.one_error xs budget e f x y s t
+  pair_error xs budget e f x y (inl s) (inr t) =
+      absurd (key.apart xs budget e x s t.label t.size t.cost t.whole t.fits)
+  pair_error xs budget e f x y (inr s) (inl t) =
+      absurd (key.apart xs budget f y t s.label s.size s.cost s.whole s.fits)
+  pair_error xs budget e f x y (inr s) (inr t) =
+      let same = key.laws.one xs s.label t.label s.size t.size s.cost t.cost s.whole t.whole in
+      let stop = subst (λ label. rejects label (drop s.size xs) budget e x) same.2 s.stop in
+      once t.label (drop t.size xs) budget e f x y
+      (subst (λ k. rejects t.label (drop k xs) budget e x) same.0 stop) t.stop
 
 -- ---- fields by their names
 
@@ -183,31 +176,32 @@ fields_by_once place p others skipped part rest (own ∷ trailing) =
 
 -- ---- structs
 
-module _ {V : Type 0} (fields : Fields V) (is : IsTrue fields.exact)
+module _ {V : Type 0} (key : FieldKey) (fields : Fields V) (is : IsTrue fields.exact)
     (once : FieldsOnce fields) where
-  field_pair_once : RejectsOnce (field_pair fields)
+  field_pair_once : RejectsOnce (field_pair key fields)
   field_pair_once = record {
-    apart = named_apart fields.named fields.rejects once.apart once.one_error;
-    one_error = named_error fields.named fields.rejects once.apart once.one_error;
+    apart = pair_apart key fields.named fields.rejects once.apart once.one_error;
+    one_error = pair_error key fields.named fields.rejects once.apart once.one_error;
   }
 
-  pub fields_once : RejectsOnce (fields_format fields)
+  pub fields_once : RejectsOnce (fields_format key fields)
   fields_once =
       let pairs = sequence_of_once in_list (codes "map") (codes "map") 5 five_small
-      (field_pair fields) (named_pair_lawful fields is) field_pair_once in
+      (field_pair key fields) (field_pair_lawful key fields is) field_pair_once in
       record {
         apart = λ xs budget e x r v n c p. pairs.apart xs budget e x r p.0 n c p.1;
         one_error = pairs.one_error;
       }
 
-  pub struct_once : {W : Type 0} (values : W → V) → RejectsOnce (struct_of values fields).format
-  struct_once values = once_by values (fields_format fields) fields_once
+  pub struct_once : {W : Type 0} (values : W → V) → RejectsOnce (struct_of values key fields).format
+  struct_once values = once_by values (fields_format key fields) fields_once
 
 -- what a struct makes of its fields, or rejects in words
-pub made_struct_once : {V W : Type 0} (fields : Fields V) (value : V → Result W (List ℕ))
+pub made_struct_once : {V W : Type 0} (key : FieldKey) (fields : Fields V)
+    (value : V → Result W (List ℕ))
     → IsTrue fields.exact → FieldsOnce fields
     → ((v w : V) → fields.same v w → SameFate (value v) (value w))
-    → RejectsOnce (made_struct fields value).format
-made_struct_once fields value is once fate =
-    made_or_rejected_once (struct_of (λ v. v) fields) value is
-    (struct_once fields is once (λ v. v)) fate
+    → RejectsOnce (made_struct key fields value).format
+made_struct_once key fields value is once fate =
+    made_or_rejected_once (struct_of (λ v. v) key fields) value is
+    (struct_once key fields is once (λ v. v)) fate

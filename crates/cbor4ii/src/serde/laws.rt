@@ -41,7 +41,6 @@ ghost use Rattle.cbor4ii.specs.Cases.{unit_case, held_case, fields_case, otherwi
 ghost use Rattle.cbor4ii.specs.Cases.{enum_of};
 ghost use Rattle.cbor4ii.specs.Made.{made_from};
 ghost use Rattle.cbor4ii.specs.Checked.{checked_from};
-ghost use Rattle.cbor4ii.specs.Keys.{made_keyed};
 ghost use Rattle.cbor4ii.specs.Variants.{OpensEnum, ReadsContent, ReadsVariant};
 
 use crate::serde::de::cases::{Case, Cases};
@@ -49,6 +48,7 @@ use crate::serde::de::checked::CheckedFrom;
 use crate::serde::de::deserialize::Typed;
 use crate::serde::de::elements::TypedElements;
 use crate::serde::de::fields::Places;
+use crate::serde::de::keys::ReadKey;
 use crate::serde::de::place::Place;
 use crate::serde::de::presence::Presences;
 use cbor4ii_items::decode::Decodable;
@@ -344,23 +344,24 @@ pub fn elements_are_rejected_once<A: Typed, B: TypedElements, T: From<B>>()
         RejectsOnce (made_from T.from_gives (typed_elements B.elements)).format }
 {}
 
-/// What `deserialize_fields` and `deserialize_keyed_fields` read is rejected with one error
-/// wherever its fields are. What follows a name that no field has is skipped, and is rejected with
-/// one error.
-pub fn structs_are_rejected_once<P: Place, V: Places, K: Presences<V>, T: From<K::Values>>()
+/// What `deserialize_fields` reads is rejected with one error wherever its fields are. What follows
+/// a key that no field has is skipped, and is rejected with one error.
+pub fn structs_are_rejected_once<
+    A: ReadKey,
+    P: Place,
+    V: Places,
+    K: Presences<V>,
+    T: From<K::Values>,
+>()
     ensures skipped { SkippedOnce }
-    ensures none { (names : List (Bor (List ℕ))) → FieldsOnce (⟦<() as Places>⟧.fields names) }
+    ensures none { (labels : List (Bor (List ℕ))) → FieldsOnce (⟦<() as Places>⟧.fields labels) }
     ensures more { RejectsOnce P.Value.promise.format →
-        ((names : List (Bor (List ℕ))) → FieldsOnce (V.fields names)) →
-        (names : List (Bor (List ℕ))) → FieldsOnce (⟦<(P, V) as Places>⟧.fields names) }
-    ensures named { (kinds : K) (names words : List (Bor (List ℕ))) →
-        IsTrue (V.fields names).exact → FieldsOnce (V.fields names) →
+        ((labels : List (Bor (List ℕ))) → FieldsOnce (V.fields labels)) →
+        (labels : List (Bor (List ℕ))) → FieldsOnce (⟦<(P, V) as Places>⟧.fields labels) }
+    ensures whole { (kinds : K) (labels words : List (Bor (List ℕ))) →
+        IsTrue (V.fields labels).exact → FieldsOnce (V.fields labels) →
         RejectsOnce (made_from T.from_gives
-        (made_struct (V.fields names) (K.made kinds words))).format }
-    ensures keyed { (kinds : K) (names words : List (Bor (List ℕ))) →
-        IsTrue (V.fields names).exact → FieldsOnce (V.fields names) →
-        RejectsOnce (made_from T.from_gives
-        (made_keyed (V.fields names) (K.made kinds words))).format }
+        (made_struct A.key (V.fields labels) (K.made kinds words))).format }
 {
     skipping_has_one_answer();
 }
@@ -389,8 +390,8 @@ where
         IsTrue (V.fields own).exact → FieldsOnce (V.fields own) →
         ((names : List (Bor (List ℕ))) → CasesOnce (D.cases cases names)) →
         (names : List (Bor (List ℕ))) →
-        CasesOnce (cases_by (fields_case (V.fields own) (K.made kinds words)) (D.cases cases)
-        names) }
+        CasesOnce (cases_by (fields_case (V.fields own) (K.made kinds words))
+        (D.cases cases) names) }
 {}
 
 /// What `deserialize_variant` reads is rejected with one error wherever what its variants hold is.

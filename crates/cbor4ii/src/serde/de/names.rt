@@ -2,7 +2,8 @@
 //! bytes that stands whole in what the reader shows, after a head of one or two bytes.
 ghost use Rattle.std.specs.Prelude.{◌≡◌, ◌≢◌, ◌≤◌, ◌<◌, length, true, false, IsUtf8};
 ghost use Rattle.cbor4ii.specs.Answered.{typed_value_or_error};
-ghost use Rattle.cbor4ii.specs.Names.{StandsAt, IfWhole, IfWholeAfter, TakesName, TakesShown};
+ghost use Rattle.cbor4ii.specs.FieldKey.{text_key};
+ghost use Rattle.cbor4ii.specs.Names.{StandsAt, IfWhole, IfWholeAfter, TakesKey, TakesShown};
 ghost use Rattle.cbor4ii.specs.Typed.{input, answer_of};
 
 use crate::serde::de::deserialize::Deserialize;
@@ -46,7 +47,7 @@ pub(crate) fn take_name<S: Source>(
     names: &[StaticStr],
     failure: &mut Option<DecodeError<S::Error>>,
 ) -> Option<usize>
-    ensures { TakesName names.now (input S.view de.old) (input S.view de.new)
+    ensures { TakesKey text_key names.now (input S.view de.old) (input S.view de.new)
         (answer_of (typed_value_or_error result failure.new)) }
 {
     if de.reader.window() < LOOK {
@@ -70,7 +71,7 @@ fn take_name_narrowly<S: Source>(
     names: &[StaticStr],
     failure: &mut Option<DecodeError<S::Error>>,
 ) -> Option<usize>
-    ensures { TakesName names.now (input S.view de.old) (input S.view de.new)
+    ensures { TakesKey text_key names.now (input S.view de.old) (input S.view de.new)
         (answer_of (typed_value_or_error result failure.new)) }
 {
     let mut want = de.reader.window();
@@ -95,7 +96,7 @@ fn take_any_name<S: Source>(
     names: &[StaticStr],
     failure: &mut Option<DecodeError<S::Error>>,
 ) -> Option<usize>
-    ensures { TakesName names.now (input S.view de.old) (input S.view de.new)
+    ensures { TakesKey text_key names.now (input S.view de.old) (input S.view de.new)
         (answer_of (typed_value_or_error result failure.new)) }
 {
     match String::deserialize(alloc, de) {

@@ -1,6 +1,7 @@
 //! Variants that hold named fields, which are read in the call of their enum.
 ghost use Rattle.cbor4ii_items.specs.Decoding.{DecodesIf};
 ghost use Rattle.cbor4ii.specs.Cases.{holding_format, fields_case, cases_by};
+ghost use Rattle.cbor4ii.specs.FieldKey.{labels_by, same_name};
 ghost use Rattle.cbor4ii.specs.Typed.{input, answer_of};
 
 use crate::serde::de::cases::{Cases, Choice, after_first};
@@ -43,7 +44,7 @@ where
     D: Cases<S, B>,
 {
     ghost cases = { λ cases. cases_by
-        (fields_case (V.fields cases.0.0.now) (P.made cases.1 cases.0.1.now))
+        (fields_case (V.fields (labels_by same_name cases.0.0.now)) (P.made cases.1 cases.0.1.now))
         (D.cases cases.2) };
 
     #[inline(always)]
@@ -79,9 +80,11 @@ fn take_named<S: Source, V: Values<S> + Drop, P: Presences<V>>(
     presences: P,
 ) -> Result<P::Values, DecodeError<S::Error>>
     ensures { DecodesIf
-        (fields_case (V.fields words.0.now) (P.made presences words.1.now)).exact
+        (fields_case (V.fields (labels_by same_name words.0.now))
+        (P.made presences words.1.now)).exact
         (holding_format
-        (fields_case (V.fields words.0.now) (P.made presences words.1.now)) form)
+        (fields_case (V.fields (labels_by same_name words.0.now))
+        (P.made presences words.1.now)) form)
         (input S.view de.old) (input S.view de.new) (answer_of result) }
 {
     if !form.0 {

@@ -1,6 +1,4 @@
-use Rattle.cbor4ii.specs.Keys.{made_keyed}
 use Rattle.cbor4ii.specs.Presence.{made_struct}
-use Rattle.cbor4ii.specs.Laws.KeyedOnce.{made_keyed_once}
 use Rattle.cbor4ii.specs.Laws.StructsOnce.{skipped_once, no_more_once, fields_by_once}
 use Rattle.cbor4ii.specs.Laws.StructsOnce.{made_struct_once, made_from_once}
 use Rattle.cbor4ii.proofs.serde.laws.structs_are_rejected_once.Goals as goal
@@ -9,7 +7,7 @@ pub returns-clause-skipped : goal.returns-clause-skipped
 returns-clause-skipped g c = skipped_once c.skipping_has_one_answer.ensures.at_most_one
 
 pub returns-clause-none : goal.returns-clause-none
-returns-clause-none g c names =
+returns-clause-none g c labels =
     no_more_once (skipped_once c.skipping_has_one_answer.ensures.at_most_one)
 
 pub returns-clause-more : goal.returns-clause-more
@@ -17,16 +15,9 @@ returns-clause-more g c =
     fields_by_once g.P.Place.place g.P.Value.Typed.promise g.V.Places.fields
     (skipped_once c.skipping_has_one_answer.ensures.at_most_one)
 
-pub returns-clause-named : goal.returns-clause-named
-returns-clause-named g c kinds names words is once =
-    let fields = g.V.Places.fields names in
+pub returns-clause-whole : goal.returns-clause-whole
+returns-clause-whole g c kinds labels words is once =
+    let fields = g.V.Places.fields labels in
     let value = g.K.Presences.made kinds words in
-    made_from_once g.T.From.from_gives (made_struct fields value)
-    (made_struct_once fields value is once (g.met.K.Presences.fate kinds words names))
-
-pub returns-clause-keyed : goal.returns-clause-keyed
-returns-clause-keyed g c kinds names words is once =
-    let fields = g.V.Places.fields names in
-    let value = g.K.Presences.made kinds words in
-    made_from_once g.T.From.from_gives (made_keyed fields value)
-    (made_keyed_once fields value is once (g.met.K.Presences.fate kinds words names))
+    made_from_once g.T.From.from_gives (made_struct g.A.ReadKey.key fields value)
+    (made_struct_once g.A.ReadKey.key fields value is once (g.met.K.Presences.fate kinds words labels))

@@ -1,11 +1,13 @@
-use Rattle.std.proofs.Common.{arith, refl, inl, []}
+use Rattle.std.proofs.Common.{arith, refl, inl, [], Err}
 use Rattle.std.specs.Prelude.{codes}
 use Rattle.cbor4ii_items.specs.Laws.Answering.{fits_zero}
 use Rattle.cbor4ii_items.specs.Laws.Running.{kept_alike}
 use Rattle.cbor4ii_items.specs.Laws.SequenceParts.{stands, indefinite_err, place_end, place_part}
 use Rattle.cbor4ii_items.specs.Sequences.{in_list}
-use Rattle.cbor4ii.specs.Structs.{field_pair, named_pair_lawful}
+use Rattle.cbor4ii.specs.FieldKey.{labels_by}
+use Rattle.cbor4ii.specs.Structs.{field_pair, field_pair_lawful}
 use Rattle.cbor4ii.proofs.Filling.{unended_more, unended_done}
+use Rattle.cbor4ii.proofs.KeyMemory.{wants_never, wants_after}
 use Rattle.cbor4ii.proofs.serde.de.fields.indefinite_fields.Goals as goal
 
 pub loop-alloc-init : goal.loop-alloc-init
@@ -29,36 +31,49 @@ loop-alloc-init g c =
       is = refl;
     }
 
-pub returns-in_err-part : goal.returns-in_err-part
-returns-in_err-part g c =
-    let fields = g.V.Places.fields c.args.names.now in
-    rw c.from_residual.ensures (indefinite_err in_list (codes "map") (field_pair fields)
-    (named_pair_lawful fields) c.loop-alloc.invariant.opened
-    (place_end (field_pair fields) (codes "map")
-    (named_pair_lawful fields) (rw c.in_err-part.ensures at c.takes_break.ensures.runs)
+pub returns-in_err-part-clause-alters : goal.returns-in_err-part-clause-alters
+returns-in_err-part-clause-alters g c =
+    let fields = g.V.Places.fields (labels_by g.K.ReadKey.label c.args.keys.now) in
+    rw c.from_residual.ensures (indefinite_err in_list (codes "map") (field_pair g.K.ReadKey.key fields)
+    (field_pair_lawful g.K.ReadKey.key fields) c.loop-alloc.invariant.opened
+    (place_end (field_pair g.K.ReadKey.key fields) (codes "map")
+    (field_pair_lawful g.K.ReadKey.key fields) (rw c.in_err-part.ensures at c.takes_break.ensures.runs)
     (rw c.in_err-part.ensures at c.takes_break.ensures.memory)))
 
-pub returns-in_err-take_field : goal.returns-in_err-take_field
-returns-in_err-take_field g c =
-    let fields = g.V.Places.fields c.args.names.now in
+pub returns-in_err-take_field-clause-alters : goal.returns-in_err-take_field-clause-alters
+returns-in_err-take_field-clause-alters g c =
+    let fields = g.V.Places.fields (labels_by g.K.ReadKey.label c.args.keys.now) in
     let taken = rw c.in_ok-part.ensures at c.takes_break.ensures.runs in
     rw c.from_residual-in_err-take_field.ensures (indefinite_err in_list (codes "map")
-    (field_pair fields) (named_pair_lawful fields) c.loop-alloc.invariant.opened
-    (place_part (field_pair fields) (codes "map") refl (stands c.if-not-branch.true taken)
-    c.in_err-take_field.ensures))
+    (field_pair g.K.ReadKey.key fields) (field_pair_lawful g.K.ReadKey.key fields) c.loop-alloc.invariant.opened
+    (place_part (field_pair g.K.ReadKey.key fields) (codes "map") refl (stands c.if-not-branch.true taken)
+    c.in_err-take_field.ensures.alters))
 
 pub loop-alloc-preserved : goal.loop-alloc-preserved
 loop-alloc-preserved g c =
     let taken = rw c.in_ok-part.ensures at c.takes_break.ensures.runs in
-    unended_more (g.V.Places.fields c.args.names.now) c.loop-alloc.invariant
-    (stands c.if-not-branch.true taken) c.in_ok-take_field.ensures
+    unended_more g.K.ReadKey.key (g.V.Places.fields (labels_by g.K.ReadKey.label c.args.keys.now)) c.loop-alloc.invariant
+    (stands c.if-not-branch.true taken) c.in_ok-take_field.ensures.alters
 
-pub returns : goal.returns
-returns g c =
-    unended_done (g.V.Places.fields c.args.names.now) (codes "map") c.if-not-branch.false
+pub returns-clause-alters : goal.returns-clause-alters
+returns-clause-alters g c =
+    unended_done g.K.ReadKey.key (g.V.Places.fields (labels_by g.K.ReadKey.label c.args.keys.now)) (codes "map") c.if-not-branch.false
     c.loop-alloc.invariant (rw c.in_ok-part.ensures at c.takes_break.ensures.runs)
 
 pub loop-alloc-smaller : goal.loop-alloc-smaller
 loop-alloc-smaller g c =
     let taken = rw c.in_ok-part.ensures at c.takes_break.ensures.runs in
-    omega (arith, c.in_ok-take_field.ensures.read.progress refl, taken.moves.by.bound)
+    omega (arith, c.in_ok-take_field.ensures.alters.read.progress refl, taken.moves.by.bound)
+
+pub returns-in_err-part-clause-memory : goal.returns-in_err-part-clause-memory
+returns-in_err-part-clause-memory g c =
+    rw c.from_residual.ensures (wants_never g.K.ReadKey.may_want (Unit {0}) _ _ _
+    (rw c.in_err-part.ensures at c.takes_break.ensures.memory))
+
+pub returns-in_err-take_field-clause-memory : goal.returns-in_err-take_field-clause-memory
+returns-in_err-take_field-clause-memory g c =
+    let taken = rw c.in_ok-part.ensures at c.takes_break.ensures.runs in
+    rw c.from_residual-in_err-take_field.ensures (wants_after g.K.ReadKey.may_want
+    g.K.ReadKey.wants_before {V = Unit {0}} _ (Err _) c.loop-alloc.invariant.opened.kept
+    (wants_after g.K.ReadKey.may_want g.K.ReadKey.wants_before {V = Unit {0}} _ (Err _)
+    taken.moves.by c.in_err-take_field.ensures.memory))

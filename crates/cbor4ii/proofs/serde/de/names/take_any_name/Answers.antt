@@ -1,5 +1,5 @@
 use Rattle.std.proofs.Common.{refl}
-use Rattle.cbor4ii.proofs.Names.{takes_text}
+use Rattle.cbor4ii.proofs.Names.{takes_text, no_name}
 use Rattle.cbor4ii.proofs.Promised.{whole}
 use Rattle.cbor4ii.proofs.serde.de.names.take_any_name.Goals as goal
 
@@ -9,4 +9,4 @@ returns-in-Ok g c =
     c.place.ensures.which
 
 pub returns-in-Err : goal.returns-in-Err
-returns-in-Err g c = rw c.leave.ensures (whole refl refl c.in-Err.ensures)
+returns-in-Err g c = rw c.leave.ensures (no_name (whole refl refl c.in-Err.ensures))

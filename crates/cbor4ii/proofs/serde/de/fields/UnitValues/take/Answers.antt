@@ -1,16 +1,16 @@
-use Rattle.std.proofs.Common.{true, refl}
+use Rattle.std.proofs.Common.{true, false, refl}
 use Rattle.cbor4ii.specs.Answered.{typed_value_or_error}
 use Rattle.cbor4ii.specs.Structs.{no_more}
-use Rattle.cbor4ii.specs.Typed.{answer_of}
+use Rattle.cbor4ii.specs.Typed.{answer_of, not_exact}
 use Rattle.cbor4ii.proofs.IfKnown.{on_some}
 use Rattle.cbor4ii.proofs.Filling.{skips}
+use Rattle.cbor4ii.proofs.KeyMemory.{wants_as}
 use Rattle.cbor4ii.proofs.serde.de.fields.UnitValues.take.Goals as goal
 
 pub returns-clause-alters : goal.returns-clause-alters
-returns-clause-alters g c name which =
-    skips no_more name c.args.self.now true (answer_of (typed_value_or_error c.skip_value.result _))
-    refl refl
-    refl c.skip_value.ensures
+returns-clause-alters g c label which =
+    skips no_more label c.args.self.now true
+    (answer_of (typed_value_or_error c.skip_value.result _)) refl refl refl c.skip_value.ensures
 
 pub returns-clause-moves : goal.returns-clause-moves
 returns-clause-moves g c = c.skip_value.ensures.moves
@@ -18,3 +18,8 @@ returns-clause-moves g c = c.skip_value.ensures.moves
 pub returns-clause-progress : goal.returns-clause-progress
 returns-clause-progress g c = on_some _ c.skip_value.result _
     (c.skip_value.ensures.progress refl)
+
+pub returns-clause-memory : goal.returns-clause-memory
+returns-clause-memory g c =
+    wants_as g.K.ReadKey.may_want _ false _
+    (answer_of (typed_value_or_error c.skip_value.result _)) not_exact c.skip_value.ensures.memory

@@ -1,11 +1,12 @@
 use Rattle.std.proofs.Common.{◌≡◌, ℤ, Option, Err, inr, true, false, refl, subst, nat_eq}
 use Rattle.cbor4ii.proofs.Keying.{comes, is_text, is_no_text, no_key, text_ok, text_err}
 use Rattle.cbor4ii.proofs.Keying.{integer_any}
-use Rattle.cbor4ii.proofs.Names.{text_taken}
+use Rattle.cbor4ii.proofs.Names.{key_taken}
 use Rattle.cbor4ii.proofs.Promised.{whole}
+use Rattle.cbor4ii.specs.Keys.{TextComes}
 use Rattle.cbor4ii.specs.Typed.{not_exact}
 use Rattle.cbor4ii.proofs.KeyMemory.{wants_as, wants_integer, comes_here}
-use Rattle.cbor4ii.proofs.serde.de.keys.take_key.Goals as goal
+use Rattle.cbor4ii.proofs.serde.de.keys.take_integer.Goals as goal
 
 pub returns-in-Err-clause-decodes : goal.returns-in-Err-clause-decodes
 returns-in-Err-clause-decodes g c = no_key c.in-Err.ensures.decodes
@@ -15,7 +16,7 @@ returns-in-Some-clause-decodes g c =
     text_ok (comes true c.in-Ok.ensures.decodes
     (subst (λ k. nat_eq k 3 ≡ true) c.if_major.ensures
     (is_text c.if_major.result c.if-if_major-eq-STRING.true)))
-    (text_taken c.args.alloc c.in-Some.ensures)
+    (key_taken c.in-Some.ensures)
 
 pub returns-in-None-clause-decodes : goal.returns-in-None-clause-decodes
 returns-in-None-clause-decodes g c =
@@ -32,7 +33,7 @@ returns-clause-decodes g c =
 
 pub returns-in-Err-clause-memory : goal.returns-in-Err-clause-memory
 returns-in-Err-clause-memory g c =
-    wants_as {V = Option ℤ} (g.S.Source.view c.args.de.now.reader) false _ (Err _) not_exact
+    wants_as TextComes {V = Option ℤ} (g.S.Source.view c.args.de.now.reader) false _ (Err _) not_exact
     c.in-Err.ensures.decodes.memory
 
 pub returns-in-None-clause-memory : goal.returns-in-None-clause-memory

@@ -1,0 +1,8 @@
+use Rattle.std.proofs.Common.{Ok, Err}
+use Rattle.cbor4ii.proofs.Keying.{key_placed}
+use Rattle.cbor4ii.proofs.serde.de.keys.I64ReadKey.take_key.Goals as goal
+
+pub returns-in-Some-clause-which : goal.returns-in-Some-clause-which
+returns-in-Some-clause-which g c =
+    key_placed c.in-Some.key (rw c.in-Some.ensures at c.take_integer.ensures.decodes)
+    c.integer_place.ensures
