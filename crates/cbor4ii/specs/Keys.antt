@@ -203,7 +203,11 @@ integer_key = record {
   one = small_one;
 }
 
--- the integer -n
-abbrev pub minus : ℕ → ℤ
-minus zero = pos 0
-minus (suc n) = negsuc n
+-- the label of the key n
+abbrev pub plus : ℕ → List ℕ
+plus n = integer_label (pos n)
+
+-- the label of the key -n
+abbrev pub minus : ℕ → List ℕ
+minus zero = integer_label (pos 0)
+minus (suc n) = integer_label (negsuc n)

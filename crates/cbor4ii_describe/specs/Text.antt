@@ -54,33 +54,27 @@ key_code (Negative size) = codes "-" ++ decimal size
 -- what a field is written under, in a ghost
 abbrev pub ghost_key : Key → List ℕ
 ghost_key (Name name) = codes "(codes \"" ++ (string_bytes name ++ codes "\")")
-ghost_key (Positive size) = codes "(pos " ++ (decimal size ++ codes ")")
+ghost_key (Positive size) = codes "(plus " ++ (decimal size ++ codes ")")
 ghost_key (Negative size) = codes "(minus " ++ (decimal size ++ codes ")")
 
--- what a word of the codec calls a field under a key
-abbrev pub sort_text : Key → List ℕ
-sort_text (Name name) = codes "field"
-sort_text (Positive size) = codes "key"
-sort_text (Negative size) = codes "key"
-
 -- what stands before the codec of a field
-abbrev pub word_text : Presence → Bool → List ℕ → List ℕ → List ℕ → List ℕ
-word_text Required true sort key words = codes "(with_" ++ (sort ++ (codes "_once " ++ (key
-    ++ (codes " (codes \"" ++ (words ++ codes "\")")))))
-word_text Required false sort key words = codes "(with_" ++ (sort ++ (codes " " ++ (key
-    ++ (codes " (codes \"" ++ (words ++ codes "\")")))))
-word_text LeftOut true sort key words = codes "(with_optional_" ++ (sort ++ (codes "_once " ++ (key
-    ++ (codes " (codes \"" ++ (words ++ codes "\")")))))
-word_text LeftOut false sort key words = codes "(with_optional_" ++ (sort ++ (codes " " ++ key))
-word_text (Or code ghost_text) true sort key words =
-    codes "(with_" ++ (sort ++ (codes "_once_or " ++ (key ++ (codes " (codes \"" ++ (words
-    ++ (codes "\") " ++ string_bytes ghost_text))))))
-word_text (Or code ghost_text) false sort key words =
-    codes "(with_" ++ (sort ++ (codes "_or " ++ (key ++ (codes " " ++ string_bytes ghost_text))))
+abbrev pub word_text : Presence → Bool → List ℕ → List ℕ → List ℕ
+word_text Required true key words =
+    codes "(with_field_once " ++ (key ++ (codes " (codes \"" ++ (words ++ codes "\")")))
+word_text Required false key words =
+    codes "(with_field " ++ (key ++ (codes " (codes \"" ++ (words ++ codes "\")")))
+word_text LeftOut true key words =
+    codes "(with_optional_field_once " ++ (key ++ (codes " (codes \"" ++ (words ++ codes "\")")))
+word_text LeftOut false key words = codes "(with_optional_field " ++ key
+word_text (Or code ghost_text) true key words =
+    codes "(with_field_once_or " ++ (key ++ (codes " (codes \"" ++ (words
+    ++ (codes "\") " ++ string_bytes ghost_text))))
+word_text (Or code ghost_text) false key words =
+    codes "(with_field_or " ++ (key ++ (codes " " ++ string_bytes ghost_text))
 
 abbrev pub field_word : Field → List ℕ
-field_word field = word_text field.presence field.once (sort_text field.key) (ghost_key field.key)
-    (string_bytes field.words)
+field_word field =
+    word_text field.presence field.once (ghost_key field.key) (string_bytes field.words)
 
 -- the line that writes a newtype, behind a tag or none
 abbrev pub newtype_line : Option ℕ → List ℕ

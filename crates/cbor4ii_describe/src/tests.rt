@@ -231,7 +231,7 @@ const WRITTEN: [(&str, &str); 47] = [
     ),
     (
         "struct A { #[describe(last, key = 1)] a: u8 }",
-        "(with_key (pos 1) (codes \"an a has no a\")",
+        "(with_field (plus 1) (codes \"an a has no a\")",
     ),
     (
         "struct A<T>(Vec<T>);",
@@ -280,7 +280,7 @@ const WRITTEN: [(&str, &str); 47] = [
     ),
     (
         "struct A { #[describe(key = -9223372036854775808)] a: u8 }",
-        "(with_key_once (minus 9223372036854775808) (codes \"an a has one a\")",
+        "(with_field_once (minus 9223372036854775808) (codes \"an a has one a\")",
     ),
     (
         "struct A { #[describe(key = -1, once)] a: u8 }",
@@ -288,16 +288,16 @@ const WRITTEN: [(&str, &str); 47] = [
     ),
     (
         "struct A { #[describe(key = 0)] #[serde(default = \"7\")] a: u8 }",
-        "(with_key_once_or (pos 0) (codes \"an a has one a\") 7 ",
+        "(with_field_once_or (plus 0) (codes \"an a has one a\") 7 ",
     ),
     (
         "struct A { #[describe(key = 0, last)] #[serde(default = \"7\")] a: u8 }",
-        "(with_key_or (pos 0) 7 ",
+        "(with_field_or (plus 0) 7 ",
     ),
     (
         "struct A { #[describe(key = 0)] #[serde(skip_serializing_if = \"Option::is_none\")] \
 a: Option<u8> }",
-        "(with_optional_key_once (pos 0) (codes \"an a has one a\")",
+        "(with_optional_field_once (plus 0) (codes \"an a has one a\")",
     ),
     (
         "#[describe(tag = 18446744073709551615)] struct A(u8);",

@@ -1,10 +1,11 @@
 //! A struct whose keys are integers: a COSE_Key of one coordinate (RFC 9052 section 7).
-ghost use Rattle.std.specs.Prelude.{◌≡◌, codes, pos};
+ghost use Rattle.std.specs.Prelude.{◌≡◌, codes};
 ghost use Rattle.std.proofs.Common.{refl};
 ghost use Rattle.cbor4ii.specs.CodecAgrees.{as_described};
-ghost use Rattle.cbor4ii.specs.CodecKeyed.{keyed_codec, with_key_once, with_optional_key_once};
-ghost use Rattle.cbor4ii.specs.CodecKeyed.{no_keys, minus};
+ghost use Rattle.cbor4ii.specs.CodecFields.{struct_codec, with_field_once};
+ghost use Rattle.cbor4ii.specs.CodecFields.{with_optional_field_once, no_keys};
 ghost use Rattle.cbor4ii.specs.Fields.{no_values};
+ghost use Rattle.cbor4ii.specs.Keys.{plus, minus};
 
 use cbor4ii::dec::Source;
 use cbor4ii::enc::Write;
@@ -54,7 +55,7 @@ impl<S: Source> Deserialize<S> for CoseKey {
             Once(Required),
             (Once(Optional), (Once(Required), (Once(Required), ()))),
         );
-        de.deserialize_keyed_fields(alloc, "COSE_Key", &[1, 3, -1, -2], &missing, presences)
+        de.deserialize_fields(alloc, "COSE_Key", &[1, 3, -1, -2], &missing, presences)
     }
 }
 
@@ -77,17 +78,17 @@ impl Typed for CoseKey {
 }
 
 impl Described for CoseKey {
-    ghost codec = { keyed_codec (λ c. (c.kty, (c.alg, (c.crv, (c.x, no_values)))))
+    ghost codec = { struct_codec (λ c. (c.kty, (c.alg, (c.crv, (c.x, no_values)))))
         (λ values. record {
           kty = values.0;
           alg = values.1.0;
           crv = values.1.1.0;
           x = values.1.1.1.0;
         }) (λ c. refl)
-        (with_key_once (pos 1) (codes "a key has one kty") ⟦<i64 as Described>⟧.codec
-        (with_optional_key_once (pos 3) (codes "a key has one alg") ⟦<i64 as Described>⟧.codec
-        (with_key_once (minus 1) (codes "a key has one crv") ⟦<i64 as Described>⟧.codec
-        (with_key_once (minus 2) (codes "a key has one x") ⟦<Bytes<Vec<u8>> as Described>⟧.codec
+        (with_field_once (plus 1) (codes "a key has one kty") ⟦<i64 as Described>⟧.codec
+        (with_optional_field_once (plus 3) (codes "a key has one alg") ⟦<i64 as Described>⟧.codec
+        (with_field_once (minus 1) (codes "a key has one crv") ⟦<i64 as Described>⟧.codec
+        (with_field_once (minus 2) (codes "a key has one x") ⟦<Bytes<Vec<u8>> as Described>⟧.codec
         no_keys refl) refl) refl) refl) refl };
 }
 

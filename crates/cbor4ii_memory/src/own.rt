@@ -63,7 +63,7 @@ impl ReadFrom for Typed<Keyed> {
         let presences = (Required, (Once(Optional), (Optional, ())));
         let missing = ["no 1", "two -2"];
         let mut de = Deserializer::new(reader);
-        answer(de.deserialize_keyed_fields(alloc, "Keyed", &[1, -2, 1000], &missing, presences))
+        answer(de.deserialize_fields(alloc, "Keyed", &[1, -2, 1000], &missing, presences))
     }
 }
 
@@ -184,8 +184,8 @@ const NOT_SHORT: &[RejectedRow] = table! {
 /// Each type, where its bytes are accepted.
 pub fn types(tally: &mut Tally) -> Result<(), Broken> {
     reads_rows::<Typed<Elements>>(tally, "deserialize_elements", ELEMENTS)?;
-    reads_rows::<Typed<Keyed>>(tally, "deserialize_keyed_fields", KEYED)?;
-    reads_in_place::<Typed<Keyed>>(tally, "deserialize_keyed_fields", KEYED_IN_PLACE)?;
+    reads_rows::<Typed<Keyed>>(tally, "deserialize_fields", KEYED)?;
+    reads_in_place::<Typed<Keyed>>(tally, "deserialize_fields", KEYED_IN_PLACE)?;
     reads_rows::<Typed<Named>>(tally, "deserialize_fields", NAMED)?;
     reads_rows::<Typed<Tagged>>(tally, "deserialize_tagged", TAGGED)?;
     reads_rows::<Typed<Short>>(tally, "deserialize_checked", SHORT)
@@ -194,7 +194,7 @@ pub fn types(tally: &mut Tally) -> Result<(), Broken> {
 /// Each type, where its bytes are rejected.
 pub fn rejected(tally: &mut Tally) -> Result<(), Broken> {
     rejects_rows::<Typed<Elements>>(tally, "deserialize_elements", NO_ELEMENTS)?;
-    rejects_rows::<Typed<Keyed>>(tally, "deserialize_keyed_fields", NOT_KEYED)?;
+    rejects_rows::<Typed<Keyed>>(tally, "deserialize_fields", NOT_KEYED)?;
     rejects_rows::<Typed<Named>>(tally, "deserialize_fields", NOT_NAMED)?;
     rejects_rows::<Typed<Tagged>>(tally, "deserialize_tagged", NOT_TAGGED)?;
     rejects_rows::<Typed<Short>>(tally, "deserialize_checked", NOT_SHORT)

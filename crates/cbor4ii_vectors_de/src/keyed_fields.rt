@@ -34,7 +34,7 @@ impl Take for Keyed {
         de: &mut Deserializer<S>,
     ) -> Result<Keyed, DecodeError<S::Error>> {
         let presences = (Required, (Once(Optional), (Optional, ())));
-        de.deserialize_keyed_fields(
+        de.deserialize_fields(
             alloc,
             "Keyed",
             &[1, -2, 1000],
@@ -145,7 +145,7 @@ impl Take for Zero {
         alloc: Global,
         de: &mut Deserializer<S>,
     ) -> Result<Zero, DecodeError<S::Error>> {
-        de.deserialize_keyed_fields(alloc, "Zero", &[0], &["no 0"], (Required, ()))
+        de.deserialize_fields(alloc, "Zero", &[0], &["no 0"], (Required, ()))
     }
 }
 
@@ -178,7 +178,7 @@ impl Take for Lit {
         alloc: Global,
         de: &mut Deserializer<S>,
     ) -> Result<Lit, DecodeError<S::Error>> {
-        de.deserialize_keyed_fields(alloc, "Lit", &[1], &[], (Optional, ()))
+        de.deserialize_fields(alloc, "Lit", &[1], &[], (Optional, ()))
     }
 }
 

@@ -172,7 +172,7 @@ impl Take for ByFields {
     }
 }
 
-/// By `deserialize_keyed_fields`.
+/// By `deserialize_fields`.
 #[derive(Debug, PartialEq, Drop)]
 struct ByKeys(Read);
 
@@ -182,7 +182,7 @@ impl Take for ByKeys {
         de: &mut Deserializer<S>,
     ) -> Result<ByKeys, DecodeError<S::Error>> {
         let presences = (Required, ());
-        Ok(ByKeys(de.deserialize_keyed_fields(alloc, "Many", &[1], &["no 1"], presences)?))
+        Ok(ByKeys(de.deserialize_fields(alloc, "Many", &[1], &["no 1"], presences)?))
     }
 }
 

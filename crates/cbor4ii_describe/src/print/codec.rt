@@ -106,36 +106,22 @@ pub fn held_type(field: &Field) -> &str {
 fn begin(alloc: Global, field: &Field) -> Result<String, AllocError>
     ensures { IfOk result (λ text. string_bytes text ≡ field_word field.now) }
 {
-    let (sort, key, words) = (
-        sort(&field.key),
-        key(alloc, &field.key)?,
-        field.words.as_str(),
-    );
+    let (key, words) = (key(alloc, &field.key)?, field.words.as_str());
     match &field.presence {
         Presence::Required if field.once => {
-            format!(in alloc; "(with_{sort}_once {key} (codes \"{words}\")")
+            format!(in alloc; "(with_field_once {key} (codes \"{words}\")")
         }
-        Presence::Required => format!(in alloc; "(with_{sort} {key} (codes \"{words}\")"),
+        Presence::Required => format!(in alloc; "(with_field {key} (codes \"{words}\")"),
         Presence::LeftOut if field.once => {
-            format!(in alloc; "(with_optional_{sort}_once {key} (codes \"{words}\")")
+            format!(in alloc; "(with_optional_field_once {key} (codes \"{words}\")")
         }
-        Presence::LeftOut => format!(in alloc; "(with_optional_{sort} {key}"),
+        Presence::LeftOut => format!(in alloc; "(with_optional_field {key}"),
         Presence::Or { ghost_text, .. } if field.once => {
-            format!(in alloc; "(with_{sort}_once_or {key} (codes \"{words}\") {ghost_text}")
+            format!(in alloc; "(with_field_once_or {key} (codes \"{words}\") {ghost_text}")
         }
         Presence::Or { ghost_text, .. } => {
-            format!(in alloc; "(with_{sort}_or {key} {ghost_text}")
+            format!(in alloc; "(with_field_or {key} {ghost_text}")
         }
-    }
-}
-
-// What a word of the codec calls a field under this key.
-fn sort(key: &Key) -> &'static str
-    ensures { result.now ≡ sort_text key.now }
-{
-    match key {
-        Key::Name(_) => "field",
-        Key::Positive(_) | Key::Negative(_) => "key",
     }
 }
 
@@ -145,7 +131,7 @@ fn key(alloc: Global, key: &Key) -> Result<String, AllocError>
 {
     match key {
         Key::Name(name) => format!(in alloc; "(codes \"{name}\")"),
-        Key::Positive(size) => format!(in alloc; "(pos {size})"),
+        Key::Positive(size) => format!(in alloc; "(plus {size})"),
         Key::Negative(size) => format!(in alloc; "(minus {size})"),
     }
 }

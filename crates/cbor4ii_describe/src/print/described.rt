@@ -212,8 +212,7 @@ fn put_places(
     fields: &[Field],
 ) -> Result<(), AllocError> {
     let word = match form {
-        Form::Named => "struct_codec",
-        Form::Keyed => "keyed_codec",
+        Form::Named | Form::Keyed => "struct_codec",
         Form::Array => "elements_codec",
     };
     let before = format!(in alloc; "ghost codec = {{ {word} (λ {letter}. ")?;

@@ -126,9 +126,12 @@ fn put_struct(
     after.push(String::from_str(alloc, "&missing")?)?;
     after.push(String::from_str(alloc, "presences")?)?;
     let keys = keys(alloc, fields)?;
-    let call = match form {
-        Form::Keyed => "de.deserialize_keyed_fields(",
-        _ => "de.deserialize_fields(",
-    };
-    put_call(alloc, out, call, &before, &keys, &after)
+    put_call(
+        alloc,
+        out,
+        "de.deserialize_fields(",
+        &before,
+        &keys,
+        &after,
+    )
 }

@@ -19,7 +19,7 @@ enum For {
     Items,
     VariantFields,
     Values,
-    Named,
+    Struct,
     Fields,
     Keyed,
     Array,
@@ -34,24 +34,18 @@ enum For {
     Once,
     Or,
     LeftOut,
-    Plain(Sort),
-    OnceOf(Sort),
-    OrOf(Sort),
-    OnceOrOf(Sort),
-    LeftOutOf(Sort),
-    OnceLeftOutOf(Sort),
+    Plain,
+    PlainOnce,
+    OrElse,
+    OrElseOnce,
+    LeftOutPlain,
+    LeftOutOnce,
+    Positive,
     Negative,
     Pos,
     OrNone,
     OrTrue,
     OrFalse,
-}
-
-// What a field is written under.
-#[derive(Clone, Copy, PartialEq, Eq)]
-enum Sort {
-    Name,
-    Integer,
 }
 
 // A file of ghost words.
@@ -65,8 +59,8 @@ enum File {
     CodecElements,
     CodecFields,
     CodecItems,
-    CodecKeyed,
     Fields,
+    Keys,
     ParseError,
     Choice,
 }
@@ -82,15 +76,15 @@ fn path(file: File) -> &'static str {
         File::CodecElements => "cbor4ii.specs.CodecElements",
         File::CodecFields => "cbor4ii.specs.CodecFields",
         File::CodecItems => "cbor4ii.specs.CodecItems",
-        File::CodecKeyed => "cbor4ii.specs.CodecKeyed",
         File::Fields => "cbor4ii.specs.Fields",
+        File::Keys => "cbor4ii.specs.Keys",
         File::ParseError => "std.specs.declared.string.ParseError",
         File::Choice => "cbor4ii.specs.declared.serde.de.cases.Choice.TheVariants",
     }
 }
 
 // The ghost words: where each is defined, and what it is imported for.
-const WORDS: [(File, &str, For); 43] = [
+const WORDS: [(File, &str, For); 37] = [
     (File::Prelude, "◌≡◌", For::Each),
     (File::Prelude, "None", For::OrNone),
     (File::Prelude, "true", For::OrTrue),
@@ -112,57 +106,23 @@ const WORDS: [(File, &str, For); 43] = [
     (File::CodecElements, "elements_codec", For::Array),
     (File::CodecElements, "with_element", For::Array),
     (File::CodecElements, "no_elements", For::Array),
-    (File::CodecFields, "struct_codec", For::Named),
-    (File::CodecFields, "with_field", For::Plain(Sort::Name)),
-    (
-        File::CodecFields,
-        "with_field_once",
-        For::OnceOf(Sort::Name),
-    ),
-    (File::CodecFields, "with_field_or", For::OrOf(Sort::Name)),
-    (
-        File::CodecFields,
-        "with_field_once_or",
-        For::OnceOrOf(Sort::Name),
-    ),
-    (
-        File::CodecFields,
-        "with_optional_field",
-        For::LeftOutOf(Sort::Name),
-    ),
+    (File::CodecFields, "struct_codec", For::Struct),
+    (File::CodecFields, "with_field", For::Plain),
+    (File::CodecFields, "with_field_once", For::PlainOnce),
+    (File::CodecFields, "with_field_or", For::OrElse),
+    (File::CodecFields, "with_field_once_or", For::OrElseOnce),
+    (File::CodecFields, "with_optional_field", For::LeftOutPlain),
     (
         File::CodecFields,
         "with_optional_field_once",
-        For::OnceLeftOutOf(Sort::Name),
+        For::LeftOutOnce,
     ),
     (File::CodecFields, "no_fields", For::Fields),
+    (File::CodecFields, "no_keys", For::Keyed),
     (File::CodecItems, "tagged_codec", For::Tag),
-    (File::CodecKeyed, "keyed_codec", For::Keyed),
-    (File::CodecKeyed, "with_key", For::Plain(Sort::Integer)),
-    (
-        File::CodecKeyed,
-        "with_key_once",
-        For::OnceOf(Sort::Integer),
-    ),
-    (File::CodecKeyed, "with_key_or", For::OrOf(Sort::Integer)),
-    (
-        File::CodecKeyed,
-        "with_key_once_or",
-        For::OnceOrOf(Sort::Integer),
-    ),
-    (
-        File::CodecKeyed,
-        "with_optional_key",
-        For::LeftOutOf(Sort::Integer),
-    ),
-    (
-        File::CodecKeyed,
-        "with_optional_key_once",
-        For::OnceLeftOutOf(Sort::Integer),
-    ),
-    (File::CodecKeyed, "no_keys", For::Keyed),
-    (File::CodecKeyed, "minus", For::Negative),
     (File::Fields, "no_values", For::Values),
+    (File::Keys, "plus", For::Positive),
+    (File::Keys, "minus", For::Negative),
     (File::ParseError, "Infallible", For::Enum),
     (File::Choice, "First", For::Enum),
     (File::Choice, "Other", For::Enum),
@@ -318,7 +278,8 @@ fn wants(described: &Described, why: For) -> bool {
 fn form_wants(form: Form, why: For) -> bool {
     match why {
         For::Values => true,
-        For::Named | For::Codes | For::Fields => form == Form::Named,
+        For::Struct => form != Form::Array,
+        For::Codes | For::Fields => form == Form::Named,
         For::Keyed | For::Listed => form == Form::Keyed,
         For::Array => form == Form::Array,
         _ => false,
@@ -369,24 +330,20 @@ fn variant_wants(variant: &Variant, why: For) -> bool {
 
 // Whether a field imports what is imported for this.
 fn field_wants(field: &Field, why: For) -> bool {
-    let sort = match field.key {
-        Key::Name(_) => Sort::Name,
-        _ => Sort::Integer,
-    };
     match (&field.presence, why) {
+        (_, For::Positive) => matches!(field.key, Key::Positive(_)),
         (_, For::Negative) => matches!(field.key, Key::Negative(_)),
-        (_, For::Pos) if matches!(field.key, Key::Positive(_)) => true,
         (_, For::Codes) => field.is_told(),
         (_, For::Once) => field.once,
         (Presence::Required, For::Required) => true,
-        (Presence::Required, For::OnceOf(of)) => field.once && of == sort,
-        (Presence::Required, For::Plain(of)) => !field.once && of == sort,
+        (Presence::Required, For::PlainOnce) => field.once,
+        (Presence::Required, For::Plain) => !field.once,
         (Presence::LeftOut, For::LeftOut | For::Listed) => true,
-        (Presence::LeftOut, For::LeftOutOf(of)) => !field.once && of == sort,
-        (Presence::LeftOut, For::OnceLeftOutOf(of)) => field.once && of == sort,
+        (Presence::LeftOut, For::LeftOutPlain) => !field.once,
+        (Presence::LeftOut, For::LeftOutOnce) => field.once,
         (Presence::Or { .. }, For::Or) => true,
-        (Presence::Or { .. }, For::OrOf(of)) => !field.once && of == sort,
-        (Presence::Or { .. }, For::OnceOrOf(of)) => field.once && of == sort,
+        (Presence::Or { .. }, For::OrElse) => !field.once,
+        (Presence::Or { .. }, For::OrElseOnce) => field.once,
         (Presence::Or { ghost_text, .. }, why) => default_wants(ghost_text.as_str(), why),
         _ => false,
     }
