@@ -25,3 +25,5 @@ pub mod CutSequence
 pub mod First
 -- What is written by hand.
 pub mod ByHand
+-- Whole events of a log, and where their reading stops.
+pub mod LogRows

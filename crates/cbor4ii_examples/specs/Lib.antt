@@ -25,3 +25,5 @@ pub mod Sorted
 pub mod ByHand
 -- What a reader over a line reports.
 pub mod Line
+-- The whole events at the beginning of a log, and where its reading stops.
+pub mod Log

@@ -1,10 +1,16 @@
 //! A log: events one after another, out of parts that are cut anywhere, or out of a stream.
-ghost use Rattle.std.specs.Prelude.{◌≤◌, length, IfOk};
+ghost use Rattle.std.specs.Prelude.{◌≡◌, ◌+◌, ◌≤◌, IfOk, IfErr, OnSome};
+ghost use Rattle.cbor4ii_items.specs.Decoding.{Decodes};
+ghost use Rattle.cbor4ii_items.specs.ItemOrEnd.{item_or_end};
+ghost use Rattle.cbor4ii_rw.specs.Stream.{most_bytes, cut_known};
+ghost use Rattle.cbor4ii_rw.specs.View.{IfKnown};
+ghost use Rattle.cbor4ii.specs.Typed.{answer_of, Deserializes};
+ghost use Rattle.cbor4ii_examples.specs.Log.{says_cut, IsBatch, IsFault, IsLog, Stops};
 
 use crate::event::Event;
 use cbor4ii::dec::{Source, is_at_end};
 use cbor4ii::error::{DecodeError as CoreError, Never};
-use cbor4ii::serde::{DecodeError, Deserialize, Deserializer};
+use cbor4ii::serde::{DecodeError, Deserialize, Deserializer, Typed};
 use cbor4ii::utils::{IoReader, SliceReader};
 use std::alloc::Global;
 use std::io::{self, BufRead};
@@ -29,7 +35,9 @@ pub struct Fault<E> {
 
 impl<E> Fault<E> {
     /// Whether the log ends inside the event, so that more of it is to come.
-    pub fn is_cut(&self) -> bool {
+    pub fn is_cut(&self) -> bool
+        ensures { result ≡ says_cut self.now.error }
+    {
         ends_early(&self.error)
     }
 }
@@ -41,22 +49,33 @@ impl<E> Fault<E> {
 /// Those of `next_event` for the event at which reading fails, but for `Eof`. `Core` of
 /// `OutOfMemory` where there is no memory for the batch.
 pub fn whole_events(alloc: Global, part: &[u8]) -> Result<Batch, Fault<Never>>
-    ensures { IfOk result (λ batch. batch.taken ≤ length part.now) }
+    ensures batch { IfOk result (IsBatch ⟦<Event as Typed>⟧.promise.format part.now) }
+    ensures fault { IfErr result (IsFault ⟦<Event as Typed>⟧.promise.format part.now) }
 {
     let mut reader = SliceReader::new(part);
     let mut events = Vec::new(alloc);
-    let mut taken = 0;
-    // An event takes a byte at least.
-    for _ in 0..part.len() {
-        match next_event(alloc, &mut reader) {
-            Ok(Some(event)) => put(&mut events, event, taken)?,
-            Ok(None) => break,
-            Err(error) if ends_early(&error) => break,
-            Err(error) => return Err(rejected(taken, error)),
+    loop {
+        let taken = part.len().saturating_sub(reader.remaining().len());
+        let (left, next) = next_event(alloc, reader);
+        reader = left;
+        match next {
+            Ok(Some(event)) => {
+                if events.push(event).is_err() {
+                    let error = DecodeError::Core(CoreError::OutOfMemory);
+                    return Err(Fault {
+                        at: taken as u64,
+                        error,
+                    });
+                }
+            }
+            Ok(None) => return Ok(Batch { events, taken }),
+            Err(error) if ends_early(&error) => return Ok(Batch { events, taken }),
+            Err(error) => return Err(Fault {
+                at: taken as u64,
+                error,
+            }),
         }
-        taken = part.len().saturating_sub(reader.remaining().len());
     }
-    Ok(Batch { events, taken })
 }
 
 /// Hands each event of a stream to `handle`, as soon as it was read.
@@ -71,21 +90,26 @@ pub fn replay<R: BufRead + Drop, F: FnMut(Event) + Drop>(
     mut handle: F,
 ) -> Result<(), Fault<io::Error>>
     requires { F.IsAlwaysCallable handle }
+    ensures whole { IfOk result (λ _. IfKnown (cut_known most_bytes (R.Read.remaining stream))
+        (IsLog ⟦<Event as Typed>⟧.promise.format)) }
+    ensures stops { IfErr result (λ fault.
+        IfKnown (cut_known most_bytes (R.Read.remaining stream))
+        (λ bytes. Stops ⟦<Event as Typed>⟧.promise.format bytes fault)) }
 {
     let mut reader = IoReader::new(stream);
-    // An event takes a byte at least, and the reader fewer than 2^64.
-    for _ in 0..u64::MAX {
+    loop {
         let at = reader.taken();
-        match next_event(alloc, &mut reader) {
+        let (left, next) = next_event(alloc, reader);
+        reader = left;
+        match next {
             Ok(Some(event)) => handle(event),
-            Ok(None) => break,
+            Ok(None) => return Ok(()),
             Err(error) => return Err(Fault { at, error }),
         }
     }
-    Ok(())
 }
 
-/// The next event; none where no byte is left.
+/// The next event, or none where no byte is left; and the reader, with what is left.
 ///
 /// # Errors
 ///
@@ -93,35 +117,40 @@ pub fn replay<R: BufRead + Drop, F: FnMut(Event) + Drop>(
 /// reader failed.
 pub fn next_event<S: Source>(
     alloc: Global,
-    reader: &mut S,
-) -> Result<Option<Event>, DecodeError<S::Error>> {
-    if is_at_end(reader)? {
-        return Ok(None);
+    mut reader: S,
+) -> (S, Result<Option<Event>, DecodeError<S::Error>>)
+    ensures decodes { Decodes (item_or_end ⟦<Event as Typed>⟧.promise.format)
+        (S.view reader) (S.view result.0) (answer_of result.1) }
+    ensures progress { IfOk result.1 (λ next. OnSome next
+        ((S.view result.0).bound + 1 ≤ (S.view reader).bound)) }
+{
+    match is_at_end(&mut reader) {
+        Ok(true) => (reader, Ok(None)),
+        Ok(false) => {
+            let (reader, answer) = read_event(alloc, reader);
+            match answer {
+                Ok(event) => (reader, Ok(Some(event))),
+                Err(error) => (reader, Err(error)),
+            }
+        }
+        Err(error) => (reader, Err(DecodeError::Core(error))),
     }
+}
+
+// Reads an event.
+fn read_event<S: Source>(alloc: Global, reader: S) -> (S, Result<Event, DecodeError<S::Error>>)
+    ensures { Deserializes ⟦<Event as Typed>⟧.promise
+        (S.view reader) (S.view result.0) (answer_of result.1) }
+{
     let mut de = Deserializer::new(reader);
-    match Event::deserialize(alloc, &mut de) {
-        Ok(event) => Ok(Some(event)),
-        Err(error) => Err(error),
-    }
-}
-
-// Puts an event after the others.
-fn put(events: &mut Vec<Event>, event: Event, at: usize) -> Result<(), Fault<Never>> {
-    match events.push(event) {
-        Ok(()) => Ok(()),
-        Err(_) => Err(rejected(at, DecodeError::Core(CoreError::OutOfMemory))),
-    }
-}
-
-fn rejected(at: usize, error: DecodeError<Never>) -> Fault<Never> {
-    Fault {
-        at: at as u64,
-        error,
-    }
+    let answer = Event::deserialize(alloc, &mut de);
+    (de.into_inner(), answer)
 }
 
 // Whether this says that the input ends too early.
-fn ends_early<E>(error: &DecodeError<E>) -> bool {
+fn ends_early<E>(error: &DecodeError<E>) -> bool
+    ensures { result ≡ says_cut error.now }
+{
     matches!(error, DecodeError::Core(CoreError::Eof { .. }))
 }
 
