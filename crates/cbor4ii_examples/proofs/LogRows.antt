@@ -1,10 +1,12 @@
 -- Whole events one after another, and where their reading stops.
-use Rattle.std.proofs.Common.{◌≡◌, ℕ, ◌+◌, ◌≤◌, ◌⊎◌, inl, inr, List, [], ◌∷◌, ◌++◌, length, drop}
+use Rattle.std.proofs.Common.{◌≡◌, ℕ, ◌+◌, ◌≤◌, inl, List, [], ◌∷◌, ◌++◌, length}
+use Rattle.std.proofs.Common.{drop}
 use Rattle.std.proofs.Common.{Option, None, Some, Bool, true, false, Ok, Err, Result, IfSome, refl}
 use Rattle.std.proofs.Common.{sym, ap, ◌∙◌, arith, subst}
 use Rattle.std.proofs.lemmas.List.{length-drop}
-use Rattle.std.specs.Prelude.{IfNone, IfOk, OnSome, IsTrue}
+use Rattle.std.specs.Prelude.{IfNone, IsTrue}
 use Rattle.std.specs.Borrow.{Bor}
+use Rattle.std.specs.List.{FoldsTo}
 use Rattle.std.specs.declared.string.ParseError.{Infallible}
 use Rattle.cbor4ii_rw.specs.Errors.{is_eof}
 use Rattle.cbor4ii_rw.specs.Input.{limit}
@@ -22,7 +24,7 @@ use Rattle.cbor4ii_rw.specs.declared.error.DecodeError.TheVariants.{Custom as Co
 use Rattle.cbor4ii_rw.specs.declared.error.Len.{Len}
 use Rattle.cbor4ii_items.specs.Budget.{CostFits}
 use Rattle.cbor4ii_items.specs.Decoding.{Reads, Format, Decodes, NoneRead}
-use Rattle.cbor4ii_items.specs.InputError.{InputError, eof, input_error_of, is_out_of_memory}
+use Rattle.cbor4ii_items.specs.InputError.{InputError, input_error_of, is_out_of_memory}
 use Rattle.cbor4ii_items.specs.ItemOrEnd.{end_at, item_or_end, RejectsItemOrEnd}
 use Rattle.cbor4ii_items.specs.Laws.Answering.{fits_zero}
 use Rattle.cbor4ii_items.specs.Laws.Calls.{IsRejected, err_of, err_after, decodes_exactly, ok}
@@ -32,11 +34,10 @@ use Rattle.cbor4ii_items.specs.Reading.{Runs}
 use Rattle.cbor4ii.specs.declared.serde.de.error.DecodeError.{DecodeError}
 use Rattle.cbor4ii.specs.declared.serde.de.error.DecodeError.TheVariants.{Core, Custom}
 use Rattle.cbor4ii.specs.First.{typed_error_of}
-use Rattle.cbor4ii.specs.Typed.{Promise, Deserializes, as_core, answer_of}
+use Rattle.cbor4ii.specs.Typed.{Promise, Deserializes, answer_of}
 use Rattle.cbor4ii_examples.specs.declared.event.Event.{Event}
-use Rattle.cbor4ii_examples.specs.declared.log.Batch.{Batch}
-use Rattle.cbor4ii_examples.specs.declared.log.Fault.{Fault}
-use Rattle.cbor4ii_examples.specs.Log.{says_cut, IsRow, EndsEarly, IsBatch, Stops, IsFault, IsLog}
+use Rattle.cbor4ii_examples.specs.Log.{says_cut, IsRow, EndsEarly, Stops, IsFault}
+use Rattle.cbor4ii_examples.specs.Log.{Replays, ReplayStops}
 
 -- ---- a value or the end, of an exact type
 
@@ -269,18 +270,20 @@ module _ {E : Type 0} (s : Format Event) {a b : View} (bytes rest : List ℕ)
     (owned : IsTrue s.owned) where
   pub stopped : (error : DecodeError E)
       → Decodes (item_or_end s) a b (answer_of (Err error))
-      → Stops s bytes (record { at = at; error = error })
+      → (stop : Stops s bytes (record { at = at; error = error })) × (stop.before ≡ events)
   stopped error d =
-      let r = (d.rejects (inl owned)).at rest known in
-      record {
-        before = events;
-        rest = rest;
-        row = row;
-        at = counts_it;
-        none = none_at s b.known rest a.budget budget (typed_error_of error) r
-            ((d.complete (inl owned)).at rest known);
-        rejects = rejects_at s b.known rest a.budget budget (typed_error_of error) r;
-      }
+      let r = (d.rejects (inl owned)).at rest known in (
+        record {
+          before = events;
+          rest = rest;
+          row = row;
+          at = counts_it;
+          none = none_at s b.known rest a.budget budget (typed_error_of error) r
+              ((d.complete (inl owned)).at rest known);
+          rejects = rejects_at s b.known rest a.budget budget (typed_error_of error) r;
+        },
+        refl,
+      )
 
 -- an event that is cut
 pub cut_short : {V E : Type 0} (s : Format V) {a b : View} (rest : List ℕ) → a.known ≡ Some rest
@@ -320,8 +323,19 @@ no_room s bytes rest events at row is = record {
 
 -- ---- a stream
 
--- events were read from the beginning of the bytes, and as many were taken as they have
-pub record Reached (s : Format Event) (view : View) (bytes : List ℕ) : Type 0 where
+-- one more call, after the others
+folds_more : {F A : Type 0} (step : F → A → F → Type 0) (first : F) (xs : List A) (last : F)
+    (x : A) (next : F) → FoldsTo step first xs last → step last x next
+    → FoldsTo step first (xs ++ x ∷ []) next
+folds_more step first [] last x next e h =
+    (next, subst (λ f. step f x next) (sym e) h, refl)
+folds_more step first (y ∷ ys) last x next e h =
+    (e.0, e.1, folds_more step e.0 ys last x next e.2 h)
+
+-- events were read from the beginning of the bytes, as many were taken as they have, and each was
+-- handed on
+pub record Reached {F : Type 0} (step : F → Event → F → Type 0) (s : Format Event)
+    (first last : F) (view : View) (bytes : List ℕ) : Type 0 where
   pub events : List Event
   pub rest : List ℕ
   pub known : view.known ≡ Some rest
@@ -329,57 +343,73 @@ pub record Reached (s : Format Event) (view : View) (bytes : List ℕ) : Type 0 
   pub taken : ℕ
   pub counted : view.taken ≡ Some taken
   pub at : taken + length rest ≡ length bytes
+  pub handed : FoldsTo step first events last
 
-pub at_first : (s : Format Event) (view : View) (known : Option (List ℕ)) → view.known ≡ known
-    → view.taken ≡ Some 0 → IfKnown known (Reached s view)
-at_first s view known is none = λ bytes has. record {
-  events = [];
-  rest = bytes;
-  known = is ∙ has;
-  row = refl;
-  taken = 0;
-  counted = none;
-  at = omega arith;
-}
+module _ {F : Type 0} (step : F → Event → F → Type 0) (s : Format Event) where
+  pub at_first : (first : F) (view : View) (known : Option (List ℕ)) → view.known ≡ known
+      → view.taken ≡ Some 0 → IfKnown known (Reached step s first first view)
+  at_first first view known is none = λ bytes has. record {
+    events = [];
+    rest = bytes;
+    known = is ∙ has;
+    row = refl;
+    taken = 0;
+    counted = none;
+    at = omega arith;
+    handed = refl;
+  }
 
-module _ {E : Type 0} (s : Format Event) {a b : View} (budget : a.budget ≡ Some limit)
-    (stream : Option (List ℕ)) (reached : IfKnown stream (Reached s a)) where
-  after_event : (v : Event) (bytes : List ℕ) → Decodes {E = E} (item_or_end s) a b (Ok (Some v))
-      → Reached s a bytes → Reached s b bytes
-  after_event v bytes d p =
-      let g = grow s bytes p.rest p.known budget p.events p.row v (p.events ++ v ∷ []) refl d in
-      let n = d.moves.by.rest p.rest p.known in
-      let same : drop n.0 p.rest ≡ g.left = same_known _ _ (sym n.1.left ∙ g.known_is) in
-      let size : n.0 + length g.left ≡ length p.rest =
-      omega (arith, n.1.within, length-drop n.0 p.rest, ap length same) in
-      record {
-        events = p.events ++ v ∷ [];
-        rest = g.left;
-        known = g.known_is;
-        row = g.row;
-        taken = p.taken + n.0;
-        counted = d.moves.by.counted p.rest p.known g.left g.known_is n.0 size
-            ∙ ap (counts n.0) p.counted;
-        at = omega (arith, size, p.at);
-      }
+  module _ {E : Type 0} {a b : View} (budget : a.budget ≡ Some limit) (stream : Option (List ℕ))
+      (first last : F) (reached : IfKnown stream (Reached step s first last a)) where
+    after_event : (v : Event) (next : F) (bytes : List ℕ)
+        → Decodes {E = E} (item_or_end s) a b (Ok (Some v)) → step last v next
+        → Reached step s first last a bytes → Reached step s first next b bytes
+    after_event v next bytes d h p =
+        let g = grow s bytes p.rest p.known budget p.events p.row v (p.events ++ v ∷ []) refl d in
+        let n = d.moves.by.rest p.rest p.known in
+        let same : drop n.0 p.rest ≡ g.left = same_known _ _ (sym n.1.left ∙ g.known_is) in
+        let size : n.0 + length g.left ≡ length p.rest =
+        omega (arith, n.1.within, length-drop n.0 p.rest, ap length same) in
+        record {
+          events = p.events ++ v ∷ [];
+          rest = g.left;
+          known = g.known_is;
+          row = g.row;
+          taken = p.taken + n.0;
+          counted = d.moves.by.counted p.rest p.known g.left g.known_is n.0 size
+              ∙ ap (counts n.0) p.counted;
+          at = omega (arith, size, p.at);
+          handed = folds_more step first p.events last v next p.handed h;
+        }
 
-  pub next_reached : (v : Event) → Decodes {E = E} (item_or_end s) a b (Ok (Some v))
-      → IfKnown stream (Reached s b)
-  next_reached v d = λ bytes has. after_event v bytes d (reached bytes has)
+    pub next_reached : (v : Event) (next : F)
+        → Decodes {E = E} (item_or_end s) a b (Ok (Some v)) → step last v next
+        → IfKnown stream (Reached step s first next b)
+    next_reached v next d h = λ bytes has. after_event v next bytes d h (reached bytes has)
 
-  pub at_last : Decodes {E = E} (item_or_end s) a b (Ok None) → IfKnown stream (IsLog s)
-  at_last d = λ bytes has.
-      let p = reached bytes has in
-      record {
-        events = p.events;
-        row = subst (IsRow s.reads bytes p.events) (none_left s p.rest p.known d) p.row;
-      }
+    pub at_last : Decodes {E = E} (item_or_end s) a b (Ok None)
+        → IfKnown stream (Replays step s first)
+    at_last d = λ bytes has.
+        let p = reached bytes has in
+        record {
+          events = p.events;
+          row = subst (IsRow s.reads bytes p.events) (none_left s p.rest p.known d) p.row;
+          last = last;
+          handed = p.handed;
+        }
 
-  pub at_fault : IsTrue s.owned → (at : ℕ) (error : DecodeError E) → a.taken ≡ Some at
-      → Decodes (item_or_end s) a b (answer_of (Err error))
-      → IfKnown stream (λ bytes. Stops s bytes (record { at = at; error = error }))
-  at_fault owned at error is d = λ bytes has.
-      let p = reached bytes has in
-      let same : p.taken ≡ at = same_known _ _ (sym p.counted ∙ is) in
-      stopped s bytes p.rest p.known budget p.events p.row at (omega (arith, same, p.at)) owned
-      error d
+    pub at_fault : IsTrue s.owned → (at : ℕ) (error : DecodeError E) → a.taken ≡ Some at
+        → Decodes (item_or_end s) a b (answer_of (Err error))
+        → IfKnown stream (λ bytes. ReplayStops step s first bytes
+        (record { at = at; error = error }))
+    at_fault owned at error is d = λ bytes has.
+        let p = reached bytes has in
+        let same : p.taken ≡ at = same_known _ _ (sym p.counted ∙ is) in
+        let stop = stopped s bytes p.rest p.known budget p.events p.row at
+        (omega (arith, same, p.at)) owned error d in
+        record {
+          stops = stop.0;
+          last = last;
+          handed = subst (λ vs. FoldsTo step first vs last)
+              (sym stop.1) p.handed;
+        }

@@ -1,6 +1,7 @@
 -- The whole events at the beginning of a log, and where its reading stops.
-use Rattle.std.specs.Prelude.{◌≡◌, ℕ, ◌+◌, ◌≤◌, ◌⊎◌, List, [], ◌∷◌, length, drop, Bool, true, false}
-use Rattle.std.specs.Prelude.{Some, IfSome, IfNone, IsTrue}
+use Rattle.std.specs.Prelude.{◌≡◌, ℕ, ◌+◌, ◌≤◌, ◌⊎◌, List, [], ◌∷◌, length, drop, Bool}
+use Rattle.std.specs.Prelude.{false, Some, IfSome, IfNone, IsTrue}
+use Rattle.std.specs.List.{FoldsTo}
 use Rattle.cbor4ii_rw.specs.Errors.{is_eof}
 use Rattle.cbor4ii_rw.specs.Input.{limit}
 use Rattle.cbor4ii_items.specs.Decoding.{Reads, Format, NoneRead}
@@ -73,7 +74,21 @@ pub record IsFault {E : Type 0} (format : Format Event) (bytes : List ℕ)
   pub memory : IfNone (typed_error_of fault.error)
       (IsTrue (is_out_of_memory (as_core fault.error)))
 
--- The bytes are whole events, one after another.
-pub record IsLog (format : Format Event) (bytes : List ℕ) : Type 0 where
+-- The bytes are whole events, one after another, and each was handed on.
+pub record Replays {F : Type 0} (step : F → Event → F → Type 0) (format : Format Event)
+    (handle : F) (bytes : List ℕ) : Type 0 where
   pub events : List Event
   pub row : IsRow format.reads bytes events []
+  -- the handler after the last of them
+  pub last : F
+  -- it was called with each event, in their order, and with nothing else
+  pub handed : FoldsTo step handle events last
+
+-- Whole events, each of which was handed on, and where the next one fails.
+pub record ReplayStops {F E : Type 0} (step : F → Event → F → Type 0) (format : Format Event)
+    (handle : F) (bytes : List ℕ) (fault : Fault E) : Type 0 where
+  pub stops : Stops format bytes fault
+  -- the handler after the last of them
+  pub last : F
+  -- it was called with each event before the fault, in their order, and with nothing else
+  pub handed : FoldsTo step handle stops.before last

@@ -5,7 +5,7 @@ ghost use Rattle.cbor4ii_items.specs.ItemOrEnd.{item_or_end};
 ghost use Rattle.cbor4ii_rw.specs.Stream.{most_bytes, cut_known};
 ghost use Rattle.cbor4ii_rw.specs.View.{IfKnown};
 ghost use Rattle.cbor4ii.specs.Typed.{answer_of, Deserializes};
-ghost use Rattle.cbor4ii_examples.specs.Log.{says_cut, IsBatch, IsFault, IsLog, Stops};
+ghost use Rattle.cbor4ii_examples.specs.Log.{says_cut, IsBatch, IsFault, Replays, ReplayStops};
 
 use crate::event::Event;
 use cbor4ii::dec::{Source, is_at_end};
@@ -91,10 +91,12 @@ pub fn replay<R: BufRead + Drop, F: FnMut(Event) + Drop>(
 ) -> Result<(), Fault<io::Error>>
     requires { F.IsAlwaysCallable handle }
     ensures whole { IfOk result (λ _. IfKnown (cut_known most_bytes (R.Read.remaining stream))
-        (IsLog ⟦<Event as Typed>⟧.promise.format)) }
+        (Replays (λ before event after. F.step before event tt after)
+        ⟦<Event as Typed>⟧.promise.format handle)) }
     ensures stops { IfErr result (λ fault.
         IfKnown (cut_known most_bytes (R.Read.remaining stream))
-        (λ bytes. Stops ⟦<Event as Typed>⟧.promise.format bytes fault)) }
+        (λ bytes. ReplayStops (λ before event after. F.step before event tt after)
+        ⟦<Event as Typed>⟧.promise.format handle bytes fault)) }
 {
     let mut reader = IoReader::new(stream);
     loop {

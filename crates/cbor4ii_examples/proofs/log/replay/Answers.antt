@@ -1,5 +1,6 @@
 use Rattle.std.proofs.Common.{Ok, Err, Some, None, refl, ◌∙◌}
 use borrow.Author.Rules.{of_calls}
+use denote.Param.Members.{was_Called}
 use Rattle.cbor4ii_examples.specs.contracts.event.EventTyped.TheImpl.{ghosts}
 use Rattle.cbor4ii_examples.proofs.LogRows.{answers, at_fault, at_first, at_last, next_reached}
 use Rattle.cbor4ii_examples.proofs.log.replay.Goals as goal
@@ -8,7 +9,7 @@ pub loop-event-init : goal.loop-event-init
 loop-event-init g c = record {
   callable = search of_calls;
   budget = c.new-reader.ensures.budget;
-  reached = at_first ghosts.promise.format _ _ c.new-reader.ensures.known
+  reached = at_first _ ghosts.promise.format c.args.handle _ _ c.new-reader.ensures.known
       c.new-reader.ensures.taken;
 }
 
@@ -18,19 +19,21 @@ loop-event-preserved g c =
     record {
       callable = search of_calls;
       budget = d.moves.by.budget ∙ c.loop-event.invariant.budget;
-      reached = next_reached ghosts.promise.format c.loop-event.invariant.budget _
-          c.loop-event.invariant.reached c.in-Ok-Some.event d;
+      reached = next_reached _ ghosts.promise.format c.loop-event.invariant.budget _
+          c.args.handle c.loop-event.handle c.loop-event.invariant.reached c.in-Ok-Some.event
+          c.handle.new.self d
+          (was_Called g.F.FnMut _ _ _ _ _ _ c.handle.ensures.met refl refl);
     }
 
 pub returns-in-Ok-None-clause-whole : goal.returns-in-Ok-None-clause-whole
 returns-in-Ok-None-clause-whole g c =
-    at_last ghosts.promise.format c.loop-event.invariant.budget _
-    c.loop-event.invariant.reached
+    at_last _ ghosts.promise.format c.loop-event.invariant.budget _ c.args.handle
+    c.loop-event.handle c.loop-event.invariant.reached
     (answers (Ok None) c.next_event-left.ensures.decodes (cc))
 
 pub returns-in-Err-clause-stops : goal.returns-in-Err-clause-stops
 returns-in-Err-clause-stops g c =
-    at_fault ghosts.promise.format c.loop-event.invariant.budget _
-    c.loop-event.invariant.reached refl c.taken-at.result c.in-Err.error
+    at_fault _ ghosts.promise.format c.loop-event.invariant.budget _ c.args.handle
+    c.loop-event.handle c.loop-event.invariant.reached refl c.taken-at.result c.in-Err.error
     c.taken-at.ensures.taken
     (answers (Err c.in-Err.error) c.next_event-left.ensures.decodes (cc))

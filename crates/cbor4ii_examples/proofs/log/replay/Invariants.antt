@@ -12,7 +12,8 @@ invariant-loop-event g l = record {
   budget : (stream_view g.R.Read.remaining g.R.BufRead.consumable_len l.reader).budget
       ≡ Some limit;
   reached : IfKnown (cut_known most_bytes (g.R.Read.remaining l.fn.stream))
-      (Reached ghosts.promise.format
+      (Reached (λ before event after. goal.F-step g before event tt after)
+      ghosts.promise.format l.fn.handle l.handle
       (stream_view g.R.Read.remaining g.R.BufRead.consumable_len l.reader));
 }
 

@@ -1,5 +1,5 @@
-use Rattle.std.proofs.Common.{◌≡◌, ◌+◌, ◌∷◌, ◌++◌, [], Ok, Err, Some, None, true, false, inl, inr, refl, arith}
-use Rattle.std.proofs.Common.{ap, ◌∙◌, length, sym}
+use Rattle.std.proofs.Common.{◌≡◌, ◌∷◌, ◌++◌, [], Ok, Err, Some, None, true, false, inl, inr, refl}
+use Rattle.std.proofs.Common.{arith, ap, ◌∙◌, length}
 use Rattle.cbor4ii_examples.specs.Log.{says_cut}
 use Rattle.cbor4ii_examples.specs.contracts.event.EventTyped.TheImpl.{ghosts}
 use Rattle.cbor4ii_examples.proofs.LogRows.{answers, cut_short, faulty, grow_to, no_room, none_left}
@@ -67,14 +67,14 @@ returns-in-Err-clause-batch c =
 pub returns-in-Err-2-clause-fault : goal.returns-in-Err-2-clause-fault
 returns-in-Err-2-clause-fault c =
     let other : says_cut c.in-Err-2.error ≡ false = cc in
-    faulty ghosts.promise.format c.args.part.now c.in-Err-2.error c.saturating_sub-taken.result
-    (stopped ghosts.promise.format c.args.part.now c.loop-event.reader.bytes.now refl
+    let stop = stopped ghosts.promise.format c.args.part.now c.loop-event.reader.bytes.now refl
     c.loop-event.invariant.budget c.loop-event.events.items c.loop-event.invariant.row
-    c.saturating_sub-taken.result
-    (omega (
+    c.saturating_sub-taken.result (omega (
       arith,
       ap length (same_known _ _ c.remaining.ensures.known),
       c.saturating_sub-taken.ensures,
       c.loop-event.invariant.within,
-    )) refl c.in-Err-2.error (answers (Err c.in-Err-2.error) c.next_event-next.ensures.decodes (cc)))
-    other
+    )) refl c.in-Err-2.error
+    (answers (Err c.in-Err-2.error) c.next_event-next.ensures.decodes (cc)) in
+    faulty ghosts.promise.format c.args.part.now c.in-Err-2.error c.saturating_sub-taken.result
+    stop.0 other
