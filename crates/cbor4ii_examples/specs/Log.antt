@@ -24,14 +24,18 @@ says_cut (Custom text) = false
 abbrev pub IsRow : {V : Type 0} → Reads V → List ℕ → List V → List ℕ → Type 0
 IsRow reads bytes [] rest = bytes ≡ rest
 IsRow reads bytes (v ∷ vs) rest =
-    (count cost : ℕ) × reads bytes v count cost × (cost ≤ limit) × IsRow reads (drop count bytes) vs rest
+    (count cost : ℕ) × reads bytes v count cost × (cost ≤ limit)
+    × IsRow reads (drop count bytes) vs rest
 
 -- The bytes are read as no value, since they end too early.
 pub record EndsEarly {V : Type 0} (format : Format V) (rest : List ℕ) : Type 0 where
-  -- the `Eof` that the type gives there
+  -- what was read
   pub name : List ℕ
+  -- how many bytes are wanted
   pub expect : Len
+  -- what is left then
   pub left : List ℕ
+  -- the type gives this `Eof` there
   pub rejects : format.rejects rest (Some limit) (eof name expect) left
   -- no value begins the bytes
   pub none : NoneRead format.reads rest (Some limit)
@@ -67,6 +71,7 @@ pub record Stops {E : Type 0} (format : Format Event) (bytes : List ℕ)
 -- Whole events from the beginning of a part, and where the next one fails, other than by its end.
 pub record IsFault {E : Type 0} (format : Format Event) (bytes : List ℕ)
     (fault : Fault E) : Type 0 where
+  -- events before it, and why the next one fails
   pub stops : Stops format bytes fault
   -- the part does not end too early
   pub no_cut : says_cut fault.error ≡ false
@@ -77,7 +82,9 @@ pub record IsFault {E : Type 0} (format : Format Event) (bytes : List ℕ)
 -- The bytes are whole events, one after another, and each was handed on.
 pub record Replays {F : Type 0} (step : F → Event → F → Type 0) (format : Format Event)
     (handle : F) (bytes : List ℕ) : Type 0 where
+  -- the events
   pub events : List Event
+  -- they stand one after another, and nothing is left
   pub row : IsRow format.reads bytes events []
   -- the handler after the last of them
   pub last : F
@@ -87,6 +94,7 @@ pub record Replays {F : Type 0} (step : F → Event → F → Type 0) (format : 
 -- Whole events, each of which was handed on, and where the next one fails.
 pub record ReplayStops {F E : Type 0} (step : F → Event → F → Type 0) (format : Format Event)
     (handle : F) (bytes : List ℕ) (fault : Fault E) : Type 0 where
+  -- events before it, and why the next one fails
   pub stops : Stops format bytes fault
   -- the handler after the last of them
   pub last : F
