@@ -73,7 +73,7 @@ field_rejects own rejects others name xs budget err rest =
     ⊎ ((name ≢ own) × others name xs budget err rest)
 
 -- a key is whole, and what follows it is rejected
-pub record RejectsAfterKey (key : FieldKey) (rejects : RejectsNamed) (xs : List ℕ)
+pub record RejectsAfterLabel (key : FieldKey) (rejects : RejectsNamed) (xs : List ℕ)
     (budget : Option ℕ) (err : InputError) (rest : List ℕ) : Type 0 where
   pub label : List ℕ
   pub size : ℕ
@@ -85,7 +85,7 @@ pub record RejectsAfterKey (key : FieldKey) (rejects : RejectsNamed) (xs : List 
 -- a pair's error: that of its key, or that of what follows it
 abbrev pub RejectsByKey : FieldKey → RejectsNamed → RejectsAt
 RejectsByKey key rejects xs budget err rest =
-    key.rejects xs budget err rest ⊎ RejectsAfterKey key rejects xs budget err rest
+    key.rejects xs budget err rest ⊎ RejectsAfterLabel key rejects xs budget err rest
 
 -- a map of fields is rejected: no step is left, the head is rejected, or after some whole pairs no
 -- byte is left or a pair is rejected

@@ -35,7 +35,7 @@ use Rattle.cbor4ii.specs.declared.serde.de.error.DecodeError.TheVariants.{Core, 
 use Rattle.cbor4ii.specs.First.{typed_error_of}
 use Rattle.cbor4ii.specs.Typed.{Promise, Deserializes, answer_of}
 use Rattle.cbor4ii_examples.specs.declared.event.Event.{Event}
-use Rattle.cbor4ii_examples.specs.Log.{says_cut, IsRow, EndsEarly, Stops, IsFault}
+use Rattle.cbor4ii_examples.specs.Log.{says_cut, IsSequenceOf, EndsEarly, Stops, IsFault}
 use Rattle.cbor4ii_examples.specs.Log.{Replays, ReplayStops}
 
 -- ---- a value or the end, of an exact type
@@ -140,8 +140,8 @@ same_known x y p = ap (value_or x) p
 
 -- one more value at a row's end
 grown : {V : Type 0} (reads : Reads V) (bytes : List ℕ) (vs : List V) (rest : List ℕ) (v : V)
-    (n c : ℕ) → IsRow reads bytes vs rest → reads rest v n c → c ≤ limit
-    → IsRow reads bytes (vs ++ v ∷ []) (drop n rest)
+    (n c : ℕ) → IsSequenceOf reads bytes vs rest → reads rest v n c → c ≤ limit
+    → IsSequenceOf reads bytes (vs ++ v ∷ []) (drop n rest)
 grown reads bytes [] rest v n c row read fits =
     (n, c, subst (λ ys. reads ys v n c) (sym row) read, fits, ap (drop n) row)
 grown reads bytes (w ∷ vs) rest v n c row read fits =
@@ -149,20 +149,20 @@ grown reads bytes (w ∷ vs) rest v n c row read fits =
 
 -- a row of no value
 pub begun : {V : Type 0} (reads : Reads V) (bytes rest : List ℕ) (vs : List V) → vs ≡ []
-    → Some rest ≡ Some bytes → IsRow reads bytes vs rest
+    → Some rest ≡ Some bytes → IsSequenceOf reads bytes vs rest
 begun reads bytes rest vs e known =
-    subst (λ ws. IsRow reads bytes ws rest) (sym e) (same_known bytes rest (sym known))
+    subst (λ ws. IsSequenceOf reads bytes ws rest) (sym e) (same_known bytes rest (sym known))
 
 -- the value that a call read, at the row's end
 pub record Grown {V : Type 0} (reads : Reads V) (bytes : List ℕ) (vs : List V)
     (known : Option (List ℕ)) (rest : List ℕ) : Type 0 where
   pub left : List ℕ
   pub known_is : known ≡ Some left
-  pub row : IsRow reads bytes vs left
+  pub row : IsSequenceOf reads bytes vs left
   pub within : length left ≤ length rest
 
 module _ {V E : Type 0} (s : Format V) {a b : View} (bytes rest : List ℕ) (known : a.known ≡ Some
-    rest) (budget : a.budget ≡ Some limit) (vs : List V) (row : IsRow s.reads bytes vs rest) where
+    rest) (budget : a.budget ≡ Some limit) (vs : List V) (row : IsSequenceOf s.reads bytes vs rest) where
   pub grow : (v : V) (items : List V) → items ≡ vs ++ v ∷ []
       → Decodes {E = E} (item_or_end s) a b (Ok (Some v)) → Grown s.reads bytes items b.known rest
   grow v items is d =
@@ -171,7 +171,7 @@ module _ {V E : Type 0} (s : Format V) {a b : View} (bytes rest : List ℕ) (kno
       record {
         left = drop t.count rest;
         known_is = t.left;
-        row = subst (λ z. IsRow s.reads bytes z (drop t.count rest)) (sym is)
+        row = subst (λ z. IsSequenceOf s.reads bytes z (drop t.count rest)) (sym is)
             (grown s.reads bytes vs rest v t.count t.cost row t.read.1 fits);
         within = omega (arith, length-drop t.count rest);
       }
@@ -179,11 +179,11 @@ module _ {V E : Type 0} (s : Format V) {a b : View} (bytes rest : List ℕ) (kno
   -- the same, where the bytes that are left have a name
   pub grow_to : (left : List ℕ) → b.known ≡ Some left → (v : V) (items : List V)
       → items ≡ vs ++ v ∷ [] → Decodes {E = E} (item_or_end s) a b (Ok (Some v))
-      → IsRow s.reads bytes items left × (length left ≤ length rest)
+      → IsSequenceOf s.reads bytes items left × (length left ≤ length rest)
   grow_to left is v items more d =
       let g = grow v items more d in
       let same : g.left ≡ left = same_known g.left left (sym g.known_is ∙ is) in (
-        subst (IsRow s.reads bytes items) same g.row,
+        subst (IsSequenceOf s.reads bytes items) same g.row,
         subst (λ ys. length ys ≤ length rest) same g.within,
       )
 
@@ -265,7 +265,7 @@ early s rest (Core e) none rejects is =
 
 module _ {E : Type 0} (s : Format Event) {a b : View} (bytes rest : List ℕ)
     (known : a.known ≡ Some rest) (budget : a.budget ≡ Some limit) (events : List Event)
-    (row : IsRow s.reads bytes events rest) (at : ℕ) (counts_it : at + length rest ≡ length bytes)
+    (row : IsSequenceOf s.reads bytes events rest) (at : ℕ) (counts_it : at + length rest ≡ length bytes)
     (owned : IsTrue s.owned) where
   pub stopped : (error : DecodeError E)
       → Decodes (item_or_end s) a b (answer_of (Err error))
@@ -305,7 +305,7 @@ faulty s bytes (Custom text) at p other = record { stops = p; no_cut = other; me
 
 -- an event for which there is no memory
 pub no_room : (s : Format Event) (bytes rest : List ℕ) (events : List Event) (at : ℕ)
-    → IsRow s.reads bytes events rest → at + length rest ≡ length bytes
+    → IsSequenceOf s.reads bytes events rest → at + length rest ≡ length bytes
     → IsFault {E = Infallible} s bytes (record { at = at; error = Core OutOfMemory })
 no_room s bytes rest events at row is = record {
   stops = record {
@@ -338,7 +338,7 @@ pub record Reached {F : Type 0} (step : F → Event → F → Type 0) (s : Forma
   pub events : List Event
   pub rest : List ℕ
   pub known : view.known ≡ Some rest
-  pub row : IsRow s.reads bytes events rest
+  pub row : IsSequenceOf s.reads bytes events rest
   pub taken : ℕ
   pub counted : view.taken ≡ Some taken
   pub at : taken + length rest ≡ length bytes
@@ -392,7 +392,7 @@ module _ {F : Type 0} (step : F → Event → F → Type 0) (s : Format Event) w
         let p = reached bytes has in
         record {
           events = p.events;
-          row = subst (IsRow s.reads bytes p.events) (none_left s p.rest p.known d) p.row;
+          row = subst (IsSequenceOf s.reads bytes p.events) (none_left s p.rest p.known d) p.row;
           last = last;
           handed = p.handed;
         }

@@ -21,11 +21,11 @@ says_cut (Core error) = is_eof error
 says_cut (Custom text) = false
 
 -- the bytes are read as these values, one after another, each within the steps, and then the rest
-abbrev pub IsRow : {V : Type 0} → Reads V → List ℕ → List V → List ℕ → Type 0
-IsRow reads bytes [] rest = bytes ≡ rest
-IsRow reads bytes (v ∷ vs) rest =
+abbrev pub IsSequenceOf : {V : Type 0} → Reads V → List ℕ → List V → List ℕ → Type 0
+IsSequenceOf reads bytes [] rest = bytes ≡ rest
+IsSequenceOf reads bytes (v ∷ vs) rest =
     (count cost : ℕ) × reads bytes v count cost × (cost ≤ limit)
-    × IsRow reads (drop count bytes) vs rest
+    × IsSequenceOf reads (drop count bytes) vs rest
 
 -- The bytes are read as no value, since they end too early.
 pub record EndsEarly {V : Type 0} (format : Format V) (rest : List ℕ) : Type 0 where
@@ -45,7 +45,7 @@ pub record IsBatch (format : Format Event) (bytes : List ℕ) (batch : Batch) : 
   -- what is left after the events
   pub rest : List ℕ
   -- the events stand one after another, and then comes the rest
-  pub row : IsRow format.reads bytes batch.events.items rest
+  pub row : IsSequenceOf format.reads bytes batch.events.items rest
   -- so many bytes the events take
   pub taken : batch.taken + length rest ≡ length bytes
   -- nothing is left, or the beginning of an event that is cut
@@ -59,7 +59,7 @@ pub record Stops {E : Type 0} (format : Format Event) (bytes : List ℕ)
   -- what is left after them
   pub rest : List ℕ
   -- the events stand one after another, and then comes the rest
-  pub row : IsRow format.reads bytes before rest
+  pub row : IsSequenceOf format.reads bytes before rest
   -- so many bytes the events take
   pub at : fault.at + length rest ≡ length bytes
   -- an error that speaks of the bytes comes only where no event begins the rest
@@ -85,7 +85,7 @@ pub record Replays {F : Type 0} (step : F → Event → F → Type 0) (format : 
   -- the events
   pub events : List Event
   -- they stand one after another, and nothing is left
-  pub row : IsRow format.reads bytes events []
+  pub row : IsSequenceOf format.reads bytes events []
   -- the handler after the last of them
   pub last : F
   -- it was called with each event, in their order, and with nothing else
