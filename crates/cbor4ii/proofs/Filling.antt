@@ -227,8 +227,8 @@ changed_last values (g ∷ changes) change = changed_last (g values) changes cha
 
 module _ {V E : Type 0} (key : FieldKey) (f : Fields V) where
   made_more : (first : V) {m b : View} {middle last : V} (changes : List (V → V))
-      → middle ≡ after_changes first changes → (t : Altered E one_change (field_pair key f) middle last
-      m b)
+      → middle ≡ after_changes first changes → (t : Altered E one_change (field_pair key f) middle
+      last m b)
       → last ≡ after_changes first (changes ++ t.what ∷ [])
   made_more first changes is t = t.is ∙ (ap t.what is ∙ sym (changed_last first changes t.what))
 
@@ -264,7 +264,8 @@ module _ {V : Type 0} (key : FieldKey) (f : Fields V) where
     pub is : last ≡ after_changes first changes
 
   pub unended_more : {E : Type 0} {a l m b : View} {first middle last : V}
-      → Unended a l first middle → Stands l m → Altered E one_change (field_pair key f) middle last m b
+      → Unended a l first middle → Stands l m → Altered E one_change (field_pair key f) middle last
+      m b
       → Unended a b first last
   unended_more {first = first} h s t = record {
     changes = h.changes ++ t.what ∷ [];
@@ -312,7 +313,8 @@ module _ {W V U E : Type 0} (makes : W → V → V) (exact : Bool) (before after
 -- ---- the values
 
 -- what was there before any pair
-pub from_first : {V E : Type 0} (key : FieldKey) (f : Fields V) {before after : V} {a b : View} → before ≡ f.first
+pub from_first : {V E : Type 0} (key : FieldKey) (f : Fields V) {before after : V} {a b : View}
+    → before ≡ f.first
     → Altered E all_changes (field_pairs key f) before after a b
     → Altered E all_changes (field_pairs key f) f.first after a b
 from_first {E = E} key f {after = after} {a = a} {b = b} is =

@@ -140,9 +140,11 @@ nothing_comes (x ∷ xs) budget z ys r = absurd (let e = r.0 in cc)
 
 -- no byte is left
 pub no_key : {E : Type 0} {a b : View} {e : DecodeError E}
-    → Decodes (next_format (codes "i128")) a b (Err e) → Decodes (key_format integer_key) a b (Err e)
+    → Decodes (next_format (codes "i128")) a b (Err e) → Decodes (key_format integer_key) a b (Err
+    e)
 no_key {a = a} d =
-    decodes_exactly (err_after (next_format (codes "i128")) (key_format integer_key) (kept_alike a) (λ xs known. (
+    decodes_exactly (err_after (next_format (codes "i128")) (key_format integer_key) (kept_alike a)
+    (λ xs known. (
       xs,
       known,
       record {

@@ -249,7 +249,8 @@ stays_takes s h = record {
 }
 
 pub then_takes : {E : Type 0} (names : List (Bor (List ℕ))) {a m : View} (b : View)
-    (r : Result ℕ (DecodeError E)) → Stays a m → TakesKey text_key names m b r → TakesKey text_key names a b r
+    (r : Result ℕ (DecodeError E)) → Stays a m → TakesKey text_key names m b r → TakesKey text_key
+    names a b r
 then_takes names b (Ok at) s h = stays_takes s h
 then_takes names b (Err e) s h =
     decodes_exactly (err_after (key_format text_key) (key_format text_key) s.kept (λ xs known. (

@@ -162,7 +162,8 @@ pub record Grown {V : Type 0} (reads : Reads V) (bytes : List ℕ) (vs : List V)
   pub within : length left ≤ length rest
 
 module _ {V E : Type 0} (s : Format V) {a b : View} (bytes rest : List ℕ) (known : a.known ≡ Some
-    rest) (budget : a.budget ≡ Some limit) (vs : List V) (row : IsSequenceOf s.reads bytes vs rest) where
+    rest) (budget : a.budget ≡ Some limit) (vs : List V) (row : IsSequenceOf s.reads bytes vs rest)
+    where
   pub grow : (v : V) (items : List V) → items ≡ vs ++ v ∷ []
       → Decodes {E = E} (item_or_end s) a b (Ok (Some v)) → Grown s.reads bytes items b.known rest
   grow v items is d =
@@ -265,7 +266,8 @@ early s rest (Core e) none rejects is =
 
 module _ {E : Type 0} (s : Format Event) {a b : View} (bytes rest : List ℕ)
     (known : a.known ≡ Some rest) (budget : a.budget ≡ Some limit) (events : List Event)
-    (row : IsSequenceOf s.reads bytes events rest) (at : ℕ) (counts_it : at + length rest ≡ length bytes)
+    (row : IsSequenceOf s.reads bytes events rest) (at : ℕ) (counts_it : at + length rest ≡ length
+    bytes)
     (owned : IsTrue s.owned) where
   pub stopped : (error : DecodeError E)
       → Decodes (item_or_end s) a b (answer_of (Err error))

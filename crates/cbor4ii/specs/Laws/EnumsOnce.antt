@@ -161,9 +161,11 @@ module _ {V : Type 0} (cases : Cases V) (once : CasesOnce cases) where
       let f = form_one xs p.form s.form p.size s.size p.seen s.seen in
       let moved = subst (λ (form : Bool × ℕ). ReadsByKey text_key (reads_named cases form)
       (drop p.size xs) v p.between c) f.0 p.named in
-      pair_apart text_key (reads_named cases s.form) (rejects_named cases s.form) (once.apart s.form)
+      pair_apart text_key (reads_named cases s.form) (rejects_named cases s.form) (once.apart
+      s.form)
       (once.one_error s.form) (drop s.size xs) budget e x s.stop v p.between c
-      (subst (λ k. ReadsByKey text_key (reads_named cases s.form) (drop k xs) v p.between c) f.1 moved)
+      (subst (λ k. ReadsByKey text_key (reads_named cases s.form) (drop k xs) v p.between c) f.1
+      moved)
       fits
 
   case_error : OneError (RejectsCase (rejects_named cases))
@@ -176,7 +178,8 @@ module _ {V : Type 0} (cases : Cases V) (once : CasesOnce cases) where
       let same = form_one xs s.form t.form s.size t.size s.seen t.seen in
       let moved = subst (λ (form : Bool × ℕ). RejectsByKey text_key (rejects_named cases form)
       (drop s.size xs) budget e x) same.0 s.stop in
-      pair_error text_key (reads_named cases t.form) (rejects_named cases t.form) (once.apart t.form)
+      pair_error text_key (reads_named cases t.form) (rejects_named cases t.form) (once.apart
+      t.form)
       (once.one_error t.form) (drop t.size xs) budget e f x y
       (subst (λ k. RejectsByKey text_key (rejects_named cases t.form) (drop k xs) budget e x) same.1
       moved) t.stop

@@ -20,4 +20,5 @@ returns-clause-whole g c kinds labels words is once =
     let fields = g.V.Places.fields labels in
     let value = g.K.Presences.made kinds words in
     made_from_once g.T.From.from_gives (made_struct g.A.ReadKey.key fields value)
-    (made_struct_once g.A.ReadKey.key fields value is once (g.met.K.Presences.fate kinds words labels))
+    (made_struct_once g.A.ReadKey.key fields value is once (g.met.K.Presences.fate kinds words
+    labels))

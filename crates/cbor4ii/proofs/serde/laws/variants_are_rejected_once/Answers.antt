@@ -17,4 +17,5 @@ returns-clause-fields g c kinds own words cases is once others =
     let value = g.K.Presences.made kinds words in
     cases_by_once (fields_case fields value) (g.D.Cases.cases cases)
     (held_case_once (made_struct text_key fields value)
-    (made_struct_once text_key fields value is once (g.met.K.Presences.fate kinds words own))) others
+    (made_struct_once text_key fields value is once (g.met.K.Presences.fate kinds words own)))
+    others

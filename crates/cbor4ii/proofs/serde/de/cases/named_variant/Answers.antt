@@ -17,5 +17,6 @@ returns-in-Some g c =
 pub returns-in-None : goal.returns-in-None
 returns-in-None g c =
     let cases = g.C.Cases.cases c.args.cases c.args.variants.now in
-    rw c.left.ensures (key_err text_key (reads_named cases c.args.form) (rejects_named cases c.args.form)
+    rw c.left.ensures (key_err text_key (reads_named cases c.args.form) (rejects_named cases
+    c.args.form)
     (begins_named cases c.args.form) cases.same cases.owned c.in-None.ensures)

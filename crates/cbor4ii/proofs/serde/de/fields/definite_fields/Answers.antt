@@ -11,7 +11,8 @@ use Rattle.cbor4ii.proofs.serde.de.fields.definite_fields.Goals as goal
 pub returns-in_err-take_field-clause-alters : goal.returns-in_err-take_field-clause-alters
 returns-in_err-take_field-clause-alters g c =
     let fields = g.V.Places.fields (labels_by g.K.ReadKey.label c.args.keys.now) in
-    rw c.from_residual.ensures (count_err in_list (field_pair g.K.ReadKey.key fields) (field_pair_lawful g.K.ReadKey.key fields)
+    rw c.from_residual.ensures (count_err in_list (field_pair g.K.ReadKey.key fields)
+    (field_pair_lawful g.K.ReadKey.key fields)
     c.loop-i.invariant.begun c.loop-i-test.true c.in_err-take_field.ensures.alters)
 
 pub loop-i-init : goal.loop-i-init
@@ -21,7 +22,8 @@ loop-i-init g c = record {
     kept = kept_alike _;
     count = refl;
     parts = no_part
-        (field_pair g.K.ReadKey.key (g.V.Places.fields (labels_by g.K.ReadKey.label c.args.keys.now))).reads refl refl;
+        (field_pair g.K.ReadKey.key (g.V.Places.fields (labels_by g.K.ReadKey.label
+        c.args.keys.now))).reads refl refl;
   };
   is = refl;
 }

@@ -36,7 +36,8 @@ returns-in-Ok-None-clause-alters g c =
 pub returns-in-Err-clause-alters : goal.returns-in-Err-clause-alters
 returns-in-Err-clause-alters g c =
     rw c.leave.ensures (head_err in_list (codes "map") 5
-    (field_pair g.K.ReadKey.key (g.V.Places.fields (labels_by g.K.ReadKey.label c.args.keys.now))) five_small (of_exact c.in-Err.ensures))
+    (field_pair g.K.ReadKey.key (g.V.Places.fields (labels_by g.K.ReadKey.label c.args.keys.now)))
+    five_small (of_exact c.in-Err.ensures))
 
 pub returns-in-Ok-Some-clause-memory : goal.returns-in-Ok-Some-clause-memory
 returns-in-Ok-Some-clause-memory g c =

@@ -34,10 +34,12 @@ loop-alloc-init g c =
 pub returns-in_err-part-clause-alters : goal.returns-in_err-part-clause-alters
 returns-in_err-part-clause-alters g c =
     let fields = g.V.Places.fields (labels_by g.K.ReadKey.label c.args.keys.now) in
-    rw c.from_residual.ensures (indefinite_err in_list (codes "map") (field_pair g.K.ReadKey.key fields)
+    rw c.from_residual.ensures (indefinite_err in_list (codes "map") (field_pair g.K.ReadKey.key
+    fields)
     (field_pair_lawful g.K.ReadKey.key fields) c.loop-alloc.invariant.opened
     (place_end (field_pair g.K.ReadKey.key fields) (codes "map")
-    (field_pair_lawful g.K.ReadKey.key fields) (rw c.in_err-part.ensures at c.takes_break.ensures.runs)
+    (field_pair_lawful g.K.ReadKey.key fields) (rw c.in_err-part.ensures at
+    c.takes_break.ensures.runs)
     (rw c.in_err-part.ensures at c.takes_break.ensures.memory)))
 
 pub returns-in_err-take_field-clause-alters : goal.returns-in_err-take_field-clause-alters
@@ -45,19 +47,23 @@ returns-in_err-take_field-clause-alters g c =
     let fields = g.V.Places.fields (labels_by g.K.ReadKey.label c.args.keys.now) in
     let taken = rw c.in_ok-part.ensures at c.takes_break.ensures.runs in
     rw c.from_residual-in_err-take_field.ensures (indefinite_err in_list (codes "map")
-    (field_pair g.K.ReadKey.key fields) (field_pair_lawful g.K.ReadKey.key fields) c.loop-alloc.invariant.opened
-    (place_part (field_pair g.K.ReadKey.key fields) (codes "map") refl (stands c.if-not-branch.true taken)
+    (field_pair g.K.ReadKey.key fields) (field_pair_lawful g.K.ReadKey.key fields)
+    c.loop-alloc.invariant.opened
+    (place_part (field_pair g.K.ReadKey.key fields) (codes "map") refl (stands c.if-not-branch.true
+    taken)
     c.in_err-take_field.ensures.alters))
 
 pub loop-alloc-preserved : goal.loop-alloc-preserved
 loop-alloc-preserved g c =
     let taken = rw c.in_ok-part.ensures at c.takes_break.ensures.runs in
-    unended_more g.K.ReadKey.key (g.V.Places.fields (labels_by g.K.ReadKey.label c.args.keys.now)) c.loop-alloc.invariant
+    unended_more g.K.ReadKey.key (g.V.Places.fields (labels_by g.K.ReadKey.label c.args.keys.now))
+    c.loop-alloc.invariant
     (stands c.if-not-branch.true taken) c.in_ok-take_field.ensures.alters
 
 pub returns-clause-alters : goal.returns-clause-alters
 returns-clause-alters g c =
-    unended_done g.K.ReadKey.key (g.V.Places.fields (labels_by g.K.ReadKey.label c.args.keys.now)) (codes "map") c.if-not-branch.false
+    unended_done g.K.ReadKey.key (g.V.Places.fields (labels_by g.K.ReadKey.label c.args.keys.now))
+    (codes "map") c.if-not-branch.false
     c.loop-alloc.invariant (rw c.in_ok-part.ensures at c.takes_break.ensures.runs)
 
 pub loop-alloc-smaller : goal.loop-alloc-smaller

@@ -15,7 +15,8 @@ use Rattle.cbor4ii.proofs.serde.de.fields.take_fields.Goals as goal
 pub returns-then-not-step_in-clause-alters : goal.returns-then-not-step_in-clause-alters
 returns-then-not-step_in-clause-alters g c =
     of_exact (no_step_left (inside_of in_list (codes "map") 5
-    (field_pair g.K.ReadKey.key (g.V.Places.fields (labels_by g.K.ReadKey.label c.args.keys.now)))) _ (search rules)
+    (field_pair g.K.ReadKey.key (g.V.Places.fields (labels_by g.K.ReadKey.label c.args.keys.now))))
+    _ (search rules)
     c.if-not-step_in.ensures.budget c.step_in.ensures.others)
 
 pub returns-clause-alters : goal.returns-clause-alters

@@ -9,7 +9,8 @@ pub returns-in-Ok-values-clause-promised : goal.returns-in-Ok-values-clause-prom
 returns-in-Ok-values-clause-promised g c =
     let labels = labels_by g.K.ReadKey.label c.args.keys.now in
     let f = g.V.Places.fields labels in
-    made_ok (struct_of (λ v. v) g.K.ReadKey.key f) (g.P.Presences.made c.args.presences c.args.missing.now)
+    made_ok (struct_of (λ v. v) g.K.ReadKey.key f) (g.P.Presences.made c.args.presences
+    c.args.missing.now)
     (sym c.in-Ok-values.ensures) (struct_ok (λ v. v) g.K.ReadKey.key f
     (from_first g.K.ReadKey.key f (c.none-values.ensures labels) c.in-Ok.ensures.alters))
 
@@ -17,7 +18,8 @@ pub returns-in-Err-values-clause-promised : goal.returns-in-Err-values-clause-pr
 returns-in-Err-values-clause-promised g c =
     let labels = labels_by g.K.ReadKey.label c.args.keys.now in
     let f = g.V.Places.fields labels in
-    unmade (struct_of (λ v. v) g.K.ReadKey.key f) (g.P.Presences.made c.args.presences c.args.missing.now)
+    unmade (struct_of (λ v. v) g.K.ReadKey.key f) (g.P.Presences.made c.args.presences
+    c.args.missing.now)
     (g.met.P.Presences.fate c.args.presences c.args.missing.now labels)
     (sym c.in-Err-values.ensures) (struct_ok (λ v. v) g.K.ReadKey.key f
     (from_first g.K.ReadKey.key f (c.none-values.ensures labels) c.in-Ok.ensures.alters))
@@ -25,5 +27,6 @@ returns-in-Err-values-clause-promised g c =
 pub returns-in-Err-clause-promised : goal.returns-in-Err-clause-promised
 returns-in-Err-clause-promised g c =
     let f = g.V.Places.fields (labels_by g.K.ReadKey.label c.args.keys.now) in
-    made_err (struct_of (λ v. v) g.K.ReadKey.key f) (g.P.Presences.made c.args.presences c.args.missing.now)
+    made_err (struct_of (λ v. v) g.K.ReadKey.key f) (g.P.Presences.made c.args.presences
+    c.args.missing.now)
     (struct_err (λ v. v) g.K.ReadKey.key f c.in-Err.ensures.alters)

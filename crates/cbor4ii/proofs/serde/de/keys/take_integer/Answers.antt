@@ -33,7 +33,8 @@ returns-clause-decodes g c =
 
 pub returns-in-Err-clause-memory : goal.returns-in-Err-clause-memory
 returns-in-Err-clause-memory g c =
-    wants_as TextComes {V = Option ℤ} (g.S.Source.view c.args.de.now.reader) false _ (Err _) not_exact
+    wants_as TextComes {V = Option ℤ} (g.S.Source.view c.args.de.now.reader) false _ (Err _)
+    not_exact
     c.in-Err.ensures.decodes.memory
 
 pub returns-in-None-clause-memory : goal.returns-in-None-clause-memory

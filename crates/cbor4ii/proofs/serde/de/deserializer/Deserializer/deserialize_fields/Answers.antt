@@ -5,12 +5,14 @@ use Rattle.cbor4ii.proofs.serde.de.deserializer.Deserializer.deserialize_fields.
 
 pub returns-in-Ok-clause-promised : goal.returns-in-Ok-clause-promised
 returns-in-Ok-clause-promised g c =
-    from_ok (made_struct g.K.ReadKey.key (g.V.Places.fields (labels_by g.K.ReadKey.label c.args.keys.now))
+    from_ok (made_struct g.K.ReadKey.key (g.V.Places.fields (labels_by g.K.ReadKey.label
+    c.args.keys.now))
     (g.P.Presences.made c.args.presences c.args.missing.now)) g.T.From.from_gives c.from.ensures
     c.in-Ok.ensures.promised
 
 pub returns-in-Err-clause-promised : goal.returns-in-Err-clause-promised
 returns-in-Err-clause-promised g c =
-    from_err (made_struct g.K.ReadKey.key (g.V.Places.fields (labels_by g.K.ReadKey.label c.args.keys.now))
+    from_err (made_struct g.K.ReadKey.key (g.V.Places.fields (labels_by g.K.ReadKey.label
+    c.args.keys.now))
     (g.P.Presences.made c.args.presences c.args.missing.now)) g.T.From.from_gives
     c.in-Err.ensures.promised
