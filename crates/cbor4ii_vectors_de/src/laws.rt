@@ -16,7 +16,7 @@ use cbor4ii::serde::{
     described_values_are_read_back,
 };
 use cbor4ii_items::types::Bytes;
-use cbor4ii_rw::error::Never;
+use cbor4ii_rw::error::{Never, StaticStr};
 use cbor4ii_rw::read::Source;
 use cbor4ii_rw::slice_reader::SliceReader;
 use cbor4ii_rw::write::Write;
@@ -163,7 +163,8 @@ type TwoPresences = (Required, (Required, ()));
 
 #[test]
 fn laws_of_one_error_of_structs_are_called(rt: HostRuntime) {
-    laws::structs_are_rejected_once::<Option<String>, TwoPlaces, TwoPresences, Two>();
+    laws::structs_are_rejected_once::<StaticStr, Option<String>, TwoPlaces, TwoPresences, Two>();
+    laws::structs_are_rejected_once::<i64, Option<String>, TwoPlaces, TwoPresences, Two>();
 }
 
 impl From<Choice<u8, Never>> for Lamp {
