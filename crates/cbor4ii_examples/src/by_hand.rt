@@ -1,5 +1,6 @@
-//! Maps of two pairs, one written and one read by hand, the second with no contract.
-ghost use Rattle.std.specs.Prelude.{◌≡◌, IfOk};
+//! Maps of two pairs, one written and one read by hand.
+ghost use Rattle.std.specs.Prelude.{◌≡◌, ◌+◌, ◌≤◌, IfOk, OnOk};
+ghost use Rattle.cbor4ii_items.specs.Moves.{Moves};
 ghost use Rattle.cbor4ii_examples.specs.ByHand.{written_record};
 
 use cbor4ii::dec::{Decode, Source, is_break};
@@ -43,6 +44,9 @@ pub struct Record {
 /// A record out of a map of indefinite length, its pairs in any order; none where the map is
 /// another one. The name has a tag, which is not looked at.
 ///
+/// Whatever the answer is, the budget is as before, and the bytes that are left are an end of those
+/// that were there. A byte was taken where no error comes, also where there is no record.
+///
 /// # Errors
 ///
 /// Those of the map's head, of a key and of what stands under it. Where the input ends in the place
@@ -50,7 +54,10 @@ pub struct Record {
 pub fn decode_record<S: Source>(
     alloc: Global,
     reader: &mut S,
-) -> Result<Option<Record>, DecodeError<S::Error>> {
+) -> Result<Option<Record>, DecodeError<S::Error>>
+    ensures moves { Moves (S.view reader.old) (S.view reader.new) result }
+    ensures progress { OnOk result ((S.view reader.new).bound + 1 ≤ (S.view reader.old).bound) }
+{
     let mut id = None;
     let mut name = None;
     if Map::len(reader)?.is_some() {
