@@ -27,3 +27,5 @@ pub mod First
 pub mod ByHand
 -- Whole events of a log, and where their reading stops.
 pub mod LogRows
+-- What a function leaves that read a variant.
+pub mod Variants

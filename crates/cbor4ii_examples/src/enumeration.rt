@@ -1,15 +1,18 @@
 //! An enum with variants of each kind, which a function reads.
-ghost use Rattle.std.specs.Prelude.{◌∷◌, [], codes};
+ghost use Rattle.std.specs.Prelude.{◌∷◌, [], ◌≡◌, ◌+◌, ◌≤◌, OnOk, codes};
+ghost use Rattle.cbor4ii_items.specs.Moves.{Moves};
 ghost use Rattle.cbor4ii_items.specs.Strings.{definite_string};
 ghost use Rattle.cbor4ii_ser.specs.Item.{encoded, field, struct_encoding, tuple_variant_encoding};
 ghost use Rattle.cbor4ii_ser.specs.Item.{variant_encoding};
+ghost use Rattle.cbor4ii.specs.Accessing.{inside, deserializer_name, steps_held};
+ghost use Rattle.cbor4ii.specs.Typed.{input, answer_of};
 ghost use Rattle.cbor4ii_examples.specs.declared.enumeration.Enum.TheVariants.{Unit, NewType};
 ghost use Rattle.cbor4ii_examples.specs.declared.enumeration.Enum.TheVariants.{Tuple, Struct};
 
 use cbor4ii::dec::Source;
 use cbor4ii::enc::Write;
 use cbor4ii::serde::{
-    DecodeError, Deserializer, EncodeError, EnumAccessor, Required, Serialize, Serializer,
+    Accessor, DecodeError, Deserializer, EncodeError, Required, Serialize, Serializer,
 };
 use std::alloc::Global;
 
@@ -45,11 +48,24 @@ impl Serialize for Enum {
     }
 }
 
-/// Reads a variant. Nothing is promised of it.
+/// Reads a variant.
+///
+/// Whatever the answer is, the budget is as before, and the bytes that are left are an end of those
+/// that were there. An accepted variant took a byte.
+///
+/// # Errors
+///
+/// - those of `deserialize_enum`, and those of the name, with what they leave
+/// - those of the variant's content, or that the variant has the other form
+/// - `Custom`: the name is that of no variant. What follows it is left
 pub fn read_enum<S: Source>(
     alloc: Global,
     de: &mut Deserializer<S>,
-) -> Result<Enum, DecodeError<S::Error>> {
+) -> Result<Enum, DecodeError<S::Error>>
+    ensures moves { Moves (input S.view de.old) (input S.view de.new) (answer_of result) }
+    ensures progress { OnOk result
+        ((input S.view de.new).bound + 1 ≤ (input S.view de.old).bound) }
+{
     let names = ["Unit", "NewType", "Tuple", "Struct"];
     let mut variant = de.deserialize_enum("Enum", &names)?;
     let name: String = variant.variant(alloc)?;
@@ -59,8 +75,11 @@ pub fn read_enum<S: Source>(
             Ok(Enum::Unit)
         }
         "NewType" => Ok(Enum::NewType(variant.newtype_variant(alloc)?)),
-        "Tuple" => read_tuple(alloc, variant),
-        "Struct" => read_struct(alloc, variant),
+        "Tuple" => {
+            let mut items = variant.tuple_variant(2)?;
+            read_tuple(alloc, &mut items)
+        }
+        "Struct" => read_struct(alloc, variant.content()?),
         _ => Err(DecodeError::Custom("another variant")),
     }
 }
@@ -68,9 +87,12 @@ pub fn read_enum<S: Source>(
 /// Reads the items of `Enum::Tuple`.
 fn read_tuple<S: Source>(
     alloc: Global,
-    variant: EnumAccessor<'_, S>,
-) -> Result<Enum, DecodeError<S::Error>> {
-    let mut items = variant.tuple_variant(2)?;
+    items: &mut Accessor<'_, S>,
+) -> Result<Enum, DecodeError<S::Error>>
+    ensures same_reference { deserializer_name items.new ≡ deserializer_name items.old }
+    ensures same_steps { steps_held items.new ≡ steps_held items.old }
+    ensures moves { Moves (inside S.view items.old) (inside S.view items.new) (answer_of result) }
+{
     let text = items.next_element(alloc)?;
     let flag = items.next_element(alloc)?;
     match (text, flag) {
@@ -82,9 +104,10 @@ fn read_tuple<S: Source>(
 /// Reads the fields of `Enum::Struct`.
 fn read_struct<S: Source>(
     alloc: Global,
-    mut variant: EnumAccessor<'_, S>,
-) -> Result<Enum, DecodeError<S::Error>> {
-    let fields = variant.content()?;
+    fields: &mut Deserializer<S>,
+) -> Result<Enum, DecodeError<S::Error>>
+    ensures { Moves (input S.view fields.old) (input S.view fields.new) (answer_of result) }
+{
     let names = ["x", "y"];
     let missing = ["a field is missing"; 2];
     let presences = (Required, (Required, ()));
