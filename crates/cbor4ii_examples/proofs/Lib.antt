@@ -29,3 +29,5 @@ pub mod ByHand
 pub mod LogRows
 -- What a function leaves that read a variant.
 pub mod Variants
+-- A map that is read by hand.
+pub mod Records

@@ -1,7 +1,8 @@
 //! Maps of two pairs, one written and one read by hand.
 ghost use Rattle.std.specs.Prelude.{◌≡◌, ◌+◌, ◌≤◌, IfOk, OnOk};
+ghost use Rattle.cbor4ii_items.specs.Decoding.{Sound};
 ghost use Rattle.cbor4ii_items.specs.Moves.{Moves};
-ghost use Rattle.cbor4ii_examples.specs.ByHand.{written_record};
+ghost use Rattle.cbor4ii_examples.specs.ByHand.{written_record, ReadsRecord};
 
 use cbor4ii::dec::{Decode, Source, is_break};
 use cbor4ii::enc::Encode;
@@ -41,8 +42,11 @@ pub struct Record {
     pub name: String,
 }
 
-/// A record out of a map of indefinite length, its pairs in any order; none where the map is
-/// another one. The name has a tag, which is not looked at.
+/// A record out of a map of indefinite length, its pairs in any order, of which the last number and
+/// the last name count. The name has a tag, which is not looked at.
+///
+/// None is answered where the map's head counts its pairs, which are left; where a pair has another
+/// key, whose value is left; and where a whole map lacks the number or the name.
 ///
 /// Whatever the answer is, the budget is as before, and the bytes that are left are an end of those
 /// that were there. A byte was taken where no error comes, also where there is no record.
@@ -57,6 +61,7 @@ pub fn decode_record<S: Source>(
 ) -> Result<Option<Record>, DecodeError<S::Error>>
     ensures moves { Moves (S.view reader.old) (S.view reader.new) result }
     ensures progress { OnOk result ((S.view reader.new).bound + 1 ≤ (S.view reader.old).bound) }
+    ensures sound { IfOk result (Sound ReadsRecord (S.view reader.old) (S.view reader.new)) }
 {
     let mut id = None;
     let mut name = None;
