@@ -2,8 +2,10 @@ use Rattle.std.proofs.Common.{arith, inl, inr, refl, sym, ◌∙◌}
 use Rattle.std.proofs.lemmas.Result.{err_from_is_err_and}
 use Rattle.cbor4ii_items.specs.Laws.Steps.{moves_then, moves_err, kept_then}
 use Rattle.cbor4ii.specs.Laws.Accessors.{kept_ok}
-use Rattle.cbor4ii_examples.proofs.by_hand.decode_record.Goals.{in-id+in_ok-decode-in-id, in-name+in_ok-decode-in-name}
-use Rattle.cbor4ii_examples.proofs.by_hand.decode_record.Goals.{in_default-2-via-in-Some+in_default, in_default-2-via-in_default}
+use Rattle.cbor4ii_examples.proofs.by_hand.decode_record.Goals.{in-id+in_ok-decode-in-id}
+use Rattle.cbor4ii_examples.proofs.by_hand.decode_record.Goals.{in-name+in_ok-decode-in-name}
+use Rattle.cbor4ii_examples.proofs.by_hand.decode_record.Goals.{in_default-2-via-in-Some+in_default}
+use Rattle.cbor4ii_examples.proofs.by_hand.decode_record.Goals.{in_default-2-via-in_default}
 use Rattle.cbor4ii_examples.proofs.Records.{nothing_seen, number_under, name_under, one_more}
 use Rattle.cbor4ii_examples.proofs.Records.{whole_map, none_by_key, none_by_length, not_counted}
 use Rattle.cbor4ii_examples.proofs.Records.{some_record, none_by_part}

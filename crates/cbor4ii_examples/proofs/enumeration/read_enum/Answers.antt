@@ -28,9 +28,9 @@ pub returns-in_err-newtype_variant-in-NewType-clause-moves :
 returns-in_err-newtype_variant-in-NewType-clause-moves g c =
     let p = err_from_is_err_and c.from_residual-in_err-newtype_variant-in-NewType.result
     c.from_residual-in_err-newtype_variant-in-NewType.ensures.1 in
-    rw (p.1, p.2) (moves_at (moves_err (variant_finished c.in_ok-variant.ensures.opened
-    c.in_ok-name.ensures.decodes.moves.by c.in_err-newtype_variant-in-NewType.ensures.finishes))
-    (search rules))
+    let f = c.in_err-newtype_variant-in-NewType.ensures.finishes in
+    rw (p.1, p.2) (moves_at (around_variant c.in_ok-variant.ensures.opened
+    (moves_then c.in_ok-name.ensures.decodes.moves.by (moves_err f.moves)) f.closes) (search rules))
 
 pub returns-in_ok-unit_variant-in-Unit-clause-moves :
     goal.returns-in_ok-unit_variant-in-Unit-clause-moves
