@@ -5,7 +5,7 @@
 //! | `canonical` | any item, read, and written in its canonical encoding |
 //! | `texts` | a text, borrowed from the input or joined out of a stream |
 //! | `raw_items` | items that are kept as their bytes, and one that is skipped |
-//! | `by_hand` | a map of two pairs, written and read by hand, the second with no contract |
+//! | `by_hand` | a map of two pairs, written and read by hand |
 //! | `port` | what stands under a key of a value, with no type of one's own |
 //! | `page` | a struct over a type parameter, and its law |
 //! | `point` | a struct with an optional field, written and read in one call each, and its laws |
