@@ -163,30 +163,30 @@ pub record Grown {V : Type 0} (reads : Reads V) (bytes : List ℕ) (vs : List V)
 
 module _ {V E : Type 0} (s : Format V) {a b : View} (bytes rest : List ℕ) (known : a.known ≡ Some
     rest) (budget : a.budget ≡ Some limit) (vs : List V) (row : IsSequenceOf s.reads bytes vs rest)
-    where
-  pub grow : (v : V) (items : List V) → items ≡ vs ++ v ∷ []
-      → Decodes {E = E} (item_or_end s) a b (Ok (Some v)) → Grown s.reads bytes items b.known rest
-  grow v items is d =
-      let t = d.sound.at rest known in
-      let fits : t.cost ≤ limit = subst (CostFits t.cost) budget t.fits in
-      record {
-        left = drop t.count rest;
-        known_is = t.left;
-        row = subst (λ z. IsSequenceOf s.reads bytes z (drop t.count rest)) (sym is)
-            (grown s.reads bytes vs rest v t.count t.cost row t.read.1 fits);
-        within = omega (arith, length-drop t.count rest);
-      }
+  where
+    pub grow : (v : V) (items : List V) → items ≡ vs ++ v ∷ []
+        → Decodes {E = E} (item_or_end s) a b (Ok (Some v)) → Grown s.reads bytes items b.known rest
+    grow v items is d =
+        let t = d.sound.at rest known in
+        let fits : t.cost ≤ limit = subst (CostFits t.cost) budget t.fits in
+        record {
+          left = drop t.count rest;
+          known_is = t.left;
+          row = subst (λ z. IsSequenceOf s.reads bytes z (drop t.count rest)) (sym is)
+              (grown s.reads bytes vs rest v t.count t.cost row t.read.1 fits);
+          within = omega (arith, length-drop t.count rest);
+        }
 
-  -- the same, where the bytes that are left have a name
-  pub grow_to : (left : List ℕ) → b.known ≡ Some left → (v : V) (items : List V)
-      → items ≡ vs ++ v ∷ [] → Decodes {E = E} (item_or_end s) a b (Ok (Some v))
-      → IsSequenceOf s.reads bytes items left × (length left ≤ length rest)
-  grow_to left is v items more d =
-      let g = grow v items more d in
-      let same : g.left ≡ left = same_known g.left left (sym g.known_is ∙ is) in (
-        subst (IsSequenceOf s.reads bytes items) same g.row,
-        subst (λ ys. length ys ≤ length rest) same g.within,
-      )
+    -- the same, where the bytes that are left have a name
+    pub grow_to : (left : List ℕ) → b.known ≡ Some left → (v : V) (items : List V)
+        → items ≡ vs ++ v ∷ [] → Decodes {E = E} (item_or_end s) a b (Ok (Some v))
+        → IsSequenceOf s.reads bytes items left × (length left ≤ length rest)
+    grow_to left is v items more d =
+        let g = grow v items more d in
+        let same : g.left ≡ left = same_known g.left left (sym g.known_is ∙ is) in (
+          subst (IsSequenceOf s.reads bytes items) same g.row,
+          subst (λ ys. length ys ≤ length rest) same g.within,
+        )
 
 -- where none is next, nothing is left
 pub none_left : {V E : Type 0} (s : Format V) {a b : View} (rest : List ℕ) → a.known ≡ Some rest

@@ -22,7 +22,7 @@ use Rattle.cbor4ii_items.specs.Laws.Running.{kept_alike}
 use Rattle.cbor4ii_items.specs.Laws.SequenceParts.{fits_max, no_part, parts_then}
 use Rattle.cbor4ii_items.specs.Laws.Steps.{kept_then}
 use Rattle.cbor4ii_examples.specs.declared.by_hand.Record.{Record}
-use Rattle.cbor4ii_examples.specs.ByHand.{Part, number, named, ReadsUnder, ReadsPart, Seen}
+use Rattle.cbor4ii_examples.specs.ByHand.{Part, number, named, ReadsUnderKey, ReadsPart, Seen}
 use Rattle.cbor4ii_examples.specs.ByHand.{none_seen, and_seen, seen_after, ReadsMap, ReadsRecord}
 use Rattle.cbor4ii_examples.specs.ByHand.{counted, other_key, part_missing}
 
@@ -50,7 +50,7 @@ seen_more seen (p ∷ parts) part = seen_more (and_seen seen p) parts part
 
 -- what stands under a key that is known
 pub number_under : {key : List ℕ} {a b : View} {k : ℕ} → key ≡ codes "id"
-    → Sound (ReadsUnsigned 8) a b k → Sound (ReadsUnder key) a b (number k)
+    → Sound (ReadsUnsigned 8) a b k → Sound (ReadsUnderKey key) a b (number k)
 number_under is s = record {
   at = λ xs known. let u = s.at xs known in record {
     count = u.count;
@@ -63,7 +63,7 @@ number_under is s = record {
 
 pub name_under : {key : List ℕ} {a b : View} {tagged : Tag (String Global)} → key ≡ codes "name"
     → Sound (λ xs (v : Tag (String Global)). ReadsTag (ReadsTextAs text_content) xs v.0 v.1) a b
-    tagged → Sound (ReadsUnder key) a b (named tagged.1)
+    tagged → Sound (ReadsUnderKey key) a b (named tagged.1)
 name_under {tagged = tagged} is s = record {
   at = λ xs known. let u = s.at xs known in record {
     count = u.count;
@@ -78,9 +78,9 @@ name_under {tagged = tagged} is s = record {
 pub one_more : {a l m n b : View} {seen : Seen} {key : String Global} {part : Part}
     → SeenSoFar a l seen → Kept l m → Sound ReadsBreak l m false → Kept m n
     → Sound (ReadsTextAs text_content) m n key → Kept n b
-    → Sound (ReadsUnder (text_content key)) n b part → SeenSoFar a b (and_seen seen part)
+    → Sound (ReadsUnderKey (text_content key)) n b part → SeenSoFar a b (and_seen seen part)
 one_more {l = l} {b = b} {key = key} {part = part} s one stays two name three under =
-    let pair = pair_sound (ReadsTextAs text_content) (ReadsUnder (text_content key)) two name under
+    let pair = pair_sound (ReadsTextAs text_content) (ReadsUnderKey (text_content key)) two name under
     in
     let whole : Sound (Unbroken ReadsPart) l b part = record {
       at = λ xs known.

@@ -29,16 +29,16 @@ pub data Part : Type 0 where
   named : String Global → Part
 
 -- under "id" a number stands, and under "name" a text with a tag
-abbrev pub ReadsUnder : List ℕ → Reads Part
-ReadsUnder key xs (number k) n c = (key ≡ codes "id") × ReadsUnsigned 8 xs k n c
-ReadsUnder key xs (named text) n c =
+abbrev pub ReadsUnderKey : List ℕ → Reads Part
+ReadsUnderKey key xs (number k) n c = (key ≡ codes "id") × ReadsUnsigned 8 xs k n c
+ReadsUnderKey key xs (named text) n c =
     (key ≡ codes "name") × (tag : ℕ) × ReadsTag (ReadsTextAs text_content) xs tag text n c
 
 -- a key, and what stands under it
 abbrev pub ReadsPart : Reads Part
 ReadsPart xs part n c =
     (key : String Global)
-    × ReadsPair (ReadsTextAs text_content) (ReadsUnder (text_content key)) xs (key, part) n c
+    × ReadsPair (ReadsTextAs text_content) (ReadsUnderKey (text_content key)) xs (key, part) n c
 
 -- the number and the name that came so far
 pub record Seen : Type 0 where
@@ -86,13 +86,13 @@ pub record ReadsOtherKey (xs : List ℕ) (n c : ℕ) : Type 0 where
 
 -- A map is no record by its head, which counts its pairs, or by another key; or it is whole, and
 -- the number or the name is missing.
-pub data ReadsNone (xs : List ℕ) (n c : ℕ) : Type 0 where
-  counted : (pairs : ℕ) → ReadsLength 5 xs (Some pairs) n c → ReadsNone xs n c
-  other_key : ReadsOtherKey xs n c → ReadsNone xs n c
+pub data ReadsNoRecord (xs : List ℕ) (n c : ℕ) : Type 0 where
+  counted : (pairs : ℕ) → ReadsLength 5 xs (Some pairs) n c → ReadsNoRecord xs n c
+  other_key : ReadsOtherKey xs n c → ReadsNoRecord xs n c
   part_missing : (seen : Seen) → ReadsMap xs seen n c → (seen.id ≡ None) ⊎ (seen.name ≡ None)
-      → ReadsNone xs n c
+      → ReadsNoRecord xs n c
 
 -- a record, from a map that has both, and none from another one
 abbrev pub ReadsRecord : Reads (Option Record)
 ReadsRecord xs (Some r) n c = ReadsMap xs (record { id = Some r.id; name = Some r.name }) n c
-ReadsRecord xs None n c = ReadsNone xs n c
+ReadsRecord xs None n c = ReadsNoRecord xs n c

@@ -126,12 +126,5 @@ fn put_struct(
     after.push(String::from_str(alloc, "&missing")?)?;
     after.push(String::from_str(alloc, "presences")?)?;
     let keys = keys(alloc, fields)?;
-    put_call(
-        alloc,
-        out,
-        "de.deserialize_fields(",
-        &before,
-        &keys,
-        &after,
-    )
+    put_call(alloc, out, "de.deserialize_fields(", &before, &keys, &after)
 }

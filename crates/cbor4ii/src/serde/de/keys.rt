@@ -40,6 +40,7 @@ pub trait ReadKey: Sized {
 
     // A law: where it may after some bytes were taken, or under a step, it may before.
     ghost wants_before: { (a m : View) → Kept a m → may_want m → may_want a };
+
     ghost wants_under: { (a m : View) → KeepsAllButBudget a m → may_want m → may_want a };
 
     /// Reads a key, and answers the place of the first of `keys` that it is, or how many there are
