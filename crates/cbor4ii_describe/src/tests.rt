@@ -247,7 +247,7 @@ const WRITTEN: [(&str, &str); 47] = [
     ),
     (
         "#[describe(module = \"a\")] enum A { B { x: u8, y: u8 } }",
-        "| First held ↦ A.B held.0 held.1.0\n      | Other others ↦ elim others [ ]\n    ] };",
+        "| First held ↦ A.B held.0 held.1.0\n| Other others ↦ elim others [ ]\n] };",
     ),
     (
         "struct A { #[describe(missing = \"no a\")] a: u8 }",

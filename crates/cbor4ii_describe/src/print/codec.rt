@@ -1,9 +1,9 @@
 //! The ghost `codec`.
 ghost use Rattle.std.specs.Prelude.{◌≡◌, ◌++◌, IfOk, IfSome, codes, string_bytes};
-ghost use Rattle.cbor4ii_describe.specs.Text.{field_word, ghost_key, sort_text};
+ghost use Rattle.cbor4ii_describe.specs.Text.{field_word, ghost_key};
 
 use crate::fault::{Fault, Why, refused};
-use crate::print::layout::{COLUMNS, width};
+use crate::print::layout::put_with_codec;
 use crate::shape::{Field, Form, Key, Parameter, Presence};
 use crate::types::{in_option, mentions};
 use std::alloc::{AllocError, Global};
@@ -74,12 +74,7 @@ pub fn put_fields(
             _ => begin(alloc, field)?,
         };
         let codec = codec(alloc, field.line, held_type(field), parameter)?;
-        let wide = width(begin.as_str()).saturating_add(width(codec.as_str()));
-        if wide.saturating_add(9) <= COLUMNS {
-            write!(out, "        {begin} {codec}\n")?;
-        } else {
-            write!(out, "        {begin}\n        {codec}\n")?;
-        }
+        put_with_codec(out, begin.as_str(), codec.as_str())?;
     }
     let (last, close) = match form {
         Form::Named => ("no_fields", " refl)"),

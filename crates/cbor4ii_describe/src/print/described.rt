@@ -6,9 +6,7 @@ use crate::fault::Fault;
 use crate::print::codec::{codec, put_fields};
 use crate::print::deserialize::put_deserialize;
 use crate::print::from::put_from;
-use crate::print::layout::{
-    COLUMNS, Frame, LIST, Pair, indent, put_items, put_pairs, put_record, width,
-};
+use crate::print::layout::{ghost_pairs, list, put_record};
 use crate::print::lists::{made_fields, places};
 use crate::print::serialize::put_serialize;
 use crate::print::types::{generics, letter, self_type};
@@ -16,9 +14,6 @@ use crate::print::variants::put_enum_codec;
 use crate::shape::{Content, Described, Field, Form, Parameter, Shape, Variant};
 use crate::types::mentions;
 use std::alloc::{AllocError, Global};
-
-// How wide the fields of a variant are at most that stand on one line.
-const VARIANT: usize = 35;
 
 /// Appends a type and its impls.
 pub fn put_described(alloc: Global, out: &mut String, described: &Described) -> Result<(), Fault> {
@@ -34,7 +29,7 @@ pub fn put_described(alloc: Global, out: &mut String, described: &Described) -> 
 // Appends the type itself.
 fn put_type(alloc: Global, out: &mut String, described: &Described) -> Result<(), AllocError> {
     let this = self_type(alloc, described)?;
-    put_lines_above(out, 0, &described.head.lines)?;
+    put_lines_above(out, "", &described.head.lines)?;
     let visibility = described.head.visibility.as_str();
     match &described.shape {
         Shape::Newtype {
@@ -45,94 +40,51 @@ fn put_type(alloc: Global, out: &mut String, described: &Described) -> Result<()
         Shape::Fields { fields, .. } => {
             write!(out, "{visibility}struct {this} {{\n")?;
             for field in fields {
-                put_field(out, 4, field)?;
+                put_field(out, field)?;
             }
             out.push_str("}\n\n")
         }
         Shape::Variants { variants, .. } => {
             write!(out, "{visibility}enum {this} {{\n")?;
-            put_enum(alloc, out, variants)?;
+            for variant in variants {
+                put_lines_above(out, "    ", &variant.lines)?;
+                put_variant(alloc, out, variant)?;
+            }
             out.push_str("}\n\n")
         }
     }
 }
 
 // Appends the lines above an item.
-fn put_lines_above(out: &mut String, columns: usize, lines: &[String]) -> Result<(), AllocError> {
+fn put_lines_above(out: &mut String, indent: &str, lines: &[String]) -> Result<(), AllocError> {
     for line in lines {
-        indent(out, columns)?;
-        write!(out, "{line}\n")?;
+        write!(out, "{indent}{line}\n")?;
     }
     Ok(())
 }
 
-// Appends a field behind so many columns.
-fn put_field(out: &mut String, columns: usize, field: &Field) -> Result<(), AllocError> {
-    put_lines_above(out, columns, &field.head.lines)?;
+// Appends a field.
+fn put_field(out: &mut String, field: &Field) -> Result<(), AllocError> {
+    put_lines_above(out, "    ", &field.head.lines)?;
     let visibility = field.head.visibility.as_str();
     let (name, its_type) = (field.name.as_str(), field.its_type.as_str());
-    indent(out, columns)?;
-    write!(out, "{visibility}{name}: {its_type},\n")
-}
-
-// Appends the variants of an enum. Where the fields of one take several lines, those of each do.
-fn put_enum(alloc: Global, out: &mut String, variants: &[Variant]) -> Result<(), AllocError> {
-    let mut is_tall = false;
-    for variant in variants {
-        is_tall = is_tall || fields_line(alloc, variant)?.is_none();
-    }
-    for variant in variants {
-        put_lines_above(out, 4, &variant.lines)?;
-        put_variant(alloc, out, variant, is_tall)?;
-    }
-    Ok(())
+    write!(out, "    {visibility}{name}: {its_type},\n")
 }
 
 // Appends a variant.
-fn put_variant(
-    alloc: Global,
-    out: &mut String,
-    variant: &Variant,
-    is_tall: bool,
-) -> Result<(), AllocError> {
+fn put_variant(alloc: Global, out: &mut String, variant: &Variant) -> Result<(), AllocError> {
     let name = variant.name.as_str();
-    let line = fields_line(alloc, variant)?;
-    match (&variant.holds, line) {
-        (Content::Nothing, _) => write!(out, "    {name},\n"),
-        (Content::Items(items), _) => {
-            write!(out, "    {name}(")?;
-            put_items(out, items)?;
-            out.push_str("),\n")
-        }
-        (Content::Fields(_), Some(line)) if !is_tall => {
-            write!(out, "    {name} {{ {line} }},\n")
-        }
-        (Content::Fields(fields), _) => {
+    match &variant.holds {
+        Content::Nothing => write!(out, "    {name},\n"),
+        Content::Items(items) => write!(out, "    {name}({}),\n", list(alloc, items)?),
+        Content::Fields(fields) => {
             write!(out, "    {name} {{\n")?;
             for field in fields {
-                put_field(out, 8, field)?;
+                put_field(out, field)?;
             }
             out.push_str("    },\n")
         }
     }
-}
-
-// The fields of a variant on one line, where they have room there. Another variant has none.
-fn fields_line(alloc: Global, variant: &Variant) -> Result<Option<String>, AllocError> {
-    let mut line = String::new(alloc);
-    if let Content::Fields(fields) = &variant.holds {
-        for (i, field) in fields.iter().enumerate() {
-            if !field.head.lines.is_empty() {
-                return Ok(None);
-            }
-            let (name, its_type) = (field.name.as_str(), field.its_type.as_str());
-            let comma = if i == 0 { "" } else { ", " };
-            write!(line, "{comma}{name}: {its_type}")?;
-        }
-    }
-    let room = width(variant.name.as_str()).saturating_add(width(line.as_str()));
-    let is_narrow = width(line.as_str()) <= VARIANT && room.saturating_add(10) <= COLUMNS;
-    Ok(is_narrow.then_some(line))
 }
 
 // Appends what is promised where the type is read.
@@ -215,16 +167,8 @@ fn put_places(
         Form::Named | Form::Keyed => "struct_codec",
         Form::Array => "elements_codec",
     };
-    let before = format!(in alloc; "ghost codec = {{ {word} (λ {letter}. ")?;
-    let frame = Frame {
-        columns: 4,
-        before: before.as_str(),
-        after: ")",
-        step: 2,
-        most: LIST,
-        pair: Pair::Tuple,
-    };
-    put_pairs(out, &places(alloc, letter, fields)?, "no_values", frame)
+    let places = ghost_pairs(alloc, &places(alloc, letter, fields)?, "no_values")?;
+    write!(out, "    ghost codec = {{ {word} (λ {letter}. {places})\n")
 }
 
 // Appends how a struct is made of its values, and that it is made of its own.
@@ -236,7 +180,7 @@ fn put_made(
 ) -> Result<(), AllocError> {
     let after = format!(in alloc; ") (λ {letter}. refl)")?;
     let made = made_fields(alloc, fields)?;
-    put_record(out, 8, "(λ values. ", &made, after.as_str())
+    put_record(alloc, out, "        (λ values. ", &made, after.as_str())
 }
 
 // Appends the law, over the law of a parameter at each place that names it.

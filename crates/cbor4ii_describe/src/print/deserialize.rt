@@ -1,5 +1,5 @@
 //! `impl Deserialize`.
-use crate::print::layout::{COLUMNS, Frame, LIST, Pair, put_call, put_list, put_pairs, width};
+use crate::print::layout::{list, pairs};
 use crate::print::lists::{keys, missing, presences};
 use crate::print::types::self_type;
 use crate::print::variants::put_variants;
@@ -24,7 +24,11 @@ pub fn put_deserialize(
             String::from_str(alloc, "S::Error")?,
         ),
     };
-    put_signature(alloc, out, reader.as_str(), this.as_str(), error.as_str())?;
+    write!(
+        out,
+        "    fn deserialize(alloc: Global, de: &mut Deserializer<{reader}>) -> Result<{this}, \
+         DecodeError<{error}>> {{\n"
+    )?;
     match &described.shape {
         Shape::Newtype {
             its_type,
@@ -42,8 +46,8 @@ pub fn put_deserialize(
             form: Form::Array,
             ..
         } => out.push_str("        de.deserialize_elements(alloc)\n")?,
-        Shape::Fields { form, fields } => {
-            put_struct(alloc, out, described.label.as_str(), *form, fields)?;
+        Shape::Fields { fields, .. } => {
+            put_struct(alloc, out, described.label.as_str(), fields)?;
         }
         Shape::Variants { variants, words } => {
             let label = described.label.as_str();
@@ -73,40 +77,10 @@ fn put_header(
     out.push_str(line.as_str())
 }
 
-// Appends the signature, on one line or on four.
-fn put_signature(
-    alloc: Global,
-    out: &mut String,
-    reader: &str,
-    this: &str,
-    error: &str,
-) -> Result<(), AllocError> {
-    let line = format!(in alloc;
-        "    fn deserialize(alloc: Global, de: &mut Deserializer<{reader}>) -> Result<{this}, \
-         DecodeError<{error}>> {{"
-    )?;
-    if width(line.as_str()) <= COLUMNS {
-        return write!(out, "{line}\n");
-    }
-    write!(
-        out,
-        "    fn deserialize(\n        alloc: Global,\n        \
-         de: &mut Deserializer<{reader}>,\n    \
-         ) -> Result<{this}, DecodeError<{error}>> {{\n"
-    )
-}
-
 /// Appends what the fields are where they are missing.
 pub fn put_presences(alloc: Global, out: &mut String, fields: &[Field]) -> Result<(), AllocError> {
-    let frame = Frame {
-        columns: 8,
-        before: "let presences = ",
-        after: ";",
-        step: 4,
-        most: LIST,
-        pair: Pair::Tuple,
-    };
-    put_pairs(out, &presences(alloc, fields)?, "()", frame)
+    let presences = pairs(alloc, &presences(alloc, fields)?, "()")?;
+    write!(out, "        let presences = {presences};\n")
 }
 
 // Appends the call that reads a struct from a map.
@@ -114,17 +88,14 @@ fn put_struct(
     alloc: Global,
     out: &mut String,
     name: &str,
-    form: Form,
     fields: &[Field],
 ) -> Result<(), AllocError> {
-    put_list(out, 8, "let missing = [", &missing(alloc, fields)?, "];")?;
+    let missing = list(alloc, &missing(alloc, fields)?)?;
+    write!(out, "        let missing = [{missing}];\n")?;
     put_presences(alloc, out, fields)?;
-    let mut before = Vec::new(alloc);
-    before.push(String::from_str(alloc, "alloc")?)?;
-    before.push(format!(in alloc; "\"{name}\"")?)?;
-    let mut after = Vec::new(alloc);
-    after.push(String::from_str(alloc, "&missing")?)?;
-    after.push(String::from_str(alloc, "presences")?)?;
-    let keys = keys(alloc, fields)?;
-    put_call(alloc, out, "de.deserialize_fields(", &before, &keys, &after)
+    let keys = list(alloc, &keys(alloc, fields)?)?;
+    write!(
+        out,
+        "        de.deserialize_fields(alloc, \"{name}\", &[{keys}], &missing, presences)\n"
+    )
 }

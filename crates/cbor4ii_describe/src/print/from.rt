@@ -1,16 +1,10 @@
 //! `impl From`.
-use crate::print::layout::{
-    COLUMNS, Frame, LIST, Pair, pairs_width, put_flat_pairs, put_items, put_lines, put_pairs,
-    put_record, width,
-};
+use crate::print::layout::{COLUMNS, list, pairs, put_record, width};
 use crate::print::lists::{made_fields, names, types};
 use crate::print::types::{generics, letter, self_type};
 use crate::print::variants::put_from_choice;
 use crate::shape::{Described, Field, Shape};
 use std::alloc::{AllocError, Global};
-
-/// How wide the fields of a struct are at most that stand on one line.
-pub const STRUCT: usize = 18;
 
 /// Appends how a type is made of what was read.
 pub fn put_from(alloc: Global, out: &mut String, described: &Described) -> Result<(), AllocError> {
@@ -44,13 +38,16 @@ fn put_struct(
     let values = put_values(alloc, out, described, fields)?;
     let letter = letter(name);
     write!(out, "impl{generics} From<{values}> for {this} {{\n")?;
-    let before = format!(in alloc; "ghost from_gives = {{ λ values {letter}. {letter} ≡ ")?;
-    put_record(out, 4, before.as_str(), &made_fields(alloc, fields)?, " };")?;
-    write!(out, "\n    fn from(values: {values}) -> {this} {{\n")?;
+    let before = format!(in alloc; "    ghost from_gives = {{ λ values {letter}. {letter} ≡ ")?;
+    let made = made_fields(alloc, fields)?;
+    put_record(alloc, out, before.as_str(), &made, " };")?;
     let names = names(alloc, fields)?;
-    put_let(out, &names)?;
-    put_made(alloc, out, name, &names)?;
-    out.push_str("    }\n}\n\n")
+    let (parts, names) = (pairs(alloc, &names, "()")?, list(alloc, &names)?);
+    write!(
+        out,
+        "\n    fn from(values: {values}) -> {this} {{\n        let {parts} = values;\n        \
+         {name} {{ {names} }}\n    }}\n}}\n\n"
+    )
 }
 
 // The type of the values; where it takes too many columns, appends a name for it.
@@ -60,9 +57,7 @@ fn put_values(
     described: &Described,
     fields: &[Field],
 ) -> Result<String, AllocError> {
-    let types = types(alloc, fields)?;
-    let mut values = String::new(alloc);
-    put_flat_pairs(&mut values, &types, "()", Pair::Tuple)?;
+    let values = pairs(alloc, &types(alloc, fields)?, "()")?;
     let this = self_type(alloc, described)?;
     let generics = generics(alloc, &described.parameter, "")?;
     let header = format!(in alloc; "impl{generics} From<{values}> for {this} {{")?;
@@ -72,53 +67,6 @@ fn put_values(
         return Ok(values);
     }
     let name = format!(in alloc; "{}Values{generics}", described.name.as_str())?;
-    let before = format!(in alloc; "type {name} = ")?;
-    let frame = Frame {
-        columns: 0,
-        before: before.as_str(),
-        after: ";",
-        step: 4,
-        most: LIST,
-        pair: Pair::Tuple,
-    };
-    put_pairs(out, &types, "()", frame)?;
-    out.push('\n')?;
+    write!(out, "type {name} = {values};\n\n")?;
     Ok(name)
-}
-
-// Appends the pattern that takes the values apart.
-fn put_let(out: &mut String, names: &[String]) -> Result<(), AllocError> {
-    let frame = Frame {
-        columns: 8,
-        before: "let ",
-        after: " = values;",
-        step: 4,
-        most: COLUMNS,
-        pair: Pair::Tuple,
-    };
-    let wide = pairs_width(names, "()", Pair::Tuple);
-    if wide <= COLUMNS - 14 && wide > COLUMNS - 22 {
-        out.push_str("        let ")?;
-        put_flat_pairs(out, names, "()", Pair::Tuple)?;
-        return out.push_str(" =\n            values;\n");
-    }
-    put_pairs(out, names, "()", frame)
-}
-
-// Appends the struct that is made of its fields.
-fn put_made(
-    alloc: Global,
-    out: &mut String,
-    name: &str,
-    names: &[String],
-) -> Result<(), AllocError> {
-    let open = format!(in alloc; "{name} {{")?;
-    let mut inner = String::new(alloc);
-    put_items(&mut inner, names)?;
-    if width(inner.as_str()) <= STRUCT {
-        return write!(out, "        {open} {inner} }}\n");
-    }
-    write!(out, "        {open}\n")?;
-    put_lines(out, 12, names)?;
-    out.push_str("        }\n")
 }

@@ -2,7 +2,7 @@
 ghost use Rattle.std.specs.Prelude.{◌≡◌, ◌≢◌, ◌++◌, IfOk, OnOk, codes, decimal, string_bytes};
 ghost use Rattle.cbor4ii_describe.specs.Text.{newtype_line};
 
-use crate::print::layout::{Frame, LIST, Pair, put_call, put_list, put_pairs};
+use crate::print::layout::{list, pairs};
 use crate::print::lists::{key, keys, references};
 use crate::print::types::{generics, self_type};
 use crate::print::variants::put_match;
@@ -56,8 +56,8 @@ fn put_struct(
         Form::Array => put_elements(alloc, out, fields),
         Form::Named if !leaves_out(fields) && fields.len() <= MOST_CALLED => {
             let call = call(alloc, fields.len())?;
-            let arguments = arguments(alloc, name, fields)?;
-            put_list(out, 8, call.as_str(), &arguments, ")")
+            let arguments = list(alloc, &arguments(alloc, name, fields)?)?;
+            write!(out, "        {call}{arguments})\n")
         }
         _ => put_listed(alloc, out, name, fields),
     }
@@ -65,39 +65,25 @@ fn put_struct(
 
 // Appends the call that writes a struct as an array.
 fn put_elements(alloc: Global, out: &mut String, fields: &[Field]) -> Result<(), AllocError> {
-    let frame = Frame {
-        columns: 8,
-        before: "ser.serialize_elements(&",
-        after: ")",
-        step: 4,
-        most: LIST,
-        pair: Pair::Tuple,
-    };
-    put_pairs(out, &references(alloc, fields)?, "()", frame)
+    let values = pairs(alloc, &references(alloc, fields)?, "()")?;
+    write!(out, "        ser.serialize_elements(&{values})\n")
 }
 
-// Appends the call that writes a struct with integer keys or many fields, or one of which fields may
-// be left out.
+// Appends the call that writes a struct with integer keys or many fields, or one of which fields
+// may be left out.
 fn put_listed(
     alloc: Global,
     out: &mut String,
     name: &str,
     fields: &[Field],
 ) -> Result<(), AllocError> {
-    let close = if fields.len() == 1 { ",);" } else { ");" };
-    put_list(out, 8, "let fields = (", &values(alloc, fields)?, close)?;
-    let mut before = Vec::new(alloc);
-    before.push(format!(in alloc; "\"{name}\"")?)?;
-    let mut after = Vec::new(alloc);
-    after.push(String::from_str(alloc, "ser")?)?;
-    let keys = keys(alloc, fields)?;
-    put_call(
-        alloc,
+    let values = list(alloc, &values(alloc, fields)?)?;
+    let comma = if fields.len() == 1 { "," } else { "" };
+    write!(out, "        let fields = ({values}{comma});\n")?;
+    let keys = list(alloc, &keys(alloc, fields)?)?;
+    write!(
         out,
-        "fields.serialize_fields(",
-        &before,
-        &keys,
-        &after,
+        "        fields.serialize_fields(\"{name}\", &[{keys}], ser)\n"
     )
 }
 

@@ -1,6 +1,6 @@
 //! What the impls import.
 use crate::print::codec::held_type;
-use crate::print::layout::{COLUMNS, put_packed, width};
+use crate::print::layout::{COLUMNS, list, width};
 use crate::shape::{Content, Described, Field, Form, Key, Parameter, Presence, Shape, Variant};
 use crate::types::mentions;
 use std::alloc::{AllocError, Global};
@@ -169,9 +169,8 @@ pub fn put_uses(alloc: Global, out: &mut String, types: &[Described]) -> Result<
     } else if is_wanted(types, For::Enum) {
         out.push_str("use cbor4ii::serde::Choice::First;\n")?;
     }
-    out.push_str("use cbor4ii::serde::{\n")?;
-    put_packed(out, 4, COLUMNS - 1, &serde_names(alloc, types)?)?;
-    out.push_str("};\n")?;
+    let names = list(alloc, &serde_names(alloc, types)?)?;
+    write!(out, "use cbor4ii::serde::{{{names}}};\n")?;
     if is_wanted(types, For::Slice) {
         out.push_str("use cbor4ii::utils::SliceReader;\n")?;
     }

@@ -2,11 +2,7 @@
 use crate::fault::Fault;
 use crate::print::codec::put_fields;
 use crate::print::deserialize::put_presences;
-use crate::print::from::STRUCT;
-use crate::print::layout::{
-    Bracketed, COLUMNS, Frame, LIST, Pair, indent, put_arm, put_flat_pairs, put_head, put_items,
-    put_list, put_pairs, put_value, width,
-};
+use crate::print::layout::{joined, list, nested, pairs, put_arm, put_with_codec};
 use crate::print::lists::{keys, missing, names, pair_place, types};
 use crate::print::types::letter;
 use crate::shape::{Content, Described, Field, Form, Parameter, Variant};
@@ -30,31 +26,19 @@ fn quoted(alloc: Global, text: &str) -> Result<String, AllocError> {
 }
 
 // A variant and its parts, as a pattern or as a value.
-fn parts(alloc: Global, name: &str, variant: &Variant) -> Result<Bracketed, AllocError> {
+fn parts(alloc: Global, name: &str, variant: &Variant) -> Result<String, AllocError> {
     let path = format!(in alloc; "{name}::{}", variant.name)?;
-    Ok(match &variant.holds {
-        Content::Nothing => Bracketed {
-            open: path,
-            items: Vec::new(alloc),
-            close: "",
-            gap: "",
-            most: LIST,
-        },
-        Content::Items(items) => Bracketed {
-            open: format!(in alloc; "{path}(")?,
-            items: place_names(alloc, items.len())?,
-            close: ")",
-            gap: "",
-            most: LIST,
-        },
-        Content::Fields(fields) => Bracketed {
-            open: format!(in alloc; "{path} {{")?,
-            items: names(alloc, fields)?,
-            close: "}",
-            gap: " ",
-            most: STRUCT,
-        },
-    })
+    match &variant.holds {
+        Content::Nothing => Ok(path),
+        Content::Items(items) => {
+            let names = list(alloc, &place_names(alloc, items.len())?)?;
+            format!(in alloc; "{path}({names})")
+        }
+        Content::Fields(fields) => {
+            let names = list(alloc, &names(alloc, fields)?)?;
+            format!(in alloc; "{path} {{ {names} }}")
+        }
+    }
 }
 
 /// Appends the match that writes an enum.
@@ -68,7 +52,7 @@ pub fn put_match(
     for (i, variant) in variants.iter().enumerate() {
         let pattern = parts(alloc, described.name.as_str(), variant)?;
         let call = writing(alloc, described.label.as_str(), i, variant)?;
-        put_arm(out, &pattern, &call)?;
+        put_arm(out, pattern.as_str(), call.as_str())?;
     }
     out.push_str("        }\n")
 }
@@ -79,7 +63,7 @@ fn writing(
     label: &str,
     place: usize,
     variant: &Variant,
-) -> Result<Bracketed, AllocError> {
+) -> Result<String, AllocError> {
     let mut items = Vec::new(alloc);
     items.push(quoted(alloc, label)?)?;
     items.push(format!(in alloc; "{place}")?)?;
@@ -95,32 +79,17 @@ fn writing(
             writing_fields(alloc, fields.len())?
         }
     };
-    Ok(Bracketed {
-        open,
-        items,
-        close: ")",
-        gap: "",
-        most: LIST,
-    })
+    format!(in alloc; "{open}{})", list(alloc, &items)?)
 }
 
 // What a variant of so many items gives to be written: its only one, or a tuple.
 fn held(alloc: Global, count: usize) -> Result<String, AllocError> {
     let names = place_names(alloc, count)?;
-    let mut held = String::new(alloc);
     if count == 1 {
-        put_items(&mut held, &names)?;
+        list(alloc, &names)
     } else {
-        held.push_str("&(*")?;
-        for (i, name) in names.iter().enumerate() {
-            if i != 0 {
-                held.push_str(", *")?;
-            }
-            held.push_str(name.as_str())?;
-        }
-        held.push(')')?;
+        format!(in alloc; "&(*{})", joined(alloc, &names, ", *")?)
     }
-    Ok(held)
 }
 
 // Appends the name of each field as it is written, and its value.
@@ -153,8 +122,11 @@ pub fn put_variants(
     for variant in variants {
         labels.push(quoted(alloc, variant.label.as_str())?)?;
     }
-    put_list(out, 8, "let variants = [", &labels, "];")?;
-    write!(out, "        let others = Otherwise(\"{words}\");\n")?;
+    let labels = list(alloc, &labels)?;
+    write!(
+        out,
+        "        let variants = [{labels}];\n        let others = Otherwise(\"{words}\");\n"
+    )?;
     let mut end = variants.len();
     for (i, variant) in variants.iter().enumerate().rev() {
         if let Content::Fields(fields) = &variant.holds {
@@ -164,12 +136,10 @@ pub fn put_variants(
         }
     }
     put_others(alloc, out, variants, 0, end)?;
-    let mut arguments = Vec::new(alloc);
-    arguments.push(String::from_str(alloc, "alloc")?)?;
-    arguments.push(quoted(alloc, label)?)?;
-    arguments.push(String::from_str(alloc, "&variants")?)?;
-    arguments.push(String::from_str(alloc, "others")?)?;
-    put_list(out, 8, "de.deserialize_variant(", &arguments, ")")
+    write!(
+        out,
+        "        de.deserialize_variant(alloc, \"{label}\", &variants, others)\n"
+    )
 }
 
 // Appends what the variants of these places hold, before the others.
@@ -191,27 +161,26 @@ fn put_others(
     if cases.is_empty() {
         return Ok(());
     }
-    let frame = Frame {
-        columns: 8,
-        before: "let others = ",
-        after: ";",
-        step: 4,
-        most: LIST,
-        pair: Pair::Tuple,
-    };
-    put_pairs(out, &cases, "others", frame)
+    let others = pairs(alloc, &cases, "others")?;
+    write!(out, "        let others = {others};\n")
 }
 
 // Appends how a variant of these fields is read, before the others.
 fn put_reading(alloc: Global, out: &mut String, fields: &[Field]) -> Result<(), AllocError> {
-    put_list(out, 8, "let names = &[", &keys(alloc, fields)?, "];")?;
-    put_list(out, 8, "let missing = &[", &missing(alloc, fields)?, "];")?;
+    let names = list(alloc, &keys(alloc, fields)?)?;
+    let missing = list(alloc, &missing(alloc, fields)?)?;
+    write!(
+        out,
+        "        let names = &[{names}];\n        let missing = &[{missing}];\n"
+    )?;
     out.push_str("        let words = FieldWords(names, missing, PhantomData);\n")?;
     put_presences(alloc, out, fields)?;
     out.push_str("        let others = HoldsFields(words, presences, others);\n")
 }
 
-/// Appends the type of what is read of an enum, and how the enum is made of it.
+/// Appends the type of what is read of an enum, and how the enum is made of it. An arm takes
+/// several fields apart in a statement: a pattern by value that names them in place may not move
+/// more than one.
 pub fn put_from_choice(
     alloc: Global,
     out: &mut String,
@@ -225,7 +194,7 @@ pub fn put_from_choice(
         "impl From<{name}Choice> for {name} {{\n    \
          ghost from_gives = {{ λ choice {letter}. {letter} ≡ elim choice "
     )?;
-    put_made_cases(alloc, out, 4, name, variants)?;
+    put_made_cases(alloc, out, name, variants)?;
     write!(
         out,
         " }};\n\n    fn from(choice: {name}Choice) -> {name} {{\n        match choice {{\n"
@@ -235,35 +204,17 @@ pub fn put_from_choice(
         let value = parts(alloc, name, variant)?;
         match &variant.holds {
             Content::Fields(fields) if fields.len() > 1 => {
-                put_apart(alloc, out, &pattern, fields, &value)?;
+                let names = pairs(alloc, &names(alloc, fields)?, "()")?;
+                write!(
+                    out,
+                    "            {pattern} => {{\n                let {names} = fields;\n"
+                )?;
+                write!(out, "                {value}\n            }}\n")?;
             }
-            _ => put_arm(out, &pattern, &value)?,
+            _ => put_arm(out, pattern.as_str(), value.as_str())?,
         }
     }
     out.push_str("        }\n    }\n}\n\n")
-}
-
-// Appends an arm that takes several fields apart: a pattern by value that names them in place may
-// not move more than one.
-fn put_apart(
-    alloc: Global,
-    out: &mut String,
-    pattern: &Bracketed,
-    fields: &[Field],
-    value: &Bracketed,
-) -> Result<(), AllocError> {
-    put_head(out, pattern)?;
-    let frame = Frame {
-        columns: 16,
-        before: "let ",
-        after: " = fields;",
-        step: 4,
-        most: COLUMNS,
-        pair: Pair::Tuple,
-    };
-    put_pairs(out, &names(alloc, fields)?, "()", frame)?;
-    put_value(out, 16, value)?;
-    out.push_str("            }\n")
 }
 
 // Appends the type of what is read of an enum.
@@ -277,67 +228,52 @@ fn put_choice(
     for variant in variants {
         contents.push(content_type(alloc, variant)?)?;
     }
-    let before = format!(in alloc; "type {name}Choice = ")?;
-    let frame = Frame {
-        columns: 0,
-        before: before.as_str(),
-        after: ";",
-        step: 4,
-        most: COLUMNS,
-        pair: Pair::Choice,
-    };
-    put_pairs(out, &contents, "Never", frame)?;
-    out.push('\n')
+    let choice = nested(alloc, "Choice<", &contents, "Never", ">")?;
+    write!(out, "type {name}Choice = {choice};\n\n")
 }
 
 // The type of what a variant holds, in a case or in the codec.
 fn content_type(alloc: Global, variant: &Variant) -> Result<String, AllocError> {
-    let mut text = String::new(alloc);
     match &variant.holds {
-        Content::Nothing => text.push_str("()")?,
-        Content::Items(items) => put_tuple(&mut text, items)?,
-        Content::Fields(fields) => {
-            put_flat_pairs(&mut text, &types(alloc, fields)?, "()", Pair::Tuple)?;
-        }
+        Content::Nothing => String::from_str(alloc, "()"),
+        Content::Items(items) => tuple(alloc, items),
+        Content::Fields(fields) => pairs(alloc, &types(alloc, fields)?, "()"),
     }
-    Ok(text)
 }
 
-// Appends an only item, or a tuple of several.
-fn put_tuple(out: &mut String, items: &[String]) -> Result<(), AllocError> {
+// An only item, or a tuple of several.
+fn tuple(alloc: Global, items: &[String]) -> Result<String, AllocError> {
+    let items_text = list(alloc, items)?;
     if items.len() == 1 {
-        return put_items(out, items);
+        Ok(items_text)
+    } else {
+        format!(in alloc; "({items_text})")
     }
-    out.push('(')?;
-    put_items(out, items)?;
-    out.push(')')
 }
 
 // The pattern of what is read of the variant of this place.
-fn chosen(alloc: Global, place: usize, variant: &Variant) -> Result<Bracketed, AllocError> {
-    let mut open = String::new(alloc);
+fn chosen(alloc: Global, place: usize, variant: &Variant) -> Result<String, AllocError> {
+    let held = match &variant.holds {
+        Content::Nothing => String::from_str(alloc, "()")?,
+        Content::Items(items) => tuple(alloc, &place_names(alloc, items.len())?)?,
+        Content::Fields(fields) if fields.len() > 1 => String::from_str(alloc, "fields")?,
+        Content::Fields(fields) => pairs(alloc, &names(alloc, fields)?, "()")?,
+    };
+    let first = format!(in alloc; "First({held})")?;
+    among(alloc, place, "Other(", first.as_str())
+}
+
+// The first choice, behind so many others: each is this word and a bracket.
+fn among(alloc: Global, place: usize, other: &str, first: &str) -> Result<String, AllocError> {
+    let mut text = String::new(alloc);
     for _ in 0..place {
-        open.push_str("Other(")?;
+        text.push_str(other)?;
     }
-    open.push_str("First(")?;
-    match &variant.holds {
-        Content::Nothing => open.push_str("()")?,
-        Content::Items(items) => put_tuple(&mut open, &place_names(alloc, items.len())?)?,
-        Content::Fields(fields) if fields.len() > 1 => open.push_str("fields")?,
-        Content::Fields(fields) => {
-            put_flat_pairs(&mut open, &names(alloc, fields)?, "()", Pair::Tuple)?;
-        }
-    }
+    text.push_str(first)?;
     for _ in 0..place {
-        open.push(')')?;
+        text.push(')')?;
     }
-    Ok(Bracketed {
-        open,
-        items: Vec::new(alloc),
-        close: ")",
-        gap: "",
-        most: LIST,
-    })
+    Ok(text)
 }
 
 // Appends which choice each variant is, by cases.
@@ -347,46 +283,45 @@ fn put_cases(
     name: &str,
     variants: &[Variant],
 ) -> Result<(), AllocError> {
-    out.push_str("[\n")?;
     for (i, variant) in variants.iter().enumerate() {
-        write!(out, "      | {name}.{}", variant.name)?;
-        for place in place_names(alloc, count(variant))? {
-            write!(out, " {place}")?;
-        }
-        out.push_str(" ↦ ")?;
-        put_choice_of(alloc, out, i, variant)?;
-        out.push('\n')?;
+        put_case(alloc, out, name, variant)?;
+        write!(out, "{}\n", ghost_choice(alloc, i, variant)?)?;
     }
-    out.push_str("    ]")
+    Ok(())
 }
 
-// Appends which variant each choice is, by cases inside one another, behind so many columns.
+// Appends what begins the case of a variant in a ghost.
+fn put_case(
+    alloc: Global,
+    out: &mut String,
+    name: &str,
+    variant: &Variant,
+) -> Result<(), AllocError> {
+    write!(out, "| {name}.{}", variant.name)?;
+    for place in place_names(alloc, count(variant))? {
+        write!(out, " {place}")?;
+    }
+    out.push_str(" ↦ ")
+}
+
+// Appends which variant each choice is, by cases inside one another.
 fn put_made_cases(
     alloc: Global,
     out: &mut String,
-    columns: usize,
     name: &str,
     variants: &[Variant],
 ) -> Result<(), AllocError> {
     out.push_str("[\n")?;
-    let mut inside = columns;
     for (i, variant) in variants.iter().enumerate() {
-        inside = inside.saturating_add(2);
-        indent(out, inside)?;
         write!(out, "| First held ↦ {name}.{}", variant.name)?;
         put_held_places(alloc, out, variant)?;
-        out.push('\n')?;
-        indent(out, inside)?;
         let is_last = i + 1 == variants.len();
         let end = if is_last { " ]\n" } else { "\n" };
-        write!(out, "| Other others ↦ elim others [{end}")?;
+        write!(out, "\n| Other others ↦ elim others [{end}")?;
     }
     for _ in variants.iter().skip(1) {
-        inside = inside.saturating_sub(2);
-        indent(out, inside)?;
         out.push_str("]\n")?;
     }
-    indent(out, columns)?;
     out.push(']')
 }
 
@@ -409,24 +344,6 @@ fn put_held_places(alloc: Global, out: &mut String, variant: &Variant) -> Result
     Ok(())
 }
 
-// Appends that each variant is made of the choice that it is, by cases.
-fn put_refl_cases(
-    alloc: Global,
-    out: &mut String,
-    name: &str,
-    variants: &[Variant],
-) -> Result<(), AllocError> {
-    out.push_str("        (elim [\n")?;
-    for variant in variants {
-        write!(out, "          | {name}.{}", variant.name)?;
-        for place in place_names(alloc, count(variant))? {
-            write!(out, " {place}")?;
-        }
-        out.push_str(" ↦ refl\n")?;
-    }
-    out.push_str("        ])\n")
-}
-
 // How many parts a variant has.
 fn count(variant: &Variant) -> usize {
     match &variant.holds {
@@ -436,27 +353,16 @@ fn count(variant: &Variant) -> usize {
     }
 }
 
-// Appends the choice that the variant of this place is, in a ghost.
-fn put_choice_of(
-    alloc: Global,
-    out: &mut String,
-    place: usize,
-    variant: &Variant,
-) -> Result<(), AllocError> {
-    for _ in 0..place {
-        out.push_str("Other (")?;
-    }
-    out.push_str("First ")?;
+// The choice that the variant of this place is, in a ghost.
+fn ghost_choice(alloc: Global, place: usize, variant: &Variant) -> Result<String, AllocError> {
     let names = place_names(alloc, count(variant))?;
-    match &variant.holds {
-        Content::Nothing => out.push_str("tt")?,
-        Content::Items(_) => put_tuple(out, &names)?,
-        Content::Fields(_) => put_flat_pairs(out, &names, "no_values", Pair::Tuple)?,
-    }
-    for _ in 0..place {
-        out.push(')')?;
-    }
-    Ok(())
+    let held = match &variant.holds {
+        Content::Nothing => String::from_str(alloc, "tt")?,
+        Content::Items(_) => tuple(alloc, &names)?,
+        Content::Fields(_) => pairs(alloc, &names, "no_values")?,
+    };
+    let first = format!(in alloc; "First {held}")?;
+    among(alloc, place, "Other (", first.as_str())
 }
 
 /// Appends the codec of an enum.
@@ -467,12 +373,16 @@ pub fn put_enum_codec(
     words: &str,
     variants: &[Variant],
 ) -> Result<(), Fault> {
-    out.push_str("    ghost codec = { enum_codec (elim ")?;
+    out.push_str("    ghost codec = { enum_codec (elim [\n")?;
     put_cases(alloc, out, name, variants)?;
-    out.push_str(")\n        (elim ")?;
-    put_made_cases(alloc, out, 8, name, variants)?;
-    out.push_str(")\n")?;
-    put_refl_cases(alloc, out, name, variants)?;
+    out.push_str("])\n        (elim ")?;
+    put_made_cases(alloc, out, name, variants)?;
+    out.push_str(")\n        (elim [\n")?;
+    for variant in variants {
+        put_case(alloc, out, name, variant)?;
+        out.push_str("refl\n")?;
+    }
+    out.push_str("])\n")?;
     for variant in variants {
         put_variant_codec(alloc, out, variant)?;
     }
@@ -493,11 +403,9 @@ fn put_variant_codec(alloc: Global, out: &mut String, variant: &Variant) -> Resu
         Content::Nothing => write!(out, "        (unit_variant (codes \"{label}\")\n")?,
         Content::Items(_) => {
             let held = content_type(alloc, variant)?;
-            let begin = format!(in alloc; "        (variant (codes \"{label}\")")?;
+            let begin = format!(in alloc; "(variant (codes \"{label}\")")?;
             let codec = format!(in alloc; "⟦<{held} as Described>⟧.codec")?;
-            let wide = width(begin.as_str()).saturating_add(width(codec.as_str()));
-            let gap = if wide < COLUMNS { " " } else { "\n        " };
-            write!(out, "{begin}{gap}{codec}\n")?;
+            put_with_codec(out, begin.as_str(), codec.as_str())?;
         }
         Content::Fields(fields) => {
             write!(out, "        (variant_of_fields (codes \"{label}\")\n")?;
