@@ -1,18 +1,15 @@
 //! Rows of lengths that are false: fewer parts follow them, and little memory is taken for them.
-use crate::read::{leaves, leaves_an_end};
+use crate::items::Item;
+use crate::read::{Calls, leaves, leaves_an_end};
 use crate::tally::{Broken, Tally};
 use crate::typed::Typed;
-use crate::values::Item;
-use cbor4ii_items::types::{Bytes, Map, UncheckedStr};
 use cbor4ii_rw::error::DecodeError;
 use cbor4ii_rw::io_reader::IoReader;
 use cbor4ii_rw::read::Source;
 use cbor4ii_rw::slice_reader::SliceReader;
-use cbor4ii_tree::{Canonical, Value};
-use cbor4ii_vectors::rows::{ReadFrom, steps};
+use cbor4ii_vectors::rows::steps;
 use cbor4ii_vectors::streams::FailingStream;
 use cbor4ii_vectors::table;
-use std::collections::BTreeMap;
 
 // 2^16, 2^63 and 2^64 - 1 items or pairs, of which none or one key comes.
 const ARRAYS: &[&[u8]] = table! {
@@ -51,28 +48,57 @@ const CHUNKS: &[&[u8]] = table! {
     b"\x7f\x7b\x10\x00\x00\x00\x00\x00\x00\x00",
 };
 
+/// A row: the name of its call, and the inputs.
+type Row = (&'static str, &'static [&'static [&'static [u8]]]);
+
+const ITEMS: &[Row] = table! {
+    ("String", &[TEXTS, CHUNKS]),
+    ("Bytes", &[BYTES]),
+    ("UncheckedStr", &[TEXTS]),
+    ("Vec", &[ARRAYS]),
+    ("Vec of Vec", &[ARRAYS]),
+    ("Map", &[MAPS]),
+    ("Map of String", &[MAPS_OF_TEXTS]),
+    ("Value", &[ARRAYS, MAPS, TEXTS, BYTES, CHUNKS]),
+    ("Canonical", &[ARRAYS, MAPS, TEXTS, BYTES]),
+};
+
+const TYPES: &[Row] = table! {
+    ("typed String", &[TEXTS]),
+    ("typed Bytes", &[BYTES]),
+    ("typed Vec", &[ARRAYS]),
+    ("typed BTreeMap", &[MAPS]),
+    ("deserialize_any", &[ARRAYS, MAPS, TEXTS, BYTES, CHUNKS]),
+};
+
+/// Items and typed values.
+pub fn false_lengths(tally: &mut Tally) -> Result<(), Broken> {
+    ends::<Item>(tally, ITEMS)?;
+    ends::<Typed>(tally, TYPES)
+}
+
 // Over a slice and over a stream the input ends too early, whatever the length says.
-fn ends<T: ReadFrom + Drop>(
-    tally: &mut Tally,
-    row: &'static str,
-    inputs: &'static [&'static [u8]],
-) -> Result<(), Broken> {
-    for bytes in inputs {
-        ends_over::<T, _>(tally, row, &mut SliceReader::new(bytes), bytes)?;
-        let stream = FailingStream::new(bytes, 3, usize::MAX);
-        ends_over::<T, _>(tally, row, &mut IoReader::new(stream), bytes)?;
+fn ends<C: Calls>(tally: &mut Tally, rows: &[Row]) -> Result<(), Broken> {
+    for (row, tables) in rows {
+        for inputs in *tables {
+            for bytes in *inputs {
+                ends_over::<C, _>(tally, row, &mut SliceReader::new(bytes), bytes)?;
+                let stream = FailingStream::new(bytes, 3, usize::MAX);
+                ends_over::<C, _>(tally, row, &mut IoReader::new(stream), bytes)?;
+            }
+        }
     }
     Ok(())
 }
 
-fn ends_over<T: ReadFrom + Drop, S: Source>(
+fn ends_over<C: Calls, S: Source>(
     tally: &mut Tally,
     row: &'static str,
     reader: &mut S,
     bytes: &[u8],
 ) -> Result<(), Broken> {
     let budget = steps(reader);
-    let got = T::read_from(tally.alloc(), reader);
+    let got = C::call(row, tally.alloc(), reader, &[]);
     if steps(reader) != budget {
         return Err(Broken::new(row, "the steps are not as before"));
     }
@@ -87,39 +113,4 @@ fn ends_over<T: ReadFrom + Drop, S: Source>(
         }
         _ => Err(Broken::new(row, "a false length is not the end of the input")),
     }
-}
-
-/// Items.
-pub fn items(tally: &mut Tally) -> Result<(), Broken> {
-    ends::<String>(tally, "String", TEXTS)?;
-    ends::<String>(tally, "String of a chunk", CHUNKS)?;
-    ends::<Bytes<Vec<u8>>>(tally, "Bytes", BYTES)?;
-    ends::<UncheckedStr<Vec<u8>>>(tally, "UncheckedStr", TEXTS)?;
-    ends::<Vec<u8>>(tally, "Vec", ARRAYS)?;
-    ends::<Vec<Vec<u8>>>(tally, "Vec of Vec", ARRAYS)?;
-    ends::<Map<Vec<(u8, u8)>>>(tally, "Map", MAPS)?;
-    ends::<Map<Vec<(String, String)>>>(tally, "Map of String", MAPS_OF_TEXTS)
-}
-
-/// Whole items.
-pub fn values(tally: &mut Tally) -> Result<(), Broken> {
-    for inputs in [ARRAYS, MAPS, TEXTS, BYTES, CHUNKS] {
-        ends::<Item<Value>>(tally, "Value", inputs)?;
-    }
-    for inputs in [ARRAYS, MAPS, TEXTS, BYTES] {
-        ends::<Item<Canonical>>(tally, "Canonical", inputs)?;
-    }
-    Ok(())
-}
-
-/// Typed values.
-pub fn typed(tally: &mut Tally) -> Result<(), Broken> {
-    ends::<Typed<String>>(tally, "typed String", TEXTS)?;
-    ends::<Typed<Bytes<Vec<u8>>>>(tally, "typed Bytes", BYTES)?;
-    ends::<Typed<Vec<u8>>>(tally, "typed Vec", ARRAYS)?;
-    ends::<Typed<BTreeMap<u8, u8>>>(tally, "typed BTreeMap", MAPS)?;
-    for inputs in [ARRAYS, MAPS, TEXTS, BYTES, CHUNKS] {
-        ends::<Typed<Value>>(tally, "deserialize_any", inputs)?;
-    }
-    Ok(())
 }

@@ -1,194 +1,139 @@
-//! Rows of items that are borrowed from the input, or copied where a reader does not lend them.
-use crate::read::{Left, Meant, reads_over};
+//! Rows of what is borrowed from the input, or copied where a reader does not lend it.
+use crate::debug_text::Pieces;
+use crate::read::{Left, Meant, Told, as_core, is_answer, says, told};
 use crate::tally::{Broken, Tally};
-use crate::typed::{Typed, answer};
 use crate::values::value;
 use cbor4ii::serde::{Deserialize, Deserializer};
 use cbor4ii_items::types::{Bytes, Map, UncheckedStr};
-use cbor4ii_rw::error::{DecodeError, EncodeError};
+use cbor4ii_rw::error::{DecodeError, EncodeError, Never};
 use cbor4ii_rw::io_reader::IoReader;
 use cbor4ii_rw::long::FillLong;
+use cbor4ii_rw::read::Source;
 use cbor4ii_rw::segment_reader::SegmentReader;
 use cbor4ii_rw::slice_reader::SliceReader;
 use cbor4ii_tree::{BoxedRawValue, NoMemory, RawValue, Value};
 use cbor4ii_vectors::items::Lent;
-use cbor4ii_vectors::rows::ReadBy;
+use cbor4ii_vectors::rows::{ReadBy, steps};
 use cbor4ii_vectors::streams::FailingStream;
-use cbor4ii_vectors::table;
+use cbor4ii_vectors::{require_borrowed, table};
 use std::alloc::Global;
 use std::borrow::{CowSlice, CowStr};
 use std::fmt::Debug;
+use std::io;
 
 /// The reader over a stream that a row is read over.
-pub type Stream = IoReader<FailingStream<'static>>;
+type Stream = IoReader<FailingStream<'static>>;
 
-/// A row: bytes, the same in segments, the text of what is read, and what is left of them.
+/// A row: its name, bytes, the same in segments, the text of what is read, and what is left of
+/// them.
 type LentRow = (
+    &'static str,
     &'static [u8],
     &'static [&'static [u8]],
     &'static str,
     &'static [u8],
 );
 
-// Reads the bytes of each row over a slice and over its segments.
-fn lends<T>(
-    tally: &mut Tally,
-    row: &'static str,
-    left: Left,
-    rows: &'static [LentRow],
-) -> Result<(), Broken>
+// Reads the row over a slice and over its segments.
+fn lends<T>(tally: &mut Tally, left: Left, lent: LentRow) -> Result<(), Broken>
 where
     T: ReadBy<SliceReader<'static>> + ReadBy<SegmentReader<'static>> + Debug + Drop,
 {
-    for (bytes, segments, text, rest) in rows {
-        let meant = Meant {
-            row,
-            bytes,
-            text: &[(text, 1)],
-            rest,
-            left,
-        };
-        reads_over::<T, _>(tally, &mut SliceReader::new(bytes), &meant)?;
-        reads_over::<T, _>(tally, &mut SegmentReader::new(segments), &meant)?;
-    }
-    Ok(())
+    let (_, bytes, segments, _, _) = lent;
+    lends_over::<T, _>(tally, left, &mut SliceReader::new(bytes), lent)?;
+    lends_over::<T, _>(tally, left, &mut SegmentReader::new(segments), lent)
 }
 
-// A text that is lent over a slice and over the first segment, and copied over a stream.
-const TEXT: Meant<'static> = Meant {
-    row: "CowStr",
-    bytes: b"\x64IETF\x01",
-    text: &[("Lent(\"IETF\")", 1)],
-    rest: b"\x01",
-    left: Left::AnEnd,
+fn lends_over<T: ReadBy<S> + Debug + Drop, S: Source>(
+    tally: &mut Tally,
+    left: Left,
+    reader: &mut S,
+    lent: LentRow,
+) -> Result<(), Broken> {
+    let (row, bytes, _, text, rest) = lent;
+    let meant = Meant {
+        row,
+        call: row,
+        bytes,
+        text: &[(text, 1)],
+        rest,
+        left,
+    };
+    let budget = steps(reader);
+    let got = says(T::read_by(tally.alloc(), reader), meant.text);
+    is_answer(tally, reader, budget, &got, &meant)
+}
+
+// Strings that are lent where they stand whole, and copied where they do not.
+const COPIED: &[LentRow; 3] = table! {
+    ("CowStr", b"\x64IETF\x01", &[b"\x64IE", b"TF\x01"], "Lent(\"IETF\")", b"\x01"),
+    ("Bytes of CowSlice", b"\x5f\x42\x01\x02\x41\x03\xff", &[b"\x5f\x42\x01", b"\x02\x41\x03\xff"],
+        "Lent(Bytes([1, 2, 3]))", b""),
+    ("UncheckedStr of CowSlice", b"\x62\xff\xfe", &[b"\x62\xff", b"\xfe"],
+        "Lent(UncheckedStr([255, 254]))", b""),
 };
-
-const BYTES: Meant<'static> = Meant {
-    row: "Bytes of CowSlice",
-    bytes: b"\x5f\x42\x01\x02\x41\x03\xff",
-    text: &[("Lent(Bytes([1, 2, 3]))", 1)],
-    rest: b"",
-    left: Left::AnEnd,
-};
-
-const UNCHECKED: Meant<'static> = Meant {
-    row: "UncheckedStr of CowSlice",
-    bytes: b"\x62\xff\xfe",
-    text: &[("Lent(UncheckedStr([255, 254]))", 1)],
-    rest: b"",
-    left: Left::AnEnd,
-};
-
-/// Strings that are borrowed where a reader lends them.
-pub fn strings(tally: &mut Tally) -> Result<(), Broken> {
-    lent_texts(tally)?;
-    lent_bytes(tally)?;
-    lent_unchecked(tally)
-}
-
-fn lent_texts(tally: &mut Tally) -> Result<(), Broken> {
-    let mut slice = SliceReader::new(TEXT.bytes);
-    reads_over::<Lent<CowStr<'_, Global>>, _>(tally, &mut slice, &TEXT)?;
-    let segments = [b"\x64IE".as_slice(), b"TF\x01"];
-    let mut reader = SegmentReader::new(&segments);
-    reads_over::<Lent<CowStr<'_, Global>>, _>(tally, &mut reader, &TEXT)?;
-    let mut stream = IoReader::new(FailingStream::new(TEXT.bytes, 3, usize::MAX));
-    reads_over::<Lent<CowStr<'_, Global>>, _>(tally, &mut stream, &TEXT)
-}
-
-fn lent_bytes(tally: &mut Tally) -> Result<(), Broken> {
-    let mut slice = SliceReader::new(BYTES.bytes);
-    reads_over::<Lent<Bytes<CowSlice<'_, u8, Global>>>, _>(tally, &mut slice, &BYTES)?;
-    let segments = [b"\x5f\x42\x01".as_slice(), b"\x02\x41\x03\xff"];
-    let mut reader = SegmentReader::new(&segments);
-    reads_over::<Lent<Bytes<CowSlice<'_, u8, Global>>>, _>(tally, &mut reader, &BYTES)?;
-    let mut stream = IoReader::new(FailingStream::new(BYTES.bytes, 3, usize::MAX));
-    reads_over::<Lent<Bytes<CowSlice<'_, u8, Global>>>, _>(tally, &mut stream, &BYTES)
-}
 
 type Unchecked<'a> = Lent<UncheckedStr<CowSlice<'a, u8, Global>>>;
 
-fn lent_unchecked(tally: &mut Tally) -> Result<(), Broken> {
-    let mut slice = SliceReader::new(UNCHECKED.bytes);
-    reads_over::<Unchecked<'_>, _>(tally, &mut slice, &UNCHECKED)?;
-    let segments = [b"\x62\xff".as_slice(), b"\xfe"];
-    let mut reader = SegmentReader::new(&segments);
-    reads_over::<Unchecked<'_>, _>(tally, &mut reader, &UNCHECKED)?;
-    let mut stream = IoReader::new(FailingStream::new(UNCHECKED.bytes, 3, usize::MAX));
-    reads_over::<Unchecked<'_>, _>(tally, &mut stream, &UNCHECKED)
-}
-
-const LENT_TEXTS: &[LentRow] = table! {
-    (b"\x64IETF\x01", &[b"\x64IETF", b"\x01"], "Lent(\"IETF\")", b"\x01"),
+// Strings and an item that are borrowed, and take no memory. Items that are kept as a copy of their
+// bytes: [1, 2] with 3 after it, two of them in an array, and one in a map under a key, with a
+// longer head than needed.
+const LENT_ITEMS: &[LentRow; 8] = table! {
+    ("str", b"\x64IETF\x01", &[b"\x64IETF", b"\x01"], "Lent(\"IETF\")", b"\x01"),
+    ("Bytes of a slice", b"\x42\x01\x02\x03", &[b"\x42", b"\x01\x02\x03"],
+        "Lent(Bytes([1, 2]))", b"\x03"),
+    ("text", b"\x61\xff\x01", &[b"\x61\xff", b"\x01"], "Lent(UncheckedStr([255]))", b"\x01"),
+    ("RawValue", ITEM, &[ITEM], "Lent(RawValue([130, 1, 2]))", b"\x03"),
+    ("BoxedRawValue", ITEM, CUT, "Lent(BoxedRawValue([130, 1, 2]))", b"\x03"),
+    ("typed BoxedRawValue", ITEM, CUT, "Typed(BoxedRawValue([130, 1, 2]))", b"\x03"),
+    ("Vec of BoxedRawValue", b"\x82\x18\x05\x80\x03", &[b"\x82\x18\x05\x80\x03"],
+        "Lent([BoxedRawValue([24, 5]), BoxedRawValue([128])])", b"\x03"),
+    ("Map of BoxedRawValue", b"\xa1\x63bar\xa1\x65value\x18\x99",
+        &[b"\xa1\x63bar\xa1\x65value\x18\x99"],
+        "Lent(Map([(\"bar\", BoxedRawValue([161, 101, 118, 97, 108, 117, 101, 24, 153]))]))", b""),
 };
 
-const LENT_BYTES: &[LentRow] = table! {
-    (b"\x42\x01\x02\x03", &[b"\x42", b"\x01\x02\x03"], "Lent(Bytes([1, 2]))", b"\x03"),
-};
+const ITEM: &[u8] = b"\x82\x01\x02\x03";
 
-const LENT_UNCHECKED: &[LentRow] = table! {
-    (b"\x61\xff\x01", &[b"\x61\xff", b"\x01"], "Lent(UncheckedStr([255]))", b"\x01"),
-};
+const CUT: &[&[u8]] = &[b"\x82\x01\x02", b"\x03"];
 
-const LENT_ITEMS: &[LentRow] = table! {
-    (b"\x82\x01\x02\x03", &[b"\x82\x01\x02\x03"], "Lent(RawValue([130, 1, 2]))", b"\x03"),
-};
+/// A typed value that is kept as a copy of its bytes.
+#[derive(Debug, Drop)]
+struct Typed(BoxedRawValue);
 
-/// Strings and items that are borrowed, where the reader lends them: they take no memory.
-pub fn in_place(tally: &mut Tally) -> Result<(), Broken> {
-    lends::<Lent<&'static str>>(tally, "str", Left::Never, LENT_TEXTS)?;
-    lends::<Lent<Bytes<&'static [u8]>>>(tally, "Bytes of a slice", Left::Never, LENT_BYTES)?;
-    lends::<Lent<UncheckedStr<&'static [u8]>>>(tally, "text", Left::Never, LENT_UNCHECKED)?;
-    lends::<Lent<RawValue<'static>>>(tally, "RawValue", Left::Never, LENT_ITEMS)
-}
-
-// [1, 2], and 3 after it.
-const KEPT: &[LentRow] = table! {
-    (PAIR, &[b"\x82\x01\x02", b"\x03"], "Lent(BoxedRawValue([130, 1, 2]))", b"\x03"),
-};
-
-const PAIR: &[u8] = b"\x82\x01\x02\x03";
-
-impl<S: FillLong> ReadBy<S> for Typed<BoxedRawValue> {
+impl<S: FillLong> ReadBy<S> for Typed {
     fn read_by(alloc: Global, reader: &mut S) -> Result<Self, DecodeError<S::Error>> {
-        answer(BoxedRawValue::deserialize(alloc, &mut Deserializer::new(reader)))
+        let de = &mut Deserializer::new(reader);
+        Ok(Typed(as_core(BoxedRawValue::deserialize(alloc, de))?))
     }
 }
 
-// [1, 2] as a typed value, and 3 after it.
-const TYPED: &[LentRow] = table! {
-    (PAIR, &[b"\x82\x01\x02", b"\x03"], "Typed(BoxedRawValue([130, 1, 2]))", b"\x03"),
-};
-
-// Two of them in an array.
-const BOTH_KEPT: &[LentRow] = table! {
-    (BOTH, &[BOTH], "Lent([BoxedRawValue([24, 5]), BoxedRawValue([128])])", b"\x03"),
-};
-
-const BOTH: &[u8] = b"\x82\x18\x05\x80\x03";
-
-type KeptPairs = Lent<Map<Vec<(String, BoxedRawValue)>>>;
-
-// A map under a key, with a longer head than needed.
-const KEPT_PAIRS: &[LentRow] = table! {
-    (PAIRS, &[PAIRS], PAIRS_SHOWN, b""),
-};
-
-const PAIRS: &[u8] = b"\xa1\x63bar\xa1\x65value\x18\x99";
-
-const PAIRS_SHOWN: &str =
-    "Lent(Map([(\"bar\", BoxedRawValue([161, 101, 118, 97, 108, 117, 101, 24, 153]))]))";
-
-/// Items that are kept as a copy of their bytes: the item was taken where memory is refused.
-pub fn kept(tally: &mut Tally) -> Result<(), Broken> {
-    lends::<Lent<BoxedRawValue>>(tally, "BoxedRawValue", Left::TheRest, KEPT)?;
-    lends::<Typed<BoxedRawValue>>(tally, "typed BoxedRawValue", Left::TheRest, TYPED)?;
-    lends::<Lent<Vec<BoxedRawValue>>>(tally, "Vec of BoxedRawValue", Left::AnEnd, BOTH_KEPT)?;
-    lends::<KeptPairs>(tally, "Map of BoxedRawValue", Left::AnEnd, KEPT_PAIRS)?;
-    if let Some(value) = value(tally, b"\x9f\x18\x05\xff")? {
-        keeps_value(tally, &value)?;
+/// Items that are borrowed, where the reader lends them, and such as are kept as a copy of their
+/// bytes: the item was taken where memory is refused.
+pub fn items(tally: &mut Tally) -> Result<(), Broken> {
+    let [text, bytes, unchecked] = *COPIED;
+    lends::<Lent<CowStr<'static, Global>>>(tally, Left::AnEnd, text)?;
+    let mut stream = IoReader::new(FailingStream::new(text.1, 3, usize::MAX));
+    lends_over::<Lent<CowStr<'_, Global>>, _>(tally, Left::AnEnd, &mut stream, text)?;
+    lends::<Lent<Bytes<CowSlice<'static, u8, Global>>>>(tally, Left::AnEnd, bytes)?;
+    let mut stream = IoReader::new(FailingStream::new(bytes.1, 3, usize::MAX));
+    lends_over::<Lent<Bytes<CowSlice<'_, u8, Global>>>, _>(tally, Left::AnEnd, &mut stream, bytes)?;
+    lends::<Unchecked<'static>>(tally, Left::AnEnd, unchecked)?;
+    let mut stream = IoReader::new(FailingStream::new(unchecked.1, 3, usize::MAX));
+    lends_over::<Unchecked<'_>, _>(tally, Left::AnEnd, &mut stream, unchecked)?;
+    let [text, bytes, unchecked, raw, kept, typed, both, pair] = *LENT_ITEMS;
+    lends::<Lent<&'static str>>(tally, Left::Never, text)?;
+    lends::<Lent<Bytes<&'static [u8]>>>(tally, Left::Never, bytes)?;
+    lends::<Lent<UncheckedStr<&'static [u8]>>>(tally, Left::Never, unchecked)?;
+    lends::<Lent<RawValue<'static>>>(tally, Left::Never, raw)?;
+    lends::<Lent<BoxedRawValue>>(tally, Left::TheRest, kept)?;
+    lends::<Typed>(tally, Left::TheRest, typed)?;
+    lends::<Lent<Vec<BoxedRawValue>>>(tally, Left::AnEnd, both)?;
+    lends::<Lent<Map<Vec<(String, BoxedRawValue)>>>>(tally, Left::AnEnd, pair)?;
+    match value(tally, b"\x9f\x18\x05\xff")? {
+        Some(value) => keeps_value(tally, &value),
+        None => Ok(()),
     }
-    Ok(())
 }
 
 // The canonical encoding of [5], and a copy of it.
@@ -210,4 +155,194 @@ fn keeps_value(tally: &mut Tally, value: &Value) -> Result<(), Broken> {
         Err(NoMemory) => tally.refuse(),
     }
     Ok(())
+}
+
+/// How a string is read that may be borrowed.
+#[derive(Clone, Copy)]
+enum Way {
+    Text,
+    TextByName,
+    Identifier,
+    LentText,
+    Bytes,
+    BytesByName,
+    LentBytes,
+}
+
+/// A reader by whose name strings are read that may be borrowed.
+trait Borrows: Source {
+    /// Reads the string.
+    fn string(way: Way, alloc: Global, de: &mut Deserializer<Self>, text: Pieces<'_>) -> Told<Self>;
+}
+
+impl Borrows for SliceReader<'static> {
+    fn string(
+        way: Way,
+        alloc: Global,
+        de: &mut Deserializer<SliceReader<'static>>,
+        text: Pieces<'_>,
+    ) -> Result<bool, DecodeError<Never>> {
+        match way {
+            Way::Text => told(<CowStr<'static, Global>>::deserialize(alloc, de), text),
+            Way::TextByName => told(de.deserialize_str(alloc), text),
+            Way::Identifier => told(de.deserialize_identifier(alloc), text),
+            Way::LentText => told(<&'static str>::deserialize(alloc, de), text),
+            Way::Bytes => told(<Bytes<Content>>::deserialize(alloc, de), text),
+            Way::BytesByName => told(de.deserialize_bytes(alloc), text),
+            Way::LentBytes => told(<Bytes<&'static [u8]>>::deserialize(alloc, de), text),
+        }
+    }
+}
+
+impl Borrows for SegmentReader<'static> {
+    fn string(
+        way: Way,
+        alloc: Global,
+        de: &mut Deserializer<SegmentReader<'static>>,
+        text: Pieces<'_>,
+    ) -> Result<bool, DecodeError<Never>> {
+        match way {
+            Way::Text => told(<CowStr<'static, Global>>::deserialize(alloc, de), text),
+            Way::TextByName => told(de.deserialize_str(alloc), text),
+            Way::Identifier => told(de.deserialize_identifier(alloc), text),
+            Way::LentText => told(<&'static str>::deserialize(alloc, de), text),
+            Way::Bytes => told(<Bytes<Content>>::deserialize(alloc, de), text),
+            Way::BytesByName => told(de.deserialize_bytes(alloc), text),
+            Way::LentBytes => told(<Bytes<&'static [u8]>>::deserialize(alloc, de), text),
+        }
+    }
+}
+
+impl Borrows for Stream {
+    fn string(
+        way: Way,
+        alloc: Global,
+        de: &mut Deserializer<Stream>,
+        text: Pieces<'_>,
+    ) -> Result<bool, DecodeError<io::Error>> {
+        match way {
+            Way::Text => told(<CowStr<'static, Global>>::deserialize(alloc, de), text),
+            Way::TextByName => told(de.deserialize_str(alloc), text),
+            Way::Identifier => told(de.deserialize_identifier(alloc), text),
+            Way::LentText => told(<&'static str>::deserialize(alloc, de), text),
+            Way::Bytes => told(<Bytes<Content>>::deserialize(alloc, de), text),
+            Way::BytesByName => told(de.deserialize_bytes(alloc), text),
+            Way::LentBytes => told(<Bytes<&'static [u8]>>::deserialize(alloc, de), text),
+        }
+    }
+}
+
+/// The content of a byte string.
+type Content = CowSlice<'static, u8, Global>;
+
+/// A row: its name, how it is read, bytes, the same in segments, the text of what is read, and what
+/// is left of them.
+type StringRow = (
+    &'static str,
+    Way,
+    &'static [u8],
+    &'static [&'static [u8]],
+    &'static str,
+    &'static [u8],
+);
+
+/// Which readers a row is read over.
+#[derive(Clone, Copy, PartialEq)]
+enum Over {
+    SliceAndSegments,
+    SegmentsAndStream,
+    Each,
+}
+
+// Reads each row over these readers.
+fn reads(
+    tally: &mut Tally,
+    left: Left,
+    over: Over,
+    rows: &'static [StringRow],
+) -> Result<(), Broken> {
+    for (row, way, bytes, segments, text, rest) in rows {
+        let meant = Meant {
+            row,
+            call: row,
+            bytes,
+            text: &[(text, 1)],
+            rest,
+            left,
+        };
+        reads_string(tally, *way, SegmentReader::new(segments), &meant)?;
+        if over != Over::SegmentsAndStream {
+            reads_string(tally, *way, SliceReader::new(bytes), &meant)?;
+        }
+        if over != Over::SliceAndSegments {
+            let stream = FailingStream::new(bytes, 3, usize::MAX);
+            reads_string(tally, *way, IoReader::new(stream), &meant)?;
+        }
+    }
+    Ok(())
+}
+
+fn reads_string<S: Borrows + Drop>(
+    tally: &mut Tally,
+    way: Way,
+    mut reader: S,
+    meant: &Meant<'_>,
+) -> Result<(), Broken> {
+    let budget = steps(&mut reader);
+    let mut de = Deserializer::new(reader);
+    let got = S::string(way, tally.alloc(), &mut de, meant.text);
+    is_answer(tally, &mut de.into_inner(), budget, &got, meant)
+}
+
+// Texts and byte strings that are lent whole, and take no memory.
+const LENT: &[StringRow] = table! {
+    ("typed CowStr", Way::Text, TWO, &[b"\x62", b"ab\x01"], "\"ab\"", b"\x01"),
+    ("deserialize_str", Way::TextByName, TWO, &[TWO], "\"ab\"", b"\x01"),
+    ("deserialize_identifier", Way::Identifier, TWO, &[TWO], "\"ab\"", b"\x01"),
+    ("typed str", Way::LentText, TWO, &[TWO], "\"ab\"", b"\x01"),
+    ("typed CowSlice", Way::Bytes, EIGHT, &[b"\x42\x08\x09", b"\x01"], "Bytes([8, 9])", b"\x01"),
+    ("deserialize_bytes", Way::BytesByName, EIGHT, &[EIGHT], "[8, 9]", b"\x01"),
+    ("typed slice", Way::LentBytes, EIGHT, &[EIGHT], "Bytes([8, 9])", b"\x01"),
+};
+
+const TWO: &[u8] = b"\x62ab\x01";
+
+const EIGHT: &[u8] = b"\x42\x08\x09\x01";
+
+// Texts and byte strings that no segment has whole: they are copied. What has to be lent is
+// rejected then.
+const CUT_STRINGS: &[StringRow] = table! {
+    ("typed CowStr", Way::Text, TWO, &[b"\x62a", b"b\x01"], "\"ab\"", b"\x01"),
+    ("deserialize_str", Way::TextByName, TWO, &[b"\x62a", b"b\x01"], "\"ab\"", b"\x01"),
+    ("deserialize_identifier", Way::Identifier, TWO, &[b"\x62a", b"b\x01"], "\"ab\"", b"\x01"),
+    ("typed str", Way::LentText, TWO, &[b"\x62a", b"b\x01"], require_borrowed!("str"), b"\x01"),
+    ("typed CowSlice", Way::Bytes, EIGHT, HALVES, "Bytes([8, 9])", b"\x01"),
+    ("deserialize_bytes", Way::BytesByName, EIGHT, HALVES, "[8, 9]", b"\x01"),
+    ("typed slice", Way::LentBytes, EIGHT, HALVES, NOT_LENT, b"\x01"),
+};
+
+const HALVES: &[&[u8]] = &[b"\x42\x08", b"\x09\x01"];
+
+const NOT_LENT: &str = require_borrowed!("bytes");
+
+// Texts and byte strings of indefinite length, which are copied from each reader.
+const CHUNKED: &[StringRow] = table! {
+    ("typed CowStr", Way::Text, CHUNKS, &[CHUNKS], "\"ab\"", b"\x01"),
+    ("deserialize_str", Way::TextByName, CHUNKS, &[CHUNKS], "\"ab\"", b"\x01"),
+    ("deserialize_identifier", Way::Identifier, CHUNKS, &[CHUNKS], "\"ab\"", b"\x01"),
+    ("typed str", Way::LentText, CHUNKS, &[CHUNKS], require_borrowed!("str"), b"\x01"),
+    ("typed CowSlice", Way::Bytes, BYTE_CHUNKS, &[BYTE_CHUNKS], "Bytes([8, 9])", b"\x01"),
+    ("deserialize_bytes", Way::BytesByName, BYTE_CHUNKS, &[BYTE_CHUNKS], "[8, 9]", b"\x01"),
+    ("typed slice", Way::LentBytes, BYTE_CHUNKS, &[BYTE_CHUNKS], NOT_LENT, b"\x01"),
+};
+
+const CHUNKS: &[u8] = b"\x7f\x61a\x61b\xff\x01";
+
+const BYTE_CHUNKS: &[u8] = b"\x5f\x41\x08\x41\x09\xff\x01";
+
+/// Typed strings that are borrowed where a reader lends them, and the calls for them.
+pub fn strings(tally: &mut Tally) -> Result<(), Broken> {
+    reads(tally, Left::Never, Over::SliceAndSegments, LENT)?;
+    reads(tally, Left::AnEnd, Over::SegmentsAndStream, CUT_STRINGS)?;
+    reads(tally, Left::AnEnd, Over::Each, CHUNKED)
 }

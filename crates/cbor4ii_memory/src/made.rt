@@ -1,108 +1,66 @@
-//! What is made of a whole item once it is read: one that is encoded in one way, a copy of its
-//! bytes, and a vector that holds what is written. Or whether keys of its maps are equal. And the
-//! next item, where one comes.
-use cbor4ii::serde::to_vec;
+//! What an item is read as alone, and what is made of a whole item once it is read: one that is
+//! encoded in one way, a copy, its bytes, and a vector that holds what is written. Or whether keys
+//! of its maps are equal.
+use crate::items::Item;
+use crate::named::{read_fields, read_variant};
+use crate::own::Own;
+use crate::read::{Calls, Told, as_core};
+use crate::typed::Typed;
+use cbor4ii::serde::{Deserializer, to_vec};
 use cbor4ii_items::decode::Decode;
 use cbor4ii_items::sequence::next_item;
 use cbor4ii_rw::error::DecodeError;
 use cbor4ii_rw::read::Source;
-use cbor4ii_tree::{BoxedRawValue, Canonical, NoMemory, Value};
-use cbor4ii_vectors::rows::ReadFrom;
+use cbor4ii_tree::{BoxedRawValue, Canonical, Value};
 use std::alloc::Global;
 
-/// The next value of a sequence, or none at its end.
-#[derive(Drop)]
-pub struct Next(Option<Value>);
+/// Reads the item as these words say, if they do. The answer has no text that is meant.
+pub fn read_as<S: Source>(alloc: Global, way: &str, reader: &mut S) -> Option<Told<S>> {
+    Some(match way {
+        "value" => Item::call("Value", alloc, reader, &[]),
+        "canonical" => Item::call("Canonical", alloc, reader, &[]),
+        "numbers" => Typed::call("typed Vec", alloc, reader, &[]),
+        "elements" => Own::call("deserialize_elements", alloc, reader, &[]),
+        "keyed" => Own::call("deserialize_fields by integers", alloc, reader, &[]),
+        "named" => Own::call("deserialize_fields", alloc, reader, &[]),
+        "tagged" => Own::call("deserialize_tagged", alloc, reader, &[]),
+        "checked" => Own::call("deserialize_checked", alloc, reader, &[]),
+        "next" => done(next_item::<_, Value>(alloc, reader)),
+        "item" => {
+            let de = &mut Deserializer::new(reader);
+            done(as_core(de.deserialize_item::<Value>(alloc)))
+        }
+        "fields" => as_core(read_fields(alloc, &mut Deserializer::new(reader))),
+        "variant" => as_core(read_variant(alloc, &mut Deserializer::new(reader))),
+        "made canonical" | "copied" | "kept" | "written" => made(alloc, way, reader),
+        "equal keys" | "equal keys at any level" => made(alloc, way, reader),
+        _ => return None,
+    })
+}
 
-impl ReadFrom for Next {
-    fn read_from<S: Source>(alloc: Global, reader: &mut S) -> Result<Self, DecodeError<S::Error>> {
-        Ok(Next(next_item(alloc, reader)?))
+/// That the call was accepted.
+pub fn done<T: Drop, E>(got: Result<T, E>) -> Result<bool, E> {
+    match got {
+        Ok(_) => Ok(true),
+        Err(error) => Err(error),
     }
 }
 
-/// A value, made canonical.
-#[derive(Drop)]
-pub struct MadeCanonical(Canonical);
-
-impl ReadFrom for MadeCanonical {
-    fn read_from<S: Source>(alloc: Global, reader: &mut S) -> Result<Self, DecodeError<S::Error>> {
-        let value = Value::decode(alloc, reader)?;
-        match Canonical::try_from_value(alloc, value) {
-            Ok(canonical) => Ok(MadeCanonical(canonical)),
-            Err(NoMemory) => Err(DecodeError::OutOfMemory),
-        }
+fn made<S: Source>(alloc: Global, way: &str, reader: &mut S) -> Told<S> {
+    let value = Value::decode(alloc, reader)?;
+    let is_made = match way {
+        "made canonical" => Canonical::try_from_value(alloc, value).is_ok(),
+        "copied" => value.try_clone().is_ok(),
+        "kept" => match BoxedRawValue::from_value(alloc, &value) {
+            Ok(kept) => kept.try_clone().is_ok(),
+            Err(_) => false,
+        },
+        "written" => to_vec(Vec::new(alloc), &value).is_ok(),
+        "equal keys" => value.try_has_equal_keys().is_ok(),
+        _ => value.try_has_equal_keys_at_any_level().is_ok(),
+    };
+    if is_made {
+        return Ok(true);
     }
-}
-
-/// A copy of a value.
-#[derive(Drop)]
-pub struct Copied(Value);
-
-impl ReadFrom for Copied {
-    fn read_from<S: Source>(alloc: Global, reader: &mut S) -> Result<Self, DecodeError<S::Error>> {
-        let value = Value::decode(alloc, reader)?;
-        match value.try_clone() {
-            Ok(copy) => Ok(Copied(copy)),
-            Err(NoMemory) => Err(DecodeError::OutOfMemory),
-        }
-    }
-}
-
-/// The bytes of a value's canonical encoding, and a copy of them.
-#[derive(Drop)]
-pub struct Kept(BoxedRawValue);
-
-impl ReadFrom for Kept {
-    fn read_from<S: Source>(alloc: Global, reader: &mut S) -> Result<Self, DecodeError<S::Error>> {
-        let value = Value::decode(alloc, reader)?;
-        let Ok(kept) = BoxedRawValue::from_value(alloc, &value) else {
-            return Err(DecodeError::OutOfMemory);
-        };
-        match kept.try_clone() {
-            Ok(copy) => Ok(Kept(copy)),
-            Err(NoMemory) => Err(DecodeError::OutOfMemory),
-        }
-    }
-}
-
-/// A vector that holds a value's canonical encoding.
-#[derive(Drop)]
-pub struct Written(Vec<u8>);
-
-impl ReadFrom for Written {
-    fn read_from<S: Source>(alloc: Global, reader: &mut S) -> Result<Self, DecodeError<S::Error>> {
-        let value = Value::decode(alloc, reader)?;
-        match to_vec(Vec::new(alloc), &value) {
-            Ok(bytes) => Ok(Written(bytes)),
-            Err(_) => Err(DecodeError::OutOfMemory),
-        }
-    }
-}
-
-/// Whether two keys of a value, a map, are equal.
-#[derive(Drop)]
-pub struct EqualKeys(bool);
-
-impl ReadFrom for EqualKeys {
-    fn read_from<S: Source>(alloc: Global, reader: &mut S) -> Result<Self, DecodeError<S::Error>> {
-        let value = Value::decode(alloc, reader)?;
-        match value.try_has_equal_keys() {
-            Ok(found) => Ok(EqualKeys(found)),
-            Err(NoMemory) => Err(DecodeError::OutOfMemory),
-        }
-    }
-}
-
-/// Whether two keys of a map in a value are equal.
-#[derive(Drop)]
-pub struct EqualKeysAtAnyLevel(bool);
-
-impl ReadFrom for EqualKeysAtAnyLevel {
-    fn read_from<S: Source>(alloc: Global, reader: &mut S) -> Result<Self, DecodeError<S::Error>> {
-        let value = Value::decode(alloc, reader)?;
-        match value.try_has_equal_keys_at_any_level() {
-            Ok(found) => Ok(EqualKeysAtAnyLevel(found)),
-            Err(NoMemory) => Err(DecodeError::OutOfMemory),
-        }
-    }
+    Err(DecodeError::OutOfMemory)
 }

@@ -11,31 +11,24 @@
 #![tactic(auto)]
 
 mod alone;
-mod answer;
 mod debug_text;
 mod growth;
-mod in_place;
 mod items;
-mod lendable;
 mod lengths;
 mod lent;
 mod levels;
 mod made;
 mod named;
+mod numbers;
 mod of_slice;
 mod own;
 mod read;
-mod room;
 mod tally;
 mod typed;
-mod typed_calls;
-mod typed_in_place;
 mod values;
 mod writing;
 mod writing_items;
-mod writing_parts;
 mod writing_typed;
-mod writing_values;
 
 use crate::alone::{Alone, read_alone};
 use crate::tally::{Broken, Tally};
@@ -72,7 +65,7 @@ fn outcome(alloc: Global, word: &[u8]) -> Result<(), Broken> {
     let mut tally = Tally::new(alloc);
     let wanted = u64::from(word.starts_with(b"refused"));
     if word.starts_with(b"lengths") {
-        false_lengths(&mut tally)?;
+        lengths::false_lengths(&mut tally)?;
     } else if word.starts_with(b"levels") {
         levels::written(&mut tally)?;
     } else {
@@ -88,80 +81,15 @@ fn outcome(alloc: Global, word: &[u8]) -> Result<(), Broken> {
 }
 
 fn all(tally: &mut Tally) -> Result<(), Broken> {
-    item_rows(tally)?;
-    value_rows(tally)?;
-    typed_rows(tally)?;
-    rows_in_place(tally)?;
-    written_rows(tally)?;
-    grown_rows(tally)?;
-    false_lengths(tally)
-}
-
-fn item_rows(tally: &mut Tally) -> Result<(), Broken> {
-    items::strings(tally)?;
-    items::containers(tally)?;
-    items::nested(tally)?;
-    items::strings_within(tally)
-}
-
-fn value_rows(tally: &mut Tally) -> Result<(), Broken> {
+    numbers::numbers(tally)?;
+    items::items(tally)?;
     values::values(tally)?;
-    values::rejected(tally)?;
-    values::copies(tally)?;
-    values::bignums(tally)?;
-    values::equal_keys(tally)?;
-    lent::kept(tally)?;
-    lent::strings(tally)
-}
-
-fn typed_rows(tally: &mut Tally) -> Result<(), Broken> {
+    lent::items(tally)?;
+    lent::strings(tally)?;
     typed::types(tally)?;
-    typed::calls(tally)?;
-    typed::firsts(tally)?;
-    typed_calls::types(tally)?;
-    typed_calls::by_name(tally)?;
     own::types(tally)?;
-    own::rejected(tally)?;
-    lendable::lent_strings(tally)
-}
-
-fn rows_in_place(tally: &mut Tally) -> Result<(), Broken> {
-    in_place::items(tally)?;
-    lent::in_place(tally)?;
-    typed_in_place::typed(tally)
-}
-
-fn written_rows(tally: &mut Tally) -> Result<(), Broken> {
     writing_items::items(tally)?;
-    writing_items::owned(tally)?;
-    writing_values::values(tally)?;
-    written_typed_rows(tally)
-}
-
-fn written_typed_rows(tally: &mut Tally) -> Result<(), Broken> {
-    writing_typed::leaves(tally)?;
-    writing_typed::containers(tally)?;
-    writing_typed::owned(tally)?;
-    writing_parts::calls(tally)?;
-    writing_parts::texts(tally)?;
-    writing_parts::long_texts(tally)?;
-    writing_parts::whole(tally)?;
-    writing_parts::streamed(tally)?;
-    writing_parts::streamed_in_place()
-}
-
-fn grown_rows(tally: &mut Tally) -> Result<(), Broken> {
-    growth::strings(tally)?;
-    growth::containers(tally)?;
-    growth::values(tally)?;
-    growth::typed(tally)?;
-    growth::nests(tally)?;
-    room::arrays(tally)?;
-    room::maps(tally)
-}
-
-fn false_lengths(tally: &mut Tally) -> Result<(), Broken> {
-    lengths::items(tally)?;
-    lengths::values(tally)?;
-    lengths::typed(tally)
+    writing_typed::typed(tally)?;
+    growth::grown(tally)?;
+    lengths::false_lengths(tally)
 }

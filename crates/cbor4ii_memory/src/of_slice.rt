@@ -1,70 +1,31 @@
 //! One item of a slice, read in the ways that are for a slice alone: as the whole input, and as
 //! bytes that are kept where they stand.
 use crate::alone::{Alone, reported};
-use crate::typed::as_core;
+use crate::read::as_core;
 use cbor4ii::serde::{Deserialize, Deserializer, from_slice_whole, from_slice_whole_at};
 use cbor4ii_items::decode::Decode;
 use cbor4ii_items::whole::{decode_whole, decode_whole_at};
 use cbor4ii_rw::error::{DecodeError, ErrorAt, Never, WholeError};
 use cbor4ii_rw::slice_reader::SliceReader;
 use cbor4ii_tree::{Canonical, NoMemory, PlainRawValue, RawValue, Value};
-use cbor4ii_vectors::table;
 use std::alloc::Global;
 
-/// What an item of a slice is read as.
-#[derive(Clone, Copy)]
-enum Way {
-    Whole,
-    WholeAt,
-    TypedWhole,
-    TypedWholeAt,
-    Plain,
-    PlainDecoded,
-    PlainTyped,
-    RawToValue,
-    FromSlice,
-    CanonicalFromSlice,
-    ToVec,
-}
-
-const WAYS: &[(&[u8], Way)] = table! {
-    (b"whole of a slice:", Way::Whole),
-    (b"whole at of a slice:", Way::WholeAt),
-    (b"typed whole of a slice:", Way::TypedWhole),
-    (b"typed whole at of a slice:", Way::TypedWholeAt),
-    (b"plain of a slice:", Way::Plain),
-    (b"plain decoded of a slice:", Way::PlainDecoded),
-    (b"plain typed of a slice:", Way::PlainTyped),
-    (b"raw to value of a slice:", Way::RawToValue),
-    (b"value from a slice:", Way::FromSlice),
-    (b"canonical from a slice:", Way::CanonicalFromSlice),
-    (b"to vec from a slice:", Way::ToVec),
-};
-
-/// Reads the item that follows these words, if it is to be read in one of these ways.
-pub fn read_of_slice(alloc: Global, input: &[u8]) -> Option<Alone> {
-    for &(words, way) in WAYS {
-        if let Some(item) = input.strip_prefix(words) {
-            return Some(read(alloc, way, item));
-        }
-    }
-    None
-}
-
-fn read(alloc: Global, way: Way, item: &[u8]) -> Alone {
-    match way {
-        Way::Whole => whole(decode_whole::<&[u8], Value>(alloc, item)),
-        Way::WholeAt => whole_at(alloc, item),
-        Way::TypedWhole => typed_whole(alloc, item),
-        Way::TypedWholeAt => typed_whole_at(alloc, item),
-        Way::Plain => whole(PlainRawValue::new(alloc, item)),
-        Way::PlainDecoded => plain_decoded(alloc, item),
-        Way::PlainTyped => plain_typed(alloc, item),
-        Way::RawToValue => raw_to_value(alloc, item),
-        Way::FromSlice => whole(Value::from_slice_whole(alloc, item)),
-        Way::CanonicalFromSlice => whole(Canonical::from_slice_whole(alloc, item)),
-        Way::ToVec => whole(to_vec(alloc, item)),
-    }
+/// Reads the item as these words say, if they do.
+pub fn read_of_slice(alloc: Global, words: &str, item: &[u8]) -> Option<Alone> {
+    Some(match words {
+        "whole" => whole(decode_whole::<&[u8], Value>(alloc, item)),
+        "whole at" => whole_at(alloc, item),
+        "typed whole" => typed_whole(alloc, item),
+        "typed whole at" => typed_whole_at(alloc, item),
+        "plain" => whole(PlainRawValue::new(alloc, item)),
+        "plain decoded" => plain_decoded(alloc, item),
+        "plain typed" => plain_typed(alloc, item),
+        "raw to value" => raw_to_value(alloc, item),
+        "value from a slice" => whole(Value::from_slice_whole(alloc, item)),
+        "canonical from a slice" => whole(Canonical::from_slice_whole(alloc, item)),
+        "to vec from a slice" => whole(to_vec(alloc, item)),
+        _ => return None,
+    })
 }
 
 // All of the bytes are to be one item, so that none are left where it is accepted.

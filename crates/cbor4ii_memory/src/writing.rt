@@ -5,49 +5,51 @@ use cbor4ii_rw::buf_writer::BufWriter;
 use cbor4ii_rw::error as core_error;
 use cbor4ii_rw::io_writer::IoWriter;
 use cbor4ii_vectors::rows::WriteTo;
+use cbor4ii_vectors_ser::typed::{Put, Typed};
 
 // No row writes more bytes.
 const MOST_WRITTEN: usize = 512;
 
-/// A row: its name, what is written, and its bytes.
-pub type WriteRow<T> = (&'static str, T, &'static [u8]);
-
-/// Writes what each row says.
-pub fn writes_rows<T: WriteTo>(tally: &mut Tally, rows: &[WriteRow<T>]) -> Result<(), Broken> {
-    for (row, value, bytes) in rows {
-        writes(tally, row, value, bytes)?;
+impl Tally {
+    /// Writes a typed value as `writes` does.
+    pub fn puts<T: Put + Drop>(
+        &mut self,
+        row: &'static str,
+        value: T,
+        bytes: &[u8],
+    ) -> Result<(), Broken> {
+        self.writes(row, &Typed(value), bytes)
     }
-    Ok(())
-}
 
-/// Writes the value into memory that is there, where nothing is refused, and then after a byte
-/// that stands in a buffer which has no room for more. Where memory is refused, that byte and a
-/// prefix of the value's bytes stand there; after them is room for what is written again.
-pub fn writes<T: WriteTo>(
-    tally: &mut Tally,
-    row: &'static str,
-    value: &T,
-    bytes: &[u8],
-) -> Result<(), Broken> {
-    writes_in_place(row, value, bytes)?;
-    let Ok(held) = Vec::from_slice(tally.alloc(), b"\xff") else {
-        tally.refuse();
-        return Ok(());
-    };
-    let mut writer = BufWriter::new(held);
-    let got = value.write_to(&mut writer);
-    let Some(written) = writer.buffer().strip_prefix(b"\xff".as_slice()) else {
-        return Err(Broken::new(row, "the byte before is gone"));
-    };
-    match got {
-        Ok(()) if written == bytes => Ok(()),
-        Err(core_error::EncodeError::Write(_))
-            if bytes.starts_with(written) && written.len() < bytes.len() => {
-            tally.refuse();
-            writer.clear();
-            writes_again(row, value, &mut writer, bytes)
+    /// Writes the value into memory that is there, where nothing is refused, and then after a byte
+    /// that stands in a buffer which has no room for more. Where memory is refused, that byte and a
+    /// prefix of the value's bytes stand there; after them is room for what is written again.
+    pub fn writes<T: WriteTo>(
+        &mut self,
+        row: &'static str,
+        value: &T,
+        bytes: &[u8],
+    ) -> Result<(), Broken> {
+        writes_in_place(row, value, bytes)?;
+        let Ok(held) = Vec::from_slice(self.alloc(), b"\xff") else {
+            self.refuse();
+            return Ok(());
+        };
+        let mut writer = BufWriter::new(held);
+        let got = value.write_to(&mut writer);
+        let Some(written) = writer.buffer().strip_prefix(b"\xff".as_slice()) else {
+            return Err(Broken::new(row, "the byte before is gone"));
+        };
+        match got {
+            Ok(()) if written == bytes => Ok(()),
+            Err(core_error::EncodeError::Write(_))
+                if bytes.starts_with(written) && written.len() < bytes.len() => {
+                self.refuse();
+                writer.clear();
+                writes_again(row, value, &mut writer, bytes)
+            }
+            _ => Err(Broken::new(row, "other bytes are written")),
         }
-        _ => Err(Broken::new(row, "other bytes are written")),
     }
 }
 
