@@ -5,6 +5,7 @@ ghost use Rattle.std.specs.declared.alloc.Global.{Global};
 ghost use Rattle.cbor4ii_rw.specs.Input.{limit};
 ghost use Rattle.cbor4ii_ser.specs.Item.{field, struct_encoding};
 ghost use Rattle.cbor4ii_ser.specs.OneItem.{IsOneItem, canonical};
+ghost use Rattle.cbor4ii.specs.FieldKey.{text_key};
 ghost use Rattle.cbor4ii.specs.Fields.{no_values};
 ghost use Rattle.cbor4ii.specs.Made.{made_from};
 ghost use Rattle.cbor4ii.specs.Presence.{struct_from, single_field, or_words, no_more_fields};
@@ -104,7 +105,7 @@ impl<'a> Typed for Envelope<'a> {
         ⟦<Bytes<&'a [u8]> as Typed>⟧.promise
         (single_field (codes "payload") (codes "an envelope has one payload")
         (or_words (codes "an envelope has one payload"))
-        ⟦<PlainRawValue<'a> as Typed>⟧.promise no_more_fields)))) };
+        ⟦<PlainRawValue<'a> as Typed>⟧.promise (no_more_fields text_key))))) };
 }
 
 /// What makes signatures.

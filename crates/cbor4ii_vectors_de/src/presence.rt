@@ -2,6 +2,7 @@
 ghost use Rattle.std.specs.Prelude.{◌≡◌, codes};
 ghost use Rattle.cbor4ii.specs.Fields.{no_values};
 ghost use Rattle.cbor4ii.specs.Made.{made_from};
+ghost use Rattle.cbor4ii.specs.FieldKey.{text_key};
 ghost use Rattle.cbor4ii.specs.Presence.{no_more_fields, optional_field, field_or_else};
 ghost use Rattle.cbor4ii.specs.Presence.{required_field, struct_from};
 
@@ -44,7 +45,8 @@ impl Typed for Lamp {
         (struct_from
         (required_field (codes "level") (codes "a lamp has a level") ⟦<u8 as Typed>⟧.promise
         (field_or_else (codes "delay") 60 ⟦<u8 as Typed>⟧.promise
-        (optional_field (codes "room") ⟦<u8 as Typed>⟧.promise no_more_fields)))) };
+        (optional_field (codes "room") ⟦<u8 as Typed>⟧.promise
+        (no_more_fields text_key))))) };
 }
 
 impl Take for Lamp {
