@@ -39,18 +39,7 @@ fn lends<T>(tally: &mut Tally, left: Left, lent: LentRow) -> Result<(), Broken>
 where
     T: ReadBy<SliceReader<'static>> + ReadBy<SegmentReader<'static>> + Debug + Drop,
 {
-    let (_, bytes, segments, _, _) = lent;
-    lends_over::<T, _>(tally, left, &mut SliceReader::new(bytes), lent)?;
-    lends_over::<T, _>(tally, left, &mut SegmentReader::new(segments), lent)
-}
-
-fn lends_over<T: ReadBy<S> + Debug + Drop, S: Source>(
-    tally: &mut Tally,
-    left: Left,
-    reader: &mut S,
-    lent: LentRow,
-) -> Result<(), Broken> {
-    let (row, bytes, _, text, rest) = lent;
+    let (row, bytes, segments, text, rest) = lent;
     let meant = Meant {
         row,
         call: row,
@@ -59,18 +48,28 @@ fn lends_over<T: ReadBy<S> + Debug + Drop, S: Source>(
         rest,
         left,
     };
+    lends_over::<T, _>(tally, &mut SliceReader::new(bytes), &meant)?;
+    lends_over::<T, _>(tally, &mut SegmentReader::new(segments), &meant)
+}
+
+fn lends_over<T: ReadBy<S> + Debug + Drop, S: Source>(
+    tally: &mut Tally,
+    reader: &mut S,
+    meant: &Meant<'_>,
+) -> Result<(), Broken> {
     let budget = steps(reader);
     let got = says(T::read_by(tally.alloc(), reader), meant.text);
-    is_answer(tally, reader, budget, &got, &meant)
+    is_answer(tally, reader, budget, &got, meant)
 }
 
 // Strings that are lent where they stand whole, and copied where they do not.
-const COPIED: &[LentRow; 3] = table! {
-    ("CowStr", b"\x64IETF\x01", &[b"\x64IE", b"TF\x01"], "Lent(\"IETF\")", b"\x01"),
-    ("Bytes of CowSlice", b"\x5f\x42\x01\x02\x41\x03\xff", &[b"\x5f\x42\x01", b"\x02\x41\x03\xff"],
-        "Lent(Bytes([1, 2, 3]))", b""),
-    ("UncheckedStr of CowSlice", b"\x62\xff\xfe", &[b"\x62\xff", b"\xfe"],
-        "Lent(UncheckedStr([255, 254]))", b""),
+const COPIED: &[Meant<'static>; 3] = table! {
+    Meant { row: "CowStr", call: "", bytes: b"\x64IETF\x01", text: &[("Lent(\"IETF\")", 1)],
+        rest: b"\x01", left: Left::AnEnd },
+    Meant { row: "Bytes of CowSlice", call: "", bytes: b"\x5f\x42\x01\x02\x41\x03\xff",
+        text: &[("Lent(Bytes([1, 2, 3]))", 1)], rest: b"", left: Left::AnEnd },
+    Meant { row: "UncheckedStr of CowSlice", call: "", bytes: b"\x62\xff\xfe",
+        text: &[("Lent(UncheckedStr([255, 254]))", 1)], rest: b"", left: Left::AnEnd },
 };
 
 type Unchecked<'a> = Lent<UncheckedStr<CowSlice<'a, u8, Global>>>;
@@ -108,19 +107,42 @@ impl<S: FillLong> ReadBy<S> for Typed {
     }
 }
 
+fn lent_texts(tally: &mut Tally, meant: &Meant<'_>) -> Result<(), Broken> {
+    let mut slice = SliceReader::new(meant.bytes);
+    lends_over::<Lent<CowStr<'_, Global>>, _>(tally, &mut slice, meant)?;
+    let segments = [b"\x64IE".as_slice(), b"TF\x01"];
+    let mut reader = SegmentReader::new(&segments);
+    lends_over::<Lent<CowStr<'_, Global>>, _>(tally, &mut reader, meant)?;
+    let mut stream = IoReader::new(FailingStream::new(meant.bytes, 3, usize::MAX));
+    lends_over::<Lent<CowStr<'_, Global>>, _>(tally, &mut stream, meant)
+}
+
+fn lent_bytes(tally: &mut Tally, meant: &Meant<'_>) -> Result<(), Broken> {
+    let mut slice = SliceReader::new(meant.bytes);
+    lends_over::<Lent<Bytes<CowSlice<'_, u8, Global>>>, _>(tally, &mut slice, meant)?;
+    let segments = [b"\x5f\x42\x01".as_slice(), b"\x02\x41\x03\xff"];
+    let mut reader = SegmentReader::new(&segments);
+    lends_over::<Lent<Bytes<CowSlice<'_, u8, Global>>>, _>(tally, &mut reader, meant)?;
+    let mut stream = IoReader::new(FailingStream::new(meant.bytes, 3, usize::MAX));
+    lends_over::<Lent<Bytes<CowSlice<'_, u8, Global>>>, _>(tally, &mut stream, meant)
+}
+
+fn lent_unchecked(tally: &mut Tally, meant: &Meant<'_>) -> Result<(), Broken> {
+    lends_over::<Unchecked<'_>, _>(tally, &mut SliceReader::new(meant.bytes), meant)?;
+    let segments = [b"\x62\xff".as_slice(), b"\xfe"];
+    let mut reader = SegmentReader::new(&segments);
+    lends_over::<Unchecked<'_>, _>(tally, &mut reader, meant)?;
+    let mut stream = IoReader::new(FailingStream::new(meant.bytes, 3, usize::MAX));
+    lends_over::<Unchecked<'_>, _>(tally, &mut stream, meant)
+}
+
 /// Items that are borrowed, where the reader lends them, and such as are kept as a copy of their
 /// bytes: the item was taken where memory is refused.
 pub fn items(tally: &mut Tally) -> Result<(), Broken> {
-    let [text, bytes, unchecked] = *COPIED;
-    lends::<Lent<CowStr<'static, Global>>>(tally, Left::AnEnd, text)?;
-    let mut stream = IoReader::new(FailingStream::new(text.1, 3, usize::MAX));
-    lends_over::<Lent<CowStr<'_, Global>>, _>(tally, Left::AnEnd, &mut stream, text)?;
-    lends::<Lent<Bytes<CowSlice<'static, u8, Global>>>>(tally, Left::AnEnd, bytes)?;
-    let mut stream = IoReader::new(FailingStream::new(bytes.1, 3, usize::MAX));
-    lends_over::<Lent<Bytes<CowSlice<'_, u8, Global>>>, _>(tally, Left::AnEnd, &mut stream, bytes)?;
-    lends::<Unchecked<'static>>(tally, Left::AnEnd, unchecked)?;
-    let mut stream = IoReader::new(FailingStream::new(unchecked.1, 3, usize::MAX));
-    lends_over::<Unchecked<'_>, _>(tally, Left::AnEnd, &mut stream, unchecked)?;
+    let [text, bytes, unchecked] = COPIED;
+    lent_texts(tally, text)?;
+    lent_bytes(tally, bytes)?;
+    lent_unchecked(tally, unchecked)?;
     let [text, bytes, unchecked, raw, kept, typed, both, pair] = *LENT_ITEMS;
     lends::<Lent<&'static str>>(tally, Left::Never, text)?;
     lends::<Lent<Bytes<&'static [u8]>>>(tally, Left::Never, bytes)?;
