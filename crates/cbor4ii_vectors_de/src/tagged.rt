@@ -41,7 +41,7 @@ impl<T: AsDescribed> Serialize for Under<T> {
 }
 
 impl<T> From<T> for Under<T> {
-    ghost from_gives = { λ v u. v ≡ u.0 };
+    ghost from_gives = { λ v u. u ≡ record { 0 = v } };
 
     fn from(value: T) -> Under<T> {
         Under(value)
@@ -62,12 +62,12 @@ impl<S: Source, T: AsDescribed + Deserialize<S>> Deserialize<S> for Under<T> {
 }
 
 impl<T: AsDescribed> Described for Under<T> {
-    ghost codec = { codec_of (λ u. u.0)
+    ghost codec = { codec_of (λ u. u.0) (λ value. record { 0 = value }) (λ u. refl)
         (tagged_codec 24 (its_codec T.promise T.encoding T.codec) refl) };
 }
 
 impl<T: AsDescribed> AsDescribed for Under<T> {
-    ghost agrees = { as_described (T.agrees, tt) };
+    ghost agrees = { as_described (T.agrees, tt) T.agrees.is };
 }
 
 impl Take for Under<u8> {
