@@ -43,7 +43,7 @@ pub trait ReadKey: Sized {
 
     ghost wants_under: { (a m : View) → KeepsAllButBudget a m → may_want m → may_want a };
 
-    /// Reads a key, and answers the place of the first of `keys` that it is, or how many there are
+    /// Reads a key, and answers the place of the first of `keys` that it is, or one behind them all
     /// where it is none of them.
     ///
     /// # Errors
