@@ -21,11 +21,7 @@ impl<T: Decodable> Decodable for Box<T> {
     ghost lawful = { boxed_lawful T.format T.lawful };
 }
 
-/// A box is read as what is in it.
-///
-/// # Errors
-///
-/// Those of what is in it, which leave what they leave. `OutOfMemory` comes too where there is no
+/// A box is read as what is in it, with its errors. `OutOfMemory` comes too where there is no
 /// memory for the box; the item was taken then.
 impl<S: Source, T: Decode<S> + Drop> Decode<S> for Box<T> {
     #[inline(always)]
@@ -47,11 +43,7 @@ impl<S: Source, T: Decode<S> + Drop> Decode<S> for Box<T> {
     }
 }
 
-/// A box is written as what is in it.
-///
-/// # Errors
-///
-/// Those of what is in it.
+/// A box is written as what is in it, with its errors.
 impl<T: Encode> Encode for Box<T> {
     ghost bytes = { λ b. T.bytes b.value };
 

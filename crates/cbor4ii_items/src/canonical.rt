@@ -66,7 +66,6 @@ pub fn canonical_buf<S: Source>(
     take_shortest_string(alloc, reader, name, major)
 }
 
-/// Takes the string of `canonical_buf`, as the program of its contract says.
 fn take_shortest_string<S: Source>(
     alloc: Global,
     reader: &mut S,
@@ -81,7 +80,6 @@ fn take_shortest_string<S: Source>(
     take_known(alloc, reader, name, count)
 }
 
-/// Takes the head of `canonical_head`, as the program of its contract says.
 #[inline(always)]
 fn take_shortest<S: Source>(
     reader: &mut S,
@@ -105,14 +103,12 @@ fn take_shortest<S: Source>(
     Ok(argument)
 }
 
-/// Whether `first` says an indefinite length of this major type (RFC 8949 section 3.2).
 fn is_indefinite(major: u8, first: u8) -> bool
     ensures { result ≡ is_indefinite_head major first }
 {
     major::BYTES <= major && major <= major::MAP && first == 32 * major + marker::START
 }
 
-/// The additional information of the shortest head with this argument.
 fn shortest_info(argument: u64) -> u8
     ensures { result ≡ additional (shortest_width argument) argument }
 {

@@ -15,8 +15,8 @@ pub trait Encode {
     /// # Errors
     ///
     /// `Write` with the writer's error: the writer failed in the call, and counts it. An atomic
-    /// writer then holds what it held before and a beginning of the value's bytes; of another one
-    /// nothing is said.
+    /// writer then holds what it held before and a beginning of the value's bytes: none of them,
+    /// where the value is written in one push. Of another writer nothing is said.
     fn encode<W: Write>(&self, writer: &mut W) -> Result<(), EncodeError<W::Error>>
         ensures { Writes W.atomic (bytes self.now) (W.view writer.old) (W.view writer.new) result };
 }

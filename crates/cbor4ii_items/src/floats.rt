@@ -93,8 +93,7 @@ fn take_longer_float<S: Source>(
     }
 }
 
-/// Looks at `want` bytes, and takes a float that stands whole in what is shown. Nothing is taken
-/// of any other. An error is the reader's.
+/// Looks at `want` bytes, and takes a float that stands whole in what is shown.
 #[inline(always)]
 fn take_shown_float<S: Source>(
     reader: &mut S,
@@ -121,7 +120,6 @@ fn take_shown_float<S: Source>(
     }
 }
 
-/// What a prefix has of a float at the beginning.
 #[inline(always)]
 fn float_in(prefix: &[u8], marker: u8, bytes: u8) -> Shown
     requires { bytes ≤ 8 }
@@ -166,7 +164,6 @@ fn bits_of(bytes: &[u8]) -> u64
     }
 }
 
-/// The number that the bytes are, most significant first.
 #[inline(always)]
 fn number_of(bytes: &[u8]) -> u64
     requires { length bytes.now ≤ 8 }
@@ -180,7 +177,6 @@ fn number_of(bytes: &[u8]) -> u64
     number
 }
 
-/// Takes a float one byte at a time.
 #[cold]
 #[inline(never)]
 fn float_by_bytes<S: Source>(
@@ -236,10 +232,6 @@ impl<S: Source> Decode<S> for F16 {
 }
 
 /// `f9`, and the bits in two bytes, most significant first (RFC 8949 section 3.3), in one push.
-///
-/// # Errors
-///
-/// `Write`: the writer failed. An atomic writer then holds what it held before.
 impl Encode for F16 {
     ghost bytes = { λ v. float_bytes 0xf9 2 v.0 };
 
@@ -276,11 +268,7 @@ impl DecodeLeaf for F32 {
 ///
 /// # Errors
 ///
-/// `Read` is described at `Decode::decode`. The others have the name "f32":
-///
-/// - `Eof` with 1: no byte is left
-/// - `Mismatch` with the next byte, which stays: it begins no float of four bytes
-/// - `Eof` with 4: fewer than four bytes follow it. Nothing is left then
+/// Those of an `F16`, by "f32", with four bytes in the place of two.
 impl<S: Source> Decode<S> for F32 {
     #[inline(always)]
     fn decode(alloc: Global, reader: &mut S) -> Result<F32, DecodeError<S::Error>> {
@@ -289,10 +277,6 @@ impl<S: Source> Decode<S> for F32 {
 }
 
 /// `fa`, and the bits in four bytes, most significant first (RFC 8949 section 3.3), in one push.
-///
-/// # Errors
-///
-/// `Write`: the writer failed. An atomic writer then holds what it held before.
 impl Encode for F32 {
     ghost bytes = { λ v. float_bytes 0xfa 4 v.0 };
 
@@ -330,11 +314,7 @@ impl DecodeLeaf for F64 {
 ///
 /// # Errors
 ///
-/// `Read` is described at `Decode::decode`. The others have the name "f64":
-///
-/// - `Eof` with 1: no byte is left
-/// - `Mismatch` with the next byte, which stays: it begins no float of eight bytes
-/// - `Eof` with 8: fewer than eight bytes follow it. Nothing is left then
+/// Those of an `F16`, by "f64", with eight bytes in the place of two.
 impl<S: Source> Decode<S> for F64 {
     #[inline(always)]
     fn decode(alloc: Global, reader: &mut S) -> Result<F64, DecodeError<S::Error>> {
@@ -343,10 +323,6 @@ impl<S: Source> Decode<S> for F64 {
 }
 
 /// `fb`, and the bits in eight bytes, most significant first (RFC 8949 section 3.3), in one push.
-///
-/// # Errors
-///
-/// `Write`: the writer failed. An atomic writer then holds what it held before.
 impl Encode for F64 {
     ghost bytes = { λ v. float_bytes 0xfb 8 v.0 };
 

@@ -16,7 +16,7 @@ use cbor4ii_rw::ask::look;
 use cbor4ii_rw::error::{DecodeError, Len, StaticStr};
 use cbor4ii_rw::read::Source;
 
-/// The next byte, which stays. Where there is none, `expect` bytes were expected.
+/// The next byte, which stays. `expect` goes into the error at the end.
 #[inline(always)]
 pub(crate) fn peek<S: Source>(
     reader: &mut S,
@@ -44,7 +44,7 @@ pub(crate) fn peek<S: Source>(
     }
 }
 
-/// The next byte, taken. Where there is none, `expect` bytes were expected.
+/// The next byte, taken. `expect` goes into the error at the end.
 #[inline(always)]
 pub(crate) fn take_byte<S: Source>(
     reader: &mut S,
@@ -101,7 +101,6 @@ pub(crate) fn number<S: Source>(
     Ok(value)
 }
 
-/// The argument of a head that begins with `first`.
 #[cold]
 #[inline(never)]
 fn argument<S: Source>(
@@ -203,7 +202,6 @@ pub(crate) fn length<S: Source>(
     }
 }
 
-/// Takes the length that a head of this major type has, one byte at a time.
 #[cold]
 #[inline(never)]
 fn length_by_bytes<S: Source>(

@@ -72,7 +72,6 @@ pub fn follows<S: Source>(
     }
 }
 
-/// Takes the break of `is_break`, as the program of its contract says.
 pub(crate) fn take_break<S: Source>(reader: &mut S) -> Result<bool, DecodeError<S::Error>>
     ensures runs { Runs break_at (S.view reader.old) (S.view reader.new) result }
     ensures memory { IfErr result (λ error. is_out_of_memory error ≡ false) }

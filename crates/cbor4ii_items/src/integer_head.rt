@@ -22,7 +22,6 @@ pub fn integer_head(value: i128) -> Option<(u8, u64)>
     }
 }
 
-/// The argument of the head of an integer with these parts; none where it is a bignum.
 #[inline(always)]
 fn head_argument(major: u8, tag: u8, number: u128) -> Option<u64>
     ensures some { IfSome result (λ argument.
@@ -35,8 +34,8 @@ fn head_argument(major: u8, tag: u8, number: u128) -> Option<u64>
     }
 }
 
-/// The major type of an integer, the tag of a bignum of its sign, and the number from 0 on that
-/// stands for it.
+/// The major type of an integer, the tag of its bignum, and the number from 0 on that stands for
+/// it.
 #[inline(always)]
 fn integer_parts(value: i128) -> (u8, u8, u128)
     ensures major { result.0 < 8 }

@@ -52,14 +52,12 @@ impl<S: Source, T: Decode<S>> Decode<S> for Maybe<Option<T>> {
     }
 }
 
-/// Takes the head of an array of no item or one, and answers whether an item is to follow.
 fn take_maybe_head<S: Source>(reader: &mut S) -> Result<bool, DecodeError<S::Error>>
     ensures { Decodes few_format (S.view reader.old) (S.view reader.new) result }
 {
     take_few(reader)
 }
 
-/// Takes the head of `take_maybe_head`, as the program of its contract says.
 fn take_few<S: Source>(reader: &mut S) -> Result<bool, DecodeError<S::Error>>
     ensures runs { Runs few_at (S.view reader.old) (S.view reader.new) result }
     ensures memory { IfErr result (λ error. is_out_of_memory error ≡ false) }

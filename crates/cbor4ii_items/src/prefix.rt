@@ -25,9 +25,8 @@ pub(crate) enum Shown {
     Other,
 }
 
-/// Takes a head of this major type, with an argument of at most so many bytes, that stands whole
-/// in the prefix that is shown. Where there is none, none, and nothing is taken. An error is the
-/// reader's.
+/// Takes a head of this major type, with an argument of at most `width` bytes, that stands whole in
+/// the prefix that is shown. Otherwise it answers none, and takes nothing.
 #[inline(always)]
 pub(crate) fn take_head<S: Source>(
     reader: &mut S,
@@ -50,7 +49,6 @@ pub(crate) fn take_head<S: Source>(
     }
 }
 
-/// Takes a head that has `size` bytes, which are looked at.
 #[cold]
 #[inline(never)]
 fn take_longer_head<S: Source>(
@@ -73,8 +71,7 @@ fn take_longer_head<S: Source>(
     }
 }
 
-/// Looks at `want` bytes, and takes a head that stands whole in what is shown. Nothing is taken of
-/// any other. An error is the reader's.
+/// Looks at `want` bytes, and takes a head that stands whole in what is shown.
 #[inline(always)]
 fn take_shown_head<S: Source>(
     reader: &mut S,
@@ -100,7 +97,6 @@ fn take_shown_head<S: Source>(
     }
 }
 
-/// What `shown` has of a head of this major type, with an argument of at most so many bytes.
 #[inline(always)]
 fn whole_head(shown: &[u8], major: u8, width: u8) -> Shown
     ensures { SeesHead major width shown.now result }
@@ -124,8 +120,7 @@ fn whole_head(shown: &[u8], major: u8, width: u8) -> Shown
     }
 }
 
-/// The argument of a head of this major type that stands whole in `shown`, and how many bytes the
-/// head has.
+/// The argument of a head that stands whole in `shown`, and how many bytes the head has.
 #[inline(always)]
 pub(crate) fn seen_head(shown: &[u8], major: u8, width: u8) -> Option<(u64, usize)>
     ensures stands { IfSome result (IsShownLeaf (ReadsArgument major width) shown.now 0) }

@@ -12,7 +12,6 @@ use crate::{major, marker};
 use cbor4ii_rw::error::EncodeError;
 use cbor4ii_rw::write::Write;
 
-/// Writes these bytes in one push.
 #[inline(always)]
 pub(crate) fn push_bytes<W: Write>(
     writer: &mut W,
@@ -26,7 +25,6 @@ pub(crate) fn push_bytes<W: Write>(
     }
 }
 
-/// Writes the shortest head of this major type with this argument, in one push.
 #[inline(always)]
 pub(crate) fn push_head<W: Write>(
     writer: &mut W,
@@ -43,7 +41,6 @@ pub(crate) fn push_head<W: Write>(
     }
 }
 
-/// Writes the first byte of an indefinite length of this major type, in one push.
 #[inline(always)]
 pub(crate) fn push_indefinite<W: Write>(
     writer: &mut W,
@@ -56,7 +53,6 @@ pub(crate) fn push_indefinite<W: Write>(
     push_bytes(writer, &[32 * major + marker::START])
 }
 
-/// Writes the end of an indefinite length, one byte, in one push.
 #[inline(always)]
 pub(crate) fn push_end<W: Write>(writer: &mut W) -> Result<(), EncodeError<W::Error>>
     ensures { WritesAtomically W.atomic break_bytes (W.view writer.old) (W.view writer.new) result }
@@ -64,7 +60,6 @@ pub(crate) fn push_end<W: Write>(writer: &mut W) -> Result<(), EncodeError<W::Er
     push_bytes(writer, &[marker::BREAK])
 }
 
-/// Writes a number from 0 on, or -1 - n, as a head.
 #[inline(always)]
 pub(crate) fn push_signed<W: Write>(writer: &mut W, value: i64) -> Result<(), EncodeError<W::Error>>
     ensures { WritesAtomically W.atomic (signed_head value)
@@ -77,7 +72,7 @@ pub(crate) fn push_signed<W: Write>(writer: &mut W, value: i64) -> Result<(), En
     }
 }
 
-/// Writes a number from 0 on, in one push where it is below 2^64.
+/// Below 2^64 it is one push.
 pub(crate) fn push_unsigned_integer<W: Write>(
     writer: &mut W,
     value: u128,
@@ -90,7 +85,7 @@ pub(crate) fn push_unsigned_integer<W: Write>(
     push_integer(writer, major::UNSIGNED, POSITIVE_BIGNUM, value)
 }
 
-/// Writes a number from 0 on, or -1 - n, in one push where the number, or n, is below 2^64.
+/// It is one push where the number from 0 on, or the n of -1 - n, is below 2^64.
 pub(crate) fn push_signed_integer<W: Write>(
     writer: &mut W,
     value: i128,
@@ -107,7 +102,6 @@ pub(crate) fn push_signed_integer<W: Write>(
     }
 }
 
-/// A number from 0 on, in its unsigned type.
 #[inline(always)]
 pub(crate) fn nonnegative(value: i128) -> u128
     requires { pos 0 ≤ℤ value }
@@ -125,8 +119,7 @@ pub(crate) fn beyond(value: i128) -> u128
     (-1 - value) as u128
 }
 
-/// Writes a number as the argument of a head of this major type where it fits, in one push, else
-/// as a bignum with this tag.
+/// Writes the argument of a head where it fits, in one push, else a bignum with this tag.
 fn push_integer<W: Write>(
     writer: &mut W,
     major: u8,
@@ -145,7 +138,6 @@ fn push_integer<W: Write>(
     }
 }
 
-/// Writes a tag, and a number's bytes without leading zeros as a byte string.
 fn push_bignum<W: Write>(writer: &mut W, tag: u8, value: u128) -> Result<(), EncodeError<W::Error>>
     ensures { Writes W.atomic (bignum_bytes tag value)
         (W.view writer.old) (W.view writer.new) result }
@@ -158,7 +150,7 @@ fn push_bignum<W: Write>(writer: &mut W, tag: u8, value: u128) -> Result<(), Enc
     )
 }
 
-/// Writes a string of this major type: its head in one push, and its content in another.
+/// Its head in one push, and its content in another.
 #[inline(always)]
 pub(crate) fn push_string<W: Write>(
     writer: &mut W,

@@ -6,10 +6,6 @@ ghost use Rattle.cbor4ii_items.specs.Writing.{WritesAtomically};
 use cbor4ii_rw::write::Write;
 
 /// Writes the shortest head of the major type in the low three bits of `major`, in one push.
-///
-/// # Errors
-///
-/// The writer's: it failed. An atomic writer then holds what it held before.
 #[inline(always)]
 pub(crate) fn push_shortest_head<W: Write>(
     writer: &mut W,
@@ -40,7 +36,6 @@ pub(crate) fn push_shortest_head<W: Write>(
     }
 }
 
-/// Writes these bytes, in one push.
 #[inline(always)]
 pub(crate) fn push<W: Write>(writer: &mut W, bytes: &[u8]) -> Result<(), W::Error>
     ensures { WritesAtomically W.atomic bytes.now (W.view writer.old) (W.view writer.new) result }

@@ -50,10 +50,6 @@ impl<S: Source> Decode<S> for Simple {
 
 /// The shortest head of major type 7 with its number (RFC 8949 section 3.3), in one push. From 24
 /// on it is `f8` and the number, also of 24 to 31, which section 3.3 calls not well-formed.
-///
-/// # Errors
-///
-/// `Write`: the writer failed. An atomic writer then holds what it held before.
 impl Encode for Simple {
     ghost bytes = { λ v. shortest_head 7 v.0 };
 
@@ -115,10 +111,6 @@ fn take_bool<S: Source>(reader: &mut S) -> Result<bool, DecodeError<S::Error>>
 }
 
 /// `f4` for false and `f5` for true (RFC 8949 section 3.3), in one push.
-///
-/// # Errors
-///
-/// `Write`: the writer failed. An atomic writer then holds what it held before.
 impl Encode for bool {
     ghost bytes = { λ v. bool_byte v ∷ [] };
 
@@ -133,10 +125,6 @@ impl Encode for bool {
 }
 
 /// `f6` (RFC 8949 section 3.3), in one push.
-///
-/// # Errors
-///
-/// `Write`: the writer failed. An atomic writer then holds what it held before.
 impl Encode for Null {
     ghost bytes = { λ _. simple_byte simple_null ∷ [] };
 
@@ -150,10 +138,6 @@ impl Encode for Null {
 }
 
 /// `f7` (RFC 8949 section 3.3), in one push.
-///
-/// # Errors
-///
-/// `Write`: the writer failed. An atomic writer then holds what it held before.
 impl Encode for Undefined {
     ghost bytes = { λ _. simple_byte simple_undefined ∷ [] };
 

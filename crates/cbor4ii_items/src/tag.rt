@@ -45,11 +45,8 @@ impl<T: Decodable> Decodable for Tag<T> {
     ghost lawful = { tag_lawful T.format T.lawful };
 }
 
-/// A tag, its number of any width, and the item that it tags (RFC 8949 section 3.4).
-///
-/// # Errors
-///
-/// Those of `Tag::tag`, and after the tag those of the item, which leave what they leave.
+/// A tag, its number of any width, and the item that it tags (RFC 8949 section 3.4). Its errors are
+/// those of `Tag::tag`, and after the tag those of the item, which leave what they leave.
 impl<S: Source, T: Decode<S>> Decode<S> for Tag<T> {
     #[inline(always)]
     fn decode(alloc: Global, reader: &mut S) -> Result<Tag<T>, DecodeError<S::Error>> {

@@ -1,9 +1,8 @@
 //! How generic code asks a reader.
 //!
-//! `Source::show` and `Read::fill` lend, and their error may be of any type, so a caller that is
-//! generic over the reader would learn nothing of the reader afterwards. Here the error goes
-//! through a reference of its own, and the caller learns all that the reader keeps. Which error it
-//! is, no clause says.
+//! `Source::show` and `Read::fill` lend, so a caller that is generic over the error's type learns
+//! nothing of the reader afterwards. Here the error goes through a reference of its own, and the
+//! caller learns all that the reader keeps. Which error it is, no clause says.
 ghost use Rattle.std.specs.Prelude.{◌≡◌, ◌≤◌, [], ◌∷◌, length, IfOk, IfErr, IsTrue, IfSome, IfNone};
 ghost use Rattle.std.specs.Prelude.{OnSome, IsSome, MatchOption};
 ghost use Rattle.std.specs.Borrow.{sem};

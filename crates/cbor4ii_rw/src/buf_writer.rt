@@ -66,7 +66,6 @@ impl Write for BufWriter {
 
     ghost view = { buffer_output };
 
-    // The clauses of the trait, how far the count rises, and that memory which is there is used.
     #[inline(always)]
     fn push(&mut self, input: &[u8]) -> Result<(), TryReserveError>
         ensures appends { OnOk result (Appends input.now

@@ -39,14 +39,12 @@ impl<S: Source> Source for &mut S {
     ghost known_within_bound = { λ reader. S.known_within_bound reader.now };
 }
 
-/// It lends what the reader behind the reference lends.
 impl<'de, R: Read<'de>> Read<'de> for &mut R {
     fn fill<'short>(&'short mut self, want: usize) -> Result<Reference<'de, 'short>, R::Error> {
         Read::fill(&mut **self, want)
     }
 }
 
-/// It lends what the reader behind the reference lends.
 impl<R: FillLong> FillLong for &mut R {
     type Long = R::Long;
 

@@ -192,7 +192,6 @@ pub enum EncodeError<E> {
     Write(E),
 }
 
-/// The error of a reader, in `Read`.
 impl<E> From<E> for DecodeError<E> {
     ghost from_gives = { λ error result. result ≡ Read error };
 
@@ -201,7 +200,6 @@ impl<E> From<E> for DecodeError<E> {
     }
 }
 
-/// The error of reading, in `Decode`.
 impl<E> From<E> for WholeError<E> {
     ghost from_gives = { λ error result. result ≡ Decode error };
 
@@ -210,7 +208,6 @@ impl<E> From<E> for WholeError<E> {
     }
 }
 
-/// The error of a writer, in `Write`.
 impl<E> From<E> for EncodeError<E> {
     ghost from_gives = { λ error result. result ≡ Write error };
 
@@ -243,7 +240,6 @@ impl<E: fmt::Display> fmt::Display for WholeError<E> {
     }
 }
 
-/// The byte, and the error.
 impl<E: fmt::Display> fmt::Display for ErrorAt<E> {
     fn fmt<W: fmt::Write>(&self, f: &mut fmt::Formatter<W>) -> fmt::Result {
         let ErrorAt { at, error } = self;

@@ -15,7 +15,6 @@ impl<E> DecodeError<E> {
     }
 }
 
-/// The words, with the names, bytes and lengths of the error.
 impl<E: fmt::Display> fmt::Display for Explained<'_, E> {
     fn fmt<W: fmt::Write>(&self, f: &mut fmt::Formatter<W>) -> fmt::Result {
         match self.0 {
@@ -56,7 +55,6 @@ impl<E: fmt::Display> fmt::Display for Explained<'_, E> {
     }
 }
 
-/// The number, or what is known of it.
 impl fmt::Display for Len {
     fn fmt<W: fmt::Write>(&self, f: &mut fmt::Formatter<W>) -> fmt::Result {
         match self {

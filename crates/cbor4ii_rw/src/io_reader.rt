@@ -18,7 +18,6 @@ use crate::read::{Read, Reference, Source};
 use crate::steps::{self, NESTING_LIMIT};
 use std::io::{self, BufRead};
 
-/// What a reader over a stream counts.
 #[derive(Clone, Copy, Debug)]
 struct Tally {
     // How many bytes the last fill showed, and how many of them were advanced since.
@@ -149,7 +148,6 @@ impl<R: BufRead> Source for IoReader<R> {
 
     ghost view = { stream_view R.Read.remaining R.consumable_len };
 
-    // The clauses of the trait, and that it does not fail once as many bytes as can be were taken.
     fn show(&mut self, want: usize) -> Result<&[u8], io::Error>
         ensures prefix { IfOk result (λ shown. IfKnown
             (stream_view R.Read.remaining R.consumable_len self.old).known
@@ -201,13 +199,8 @@ impl<R: BufRead> Source for IoReader<R> {
         (stream_left R.Read.remaining R.consumable_len reader) };
 }
 
-/// It lends what it shows, always `Short`.
-///
-/// # Errors
-///
-/// Those of `show` over the same reader.
+/// It lends what it shows, always `Short`. Its errors are those of `show`.
 impl<'de, R: BufRead> Read<'de> for IoReader<R> {
-    // The clauses of the trait, those of `show`, and that it is always `Short`.
     fn fill<'short>(&'short mut self, want: usize) -> Result<Reference<'de, 'short>, io::Error>
         ensures prefix { IfOk result (λ shown. IfKnown
             (stream_view R.Read.remaining R.consumable_len self.old).known
@@ -237,11 +230,8 @@ impl<'de, R: BufRead> Read<'de> for IoReader<R> {
     }
 }
 
-/// It lends nothing: none where a byte is left, and no bytes at the end.
-///
-/// # Errors
-///
-/// Those of `show` over the same reader.
+/// It lends nothing: none where a byte is left, and no bytes at the end. Its errors are those of
+/// `show`.
 impl<R: BufRead> FillLong for IoReader<R> {
     type Long = [u8; 0];
 

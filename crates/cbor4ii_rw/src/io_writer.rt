@@ -71,7 +71,6 @@ impl<W: io::Write> IoWriter<W> {
         self.inner
     }
 
-    // Counts a failure, and hands on its error.
     #[cold]
     #[inline(never)]
     fn failed(&mut self, error: io::Error) -> io::Error
@@ -98,7 +97,6 @@ impl<W: io::Write> Write for IoWriter<W> {
 
     ghost view = { stream_output W.contents };
 
-    // The clauses of the trait, how far the count rises, and that the writer is flushed no more.
     fn push(&mut self, input: &[u8]) -> Result<(), io::Error>
         ensures appends { OnOk result (Appends input.now
             (stream_output W.contents self.old).written

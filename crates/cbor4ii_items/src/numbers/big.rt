@@ -49,7 +49,6 @@ fn magnitude<S: Source>(reader: &mut S, name: StaticStr) -> Result<u128, DecodeE
     }
 }
 
-/// A definite-length byte string of at most sixteen bytes, as a number below 2^127.
 fn small_magnitude<S: Source>(
     reader: &mut S,
     name: StaticStr,
@@ -66,7 +65,6 @@ fn small_magnitude<S: Source>(
     Ok(number)
 }
 
-/// The number of a bignum from 0 on, after its tag.
 fn unsigned_bignum<S: Source>(reader: &mut S, tag: u8) -> Result<u128, DecodeError<S::Error>>
     ensures runs { Runs (unsigned_bignum_at tag) (S.view reader.old) (S.view reader.new) result }
     ensures memory { IfErr result (λ error. is_out_of_memory error ≡ false) }
@@ -80,7 +78,6 @@ fn unsigned_bignum<S: Source>(reader: &mut S, tag: u8) -> Result<u128, DecodeErr
     magnitude(reader, "u128::bytes")
 }
 
-/// An unsigned integer, or a bignum from 0 on.
 #[inline(always)]
 fn take_u128<S: Source>(reader: &mut S) -> Result<u128, DecodeError<S::Error>>
     ensures runs { Runs u128_at (S.view reader.old) (S.view reader.new) result }
@@ -108,7 +105,6 @@ fn u128_by_bytes<S: Source>(reader: &mut S) -> Result<u128, DecodeError<S::Error
     unsigned_bignum(reader, tag as u8)
 }
 
-/// The number of a bignum of either sign, after its tag.
 fn signed_bignum<S: Source>(reader: &mut S, tag: u8) -> Result<i128, DecodeError<S::Error>>
     ensures runs { Runs (signed_bignum_at tag) (S.view reader.old) (S.view reader.new) result }
     ensures memory { IfErr result (λ error. is_out_of_memory error ≡ false) }
@@ -127,7 +123,6 @@ fn signed_bignum<S: Source>(reader: &mut S, tag: u8) -> Result<i128, DecodeError
     })
 }
 
-/// An integer of either sign, or a bignum.
 #[inline(always)]
 fn take_i128<S: Source>(reader: &mut S) -> Result<i128, DecodeError<S::Error>>
     ensures runs { Runs i128_at (S.view reader.old) (S.view reader.new) result }
@@ -180,7 +175,6 @@ fn positive(number: u128) -> i128
     number as i128
 }
 
-/// The negative integer -1 - n.
 fn negative(n: u128) -> i128
     requires { n < 2 ^ 127 }
     ensures { result ≡ negsuc n }

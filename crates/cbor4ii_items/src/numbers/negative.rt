@@ -45,10 +45,6 @@ impl<S: Source> Decode<S> for Negative<u8> {
 
 /// The shortest head of major type 1 with the number that it holds as its argument (RFC 8949
 /// sections 3.1 and 4.1), in one push.
-///
-/// # Errors
-///
-/// `Write`: the writer failed. An atomic writer then holds what it held before.
 impl Encode for Negative<u8> {
     ghost bytes = { λ v. shortest_head 1 v.0 };
 
@@ -71,17 +67,11 @@ impl Decodable for Negative<u16> {
     ghost lawful = { negative_lawful (codes "-u16") 2 };
 }
 
-/// A negative integer whose argument has at most two bytes, whether or not in its shortest head
-/// (RFC 8949 section 3.1).
+/// A negative integer whose argument has at most two bytes, read as a `Negative<u8>` is.
 ///
 /// # Errors
 ///
-/// `Read` is described at `Decode::decode`. The others have the name "-u16":
-///
-/// - `Eof` with 1: no byte is left
-/// - `Eof` with k: the argument has k bytes and fewer are left. Nothing is left then
-/// - `Mismatch` with the first byte, which is taken: it begins no head of major type 1 with at most
-///   two bytes of argument
+/// Those of a `Negative<u8>`, by "-u16", with two bytes of argument in the place of one.
 impl<S: Source> Decode<S> for Negative<u16> {
     #[inline(always)]
     fn decode(alloc: Global, reader: &mut S) -> Result<Negative<u16>, DecodeError<S::Error>> {
@@ -89,8 +79,7 @@ impl<S: Source> Decode<S> for Negative<u16> {
     }
 }
 
-/// The shortest head of major type 1 with the number that it holds, in one push, as of a
-/// `Negative<u8>`.
+/// Written as a `Negative<u8>` is.
 impl Encode for Negative<u16> {
     ghost bytes = { λ v. shortest_head 1 v.0 };
 
@@ -113,17 +102,11 @@ impl Decodable for Negative<u32> {
     ghost lawful = { negative_lawful (codes "-u32") 4 };
 }
 
-/// A negative integer whose argument has at most four bytes, whether or not in its shortest head
-/// (RFC 8949 section 3.1).
+/// A negative integer whose argument has at most four bytes, read as a `Negative<u8>` is.
 ///
 /// # Errors
 ///
-/// `Read` is described at `Decode::decode`. The others have the name "-u32":
-///
-/// - `Eof` with 1: no byte is left
-/// - `Eof` with k: the argument has k bytes and fewer are left. Nothing is left then
-/// - `Mismatch` with the first byte, which is taken: it begins no head of major type 1 with at most
-///   four bytes of argument
+/// Those of a `Negative<u8>`, by "-u32", with four bytes of argument in the place of one.
 impl<S: Source> Decode<S> for Negative<u32> {
     #[inline(always)]
     fn decode(alloc: Global, reader: &mut S) -> Result<Negative<u32>, DecodeError<S::Error>> {
@@ -131,8 +114,7 @@ impl<S: Source> Decode<S> for Negative<u32> {
     }
 }
 
-/// The shortest head of major type 1 with the number that it holds, in one push, as of a
-/// `Negative<u8>`.
+/// Written as a `Negative<u8>` is.
 impl Encode for Negative<u32> {
     ghost bytes = { λ v. shortest_head 1 v.0 };
 
@@ -155,17 +137,11 @@ impl Decodable for Negative<u64> {
     ghost lawful = { negative_lawful (codes "-u64") 8 };
 }
 
-/// A negative integer whose argument has at most eight bytes, whether or not in its shortest head
-/// (RFC 8949 section 3.1).
+/// A negative integer whose argument has at most eight bytes, read as a `Negative<u8>` is.
 ///
 /// # Errors
 ///
-/// `Read` is described at `Decode::decode`. The others have the name "-u64":
-///
-/// - `Eof` with 1: no byte is left
-/// - `Eof` with k: the argument has k bytes and fewer are left. Nothing is left then
-/// - `Mismatch` with the first byte, which is taken: it begins no head of major type 1 with at most
-///   eight bytes of argument
+/// Those of a `Negative<u8>`, by "-u64", with eight bytes of argument in the place of one.
 impl<S: Source> Decode<S> for Negative<u64> {
     #[inline(always)]
     fn decode(alloc: Global, reader: &mut S) -> Result<Negative<u64>, DecodeError<S::Error>> {
@@ -173,16 +149,10 @@ impl<S: Source> Decode<S> for Negative<u64> {
     }
 }
 
-/// The shortest head of major type 1 with the number that it holds, in one push, as of a
-/// `Negative<u8>`.
+/// Written as a `Negative<u8>` is.
 impl Encode for Negative<u64> {
     ghost bytes = { λ v. shortest_head 1 v.0 };
 
-    /// In one push.
-    ///
-    /// # Errors
-    ///
-    /// `Write`: the writer failed. An atomic writer then holds what it held before.
     #[inline(always)]
     fn encode<W: Write>(&self, writer: &mut W) -> Result<(), EncodeError<W::Error>>
         ensures { WritesAtomically W.atomic (shortest_head 1 self.now.0)

@@ -169,7 +169,6 @@ fn positive(number: u64) -> i64
     number as i64
 }
 
-/// The negative integer -1 - n.
 fn negative(n: u64) -> i64
     requires { n < 2 ^ 63 }
     ensures { result ≡ negsuc n }
@@ -240,10 +239,6 @@ impl<S: Source> Decode<S> for i8 {
 
 /// From 0 on the shortest head of major type 0 with this argument. Of -1 - n it is that of major
 /// type 1 with the argument n (RFC 8949 sections 3.1 and 4.1). Either is written in one push.
-///
-/// # Errors
-///
-/// `Write`: the writer failed. An atomic writer then holds what it held before.
 impl Encode for i8 {
     ghost bytes = { signed_head };
 
@@ -276,22 +271,12 @@ impl DecodeLeaf for i16 {
     }
 }
 
-/// An integer of major type 0, or a negative one of major type 1, whose argument has at most two
-/// bytes and is below 2^15 (RFC 8949 section 3.1).
+/// An integer whose argument has at most two bytes and is below 2^15, read as an `i8` is.
 ///
 /// # Errors
 ///
-/// `Read` is described at `Decode::decode`. Of a head of major type 0 the name is "+i16", of one of
-/// major type 1 it is "-i16":
-///
-/// - `Eof` by "i16" with 1: no byte is left
-/// - `Mismatch` by "i16" with the next byte, which stays: it is of another major type
-/// - `Eof` by "+i16" or "-i16" with k: the argument has k bytes and fewer are left. Nothing is left
-///   then
-/// - `Mismatch` by "+i16" or "-i16" with the first byte, which is taken: it begins no head with at
-///   most two bytes of argument
-/// - `CastOverflow` by "+i16" or "-i16": the argument is 2^15 or greater. What follows the head is
-///   left
+/// Those of an `i8`, by "i16", "+i16" and "-i16", and with these numbers in the place of one byte
+/// and 2^7.
 impl<S: Source> Decode<S> for i16 {
     #[inline(always)]
     fn decode(alloc: Global, reader: &mut S) -> Result<i16, DecodeError<S::Error>> {
@@ -299,7 +284,7 @@ impl<S: Source> Decode<S> for i16 {
     }
 }
 
-/// The shortest head of major type 0 or 1, in one push, as of an `i8`.
+/// Written as an `i8` is.
 impl Encode for i16 {
     ghost bytes = { signed_head };
 
@@ -332,22 +317,12 @@ impl DecodeLeaf for i32 {
     }
 }
 
-/// An integer of major type 0, or a negative one of major type 1, whose argument has at most four
-/// bytes and is below 2^31 (RFC 8949 section 3.1).
+/// An integer whose argument has at most four bytes and is below 2^31, read as an `i8` is.
 ///
 /// # Errors
 ///
-/// `Read` is described at `Decode::decode`. Of a head of major type 0 the name is "+i32", of one of
-/// major type 1 it is "-i32":
-///
-/// - `Eof` by "i32" with 1: no byte is left
-/// - `Mismatch` by "i32" with the next byte, which stays: it is of another major type
-/// - `Eof` by "+i32" or "-i32" with k: the argument has k bytes and fewer are left. Nothing is left
-///   then
-/// - `Mismatch` by "+i32" or "-i32" with the first byte, which is taken: it begins no head with at
-///   most four bytes of argument
-/// - `CastOverflow` by "+i32" or "-i32": the argument is 2^31 or greater. What follows the head is
-///   left
+/// Those of an `i8`, by "i32", "+i32" and "-i32", and with these numbers in the place of one byte
+/// and 2^7.
 impl<S: Source> Decode<S> for i32 {
     #[inline(always)]
     fn decode(alloc: Global, reader: &mut S) -> Result<i32, DecodeError<S::Error>> {
@@ -355,7 +330,7 @@ impl<S: Source> Decode<S> for i32 {
     }
 }
 
-/// The shortest head of major type 0 or 1, in one push, as of an `i8`.
+/// Written as an `i8` is.
 impl Encode for i32 {
     ghost bytes = { signed_head };
 
@@ -387,22 +362,12 @@ impl DecodeLeaf for i64 {
     }
 }
 
-/// An integer of major type 0, or a negative one of major type 1, whose argument has at most eight
-/// bytes and is below 2^63 (RFC 8949 section 3.1).
+/// An integer whose argument has at most eight bytes and is below 2^63, read as an `i8` is.
 ///
 /// # Errors
 ///
-/// `Read` is described at `Decode::decode`. Of a head of major type 0 the name is "+i64", of one of
-/// major type 1 it is "-i64":
-///
-/// - `Eof` by "i64" with 1: no byte is left
-/// - `Mismatch` by "i64" with the next byte, which stays: it is of another major type
-/// - `Eof` by "+i64" or "-i64" with k: the argument has k bytes and fewer are left. Nothing is left
-///   then
-/// - `Mismatch` by "+i64" or "-i64" with the first byte, which is taken: it begins no head with at
-///   most eight bytes of argument
-/// - `CastOverflow` by "+i64" or "-i64": the argument is 2^63 or greater. What follows the head is
-///   left
+/// Those of an `i8`, by "i64", "+i64" and "-i64", and with these numbers in the place of one byte
+/// and 2^7.
 impl<S: Source> Decode<S> for i64 {
     #[inline(always)]
     fn decode(alloc: Global, reader: &mut S) -> Result<i64, DecodeError<S::Error>> {
@@ -410,7 +375,7 @@ impl<S: Source> Decode<S> for i64 {
     }
 }
 
-/// The shortest head of major type 0 or 1, in one push, as of an `i8`.
+/// Written as an `i8` is.
 impl Encode for i64 {
     ghost bytes = { signed_head };
 

@@ -54,10 +54,6 @@ impl<S: Source> Decode<S> for u8 {
 
 /// The shortest head of major type 0 with this argument (RFC 8949 sections 3.1 and 4.1), in one
 /// push.
-///
-/// # Errors
-///
-/// `Write`: the writer failed. An atomic writer then holds what it held before.
 impl Encode for u8 {
     ghost bytes = { shortest_head 0 };
 
@@ -88,17 +84,11 @@ impl DecodeLeaf for u16 {
     }
 }
 
-/// An unsigned integer whose argument has at most two bytes, whether or not in its shortest head
-/// (RFC 8949 section 3.1).
+/// An unsigned integer whose argument has at most two bytes, read as a `u8` is.
 ///
 /// # Errors
 ///
-/// `Read` is described at `Decode::decode`. The others have the name "u16":
-///
-/// - `Eof` with 1: no byte is left
-/// - `Eof` with k: the argument has k bytes and fewer are left. Nothing is left then
-/// - `Mismatch` with the first byte, which is taken: it begins no head of major type 0 with at most
-///   two bytes of argument
+/// Those of a `u8`, by "u16", with two bytes of argument in the place of one.
 impl<S: Source> Decode<S> for u16 {
     #[inline(always)]
     fn decode(alloc: Global, reader: &mut S) -> Result<u16, DecodeError<S::Error>> {
@@ -106,7 +96,7 @@ impl<S: Source> Decode<S> for u16 {
     }
 }
 
-/// The shortest head of major type 0 with this argument, in one push, as of a `u8`.
+/// Written as a `u8` is.
 impl Encode for u16 {
     ghost bytes = { shortest_head 0 };
 
@@ -137,17 +127,11 @@ impl DecodeLeaf for u32 {
     }
 }
 
-/// An unsigned integer whose argument has at most four bytes, whether or not in its shortest head
-/// (RFC 8949 section 3.1).
+/// An unsigned integer whose argument has at most four bytes, read as a `u8` is.
 ///
 /// # Errors
 ///
-/// `Read` is described at `Decode::decode`. The others have the name "u32":
-///
-/// - `Eof` with 1: no byte is left
-/// - `Eof` with k: the argument has k bytes and fewer are left. Nothing is left then
-/// - `Mismatch` with the first byte, which is taken: it begins no head of major type 0 with at most
-///   four bytes of argument
+/// Those of a `u8`, by "u32", with four bytes of argument in the place of one.
 impl<S: Source> Decode<S> for u32 {
     #[inline(always)]
     fn decode(alloc: Global, reader: &mut S) -> Result<u32, DecodeError<S::Error>> {
@@ -155,7 +139,7 @@ impl<S: Source> Decode<S> for u32 {
     }
 }
 
-/// The shortest head of major type 0 with this argument, in one push, as of a `u8`.
+/// Written as a `u8` is.
 impl Encode for u32 {
     ghost bytes = { shortest_head 0 };
 
@@ -185,17 +169,11 @@ impl DecodeLeaf for u64 {
     }
 }
 
-/// An unsigned integer whose argument has at most eight bytes, whether or not in its shortest head
-/// (RFC 8949 section 3.1).
+/// An unsigned integer whose argument has at most eight bytes, read as a `u8` is.
 ///
 /// # Errors
 ///
-/// `Read` is described at `Decode::decode`. The others have the name "u64":
-///
-/// - `Eof` with 1: no byte is left
-/// - `Eof` with k: the argument has k bytes and fewer are left. Nothing is left then
-/// - `Mismatch` with the first byte, which is taken: it begins no head of major type 0 with at most
-///   eight bytes of argument
+/// Those of a `u8`, by "u64", with eight bytes of argument in the place of one.
 impl<S: Source> Decode<S> for u64 {
     #[inline(always)]
     fn decode(alloc: Global, reader: &mut S) -> Result<u64, DecodeError<S::Error>> {
@@ -203,15 +181,10 @@ impl<S: Source> Decode<S> for u64 {
     }
 }
 
-/// The shortest head of major type 0 with this argument, in one push, as of a `u8`.
+/// Written as a `u8` is.
 impl Encode for u64 {
     ghost bytes = { shortest_head 0 };
 
-    /// In one push.
-    ///
-    /// # Errors
-    ///
-    /// `Write`: the writer failed. An atomic writer then holds what it held before.
     #[inline(always)]
     fn encode<W: Write>(&self, writer: &mut W) -> Result<(), EncodeError<W::Error>>
         ensures { WritesAtomically W.atomic (shortest_head 0 self.now)

@@ -80,7 +80,6 @@ fn push_pairs<W: Write, K: Encode, V: Encode>(
     Ok(())
 }
 
-/// Writes a key, and its value after it.
 fn push_pair<W: Write, K: Encode, V: Encode>(
     writer: &mut W,
     pair: &(K, V),

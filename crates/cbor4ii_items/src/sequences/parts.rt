@@ -21,18 +21,15 @@ pub(crate) trait Sequence<S: Source>: Sized {
     // How an element is encoded.
     ghost part: { Format Self.Part };
 
-    /// Whether an element always reads a byte.
     fn is_part_never_empty() -> bool
         ensures { result ≡ part.never_empty };
 
-    /// Reads one element.
     fn take_part(alloc: Global, reader: &mut S) -> Result<Self::Part, DecodeError<S::Error>>
         ensures { Decodes Self.part (S.view reader.old) (S.view reader.new) result };
 
     ghost lawful: { IsLawful part };
 }
 
-/// Reads a sequence under one step.
 pub(crate) fn take_sequence<S: Source, Q: Sequence<S>>(
     alloc: Global,
     reader: &mut S,

@@ -29,7 +29,7 @@ pub(crate) fn take_chunks<S: Source>(
     Ok(content)
 }
 
-/// Takes a chunk under one step, after what `content` holds.
+/// A chunk is taken under one step.
 fn take_chunk<S: Source>(
     reader: &mut S,
     name: StaticStr,
@@ -49,7 +49,6 @@ fn take_chunk<S: Source>(
     outcome
 }
 
-/// Takes the content of a string of definite length, after what `content` holds.
 fn take_chunk_inside<S: Source>(
     reader: &mut S,
     name: StaticStr,

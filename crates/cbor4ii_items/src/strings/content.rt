@@ -30,7 +30,6 @@ pub(crate) fn take_text<S: Source>(
     }
 }
 
-/// The content of a string of this major type, of definite or of indefinite length.
 #[inline(always)]
 pub(crate) fn lone_string<S: Source>(
     alloc: Global,
@@ -45,7 +44,6 @@ pub(crate) fn lone_string<S: Source>(
     take_string(alloc, reader, name, major)
 }
 
-/// Takes the string of `lone_string`, as the program of its contract says.
 #[inline(always)]
 fn take_string<S: Source>(
     alloc: Global,
@@ -64,7 +62,6 @@ fn take_string<S: Source>(
     }
 }
 
-/// So many bytes.
 #[inline(always)]
 pub(crate) fn take_known<S: Source>(
     alloc: Global,

@@ -167,27 +167,13 @@ impl<'de, R: Read<'de>> LendOrOwn<R> for Bytes<CowSlice<'de, u8, Global>> {
     ghost text = { nothing_to_test };
 }
 
-/// A byte string, of definite or of indefinite length (RFC 8949 sections 3.1 and 3.2.3). One of
-/// definite length is a slice of the input where one fill lends all of its bytes as long as the
-/// input lives. Elsewhere they are copied. One of indefinite length is always copied, of one chunk
-/// too: it is known only after a chunk whether more follow. A copy takes steps and memory as that
-/// of an owned string does.
+/// A byte string, of definite or of indefinite length (RFC 8949 sections 3.1 and 3.2.3), borrowed
+/// or copied as a `CowStr` is. Any bytes are its content.
 ///
 /// # Errors
 ///
-/// `Read` and `OutOfMemory` are described at `Decode::decode`. The others come in this order, over
-/// every reader, by "bytes" where no other name is said:
-///
-/// - `Eof` with 1: no byte is left
-/// - `Eof` with k: the argument of the head has k bytes and fewer are left. Nothing is left then
-/// - `Mismatch` with the first byte, which is taken: it begins no byte string
-/// - `Eof` with the number of bytes that are missing: the content is cut. Nothing is left then
-/// - `Eof` by "break" with 1: no byte is left in the place of a chunk or a break
-/// - `DepthOverflow`: no step is left for a chunk. The chunk is left
-/// - `RequireLength` with `Indefinite`: a chunk has an indefinite length. What follows its first
-///   byte is left
-/// - `Eof` or `Mismatch`, those of the string itself: a chunk is cut, or is no byte string. What is
-///   left is the same
+/// Those of a `CowStr`, by "bytes", at a byte string in the place of a text string, without
+/// `RequireUtf8`.
 impl<'de, R: Read<'de>> Decode<R> for Bytes<CowSlice<'de, u8, Global>> {
     fn decode(
         alloc: Global,
@@ -261,26 +247,11 @@ impl<'de, R: Read<'de>> LendOrOwn<R> for UncheckedStr<CowSlice<'de, u8, Global>>
 }
 
 /// A text string, whatever its bytes, of definite or of indefinite length (RFC 8949 sections 3.1
-/// and 3.2.3). One of definite length is a slice of the input where one fill lends all of its bytes
-/// as long as the input lives. Elsewhere they are copied. One of indefinite length is always
-/// copied, of one chunk too: it is known only after a chunk whether more follow. A copy takes
-/// steps and memory as that of an owned string does.
+/// and 3.2.3), borrowed or copied as a `CowStr` is.
 ///
 /// # Errors
 ///
-/// `Read` and `OutOfMemory` are described at `Decode::decode`. The others come in this order, over
-/// every reader, by "str" where no other name is said:
-///
-/// - `Eof` with 1: no byte is left
-/// - `Eof` with k: the argument of the head has k bytes and fewer are left. Nothing is left then
-/// - `Mismatch` with the first byte, which is taken: it begins no text string
-/// - `Eof` with the number of bytes that are missing: the content is cut. Nothing is left then
-/// - `Eof` by "break" with 1: no byte is left in the place of a chunk or a break
-/// - `DepthOverflow`: no step is left for a chunk. The chunk is left
-/// - `RequireLength` with `Indefinite`: a chunk has an indefinite length. What follows its first
-///   byte is left
-/// - `Eof` or `Mismatch`, those of the string itself: a chunk is cut, or is no text string. What is
-///   left is the same
+/// Those of a `CowStr`, without `RequireUtf8`.
 impl<'de, R: Read<'de>> Decode<R> for UncheckedStr<CowSlice<'de, u8, Global>> {
     fn decode(
         alloc: Global,

@@ -9,8 +9,7 @@ use cbor4ii_rw::ask::{content_part, look};
 use cbor4ii_rw::error::{DecodeError, Len, StaticStr};
 use cbor4ii_rw::read::Source;
 
-/// Takes so many bytes after those of `content`. A length alone takes little memory: more is
-/// taken as the bytes come.
+/// A length alone takes little memory: more is taken as the bytes come.
 #[inline(always)]
 pub(crate) fn take_content<S: Source>(
     reader: &mut S,
@@ -31,8 +30,8 @@ pub(crate) fn take_content<S: Source>(
     Ok(())
 }
 
-/// Takes the bytes that the reader shows, at most so many, after those of `content`. One that may
-/// wait for what is wanted is asked for a part of them at a time.
+/// Takes what is shown of these bytes. A reader that may wait for what is wanted is asked for a
+/// part of them at a time.
 #[inline(always)]
 fn take_shown<S: Source>(
     reader: &mut S,

@@ -29,19 +29,14 @@ pub(crate) enum Lacks<E> {
 /// A function whose signature holds a `'static` name cannot fill a reader that names a lifetime,
 /// so what is lent knows its name here, and is rejected without it.
 pub(crate) trait Lend<S: Source>: Sized {
-    // The value's content.
     ghost content: { Self → List ℕ };
 
-    // The name in errors.
     ghost name: { List ℕ };
 
-    // The major type.
     ghost major: { ℕ };
 
-    // The content is to be UTF-8.
     ghost is_text: { Bool };
 
-    // Where the value stands: before what a reader has left.
     ghost stands: { Self → View → Type 0 };
 
     fn name() -> StaticStr
@@ -61,7 +56,6 @@ pub(crate) trait Lend<S: Source>: Sized {
             (LacksContent count is_text (S.view reader.old) (S.view reader.new)) };
 }
 
-/// Reads a string of definite length that is lent whole.
 pub(crate) fn take_lent<T: Lend<S>, S: Source>(
     alloc: Global,
     reader: &mut S,
@@ -90,7 +84,6 @@ fn named<T, E>(outcome: Result<T, Lacks<E>>, name: StaticStr) -> Result<T, Decod
     }
 }
 
-/// So many bytes, lent by one fill.
 pub(crate) fn lend_content<'de, R: Read<'de>>(
     reader: &mut R,
     count: u64,
@@ -117,7 +110,7 @@ pub(crate) fn lend_content<'de, R: Read<'de>>(
     }
 }
 
-/// So many bytes of UTF-8, lent by one fill.
+/// As `lend_content`, of UTF-8.
 pub(crate) fn lend_text<'de, R: Read<'de>>(
     reader: &mut R,
     count: u64,

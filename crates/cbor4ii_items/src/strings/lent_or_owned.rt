@@ -20,7 +20,6 @@ use std::alloc::Global;
 ///
 /// It stands beside `Lend` for the same reason: what is lent knows its name here.
 pub(crate) trait LendOrOwn<S: Source>: Sized {
-    // The value's content.
     ghost content: { Self → List ℕ };
 
     // The value is a slice of the input.
@@ -32,13 +31,10 @@ pub(crate) trait LendOrOwn<S: Source>: Sized {
     // Where a value that is a slice of the input stands: before what a reader has left.
     ghost stands: { Self → View → Type 0 };
 
-    // The name in errors.
     ghost name: { List ℕ };
 
-    // The major type.
     ghost major: { ℕ };
 
-    // The content is to be UTF-8.
     ghost is_text: { Bool };
 
     fn name() -> StaticStr
@@ -65,14 +61,11 @@ pub(crate) trait LendOrOwn<S: Source>: Sized {
     // Of a value that has a content of its own nothing is owed.
     ghost owned_stands: { (v : Self) (view : View) → IsOwned v → stands v view };
 
-    // There are eight major types.
     ghost small: { major < 8 };
 
-    // A text is of major type 3.
     ghost text: { IsTrue is_text → major ≡ 3 };
 }
 
-/// Reads a string of definite length that is lent whole, or a copy of a string's content.
 pub(crate) fn take_cow<T: LendOrOwn<S>, S: Source>(
     alloc: Global,
     reader: &mut S,
@@ -90,7 +83,6 @@ pub(crate) fn take_cow<T: LendOrOwn<S>, S: Source>(
     }
 }
 
-/// None where a text is not UTF-8.
 fn take_either<T: LendOrOwn<S>, S: Source>(
     alloc: Global,
     reader: &mut S,
@@ -110,7 +102,6 @@ fn take_either<T: LendOrOwn<S>, S: Source>(
     }
 }
 
-/// So many bytes, lent by one fill where it lends them all, or copied.
 fn lend_or_copy<T: LendOrOwn<S>, S: Source>(
     alloc: Global,
     reader: &mut S,
@@ -132,7 +123,6 @@ fn lend_or_copy<T: LendOrOwn<S>, S: Source>(
     }
 }
 
-/// So many bytes, copied.
 fn copy<T: LendOrOwn<S>, S: Source>(
     alloc: Global,
     reader: &mut S,

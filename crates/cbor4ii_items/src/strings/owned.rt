@@ -59,24 +59,11 @@ impl Decodable for UncheckedStr<Vec<u8>> {
 }
 
 /// A text string, whatever its bytes, of definite or of indefinite length (RFC 8949 sections 3.1
-/// and 3.2.3). Each chunk is a string of definite length of the same major type, read under one
-/// step of the reader's budget. At most 16384 bytes are reserved before any came.
+/// and 3.2.3), read as a `Bytes<Vec<u8>>` is.
 ///
 /// # Errors
 ///
-/// `Read` and `OutOfMemory` are described at `Decode::decode`. The others come in this order, by
-/// "str" where no other name is said:
-///
-/// - `Eof` with 1: no byte is left
-/// - `Eof` with k: the argument of the head has k bytes and fewer are left. Nothing is left then
-/// - `Mismatch` with the first byte, which is taken: it begins no text string
-/// - `Eof` with the number of bytes that are missing: the content is cut. Nothing is left then
-/// - `Eof` by "break" with 1: no byte is left in the place of a chunk or a break
-/// - `DepthOverflow`: no step is left for a chunk. The chunk is left
-/// - `RequireLength` with `Indefinite`: a chunk has an indefinite length. What follows its first
-///   byte is left
-/// - `Eof` or `Mismatch`, those of the string itself: a chunk is cut, or is no text string. What is
-///   left is the same
+/// Those of a `Bytes<Vec<u8>>`, by "str", at a text string in the place of a byte string.
 impl<S: Source> Decode<S> for UncheckedStr<Vec<u8>> {
     #[inline(always)]
     fn decode(
@@ -98,26 +85,13 @@ impl Decodable for String {
 }
 
 /// A text string that is UTF-8, of definite or of indefinite length (RFC 8949 sections 3.1 and
-/// 3.2.3). Each chunk is a string of definite length of the same major type, read under one step of
-/// the reader's budget. The chunks are joined before they are tested to be UTF-8, so a character
-/// may stand across two of them. At most 16384 bytes are reserved before any came.
+/// 3.2.3), read as a `Bytes<Vec<u8>>` is. The chunks are joined before they are tested to be UTF-8,
+/// so a character may stand across two of them.
 ///
 /// # Errors
 ///
-/// `Read` and `OutOfMemory` are described at `Decode::decode`. The others come in this order, by
-/// "str" where no other name is said:
-///
-/// - `Eof` with 1: no byte is left
-/// - `Eof` with k: the argument of the head has k bytes and fewer are left. Nothing is left then
-/// - `Mismatch` with the first byte, which is taken: it begins no text string
-/// - `Eof` with the number of bytes that are missing: the content is cut. Nothing is left then
-/// - `Eof` by "break" with 1: no byte is left in the place of a chunk or a break
-/// - `DepthOverflow`: no step is left for a chunk. The chunk is left
-/// - `RequireLength` with `Indefinite`: a chunk has an indefinite length. What follows its first
-///   byte is left
-/// - `Eof` or `Mismatch`, those of the string itself: a chunk is cut, or is no text string. What is
-///   left is the same
-/// - `RequireUtf8`: the text is not UTF-8. The whole item is taken then
+/// Those of a `Bytes<Vec<u8>>`, by "str", at a text string in the place of a byte string, and
+/// `RequireUtf8` by "str": the text is not UTF-8. The whole item is taken then.
 impl<S: Source> Decode<S> for String {
     #[inline(always)]
     fn decode(alloc: Global, reader: &mut S) -> Result<String, DecodeError<S::Error>> {
