@@ -20,10 +20,8 @@ use cbor4ii_rw::write::Write;
 /// variant that has such content.
 ///
 /// Where no call failed, what was written when `end` has answered is the head and the parts in
-/// order.
-///
-/// One that is dropped without `end` writes nothing: the head and the parts that were written stay,
-/// and are a whole item only where all parts came.
+/// order. One that is dropped without `end` writes nothing: what was written stays, and is a whole
+/// item only where all parts came.
 ///
 /// # Errors
 ///
@@ -31,8 +29,8 @@ use cbor4ii_rw::write::Write;
 ///
 /// - `Core` of `Write`: the writer failed in the call. An atomic one then holds what it held before
 ///   and a beginning of what the call writes. Of another writer nothing is said
-/// - `Custom` with the words of a type: a part is rejected. Exactly what stands before the error
-///   is appended, and stays. An array or a map in which a part was rejected is no item any more
+/// - `Custom` with the words of a type: a part is rejected. Exactly what stands before the error is
+///   appended, and stays. The array or map is no item any more
 #[derive(Debug, Drop)]
 pub struct BoundedCollect<'a, W: Write> {
     pub(crate) ser: &'a mut Serializer<W>,
@@ -281,7 +279,6 @@ impl<'a, W: Write> BoundedCollect<'a, W> {
     }
 }
 
-/// Writes a name, and a value after it.
 #[inline(always)]
 pub(crate) fn put_field<W: Write, T: Serialize>(
     ser: &mut Serializer<W>,

@@ -18,20 +18,14 @@ use cbor4ii_rw::write::Write;
 /// 8949 sections 3.1 and 3.2.2).
 ///
 /// Where no call failed, the head and the parts in order are written when `end` has answered, and a
-/// break where the length is indefinite.
-///
-/// One that is dropped without `end` writes nothing: the head and the parts that were written stay,
-/// and are a whole item only where the parts were counted and all came.
+/// break where the length is indefinite. One that is dropped without `end` writes nothing: what was
+/// written stays, and is a whole item only where the parts were counted and all came.
 ///
 /// # Errors
 ///
-/// A call that fails changes neither `left` nor `owes_value`, unless it is a pair that fails at
-/// its value. Of that the key is written, `left` is lowered if it counts, and the value is owed.
-///
-/// - `Core` of `Write`: the writer failed in the call. An atomic one then holds what it held before
-///   and a beginning of what the call writes. Of another writer nothing is said
-/// - `Custom` with the words of a type: a part is rejected. Exactly what stands before the error
-///   is appended, and stays. An array or a map in which a part was rejected is no item any more
+/// A call that fails changes neither `left` nor `owes_value`, unless it is a pair that fails at its
+/// value. Of that the key is written, `left` is lowered if it counts, and the value is owed. The
+/// errors and what they leave are those of `BoundedCollect`.
 #[derive(Debug, Drop)]
 pub struct Collect<'a, W: Write> {
     pub(crate) ser: &'a mut Serializer<W>,
@@ -235,7 +229,6 @@ impl<'a, W: Write> Collect<'a, W> {
         self.serialize_value(value)
     }
 
-    /// One part fewer is to come.
     fn count_one(&mut self)
         requires { IsReady (left_of self.old) }
         ensures same_reference { serializer_name self.new ≡ serializer_name self.old }

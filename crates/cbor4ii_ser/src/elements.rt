@@ -35,7 +35,6 @@ pub trait SerializeElements {
             (output W.view ser.old) (output W.view ser.new) result };
 }
 
-/// No element.
 impl SerializeElements for () {
     ghost elements = { λ none. [] };
 
@@ -53,7 +52,6 @@ impl SerializeElements for () {
     }
 }
 
-/// An element, and those after it.
 impl<'a, A: Serialize, B: SerializeElements> SerializeElements for (&'a A, B) {
     ghost elements = { λ pair. A.encoding pair.0.now ∷ B.elements pair.1 };
 
@@ -87,7 +85,6 @@ pub trait Answer<E>: Sized {
         ensures { Self.outcome result ≡ answer };
 }
 
-/// The answer itself.
 impl<E> Answer<E> for Result<(), EncodeError<E>> {
     ghost outcome = { λ answer. answer };
 
@@ -125,7 +122,6 @@ impl<W: Write> Serializer<W> {
     }
 }
 
-/// Writes a head that counts them, and the elements.
 #[inline]
 fn put_elements<W: Write, P: SerializeElements>(
     ser: &mut Serializer<W>,
@@ -142,8 +138,7 @@ fn put_elements<W: Write, P: SerializeElements>(
     }
 }
 
-/// Writes a head and the elements out of line: to a writer with a large error what holds them then
-/// takes a small frame.
+/// Out of line: to a writer with a large error what holds the elements then takes a small frame.
 #[inline(never)]
 fn put_elements_apart<W: Write, P: SerializeElements>(
     ser: &mut Serializer<W>,

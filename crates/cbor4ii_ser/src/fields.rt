@@ -11,13 +11,12 @@ use crate::slot::push_parts_head;
 use cbor4ii_items::major;
 use cbor4ii_rw::write::Write;
 
-// A call for each number of fields, since a list of them would be a type argument that names
-// several lifetimes, and the borrow checker does not cover one. A name stands beside its value, and
-// in no pair with it: of a type that holds values of its own kind, a call that is given a pair has
-// no proof.
+// A call for each number of fields: a list of them would be a type argument that names several
+// lifetimes, which the borrow checker does not cover. A name stands beside its value, since a call
+// that is given a pair has no proof for a type that holds values of its own kind.
 impl<W: Write> Serializer<W> {
-    /// Writes a struct of one field, a name and a value: a map, in this order. The struct's name is
-    /// not written.
+    /// Writes a struct of one field, a name and a value. It is a map of the fields, in this order.
+    /// The struct's name is not written.
     ///
     /// # Errors
     ///
@@ -43,13 +42,11 @@ impl<W: Write> Serializer<W> {
         Ok(())
     }
 
-    /// Writes a struct of two fields, each a name and a value: a map, in this order. The struct's
-    /// name is not written.
+    /// Writes a struct of two fields, as `serialize_1_field` does.
     ///
     /// # Errors
     ///
-    /// `Core` at the head or a name, and those of the `serialize` of a value. They are described at
-    /// `Serializer`. What was written before a value that is rejected stays.
+    /// Those of `serialize_1_field`.
     pub fn serialize_2_fields<A: Serialize, B: Serialize>(
         &mut self,
         _name: &str,
@@ -76,13 +73,11 @@ impl<W: Write> Serializer<W> {
         Ok(())
     }
 
-    /// Writes a struct of three fields, each a name and a value: a map, in this order. The struct's
-    /// name is not written.
+    /// Writes a struct of three fields, as `serialize_1_field` does.
     ///
     /// # Errors
     ///
-    /// `Core` at the head or a name, and those of the `serialize` of a value. They are described at
-    /// `Serializer`. What was written before a value that is rejected stays.
+    /// Those of `serialize_1_field`.
     pub fn serialize_3_fields<A: Serialize, B: Serialize, C: Serialize>(
         &mut self,
         _name: &str,
@@ -115,13 +110,11 @@ impl<W: Write> Serializer<W> {
         Ok(())
     }
 
-    /// Writes a struct of four fields, each a name and a value: a map, in this order. The struct's
-    /// name is not written.
+    /// Writes a struct of four fields, as `serialize_1_field` does.
     ///
     /// # Errors
     ///
-    /// `Core` at the head or a name, and those of the `serialize` of a value. They are described at
-    /// `Serializer`. What was written before a value that is rejected stays.
+    /// Those of `serialize_1_field`.
     pub fn serialize_4_fields<A: Serialize, B: Serialize, C: Serialize, D: Serialize>(
         &mut self,
         _name: &str,
@@ -160,13 +153,11 @@ impl<W: Write> Serializer<W> {
         Ok(())
     }
 
-    /// Writes a struct of five fields, each a name and a value: a map, in this order. The struct's
-    /// name is not written.
+    /// Writes a struct of five fields, as `serialize_1_field` does.
     ///
     /// # Errors
     ///
-    /// `Core` at the head or a name, and those of the `serialize` of a value. They are described at
-    /// `Serializer`. What was written before a value that is rejected stays.
+    /// Those of `serialize_1_field`.
     pub fn serialize_5_fields<A: Serialize, B: Serialize, C: Serialize, D: Serialize, E: Serialize>(
         &mut self,
         _name: &str,
@@ -211,13 +202,11 @@ impl<W: Write> Serializer<W> {
         Ok(())
     }
 
-    /// Writes a struct of six fields, each a name and a value: a map, in this order. The struct's
-    /// name is not written.
+    /// Writes a struct of six fields, as `serialize_1_field` does.
     ///
     /// # Errors
     ///
-    /// `Core` at the head or a name, and those of the `serialize` of a value. They are described at
-    /// `Serializer`. What was written before a value that is rejected stays.
+    /// Those of `serialize_1_field`.
     pub fn serialize_6_fields<
         A: Serialize,
         B: Serialize,

@@ -39,7 +39,6 @@ impl<W: Write> Serializer<W> {
         Ok(Map::<()>::bounded(len, &mut self.writer)?)
     }
 
-    /// The head of an array, of an indefinite length where none is known.
     pub(crate) fn seq_head(&mut self, len: Option<usize>) -> Result<(), EncodeError<W::Error>>
         ensures writes { Serializes W.atomic (encoded (container_head 4 len))
             (output W.view self.old) (output W.view self.new) result }
@@ -55,8 +54,7 @@ impl<W: Write> Serializer<W> {
         }
     }
 
-    /// The head of an array, out of line: to a writer with a large error the caller's frame stays
-    /// small.
+    /// Out of line: to a writer with a large error the caller's frame stays small.
     #[inline(never)]
     fn seq_head_apart(&mut self, len: Option<usize>) -> Result<(), EncodeError<W::Error>>
         ensures writes { Serializes W.atomic (encoded (container_head 4 len))
@@ -70,7 +68,6 @@ impl<W: Write> Serializer<W> {
         }
     }
 
-    /// The head of a map, of an indefinite length where none is known.
     pub(crate) fn entries_head(&mut self, len: Option<usize>) -> Result<(), EncodeError<W::Error>>
         ensures writes { Serializes W.atomic (encoded (container_head 5 len))
             (output W.view self.old) (output W.view self.new) result }
@@ -83,7 +80,7 @@ impl<W: Write> Serializer<W> {
         }
     }
 
-    /// The end of an array or a map whose length was this.
+    /// The end of an array or a map that began with this length.
     pub(crate) fn sequence_end(&mut self, len: Option<usize>) -> Result<(), EncodeError<W::Error>>
         ensures succeeds { IsSome len → result ≡ Ok tt }
         ensures untouched { IsSome len → output W.view self.new ≡ output W.view self.old }
@@ -105,7 +102,6 @@ impl<W: Write> Serializer<W> {
         self.serialize_str(name)
     }
 
-    /// What begins a variant whose content is an array.
     pub(crate) fn tuple_variant_head(
         &mut self,
         name: &str,
@@ -118,7 +114,6 @@ impl<W: Write> Serializer<W> {
         self.array_head(len)
     }
 
-    /// What begins a variant whose content is a map.
     pub(crate) fn struct_variant_head(
         &mut self,
         name: &str,

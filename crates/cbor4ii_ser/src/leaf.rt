@@ -87,8 +87,7 @@ pub(crate) fn put_leaf<W: Write, T: Serialize>(
     }
 }
 
-/// Writes a part of an array or a map. To a writer with a large error a leaf is written by
-/// functions that all such parts share.
+/// To a writer with a large error a leaf is written by functions that all such parts share.
 #[inline(always)]
 pub(crate) fn put_value<W: Write, T: Serialize>(
     ser: &mut Serializer<W>,
@@ -104,7 +103,6 @@ pub(crate) fn put_value<W: Write, T: Serialize>(
     put_leaf(ser, value, answer)
 }
 
-/// Writes a value: out of line where it is a leaf, and else by its `serialize`.
 #[inline(always)]
 fn put_leaf_apart<W: Write, T: Serialize>(
     ser: &mut Serializer<W>,
@@ -120,7 +118,7 @@ fn put_leaf_apart<W: Write, T: Serialize>(
     }
 }
 
-/// Writes a leaf: one push, of a string one of its head and one of its content.
+/// One push, of a string one of its head and one of its content.
 #[inline(always)]
 fn push_leaf<W: Write>(
     writer: &mut W,
@@ -145,7 +143,6 @@ fn push_leaf<W: Write>(
     }
 }
 
-/// Writes a leaf, out of line.
 #[inline(always)]
 fn push_leaf_apart<W: Write>(
     writer: &mut W,
@@ -170,7 +167,6 @@ fn push_leaf_apart<W: Write>(
     }
 }
 
-/// The major type of an integer.
 #[inline(always)]
 fn major_of(is_negative: bool) -> u8
     ensures is { result ≡ major_of_sign is_negative }
@@ -183,7 +179,6 @@ fn major_of(is_negative: bool) -> u8
     }
 }
 
-/// The byte of false or true.
 #[inline(always)]
 fn byte_of(value: bool) -> u8
     ensures { result ≡ bool_byte value }
@@ -191,7 +186,6 @@ fn byte_of(value: bool) -> u8
     if value { marker::TRUE } else { marker::FALSE }
 }
 
-/// The simple value of false or true.
 #[inline(always)]
 fn simple_of(value: bool) -> u64
     ensures { shortest_head 7 result ≡ bool_byte value ∷ [] }
@@ -199,7 +193,7 @@ fn simple_of(value: bool) -> u64
     if value { 21 } else { 20 }
 }
 
-/// Writes the shortest head of this major type with this argument, its longer forms in line, too.
+/// In line, the longer heads too.
 #[inline(always)]
 fn push_integer<W: Write>(
     writer: &mut W,

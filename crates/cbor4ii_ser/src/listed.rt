@@ -95,7 +95,6 @@ impl<'a, T: Serialize> FieldValue for IfSome<'a, T> {
     ghost joins = { λ v label others. before_joins T.encoding v.0.now label others };
 }
 
-/// Writes a key, and a value after it.
 #[inline]
 fn put_keyed<K: Key, T: Serialize, W: Write>(
     ser: &mut Serializer<W>,
@@ -112,17 +111,13 @@ fn put_keyed<K: Key, T: Serialize, W: Write>(
     }
 }
 
-/// Fields as nested pairs, in the order of their keys.
 trait NestedFields: Drop {
-    // The items of those that are written, under these labels.
     ghost items: { Self → List (List ℕ) → NamedItems };
 
-    /// How many pairs they have.
     fn pair_count<K: Key>(&self, keys: &[K]) -> usize
         ensures counts { result ≡ length (items self.now (labels_of K.label keys.now)) }
         ensures most { result ≤ length keys.now };
 
-    /// Writes these pairs.
     fn serialize_pairs<K: Key, W: Write>(
         &self,
         keys: &[K],
@@ -178,7 +173,6 @@ impl<P: FieldValue, V: NestedFields> NestedFields for (P, V) {
     }
 }
 
-/// Writes a map of the fields that are written.
 #[inline]
 fn put_fields<V: NestedFields, K: Key, W: Write>(
     fields: V,
@@ -227,7 +221,6 @@ pub trait FieldValues: Sized {
             (output W.view ser.old) (output W.view ser.new) result };
 }
 
-/// A field.
 impl<A: FieldValue> FieldValues for (A,) {
     ghost many = { 1 };
 
@@ -245,7 +238,6 @@ impl<A: FieldValue> FieldValues for (A,) {
     }
 }
 
-/// Two fields.
 impl<A: FieldValue, B: FieldValue> FieldValues for (A, B) {
     ghost many = { 2 };
 
@@ -263,7 +255,6 @@ impl<A: FieldValue, B: FieldValue> FieldValues for (A, B) {
     }
 }
 
-/// Three fields.
 impl<A: FieldValue, B: FieldValue, C: FieldValue> FieldValues for (A, B, C) {
     ghost many = { 3 };
 
@@ -282,7 +273,6 @@ impl<A: FieldValue, B: FieldValue, C: FieldValue> FieldValues for (A, B, C) {
     }
 }
 
-/// Four fields.
 impl<A: FieldValue, B: FieldValue, C: FieldValue, D: FieldValue> FieldValues for (A, B, C, D) {
     ghost many = { 4 };
 
@@ -302,7 +292,6 @@ impl<A: FieldValue, B: FieldValue, C: FieldValue, D: FieldValue> FieldValues for
     }
 }
 
-/// Five fields.
 impl<A: FieldValue, B: FieldValue, C: FieldValue, D: FieldValue, E: FieldValue> FieldValues
     for (A, B, C, D, E) {
     ghost many = { 5 };
@@ -323,7 +312,6 @@ impl<A: FieldValue, B: FieldValue, C: FieldValue, D: FieldValue, E: FieldValue> 
     }
 }
 
-/// Six fields.
 impl<
     A: FieldValue,
     B: FieldValue,
@@ -350,7 +338,6 @@ impl<
     }
 }
 
-/// Seven fields.
 impl<
     A: FieldValue,
     B: FieldValue,
@@ -378,7 +365,6 @@ impl<
     }
 }
 
-/// Eight fields.
 impl<
     A: FieldValue,
     B: FieldValue,
@@ -407,7 +393,6 @@ impl<
     }
 }
 
-/// Nine fields.
 impl<
     A: FieldValue,
     B: FieldValue,
@@ -437,7 +422,6 @@ impl<
     }
 }
 
-/// Ten fields.
 impl<
     A: FieldValue,
     B: FieldValue,
@@ -472,7 +456,6 @@ impl<
     }
 }
 
-/// Eleven fields.
 impl<
     A: FieldValue,
     B: FieldValue,
@@ -508,7 +491,6 @@ impl<
     }
 }
 
-/// Twelve fields.
 impl<
     A: FieldValue,
     B: FieldValue,

@@ -34,7 +34,6 @@ fn put_map<W: Write, K: Serialize + Ord, V: Serialize>(
     answer
 }
 
-/// Writes a map, its head and each pair in turn.
 #[inline(always)]
 fn put_map_in_turn<W: Write, K: Serialize + Ord, V: Serialize>(
     ser: &mut Serializer<W>,
@@ -48,7 +47,6 @@ fn put_map_in_turn<W: Write, K: Serialize + Ord, V: Serialize>(
     put_entries_in_turn(ser, map, answer)
 }
 
-/// Writes the pairs of a map.
 #[inline(always)]
 fn put_entries_in_turn<W: Write, K: Serialize + Ord, V: Serialize>(
     ser: &mut Serializer<W>,

@@ -53,7 +53,6 @@ fn put_items<W: Write, T: Serialize>(
     Ok(())
 }
 
-/// Writes an array of leaves.
 #[inline(always)]
 fn put_leaf_array<W: Write, T: Serialize>(
     ser: &mut Serializer<W>,
@@ -69,8 +68,7 @@ fn put_leaf_array<W: Write, T: Serialize>(
     }
 }
 
-/// Writes an array of leaves with a small answer. It is out of line, so that what holds such an
-/// array takes a small frame.
+/// Out of line, with a small answer, so that what holds an array of leaves takes a small frame.
 #[inline(never)]
 fn put_leaves<W: Write, T: Serialize>(
     ser: &mut Serializer<W>,

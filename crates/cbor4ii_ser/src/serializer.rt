@@ -75,7 +75,7 @@ impl<W: Write> Serializer<W> {
         Ok(value.encode(&mut self.writer)?)
     }
 
-    /// An item, out of line: to a writer with a large error the caller's frame stays small.
+    /// Out of line: to a writer with a large error the caller's frame stays small.
     #[inline(never)]
     fn item_apart<T: Encode>(&mut self, value: &T) -> Result<(), EncodeError<W::Error>>
         ensures { Serializes W.atomic (encoded (T.bytes value.now))
@@ -84,8 +84,7 @@ impl<W: Write> Serializer<W> {
         Ok(value.encode(&mut self.writer)?)
     }
 
-    /// Writes the shortest head of this major type with this argument, to a writer with a large
-    /// error.
+    /// For a writer with a large error.
     #[inline]
     pub(crate) fn put_head(&mut self, major: u8, argument: u64) -> Result<(), EncodeError<W::Error>>
         requires { major < 8 }
@@ -101,7 +100,7 @@ impl<W: Write> Serializer<W> {
         Ok(())
     }
 
-    /// Writes an integer as a head, to a writer with a large error.
+    /// For a writer with a large error.
     #[inline]
     fn put_signed(&mut self, value: i64) -> Result<(), EncodeError<W::Error>>
         ensures writes { Serializes W.atomic (encoded (signed_head value))
@@ -116,7 +115,7 @@ impl<W: Write> Serializer<W> {
         }
     }
 
-    /// Writes a string of this major type, to a writer with a large error.
+    /// For a writer with a large error.
     #[inline]
     fn put_string(&mut self, major: u8, content: &[u8]) -> Result<(), EncodeError<W::Error>>
         requires { major < 8 }

@@ -34,7 +34,6 @@ pub(crate) fn has_large_error<W: Write>() -> bool {
     size_of_val(&none) > LARGE
 }
 
-/// That the writer failed with this error goes to `answer`.
 #[cold]
 #[inline(never)]
 fn leave<E: Drop>(error: E, answer: &mut Result<(), EncodeError<E>>)
@@ -43,7 +42,6 @@ fn leave<E: Drop>(error: E, answer: &mut Result<(), EncodeError<E>>)
     *answer = Err(EncodeError::write(error));
 }
 
-/// Writes these bytes, in one push.
 #[inline(always)]
 pub(crate) fn push<W: Write>(
     writer: &mut W,
@@ -62,7 +60,6 @@ pub(crate) fn push<W: Write>(
     }
 }
 
-/// Writes the shortest head of this major type with this argument, in one push.
 #[inline(never)]
 pub(crate) fn push_head_apart<W: Write>(
     writer: &mut W,
@@ -114,7 +111,6 @@ pub(crate) fn push_parts_head<W: Write>(
     push_head(writer, major, len as u64, answer)
 }
 
-/// Writes the shortest head of an argument that has bytes of its own.
 #[inline(never)]
 fn push_long_head_apart<W: Write>(
     writer: &mut W,
@@ -130,7 +126,7 @@ fn push_long_head_apart<W: Write>(
     push_long_head(writer, major, argument, answer)
 }
 
-/// Writes the shortest head of an argument that has bytes of its own, in line.
+/// In line, for an argument that has bytes of its own.
 #[inline(always)]
 pub(crate) fn push_long_head<W: Write>(
     writer: &mut W,
@@ -160,7 +156,6 @@ pub(crate) fn push_long_head<W: Write>(
     }
 }
 
-/// Writes a float of two bytes, its first byte and its bits, in one push.
 #[inline(never)]
 pub(crate) fn push_f16_apart<W: Write>(
     writer: &mut W,
@@ -173,7 +168,7 @@ pub(crate) fn push_f16_apart<W: Write>(
     push_f16(writer, bits, answer)
 }
 
-/// Writes a float of two bytes, in line.
+/// In line, in one push.
 #[inline(always)]
 pub(crate) fn push_f16<W: Write>(
     writer: &mut W,
@@ -187,7 +182,6 @@ pub(crate) fn push_f16<W: Write>(
     push(writer, &[marker::F16, a, b], answer)
 }
 
-/// Writes a float of four bytes, its first byte and its bits, in one push.
 #[inline(never)]
 pub(crate) fn push_f32_apart<W: Write>(
     writer: &mut W,
@@ -200,7 +194,7 @@ pub(crate) fn push_f32_apart<W: Write>(
     push_f32(writer, bits, answer)
 }
 
-/// Writes a float of four bytes, in line.
+/// In line, in one push.
 #[inline(always)]
 pub(crate) fn push_f32<W: Write>(
     writer: &mut W,
@@ -215,7 +209,6 @@ pub(crate) fn push_f32<W: Write>(
     push(writer, &bytes, answer)
 }
 
-/// Writes a float of eight bytes, its first byte and its bits, in one push.
 #[inline(never)]
 pub(crate) fn push_f64_apart<W: Write>(
     writer: &mut W,
@@ -228,7 +221,7 @@ pub(crate) fn push_f64_apart<W: Write>(
     push_f64(writer, bits, answer)
 }
 
-/// Writes a float of eight bytes, in line.
+/// In line, in one push.
 #[inline(always)]
 pub(crate) fn push_f64<W: Write>(
     writer: &mut W,
@@ -243,7 +236,6 @@ pub(crate) fn push_f64<W: Write>(
     push(writer, &bytes, answer)
 }
 
-/// Writes a string of this major type, its head in one push and its content in another.
 #[inline(never)]
 pub(crate) fn push_string_apart<W: Write>(
     writer: &mut W,
@@ -258,7 +250,7 @@ pub(crate) fn push_string_apart<W: Write>(
     push_string(writer, major, content, answer)
 }
 
-/// Writes a string of this major type, in line.
+/// In line, its head in one push and its content in another.
 #[inline(always)]
 pub(crate) fn push_string<W: Write>(
     writer: &mut W,
@@ -274,7 +266,6 @@ pub(crate) fn push_string<W: Write>(
     push(writer, content, answer)
 }
 
-/// Writes a text.
 #[inline(always)]
 pub(crate) fn push_text_apart<W: Write>(
     writer: &mut W,
@@ -316,7 +307,6 @@ pub(crate) fn push_text<W: Write>(
     push_string(writer, major::STRING, text.as_bytes(), answer)
 }
 
-/// Writes the map of one pair that a variant is, up to the variant's name, out of line.
 #[inline(never)]
 fn push_variant_apart<W: Write>(
     writer: &mut W,
@@ -347,7 +337,6 @@ pub(crate) fn push_variant<W: Write>(
     push_text(writer, name, answer)
 }
 
-/// Writes what begins a variant whose content is an array of so many parts.
 #[inline(always)]
 fn push_tuple_variant<W: Write>(
     writer: &mut W,
@@ -362,7 +351,6 @@ fn push_tuple_variant<W: Write>(
     push_parts_head(writer, major::ARRAY, len, answer)
 }
 
-/// Writes a value.
 #[inline(always)]
 pub(crate) fn put_part<W: Write, T: Serialize>(
     ser: &mut Serializer<W>,
@@ -381,7 +369,6 @@ pub(crate) fn put_part<W: Write, T: Serialize>(
     }
 }
 
-/// Writes a value, and another after it.
 #[inline(always)]
 pub(crate) fn put_both<W: Write, A: Serialize, B: Serialize>(
     ser: &mut Serializer<W>,
@@ -396,7 +383,6 @@ pub(crate) fn put_both<W: Write, A: Serialize, B: Serialize>(
     put_value(ser, second, answer)
 }
 
-/// Writes a variant that has this content.
 #[inline(always)]
 pub(crate) fn put_variant<W: Write, T: Serialize>(
     ser: &mut Serializer<W>,
@@ -411,7 +397,6 @@ pub(crate) fn put_variant<W: Write, T: Serialize>(
     put_value(ser, value, answer)
 }
 
-/// Writes a variant whose content is an array of these two.
 #[inline(always)]
 pub(crate) fn put_variant_of_two<W: Write, A: Serialize, B: Serialize>(
     ser: &mut Serializer<W>,

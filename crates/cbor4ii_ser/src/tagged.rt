@@ -37,7 +37,6 @@ impl<W: Write> Serializer<W> {
         value.serialize(self)
     }
 
-    /// The head of a tag.
     #[inline]
     fn tag_head(&mut self, number: u64) -> Result<(), EncodeError<W::Error>>
         ensures { Serializes W.atomic (encoded (shortest_head 6 number))
@@ -50,8 +49,7 @@ impl<W: Write> Serializer<W> {
     }
 }
 
-/// Writes a tagged value, out of line: to a writer with a large error what holds one then takes a
-/// small frame.
+/// Out of line: to a writer with a large error what holds a tagged value then takes a small frame.
 #[inline(never)]
 fn put_tagged_apart<W: Write, T: Serialize>(
     ser: &mut Serializer<W>,

@@ -38,8 +38,7 @@ impl<A: Serialize, B: Serialize, C: Serialize> Serialize for (A, B, C) {
     }
 }
 
-/// Writes a pair, out of line: to a writer with a large error what holds a pair then takes a small
-/// frame.
+/// Out of line: to a writer with a large error what holds a pair then takes a small frame.
 #[inline(never)]
 fn put_pair_apart<W: Write, A: Serialize, B: Serialize>(
     ser: &mut Serializer<W>,
@@ -52,7 +51,7 @@ fn put_pair_apart<W: Write, A: Serialize, B: Serialize>(
     put_pair(ser, first, second)
 }
 
-/// Writes a triple out of line: to a writer with a large error the caller's frame stays small.
+/// Out of line: to a writer with a large error the caller's frame stays small.
 #[inline(never)]
 fn put_triple_apart<W: Write, A: Serialize, B: Serialize, C: Serialize>(
     ser: &mut Serializer<W>,
@@ -66,7 +65,6 @@ fn put_triple_apart<W: Write, A: Serialize, B: Serialize, C: Serialize>(
     put_triple(ser, first, second, third)
 }
 
-/// Writes a head, and two values after it.
 #[inline(always)]
 fn put_pair<W: Write, A: Serialize, B: Serialize>(
     ser: &mut Serializer<W>,
@@ -89,7 +87,6 @@ fn put_pair<W: Write, A: Serialize, B: Serialize>(
     Ok(())
 }
 
-/// Writes a head, and three values after it.
 #[inline(always)]
 fn put_triple<W: Write, A: Serialize, B: Serialize, C: Serialize>(
     ser: &mut Serializer<W>,

@@ -15,9 +15,8 @@ use cbor4ii_tree::value::Value;
 ///
 /// # Errors
 ///
-/// - `Core`, which is described at `Serialize::serialize`
-/// - `Custom` with "serialization Tag via serde is not supported": a tag stands somewhere in the
-///   value. Nothing is written then
+/// Those of `Serialize::serialize`. `Custom` is "serialization Tag via serde is not supported": a
+/// tag stands somewhere in the value. Nothing is written then.
 impl Serialize for Value {
     ghost encoding = { λ v. value_encoding (view v) };
 

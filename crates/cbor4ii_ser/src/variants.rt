@@ -11,9 +11,9 @@ use crate::slot::{push_variant, put_variant_of_two};
 use cbor4ii_rw::write::Write;
 
 impl<W: Write> Serializer<W> {
-    /// Writes a variant of one field, a name and a value. It is a map of one pair, the variant's
-    /// name and a map of the fields in this order. The enum's name and the variant's index are not
-    /// written.
+    /// Writes a variant of one field, a name and a value. It is a map of one pair, from the
+    /// variant's name to a map of the fields in this order. The enum's name and the variant's index
+    /// are not written.
     ///
     /// # Errors
     ///
@@ -38,14 +38,11 @@ impl<W: Write> Serializer<W> {
         self.serialize_1_field(name, first_name, first)
     }
 
-    /// Writes a variant of two fields, each a name and a value. It is a map of one pair, the
-    /// variant's name and a map of the fields in this order. The enum's name and the variant's
-    /// index are not written.
+    /// Writes a variant of two fields, as `serialize_variant_of_1_field` does.
     ///
     /// # Errors
     ///
-    /// `Core` at the head or a name, and those of the `serialize` of a value. They are described at
-    /// `Serializer`. What was written before a value that is rejected stays.
+    /// Those of `serialize_variant_of_1_field`.
     pub fn serialize_variant_of_2_fields<A: Serialize, B: Serialize>(
         &mut self,
         name: &str,
@@ -68,14 +65,11 @@ impl<W: Write> Serializer<W> {
         self.serialize_2_fields(name, first_name, first, second_name, second)
     }
 
-    /// Writes a variant of three fields, each a name and a value. It is a map of one pair, the
-    /// variant's name and a map of the fields in this order. The enum's name and the variant's
-    /// index are not written.
+    /// Writes a variant of three fields, as `serialize_variant_of_1_field` does.
     ///
     /// # Errors
     ///
-    /// `Core` at the head or a name, and those of the `serialize` of a value. They are described at
-    /// `Serializer`. What was written before a value that is rejected stays.
+    /// Those of `serialize_variant_of_1_field`.
     pub fn serialize_variant_of_3_fields<A: Serialize, B: Serialize, C: Serialize>(
         &mut self,
         name: &str,
@@ -109,14 +103,11 @@ impl<W: Write> Serializer<W> {
         )
     }
 
-    /// Writes a variant of four fields, each a name and a value. It is a map of one pair, the
-    /// variant's name and a map of the fields in this order. The enum's name and the variant's
-    /// index are not written.
+    /// Writes a variant of four fields, as `serialize_variant_of_1_field` does.
     ///
     /// # Errors
     ///
-    /// `Core` at the head or a name, and those of the `serialize` of a value. They are described at
-    /// `Serializer`. What was written before a value that is rejected stays.
+    /// Those of `serialize_variant_of_1_field`.
     pub fn serialize_variant_of_4_fields<A: Serialize, B: Serialize, C: Serialize, D: Serialize>(
         &mut self,
         name: &str,
@@ -179,13 +170,11 @@ impl<W: Write> Serializer<W> {
         answer
     }
 
-    /// Writes a variant of three items: a map of one pair, the variant's name and an array of the
-    /// items in this order. The enum's name and the variant's index are not written.
+    /// Writes a variant of three items, as `serialize_variant_of_2_items` does.
     ///
     /// # Errors
     ///
-    /// `Core` at the head or the name, and those of the `serialize` of an item. They are described
-    /// at `Serializer`. What was written before an item that is rejected stays.
+    /// Those of `serialize_variant_of_2_items`.
     pub fn serialize_variant_of_3_items<A: Serialize, B: Serialize, C: Serialize>(
         &mut self,
         _name: &str,

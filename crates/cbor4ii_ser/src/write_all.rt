@@ -20,9 +20,9 @@ use std::io;
 /// for that; else `Core`, of which nothing more is said here.
 ///
 /// To keep `buf`, call the value's `serialize` on `Serializer::new(BufWriter::new(buf))`, and then
-/// `into_inner().into_inner()`, whatever the answer is. Its contract says that `Core` comes only
-/// where a push failed, and what was appended: after `Ok` the item, after `Custom` exactly what
-/// stands before the place at which the value is rejected, and after `Core` a beginning of that.
+/// `into_inner().into_inner()`, whatever the answer is. Its contract says what was appended: after
+/// `Ok` the item, after `Custom` exactly what stands before the place at which the value is
+/// rejected, and after `Core` a beginning of that.
 pub fn to_vec<T: Serialize>(
     buf: Vec<u8>,
     value: &T,
@@ -40,15 +40,11 @@ pub fn to_vec<T: Serialize>(
 ///
 /// # Errors
 ///
-/// `writer` is dropped, and what the stream holds then is not said. `Custom` only where the value
-/// has no item, in the words that its type gives for that; else `Core`, of which nothing more is
-/// said here.
+/// Those of `to_vec`. `writer` is dropped, and what the stream holds then is not said.
 ///
 /// To keep the stream, call the value's `serialize` on `Serializer::new(IoWriter::new(writer))`,
-/// and then `into_inner().into_inner()`, whatever the answer is. Its contract says that `Core`
-/// comes only where a push failed, and what was appended: after `Ok` the item, and after `Custom`
-/// exactly what stands before the place at which the value is rejected. After `Core` it says
-/// nothing of the stream.
+/// and then `into_inner().into_inner()`, whatever the answer is. Its contract says what was
+/// appended, as for `to_vec`; after `Core` it says nothing of the stream.
 pub fn to_writer<W: io::Write + Drop, T: Serialize>(
     writer: W,
     value: &T,
