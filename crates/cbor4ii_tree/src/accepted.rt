@@ -30,15 +30,14 @@ pub(crate) trait Encodings {
     fn accepts_head(argument: u64, size: usize) -> bool
         ensures { result ≡ true → canonical ≡ true → size ≡ byte_count (shortest_width argument) };
 
-    /// Whether this byte of major type 7 may begin a value. Else it is undefined, which is not
-    /// canonical.
+    /// Whether this byte of major type 7 may begin a value: undefined is not canonical.
     fn accepts_simple(first: u8) -> bool
         ensures accepted { result ≡ true → canonical ≡ true → first ≢ simple_byte simple_undefined }
         ensures rejected { result ≡ false →
             (canonical ≡ true) × (first ≡ simple_byte simple_undefined) };
 
-    /// Takes the head of an array or a map, which no look has shown whole, and answers how many
-    /// parts are to follow, none where its length is indefinite.
+    /// Takes the head of an array or a map, which no look has shown whole. None is an indefinite
+    /// length.
     fn take_length<S: Source>(
         reader: &mut S,
         major: u8,
@@ -52,7 +51,7 @@ pub(crate) trait Encodings {
             (DoesAfterFirst first (TakesLength canonical major) (RejectsMajor canonical major))
             (S.view reader.old) (S.view reader.new) (value_or_error result failure.new) };
 
-    /// Takes the head of a tag, which no look has shown whole, and answers its number.
+    /// As `take_length`, of a tag.
     fn take_tag<S: Source>(
         reader: &mut S,
         failure: &mut Option<DecodeError<S::Error>>,
@@ -60,7 +59,6 @@ pub(crate) trait Encodings {
         ensures { Gives Never Anything (DoesUnder (TakesTag canonical) (RejectsOf canonical 6))
             (S.view reader.old) (S.view reader.new) (value_or_error result failure.new) };
 
-    /// Reads an integer or a string, whose first byte is shown.
     fn read_leaf<S: Source>(
         alloc: Global,
         reader: &mut S,

@@ -146,7 +146,6 @@ impl Value {
     }
 }
 
-/// The value of the first pair whose key is this text.
 fn find<'a>(pairs: &'a [(Value, Value)], key: &str) -> Option<&'a Value>
     ensures { option_map (λ value. view value.now) result
         ≡ find_text key.now (pairs_view pairs.now) }
@@ -159,7 +158,6 @@ fn find<'a>(pairs: &'a [(Value, Value)], key: &str) -> Option<&'a Value>
     None
 }
 
-/// Whether a value is this text.
 fn is_text(value: &Value, content: &str) -> bool
     ensures { IsTrue result ↔ (view value.now ≡ text content.now) }
 {
@@ -169,7 +167,6 @@ fn is_text(value: &Value, content: &str) -> bool
     }
 }
 
-/// The value of the first pair that has this key.
 fn find_value<'a>(pairs: &'a [(Value, Value)], key: &Value) -> Option<&'a Value>
     ensures { option_map (λ value. view value.now) result
         ≡ find_value (view key.now) (pairs_view pairs.now) }
@@ -182,7 +179,6 @@ fn find_value<'a>(pairs: &'a [(Value, Value)], key: &Value) -> Option<&'a Value>
     None
 }
 
-/// Whether two of the pairs have equal keys.
 fn repeats_key(pairs: &[(Value, Value)]) -> bool
     ensures { IsTrue result ↔ HasEqualKeys (pairs_view pairs.now) }
 {
@@ -194,7 +190,6 @@ fn repeats_key(pairs: &[(Value, Value)]) -> bool
     false
 }
 
-/// Whether one of the pairs has this key.
 fn has_key(pairs: &[(Value, Value)], key: &Value) -> bool
     ensures { IsTrue result ↔ HasKey (view key.now) (pairs_view pairs.now) }
 {

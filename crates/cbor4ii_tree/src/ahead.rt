@@ -17,14 +17,12 @@ use cbor4ii_items::marker;
 /// Among what the next item stands.
 #[derive(Clone, Copy)]
 pub(crate) enum Among {
-    /// So many items are left.
     Items(u64),
     /// Items up to a break.
     Indefinite,
 }
 
 impl Among {
-    /// Whether a break may come in the place of the next item.
     #[inline(always)]
     pub(crate) fn is_indefinite(self) -> bool
         ensures { IsTrue result ↔ IsIndefinite self }
@@ -35,8 +33,7 @@ impl Among {
         }
     }
 
-    /// Among what the next item of a map of indefinite length stands: after a key comes its value,
-    /// and no break.
+    /// In a map of indefinite length, no break may come after a key.
     #[inline(always)]
     pub(crate) fn in_map(keyed: bool) -> Among
         ensures { result ≡ in_map keyed }
@@ -55,14 +52,13 @@ pub(crate) enum Ahead {
     Run(u64, usize),
     /// A head of so many bytes, with the content that is shown, and what is left of its item.
     Head(usize, After),
-    /// A break.
     Break,
     /// Nothing that is decided here.
     Unseen,
 }
 
-// By its first byte, how many bytes an item takes that holds no other and says its size there; 0
-// where there is no such item. Each 32 entries are a major type (RFC 8949 section 3.1).
+// By its first byte, how many bytes an item takes that holds no other and says its size there; else
+// 0. Each 32 entries are a major type (RFC 8949 section 3.1).
 static LEAF_BYTES: [u8; 256] = [
     1, 1, 1, 1, 1, 1, 1, 1, 1, 1, 1, 1, 1, 1, 1, 1, 1, 1, 1, 1, 1, 1, 1, 1, 2, 3, 5, 9, 0, 0, 0, 0,
     1, 1, 1, 1, 1, 1, 1, 1, 1, 1, 1, 1, 1, 1, 1, 1, 1, 1, 1, 1, 1, 1, 1, 1, 2, 3, 5, 9, 0, 0, 0, 0,
@@ -78,7 +74,6 @@ static LEAF_BYTES: [u8; 256] = [
 /// The greatest of these numbers.
 const MOST_LEAF_BYTES: usize = 24;
 
-/// What the shown bytes begin with.
 #[inline(always)]
 pub(crate) fn ahead_of(shown: &[u8], among: Among) -> Ahead
     ensures { Sees among result shown.now }
@@ -93,7 +88,6 @@ pub(crate) fn ahead_of(shown: &[u8], among: Among) -> Ahead
     head_of(shown)
 }
 
-/// Whether a break comes first.
 #[inline(always)]
 pub(crate) fn begins_with_break(shown: &[u8]) -> bool
     ensures { IsTrue result ↔ BeginsWithBreak shown.now }
@@ -104,7 +98,6 @@ pub(crate) fn begins_with_break(shown: &[u8]) -> bool
     }
 }
 
-/// The run that the shown bytes begin with: how many items, and in how many bytes.
 #[inline(always)]
 fn run_of(shown: &[u8], among: Among) -> (u64, usize)
     ensures few { Allows among result.0 }
@@ -116,7 +109,6 @@ fn run_of(shown: &[u8], among: Among) -> (u64, usize)
     }
 }
 
-/// A run of at most so many items.
 #[inline(always)]
 fn run_of_items(shown: &[u8], most: u64) -> (u64, usize)
     ensures few { result.0 ≤ most }
@@ -129,9 +121,9 @@ fn run_of_items(shown: &[u8], most: u64) -> (u64, usize)
     more_of_run(shown, most, most - 1, leaf)
 }
 
-/// The run that goes on after so many bytes, where `left` of at most `most` items are left. As long
-/// as any two such items would stand whole, none is asked whether it does. After two of one byte
-/// each more are looked for at once.
+/// The run that goes on after so many bytes, where `left` of at most `most` items are left. While
+/// two items of any size would stand whole, none is asked whether it does. After two of one byte
+/// more are looked for at once.
 #[inline(always)]
 fn more_of_run(shown: &[u8], most: u64, left: u64, size: usize) -> (u64, usize)
     requires few { left ≤ most }
@@ -160,7 +152,6 @@ fn more_of_run(shown: &[u8], most: u64, left: u64, size: usize) -> (u64, usize)
     end_of_run(shown, most, left, size)
 }
 
-/// The run that goes on so, up to the last item that stands whole.
 #[inline(always)]
 fn end_of_run(shown: &[u8], most: u64, left: u64, size: usize) -> (u64, usize)
     requires few { left ≤ most }
@@ -181,8 +172,7 @@ fn end_of_run(shown: &[u8], most: u64, left: u64, size: usize) -> (u64, usize)
     (most, size)
 }
 
-/// Whether each of these bytes is an integer. All are asked, whatever the first ones answer: so
-/// many are compared at once.
+/// Whether each of these bytes is an integer. All are asked: so many are compared at once.
 #[inline(always)]
 fn are_short(bytes: &[u8]) -> bool
     ensures { IsTrue result → AllShort bytes.now }
@@ -194,7 +184,6 @@ fn are_short(bytes: &[u8]) -> bool
     all
 }
 
-/// Whether an integer of one byte begins so.
 #[inline(always)]
 fn is_short(first: u8) -> bool
     ensures { IsTrue result → leaf_bytes first ≡ 1 }
@@ -217,8 +206,7 @@ fn leaf_size(shown: &[u8], at: usize) -> usize
     size
 }
 
-/// How many bytes an item takes that begins so, where its first byte says that, and that it holds
-/// no other; else 0.
+/// How many bytes an item that holds no other takes, where its first byte says that; else 0.
 #[inline(always)]
 fn leaf_bytes(first: u8) -> u8
     ensures says { result ≡ leaf_bytes first }
@@ -227,7 +215,6 @@ fn leaf_bytes(first: u8) -> u8
     LEAF_BYTES[first as usize]
 }
 
-/// The head that the shown bytes begin with, and what is left of its item.
 #[inline(always)]
 fn head_of(shown: &[u8]) -> Ahead
     ensures { (among : Among) → Sees among result shown.now }
@@ -260,7 +247,6 @@ fn wide_head_of(first: u8, rest: &[u8]) -> Ahead
     }
 }
 
-/// The head that has no argument, by its first byte, and what is left of its item.
 #[inline(always)]
 fn indefinite_head_of(first: u8) -> Ahead
     ensures { (among : Among) (rest : List ℕ) → Sees among result (first ∷ rest) }

@@ -14,7 +14,6 @@ use cbor4ii_rw::error::DecodeError;
 use cbor4ii_rw::read::Source;
 use std::alloc::Global;
 
-/// Each encoding is read.
 pub(crate) struct AnyEncoding;
 
 impl Encodings for AnyEncoding {
@@ -70,7 +69,7 @@ impl Encodings for AnyEncoding {
     }
 }
 
-/// How many parts the head of an array or a map says. It stays out of line, as `read_alone`.
+/// It stays out of line, as `read_alone`.
 #[inline(never)]
 fn length<S: Source>(
     reader: &mut S,

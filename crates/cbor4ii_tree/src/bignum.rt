@@ -67,7 +67,6 @@ fn tag_pair(alloc: Global, pair: &mut (Value, Value)) -> Result<(), AllocError>
     tag_bignums(alloc, &mut pair.1)
 }
 
-/// An integer, or the tag that it is written as where it has no head.
 fn tagged_integer(alloc: Global, number: i128) -> Result<Value, AllocError>
     ensures tagged { IfOk result (λ value. view value ≡ with_bignums (integer number)) }
     ensures memory { OnErr result (with_bignums (integer number) ≢ integer number) }
@@ -91,7 +90,6 @@ pub(crate) fn bignum_parts(number: i128) -> (u64, u128)
     }
 }
 
-/// This tag on the bytes of the number.
 fn bignum(alloc: Global, number: u64, size: u128) -> Result<Value, AllocError>
     ensures { IfOk result (λ value. view value ≡ tag number (bytes_item (magnitude size))) }
 {

@@ -1,7 +1,4 @@
-//! Items that are kept as a copy of their bytes.
-//!
-//! They are read and rejected as `RawValue` is. Where there is no memory for the copy it is
-//! `OutOfMemory`, and the item was taken.
+//! Items that are kept as a copy of their bytes. They are read and rejected as `RawValue` is.
 ghost use Rattle.std.specs.Prelude.{◌≡◌, true, IfOk, IsTrue};
 ghost use Rattle.cbor4ii_items.specs.Writing.{WritesAtomically};
 ghost use Rattle.cbor4ii_tree.specs.Basis.Canonical.{canonical_encoding, canonical_cost};
@@ -25,10 +22,8 @@ use cbor4ii_rw::write::Write;
 use std::alloc::Global;
 use std::convert::AsSlice;
 
-/// One item, as a copy of its bytes.
-///
-/// It is decoded over every `FillLong`, and copies what is lent. Over a reader that lends nothing,
-/// as `IoReader`, nothing is accepted.
+/// One item, as a copy of its bytes. It is decoded over every `FillLong`, and copies what is lent:
+/// over an `IoReader`, which lends nothing, nothing is accepted.
 #[derive(Debug, Drop, PartialEq, Eq)]
 pub struct BoxedRawValue(Vec<u8>);
 
@@ -89,20 +84,14 @@ impl Decodable for BoxedRawValue {
     ghost lawful = { boxed_raw_lawful };
 }
 
-/// One fill asks for all that is left. Where its bytes live as long as the input, the item at
-/// their beginning is skipped in place, under the reader's steps, then taken at once and copied.
-///
-/// Over a reader that lends nothing, as a stream's, nothing is accepted.
+/// One fill asks for all that is left. Where its bytes live as long as the input, the item at their
+/// beginning is skipped in place, under the reader's steps, then taken at once and copied. Over a
+/// reader that lends nothing, as a stream's, nothing is accepted.
 ///
 /// # Errors
 ///
-/// Nothing is taken then, but at `OutOfMemory`.
-///
-/// - `Read`: the reader failed
-/// - `RequireBorrowed` by "raw-value": some bytes are left, and they do not live as long as the
-///   input
-/// - those of `IgnoredAny` in the bytes that were lent, and where no byte is left
-/// - `OutOfMemory`: there is no memory for the copy. The item was taken
+/// Those of `RawValue`, which take nothing, and `OutOfMemory`: there is no memory for the copy. The
+/// item was taken then.
 impl<S: FillLong> Decode<S> for BoxedRawValue {
     fn decode(alloc: Global, reader: &mut S) -> Result<BoxedRawValue, DecodeError<S::Error>>
         ensures copies { CopiesItem (S.view reader.old) (S.view reader.new) result }
@@ -113,7 +102,7 @@ impl<S: FillLong> Decode<S> for BoxedRawValue {
     }
 }
 
-/// Takes one item and copies it, in fewer clauses than `decode`.
+/// As `decode`, in fewer clauses.
 fn copy_lent<S: FillLong>(
     alloc: Global,
     reader: &mut S,
@@ -139,10 +128,6 @@ fn copy_lent<S: FillLong>(
 }
 
 /// Written as it stands, in one push.
-///
-/// # Errors
-///
-/// `Write`: the writer failed. An atomic writer then holds what it held before.
 impl Encode for BoxedRawValue {
     ghost bytes = { boxed_content };
 

@@ -13,7 +13,7 @@ use crate::ahead::{Ahead, Among, ahead_of, head_size};
 use cbor4ii_rw::ask::look;
 use cbor4ii_rw::read::Source;
 
-/// So many bytes at most are asked for in a look that decides what comes next.
+/// How many bytes a look asks for that decides what comes next, at most.
 const WINDOW: usize = 256;
 
 /// Bytes that are looked at before they are taken, under the steps of a reader.
@@ -24,8 +24,7 @@ pub(crate) trait BytesAhead<S: Source>: Sized {
     // The bytes are not the reader's own.
     ghost apart: { Bool };
 
-    /// How many bytes may be taken at once, at most so many, and the first of them; none at the
-    /// end.
+    /// How many bytes may be taken at once, at most `want`, and the first of them; none at the end.
     fn ready(&mut self, reader: &mut S, want: usize) -> Result<(usize, u8), S::Error>
         ensures offers { IfOk result (λ found. Offers want (Ready want found)
             (view self.old reader.old) (view self.new reader.new)) }
@@ -33,7 +32,6 @@ pub(crate) trait BytesAhead<S: Source>: Sized {
             (ReaderFails (view self.old reader.old) (view self.new reader.new)) }
         ensures stays { IsTrue apart → S.view reader.new ≡ S.view reader.old };
 
-    /// What comes next, decided by one look at the beginning.
     fn ahead(&mut self, reader: &mut S, among: Among) -> Result<Ahead, S::Error>
         ensures offers { IfOk result (λ seen. Offers 1 (Sees among seen)
             (view self.old reader.old) (view self.new reader.new)) }
@@ -41,17 +39,14 @@ pub(crate) trait BytesAhead<S: Source>: Sized {
             (ReaderFails (view self.old reader.old) (view self.new reader.new)) }
         ensures stays { IsTrue apart → S.view reader.new ≡ S.view reader.old };
 
-    /// Takes so many bytes.
     fn advance(&mut self, reader: &mut S, count: usize)
         requires { count ≤ (view self.old reader.old).advanceable }
         ensures takes { Advances count (view self.old reader.old) (view self.new reader.new) }
         ensures stays { IsTrue apart → S.view reader.new ≡ S.view reader.old };
 
-    // The steps are the reader's.
     ghost same_budget: { (prefix : Self) (reader : S) →
         (view prefix reader).budget ≡ (S.view reader).budget };
 
-    // A step of the reader moves nothing else.
     ghost moved: { (prefix : Self) (old new : S) →
         KeepsAllButBudget (S.view old) (S.view new) →
         KeepsAllButBudget (view prefix old) (view prefix new) };
@@ -96,7 +91,7 @@ impl<S: Source> BytesAhead<S> for Own {
     ghost moved = { λ own old new kept. kept };
 }
 
-/// What comes next, where a look may ask for fewer bytes: for all that a head has, at least.
+/// As `see`, where a look may ask for fewer bytes: for all that a head has, at least.
 #[cold]
 #[inline(never)]
 fn see_narrowly<S: Source>(reader: &mut S, among: Among) -> Result<Ahead, S::Error>
@@ -112,7 +107,6 @@ fn see_narrowly<S: Source>(reader: &mut S, among: Among) -> Result<Ahead, S::Err
     }
 }
 
-/// What `want` bytes of the reader begin with.
 fn see<S: Source>(reader: &mut S, among: Among, want: usize) -> Result<Ahead, S::Error>
     requires { 1 ≤ want }
     ensures offers { IfOk result (λ seen. Offers 1 (Sees among seen)
@@ -125,7 +119,7 @@ fn see<S: Source>(reader: &mut S, among: Among, want: usize) -> Result<Ahead, S:
     }
 }
 
-/// What `want` bytes of the reader begin with, and how many the head has that comes first.
+/// As `see`, and how many bytes the head has that comes first.
 fn see_with_size<S: Source>(
     reader: &mut S,
     among: Among,
@@ -174,7 +168,6 @@ impl<S: Source> BytesAhead<S> for Lent<'_> {
     ghost moved = { λ lent old new kept. Prim.search rules };
 }
 
-/// How many of the shown bytes are taken, and the first of them.
 fn shown_bytes(shown: &[u8], want: usize) -> (usize, u8)
     ensures { Ready want result shown.now }
 {

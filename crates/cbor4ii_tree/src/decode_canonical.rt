@@ -82,7 +82,6 @@ impl<S: Source> Decode<S> for Canonical {
     }
 }
 
-/// The canonical encoding alone is read.
 struct CanonicalEncoding;
 
 impl Encodings for CanonicalEncoding {
@@ -139,7 +138,7 @@ impl Encodings for CanonicalEncoding {
     }
 }
 
-/// The argument of a head that no look has shown whole. It stays out of line, as `read_alone`.
+/// It stays out of line, as `read_alone`.
 #[inline(never)]
 fn head_of<S: Source>(
     reader: &mut S,
@@ -153,7 +152,6 @@ fn head_of<S: Source>(
     part(canonical_head(name, major, reader), failure)
 }
 
-/// Reads a text.
 fn read_text<S: Source>(alloc: Global, reader: &mut S) -> Result<String, DecodeError<S::Error>>
     ensures does { DoesUnder TextAt CanonicalTextRejects
         (S.view reader.old) (S.view reader.new) result }

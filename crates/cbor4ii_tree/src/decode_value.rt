@@ -119,8 +119,8 @@ impl<S: Source> Decode<S> for Value {
     }
 }
 
-/// Reads one value that stands in no other. What is under its step is a function apart, so that of
-/// several callers each takes the step and the answer in its own frame, and a lone one takes all.
+/// Reads a value that stands in no other. What is under its step is a function apart: of several
+/// callers each takes the step and the answer in its own frame, and a lone one takes all.
 #[inline(always)]
 pub(crate) fn read_outermost<S: Source, A: Encodings>(
     alloc: Global,
@@ -140,7 +140,6 @@ pub(crate) fn read_outermost<S: Source, A: Encodings>(
     outcome
 }
 
-/// Reads one value under a step that was taken.
 fn read_apart<S: Source, A: Encodings>(
     alloc: Global,
     reader: &mut S,
@@ -153,8 +152,8 @@ fn read_apart<S: Source, A: Encodings>(
     read_inside::<S, A>(alloc, reader, failure)
 }
 
-/// Reads one value. Where it does not, the error goes to `failure`, which is left empty where
-/// memory was refused: no large answer is handed up from level to level.
+/// Where it reads none, the error goes to `failure`, which is left empty where memory was refused:
+/// no large answer is handed up from level to level.
 #[cycle(read)]
 #[inline(always)]
 fn read_value<S: Source, A: Encodings>(
@@ -175,7 +174,7 @@ fn read_value<S: Source, A: Encodings>(
     outcome
 }
 
-/// Reads one value whose step was taken. One that holds no other is mostly decided in one look.
+/// A value that holds no other is mostly decided in one look.
 #[cycle(read)]
 #[inline(always)]
 fn read_inside<S: Source, A: Encodings>(
@@ -193,7 +192,7 @@ fn read_inside<S: Source, A: Encodings>(
     }
 }
 
-/// Reads one value whose step was taken, by what a look has shown of it.
+/// Goes by what a look has shown of the value.
 #[cycle(read)]
 #[inline(always)]
 fn read_next<S: Source, A: Encodings>(
@@ -234,7 +233,6 @@ fn read_tag<S: Source, A: Encodings>(
     read_tagged::<S, A>(alloc, reader, number, failure)
 }
 
-/// Reads the value after the head of a tag.
 #[cycle(read)]
 #[inline(never)]
 fn read_tagged<S: Source, A: Encodings>(
@@ -257,7 +255,6 @@ fn read_tagged<S: Source, A: Encodings>(
     }
 }
 
-/// Takes the head of a tag, and answers its number.
 #[inline(always)]
 fn take_tag<S: Source, A: Encodings>(
     reader: &mut S,
@@ -279,8 +276,7 @@ fn take_tag<S: Source, A: Encodings>(
     }
 }
 
-/// Takes the head of an array or a map, and answers how many parts are to follow, none where its
-/// length is indefinite.
+/// Takes the head of an array or a map. None is an indefinite length.
 #[inline(always)]
 fn take_length<S: Source, A: Encodings>(
     reader: &mut S,
@@ -304,8 +300,8 @@ fn take_length<S: Source, A: Encodings>(
     }
 }
 
-/// Reads a value that holds no other, whose first byte is shown. It stays out of line, so that the
-/// levels above pay nothing for its locals.
+/// Reads a value that holds no other. It stays out of line, so that the levels above pay nothing
+/// for its locals.
 #[inline(never)]
 fn read_alone<S: Source, A: Encodings>(
     alloc: Global,
@@ -383,7 +379,6 @@ fn array_inside<S: Source, A: Encodings>(
     Some(Value::Array(items?))
 }
 
-/// Reads so many items.
 #[cycle(read)]
 #[inline(never)]
 fn definite_items<S: Source, A: Encodings>(
@@ -410,8 +405,8 @@ fn definite_items<S: Source, A: Encodings>(
     Some(items)
 }
 
-/// Makes room for so many parts, or for as many as have their place before any came. It answers
-/// whether there was memory.
+/// Makes room for so many parts, or for as many as have their place before any came. False is
+/// refused memory.
 #[inline(always)]
 fn make_room<T>(parts: &mut Vec<T>, count: usize) -> bool
     ensures { parts.new.items ≡ parts.old.items }
@@ -419,8 +414,7 @@ fn make_room<T>(parts: &mut Vec<T>, count: usize) -> bool
     parts.reserve_exact(items_ahead(count)).is_ok()
 }
 
-/// Reads the items that come next, as many as one look decides, and the one after them
-/// that it leaves undecided.
+/// Reads as many items as one look decides, and the one after them that it leaves undecided.
 #[cycle(read)]
 #[inline(always)]
 fn more_items<S: Source, A: Encodings>(
@@ -444,7 +438,7 @@ fn more_items<S: Source, A: Encodings>(
     outcome
 }
 
-/// Reads the items that are missing where a step was taken, which each of them takes in turn.
+/// Reads the items that are missing. The step that was taken is each item's in turn.
 #[cycle(read)]
 #[inline(always)]
 fn items_inside<S: Source, A: Encodings>(
@@ -469,8 +463,8 @@ fn items_inside<S: Source, A: Encodings>(
     }
 }
 
-/// Reads the keys and values that come next, as many as one look decides, and the one after them
-/// that it leaves undecided.
+/// Reads as many keys and values as one look decides, and the one after them that it leaves
+/// undecided.
 #[cycle(read)]
 #[inline(always)]
 fn more_pairs<S: Source, A: Encodings>(
@@ -494,7 +488,7 @@ fn more_pairs<S: Source, A: Encodings>(
     outcome
 }
 
-/// Reads the pairs that are missing where a step was taken, which each value takes in turn.
+/// Reads the pairs that are missing. The step that was taken is each value's in turn.
 #[cycle(read)]
 #[inline(always)]
 fn pairs_inside<S: Source, A: Encodings>(
@@ -541,7 +535,6 @@ fn indefinite_items<S: Source, A: Encodings>(
     Some(items)
 }
 
-/// Reads a map's pairs, under one step.
 #[cycle(read)]
 #[inline(always)]
 fn read_map<S: Source, A: Encodings>(
@@ -588,7 +581,6 @@ fn map_inside<S: Source, A: Encodings>(
     Some(Value::Map(pairs?))
 }
 
-/// Reads so many pairs.
 #[cycle(read)]
 #[inline(never)]
 fn definite_pairs<S: Source, A: Encodings>(
@@ -641,7 +633,7 @@ fn indefinite_pairs<S: Source, A: Encodings>(
     Some(pairs)
 }
 
-/// Reads a key, and the value after it. No break is looked for between the two.
+/// No break is looked for between a key and its value.
 #[cycle(read)]
 #[inline(always)]
 fn read_pair<S: Source, A: Encodings>(

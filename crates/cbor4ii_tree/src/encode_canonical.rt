@@ -49,17 +49,15 @@ impl Canonical {
     }
 }
 
-/// Written as the value in it is.
 impl Encode for Canonical {
     ghost bytes = { λ c. canonical_encoding (view c.0) };
 
-    /// Appends the value's canonical encoding to what `writer` holds, in the pushes of the value's
-    /// own. `Canonical` reads it back from there, with bignums as tags.
+    /// Appends the value's canonical encoding, in the pushes of the value's own. `Canonical` reads
+    /// it back, with bignums as tags.
     ///
     /// # Errors
     ///
-    /// `Write`: the writer failed in the call. An atomic writer then holds what it held before and
-    /// a beginning of the encoding.
+    /// Those of `Value`.
     fn encode<W: Write>(&self, writer: &mut W) -> Result<(), EncodeError<W::Error>>
         ensures writes { Writes W.atomic (canonical_encoding (view self.now.0))
             (W.view writer.old) (W.view writer.new) result }

@@ -57,9 +57,9 @@ impl Encode for Value {
     }
 }
 
-/// Writes a value. Where the writer fails, the error goes to `failure`: no large answer is handed
-/// up from level to level. What writes each kind of value stays out of line, so that a value pays
-/// only for the answers of its own pushes.
+/// Where the writer fails, the error goes to `failure`: no large answer is handed up from level to
+/// level. What writes each kind of value stays out of line, so that a value pays only for the
+/// answers of its own pushes.
 #[cycle(put)]
 fn put_value<W: Write>(
     writer: &mut W,
@@ -84,7 +84,6 @@ fn put_value<W: Write>(
     }
 }
 
-/// Writes an item of the crate below.
 #[inline(never)]
 fn put<W: Write, T: Encode>(
     writer: &mut W,
@@ -98,8 +97,7 @@ fn put<W: Write, T: Encode>(
     part(item.encode(writer), failure)
 }
 
-/// Writes the shortest head of this major type with this argument, in one push of a constant
-/// length: into memory that takes the fewest steps.
+/// Each push has a constant length: into memory that takes the fewest steps.
 // A head by `cbor4ii_items` answers with the writer's error, and one of two bytes is a call then:
 // arrays of small values, read and written to a stream, take 117 instructions for 100.
 #[inline(always)]
@@ -123,7 +121,6 @@ fn put_head<W: Write>(
     }
 }
 
-/// Writes the shortest head of an argument that takes more than one byte, in one push.
 #[inline(never)]
 fn put_long_head<W: Write>(
     writer: &mut W,
@@ -152,7 +149,6 @@ fn put_long_head<W: Write>(
     }
 }
 
-/// Writes a string of this major type: its head in one push, and its content in another.
 #[inline(never)]
 fn put_string<W: Write>(
     writer: &mut W,
@@ -171,7 +167,6 @@ fn put_string<W: Write>(
     push(writer, content, failure)
 }
 
-/// Writes these bytes, in one push.
 #[inline(always)]
 fn push<W: Write>(
     writer: &mut W,
@@ -205,7 +200,6 @@ fn part<E: Drop>(answer: Result<(), E>, failure: &mut Option<E>) -> Option<()>
     }
 }
 
-/// Writes an integer.
 #[inline(never)]
 fn put_integer<W: Write>(
     writer: &mut W,
@@ -223,7 +217,6 @@ fn put_integer<W: Write>(
     }
 }
 
-/// Writes a float in its own width.
 #[inline(always)]
 fn put_float<W: Write>(
     writer: &mut W,
@@ -260,7 +253,6 @@ fn put_array<W: Write>(
     put_items(writer, items, failure)
 }
 
-/// Writes a map.
 #[cycle(put)]
 #[inline(never)]
 fn put_map<W: Write>(
@@ -278,7 +270,6 @@ fn put_map<W: Write>(
     put_pairs(writer, pairs, failure)
 }
 
-/// Writes a tagged value.
 #[cycle(put)]
 #[inline(never)]
 fn put_tag<W: Write>(

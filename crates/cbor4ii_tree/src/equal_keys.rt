@@ -50,7 +50,6 @@ impl Value {
     }
 }
 
-/// Whether a map in the value has equal keys.
 #[cycle(within)]
 fn repeats_within(value: &Value) -> Result<bool, AllocError>
     ensures answer { IfOk result (λ found.
@@ -93,7 +92,6 @@ fn repeats_in_pairs(pairs: &[(Value, Value)]) -> Result<bool, AllocError>
     Ok(false)
 }
 
-/// Whether two of the pairs have equal keys.
 fn repeats_a_key(pairs: &Vec<(Value, Value)>) -> Result<bool, AllocError>
     ensures answer { IfOk result (λ found.
         IsTrue found ↔ HasEqualKeys (pairs_view pairs.now.items)) }
@@ -107,7 +105,6 @@ fn repeats_a_key(pairs: &Vec<(Value, Value)>) -> Result<bool, AllocError>
     Ok(has_equal_neighbours(&keys))
 }
 
-/// The keys of the pairs, in their order.
 fn keys_of(pairs: &Vec<(Value, Value)>) -> Result<Vec<&Value>, AllocError>
     ensures { IfOk result (λ keys. map item_behind keys.items ≡ map key_of pairs.now.items) }
 {
@@ -118,7 +115,7 @@ fn keys_of(pairs: &Vec<(Value, Value)>) -> Result<Vec<&Value>, AllocError>
     Ok(keys)
 }
 
-/// Whether two keys in order that stand beside each other are equal.
+/// Asked of keys in order.
 fn has_equal_neighbours(keys: &[&Value]) -> bool
     requires { IsSortedBy is_before keys.now }
     ensures { IsTrue result ↔ Repeats (map item_behind keys.now) }

@@ -5,7 +5,6 @@ ghost use Rattle.cbor4ii_tree.specs.Basis.View.{view, float_view};
 
 use crate::value::{FloatBits, Value};
 
-/// `false` or `true`.
 impl From<bool> for Value {
     ghost from_gives = { λ flag value. view value ≡ boolean flag };
 
@@ -14,7 +13,6 @@ impl From<bool> for Value {
     }
 }
 
-/// An integer.
 impl From<u8> for Value {
     ghost from_gives = { λ number value. view value ≡ integer (pos number) };
 
@@ -23,7 +21,6 @@ impl From<u8> for Value {
     }
 }
 
-/// An integer.
 impl From<u16> for Value {
     ghost from_gives = { λ number value. view value ≡ integer (pos number) };
 
@@ -32,7 +29,6 @@ impl From<u16> for Value {
     }
 }
 
-/// An integer.
 impl From<u32> for Value {
     ghost from_gives = { λ number value. view value ≡ integer (pos number) };
 
@@ -41,7 +37,6 @@ impl From<u32> for Value {
     }
 }
 
-/// An integer.
 impl From<u64> for Value {
     ghost from_gives = { λ number value. view value ≡ integer (pos number) };
 
@@ -50,7 +45,6 @@ impl From<u64> for Value {
     }
 }
 
-/// An integer.
 impl From<usize> for Value {
     ghost from_gives = { λ number value. view value ≡ integer (pos number) };
 
@@ -59,7 +53,6 @@ impl From<usize> for Value {
     }
 }
 
-/// An integer.
 impl From<i8> for Value {
     ghost from_gives = { λ number value. view value ≡ integer number };
 
@@ -68,7 +61,6 @@ impl From<i8> for Value {
     }
 }
 
-/// An integer.
 impl From<i16> for Value {
     ghost from_gives = { λ number value. view value ≡ integer number };
 
@@ -77,7 +69,6 @@ impl From<i16> for Value {
     }
 }
 
-/// An integer.
 impl From<i32> for Value {
     ghost from_gives = { λ number value. view value ≡ integer number };
 
@@ -86,7 +77,6 @@ impl From<i32> for Value {
     }
 }
 
-/// An integer.
 impl From<i64> for Value {
     ghost from_gives = { λ number value. view value ≡ integer number };
 
@@ -95,7 +85,6 @@ impl From<i64> for Value {
     }
 }
 
-/// An integer.
 impl From<isize> for Value {
     ghost from_gives = { λ number value. view value ≡ integer number };
 
@@ -122,7 +111,6 @@ impl From<FloatBits> for Value {
     }
 }
 
-/// A byte string.
 impl From<Vec<u8>> for Value {
     ghost from_gives = { λ content value. view value ≡ bytes_item content.items };
 
@@ -131,7 +119,6 @@ impl From<Vec<u8>> for Value {
     }
 }
 
-/// A text.
 impl From<String> for Value {
     ghost from_gives = { λ content value. view value ≡ text (string_bytes content) };
 

@@ -8,8 +8,7 @@ use crate::order::head_of;
 use crate::value::Value;
 use std::hash::{Hash, Hasher};
 
-/// Equal values hash equally. What is hashed is the head of a value's encoding, and then what
-/// stands in it, part by part.
+/// Equal values hash equally: the head of a value's encoding, and then what stands in it.
 impl Hash for Value {
     ghost use Rattle.cbor4ii_tree.specs.Calls.ItemEquality.{item_same};
     ghost use Rattle.std.proofs.Common.{ap};
@@ -23,7 +22,6 @@ impl Hash for Value {
     }
 }
 
-/// Hashes the head of a value's encoding, and what stands in it.
 #[cycle(hash)]
 fn hash_value<H: Hasher>(value: &Value, state: &mut H)
     ensures { state.new ≡ fold H.write state.old (hash_writes (view value.now)) }
@@ -34,7 +32,7 @@ fn hash_value<H: Hasher>(value: &Value, state: &mut H)
     hash_inside(value, state);
 }
 
-/// Hashes what stands in a value: a string's bytes, an integer, or its parts.
+/// A string's bytes, an integer, or the parts.
 #[cycle(hash)]
 fn hash_inside<H: Hasher>(value: &Value, state: &mut H)
     ensures { state.new ≡ fold H.write state.old (inner_writes (view value.now)) }

@@ -17,13 +17,11 @@ use cbor4ii_rw::error::DecodeError;
 use cbor4ii_rw::read::Source;
 use std::alloc::Global;
 
-/// What the shown bytes begin with.
 pub(crate) enum ValueSeen {
     /// A value that holds no other, in so many bytes.
     Whole(Value, usize),
     /// A string after a head of so many bytes, whose content has no memory.
     NoMemory(usize),
-    /// No byte.
     End,
     /// A value that is not decided here.
     Begins(Next),
@@ -32,32 +30,27 @@ pub(crate) enum ValueSeen {
 /// What a look has shown of a value that it leaves undecided.
 #[derive(Clone, Copy)]
 pub(crate) struct Next {
-    /// Its first byte.
     pub(crate) first: u8,
     /// The head of an array, a map or a tag, where it stands whole.
     pub(crate) head: Option<Head>,
 }
 
-/// The head of an array, a map or a tag.
 #[derive(Clone, Copy)]
 pub(crate) struct Head {
     /// How many items or pairs are to follow, or the number of the tag.
     pub(crate) argument: u64,
-    /// How many bytes the head has.
     pub(crate) size: usize,
 }
 
 /// What came of the look at a value.
 pub(crate) enum TakenOrNext {
-    /// The value, which was taken.
     Taken(Value),
-    /// Nothing that was taken: the value begins so.
     Begins(Next),
 }
 
 /// Takes the value that comes next, where it holds no other and one look shows it whole, in an
-/// encoding that is read. Else it takes nothing, and answers what the look has shown of the value.
-/// Where the look shows no byte, the value is rejected. An error is left in `failure`.
+/// encoding that is read. Else it takes nothing. Where the look shows no byte, the value is
+/// rejected.
 #[inline(always)]
 pub(crate) fn take_leaf<S: Source, A: Encodings>(
     alloc: Global,
@@ -88,7 +81,6 @@ pub(crate) fn take_leaf<S: Source, A: Encodings>(
     }
 }
 
-/// What comes next, decided by one look at as many bytes as the reader lets a look ask for.
 #[inline(always)]
 fn glance<S: Source, A: Encodings>(alloc: Global, reader: &mut S) -> Result<ValueSeen, S::Error>
     ensures offers { IfOk result (λ seen. Offers 1 (SeesLeaf (A.canonical ≡ true) seen)
@@ -118,9 +110,8 @@ pub(crate) fn leaf_of<A: Encodings>(alloc: Global, shown: &[u8]) -> ValueSeen
     }
 }
 
-/// The value that begins with this byte, where no look decides it: it holds others, or it does not
-/// stand whole in what is shown. A text that is no UTF-8, and a byte of major type 7, are left to
-/// `leaf_of`.
+/// The value that begins so, where no look decides it: it holds others, or it does not stand whole
+/// in what is shown. A text that is no UTF-8, and a byte of major type 7, are left to `leaf_of`.
 #[inline(always)]
 pub(crate) fn undecided<A: Encodings>(first: u8, trailing: &[u8]) -> Option<Next>
     ensures { IfSome result (λ n. SeesNext (A.canonical ≡ true) n (first ∷ trailing.now)) }
@@ -143,8 +134,8 @@ pub(crate) fn undecided<A: Encodings>(first: u8, trailing: &[u8]) -> Option<Next
     }
 }
 
-/// The argument that stands whole after this first byte, and how many bytes it has. It is reported
-/// only of a head that the encodings have.
+/// The argument that stands whole after this first byte, and its size. It is reported only of a
+/// head that the encodings have.
 #[inline(always)]
 fn argument_of<A: Encodings>(first: u8, trailing: &[u8]) -> Option<(u64, usize)>
     ensures stands { IfSome result (λ found.
@@ -210,7 +201,6 @@ fn leaf_after(alloc: Global, first: u8, trailing: &[u8], number: u64, size: usiz
     }
 }
 
-/// The leaf that begins with this byte of major type 7.
 #[inline(always)]
 fn simple_after(first: u8, trailing: &[u8], number: u64, size: usize) -> ValueSeen
     requires argument { ArgumentAfter (first % 32) trailing.now number size }
@@ -228,7 +218,6 @@ fn simple_after(first: u8, trailing: &[u8], number: u64, size: usize) -> ValueSe
     }
 }
 
-/// The string that begins with this byte, whose argument is the length of its content.
 #[inline(always)]
 fn string_after(alloc: Global, first: u8, trailing: &[u8], number: u64, size: usize) -> ValueSeen
     requires argument { ArgumentAfter (first % 32) trailing.now number size }

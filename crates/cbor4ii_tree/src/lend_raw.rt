@@ -24,24 +24,18 @@ pub(crate) enum NoPrefix<E> {
     Short,
 }
 
-/// Bytes that a reader lends, of which an item at their beginning is kept. `RawValue<'de>` is lent
-/// by every `Read<'de>`.
+/// Bytes that a reader lends, of which an item at their beginning is kept.
 ///
 /// A function whose signature holds a `'static` name, as each error's, cannot fill a reader that
 /// names a lifetime. So what fills is a trait of what is lent, and a prefix that is not lent is
 /// rejected without its name.
 pub(crate) trait LendRaw<S: Source>: Sized {
-    // The bytes.
     ghost content: { Self → List ℕ };
 
-    // Where they stand.
     ghost place: { Self → ℕ × ℕ };
 
-    /// All that one fill lends. The reader's position stays. Where there are any, they begin where
-    /// the bytes to come do.
-    ///
-    /// `Read` where the reader failed; `Short` where some bytes are left, and they do not live as
-    /// long as the input.
+    /// All that one fill lends. The reader's position stays. Where there are any bytes, they begin
+    /// where the bytes to come do.
     fn lend_prefix(reader: &mut S) -> Result<Self, NoPrefix<S::Error>>
         ensures lent { IfOk result
             (λ v. FillsLong most (content v) (S.view reader.old) (S.view reader.new)) }
@@ -49,7 +43,6 @@ pub(crate) trait LendRaw<S: Source>: Sized {
             (λ v. content v ≢ [] → BeginsAt (place v) (S.view reader.old)) }
         ensures lacks { IfErr result (LacksPrefix (S.view reader.old) (S.view reader.new)) };
 
-    /// The bytes.
     fn prefix(&self) -> &[u8]
         ensures { result.now ≡ content self.now };
 
@@ -59,11 +52,9 @@ pub(crate) trait LendRaw<S: Source>: Sized {
         ensures content { content result ≡ take size (content self) }
         ensures place { place result ≡ place self };
 
-    /// Lets the bytes go.
     fn discard(self);
 }
 
-/// Takes one item that is lent whole.
 pub(crate) fn take_raw<T: LendRaw<S>, S: Source>(
     alloc: Global,
     reader: &mut S,
@@ -81,7 +72,7 @@ pub(crate) fn take_raw<T: LendRaw<S>, S: Source>(
     capture(reader)
 }
 
-/// Takes one item that is lent whole, with a contract of fewer clauses.
+/// As `take_raw`, in fewer clauses.
 pub(crate) fn capture<T: LendRaw<S>, S: Source>(reader: &mut S) -> Result<T, DecodeError<S::Error>>
     ensures captures { Captures T.content (S.view reader.old) (S.view reader.new) result }
     ensures place { IfOk result (λ v. BeginsAt (T.place v) (S.view reader.old)) }

@@ -42,7 +42,6 @@ impl Value {
     }
 }
 
-/// How whole encodings compare, whatever follows them.
 #[cycle(order)]
 fn cmp_values(a: &Value, b: &Value) -> Ordering
     ensures { Compares result (value_bytes a.now) (value_bytes b.now) }
@@ -70,7 +69,6 @@ fn cmp_after_heads(a: &Value, b: &Value) -> Ordering
     }
 }
 
-/// How two contents of one length compare.
 pub(crate) fn cmp_bytes(a: &[u8], b: &[u8]) -> Ordering
     requires { length a.now ≡ length b.now }
     ensures { Compares result a.now b.now }
@@ -78,7 +76,6 @@ pub(crate) fn cmp_bytes(a: &[u8], b: &[u8]) -> Ordering
     a.cmp(b)
 }
 
-/// How the encodings of as many elements compare, one after another.
 #[cycle(order)]
 fn cmp_items(a: &[Value], b: &[Value]) -> Ordering
     requires { length a.now ≡ length b.now }
@@ -93,7 +90,6 @@ fn cmp_items(a: &[Value], b: &[Value]) -> Ordering
     Ordering::Equal
 }
 
-/// How those of as many keys and values compare.
 #[cycle(order)]
 fn cmp_pairs(a: &[(Value, Value)], b: &[(Value, Value)]) -> Ordering
     requires { length a.now ≡ length b.now }
@@ -114,7 +110,7 @@ fn cmp_pairs(a: &[(Value, Value)], b: &[(Value, Value)]) -> Ordering
     Ordering::Equal
 }
 
-/// How what a tag is on compares with what follows the head of `b`, which is a tag's too.
+/// `b` is a tag too.
 #[cycle(order)]
 fn cmp_tagged(inner: &Value, b: &Value) -> Ordering
     requires { major_of (view b.now) ≡ 6 }
@@ -127,7 +123,6 @@ fn cmp_tagged(inner: &Value, b: &Value) -> Ordering
     }
 }
 
-/// How what follows the head of an integer compares with what follows the equal head of `b`.
 fn cmp_integer(number: i128, b: &Value) -> Ordering
     requires { head_of (integer number) ≡ head_of (view b.now) }
     ensures { Compares result (after_head (integer number)) (after_head (view b.now)) }
@@ -143,7 +138,6 @@ fn cmp_integer(number: i128, b: &Value) -> Ordering
     }
 }
 
-/// How a value compares with the byte string of a bignum.
 fn cmp_with_bignum(value: &Value, size: u128) -> Ordering
     ensures { Compares result (value_bytes value.now) (definite_string 2 (magnitude size)) }
 {
@@ -151,7 +145,6 @@ fn cmp_with_bignum(value: &Value, size: u128) -> Ordering
     cmp_with_string(value, without_leading_zeros(&bytes))
 }
 
-/// How the byte strings of two bignums compare.
 fn cmp_bignums(a: u128, b: u128) -> Ordering
     ensures { Compares result (definite_string 2 (magnitude a)) (definite_string 2 (magnitude b)) }
 {
@@ -159,7 +152,6 @@ fn cmp_bignums(a: u128, b: u128) -> Ordering
     cmp_strings(without_leading_zeros(&a), without_leading_zeros(&b))
 }
 
-/// How a value compares with the byte string of this content.
 fn cmp_with_string(value: &Value, content: &[u8]) -> Ordering
     ensures { Compares result (value_bytes value.now) (definite_string 2 content.now) }
 {
@@ -169,7 +161,6 @@ fn cmp_with_string(value: &Value, content: &[u8]) -> Ordering
     }
 }
 
-/// How the byte strings of these contents compare.
 fn cmp_strings(a: &[u8], b: &[u8]) -> Ordering
     ensures { Compares result (definite_string 2 a.now) (definite_string 2 b.now) }
 {
@@ -198,7 +189,7 @@ pub(crate) fn head_of(value: &Value) -> (u8, u64)
     }
 }
 
-/// The head that an integer's encoding begins with: a tag's, where it is a bignum.
+/// It is a tag's, where the integer is a bignum.
 fn integer_parts(number: i128) -> (u8, u64)
     ensures { result ≡ head_of (integer number) }
 {
@@ -214,7 +205,6 @@ fn integer_parts(number: i128) -> (u8, u64)
     shortest_parts(major, size as u64)
 }
 
-/// The head that a float's encoding begins with, in its own width.
 fn float_parts(bits: FloatBits) -> (u8, u64)
     ensures parts { result ≡ head_of (float_view bits) }
     ensures short { HasHead (float_view bits) }
@@ -226,7 +216,6 @@ fn float_parts(bits: FloatBits) -> (u8, u64)
     }
 }
 
-/// The initial byte and the argument of the shortest head of this major type with this argument.
 fn shortest_parts(major: u8, argument: u64) -> (u8, u64)
     requires { major < 8 }
     ensures { result ≡ shortest_parts major argument }

@@ -75,12 +75,12 @@ impl<'de> Decodable for PlainRawValue<'de> {
 }
 
 /// Over a slice. The value at its beginning is read and dropped, and its bytes are kept as they
-/// stand. They are not copied: the item begins where the bytes to come do. What is accepted is
-/// exactly what `Value` accepts.
+/// stand, with no copy: the item begins where the bytes to come do. What is accepted is exactly
+/// what `Value` accepts.
 ///
 /// # Errors
 ///
-/// Those of `Value`, with what they leave. `OutOfMemory`: a growth was refused.
+/// Those of `Value`, with what they leave.
 impl<'de> Decode<SliceReader<'de>> for PlainRawValue<'de> {
     fn decode(
         alloc: Global,
@@ -99,10 +99,6 @@ impl<'de> Decode<SliceReader<'de>> for PlainRawValue<'de> {
 }
 
 /// Written as it stands, in one push.
-///
-/// # Errors
-///
-/// `Write`: the writer failed. An atomic writer then holds what it held before.
 impl Encode for PlainRawValue<'_> {
     ghost bytes = { plain_raw_content };
 

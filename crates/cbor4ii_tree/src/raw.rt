@@ -66,7 +66,6 @@ impl<'de> RawValue<'de> {
         decode_whole(alloc, self.0)
     }
 
-    /// The item whose bytes these are.
     pub(crate) fn of(bytes: &'de [u8]) -> RawValue<'de>
         ensures content { raw_content result ≡ bytes.now }
         ensures place { raw_place result ≡ place_of bytes.entry }
@@ -157,10 +156,6 @@ impl<'de, R: Read<'de>> Decode<R> for RawValue<'de> {
 }
 
 /// Written as it stands, in one push.
-///
-/// # Errors
-///
-/// `Write`: the writer failed. An atomic writer then holds what it held before.
 impl Encode for RawValue<'_> {
     ghost bytes = { raw_content };
 

@@ -9,10 +9,8 @@ use crate::raw::RawValue;
 use cbor4ii_items::initial::{argument, if_major, low};
 use cbor4ii_rw::slice_reader::SliceReader;
 
-/// A head, and the bytes after it.
 #[derive(Clone, Copy)]
 pub(crate) struct Head<'de> {
-    /// The major type.
     pub(crate) major: u8,
     /// The argument; none of an indefinite length and of a break.
     pub(crate) argument: Option<u64>,
@@ -31,7 +29,7 @@ pub(crate) fn split_head<'de>(bytes: &'de [u8]) -> Option<Head<'de>>
     Some(head_from(*first, trailing))
 }
 
-/// The head of this first byte, whose argument is in the bytes after it, and what follows it.
+/// As `split_head`, of a first byte that stands apart.
 #[inline(always)]
 fn head_from<'de>(first: u8, trailing: &'de [u8]) -> Head<'de>
     ensures head { SplitsHeads (first ∷ trailing.now) (Some result) }
@@ -53,7 +51,7 @@ fn head_from<'de>(first: u8, trailing: &'de [u8]) -> Head<'de>
 }
 
 /// The item at the beginning of the bytes, and what follows it. It is skipped under as many steps
-/// as there are bytes, so that no item is too deep: what is kept was skipped before.
+/// as there are bytes, so that none is too deep: what is kept was skipped before.
 pub(crate) fn split_item<'de>(input: &'de [u8]) -> Option<(RawValue<'de>, &'de [u8])>
     ensures splits { (t : Tree) (rest : List ℕ) → Loose t → input.now ≡ bytes t ++ rest →
         IsSplitItem t rest result }

@@ -54,8 +54,7 @@ fn strip<'a>(text: &'a [u8], front: &[u8]) -> Option<&'a [u8]>
     if begin == front { Some(back) } else { None }
 }
 
-/// The content of the text with a length at the beginning of the bytes, and what follows it. None
-/// where no such text stands there.
+/// The content of the text with a length at the beginning of the bytes, and what follows it.
 fn split_chunk<'a>(input: &'a [u8]) -> Option<(&'a [u8], &'a [u8])>
     ensures item { (t : Tree) (rest : List ℕ) → Loose t → input.now ≡ bytes t ++ rest →
         IsChunkSplit t rest result }

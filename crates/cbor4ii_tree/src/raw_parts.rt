@@ -26,7 +26,6 @@ use crate::raw_head::{split_head, split_item};
 use crate::raw_key::{means_integer, means_text};
 use cbor4ii_items::major;
 
-/// The parts of an array or a map that are still to come.
 #[derive(Clone, Copy, Debug)]
 struct Parts<'de> {
     /// How many; none of an indefinite length, whose parts end at a break.
@@ -141,7 +140,6 @@ impl<'de> RawValue<'de> {
     }
 }
 
-/// The value of the first pair whose key is this text.
 fn find_by_text<'de>(pairs: RawPairs<'de>, key: &[u8]) -> Option<RawValue<'de>>
     ensures { (ps : Pairs) → PairsToCome ps pairs.entry →
         Agrees KeepsItem (first_value (means_text key.now) ps) result }
@@ -155,7 +153,6 @@ fn find_by_text<'de>(pairs: RawPairs<'de>, key: &[u8]) -> Option<RawValue<'de>>
     None
 }
 
-/// The value of the first pair whose key is this integer.
 fn find_by_integer<'de>(pairs: RawPairs<'de>, key: i128) -> Option<RawValue<'de>>
     ensures { (ps : Pairs) → PairsToCome ps pairs.entry →
         Agrees KeepsItem (first_value (means_integer key) ps) result }
@@ -169,7 +166,7 @@ fn find_by_integer<'de>(pairs: RawPairs<'de>, key: i128) -> Option<RawValue<'de>
     None
 }
 
-/// The item at this place of those to come, the first at 0.
+/// The first is at 0.
 fn find_by_place<'de>(items: RawItems<'de>, index: usize) -> Option<RawValue<'de>>
     ensures { (ts : Trees) → ItemsToCome ts items.entry →
         Agrees KeepsItem (indexed_tree index ts) result }
@@ -181,7 +178,7 @@ fn find_by_place<'de>(items: RawItems<'de>, index: usize) -> Option<RawValue<'de
     rest.next()
 }
 
-/// The parts of the item, where it is of this major type: an array or a map.
+/// An array or a map, by its major type.
 fn parts_of<'de>(item: &'de [u8], major: u8) -> Option<Parts<'de>>
     ensures items { (t : Tree) → Loose t → item.now ≡ bytes t → major ≡ 4 →
         Agrees (λ ts parts. AreToCome parts (count ts) (bytes_all ts)) (array_trees t) result }

@@ -24,7 +24,7 @@ pub(crate) enum RunSeen {
     Before(Next, usize),
     /// None: the value that comes next is not decided here.
     Begins(Next),
-    /// Values, and one for which there was no memory, when so many bytes were decided.
+    /// Values, and then one for which there was no memory, in so many bytes.
     NoMemory(usize),
     /// No byte.
     End,
@@ -32,13 +32,11 @@ pub(crate) enum RunSeen {
 
 /// What values are put after: the items of an array, or the pairs of a map.
 pub(crate) trait Parts {
-    // The values in order, of a pair the key first.
     ghost flat: { Self → List Value };
 
     // How many values a part has.
     ghost width: { ℕ };
 
-    /// Whether there are fewer than so many whole parts.
     fn lacks(&self, most: usize) -> bool
         ensures less { result ≡ true → length (flat self.now) < width * most }
         ensures full { result ≡ false → width * most ≤ length (flat self.now) };
@@ -48,7 +46,6 @@ pub(crate) trait Parts {
         ensures { OnSome result (flat self.new ≡ flat self.old ++ value ∷ []) };
 }
 
-/// Items: a part is a value.
 impl Parts for Vec<Value> {
     ghost flat = { λ v. v.items };
 
@@ -72,7 +69,6 @@ pub(crate) struct Pairs {
     pub(crate) key: Option<Value>,
 }
 
-/// Pairs: a part is a key, and the value after it.
 impl Parts for Pairs {
     ghost flat = { pair_values };
 
@@ -94,7 +90,6 @@ impl Parts for Pairs {
     }
 }
 
-/// Puts a part after those that there are. None where memory is refused.
 #[inline(always)]
 fn push<T: Drop>(parts: &mut Vec<T>, part: T) -> Option<()>
     ensures { OnSome result (parts.new.items ≡ parts.old.items ++ part ∷ []) }
@@ -102,7 +97,6 @@ fn push<T: Drop>(parts: &mut Vec<T>, part: T) -> Option<()>
     parts.push(part).ok()
 }
 
-/// Puts a value after those that there are. Where memory is refused, `failure` is left empty.
 #[inline(always)]
 pub(crate) fn put_value<P: Parts, E: Drop>(
     parts: &mut P,
@@ -121,11 +115,10 @@ pub(crate) fn put_value<P: Parts, E: Drop>(
     }
 }
 
-/// Takes the values that come next, as long as they hold no other and one look shows them whole,
-/// and puts them after `parts`, up to `most` whole parts, of which one at least is missing. It
-/// answers what the look has shown of a value that it leaves undecided. The values are in an
-/// encoding that is read. Where the look shows no byte, the missing value is rejected. An error is
-/// left in `failure`.
+/// Takes the values that come next, as long as they hold no other and one look shows them whole, in
+/// an encoding that is read. It puts them after `parts`, up to `most` whole parts, of which one at
+/// least is missing, and answers what the look has shown of a value that it leaves undecided. Where
+/// the look shows no byte, the missing value is rejected.
 #[inline(always)]
 pub(crate) fn take_run<S: Source, A: Encodings, P: Parts>(
     alloc: Global,
@@ -164,8 +157,7 @@ pub(crate) fn take_run<S: Source, A: Encodings, P: Parts>(
     }
 }
 
-/// Puts the values that one look shows after `parts`, at as many bytes as the reader lets a look
-/// ask for.
+/// As many bytes are looked at as the reader lets a look ask for.
 #[inline(always)]
 fn glance_run<S: Source, A: Encodings, P: Parts>(
     alloc: Global,
@@ -187,7 +179,6 @@ fn glance_run<S: Source, A: Encodings, P: Parts>(
     }
 }
 
-/// Puts the values at the beginning of the shown bytes after `parts`.
 #[inline(always)]
 fn run_of<A: Encodings, P: Parts>(
     alloc: Global,
@@ -208,8 +199,8 @@ fn run_of<A: Encodings, P: Parts>(
     }
 }
 
-/// Puts the values at the beginning of the shown bytes, of which there is one, after `parts`. It
-/// stays out of line, so that each level of arrays and maps takes little stack.
+/// One value stands there at least. It stays out of line, so that each level of arrays and maps
+/// takes little stack.
 #[inline(never)]
 fn put_run<A: Encodings, P: Parts>(
     alloc: Global,

@@ -14,7 +14,6 @@ use cbor4ii_rw::error::DecodeError;
 use cbor4ii_rw::read::Source;
 use std::alloc::Global;
 
-/// The simple value that this byte is.
 #[inline(always)]
 pub(crate) fn simple_of(first: u8) -> Option<Value>
     ensures { SimpleOf first result }
@@ -28,8 +27,8 @@ pub(crate) fn simple_of(first: u8) -> Option<Value>
     }
 }
 
-/// Reads a float, whose first byte is shown. Each width is encoded in one way, so a float is read
-/// alike where encodings are free and where they are canonical.
+/// Each width is encoded in one way, so a float is read alike where encodings are free and where
+/// they are canonical.
 pub(crate) fn read_float<S: Source>(
     alloc: Global,
     reader: &mut S,

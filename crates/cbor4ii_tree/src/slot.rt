@@ -10,7 +10,6 @@ ghost use Rattle.cbor4ii_tree.specs.Inner.Does.{value_or_error, error_left};
 
 use cbor4ii_rw::error::{DecodeError, Len, StaticStr};
 
-/// The answer without its error, which goes to `failure`.
 #[inline(always)]
 pub(crate) fn part<T, E: Drop>(
     answer: Result<T, DecodeError<E>>,
@@ -27,7 +26,6 @@ pub(crate) fn part<T, E: Drop>(
     }
 }
 
-/// The error goes to `failure`.
 #[cold]
 #[inline(never)]
 pub(crate) fn leave<E: Drop>(error: E, failure: &mut Option<E>)
@@ -36,7 +34,6 @@ pub(crate) fn leave<E: Drop>(error: E, failure: &mut Option<E>)
     *failure = Some(error);
 }
 
-/// That no step is left, by this name, goes to `failure`.
 #[cold]
 #[inline(never)]
 pub(crate) fn leave_deep<E: Drop>(name: StaticStr, failure: &mut Option<DecodeError<E>>)
@@ -45,7 +42,6 @@ pub(crate) fn leave_deep<E: Drop>(name: StaticStr, failure: &mut Option<DecodeEr
     *failure = Some(DecodeError::DepthOverflow { name });
 }
 
-/// That no byte is left where a value should begin, by this name, goes to `failure`.
 #[cold]
 #[inline(never)]
 pub(crate) fn leave_end<E: Drop>(name: StaticStr, failure: &mut Option<DecodeError<E>>)
@@ -57,7 +53,6 @@ pub(crate) fn leave_end<E: Drop>(name: StaticStr, failure: &mut Option<DecodeErr
     });
 }
 
-/// That an item is not canonical, by this name, goes to `failure`.
 #[cold]
 #[inline(never)]
 pub(crate) fn leave_not_canonical<E: Drop>(name: StaticStr, failure: &mut Option<DecodeError<E>>)
@@ -66,7 +61,7 @@ pub(crate) fn leave_not_canonical<E: Drop>(name: StaticStr, failure: &mut Option
     *failure = Some(DecodeError::NotCanonical { name });
 }
 
-/// The value, or the error that was left. An empty slot stands for refused memory.
+/// An empty slot stands for refused memory.
 #[inline(always)]
 pub(crate) fn whole<T: Drop, E: Drop>(
     value: Option<T>,
@@ -80,7 +75,7 @@ pub(crate) fn whole<T: Drop, E: Drop>(
     }
 }
 
-/// The error that was left. It stays out of line, so that a value costs no look at the slot.
+/// It stays out of line, so that a value costs no look at the slot.
 #[cold]
 #[inline(never)]
 fn err<E: Drop>(failure: &mut Option<DecodeError<E>>) -> DecodeError<E>
@@ -92,7 +87,7 @@ fn err<E: Drop>(failure: &mut Option<DecodeError<E>>) -> DecodeError<E>
     }
 }
 
-/// Puts an item after those that are there. Where memory is refused, `failure` is left empty.
+/// Where memory is refused, `failure` is left empty.
 #[inline(always)]
 pub(crate) fn keep<T: Drop, E: Drop>(
     items: &mut Vec<T>,

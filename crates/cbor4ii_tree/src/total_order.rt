@@ -23,7 +23,6 @@ pub(crate) fn total_cmp(a: &Value, b: &Value) -> Ordering
     }
 }
 
-/// How what stands in two values of one kind compares.
 #[cycle(total)]
 fn cmp_inside(a: &Value, b: &Value) -> Ordering
     requires { parts_of (view a.now) ≡ parts_of (view b.now) }
@@ -42,7 +41,6 @@ fn cmp_inside(a: &Value, b: &Value) -> Ordering
     }
 }
 
-/// How as many elements compare, one after another.
 #[cycle(total)]
 fn cmp_items(a: &[Value], b: &[Value]) -> Ordering
     requires { length a.now ≡ length b.now }
@@ -58,7 +56,6 @@ fn cmp_items(a: &[Value], b: &[Value]) -> Ordering
     Ordering::Equal
 }
 
-/// How as many keys and values compare.
 #[cycle(total)]
 fn cmp_pairs(a: &[(Value, Value)], b: &[(Value, Value)]) -> Ordering
     requires { length a.now ≡ length b.now }

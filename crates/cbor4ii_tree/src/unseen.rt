@@ -21,7 +21,6 @@ use cbor4ii_rw::ask::content_part;
 use cbor4ii_rw::error::{DecodeError, Len, StaticStr};
 use cbor4ii_rw::read::Source;
 
-/// Takes a break where one may come.
 pub(crate) fn ends<S: Source, F: BytesAhead<S>>(
     prefix: &mut F,
     reader: &mut S,
@@ -44,7 +43,7 @@ pub(crate) fn ends<S: Source, F: BytesAhead<S>>(
     Ok(true)
 }
 
-/// Takes the head of an item, with a number's bytes or a float's, byte by byte.
+/// Takes the head, with a number's bytes or a float's, byte by byte.
 pub(crate) fn skip_head<S: Source, F: BytesAhead<S>>(
     prefix: &mut F,
     reader: &mut S,
@@ -87,7 +86,6 @@ fn take_first<S: Source, F: BytesAhead<S>>(prefix: &mut F, reader: &mut S, start
     }
 }
 
-/// The error of a first byte with which no item begins.
 fn rejection<E>(start: Start, first: u8) -> Option<DecodeError<E>>
     ensures { SaysError (rejection_of start first) result }
 {
@@ -118,7 +116,6 @@ fn head_name(start: Start) -> StaticStr
     }
 }
 
-/// What is left of an item after its head, by its argument.
 fn trailing(start: Start, argument: u64) -> After
     ensures { result ≡ trailing_of start argument }
 {
@@ -153,7 +150,6 @@ fn argument<S: Source, F: BytesAhead<S>>(
     }
 }
 
-/// So many bytes, most significant first.
 fn number<S: Source, F: BytesAhead<S>>(
     prefix: &mut F,
     reader: &mut S,
@@ -174,7 +170,7 @@ fn number<S: Source, F: BytesAhead<S>>(
     Ok(value)
 }
 
-/// The next byte, taken. Where there is none, `expect` bytes were expected.
+/// The next byte, taken. `expect` goes into the error at the end.
 fn take_byte<S: Source, F: BytesAhead<S>>(
     prefix: &mut F,
     reader: &mut S,
@@ -192,7 +188,7 @@ fn take_byte<S: Source, F: BytesAhead<S>>(
     Ok(byte)
 }
 
-/// The next byte, which stays. Where there is none, `expect` bytes were expected.
+/// The next byte, which stays. `expect` goes into the error at the end.
 fn peek<S: Source, F: BytesAhead<S>>(
     prefix: &mut F,
     reader: &mut S,
@@ -215,7 +211,6 @@ fn peek<S: Source, F: BytesAhead<S>>(
     }
 }
 
-/// Takes so many bytes.
 pub(crate) fn skip_bytes<S: Source, F: BytesAhead<S>>(
     prefix: &mut F,
     reader: &mut S,
@@ -233,8 +228,7 @@ pub(crate) fn skip_bytes<S: Source, F: BytesAhead<S>>(
     Ok(())
 }
 
-/// Takes the bytes that are shown, at most so many. A reader that may wait for what is wanted is
-/// asked for a part of them at a time.
+/// A reader that may wait for what is wanted is asked for a part of the bytes at a time.
 fn skip_shown<S: Source, F: BytesAhead<S>>(
     prefix: &mut F,
     reader: &mut S,

@@ -6,18 +6,15 @@ ghost use Rattle.cbor4ii_tree.specs.Inner.Skipping.{additional_of, start_of, ite
 
 use cbor4ii_items::{major, marker};
 
-/// The additional information of a first byte.
 #[derive(Clone, Copy)]
 pub(crate) enum Additional {
     /// The argument follows in so many bytes.
     Wide(u8),
-    /// An indefinite length.
     Indefinite,
     /// 28 to 30.
     Reserved,
 }
 
-/// What begins with a first byte.
 #[derive(Clone, Copy)]
 pub(crate) enum Start {
     /// So many bytes follow.
@@ -44,7 +41,6 @@ pub(crate) enum Start {
     Unsupported,
 }
 
-/// What is left of an item after its head.
 #[derive(Clone, Copy)]
 pub(crate) enum After {
     Nothing,
@@ -60,7 +56,6 @@ pub(crate) enum After {
     PairsToBreak,
 }
 
-/// What begins with this first byte.
 #[inline(always)]
 #[tactic(auto, unfolding(cbor4ii_items::specs::Initial::initial))]
 pub(crate) fn start_of(first: u8) -> Start
@@ -104,7 +99,7 @@ pub(crate) fn start_of(first: u8) -> Start
     }
 }
 
-/// What is left of a map of so many pairs: their keys and values in turn.
+/// Their keys and values in turn.
 #[inline(always)]
 pub(crate) fn pairs_of(count: u64) -> After
     ensures { result ≡ items_of_pairs count }
@@ -115,7 +110,6 @@ pub(crate) fn pairs_of(count: u64) -> After
     After::Twice(count)
 }
 
-/// What an additional information says.
 #[inline(always)]
 pub(crate) fn parse_info(info: u8) -> Additional
     ensures { result ≡ additional_of (info_of info) }

@@ -34,7 +34,6 @@ pub(crate) enum Went {
     Into(u64),
 }
 
-/// Skips one item.
 pub(crate) fn skip_item<S: Source, F: BytesAhead<S>>(
     prefix: &mut F,
     reader: &mut S,
@@ -54,8 +53,8 @@ pub(crate) fn skip_item<S: Source, F: BytesAhead<S>>(
     }
 }
 
-/// Skips an item, or a run of them, and answers how many; or takes a break, and answers 0. Where it
-/// does neither, the error goes to `failure`: no large answer is handed up from level to level.
+/// Skips an item, or a run of them, and answers how many; or takes a break, and answers 0. An error
+/// goes to `failure`: no large answer is handed up from level to level.
 #[cycle(skip)]
 #[inline(always)]
 fn skip_some<S: Source, F: BytesAhead<S>>(
@@ -77,7 +76,7 @@ fn skip_some<S: Source, F: BytesAhead<S>>(
     outcome
 }
 
-/// Skips an item or a run of them, or takes a break, where the step was taken.
+/// As `skip_some`, where the step was taken.
 #[cycle(skip)]
 #[inline(always)]
 fn some_inside<S: Source, F: BytesAhead<S>>(
@@ -104,7 +103,7 @@ fn some_inside<S: Source, F: BytesAhead<S>>(
     }
 }
 
-/// Skips an item or a run, or takes a break. Of a counted container or a tag it takes the head.
+/// As `some_inside`, but of a counted container or a tag it takes the head alone.
 #[cycle(skip)]
 #[inline(always)]
 fn go_some<S: Source, F: BytesAhead<S>>(
@@ -137,7 +136,6 @@ fn go_some<S: Source, F: BytesAhead<S>>(
     }
 }
 
-/// Skips what is left of an item after its head.
 #[cycle(skip)]
 #[inline(always)]
 fn skip_after<S: Source, F: BytesAhead<S>>(
@@ -160,7 +158,6 @@ fn skip_after<S: Source, F: BytesAhead<S>>(
     }
 }
 
-/// Skips so many items.
 #[cycle(skip)]
 fn skip_items<S: Source, F: BytesAhead<S>>(
     prefix: &mut F,
@@ -177,8 +174,8 @@ fn skip_items<S: Source, F: BytesAhead<S>>(
     done
 }
 
-/// Skips so many items. Where the last of them holds items in turn, it goes on with these in its
-/// place, and keeps the step; it answers how many steps it kept.
+/// Where the last of the items holds items in turn, it goes on with these in its place, and keeps
+/// the step; it answers how many steps it kept.
 #[cycle(skip)]
 #[inline(always)]
 fn skip_inward<S: Source, F: BytesAhead<S>>(
@@ -206,8 +203,8 @@ fn skip_inward<S: Source, F: BytesAhead<S>>(
 }
 
 /// Skips some of so many items, and answers how many are left then. Of the last, where it holds a
-/// count of items or is a tag, takes the head alone and answers that count; its step is kept, and
-/// counted in `depth`.
+/// count of items or is a tag, it takes the head alone, and answers that count. Its step is kept,
+/// and counted in `depth`.
 #[cycle(skip)]
 #[inline(always)]
 fn skip_next<S: Source, F: BytesAhead<S>>(
@@ -251,7 +248,6 @@ fn skip_next<S: Source, F: BytesAhead<S>>(
     }
 }
 
-/// Skips twice so many items.
 #[cycle(skip)]
 #[cold]
 #[inline(never)]
@@ -271,7 +267,6 @@ fn skip_twice<S: Source, F: BytesAhead<S>>(
     skip_items(prefix, reader, count, failure)
 }
 
-/// Skips items up to a break.
 #[cycle(skip)]
 fn skip_indefinite<S: Source, F: BytesAhead<S>>(
     prefix: &mut F,
@@ -318,7 +313,7 @@ fn skip_indefinite_pairs<S: Source, F: BytesAhead<S>>(
     }
 }
 
-/// Skips one item byte by byte, or takes a break where one may come; the step was taken.
+/// Goes byte by byte, or takes a break where one may come; the step was taken.
 #[cycle(skip)]
 #[cold]
 #[inline(never)]
@@ -346,7 +341,7 @@ fn skip_unseen<S: Source, F: BytesAhead<S>>(
     None
 }
 
-/// Skips one item byte by byte; the step was taken.
+/// Goes byte by byte; the step was taken.
 #[cycle(skip)]
 fn skip_inside<S: Source, F: BytesAhead<S>>(
     prefix: &mut F,

@@ -46,7 +46,6 @@ pub(crate) fn take_ahead<S: Source, F: BytesAhead<S>>(
     }
 }
 
-/// Skips so many bytes.
 #[inline(never)]
 pub(crate) fn skip_content<S: Source, F: BytesAhead<S>>(
     prefix: &mut F,

@@ -45,7 +45,6 @@ pub(crate) fn skip_without_step<S: Source, F: BytesAhead<S>>(
     None
 }
 
-/// Gives so many steps back.
 #[inline(always)]
 pub(crate) fn give_back<S: Source>(reader: &mut S, depth: u64)
     ensures budget { (outer : Budget) → Deeper depth outer (S.view reader.old).budget →
