@@ -112,20 +112,13 @@ impl<'de, R: Read<'de>> Lend<R> for Bytes<&'de [u8]> {
 }
 
 /// A byte string, of definite length, as it stands in the input, with no copy (RFC 8949 section
-/// 3.1). It is read only where one fill lends all of its bytes as long as the input lives. No step
-/// is taken and no memory. It is the input's own part: what is left begins right after it, where
-/// the reader reports the place of its end.
+/// 3.1). It is read as a `&str` is. It is the input's own part: what is left begins right after it,
+/// where the reader reports the place of its end.
 ///
 /// # Errors
 ///
-/// `Read` is described at `Decode::decode`. The others come in this order, by "bytes":
-///
-/// - `Eof` with 1: no byte is left
-/// - `Eof` with k: the argument of the head has k bytes and fewer are left. Nothing is left then
-/// - `Mismatch` with the first byte, which is taken: it begins no byte string of definite length
-/// - `RequireBorrowed`: the bytes do not live as long as the input. What follows the head is left
-/// - `RequireLength` with the number of bytes that are lent: these are fewer than the length. What
-///   follows the head is left
+/// Those of a `&str`, by "bytes", at a byte string in the place of a text string, without
+/// `RequireUtf8`.
 impl<'de, R: Read<'de>> Decode<R> for Bytes<&'de [u8]> {
     fn decode(alloc: Global, reader: &mut R) -> Result<Bytes<&'de [u8]>, DecodeError<R::Error>>
         ensures place { IfOk result (λ v. IsOfInput v.0 (R.view reader.old) (R.view reader.new)) }
@@ -176,11 +169,12 @@ impl<'de, R: Read<'de>> Lend<R> for UncheckedStr<&'de [u8]> {
 }
 
 /// A text string, whatever its bytes, of definite length, as it stands in the input, with no copy
-/// (RFC 8949 section 3.1). It is read, and is the input's own part, as a `Bytes<&[u8]>` is.
+/// (RFC 8949 section 3.1). It is read as a `&str` is, and is the input's own part, as a
+/// `Bytes<&[u8]>` is.
 ///
 /// # Errors
 ///
-/// Those of a `Bytes<&[u8]>`, by "str", at a text string in the place of a byte string.
+/// Those of a `&str`, without `RequireUtf8`.
 impl<'de, R: Read<'de>> Decode<R> for UncheckedStr<&'de [u8]> {
     fn decode(
         alloc: Global,
