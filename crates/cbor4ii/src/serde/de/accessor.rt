@@ -40,8 +40,8 @@ pub enum Left {
 }
 
 /// The parts of an array or a map, which are read one by one. It holds a step of the budget, and
-/// two where it was made from a variant, and gives back what it holds when it is dropped, whether
-/// or not all parts were read. Parts that were not read stay.
+/// two where it was made from a variant. When it is dropped it gives them back, and parts that were
+/// not read stay.
 pub struct Accessor<'a, S: Source> {
     pub(crate) de: &'a mut Deserializer<S>,
     pub(crate) left: Left,
@@ -49,7 +49,6 @@ pub struct Accessor<'a, S: Source> {
     pub(crate) nested: bool,
 }
 
-/// The steps that it holds are given back, and nothing else moves: parts that were not read stay.
 impl<'a, S: Source> Drop for Accessor<'a, S> {
     fn drop(self)
         ensures { Closes (steps_held self.entry)

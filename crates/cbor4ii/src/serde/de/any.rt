@@ -58,11 +58,7 @@ impl Typed for Value {
     ghost promise = { typed_any };
 }
 
-/// Any item but a tag, read by `Deserializer::deserialize_any`.
-///
-/// # Errors
-///
-/// Those of `Deserializer::deserialize_any`.
+/// Any item but a tag, read by `Deserializer::deserialize_any`, with its errors.
 impl<S: Source> Deserialize<S> for Value {
     fn deserialize(
         alloc: Global,
@@ -72,7 +68,6 @@ impl<S: Source> Deserialize<S> for Value {
     }
 }
 
-/// Reads one value.
 #[cycle(any)]
 fn read_any<S: Source>(
     alloc: Global,
@@ -119,7 +114,6 @@ fn any_inside<S: Source>(
     }
 }
 
-/// Reads an array's values, under one step.
 #[cycle(any)]
 fn any_array<S: Source>(
     alloc: Global,
@@ -185,7 +179,6 @@ fn indefinite_values<S: Source>(
     Ok(values)
 }
 
-/// Reads a value, after those that `values` holds.
 #[cycle(any)]
 fn add_value<S: Source>(
     alloc: Global,
@@ -202,7 +195,6 @@ fn add_value<S: Source>(
     Ok(())
 }
 
-/// Reads a map's pairs, under one step.
 #[cycle(any)]
 fn any_map<S: Source>(
     alloc: Global,
@@ -268,7 +260,6 @@ fn indefinite_pairs<S: Source>(
     Ok(pairs)
 }
 
-/// Reads a pair, after those that `pairs` holds.
 #[cycle(any)]
 fn add_pair<S: Source>(
     alloc: Global,
@@ -285,7 +276,7 @@ fn add_pair<S: Source>(
     Ok(())
 }
 
-/// Reads a key, and the value after it. No break is looked for between the two.
+/// No break is looked for between a key and its value.
 #[cycle(any)]
 fn read_pair<S: Source>(
     alloc: Global,
@@ -301,7 +292,6 @@ fn read_pair<S: Source>(
     }
 }
 
-/// Puts an item after those that are there, if there is memory for it.
 fn keep<T: Drop>(items: &mut Vec<T>, item: T) -> bool
     ensures { IsTrue result → items.new.items ≡ items.old.items ++ item ∷ [] }
 {

@@ -17,34 +17,26 @@ use cbor4ii_rw::read::Source;
 use cbor4ii_tree::{FloatBits, Value};
 use std::alloc::Global;
 
-/// What the first byte of an item begins.
 #[derive(Clone, Copy)]
 pub(crate) enum AnyKind {
     /// An item that holds no other.
     Leaf(AnyLeaf),
-    /// An array.
     Array,
-    /// A map.
     Map,
     /// No item that is read as a value: a tag other than a bignum's, or none of the simple values
     /// and floats.
     Other,
 }
 
-/// Items that hold no other.
 #[derive(Clone, Copy)]
 pub(crate) enum AnyLeaf {
     /// A number, or a negative bignum.
     Integer,
     /// A bignum from 0 on.
     Bignum,
-    /// A byte string.
     Bytes,
-    /// A text.
     Text,
-    /// False or true.
     Bool,
-    /// Null or undefined.
     Null,
     /// A float of two bytes.
     F16,
@@ -54,7 +46,6 @@ pub(crate) enum AnyLeaf {
     F64,
 }
 
-/// What this first byte begins.
 pub(crate) fn kind_of(first: u8) -> AnyKind
     ensures { result ≡ kind first }
 {
@@ -69,7 +60,7 @@ pub(crate) fn kind_of(first: u8) -> AnyKind
     }
 }
 
-/// What this first byte of a tag begins: a bignum, or nothing that is read.
+/// A bignum, or nothing that is read.
 fn tag_kind_of(first: u8) -> AnyKind
     ensures { result ≡ tag_kind first }
 {
@@ -80,7 +71,6 @@ fn tag_kind_of(first: u8) -> AnyKind
     }
 }
 
-/// What this first byte of major type 7 begins.
 fn simple_kind_of(first: u8) -> AnyKind
     ensures { result ≡ simple_kind first }
 {
@@ -94,11 +84,9 @@ fn simple_kind_of(first: u8) -> AnyKind
     }
 }
 
-/// What is read from an item that holds no other.
 trait AsValue: Sized {
     ghost form: { Self → AnyValue };
 
-    /// The value that it is.
     fn as_value(self) -> Value
         ensures { result ≡ form self };
 }
@@ -168,7 +156,6 @@ impl AsValue for F64 {
     }
 }
 
-/// Reads an item that holds no other.
 pub(crate) fn take_leaf<S: Source>(
     alloc: Global,
     de: &mut Deserializer<S>,
@@ -190,7 +177,6 @@ pub(crate) fn take_leaf<S: Source>(
     }
 }
 
-/// Reads one item of the codec, as a value.
 fn take_as<S: Source, T: Decode<S> + AsValue>(
     alloc: Global,
     de: &mut Deserializer<S>,
@@ -204,7 +190,7 @@ fn take_as<S: Source, T: Decode<S> + AsValue>(
     }
 }
 
-/// Reads a bignum from 0 on, if it is an i128.
+/// It is rejected where it is no i128.
 fn take_bignum<S: Source>(
     alloc: Global,
     de: &mut Deserializer<S>,

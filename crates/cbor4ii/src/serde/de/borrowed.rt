@@ -32,9 +32,8 @@ impl<'de> Typed for &'de str {
 ///
 /// # Errors
 ///
-/// - those of `CowStr`
-/// - `Core` of `RequireBorrowed` by "str": the text was copied, since its length is indefinite or
-///   the reader does not lend it. It was taken then
+/// Those of `CowStr`, and `Core` of `RequireBorrowed` by "str": the text was copied, since its
+/// length is indefinite or the reader does not lend it. It was taken then.
 impl<'de> Deserialize<SliceReader<'de>> for &'de str {
     fn deserialize(
         alloc: Global,
@@ -45,12 +44,8 @@ impl<'de> Deserialize<SliceReader<'de>> for &'de str {
     }
 }
 
-/// A text of definite length that stands in one segment, with no copy.
-///
-/// # Errors
-///
-/// Those over a slice. A text of which no segment holds the whole content was copied too, and so is
-/// `RequireBorrowed`.
+/// A text of definite length that stands in one segment, with no copy. Its errors are those over a
+/// slice. A text of which no segment holds the whole content was copied too.
 impl<'de> Deserialize<SegmentReader<'de>> for &'de str {
     fn deserialize(
         alloc: Global,
@@ -61,12 +56,8 @@ impl<'de> Deserialize<SegmentReader<'de>> for &'de str {
     }
 }
 
-/// A stream lends nothing, so no text is read.
-///
-/// # Errors
-///
-/// One comes always: those over a slice, or `Core` of `Read` where the stream failed. Every whole
-/// text was copied, and so is `RequireBorrowed`.
+/// A stream lends nothing, so no text is read. An error comes always: those over a slice, or `Core`
+/// of `Read` where the stream failed. Every whole text was copied, and so is `RequireBorrowed`.
 impl<'de, R: BufRead + Drop> Deserialize<IoReader<R>> for &'de str {
     fn deserialize(
         alloc: Global,
@@ -82,7 +73,6 @@ impl<'de, R: BufRead + Drop> Deserialize<IoReader<R>> for &'de str {
     }
 }
 
-/// The text, where it was borrowed.
 fn lent_text<'de, E>(
     found: Result<CowStr<'de, Global>, core_error::DecodeError<E>>,
 ) -> Result<&'de str, DecodeError<E>>
@@ -106,9 +96,7 @@ impl<'de> Typed for Bytes<&'de [u8]> {
 ///
 /// # Errors
 ///
-/// - those of `Bytes<CowSlice<u8>>`
-/// - `Core` of `RequireBorrowed` by "bytes": the byte string was copied, since its length is
-///   indefinite or the reader does not lend it. It was taken then
+/// Those of a `&str`, by "bytes", at a byte string in the place of a text, without `RequireUtf8`.
 impl<'de> Deserialize<SliceReader<'de>> for Bytes<&'de [u8]> {
     fn deserialize(
         alloc: Global,
@@ -124,12 +112,7 @@ impl<'de> Deserialize<SliceReader<'de>> for Bytes<&'de [u8]> {
     }
 }
 
-/// A byte string of definite length that stands in one segment, with no copy.
-///
-/// # Errors
-///
-/// Those over a slice. A byte string of which no segment holds the whole content was copied too,
-/// and so is `RequireBorrowed`.
+/// A byte string of definite length that stands in one segment, as a `&str` over segments.
 impl<'de> Deserialize<SegmentReader<'de>> for Bytes<&'de [u8]> {
     fn deserialize(
         alloc: Global,
@@ -140,12 +123,7 @@ impl<'de> Deserialize<SegmentReader<'de>> for Bytes<&'de [u8]> {
     }
 }
 
-/// A stream lends nothing, so no byte string is read.
-///
-/// # Errors
-///
-/// One comes always: those over a slice, or `Core` of `Read` where the stream failed. Every whole
-/// byte string was copied, and so is `RequireBorrowed`.
+/// A stream lends nothing, so no byte string is read, as no `&str` is.
 impl<'de, R: BufRead + Drop> Deserialize<IoReader<R>> for Bytes<&'de [u8]> {
     fn deserialize(
         alloc: Global,
@@ -161,7 +139,6 @@ impl<'de, R: BufRead + Drop> Deserialize<IoReader<R>> for Bytes<&'de [u8]> {
     }
 }
 
-/// The bytes, where they were borrowed.
 fn lent_slice<'de, E>(
     found: Result<Bytes<CowSlice<'de, u8, Global>>, core_error::DecodeError<E>>,
 ) -> Result<Bytes<&'de [u8]>, DecodeError<E>>

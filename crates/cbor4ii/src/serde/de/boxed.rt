@@ -16,12 +16,8 @@ impl<T: Typed> Typed for Box<T> {
     ghost promise = { typed_box T.promise };
 }
 
-/// A box is read as what is in it.
-///
-/// # Errors
-///
-/// Those of what is in it, which leave what they leave. `Core` of `OutOfMemory` comes too where
-/// there is no memory for the box; the value was taken then.
+/// A box is read as what is in it, with its errors. `Core` of `OutOfMemory` comes too where there
+/// is no memory for the box; the value was taken then.
 impl<S: Source, T: Deserialize<S> + Drop> Deserialize<S> for Box<T> {
     #[inline(always)]
     fn deserialize(alloc: Global, de: &mut Deserializer<S>) -> Result<Box<T>, DecodeError<S::Error>>

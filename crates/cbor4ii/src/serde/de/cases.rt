@@ -154,7 +154,6 @@ impl<S: Source> Cases<S, Never> for Otherwise {
     }
 }
 
-/// A variant, and those after it.
 impl<S: Source, A: Drop, B: Drop, C: Case<S, A>, D: Cases<S, B>> Cases<S, Choice<A, B>> for (C, D) {
     ghost cases = { λ cases. cases_by C.holding (D.cases cases.1) };
 
@@ -254,7 +253,6 @@ fn variant_inside<S: Source, R: Drop, C: Cases<S, R>>(
     }
 }
 
-/// A variant whose step was taken and whose form was seen.
 fn named_variant<S: Source, R: Drop, C: Cases<S, R>>(
     alloc: Global,
     de: &mut Deserializer<S>,

@@ -14,11 +14,7 @@ impl Typed for char {
     ghost promise = { typed_by RejectsChar true true char_laws };
 }
 
-/// A text of exactly one character, read by `Deserializer::deserialize_char`.
-///
-/// # Errors
-///
-/// Those of `Deserializer::deserialize_char`.
+/// A text of exactly one character, read by `Deserializer::deserialize_char`, with its errors.
 impl<S: Source> Deserialize<S> for char {
     fn deserialize(alloc: Global, de: &mut Deserializer<S>) -> Result<char, DecodeError<S::Error>> {
         de.deserialize_char(alloc)
@@ -48,7 +44,6 @@ impl<S: Source> Deserializer<S> {
     }
 }
 
-/// The character of a text that has exactly one.
 fn only_char(text: &str) -> Option<char>
     ensures one { IfSome result (λ only. text.now ≡ encode_utf8 only) }
     ensures other { IsNone result → NoCharacter text.now }

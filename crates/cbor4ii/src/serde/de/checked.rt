@@ -23,7 +23,6 @@ pub enum Unmade {
     OutOfMemory,
 }
 
-/// Where memory was asked for and refused.
 impl From<AllocError> for Unmade {
     ghost from_gives = { λ error unmade. unmade ≡ OutOfMemory };
 
@@ -32,7 +31,6 @@ impl From<AllocError> for Unmade {
     }
 }
 
-/// Where there was no memory for a box.
 impl<T: Drop> From<AllocFailed<T>> for Unmade {
     ghost from_gives = { λ error unmade. unmade ≡ OutOfMemory };
 

@@ -28,10 +28,7 @@ impl<'de> Typed for CowStr<'de, Global> {
 }
 
 /// A text: a slice of the input where its length is definite, a copy of its chunks where it is not.
-///
-/// # Errors
-///
-/// Those of `CowStr` as an item of the codec, each as `Core`.
+/// Its errors are those of `CowStr` as an item of the codec, each as `Core`.
 impl<'de> Deserialize<SliceReader<'de>> for CowStr<'de, Global> {
     fn deserialize(
         alloc: Global,
@@ -48,11 +45,7 @@ impl<'de> Deserialize<SliceReader<'de>> for CowStr<'de, Global> {
 }
 
 /// A slice of the input where the text has a definite length and stands in one segment, and a copy
-/// elsewhere.
-///
-/// # Errors
-///
-/// Those over a slice.
+/// elsewhere. Its errors are those over a slice.
 impl<'de> Deserialize<SegmentReader<'de>> for CowStr<'de, Global> {
     fn deserialize(
         alloc: Global,
@@ -68,11 +61,8 @@ impl<'de> Deserialize<SegmentReader<'de>> for CowStr<'de, Global> {
     }
 }
 
-/// Always a copy, since a stream lends nothing.
-///
-/// # Errors
-///
-/// Those over a slice, and `Core` of `Read` where the stream failed.
+/// Always a copy, since a stream lends nothing. Its errors are those over a slice, and `Core` of
+/// `Read` where the stream failed.
 impl<'de, R: BufRead + Drop> Deserialize<IoReader<R>> for CowStr<'de, Global> {
     fn deserialize(
         alloc: Global,
@@ -92,11 +82,7 @@ impl<'de> Typed for Bytes<CowSlice<'de, u8, Global>> {
 }
 
 /// A byte string: a slice of the input where its length is definite, a copy of its chunks where it
-/// is not.
-///
-/// # Errors
-///
-/// Those of `Bytes<CowSlice<u8>>` as an item of the codec, each as `Core`.
+/// is not. Its errors are those of `Bytes<CowSlice<u8>>` as an item of the codec, each as `Core`.
 impl<'de> Deserialize<SliceReader<'de>> for Bytes<CowSlice<'de, u8, Global>> {
     fn deserialize(
         alloc: Global,
@@ -114,11 +100,7 @@ impl<'de> Deserialize<SliceReader<'de>> for Bytes<CowSlice<'de, u8, Global>> {
 }
 
 /// A slice of the input where the string has a definite length and stands in one segment, and a
-/// copy elsewhere.
-///
-/// # Errors
-///
-/// Those over a slice.
+/// copy elsewhere. Its errors are those over a slice.
 impl<'de> Deserialize<SegmentReader<'de>> for Bytes<CowSlice<'de, u8, Global>> {
     fn deserialize(
         alloc: Global,
@@ -135,11 +117,8 @@ impl<'de> Deserialize<SegmentReader<'de>> for Bytes<CowSlice<'de, u8, Global>> {
     }
 }
 
-/// Always a copy, since a stream lends nothing.
-///
-/// # Errors
-///
-/// Those over a slice, and `Core` of `Read` where the stream failed.
+/// Always a copy, since a stream lends nothing. Its errors are those over a slice, and `Core` of
+/// `Read` where the stream failed.
 impl<'de, R: BufRead + Drop> Deserialize<IoReader<R>> for Bytes<CowSlice<'de, u8, Global>> {
     fn deserialize(
         alloc: Global,

@@ -68,7 +68,6 @@ impl<S: Source> Deserializer<S> {
     }
 }
 
-/// Reads one item of the codec.
 #[inline(always)]
 pub(crate) fn take_item<S: Source, T: Decode<S>>(
     alloc: Global,

@@ -25,7 +25,6 @@ pub trait TypedElements: Sized {
         ensures { IsTrue result ↔ (count ≡ Self.elements.count) };
 }
 
-/// No element.
 impl TypedElements for () {
     ghost elements = { no_element };
 
@@ -35,7 +34,6 @@ impl TypedElements for () {
     }
 }
 
-/// An element, and those after it.
 impl<A: Typed, B: TypedElements> TypedElements for (A, B) {
     ghost elements = { element_before A.promise B.elements };
 
@@ -61,7 +59,6 @@ pub trait DeserializeElements<S: Source>: TypedElements {
             (input S.view de.old) (input S.view de.new) (answer_of result) };
 }
 
-/// No element.
 impl<S: Source> DeserializeElements<S> for () {
     #[inline(always)]
     fn deserialize_each(
@@ -72,7 +69,6 @@ impl<S: Source> DeserializeElements<S> for () {
     }
 }
 
-/// An element, and those after it.
 impl<S: Source, A: Deserialize<S> + Drop, B: DeserializeElements<S>> DeserializeElements<S>
     for (A, B) {
     #[inline(always)]
@@ -117,7 +113,6 @@ impl<S: Source> Deserializer<S> {
     }
 }
 
-/// Reads an array of these elements.
 #[inline(always)]
 fn take_elements<S: Source, V: DeserializeElements<S>>(
     alloc: Global,
@@ -149,7 +144,6 @@ fn elements_after<S: Source, V: DeserializeElements<S>>(
     }
 }
 
-/// Takes the head of an array that counts them.
 #[inline(always)]
 fn take_count_of<S: Source, V: TypedElements>(
     reader: &mut S,

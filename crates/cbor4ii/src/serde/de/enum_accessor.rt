@@ -45,7 +45,6 @@ pub struct EnumAccessor<'a, S: Source> {
     pub(crate) found: u8,
 }
 
-/// The step that it holds is given back, and nothing else moves.
 impl<'a, S: Source> Drop for EnumAccessor<'a, S> {
     #[inline(always)]
     fn drop(self)
@@ -121,7 +120,6 @@ fn begin_enum<S: Source>(reader: &mut S) -> Result<(bool, u8), core_error::Decod
     }
 }
 
-/// Whether a content follows the name, and the first byte.
 #[inline(always)]
 pub(crate) fn take_form<S: Source>(
     reader: &mut S,
@@ -147,8 +145,7 @@ pub(crate) fn take_form<S: Source>(
     }
 }
 
-/// The content of a variant that holds items without names. Where it is rejected, its step and that
-/// of the variant are given back.
+/// For a variant that holds items without names. At an error both steps are given back.
 fn begin_tuple_content<S: Source>(
     reader: &mut S,
     content: bool,
@@ -183,8 +180,7 @@ fn begin_tuple_content<S: Source>(
     }
 }
 
-/// The content of a variant that holds named fields. Where it is rejected, its step and that of the
-/// variant are given back.
+/// For a variant that holds named fields. At an error both steps are given back.
 fn begin_map_content<S: Source>(
     reader: &mut S,
     content: bool,

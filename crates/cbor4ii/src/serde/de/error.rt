@@ -39,7 +39,6 @@ impl<E> DecodeError<E> {
 #[derive(Debug, Drop)]
 pub struct Explained<'a, E>(&'a DecodeError<E>);
 
-/// The words of the codec's error, or those of the type.
 impl<E: fmt::Display> fmt::Display for Explained<'_, E> {
     fn fmt<W: fmt::Write>(&self, f: &mut fmt::Formatter<W>) -> fmt::Result {
         match self.0 {
@@ -49,7 +48,6 @@ impl<E: fmt::Display> fmt::Display for Explained<'_, E> {
     }
 }
 
-/// The codec's own error, in `Core`.
 impl<E> From<core_error::DecodeError<E>> for DecodeError<E> {
     ghost from_gives = { λ error result. result ≡ Core error };
 
@@ -67,7 +65,6 @@ impl<E: fmt::Debug> fmt::Display for DecodeError<E> {
 
 impl<E: fmt::Debug + Drop> Error for DecodeError<E> {}
 
-/// The codec's answer, as one of typed reading.
 #[inline(always)]
 pub(crate) fn typed<V, E>(
     answer: Result<V, core_error::DecodeError<E>>,

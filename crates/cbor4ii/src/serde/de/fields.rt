@@ -41,7 +41,6 @@ pub trait Places: Sized {
         ensures { (labels : List (Bor (List ℕ))) → result ≡ (Self.fields labels).first };
 }
 
-/// No field.
 impl Places for () {
     ghost fields = { λ labels. no_more };
 
@@ -49,7 +48,6 @@ impl Places for () {
     fn none() {}
 }
 
-/// A field, and those after it.
 impl<P: Place, V: Places> Places for (P, V) {
     ghost fields = { fields_by P.place P.Value.promise V.fields };
 
@@ -94,7 +92,6 @@ pub trait Values<S: Source>: Places {
             (input S.view de.old) (answer_of (typed_value_or_error result failure.new)) };
 }
 
-/// No field.
 impl<S: Source> Values<S> for () {
     #[inline(always)]
     fn take<K: ReadKey>(
@@ -109,7 +106,6 @@ impl<S: Source> Values<S> for () {
     }
 }
 
-/// A field, and those after it.
 impl<S: Source, P: Place, V: Values<S>> Values<S> for (P, V)
 where
     P::Value: Deserialize<S>,
@@ -135,7 +131,6 @@ where
     }
 }
 
-/// Reads the value of a field, and puts it where it stands.
 #[inline(always)]
 fn put_value<S: Source, P: Place>(
     alloc: Global,
@@ -161,7 +156,6 @@ where
     }
 }
 
-/// Skips what follows a key that no field has.
 #[inline(never)]
 fn skip_value<S: Source>(
     alloc: Global,
@@ -174,7 +168,6 @@ fn skip_value<S: Source>(
     part(de.deserialize_ignored_any(alloc), failure)
 }
 
-/// Reads a key and what follows it.
 #[inline(always)]
 fn take_field<K: ReadKey, S: Source, V: Values<S>>(
     alloc: Global,
@@ -197,7 +190,6 @@ fn take_field<K: ReadKey, S: Source, V: Values<S>>(
     }
 }
 
-/// Reads the fields of these keys off a map, in any order, and skips the others.
 #[inline(always)]
 fn take_fields<K: ReadKey, S: Source, V: Values<S>>(
     alloc: Global,
@@ -249,7 +241,6 @@ fn fields_inside<K: ReadKey, S: Source, V: Values<S>>(
     }
 }
 
-/// Reads the fields of these keys off so many pairs of a map.
 #[inline(always)]
 fn definite_fields<K: ReadKey, S: Source, V: Values<S>>(
     alloc: Global,
@@ -273,7 +264,6 @@ fn definite_fields<K: ReadKey, S: Source, V: Values<S>>(
     Some(())
 }
 
-/// Reads the fields of these keys off the pairs of a map up to a break.
 fn indefinite_fields<K: ReadKey, S: Source, V: Values<S>>(
     alloc: Global,
     de: &mut Deserializer<S>,
@@ -296,7 +286,6 @@ fn indefinite_fields<K: ReadKey, S: Source, V: Values<S>>(
     Some(())
 }
 
-/// Reads a struct of fields of these keys, and answers what it has of them.
 #[inline(always)]
 pub(crate) fn take_struct<K: ReadKey, S: Source, V: Values<S> + Drop, P: Presences<V>>(
     alloc: Global,

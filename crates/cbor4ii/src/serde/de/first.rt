@@ -120,7 +120,6 @@ pub fn from_reader<R: BufRead + Drop, T: Deserialize<IoReader<R>>>(
     read_first(alloc, IoReader::new(reader))
 }
 
-/// Reads the value at the beginning of what `reader` has left.
 fn read_first<S: Source + Drop, T: Deserialize<S>>(
     alloc: Global,
     reader: S,

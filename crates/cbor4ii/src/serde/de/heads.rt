@@ -12,7 +12,7 @@ use cbor4ii_items::types::{Array, Map};
 use cbor4ii_rw::error::DecodeError;
 use cbor4ii_rw::read::Source;
 
-/// An array of any length. Where it is rejected, the step is given back.
+/// Where the head is rejected, the step is given back; so it is below.
 pub(crate) fn begin_array<S: Source>(reader: &mut S) -> Result<Left, DecodeError<S::Error>>
     ensures opened { IfOk result (λ left.
         OpensParts 4 (S.view reader.old) (S.view reader.new) left) }
@@ -33,7 +33,6 @@ pub(crate) fn begin_array<S: Source>(reader: &mut S) -> Result<Left, DecodeError
     }
 }
 
-/// A map of any length. Where it is rejected, the step is given back.
 pub(crate) fn begin_map<S: Source>(reader: &mut S) -> Result<Left, DecodeError<S::Error>>
     ensures opened { IfOk result (λ left.
         OpensParts 5 (S.view reader.old) (S.view reader.new) left) }
@@ -54,7 +53,6 @@ pub(crate) fn begin_map<S: Source>(reader: &mut S) -> Result<Left, DecodeError<S
     }
 }
 
-/// An array of so many items. Where it is rejected, the step is given back.
 pub(crate) fn begin_tuple<S: Source>(
     reader: &mut S,
     len: usize,

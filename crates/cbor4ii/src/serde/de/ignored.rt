@@ -20,11 +20,8 @@ impl Typed for IgnoredAny {
     ghost promise = { exact_promise refl ignored_lawful };
 }
 
-/// Any item, of which nothing is kept, read by `Deserializer::deserialize_ignored_any`.
-///
-/// # Errors
-///
-/// Those of `Deserializer::deserialize_ignored_any`.
+/// Any item, of which nothing is kept, read by `Deserializer::deserialize_ignored_any`, with its
+/// errors.
 impl<S: Source> Deserialize<S> for IgnoredAny {
     fn deserialize(
         alloc: Global,

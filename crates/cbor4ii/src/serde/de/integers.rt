@@ -35,13 +35,7 @@ impl Typed for u8 {
 ///
 /// # Errors
 ///
-/// `Core` of `Read` is described at `Deserialize::deserialize`. The others are `Core` of these, by
-/// "u8":
-///
-/// - `Eof` with 1: no byte is left
-/// - `Eof` with k: the argument has k bytes and fewer are left. Nothing is left then
-/// - `Mismatch` with the first byte, which is taken: it begins no head of major type 0 with at most
-///   one byte of argument
+/// Those of `u8` as an item of the codec, each as `Core`, with its fields and what it leaves.
 impl<S: Source> Deserialize<S> for u8 {
     #[inline(always)]
     fn deserialize(alloc: Global, de: &mut Deserializer<S>) -> Result<u8, DecodeError<S::Error>> {
@@ -63,11 +57,8 @@ impl Typed for u16 {
     }
 }
 
-/// An unsigned integer whose argument has at most two bytes, read as a `u8` is.
-///
-/// # Errors
-///
-/// Those of a `u8`, by "u16", and with two bytes of argument in the place of one.
+/// An unsigned integer whose argument has at most two bytes, read as a `u8` is. Its errors are
+/// those of `u16` as an item of the codec, each as `Core`.
 impl<S: Source> Deserialize<S> for u16 {
     #[inline(always)]
     fn deserialize(alloc: Global, de: &mut Deserializer<S>) -> Result<u16, DecodeError<S::Error>> {
@@ -89,11 +80,8 @@ impl Typed for u32 {
     }
 }
 
-/// An unsigned integer whose argument has at most four bytes, read as a `u8` is.
-///
-/// # Errors
-///
-/// Those of a `u8`, by "u32", and with four bytes of argument in the place of one.
+/// An unsigned integer whose argument has at most four bytes, read as a `u8` is. Its errors are
+/// those of `u32` as an item of the codec, each as `Core`.
 impl<S: Source> Deserialize<S> for u32 {
     #[inline(always)]
     fn deserialize(alloc: Global, de: &mut Deserializer<S>) -> Result<u32, DecodeError<S::Error>> {
@@ -115,11 +103,8 @@ impl Typed for u64 {
     }
 }
 
-/// An unsigned integer whose argument has at most eight bytes, read as a `u8` is.
-///
-/// # Errors
-///
-/// Those of a `u8`, by "u64", and with eight bytes of argument in the place of one.
+/// An unsigned integer whose argument has at most eight bytes, read as a `u8` is. Its errors are
+/// those of `u64` as an item of the codec, each as `Core`.
 impl<S: Source> Deserialize<S> for u64 {
     #[inline(always)]
     fn deserialize(alloc: Global, de: &mut Deserializer<S>) -> Result<u64, DecodeError<S::Error>> {
@@ -141,12 +126,7 @@ impl Typed for u128 {
 ///
 /// # Errors
 ///
-/// Those of `u128` as an item of the codec, each as `Core`, with its fields and what it leaves:
-///
-/// - by "u128" at the first byte and at the head of a tag
-/// - by "u64" at a head of major type 0
-/// - by "u128::tag" at a tag that is not 2
-/// - by "u128::bytes" at the byte string
+/// Those of `u128` as an item of the codec, each as `Core`, with its fields and what it leaves.
 impl<S: Source> Deserialize<S> for u128 {
     #[inline(always)]
     fn deserialize(alloc: Global, de: &mut Deserializer<S>) -> Result<u128, DecodeError<S::Error>> {
@@ -174,17 +154,7 @@ impl Typed for i8 {
 ///
 /// # Errors
 ///
-/// `Core` of `Read` is described at `Deserialize::deserialize`. The others are `Core` of these. Of
-/// a head of major type 0 the name is "+i8", of one of major type 1 it is "-i8":
-///
-/// - `Eof` by "i8" with 1: no byte is left
-/// - `Mismatch` by "i8" with the next byte, which stays: it is of another major type
-/// - `Eof` by "+i8" or "-i8" with k: the argument has k bytes and fewer are left. Nothing is left
-///   then
-/// - `Mismatch` by "+i8" or "-i8" with the first byte, which is taken: it begins no head with at
-///   most one byte of argument
-/// - `CastOverflow` by "+i8" or "-i8": the argument is 2^7 or greater. What follows the head is
-///   left
+/// Those of `i8` as an item of the codec, each as `Core`, with its fields and what it leaves.
 impl<S: Source> Deserialize<S> for i8 {
     #[inline(always)]
     fn deserialize(alloc: Global, de: &mut Deserializer<S>) -> Result<i8, DecodeError<S::Error>> {
@@ -207,12 +177,8 @@ impl Typed for i16 {
     }
 }
 
-/// An integer whose argument has at most two bytes and is below 2^15, read as an `i8` is.
-///
-/// # Errors
-///
-/// Those of an `i8`, by "i16", "+i16" and "-i16", and with these numbers in the place of one byte
-/// and 2^7.
+/// An integer whose argument has at most two bytes and is below 2^15, read as an `i8` is. Its
+/// errors are those of `i16` as an item of the codec, each as `Core`.
 impl<S: Source> Deserialize<S> for i16 {
     #[inline(always)]
     fn deserialize(alloc: Global, de: &mut Deserializer<S>) -> Result<i16, DecodeError<S::Error>> {
@@ -235,12 +201,8 @@ impl Typed for i32 {
     }
 }
 
-/// An integer whose argument has at most four bytes and is below 2^31, read as an `i8` is.
-///
-/// # Errors
-///
-/// Those of an `i8`, by "i32", "+i32" and "-i32", and with these numbers in the place of one byte
-/// and 2^7.
+/// An integer whose argument has at most four bytes and is below 2^31, read as an `i8` is. Its
+/// errors are those of `i32` as an item of the codec, each as `Core`.
 impl<S: Source> Deserialize<S> for i32 {
     #[inline(always)]
     fn deserialize(alloc: Global, de: &mut Deserializer<S>) -> Result<i32, DecodeError<S::Error>> {
@@ -263,12 +225,8 @@ impl Typed for i64 {
     }
 }
 
-/// An integer whose argument has at most eight bytes and is below 2^63, read as an `i8` is.
-///
-/// # Errors
-///
-/// Those of an `i8`, by "i64", "+i64" and "-i64", and with these numbers in the place of one byte
-/// and 2^7.
+/// An integer whose argument has at most eight bytes and is below 2^63, read as an `i8` is. Its
+/// errors are those of `i64` as an item of the codec, each as `Core`.
 impl<S: Source> Deserialize<S> for i64 {
     #[inline(always)]
     fn deserialize(alloc: Global, de: &mut Deserializer<S>) -> Result<i64, DecodeError<S::Error>> {
@@ -290,13 +248,7 @@ impl Typed for i128 {
 ///
 /// # Errors
 ///
-/// Those of `i128` as an item of the codec, each as `Core`, with its fields and what it leaves:
-///
-/// - by "i128" at the first byte, at a head of major type 1, and at the head of a tag
-/// - by "i128" at a number of 2^127 or more
-/// - by "u64" at a head of major type 0
-/// - by "i128::tag" at a tag that is neither 2 nor 3
-/// - by "+i128::bytes" or "-i128::bytes" at the byte string after tag 2 or 3
+/// Those of `i128` as an item of the codec, each as `Core`, with its fields and what it leaves.
 impl<S: Source> Deserialize<S> for i128 {
     #[inline(always)]
     fn deserialize(alloc: Global, de: &mut Deserializer<S>) -> Result<i128, DecodeError<S::Error>> {

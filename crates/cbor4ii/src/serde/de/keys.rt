@@ -115,8 +115,6 @@ impl ReadKey for i64 {
     }
 }
 
-/// The place of the first of `keys` that is this one, or how many there are where none is. None is
-/// the key of no field.
 #[inline(always)]
 fn integer_place(keys: &[i64], key: Option<i128>) -> usize
     ensures { StandsAt (label_of key) (labels_by integer_name keys.now) result }
@@ -129,7 +127,6 @@ fn integer_place(keys: &[i64], key: Option<i128>) -> usize
     keys.len()
 }
 
-/// Whether a field has this key.
 #[inline(always)]
 fn is_key(own: &i64, key: Option<i128>) -> bool
     ensures same { result ≡ true → label_of key ≡ integer_label own.now }
@@ -144,7 +141,7 @@ fn is_key(own: &i64, key: Option<i128>) -> bool
 /// No text is the key of a field.
 const NO_NAMES: [StaticStr; 0] = [];
 
-/// Reads a key: an integer as an `i128`, or a text, of which nothing is kept. One look at its first
+/// A key is an integer, as an `i128`, or a text, of which nothing is kept. One look at its first
 /// byte says which.
 fn take_integer<S: Source>(
     alloc: Global,
@@ -168,7 +165,6 @@ fn take_integer<S: Source>(
     as_key(i128::deserialize(alloc, de))
 }
 
-/// The value, as one that there is.
 fn as_key<V, E>(read: Result<V, E>) -> Result<Option<V>, E>
     ensures { result ≡ as_key read }
 {

@@ -89,7 +89,6 @@ impl<S: Source, K: Deserialize<S> + Ord + Drop, V: Deserialize<S> + Drop> Deseri
     }
 }
 
-/// The map of these pairs: of equal keys the first stays, with the last value.
 #[inline(always)]
 fn put_all<K: Ord + Drop, V: Drop>(
     alloc: Global,

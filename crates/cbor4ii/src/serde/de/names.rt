@@ -17,11 +17,10 @@ use cbor4ii_rw::read::Source;
 use std::alloc::Global;
 use std::str;
 
-/// So many bytes are looked at, where a look may ask for them. They hold a name of up to 255 bytes
-/// with its head.
+/// How many bytes a look asks for: a name of up to 255 bytes with its head.
 const LOOK: usize = 257;
 
-/// Where fewer bytes than `LOOK` may be asked for, a look asks for so many at most.
+/// How many bytes a look asks for at most where it may ask for fewer than `LOOK`.
 const AGAIN: usize = 256;
 
 /// The first byte of a text whose length stands in the next byte (RFC 8949 section 3).
@@ -38,8 +37,8 @@ pub(crate) enum Seen {
     Other,
 }
 
-/// Reads a name as a `String`, and answers which of `names` it is: the place of the first such, or
-/// how many there are where it is none of them.
+/// Reads a name as a `String`, and answers the place of the first of `names` that it is, or how
+/// many there are where it is none of them.
 #[inline(always)]
 pub(crate) fn take_name<S: Source>(
     alloc: Global,
@@ -61,8 +60,8 @@ pub(crate) fn take_name<S: Source>(
     }
 }
 
-/// Reads a name where fewer bytes may be asked for than `LOOK`: so many at first, and then those
-/// that the name is seen to have.
+/// Where fewer bytes than `LOOK` may be asked for: so many at first, and then those that the name
+/// has.
 #[cold]
 #[inline(never)]
 fn take_name_narrowly<S: Source>(
@@ -87,7 +86,6 @@ fn take_name_narrowly<S: Source>(
     take_any_name(alloc, de, names, failure)
 }
 
-/// Reads a name as a `String` of its own, and answers which of `names` it is.
 #[cold]
 #[inline(never)]
 fn take_any_name<S: Source>(
@@ -108,8 +106,7 @@ fn take_any_name<S: Source>(
     }
 }
 
-/// Looks at `want` bytes, and takes a name that stands whole in what is shown. Nothing is taken of
-/// any other. An error is the reader's.
+/// Looks at `want` bytes, and takes a name that stands whole in what is shown, and nothing else.
 #[inline(always)]
 fn take_shown_name<S: Source>(
     de: &mut Deserializer<S>,
@@ -157,7 +154,6 @@ fn seen_name(shown: &[u8], names: &[StaticStr]) -> Seen
     name_after(shown, 1, size, names)
 }
 
-/// What is seen of a name whose length stands in the byte after the first.
 #[inline(always)]
 fn seen_long_name(shown: &[u8], names: &[StaticStr]) -> Seen
     ensures { IfWhole names.now shown.now result }
@@ -171,8 +167,7 @@ fn seen_long_name(shown: &[u8], names: &[StaticStr]) -> Seen
     name_after(shown, 2, shown[1], names)
 }
 
-/// What is seen of the name of `size` bytes after the first `before`. One that is not UTF-8 is no
-/// name.
+/// The name has `size` bytes after the first `before`. One that is not UTF-8 is no name.
 #[inline(always)]
 fn name_after(shown: &[u8], before: usize, size: u8, names: &[StaticStr]) -> Seen
     requires { before ≤ length shown.now }
@@ -205,7 +200,6 @@ fn place(names: &[StaticStr], name: &[u8]) -> usize
     names.len()
 }
 
-/// Whether a field has this name.
 #[inline(always)]
 fn is_same(own: &str, name: &[u8]) -> bool
     ensures same { result ≡ true → (name.now ≡ own.now) × IsUtf8 name.now }
@@ -214,7 +208,6 @@ fn is_same(own: &str, name: &[u8]) -> bool
     own.as_bytes() == name
 }
 
-/// Whether these bytes are UTF-8.
 fn is_text(name: &[u8]) -> bool
     ensures { result ≡ true → IsUtf8 name.now }
 {

@@ -23,20 +23,7 @@ impl Typed for String {
 ///
 /// # Errors
 ///
-/// `Core` of `Read` and of `OutOfMemory` are described at `Deserialize::deserialize`. The others
-/// are `Core` of these, by "str" where no other name is said:
-///
-/// - `Eof` with 1: no byte is left
-/// - `Eof` with k: the argument of the head has k bytes and fewer are left. Nothing is left then
-/// - `Mismatch` with the first byte, which is taken: it begins no text
-/// - `Eof` with the number of bytes that are missing: the content is cut. Nothing is left then
-/// - `Eof` by "break" with 1: no byte is left in the place of a chunk or a break
-/// - `DepthOverflow`: no step is left for a chunk. The chunk is left
-/// - `RequireLength` with `Indefinite`: a chunk has an indefinite length. What follows its first
-///   byte is left
-/// - `Eof` or `Mismatch`, those of the text itself: a chunk is cut, or is no text. What is left is
-///   the same
-/// - `RequireUtf8`: the text is not UTF-8. The whole item is taken then
+/// Those of `String` as an item of the codec, each as `Core`, with its fields and what it leaves.
 impl<S: Source> Deserialize<S> for String {
     #[inline(always)]
     fn deserialize(

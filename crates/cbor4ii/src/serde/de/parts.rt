@@ -39,18 +39,14 @@ pub(crate) trait Sequence<S: Source>: Sized {
 
     ghost exact: { Bool };
 
-    // The major type.
     ghost major: { ℕ };
 
-    // The name in errors.
     ghost name: { List ℕ };
 
-    /// Takes the head.
     fn take_length(reader: &mut S) -> Result<Option<usize>, core_error::DecodeError<S::Error>>
         ensures { Decodes (length_format Self.name Self.major)
             (S.view reader.old) (S.view reader.new) result };
 
-    /// Reads one part.
     fn take_part(
         alloc: Global,
         de: &mut Deserializer<S>,
@@ -80,7 +76,6 @@ pub(crate) trait Sequence<S: Source>: Sized {
     ghost small: { major < 8 };
 }
 
-/// Reads a sequence under one step.
 #[inline(always)]
 pub(crate) fn take_sequence<S: Source, Q: Sequence<S>>(
     alloc: Global,
@@ -114,7 +109,6 @@ fn take_inside<S: Source, Q: Sequence<S>>(
     }
 }
 
-/// Reads so many parts.
 #[inline(always)]
 fn take_counted<S: Source, Q: Sequence<S>>(
     alloc: Global,
@@ -136,8 +130,7 @@ fn take_counted<S: Source, Q: Sequence<S>>(
     }
 }
 
-/// Reads so many parts, one by one. A count alone takes little memory: more is taken as the parts
-/// come.
+/// A count alone takes little memory: more is taken as the parts come.
 #[inline(always)]
 fn take_definite<S: Source, Q: Sequence<S>>(
     alloc: Global,
@@ -161,7 +154,6 @@ fn take_definite<S: Source, Q: Sequence<S>>(
     Ok(parts)
 }
 
-/// Reads parts up to a break.
 fn take_indefinite<S: Source, Q: Sequence<S>>(
     alloc: Global,
     de: &mut Deserializer<S>,

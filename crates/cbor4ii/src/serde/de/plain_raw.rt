@@ -15,11 +15,8 @@ impl<'de> Typed for PlainRawValue<'de> {
     ghost promise = { exact_promise refl plain_raw_lawful };
 }
 
-/// One item that `Value` accepts, as its bytes stand in the input.
-///
-/// # Errors
-///
-/// Those of `Value` as an item of the codec, each as `Core`, with what they leave.
+/// One item that `Value` accepts, as its bytes stand in the input. Its errors are those of `Value`
+/// as an item of the codec, each as `Core`, with what they leave.
 impl<'de> Deserialize<SliceReader<'de>> for PlainRawValue<'de> {
     fn deserialize(
         alloc: Global,

@@ -143,7 +143,6 @@ pub trait Presences<V: Places>: Sized + Drop {
         (V.fields names).same v w → SameFate (made kinds words v) (made kinds words w) };
 }
 
-/// No field.
 impl Presences<()> for () {
     type Values = ();
 
@@ -157,7 +156,6 @@ impl Presences<()> for () {
     ghost fate = { λ kinds words names v w s. tt };
 }
 
-/// A field, and those after it.
 impl<P: Place + Drop, O: Presence<P>, V: Places + Drop, K: Presences<V>> Presences<(P, V)>
     for (O, K) {
     type Values = (O::Value, K::Values);
@@ -187,7 +185,6 @@ impl<P: Place + Drop, O: Presence<P>, V: Places + Drop, K: Presences<V>> Presenc
         (O.fate kinds.0 (words_of_first words)) (K.fate kinds.1 (words_of_others words)) };
 }
 
-/// The words of the first field, and none where there are none.
 #[inline(always)]
 fn first_words(missing: &[StaticStr]) -> StaticStr
     ensures { result.now ≡ words_of_first missing.now }
@@ -198,7 +195,6 @@ fn first_words(missing: &[StaticStr]) -> StaticStr
     }
 }
 
-/// The words of the fields after the first.
 #[inline(always)]
 fn words_after(missing: &[StaticStr]) -> &[StaticStr]
     ensures { result.now ≡ words_of_others missing.now }

@@ -41,11 +41,8 @@ impl<'de> Deserialize<SliceReader<'de>> for RawValue<'de> {
     }
 }
 
-/// One item, as its bytes stand in a segment, which has to hold the whole of it.
-///
-/// # Errors
-///
-/// Those of `RawValue` as an item of the codec, each as `Core`. Nothing is taken then.
+/// One item, as its bytes stand in a segment, which has to hold the whole of it. Its errors are
+/// those over a slice.
 impl<'de> Deserialize<SegmentReader<'de>> for RawValue<'de> {
     fn deserialize(
         alloc: Global,

@@ -17,7 +17,6 @@ use cbor4ii_rw::error as core_error;
 use cbor4ii_rw::read::Source;
 use std::alloc::Global;
 
-/// What was put of a look.
 #[derive(Clone, Copy)]
 struct Run {
     /// The bytes of its parts.
@@ -26,8 +25,8 @@ struct Run {
     has_memory: bool,
 }
 
-/// Reads so many parts, as many at a time as one look shows, and one by itself after each look. It
-/// is out of line, so that what holds such parts takes a small frame.
+/// Reads as many parts at a time as one look shows, and one by itself after each look. It is out of
+/// line, so that what holds such parts takes a small frame.
 #[inline(never)]
 pub(crate) fn take_runs<S: Source, Q: Sequence<S>>(
     alloc: Global,
@@ -72,8 +71,7 @@ fn step_left<S: Source>(reader: &mut S) -> u8
     1
 }
 
-/// Takes the parts that one look shows after those that there are, up to so many. Where it answers
-/// false there was no memory for one. An error is the reader's.
+/// Takes the parts that one look shows, up to `count` in all. False is refused memory.
 #[inline(always)]
 fn take_run<S: Source, Q: Sequence<S>>(
     reader: &mut S,
@@ -96,7 +94,6 @@ fn take_run<S: Source, Q: Sequence<S>>(
     Ok(run.has_memory)
 }
 
-/// Puts the parts that the shown bytes begin with after those that there are, up to so many.
 #[inline(always)]
 fn put_run<S: Source, Q: Sequence<S>>(
     shown: &[u8],

@@ -32,11 +32,7 @@ impl Typed for bool {
 ///
 /// # Errors
 ///
-/// `Core` of `Read` is described at `Deserialize::deserialize`. The others are `Core` of these, by
-/// "bool", and nothing is taken then:
-///
-/// - `Eof` with 1: no byte is left
-/// - `Mismatch` with the next byte: it is neither false nor true
+/// Those of `bool` as an item of the codec, each as `Core`, with its fields and what it leaves.
 impl<S: Source> Deserialize<S> for bool {
     #[inline(always)]
     fn deserialize(alloc: Global, de: &mut Deserializer<S>) -> Result<bool, DecodeError<S::Error>> {
@@ -59,16 +55,8 @@ impl Typed for F16 {
     }
 }
 
-/// A float of two bytes, as its bits (RFC 8949 section 3.3). It takes no step.
-///
-/// # Errors
-///
-/// `Core` of `Read` is described at `Deserialize::deserialize`. The others are `Core` of these, by
-/// "f16":
-///
-/// - `Eof` with 1: no byte is left
-/// - `Mismatch` with the next byte, which stays: it begins no float of two bytes
-/// - `Eof` with 2: fewer than two bytes follow it. Nothing is left then
+/// A float of two bytes, as its bits (RFC 8949 section 3.3). It takes no step. Its errors are those
+/// of `F16` as an item of the codec, each as `Core`.
 impl<S: Source> Deserialize<S> for F16 {
     #[inline(always)]
     fn deserialize(alloc: Global, de: &mut Deserializer<S>) -> Result<F16, DecodeError<S::Error>> {
@@ -91,16 +79,8 @@ impl Typed for F32 {
     }
 }
 
-/// A float of four bytes, as its bits (RFC 8949 section 3.3). It takes no step.
-///
-/// # Errors
-///
-/// `Core` of `Read` is described at `Deserialize::deserialize`. The others are `Core` of these, by
-/// "f32":
-///
-/// - `Eof` with 1: no byte is left
-/// - `Mismatch` with the next byte, which stays: it begins no float of four bytes
-/// - `Eof` with 4: fewer than four bytes follow it. Nothing is left then
+/// A float of four bytes, as its bits (RFC 8949 section 3.3). It takes no step. Its errors are
+/// those of `F32` as an item of the codec, each as `Core`.
 impl<S: Source> Deserialize<S> for F32 {
     #[inline(always)]
     fn deserialize(alloc: Global, de: &mut Deserializer<S>) -> Result<F32, DecodeError<S::Error>> {
@@ -123,16 +103,8 @@ impl Typed for F64 {
     }
 }
 
-/// A float of eight bytes, as its bits (RFC 8949 section 3.3). It takes no step.
-///
-/// # Errors
-///
-/// `Core` of `Read` is described at `Deserialize::deserialize`. The others are `Core` of these, by
-/// "f64":
-///
-/// - `Eof` with 1: no byte is left
-/// - `Mismatch` with the next byte, which stays: it begins no float of eight bytes
-/// - `Eof` with 8: fewer than eight bytes follow it. Nothing is left then
+/// A float of eight bytes, as its bits (RFC 8949 section 3.3). It takes no step. Its errors are
+/// those of `F64` as an item of the codec, each as `Core`.
 impl<S: Source> Deserialize<S> for F64 {
     #[inline(always)]
     fn deserialize(alloc: Global, de: &mut Deserializer<S>) -> Result<F64, DecodeError<S::Error>> {

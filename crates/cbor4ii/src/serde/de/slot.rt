@@ -9,7 +9,6 @@ ghost use Rattle.cbor4ii.specs.Answered.{typed_value_or_error, typed_error_left}
 use crate::serde::de::error::DecodeError;
 use cbor4ii_rw::error as core_error;
 
-/// The answer without its error, which goes to `failure`.
 #[inline(always)]
 pub(crate) fn part<T, E: Drop>(
     answer: Result<T, DecodeError<E>>,
@@ -26,7 +25,6 @@ pub(crate) fn part<T, E: Drop>(
     }
 }
 
-/// The error goes to `failure`.
 #[inline(always)]
 pub(crate) fn leave<E: Drop>(error: E, failure: &mut Option<E>)
     ensures { failure.new ≡ Some error }
@@ -34,7 +32,6 @@ pub(crate) fn leave<E: Drop>(error: E, failure: &mut Option<E>)
     *failure = Some(error);
 }
 
-/// The value, or the error that was left.
 #[inline(always)]
 pub(crate) fn whole<T, E: Drop>(
     value: Option<T>,

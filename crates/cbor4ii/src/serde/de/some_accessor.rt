@@ -32,7 +32,6 @@ pub struct SomeAccessor<'a, S: Source> {
     pub(crate) some: bool,
 }
 
-/// The step that it holds, where a value comes, is given back, and nothing else moves.
 impl<'a, S: Source> Drop for SomeAccessor<'a, S> {
     fn drop(self)
         ensures { Closes (steps_of_some (comes self.entry))
@@ -74,7 +73,6 @@ impl<S: Source> Deserializer<S> {
     }
 }
 
-/// Whether a value comes. Where one does a step is taken.
 fn begin_option<S: Source>(reader: &mut S) -> Result<bool, core_error::DecodeError<S::Error>>
     ensures opened { IfOk result (OpensOption (S.view reader.old) (S.view reader.new)) }
     ensures rejected { RejectedAs presence_format (S.view reader.old) (S.view reader.new) result }

@@ -12,7 +12,6 @@ use cbor4ii_rw::error::StaticStr;
 use cbor4ii_rw::read::Source;
 use std::alloc::Global;
 
-/// Reads a value under one step more.
 #[inline(always)]
 pub(crate) fn under_step<S: Source, T: Deserialize<S>>(
     alloc: Global,

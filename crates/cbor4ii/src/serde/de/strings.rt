@@ -39,7 +39,6 @@ impl<S: Source> Deserializer<S> {
     }
 }
 
-/// What stands in the `Bytes`.
 fn unwrapped<T, E>(found: Result<Bytes<T>, core_error::DecodeError<E>>) -> Result<T, DecodeError<E>>
     ensures { Unwraps found result }
 {
@@ -221,8 +220,7 @@ impl<R: BufRead + Drop> Deserializer<IoReader<R>> {
     }
 }
 
-/// A text in memory of its own. What is owned stays where it is, and over a stream all is, so that
-/// nothing is copied twice.
+/// What is owned stays where it is, and over a stream all is, so that nothing is copied twice.
 fn copied_text<'de, E>(
     alloc: Global,
     found: Result<CowStr<'de, Global>, DecodeError<E>>,
@@ -238,7 +236,6 @@ fn copied_text<'de, E>(
     }
 }
 
-/// A byte string in memory of its own, likewise.
 fn copied_bytes<'de, E>(
     alloc: Global,
     found: Result<Bytes<CowSlice<'de, u8, Global>>, DecodeError<E>>,

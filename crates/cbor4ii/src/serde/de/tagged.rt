@@ -44,7 +44,6 @@ impl<S: Source> Deserializer<S> {
     }
 }
 
-/// Reads a tag of this number, and the value that it tags.
 #[inline(always)]
 fn tagged_value<S: Source, V: Deserialize<S>>(
     alloc: Global,
@@ -60,7 +59,6 @@ fn tagged_value<S: Source, V: Deserialize<S>>(
     }
 }
 
-/// Takes the head of a tag of this number.
 #[inline(always)]
 fn take_tag<S: Source>(de: &mut Deserializer<S>, number: u64) -> Result<(), DecodeError<S::Error>>
     ensures { Decodes (tag_head number)

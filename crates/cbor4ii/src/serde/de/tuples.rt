@@ -39,7 +39,6 @@ impl<S: Source, A: Deserialize<S> + Drop, B: Deserialize<S>> Deserialize<S> for 
     }
 }
 
-/// Reads a head that counts two, and the two after it.
 #[inline(always)]
 fn pair_after<S: Source, A: Deserialize<S> + Drop, B: Deserialize<S>>(
     alloc: Global,
@@ -55,7 +54,6 @@ fn pair_after<S: Source, A: Deserialize<S> + Drop, B: Deserialize<S>>(
     }
 }
 
-/// Reads two parts.
 #[inline(always)]
 pub(crate) fn two_parts<S: Source, A: Deserialize<S> + Drop, B: Deserialize<S>>(
     alloc: Global,
@@ -71,7 +69,6 @@ pub(crate) fn two_parts<S: Source, A: Deserialize<S> + Drop, B: Deserialize<S>>(
     }
 }
 
-/// Takes the head of an array of so many items.
 #[inline(always)]
 pub(crate) fn take_count<S: Source>(
     reader: &mut S,
@@ -101,11 +98,7 @@ impl<A: Typed, B: Typed, C: Typed> Typed for (A, B, C) {
     ghost promise = { typed_triple A.promise B.promise C.promise };
 }
 
-/// An array of a definite length of 3, under one step, which is given back.
-///
-/// # Errors
-///
-/// Those of a pair, with a length of 3.
+/// An array of a definite length of 3, read as a pair is, with its errors.
 impl<S: Source, A: Deserialize<S> + Drop, B: Deserialize<S> + Drop, C: Deserialize<S>> Deserialize<
     S,
 > for (A, B, C) {
@@ -123,7 +116,6 @@ impl<S: Source, A: Deserialize<S> + Drop, B: Deserialize<S> + Drop, C: Deseriali
     }
 }
 
-/// Reads a head that counts three, and the three after it.
 #[inline(always)]
 fn triple_after<S: Source, A: Deserialize<S> + Drop, B: Deserialize<S> + Drop, C: Deserialize<S>>(
     alloc: Global,
@@ -139,7 +131,6 @@ fn triple_after<S: Source, A: Deserialize<S> + Drop, B: Deserialize<S> + Drop, C
     }
 }
 
-/// Reads three parts.
 #[inline(always)]
 fn three_parts<S: Source, A: Deserialize<S> + Drop, B: Deserialize<S> + Drop, C: Deserialize<S>>(
     alloc: Global,

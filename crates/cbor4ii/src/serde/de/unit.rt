@@ -12,18 +12,13 @@ use cbor4ii_rw::error::StaticStr;
 use cbor4ii_rw::read::Source;
 use std::alloc::Global;
 
-/// An array of no item, in one byte.
 const UNIT: u8 = 0x80;
 
 impl Typed for () {
     ghost promise = { typed_by RejectsUnit true false unit_laws };
 }
 
-/// An array of no item, in one byte, `80` (RFC 8949 section 3.1). It takes no step and no memory.
-///
-/// # Errors
-///
-/// Those of `Deserializer::deserialize_unit`.
+/// The unit, read by `Deserializer::deserialize_unit`, with its errors.
 impl<S: Source> Deserialize<S> for () {
     fn deserialize(alloc: Global, de: &mut Deserializer<S>) -> Result<(), DecodeError<S::Error>> {
         de.deserialize_unit()

@@ -70,7 +70,6 @@ where
     }
 }
 
-/// Reads the fields after the variant's name, where a content stands there.
 #[inline(always)]
 fn take_named<S: Source, V: Values<S> + Drop, P: Presences<V>>(
     alloc: Global,
