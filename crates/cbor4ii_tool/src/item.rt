@@ -43,7 +43,6 @@ pub fn convert<R: BufRead, W: Write>(
     }
 }
 
-// An integer, written with the shortest argument.
 fn integer<S: Source, W: Write>(alloc: Global, reader: &mut S, writer: &mut W) -> Result<(), Kind>
     ensures done { OnOk result (Done Ints (S.view reader.old) (S.view reader.new)
         (W.view writer.old) (W.view writer.new)) }
@@ -58,7 +57,6 @@ fn integer<S: Source, W: Write>(alloc: Global, reader: &mut S, writer: &mut W) -
     }
 }
 
-// A value, written in its canonical encoding.
 #[tactic(auto, using(crate::proofs::Items::moves_leaves))]
 fn value<S: Source, W: Write>(alloc: Global, reader: &mut S, writer: &mut W) -> Result<(), Kind>
     ensures done { OnOk result (Done Canon (S.view reader.old) (S.view reader.new)
@@ -77,7 +75,6 @@ fn value<S: Source, W: Write>(alloc: Global, reader: &mut S, writer: &mut W) -> 
     }
 }
 
-// A value in its canonical encoding, written again.
 #[tactic(auto, using(crate::proofs::Items::moves_leaves))]
 fn canonical<S: Source, W: Write>(alloc: Global, reader: &mut S, writer: &mut W) -> Result<(), Kind>
     ensures done { OnOk result (Done Strict (S.view reader.old) (S.view reader.new)

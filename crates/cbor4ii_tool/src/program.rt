@@ -55,7 +55,7 @@ pub fn program<R: Read + Drop, W: Write + Drop, E: Write>(
     status(&outcome)
 }
 
-// The command that the arguments name, if any. Arguments that are no text name none.
+// Arguments that are no text name no command.
 fn chosen(words: io::Result<Vec<String>>) -> Result<Option<Command>, Fault>
     ensures chooses { IfOk words (λ words. IsOkAnd result (Chooses words.items)) }
     ensures no_text { IfErr words (λ error.
@@ -75,8 +75,7 @@ fn chosen(words: io::Result<Vec<String>>) -> Result<Option<Command>, Fault>
     }
 }
 
-// Runs the command over both streams, each through a buffer. Where a buffer finds no memory,
-// nothing is read or written.
+// Each stream goes through a buffer. Where a buffer finds no memory, nothing is read or written.
 fn stream<R: Read + Drop, W: Write + Drop>(
     alloc: Global,
     command: Command,

@@ -78,8 +78,7 @@ pub fn run<R: BufRead, W: io::Write>(
     finish(outcome, writer, reader.taken())
 }
 
-// Flushes the writer, after a fault too. The first failure of the writer is the answer, and else
-// the outcome of the items.
+// Flushes after a fault too. The first failure of the writer is the answer, and else the outcome.
 fn finish<W: io::Write>(
     outcome: Result<(), Fault>,
     writer: &mut IoWriter<W>,
@@ -100,7 +99,7 @@ fn finish<W: io::Write>(
     }
 }
 
-// Where the writer failed first, if its flush fails at `at`, after this outcome of the items.
+// Where the writer failed first, if its flush fails at `at`.
 fn failed_at(outcome: Result<(), Fault>, at: u64) -> u64
     ensures { result ≡ failed_at outcome at }
 {
@@ -110,7 +109,6 @@ fn failed_at(outcome: Result<(), Fault>, at: u64) -> u64
     }
 }
 
-// Converts one item after another, until nothing is left.
 fn convert_items<R: BufRead, W: Write>(
     alloc: Global,
     command: Command,
@@ -150,8 +148,8 @@ fn convert_items<R: BufRead, W: Write>(
     }
 }
 
-// Whether no byte is left. `seen` counts the bytes up to the end of what the last look here showed.
-// Where fewer were taken, one of them is left, and no look is needed.
+// `seen` counts the bytes up to the end of what the last look here showed. Where fewer were taken,
+// one of them is left, and no look is needed.
 fn is_at_end<R: BufRead>(reader: &mut IoReader<R>, seen: &mut u64) -> Result<bool, Kind>
     ensures shows { OnOk result (Shows []
         (stream_view R.Read.remaining R.consumable_len reader.old)

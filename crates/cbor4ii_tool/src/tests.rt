@@ -47,7 +47,6 @@ fn runs(
     Ok((outcome, output))
 }
 
-// An answer that reports want of memory ends the test.
 fn had_memory(outcome: Result<(), Fault>) -> io::Result<Result<(), Fault>> {
     match outcome {
         Err(fault) if fault.kind == Kind::OutOfMemory => {
@@ -118,8 +117,8 @@ fn the_end_is_read_once(rt: HostRuntime) -> io::Result<()> {
     Ok(())
 }
 
-// A read fails after so many others: that is the answer, at this byte, and what stands for the
-// items before it is written and flushed.
+// A read fails after so many others: that is the answer, and what stands for the items before it is
+// written and flushed.
 fn read_fails(
     rt: &(impl Abort + AllocGlobal),
     row: &Row,
@@ -170,8 +169,8 @@ fn the_first_read_and_the_second_fail(rt: HostRuntime) -> io::Result<()> {
     Ok(())
 }
 
-// A write fails after so many others, of which each appended a byte at least, or all is written;
-// the flush fails too where `stays` is set. The first failure is the answer.
+// A write fails after so many others, or all is written; the flush fails too where `stays` is set.
+// The first failure is the answer.
 fn write_fails(
     rt: &(impl Abort + AllocGlobal),
     row: &Row,
@@ -222,7 +221,7 @@ fn each_write_fails_in_turn(rt: HostRuntime) -> io::Result<()> {
 }
 
 // A flush fails, after a fault of the input too: all is written, and the answer is the failure of
-// the flush, after all that was taken.
+// the flush.
 fn flush_fails(rt: &(impl Abort + AllocGlobal), row: &Row, width: usize) -> io::Result<()> {
     let mut output = Output::new(rt.alloc())?;
     output.stays = true;

@@ -58,8 +58,7 @@ const ITEMS: &[(&[u8], Want, Want)] = table! {
     (b"\xf8\x14", Err(Kind::Unsupported), Err(Kind::Unsupported)),
 };
 
-// Items with indefinite lengths and longer heads (RFC 8949 appendix A, and others), what
-// `canon` and `lens` make of them.
+// Items with indefinite lengths and longer heads (RFC 8949 appendix A, and others).
 const READ: &[(&[u8], Want, Want)] = table! {
     (b"\x5f\x42\x01\x02\x43\x03\x04\x05\xff", Ok(b"\x45\x01\x02\x03\x04\x05"), Ok(b"9\n")),
     (b"\x7f\x65strea\x64ming\xff", Ok(b"\x69streaming"), Ok(b"13\n")),
@@ -147,7 +146,6 @@ fn converts_by_each(
     converts(rt, command, input, 512, want)
 }
 
-// Each row by `canon` and by `lens`.
 fn rows_hold(rt: &(impl Abort + AllocGlobal), rows: &[(&[u8], Want, Want)]) -> io::Result<()> {
     for (input, canonical_encoding, lens) in rows {
         converts_by_each(rt, Command::Canon, input, *canonical_encoding)?;

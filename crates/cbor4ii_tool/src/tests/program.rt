@@ -39,7 +39,6 @@ fn name(command: Command) -> &'static str {
     }
 }
 
-// Runs the command, and answers its status and what its two outputs hold.
 fn runs(
     rt: &(impl Abort + AllocGlobal),
     command: Command,
