@@ -46,7 +46,6 @@ fn is_taken(variants: &[Variant], label: &str) -> bool {
         .any(|variant| variant.label.as_str() == label)
 }
 
-// Takes a variant.
 fn variant(alloc: Global, input: &mut Input) -> Result<Variant, Fault>
     ensures { OnOk result (Shorter input.old input.new) }
 {
@@ -93,7 +92,6 @@ fn may_stand(field: &Field) -> bool {
     matches!(field.key, Key::Name(_)) && !matches!(field.presence, Presence::LeftOut)
 }
 
-// Takes the types of the items up to the bracket that closes them.
 fn items(alloc: Global, input: &mut Input) -> Result<Vec<String>, Fault>
     ensures { OnOk result (Shorter input.old input.new) }
 {

@@ -92,7 +92,6 @@ pub fn head(alloc: Global, input: &mut Input, options: &mut Options) -> Result<H
     Ok(Head { lines, visibility })
 }
 
-// Whether a comment or an attribute is next.
 fn is_above(input: &Input) -> bool {
     match input.peek() {
         Some(token) => token.text.as_str() == "#" || token.text.as_str().starts_with("///"),
@@ -100,7 +99,6 @@ fn is_above(input: &Input) -> bool {
     }
 }
 
-// Takes a comment or an attribute: what is kept of it.
 fn line_above(alloc: Global, input: &mut Input, options: &mut Options) -> Result<String, Fault>
     ensures { OnOk result (Shorter input.old input.new) }
 {
@@ -114,7 +112,6 @@ fn line_above(alloc: Global, input: &mut Input, options: &mut Options) -> Result
     }
 }
 
-// Takes an attribute behind its sign: what is kept of it.
 fn attribute(alloc: Global, input: &mut Input, options: &mut Options) -> Result<String, Fault>
     ensures { OnOk result (Shorter input.old input.new) }
 {
@@ -131,7 +128,6 @@ fn attribute(alloc: Global, input: &mut Input, options: &mut Options) -> Result<
     }
 }
 
-// Takes the list of an attribute of serde.
 fn serde_options(alloc: Global, input: &mut Input, options: &mut Options) -> Result<String, Fault>
     ensures { OnOk result (Shorter input.old input.new) }
 {
@@ -144,7 +140,6 @@ fn serde_options(alloc: Global, input: &mut Input, options: &mut Options) -> Res
     Ok(String::new(alloc))
 }
 
-// Takes one word of serde, and its text.
 fn serde_option(alloc: Global, input: &mut Input, options: &mut Options) -> Result<(), Fault>
     ensures { OnOk result (Shorter input.old input.new) }
 {
@@ -164,7 +159,6 @@ fn serde_option(alloc: Global, input: &mut Input, options: &mut Options) -> Resu
     Ok(())
 }
 
-// Takes the list of an attribute of this program.
 fn own_options(alloc: Global, input: &mut Input, options: &mut Options) -> Result<String, Fault>
     ensures { OnOk result (Shorter input.old input.new) }
 {
@@ -177,7 +171,6 @@ fn own_options(alloc: Global, input: &mut Input, options: &mut Options) -> Resul
     Ok(String::new(alloc))
 }
 
-// Takes one word of this program, and its text.
 fn own_option(alloc: Global, input: &mut Input, options: &mut Options) -> Result<(), Fault>
     ensures { OnOk result (Shorter input.old input.new) }
 {
@@ -198,7 +191,6 @@ fn own_option(alloc: Global, input: &mut Input, options: &mut Options) -> Result
     Ok(())
 }
 
-// Takes the integer that is a key, behind a word.
 fn key(input: &mut Input) -> Result<Key, Fault>
     ensures { OnOk result (Shorter input.old input.new) }
 {
@@ -225,7 +217,6 @@ fn key_of(is_negative: bool, size: u64) -> Option<Key>
     }
 }
 
-// Takes a sign and a text behind a word.
 fn value(alloc: Global, input: &mut Input) -> Result<String, Fault>
     ensures { OnOk result (Shorter input.old input.new) }
 {
@@ -233,8 +224,7 @@ fn value(alloc: Global, input: &mut Input) -> Result<String, Fault>
     input.text(alloc)
 }
 
-// Takes the list of a derive: the attribute with `Drop`, where it has no `Copy`, and without what
-// serde derives.
+// The attribute with `Drop`, where it has no `Copy`, and without what serde derives.
 fn derive(alloc: Global, input: &mut Input) -> Result<String, Fault>
     ensures { OnOk result (Shorter input.old input.new) }
 {
@@ -257,7 +247,6 @@ fn derive(alloc: Global, input: &mut Input) -> Result<String, Fault>
     Ok(format!(in alloc; "{})]", line.as_str().trim_end_matches(", "))?)
 }
 
-// Whether a derive of this path is one of serde's.
 fn is_of_serde(path: &str) -> bool {
     matches!(
         path,

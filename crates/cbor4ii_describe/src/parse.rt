@@ -28,7 +28,6 @@ pub fn items(alloc: Global, input: &mut Input) -> Result<Vec<Described>, Fault>
     Ok(items)
 }
 
-// Takes a type.
 fn item(alloc: Global, input: &mut Input) -> Result<Described, Fault>
     ensures { OnOk result (Shorter input.old input.new) }
 {
@@ -112,7 +111,6 @@ fn parameter(input: &mut Input) -> Result<Parameter, Fault>
     }
 }
 
-// Takes what an enum of this name and these options holds.
 fn enum_shape(
     alloc: Global,
     input: &mut Input,
@@ -130,7 +128,6 @@ fn enum_shape(
     Ok(Shape::Variants { variants, words })
 }
 
-// Takes what a struct of this name and these options holds.
 fn struct_shape(
     alloc: Global,
     input: &mut Input,
@@ -158,7 +155,6 @@ fn struct_shape(
     })
 }
 
-// Takes what a struct holds whose fields have names.
 fn fields_shape(
     alloc: Global,
     input: &mut Input,
@@ -185,7 +181,6 @@ fn form(fields: &[Field], is_array: bool) -> Form {
     }
 }
 
-// Takes the one field that has no name.
 fn unnamed(alloc: Global, input: &mut Input) -> Result<(Head, String), Fault>
     ensures { OnOk result (Shorter input.old input.new) }
 {
@@ -252,7 +247,6 @@ fn clash_of(one: &Key, other: &Key) -> Option<Why>
     }
 }
 
-// Takes a field.
 fn field(alloc: Global, input: &mut Input, owner: &str, is_array: bool) -> Result<Field, Fault>
     ensures { OnOk result (Shorter input.old input.new) }
 {

@@ -51,7 +51,6 @@ fn left_out(line: u32, options: &Options, sort: Sort) -> Result<Presence, Fault>
     }
 }
 
-// This default, or where it is empty that of the type.
 fn or_default(alloc: Global, line: u32, code: &str, sort: Sort) -> Result<Presence, Fault> {
     let text = match (sort, code) {
         (Sort::Optional, "") => "None",

@@ -72,7 +72,6 @@ struct Cutting {
     line: u32,
 }
 
-// Takes one more character.
 fn take(alloc: Global, cut: &mut Cutting, c: char) -> Result<(), Fault>
     ensures { OnOk result (taken_text_of cut.new ≡ taken_text_of cut.old ++ encode_utf8 c) }
 {

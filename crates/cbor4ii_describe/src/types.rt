@@ -44,7 +44,6 @@ pub fn rest_of_attribute(alloc: Global, input: &mut Input, name: &str) -> Result
     Ok(text)
 }
 
-// Takes a token, where one is left.
 fn take_or(input: &mut Input) -> Result<String, Fault>
     ensures { OnOk result (Shorter input.old input.new) }
 {

@@ -120,7 +120,6 @@ fn begin(alloc: Global, field: &Field) -> Result<String, AllocError>
     }
 }
 
-// A key in a ghost.
 fn key(alloc: Global, key: &Key) -> Result<String, AllocError>
     ensures { IfOk result (λ text. string_bytes text ≡ ghost_key key.now) }
 {

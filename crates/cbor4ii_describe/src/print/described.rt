@@ -26,7 +26,6 @@ pub fn put_described(alloc: Global, out: &mut String, described: &Described) -> 
     Ok(put_agrees(alloc, out, described)?)
 }
 
-// Appends the type itself.
 fn put_type(alloc: Global, out: &mut String, described: &Described) -> Result<(), AllocError> {
     let this = self_type(alloc, described)?;
     put_lines_above(out, "", &described.head.lines)?;
@@ -55,7 +54,6 @@ fn put_type(alloc: Global, out: &mut String, described: &Described) -> Result<()
     }
 }
 
-// Appends the lines above an item.
 fn put_lines_above(out: &mut String, indent: &str, lines: &[String]) -> Result<(), AllocError> {
     for line in lines {
         write!(out, "{indent}{line}\n")?;
@@ -63,7 +61,6 @@ fn put_lines_above(out: &mut String, indent: &str, lines: &[String]) -> Result<(
     Ok(())
 }
 
-// Appends a field.
 fn put_field(out: &mut String, field: &Field) -> Result<(), AllocError> {
     put_lines_above(out, "    ", &field.head.lines)?;
     let visibility = field.head.visibility.as_str();
@@ -71,7 +68,6 @@ fn put_field(out: &mut String, field: &Field) -> Result<(), AllocError> {
     write!(out, "    {visibility}{name}: {its_type},\n")
 }
 
-// Appends a variant.
 fn put_variant(alloc: Global, out: &mut String, variant: &Variant) -> Result<(), AllocError> {
     let name = variant.name.as_str();
     match &variant.holds {
@@ -87,7 +83,6 @@ fn put_variant(alloc: Global, out: &mut String, variant: &Variant) -> Result<(),
     }
 }
 
-// Appends what is promised where the type is read.
 fn put_typed(alloc: Global, out: &mut String, described: &Described) -> Result<(), AllocError> {
     let this = self_type(alloc, described)?;
     let generics = generics(alloc, &described.parameter, ": AsDescribed")?;
@@ -106,7 +101,6 @@ fn put_promise(out: &mut String, generics: &str, this: &str) -> Result<(), Alloc
     )
 }
 
-// Appends the codec.
 fn put_codec(alloc: Global, out: &mut String, described: &Described) -> Result<(), Fault> {
     let this = self_type(alloc, described)?;
     let generics = generics(alloc, &described.parameter, ": AsDescribed")?;
@@ -147,7 +141,6 @@ fn put_codec(alloc: Global, out: &mut String, described: &Described) -> Result<(
     Ok(())
 }
 
-// A codec, behind a tag where there is one.
 fn tagged(alloc: Global, tag: Option<u64>, codec: String) -> Result<String, AllocError> {
     match tag {
         None => Ok(codec),

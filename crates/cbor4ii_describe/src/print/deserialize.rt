@@ -57,7 +57,6 @@ pub fn put_deserialize(
     out.push_str("    }\n}\n\n")
 }
 
-// Appends the first line.
 fn put_header(
     alloc: Global,
     out: &mut String,

@@ -25,7 +25,6 @@ pub fn put_from(alloc: Global, out: &mut String, described: &Described) -> Resul
     }
 }
 
-// Appends how a struct is made of its fields.
 fn put_struct(
     alloc: Global,
     out: &mut String,

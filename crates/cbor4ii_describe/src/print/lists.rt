@@ -92,7 +92,6 @@ pub fn presences(alloc: Global, fields: &[Field]) -> Result<Vec<String>, AllocEr
     Ok(presences)
 }
 
-// What a field is where it is missing, as code.
 fn presence(alloc: Global, field: &Field) -> Result<String, AllocError>
     ensures { IfOk result (λ text. string_bytes text ≡ presence_code field.now) }
 {

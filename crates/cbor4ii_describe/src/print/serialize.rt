@@ -44,7 +44,6 @@ fn put_newtype(out: &mut String, tag: Option<u64>) -> Result<(), AllocError>
     }
 }
 
-// Appends the call that writes a struct.
 fn put_struct(
     alloc: Global,
     out: &mut String,
@@ -63,14 +62,12 @@ fn put_struct(
     }
 }
 
-// Appends the call that writes a struct as an array.
 fn put_elements(alloc: Global, out: &mut String, fields: &[Field]) -> Result<(), AllocError> {
     let values = pairs(alloc, &references(alloc, fields)?, "()")?;
     write!(out, "        ser.serialize_elements(&{values})\n")
 }
 
-// Appends the call that writes a struct with integer keys or many fields, or one of which fields
-// may be left out.
+// For integer keys, many fields, or fields that may be left out.
 fn put_listed(
     alloc: Global,
     out: &mut String,
@@ -112,7 +109,6 @@ fn arguments(alloc: Global, name: &str, fields: &[Field]) -> Result<Vec<String>,
     Ok(arguments)
 }
 
-// Each field's value, as it is listed.
 fn values(alloc: Global, fields: &[Field]) -> Result<Vec<String>, AllocError> {
     let mut values = Vec::new(alloc);
     for field in fields {

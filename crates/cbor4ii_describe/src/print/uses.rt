@@ -65,7 +65,6 @@ enum File {
     Choice,
 }
 
-// The path of a file of ghost words.
 fn path(file: File) -> &'static str {
     match file {
         File::Prelude => "std.specs.Prelude",
@@ -210,7 +209,6 @@ fn put_words(out: &mut String, types: &[Described]) -> Result<(), AllocError> {
     Ok(())
 }
 
-// Appends the line that imports a type of this module in its own ghosts.
 fn put_own(out: &mut String, module: &str, name: &str) -> Result<(), AllocError> {
     out.push_str("ghost use Rattle")?;
     for (i, part) in module.split("::").enumerate() {
@@ -222,12 +220,10 @@ fn put_own(out: &mut String, module: &str, name: &str) -> Result<(), AllocError>
     write!(out, ".{name}.{{{name}}};\n")
 }
 
-// Appends what begins a line of ghost words.
 fn begin_line(out: &mut String, file: &str, word: &str) -> Result<(), AllocError> {
     write!(out, "ghost use Rattle.{file}.{{{word}")
 }
 
-// Appends what ends a line of ghost words, where one is open.
 fn end_line(out: &mut String, is_open: bool) -> Result<(), AllocError> {
     if is_open {
         out.push_str("};\n")
@@ -236,7 +232,6 @@ fn end_line(out: &mut String, is_open: bool) -> Result<(), AllocError> {
     }
 }
 
-// The names of `cbor4ii::serde` that these types name.
 fn serde_names(alloc: Global, types: &[Described]) -> Result<Vec<String>, AllocError> {
     let mut names = Vec::new(alloc);
     for (name, why) in NAMES {
@@ -247,12 +242,11 @@ fn serde_names(alloc: Global, types: &[Described]) -> Result<Vec<String>, AllocE
     Ok(names)
 }
 
-// Whether one of the types imports what is imported for this.
+// Whether one of the types imports what is imported for this; so it is below.
 fn is_wanted(types: &[Described], why: For) -> bool {
     types.iter().any(|described| wants(described, why))
 }
 
-// Whether a type imports what is imported for this.
 fn wants(described: &Described, why: For) -> bool {
     let parameter = &described.parameter;
     match (why, &described.shape) {
@@ -273,7 +267,6 @@ fn wants(described: &Described, why: For) -> bool {
     }
 }
 
-// Whether fields that are written in this way import what is imported for this.
 fn form_wants(form: Form, why: For) -> bool {
     match why {
         For::Values => true,
@@ -307,7 +300,6 @@ fn names(its_type: &str, parameter: &Parameter, why: For) -> bool {
     is_so && mentions(its_type, name.as_str())
 }
 
-// Whether an enum of these variants imports what is imported for this.
 fn enum_wants(variants: &[Variant], why: For) -> bool {
     match why {
         For::AnyReader | For::Codes | For::Enum | For::Never => true,
@@ -316,7 +308,6 @@ fn enum_wants(variants: &[Variant], why: For) -> bool {
     }
 }
 
-// Whether a variant imports what is imported for this.
 fn variant_wants(variant: &Variant, why: For) -> bool {
     match (&variant.holds, why) {
         (Content::Nothing, For::Unit) => true,
@@ -327,7 +318,6 @@ fn variant_wants(variant: &Variant, why: For) -> bool {
     }
 }
 
-// Whether a field imports what is imported for this.
 fn field_wants(field: &Field, why: For) -> bool {
     match (&field.presence, why) {
         (_, For::Positive) => matches!(field.key, Key::Positive(_)),
@@ -348,7 +338,6 @@ fn field_wants(field: &Field, why: For) -> bool {
     }
 }
 
-// Whether a default imports what is imported for this.
 fn default_wants(ghost_text: &str, why: For) -> bool {
     match why {
         For::OrNone => ghost_text == "None",

@@ -11,7 +11,6 @@ use std::alloc::{AllocError, Global};
 // The names of a variant's parts, in a ghost and where they have none.
 const PLACES: [&str; 4] = ["first", "second", "third", "fourth"];
 
-// So many names of parts.
 fn place_names(alloc: Global, count: usize) -> Result<Vec<String>, AllocError> {
     let mut names = Vec::new(alloc);
     for name in PLACES.iter().take(count) {
@@ -20,7 +19,6 @@ fn place_names(alloc: Global, count: usize) -> Result<Vec<String>, AllocError> {
     Ok(names)
 }
 
-// A text in quotes.
 fn quoted(alloc: Global, text: &str) -> Result<String, AllocError> {
     format!(in alloc; "\"{text}\"")
 }
@@ -92,7 +90,6 @@ fn held(alloc: Global, count: usize) -> Result<String, AllocError> {
     }
 }
 
-// Appends the name of each field as it is written, and its value.
 fn push_named(alloc: Global, items: &mut Vec<String>, fields: &[Field]) -> Result<(), AllocError> {
     let keys = keys(alloc, fields)?;
     for (key, field) in keys.into_iter().zip(fields) {
@@ -165,7 +162,6 @@ fn put_others(
     write!(out, "        let others = {others};\n")
 }
 
-// Appends how a variant of these fields is read, before the others.
 fn put_reading(alloc: Global, out: &mut String, fields: &[Field]) -> Result<(), AllocError> {
     let names = list(alloc, &keys(alloc, fields)?)?;
     let missing = list(alloc, &missing(alloc, fields)?)?;
@@ -241,7 +237,6 @@ fn content_type(alloc: Global, variant: &Variant) -> Result<String, AllocError> 
     }
 }
 
-// An only item, or a tuple of several.
 fn tuple(alloc: Global, items: &[String]) -> Result<String, AllocError> {
     let items_text = list(alloc, items)?;
     if items.len() == 1 {
@@ -344,7 +339,6 @@ fn put_held_places(alloc: Global, out: &mut String, variant: &Variant) -> Result
     Ok(())
 }
 
-// How many parts a variant has.
 fn count(variant: &Variant) -> usize {
     match &variant.holds {
         Content::Nothing => 0,
@@ -396,7 +390,6 @@ pub fn put_enum_codec(
     Ok(())
 }
 
-// Appends the codec of a variant, and what opens that of the others.
 fn put_variant_codec(alloc: Global, out: &mut String, variant: &Variant) -> Result<(), Fault> {
     let label = variant.label.as_str();
     match &variant.holds {
