@@ -20,7 +20,6 @@ use cbor4ii_bench_kit::task::{Job, run_jobs};
 use std::alloc::Global;
 use std::process::ExitCode;
 
-/// A job.
 #[derive(Clone, Copy, Debug)]
 enum Work {
     Ingest,

@@ -107,7 +107,6 @@ fn pushed(writer: &mut BufWriter, bytes: &[u8]) -> Result<(), Fault> {
     }
 }
 
-// Skips each item of `input`, and joins how many bytes it has.
 fn skip_each(alloc: Global, input: &[u8], digest: &mut Digest) -> Result<(), Fault> {
     let mut reader = SliceReader::new(input);
     let mut left = input.len();

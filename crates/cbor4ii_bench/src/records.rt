@@ -118,7 +118,6 @@ impl AsDescribed for Context {
     ghost agrees = { as_described tt refl };
 }
 
-/// A record of a log.
 #[derive(Debug, Drop)]
 struct Record {
     ts: u64,

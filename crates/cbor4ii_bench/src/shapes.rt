@@ -83,7 +83,6 @@ fn context(writer: &mut BufWriter, noise: &mut Noise) -> Result<(), Fault> {
     Ok(())
 }
 
-// An integer of either sign.
 fn signed(writer: &mut BufWriter, noise: &mut Noise) -> Result<(), Fault> {
     let number = (noise.uneven() >> 1) as i64;
     if noise.below(2) == 0 {
