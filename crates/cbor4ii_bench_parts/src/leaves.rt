@@ -192,8 +192,7 @@ impl Leaf for F64 {
     }
 }
 
-/// A stream into a digest. It is of a type of its own, so that what is written to it is compiled
-/// apart from what other works write.
+/// A type of its own, so that what is written to it is compiled apart from what other works write.
 #[derive(Drop)]
 struct Stream<'a>(Sink<'a>);
 
@@ -223,7 +222,6 @@ pub fn round<T: Leaf>(alloc: Global, noise: &mut Noise, digest: &mut Digest) -> 
     Ok(())
 }
 
-// Writes the vector to a buffered stream.
 fn write_to_stream<T: Serialize>(
     alloc: Global,
     value: &Vec<T>,
@@ -234,14 +232,12 @@ fn write_to_stream<T: Serialize>(
     Ok(())
 }
 
-// Reads the vector of these bytes, and joins its leaves.
 fn read_from_slice<T: Leaf>(alloc: Global, bytes: &[u8], digest: &mut Digest) -> Result<(), Fault> {
     let mut de = Deserializer::new(SliceReader::new(bytes));
     join(&T::read(alloc, &mut de)?, digest);
     Ok(())
 }
 
-// Reads the vector of a stream of these bytes, and joins its leaves.
 fn read_from_stream<T: Leaf>(
     alloc: Global,
     bytes: &[u8],

@@ -21,7 +21,6 @@ use cbor4ii_items::types::{F16, F32, F64};
 use std::alloc::Global;
 use std::process::ExitCode;
 
-/// A job.
 #[derive(Clone, Copy, Debug)]
 enum Part {
     Skipped,

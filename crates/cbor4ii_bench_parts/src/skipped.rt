@@ -39,7 +39,6 @@ pub fn round(alloc: Global, noise: &mut Noise, digest: &mut Digest) -> Result<()
     Ok(())
 }
 
-// A record of six small fields.
 fn small_fields(writer: &mut BufWriter, noise: &mut Noise) -> Result<(), Fault> {
     Map::bounded(6, writer)?;
     "id".encode(writer)?;
@@ -57,7 +56,6 @@ fn small_fields(writer: &mut BufWriter, noise: &mut Noise) -> Result<(), Fault> 
     Ok(())
 }
 
-// A record of three floats, and an array of eight.
 fn floats(writer: &mut BufWriter, noise: &mut Noise) -> Result<(), Fault> {
     Map::bounded(4, writer)?;
     "lat".encode(writer)?;

@@ -30,7 +30,6 @@ pub fn round(alloc: Global, noise: &mut Noise, digest: &mut Digest) -> Result<()
     Ok(())
 }
 
-// A small item.
 fn small(writer: &mut BufWriter, noise: &mut Noise) -> Result<(), Fault> {
     match noise.below(6) {
         0 => Null.encode(writer)?,
@@ -50,7 +49,6 @@ fn small(writer: &mut BufWriter, noise: &mut Noise) -> Result<(), Fault> {
     Ok(())
 }
 
-// Reads each item of `input`, and joins what it holds.
 fn read_each(alloc: Global, input: &[u8], digest: &mut Digest) -> Result<(), Fault> {
     let mut reader = SliceReader::new(input);
     for _ in 0..ITEMS {

@@ -38,7 +38,6 @@ pub fn round(alloc: Global, noise: &mut Noise, digest: &mut Digest) -> Result<()
     Ok(())
 }
 
-// Reads the texts as one value, and writes it again.
 fn as_value(alloc: Global, texts: &[u8], digest: &mut Digest) -> Result<(), Fault> {
     let value = Value::decode(alloc, &mut SliceReader::new(texts))?;
     let mut again = BufWriter::new(Vec::new(alloc));
@@ -47,7 +46,6 @@ fn as_value(alloc: Global, texts: &[u8], digest: &mut Digest) -> Result<(), Faul
     Ok(())
 }
 
-// Reads the texts as strings, and writes them again.
 fn as_strings(alloc: Global, texts: &[u8], digest: &mut Digest) -> Result<(), Fault> {
     let strings: Vec<String> = from_slice(alloc, texts)?;
     digest.bytes(&to_vec(Vec::new(alloc), &strings)?);

@@ -32,7 +32,6 @@ pub fn round(alloc: Global, noise: &mut Noise, digest: &mut Digest) -> Result<()
     write_each(alloc, &ordered_map(alloc, noise)?, digest)
 }
 
-// Writes the value to a buffered stream, time after time.
 fn write_each<T: Serialize>(alloc: Global, value: &T, digest: &mut Digest) -> Result<(), Fault> {
     let mut writer = BufWriter::new(alloc, Sink::new(digest))?;
     for _ in 0..PASSES {
@@ -107,7 +106,6 @@ fn ordered_map(alloc: Global, noise: &mut Noise) -> Result<BTreeMap<String, u64>
     Ok(map)
 }
 
-// An integer of either sign.
 fn signed(noise: &mut Noise) -> i64 {
     let number = (noise.uneven() >> 1) as i64;
     if noise.below(2) == 0 {
