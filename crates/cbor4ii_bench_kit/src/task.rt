@@ -19,7 +19,6 @@ pub trait Job: Copy {
     fn run(self, alloc: Global, seed: u64, rounds: u64) -> Result<u64, Fault>;
 }
 
-/// What the words ask for.
 #[derive(Drop)]
 struct Task<J> {
     jobs: Vec<J>,
@@ -56,7 +55,6 @@ pub fn run_jobs<J: Job>(
     ExitCode::from(0)
 }
 
-// What the arguments ask for, if they ask for anything.
 fn read_task<J: Job>(rt: &(impl Env + AllocGlobal), all: &[J]) -> io::Result<Option<Task<J>>> {
     let words: Vec<String> = env::args(rt)?.skip(1).collect(rt.alloc())?;
     let [job, seed, rounds] = words.as_slice() else {
