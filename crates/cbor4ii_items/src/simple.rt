@@ -35,12 +35,7 @@ impl Decodable for Simple {
 ///
 /// # Errors
 ///
-/// `Read` is described at `Decode::decode`. The others have the name "simple":
-///
-/// - `Eof` with 1: no byte is left
-/// - `Eof` with k: the argument has k bytes and fewer are left. Nothing is left then
-/// - `Mismatch` with the first byte, which is taken: it begins no head of major type 7 with at most
-///   one byte of argument
+/// Those of a `u8`, by "simple", at major type 7 in the place of 0.
 impl<S: Source> Decode<S> for Simple {
     #[inline(always)]
     fn decode(alloc: Global, reader: &mut S) -> Result<Simple, DecodeError<S::Error>> {

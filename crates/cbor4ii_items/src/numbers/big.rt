@@ -272,12 +272,9 @@ impl Decodable for i128 {
 ///
 /// - `Eof` by "i128" with 1: no byte is left, or none for the number of a tag that takes a byte.
 ///   Nothing is left then
-/// - `Eof` by "u64" with k: the argument of a head of major type 0 has k bytes and fewer are left.
-///   Nothing is left then
+/// - those of a `u128` by "u64", which leave the same
 /// - `Eof` by "i128" with k: the argument of a head of major type 1 has k bytes and fewer are left.
 ///   Nothing is left then
-/// - `Mismatch` by "u64" with the first byte, which is taken: it is of major type 0, and its
-///   additional information says no argument
 /// - `Mismatch` by "i128" with the first byte, which is taken: it is not of major type 0. It begins
 ///   neither a head of major type 1 nor a tag with at most one byte of argument
 /// - `Mismatch` by "i128::tag" with the number of the tag: it is neither 2 nor 3. What follows the

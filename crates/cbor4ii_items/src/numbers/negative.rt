@@ -30,12 +30,7 @@ impl Decodable for Negative<u8> {
 ///
 /// # Errors
 ///
-/// `Read` is described at `Decode::decode`. The others have the name "-u8":
-///
-/// - `Eof` with 1: no byte is left
-/// - `Eof` with k: the argument has k bytes and fewer are left. Nothing is left then
-/// - `Mismatch` with the first byte, which is taken: it begins no head of major type 1 with at most
-///   one byte of argument
+/// Those of a `u8`, by "-u8", at major type 1 in the place of 0.
 impl<S: Source> Decode<S> for Negative<u8> {
     #[inline(always)]
     fn decode(alloc: Global, reader: &mut S) -> Result<Negative<u8>, DecodeError<S::Error>> {

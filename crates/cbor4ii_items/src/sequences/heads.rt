@@ -78,12 +78,7 @@ impl Map<()> {
     ///
     /// # Errors
     ///
-    /// The budget stays.
-    ///
-    /// - `Read`: the reader failed. An element of the head may be taken then
-    /// - `Eof` by "map" with 1: no byte is left
-    /// - `Eof` by "map" with k: the argument has k bytes and fewer are left. Nothing is left then
-    /// - `Mismatch` by "map" with the first byte, which is taken: it begins no map
+    /// Those of `Array::len`, by "map", at a map in the place of an array. The budget stays.
     pub fn len<S: Source>(reader: &mut S) -> Result<Option<usize>, DecodeError<S::Error>>
         ensures { Decodes (length_format (codes "map") 5)
             (S.view reader.old) (S.view reader.new) result }

@@ -88,7 +88,6 @@ fn take_definite<S: Source, Q: Sequence<S>>(
     Ok(parts)
 }
 
-/// Reads elements up to a break.
 fn take_indefinite<S: Source, Q: Sequence<S>>(
     alloc: Global,
     reader: &mut S,

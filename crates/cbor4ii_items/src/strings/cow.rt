@@ -82,24 +82,11 @@ impl<'de, R: Read<'de>> LendOrOwn<R> for CowStr<'de, Global> {
 /// 3.2.3). One of definite length is a slice of the input where one fill lends all of its bytes as
 /// long as the input lives. Elsewhere they are copied. One of indefinite length is always copied,
 /// of one chunk too: it is known only after a chunk whether more follow. A copy takes steps and
-/// memory as that of an owned string does.
+/// memory as a `String` does.
 ///
 /// # Errors
 ///
-/// `Read` and `OutOfMemory` are described at `Decode::decode`. The others come in this order, over
-/// every reader, by "str" where no other name is said:
-///
-/// - `Eof` with 1: no byte is left
-/// - `Eof` with k: the argument of the head has k bytes and fewer are left. Nothing is left then
-/// - `Mismatch` with the first byte, which is taken: it begins no text string
-/// - `Eof` with the number of bytes that are missing: the content is cut. Nothing is left then
-/// - `Eof` by "break" with 1: no byte is left in the place of a chunk or a break
-/// - `DepthOverflow`: no step is left for a chunk. The chunk is left
-/// - `RequireLength` with `Indefinite`: a chunk has an indefinite length. What follows its first
-///   byte is left
-/// - `Eof` or `Mismatch`, those of the string itself: a chunk is cut, or is no text string. What is
-///   left is the same
-/// - `RequireUtf8`: the text is not UTF-8. The whole item is taken then
+/// Those of a `String`, in the same order, over every reader.
 impl<'de, R: Read<'de>> Decode<R> for CowStr<'de, Global> {
     fn decode(alloc: Global, reader: &mut R) -> Result<CowStr<'de, Global>, DecodeError<R::Error>>
         ensures decodes { Decodes (text_format (codes "str") cow_text)

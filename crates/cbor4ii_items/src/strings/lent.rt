@@ -14,13 +14,11 @@ use std::alloc::Global;
 
 /// Why a content is not lent, with no name in it.
 pub(crate) enum Lacks<E> {
-    /// The reader failed.
     Read(E),
     /// The bytes do not live as long as the input.
     Short,
     /// So many bytes are shown, which are too few.
     Few(usize),
-    /// The content is not UTF-8.
     NotUtf8,
 }
 
