@@ -73,7 +73,6 @@ impl BoxedRawValue {
     }
 }
 
-/// One item, skipped under a step for each level.
 impl Decodable for BoxedRawValue {
     ghost format = { boxed_raw_format };
 

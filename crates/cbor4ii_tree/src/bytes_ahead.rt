@@ -52,7 +52,6 @@ pub(crate) trait BytesAhead<S: Source>: Sized {
         KeepsAllButBudget (view prefix old) (view prefix new) };
 }
 
-/// The reader's own bytes.
 #[derive(Drop)]
 pub(crate) struct Own;
 
@@ -138,7 +137,6 @@ fn see_with_size<S: Source>(
     }
 }
 
-/// Bytes that were lent.
 #[derive(Drop)]
 pub(crate) struct Lent<'a> {
     pub(crate) rest: &'a [u8],

@@ -214,7 +214,6 @@ fn read_next<S: Source, A: Encodings>(
     }
 }
 
-/// Reads a tag, and the value after it.
 #[cycle(read)]
 #[inline(always)]
 fn read_tag<S: Source, A: Encodings>(
@@ -332,7 +331,6 @@ fn read_alone<S: Source, A: Encodings>(
     }
 }
 
-/// Reads an array's values, under one step.
 #[cycle(read)]
 #[inline(always)]
 fn read_array<S: Source, A: Encodings>(

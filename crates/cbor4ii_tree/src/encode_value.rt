@@ -186,7 +186,6 @@ fn push<W: Write>(
     }
 }
 
-/// The answer of a call, whose error goes to `failure`.
 #[inline(always)]
 fn part<E: Drop>(answer: Result<(), E>, failure: &mut Option<E>) -> Option<()>
     ensures { Sends answer result failure.new }

@@ -18,7 +18,6 @@ use std::alloc::Global;
 #[derive(Clone, Copy, Debug, PartialEq, Eq)]
 pub struct IgnoredAny;
 
-/// One item is skipped, under a step for each level.
 impl Decodable for IgnoredAny {
     ghost format = { leaf_format ReadsIgnored SkippingRejects };
 

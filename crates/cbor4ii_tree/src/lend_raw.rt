@@ -15,10 +15,8 @@ use cbor4ii_rw::error::DecodeError;
 use cbor4ii_rw::read::Source;
 use std::alloc::Global;
 
-/// Why no prefix is lent.
 #[derive(Debug)]
 pub(crate) enum NoPrefix<E> {
-    /// The reader failed.
     Read(E),
     /// The bytes do not live as long as the input.
     Short,

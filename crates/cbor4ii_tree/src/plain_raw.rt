@@ -61,7 +61,6 @@ impl<'de> PlainRawValue<'de> {
     }
 }
 
-/// One item, read as a value under a step for each level.
 impl<'de> Decodable for PlainRawValue<'de> {
     ghost format = { plain_raw_format };
 

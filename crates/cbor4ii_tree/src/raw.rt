@@ -82,7 +82,6 @@ impl<'de> RawValue<'de> {
     }
 }
 
-/// One item, skipped under a step for each level.
 impl<'de> Decodable for RawValue<'de> {
     ghost format = { raw_format raw_content };
 

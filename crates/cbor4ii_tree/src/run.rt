@@ -16,7 +16,6 @@ use cbor4ii_rw::error::DecodeError;
 use cbor4ii_rw::read::Source;
 use std::alloc::Global;
 
-/// What one look has for a run.
 pub(crate) enum RunSeen {
     /// Values, in so many bytes.
     Whole(usize),
@@ -26,7 +25,6 @@ pub(crate) enum RunSeen {
     Begins(Next),
     /// Values, and then one for which there was no memory, in so many bytes.
     NoMemory(usize),
-    /// No byte.
     End,
 }
 

@@ -106,7 +106,6 @@ fn rejection<E>(start: Start, first: u8) -> Option<DecodeError<E>>
     }
 }
 
-/// What a head is read as, in an error.
 fn head_name(start: Start) -> StaticStr
     ensures { result.now ≡ head_name start }
 {

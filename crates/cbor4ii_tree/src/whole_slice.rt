@@ -76,11 +76,7 @@ impl Canonical {
     ///
     /// # Errors
     ///
-    /// - `Decode` of an error of `Canonical`: no canonical encoding that is read begins the input.
-    ///   `OutOfMemory` where a growth was refused: never where no string, tag, array or map begins
-    ///   it
-    /// - `Trailing`: a canonical encoding begins the input, and so many bytes follow it, one at
-    ///   least
+    /// Those of `Value::from_slice_whole`, with `Canonical` in the place of `Value`.
     pub fn from_slice_whole(
         alloc: Global,
         input: &[u8],
