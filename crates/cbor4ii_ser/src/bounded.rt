@@ -25,12 +25,8 @@ use cbor4ii_rw::write::Write;
 ///
 /// # Errors
 ///
-/// A call that fails does not change `left`.
-///
-/// - `Core` of `Write`: the writer failed in the call. An atomic one then holds what it held before
-///   and a beginning of what the call writes. Of another writer nothing is said
-/// - `Custom` with the words of a type: a part is rejected. Exactly what stands before the error is
-///   appended, and stays. The array or map is no item any more
+/// A call that fails does not change `left`. The errors and what they leave are those of
+/// `Serializer`. An array or a map in which a part was rejected is no item any more.
 #[derive(Debug, Drop)]
 pub struct BoundedCollect<'a, W: Write> {
     pub(crate) ser: &'a mut Serializer<W>,

@@ -25,7 +25,8 @@ use cbor4ii_rw::write::Write;
 ///
 /// A call that fails changes neither `left` nor `owes_value`, unless it is a pair that fails at its
 /// value. Of that the key is written, `left` is lowered if it counts, and the value is owed. The
-/// errors and what they leave are those of `BoundedCollect`.
+/// errors and what they leave are those of `Serializer`. An array or a map in which a part was
+/// rejected is no item any more.
 #[derive(Debug, Drop)]
 pub struct Collect<'a, W: Write> {
     pub(crate) ser: &'a mut Serializer<W>,

@@ -26,7 +26,6 @@ impl<E> EncodeError<E> {
     }
 }
 
-/// The codec's own error, in `Core`.
 impl<E> From<core_error::EncodeError<E>> for EncodeError<E> {
     ghost from_gives = { λ error result. result ≡ Core error };
 

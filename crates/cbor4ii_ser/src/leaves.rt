@@ -1,4 +1,6 @@
-//! Values that are one item, and values that wrap one.
+//! Values that are one item, and values that wrap one. Integers of at most 64 bits are their
+//! shortest head (RFC 8949 section 3.1), and floats their first byte and their bits, most
+//! significant first: one push each.
 ghost use Rattle.std.specs.Prelude.{◌∷◌, [], string_bytes};
 ghost use Rattle.std.specs.Char.{encode_utf8};
 ghost use Rattle.cbor4ii_items.specs.Cow.{cow_text};
@@ -38,7 +40,6 @@ impl Serialize for bool {
     }
 }
 
-/// Its shortest head (RFC 8949 section 3.1), in one push.
 impl Serialize for i8 {
     ghost encoding = { λ v. encoded (signed_head v) };
 
@@ -58,7 +59,6 @@ impl Serialize for i8 {
     }
 }
 
-/// Its shortest head (RFC 8949 section 3.1), in one push.
 impl Serialize for i16 {
     ghost encoding = { λ v. encoded (signed_head v) };
 
@@ -78,7 +78,6 @@ impl Serialize for i16 {
     }
 }
 
-/// Its shortest head (RFC 8949 section 3.1), in one push.
 impl Serialize for i32 {
     ghost encoding = { λ v. encoded (signed_head v) };
 
@@ -98,7 +97,6 @@ impl Serialize for i32 {
     }
 }
 
-/// Its shortest head (RFC 8949 section 3.1), in one push.
 impl Serialize for i64 {
     ghost encoding = { λ v. encoded (signed_head v) };
 
@@ -128,7 +126,6 @@ impl Serialize for i128 {
     }
 }
 
-/// Its shortest head (RFC 8949 section 3.1), in one push.
 impl Serialize for u8 {
     ghost encoding = { λ v. encoded (shortest_head 0 v) };
 
@@ -148,7 +145,6 @@ impl Serialize for u8 {
     }
 }
 
-/// Its shortest head (RFC 8949 section 3.1), in one push.
 impl Serialize for u16 {
     ghost encoding = { λ v. encoded (shortest_head 0 v) };
 
@@ -168,7 +164,6 @@ impl Serialize for u16 {
     }
 }
 
-/// Its shortest head (RFC 8949 section 3.1), in one push.
 impl Serialize for u32 {
     ghost encoding = { λ v. encoded (shortest_head 0 v) };
 
@@ -188,7 +183,6 @@ impl Serialize for u32 {
     }
 }
 
-/// Its shortest head (RFC 8949 section 3.1), in one push.
 impl Serialize for u64 {
     ghost encoding = { λ v. encoded (shortest_head 0 v) };
 
@@ -218,7 +212,6 @@ impl Serialize for u128 {
     }
 }
 
-/// Its first byte and its bits, most significant first, in one push.
 impl Serialize for F16 {
     ghost encoding = { λ v. encoded (float_bytes 0xf9 2 v.0) };
 
@@ -238,7 +231,6 @@ impl Serialize for F16 {
     }
 }
 
-/// Its first byte and its bits, most significant first, in one push.
 impl Serialize for F32 {
     ghost encoding = { λ v. encoded (float_bytes 0xfa 4 v.0) };
 
@@ -258,7 +250,6 @@ impl Serialize for F32 {
     }
 }
 
-/// Its first byte and its bits, most significant first, in one push.
 impl Serialize for F64 {
     ghost encoding = { λ v. encoded (float_bytes 0xfb 8 v.0) };
 
