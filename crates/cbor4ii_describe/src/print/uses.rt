@@ -242,7 +242,7 @@ fn serde_names(alloc: Global, types: &[Described]) -> Result<Vec<String>, AllocE
     Ok(names)
 }
 
-// Whether one of the types imports what is imported for this; so it is below.
+// Whether one of the types imports what is imported for this. Those below ask it of a part.
 fn is_wanted(types: &[Described], why: For) -> bool {
     types.iter().any(|described| wants(described, why))
 }
