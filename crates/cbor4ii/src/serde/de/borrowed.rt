@@ -45,7 +45,8 @@ impl<'de> Deserialize<SliceReader<'de>> for &'de str {
 }
 
 /// A text of definite length that stands in one segment, with no copy. Its errors are those over a
-/// slice. A text of which no segment holds the whole content was copied too.
+/// slice. A text of which no segment holds the whole content was copied too, and is
+/// `RequireBorrowed`.
 impl<'de> Deserialize<SegmentReader<'de>> for &'de str {
     fn deserialize(
         alloc: Global,

@@ -91,10 +91,7 @@ impl<S: Source> Deserializer<S> {
     ///
     /// # Errors
     ///
-    /// - `Core` of `DepthOverflow` by "tuple": no step is left, and nothing was taken
-    /// - `Core` of `Eof` or `Mismatch` by "array": the head is cut, or it is another's
-    /// - `Core` of `RequireLength` by "tuple" with the length that was found, which is another or
-    ///   indefinite. Its head was taken
+    /// - those of `deserialize_tuple` of so many, at the step and the head
     /// - those of each element, with what they leave. What was read before is let go then, and what
     ///   follows it is left
     pub fn deserialize_elements<

@@ -12,7 +12,7 @@ use cbor4ii_items::types::{Array, Map};
 use cbor4ii_rw::error::DecodeError;
 use cbor4ii_rw::read::Source;
 
-/// Where the head is rejected, the step is given back; so it is below.
+/// Where the head is rejected, the step is given back, here and below.
 pub(crate) fn begin_array<S: Source>(reader: &mut S) -> Result<Left, DecodeError<S::Error>>
     ensures opened { IfOk result (λ left.
         OpensParts 4 (S.view reader.old) (S.view reader.new) left) }

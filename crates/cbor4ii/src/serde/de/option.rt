@@ -44,11 +44,7 @@ impl<T: Typed> Typed for Option<T> {
 ///
 /// # Errors
 ///
-/// - `Core` of `Read`: the reader failed
-/// - `Core` of `Eof` by "option" with 1: no byte is left
-/// - `Core` of `DepthOverflow` by "option": a value comes and no step is left. Nothing is taken
-///   then
-/// - those of the value, with what they leave
+/// Those of `deserialize_option`, and those of the value, with what they leave.
 impl<S: Source, T: Deserialize<S>> Deserialize<S> for Option<T> {
     #[inline(always)]
     fn deserialize(

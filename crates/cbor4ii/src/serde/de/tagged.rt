@@ -19,12 +19,7 @@ impl<S: Source> Deserializer<S> {
     ///
     /// # Errors
     ///
-    /// `Core` of `Read` is described at `Deserialize::deserialize`. The others are these:
-    ///
-    /// - `Core` of `Eof` by "tag" with 1: no byte is left
-    /// - `Core` of `Eof` by "tag" with k: the tag's number has k bytes and fewer are left. Nothing
-    ///   is left then
-    /// - `Core` of `Mismatch` by "tag" with the first byte, which is taken: it begins no tag
+    /// - those of `Tag::tag`, each as `Core`, with what they leave
     /// - `Custom` of "expected another tag": the tag's number is another. Its head is taken then,
     ///   and the item that it tags is left
     /// - after the tag those of the value, with what they leave
