@@ -16,7 +16,7 @@ use cbor4ii_rw::ask::look;
 use cbor4ii_rw::error::{DecodeError, Len, StaticStr};
 use cbor4ii_rw::read::Source;
 
-/// The next byte, which stays. `expect` goes into the error at the end.
+/// The next byte, which stays. At the end of the input the error has `expect`.
 #[inline(always)]
 pub(crate) fn peek<S: Source>(
     reader: &mut S,
@@ -44,7 +44,7 @@ pub(crate) fn peek<S: Source>(
     }
 }
 
-/// The next byte, taken. `expect` goes into the error at the end.
+/// The next byte, taken. At the end of the input the error has `expect`.
 #[inline(always)]
 pub(crate) fn take_byte<S: Source>(
     reader: &mut S,
