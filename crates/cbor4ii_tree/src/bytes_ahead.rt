@@ -13,7 +13,7 @@ use crate::ahead::{Ahead, Among, ahead_of, head_size};
 use cbor4ii_rw::ask::look;
 use cbor4ii_rw::read::Source;
 
-/// How many bytes a look asks for that decides what comes next, at most.
+/// A look that decides what comes next asks for at most so many bytes.
 const WINDOW: usize = 256;
 
 /// Bytes that are looked at before they are taken, under the steps of a reader.

@@ -169,7 +169,7 @@ fn number<S: Source, F: BytesAhead<S>>(
     Ok(value)
 }
 
-/// The next byte, taken. `expect` goes into the error at the end.
+/// The next byte, taken. At the end of the input the error has `expect`.
 fn take_byte<S: Source, F: BytesAhead<S>>(
     prefix: &mut F,
     reader: &mut S,
@@ -187,7 +187,7 @@ fn take_byte<S: Source, F: BytesAhead<S>>(
     Ok(byte)
 }
 
-/// The next byte, which stays. `expect` goes into the error at the end.
+/// The next byte, which stays. At the end of the input the error has `expect`.
 fn peek<S: Source, F: BytesAhead<S>>(
     prefix: &mut F,
     reader: &mut S,
