@@ -314,10 +314,10 @@ pub(crate) fn take_struct<K: ReadKey, S: Source, V: Values<S> + Drop, P: Presenc
 
 impl<S: Source> Deserializer<S> {
     /// A struct of fields that have these keys, texts or integers: a map from their keys to their
-    /// values, of any length, in any order. A pair of another key is skipped, a field of which no
-    /// pair came is missing, and of several pairs of one key the last counts, or the struct is
-    /// rejected where the field may come once. Of two fields of one key the first is read. The
-    /// struct's own name is not encoded.
+    /// values, of any length, in any order. A pair of another key is skipped. A field of which no
+    /// pair came is missing. Of several pairs of one key the last counts, or the struct is rejected
+    /// where the field may come once. Of two fields of one key the first is read. The struct's own
+    /// name is not encoded.
     ///
     /// `presences` says of each field whether it has to be there, what stands in its place else,
     /// and whether it may come once alone. `missing` has the words of each, in the order of the
@@ -325,11 +325,8 @@ impl<S: Source> Deserializer<S> {
     /// is made of the values, nested pairs in the order of the keys.
     ///
     /// A key is read by `ReadKey`, and what is skipped as `IgnoredAny`, both under the step of the
-    /// map. So names are read as `String`, and integers as `i128`, where a text is the key of no
-    /// field. A text of at most 255 bytes takes no memory where it stands whole in what the reader
-    /// shows, after a head of one or two bytes. The budget is as before, whatever the answer is.
-    /// Where the keys are integers, memory is wanted by a field whose type takes some, or where a
-    /// text comes, and nowhere else.
+    /// map. The budget is as before, whatever the answer is. Where the keys are integers, memory is
+    /// wanted by a field whose type takes some, or where a text comes, and nowhere else.
     ///
     /// How many fields compile goes by their types: up to 21 of `Option<u8>`, and up to 14 of
     /// `Vec<(u8, Option<String>)>`. Of more the compiler says `overflowing-bound`, and the struct

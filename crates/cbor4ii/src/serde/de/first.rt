@@ -59,16 +59,12 @@ pub fn from_slice_whole<I: Input, T: Deserialize<I::Reader> + Drop>(
     Ok(value)
 }
 
-/// Reads `input`, a slice, as one value, as `from_slice_whole` does. An error tells its byte, too:
-/// how many bytes were taken, so that what it leaves begins there.
+/// Reads `input`, a slice, as one value, as `from_slice_whole` does. An error tells its byte, too,
+/// as one of `decode_whole_at` does.
 ///
 /// # Errors
 ///
-/// Those of `from_slice_whole`:
-///
-/// - `Decode`: the byte is that of the error's rest. Where an input of a user's own failed, it is
-///   at most the number of bytes
-/// - `Trailing`: the byte is the first one after the value
+/// Those of `from_slice_whole`.
 pub fn from_slice_whole_at<I: Input, T: Deserialize<I::Reader> + Drop>(
     alloc: Global,
     input: I,
