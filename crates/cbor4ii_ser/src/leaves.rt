@@ -279,7 +279,6 @@ impl Serialize for char {
     }
 }
 
-/// A text.
 impl<'a> Serialize for &'a str {
     ghost encoding = { λ v. encoded (definite_string 3 v.now) };
 
@@ -299,7 +298,6 @@ impl<'a> Serialize for &'a str {
     }
 }
 
-/// A text.
 impl Serialize for String {
     ghost encoding = { λ v. encoded (definite_string 3 (string_bytes v)) };
 
@@ -339,7 +337,6 @@ impl<'a> Serialize for CowStr<'a, Global> {
     }
 }
 
-/// A byte string.
 impl<'a> Serialize for Bytes<&'a [u8]> {
     ghost encoding = { λ v. encoded (definite_string 2 v.0.now) };
 
@@ -359,7 +356,6 @@ impl<'a> Serialize for Bytes<&'a [u8]> {
     }
 }
 
-/// A byte string.
 impl Serialize for Bytes<Vec<u8>> {
     ghost encoding = { λ v. encoded (definite_string 2 v.0.items) };
 

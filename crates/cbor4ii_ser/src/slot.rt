@@ -74,7 +74,6 @@ pub(crate) fn push_head_apart<W: Write>(
     push_head(writer, major, argument, answer)
 }
 
-/// Writes the shortest head of this major type with this argument, in line.
 #[inline(always)]
 pub(crate) fn push_head<W: Write>(
     writer: &mut W,
@@ -93,7 +92,7 @@ pub(crate) fn push_head<W: Write>(
     }
 }
 
-/// Writes the head of an array or a map: in line, but to a writer with a large error apart.
+/// The head of an array or a map. In line, but to a writer with a large error apart.
 #[inline(always)]
 pub(crate) fn push_parts_head<W: Write>(
     writer: &mut W,
@@ -126,7 +125,7 @@ fn push_long_head_apart<W: Write>(
     push_long_head(writer, major, argument, answer)
 }
 
-/// In line, for an argument that has bytes of its own.
+/// For an argument that has bytes of its own.
 #[inline(always)]
 pub(crate) fn push_long_head<W: Write>(
     writer: &mut W,
@@ -168,7 +167,6 @@ pub(crate) fn push_f16_apart<W: Write>(
     push_f16(writer, bits, answer)
 }
 
-/// In line, in one push.
 #[inline(always)]
 pub(crate) fn push_f16<W: Write>(
     writer: &mut W,
@@ -194,7 +192,6 @@ pub(crate) fn push_f32_apart<W: Write>(
     push_f32(writer, bits, answer)
 }
 
-/// In line, in one push.
 #[inline(always)]
 pub(crate) fn push_f32<W: Write>(
     writer: &mut W,
@@ -221,7 +218,6 @@ pub(crate) fn push_f64_apart<W: Write>(
     push_f64(writer, bits, answer)
 }
 
-/// In line, in one push.
 #[inline(always)]
 pub(crate) fn push_f64<W: Write>(
     writer: &mut W,
@@ -250,7 +246,7 @@ pub(crate) fn push_string_apart<W: Write>(
     push_string(writer, major, content, answer)
 }
 
-/// In line, its head in one push and its content in another.
+/// Its head in one push and its content in another.
 #[inline(always)]
 pub(crate) fn push_string<W: Write>(
     writer: &mut W,
@@ -278,7 +274,7 @@ pub(crate) fn push_text_apart<W: Write>(
     push_string_apart(writer, major::STRING, text.as_bytes(), answer)
 }
 
-/// Writes a name: in line, but to a writer with a large error apart.
+/// In line, but to a writer with a large error apart.
 #[inline(always)]
 pub(crate) fn push_name<W: Write>(
     writer: &mut W,
@@ -294,7 +290,6 @@ pub(crate) fn push_name<W: Write>(
     push_text(writer, name, answer)
 }
 
-/// Writes a text, in line.
 #[inline(always)]
 pub(crate) fn push_text<W: Write>(
     writer: &mut W,
@@ -320,7 +315,7 @@ fn push_variant_apart<W: Write>(
     push_text(writer, name, answer)
 }
 
-/// Writes what begins a variant: in line, but to a writer with a large error apart.
+/// In line, but to a writer with a large error apart.
 #[inline(always)]
 pub(crate) fn push_variant<W: Write>(
     writer: &mut W,
