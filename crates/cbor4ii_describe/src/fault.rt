@@ -7,7 +7,7 @@ use std::error::Error;
 use std::fmt;
 
 /// What is wrong with a type.
-#[derive(Clone, Copy, Debug, PartialEq, Eq)]
+#[derive(Clone, Copy, Debug)]
 pub enum Why {
     /// The input holds no type.
     NoType,
@@ -112,7 +112,7 @@ impl fmt::Display for Why {
 }
 
 /// Why nothing is written.
-#[derive(Clone, Copy, Debug, PartialEq, Eq)]
+#[derive(Clone, Copy, Debug)]
 pub enum Fault {
     /// No memory was found.
     Memory,

@@ -20,8 +20,6 @@ mod parse;
 mod presence;
 mod print;
 mod shape;
-#[cfg(test)]
-mod tests;
 mod tokens;
 mod types;
 
