@@ -6,9 +6,6 @@ pub mod Sealing
 pub mod Sealed
 -- What a store rejects.
 pub mod Stored
--- What a reader over a line shows.
-pub mod LineShown
-pub mod Taken
 -- Lists that are no shape.
 pub mod Shapes
 -- Trees one after another.

@@ -23,7 +23,5 @@ pub mod Sequence
 pub mod Sorted
 -- A map that is written by hand.
 pub mod ByHand
--- What a reader over a line reports.
-pub mod Line
 -- The whole events at the beginning of a log, and where its reading stops.
 pub mod Log

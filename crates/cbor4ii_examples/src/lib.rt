@@ -19,7 +19,7 @@
 //! | `settings` | a struct of eight fields with defaults, and at which byte its reading fails |
 //! | `log` | a log of events, out of parts that are cut anywhere or out of a stream |
 //! | `sequence` | items one after another (RFC 8742), out of a slice or a stream |
-//! | `line` | requests and answers over a line, whose reader waits for no byte too many |
+//! | `line` | requests and answers over a line, such as a socket |
 //! | `meters` | a newtype, read and written as what it holds |
 //! | `moment` | a newtype with a tag before it, and a struct that holds it |
 //! | `percent` | a newtype with a test, which rejects what is read in words of its own |

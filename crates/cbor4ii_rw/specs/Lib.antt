@@ -11,3 +11,4 @@ pub mod Writer
 pub mod Written
 pub mod Errors
 pub mod Input
+pub mod Line

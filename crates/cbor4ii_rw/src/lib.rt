@@ -13,6 +13,7 @@ pub mod explain;
 pub mod input;
 pub mod io_reader;
 pub mod io_writer;
+pub mod line_reader;
 pub mod long;
 pub mod read;
 pub mod segment_reader;

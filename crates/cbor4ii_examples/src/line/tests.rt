@@ -1,5 +1,5 @@
 //! Rows of requests one after another, of faults with their bytes, and of a line that is closed.
-use crate::line::{Fault, Line, Refusal, Waiting};
+use crate::line::{Fault, Refusal, serve};
 use crate::point::Point;
 use crate::reply::Reply;
 use cbor4ii::dec::Source;
@@ -7,6 +7,7 @@ use cbor4ii::dec::ask::look;
 use cbor4ii::error::DecodeError::Eof;
 use cbor4ii::error::StaticStr;
 use cbor4ii::serde::DecodeError::Core;
+use cbor4ii::utils::{Line, LineReader};
 use cbor4ii_vectors::table;
 use std::alloc::Global;
 use std::test::Fail;
@@ -95,7 +96,7 @@ fn waiting(
     requests: &'static [&'static [u8]],
     most: usize,
     end: End,
-) -> Result<Waiting<Asker>, Fail> {
+) -> Result<LineReader<Asker>, Fail> {
     let asker = Asker {
         requests,
         most,
@@ -104,7 +105,7 @@ fn waiting(
         end,
         answers: Vec::new(alloc),
     };
-    Ok(Waiting::new(alloc, asker)?)
+    Ok(LineReader::new(alloc, asker)?)
 }
 
 // The status of the reply is the point's x.
@@ -115,7 +116,8 @@ fn served(
     end: End,
 ) -> Result<Served, Fail> {
     let reader = waiting(alloc, requests, most, end)?;
-    let (reader, outcome) = reader.serve(
+    let (reader, outcome) = serve(
+        reader,
         alloc,
         |point: Point| Reply {
             status: (point.x % 1000) as u16,

@@ -5,10 +5,10 @@ use Rattle.std.specs.Prelude.{MatchOption, MatchResult}
 use Rattle.std.specs.Borrow.{Bor}
 use Rattle.cbor4ii_rw.specs.View.{IfKnown}
 use Rattle.cbor4ii_rw.specs.Reader.{IsPrefix, IsEnough, Shows, ReaderFails}
-use Rattle.cbor4ii_examples.specs.Line.{line_view, line_ready_bytes}
-use Rattle.cbor4ii_examples.specs.declared.line.Waiting.{Waiting}
+use Rattle.cbor4ii_rw.specs.Line.{line_view, line_ready_bytes}
+use Rattle.cbor4ii_rw.specs.declared.line_reader.LineReader.{LineReader}
 
-module _ {L E : Type 0} (want : ℕ) (before : Waiting L) where
+module _ {L E : Type 0} (want : ℕ) (before : LineReader L) where
   abbrev pub Prefix : Result (Bor (List ℕ)) E → Type 0
   Prefix r = IfOk r (λ shown. IfKnown (line_view before).known (IsPrefix want shown.now))
 
@@ -19,12 +19,12 @@ module _ {L E : Type 0} (want : ℕ) (before : Waiting L) where
   Whole r = IsTrue (line_view before).zero_copy
       → IfOk r (λ shown. IfKnown (line_view before).known (IsEnough want shown.now))
 
-  abbrev pub Left : Waiting L → Result (Bor (List ℕ)) E → Type 0
+  abbrev pub Left : LineReader L → Result (Bor (List ℕ)) E → Type 0
   Left after r = MatchResult r (λ shown. Shows shown.now (line_view before) (line_view after))
       (λ _. ReaderFails (line_view before) (line_view after))
 
   -- what waiting for bytes leaves
-  abbrev pub Waits : Waiting L → Option E → Type 0
+  abbrev pub Waits : LineReader L → Option E → Type 0
   Waits waited failure = MatchOption failure
       (Shows (line_ready_bytes waited.ready) (line_view before) (line_view waited))
       (λ _. ReaderFails (line_view before) (line_view waited))
@@ -33,7 +33,7 @@ module _ {L E : Type 0} (want : ℕ) (before : Waiting L) where
 abbrev pub HandsOn : {E : Type 0} → Option E → Bor (List ℕ) → Result (Bor (List ℕ)) E → Type 0
 HandsOn failure bytes r = MatchOption failure (r ≡ Ok bytes) (λ error. r ≡ Err error)
 
-pub record Answers {L E : Type 0} (want : ℕ) (before after : Waiting L)
+pub record Answers {L E : Type 0} (want : ℕ) (before after : LineReader L)
     (r : Result (Bor (List ℕ)) E) : Type 0 where
   pub prefix : Prefix want before r
   pub bounded : Bounded want before r
@@ -45,7 +45,7 @@ known_of_none : {xs : List ℕ} {P : Type 0} → None ≡ Some xs → P
 known_of_none is = absurd (search (is, rules))
 
 -- no more bytes are shown than can still come
-fit : {L : Type 0} (want : ℕ) (before waited : Waiting L) (bytes : Bor (List ℕ))
+fit : {L : Type 0} (want : ℕ) (before waited : LineReader L) (bytes : Bor (List ℕ))
     → Shows (line_ready_bytes waited.ready) (line_view before) (line_view waited)
     → bytes.now ≡ line_ready_bytes waited.ready → length bytes.now ≤ (line_view before).bound
 fit want before waited bytes shows ready =
@@ -54,7 +54,7 @@ fit want before waited bytes shows ready =
     rw ready (omega (arith, length-take waited.ready.count waited.ready.room.items)) in
     omega (arith, same, short, waited.ready.fits)
 
-pub answered : {L E : Type 0} (want : ℕ) (before waited after : Waiting L) (failure : Option E)
+pub answered : {L E : Type 0} (want : ℕ) (before waited after : LineReader L) (failure : Option E)
     (bytes : Bor (List ℕ)) (r : Result (Bor (List ℕ)) E) → Waits want before waited failure
     → bytes.now ≡ line_ready_bytes waited.ready → line_view after ≡ line_view waited
     → HandsOn failure bytes r → Answers want before after r

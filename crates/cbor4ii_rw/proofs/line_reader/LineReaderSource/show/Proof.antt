@@ -55,26 +55,26 @@ use Rattle.std.proofs.option.Option.TheLaws as OPTL
 use Rattle.std.specs.contracts.result.Result as RES
 use Rattle.std.proofs.result.Result.TheLaws as RESL
 use Rattle.std.specs.declared.fmt.Debug as Debug
-use Rattle.cbor4ii_examples.specs.Line.{line_view, line_ready_bytes}
-use Rattle.cbor4ii_examples.specs.declared.line.Line as Line
-use Rattle.cbor4ii_examples.specs.contracts.line.Line.TheBound as LINE
+use Rattle.cbor4ii_rw.specs.Line.{line_view, line_ready_bytes}
+use Rattle.cbor4ii_rw.specs.declared.line_reader.Line as Line
+use Rattle.cbor4ii_rw.specs.contracts.line_reader.Line.TheBound as LINE
 use Rattle.std.specs.contracts.fmt.Debug.TheBound as DEBUG
-use Rattle.cbor4ii_examples.specs.contracts.line.Waiting as READER
-use Rattle.cbor4ii_examples.specs.contracts.line.Waiting.wait as WAIT
-use Rattle.cbor4ii_examples.specs.contracts.line.Waiting.shown as SHOWN
-use Rattle.cbor4ii_examples.specs.contracts.line.shown_or as OR
-use Rattle.cbor4ii_examples.proofs.line.Waiting.wait.Symbol.{name as #wait}
-use Rattle.cbor4ii_examples.proofs.line.Waiting.wait.Met as WAIT-thm
-use Rattle.cbor4ii_examples.proofs.line.Waiting.shown.Symbol.{name as #shown}
-use Rattle.cbor4ii_examples.proofs.line.Waiting.shown.Met as SHOWN-thm
-use Rattle.cbor4ii_examples.proofs.line.shown_or.Symbol.{name as #or}
-use Rattle.cbor4ii_examples.proofs.line.shown_or.Met as OR-thm
-use Rattle.cbor4ii_examples.proofs.LineShown.{Prefix, Bounded, Whole, Left, Waits, HandsOn}
-use Rattle.cbor4ii_examples.proofs.LineShown.{answered}
-use Rattle.cbor4ii_examples.specs.contracts.line.WaitingSource.show as F
-use Rattle.cbor4ii_examples.specs.contracts.line.WaitingSource.show.Key.{name as #self}
-use Rattle.cbor4ii_examples.proofs.line.WaitingSource.show.Statement as stated
-use Rattle.cbor4ii_examples.proofs.line.WaitingSource.show.Code as code
+use Rattle.cbor4ii_rw.specs.contracts.line_reader.LineReader as READER
+use Rattle.cbor4ii_rw.specs.contracts.line_reader.LineReader.wait as WAIT
+use Rattle.cbor4ii_rw.specs.contracts.line_reader.LineReader.shown as SHOWN
+use Rattle.cbor4ii_rw.specs.contracts.line_reader.shown_or as OR
+use Rattle.cbor4ii_rw.proofs.line_reader.LineReader.wait.Symbol.{name as #wait}
+use Rattle.cbor4ii_rw.proofs.line_reader.LineReader.wait.Met as WAIT-thm
+use Rattle.cbor4ii_rw.proofs.line_reader.LineReader.shown.Symbol.{name as #shown}
+use Rattle.cbor4ii_rw.proofs.line_reader.LineReader.shown.Met as SHOWN-thm
+use Rattle.cbor4ii_rw.proofs.line_reader.shown_or.Symbol.{name as #or}
+use Rattle.cbor4ii_rw.proofs.line_reader.shown_or.Met as OR-thm
+use Rattle.cbor4ii_rw.proofs.LineShown.{Prefix, Bounded, Whole, Left, Waits, HandsOn}
+use Rattle.cbor4ii_rw.proofs.LineShown.{answered}
+use Rattle.cbor4ii_rw.specs.contracts.line_reader.LineReaderSource.show as F
+use Rattle.cbor4ii_rw.specs.contracts.line_reader.LineReaderSource.show.Key.{name as #self}
+use Rattle.cbor4ii_rw.proofs.line_reader.LineReaderSource.show.Statement as stated
+use Rattle.cbor4ii_rw.proofs.line_reader.LineReaderSource.show.Code as code
 
 module _ (R E : RattleType) (gL : Line.Ghosts R.Denot E.Denot) (dL : Dict)
     (gD : Debug.Ghosts E.Denot) (dD : Dict) (dR : Dict) (dE : Dict) where
@@ -374,11 +374,11 @@ show_spec 𝓤 𝓛 𝓜 𝓡 wired R E LR LE gL dL gD dD dR dE mL mD mR mE =
       send = mL.send;
     } in
     let mDebug : DEBUG.Met 𝓛 𝓜 𝓡 𝓡.env QE' gD dD = record { fmt = mD.fmt } in
-    let waits = WAIT-thm.met 𝓤 𝓛 𝓜 𝓡 (code.calls-cbor4ii_examples::line::Waiting::wait 𝓡.env
+    let waits = WAIT-thm.met 𝓤 𝓛 𝓜 𝓡 (code.calls-cbor4ii_rw::line_reader::LineReader::wait 𝓡.env
     wired) QR' QE' LQR LQE gL dL gD dD dR dE mLine mDebug mR mE in
-    let shows_it = SHOWN-thm.met 𝓤 𝓛 𝓜 𝓡 (code.calls-cbor4ii_examples::line::Waiting::shown 𝓡.env
+    let shows_it = SHOWN-thm.met 𝓤 𝓛 𝓜 𝓡 (code.calls-cbor4ii_rw::line_reader::LineReader::shown 𝓡.env
     wired) QR' QE' LQR LQE gL dL gD dD dR dE mLine mDebug mR mE in
-    let chooses = OR-thm.met 𝓤 𝓛 𝓜 𝓡 (code.calls-cbor4ii_examples::line::shown_or 𝓡.env wired)
+    let chooses = OR-thm.met 𝓤 𝓛 𝓜 𝓡 (code.calls-cbor4ii_rw::line_reader::shown_or 𝓡.env wired)
     QE' LQE in
     let held' = held R E gL dL gD dD dR dE LE 𝓛 𝓜.mem 𝓡.returns 𝓣 waits shows_it chooses in
     let end' = ended R E gL dL gD dD dR dE in let stay' = stayed R E gL dL gD dD dR dE in

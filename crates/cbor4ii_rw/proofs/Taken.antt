@@ -1,6 +1,6 @@
 -- What is left where the first of some bytes are taken, and the others move to the front.
 use Rattle.std.proofs.Common.{◌≡◌, ℕ, ◌+◌, ◌-◌, ◌≤◌, List, length, take, drop, sym, ap, ◌∙◌, arith}
-use Rattle.std.proofs.Common.{subst, length-drop}
+use Rattle.std.proofs.Common.{length-drop}
 use lib.Seq.{paste}
 use Rattle.std.proofs.lemmas.List.{drop-take}
 use Rattle.std.proofs.lemmas.List.Edits.{take-paste}

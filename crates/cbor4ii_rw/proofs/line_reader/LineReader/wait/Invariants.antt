@@ -1,5 +1,5 @@
 use Rattle.std.proofs.Common.{◌≡◌}
-use Rattle.cbor4ii_examples.proofs.line.Waiting.wait.Given as goal
+use Rattle.cbor4ii_rw.proofs.line_reader.LineReader.wait.Given as goal
 
 -- no byte is taken, no failure is counted, and the steps stay
 abbrev pub invariant-loop : goal.invariant-loop

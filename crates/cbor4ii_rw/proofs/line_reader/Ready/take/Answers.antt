@@ -1,6 +1,6 @@
 use Rattle.std.proofs.Common.{◌-◌, arith}
-use Rattle.cbor4ii_examples.proofs.Taken.{moved}
-use Rattle.cbor4ii_examples.proofs.line.Ready.take.Goals as goal
+use Rattle.cbor4ii_rw.proofs.Taken.{moved}
+use Rattle.cbor4ii_rw.proofs.line_reader.Ready.take.Goals as goal
 
 pub returns-clause-bytes : goal.returns-clause-bytes
 returns-clause-bytes c =
