@@ -1,9 +1,15 @@
--- The types of what `show` and `fill` answer, for the proofs by hand that call them.
+-- What `show` and `fill` answer: its types, and what is said of it, for the proofs by hand that
+-- call
+-- them.
 use Prim.Native.Nat.{ℕ}
+use mathlib.Core.List.{List, ◌∷◌}
 use seplogic.Ra.Ura.{Ura}
+use base.Logic.{emp}
+use contract.Monad.{fact, fact_i}
 use base.Fml.{Lft}
 use mir.Syntax.{named}
 use types.Logic.{Logic}
+use types.Kit.{Item, Goal, Step, raw, ◌⊛◌, ◌$◌, step, use0, join}
 use denote.Struct.Field.{Field, shr_slice_field, u8-field}
 use denote.Struct.Laws.{u8-laws, u8-copy, shr_slice_laws, shr_slice_copy}
 use denote.Param.Shared.{copy_shared}
@@ -16,6 +22,12 @@ use denote.Ref.{NamedLft}
 use mathlib.Core.Path.{refl}
 use Rattle.std.specs.contracts.result.Result as RES
 use Rattle.std.proofs.result.Result.TheLaws as RESL
+use Rattle.std.specs.Prelude.{Option, Result, IfOk, IsTrue, MatchOption, MatchResult, length, ◌≤◌}
+use Rattle.std.specs.Borrow.{Bor}
+use Rattle.cbor4ii_rw.specs.Reader.{IsPrefix, IsEnough, Shows, ReaderFails}
+use Rattle.cbor4ii_rw.specs.Reference.{IsLong, IsSubslice}
+use Rattle.cbor4ii_rw.specs.View.{View, IfKnown}
+use Rattle.cbor4ii_rw.specs.declared.read.Reference.{Reference}
 use Rattle.cbor4ii_rw.specs.contracts.read.Reference as RF
 use Rattle.cbor4ii_rw.proofs.read.Reference.TheLaws as RFL
 
@@ -53,3 +65,38 @@ pub filled_result : (E : RattleType) → Laws E → {M : Type 1} {𝓤 : Ura M} 
 filled_result E LE 𝓛 κ κ' = loose_lawful (RES.the_type (RR κ κ') (param 1 E))
     (RESL.the_loose (RR κ κ') (param 1 E) (RFL.the_row_laws (nm 0 κ) (nm 1 κ')) (param_laws 1 E LE))
     tt 𝓛
+
+-- ---- what is said of an answer, which shows bytes of the reader that view a is of
+abbrev pub now_of : Bor (List ℕ) → List ℕ
+now_of shown = shown.now
+
+module _ {A : Type 0} (bytes : A → List ℕ) (a : View) where
+  abbrev pub LeftBy : View → Option A → Type 0
+  LeftBy b t = MatchOption t (ReaderFails a b) (λ shown. Shows (bytes shown) a b)
+
+  module _ {E : Type 0} (r : Result A E) where
+    abbrev pub Prefix : ℕ → Type 0
+    Prefix want = IfOk r (λ shown. IfKnown a.known (IsPrefix want (bytes shown)))
+
+    abbrev pub Bounded : Type 0
+    Bounded = IfOk r (λ shown. length (bytes shown) ≤ a.bound)
+
+    abbrev pub Whole : ℕ → Type 0
+    Whole want = IsTrue a.zero_copy
+        → IfOk r (λ shown. IfKnown a.known (IsEnough want (bytes shown)))
+
+    abbrev pub Left : View → Type 0
+    Left b = MatchResult r (λ shown. Shows (bytes shown) a b) (λ _. ReaderFails a b)
+
+module _ {E : Type 0} (a : View) (r : Result Reference E) where
+  abbrev pub Lasting : Type 0
+  Lasting = IsTrue a.zero_copy → IfOk r IsLong
+
+  abbrev pub Placed : Type 0
+  Placed = IfOk r (λ shown. IsSubslice shown a)
+
+-- ---- a fact joins what the context begins with
+module _ {M : Type 1} {𝓤 : Ura M} {𝓛 : Logic 𝓤} {K : Type 0} {Γ : List (Item 𝓤)}
+    {G : Goal 𝓤 𝓛.H} where
+  pub told : K → (φ : Type 0) → φ → {i : Item 𝓤} → Step K 𝓛 ((raw (fact 𝓤 φ) ⊛ i) ∷ Γ) G (i ∷ Γ) G
+  told t φ p = step (λ s. use0 𝓛 (raw (fact 𝓤 φ)) (fact_i 𝓤 φ (emp 𝓤) p) $ join t $ s)

@@ -4,7 +4,7 @@ use mathlib.Core.Path.{◌≡◌, refl, sym, subst}
 use mathlib.Core.List.{List, [], ◌∷◌}
 use Prim.Native.Nat.{ℕ, ◌^◌, ◌<◌}
 use seplogic.Ra.Ura.{Ura}
-use base.Logic.{SProp, ent, emp, id⊢}
+use base.Logic.{SProp, ent, id⊢}
 use base.Fml.{Lft, ftrue, flft, fres}
 use mir.Syntax.{Ty, Fn, Args, Dict, dcons, dnil, a_type, named, erased, method, w64, ty_struct}
 use mir.Syntax.{ty_ptr, ty_int, tcons, tnil}
@@ -14,11 +14,11 @@ use prog.Memory.{Memory}
 use prog.Routine.{Routine}
 use prog.Wp.{WpFn, Tables}
 use sound.WpLaws.{WpFn-mono, fm_of}
-use contract.Monad.{Fun, fact, fact_i}
+use contract.Monad.{Fun, fact}
 use contract.BorrowLft.{◌⊑◌, ⊑_meet, ⊑_refl, ⊑_static}
 use contract.Running.{tables, tables_of}
 use types.Logic.{Logic}
-use types.Kit.{‵, raw, ◌⊛◌, some, later, ◌$◌, ◌∵◌, !, qed, done, move, keep, drop, use0, use1, use2}
+use types.Kit.{‵, raw, ◌⊛◌, some, later, ◌$◌, ◌∵◌, !, qed, done, move, keep, drop, use1, use2}
 use types.Kit.{split, split3, join, fsplit, fsplit3, fjoin, fpick, fpack, pick, await, suffices}
 use types.Run.{enter, addr, stop, no_more, and_then, returns}
 use types.ByLocal.{alloc_all, pass_all, free_all, look_at, get, through, sets, lands_as}
@@ -44,8 +44,8 @@ use denote.Triple.Statement.{Contract, Triple}
 use denote.Triple.Table.{entered}
 use denote.Triple.Walked.{Stays, stay_dropped, gave_ref, walk_of, ends_at, walked, Goes-dropped}
 use denote.Triple.Walked.{Goes-spent_ref, Goes-gave_ref, walk_Meets}
-use Rattle.std.specs.Prelude.{Option, Result, IfSome, OnSome, IfNone, IfOk, IsSome, IsTrue}
-use Rattle.std.specs.Prelude.{MatchOption, MatchResult, length, ◌≤◌, ⊤}
+use Rattle.std.specs.Prelude.{Option, Result, IfSome, OnSome, IfNone, IsSome, IsTrue}
+use Rattle.std.specs.Prelude.{length, ◌≤◌, ⊤}
 use Rattle.std.specs.Io.BufRead.{Rests}
 use Rattle.std.specs.contracts.option.Option as OPT
 use Rattle.std.proofs.option.Option.TheLaws as OPTL
@@ -56,7 +56,8 @@ use Rattle.cbor4ii_rw.specs.View.{IfKnown}
 use Rattle.cbor4ii_rw.specs.Reader.{IsPrefix, IsEnough, Shows, ReaderFails}
 use Rattle.cbor4ii_rw.specs.Parted.{PartsAnswer}
 use Rattle.cbor4ii_rw.proofs.Parted.{is_option, at_option, slot_kept, error_kept, leaves}
-use Rattle.cbor4ii_rw.proofs.Results.{SF, slice_laws, Shown, shown_result}
+use Rattle.cbor4ii_rw.proofs.Results.{SF, slice_laws, Shown, shown_result, told, Prefix, Bounded}
+use Rattle.cbor4ii_rw.proofs.Results.{Whole, Left, now_of, LeftBy}
 use Rattle.cbor4ii_rw.specs.contracts.read.Source.show as M
 use Rattle.cbor4ii_rw.specs.contracts.ask.part as G
 use Rattle.cbor4ii_rw.proofs.ask.part.Symbol.{name as #part}
@@ -128,191 +129,162 @@ module _ (R E : RattleType) (gS : Source.Ghosts R.Denot E.Denot) (dS : Dict)
     abbrev part_c : Lft → Contract 𝓤
     part_c κ = triple_of 𝓛 (G.signature (At κ) Q) (G.spec (At κ) Q dX 𝓛 at_mem run)
 
-module _ (R E : RattleType) (gS : Source.Ghosts R.Denot E.Denot) (dS : Dict)
-    (gD : Debug.Ghosts E.Denot) (dD : Dict) (dX : Dict) (LE : Laws E)
-    {M' : Type 1} {𝓤 : Ura M'} (𝓛 : Logic 𝓤) (at_mem : Memory → SProp 𝓤) (run : Routine → Fun 𝓤)
-    (𝓣 : Tables 𝓤 𝓛.H)
-    (shows_it : Triple 𝓤 (𝓣.C (method dS 0 (layouts [] tt))) (show_c R E gS dS gD dD dX 𝓛 at_mem
-    run))
-    (parts : (κ : Lft) → Triple 𝓤 (𝓣.C (#part (part_args R E gS dS gD dD dX)))
-    (part_c R E gS dS gD dD dX 𝓛 at_mem run κ)) where
-  open 𝓛 use {H, A}
+  module _ (LE : Laws E) {M' : Type 1} {𝓤 : Ura M'} (𝓛 : Logic 𝓤) (at_mem : Memory → SProp 𝓤)
+      (run : Routine → Fun 𝓤) (𝓣 : Tables 𝓤 𝓛.H)
+      (shows_it : Triple 𝓤 (𝓣.C (method dS 0 (layouts [] tt))) (show_c 𝓛 at_mem run))
+      (parts : (κ : Lft) → Triple 𝓤 (𝓣.C (#part part_args)) (part_c 𝓛 at_mem run κ)) where
+    open 𝓛 use {H, A}
 
-  abbrev held : Clauses 𝓤 (ended R E gS dS gD dD dX)
-  held = F.clauses R E gS dS gD dD dX 𝓛 at_mem run
+    abbrev held : Clauses 𝓤 ended
+    held = F.clauses R E gS dS gD dD dX 𝓛 at_mem run
 
-  abbrev P' : RattleType
-  P' = P R E gS dS gD dD dX
+    abbrev Bound : Type 0
+    Bound = (walk_of 𝓛 ended stayed held).Ghost
 
-  abbrev O' : RattleType
-  O' = O R E gS dS gD dD dX
+    abbrev at : Bound → Bound
+    at y = (
+      (
+        y.0.0,
+        y.0.1,
+        y.0.2,
+        y.0.3,
+        (mut_vals y.0.3.0, (vint w64 y.0.3.1.0 ∷ [], (mut_vals y.0.3.1.1.0, tt))),
+      ),
+      y.1,
+    )
 
-  abbrev Bound : Type 0
-  Bound = (walk_of 𝓛 (ended R E gS dS gD dD dX) (stayed R E gS dS gD dD dX) held).Ghost
-
-  abbrev at : Bound → Bound
-  at y = (
-    (
-      y.0.0,
-      y.0.1,
-      y.0.2,
-      y.0.3,
-      (mut_vals y.0.3.0, (vint w64 y.0.3.1.0 ∷ [], (mut_vals y.0.3.1.1.0, tt))),
-    ),
-    y.1,
-  )
-
-  abbrev Prefix : ℕ → R.Denot → Result (Bor (List ℕ)) E.Denot → Type 0
-  Prefix want x r = IfOk r (λ shown. IfKnown (gS.view x).known (IsPrefix want shown.now))
-
-  abbrev Bounded : R.Denot → Result (Bor (List ℕ)) E.Denot → Type 0
-  Bounded x r = IfOk r (λ shown. length shown.now ≤ (gS.view x).bound)
-
-  abbrev Whole : ℕ → R.Denot → Result (Bor (List ℕ)) E.Denot → Type 0
-  Whole want x r = IsTrue (gS.view x).zero_copy
-      → IfOk r (λ shown. IfKnown (gS.view x).known (IsEnough want shown.now))
-
-  abbrev Left : R.Denot → R.Denot → Result (Bor (List ℕ)) E.Denot → Type 0
-  Left x new r = MatchResult r (λ shown. Shows shown.now (gS.view x) (gS.view new))
-      (λ _. ReaderFails (gS.view x) (gS.view new))
-
-  abbrev LeftBy : R.Denot → R.Denot → Option (Bor (List ℕ)) → Type 0
-  LeftBy x new t = MatchOption t (ReaderFails (gS.view x) (gS.view new))
-      (λ shown. Shows shown.now (gS.view x) (gS.view new))
-
-  walk : (y : Bound) → y.0.3.1.0 < 2 ^ 64
-      → ent 𝓤 ((walk_of 𝓛 (ended R E gS dS gD dD dX) (stayed R E gS dS gD dD dX) held).pre (at y))
-      (WpFn 𝓤 H 𝓣.C 𝓣.Λ (fn' R E gS dS gD dD dX) (vptr y.0.3.0.ref_ptr.0 y.0.3.0.ref_ptr.1 ∷ vint
-      w64 y.0.3.1.0 ∷ vptr y.0.3.1.1.0.ref_ptr.0 y.0.3.1.1.0.ref_ptr.1 ∷ [])
-      ((walk_of 𝓛 (ended R E gS dS gD dD dX) (stayed R E gS dS gD dD dX) held).post (at y)))
-  unfolding such_by follows_by
-  walk y fits =
-      let κs = y.0.0 in let qs = y.0.1 in let self = y.0.3.0 in let want = y.0.3.1.0 in
-      let slot = y.0.3.1.1.0 in let x = self.now in
-      let κ0 = κs.0 in let κ1 = κs.1.0 in let κ2 = κs.1.1.0 in let κ3 = κs.1.1.1.0 in
-      let q0 = qs.0 in let q1 = qs.1.0 in let q2 = qs.1.1.0 in let q3 = qs.1.1.1.0 in
-      let vs0 = vptr self.ref_ptr.0 self.ref_ptr.1 ∷ [] in let vs2 = vptr slot.ref_ptr.0
-      slot.ref_ptr.1 ∷ [] in
-      qed 𝓛 (((‵ (flft κ0 q0) ⊛ ‵ (flft κ1 q1) ⊛ ‵ (flft κ2 q2) ⊛ ‵ (flft κ3 q3) ⊛ ‵ ftrue)
-      ⊛ ‵ (owns (MutRef (named 0) κ0 P' ∷ usize ∷ MutRef (named 1) κ1 O' ∷ [])
-      (self, (want, (slot, tt))) (vs0, (vint w64 want ∷ [], (vs2, tt)))))
-      ∷ (raw (fact 𝓤 (κ2 ⊑ R.lives)) ⊛ raw (fact 𝓤 (κ3 ⊑ E.lives)) ⊛ ‵ ftrue) ∷ []) ∵
-      enter ! 𝓣.C 𝓣.Λ (fn' R E gS dS gD dD dX) _ _ $
-      alloc_all ! (λ ls. pass_all ! refl
-      ((tt, tt), ((tt, record { fits = fits }), ((tt, tt), tt))) $
-      sets ! (addr ! (through ! refl (stop !))) refl (tt, tt) $
-      split ! $ move ! (2 ∷ []) $ split3 ! $
-      heard ! (κ2 ⊑ R.lives) (λ inR. heard ! (κ3 ⊑ E.lives) (λ inE. drop ! $
-      move ! (1 ∷ []) $ fsplit3 ! $ move ! (2 ∷ []) $ fsplit ! $ move ! (1 ∷ []) $ drop ! $
-      -- [the slot; the reader; want; the tokens]
-      move ! (3 ∷ []) $ split3 ! $ move ! (2 ∷ []) $ split ! $
-      -- [κ2; κ3 and true; κ0; κ1; the slot; the reader; want]
-      join ! $ move ! (1 ∷ 0 ∷ []) $ join ! $
-      nothing ! $ move ! (5 ∷ 0 ∷ []) $ join ! $ move ! (4 ∷ 0 ∷ []) $ join ! $
-      move ! (1 ∷ 0 ∷ []) $ join ! $
-      nothing ! $
-      use0 𝓛 (raw (fact 𝓤 (κ3 ⊑ E.lives))) (fact_i 𝓤 (κ3 ⊑ E.lives) (emp 𝓤) inE) $ join ! $
-      use0 𝓛 (raw (fact 𝓤 (κ2 ⊑ R.lives))) (fact_i 𝓤 (κ2 ⊑ R.lives) (emp 𝓤) inR) $ join ! $
-      move ! (1 ∷ 0 ∷ []) $
-      let c1 = show_c R E gS dS gD dD dX 𝓛 at_mem run in
-      let z1 : c1.Ghost = (
-        (
-          (κ0, (κ2, (κ3, tt))),
-          (q0, (q2, (q3, tt))),
-          (y.0.2.0, tt),
-          (self, (want, tt)),
-          (vs0, (vint w64 want ∷ [], tt)),
-        ),
-        tt,
-      ) in
-      use2 𝓛 (raw (c1.pre z1)) (id⊢ 𝓤 _) $
-      calls_at ! (fm_of 𝓤 H 𝓛.laws 𝓣) c1 shows_it z1
-      (and_then ! (get ! refl) (and_then ! (get ! refl) (no_more !))) (λ v1.
-      use1 𝓛 (later (some (λ (r : Result (Bor (List ℕ)) E.Denot).
-      ((‵ (flft κ0 q0) ⊛ ‵ (flft κ2 q2) ⊛ ‵ (flft κ3 q3) ⊛ ‵ ftrue) ⊛ ‵
-      ((Shown E κ0).own_val r (v1 ∷ []))) ⊛
-      some (λ (ws : Lasts (M.ended R E gS dS gD dD dX) z1.0.0 z1.0.3). ‵
-      (lasts (M.ended R E gS dS gD dD dX) z1.0.0 z1.0.3 ws)
-      ⊛ raw (fact 𝓤 (Prefix want x r)) ⊛ raw (fact 𝓤 (Bounded x r)) ⊛ raw
-      (fact 𝓤 (Whole want x r)) ⊛
-      ‵ (Rests P' self (λ new. Left x new r)))))) (id⊢ 𝓤 _) $
-      await ! tt $ pick ! (λ r. split ! $ split ! $ move ! (1 ∷ []) $
-      peeks ! (Shown E κ0) _ (shows 𝓛 (Shown E κ0)) r (v1 ∷ []) (λ is.
-      lands_as ! refl refl ((shown_result E LE 𝓛 κ0).typed r (v1 ∷ []) is).0 $
-      move ! (2 ∷ []) $ pick ! (λ ws. split ! $ drop ! $ split3 ! $
-      heard ! (Prefix want x r) (λ prefix. heard ! (Bounded x r) (λ bounded. split ! $
-      heard ! (Whole want x r) (λ whole. fpick ! (λ s.
-      -- [resγ; the result; the tokens; κ1; the slot]
-      sets ! (addr ! (through ! refl (stop !))) refl (tt, tt) $
-      move ! (2 ∷ []) $ split3 ! $ move ! (0 ∷ 2 ∷ []) $ join ! $ move ! (4 ∷ 0 ∷ []) $ join ! $
-      nothing ! $ move ! (5 ∷ 0 ∷ []) $ join ! $ move ! (4 ∷ 0 ∷ []) $ join ! $
-      move ! (1 ∷ 0 ∷ []) $ join ! $
-      nothing ! $ use0 𝓛 (raw (fact 𝓤 (κ3 ⊑ E.lives))) (fact_i 𝓤 (κ3 ⊑ E.lives) (emp 𝓤) inE) $
-      join ! $ use0 𝓛 (raw (fact 𝓤 (κ0 ⊑ (At κ0).lives))) (fact_i 𝓤 (κ0 ⊑ (At κ0).lives) (emp 𝓤)
-      (at_lives κ0)) $ join ! $ move ! (1 ∷ 0 ∷ []) $
-      let c2 = part_c R E gS dS gD dD dX 𝓛 at_mem run κ0 in
-      let z2 : c2.Ghost = (
-        (
-          (κ1, (κ0, (κ3, tt))),
-          (q1, (q0, (q3, tt))),
-          (y.0.2.1.0, tt),
-          (r, (slot, tt)),
-          (v1 ∷ [], (vs2, tt)),
-        ),
-        tt,
-      ) in
-      use2 𝓛 (raw (c2.pre z2)) (id⊢ 𝓤 _) $
-      calls_at ! (fm_of 𝓤 H 𝓛.laws 𝓣) c2 (parts κ0) z2
-      (and_then ! (get ! refl) (and_then ! (get ! refl) (no_more !))) (λ v2.
-      use1 𝓛 (later (some (λ (t : Option (Bor (List ℕ))).
-      ((‵ (flft κ1 q1) ⊛ ‵ (flft κ0 q0) ⊛ ‵ (flft κ3 q3) ⊛ ‵ ftrue) ⊛ ‵
-      ((OPT.the_row (SF κ0).row).own_val t (v2 ∷ []))) ⊛
-      some (λ (ws2 : Lasts (G.ended (At κ0) (Q R E gS dS gD dD dX) dX) z2.0.0 z2.0.3). ‵
-      (lasts (G.ended (At κ0) (Q R E gS dS gD dD dX) dX) z2.0.0 z2.0.3 ws2) ⊛ raw
-      (fact 𝓤 (PartsAnswer r slot.now ws2.1.0 t)))))) (id⊢ 𝓤 _) $
-      await ! tt $ pick ! (λ t. split ! $ split ! $ move ! (1 ∷ []) $
-      peeks ! (OPT.the_row (SF κ0).row) _ (shows 𝓛 (OPT.the_row (SF κ0).row)) t (v2 ∷ [])
-      (λ is2.
-      lands_as ! refl refl ((shown_lawful 𝓛 κ0).typed t (v2 ∷ []) is2).0 $
-      move ! (2 ∷ []) $ pick ! (λ ws2. split ! $ move ! (1 ∷ []) $
-      heard ! (PartsAnswer r slot.now ws2.1.0 t) (λ parted.
-      -- [last values; the result; the tokens; κ2; resγ]
-      returns ! (look_at ! 0 refl) $ free_all ! refl $
-      let same = is_option r slot.now ws2.1.0 t parted in
-      let shown_prefix = λ (sh : Bor (List ℕ)). IfKnown (gS.view x).known (IsPrefix want sh.now) in
-      let shown_enough = λ (sh : Bor (List ℕ)). IfKnown (gS.view x).known (IsEnough want sh.now) in
-      let shown_bounded = λ (sh : Bor (List ℕ)). length sh.now ≤ (gS.view x).bound in
-      fsplit3 ! $ move ! (1 ∷ 2 ∷ []) $ fjoin ! $ nothing ! $ fjoin ! $ nothing ! $ fjoin ! $
-      move ! (0 ∷ 2 ∷ []) $ join ! $
-      move ! (2 ∷ []) $ split3 ! $ move ! (1 ∷ 0 ∷ []) $ move ! (5 ∷ 2 ∷ []) $ join ! $
-      move ! (2 ∷ 0 ∷ []) $ join ! $ move ! (1 ∷ 0 ∷ []) $ join ! $ join ! $
-      move ! (2 ∷ []) $
-      fpack ! ((u : (P'.Denot → P'.Denot) × P'.Denot) × (P'.Denot → ⊤) × LeftBy x u.1 t)
-      (λ u. fres self.ghost_name (P'.coded.code u.0.1)) (
-        s.0,
-        (λ _. tt),
-        subst (LeftBy x s.0.1) (sym same)
-            (leaves (ReaderFails (gS.view x) (gS.view s.0.1)) (λ shown. Shows shown.now (gS.view x)
-            (gS.view s.0.1)) r s.2),
-      ) $
-      use0 𝓛 (raw (fact 𝓤 (IfNone t (IsSome ws2.1.0)))) (fact_i 𝓤 (IfNone t (IsSome ws2.1.0))
-      (emp 𝓤) (error_kept r slot.now ws2.1.0 t parted)) $ join ! $
-      use0 𝓛 (raw (fact 𝓤 (OnSome t (ws2.1.0 ≡ slot.now))))
-      (fact_i 𝓤 (OnSome t (ws2.1.0 ≡ slot.now)) (emp 𝓤) (slot_kept r slot.now ws2.1.0 t parted))
-      $ join ! $
-      use0 𝓛 (raw (fact 𝓤 (IsTrue (gS.view x).zero_copy → IfSome t shown_enough)))
-      (fact_i 𝓤 (IsTrue (gS.view x).zero_copy → IfSome t shown_enough) (emp 𝓤)
-      (λ l. subst (λ u. IfSome u shown_enough) (sym same) (at_option shown_enough r (whole l))))
-      $ join ! $
-      use0 𝓛 (raw (fact 𝓤 (IfSome t shown_bounded))) (fact_i 𝓤 (IfSome t shown_bounded) (emp 𝓤)
-      (subst (λ u. IfSome u shown_bounded) (sym same) (at_option shown_bounded r bounded))) $
-      join ! $
-      use0 𝓛 (raw (fact 𝓤 (IfSome t shown_prefix))) (fact_i 𝓤 (IfSome t shown_prefix) (emp 𝓤)
-      (subst (λ u. IfSome u shown_prefix) (sym same) (at_option shown_prefix r prefix))) $ join ! $
-      keep ! (1 ∷ 0 ∷ []) $
-      suffices ! _ (ends_at 𝓛 (ended R E gS dS gD dD dX) (stayed R E gS dS gD dD dX) held (at y) v2
-      t (tt, (tt, (ws2.1.0, tt))) (tt, (tt, (tt, tt)))) $
-      join ! $ done !))))))))))))))))
+    walk : (y : Bound) → y.0.3.1.0 < 2 ^ 64
+        → ent 𝓤 ((walk_of 𝓛 ended stayed held).pre (at y))
+        (WpFn 𝓤 H 𝓣.C 𝓣.Λ fn' (vptr y.0.3.0.ref_ptr.0 y.0.3.0.ref_ptr.1 ∷ vint
+        w64 y.0.3.1.0 ∷ vptr y.0.3.1.1.0.ref_ptr.0 y.0.3.1.1.0.ref_ptr.1 ∷ [])
+        ((walk_of 𝓛 ended stayed held).post (at y)))
+    unfolding such_by follows_by
+    walk y fits =
+        let κs = y.0.0 in let qs = y.0.1 in let self = y.0.3.0 in let want = y.0.3.1.0 in
+        let slot = y.0.3.1.1.0 in let x = self.now in
+        let κ0 = κs.0 in let κ1 = κs.1.0 in let κ2 = κs.1.1.0 in let κ3 = κs.1.1.1.0 in
+        let q0 = qs.0 in let q1 = qs.1.0 in let q2 = qs.1.1.0 in let q3 = qs.1.1.1.0 in
+        let vs0 = vptr self.ref_ptr.0 self.ref_ptr.1 ∷ [] in let vs2 = vptr slot.ref_ptr.0
+        slot.ref_ptr.1 ∷ [] in
+        qed 𝓛 (((‵ (flft κ0 q0) ⊛ ‵ (flft κ1 q1) ⊛ ‵ (flft κ2 q2) ⊛ ‵ (flft κ3 q3) ⊛ ‵ ftrue)
+        ⊛ ‵ (owns (MutRef (named 0) κ0 P ∷ usize ∷ MutRef (named 1) κ1 O ∷ [])
+        (self, (want, (slot, tt))) (vs0, (vint w64 want ∷ [], (vs2, tt)))))
+        ∷ (raw (fact 𝓤 (κ2 ⊑ R.lives)) ⊛ raw (fact 𝓤 (κ3 ⊑ E.lives)) ⊛ ‵ ftrue) ∷ []) ∵
+        enter ! 𝓣.C 𝓣.Λ fn' _ _ $
+        alloc_all ! (λ ls. pass_all ! refl
+        ((tt, tt), ((tt, record { fits = fits }), ((tt, tt), tt))) $
+        sets ! (addr ! (through ! refl (stop !))) refl (tt, tt) $
+        split ! $ move ! (2 ∷ []) $ split3 ! $
+        heard ! (κ2 ⊑ R.lives) (λ inR. heard ! (κ3 ⊑ E.lives) (λ inE. drop ! $
+        move ! (1 ∷ []) $ fsplit3 ! $ move ! (2 ∷ []) $ fsplit ! $ move ! (1 ∷ []) $ drop ! $
+        -- [the slot; the reader; want; the tokens]
+        move ! (3 ∷ []) $ split3 ! $ move ! (2 ∷ []) $ split ! $
+        -- [κ2; κ3 and true; κ0; κ1; the slot; the reader; want]
+        join ! $ move ! (1 ∷ 0 ∷ []) $ join ! $
+        nothing ! $ move ! (5 ∷ 0 ∷ []) $ join ! $ move ! (4 ∷ 0 ∷ []) $ join ! $
+        move ! (1 ∷ 0 ∷ []) $ join ! $
+        nothing ! $
+        told ! (κ3 ⊑ E.lives) inE $
+        told ! (κ2 ⊑ R.lives) inR $
+        move ! (1 ∷ 0 ∷ []) $
+        let c1 = show_c 𝓛 at_mem run in
+        let z1 : c1.Ghost = (
+          (
+            (κ0, (κ2, (κ3, tt))),
+            (q0, (q2, (q3, tt))),
+            (y.0.2.0, tt),
+            (self, (want, tt)),
+            (vs0, (vint w64 want ∷ [], tt)),
+          ),
+          tt,
+        ) in
+        use2 𝓛 (raw (c1.pre z1)) (id⊢ 𝓤 _) $
+        calls_at ! (fm_of 𝓤 H 𝓛.laws 𝓣) c1 shows_it z1
+        (and_then ! (get ! refl) (and_then ! (get ! refl) (no_more !))) (λ v1.
+        use1 𝓛 (later (some (λ (r : Result (Bor (List ℕ)) E.Denot).
+        ((‵ (flft κ0 q0) ⊛ ‵ (flft κ2 q2) ⊛ ‵ (flft κ3 q3) ⊛ ‵ ftrue) ⊛ ‵
+        ((Shown E κ0).own_val r (v1 ∷ []))) ⊛
+        some (λ (ws : Lasts (M.ended R E gS dS gD dD dX) z1.0.0 z1.0.3). ‵
+        (lasts (M.ended R E gS dS gD dD dX) z1.0.0 z1.0.3 ws)
+        ⊛ raw (fact 𝓤 (Prefix now_of (gS.view x) r want)) ⊛ raw
+        (fact 𝓤 (Bounded now_of (gS.view x) r)) ⊛ raw
+        (fact 𝓤 (Whole now_of (gS.view x) r want)) ⊛
+        ‵ (Rests P self (λ new. Left now_of (gS.view x) r (gS.view new))))))) (id⊢ 𝓤 _) $
+        await ! tt $ pick ! (λ r. split ! $ split ! $ move ! (1 ∷ []) $
+        peeks ! (Shown E κ0) _ (shows 𝓛 (Shown E κ0)) r (v1 ∷ []) (λ is.
+        lands_as ! refl refl ((shown_result E LE 𝓛 κ0).typed r (v1 ∷ []) is).0 $
+        move ! (2 ∷ []) $ pick ! (λ ws. split ! $ drop ! $ split3 ! $
+        heard ! (Prefix now_of (gS.view x) r want)
+        (λ prefix. heard ! (Bounded now_of (gS.view x) r) (λ bounded. split ! $
+        heard ! (Whole now_of (gS.view x) r want) (λ whole. fpick ! (λ s.
+        -- [resγ; the result; the tokens; κ1; the slot]
+        sets ! (addr ! (through ! refl (stop !))) refl (tt, tt) $
+        move ! (2 ∷ []) $ split3 ! $ move ! (0 ∷ 2 ∷ []) $ join ! $ move ! (4 ∷ 0 ∷ []) $ join ! $
+        nothing ! $ move ! (5 ∷ 0 ∷ []) $ join ! $ move ! (4 ∷ 0 ∷ []) $ join ! $
+        move ! (1 ∷ 0 ∷ []) $ join ! $
+        nothing ! $ told ! (κ3 ⊑ E.lives) inE $ told ! (κ0 ⊑ (At κ0).lives) (at_lives κ0) $
+        move ! (1 ∷ 0 ∷ []) $
+        let c2 = part_c 𝓛 at_mem run κ0 in
+        let z2 : c2.Ghost = (
+          (
+            (κ1, (κ0, (κ3, tt))),
+            (q1, (q0, (q3, tt))),
+            (y.0.2.1.0, tt),
+            (r, (slot, tt)),
+            (v1 ∷ [], (vs2, tt)),
+          ),
+          tt,
+        ) in
+        use2 𝓛 (raw (c2.pre z2)) (id⊢ 𝓤 _) $
+        calls_at ! (fm_of 𝓤 H 𝓛.laws 𝓣) c2 (parts κ0) z2
+        (and_then ! (get ! refl) (and_then ! (get ! refl) (no_more !))) (λ v2.
+        use1 𝓛 (later (some (λ (t : Option (Bor (List ℕ))).
+        ((‵ (flft κ1 q1) ⊛ ‵ (flft κ0 q0) ⊛ ‵ (flft κ3 q3) ⊛ ‵ ftrue) ⊛ ‵
+        ((OPT.the_row (SF κ0).row).own_val t (v2 ∷ []))) ⊛
+        some (λ (ws2 : Lasts (G.ended (At κ0) Q dX) z2.0.0 z2.0.3). ‵
+        (lasts (G.ended (At κ0) Q dX) z2.0.0 z2.0.3 ws2) ⊛ raw
+        (fact 𝓤 (PartsAnswer r slot.now ws2.1.0 t)))))) (id⊢ 𝓤 _) $
+        await ! tt $ pick ! (λ t. split ! $ split ! $ move ! (1 ∷ []) $
+        peeks ! (OPT.the_row (SF κ0).row) _ (shows 𝓛 (OPT.the_row (SF κ0).row)) t (v2 ∷ [])
+        (λ is2.
+        lands_as ! refl refl ((shown_lawful 𝓛 κ0).typed t (v2 ∷ []) is2).0 $
+        move ! (2 ∷ []) $ pick ! (λ ws2. split ! $ move ! (1 ∷ []) $
+        heard ! (PartsAnswer r slot.now ws2.1.0 t) (λ parted.
+        -- [last values; the result; the tokens; κ2; resγ]
+        returns ! (look_at ! 0 refl) $ free_all ! refl $
+        let same = is_option r slot.now ws2.1.0 t parted in
+        let shown_prefix = λ (sh : Bor (List ℕ)). IfKnown (gS.view x).known (IsPrefix want sh.now)
+        in
+        let shown_enough = λ (sh : Bor (List ℕ)). IfKnown (gS.view x).known (IsEnough want sh.now)
+        in
+        let shown_bounded = λ (sh : Bor (List ℕ)). length sh.now ≤ (gS.view x).bound in
+        fsplit3 ! $ move ! (1 ∷ 2 ∷ []) $ fjoin ! $ nothing ! $ fjoin ! $ nothing ! $ fjoin ! $
+        move ! (0 ∷ 2 ∷ []) $ join ! $
+        move ! (2 ∷ []) $ split3 ! $ move ! (1 ∷ 0 ∷ []) $ move ! (5 ∷ 2 ∷ []) $ join ! $
+        move ! (2 ∷ 0 ∷ []) $ join ! $ move ! (1 ∷ 0 ∷ []) $ join ! $ join ! $
+        move ! (2 ∷ []) $
+        fpack ! ((u : (P.Denot → P.Denot) × P.Denot) × (P.Denot → ⊤) × LeftBy now_of (gS.view x)
+        (gS.view u.1) t)
+        (λ u. fres self.ghost_name (P.coded.code u.0.1)) (
+          s.0,
+          (λ _. tt),
+          subst (LeftBy now_of (gS.view x) (gS.view s.0.1)) (sym same)
+              (leaves (ReaderFails (gS.view x) (gS.view s.0.1))
+              (λ shown. Shows shown.now (gS.view x)
+              (gS.view s.0.1)) r s.2),
+        ) $
+        told ! (IfNone t (IsSome ws2.1.0)) (error_kept r slot.now ws2.1.0 t parted) $
+        told ! (OnSome t (ws2.1.0 ≡ slot.now)) (slot_kept r slot.now ws2.1.0 t parted) $
+        told ! (IsTrue (gS.view x).zero_copy → IfSome t shown_enough)
+        (λ l. subst (λ u. IfSome u shown_enough) (sym same) (at_option shown_enough r (whole l))) $
+        told ! (IfSome t shown_bounded)
+        (subst (λ u. IfSome u shown_bounded) (sym same) (at_option shown_bounded r bounded)) $
+        told ! (IfSome t shown_prefix) (subst (λ u. IfSome u shown_prefix) (sym same)
+        (at_option shown_prefix r prefix)) $
+        keep ! (1 ∷ 0 ∷ []) $
+        suffices ! _ (ends_at 𝓛 ended stayed held (at y) v2
+        t (tt, (tt, (ws2.1.0, tt))) (tt, (tt, (tt, tt)))) $
+        join ! $ done !))))))))))))))))
 
 pub look_spec : {M' : Type 1} → stated.statement M'
 unfolding tables_of

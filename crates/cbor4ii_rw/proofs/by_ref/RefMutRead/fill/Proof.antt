@@ -2,9 +2,9 @@
 -- so this proof walks the code by hand.
 use mathlib.Core.Path.{◌≡◌, refl}
 use mathlib.Core.List.{[], ◌∷◌}
-use Prim.Native.Nat.{ℕ, ◌^◌, ◌<◌}
+use Prim.Native.Nat.{◌^◌, ◌<◌}
 use seplogic.Ra.Ura.{Ura}
-use base.Logic.{SProp, ent, emp, id⊢}
+use base.Logic.{SProp, ent, id⊢}
 use base.Fml.{Lft, GName, Incl-trans, ftrue, flft, fat, fres}
 use base.Fraction.{full_share}
 use borrow.Table.OneValue.{retype}
@@ -16,12 +16,12 @@ use prog.Memory.{Memory}
 use prog.Routine.{Routine}
 use prog.Wp.{WpFn, Tables}
 use sound.WpLaws.{WpFn-mono, fm_of}
-use contract.Monad.{Fun, fact, fact_i}
+use contract.Monad.{Fun, fact}
 use contract.BorrowLft.{◌⊑◌}
 use contract.Lifetimes.{Lfts}
 use contract.Running.{tables, tables_of}
 use types.Logic.{Logic}
-use types.Kit.{‵, raw, ◌⊛◌, some, later, ◌$◌, ◌∵◌, !, qed, done, move, keep, drop, use0, use1, use2}
+use types.Kit.{‵, raw, ◌⊛◌, some, later, ◌$◌, ◌∵◌, !, qed, done, move, keep, drop, use1, use2}
 use types.Kit.{split, split3, join, fsplit3, fjoin, fpick, fpack, pick, await, group, suffices}
 use types.Run.{enter, addr, stop, hop, look, no_more, and_then, returns}
 use types.ByLocal.{alloc_all, pass_all, free_all, look_at, get, through, sets, lands_as}
@@ -44,16 +44,15 @@ use denote.Triple.Statement.{Contract, Triple}
 use denote.Triple.Table.{entered}
 use denote.Triple.Walked.{Stays, stay_dropped, walk_of, ends_at, walked, Goes-dropped}
 use denote.Triple.Walked.{Goes-spent_ref, walk_Meets}
-use Rattle.std.specs.Prelude.{Result, IfOk, length, ◌≤◌, ⊤, IsTrue, MatchResult}
+use Rattle.std.specs.Prelude.{Result, ⊤}
 use Rattle.std.specs.Io.BufRead.{Rests}
 use Rattle.std.specs.declared.fmt.Debug as Debug
 use Rattle.cbor4ii_rw.specs.declared.read.Read as Read
 use Rattle.cbor4ii_rw.specs.declared.read.Source as Source
 use Rattle.cbor4ii_rw.specs.declared.read.Reference.{Reference}
-use Rattle.cbor4ii_rw.specs.View.{IfKnown}
-use Rattle.cbor4ii_rw.specs.Reader.{IsPrefix, IsEnough, Shows, ReaderFails}
-use Rattle.cbor4ii_rw.specs.Reference.{bytes_of, IsLong, IsSubslice}
-use Rattle.cbor4ii_rw.proofs.Results.{Filled, filled_result}
+use Rattle.cbor4ii_rw.specs.Reference.{bytes_of}
+use Rattle.cbor4ii_rw.proofs.Results.{Filled, filled_result, told, Prefix, Bounded, Whole, Left}
+use Rattle.cbor4ii_rw.proofs.Results.{Lasting, Placed}
 use Rattle.cbor4ii_rw.specs.contracts.read.Read.fill as M
 use Rattle.cbor4ii_rw.specs.contracts.by_ref.RefMutRead.fill as F
 use Rattle.cbor4ii_rw.specs.contracts.by_ref.RefMutRead.fill.Key.{name as #self}
@@ -95,156 +94,126 @@ module _ (R E : RattleType) (gR : Read.Ghosts R.Denot E.Denot) (dR : Dict)
   fill_c 𝓛 at_mem run κ = triple_of 𝓛 (M.signature R E) (M.spec R E gR dR gS dS gD dD dX
       (method_P κ) 𝓛 at_mem run)
 
-module _ (R E : RattleType) (gR : Read.Ghosts R.Denot E.Denot) (dR : Dict)
-    (gS : Source.Ghosts R.Denot E.Denot) (dS : Dict) (gD : Debug.Ghosts E.Denot) (dD : Dict)
-    (dX : Dict) (Pp : Lfts 5 → Type 0) (LE : Laws E)
-    {M' : Type 1} {𝓤 : Ura M'} (𝓛 : Logic 𝓤) (at_mem : Memory → SProp 𝓤) (run : Routine → Fun 𝓤)
-    (𝓣 : Tables 𝓤 𝓛.H)
-    (fills : (κs : Lfts 5) → Pp κs → Triple 𝓤 (𝓣.C (method dR 0 (layouts [] tt)))
-    (fill_c R E gR dR gS dS gD dD dX Pp 𝓛 at_mem run κs.1.1.0)) where
-  open 𝓛 use {H, A}
+  module _ (LE : Laws E) {M' : Type 1} {𝓤 : Ura M'} (𝓛 : Logic 𝓤) (at_mem : Memory → SProp 𝓤)
+      (run : Routine → Fun 𝓤) (𝓣 : Tables 𝓤 𝓛.H)
+      (fills : (κs : Lfts 5) → Pp κs → Triple 𝓤 (𝓣.C (method dR 0 (layouts [] tt)))
+      (fill_c 𝓛 at_mem run κs.1.1.0))
+    where
+      open 𝓛 use {H, A}
 
-  abbrev held : Clauses 𝓤 (ended R E gR dR gS dS gD dD dX Pp)
-  held = F.clauses R E gR dR gS dS gD dD dX Pp 𝓛 at_mem run
+      abbrev held : Clauses 𝓤 ended
+      held = F.clauses R E gR dR gS dS gD dD dX Pp 𝓛 at_mem run
 
-  abbrev P' : RattleType
-  P' = P R E gR dR gS dS gD dD dX Pp
+      abbrev Bound : Type 0
+      Bound = (walk_of 𝓛 ended stayed held).Ghost
 
-  abbrev In' : Lft → RattleType
-  In' = In R E gR dR gS dS gD dD dX Pp
+      abbrev at : Bound → Bound
+      at y = ((y.0.0, y.0.1, y.0.2, y.0.3, (mut_vals y.0.3.0, (vint w64 y.0.3.1.0 ∷ [], tt))), y.1)
 
-  abbrev Bound : Type 0
-  Bound = (walk_of 𝓛 (ended R E gR dR gS dS gD dD dX Pp) (stayed R E gR dR gS dS gD dD dX Pp)
-      held).Ghost
-
-  abbrev at : Bound → Bound
-  at y = ((y.0.0, y.0.1, y.0.2, y.0.3, (mut_vals y.0.3.0, (vint w64 y.0.3.1.0 ∷ [], tt))), y.1)
-
-  abbrev Prefix : ℕ → R.Denot → Result Reference E.Denot → Type 0
-  Prefix want x r = IfOk r (λ shown. IfKnown (gS.view x).known (IsPrefix want (bytes_of shown)))
-
-  abbrev Bounded : R.Denot → Result Reference E.Denot → Type 0
-  Bounded x r = IfOk r (λ shown. length (bytes_of shown) ≤ (gS.view x).bound)
-
-  abbrev Whole : ℕ → R.Denot → Result Reference E.Denot → Type 0
-  Whole want x r = IsTrue (gS.view x).zero_copy
-      → IfOk r (λ shown. IfKnown (gS.view x).known (IsEnough want (bytes_of shown)))
-
-  abbrev Lasting : R.Denot → Result Reference E.Denot → Type 0
-  Lasting x r = IsTrue (gS.view x).zero_copy → IfOk r IsLong
-
-  abbrev Placed : R.Denot → Result Reference E.Denot → Type 0
-  Placed x r = IfOk r (λ shown. IsSubslice shown (gS.view x))
-
-  abbrev Left : R.Denot → R.Denot → Result Reference E.Denot → Type 0
-  Left x new r = MatchResult r (λ shown. Shows (bytes_of shown) (gS.view x) (gS.view new))
-      (λ _. ReaderFails (gS.view x) (gS.view new))
-
-  walk : (y : Bound) → y.0.3.1.0 < 2 ^ 64
-      → ent 𝓤 ((walk_of 𝓛 (ended R E gR dR gS dS gD dD dX Pp) (stayed R E gR dR gS dS gD dD dX Pp)
-      held).pre (at y))
-      (WpFn 𝓤 H 𝓣.C 𝓣.Λ (fn' R E gR dR gS dS gD dD dX Pp)
-      (vptr y.0.3.0.ref_ptr.0 y.0.3.0.ref_ptr.1 ∷ vint w64 y.0.3.1.0 ∷ [])
-      ((walk_of 𝓛 (ended R E gR dR gS dS gD dD dX Pp) (stayed R E gR dR gS dS gD dD dX Pp)
-      held).post (at y)))
-  unfolding such_by follows_by
-  walk y fits =
-      let κs = y.0.0 in let qs = y.0.1 in let self = y.0.3.0 in let want = y.0.3.1.0 in
-      let h = self.now in let x = h.now in
-      let b = self.ref_ptr.0 in let o = self.ref_ptr.1 in let γ = self.ghost_name in
-      let κ0 = κs.0 in let κ1 = κs.1.0 in let κ2 = κs.1.1.0 in let κ3 = κs.1.1.1.0 in
-      let κ4 = κs.1.1.1.1.0 in
-      let q0 = qs.0 in let q1 = qs.1.0 in let q2 = qs.1.1.0 in let q3 = qs.1.1.1.0 in
-      let q4 = qs.1.1.1.1.0 in
-      qed 𝓛 (((‵ (flft κ0 q0) ⊛ ‵ (flft κ1 q1) ⊛ ‵ (flft κ2 q2) ⊛ ‵ (flft κ3 q3) ⊛ ‵ (flft κ4 q4) ⊛
-      ‵ ftrue)
-      ⊛ ‵ (owns (MutRef (named 0) κ0 (In' κ1) ∷ usize ∷ []) (self, (want, tt))
-      (vptr b o ∷ [], (vint w64 want ∷ [], tt))))
-      ∷ (raw (fact 𝓤 (κ3 ⊑ R.lives)) ⊛ raw (fact 𝓤 (κ4 ⊑ E.lives)) ⊛ raw (fact 𝓤 (Pp κs)) ⊛ ‵ ftrue)
-      ∷ []) ∵
-      enter ! 𝓣.C 𝓣.Λ (fn' R E gR dR gS dS gD dD dX Pp) _ _ $
-      alloc_all ! (λ ls. pass_all ! refl ((tt, tt), ((tt, record { fits = fits }), tt)) $
-      split ! $ move ! (2 ∷ []) $ split3 ! $
-      heard ! (κ3 ⊑ R.lives) (λ inR. heard ! (κ4 ⊑ E.lives) (λ inE. split ! $
-      heard ! (Pp κs) (λ p. drop ! $
-      move ! (1 ∷ []) $ fsplit3 ! $ move ! (2 ∷ []) $ drop ! $ fsplit3 ! $ drop ! $
-      -- [obs; the borrow; want; the tokens]
-      move ! (3 ∷ []) $ split ! $ move ! (2 ∷ 3 ∷ 0 ∷ []) $
-      opens ! tt (In' κ1) b o (λ us. tied ! full_share (In' κ1).mir us b o $
-      let ptr = vptr h.ref_ptr.0 h.ref_ptr.1 in let τ = ty_ref erased mut (ty_param 0) in
-      use1 𝓛 (‵ (fat full_share τ b o ptr)) (retype 𝓛 full_share ty_ptr τ refl b o ptr) $
-      sets ! (addr ! (through ! refl (hop ! (look ! 0 refl) (stop !)))) refl (tt, tt) $
-      use1 𝓛 (‵ (fat full_share ty_ptr b o ptr)) (retype 𝓛 full_share τ ty_ptr refl b o ptr) $
-      ties ! full_share (In' κ1).mir (mut_vals h) b o $ closes ! tt (In' κ1) h (mut_vals h) b o $
-      -- [obs; the borrow; κ0; the other tokens; want]
-      group ! 3 $ use1 𝓛 (later
-      (some (λ (γ' : GName). ‵ ((MutRef (named 1) κ0 P').own_val (renamed h γ') (mut_vals h)) ⊛
-      ‵ (flft κ0 q0) ⊛ ‵ (follows (In' κ1) P' γ γ' (at_last h)))))
-      (lends_inner 𝓛 P' (named 1) (named 1) κ0 κ1 self y.0.2.0 q0) $ await ! tt $
-      pick ! (λ γ'. split3 ! $
-      -- [the loan; κ0; how self follows; the other tokens; want]
-      move ! (3 ∷ []) $ split3 ! $ move ! (4 ∷ 2 ∷ []) $ join ! $ move ! (2 ∷ 0 ∷ []) $ join ! $
-      nothing ! $ move ! (5 ∷ 0 ∷ []) $ join ! $ move ! (3 ∷ 0 ∷ []) $ join ! $
-      move ! (1 ∷ 0 ∷ []) $ join ! $
-      nothing ! $ use0 𝓛 (raw
-      (fact 𝓤 (method_P R E gR dR gS dS gD dD dX Pp κ2 (κ2, (κ0, (κ3, (κ4, tt)))))))
-      (fact_i 𝓤 ((κ2 ≡ κ2) × Unit {0}) (emp 𝓤) (refl, tt)) $ join ! $
-      use0 𝓛 (raw (fact 𝓤 (κ4 ⊑ E.lives))) (fact_i 𝓤 (κ4 ⊑ E.lives) (emp 𝓤) inE) $ join ! $
-      use0 𝓛 (raw (fact 𝓤 (κ3 ⊑ R.lives))) (fact_i 𝓤 (κ3 ⊑ R.lives) (emp 𝓤) inR) $ join ! $
-      move ! (1 ∷ 0 ∷ []) $
-      let c1 = fill_c R E gR dR gS dS gD dD dX Pp 𝓛 at_mem run κ2 in
-      let loan : MutBor P'.Denot = renamed h γ' in
-      let z1 : c1.Ghost = (
-        (
-          (κ2, (κ0, (κ3, (κ4, tt)))),
-          (q2, (q0, (q3, (q4, tt)))),
-          (Incl-trans y.0.2.0 y.0.2.1.0, tt),
-          (loan, (want, tt)),
-          (mut_vals h, (vint w64 want ∷ [], tt)),
-        ),
-        tt,
-      ) in
-      use2 𝓛 (raw (c1.pre z1)) (id⊢ 𝓤 _) $
-      calls_at ! (fm_of 𝓤 H 𝓛.laws 𝓣) c1 (fills κs p) z1
-      (and_then ! (get ! refl) (and_then ! (get ! refl) (no_more !))) (λ v.
-      use1 𝓛 (later (some (λ (r : Result Reference E.Denot).
-      ((‵ (flft κ2 q2) ⊛ ‵ (flft κ0 q0) ⊛ ‵ (flft κ3 q3) ⊛ ‵ (flft κ4 q4) ⊛ ‵ ftrue) ⊛ ‵
-      ((Filled E κ2 κ0).own_val r (v ∷ []))) ⊛
-      some (λ (ws : Lasts (M.ended R E gR dR gS dS gD dD dX (method_P R E gR dR gS dS gD dD dX Pp
-      κ2)) z1.0.0 z1.0.3). ‵
-      (lasts (M.ended R E gR dR gS dS gD dD dX (method_P R E gR dR gS dS gD dD dX Pp κ2)) z1.0.0
-      z1.0.3 ws)
-      ⊛ raw (fact 𝓤 (Prefix want x r)) ⊛ raw (fact 𝓤 (Bounded x r)) ⊛ raw
-      (fact 𝓤 (Whole want x r)) ⊛
-      raw (fact 𝓤 (Lasting x r)) ⊛ raw (fact 𝓤 (Placed x r)) ⊛
-      ‵ (Rests P' loan (λ new. Left x new r)))))) (id⊢ 𝓤 _) $
-      await ! tt $ pick ! (λ r. split ! $ split ! $ move ! (1 ∷ []) $
-      peeks ! (Filled E κ2 κ0) _ (shows 𝓛 (Filled E κ2 κ0)) r (v ∷ []) (λ is.
-      lands_as ! refl refl ((filled_result E LE 𝓛 κ2 κ0).typed r (v ∷ []) is).0 $
-      move ! (2 ∷ []) $ pick ! (λ ws. split ! $ drop ! $ split3 ! $
-      heard ! (Prefix want x r) (λ prefix. heard ! (Bounded x r) (λ bounded. split3 ! $
-      heard ! (Whole want x r) (λ whole. heard ! (Lasting x r) (λ lasting.
-      split ! $ heard ! (Placed x r) (λ placed. fpick ! (λ s.
-      -- [what is said of the loan; the result; the tokens; κ1; how self follows]
-      let new : (In' κ1).Denot = at_last h s.0.1 in
-      move ! (4 ∷ 0 ∷ []) $ use2 𝓛 (‵ (fres γ ((In' κ1).coded.code new)))
-      (followed 𝓛 (In' κ1) P' (at_last h) γ γ' s.0.1) $
-      returns ! (look_at ! 0 refl) $ free_all ! refl $
-      nothing ! $ nothing ! $ fjoin ! $ nothing ! $ fjoin ! $ move ! (0 ∷ 2 ∷ []) $ join ! $
-      move ! (2 ∷ []) $ split3 ! $ move ! (0 ∷ 2 ∷ []) $ join ! $ move ! (4 ∷ 0 ∷ []) $ join ! $
-      move ! (1 ∷ 0 ∷ []) $ join ! $ join ! $ move ! (1 ∷ []) $
-      fpack ! ((u : ((In' κ1).Denot → (In' κ1).Denot) × (In' κ1).Denot) × ((In' κ1).Denot → ⊤)
-      × Left x u.1.now r) (λ u. fres γ ((In' κ1).coded.code u.0.1))
-      (((λ _. new), new), (λ _. tt), s.2) $
-      use0 𝓛 (raw (fact 𝓤 (Placed x r))) (fact_i 𝓤 (Placed x r) (emp 𝓤) placed) $ join ! $
-      use0 𝓛 (raw (fact 𝓤 (Lasting x r))) (fact_i 𝓤 (Lasting x r) (emp 𝓤) lasting) $ join ! $
-      use0 𝓛 (raw (fact 𝓤 (Whole want x r))) (fact_i 𝓤 (Whole want x r) (emp 𝓤) whole) $ join ! $
-      use0 𝓛 (raw (fact 𝓤 (Bounded x r))) (fact_i 𝓤 (Bounded x r) (emp 𝓤) bounded) $ join ! $
-      use0 𝓛 (raw (fact 𝓤 (Prefix want x r))) (fact_i 𝓤 (Prefix want x r) (emp 𝓤) prefix) $ join ! $
-      keep ! (1 ∷ 0 ∷ []) $
-      suffices ! _ (ends_at 𝓛 (ended R E gR dR gS dS gD dD dX Pp) (stayed R E gR dR gS dS gD dD dX
-      Pp) held (at y) v r (tt, (tt, tt)) (tt, (tt, tt))) $
-      join ! $ done !))))))))))))))))
+      walk : (y : Bound) → y.0.3.1.0 < 2 ^ 64
+          → ent 𝓤 ((walk_of 𝓛 ended stayed held).pre (at y))
+          (WpFn 𝓤 H 𝓣.C 𝓣.Λ fn'
+          (vptr y.0.3.0.ref_ptr.0 y.0.3.0.ref_ptr.1 ∷ vint w64 y.0.3.1.0 ∷ [])
+          ((walk_of 𝓛 ended stayed held).post (at y)))
+      unfolding such_by follows_by
+      walk y fits =
+          let κs = y.0.0 in let qs = y.0.1 in let self = y.0.3.0 in let want = y.0.3.1.0 in
+          let h = self.now in let x = h.now in
+          let b = self.ref_ptr.0 in let o = self.ref_ptr.1 in let γ = self.ghost_name in
+          let κ0 = κs.0 in let κ1 = κs.1.0 in let κ2 = κs.1.1.0 in let κ3 = κs.1.1.1.0 in
+          let κ4 = κs.1.1.1.1.0 in
+          let q0 = qs.0 in let q1 = qs.1.0 in let q2 = qs.1.1.0 in let q3 = qs.1.1.1.0 in
+          let q4 = qs.1.1.1.1.0 in
+          qed 𝓛 (((‵ (flft κ0 q0) ⊛ ‵ (flft κ1 q1) ⊛ ‵ (flft κ2 q2) ⊛ ‵ (flft κ3 q3) ⊛ ‵
+          (flft κ4 q4) ⊛
+          ‵ ftrue)
+          ⊛ ‵ (owns (MutRef (named 0) κ0 (In κ1) ∷ usize ∷ []) (self, (want, tt))
+          (vptr b o ∷ [], (vint w64 want ∷ [], tt))))
+          ∷ (raw (fact 𝓤 (κ3 ⊑ R.lives)) ⊛ raw (fact 𝓤 (κ4 ⊑ E.lives)) ⊛ raw (fact 𝓤 (Pp κs)) ⊛
+          ‵ ftrue) ∷ []) ∵
+          enter ! 𝓣.C 𝓣.Λ fn' _ _ $
+          alloc_all ! (λ ls. pass_all ! refl ((tt, tt), ((tt, record { fits = fits }), tt)) $
+          split ! $ move ! (2 ∷ []) $ split3 ! $
+          heard ! (κ3 ⊑ R.lives) (λ inR. heard ! (κ4 ⊑ E.lives) (λ inE. split ! $
+          heard ! (Pp κs) (λ p. drop ! $
+          move ! (1 ∷ []) $ fsplit3 ! $ move ! (2 ∷ []) $ drop ! $ fsplit3 ! $ drop ! $
+          -- [obs; the borrow; want; the tokens]
+          move ! (3 ∷ []) $ split ! $ move ! (2 ∷ 3 ∷ 0 ∷ []) $
+          opens ! tt (In κ1) b o (λ us. tied ! full_share (In κ1).mir us b o $
+          let ptr = vptr h.ref_ptr.0 h.ref_ptr.1 in let τ = ty_ref erased mut (ty_param 0) in
+          use1 𝓛 (‵ (fat full_share τ b o ptr)) (retype 𝓛 full_share ty_ptr τ refl b o ptr) $
+          sets ! (addr ! (through ! refl (hop ! (look ! 0 refl) (stop !)))) refl (tt, tt) $
+          use1 𝓛 (‵ (fat full_share ty_ptr b o ptr)) (retype 𝓛 full_share τ ty_ptr refl b o ptr) $
+          ties ! full_share (In κ1).mir (mut_vals h) b o $ closes ! tt (In κ1) h (mut_vals h) b o $
+          -- [obs; the borrow; κ0; the other tokens; want]
+          group ! 3 $ use1 𝓛 (later
+          (some (λ (γ' : GName). ‵ ((MutRef (named 1) κ0 P).own_val (renamed h γ') (mut_vals h)) ⊛
+          ‵ (flft κ0 q0) ⊛ ‵ (follows (In κ1) P γ γ' (at_last h)))))
+          (lends_inner 𝓛 P (named 1) (named 1) κ0 κ1 self y.0.2.0 q0) $ await ! tt $
+          pick ! (λ γ'. split3 ! $
+          -- [the loan; κ0; how self follows; the other tokens; want]
+          move ! (3 ∷ []) $ split3 ! $ move ! (4 ∷ 2 ∷ []) $ join ! $ move ! (2 ∷ 0 ∷ []) $ join ! $
+          nothing ! $ move ! (5 ∷ 0 ∷ []) $ join ! $ move ! (3 ∷ 0 ∷ []) $ join ! $
+          move ! (1 ∷ 0 ∷ []) $ join ! $
+          nothing ! $ told ! (method_P κ2 (κ2, (κ0, (κ3, (κ4, tt))))) (refl, tt) $
+          told ! (κ4 ⊑ E.lives) inE $
+          told ! (κ3 ⊑ R.lives) inR $
+          move ! (1 ∷ 0 ∷ []) $
+          let c1 = fill_c 𝓛 at_mem run κ2 in
+          let loan : MutBor P.Denot = renamed h γ' in
+          let z1 : c1.Ghost = (
+            (
+              (κ2, (κ0, (κ3, (κ4, tt)))),
+              (q2, (q0, (q3, (q4, tt)))),
+              (Incl-trans y.0.2.0 y.0.2.1.0, tt),
+              (loan, (want, tt)),
+              (mut_vals h, (vint w64 want ∷ [], tt)),
+            ),
+            tt,
+          ) in
+          use2 𝓛 (raw (c1.pre z1)) (id⊢ 𝓤 _) $
+          calls_at ! (fm_of 𝓤 H 𝓛.laws 𝓣) c1 (fills κs p) z1
+          (and_then ! (get ! refl) (and_then ! (get ! refl) (no_more !))) (λ v.
+          use1 𝓛 (later (some (λ (r : Result Reference E.Denot).
+          ((‵ (flft κ2 q2) ⊛ ‵ (flft κ0 q0) ⊛ ‵ (flft κ3 q3) ⊛ ‵ (flft κ4 q4) ⊛ ‵ ftrue) ⊛ ‵
+          ((Filled E κ2 κ0).own_val r (v ∷ []))) ⊛
+          some (λ (ws : Lasts (M.ended R E gR dR gS dS gD dD dX (method_P
+          κ2)) z1.0.0 z1.0.3). ‵
+          (lasts (M.ended R E gR dR gS dS gD dD dX (method_P κ2)) z1.0.0
+          z1.0.3 ws)
+          ⊛ raw (fact 𝓤 (Prefix bytes_of (gS.view x) r want)) ⊛ raw
+          (fact 𝓤 (Bounded bytes_of (gS.view x) r)) ⊛ raw
+          (fact 𝓤 (Whole bytes_of (gS.view x) r want)) ⊛
+          raw (fact 𝓤 (Lasting (gS.view x) r)) ⊛ raw (fact 𝓤 (Placed (gS.view x) r)) ⊛
+          ‵ (Rests P loan (λ new. Left bytes_of (gS.view x) r (gS.view new))))))) (id⊢ 𝓤 _) $
+          await ! tt $ pick ! (λ r. split ! $ split ! $ move ! (1 ∷ []) $
+          peeks ! (Filled E κ2 κ0) _ (shows 𝓛 (Filled E κ2 κ0)) r (v ∷ []) (λ is.
+          lands_as ! refl refl ((filled_result E LE 𝓛 κ2 κ0).typed r (v ∷ []) is).0 $
+          move ! (2 ∷ []) $ pick ! (λ ws. split ! $ drop ! $ split3 ! $
+          heard ! (Prefix bytes_of (gS.view x) r want)
+          (λ prefix. heard ! (Bounded bytes_of (gS.view x) r) (λ bounded. split3 ! $
+          heard ! (Whole bytes_of (gS.view x) r want)
+          (λ whole. heard ! (Lasting (gS.view x) r) (λ lasting.
+          split ! $ heard ! (Placed (gS.view x) r) (λ placed. fpick ! (λ s.
+          -- [what is said of the loan; the result; the tokens; κ1; how self follows]
+          let new : (In κ1).Denot = at_last h s.0.1 in
+          move ! (4 ∷ 0 ∷ []) $ use2 𝓛 (‵ (fres γ ((In κ1).coded.code new)))
+          (followed 𝓛 (In κ1) P (at_last h) γ γ' s.0.1) $
+          returns ! (look_at ! 0 refl) $ free_all ! refl $
+          nothing ! $ nothing ! $ fjoin ! $ nothing ! $ fjoin ! $ move ! (0 ∷ 2 ∷ []) $ join ! $
+          move ! (2 ∷ []) $ split3 ! $ move ! (0 ∷ 2 ∷ []) $ join ! $ move ! (4 ∷ 0 ∷ []) $ join ! $
+          move ! (1 ∷ 0 ∷ []) $ join ! $ join ! $ move ! (1 ∷ []) $
+          fpack ! ((u : ((In κ1).Denot → (In κ1).Denot) × (In κ1).Denot) × ((In κ1).Denot → ⊤)
+          × Left bytes_of (gS.view x) r (gS.view u.1.now)) (λ u. fres γ ((In κ1).coded.code u.0.1))
+          (((λ _. new), new), (λ _. tt), s.2) $
+          told ! (Placed (gS.view x) r) placed $
+          told ! (Lasting (gS.view x) r) lasting $
+          told ! (Whole bytes_of (gS.view x) r want) whole $
+          told ! (Bounded bytes_of (gS.view x) r) bounded $
+          told ! (Prefix bytes_of (gS.view x) r want) prefix $
+          keep ! (1 ∷ 0 ∷ []) $
+          suffices ! _ (ends_at 𝓛 ended stayed held (at y) v r (tt, (tt, tt)) (tt, (tt, tt))) $
+          join ! $ done !))))))))))))))))
 
 pub fill_spec : {M' : Type 1} → stated.statement M'
 unfolding tables_of
